@@ -46,6 +46,7 @@ use Rattle.cb_shared.specs.Passes.{IsPassOf, record_of}
 use Rattle.cb_script.specs.declared.script.Line.{Line}
 use Rattle.cb_lanes.specs.declared.body.LaneEnd.{LaneEnd}
 use Rattle.cb_lanes.specs.Asked.{HasLineReply, asked}
+use Rattle.cb_lanes.specs.LastTries.{HasLastTry}
 use Rattle.cb_app.specs.Crew.{AreKnownTo, IsFresh, IsTold, name_made, names_in, part_of}
 use Rattle.cb_app.proofs.AnswersRise.{lane_rise, none_rise}
 use Rattle.cb_app.proofs.ScopesTold.{none_scoped}
@@ -142,6 +143,7 @@ worker_told s w turns p q given answers fresh works none =
       of = works.0;
       lines_are = ap (map asked) none;
       replies = subst (AllByRecursion HasLineReply) (sym none) tt;
+      last = subst (AllByRecursion (HasLastTry s.config)) (sym none) tt;
       backs = subst (λ (xs : List Answer). Backs (part_of (record_of q)) (tolds given xs)) (sym none) backs;
       suits = subst (λ (xs : List Answer). AreSuited (record_of q).seen (tolds given xs)) (sym none) tt;
       rises = none_rise (record_of q) given answers none;
@@ -201,16 +203,18 @@ told_known written before (a ∷ after) v (own, rest, is, enters, later) all =
 -- what a lane leaves that began with a new pass
 pub lane_told : (s : Shared) (lane : ℕ) (names : List Named) (v : View) (lines : List Line) (e : LaneEnd)
     → IsFresh v → KnowsNames v names → IsPassOf s e.pass → map asked e.answers ≡ lines
-    → AllByRecursion HasLineReply e.answers → AddsBacked names e.answers v (record_of e.pass)
+    → AllByRecursion HasLineReply e.answers → AllByRecursion (HasLastTry s.config) e.answers
+    → AddsBacked names e.answers v (record_of e.pass)
     → LaneGoes s.config names v e.answers (record_of e.pass)
     → LaneRises lane names e.answers v (record_of e.pass) → LaneScoped lane names e.answers
     → (given : List Answer) → AreNamesOf names given → AreKnownTo v given → scope_of lane given ≡ []
     → IsTold s given lines e
-lane_told s lane names v lines e fresh names_known of are replies adds goes rises scoped given named known
-    no_pin = record {
+lane_told s lane names v lines e fresh names_known of are replies last adds goes rises scoped given named
+    known no_pin = record {
       of = of;
       lines_are = are;
       replies = replies;
+      last = last;
       backs = fresh_backs v (record_of e.pass) adds.part adds.own (tolds given e.answers) fresh adds.grows
           (adds.backs given named);
       suits = lane_suits s.config names e.answers v (record_of e.pass) fresh.pins names_known replies goes given

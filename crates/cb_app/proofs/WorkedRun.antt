@@ -73,7 +73,8 @@ module _ (c : Config) (seal : Seal) (closed : IsClosed Did 1 c (sealed_record se
 
   is_run : IsRun (script c (leave ∷ [])) (end (answer (Left 0) ∷ []))
   is_run = ran (script c (leave ∷ [])) (end (answer (Left 0) ∷ [])) (λ is. is, tt)
-      (are_lines c.nodes) refl (tt, tt) refl closed backs (tt, tt) (λ all more last. (tt, (tt, tt)))
+      (are_lines c.nodes) refl (tt, tt) (refl, tt) refl closed backs (tt, tt)
+      (λ all more last. (tt, (tt, tt)))
       (λ one. (refl, tt)) (no_losses (answer (Left 0) ∷ []) refl) (λ w. omega (arith, none))
 
   a_pin_that_was_not_taken : IsRun (script c (leave ∷ [])) (end (answer (Left 1) ∷ [])) → ⊥

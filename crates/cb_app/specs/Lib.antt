@@ -5,3 +5,4 @@ pub mod Scripts
 pub mod Modes
 pub mod Outcome
 pub mod Telling
+pub mod Calm

@@ -8,8 +8,8 @@ pub returns-in-Ok-clause-ended : goal.returns-in-Ok-clause-ended
 returns-in-Ok-clause-ended g c = λ given named known.
     let end = c.in-Ok.ensures in
     lane_told c.args.shared.now c.args.lane.n c.args.names.now (record_of c.args.pass) c.args.lines c.in-Ok.end
-    c.requires.fresh c.requires.names end.of.0 (end.lines ∙ c.as_slice.ensures.items) end.answered end.part
-    end.goes end.rises end.scoped given named known
+    c.requires.fresh c.requires.names end.of.0 (end.lines ∙ c.as_slice.ensures.items) end.answered end.last
+    end.part end.goes end.rises end.scoped given named known
     (no_scope c.args.lane.n given known.3 c.requires.other)
 
 pub returns-in-Ok-clause-made : goal.returns-in-Ok-clause-made

@@ -25,7 +25,7 @@ returns-in-Ok-clause-told g c =
     lane_told c.args.shared.now 0 c.new-names.result (record_of c.args.pass) (of_lane 0 c.args.s.now.lines) c.in-Ok.end
     fresh (subst (KnowsNames (record_of c.args.pass)) (sym c.new-names.ensures.empty) tt) c.in-Ok.ensures.of.0
     (c.in-Ok.ensures.lines ∙ c.as_slice-2.ensures.items ∙ c.in_ok-lines.ensures ∙ ap (of_lane 0) c.as_slice.ensures.items)
-    c.in-Ok.ensures.answered c.in-Ok.ensures.part c.in-Ok.ensures.goes c.in-Ok.ensures.rises
+    c.in-Ok.ensures.answered c.in-Ok.ensures.last c.in-Ok.ensures.part c.in-Ok.ensures.goes c.in-Ok.ensures.rises
     c.in-Ok.ensures.scoped [] named (none_known (record_of c.args.pass)) refl
 
 pub returns-in-Ok-clause-known : goal.returns-in-Ok-clause-known
