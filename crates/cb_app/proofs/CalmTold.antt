@@ -1,6 +1,6 @@
--- On a roomy script no line is told of a want of room or of a loss, where the record of all calls was
--- closed: no more nodes crashed than a set can lose shards, so enough were left with room.
-use Rattle.std.proofs.Common.{◌≡◌, ◌≢◌, ℕ, zero, suc, ◌+◌, ◌*◌, ◌^◌, ◌<◌, ◌≤◌, ◌&&◌, ◌||◌, Bool, true, false, ltb, leb, nat_eq, List, [], ◌∷◌, ◌++◌, length, map, get_or, slice_get, Contains, Option, None, Some, refl, sym, ap, ◌∙◌, subst, inl, inr, arith, eq-eqb, eqb-true, ne_eqb}
+-- On a roomy script no line is told of a want of room or of a loss, where the record of all calls
+-- was closed: no more nodes crashed than a set can lose shards, so enough were left with room.
+use Rattle.std.proofs.Common.{◌≡◌, ◌≢◌, ℕ, zero, suc, ◌+◌, ◌*◌, ◌^◌, ◌<◌, ◌≤◌, ◌&&◌, ◌||◌, Bool, true, false, leb, nat_eq, List, [], ◌∷◌, ◌++◌, length, map, get_or, slice_get, Contains, Option, Some, refl, sym, ap, ◌∙◌, subst, inl, inr, arith, eq-eqb, eqb-true, ne_eqb}
 use Rattle.std.specs.Cmp.{nat_eq_equiv}
 use Rattle.std.specs.List.{AllByRecursion, IsDistinct, list_any}
 use Rattle.std.specs.Set.{is_member}
@@ -81,8 +81,8 @@ numbers_among nodes (l ∷ losses) among q there = elim (cases_Bool (nat_eq q l.
       (sym (ap (λ (b : Bool). b || list_any (nat_eq q) (numbers losses)) other) ∙ there)
 ]
 
-few_losses : (nodes : List ℕ) (losses : List Loss) → AreOfOtherNodes losses → AreOfNodes nodes losses
-    → length losses ≤ length nodes
+few_losses : (nodes : List ℕ) (losses : List Loss) → AreOfOtherNodes losses
+    → AreOfNodes nodes losses → length losses ≤ length nodes
 few_losses nodes losses apart among =
     let most = length-le_from_is_member nat_eq_equiv (numbers losses) nodes
     (numbers_apart losses apart) (numbers_among nodes losses among) in
@@ -110,8 +110,8 @@ calm_worn turns (line.Free name) few may = tt
 calm_worn turns q few may = absurd (omega (arith, few, may))
 
 last_loose : (c : Config) (q : Request) (frames loose nodes : ℕ)
-    → IsReplyOf q (answer.NoRoom frames loose nodes) → IsLastTry c q (answer.NoRoom frames loose nodes)
-    → may_come_loose c loose ≡ false
+    → IsReplyOf q (answer.NoRoom frames loose nodes)
+    → IsLastTry c q (answer.NoRoom frames loose nodes) → may_come_loose c loose ≡ false
 last_loose c (line.Filter name) frames loose nodes may last = absurd may
 last_loose c q frames loose nodes may last = last
 
@@ -121,8 +121,8 @@ more_come c loose few enough = ap (λ (b : Bool). b && leb (2 * c.k + 360) c.fra
     (lt-ltb loose c.k few) ∙ le-leb (2 * c.k + 360) c.frames enough
 
 -- ---- all answers of a closed record
-module _ (first : ℕ) (s : Script) (ok : IsAccepted s.config) (v : View) (count : ℕ) (last : FarState)
-    (one : IsOneHistory Did first s.config (v ∷ []) count last) (answers : List Answer)
+module _ (first : ℕ) (s : Script) (ok : IsAccepted s.config) (v : View) (count : ℕ)
+    (last : FarState) (one : IsOneHistory Did first s.config (v ∷ []) count last) (answers : List Answer)
     (backs : Backs (part_of v) (tolds [] answers)) (losses : List Loss)
     (are_losses : AreLosses losses answers) (are : AreLines s.config.nodes [] s.lines)
     (by : map asked answers ≡ by_lane s.lines) (roomy : IsRoomy s) (few : count < 2 ^ 40) where
@@ -217,8 +217,8 @@ module _ (first : ℕ) (s : Script) (ok : IsAccepted s.config) (v : View) (count
       → AllByRecursion (λ a. IsCalmTo a.request a.reply) after
   go before [] replies tried worn lost upheld tells among = tt
   go before (a ∷ after) replies tried worn lost upheld tells among = (
-    calm_reply (handle_for before a.request a.reply) a.request a.reply replies.0 tried.0 worn.0 lost.0
-        upheld.0 tells.0 (omega (arith, among)),
+    calm_reply (handle_for before a.request a.reply) a.request a.reply replies.0 tried.0 worn.0
+        lost.0 upheld.0 tells.0 (omega (arith, among)),
     go (before ++ a ∷ []) after replies.1 tried.1 worn.1 lost.1 upheld.1 tells.1
         (omega (arith, among)),
   )

@@ -139,7 +139,8 @@ losses_crashed ts m are (shard ∷ shards) =
 -- what shards on different nodes have lost are losses of different nodes
 abbrev ShardsApart : List Shard → Type 0
 ShardsApart [] = Unit {0}
-ShardsApart (s ∷ later) = AllByRecursion (λ (t : Shard). s.node.n ≢ t.node.n) later × ShardsApart later
+ShardsApart (s ∷ later) =
+    AllByRecursion (λ (t : Shard). s.node.n ≢ t.node.n) later × ShardsApart later
 
 apart_from : (s : Shard) (later : List Shard)
     → ((i : ℕ) (d : Shard) → i < length later → s.node.n ≢ (get_or later i d).node.n)
@@ -160,7 +161,8 @@ apart_rec (s ∷ later) distinct = (
 
 -- a loss is of the node of its shard
 abbrev loss_with : Shard → Option Epoch → Option Loss
-loss_with shard o = option_map (λ epoch. let l : Loss = record { node = shard.node; epoch = epoch } in l) o
+loss_with shard o =
+    option_map (λ epoch. let l : Loss = record { node = shard.node; epoch = epoch } in l) o
 
 off_node : (n : ℕ) (m : Membership) (shards : List Shard)
     → AllByRecursion (λ (t : Shard). n ≢ t.node.n) shards

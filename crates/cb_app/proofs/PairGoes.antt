@@ -1,6 +1,6 @@
--- What the pair that is joining is behind a turn; and behind an eviction each set stands on different
--- nodes, where each did before. It is of the rules alone, and would fit cb_core.
-use Rattle.std.proofs.Common.{◌≡◌, ◌≢◌, ◌⊎◌, ℕ, ◌+◌, Bool, true, false, cond, nat_cmp, nat_eq, List, [], ◌∷◌, length, get_or, take, slice_get, Option, None, Some, refl, sym, ap, ◌∙◌, subst, inl, inr, arith}
+-- What the pair that is joining is behind a turn; and behind an eviction each set stands on
+-- different nodes, where each did before. It is of the rules alone, and would fit cb_core.
+use Rattle.std.proofs.Common.{◌≡◌, ◌≢◌, ◌⊎◌, ℕ, ◌+◌, Bool, true, false, cond, nat_cmp, nat_eq, List, length, get_or, take, Option, None, Some, refl, sym, ap, ◌∙◌, subst, inl, inr, arith}
 use Rattle.std.specs.Cmp.{nat_cmp_total}
 use Rattle.std.specs.FinMap as map
 use Rattle.std.specs.Ordering.{eq_by_cmp}
@@ -172,8 +172,8 @@ pub evicted_apart : (c : Config) (far new : FarState) (id : SetId) (es : List Ev
 evicted_apart c far new id es a apart = by a.answered
   where
     by : HasFewSpans c far new (answer.Set id) a.loose
-        ⊎ (HasFewNodes c far new (answer.Set id) a.loose ⊎ HasBoth c far new (answer.Set id) a.loose es)
-        → AreSetsApart new
+        ⊎ (HasFewNodes c far new (answer.Set id) a.loose
+        ⊎ HasBoth c far new (answer.Set id) a.loose es) → AreSetsApart new
     by (inl x) = subst AreSetsApart (sym x.state) apart
     by (inr (inl x)) = subst AreSetsApart (sym x.state) apart
     by (inr (inr x)) = λ n set there. elim (added_set far.sets far.counts.sets n

@@ -1,7 +1,6 @@
--- A pair that a turn of a closed record finds joining began with the shards of a set, so these stand
--- on different nodes.
-use Rattle.std.proofs.Common.{◌≡◌, ℕ, suc, ◌<◌, List, [], ◌∷◌, None, Some, refl, sym, subst, inl, inr}
-use Rattle.cb_member.specs.declared.names.Shard.{Shard}
+-- A pair that a turn of a closed record finds joining began with the shards of a set, so these
+-- stand on different nodes.
+use Rattle.std.proofs.Common.{◌≡◌, ℕ, suc, ◌<◌, [], ◌∷◌, None, Some, refl, sym, subst, inl, inr}
 use Rattle.cb_set.specs.Nodes.{OnDistinctNodes}
 use Rattle.cb_types.specs.declared.config.Config.{Config}
 use Rattle.cb_types.specs.Config.{IsAccepted}

@@ -1,6 +1,6 @@
 -- What a script's lines make and crash, as answers to its lines by lane tell it.
-use Rattle.std.proofs.Common.{◌≡◌, ◌≢◌, ◌⊎◌, ℕ, zero, suc, ◌+◌, ◌<◌, ◌≤◌, Bool, true, false, ◌||◌, cond, nat_eq, List, [], ◌∷◌, ◌++◌, length, map, count_by, Contains, Option, None, Some, refl, sym, ap, ◌∙◌, subst, inl, inr, arith, eq-eqb, eqb-true}
-use Rattle.std.specs.List.{AllByRecursion, list_any, cons_option}
+use Rattle.std.proofs.Common.{◌≡◌, ℕ, zero, suc, ◌+◌, ◌<◌, ◌≤◌, Bool, true, false, ◌||◌, cond, nat_eq, List, [], ◌∷◌, ◌++◌, map, Contains, Some, refl, sym, ap, ◌∙◌, subst, inl, inr, arith, eq-eqb, eqb-true}
+use Rattle.std.specs.List.{AllByRecursion, cons_option}
 use Rattle.std.proofs.lemmas.Bool.{cases_Bool}
 use Rattle.std.proofs.lemmas.List.Sums.{sum_by-append, sum_by-cons}
 use Rattle.cb_member.specs.declared.names.Loss.{Loss}
@@ -35,7 +35,8 @@ makes_both xs ys = sum_by-append (λ (x : Line). makes_one x) xs ys
 -- one more line makes no more in a lane but its own, and one at most there
 own_lane : (n : ℕ) (l : Line) (lines : List Line) → nat_eq l.lane.n n ≡ true
     → makes_in (of_lane n (l ∷ lines)) ≡ makes_one l + makes_in (of_lane n lines)
-own_lane n l lines same = ap (λ (b : Bool). makes_in (cond b (l ∷ of_lane n lines) (of_lane n lines))) same
+own_lane n l lines same =
+    ap (λ (b : Bool). makes_in (cond b (l ∷ of_lane n lines) (of_lane n lines))) same
     ∙ makes_more l (of_lane n lines)
 
 other_lane : (n : ℕ) (l : Line) (lines : List Line) → nat_eq l.lane.n n ≡ false
@@ -156,10 +157,12 @@ crash_lines (l ∷ lines) = (
   where
     later : (ls : List Line)
         → AllByRecursion (λ m. (n : ℕ) → is_crash n m.request ≡ true → has_crash lines n ≡ true) ls
-        → AllByRecursion (λ m. (n : ℕ) → is_crash n m.request ≡ true → has_crash (l ∷ lines) n ≡ true) ls
+        → AllByRecursion (λ m. (n : ℕ) → is_crash n m.request ≡ true
+        → has_crash (l ∷ lines) n ≡ true) ls
     later [] each = tt
     later (m ∷ ls) each = (
-      λ n is. ap (λ (b : Bool). is_crash n l.request || b) (each.0 n is) ∙ or_true (is_crash n l.request),
+      λ n is. ap (λ (b : Bool). is_crash n l.request || b) (each.0 n is)
+          ∙ or_true (is_crash n l.request),
       later ls each.1,
     )
 
@@ -173,7 +176,8 @@ requests nodes before (l ∷ lines) are =
 abbrev NamesCrashed : Script → Request → Type 0
 NamesCrashed s q = (n : ℕ) → is_crash n q ≡ true → Contains (crashed_nodes s) n
 
-all_named : (s : Script) (ls : List Line) → AllByRecursion (λ l. IsRequest s.config.nodes l.request) ls
+all_named : (s : Script) (ls : List Line)
+    → AllByRecursion (λ l. IsRequest s.config.nodes l.request) ls
     → AllByRecursion (λ l. (n : ℕ) → is_crash n l.request ≡ true → has_crash s.lines n ≡ true) ls
     → AllByRecursion (λ l. NamesCrashed s l.request) ls
 all_named s [] requests crashes = tt

@@ -1,7 +1,6 @@
 -- The turns of a closed record, one after another: what each tells, and what holds of the far state
 -- after so many of them. It would fit cb_shared, and its induction cb_rule.
 use Rattle.std.proofs.Common.{◌≡◌, ℕ, zero, suc, ◌+◌, ◌<◌, ◌≤◌, Bool, true, cond, List, [], ◌∷◌, Option, None, Some, refl, sym, ap, subst, inl, inr, arith, eqb-true}
-use Rattle.cb_member.specs.Membership.{Membership}
 use Rattle.cb_types.specs.declared.config.Config.{Config}
 use Rattle.cb_types.specs.Config.{IsAccepted}
 use Rattle.cb_types.specs.declared.job.Job.{Job}

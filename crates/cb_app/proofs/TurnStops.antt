@@ -1,4 +1,5 @@
--- A turn that found no memory leaves the members and the pair that is joining. It is of the rules alone, and would fit cb_core.
+-- A turn that found no memory leaves the members and the pair that is joining. It is of the rules
+-- alone, and would fit cb_core.
 use Rattle.std.proofs.Common.{◌≡◌, ℕ, List, length, ap, ◌∙◌}
 use Rattle.cb_types.specs.declared.config.Config.{Config}
 use Rattle.cb_types.specs.Config.{IsAccepted}
@@ -8,8 +9,6 @@ use Rattle.cb_types.specs.declared.reply.Reply.{Reply}
 use Rattle.cb_types.specs.declared.reply.Reply.TheVariants as answer
 use Rattle.cb_world.specs.declared.event.Event.{Event}
 use Rattle.cb_world.specs.declared.shown.Shown.{Shown}
-use Rattle.cb_world.specs.FarState.{FarState}
-use Rattle.cb_world.specs.World.{IsConfigured}
 use Rattle.cb_evict.specs.declared.eviction.Eviction.TheVariants.{Set}
 use Rattle.cb_core.specs.OnceHere.{OnceHereStops, bringing_stops, call_stops}
 use Rattle.cb_core.specs.Parts.{CallStops, Holding, NeverLacks, RoomStops}

@@ -16,8 +16,8 @@ MayFindWorn (Write name at bytes) = Unit {0}
 MayFindWorn (Free name) = Unit {0}
 MayFindWorn request = ⊥
 
--- the reply tells of no lack of room and no loss; of no move, but to a filter line, and of no number
--- at its end, but to a write or a free
+-- the reply tells of no lack of room and no loss; of no move, but to a filter line, and of no
+-- number at its end, but to a write or a free
 abbrev pub IsCalmTo : Request → Reply → Type 0
 IsCalmTo request Moving = MayFindMoving request
 IsCalmTo request Worn = MayFindWorn request

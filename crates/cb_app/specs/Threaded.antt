@@ -64,8 +64,8 @@ pub record IsRun (script : Script) (end : ThreadsEnd) : Type 0 where
   -- no answer but to a write or a free is Worn, unless 2^40 turns were counted
   pub worn : AllByRecursion (λ a. TellsWorn end.world.far.counts.turns a.request a.reply)
       end.answers
-  -- on a roomy script, where fewer than 2^40 turns were counted, no line is told of a want of room or
-  -- of a loss
+  -- on a roomy script, where fewer than 2^40 turns were counted, no line is told of a want of room
+  -- or of a loss
   pub calm : IsRoomy script → end.world.far.counts.turns < 2 ^ 40
       → AllByRecursion (λ a. IsCalmTo a.request a.reply) end.answers
   -- the workers made as many turns as are configured

@@ -150,6 +150,7 @@ module _ (c : Config) where
       → AllByRecursion (HasLastTry c) after
   lines_last names before [] v w x answered = tt
   lines_last names before (a ∷ after) v w (m, goes, rest) answered = (
-    line_last (handle_behind names before (name_of a.request)) a.request a.reply v m answered.0 goes,
+    line_last (handle_behind names before (name_of a.request)) a.request a.reply v m answered.0
+        goes,
     lines_last names (before ++ a ∷ []) after m w rest answered.1,
   )

@@ -1,6 +1,6 @@
--- Enough nodes have room for a set, whatever batch is leaving and whatever pair is joining, where few
--- nodes have crashed and few objects were made.
-use Rattle.std.proofs.Common.{◌≡◌, ℕ, ◌+◌, ◌*◌, ◌<◌, ◌≤◌, Bool, true, false, cond, not, nat_eq, ◌&&◌, List, [], ◌∷◌, length, get_or, map, count_by, Contains, if◌then◌else◌, refl, sym, ap, ◌∙◌, arith, eq-eqb, lt-ltb}
+-- Enough nodes have room for a set, whatever batch is leaving and whatever pair is joining, where
+-- few nodes have crashed and few objects were made.
+use Rattle.std.proofs.Common.{◌≡◌, ℕ, ◌+◌, ◌<◌, ◌≤◌, Bool, true, false, cond, not, nat_eq, ◌&&◌, List, [], ◌∷◌, length, get_or, map, count_by, Contains, if◌then◌else◌, refl, sym, ap, ◌∙◌, arith, eq-eqb, lt-ltb}
 use Rattle.std.specs.List.{range_with_len}
 use Rattle.std.proofs.lemmas.Bool.{false≢true}
 use Rattle.std.proofs.lemmas.List.{get_or-map, length-map}

@@ -1,6 +1,6 @@
--- A node holds no more rows than objects were made, beside one of a batch that is leaving and one of
--- a pair that is joining, whose sets stood apart at the begin.
-use Rattle.std.proofs.Common.{◌≡◌, ℕ, zero, suc, ◌+◌, ◌<◌, ◌≤◌, Bool, true, false, nat_eq, ◌&&◌, ◌||◌, T, List, [], ◌∷◌, ◌++◌, length, map as mapped, Option, None, Some, is_some, is_lt, slice_get, nat_cmp, Less, Equal, Greater, Ordering, if◌then◌else◌, refl, sym, ap, ◌∙◌, subst, arith, inl, inr, eq-eqb, ne_eqb}
+-- A node holds no more rows than objects were made, beside one of a batch that is leaving and one
+-- of a pair that is joining, whose first set stood on different nodes at the begin.
+use Rattle.std.proofs.Common.{◌≡◌, ℕ, zero, suc, ◌+◌, ◌<◌, ◌≤◌, Bool, true, false, nat_eq, ◌&&◌, ◌||◌, T, List, [], ◌∷◌, ◌++◌, length, map as mapped, Option, None, Some, is_some, is_lt, slice_get, nat_cmp, Less, Equal, Greater, Ordering, if◌then◌else◌, refl, sym, ap, ◌∙◌, arith, inl, inr, eq-eqb, ne_eqb}
 use Rattle.std.specs.Cmp.{nat_eq_equiv}
 use Rattle.std.specs.FinMap as map
 use Rattle.std.specs.FinMap.Entries.{below_all, is_sorted}
@@ -28,7 +28,6 @@ use Rattle.cb_world.specs.declared.shown.Shown.{Shown}
 use Rattle.cb_world.specs.FarSound.{IsShardOf, Owner, of_joining, of_leaving, of_set}
 use Rattle.cb_world.specs.FarState.{FarState}
 use Rattle.cb_world.specs.Homes.{home_at}
-use Rattle.cb_world.specs.Join.{IsJoin}
 use Rattle.cb_world.specs.Joining.{JoiningState}
 use Rattle.cb_world.specs.Leaving.{LeavingState}
 use Rattle.cb_world.specs.LocalSound.{AreKnown}
@@ -135,8 +134,8 @@ key_found (Some first ∷ shards) (suc p) shard apart at =
 abbrev all_of : List Shard → List (Option Shard)
 all_of shards = mapped (λ shard. Some shard) shards
 
-unwrapped : (o : Option Shard) (shard : Shard) → option_map (λ (x : Shard). Some x) o ≡ Some (Some shard)
-    → o ≡ Some shard
+unwrapped : (o : Option Shard) (shard : Shard)
+    → option_map (λ (x : Shard). Some x) o ≡ Some (Some shard) → o ≡ Some shard
 unwrapped None shard e = absurd (none_there (Some shard) e)
 unwrapped (Some x) shard e = some_same (Some x) (Some shard) e
 
