@@ -138,7 +138,7 @@ found_loss before (a ∷ after) node epoch there =
 
 module _ (v : View) (answers : List Answer) (losses : List Loss) (backs : Backs (part_of v) (tolds [] answers))
     (are : AreLosses losses answers) where
-  is_loss : (loss : Loss) → IsLoss v.turns loss → Contains losses loss
+  pub is_loss : (loss : Loss) → IsLoss v.turns loss → Contains losses loss
   is_loss loss crash =
       let t = crash.turn in
       let d = crashing loss.node loss.epoch in
@@ -176,7 +176,7 @@ lost_turn d (Some h) (line.Write name at bytes) id ls x = find_turn _ (Some h) _
 lost_turn d (Some h) (line.Free name) id ls x = find_turn _ (Some h) _ d.turns x
 lost_turn d (Some h) q id ls x = find_turn _ (Some h) _ d.turns x
 
-room_turn : (d : Part) (h : Option ℕ) (q : Request) (f l n : ℕ)
+pub room_turn : (d : Part) (h : Option ℕ) (q : Request) (f l n : ℕ)
     → Meets d (need_of h q (answer.NoRoom f l n))
     → (t : Turn) × Has t d.turns × (t.reply ≡ Some (answer.NoRoom f l n))
 room_turn d None q f l n x = find_turn _ None _ d.turns x
@@ -271,7 +271,7 @@ module _ (first : ℕ) (c : Config) (ok : IsAccepted c) (v : View) (count : ℕ)
   lost_reply losses are h q (answer.Unavailable id ls) x =
       let z = lost_turn (part_of v) h q id ls x in
       let t = lost_told first c ok v count last one z.0 id ls z.1 z.2 in
-      (t.0, all_losses v answers losses backs are ls t.1)
+      record { many = t.0; apart = t.1; among = all_losses v answers losses backs are ls t.2 }
   lost_reply losses are h q r x = tt
 
   room_reply : (h : Option ℕ) (q : Request) (r : Reply) → RunsIn q → IsReplyOf q r
@@ -281,7 +281,7 @@ module _ (first : ℕ) (c : Config) (ok : IsAccepted c) (v : View) (count : ℕ)
   room_reply h q (answer.NoNodes n) runs may tells x = nodes_line c h q n runs may tells
   room_reply h q (answer.NoRoom f l n) runs may tells x =
       let z = room_turn (part_of v) h q f l n x in
-      room_told first c ok v count last one z.0 f l n z.1 z.2
+      let t = room_told first c ok v count last one z.0 f l n z.1 z.2 in (t.frames_are, t.few)
   room_reply h q r runs may tells x = tt
 
   losts : (losses : List Loss) → AreLosses losses answers → (before after : List Answer)

@@ -1,6 +1,6 @@
 -- Each crash that the members know was a turn of a closed record; so a turn that was answered
 -- Unavailable tells crashes of the record. What is of the members alone would fit cb_member.
-use Rattle.std.proofs.Common.{◌≡◌, ◌⊎◌, ℕ, zero, suc, ◌+◌, ◌<◌, true, false, List, [], ◌∷◌, ◌++◌, length, get_or, Option, None, Some, slice_get, refl, sym, ap, ◌∙◌, subst, inl, inr, arith, length-set, get_or-set_same, get_or-set_other}
+use Rattle.std.proofs.Common.{◌≡◌, ◌≢◌, ◌⊎◌, ℕ, zero, suc, ◌+◌, ◌<◌, true, false, List, [], ◌∷◌, ◌++◌, length, get_or, Option, None, Some, slice_get, refl, sym, ap, ◌∙◌, subst, inl, inr, arith, length-set, get_or-set_same, get_or-set_other}
 use Rattle.std.specs.List.{AllByRecursion, cons_option}
 use Rattle.std.specs.Option.{option_map}
 use Rattle.std.proofs.lemmas.Bool.{cases_eq, cases_lt}
@@ -12,6 +12,7 @@ use Rattle.cb_member.specs.declared.names.Shard.{Shard}
 use Rattle.cb_member.specs.Membership.{Membership, NodeState, crashed_at, fresh_node, next_epoch, state_of, with_crash, with_join, with_state}
 use Rattle.cb_member.proofs.Laws.{none_crashed_at_first}
 use Rattle.cb_set.specs.Lost.{lost}
+use Rattle.cb_set.specs.Nodes.{OnDistinctNodes}
 use Rattle.cb_types.specs.declared.config.Config.{Config}
 use Rattle.cb_types.specs.Config.{IsAccepted}
 use Rattle.cb_types.specs.declared.handle.SetId.{SetId}
@@ -19,6 +20,7 @@ use Rattle.cb_types.specs.declared.job.Job.{Job}
 use Rattle.cb_types.specs.declared.job.Job.TheVariants as job
 use Rattle.cb_types.specs.declared.reply.Reply.{Reply}
 use Rattle.cb_types.specs.declared.reply.Reply.TheVariants as answer
+use Rattle.cb_world.specs.Choices.{room_count}
 use Rattle.cb_world.specs.Empty.{empty_far}
 use Rattle.cb_world.specs.FarState.{FarState}
 use Rattle.cb_rule.specs.declared.turn.Turn.{Turn}
@@ -27,7 +29,8 @@ use Rattle.cb_rule.specs.Lists.{Has}
 use Rattle.cb_rule.specs.Locking.{turn_number}
 use Rattle.cb_rule.specs.OneHistory.{IsOneHistory}
 use Rattle.cb_shared.specs.Turning.{Did}
-use Rattle.cb_app.proofs.TurnGoes.{GoesOn}
+use Rattle.cb_app.specs.Telling.{AreOfOtherNodes}
+use Rattle.cb_app.proofs.TurnGoes.{GoesOn, IsCrammed}
 use Rattle.cb_app.proofs.TurnHistory.{TellsIf, TurnGoes, at_turn, each_goes}
 
 -- ---- the members, where one node has a new state
@@ -133,6 +136,60 @@ losses_crashed ts m are (shard ∷ shards) =
     by None e rest = rest
     by (Some epoch) e rest = (are shard.node shard.incarnation epoch e, rest)
 
+-- what shards on different nodes have lost are losses of different nodes
+abbrev ShardsApart : List Shard → Type 0
+ShardsApart [] = Unit {0}
+ShardsApart (s ∷ later) =
+    AllByRecursion (λ (t : Shard). s.node.n ≢ t.node.n) later × ShardsApart later
+
+apart_from : (s : Shard) (later : List Shard)
+    → ((i : ℕ) (d : Shard) → i < length later → s.node.n ≢ (get_or later i d).node.n)
+    → AllByRecursion (λ (t : Shard). s.node.n ≢ t.node.n) later
+apart_from s [] each = tt
+apart_from s (t ∷ later) each = (
+  each 0 t (omega arith),
+  apart_from s later (λ i d low. each (suc i) d (omega (arith, low))),
+)
+
+apart_rec : (shards : List Shard) → OnDistinctNodes shards → ShardsApart shards
+apart_rec [] distinct = tt
+apart_rec (s ∷ later) distinct = (
+  apart_from s later (λ i d low. distinct 0 (suc i) d (omega arith) (omega (arith, low))),
+  apart_rec later (λ i j d less low. distinct (suc i) (suc j) d (omega (arith, less))
+      (omega (arith, low))),
+)
+
+-- a loss is of the node of its shard
+abbrev loss_with : Shard → Option Epoch → Option Loss
+loss_with shard o =
+    option_map (λ epoch. let l : Loss = record { node = shard.node; epoch = epoch } in l) o
+
+off_node : (n : ℕ) (m : Membership) (shards : List Shard)
+    → AllByRecursion (λ (t : Shard). n ≢ t.node.n) shards
+    → AllByRecursion (λ (l : Loss). n ≢ l.node.n) (lost m shards)
+off_node n m [] off = tt
+off_node n m (shard ∷ shards) off =
+    by (crashed_at m shard.node shard.incarnation) (off_node n m shards off.1)
+  where
+    by : (o : Option Epoch) → AllByRecursion (λ (l : Loss). n ≢ l.node.n) (lost m shards)
+        → AllByRecursion (λ (l : Loss). n ≢ l.node.n)
+        (cons_option (loss_with shard o) (lost m shards))
+    by None rest = rest
+    by (Some epoch) rest = (off.0, rest)
+
+lost_apart : (m : Membership) (shards : List Shard) → ShardsApart shards
+    → AreOfOtherNodes (lost m shards)
+lost_apart m [] apart = tt
+lost_apart m (shard ∷ shards) apart =
+    by (crashed_at m shard.node shard.incarnation) (off_node shard.node.n m shards apart.0)
+    (lost_apart m shards apart.1)
+  where
+    by : (o : Option Epoch) → AllByRecursion (λ (l : Loss). shard.node.n ≢ l.node.n) (lost m shards)
+        → AreOfOtherNodes (lost m shards)
+        → AreOfOtherNodes (cons_option (loss_with shard o) (lost m shards))
+    by None off rest = rest
+    by (Some epoch) off rest = (off, rest)
+
 crashes_same : (ts : List Turn) (old new : Membership) → new ≡ old → AreCrashes ts old
     → AreCrashes ts new
 crashes_same ts old new same are = subst (AreCrashes ts) (sym same) are
@@ -182,17 +239,18 @@ module _ (first : ℕ) (c : Config) (ok : IsAccepted c) (v : View) (count : ℕ)
   -- what a turn that was answered Unavailable tells
   pub lost_told : (t : Turn) (id : SetId) (losses : List Loss) → Has t v.turns
       → t.reply ≡ Some (answer.Unavailable id losses)
-      → (c.r < length losses) × AllByRecursion (IsLoss v.turns) losses
+      → (c.r < length losses) × AreOfOtherNodes losses × AllByRecursion (IsLoss v.turns) losses
   lost_told t id losses there is =
-      let tells = subst (TellsIf c t.took.members) is (goes t there).tells in (
-        tells.2,
-        subst (AllByRecursion (IsLoss v.turns)) (sym tells.1)
-            (losses_crashed v.turns t.took.members (found_crashes t there) tells.0),
+      let tells = subst (TellsIf c t.took) is (goes t there).tells in (
+        tells.many,
+        subst AreOfOtherNodes (sym tells.all)
+            (lost_apart t.took.members tells.shards (apart_rec tells.shards tells.apart)),
+        subst (AllByRecursion (IsLoss v.turns)) (sym tells.all)
+            (losses_crashed v.turns t.took.members (found_crashes t there) tells.shards),
       )
 
   -- and one that was answered NoRoom
   pub room_told : (t : Turn) (frames loose nodes : ℕ) → Has t v.turns
       → t.reply ≡ Some (answer.NoRoom frames loose nodes)
-      → TellsIf c t.took.members (Some (answer.NoRoom frames loose nodes))
-  room_told t frames loose nodes there is =
-      subst (TellsIf c t.took.members) is (goes t there).tells
+      → IsCrammed c (room_count t.took.nodes t.took.members) frames loose nodes
+  room_told t frames loose nodes there is = subst (TellsIf c t.took) is (goes t there).tells

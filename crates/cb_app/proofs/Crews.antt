@@ -25,6 +25,7 @@ use Rattle.cb_shared.specs.Passes.{IsPassOf, record_of}
 use Rattle.cb_lanes.specs.declared.body.LaneEnd.{LaneEnd}
 use Rattle.cb_lanes.specs.declared.body.Named.{Named}
 use Rattle.cb_lanes.specs.Asked.{HasLineReply, asked}
+use Rattle.cb_lanes.specs.LastTries.{HasLastTry}
 use Rattle.cb_lanes.specs.Bodies.{AreLinesOf, KnowsNames}
 use Rattle.cb_lanes.specs.Scoped.{AreScoped}
 use Rattle.cb_lanes.specs.Suits.{AreSuited}
@@ -47,10 +48,10 @@ use Rattle.cb_app.proofs.WorkDone.{AreOwed, owed_from, owed_more, owed_none}
 
 -- ---- what one thread left is taken in
 
-replies_both : (xs ys : List Answer) → AllByRecursion HasLineReply xs
-    → AllByRecursion HasLineReply ys → AllByRecursion HasLineReply (xs ++ ys)
-replies_both [] ys a b = b
-replies_both (x ∷ xs) ys a b = (a.0, replies_both xs ys a.1 b)
+all_both : (P : Answer → Type 0) (xs ys : List Answer) → AllByRecursion P xs → AllByRecursion P ys
+    → AllByRecursion P (xs ++ ys)
+all_both P [] ys a b = b
+all_both P (x ∷ xs) ys a b = (a.0, all_both P xs ys a.1 b)
 
 -- what suits the one record or the other suits both together
 both_suit : (xs ys : List Seen) (ts us : List Told) → AreSuited xs ts → AreSuited ys us
@@ -90,7 +91,9 @@ taken_in s given others lines a e b are told ended apart none first of pass answ
         of = of;
         lines_are = refl;
         replies = subst (AllByRecursion HasLineReply) (sym answers)
-            (replies_both a.answers e.answers told.replies ended.replies);
+            (all_both HasLineReply a.answers e.answers told.replies ended.replies);
+        last = subst (AllByRecursion (HasLastTry s.config)) (sym answers)
+            (all_both (HasLastTry s.config) a.answers e.answers told.last ended.last);
         backs = subst (λ (v : View). Backs (part_of v) (tolds [] b.answers)) (sym pass)
             (subst (Backs (part_of (joined (record_of a.pass) (unpinned_all (record_of e.pass))))) all
             (backs_sum (part_of (record_of a.pass)) (part_of (record_of e.pass)) (tolds [] a.answers)
@@ -357,6 +360,7 @@ told_left s given lines a b share own told same of left = record {
   of = of;
   lines_are = ap (map asked) same ∙ told.lines_are;
   replies = subst (AllByRecursion HasLineReply) (sym same) told.replies;
+  last = subst (AllByRecursion (HasLastTry s.config)) (sym same) told.last;
   backs = subst (λ (v : View). Backs (part_of v) (tolds given b.answers)) (sym left)
       (subst (λ (xs : List Answer). Backs (part_of (record_of a.pass)) (tolds given xs)) (sym same) told.backs);
   suits = subst (λ (v : View). AreSuited v.seen (tolds given b.answers)) (sym left)

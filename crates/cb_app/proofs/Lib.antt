@@ -21,10 +21,12 @@ mod WorkedLanes
 mod WorkedThreads
 mod WorkedRun
 mod PlainReplies
+mod PairGoes
 mod TurnGoes
 mod TurnStops
 mod TurnKinds
 mod TurnHistory
+mod PairsApart
 mod CountedTurns
 mod WorkCounted
 mod EpochsTold
@@ -34,7 +36,10 @@ mod NeverWorn
 mod WornTold
 mod MadeStays
 mod MadeTurns
+mod RoomyLines
 mod RangeTold
 mod UpheldTold
+mod CalmTold
 mod Ran
 mod WorkedTelling
+mod WorkedCalm

@@ -101,6 +101,10 @@ module _ (first : ℕ) (c : Config) (v : View) (count : ℕ) (last : FarState)
       let a = z.0 in let b = z.1 in
       let all = counts_all turn_number made_in count v.turns counted_or_none in omega (arith, a, b, all)
 
+  -- nor behind any turn before
+  pub few_found : (t : Turn) → Has t v.turns → t.took.made ≤ c.handles
+  few_found t there = (at_turn first c v count last one Counts start step t there).1
+
   -- and at least as many as were made behind a turn
   pub made_before : (t : Turn) → Has t v.turns → t.gave.made ≤ total made_in v.turns
   made_before t there = by (number_of first c v count last one t there)
@@ -130,12 +134,12 @@ make_counts bytes None = refl
 make_counts bytes (Some (answer.Made handle version)) = refl
 make_counts bytes (Some r) = refl
 
-crash_counts : (node : NodeId) (r : Option Reply) → total makes_in (happening (job.Crash node) r) ≡ 0
+pub crash_counts : (node : NodeId) (r : Option Reply) → total makes_in (happening (job.Crash node) r) ≡ 0
 crash_counts node None = refl
 crash_counts node (Some (answer.EpochAt epoch)) = refl
 crash_counts node (Some r) = refl
 
-join_counts : (node : NodeId) (r : Option Reply) → total makes_in (happening (job.Join node) r) ≡ 0
+pub join_counts : (node : NodeId) (r : Option Reply) → total makes_in (happening (job.Join node) r) ≡ 0
 join_counts node None = refl
 join_counts node (Some (answer.EpochAt epoch)) = refl
 join_counts node (Some r) = refl
@@ -193,7 +197,7 @@ free_none name (answer.Version version) = refl
 free_none name r = refl
 
 -- what an answered line had happen made what its call did
-line_counts : (q : Request) (r : Reply) → total makes_in (happened_at q r) ≡ makes_by (event_of q r)
+pub line_counts : (q : Request) (r : Reply) → total makes_in (happened_at q r) ≡ makes_by (event_of q r)
 line_counts (line.Make name bytes) r = make_line name bytes r
 line_counts (line.Read name) r = sym (read_none name r)
 line_counts (line.Write name at bytes) r = sym (write_none name at bytes r)

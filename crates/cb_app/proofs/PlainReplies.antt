@@ -1,6 +1,8 @@
--- Which operations tell neither of a lost set nor of want of room, and that each leaves the members.
+-- Which operations tell neither of a lost set nor of want of room, and that each leaves the members
+-- and the pair that is joining.
 -- It is of the rules alone, and would fit cb_core beside its NoFrames.
-use Rattle.std.proofs.Common.{◌≡◌, ◌⊎◌, ℕ, zero, suc, ◌+◌, ◌-◌, ◌^◌, ◌==◌, nat_lt, if◌then◌else◌, Bool, true, false, List, None, Some, refl, ap, ◌∙◌, inl, inr}
+use Rattle.std.proofs.Common.{◌≡◌, ◌⊎◌, ℕ, zero, suc, ◌+◌, ◌-◌, ◌^◌, ◌==◌, nat_lt, if◌then◌else◌, Bool, true, false, List, Option, None, Some, refl, ap, ◌∙◌, inl, inr}
+use Rattle.cb_member.specs.Membership.{Membership}
 use Rattle.cb_ptr.specs.declared.word.State.{State}
 use Rattle.cb_ptr.specs.declared.word.State.TheVariants as word
 use Rattle.cb_ptr.specs.Word.{state_of, len_of}
@@ -9,6 +11,7 @@ use Rattle.cb_types.specs.declared.reply.Reply.{Reply}
 use Rattle.cb_types.specs.declared.reply.Reply.TheVariants as answer
 use Rattle.cb_world.specs.declared.event.Event.{Event}
 use Rattle.cb_world.specs.FarState.{FarState}
+use Rattle.cb_world.specs.Joining.{JoiningState}
 use Rattle.cb_mutate.specs.Answered.{AbsentAs, AnsweredAs, EmptyAnswer}
 use Rattle.cb_mutate.specs.FreeRule.{FreeAs, FreeFar, FreeHere, FreeRule, LeavesPlace}
 use Rattle.cb_mutate.specs.MakeRule.{MakeRule}
@@ -35,24 +38,41 @@ Plain r = tells_lack r ≡ false
 pub off : (r q : Reply) → tells_lack q ≡ false → r ≡ q → Plain r
 off r q other is = ap tells_lack is ∙ other
 
--- the members are as they were, and the reply is plain
+abbrev pub Standing : Type 0
+Standing = Membership × Option JoiningState
+
+-- the members, and the pair that is joining
+abbrev pub standing : FarState → Standing
+standing far = (far.members, far.joining)
+
+-- they are as they were
+abbrev pub StandsAs : FarState → FarState → Type 0
+StandsAs far new = standing new ≡ standing far
+
+pub members_of : (far new : FarState) → StandsAs far new → new.members ≡ far.members
+members_of far new same = ap (λ (x : Standing). x.0) same
+
+pub joining_of : (far new : FarState) → StandsAs far new → new.joining ≡ far.joining
+joining_of far new same = ap (λ (x : Standing). x.1) same
+
+-- so behind an operation with a plain reply
 pub record StaysPlain (far new : FarState) (r : Reply) : Type 0 where
-  pub members : new.members ≡ far.members
+  pub stands : StandsAs far new
   pub plain : Plain r
 
-members : (far new : FarState) → new ≡ far → new.members ≡ far.members
-members far new same = ap (λ (f : FarState). f.members) same
+pub stands_same : (far new : FarState) → new ≡ far → StandsAs far new
+stands_same far new same = ap standing same
 
 -- nothing changed, with this reply
 stays : (far new : FarState) (r q : Reply) → tells_lack q ≡ false → r ≡ q → new ≡ far
     → StaysPlain far new r
-stays far new r q other is same = record { members = members far new same; plain = off r q other is }
+stays far new r q other is same = record { stands = stands_same far new same; plain = off r q other is }
 
 -- or the far state is this one
 comes : (far new next : FarState) (r q : Reply) → tells_lack q ≡ false → r ≡ q → new ≡ next
-    → next.members ≡ far.members → StaysPlain far new r
+    → StandsAs far next → StaysPlain far new r
 comes far new next r q other is same keeps = record {
-  members = members next new same ∙ keeps;
+  stands = stands_same next new same ∙ keeps;
   plain = off r q other is;
 }
 
@@ -81,11 +101,11 @@ next_plain v r (inr (l, is)) = off r (answer.Version (v + 1)) refl is
 pub make_plain : (handles : ℕ) (bytes : List ℕ) (far new : FarState) (r : Reply) (es : List Event)
     → MakeRule handles bytes far new r es → StaysPlain far new r
 make_plain handles bytes far new (answer.Full n) es x =
-    record { members = members far new x.2.0; plain = refl }
+    record { stands = stands_same far new x.2.0; plain = refl }
 make_plain handles bytes far new answer.NoFrame es x =
-    record { members = members far new x.2.0; plain = refl }
+    record { stands = stands_same far new x.2.0; plain = refl }
 make_plain handles bytes far new (answer.Made h version) es x =
-    record { members = ap (λ (f : FarState). f.members) x.1.state; plain = refl }
+    record { stands = ap standing x.1.state; plain = refl }
 make_plain handles bytes far new r es x = absurd x
 
 pub write_plain : (h at : ℕ) (bytes : List ℕ) (r : Reply) (es : List Event) → WriteRule h at bytes r es
@@ -112,22 +132,22 @@ free_reply h far new r es a = by (state_of a.reply.word) a.reply.word a.reply.an
     by word.Empty w x = absent word.Empty h es r x
     by word.Moving w x = absent word.Moving h es r x
 
-leaves_members : (q : State) (far new : FarState) (h : ℕ) → LeavesPlace q far new h
-    → new.members ≡ far.members
-leaves_members word.Here far new h x = ap (λ (f : FarState). f.members) x.left
-leaves_members word.Far far new h x = ap (λ (f : FarState). f.members) x.left
-leaves_members word.Empty far new h x = absurd x
-leaves_members word.Moving far new h x = absurd x
+leaves_standing : (q : State) (far new : FarState) (h : ℕ) → LeavesPlace q far new h
+    → StandsAs far new
+leaves_standing word.Here far new h x = ap standing x.left
+leaves_standing word.Far far new h x = ap standing x.left
+leaves_standing word.Empty far new h x = absurd x
+leaves_standing word.Moving far new h x = absurd x
 
-free_members : (w h : ℕ) (r : Reply) (far new : FarState) → FreeFar w h r far new
-    → new.members ≡ far.members
-free_members w h (answer.Version n) far new x = leaves_members (state_of w) far new h x
-free_members w h r far new x = members far new x
+free_stands : (w h : ℕ) (r : Reply) (far new : FarState) → FreeFar w h r far new
+    → StandsAs far new
+free_stands w h (answer.Version n) far new x = leaves_standing (state_of w) far new h x
+free_stands w h r far new x = stands_same far new x
 
 pub free_plain : (h : ℕ) (far new : FarState) (r : Reply) (es : List Event) → FreeRule h far new r es
     → StaysPlain far new r
 free_plain h far new r es a = record {
-  members = free_members a.reply.word h r far new a.state;
+  stands = free_stands a.reply.word h r far new a.state;
   plain = free_reply h far new r es a;
 }
 
@@ -148,7 +168,7 @@ filter_plain frames h far new r es a = by (state_of a.word) a.word a.answer
 
     by : (q : State) (w : ℕ) → FilterAs q frames h w far new r es → StaysPlain far new r
     by word.Here w x = here w x
-    by word.Empty w ((v, told, e), same) = record { members = members far new same; plain = empty v e }
+    by word.Empty w ((v, told, e), same) = record { stands = stands_same far new same; plain = empty v e }
     by word.Far w (e, same) = stays far new r answer.NotHere refl e same
     by word.Moving w (e, same) = stays far new r answer.Moving refl e same
 

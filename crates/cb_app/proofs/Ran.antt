@@ -26,6 +26,7 @@ use Rattle.cb_shared.specs.Sealing.{sealed_record, sealed_world}
 use Rattle.cb_shared.specs.Turning.{Did}
 use Rattle.cb_lanes.specs.declared.body.LaneEnd.{LaneEnd}
 use Rattle.cb_lanes.specs.Asked.{HasLineReply, asked}
+use Rattle.cb_lanes.specs.LastTries.{HasLastTry}
 use Rattle.cb_lanes.specs.Scoped.{AreScoped}
 use Rattle.cb_lanes.specs.Suits.{AreSuited}
 use Rattle.cb_lanes.proofs.Laws.{freed_last}
@@ -36,6 +37,7 @@ use Rattle.cb_app.specs.Crew.{IsTold, RiseWith, part_of, work_in}
 use Rattle.cb_app.specs.OwnLines.{AreAllOf, KeepAloneWith}
 use Rattle.cb_app.specs.Threaded.{AreLosses, IsRun}
 use Rattle.cb_app.specs.declared.threads.ThreadsEnd.{ThreadsEnd}
+use Rattle.cb_app.proofs.CalmTold.{all_calm}
 use Rattle.cb_app.proofs.AnswersTold.{InThreads, answers_lost, answers_room}
 use Rattle.cb_app.proofs.EpochsTold.{are_epochs}
 use Rattle.cb_app.proofs.Lanes.{by_lane_all}
@@ -55,7 +57,7 @@ run_lines (a ∷ answers) fits = (fits.0, run_lines answers fits.1)
 pub is_run : (script : Script) (end : ThreadsEnd) → AreInMode modes.Threads script.lines
     → AreLines script.config.nodes [] script.lines
     → map asked end.answers ≡ by_lane script.lines → AllByRecursion HasLineReply end.answers
-    → sealed_world end.seal ≡ end.world
+    → AllByRecursion (HasLastTry script.config) end.answers → sealed_world end.seal ≡ end.world
     → IsClosed Did 1 script.config (sealed_record end.seal) end.world
     → Backs (part_of (sealed_record end.seal)) (tolds [] end.answers)
     → AreSuited (sealed_record end.seal).seen (tolds [] end.answers)
@@ -63,7 +65,7 @@ pub is_run : (script : Script) (end : ThreadsEnd) → AreInMode modes.Threads sc
     → KeepAloneWith script.config.nodes (sealed_record end.seal) [] end.answers
     → AreLosses end.losses end.answers
     → ((w : Worker) → script.config.turns ≤ work_in w (sealed_record end.seal)) → IsRun script end
-is_run script end mode are lines replies seal closed backs suits rises scopes alone losses work =
+is_run script end mode are lines replies last seal closed backs suits rises scopes alone losses work =
     let c = script.config in
     let ok : IsAccepted c = subst IsAccepted closed.settings closed.sound.config in
     let v = sealed_record end.seal in
@@ -71,6 +73,8 @@ is_run script end mode are lines replies seal closed backs suits rises scopes al
     let upheld = all_upheld 1 c v end.world closed end.answers backs suits in
     let runs = run_lines end.answers (subst (AreInMode modes.Threads) (sym lines)
     (by_lane_all (λ l. FitsMode (phrase_of l.request) modes.Threads) script.lines mode)) in
+    let lost = answers_lost 1 c ok v far.counts.turns far closed.turns end.answers backs end.losses losses in
+    let worn = answers_worn 1 c v far.counts.turns far closed.turns end.answers replies runs backs in
     let never = rises v (λ h n freed has. has) (freed_last 1 v closed.entries) in
     let legal : IsLegal 1 c.handles end.answers =
     legal_of_backed 1 c.handles v end.answers closed.entries closed.calm backs upheld never.1 in
@@ -98,9 +102,11 @@ is_run script end mode are lines replies seal closed backs suits rises scopes al
       until = λ lane own. alone script.lines end.answers v whole (part_of_itself v) (λ a there. there) lane own refl;
       losses = losses;
       epochs = are_epochs 1 c ok v far.counts.turns far closed.turns end.answers replies backs;
-      lost = answers_lost 1 c ok v far.counts.turns far closed.turns end.answers backs end.losses losses;
+      lost = lost;
       room = answers_room 1 c ok v far.counts.turns far closed.turns end.answers backs replies runs;
-      worn = answers_worn 1 c v far.counts.turns far closed.turns end.answers replies runs backs;
+      worn = worn;
+      calm = λ roomy few. all_calm 1 script ok v far.counts.turns far closed.turns end.answers backs
+          end.losses losses are lines roomy few replies last worn lost upheld;
       workers = counts_workers 1 c ok v far.counts.turns far closed.turns c.turns work;
     }
 
@@ -129,7 +135,10 @@ module _ (script : Script) (mode : AreInMode modes.Threads script.lines) (shared
       let same : sealed_record end.seal ≡ closing = closed.view in
       is_run script end mode are
       (ap (λ (l : List Answer). map asked l) answers ∙ is_told.lines_are)
-      (subst (AllByRecursion HasLineReply) (sym answers) is_told.replies) closed.world
+      (subst (AllByRecursion HasLineReply) (sym answers) is_told.replies)
+      (subst (AllByRecursion (HasLastTry script.config)) (sym answers)
+      (subst (λ (c : Config). AllByRecursion (HasLastTry c) told.answers) begun.config is_told.last))
+      closed.world
       (subst (λ (v : View). IsClosed Did 1 script.config v end.world) (sym same)
       (configured end.world closed.closed))
       (subst (λ (l : List Answer). Backs (part_of (sealed_record end.seal)) (tolds [] l)) (sym answers)

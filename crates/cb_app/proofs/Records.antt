@@ -47,6 +47,7 @@ use Rattle.cb_shared.specs.Passes.{IsPassOf, record_of}
 use Rattle.cb_script.specs.declared.script.Line.{Line}
 use Rattle.cb_lanes.specs.declared.body.LaneEnd.{LaneEnd}
 use Rattle.cb_lanes.specs.Asked.{HasLineReply, asked}
+use Rattle.cb_lanes.specs.LastTries.{HasLastTry}
 use Rattle.cb_app.specs.Crew.{AreKnownTo, IsFresh, IsTold, name_made, names_in, part_of}
 use Rattle.cb_app.proofs.AnswersRise.{lane_rise, none_rise}
 use Rattle.cb_app.proofs.LanesAlone.{lane_alone_with, none_alone}
@@ -144,6 +145,7 @@ worker_told s w turns p q given answers fresh works none =
       of = works.0;
       lines_are = ap (map asked) none;
       replies = subst (AllByRecursion HasLineReply) (sym none) tt;
+      last = subst (AllByRecursion (HasLastTry s.config)) (sym none) tt;
       backs = subst (λ (xs : List Answer). Backs (part_of (record_of q)) (tolds given xs)) (sym none) backs;
       suits = subst (λ (xs : List Answer). AreSuited (record_of q).seen (tolds given xs)) (sym none) tt;
       rises = none_rise (record_of q) given answers none;
@@ -204,17 +206,19 @@ told_known written before (a ∷ after) v (own, rest, is, enters, later) all =
 -- what a lane leaves that began with a new pass
 pub lane_told : (s : Shared) (lane : ℕ) (names : List Named) (v : View) (lines : List Line) (e : LaneEnd)
     → IsFresh v → KnowsNames v names → IsPassOf s e.pass → map asked e.answers ≡ lines
-    → AllByRecursion HasLineReply e.answers → AddsBacked names e.answers v (record_of e.pass)
+    → AllByRecursion HasLineReply e.answers → AllByRecursion (HasLastTry s.config) e.answers
+    → AddsBacked names e.answers v (record_of e.pass)
     → LaneGoes s.config names v e.answers (record_of e.pass)
     → LaneRises lane names e.answers v (record_of e.pass) → LaneScoped lane names e.answers
     → LaneKeepsAlone s.config.nodes lane names lines e.answers (record_of e.pass)
     → AreLinesOf s.config.nodes lane lines → (given : List Answer) → AreNamesOf names given → AreKnownTo v given → scope_of lane given ≡ []
     → IsTold s given lines e
-lane_told s lane names v lines e fresh names_known of are replies adds goes rises scoped alone form given
-    named known no_pin = record {
+lane_told s lane names v lines e fresh names_known of are replies last adds goes rises scoped alone form
+    given named known no_pin = record {
       of = of;
       lines_are = are;
       replies = replies;
+      last = last;
       backs = backs;
       suits = suits;
       rises = lane_rise lane names given e.answers v (record_of e.pass) rises named known;

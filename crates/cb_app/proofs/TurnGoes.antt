@@ -1,5 +1,6 @@
--- What a turn over any desk tells of the members that it found, what it leaves of them, and what it
--- tells of want of room. It is of the rules alone, and would fit cb_core.
+-- What a turn over any desk tells of the members that it found, what it leaves of them and of the
+-- pair that is joining, and what it tells of want of room. It is of the rules alone, and would fit
+-- cb_core.
 use Rattle.std.proofs.Common.{◌≡◌, ◌⊎◌, ℕ, ◌+◌, ◌<◌, true, List, [], ◌∷◌, length, Option, None, Some, refl, sym, ap, ◌∙◌, subst, inl, inr, arith}
 use Rattle.std.proofs.lemmas.Bool.{false≢true, ltb-true}
 use Rattle.cb_member.specs.declared.names.Loss.{Loss}
@@ -8,6 +9,7 @@ use Rattle.cb_member.specs.declared.names.Shard.{Shard}
 use Rattle.cb_member.specs.Membership.{Membership, next_epoch, with_crash, with_join}
 use Rattle.cb_ptr.specs.Word.{state_of}
 use Rattle.cb_set.specs.Lost.{lost}
+use Rattle.cb_set.specs.Nodes.{OnDistinctNodes}
 use Rattle.cb_set.specs.SetState.{SetState, parities}
 use Rattle.cb_types.specs.declared.config.Config.{Config}
 use Rattle.cb_types.specs.Config.{IsAccepted}
@@ -21,6 +23,7 @@ use Rattle.cb_types.specs.declared.request.Request.TheVariants as line
 use Rattle.cb_types.specs.Table.{IsReplyOf}
 use Rattle.cb_world.specs.declared.event.Event.{Event}
 use Rattle.cb_world.specs.declared.shown.Shown.{Shown}
+use Rattle.cb_world.specs.Choices.{room_count}
 use Rattle.cb_world.specs.FarState.{FarState}
 use Rattle.cb_world.specs.SetWord.{is_broken}
 use Rattle.cb_world.specs.World.{IsConfigured}
@@ -29,7 +32,7 @@ use Rattle.cb_evict.specs.declared.eviction.Eviction.TheVariants.{Refused, Set}
 use Rattle.cb_evict.specs.declared.eviction.Lack.{Lack}
 use Rattle.cb_evict.specs.declared.eviction.Lack.TheVariants as lack
 use Rattle.cb_evict.specs.Eviction.{CountsRule}
-use Rattle.cb_evict.specs.EvictRule.{HasBoth, HasFewNodes, HasFewSpans}
+use Rattle.cb_evict.specs.EvictRule.{EvictRule, HasBoth, HasFewNodes, HasFewSpans}
 use Rattle.cb_evict.proofs.Laws.{evict_stays}
 use Rattle.cb_swapin.specs.SwapRule.{SwapFar, SwapRule}
 use Rattle.cb_swapin.proofs.Laws.{by_answer}
@@ -39,22 +42,52 @@ use Rattle.cb_core.specs.Membership.{CrashTurn, JoinTurn, crashed, is_down, is_u
 use Rattle.cb_core.specs.OnceHere.{OnceHere, away, here}
 use Rattle.cb_core.specs.Parts.{Holding, WithRoom, WhereItIs, at_once, no_room, won, near, declined, stays_far, brought, not_far, was_far}
 use Rattle.cb_core.specs.Turned.{Brings, ComesIn, Declines, Does, Makes, Turned, WinsRoom, Writes, counted, done, worn}
-use Rattle.cb_app.proofs.PlainReplies.{Plain, StaysPlain, abort_plain, answered, begin_plain, commit_plain, declined_plain, evict_plain, filter_plain, free_plain, make_plain, off, ship_plain, write_plain}
+use Rattle.cb_app.proofs.PairGoes.{AreSetsApart, PairGoes, begin_pair, evicted_apart, merge_pair, now_pair, pair_stays, part_pair, patch_pair}
+use Rattle.cb_app.proofs.PlainReplies.{Plain, StandsAs, StaysPlain, abort_plain, answered, begin_plain, commit_plain, declined_plain, evict_plain, filter_plain, free_plain, joining_of, make_plain, members_of, off, ship_plain, standing, stands_same, write_plain}
 
--- What a reply tells: of a lost set, all that some shards have lost, more than a set of the
--- configuration has parities; of want of room, the frames, and that too few spans are loose or too few
--- nodes have room.
-abbrev pub Tells : Config → Membership → Reply → Type 0
-Tells c m (answer.Unavailable set losses) =
-    (shards : List Shard) × (losses ≡ lost m shards) × (c.r < length losses)
-Tells c m (answer.NoRoom frames loose nodes) =
-    (frames ≡ c.frames) × ((loose < c.k) ⊎ (nodes < c.k + c.r))
-Tells c m r = Unit {0}
+-- all that some shards on different nodes have lost, more than a set of the configuration has parities
+pub record AreManyLost (c : Config) (m : Membership) (losses : List Loss) : Type 0 where
+  pub shards : List Shard
+  pub all : losses ≡ lost m shards
+  pub many : c.r < length losses
+  pub apart : OnDistinctNodes shards
 
-plain_tells : (c : Config) (m : Membership) (r : Reply) → Plain r → Tells c m r
-plain_tells c m (answer.Unavailable set losses) plain = absurd (false≢true (sym plain))
-plain_tells c m (answer.NoRoom frames loose nodes) plain = absurd (false≢true (sym plain))
-plain_tells c m r plain = tt
+-- the frames, and that too few spans are loose or too few nodes have room, which are counted
+pub record IsCrammed (c : Config) (roomy frames loose nodes : ℕ) : Type 0 where
+  pub frames_are : frames ≡ c.frames
+  pub few : (loose < c.k) ⊎ (nodes < c.k + c.r)
+  pub counted : nodes ≡ roomy
+
+-- what a reply tells of a lost set, and of want of room
+abbrev pub Tells : Config → FarState → Reply → Type 0
+Tells c far (answer.Unavailable set losses) = AreManyLost c far.members losses
+Tells c far (answer.NoRoom frames loose nodes) =
+    IsCrammed c (room_count far.nodes far.members) frames loose nodes
+Tells c far r = Unit {0}
+
+plain_tells : (c : Config) (far : FarState) (r : Reply) → Plain r → Tells c far r
+plain_tells c far (answer.Unavailable set losses) plain = absurd (false≢true (sym plain))
+plain_tells c far (answer.NoRoom frames loose nodes) plain = absurd (false≢true (sym plain))
+plain_tells c far r plain = tt
+
+-- a far state as it is configured, whose sets stand on different nodes
+pub record IsFine (c : Config) (far : FarState) : Type 0 where
+  pub configured : IsConfigured c far
+  pub apart : AreSetsApart far
+
+pub fine_counted : (c : Config) (far : FarState) (j : Job) → IsFine c far → IsFine c (counted far j)
+fine_counted c far j fine = record {
+  configured = recounted c far (counted far j).counts fine.configured;
+  apart = fine.apart;
+}
+
+-- an eviction leaves it so
+fine_evicted : (c : Config) (far new : FarState) (id : SetId) (es : List Event) → IsAccepted c
+    → EvictRule c far new (answer.Set id) es → IsFine c far → IsFine c new
+fine_evicted c far new id es accepted rule fine = record {
+  configured = (evict_stays c far new (answer.Set id) es accepted rule fine.configured).configured;
+  apart = evicted_apart c far new id es rule fine.apart;
+}
 
 -- the epoch that a turn of this job tells, where its node crashed or joined
 abbrev pub epochs_in : Job → Option Reply → List ℕ
@@ -89,49 +122,61 @@ worn_told (job.Join node) = refl
 worn_told j = refl
 
 -- ---- one operation
--- the members are as they were, and the reply tells so of them
+-- the members and the pair stand as they did, and the reply tells so of the far state that was found
 pub record Keeps (c : Config) (far new : FarState) (r : Reply) : Type 0 where
-  pub members : new.members ≡ far.members
-  pub tells : Tells c far.members r
+  pub stands : StandsAs far new
+  pub tells : Tells c far r
 
 pub plain_keeps : (c : Config) (far new : FarState) (r : Reply) → StaysPlain far new r
     → Keeps c far new r
 plain_keeps c far new r x = record {
-  members = x.members;
-  tells = plain_tells c far.members r x.plain;
+  stands = x.stands;
+  tells = plain_tells c far r x.plain;
 }
 
 same_keeps : (c : Config) (far new : FarState) (r : Reply) → new ≡ far → Plain r → Keeps c far new r
 same_keeps c far new r same plain = record {
-  members = ap (λ (f : FarState). f.members) same;
-  tells = plain_tells c far.members r plain;
+  stands = stands_same far new same;
+  tells = plain_tells c far r plain;
 }
 
--- behind one that left the members
-keeps_behind : (c : Config) (far mid new : FarState) (r : Reply) → mid.members ≡ far.members
-    → Keeps c mid new r → Keeps c far new r
-keeps_behind c far mid new r same x = record {
-  members = x.members ∙ same;
-  tells = subst (λ (m : Membership). Tells c m r) same x.tells;
+-- behind one that left the far state
+keeps_behind : (c : Config) (far mid new : FarState) (r : Reply) → mid ≡ far → Keeps c mid new r
+    → Keeps c far new r
+keeps_behind c far mid new r same x = subst (λ (f : FarState). Keeps c f new r) same x
+
+-- behind one that left them, with a plain reply
+plain_behind : (c : Config) (far mid new : FarState) (r : Reply) → StandsAs far mid
+    → StaysPlain mid new r → Keeps c far new r
+plain_behind c far mid new r same x = record {
+  stands = x.stands ∙ same;
+  tells = plain_tells c far r x.plain;
 }
 
-pub swap_members : (far new : FarState) (id p : ℕ) (set : SetState) (es : List Event) (r : Reply)
-    → SwapFar far new id p set es r → new.members ≡ far.members
-swap_members far new id p set es (answer.Swapped f) x = ap (λ (f : FarState). f.members) x.0.rest
-swap_members far new id p set es r x = ap (λ (f : FarState). f.members) x.0
+pub swap_stands : (far new : FarState) (id p : ℕ) (set : SetState) (es : List Event) (r : Reply)
+    → SwapFar far new id p set es r → StandsAs far new
+swap_stands far new id p set es (answer.Swapped f) x = ap standing x.0.rest
+swap_stands far new id p set es r x = ap standing x.0
 
-swap_keeps : (c : Config) (id p : ℕ) (far new : FarState) (r : Reply) (es : List Event)
-    → IsConfigured c far → SwapRule id p far new r es → Keeps c far new r
-swap_keeps c id p far new r es is x = record {
-  members = swap_members far new id p x.set es r x.state;
-  tells = subst (Tells c far.members) (sym x.reply) (by_answer (Tells c far.members) far id x.set
-      (λ broken. (x.set.shards, refl, many broken)) (λ fine free. tt) (λ f fine free. tt));
+-- behind what left the members and the pair as the first far state has them
+swap_keeps : (c : Config) (id p : ℕ) (first far new : FarState) (r : Reply) (es : List Event)
+    → IsFine c far → StandsAs first far → SwapRule id p far new r es → Keeps c first new r
+swap_keeps c id p first far new r es fine same x = record {
+  stands = swap_stands far new id p x.set es r x.state ∙ same;
+  tells = subst (Tells c first) (sym x.reply) (by_answer (Tells c first) far id x.set
+      (λ broken. record {
+        shards = x.set.shards;
+        all = ap (λ (m : Membership). lost m x.set.shards) (members_of first far same);
+        many = many broken;
+        apart = fine.apart id x.set x.there;
+      })
+      (λ whole free. tt) (λ f whole free. tt));
 }
   where
     many : is_broken far.members x.set ≡ true → c.r < length (lost far.members x.set.shards)
     many broken =
         let more = ltb-true (parities x.set) (length (lost far.members x.set.shards)) broken in
-        let code = (is.codes.sets id x.set x.there).1 in omega (arith, more, code)
+        let code = (fine.configured.codes.sets id x.set x.there).1 in omega (arith, more, code)
 
 -- a refusal of an eviction tells which of the two there was too little of
 too_few : (c : Config) (far new : FarState) (why : Lack) (loose nodes : ℕ) (es : List Event)
@@ -166,17 +211,17 @@ line_plain asked r x lost room = refl
 restored_plain : (far new : FarState) (id : ℕ) (set : SetState) (r : Reply)
     → Restores (surveyed far id) id set new r → StaysPlain far new r
 restored_plain far new id set r (inl stuck) = record {
-  members = ap (λ (f : FarState). f.members) stuck.same;
+  stands = ap standing stuck.same;
   plain = off r (answer.Stuck (record { n = id })) refl stuck.reply;
 }
 restored_plain far new id set r (inr z) = record {
-  members = ap (λ (f : FarState). f.members) z.state;
+  stands = ap standing z.state;
   plain = off r (answer.Rebuilt (record { n = id }) z.position z.shard.node) refl z.reply;
 }
 
 rebuild_plain : (far new : FarState) (r : Reply) → RebuildStep far new r → StaysPlain far new r
 rebuild_plain far new r (inl none) = record {
-  members = ap (λ (f : FarState). f.members) none.state;
+  stands = ap standing none.state;
   plain = off r _ refl none.reply;
 }
 rebuild_plain far new r (inr z) = restored_plain far new z.id z.set r z.restores
@@ -184,34 +229,39 @@ rebuild_plain far new r (inr z) = restored_plain far new z.id z.set r z.restores
 -- what a turn leaves and tells
 pub record Goes (c : Config) (j : Job) (far new : FarState) (r : Reply) : Type 0 where
   pub goes : GoesOn j far.members new.members (Some r)
-  pub tells : Tells c far.members r
+  pub pair : PairGoes far new
+  pub tells : Tells c far r
 
 crash_goes : (c : Config) (node : NodeId) (far new : FarState) (r : Reply) → CrashTurn node far r new
     → Goes c (job.Crash node) far new r
 crash_goes c node far new r (crashed up is state) = record {
   goes = inr (ap (λ (f : FarState). f.members) state, ap (λ (q : Reply). Some q) is);
-  tells = subst (Tells c far.members) (sym is) tt;
+  pair = pair_stays far new (ap (λ (f : FarState). f.joining) state);
+  tells = subst (Tells c far) (sym is) tt;
 }
 crash_goes c node far new r (is_down down is state) = record {
   goes = inl (
     ap (λ (f : FarState). f.members) state,
     ap (λ (q : Reply). epochs_in (job.Crash node) (Some q)) is,
   );
-  tells = subst (Tells c far.members) (sym is) tt;
+  pair = pair_stays far new (ap (λ (f : FarState). f.joining) state);
+  tells = subst (Tells c far) (sym is) tt;
 }
 
 join_goes : (c : Config) (node : NodeId) (far new : FarState) (r : Reply) → JoinTurn node far r new
     → Goes c (job.Join node) far new r
 join_goes c node far new r (joined down is state) = record {
   goes = inr (ap (λ (f : FarState). f.members) state, ap (λ (q : Reply). Some q) is);
-  tells = subst (Tells c far.members) (sym is) tt;
+  pair = pair_stays far new (ap (λ (f : FarState). f.joining) state);
+  tells = subst (Tells c far) (sym is) tt;
 }
 join_goes c node far new r (is_up up is state) = record {
   goes = inl (
     ap (λ (f : FarState). f.members) state,
     ap (λ (q : Reply). epochs_in (job.Join node) (Some q)) is,
   );
-  tells = subst (Tells c far.members) (sym is) tt;
+  pair = pair_stays far new (ap (λ (f : FarState). f.joining) state);
+  tells = subst (Tells c far) (sym is) tt;
 }
 
 -- ---- by parts, over any desk, however an object is read that is here
@@ -223,52 +273,54 @@ module _ {D : Type 0} (run : D → List Event → D → Type 0) (shows : D → S
   Hold = Holding D
 
   -- the eviction made room
-  room_won : (m n : Hold) (id : SetId) → IsConfigured c m.far → WinsRoom run shows c m (Set id) n
-      → IsConfigured c n.far × (n.far.members ≡ m.far.members)
-  room_won m n id is x = (
-    (evict_stays c m.far n.far (answer.Set id) x.events accepted x.rule.rule is).configured,
-    (evict_plain c m.far n.far (answer.Set id) x.events x.rule.rule).members,
+  room_won : (m n : Hold) (id : SetId) → IsFine c m.far → WinsRoom run shows c m (Set id) n
+      → IsFine c n.far × StandsAs m.far n.far
+  room_won m n id fine x = (
+    fine_evicted c m.far n.far id x.events accepted x.rule.rule fine,
+    (evict_plain c m.far n.far (answer.Set id) x.events x.rule.rule).stands,
   )
 
   room_lacks : (a m b : Hold) (why : Lack) (loose nodes : ℕ) (r : Reply) → m.far ≡ a.far
       → WinsRoom run shows c m (Refused why loose nodes) b → r ≡ answer.NoRoom c.frames loose nodes
       → Keeps c a.far b.far r
-  room_lacks a m b why loose nodes r same x is = record {
-    members = (evict_plain c m.far b.far _ x.events x.rule.rule).members
-        ∙ ap (λ (f : FarState). f.members) same;
-    tells = subst (Tells c a.far.members) (sym is)
-        (refl, too_few c m.far b.far why loose nodes x.events x.rule);
-  }
+  room_lacks a m b why loose nodes r same x is = keeps_behind c a.far m.far b.far r same (record {
+    stands = (evict_plain c m.far b.far _ x.events x.rule.rule).stands;
+    tells = subst (Tells c m.far) (sym is) (record {
+      frames_are = refl;
+      few = too_few c m.far b.far why loose nodes x.events x.rule;
+      counted = x.rule.counts.1;
+    });
+  })
 
-  bring_keeps : (h : ℕ) (a b : Hold) (r : Reply) → IsConfigured c a.far → Brings run shows c h a r b
+  bring_keeps : (h : ℕ) (a b : Hold) (r : Reply) → IsFine c a.far → Brings run shows c h a r b
       → Keeps c a.far b.far r
-  bring_keeps h a b r is (at_once (home, at, x) never) =
-      swap_keeps c home.set home.position a.far b.far r x.events is x.rule
-  bring_keeps h a b r is (no_room m why loose nodes (home, at, x) evict e) =
+  bring_keeps h a b r fine (at_once (home, at, x) never) =
+      swap_keeps c home.set home.position a.far a.far b.far r x.events fine refl x.rule
+  bring_keeps h a b r fine (no_room m why loose nodes (home, at, x) evict e) =
       room_lacks a m b why loose nodes r x.rule.state.0 evict e
-  bring_keeps h a b r is (won m n id (home, at, x) evict (home', at', y) never) =
+  bring_keeps h a b r fine (won m n id (home, at, x) evict (home', at', y) never) =
       let same : m.far ≡ a.far = x.rule.state.0 in
-      let w = room_won m n id (subst (IsConfigured c) (sym same) is) evict in
-      keeps_behind c a.far n.far b.far r (w.1 ∙ ap (λ (f : FarState). f.members) same)
-      (swap_keeps c home'.set home'.position n.far b.far r y.events w.0 y.rule)
+      let w = room_won m n id (subst (IsFine c) (sym same) fine) evict in
+      swap_keeps c home'.set home'.position a.far n.far b.far r y.events w.0
+      (w.1 ∙ stands_same a.far m.far same) y.rule
 
-  pub come_keeps : (h : ℕ) (a b : Hold) (r : Reply) → IsConfigured c a.far → ComesIn run shows c h a r b
+  pub come_keeps : (h : ℕ) (a b : Hold) (r : Reply) → IsFine c a.far → ComesIn run shows c h a r b
       → Keeps c a.far b.far r
   come_keeps h a b r is (not_far x never) = same_keeps c a.far b.far r x.rule.0
       (answered (λ w. r ≡ answer.Stays) (state_of x.rule.1.word) x.rule.1.word h x.events r
       (λ e. off r answer.Stays refl e) x.rule.1.answer)
   come_keeps h a b r is (was_far m x bring) =
-      keeps_behind c a.far m.far b.far r (ap (λ (f : FarState). f.members) x.rule.0)
-      (bring_keeps h m b r (subst (IsConfigured c) (sym x.rule.0) is) bring)
+      keeps_behind c a.far m.far b.far r x.rule.0
+      (bring_keeps h m b r (subst (IsFine c) (sym x.rule.0) is) bring)
 
-  once_keeps : (h : ℕ) (a b : Hold) (r : Reply) → IsConfigured c a.far
+  once_keeps : (h : ℕ) (a b : Hold) (r : Reply) → IsFine c a.far
       → OnceHere (ComesIn run shows c h) (reads h) a r b → Keeps c a.far b.far r
   once_keeps h a b r is (away come off) = come_keeps h a b r is come
   once_keeps h a b r is (here m place come there call) = let x = read h m b r call in
-      keeps_behind c a.far m.far b.far r (come_keeps h a m place is come).members
-      (same_keeps c m.far b.far r x.0 x.1)
+      plain_behind c a.far m.far b.far r (come_keeps h a m place is come).stands
+      (record { stands = stands_same m.far b.far x.0; plain = x.1 })
 
-  make_keeps : (bytes : List ℕ) (a b : Hold) (r : Reply) → IsConfigured c a.far
+  make_keeps : (bytes : List ℕ) (a b : Hold) (r : Reply) → IsFine c a.far
       → WithRoom c.frames (Makes run shows c bytes) (WinsRoom run shows c) a r b
       → Keeps c a.far b.far r
   make_keeps bytes a b r is (at_once x never) =
@@ -277,35 +329,51 @@ module _ {D : Type 0} (run : D → List Event → D → Type 0) (shows : D → S
       room_lacks a m b why loose nodes r x.rule.2.0 evict e
   make_keeps bytes a b r is (won m n id x evict y never) =
       let same : m.far ≡ a.far = x.rule.2.0 in
-      let w = room_won m n id (subst (IsConfigured c) (sym same) is) evict in
-      keeps_behind c a.far n.far b.far r (w.1 ∙ ap (λ (f : FarState). f.members) same)
-      (plain_keeps c n.far b.far r (make_plain c.handles bytes n.far b.far r y.events y.rule))
+      let w = room_won m n id (subst (IsFine c) (sym same) is) evict in
+      plain_behind c a.far n.far b.far r (w.1 ∙ stands_same a.far m.far same)
+      (make_plain c.handles bytes n.far b.far r y.events y.rule)
 
-  write_keeps : (h at : ℕ) (bytes : List ℕ) (a b : Hold) (r : Reply) → IsConfigured c a.far
+  write_keeps : (h at : ℕ) (bytes : List ℕ) (a b : Hold) (r : Reply) → IsFine c a.far
       → WhereItIs (Writes run shows h at bytes) (Declines run shows h at (length bytes))
       (Brings run shows c h) a r b → Keeps c a.far b.far r
   write_keeps h at bytes a b r is (near x never) =
       same_keeps c a.far b.far r x.rule.0 (write_plain h at bytes r x.events x.rule.1)
   write_keeps h at bytes a b r is (declined m x look) =
-      keeps_behind c a.far m.far b.far r (ap (λ (f : FarState). f.members) x.rule.0)
+      keeps_behind c a.far m.far b.far r x.rule.0
       (same_keeps c m.far b.far r look.0
       (declined_plain h at (length bytes) m.far r look.1.events look.1.rule))
   write_keeps h at bytes a b r is (stays_far m n x look bring never) =
       let same : n.far ≡ a.far = look.0 ∙ x.rule.0 in
-      keeps_behind c a.far n.far b.far r (ap (λ (f : FarState). f.members) same)
-      (bring_keeps h n b r (subst (IsConfigured c) (sym same) is) bring)
+      keeps_behind c a.far n.far b.far r same
+      (bring_keeps h n b r (subst (IsFine c) (sym same) is) bring)
   write_keeps h at bytes a b r is (brought m n o f x look bring y) =
       let same : n.far ≡ a.far = look.0 ∙ x.rule.0 in
-      let k = bring_keeps h n o (answer.Swapped f) (subst (IsConfigured c) (sym same) is) bring in
-      keeps_behind c a.far o.far b.far r (k.members ∙ ap (λ (f : FarState). f.members) same)
-      (same_keeps c o.far b.far r y.rule.0 (write_plain h at bytes r y.events y.rule.1))
+      let k = bring_keeps h n o (answer.Swapped f) (subst (IsFine c) (sym same) is) bring in
+      plain_behind c a.far o.far b.far r (k.stands ∙ stands_same a.far n.far same) (record {
+        stands = stands_same o.far b.far y.rule.0;
+        plain = write_plain h at bytes r y.events y.rule.1;
+      })
 
   kept : (j : Job) (a b : Hold) (r : Reply)
       → ((old new : Membership) → new ≡ old → GoesOn j old new (Some r)) → Keeps c a.far b.far r
       → Goes c j a.far b.far r
-  kept j a b r on x = record { goes = on a.far.members b.far.members x.members; tells = x.tells }
+  kept j a b r on x = record {
+    goes = on a.far.members b.far.members (members_of a.far b.far x.stands);
+    pair = pair_stays a.far b.far (joining_of a.far b.far x.stands);
+    tells = x.tells;
+  }
 
-  does_goes : (j : Job) (a b : Hold) (r : Reply) → IsConfigured c a.far
+  -- a job on the pair that is joining
+  paired : (j : Job) (a b : Hold) (r : Reply)
+      → ((old new : Membership) → new ≡ old → GoesOn j old new (Some r))
+      → b.far.members ≡ a.far.members → Plain r → PairGoes a.far b.far → Goes c j a.far b.far r
+  paired j a b r on members plain pair = record {
+    goes = on a.far.members b.far.members members;
+    pair = pair;
+    tells = plain_tells c a.far r plain;
+  }
+
+  does_goes : (j : Job) (a b : Hold) (r : Reply) → IsFine c a.far
       → Does run shows reads c j a r b → Goes c j a.far b.far r
   does_goes (job.Make bytes) a b r is x =
       kept (job.Make bytes) a b r (λ old new e. e) (make_keeps bytes a b r is x)
@@ -329,46 +397,48 @@ module _ {D : Type 0} (run : D → List Event → D → Type 0) (shows : D → S
       (plain_keeps c a.far b.far r (commit_plain a.far b.far r x.events x.rule))
   does_goes job.Abort a b r is x = kept job.Abort a b r (λ old new e. e)
       (plain_keeps c a.far b.far r (abort_plain a.far b.far r x.events x.rule))
-  does_goes job.Pair a b r is x = kept job.Pair a b r (λ old new e. e) (plain_keeps c a.far b.far r
-      (record {
-        members = (begin_laws.leaves a.far b.far r x.1).members;
-        plain = line_plain line.Pair r (begin_laws.answers a.far b.far r x.1) (λ id l z. z) (λ f l n z. z);
-      }))
-  does_goes job.Patch a b r is x = kept job.Patch a b r (λ old new e. e) (plain_keeps c a.far b.far r
-      (record {
-        members = (patch_laws.leaves a.far b.far r x.1).members;
-        plain = line_plain line.Patch r (patch_laws.answers a.far b.far r x.1) (λ id l z. z) (λ f l n z. z);
-      }))
-  does_goes job.Merge a b r is x = kept job.Merge a b r (λ old new e. e) (plain_keeps c a.far b.far r
-      (record {
-        members = (merge_laws.leaves a.far b.far r x.1).members;
-        plain = line_plain line.Merge r (merge_laws.answers a.far b.far r x.1) (λ id l z. z) (λ f l n z. z);
-      }))
-  does_goes job.Part a b r is x = kept job.Part a b r (λ old new e. e) (plain_keeps c a.far b.far r
-      (record {
-        members = (part_laws.leaves a.far b.far r x.1).members;
-        plain = line_plain line.Part r (part_laws.answers a.far b.far r x.1) (λ id l z. z) (λ f l n z. z);
-      }))
-  does_goes job.Compact a b r is x = kept job.Compact a b r (λ old new e. e)
-      (plain_keeps c a.far b.far r (record {
-        members = (now_laws.leaves a.far b.far r x.1).members;
-        plain = line_plain line.Compact r (now_laws.answers a.far b.far r x.1) (λ id l z. z) (λ f l n z. z);
-      }))
+  does_goes job.Pair a b r is x = paired job.Pair a b r (λ old new e. e)
+      (begin_laws.leaves a.far b.far r x.1).members
+      (line_plain line.Pair r (begin_laws.answers a.far b.far r x.1) (λ id l z. z) (λ f l n z. z))
+      (begin_pair a.far b.far r x.1)
+  does_goes job.Patch a b r is x = paired job.Patch a b r (λ old new e. e)
+      (patch_laws.leaves a.far b.far r x.1).members
+      (line_plain line.Patch r (patch_laws.answers a.far b.far r x.1) (λ id l z. z) (λ f l n z. z))
+      (patch_pair a.far b.far r x.1)
+  does_goes job.Merge a b r is x = paired job.Merge a b r (λ old new e. e)
+      (merge_laws.leaves a.far b.far r x.1).members
+      (line_plain line.Merge r (merge_laws.answers a.far b.far r x.1) (λ id l z. z) (λ f l n z. z))
+      (merge_pair a.far b.far r x.1)
+  does_goes job.Part a b r is x = paired job.Part a b r (λ old new e. e)
+      (part_laws.leaves a.far b.far r x.1).members
+      (line_plain line.Part r (part_laws.answers a.far b.far r x.1) (λ id l z. z) (λ f l n z. z))
+      (part_pair a.far b.far r x.1)
+  does_goes job.Compact a b r is x = paired job.Compact a b r (λ old new e. e)
+      (now_laws.leaves a.far b.far r x.1).members
+      (line_plain line.Compact r (now_laws.answers a.far b.far r x.1) (λ id l z. z) (λ f l n z. z))
+      (now_pair a.far b.far r x.1)
   does_goes job.Rebuild a b r is x = kept job.Rebuild a b r (λ old new e. e)
       (plain_keeps c a.far b.far r (rebuild_plain a.far b.far r x.1))
   does_goes (job.Crash node) a b r is x = crash_goes c node a.far b.far r x.1
   does_goes (job.Join node) a b r is x = join_goes c node a.far b.far r x.1
 
   -- a turn that was answered
-  pub turned_goes : (j : Job) (a b : Hold) (r : Reply) → IsConfigured c a.far
+  pub turned_goes : (j : Job) (a b : Hold) (r : Reply) → IsFine c a.far
       → Turned run shows reads c j a r b → Goes c j a.far b.far r
   turned_goes j a b r is (worn end e same ran) = record {
     goes = subst (λ (q : Reply). GoesOn j a.far.members b.far.members (Some q)) (sym e)
         (stays_on j a.far.members b.far.members (Some answer.Worn)
         (ap (λ (f : FarState). f.members) same) (worn_told j));
-    tells = subst (Tells c a.far.members) (sym e) tt;
+    pair = pair_stays a.far b.far (ap (λ (f : FarState). f.joining) same);
+    tells = subst (Tells c a.far) (sym e) tt;
   }
   turned_goes j a b r is (done few x) =
       let z = does_goes j (record { desk = a.desk; far = counted a.far j }) b r
-      (recounted c a.far (counted a.far j).counts is) x in
-      record { goes = z.goes; tells = z.tells }
+      (fine_counted c a.far j is) x in
+      record { goes = z.goes; pair = z.pair; tells = told r z.tells }
+    where
+      -- a turn more is counted in the far state of which it tells
+      told : (q : Reply) → Tells c (counted a.far j) q → Tells c a.far q
+      told (answer.NoRoom frames loose nodes) y = y
+      told (answer.Unavailable set losses) y = y
+      told q y = tt

@@ -1,7 +1,6 @@
 -- The turns of a closed record, one after another: what each tells, and what holds of the far state
 -- after so many of them. It would fit cb_shared, and its induction cb_rule.
 use Rattle.std.proofs.Common.{◌≡◌, ℕ, zero, suc, ◌+◌, ◌<◌, ◌≤◌, Bool, true, cond, List, [], ◌∷◌, Option, None, Some, refl, sym, ap, subst, inl, inr, arith, eqb-true}
-use Rattle.cb_member.specs.Membership.{Membership}
 use Rattle.cb_types.specs.declared.config.Config.{Config}
 use Rattle.cb_types.specs.Config.{IsAccepted}
 use Rattle.cb_types.specs.declared.job.Job.{Job}
@@ -11,32 +10,32 @@ use Rattle.cb_world.specs.declared.event.Event.{Event}
 use Rattle.cb_world.specs.declared.shown.Shown.{Shown}
 use Rattle.cb_world.specs.Empty.{empty_far}
 use Rattle.cb_world.specs.FarState.{FarState}
-use Rattle.cb_world.specs.World.{IsConfigured}
-use Rattle.cb_world.proofs.Laws.{recounted}
 use Rattle.cb_world.specs.Played.{played}
 use Rattle.cb_core.specs.Parts.{Holding}
 use Rattle.cb_core.specs.Turned.{counted}
 use Rattle.cb_rule.specs.declared.turn.Turn.{Turn}
 use Rattle.cb_rule.specs.declared.view.View.{View}
 use Rattle.cb_rule.specs.Lists.{Has, times}
-use Rattle.cb_rule.specs.Locking.{is_turn, turn_number}
+use Rattle.cb_rule.specs.Locking.{Stood, is_turn, turn_number}
 use Rattle.cb_rule.specs.OneHistory.{HasNumber, IsOneHistory, Made}
 use Rattle.cb_rule.proofs.Laws.{by_case}
 use Rattle.cb_shared.specs.Turning.{Did, DidAs, IsReadReply, PinLacks, ReadsByPin, Slate, held_by, slate_run, slate_shows}
-use Rattle.cb_app.proofs.PlainReplies.{Plain}
-use Rattle.cb_app.proofs.TurnGoes.{GoesOn, Tells, none_told, stays_on, turned_goes}
+use Rattle.cb_app.proofs.PairGoes.{PairGoes, pair_stays}
+use Rattle.cb_app.proofs.PlainReplies.{Plain, StandsAs, joining_of, members_of}
+use Rattle.cb_app.proofs.TurnGoes.{GoesOn, IsFine, Tells, fine_counted, none_told, stays_on, turned_goes}
 use Rattle.cb_app.proofs.TurnStops.{stops_same}
 
 -- ---- one turn
 -- what its reply tells, where it has one
-abbrev pub TellsIf : Config → Membership → Option Reply → Type 0
-TellsIf c m None = Unit {0}
-TellsIf c m (Some r) = Tells c m r
+abbrev pub TellsIf : Config → FarState → Option Reply → Type 0
+TellsIf c far None = Unit {0}
+TellsIf c far (Some r) = Tells c far r
 
--- it leaves the members so, and tells so of those that it found
+-- it leaves the members and the pair so, and tells so of the far state that it found
 pub record TurnGoes (c : Config) (t : Turn) : Type 0 where
   pub goes : GoesOn t.job t.took.members t.gave.members t.reply
-  pub tells : TellsIf c t.took.members t.reply
+  pub pair : PairGoes t.took t.gave
+  pub tells : TellsIf c t.took t.reply
 
 read_plain : (r : Reply) → IsReadReply r → Plain r
 read_plain (answer.Unavailable id l) x = absurd x
@@ -50,26 +49,32 @@ lacks_same : (h : ℕ) (a b : Holding Slate) → PinLacks h a b → b.far ≡ a.
 lacks_same h a b x = ap (λ (z : Holding Slate). z.far) x
 
 did_goes : (c : Config) → IsAccepted c → (j : Job) (reply : Option Reply) (start : Shown)
-    (es : List Event) (took gave : FarState) → IsConfigured c took
-    → DidAs c j reply start es took gave
-    → GoesOn j took.members gave.members reply × TellsIf c took.members reply
+    (es : List Event) (took gave : FarState) → IsFine c took → DidAs c j reply start es took gave
+    → GoesOn j took.members gave.members reply × PairGoes took gave × TellsIf c took reply
 did_goes c ok j (Some r) start es took gave is did =
     let z = turned_goes slate_run slate_shows ReadsByPin pins_plain c ok j (held_by start [] took)
     (held_by (played es start) es gave) r is did in
-    (z.goes, z.tells)
-did_goes c ok j None start es took gave is did = (
-  stays_on j took.members gave.members None (stops_same slate_run slate_shows ReadsByPin pins_plain
-      PinLacks lacks_same c ok j (held_by start [] (counted took j))
-      (held_by (played es start) es gave) (recounted c took (counted took j).counts is) did.stops)
-      (none_told j),
-  tt,
-)
+    (z.goes, z.pair, z.tells)
+did_goes c ok j None start es took gave is did =
+    let same : StandsAs (counted took j) gave = stops_same slate_run slate_shows ReadsByPin pins_plain
+    PinLacks lacks_same c ok j (held_by start [] (counted took j))
+    (held_by (played es start) es gave) (fine_counted c took j is) did.stops in (
+      stays_on j took.members gave.members None (members_of (counted took j) gave same) (none_told j),
+      pair_stays took gave (joining_of (counted took j) gave same),
+      tt,
+    )
 
-pub turn_goes : (c : Config) → IsAccepted c → (t : Turn) → IsConfigured c t.took → Did c t
-    → TurnGoes c t
+-- a far state that a turn took is sound
+pub fine_of : (c : Config) (k : Shown) (far : FarState) → Stood c k far → IsFine c far
+fine_of c k far stood = record {
+  configured = stood.configured;
+  apart = λ id set there. (stood.sound.away.sound.sets.shaped id set there).distinct;
+}
+
+pub turn_goes : (c : Config) → IsAccepted c → (t : Turn) → IsFine c t.took → Did c t → TurnGoes c t
 turn_goes c ok t is did =
     let z = did_goes c ok t.job t.reply t.start t.acts t.took t.gave is did in
-    record { goes = z.0; tells = z.1 }
+    record { goes = z.0; pair = z.1; tells = z.2 }
 
 -- ---- all of them
 -- what is counted is there
@@ -99,7 +104,8 @@ module _ (first : ℕ) (c : Config) (v : View) (count : ℕ) (last : FarState)
 
   pub each_goes : IsAccepted c → (t : Turn) → Has t v.turns → TurnGoes c t
   each_goes ok t there =
-      turn_goes c ok t (one.sound t (made t there)).1.configured (one.did t (made t there))
+      let k = one.sound t (made t there) in
+      turn_goes c ok t (fine_of c k.0 t.took k.1) (one.did t (made t there))
 
   pub number_of : (t : Turn) → Has t v.turns → HasNumber count t
   number_of t there = one.numbers t (made t there)

@@ -1,4 +1,5 @@
--- A turn that found no memory leaves the members. It is of the rules alone, and would fit cb_core.
+-- A turn that found no memory leaves the members and the pair that is joining. It is of the rules
+-- alone, and would fit cb_core.
 use Rattle.std.proofs.Common.{◌≡◌, ℕ, List, length, ap, ◌∙◌}
 use Rattle.cb_types.specs.declared.config.Config.{Config}
 use Rattle.cb_types.specs.Config.{IsAccepted}
@@ -8,16 +9,14 @@ use Rattle.cb_types.specs.declared.reply.Reply.{Reply}
 use Rattle.cb_types.specs.declared.reply.Reply.TheVariants as answer
 use Rattle.cb_world.specs.declared.event.Event.{Event}
 use Rattle.cb_world.specs.declared.shown.Shown.{Shown}
-use Rattle.cb_world.specs.FarState.{FarState}
-use Rattle.cb_world.specs.World.{IsConfigured}
 use Rattle.cb_evict.specs.declared.eviction.Eviction.TheVariants.{Set}
 use Rattle.cb_core.specs.OnceHere.{OnceHereStops, bringing_stops, call_stops}
 use Rattle.cb_core.specs.Parts.{CallStops, Holding, NeverLacks, RoomStops}
 use Rattle.cb_core.specs.Parts.RoomStops.{at_once, evicting, after}
 use Rattle.cb_core.specs.Parts.CallStops.{near as call_near, far as call_far, after as call_after}
 use Rattle.cb_core.specs.Turned.{BringLacks, Brings, ComeLacks, ComesIn, Declines, EvictLacks, MakeLacks, Makes, Stops, SwapLacks, Swaps, WinsRoom, Writes}
-use Rattle.cb_app.proofs.PlainReplies.{Plain, evict_plain, make_plain}
-use Rattle.cb_app.proofs.TurnGoes.{come_keeps, swap_members}
+use Rattle.cb_app.proofs.PlainReplies.{Plain, StandsAs, evict_plain, make_plain, standing, stands_same}
+use Rattle.cb_app.proofs.TurnGoes.{IsFine, come_keeps, swap_stands}
 
 module _ {D : Type 0} (run : D → List Event → D → Type 0) (shows : D → Shown → Type 0)
     (reads : ℕ → Holding D → Reply → Holding D → Type 0)
@@ -28,18 +27,18 @@ module _ {D : Type 0} (run : D → List Event → D → Type 0) (shows : D → S
   abbrev Hold : Type 0
   Hold = Holding D
 
-  -- the members stay
+  -- they stay
   abbrev Same : Hold → Hold → Type 0
-  Same a b = b.far.members ≡ a.far.members
+  Same a b = StandsAs a.far b.far
 
   same : (a b : Hold) → b.far ≡ a.far → Same a b
-  same a b e = ap (λ (f : FarState). f.members) e
+  same a b e = stands_same a.far b.far e
 
   evicted : (m n : Hold) (id : _) → WinsRoom run shows c m (Set id) n → Same m n
-  evicted m n id x = (evict_plain c m.far n.far (answer.Set id) x.events x.rule.rule).members
+  evicted m n id x = (evict_plain c m.far n.far (answer.Set id) x.events x.rule.rule).stands
 
   made : (bytes : List ℕ) (a b : Hold) (r : Reply) → Makes run shows c bytes a r b → Same a b
-  made bytes a b r x = (make_plain c.handles bytes a.far b.far r x.events x.rule).members
+  made bytes a b r x = (make_plain c.handles bytes a.far b.far r x.events x.rule).stands
 
   make_stops : (bytes : List ℕ) (a b : Hold)
       → RoomStops (Makes run shows c bytes) (MakeLacks run c bytes) (WinsRoom run shows c)
@@ -51,10 +50,10 @@ module _ {D : Type 0} (run : D → List Event → D → Type 0) (shows : D → S
 
   swapped : (h : ℕ) (a b : Hold) (r : Reply) → Swaps run shows h a r b → Same a b
   swapped h a b r (home, at, x) =
-      swap_members a.far b.far home.set home.position x.rule.set x.events r x.rule.state
+      swap_stands a.far b.far home.set home.position x.rule.set x.events r x.rule.state
 
   given : (h : ℕ) (a b : Hold) → SwapLacks run h a b → Same a b
-  given h a b (ran, (home, set, n, at, there, few, state)) = ap (λ (f : FarState). f.members) state
+  given h a b (ran, (home, set, n, at, there, few, state)) = ap standing state
 
   bring_stops : (h : ℕ) (a b : Hold) → BringLacks run shows c h a b → Same a b
   bring_stops h a b (at_once x) = given h a b x
@@ -65,11 +64,11 @@ module _ {D : Type 0} (run : D → List Event → D → Type 0) (shows : D → S
   come_stops : (h : ℕ) (a b : Hold) → ComeLacks run shows c h a b → Same a b
   come_stops h a b (m, find, x) = bring_stops h m b x ∙ same a m find.rule.0
 
-  once_stops : (h : ℕ) (a b : Hold) → IsConfigured c a.far
+  once_stops : (h : ℕ) (a b : Hold) → IsFine c a.far
       → OnceHereStops (ComesIn run shows c h) (ComeLacks run shows c h) (lacks h) a b → Same a b
   once_stops h a b is (bringing_stops x) = come_stops h a b x
   once_stops h a b is (call_stops m place come there x) =
-      same m b (lack h m b x) ∙ (come_keeps run shows reads read c accepted h a m place is come).members
+      same m b (lack h m b x) ∙ (come_keeps run shows reads read c accepted h a m place is come).stands
 
   write_stops : (h at : ℕ) (bytes : List ℕ) (a b : Hold)
       → CallStops (Writes run shows h at bytes) NeverLacks (Declines run shows h at (length bytes))
@@ -79,7 +78,7 @@ module _ {D : Type 0} (run : D → List Event → D → Type 0) (shows : D → S
       bring_stops h n b y ∙ same m n look.0 ∙ same a m x.rule.0
   write_stops h at bytes a b (call_after m n o f x look bring y) = absurd y
 
-  pub stops_same : (j : Job) (a b : Hold) → IsConfigured c a.far → Stops run shows lacks c j a b
+  pub stops_same : (j : Job) (a b : Hold) → IsFine c a.far → Stops run shows lacks c j a b
       → Same a b
   stops_same (job.Make bytes) a b is x = make_stops bytes a b x
   stops_same (job.Read handle) a b is x = once_stops handle.n a b is x
@@ -98,6 +97,6 @@ module _ {D : Type 0} (run : D → List Event → D → Type 0) (shows : D → S
   stops_same job.Part a b is x = absurd x.1
   stops_same job.Compact a b is x = same a b x.1
   stops_same job.Rebuild a b is (ran, (id, set, n, first, few, state)) =
-      ap (λ (f : FarState). f.members) state
+      ap standing state
   stops_same (job.Crash node) a b is x = same a b x.1.0
   stops_same (job.Join node) a b is x = absurd x.1

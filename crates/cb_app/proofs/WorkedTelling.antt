@@ -63,15 +63,23 @@ abbrev lost : List Loss → Reply
 lost ls = Unavailable (record { n = 7 }) ls
 
 by_both : TellsLost small losses (lost (loss 3 2 ∷ loss 0 1 ∷ []))
-by_both = (omega arith, ((1, omega arith, refl), ((0, omega arith, refl), tt)))
+by_both = record {
+  many = omega arith;
+  apart = ((λ e. absurd (omega (arith, e)), tt), (tt, tt));
+  among = ((1, omega arith, refl), ((0, omega arith, refl), tt));
+}
 
 -- as many as the set has parities
 too_few : TellsLost small losses (lost (loss 3 2 ∷ [])) → ⊥
-too_few tells = let few = tells.0 in omega (arith, few)
+too_few tells = let few = tells.many in omega (arith, few)
+
+-- by two crashes of one node
+one_node : TellsLost small (loss 3 2 ∷ loss 3 4 ∷ []) (lost (loss 3 2 ∷ loss 3 4 ∷ [])) → ⊥
+one_node tells = tells.apart.0.0 refl
 
 -- by a crash that did not take place
 never : TellsLost small [] (lost (loss 3 2 ∷ loss 0 1 ∷ [])) → ⊥
-never tells = let low = tells.1.0.1 in omega (arith, low)
+never tells = let low = tells.among.0.1 in omega (arith, low)
 
 -- ---- room
 few_spans : TellsRoom small (NoRoom 3 1 4)

@@ -19,6 +19,7 @@ use Rattle.cb_script.specs.declared.script.Line.{Line}
 use Rattle.cb_script.specs.declared.script.Mode.TheVariants as modes
 use Rattle.cb_script.specs.declared.script.Script.{Script}
 use Rattle.cb_script.specs.Form.{AreLines, Spells}
+use Rattle.cb_script.specs.Roomy.{IsRoomy}
 use Rattle.cb_script.specs.Spelling.{header_line}
 use Rattle.cb_script.proofs.PublicLaws.{differ}
 use Rattle.cb_text.specs.Line.{text_of}
@@ -149,6 +150,19 @@ first_number (l ∷ lines) = l.line
 among_none : {A : Type 0} (xs : List A) → IsAmong xs [] → length xs ≡ 0
 among_none xs ended = refl
 
+-- a roomy script, with one line
+abbrev wide : Script
+wide = record { config = record small { frames = 364 }; lines = lane_line 1 2 (Read a) ∷ [] }
+
+roomy : IsRoomy wide
+roomy = record {
+  frames = omega arith;
+  room = omega arith;
+  nodes = omega arith;
+  makes = omega arith;
+  crashes = omega arith;
+}
+
 -- the world is one that a pass with a turn of the eviction closed, and the seal shows both
 record IsLeft (t : Turn) (world : WorldState) (seal : Seal) : Type 0 where
   under : seal.mark.view ≡ sealed world (view_of (evicting t ∷ []))
@@ -179,6 +193,7 @@ module _ (t : Turn) (world : WorldState) (seal : Seal) where
       let record_is : sealed_record seal ≡ view_of (evicting t ∷ []) =
       ap (λ (x : Sealed). x.view) there.under in
       is_run script (told_of world seal answers []) spelled.allowed are_lines refl (tt, (tt, tt))
+      (refl, (refl, tt))
       (ap (λ (x : Sealed). x.world) there.under)
       (subst (λ (v : View). IsClosed Did 1 small v world) (sym record_is) there.closed)
       (subst (λ (v : View). Backs (part_of v) (tolds [] answers)) (sym record_is) backs)
@@ -307,12 +322,17 @@ module _ (t : Turn) (world : WorldState) (seal : Seal) where
   -- a set that lost no more than it has parities is told as one that can't be read
   a_set_that_is_whole : (loss : Loss) → IsRun script (told_of world seal (answer 1 3 (Read (codes "a"))
       (replies.Unavailable (record { n = 0 }) (loss ∷ loss ∷ [])) ∷ []) (loss ∷ [])) → ⊥
-  a_set_that_is_whole loss is = let few = is.lost.0.0 in omega (arith, few)
+  a_set_that_is_whole loss is = let few = is.lost.0.many in omega (arith, few)
 
   -- or by a crash that did not take place
   a_crash_of_no_line : (a b c : Loss) → IsRun script (told_of world seal (answer 1 3 (Read (codes "a"))
       (replies.Unavailable (record { n = 0 }) (a ∷ b ∷ c ∷ [])) ∷ []) []) → ⊥
-  a_crash_of_no_line a b c is = let low = is.lost.0.1.0.1 in omega (arith, low)
+  a_crash_of_no_line a b c is = let low = is.lost.0.among.0.1 in omega (arith, low)
+
+  -- or by crashes of one node
+  crashes_of_one_node : (a : Loss) → IsRun script (told_of world seal (answer 1 3 (Read (codes "a"))
+      (replies.Unavailable (record { n = 0 }) (a ∷ a ∷ a ∷ [])) ∷ []) (a ∷ [])) → ⊥
+  crashes_of_one_node a is = is.lost.0.apart.0.0 refl
 
   -- there is no room, with another count of frames, or with spans and nodes enough
   other_frames : IsRun script (told_of world seal (answer 1 3 (Read (codes "a")) (replies.NoRoom 7 0 0) ∷ []) []) → ⊥
@@ -335,6 +355,11 @@ module _ (t : Turn) (world : WorldState) (seal : Seal) where
   worn_too_early : world.far.counts.turns ≡ 1
       → IsRun script (told_of world seal (answer 1 3 Evict replies.Worn ∷ left ∷ []) []) → ⊥
   worn_too_early one is = let all = is.worn.0 in omega (arith, one, all)
+
+  -- a read of a roomy script finds no room
+  no_room : world.far.counts.turns ≡ 1 → IsRun wide (told_of world seal (answer 1 2 (Read (codes "a"))
+      (replies.NoRoom 364 1 6) ∷ []) []) → ⊥
+  no_room one is = (is.calm roomy (omega (arith, one))).0
 
   -- the workers were to make a turn each, and no turn of the filter was counted
   no_turn_of_a_worker : world.far.counts.turns ≡ 1 → counted_as world.far (visit 0) ≡ 0

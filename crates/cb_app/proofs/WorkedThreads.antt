@@ -8,7 +8,7 @@ use Rattle.cb_types.specs.declared.job.Job.{Job}
 use Rattle.cb_types.specs.declared.job.Job.TheVariants as job
 use Rattle.cb_types.specs.Jobs.{job_index}
 use Rattle.cb_types.specs.declared.reply.Reply.{Reply}
-use Rattle.cb_types.specs.declared.reply.Reply.TheVariants.{Made, Left, Freed}
+use Rattle.cb_types.specs.declared.reply.Reply.TheVariants.{Made, Left, Freed, Moving}
 use Rattle.cb_types.specs.declared.request.Request.{Request}
 use Rattle.cb_types.specs.declared.request.Request.TheVariants.{Make, Leave, Read}
 use Rattle.cb_script.specs.declared.script.Line.{Line}
@@ -204,6 +204,7 @@ module _ (s : Shared) (p : Pass) (of : IsPassOf s p) (fresh : IsFresh (record_of
     of = of;
     lines_are = refl;
     replies = (tt, tt);
+    last = (refl, tt);
     backs = left_backed;
     suits = (tt, tt);
     rises = λ all more last. (tt, (tt, tt));
@@ -236,6 +237,10 @@ module _ (s : Shared) (p : Pass) (of : IsPassOf s p) (fresh : IsFresh (record_of
   no_reply_of_the_line : IsTold s [] (line 2 Leave ∷ []) (end (answer 2 Leave Freed ∷ [])) → ⊥
   no_reply_of_the_line told = told.replies.0
 
+  -- a read was told that its object is being moved, which is tried again
+  told_of_a_move : IsTold s [] (line 2 (Read a) ∷ []) (end (answer 2 (Read a) Moving ∷ [])) → ⊥
+  told_of_a_move told = told.last.0
+
   -- a name without a handle was told that its object is freed
   freed_without_a_handle : IsTold s [] (line 2 (Read a) ∷ []) (end (answer 2 (Read a) Freed ∷ [])) → ⊥
   freed_without_a_handle told = told.suits.0
@@ -262,6 +267,7 @@ module _ (s : Shared) (p : Pass) (of : IsPassOf s p) (fresh : IsFresh (record_of
     of = of;
     lines_are = refl;
     replies = tt;
+    last = tt;
     backs = idle;
     suits = tt;
     rises = none_rise (record_of p) given [] refl;

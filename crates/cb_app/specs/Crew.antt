@@ -27,6 +27,7 @@ use Rattle.cb_lanes.specs.declared.body.LaneEnd.{LaneEnd}
 use Rattle.cb_lanes.specs.declared.body.Named.{Named}
 use Rattle.cb_lanes.specs.Asked.{HasLineReply, asked}
 use Rattle.cb_lanes.specs.Bodies.{AreLinesOf, AreNamesOf, KnowsNames}
+use Rattle.cb_lanes.specs.LastTries.{HasLastTry}
 use Rattle.cb_lanes.specs.Rising.{FreedIsLast}
 use Rattle.cb_lanes.specs.Scoped.{AreScoped}
 use Rattle.cb_lanes.specs.Suits.{AreSuited}
@@ -149,15 +150,17 @@ AreFirst answers = AllByRecursion (λ a. a.lane.n ≡ 0) answers
 abbrev pub AreKnownTo : View → List Answer → Type 0
 AreKnownTo v answers = (w : View) × HasAllOf w v × StandIn w answers × AreFirst answers
 
--- These lines were answered, one after the other, each by a reply that it may have, and the record
--- of the pass backs the answers, where the answers given before have the names; and they suit the
--- handles of their names, what the pass has read, and the scopes of their lanes; and no version falls;
--- and the own lines of lanes are answered as if these were alone.
+-- These lines were answered, one after the other, each by a reply that it may have and by the last
+-- try of its calls, and the record of the pass backs the answers, where the answers given before
+-- have the names; and they suit the handles of their names, what the pass has read, and the scopes
+-- of their lanes; and no version falls; and the own lines of lanes are answered as if these were
+-- alone.
 pub record IsTold (s : Shared) (given : List Answer) (lines : List Line) (e : LaneEnd) : Type 0
   where
     pub of : IsPassOf s e.pass
     pub lines_are : map asked e.answers ≡ lines
     pub replies : AllByRecursion HasLineReply e.answers
+    pub last : AllByRecursion (HasLastTry s.config) e.answers
     pub backs : Backs (part_of (record_of e.pass)) (tolds given e.answers)
     pub suits : AreSuited (record_of e.pass).seen (tolds given e.answers)
     pub rises : RiseWith (record_of e.pass) given e.answers

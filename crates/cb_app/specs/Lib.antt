@@ -6,3 +6,4 @@ pub mod Scripts
 pub mod Modes
 pub mod Outcome
 pub mod Telling
+pub mod Calm

@@ -1,6 +1,6 @@
 -- What the answers of a run tell of crashes and joins, of sets that lost too much, of room, and of
 -- what is worn; and what its world tells of the workers.
-use Rattle.std.specs.Prelude.{◌≡◌, ◌⊎◌, ℕ, ◌+◌, ◌^◌, ◌<◌, ◌≤◌, List, length, Option, None, Some, slice_index}
+use Rattle.std.specs.Prelude.{◌≡◌, ◌≢◌, ◌⊎◌, ℕ, ◌+◌, ◌^◌, ◌<◌, ◌≤◌, List, [], ◌∷◌, length, Option, None, Some, slice_index}
 use Rattle.std.specs.List.{AllByRecursion, Contains, filter_map, range_with_len}
 use Rattle.std.specs.List.Sorted.{IsPermutation}
 use Rattle.cb_member.specs.declared.names.Loss.{Loss}
@@ -30,10 +30,21 @@ epochs_of answers = filter_map (λ a. epoch_of a.reply) answers
 abbrev pub AreEpochs : ℕ → List Answer → Type 0
 AreEpochs last answers = IsPermutation (epochs_of answers) (range_with_len 1 last)
 
--- a set that can't be read has lost more shards than it has parities, each by one of these crashes
+-- no two of the losses are of one node
+abbrev pub AreOfOtherNodes : List Loss → Type 0
+AreOfOtherNodes [] = Unit {0}
+AreOfOtherNodes (loss ∷ later) =
+    AllByRecursion (λ other. loss.node.n ≢ other.node.n) later × AreOfOtherNodes later
+
+-- a set that can't be read has lost more shards than it has parities, no two of one node, and each
+-- by one of these crashes
+pub record AreTooMany (parities : ℕ) (losses lost : List Loss) : Type 0 where
+  pub many : parities < length lost
+  pub apart : AreOfOtherNodes lost
+  pub among : AllByRecursion (Contains losses) lost
+
 abbrev pub TellsLost : Config → List Loss → Reply → Type 0
-TellsLost c losses (Unavailable set lost) =
-    (c.r < length lost) × AllByRecursion (Contains losses) lost
+TellsLost c losses (Unavailable set lost) = AreTooMany c.r losses lost
 TellsLost c losses reply = Unit {0}
 
 -- where there is no room, no frame of all is free, and for a set too few spans are loose or too few

@@ -1,10 +1,11 @@
 -- What a script is answered by threads.
-use Rattle.std.specs.Prelude.{◌≡◌, ℕ, List, [], map, Some}
+use Rattle.std.specs.Prelude.{◌≡◌, ℕ, ◌^◌, ◌<◌, List, [], map, Some}
 use Rattle.std.specs.List.{AllByRecursion}
 use Rattle.std.specs.List.Sorted.{IsNonDecreasingBy, IsPermutation}
 use Rattle.cb_types.specs.declared.answer.Answer.{Answer}
 use Rattle.cb_member.specs.declared.names.Loss.{Loss}
 use Rattle.cb_script.specs.declared.script.Script.{Script}
+use Rattle.cb_script.specs.Roomy.{IsRoomy}
 use Rattle.cb_rule.specs.Closing.{IsClosed}
 use Rattle.cb_model.specs.Called.{calls_of}
 use Rattle.cb_model.specs.Legal.{IsLegal}
@@ -20,6 +21,7 @@ use Rattle.cb_lanes.specs.Asked.{HasLineReply, asked}
 use Rattle.cb_lanes.specs.Lost.{losses_of}
 use Rattle.cb_lanes.specs.Scopes.{KeepPins}
 use Rattle.cb_app.specs.ByLane.{by_lane}
+use Rattle.cb_app.specs.Calm.{IsCalmTo}
 use Rattle.cb_app.specs.Crew.{part_of}
 use Rattle.cb_app.specs.Telling.{AreEpochs, CountsWorkers, TellsLost, TellsRoom, TellsWorn}
 use Rattle.cb_app.specs.declared.ending.Ending.{Ending}
@@ -68,6 +70,10 @@ pub record IsRun (script : Script) (end : ThreadsEnd) : Type 0 where
   -- no answer but to a write or a free is Worn, unless 2^40 turns were counted
   pub worn : AllByRecursion (λ a. TellsWorn end.world.far.counts.turns a.request a.reply)
       end.answers
+  -- on a roomy script, where fewer than 2^40 turns were counted, no line is told of a want of room
+  -- or of a loss
+  pub calm : IsRoomy script → end.world.far.counts.turns < 2 ^ 40
+      → AllByRecursion (λ a. IsCalmTo a.request a.reply) end.answers
   -- the workers made as many turns as are configured
   pub workers : CountsWorkers script.config.turns end.world.far
 

@@ -52,21 +52,28 @@ contains_more p (x ∷ xs) (suc k) n below at pass =
         (suc c.0, (let lt = c.1 in omega (arith, lt)), c.2)
     by c (inr e) = subst (λ (b : Bool). Contains (if b then x ∷ filter p xs else filter p xs) n) (sym e) c
 
-crash_below : (nodes n : ℕ) (request : Request) → IsRequest nodes request → is_crash n request ≡ true
+pub crash_below : (nodes n : ℕ) (request : Request) → IsRequest nodes request → is_crash n request ≡ true
     → n < nodes
 crash_below nodes n (Crash node) is e = let same = eqb-true n node.n e in omega (arith, is, same)
 crash_below nodes n request is e = absurd (false≢true e)
+
+-- one of the nodes that there are, which a crash line names
+pub crash_named : (s : Script) (n : ℕ) → n < s.config.nodes → has_crash s.lines n ≡ true
+    → Contains (crashed_nodes s) n
+crash_named s n below named =
+    let zero_ : 0 + n ≡ n = omega arith in
+    contains_more (has_crash s.lines) (range_with_len 0 s.config.nodes) n n
+    (omega (arith, below, length-range_with_len 0 s.config.nodes))
+    (get_or-range_with_len 0 s.config.nodes n n below ∙ zero_) named
+
+pub crashed_count : (s : Script) → length (crashed_nodes s) ≡ crashing s.config.nodes s.lines
+crashed_count s = length-filter (has_crash s.lines) (range_with_len 0 s.config.nodes)
 
 pub easy_line : (s : Script) (i : ℕ) (l : Line) → IsAtEase s → i < length s.lines → l ≡ get_or s.lines i l
     → IsRequest s.config.nodes l.request → IsEasyLine (crashed_nodes s) l.request
 easy_line s i l ease lt at is = record {
   step = any_at (λ (x : Line). is_step x.request) s.lines i l ease.steps lt at;
-  crash = λ n e.
-      let below = crash_below s.config.nodes n l.request is e in
-      let zero_ : 0 + n ≡ n = omega arith in
-      contains_more (has_crash s.lines) (range_with_len 0 s.config.nodes) n n
-      (omega (arith, below, length-range_with_len 0 s.config.nodes))
-      (get_or-range_with_len 0 s.config.nodes n n below ∙ zero_)
+  crash = λ n e. crash_named s n (crash_below s.config.nodes n l.request is e)
       (list_any_at (λ (x : Line). is_crash n x.request) s.lines i l lt
       (ap (λ (x : Line). is_crash n x.request) (sym at) ∙ e));
 }
@@ -119,7 +126,7 @@ module _ (side : Side) (s : Script) (i : ℕ) (later : List ℕ) (answers : List
     whole = never_gone w.desk.settings along.sound.shown w.far (crashed_nodes s) along.sound.known.sound
         along.sound.configured.codes rest.crashed
         (let few = ease.crashes in let r = ap (λ (c : Config). c.r) along.settings in
-        omega (arith, crashes, few, r));
+        omega (arith, crashed_count s, few, r));
     spans = λ full.
         let all = loose_or_pinned w.desk w.far along.sound.shown w.seats along.sound.known along.sound.pinned
         along.sound.ongoing rest.claims rest.idle.0 full in
@@ -135,12 +142,9 @@ module _ (side : Side) (s : Script) (i : ℕ) (later : List ℕ) (answers : List
         (let enough = ease.nodes in
         let k = ap (λ (c : Config). c.k) along.settings in let r = ap (λ (c : Config). c.r) along.settings in
         let n = ap (λ (c : Config). c.nodes) along.settings in
-        omega (arith, crashes, enough, k, r, n));
+        omega (arith, crashed_count s, enough, k, r, n));
     stamps = λ h.
         let had = stamp_had w.desk w.far along.sound.shown h along.sound.known (value (calls_of answers) h)
         (along.beside.values h) in
         let most = young h in let few = few_answers in omega (arith, had, most, few);
   }
-    where
-      crashes : length (crashed_nodes s) ≡ crashing s.config.nodes s.lines
-      crashes = length-filter (has_crash s.lines) (range_with_len 0 s.config.nodes)

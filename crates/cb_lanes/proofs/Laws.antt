@@ -1,5 +1,6 @@
 -- What other crates may use of these proofs.
 pub use Rattle.cb_lanes.proofs.AloneLines.{maker_of}
+pub use Rattle.cb_lanes.proofs.EasyWorlds.{crash_below, crash_named, crashed_count, crashed_nodes}
 pub use Rattle.cb_lanes.proofs.FreedLast.{freed_last}
 pub use Rattle.cb_lanes.proofs.LaneRises.{AreOfLane, answers_of, has_joined, has_split, has_taken_in}
 pub use Rattle.cb_lanes.proofs.LaneScopes.{handle_is_made, made_as_left, made_as_right}
@@ -10,3 +11,5 @@ pub use Rattle.cb_lanes.proofs.OwnKept.{IsWithin}
 pub use Rattle.cb_lanes.proofs.OwnRising.{lane_keeps_own}
 pub use Rattle.cb_lanes.proofs.UntilLack.{NoneOfLane, calm_lacks_none, keep_alone, none_lacks}
 pub use Rattle.cb_lanes.proofs.UntilLack.{none_until, until_before, until_behind}
+pub use Rattle.cb_lanes.proofs.RoomBeside.{enough_beside}
+pub use Rattle.cb_lanes.proofs.RowsBeside.{JoinsApart}

@@ -3,6 +3,8 @@ pub mod Recounting
 pub mod LineKeeps
 pub mod Lone
 pub mod LooseSpans
+pub mod RowsBeside
+pub mod RoomBeside
 pub mod EasyLines
 pub mod CalmLines
 pub mod Stamps
@@ -48,6 +50,7 @@ pub mod NamesAmong
 pub mod LinesSoFar
 pub mod TurnReplies
 pub mod LineReplies
+pub mod LastTries
 pub mod KnownBehind
 pub mod FilterMade
 pub mod LinesSuit
@@ -82,6 +85,7 @@ pub mod WorkedLines
 pub mod WorkedHere
 pub mod WorkedPins
 pub mod WorkedSays
+pub mod WorkedTries
 pub mod WorkedAlone
 pub mod WorkedAloneUntil
 pub mod WorkedOwn

@@ -10,6 +10,7 @@ pub mod Passing
 pub mod Bodies
 pub mod Rising
 pub mod Suits
+pub mod LastTries
 pub mod LineStep
 pub mod LinesSoundly
 pub mod LineAnswered

@@ -8,6 +8,7 @@ ghost use Rattle.cb_lanes.specs.AloneUntil.{LaneKeepsAlone};
 ghost use Rattle.cb_lanes.specs.Asked.{asked, HasLineReply};
 ghost use Rattle.cb_lanes.specs.Bodies.{AddsBacked, AnswersOne, AreLinesOf, IsFront, KeepHandles};
 ghost use Rattle.cb_lanes.specs.Bodies.{KnowsKept, KnowsNames, LaneGoes, LinesGo};
+ghost use Rattle.cb_lanes.specs.LastTries.{HasLastTry};
 ghost use Rattle.cb_lanes.specs.Names.{kept_number};
 ghost use Rattle.cb_lanes.specs.Passing.{AreHeld, goes_in};
 ghost use Rattle.cb_lanes.specs.Rising.{LaneRises};
@@ -110,6 +111,8 @@ pub fn lane_body<R: Wait, G: Gate>(
         × ((record_of end.pass).pins ≡ [])) }
     ensures lines { IfOk result (λ end. map asked end.answers ≡ lines.now) }
     ensures answered { IfOk result (λ end. AllByRecursion HasLineReply end.answers) }
+    ensures last { IfOk result (λ end. AllByRecursion (HasLastTry shared.now.config)
+        end.answers) }
     ensures goes { IfOk result (λ end. LaneGoes shared.now.config names.now (record_of pass)
         end.answers (record_of end.pass)) }
     ensures part { IfOk result (λ end. AddsBacked names.now end.answers (record_of pass)

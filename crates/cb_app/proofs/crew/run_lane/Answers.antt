@@ -10,8 +10,8 @@ pub returns-in-Ok-clause-ended : goal.returns-in-Ok-clause-ended
 returns-in-Ok-clause-ended g c = λ given named known.
     let end = c.in-Ok.ensures in
     lane_told c.args.shared.now c.args.lane.n c.args.names.now (record_of c.args.pass) c.args.lines c.in-Ok.end
-    c.requires.fresh c.requires.names end.of.0 (end.lines ∙ c.as_slice.ensures.items) end.answered end.part
-    end.goes end.rises end.scoped
+    c.requires.fresh c.requires.names end.of.0 (end.lines ∙ c.as_slice.ensures.items) end.answered end.last
+    end.part end.goes end.rises end.scoped
     (subst (λ (ls : List Line). LaneKeepsAlone c.args.shared.now.config.nodes c.args.lane.n c.args.names.now ls
     c.in-Ok.end.answers (record_of c.in-Ok.end.pass)) c.as_slice.ensures.items end.alone) c.requires.lines given named known
     (no_scope c.args.lane.n given known.3 c.requires.other)

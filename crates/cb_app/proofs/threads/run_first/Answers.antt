@@ -31,7 +31,7 @@ returns-in-Ok-clause-told g c =
     lane_told c.args.shared.now 0 c.new-names.result (record_of c.args.pass) (of_lane 0 c.args.s.now.lines) c.in-Ok.end
     fresh (subst (KnowsNames (record_of c.args.pass)) (sym c.new-names.ensures.empty) tt) c.in-Ok.ensures.of.0
     (c.in-Ok.ensures.lines ∙ lines)
-    c.in-Ok.ensures.answered c.in-Ok.ensures.part c.in-Ok.ensures.goes c.in-Ok.ensures.rises
+    c.in-Ok.ensures.answered c.in-Ok.ensures.last c.in-Ok.ensures.part c.in-Ok.ensures.goes c.in-Ok.ensures.rises
     c.in-Ok.ensures.scoped (subst (λ (ls : List Line). LaneKeepsAlone nodes 0 c.new-names.result ls
     c.in-Ok.end.answers (record_of c.in-Ok.end.pass)) lines c.in-Ok.ensures.alone)
     (of_lane_lines nodes 0 [] c.args.s.now.lines are) [] named (none_known (record_of c.args.pass)) refl

@@ -3,6 +3,7 @@ use Rattle.cb_rule.specs.declared.view.View.{View}
 use Rattle.cb_lanes.proofs.LaneForm.{lane_keeps_alone}
 use Rattle.cb_lanes.proofs.LaneRises.{lane_alone}
 use Rattle.cb_lanes.proofs.LaneScopes.{lane_scoped}
+use Rattle.cb_lanes.proofs.LastTries.{lines_last}
 use Rattle.cb_lanes.proofs.LineReplies.{lines_reply}
 use Rattle.cb_lanes.proofs.LinesBack.{lane_adds}
 use Rattle.cb_lanes.proofs.LinesSoFar.{held_none}
@@ -38,6 +39,11 @@ pub returns-in-Ok-clause-answered : goal.returns-in-Ok-clause-answered
 returns-in-Ok-clause-answered g c = lines_reply c.args.shared.now.config c.args.names.now []
     c.answer_all-done.new.answers c.args.pass.seat.me.0 c.answer_all-done.new.passing.pass.seat.me.0
     (rw c.in-Ok.is at c.answer_all-done.ensures.goes)
+
+pub returns-in-Ok-clause-last : goal.returns-in-Ok-clause-last
+returns-in-Ok-clause-last g c = lines_last c.args.shared.now.config c.args.names.now []
+    c.answer_all-done.new.answers c.args.pass.seat.me.0 c.answer_all-done.new.passing.pass.seat.me.0
+    (rw c.in-Ok.is at c.answer_all-done.ensures.goes) (returns-in-Ok-clause-answered g c)
 
 pub returns-in-Ok-clause-part : goal.returns-in-Ok-clause-part
 returns-in-Ok-clause-part g c = lane_adds c.args.shared.now.config c.args.names.now

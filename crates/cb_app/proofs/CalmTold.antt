@@ -1,0 +1,232 @@
+-- On a roomy script no line is told of a want of room or of a loss, where the record of all calls
+-- was closed: no more nodes crashed than a set can lose shards, so enough were left with room.
+use Rattle.std.proofs.Common.{◌≡◌, ◌≢◌, ℕ, zero, suc, ◌+◌, ◌*◌, ◌^◌, ◌<◌, ◌≤◌, ◌&&◌, ◌||◌, Bool, true, false, leb, nat_eq, List, [], ◌∷◌, ◌++◌, length, map, get_or, slice_get, Contains, Option, Some, refl, sym, ap, ◌∙◌, subst, inl, inr, arith, eq-eqb, eqb-true, ne_eqb}
+use Rattle.std.specs.Cmp.{nat_eq_equiv}
+use Rattle.std.specs.List.{AllByRecursion, IsDistinct, list_any}
+use Rattle.std.specs.Set.{is_member}
+use Rattle.std.proofs.lemmas.Bool.{cases_Bool, false≢true, le-leb, lt-ltb}
+use Rattle.std.proofs.lemmas.List.{length-map}
+use Rattle.std.proofs.lemmas.List.Folds.{list_any_at}
+use Rattle.std.proofs.lemmas.List.Sorted.{Contains-permutation, IsPermutation-sym}
+use Rattle.std.proofs.lemmas.Map.Keys.{IsDistinct-cons}
+use Rattle.std.proofs.lemmas.Map.Made.{length-le_from_is_member}
+use Rattle.cb_member.specs.declared.names.Epoch.{Epoch}
+use Rattle.cb_member.specs.declared.names.Loss.{Loss}
+use Rattle.cb_member.specs.Membership.{state_of}
+use Rattle.cb_types.specs.declared.answer.Answer.{Answer}
+use Rattle.cb_types.specs.declared.config.Config.{Config}
+use Rattle.cb_types.specs.Config.{IsAccepted}
+use Rattle.cb_types.specs.declared.handle.SetId.{SetId}
+use Rattle.cb_types.specs.declared.reply.Reply.{Reply}
+use Rattle.cb_types.specs.declared.reply.Reply.TheVariants as answer
+use Rattle.cb_types.specs.declared.request.Request.{Request}
+use Rattle.cb_types.specs.declared.request.Request.TheVariants as line
+use Rattle.cb_types.specs.Table.{IsReplyOf}
+use Rattle.cb_script.specs.declared.script.Script.{Script}
+use Rattle.cb_script.specs.Form.{AreLines}
+use Rattle.cb_script.specs.Roomy.{IsRoomy}
+use Rattle.cb_world.specs.Choices.{room_count}
+use Rattle.cb_world.specs.FarState.{FarState}
+use Rattle.cb_core.proofs.Laws.{CrashedAmong}
+use Rattle.cb_rule.specs.declared.turn.Turn.{Turn}
+use Rattle.cb_rule.specs.declared.view.View.{View}
+use Rattle.cb_rule.specs.Lists.{Has}
+use Rattle.cb_rule.specs.OneHistory.{IsOneHistory}
+use Rattle.cb_model.specs.Called.{calls_behind, calls_of, handle_for}
+use Rattle.cb_model.specs.Event.{event_of}
+use Rattle.cb_record.specs.Backs.{Backs, Tells}
+use Rattle.cb_record.specs.Needs.{Meets, need_of}
+use Rattle.cb_record.specs.Told.{tolds}
+use Rattle.cb_record.specs.Upheld.{IsUpheld, Upholds}
+use Rattle.cb_shared.specs.Turning.{Did}
+use Rattle.cb_shared.specs.Calls.{may_come_loose}
+use Rattle.cb_lanes.specs.Asked.{HasLineReply, asked}
+use Rattle.cb_lanes.specs.LastTries.{HasLastTry, IsLastTry}
+use Rattle.cb_lanes.specs.Lost.{losses_of}
+use Rattle.cb_lanes.proofs.Laws.{crashed_count, crashed_nodes, enough_beside}
+use Rattle.cb_app.specs.ByLane.{by_lane}
+use Rattle.cb_app.specs.Calm.{IsCalmTo, MayFindMoving, MayFindWorn}
+use Rattle.cb_app.specs.Crew.{part_of}
+use Rattle.cb_app.specs.Telling.{AreOfOtherNodes, MayBeWorn, TellsLost, TellsWorn}
+use Rattle.cb_app.specs.Threaded.{AreLosses}
+use Rattle.cb_app.proofs.AnswersTold.{is_loss, room_turn}
+use Rattle.cb_app.proofs.CrashesTold.{found_crashes, room_told}
+use Rattle.cb_app.proofs.MadeTurns.{few_found}
+use Rattle.cb_app.proofs.PairsApart.{found_joins}
+use Rattle.cb_app.proofs.RoomyLines.{AreOfNodes, crashed_named, few_makes, fulls, is_full}
+
+-- ---- losses of different nodes, which are among some
+abbrev numbers : List Loss → List ℕ
+numbers losses = map (λ l. l.node.n) losses
+
+other_numbers : (n : ℕ) (losses : List Loss) → AllByRecursion (λ (l : Loss). n ≢ l.node.n) losses
+    → AllByRecursion (λ q. nat_eq n q ≡ false) (numbers losses)
+other_numbers n [] off = tt
+other_numbers n (l ∷ losses) off = (ne_eqb n l.node.n off.0, other_numbers n losses off.1)
+
+numbers_apart : (losses : List Loss) → AreOfOtherNodes losses → IsDistinct nat_eq (numbers losses)
+unfolding IsDistinct
+numbers_apart [] apart = tt
+numbers_apart (l ∷ losses) apart = IsDistinct-cons nat_eq l.node.n (numbers losses)
+    (other_numbers l.node.n losses apart.0) (numbers_apart losses apart.1)
+
+numbers_among : (nodes : List ℕ) (losses : List Loss) → AreOfNodes nodes losses → (q : ℕ)
+    → is_member nat_eq (numbers losses) q ≡ true → is_member nat_eq nodes q ≡ true
+numbers_among nodes [] among q there = absurd (false≢true there)
+numbers_among nodes (l ∷ losses) among q there = elim (cases_Bool (nat_eq q l.node.n)) [
+  | inl same ↦ let at = among.0 in
+      list_any_at (nat_eq q) nodes at.0 l.node.n at.1
+      (eq-eqb q (get_or nodes at.0 l.node.n) (eqb-true q l.node.n same ∙ sym at.2))
+  | inr other ↦ numbers_among nodes losses among.1 q
+      (sym (ap (λ (b : Bool). b || list_any (nat_eq q) (numbers losses)) other) ∙ there)
+]
+
+few_losses : (nodes : List ℕ) (losses : List Loss) → AreOfOtherNodes losses
+    → AreOfNodes nodes losses → length losses ≤ length nodes
+few_losses nodes losses apart among =
+    let most = length-le_from_is_member nat_eq_equiv (numbers losses) nodes
+    (numbers_apart losses apart) (numbers_among nodes losses among) in
+    let len = length-map losses (λ (l : Loss). l.node.n) in omega (arith, most, len)
+
+contained : {A : Type 0} (P : A → Type 0) (xs : List A) (x : A) → AllByRecursion P xs
+    → Contains xs x → P x
+contained P [] x all (k, low, is) = absurd (omega (arith, low))
+contained P (y ∷ xs) x all (zero, low, is) = subst P is all.0
+contained P (y ∷ xs) x all (suc k, low, is) = contained P xs x all.1 (k, omega (arith, low), is)
+
+first_epoch : (epochs : List Epoch) → 1 ≤ length epochs
+    → (epoch : Epoch) × (slice_get epochs 0 ≡ Some epoch)
+first_epoch [] some = absurd (omega (arith, some))
+first_epoch (epoch ∷ later) some = (epoch, refl)
+
+-- ---- what a line may be told of its object
+calm_moving : (c : Config) (q : Request) → IsLastTry c q answer.Moving → MayFindMoving q
+calm_moving c (line.Filter name) last = tt
+calm_moving c q last = absurd last
+
+calm_worn : (turns : ℕ) (q : Request) → turns < 2 ^ 40 → MayBeWorn turns q → MayFindWorn q
+calm_worn turns (line.Write name at bytes) few may = tt
+calm_worn turns (line.Free name) few may = tt
+calm_worn turns q few may = absurd (omega (arith, few, may))
+
+last_loose : (c : Config) (q : Request) (frames loose nodes : ℕ)
+    → IsReplyOf q (answer.NoRoom frames loose nodes)
+    → IsLastTry c q (answer.NoRoom frames loose nodes) → may_come_loose c loose ≡ false
+last_loose c (line.Filter name) frames loose nodes may last = absurd may
+last_loose c q frames loose nodes may last = last
+
+more_come : (c : Config) (loose : ℕ) → loose < c.k → 2 * c.k + 360 ≤ c.frames
+    → may_come_loose c loose ≡ true
+more_come c loose few enough = ap (λ (b : Bool). b && leb (2 * c.k + 360) c.frames)
+    (lt-ltb loose c.k few) ∙ le-leb (2 * c.k + 360) c.frames enough
+
+-- ---- all answers of a closed record
+module _ (first : ℕ) (s : Script) (ok : IsAccepted s.config) (v : View) (count : ℕ)
+    (last : FarState) (one : IsOneHistory Did first s.config (v ∷ []) count last) (answers : List Answer)
+    (backs : Backs (part_of v) (tolds [] answers)) (losses : List Loss)
+    (are_losses : AreLosses losses answers) (are : AreLines s.config.nodes [] s.lines)
+    (by : map asked answers ≡ by_lane s.lines) (roomy : IsRoomy s) (few : count < 2 ^ 40) where
+  abbrev c : Config
+  c = s.config
+
+  abbrev nodes : List ℕ
+  nodes = crashed_nodes s
+
+  few_nodes : length nodes ≤ c.r
+  few_nodes = let n = crashed_count s in let most = roomy.crashes in omega (arith, n, most)
+
+  named : (loss : Loss) → Contains losses loss → Contains nodes loss.node.n
+  named loss there = contained (λ (l : Loss). Contains nodes l.node.n) (losses_of answers) loss
+      (crashed_named s answers are by)
+      (Contains-permutation losses (losses_of answers) loss
+      (IsPermutation-sym (losses_of answers) losses are_losses.are) there)
+
+  all_named : (ls : List Loss) → AllByRecursion (Contains losses) ls → AreOfNodes nodes ls
+  all_named [] among = tt
+  all_named (l ∷ ls) among = (named l among.0, all_named ls among.1)
+
+  no_loss : (id : SetId) (ls : List Loss) → TellsLost c losses (answer.Unavailable id ls) → ⊥
+  no_loss id ls tells =
+      let most = few_losses nodes ls tells.apart (all_named ls tells.among) in
+      let many = tells.many in let least = few_nodes in omega (arith, most, many, least)
+
+  -- ---- room
+  -- the nodes that have crashed when a turn was taken are those of crash lines
+  crashed : (t : Turn) → Has t v.turns → CrashedAmong nodes t.took.members
+  crashed t there node some =
+      let x = first_epoch (state_of t.took.members node).crashes some in
+      named (record { node = node; epoch = x.0 }) (is_loss v answers losses backs are_losses
+      (record { node = node; epoch = x.0 })
+      (found_crashes first c ok v count last one t there node 0 x.0 x.1))
+
+  enough : (t : Turn) → Has t v.turns → c.k + c.r ≤ room_count t.took.nodes t.took.members
+  enough t there =
+      let k = one.sound t (v, (0, refl), there) in
+      let made = few_found first c v count last one t there in
+      let room = roomy.room in
+      let least = few_nodes in
+      let all = roomy.nodes in
+      enough_beside c k.0 t.took nodes k.1.sound k.1.configured
+      (found_joins first c ok v count last one t there) (crashed t there)
+      (omega (arith, made, room)) (omega (arith, least, all))
+
+  no_room : (h : Option ℕ) (q : Request) (frames loose roomy_nodes : ℕ)
+      → IsReplyOf q (answer.NoRoom frames loose roomy_nodes)
+      → IsLastTry c q (answer.NoRoom frames loose roomy_nodes)
+      → Meets (part_of v) (need_of h q (answer.NoRoom frames loose roomy_nodes)) → ⊥
+  no_room h q frames loose roomy_nodes may tried meets =
+      let z = room_turn (part_of v) h q frames loose roomy_nodes meets in
+      let told = room_told first c ok v count last one z.0 frames loose roomy_nodes z.1 z.2 in
+      elim told.few [
+        | inl spans ↦ false≢true (sym (last_loose c q frames loose roomy_nodes may tried)
+            ∙ more_come c loose spans roomy.frames)
+        | inr places ↦ let least = enough z.0 z.1 in let counted = told.counted in
+            omega (arith, places, least, counted)
+      ]
+
+  -- ---- handles
+  no_full : (h : Option ℕ) (q : Request) (number : ℕ) → IsReplyOf q (answer.Full number)
+      → IsUpheld first c.handles (calls_of answers) v h (event_of q (answer.Full number))
+      → is_full q (answer.Full number) ≤ fulls answers → ⊥
+  no_full h (line.Make name bytes) number may upheld among =
+      let made = upheld.0 in
+      let all = few_makes s answers by in
+      let most = roomy.makes in omega (arith, made, all, most, among)
+  no_full h q number may upheld among = may
+
+  calm_reply : (h : Option ℕ) (q : Request) (r : Reply) → IsReplyOf q r → IsLastTry c q r
+      → TellsWorn count q r → TellsLost c losses r
+      → IsUpheld first c.handles (calls_of answers) v h (event_of q r)
+      → Meets (part_of v) (need_of h q r) → is_full q r ≤ fulls answers → IsCalmTo q r
+  calm_reply h q (answer.NoRoom frames loose nodes) may tried worn lost upheld meets among =
+      absurd (no_room h q frames loose nodes may tried meets)
+  calm_reply h q (answer.Unavailable id ls) may tried worn lost upheld meets among =
+      absurd (no_loss id ls lost)
+  calm_reply h q (answer.Full number) may tried worn lost upheld meets among =
+      absurd (no_full h q number may upheld among)
+  calm_reply h q answer.Worn may tried worn lost upheld meets among = calm_worn count q few worn
+  calm_reply h q answer.Moving may tried worn lost upheld meets among = calm_moving c q tried
+  calm_reply h q r may tried worn lost upheld meets among = tt
+
+  go : (before after : List Answer) → AllByRecursion HasLineReply after
+      → AllByRecursion (HasLastTry c) after
+      → AllByRecursion (λ a. TellsWorn count a.request a.reply) after
+      → AllByRecursion (λ a. TellsLost c losses a.reply) after
+      → AllByRecursion (Upholds first c.handles (calls_of answers) v) (calls_behind before after)
+      → AllByRecursion (Tells (part_of v)) (tolds before after) → fulls after ≤ fulls answers
+      → AllByRecursion (λ a. IsCalmTo a.request a.reply) after
+  go before [] replies tried worn lost upheld tells among = tt
+  go before (a ∷ after) replies tried worn lost upheld tells among = (
+    calm_reply (handle_for before a.request a.reply) a.request a.reply replies.0 tried.0 worn.0
+        lost.0 upheld.0 tells.0 (omega (arith, among)),
+    go (before ++ a ∷ []) after replies.1 tried.1 worn.1 lost.1 upheld.1 tells.1
+        (omega (arith, among)),
+  )
+
+  pub all_calm : AllByRecursion HasLineReply answers → AllByRecursion (HasLastTry c) answers
+      → AllByRecursion (λ a. TellsWorn count a.request a.reply) answers
+      → AllByRecursion (λ a. TellsLost c losses a.reply) answers
+      → AllByRecursion (Upholds first c.handles (calls_of answers) v) (calls_of answers)
+      → AllByRecursion (λ a. IsCalmTo a.request a.reply) answers
+  all_calm replies tried worn lost upheld =
+      go [] answers replies tried worn lost upheld backs.tells (omega arith)
