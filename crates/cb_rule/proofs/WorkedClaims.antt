@@ -13,7 +13,7 @@ use Rattle.cb_rule.specs.declared.view.Held.{Held}
 use Rattle.cb_rule.specs.declared.view.View.{View}
 use Rattle.cb_rule.specs.History.{Value, WasNow, holding_words}
 use Rattle.cb_rule.specs.Records.{HeldOk, OldOk, TellsOk}
-use Rattle.cb_rule.specs.Steps.{blank, with_claim, with_held, with_stamp, with_version, with_word, without_claim}
+use Rattle.cb_rule.specs.Steps.{blank, version_seen, with_back, with_claim, with_held, with_stamp, with_version, with_word}
 use Rattle.cb_rule.proofs.WorkedStands.{here, moving, table, two}
 
 -- object 1 was made with 5 and written with 7, and lies at place 0
@@ -161,6 +161,12 @@ entered = refl
 gone : (with_version claim after_stores).claims ≡ []
 gone = refl
 
--- put back: nothing is written
-back : (without_claim 1 after_stores).written ≡ past
+-- put back: nothing is written, and what was claimed is read
+back : (with_back claim after_stores).written ≡ past
 back = refl
+
+back_unclaimed : (with_back claim after_stores).claims ≡ []
+back_unclaimed = refl
+
+back_read : (with_back claim after_stores).seen ≡ version_seen 1 2 8 (7 ∷ []) ∷ []
+back_read = refl
