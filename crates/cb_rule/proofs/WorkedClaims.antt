@@ -1,6 +1,7 @@
 -- Worked examples of claims: what meets each definition, and what breaks one part.
 use Rattle.std.proofs.Common.{◌≡◌, ℕ, ◌+◌, false, List, [], ◌∷◌, length, get_or, refl, ap, lit<, lit≤, arith}
 use Rattle.std.proofs.lemmas.Bool.{eqb-false}
+use Rattle.cb_ptr.specs.declared.word.State.TheVariants as word
 use Rattle.cb_world.specs.declared.entry.Entry.{Entry}
 use Rattle.cb_world.specs.declared.event.Event.TheVariants.{Claimed}
 use Rattle.cb_world.specs.declared.object.Object.{Object}
@@ -109,7 +110,7 @@ now = record {
 }
 
 told : TellsOk 1 past 1 2 (Claimed 1 here 2 (7 ∷ []))
-told = (lit≤ tt, now)
+told = (lit≤ tt, now, refl)
 
 -- and also the one before it, where the turn began no later
 told_before : TellsOk 1 past 1 2 (Claimed 1 here 1 (5 ∷ []))
@@ -124,7 +125,15 @@ told_before = (
     last = refl;
     has = refl;
   },
+  refl,
 )
+
+-- no object is claimed that is moving
+not_moving : TellsOk 1 past 1 2 (Claimed 1 moving 2 (7 ∷ [])) → ⊥
+not_moving k = moving_here k.2
+  where
+    moving_here : word.Moving ≡ word.Here → ⊥
+    moving_here e = absurd cc
 
 not_unborn : TellsOk 3 past 1 2 (Claimed 1 here 2 (7 ∷ [])) → ⊥
 not_unborn k = let e = k.0 in omega arith
