@@ -43,7 +43,7 @@ use Rattle.cb_record.specs.Needs.{ArePeeked, FindsEmpty, FindsPins, IsFreedAs, I
 use Rattle.cb_record.specs.Parts.{Grows, Part, grown, nothing_more, sum}
 use Rattle.cb_record.specs.Told.{Told}
 use Rattle.cb_record.proofs.Laws.{among_none, backs_sum, grown-nothing_more, grown-sum, has_one_left, idle_backs}
-use Rattle.cb_shared.specs.Calls.{AsksFor, AtThis, EndsAtLast, IsInVain, IsLack, ReadEnds, ReadGives, Stops, TurnEnds, TurnGives, WriteAnswers, WriteEnds, WriteFinds, IsWrittenOnce, SaysAs, the_handle, written_once}
+use Rattle.cb_shared.specs.Calls.{AsksFor, AtThis, EndsAtLast, IsInVain, IsLack, ReadEnds, ReadGives, Stops, TurnEnds, TurnGives, WriteAnswers, WriteEnds, WriteFinds, IsWrittenOnce, SaysAs, the_handle, worn_once, written_once}
 use Rattle.cb_shared.specs.declared.answers.WriteAnswer.{WriteAnswer}
 use Rattle.cb_shared.specs.declared.answers.WriteAnswer.TheVariants as place
 use Rattle.cb_shared.specs.Joining.{unpinned_all}
@@ -478,6 +478,8 @@ write_needs c h at name bytes (answer.Range len) v d x =
     inr (inl (x.reply_is, ap (λ (z : Job). Some z) (sym x.job_is)))
 write_needs c h at name bytes answer.Freed v d x =
     freed_turn h x.turn x.more x.within x.later (freed_last h _ x.later x.finds)
+write_needs c h at name bytes answer.Worn v d x =
+    inr (inl (x.reply_is, ap (λ (z : Job). Some z) (sym x.job_is)))
 write_needs c h at name bytes (answer.Full n) v d x = its_turn c _ (Some h) _ _ v d refl x
 write_needs c h at name bytes (answer.NoRoom f l n) v d x = its_turn c _ (Some h) _ _ v d refl x
 write_needs c h at name bytes (answer.Unavailable s l) v d x = its_turn c _ (Some h) _ _ v d refl x
@@ -525,7 +527,8 @@ write_here h at name bytes (place.Pinned count) r v d says (word, pinned, is) =
 write_here h at name bytes place.Worn r v d says x =
     subst (λ (q : Reply). Backs d (told_as (Some h) (Write name at bytes) q ∷ [])) (sym says)
     (subst (λ (z : Part). Backs z (told_as (Some h) (Write name at bytes) answer.Worn ∷ []))
-    (sym x.part) (one_backs (looked_twice h x.word x.word) _ refl tt (omega arith) ended refl))
+    (sym x.part)
+    (one_backs (worn_once h x.word x.words) _ refl (inl (inl (refl, refl))) (omega arith) ended refl))
 write_here h at name bytes place.NotHere r v d says x = absurd says
 write_here h at name bytes place.Moving r v d says x = absurd says
 write_here h at name bytes (place.Raced saw other) r v d says x = absurd says

@@ -12,8 +12,8 @@ use Rattle.cb_rule.specs.declared.view.View.{View}
 use Rattle.cb_record.specs.Backs.{Backs, Tells, Wrote, happened_for, pins_for, turn_of}
 use Rattle.cb_record.specs.Deeds.{Deed, deed, happened}
 use Rattle.cb_record.specs.Lists.{IsAmong, newest_first}
-use Rattle.cb_record.specs.Needs.{FindsEmpty, FindsPast, FindsPins, IsFreedAs, IsOwnTurn, IsPinnedAs, IsReadAs, IsTurnFor, Meets, Need, peek_at}
-use Rattle.cb_record.specs.Needs.Need.{Nothing, ARead, APin, APeek, AFreed, APinned, AnEnd, ATurn}
+use Rattle.cb_record.specs.Needs.{FindsEmpty, FindsPast, FindsPins, IsFreedAs, IsLastOf, IsOwnTurn, IsPinnedAs, IsReadAs, IsTurnFor, Meets, Need, peek_at}
+use Rattle.cb_record.specs.Needs.Need.{Nothing, ARead, APin, APeek, AFreed, APinned, AnEnd, AWorn, ATurn}
 use Rattle.cb_record.specs.Parts.{Part, grown, nothing_more, sum}
 use Rattle.cb_record.specs.Told.{Told, told, tolds}
 use Rattle.cb_record.proofs.Listing.{all_append, all_map, among_append, among_none, has_left, has_one_left, has_one_right, has_right, newest_append}
@@ -52,6 +52,9 @@ meets_earlier d e (AnEnd own h at count len) (inl m) =
     inl (has_one_right (FindsPast h at count len) e.looks d.looks m)
 meets_earlier d e (AnEnd own h at count len) (inr m) =
     inr (has_one_right (IsOwnTurn own (answer.Range len)) e.turns d.turns m)
+meets_earlier d e (AWorn own h) (inl m) = inl (has_one_right (IsLastOf h) e.seen d.seen m)
+meets_earlier d e (AWorn own h) (inr m) =
+    inr (has_one_right (IsOwnTurn own answer.Worn) e.turns d.turns m)
 meets_earlier d e (ATurn own h reply) m = has_one_right (IsTurnFor own h reply) e.turns d.turns m
 
 -- and what the later one has
@@ -76,6 +79,9 @@ meets_later d e (AnEnd own h at count len) (inl m) =
     inl (has_one_left (FindsPast h at count len) e.looks d.looks m)
 meets_later d e (AnEnd own h at count len) (inr m) =
     inr (has_one_left (IsOwnTurn own (answer.Range len)) e.turns d.turns m)
+meets_later d e (AWorn own h) (inl m) = inl (has_one_left (IsLastOf h) e.seen d.seen m)
+meets_later d e (AWorn own h) (inr m) =
+    inr (has_one_left (IsOwnTurn own answer.Worn) e.turns d.turns m)
 meets_later d e (ATurn own h reply) m = has_one_left (IsTurnFor own h reply) e.turns d.turns m
 
 abbrev pub happenings : List Turn → List Deed

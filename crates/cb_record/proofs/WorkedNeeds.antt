@@ -1,5 +1,5 @@
 -- Worked needs: what an answer needs, a part that has it, and what breaks one part alone.
-use Rattle.std.proofs.Common.{◌≡◌, ℕ, true, false, List, [], ◌∷◌, get_or, Option, Some, None, sym, refl, ap, ◌∙◌, subst, inl, inr, ⊎_elim, true≢false, arith}
+use Rattle.std.proofs.Common.{◌≡◌, ℕ, ◌-◌, ◌^◌, true, false, List, [], ◌∷◌, get_or, Option, Some, None, sym, refl, ap, ◌∙◌, subst, inl, inr, ⊎_elim, true≢false, arith}
 use Rattle.cb_ptr.specs.Word.{len_of, pins_of, state_of}
 use Rattle.cb_ptr.specs.declared.word.State.TheVariants as state
 use Rattle.cb_types.specs.declared.job.Job.{Job}
@@ -10,8 +10,8 @@ use Rattle.cb_world.specs.Memory.{bytes_in}
 use Rattle.cb_rule.specs.declared.turn.Turn.{Turn}
 use Rattle.cb_rule.specs.declared.view.Look.{Look}
 use Rattle.cb_rule.specs.declared.view.Seen.{Seen}
-use Rattle.cb_record.specs.Needs.{ArePeeked, FindsEmpty, FindsPast, FindsPins, IsFreedAs, IsOwnTurn, IsPinnedAs, IsReadAs, IsTurnFor, Meets, need_of, peek_at, the_object}
-use Rattle.cb_record.specs.Needs.Need.{Nothing, ARead, APin, APeek, AFreed, APinned, AnEnd, ATurn}
+use Rattle.cb_record.specs.Needs.{ArePeeked, FindsEmpty, FindsPast, FindsPins, IsFreedAs, IsLastOf, IsOwnTurn, IsPinnedAs, IsReadAs, IsTurnFor, Meets, need_of, peek_at, the_object}
+use Rattle.cb_record.specs.Needs.Need.{Nothing, ARead, APin, APeek, AFreed, APinned, AnEnd, AWorn, ATurn}
 use Rattle.cb_record.specs.Parts.{nothing_more}
 use Rattle.cb_record.proofs.Replied.{same_bytes}
 
@@ -56,8 +56,9 @@ worn_read_needs : need_of (Some 3) (request.Read (97 ∷ [])) answer.Worn
     ≡ ATurn (Some (job.Read (record { n = 3 }))) (Some 3) answer.Worn
 worn_read_needs = refl
 
--- but not a write, which may have found it so in place
-worn_write_needs : need_of (Some 3) (request.Write (97 ∷ []) 0 []) answer.Worn ≡ Nothing
+-- but a write may have found it so in place
+worn_write_needs : need_of (Some 3) (request.Write (97 ∷ []) 0 []) answer.Worn
+    ≡ AWorn (Some (job.Write (record { n = 3 }) 0 [])) 3
 worn_write_needs = refl
 
 -- a version that was written needs nothing but its entry
@@ -171,6 +172,26 @@ end_unlooked : (own : Option Job) → Meets nothing_more (AnEnd own 3 2 1 2) →
 end_unlooked own (inl m) = m
 end_unlooked own (inr m) = m
 
+-- the last version of the object was read
+abbrev seen_last : Seen
+seen_last = record seen_two { version = 2 ^ 64 - 1 }
+
+last_so : IsLastOf 3 seen_last
+last_so = (refl, refl)
+
+last_of_another : IsLastOf 4 seen_last → ⊥
+last_of_another l = let e = l.0 in omega (arith, e)
+
+last_but_one : IsLastOf 3 (record seen_two { version = 2 ^ 64 - 2 }) → ⊥
+last_but_one l = let e : 2 ^ 64 - 2 ≡ 2 ^ 64 - 1 = l.1 in omega (arith, e)
+
+worn_found : Meets (record nothing_more { seen = seen_last ∷ [] }) (AWorn None 3)
+worn_found = inl (inl last_so)
+
+worn_unread : (own : Option Job) → Meets nothing_more (AWorn own 3) → ⊥
+worn_unread own (inl m) = m
+worn_unread own (inr m) = m
+
 -- freed is told by an entry and by a look
 freed_found : (l : Look) → FindsEmpty 3 l
     → Meets (record nothing_more { seen = record seen_two { freed = true } ∷ []; looks = l ∷ [] }) (AFreed 3)
@@ -227,6 +248,16 @@ module _ (t : Turn) where
     turns = record t { job = job.Write (the_object 3) 2 (1 ∷ []); reply = Some (answer.Range 2) } ∷ [];
   }) (AnEnd (Some (job.Write (the_object 3) 2 (1 ∷ []))) 3 2 1 2)
   end_told = inr (inl (refl, refl))
+
+  -- and so is wear
+  worn_told : Meets (record nothing_more {
+    turns = record t { job = job.Write (the_object 3) 2 (1 ∷ []); reply = Some answer.Worn } ∷ [];
+  }) (AWorn (Some (job.Write (the_object 3) 2 (1 ∷ []))) 3)
+  worn_told = inr (inl (refl, refl))
+
+  worn_by_a_swap : IsOwnTurn (Some (job.Write (the_object 3) 2 (1 ∷ []))) answer.Worn
+      (record t { job = job.Swap (the_object 3); reply = Some answer.Worn }) → ⊥
+  worn_by_a_swap i = let e = i.1 in cc
 
   end_by_a_swap : IsOwnTurn (Some (job.Write (the_object 3) 2 (1 ∷ []))) (answer.Range 2)
       (record t { job = job.Swap (the_object 3); reply = Some (answer.Range 2) }) → ⊥

@@ -1,5 +1,5 @@
 -- What an answer needs to find in a record.
-use Rattle.std.specs.Prelude.{◌≡◌, ◌⊎◌, ℕ, ◌+◌, ◌<◌, false, true, List, length, slice_index, Option, Some, None}
+use Rattle.std.specs.Prelude.{◌≡◌, ◌⊎◌, ℕ, ◌+◌, ◌-◌, ◌^◌, ◌<◌, false, true, List, length, slice_index, Option, Some, None}
 use Rattle.cb_ptr.specs.declared.word.State.TheVariants as state
 use Rattle.cb_ptr.specs.Word.{len_of, pins_of, state_of}
 use Rattle.cb_types.specs.declared.handle.Handle.{Handle}
@@ -19,7 +19,8 @@ use Rattle.cb_record.specs.Lists.{HasOne}
 use Rattle.cb_record.specs.Parts as parts
 
 -- nothing; a version that was read, pinned or peeked; a freed entry; a number of pins; the end of
--- an object; or a turn with this reply, whose job is the line's own or brings its object in
+-- an object; its last version; or a turn with this reply, whose job is the line's own or brings its
+-- object in
 pub data Need : Type 0 where
   Nothing : Need
   ARead : (h version : ℕ) (bytes : List ℕ) → Need
@@ -28,6 +29,7 @@ pub data Need : Type 0 where
   AFreed : (h : ℕ) → Need
   APinned : (own : Option Job) (h count : ℕ) → Need
   AnEnd : (own : Option Job) (h at count len : ℕ) → Need
+  AWorn : (own : Option Job) (h : ℕ) → Need
   ATurn : (own : Option Job) (h : Option ℕ) (reply : Reply) → Need
 
 abbrev pub the_object : ℕ → Handle
@@ -55,7 +57,8 @@ own_job h (Crash node) = Some (job.Crash node)
 own_job h (Join node) = Some (job.Join node)
 own_job h request = None
 
--- what the line needs, by what it was answered; a write may find in place that its object is worn
+-- what the line needs, by what it was answered; a write may find in place that its object is worn,
+-- as one of its own by turns
 abbrev pub need_of : Option ℕ → Request → Reply → Need
 need_of (Some h) (Read name) (answer.Bytes version bytes) = ARead h version bytes
 need_of (Some h) (Pin name) (answer.Version version) = APin h version
@@ -72,7 +75,8 @@ need_of h request (answer.NoRoom frames loose nodes) =
     ATurn (own_job h request) h (answer.NoRoom frames loose nodes)
 need_of h request (answer.Unavailable set lost) =
     ATurn (own_job h request) h (answer.Unavailable set lost)
-need_of (Some h) (Write name at bytes) answer.Worn = Nothing
+need_of (Some h) (Write name at bytes) answer.Worn =
+    AWorn (Some (job.Write (the_object h) at bytes)) h
 need_of h request answer.Worn = ATurn (own_job h request) h answer.Worn
 need_of h request reply = Nothing
 
@@ -113,6 +117,10 @@ abbrev pub FindsPast : ℕ → ℕ → ℕ → ℕ → Look → Type 0
 FindsPast h at count len l = (l.handle ≡ h) × (state_of l.word ≡ state.Here)
     × (len_of l.word ≡ len) × (len < at + count)
 
+-- the last version that there is, which has no next one, was read
+abbrev pub IsLastOf : ℕ → Seen → Type 0
+IsLastOf h s = (s.handle ≡ h) × (s.version ≡ 2 ^ 64 - 1)
+
 -- the job is the line's own
 abbrev pub IsOwnTurn : Option Job → Reply → Turn → Type 0
 IsOwnTurn own reply t = (t.reply ≡ Some reply) × (own ≡ Some t.job)
@@ -125,8 +133,8 @@ IsJobFor own None j = own ≡ Some j
 abbrev pub IsTurnFor : Option Job → Option ℕ → Reply → Turn → Type 0
 IsTurnFor own h reply t = (t.reply ≡ Some reply) × IsJobFor own h t.job
 
--- A part of a record has what is needed. Pins and an end are found by a look, or by a turn of the
--- line's own.
+-- A part of a record has what is needed. Pins and an end are found by a look, and the last version by
+-- a claim, or by a turn of the line's own.
 abbrev pub Meets : parts.Part → Need → Type 0
 Meets d Nothing = Unit {0}
 Meets d (ARead h version bytes) = HasOne (IsReadAs h version bytes) d.seen
@@ -137,4 +145,5 @@ Meets d (APinned own h count) = HasOne (FindsPins h count) d.looks
     ⊎ HasOne (IsTurnFor own (Some h) (answer.Pinned count)) d.turns
 Meets d (AnEnd own h at count len) = HasOne (FindsPast h at count len) d.looks
     ⊎ HasOne (IsOwnTurn own (answer.Range len)) d.turns
+Meets d (AWorn own h) = HasOne (IsLastOf h) d.seen ⊎ HasOne (IsOwnTurn own answer.Worn) d.turns
 Meets d (ATurn own h reply) = HasOne (IsTurnFor own h reply) d.turns

@@ -23,7 +23,7 @@ use Rattle.cb_rule.specs.Records.{LookOk}
 use Rattle.cb_rule.specs.Ruled.{Beside, IsSteady, Ruled}
 use Rattle.cb_rule.specs.Seats.{claims_it}
 use Rattle.cb_rule.specs.Slot.{Sat, Table}
-use Rattle.cb_rule.specs.Steps.{Finds, Knows, claimed_here, look_at, next_entry, put_back, settled_here, stamped_here, stored_here, with_claim, with_held, with_look, with_stamp, with_version, with_word, without_claim}
+use Rattle.cb_rule.specs.Steps.{Finds, Knows, claimed_here, look_at, next_entry, put_back, settled_here, stamped_here, stored_here, with_claim, with_back, with_held, with_look, with_stamp, with_version, with_word}
 use Rattle.cb_rule.specs.Words.{base, pointer, stamps}
 use Rattle.cb_rule.proofs.Calm.{look_ok, still_rule}
 use Rattle.cb_rule.proofs.Claiming.{found_below, found_calm, found_here, found_shared}
@@ -32,7 +32,7 @@ use Rattle.cb_rule.proofs.Keeping.{lies_here}
 use Rattle.cb_rule.proofs.Lifting.{any_seat, same_lock, same_words}
 use Rattle.cb_rule.proofs.Newest.{is_newest}
 use Rattle.cb_rule.proofs.Members.{times_has}
-use Rattle.cb_rule.proofs.Owning.{keeps_all, keeps_claim, keeps_held, keeps_unclaim, keeps_version, known_traces}
+use Rattle.cb_rule.proofs.Owning.{keeps_all, keeps_back, keeps_claim, keeps_held, keeps_version, known_traces}
 use Rattle.cb_rule.proofs.Own.{own_alone, own_claim, own_ok, own_put_back, own_settle, own_stamp, own_store, record_held}
 
 -- where one element at most passes the test, those that do are the same
@@ -65,7 +65,7 @@ module _ (beside : Beside) (steady : IsSteady beside) (first : ℕ) (c : Config)
         views = set s.views id u;
       }) (sym (same_words s.words (1 + h)))
       (any_seat beside steady first c s id me.0 at r u s.words r.history refl live
-      record { holds = refl; took = refl; turns = refl } (keeps_all me.0 u.looks me.0.peeked) refl
+      record { holds = refl; start = refl; took = refl; turns = refl } (keeps_all me.0 u.looks me.0.peeked) refl
       (still_rule c s.words s.views r.known r.history r.kept id h me.0 u at record {
         same_config = refl;
         claims = refl;
@@ -124,7 +124,7 @@ module _ (beside : Beside) (steady : IsSteady beside) (first : ℕ) (c : Config)
           views = set s.views id u;
         }) (ap (λ (j : ℕ). j + 1) e ∙ sym one ∙ ap (λ b. either b new x) (sym (eq-eqb x old e)))
             (any_seat beside steady first c s id me.0 at r u (set s.words (1 + h) (x + 1))
-            r.history refl live record { holds = refl; took = refl; turns = refl }
+            r.history refl live record { holds = refl; start = refl; took = refl; turns = refl }
             (keeps_claim h me.0 (known_traces h me.0 knows) x v words)
             (same_lock s.words (1 + h) (x + 1) (omega arith))
             (own_claim c s.words s.views r.known r.history r.kept id me.0 at h x l refl here'
@@ -175,7 +175,7 @@ module _ (beside : Beside) (steady : IsSteady beside) (first : ℕ) (c : Config)
       keeps,
       tt,
       any_seat beside steady first c s id me.0 at r u (set s.words (base c + x.place + j) y)
-          r.history refl live record { holds = refl; took = refl; turns = refl }
+          r.history refl live record { holds = refl; start = refl; took = refl; turns = refl }
           (keeps_held x.handle (with_word j y) me.0 (λ z. refl))
           (same_lock s.words (base c + x.place + j) y (omega arith))
           (own_store c s.words s.views r.known r.history r.kept id me.0 at x there j y lt),
@@ -212,7 +212,7 @@ module _ (beside : Beside) (steady : IsSteady beside) (first : ℕ) (c : Config)
       keeps,
       tt,
       any_seat beside steady first c s id me.0 at r u (set s.words (stamps c + x.handle) y)
-          r.history refl live record { holds = refl; took = refl; turns = refl }
+          r.history refl live record { holds = refl; start = refl; took = refl; turns = refl }
           (keeps_held x.handle (with_stamp y) me.0 (λ z. refl))
           (same_lock s.words (stamps c + x.handle) y (omega arith))
           (own_stamp c s.words s.views r.known r.history r.kept id me.0 at x there y low),
@@ -236,7 +236,7 @@ module _ (beside : Beside) (steady : IsSteady beside) (first : ℕ) (c : Config)
           tt,
           any_seat beside steady first c s id me.0 at r u (set s.words (1 + x.handle) w)
               (next_entry x ∷ r.history) refl live
-              record { holds = refl; took = refl; turns = refl } (keeps_version x me.0 there)
+              record { holds = refl; start = refl; took = refl; turns = refl } (keeps_version x me.0 there)
               (same_lock s.words (1 + x.handle) w (omega arith))
               (own_settle c s.words s.views r.known r.history r.kept id me.0 at x there w at' bytes
               up write inside here bare hot fits),
@@ -249,15 +249,15 @@ module _ (beside : Beside) (steady : IsSteady beside) (first : ℕ) (c : Config)
         → Allows (Ruled beside first c) slots id me (1 + x.handle) (λ _. x.word)
         (λ _. put_back (step slots (1 + x.handle) x.word 0 none) me x.word)
     puts_back same_stamp same_memory s r _ at _ =
-        let u : View = without_claim x.handle me.0 in (
+        let u : View = with_back x me.0 in (
           u,
           keeps,
           tt,
           any_seat beside steady first c s id me.0 at r u (set s.words (1 + x.handle) x.word)
-              r.history refl live record { holds = refl; took = refl; turns = refl }
-              (keeps_unclaim x.handle me.0) (same_lock s.words (1 + x.handle) x.word (omega arith))
+              r.history refl live record { holds = refl; start = refl; took = refl; turns = refl }
+              (keeps_back x me.0 there) (same_lock s.words (1 + x.handle) x.word (omega arith))
               (own_put_back c s.words s.views r.known r.history r.kept id me.0 at x there same_stamp
               same_memory),
-          λ h e. let same : x.handle ≡ h = omega (arith, e) in
-              ap (λ (j : ℕ). let m : Sat = (without_claim j me.0, me.1) in m) same,
+          λ z has e. ap (λ (q : Held). let m : Sat = (with_back q me.0, me.1) in m)
+              (only_one s r at x z there has (omega (arith, e))),
         )

@@ -256,6 +256,7 @@ module _ (c : Config) (ws : List ℕ) (views : List View) (v : View) (es : List 
           subst (λ (z : ℕ). s.first ≤ z) (sym calm.stamped) shared.born,
           is_now es v.since h (stamp c ws h) (holding_words (len_of w) claim_words) low
               (sym calm.stamped) value,
+          here,
         );
         within = tt;
         follows = r.history;

@@ -24,8 +24,9 @@ use Rattle.cb_rule.specs.Slot.{Slot, Table}
 use Rattle.cb_rule.specs.Steps.{blank}
 use Rattle.cb_rule.proofs.ClosedWorld.{closed_sound}
 use Rattle.cb_rule.proofs.ShownWorld.{world_shown}
-use Rattle.cb_rule.proofs.Lone.{is_last, lone_entries, lone_total, lone_turns, wrote}
+use Rattle.cb_rule.proofs.Lone.{is_last, lone_entries, lone_told, lone_total, lone_turns, wrote}
 use Rattle.cb_rule.proofs.Newest.{others_spent}
+use Rattle.cb_rule.proofs.Told.{are_told}
 use Rattle.cb_rule.proofs.Turns.{one_history}
 use Rattle.cb_rule.proofs.Promising.{entries_stand}
 
@@ -106,6 +107,8 @@ module _ (deeds : Deeds) (first : ℕ) (c : Config) (accepted : IsAccepted c) (s
       entries = subst (λ (n : ℕ). EntriesStand n (v ∷ [])) r.starts
           (lone_entries c s.views id v at spent r.known.first
           (entries_stand c s.words s.views r.known es k));
+      told = lone_told c s.views id v at spent first
+          (are_told (Locked deeds) first c s r);
       holds = holds (world_shown deeds first c s r nobody);
       turns = subst (λ (n : ℕ). IsOneHistory deeds first c (v ∷ []) n far) (sym r.far.reached)
           (lone_turns c s.views id v at spent deeds first r.far.count far

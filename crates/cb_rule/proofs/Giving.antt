@@ -71,6 +71,7 @@ module _ (deeds : Deeds) (c : Config) (count : ℕ) (chain : ℕ → FarState)
   stands_on g t o = let a = counted t o in let less = a.0 in record {
     took = o.took
         ∙ sym (chain_else chain (count + 1) (turn_number t) g (λ e. omega (arith, e, less)));
+    stood = o.stood;
     gave = inl (
       omega (arith, less),
       a.1 ∙ sym (chain_else chain (count + 1) (turn_number t + 1) g (λ e. omega (arith, e, less))),
@@ -117,6 +118,11 @@ module _ (deeds : Deeds) (first : ℕ) (c : Config) (s : Table) (id : ℕ) (v : 
   no_taker : (f : FarState) (j : ℕ) (u : View) → get_elem? views j ≡ some u → u.holds ≡ true
       → u.took ≡ f
   no_taker f j u there his = absurd (let le = total-at holding views j u there in
+      let one = hit u.holds his in omega (arith, le, one, nobody))
+
+  no_beginner : (j : ℕ) (u : View) → get_elem? views j ≡ some u → u.holds ≡ true
+      → Stood c u.start u.took
+  no_beginner j u there his = absurd (let le = total-at holding views j u there in
       let one = hit u.holds his in omega (arith, le, one, nobody))
 
   number : turn_number t ≡ lock.count
@@ -187,7 +193,6 @@ module _ (deeds : Deeds) (first : ℕ) (c : Config) (s : Table) (id : ℕ) (v : 
         chain = lock.chain;
         empty = lock.empty;
         reached = lock.reached;
-        sound = lock.sound;
         starts = lock.starts;
         free = λ _. unlocked n lock.count (lock.chain lock.count) same
             (word ∙ ap (λ (f : FarState). 2 * f.counts.turns) (sym same)
@@ -195,10 +200,12 @@ module _ (deeds : Deeds) (first : ℕ) (c : Config) (s : Table) (id : ℕ) (v : 
         held = λ some_one. absurd (omega (arith, some_one, nobody));
         deep = deep n;
         takers = no_taker (lock.chain lock.count);
+        began = no_beginner;
         turns = seats_stay (λ _ u. Each (TurnStands deeds c lock.count lock.chain) u.turns) s.views
             id w (
               record {
                 took = took ∙ ap lock.chain (sym number);
+                stood = lock.began id v at may.holds;
                 gave = inr (worn, end, still);
                 did = may.did (length r.history);
               },
@@ -218,13 +225,13 @@ module _ (deeds : Deeds) (first : ℕ) (c : Config) (s : Table) (id : ℕ) (v : 
     chain = chain;
     empty = chain_else lock.chain (lock.count + 1) 0 far (λ e. omega (arith, e)) ∙ lock.empty;
     reached = ap (λ (f : FarState). f.counts.turns) last ∙ turns_are;
-    sound = all_sound;
     starts = all_start;
     free = λ _. unlocked n (lock.count + 1) (chain (lock.count + 1)) last
         (word ∙ ap (λ (k : ℕ). 2 * k) turns_are);
     held = λ some_one. absurd (omega (arith, some_one, nobody));
     deep = deep n;
     takers = no_taker (chain (lock.count + 1));
+    began = no_beginner;
     turns = seats_stay (λ _ u. Each (TurnStands deeds c (lock.count + 1) chain) u.turns) s.views
         id w (mine, longer v.turns (lock.turns id v at))
         (λ j u ne there. longer u.turns (lock.turns j u there));
@@ -260,16 +267,6 @@ module _ (deeds : Deeds) (first : ℕ) (c : Config) (s : Table) (id : ℕ) (v : 
           (TurnStands deeds c (lock.count + 1) chain) ts
           (λ x o. stands_on deeds c lock.count lock.chain few far x o) ok
 
-      all_sound : (i : ℕ) → i ≤ lock.count + 1 → (k : Shown) × Stood c k (chain i)
-      all_sound i le = elim (ℕ_discrete i (lock.count + 1)) [
-        | yes e ↦ (r.known, subst (Stood c r.known) (sym (ap chain e ∙ last)) stood)
-        | no ne ↦ let z = lock.sound i (omega (arith, le, ne)) in (
-          z.0,
-          subst (Stood c z.0)
-              (sym (chain_else lock.chain (lock.count + 1) i far ne)) z.1,
-        )
-      ]
-
       all_start : (i : ℕ) → i ≤ lock.count + 1 → (chain i).first ≡ r.known.first
       all_start i le = elim (ℕ_discrete i (lock.count + 1)) [
         | yes e ↦ ap (λ (f : FarState). f.first) (ap chain e ∙ last)
@@ -283,6 +280,7 @@ module _ (deeds : Deeds) (first : ℕ) (c : Config) (s : Table) (id : ℕ) (v : 
         took = lock.takers id v at may.holds
             ∙ sym (chain_else lock.chain (lock.count + 1) lock.count far (λ e. omega (arith, e)))
             ∙ ap chain (sym number);
+        stood = lock.began id v at may.holds;
         gave = inl (
           omega (arith, number),
           sym last ∙ ap (λ (k : ℕ). chain (k + 1)) (sym number),

@@ -48,7 +48,7 @@ module _ (more es : List Entry) where
       → TellsOk first es since until e → TellsOk first (more ++ es) since until' e
   tells_more first since until until' (ev.Looked h w) le ok = look_more _ ok
   tells_more first since until until' (ev.Claimed h w v words) le ok =
-      (ok.0, now_more since until until' h v _ le ok.1)
+      (ok.0, now_more since until until' h v _ le ok.1, ok.2)
   tells_more first since until until' (ev.Told h v) le ok = tt
   tells_more first since until until' (ev.Loaded p x) le ok = tt
   tells_more first since until until' (ev.Stored p x) le ok = tt

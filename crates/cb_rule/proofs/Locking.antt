@@ -8,7 +8,7 @@ use Rattle.cb_world.specs.declared.shown.Shown.{Shown}
 use Rattle.cb_world.specs.Empty.{empty_far}
 use Rattle.cb_rule.specs.declared.view.View.{View}
 use Rattle.cb_rule.specs.Lists.{times, total, Each}
-use Rattle.cb_rule.specs.Locking.{Deeds, IsUnlocked, Locked, TurnStands, is_turn, turns_on}
+use Rattle.cb_rule.specs.Locking.{Deeds, IsUnlocked, Locked, Stood, TurnStands, is_turn, turns_on}
 use Rattle.cb_rule.specs.Ruled.{IsAlike, IsSteady}
 use Rattle.cb_rule.specs.Seats.{holding}
 use Rattle.cb_rule.specs.Slot.{Table}
@@ -21,6 +21,15 @@ use Rattle.cb_rule.proofs.Seating.{set_else, total_joined, total_split}
 module _ (deeds : Deeds) (c : Config) (s : Table) (known : Shown) (r : Locked deeds c s known) where
   abbrev Takes : ℕ → View → Type 0
   Takes j u = u.holds ≡ true → u.took ≡ r.chain r.count
+
+  abbrev Begins : ℕ → View → Type 0
+  Begins j u = u.holds ≡ true → Stood c u.start u.took
+
+  -- what a view's turn began with stays
+  still_begins : (j : ℕ) (v w : View) → IsAlike v w → Begins j v → Begins j w
+  still_begins j v w alike b h =
+      subst (λ (k : Shown). Stood c k w.took) (sym alike.start)
+      (subst (Stood c v.start) (sym alike.took) (b (sym alike.holds ∙ h)))
 
   abbrev Turned : ℕ → View → Type 0
   Turned j u = Each (TurnStands deeds c r.count r.chain) u.turns
@@ -45,7 +54,6 @@ module _ (deeds : Deeds) (c : Config) (s : Table) (known : Shown) (r : Locked de
       chain = r.chain;
       empty = r.empty ∙ ap (λ (n : ℕ). empty_far n c) (sym first);
       reached = r.reached;
-      sound = r.sound;
       starts = λ i le. r.starts i le ∙ sym first;
       free = λ none. ⊎_elim
           (λ (e : known' ≡ known). subst (λ (k : Shown). IsUnlocked c record {
@@ -61,6 +69,8 @@ module _ (deeds : Deeds) (c : Config) (s : Table) (known : Shown) (r : Locked de
       takers = seats_stay Takes s.views id w
           (λ h. alike.took ∙ r.takers id v at (sym alike.holds ∙ h))
           (λ j u ne there. r.takers j u there);
+      began = seats_stay Begins s.views id w (still_begins id v w alike (r.began id v at))
+          (λ j u ne there. r.began j u there);
       turns = seats_stay Turned s.views id w
           (subst (Each (TurnStands deeds c r.count r.chain)) (sym alike.turns) (r.turns id v at))
           (λ j u ne there. r.turns j u there);
@@ -83,7 +93,6 @@ module _ (deeds : Deeds) (c : Config) (s : Table) (known : Shown) (r : Locked de
       chain = r.chain;
       empty = r.empty;
       reached = r.reached;
-      sound = r.sound;
       starts = r.starts;
       free = λ z. unlocked_still s.words more refl same z;
       held = λ some_one. r.held (omega (arith, same, some_one));
@@ -93,6 +102,12 @@ module _ (deeds : Deeds) (c : Config) (s : Table) (known : Shown) (r : Locked de
           (λ h. alike.took ∙ r.takers id v at (sym alike.holds ∙ h))
           (λ i x _ e. r.takers i x e) j u t)
           (λ (t : right ≡ u). subst (λ (x : View). Takes j x) t
+          (λ h. absurd (true≢false (sym h ∙ quiet))))
+          (at_snoc (set s.views id left) right u j there);
+      began = λ j u there. ⊎_elim
+          (λ (t : get_elem? (set s.views id left) j ≡ some u). seats_stay Begins s.views id left
+          (still_begins id v left alike (r.began id v at)) (λ i x _ e. r.began i x e) j u t)
+          (λ (t : right ≡ u). subst (λ (x : View). Begins j x) t
           (λ h. absurd (true≢false (sym h ∙ quiet))))
           (at_snoc (set s.views id left) right u j there);
       turns = λ j u there. ⊎_elim
@@ -126,7 +141,6 @@ module _ (deeds : Deeds) (c : Config) (s : Table) (known : Shown) (r : Locked de
       chain = r.chain;
       empty = r.empty;
       reached = r.reached;
-      sound = r.sound;
       starts = r.starts;
       free = λ z. unlocked_still s.words more refl same z;
       held = λ some_one. r.held (omega (arith, same, some_one));
@@ -135,6 +149,10 @@ module _ (deeds : Deeds) (c : Config) (s : Table) (known : Shown) (r : Locked de
           (λ h. absurd (true≢false (sym h)))
           (λ j u _. seats_stay Takes s.views id both (r.takers id v at)
           (λ i x _ e. r.takers i x e) j u);
+      began = seats_stay Begins (set s.views id both) other (blank c)
+          (λ h. absurd (true≢false (sym h)))
+          (λ j u _. seats_stay Begins s.views id both (r.began id v at)
+          (λ i x _ e. r.began i x e) j u);
       turns = seats_stay Turned (set s.views id both) other (blank c) tt
           (λ j u _. seats_stay Turned s.views id both
           (each_append (TurnStands deeds c r.count r.chain) w.turns v.turns

@@ -14,6 +14,7 @@ use Rattle.cb_rule.specs.OneHistory.{IsOneHistory, Made}
 use Rattle.cb_rule.specs.Promised.{EntriesStand, FoundBy, GoesOn, Is, IsLast, Wrote}
 use Rattle.cb_rule.specs.Seats.{written_on}
 use Rattle.cb_rule.specs.Steps.{blank}
+use Rattle.cb_rule.specs.Told.{AreTold}
 use Rattle.cb_rule.proofs.Newest.{total_alone}
 
 module _ (c : Config) (views : List View) (id : ℕ) (v : View) (at : get_elem? views id ≡ some v)
@@ -85,6 +86,15 @@ module _ (c : Config) (views : List View) (id : ℕ) (v : View) (at : get_elem? 
 
   unmade : (t : Turn) → Made (v ∷ []) t → Made views t
   unmade t m = (v, (id, at), among (λ (u : View). Has t u.turns) m.0 m.1 m.2)
+
+  pub lone_told : (first : ℕ) → AreTold first c views → AreTold first c (v ∷ [])
+  lone_told first r = record {
+    history = r.history;
+    ordered = r.ordered;
+    written = λ e has. wrote e (r.written e has);
+    whole = λ e w. r.whole e (unwrote e w);
+    told = λ t m. r.told t (unmade t m);
+  }
 
   pub lone_turns : (deeds : Deeds) (first count : ℕ) (last : FarState)
       → IsOneHistory deeds first c views count last

@@ -145,7 +145,6 @@ module _ (first : ℕ) (pos : 1 ≤ first) (c : Config) (ws : List ℕ) (wide : 
       chain = λ _. far;
       empty = refl;
       reached = refl;
-      sound = λ i le. (s, stood_empty first c pos accepted);
       starts = λ i le. refl;
       free = λ _. record {
         word = zeros 0;
@@ -155,6 +154,8 @@ module _ (first : ℕ) (pos : 1 ≤ first) (c : Config) (ws : List ℕ) (wide : 
       held = λ some_one. absurd (let z : 0 < 0 + 0 = some_one in omega (arith, z));
       deep = let z : 0 < 1 = omega arith in z;
       takers = one_view (λ u. u.holds ≡ true → u.took ≡ far) (λ his. absurd (true≢false (sym his)));
+      began = one_view (λ u. u.holds ≡ true → Stood c u.start u.took)
+          (λ his. absurd (true≢false (sym his)));
       turns = one_view (λ u. Each (TurnStands deeds c 0 (λ _. far)) u.turns) tt;
       once = λ k l. absurd (omega (arith, l));
     }

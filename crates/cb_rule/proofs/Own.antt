@@ -21,19 +21,19 @@ use Rattle.cb_world.proofs.Laws.{packed_write, window_same}
 use Rattle.cb_rule.specs.declared.view.Held.{Held}
 use Rattle.cb_rule.specs.declared.view.Look.{Look}
 use Rattle.cb_rule.specs.declared.view.View.{View}
-use Rattle.cb_rule.specs.History.{Value, holding_words, newest, top, IsHistory, is_version}
+use Rattle.cb_rule.specs.History.{Value, holding_words, newest, top, value_of, IsHistory, is_version}
 use Rattle.cb_rule.specs.Lists.{times, total, Each, Has, removed}
-use Rattle.cb_rule.specs.Records.{HeldOk, LookOk, RecordOk}
+use Rattle.cb_rule.specs.Records.{HeldOk, LookOk, RecordOk, SeenOk}
 use Rattle.cb_rule.specs.Rule.{StandsIn, Kept}
 use Rattle.cb_rule.specs.Seats.{claims_it, claims_on, pins_on, written_on, pins_it}
 use Rattle.cb_rule.specs.Stands.{Stands}
-use Rattle.cb_rule.specs.Steps.{look_at, next_entry, with_claim, with_held, with_stamp, with_version, with_word, without_claim}
+use Rattle.cb_rule.specs.Steps.{look_at, next_entry, with_claim, with_held, with_back, with_stamp, with_version, with_word, version_seen}
 use Rattle.cb_rule.specs.Words.{stamps, base, pointer, stamp, words_at}
 use Rattle.cb_rule.proofs.Calm.{look_ok}
 use Rattle.cb_rule.proofs.Claiming.{found_below, found_calm, found_here, found_shared}
 use Rattle.cb_rule.proofs.Counts.{each_edited, each_removed_only, hit, miss, times-edited, times-removed, times-removed_else, total-at, total-same, total-set, each_there}
 use Rattle.cb_rule.proofs.Growing.{record_more}
-use Rattle.cb_rule.proofs.Histories.{newest_else, newest_same, top_else, top_same}
+use Rattle.cb_rule.proofs.Histories.{newest_else, newest_entry, newest_same, top_else, top_same}
 use Rattle.cb_rule.proofs.Keeping.{held_same, lies_here, outside, words_else}
 use Rattle.cb_rule.proofs.Members.{each_has, times_has}
 use Rattle.cb_rule.proofs.Others.{Claimer, claimer, other_rule}
@@ -515,7 +515,7 @@ module _ (c : Config) (ws : List ℕ) (views : List View) (known : Shown) (es : 
 
     -- put back as it was, with nothing stored
     pub own_put_back : x.stamp ≡ x.version → x.memory ≡ x.old
-        → Kept c (set ws (1 + x.handle) x.word) (set views id (without_claim x.handle v)) known es
+        → Kept c (set ws (1 + x.handle) x.word) (set views id (with_back x v)) known es
     own_put_back same_stamp same_memory =
         let o = own_ok in let k = own_alone in
         let moving = bits_moving (pointer ws x.handle) k.taken.state in
@@ -525,7 +525,7 @@ module _ (c : Config) (ws : List ℕ) (views : List View) (known : Shown) (es : 
         let moved : Claims x.word (x.word + 1) = claims x.word here bare in
         let f = subst (λ (z : Object). Fits z (pointer ws x.handle)) o.there
         (r.fit x.handle o.below) in
-        own_leaves x.word [] (without_claim x.handle v) record {
+        own_leaves x.word [] (with_back x v) record {
           here = here;
           bare = bare;
           fits = (
@@ -549,11 +549,36 @@ module _ (c : Config) (ws : List ℕ) (views : List View) (known : Shown) (es : 
           claims = refl;
           holds = refl;
           knows = refl;
-          lasting = record_held c known.first es v (without_claim x.handle v).claims v.looks
-              (r.seats id v at).lasting.looks (r.seats id v at).lasting;
+          lasting = let g = (r.seats id v at).lasting in record {
+            written = g.written;
+            fresh = g.fresh;
+            seen = (was_read, g.seen);
+            peeked = g.peeked;
+            looks = g.looks;
+            reached = g.reached;
+            told = g.told;
+            began = g.began;
+            past = g.past;
+          };
           wrote = λ a q. omega arith;
         }
       where
+        -- the version that was claimed is that of the newest entry
+        was_read : SeenOk es (version_seen x.handle x.version x.len x.old)
+        was_read = let o = own_ok in let born = own_alone.shared.born in let low = r.begins in
+            let n = newest_entry es x.handle (omega (arith, born, low)) in
+            let holds : holding_words x.len x.old ≡ value_of n.entry = sym o.contents ∙ sym n.has in (
+              n.entry,
+              n.there,
+              λ i. record {
+                handle = sym n.handle i;
+                version = (o.number ∙ sym n.version) i;
+                len = (holds i).len;
+                freed = (holds i).freed;
+                words = (holds i).words;
+              },
+            )
+
         here_before : (w : ℕ) → pointer ws x.handle % 4 ≡ 3 → pointer ws x.handle ≡ w + 1
             → state_of w ≡ word.Here
         here_before w moving taken = let two : w % 4 ≡ 2 = omega arith in

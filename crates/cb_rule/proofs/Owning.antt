@@ -22,7 +22,7 @@ use Rattle.cb_rule.specs.Records.{SeenOk, seen_of}
 use Rattle.cb_rule.specs.Rule.{Kept}
 use Rattle.cb_rule.specs.Seats.{claims_it, claims_on, pins_it, pins_on}
 use Rattle.cb_rule.specs.Stands.{Stands}
-use Rattle.cb_rule.specs.Steps.{Knows, act, blank, joined, left_of, right_of, with_claim, with_freed, with_held, with_pin, with_version, without_claim, without_pin}
+use Rattle.cb_rule.specs.Steps.{Knows, act, blank, joined, left_of, right_of, with_back, with_claim, with_freed, with_held, with_pin, with_version, without_pin}
 use Rattle.cb_rule.proofs.Counts.{by_case, times-append, times-edited, total-at}
 use Rattle.cb_rule.proofs.Histories.{begun, entry_within, rises}
 use Rattle.cb_rule.proofs.Keeping.{lt_or_le, seats_stay}
@@ -154,10 +154,13 @@ keeps_held h f v same = keeps_by v (with_held h f v) refl refl refl refl
     (λ k. omega arith) (λ k none. let e = times-edited (claims_it h) (claims_it k) f v.claims
     (λ x. ap (λ (j : ℕ). eqb j k) (same x)) in omega (arith, none, e))
 
--- and given up
-pub keeps_unclaim : (h : ℕ) (v : View) → Keeps v (without_claim h v)
-keeps_unclaim h v = keeps_by v (without_claim h v) refl refl refl refl
-    (λ k. omega arith) (λ k none. let le = fewer (claims_it k) (claims_it h) v.claims in omega (arith, none, le))
+-- and given up, with what was claimed as read
+pub keeps_back : (x : Held) (v : View) → Has x v.claims → Keeps v (with_back x v)
+keeps_back x v has = let one = times_has (claims_it x.handle) x v.claims has
+    (eq-eqb x.handle x.handle refl) in
+    keeps_by v (with_back x v) refl refl refl refl (λ k. omega arith)
+    (λ k none. let out = not_it x.handle k v (omega (arith, one)) none in
+    let le = fewer (claims_it k) (claims_it x.handle) v.claims in omega (arith, none, le, out))
 
 -- with an entry more of the claimed object
 pub keeps_version : (x : Held) (v : View) → Has x v.claims → Keeps v (with_version x v)

@@ -95,13 +95,14 @@ module _ (deeds : Deeds) (first : ℕ) (c : Config) (s : Table) (id : ℕ) (me :
     chain = lock.chain;
     empty = lock.empty;
     reached = lock.reached;
-    sound = lock.sound;
     starts = lock.starts;
     free = λ none_holds. absurd (omega (arith, none_holds, one_holds));
     held = λ _. get_or-set_same s.words 0 1 0 (let z = r.kept.wide in omega (arith, z));
     deep = let d = lock.deep in let q = length-set s.homes 0 none in omega (arith, d, q);
     takers = seats_stay (λ _ u. u.holds ≡ true → u.took ≡ far) s.views id taken (λ _. refl)
         (λ j u ne there. lock.takers j u there);
+    began = seats_stay (λ _ u. u.holds ≡ true → Stood c u.start u.took) s.views id taken
+        (λ _. (lock.free nobody).stood) (λ j u ne there. lock.began j u there);
     turns = seats_stay (λ _ u. Each (TurnStands deeds c lock.count lock.chain) u.turns) s.views id
         taken (lock.turns id me.0 at) (λ j u ne there. lock.turns j u there);
     once = λ k l. total-same (turns_on k) s.views id me.0 taken at refl ∙ lock.once k l;

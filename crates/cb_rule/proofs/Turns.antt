@@ -4,7 +4,7 @@ use Rattle.cb_types.specs.declared.config.Config.{Config}
 use Rattle.cb_world.specs.Empty.{empty_far}
 use Rattle.cb_world.specs.FarState.{FarState}
 use Rattle.cb_rule.specs.declared.turn.Turn.{Turn}
-use Rattle.cb_rule.specs.Locking.{Deeds, Locked, Stood, TurnStands, turn_number}
+use Rattle.cb_rule.specs.Locking.{Deeds, Locked, TurnStands, turn_number}
 use Rattle.cb_rule.specs.OneHistory.{HasNumber, IsOneHistory, Made, TurnsStand}
 use Rattle.cb_rule.specs.Ruled.{Ruled}
 use Rattle.cb_rule.specs.Slot.{Table}
@@ -60,8 +60,7 @@ module _ (deeds : Deeds) (first : ℕ) (c : Config) (s : Table)
         ∙ sym (gave_next t mt (let le = not_past u mu in omega (arith, le, next)));
     ends = λ t m last. gave_next t m (omega (arith, last)) ∙ ap lock.chain last;
     numbers = has_number;
-    sound = λ t m. let z = lock.sound (turn_number t) (not_past t m) in
-        (z.0, subst (Stood c z.0) (sym (turn_stands t m).took) z.1);
+    sound = λ t m. (turn_stands t m).stood;
     starts = starts;
     did = λ t m. (turn_stands t m).did;
   }

@@ -1,6 +1,7 @@
 -- Worked examples of claims: what meets each definition, and what breaks one part.
 use Rattle.std.proofs.Common.{◌≡◌, ℕ, ◌+◌, false, List, [], ◌∷◌, length, get_or, refl, ap, lit<, lit≤, arith}
 use Rattle.std.proofs.lemmas.Bool.{eqb-false}
+use Rattle.cb_ptr.specs.declared.word.State.TheVariants as word
 use Rattle.cb_world.specs.declared.entry.Entry.{Entry}
 use Rattle.cb_world.specs.declared.event.Event.TheVariants.{Claimed}
 use Rattle.cb_world.specs.declared.object.Object.{Object}
@@ -13,7 +14,7 @@ use Rattle.cb_rule.specs.declared.view.Held.{Held}
 use Rattle.cb_rule.specs.declared.view.View.{View}
 use Rattle.cb_rule.specs.History.{Value, WasNow, holding_words}
 use Rattle.cb_rule.specs.Records.{HeldOk, OldOk, TellsOk}
-use Rattle.cb_rule.specs.Steps.{blank, with_claim, with_held, with_stamp, with_version, with_word, without_claim}
+use Rattle.cb_rule.specs.Steps.{blank, version_seen, with_back, with_claim, with_held, with_stamp, with_version, with_word}
 use Rattle.cb_rule.proofs.WorkedStands.{here, moving, table, two}
 
 -- object 1 was made with 5 and written with 7, and lies at place 0
@@ -109,7 +110,7 @@ now = record {
 }
 
 told : TellsOk 1 past 1 2 (Claimed 1 here 2 (7 ∷ []))
-told = (lit≤ tt, now)
+told = (lit≤ tt, now, refl)
 
 -- and also the one before it, where the turn began no later
 told_before : TellsOk 1 past 1 2 (Claimed 1 here 1 (5 ∷ []))
@@ -124,7 +125,15 @@ told_before = (
     last = refl;
     has = refl;
   },
+  refl,
 )
+
+-- no object is claimed that is moving
+not_moving : TellsOk 1 past 1 2 (Claimed 1 moving 2 (7 ∷ [])) → ⊥
+not_moving k = moving_here k.2
+  where
+    moving_here : word.Moving ≡ word.Here → ⊥
+    moving_here e = absurd cc
 
 not_unborn : TellsOk 3 past 1 2 (Claimed 1 here 2 (7 ∷ [])) → ⊥
 not_unborn k = let e = k.0 in omega arith
@@ -161,6 +170,12 @@ entered = refl
 gone : (with_version claim after_stores).claims ≡ []
 gone = refl
 
--- put back: nothing is written
-back : (without_claim 1 after_stores).written ≡ past
+-- put back: nothing is written, and what was claimed is read
+back : (with_back claim after_stores).written ≡ past
 back = refl
+
+back_unclaimed : (with_back claim after_stores).claims ≡ []
+back_unclaimed = refl
+
+back_read : (with_back claim after_stores).seen ≡ version_seen 1 2 8 (7 ∷ []) ∷ []
+back_read = refl

@@ -24,8 +24,10 @@ use Rattle.cb_rule.specs.declared.view.Peeked.{Peeked}
 use Rattle.cb_rule.specs.declared.view.Seen.{Seen}
 use Rattle.cb_rule.specs.declared.view.View.{View}
 use Rattle.cb_rule.specs.Closing.{HoldsEntries, IsClosed, desk_of, now_of}
+use Rattle.cb_rule.specs.History.{top}
 use Rattle.cb_rule.specs.Lists.{total, Has}
 use Rattle.cb_rule.specs.Promised.{EntriesStand, GoesOn, Is, Wrote}
+use Rattle.cb_rule.specs.Records.{TellsOk}
 use Rattle.cb_rule.specs.Seats.{written_on}
 use Rattle.cb_rule.specs.Slot.{Slot}
 use Rattle.cb_rule.specs.Steps.{freed_seen, look_at, opener}
@@ -279,6 +281,27 @@ with_an_entry_unwritten : Closed record (opener pair_of) { seen = freed_seen 1 5
     (world_of (empty_far 3 pair_of)) → ⊥
 with_an_entry_unwritten k = let v = record (opener pair_of) { seen = freed_seen 1 5 ∷ [] } in
     let o = k.entries.read (freed_seen 1 5) (v, here v, inl refl) in wrote_in v o.0 o.1
+
+-- a turn that claimed a version which no entry has
+told_of_no_entry : Closed record (opener pair_of) {
+  turns = record (turn (far 0) (far 1)) { acts = Claimed 1 (here_word 8) 3 (7 ∷ []) ∷ [] } ∷ [];
+} (world_of (empty_far 3 pair_of)) → ⊥
+told_of_no_entry k = none k.told.history (λ e has. wrote_in _ e (k.told.written e has))
+    (k.told.told _ (_, here _, inl refl)).told.0
+  where
+    none : (es : List Entry) → ((e : Entry) → Has e es → ⊥)
+        → TellsOk 3 es 0 0 (Claimed 1 (here_word 8) 3 (7 ∷ [])) → ⊥
+    none es nobody t = by t.1.older refl
+      where
+        by : (older : List Entry) → t.1.older ≡ older → ⊥
+        by [] is = let e : top t.1.older 1 ≡ 3 = t.1.last in
+            let z : top t.1.older 1 ≡ 0 = ap (λ (l : List Entry). top l 1) is in omega (arith, e, z)
+        by (x ∷ more) is = nobody x (subst (Has x) (sym (t.1.parts
+            ∙ ap (λ (l : List Entry). t.1.newer ++ l) is)) (behind t.1.newer))
+          where
+            behind : (l : List Entry) → Has x (l ++ x ∷ more)
+            behind [] = inl refl
+            behind (y ∷ l) = inr (behind l)
 
 -- the record wrote an object, and the world does not hold it
 abbrev pub is_held : Now → Bool

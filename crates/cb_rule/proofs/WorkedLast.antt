@@ -1,6 +1,7 @@
 -- Worked examples of what views found and wrote last, and of the words that stand for it: what
 -- meets each definition, and what breaks one part alone.
 use Rattle.std.proofs.Common.{◌≡◌, ℕ, ◌≤◌, true, false, List, [], ◌∷◌, length, get_or, sym, refl, ap, ◌∙◌, subst, inl, inr, true≢false, arith}
+use Rattle.cb_world.specs.declared.shown.Shown.{Shown}
 use Rattle.cb_world.specs.declared.entry.Entry.{Entry}
 use Rattle.cb_world.specs.Memory.{window}
 use Rattle.cb_rule.specs.declared.turn.Turn.{Turn}
@@ -11,7 +12,7 @@ use Rattle.cb_rule.specs.Own.{entries_on, held_on, reads_it, writes_it}
 use Rattle.cb_rule.specs.Promised.{FoundBy, HeldStands, HereStands, IsLast, Looked}
 use Rattle.cb_rule.specs.Ruled.{IsAlike}
 use Rattle.cb_rule.specs.Seats.{claims_on, pins_it, share_of}
-use Rattle.cb_rule.specs.Steps.{blank, freed_seen, look_at, opener, stand}
+use Rattle.cb_rule.specs.Steps.{blank, freed_seen, look_at, nothing, opener, stand}
 use Rattle.cb_rule.specs.Words.{stamps, words_at}
 use Rattle.cb_rule.proofs.WorkedClosing.{claiming, here as there, is_made, maker, record_with, the_one, wrote_in}
 use Rattle.cb_rule.proofs.WorkedHistory.{freed, made, written}
@@ -189,10 +190,14 @@ held_other_words h = let e : 7 ≡ 8 = ap (λ (xs : List ℕ). get_or xs 0 0)
 
 -- ---- two views with the same lock and turns
 alike : IsAlike maker (record maker { share = 40; written = [] })
-alike = record { holds = refl; took = refl; turns = refl }
+alike = record { holds = refl; start = refl; took = refl; turns = refl }
 
 unlike_in_the_lock : IsAlike maker holder → ⊥
 unlike_in_the_lock a = true≢false a.holds
+
+unlike_in_what_it_began_with : IsAlike maker (record maker { start = record nothing { first = 4 } }) → ⊥
+unlike_in_what_it_began_with a = let e : 4 ≡ 1 = ap (λ (s : Shown). s.first) a.start in
+    omega (arith, e)
 
 unlike_in_what_it_took : IsAlike (record maker { took = far 0 }) (record maker { took = far 1 }) → ⊥
 unlike_in_what_it_took a = let e : 1 ≡ 0 = ap (λ f. f.counts.turns) a.took in omega (arith, e)

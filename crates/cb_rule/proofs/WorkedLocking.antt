@@ -39,7 +39,7 @@ far n = record (empty_far 3 pair_of) {
 abbrev pub seen : Shown
 seen = empty_shown 3 pair_of
 
-pub stood : (n : ℕ) → n ≤ 2 → Stood pair_of seen (far n)
+pub stood : (n : ℕ) → n ≤ 2 ^ 40 → Stood pair_of seen (far n)
 stood n few = let e = stood_empty 3 pair_of (lit≤ tt) accepted in
     let f = e.configured in let k = e.counted in record {
       sound = recounted_sound seen (empty_far 3 pair_of) n (n ∷ replicate 18 0) 0 e.sound;
@@ -95,14 +95,19 @@ abbrev pub Stands : ℕ → Turn → Type 0
 Stands count t = TurnStands quiet pair_of count far t
 
 pub first_turn : Stands 1 (turn (far 0) (far 1))
-first_turn = record { took = refl; gave = inl (lit< tt, refl); did = refl }
+first_turn = record { took = refl; stood = stood 0 (lit≤ tt); gave = inl (lit< tt, refl); did = refl }
 
 pub second_turn : Stands 2 (turn (far 1) (far 2))
-second_turn = record { took = refl; gave = inl (lit< tt, refl); did = refl }
+second_turn = record { took = refl; stood = stood 1 (lit≤ tt); gave = inl (lit< tt, refl); did = refl }
 
 -- one that was refused after 2^40 turns
 no_number : Stands (2 ^ 40) (turn (far (2 ^ 40)) (far (2 ^ 40)))
-no_number = record { took = refl; gave = inr (refl, refl, refl); did = refl }
+no_number = record {
+  took = refl;
+  stood = stood (2 ^ 40) (lit≤ tt);
+  gave = inr (refl, refl, refl);
+  did = refl;
+}
 
 another_taken : Stands 1 (turn record (far 0) { made = 1 } (far 1)) → ⊥
 another_taken s = let e : 1 ≡ 0 = ap (λ (f : FarState). f.made) s.took in omega (arith, e)
@@ -118,6 +123,14 @@ as_before s = ⊎_elim
 too_early : Stands 1 (turn (far 1) (far 2)) → ⊥
 too_early s = ⊎_elim (λ (a : (1 < 1) × (far 2 ≡ far 2)). let l = a.0 in omega (arith, l))
     (λ (a : (1 ≡ 2 ^ 40) × (1 ≡ 2 ^ 40) × (far 2 ≡ far 1)). let e = a.0 in omega (arith, e)) s.gave
+
+-- what it knew when it began was not sound for what it took
+abbrev pub no_frames : FarState
+no_frames = record (far 1) { spans = [] }
+
+knew_nothing : Stands 1 record (turn (far 0) (far 1)) { start = record seen { memory = [] } } → ⊥
+knew_nothing s = let n = s.stood.configured.frames in
+    let e : 0 ≡ 512 * length (far 0).spans = s.stood.sound.here.placed.memory in omega (arith, e, n)
 
 did_else : Stands 1 record (turn (far 0) (far 1)) { acts = Looked 0 0 ∷ [] } → ⊥
 did_else s = let e : 1 ≡ 0 = ap (λ (es : List _). length es) s.did in omega (arith, e)
@@ -159,12 +172,13 @@ free = record {
   chain = far;
   empty = refl;
   reached = refl;
-  sound = λ i le. (seen, stood i (omega (arith, le)));
   starts = λ i le. refl;
   free = λ _. record { word = refl; home = refl; stood = stood 1 (lit≤ tt) };
   held = λ some_one. absurd (omega (arith, some_one));
   deep = lit< tt;
   takers = one_view (λ u. u.holds ≡ true → u.took ≡ far 1) (seat one_turn) (λ e. absurd (cc));
+  began = one_view (λ u. u.holds ≡ true → Stood pair_of u.start u.took) (seat one_turn)
+      (λ e. absurd (cc));
   turns = one_view (λ u. Each (Stands 1) u.turns) (seat one_turn) (first_turn, tt);
   once = λ k l. ap (λ (n : ℕ). total (λ u. turns_on n u)
       (seat one_turn ∷ [])) (below_one k l);
@@ -172,7 +186,7 @@ free = record {
 
 -- the seat has it, and the far state is in its hand
 abbrev pub holder : List Turn → View
-holder turns = record (seat turns) { holds = true; took = far 1 }
+holder turns = record (seat turns) { holds = true; start = seen; took = far 1 }
 
 pub held : Lock (table 1 none (holder one_turn))
 held = record {
@@ -180,12 +194,13 @@ held = record {
   chain = far;
   empty = refl;
   reached = refl;
-  sound = λ i le. (seen, stood i (omega (arith, le)));
   starts = λ i le. refl;
   free = λ none_holds. absurd (omega (arith, none_holds));
   held = λ _. refl;
   deep = lit< tt;
   takers = one_view (λ u. u.holds ≡ true → u.took ≡ far 1) (holder one_turn) (λ _. refl);
+  began = one_view (λ u. u.holds ≡ true → Stood pair_of u.start u.took) (holder one_turn)
+      (λ _. stood 1 (lit≤ tt));
   turns = one_view (λ u. Each (Stands 1) u.turns) (holder one_turn) (first_turn, tt);
   once = λ k l. ap (λ (n : ℕ). total (λ u. turns_on n u)
       (holder one_turn ∷ [])) (below_one k l);
@@ -252,16 +267,14 @@ began_elsewhere l = let ts = l.turns 0 _ refl in
 counted_too_many : Lock (table 2 (home 2) (seat one_turn)) → ⊥
 counted_too_many l = let e = (at_home 2 2 (seat one_turn) refl l).0 in omega (arith, e)
 
--- a far state of before that was never sound
-abbrev pub no_frames : FarState
-no_frames = record (far 1) { spans = [] }
-
+-- a turn took a far state that was never sound
 never_sound : Lock (table 4 (home 2) (seat (turn no_frames (far 2) ∷ turn (far 0) no_frames ∷ [])))
     → ⊥
-never_sound l = let ts = l.turns 0 _ refl in let n = (at_home 2 4 _ refl l).1 in
-    let s = l.sound 1 (omega (arith, n)) in
-    let e : 0 ≡ 1 = ap (λ (f : FarState). length f.spans) ts.0.took ∙ s.1.configured.frames in
-    omega (arith, e)
+never_sound l = let e : 0 ≡ 1 = (l.turns 0 _ refl).0.stood.configured.frames in omega (arith, e)
+
+-- the holder's turn began with what was not sound for what it took
+began_unsound : Lock (table 1 none record (holder one_turn) { start = record seen { first = 4 } }) → ⊥
+began_unsound l = let e : 4 ≡ 3 = (l.began 0 _ refl refl).sound.here.known.first in omega (arith, e)
 
 -- a far state of before whose makes give another first version
 abbrev pub from_four : FarState

@@ -62,6 +62,7 @@ good_ok = record {
         last = refl;
         has = refl;
       },
+      refl,
     ),
     tt,
   );

@@ -253,8 +253,8 @@ one_history = record {
   ends = all_made (λ t. turn_number t + 1 ≡ 2 → t.gave ≡ far 2) two_turns
       ((λ e. refl), ((λ e. absurd (omega (arith, e))), tt));
   numbers = all_made (HasNumber 2) two_turns (inl (lit< tt), (inl (lit< tt), tt));
-  sound = all_made (λ t. (k : Shown) × Stood pair_of k t.took) two_turns
-      ((seen, stood 1 (lit≤ tt)), ((seen, stood 0 (lit≤ tt)), tt));
+  sound = all_made (λ t. Stood pair_of t.start t.took) two_turns
+      (stood 1 (lit≤ tt), (stood 0 (lit≤ tt), tt));
   starts = all_made (λ t. t.gave.first ≡ 3) two_turns (refl, (refl, tt));
   did = all_made (λ t. quiet pair_of t) two_turns (refl, (refl, tt));
 }
@@ -316,13 +316,13 @@ has_no_number h = ⊎_elim (λ (l : 5 < 2). omega (arith, l))
     (λ (a : (5 ≡ 2 ^ 40) × (2 ≡ 2 ^ 40) × (far 6 ≡ far 5)). let e = a.0 in omega (arith, e))
     (h.numbers (turn (far 5) (far 6)) (is_made beyond _ (inl refl)))
 
--- a far state between that was never sound
+-- a far state between that was not sound for what was known
 abbrev unsound : List Turn
 unsound = turn no_frames (far 2) ∷ turn (far 0) no_frames ∷ []
 
 never_sound : History unsound 2 (far 2) → ⊥
 never_sound h = let s = h.sound (turn no_frames (far 2)) (is_made unsound _ (inl refl)) in
-    let e : 0 ≡ 1 = s.1.configured.frames in omega (arith, e)
+    let e : 0 ≡ 1 = s.configured.frames in omega (arith, e)
 
 -- makes had another first version behind the first turn
 abbrev from_another : List Turn

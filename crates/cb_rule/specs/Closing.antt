@@ -14,6 +14,7 @@ use Rattle.cb_rule.specs.declared.view.View.{View}
 use Rattle.cb_rule.specs.Locking.{Deeds}
 use Rattle.cb_rule.specs.OneHistory.{IsOneHistory}
 use Rattle.cb_rule.specs.Promised.{EntriesStand, IsLast, Wrote}
+use Rattle.cb_rule.specs.Told.{AreTold}
 use Rattle.cb_rule.specs.Words.{base, stamps}
 
 -- the words of a table as those of a still desk
@@ -42,7 +43,7 @@ pub record HoldsEntries (views : List View) (w : WorldState) : Type 0 where
 -- A pass with this record closed the runtime, whose makes gave the version first: the world is
 -- sound, all its seats are idle, and no turn is under way. The record has all entries, whose last
 -- ones the world holds, and all counted turns, which are one history from the empty world to this
--- one.
+-- one. What its turns were told of objects is of these entries.
 pub record IsClosed (deeds : Deeds) (first : ℕ) (c : Config) (v : View) (w : WorldState) : Type 0
   where
     pub settings : w.desk.settings ≡ c
@@ -51,5 +52,6 @@ pub record IsClosed (deeds : Deeds) (first : ℕ) (c : Config) (v : View) (w : W
     pub sound : IsSoundWorld w
     pub calm : v.fresh ≡ []
     pub entries : EntriesStand first (v ∷ [])
+    pub told : AreTold first c (v ∷ [])
     pub holds : HoldsEntries (v ∷ []) w
     pub turns : IsOneHistory deeds first c (v ∷ []) w.far.counts.turns w.far

@@ -36,10 +36,12 @@ abbrev pub turns_on : ℕ → View → ℕ
 turns_on k v = times (is_turn k) v.turns
 
 -- Far states by how many turns were counted, and how many are counted now: the turn took the one of
--- its number, and gave the next. One that was refused after 2^40 turns gave what it took.
+-- its number, which was sound for what it knew when it began, and gave the next. One that was refused
+-- after 2^40 turns gave what it took.
 pub record TurnStands (deeds : Deeds) (c : Config) (count : ℕ) (chain : ℕ → FarState) (t : Turn)
     : Type 0 where
   pub took : t.took ≡ chain (turn_number t)
+  pub stood : Stood c t.start t.took
   pub gave : ((turn_number t < count) × (t.gave ≡ chain (turn_number t + 1)))
       ⊎ ((turn_number t ≡ 2 ^ 40) × (count ≡ 2 ^ 40) × (t.gave ≡ t.took))
   pub did : deeds c t
@@ -59,14 +61,15 @@ pub record Locked (deeds : Deeds) (c : Config) (s : Table) (known : Shown) : Typ
   pub chain : ℕ → FarState
   pub empty : chain 0 ≡ empty_far known.first c
   pub reached : (chain count).counts.turns ≡ count
-  -- each far state was sound for what was known then, and makes gave one first version
-  pub sound : (i : ℕ) → i ≤ count → (k : Shown) × Stood c k (chain i)
+  -- makes gave one first version
   pub starts : (i : ℕ) → i ≤ count → (chain i).first ≡ known.first
   pub free : total holding s.views ≡ 0 → IsUnlocked c s known count (chain count)
   pub held : 0 < total holding s.views → slice_index s.words 0 ≡ 1
   pub deep : 0 < length s.homes
   pub takers : (j : ℕ) (u : View) → get_elem? s.views j ≡ some u → u.holds ≡ true
       → u.took ≡ chain count
+  pub began : (j : ℕ) (u : View) → get_elem? s.views j ≡ some u → u.holds ≡ true
+      → Stood c u.start u.took
   pub turns : (j : ℕ) (u : View) → get_elem? s.views j ≡ some u
       → Each (TurnStands deeds c count chain) u.turns
   -- each counted turn stands in one view, once

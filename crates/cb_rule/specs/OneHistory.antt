@@ -4,7 +4,6 @@ use Rattle.std.specs.Prelude.{◌≡◌, ◌⊎◌, ℕ, ◌+◌, ◌*◌, ◌^�
 use mathlib.Core.Option.{some}
 use lib.ListN.{get_elem?}
 use Rattle.cb_types.specs.declared.config.Config.{Config}
-use Rattle.cb_world.specs.declared.shown.Shown.{Shown}
 use Rattle.cb_world.specs.Empty.{empty_far}
 use Rattle.cb_world.specs.FarState.{FarState}
 use Rattle.cb_rule.specs.declared.turn.Turn.{Turn}
@@ -26,7 +25,8 @@ HasNumber count t = (turn_number t < count)
 
 -- So many turns are counted, and led from the empty world to this far state: each number stands
 -- once, the first turn took the empty world's, each other one what the one before it gave, and the
--- last one gave this. Makes have one first version in all of them.
+-- last one gave this. Each took one that was sound for what it knew when it began. Makes have one
+-- first version in all of them.
 pub record IsOneHistory (deeds : Deeds) (first : ℕ) (c : Config) (views : List View) (count : ℕ)
     (last : FarState) : Type 0 where
   pub counted : last.counts.turns ≡ count
@@ -37,7 +37,7 @@ pub record IsOneHistory (deeds : Deeds) (first : ℕ) (c : Config) (views : List
       → u.took ≡ t.gave
   pub ends : (t : Turn) → Made views t → turn_number t + 1 ≡ count → t.gave ≡ last
   pub numbers : (t : Turn) → Made views t → HasNumber count t
-  pub sound : (t : Turn) → Made views t → (k : Shown) × Stood c k t.took
+  pub sound : (t : Turn) → Made views t → Stood c t.start t.took
   pub starts : (t : Turn) → Made views t → t.gave.first ≡ first
   pub did : (t : Turn) → Made views t → deeds c t
 

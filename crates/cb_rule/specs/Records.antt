@@ -70,11 +70,12 @@ abbrev pub LookOk : List Entry → Look → Type 0
 LookOk es l = state_of l.word ≢ word.Empty → (e : Entry) × Has e es × (e.handle ≡ l.handle)
     × (e.freed ≡ false) × (e.len ≡ len_of l.word)
 
--- what a claim told was the object's newest entry at some time of the turn, and what a look found
--- tells the length of an entry
+-- what a claim told was the object's newest entry at some time of the turn, and its word was Here;
+-- what a look found tells the length of an entry
 abbrev pub TellsOk : ℕ → List Entry → ℕ → ℕ → Event → Type 0
 TellsOk first es since until (Claimed h w v words) =
     (first ≤ v) × WasNow es since until h v (holding_words (len_of w) words)
+    × (state_of w ≡ word.Here)
 TellsOk first es since until (Looked h w) = LookOk es (record { handle = h; word = w })
 TellsOk first es since until _ = Unit {0}
 

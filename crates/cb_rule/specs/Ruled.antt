@@ -23,9 +23,10 @@ pub record AreShares (c : Config) (views : List View) : Type 0 where
 abbrev pub Beside : Type 1
 Beside = Config → Table → Shown → Type 0
 
--- the lock and the turns of a view
+-- the lock, what a turn began with, and the turns of a view
 pub record IsAlike (v w : View) : Type 0 where
   pub holds : w.holds ≡ v.holds
+  pub start : w.start ≡ v.start
   pub took : w.took ≡ v.took
   pub turns : w.turns ≡ v.turns
 

@@ -291,9 +291,15 @@ abbrev pub settled_here : Step Slot → Sat → ℕ → Sat → Type 0
 settled_here st m n m' = (x : Held) → Has x m.0.claims → st.word ≡ 1 + x.handle
     → m' ≡ (with_version x m.0, m.1)
 
--- or as it was, with nothing stored
+-- or as it was, with nothing stored; the version that was claimed stands as read
+abbrev pub with_back : Held → View → View
+with_back x u = record (without_claim x.handle u) {
+  seen = version_seen x.handle x.version x.len x.old ∷ u.seen;
+}
+
 abbrev pub put_back : Step Slot → Sat → ℕ → Sat → Type 0
-put_back st m n m' = (h : ℕ) → st.word ≡ 1 + h → m' ≡ (without_claim h m.0, m.1)
+put_back st m n m' = (x : Held) → Has x m.0.claims → st.word ≡ 1 + x.handle
+    → m' ≡ (with_back x m.0, m.1)
 
 -- Seats that are split and joined.
 

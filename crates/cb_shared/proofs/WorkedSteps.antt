@@ -23,11 +23,11 @@ use Rattle.cb_rule.specs.Words.{base}
 use Rattle.cb_shared.specs.declared.answers.PinAnswer.TheVariants as pins
 use Rattle.cb_shared.specs.declared.answers.WriteAnswer.TheVariants as writes
 use Rattle.cb_shared.specs.declared.setup.Setup.{Setup}
-use Rattle.cb_shared.specs.Claims.{ClaimsHere, HoldsOnly, unclaimed, with_only}
+use Rattle.cb_shared.specs.Claims.{ClaimsHere, HoldsOnly, with_only}
 use Rattle.cb_shared.specs.Glances.{Glances, TakesPin, TellsVersion}
 use Rattle.cb_shared.specs.Pinning.{IsPinnedAt, IsRefusal, PinAt}
 use Rattle.cb_shared.specs.Places.{HoldsLock, IsOf, Moves, Place}
-use Rattle.cb_shared.specs.Writing.{IsWriteRefusal, IsWrittenAt, WriteAt, WriteClaimed}
+use Rattle.cb_shared.specs.Writing.{IsWriteRefusal, IsWrittenAt, WriteAt, WriteClaimed, last_seen}
 use Rattle.cb_shared.proofs.WorkedGround.{a_pin, a_stand, away, calm, freed_last, full, has_last, last_is_freed, last_look, moving, newest_later, newest_made, not_second, part, part_pinned, pinned, shared_part, two, version_in, whole, words_in}
 use Rattle.cb_shared.proofs.WorkedWrites.{write_it}
 
@@ -158,21 +158,35 @@ by_write = is_written_at
 abbrev last_made : View
 last_made = record part { written = entry 1 (2 ^ 64 - 1) 8 [] (2826 ∷ []) ∷ [] }
 
-by_wear : WriteAt 1 calm 1 (12 ∷ []) writes.Worn last_made (with_look 1 calm last_made)
-by_wear = (
-  record {
+-- its last version is read at the word
+abbrev worn_at : View → View
+worn_at v = record (with_look 1 calm v) { seen = last_seen 1 calm (2826 ∷ []) ∷ v.seen }
+
+by_wear : WriteAt 1 calm 1 (12 ∷ []) writes.Worn last_made (worn_at last_made)
+by_wear = record {
+  words = 2826 ∷ [];
+  newest = record {
     written = ((λ _. lit≤ tt), tt);
     seen = tt;
     lone = λ l. absurd (⊎_elim (λ (e : 40 ≡ 64). omega (arith, e)) (λ (n : ⊥). n) l);
-  },
-  refl,
-)
+  };
+  left = refl;
+}
 
-not_worn : WriteAt 1 calm 1 (12 ∷ []) writes.Worn whole (with_look 1 calm whole) → ⊥
-not_worn g = let e : 0 < 0 = g.0.lone (inl refl) in omega (arith, e)
+not_worn : WriteAt 1 calm 1 (12 ∷ []) writes.Worn whole (worn_at whole) → ⊥
+not_worn g = let e : 0 < 0 = g.newest.lone (inl refl) in omega (arith, e)
 
-worn_unlooked : WriteAt 1 calm 1 (12 ∷ []) writes.Worn last_made last_made → ⊥
-worn_unlooked g = eqb-false 0 1 refl (ap looks_of g.1)
+worn_unlooked : WriteAt 1 calm 1 (12 ∷ []) writes.Worn last_made
+    (record last_made { seen = last_seen 1 calm (2826 ∷ []) ∷ [] }) → ⊥
+worn_unlooked g = eqb-false 0 1 refl (ap looks_of g.left)
+
+worn_unread : WriteAt 1 calm 1 (12 ∷ []) writes.Worn last_made (with_look 1 calm last_made) → ⊥
+worn_unread g = eqb-false 0 1 refl (ap (λ (v : View). length v.seen) g.left)
+
+worn_read_at_another : WriteAt 1 calm 1 (12 ∷ []) writes.Worn last_made
+    (record (with_look 1 calm last_made) { seen = version_seen 1 3 8 (2826 ∷ []) ∷ [] }) → ⊥
+worn_read_at_another g =
+    eqb-false 3 (2 ^ 64 - 1) refl (ap (λ (v : View). version_read v.seen) g.left)
 
 write_raced : WriteAt 1 calm 1 (12 ∷ []) (writes.Raced calm moving) part (with_look 1 moving part)
 write_raced = (refl, (λ e. eqb-false moving calm refl e), refl)
@@ -254,7 +268,10 @@ claimed_elsewhere : (p q : Place) → (q.table_id ≡ p.table_id → ⊥)
     → WriteClaimed 1 calm 1 (12 ∷ []) 3 (2826 ∷ []) (writes.Ok 4) p q → ⊥
 claimed_elsewhere p q n g = n g.3.0
 
-claimed_worn : (p q : Place) → Moves p q (unclaimed p.me.0)
+abbrev last_read : View → View
+last_read v = record v { claims = []; seen = last_seen 1 calm (2826 ∷ []) ∷ v.seen }
+
+claimed_worn : (p q : Place) → Moves p q (last_read p.me.0)
     → WriteClaimed 1 calm 1 (12 ∷ []) (2 ^ 64 - 1) (2826 ∷ []) writes.Worn p q
 claimed_worn p q m = (refl, m)
 
@@ -266,6 +283,12 @@ claimed_worn_kept : (p q : Place) (x : Held) → q.me.0.claims ≡ x ∷ []
     → WriteClaimed 1 calm 1 (12 ∷ []) (2 ^ 64 - 1) (2826 ∷ []) writes.Worn p q → ⊥
 claimed_worn_kept p q x e g = eqb-false 1 0 refl
     (ap (λ (xs : List Held). length xs) (sym e ∙ ap (λ (m : Sat). m.0.claims) g.1.2))
+
+-- the version that was claimed is not read
+claimed_worn_unread : (p q : Place) → p.me.0 ≡ part → q.me.0.seen ≡ []
+    → WriteClaimed 1 calm 1 (12 ∷ []) (2 ^ 64 - 1) (2826 ∷ []) writes.Worn p q → ⊥
+claimed_worn_unread p q e f g = eqb-false 0 1 refl
+    (ap length (sym f ∙ ap (λ (m : Sat). m.0.seen) g.1.2) ∙ ap (λ (v : View). suc (length v.seen)) e)
 
 claimed_refused : (p q : Place)
     → WriteClaimed 1 calm 1 (12 ∷ []) 3 (2826 ∷ []) writes.Moving p q → ⊥

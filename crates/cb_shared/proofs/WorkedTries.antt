@@ -10,8 +10,9 @@ use Rattle.cb_rule.specs.Lists.{Each}
 use Rattle.cb_rule.specs.Steps.{IsNewest, look_at, with_look}
 use Rattle.cb_record.specs.Parts.{Part, grown, nothing_more, sum}
 use Rattle.cb_shared.specs.declared.answers.WriteAnswer.TheVariants as place
-use Rattle.cb_shared.specs.Calls.{AtNone, AtThis, IsCalled, IsNoReply, IsWornOut, ReadGives, ReadTries, Stops, TurnEnds, TurnTries, WriteEnds, WriteFinds, WriteTries, the_handle}
+use Rattle.cb_shared.specs.Calls.{AtNone, AtThis, IsCalled, IsNoReply, IsWornOut, ReadGives, ReadTries, Stops, TurnEnds, TurnTries, WriteEnds, WriteFinds, WriteTries, the_handle, worn_once}
 use Rattle.cb_shared.specs.Reading.{looked, looked_freed, looked_twice}
+use Rattle.cb_shared.specs.Writing.{last_seen}
 use Rattle.cb_shared.proofs.WorkedGround.{a_stand, away, calm, freed_last, has_last, knows_made, last_is_freed, moving, newest_made, part, pinned, shared_part, two, whole, word_in}
 use Rattle.cb_shared.proofs.WorkedTurns.{adds_worn, worn_part}
 
@@ -79,9 +80,10 @@ newest_worn = record {
   lone = λ l. absurd (shared_part 1 l);
 }
 
-finds_it_worn : WriteFinds 1 1 (12 ∷ []) place.Worn part (looked_twice 1 calm calm)
+finds_it_worn : WriteFinds 1 1 (12 ∷ []) place.Worn part (worn_once 1 calm (2826 ∷ []))
 finds_it_worn = record {
   word = calm;
+  words = 2826 ∷ [];
   room = (refl, lit≤ tt);
   bare = refl;
   loose = refl;
@@ -89,25 +91,29 @@ finds_it_worn = record {
   part = refl;
 }
 
--- but not for a pass with the whole share that wrote no such version, nor after one look, past the
--- end, or under a pin
-worn_by_another : IsWornOut 1 1 1 whole (looked_twice 1 calm calm) → ⊥
+-- but not for a pass with the whole share that wrote no such version, nor after one look, with
+-- nothing read, past the end, or under a pin
+worn_by_another : IsWornOut 1 1 1 whole (worn_once 1 calm (2826 ∷ [])) → ⊥
 worn_by_another x = let some = x.newest.lone (inl refl) in omega (arith, some)
 
-worn_at_once : IsWornOut 1 1 1 part (looked 1 calm) → ⊥
+worn_at_once : IsWornOut 1 1 1 part
+    (record (looked 1 calm) { seen = last_seen 1 calm (2826 ∷ []) ∷ [] }) → ⊥
 worn_at_once x = eqb-false 1 2 refl (ap (λ (d : Part). length d.looks) x.part)
 
-worn_past_the_end : IsWornOut 1 8 1 part (looked_twice 1 calm calm) → ⊥
+worn_unread : IsWornOut 1 1 1 part (looked_twice 1 calm calm) → ⊥
+worn_unread x = eqb-false 0 1 refl (ap (λ (d : Part). length d.seen) x.part)
+
+worn_past_the_end : IsWornOut 1 8 1 part (worn_once 1 calm (2826 ∷ [])) → ⊥
 worn_past_the_end x = let room = x.room.1 in
     let long : 8 ≡ len_of x.word = ap (λ (d : Part). len_of (word_in d.looks)) x.part in
     omega (arith, room, long)
 
-worn_under_a_pin : IsWornOut 1 1 1 part (looked_twice 1 pinned pinned) → ⊥
+worn_under_a_pin : IsWornOut 1 1 1 part (worn_once 1 pinned (2826 ∷ [])) → ⊥
 worn_under_a_pin x =
     eqb-false 1 0 refl (ap (λ (d : Part). pins_of (word_in d.looks)) x.part ∙ x.bare)
 
 worn_under_its_own : IsWornOut 1 1 1 (record part { pins = a_stand ∷ [] })
-    (looked_twice 1 calm calm) → ⊥
+    (worn_once 1 calm (2826 ∷ [])) → ⊥
 worn_under_its_own x = eqb-false 1 0 refl x.loose
 
 finds_a_race : WriteFinds 1 1 (12 ∷ []) (place.Raced calm pinned) part (looked_twice 1 calm pinned)

@@ -8,7 +8,7 @@ use Rattle.cb_world.specs.Written.{entry}
 use Rattle.cb_rule.specs.declared.view.View.{View}
 use Rattle.cb_rule.specs.Steps.{HasLast, IsNewest, with_freed, with_look}
 use Rattle.cb_shared.specs.declared.answers.WriteAnswer.TheVariants.{Ok, Freed, NotHere, Moving, Range, Pinned, Worn, Raced}
-use Rattle.cb_shared.specs.Writing.{IsPastEnd, IsPinnedSo, IsWorn, IsWrittenHere, WriteGives}
+use Rattle.cb_shared.specs.Writing.{IsPastEnd, IsPinnedSo, IsWorn, IsWrittenHere, WriteGives, last_seen}
 use Rattle.cb_shared.proofs.WorkedGround.{a_stand, away, calm, freed_last, has_last, last_is_freed, last_look, last_state, made, moving, newest_later, newest_made, newest_whole, not_foreign, not_second, owner, part, pinned, shared_part, version_in, whole, words_in}
 
 abbrev looks_of : View → ℕ
@@ -125,12 +125,14 @@ one_look p = eqb-false 1 2 refl (ap looks_of p.left)
 abbrev last_made : View
 last_made = record part { written = entry 1 18446744073709551615 8 [] (2826 ∷ []) ∷ [] }
 
+-- two looks at a word, at which it is read
 abbrev twice : ℕ → View → View
-twice w v = with_look 1 w (with_look 1 w v)
+twice w v = record (with_look 1 w (with_look 1 w v)) { seen = last_seen 1 w (2826 ∷ []) ∷ v.seen }
 
 is_worn : IsWorn 1 1 1 last_made (twice calm last_made)
 is_worn = record {
   word = calm;
+  words = 2826 ∷ [];
   room = (refl, lit≤ tt);
   bare = refl;
   loose = refl;
@@ -162,6 +164,9 @@ not_worn p = let e : 0 < 0 = p.newest.lone (inl refl) in omega (arith, e)
 
 worn_and_written : IsWorn 1 1 1 last_made (changed calm 4 (3082 ∷ []) last_made) → ⊥
 worn_and_written p = eqb-false 2 1 refl (ap (λ (v : View). length v.written) p.left)
+
+worn_unread : IsWorn 1 1 1 last_made (with_look 1 calm (with_look 1 calm last_made)) → ⊥
+worn_unread p = eqb-false 0 1 refl (ap (λ (v : View). length v.seen) p.left)
 
 -- ---- past the end
 ninth_byte : IsPastEnd 8 1 8 calm

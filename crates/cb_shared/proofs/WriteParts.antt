@@ -10,10 +10,10 @@ use Rattle.cb_rule.specs.declared.view.View.{View}
 use Rattle.cb_rule.specs.Steps.{look_at, with_look}
 use Rattle.cb_shared.specs.declared.answers.WriteAnswer.{WriteAnswer}
 use Rattle.cb_shared.specs.declared.answers.WriteAnswer.TheVariants as place
-use Rattle.cb_shared.specs.Calls.{AtNone, AtThis, IsNoReply, SaysAs, Stops, TurnTries, WriteAnswers, WriteEnds, WriteFinds, WriteTries, the_handle, written_once}
+use Rattle.cb_shared.specs.Calls.{AtNone, AtThis, IsNoReply, SaysAs, Stops, TurnTries, WriteAnswers, WriteEnds, WriteFinds, WriteTries, the_handle, worn_once, written_once}
 use Rattle.cb_record.specs.Parts.{Part, Grows, grown}
 use Rattle.cb_shared.specs.Reading.{looked, looked_freed, looked_twice}
-use Rattle.cb_shared.specs.Writing.{WriteGives}
+use Rattle.cb_shared.specs.Writing.{WriteGives, last_seen}
 use Rattle.cb_shared.proofs.CallSteps.{ends_after, look_asks, look_stops, stops_then, vain_look}
 use Rattle.cb_shared.proofs.ReadSteps.{freed_part, look_part, twice_part}
 
@@ -24,6 +24,15 @@ written_part : (h word version : ℕ) (old new : List ℕ) (v : View)
 written_part h word version old new v = let e : v.ever ≡ v.ever + 0 = omega arith in
     ap (λ (n : ℕ). let z : View = record (with_look h word (with_look h word v)) {
       written = entry h version (len_of word) old new ∷ v.written;
+      ever = n;
+    } in z) e
+
+worn_part : (h word : ℕ) (words : List ℕ) (v : View)
+    → record (with_look h word (with_look h word v)) { seen = last_seen h word words ∷ v.seen }
+    ≡ grown (worn_once h word words) v
+worn_part h word words v = let e : v.ever ≡ v.ever + 0 = omega arith in
+    ap (λ (n : ℕ). let z : View = record (with_look h word (with_look h word v)) {
+      seen = last_seen h word words ∷ v.seen;
       ever = n;
     } in z) e
 
@@ -58,10 +67,11 @@ write_finds h at bytes (place.Range len) v w (n, is, left) =
 write_finds h at bytes (place.Pinned count) v w (n, is, left) =
     (looked h n, left ∙ look_part h n v, (n, is, refl))
 write_finds h at bytes place.Worn v w x = (
-  looked_twice h x.word x.word,
-  x.left ∙ twice_part h x.word x.word v,
+  worn_once h x.word x.words,
+  x.left ∙ worn_part h x.word x.words v,
   record {
     word = x.word;
+    words = x.words;
     room = x.room;
     bare = x.bare;
     loose = x.loose;

@@ -5,6 +5,7 @@ use Rattle.cb_types.specs.declared.config.Config.{Config}
 use Rattle.cb_ptr.specs.Word.{len_of, pins_of}
 use Rattle.cb_world.specs.Written.{entry}
 use Rattle.cb_world.specs.declared.entry.Entry.{Entry}
+use Rattle.cb_rule.specs.declared.view.Seen.{Seen}
 use Rattle.cb_rule.specs.declared.view.View.{View}
 use Rattle.cb_rule.specs.Seats.{pins_on}
 use Rattle.cb_rule.specs.Slot.{Sat}
@@ -16,7 +17,7 @@ use Rattle.cb_shared.specs.Claims.{with_only}
 use Rattle.cb_shared.specs.Glances.{Glances}
 use Rattle.cb_shared.specs.Passes.{IsAtRest}
 use Rattle.cb_shared.specs.Places.{IsOf, Place, Moves}
-use Rattle.cb_shared.specs.Writing.{IsRoomFor, IsWriteRefusal, WriteAt, WriteClaimed, WriteGives}
+use Rattle.cb_shared.specs.Writing.{IsRoomFor, IsWriteRefusal, WriteAt, WriteClaimed, WriteGives, last_seen}
 use Rattle.cb_shared.proofs.Resting.{far_empty, here_empty, moving_empty, view_of}
 
 pub of_moves : (z : TableId) (k : Setup) (c : Config) (p q : Place) (w : View) → IsOf z k c p
@@ -38,9 +39,9 @@ pub record IsAfter (c : Config) (h word at : ℕ) (bytes : List ℕ) (a : WriteA
   pub rest : IsAtRest c q.me.0
   pub write : WriteAt h word at bytes a p.me.0 q.me.0
 
-rest_plain : (c : Config) (h n : ℕ) (v : View) → IsAtRest c v
-    → IsAtRest c (record (with_look h n v) { claims = [] })
-rest_plain c h n v rest = record {
+rest_worn : (c : Config) (h n : ℕ) (s : Seen) (v : View) → IsAtRest c v → s.handle < c.handles
+    → IsAtRest c (record (with_look h n v) { claims = []; seen = s ∷ v.seen })
+rest_worn c h n s v rest below = record {
   config = rest.config;
   live = rest.live;
   most = rest.most;
@@ -48,7 +49,7 @@ rest_plain c h n v rest = record {
   out = rest.out;
   fresh = rest.fresh;
   written = rest.written;
-  seen = rest.seen;
+  seen = (below, rest.seen);
   pins = rest.pins;
 }
 
@@ -95,17 +96,21 @@ written_at c h word at bytes (Ok version) p m q v words rest below newest mv x =
       };
     }
 written_at c h word at bytes Worn p m q v words rest below newest mv x =
-    let u = p.me.0 in let w : View = record (with_look h word u) { claims = [] } in
+    let u = p.me.0 in let s : Seen = last_seen h word words in
+    let w : View = record (with_look h word u) { claims = []; seen = s ∷ u.seen } in
     let left : q.me ≡ (let z : Sat = (w, p.me.1) in z) = x.1.2
-    ∙ ap (λ (y : Sat). let z : Sat = (record y.0 { claims = [] }, y.1) in z) mv.2 in record {
+    ∙ ap (λ (y : Sat).
+    let z : Sat = (record y.0 { claims = []; seen = s ∷ y.0.seen }, y.1) in z) mv.2 in record {
       table = (x.1.0 ∙ mv.0, ap (λ (y : Sat). y.1) left);
       share = ap (λ (y : Sat). y.0.share) left;
       pins = ap (λ (y : Sat). y.0.pins) left;
-      rest = subst (λ (y : Sat). IsAtRest c y.0) (sym left) (rest_plain c h word u rest);
-      write = (
-        subst (λ (n : ℕ). IsNewest h n u) x.0 newest,
-        ap (λ (y : Sat). y.0) left ∙ (λ i. record (with_look h word u) { claims = sym rest.claims i }),
-      );
+      rest = subst (λ (y : Sat). IsAtRest c y.0) (sym left) (rest_worn c h word s u rest below);
+      write = record {
+        words = words;
+        newest = subst (λ (n : ℕ). IsNewest h n u) x.0 newest;
+        left = ap (λ (y : Sat). y.0) left
+            ∙ (λ i. record (with_look h word u) { claims = sym rest.claims i; seen = s ∷ u.seen });
+      };
     }
 written_at c h word at bytes Freed p m q v words rest below newest mv x = absurd x
 written_at c h word at bytes NotHere p m q v words rest below newest mv x = absurd x
@@ -179,11 +184,14 @@ module _ (h w at : ℕ) (bytes : List ℕ) (p m q : Place) (g : Glances h w p m)
   }
   claimed_writes Worn x = record {
     word = w;
+    words = x.words;
     room = room;
     bare = bare;
     loose = loose;
-    newest = newest_before _ x.0;
-    left = x.1 ∙ ap (with_look h w) saw;
+    newest = newest_before _ x.newest;
+    left = x.left ∙ ap (λ (v : View). let z : View = record (with_look h w v) {
+      seen = last_seen h w x.words ∷ v.seen;
+    } in z) saw;
   }
   claimed_writes (Raced seen found) x = (
     (λ e. x.1 (e ∙ x.0)),

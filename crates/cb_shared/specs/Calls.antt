@@ -24,7 +24,7 @@ use Rattle.cb_record.specs.Parts.{Part, Grows, grown, nothing_more, sum}
 pub use Rattle.cb_shared.specs.Trying.{is_to_try_again, may_come_loose, newest_tries}
 use Rattle.cb_shared.specs.Reading.{FindsGone, FindsOther, FindsWord, IsReadHere, looked, looked_twice}
 use Rattle.cb_shared.specs.Turning.{TurnAdds, made_by, with_own}
-use Rattle.cb_shared.specs.Writing.{IsPastEnd, IsPinnedSo, IsRoomFor}
+use Rattle.cb_shared.specs.Writing.{IsPastEnd, IsPinnedSo, IsRoomFor, last_seen}
 
 -- why an object can't be brought in
 abbrev pub IsLack : Config → Reply → Type 0
@@ -135,14 +135,20 @@ pub record IsWrittenOnce (h at : ℕ) (bytes : List ℕ) (version : ℕ) (v : Vi
     pub write : IsWrite old at bytes new
     pub part : d ≡ written_once h word version old new
 
+-- a look and an exchange that claimed the object at this word, at its last version, which is read
+abbrev pub worn_once : ℕ → ℕ → List ℕ → Part
+worn_once h word words =
+    record (looked_twice h word word) { seen = last_seen h word words ∷ [] }
+
 -- it was claimed at a version that has no next one, and put back as it was
 pub record IsWornOut (h at count : ℕ) (v : View) (d : Part) : Type 0 where
   pub word : ℕ
+  pub words : List ℕ
   pub room : IsRoomFor at count word
   pub bare : pins_of word ≡ 0
   pub loose : pins_on h v ≡ 0
   pub newest : IsNewest h (2 ^ 64 - 1) v
-  pub part : d ≡ looked_twice h word word
+  pub part : d ≡ worn_once h word words
 
 -- what a write in place adds, by its answer
 abbrev pub WriteFinds : ℕ → ℕ → List ℕ → WriteAnswer → View → Part → Type 0

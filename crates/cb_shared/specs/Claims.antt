@@ -7,7 +7,7 @@ use Rattle.cb_world.specs.Write.{IsWrite}
 use Rattle.cb_types.specs.declared.config.Config.{Config}
 use Rattle.cb_rule.specs.declared.view.Held.{Held}
 use Rattle.cb_rule.specs.declared.view.View.{View}
-use Rattle.cb_rule.specs.Steps.{IsInside, IsNewest, held_at, next_entry, with_look}
+use Rattle.cb_rule.specs.Steps.{IsInside, IsNewest, held_at, next_entry, version_seen, with_look}
 use Rattle.cb_shared.specs.Places.{Place, Moves}
 
 -- the record with this one claim
@@ -26,11 +26,14 @@ pub record ClaimsHere (c : Config) (h saw w : ℕ) (p q : Place) : Type 0 where
 abbrev pub HoldsOnly : Held → ℕ → Place → Type 0
 HoldsOnly x h p = (p.me.0.claims ≡ x ∷ []) × (x.handle ≡ h)
 
--- no claim is left
-abbrev pub unclaimed : View → View
-unclaimed v = record v { claims = [] }
+-- no claim is left, and the version that was claimed is read
+abbrev pub back_only : Held → View → View
+back_only x v = record v {
+  claims = [];
+  seen = version_seen x.handle x.version x.len x.old ∷ v.seen;
+}
 
--- and the version that the claim stored is written
+-- or the version that the claim stored is written
 abbrev pub written_only : Held → View → View
 written_only x v = record v { claims = []; written = next_entry x ∷ v.written }
 

@@ -4,13 +4,13 @@ use Rattle.cb_ptr.specs.declared.word.State.TheVariants as state
 use Rattle.cb_ptr.specs.Word.{state_of, len_of, pins_of}
 use Rattle.cb_world.specs.Write.{IsWrite}
 use Rattle.cb_world.specs.Written.{entry}
+use Rattle.cb_rule.specs.declared.view.Seen.{Seen}
 use Rattle.cb_rule.specs.declared.view.View.{View}
 use Rattle.cb_rule.specs.Own.{IsAlone}
 use Rattle.cb_rule.specs.Seats.{pins_on}
-use Rattle.cb_rule.specs.Steps.{IsNewest, with_look}
+use Rattle.cb_rule.specs.Steps.{IsNewest, version_seen, with_look}
 use Rattle.cb_shared.specs.declared.answers.WriteAnswer.{WriteAnswer}
 use Rattle.cb_shared.specs.declared.answers.WriteAnswer.TheVariants.{Ok, Freed, NotHere, Moving, Range, Pinned, Worn, Raced}
-use Rattle.cb_shared.specs.Claims.{unclaimed}
 use Rattle.cb_shared.specs.Glances.{IsLastAlone}
 use Rattle.cb_shared.specs.Pinning.{LooksOnce, FindsFreed, LoosesRace}
 use Rattle.cb_shared.specs.Places.{Place, Moves}
@@ -48,14 +48,21 @@ pub record IsWrittenHere (h at : ℕ) (bytes : List ℕ) (version : ℕ) (v w : 
     written = entry h version (len_of word) old new ∷ v.written;
   }
 
--- it was claimed at a version that has no next one, and put back as it was
+-- the last version that there is, which has no next one, is read at this word
+abbrev pub last_seen : ℕ → ℕ → List ℕ → Seen
+last_seen h word words = version_seen h (2 ^ 64 - 1) (len_of word) words
+
+-- it was claimed at that version, which is read, and put back as it was
 pub record IsWorn (h at count : ℕ) (v w : View) : Type 0 where
   pub word : ℕ
+  pub words : List ℕ
   pub room : IsRoomFor at count word
   pub bare : pins_of word ≡ 0
   pub loose : pins_on h v ≡ 0
   pub newest : IsNewest h (2 ^ 64 - 1) v
-  pub left : w ≡ with_look h word (with_look h word v)
+  pub left : w ≡ record (with_look h word (with_look h word v)) {
+    seen = last_seen h word words ∷ v.seen;
+  }
 
 -- By the answer. One that is refused for its length or its pins is not freed, and where no other pass
 -- has it, it has the length of its last entry, which the record wrote.
@@ -92,10 +99,16 @@ pub record IsWrittenAt (h word at : ℕ) (bytes : List ℕ) (version : ℕ) (v w
     written = entry h version (len_of word) old new ∷ v.written;
   }
 
+-- it was claimed at its last version, and put back: so after the look at the word
+pub record IsWornAt (h word : ℕ) (v w : View) : Type 0 where
+  pub words : List ℕ
+  pub newest : IsNewest h (2 ^ 64 - 1) v
+  pub left : w ≡ record (with_look h word v) { seen = last_seen h word words ∷ v.seen }
+
 -- what the exchange at the word that was seen comes to
 abbrev pub WriteAt : ℕ → ℕ → ℕ → List ℕ → WriteAnswer → View → View → Type 0
 WriteAt h saw at bytes (Ok version) v w = IsWrittenAt h saw at bytes version v w
-WriteAt h saw at bytes Worn v w = IsNewest h (2 ^ 64 - 1) v × (w ≡ with_look h saw v)
+WriteAt h saw at bytes Worn v w = IsWornAt h saw v w
 WriteAt h saw at bytes (Raced seen found) v w =
     (seen ≡ saw) × (found ≢ saw) × (w ≡ with_look h found v)
 WriteAt h saw at bytes _ v w = ⊥
@@ -108,5 +121,8 @@ WriteClaimed h word at bytes v words (Ok version) p q = (version ≡ v + 1) × (
       written = entry h (v + 1) (len_of word) words new ∷ p.me.0.written;
     })
 WriteClaimed h word at bytes v words Worn p q =
-    (v ≡ 2 ^ 64 - 1) × Moves p q (unclaimed p.me.0)
+    (v ≡ 2 ^ 64 - 1) × Moves p q (record p.me.0 {
+      claims = [];
+      seen = last_seen h word words ∷ p.me.0.seen;
+    })
 WriteClaimed h word at bytes v words _ p q = ⊥

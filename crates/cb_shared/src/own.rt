@@ -5,7 +5,7 @@ ghost use Rattle.cb_ptr.specs.Word.{state_of, len_of, pins_of, place_of};
 ghost use Rattle.cb_world.specs.Memory.{words_for};
 ghost use Rattle.cb_rule.specs.declared.view.Held.{Held};
 ghost use Rattle.cb_rule.specs.Steps.{Knows, with_word, with_stamp};
-ghost use Rattle.cb_shared.specs.Claims.{ClaimsHere, HoldsOnly, IsAsBefore, IsNextOf, written_only, unclaimed, with_only};
+ghost use Rattle.cb_shared.specs.Claims.{ClaimsHere, HoldsOnly, IsAsBefore, IsNextOf, back_only, written_only, with_only};
 ghost use Rattle.cb_shared.specs.Places.{IsOf, Moves};
 
 use crate::board::{Place, Top};
@@ -85,12 +85,13 @@ pub(crate) fn settle_own(top: &Top, seat: &mut Place, config: &Config, h: u32, w
     top.store::<SettleHere>(seat, 1 + h as usize, word);
 }
 
-/// Settles the claimed object as it was, with nothing stored.
+/// Settles the claimed object as it was, with nothing stored. The version that was claimed is read.
 pub(crate) fn put_back(top: &Top, seat: &mut Place, config: &Config, h: u32, word: u64)
     requires of { IsOf top.now.table_id top.now.key config.now seat.old }
     requires handle { h < config.now.handles }
     requires held { (x : Held) × HoldsOnly x h seat.old × IsAsBefore x word }
-    ensures { Moves seat.old seat.new (unclaimed seat.old.me.0) }
+    ensures { (x : Held) → HoldsOnly x h seat.old
+        → Moves seat.old seat.new (back_only x seat.old.me.0) }
 {
     top.store::<PutBack>(seat, 1 + h as usize, word);
 }

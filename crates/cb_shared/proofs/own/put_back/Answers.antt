@@ -1,11 +1,11 @@
-use Rattle.std.proofs.Common.{◌+◌, ℕ, List, refl, sym, ap, subst, ◌∙◌, arith}
+use Rattle.std.proofs.Common.{◌+◌, ℕ, List, ◌∷◌, refl, sym, ap, subst, ◌∙◌, arith}
 use mathlib.Core.Option.{none}
 use Rattle.atomic_table.specs.Table.{step, Allows}
 use Rattle.cb_rule.specs.declared.view.Held.{Held}
 use Rattle.cb_rule.specs.Locking.{Locked}
 use Rattle.cb_rule.specs.Ruled.{Ruled}
 use Rattle.cb_rule.specs.Slot.{Sat}
-use Rattle.cb_rule.specs.Steps.{put_back}
+use Rattle.cb_rule.specs.Steps.{put_back, version_seen}
 use Rattle.cb_shared.specs.Turning.{Did}
 use Rattle.cb_shared.proofs.Only.{has_only, removed_only}
 use Rattle.cb_shared.proofs.OwnAlone.{puts_back_at}
@@ -30,11 +30,17 @@ store-requires c = let o = c.requires.of in let held = c.requires.held in
     )
 
 pub returns : goal.returns
-returns c = let held = c.requires.held in let u = c.args.seat.now.me.0 in (
-  c.store.ensures.0,
-  c.store.ensures.1,
-  c.store.ensures.2 c.args.h refl
-      ∙ ap (λ (l : List Held).
-      let m : Sat = (record u { claims = l }, c.args.seat.now.me.1) in
-      m) (removed_only held.0 c.args.h u.claims held.1.0 held.1.1),
-)
+returns c x ho = let u = c.args.seat.now.me.0 in
+    let z = c.store.ensures.2 x (has_only x u.claims ho.0) (ap (λ (h : ℕ). 1 + h) (sym ho.1)) in (
+      c.store.ensures.0,
+      c.store.ensures.1,
+      z ∙ ap (λ (l : List Held).
+          let m : Sat = (
+            record u {
+              claims = l;
+              seen = version_seen x.handle x.version x.len x.old ∷ u.seen;
+            },
+            c.args.seat.now.me.1,
+          ) in
+          m) (removed_only x x.handle u.claims ho.0 refl),
+    )
