@@ -1,5 +1,5 @@
 -- A run by threads: what was told, and what the runtime was closed with.
-use Rattle.std.proofs.Common.{◌≡◌, ℕ, ◌≤◌, List, [], ◌∷◌, Result, Ok, Err, sym, ap, ◌∙◌, subst}
+use Rattle.std.proofs.Common.{◌≡◌, ℕ, ◌≤◌, List, [], ◌∷◌, length, Result, Ok, Err, sym, ap, ◌∙◌, subst}
 use Rattle.std.specs.Prelude.{IfOk, map}
 use Rattle.std.specs.List.{AllByRecursion}
 use Rattle.cb_member.specs.declared.no_memory.NoMemory.{NoMemory}
@@ -40,7 +40,7 @@ use Rattle.cb_app.proofs.Lanes.{by_lane_all}
 use Rattle.cb_app.proofs.OneToOne.{one_to_one}
 use Rattle.cb_app.proofs.UpheldTold.{all_upheld}
 use Rattle.cb_app.proofs.WorkCounted.{counts_workers}
-use Rattle.cb_app.proofs.WornTold.{answers_worn}
+use Rattle.cb_app.proofs.WornTold.{answers_worn, few_answers}
 
 -- what the lines may be in threads, the answered ones may be
 run_lines : (answers : List Answer) → AreInMode modes.Threads (map asked answers)
@@ -50,7 +50,7 @@ run_lines (a ∷ answers) fits = (fits.0, run_lines answers fits.1)
 
 -- What a closed record, and answers that it backs, tell of epochs, losses, room and what is worn.
 pub is_run : (script : Script) (end : ThreadsEnd) → AreInMode modes.Threads script.lines
-    → AreLines script.config.nodes [] script.lines
+    → length script.lines ≤ 20000 → AreLines script.config.nodes [] script.lines
     → map asked end.answers ≡ by_lane script.lines → AllByRecursion HasLineReply end.answers
     → sealed_world end.seal ≡ end.world
     → IsClosed Did 1 script.config (sealed_record end.seal) end.world
@@ -59,7 +59,7 @@ pub is_run : (script : Script) (end : ThreadsEnd) → AreInMode modes.Threads sc
     → RiseWith (sealed_record end.seal) [] end.answers → AreScoped [] end.answers
     → AreLosses end.losses end.answers
     → ((w : Worker) → script.config.turns ≤ work_in w (sealed_record end.seal)) → IsRun script end
-is_run script end mode are lines replies seal closed backs suits rises scopes losses work =
+is_run script end mode few are lines replies seal closed backs suits rises scopes losses work =
     let c = script.config in
     let ok : IsAccepted c = subst IsAccepted closed.settings closed.sound.config in
     let v = sealed_record end.seal in
@@ -84,14 +84,15 @@ is_run script end mode are lines replies seal closed backs suits rises scopes lo
       epochs = are_epochs 1 c ok v far.counts.turns far closed.turns end.answers replies backs;
       lost = answers_lost 1 c ok v far.counts.turns far closed.turns end.answers backs end.losses losses;
       room = answers_room 1 c ok v far.counts.turns far closed.turns end.answers backs replies runs;
-      worn = answers_worn 1 c v far.counts.turns far closed.turns end.answers replies runs backs;
+      worn = answers_worn c v end.world closed end.answers replies runs backs
+          (few_answers script.lines end.answers few lines);
       workers = counts_workers 1 c ok v far.counts.turns far closed.turns c.turns work;
     }
 
 module _ (script : Script) (mode : AreInMode modes.Threads script.lines) (shared : Shared)
     (pass : Pass)
     (begun : IsBegun 1 script.config shared pass) (told : LaneEnd)
-    (are : AreLines script.config.nodes [] script.lines)
+    (few : length script.lines ≤ 20000) (are : AreLines script.config.nodes [] script.lines)
     (is_told : IsTold shared [] (by_lane script.lines) told)
     (work : (w : Worker) → shared.config.turns ≤ work_in w (record_of told.pass)) where
   -- the record of the pass that closed
@@ -111,7 +112,7 @@ module _ (script : Script) (mode : AreInMode modes.Threads script.lines) (shared
       → IsRun script end
   ran end answers closed losses =
       let same : sealed_record end.seal ≡ closing = closed.view in
-      is_run script end mode are
+      is_run script end mode few are
       (ap (λ (l : List Answer). map asked l) answers ∙ is_told.lines_are)
       (subst (AllByRecursion HasLineReply) (sym answers) is_told.replies) closed.world
       (subst (λ (v : View). IsClosed Did 1 script.config v end.world) (sym same)

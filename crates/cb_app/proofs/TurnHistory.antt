@@ -99,7 +99,7 @@ module _ (first : ℕ) (c : Config) (v : View) (count : ℕ) (last : FarState)
 
   pub each_goes : IsAccepted c → (t : Turn) → Has t v.turns → TurnGoes c t
   each_goes ok t there =
-      turn_goes c ok t (one.sound t (made t there)).1.configured (one.did t (made t there))
+      turn_goes c ok t (one.sound t (made t there)).configured (one.did t (made t there))
 
   pub number_of : (t : Turn) → Has t v.turns → HasNumber count t
   number_of t there = one.numbers t (made t there)

@@ -1,5 +1,5 @@
 -- Worked examples: what a script by threads leaves, and which ending it has.
-use Rattle.std.proofs.Common.{◌≡◌, ℕ, List, [], ◌∷◌, Some, None, refl, sym, ap, ◌∙◌, map, subst, arith}
+use Rattle.std.proofs.Common.{◌≡◌, ℕ, List, [], ◌∷◌, Some, None, refl, sym, ap, ◌∙◌, map, subst, arith, lit≤}
 use Rattle.std.specs.List.Sorted.{IsPermutation}
 use Rattle.std.proofs.lemmas.List.Sorted.{IsPermutation-refl}
 use Rattle.cb_types.specs.declared.answer.Answer.{Answer}
@@ -73,7 +73,7 @@ module _ (c : Config) (seal : Seal) (closed : IsClosed Did 1 c (sealed_record se
 
   is_run : IsRun (script c (leave ∷ [])) (end (answer (Left 0) ∷ []))
   is_run = ran (script c (leave ∷ [])) (end (answer (Left 0) ∷ [])) (λ is. is, tt)
-      (are_lines c.nodes) refl (tt, tt) refl closed backs (tt, tt) (λ all more last. (tt, (tt, tt)))
+      (lit≤ tt) (are_lines c.nodes) refl (tt, tt) refl closed backs (tt, tt) (λ all more last. (tt, (tt, tt)))
       (λ one. (refl, tt)) (no_losses (answer (Left 0) ∷ []) refl) (λ w. omega (arith, none))
 
   a_pin_that_was_not_taken : IsRun (script c (leave ∷ [])) (end (answer (Left 1) ∷ [])) → ⊥

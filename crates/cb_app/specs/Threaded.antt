@@ -59,9 +59,8 @@ pub record IsRun (script : Script) (end : ThreadsEnd) : Type 0 where
   -- where there was no room, too few spans were loose or too few nodes had room; and where an
   -- eviction tells of the one or the other, there were too few of these
   pub room : AllByRecursion (λ a. TellsRoom script.config a.reply) end.answers
-  -- no answer but to a write or a free is Worn, unless 2^40 turns were counted
-  pub worn : AllByRecursion (λ a. TellsWorn end.world.far.counts.turns a.request a.reply)
-      end.answers
+  -- no answer is Worn, unless 2^40 turns were counted
+  pub worn : AllByRecursion (λ a. TellsWorn end.world.far.counts.turns a.reply) end.answers
   -- the workers made as many turns as are configured
   pub workers : CountsWorkers script.config.turns end.world.far
 
