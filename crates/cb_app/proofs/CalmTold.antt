@@ -40,14 +40,15 @@ use Rattle.cb_record.specs.Told.{tolds}
 use Rattle.cb_record.specs.Upheld.{IsUpheld, Upholds}
 use Rattle.cb_shared.specs.Turning.{Did}
 use Rattle.cb_shared.specs.Calls.{may_come_loose}
+use Rattle.cb_lanes.specs.AloneUntil.{is_lack}
 use Rattle.cb_lanes.specs.Asked.{HasLineReply, asked}
 use Rattle.cb_lanes.specs.LastTries.{HasLastTry, IsLastTry}
 use Rattle.cb_lanes.specs.Lost.{losses_of}
 use Rattle.cb_lanes.proofs.Laws.{crashed_count, crashed_nodes, enough_beside}
 use Rattle.cb_app.specs.ByLane.{by_lane}
-use Rattle.cb_app.specs.Calm.{IsCalmTo, MayFindMoving, MayFindWorn}
+use Rattle.cb_app.specs.Calm.{IsCalmTo, MayFindMoving}
 use Rattle.cb_app.specs.Crew.{part_of}
-use Rattle.cb_app.specs.Telling.{AreOfOtherNodes, MayBeWorn, TellsLost, TellsWorn}
+use Rattle.cb_app.specs.Telling.{AreOfOtherNodes, TellsLost, TellsWorn}
 use Rattle.cb_app.specs.Threaded.{AreLosses}
 use Rattle.cb_app.proofs.AnswersTold.{is_loss, room_turn}
 use Rattle.cb_app.proofs.CrashesTold.{found_crashes, room_told}
@@ -103,11 +104,6 @@ first_epoch (epoch ∷ later) some = (epoch, refl)
 calm_moving : (c : Config) (q : Request) → IsLastTry c q answer.Moving → MayFindMoving q
 calm_moving c (line.Filter name) last = tt
 calm_moving c q last = absurd last
-
-calm_worn : (turns : ℕ) (q : Request) → turns < 2 ^ 40 → MayBeWorn turns q → MayFindWorn q
-calm_worn turns (line.Write name at bytes) few may = tt
-calm_worn turns (line.Free name) few may = tt
-calm_worn turns q few may = absurd (omega (arith, few, may))
 
 last_loose : (c : Config) (q : Request) (frames loose nodes : ℕ)
     → IsReplyOf q (answer.NoRoom frames loose nodes)
@@ -166,7 +162,7 @@ module _ (first : ℕ) (s : Script) (ok : IsAccepted s.config) (v : View) (count
       let room = roomy.room in
       let least = few_nodes in
       let all = roomy.nodes in
-      enough_beside c k.0 t.took nodes k.1.sound k.1.configured
+      enough_beside c t.start t.took nodes k.sound k.configured
       (found_joins first c ok v count last one t there) (crashed t there)
       (omega (arith, made, room)) (omega (arith, least, all))
 
@@ -195,7 +191,7 @@ module _ (first : ℕ) (s : Script) (ok : IsAccepted s.config) (v : View) (count
   no_full h q number may upheld among = may
 
   calm_reply : (h : Option ℕ) (q : Request) (r : Reply) → IsReplyOf q r → IsLastTry c q r
-      → TellsWorn count q r → TellsLost c losses r
+      → TellsWorn count r → TellsLost c losses r
       → IsUpheld first c.handles (calls_of answers) v h (event_of q r)
       → Meets (part_of v) (need_of h q r) → is_full q r ≤ fulls answers → IsCalmTo q r
   calm_reply h q (answer.NoRoom frames loose nodes) may tried worn lost upheld meets among =
@@ -204,13 +200,13 @@ module _ (first : ℕ) (s : Script) (ok : IsAccepted s.config) (v : View) (count
       absurd (no_loss id ls lost)
   calm_reply h q (answer.Full number) may tried worn lost upheld meets among =
       absurd (no_full h q number may upheld among)
-  calm_reply h q answer.Worn may tried worn lost upheld meets among = calm_worn count q few worn
+  calm_reply h q answer.Worn may tried worn lost upheld meets among = absurd (omega (arith, few, worn))
   calm_reply h q answer.Moving may tried worn lost upheld meets among = calm_moving c q tried
   calm_reply h q r may tried worn lost upheld meets among = tt
 
   go : (before after : List Answer) → AllByRecursion HasLineReply after
       → AllByRecursion (HasLastTry c) after
-      → AllByRecursion (λ a. TellsWorn count a.request a.reply) after
+      → AllByRecursion (λ a. TellsWorn count a.reply) after
       → AllByRecursion (λ a. TellsLost c losses a.reply) after
       → AllByRecursion (Upholds first c.handles (calls_of answers) v) (calls_behind before after)
       → AllByRecursion (Tells (part_of v)) (tolds before after) → fulls after ≤ fulls answers
@@ -224,9 +220,23 @@ module _ (first : ℕ) (s : Script) (ok : IsAccepted s.config) (v : View) (count
   )
 
   pub all_calm : AllByRecursion HasLineReply answers → AllByRecursion (HasLastTry c) answers
-      → AllByRecursion (λ a. TellsWorn count a.request a.reply) answers
+      → AllByRecursion (λ a. TellsWorn count a.reply) answers
       → AllByRecursion (λ a. TellsLost c losses a.reply) answers
       → AllByRecursion (Upholds first c.handles (calls_of answers) v) (calls_of answers)
       → AllByRecursion (λ a. IsCalmTo a.request a.reply) answers
   all_calm replies tried worn lost upheld =
       go [] answers replies tried worn lost upheld backs.tells (omega arith)
+
+-- such a reply tells of no lack
+calm_lacks : (q : Request) (r : Reply) → IsCalmTo q r → is_lack r ≡ false
+calm_lacks q (answer.NoRoom frames loose nodes) calm = absurd calm
+calm_lacks q (answer.Unavailable id ls) calm = absurd calm
+calm_lacks q (answer.Full number) calm = absurd calm
+calm_lacks q answer.Worn calm = absurd calm
+calm_lacks q r calm = refl
+
+pub calm_lack_none : (answers : List Answer) → AllByRecursion (λ a. IsCalmTo a.request a.reply) answers
+    → AllByRecursion (λ a. is_lack a.reply ≡ false) answers
+calm_lack_none [] calm = tt
+calm_lack_none (a ∷ answers) calm =
+    (calm_lacks a.request a.reply calm.0, calm_lack_none answers calm.1)

@@ -33,6 +33,7 @@ mod EpochsTold
 mod CrashesTold
 mod AnswersTold
 mod NeverWorn
+mod WornLast
 mod WornTold
 mod MadeStays
 mod MadeTurns

@@ -29,7 +29,7 @@ use Rattle.cb_core.specs.OnceHere.{OnceHere, away, here}
 use Rattle.cb_core.specs.Parts.{Holding, WithRoom, at_once, no_room, won, not_far, was_far}
 use Rattle.cb_core.specs.Turned.{Brings, ComesIn, Does, Makes, Turned, WinsRoom, counted, done, worn}
 
-abbrev is_worn : Reply → Bool
+abbrev pub is_worn : Reply → Bool
 is_worn answer.Worn = true
 is_worn r = false
 
@@ -55,7 +55,7 @@ WritesNone (job.Join node) = Unit {0}
 WritesNone j = ⊥
 
 -- ---- one operation
-absent : (q : State) (h : ℕ) (es : List Event) (r : Reply) → AbsentAs q h es r → Unworn r
+pub absent : (q : State) (h : ℕ) (es : List Event) (r : Reply) → AbsentAs q h es r → Unworn r
 absent word.Empty h es r (v, told, e) = by v e
   where
     by : (v : ℕ) → EmptyAnswer v r → Unworn r
@@ -148,7 +148,7 @@ module _ {D : Type 0} (run : D → List Event → D → Type 0) (shows : D → S
   abbrev Hold : Type 0
   Hold = Holding D
 
-  brings : (h : ℕ) (a b : Hold) (r : Reply) → Brings run shows c h a r b → Unworn r
+  pub brings : (h : ℕ) (a b : Hold) (r : Reply) → Brings run shows c h a r b → Unworn r
   brings h a b r (at_once (home, at, x) never) =
       swap_rule home.set home.position a.far b.far r x.events x.rule
   brings h a b r (no_room m why loose nodes x evict e) =

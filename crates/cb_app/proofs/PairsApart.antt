@@ -38,9 +38,8 @@ module _ (first : ℕ) (c : Config) (ok : IsAccepted c) (v : View) (count : ℕ)
   step : (t : Turn) → Has t v.turns → turn_number t < count → Joins (turn_number t) t.took
       → Joins (suc (turn_number t)) t.gave
   step t there low before =
-      let k = one.sound t (v, (0, refl), there) in
       joins_after t.took t.gave (each_goes first c v count last one ok t there).pair
-      (fine_of c k.0 t.took k.1).apart before
+      (fine_of c t.start t.took (one.sound t (v, (0, refl), there))).apart before
 
   pub found_joins : (t : Turn) → Has t v.turns → JoinsApart t.took
   found_joins t there = at_turn first c v count last one Joins start step t there

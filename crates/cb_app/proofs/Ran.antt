@@ -1,5 +1,5 @@
 -- A run by threads: what was told, and what the runtime was closed with.
-use Rattle.std.proofs.Common.{◌≡◌, ℕ, ◌≤◌, List, [], ◌∷◌, Result, Ok, Err, refl, sym, ap, ◌∙◌, subst}
+use Rattle.std.proofs.Common.{◌≡◌, ℕ, ◌^◌, ◌<◌, ◌≤◌, List, [], ◌∷◌, length, Result, Ok, Err, refl, sym, ap, ◌∙◌, subst}
 use Rattle.std.specs.Prelude.{IfOk, map}
 use Rattle.std.specs.List.{AllByRecursion}
 use Rattle.cb_member.specs.declared.no_memory.NoMemory.{NoMemory}
@@ -9,6 +9,7 @@ use Rattle.cb_types.specs.Config.{IsAccepted}
 use Rattle.cb_world.specs.World.{WorldState}
 use Rattle.cb_script.specs.Form.{AreInMode, AreLines, FitsMode}
 use Rattle.cb_script.specs.Phrase.{phrase_of}
+use Rattle.cb_script.specs.Roomy.{IsRoomy}
 use Rattle.cb_script.specs.declared.script.Mode.TheVariants as modes
 use Rattle.cb_script.specs.declared.script.Script.{Script}
 use Rattle.cb_rule.specs.declared.view.View.{View}
@@ -25,19 +26,22 @@ use Rattle.cb_shared.specs.Passes.{IsBegun, record_of}
 use Rattle.cb_shared.specs.Sealing.{sealed_record, sealed_world}
 use Rattle.cb_shared.specs.Turning.{Did}
 use Rattle.cb_lanes.specs.declared.body.LaneEnd.{LaneEnd}
+use Rattle.cb_lanes.specs.Alone.{HasOwnLines, fresh_lane}
+use Rattle.cb_lanes.specs.AloneUntil.{KeepAloneUntil}
 use Rattle.cb_lanes.specs.Asked.{HasLineReply, asked}
 use Rattle.cb_lanes.specs.LastTries.{HasLastTry}
 use Rattle.cb_lanes.specs.Scoped.{AreScoped}
 use Rattle.cb_lanes.specs.Suits.{AreSuited}
-use Rattle.cb_lanes.proofs.Laws.{freed_last}
+use Rattle.cb_lanes.proofs.Laws.{freed_last, keep_alone, none_lacks}
 use Rattle.cb_shared.proofs.Laws.{makes_first}
 use Rattle.cb_app.specs.ByLane.{by_lane}
+use Rattle.cb_app.specs.Calm.{IsCalmTo}
 use Rattle.cb_workers.specs.declared.worker.Worker.{Worker}
 use Rattle.cb_app.specs.Crew.{IsTold, RiseWith, part_of, work_in}
 use Rattle.cb_app.specs.OwnLines.{AreAllOf, KeepAloneWith}
 use Rattle.cb_app.specs.Threaded.{AreLosses, IsRun}
 use Rattle.cb_app.specs.declared.threads.ThreadsEnd.{ThreadsEnd}
-use Rattle.cb_app.proofs.CalmTold.{all_calm}
+use Rattle.cb_app.proofs.CalmTold.{all_calm, calm_lack_none}
 use Rattle.cb_app.proofs.AnswersTold.{InThreads, answers_lost, answers_room}
 use Rattle.cb_app.proofs.EpochsTold.{are_epochs}
 use Rattle.cb_app.proofs.Lanes.{by_lane_all}
@@ -45,7 +49,7 @@ use Rattle.cb_app.proofs.LanesAlone.{alone_unpinned, part_of_itself}
 use Rattle.cb_app.proofs.OneToOne.{one_to_one}
 use Rattle.cb_app.proofs.UpheldTold.{all_upheld}
 use Rattle.cb_app.proofs.WorkCounted.{counts_workers}
-use Rattle.cb_app.proofs.WornTold.{answers_worn}
+use Rattle.cb_app.proofs.WornTold.{answers_worn, few_answers}
 
 -- what the lines may be in threads, the answered ones may be
 run_lines : (answers : List Answer) → AreInMode modes.Threads (map asked answers)
@@ -55,7 +59,7 @@ run_lines (a ∷ answers) fits = (fits.0, run_lines answers fits.1)
 
 -- What a closed record, and answers that it backs, tell of epochs, losses, room and what is worn.
 pub is_run : (script : Script) (end : ThreadsEnd) → AreInMode modes.Threads script.lines
-    → AreLines script.config.nodes [] script.lines
+    → length script.lines ≤ 20000 → AreLines script.config.nodes [] script.lines
     → map asked end.answers ≡ by_lane script.lines → AllByRecursion HasLineReply end.answers
     → AllByRecursion (HasLastTry script.config) end.answers → sealed_world end.seal ≡ end.world
     → IsClosed Did 1 script.config (sealed_record end.seal) end.world
@@ -65,7 +69,8 @@ pub is_run : (script : Script) (end : ThreadsEnd) → AreInMode modes.Threads sc
     → KeepAloneWith script.config.nodes (sealed_record end.seal) [] end.answers
     → AreLosses end.losses end.answers
     → ((w : Worker) → script.config.turns ≤ work_in w (sealed_record end.seal)) → IsRun script end
-is_run script end mode are lines replies last seal closed backs suits rises scopes alone losses work =
+is_run script end mode few are lines replies last seal closed backs suits rises scopes alone losses
+    work =
     let c = script.config in
     let ok : IsAccepted c = subst IsAccepted closed.settings closed.sound.config in
     let v = sealed_record end.seal in
@@ -74,7 +79,12 @@ is_run script end mode are lines replies last seal closed backs suits rises scop
     let runs = run_lines end.answers (subst (AreInMode modes.Threads) (sym lines)
     (by_lane_all (λ l. FitsMode (phrase_of l.request) modes.Threads) script.lines mode)) in
     let lost = answers_lost 1 c ok v far.counts.turns far closed.turns end.answers backs end.losses losses in
-    let worn = answers_worn 1 c v far.counts.turns far closed.turns end.answers replies runs backs in
+    let worn = answers_worn c v end.world closed end.answers replies runs backs
+    (few_answers script.lines end.answers few lines) in
+    let calm : IsRoomy script → far.counts.turns < 2 ^ 40
+        → AllByRecursion (λ a. IsCalmTo a.request a.reply) end.answers =
+        (λ roomy under. all_calm 1 script ok v far.counts.turns far closed.turns end.answers backs
+            end.losses losses are lines roomy under replies last worn lost upheld) in
     let never = rises v (λ h n freed has. has) (freed_last 1 v closed.entries) in
     let legal : IsLegal 1 c.handles end.answers =
     legal_of_backed 1 c.handles v end.answers closed.entries closed.calm backs upheld never.1 in
@@ -89,6 +99,10 @@ is_run script end mode are lines replies last seal closed backs suits rises scop
       makes = λ t there bytes handle version job reply.
           (makes_first 1 c v end.world closed t there bytes handle version job reply).1;
     } in
+    let until : (lane : ℕ) → HasOwnLines script.lines lane
+        → KeepAloneUntil script.lines lane fresh_lane end.answers =
+        (λ lane own. alone script.lines end.answers v whole (part_of_itself v) (λ a there. there)
+            lane own refl) in
     record {
       lines = lines;
       replies = replies;
@@ -99,21 +113,23 @@ is_run script end mode are lines replies last seal closed backs suits rises scop
       legal = legal;
       holds = has_last Did 1 c v end.world closed c.handles end.answers backs upheld;
       scopes = scopes one;
-      until = λ lane own. alone script.lines end.answers v whole (part_of_itself v) (λ a there. there) lane own refl;
+      until = until;
       losses = losses;
       epochs = are_epochs 1 c ok v far.counts.turns far closed.turns end.answers replies backs;
       lost = lost;
       room = answers_room 1 c ok v far.counts.turns far closed.turns end.answers backs replies runs;
       worn = worn;
-      calm = λ roomy few. all_calm 1 script ok v far.counts.turns far closed.turns end.answers backs
-          end.losses losses are lines roomy few replies last worn lost upheld;
+      calm = calm;
+      alone = λ roomy under lane own. keep_alone script.lines lane fresh_lane end.answers
+          (none_lacks script.lines lane end.answers (calm_lack_none end.answers (calm roomy under)))
+          (until lane own);
       workers = counts_workers 1 c ok v far.counts.turns far closed.turns c.turns work;
     }
 
 module _ (script : Script) (mode : AreInMode modes.Threads script.lines) (shared : Shared)
     (pass : Pass)
     (begun : IsBegun 1 script.config shared pass) (told : LaneEnd)
-    (are : AreLines script.config.nodes [] script.lines)
+    (few : length script.lines ≤ 20000) (are : AreLines script.config.nodes [] script.lines)
     (is_told : IsTold shared [] (by_lane script.lines) told)
     (work : (w : Worker) → shared.config.turns ≤ work_in w (record_of told.pass)) where
   -- the record of the pass that closed
@@ -133,7 +149,7 @@ module _ (script : Script) (mode : AreInMode modes.Threads script.lines) (shared
       → IsRun script end
   ran end answers closed losses =
       let same : sealed_record end.seal ≡ closing = closed.view in
-      is_run script end mode are
+      is_run script end mode few are
       (ap (λ (l : List Answer). map asked l) answers ∙ is_told.lines_are)
       (subst (AllByRecursion HasLineReply) (sym answers) is_told.replies)
       (subst (AllByRecursion (HasLastTry script.config)) (sym answers)

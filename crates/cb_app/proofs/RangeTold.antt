@@ -204,7 +204,7 @@ module _ (first : ℕ) (v : View) (entries : EntriesStand first (v ∷ [])) (qui
   only u (zero, e) = sym (some-injective v u e)
   only u (suc j, e) = absurd (some-ne-none u (sym e))
 
-  written : (e : Entry) → Wrote (v ∷ []) e → Has e v.written
+  pub written : (e : Entry) → Wrote (v ∷ []) e → Has e v.written
   written e w = subst (λ (fs : List Entry). Has e (fs ++ v.written)) quiet
       (subst (λ (u : View). Has e (u.fresh ++ u.written)) (only w.0 w.1) w.2)
 

@@ -104,8 +104,8 @@ module _ (first : ℕ) (c : Config) (v : View) (count : ℕ) (last : FarState)
 
   pub each_goes : IsAccepted c → (t : Turn) → Has t v.turns → TurnGoes c t
   each_goes ok t there =
-      let k = one.sound t (made t there) in
-      turn_goes c ok t (fine_of c k.0 t.took k.1) (one.did t (made t there))
+      turn_goes c ok t (fine_of c t.start t.took (one.sound t (made t there)))
+      (one.did t (made t there))
 
   pub number_of : (t : Turn) → Has t v.turns → HasNumber count t
   number_of t there = one.numbers t (made t there)

@@ -87,7 +87,7 @@ module _ (first : ℕ) (c : Config) (ok : IsAccepted c) (v : View) (count : ℕ)
 
   counts : (t : Turn) → Has t v.turns → Counts t.job t.took t.gave
   counts t there = let z = one.sound t (v, (0, refl), there) in
-      did_counts c ok t.job t.reply t.start t.acts t.took t.gave z.1.configured z.0 z.1.sound
+      did_counts c ok t.job t.reply t.start t.acts t.took t.gave z.configured t.start z.sound
       (one.did t (v, (0, refl), there))
 
   step : (t : Turn) → Has t v.turns → turn_number t < count → Counted (turn_number t) t.took
@@ -95,7 +95,7 @@ module _ (first : ℕ) (c : Config) (ok : IsAccepted c) (v : View) (count : ℕ)
   step t there low before k inside = by (counts t there)
     where
       sized : length (kinds t.took) ≡ 19
-      sized = (one.sound t (v, (0, refl), there)).1.counted.kinds
+      sized = (one.sound t (v, (0, refl), there)).counted.kinds
 
       by : Counts t.job t.took t.gave
           → slice_index (kinds t.gave) k ≡ total (below turn_number (weight k) (suc (turn_number t))) v.turns

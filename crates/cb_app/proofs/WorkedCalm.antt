@@ -1,7 +1,7 @@
 -- Worked replies to lines of a roomy script in threads, and what breaks each part alone.
 use Rattle.std.proofs.Common.{[]}
 use Rattle.cb_types.specs.declared.reply.Reply.TheVariants.{Freed, Full, Moving, NoNodes, NoRoom, Unavailable, Worn}
-use Rattle.cb_types.specs.declared.request.Request.TheVariants.{Evict, Filter, Free, Make, Read, Write}
+use Rattle.cb_types.specs.declared.request.Request.TheVariants.{Evict, Filter, Make, Read, Write}
 use Rattle.cb_app.specs.Calm.{IsCalmTo}
 
 calm : IsCalmTo (Read []) Freed
@@ -27,12 +27,9 @@ filter_moving = tt
 read_moving : IsCalmTo (Read []) Moving → ⊥
 read_moving is = is
 
--- a write and a free may be worn, and no other line
-write_worn : IsCalmTo (Write [] 0 []) Worn
-write_worn = tt
+-- no line is worn, a filter line neither
+write_worn : IsCalmTo (Write [] 0 []) Worn → ⊥
+write_worn is = is
 
-free_worn : IsCalmTo (Free []) Worn
-free_worn = tt
-
-make_worn : IsCalmTo (Make [] []) Worn → ⊥
-make_worn is = is
+filter_worn : IsCalmTo (Filter []) Worn → ⊥
+filter_worn is = is

@@ -1,5 +1,5 @@
 -- Worked examples: what a script by threads leaves, and which ending it has.
-use Rattle.std.proofs.Common.{◌≡◌, ℕ, List, [], ◌∷◌, Some, None, refl, sym, ap, ◌∙◌, map, subst, arith}
+use Rattle.std.proofs.Common.{◌≡◌, ℕ, List, [], ◌∷◌, Some, None, refl, sym, ap, ◌∙◌, map, subst, arith, lit≤}
 use Rattle.std.specs.Prelude.{nat_eq}
 use Rattle.std.specs.List.Sorted.{IsPermutation}
 use Rattle.std.proofs.lemmas.List.Sorted.{IsPermutation-refl}
@@ -74,7 +74,7 @@ module _ (c : Config) (seal : Seal) (closed : IsClosed Did 1 c (sealed_record se
 
   is_run : IsRun (script c (leave ∷ [])) (end (answer (Left 0) ∷ []))
   is_run = ran (script c (leave ∷ [])) (end (answer (Left 0) ∷ [])) (λ is. is, tt)
-      (are_lines c.nodes) refl (tt, tt) (refl, tt) refl closed backs (tt, tt)
+      (lit≤ tt) (are_lines c.nodes) refl (tt, tt) (refl, tt) refl closed backs (tt, tt)
       (λ all more last. (tt, (tt, tt))) (λ one. (refl, tt))
       (λ lines all w whole part among n own same room.
       (λ mine. absurd (on_no_name (nat_eq 2 n) mine), tt))

@@ -110,24 +110,14 @@ nodes_short = omega arith
 nodes_enough : TellsRoom small (NoNodes 3) → ⊥
 nodes_enough few = omega (arith, few)
 
--- ---- worn: a read and a crash, once 2^40 turns were counted, and before; a write and a free at any
--- time
-worn_read : TellsWorn (2 ^ 40) (Read []) Worn
-worn_read = omega arith
+-- ---- worn: once 2^40 turns were counted, and before
+worn_at_last : TellsWorn (2 ^ 40) Worn
+worn_at_last = omega arith
 
-worn_too_early : TellsWorn (2 ^ 40 - 1) (Read []) Worn → ⊥
+worn_too_early : TellsWorn (2 ^ 40 - 1) Worn → ⊥
 worn_too_early last = omega (arith, last)
 
-worn_crash_too_early : TellsWorn 7 (Crash (record { n = 0 })) Worn → ⊥
-worn_crash_too_early last = omega (arith, last)
-
-worn_write : TellsWorn 7 (Write [] 0 []) Worn
-worn_write = tt
-
-worn_free : TellsWorn 7 (Free []) Worn
-worn_free = tt
-
-not_worn : TellsWorn 7 (Read []) Freed
+not_worn : TellsWorn 7 Freed
 not_worn = tt
 
 -- ---- workers: what was counted of their jobs, from the filter's on

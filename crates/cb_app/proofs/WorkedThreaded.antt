@@ -1,6 +1,6 @@
 -- Worked examples: what `threads` leaves and puts for a script of two lanes, and for each part what
 -- breaks it.
-use Rattle.std.proofs.Common.{◌≡◌, ℕ, ◌<◌, ◌≤◌, Bool, false, true, List, [], ◌∷◌, length, map, Some, None, refl, sym, ap, ◌∙◌, subst, arith, inl, inr, String, Global}
+use Rattle.std.proofs.Common.{◌≡◌, ℕ, ◌<◌, ◌≤◌, Bool, false, true, List, [], ◌∷◌, length, map, Some, None, refl, sym, ap, ◌∙◌, subst, arith, inl, inr, String, Global, lit≤}
 use Rattle.std.specs.Prelude.{nat_eq, codes, string_bytes}
 use Rattle.std.specs.List.{range_with_len}
 use Rattle.std.specs.Fmt.{digits}
@@ -192,8 +192,8 @@ module _ (t : Turn) (world : WorldState) (seal : Seal) where
   run there =
       let record_is : sealed_record seal ≡ view_of (evicting t ∷ []) =
       ap (λ (x : Sealed). x.view) there.under in
-      is_run script (told_of world seal answers []) spelled.allowed are_lines refl (tt, (tt, tt))
-      (refl, (refl, tt))
+      is_run script (told_of world seal answers []) spelled.allowed (lit≤ tt) are_lines refl
+      (tt, (tt, tt)) (refl, (refl, tt))
       (ap (λ (x : Sealed). x.world) there.under)
       (subst (λ (v : View). IsClosed Did 1 small v world) (sym record_is) there.closed)
       (subst (λ (v : View). Backs (part_of v) (tolds [] answers)) (sym record_is) backs)

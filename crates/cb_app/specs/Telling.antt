@@ -10,8 +10,6 @@ use Rattle.cb_types.specs.declared.job.Job.{Job}
 use Rattle.cb_types.specs.declared.job.Job.TheVariants as job
 use Rattle.cb_types.specs.declared.reply.Reply.{Reply}
 use Rattle.cb_types.specs.declared.reply.Reply.TheVariants.{EpochAt, NoNodes, NoRoom, NoSpans, Unavailable, Worn}
-use Rattle.cb_types.specs.declared.request.Request.{Request}
-use Rattle.cb_types.specs.declared.request.Request.TheVariants.{Free, Write}
 use Rattle.cb_types.specs.Jobs.{job_index}
 use Rattle.cb_world.specs.FarState.{FarState}
 use Rattle.cb_workers.specs.Rules.{visit}
@@ -56,17 +54,10 @@ TellsRoom c (NoSpans loose) = loose < c.k
 TellsRoom c (NoNodes nodes) = nodes < c.k + c.r
 TellsRoom c reply = Unit {0}
 
--- where such a line may be answered Worn, when so many turns were counted: where 2^40 were; of a
--- write and of a free nothing is said, whose object may have its last version
-abbrev pub MayBeWorn : ℕ → Request → Type 0
-MayBeWorn turns (Write name at bytes) = Unit {0}
-MayBeWorn turns (Free name) = Unit {0}
-MayBeWorn turns request = 2 ^ 40 ≤ turns
-
--- a line is answered Worn only where it may be
-abbrev pub TellsWorn : ℕ → Request → Reply → Type 0
-TellsWorn turns request Worn = MayBeWorn turns request
-TellsWorn turns request reply = Unit {0}
+-- a line is answered Worn only where so many turns were counted: 2^40
+abbrev pub TellsWorn : ℕ → Reply → Type 0
+TellsWorn turns Worn = 2 ^ 40 ≤ turns
+TellsWorn turns reply = Unit {0}
 
 -- how many turns with a job of this kind were counted
 abbrev pub counted_as : FarState → Job → ℕ

@@ -15,7 +15,7 @@ use Rattle.cb_record.specs.Told.{tolds}
 use Rattle.cb_record.specs.Upheld.{Upholds}
 use Rattle.cb_shared.specs.Sealing.{sealed_record, sealed_world}
 use Rattle.cb_shared.specs.Turning.{Did}
-use Rattle.cb_lanes.specs.Alone.{HasOwnLines, fresh_lane}
+use Rattle.cb_lanes.specs.Alone.{HasOwnLines, KeepAlone, fresh_lane}
 use Rattle.cb_lanes.specs.AloneUntil.{KeepAloneUntil}
 use Rattle.cb_lanes.specs.Asked.{HasLineReply, asked}
 use Rattle.cb_lanes.specs.Lost.{losses_of}
@@ -67,13 +67,14 @@ pub record IsRun (script : Script) (end : ThreadsEnd) : Type 0 where
   -- where there was no room, too few spans were loose or too few nodes had room; and where an
   -- eviction tells of the one or the other, there were too few of these
   pub room : AllByRecursion (λ a. TellsRoom script.config a.reply) end.answers
-  -- no answer but to a write or a free is Worn, unless 2^40 turns were counted
-  pub worn : AllByRecursion (λ a. TellsWorn end.world.far.counts.turns a.request a.reply)
-      end.answers
+  -- no answer is Worn, unless 2^40 turns were counted
+  pub worn : AllByRecursion (λ a. TellsWorn end.world.far.counts.turns a.reply) end.answers
   -- on a roomy script, where fewer than 2^40 turns were counted, no line is told of a want of room
-  -- or of a loss
+  -- or of a loss, and the own lines of each lane are answered as if the lane were alone
   pub calm : IsRoomy script → end.world.far.counts.turns < 2 ^ 40
       → AllByRecursion (λ a. IsCalmTo a.request a.reply) end.answers
+  pub alone : IsRoomy script → end.world.far.counts.turns < 2 ^ 40 → (lane : ℕ)
+      → HasOwnLines script.lines lane → KeepAlone script.lines lane fresh_lane end.answers
   -- the workers made as many turns as are configured
   pub workers : CountsWorkers script.config.turns end.world.far
 

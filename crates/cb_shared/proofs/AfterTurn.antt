@@ -5,7 +5,7 @@ use Rattle.atomic_table.specs.Seated.{TableId}
 use Rattle.cb_member.specs.declared.no_memory.NoMemory.{NoMemory}
 use Rattle.cb_types.specs.declared.config.Config.{Config}
 use Rattle.cb_types.specs.declared.job.Job.{Job}
-use Rattle.cb_types.specs.declared.job.Job.TheVariants.{Write, Free}
+use Rattle.cb_types.specs.declared.job.Job.TheVariants.{Filter, Write, Free}
 use Rattle.cb_types.specs.declared.reply.Reply.{Reply}
 use Rattle.cb_types.specs.declared.reply.Reply.TheVariants as answer
 use Rattle.cb_world.specs.declared.entry.Entry.{Entry}
@@ -233,6 +233,8 @@ pins_counted known far n v (Write handle at bytes) (Ok r) counts =
 pins_counted known far n v (Write handle at bytes) (Err e) counts = tt
 pins_counted known far n v (Free handle) (Ok r) counts = told_taken known far n v handle.n r counts
 pins_counted known far n v (Free handle) (Err e) counts = tt
+pins_counted known far n v (Filter handle) (Ok r) counts = told_taken known far n v handle.n r counts
+pins_counted known far n v (Filter handle) (Err e) counts = tt
 pins_counted known far n v job r counts = tt
 
 -- the record of a pass at rest, from taking the lock to giving it back

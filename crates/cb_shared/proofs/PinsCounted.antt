@@ -1,4 +1,4 @@
--- A write or a free by a turn tells of its object: its reply is by the word that was found last, and
+-- A write, a free or a filter by a turn tells of its object: its reply is by the word that was found last, and
 -- each word that was found tells of the pins and of the last entry.
 use Rattle.std.proofs.Common.{◌≡◌, ◌≢◌, ℕ, zero, suc, ◌+◌, ◌-◌, ◌^◌, ◌≤◌, Bool, true, false, List, [], ◌∷◌, ◌++◌, length, Option, None, Some, Result, Ok, Err, sym, ap, ◌∙◌, subst, inl, inr, arith, refl, append_assoc}
 use Rattle.std.specs.Prelude.{nat_lt, ◌==◌, if◌then◌else◌}
@@ -9,7 +9,7 @@ use Rattle.cb_ptr.specs.Word.{state_of, len_of, pins_of}
 use Rattle.cb_types.specs.declared.config.Config.{Config}
 use Rattle.cb_types.specs.declared.handle.Handle.{Handle}
 use Rattle.cb_types.specs.declared.job.Job.{Job}
-use Rattle.cb_types.specs.declared.job.Job.TheVariants.{Write, Free}
+use Rattle.cb_types.specs.declared.job.Job.TheVariants.{Filter, Free, Write}
 use Rattle.cb_types.specs.declared.reply.Reply.{Reply}
 use Rattle.cb_types.specs.declared.reply.Reply.TheVariants as answer
 use Rattle.cb_world.specs.declared.entry.Entry.{Entry}
@@ -19,13 +19,14 @@ use Rattle.cb_world.specs.FarState.{FarState}
 use Rattle.cb_world.specs.Looks.{IsFound, IsLook}
 use Rattle.cb_world.specs.Played.{played}
 use Rattle.cb_world.specs.Written.{written_by}
+use Rattle.cb_filter.specs.FilterRule.{FilterAs}
 use Rattle.cb_mutate.specs.Answered.{AbsentAs, AnsweredAs}
 use Rattle.cb_mutate.specs.FreeRule.{FreeAs}
 use Rattle.cb_mutate.specs.JobWrites.{FreeWrites, WriteWrites}
 use Rattle.cb_mutate.specs.WriteRule.{NextVersion, WriteHere}
 use Rattle.cb_core.specs.Parts.{Holding, WhereItIs, near, declined, stays_far, brought}
 use Rattle.cb_core.specs.TurnLeaves.{OutcomeWrites}
-use Rattle.cb_core.specs.Turned.{Brings, Declines, Frees, IsDeclined, Turned, Writes, done, worn}
+use Rattle.cb_core.specs.Turned.{Brings, Declines, Filters, Frees, IsDeclined, Turned, Writes, done, worn}
 use Rattle.cb_rule.specs.declared.view.View.{View}
 use Rattle.cb_rule.specs.Seats.{pins_on}
 use Rattle.cb_rule.specs.Steps.{HasLast, TellsPins, act, acted}
@@ -143,6 +144,26 @@ module _ (v : View) (h : ℕ) where
       version_told n r next (bare w tells e none)
   free_told es r w state.Moving e tells is = subst (λ (q : Reply). PinsTold h q v) (sym is) tt
 
+  -- a filter, which tells neither a version nor an end
+  filter_told : (frames : ℕ) (far new : FarState) (es : List Event) (r : Reply) (w : ℕ) (q : State)
+      → state_of w ≡ q → TellsPins h w v → FilterAs q frames h w far new r es → PinsTold h r v
+  filter_told frames far new es r w state.Here e tells (inl (some, is, same)) =
+      pinned_told w r tells e some is
+  filter_told frames far new es r w state.Here e tells (inr (claimed, (seat, at, inl x))) =
+      subst (λ (q : Reply). PinsTold h q v) (sym x.reply) tt
+  filter_told frames far new es r w state.Here e tells (inr (claimed, (seat, at, inr (inl x)))) =
+      subst (λ (q : Reply). PinsTold h q v) (sym x.reply) tt
+  filter_told frames far new es r w state.Here e tells (inr (claimed, (seat, at, inr (inr (slot, x))))) =
+      subst (λ (q : Reply). PinsTold h q v) (sym x.reply) tt
+  filter_told frames far new es r w state.Empty e tells ((zero, told, is), same) =
+      subst (λ (q : Reply). PinsTold h q v) (sym is) tt
+  filter_told frames far new es r w state.Empty e tells ((suc n, told, is), same) =
+      subst (λ (q : Reply). PinsTold h q v) (sym is) tt
+  filter_told frames far new es r w state.Far e tells (is, same) =
+      subst (λ (q : Reply). PinsTold h q v) (sym is) tt
+  filter_told frames far new es r w state.Moving e tells (is, same) =
+      subst (λ (q : Reply). PinsTold h q v) (sym is) tt
+
   -- where it was declined it was answered neither
   abbrev pub Declined : Option Reply → Type 0
   Declined None = Unit {0}
@@ -168,6 +189,13 @@ module _ (v : View) (h : ℕ) where
   free_counts a b r all none x = let z = x.rule.reply in
       by_word h v a.desk b.desk x.events z.word r x.ran all z.found none
       (λ u tells. free_told u h x.events r z.word (state_of z.word) refl tells z.answer)
+
+  filter_counts : (c : Config) (a b : Holding Slate) (r : Reply) → SayPins b.desk.acts v
+      → Unwritten r b.desk.acts v → Filters slate_run slate_shows c h a r b → PinsTold h r v
+  filter_counts c a b r all none x = let z = x.rule in
+      by_word h v a.desk b.desk x.events z.word r x.ran all z.found none
+      (λ u tells. filter_told u h c.frames a.far b.far x.events r z.word (state_of z.word) refl tells
+      z.answer)
 
   declined_told : (at count : ℕ) (a b : Holding Slate) (r : Reply) → SayPins b.desk.acts v
       → Unwritten r b.desk.acts v → Declines slate_run slate_shows h at count a (Some r) b
@@ -215,6 +243,13 @@ free_turn c h r v a b all none (worn end is same ran) =
     subst (λ (q : Reply). PinsTold h.n q v) (sym is) tt
 free_turn c h r v a b all none (done few does) = free_counts v h.n _ b r all none does
 
+filter_turn : (c : Config) (h : Handle) (r : Reply) (v : View) (a b : Holding Slate)
+    → SayPins b.desk.acts v → Unwritten r b.desk.acts v
+    → Turned slate_run slate_shows ReadsByPin c (Filter h) a r b → PinsTold h.n r v
+filter_turn c h r v a b all none (worn end is same ran) =
+    subst (λ (q : Reply). PinsTold h.n q v) (sym is) tt
+filter_turn c h r v a b all none (done few does) = filter_counts v h.n c _ b r all none does
+
 pub counts_pins : (c : Config) (job : Job) (r : Result Reply NoMemory) (es : List Event)
     (more : List Entry) (took gave : FarState) (v : View)
     → DidAs c job (answer_of r) v.known es took gave → SayPins es v → OutcomeWrites job r more
@@ -227,4 +262,7 @@ counts_pins c (Free h) (Ok r) es more took gave v did all wrote fresh =
     free_turn c h r v (held_by v.known [] took) _ all
     (λ len e. fresh ∙ subst (λ (q : Reply). FreeWrites h.n q more) e wrote) did
 counts_pins c (Free h) (Err e) es more took gave v did all wrote fresh = tt
+counts_pins c (Filter h) (Ok r) es more took gave v did all wrote fresh =
+    filter_turn c h r v (held_by v.known [] took) _ all (λ len e. fresh ∙ wrote) did
+counts_pins c (Filter h) (Err e) es more took gave v did all wrote fresh = tt
 counts_pins c job r es more took gave v did all wrote fresh = tt

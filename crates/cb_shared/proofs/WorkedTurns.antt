@@ -210,7 +210,7 @@ told_long_by_others = λ alone. absurd (shared_part 1 alone)
 told_nothing : PinsTold 1 answer.Moving part_pinned
 told_nothing = tt
 
--- so of its object by a write and a free, and by no other job
+-- so of its object by a write, a free and a filter, and by no other job
 counts_by_a_write : CountsPins (job.Write one 0 (10 ∷ [])) (Ok (answer.Pinned 2)) part_pinned
 counts_by_a_write = told_two
 
@@ -223,12 +223,19 @@ writes_what_it_pins t = told_a_version_pinned t
 frees_what_it_pins : CountsPins (job.Free one) (Ok (answer.Version 4)) part_pinned → ⊥
 frees_what_it_pins t = told_a_version_pinned t
 
-counts_no_other : CountsPins (job.Filter one) (Ok (answer.Pinned 0)) part_pinned
+counts_by_a_filter : CountsPins (job.Filter one) (Ok (answer.Pinned 2)) part_pinned
+counts_by_a_filter = told_two
+
+filters_past_its_pins : CountsPins (job.Filter one) (Ok (answer.Pinned 1)) twice_pinned → ⊥
+filters_past_its_pins t = told_too_few t
+
+counts_no_other : CountsPins (job.Swap one) (Ok (answer.Pinned 0)) part_pinned
 counts_no_other = tt
 
 worn_counts : (j : Job) (v : View) → CountsPins j (Ok answer.Worn) v
 worn_counts (job.Write h at bytes) v = tt
 worn_counts (job.Free h) v = tt
+worn_counts (job.Filter h) v = tt
 worn_counts j v = tt
 
 -- ---- what a turn adds

@@ -3,7 +3,7 @@ use Rattle.std.specs.Prelude.{◌≡◌, ◌⊎◌, ℕ, ◌≤◌, List, [], �
 use Rattle.cb_member.specs.declared.no_memory.NoMemory.{NoMemory}
 use Rattle.cb_types.specs.declared.config.Config.{Config}
 use Rattle.cb_types.specs.declared.job.Job.{Job}
-use Rattle.cb_types.specs.declared.job.Job.TheVariants.{Make, Read, Write, Free}
+use Rattle.cb_types.specs.declared.job.Job.TheVariants.{Filter, Make, Read, Write, Free}
 use Rattle.cb_types.specs.declared.reply.Reply.{Reply}
 use Rattle.cb_types.specs.declared.reply.Reply.TheVariants as answer
 use Rattle.cb_world.specs.declared.entry.Entry.{Entry}
@@ -158,7 +158,7 @@ abbrev pub FindsFreed : Option ℕ → View → Part → Type 0
 FindsFreed (Some h) v d = FindsAtLast h found.Freed v d
 FindsFreed None v d = d ≡ nothing_more
 
--- What a write or a free tells of its object, by the word that it found last. It is answered Pinned
+-- What a write, a free or a filter tells of its object, by the word that it found last. It is Pinned
 -- where there are some pins: as many at least as the pass has on it, and these alone where no other
 -- pass has the object. A version is answered only where the pass has none. Range tells the length of
 -- the last entry, which the pass wrote where no other one has the object.
@@ -173,6 +173,7 @@ PinsTold h r v = Unit {0}
 abbrev pub CountsPins : Job → Result Reply NoMemory → View → Type 0
 CountsPins (Write handle at bytes) (Ok r) v = PinsTold handle.n r v
 CountsPins (Free handle) (Ok r) v = PinsTold handle.n r v
+CountsPins (Filter handle) (Ok r) v = PinsTold handle.n r v
 CountsPins job r v = Unit {0}
 
 -- the part of a turn: the turn, what it wrote, and what was read in it and after it
@@ -187,8 +188,8 @@ with_own made v = record v { own = made ++ v.own }
 -- What a turn adds to the record v of its pass. It stands there with its job, its reply, what was
 -- known when it began, its events, and the far states that it took and gave, which are those of one
 -- turn more. What it wrote is that of its reply, and new to the record: one above the greatest
--- version that the record has of an object that it knows and no other pass has. A write or a free
--- counts the pins. Each object of which the record has an entry had a version when it began. It is
+-- version that the record has of an object that it knows and no other pass has. A write, a free
+-- and a filter count the pins. Each object of which the record has an entry had a version when it began. It is
 -- answered Unavailable exactly where it is to be.
 pub record TurnAdds (c : Config) (job : Job) (r : Result Reply NoMemory) (v : View) (d : Part)
     : Type 0 where
