@@ -49,6 +49,7 @@ use Rattle.cb_workers.specs.Rules.{visit}
 use Rattle.cb_workers.specs.declared.worker.Worker.TheVariants as worker
 use Rattle.cb_cli.specs.declared.words.Command.TheVariants.{Threads}
 use Rattle.cb_cli.proofs.Laws.{lane_line}
+use Rattle.cb_lanes.specs.Alone.{HasOwnLines}
 use Rattle.cb_app.specs.Crew.{part_of}
 use Rattle.cb_app.specs.Modes.{Yields}
 use Rattle.cb_app.specs.Outcome.{IsDone}
@@ -246,6 +247,17 @@ module _ (t : Turn) (world : WorldState) (seal : Seal) where
 
   bytes_of_no_version : (s : Script) → IsRun s (told_of world seal read_others []) → ⊥
   bytes_of_no_version s is = absurd (let e : 2 ≡ 1 = ap first_byte is.legal.told.1.1.0 in omega (arith, e))
+
+  -- a lane's own write is answered as if another lane had written the object before it
+  abbrev behind_another : List Answer
+  behind_another = answer 1 2 (Make a (1 ∷ [])) (replies.Made (record { n = 0 }) 1)
+      ∷ answer 1 3 (Write a 0 (2 ∷ [])) (replies.Version 3) ∷ []
+
+  not_alone : IsRun (record script { lines = map asked behind_another }) (told_of world seal behind_another [])
+      → ⊥
+  not_alone is = absurd (let own : HasOwnLines (map asked behind_another) 1 =
+      record { from_one = omega arith; pins = refl } in
+      let e : replies.Version 3 ≡ replies.Version 2 = ((is.until 1 own refl).1 refl).0 refl in cc)
 
   -- an object has bytes in the world, and no answer is about it
   an_object_of_no_line : (v : ℕ) (bytes : List ℕ) → 0 < length world.desk.words

@@ -84,5 +84,6 @@ pub mod WorkedPins
 pub mod WorkedSays
 pub mod WorkedAlone
 pub mod WorkedAloneUntil
+pub mod WorkedLaneKeeps
 pub mod WorkedOwn
 pub mod Laws
