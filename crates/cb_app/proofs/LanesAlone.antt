@@ -1,6 +1,6 @@
 -- The own lines of lanes are answered as if each lane were alone, once all records are joined and the
 -- runtime is closed.
-use Rattle.std.proofs.Common.{◌≡◌, ◌⊎◌, ℕ, ◌≤◌, List, [], ◌∷◌, ◌++◌, map, Option, None, Some, inl, inr, refl, sym, ap, ◌∙◌, subst, arith}
+use Rattle.std.proofs.Common.{◌≡◌, ◌⊎◌, ℕ, ◌≤◌, List, [], ◌∷◌, ◌++◌, map, Option, Some, inl, inr, refl, sym, ap, ◌∙◌, subst, arith}
 use Rattle.std.specs.List.{AllByRecursion}
 use Rattle.std.proofs.lemmas.List.{append-nil}
 use Rattle.std.proofs.lemmas.List.Elements.{filter-append}
@@ -12,7 +12,6 @@ use Rattle.cb_types.specs.Requests.{name_of}
 use Rattle.cb_script.specs.declared.script.Line.{Line}
 use Rattle.cb_script.specs.Form.{IsMade, KnowsName, Makes}
 use Rattle.cb_world.specs.declared.entry.Entry.{Entry}
-use Rattle.cb_rule.specs.declared.turn.Turn.{Turn}
 use Rattle.cb_rule.specs.declared.view.Look.{Look}
 use Rattle.cb_rule.specs.declared.view.View.{View}
 use Rattle.cb_rule.specs.Lists.{Has}
@@ -26,18 +25,18 @@ use Rattle.cb_record.specs.Upheld.{as_part}
 use Rattle.cb_record.proofs.Laws.{has_left, has_right}
 use Rattle.cb_shared.specs.Joining.{unpinned_all}
 use Rattle.cb_lanes.specs.declared.body.Named.{Named}
-use Rattle.cb_lanes.specs.Alone.{HasOwnLines, fresh_lane, is_maker}
+use Rattle.cb_lanes.specs.Alone.{HasOwnLines, fresh_lane}
 use Rattle.cb_lanes.specs.AloneUntil.{AreShared, KeepAloneUntil, LaneKeepsAlone}
 use Rattle.cb_lanes.specs.Asked.{HasLineReply, asked}
-use Rattle.cb_lanes.specs.Bodies.{AreNamesOf, LaneGoes, handle_among}
+use Rattle.cb_lanes.specs.Bodies.{AreNamesOf, LaneGoes}
 use Rattle.cb_lanes.specs.KeepsOwn.{KeepsOwn}
 use Rattle.cb_lanes.specs.Scoped.{IsMadeAs}
 use Rattle.cb_lanes.specs.Suits.{AreSuited}
-use Rattle.cb_lanes.proofs.Laws.{AreOfLane, IsWithin, NoneOfLane, handle_is_made, lane_keeps_own, lane_own_made, made_request, maker_of, none_until, until_before, until_behind}
-use Rattle.cb_app.specs.ByLane.{AreOfOthers, Uses, by_lane, of_lane}
+use Rattle.cb_lanes.proofs.Laws.{AreOfLane, NoneOfLane, handle_is_made, lane_keeps_own, lane_own_made, made_request, maker_of, none_until, until_before, until_behind}
+use Rattle.cb_app.specs.ByLane.{AreOfOthers, Uses, of_lane}
 use Rattle.cb_app.specs.Crew.{AreFirst}
 use Rattle.cb_app.specs.OwnLines.{AreAllOf, AreAmong, IsPartOf, KeepAloneWith, to_lane}
-use Rattle.cb_app.proofs.EntriesTold.{TellsOf, entry_told, has_either, told_entry, version_told}
+use Rattle.cb_app.proofs.EntriesTold.{entry_told, has_either, told_entry, version_told}
 use Rattle.cb_app.proofs.Lanes.{one_maker}
 use Rattle.cb_app.proofs.OfLane.{HasSome, all_to_lane, asked_to_lane, has_asked, has_to_lane, known_in_script, lane_by_lane, lane_cases, made_here, made_in_script, none_to_lane, of_each, some_or_none, to_lane_has}
 
