@@ -1,23 +1,17 @@
 -- The own lines of lanes are answered as if each lane were alone, once all records are joined and the
 -- runtime is closed.
-use Rattle.std.proofs.Common.{◌≡◌, ◌⊎◌, ℕ, ◌≤◌, Bool, true, false, List, [], ◌∷◌, ◌++◌, map, Option, None, Some, inl, inr, refl, sym, ap, ◌∙◌, subst, append_assoc, arith, if◌then◌else◌}
+use Rattle.std.proofs.Common.{◌≡◌, ◌⊎◌, ℕ, ◌≤◌, List, [], ◌∷◌, ◌++◌, map, Option, Some, inl, inr, refl, sym, ap, ◌∙◌, subst, arith}
 use Rattle.std.specs.List.{AllByRecursion}
-use Rattle.std.specs.Str.{bytes_eq}
-use Rattle.std.proofs.lemmas.Bool.{cases_Bool}
 use Rattle.std.proofs.lemmas.List.{append-nil}
 use Rattle.std.proofs.lemmas.List.Elements.{filter-append}
-use Rattle.std.proofs.lemmas.Slice.Eq.{bytes_eq-Decides}
 use Rattle.cb_types.specs.declared.answer.Answer.{Answer}
 use Rattle.cb_types.specs.declared.config.Config.{Config}
-use Rattle.cb_types.specs.declared.reply.Reply.{Reply}
-use Rattle.cb_types.specs.declared.reply.Reply.TheVariants.{Made}
 use Rattle.cb_types.specs.declared.request.Request.{Request}
-use Rattle.cb_types.specs.declared.request.Request.TheVariants.{Make, Write, Free}
+use Rattle.cb_types.specs.declared.request.Request.TheVariants.{Make}
 use Rattle.cb_types.specs.Requests.{name_of}
 use Rattle.cb_script.specs.declared.script.Line.{Line}
 use Rattle.cb_script.specs.Form.{IsMade, KnowsName, Makes}
 use Rattle.cb_world.specs.declared.entry.Entry.{Entry}
-use Rattle.cb_rule.specs.declared.turn.Turn.{Turn}
 use Rattle.cb_rule.specs.declared.view.Look.{Look}
 use Rattle.cb_rule.specs.declared.view.View.{View}
 use Rattle.cb_rule.specs.Lists.{Has}
@@ -31,18 +25,18 @@ use Rattle.cb_record.specs.Upheld.{as_part}
 use Rattle.cb_record.proofs.Laws.{has_left, has_right}
 use Rattle.cb_shared.specs.Joining.{unpinned_all}
 use Rattle.cb_lanes.specs.declared.body.Named.{Named}
-use Rattle.cb_lanes.specs.Alone.{HasOwnLines, fresh_lane, is_maker}
+use Rattle.cb_lanes.specs.Alone.{HasOwnLines, fresh_lane}
 use Rattle.cb_lanes.specs.AloneUntil.{AreShared, KeepAloneUntil, LaneKeepsAlone}
 use Rattle.cb_lanes.specs.Asked.{HasLineReply, asked}
-use Rattle.cb_lanes.specs.Bodies.{AreNamesOf, LaneGoes, handle_among}
+use Rattle.cb_lanes.specs.Bodies.{AreNamesOf, LaneGoes}
 use Rattle.cb_lanes.specs.KeepsOwn.{KeepsOwn}
 use Rattle.cb_lanes.specs.Scoped.{IsMadeAs}
 use Rattle.cb_lanes.specs.Suits.{AreSuited}
-use Rattle.cb_lanes.proofs.Laws.{AreOfLane, IsWithin, NoneOfLane, handle_is_made, lane_keeps_own, lane_own_made, maker_of, none_until, until_before, until_behind}
-use Rattle.cb_app.specs.ByLane.{AreOfOthers, Uses, by_lane, of_lane}
+use Rattle.cb_lanes.proofs.Laws.{AreOfLane, NoneOfLane, handle_is_made, lane_keeps_own, lane_own_made, made_request, maker_of, none_until, until_before, until_behind}
+use Rattle.cb_app.specs.ByLane.{AreOfOthers, Uses, of_lane}
 use Rattle.cb_app.specs.Crew.{AreFirst}
 use Rattle.cb_app.specs.OwnLines.{AreAllOf, AreAmong, IsPartOf, KeepAloneWith, to_lane}
-use Rattle.cb_app.proofs.EntriesTold.{TellsOf, entry_told, has_either, told_entry, version_told}
+use Rattle.cb_app.proofs.EntriesTold.{entry_told, has_either, told_entry, version_told}
 use Rattle.cb_app.proofs.Lanes.{one_maker}
 use Rattle.cb_app.proofs.OfLane.{HasSome, all_to_lane, asked_to_lane, has_asked, has_to_lane, known_in_script, lane_by_lane, lane_cases, made_here, made_in_script, none_to_lane, of_each, some_or_none, to_lane_has}
 
@@ -149,18 +143,6 @@ about_cases : (q : Request) (name : List ℕ) → name_of q ≡ Some name → Ma
 about_cases (Make made bytes) name is = inl (one_name made name is)
 about_cases q name is = inr is
 
-makes_name : (name : List ℕ) (q : Request) (r : Reply) (h : ℕ) → handle_made name q r ≡ Some h
-    → Makes q name
-makes_name name (Make made bytes) r h is = by (cases_Bool (bytes_eq made name)) r is
-  where
-    by : (bytes_eq made name ≡ true) ⊎ (bytes_eq made name ≡ false) → (q : Reply)
-        → handle_made name (Make made bytes) q ≡ Some h → made ≡ name
-    by (inl same) q e = (bytes_eq-Decides made name).0 same
-    by (inr off) (Made handle version) e = absurd (let z : None ≡ Some h =
-        sym (ap (λ (b : Bool). if b then Some handle.n else None) off) ∙ e in cc)
-    by (inr off) q e = absurd cc
-makes_name name q r h is = absurd cc
-
 made_among : (xs ys : List Answer) (name : List ℕ) (h : ℕ) → AreAmong xs ys → IsMadeAs xs name h
     → IsMadeAs ys name h
 made_among [] ys name h among made = absurd made
@@ -183,7 +165,7 @@ record IsMaker (xs : List Answer) (name : List ℕ) : Type 0 where
 maker_in : (xs : List Answer) (name : List ℕ) (h : ℕ) → IsMadeAs xs name h → IsMaker xs name
 maker_in [] name h made = absurd made
 maker_in (x ∷ xs) name h (inl here) =
-    record { answer = x; there = inl refl; makes = makes_name name x.request x.reply h here }
+    record { answer = x; there = inl refl; makes = made_request name x.request x.reply h here }
 maker_in (x ∷ xs) name h (inr later) =
     let z = maker_in xs name h later in
     record { answer = z.answer; there = inr z.there; makes = z.makes }

@@ -13,6 +13,7 @@ mod OneToOne
 mod EntriesTold
 mod OfLane
 mod LanesAlone
+mod WorkedOwnLines
 mod AnswersRise
 mod Records
 mod WorkDone

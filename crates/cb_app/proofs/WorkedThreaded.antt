@@ -50,6 +50,7 @@ use Rattle.cb_workers.specs.Rules.{visit}
 use Rattle.cb_workers.specs.declared.worker.Worker.TheVariants as worker
 use Rattle.cb_cli.specs.declared.words.Command.TheVariants.{Threads}
 use Rattle.cb_cli.proofs.Laws.{lane_line}
+use Rattle.cb_lanes.specs.Alone.{HasOwnLines}
 use Rattle.cb_app.specs.Crew.{part_of}
 use Rattle.cb_app.specs.Modes.{Yields}
 use Rattle.cb_app.specs.Outcome.{IsDone}
@@ -198,8 +199,10 @@ module _ (t : Turn) (world : WorldState) (seal : Seal) where
       (subst (λ (v : View). IsClosed Did 1 small v world) (sym record_is) there.closed)
       (subst (λ (v : View). Backs (part_of v) (tolds [] answers)) (sym record_is) backs)
       (tt, (tt, tt)) (λ all more last. (tt, never_falls)) (λ one. (tt, (refl, tt)))
-      (λ lines all w whole part among n own same room. (λ mine. absurd (on_no_name (nat_eq 1 n) mine),
-      λ none. (λ mine. absurd (on_no_name (nat_eq 2 n) mine), tt))) no_losses (λ w. omega arith)
+      (λ lines all w whole part among n own same room. (
+        λ mine. absurd (on_no_name (nat_eq 1 n) mine),
+        λ none. (λ mine. absurd (on_no_name (nat_eq 2 n) mine), tt),
+      )) no_losses (λ w. omega arith)
 
   -- the answers stand in the order of the script, or one is left out
   in_the_order_of_the_script : IsRun script (told_of world seal (left ∷ evicted ∷ []) []) → ⊥
@@ -261,6 +264,17 @@ module _ (t : Turn) (world : WorldState) (seal : Seal) where
 
   bytes_of_no_version : (s : Script) → IsRun s (told_of world seal read_others []) → ⊥
   bytes_of_no_version s is = absurd (let e : 2 ≡ 1 = ap first_byte is.legal.told.1.1.0 in omega (arith, e))
+
+  -- a lane's own write is answered as if another lane had written the object before it
+  abbrev behind_another : List Answer
+  behind_another = answer 1 2 (Make a (1 ∷ [])) (replies.Made (record { n = 0 }) 1)
+      ∷ answer 1 3 (Write a 0 (2 ∷ [])) (replies.Version 3) ∷ []
+
+  not_alone : IsRun (record script { lines = map asked behind_another }) (told_of world seal behind_another [])
+      → ⊥
+  not_alone is = absurd (let own : HasOwnLines (map asked behind_another) 1 =
+      record { from_one = omega arith; pins = refl } in
+      let e : replies.Version 3 ≡ replies.Version 2 = ((is.until 1 own refl).1 refl).0 refl in cc)
 
   -- an object has bytes in the world, and no answer is about it
   an_object_of_no_line : (v : ℕ) (bytes : List ℕ) → 0 < length world.desk.words

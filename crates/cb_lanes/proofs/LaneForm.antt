@@ -1,5 +1,5 @@
 -- The lines of a lane of a script are such as are known of a lane's lines.
-use Rattle.std.proofs.Common.{◌≡◌, ◌⊎◌, ℕ, ◌≤◌, Bool, true, false, ◌&&◌, ◌||◌, List, [], ◌∷◌, ◌++◌, map, Ok, Option, None, Some, inl, inr, sym, refl, ap, ◌∙◌, subst, eq-eqb, nat_eq, append_assoc, arith, if◌then◌else◌}
+use Rattle.std.proofs.Common.{◌≡◌, ◌⊎◌, ℕ, ◌≤◌, Bool, true, false, ◌&&◌, ◌||◌, List, [], ◌∷◌, ◌++◌, map, Option, None, Some, inl, inr, sym, refl, ap, ◌∙◌, subst, eq-eqb, nat_eq, append_assoc, arith, if◌then◌else◌}
 use Rattle.std.specs.List.{AllByRecursion, list_any}
 use Rattle.std.specs.Str.{bytes_eq}
 use Rattle.std.proofs.lemmas.Bool.{cases_Bool, eqb-true, true≢false}
@@ -56,7 +56,7 @@ made_at : (front back : List Line) (l : Line) (p : List ℕ) → Makes l.request
 made_at [] back l p makes = inl (refl, makes)
 made_at (k ∷ front) back l p makes = inr (made_at front back l p makes)
 
-made_request : (name : List ℕ) (q : Request) (r : Reply) (h : ℕ) → handle_made name q r ≡ Some h → Makes q name
+pub made_request : (name : List ℕ) (q : Request) (r : Reply) (h : ℕ) → handle_made name q r ≡ Some h → Makes q name
 made_request name (Make made bytes) (answer.Made hd version) h is = by (cases_Bool (bytes_eq made name))
   where
     by : (bytes_eq made name ≡ true) ⊎ (bytes_eq made name ≡ false) → made ≡ name
@@ -91,7 +91,7 @@ line_past : (lane : ℕ) (l : Line) (ls : List Line) → nat_eq l.lane.n lane �
     → of_lane lane (l ∷ ls) ≡ of_lane lane ls
 line_past lane l ls e = ap (λ (b : Bool). if b then l ∷ of_lane lane ls else of_lane lane ls) e
 
-made_among : (lane : ℕ) (front : List Line) (k : ℕ) (p : List ℕ) → IsMade (of_lane lane front) k p
+pub made_among : (lane : ℕ) (front : List Line) (k : ℕ) (p : List ℕ) → IsMade (of_lane lane front) k p
     → IsMade front k p
 made_among lane [] k p made = absurd made
 made_among lane (l ∷ front) k p made = by (cases_Bool (nat_eq l.lane.n lane)) (made_among lane front k p)

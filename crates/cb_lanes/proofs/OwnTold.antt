@@ -1,5 +1,5 @@
 -- What a call tells of an object that is its pass's own, from what its last try tells.
-use Rattle.std.proofs.Common.{◌≡◌, ℕ, List, [], ◌∷◌, ◌++◌, Ok, inl, inr, sym, refl, ap, ◌∙◌, subst}
+use Rattle.std.proofs.Common.{ℕ, List, [], ◌∷◌, Ok, inl, inr, sym, subst}
 use Rattle.cb_types.specs.declared.config.Config.{Config}
 use Rattle.cb_types.specs.declared.job.Job.{Job}
 use Rattle.cb_types.specs.declared.job.Job.TheVariants as job
@@ -17,7 +17,7 @@ use Rattle.cb_shared.specs.Calls.{IsInVain, SaysAs, WriteEnds, WriteFinds, the_h
 use Rattle.cb_shared.specs.Turning.{TurnAdds}
 use Rattle.cb_lanes.specs.LineGoes.{Ask, Calls}
 use Rattle.cb_lanes.specs.Passing.{goes_in}
-use Rattle.cb_lanes.proofs.OwnSays.{FreeTells, TellsOwn, WriteTells}
+use Rattle.cb_lanes.proofs.OwnSays.{TellsOwn, WriteTells}
 
 -- ---- looks and turns before it change nothing of it
 abbrev tried : List Look → List Turn → View → View

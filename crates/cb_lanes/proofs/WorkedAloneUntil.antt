@@ -4,7 +4,7 @@ use Rattle.cb_types.specs.declared.answer.Answer.{Answer}
 use Rattle.cb_types.specs.declared.request.Request.{Request}
 use Rattle.cb_types.specs.declared.request.Request.TheVariants.{Make, Read, Write}
 use Rattle.cb_types.specs.declared.reply.Reply.{Reply}
-use Rattle.cb_types.specs.declared.reply.Reply.TheVariants.{Made, Bytes, Full, NoRoom, Freed, Unavailable, Pinned, Worn}
+use Rattle.cb_types.specs.declared.reply.Reply.TheVariants.{Made, Bytes, Full, NoRoom, Freed, Unavailable, Pinned, Worn, Range, ScopeFull, NotPinned, Unmade}
 use Rattle.cb_script.specs.declared.script.Line.{Line}
 use Rattle.cb_lanes.specs.Alone.{fresh_lane}
 use Rattle.cb_lanes.specs.AloneUntil.{KeepAloneUntil, is_lack, lacks}
@@ -28,7 +28,7 @@ made h = Made (record { n = h }) 1
 abbrev lines : List Line
 lines = by 0 (Make a (1 ∷ [])) ∷ by 1 (Make b (2 ∷ [])) ∷ []
 
--- ---- lacks
+-- ---- what lacks
 full_handles : is_lack (Full 3) ≡ true
 full_handles = refl
 
@@ -43,6 +43,21 @@ worn = refl
 
 pinned_is_none : is_lack (Pinned 2) ≡ false
 pinned_is_none = refl
+
+past_the_end_is_none : is_lack (Range 2) ≡ false
+past_the_end_is_none = refl
+
+a_full_scope_is_none : is_lack ScopeFull ≡ false
+a_full_scope_is_none = refl
+
+no_pin_is_none : is_lack NotPinned ≡ false
+no_pin_is_none = refl
+
+unmade_is_none : is_lack Unmade ≡ false
+unmade_is_none = refl
+
+freed_is_none : is_lack Freed ≡ false
+freed_is_none = refl
 
 an_own_line_lacks : lacks lines 1 (told 1 (Read b) (NoRoom 8 1 2)) ≡ true
 an_own_line_lacks = refl

@@ -208,12 +208,12 @@ module _ (c : Config) (t : Turn) where
     order = (λ own. a_write_comes_next, (λ own. refl, tt));
     read = λ s has own. ⊎_elim (λ e. (made, inr (inl refl), sym e)) (λ none. absurd none) has;
     long = λ l found own full. ⊎_elim (λ has. ⊎_elim (λ e. (
-          made,
-          inr (inl refl),
-          ap (λ (k : Look). k.handle) e,
-          refl,
-          ap (λ (k : Look). len_of k.word) e,
-        )) (λ none. absurd none) has)
+      made,
+      inr (inl refl),
+      ap (λ (k : Look). k.handle) e,
+      refl,
+      ap (λ (k : Look). len_of k.word) e,
+    )) (λ none. absurd none) has)
         (λ x. ⊎_elim (λ e. absurd (subst (λ (k : Turn). Has x.2 k.acts) (sym e) x.3))
         (λ none. absurd none) x.1) found;
     makes = λ u has bytes h version asked told. ⊎_elim
