@@ -16,7 +16,7 @@ use Rattle.cb_shared.specs.Sealing.{sealed_record, sealed_world}
 use Rattle.cb_shared.specs.Turning.{Did}
 use Rattle.cb_lanes.specs.Asked.{HasLineReply, asked}
 use Rattle.cb_lanes.specs.Lost.{losses_of}
-use Rattle.cb_lanes.specs.Scopes.{KeepPins}
+use Rattle.cb_lanes.specs.Scopes.{KeepScopes}
 use Rattle.cb_app.specs.ByLane.{by_lane}
 use Rattle.cb_app.specs.Crew.{part_of}
 use Rattle.cb_app.specs.Telling.{AreEpochs, CountsWorkers, TellsLost, TellsRoom, TellsWorn}
@@ -48,8 +48,9 @@ pub record IsRun (script : Script) (end : ThreadsEnd) : Type 0 where
   pub legal : IsLegal 1 script.config.handles end.answers
   -- and the world holds of each object the last entry of its history in them, or it is gone
   pub holds : HasLast end.answers end.world
-  -- what pin, peek, unpin and leave lines are answered follows from the scopes of their lanes
-  pub scopes : KeepPins [] end.answers
+  -- what lines are answered follows from the scopes of their lanes: pin, peek, unpin and leave lines,
+  -- and where a write, a free or a filter is held up by pins
+  pub scopes : KeepScopes [] end.answers
   -- the crashes that took place
   pub losses : AreLosses end.losses end.answers
   -- they and the joins began the epochs up to that of the world, each one of them
