@@ -12,7 +12,7 @@ use Rattle.cb_model.specs.Called.{handle_named, handle_of}
 use Rattle.cb_script.specs.declared.script.Line.{Line}
 use Rattle.cb_lanes.specs.Asked.{asked}
 use Rattle.cb_lanes.specs.Scoped.{AreOneToOne, AreScoped, IsMadeAs}
-use Rattle.cb_lanes.specs.Scopes.{KeepPins, PinsSay, SaysBy, Scope, scope_after, scope_more, scope_of}
+use Rattle.cb_lanes.specs.Scopes.{KeepScopes, CallSays, ScopeSays, Scope, scope_after, scope_more, scope_of}
 use Rattle.cb_lanes.proofs.Laws.{made_as_left, made_as_right}
 use Rattle.cb_app.specs.ByLane.{AreOfOthers, IsApart, Uses, of_lane}
 use Rattle.cb_app.specs.Crew.{AreFirst}
@@ -40,27 +40,27 @@ scope_beside lane xs ys zs none = fold-append (scope_more lane) [] xs (ys ++ zs)
 -- ---- a line on a name that has one handle behind both
 same_says : (q : Request) (r : Reply) (scope : Scope) (bs cs : List Answer)
     → ((name : List ℕ) → Uses q name → handle_of bs name ≡ handle_of cs name)
-    → SaysBy PinsSay (handle_named cs (name_of q)) scope q r
-    → SaysBy PinsSay (handle_named bs (name_of q)) scope q r
+    → ScopeSays (handle_named cs (name_of q)) scope q r
+    → ScopeSays (handle_named bs (name_of q)) scope q r
 same_says (Make made bytes) r scope bs cs same says = by (handle_of bs made)
   where
-    by : (o : Option ℕ) → SaysBy PinsSay o scope (Make made bytes) r
+    by : (o : Option ℕ) → ScopeSays o scope (Make made bytes) r
     by None = tt
     by (Some h) = tt
 same_says (Read name) r scope bs cs same says =
-    subst (λ (o : Option ℕ). SaysBy PinsSay o scope (Read name) r) (sym (same name refl)) says
+    subst (λ (o : Option ℕ). ScopeSays o scope (Read name) r) (sym (same name refl)) says
 same_says (Write name at bytes) r scope bs cs same says =
-    subst (λ (o : Option ℕ). SaysBy PinsSay o scope (Write name at bytes) r) (sym (same name refl)) says
+    subst (λ (o : Option ℕ). ScopeSays o scope (Write name at bytes) r) (sym (same name refl)) says
 same_says (Free name) r scope bs cs same says =
-    subst (λ (o : Option ℕ). SaysBy PinsSay o scope (Free name) r) (sym (same name refl)) says
+    subst (λ (o : Option ℕ). ScopeSays o scope (Free name) r) (sym (same name refl)) says
 same_says (Pin name) r scope bs cs same says =
-    subst (λ (o : Option ℕ). SaysBy PinsSay o scope (Pin name) r) (sym (same name refl)) says
+    subst (λ (o : Option ℕ). ScopeSays o scope (Pin name) r) (sym (same name refl)) says
 same_says (Peek name) r scope bs cs same says =
-    subst (λ (o : Option ℕ). SaysBy PinsSay o scope (Peek name) r) (sym (same name refl)) says
+    subst (λ (o : Option ℕ). ScopeSays o scope (Peek name) r) (sym (same name refl)) says
 same_says (Unpin name) r scope bs cs same says =
-    subst (λ (o : Option ℕ). SaysBy PinsSay o scope (Unpin name) r) (sym (same name refl)) says
+    subst (λ (o : Option ℕ). ScopeSays o scope (Unpin name) r) (sym (same name refl)) says
 same_says (Filter name) r scope bs cs same says =
-    subst (λ (o : Option ℕ). SaysBy PinsSay o scope (Filter name) r) (sym (same name refl)) says
+    subst (λ (o : Option ℕ). ScopeSays o scope (Filter name) r) (sym (same name refl)) says
 same_says q r scope bs cs same says = says
 
 -- ---- answers behind those of other lanes
@@ -77,39 +77,39 @@ later_none a after [] none = tt
 later_none a after (o ∷ others) none = (none.0.1, later_none a after others none.1)
 
 keep_beside : (xs ys zs after : List Answer) → IsApart (map asked ys) (map asked after)
-    → AreOfOthers (map asked ys) (map asked after) → KeepPins (xs ++ zs) after
-    → KeepPins (xs ++ (ys ++ zs)) after
+    → AreOfOthers (map asked ys) (map asked after) → KeepScopes (xs ++ zs) after
+    → KeepScopes (xs ++ (ys ++ zs)) after
 keep_beside xs ys zs [] apart none keep = tt
 keep_beside xs ys zs (a ∷ after) apart none keep =
     let more : (xs ++ (ys ++ zs)) ++ a ∷ [] ≡ xs ++ (ys ++ (zs ++ a ∷ [])) =
     append_assoc xs (ys ++ zs) (a ∷ [])
     ∙ ap (λ (bs : List Answer). xs ++ bs) (append_assoc ys zs (a ∷ [])) in (
-      subst (λ (s : Scope). SaysBy PinsSay (handle_named (xs ++ (ys ++ zs)) (name_of a.request)) s
+      subst (λ (s : Scope). ScopeSays (handle_named (xs ++ (ys ++ zs)) (name_of a.request)) s
           a.request a.reply) (sym (scope_beside a.lane.n xs ys zs (first_none a after ys none)))
           (same_says a.request a.reply (scope_of a.lane.n (xs ++ zs)) (xs ++ (ys ++ zs)) (xs ++ zs)
           (λ name uses. unseen name xs ys zs (apart name (inl uses))) keep.0),
-      subst (λ (bs : List Answer). KeepPins bs after) (sym more)
+      subst (λ (bs : List Answer). KeepScopes bs after) (sym more)
           (keep_beside xs ys (zs ++ a ∷ []) after (λ name used. apart name (inr used))
           (later_none a after ys none)
-          (subst (λ (bs : List Answer). KeepPins bs after) (append_assoc xs zs (a ∷ [])) keep.1)),
+          (subst (λ (bs : List Answer). KeepScopes bs after) (append_assoc xs zs (a ∷ [])) keep.1)),
     )
 
 keep_apart : (given others after : List Answer) → IsApart (map asked others) (map asked after)
-    → AreOfOthers (map asked others) (map asked after) → KeepPins given after
-    → KeepPins (given ++ others) after
+    → AreOfOthers (map asked others) (map asked after) → KeepScopes given after
+    → KeepScopes (given ++ others) after
 keep_apart given others after apart none keep =
-    subst (λ (bs : List Answer). KeepPins (given ++ bs) after) (append-nil others)
+    subst (λ (bs : List Answer). KeepScopes (given ++ bs) after) (append-nil others)
     (keep_beside given others [] after apart none
-    (subst (λ (bs : List Answer). KeepPins bs after) (sym (append-nil given)) keep))
+    (subst (λ (bs : List Answer). KeepScopes bs after) (sym (append-nil given)) keep))
 
-keep_both : (before xs ys : List Answer) → KeepPins before xs → KeepPins (before ++ xs) ys
-    → KeepPins before (xs ++ ys)
+keep_both : (before xs ys : List Answer) → KeepScopes before xs → KeepScopes (before ++ xs) ys
+    → KeepScopes before (xs ++ ys)
 keep_both before [] ys front back =
-    subst (λ (bs : List Answer). KeepPins bs ys) (append-nil before) back
+    subst (λ (bs : List Answer). KeepScopes bs ys) (append-nil before) back
 keep_both before (x ∷ xs) ys front back = (
   front.0,
   keep_both (before ++ x ∷ []) xs ys front.1
-      (subst (λ (bs : List Answer). KeepPins bs ys) (sym (append_assoc before (x ∷ []) xs)) back),
+      (subst (λ (bs : List Answer). KeepScopes bs ys) (sym (append_assoc before (x ∷ []) xs)) back),
 )
 
 -- ---- names and handles that are one to one are so of fewer answers
@@ -134,7 +134,7 @@ pub scopes_joined : (given others after answers : List Answer) → answers ≡ g
 scopes_joined given others after answers are apart none old new one =
     keep_both [] answers after
     (old (fewer answers (answers ++ after) (made_as_left answers after) one))
-    (subst (λ (bs : List Answer). KeepPins bs after) (sym are)
+    (subst (λ (bs : List Answer). KeepScopes bs after) (sym are)
     (keep_apart given others after apart none (new (fewer (given ++ after) (answers ++ after) both one))))
   where
     both : (name : List ℕ) (h : ℕ) → IsMadeAs (given ++ after) name h

@@ -19,7 +19,7 @@ use Rattle.cb_lanes.specs.Alone.{HasOwnLines, KeepAlone, fresh_lane}
 use Rattle.cb_lanes.specs.AloneUntil.{KeepAloneUntil}
 use Rattle.cb_lanes.specs.Asked.{HasLineReply, asked}
 use Rattle.cb_lanes.specs.Lost.{losses_of}
-use Rattle.cb_lanes.specs.Scopes.{KeepPins}
+use Rattle.cb_lanes.specs.Scopes.{KeepScopes}
 use Rattle.cb_app.specs.ByLane.{by_lane}
 use Rattle.cb_app.specs.Calm.{IsCalmTo}
 use Rattle.cb_app.specs.Crew.{part_of}
@@ -52,8 +52,9 @@ pub record IsRun (script : Script) (end : ThreadsEnd) : Type 0 where
   pub legal : IsLegal 1 script.config.handles end.answers
   -- and the world holds of each object the last entry of its history in them, or it is gone
   pub holds : HasLast end.answers end.world
-  -- what pin, peek, unpin and leave lines are answered follows from the scopes of their lanes
-  pub scopes : KeepPins [] end.answers
+  -- what lines are answered follows from the scopes of their lanes: pin, peek, unpin and leave lines,
+  -- and where a write, a free or a filter is held up by pins
+  pub scopes : KeepScopes [] end.answers
   -- and a lane's own lines are answered by these, by the plain map and by its scope alone, up to the
   -- first one that is told of a want of room or of a loss
   pub until : (lane : ℕ) → HasOwnLines script.lines lane

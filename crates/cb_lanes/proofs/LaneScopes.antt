@@ -1,10 +1,10 @@
--- What the lines about pins of a lane beside others are answered: as its scope says.
-use Rattle.std.proofs.Common.{◌≡◌, ◌≢◌, ◌⊎◌, ℕ, ◌<◌, Bool, true, false, cond, List, [], ◌∷◌, ◌++◌, length, map, Option, None, Some, refl, sym, ap, ◌∙◌, subst, arith, inl, inr, eq-eqb, ne_eqb, if◌then◌else◌, append_assoc}
+-- What the lines of a lane beside others are answered: as its scope says.
+use Rattle.std.proofs.Common.{◌≡◌, ◌≢◌, ◌⊎◌, ℕ, ◌+◌, ◌<◌, ◌≤◌, Bool, true, false, cond, List, [], ◌∷◌, ◌++◌, length, map, Option, None, Some, refl, sym, ap, ◌∙◌, subst, arith, inl, inr, eq-eqb, ne_eqb, if◌then◌else◌, append_assoc}
 use Rattle.std.specs.List.{AllByRecursion}
 use Rattle.std.specs.Str.{bytes_eq}
 use native.Mathlib.Decide.{ℕ_discrete}
 use Rattle.std.proofs.lemmas.List.{append-nil}
-use Rattle.std.proofs.lemmas.List.Sums.{fold_push}
+use Rattle.std.proofs.lemmas.List.Sums.{fold_push, sum_by-cons}
 use Rattle.std.proofs.lemmas.Slice.Eq.{bytes_eq-Decides}
 use Rattle.cb_types.specs.declared.answer.Answer.{Answer}
 use Rattle.cb_types.specs.declared.config.Config.{Config}
@@ -20,14 +20,20 @@ use Rattle.cb_model.specs.Called.{first_of, handle_made, handle_of, handle_named
 use Rattle.cb_rule.specs.declared.view.Stand.{Stand}
 use Rattle.cb_rule.specs.declared.view.View.{View}
 use Rattle.cb_rule.specs.Lists.{removed, times}
-use Rattle.cb_rule.specs.Seats.{pins_it}
+use Rattle.cb_rule.specs.Seats.{pins_it, pins_on}
+use Rattle.cb_record.specs.Parts.{Part, grown}
 use Rattle.cb_script.specs.declared.script.Line.{Line}
+use Rattle.cb_shared.specs.declared.answers.WriteAnswer.{WriteAnswer}
+use Rattle.cb_shared.specs.declared.answers.WriteAnswer.TheVariants as place
+use Rattle.cb_shared.specs.Calls.{SaysAs, WriteEnds, WriteFinds}
+use Rattle.cb_shared.specs.Reading.{looked}
+use Rattle.cb_shared.specs.Turning.{PinsTold}
 use Rattle.cb_lanes.specs.declared.body.Named.{Named}
 use Rattle.cb_lanes.specs.Asked.{asked}
 use Rattle.cb_lanes.specs.Bodies.{AreLinesOf, AreNamesOf, LaneGoes, LinesGo, handle_among, handle_behind}
 use Rattle.cb_lanes.specs.LineGoes.{LineGoes}
 use Rattle.cb_lanes.specs.Passing.{CallGives, HasNoPin, IsNewestPin, PeekGoes, PinEnds, PinGoes, PinsAtLast, UnpinGoes, goes_in}
-use Rattle.cb_lanes.specs.Scopes.{KeepPins, NamedPin, PeekSays, PinsSay, SaysBy, Scope, UnpinSays, newest_on, scope_after, scope_more, scope_of, without_newest}
+use Rattle.cb_lanes.specs.Scopes.{CallSays, KeepScopes, NamedPin, PeekSays, PinnedSays, Scope, ScopeSays, UnpinSays, named_on, newest_on, scope_after, scope_more, scope_of, without_newest}
 use Rattle.cb_lanes.specs.Scoped.{AreOneToOne, IsMadeAs, LaneScoped}
 use Rattle.cb_lanes.proofs.LaneRises.{answers_of}
 use Rattle.cb_lanes.proofs.LinesBack.{first_assoc, handle_append, named_behind}
@@ -35,6 +41,9 @@ use Rattle.cb_lanes.proofs.PinLists.{AreApart, name_cases}
 
 abbrev one_if : Bool → ℕ
 one_if b = cond b 1 0
+
+abbrev if_one : Bool → ℕ
+if_one b = if b then 1 else 0
 
 -- ---- the pins of a record beside the scope of its lane
 -- a pin is on this name, at this version
@@ -109,6 +118,27 @@ module _ (number : List ℕ → Option ℕ) (apart : AreApart number) (name : Li
       ap (λ (b : Bool). if b then Some named.version else newest_on name older)
       (other_name named p is off) ∙ newest_named older pins q are later
 
+  -- as many pins are on the object as the scope has on the name
+  pub named_count : (scope : Scope) (pins : List Stand) → AreNamedPins number scope pins
+      → named_on name scope ≡ times (pins_it h) pins
+  named_count [] [] are = refl
+  named_count [] (p ∷ pins) are = absurd are
+  named_count (named ∷ older) [] are = absurd are
+  named_count (named ∷ older) (p ∷ pins) (is, are) = let rest = named_count older pins are in
+      let one : named_on name (named ∷ older)
+      ≡ if_one (bytes_eq named.name name) + named_on name older =
+      sum_by-cons (λ (pin : NamedPin). if_one (bytes_eq pin.name name)) named older in
+      elim (ℕ_discrete p.handle h) [
+        | yes on ↦
+            let a : if_one (bytes_eq named.name name) ≡ 1 = ap if_one (same_name named p is on) in
+            let b : one_if (pins_it h p) ≡ 1 = ap one_if (eq-eqb p.handle h on) in
+            omega (arith, rest, one, a, b)
+        | no off ↦
+            let a : if_one (bytes_eq named.name name) ≡ 0 = ap if_one (other_name named p is off) in
+            let b : one_if (pins_it h p) ≡ 0 = ap one_if (ne_eqb p.handle h off) in
+            omega (arith, rest, one, a, b)
+      ]
+
   -- what is left when the newest pin on the object is given back
   pub record IsGivenFrom (scope : Scope) (pins : List Stand) : Type 0 where
     pub version : ℕ
@@ -163,13 +193,13 @@ module _ (number : List ℕ → Option ℕ) (apart : AreApart number) (name : Li
 -- The line is answered as the scope says, and the pins are then those of the scope after it.
 pub record IsScoped (number : List ℕ → Option ℕ) (handle : Option ℕ) (scope : Scope)
     (q : Request) (r : Reply) (w : View) : Type 0 where
-  pub says : SaysBy PinsSay handle scope q r
+  pub says : ScopeSays handle scope q r
   pub pins : AreNamedPins number (scope_after scope q r) w.pins
 
 -- the line changes no pin
 still : (number : List ℕ → Option ℕ) (handle : Option ℕ) (scope : Scope) (q : Request) (r : Reply)
     (v w : View) → AreNamedPins number scope v.pins → w.pins ≡ v.pins
-    → scope_after scope q r ≡ scope → SaysBy PinsSay handle scope q r
+    → scope_after scope q r ≡ scope → ScopeSays handle scope q r
     → IsScoped number handle scope q r w
 still number handle scope q r v w are same stays says = record {
   says = says;
@@ -180,8 +210,8 @@ still number handle scope q r v w are same stays says = record {
 -- so does one of which the scope says nothing
 quiet : (number : List ℕ → Option ℕ) (handle : Option ℕ) (scope : Scope) (q : Request) (r : Reply)
     (v w : View) → AreNamedPins number scope v.pins → w.pins ≡ v.pins
-    → scope_after scope q r ≡ scope → SaysBy PinsSay None scope q r
-    → ((h : ℕ) → SaysBy PinsSay (Some h) scope q r) → IsScoped number handle scope q r w
+    → scope_after scope q r ≡ scope → ScopeSays None scope q r
+    → ((h : ℕ) → ScopeSays (Some h) scope q r) → IsScoped number handle scope q r w
 quiet number None scope q r v w are same stays none some =
     still number None scope q r v w are same stays none
 quiet number (Some h) scope q r v w are same stays none some =
@@ -204,14 +234,62 @@ module _ (c : Config) where
   call_same (job.Free handle) r v w (d, x, is) = pins_of_same _ w is
   call_same j r v w (d, x, is) = pins_of_same _ w is
 
+  -- ---- pins that hold a write, a free or a filter up
+  told_pinned : (h : ℕ) (r : Reply) (v : View) → PinsTold h r v → PinnedSays (pins_on h v) r
+  told_pinned h r v told count is =
+      let z = subst (λ (q : Reply). PinsTold h q v) is told in (z.0, z.1)
+
+  -- a write in place, by its answer
+  here_pinned : (h at : ℕ) (bytes : List ℕ) (a : WriteAnswer) (r : Reply) (v : View) (d : Part)
+      → SaysAs a r → WriteFinds h at bytes a v d → PinnedSays (pins_on h v) r
+  here_pinned h at bytes (place.Pinned k) r v d says (word, pinned, is) count told =
+      let same : k ≡ count = pinned_count k count (sym says ∙ told) in
+      subst (λ (n : ℕ). (1 ≤ n) × (pins_on h v ≤ n)) same (pinned.1.1, pinned.1.3)
+    where
+      pinned_count : (k count : ℕ) → answer.Pinned k ≡ answer.Pinned count → k ≡ count
+      pinned_count k count e = cc
+  here_pinned h at bytes (place.Ok version) r v d says x count told =
+      absurd (let e = sym says ∙ told in cc)
+  here_pinned h at bytes place.Freed r v d says x count told = absurd (let e = sym says ∙ told in cc)
+  here_pinned h at bytes (place.Range len) r v d says x count told =
+      absurd (let e = sym says ∙ told in cc)
+  here_pinned h at bytes place.Worn r v d says x count told = absurd (let e = sym says ∙ told in cc)
+  here_pinned h at bytes place.NotHere r v d says x count told = absurd says
+  here_pinned h at bytes place.Moving r v d says x count told = absurd says
+  here_pinned h at bytes (place.Raced saw other) r v d says x count told = absurd says
+
+  ends_pinned : (h at : ℕ) (bytes : List ℕ) (r : Reply) (v : View) (d : Part)
+      → WriteEnds c h at bytes r v d → PinnedSays (pins_on h v) r
+  ends_pinned h at bytes r v d (inl (a, says, x)) = here_pinned h at bytes a r v d says x
+  ends_pinned h at bytes r v d (inr x) =
+      told_pinned h r (grown (looked h x.word) v) x.turned.1.pins
+
+  write_pinned : (h at : ℕ) (bytes : List ℕ) (r : Reply) (v w : View)
+      → CallGives c (job.Write (record { n = h }) at bytes) v r w → PinnedSays (pins_on h v) r
+  write_pinned h at bytes r v w (d, x, grew) =
+      ends_pinned h at bytes r (grown x.before v) x.last x.ends_so
+
+  free_pinned : (h : ℕ) (r : Reply) (v w : View) → CallGives c (job.Free (record { n = h })) v r w
+      → PinnedSays (pins_on h v) r
+  free_pinned h r v w (d, x, is) = told_pinned h r (grown x.before v) x.ends_so.1.pins
+
+  filter_pinned : (h : ℕ) (r : Reply) (v w : View)
+      → CallGives c (job.Filter (record { n = h })) v r w → PinnedSays (pins_on h v) r
+  filter_pinned h r v w (d, x, is) = told_pinned h r v x.pins
+
   module _ (number : List ℕ → Option ℕ) (apart : AreApart number) (scope : Scope) (name : List ℕ)
       (h : ℕ) (at_name : number name ≡ Some h) (v w : View)
       (are : AreNamedPins number scope v.pins) where
+    -- by the lane's scope as by the pass's pins
+    held_says : (r : Reply) → PinnedSays (pins_on h v) r → PinnedSays (named_on name scope) r
+    held_says r said = subst (λ (n : ℕ). PinnedSays n r)
+        (sym (named_count number apart name h at_name scope v.pins are)) said
+
     long : length v.pins ≡ length scope
     long = named_length number scope v.pins are
 
     -- where there is room the answer is another than that there is none
-    room_says : (r : Reply) → length v.pins < 16 → tells_full r ≡ 0 → PinsSay scope (Pin name) r
+    room_says : (r : Reply) → length v.pins < 16 → tells_full r ≡ 0 → CallSays scope (Pin name) r
     room_says r room off = (
       λ e. absurd (let full : tells_full r ≡ 1 = ap tells_full e in omega (arith, off, full)),
       λ e. absurd (omega (arith, room, long, e)),
@@ -298,17 +376,21 @@ module _ (c : Config) where
       still number None scope (Write name at bytes) r v w are (pins_of_same v w goes.1) refl tt
   line_scoped number apart (Some h) scope (Write name at bytes) r v w named are goes =
       still number (Some h) scope (Write name at bytes) r v w are
-      (call_same (job.Write (record { n = h }) at bytes) r v w goes) refl tt
+      (call_same (job.Write (record { n = h }) at bytes) r v w goes) refl
+      (held_says number apart scope name h (named name refl) v w are r
+      (write_pinned h at bytes r v w goes))
   line_scoped number apart None scope (Free name) r v w named are goes =
       still number None scope (Free name) r v w are (pins_of_same v w goes.1) refl tt
   line_scoped number apart (Some h) scope (Free name) r v w named are goes =
       still number (Some h) scope (Free name) r v w are
-      (call_same (job.Free (record { n = h })) r v w goes) refl tt
+      (call_same (job.Free (record { n = h })) r v w goes) refl
+      (held_says number apart scope name h (named name refl) v w are r (free_pinned h r v w goes))
   line_scoped number apart None scope (Filter name) r v w named are goes =
       still number None scope (Filter name) r v w are (pins_of_same v w goes.1) refl tt
   line_scoped number apart (Some h) scope (Filter name) r v w named are goes =
       still number (Some h) scope (Filter name) r v w are
-      (call_same (job.Filter (record { n = h })) r v w goes) refl tt
+      (call_same (job.Filter (record { n = h })) r v w goes) refl
+      (held_says number apart scope name h (named name refl) v w are r (filter_pinned h r v w goes))
   line_scoped number apart None scope (Pin name) r v w named are goes =
       still number None scope (Pin name) r v w are (pins_of_same v w goes.1)
       (ap (scope_after scope (Pin name)) goes.0) goes.0
@@ -434,14 +516,14 @@ module _ (c : Config) (names : List Named) (lane : ℕ) (given : List Answer)
       → AllByRecursion (λ (a : Answer). a.lane.n ≡ lane) after
       → AreOneToOne (given ++ (before ++ after))
       → AreNamedPins (number_behind names before) (scope_of lane (given ++ before)) v.pins
-      → LinesGo (goes_in c) names before v after w → KeepPins (given ++ before) after
+      → LinesGo (goes_in c) names before v after w → KeepScopes (given ++ before) after
   lines_scoped before [] v w own one_each are lines = tt
   lines_scoped before (a ∷ after) v w own one_each are (m, goes, rest) = (
-    subst (λ (o : Option ℕ). SaysBy PinsSay o (scope_of a.lane.n (given ++ before)) a.request a.reply)
+    subst (λ (o : Option ℕ). ScopeSays o (scope_of a.lane.n (given ++ before)) a.request a.reply)
         (sym (named_behind names given before (name_of a.request) are_names))
-        (subst (λ (n : ℕ). SaysBy PinsSay handle (scope_of n (given ++ before)) a.request a.reply)
+        (subst (λ (n : ℕ). ScopeSays handle (scope_of n (given ++ before)) a.request a.reply)
         (sym own.0) one.says),
-    subst (λ (xs : List Answer). KeepPins xs after) (sym (append_assoc given before (a ∷ [])))
+    subst (λ (xs : List Answer). KeepScopes xs after) (sym (append_assoc given before (a ∷ [])))
         (lines_scoped (before ++ a ∷ []) after m w own.1 later
         (subst (λ (s : Scope). AreNamedPins (number_behind names (before ++ a ∷ [])) s m.pins)
         (sym (scope_push lane given before a own.0))
@@ -470,12 +552,12 @@ module _ (c : Config) (names : List Named) (lane : ℕ) (given : List Answer)
           (scope_of lane (given ++ before)) a.request a.reply v m
           (λ name e. ap (handle_behind names before) (sym e)) are goes
 
--- the lines about pins of a lane that began without one
+-- the lines of a lane that began without a pin
 pub lane_scoped : (c : Config) (names : List Named) (nodes lane : ℕ) (lines : List Line)
     (answers : List Answer) (v w : View) → v.pins ≡ [] → LaneGoes c names v answers w
     → AreLinesOf nodes lane lines → map asked answers ≡ lines → LaneScoped lane names answers
 lane_scoped c names nodes lane lines answers v w none (m, goes, left) of is given named scope one =
-    subst (λ (xs : List Answer). KeepPins xs answers) (append-nil given)
+    subst (λ (xs : List Answer). KeepScopes xs answers) (append-nil given)
     (lines_scoped c names lane given named [] answers v m (answers_of nodes lane lines answers of is) one
     (subst (λ (s : Scope). AreNamedPins (number_behind names []) s v.pins)
     (sym (ap (scope_of lane) (append-nil given) ∙ scope))

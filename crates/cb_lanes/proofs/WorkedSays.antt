@@ -16,7 +16,7 @@ use Rattle.cb_lanes.specs.Bodies.{KnowsHandle, number_of}
 use Rattle.cb_lanes.specs.LinesLeft.{lanes_of}
 use Rattle.cb_lanes.specs.Names.{IsOnObject}
 use Rattle.cb_lanes.specs.Passing.{mark_in, mark_of, marks_of}
-use Rattle.cb_lanes.specs.Scopes.{CallSays, KeepBy, KeepPins, PeekSays, PinsSay, SaysBy, UnmadeSays, UnpinSays, scope_more}
+use Rattle.cb_lanes.specs.Scopes.{CallSays, KeepScopes, PeekSays, ScopeSays, UnmadeSays, UnpinSays, scope_more}
 use Rattle.cb_lanes.proofs.WorkedBodies.{knows_no_other, knows_one, part}
 use Rattle.cb_lanes.proofs.WorkedPassing.{kept, newer, older}
 use Rattle.cb_lanes.proofs.WorkedPins.{a, b, by, c, full, on, run, three}
@@ -53,32 +53,29 @@ unpin_without_a_pin = refl
 unpin_of_no_pin : UnpinSays None Done → ⊥
 unpin_of_no_pin says = absurd cc
 
--- ---- a line about pins, and any line, on a name with a handle
-full_is_said : PinsSay full (Pin b) ScopeFull
+-- ---- a line on a name with a handle
+full_is_said : CallSays full (Pin b) ScopeFull
 full_is_said = (λ e. refl, λ e. refl)
 
-full_is_said_of_16 : PinsSay three (Pin b) ScopeFull → ⊥
+full_is_said_of_16 : CallSays three (Pin b) ScopeFull → ⊥
 full_is_said_of_16 says = omega (arith, says.0 refl)
 
-sixteen_are_full : PinsSay full (Pin b) (Version 3) → ⊥
+sixteen_are_full : CallSays full (Pin b) (Version 3) → ⊥
 sixteen_are_full says = absurd (let e : Version 3 ≡ ScopeFull = says.1 refl in cc)
 
-peeks_are_said : PinsSay three (Peek a) (Bytes 2 (7 ∷ []))
+peeks_are_said : CallSays three (Peek a) (Bytes 2 (7 ∷ []))
 peeks_are_said = (7 ∷ [], refl)
 
-peeks_are_not_refused : PinsSay three (Peek a) NotPinned → ⊥
+peeks_are_not_refused : CallSays three (Peek a) NotPinned → ⊥
 peeks_are_not_refused says = absurd (let e = says.1 in cc)
 
-unpins_are_said : PinsSay three (Unpin c) NotPinned
+unpins_are_said : CallSays three (Unpin c) NotPinned
 unpins_are_said = refl
 
-unpins_are_not_done : PinsSay three (Unpin c) Done → ⊥
+unpins_are_not_done : CallSays three (Unpin c) Done → ⊥
 unpins_are_not_done says = absurd cc
 
--- of a write, by which pins it is held up, the lines about pins say nothing, and all lines do
-writes_are_not_said : PinsSay three (Write a 0 []) (Pinned 1)
-writes_are_not_said = tt
-
+-- by which pins a write, a free and a filter are held up
 writes_are_held_up : CallSays three (Write a 0 []) (Pinned 1) → ⊥
 writes_are_held_up says = omega (arith, (says 1 refl).1)
 
@@ -87,9 +84,6 @@ frees_are_held_up says = omega (arith, (says 1 refl).1)
 
 filters_are_held_up : CallSays three (Filter a) (Pinned 1) → ⊥
 filters_are_held_up says = omega (arith, (says 1 refl).1)
-
-calls_say_of_pins : CallSays three (Unpin c) Done → ⊥
-calls_say_of_pins says = absurd cc
 
 -- ---- a name without a handle
 unmade_is_said : UnmadeSays (Pin a) Unmade × UnmadeSays (Peek a) Unmade
@@ -109,26 +103,26 @@ of_reads_nothing_is_said : UnmadeSays (Read a) Freed
 of_reads_nothing_is_said = tt
 
 -- ---- whichever of these says it
-leave_is_told : SaysBy PinsSay None three Leave (Left 3)
+leave_is_told : ScopeSays None three Leave (Left 3)
 leave_is_told = refl
 
-leave_tells_too_few : SaysBy PinsSay (Some 0) three Leave (Left 2) → ⊥
+leave_tells_too_few : ScopeSays (Some 0) three Leave (Left 2) → ⊥
 leave_tells_too_few says = absurd cc
 
-no_handle_is_told : SaysBy PinsSay None full (Pin a) Unmade
+no_handle_is_told : ScopeSays None full (Pin a) Unmade
 no_handle_is_told = refl
 
-no_handle_is_not_full : SaysBy PinsSay None full (Pin a) ScopeFull → ⊥
+no_handle_is_not_full : ScopeSays None full (Pin a) ScopeFull → ⊥
 no_handle_is_not_full says = absurd cc
 
-handle_is_told : SaysBy PinsSay (Some 0) full (Pin a) ScopeFull
+handle_is_told : ScopeSays (Some 0) full (Pin a) ScopeFull
 handle_is_told = (λ e. refl, λ e. refl)
 
-handle_is_full : SaysBy PinsSay (Some 0) full (Pin a) (Version 3) → ⊥
+handle_is_full : ScopeSays (Some 0) full (Pin a) (Version 3) → ⊥
 handle_is_full says = absurd (let e : Version 3 ≡ ScopeFull = says.1 refl in cc)
 
--- ---- answers, one after the other: all lines, or those about pins alone
-run_keeps_pins : KeepPins [] (run 1)
+-- ---- answers, one after the other
+run_keeps_pins : KeepScopes [] (run 1)
 run_keeps_pins = (
   tt,
   (
@@ -140,15 +134,11 @@ run_keeps_pins = (
   ),
 )
 
-run_keeps_a_pin_less : KeepPins [] (run 2) → ⊥
+run_keeps_a_pin_less : KeepScopes [] (run 2) → ⊥
 run_keeps_a_pin_less keep = absurd (let e : Left 2 ≡ Left 1 = keep.1.1.1.0 in cc)
 
 -- behind a pin a write tells no pin
-pins_alone_are_kept : KeepBy PinsSay (by 1 (Make a (7 ∷ [])) (Made (record { n = 0 }) 1)
-    ∷ by 1 (Pin a) (Version 1) ∷ []) (by 1 (Write a 0 []) (Pinned 0) ∷ [])
-pins_alone_are_kept = (tt, tt)
-
-calls_are_kept_too : KeepBy CallSays (by 1 (Make a (7 ∷ [])) (Made (record { n = 0 }) 1)
+calls_are_kept_too : KeepScopes (by 1 (Make a (7 ∷ [])) (Made (record { n = 0 }) 1)
     ∷ by 1 (Pin a) (Version 1) ∷ []) (by 1 (Write a 0 []) (Pinned 0) ∷ []) → ⊥
 calls_are_kept_too keep = omega (arith, (keep.0 0 refl).0)
 

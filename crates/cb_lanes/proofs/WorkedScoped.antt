@@ -11,7 +11,7 @@ use Rattle.cb_types.specs.declared.reply.Reply.TheVariants.{Made, Version, Bytes
 use Rattle.cb_model.specs.Called.{handle_made}
 use Rattle.cb_lanes.specs.declared.body.Named.{Named}
 use Rattle.cb_lanes.specs.Scoped.{AreOneToOne, AreScoped, IsMadeAs, LaneScoped}
-use Rattle.cb_lanes.specs.Scopes.{KeepPins, KeepScopes, scope_of}
+use Rattle.cb_lanes.specs.Scopes.{KeepScopes, scope_of}
 use Rattle.cb_lanes.proofs.PinLists.{name_cases}
 
 abbrev a : List ℕ
@@ -99,7 +99,7 @@ abbrev run : List Answer
 run = made a 5 ∷ one_pin ∷ by 1 (Peek a) (Bytes 1 (7 ∷ [])) ∷ by 1 (Unpin a) Done
     ∷ by 1 (Unpin a) NotPinned ∷ by 1 Leave (Left 0) ∷ []
 
-keeps : KeepPins [] run
+keeps : KeepScopes [] run
 keeps = (
   tt,
   (
@@ -111,41 +111,38 @@ keeps = (
   ),
 )
 
-full_with_no_pin : KeepPins (made a 5 ∷ []) (by 1 (Pin a) ScopeFull ∷ []) → ⊥
+full_with_no_pin : KeepScopes (made a 5 ∷ []) (by 1 (Pin a) ScopeFull ∷ []) → ⊥
 full_with_no_pin keep =
     absurd (let e : ◌≡◌ {A = ℕ} 0 16 = keep.0.0 refl in omega (arith, e))
 
-a_seventeenth_pin : KeepPins (made a 5 ∷ replicate 16 one_pin) (one_pin ∷ []) → ⊥
+a_seventeenth_pin : KeepScopes (made a 5 ∷ replicate 16 one_pin) (one_pin ∷ []) → ⊥
 a_seventeenth_pin keep = absurd (let e : Version 1 ≡ ScopeFull = keep.0.1 refl in cc)
 
-a_peek_at_another_version : KeepPins (made a 5 ∷ one_pin ∷ []) (by 1 (Peek a) (Bytes 2 []) ∷ []) → ⊥
+a_peek_at_another_version : KeepScopes (made a 5 ∷ one_pin ∷ []) (by 1 (Peek a) (Bytes 2 []) ∷ []) → ⊥
 a_peek_at_another_version keep = absurd (let e = keep.0.1 in cc)
 
-a_peek_under_no_pin : KeepPins (made a 5 ∷ []) (by 1 (Peek a) (Bytes 1 []) ∷ []) → ⊥
+a_peek_under_no_pin : KeepScopes (made a 5 ∷ []) (by 1 (Peek a) (Bytes 1 []) ∷ []) → ⊥
 a_peek_under_no_pin keep = absurd (let e : Bytes 1 [] ≡ NotPinned = keep.0 in cc)
 
-a_pin_that_is_not_given_back : KeepPins (made a 5 ∷ one_pin ∷ []) (by 1 (Unpin a) NotPinned ∷ []) → ⊥
+a_pin_that_is_not_given_back : KeepScopes (made a 5 ∷ one_pin ∷ []) (by 1 (Unpin a) NotPinned ∷ []) → ⊥
 a_pin_that_is_not_given_back keep = absurd (let e : NotPinned ≡ Done = keep.0 in cc)
 
-a_pin_that_is_not_counted : KeepPins (made a 5 ∷ one_pin ∷ []) (by 1 Leave (Left 0) ∷ []) → ⊥
+a_pin_that_is_not_counted : KeepScopes (made a 5 ∷ one_pin ∷ []) (by 1 Leave (Left 0) ∷ []) → ⊥
 a_pin_that_is_not_counted keep = absurd (let e : Left 0 ≡ Left 1 = keep.0 in cc)
 
-a_name_without_a_handle : KeepPins [] (by 1 (Peek a) NotPinned ∷ []) → ⊥
+a_name_without_a_handle : KeepScopes [] (by 1 (Peek a) NotPinned ∷ []) → ⊥
 a_name_without_a_handle keep = absurd (let e : NotPinned ≡ Unmade = keep.0 in cc)
 
 -- the pins of another lane are none of this one
-another_lanes_pin : KeepPins (made a 5 ∷ one_pin ∷ []) (by 2 (Peek a) NotPinned ∷ [])
+another_lanes_pin : KeepScopes (made a 5 ∷ one_pin ∷ []) (by 2 (Peek a) NotPinned ∷ [])
 another_lanes_pin = (refl, tt)
 
--- how many pins hold a write up is not said of lanes beside others
+-- a write that is held up tells the lane's own pin at least
 abbrev held_up : List Answer
 held_up = by 1 (Write a 0 (7 ∷ [])) (Pinned 0) ∷ []
 
-of_lines_about_pins : KeepPins (made a 5 ∷ one_pin ∷ []) held_up
-of_lines_about_pins = (tt, tt)
-
-of_all_lines : KeepScopes (made a 5 ∷ one_pin ∷ []) held_up → ⊥
-of_all_lines keep = omega (arith, (keep.0 0 refl).0)
+told_past_its_pin : KeepScopes (made a 5 ∷ one_pin ∷ []) held_up → ⊥
+told_past_its_pin keep = omega (arith, (keep.0 0 refl).0)
 
 -- ---- once names and handles are one to one
 no_name : (r : Reply) → AreOneToOne (by 1 Leave r ∷ [])

@@ -4,7 +4,7 @@ use Rattle.cb_types.specs.declared.answer.Answer.{Answer}
 use Rattle.cb_model.specs.Called.{handle_made}
 use Rattle.cb_lanes.specs.declared.body.Named.{Named}
 use Rattle.cb_lanes.specs.Bodies.{AreNamesOf}
-use Rattle.cb_lanes.specs.Scopes.{KeepPins, scope_of}
+use Rattle.cb_lanes.specs.Scopes.{KeepScopes, scope_of}
 
 -- one of the answers gave the name this handle
 abbrev pub IsMadeAs : List Answer → List ℕ → ℕ → Type 0
@@ -20,7 +20,7 @@ AreOneToOne answers = (a b : List ℕ) (g h : ℕ) → IsMadeAs answers a g → 
 -- The answers behind those given are as the scopes of their lanes say, once no name has two handles
 -- and no handle two names.
 abbrev pub AreScoped : List Answer → List Answer → Type 0
-AreScoped given answers = AreOneToOne (given ++ answers) → KeepPins given answers
+AreScoped given answers = AreOneToOne (given ++ answers) → KeepScopes given answers
 
 -- So are the answers of a lane, whatever answers gave the names before, where by these it has no pin.
 abbrev pub LaneScoped : ℕ → List Named → List Answer → Type 0

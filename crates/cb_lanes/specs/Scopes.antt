@@ -70,19 +70,15 @@ UnpinSays (Some version) r = r ≡ answer.Done
 abbrev pub PinnedSays : ℕ → Reply → Type 0
 PinnedSays own r = (count : ℕ) → r ≡ answer.Pinned count → (1 ≤ count) × (own ≤ count)
 
--- what a line about pins on a name that has a handle is answered, by its lane's scope
-abbrev pub PinsSay : Scope → Request → Reply → Type 0
-PinsSay scope (Pin name) r = (r ≡ answer.ScopeFull) ↔ (length scope ≡ 16)
-PinsSay scope (Peek name) r = PeekSays (newest_on name scope) r
-PinsSay scope (Unpin name) r = UnpinSays (newest_on name scope) r
-PinsSay scope request r = Unit {0}
-
--- and any line on such a name
+-- what a line on a name that has a handle is answered, by its lane's scope
 abbrev pub CallSays : Scope → Request → Reply → Type 0
 CallSays scope (Write name at bytes) r = PinnedSays (named_on name scope) r
 CallSays scope (Free name) r = PinnedSays (named_on name scope) r
 CallSays scope (Filter name) r = PinnedSays (named_on name scope) r
-CallSays scope request r = PinsSay scope request r
+CallSays scope (Pin name) r = (r ≡ answer.ScopeFull) ↔ (length scope ≡ 16)
+CallSays scope (Peek name) r = PeekSays (newest_on name scope) r
+CallSays scope (Unpin name) r = UnpinSays (newest_on name scope) r
+CallSays scope request r = Unit {0}
 
 -- and on one that has none, where the line is about pins
 abbrev pub UnmadeSays : Request → Reply → Type 0
@@ -93,24 +89,14 @@ UnmadeSays request r = Unit {0}
 
 -- What a line is answered by its lane's scope, and by whether its name has a handle. A leave is
 -- told how many pins it gave back.
-abbrev pub SaysBy : (Scope → Request → Reply → Type 0) → Option ℕ → Scope → Request → Reply → Type 0
-SaysBy on_object handle scope Leave r = r ≡ answer.Left (length scope)
-SaysBy on_object None scope request r = UnmadeSays request r
-SaysBy on_object (Some h) scope request r = on_object scope request r
-
 abbrev pub ScopeSays : Option ℕ → Scope → Request → Reply → Type 0
-ScopeSays handle scope request r = SaysBy CallSays handle scope request r
+ScopeSays handle scope Leave r = r ≡ answer.Left (length scope)
+ScopeSays None scope request r = UnmadeSays request r
+ScopeSays (Some h) scope request r = CallSays scope request r
 
 -- each answer is as the scope says that its lane has after the answers before it
-abbrev pub KeepBy : (Scope → Request → Reply → Type 0) → List Answer → List Answer → Type 0
-KeepBy on_object before [] = Unit {0}
-KeepBy on_object before (a ∷ after) = SaysBy on_object (handle_named before (name_of a.request))
-    (scope_of a.lane.n before) a.request a.reply
-    × KeepBy on_object (before ++ a ∷ []) after
-
--- so of all lines, and of those about pins
 abbrev pub KeepScopes : List Answer → List Answer → Type 0
-KeepScopes before answers = KeepBy CallSays before answers
-
-abbrev pub KeepPins : List Answer → List Answer → Type 0
-KeepPins before answers = KeepBy PinsSay before answers
+KeepScopes before [] = Unit {0}
+KeepScopes before (a ∷ after) = ScopeSays (handle_named before (name_of a.request))
+    (scope_of a.lane.n before) a.request a.reply
+    × KeepScopes (before ++ a ∷ []) after

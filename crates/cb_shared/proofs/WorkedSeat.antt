@@ -19,7 +19,7 @@ use Rattle.cb_rule.specs.LockSteps.{gave_lock, took_lock}
 use Rattle.cb_rule.specs.Slot.{Slot, Sat}
 use Rattle.cb_rule.specs.Steps.{AreNew, Knows, act}
 use Rattle.cb_shared.specs.Places.{Moves, Place}
-use Rattle.cb_shared.specs.SeatLaws.{Runs, SaysPins}
+use Rattle.cb_shared.specs.SeatLaws.{Runs, SayPins, SaysPins}
 use Rattle.cb_shared.specs.UnderLock.{GivesFar, IsAt, TakesFar}
 use Rattle.cb_shared.proofs.WorkedGround.{calm, made, part, part_pinned, pinned, shared_part, two}
 use Rattle.cb_shared.proofs.WorkedUnder.{beginner, far, known, knows_nothing, last, newcomer, stood}
@@ -114,6 +114,20 @@ claims_what_it_pins words says = let few = (says.here refl).1 in omega (arith, f
 
 looks_agree : Agree looker.known (looks_at pinned)
 looks_agree = (((lit< tt, refl, refl, inl refl), λ hot. absurd (true≢false (sym hot))), tt)
+
+-- so by one event after the other
+says_one_by_one : SayPins (Told 1 4 ∷ Looked 1 pinned ∷ []) looker
+says_one_by_one = (tt, (says_pinned_then, tt))
+  where
+    says_pinned_then : SaysPins (act (Told 1 4) looker) (Looked 1 pinned)
+    says_pinned_then = record {
+      here = λ _. (lit< tt, lit≤ tt, λ alone. absurd (shared_part 1 alone));
+      away = λ off. absurd (off refl);
+      last = λ _ alone. absurd (shared_part 1 alone);
+    }
+
+says_one_too_few : SayPins (Told 1 4 ∷ Looked 1 calm ∷ []) looker → ⊥
+says_one_too_few says = let few = (says.1.0.here refl).1 in omega (arith, few)
 
 module _ (p q : Place) where
   runs_look : p.me.0 ≡ looker → Moves p q (act (Looked 1 pinned) p.me.0)

@@ -80,6 +80,12 @@ newest_worn = record {
   lone = λ l. absurd (shared_part 1 l);
 }
 
+-- two looks at its word, and its last version as read
+worn_is : worn_once 1 calm [] ≡ record (looked_twice 1 calm calm) {
+  seen = last_seen 1 calm [] ∷ [];
+}
+worn_is = refl
+
 finds_it_worn : WriteFinds 1 1 (12 ∷ []) place.Worn part (worn_once 1 calm (2826 ∷ []))
 finds_it_worn = record {
   word = calm;

@@ -6,7 +6,7 @@ use Rattle.cb_world.specs.Memory.{byte_at}
 use Rattle.cb_world.specs.Write.{IsWrite}
 use Rattle.cb_world.specs.Written.{entry}
 use Rattle.cb_rule.specs.declared.view.View.{View}
-use Rattle.cb_rule.specs.Steps.{HasLast, IsNewest, with_freed, with_look}
+use Rattle.cb_rule.specs.Steps.{HasLast, IsNewest, version_seen, with_freed, with_look}
 use Rattle.cb_shared.specs.declared.answers.WriteAnswer.TheVariants.{Ok, Freed, NotHere, Moving, Range, Pinned, Worn, Raced}
 use Rattle.cb_shared.specs.Writing.{IsPastEnd, IsPinnedSo, IsWorn, IsWrittenHere, WriteGives, last_seen}
 use Rattle.cb_shared.proofs.WorkedGround.{a_stand, away, calm, freed_last, has_last, last_is_freed, last_look, last_state, made, moving, newest_later, newest_made, newest_whole, not_foreign, not_second, owner, part, pinned, shared_part, version_in, whole, words_in}
@@ -124,6 +124,10 @@ one_look p = eqb-false 1 2 refl (ap looks_of p.left)
 -- ---- a version that has no next one
 abbrev last_made : View
 last_made = record part { written = entry 1 18446744073709551615 8 [] (2826 ∷ []) ∷ [] }
+
+-- which is read at a word
+last_is : last_seen 1 calm (2826 ∷ []) ≡ version_seen 1 18446744073709551615 8 (2826 ∷ [])
+last_is = refl
 
 -- two looks at a word, at which it is read
 abbrev twice : ℕ → View → View
