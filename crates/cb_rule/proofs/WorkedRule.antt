@@ -264,15 +264,13 @@ abbrev reader : View
 reader = record (opener pair_of) { seen = freed_seen 1 5 ∷ [] }
 
 stands_read_and_unwritten : Stand zeros (reader ∷ []) → ⊥
-stands_read_and_unwritten w = let z = w.entries.read (freed_seen 1 5) (reader, (0, refl), inl refl) in
+stands_read_and_unwritten w =
+    let z = w.entries.read (freed_seen 1 5) (reader, (0, refl), inl refl) in
     wrote_none reader refl z.0 z.1
 
 -- ---- what a table shows: the objects that are known, each word as it is
-shown_words : as_shown record pair_of { frames = 0 } (0 ∷ 6 ∷ 2 ∷ 7 ∷ 8 ∷ []) stale ≡ record stale {
-  hots = true ∷ false ∷ [];
-  versions = 7 ∷ 8 ∷ [];
-  memory = [];
-}
+shown_words : as_shown record pair_of { frames = 0 } (0 ∷ 6 ∷ 2 ∷ 7 ∷ 8 ∷ []) stale
+    ≡ record stale { hots = true ∷ false ∷ []; versions = 7 ∷ 8 ∷ []; memory = [] }
 unfolding window
 shown_words = refl
 
@@ -343,8 +341,8 @@ gives_what_it_did_not_find : MayGive quiet pair_of Evict None (far 2)
 gives_what_it_did_not_find m =
     true≢false (sym (ap (λ (s : Seen). s.freed) m.found.0.entry))
 
--- ---- what was known of an object when a turn began, and what a claim told: from the first version
--- on, and so at that time
+-- ---- what was known of an object when a turn began, and what a claim told: from the first
+-- version on, and so at that time
 abbrev Began : Object → Type 0
 Began o = OldOk 3 [] 0 1 o
 

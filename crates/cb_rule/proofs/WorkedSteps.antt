@@ -68,7 +68,8 @@ owned = (lit< tt, spares)
     spares (suc (suc h)) = tt
 
 tells : Steps told 4 worker 3 (act (Told 1 3) worker)
-tells = of_one (λ h. Does (lone worker) (Told h 3) (lone (act (Told 1 3) worker))) (refl, λ _. refl) 3
+tells = of_one (λ h. Does (lone worker) (Told h 3) (lone (act (Told 1 3) worker)))
+    (refl, λ _. refl) 3
 
 tells_unnoted : Steps told 4 worker 3 worker → ⊥
 tells_unnoted t = differ acts_in worker (act (Told 1 3) worker) refl (t 1 refl).0
@@ -87,7 +88,8 @@ loads_another_word : (w : View) → Steps loaded 5 worker 8 w → ⊥
 loads_another_word w t = let e : 8 ≡ 9 = (t 0 refl).1 owned in omega (arith, e)
 
 stores : Steps stored 6 worker 8 (act (Stored 1 8) worker)
-stores = of_one (λ p. Does (lone worker) (Stored p 8) (lone (act (Stored 1 8) worker))) (refl, tt) 5
+stores = of_one (λ p. Does (lone worker) (Stored p 8) (lone (act (Stored 1 8) worker)))
+    (refl, tt) 5
 
 stores_unnoted : Steps stored 6 worker 8 worker → ⊥
 stores_unnoted t = differ acts_in worker (act (Stored 1 8) worker) refl (t 1 refl).0
@@ -103,8 +105,8 @@ settles_unnoted : Steps settled 2 worker 0 worker → ⊥
 settles_unnoted t = differ acts_in worker (act (Settled 1 0) worker) refl (t 1 refl).0.0
 
 -- an object of which it has a later version is not freed at this one
-settles_an_old_version : (w : View) → Steps settled 2 record worker { seen = freed_seen 1 5 ∷ [] } 0 w
-    → ⊥
+settles_an_old_version : (w : View)
+    → Steps settled 2 record worker { seen = freed_seen 1 5 ∷ [] } 0 w → ⊥
 settles_an_old_version w t = let e : 5 < 3 = (t 1 refl).1.0.seen.0 refl in omega (arith, e)
 
 -- ---- a seat that made object 1 and shares all handles
@@ -209,7 +211,8 @@ pins_unnoted : Steps pinned 2 maker (here_word 8) (with_look 1 (here_word 8) mak
 pins_unnoted p = let z = (p 1 refl).0 refl in differ (λ v. length v.pins)
     (with_look 1 (here_word 8) maker) (with_pin 1 (here_word 8) z.0 z.1 maker) refl z.2
 
-pins_below : Steps pinned 2 maker (here_word 8) (with_pin 1 (here_word 8) 2 (7 ∷ []) maker) → ⊥
+pins_below : Steps pinned 2 maker (here_word 8) (with_pin 1 (here_word 8) 2 (7 ∷ []) maker)
+    → ⊥
 pins_below p = let z = (p 1 refl).0 refl in
     let two : 2 ≡ z.0 = ap (λ (m : Sat). version_in m.0.seen) z.2 in
     let above : 3 ≤ z.0 = z.3.above.written.0 refl in omega (arith, two, above)
@@ -376,7 +379,8 @@ puts_back : Steps put_back 2 claimer 65538 (without_claim 1 claimer)
 puts_back = of_one (λ h. lone (without_claim 1 claimer) ≡ lone (without_claim h claimer)) refl 1
 
 puts_nothing_back : Steps put_back 2 claimer 65538 claimer → ⊥
-puts_nothing_back b = differ (λ v. length v.claims) claimer (without_claim 1 claimer) refl (b 1 refl)
+puts_nothing_back b =
+    differ (λ v. length v.claims) claimer (without_claim 1 claimer) refl (b 1 refl)
 
 -- ---- seats that are split and joined
 abbrev its_peek : Peeked
