@@ -1,13 +1,12 @@
 -- Worked examples of what lines entered, what turns they are and what they had happen, and what
 -- breaks one part alone.
-use Rattle.std.proofs.Common.{◌≡◌, ℕ, suc, ◌+◌, List, [], ◌∷◌, ◌++◌, length, Some, None, sym, refl, ap, ◌∙◌, inl, false, arith, length-append}
+use Rattle.std.proofs.Common.{◌≡◌, ℕ, List, [], ◌∷◌, ◌++◌, length, Some, None, sym, refl, ap, ◌∙◌, inl, false, arith, length-append}
 use Rattle.cb_types.specs.declared.job.Job.TheVariants as job
 use Rattle.cb_types.specs.declared.reply.Reply.TheVariants as answer
 use Rattle.cb_types.specs.declared.request.Request.TheVariants as request
 use Rattle.cb_world.specs.declared.entry.Entry.{Entry}
 use Rattle.cb_world.specs.Written.{entry}
 use Rattle.cb_record.specs.Backs.{EntersAt, Tells, Wrote, happened_at, turn_at}
-use Rattle.cb_record.specs.Deeds.{Deed}
 use Rattle.cb_record.specs.Needs.{the_object}
 use Rattle.cb_record.specs.Parts.{nothing_more}
 use Rattle.cb_record.proofs.WorkedBacks.{make_enters, make_line, no_bytes, read_line, write_enters, written_at}
