@@ -67,4 +67,5 @@ pub mod WorkedHere
 pub mod WorkedPins
 pub mod WorkedSays
 pub mod WorkedAlone
+pub mod WorkedNames
 pub mod Laws
