@@ -385,11 +385,11 @@ told_else : TurnOk pair_of 3 [] record (turn (far 0) (far 1)) {
 told_else t = claimed_unwritten t.told.0
 
 -- what was the newest before the turn does not count, nor what became it behind the turn
-whole_of : (newer older : List Entry) → made ∷ [] ≡ newer ++ older → 1 ≤ length older
-    → made ∷ [] ≡ older
-whole_of [] older e long = e
-whole_of (x ∷ xs) older e long = absurd (let n : 1 ≡ suc (length (xs ++ older)) =
-    ap (λ (es : List Entry). length es) e in
+whole_of : (es newer older : List Entry) → es ≡ newer ++ older → length es ≤ length older
+    → es ≡ older
+whole_of es [] older e long = e
+whole_of es (x ∷ xs) older e long = absurd (let n : length es ≡ suc (length (xs ++ older)) =
+    ap (λ (ys : List Entry). length ys) e in
     let m = length-append xs older in omega (arith, n, m, long))
 
 none_yet : (newer older : List Entry) → made ∷ [] ≡ newer ++ older → length older ≤ 0
@@ -399,7 +399,7 @@ none_yet newer (x ∷ xs) e short = absurd (omega (arith, short))
 
 began_before : OldOk 3 (made ∷ []) 1 1 never → ⊥
 began_before w = let e : 3 ≡ 0 =
-    ap (λ (es : List Entry). top es 1) (whole_of w.newer w.older w.parts w.low) ∙ w.last in
+    ap (λ (es : List Entry). top es 1) (whole_of (made ∷ []) w.newer w.older w.parts w.low) ∙ w.last in
     omega (arith, e)
 
 began_behind : OldOk 3 (made ∷ []) 0 1 (is.Far 8 3 (7 ∷ [])) → ⊥
@@ -409,3 +409,8 @@ began_behind b = let w = b.1 in
 claimed_behind : TellsOk 3 (made ∷ []) 0 0 (Claimed 1 here 3 (7 ∷ [])) → ⊥
 claimed_behind t = let w = t.1 in
     let e = sym (none_yet w.newer w.older w.parts w.high) ∙ w.last in omega (arith, e)
+
+-- a claim told of a version that was no longer the newest when the turn began
+claimed_before : TellsOk 3 (written ∷ made ∷ []) 2 2 (Claimed 1 here 3 (7 ∷ [])) → ⊥
+claimed_before t = let w = t.1 in let e : 4 ≡ 3 = ap (λ (es : List Entry). top es 1)
+    (whole_of (written ∷ made ∷ []) w.newer w.older w.parts w.low) ∙ w.last in omega (arith, e)
