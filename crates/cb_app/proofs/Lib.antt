@@ -35,3 +35,5 @@ mod RangeTold
 mod UpheldTold
 mod Ran
 mod WorkedTelling
+mod WorkedEnds
+mod WorkedCrew
