@@ -22,16 +22,17 @@ use Rattle.cb_rule.specs.declared.view.View.{View}
 use Rattle.cb_rule.specs.Lists.{Each}
 use Rattle.cb_rule.specs.LockSteps.{AddsTurn, turn_of}
 use Rattle.cb_rule.specs.Slot.{Slot}
-use Rattle.cb_rule.specs.Steps.{freed_seen}
-use Rattle.cb_record.specs.Parts.{Part, nothing_more, sum}
+use Rattle.cb_rule.specs.Steps.{freed_seen, with_look}
+use Rattle.cb_record.specs.Parts.{Part, grown, nothing_more, sum}
+use Rattle.cb_shared.specs.declared.answers.WriteAnswer.TheVariants as place
 use Rattle.cb_shared.specs.declared.pass.Pass.{Pass}
 use Rattle.cb_shared.specs.declared.runtime.Shared.{Shared}
-use Rattle.cb_shared.specs.Calls.{AsksFor, AtNone, AtThis, EndsAtLast, IsInVain, IsWrittenOnce, ReadEnds, TurnGives, the_handle, written_once}
+use Rattle.cb_shared.specs.Calls.{AsksFor, AtNone, AtThis, EndsAtLast, IsAnswer, IsInVain, IsWrittenOnce, ReadEnds, ReadTries, TurnGives, WriteAnswers, WriteEnds, the_handle, written_once}
 use Rattle.cb_shared.specs.Joining.{IsSpare}
 use Rattle.cb_shared.specs.Passes.{IsPassOf}
 use Rattle.cb_shared.specs.Places.{Place}
 use Rattle.cb_shared.specs.Reading.{IsReadHere, looked, looked_freed, read_once}
-use Rattle.cb_shared.specs.Turning.{Did, Tries, TurnAdds, TurnBy, turn_part}
+use Rattle.cb_shared.specs.Turning.{Did, JobReads, Tries, TurnAdds, TurnBy, turn_part}
 use Rattle.cb_shared.specs.UnderLock.{HasSame, IsEnding, IsQuiet, ReadsBelow}
 use Rattle.cb_shared.proofs.WorkedGround.{a_stand, away, calm, made, moving, newest_made, owner, part, pinned, two, whole, word_in, words_in}
 use Rattle.cb_shared.proofs.WorkedReads.{eight_bytes}
@@ -309,3 +310,44 @@ not_accepted s p e i = let n : 1 ≤ 0 = (subst IsAccepted e i.accepted K).0 in 
 
 spare_with_a_slot : (z : TableId) (p : Place) (x : ℕ × Slot) → p.me.1 ≡ x ∷ [] → IsSpare z p → ⊥
 spare_with_a_slot z p x e i = eqb-false 1 0 refl (ap length (sym e ∙ i.carries))
+
+-- ---- the last try of a write, and what it leaves
+ends_writing_moving : (v : View) (d : Part) → WriteEnds two 1 1 (12 ∷ []) answer.Moving v d → ⊥
+ends_writing_moving v d (inl (place.Ok version, says, finds)) = absurd (let e = says in cc)
+ends_writing_moving v d (inl (place.Freed, says, finds)) = absurd (let e = says in cc)
+ends_writing_moving v d (inl (place.NotHere, says, finds)) = says
+ends_writing_moving v d (inl (place.Moving, says, finds)) = says
+ends_writing_moving v d (inl (place.Range len, says, finds)) = absurd (let e = says in cc)
+ends_writing_moving v d (inl (place.Pinned count, says, finds)) = absurd (let e = says in cc)
+ends_writing_moving v d (inl (place.Worn, says, finds)) = absurd (let e = says in cc)
+ends_writing_moving v d (inl (place.Raced saw word, says, finds)) = says
+ends_writing_moving v d (inr asks) = asks_no_more asks
+  where
+    answers_none : IsAnswer two answer.Moving → ⊥
+    answers_none (inl t) = t
+    answers_none (inr l) = l
+
+    asks_no_more : AsksFor two (jobs.Write (the_handle 1) 1 (12 ∷ [])) answer.Moving 1 v d → ⊥
+    asks_no_more a = answers_none a.turned.0
+
+writes_moving : (v w : View) → WriteAnswers two 1 1 (12 ∷ []) answer.Moving v w → ⊥
+writes_moving v w (d, x, is) = ends_writing_moving (grown x.before v) x.last x.ends_so
+
+reads_unread : ReadTries two 1 (Some answer.Freed) part (with_look 1 0 part) → ⊥
+reads_unread (d, x, is) = eqb-false 0 1 refl (ap (λ (v : View). length v.seen) is
+    ∙ ap (λ (e : Part). length (e.seen ++ [])) x.4)
+
+-- ---- a job reads under a pin where it is a read, and nothing else does
+reads_nothing : JobReads (jobs.Read (the_handle 1)) (Ok answer.Worn) part nothing_more
+reads_nothing = inl (refl, tt)
+
+reads_no_bytes : (bytes : List ℕ)
+    → JobReads (jobs.Read (the_handle 1)) (Ok (answer.Bytes 3 bytes)) part nothing_more → ⊥
+reads_no_bytes bytes (inl (none, tells)) = tells
+reads_no_bytes bytes (inr x) = let all : 0 ≡ x.before.ever + x.last.ever =
+    ap (λ (d : Part). d.ever) x.part in
+    let one : x.last.ever ≡ 1 = ap (λ (d : Part). d.ever) x.finds.part in
+    omega (arith, all, one)
+
+evicts_under_a_pin : JobReads jobs.Evict (Ok answer.Worn) part record nothing_more { ever = 1 } → ⊥
+evicts_under_a_pin r = eqb-false 1 0 refl (ap (λ (d : Part). d.ever) r)
