@@ -1,6 +1,6 @@
 -- Worked names and their handles, what each line asks for, and what the world holds of answers: each
 -- row, and what breaks one part alone.
-use Rattle.std.proofs.Common.{◌≡◌, ℕ, ◌<◌, List, [], ◌∷◌, length, replicate, Option, Some, None, refl, sym, ap, ◌∙◌, arith}
+use Rattle.std.proofs.Common.{◌≡◌, ℕ, ◌<◌, List, [], ◌∷◌, length, replicate, Option, Some, None, inl, inr, refl, sym, ap, ◌∙◌, arith}
 use Rattle.std.specs.Option.{option_map}
 use Rattle.cb_types.specs.declared.answer.Answer.{Answer}
 use Rattle.cb_types.specs.declared.handle.Handle.{Handle}
@@ -15,6 +15,7 @@ use Rattle.cb_core.specs.NowIn.{IsLostAt, now_in}
 use Rattle.cb_ptr.specs.declared.word.State.TheVariants as state
 use Rattle.cb_ptr.specs.Word.{state_of}
 use Rattle.cb_rule.specs.declared.view.Seen.{Seen}
+use Rattle.cb_rule.specs.declared.view.View.{View}
 use Rattle.cb_world.specs.Now.Now.{gone, held}
 use Rattle.cb_world.specs.World.{WorldState, word_at}
 use Rattle.cb_model.specs.Event.Event.{Makes, Shows, Pins as Pinned, FindsFull, FindsFreed, Refused, Wrong}
@@ -28,7 +29,9 @@ use Rattle.cb_lanes.specs.LineGoes.Ask.{Calls, Pins, Peeks, Unpins}
 use Rattle.cb_lanes.specs.LineStep.{CompactsAt, PeekStep, PinLine, TurnAt, goes_at}
 use Rattle.cb_lanes.specs.MayAsk.{MayCall}
 use Rattle.cb_lanes.specs.Names.{AreKept, AreNamed, AreReady, Names, handle_at, handle_in, kept_handle, kept_number, number_after}
-use Rattle.cb_lanes.specs.Suits.{Suits}
+use Rattle.cb_lanes.specs.Passing.{UnpinGoes}
+use Rattle.cb_lanes.specs.Suits.{AreSuited, Suits}
+use Rattle.cb_lanes.proofs.WorkedPassing.{pinning}
 
 abbrev a : List ℕ
 a = 97 ∷ []
@@ -252,3 +255,17 @@ module _ (w : WorldState) where
   lost_and_held : (answers : List Answer) (x : HoldsAnswers w answers) (bytes : List ℕ)
       → IsLostAt w 0 2 → now_in w x.shown 0 ≡ held 2 bytes → ⊥
   lost_and_held answers x bytes lost is = absurd (let e = sym is ∙ x.gone.told 0 2 lost in cc)
+
+-- ---- a lane with two pins is not told that it has none on object 1, nor gives one back of object 2
+unpins_and_refuses : UnpinGoes 1 pinning answer.NotPinned pinning → ⊥
+unpins_and_refuses (inl x) = x.no_pin.0 refl
+unpins_and_refuses (inr x) = absurd (let e = x.told in cc)
+
+unpins_another : (w : View) → UnpinGoes 2 pinning answer.Done w → ⊥
+unpins_another w (inl x) = absurd (let e = x.told in cc)
+unpins_another w (inr x) = let some = x.some in omega (arith, some)
+
+-- the second of two lines does not suit its name
+second_unsuited : AreSuited [] (record { handle = Some 3; request = Read a; reply = answer.Freed }
+    ∷ record { handle = None; request = Read a; reply = answer.Freed } ∷ []) → ⊥
+second_unsuited s = s.1.0
