@@ -9,6 +9,7 @@ use Rattle.cb_types.specs.declared.answer.Answer.{Answer}
 use Rattle.cb_types.specs.declared.config.Config.{Config}
 use Rattle.cb_script.specs.declared.fault.Reason.{Reason}
 use Rattle.cb_script.specs.declared.fault.Reason.TheVariants.{Header}
+use Rattle.cb_script.specs.declared.script.Script.{Script}
 use Rattle.cb_script.proofs.PublicLaws.{empty_input, differ}
 use Rattle.cb_cli.specs.Taken.{IsTaken}
 use Rattle.cb_cli.specs.Texts.{fault_text, words_refused}
@@ -20,12 +21,14 @@ use Rattle.cb_cli.specs.declared.words.Command.{Command}
 use Rattle.cb_cli.specs.declared.words.Command.TheVariants.{Seq, Threads, Local, Check, Rma, Scrub}
 use Rattle.cb_cli.proofs.Laws.{no_word, seq_named}
 use Rattle.cb_gen.specs.Drawn.{drawn_config}
+use Rattle.cb_lanes.specs.declared.side.Side.{Side}
 use Rattle.cb_lanes.specs.declared.side.Side.TheVariants.{Nodes, Compute}
+use Rattle.cb_world.specs.World.{IsSoundWorld, WorldState}
 use Rattle.cb_app.specs.declared.ending.Ending.{Ending}
 use Rattle.cb_app.specs.Modes.{Accepts, Refuses, Yields, command_of}
-use Rattle.cb_app.specs.Outcome.{AreWordsRefused, Ends, IsCut, IsDone, IsDrawn, IsDue, IsScriptRefused, RefusesScript, RoseOnRead, RoseOnWrite}
+use Rattle.cb_app.specs.Outcome.{AreWordsRefused, Ends, IsCut, IsDone, IsDrawn, IsDue, IsScriptRefused, RefusesScript, RoseOnRead, RoseOnWrite, TellsSummary}
 use Rattle.cb_app.specs.Outcome.IsDue.{WhereDone, WhereDrawn, WhereWordsRefused, WhereScriptRefused}
-use Rattle.cb_app.specs.Scripts.{TellsFault}
+use Rattle.cb_app.specs.Scripts.{IsAnswered, TellsFault}
 use Rattle.cb_app.proofs.Modes.{not_both}
 
 abbrev small : Config
@@ -282,3 +285,48 @@ rises_on_memory e = omega (arith, e)
 
 reading_rises_on_writing : RoseOnRead (Err Write) 1 2 → ⊥
 reading_rises_on_writing e = omega (arith, e)
+
+-- ---- a script that was answered in order: the lines lead to the world that is left, which is sound
+-- and holds what the map has
+abbrev left_by : WorldState → Ending
+left_by world = record empty { config = Some small; world = Some world }
+
+the_world : (side : Side) (s : Script) (world : WorldState)
+    → (is : IsAnswered side s (left_by world)) → is.world ≡ world
+the_world side s world is = same is.left
+  where
+    same : {w : WorldState} → Some world ≡ Some w → w ≡ world
+    same e = cc
+
+-- without lines no turn is counted
+a_turn_of_no_line : (side : Side) (s : Script) (world : WorldState) → world.far.counts.turns ≡ 1
+    → IsAnswered side s (left_by world) → ⊥
+a_turn_of_no_line side s world one is =
+    let none : is.world.far.counts.turns ≡ 0 =
+    ap (λ (w : WorldState). w.far.counts.turns) is.leads in
+    let same = ap (λ (w : WorldState). w.far.counts.turns) (the_world side s world is) in
+    omega (arith, one, none, same)
+
+an_unsound_world : (side : Side) (s : Script) (world : WorldState) → (IsSoundWorld world → ⊥)
+    → IsAnswered side s (left_by world) → ⊥
+an_unsound_world side s world unsound is =
+    unsound (subst IsSoundWorld (the_world side s world is) is.sound)
+
+-- no answer made an object
+an_object_of_no_make : (side : Side) (s : Script) (world : WorldState) → world.far.made ≡ 1
+    → IsAnswered side s (left_by world) → ⊥
+an_object_of_no_make side s world one is =
+    let none : 0 ≡ is.world.far.made = is.holds.beside.made in
+    let same = ap (λ (w : WorldState). w.far.made) (the_world side s world is) in
+    omega (arith, one, none, same)
+
+-- a summary that no words ask for
+summary_without_words : (before after held_before held_after : Option (List ℕ)) (new : Ending)
+    → TellsSummary [] before after held_before held_after new → ⊥
+summary_without_words before after held_before held_after new t =
+    no_word (Draw t.1.plan) t.1.words_are
+
+-- one of which nothing is put
+summary_and_untold : (words : List (String Global)) (before after : Option (List ℕ)) (new : Ending)
+    → (t : TellsSummary words before after (Some (7 ∷ [])) (Some (8 ∷ [])) new) → ⊥
+summary_and_untold words before after new t = absurd (let e = t.2 in cc)
