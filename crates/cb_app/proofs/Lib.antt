@@ -45,3 +45,5 @@ mod CalmTold
 mod Ran
 mod WorkedTelling
 mod WorkedCalm
+mod WorkedEnds
+mod WorkedCrew

@@ -90,4 +90,5 @@ pub mod WorkedAlone
 pub mod WorkedAloneUntil
 pub mod WorkedLaneKeeps
 pub mod WorkedOwn
+pub mod WorkedNames
 pub mod Laws

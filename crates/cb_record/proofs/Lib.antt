@@ -22,3 +22,5 @@ mod WorkedBacks
 mod WorkedWrote
 mod WorkedRises
 mod WorkedLeft
+mod WorkedJobs
+mod WorkedKnown

@@ -49,3 +49,5 @@ pub mod WorkedClosing
 pub mod WorkedShown
 pub mod WorkedLast
 pub mod WorkedRecords
+pub mod WorkedSteps
+pub mod WorkedRule

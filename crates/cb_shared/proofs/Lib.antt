@@ -48,4 +48,6 @@ pub mod WorkedFinds
 pub mod WorkedCalls
 pub mod WorkedTries
 pub mod WorkedMaking
+pub mod WorkedReplies
+pub mod WorkedAdds
 pub mod Laws

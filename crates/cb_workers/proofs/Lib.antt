@@ -7,3 +7,4 @@ mod WorkedRules
 mod WorkedWork
 mod WorkedBodies
 mod WorkedSteps
+mod WorkedOwed
