@@ -14,8 +14,8 @@ ghost use Rattle.cb_text.specs.Line.{text_of};
 use crate::ending::Ending;
 use crate::threads::run_threads;
 use cb_cli::{
-    Command, Verdict, answers_text, answers_text_in_threads, script_fault_text, script_ok_text,
-    with_given,
+    Command, Pieces, Verdict, answers_text, answers_text_in_threads, script_fault_text,
+    script_ok_text, with_given,
 };
 use cb_lanes::{Side, run_lines};
 use cb_rma_text::rma_bytes;
@@ -59,7 +59,10 @@ fn answer_bytes(
     ensures kept { OnErr result (end.new ≡ end.old) }
 {
     match read_script(alloc, bytes, Mode::Seq) {
-        Ok(script) => Ok(Verdict::Done(answer_script(alloc, side, &script, end)?)),
+        Ok(script) => {
+            let text = answer_script(alloc, side, &script, end)?;
+            Ok(Verdict::Done(Pieces::one(alloc, text)))
+        }
         Err(fault) => refusal(alloc, fault),
     }
 }
@@ -144,7 +147,7 @@ fn thread_script<R: Threads + Wait + Sync>(
     alloc: Global,
     script: &Script,
     end: &mut Ending,
-) -> Result<Bytes, NoMemory>
+) -> Result<Pieces, NoMemory>
     requires script { IsScript script.now }
     requires mode { AreInMode scripts.Threads script.now.lines }
     ensures answered { IfOk result (λ text. IsThreaded script.now end.new
@@ -164,7 +167,10 @@ fn check_bytes(alloc: Global, bytes: &[u8], end: &mut Ending) -> Result<Verdict,
     ensures kept { OnErr result (end.new ≡ end.old) }
 {
     match read_script(alloc, bytes, Mode::Seq) {
-        Ok(script) => Ok(Verdict::Done(check_script(alloc, &script, end)?)),
+        Ok(script) => {
+            let text = check_script(alloc, &script, end)?;
+            Ok(Verdict::Done(Pieces::one(alloc, text)))
+        }
         Err(fault) => refusal(alloc, fault),
     }
 }

@@ -40,10 +40,13 @@ use cb_script::{Line, Lines};
 use cb_shared::{Pass, Shared};
 use cb_types::{Answers, Gate, Lane, NoMemory};
 use cb_workers::{Worker, worker_body};
-use std::alloc::Global;
+use std::alloc::{AllocError, Global};
 use std::sync::Wait;
-use std::thread;
 use std::thread::Threads;
+use std::{mem, thread};
+
+/// So many bytes of a thread's answers are given to it at once.
+const ROOM: usize = 8 << 20;
 
 /// What a thread is for: the lines of a lane, or the turns of a worker.
 #[derive(Drop)]
@@ -89,6 +92,7 @@ pub(crate) fn run_crew<R: Threads + Wait + Sync, G: Gate>(
         ≤ work_in w (record_of first.new.pass)) }
 {
     let tasks = deal(alloc, shared, &mut first.pass, lines)?;
+    warm(alloc, 2 * ROOM);
     let ends = scatter(rt, alloc, shared, tasks, names, gate)?;
     gather(shared, first, ends)
 }
@@ -266,6 +270,13 @@ fn run_task<R: Wait, G: Gate>(
     }
 }
 
+/// Asks for so many bytes, and gives them back at once. After a first call the C library serves
+/// requests of half of that from a thread's own memory, and what it gave to a thread once stays
+/// there. Else that memory grows by a page, and by a call of the system that all threads wait for.
+fn warm(alloc: Global, bytes: usize) {
+    let _room: Result<Vec<u8>, AllocError> = Vec::with_capacity(alloc, bytes);
+}
+
 /// A lane answers its lines.
 fn run_lane<R: Wait, G: Gate>(
     rt: &R,
@@ -287,6 +298,7 @@ fn run_lane<R: Wait, G: Gate>(
         → AreKnownTo (record_of pass) given → IfOk result.left (IsTold shared.now given lines) }
     ensures made { (w : Worker') → IfOk result.left (λ end. 0 ≤ work_in w (record_of end.pass)) }
 {
+    warm(alloc, ROOM);
     match lane_body(rt, alloc, shared, pass, lane, lines.as_slice(), names, gate) {
         Ok(end) => Ended {
             lines,
@@ -391,8 +403,10 @@ fn take_end(shared: &Shared, first: &mut LaneEnd, end: LaneEnd) -> Result<(), No
 fn append(answers: &mut Answers, more: Answers) -> Result<(), NoMemory>
     ensures { IfOk result (λ _. answers.new ≡ answers.old ++ more) }
 {
-    for answer in more.into_vec() {
-        answers.push(answer)?;
-    }
+    let mut more = more.into_vec();
+    let none = Answers::new(*more.allocator());
+    let mut all = mem::replace(answers, none).into_vec();
+    all.append(&mut more)?;
+    *answers = Answers::from(all);
     Ok(())
 }

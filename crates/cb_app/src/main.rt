@@ -18,7 +18,7 @@ use ending::Ending;
 use std::io::ErrorKind;
 use std::process::ExitCode;
 use std::rt::Env;
-use std::{env, io};
+use std::{env, io, mem};
 use top::carbink_run;
 
 /// The words after the program's name.
@@ -57,5 +57,7 @@ fn main(rt: HostRuntime) -> ExitCode {
         &mut sink,
         &mut end,
     );
+    // The system takes all memory back at once, faster than piece by piece.
+    mem::forget(end);
     ExitCode::from(status)
 }

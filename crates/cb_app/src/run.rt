@@ -12,7 +12,9 @@ ghost use Rattle.cb_app.specs.Outcome.{Ends, RoseOnRead, RoseOnWrite, IsDecided}
 use crate::commands::obey;
 use crate::drawn::run_drawn;
 use crate::ending::Ending;
-use cb_cli::{Asked, Command, Due, Failure, Verdict, WORDS_REFUSED, asked_of, put_all, take_all};
+use cb_cli::{
+    Asked, Command, Due, Failure, Verdict, WORDS_REFUSED, asked_of, put_all, put_pieces, take_all,
+};
 use cb_types::{Sink, Source};
 use std::alloc::Global;
 use std::sync::Wait;
@@ -77,7 +79,7 @@ fn run_command<R: Threads + Wait + Sync, S: Source, K: Sink>(
 {
     match judge(rt, alloc, command, source, end)? {
         Verdict::Done(text) => {
-            put_all(sink, text.as_slice())?;
+            put_pieces(sink, &text)?;
             Ok(Due::Done)
         }
         Verdict::Refused(text) => {

@@ -1,4 +1,7 @@
 pub mod Streams
+pub mod PieceFronts
+pub mod PutEnds
+pub mod WorkedPieces
 pub mod CommandWords
 pub mod LaneCounts
 pub mod AnswerTexts

@@ -8,3 +8,4 @@ pub mod Taken
 pub mod Fronts
 pub mod Puts
 pub mod Reader
+pub mod Pieces

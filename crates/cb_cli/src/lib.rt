@@ -7,6 +7,7 @@ pub mod input;
 pub mod lanes;
 pub mod outcome;
 pub mod output;
+pub mod pieces;
 pub mod texts;
 pub mod verdict;
 pub mod words;
@@ -14,7 +15,8 @@ pub mod words;
 pub use input::{TakeError, take_all};
 pub use lanes::different_lanes;
 pub use outcome::{Due, Failure, status};
-pub use output::{PutFailed, put_all};
+pub use output::{PutFailed, put_all, put_pieces};
+pub use pieces::Pieces;
 pub use texts::{
     WORDS_REFUSED, answers_text, answers_text_in_threads, script_fault_text, script_ok_text,
     with_given,

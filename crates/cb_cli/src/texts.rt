@@ -6,9 +6,10 @@ ghost use Rattle.cb_text.specs.Line.{text_of};
 ghost use Rattle.cb_cli.specs.Texts.{fault_text, check_text, given_line};
 
 use crate::lanes::different_lanes;
+use crate::pieces::Pieces;
 use cb_script::{Reason, Script};
 use cb_text::push_line;
-use cb_types::{Answer, Answers, Bytes, NoMemory};
+use cb_types::{Answer, Answers, Bytes, NoMemory, Reply};
 use std::alloc::Global;
 use std::thread;
 use std::thread::Threads;
@@ -20,6 +21,9 @@ pub const WORDS_REFUSED: &[u8] = b"words refused\n";
 const HALVINGS: u32 = 3;
 
 const FEW: usize = 512;
+
+/// So many bytes are enough for most lines, beside the bytes that they show.
+const LINE: usize = 64;
 
 /// The text of answers, a line each. Each reply is one that its line may have.
 pub fn answers_text(alloc: Global, answers: &Answers) -> Result<Bytes, NoMemory>
@@ -35,11 +39,11 @@ pub fn answers_text_in_threads<R: Threads + Sync>(
     rt: &R,
     alloc: Global,
     answers: &Answers,
-) -> Result<Bytes, NoMemory>
+) -> Result<Pieces, NoMemory>
     requires { AllByRecursion (λ a. IsReplyOf a.request a.reply) answers.now }
     ensures { IfOk result (λ text. text ≡ text_of answers.now) }
 {
-    Ok(Bytes::from(text_by_halves(rt, alloc, answers.as_slice(), HALVINGS)?))
+    text_by_halves(rt, alloc, answers.as_slice(), HALVINGS)
 }
 
 fn text_by_halves<R: Threads + Sync>(
@@ -47,28 +51,28 @@ fn text_by_halves<R: Threads + Sync>(
     alloc: Global,
     answers: &[Answer],
     halvings: u32,
-) -> Result<Vec<u8>, NoMemory>
+) -> Result<Pieces, NoMemory>
     requires { AllByRecursion (λ a. IsReplyOf a.request a.reply) answers.now }
-    ensures { IfOk result (λ text. text.items ≡ text_of answers.now) }
+    ensures { IfOk result (λ text. text ≡ text_of answers.now) }
 {
     if halvings == 0 || answers.len() < FEW {
-        return lines_text(alloc, answers);
+        return Ok(Pieces::one(alloc, Bytes::from(lines_text(alloc, answers)?)));
     }
     let (low, high) = answers.split_at(answers.len() / 2);
     let less = halvings - 1;
     let (front, back) = thread::join(
         rt,
-        || -> Result<Vec<u8>, NoMemory>
+        || -> Result<Pieces, NoMemory>
             requires { IsSync R.row × AllByRecursion (λ a. IsReplyOf a.request a.reply) low.now }
-            ensures { IfOk result (λ text. text.items ≡ text_of low.entry.now) }
+            ensures { IfOk result (λ text. text ≡ text_of low.entry.now) }
         { text_by_halves(rt, alloc, low, less) },
-        || -> Result<Vec<u8>, NoMemory>
+        || -> Result<Pieces, NoMemory>
             requires { IsSync R.row × AllByRecursion (λ a. IsReplyOf a.request a.reply) high.now }
-            ensures { IfOk result (λ text. text.items ≡ text_of high.entry.now) }
+            ensures { IfOk result (λ text. text ≡ text_of high.entry.now) }
         { text_by_halves(rt, alloc, high, less) },
     );
     let mut text = front?;
-    text.extend_from_slice(back?.as_slice())?;
+    text.append(back?)?;
     Ok(text)
 }
 
@@ -76,11 +80,26 @@ fn lines_text(alloc: Global, answers: &[Answer]) -> Result<Vec<u8>, NoMemory>
     requires { AllByRecursion (λ a. IsReplyOf a.request a.reply) answers.now }
     ensures { IfOk result (λ text. text.items ≡ text_of answers.now) }
 {
-    let mut text = Vec::new(alloc);
+    let mut text = Vec::with_capacity(alloc, room_for(answers))?;
     for answer in answers {
         push_line(&mut text, answer.lane, &answer.request, &answer.reply)?;
     }
     Ok(text)
+}
+
+/// About how many bytes the lines of these answers have, so that their memory is asked for at once.
+fn room_for(answers: &[Answer]) -> usize {
+    let mut room: usize = 0;
+    for answer in answers {
+        let shown = match &answer.reply {
+            Reply::Bytes { bytes, .. } => bytes.len(),
+            _ => 0,
+        };
+        room = room
+            .saturating_add(LINE)
+            .saturating_add(shown.saturating_mul(2));
+    }
+    room
 }
 
 /// The text, and behind it a line that tells how many rows the nodes gave out.

@@ -6,7 +6,7 @@ ghost use Rattle.cb_rma_text.specs.Verdicts.{IsVerdict, Refuses, Yields};
 
 use crate::read::{Fault, Schedule, schedule_of};
 use crate::said::{line_refused_text, saids_text};
-use cb_cli::Verdict;
+use cb_cli::{Pieces, Verdict};
 use cb_rma::run_schedule;
 use cb_types::{Bytes, NoMemory};
 use std::alloc::Global;
@@ -28,7 +28,10 @@ fn judge(alloc: Global, bytes: &[u8]) -> Result<Verdict, NoMemory>
     ensures { IfOk result (IsVerdict bytes.now) }
 {
     match schedule_of(alloc, bytes) {
-        Ok(schedule) => Ok(Verdict::Done(answers_text(alloc, &schedule)?)),
+        Ok(schedule) => {
+            let text = answers_text(alloc, &schedule)?;
+            Ok(Verdict::Done(Pieces::one(alloc, text)))
+        }
         Err(Fault::Line { line }) => Ok(Verdict::Refused(line_refused_text(alloc, line)?)),
         Err(Fault::NoMemory) => Err(NoMemory),
     }

@@ -3,7 +3,7 @@ ghost use Rattle.cb_scrub_text.specs.Verdicts.{IsVerdict, Yields, Refuses};
 
 use crate::reading::{Reading, reading_of};
 use crate::telling::{refusal_text, told_of};
-use cb_cli::Verdict;
+use cb_cli::{Pieces, Verdict};
 use cb_types::NoMemory;
 use std::alloc::Global;
 
@@ -25,7 +25,10 @@ fn judge(alloc: Global, bytes: &[u8]) -> Result<Verdict, NoMemory>
     ensures { IfOk result (IsVerdict bytes.now) }
 {
     match reading_of(alloc, bytes)? {
-        Reading::Read(asked) => Ok(Verdict::Done(told_of(alloc, asked)?)),
+        Reading::Read(asked) => {
+            let text = told_of(alloc, asked)?;
+            Ok(Verdict::Done(Pieces::one(alloc, text)))
+        }
         Reading::Bad { line } => Ok(Verdict::Refused(refusal_text(alloc, line)?)),
     }
 }
