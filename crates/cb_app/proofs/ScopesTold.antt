@@ -12,7 +12,7 @@ use Rattle.cb_model.specs.Called.{handle_named, handle_of}
 use Rattle.cb_script.specs.declared.script.Line.{Line}
 use Rattle.cb_lanes.specs.Asked.{asked}
 use Rattle.cb_lanes.specs.Scoped.{AreOneToOne, AreScoped, IsMadeAs}
-use Rattle.cb_lanes.specs.Scopes.{KeepScopes, CallSays, ScopeSays, Scope, scope_after, scope_more, scope_of}
+use Rattle.cb_lanes.specs.Scopes.{KeepScopes, ScopeSays, Scope, scope_after, scope_more, scope_of}
 use Rattle.cb_lanes.proofs.Laws.{made_as_left, made_as_right}
 use Rattle.cb_app.specs.ByLane.{AreOfOthers, IsApart, Uses, of_lane}
 use Rattle.cb_app.specs.Crew.{AreFirst}

@@ -17,7 +17,6 @@ use Rattle.cb_world.specs.Played.{played}
 use Rattle.cb_world.specs.Sound.{Sound}
 use Rattle.cb_world.specs.World.{IsConfigured}
 use Rattle.cb_core.specs.Parts.{Holding}
-use Rattle.cb_core.specs.Turned.{counted}
 use Rattle.cb_rule.specs.declared.turn.Turn.{Turn}
 use Rattle.cb_rule.specs.declared.view.View.{View}
 use Rattle.cb_rule.specs.Lists.{Has, times, total}

@@ -8,9 +8,8 @@ use Rattle.cb_types.specs.declared.config.Config.{Config}
 use Rattle.cb_types.specs.declared.reply.Reply.{Reply}
 use Rattle.cb_types.specs.declared.reply.Reply.TheVariants.{Down, EpochAt, Freed, NoNodes, NoRoom, NoSpans, Unavailable, Worn}
 use Rattle.cb_types.specs.declared.request.Request.{Request}
-use Rattle.cb_types.specs.declared.request.Request.TheVariants.{Crash, Free, Join, Read, Write}
+use Rattle.cb_types.specs.declared.request.Request.TheVariants.{Crash, Join}
 use Rattle.cb_world.specs.FarState.{FarState}
-use Rattle.cb_workers.specs.declared.worker.Worker.{Worker}
 use Rattle.cb_workers.specs.declared.worker.Worker.TheVariants as worker
 use Rattle.cb_app.specs.Telling.{AreEpochs, CountsWorkers, TellsLost, TellsRoom, TellsWorn, epochs_of}
 

@@ -1,7 +1,8 @@
--- A write or a free by a turn is answered Worn where 2^40 turns were counted, or where its object had
--- the last version that there is: a claim told it, or the object was far with it when the turn began.
-use Rattle.std.proofs.Common.{◌≡◌, ◌≢◌, ◌⊎◌, ℕ, ◌+◌, ◌-◌, ◌^◌, Bool, true, false, List, [], ◌∷◌, ◌++◌, length, Option, None, Some, refl, sym, ap, ◌∙◌, subst, inl, inr, ⊎_elim, true≢false, get_or-set_other, arith}
-use Rattle.std.specs.Prelude.{nat_lt, ◌==◌, if◌then◌else◌}
+-- A write or a free by a turn is answered Worn where 2^40 turns were counted, or where its object
+-- had the last version that there is: a claim told it, or the object was far with it when the turn
+-- began.
+use Rattle.std.proofs.Common.{◌≡◌, ◌⊎◌, ℕ, ◌+◌, ◌-◌, ◌^◌, Bool, true, false, List, [], ◌∷◌, ◌++◌, length, None, Some, refl, sym, ap, ◌∙◌, subst, inl, inr, ⊎_elim, true≢false, get_or-set_other, arith}
+use Rattle.std.specs.Prelude.{nat_lt, slice_index_or, ◌==◌, if◌then◌else◌}
 use native.Mathlib.Decide.{ℕ_discrete}
 use Rattle.cb_ptr.specs.declared.word.State.{State}
 use Rattle.cb_ptr.specs.declared.word.State.TheVariants as state
@@ -20,7 +21,7 @@ use Rattle.cb_world.specs.FarState.{FarState}
 use Rattle.cb_world.specs.LocalSound.{IsStamped}
 use Rattle.cb_world.specs.Looks.{IsFound, IsTaken, IsTold, LooksFirst, NoLook}
 use Rattle.cb_world.specs.Played.{Agree, after, played}
-use Rattle.cb_world.specs.Shown.{Fits, IsHeld, object_at, version_at}
+use Rattle.cb_world.specs.Shown.{Fits, IsHeld, never, object_at, version_at}
 use Rattle.cb_world.specs.Sound.{Sound}
 use Rattle.cb_world.specs.Touches.{NoTell, SettlesLast}
 use Rattle.cb_world.proofs.Laws.{recounted_sound}
@@ -273,17 +274,19 @@ declined_worn h at bytes count a m b sound x here d = by d.1.rule
 
     same : (k : ℕ) → object_at m.desk.known k ≡ object_at a.desk.known k
     same k = ap (λ (s : Shown). object_at s k) known
-        ∙ ap (λ (l : List Object). Rattle.std.specs.Prelude.slice_index_or l k Rattle.cb_world.specs.Shown.never)
+        ∙ ap (λ (l : List Object). slice_index_or l k never)
         (x.effect a.desk.known (refl, sound)).objects
 
     sound_then : Sound m.desk.known m.far
     sound_then = subst (λ (s : Shown). Sound s m.far) (sym known)
         (x.sound_after a.desk.known (refl, sound))
 
-    by : IsDeclined h at count m.far (Some answer.Worn) d.1.events → HadLast h a.desk.known b.desk.acts
+    by : IsDeclined h at count m.far (Some answer.Worn) d.1.events
+        → HadLast h a.desk.known b.desk.acts
     by (inl (gone, none, idle)) = absurd (none_some none)
     by (inr (there, (w, n, found, far, told, last, is))) =
-        let at_far = far_found m.desk.known d.1.events h w d.1.ran.1 d.1.looks_first claims found far in
+        let at_far = far_found m.desk.known d.1.events h w d.1.ran.1 d.1.looks_first claims found
+        far in
         let z = far_last m.desk.known m.far h n sound_then at_far
         (told_far m.desk.known d.1.events h n d.1.ran.1 last at_far told)
         (refusal_worn (len_of w) n at count is) in
@@ -298,7 +301,8 @@ where_worn c h at bytes a b sound here (near x never) = write_worn h at bytes a.
 where_worn c h at bytes a b sound here (declined m x d) =
     declined_worn h at bytes (length bytes) a m b sound x here d
 where_worn c h at bytes a b sound here (stays_far m n x d bring never) =
-    absurd (worn_is answer.Worn (brings slate_run slate_shows ReadsByPin by_pin c h n b answer.Worn bring) refl)
+    absurd (worn_is answer.Worn
+    (brings slate_run slate_shows ReadsByPin by_pin c h n b answer.Worn bring) refl)
 where_worn c h at bytes a b sound here (brought m n o f x d bring y) =
     write_worn h at bytes a.desk.known o b y
 
@@ -315,7 +319,8 @@ free_worn h a b sound here x = by (state_of x.rule.reply.word) refl x.rule.reply
         → FreeAs q x.rule.reply.word h x.events answer.Worn → HadLast h a.desk.known b.desk.acts
     by state.Far far (n, told, next) =
         let z = x.rule.reply in
-        let at_far = far_found a.desk.known x.events h z.word x.ran.1 x.looks_first claims z.found far in
+        let at_far = far_found a.desk.known x.events h z.word x.ran.1 x.looks_first claims z.found
+        far in
         inr (far_last a.desk.known a.far h n sound at_far
         (told_far a.desk.known x.events h n x.ran.1 z.settles_last at_far told) (next_worn n next))
     by state.Here far (inl (some, is)) =

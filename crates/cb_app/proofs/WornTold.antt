@@ -113,8 +113,11 @@ module _ (first : ℕ) (v : View) (entries : EntriesStand first (v ∷ [])) (qui
   -- the entry that an entry goes on from, unless it is the first
   before_it : (e : Entry) → Has e v.written → (e.version ≡ first)
       ⊎ ((x : Entry) × Has x v.written × (x.handle ≡ e.handle) × (x.version + 1 ≡ e.version))
-  before_it e there = by (entries.goes_on e (v, (0, refl),
-      subst (λ (fs : List Entry). Has e (fs ++ v.written)) (sym quiet) there))
+  before_it e there = by (entries.goes_on e (
+    v,
+    (0, refl),
+    subst (λ (fs : List Entry). Has e (fs ++ v.written)) (sym quiet) there,
+  ))
     where
       by : GoesOn first (v ∷ []) e → (e.version ≡ first)
           ⊎ ((x : Entry) × Has x v.written × (x.handle ≡ e.handle) × (x.version + 1 ≡ e.version))

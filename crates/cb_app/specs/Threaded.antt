@@ -52,8 +52,8 @@ pub record IsRun (script : Script) (end : ThreadsEnd) : Type 0 where
   pub legal : IsLegal 1 script.config.handles end.answers
   -- and the world holds of each object the last entry of its history in them, or it is gone
   pub holds : HasLast end.answers end.world
-  -- what lines are answered follows from the scopes of their lanes: pin, peek, unpin and leave lines,
-  -- and where a write, a free or a filter is held up by pins
+  -- what lines are answered follows from the scopes of their lanes: pin, peek, unpin and leave
+  -- lines, and where a write, a free or a filter is held up by pins
   pub scopes : KeepScopes [] end.answers
   -- and a lane's own lines are answered by these, by the plain map and by its scope alone, up to the
   -- first one that is told of a want of room or of a loss

@@ -1,14 +1,14 @@
 -- What a line adds to the record of its pass, and that it backs the line's answer.
-use Rattle.std.proofs.Common.{◌≡◌, ◌≢◌, ◌⊎◌, ℕ, zero, suc, ◌+◌, ◌<◌, ◌≤◌, List, [], ◌∷◌, ◌++◌, length, map, slice_index, Option, None, Some, Ok, inl, inr, sym, refl, ap, ◌∙◌, subst, arith}
+use Rattle.std.proofs.Common.{◌≡◌, ◌⊎◌, ℕ, zero, suc, ◌<◌, ◌≤◌, List, [], ◌∷◌, ◌++◌, length, map, Option, None, Some, Ok, inl, inr, sym, refl, ap, ◌∙◌, subst, arith}
 use Rattle.std.specs.Prelude.{MatchOption}
-use Rattle.std.specs.List.{flat_map, sum_by, range_with_len}
+use Rattle.std.specs.List.{flat_map, sum_by}
 use Rattle.std.proofs.lemmas.Bool.{cases_lt}
 use Rattle.std.proofs.lemmas.List.{append-nil}
 use Rattle.std.proofs.lemmas.List.FromFn.{length-map-range_with_len}
 use Rattle.std.proofs.lemmas.List.Sums.{sum_by-cons}
 use Rattle.cb_ptr.specs.declared.word.State.{State}
 use Rattle.cb_ptr.specs.declared.word.State.TheVariants as state
-use Rattle.cb_ptr.specs.Word.{len_of, pins_of, place_of, state_of}
+use Rattle.cb_ptr.specs.Word.{len_of, place_of, state_of}
 use Rattle.cb_types.specs.declared.config.Config.{Config}
 use Rattle.cb_types.specs.declared.job.Job.{Job}
 use Rattle.cb_types.specs.declared.job.Job.TheVariants as job
@@ -23,38 +23,32 @@ use Rattle.cb_world.specs.declared.event.Event.{Event}
 use Rattle.cb_world.specs.declared.shown.Shown.{Shown}
 use Rattle.cb_world.specs.FarState.{FarState}
 use Rattle.cb_world.specs.Memory.{byte_at, bytes_in, words_for}
-use Rattle.cb_world.specs.Write.{IsWrite}
-use Rattle.cb_world.specs.Written.{entry}
 use Rattle.cb_filter.specs.FilterRule.{FilterAs}
 use Rattle.cb_core.specs.Turned.{done, worn}
 use Rattle.cb_mutate.specs.JobWrites.{TurnWrites}
 use Rattle.cb_rule.specs.declared.turn.Turn.{Turn}
-use Rattle.cb_rule.specs.declared.view.Peeked.{Peeked}
-use Rattle.cb_rule.specs.declared.view.Seen.{Seen}
 use Rattle.cb_rule.specs.declared.view.Stand.{Stand}
 use Rattle.cb_rule.specs.declared.view.View.{View}
 use Rattle.cb_rule.specs.Lists.{Each, Has}
-use Rattle.cb_rule.specs.Steps.{Knows, stand, with_look, with_pin, without_pin}
+use Rattle.cb_rule.specs.Steps.{Knows, stand}
 use Rattle.cb_record.specs.Backs.{Backs, Enters, EntersAt, Tells, happened_at, happened_for, pins_at, pins_for, turn_at, turn_of}
 use Rattle.cb_record.specs.Deeds.{Deed, deed, happened, happening}
 use Rattle.cb_record.specs.Lists.{HasOne, IsAmong, beside, both, ended}
 use Rattle.cb_record.specs.Needs.Need.{AFreed}
-use Rattle.cb_record.specs.Needs.{ArePeeked, FindsEmpty, FindsPins, IsFreedAs, IsJobFor, IsTurnFor, Meets, need_of, own_job, peek_at}
+use Rattle.cb_record.specs.Needs.{FindsEmpty, IsFreedAs, IsJobFor, IsTurnFor, Meets, need_of, own_job, peek_at}
 use Rattle.cb_record.specs.Parts.{Grows, Part, grown, nothing_more, sum}
 use Rattle.cb_record.specs.Told.{Told}
-use Rattle.cb_record.proofs.Laws.{among_none, backs_sum, grown-nothing_more, grown-sum, has_one_left, idle_backs}
-use Rattle.cb_shared.specs.Calls.{AsksFor, AtThis, EndsAtLast, IsInVain, IsLack, ReadEnds, ReadGives, Stops, TurnEnds, TurnGives, WriteAnswers, WriteEnds, WriteFinds, IsWrittenOnce, SaysAs, the_handle, worn_once, written_once}
+use Rattle.cb_record.proofs.Laws.{backs_sum, grown-nothing_more, grown-sum, has_one_left, idle_backs}
+use Rattle.cb_shared.specs.Calls.{AsksFor, AtThis, EndsAtLast, IsInVain, IsLack, ReadEnds, ReadGives, TurnGives, WriteAnswers, WriteEnds, WriteFinds, SaysAs, the_handle, worn_once, written_once}
 use Rattle.cb_shared.specs.declared.answers.WriteAnswer.{WriteAnswer}
 use Rattle.cb_shared.specs.declared.answers.WriteAnswer.TheVariants as place
-use Rattle.cb_shared.specs.Joining.{unpinned_all}
-use Rattle.cb_shared.specs.Pinning.{FindsFreed}
 use Rattle.cb_shared.specs.declared.reading.ReadAnswer.TheVariants as found
-use Rattle.cb_shared.specs.Reading.{FindsGone, IsReadHere, looked, looked_freed, looked_twice, read_once}
-use Rattle.cb_shared.specs.Turning.{DidAs, FindsAtLast, TurnAdds, TurnBy, made_by, turn_part, with_own}
+use Rattle.cb_shared.specs.Reading.{FindsGone, looked, looked_freed, read_once}
+use Rattle.cb_shared.specs.Turning.{DidAs, FindsAtLast, TurnAdds, TurnBy, made_by, turn_part}
 use Rattle.cb_shared.proofs.Laws.{freed_part, known_grown}
 use Rattle.cb_lanes.specs.Names.{IsOnObject}
-use Rattle.cb_lanes.specs.LineGoes.{CallGoes, LineGoes, OtherGoes, job_of}
-use Rattle.cb_lanes.specs.Passing.{CallGives, HasNoPin, IsNewestPin, IsNotPinned, IsPinnedOnce, LeaveGoes, PeekGoes, PinEnds, PinGoes, PinsAtLast, UnpinGoes, goes_in, peeks_of}
+use Rattle.cb_lanes.specs.LineGoes.{CallGoes, LineGoes, job_of}
+use Rattle.cb_lanes.specs.Passing.{CallGives, IsNewestPin, IsNotPinned, LeaveGoes, PeekGoes, PinEnds, PinGoes, PinsAtLast, UnpinGoes, goes_in, peeks_of}
 
 -- the record grew by this part, but for its pins and the handles that are its own
 abbrev pub Adds : View → Part → View → Type 0

@@ -2,16 +2,13 @@
 -- answered: what meets each definition, and what breaks one part alone.
 use Rattle.std.proofs.Common.{◌≡◌, ℕ, true, false, List, [], ◌∷◌, Some, None, refl, ap, arith}
 use Rattle.std.proofs.lemmas.Bool.{eqb-false}
-use Rattle.cb_types.specs.declared.handle.Handle.{Handle}
 use Rattle.cb_types.specs.declared.request.Request.{Request}
 use Rattle.cb_types.specs.declared.request.Request.TheVariants.{Make, Read, Write, Free, Pin, Peek, Unpin, Filter, Leave, Evict}
-use Rattle.cb_types.specs.declared.reply.Reply.{Reply}
-use Rattle.cb_types.specs.declared.reply.Reply.TheVariants.{Made, Version, Bytes, Done, Left, Unmade, Freed, Range, Pinned, ScopeFull, NotPinned, Moving}
+use Rattle.cb_types.specs.declared.reply.Reply.TheVariants.{Made, Version, Bytes, Done, Left, Unmade, Freed, Range, Pinned, ScopeFull, NotPinned}
 use Rattle.cb_model.specs.declared.object.Object.TheVariants as has
 use Rattle.cb_model.specs.Now.{Now}
 use Rattle.cb_script.specs.declared.script.Line.{Line}
-use Rattle.cb_rule.specs.declared.view.Stand.{Stand}
-use Rattle.cb_lanes.specs.Alone.{LaneState, NamedNow, alone_more, change_alone, free_alone, fresh_lane, is_leave, is_maker, is_maker_of, makes_named, now_after, objects_after, own_name, peek_alone, pin_alone, pin_object, pins_shared, read_alone, unpin_alone, write_alone}
+use Rattle.cb_lanes.specs.Alone.{LaneState, NamedNow, alone_more, change_alone, free_alone, is_leave, is_maker, is_maker_of, makes_named, now_after, objects_after, own_name, peek_alone, pin_alone, pin_object, pins_shared, read_alone, unpin_alone, write_alone}
 use Rattle.cb_lanes.specs.Bodies.{KnowsHandle, number_of}
 use Rattle.cb_lanes.specs.LinesLeft.{lanes_of}
 use Rattle.cb_lanes.specs.Names.{IsOnObject}

@@ -133,8 +133,8 @@ IsJobFor own None j = own ≡ Some j
 abbrev pub IsTurnFor : Option Job → Option ℕ → Reply → Turn → Type 0
 IsTurnFor own h reply t = (t.reply ≡ Some reply) × IsJobFor own h t.job
 
--- A part of a record has what is needed. Pins and an end are found by a look, and the last version by
--- a claim, or by a turn of the line's own.
+-- A part of a record has what is needed. Pins and an end are found by a look, and the last version
+-- by a claim, or by a turn of the line's own.
 abbrev pub Meets : parts.Part → Need → Type 0
 Meets d Nothing = Unit {0}
 Meets d (ARead h version bytes) = HasOne (IsReadAs h version bytes) d.seen

@@ -1,5 +1,5 @@
--- The rule says what the turns of all views were told of objects, so the versions that they were told
--- were written.
+-- The rule says what the turns of all views were told of objects, so the versions that they were
+-- told were written.
 use Rattle.std.proofs.Common.{◌≡◌, ℕ, ◌<◌, ◌≤◌, List, sym, ◌∙◌, subst, arith}
 use Rattle.cb_ptr.specs.declared.word.State.TheVariants as word
 use Rattle.cb_ptr.specs.Word.{state_of}

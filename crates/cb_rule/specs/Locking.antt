@@ -36,8 +36,8 @@ abbrev pub turns_on : ℕ → View → ℕ
 turns_on k v = times (is_turn k) v.turns
 
 -- Far states by how many turns were counted, and how many are counted now: the turn took the one of
--- its number, which was sound for what it knew when it began, and gave the next. One that was refused
--- after 2^40 turns gave what it took.
+-- its number, which was sound for what it knew when it began, and gave the next. One that was
+-- refused after 2^40 turns gave what it took.
 pub record TurnStands (deeds : Deeds) (c : Config) (count : ℕ) (chain : ℕ → FarState) (t : Turn)
     : Type 0 where
   pub took : t.took ≡ chain (turn_number t)

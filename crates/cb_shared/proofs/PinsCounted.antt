@@ -1,5 +1,5 @@
--- A write, a free or a filter by a turn tells of its object: its reply is by the word that was found last, and
--- each word that was found tells of the pins and of the last entry.
+-- A write, a free or a filter by a turn tells of its object: its reply is by the word that was found
+-- last, and each word that was found tells of the pins and of the last entry.
 use Rattle.std.proofs.Common.{◌≡◌, ◌≢◌, ℕ, zero, suc, ◌+◌, ◌-◌, ◌^◌, ◌≤◌, Bool, true, false, List, [], ◌∷◌, ◌++◌, length, Option, None, Some, Result, Ok, Err, sym, ap, ◌∙◌, subst, inl, inr, arith, refl, append_assoc}
 use Rattle.std.specs.Prelude.{nat_lt, ◌==◌, if◌then◌else◌}
 use Rattle.cb_member.specs.declared.no_memory.NoMemory.{NoMemory}

@@ -158,7 +158,8 @@ pub still_unwritten : (es fs : List Event) (s : Shown) (old : List Entry)
 still_unwritten es fs s old none =
     let here : written_by es s old ≡ [] =
     nothing_behind (written_by fs (played es s) []) (written_by es s old)
-    (sym (written_more fs (played es s) (written_by es s old)) ∙ sym (written_then es fs s old) ∙ none) in
+    (sym (written_more fs (played es s) (written_by es s old)) ∙ sym (written_then es fs s old)
+    ∙ none) in
     here ∙ sym (nothing_behind (written_by es s []) old (sym (written_more es s old) ∙ here))
 
 -- what a seat wrote that had written nothing in its turn

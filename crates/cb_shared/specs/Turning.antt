@@ -158,10 +158,10 @@ abbrev pub FindsFreed : Option ℕ → View → Part → Type 0
 FindsFreed (Some h) v d = FindsAtLast h found.Freed v d
 FindsFreed None v d = d ≡ nothing_more
 
--- What a write, a free or a filter tells of its object, by the word that it found last. It is Pinned
--- where there are some pins: as many at least as the pass has on it, and these alone where no other
--- pass has the object. A version is answered only where the pass has none. Range tells the length of
--- the last entry, which the pass wrote where no other one has the object.
+-- What a write, a free or a filter tells of its object, by the word that it found last. It is
+-- answered Pinned where there are some pins: as many at least as the pass has on it, and these alone
+-- where no other pass has the object. A version is answered only where the pass has none. Range tells
+-- the length of the last entry, which the pass wrote where no other one has the object.
 abbrev pub PinsTold : ℕ → Reply → View → Type 0
 PinsTold h (answer.Pinned count) v =
     (1 ≤ count) × (pins_on h v ≤ count) × (IsAlone h v → count ≡ pins_on h v)
@@ -188,9 +188,9 @@ with_own made v = record v { own = made ++ v.own }
 -- What a turn adds to the record v of its pass. It stands there with its job, its reply, what was
 -- known when it began, its events, and the far states that it took and gave, which are those of one
 -- turn more. What it wrote is that of its reply, and new to the record: one above the greatest
--- version that the record has of an object that it knows and no other pass has. A write, a free
--- and a filter count the pins. Each object of which the record has an entry had a version when it began. It is
--- answered Unavailable exactly where it is to be.
+-- version that the record has of an object that it knows and no other pass has. A write, a free and
+-- a filter tell of the object by its word (`pins`). Each object of which the record has an entry had
+-- a version when it began. It is answered Unavailable exactly where it is to be.
 pub record TurnAdds (c : Config) (job : Job) (r : Result Reply NoMemory) (v : View) (d : Part)
     : Type 0 where
   pub turn : Turn
