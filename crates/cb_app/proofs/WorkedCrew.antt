@@ -1,12 +1,12 @@
 -- Worked examples of what threads are told of versions, of turns that are counted, and of tasks that
 -- are dealt; and what breaks one part alone.
-use Rattle.std.proofs.Common.{◌≡◌, ℕ, ◌+◌, ◌^◌, ◌-◌, ◌<◌, ◌≤◌, List, [], ◌∷◌, Some, None, refl, inl, inr, lit<, arith}
+use Rattle.std.proofs.Common.{◌≡◌, ℕ, ◌+◌, ◌^◌, ◌-◌, ◌≤◌, List, [], ◌∷◌, Some, None, refl, inl, inr, lit<, arith}
 use Rattle.cb_types.specs.declared.answer.Answer.{Answer}
 use Rattle.cb_types.specs.declared.config.Config.{Config}
 use Rattle.cb_types.specs.declared.job.Job.{Job}
 use Rattle.cb_types.specs.declared.job.Job.TheVariants as job
 use Rattle.cb_types.specs.declared.reply.Reply.{Reply}
-use Rattle.cb_types.specs.declared.reply.Reply.TheVariants.{Bytes, Done, EpochAt, Freed, Left, Made, Version}
+use Rattle.cb_types.specs.declared.reply.Reply.TheVariants.{Bytes, Done, EpochAt, Left, Made, Version}
 use Rattle.cb_types.specs.declared.request.Request.{Request}
 use Rattle.cb_types.specs.declared.request.Request.TheVariants.{Leave, Make, Read, Write}
 use Rattle.cb_types.specs.Jobs.{job_index}
@@ -21,7 +21,6 @@ use Rattle.cb_shared.specs.declared.runtime.Shared.{Shared}
 use Rattle.cb_shared.specs.Passes.{record_of}
 use Rattle.cb_lanes.specs.Rising.{FreedIsLast}
 use Rattle.cb_workers.specs.Rules.{visit}
-use Rattle.cb_workers.specs.declared.worker.Worker.{Worker as Worker'}
 use Rattle.cb_workers.specs.declared.worker.Worker.TheVariants as worker
 use Rattle.cb_app.specs.Crew.{AreFirst, IsDealt, IsTold, NeverFall, RiseWith, StandIn, lines_due, lines_left, turns_as, turns_due, work_in}
 use Rattle.cb_app.specs.declared.crew.Body.TheVariants.{Lane, Worker}
@@ -33,7 +32,8 @@ abbrev a : List ℕ
 a = 97 ∷ []
 
 abbrev answer : ℕ → Request → Reply → Answer
-answer lane request reply = record { lane = record { n = lane }; line = 2; request = request; reply = reply }
+answer lane request reply =
+    record { lane = record { n = lane }; line = 2; request = request; reply = reply }
 
 abbrev leave : Line
 leave = record { lane = record { n = 2 }; line = 2; request = Leave }
@@ -66,8 +66,10 @@ by_worker = (refl, refl, refl, refl)
 module _ (t : Turn) (v : View) where
   abbrev with_jobs : View
   with_jobs = record v {
-    turns = record t { job = job.Merge } ∷ record t { job = job.Merge } ∷ record t { job = job.Patch }
-        ∷ record t { job = visit 3 } ∷ record t { job = job.Rebuild } ∷ record t { job = job.Compact } ∷ [];
+    turns = record t { job = job.Merge } ∷ record t { job = job.Merge }
+        ∷ record t { job = job.Patch }
+        ∷ record t { job = visit 3 } ∷ record t { job = job.Rebuild }
+        ∷ record t { job = job.Compact } ∷ [];
   }
 
   turns_of_kinds : (turns_as with_jobs job.Merge ≡ 2) × (turns_as with_jobs (visit 0) ≡ 1)

@@ -1,6 +1,6 @@
 -- Worked ends of runs: what is due, what is cut, and what is left, row by row; and what breaks one
 -- part alone.
-use Rattle.std.proofs.Common.{◌≡◌, ◌⊎◌, ℕ, suc, ◌+◌, ◌<◌, ◌^◌, ◌-◌, List, [], ◌∷◌, ◌++◌, length, length-append, zero, Option, Some, None, Ok, Err, refl, sym, ap, ◌∙◌, subst, inl, inr, lit<, arith, String, Global}
+use Rattle.std.proofs.Common.{◌≡◌, ◌⊎◌, ℕ, suc, ◌<◌, List, [], ◌∷◌, ◌++◌, length, length-append, zero, Option, Some, None, Ok, Err, refl, sym, ap, ◌∙◌, subst, inl, inr, lit<, arith, String, Global}
 use Rattle.std.proofs.lemmas.List.{length-take-le}
 use Rattle.std.specs.Prelude.{codes, string_bytes, take}
 use Rattle.std.specs.Fmt.{digits}
@@ -13,12 +13,11 @@ use Rattle.cb_script.specs.declared.script.Script.{Script}
 use Rattle.cb_script.proofs.PublicLaws.{empty_input, differ}
 use Rattle.cb_cli.specs.Taken.{IsTaken}
 use Rattle.cb_cli.specs.Texts.{fault_text, words_refused}
-use Rattle.cb_cli.specs.Words.{word_of}
 use Rattle.cb_cli.specs.declared.outcome.Due.TheVariants as dues
 use Rattle.cb_cli.specs.declared.outcome.Failure.TheVariants.{Read, Write, NoMemory}
 use Rattle.cb_cli.specs.declared.words.Asked.TheVariants.{Draw, Run}
 use Rattle.cb_cli.specs.declared.words.Command.{Command}
-use Rattle.cb_cli.specs.declared.words.Command.TheVariants.{Seq, Threads, Local, Check, Rma, Scrub}
+use Rattle.cb_cli.specs.declared.words.Command.TheVariants.{Seq, Local, Check}
 use Rattle.cb_cli.proofs.Laws.{no_word, seq_named}
 use Rattle.cb_gen.specs.Drawn.{drawn_config}
 use Rattle.cb_lanes.specs.declared.side.Side.{Side}
@@ -92,7 +91,8 @@ module _ (w : String Global) (is : string_bytes w ≡ codes "seq") where
   refuses_script : Refuses_by (Some (7 ∷ fault))
   refuses_script = (fault, refused, refl)
 
-  ends_refused : Ends (w ∷ []) (Some []) (Some []) (Some (7 ∷ [])) (Some (7 ∷ fault)) checked checked
+  ends_refused : Ends (w ∷ []) (Some []) (Some []) (Some (7 ∷ []))
+      (Some (7 ∷ fault)) checked checked
       (Ok dues.ScriptRefused)
   ends_refused = (refuses_script, refl)
 
@@ -100,15 +100,18 @@ module _ (w : String Global) (is : string_bytes w ≡ codes "seq") where
   due_refused = WhereScriptRefused refused refl
 
   -- the text was cut behind its first byte
-  cut_refused : IsCut (w ∷ []) (Some []) (Some []) (Some (7 ∷ [])) (Some (7 ∷ 115 ∷ [])) checked checked
+  cut_refused : IsCut (w ∷ []) (Some []) (Some []) (Some (7 ∷ []))
+      (Some (7 ∷ 115 ∷ [])) checked checked
   cut_refused = (fault, due_refused, (1, lit< tt, refl))
 
-  cut_ends : Ends (w ∷ []) (Some []) (Some []) (Some (7 ∷ [])) (Some (7 ∷ 115 ∷ [])) checked checked
+  cut_ends : Ends (w ∷ []) (Some []) (Some []) (Some (7 ∷ []))
+      (Some (7 ∷ 115 ∷ [])) checked checked
       (Err Write)
   cut_ends = cut_refused
 
 -- the ending changes
-refused_and_changed : (words : List (String Global)) (before after held_before held_after : Option (List ℕ))
+refused_and_changed : (words : List (String Global))
+    (before after held_before held_after : Option (List ℕ))
     → Ends words before after held_before held_after empty checked (Ok dues.ScriptRefused) → ⊥
 refused_and_changed words before after held_before held_after e = changed e.1
 
@@ -124,7 +127,8 @@ refused_and_put : (words : List (String Global)) (before after : Option (List �
 refused_and_put words before after r = absurd (let e = r.2 in cc)
 
 -- what the command accepts is not refused
-refused_and_accepted : (words : List (String Global)) (before after : Option (List ℕ)) (text : List ℕ)
+refused_and_accepted : (words : List (String Global)) (before after : Option (List ℕ))
+    (text : List ℕ)
     → (r : IsScriptRefused words before after text) → Accepts r.command r.bytes → ⊥
 refused_and_accepted words before after text r accepts =
     not_both r.command r.bytes text accepts r.refused
@@ -149,16 +153,16 @@ done_untaken : (words : List (String Global)) (old new : Ending) (text : List �
 done_untaken words old new text d = taken_of_none d.bytes d.taken
 
 -- a check leaves an answer
-done_with_an_answer : (words : List (String Global)) (before after : Option (List ℕ)) (old new : Ending)
-    (text : List ℕ) (a : Answer) → new.answers ≡ a ∷ []
+done_with_an_answer : (words : List (String Global)) (before after : Option (List ℕ))
+    (old new : Ending) (text : List ℕ) (a : Answer) → new.answers ≡ a ∷ []
     → (d : IsDone words before after old new text) → d.command ≡ Check → ⊥
 done_with_an_answer words before after old new text a one d is =
     let yields = subst (λ (c : Command). Yields c d.bytes old new text) is d.yields in
     absurd (let e : a ∷ [] ≡ [] = sym one ∙ yields.2.no_answers in cc)
 
 -- a drawn script leaves no configuration
-drawn_without_a_config : (words : List (String Global)) (before after : Option (List ℕ)) (end : Ending)
-    (text : List ℕ) → end.config ≡ None → IsDrawn words before after end text → ⊥
+drawn_without_a_config : (words : List (String Global)) (before after : Option (List ℕ))
+    (end : Ending) (text : List ℕ) → end.config ≡ None → IsDrawn words before after end text → ⊥
 drawn_without_a_config words before after end text none d =
     absurd (let e : None ≡ Some drawn_config = sym none ∙ d.summed.answered.config in cc)
 
@@ -166,7 +170,8 @@ drawn_without_a_config words before after end text none d =
 nothing_asked : AreWordsRefused [] (Some (1 ∷ [])) (Some (1 ∷ []))
 nothing_asked = record { words_are_not = no_word; nothing_taken = refl }
 
-ends_without_words : Ends [] (Some (1 ∷ [])) (Some (1 ∷ [])) (Some []) (Some words_refused) checked checked
+ends_without_words : Ends [] (Some (1 ∷ [])) (Some (1 ∷ []))
+    (Some []) (Some words_refused) checked checked
     (Ok dues.WordsRefused)
 ends_without_words = (nothing_asked, refl, refl)
 
@@ -217,15 +222,18 @@ done_without_words before after held_before held_after old new (inr t) =
     no_word (Draw t.1.plan) t.1.words_are
 
 -- ---- a run that failed: reading and want of memory leave the ending
-failed_reading : (words : List (String Global)) (before after held_before held_after : Option (List ℕ))
+failed_reading : (words : List (String Global))
+    (before after held_before held_after : Option (List ℕ))
     → Ends words before after held_before held_after empty empty (Err Read)
 failed_reading words before after held_before held_after = refl
 
-failed_reading_and_changed : (words : List (String Global)) (before after held_before held_after : Option (List ℕ))
+failed_reading_and_changed : (words : List (String Global))
+    (before after held_before held_after : Option (List ℕ))
     → Ends words before after held_before held_after empty checked (Err Read) → ⊥
 failed_reading_and_changed words before after held_before held_after e = changed e
 
-failed_for_memory_and_changed : (words : List (String Global)) (before after held_before held_after : Option (List ℕ))
+failed_for_memory_and_changed : (words : List (String Global))
+    (before after held_before held_after : Option (List ℕ))
     → Ends words before after held_before held_after empty checked (Err NoMemory) → ⊥
 failed_for_memory_and_changed words before after held_before held_after e = changed e
 
@@ -266,7 +274,8 @@ cut_of_nothing c = whole c.0 (due_by_words _ _ _ _ c.1).2 c.2.0 c.2.1 c.2.2
     whole text is n few put =
         let all : 14 ≡ length (take n text) = ap (λ (xs : List ℕ). length xs) put in
         let size : length text ≡ 14 = ap (λ (xs : List ℕ). length xs) is in
-        let part = length-take-le n text (omega (arith, few)) in omega (arith, all, size, few, part)
+        let part = length-take-le n text (omega (arith, few)) in
+        omega (arith, all, size, few, part)
 
 -- ---- counts of faults
 rises_on_writing : RoseOnWrite (Err Write) 1 2
