@@ -17,7 +17,7 @@ use Rattle.cb_rule.specs.Own.{IsAlone}
 use Rattle.cb_rule.specs.Lists.{edited, picked, removed}
 use Rattle.cb_rule.specs.Records.{seen_of}
 use Rattle.cb_rule.specs.Slot.{Sat, Slot}
-use Rattle.cb_rule.specs.Steps.{Does, Finds, IsInside, IsNewest, act, all_seen, blank, claimed_here, dated, freed_seen, glanced, held_at, joined, left_of, loaded, look_at, next_entry, nothing, peeked, pinned, put_back, read_held, right_of, settled, settled_here, stamped, stamped_here, stand, stored, stored_here, told, unpinned, version_seen, with_claim, with_freed, with_held, with_look, with_peek, with_pin, with_stamp, with_version, with_word, without_claim, without_pin}
+use Rattle.cb_rule.specs.Steps.{Does, Finds, IsInside, IsNewest, act, all_seen, blank, claimed_here, dated, freed_seen, glanced, held_at, joined, left_of, loaded, look_at, next_entry, nothing, peeked, pinned, put_back, read_held, right_of, settled, settled_here, stamped, stamped_here, stand, stored, stored_here, told, unpinned, version_seen, with_claim, with_freed, with_held, with_look, with_peek, with_pin, with_back, with_stamp, with_version, with_word, without_claim, without_pin}
 use Rattle.cb_rule.proofs.WorkedHistory.{made, written}
 use Rattle.cb_rule.proofs.WorkedLocking.{far, turn}
 use Rattle.cb_rule.proofs.WorkedViews.{here_full, here_word, pair_of}
@@ -375,12 +375,18 @@ settles_unwritten : Steps settled_here 2 claimer 65538 (without_claim 1 claimer)
 settles_unwritten s = differ (λ v. length v.written) (without_claim 1 claimer)
     (with_version the_claim claimer) refl (s the_claim (inl refl) refl)
 
-puts_back : Steps put_back 2 claimer 65538 (without_claim 1 claimer)
-puts_back = of_one (λ h. lone (without_claim 1 claimer) ≡ lone (without_claim h claimer)) refl 1
+puts_back : Steps put_back 2 claimer 65538 (with_back the_claim claimer)
+puts_back x has e = ⊎_elim
+    (λ (is : the_claim ≡ x). ap (λ (q : Held). lone (with_back q claimer)) is)
+    (λ (none_of : ⊥). absurd none_of) has
 
 puts_nothing_back : Steps put_back 2 claimer 65538 claimer → ⊥
-puts_nothing_back b =
-    differ (λ v. length v.claims) claimer (without_claim 1 claimer) refl (b 1 refl)
+puts_nothing_back b = differ (λ v. length v.claims) claimer (with_back the_claim claimer) refl
+    (b the_claim (inl refl) refl)
+
+puts_back_unread : Steps put_back 2 claimer 65538 (without_claim 1 claimer) → ⊥
+puts_back_unread b = differ (λ v. length v.seen) (without_claim 1 claimer)
+    (with_back the_claim claimer) refl (b the_claim (inl refl) refl)
 
 -- ---- seats that are split and joined
 abbrev its_peek : Peeked
