@@ -1,5 +1,5 @@
 -- Worked examples of a text in pieces.
-use Rattle.std.proofs.Common.{◌≡◌, ℕ, List, [], ◌∷◌, refl}
+use Rattle.std.proofs.Common.{◌≡◌, [], ◌∷◌, refl}
 use Rattle.cb_cli.specs.Pieces.{joined}
 
 -- each piece is there, in order, and an empty one adds nothing

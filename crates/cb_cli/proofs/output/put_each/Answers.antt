@@ -1,4 +1,4 @@
-use Rattle.std.proofs.Common.{ℕ, List, ◌+◌, ◌++◌, take, drop, sym, subst, rules}
+use Rattle.std.proofs.Common.{◌+◌, ◌++◌, take, drop, sym, subst, rules}
 use Rattle.std.proofs.lemmas.Result.{err_from_is_err_and}
 use Rattle.cb_cli.specs.Fronts.{GetsFront}
 use Rattle.cb_cli.specs.Pieces.{joined}

@@ -1,4 +1,4 @@
-use Rattle.std.proofs.Common.{ℕ, ◌+◌, ◌*◌}
+use Rattle.std.proofs.Common.{◌+◌, ◌*◌}
 use Rattle.cb_cli.proofs.texts.+fn-text_by_halves-join+arg2+fn-text_by_halves-join+arg3+text_by_halves.Given as goal
 
 abbrev pub decreases-join+arg2 : goal.decreases-join+arg2
