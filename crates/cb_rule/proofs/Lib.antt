@@ -28,6 +28,7 @@ pub mod Allowing
 pub mod Taking
 pub mod Giving
 pub mod Promising
+pub mod OwnStanding
 pub mod Turns
 pub mod Told
 pub mod Showing
