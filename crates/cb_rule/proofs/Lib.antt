@@ -46,6 +46,7 @@ pub mod WorkedLocking
 pub mod WorkedTurns
 pub mod WorkedTold
 pub mod WorkedOwn
+pub mod WorkedOwnStands
 pub mod WorkedClosing
 pub mod WorkedShown
 pub mod WorkedLast

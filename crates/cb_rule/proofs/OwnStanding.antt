@@ -1,5 +1,5 @@
 -- The rule says of each view by itself what it has of its own objects.
-use Rattle.std.proofs.Common.{◌≡◌, ◌≢◌, ℕ, zero, suc, ◌+◌, ◌≤◌, ◌<◌, false, List, [], ◌∷◌, ◌++◌, refl, sym, ap, ◌∙◌, subst, inl, inr, ⊎_elim, arith, eqb, eq-eqb, eqb-true}
+use Rattle.std.proofs.Common.{◌≡◌, ℕ, zero, suc, List, [], ◌∷◌, ◌++◌, refl, sym, ap, ◌∙◌, subst, inl, inr, arith, eqb, eq-eqb, eqb-true}
 use Rattle.std.proofs.lemmas.Bool.{eqb-false}
 use mathlib.Core.Option.{some, some-injective, some-ne-none}
 use lib.ListN.{get_elem?}
@@ -17,15 +17,15 @@ use Rattle.cb_rule.proofs.Counts.{by_case, times-append}
 use Rattle.cb_rule.proofs.Members.{times_has}
 use Rattle.cb_rule.proofs.Promising.{promises}
 
+pub itself : (u w : View) (j : ℕ) → get_elem? (u ∷ []) j ≡ some w → u ≡ w
+itself u w zero is = some-injective u w is
+itself u w (suc j) is = absurd (some-ne-none w (sym is))
+
 module _ (first : ℕ) (views : List View) (stand : EntriesStand first views) (own : AreOwn first views)
     (id : ℕ) (u : View) (at : get_elem? views id ≡ some u) where
-  itself : (w : View) (j : ℕ) → get_elem? (u ∷ []) j ≡ some w → u ≡ w
-  itself w zero is = some-injective u w is
-  itself w (suc j) is = absurd (some-ne-none w (sym is))
-
   wrote_there : (e : Entry) → WroteItself u e → Wrote views e
   wrote_there e (w, (j, is), has) =
-      (u, (id, at), subst (λ (z : View). Has e (z.fresh ++ z.written)) (sym (itself w j is)) has)
+      (u, (id, at), subst (λ (z : View). Has e (z.fresh ++ z.written)) (sym (itself u w j is)) has)
 
   -- a view that wrote an entry has something of the object
   leaves_trace : (e : Entry) (w : View) → Has e (w.fresh ++ w.written) → traces e.handle w ≡ 0 → ⊥

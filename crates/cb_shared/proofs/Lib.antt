@@ -15,6 +15,7 @@ pub mod ReadSteps
 pub mod Tallying
 pub mod FirstPin
 pub mod MadeFirst
+pub mod Recalled
 pub mod Rights
 pub mod AfterTurn
 pub mod Mapped
@@ -48,4 +49,5 @@ pub mod WorkedFinds
 pub mod WorkedCalls
 pub mod WorkedTries
 pub mod WorkedMaking
+pub mod WorkedRecalls
 pub mod Laws
