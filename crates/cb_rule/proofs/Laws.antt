@@ -11,6 +11,7 @@ pub use Rattle.cb_rule.proofs.Locking.{locked_steady}
 pub use Rattle.cb_rule.proofs.Looking.{loads, looks, tells}
 pub use Rattle.cb_rule.proofs.Members.{each_has, times_has}
 pub use Rattle.cb_rule.proofs.Opening.{opens, stood_empty}
+pub use Rattle.cb_rule.proofs.OwnStanding.{stands_alone}
 pub use Rattle.cb_rule.proofs.Owning.{known_entries}
 pub use Rattle.cb_rule.proofs.Peeking.{peeks}
 pub use Rattle.cb_rule.proofs.Pinning.{gives_pins, takes_pin}

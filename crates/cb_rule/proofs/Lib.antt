@@ -28,6 +28,7 @@ pub mod Allowing
 pub mod Taking
 pub mod Giving
 pub mod Promising
+pub mod OwnStanding
 pub mod Turns
 pub mod Told
 pub mod Showing
@@ -45,6 +46,7 @@ pub mod WorkedLocking
 pub mod WorkedTurns
 pub mod WorkedTold
 pub mod WorkedOwn
+pub mod WorkedOwnStands
 pub mod WorkedClosing
 pub mod WorkedShown
 pub mod WorkedLast

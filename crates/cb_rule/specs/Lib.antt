@@ -12,6 +12,7 @@ pub mod Ruled
 pub mod Locking
 pub mod LockSteps
 pub mod Promised
+pub mod OwnStands
 pub mod OneHistory
 pub mod Told
 pub mod AsShown

@@ -15,6 +15,7 @@ pub mod ReadSteps
 pub mod Tallying
 pub mod FirstPin
 pub mod MadeFirst
+pub mod Recalled
 pub mod Rights
 pub mod AfterTurn
 pub mod Mapped
@@ -50,4 +51,5 @@ pub mod WorkedTries
 pub mod WorkedMaking
 pub mod WorkedReplies
 pub mod WorkedAdds
+pub mod WorkedRecalls
 pub mod Laws

@@ -24,7 +24,9 @@ use Rattle.cb_rule.specs.declared.turn.Turn.{Turn}
 use Rattle.cb_rule.specs.declared.view.View.{View}
 use Rattle.cb_rule.specs.Closing.{IsClosed}
 use Rattle.cb_rule.specs.Lists.{Each, Has}
+use Rattle.cb_rule.specs.OneHistory.{IsOneHistory}
 use Rattle.cb_rule.specs.Own.{Make as IsMadeIn}
+use Rattle.cb_rule.specs.Promised.{Is}
 use Rattle.cb_rule.specs.Steps.{Knows}
 use Rattle.cb_rule.proofs.Laws.{hit}
 use Rattle.cb_record.specs.Backs.{Backs}
@@ -32,6 +34,7 @@ use Rattle.cb_record.specs.Told.{Told}
 use Rattle.cb_record.specs.Upheld.{as_part}
 use Rattle.cb_record.proofs.Laws.{turn_of_make}
 use Rattle.cb_shared.specs.Making.{MakesNew}
+use Rattle.cb_shared.specs.Recalls.{MakesFirst}
 use Rattle.cb_shared.specs.Turning.{Did, DidAs, ReadsByPin, Slate, answer_of, held_by, made_by, slate_run, slate_shows}
 
 -- whether a reply is Made
@@ -184,15 +187,31 @@ makes_own c (Make bytes) r start known es took gave more did wrote first =
     of_make c bytes r start known es took gave more did wrote first
 makes_own c job r start known es took gave more did wrote first = tt
 
--- what a make did that stands in a record that closed a runtime
+-- what a make did
+make_did : (c : Config) (t : Turn) → Did c t → (bytes : List ℕ) (r : Reply) → t.job ≡ Make bytes
+    → t.reply ≡ Some r → Turned slate_run slate_shows ReadsByPin c (Make bytes)
+    (held_by t.start [] t.took) r (held_by (played t.acts t.start) t.acts t.gave)
+make_did c t did bytes r job reply =
+    subst (λ (j : Job). DidAs c j (Some r) t.start t.acts t.took t.gave) job
+    (subst (λ (o : Option Reply). DidAs c t.job o t.start t.acts t.took t.gave) reply did)
+
+-- so of one that stands in a record that closed a runtime
 did_make : (first : ℕ) (c : Config) (v : View) (w : WorldState) → IsClosed Did first c v w
     → (t : Turn) → Has t v.turns → (bytes : List ℕ) (r : Reply) → t.job ≡ Make bytes
     → t.reply ≡ Some r → Turned slate_run slate_shows ReadsByPin c (Make bytes)
     (held_by t.start [] t.took) r (held_by (played t.acts t.start) t.acts t.gave)
 did_make first c v w closed t there bytes r job reply =
-    subst (λ (j : Job). DidAs c j (Some r) t.start t.acts t.took t.gave) job
-    (subst (λ (o : Option Reply). DidAs c t.job o t.start t.acts t.took t.gave) reply
-    (closed.turns.did t (v, (0, refl), there)))
+    make_did c t (closed.turns.did t (v, (0, refl), there)) bytes r job reply
+
+-- in each view the makes told the first version, while passes run
+pub turns_first : (first : ℕ) (c : Config) (views : List View) (count : ℕ) (last : FarState)
+    → IsOneHistory Did first c views count last → (u : View) → Is views u
+    → MakesFirst first u.turns
+turns_first first c views count last h u is t there bytes handle n job reply =
+    (made_is_first c bytes handle n (held_by t.start [] t.took)
+    (held_by (played t.acts t.start) t.acts t.gave)
+    (make_did c t (h.did t (u, is, there)) bytes (answer.Made handle n) job reply)).1
+    ∙ h.starts t (u, is, there)
 
 -- its handle and its version
 pub makes_first : (first : ℕ) (c : Config) (v : View) (w : WorldState) → IsClosed Did first c v w

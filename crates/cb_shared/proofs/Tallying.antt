@@ -10,7 +10,7 @@ use Rattle.cb_rule.specs.Lists.{total}
 use Rattle.cb_rule.specs.Locking.{Locked}
 use Rattle.cb_rule.specs.Ruled.{Ruled}
 use Rattle.cb_rule.specs.Seats.{share_of}
-use Rattle.cb_rule.specs.Slot.{Sat}
+use Rattle.cb_rule.specs.Slot.{Sat, Table}
 use Rattle.cb_shared.specs.Turning.{Did}
 use Rattle.cb_shared.specs.Tallies.{tallied}
 
@@ -26,9 +26,11 @@ share_within (x ∷ xs) zero v e =
     let same : x.share ≡ v.share = ap share_of (some-injective x v e) in omega arith
 share_within (x ∷ xs) (suc id) v e = let z = share_within xs id v e in omega (arith, z)
 
-pub tallies : (first : ℕ) (k : Config) (slots id i : ℕ) (me : Sat)
-    → Allows (Ruled (Locked Did) first k) slots id me i (λ n. n) (tallied (step slots i 0 0 none) me)
-tallies first k slots id i me s r _ at _ = (
+-- A load that changes nothing may tell whatever the rule says of the seat's view.
+pub loads_same : (first : ℕ) (k : Config) (slots id i : ℕ) (me : Sat) (P : Type 0)
+    → ((s : Table) → Ruled (Locked Did) first k s → get_elem? s.views id ≡ some me.0 → P)
+    → Allows (Ruled (Locked Did) first k) slots id me i (λ n. n) (λ n m'. (m' ≡ me) × P)
+loads_same first k slots id i me P tells s r _ at _ = (
   me.0,
   keeps,
   tt,
@@ -41,5 +43,10 @@ tallies first k slots id i me s r _ at _ = (
     homes = s.homes;
     views = vs;
   }) (sym (set_same s.views id me.0 at)) r),
-  (refl, (let z = share_within s.views id me.0 at in omega (arith, z, r.shares.whole))),
+  (refl, tells s r at),
 )
+
+pub tallies : (first : ℕ) (k : Config) (slots id i : ℕ) (me : Sat)
+    → Allows (Ruled (Locked Did) first k) slots id me i (λ n. n) (tallied (step slots i 0 0 none) me)
+tallies first k slots id i me = loads_same first k slots id i me (me.0.share ≤ 64) (λ s r at.
+    let z = share_within s.views id me.0 at in omega (arith, z, r.shares.whole))

@@ -9,6 +9,7 @@ pub mod Pinning
 pub mod Writing
 pub mod Joining
 pub mod Tallies
+pub mod Recalls
 pub mod PinLoads
 pub mod Reading
 pub mod Turning

@@ -18,6 +18,7 @@ mod pinning;
 mod pins;
 mod plays;
 mod reading;
+mod recalling;
 pub mod refused;
 pub mod runtime;
 pub mod seal;

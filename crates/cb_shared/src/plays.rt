@@ -8,6 +8,7 @@ ghost use Rattle.cb_rule.specs.LockSteps.{gave};
 ghost use Rattle.cb_rule.specs.Steps.{looked, told, loaded, claimed, stored, stamped, settled, glanced, pinned, unpinned, peeked, dated, read_held, claimed_here, stored_here, stamped_here, settled_here, put_back, blank, left_of, right_of, joined};
 ghost use Rattle.cb_shared.specs.Making.{took_first};
 ghost use Rattle.cb_shared.specs.PinLoads.{read_pin};
+ghost use Rattle.cb_shared.specs.Recalls.{recalled};
 ghost use Rattle.cb_shared.specs.Tallies.{tallied};
 ghost use Rattle.cb_shared.specs.Turning.{made_by};
 
@@ -199,6 +200,15 @@ pub struct Tally;
 
 impl Play<Option<Far>, View> for Tally {
     ghost then = { tallied };
+}
+
+/// A look at what the record has of its own objects.
+pub struct Recall<W> {
+    opening: PhantomData<W>,
+}
+
+impl<W: Opening> Play<Option<Far>, View> for Recall<W> {
+    ghost then = { recalled W.first };
 }
 
 // Seats that are split and joined.

@@ -1,0 +1,45 @@
+//! What a pass has of its own objects.
+ghost use Rattle.std.specs.Prelude.{◌≡◌};
+ghost use Rattle.cb_shared.specs.Passes.{IsPassOf, record_of};
+ghost use Rattle.cb_shared.specs.Places.{IsOf, Moves};
+ghost use Rattle.cb_shared.specs.Recalls.{Recalls, first_of};
+
+use crate::board::{Place, Top};
+use crate::pass::Pass;
+use crate::plays::{Opening, Recall};
+use crate::runtime::Shared;
+use cb_types::Config;
+use std::marker::Brand;
+
+impl Shared {
+    /// Tells what the pass has of its own objects, which it made and no other pass knows: what it
+    /// read and found of them is what it wrote itself. One load; the record stays as it is. Takes no
+    /// memory and waits for nobody.
+    pub fn recall(&self, pass: &mut Pass)
+        requires of { IsPassOf self.now pass.old }
+        ensures of { IsPassOf self.now pass.new }
+        ensures same { record_of pass.new ≡ record_of pass.old }
+        ensures own { Recalls (first_of self.now) (record_of pass.new) }
+    {
+        recall_at(&self.board.shared, &mut pass.seat, &self.config);
+    }
+}
+
+/// A look that tells what the record has of its own objects.
+fn recall_at(top: &Top, seat: &mut Place, config: &Config)
+    requires of { IsOf top.now.table_id top.now.key config.now seat.old }
+    ensures same { Moves seat.old seat.new seat.old.me.0 }
+    ensures own { Recalls top.now.key.first seat.old.me.0 }
+{
+    recall_as::<Brand>(top, seat, config);
+}
+
+fn recall_as<W: Opening>(top: &Top, seat: &mut Place, config: &Config)
+    requires of { IsOf top.now.table_id top.now.key config.now seat.old }
+    requires picks { W.first ≡ top.now.key.first }
+    ensures same { Moves seat.old seat.new seat.old.me.0 }
+    ensures own { Recalls top.now.key.first seat.old.me.0 }
+{
+    let _config = *config;
+    top.load::<Recall<W>>(seat, 0);
+}
