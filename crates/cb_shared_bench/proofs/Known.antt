@@ -103,7 +103,7 @@ write_keeps h at bytes (writes.Range len) v w g =
 write_keeps h at bytes (writes.Pinned count) v w g =
     looks_more v w (written_is w _ g.2) (seen_is w _ g.2)
 write_keeps h at bytes writes.Worn v w g =
-    looks_more v w (written_is w _ g.left) (seen_is w _ g.left)
+    reads_more v w _ (written_is w _ g.left) (seen_is w _ g.left)
 write_keeps h at bytes (writes.Raced saw found) v w g =
     looks_more v w (written_is w _ g.1) (seen_is w _ g.1)
 
