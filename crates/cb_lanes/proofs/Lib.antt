@@ -88,5 +88,6 @@ pub mod WorkedSays
 pub mod WorkedTries
 pub mod WorkedAlone
 pub mod WorkedAloneUntil
+pub mod WorkedLaneKeeps
 pub mod WorkedOwn
 pub mod Laws

@@ -2,7 +2,7 @@
 ghost use Rattle.std.specs.Prelude.{◌≡◌};
 ghost use Rattle.cb_shared.specs.Passes.{IsPassOf, record_of};
 ghost use Rattle.cb_shared.specs.Places.{IsOf, Moves};
-ghost use Rattle.cb_shared.specs.Recalls.{Recalls, first_of};
+ghost use Rattle.cb_shared.specs.Recalls.{Recalls, first_version_of};
 
 use crate::board::{Place, Top};
 use crate::pass::Pass;
@@ -19,7 +19,7 @@ impl Shared {
         requires of { IsPassOf self.now pass.old }
         ensures of { IsPassOf self.now pass.new }
         ensures same { record_of pass.new ≡ record_of pass.old }
-        ensures own { Recalls (first_of self.now) (record_of pass.new) }
+        ensures own { Recalls (first_version_of self.now) (record_of pass.new) }
     {
         recall_at(&self.board.shared, &mut pass.seat, &self.config);
     }
