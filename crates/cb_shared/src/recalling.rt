@@ -13,8 +13,8 @@ use std::marker::Brand;
 
 impl Shared {
     /// Tells what the pass has of its own objects, which it made and no other pass knows: what it
-    /// read and found of them is what it wrote itself. One load; the record stays as it is. Takes no
-    /// memory and waits for nobody.
+    /// read and found of them is what it wrote itself. One load; the record stays as it is. Takes
+    /// no memory and waits for nobody.
     pub fn recall(&self, pass: &mut Pass)
         requires of { IsPassOf self.now pass.old }
         ensures of { IsPassOf self.now pass.new }
