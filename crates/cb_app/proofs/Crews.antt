@@ -39,7 +39,7 @@ use Rattle.cb_app.specs.declared.crew.Body.TheVariants.{Lane, Worker}
 use Rattle.cb_app.specs.declared.crew.Ended.{Ended}
 use Rattle.cb_app.specs.declared.crew.Task.{Task}
 use Rattle.cb_app.proofs.AnswersRise.{rise_joined}
-use Rattle.cb_app.proofs.LanesAlone.{alone_joined, alone_left}
+use Rattle.cb_app.proofs.LanesAlone.{alone_joined}
 use Rattle.cb_app.proofs.Lanes.{apart-push, flat-push, lane_is_apart, lane_is_of_others, no_lines_apart, no_lines_of_others}
 use Rattle.cb_app.proofs.Records.{right_fresh, right_knows_names}
 use Rattle.cb_app.proofs.ScopesTold.{scopes_joined}
@@ -106,10 +106,9 @@ taken_in s given others lines a e b are told ended apart none first of pass answ
             (subst (RiseWith (joined (record_of a.pass) (unpinned_all (record_of e.pass))) []) (sym answers) both);
         scopes = subst (AreScoped []) (sym answers)
             (scopes_joined given others e.answers a.answers are apart_so none_so told.scopes ended.scopes);
-        alone = subst (λ (v : View). KeepAloneWith s.config.nodes v [] b.answers) (sym pass)
-            (subst (KeepAloneWith s.config.nodes (joined (record_of a.pass) (unpinned_all (record_of e.pass))) [])
-            (sym answers) (alone_joined s.config.nodes (record_of a.pass) (record_of e.pass) given others
-            e.answers a.answers are first none_so told.alone ended.alone));
+        alone = λ one. subst (KeepAloneWith s.config.nodes []) (sym answers)
+            (alone_joined s.config.nodes given others e.answers a.answers are first none_so
+            (told.alone one) (ended.alone one));
       };
     }
 
@@ -368,9 +367,7 @@ told_left s given lines a b share own told same of left = record {
   rises = subst (λ (v : View). RiseWith v given b.answers) (sym left)
       (subst (RiseWith (record_of a.pass) given) (sym same) told.rises);
   scopes = subst (AreScoped given) (sym same) told.scopes;
-  alone = subst (λ (v : View). KeepAloneWith s.config.nodes v given b.answers) (sym left)
-      (subst (KeepAloneWith s.config.nodes (record (record_of a.pass) { share = share; own = own }) given) (sym same)
-      (alone_left s.config.nodes (record_of a.pass) share own given a.answers told.alone));
+  alone = λ one. subst (KeepAloneWith s.config.nodes given) (sym same) (told.alone one);
 }
 
 pub told_again : (s : Shared) (given : List Answer) (lines : List Line) (e : LaneEnd)

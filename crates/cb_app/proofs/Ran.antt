@@ -33,7 +33,6 @@ use Rattle.cb_lanes.specs.LastTries.{HasLastTry}
 use Rattle.cb_lanes.specs.Scoped.{AreScoped}
 use Rattle.cb_lanes.specs.Suits.{AreSuited}
 use Rattle.cb_lanes.proofs.Laws.{freed_last, keep_alone, none_lacks}
-use Rattle.cb_shared.proofs.Laws.{makes_first}
 use Rattle.cb_app.specs.ByLane.{by_lane}
 use Rattle.cb_app.specs.Calm.{IsCalmTo}
 use Rattle.cb_workers.specs.declared.worker.Worker.{Worker}
@@ -45,7 +44,6 @@ use Rattle.cb_app.proofs.CalmTold.{all_calm, calm_lack_none}
 use Rattle.cb_app.proofs.AnswersTold.{InThreads, answers_lost, answers_room}
 use Rattle.cb_app.proofs.EpochsTold.{are_epochs}
 use Rattle.cb_app.proofs.Lanes.{by_lane_all}
-use Rattle.cb_app.proofs.LanesAlone.{alone_unpinned, part_of_itself}
 use Rattle.cb_app.proofs.OneToOne.{one_to_one}
 use Rattle.cb_app.proofs.UpheldTold.{all_upheld}
 use Rattle.cb_app.proofs.WorkCounted.{counts_workers}
@@ -66,7 +64,7 @@ pub is_run : (script : Script) (end : ThreadsEnd) → AreInMode modes.Threads sc
     → Backs (part_of (sealed_record end.seal)) (tolds [] end.answers)
     → AreSuited (sealed_record end.seal).seen (tolds [] end.answers)
     → RiseWith (sealed_record end.seal) [] end.answers → AreScoped [] end.answers
-    → KeepAloneWith script.config.nodes (sealed_record end.seal) [] end.answers
+    → KeepAloneWith script.config.nodes [] end.answers
     → AreLosses end.losses end.answers
     → ((w : Worker) → script.config.turns ≤ work_in w (sealed_record end.seal)) → IsRun script end
 is_run script end mode few are lines replies last seal closed backs suits rises scopes alone losses
@@ -82,27 +80,17 @@ is_run script end mode few are lines replies last seal closed backs suits rises 
     let worn = answers_worn c v end.world closed end.answers replies runs backs
     (few_answers script.lines end.answers few lines) in
     let calm : IsRoomy script → far.counts.turns < 2 ^ 40
-        → AllByRecursion (λ a. IsCalmTo a.request a.reply) end.answers =
-        (λ roomy under. all_calm 1 script ok v far.counts.turns far closed.turns end.answers backs
-            end.losses losses are lines roomy under replies last worn lost upheld) in
+    → AllByRecursion (λ a. IsCalmTo a.request a.reply) end.answers =
+    (λ roomy under. all_calm 1 script ok v far.counts.turns far closed.turns end.answers backs
+    end.losses losses are lines roomy under replies last worn lost upheld) in
     let never = rises v (λ h n freed has. has) (freed_last 1 v closed.entries) in
     let legal : IsLegal 1 c.handles end.answers =
     legal_of_backed 1 c.handles v end.answers closed.entries closed.calm backs upheld never.1 in
     let one = one_to_one 1 c.handles c.nodes script.lines end.answers legal are lines in
-    let whole : AreAllOf c.nodes script.lines end.answers v = record {
-      script = are;
-      lines_are = lines;
-      names = one;
-      backs = backs;
-      entries = closed.entries;
-      calm = closed.calm;
-      makes = λ t there bytes handle version job reply.
-          (makes_first 1 c v end.world closed t there bytes handle version job reply).1;
-    } in
+    let whole : AreAllOf c.nodes script.lines end.answers = record { script = are; lines_are = lines } in
     let until : (lane : ℕ) → HasOwnLines script.lines lane
-        → KeepAloneUntil script.lines lane fresh_lane end.answers =
-        (λ lane own. alone script.lines end.answers v whole (part_of_itself v) (λ a there. there)
-            lane own refl) in
+    → KeepAloneUntil script.lines lane fresh_lane end.answers =
+    (λ lane own. alone script.lines end.answers whole (λ a there. there) lane own refl) in
     record {
       lines = lines;
       replies = replies;
@@ -164,10 +152,9 @@ module _ (script : Script) (mode : AreInMode modes.Threads script.lines) (shared
       (subst (RiseWith (sealed_record end.seal) []) (sym answers)
       (subst (λ (v : View). RiseWith v [] told.answers) (sym same) is_told.rises))
       (subst (AreScoped []) (sym answers) is_told.scopes)
-      (subst (KeepAloneWith script.config.nodes (sealed_record end.seal) []) (sym answers)
-      (subst (λ (v : View). KeepAloneWith script.config.nodes v [] told.answers) (sym same)
-      (subst (λ (c : Config). KeepAloneWith c.nodes closing [] told.answers) begun.config
-      (alone_unpinned shared.config.nodes (record_of told.pass) told.answers is_told.alone))))
+      (subst (KeepAloneWith script.config.nodes []) (sym answers)
+      (subst (λ (c : Config). KeepAloneWith c.nodes [] told.answers) begun.config
+      (is_told.alone begun.first_is)))
       (subst (λ (l : List Answer). AreLosses end.losses l) (sym answers) losses)
       (λ w. subst (λ (v : View). script.config.turns ≤ work_in w v) (sym same)
       (subst (λ (c : Config). c.turns ≤ work_in w closing) begun.config (work w)))

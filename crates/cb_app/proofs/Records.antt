@@ -44,6 +44,7 @@ use Rattle.cb_workers.proofs.Laws.{work_is_of}
 use Rattle.cb_shared.specs.declared.pass.Pass.{Pass}
 use Rattle.cb_shared.specs.declared.runtime.Shared.{Shared}
 use Rattle.cb_shared.specs.Passes.{IsPassOf, record_of}
+use Rattle.cb_shared.specs.Recalls.{first_version_of}
 use Rattle.cb_script.specs.declared.script.Line.{Line}
 use Rattle.cb_lanes.specs.declared.body.LaneEnd.{LaneEnd}
 use Rattle.cb_lanes.specs.Asked.{HasLineReply, asked}
@@ -150,7 +151,7 @@ worker_told s w turns p q given answers fresh works none =
       suits = subst (λ (xs : List Answer). AreSuited (record_of q).seen (tolds given xs)) (sym none) tt;
       rises = none_rise (record_of q) given answers none;
       scopes = none_scoped given answers none;
-      alone = none_alone s.config.nodes (record_of q) given answers none;
+      alone = λ one. none_alone s.config.nodes given answers none;
     }
 
 -- ---- the record knows what was made
@@ -210,7 +211,7 @@ pub lane_told : (s : Shared) (lane : ℕ) (names : List Named) (v : View) (lines
     → AddsBacked names e.answers v (record_of e.pass)
     → LaneGoes s.config names v e.answers (record_of e.pass)
     → LaneRises lane names e.answers v (record_of e.pass) → LaneScoped lane names e.answers
-    → LaneKeepsAlone s.config.nodes lane names lines e.answers (record_of e.pass)
+    → (first_version_of s ≡ 1 → v.written ≡ [] → LaneKeepsAlone s.config.nodes lane names lines e.answers)
     → AreLinesOf s.config.nodes lane lines → (given : List Answer) → AreNamesOf names given → AreKnownTo v given → scope_of lane given ≡ []
     → IsTold s given lines e
 lane_told s lane names v lines e fresh names_known of are replies last adds goes rises scoped alone form
@@ -223,9 +224,9 @@ lane_told s lane names v lines e fresh names_known of are replies last adds goes
       suits = suits;
       rises = lane_rise lane names given e.answers v (record_of e.pass) rises named known;
       scopes = scoped given named no_pin;
-      alone = lane_alone_with s.config lane names given e.answers v (record_of e.pass) lines fresh.written
-          fresh.own goes replies (answers_of s.config.nodes lane lines e.answers form are) are alone named
-          known.3 backs suits;
+      alone = λ one. lane_alone_with s.config lane names given e.answers lines
+          (answers_of s.config.nodes lane lines e.answers form are) are (alone one fresh.written) named
+          known.3;
     }
   where
     backs : Backs (part_of (record_of e.pass)) (tolds given e.answers)

@@ -199,7 +199,7 @@ module _ (t : Turn) (world : WorldState) (seal : Seal) where
       (subst (λ (v : View). IsClosed Did 1 small v world) (sym record_is) there.closed)
       (subst (λ (v : View). Backs (part_of v) (tolds [] answers)) (sym record_is) backs)
       (tt, (tt, tt)) (λ all more last. (tt, never_falls)) (λ one. (tt, (refl, tt)))
-      (λ lines all w whole part among n own same room. (
+      (λ lines all whole among n own same room. (
         λ mine. absurd (on_no_name (nat_eq 1 n) mine),
         λ none. (λ mine. absurd (on_no_name (nat_eq 2 n) mine), tt),
       )) no_losses (λ w. omega arith)

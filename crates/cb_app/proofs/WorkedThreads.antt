@@ -209,7 +209,7 @@ module _ (s : Shared) (p : Pass) (of : IsPassOf s p) (fresh : IsFresh (record_of
     suits = (tt, tt);
     rises = λ all more last. (tt, (tt, tt));
     scopes = λ one. (refl, tt);
-    alone = λ lines all w whole part among n own same room.
+    alone = λ one lines all whole among n own same room.
         (λ mine. absurd (on_no_name (nat_eq 2 n) mine), tt);
   }
 
@@ -272,7 +272,7 @@ module _ (s : Shared) (p : Pass) (of : IsPassOf s p) (fresh : IsFresh (record_of
     suits = tt;
     rises = none_rise (record_of p) given [] refl;
     scopes = λ one. tt;
-    alone = none_alone s.config.nodes (record_of p) given [] refl;
+    alone = λ one. none_alone s.config.nodes given [] refl;
   }
 
   without_memory : (want : NoMemory) → IsEnded s [] (record { lines = line 2 Leave ∷ []; left = Err want })

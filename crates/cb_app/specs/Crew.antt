@@ -23,6 +23,7 @@ use Rattle.cb_record.specs.Told.{tolds}
 use Rattle.cb_shared.specs.declared.pass.Pass.{Pass}
 use Rattle.cb_shared.specs.declared.runtime.Shared.{Shared}
 use Rattle.cb_shared.specs.Passes.{IsPassOf, record_of}
+use Rattle.cb_shared.specs.Recalls.{first_version_of}
 use Rattle.cb_lanes.specs.declared.body.LaneEnd.{LaneEnd}
 use Rattle.cb_lanes.specs.declared.body.Named.{Named}
 use Rattle.cb_lanes.specs.Asked.{HasLineReply, asked}
@@ -153,8 +154,8 @@ AreKnownTo v answers = (w : View) × HasAllOf w v × StandIn w answers × AreFir
 -- These lines were answered, one after the other, each by a reply that it may have and by the last
 -- try of its calls, and the record of the pass backs the answers, where the answers given before
 -- have the names; and they suit the handles of their names, what the pass has read, and the scopes
--- of their lanes; and no version falls; and the own lines of lanes are answered as if these were
--- alone.
+-- of their lanes; and no version falls; and where makes give version 1 the own lines of lanes are
+-- answered as if these were alone.
 pub record IsTold (s : Shared) (given : List Answer) (lines : List Line) (e : LaneEnd) : Type 0
   where
     pub of : IsPassOf s e.pass
@@ -165,7 +166,7 @@ pub record IsTold (s : Shared) (given : List Answer) (lines : List Line) (e : La
     pub suits : AreSuited (record_of e.pass).seen (tolds given e.answers)
     pub rises : RiseWith (record_of e.pass) given e.answers
     pub scopes : AreScoped given e.answers
-    pub alone : KeepAloneWith s.config.nodes (record_of e.pass) given e.answers
+    pub alone : first_version_of s ≡ 1 → KeepAloneWith s.config.nodes given e.answers
 
 -- so a thread ended, unless memory was wanting
 abbrev pub IsEnded : Shared → List Answer → Ended → Type 0

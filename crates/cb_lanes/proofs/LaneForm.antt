@@ -251,8 +251,8 @@ lines_tell c names before (a ∷ after) v w (m, one, rest) = (
 pub lane_keeps_alone : (c : Config) (nodes lane : ℕ) (names : List Named) (lines : List Line)
     (answers : List Answer) (v w : View) → v.pins ≡ [] → v.fresh ≡ [] → KnowsNames v names
     → LaneGoes c names v answers w → map asked answers ≡ lines
-    → AllByRecursion HasLineReply answers → LaneKeepsAlone nodes lane names lines answers w
-lane_keeps_alone c nodes lane names lines answers v w none fresh knows (m, goes, left) are line all
-    script has by_lane shared keeps =
+    → AllByRecursion HasLineReply answers → KeepsOwn w → LaneKeepsAlone nodes lane names lines answers
+lane_keeps_alone c nodes lane names lines answers v w none fresh knows (m, goes, left) are line keeps all
+    script has by_lane shared =
     own_lines_alone c nodes all lane names answers v w script has shared (are ∙ by_lane) line none fresh
     knows (m, lines_tell c names [] answers v m goes, left) keeps

@@ -1,17 +1,18 @@
--- A record has the entries of its own objects in order: versions rise in it, and in the record of all
--- passes each entry goes on from the one before it.
+-- A record has the entries of its own objects in order: versions rise in it, and each entry goes on
+-- from one that the record has.
 use Rattle.std.proofs.Common.{◌≡◌, ◌≢◌, ◌⊎◌, ℕ, zero, suc, ◌+◌, ◌<◌, ◌≤◌, false, List, [], ◌∷◌, ◌++◌, Option, None, Some, inl, inr, sym, refl, ap, ◌∙◌, subst, append_assoc, arith}
 use mathlib.Core.Option.{some, some-injective, some-ne-none}
 use lib.ListN.{get_elem?}
 use Rattle.cb_world.specs.declared.entry.Entry.{Entry}
-use Rattle.cb_rule.specs.declared.turn.Turn.{Turn}
 use Rattle.cb_rule.specs.declared.view.Look.{Look}
 use Rattle.cb_rule.specs.declared.view.Seen.{Seen}
 use Rattle.cb_rule.specs.declared.view.View.{View}
 use Rattle.cb_rule.specs.Lists.{Has}
-use Rattle.cb_rule.specs.Promised.{EntriesStand, FoundBy, Wrote}
+use Rattle.cb_rule.specs.OwnStands.{WroteItself}
+use Rattle.cb_rule.specs.Promised.{GoesOn}
 use Rattle.cb_record.proofs.Laws.{has_right}
-use Rattle.cb_lanes.specs.KeepsOwn.{AreInOrder, AreLong, AreMadeFirst, AreRead, ComesBehind, KeepsOwn, last_in}
+use Rattle.cb_shared.specs.Recalls.{Recalls}
+use Rattle.cb_lanes.specs.KeepsOwn.{AreInOrder, AreLong, AreRead, ComesBehind, KeepsOwn, last_in}
 use Rattle.cb_lanes.proofs.OwnObjects.{handle_cases, last_has, last_hit, last_past, none_has, some_same}
 
 -- versions of these objects rise
@@ -20,44 +21,28 @@ AreRising mine [] = Unit {0}
 AreRising mine (e ∷ es) = (mine e.handle → (x : Entry) → Has x es → x.handle ≡ e.handle → x.version < e.version)
     × AreRising mine es
 
--- The record of all passes has all that this one has, each of its entries stands, and those of the own
--- objects of this one are its own entries.
-pub record IsWithin (w all : View) : Type 0 where
-  pub entries : EntriesStand 1 (all ∷ [])
-  pub calm : all.fresh ≡ []
-  pub written : (e : Entry) → Has e w.written → Has e all.written
-  pub seen : (s : Seen) → Has s w.seen → Has s all.seen
-  pub theirs : (e : Entry) → Has e all.written → Has e.handle w.own → Has e w.written
-  pub looks : (l : Look) → FoundBy l w → FoundBy l all
-  pub turns : (t : Turn) → Has t w.turns → Has t all.turns
-  pub makes : AreMadeFirst all.turns
-
-module _ (w all : View) (within : IsWithin w all) where
+-- what is told of the own objects of a record in which no turn runs
+module _ (w : View) (told : Recalls 1 w) (calm : w.fresh ≡ []) where
   abbrev Mine : ℕ → Type 0
   Mine h = Has h w.own
 
-  wrote_all : (e : Entry) → Has e w.written → Wrote (all ∷ []) e
-  wrote_all e has = (all, (0, refl), has_right e all.fresh all.written (within.written e has))
+  wrote : (e : Entry) → Has e w.written → WroteItself w e
+  wrote e has = (w, (0, refl), has_right e w.fresh w.written has)
 
-  of_all : (u : View) (j : ℕ) → get_elem? (all ∷ []) j ≡ some u → all ≡ u
-  of_all u zero is = some-injective all u is
-  of_all u (suc j) is = absurd (some-ne-none u (sym is))
+  of_it : (u : View) (j : ℕ) → get_elem? (w ∷ []) j ≡ some u → w ≡ u
+  of_it u zero is = some-injective w u is
+  of_it u (suc j) is = absurd (some-ne-none u (sym is))
 
-  wrote_own : (e : Entry) → Wrote (all ∷ []) e → Mine e.handle → Has e w.written
-  wrote_own e (u, (j, is), has) mine = within.theirs e
-      (subst (λ (l : List Entry). Has e (l ++ all.written)) within.calm
-      (subst (λ (z : View). Has e (z.fresh ++ z.written)) (sym (of_all u j is)) has)) mine
+  written_in : (e : Entry) → WroteItself w e → Has e w.written
+  written_in e (u, (j, is), has) = subst (λ (l : List Entry). Has e (l ++ w.written)) calm
+      (subst (λ (z : View). Has e (z.fresh ++ z.written)) (sym (of_it u j is)) has)
 
   read_own : AreRead Mine w.written w.seen
-  read_own s has mine = let z = within.entries.read s (all, (0, refl), within.seen s has) in
-      (z.0, wrote_own z.0 z.1 (subst Mine (ap (λ (k : Seen). k.handle) z.2) mine), z.2)
+  read_own s has mine = let z = told.own.read s has mine in (z.0, written_in z.0 z.1, z.2)
 
   long_own : AreLong Mine w
-  long_own l found mine full = let z = within.entries.looked l (all, (0, refl), within.looks l found) full in
-      (z.0, wrote_own z.0 z.1 (subst Mine (sym z.2) mine), z.2, z.3, z.4)
-
-  makes_own : AreMadeFirst w.turns
-  makes_own t has = within.makes t (within.turns t has)
+  long_own l found mine full = let z = told.own.looked l found mine full in
+      (z.0, written_in z.0 z.1, z.2, z.3, z.4)
 
   -- an entry that is older stands behind
   older_behind : (later es : List Entry) (e x : Entry) → AreRising Mine (later ++ e ∷ es) → Mine x.handle
@@ -98,7 +83,7 @@ module _ (w all : View) (within : IsWithin w all) where
   -- each entry comes behind the last one before it
   comes_behind : (later es : List Entry) (e : Entry) → w.written ≡ later ++ e ∷ es
       → AreRising Mine (later ++ e ∷ es) → Mine e.handle → ComesBehind (last_in es e.handle) e
-  comes_behind later es e split rising mine = by (last_in es e.handle) refl (within.entries.goes_on e (wrote_all e here))
+  comes_behind later es e split rising mine = by (last_in es e.handle) refl (told.own.goes_on e (wrote e here) mine)
     where
       here : Has e w.written
       here = subst (Has e) (sym split) (has_right e later (e ∷ es) (inl refl))
@@ -109,27 +94,23 @@ module _ (w all : View) (within : IsWithin w all) where
       among : (y : Entry) → Has y es → Has y w.written
       among y has = subst (Has y) (sym split) (has_right y later (e ∷ es) (inr has))
 
-      below : (x : Entry) → Wrote (all ∷ []) x → x.handle ≡ e.handle → x.version + 1 ≡ e.version → Has x es
-      below x wrote same next = older_behind later es e x rising (subst Mine (sym same) mine) (sym same)
-          (subst (Has x) split (wrote_own x wrote (subst Mine (sym same) mine))) (omega (arith, next))
+      below : (x : Entry) → WroteItself w x → x.handle ≡ e.handle → x.version + 1 ≡ e.version → Has x es
+      below x there same next = older_behind later es e x rising (subst Mine (sym same) mine) (sym same)
+          (subst (Has x) split (written_in x there)) (omega (arith, next))
 
-      by : (o : Option Entry) → last_in es e.handle ≡ o
-          → ((e.version ≡ 1) × (e.before ≡ []))
-          ⊎ ((x : Entry) × Wrote (all ∷ []) x × (x.handle ≡ e.handle) × (x.version + 1 ≡ e.version)
-          × (x.after ≡ e.before) × (x.freed ≡ false) × (e.freed ≡ false → e.len ≡ x.len))
-          → ComesBehind o e
+      by : (o : Option Entry) → last_in es e.handle ≡ o → GoesOn 1 (w ∷ []) e → ComesBehind o e
       by None is (inl begins) = begins.0
-      by None is (inr (x, wrote, same, next, past, there, long)) =
-          absurd (none_has es e.handle x is (below x wrote same next) same)
+      by None is (inr (x, its, same, next, past, there, long)) =
+          absurd (none_has es e.handle x is (below x its same next) same)
       by (Some y) is (inl begins) = absurd (let z = last_has es e.handle y is in
           let less = up.0 mine y z.0 z.1 in
-          let born = within.entries.born y (wrote_all y (among y z.0)) in
+          let born = told.own.born y (wrote y (among y z.0)) in
           let one = begins.0 in omega (arith, less, born, one))
-      by (Some y) is (inr (x, wrote, same, next, past, there, long)) =
+      by (Some y) is (inr (x, its, same, next, past, there, long)) =
           let z = last_has es e.handle y is in
           let less = up.0 mine y z.0 z.1 in
-          let most = last_newest es e.handle y x up.1 mine is (below x wrote same next) same in
-          let one : y ≡ x = within.entries.same y x (wrote_all y (among y z.0)) wrote (z.1 ∙ sym same)
+          let most = last_newest es e.handle y x up.1 mine is (below x its same next) same in
+          let one : y ≡ x = told.own.same y x (wrote y (among y z.0)) its (z.1 ∙ sym same)
           (omega (arith, less, most, next)) in record {
             there = ap (λ (k : Entry). k.freed) one ∙ there;
             next = sym next ∙ ap (λ (k : Entry). k.version + 1) (sym one);
@@ -152,5 +133,5 @@ module _ (w all : View) (within : IsWithin w all) where
     order = order_own [] w.written refl rising;
     read = read_own;
     long = long_own;
-    makes = makes_own;
+    makes = told.makes;
   }

@@ -13,13 +13,14 @@ use Rattle.cb_world.specs.Written.{entry, gone}
 use Rattle.cb_rule.specs.declared.view.View.{View}
 use Rattle.cb_rule.specs.Lists.{Has}
 use Rattle.cb_record.specs.Backs.{EntersAt}
+use Rattle.cb_shared.specs.Recalls.{Recalls}
 use Rattle.cb_lanes.specs.declared.body.Named.{Named}
 use Rattle.cb_lanes.specs.Bodies.{LaneGoes, LinesGo, handle_behind}
 use Rattle.cb_lanes.specs.KeepsOwn.{KeepsOwn}
 use Rattle.cb_lanes.specs.LineGoes.{Calls, LineGoes}
 use Rattle.cb_lanes.specs.Passing.{goes_in}
 use Rattle.cb_lanes.proofs.LineParts.{LineAdds, about, line_adds, make_handle, told_as}
-use Rattle.cb_lanes.proofs.OwnKept.{AreRising, IsWithin, keeps_own}
+use Rattle.cb_lanes.proofs.OwnKept.{AreRising, keeps_own}
 use Rattle.cb_lanes.proofs.OwnLines.{enters_none}
 use Rattle.cb_lanes.proofs.TellingNew.{IsAbove, TellsNew, ask_new}
 
@@ -93,8 +94,8 @@ abbrev Mine : View → ℕ → Type 0
 Mine w h = Has h w.own
 
 -- a lane that began with nothing written keeps what it has of its own objects
-pub lane_keeps_own : (c : Config) (names : List Named) (answers : List Answer) (v w all : View)
-    → v.written ≡ [] → LaneGoes c names v answers w → IsWithin w all → KeepsOwn w
-lane_keeps_own c names answers v w all none (m, goes, left) within = keeps_own w all within
+pub lane_keeps_own : (c : Config) (names : List Named) (answers : List Answer) (v w : View)
+    → v.written ≡ [] → LaneGoes c names v answers w → Recalls 1 w → w.fresh ≡ [] → KeepsOwn w
+lane_keeps_own c names answers v w none (m, goes, left) told calm = keeps_own w told calm
     (subst (λ (z : View). AreRising (Mine w) z.written) (sym left)
     (lines_rising (Mine w) c names [] answers v m goes (subst (AreRising (Mine w)) (sym none) tt)))

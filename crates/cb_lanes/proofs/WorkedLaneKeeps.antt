@@ -1,5 +1,5 @@
--- Worked examples: what a lane beside others promises of its own lines, and of which lines, names and
--- records it does.
+-- Worked examples: what a lane beside others promises of its own lines, and of which lines and names
+-- it does.
 use Rattle.std.proofs.Common.{◌≡◌, ◌⊎◌, ℕ, ◌<◌, ◌≤◌, Bool, true, false, ◌||◌, List, [], ◌∷◌, ◌++◌, get_or, None, Some, inl, inr, refl, sym, ap, ◌∙◌, subst, arith, lit≤, nat_eq, if◌then◌else◌}
 use Rattle.std.specs.List.{AllByRecursion}
 use Rattle.std.specs.Str.{bytes_eq}
@@ -14,12 +14,10 @@ use Rattle.cb_types.specs.declared.reply.Reply.TheVariants.{Made, Bytes}
 use Rattle.cb_model.specs.Called.{first_of}
 use Rattle.cb_script.specs.declared.script.Line.{Line}
 use Rattle.cb_script.specs.Form.{AreLines, IsContents, IsMade, IsName, IsNameByte}
-use Rattle.cb_rule.specs.declared.view.View.{View}
 use Rattle.cb_lanes.specs.declared.body.Named.{Named}
 use Rattle.cb_lanes.specs.Alone.{HasOwnLines, alone_after, fresh_lane, is_maker, now_named, read_alone}
 use Rattle.cb_lanes.specs.AloneUntil.{AreShared, LaneKeepsAlone}
 use Rattle.cb_lanes.specs.Bodies.{handle_among, of_lane}
-use Rattle.cb_lanes.specs.KeepsOwn.{KeepsOwn}
 use Rattle.cb_lanes.proofs.AloneLines.{maker_of, one_maker}
 use Rattle.cb_lanes.proofs.LaneForm.{made_among}
 
@@ -162,44 +160,39 @@ maker_is : (all : List Line) → own ≡ of_lane 1 all → is_maker all 1 b ≡ 
 maker_is all is = maker_of all 1 b
     (made_among 1 all 1 b (subst (λ (ls : List Line). IsMade ls 1 b) is (inl (refl, refl))))
 
-module _ (w : View) where
-  -- the read shows what the lane wrote
-  right : LaneKeepsAlone 2 1 (named a 0) own (answers 2) w
-  right all are has is shared keeps = λ room. (
-    λ mine. (record { n = 1 }, refl),
-    λ room. (
-      λ mine. subst (λ (t : Bool). Bytes 1 (2 ∷ []) ≡ read_alone (now_named b
-          (if t || false then alone_after fresh_lane made.request made.reply else fresh_lane).objects))
-          (sym (maker_is all is)) refl,
-      tt,
-    ),
-  )
+-- the read shows what the lane wrote
+right : LaneKeepsAlone 2 1 (named a 0) own (answers 2)
+right all are has is shared = λ room. (
+  λ mine. (record { n = 1 }, refl),
+  λ room. (
+    λ mine. subst (λ (t : Bool). Bytes 1 (2 ∷ []) ≡ read_alone (now_named b
+        (if t || false then alone_after fresh_lane made.request made.reply else fresh_lane).objects))
+        (sym (maker_is all is)) refl,
+    tt,
+  ),
+)
 
-  -- and not what it did not
-  wrong : KeepsOwn w → LaneKeepsAlone 2 1 (named a 0) own (answers 7) w → ⊥
-  wrong keeps promised = absurd (
-      let e = ((promised script is_script has_own refl a_name_of_lane_0 keeps refl).1 refl).0 refl in cc)
+-- and not what it did not
+wrong : LaneKeepsAlone 2 1 (named a 0) own (answers 7) → ⊥
+wrong promised = absurd (
+    let e = ((promised script is_script has_own refl a_name_of_lane_0 refl).1 refl).0 refl in cc)
 
-  -- unless the record does not keep what it has of own objects
-  another_record : (KeepsOwn w → ⊥) → LaneKeepsAlone 2 1 (named a 0) own (answers 7) w
-  another_record none all are has is shared keeps = absurd (none keeps)
+-- unless lane 0, whose names are shared, answers
+lane_0 : LaneKeepsAlone 2 0 (named a 0) own (answers 7)
+lane_0 all are has is shared = absurd (let low = has.from_one in omega (arith, low))
 
-  -- or lane 0, whose names are shared, answers
-  lane_0 : LaneKeepsAlone 2 0 (named a 0) own (answers 7) w
-  lane_0 all are has is shared keeps = absurd (let low = has.from_one in omega (arith, low))
+-- or the lines are those of another lane, or of no script
+another_lane : LaneKeepsAlone 2 1 (named a 0) (by 2 3 Leave ∷ []) (answers 7)
+another_lane all are has is shared = absurd (let two : 2 ≡ 1 =
+    (subst (λ (ls : List Line). AllByRecursion (λ (l : Line). l.lane.n ≡ 1) ls) (sym is)
+    (own_number 1 all)).0 in omega (arith, two))
 
-  -- or the lines are those of another lane, or of no script
-  another_lane : LaneKeepsAlone 2 1 (named a 0) (by 2 3 Leave ∷ []) (answers 7) w
-  another_lane all are has is shared keeps = absurd (let two : 2 ≡ 1 =
-      (subst (λ (ls : List Line). AllByRecursion (λ (l : Line). l.lane.n ≡ 1) ls) (sym is)
-      (own_number 1 all)).0 in omega (arith, two))
+no_script : LaneKeepsAlone 2 1 (named a 0) (by 1 0 Leave ∷ []) (answers 7)
+no_script all are has is shared = absurd (let low : 2 ≤ 0 =
+    (subst (λ (ls : List Line). AllByRecursion (λ (l : Line). 2 ≤ l.line) ls) (sym is)
+    (of_each (λ (l : Line). 2 ≤ l.line) 1 all (numbered 2 [] all are))).0 in omega (arith, low))
 
-  no_script : LaneKeepsAlone 2 1 (named a 0) (by 1 0 Leave ∷ []) (answers 7) w
-  no_script all are has is shared keeps = absurd (let low : 2 ≤ 0 =
-      (subst (λ (ls : List Line). AllByRecursion (λ (l : Line). 2 ≤ l.line) ls) (sym is)
-      (of_each (λ (l : Line). 2 ≤ l.line) 1 all (numbered 2 [] all are))).0 in omega (arith, low))
-
-  -- or the lane was given a name that it makes itself
-  an_own_name : LaneKeepsAlone 2 1 (named b 3) own (answers 7) w
-  an_own_name all are has is shared keeps = absurd (let same : 0 ≡ 1 =
-      one_maker 2 [] all 0 1 b are (shared b 3 refl) (maker_is all is) in omega (arith, same))
+-- or the lane was given a name that it makes itself
+an_own_name : LaneKeepsAlone 2 1 (named b 3) own (answers 7)
+an_own_name all are has is shared = absurd (let same : 0 ≡ 1 =
+    one_maker 2 [] all 0 1 b are (shared b 3 refl) (maker_is all is) in omega (arith, same))

@@ -6,12 +6,10 @@ use Rattle.cb_types.specs.declared.reply.Reply.{Reply}
 use Rattle.cb_types.specs.declared.reply.Reply.TheVariants as answer
 use Rattle.cb_script.specs.declared.script.Line.{Line}
 use Rattle.cb_script.specs.Form.{AreLines}
-use Rattle.cb_rule.specs.declared.view.View.{View}
 use Rattle.cb_lanes.specs.declared.body.Named.{Named}
 use Rattle.cb_lanes.specs.Alone.{AloneSays, HasOwnLines, LaneState, alone_more, fresh_lane}
 use Rattle.cb_lanes.specs.Alone.{is_maker, is_own}
 use Rattle.cb_lanes.specs.Bodies.{handle_among, of_lane}
-use Rattle.cb_lanes.specs.KeepsOwn.{KeepsOwn}
 
 -- whether the reply tells of a lack of handles, of room or of numbers, or of a loss
 abbrev pub is_lack : Reply → Bool
@@ -39,10 +37,8 @@ AreShared lines names =
     (p : List ℕ) (h : ℕ) → handle_among names p ≡ Some h → is_maker lines 0 p ≡ true
 
 -- The answers of a lane, whatever script its lines are of, are what the lane is answered by itself,
--- up to the first one that tells of a lack. The names that it was given are those that lane 0 made,
--- and the record that it leaves keeps what it has of its own objects.
-abbrev pub LaneKeepsAlone : (nodes lane : ℕ) → List Named → List Line → List Answer → View
-    → Type 0
-LaneKeepsAlone nodes lane names lines answers w = (all : List Line) → AreLines nodes [] all
-    → HasOwnLines all lane → lines ≡ of_lane lane all → AreShared all names → KeepsOwn w
+-- up to the first one that tells of a lack. The names that it was given are those that lane 0 made.
+abbrev pub LaneKeepsAlone : (nodes lane : ℕ) → List Named → List Line → List Answer → Type 0
+LaneKeepsAlone nodes lane names lines answers = (all : List Line) → AreLines nodes [] all
+    → HasOwnLines all lane → lines ≡ of_lane lane all → AreShared all names
     → KeepAloneUntil all lane fresh_lane answers

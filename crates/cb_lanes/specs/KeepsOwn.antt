@@ -2,9 +2,6 @@
 -- order, and what was read, looked at and told of them is of these.
 use Rattle.std.specs.Prelude.{◌≡◌, ◌≢◌, ℕ, ◌+◌, false, cond, eqb, List, [], ◌∷◌}
 use Rattle.std.specs.Prelude.{Option, None, Some}
-use Rattle.cb_types.specs.declared.handle.Handle.{Handle}
-use Rattle.cb_types.specs.declared.job.Job.TheVariants.{Make}
-use Rattle.cb_types.specs.declared.reply.Reply.TheVariants.{Made}
 use Rattle.cb_ptr.specs.declared.word.State.TheVariants as word
 use Rattle.cb_ptr.specs.Word.{len_of, state_of}
 use Rattle.cb_world.specs.declared.entry.Entry.{Entry}
@@ -16,6 +13,7 @@ use Rattle.cb_rule.specs.Lists.{Has}
 use Rattle.cb_rule.specs.Promised.{FoundBy}
 use Rattle.cb_rule.specs.Records.{seen_of}
 use Rattle.cb_record.specs.Upheld.{IsLong}
+use Rattle.cb_shared.specs.Recalls.{MakesFirst}
 
 -- the object's last entry among these, the newest first
 abbrev pub last_in : List Entry → ℕ → Option Entry
@@ -53,8 +51,7 @@ AreLong mine v = (l : Look) → FoundBy l v → mine l.handle → state_of l.wor
 
 -- each turn that made an object told the version 1
 abbrev pub AreMadeFirst : List Turn → Type 0
-AreMadeFirst turns = (t : Turn) → Has t turns → (bytes : List ℕ) (handle : Handle) (version : ℕ)
-    → t.job ≡ Make bytes → t.reply ≡ Some (Made handle version) → version ≡ 1
+AreMadeFirst turns = MakesFirst 1 turns
 
 -- So of the own objects of a record in the end.
 pub record KeepsOwn (w : View) : Type 0 where

@@ -3,7 +3,9 @@ ghost use Rattle.std.specs.Prelude.{◌≡◌, ℕ, List, [], ◌∷◌, ◌++�
 ghost use Rattle.std.specs.Prelude.{OnErr};
 ghost use Rattle.std.specs.List.{AllByRecursion};
 ghost use Rattle.cb_script.specs.Form.{IsRequest};
+ghost use Rattle.cb_shared.specs.Joining.{unpinned_all};
 ghost use Rattle.cb_shared.specs.Passes.{IsPassOf, record_of};
+ghost use Rattle.cb_shared.specs.Recalls.{Recalls, first_version_of};
 ghost use Rattle.cb_lanes.specs.AloneUntil.{LaneKeepsAlone};
 ghost use Rattle.cb_lanes.specs.Asked.{asked, HasLineReply};
 ghost use Rattle.cb_lanes.specs.Bodies.{AddsBacked, AnswersOne, AreLinesOf, IsFront, KeepHandles};
@@ -120,8 +122,9 @@ pub fn lane_body<R: Wait, G: Gate>(
     ensures rises { IfOk result (λ end. LaneRises lane.n names.now end.answers (record_of pass)
         (record_of end.pass)) }
     ensures scoped { IfOk result (λ end. LaneScoped lane.n names.now end.answers) }
-    ensures alone { IfOk result (λ end. LaneKeepsAlone shared.now.config.nodes lane.n names.now
-        lines.now end.answers (record_of end.pass)) }
+    ensures alone { IfOk result (λ end. first_version_of shared.now ≡ 1
+        → (record_of pass).written ≡ []
+        → LaneKeepsAlone shared.now.config.nodes lane.n names.now lines.now end.answers) }
     ensures stopped { IfErr result (λ s. IsPassOf shared.now s.pass
         × ((record_of s.pass).pins ≡ []) × IsFront (map asked s.answers) lines.now) }
 {
@@ -141,7 +144,7 @@ pub fn lane_body<R: Wait, G: Gate>(
         &mut answers,
         gate,
     );
-    leave(shared, &mut passing.pass, &mut passing.pins);
+    leave_at_end(shared, &mut passing.pass, &mut passing.pins);
     match done {
         Ok(()) => Ok(LaneEnd {
             answers,
@@ -152,6 +155,18 @@ pub fn lane_body<R: Wait, G: Gate>(
             answers,
         }),
     }
+}
+
+/// Behind the last line: gives all pins back, and tells what the pass has of its own objects.
+fn leave_at_end(shared: &Shared, pass: &mut Pass, pins: &mut KeptPins)
+    requires of { IsPassOf shared.now pass.old }
+    requires held { AreHeld pins.old.items (record_of pass.old) }
+    ensures of { IsPassOf shared.now pass.new }
+    ensures left { record_of pass.new ≡ unpinned_all (record_of pass.old) }
+    ensures own { Recalls (first_version_of shared.now) (record_of pass.new) }
+{
+    leave(shared, pass, pins);
+    shared.recall(pass);
 }
 
 /// Answers the lines of a lane, as long as there is memory.

@@ -12,8 +12,8 @@ use Rattle.cb_rule.specs.Slot.{Sat, Slot}
 use Rattle.cb_shared.specs.declared.runtime.Shared.{Shared}
 
 -- the version that makes give in the runtime
-abbrev pub first_of : Shared → ℕ
-first_of s = s.board.shared.key.first
+abbrev pub first_version_of : Shared → ℕ
+first_version_of s = s.board.shared.key.first
 
 -- each of these turns that made an object told this version
 abbrev pub MakesFirst : ℕ → List Turn → Type 0

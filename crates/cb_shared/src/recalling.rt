@@ -2,7 +2,7 @@
 ghost use Rattle.std.specs.Prelude.{◌≡◌};
 ghost use Rattle.cb_shared.specs.Passes.{IsPassOf, record_of};
 ghost use Rattle.cb_shared.specs.Places.{IsOf, Moves};
-ghost use Rattle.cb_shared.specs.Recalls.{Recalls, first_of};
+ghost use Rattle.cb_shared.specs.Recalls.{Recalls, first_version_of};
 
 use crate::board::{Place, Top};
 use crate::pass::Pass;
@@ -13,13 +13,13 @@ use std::marker::Brand;
 
 impl Shared {
     /// Tells what the pass has of its own objects, which it made and no other pass knows: what it
-    /// read and found of them is what it wrote itself. One load; the record stays as it is. Takes no
-    /// memory and waits for nobody.
+    /// read and found of them is what it wrote itself. One load; the record stays as it is. Takes
+    /// no memory and waits for nobody.
     pub fn recall(&self, pass: &mut Pass)
         requires of { IsPassOf self.now pass.old }
         ensures of { IsPassOf self.now pass.new }
         ensures same { record_of pass.new ≡ record_of pass.old }
-        ensures own { Recalls (first_of self.now) (record_of pass.new) }
+        ensures own { Recalls (first_version_of self.now) (record_of pass.new) }
     {
         recall_at(&self.board.shared, &mut pass.seat, &self.config);
     }

@@ -2,6 +2,7 @@ use Rattle.std.proofs.Common.{◌≡◌, List, [], refl, sym, ap, ◌∙◌, sub
 use Rattle.cb_script.specs.declared.script.Line.{Line}
 use Rattle.cb_script.specs.Form.{AreLines}
 use Rattle.cb_shared.specs.Passes.{record_of}
+use Rattle.cb_shared.specs.Recalls.{first_version_of}
 use Rattle.cb_lanes.specs.declared.body.Named.{Named}
 use Rattle.cb_lanes.specs.AloneUntil.{LaneKeepsAlone}
 use Rattle.cb_lanes.specs.Bodies.{AreNamesOf, KnowsNames}
@@ -32,8 +33,8 @@ returns-in-Ok-clause-told g c =
     fresh (subst (KnowsNames (record_of c.args.pass)) (sym c.new-names.ensures.empty) tt) c.in-Ok.ensures.of.0
     (c.in-Ok.ensures.lines ∙ lines)
     c.in-Ok.ensures.answered c.in-Ok.ensures.last c.in-Ok.ensures.part c.in-Ok.ensures.goes c.in-Ok.ensures.rises
-    c.in-Ok.ensures.scoped (subst (λ (ls : List Line). LaneKeepsAlone nodes 0 c.new-names.result ls
-    c.in-Ok.end.answers (record_of c.in-Ok.end.pass)) lines c.in-Ok.ensures.alone)
+    c.in-Ok.ensures.scoped (subst (λ (ls : List Line). first_version_of c.args.shared.now ≡ 1 → (record_of c.args.pass).written ≡ []
+    → LaneKeepsAlone nodes 0 c.new-names.result ls c.in-Ok.end.answers) lines c.in-Ok.ensures.alone)
     (of_lane_lines nodes 0 [] c.args.s.now.lines are) [] named (none_known (record_of c.args.pass)) refl
 
 pub returns-in-Ok-clause-known : goal.returns-in-Ok-clause-known

@@ -1,5 +1,6 @@
-use Rattle.std.proofs.Common.{[], ap}
+use Rattle.std.proofs.Common.{ℕ, [], ap, subst}
 use Rattle.cb_rule.specs.declared.view.View.{View}
+use Rattle.cb_shared.specs.Recalls.{Recalls}
 use Rattle.cb_lanes.proofs.LaneForm.{lane_keeps_alone}
 use Rattle.cb_lanes.proofs.LaneRises.{lane_alone}
 use Rattle.cb_lanes.proofs.LaneScopes.{lane_scoped}
@@ -7,22 +8,23 @@ use Rattle.cb_lanes.proofs.LastTries.{lines_last}
 use Rattle.cb_lanes.proofs.LineReplies.{lines_reply}
 use Rattle.cb_lanes.proofs.LinesBack.{lane_adds}
 use Rattle.cb_lanes.proofs.LinesSoFar.{held_none}
+use Rattle.cb_lanes.proofs.OwnRising.{lane_keeps_own}
 use Rattle.cb_lanes.proofs.body.lane_body.Goals as goal
 
 pub answer_all-done-requires-clause-held : goal.answer_all-done-requires-clause-held
 answer_all-done-requires-clause-held g c lives within = held_none c.new.result.items
     c.args.pass.seat.me.0 c.requires.pins c.new.ensures
 
-pub leave-requires-clause-of : goal.leave-requires-clause-of
-leave-requires-clause-of g c = c.answer_all-done.ensures.of
+pub leave_at_end-requires-clause-of : goal.leave_at_end-requires-clause-of
+leave_at_end-requires-clause-of g c = c.answer_all-done.ensures.of
 
-pub leave-requires-clause-held : goal.leave-requires-clause-held
-leave-requires-clause-held g c = c.answer_all-done.ensures.held
+pub leave_at_end-requires-clause-held : goal.leave_at_end-requires-clause-held
+leave_at_end-requires-clause-held g c = c.answer_all-done.ensures.held
 
 pub returns-in-Ok-clause-of : goal.returns-in-Ok-clause-of
 returns-in-Ok-clause-of g c = (
-  c.leave.ensures.of,
-  ap (λ (v : View). v.pins) c.leave.ensures.left,
+  c.leave_at_end.ensures.of,
+  ap (λ (v : View). v.pins) c.leave_at_end.ensures.left,
 )
 
 pub returns-in-Ok-clause-lines : goal.returns-in-Ok-clause-lines
@@ -32,7 +34,7 @@ pub returns-in-Ok-clause-goes : goal.returns-in-Ok-clause-goes
 returns-in-Ok-clause-goes g c = (
   c.answer_all-done.new.passing.pass.seat.me.0,
   rw c.in-Ok.is at c.answer_all-done.ensures.goes,
-  c.leave.ensures.left,
+  c.leave_at_end.ensures.left,
 )
 
 pub returns-in-Ok-clause-answered : goal.returns-in-Ok-clause-answered
@@ -47,31 +49,35 @@ returns-in-Ok-clause-last g c = lines_last c.args.shared.now.config c.args.names
 
 pub returns-in-Ok-clause-part : goal.returns-in-Ok-clause-part
 returns-in-Ok-clause-part g c = lane_adds c.args.shared.now.config c.args.names.now
-    c.answer_all-done.new.answers c.args.pass.seat.me.0 c.leave.new.pass.seat.me.0 c.requires.pins
+    c.answer_all-done.new.answers c.args.pass.seat.me.0 c.leave_at_end.new.pass.seat.me.0 c.requires.pins
     (returns-in-Ok-clause-goes g c)
 
 pub returns-in-Ok-clause-rises : goal.returns-in-Ok-clause-rises
 returns-in-Ok-clause-rises g c = lane_alone c.args.shared.now.config c.args.names.now
     c.args.shared.now.config.nodes c.args.lane.n c.args.lines.now c.answer_all-done.new.answers
-    c.args.pass.seat.me.0 c.leave.new.pass.seat.me.0 c.requires.pins
+    c.args.pass.seat.me.0 c.leave_at_end.new.pass.seat.me.0 c.requires.pins
     (returns-in-Ok-clause-goes g c) c.requires.lines (returns-in-Ok-clause-lines g c)
 
 pub returns-in-Ok-clause-scoped : goal.returns-in-Ok-clause-scoped
 returns-in-Ok-clause-scoped g c = lane_scoped c.args.shared.now.config c.args.names.now
     c.args.shared.now.config.nodes c.args.lane.n c.args.lines.now c.answer_all-done.new.answers
-    c.args.pass.seat.me.0 c.leave.new.pass.seat.me.0 c.requires.pins
+    c.args.pass.seat.me.0 c.leave_at_end.new.pass.seat.me.0 c.requires.pins
     (returns-in-Ok-clause-goes g c) c.requires.lines (returns-in-Ok-clause-lines g c)
 
 pub returns-in-Ok-clause-alone : goal.returns-in-Ok-clause-alone
-returns-in-Ok-clause-alone g c = lane_keeps_alone c.args.shared.now.config
-    c.args.shared.now.config.nodes c.args.lane.n c.args.names.now c.args.lines.now
-    c.answer_all-done.new.answers c.args.pass.seat.me.0 c.leave.new.pass.seat.me.0 c.requires.pins
+returns-in-Ok-clause-alone g c = λ first unwritten.
+    let w = c.leave_at_end.new.pass.seat.me.0 in
+    lane_keeps_alone c.args.shared.now.config c.args.shared.now.config.nodes c.args.lane.n c.args.names.now
+    c.args.lines.now c.answer_all-done.new.answers c.args.pass.seat.me.0 w c.requires.pins
     c.requires.of.rest.fresh c.requires.names (returns-in-Ok-clause-goes g c)
     (returns-in-Ok-clause-lines g c) (returns-in-Ok-clause-answered g c)
+    (lane_keeps_own c.args.shared.now.config c.args.names.now c.answer_all-done.new.answers
+    c.args.pass.seat.me.0 w unwritten (returns-in-Ok-clause-goes g c)
+    (subst (λ (n : ℕ). Recalls n w) first c.leave_at_end.ensures.own) c.leave_at_end.ensures.of.rest.fresh)
 
 pub returns-in-Err-clause-stopped : goal.returns-in-Err-clause-stopped
 returns-in-Err-clause-stopped g c = (
-  c.leave.ensures.of,
-  ap (λ (v : View). v.pins) c.leave.ensures.left,
+  c.leave_at_end.ensures.of,
+  ap (λ (v : View). v.pins) c.leave_at_end.ensures.left,
   c.answer_all-done.ensures.front,
 )
