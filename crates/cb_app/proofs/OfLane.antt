@@ -15,10 +15,18 @@ use Rattle.cb_lanes.specs.Asked.{asked}
 use Rattle.cb_lanes.proofs.Laws.{AreOfLane, NoneOfLane}
 use Rattle.cb_app.specs.ByLane.{IsUsed, Uses, by_lane, lanes_up_to, of_lane}
 use Rattle.cb_app.specs.OwnLines.{AreAmong, to_lane}
-use Rattle.cb_app.proofs.EntriesTold.{has_either}
 use Rattle.cb_app.proofs.Lanes.{IsOf, lanes_made, made_in_both, of_lane_made, of_lane_own, used_known}
 
 -- ---- answers
+pub has_either : {A : Type 0} (x : A) (xs ys : List A) → Has x (xs ++ ys) → Has x xs ⊎ Has x ys
+has_either x [] ys has = inr has
+has_either x (y ∷ xs) ys (inl here) = inl (inl here)
+has_either x (y ∷ xs) ys (inr later) = by (has_either x xs ys later)
+  where
+    by : Has x xs ⊎ Has x ys → Has x (y ∷ xs) ⊎ Has x ys
+    by (inl front) = inl (inr front)
+    by (inr back) = inr back
+
 answer_hit : (lane : ℕ) (a : Answer) (xs : List Answer) → a.lane.n ≡ lane
     → to_lane lane (a ∷ xs) ≡ a ∷ to_lane lane xs
 answer_hit lane a xs same = ap (λ (b : Bool). if b then a ∷ to_lane lane xs else to_lane lane xs)
