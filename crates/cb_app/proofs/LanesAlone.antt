@@ -29,8 +29,7 @@ use Rattle.cb_lanes.proofs.Laws.{AreOfLane, NoneOfLane, handle_is_made, maker_of
 use Rattle.cb_app.specs.ByLane.{AreOfOthers, by_lane, of_lane}
 use Rattle.cb_app.specs.Crew.{AreFirst}
 use Rattle.cb_app.specs.OwnLines.{AreAllOf, AreAmong, KeepAloneWith, to_lane}
-use Rattle.cb_app.proofs.EntriesTold.{has_either}
-use Rattle.cb_app.proofs.OfLane.{HasSome, all_to_lane, asked_to_lane, has_asked, lane_by_lane, lane_cases, made_here, made_in_script, none_to_lane, of_each, some_or_none}
+use Rattle.cb_app.proofs.OfLane.{HasSome, all_to_lane, asked_to_lane, has_asked, has_either, lane_by_lane, lane_cases, made_here, made_in_script, none_to_lane, of_each, some_or_none}
 
 -- ---- answers behind those of other lanes
 none_both : (lane : ℕ) (xs ys : List Answer) → NoneOfLane lane xs → NoneOfLane lane ys

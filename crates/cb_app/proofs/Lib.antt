@@ -10,7 +10,6 @@ mod Lanes
 mod ToldApart
 mod ScopesTold
 mod OneToOne
-mod EntriesTold
 mod OfLane
 mod LanesAlone
 mod WorkedOwnLines

@@ -1,22 +1,32 @@
 -- The lines and the answers of one lane among all of them.
-use Rattle.std.proofs.Common.{◌≡◌, ◌⊎◌, ℕ, zero, suc, ◌<◌, ◌≤◌, Bool, true, false, List, [], ◌∷◌, ◌++◌, map, inl, inr, refl, sym, ap, ◌∙◌, subst, arith, eq-eqb, ne_eqb, if◌then◌else◌}
+use Rattle.std.proofs.Common.{◌≡◌, ◌⊎◌, ℕ, zero, suc, ◌<◌, ◌≤◌, Bool, true, false, List, [], ◌∷◌, ◌++◌, map, Some, inl, inr, refl, sym, ap, ◌∙◌, subst, append_assoc, arith, eq-eqb, ne_eqb, if◌then◌else◌}
 use Rattle.std.specs.Prelude.{nat_eq}
 use Rattle.std.specs.List.{AllByRecursion}
 use Rattle.std.proofs.lemmas.Bool.{cases_Bool, cases_lt, eqb-true}
 use Rattle.std.proofs.lemmas.List.{append-nil}
 use Rattle.std.proofs.lemmas.List.Elements.{filter-append}
 use Rattle.cb_types.specs.declared.answer.Answer.{Answer}
+use Rattle.cb_types.specs.declared.request.Request.{Request}
+use Rattle.cb_types.specs.Requests.{name_of}
 use Rattle.cb_script.specs.declared.script.Line.{Line}
 use Rattle.cb_script.specs.Form.{AreLines, IsMade, KnowsName, Makes}
 use Rattle.cb_rule.specs.Lists.{Has}
 use Rattle.cb_lanes.specs.Asked.{asked}
 use Rattle.cb_lanes.proofs.Laws.{AreOfLane, NoneOfLane}
 use Rattle.cb_app.specs.ByLane.{IsUsed, Uses, by_lane, lanes_up_to, of_lane}
-use Rattle.cb_app.specs.OwnLines.{to_lane}
-use Rattle.cb_app.proofs.EntriesTold.{has_either}
+use Rattle.cb_app.specs.OwnLines.{AreAmong, to_lane}
 use Rattle.cb_app.proofs.Lanes.{IsOf, lanes_made, made_in_both, of_lane_made, of_lane_own, used_known}
 
 -- ---- answers
+pub has_either : {A : Type 0} (x : A) (xs ys : List A) → Has x (xs ++ ys) → Has x xs ⊎ Has x ys
+has_either x [] ys has = inr has
+has_either x (y ∷ xs) ys (inl here) = inl (inl here)
+has_either x (y ∷ xs) ys (inr later) = by (has_either x xs ys later)
+  where
+    by : Has x xs ⊎ Has x ys → Has x (y ∷ xs) ⊎ Has x ys
+    by (inl front) = inl (inr front)
+    by (inr back) = inr back
+
 answer_hit : (lane : ℕ) (a : Answer) (xs : List Answer) → a.lane.n ≡ lane
     → to_lane lane (a ∷ xs) ≡ a ∷ to_lane lane xs
 answer_hit lane a xs same = ap (λ (b : Bool). if b then a ∷ to_lane lane xs else to_lane lane xs)

@@ -73,7 +73,6 @@ pub mod LaneAlone
 pub mod LaneForm
 pub mod OwnKept
 pub mod OwnRising
-pub mod OwnHandles
 pub mod UntilLack
 pub mod WorkedPassing
 pub mod WorkedAsking
