@@ -18,7 +18,6 @@ mod Records
 mod WorkDone
 mod Crews
 mod WorkedLanes
-mod WorkedOwnLines
 mod WorkedThreads
 mod WorkedRun
 mod PlainReplies
