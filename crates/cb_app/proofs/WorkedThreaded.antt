@@ -270,11 +270,31 @@ module _ (t : Turn) (world : WorldState) (seal : Seal) where
   behind_another = answer 1 2 (Make a (1 ∷ [])) (replies.Made (record { n = 0 }) 1)
       ∷ answer 1 3 (Write a 0 (2 ∷ [])) (replies.Version 3) ∷ []
 
+  abbrev wide_own : Script
+  wide_own = record wide { lines = map asked behind_another }
+
+  roomy_own : IsRoomy wide_own
+  roomy_own = record {
+    frames = omega arith;
+    room = omega arith;
+    nodes = omega arith;
+    makes = omega arith;
+    crashes = omega arith;
+  }
+
   not_alone : IsRun (record script { lines = map asked behind_another }) (told_of world seal behind_another [])
       → ⊥
   not_alone is = absurd (let own : HasOwnLines (map asked behind_another) 1 =
       record { from_one = omega arith; pins = refl } in
       let e : replies.Version 3 ≡ replies.Version 2 = ((is.until 1 own refl).1 refl).0 refl in cc)
+
+  -- and so it is on a roomy script
+  not_alone_with_room : world.far.counts.turns ≡ 1
+      → IsRun wide_own (told_of world seal behind_another []) → ⊥
+  not_alone_with_room one is = absurd (let own : HasOwnLines (map asked behind_another) 1 =
+      record { from_one = omega arith; pins = refl } in
+      let e : replies.Version 3 ≡ replies.Version 2 =
+      (is.alone roomy_own (omega (arith, one)) 1 own).1.0 refl in cc)
 
   -- an object has bytes in the world, and no answer is about it
   an_object_of_no_line : (v : ℕ) (bytes : List ℕ) → 0 < length world.desk.words
