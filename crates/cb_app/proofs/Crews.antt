@@ -1,5 +1,5 @@
 -- What lanes and workers leave, one after the other.
-use Rattle.std.proofs.Common.{◌≡◌, ℕ, suc, ◌+◌, ◌-◌, ◌<◌, ◌≤◌, List, [], ◌∷◌, ◌++◌, length, map, inl, inr, refl, sym, ap, ◌∙◌, subst, append_assoc, arith}
+use Rattle.std.proofs.Common.{◌≡◌, ℕ, suc, Bool, true, false, ◌+◌, ◌-◌, ◌<◌, ◌≤◌, List, [], ◌∷◌, ◌++◌, length, map, inl, inr, refl, sym, ap, ◌∙◌, subst, append_assoc, arith}
 use Rattle.std.specs.Prelude.{All, IfOk, nat_eq, slice_index_or}
 use Rattle.std.specs.List.{AllByRecursion}
 use Rattle.std.proofs.lemmas.Bool.{cases_Bool}
@@ -31,7 +31,7 @@ use Rattle.cb_lanes.specs.Scoped.{AreScoped}
 use Rattle.cb_lanes.specs.Suits.{AreSuited}
 use Rattle.cb_lanes.proofs.Laws.{are_suited_both, are_suited_more, has_split}
 use Rattle.cb_workers.specs.declared.worker.Worker.{Worker as Worker'}
-use Rattle.cb_app.specs.ByLane.{AreApart, AreOfOthers, IsApart, by_lane, flat, lanes_up_to, of_lane}
+use Rattle.cb_app.specs.ByLane.{AreApart, AreOfOthers, IsApart, by_lane, flat, has_lines, lanes_up_to, of_lane}
 use Rattle.cb_app.specs.Crew.{AllMade, AreFirst, AreMade, BodyIsReady, IsDealt, IsFresh, IsDealtOne, IsEnded, IsReady, IsTold, RiseWith, TakesIn, lines_due, lines_in, lines_left, part_of, turns_due, work_in}
 use Rattle.cb_app.specs.OwnLines.{KeepAloneWith}
 use Rattle.cb_app.specs.declared.crew.Body.{Body}
@@ -115,21 +115,21 @@ taken_in s given others lines a e b are told ended apart none first of pass answ
 -- ---- one after the other
 
 -- some were taken in, and these are left
-pub record IsTaking (s : Shared) (given : List Answer) (all left : List Ended) (first : LaneEnd)
+pub record IsTaking (s : Shared) (script : List Line) (given : List Answer) (all left : List Ended) (first : LaneEnd)
     : Type 0 where
   pub others : List Answer
   pub answers : first.answers ≡ given ++ others
   pub told : IsTold s [] (map asked first.answers) first
-  pub ended : All (IsEnded s given) left
-  pub apart : AreApart (map asked others) (map lines_left left)
-  pub lines : map asked others ++ flat (map lines_left left) ≡ flat (map lines_left all)
+  pub ended : All (IsEnded s script given) left
+  pub apart : AreApart (map asked others) (map (lines_left script) left)
+  pub lines : map asked others ++ flat (map (lines_left script) left) ≡ flat (map (lines_left script) all)
   pub work : (w : Worker') (tasks : List Task) → AllMade w tasks all
       → AreOwed w tasks left (record_of first.pass)
 
-pub taking_from : (s : Shared) (all : List Ended) (first : LaneEnd)
-    → IsTold s [] (map asked first.answers) first → All (IsEnded s first.answers) all
-    → AreApart [] (map lines_left all) → IsTaking s first.answers all all first
-taking_from s all first told ended apart = record {
+pub taking_from : (s : Shared) (lines : List Line) (all : List Ended) (first : LaneEnd)
+    → IsTold s [] (map asked first.answers) first → All (IsEnded s lines first.answers) all
+    → AreApart [] (map (lines_left lines) all) → IsTaking s lines first.answers all all first
+taking_from s lines all first told ended apart = record {
   others = [];
   answers = sym (append-nil first.answers);
   told = told;
@@ -139,49 +139,52 @@ taking_from s all first told ended apart = record {
   work = λ w tasks made. owed_from w tasks all (record_of first.pass) made;
 }
 
-pub taking_more : (s : Shared) (given : List Answer) (all left : List Ended) (e : Ended) (later : List Ended)
-    (first next : LaneEnd) → (t : IsTaking s given all left first) → left ≡ e ∷ later
-    → TakesIn s given t.others e.lines next → All (IsEnded s given) later
+pub taking_more : (s : Shared) (lines : List Line) (given : List Answer) (all left : List Ended) (e : Ended) (later : List Ended)
+    (first next : LaneEnd) → (t : IsTaking s lines given all left first) → left ≡ e ∷ later
+    → TakesIn s given t.others (lines_left lines e) next → All (IsEnded s lines given) later
     → ((w : Worker') (k : Task) → AreMade w k e → work_in w (record_of first.pass) + turns_due w k
-    ≤ work_in w (record_of next.pass)) → IsTaking s given all later next
-taking_more s given all left e later first next t is takes ended work =
-    let both : map asked (t.others ++ takes.more) ≡ map asked t.others ++ e.lines =
+    ≤ work_in w (record_of next.pass)) → IsTaking s lines given all later next
+taking_more s lines given all left e later first next t is takes ended work =
+    let both : map asked (t.others ++ takes.more) ≡ map asked t.others ++ lines_left lines e =
     map-append asked t.others takes.more ∙ ap (λ (ls : List Line). map asked t.others ++ ls) takes.lines_are in
-    let apart : AreApart (map asked t.others) (map lines_left (e ∷ later)) =
-    subst (λ (es : List Ended). AreApart (map asked t.others) (map lines_left es)) is t.apart in
+    let apart : AreApart (map asked t.others) (map (lines_left lines) (e ∷ later)) =
+    subst (λ (es : List Ended). AreApart (map asked t.others) (map (lines_left lines) es)) is t.apart in
     record {
       others = t.others ++ takes.more;
       answers = takes.answers;
       told = takes.told;
       ended = ended;
-      apart = subst (λ (ls : List Line). AreApart ls (map lines_left later)) (sym both) apart.2;
-      lines = ap (λ (ls : List Line). ls ++ flat (map lines_left later)) both
-          ∙ append_assoc (map asked t.others) e.lines (flat (map lines_left later))
-          ∙ ap (λ (es : List Ended). map asked t.others ++ flat (map lines_left es)) (sym is) ∙ t.lines;
+      apart = subst (λ (ls : List Line). AreApart ls (map (lines_left lines) later)) (sym both) apart.2;
+      lines = ap (λ (ls : List Line). ls ++ flat (map (lines_left lines) later)) both
+          ∙ append_assoc (map asked t.others) (lines_left lines e) (flat (map (lines_left lines) later))
+          ∙ ap (λ (es : List Ended). map asked t.others ++ flat (map (lines_left lines) es)) (sym is) ∙ t.lines;
       work = λ w tasks made. owed_more w tasks left e later (record_of first.pass) (record_of next.pass) is
           (t.work w tasks made) (work w);
     }
 
-pub taking_all : (s : Shared) (given : List Answer) (all left : List Ended) (first : LaneEnd)
-    → IsTaking s given all left first → left ≡ []
-    → IsTold s [] (map asked given ++ flat (map lines_left all)) first
-taking_all s given all left first t none =
-    let others : map asked t.others ≡ flat (map lines_left all) =
+pub taking_all : (s : Shared) (lines : List Line) (given : List Answer) (all left : List Ended) (first : LaneEnd)
+    → IsTaking s lines given all left first → left ≡ []
+    → IsTold s [] (map asked given ++ flat (map (lines_left lines) all)) first
+taking_all s lines given all left first t none =
+    let others : map asked t.others ≡ flat (map (lines_left lines) all) =
     sym (append-nil (map asked t.others))
-    ∙ ap (λ (es : List Ended). map asked t.others ++ flat (map lines_left es)) (sym none) ∙ t.lines in
-    let lines : map asked first.answers ≡ map asked given ++ flat (map lines_left all) =
+    ∙ ap (λ (es : List Ended). map asked t.others ++ flat (map (lines_left lines) es)) (sym none) ∙ t.lines in
+    let lines : map asked first.answers ≡ map asked given ++ flat (map (lines_left lines) all) =
     ap (map asked) t.answers ∙ map-append asked given t.others
     ∙ ap (λ (ls : List Line). map asked given ++ ls) others in
     subst (λ (ls : List Line). IsTold s [] ls first) lines t.told
 
 -- and of the turns that the workers owe all are there
-pub taken_work : (s : Shared) (given : List Answer) (all left : List Ended) (first : LaneEnd)
-    → IsTaking s given all left first → left ≡ [] → (w : Worker') (tasks : List Task)
+pub taken_work : (s : Shared) (lines : List Line) (given : List Answer) (all left : List Ended) (first : LaneEnd)
+    → IsTaking s lines given all left first → left ≡ [] → (w : Worker') (tasks : List Task)
     → AllMade w tasks all → total (turns_due w) tasks ≤ work_in w (record_of first.pass)
-taken_work s given all left first t none w tasks made =
+taken_work s lines given all left first t none w tasks made =
     owed_none w tasks left (record_of first.pass) none (t.work w tasks made)
 
 -- ---- tasks
+
+next : (n : ℕ) → n + 1 ≡ suc n
+next n = omega arith
 
 -- the lines of a lane have its number and their form
 pub of_lane_lines : (nodes n : ℕ) (before after : List Line) → AreLines nodes before after
@@ -205,27 +208,39 @@ dealt_none s lines p of whole = record {
   own = (record_of p).own;
   left = refl;
   starts = All-nil (λ (t : Task). HasAllOf (record_of p) (record_of t.pass));
-  ready = λ names known are. All-nil (IsReady s names);
+  ready = λ names known are. All-nil (IsReady s lines names);
   lines_are = refl;
   apart = λ are. tt;
 }
 
--- a lane without lines is passed over
+-- a lane that no line is of has no lines
+pub none_of : (n : ℕ) (lines : List Line) → has_lines n lines ≡ false → of_lane n lines ≡ []
+none_of n [] none = refl
+none_of n (l ∷ lines) none = elim (cases_Bool (nat_eq l.lane.n n)) [
+  | inl same ↦ let e : true ≡ false = rw same at none in absurd cc
+  | inr other ↦ rw other (none_of n lines (rw other at none))
+]
+
+-- it is passed over
 pub dealt_over : (s : Shared) (lines : List Line) (n m : ℕ) (v : View) (tasks : List Task) (p : Pass)
-    → IsDealt s lines n m v tasks p → of_lane (suc n) lines ≡ []
-    → IsDealt s lines (suc n) (suc m) v tasks p
-dealt_over s lines n m v tasks p d none = record {
-  of = d.of;
-  most = let most = d.most in omega (arith, most);
-  share = d.share;
-  own = d.own;
-  left = d.left;
-  starts = d.starts;
-  ready = d.ready;
-  lines_are = d.lines_are ∙ sym (append-nil (lanes_up_to n lines))
-      ∙ ap (λ (ls : List Line). lanes_up_to n lines ++ ls) (sym none);
-  apart = d.apart;
-}
+    → IsDealt s lines n m v tasks p → has_lines (n + 1) lines ≡ false
+    → IsDealt s lines (n + 1) (m + 1) v tasks p
+dealt_over s lines n m v tasks p d off =
+    let none : of_lane (suc n) lines ≡ [] =
+    none_of (suc n) lines (ap (λ (k : ℕ). has_lines k lines) (sym (next n)) ∙ off) in
+    subst (λ (k : ℕ). IsDealt s lines k (m + 1) v tasks p) (sym (next n))
+    (subst (λ (k : ℕ). IsDealt s lines (suc n) k v tasks p) (sym (next m)) (record {
+      of = d.of;
+      most = let most = d.most in omega (arith, most);
+      share = d.share;
+      own = d.own;
+      left = d.left;
+      starts = d.starts;
+      ready = d.ready;
+      lines_are = d.lines_are ∙ sym (append-nil (lanes_up_to n lines))
+          ∙ ap (λ (ls : List Line). lanes_up_to n lines ++ ls) (sym none);
+      apart = d.apart;
+    }))
 
 -- the record of a pass that was split off one of which tasks were split off
 abbrev rest : View → ℕ → List ℕ → View
@@ -245,37 +260,37 @@ module _ (s : Shared) (lines : List Line) (n m : ℕ) (v : View) (tasks new : Li
   most_so = let most = d.most in let e = ap (λ (w : View). w.share) left in omega (arith, most, e, enough)
 
   task_ready : (names : List Named) → KnowsNames v names
-      → BodyIsReady s.config.nodes names (right_of 1 (rest v d.share d.own)) body
-      → IsReady s names one.task
+      → BodyIsReady s.config.nodes lines names (right_of 1 (rest v d.share d.own)) body
+      → IsReady s lines names one.task
   task_ready names known ready = record {
     of = one.of;
     fresh = subst IsFresh (sym right_so) (right_fresh 1 (rest v d.share d.own));
-    body = subst (λ (w : View). BodyIsReady s.config.nodes names w one.task.body) (sym right_so)
-        (subst (BodyIsReady s.config.nodes names (right_of 1 (rest v d.share d.own))) (sym one.body_is) ready);
+    body = subst (λ (w : View). BodyIsReady s.config.nodes lines names w one.task.body) (sym right_so)
+        (subst (BodyIsReady s.config.nodes lines names (right_of 1 (rest v d.share d.own))) (sym one.body_is) ready);
   }
 
-  due_so : map lines_due new ≡ map lines_due tasks ++ lines_in body ∷ []
-  due_so = ap (map lines_due) one.tasks ∙ map-append lines_due tasks (one.task ∷ [])
-      ∙ ap (λ (b : Body). map lines_due tasks ++ lines_in b ∷ []) one.body_is
+  due_so : map (lines_due lines) new ≡ map (lines_due lines) tasks ++ lines_in lines body ∷ []
+  due_so = ap (map (lines_due lines)) one.tasks ∙ map-append (lines_due lines) tasks (one.task ∷ [])
+      ∙ ap (λ (b : Body). map (lines_due lines) tasks ++ lines_in lines b ∷ []) one.body_is
 
-  flat_so : flat (map lines_due new) ≡ lanes_up_to n lines ++ lines_in body
-  flat_so = ap flat due_so ∙ flat-push (map lines_due tasks) (lines_in body)
-      ∙ ap (λ (ls : List Line). ls ++ lines_in body) d.lines_are
+  flat_so : flat (map (lines_due lines) new) ≡ lanes_up_to n lines ++ lines_in lines body
+  flat_so = ap flat due_so ∙ flat-push (map (lines_due lines) tasks) (lines_in lines body)
+      ∙ ap (λ (ls : List Line). ls ++ lines_in lines body) d.lines_are
 
-  apart_so : AreLines s.config.nodes [] lines → IsApart (lanes_up_to n lines) (lines_in body)
-      → AreOfOthers (lanes_up_to n lines) (lines_in body) → AreApart [] (map lines_due new)
-  apart_so are is others = subst (AreApart []) (sym due_so) (apart-push [] (map lines_due tasks) (lines_in body)
-      (d.apart are) (subst (λ (ls : List Line). IsApart ls (lines_in body)) (sym d.lines_are) is)
-      (subst (λ (ls : List Line). AreOfOthers ls (lines_in body)) (sym d.lines_are) others))
+  apart_so : AreLines s.config.nodes [] lines → IsApart (lanes_up_to n lines) (lines_in lines body)
+      → AreOfOthers (lanes_up_to n lines) (lines_in lines body) → AreApart [] (map (lines_due lines) new)
+  apart_so are is others = subst (AreApart []) (sym due_so) (apart-push [] (map (lines_due lines) tasks) (lines_in lines body)
+      (d.apart are) (subst (λ (ls : List Line). IsApart ls (lines_in lines body)) (sym d.lines_are) is)
+      (subst (λ (ls : List Line). AreOfOthers ls (lines_in lines body)) (sym d.lines_are) others))
 
   start_so : HasAllOf v (record_of one.task.pass)
   start_so = subst (HasAllOf v) (sym right_so) (has_split 1 (rest v d.share d.own))
 
-  dealt_as : (k : ℕ) → lanes_up_to n lines ++ lines_in body ≡ lanes_up_to k lines
+  dealt_as : (k : ℕ) → lanes_up_to n lines ++ lines_in lines body ≡ lanes_up_to k lines
       → ((names : List Named) → KnowsNames v names → AreLines s.config.nodes [] lines
-      → BodyIsReady s.config.nodes names (right_of 1 (rest v d.share d.own)) body)
-      → (AreLines s.config.nodes [] lines → IsApart (lanes_up_to n lines) (lines_in body))
-      → AreOfOthers (lanes_up_to n lines) (lines_in body) → IsDealt s lines k (suc m) v new q
+      → BodyIsReady s.config.nodes lines names (right_of 1 (rest v d.share d.own)) body)
+      → (AreLines s.config.nodes [] lines → IsApart (lanes_up_to n lines) (lines_in lines body))
+      → AreOfOthers (lanes_up_to n lines) (lines_in lines body) → IsDealt s lines k (suc m) v new q
   dealt_as k lanes ready apart others = record {
     of = of;
     most = most_so;
@@ -284,29 +299,26 @@ module _ (s : Shared) (lines : List Line) (n m : ℕ) (v : View) (tasks new : Li
     left = left_so;
     starts = subst (All (λ (t : Task). HasAllOf v (record_of t.pass))) (sym one.tasks)
         (All-push (λ (t : Task). HasAllOf v (record_of t.pass)) tasks one.task d.starts start_so);
-    ready = λ names known are. subst (All (IsReady s names)) (sym one.tasks)
-        (All-push (IsReady s names) tasks one.task (d.ready names known are)
+    ready = λ names known are. subst (All (IsReady s lines names)) (sym one.tasks)
+        (All-push (IsReady s lines names) tasks one.task (d.ready names known are)
         (task_ready names known (ready names known are)));
     lines_are = flat_so ∙ lanes;
     apart = λ are. apart_so are (apart are) others;
   }
 
-next : (n : ℕ) → n + 1 ≡ suc n
-next n = omega arith
-
 dealt_lane_so : (s : Shared) (lines : List Line) (n m : ℕ) (v : View) (tasks new : List Task)
-    (p q : Pass) (lane : Lane') (own : List Line) → IsDealt s lines n m v tasks p
-    → IsDealtOne s (Lane lane own) (record_of p) tasks new → IsPassOf s q
+    (p q : Pass) (lane : Lane') → IsDealt s lines n m v tasks p
+    → IsDealtOne s (Lane lane) (record_of p) tasks new → IsPassOf s q
     → record_of q ≡ left_of 1 (record_of p) → 2 ≤ (record_of p).share
-    → lane.n ≡ suc n → own ≡ of_lane (suc n) lines → IsDealt s lines (n + 1) (m + 1) v new q
-dealt_lane_so s lines n m v tasks new p q lane own d one of left enough at is =
+    → lane.n ≡ suc n → IsDealt s lines (n + 1) (m + 1) v new q
+dealt_lane_so s lines n m v tasks new p q lane d one of left enough at =
+    let is : of_lane lane.n lines ≡ of_lane (suc n) lines = ap (λ (k : ℕ). of_lane k lines) at in
     subst (λ (k : ℕ). IsDealt s lines k (m + 1) v new q) (sym (next n))
     (subst (λ (k : ℕ). IsDealt s lines (suc n) k v new q) (sym (next m))
-    (dealt_as s lines n m v tasks new p q (Lane lane own) d one of left enough (suc n)
+    (dealt_as s lines n m v tasks new p q (Lane lane) d one of left enough (suc n)
     (ap (λ (ls : List Line). lanes_up_to n lines ++ ls) is)
     (λ names known are. (
-      subst (λ (k : ℕ). AreLinesOf s.config.nodes k own) (sym at)
-          (subst (AreLinesOf s.config.nodes (suc n)) (sym is) (of_lane_lines s.config.nodes (suc n) [] lines are)),
+      of_lane_lines s.config.nodes lane.n [] lines are,
       right_knows_names names 1 (rest v d.share d.own) known,
       omega (arith, at),
     ))
@@ -315,13 +327,12 @@ dealt_lane_so s lines n m v tasks new p q lane own d one of left enough at is =
 
 -- the task of the next lane
 pub dealt_lane : (s : Shared) (lines : List Line) (n m : ℕ) (v : View) (tasks new : List Task)
-    (p q : Pass) (lane : Lane') (own : List Line) → IsDealt s lines n m v tasks p
-    → IsDealtOne s (Lane lane own) (record_of p) tasks new → IsPassOf s q
+    (p q : Pass) (lane : Lane') → IsDealt s lines n m v tasks p
+    → IsDealtOne s (Lane lane) (record_of p) tasks new → IsPassOf s q
     → record_of q ≡ left_of 1 (record_of p) → 2 ≤ (record_of p).share
-    → lane.n ≡ n + 1 → own ≡ of_lane (n + 1) lines → IsDealt s lines (n + 1) (m + 1) v new q
-dealt_lane s lines n m v tasks new p q lane own d one of left enough at is =
-    dealt_lane_so s lines n m v tasks new p q lane own d one of left enough (at ∙ next n)
-    (is ∙ ap (λ (k : ℕ). of_lane k lines) (next n))
+    → lane.n ≡ n + 1 → IsDealt s lines (n + 1) (m + 1) v new q
+dealt_lane s lines n m v tasks new p q lane d one of left enough at =
+    dealt_lane_so s lines n m v tasks new p q lane d one of left enough (at ∙ next n)
 
 -- the task of a worker
 pub dealt_worker : (s : Shared) (lines : List Line) (n m : ℕ) (v : View) (tasks new : List Task)
@@ -378,52 +389,52 @@ told_again s given lines e told =
 -- what is left of the tasks of all lanes and workers
 pub left_apart : (s : Shared) (lines : List Line) (v : View) (tasks : List Task) (p : Pass)
     (ends : List Ended) → IsDealt s lines 15 19 v tasks p → AreLines s.config.nodes [] lines
-    → map lines_left ends ≡ map lines_due tasks → AreApart [] (map lines_left ends)
+    → map (lines_left lines) ends ≡ map (lines_due lines) tasks → AreApart [] (map (lines_left lines) ends)
 left_apart s lines v tasks p ends dealt are same = subst (AreApart []) (sym same) (dealt.apart are)
 
 pub all_told : (s : Shared) (lines : List Line) (a b c : LaneEnd) (tasks : List Task)
     (ends : List Ended) → IsTold s [] (of_lane 0 lines) a → b.answers ≡ a.answers
     → IsDealt s lines 15 19 (record_of a.pass) tasks b.pass
-    → map lines_left ends ≡ map lines_due tasks
-    → IsTold s [] (map asked b.answers ++ flat (map lines_left ends)) c
+    → map (lines_left lines) ends ≡ map (lines_due lines) tasks
+    → IsTold s [] (map asked b.answers ++ flat (map (lines_left lines) ends)) c
     → IsTold s [] (by_lane lines) c
 all_told s lines a b c tasks ends first same dealt lefts told =
     let own : map asked b.answers ≡ of_lane 0 lines = ap (map asked) same ∙ first.lines_are in
-    let others : flat (map lines_left ends) ≡ lanes_up_to 15 lines = ap flat lefts ∙ dealt.lines_are in
-    let lines_are : map asked b.answers ++ flat (map lines_left ends) ≡ by_lane lines =
-    ap (λ (ls : List Line). ls ++ flat (map lines_left ends)) own
+    let others : flat (map (lines_left lines) ends) ≡ lanes_up_to 15 lines = ap flat lefts ∙ dealt.lines_are in
+    let lines_are : map asked b.answers ++ flat (map (lines_left lines) ends) ≡ by_lane lines =
+    ap (λ (ls : List Line). ls ++ flat (map (lines_left lines) ends)) own
     ∙ ap (λ (ls : List Line). of_lane 0 lines ++ ls) others in
     subst (λ (ls : List Line). IsTold s [] ls c) lines_are told
 
 -- the first of those that are left, and the others
-pub first_ended : (s : Shared) (given : List Answer) (left : List Ended) (e : Ended)
-    (later : List Ended) → All (IsEnded s given) left → left ≡ e ∷ later → IsEnded s given e
-first_ended s given left e later all is =
-    All-head (IsEnded s given) e later (subst (All (IsEnded s given)) is all)
+pub first_ended : (s : Shared) (lines : List Line) (given : List Answer) (left : List Ended) (e : Ended)
+    (later : List Ended) → All (IsEnded s lines given) left → left ≡ e ∷ later → IsEnded s lines given e
+first_ended s lines given left e later all is =
+    All-head (IsEnded s lines given) e later (subst (All (IsEnded s lines given)) is all)
 
-pub others_ended : (s : Shared) (given : List Answer) (left : List Ended) (e : Ended)
-    (later : List Ended) → All (IsEnded s given) left → left ≡ e ∷ later
-    → All (IsEnded s given) later
-others_ended s given left e later all is =
-    All-tail (IsEnded s given) e later (subst (All (IsEnded s given)) is all)
+pub others_ended : (s : Shared) (lines : List Line) (given : List Answer) (left : List Ended) (e : Ended)
+    (later : List Ended) → All (IsEnded s lines given) left → left ≡ e ∷ later
+    → All (IsEnded s lines given) later
+others_ended s lines given left e later all is =
+    All-tail (IsEnded s lines given) e later (subst (All (IsEnded s lines given)) is all)
 
-pub ended_pass : (s : Shared) (given : List Answer) (e : Ended) → IsEnded s given e
+pub ended_pass : (s : Shared) (lines : List Line) (given : List Answer) (e : Ended) → IsEnded s lines given e
     → IfOk e.left (λ end. IsPassOf s end.pass)
-ended_pass s given e ended =
-    IfOk-weaker e.left (IsTold s given e.lines) (λ end. IsPassOf s end.pass) (λ end told. told.of) ended
+ended_pass s lines given e ended =
+    IfOk-weaker e.left (IsTold s given (lines_left lines e)) (λ end. IsPassOf s end.pass) (λ end told. told.of) ended
 
-pub first_apart : (s : Shared) (given : List Answer) (all left : List Ended) (e : Ended)
-    (later : List Ended) (first : LaneEnd) → (t : IsTaking s given all left first) → left ≡ e ∷ later
-    → IsApart (map asked t.others) e.lines
-first_apart s given all left e later first t is =
-    let apart : AreApart (map asked t.others) (map lines_left (e ∷ later)) =
-    subst (λ (es : List Ended). AreApart (map asked t.others) (map lines_left es)) is t.apart in
+pub first_apart : (s : Shared) (lines : List Line) (given : List Answer) (all left : List Ended) (e : Ended)
+    (later : List Ended) (first : LaneEnd) → (t : IsTaking s lines given all left first) → left ≡ e ∷ later
+    → IsApart (map asked t.others) (lines_left lines e)
+first_apart s lines given all left e later first t is =
+    let apart : AreApart (map asked t.others) (map (lines_left lines) (e ∷ later)) =
+    subst (λ (es : List Ended). AreApart (map asked t.others) (map (lines_left lines) es)) is t.apart in
     apart.0
 
-pub first_of_others : (s : Shared) (given : List Answer) (all left : List Ended) (e : Ended)
-    (later : List Ended) (first : LaneEnd) → (t : IsTaking s given all left first) → left ≡ e ∷ later
-    → AreOfOthers (map asked t.others) e.lines
-first_of_others s given all left e later first t is =
-    let apart : AreApart (map asked t.others) (map lines_left (e ∷ later)) =
-    subst (λ (es : List Ended). AreApart (map asked t.others) (map lines_left es)) is t.apart in
+pub first_of_others : (s : Shared) (lines : List Line) (given : List Answer) (all left : List Ended) (e : Ended)
+    (later : List Ended) (first : LaneEnd) → (t : IsTaking s lines given all left first) → left ≡ e ∷ later
+    → AreOfOthers (map asked t.others) (lines_left lines e)
+first_of_others s lines given all left e later first t is =
+    let apart : AreApart (map asked t.others) (map (lines_left lines) (e ∷ later)) =
+    subst (λ (es : List Ended). AreApart (map asked t.others) (map (lines_left lines) es)) is t.apart in
     apart.1

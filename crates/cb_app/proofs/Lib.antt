@@ -14,6 +14,7 @@ mod OfLane
 mod LanesAlone
 mod WorkedOwnLines
 mod AnswersRise
+mod UsedLanes
 mod Records
 mod WorkDone
 mod Crews

@@ -1,6 +1,6 @@
 -- Worked examples of what threads are told of versions, of turns that are counted, and of tasks that
 -- are dealt; and what breaks one part alone.
-use Rattle.std.proofs.Common.{◌≡◌, ℕ, ◌+◌, ◌^◌, ◌-◌, ◌≤◌, List, [], ◌∷◌, Some, None, refl, inl, inr, lit<, arith}
+use Rattle.std.proofs.Common.{◌≡◌, ℕ, ◌+◌, ◌^◌, ◌-◌, ◌≤◌, true, false, List, [], ◌∷◌, Some, None, refl, inl, inr, lit<, arith}
 use Rattle.cb_types.specs.declared.answer.Answer.{Answer}
 use Rattle.cb_types.specs.declared.config.Config.{Config}
 use Rattle.cb_types.specs.declared.job.Job.{Job}
@@ -22,6 +22,7 @@ use Rattle.cb_shared.specs.Passes.{record_of}
 use Rattle.cb_lanes.specs.Rising.{FreedIsLast}
 use Rattle.cb_workers.specs.Rules.{visit}
 use Rattle.cb_workers.specs.declared.worker.Worker.TheVariants as worker
+use Rattle.cb_app.specs.ByLane.{has_lines}
 use Rattle.cb_app.specs.Crew.{AreFirst, IsDealt, IsTold, NeverFall, RiseWith, StandIn, lines_due, lines_left, turns_as, turns_due, work_in}
 use Rattle.cb_app.specs.declared.crew.Body.TheVariants.{Lane, Worker}
 use Rattle.cb_app.specs.declared.crew.Ended.{Ended}
@@ -40,17 +41,24 @@ leave = record { lane = record { n = 2 }; line = 2; request = Leave }
 
 -- ---- the lines and turns of tasks
 module _ (p : Pass) where
-  due_of_a_lane : lines_due (record { body = Lane (record { n = 2 }) (leave ∷ []); pass = p })
-      ≡ leave ∷ []
-  due_of_a_lane = refl
+  due_of_a_lane : (lines_due (leave ∷ []) (record { body = Lane (record { n = 2 }); pass = p })
+      ≡ leave ∷ [])
+      × (lines_due (leave ∷ []) (record { body = Lane (record { n = 1 }); pass = p }) ≡ [])
+  due_of_a_lane = (refl, refl)
 
-  due_of_a_worker : (lines_due (record { body = Worker worker.Evict 3; pass = p }) ≡ [])
+  due_of_a_worker : (lines_due (leave ∷ []) (record { body = Worker worker.Evict 3; pass = p }) ≡ [])
       × (turns_due worker.Evict (record { body = Worker worker.Evict 3; pass = p }) ≡ 3)
       × (turns_due worker.Filter (record { body = Worker worker.Evict 3; pass = p }) ≡ 0)
   due_of_a_worker = (refl, refl, refl)
 
-left_lines : (e : Ended) → lines_left (record e { lines = leave ∷ [] }) ≡ leave ∷ []
-left_lines e = refl
+left_lines : (e : Ended)
+    → (lines_left (leave ∷ []) (record e { body = Lane (record { n = 2 }) }) ≡ leave ∷ [])
+    × (lines_left (leave ∷ []) (record e { body = Lane (record { n = 1 }) }) ≡ [])
+left_lines e = (refl, refl)
+
+-- ---- which lanes have lines
+used_lanes : (has_lines 2 (leave ∷ []) ≡ true) × (has_lines 1 (leave ∷ []) ≡ false)
+used_lanes = (refl, refl)
 
 -- ---- turns by the kind of their job
 abbrev one_each : Job → ℕ

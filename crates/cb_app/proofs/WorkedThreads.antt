@@ -1,5 +1,5 @@
 -- Worked examples: what threads are given and what they leave.
-use Rattle.std.proofs.Common.{◌≡◌, ℕ, ◌+◌, ◌≤◌, Bool, cond, eqb, List, [], ◌∷◌, ◌++◌, map, Some, Ok, Err, inl, inr, refl, sym, ap, ◌∙◌, subst, lit≤, arith}
+use Rattle.std.proofs.Common.{◌≡◌, ℕ, ◌+◌, ◌<◌, ◌≤◌, Bool, cond, eqb, List, [], ◌∷◌, ◌++◌, map, Some, Ok, Err, inl, inr, refl, sym, ap, ◌∙◌, subst, lit≤, arith}
 use Rattle.std.specs.Prelude.{nat_eq, slice_index_or}
 use Rattle.cb_member.specs.declared.no_memory.NoMemory.{NoMemory}
 use Rattle.cb_types.specs.declared.answer.Answer.{Answer}
@@ -10,7 +10,7 @@ use Rattle.cb_types.specs.Jobs.{job_index}
 use Rattle.cb_types.specs.declared.reply.Reply.{Reply}
 use Rattle.cb_types.specs.declared.reply.Reply.TheVariants.{Made, Left, Freed, Moving}
 use Rattle.cb_types.specs.declared.request.Request.{Request}
-use Rattle.cb_types.specs.declared.request.Request.TheVariants.{Make, Leave, Read}
+use Rattle.cb_types.specs.declared.request.Request.TheVariants.{Crash, Make, Leave, Read}
 use Rattle.cb_script.specs.declared.script.Line.{Line}
 use Rattle.cb_script.specs.Form.{AreLines}
 use Rattle.cb_world.specs.declared.entry.Entry.{Entry}
@@ -49,8 +49,12 @@ a = 97 ∷ []
 abbrev line : ℕ → Request → Line
 line lane request = record { lane = record { n = lane }; line = 2; request = request }
 
-abbrev lane : ℕ → Request → Body
-lane n request = Lane (record { n = n }) (line n request ∷ [])
+abbrev lane : ℕ → Body
+lane n = Lane (record { n = n })
+
+-- a script
+abbrev leaves : List Line
+leaves = line 1 Leave ∷ line 2 Leave ∷ []
 
 abbrev answer : ℕ → Request → Reply → Answer
 answer lane request reply = record { lane = record { n = lane }; line = 2; request = request; reply = reply }
@@ -82,13 +86,16 @@ nothing_yet c = refl
 
 -- ---- lines of bodies
 
-lines_of_a_lane : lines_in (lane 2 Leave) ≡ line 2 Leave ∷ []
-lines_of_a_lane = refl
+lines_of_a_lane : (lines_in leaves (lane 2) ≡ line 2 Leave ∷ []) × (lines_in leaves (lane 3) ≡ [])
+lines_of_a_lane = (refl, refl)
 
-a_worker_has_none : (w : Worker') → lines_in (Worker w 3) ≡ []
+a_worker_has_none : (w : Worker') → lines_in leaves (Worker w 3) ≡ []
 a_worker_has_none w = refl
 
 -- ---- bodies
+
+abbrev crash : Request
+crash = Crash (record { n = 5 })
 
 abbrev none : List Named
 none = []
@@ -96,20 +103,24 @@ none = []
 abbrev named : List Named
 named = record { name = a; handle = Some (record { n = 3 }) } ∷ []
 
-worker_is_ready : (v : View) (w : Worker') → BodyIsReady 2 named v (Worker w 3)
+worker_is_ready : (v : View) (w : Worker') → BodyIsReady 2 leaves named v (Worker w 3)
 worker_is_ready v w = tt
 
-lane_is_ready : (v : View) → BodyIsReady 2 none v (lane 2 Leave)
+lane_is_ready : (v : View) → BodyIsReady 2 leaves none v (lane 2)
 lane_is_ready v = (((refl, tt), tt), tt, omega arith)
 
-lane_0_runs_before : (v : View) → BodyIsReady 2 none v (lane 0 Leave) → ⊥
+lane_0_runs_before : (v : View) → BodyIsReady 2 leaves none v (lane 0) → ⊥
 lane_0_runs_before v ready = let low = ready.2 in absurd (omega (arith, low))
 
-a_line_of_another_lane : (v : View) → BodyIsReady 2 none v (Lane (record { n = 1 }) (line 2 Leave ∷ [])) → ⊥
-a_line_of_another_lane v ready = let e : 2 ≡ 1 = ready.0.0.0 in absurd (omega (arith, e))
+-- a crash of a node that there is not, among the lines of the lane and of another one
+a_line_without_form : (v : View) → BodyIsReady 2 (line 1 crash ∷ []) none v (lane 1) → ⊥
+a_line_without_form v ready = let low : 5 < 2 = ready.0.0.1 in absurd (omega (arith, low))
+
+a_line_of_another_lane : (v : View) → BodyIsReady 2 (line 1 crash ∷ leaves) none v (lane 2)
+a_line_of_another_lane v = (((refl, tt), tt), tt, omega arith)
 
 -- the record knows no handle of the name
-an_unknown_name : (v : View) → BodyIsReady 2 named (record (clear v) { seen = [] }) (lane 2 Leave) → ⊥
+an_unknown_name : (v : View) → BodyIsReady 2 leaves named (record (clear v) { seen = [] }) (lane 2) → ⊥
 an_unknown_name v ready = elim ready.1.0 [ inl written ↦ written.1 | inr seen ↦ seen.1 ]
 
 -- ---- answers that are known
@@ -140,7 +151,7 @@ filter_is_due = refl
 of_another_worker : turns_for worker.Rebuild (Worker worker.Filter 3) ≡ 0
 of_another_worker = refl
 
-of_a_lane : (w : Worker') → turns_for w (lane 2 Leave) ≡ 0
+of_a_lane : (w : Worker') → turns_for w (lane 2) ≡ 0
 of_a_lane w = refl
 
 abbrev is_like : Job → Turn → Bool
@@ -167,19 +178,19 @@ module _ (s : Shared) (p : Pass) (of : IsPassOf s p) (fresh : IsFresh (record_of
   abbrev task : Body → Task
   task body = record { body = body; pass = p }
 
-  is_ready : (w : Worker') → IsReady s none (task (Worker w 3))
+  is_ready : (w : Worker') → IsReady s leaves none (task (Worker w 3))
   is_ready w = record { of = of; fresh = fresh; body = tt }
 
   another_runtime : (w : Worker') (q : Pass) → (IsPassOf s q → ⊥)
-      → IsReady s none (record { body = Worker w 3; pass = q }) → ⊥
+      → IsReady s leaves none (record { body = Worker w 3; pass = q }) → ⊥
   another_runtime w q not ready = not ready.of
 
   a_used_pass : (w : Worker') (q : Pass) → (IsFresh (record_of q) → ⊥)
-      → IsReady s none (record { body = Worker w 3; pass = q }) → ⊥
+      → IsReady s leaves none (record { body = Worker w 3; pass = q }) → ⊥
   a_used_pass w q not ready = not ready.fresh
 
-  another_lane_is_not_ready : IsReady s none (task (Lane (record { n = 1 }) (line 2 Leave ∷ []))) → ⊥
-  another_lane_is_not_ready ready = let e : 2 ≡ 1 = ready.body.0.0.0 in absurd (omega (arith, e))
+  lane_0_is_not_ready : IsReady s leaves none (task (lane 0)) → ⊥
+  lane_0_is_not_ready ready = let low = ready.body.2 in absurd (omega (arith, low))
 
   -- ---- what a thread leaves
 
@@ -275,37 +286,39 @@ module _ (s : Shared) (p : Pass) (of : IsPassOf s p) (fresh : IsFresh (record_of
     alone = λ one. none_alone s.config.nodes given [] refl;
   }
 
-  without_memory : (want : NoMemory) → IsEnded s [] (record { lines = line 2 Leave ∷ []; left = Err want })
+  without_memory : (want : NoMemory) → IsEnded s leaves [] (record { body = lane 2; left = Err want })
   without_memory want = tt
 
-  with_answers : IsEnded s [] (record { lines = line 2 Leave ∷ []; left = Ok (end (answer 2 Leave (Left 0) ∷ [])) })
+  with_answers : IsEnded s leaves [] (record { body = lane 2; left = Ok (end (answer 2 Leave (Left 0) ∷ [])) })
   with_answers = is_told
 
-  with_none : IsEnded s [] (record { lines = line 2 Leave ∷ []; left = Ok (end []) }) → ⊥
+  with_none : IsEnded s leaves [] (record { body = lane 2; left = Ok (end []) }) → ⊥
   with_none ended = absurd (let e = ended.lines_are in cc)
 
-  runs : (w : Worker') → Runs s none (task (Worker w 0)) (record { lines = []; left = Ok (end []) })
+  runs : (w : Worker') → Runs s leaves none (task (Worker w 0)) (record { body = Worker w 0; left = Ok (end []) })
   runs w = (refl, λ given named known. none_told given, λ other. none_due other w)
 
-  lost_its_lines : Runs s none (task (lane 2 Leave)) (record { lines = []; left = Ok (end []) }) → ⊥
-  lost_its_lines r = absurd (let e = r.0 in cc)
+  ran_another_body : (w : Worker')
+      → Runs s leaves none (task (lane 2)) (record { body = Worker w 0; left = Ok (end []) }) → ⊥
+  ran_another_body w r = let e : Worker w 0 ≡ lane 2 = r.0 in absurd cc
 
-  did_not_answer : Runs s none (task (lane 2 Leave)) (record { lines = line 2 Leave ∷ []; left = Ok (end []) }) → ⊥
+  did_not_answer : Runs s leaves none (task (lane 2)) (record { body = lane 2; left = Ok (end []) }) → ⊥
   did_not_answer r = with_none (r.1 [] (λ name. refl) (none_known (record_of p)))
 
   -- a worker that has made no turn
-  made_none : Runs s none (task (Worker worker.Filter 3)) (record { lines = []; left = Ok (end []) }) → ⊥
+  made_none : Runs s leaves none (task (Worker worker.Filter 3))
+      (record { body = Worker worker.Filter 3; left = Ok (end []) }) → ⊥
   made_none r =
       let made : 3 ≤ work_in worker.Filter (record_of p) = r.2 worker.Filter in
       let nothing : work_in worker.Filter (record_of p) ≡ 0 =
       ap (λ (ts : List Turn). times (is_like (visit 0)) ts) fresh.turns in absurd (omega (arith, made, nothing))
 
   made_without_memory : (w : Worker') (want : NoMemory)
-      → AreMade w (task (Worker w 3)) (record { lines = []; left = Err want })
+      → AreMade w (task (Worker w 3)) (record { body = Worker w 3; left = Err want })
   made_without_memory w want = tt
 
   each_made : (w : Worker')
-      → AllMade w (task (lane 2 Leave) ∷ []) (record { lines = line 2 Leave ∷ []; left = Ok (end []) } ∷ [])
+      → AllMade w (task (lane 2) ∷ []) (record { body = lane 2; left = Ok (end []) } ∷ [])
   each_made w = (omega arith, tt)
 
   one_is_missing : (w : Worker') → AllMade w (task (Worker w 3) ∷ []) [] → ⊥
@@ -323,10 +336,10 @@ module _ (s : Shared) (p : Pass) (of : IsPassOf s p) (fresh : IsFresh (record_of
   the_task : (v : View) (body : Body) (t : Task) → (one : IsDealtOne s body v [] (t ∷ [])) → t ≡ one.task
   the_task v body t one = ap (λ (ts : List Task). slice_index_or ts 0 t) one.tasks
 
-  with_another_body : (v : View) (w : Worker') → IsDealtOne s (lane 2 Leave) v [] (task (Worker w 3) ∷ []) → ⊥
+  with_another_body : (v : View) (w : Worker') → IsDealtOne s (lane 2) v [] (task (Worker w 3) ∷ []) → ⊥
   with_another_body v w one =
-      let e : Worker w 3 ≡ lane 2 Leave =
-      ap (λ (t : Task). t.body) (the_task v (lane 2 Leave) (task (Worker w 3)) one) ∙ one.body_is in
+      let e : Worker w 3 ≡ lane 2 =
+      ap (λ (t : Task). t.body) (the_task v (lane 2) (task (Worker w 3)) one) ∙ one.body_is in
       absurd cc
 
   of_another_runtime : (v : View) (body : Body) (q : Pass) → (IsPassOf s q → ⊥)
@@ -366,16 +379,14 @@ module _ (s : Shared) (p : Pass) (of : IsPassOf s p) (fresh : IsFresh (record_of
   a_lane_without_task : IsDealt s (line 1 Leave ∷ []) 1 1 (record_of p) [] p → ⊥
   a_lane_without_task dealt = absurd (let e = dealt.lines_are in cc)
 
-  -- a lane in two parts: the second one is about a name that the first one makes
+  -- a lane that is dealt twice: the second time it is about a name that the first one makes
   abbrev makes_and_reads : List Line
   makes_and_reads = record { lane = record { n = 1 }; line = 2; request = Make a (1 ∷ []) }
       ∷ record { lane = record { n = 1 }; line = 3; request = Read a } ∷ []
 
-  a_lane_in_two_parts : (v : View) → AreLines s.config.nodes [] makes_and_reads
-      → IsDealt s makes_and_reads 1 2 v (task (lane 1 (Make a (1 ∷ [])))
-      ∷ task (Lane (record { n = 1 }) (record { lane = record { n = 1 }; line = 3; request = Read a } ∷ [])) ∷ []) p
-      → ⊥
-  a_lane_in_two_parts v are dealt = (dealt.apart are).2.0 a (inl refl) 1 (inl (refl, refl))
+  a_lane_dealt_twice : (v : View) → AreLines s.config.nodes [] makes_and_reads
+      → IsDealt s makes_and_reads 1 2 v (task (lane 1) ∷ task (lane 1) ∷ []) p → ⊥
+  a_lane_dealt_twice v are dealt = (dealt.apart are).2.0 a (inr (inl refl)) 1 (inl (refl, refl))
 
   -- ---- what is taken in
 

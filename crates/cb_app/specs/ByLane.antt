@@ -1,6 +1,6 @@
 -- The lines of a script by lane and then by line, and which lanes use names that others made.
-use Rattle.std.specs.Prelude.{◌≡◌, ◌⊎◌, ℕ, zero, suc, List, [], ◌∷◌, ◌++◌, Some}
-use Rattle.std.specs.List.{AllByRecursion}
+use Rattle.std.specs.Prelude.{◌≡◌, ◌⊎◌, ℕ, zero, suc, Bool, nat_eq, List, [], ◌∷◌, ◌++◌, Some}
+use Rattle.std.specs.List.{AllByRecursion, list_any}
 use Rattle.cb_types.specs.declared.request.Request.{Request}
 use Rattle.cb_types.specs.declared.request.Request.TheVariants.{Make}
 use Rattle.cb_types.specs.Requests.{name_of}
@@ -8,6 +8,10 @@ use Rattle.cb_script.specs.declared.script.Line.{Line}
 use Rattle.cb_script.specs.Form.{IsMade}
 use Rattle.cb_model.specs.Legal.{WasTold}
 pub use Rattle.cb_lanes.specs.Bodies.{of_lane}
+
+-- one of the lines is of this lane
+abbrev pub has_lines : ℕ → List Line → Bool
+has_lines lane lines = list_any (λ l. nat_eq l.lane.n lane) lines
 
 -- those of lane 1, of lane 2, and so on up to this one
 abbrev pub lanes_up_to : ℕ → List Line → List Line

@@ -34,7 +34,7 @@ use Rattle.cb_lanes.specs.Scoped.{AreScoped}
 use Rattle.cb_lanes.specs.Suits.{AreSuited}
 use Rattle.cb_workers.specs.Rules.{lane_of}
 use Rattle.cb_workers.specs.declared.worker.Worker.{Worker as Worker'}
-use Rattle.cb_app.specs.ByLane.{AreApart, flat, lanes_up_to}
+use Rattle.cb_app.specs.ByLane.{AreApart, flat, lanes_up_to, of_lane}
 use Rattle.cb_app.specs.OwnLines.{KeepAloneWith}
 use Rattle.cb_app.specs.declared.crew.Body.{Body}
 use Rattle.cb_app.specs.declared.crew.Body.TheVariants.{Lane, Worker}
@@ -67,16 +67,16 @@ name_made request reply = []
 abbrev pub names_in : List Answer → List Named
 names_in answers = flat_map (λ a. name_made a.request a.reply) answers
 
--- the lines of a thread: a worker has none
-abbrev pub lines_in : Body → List Line
-lines_in (Lane lane lines) = lines
-lines_in (Worker worker turns) = []
+-- the lines of a thread, of these lines: those of its lane, and a worker has none
+abbrev pub lines_in : List Line → Body → List Line
+lines_in lines (Lane lane) = of_lane lane.n lines
+lines_in lines (Worker worker turns) = []
 
-abbrev pub lines_due : Task → List Line
-lines_due t = lines_in t.body
+abbrev pub lines_due : List Line → Task → List Line
+lines_due lines t = lines_in lines t.body
 
-abbrev pub lines_left : Ended → List Line
-lines_left e = e.lines
+abbrev pub lines_left : List Line → Ended → List Line
+lines_left lines e = lines_in lines e.body
 
 -- how many turns of a record have a job of this kind
 abbrev pub turns_as : View → Job → ℕ
@@ -92,7 +92,7 @@ if_same worker w turns = cond (eqb (lane_of worker).n (lane_of w).n) turns 0
 
 -- the turns that a thread is to make as this worker
 abbrev pub turns_for : Worker' → Body → ℕ
-turns_for w (Lane lane lines) = 0
+turns_for w (Lane lane) = 0
 turns_for w (Worker worker turns) = if_same worker w turns
 
 abbrev pub turns_due : Worker' → Task → ℕ
@@ -115,18 +115,18 @@ pub record IsFresh (v : View) : Type 0 where
   pub turns : v.turns ≡ []
   pub own : v.own ≡ []
 
--- A lane that runs beside others is not lane 0; its lines are its own, and the names that it is given
--- are known to its pass.
-abbrev pub BodyIsReady : ℕ → List Named → View → Body → Type 0
-BodyIsReady nodes names v (Lane lane lines) =
-    AreLinesOf nodes lane.n lines × KnowsNames v names × (1 ≤ lane.n)
-BodyIsReady nodes names v (Worker worker turns) = Unit {0}
+-- A lane that runs beside others is not lane 0; its lines among these have the form of a lane's, and
+-- the names that it is given are known to its pass.
+abbrev pub BodyIsReady : ℕ → List Line → List Named → View → Body → Type 0
+BodyIsReady nodes lines names v (Lane lane) =
+    AreLinesOf nodes lane.n (of_lane lane.n lines) × KnowsNames v names × (1 ≤ lane.n)
+BodyIsReady nodes lines names v (Worker worker turns) = Unit {0}
 
--- what a thread has to be given, with these names
-pub record IsReady (s : Shared) (names : List Named) (t : Task) : Type 0 where
+-- what a thread has to be given, with these lines of all lanes and these names
+pub record IsReady (s : Shared) (lines : List Line) (names : List Named) (t : Task) : Type 0 where
   pub of : IsPassOf s t.pass
   pub fresh : IsFresh (record_of t.pass)
-  pub body : BodyIsReady s.config.nodes names (record_of t.pass) t.body
+  pub body : BodyIsReady s.config.nodes lines names (record_of t.pass) t.body
 
 -- no version falls from the answers given before to these, or among these
 abbrev pub NeverFall : List Answer → List Answer → Type 0
@@ -168,16 +168,16 @@ pub record IsTold (s : Shared) (given : List Answer) (lines : List Line) (e : La
     pub scopes : AreScoped given e.answers
     pub alone : first_version_of s ≡ 1 → KeepAloneWith s.config.nodes given e.answers
 
--- so a thread ended, unless memory was wanting
-abbrev pub IsEnded : Shared → List Answer → Ended → Type 0
-IsEnded s given e = IfOk e.left (IsTold s given e.lines)
+-- so a thread ended that had its lines among these, unless memory was wanting
+abbrev pub IsEnded : Shared → List Line → List Answer → Ended → Type 0
+IsEnded s lines given e = IfOk e.left (IsTold s given (lines_left lines e))
 
--- a thread left the lines that it was given, and answered them, by whatever answers have the names
--- and are known to its pass; and a worker made its turns
-abbrev pub Runs : Shared → List Named → Task → Ended → Type 0
-Runs s names t e = (e.lines ≡ lines_due t)
+-- a thread left the body that it was given, and answered its lines, by whatever answers have the
+-- names and are known to its pass; and a worker made its turns
+abbrev pub Runs : Shared → List Line → List Named → Task → Ended → Type 0
+Runs s lines names t e = (e.body ≡ t.body)
     × ((given : List Answer) → AreNamesOf names given → AreKnownTo (record_of t.pass) given
-    → IsEnded s given e)
+    → IsEnded s lines given e)
     × ((w : Worker') → AreMade w t e)
 
 -- One pass more was split off, for this body.
@@ -199,9 +199,9 @@ pub record IsDealt (s : Shared) (lines : List Line) (n m : ℕ) (v : View) (task
   pub left : record_of p ≡ record v { share = share; own = own }
   pub starts : All (λ t. HasAllOf v (record_of t.pass)) tasks
   pub ready : (names : List Named) → KnowsNames v names → AreLines s.config.nodes [] lines
-      → All (IsReady s names) tasks
-  pub lines_are : flat (map lines_due tasks) ≡ lanes_up_to n lines
-  pub apart : AreLines s.config.nodes [] lines → AreApart [] (map lines_due tasks)
+      → All (IsReady s lines names) tasks
+  pub lines_are : flat (map (lines_due lines) tasks) ≡ lanes_up_to n lines
+  pub apart : AreLines s.config.nodes [] lines → AreApart [] (map (lines_due lines) tasks)
 
 -- The answers given before, others behind them and those of these lines were told one after the
 -- other.

@@ -1,12 +1,26 @@
 //! The lines of one lane, and the names that lane 0 made.
-ghost use Rattle.std.specs.Prelude.{◌≡◌, ◌++◌, IfOk};
-ghost use Rattle.cb_app.specs.ByLane.{of_lane};
+ghost use Rattle.std.specs.Prelude.{◌≡◌, ◌<◌, ◌++◌, ℕ, IfOk, get_or, false};
+ghost use Rattle.cb_app.specs.ByLane.{has_lines, of_lane};
 ghost use Rattle.cb_app.specs.Crew.{handle_told, name_made, names_in};
 
 use cb_lanes::{Named, Names};
 use cb_script::{Line, Lines};
 use cb_types::{Answer, Answers, Handle, Lane, NoMemory, Reply, Request};
 use std::alloc::Global;
+
+/// How many lanes a byte can name.
+const NAMED_LANES: usize = 256;
+
+/// Which lanes the lines have. Takes no memory.
+pub(crate) fn used_lanes(lines: &[Line]) -> [bool; NAMED_LANES]
+    ensures { (lane : ℕ) → lane < 256 → get_or result lane false ≡ has_lines lane lines.now }
+{
+    let mut used = [false; NAMED_LANES];
+    for line in lines {
+        used[usize::from(line.lane.n)] = true;
+    }
+    used
+}
 
 /// A copy of the lines of one lane, in order.
 pub(crate) fn of_lane(alloc: Global, lines: &[Line], lane: Lane) -> Result<Lines, NoMemory>

@@ -10,7 +10,7 @@ ghost use Rattle.cb_lanes.specs.Asked.{asked};
 ghost use Rattle.cb_lanes.specs.Bodies.{AreLinesOf, AreNamesOf, KnowsNames};
 ghost use Rattle.cb_rule.specs.Lists.{total};
 ghost use Rattle.cb_workers.specs.declared.worker.Worker.{Worker as Worker'};
-ghost use Rattle.cb_app.specs.ByLane.{AreApart, AreOfOthers, IsApart, by_lane, flat, of_lane};
+ghost use Rattle.cb_app.specs.ByLane.{AreApart, AreOfOthers, IsApart, by_lane, flat, has_lines, of_lane};
 ghost use Rattle.cb_app.specs.Crew.{
   AllMade,
   AreFirst,
@@ -31,12 +31,13 @@ ghost use Rattle.cb_app.specs.Crew.{
   turns_due,
   work_in,
 };
+ghost use Rattle.cb_app.specs.declared.crew.Body.TheVariants as Body;
 ghost use Rattle.cb_app.specs.declared.crew.Ended.{Ended};
 ghost use Rattle.cb_app.specs.declared.crew.Task.{Task};
 
-use crate::by_lane::of_lane;
+use crate::by_lane::{of_lane, used_lanes};
 use cb_lanes::{LaneEnd, Names, lane_body};
-use cb_script::{Line, Lines};
+use cb_script::Line;
 use cb_shared::{Pass, Shared};
 use cb_types::{Answers, Gate, Lane, NoMemory};
 use cb_workers::{Worker, worker_body};
@@ -51,7 +52,7 @@ const ROOM: usize = 8 << 20;
 /// What a thread is for: the lines of a lane, or the turns of a worker.
 #[derive(Drop)]
 pub(crate) enum Body {
-    Lane { lane: Lane, lines: Lines },
+    Lane { lane: Lane },
     Worker { worker: Worker, turns: u32 },
 }
 
@@ -62,11 +63,11 @@ pub(crate) struct Task {
     pub(crate) pass: Pass,
 }
 
-/// What a thread leaves: its lines, none of a worker, and its answers with its pass, unless memory
+/// What a thread leaves: its body, and its answers, none of a worker, with its pass, unless memory
 /// was wanting.
 #[derive(Drop)]
 pub(crate) struct Ended {
-    pub(crate) lines: Lines,
+    pub(crate) body: Body,
     pub(crate) left: Result<LaneEnd, NoMemory>,
 }
 
@@ -93,8 +94,8 @@ pub(crate) fn run_crew<R: Threads + Wait + Sync, G: Gate>(
 {
     let tasks = deal(alloc, shared, &mut first.pass, lines)?;
     warm(alloc, 2 * ROOM);
-    let ends = scatter(rt, alloc, shared, tasks, names, gate)?;
-    gather(shared, first, ends)
+    let ends = scatter(rt, alloc, shared, tasks, lines, names, gate)?;
+    gather(shared, first, lines, ends)
 }
 
 /// What each thread is given: the lanes that have lines, in order, and the workers.
@@ -112,14 +113,13 @@ fn deal(
         ≤ total (turns_due w) tasks.items) }
 {
     let mut tasks = Vec::new(alloc);
-    deal_lanes(alloc, shared, pass, lines, &mut tasks)?;
+    deal_lanes(shared, pass, lines, &mut tasks)?;
     deal_workers(shared, pass, &mut tasks)?;
     Ok(tasks)
 }
 
-/// Lanes 1 to 15, where they have lines. All lines are looked at for each of the few lanes.
+/// Lanes 1 to 15, where they have lines.
 fn deal_lanes(
-    alloc: Global,
     shared: &Shared,
     pass: &mut Pass,
     lines: &[Line],
@@ -131,34 +131,34 @@ fn deal_lanes(
     ensures dealt { IfOk result (λ _. IsDealt shared.now lines.now 15 15 (record_of pass.old)
         tasks.new.items pass.new) }
 {
+    let used = used_lanes(lines);
     for before in 0..15u8 {
-        deal_lane(alloc, shared, pass, lines, before, tasks)?;
+        deal_lane(shared, pass, before, used[usize::from(before) + 1], tasks)?;
     }
     Ok(())
 }
 
 /// The lane behind this one, where it has lines.
 fn deal_lane(
-    alloc: Global,
     shared: &Shared,
     pass: &mut Pass,
-    lines: &[Line],
     before: u8,
+    used: bool,
     tasks: &mut Vec<Task>,
 ) -> Result<(), NoMemory>
     requires before { before < 15 }
     requires of { IsPassOf shared.now pass.old }
     requires share { 50 ≤ (record_of pass.old).share + before + 1 }
-    ensures dealt { (v : View) → IsDealt shared.now lines.now before before v tasks.old.items pass.old
-        → IfOk result (λ _. IsDealt shared.now lines.now (before + 1) (before + 1) v
+    ensures dealt { (lines : List Line) (v : View) → has_lines (before + 1) lines ≡ used
+        → IsDealt shared.now lines before before v tasks.old.items pass.old
+        → IfOk result (λ _. IsDealt shared.now lines (before + 1) (before + 1) v
         tasks.new.items pass.new) }
 {
-    let lane = Lane { n: before + 1 };
-    let lines = of_lane(alloc, lines, lane)?;
-    if lines.as_slice().is_empty() {
+    if !used {
         return Ok(());
     }
-    deal_one(shared, pass, Body::Lane { lane, lines }, tasks)
+    let lane = Lane { n: before + 1 };
+    deal_one(shared, pass, Body::Lane { lane }, tasks)
 }
 
 fn deal_workers(shared: &Shared, pass: &mut Pass, tasks: &mut Vec<Task>) -> Result<(), NoMemory>
@@ -222,16 +222,18 @@ fn scatter<R: Threads + Wait + Sync, G: Gate>(
     alloc: Global,
     shared: &Shared,
     tasks: Vec<Task>,
+    lines: &[Line],
     names: &Names,
     gate: &G,
 ) -> Result<Vec<Ended>, NoMemory>
-    requires ready { All (IsReady shared.now names.now) tasks.items }
+    requires ready { All (IsReady shared.now lines.now names.now) tasks.items }
     ensures len { IfOk result (λ ends. vec_len ends ≡ vec_len tasks) }
     ensures lines { IfOk result (λ ends. (i : ℕ) (d : Ended) (t : Task) → i < vec_len tasks
-        → lines_left (slice_index_or ends.items i d) ≡ lines_due (slice_index_or tasks.items i t)) }
+        → lines_left lines.now (slice_index_or ends.items i d)
+        ≡ lines_due lines.now (slice_index_or tasks.items i t)) }
     ensures ended { IfOk result (λ ends. (given : List Answer) → AreNamesOf names.now given
         → All (λ t. AreKnownTo (record_of t.pass) given) tasks.items
-        → All (IsEnded shared.now given) ends.items) }
+        → All (IsEnded shared.now lines.now given) ends.items) }
     ensures made { IfOk result (λ ends. (w : Worker') (i : ℕ) (d : Ended) (t : Task)
         → i < vec_len tasks → AreMade w (slice_index_or tasks.items i t)
         (slice_index_or ends.items i d)) }
@@ -240,9 +242,9 @@ fn scatter<R: Threads + Wait + Sync, G: Gate>(
         rt,
         tasks,
         &|task: Task| -> Ended
-            requires { IsReady shared.now names.now task }
-            ensures { Runs shared.entry.now names.entry.now task result }
-        { run_task(rt, alloc, shared, task, names, gate) },
+            requires { IsReady shared.now lines.now names.now task }
+            ensures { Runs shared.entry.now lines.entry.now names.entry.now task result }
+        { run_task(rt, alloc, shared, task, lines, names, gate) },
     )?;
     Ok(ends)
 }
@@ -253,17 +255,16 @@ fn run_task<R: Wait, G: Gate>(
     alloc: Global,
     shared: &Shared,
     task: Task,
+    lines: &[Line],
     names: &Names,
     gate: &G,
 ) -> Ended
-    requires ready { IsReady shared.now names.now task }
-    ensures runs { Runs shared.now names.now task result }
+    requires ready { IsReady shared.now lines.now names.now task }
+    ensures runs { Runs shared.now lines.now names.now task result }
 {
     let Task { body, pass } = task;
     match body {
-        Body::Lane { lane, lines } => {
-            run_lane(rt, alloc, shared, pass, lane, lines, names, gate)
-        }
+        Body::Lane { lane } => { run_lane(rt, alloc, shared, pass, lane, lines, names, gate) }
         Body::Worker { worker, turns } => {
             run_worker(rt, alloc, shared, pass, worker, turns, gate)
         }
@@ -284,30 +285,49 @@ fn run_lane<R: Wait, G: Gate>(
     shared: &Shared,
     pass: Pass,
     lane: Lane,
-    lines: Lines,
+    lines: &[Line],
     names: &Names,
     gate: &G,
 ) -> Ended
     requires of { IsPassOf shared.now pass }
     requires fresh { IsFresh (record_of pass) }
-    requires lines { AreLinesOf shared.now.config.nodes lane.n lines }
+    requires lines { AreLinesOf shared.now.config.nodes lane.n (of_lane lane.n lines.now) }
     requires names { KnowsNames (record_of pass) names.now }
     requires other { 1 ≤ lane.n }
-    ensures lines { result.lines ≡ lines }
-    ensures ended { (given : List Answer) → AreNamesOf names.now given
-        → AreKnownTo (record_of pass) given → IfOk result.left (IsTold shared.now given lines) }
+    ensures body { result.body ≡ Body.Lane lane }
+    ensures ended { (given : List Answer) → AreNamesOf names.now given → AreKnownTo (record_of pass) given
+        → IfOk result.left (IsTold shared.now given (of_lane lane.n lines.now)) }
     ensures made { (w : Worker') → IfOk result.left (λ end. 0 ≤ work_in w (record_of end.pass)) }
 {
     warm(alloc, ROOM);
-    match lane_body(rt, alloc, shared, pass, lane, lines.as_slice(), names, gate) {
-        Ok(end) => Ended {
-            lines,
-            left: Ok(end),
-        },
-        Err(_stopped) => Ended {
-            lines,
-            left: Err(NoMemory),
-        },
+    let left = answer_lane(rt, alloc, shared, pass, lane, lines, names, gate);
+    let body = Body::Lane { lane };
+    Ended { body, left }
+}
+
+/// What the lines of a lane are answered. The lane copies them by itself, in its own thread.
+fn answer_lane<R: Wait, G: Gate>(
+    rt: &R,
+    alloc: Global,
+    shared: &Shared,
+    pass: Pass,
+    lane: Lane,
+    lines: &[Line],
+    names: &Names,
+    gate: &G,
+) -> Result<LaneEnd, NoMemory>
+    requires of { IsPassOf shared.now pass }
+    requires fresh { IsFresh (record_of pass) }
+    requires lines { AreLinesOf shared.now.config.nodes lane.n (of_lane lane.n lines.now) }
+    requires names { KnowsNames (record_of pass) names.now }
+    requires other { 1 ≤ lane.n }
+    ensures told { (given : List Answer) → AreNamesOf names.now given → AreKnownTo (record_of pass) given
+        → IfOk result (IsTold shared.now given (of_lane lane.n lines.now)) }
+{
+    let own = of_lane(alloc, lines, lane)?;
+    match lane_body(rt, alloc, shared, pass, lane, own.as_slice(), names, gate) {
+        Ok(end) => Ok(end),
+        Err(_stopped) => Err(NoMemory),
     }
 }
 
@@ -323,33 +343,38 @@ fn run_worker<R: Wait, G: Gate>(
 ) -> Ended
     requires of { IsPassOf shared.now pass }
     requires fresh { IsFresh (record_of pass) }
-    ensures lines { result.lines ≡ [] }
+    ensures body { result.body ≡ Body.Worker worker turns }
     ensures ended { (given : List Answer) → IfOk result.left (IsTold shared.now given []) }
     ensures made { (w : Worker') → IfOk result.left (λ end. if_same worker w turns
         ≤ work_in w (record_of end.pass)) }
 {
-    let lines = Lines::new(alloc);
+    let body = Body::Worker { worker, turns };
     let answers = Answers::new(alloc);
     match worker_body(rt, alloc, shared, pass, worker, turns, gate) {
         Ok(pass) => Ended {
-            lines,
+            body,
             left: Ok(LaneEnd { answers, pass }),
         },
         Err(_stopped) => Ended {
-            lines,
+            body,
             left: Err(NoMemory),
         },
     }
 }
 
 /// Takes the passes in, and puts the answers behind those that there are, thread by thread.
-fn gather(shared: &Shared, first: &mut LaneEnd, ends: Vec<Ended>) -> Result<(), NoMemory>
+fn gather(
+    shared: &Shared,
+    first: &mut LaneEnd,
+    lines: &[Line],
+    ends: Vec<Ended>,
+) -> Result<(), NoMemory>
     requires first { IsTold shared.now [] (map asked first.old.answers) first.old }
-    requires ended { All (IsEnded shared.now first.old.answers) ends.items }
-    requires apart { AreApart [] (map lines_left ends.items) }
+    requires ended { All (IsEnded shared.now lines.now first.old.answers) ends.items }
+    requires apart { AreApart [] (map (lines_left lines.now) ends.items) }
     requires of_first { AreFirst first.old.answers }
     ensures told { IfOk result (λ _. IsTold shared.now []
-        (map asked first.old.answers ++ flat (map lines_left ends.items)) first.new) }
+        (map asked first.old.answers ++ flat (map (lines_left lines.now) ends.items)) first.new) }
     ensures work { (w : Worker') (tasks : List Task) → AllMade w tasks ends.items
         → IfOk result (λ _. total (turns_due w) tasks ≤ work_in w (record_of first.new.pass)) }
 {
@@ -363,19 +388,18 @@ fn gather(shared: &Shared, first: &mut LaneEnd, ends: Vec<Ended>) -> Result<(), 
 fn take_in(shared: &Shared, first: &mut LaneEnd, ended: Ended) -> Result<(), NoMemory>
     requires of { IsPassOf shared.now first.old.pass }
     requires ended { IfOk ended.left (λ end. IsPassOf shared.now end.pass) }
-    ensures told { (given others : List Answer) → first.old.answers ≡ given ++ others
+    ensures told { (given others : List Answer) (lines : List Line)
+        → first.old.answers ≡ given ++ others
         → IsTold shared.now [] (map asked first.old.answers) first.old
-        → IsEnded shared.now given ended → IsApart (map asked others) ended.lines
-        → AreOfOthers (map asked others) ended.lines → AreFirst given
-        → IfOk result (λ _. TakesIn shared.now given others ended.lines first.new) }
+        → IsEnded shared.now lines given ended
+        → IsApart (map asked others) (lines_left lines ended)
+        → AreOfOthers (map asked others) (lines_left lines ended) → AreFirst given
+        → IfOk result (λ _. TakesIn shared.now given others (lines_left lines ended) first.new) }
     ensures work { (w : Worker') (t : Task) → AreMade w t ended
         → IfOk result (λ _. work_in w (record_of first.old.pass) + turns_due w t
         ≤ work_in w (record_of first.new.pass)) }
 {
-    let Ended {
-        lines: _lines,
-        left,
-    } = ended;
+    let Ended { body: _body, left } = ended;
     match left {
         Ok(end) => take_end(shared, first, end),
         Err(none) => Err(none),

@@ -1,4 +1,4 @@
-use Rattle.std.proofs.Common.{List, sym, subst}
+use Rattle.std.proofs.Common.{◌+◌, ◌<◌, List, sym, subst, arith}
 use Rattle.cb_shared.specs.Passes.{record_of}
 use Rattle.cb_app.specs.Crew.{IsDealt}
 use Rattle.cb_app.specs.declared.crew.Task.{Task}
@@ -11,3 +11,10 @@ loop-before-init c =
     let p = c.args.pass.now in
     subst (λ (ts : List Task). IsDealt s c.args.lines.now 0 0 (record_of p) ts p) (sym c.requires.none)
     (dealt_none s c.args.lines.now p c.requires.of c.requires.whole)
+
+pub loop-before-preserved : goal.loop-before-preserved
+loop-before-preserved c =
+    let n = c.loop-before.before in
+    let low : n + 1 < 256 = omega (arith, c.loop-before-test.true) in
+    c.in_ok-deal_lane.ensures.dealt c.args.lines.now (record_of c.args.pass.now)
+    (rw c.from.ensures (sym (c.used_lanes-used.ensures (n + 1) low))) c.loop-before.invariant

@@ -6,14 +6,15 @@ use Rattle.cb_app.proofs.crew.gather.Goals as goal
 
 pub loop-ended-init : goal.loop-ended-init
 loop-ended-init c = subst (λ (left : List Ended).
-    IsTaking c.args.shared.now c.args.first.now.answers c.args.ends.items left c.args.first.now)
+    IsTaking c.args.shared.now c.args.lines.now c.args.first.now.answers c.args.ends.items left c.args.first.now)
     (sym c.into_iter-ended-iterator.ensures.into_iter_gives.0)
-    (taking_from c.args.shared.now c.args.ends.items c.args.first.now c.requires.first
+    (taking_from c.args.shared.now c.args.lines.now c.args.ends.items c.args.first.now c.requires.first
     c.requires.ended c.requires.apart)
 
 pub loop-ended-preserved : goal.loop-ended-preserved
 loop-ended-preserved c =
     let s = c.args.shared.now in
+    let lines = c.args.lines.now in
     let given = c.args.first.now.answers in
     let all = c.args.ends.items in
     let left = c.loop-ended.ended-iterator.rest.items in
@@ -22,14 +23,14 @@ loop-ended-preserved c =
     let first = c.loop-ended.first in
     let t = c.loop-ended.invariant in
     let is = c.in-Some.ensures.steps.0 in
-    taking_more s given all left e later first c.take_in.new.first t is
-    (c.in_ok-take_in.ensures.told given t.others t.answers t.told
-    (first_ended s given left e later t.ended is) (first_apart s given all left e later first t is)
-    (first_of_others s given all left e later first t is) c.requires.of_first)
-    (others_ended s given left e later t.ended is) c.in_ok-take_in.ensures.work
+    taking_more s lines given all left e later first c.take_in.new.first t is
+    (c.in_ok-take_in.ensures.told given t.others lines t.answers t.told
+    (first_ended s lines given left e later t.ended is) (first_apart s lines given all left e later first t is)
+    (first_of_others s lines given all left e later first t is) c.requires.of_first)
+    (others_ended s lines given left e later t.ended is) c.in_ok-take_in.ensures.work
 
 pub returns-clause-work : goal.returns-clause-work
-returns-clause-work c = taken_work c.args.shared.now c.args.first.now.answers c.args.ends.items
+returns-clause-work c = taken_work c.args.shared.now c.args.lines.now c.args.first.now.answers c.args.ends.items
     c.loop-ended.ended-iterator.rest.items c.loop-ended.first c.loop-ended.invariant
     (nil_from_length c.loop-ended.ended-iterator.rest.items
     (sym c.loop-ended.ended-iterator.rest.ok.0 ∙ c.in-None.ensures.steps.0))

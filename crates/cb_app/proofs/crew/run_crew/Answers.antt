@@ -14,8 +14,9 @@ pub gather-requires-clause-apart : goal.gather-requires-clause-apart
 gather-requires-clause-apart g c =
     let ends = c.in_ok-ends.ends.items in
     let tasks = c.in_ok-tasks.tasks.items in
-    let same : map lines_left ends ≡ map lines_due tasks =
-    same_maps lines_left lines_due ends tasks
+    let lines = c.args.lines.now in
+    let same : map (lines_left lines) ends ≡ map (lines_due lines) tasks =
+    same_maps (lines_left lines) (lines_due lines) ends tasks
     (sym c.in_ok-ends.ends.ok.0 ∙ c.in_ok-ends.ensures.len ∙ c.in_ok-tasks.tasks.ok.0)
     (λ i d e low. c.in_ok-ends.ensures.lines i d e (omega (arith, low, c.in_ok-tasks.tasks.ok.0))) in
     left_apart c.args.shared.now c.args.lines.now (record_of c.args.first.now.pass) tasks
@@ -49,8 +50,8 @@ returns g c =
     let lines = c.args.lines.now in
     let ends = c.in_ok-ends.ends.items in
     let tasks = c.in_ok-tasks.tasks.items in
-    let same : map lines_left ends ≡ map lines_due tasks =
-    same_maps lines_left lines_due ends tasks
+    let same : map (lines_left lines) ends ≡ map (lines_due lines) tasks =
+    same_maps (lines_left lines) (lines_due lines) ends tasks
     (sym c.in_ok-ends.ends.ok.0 ∙ c.in_ok-ends.ensures.len ∙ c.in_ok-tasks.tasks.ok.0)
     (λ i d e low. c.in_ok-ends.ensures.lines i d e (omega (arith, low, c.in_ok-tasks.tasks.ok.0))) in
     let a = c.args.first.now in

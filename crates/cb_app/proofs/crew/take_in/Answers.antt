@@ -1,16 +1,15 @@
 use Rattle.std.proofs.Common.{◌+◌, ◌≤◌}
 use Rattle.std.proofs.lemmas.Result.{IfOk-weaker}
 use Rattle.cb_shared.specs.Passes.{record_of}
-use Rattle.cb_app.specs.Crew.{turns_due, work_in}
+use Rattle.cb_app.specs.Crew.{lines_left, turns_due, work_in}
 use Rattle.cb_app.proofs.WorkDone.{work_taken}
 use Rattle.cb_app.proofs.crew.take_in.Goals as goal
 
 pub returns-in-Ok : goal.returns-in-Ok
 returns-in-Ok c = record {
-  told = λ given others are told ended apart none first.
+  told = λ given others lines are told ended apart none first.
       let s = c.args.shared.now in
-      let lines = c.args.ended.lines in
-      c.take_end.ensures.told given others lines are told (rw c.in-Ok.is at ended) apart none first;
+      c.take_end.ensures.told given others (lines_left lines c.args.ended) are told (rw c.in-Ok.is at ended) apart none first;
   work = λ w t made.
       let old = work_in w (record_of c.args.first.now.pass) in
       let new = work_in w (record_of c.take_end.new.first.pass) in
