@@ -16,6 +16,8 @@ use Rattle.cb_rule.specs.Lists.{total}
 use Rattle.cb_rule.specs.Steps.{joined, left_of, right_of}
 use Rattle.cb_record.specs.Backs.{Backs}
 use Rattle.cb_record.specs.Told.{Told, tolds}
+use Rattle.cb_text.specs.Line.{answer_line, text_of}
+use Rattle.std.proofs.lemmas.Grind.{flat_map-append}
 use Rattle.cb_record.specs.Rises.{HasAllOf}
 use Rattle.cb_record.proofs.Laws.{backs_sum, has_left, has_right, tolds-append}
 use Rattle.cb_shared.specs.declared.pass.Pass.{Pass}
@@ -32,7 +34,7 @@ use Rattle.cb_lanes.specs.Suits.{AreSuited}
 use Rattle.cb_lanes.proofs.Laws.{are_suited_both, are_suited_more, has_split}
 use Rattle.cb_workers.specs.declared.worker.Worker.{Worker as Worker'}
 use Rattle.cb_app.specs.ByLane.{AreApart, AreOfOthers, IsApart, by_lane, flat, has_lines, lanes_up_to, of_lane}
-use Rattle.cb_app.specs.Crew.{AllMade, AreFirst, AreMade, BodyIsReady, IsDealt, IsFresh, IsDealtOne, IsEnded, IsReady, IsTold, RiseWith, TakesIn, lines_due, lines_in, lines_left, part_of, turns_due, work_in}
+use Rattle.cb_app.specs.Crew.{AllMade, AreFirst, AreMade, BodyIsReady, HasText, IsDealt, IsFresh, IsDealtOne, IsEnded, IsReady, IsTold, RiseWith, TakesIn, lines_due, lines_in, lines_left, part_of, turns_due, work_in}
 use Rattle.cb_app.specs.OwnLines.{KeepAloneWith}
 use Rattle.cb_app.specs.declared.crew.Body.{Body}
 use Rattle.cb_app.specs.declared.crew.Body.TheVariants.{Lane, Worker}
@@ -111,6 +113,24 @@ taken_in s given others lines a e b are told ended apart none first of pass answ
             (told.alone one) (ended.alone one));
       };
     }
+
+-- ---- the text of answers
+
+-- and of more answers behind them
+pub text_behind : (xs ys zs : List Answer) (old more new : List ℕ) → old ≡ text_of xs → more ≡ text_of ys
+    → new ≡ old ++ more → zs ≡ xs ++ ys → new ≡ text_of zs
+text_behind xs ys zs old more new first behind is all = is
+    ∙ (λ i. first i ++ behind i)
+    ∙ sym (flat_map-append (λ (a : Answer). answer_line a.lane a.request a.reply) xs ys)
+    ∙ sym (ap text_of all)
+
+pub first_text : (left : List Ended) (e : Ended) (later : List Ended) → All HasText left → left ≡ e ∷ later
+    → HasText e
+first_text left e later all is = All-head HasText e later (subst (All HasText) is all)
+
+pub others_text : (left : List Ended) (e : Ended) (later : List Ended) → All HasText left → left ≡ e ∷ later
+    → All HasText later
+others_text left e later all is = All-tail HasText e later (subst (All HasText) is all)
 
 -- ---- one after the other
 
@@ -419,9 +439,9 @@ others_ended s lines given left e later all is =
     All-tail (IsEnded s lines given) e later (subst (All (IsEnded s lines given)) is all)
 
 pub ended_pass : (s : Shared) (lines : List Line) (given : List Answer) (e : Ended) → IsEnded s lines given e
-    → IfOk e.left (λ end. IsPassOf s end.pass)
+    → IfOk e.left (λ told. IsPassOf s told.end.pass)
 ended_pass s lines given e ended =
-    IfOk-weaker e.left (IsTold s given (lines_left lines e)) (λ end. IsPassOf s end.pass) (λ end told. told.of) ended
+    IfOk-weaker e.left (λ t. IsTold s given (lines_left lines e) t.end) (λ t. IsPassOf s t.end.pass) (λ t told. told.of) ended
 
 pub first_apart : (s : Shared) (lines : List Line) (given : List Answer) (all left : List Ended) (e : Ended)
     (later : List Ended) (first : LaneEnd) → (t : IsTaking s lines given all left first) → left ≡ e ∷ later

@@ -17,7 +17,6 @@ use Rattle.cb_shared.specs.declared.pass.Pass.{Pass}
 use Rattle.cb_shared.specs.declared.runtime.Shared.{Shared}
 use Rattle.cb_shared.specs.Joining.{unpinned_all}
 use Rattle.cb_shared.specs.Passes.{record_of}
-use Rattle.cb_lanes.specs.declared.body.LaneEnd.{LaneEnd}
 use Rattle.cb_workers.specs.Bodies.{Works}
 use Rattle.cb_workers.specs.Rules.{owner}
 use Rattle.cb_workers.specs.Work.{AreOf}
@@ -29,6 +28,7 @@ use Rattle.cb_app.specs.Telling.{turns_by}
 use Rattle.cb_app.specs.declared.crew.Body.{Body}
 use Rattle.cb_app.specs.declared.crew.Ended.{Ended}
 use Rattle.cb_app.specs.declared.crew.Task.{Task}
+use Rattle.cb_app.specs.declared.crew.Told.{Told}
 
 -- ---- numbers by job
 
@@ -164,12 +164,12 @@ work_joined w v u t is = turns_sum w (turns_as t) (turns_as v) (turns_as u) each
         let parts = times-append (λ (x : Turn). eqb (job_index x.job) (job_index j)) u.turns v.turns in
         omega (arith, both, parts)
 
-pub work_taken : (w : Worker) (t : Task) (e : Ended) (end : LaneEnd) (old new : ℕ)
-    → e.left ≡ Ok end → AreMade w t e → new ≡ old + work_in w (record_of end.pass)
+pub work_taken : (w : Worker) (t : Task) (e : Ended) (told : Told) (old new : ℕ)
+    → e.left ≡ Ok told → AreMade w t e → new ≡ old + work_in w (record_of told.end.pass)
     → old + turns_due w t ≤ new
-work_taken w t e end old new is made sum =
-    let due : turns_due w t ≤ work_in w (record_of end.pass) =
-    subst (λ (left : Result LaneEnd NoMemory). IfOk left (λ z. turns_due w t ≤ work_in w (record_of z.pass)))
+work_taken w t e told old new is made sum =
+    let due : turns_due w t ≤ work_in w (record_of told.end.pass) =
+    subst (λ (left : Result Told NoMemory). IfOk left (λ z. turns_due w t ≤ work_in w (record_of z.end.pass)))
     is made in omega (arith, due, sum)
 
 -- ---- one thread after the other

@@ -24,6 +24,7 @@ use Rattle.cb_lanes.specs.Asked.{asked}
 use Rattle.cb_lanes.specs.Lost.{losses_of}
 use Rattle.cb_app.specs.Crew.{IsFresh, part_of}
 use Rattle.cb_app.specs.Threaded.{AreLosses, IsRun, IsThreaded}
+use Rattle.cb_text.specs.Line.{text_of}
 use Rattle.cb_app.specs.declared.ending.Ending.{Ending}
 use Rattle.cb_app.specs.declared.threads.ThreadsEnd.{ThreadsEnd}
 use Rattle.cb_app.proofs.Ran.{is_run as ran}
@@ -52,7 +53,13 @@ are_lines nodes = (
 module _ (c : Config) (seal : Seal) (closed : IsClosed Did 1 c (sealed_record seal) (sealed_world seal))
     (fresh : IsFresh (sealed_record seal)) (none : c.turns ≡ 0) where
   abbrev end : List Answer → ThreadsEnd
-  end answers = record { answers = answers; losses = []; world = sealed_world seal; seal = seal }
+  end answers = record {
+    answers = answers;
+    losses = [];
+    world = sealed_world seal;
+    seal = seal;
+    text = text_of answers;
+  }
 
   no_losses : (answers : List Answer) → losses_of answers ≡ [] → AreLosses [] answers
   no_losses answers none = record {

@@ -56,6 +56,7 @@ use Rattle.cb_app.specs.Modes.{Yields}
 use Rattle.cb_app.specs.Outcome.{IsDone}
 use Rattle.cb_app.specs.Telling.{counted_as}
 use Rattle.cb_app.specs.Threaded.{AreLosses, IsRun, IsThreaded}
+use Rattle.cb_text.specs.Line.{text_of}
 use Rattle.cb_app.specs.declared.ending.Ending.{Ending}
 use Rattle.cb_app.specs.declared.threads.ThreadsEnd.{ThreadsEnd}
 use Rattle.cb_app.proofs.Ran.{is_run}
@@ -121,7 +122,13 @@ abbrev evicting : Turn → Turn
 evicting t = record t { job = job.Evict; reply = Some (replies.NoSpans 0) }
 
 abbrev told_of : WorldState → Seal → List Answer → List Loss → ThreadsEnd
-told_of world seal list losses = record { answers = list; losses = losses; world = world; seal = seal }
+told_of world seal list losses = record {
+  answers = list;
+  losses = losses;
+  world = world;
+  seal = seal;
+  text = text_of list;
+}
 
 abbrev ending_of : WorldState → Seal → List Answer → Ending
 ending_of world seal list = record {

@@ -1,5 +1,5 @@
 -- Worked examples: what threads are given and what they leave.
-use Rattle.std.proofs.Common.{◌≡◌, ℕ, ◌+◌, ◌<◌, ◌≤◌, Bool, cond, eqb, List, [], ◌∷◌, ◌++◌, map, Some, Ok, Err, inl, inr, refl, sym, ap, ◌∙◌, subst, lit≤, arith}
+use Rattle.std.proofs.Common.{◌≡◌, ℕ, ◌+◌, ◌<◌, ◌≤◌, Bool, cond, eqb, List, [], ◌∷◌, ◌++◌, length, map, Some, Ok, Err, inl, inr, refl, sym, ap, ◌∙◌, subst, lit≤, arith}
 use Rattle.std.specs.Prelude.{nat_eq, slice_index_or}
 use Rattle.cb_member.specs.declared.no_memory.NoMemory.{NoMemory}
 use Rattle.cb_types.specs.declared.answer.Answer.{Answer}
@@ -23,6 +23,7 @@ use Rattle.cb_rule.proofs.Laws.{by_case}
 use Rattle.cb_record.specs.Backs.{Backs}
 use Rattle.cb_record.specs.Parts.{nothing_more}
 use Rattle.cb_record.specs.Told.{tolds}
+use Rattle.cb_text.specs.Line.{text_of}
 use Rattle.cb_shared.specs.declared.pass.Pass.{Pass}
 use Rattle.cb_shared.specs.declared.runtime.Shared.{Shared}
 use Rattle.cb_shared.specs.Passes.{IsPassOf, record_of}
@@ -33,10 +34,11 @@ use Rattle.cb_lanes.specs.Scoped.{AreOneToOne}
 use Rattle.cb_workers.specs.Rules.{lane_of, visit}
 use Rattle.cb_workers.specs.declared.worker.Worker.{Worker as Worker'}
 use Rattle.cb_workers.specs.declared.worker.Worker.TheVariants as worker
-use Rattle.cb_app.specs.Crew.{AllMade, AreKnownTo, AreMade, BodyIsReady, IsDealt, IsDealtOne, IsEnded, IsFresh, IsReady, IsTold, Runs, TakesIn, if_same, lines_in, part_of, turns_for, work_in}
+use Rattle.cb_app.specs.Crew.{AllMade, AreKnownTo, AreMade, BodyIsReady, HasText, IsDealt, IsDealtOne, IsEnded, IsFresh, IsReady, IsTold, Runs, TakesIn, if_same, lines_in, part_of, turns_for, work_in}
 use Rattle.cb_app.specs.declared.crew.Body.{Body}
 use Rattle.cb_app.specs.declared.crew.Body.TheVariants.{Lane, Worker}
 use Rattle.cb_app.specs.declared.crew.Task.{Task}
+use Rattle.cb_app.specs.declared.crew.Told.{Told}
 use Rattle.cb_app.proofs.AnswersRise.{none_known, none_rise}
 use Rattle.cb_app.proofs.Crews.{dealt_none}
 use Rattle.cb_app.proofs.LanesAlone.{none_alone}
@@ -197,6 +199,9 @@ module _ (s : Shared) (p : Pass) (of : IsPassOf s p) (fresh : IsFresh (record_of
   abbrev end : List Answer → LaneEnd
   end answers = record { answers = answers; pass = p }
 
+  abbrev told : List Answer → Told
+  told answers = record { end = end answers; text = text_of answers }
+
   idle : Backs (part_of (record_of p)) []
   idle = fresh_idle (record_of p) fresh
 
@@ -289,36 +294,47 @@ module _ (s : Shared) (p : Pass) (of : IsPassOf s p) (fresh : IsFresh (record_of
   without_memory : (want : NoMemory) → IsEnded s leaves [] (record { body = lane 2; left = Err want })
   without_memory want = tt
 
-  with_answers : IsEnded s leaves [] (record { body = lane 2; left = Ok (end (answer 2 Leave (Left 0) ∷ [])) })
+  with_answers : IsEnded s leaves [] (record { body = lane 2; left = Ok (told (answer 2 Leave (Left 0) ∷ [])) })
   with_answers = is_told
 
-  with_none : IsEnded s leaves [] (record { body = lane 2; left = Ok (end []) }) → ⊥
+  with_none : IsEnded s leaves [] (record { body = lane 2; left = Ok (told []) }) → ⊥
   with_none ended = absurd (let e = ended.lines_are in cc)
 
-  runs : (w : Worker') → Runs s leaves none (task (Worker w 0)) (record { body = Worker w 0; left = Ok (end []) })
-  runs w = (refl, λ given named known. none_told given, λ other. none_due other w)
+  runs : (w : Worker') → Runs s leaves none (task (Worker w 0)) (record { body = Worker w 0; left = Ok (told []) })
+  runs w = (refl, λ given named known. none_told given, λ other. none_due other w, refl)
 
   ran_another_body : (w : Worker')
-      → Runs s leaves none (task (lane 2)) (record { body = Worker w 0; left = Ok (end []) }) → ⊥
+      → Runs s leaves none (task (lane 2)) (record { body = Worker w 0; left = Ok (told []) }) → ⊥
   ran_another_body w r = let e : Worker w 0 ≡ lane 2 = r.0 in absurd cc
 
-  did_not_answer : Runs s leaves none (task (lane 2)) (record { body = lane 2; left = Ok (end []) }) → ⊥
+  did_not_answer : Runs s leaves none (task (lane 2)) (record { body = lane 2; left = Ok (told []) }) → ⊥
   did_not_answer r = with_none (r.1 [] (λ name. refl) (none_known (record_of p)))
 
   -- a worker that has made no turn
   made_none : Runs s leaves none (task (Worker worker.Filter 3))
-      (record { body = Worker worker.Filter 3; left = Ok (end []) }) → ⊥
+      (record { body = Worker worker.Filter 3; left = Ok (told []) }) → ⊥
   made_none r =
       let made : 3 ≤ work_in worker.Filter (record_of p) = r.2 worker.Filter in
       let nothing : work_in worker.Filter (record_of p) ≡ 0 =
       ap (λ (ts : List Turn). times (is_like (visit 0)) ts) fresh.turns in absurd (omega (arith, made, nothing))
+
+  -- a thread whose text tells of more than it was answered
+  wrote_more : (w : Worker') → Runs s leaves none (task (Worker w 0)) (record {
+    body = Worker w 0;
+    left = Ok (record { end = end []; text = a });
+  }) → ⊥
+  wrote_more w r = let e : length a ≡ 0 = ap length r.3 in absurd (omega (arith, e))
+
+  writes : (HasText (record { body = lane 2; left = Ok (told (answer 2 Leave (Left 0) ∷ [])) }))
+      × ((want : NoMemory) → HasText (record { body = lane 2; left = Err want }))
+  writes = (refl, λ want. tt)
 
   made_without_memory : (w : Worker') (want : NoMemory)
       → AreMade w (task (Worker w 3)) (record { body = Worker w 3; left = Err want })
   made_without_memory w want = tt
 
   each_made : (w : Worker')
-      → AllMade w (task (lane 2) ∷ []) (record { body = lane 2; left = Ok (end []) } ∷ [])
+      → AllMade w (task (lane 2) ∷ []) (record { body = lane 2; left = Ok (told []) } ∷ [])
   each_made w = (omega arith, tt)
 
   one_is_missing : (w : Worker') → AllMade w (task (Worker w 3) ∷ []) [] → ⊥

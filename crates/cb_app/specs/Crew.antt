@@ -20,6 +20,7 @@ use Rattle.cb_record.specs.Backs.{Backs}
 use Rattle.cb_record.specs.Parts.{Part}
 use Rattle.cb_record.specs.Rises.{HasAllOf, IsOnRecord}
 use Rattle.cb_record.specs.Told.{tolds}
+use Rattle.cb_text.specs.Line.{text_of}
 use Rattle.cb_shared.specs.declared.pass.Pass.{Pass}
 use Rattle.cb_shared.specs.declared.runtime.Shared.{Shared}
 use Rattle.cb_shared.specs.Passes.{IsPassOf, record_of}
@@ -40,6 +41,7 @@ use Rattle.cb_app.specs.declared.crew.Body.{Body}
 use Rattle.cb_app.specs.declared.crew.Body.TheVariants.{Lane, Worker}
 use Rattle.cb_app.specs.declared.crew.Ended.{Ended}
 use Rattle.cb_app.specs.declared.crew.Task.{Task}
+use Rattle.cb_app.specs.declared.crew.Told.{Told}
 use Rattle.cb_app.specs.Telling.{turns_by}
 
 -- all that a record has, as a part
@@ -66,6 +68,14 @@ name_made request reply = []
 -- the names that were made, in the order of the makes
 abbrev pub names_in : List Answer → List Named
 names_in answers = flat_map (λ a. name_made a.request a.reply) answers
+
+-- the text of what was told tells its answers
+abbrev pub IsWritten : Told → Type 0
+IsWritten t = t.text ≡ text_of t.end.answers
+
+-- so of what a thread left, unless memory was wanting
+abbrev pub HasText : Ended → Type 0
+HasText e = IfOk e.left IsWritten
 
 -- the lines of a thread, of these lines: those of its lane, and a worker has none
 abbrev pub lines_in : List Line → Body → List Line
@@ -100,7 +110,7 @@ turns_due w t = turns_for w t.body
 
 -- they stand in what the thread left, unless memory was wanting
 abbrev pub AreMade : Worker' → Task → Ended → Type 0
-AreMade w t e = IfOk e.left (λ end. turns_due w t ≤ work_in w (record_of end.pass))
+AreMade w t e = IfOk e.left (λ told. turns_due w t ≤ work_in w (record_of told.end.pass))
 
 -- so of each thread
 abbrev pub AllMade : Worker' → List Task → List Ended → Type 0
@@ -170,15 +180,16 @@ pub record IsTold (s : Shared) (given : List Answer) (lines : List Line) (e : La
 
 -- so a thread ended that had its lines among these, unless memory was wanting
 abbrev pub IsEnded : Shared → List Line → List Answer → Ended → Type 0
-IsEnded s lines given e = IfOk e.left (IsTold s given (lines_left lines e))
+IsEnded s lines given e = IfOk e.left (λ told. IsTold s given (lines_left lines e) told.end)
 
 -- a thread left the body that it was given, and answered its lines, by whatever answers have the
--- names and are known to its pass; and a worker made its turns
+-- names and are known to its pass; a worker made its turns; and the text tells the answers
 abbrev pub Runs : Shared → List Line → List Named → Task → Ended → Type 0
 Runs s lines names t e = (e.body ≡ t.body)
     × ((given : List Answer) → AreNamesOf names given → AreKnownTo (record_of t.pass) given
     → IsEnded s lines given e)
     × ((w : Worker') → AreMade w t e)
+    × HasText e
 
 -- One pass more was split off, for this body.
 pub record IsDealtOne (s : Shared) (body : Body) (v : View) (old new : List Task) : Type 0 where

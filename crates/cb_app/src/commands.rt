@@ -14,8 +14,7 @@ ghost use Rattle.cb_text.specs.Line.{text_of};
 use crate::ending::Ending;
 use crate::threads::run_threads;
 use cb_cli::{
-    Command, Pieces, Verdict, answers_text, answers_text_in_threads, script_fault_text,
-    script_ok_text, with_given,
+    Command, Pieces, Verdict, answers_text, script_fault_text, script_ok_text, with_given,
 };
 use cb_lanes::{Side, run_lines};
 use cb_rma_text::rma_bytes;
@@ -155,8 +154,7 @@ fn thread_script<R: Threads + Wait + Sync>(
     ensures kept { OnErr result (end.new ≡ end.old) }
 {
     let told = run_threads(rt, alloc, script, &OpenGate)?;
-    let ended = Ending::threaded(script.config, told);
-    let text = answers_text_in_threads(rt, alloc, &ended.answers)?;
+    let (ended, text) = Ending::threaded(script.config, told);
     end.set(ended);
     Ok(text)
 }

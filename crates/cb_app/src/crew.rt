@@ -1,12 +1,14 @@
 //! The bodies of lanes and workers, each in a thread of its own.
 ghost use Rattle.std.specs.Prelude.{◌≡◌, ◌<◌, ◌≤◌, ◌+◌, ◌++◌, ℕ, List, [], map, All, IfOk, slice_index_or, vec_len};
+ghost use Rattle.std.specs.List.{AllByRecursion};
 ghost use Rattle.cb_types.specs.declared.answer.Answer.{Answer};
+ghost use Rattle.cb_text.specs.Line.{text_of};
 ghost use Rattle.cb_script.specs.Form.{AreLines};
 ghost use Rattle.cb_script.specs.declared.script.Line.{Line};
 ghost use Rattle.cb_rule.specs.declared.view.View.{View};
 ghost use Rattle.cb_rule.specs.Steps.{left_of};
 ghost use Rattle.cb_shared.specs.Passes.{IsPassOf, record_of};
-ghost use Rattle.cb_lanes.specs.Asked.{asked};
+ghost use Rattle.cb_lanes.specs.Asked.{HasLineReply, asked};
 ghost use Rattle.cb_lanes.specs.Bodies.{AreLinesOf, AreNamesOf, KnowsNames};
 ghost use Rattle.cb_rule.specs.Lists.{total};
 ghost use Rattle.cb_workers.specs.declared.worker.Worker.{Worker as Worker'};
@@ -16,12 +18,14 @@ ghost use Rattle.cb_app.specs.Crew.{
   AreFirst,
   AreKnownTo,
   AreMade,
+  HasText,
   IsDealt,
   IsDealtOne,
   IsEnded,
   IsFresh,
   IsReady,
   IsTold,
+  IsWritten,
   Runs,
   StandIn,
   TakesIn,
@@ -36,10 +40,11 @@ ghost use Rattle.cb_app.specs.declared.crew.Ended.{Ended};
 ghost use Rattle.cb_app.specs.declared.crew.Task.{Task};
 
 use crate::by_lane::{of_lane, used_lanes};
+use cb_cli::{Pieces, answers_text};
 use cb_lanes::{LaneEnd, Names, lane_body};
 use cb_script::Line;
 use cb_shared::{Pass, Shared};
-use cb_types::{Answers, Gate, Lane, NoMemory};
+use cb_types::{Answers, Bytes, Gate, Lane, NoMemory};
 use cb_workers::{Worker, worker_body};
 use std::alloc::{AllocError, Global};
 use std::sync::Wait;
@@ -63,21 +68,28 @@ pub(crate) struct Task {
     pub(crate) pass: Pass,
 }
 
-/// What a thread leaves: its body, and its answers, none of a worker, with its pass, unless memory
-/// was wanting.
+/// Answers, with the pass by whose calls they were given and with the text that tells them.
+#[derive(Drop)]
+pub(crate) struct Told {
+    pub(crate) end: LaneEnd,
+    pub(crate) text: Pieces,
+}
+
+/// What a thread leaves: its body, and what it told, a worker nothing, unless memory was wanting.
 #[derive(Drop)]
 pub(crate) struct Ended {
     pub(crate) body: Body,
-    pub(crate) left: Result<LaneEnd, NoMemory>,
+    pub(crate) left: Result<Told, NoMemory>,
 }
 
 /// Runs lanes 1 to 15 of these lines beside the four workers, each in a thread of its own where
-/// one can be made, and takes their answers and passes in, lane by lane.
+/// one can be made, and takes their answers, passes and texts in, lane by lane.
 pub(crate) fn run_crew<R: Threads + Wait + Sync, G: Gate>(
     rt: &R,
     alloc: Global,
     shared: &Shared,
     first: &mut LaneEnd,
+    text: &mut Pieces,
     lines: &[Line],
     names: &Names,
     gate: &G,
@@ -88,14 +100,16 @@ pub(crate) fn run_crew<R: Threads + Wait + Sync, G: Gate>(
     requires names { AreNamesOf names.now first.old.answers }
     requires known { KnowsNames (record_of first.old.pass) names.now }
     requires stand { StandIn (record_of first.old.pass) first.old.answers }
+    requires text { text.old ≡ text_of first.old.answers }
     ensures told { IfOk result (λ _. IsTold shared.now [] (by_lane lines.now) first.new) }
     ensures work { IfOk result (λ _. (w : Worker') → shared.now.config.turns
         ≤ work_in w (record_of first.new.pass)) }
+    ensures text { IfOk result (λ _. text.new ≡ text_of first.new.answers) }
 {
     let tasks = deal(alloc, shared, &mut first.pass, lines)?;
     warm(alloc, 2 * ROOM);
     let ends = scatter(rt, alloc, shared, tasks, lines, names, gate)?;
-    gather(shared, first, lines, ends)
+    gather(shared, first, text, lines, ends)
 }
 
 /// What each thread is given: the lanes that have lines, in order, and the workers.
@@ -237,6 +251,7 @@ fn scatter<R: Threads + Wait + Sync, G: Gate>(
     ensures made { IfOk result (λ ends. (w : Worker') (i : ℕ) (d : Ended) (t : Task)
         → i < vec_len tasks → AreMade w (slice_index_or tasks.items i t)
         (slice_index_or ends.items i d)) }
+    ensures text { IfOk result (λ ends. All HasText ends.items) }
 {
     let ends = thread::map_vec(
         rt,
@@ -296,8 +311,9 @@ fn run_lane<R: Wait, G: Gate>(
     requires other { 1 ≤ lane.n }
     ensures body { result.body ≡ Body.Lane lane }
     ensures ended { (given : List Answer) → AreNamesOf names.now given → AreKnownTo (record_of pass) given
-        → IfOk result.left (IsTold shared.now given (of_lane lane.n lines.now)) }
-    ensures made { (w : Worker') → IfOk result.left (λ end. 0 ≤ work_in w (record_of end.pass)) }
+        → IfOk result.left (λ told. IsTold shared.now given (of_lane lane.n lines.now) told.end) }
+    ensures made { (w : Worker') → IfOk result.left (λ told. 0 ≤ work_in w (record_of told.end.pass)) }
+    ensures text { HasText result }
 {
     warm(alloc, ROOM);
     let left = answer_lane(rt, alloc, shared, pass, lane, lines, names, gate);
@@ -305,7 +321,8 @@ fn run_lane<R: Wait, G: Gate>(
     Ended { body, left }
 }
 
-/// What the lines of a lane are answered. The lane copies them by itself, in its own thread.
+/// What the lines of a lane are answered. The lane copies its lines and writes the text of its
+/// answers by itself, in its own thread.
 fn answer_lane<R: Wait, G: Gate>(
     rt: &R,
     alloc: Global,
@@ -315,18 +332,19 @@ fn answer_lane<R: Wait, G: Gate>(
     lines: &[Line],
     names: &Names,
     gate: &G,
-) -> Result<LaneEnd, NoMemory>
+) -> Result<Told, NoMemory>
     requires of { IsPassOf shared.now pass }
     requires fresh { IsFresh (record_of pass) }
     requires lines { AreLinesOf shared.now.config.nodes lane.n (of_lane lane.n lines.now) }
     requires names { KnowsNames (record_of pass) names.now }
     requires other { 1 ≤ lane.n }
     ensures told { (given : List Answer) → AreNamesOf names.now given → AreKnownTo (record_of pass) given
-        → IfOk result (IsTold shared.now given (of_lane lane.n lines.now)) }
+        → IfOk result (λ told. IsTold shared.now given (of_lane lane.n lines.now) told.end) }
+    ensures text { IfOk result IsWritten }
 {
     let own = of_lane(alloc, lines, lane)?;
     match lane_body(rt, alloc, shared, pass, lane, own.as_slice(), names, gate) {
-        Ok(end) => Ok(end),
+        Ok(end) => with_text(alloc, end),
         Err(_stopped) => Err(NoMemory),
     }
 }
@@ -344,16 +362,23 @@ fn run_worker<R: Wait, G: Gate>(
     requires of { IsPassOf shared.now pass }
     requires fresh { IsFresh (record_of pass) }
     ensures body { result.body ≡ Body.Worker worker turns }
-    ensures ended { (given : List Answer) → IfOk result.left (IsTold shared.now given []) }
-    ensures made { (w : Worker') → IfOk result.left (λ end. if_same worker w turns
-        ≤ work_in w (record_of end.pass)) }
+    ensures ended { (given : List Answer)
+        → IfOk result.left (λ told. IsTold shared.now given [] told.end) }
+    ensures made { (w : Worker') → IfOk result.left (λ told. if_same worker w turns
+        ≤ work_in w (record_of told.end.pass)) }
+    ensures text { HasText result }
 {
     let body = Body::Worker { worker, turns };
     let answers = Answers::new(alloc);
+    let none = Bytes::from(Vec::new(alloc));
+    let text = Pieces::one(alloc, none);
     match worker_body(rt, alloc, shared, pass, worker, turns, gate) {
         Ok(pass) => Ended {
             body,
-            left: Ok(LaneEnd { answers, pass }),
+            left: Ok(Told {
+                end: LaneEnd { answers, pass },
+                text,
+            }),
         },
         Err(_stopped) => Ended {
             body,
@@ -362,10 +387,23 @@ fn run_worker<R: Wait, G: Gate>(
     }
 }
 
-/// Takes the passes in, and puts the answers behind those that there are, thread by thread.
+/// Answers with their text. Each is a reply that its line may have.
+pub(crate) fn with_text(alloc: Global, end: LaneEnd) -> Result<Told, NoMemory>
+    requires { AllByRecursion HasLineReply end.answers }
+    ensures end { IfOk result (λ told. told.end ≡ end) }
+    ensures text { IfOk result IsWritten }
+{
+    let text = answers_text(alloc, &end.answers)?;
+    let text = Pieces::one(alloc, text);
+    Ok(Told { end, text })
+}
+
+/// Takes the passes in, and puts the answers and their texts behind those that there are, thread by
+/// thread.
 fn gather(
     shared: &Shared,
     first: &mut LaneEnd,
+    text: &mut Pieces,
     lines: &[Line],
     ends: Vec<Ended>,
 ) -> Result<(), NoMemory>
@@ -373,21 +411,29 @@ fn gather(
     requires ended { All (IsEnded shared.now lines.now first.old.answers) ends.items }
     requires apart { AreApart [] (map (lines_left lines.now) ends.items) }
     requires of_first { AreFirst first.old.answers }
+    requires text { text.old ≡ text_of first.old.answers }
+    requires texts { All HasText ends.items }
     ensures told { IfOk result (λ _. IsTold shared.now []
         (map asked first.old.answers ++ flat (map (lines_left lines.now) ends.items)) first.new) }
     ensures work { (w : Worker') (tasks : List Task) → AllMade w tasks ends.items
         → IfOk result (λ _. total (turns_due w) tasks ≤ work_in w (record_of first.new.pass)) }
+    ensures text { IfOk result (λ _. text.new ≡ text_of first.new.answers) }
 {
     for ended in ends {
-        take_in(shared, first, ended)?;
+        take_in(shared, first, text, ended)?;
     }
     Ok(())
 }
 
 /// Takes in what one thread left.
-fn take_in(shared: &Shared, first: &mut LaneEnd, ended: Ended) -> Result<(), NoMemory>
+fn take_in(
+    shared: &Shared,
+    first: &mut LaneEnd,
+    text: &mut Pieces,
+    ended: Ended,
+) -> Result<(), NoMemory>
     requires of { IsPassOf shared.now first.old.pass }
-    requires ended { IfOk ended.left (λ end. IsPassOf shared.now end.pass) }
+    requires ended { IfOk ended.left (λ told. IsPassOf shared.now told.end.pass) }
     ensures told { (given others : List Answer) (lines : List Line)
         → first.old.answers ≡ given ++ others
         → IsTold shared.now [] (map asked first.old.answers) first.old
@@ -398,12 +444,39 @@ fn take_in(shared: &Shared, first: &mut LaneEnd, ended: Ended) -> Result<(), NoM
     ensures work { (w : Worker') (t : Task) → AreMade w t ended
         → IfOk result (λ _. work_in w (record_of first.old.pass) + turns_due w t
         ≤ work_in w (record_of first.new.pass)) }
+    ensures text { text.old ≡ text_of first.old.answers → HasText ended
+        → IfOk result (λ _. text.new ≡ text_of first.new.answers) }
 {
     let Ended { body: _body, left } = ended;
     match left {
-        Ok(end) => take_end(shared, first, end),
+        Ok(told) => take_told(shared, first, text, told),
         Err(none) => Err(none),
     }
+}
+
+/// Takes in what one thread told, with its text.
+fn take_told(
+    shared: &Shared,
+    first: &mut LaneEnd,
+    text: &mut Pieces,
+    told: Told,
+) -> Result<(), NoMemory>
+    requires of { IsPassOf shared.now first.old.pass }
+    requires end { IsPassOf shared.now told.end.pass }
+    ensures told { (given others : List Answer) (lines : List Line)
+        → first.old.answers ≡ given ++ others
+        → IsTold shared.now [] (map asked first.old.answers) first.old
+        → IsTold shared.now given lines told.end → IsApart (map asked others) lines
+        → AreOfOthers (map asked others) lines → AreFirst given
+        → IfOk result (λ _. TakesIn shared.now given others lines first.new) }
+    ensures work { (w : Worker') → IfOk result (λ _. work_in w (record_of first.new.pass)
+        ≡ work_in w (record_of first.old.pass) + work_in w (record_of told.end.pass)) }
+    ensures text { text.old ≡ text_of first.old.answers → IsWritten told
+        → IfOk result (λ _. text.new ≡ text_of first.new.answers) }
+{
+    let Told { end, text: more } = told;
+    text.append(more)?;
+    take_end(shared, first, end)
 }
 
 fn take_end(shared: &Shared, first: &mut LaneEnd, end: LaneEnd) -> Result<(), NoMemory>
@@ -417,6 +490,7 @@ fn take_end(shared: &Shared, first: &mut LaneEnd, end: LaneEnd) -> Result<(), No
         → IfOk result (λ _. TakesIn shared.now given others lines first.new) }
     ensures work { (w : Worker') → IfOk result (λ _. work_in w (record_of first.new.pass)
         ≡ work_in w (record_of first.old.pass) + work_in w (record_of end.pass)) }
+    ensures answers { IfOk result (λ _. first.new.answers ≡ first.old.answers ++ end.answers) }
 {
     let LaneEnd { answers, pass } = end;
     shared.join_pass(&mut first.pass, pass);

@@ -2,6 +2,7 @@ ghost use Rattle.std.specs.Prelude.{◌≡◌, [], None, Some};
 ghost use Rattle.cb_app.specs.Scripts.{rows_given};
 
 use crate::threads::ThreadsEnd;
+use cb_cli::Pieces;
 use cb_lanes::SeqEnd;
 use cb_shared::Seal;
 use cb_types::{Answers, Config, Losses};
@@ -62,29 +63,33 @@ impl Ending {
         }
     }
 
-    /// The ending of a script of this configuration that threads answered.
-    pub(crate) fn threaded(config: Config, told: ThreadsEnd) -> Ending
-        ensures { result ≡ record {
+    /// The ending of a script of this configuration that threads answered, and the text that tells
+    /// the answers.
+    pub(crate) fn threaded(config: Config, told: ThreadsEnd) -> (Ending, Pieces)
+        ensures ending { result.0 ≡ record {
           config = Some config;
           answers = told.answers;
           losses = told.losses;
           world = Some told.world;
           seal = Some told.seal;
         } }
+        ensures text { result.1 ≡ told.text }
     {
         let ThreadsEnd {
             answers,
             losses,
             world,
             seal,
+            text,
         } = told;
-        Ending {
+        let ending = Ending {
             config: Some(config),
             answers,
             losses,
             world: Some(world),
             seal: Some(seal),
-        }
+        };
+        (ending, text)
     }
 
     /// The ending of a script of this configuration that was checked. Takes no memory.

@@ -5,14 +5,16 @@ ghost use Rattle.cb_script.specs.declared.script.Mode.TheVariants as scripts;
 ghost use Rattle.cb_shared.specs.Closing.{IsClosedBy};
 ghost use Rattle.cb_shared.specs.Passes.{IsBegun, IsPassOf, record_of};
 ghost use Rattle.cb_app.specs.ByLane.{by_lane, of_lane};
-ghost use Rattle.cb_app.specs.Crew.{IsTold, StandIn, names_in, work_in};
+ghost use Rattle.cb_app.specs.Crew.{IsTold, IsWritten, StandIn, names_in, work_in};
 ghost use Rattle.cb_app.specs.Threaded.{AreLosses, IsRun};
 ghost use Rattle.cb_lanes.specs.Bodies.{KnowsNames};
 ghost use Rattle.cb_lanes.specs.Lost.{losses_of};
+ghost use Rattle.cb_text.specs.Line.{text_of};
 ghost use Rattle.cb_workers.specs.declared.worker.Worker.{Worker};
 
 use crate::by_lane::{names_of, of_lane};
-use crate::crew::run_crew;
+use crate::crew::{Told, run_crew};
+use cb_cli::{Pieces, answers_text};
 use cb_lanes::{LaneEnd, Names, lane_body, note_loss};
 use cb_script::Script;
 use cb_shared::{Pass, Seal, Shared};
@@ -33,6 +35,8 @@ pub struct ThreadsEnd {
     pub world: World,
     /// Shows that world, and the record of all calls.
     pub seal: Seal,
+    /// The text that tells the answers.
+    pub text: Pieces,
 }
 
 /// Answers the lines of a script: those of lane 0 first, and then those of lanes 1 to 15, each lane
@@ -49,6 +53,7 @@ pub fn run_threads<R: Threads + Wait + Sync, G: Gate>(
     requires script { IsScript s.now }
     requires mode { AreInMode scripts.Threads s.now.lines }
     ensures run { IfOk result (IsRun s.now) }
+    ensures text { IfOk result (λ end. end.text ≡ text_of end.answers) }
 {
     let (shared, pass) = Shared::new(alloc, s.config)?;
     let told = run_all(rt, alloc, &shared, pass, s, gate)?;
@@ -63,25 +68,28 @@ fn run_all<R: Threads + Wait + Sync, G: Gate>(
     pass: Pass,
     s: &Script,
     gate: &G,
-) -> Result<LaneEnd, NoMemory>
+) -> Result<Told, NoMemory>
     requires begun { IsBegun 1 s.now.config shared.now pass }
     requires lines { AreLines s.now.config.nodes [] s.now.lines }
-    ensures told { IfOk result (IsTold shared.now [] (by_lane s.now.lines)) }
+    ensures told { IfOk result (λ told. IsTold shared.now [] (by_lane s.now.lines) told.end) }
     ensures work { IfOk result (λ told. (w : Worker) → shared.now.config.turns
-        ≤ work_in w (record_of told.pass)) }
+        ≤ work_in w (record_of told.end.pass)) }
+    ensures text { IfOk result IsWritten }
 {
-    let mut told = run_first(rt, alloc, shared, pass, s, gate)?;
-    let names = names_of(alloc, &told.answers)?;
+    let mut end = run_first(rt, alloc, shared, pass, s, gate)?;
+    let names = names_of(alloc, &end.answers)?;
+    let mut text = Pieces::one(alloc, answers_text(alloc, &end.answers)?);
     run_crew(
         rt,
         alloc,
         shared,
-        &mut told,
+        &mut end,
+        &mut text,
         s.lines.as_slice(),
         &names,
         gate,
     )?;
-    Ok(told)
+    Ok(Told { end, text })
 }
 
 /// The lines of lane 0, which come before all others.
@@ -120,13 +128,16 @@ fn run_first<R: Wait, G: Gate>(
 }
 
 /// Closes the runtime.
-fn end(alloc: Global, shared: Shared, told: LaneEnd) -> Result<ThreadsEnd, NoMemory>
-    requires of { IsPassOf shared told.pass }
-    ensures answers { IfOk result (λ end. end.answers ≡ told.answers) }
-    ensures closed { IfOk result (λ end. IsClosedBy shared told.pass end.world end.seal) }
-    ensures losses { IfOk result (λ end. AreLosses end.losses told.answers) }
+fn end(alloc: Global, shared: Shared, told: Told) -> Result<ThreadsEnd, NoMemory>
+    requires of { IsPassOf shared told.end.pass }
+    requires text { IsWritten told }
+    ensures answers { IfOk result (λ end. end.answers ≡ told.end.answers) }
+    ensures closed { IfOk result (λ end. IsClosedBy shared told.end.pass end.world end.seal) }
+    ensures losses { IfOk result (λ end. AreLosses end.losses told.end.answers) }
+    ensures text { IfOk result (λ end. end.text ≡ text_of end.answers) }
 {
-    let LaneEnd { answers, pass } = told;
+    let Told { end, text } = told;
+    let LaneEnd { answers, pass } = end;
     let losses = losses_of(alloc, &answers)?;
     match shared.close(alloc, pass) {
         Ok((world, seal)) => Ok(ThreadsEnd {
@@ -134,6 +145,7 @@ fn end(alloc: Global, shared: Shared, told: LaneEnd) -> Result<ThreadsEnd, NoMem
             losses,
             world,
             seal,
+            text,
         }),
         Err(_refused) => Err(NoMemory),
     }

@@ -66,4 +66,5 @@ returns g c =
           (c.gather.ensures.work w tasks (all_made w tasks ends
           (sym c.in_ok-ends.ends.ok.0 ∙ c.in_ok-ends.ensures.len ∙ c.in_ok-tasks.tasks.ok.0)
           (λ i d t low. c.in_ok-ends.ensures.made w i d t (omega (arith, low, c.in_ok-tasks.tasks.ok.0))))));
+      text = c.gather.ensures.text;
     }

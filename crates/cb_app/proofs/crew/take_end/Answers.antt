@@ -21,4 +21,5 @@ returns c = record {
       let t = record_of c.join_pass.new.pass in
       IfOk-weaker c.append.result _ (λ x. work_in w t ≡ work_in w v + work_in w u)
       (λ x same. work_joined w v u t c.join_pass.ensures.joined) c.append.ensures;
+  answers = c.append.ensures;
 }

@@ -6,5 +6,5 @@ use Rattle.cb_app.proofs.threads.run_all.Goals as goal
 
 pub run_crew-requires-clause-names : goal.run_crew-requires-clause-names
 run_crew-requires-clause-names g c = λ κs within.
-    subst (λ (ns : List Named). AreNamesOf ns c.in_ok-told.told.answers) (sym c.in_ok-names.ensures)
-    (names_are c.in_ok-told.told.answers)
+    subst (λ (ns : List Named). AreNamesOf ns c.in_ok-end.end.answers) (sym c.in_ok-names.ensures)
+    (names_are c.in_ok-end.end.answers)

@@ -4,8 +4,9 @@ use Rattle.cb_app.proofs.threads.run_threads.Goals as goal
 pub returns : goal.returns
 returns g c = record {
   run = if_ran c.args.s.now c.requires.mode c.in_ok-shared.shared c.in_ok-shared.pass
-      c.in_ok-shared.ensures.begun c.in_ok-told.told c.requires.script.few
+      c.in_ok-shared.ensures.begun c.in_ok-told.told.end c.requires.script.few
       c.requires.script.lines
       c.in_ok-told.ensures.told c.in_ok-told.ensures.work c.end.result c.end.ensures.answers
       c.end.ensures.closed c.end.ensures.losses;
+  text = c.end.ensures.text;
 }
