@@ -125,8 +125,8 @@ pub record IsFresh (v : View) : Type 0 where
   pub turns : v.turns ≡ []
   pub own : v.own ≡ []
 
--- A lane that runs beside others is not lane 0; its lines among these have the form of a lane's, and
--- the names that it is given are known to its pass.
+-- A lane that runs beside others is not lane 0; its lines among these have the form of a lane's,
+-- and the names that it is given are known to its pass.
 abbrev pub BodyIsReady : ℕ → List Line → List Named → View → Body → Type 0
 BodyIsReady nodes lines names v (Lane lane) =
     AreLinesOf nodes lane.n (of_lane lane.n lines) × KnowsNames v names × (1 ≤ lane.n)

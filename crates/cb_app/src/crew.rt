@@ -310,9 +310,11 @@ fn run_lane<R: Wait, G: Gate>(
     requires names { KnowsNames (record_of pass) names.now }
     requires other { 1 ≤ lane.n }
     ensures body { result.body ≡ Body.Lane lane }
-    ensures ended { (given : List Answer) → AreNamesOf names.now given → AreKnownTo (record_of pass) given
+    ensures ended { (given : List Answer) → AreNamesOf names.now given
+        → AreKnownTo (record_of pass) given
         → IfOk result.left (λ told. IsTold shared.now given (of_lane lane.n lines.now) told.end) }
-    ensures made { (w : Worker') → IfOk result.left (λ told. 0 ≤ work_in w (record_of told.end.pass)) }
+    ensures made { (w : Worker')
+        → IfOk result.left (λ told. 0 ≤ work_in w (record_of told.end.pass)) }
     ensures text { HasText result }
 {
     warm(alloc, ROOM);
@@ -338,7 +340,8 @@ fn answer_lane<R: Wait, G: Gate>(
     requires lines { AreLinesOf shared.now.config.nodes lane.n (of_lane lane.n lines.now) }
     requires names { KnowsNames (record_of pass) names.now }
     requires other { 1 ≤ lane.n }
-    ensures told { (given : List Answer) → AreNamesOf names.now given → AreKnownTo (record_of pass) given
+    ensures told { (given : List Answer) → AreNamesOf names.now given
+        → AreKnownTo (record_of pass) given
         → IfOk result (λ told. IsTold shared.now given (of_lane lane.n lines.now) told.end) }
     ensures text { IfOk result IsWritten }
 {
