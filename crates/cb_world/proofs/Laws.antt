@@ -52,9 +52,9 @@ pub use Rattle.cb_world.proofs.SetWalk.{IsFirst, first_from}
 pub use Rattle.cb_world.proofs.SetsLeft.{drop_count, drop_fewer, drop_room, drop_there, left_count, left_given, left_others, left_over, left_room}
 pub use Rattle.cb_world.proofs.SlotFinding.{frame_is}
 pub use Rattle.cb_world.proofs.Slots.{IsEmptySlot, chosen_class, chosen_empty, chosen_stays}
-pub use Rattle.cb_world.proofs.Staying.{IsLike, KeepsHolding, KeepsNote, Rises, RisesBy, Stays, StaysBy, StaysIf, StaysIfBy, recounted, rises_more, rises_then, stays_like, stays_noted, stays_same}
+pub use Rattle.cb_world.proofs.Staying.{IsLike, KeepsFar, KeepsHolding, KeepsNote, KeepsPins, Rises, RisesBy, Stays, StaysBy, StaysIf, StaysIfBy, StepKeeps, far_same, keeps_pinned, keeps_same, pins_same, recounted, rises_more, rises_then, stays_like, stays_noted, stays_same}
 pub use Rattle.cb_world.proofs.Noting.{counted_holds, counted_strictly, crash_note, left_note, no_pair_configured, no_pair_sound, none_again, noted_holds, others_same}
-pub use Rattle.cb_world.proofs.StillPerforms.{PerformsStill, RunsStill, known_then, runs_still, stays_still}
+pub use Rattle.cb_world.proofs.StillPerforms.{IsStepKnown, PerformsStill, RunsStill, known_then, runs_still, stays_still}
 pub use Rattle.cb_world.proofs.StillWords.{FreeIs, busy_leaves, empty_exact, free_after, hot_exact, one_exact, settles_other, told_exact, word_back}
 pub use Rattle.cb_world.proofs.Storing.{InRange, KeysApart, drop_elsewhere, put_elsewhere, put_there}
 pub use Rattle.cb_world.proofs.Surveying.{left_whole, stands_still, survey_same, survey_stays, unsurveyed}

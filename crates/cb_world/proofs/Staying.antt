@@ -1,12 +1,16 @@
--- What a change of the far state leaves of the configured sizes and codes, and how far the numbers
--- that are counted rise by it.
-use Rattle.std.proofs.Common.{◌≡◌, ℕ, ◌+◌, ◌≤◌, Some, length, refl, sym, ap, ◌∙◌, subst, arith}
+-- What a change of the far state and of the words leaves, and how far the numbers that are counted
+-- rise by it.
+use Rattle.std.proofs.Common.{◌≡◌, ℕ, ◌+◌, ◌≤◌, List, Some, get_or, length, refl, sym, ap, ◌∙◌, subst, arith}
+use Rattle.cb_ptr.specs.Word.{pins_of}
 use Rattle.cb_types.specs.declared.config.Config.{Config}
 use Rattle.cb_world.specs.Counts.{CountsState}
 use Rattle.cb_world.specs.FarState.{FarState}
 use Rattle.cb_world.specs.Pairs.{HoldsNoPair}
-use Rattle.cb_world.specs.World.{IsConfigured}
+use Rattle.cb_world.specs.Plain.{Words}
+use Rattle.cb_world.specs.Seats.{SeatState}
+use Rattle.cb_world.specs.World.{ArePinned, IsConfigured, word_at}
 use Rattle.cb_world.proofs.Codes.{KeepCodes}
+use Rattle.cb_world.proofs.Pins.{pinned_still}
 
 -- what is noted of a search for a pair was noted before
 abbrev pub KeepsNote : FarState → FarState → Type 0
@@ -153,3 +157,65 @@ stays_noted M N c n far new note z = let r = z.rises in record {
     note = note;
   };
 }
+
+-- ---- what an operation keeps
+-- No object was made, no turn was counted, and no node changed its life: the first version, the
+-- members and the pair that is joining stay.
+pub record KeepsFar (far new : FarState) : Type 0 where
+  pub first : new.first ≡ far.first
+  pub made : new.made ≡ far.made
+  pub members : new.members ≡ far.members
+  pub joining : new.joining ≡ far.joining
+  pub turns : new.counts.turns ≡ far.counts.turns
+  pub by_job : new.counts.by_job ≡ far.counts.by_job
+
+-- There are as many words and the version words stay. Each object has as many pins, and with pins it
+-- has its word: words changed inside frames of objects with none.
+pub record KeepsPins (x y : Words) : Type 0 where
+  pub settings : y.settings ≡ x.settings
+  pub count : length y.words ≡ length x.words
+  pub versions : y.versions ≡ x.versions
+  pub pins : (h : ℕ) → pins_of (word_at y h) ≡ pins_of (word_at x h)
+  pub pinned : (h : ℕ) → 1 ≤ pins_of (word_at x h) → word_at y h ≡ word_at x h
+
+-- both
+pub record StepKeeps (x y : Words) (old new : FarState) : Type 0 where
+  pub far : KeepsFar old new
+  pub words : KeepsPins x y
+
+pub far_same : (far : FarState) → KeepsFar far far
+far_same far = record {
+  first = refl;
+  made = refl;
+  members = refl;
+  joining = refl;
+  turns = refl;
+  by_job = refl;
+}
+
+pub pins_same : (x : Words) → KeepsPins x x
+pins_same x = record {
+  settings = refl;
+  count = refl;
+  versions = refl;
+  pins = λ h. refl;
+  pinned = λ h some. refl;
+}
+
+-- nothing changed
+pub keeps_same : (x y : Words) (far new : FarState) → y ≡ x → new ≡ far → StepKeeps x y far new
+keeps_same x y far new words state = record {
+  far = subst (KeepsFar far) (sym state) (far_same far);
+  words = subst (KeepsPins x) (sym words) (pins_same x);
+}
+
+-- so the pins of the seats stay
+pub keeps_pinned : (x y : Words) (seats : List SeatState) → KeepsPins x y → ArePinned x seats
+    → ArePinned y seats
+keeps_pinned x y seats keeps pinned =
+    pinned_still x y seats pinned keeps.count
+    (λ h below some. (
+      keeps.pinned h some,
+      ap (λ (l : List ℕ). get_or l h 0) keeps.versions,
+    ))
+    (λ h below none. keeps.pins h ∙ none)

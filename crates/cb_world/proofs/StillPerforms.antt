@@ -1,7 +1,8 @@
 -- An operation at the still desk.
-use Rattle.std.proofs.Common.{◌≡◌, List}
+use Rattle.std.proofs.Common.{◌≡◌, ℕ, List}
 use Rattle.cb_world.specs.declared.event.Event.{Event}
 use Rattle.cb_world.specs.declared.shown.Shown.{Shown}
+use Rattle.cb_world.specs.Now.{now}
 use Rattle.cb_world.specs.Played.{played}
 use Rattle.cb_world.specs.Plain.{Words, Plain, Shows, IsSized}
 use Rattle.cb_world.specs.Looks.{LooksFirst, told_by}
@@ -46,6 +47,12 @@ pub known_then : (x y : Words) (far new : FarState) (rules : List Event → Type
     → (p : PerformsStill x y far new rules does) → IsKnown y new (played p.events s)
 known_then x y far new rules does s k p = known_after x y far new s p.events k p.ran.0 p.ran.1
     (p.sound_after s ((k.sized, k.shows), k.sound))
+
+-- All is known of the desk after a step, and the last complete contents of each handle stay.
+pub record IsStepKnown (y : Words) (far new : FarState) (s : Shown) : Type 0 where
+  pub shown : Shown
+  pub known : IsKnown y new shown
+  pub same_now : (h : ℕ) → now shown new h ≡ now s far h
 
 -- what changes nothing leaves every word
 pub stays_still : (x y : Words) (far : FarState) (s : Shown) (es : List Event)
