@@ -1,5 +1,5 @@
 -- Rows put at fresh keys: what stands where.
-use Rattle.std.proofs.Common.{◌≡◌, ◌⊎◌, ℕ, zero, suc, List, [], ◌∷◌, ◌++◌, length, Some, sym, refl, ap, ◌∙◌, arith, inl, inr, length-set}
+use Rattle.std.proofs.Common.{◌≡◌, ◌⊎◌, ℕ, zero, suc, List, [], ◌∷◌, length, Some, sym, refl, ap, ◌∙◌, arith, inl, inr, length-set}
 use Rattle.std.specs.List.{slice_get}
 use Rattle.std.proofs.lemmas.Bool.{cases_eq}
 use Rattle.cb_member.specs.declared.names.NodeId.{NodeId}
@@ -68,14 +68,3 @@ put_only nodes shards rows node key row range at = elim (named_or_not shards nod
   | inl (p, shard, is) ↦ inr (p, shard, is.0, is.1, is.2)
   | inr none ↦ inl (sym (put_past nodes shards rows node key range none) ∙ at)
 ]
-
--- the loop's step: one row more
-pub put_more : (nodes : NodesState) (shards : List Shard) (rows : List (List ℕ)) (shard : Shard)
-    (row : List ℕ) → length shards ≡ length rows
-    → all_put nodes (shards ++ shard ∷ []) (rows ++ row ∷ []) ≡ with_row (all_put nodes shards rows)
-    shard.node shard.key row
-put_more nodes [] [] shard row same = refl
-put_more nodes [] (y ∷ rows) shard row same = absurd (omega (arith, same))
-put_more nodes (x ∷ xs) [] shard row same = absurd (omega (arith, same))
-put_more nodes (x ∷ xs) (y ∷ rows) shard row same =
-    put_more (with_row nodes x.node x.key y) xs rows shard row (omega (arith, same))

@@ -8,7 +8,7 @@ use Rattle.cb_member.specs.declared.names.NodeId.{NodeId}
 use Rattle.cb_member.specs.declared.names.Shard.{Shard}
 use Rattle.cb_member.specs.Membership.{Membership}
 use Rattle.cb_node.specs.NodesState.{NodesState, held}
-use Rattle.cb_world.specs.Choices.{has_room, numbered, room_count, stands_on, HoldsFewer, MayPut, IsBefore, IsLeastNode}
+use Rattle.cb_world.specs.Choices.{has_room, numbered, room_count, stands_on, HoldsFewer, MayPut, IsBefore}
 
 -- one number more
 pub range_more : (a n : ℕ) → range_with_len a (n + 1) ≡ range_with_len a n ++ (a + n) ∷ []
@@ -208,12 +208,6 @@ room_left nodes m shards none =
         → stands_on shards (numbered n) ≡ t → stands_on shards (numbered n) ≡ true
     taken n l room true e = e
     taken n l room false e = absurd (none (numbered n) (record { within = l; room = room; spare = e }))
-
--- the best of all nodes is the least
-pub best_is_least : (nodes : NodesState) (m : Membership) (shards : List Shard) (node : NodeId)
-    → IsBest nodes m shards (length nodes.nodes) (Some node) → IsLeastNode nodes m shards node
-best_is_least nodes m shards node a =
-    record { may = a.1; least = λ other may. a.2 other may.within may }
 
 pub none_is_left : (nodes : NodesState) (m : Membership) (shards : List Shard)
     → IsBest nodes m shards (length nodes.nodes) None

@@ -1,8 +1,8 @@
 -- How the surviving positions are found, and their rows given out.
-use Rattle.std.proofs.Common.{◌≡◌, ◌≢◌, ℕ, suc, ◌+◌, ◌<◌, ◌≤◌, Bool, true, false, cond, List, [], ◌∷◌, ◌++◌, length, take, get_or, set, Some, sym, refl, ap, ◌∙◌, subst, arith, inl, inr, length-set, get_or-set_same, get_or-set_other}
+use Rattle.std.proofs.Common.{◌≡◌, ◌≢◌, ℕ, suc, ◌+◌, ◌<◌, ◌≤◌, List, [], ◌∷◌, length, take, get_or, set, Some, sym, refl, ap, ◌∙◌, subst, arith, inl, inr, get_or-set_same, get_or-set_other}
 use Rattle.std.specs.List.{slice_get}
 use Rattle.std.proofs.lemmas.Bool.{cases_eq}
-use Rattle.std.proofs.lemmas.List.{append-nil, take-take, take_more, length-take-le, take_more_set}
+use Rattle.std.proofs.lemmas.List.{take-take}
 use Rattle.cb_gf256.specs.Rows.{row_at, HaveLength}
 use Rattle.cb_gf256.specs.Block.{with_row}
 use Rattle.cb_gf256.proofs.PublicLaws.{written_count, written_row, written_lengths}
@@ -10,93 +10,16 @@ use Rattle.cb_member.specs.declared.names.Shard.{Shard}
 use Rattle.cb_member.specs.Membership.{Membership}
 use Rattle.cb_node.specs.NodesState.{NodesState, row_at as row_under}
 use Rattle.cb_set.specs.SetState.{SetState}
-use Rattle.cb_set.specs.Lost.{is_lost, lost}
+use Rattle.cb_set.specs.Lost.{lost}
 use Rattle.cb_gf256.specs.Rows.{rows_at}
 use Rattle.cb_erase.specs.Weights.{IsSolution}
 use Rattle.cb_world.specs.SetWord.{IsShaped, IsWordOf}
-use Rattle.cb_set.specs.Surviving.{surviving_from, surviving}
+use Rattle.cb_set.specs.Surviving.{surviving}
 use Rattle.cb_set.specs.SetState.{parities}
-use Rattle.cb_world.proofs.Surviving.{count_surviving, counted, taken_survives}
+use Rattle.cb_set.proofs.Laws.{lost_and_surviving}
+use Rattle.cb_world.proofs.Surviving.{counted, taken_survives}
 use Rattle.std.proofs.lemmas.Option.{slice_get_within}
 use Rattle.cb_world.specs.Fetched.{StandAt, StandsAt}
-
-surviving_append : (m : Membership) (p : ℕ) (xs : List Shard) (x : Shard)
-    → surviving_from m p (xs ++ (x ∷ [])) ≡ surviving_from m p xs ++ cond (is_lost m x) []
-    ((p + length xs) ∷ [])
-surviving_append m p [] x = ap (λ (q : ℕ). cond (is_lost m x) [] (q ∷ [])) (omega arith)
-surviving_append m p (y ∷ ys) x =
-    let e : (p + 1) + length ys ≡ p + length (y ∷ ys) = omega arith in
-    ap (λ (l : List ℕ). cond (is_lost m y) l (p ∷ l)) (surviving_append m (p + 1) ys x
-    ∙ ap (λ (q : ℕ). surviving_from m (p + 1) ys ++ cond (is_lost m x) [] (q ∷ [])) e)
-    ∙ split (is_lost m y) (surviving_from m (p + 1) ys)
-    (cond (is_lost m x) [] ((p + length (y ∷ ys)) ∷ []))
-  where
-    split : (b : Bool) (l r : List ℕ) → cond b (l ++ r) (p ∷ (l ++ r)) ≡ cond b l (p ∷ l) ++ r
-    split true l r = refl
-    split false l r = refl
-
-pub surviving_more : (m : Membership) (shards : List Shard) (i : ℕ) (d : Shard) → i < length shards
-    → surviving m (take (i + 1) shards) ≡ surviving m (take i shards) ++ cond
-    (is_lost m (get_or shards i d)) [] (i ∷ [])
-surviving_more m shards i d within =
-    ap (surviving m) (take_more shards i d within)
-    ∙ surviving_append m 0 (take i shards) (get_or shards i d)
-    ∙ ap (λ (q : ℕ).
-    surviving m (take i shards) ++ cond (is_lost m (get_or shards i d)) [] (q ∷ [])) (let n =
-    length-take-le i shards (omega (arith, within)) in omega (arith, n))
-
--- the surviving ones among the first i positions stand in the first places
-pub record Found (m : Membership) (shards : List Shard) (i : ℕ) (present : List ℕ) (count : ℕ) :
-    Type 0 where
-  pub size : length present ≡ 20
-  pub behind : count ≤ i
-  pub counted : count ≡ length (surviving m (take i shards))
-  pub listed : take count present ≡ surviving m (take i shards)
-
-pub found_none : (m : Membership) (shards : List Shard) (present : List ℕ) → length present ≡ 20
-    → Found m shards 0 present 0
-found_none m shards present size =
-    record { size = size; behind = omega arith; counted = refl; listed = refl }
-
-pub found_lost : (m : Membership) (shards : List Shard) (i : ℕ) (present : List ℕ) (count : ℕ)
-    (d : Shard) → Found m shards i present count → i < length shards
-    → is_lost m (get_or shards i d) ≡ true → Found m shards (i + 1) present count
-found_lost m shards i present count d f within lost =
-    let e : surviving m (take (i + 1) shards) ≡ surviving m (take i shards) =
-    surviving_more m shards i d within
-    ∙ ap (λ (b : Bool). surviving m (take i shards) ++ cond b [] (i ∷ [])) lost
-    ∙ append-nil (surviving m (take i shards)) in
-    record {
-      size = f.size;
-      behind = omega (arith, f.behind);
-      counted = f.counted
-          ∙ ap length (sym e);
-      listed = f.listed ∙ sym e;
-    }
-
-pub found_more : (m : Membership) (shards : List Shard) (i : ℕ) (present : List ℕ) (count : ℕ)
-    (d : Shard) → Found m shards i present count → i < length shards → length shards ≤ 20
-    → is_lost m (get_or shards i d) ≡ false
-    → Found m shards (i + 1) (set present count i) (count + 1)
-found_more m shards i present count d f within few kept =
-    let e : surviving m (take (i + 1) shards) ≡ surviving m (take i shards) ++ i ∷ [] =
-    surviving_more m shards i d within
-    ∙ ap (λ (b : Bool). surviving m (take i shards) ++ cond b [] (i ∷ [])) kept in
-    let room : count < length present = omega (arith, f.size, f.behind, within, few) in
-    let l : take (count + 1) (set present count i) ≡ surviving m (take (i + 1) shards) =
-    take_more_set present count i room ∙ ap (λ (l : List ℕ). l ++ i ∷ []) f.listed ∙ sym e in
-    let n = length-take-le (count + 1) (set present count i) (omega (
-      arith,
-      room,
-      length-set present count i,
-    )) in
-    record {
-      size = length-set present count i ∙ f.size;
-      behind = omega (arith, f.behind);
-      counted =
-          sym n ∙ ap length l;
-      listed = l;
-    }
 
 -- the rows of the first i positions are those of the word
 pub record Given (old now : NodesState) (shards : List Shard) (positions : List ℕ)
@@ -161,7 +84,7 @@ pub first_survivors : (m : Membership) (set : SetState) (present : List ℕ) →
     → take (length set.positions) present ≡ take (length set.positions) (surviving m set.shards)
 first_survivors m set present shaped few listed =
     let enough : length set.positions ≤ length (surviving m set.shards) =
-    omega (arith, count_surviving m 0 set.shards, counted m set shaped, few) in
+    omega (arith, lost_and_surviving m set.shards, counted m set shaped, few) in
     sym (take-take (length set.positions) (length (surviving m set.shards)) present enough)
     ∙ ap (take (length set.positions)) listed
 

@@ -116,19 +116,6 @@ noted_stays old new groups list changed more id same x is noted keeps =
     later j set (inr there) = inr (keeps j there)
 
 -- ---- a look at those that have changed
-pub more_groups : (sets : SetMap) (groups new : List Group) (changed : List ℕ)
-    → AreGrouped sets groups changed → NoGroupsMatch new
-    → ((g : Group) → IsAmong g groups → IsAmong g new) → AreGrouped sets new changed
-more_groups sets groups new changed x none keeps = record {
-  apart = none;
-  cover = λ id set at. by id set (x.cover id set at);
-}
-  where
-    by : (id : ℕ) (set : SetState) → IsAmong (group_of set) groups ⊎ IsAmong id changed
-        → IsAmong (group_of set) new ⊎ IsAmong id changed
-    by id set (inl there) = inl (keeps (group_of set) there)
-    by id set (inr there) = inr there
-
 pub all_grouped : (sets : SetMap) (groups new : List Group) (changed : List ℕ)
     → AreGrouped sets groups changed → NoGroupsMatch new
     → ((g : Group) → IsAmong g groups → IsAmong g new)

@@ -10,7 +10,7 @@ use Rattle.cb_member.specs.Membership.{Membership}
 use Rattle.cb_node.specs.NodesState.{row_at as row_under}
 use Rattle.cb_set.specs.SetState.{SetState, PositionState, IsRestOf, position_of, live_at, slot_at, with_position}
 use Rattle.cb_set.specs.Lost.{is_lost, lost}
-use Rattle.cb_world.proofs.Surviving.{count_surviving}
+use Rattle.cb_set.proofs.Laws.{lost_and_surviving}
 use Rattle.cb_set.specs.Surviving.{surviving_from}
 use Rattle.cb_world.specs.declared.shown.Shown.{Shown}
 use Rattle.cb_world.specs.Shown.{object_at}
@@ -49,7 +49,7 @@ pub whole_not_broken : (m : Membership) (set : SetState) → NoneLost m set.shar
     → is_broken m set ≡ false
 whole_not_broken m set none =
     let n : length (lost m set.shards) ≡ 0 =
-    omega (arith, count_surviving m 0 set.shards, all_survive m 0 set.shards none) in
+    omega (arith, lost_and_surviving m set.shards, all_survive m 0 set.shards none) in
     ap (nat_lt (parities set)) n ∙ below_none (parities set)
   where
     below_none : (k : ℕ) → nat_lt k 0 ≡ false

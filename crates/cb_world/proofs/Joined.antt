@@ -22,19 +22,6 @@ use Rattle.cb_world.specs.JoinSteps.{LeavesSets}
 use Rattle.cb_world.proofs.Words.{crash_survivor}
 use Rattle.cb_world.specs.NodeChanges.{crashed_far}
 
--- a shard of a fresh pair's sets is one of the far state
-a_owner : (far : FarState) (pair : JoiningState) (a b : SetState) → IsFresh far pair a b
-    → (p : ℕ) (shard : Shard) → slice_get pair.shards_a p ≡ Some shard
-    → IsShardOf far (of_set pair.a p) shard
-a_owner far pair a b f p shard at =
-    (a, f.a_there, ap (λ (l : List Shard). slice_get l p) f.a_shards ∙ at)
-
-b_owner : (far : FarState) (pair : JoiningState) (a b : SetState) → IsFresh far pair a b
-    → (p : ℕ) (shard : Shard) → slice_get pair.shards_b p ≡ Some shard
-    → IsShardOf far (of_set pair.b p) shard
-b_owner far pair a b f p shard at =
-    (b, f.b_there, ap (λ (l : List Shard). slice_get l p) f.b_shards ∙ at)
-
 -- ---- a change of anything else: where the pair is fresh after it, it was fresh before, and the
 -- rows that it names stayed
 pub record KeepsPair (far new : FarState) (pair : JoiningState) : Type 0 where

@@ -39,7 +39,7 @@ pub use Rattle.cb_world.proofs.OpenKept.{leaving_claimed, open_here, open_kept, 
 pub use Rattle.cb_world.proofs.Packed.{contents_packed, packed_write}
 pub use Rattle.cb_world.proofs.Patching.{join_is_merged, parity_step, patched_more}
 pub use Rattle.cb_world.proofs.PinNow.{pinned_now, unpinned_now}
-pub use Rattle.cb_world.proofs.Pins.{pin_counts, pin_sound, pinned_still, unpin_sound}
+pub use Rattle.cb_world.proofs.Pins.{known_word, pin_counts, pin_sound, pinned_still, unpin_sound}
 pub use Rattle.cb_world.proofs.PlaceSet.{place_back, place_here, place_on}
 pub use Rattle.cb_world.proofs.Placed.{IsCounted, made_counted, may_lie, next_counted, slot_bounds, sound_brought, with_made}
 pub use Rattle.cb_world.proofs.Reserving.{noted_by, reserved_is_other, reserved_uncommitted}
@@ -52,7 +52,7 @@ pub use Rattle.cb_world.proofs.SetWalk.{IsFirst, first_from}
 pub use Rattle.cb_world.proofs.SetsLeft.{drop_count, drop_fewer, drop_room, drop_there, left_count, left_given, left_others, left_over, left_room}
 pub use Rattle.cb_world.proofs.SlotFinding.{frame_is}
 pub use Rattle.cb_world.proofs.Slots.{IsEmptySlot, chosen_class, chosen_empty, chosen_stays}
-pub use Rattle.cb_world.proofs.Staying.{IsLike, KeepsFar, KeepsHolding, KeepsNote, KeepsPins, Rises, RisesBy, Stays, StaysBy, StaysIf, StaysIfBy, StepKeeps, far_same, keeps_pinned, keeps_same, pins_same, recounted, rises_more, rises_then, stays_like, stays_noted, stays_same}
+pub use Rattle.cb_world.proofs.Staying.{IsLike, KeepsFar, KeepsHolding, KeepsNote, KeepsPins, Rises, RisesBy, Stays, StaysBy, StaysIf, StaysIfBy, StepKeeps, far_same, keeps_pinned, keeps_same, pins_same, recounted, rises_more, rises_then, stays_given, stays_like, stays_noted, stays_same}
 pub use Rattle.cb_world.proofs.Noting.{counted_holds, counted_strictly, crash_note, left_note, no_pair_configured, no_pair_sound, none_again, noted_holds, others_same}
 pub use Rattle.cb_world.proofs.StillPerforms.{IsStepKnown, PerformsStill, RunsStill, known_then, runs_still, stays_still}
 pub use Rattle.cb_world.proofs.StillWords.{FreeIs, busy_leaves, empty_exact, free_after, hot_exact, one_exact, settles_other, told_exact, word_back}

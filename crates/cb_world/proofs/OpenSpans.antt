@@ -1,5 +1,5 @@
 -- The index of open spans stays exact as the span in one frame changes.
-use Rattle.std.proofs.Common.{◌≡◌, ◌≢◌, ℕ, ◌+◌, ◌<◌, ◌≤◌, Bool, true, false, List, [], Option, None, Some, length, set, get_or, replicate, refl, sym, ap, ◌∙◌, subst, arith, inl, inr, length-set, get_or-set_other, get_or-set_same}
+use Rattle.std.proofs.Common.{◌≡◌, ◌≢◌, ℕ, ◌+◌, ◌<◌, Bool, true, false, List, [], Option, None, Some, length, set, get_or, replicate, refl, sym, ap, ◌∙◌, subst, arith, inl, inr, length-set, get_or-set_other, get_or-set_same}
 use Rattle.std.proofs.lemmas.Bool.{cases_eq, cases_lt, cases_Bool, eqb-true, eq-eqb}
 use Rattle.std.proofs.lemmas.List.{get_or_default, get_or-replicate, get_or_past, length-replicate}
 use Rattle.std.specs.List.{Contains}
@@ -264,14 +264,3 @@ looks_no_more spans sets class temp except kind start index low is before e g ma
       | inr from ↦ open_out spans sets class temp kind g index low is
           (least_from-None (frames_of sets kind) start e g from) may.0
     ]
-
--- no frame past the last can be taken
-pub past_all : (spans : List (Option Contents)) (class : Class) (temp : Temp) (except : List ℕ)
-    (start : ℕ) → ((g : ℕ) → g < start → ¬ (MayTake spans class temp except g))
-    → length spans ≤ start → (g : ℕ) → ¬ (MayTake spans class temp except g)
-past_all spans class temp except start before past g may = elim (cases_lt g start) [
-  | inl less ↦ before g less may
-  | inr from ↦
-      let none : span_in spans g ≡ None = get_or_past spans g None (omega (arith, past, from)) in
-      absurd (let z : None ≡ Some (kind_of class temp) = sym (ap open_kind none) ∙ may.0 in cc)
-]

@@ -26,11 +26,11 @@ use Rattle.cb_world.specs.Seats.{IsNewest, SeatState, idle_seat, seat_at, pins_o
 use Rattle.cb_world.specs.World.{IsKnown, ArePinned, word_at}
 use Rattle.cb_world.proofs.AfterLook.{look_sound}
 
--- the pointer word of an object that is here is changed in its pins and its hot bit alone
-word_known : (desk : Words) (far : FarState) (s : Shown) (h w : ℕ) → IsKnown desk far s
-    → h < length desk.words → Fits (object_at s h) w → state_of w ≡ word.Here
+-- the pointer word of an object is changed to another that it may have
+pub known_word : (desk : Words) (far : FarState) (s : Shown) (h w : ℕ) → IsKnown desk far s
+    → h < length desk.words → Fits (object_at s h) w
     → IsKnown (with_word desk h w) far (after (Looked h w) s)
-word_known desk far s h w k within fit here = record {
+known_word desk far s h w k within fit = record {
   sized = record {
     words = length-set desk.words h w ∙ k.sized.words;
     versions = k.sized.versions;
@@ -183,9 +183,9 @@ pub pin_sound : (desk : Words) (far : FarState) (seats : List SeatState) (s : Sh
     × ArePinned (with_word desk h w)
     (with_pins seats seat (pins_of_seat seats seat ++ record { handle = h; version = v } ∷ []))
 pin_sound desk far seats s seat h v w known p within below here room few told takes = (
-  word_known desk far s h w known below
+  known_word desk far s h w known below
       (other_fits (object_at s h) (word_at desk h) w (known.shows.fit h below) here wide takes.len
-      takes.place (takes.state ∙ here)) (takes.state ∙ here),
+      takes.place (takes.state ∙ here)),
   pinned_word desk seats seat h w (pins ++ pin ∷ []) p (omega (arith, within, p.count)) below
       (takes.state ∙ here) (λ some. takes.hot) (let n = length_push pins pin in omega (arith, n, few))
       (λ k lt. counts k lt (ℕ_discrete k h))
@@ -239,11 +239,11 @@ pub unpin_sound : (desk : Words) (far : FarState) (seats : List SeatState) (s : 
     → IsKnown (with_word desk h w) far (after (Looked h w) s)
     × ArePinned (with_word desk h w) (with_pins seats seat (remove (pins_of_seat seats seat) at))
 unpin_sound desk far seats s seat at h w pin known p within there on below here gives = (
-  word_known desk far s h w known below
+  known_word desk far s h w known below
       (other_fits (object_at s h) (word_at desk h) w (known.shows.fit h below) here (let old =
       below_here (object_at s h) (word_at desk h) (known.shows.fit h below) here in
       let number = gives.number in omega (arith, old, number)) gives.len
-      gives.place (gives.state ∙ here)) (gives.state ∙ here),
+      gives.place (gives.state ∙ here)),
   pinned_word desk seats seat h w (remove pins at) p inside below (gives.state ∙ here) hot
       (let n = length-remove pins at lt in let few = few in omega (arith, n, few))
       (λ k below. counts k (ℕ_discrete k h))

@@ -4,8 +4,7 @@ use Rattle.std.specs.Int.{to_le_bytes, from_le_bytes, w64}
 use Rattle.std.proofs.lemmas.Nat.{from_le_bytes-to_le_bytes_8}
 use Rattle.std.proofs.lemmas.List.{take_at, drop_at}
 use Rattle.cb_world.specs.Memory.{window, put}
-use Rattle.cb_world.proofs.Windows.{put_at, window_at}
-use Rattle.cb_world.specs.StillDesk.{window_length}
+use Rattle.cb_world.proofs.Windows.{put_at}
 use Rattle.cb_world.specs.RowWords.{words_from, words_in, row_of}
 
 pub length_words : (n : ℕ) (row : List ℕ) → length (words_from n row) ≡ n
@@ -60,19 +59,3 @@ row_put ms row base at n room within =
       w,
       room,
     )))
-
--- for an eviction: the row made of a frame has in each slot the words that stand there
-pub row_made : (ms : List ℕ) (base at n : ℕ) → ((i : ℕ) → get_or ms i 0 < 2 ^ 64) → at + n ≤ 512
-    → window (words_in (row_of (window ms base 512))) at n ≡ window ms (base + at) n
-row_made ms base at n small within =
-    let count : length (window ms base 512) ≡ 512 = window_length ms base 512 in
-    let e : words_in (row_of (window ms base 512)) ≡ window ms base 512 =
-    ap (λ (k : ℕ). words_from k (row_of (window ms base 512))) (sym count)
-    ∙ words_of_row (window ms base 512) (λ i l. let s =
-    window_at ms base 512 i (omega (arith, l, count)) in let t =
-    small (base + i) in omega (arith, s, t)) in
-    windows_agree (words_in (row_of (window ms base 512))) ms at (base + at) n (λ i l.
-    let a : base + (at + i) ≡ (base + at) + i = omega arith in
-    ap (λ (l : List ℕ). get_or l (at + i) 0) e
-    ∙ window_at ms base 512 (at + i) (omega (arith, l, within))
-    ∙ ap (λ (k : ℕ). get_or ms k 0) a)

@@ -3,6 +3,7 @@
 use Rattle.std.proofs.Common.{◌≡◌, ℕ, ◌+◌, ◌≤◌, List, Some, get_or, length, refl, sym, ap, ◌∙◌, subst, arith}
 use Rattle.cb_ptr.specs.Word.{pins_of}
 use Rattle.cb_types.specs.declared.config.Config.{Config}
+use Rattle.cb_world.specs.declared.survey.Survey.{Survey}
 use Rattle.cb_world.specs.Counts.{CountsState}
 use Rattle.cb_world.specs.FarState.{FarState}
 use Rattle.cb_world.specs.Pairs.{HoldsNoPair}
@@ -140,6 +141,29 @@ recounted c far counts is = record {
   nodes = is.nodes;
   room = is.room;
   codes = record { sets = is.codes.sets; batch = is.codes.batch };
+}
+
+-- rows were given out, and what is noted of the sets is other
+pub stays_given : (c : Config) (n given : ℕ) (far : FarState) (survey : Survey)
+    → given ≤ far.nodes.given + n → KeepsNote far (record far { survey = survey })
+    → StaysIf c n far (record far { nodes = record far.nodes { given = given }; survey = survey })
+stays_given c n given far survey most note is = record {
+  configured = record {
+    frames = is.frames;
+    homes = is.homes;
+    nodes = is.nodes;
+    room = is.room;
+    codes = record { sets = is.codes.sets; batch = is.codes.batch };
+  };
+  rises = record {
+    turns = refl;
+    by_job = refl;
+    sets = omega arith;
+    keys = omega arith;
+    epoch = omega arith;
+    given = most;
+    note = note;
+  };
 }
 
 -- another way of what is known of the note

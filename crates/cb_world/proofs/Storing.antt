@@ -1,5 +1,5 @@
 -- What many rows put at nodes, dropped from them, or lost with a node leave of the other rows.
-use Rattle.std.proofs.Common.{◌≡◌, ◌≢◌, ℕ, zero, suc, ◌<◌, true, false, cond, List, [], ◌∷◌, length, get_or, Some, None, sym, refl, ap, ◌∙◌, subst, arith, inl, inr, length-set}
+use Rattle.std.proofs.Common.{◌≡◌, ◌≢◌, ℕ, zero, suc, ◌<◌, false, cond, List, [], ◌∷◌, length, get_or, Some, None, sym, refl, ap, ◌∙◌, subst, arith, inl, inr, length-set}
 use Rattle.std.specs.List.{slice_get}
 use Rattle.std.specs.Cmp.{nat_cmp_total}
 use Rattle.std.specs.FinMap as map
@@ -63,17 +63,6 @@ put_there nodes (x ∷ xs) (row ∷ rows) (suc p) shard range apart same at =
 
 eq_by_cmp-other : (q k : ℕ) → q ≢ k → eq_by_cmp nat_cmp q k ≡ false
 eq_by_cmp-other q k other = grind (arith, nat_tests)
-
-eq_by_cmp-same : (k : ℕ) → eq_by_cmp nat_cmp k k ≡ true
-eq_by_cmp-same k = grind (arith, nat_tests)
-
--- the row that is dropped is gone
-pub dropped_row_is_gone : (state : NodesState) (node : NodeId) (key : ℕ)
-    → node.n < length state.nodes → row_under (with_dropped state node key) node key ≡ None
-dropped_row_is_gone state node key within =
-    ap (λ rows. map.get rows key) (change_is_at_its_node state node _ within)
-    ∙ map.get-remove nat_cmp_total (rows_at state node) key key
-    ∙ ap (λ b. cond b None (map.get (rows_at state node) key)) (eq_by_cmp-same key)
 
 -- and no other
 pub drop_keeps_other_rows : (state : NodesState) (node other : NodeId) (key k : ℕ)

@@ -15,10 +15,7 @@ use Rattle.cb_node.proofs.Laws.{change_keeps_other_nodes as rows_elsewhere}
 use Rattle.cb_set.specs.SetState.{SetState}
 use Rattle.cb_set.specs.Lost.{is_lost, loss_of, lost}
 use Rattle.cb_set.proofs.Laws.{crash_loses_its_incarnation, crash_keeps_other_incarnations, crash_keeps_other_nodes}
-use Rattle.cb_world.specs.SetWord.{IsSpanWord, IsWordOf, AreCurrent}
-use Rattle.cb_set.specs.SetState.{parities}
-use Rattle.cb_world.specs.Stored.{all_put, all_dropped, NoKey}
-use Rattle.cb_world.proofs.Storing.{InRange, KeysApart, put_there, put_elsewhere, drop_elsewhere}
+use Rattle.cb_world.specs.SetWord.{IsWordOf, AreCurrent}
 
 -- the word of a set stays where the rows of the shards that survive stay
 pub word_kept : (nodes new : NodesState) (m n : Membership) (set : SetState) (rows : List (List ℕ))
@@ -30,34 +27,6 @@ word_kept nodes new m n set rows same word = record {
   code = word.code;
   survive = λ p shard at kept. let x = same p shard at kept in x.1 ∙ word.survive p shard at x.0;
 }
-
--- a fresh set: the rows that were put at its shards are its word
-pub fresh_word : (nodes : NodesState) (m : Membership) (set : SetState) (rows : List (List ℕ))
-    → IsSpanWord (length set.positions) (parities set) rows
-    → InRange nodes set.shards → KeysApart set.shards → length rows ≡ length set.shards
-    → IsWordOf (all_put nodes set.shards rows) m set rows
-fresh_word nodes m set rows code range apart same = record {
-  code = code;
-  survive = λ p shard at kept. put_there nodes set.shards rows p shard range apart same at;
-}
-
--- rows put under keys that a set does not name leave its word
-pub put_keeps_word : (nodes : NodesState) (m : Membership) (set : SetState) (rows : List (List ℕ))
-    (shards : List Shard) (put : List (List ℕ)) → InRange nodes shards
-    → ((p : ℕ) (shard : Shard) → slice_get set.shards p ≡ Some shard → NoKey shards shard.key)
-    → IsWordOf nodes m set rows → IsWordOf (all_put nodes shards put) m set rows
-put_keeps_word nodes m set rows shards put range other word =
-    word_kept nodes (all_put nodes shards put) m m set rows (λ p shard at kept.
-    (kept, put_elsewhere nodes shards put shard.node shard.key range (other p shard at))) word
-
--- and so do rows that are dropped
-pub drop_keeps_word : (nodes : NodesState) (m : Membership) (set : SetState) (rows : List (List ℕ))
-    (shards : List Shard) → InRange nodes shards
-    → ((p : ℕ) (shard : Shard) → slice_get set.shards p ≡ Some shard → NoKey shards shard.key)
-    → IsWordOf nodes m set rows → IsWordOf (all_dropped nodes shards) m set rows
-drop_keeps_word nodes m set rows shards range other word =
-    word_kept nodes (all_dropped nodes shards) m m set rows (λ p shard at kept.
-    (kept, drop_elsewhere nodes shards shard.node shard.key range (other p shard at))) word
 
 -- ---- a crash
 some_mapped : (f : Epoch → Loss) (o : Option Epoch) → is_some (option_map f o) ≡ is_some o
