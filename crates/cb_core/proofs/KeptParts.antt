@@ -3,6 +3,7 @@ use Rattle.std.proofs.Common.{◌≡◌, ℕ, ◌+◌, ◌^◌, ◌<◌, ◌≤�
 use Rattle.std.specs.List.{sum_by}
 use Rattle.std.proofs.lemmas.List.Sums.{sum_by-set}
 use Rattle.cb_types.specs.declared.config.Config.{Config}
+use Rattle.cb_world.specs.declared.event.Event.{Event}
 use Rattle.cb_world.specs.declared.shown.Shown.{Shown}
 use Rattle.cb_world.specs.Counts.{with_turn}
 use Rattle.cb_world.specs.FarState.{FarState}
@@ -12,7 +13,9 @@ use Rattle.cb_world.specs.OpenWrites.{AreOpen}
 use Rattle.cb_world.specs.World.{IsKnown, ArePinned, AreCounted, IsConfigured}
 use Rattle.cb_world.specs.Pairs.{HoldsNoPair}
 pub use Rattle.cb_world.proofs.Laws.{KeepsNote, Rises, RisesBy, rises_more, rises_then, StaysIf}
+use Rattle.cb_world.proofs.Laws.{IsStepKnown, KeepsPins, PerformsStill, keeps_pinned, open_kept}
 use Rattle.cb_core.specs.Parts.{Holding}
+use Rattle.cb_core.specs.Step.{HoldOn}
 use Rattle.cb_core.proofs.Carried.{KeepsAlong}
 
 -- all is known of a holding with this configuration, and its pins are those of these seats
@@ -112,6 +115,25 @@ arrives_stays c seats n a b t Z good stays known settings pinned ongoing z =
       };
       rises = x.rises;
     }
+
+-- a part that keeps the pins
+pub arrives_kept : (c : Config) (seats : List SeatState) (n : ℕ) (a b : Holding Words) (t : Shown)
+    (Z : Type 0) → IsGood c seats a → StaysIf c n a.far b.far → IsKnown b.desk b.far t
+    → KeepsPins a.desk b.desk → AreOpen b.desk b.far seats → Z → Arrives c seats n a b Z
+arrives_kept c seats n a b t Z good stays known keeps =
+    arrives_stays c seats n a b t Z good stays known keeps.settings
+    (keeps_pinned a.desk b.desk seats keeps good.pinned)
+
+-- who knows all before knows all after, and open writes stay
+pub holds_on : {rules : List Event → Type 0} {does : List Event → Shown → Shown → Type 0}
+    (a b : Holding Words) → PerformsStill a.desk b.desk a.far b.far rules does
+    → ((s : Shown) → IsKnown a.desk a.far s → IsStepKnown b.desk a.far b.far s) → HoldOn a b
+holds_on {rules} {does} a b p after s k = let z = after s k in (
+  z.shown,
+  z.known,
+  z.same_now,
+  λ others ongoing. open_kept a.desk b.desk a.far b.far rules does s others k p ongoing,
+)
 
 -- what was counted, after a turn in which the numbers rose by little
 pub counted_rises : {N : FarState → FarState → Type 0} (far mid new : FarState) (kind : ℕ)

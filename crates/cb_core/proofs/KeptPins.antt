@@ -4,13 +4,10 @@ use native.Mathlib.Decide.{ℕ_discrete}
 use Rattle.std.proofs.lemmas.Bool.{cases_Bool, cases_eq, cases_lt, eqb-true}
 use Rattle.std.proofs.lemmas.List.{get_or_past, set-get_or}
 use Rattle.cb_ptr.specs.declared.word.PtrWord.{PtrWord}
-use Rattle.cb_ptr.specs.declared.word.State.{State}
 use Rattle.cb_ptr.specs.declared.word.State.TheVariants as state
-use Rattle.cb_ptr.specs.Word.{state_of, pins_of, len_of, word_of}
+use Rattle.cb_ptr.specs.Word.{pins_of}
 use Rattle.cb_world.specs.Plain.{Words}
 use Rattle.cb_world.specs.Seats.{SeatState}
-use Rattle.cb_filter.specs.FilterStep.{cool_word}
-use Rattle.cb_world.specs.Grasped.{IsFree}
 use Rattle.cb_world.specs.Pinned.{with_word}
 use Rattle.cb_world.specs.StillWords.{stamp_at, with_hot}
 use Rattle.cb_world.specs.World.{ArePinned, word_at}
@@ -115,23 +112,3 @@ pub new_pinned : (x : Words) (seats : List SeatState) (h n len place : ℕ) (wor
 new_pinned x seats h n len place words p free none =
     pinned_but_one x (with_new x h n len place words) seats h (new_word len place) n p refl refl
     (λ some. absurd (omega (arith, free, some))) (λ zero. none)
-
--- a free object that is not hot, here or at another place, has no pins
-here_pins : (q : State) (pins len place : ℕ) → q ≡ state.Here → pins ≡ 0
-    → pins_of (word_of (record { state = q; hot = false; pins = pins; len = len; place = place })) ≡ 0
-here_pins state.Empty pins len place here none = absurd (let z : ⊥ = cc in z)
-here_pins state.Far pins len place here none = absurd (let z : ⊥ = cc in z)
-here_pins state.Here pins len place here none = omega (arith, none)
-here_pins state.Moving pins len place here none = absurd (let z : ⊥ = cc in z)
-
-pub cool_pins : (w place : ℕ) → IsFree w → pins_of (cool_word w place) ≡ 0
-cool_pins w place free = here_pins (state_of w) (pins_of w) (len_of w) place free.0 free.1
-
-pub cooled_pinned : (x y : Words) (seats : List SeatState) (h place : ℕ) → ArePinned x seats
-    → IsFree (word_at x h) → y.words ≡ set x.words h (cool_word (word_at x h) place)
-    → y.versions ≡ x.versions → ArePinned y seats
-cooled_pinned x y seats h place p free words versions =
-    pinned_but_one x y seats h (cool_word (word_at x h) place) (stamp_at x h) p words
-    (versions ∙ sym (set-get_or x.versions h 0))
-    (λ some. absurd (let z = free.1 in omega (arith, z, some)))
-    (λ none. cool_pins (word_at x h) place free)

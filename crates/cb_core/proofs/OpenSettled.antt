@@ -13,9 +13,9 @@ use Rattle.cb_world.specs.Seats.{OpenWriteState, IsClaimAt, claims_of_seat, with
 use Rattle.cb_world.specs.Shown.{Fits, object_at}
 use Rattle.cb_world.specs.World.{WorldState, IsSoundWorld, word_at}
 use Rattle.cb_world.specs.Write.{IsWriteBelow}
-use Rattle.cb_world.proofs.Laws.{open_here, pinned_still}
+use Rattle.cb_world.proofs.Laws.{known_word, open_here, pinned_still}
 use Rattle.cb_core.proofs.OpenChanges.{is_settled}
-use Rattle.cb_core.proofs.OpenSteps.{claims_hold, claims_pinned, known_word}
+use Rattle.cb_core.proofs.OpenSteps.{claims_hold, claims_pinned}
 
 module _ (w : WorldState) (seat place v : ℕ) (c : OpenWriteState) (sound : IsSoundWorld w)
     (lt : seat < 64) (there : IsClaimAt w.seats seat place c)

@@ -1,33 +1,29 @@
 -- The claim, the stores and the settling of an open write leave the world sound.
-use Rattle.std.proofs.Common.{◌≡◌, ◌≢◌, ◌⊎◌, ℕ, Bool, false, zero, suc, ne_eqb, ◌+◌, ◌-◌, ◌*◌, ◌/◌, ◌^◌, ◌<◌, ◌≤◌, List, [], ◌∷◌, ◌++◌, Some, length, get_or, set, sym, refl, ap, ◌∙◌, subst, arith, inl, inr, length-set, get_or-set_other, get_or-set_same}
+use Rattle.std.proofs.Common.{◌≡◌, ◌≢◌, ◌⊎◌, ℕ, Bool, zero, suc, ne_eqb, ◌+◌, ◌-◌, ◌*◌, ◌/◌, ◌^◌, ◌<◌, ◌≤◌, List, [], ◌∷◌, ◌++◌, Some, length, get_or, set, sym, refl, ap, ◌∙◌, subst, arith, inl, inr, length-set, get_or-set_other, get_or-set_same}
 use Rattle.std.specs.Prelude.{All, slice_get, nat_eq, if◌then◌else◌}
 use native.Mathlib.Decide.{ℕ_discrete}
-use Rattle.std.proofs.lemmas.List.{set-get_or}
 use Rattle.std.proofs.lemmas.List.Elements.{All-set, All-get_or}
 use Rattle.std.proofs.lemmas.List.Sums.{sum_by-set}
 use Rattle.cb_ptr.specs.declared.word.State.TheVariants as state
 use Rattle.cb_ptr.specs.Steps.{Claims}
-use Rattle.cb_ptr.specs.Word.{state_of, hot_of, len_of, place_of, pins_of}
+use Rattle.cb_ptr.specs.Word.{state_of, len_of, place_of, pins_of}
 use Rattle.cb_ptr.proofs.Laws.{claimed_below}
-use Rattle.cb_world.specs.declared.event.Event.TheVariants.{Looked}
 use Rattle.cb_world.specs.declared.object.Object.{Object}
 use Rattle.cb_world.specs.declared.object.Object.TheVariants as is
 use Rattle.cb_world.specs.declared.seats.Pin.{Pin}
 use Rattle.cb_world.specs.declared.shown.Shown.{Shown}
-use Rattle.cb_world.specs.FarState.{FarState}
 use Rattle.cb_world.specs.Grasped.{IsFree}
 use Rattle.cb_world.specs.Memory.{window, words_for}
 use Rattle.cb_world.specs.OpenWrites.{IsOpen, IsLeavingNow, IsClaimedNow, AreOpen, touched}
 use Rattle.cb_world.specs.Pinned.{with_word}
 use Rattle.cb_world.specs.Plain.{Words}
-use Rattle.cb_world.specs.Played.{after}
 use Rattle.cb_world.specs.Seats.{SeatState, OpenWriteState, AtMostOneHolds, IsClaimAt, idle_seat, seat_at, claims_of_seat, with_claims, pins_on}
-use Rattle.cb_world.specs.Shown.{Fits, object_at, never}
-use Rattle.cb_world.specs.StillDesk.{fits_set, hots_set, here_is, below_here}
+use Rattle.cb_world.specs.Shown.{Fits, object_at}
+use Rattle.cb_world.specs.StillDesk.{here_is, below_here}
 use Rattle.cb_world.specs.StillWords.{stamp_at, contents_at}
-use Rattle.cb_world.specs.World.{WorldState, IsKnown, ArePinned, IsSoundWorld, word_at}
+use Rattle.cb_world.specs.World.{WorldState, ArePinned, IsSoundWorld, word_at}
 use Rattle.cb_world.specs.Write.{IsWriteBelow}
-use Rattle.cb_world.proofs.Laws.{leaving_claimed, look_sound, pinned_still, seat_beside}
+use Rattle.cb_world.proofs.Laws.{known_word, leaving_claimed, pinned_still, seat_beside}
 use Rattle.cb_core.specs.Claiming.{opened}
 
 -- ---- the pins of the seats
@@ -73,45 +69,6 @@ claims_hold seats seat cs one a b held other =
     same : (k : ℕ) → (seat_at (with_claims seats seat cs) k).holds ≡ (seat_at seats k).holds
     same k = seat_beside (λ (x : SeatState). x.holds) seats seat
         (record (seat_at seats seat) { claims = cs }) refl k
-
--- ---- what is known
--- the pointer word of an object is changed to another that it may have
-pub known_word : (desk : Words) (far : FarState) (s : Shown) (h w : ℕ) → IsKnown desk far s
-    → h < length desk.words → Fits (object_at s h) w
-    → IsKnown (with_word desk h w) far (after (Looked h w) s)
-known_word desk far s h w k within fit = record {
-  sized = record {
-    words = length-set desk.words h w ∙ k.sized.words;
-    versions = k.sized.versions;
-    memory = k.sized.memory;
-  };
-  shows = record {
-    objects = k.shows.objects ∙ sym (length-set desk.words h w);
-    versions = k.shows.versions;
-    hots = length-set s.hots h (hot_of w) ∙ k.shows.hots ∙ sym (length-set desk.words h w);
-    hot = hots_set s.hots desk.words h w (hot_of w) k.shows.hots within (λ e. e) k.shows.hot;
-    memory = k.shows.memory;
-    fit = λ j below. subst (λ (objects : List Object).
-        Fits (get_or objects j never) (get_or (set desk.words h w) j 0))
-        (set-get_or s.objects h never)
-        (fits_set s.objects desk.words h w (object_at s h) k.shows.objects within fit k.shows.fit j
-        below);
-  };
-  hots = λ j below. hots j below (ℕ_discrete j h);
-  sound = look_sound far s [] [] h w k.sound tt tt;
-}
-  where
-    hots : (j : ℕ) → j < length (set desk.words h w) → Dec (j ≡ h)
-        → get_or (set s.hots h (hot_of w)) j false ≡ hot_of (get_or (set desk.words h w) j 0)
-    hots j below (yes e) =
-        ap (λ (i : ℕ). get_or (set s.hots h (hot_of w)) i false) e
-        ∙ get_or-set_same s.hots h (hot_of w) false (let n = k.shows.hots in omega (arith, n, within))
-        ∙ sym (ap hot_of (ap (λ (i : ℕ). get_or (set desk.words h w) i 0) e
-        ∙ get_or-set_same desk.words h w 0 within))
-    hots j below (no n) =
-        get_or-set_other s.hots h j (hot_of w) false n
-        ∙ k.hots j (let l = length-set desk.words h w in omega (arith, l, below))
-        ∙ ap hot_of (sym (get_or-set_other desk.words h j w 0 n))
 
 -- ---- lists
 none_is : (y : OpenWriteState) (p : ℕ) → slice_get [] p ≡ Some y → ⊥

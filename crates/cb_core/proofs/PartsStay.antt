@@ -1,7 +1,7 @@
 -- What the parts of a job leave as it was at the still desk: the configuration, the members, the first
 -- version and the count of turns; and, but for the steps of a batch, the batch that is leaving and the
 -- pair that is joining.
-use Rattle.std.proofs.Common.{◌≡◌, ◌⊎◌, ℕ, List, length, Option, refl, ap, ◌∙◌, arith, inl, inr}
+use Rattle.std.proofs.Common.{◌≡◌, ◌⊎◌, ℕ, List, Option, refl, ap, ◌∙◌, arith, inl, inr}
 use Rattle.cb_member.specs.Membership.{Membership}
 use Rattle.cb_ptr.specs.declared.word.State.{State}
 use Rattle.cb_ptr.specs.declared.word.State.TheVariants as state
@@ -25,10 +25,10 @@ use Rattle.cb_evict.specs.Eviction.{reply_of}
 use Rattle.cb_evict.specs.EvictStep.{IsEvictStep}
 use Rattle.cb_evict.proofs.Laws.{evict_keeps, evict_settings}
 use Rattle.cb_filter.specs.FilterStep.{refused as refuses, cools, without_slot, moves}
-use Rattle.cb_swapin.proofs.Laws.{keeps_far, settings_stay}
+use Rattle.cb_swapin.proofs.Laws.{keeps_far, leaving_stays, settings_stay}
 use Rattle.cb_core.specs.FarJobs.{FarStep}
 use Rattle.cb_core.specs.Parts.{Holding, WithRoom, WhereItIs, NeverDeclined}
-use Rattle.cb_core.specs.Step.{StillAlone, StillMake, StillRead, StillWrite, StillFree, StillEvict, StillRoom, StillSwap, StillBring, StillFilter, StillBegin, StillShip, StillCommit, StillAbort, StillWorks, still_parts}
+use Rattle.cb_core.specs.Step.{StillAlone, StillMake, StillRead, StillWrite, StillFree, StillSwap, StillBring, StillFilter, StillBegin, StillShip, StillCommit, StillAbort, StillWorks, still_parts}
 use Rattle.cb_core.proofs.Carried.{Along, AreAlong, KeepsAlong, brings, does, itself, where_it_is, with_room}
 use Rattle.cb_core.proofs.Changes.{read_leaves, write_leaves, free_leaves}
 use Rattle.cb_core.proofs.NodesStay.{IsWhole}
@@ -133,8 +133,9 @@ evicted a b r step =
 swap_lasts : (h : ℕ) → Leaves lasting (StillSwap h)
 swap_lasts h a b r (home, at, step, hold) =
     let settings = settings_stay a.desk b.desk a.far b.far home.set home.position r step in
+    let leaving = leaving_stays a.desk b.desk a.far b.far home.set home.position r step in
     let keeps = keeps_far a.desk b.desk a.far b.far home.set home.position r step in λ i.
-    ((settings i, keeps.members i, keeps.first i, (keeps.counts i).turns), keeps.leaving i, keeps.joining i)
+    ((settings i, keeps.members i, keeps.first i, keeps.turns i), leaving i, keeps.joining i)
 
 filter_lasts : (h : ℕ) → Leaves lasting (StillFilter h)
 filter_lasts h a b r (refuses why same state, hold) = ends b a.desk a.far same state

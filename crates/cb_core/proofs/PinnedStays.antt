@@ -27,12 +27,7 @@ use Rattle.cb_world.specs.World.{WorldState, IsKnown, IsSoundWorld, word_at}
 use Rattle.cb_mutate.specs.Steps.{with_seen}
 use Rattle.cb_mutate.specs.MapCalls.{IsCallOn, IsRefusedMake}
 use Rattle.cb_mutate.proofs.Laws.{near_held, here_near, free_call, make_call}
-use Rattle.cb_evict.specs.declared.eviction.Eviction.{Eviction}
 use Rattle.cb_evict.specs.declared.eviction.Eviction.TheVariants.{Refused, Set}
-use Rattle.cb_evict.specs.Eviction.{reply_of}
-use Rattle.cb_evict.proofs.Laws.{evict_pinned}
-use Rattle.cb_filter.specs.FilterStep.{refused, cools, without_slot, moves}
-use Rattle.cb_swapin.proofs.Laws.{pinned_stays}
 use Rattle.cb_core.specs.declared.event.Atomic.{Atomic}
 use Rattle.cb_core.specs.declared.event.Atomic.TheVariants.{Load, Pin, Unpin, Claim, Store, Settle, Take, Give}
 use Rattle.cb_core.specs.declared.event.Event.{Event}
@@ -43,19 +38,18 @@ use Rattle.cb_core.specs.Jobs.{IsJob}
 use Rattle.cb_core.specs.Parts.{Holding, NeverDeclined, WithRoom, at_once, no_room, won, WhereItIs, near, declined, stays_far, brought, not_far, was_far}
 use Rattle.cb_core.specs.Pinning.{scope_full, refused as pin_refused, taken, not_pinned, given}
 use Rattle.cb_core.specs.Run.{LeadsSoundly}
-use Rattle.cb_core.specs.Step.{Step, StillMake, StillRead, StillWrite, StillFree, StillFilter, StillDecline, StillEvict, StillRoom, StillSwap, StillBring, StillWorks, AtomicStep, TurnStep, worn, done, held as other_holds, free as alone}
+use Rattle.cb_core.specs.Step.{Step, StillMake, StillRead, StillWrite, StillFree, StillDecline, StillRoom, StillBring, StillWorks, AtomicStep, TurnStep, worn, done, held as other_holds, free as alone}
 use Rattle.cb_core.specs.Unmoved.{IsUnmoved, HasPin, KeepsPinned, LeadsPinned, StaysPinned}
 use Rattle.cb_core.proofs.OpenKeptSteps.{with_stored}
 use Rattle.cb_core.proofs.HoldingFixed.{give_leaves, take_leaves}
 use Rattle.cb_core.proofs.OpenStores.{others_here}
 use Rattle.cb_core.proofs.Changes.{read_leaves, write_leaves, free_leaves}
 use Rattle.cb_core.proofs.Settings.{step_settings}
-use Rattle.cb_core.proofs.StillBatches.{begin_keeps, ship_keeps, commit_keeps, abort_keeps}
 use Rattle.cb_core.proofs.StillParts.{next_free}
 use Rattle.cb_core.proofs.TurnCalls.{held_at, held_then}
 use Rattle.cb_core.proofs.TurnCallsBatch.{kept_begin, kept_ship, kept_commit, kept_abort}
 use Rattle.cb_core.proofs.TurnCallsFilter.{kept_filter}
-use Rattle.cb_core.proofs.TurnCallsKept.{HasKept, kept_evict, kept_room, kept_swap, kept_bring, once_known, same_holding}
+use Rattle.cb_core.proofs.TurnCallsKept.{HasKept, kept_evict, kept_room, kept_bring, once_known, same_holding}
 use Rattle.cb_core.proofs.TurnCallsMake.{make_crammed}
 use Rattle.cb_core.proofs.TurnCallsParts.{read_part, write_part}
 use Rattle.cb_core.proofs.TurnCallsWhere.{IsPart, kept_map, within}
@@ -91,52 +85,23 @@ same_desk a b s t k ka kb p same = (
 
 -- where what every object holds was kept
 kept_fixed : (a b : Holding Words) (s t : Shown) (k : ℕ) → HasKept a b s → IsKnown b.desk b.far t
-    → word_at b.desk k ≡ word_at a.desk k → Fixed a b s t k
-kept_fixed a b s t k kept kb word = (word, (kept_map a b s t kept kb).now k)
+    → IsHeldHere a.desk k → Fixed a b s t k
+kept_fixed a b s t k kept kb p = (kept.pinned k p.some, (kept_map a b s t kept kb).now k)
 
 still_held : (a b : Holding Words) (s : Shown) (k : ℕ) → IsKnown a.desk a.far s → (kept : HasKept a b s)
-    → word_at b.desk k ≡ word_at a.desk k → IsHeldHere a.desk k → IsHeldHere b.desk k
-still_held a b s k ka kept word p = record {
+    → IsHeldHere a.desk k → IsHeldHere b.desk k
+still_held a b s k ka kept p = record {
   below = let old = ka.sized.words in let new = kept.known.sized.words in
       let same = ap (λ (c : Config). c.handles) kept.settings in let lt = p.below in
       omega (arith, old, new, same, lt);
-  here = ap state_of word ∙ p.here;
-  some = subst (λ (w : ℕ). 1 ≤ pins_of w) (sym word) p.some;
+  here = ap state_of (kept.pinned k p.some) ∙ p.here;
+  some = subst (λ (n : ℕ). 1 ≤ n) (sym (kept.pins k)) p.some;
 }
 
 -- ---- an object that is brought in beside it
-swap_word : (a b : Holding Words) (h k : ℕ) (r : Reply) (s : Shown) → IsKnown a.desk a.far s
-    → StillSwap h a r b → 1 ≤ pins_of (word_at a.desk k) → word_at b.desk k ≡ word_at a.desk k
-swap_word a b h k r s known (home, at, step, hold) some =
-    pinned_stays a.desk b.desk a.far b.far home.set home.position r s known step k some
-
-evict_word : (a b : Holding Words) (k : ℕ) (r : Reply) → StillEvict a r b
-    → 1 ≤ pins_of (word_at a.desk k) → word_at b.desk k ≡ word_at a.desk k
-evict_word a b k r step some = evict_pinned a.desk b.desk a.far b.far r k step.0 some
-
-room_word : (a b : Holding Words) (k : ℕ) (e : Eviction) → StillRoom a e b
-    → 1 ≤ pins_of (word_at a.desk k) → word_at b.desk k ≡ word_at a.desk k
-room_word a b k e step some = evict_word a b k (reply_of e) (step.0.step, step.1) some
-
-bring_word : (a b : Holding Words) (h k : ℕ) (r : Reply) (s : Shown) → IsKnown a.desk a.far s
-    → StillBring h a r b → 1 ≤ pins_of (word_at a.desk k) → word_at b.desk k ≡ word_at a.desk k
-bring_word a b h k r s known (at_once swap never) some = swap_word a b h k r s known swap some
-bring_word a b h k r s known (no_room m why loose nodes swap evict e) some =
-    let one = swap_word a m h k answer.NoFrame s known swap some in
-    room_word m b k (Refused why loose nodes) evict (subst (λ (w : ℕ). 1 ≤ pins_of w) (sym one) some) ∙ one
-bring_word a b h k r s known (won m n id swap evict again never) some =
-    let one = swap_word a m h k answer.NoFrame s known swap some in
-    let two = room_word m n k (Set id) evict
-    (subst (λ (w : ℕ). 1 ≤ pins_of w) (sym one) some) ∙ one in
-    let kept = kept_swap a m h answer.NoFrame s known swap in
-    let left = kept_room m n (Set id) kept.shown kept.known evict in
-    swap_word n b h k r left.shown left.known again
-    (subst (λ (w : ℕ). 1 ≤ pins_of w) (sym two) some) ∙ two
-
 bring_fixed : (a b : Holding Words) (s t : Shown) (h k : ℕ) (r : Reply) → IsKnown a.desk a.far s
     → IsKnown b.desk b.far t → IsHeldHere a.desk k → StillBring h a r b → Fixed a b s t k
-bring_fixed a b s t h k r ka kb p bring = kept_fixed a b s t k (kept_bring a b h r s ka bring) kb
-    (bring_word a b h k r s ka bring p.some)
+bring_fixed a b s t h k r ka kb p bring = kept_fixed a b s t k (kept_bring a b h r s ka bring) kb p
 
 -- ---- the calls
 here_is_far : state.Far ≡ state.Here → ⊥
@@ -236,16 +201,14 @@ make_fixed a b s t k bytes r ka kb p (no_room m why loose nodes c evict e) =
     let none = make_crammed a.desk m.desk a.far m.far bytes c in
     let left = subst (λ (x : Holding Words). StillRoom x (Refused why loose nodes) b)
     (same_holding a m none.1 none.2) evict in
-    kept_fixed a b s t k (kept_room a b (Refused why loose nodes) s ka left) kb
-    (room_word a b k (Refused why loose nodes) left p.some)
+    kept_fixed a b s t k (kept_room a b (Refused why loose nodes) s ka left) kb p
 make_fixed a b s t k bytes r ka kb p (won m n id c evict again never) =
     let none = make_crammed a.desk m.desk a.far m.far bytes c in
     let left = subst (λ (x : Holding Words). StillRoom x (Set id) n) (same_holding a m none.1 none.2)
     evict in
     let kept = kept_room a n (Set id) s ka left in
-    let word = room_word a n k (Set id) left p.some in
-    fixed_then a n b s kept.shown t k (kept_fixed a n s kept.shown k kept kept.known word)
-    (made_fixed n b kept.shown t k bytes r kept.known kb (still_held a n s k ka kept word p) again)
+    fixed_then a n b s kept.shown t k (kept_fixed a n s kept.shown k kept kept.known p)
+    (made_fixed n b kept.shown t k bytes r kept.known kb (still_held a n s k ka kept p) again)
 
 -- ---- a call on an object wherever it is
 where_fixed : (call : Holding Words → Reply → Holding Words → Type 0)
@@ -268,25 +231,10 @@ where_fixed call look h k q part fixes a b s t r ka kb below p (brought m n o f 
     let came = subst (λ (x : Holding Words). StillBring h x (answer.Swapped f) o)
     (part.looks m n None l ∙ part.nothing a m c) bring in
     let kept = kept_bring a o h (answer.Swapped f) s ka came in
-    let word = bring_word a o h k (answer.Swapped f) s ka came p.some in
     let lt : h < length o.desk.words = (let old = ka.sized.words in let new = kept.known.sized.words in
     let same = ap (λ (c : Config). c.handles) kept.settings in omega (arith, old, new, same, below)) in
-    fixed_then a o b s kept.shown t k (kept_fixed a o s kept.shown k kept kept.known word)
-    (fixes o b kept.shown t r kept.known kb lt (still_held a o s k ka kept word p) again)
-
--- ---- a filter
-filter_word : (a b : Holding Words) (h k : ℕ) (r : Reply) → IsHeldHere a.desk k
-    → StillFilter h a r b → word_at b.desk k ≡ word_at a.desk k
-filter_word a b h k r p (refused why same state, hold) = ap (λ (x : Words). word_at x k) same
-filter_word a b h k r p (without_slot seat is none same, hold) = ap (λ (x : Words). word_at x k) same
-filter_word a b h k r p (cools seat is place same, hold) =
-    ap (λ (x : Words). word_at x k) same ∙ get_or-set_other a.desk.words h k _ 0
-    (λ e. let some = subst (λ (i : ℕ). 1 ≤ pins_of (word_at a.desk i)) e p.some in
-    let free = is.free.1 in omega (arith, free, some))
-filter_word a b h k r p (moves seat slot is gets same, hold) =
-    ap (λ (x : Words). word_at x k) same ∙ get_or-set_other a.desk.words h k _ 0
-    (λ e. let some = subst (λ (i : ℕ). 1 ≤ pins_of (word_at a.desk i)) e p.some in
-    let free = is.free.1 in omega (arith, free, some))
+    fixed_then a o b s kept.shown t k (kept_fixed a o s kept.shown k kept kept.known p)
+    (fixes o b kept.shown t r kept.known kb lt (still_held a o s k ka kept p) again)
 
 -- ---- every job
 works_fixed : (j : Job) (k : ℕ) (a b : Holding Words) (s t : Shown) (r : Reply)
@@ -309,18 +257,17 @@ works_fixed (Swap handle) k a b s t r ok ka kb p (was_far m c bring) =
     bring_fixed a b s t handle.n k r ka kb p
     (subst (λ (x : Holding Words). StillBring handle.n x r b) c.1 bring)
 works_fixed (Filter handle) k a b s t r ok ka kb p works =
-    kept_fixed a b s t k (kept_filter a b handle.n r s ka works) kb
-    (filter_word a b handle.n k r p works)
+    kept_fixed a b s t k (kept_filter a b handle.n r s ka works) kb p
 works_fixed Evict k a b s t r ok ka kb p works =
-    kept_fixed a b s t k (kept_evict a b r s ka works) kb (evict_word a b k r works p.some)
-works_fixed Begin k a b s t r ok ka kb p works = kept_fixed a b s t k (kept_begin a b r s ka works) kb
-    ((begin_keeps a.desk b.desk a.far b.far r works.0).pinned k p.some)
-works_fixed Ship k a b s t r ok ka kb p works = kept_fixed a b s t k (kept_ship a b r s ka works) kb
-    ((ship_keeps a.desk b.desk a.far b.far r works.0).pinned k p.some)
-works_fixed Commit k a b s t r ok ka kb p works = kept_fixed a b s t k (kept_commit a b r s ka works) kb
-    ((commit_keeps a.desk b.desk a.far b.far r s ka works.0).pinned k p.some)
-works_fixed Abort k a b s t r ok ka kb p works = kept_fixed a b s t k (kept_abort a b r s ka works) kb
-    ((abort_keeps a.desk b.desk a.far b.far r s ka works.0).pinned k p.some)
+    kept_fixed a b s t k (kept_evict a b r s ka works) kb p
+works_fixed Begin k a b s t r ok ka kb p works =
+    kept_fixed a b s t k (kept_begin a b r s ka works) kb p
+works_fixed Ship k a b s t r ok ka kb p works =
+    kept_fixed a b s t k (kept_ship a b r s ka works) kb p
+works_fixed Commit k a b s t r ok ka kb p works =
+    kept_fixed a b s t k (kept_commit a b r s ka works) kb p
+works_fixed Abort k a b s t r ok ka kb p works =
+    kept_fixed a b s t k (kept_abort a b r s ka works) kb p
 works_fixed j k a b s t r ok ka kb p works = same_desk a b s t k ka kb p works.0
 
 -- ---- every event

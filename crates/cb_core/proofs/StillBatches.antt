@@ -1,5 +1,5 @@
 -- The steps of a batch over a still desk: what they leave as it was, and that all stays known.
-use Rattle.std.proofs.Common.{◌≡◌, ℕ, ◌<◌, ◌≤◌, List, length, get_or, All, Some, refl, sym, ap, ◌∙◌, subst, arith, inl, inr}
+use Rattle.std.proofs.Common.{◌≡◌, ℕ, ◌<◌, ◌≤◌, List, length, get_or, All, Some, sym, ap, ◌∙◌, subst, arith, inl, inr}
 use Rattle.cb_ptr.specs.Word.{pins_of}
 use Rattle.cb_types.specs.declared.config.Config.{Config}
 use Rattle.cb_types.specs.declared.reply.Reply.{Reply}
@@ -8,13 +8,12 @@ use Rattle.cb_world.specs.declared.object.Object.{Object}
 use Rattle.cb_world.specs.declared.shown.Shown.{Shown}
 use Rattle.cb_world.specs.FarState.{FarState}
 use Rattle.cb_world.specs.Leaving.{LeavingState}
-use Rattle.cb_world.specs.OpenWrites.{AreOpen}
 use Rattle.cb_world.specs.Plain.{Words}
 use Rattle.cb_world.specs.Seats.{SeatState}
 use Rattle.cb_world.specs.Shown.{Fits}
 use Rattle.cb_world.specs.Still.{IsStill}
 use Rattle.cb_world.specs.World.{IsKnown, word_at}
-use Rattle.cb_world.proofs.Laws.{open_kept, pinned_still, StaysIf, PerformsStill}
+use Rattle.cb_world.proofs.Laws.{KeepsPins, PerformsStill, StepKeeps, keeps_same, open_kept, pins_same}
 use Rattle.cb_evict.specs.AbortRule.{HasGivenUp}
 use Rattle.cb_evict.specs.AbortStep.{ArePutBack, IsAbortStep, no_batch as none_to_abort, given_up}
 use Rattle.cb_evict.specs.BeginEffect.{BeginEffect}
@@ -26,70 +25,51 @@ use Rattle.cb_evict.specs.CommitStep.{ArePutAway, IsCommitStep, no_batch as none
 use Rattle.cb_evict.specs.Restoring.{IsClaimedFrom}
 use Rattle.cb_evict.specs.ShipRule.{ReadsLeaving}
 use Rattle.cb_evict.specs.ShipStep.{IsShipStep}
-use Rattle.cb_evict.proofs.Laws.{abort_step, begin_settings, begin_count, begin_versions, begin_pinned, begin_pins, begin_keeps as begin_parts, begin_step, among, no_former, commit_step, IsStepKnown, abort_stays, begin_stays, commit_stays, ship_stays, claimed_all, ships_leaves, ship_step, ship_stopped}
-use Rattle.cb_core.specs.Parts.{Holding}
-use Rattle.cb_core.specs.Step.{HoldOn, StillBegin, StillShip, StillCommit, StillAbort, StillShipLacks}
+use Rattle.cb_evict.proofs.Laws.{abort_step, begin_settings, begin_count, begin_versions, begin_pinned, begin_pins, begin_keeps as begin_parts, begin_step, among, no_former, commit_step, abort_stays, begin_stays, commit_stays, ship_stays, claimed_all, ships_leaves, ship_step, ship_stopped}
+use Rattle.cb_core.specs.Step.{StillBegin, StillShip, StillCommit, StillAbort, StillShipLacks}
 use Rattle.cb_core.specs.Turned.{Begins, Ships, Commits, Aborts, ShipLacks}
-use Rattle.cb_core.proofs.KeptParts.{IsGood, Arrives, Carries, CarriesLack, arrives_same, arrives_stays}
+use Rattle.cb_core.proofs.KeptParts.{Carries, CarriesLack, arrives_kept, arrives_same, holds_on}
 use Rattle.cb_core.proofs.StillParts.{Ran, Tells, both_same}
-
--- No object was made and no turn was counted. Each object has as many pins, with pins it has its
--- word, and no version word changed.
-pub record KeepsRest (x y : Words) (far new : FarState) : Type 0 where
-  pub settings : y.settings ≡ x.settings
-  pub count : length y.words ≡ length x.words
-  pub versions : y.versions ≡ x.versions
-  pub pins : (h : ℕ) → pins_of (word_at y h) ≡ pins_of (word_at x h)
-  pub pinned : (h : ℕ) → 1 ≤ pins_of (word_at x h) → word_at y h ≡ word_at x h
-  pub first : new.first ≡ far.first
-  pub made : new.made ≡ far.made
-  pub turns : new.counts.turns ≡ far.counts.turns
-
--- nothing changed
-keeps_same : (x y : Words) (far new : FarState) → y ≡ x → new ≡ far → KeepsRest x y far new
-keeps_same x y far new words state = subst (λ (u : Words). KeepsRest x u far new) (sym words)
-    (subst (KeepsRest x x far) (sym state) (record {
-      settings = refl;
-      count = refl;
-      versions = refl;
-      pins = λ h. refl;
-      pinned = λ h some. refl;
-      first = refl;
-      made = refl;
-      turns = refl;
-    }))
 
 -- ---- a begin
 pub begin_keeps : (x y : Words) (far new : FarState) (r : Reply) → IsBeginStep x y far new r
-    → KeepsRest x y far new
+    → StepKeeps x y far new
 begin_keeps x y far new r step =
     let parts = begin_parts x y far new r step in
     record {
-      settings = begin_settings x y far new r step;
-      count = begin_count x y far new r step;
-      versions = begin_versions x y far new r step;
-      pins = λ h. begin_pins x y far new r h step;
-      pinned = λ h. begin_pinned x y far new r h step;
-      first = parts.first;
-      made = parts.made;
-      turns = parts.turns;
+      far = record {
+        first = parts.first;
+        made = parts.made;
+        members = parts.members;
+        joining = parts.joining;
+        turns = parts.turns;
+        by_job = parts.by_job;
+      };
+      words = record {
+        settings = begin_settings x y far new r step;
+        count = begin_count x y far new r step;
+        versions = begin_versions x y far new r step;
+        pins = λ h. begin_pins x y far new r h step;
+        pinned = λ h. begin_pinned x y far new r h step;
+      };
     }
 
 -- ---- a ship
 pub ship_keeps : (x y : Words) (far new : FarState) (r : Reply) → IsShipStep x y far new r
-    → KeepsRest x y far new
+    → StepKeeps x y far new
 ship_keeps x y far new r step =
     let leaves = ships_leaves far new r _ step.ships in
-    subst (λ (u : Words). KeepsRest x u far new) (sym step.words) (record {
-      settings = refl;
-      count = refl;
-      versions = refl;
-      pins = λ h. refl;
-      pinned = λ h some. refl;
-      first = leaves.first;
-      made = leaves.made;
-      turns = leaves.turns;
-    })
+    record {
+      far = record {
+        first = leaves.first;
+        made = leaves.made;
+        members = leaves.members;
+        joining = leaves.joining;
+        turns = leaves.turns;
+        by_job = leaves.by_job;
+      };
+      words = subst (KeepsPins x) (sym step.words) (pins_same x);
+    }
 
 -- ---- the ends of a batch
 -- its objects had no pins; where they have none then, and other words stay, pins stay
@@ -126,28 +106,35 @@ module _ (x y : Words) (far : FarState) (s : Shown) (batch : LeavingState) (k : 
   ]
 
 commit_done : (x y : Words) (far new : FarState) (r : Reply) (s : Shown) → IsKnown x far s
-    → (c : HasCommitted far new r) → ArePutAway x y c.batch.words → KeepsRest x y far new
+    → (c : HasCommitted far new r) → ArePutAway x y c.batch.words → StepKeeps x y far new
 commit_done x y far new r s k c away =
     let none : All (λ former. pins_of (word_at y former.handle) ≡ 0) c.batch.words =
     λ i d l. (away.away i d l).pins in record {
-      settings = away.settings;
-      count = away.count;
-      versions = away.versions;
-      pins = pins_stay x y far s c.batch k c.there away.others none;
-      pinned = pinned_stay x y far s c.batch k c.there away.others none;
-      first = ap (λ (f : FarState). f.first) c.state;
-      made = ap (λ (f : FarState). f.made) c.state;
-      turns = ap (λ (f : FarState). f.counts.turns) c.state;
+      far = record {
+        first = ap (λ (f : FarState). f.first) c.state;
+        made = ap (λ (f : FarState). f.made) c.state;
+        members = ap (λ (f : FarState). f.members) c.state;
+        joining = ap (λ (f : FarState). f.joining) c.state;
+        turns = ap (λ (f : FarState). f.counts.turns) c.state;
+        by_job = ap (λ (f : FarState). f.counts.by_job) c.state;
+      };
+      words = record {
+        settings = away.settings;
+        count = away.count;
+        versions = away.versions;
+        pins = pins_stay x y far s c.batch k c.there away.others none;
+        pinned = pinned_stay x y far s c.batch k c.there away.others none;
+      };
     }
 
 pub commit_keeps : (x y : Words) (far new : FarState) (r : Reply) (s : Shown) → IsKnown x far s
-    → IsCommitStep x y far new r → KeepsRest x y far new
+    → IsCommitStep x y far new r → StepKeeps x y far new
 commit_keeps x y far new r s k (none_to_commit n same) = keeps_same x y far new same n.state
 commit_keeps x y far new r s k (short z same) = keeps_same x y far new same z.state
 commit_keeps x y far new r s k (committed c away) = commit_done x y far new r s k c away
 
 abort_done : (x y : Words) (far new : FarState) (r : Reply) (s : Shown) → IsKnown x far s
-    → (g : HasGivenUp far new r) → ArePutBack x y g.batch.words → KeepsRest x y far new
+    → (g : HasGivenUp far new r) → ArePutBack x y g.batch.words → StepKeeps x y far new
 abort_done x y far new r s k g back =
     let batch = g.batch in
     let claims : All (IsClaimedFrom s) batch.words =
@@ -155,43 +142,29 @@ abort_done x y far new r s k g back =
     let none : All (λ former. pins_of (word_at y former.handle) ≡ 0) batch.words =
     λ i d l. ap pins_of (back.back i d l) ∙ (claims i d l).free.1 in
     record {
-      settings = back.settings;
-      count = back.count;
-      versions = back.versions;
-      pins = pins_stay x y far s batch k g.there back.others none;
-      pinned = pinned_stay x y far s batch k g.there back.others none;
-      first = ap (λ (f : FarState). f.first) g.state;
-      made = ap (λ (f : FarState). f.made) g.state;
-      turns = ap (λ (f : FarState). f.counts.turns) g.state;
+      far = record {
+        first = ap (λ (f : FarState). f.first) g.state;
+        made = ap (λ (f : FarState). f.made) g.state;
+        members = ap (λ (f : FarState). f.members) g.state;
+        joining = ap (λ (f : FarState). f.joining) g.state;
+        turns = ap (λ (f : FarState). f.counts.turns) g.state;
+        by_job = ap (λ (f : FarState). f.counts.by_job) g.state;
+      };
+      words = record {
+        settings = back.settings;
+        count = back.count;
+        versions = back.versions;
+        pins = pins_stay x y far s batch k g.there back.others none;
+        pinned = pinned_stay x y far s batch k g.there back.others none;
+      };
     }
 
 pub abort_keeps : (x y : Words) (far new : FarState) (r : Reply) (s : Shown) → IsKnown x far s
-    → IsAbortStep x y far new r → KeepsRest x y far new
+    → IsAbortStep x y far new r → StepKeeps x y far new
 abort_keeps x y far new r s k (none_to_abort n same) = keeps_same x y far new same n.state
 abort_keeps x y far new r s k (given_up g back) = abort_done x y far new r s k g back
 
 -- ---- the parts of a turn
--- a step of a batch after which all is known
-batch_arrives : (c : Config) (seats : List SeatState) (a b : Holding Words) (t : Shown) (Z : Type 0)
-    → IsGood c seats a → StaysIf c 1 a.far b.far → IsKnown b.desk b.far t
-    → KeepsRest a.desk b.desk a.far b.far → AreOpen b.desk b.far seats → Z
-    → Arrives c seats 1 a b Z
-batch_arrives c seats a b t Z good stays known keeps ongoing z =
-    arrives_stays c seats 1 a b t Z good stays known keeps.settings
-    (pinned_still a.desk b.desk seats good.pinned keeps.count
-    (λ h below some. (
-      keeps.pinned h some,
-      ap (λ (l : List ℕ). get_or l h 0) keeps.versions,
-    ))
-    (λ h below none. keeps.pins h ∙ none)) ongoing z
-
--- what each object holds stays, and so do the open writes
-holds_on : (a b : Holding Words)
-    → ((s : Shown) → IsKnown a.desk a.far s → IsStepKnown b.desk a.far b.far s)
-    → ((s : Shown) → IsKnown a.desk a.far s → (seats : List SeatState) → AreOpen a.desk a.far seats
-    → AreOpen b.desk b.far seats) → HoldOn a b
-holds_on a b after ongoing s k = let z = after s k in (z.shown, z.known, z.same_now, ongoing s k)
-
 pub begin_part : (c : Config) (seats : List SeatState)
     → Carries c seats 1 (Begins Ran Tells c) StillBegin
 begin_part c seats a b r good p =
@@ -199,13 +172,12 @@ begin_part c seats a b r good p =
     let q = subst (λ (d : Config). PerformsStill x y far new (BeginRule d far new r)
     (BeginEffect far new r)) (sym good.settings) p in
     let z = begin_step x y far new r good.shown q good.known in
-    batch_arrives c seats a b z.1.shown (StillBegin a r b) good
+    arrives_kept c seats 1 a b z.1.shown (StillBegin a r b) good
     (begin_stays c far new r p.events p.rule) z.1.known
-    (begin_keeps x y far new r z.0)
+    (begin_keeps x y far new r z.0).words
     (open_kept x y far new _ _ good.shown seats good.known q good.ongoing) (
       z.0,
-      holds_on a b (λ s k. (begin_step x y far new r s q k).1)
-          (λ s k others ongoing. open_kept x y far new _ _ s others k q ongoing),
+      holds_on a b q (λ s k. (begin_step x y far new r s q k).1),
     )
 
 pub ship_part : (c : Config) (seats : List SeatState)
@@ -213,13 +185,12 @@ pub ship_part : (c : Config) (seats : List SeatState)
 ship_part c seats a b r good p =
     let x = a.desk in let y = b.desk in let far = a.far in let new = b.far in
     let z = ship_step x y far new r good.shown p good.known in
-    batch_arrives c seats a b z.1.shown (StillShip a r b) good
+    arrives_kept c seats 1 a b z.1.shown (StillShip a r b) good
     (ship_stays c far new r p.events p.rule) z.1.known
-    (ship_keeps x y far new r z.0)
+    (ship_keeps x y far new r z.0).words
     (open_kept x y far new _ _ good.shown seats good.known p good.ongoing) (
       z.0,
-      holds_on a b (λ s k. (ship_step x y far new r s p k).1)
-          (λ s k others ongoing. open_kept x y far new _ _ s others k p ongoing),
+      holds_on a b p (λ s k. (ship_step x y far new r s p k).1),
     )
 
 -- one that found no memory changed nothing
@@ -236,13 +207,12 @@ pub commit_part : (c : Config) (seats : List SeatState)
 commit_part c seats a b r good p =
     let x = a.desk in let y = b.desk in let far = a.far in let new = b.far in
     let z = commit_step x y far new r good.shown p good.known in
-    batch_arrives c seats a b z.1.shown (StillCommit a r b) good
+    arrives_kept c seats 1 a b z.1.shown (StillCommit a r b) good
     (commit_stays c good.shown far new r p.events good.known.sound p.rule) z.1.known
-    (commit_keeps x y far new r good.shown good.known z.0)
+    (commit_keeps x y far new r good.shown good.known z.0).words
     (open_kept x y far new _ _ good.shown seats good.known p good.ongoing) (
       z.0,
-      holds_on a b (λ s k. (commit_step x y far new r s p k).1)
-          (λ s k others ongoing. open_kept x y far new _ _ s others k p ongoing),
+      holds_on a b p (λ s k. (commit_step x y far new r s p k).1),
     )
 
 pub abort_part : (c : Config) (seats : List SeatState)
@@ -250,11 +220,10 @@ pub abort_part : (c : Config) (seats : List SeatState)
 abort_part c seats a b r good p =
     let x = a.desk in let y = b.desk in let far = a.far in let new = b.far in
     let z = abort_step x y far new r good.shown p good.known in
-    batch_arrives c seats a b z.1.shown (StillAbort a r b) good
+    arrives_kept c seats 1 a b z.1.shown (StillAbort a r b) good
     (abort_stays c far new r p.events p.rule) z.1.known
-    (abort_keeps x y far new r good.shown good.known z.0)
+    (abort_keeps x y far new r good.shown good.known z.0).words
     (open_kept x y far new _ _ good.shown seats good.known p good.ongoing) (
       z.0,
-      holds_on a b (λ s k. (abort_step x y far new r s p k).1)
-          (λ s k others ongoing. open_kept x y far new _ _ s others k p ongoing),
+      holds_on a b p (λ s k. (abort_step x y far new r s p k).1),
     )

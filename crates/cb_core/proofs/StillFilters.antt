@@ -1,55 +1,25 @@
 -- A filter over a still desk is a step, and leaves all known.
-use Rattle.std.proofs.Common.{ℕ, ◌+◌, List, [], ◌∷◌, set, refl, sym, ap, subst, inl, inr}
-use Rattle.cb_ptr.specs.Word.{hot_of, place_of}
+use Rattle.std.proofs.Common.{ℕ, ◌+◌, List, [], ◌∷◌, set, refl, sym, subst, inl, inr}
+use Rattle.cb_ptr.specs.Word.{hot_of}
 use Rattle.cb_types.specs.declared.config.Config.{Config}
-use Rattle.cb_types.specs.declared.reply.Reply.{Reply}
 use Rattle.cb_world.specs.declared.event.Event.{Event}
 use Rattle.cb_world.specs.declared.event.Event.TheVariants.{Looked, Claimed, Told, Loaded, Stored, Stamped, Settled}
 use Rattle.cb_world.specs.Grasped.{IsFree}
 use Rattle.cb_world.specs.Looks.{NoLook, IsFound, IsTaken, LooksFirst}
-use Rattle.cb_world.specs.OpenWrites.{AreOpen}
-use Rattle.cb_world.specs.Placed.{place_in}
 use Rattle.cb_world.specs.Plain.{Words, Plain}
 use Rattle.cb_world.specs.Seats.{SeatState}
 use Rattle.cb_world.specs.World.{word_at}
-use Rattle.cb_world.proofs.Laws.{found_exact, open_kept, PerformsStill, StaysIf}
+use Rattle.cb_world.proofs.Laws.{found_exact, open_kept, PerformsStill}
 use Rattle.cb_filter.specs.FilterEffect.{FilterEffect}
 use Rattle.cb_filter.specs.FilterRule.{FilterRule}
-use Rattle.cb_filter.specs.FilterStep.{IsFilterStep, refused, cools, without_slot, moves, IsFreeIn, temp_of}
+use Rattle.cb_filter.specs.FilterStep.{IsFreeIn, temp_of}
 use Rattle.cb_filter.specs.Plans.{Wants}
 use Rattle.cb_filter.specs.Seats.{temp_for}
-use Rattle.cb_filter.proofs.Laws.{IsStepKnown, filter_step, filter_stopped, filter_stays}
-use Rattle.cb_core.specs.Parts.{Holding}
-use Rattle.cb_core.specs.Step.{HoldOn, StillFilter, StillFilterLacks}
+use Rattle.cb_filter.proofs.Laws.{filter_keeps, filter_step, filter_stopped, filter_stays}
+use Rattle.cb_core.specs.Step.{StillFilter, StillFilterLacks}
 use Rattle.cb_core.specs.Turned.{Filters, FilterLacks}
-use Rattle.cb_core.proofs.KeptParts.{IsGood, Arrives, Carries, CarriesLack, arrives_same, arrives_stays}
-use Rattle.cb_core.proofs.KeptPins.{cooled_pinned}
+use Rattle.cb_core.proofs.KeptParts.{Carries, CarriesLack, arrives_kept, arrives_same, holds_on}
 use Rattle.cb_core.proofs.StillParts.{Ran, Tells, both_same}
-
-module _ (c : Config) (seats : List SeatState) (h : ℕ) (a b : Holding Words) (r : Reply)
-    (good : IsGood c seats a) (hold : HoldOn a b) (stays : StaysIf c 1 a.far b.far)
-    (z : IsStepKnown b.desk a.far b.far good.shown) (ongoing : AreOpen b.desk b.far seats)
-  where
-    -- by the step
-    filtered : IsFilterStep a.desk b.desk a.far b.far h r → Arrives c seats 1 a b (StillFilter h a r b)
-    filtered (refused why same state) =
-        arrives_same c seats 1 a b (StillFilter h a r b) good (both_same a b same state)
-        (refused why same state, hold)
-    filtered (cools seat is place same) =
-        arrives_stays c seats 1 a b z.shown (StillFilter h a r b) good stays z.known
-        (ap (λ (x : Words). x.settings) same)
-        (cooled_pinned a.desk b.desk seats h (place_of (word_at a.desk h)) good.pinned is.free
-        (ap (λ (x : Words). x.words) same) (ap (λ (x : Words). x.versions) same))
-        ongoing (cools seat is place same, hold)
-    filtered (without_slot seat is none same) =
-        arrives_same c seats 1 a b (StillFilter h a r b) good (both_same a b same none.state)
-        (without_slot seat is none same, hold)
-    filtered (moves seat slot is gets same) =
-        arrives_stays c seats 1 a b z.shown (StillFilter h a r b) good stays z.known
-        (ap (λ (x : Words). x.settings) same)
-        (cooled_pinned a.desk b.desk seats h (place_in slot) good.pinned is.free
-        (ap (λ (x : Words). x.words) same) (ap (λ (x : Words). x.versions) same))
-        ongoing (moves seat slot is gets same, hold)
 
 pub filter_part : (c : Config) (seats : List SeatState) (h : ℕ)
     → Carries c seats 1 (Filters Ran Tells c h) (StillFilter h)
@@ -58,16 +28,11 @@ filter_part c seats h a b r good p =
     let q = subst (λ (d : Config). PerformsStill x y far new (FilterRule d.frames h far new r)
     (FilterEffect h far new r)) (sym good.settings) p in
     let z = filter_step x y far new good.shown h r good.known q in
-    filtered c seats h a b r good
-    (λ s k.
-    let after = (filter_step x y far new s h r k q).1 in (
-      after.shown,
-      after.known,
-      after.same_now,
-      λ others ongoing. open_kept x y far new _ _ s others k q ongoing,
-    ))
-    (filter_stays c c.frames h far new r p.events p.rule) z.1
-    (open_kept x y far new _ _ good.shown seats good.known q good.ongoing) z.0
+    arrives_kept c seats 1 a b z.1.shown (StillFilter h a r b) good
+    (filter_stays c c.frames h far new r p.events p.rule) z.1.known
+    (filter_keeps x y far new h r z.0).words
+    (open_kept x y far new _ _ good.shown seats good.known q good.ongoing)
+    (z.0, holds_on a b q (λ s k. (filter_step x y far new s h r k q).1))
 
 -- ---- want of memory
 -- an object that was claimed was found free

@@ -33,13 +33,13 @@ use Rattle.cb_evict.specs.EvictRule.{EvictRule}
 use Rattle.cb_evict.specs.Eviction.{CountsRule, reply_of}
 use Rattle.cb_evict.proofs.Laws.{evict_settings, evict_seats, rule_weaker, counted_step, evict_step, evict_stopped, evict_stays}
 use Rattle.cb_swapin.specs.Fetching.{far_given}
-use Rattle.cb_swapin.proofs.Laws.{given_known, given_stays, swap_stays, settings_stay, swap_step, pinned_kept}
+use Rattle.cb_swapin.proofs.Laws.{given_known, given_stays, swap_keeps, swap_stays, swap_step}
 use Rattle.cb_core.specs.Declining.{write_refusal}
 use Rattle.cb_core.specs.Parts.{Holding, NeverDeclined}
 use Rattle.cb_core.specs.Step.{StillMake, StillRead, StillWrite, StillFree, StillFind, StillDecline, StillEvict, StillRoom, StillSwap, StillMakeLacks, StillReadLacks, StillEvictLacks, StillSwapLacks}
 use Rattle.cb_core.specs.Turned.{Makes, Reads, Writes, Frees, Finds, Declines, Evicts, WinsRoom, Swaps, MakeLacks, ReadLacks, EvictLacks, SwapLacks, IsDeclined}
 use Rattle.cb_core.proofs.Changes.{MayGo, read_leaves, write_leaves, free_leaves}
-use Rattle.cb_core.proofs.KeptParts.{IsGood, Rises, Arrives, Carries, CarriesLack, arrives_same, arrives_stays}
+use Rattle.cb_core.proofs.KeptParts.{IsGood, Rises, Arrives, Carries, CarriesLack, arrives_kept, arrives_same, arrives_stays, holds_on}
 use Rattle.cb_core.proofs.KeptPins.{seen_pinned, written_pinned, freed_pinned, new_pinned, no_pins}
 
 -- what the still desk runs and shows
@@ -248,15 +248,7 @@ evict_part c seats accepted a b r good p =
     (EvictEffect far new r)) (sym good.settings) p in
     let z = evict_step x y far new r good.shown q good.known in
     let stays = evict_stays c far new r p.events accepted p.rule good.configured in record {
-      is = (
-        z.0,
-        λ s k. let after = (evict_step x y far new r s q k).1 in (
-          after.shown,
-          after.known,
-          after.same_now,
-          λ others ongoing. open_kept x y far new _ _ s others k q ongoing,
-        ),
-      );
+      is = (z.0, holds_on a b q (λ s k. (evict_step x y far new r s q k).1));
       good = record {
         settings = evict_settings x y far new r z.0 ∙ good.settings;
         configured = stays.configured;
@@ -288,33 +280,15 @@ pub swap_part : (c : Config) (seats : List SeatState) (h : ℕ)
 swap_part c seats h a b r good (home, at, p) =
     let x = a.desk in let y = b.desk in let far = a.far in let new = b.far in
     let z = swap_step x y far new home.set home.position r good.shown p good.known in
-    let stays = swap_stays c home.set home.position good.shown far new r p.events good.known.sound p.rule
-    good.configured in
-    let settings : y.settings ≡ c = settings_stay x y far new home.set home.position r z.0 ∙ good.settings in
-    record {
-      is = (
-        home,
-        at,
-        z.0,
-        λ s k.
-            let after = (swap_step x y far new home.set home.position r s p k).1 in (
-              after.shown,
-              after.known,
-              after.same_now,
-              λ others ongoing. open_kept x y far new _ _ s others k p ongoing,
-            ),
-      );
-      good = record {
-        settings = settings;
-        configured = stays.configured;
-        shown = z.1.shown;
-        known = z.1.known;
-        pinned = pinned_kept x y far new home.set home.position r good.shown seats good.known z.0
-            good.pinned;
-        ongoing = open_kept x y far new _ _ good.shown seats good.known p good.ongoing;
-      };
-      rises = stays.rises;
-    }
+    arrives_kept c seats 16 a b z.1.shown (StillSwap h a r b) good
+    (swap_stays c home.set home.position good.shown far new r p.events good.known.sound p.rule) z.1.known
+    (swap_keeps x y far new home.set home.position r good.shown good.known z.0).words
+    (open_kept x y far new _ _ good.shown seats good.known p good.ongoing) (
+      home,
+      at,
+      z.0,
+      holds_on a b p (λ s k. (swap_step x y far new home.set home.position r s p k).1),
+    )
 
 -- ---- want of memory
 pub make_lack : (c : Config) (seats : List SeatState) (bytes : List ℕ)

@@ -14,44 +14,30 @@ use Rattle.cb_evict.specs.CommitStep.{IsCommitStep, no_batch as none_to_commit, 
 use Rattle.cb_evict.specs.ShipRule.{Ships as ShipsRow}
 use Rattle.cb_evict.specs.ShipStep.{IsShipStep}
 use Rattle.cb_core.specs.Parts.{Holding}
-use Rattle.cb_core.specs.Step.{HoldOn, StillBegin, StillShip, StillCommit, StillAbort}
-use Rattle.cb_core.proofs.StillBatches.{KeepsRest, begin_keeps, ship_keeps, commit_keeps, abort_keeps}
-use Rattle.cb_core.proofs.TurnCallsKept.{HasKept}
+use Rattle.cb_core.specs.Step.{StillBegin, StillShip, StillCommit, StillAbort}
+use Rattle.cb_core.proofs.StillBatches.{begin_keeps, ship_keeps, commit_keeps, abort_keeps}
+use Rattle.cb_core.proofs.TurnCallsKept.{HasKept, kept_step}
 
 -- ---- what each keeps
-kept_rest : (a b : Holding Words) (s : Shown) → IsKnown a.desk a.far s → HoldOn a b
-    → KeepsRest a.desk b.desk a.far b.far → HasKept a b s
-kept_rest a b s k hold keeps =
-    let then = hold s k in record {
-      shown = then.0;
-      known = then.1;
-      same_now = then.2;
-      first = keeps.first;
-      made = keeps.made;
-      turns = keeps.turns;
-      settings = keeps.settings;
-      pins = keeps.pins;
-    }
-
 pub kept_begin : (a b : Holding Words) (r : Reply) (s : Shown) → IsKnown a.desk a.far s
     → StillBegin a r b → HasKept a b s
 kept_begin a b r s k (step, hold) =
-    kept_rest a b s k hold (begin_keeps a.desk b.desk a.far b.far r step)
+    kept_step a b s k hold (begin_keeps a.desk b.desk a.far b.far r step)
 
 pub kept_ship : (a b : Holding Words) (r : Reply) (s : Shown) → IsKnown a.desk a.far s
     → StillShip a r b → HasKept a b s
 kept_ship a b r s k (step, hold) =
-    kept_rest a b s k hold (ship_keeps a.desk b.desk a.far b.far r step)
+    kept_step a b s k hold (ship_keeps a.desk b.desk a.far b.far r step)
 
 pub kept_commit : (a b : Holding Words) (r : Reply) (s : Shown) → IsKnown a.desk a.far s
     → StillCommit a r b → HasKept a b s
 kept_commit a b r s k (step, hold) =
-    kept_rest a b s k hold (commit_keeps a.desk b.desk a.far b.far r s k step)
+    kept_step a b s k hold (commit_keeps a.desk b.desk a.far b.far r s k step)
 
 pub kept_abort : (a b : Holding Words) (r : Reply) (s : Shown) → IsKnown a.desk a.far s
     → StillAbort a r b → HasKept a b s
 kept_abort a b r s k (step, hold) =
-    kept_rest a b s k hold (abort_keeps a.desk b.desk a.far b.far r s k step)
+    kept_step a b s k hold (abort_keeps a.desk b.desk a.far b.far r s k step)
 
 -- ---- how each is answered
 pub begin_line : (x y : Words) (far new : FarState) (r : Reply) → IsBeginStep x y far new r

@@ -1,10 +1,9 @@
 -- A filter as a part of a turn, and a change of the far state alone: what each keeps, and how a filter
 -- is answered.
-use Rattle.std.proofs.Common.{◌≡◌, ◌⊎◌, ℕ, zero, suc, ◌%◌, ◌<◌, ◌≤◌, arith, List, length, get_or, set, Option, Some, None, refl, sym, ap, ◌∙◌, subst, inl, inr, get_or-set_same, get_or-set_other}
-use native.Mathlib.Decide.{ℕ_discrete}
+use Rattle.std.proofs.Common.{◌≡◌, ◌⊎◌, ℕ, zero, suc, ◌%◌, ◌<◌, ◌≤◌, arith, List, length, Option, Some, None, refl, sym, ap, ◌∙◌, subst, inl, inr}
 use Rattle.cb_ptr.specs.declared.word.State.{State}
 use Rattle.cb_ptr.specs.declared.word.State.TheVariants as state
-use Rattle.cb_ptr.specs.Word.{state_of, place_of, pins_of}
+use Rattle.cb_ptr.specs.Word.{state_of, pins_of}
 use Rattle.cb_types.specs.declared.request.Request.TheVariants.{Filter}
 use Rattle.cb_types.specs.declared.reply.Reply.{Reply}
 use Rattle.cb_types.specs.declared.reply.Reply.TheVariants as answer
@@ -17,96 +16,29 @@ use Rattle.cb_model.specs.Event.Event.{FindsUnmade, Refused}
 use Rattle.cb_model.specs.Replies.{MapReplies}
 use Rattle.cb_world.specs.declared.shown.Shown.{Shown}
 use Rattle.cb_world.specs.FarState.{FarState}
-use Rattle.cb_world.specs.Grasped.{IsFree}
 use Rattle.cb_world.specs.Now.{Now, now}
 use Rattle.cb_world.specs.Now.Now.{never, freed, held, gone}
-use Rattle.cb_world.specs.Placed.{place_in}
 use Rattle.cb_world.specs.Plain.{Words}
 use Rattle.cb_world.specs.StillWords.{stamp_at}
 use Rattle.cb_world.specs.World.{IsKnown, word_at}
 use Rattle.cb_world.proofs.Laws.{bits, empty_value, empty_now}
 use Rattle.cb_mutate.specs.MapCalls.{IsValue, IsCallOn}
-use Rattle.cb_mutate.proofs.Laws.{IsThere, map_same, stays_call, far_there, near_held, here_near, in_range}
+use Rattle.cb_mutate.proofs.Laws.{IsThere, map_same, stays_call, far_there, near_held, here_near}
 use Rattle.cb_filter.specs.FilterRule.{EmptyAnswer}
-use Rattle.cb_filter.specs.FilterStep.{IsFilterStep, refused, cools, without_slot, moves, RefusesAs, cool_word}
+use Rattle.cb_filter.specs.FilterStep.{IsFilterStep, refused, cools, without_slot, moves, RefusesAs}
+use Rattle.cb_filter.proofs.Laws.{filter_keeps}
 use Rattle.cb_core.specs.Parts.{Holding}
 use Rattle.cb_core.specs.Step.{StillFar, StillFilter}
-use Rattle.cb_core.proofs.KeptPins.{cool_pins}
 use Rattle.cb_core.proofs.NodesStay.{MakesNone}
-use Rattle.cb_core.proofs.TurnCallsKept.{HasKept}
+use Rattle.cb_core.proofs.TurnCallsKept.{HasKept, kept_step}
 use Rattle.cb_core.proofs.TurnCallsMap.{IsSameMap, map_stays, call_carried}
 use Rattle.cb_core.proofs.TurnCallsWhere.{kept_map, within}
 
 -- ---- what each keeps
--- a free object that is the same but not hot, here or at another place, keeps its pins, which are none
-cooled_pins : (x y : Words) (h place k : ℕ) → IsFree (word_at x h)
-    → y.words ≡ set x.words h (cool_word (word_at x h) place)
-    → pins_of (word_at y k) ≡ pins_of (word_at x k)
-cooled_pins x y h place k free words = by (ℕ_discrete k h)
-  where
-    w : ℕ
-    w = cool_word (word_at x h) place
-
-    at : (i : ℕ) → word_at y i ≡ get_or (set x.words h w) i 0
-    at i = ap (λ (l : List ℕ). get_or l i 0) words
-
-    by : Dec (k ≡ h) → pins_of (word_at y k) ≡ pins_of (word_at x k)
-    by (no off) = ap pins_of (at k ∙ get_or-set_other x.words h k w 0 off)
-    by (yes e) = subst (λ (i : ℕ). pins_of (word_at y i) ≡ pins_of (word_at x i)) (sym e)
-        (ap pins_of (at h ∙ get_or-set_same x.words h w 0 (in_range x h (here_near (word_at x h) free.0)))
-        ∙ cool_pins (word_at x h) place free ∙ sym free.1)
-
--- what a filter keeps
-record IsKept (a b : Holding Words) : Type 0 where
-  pub first : b.far.first ≡ a.far.first
-  pub made : b.far.made ≡ a.far.made
-  pub turns : b.far.counts.turns ≡ a.far.counts.turns
-  pub settings : b.desk.settings ≡ a.desk.settings
-  pub pins : (h : ℕ) → pins_of (word_at b.desk h) ≡ pins_of (word_at a.desk h)
-
-kept_same : (a b : Holding Words) → b.desk ≡ a.desk → b.far ≡ a.far → IsKept a b
-kept_same a b same state = record {
-  first = ap (λ (f : FarState). f.first) state;
-  made = ap (λ (f : FarState). f.made) state;
-  turns = ap (λ (f : FarState). f.counts.turns) state;
-  settings = ap (λ (x : Words). x.settings) same;
-  pins = λ h. ap (λ (x : Words). pins_of (word_at x h)) same;
-}
-
-filter_keeps : (a b : Holding Words) (h : ℕ) (r : Reply) → IsFilterStep a.desk b.desk a.far b.far h r
-    → IsKept a b
-filter_keeps a b h r (refused why same state) = kept_same a b same state
-filter_keeps a b h r (without_slot seat is none same) = kept_same a b same none.state
-filter_keeps a b h r (cools seat is place same) = record {
-  first = ap (λ (f : FarState). f.first) place.state;
-  made = ap (λ (f : FarState). f.made) place.state;
-  turns = ap (λ (f : FarState). f.counts.turns) place.state;
-  settings = ap (λ (x : Words). x.settings) same;
-  pins = λ k. cooled_pins a.desk b.desk h (place_of (word_at a.desk h)) k is.free
-      (ap (λ (x : Words). x.words) same);
-}
-filter_keeps a b h r (moves seat slot is gets same) = record {
-  first = ap (λ (f : FarState). f.first) gets.state;
-  made = ap (λ (f : FarState). f.made) gets.state;
-  turns = ap (λ (f : FarState). f.counts.turns) gets.state;
-  settings = ap (λ (x : Words). x.settings) same;
-  pins = λ k. cooled_pins a.desk b.desk h (place_in slot) k is.free (ap (λ (x : Words). x.words) same);
-}
-
 pub kept_filter : (a b : Holding Words) (h : ℕ) (r : Reply) (s : Shown) → IsKnown a.desk a.far s
     → StillFilter h a r b → HasKept a b s
 kept_filter a b h r s k (step, hold) =
-    let keeps = filter_keeps a b h r step in
-    let then = hold s k in record {
-      shown = then.0;
-      known = then.1;
-      same_now = then.2;
-      first = keeps.first;
-      made = keeps.made;
-      turns = keeps.turns;
-      settings = keeps.settings;
-      pins = keeps.pins;
-    }
+    kept_step a b s k hold (filter_keeps a.desk b.desk a.far b.far h r step)
 
 -- so does a change of the far state alone in which no object was made and no turn counted
 pub kept_far : (step : FarState → FarState → Reply → Type 0) (a b : Holding Words) (r : Reply)
@@ -120,6 +52,7 @@ kept_far step a b r s k none (same, done, hold) = let then = hold s k in record 
   turns = none.turns;
   settings = ap (λ (x : Words). x.settings) same;
   pins = λ h. ap (λ (x : Words). pins_of (word_at x h)) same;
+  pinned = λ h some. ap (λ (x : Words). word_at x h) same;
 }
 
 -- ---- how it is answered

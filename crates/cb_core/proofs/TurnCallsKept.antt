@@ -1,5 +1,5 @@
 -- What an eviction and a swap-in within a turn keep: what every object holds.
-use Rattle.std.proofs.Common.{◌≡◌, ℕ, refl, ap, ◌∙◌}
+use Rattle.std.proofs.Common.{◌≡◌, ℕ, ◌≤◌, refl, sym, ◌∙◌, subst}
 use Rattle.cb_ptr.specs.Word.{pins_of}
 use Rattle.cb_types.specs.declared.job.Job.{Job}
 use Rattle.cb_types.specs.declared.reply.Reply.{Reply}
@@ -11,18 +11,18 @@ use Rattle.cb_world.specs.FarState.{FarState}
 use Rattle.cb_world.specs.Now.{now}
 use Rattle.cb_world.specs.Plain.{Words}
 use Rattle.cb_world.specs.World.{WorldState, IsKnown, word_at}
-use Rattle.cb_world.proofs.Laws.{recounted_sound, now_same}
-use Rattle.cb_evict.proofs.Laws.{evict_keeps, evict_pins, evict_settings}
-use Rattle.cb_swapin.proofs.Laws.{keeps_far, settings_stay, pins_stay}
+use Rattle.cb_world.proofs.Laws.{StepKeeps, recounted_sound, now_same}
+use Rattle.cb_evict.proofs.Laws.{evict_keeps, evict_pinned, evict_pins, evict_settings}
+use Rattle.cb_swapin.proofs.Laws.{swap_keeps}
 use Rattle.cb_evict.specs.declared.eviction.Eviction.{Eviction}
 use Rattle.cb_evict.specs.declared.eviction.Eviction.TheVariants.{Refused, Set}
 use Rattle.cb_evict.specs.Eviction.{reply_of}
 use Rattle.cb_core.specs.Parts.{Holding, at_once, no_room, won}
-use Rattle.cb_core.specs.Step.{StillEvict, StillRoom, StillSwap, StillBring}
+use Rattle.cb_core.specs.Step.{HoldOn, StillEvict, StillRoom, StillSwap, StillBring}
 use Rattle.cb_core.specs.Turned.{counted}
 
--- All is known after, each object holds what it held, with its pins, no object was made, and no turn
--- was counted.
+-- All is known after, each object holds what it held, with its pins, and with pins it has its word; no
+-- object was made, and no turn was counted.
 pub record HasKept (a b : Holding Words) (s : Shown) : Type 0 where
   pub shown : Shown
   pub known : IsKnown b.desk b.far shown
@@ -32,6 +32,7 @@ pub record HasKept (a b : Holding Words) (s : Shown) : Type 0 where
   pub turns : b.far.counts.turns ≡ a.far.counts.turns
   pub settings : b.desk.settings ≡ a.desk.settings
   pub pins : (h : ℕ) → pins_of (word_at b.desk h) ≡ pins_of (word_at a.desk h)
+  pub pinned : (h : ℕ) → 1 ≤ pins_of (word_at a.desk h) → word_at b.desk h ≡ word_at a.desk h
 
 -- two holdings are the same where the desks and the far states are
 pub same_holding : (a b : Holding Words) → b.desk ≡ a.desk → b.far ≡ a.far → b ≡ a
@@ -47,6 +48,7 @@ kept_all a s k = record {
   turns = refl;
   settings = refl;
   pins = λ h. refl;
+  pinned = λ h some. refl;
 }
 
 pub kept_then : (a b c : Holding Words) (s : Shown) → (k : HasKept a b s) → HasKept b c k.shown
@@ -60,7 +62,24 @@ kept_then a b c s k l = record {
   turns = l.turns ∙ k.turns;
   settings = l.settings ∙ k.settings;
   pins = λ h. l.pins h ∙ k.pins h;
+  pinned = λ h some. l.pinned h (subst (λ (n : ℕ). 1 ≤ n) (sym (k.pins h)) some) ∙ k.pinned h some;
 }
+
+-- what a step keeps, after which all is known
+pub kept_step : (a b : Holding Words) (s : Shown) → IsKnown a.desk a.far s → HoldOn a b
+    → StepKeeps a.desk b.desk a.far b.far → HasKept a b s
+kept_step a b s k hold keeps =
+    let then = hold s k in record {
+      shown = then.0;
+      known = then.1;
+      same_now = then.2;
+      first = keeps.far.first;
+      made = keeps.far.made;
+      turns = keeps.far.turns;
+      settings = keeps.words.settings;
+      pins = keeps.words.pins;
+      pinned = keeps.words.pinned;
+    }
 
 pub kept_evict : (a b : Holding Words) (r : Reply) (s : Shown) → IsKnown a.desk a.far s
     → StillEvict a r b → HasKept a b s
@@ -75,22 +94,13 @@ kept_evict a b r s k (step, hold) =
       turns = keeps.turns;
       settings = evict_settings a.desk b.desk a.far b.far r step;
       pins = λ h. evict_pins a.desk b.desk a.far b.far r h step;
+      pinned = λ h. evict_pinned a.desk b.desk a.far b.far r h step;
     }
 
 pub kept_swap : (a b : Holding Words) (h : ℕ) (r : Reply) (s : Shown) → IsKnown a.desk a.far s
     → StillSwap h a r b → HasKept a b s
 kept_swap a b h r s k (home, at, step, hold) =
-    let keeps = keeps_far a.desk b.desk a.far b.far home.set home.position r step in
-    let then = hold s k in record {
-      shown = then.0;
-      known = then.1;
-      same_now = then.2;
-      first = keeps.first;
-      made = keeps.made;
-      turns = ap (λ n. n.turns) keeps.counts;
-      settings = settings_stay a.desk b.desk a.far b.far home.set home.position r step;
-      pins = λ h. pins_stay a.desk b.desk a.far b.far home.set home.position r s k step h;
-    }
+    kept_step a b s k hold (swap_keeps a.desk b.desk a.far b.far home.set home.position r s k step)
 
 -- so does one that tells both counts
 pub kept_room : (a b : Holding Words) (e : Eviction) (s : Shown) → IsKnown a.desk a.far s

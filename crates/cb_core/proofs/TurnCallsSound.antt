@@ -1,5 +1,5 @@
 -- A swap that is a turn leaves the world sound.
-use Rattle.std.proofs.Common.{◌≡◌, ℕ, ◌^◌, List, refl, sym, ◌∙◌, subst, arith}
+use Rattle.std.proofs.Common.{ℕ, ◌^◌, List, refl, sym, ◌∙◌, subst, arith}
 use Rattle.cb_types.specs.declared.config.Config.{Config}
 use Rattle.cb_types.specs.declared.job.Job.TheVariants as job
 use Rattle.cb_types.specs.declared.reply.Reply.{Reply}
@@ -10,14 +10,14 @@ use Rattle.cb_world.specs.Seats.{SeatState, AtMostOneHolds}
 use Rattle.cb_world.proofs.Laws.{open_same, recounted}
 use Rattle.cb_world.specs.World.{WorldState, ArePinned, IsConfigured, IsSoundWorld}
 use Rattle.cb_evict.proofs.Laws.{evict_seats, evict_settings, evict_step_stays}
-use Rattle.cb_swapin.proofs.Laws.{settings_stay, pinned_kept, swap_step_stays}
+use Rattle.cb_swapin.proofs.Laws.{swap_keeps, swap_step_stays}
 use Rattle.cb_evict.specs.Eviction.{reply_of}
 use Rattle.cb_core.specs.Parts.{BringsIn}
 use Rattle.cb_core.specs.Step.{StillRoom, StillSwap, StillBring, StillFind, TurnStep, worn, done}
 use Rattle.cb_core.specs.Turned.{counted}
 use Rattle.cb_core.proofs.Noted.{noted_after}
 use Rattle.cb_core.proofs.Carried.{brings_in, itself, with_room}
-use Rattle.cb_core.proofs.KeptParts.{IsGood, Arrives, Carries, arrives_same, counted_rises, good_along, rises_more}
+use Rattle.cb_core.proofs.KeptParts.{IsGood, Arrives, Carries, arrives_kept, arrives_same, counted_rises, good_along, rises_more}
 use Rattle.cb_core.proofs.TurnCalls.{held_at, held_then, known_at}
 
 module _ (c : Config) (seats : List SeatState) (accepted : IsAccepted c) where
@@ -42,23 +42,12 @@ module _ (c : Config) (seats : List SeatState) (accepted : IsAccepted c) where
 
   one_arrives : (h : ℕ) → Carries c seats 16 (StillSwap h) (StillSwap h)
   one_arrives h a b r good (home, at, step, hold) =
-      let stays = swap_step_stays c a.desk b.desk a.far b.far home.set home.position r good.shown
-      good.known.sound step good.configured in
-      let settings : b.desk.settings ≡ c =
-      settings_stay a.desk b.desk a.far b.far home.set home.position r step ∙ good.settings in
-      let known = hold good.shown good.known in record {
-        is = (home, at, step, hold);
-        good = record {
-          settings = settings;
-          configured = stays.configured;
-          shown = known.0;
-          known = known.1;
-          pinned = pinned_kept a.desk b.desk a.far b.far home.set home.position r good.shown seats
-              good.known step good.pinned;
-          ongoing = known.3 seats good.ongoing;
-        };
-        rises = stays.rises;
-      }
+      let known = hold good.shown good.known in
+      arrives_kept c seats 16 a b known.0 (StillSwap h a r b) good
+      (swap_step_stays c a.desk b.desk a.far b.far home.set home.position r good.shown good.known.sound
+      step) known.1
+      (swap_keeps a.desk b.desk a.far b.far home.set home.position r good.shown good.known step).words
+      (known.3 seats good.ongoing) (home, at, step, hold)
 
   swap_arrives : (h : ℕ) → Carries c seats 57 (BringsIn (StillFind h) (StillBring h))
       (BringsIn (StillFind h) (StillBring h))

@@ -17,11 +17,11 @@ use Rattle.cb_world.specs.Plain.{Words, Shows}
 use Rattle.cb_world.specs.Played.{played}
 use Rattle.cb_world.specs.StillDesk.{plain_follows, plain_stays}
 use Rattle.cb_world.specs.World.{word_at, IsKnown}
-use Rattle.cb_world.proofs.Laws.{HereIs, AreSeen, here_after, seen_after, seen_known, FreeIs, free_after, PerformsStill, RunsStill, runs_still, known_then}
+use Rattle.cb_world.proofs.Laws.{IsStepKnown, HereIs, AreSeen, here_after, seen_after, seen_known, FreeIs, free_after, PerformsStill, RunsStill, runs_still, known_then}
 use Rattle.cb_evict.specs.AbortRule.{HasNoBatch, HasGivenUp, AbortRule, AbortEffect}
 use Rattle.cb_evict.specs.AbortStep.{ArePutBack, IsAbortStep, no_batch, given_up}
 use Rattle.cb_evict.specs.Restoring.{IsClaimedFrom, IsHereAt, AreRestored}
-use Rattle.cb_evict.proofs.EvictStep.{IsStepKnown, refused, word_stays}
+use Rattle.cb_evict.proofs.EvictStep.{refused, word_stays}
 use Rattle.cb_evict.proofs.Noted.{claimed_all}
 
 -- the word of an object that is here, without pins, as a word says, is that word

@@ -22,7 +22,7 @@ use Rattle.cb_world.specs.RowWords.{row_of}
 use Rattle.cb_world.specs.SetWord.{IsSpanWord}
 use Rattle.cb_world.specs.StillDesk.{plain_follows, plain_stays}
 use Rattle.cb_world.specs.World.{word_at, IsKnown}
-use Rattle.cb_world.proofs.Laws.{found_exact, AreSeen, seen_after, seen_known, PerformsStill, RunsStill, runs_still, known_then}
+use Rattle.cb_world.proofs.Laws.{IsStepKnown, found_exact, AreSeen, seen_after, seen_known, PerformsStill, RunsStill, runs_still, known_then}
 use Rattle.cb_evict.specs.BeginEffect.{IsLeavingNow, IsBegun, BeginEffect}
 use Rattle.cb_evict.specs.BeginRule.{new_batch, HasBegun, HasBatch, BeginRule}
 use Rattle.cb_evict.specs.BeginStep.{AreHeld, IsBegunTo, IsBeginStep, is_leaving, few_spans, few_nodes, begins}
@@ -31,7 +31,7 @@ use Rattle.cb_evict.specs.EvictStep.{loose_frames}
 use Rattle.cb_evict.specs.Looking.{IsIn}
 use Rattle.cb_evict.proofs.AfterEvict.{leaves_free}
 use Rattle.cb_evict.proofs.BeginParts.{leaving_batch, spans_batch, nodes_batch}
-use Rattle.cb_evict.proofs.EvictStep.{IsStepKnown, refused, word_stays}
+use Rattle.cb_evict.proofs.EvictStep.{refused, word_stays}
 use Rattle.cb_evict.proofs.LooseSpans.{loose_exact}
 use Rattle.cb_evict.proofs.Standing.{are_unique}
 

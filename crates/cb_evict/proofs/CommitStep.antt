@@ -16,14 +16,14 @@ use Rattle.cb_world.specs.Plain.{Words, Shows}
 use Rattle.cb_world.specs.Played.{played}
 use Rattle.cb_world.specs.StillDesk.{plain_follows, plain_stays}
 use Rattle.cb_world.specs.World.{word_at, IsKnown}
-use Rattle.cb_world.proofs.Laws.{PerformsStill, RunsStill, runs_still, known_then}
+use Rattle.cb_world.proofs.Laws.{IsStepKnown, PerformsStill, RunsStill, runs_still, known_then}
 use Rattle.cb_evict.specs.AbortRule.{HasNoBatch}
 use Rattle.cb_evict.specs.CommitRule.{HasShort, HasCommitted, CommitRule, CommitEffect}
 use Rattle.cb_evict.specs.CommitStep.{ArePutAway, IsCommitStep, no_batch, short, committed}
 use Rattle.cb_evict.specs.Restoring.{IsClaimedFrom}
 use Rattle.cb_evict.specs.Sending.{IsSent, AreSent}
 use Rattle.cb_evict.proofs.Commits.{no_batch_set, short_set}
-use Rattle.cb_evict.proofs.EvictStep.{IsStepKnown, refused, word_stays}
+use Rattle.cb_evict.proofs.EvictStep.{refused, word_stays}
 use Rattle.cb_evict.proofs.Noted.{claimed_all}
 
 put_away : (x y : Words) (far : FarState) (s : Shown) (es : List Event) (batch : LeavingState)

@@ -24,7 +24,7 @@ use Rattle.cb_world.specs.RowWords.{words_in}
 use Rattle.cb_world.specs.Still.{IsStill}
 use Rattle.cb_world.specs.StillDesk.{plain_follows, plain_stays}
 use Rattle.cb_world.specs.World.{word_at, IsKnown}
-use Rattle.cb_world.proofs.Laws.{found_exact, taken_exact, now_same, word_back, PerformsStill, RunsStill, runs_still, known_then, stays_still}
+use Rattle.cb_world.proofs.Laws.{IsStepKnown, found_exact, taken_exact, now_same, word_back, PerformsStill, RunsStill, runs_still, known_then, stays_still}
 use Rattle.cb_evict.specs.Closing.{all_closed}
 use Rattle.cb_evict.specs.Candidates.{candidates}
 use Rattle.cb_evict.specs.EvictEffect.{HasLeft, HaveFrameRows, IsEvicted, EvictEffect}
@@ -163,13 +163,7 @@ evicted_to x y far new s es frames r e z holds few = record {
     memory = (plain_follows es x y s r.ran r.known.shows).1.memory ∙ sent.memory
 
 -- ---- the step
--- All is known of the desk after the step, and the last complete contents of each handle stay.
-pub record IsStepKnown (y : Words) (far new : FarState) (s : Shown) : Type 0 where
-  pub shown : Shown
-  pub known : IsKnown y new shown
-  pub same_now : (h : ℕ) → now shown new h ≡ now s far h
-
--- so it is where nothing changed, which is a refusal
+-- All is known where nothing changed, which is a refusal.
 pub refused : {Step : Type 0} (x y : Words) (far new : FarState) (s : Shown) (es : List Event)
     → RunsStill x y far s es → IsKnown y new (played es s) → IsStill es s (played es s) → new ≡ far
     → (y ≡ x → Step) → Step × IsStepKnown y far new s

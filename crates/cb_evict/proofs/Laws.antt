@@ -10,7 +10,7 @@ pub use Rattle.cb_evict.proofs.CommitFixed.{commit_step_fixes}
 pub use Rattle.cb_evict.proofs.CommitStep.{commit_step}
 pub use Rattle.cb_evict.proofs.Composed.{few_nodes, few_spans, rule_weaker}
 pub use Rattle.cb_evict.proofs.EvictFixed.{evict_step_fixes}
-pub use Rattle.cb_evict.proofs.EvictStep.{IsStepKnown, counted_step, evict_step, evict_stopped}
+pub use Rattle.cb_evict.proofs.EvictStep.{counted_step, evict_step, evict_stopped}
 pub use Rattle.cb_evict.proofs.EvictionFixed.{counted_step_fixes}
 pub use Rattle.cb_evict.proofs.Gone.{given_in}
 pub use Rattle.cb_evict.proofs.Loose.{loose_among}

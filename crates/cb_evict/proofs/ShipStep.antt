@@ -14,12 +14,11 @@ use Rattle.cb_world.specs.Played.{played}
 use Rattle.cb_world.specs.RowWords.{row_of}
 use Rattle.cb_world.specs.Still.{IsStill}
 use Rattle.cb_world.specs.World.{IsKnown}
-use Rattle.cb_world.proofs.Laws.{PerformsStill, runs_still, known_then, stays_still}
+use Rattle.cb_world.proofs.Laws.{IsStepKnown, PerformsStill, runs_still, known_then, stays_still}
 use Rattle.cb_evict.specs.Loading.{LiesInOne}
 use Rattle.cb_evict.specs.ShipRule.{ReadsLeaving, ShipEffect, ShipRule, Ships}
 use Rattle.cb_evict.specs.ShipStep.{IsShipStep}
 use Rattle.cb_evict.proofs.Events.{are_reads}
-use Rattle.cb_evict.proofs.EvictStep.{IsStepKnown}
 
 -- ---- what a ship leaves
 -- local memory, all sets, homes and nodes' lives stay, and the pair that is joining; no set number

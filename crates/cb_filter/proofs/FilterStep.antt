@@ -1,5 +1,5 @@
 -- Over a still desk a filter is a step: what its rule and its effect say is exact there.
-use Rattle.std.proofs.Common.{◌≡◌, ◌⊎◌, ℕ, zero, suc, Bool, false, ◌<◌, ◌≤◌, List, length, get_or, set, sym, refl, ap, ◌∙◌, subst, arith, inl, inr, length-set, get_or-set_other, get_or-set_same}
+use Rattle.std.proofs.Common.{◌≡◌, ℕ, zero, suc, Bool, false, ◌<◌, List, length, get_or, set, sym, refl, ap, ◌∙◌, subst, arith, inl, inr, length-set, get_or-set_other, get_or-set_same}
 use Rattle.std.proofs.lemmas.Bool.{cases_lt}
 use Rattle.std.proofs.lemmas.List.{set-get_or, get_or_past}
 use Rattle.cb_ptr.specs.declared.word.State.{State}
@@ -22,17 +22,16 @@ use Rattle.cb_world.specs.Placed.{IsChosen, place_in}
 use Rattle.cb_world.specs.Plain.{Words, Plain}
 use Rattle.cb_world.specs.Allowed.{Allowed}
 use Rattle.cb_world.specs.Played.{played}
-use Rattle.cb_world.specs.Looks.{told_by}
 use Rattle.cb_world.specs.Touches.{SettlesLast}
 use Rattle.cb_world.specs.Still.{IsStill}
 use Rattle.cb_world.specs.StillDesk.{here_is as fits_here, plain_follows, plain_stays}
 use Rattle.cb_world.specs.StillWords.{stamp_at, contents_at}
 use Rattle.cb_world.specs.World.{word_at, IsKnown}
-use Rattle.cb_world.proofs.Laws.{found_exact, taken_exact, HereIs, AreSeen, here_after, seen_after, seen_known, told_exact, FreeIs, free_after, one_exact, PerformsStill, RunsStill, runs_still, known_then, stays_still}
-use Rattle.cb_filter.specs.Seats.{Seat, temp_for}
-use Rattle.cb_filter.specs.FilterRule.{EmptyAnswer, AbsentAs, IsInPlace, HasNoSlot, GetsSlot, FilterSeated, FilterHere, FilterAs, FilterRule, NeedsMemory}
+use Rattle.cb_world.proofs.Laws.{IsStepKnown, found_exact, taken_exact, HereIs, AreSeen, here_after, seen_after, seen_known, told_exact, FreeIs, free_after, one_exact, PerformsStill, RunsStill, runs_still, known_then, stays_still}
+use Rattle.cb_filter.specs.Seats.{temp_for}
+use Rattle.cb_filter.specs.FilterRule.{EmptyAnswer, FilterSeated, FilterHere, FilterAs, FilterRule, NeedsMemory}
 use Rattle.cb_filter.specs.FilterEffect.{IsCooled, IsMoved, FilterEffect}
-use Rattle.cb_filter.specs.FilterStep.{cool_word, with_cooled, with_carried_to, RefusesAs, temp_of, IsFreeIn, IsFilterStep, refused, cools, without_slot, moves}
+use Rattle.cb_filter.specs.FilterStep.{cool_word, with_cooled, with_carried_to, RefusesAs, temp_of, IsFilterStep, refused, cools, without_slot, moves}
 
 -- ---- the words
 -- an object that was settled at a place, not hot, has its word with that place
@@ -49,7 +48,7 @@ cool_is v w place fits here none cold free =
     sym (word_of-fields_of v fits.0) ∙ ap word_of fields
 
 -- a handle with a word that is here is one of those that there are
-in_range : (x : Words) (h : ℕ) → state_of (word_at x h) ≡ state.Here → h < length x.words
+pub in_range : (x : Words) (h : ℕ) → state_of (word_at x h) ≡ state.Here → h < length x.words
 in_range x h here = elim (cases_lt h (length x.words)) [
   | inl below ↦ below
   | inr past ↦ absurd (empty_here (ap state_of (sym (get_or_past x.words h 0 past)) ∙ here))
@@ -232,12 +231,6 @@ step_by state.Moving x y far new s es h r runs last effect e a =
     refused (subst (λ (q : State). RefusesAs q (word_at x h) (stamp_at x h) r) (sym e) a.0)
     (stays_still x y far s es runs
     (subst (λ (q : Reply). FilterEffect h far new q es s (played es s)) a.0 effect).change) a.1
-
--- All is known of the desk after the step, and the last complete contents of each handle stay.
-pub record IsStepKnown (y : Words) (far new : FarState) (s : Shown) : Type 0 where
-  pub shown : Shown
-  pub known : IsKnown y new shown
-  pub same_now : (k : ℕ) → now shown new k ≡ now s far k
 
 -- Over a still desk of which all is known a filter is a step, and all is known of it afterwards.
 pub filter_step : (x y : Words) (far new : FarState) (s : Shown) (h : ℕ) (r : Reply)

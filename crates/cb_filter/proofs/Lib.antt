@@ -7,6 +7,7 @@ pub mod Settled
 pub mod Filtered
 pub mod Unmade
 pub mod FilterStep
+pub mod FilterKeeps
 pub mod StepFixed
 pub mod Stays
 pub mod Unwritten

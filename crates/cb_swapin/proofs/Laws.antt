@@ -4,8 +4,7 @@ pub use Rattle.cb_swapin.proofs.SlotNames.{named_within}
 pub use Rattle.cb_swapin.proofs.Stays.{given_stays, swap_stays, swap_step_stays}
 pub use Rattle.cb_swapin.proofs.StepFixed.{swap_step_fixes}
 pub use Rattle.cb_swapin.proofs.SwapAnswers.{by_answer, unavailable_answer}
-pub use Rattle.cb_swapin.proofs.SwapKeeps.{keeps_far, settings_stay, step_cases, step_only_no_frame, swapped_kept}
-pub use Rattle.cb_swapin.proofs.SwapPins.{home_comes_in, named_far, pinned_stays, pins_stay}
+pub use Rattle.cb_swapin.proofs.SwapKeeps.{keeps_far, leaving_stays, settings_stay, step_cases, step_only_no_frame}
+pub use Rattle.cb_swapin.proofs.SwapPins.{home_comes_in, named_far, swap_keeps}
 pub use Rattle.cb_swapin.proofs.SwapStep.{swap_step}
-pub use Rattle.cb_swapin.proofs.SwapWorld.{pinned_kept}
 pub use Rattle.cb_swapin.proofs.Unwritten.{swap_unwritten}

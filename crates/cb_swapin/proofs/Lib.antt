@@ -18,7 +18,6 @@ pub mod Stays
 pub mod Unwritten
 pub mod SwapPins
 pub mod FarHomes
-pub mod SwapWorld
 mod WorkedNamed
 mod WorkedSwap
 mod WorkedWord

@@ -1,26 +1,25 @@
 -- What a swap-in leaves of the configured sizes and codes, and of what is counted.
-use Rattle.std.proofs.Common.{◌≡◌, ℕ, Bool, true, false, ◌+◌, ◌≤◌, if◌then◌else◌, List, Some, length, refl, sym, ap, ◌∙◌, subst, arith}
-use Rattle.cb_member.specs.Membership.{Membership}
+use Rattle.std.proofs.Common.{◌≡◌, ℕ, Bool, true, false, ◌+◌, ◌≤◌, if◌then◌else◌, List, Option, Some, length, refl, sym, ap, ◌∙◌, subst, arith, length-set}
 use Rattle.cb_node.specs.NodesState.{NodesState}
 use Rattle.cb_set.specs.Lost.{lost_at}
-use Rattle.cb_set.specs.SetState.{SetState, dead_position, with_position}
+use Rattle.cb_set.specs.SetState.{SetState, dead_position, position_of, with_position}
+use Rattle.cb_span.specs.declared.temp.Temp.TheVariants.{Hot}
+use Rattle.cb_span.specs.Contents.{Contents, span_of}
 use Rattle.cb_types.specs.declared.config.Config.{Config}
 use Rattle.cb_types.specs.declared.reply.Reply.{Reply}
 use Rattle.cb_types.specs.declared.reply.Reply.TheVariants as answer
-use Rattle.cb_world.specs.Codes.{HaveCodes}
-use Rattle.cb_world.specs.Counts.{CountsState}
 use Rattle.cb_world.specs.declared.event.Event.{Event}
 use Rattle.cb_world.specs.declared.shown.Shown.{Shown}
 use Rattle.cb_world.specs.FarState.{FarState}
 use Rattle.cb_world.specs.Fetched.{rows_needed, with_given}
 use Rattle.cb_world.specs.Plain.{Words}
-use Rattle.cb_world.specs.Sets.{SetMap, set_in}
+use Rattle.cb_world.specs.Sets.{set_in}
 use Rattle.cb_world.specs.Sound.{Sound}
-use Rattle.cb_world.proofs.Laws.{SetCodes, codes_left, left_given, Stays, StaysIf, stays_same}
+use Rattle.cb_world.proofs.Laws.{SetCodes, codes_left, left_count, left_given, left_room, StaysIf, stays_given, stays_same}
 use Rattle.cb_swapin.specs.Fetching.{far_given}
 use Rattle.cb_swapin.specs.SwapRule.{IsSwappedTo, SwapFar, SwapRule}
 use Rattle.cb_swapin.specs.SwapStep.{IsSwapStep}
-use Rattle.cb_swapin.proofs.SwapKeeps.{step_cases, swapped_kept}
+use Rattle.cb_swapin.proofs.SwapKeeps.{step_cases}
 
 -- at most 16 rows are needed, and so at most 16 are given out
 rows_most : (s : Shown) (far : FarState) (id p : ℕ) (set : SetState) → Sound s far
@@ -38,29 +37,34 @@ pub swapped_stays : (c : Config) (s : Shown) (far new : FarState) (id p : ℕ) (
     → Sound s far → set_in far.sets id ≡ Some set → IsSwappedTo far new id p set f
     → StaysIf c 16 far new
 swapped_stays c s far new id p set f sound there z is =
-    let keeps = swapped_kept far new id p set f z in
-    let sets : new.counts.sets ≡ far.counts.sets = ap (λ (q : CountsState). q.sets) keeps.counts in
-    let keys : new.counts.keys ≡ far.counts.keys = ap (λ (q : CountsState). q.keys) keeps.counts in
-    let epoch : new.members.epoch ≡ far.members.epoch = ap (λ (m : Membership). m.epoch) keeps.members in
     let given : new.nodes.given ≡ far.nodes.given + rows_needed far.members set p =
     ap (λ (q : NodesState). q.given) z.nodes
     ∙ left_given (with_given far.nodes (rows_needed far.members set p))
     (with_position set p dead_position) in
+    let sets : new.counts.sets ≡ far.counts.sets = ap (λ (q : FarState). q.counts.sets) z.rest in
+    let keys : new.counts.keys ≡ far.counts.keys = ap (λ (q : FarState). q.counts.keys) z.rest in
+    let epoch : new.members.epoch ≡ far.members.epoch = ap (λ (q : FarState). q.members.epoch) z.rest in
     let most = rows_most s far id p set sound there in record {
       configured = record {
-        frames = keeps.spans ∙ is.frames;
-        homes = keeps.homes ∙ is.homes;
-        nodes = keeps.nodes ∙ is.nodes;
-        room = keeps.room ∙ is.room;
+        frames = ap (λ (l : List (Option Contents)). length l) z.spans
+            ∙ length-set far.spans f (Some (span_of z.class Hot (position_of set p).slots))
+            ∙ is.frames;
+        homes = z.homes.count ∙ is.homes;
+        nodes = ap (λ (q : NodesState). length q.nodes) z.nodes
+            ∙ left_count (with_given far.nodes (rows_needed far.members set p))
+            (with_position set p dead_position) ∙ is.nodes;
+        room = ap (λ (q : NodesState). q.room) z.nodes
+            ∙ left_room (with_given far.nodes (rows_needed far.members set p))
+            (with_position set p dead_position) ∙ is.room;
         codes = record {
           sets = subst (SetCodes c) (sym z.sets)
               (codes_left c far.sets id p set dead_position there is.codes.sets);
-          batch = λ b at. is.codes.batch b (sym keeps.leaving ∙ at);
+          batch = λ b at. is.codes.batch b (sym (ap (λ (q : FarState). q.leaving) z.rest) ∙ at);
         };
       };
       rises = record {
-        turns = ap (λ (q : CountsState). q.turns) keeps.counts;
-        by_job = ap (λ (q : CountsState). q.by_job) keeps.counts;
+        turns = ap (λ (q : FarState). q.counts.turns) z.rest;
+        by_job = ap (λ (q : FarState). q.counts.by_job) z.rest;
         sets = omega (arith, sets);
         keys = omega (arith, keys);
         epoch = omega (arith, epoch);
@@ -88,22 +92,6 @@ swap_step_stays c x y far new id p r s sound z =
 -- a swap-in that found no memory may have given rows out
 pub given_stays : (c : Config) (s : Shown) (far : FarState) (id n : ℕ) (set : SetState) → Sound s far
     → set_in far.sets id ≡ Some set → n ≤ length set.positions → StaysIf c 16 far (far_given far n)
-given_stays c s far id n set sound there few is =
-    let most = (sound.away.sound.sets.shaped id set there).range.data_most in record {
-      configured = record {
-        frames = is.frames;
-        homes = is.homes;
-        nodes = is.nodes;
-        room = is.room;
-        codes = record { sets = is.codes.sets; batch = is.codes.batch };
-      };
-      rises = record {
-        turns = refl;
-        by_job = refl;
-        sets = omega arith;
-        keys = omega arith;
-        epoch = omega arith;
-        given = omega (arith, most, few);
-        note = λ n e. e;
-      };
-    }
+given_stays c s far id n set sound there few =
+    let most = (sound.away.sound.sets.shaped id set there).range.data_most in
+    stays_given c 16 (far.nodes.given + n) far far.survey (omega (arith, most, few)) (λ n e. e)

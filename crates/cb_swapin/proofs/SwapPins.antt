@@ -1,6 +1,6 @@
 -- What a step of a swap-in does to single objects: those of the position, which were far, are here;
 -- every other one, and so each with pins, is as it was.
-use Rattle.std.proofs.Common.{◌≡◌, ◌≢◌, ℕ, false, nat_eq, ◌+◌, ◌*◌, ◌/◌, ◌%◌, ◌^◌, ◌<◌, ◌≤◌, List, Option, Some, None, length, refl, sym, ap, ◌∙◌, subst, arith, inl, inr, get_or-set_same}
+use Rattle.std.proofs.Common.{◌≡◌, ℕ, false, nat_eq, ◌+◌, ◌*◌, ◌/◌, ◌%◌, ◌^◌, ◌<◌, List, Option, Some, None, length, sym, ap, ◌∙◌, subst, arith, inl, inr, get_or-set_same}
 use Rattle.cb_class.specs.declared.class.Class.{Class}
 use Rattle.cb_frame.specs.FreeFrames.{least_free}
 use Rattle.cb_ptr.specs.declared.word.State.TheVariants as pointer
@@ -24,13 +24,14 @@ use Rattle.cb_world.specs.Homes.{home_at}
 use Rattle.cb_world.specs.FarState.{FarState, span_in}
 use Rattle.cb_world.specs.LocalSound.{LiesAt}
 use Rattle.cb_world.specs.World.{word_at, IsKnown}
+use Rattle.cb_world.proofs.Laws.{KeepsPins, StepKeeps, pins_same}
 use Rattle.cb_swapin.specs.Named.{Names}
 use Rattle.cb_swapin.specs.SwapStep.{IsSwapped, IsSwapStep, brought_word}
 use Rattle.cb_swapin.proofs.SlotNames.{named_or_not}
 use Rattle.cb_swapin.proofs.Waits.{free_frame}
 use Rattle.cb_swapin.proofs.SwapAnswers.{only_swapped}
 use Rattle.cb_swapin.proofs.SwapWords.{far_within}
-use Rattle.cb_swapin.proofs.SwapKeeps.{step_cases}
+use Rattle.cb_swapin.proofs.SwapKeeps.{keeps_far, step_cases}
 
 -- ---- an object that a position names is far
 pub record IsFarAt (x : Words) (h : ℕ) : Type 0 where
@@ -111,35 +112,36 @@ come_in x y far new s t id p set f k l there least w slot h named =
     }
 
 -- ---- every other object
--- the pins of each word stay
-pub pins_stay : (x y : Words) (far new : FarState) (id p : ℕ) (r : Reply) (s : Shown)
-    → IsKnown x far s → IsSwapStep x y far new id p r → (h : ℕ)
-    → pins_of (word_at y h) ≡ pins_of (word_at x h)
-pins_stay x y far new id p r s k z h =
-    step_cases (pins_of (word_at y h) ≡ pins_of (word_at x h)) x y far new id p r z
-    (λ same. ap (λ (q : Words). pins_of (word_at q h)) same.0)
-    (λ f whole least e w. elim (named_or_not (position_of z.set p).slots h) [
-      | inl named ↦ (word_reads x y far new id p z.set f w named.0 h named.1).no_pins
-          ∙ sym (named_far x far s id p z.set k z.there named.0 h named.1).no_pins
-      | inr off ↦ ap pins_of (w.words.others h off)
-    ])
+-- the words after a position came in: its objects had no pins and have none, and others stay
+swapped_pins : (x y : Words) (far new : FarState) (id p : ℕ) (set : SetState) (f : ℕ) (s : Shown)
+    → IsKnown x far s → set_in far.sets id ≡ Some set → IsSwapped x y far new id p set f
+    → KeepsPins x y
+swapped_pins x y far new id p set f s k there w = record {
+  settings = w.words.settings;
+  count = w.words.count;
+  versions = w.words.versions;
+  pins = λ h. elim (named_or_not (position_of set p).slots h) [
+    | inl named ↦ (word_reads x y far new id p set f w named.0 h named.1).no_pins
+        ∙ sym (none_of h named.0 named.1)
+    | inr off ↦ ap pins_of (w.words.others h off)
+  ];
+  pinned = λ h some. elim (named_or_not (position_of set p).slots h) [
+    | inl named ↦ absurd (let none = none_of h named.0 named.1 in omega (arith, none, some))
+    | inr off ↦ w.words.others h off
+  ];
+}
+  where
+    none_of : (h slot : ℕ) → Names (position_of set p).slots slot h → pins_of (word_at x h) ≡ 0
+    none_of h slot named = (named_far x far s id p set k there slot h named).no_pins
 
--- a word with pins stays
-pub pinned_stays : (x y : Words) (far new : FarState) (id p : ℕ) (r : Reply) (s : Shown)
-    → IsKnown x far s → IsSwapStep x y far new id p r → (h : ℕ) → 1 ≤ pins_of (word_at x h)
-    → word_at y h ≡ word_at x h
-pinned_stays x y far new id p r s k z h pinned =
-    step_cases (word_at y h ≡ word_at x h) x y far new id p r z
-    (λ same. ap (λ (q : Words). word_at q h) same.0)
-    (λ f whole least e w. elim (named_or_not (position_of z.set p).slots h) [
-      | inl named ↦
-          absurd (let none = (named_far x far s id p z.set k z.there named.0 h named.1).no_pins in
-          omega (arith, none, pinned))
-      | inr off ↦ w.words.others h off
-    ])
-
-some_none : {X : Type 0} (o : Option X) (a : X) → o ≡ None → o ≡ Some a → ⊥
-some_none o a e f = cc
+pub swap_keeps : (x y : Words) (far new : FarState) (id p : ℕ) (r : Reply) (s : Shown)
+    → IsKnown x far s → IsSwapStep x y far new id p r → StepKeeps x y far new
+swap_keeps x y far new id p r s k z = record {
+  far = keeps_far x y far new id p r z;
+  words = step_cases (KeepsPins x y) x y far new id p r z
+      (λ same. subst (KeepsPins x) (sym same.0) (pins_same x))
+      (λ f whole least e w. swapped_pins x y far new id p z.set f s k z.there w);
+}
 
 -- ---- a step that came into a frame
 -- each object that the position names came in

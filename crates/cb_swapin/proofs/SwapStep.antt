@@ -15,7 +15,7 @@ use Rattle.cb_world.specs.FarState.{FarState}
 use Rattle.cb_world.specs.FarSound.{IsSetWord}
 use Rattle.cb_world.specs.Now.{now}
 use Rattle.cb_world.specs.World.{IsKnown}
-use Rattle.cb_world.proofs.Laws.{PerformsStill, RunsStill, runs_still, known_then}
+use Rattle.cb_world.proofs.Laws.{IsStepKnown, PerformsStill, RunsStill, runs_still, known_then}
 use Rattle.cb_swapin.specs.SwapRule.{IsSwappedTo, SwapFar, SwapRule}
 use Rattle.cb_swapin.specs.SwapEffect.{IsSwappedIn, SwapEffect}
 use Rattle.cb_swapin.specs.SwapStep.{AreBroughtTo, IsSwapped, SwapChange, IsSwapStep}
@@ -26,12 +26,6 @@ use Rattle.cb_swapin.proofs.SwapWords.{brought_to}
 abbrev pub PerformsSwap : Words → Words → FarState → FarState → ℕ → ℕ → Reply → Type 0
 PerformsSwap x y far new id p r =
     PerformsStill x y far new (SwapRule id p far new r) (SwapEffect id p far new r)
-
--- all is known of the still desk after a step, and last complete contents stay
-pub record IsStepKnown (y : Words) (far new : FarState) (s : Shown) : Type 0 where
-  pub shown : Shown
-  pub known : IsKnown y new shown
-  pub same_now : (h : ℕ) → now shown new h ≡ now s far h
 
 set_same : (a b : SetState) → Some a ≡ Some b → a ≡ b
 set_same a b e = cc
