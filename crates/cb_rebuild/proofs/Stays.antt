@@ -7,7 +7,7 @@ use Rattle.cb_world.specs.declared.shown.Shown.{Shown}
 use Rattle.cb_world.specs.FarState.{FarState}
 use Rattle.cb_world.specs.Sets.{set_in}
 use Rattle.cb_world.specs.Sound.{Sound}
-use Rattle.cb_world.proofs.Laws.{code_as, codes_put, Stays, StaysIf}
+use Rattle.cb_world.proofs.Laws.{code_as, codes_put, Stays, StaysIf, stays_given}
 use Rattle.cb_rebuild.specs.RebuildStep.{IsRebuilt, RebuildStep, Restores, far_given, surveyed}
 
 -- nothing is noted of a search for a pair
@@ -19,24 +19,8 @@ forgets m e = absurd (no_note m e)
 
 -- the sets were looked at
 survey_stays : (c : Config) (far : FarState) (n : ℕ) → StaysIf c 16 far (surveyed far n)
-survey_stays c far n is = record {
-  configured = record {
-    frames = is.frames;
-    homes = is.homes;
-    nodes = is.nodes;
-    room = is.room;
-    codes = record { sets = is.codes.sets; batch = is.codes.batch };
-  };
-  rises = record {
-    turns = refl;
-    by_job = refl;
-    sets = omega arith;
-    keys = omega arith;
-    epoch = omega arith;
-    given = omega arith;
-    note = forgets;
-  };
-}
+survey_stays c far n =
+    stays_given c 16 far.nodes.given far (surveyed far n).survey (omega arith) forgets
 
 -- no more rows are given out than a set has data positions
 positions_most : (s : Shown) (far : FarState) (id : ℕ) (set : SetState) → Sound s far
@@ -93,23 +77,7 @@ rebuild_stays c s far new r sound (inr z) =
 pub failed_stays : (c : Config) (s : Shown) (far new : FarState) (id n : ℕ) (set : SetState)
     → Sound s far → set_in far.sets id ≡ Some set → n ≤ length set.positions
     → new ≡ far_given (surveyed far id) n → StaysIf c 16 far new
-failed_stays c s far new id n set sound there few state is =
+failed_stays c s far new id n set sound there few state =
     let most = positions_most s far id set sound there in
-    subst (Stays c 16 far) (sym state) (record {
-      configured = record {
-        frames = is.frames;
-        homes = is.homes;
-        nodes = is.nodes;
-        room = is.room;
-        codes = record { sets = is.codes.sets; batch = is.codes.batch };
-      };
-      rises = record {
-        turns = refl;
-        by_job = refl;
-        sets = omega arith;
-        keys = omega arith;
-        epoch = omega arith;
-        given = omega (arith, most, few);
-        note = forgets;
-      };
-    })
+    subst (StaysIf c 16 far) (sym state)
+    (stays_given c 16 (far.nodes.given + n) far (surveyed far id).survey (omega (arith, most, few)) forgets)
