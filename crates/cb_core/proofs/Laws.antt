@@ -8,8 +8,8 @@ pub use Rattle.cb_core.proofs.FewLost.{CrashedAmong, never_broken, never_gone}
 pub use Rattle.cb_core.proofs.NodesStay.{IsWhole}
 pub use Rattle.cb_core.proofs.NowIn.{are_gone}
 pub use Rattle.cb_core.proofs.PinsKept.{pin_step_sound, unpin_step_sound}
-pub use Rattle.cb_core.proofs.RoomyNodes.{enough_roomy}
-pub use Rattle.cb_core.proofs.RowsHeld.{IsIdle, held_few}
+pub use Rattle.cb_core.proofs.RoomyNodes.{enough_beside, enough_roomy}
+pub use Rattle.cb_core.proofs.RowsHeld.{IsIdle, JoinsApart}
 pub use Rattle.cb_core.proofs.RunEvents.{kept_beside, lost_beside}
 pub use Rattle.cb_core.proofs.Settings.{step_settings, turn_settings}
 pub use Rattle.cb_core.proofs.StepFixed.{newest_fixed, pin_fixed, step_fixes, unpin_fixed}

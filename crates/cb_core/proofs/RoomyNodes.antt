@@ -1,5 +1,6 @@
--- Enough nodes have room for an eviction, where few nodes have crashed and few objects were made.
-use Rattle.std.proofs.Common.{◌≡◌, ℕ, ◌+◌, ◌<◌, ◌≤◌, Bool, true, false, cond, not, nat_eq, ◌&&◌, List, [], ◌∷◌, length, get_or, map, count_by, Contains, if◌then◌else◌, refl, sym, ap, ◌∙◌, arith, eq-eqb, lt-ltb}
+-- Enough nodes have room for a set, whatever batch is leaving and whatever pair is joining, where few
+-- nodes have crashed and few objects were made.
+use Rattle.std.proofs.Common.{◌≡◌, ℕ, ◌+◌, ◌<◌, ◌≤◌, Bool, true, false, cond, not, nat_eq, ◌&&◌, List, [], ◌∷◌, length, get_or, Option, map, count_by, Contains, if◌then◌else◌, refl, sym, ap, ◌∙◌, arith, eq-eqb, lt-ltb}
 use Rattle.std.specs.List.{range_with_len}
 use Rattle.std.proofs.lemmas.Bool.{false≢true}
 use Rattle.std.proofs.lemmas.List.{get_or-map, length-map}
@@ -14,11 +15,13 @@ use Rattle.cb_types.specs.declared.config.Config.{Config}
 use Rattle.cb_world.specs.declared.shown.Shown.{Shown}
 use Rattle.cb_world.specs.Choices.{has_room, numbered, room_count, stands_on}
 use Rattle.cb_world.specs.FarState.{FarState}
+use Rattle.cb_world.specs.Joining.{JoiningState}
+use Rattle.cb_world.specs.Leaving.{LeavingState}
 use Rattle.cb_world.specs.Sound.{Sound}
 use Rattle.cb_world.specs.World.{IsConfigured}
 use Rattle.cb_world.proofs.Laws.{few_pass}
 use Rattle.cb_core.proofs.FewLost.{CrashedAmong}
-use Rattle.cb_core.proofs.RowsHeld.{IsIdle, held_few}
+use Rattle.cb_core.proofs.RowsHeld.{IsIdle, JoinsApart, count_of, held_few, idle_apart, one_most}
 
 -- ---- a node that is down has crashed
 down_crashed : (m : Membership) (node : NodeId) → IsMembership m → node.n < length m.nodes
@@ -66,25 +69,28 @@ was_false : (b : Bool) → not b ≡ true → b ≡ false
 was_false true e = absurd (false≢true e)
 was_false false e = refl
 
-module _ (s : Shown) (far : FarState) (nodes : List ℕ) (sound : Sound s far) (idle : IsIdle far)
-    (among : CrashedAmong nodes far.members) (few : far.made < far.nodes.room) where
+module _ (c : Config) (s : Shown) (far : FarState) (nodes : List ℕ) (sound : Sound s far)
+    (configured : IsConfigured c far) (joins : JoinsApart far)
+    (among : CrashedAmong nodes far.members)
+    (few : far.made + count_of far.leaving + count_of far.joining < c.room) where
   -- a node without room has crashed
   full_crashed : (n : ℕ) → n < length far.nodes.nodes
       → has_room far.nodes far.members (numbered n) ≡ false → Contains nodes n
   full_crashed n below full =
       let rows = sound.away.sound.rows in
       let counted = rows.counted in
-      let held_most = held_few s far sound idle (numbered n) in
+      let size = configured.room in
+      let held_most = held_few s far sound joins (numbered n) in
       let room = lt-ltb (held far.nodes (numbered n)) far.nodes.room
-      (omega (arith, few, held_most)) in
+      (omega (arith, few, held_most, size)) in
       among (numbered n) (down_crashed far.members (numbered n) rows.members
       (omega (arith, below, counted))
       (roomless (alive far.members (numbered n))
       (sym (ap (λ (b : Bool). alive far.members (numbered n) && b) room) ∙ full)))
 
-  -- all nodes but so many have room
-  pub roomy_nodes : length far.nodes.nodes ≤ room_count far.nodes far.members + length nodes
-  roomy_nodes =
+  -- all nodes but so many have room, so a set finds nodes for its rows
+  enough : c.k + c.r + length nodes ≤ c.nodes → c.k + c.r ≤ room_count far.nodes far.members
+  enough many =
       let all = both_count (λ n. has_room far.nodes far.members (numbered n))
       (range_with_len 0 (length far.nodes.nodes)) in
       let count = length-range_with_len 0 (length far.nodes.nodes) in
@@ -92,14 +98,24 @@ module _ (s : Shown) (far : FarState) (nodes : List ℕ) (sound : Sound s far) (
       (λ n. not (has_room far.nodes far.members (numbered n))) (length far.nodes.nodes)
       (λ n below full. stands nodes n (full_crashed n below
       (was_false (has_room far.nodes far.members (numbered n)) full))) in
-      let len = length-map nodes stand_in in omega (arith, all, count, most, len)
+      let len = length-map nodes stand_in in
+      let configured_nodes = configured.nodes in
+      omega (arith, all, count, most, len, configured_nodes, many)
 
--- so an eviction finds nodes for its rows
+-- where no batch is leaving and no pair is joining
 pub enough_roomy : (c : Config) (s : Shown) (far : FarState) (nodes : List ℕ) → Sound s far
     → IsConfigured c far → IsIdle far → CrashedAmong nodes far.members → far.made < c.room
     → c.k + c.r + length nodes ≤ c.nodes → c.k + c.r ≤ room_count far.nodes far.members
-enough_roomy c s far nodes sound configured idle among few many =
-    let room = configured.room in
-    let count = configured.nodes in
-    let most = roomy_nodes s far nodes sound idle among (omega (arith, few, room)) in
-    omega (arith, most, count, many)
+enough_roomy c s far nodes sound configured idle among few =
+    let batch : count_of far.leaving ≡ 0 = ap (λ (o : Option LeavingState). count_of o) idle.0 in
+    let pair : count_of far.joining ≡ 0 = ap (λ (o : Option JoiningState). count_of o) idle.1 in
+    enough c s far nodes sound configured (idle_apart far idle) among (omega (arith, few, batch, pair))
+
+-- and at any far state
+pub enough_beside : (c : Config) (s : Shown) (far : FarState) (nodes : List ℕ) → Sound s far
+    → IsConfigured c far → JoinsApart far → CrashedAmong nodes far.members → far.made + 2 < c.room
+    → c.k + c.r + length nodes ≤ c.nodes → c.k + c.r ≤ room_count far.nodes far.members
+enough_beside c s far nodes sound configured joins among few =
+    let batch = one_most far.leaving in
+    let pair = one_most far.joining in
+    enough c s far nodes sound configured joins among (omega (arith, few, batch, pair))

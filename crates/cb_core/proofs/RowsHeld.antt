@@ -1,20 +1,21 @@
--- A node holds no more rows than objects were made, where no batch is leaving and no pair is
--- joining.
-use Rattle.std.proofs.Common.{◌≡◌, ℕ, zero, suc, ◌<◌, ◌≤◌, Bool, true, false, nat_eq, ◌&&◌, ◌||◌, T, List, [], ◌∷◌, length, map as mapped, Option, None, Some, is_some, is_lt, slice_get, nat_cmp, Less, Equal, Greater, Ordering, if◌then◌else◌, refl, sym, ap, ◌∙◌, arith, inl, inr, eq-eqb, ne_eqb}
+-- A node holds no more rows than objects were made, beside one of a batch that is leaving and one
+-- of a pair that is joining, whose first set stood on different nodes at the begin.
+use Rattle.std.proofs.Common.{◌≡◌, ℕ, zero, suc, ◌+◌, ◌<◌, ◌≤◌, Bool, true, false, nat_eq, ◌&&◌, ◌||◌, T, List, [], ◌∷◌, ◌++◌, length, map as mapped, Option, None, Some, is_some, is_lt, slice_get, nat_cmp, Less, Equal, Greater, Ordering, if◌then◌else◌, refl, sym, ap, ◌∙◌, arith, inl, inr, eq-eqb, ne_eqb}
 use Rattle.std.specs.Cmp.{nat_eq_equiv}
 use Rattle.std.specs.FinMap as map
 use Rattle.std.specs.FinMap.Entries.{below_all, is_sorted}
 use Rattle.std.specs.List.{AllByRecursion, IsDistinct, list_any, range_with_len}
+use Rattle.std.specs.Option.{option_map}
 use Rattle.std.specs.Ordering.{eq_by_cmp}
 use Rattle.std.specs.Set.{is_member}
 use Rattle.std.proofs.lemmas.Bool.{cases_eq, cases_lt, false≢true}
 use Rattle.std.proofs.lemmas.Bool.Decides.{nat_tests}
-use Rattle.std.proofs.lemmas.List.{get_or_past, length-map}
-use Rattle.std.proofs.lemmas.List.Folds.{list_any_at}
+use Rattle.std.proofs.lemmas.List.{get_or_past, length-append, length-map}
+use Rattle.std.proofs.lemmas.List.Folds.{list_any-append, list_any_at}
 use Rattle.std.proofs.lemmas.List.FromFn.{get_or-map-range_with_len, length-map-range_with_len}
 use Rattle.std.proofs.lemmas.Map.Keys.{IsDistinct-cons}
 use Rattle.std.proofs.lemmas.Map.Made.{length-le_from_is_member}
-use Rattle.std.proofs.lemmas.Option.{get_or_from_slice_get, slice_get_within}
+use Rattle.std.proofs.lemmas.Option.{get_or_from_slice_get, slice_get-map, slice_get_within}
 use Rattle.cb_member.specs.declared.names.NodeId.{NodeId}
 use Rattle.cb_member.specs.declared.names.Shard.{Shard}
 use Rattle.cb_node.specs.NodesState.{held, rows_at}
@@ -33,11 +34,30 @@ use Rattle.cb_world.specs.LocalSound.{AreKnown}
 use Rattle.cb_world.specs.Sets.{set_in}
 use Rattle.cb_world.specs.Shown.{never, object_at}
 use Rattle.cb_world.specs.Sound.{Sound}
-use Rattle.cb_world.proofs.Laws.{live_names}
+use Rattle.cb_world.proofs.Laws.{live_names, some_same}
 
 -- no batch is leaving and no pair is joining
 abbrev pub IsIdle : FarState → Type 0
 IsIdle far = (far.leaving ≡ None) × (far.joining ≡ None)
+
+-- a's shards of the pair that is joining stand on different nodes
+abbrev pub JoinsApart : FarState → Type 0
+JoinsApart far = (pair : JoiningState) → far.joining ≡ Some pair → OnDistinctNodes pair.shards_a
+
+no_pair : (pair : JoiningState) → None ≡ Some pair → ⊥
+no_pair pair e = cc
+
+pub idle_apart : (far : FarState) → IsIdle far → JoinsApart far
+idle_apart far idle pair at = absurd (no_pair pair (sym idle.1 ∙ at))
+
+-- how many batches, or pairs, there are
+abbrev pub count_of : {X : Type 0} → Option X → ℕ
+count_of None = 0
+count_of (Some x) = 1
+
+pub one_most : {X : Type 0} (o : Option X) → count_of o ≤ 1
+one_most None = omega arith
+one_most (Some x) = omega arith
 
 -- ---- the keys of a map are different
 abbrev keys_of : {X : Type 0} → List (ℕ × X) → List ℕ
@@ -87,71 +107,123 @@ any_agree : (f g : ℕ → Bool) → ((k : ℕ) → f k ≡ g k) → (ks : List 
 any_agree f g same [] = refl
 any_agree f g same (k ∷ ks) = λ i. same k i || any_agree f g same ks i
 
--- ---- the key of the row of a set at a node
-abbrev key_on : List Shard → ℕ → ℕ
+-- ---- shards at some positions, no two of them on one node
+abbrev StandApart : List (Option Shard) → Type 0
+StandApart shards = (p q : ℕ) (a b : Shard) → slice_get shards p ≡ Some (Some a)
+    → slice_get shards q ≡ Some (Some b) → a.node.n ≡ b.node.n → p ≡ q
+
+-- the key of the one that stands on the node
+abbrev key_on : List (Option Shard) → ℕ → ℕ
 key_on [] n = 0
-key_on (shard ∷ shards) n = if nat_eq shard.node.n n then shard.key else key_on shards n
+key_on (None ∷ shards) n = key_on shards n
+key_on (Some shard ∷ shards) n = if nat_eq shard.node.n n then shard.key else key_on shards n
 
-no_place : (shard : Shard) → None ≡ Some shard → ⊥
-no_place shard e = cc
+none_there : (o : Option Shard) → None ≡ Some o → ⊥
+none_there o e = cc
 
-place_same : (a b : Shard) → Some a ≡ Some b → a ≡ b
-place_same a b e = cc
+none_shard : (shard : Shard) → None ≡ Some shard → ⊥
+none_shard shard e = cc
 
-key_found : (shards : List Shard) (p : ℕ) (shard : Shard) → OnDistinctNodes shards
-    → slice_get shards p ≡ Some shard → key_on shards shard.node.n ≡ shard.key
-key_found [] p shard distinct at = absurd (no_place shard at)
-key_found (first ∷ shards) zero shard distinct at =
-    let same = place_same first shard at in
+apart_behind : (o : Option Shard) (shards : List (Option Shard)) → StandApart (o ∷ shards)
+    → StandApart shards
+apart_behind o shards apart p q a b x y same =
+    let e = apart (suc p) (suc q) a b x y same in omega (arith, e)
+
+key_found : (shards : List (Option Shard)) (p : ℕ) (shard : Shard) → StandApart shards
+    → slice_get shards p ≡ Some (Some shard) → key_on shards shard.node.n ≡ shard.key
+key_found [] p shard apart at = absurd (none_there (Some shard) at)
+key_found (None ∷ shards) zero shard apart at =
+    absurd (none_shard shard (some_same None (Some shard) at))
+key_found (None ∷ shards) (suc p) shard apart at =
+    key_found shards p shard (apart_behind None shards apart) at
+key_found (Some first ∷ shards) zero shard apart at =
+    let same : first ≡ shard = some_same first shard (some_same (Some first) (Some shard) at) in
     ap (λ (b : Bool). if b then first.key else key_on shards shard.node.n)
     (eq-eqb first.node.n shard.node.n (ap (λ (x : Shard). x.node.n) same))
     ∙ ap (λ (x : Shard). x.key) same
-key_found (first ∷ shards) (suc p) shard distinct at =
+key_found (Some first ∷ shards) (suc p) shard apart at =
     ap (λ (b : Bool). if b then first.key else key_on shards shard.node.n)
-    (ne_eqb first.node.n shard.node.n (λ e. apart e))
-    ∙ key_found shards p shard (λ i j d less below. distinct (suc i) (suc j) d (omega (arith, less))
-    (omega (arith, below))) at
+    (ne_eqb first.node.n shard.node.n (λ same. other (apart 0 (suc p) first shard refl at same)))
+    ∙ key_found shards p shard (apart_behind (Some first) shards apart) at
   where
-    apart : first.node.n ≡ shard.node.n → ⊥
-    apart e = distinct 0 (suc p) shard (omega arith) (let l = slice_get_within shards p shard at in
-        omega (arith, l)) (e ∙ ap (λ (x : Shard). x.node.n)
-        (sym (get_or_from_slice_get shards p shard shard at)))
+    other : 0 ≡ suc p → ⊥
+    other e = omega (arith, e)
 
+-- ---- shards of a set, one at each position
+abbrev all_of : List Shard → List (Option Shard)
+all_of shards = mapped (λ shard. Some shard) shards
+
+unwrapped : (o : Option Shard) (shard : Shard)
+    → option_map (λ (x : Shard). Some x) o ≡ Some (Some shard) → o ≡ Some shard
+unwrapped None shard e = absurd (none_there (Some shard) e)
+unwrapped (Some x) shard e = some_same (Some x) (Some shard) e
+
+shard_in : (shards : List Shard) (p : ℕ) (shard : Shard) → slice_get shards p ≡ Some shard
+    → slice_get (all_of shards) p ≡ Some (Some shard)
+shard_in shards p shard at = slice_get-map (λ (x : Shard). Some x) shards p
+    ∙ ap (option_map (λ (x : Shard). Some x)) at
+
+shard_out : (shards : List Shard) (p : ℕ) (shard : Shard)
+    → slice_get (all_of shards) p ≡ Some (Some shard) → slice_get shards p ≡ Some shard
+shard_out shards p shard at = unwrapped (slice_get shards p) shard
+    (sym (slice_get-map (λ (x : Shard). Some x) shards p) ∙ at)
+
+-- on different nodes
+less_differ : (shards : List Shard) → OnDistinctNodes shards → (p q : ℕ) (a b : Shard) → p < q
+    → slice_get shards p ≡ Some a → slice_get shards q ≡ Some b → a.node.n ≡ b.node.n → ⊥
+less_differ shards distinct p q a b less x y same =
+    distinct p q a less (slice_get_within shards q b y)
+    (ap (λ (z : Shard). z.node.n) (get_or_from_slice_get shards p a a x) ∙ same
+    ∙ ap (λ (z : Shard). z.node.n) (sym (get_or_from_slice_get shards q b a y)))
+
+one_place : (shards : List Shard) → OnDistinctNodes shards → (p q : ℕ) (a b : Shard)
+    → slice_get shards p ≡ Some a → slice_get shards q ≡ Some b → a.node.n ≡ b.node.n → p ≡ q
+one_place shards distinct p q a b x y same = elim (cases_lt p q) [
+  | inl less ↦ absurd (less_differ shards distinct p q a b less x y same)
+  | inr most ↦ elim (cases_lt q p) [
+    | inl less ↦ absurd (less_differ shards distinct q p b a less y x (sym same))
+    | inr least ↦ omega (arith, most, least)
+  ]
+]
+
+set_apart : (shards : List Shard) → OnDistinctNodes shards → StandApart (all_of shards)
+set_apart shards distinct p q a b x y same =
+    one_place shards distinct p q a b (shard_out shards p a x) (shard_out shards q b y) same
+
+-- ---- the keys of rows at a node
 abbrev key_in : Option SetState → ℕ → ℕ
 key_in None n = 0
-key_in (Some set) n = key_on set.shards n
+key_in (Some set) n = key_on (all_of set.shards) n
 
 abbrev key_by : FarState → ℕ → Option Home → ℕ
 key_by far n None = 0
 key_by far n (Some home) = key_in (set_in far.sets home.set) n
 
--- the key of the row at the node of the set of an object's home
+-- of the set of an object's home
 abbrev key_at : FarState → ℕ → ℕ → ℕ
 key_at far n h = key_by far n (home_at far.homes h)
 
--- ---- whose rows they are
-no_batch : (batch : LeavingState) (o : Option LeavingState) → o ≡ None → o ≡ Some batch → ⊥
-no_batch batch o e f = cc
+-- of a batch that is leaving, or of a pair that is joining
+abbrev keys_by : {X : Type 0} → (X → List (Option Shard)) → Option X → ℕ → List ℕ
+keys_by shards None n = []
+keys_by shards (Some x) n = key_on (shards x) n ∷ []
 
-no_pair : (pair : JoiningState) (o : Option JoiningState) → o ≡ None → o ≡ Some pair → ⊥
-no_pair pair o e f = cc
+keys_count : {X : Type 0} (shards : X → List (Option Shard)) (o : Option X) (n : ℕ)
+    → length (keys_by shards o n) ≡ count_of o
+keys_count shards None n = refl
+keys_count shards (Some x) n = refl
 
--- a shard of a committed set
-record HasOwner (far : FarState) (shard : Shard) : Type 0 where
-  id : ℕ
-  place : ℕ
-  set : SetState
-  there : set_in far.sets id ≡ Some set
-  at : slice_get set.shards place ≡ Some shard
+key_named : {X : Type 0} (shards : X → List (Option Shard)) (o : Option X) (x : X) (p : ℕ)
+    (shard : Shard) (n : ℕ) → o ≡ Some x → StandApart (shards x)
+    → slice_get (shards x) p ≡ Some (Some shard) → shard.node.n ≡ n
+    → is_member nat_eq (keys_by shards o n) shard.key ≡ true
+key_named {X} shards o x p shard n there apart at on =
+    let found : key_on (shards x) n ≡ shard.key =
+    ap (key_on (shards x)) (sym on) ∙ key_found (shards x) p shard apart at in
+    ap (λ (q : Option X). list_any (nat_eq shard.key) (keys_by shards q n)) there
+    ∙ ap (λ (b : Bool). b || false) (eq-eqb shard.key (key_on (shards x) n) (sym found))
 
-owned_by : (far : FarState) → IsIdle far → (o : Owner) (shard : Shard) → IsShardOf far o shard
-    → HasOwner far shard
-owned_by far idle (of_set id p) shard x =
-    record { id = id; place = p; set = x.0; there = x.1; at = x.2 }
-owned_by far idle (of_leaving p) shard x = absurd (no_batch x.0 far.leaving idle.0 x.1)
-owned_by far idle (of_joining p) shard x = absurd (no_pair x.0 far.joining idle.1 x.1)
-
--- ---- each of these sets has an object
+-- ---- each committed set has an object
 not_never : (o : Object) (len v : ℕ) (words : List ℕ) → o ≡ is.Far len v words → o ≡ never → ⊥
 not_never o len v words e f = cc
 
@@ -195,44 +267,98 @@ some_row : (o : Option (List ℕ)) → is_some o ≡ true → (row : List ℕ) �
 some_row None e = absurd (false≢true e)
 some_row (Some row) e = (row, refl)
 
-pub held_few : (s : Shown) (far : FarState) → Sound s far → IsIdle far → (node : NodeId)
-    → held far.nodes node ≤ far.made
-held_few s far sound idle node =
-    let rows = rows_at far.nodes node in
-    let keys = keys_of (map.entries rows) in
-    let named = mapped (key_at far node.n) (range_with_len 0 far.made) in
-    let most = length-le_from_is_member nat_eq_equiv keys named
-    (keys_apart (map.entries rows) (map.entries_sorted rows)) inside in
-    let len = length-map (map.entries rows) (λ (e : ℕ × List ℕ). e.0) in
-    let count = map.len-entries rows in
-    let all = length-map-range_with_len (key_at far node.n) 0 far.made in
-    omega (arith, most, len, count, all)
+member_left : (xs ys : List ℕ) (q : ℕ) → is_member nat_eq xs q ≡ true
+    → is_member nat_eq (xs ++ ys) q ≡ true
+member_left xs ys q there = list_any-append (nat_eq q) xs ys
+    ∙ ap (λ (b : Bool). b || list_any (nat_eq q) ys) there
+
+or_true : (b : Bool) → (b || true) ≡ true
+or_true true = refl
+or_true false = refl
+
+member_right : (xs ys : List ℕ) (q : ℕ) → is_member nat_eq ys q ≡ true
+    → is_member nat_eq (xs ++ ys) q ≡ true
+member_right xs ys q there = list_any-append (nat_eq q) xs ys
+    ∙ ap (λ (b : Bool). list_any (nat_eq q) xs || b) there ∙ or_true (list_any (nat_eq q) xs)
+
+module _ (s : Shown) (far : FarState) (sound : Sound s far) (joins : JoinsApart far) (node : NodeId)
   where
-    here : (q : ℕ) (shard : Shard) → HasOwner far shard → shard.node.n ≡ node.n → shard.key ≡ q
-        → is_member nat_eq (mapped (key_at far node.n) (range_with_len 0 far.made)) q ≡ true
-    here q shard owner on key =
-        let x = set_object s far owner.id owner.set sound owner.there in
+    abbrev of_objects : List ℕ
+    of_objects = mapped (key_at far node.n) (range_with_len 0 far.made)
+
+    abbrev of_batch : List ℕ
+    of_batch = keys_by (λ (batch : LeavingState). batch.shards) far.leaving node.n
+
+    abbrev of_pair : List ℕ
+    of_pair = keys_by (λ (pair : JoiningState). pair.steps) far.joining node.n
+
+    -- those that rows of the node may stand under
+    abbrev named : List ℕ
+    named = of_objects ++ (of_batch ++ of_pair)
+
+    committed : (id place : ℕ) (set : SetState) (shard : Shard) → set_in far.sets id ≡ Some set
+        → slice_get set.shards place ≡ Some shard → shard.node.n ≡ node.n
+        → is_member nat_eq of_objects shard.key ≡ true
+    committed id place set shard there at on =
+        let x = set_object s far id set sound there in
         let all = length-map-range_with_len (key_at far node.n) 0 far.made in
         let below = x.made in
-        let found : key_at far node.n x.h ≡ q =
+        let found : key_at far node.n x.h ≡ shard.key =
         ap (key_by far node.n) x.at
-        ∙ ap (λ (id : ℕ). key_in (set_in far.sets id) node.n) x.set
-        ∙ ap (λ (o : Option SetState). key_in o node.n) owner.there
-        ∙ ap (key_on owner.set.shards) (sym on)
-        ∙ key_found owner.set.shards owner.place shard
-        (sound.away.sound.sets.shaped owner.id owner.set owner.there).distinct owner.at
-        ∙ key in
-        list_any_at (nat_eq q) (mapped (key_at far node.n) (range_with_len 0 far.made)) x.h 0
-        (omega (arith, below, all))
-        (eq-eqb q _ (sym (get_or-map-range_with_len (key_at far node.n) 0 far.made x.h x.h 0 below
-        (omega arith) ∙ found)))
+        ∙ ap (λ (i : ℕ). key_in (set_in far.sets i) node.n) x.set
+        ∙ ap (λ (o : Option SetState). key_in o node.n) there
+        ∙ ap (key_on (all_of set.shards)) (sym on)
+        ∙ key_found (all_of set.shards) place shard
+        (set_apart set.shards (sound.away.sound.sets.shaped id set there).distinct)
+        (shard_in set.shards place shard at) in
+        list_any_at (nat_eq shard.key) of_objects x.h 0 (omega (arith, below, all))
+        (eq-eqb shard.key _ (sym (get_or-map-range_with_len (key_at far node.n) 0 far.made x.h x.h 0
+        below (omega arith) ∙ found)))
+
+    steps_apart : (pair : JoiningState) → far.joining ≡ Some pair → StandApart pair.steps
+    steps_apart pair there p q a b x y same =
+        let join = sound.away.join pair there in
+        let old = join.beside p a x in
+        let other = join.beside q b y in
+        one_place pair.shards_a (joins pair there) p q old.0 other.0 old.1 other.1
+        (ap (λ (n : NodeId). n.n) (sym old.2.node) ∙ same ∙ ap (λ (n : NodeId). n.n) other.2.node)
+
+    owned : (o : Owner) (shard : Shard) → IsShardOf far o shard → shard.node.n ≡ node.n
+        → is_member nat_eq named shard.key ≡ true
+    owned (of_set id p) shard x on =
+        member_left of_objects (of_batch ++ of_pair) shard.key (committed id p x.0 shard x.1 x.2 on)
+    owned (of_leaving p) shard x on =
+        member_right of_objects (of_batch ++ of_pair) shard.key
+        (member_left of_batch of_pair shard.key
+        (key_named (λ (batch : LeavingState). batch.shards) far.leaving x.0 p shard node.n x.1
+        (sound.away.sound.batch x.0 x.1).apart x.2 on))
+    owned (of_joining p) shard x on =
+        member_right of_objects (of_batch ++ of_pair) shard.key
+        (member_right of_batch of_pair shard.key
+        (key_named (λ (pair : JoiningState). pair.steps) far.joining x.0 p shard node.n x.1
+        (steps_apart x.0 x.1) x.2 on))
 
     inside : (q : ℕ) → is_member nat_eq (keys_of (map.entries (rows_at far.nodes node))) q ≡ true
-        → is_member nat_eq (mapped (key_at far node.n) (range_with_len 0 far.made)) q ≡ true
+        → is_member nat_eq named q ≡ true
     inside q e =
         let rows = rows_at far.nodes node in
         let keys = keys_of (map.entries rows) in
         let row = some_row (map.get rows q) (map.contains_key-keys rows q
         ∙ sym (any_agree (nat_eq q) (eq_by_cmp nat_cmp q) (same_test q) keys) ∙ e) in
         let owner = sound.away.sound.rows.owned node q row.0 row.1 in
-        here q owner.1 (owned_by far idle owner.0 owner.1 owner.2) owner.3 owner.4
+        ap (is_member nat_eq named) (sym owner.4) ∙ owned owner.0 owner.1 owner.2 owner.3
+
+    pub held_few : held far.nodes node ≤ far.made + count_of far.leaving + count_of far.joining
+    held_few =
+        let rows = rows_at far.nodes node in
+        let keys = keys_of (map.entries rows) in
+        let most = length-le_from_is_member nat_eq_equiv keys named
+        (keys_apart (map.entries rows) (map.entries_sorted rows)) inside in
+        let len = length-map (map.entries rows) (λ (e : ℕ × List ℕ). e.0) in
+        let count = map.len-entries rows in
+        let all = length-map-range_with_len (key_at far node.n) 0 far.made in
+        let both = length-append of_objects (of_batch ++ of_pair) in
+        let beside = length-append of_batch of_pair in
+        let batch = keys_count (λ (b : LeavingState). b.shards) far.leaving node.n in
+        let pair = keys_count (λ (p : JoiningState). p.steps) far.joining node.n in
+        omega (arith, most, len, count, all, both, beside, batch, pair)
