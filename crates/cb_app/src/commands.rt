@@ -22,6 +22,7 @@ use cb_script::{Mode, Script, ScriptFault, read_script};
 use cb_scrub_text::scrub_bytes;
 use cb_types::{Bytes, NoMemory, OpenGate};
 use std::alloc::Global;
+use std::mem;
 use std::sync::Wait;
 use std::thread::Threads;
 
@@ -59,7 +60,7 @@ fn answer_bytes(
 {
     match read_script(alloc, bytes, Mode::Seq) {
         Ok(script) => {
-            let text = answer_script(alloc, side, &script, end)?;
+            let text = answer_script(alloc, side, script, end)?;
             Ok(Verdict::Done(Pieces::one(alloc, text)))
         }
         Err(fault) => refusal(alloc, fault),
@@ -67,19 +68,20 @@ fn answer_bytes(
 }
 
 /// The text that tells the answers to a script. The answers and what they led to are left in the
-/// ending.
+/// ending. The script's memory is left to the system, which takes it back at once at the end.
 fn answer_script(
     alloc: Global,
     side: Side,
-    script: &Script,
+    script: Script,
     end: &mut Ending,
 ) -> Result<Bytes, NoMemory>
-    requires script { IsScript script.now }
-    ensures answered { IfOk result (λ text. IsAnswered side script.now end.new
+    requires script { IsScript script }
+    ensures answered { IfOk result (λ text. IsAnswered side script end.new
         × (text ≡ told_text side end.new)) }
     ensures kept { OnErr result (end.new ≡ end.old) }
 {
-    let ended = answer(alloc, side, script)?;
+    let ended = answer(alloc, side, &script)?;
+    mem::forget(script);
     leave_ending(alloc, side, ended, end)
 }
 
@@ -134,27 +136,29 @@ fn thread_bytes<R: Threads + Wait + Sync>(
     ensures kept { OnErr result (end.new ≡ end.old) }
 {
     match read_script(alloc, bytes, Mode::Threads) {
-        Ok(script) => Ok(Verdict::Done(thread_script(rt, alloc, &script, end)?)),
+        Ok(script) => Ok(Verdict::Done(thread_script(rt, alloc, script, end)?)),
         Err(fault) => refusal(alloc, fault),
     }
 }
 
 /// The text that tells the answers of threads to a script. The answers and what they led to are
-/// left in the ending.
+/// left in the ending, and the script's memory to the system.
 fn thread_script<R: Threads + Wait + Sync>(
     rt: &R,
     alloc: Global,
-    script: &Script,
+    script: Script,
     end: &mut Ending,
 ) -> Result<Pieces, NoMemory>
-    requires script { IsScript script.now }
-    requires mode { AreInMode scripts.Threads script.now.lines }
-    ensures answered { IfOk result (λ text. IsThreaded script.now end.new
+    requires script { IsScript script }
+    requires mode { AreInMode scripts.Threads script.lines }
+    ensures answered { IfOk result (λ text. IsThreaded script end.new
         × (text ≡ text_of end.new.answers)) }
     ensures kept { OnErr result (end.new ≡ end.old) }
 {
-    let told = run_threads(rt, alloc, script, &OpenGate)?;
-    let (ended, text) = Ending::threaded(script.config, told);
+    let config = script.config;
+    let told = run_threads(rt, alloc, &script, &OpenGate)?;
+    mem::forget(script);
+    let (ended, text) = Ending::threaded(config, told);
     end.set(ended);
     Ok(text)
 }

@@ -17,9 +17,6 @@ pub use lanes::different_lanes;
 pub use outcome::{Due, Failure, status};
 pub use output::{PutFailed, put_all, put_pieces};
 pub use pieces::Pieces;
-pub use texts::{
-    WORDS_REFUSED, answers_text, answers_text_in_threads, script_fault_text, script_ok_text,
-    with_given,
-};
+pub use texts::{WORDS_REFUSED, answers_text, script_fault_text, script_ok_text, with_given};
 pub use verdict::Verdict;
 pub use words::{Asked, Command, Plan, asked_of};

@@ -1,26 +1,17 @@
 ghost use Rattle.std.specs.Prelude.{◌≡◌, ◌++◌, IfOk};
 ghost use Rattle.std.specs.List.{AllByRecursion};
-ghost use Rattle.std.specs.Thread.{IsSync};
 ghost use Rattle.cb_types.specs.Table.{IsReplyOf};
 ghost use Rattle.cb_text.specs.Line.{text_of};
 ghost use Rattle.cb_cli.specs.Texts.{fault_text, check_text, given_line};
 
 use crate::lanes::different_lanes;
-use crate::pieces::Pieces;
 use cb_script::{Reason, Script};
 use cb_text::push_line;
 use cb_types::{Answer, Answers, Bytes, NoMemory, Reply};
 use std::alloc::Global;
-use std::thread;
-use std::thread::Threads;
 
 /// What is put where the words of the command line are refused.
 pub const WORDS_REFUSED: &[u8] = b"words refused\n";
-
-/// How often answers are halved whose text is written in threads, and how few are not.
-const HALVINGS: u32 = 3;
-
-const FEW: usize = 512;
 
 /// So many bytes are enough for most lines, beside the bytes that they show.
 const LINE: usize = 64;
@@ -31,49 +22,6 @@ pub fn answers_text(alloc: Global, answers: &Answers) -> Result<Bytes, NoMemory>
     ensures { IfOk result (λ text. text ≡ text_of answers.now) }
 {
     Ok(Bytes::from(lines_text(alloc, answers.as_slice())?))
-}
-
-/// The same text. That of many answers is written in parts, each in a thread of its own where one
-/// can be made.
-pub fn answers_text_in_threads<R: Threads + Sync>(
-    rt: &R,
-    alloc: Global,
-    answers: &Answers,
-) -> Result<Pieces, NoMemory>
-    requires { AllByRecursion (λ a. IsReplyOf a.request a.reply) answers.now }
-    ensures { IfOk result (λ text. text ≡ text_of answers.now) }
-{
-    text_by_halves(rt, alloc, answers.as_slice(), HALVINGS)
-}
-
-fn text_by_halves<R: Threads + Sync>(
-    rt: &R,
-    alloc: Global,
-    answers: &[Answer],
-    halvings: u32,
-) -> Result<Pieces, NoMemory>
-    requires { AllByRecursion (λ a. IsReplyOf a.request a.reply) answers.now }
-    ensures { IfOk result (λ text. text ≡ text_of answers.now) }
-{
-    if halvings == 0 || answers.len() < FEW {
-        return Ok(Pieces::one(alloc, Bytes::from(lines_text(alloc, answers)?)));
-    }
-    let (low, high) = answers.split_at(answers.len() / 2);
-    let less = halvings - 1;
-    let (front, back) = thread::join(
-        rt,
-        || -> Result<Pieces, NoMemory>
-            requires { IsSync R.row × AllByRecursion (λ a. IsReplyOf a.request a.reply) low.now }
-            ensures { IfOk result (λ text. text ≡ text_of low.entry.now) }
-        { text_by_halves(rt, alloc, low, less) },
-        || -> Result<Pieces, NoMemory>
-            requires { IsSync R.row × AllByRecursion (λ a. IsReplyOf a.request a.reply) high.now }
-            ensures { IfOk result (λ text. text ≡ text_of high.entry.now) }
-        { text_by_halves(rt, alloc, high, less) },
-    );
-    let mut text = front?;
-    text.append(back?)?;
-    Ok(text)
 }
 
 fn lines_text(alloc: Global, answers: &[Answer]) -> Result<Vec<u8>, NoMemory>

@@ -8,4 +8,4 @@ leave_ending-requires c = c.in_ok-ended.ensures.replies
 pub returns-clause-answered : goal.returns-clause-answered
 returns-clause-answered c =
     IfOk-weaker c.leave_ending.result _ _
-    (answered_told c.args.side c.args.script.now c.in_ok-ended.ended c.leave_ending.new.end c.in_ok-ended.ensures) c.leave_ending.ensures.told
+    (answered_told c.args.side c.args.script c.in_ok-ended.ended c.leave_ending.new.end c.in_ok-ended.ensures) c.leave_ending.ensures.told

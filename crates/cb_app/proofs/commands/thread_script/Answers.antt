@@ -8,6 +8,6 @@ pub returns-clause-answered : goal.returns-clause-answered
 returns-clause-answered g c =
     let made = c.threaded-ended.ensures in
     let told = c.in_ok-told.ensures in
-    threaded_told c.args.script.now c.in_ok-told.told c.threaded-ended.result.0 c.set.new.self made.ending told.run
+    threaded_told c.args.script c.in_ok-told.told c.threaded-ended.result.0 c.set.new.self made.ending told.run
     c.threaded-ended.result.1
     (c.set.ensures, made.text ∙ told.text ∙ sym (ap (λ (e : Ending). text_of e.answers) made.ending))
