@@ -1,4 +1,6 @@
 mod Options
+mod ChangedWords
+mod ChangedObjects
 mod Still
 mod Framing
 pub mod Putting

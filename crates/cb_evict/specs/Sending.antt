@@ -11,7 +11,7 @@ use Rattle.cb_world.specs.Looks.{NoLook, LooksFirst}
 use Rattle.cb_world.specs.Allowed.{Allowed}
 use Rattle.cb_world.specs.Written.{Writes}
 use Rattle.cb_evict.specs.Events.{TouchesOnly}
-use Rattle.cb_evict.specs.Claims.{IsNone}
+use Rattle.cb_evict.specs.ChangesObjects.{ChangesObjects}
 use Rattle.cb_evict.specs.Claiming.{IsOne}
 
 -- the object is claimed at the word that is noted, and its version word is its last complete
@@ -34,16 +34,9 @@ pub record IsSent (s t : Shown) (former : Former) : Type 0 where
   pub after : object_at t former.handle ≡ is.Far (len_of former.word) version words
   pub cold : hot_at t former.handle ≡ false
 
--- so are these objects, and all else is as it was
-pub record AreSent (s t : Shown) (formers : List Former) : Type 0 where
-  pub sent : All (IsSent s t) formers
-  pub others : (h : ℕ) → IsNone formers h → object_at t h ≡ object_at s h
-  pub hots : (h : ℕ) → IsNone formers h → hot_at t h ≡ hot_at s h
-  pub objects : length t.objects ≡ length s.objects
-  pub heat : length t.hots ≡ length s.hots
-  pub versions : t.versions ≡ s.versions
-  pub memory : t.memory ≡ s.memory
-  pub first : t.first ≡ s.first
+-- so are these objects
+abbrev pub AreSent : Shown → Shown → List Former → Type 0
+AreSent s t formers = ChangesObjects s t formers (IsSent s t)
 
 -- claimed objects are settled as away
 pub record Sends (runs : List Event → Type 0) (shows : Shown → Type 0) (formers : List Former)

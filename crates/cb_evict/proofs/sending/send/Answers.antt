@@ -11,10 +11,11 @@ use Rattle.cb_world.specs.Played.{played}
 use Rattle.cb_world.specs.Written.{written_by}
 use Rattle.cb_world.proofs.Laws.{played_append, written_append, allowed_append}
 use Rattle.cb_evict.specs.Claiming.{IsOne}
-use Rattle.cb_evict.specs.Sending.{AreSent}
+use Rattle.cb_evict.specs.Sending.{AreSent, IsSent}
 use Rattle.cb_evict.proofs.Events.{touches_append, no_look_append, first_append}
 use Rattle.cb_evict.proofs.Claims.{no_former, former_at}
-use Rattle.cb_evict.proofs.Sends.{may_send, sent_written, sent_none, still_told, sent_more}
+use Rattle.cb_evict.proofs.ChangedObjects.{changed_none}
+use Rattle.cb_evict.proofs.Sends.{may_send, sent_written, still_told, sent_more}
 use Rattle.cb_evict.proofs.sending.send.Goals as goal
 
 pub loop-former-init : goal.loop-former-init
@@ -25,7 +26,7 @@ loop-former-init g c = (
   (λ k. tt),
   tt,
   λ s a told.
-      (sent_none s, tt, λ old. refl),
+      (changed_none s (IsSent s s), tt, λ old. refl),
 )
 
 pub settle-requires-clause-handle : goal.settle-requires-clause-handle
