@@ -159,4 +159,4 @@ aborts runs shows far new batch there state warm r = record {
 }
   where
     restoring : (s : Shown) → shows s × Sound s far → IsRestoring far r.events s batch.words
-    restoring s k = r.restored s far k.0 k.1.here (claimed_all s far batch k.1 there (warm s k.0))
+    restoring s k = r.done.1 s far k.0 k.1.here (claimed_all s far batch k.1 there (warm s k.0))

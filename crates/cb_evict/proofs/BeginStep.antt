@@ -60,22 +60,22 @@ held_words x y far new s es frames r spans leaves free z =
       versions = z.versions ∙ ap (λ (t : Shown). t.versions) r.told;
       memory = z.memory ∙ ap (λ (t : Shown). t.memory) r.told;
     }) (λ h i.
-      let a = z.claimed h (into h i) in
-      let found : word_at x h ≡ a.word =
-      found_exact es x y h a.word r.ran r.looks_first a.found in
-      let below : h < length s.objects =
-      (are_unique far s (length s.objects) r.known.sound.here refl).below i.0 h i.2 in
-      let range : h < length x.words = omega (arith, below, r.known.shows.objects) in
-      let fit : Fits (is.Claimed (len_of a.word) (place_of a.word) a.version a.words)
-      (word_at y h) =
-      subst (λ (o : Object). Fits o (word_at y h)) a.object
-      (shows.fit h (omega (arith, range, count))) in
-      let was : Fits (is.Here (len_of a.word) (place_of a.word)) (word_at x h) =
-      subst (λ (o : Object). Fits o (word_at x h)) a.was (r.known.shows.fit h range) in
-      claimed_word (word_at x h) (word_at y h) 0 (len_of a.word) (place_of a.word) a.version a.words
-      was.0 (free h i) fit (ap len_of (sym found)) (ap place_of (sym found))
-      (sym (seen_then.hot h (omega (arith, range, count)))
-      ∙ hots h ∙ seen.hot h range))
+    let a = z.claimed h (into h i) in
+    let found : word_at x h ≡ a.word =
+    found_exact es x y h a.word r.ran r.looks_first a.found in
+    let below : h < length s.objects =
+    (are_unique far s (length s.objects) r.known.sound.here refl).below i.0 h i.2 in
+    let range : h < length x.words = omega (arith, below, r.known.shows.objects) in
+    let fit : Fits (is.Claimed (len_of a.word) (place_of a.word) a.version a.words)
+    (word_at y h) =
+    subst (λ (o : Object). Fits o (word_at y h)) a.object
+    (shows.fit h (omega (arith, range, count))) in
+    let was : Fits (is.Here (len_of a.word) (place_of a.word)) (word_at x h) =
+    subst (λ (o : Object). Fits o (word_at x h)) a.was (r.known.shows.fit h range) in
+    claimed_word (word_at x h) (word_at y h) 0 (len_of a.word) (place_of a.word) a.version a.words
+    was.0 (free h i) fit (ap len_of (sym found)) (ap place_of (sym found))
+    (sym (seen_then.hot h (omega (arith, range, count)))
+    ∙ hots h ∙ seen.hot h range))
   where
     shows : Shows y (played es s)
     shows = shows_then x y far s es r

@@ -74,16 +74,16 @@ sent_off x y far new s es frames r closed z =
       versions = z.versions ∙ ap (λ (t : Shown). t.versions) r.told;
       memory = z.memory ∙ ap (λ (t : Shown). t.memory) r.told;
     }) (λ h m.
-      let a = z.away h (has_left far new frames h closed m) in
-      let found : word_at x h ≡ a.word =
-      found_exact es x y h a.word r.ran r.looks_first a.found in
-      let below : h < length s.objects =
-      (are_unique far s (length s.objects) r.known.sound.here refl).below m.0 h m.2 in
-      let fit : Fits (is.Far (len_of a.word) a.version a.words) (word_at y h) =
-      subst (λ (o : Object). Fits o (word_at y h)) a.object
-      (shows.fit h (omega (arith, below, count, r.known.shows.objects))) in
-      far_word_is (len_of (word_at x h)) (word_at y h) (len_of-below (word_at x h))
-      (fit.0 ∙ ap (λ (n : ℕ). 1 + n * 8192) (fit.1 ∙ ap len_of (sym found))))
+    let a = z.away h (has_left far new frames h closed m) in
+    let found : word_at x h ≡ a.word =
+    found_exact es x y h a.word r.ran r.looks_first a.found in
+    let below : h < length s.objects =
+    (are_unique far s (length s.objects) r.known.sound.here refl).below m.0 h m.2 in
+    let fit : Fits (is.Far (len_of a.word) a.version a.words) (word_at y h) =
+    subst (λ (o : Object). Fits o (word_at y h)) a.object
+    (shows.fit h (omega (arith, below, count, r.known.shows.objects))) in
+    far_word_is (len_of (word_at x h)) (word_at y h) (len_of-below (word_at x h))
+    (fit.0 ∙ ap (λ (n : ℕ). 1 + n * 8192) (fit.1 ∙ ap len_of (sym found))))
   where
     shows : Shows y (played es s)
     shows = shows_then x y far s es r

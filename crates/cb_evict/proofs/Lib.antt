@@ -8,6 +8,7 @@ mod Filling
 mod Sharing
 pub mod Homing
 mod Events
+mod CallParts
 pub mod Claims
 mod Gathers
 mod Slots

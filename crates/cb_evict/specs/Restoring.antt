@@ -9,12 +9,11 @@ use Rattle.cb_world.specs.Shown.{object_at, hot_at}
 use Rattle.cb_world.specs.Memory.{window, words_for}
 use Rattle.cb_world.specs.Grasped.{IsFree}
 use Rattle.cb_world.specs.Played.{played}
-use Rattle.cb_world.specs.Looks.{NoLook, LooksFirst}
 use Rattle.cb_world.specs.Allowed.{Allowed}
 use Rattle.cb_world.specs.Written.{Writes}
 use Rattle.cb_world.specs.FarState.{FarState}
 use Rattle.cb_world.specs.LocalSound.{LocalSound}
-use Rattle.cb_evict.specs.Events.{TouchesOnly}
+use Rattle.cb_evict.specs.CallPart.{Settles}
 use Rattle.cb_evict.specs.ChangesObjects.{ChangesObjects}
 use Rattle.cb_evict.specs.Claiming.{IsOne}
 
@@ -50,12 +49,7 @@ pub record IsRestoring (far : FarState) (es : List Event) (s : Shown) (formers :
   pub nothing : Writes es s []
 
 -- claimed objects are settled at the words that are noted
-pub record Restores (runs : List Event → Type 0) (shows : Shown → Type 0) (formers : List Former)
-    : Type 0 where
-  pub events : List Event
-  pub ran : runs events
-  pub touches : TouchesOnly (IsOne formers) (λ p. ⊥) events
-  pub quiet : (k : ℕ) → NoLook k events
-  pub first : LooksFirst events
-  pub restored : (s : Shown) (far : FarState) → shows s → LocalSound s far
-      → All (IsClaimedFrom s) formers → IsRestoring far events s formers
+abbrev pub Restores : (List Event → Type 0) → (Shown → Type 0) → List Former → Type 0
+Restores runs shows formers = Settles runs (IsOne formers) (λ p. ⊥)
+    (λ es. (s : Shown) (far : FarState) → shows s → LocalSound s far → All (IsClaimedFrom s) formers
+    → IsRestoring far es s formers)

@@ -26,10 +26,13 @@ returns-then-is_loose-clause-looks g c =
     let x = c.if-is_loose.ensures in record {
       events = x.events;
       ran = x.ran;
-      looks = x.looks;
+      first = x.first;
       touches = touches_more (Has span) (Names spans f) (λ p. ⊥) (λ p. ⊥) x.events
           (λ h. has_names spans f h span there) (λ p y. y) x.touches;
-      finds = inl (λ h named. x.finds h (names_has spans f h span there named), search rules);
+      done = (
+        x.done.0,
+        inl (λ h named. x.done.1.1 h (names_has spans f h span there named), search rules),
+      );
     }
 
 pub returns-else-is_loose-clause-looks : goal.returns-else-is_loose-clause-looks
@@ -37,17 +40,20 @@ returns-else-is_loose-clause-looks g c =
     let spans = c.args.spans.now in let f = c.args.frame in let span = c.unwrap-span.result.now in
     let there = got_span _ spans f c.get.result c.unwrap-span.result
     c.get.ensures.span c.unwrap-span.ensures in
-    let x = c.if-is_loose.ensures in let held = x.finds in record {
+    let x = c.if-is_loose.ensures in let held = x.done.1.1 in record {
       events = x.events;
       ran = x.ran;
-      looks = x.looks;
+      first = x.first;
       touches = touches_more (Has span) (Names spans f) (λ p. ⊥) (λ p. ⊥) x.events
           (λ h. has_names spans f h span there) (λ p y. y) x.touches;
-      finds = inr (
-        record {
-          seen = λ h named. x.seen h (names_has spans f h span there named);
-          barred = (held.0, held.1, has_names spans f held.0 span there held.2, held.3, held.4);
-        },
-        refl,
+      done = (
+        x.done.0,
+        inr (
+          record {
+            seen = λ h named. x.done.1.0 h (names_has spans f h span there named);
+            barred = (held.0, held.1, has_names spans f held.0 span there held.2, held.3, held.4);
+          },
+          refl,
+        ),
       );
     }
