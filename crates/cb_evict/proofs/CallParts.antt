@@ -14,6 +14,12 @@ pub record Joins (runsA runsB runsC : List Event → Type 0) (showsA showsB : Sh
   pub more : (es fs : List Event) → runsA es → runsB fs → runsC (es ++ fs)
   pub shown : (es : List Event) (s : Shown) → runsA es → showsA s → showsB (played es s)
 
+abbrev pub joins : {runsA runsB runsC : List Event → Type 0} {showsA showsB : Shown → Type 0}
+    → ((es fs : List Event) → runsA es → runsB fs → runsC (es ++ fs))
+    → ((es : List Event) (s : Shown) → runsA es → showsA s → showsB (played es s))
+    → Joins runsA runsB runsC showsA showsB
+joins more shown = record { more = more; shown = shown }
+
 -- A part and then another one are a part: the first only looks, or the other looks at none of its
 -- objects.
 abbrev pub part_then : {runsA runsB runsC : List Event → Type 0} {showsA showsB : Shown → Type 0}
@@ -42,3 +48,16 @@ abbrev pub reads_part : {runs : List Event → Type 0} {q : ℕ → Type 0} (es 
     → AreReads q es → CallPart runs (λ h. ⊥) q (λ fs. Unit {0})
 reads_part es ran reads =
     record { events = es; ran = ran; touches = reads.touches; first = reads.first; done = tt }
+
+-- a part is one about more objects and words
+abbrev pub part_more : {runs : List Event → Type 0} {o p : ℕ → Type 0} {a : List Event → Type 0}
+    (objects words : ℕ → Type 0) (so : List Event → Type 0) → (x : CallPart runs o p a)
+    → ((h : ℕ) → o h → objects h) → ((i : ℕ) → p i → words i) → so x.events
+    → CallPart runs objects words so
+part_more {o = o} {p = p} objects words so x f g is = record {
+  events = x.events;
+  ran = x.ran;
+  touches = touches_more o objects p words x.events f g x.touches;
+  first = x.first;
+  done = is;
+}

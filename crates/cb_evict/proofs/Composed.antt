@@ -40,7 +40,7 @@ use Rattle.cb_evict.specs.Finding.{Finds}
 use Rattle.cb_evict.specs.Taking.{AreLooseNow, AreLooseStill, Tries, TakesFew, TakesEnough, Takes}
 use Rattle.cb_evict.specs.Loading.{LiesInOne, OnlyLoads}
 use Rattle.cb_evict.specs.Looking.{IsIn, LooksOver}
-use Rattle.cb_evict.proofs.CallParts.{Joins, part_then}
+use Rattle.cb_evict.proofs.CallParts.{Joins, part_more, part_then}
 use Rattle.cb_evict.proofs.Claims.{claims_nothing}
 use Rattle.cb_evict.proofs.Events.{touches_more}
 use Rattle.cb_evict.proofs.Gathers.{claims_then, gathers_back}
@@ -163,14 +163,9 @@ looks_as runs spans ys frames gs loose hs e f h x =
 pub looks_tried : {runs : List Event → Type 0} {shows : Shown → Type 0} (far : FarState)
     (loose : List ℕ) → LooksOver runs far.spans (candidates far) loose
     → Tries runs shows far (AreLooseNow far loose) []
-looks_tried far loose x = record {
-  events = x.events;
-  ran = x.ran;
-  touches = touches_more (IsIn far.spans (candidates far)) (IsIn far.spans (candidates far))
-      (λ p. ⊥) (LiesInOne (candidates far)) x.events (λ h y. y) (λ p y. absurd y) x.touches;
-  first = x.first;
-  done = (x.done.1, λ far s knows here. claims_nothing far s x.events x.done.0 here);
-}
+looks_tried far loose x =
+    part_more (IsIn far.spans (candidates far)) (LiesInOne (candidates far)) _ x (λ h y. y)
+    (λ p y. absurd y) (x.done.1, λ at s knows here. claims_nothing at s x.events x.done.0 here)
 
 -- ---- the looks, and then the rest
 module _ {runsA runsB runsC : List Event → Type 0} {showsA showsB : Shown → Type 0} (far : FarState)
@@ -386,14 +381,10 @@ pub claims_tried : (far : FarState) {loose frames : List ℕ} {formers : List Fo
     → All (Contains (candidates far)) loose
     → (x : ClaimsSpans runs shows far.spans loose k frames formers)
     → Tries runs shows far (AreLooseStill far loose (frames ++ x.rest)) formers
-claims_tried far {loose = loose} among x = let y = x.part in record {
-  events = y.events;
-  ran = y.ran;
-  touches = touches_more (IsIn far.spans loose) (IsIn far.spans (candidates far)) (λ p. ⊥)
-      (LiesInOne (candidates far)) y.events (among_spans far loose among) (λ p z. absurd z) y.touches;
-  first = y.first;
-  done = (λ before was. y.done.0 before (candidates far) (candidates_apart far) was, y.done.1);
-}
+claims_tried far {loose = loose} among x =
+    part_more (IsIn far.spans (candidates far)) (LiesInOne (candidates far)) _ x.part
+    (among_spans far loose among) (λ p z. absurd z)
+    (λ before was. x.part.done.0 before (candidates far) (candidates_apart far) was, x.part.done.1)
 
 -- where fewer are claimed than wanted, none is left
 pub few_left : (loose frames : List ℕ) (formers : List Former) (k : ℕ) (far : FarState)

@@ -14,6 +14,7 @@ use Rattle.cb_evict.proofs.BeginEnd.{starts, reads_as, reads_in, batch_then, res
 use Rattle.cb_evict.proofs.Events.{are_reads}
 use Rattle.cb_evict.proofs.Ending.{are_read, taken_ready, place_in, handles_all, frames_below}
 use Rattle.cb_evict.proofs.Restored.{gives_back_ends}
+use Rattle.cb_evict.proofs.CallParts.{joins}
 use Rattle.cb_evict.proofs.beginning.begin_claimed.Goals as goal
 
 pub reserve_frames-requires-clause-config : goal.reserve_frames-requires-clause-config
@@ -113,10 +114,8 @@ returns-in-Ok-clause-begun g c =
     }
 
 pub returns-in-Err-clause-error : goal.returns-in-Err-clause-error
-returns-in-Err-clause-error g c = gives_back_ends c.args.far.now c.args.frames.items c.args.formers.items (record {
-  more = λ es fs a b. g.met.D.Desk.more _ _ _ _ _ a b;
-  shown = λ es s ran a. (g.met.D.Desk.follows _ _ es s ran a).1;
-}) c.requires.taken.among c.requires.taken.of.only
+returns-in-Err-clause-error g c = gives_back_ends c.args.far.now c.args.frames.items c.args.formers.items (joins (λ es fs a b. g.met.D.Desk.more _ _ _ _ _ a b)
+    (λ es s ran a. (g.met.D.Desk.follows _ _ es s ran a).1)) c.requires.taken.among c.requires.taken.of.only
     (reads_as _ _ c.args.frames.items c.deref.ensures.value c.in-Err.ensures.read)
     (subst (λ (l : List Former). GivesBack
     (λ es. g.D.Desk.run c.reserve_frames.new.desk es c.give_back.new.desk)

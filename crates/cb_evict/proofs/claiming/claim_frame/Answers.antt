@@ -6,7 +6,7 @@ use Rattle.cb_world.specs.Reserved.{table_of}
 use Rattle.cb_evict.specs.Candidates.{Names}
 use Rattle.cb_evict.specs.Looking.{Has}
 use Rattle.cb_evict.specs.Order.{objects_in}
-use Rattle.cb_evict.proofs.Events.{touches_more}
+use Rattle.cb_evict.proofs.CallParts.{part_more}
 use Rattle.cb_evict.proofs.Filling.{got_span}
 use Rattle.cb_evict.proofs.Loose.{has_names, names_has, span_below, span_once, claimed_loose, span_few_slots}
 use Rattle.cb_evict.proofs.claiming.claim_frame.Goals as goal
@@ -40,13 +40,7 @@ returns-then-claim_span-clause-claims g c =
       more = x.more;
       noted = x.noted;
       each_once = x.each_once;
-      part = record {
-        events = y.events;
-        ran = y.ran;
-        touches = touches_more (Has span) (Names spans f) (λ p. ⊥) (λ p. ⊥) y.events
-            (λ h. has_names spans f h span there) (λ p z. z) y.touches;
-        first = y.first;
-        done = (
+      part = part_more (Names spans f) (λ p. ⊥) _ y (λ h. has_names spans f h span there) (λ p z. z) (
           inl (
             record {
               all = λ h named. y.done.0.0.all h (names_has spans f h span there named);
@@ -59,7 +53,6 @@ returns-then-claim_span-clause-claims g c =
           ),
           y.done.1,
         );
-      };
     }
 
 pub returns-then-claim_span-clause-more : goal.returns-then-claim_span-clause-more
@@ -80,13 +73,7 @@ returns-else-claim_span-clause-claims g c =
       more = x.more;
       noted = x.noted;
       each_once = x.each_once;
-      part = record {
-        events = y.events;
-        ran = y.ran;
-        touches = touches_more (Has span) (Names spans f) (λ p. ⊥) (λ p. ⊥) y.events
-            (λ h. has_names spans f h span there) (λ p z. z) y.touches;
-        first = y.first;
-        done = (
+      part = part_more (Names spans f) (λ p. ⊥) _ y (λ h. has_names spans f h span there) (λ p z. z) (
           inr (
             y.done.0.0,
             refl,
@@ -94,7 +81,6 @@ returns-else-claim_span-clause-claims g c =
           ),
           y.done.1,
         );
-      };
     }
 
 pub returns-else-claim_span-clause-more : goal.returns-else-claim_span-clause-more

@@ -13,6 +13,7 @@ use Rattle.cb_evict.proofs.Claims.{claims_nothing}
 use Rattle.cb_evict.proofs.Gathers.{Gathers, gathers_back}
 use Rattle.cb_evict.specs.Order.{objects_in}
 use Rattle.cb_evict.proofs.Slots.{HasBelow, nothing_yet, noted_more, slot_handle, slot_succeeded, to_undo, below_all, below_has}
+use Rattle.cb_evict.proofs.CallParts.{joins}
 use Rattle.cb_evict.proofs.claiming.claim_span.Goals as goal
 
 pub loop-slot-init : goal.loop-slot-init
@@ -51,10 +52,8 @@ undo-requires-clause-handles g c =
     let i = c.loop-slot.slot-index in let span = c.args.span.now in
     let e = ap (λ (l : List (Option ℕ)). get_or l i None) c.slots-slot-items.ensures.slots in
     let z = to_undo {runsC = λ fs. g.D.Desk.run c.args.desk.now fs c.claim_slot.new.desk} {span = span}
-    {old = c.args.formers.now.items} {start = c.len-start.result} (record {
-      more = λ es fs a b. g.met.D.Desk.more _ _ _ _ _ a b;
-      shown = λ es s ran a. (g.met.D.Desk.follows _ _ es s ran a).1;
-    }) inv.2 x e c.requires.apart inv.3 (search rules) in
+    {old = c.args.formers.now.items} {start = c.len-start.result} (joins (λ es fs a b. g.met.D.Desk.more _ _ _ _ _ a b)
+    (λ es s ran a. (g.met.D.Desk.follows _ _ es s ran a).1)) inv.2 x e c.requires.apart inv.3 (search rules) in
     subst (λ (l : List Former). All (λ f. f.handle < (g.D.Desk.settings c.claim_slot.new.desk).handles) l)
     (sym z.rest)
     (λ k d l. subst (λ (n : Config). (get_or (inv.1 ++ x.more) k d).handle < n.handles)
@@ -68,10 +67,8 @@ undo-requires-clause-apart g c =
     let i = c.loop-slot.slot-index in let span = c.args.span.now in
     let e = ap (λ (l : List (Option ℕ)). get_or l i None) c.slots-slot-items.ensures.slots in
     let z = to_undo {runsC = λ fs. g.D.Desk.run c.args.desk.now fs c.claim_slot.new.desk} {span = span}
-    {old = c.args.formers.now.items} {start = c.len-start.result} (record {
-      more = λ es fs a b. g.met.D.Desk.more _ _ _ _ _ a b;
-      shown = λ es s ran a. (g.met.D.Desk.follows _ _ es s ran a).1;
-    }) inv.2 x e c.requires.apart inv.3 (search rules) in
+    {old = c.args.formers.now.items} {start = c.len-start.result} (joins (λ es fs a b. g.met.D.Desk.more _ _ _ _ _ a b)
+    (λ es s ran a. (g.met.D.Desk.follows _ _ es s ran a).1)) inv.2 x e c.requires.apart inv.3 (search rules) in
     subst AreApart (sym z.rest) z.joint.each_once
 
 pub undo-requires-clause-held : goal.undo-requires-clause-held
@@ -80,10 +77,8 @@ undo-requires-clause-held g c =
     let i = c.loop-slot.slot-index in let span = c.args.span.now in
     let e = ap (λ (l : List (Option ℕ)). get_or l i None) c.slots-slot-items.ensures.slots in
     let z = to_undo {runsC = λ fs. g.D.Desk.run c.args.desk.now fs c.claim_slot.new.desk} {span = span}
-    {old = c.args.formers.now.items} {start = c.len-start.result} (record {
-      more = λ es fs a b. g.met.D.Desk.more _ _ _ _ _ a b;
-      shown = λ es s ran a. (g.met.D.Desk.follows _ _ es s ran a).1;
-    }) inv.2 x e c.requires.apart inv.3 (search rules) in
+    {old = c.args.formers.now.items} {start = c.len-start.result} (joins (λ es fs a b. g.met.D.Desk.more _ _ _ _ _ a b)
+    (λ es s ran a. (g.met.D.Desk.follows _ _ es s ran a).1)) inv.2 x e c.requires.apart inv.3 (search rules) in
     let had = c.requires.sound in let es = inv.0 ++ x.part.events in
     let so = z.joint.claims had.2.0 had.0 had.1 had.2.1 in (
       played es had.0,
@@ -102,19 +97,15 @@ returns-then-not-claim_slot-clause-claims g c =
     let i = c.loop-slot.slot-index in let span = c.args.span.now in
     let e = ap (λ (l : List (Option ℕ)). get_or l i None) c.slots-slot-items.ensures.slots in
     let z = to_undo {runsC = λ fs. g.D.Desk.run c.args.desk.now fs c.claim_slot.new.desk} {span = span}
-    {old = c.args.formers.now.items} {start = c.len-start.result} (record {
-      more = λ es fs a b. g.met.D.Desk.more _ _ _ _ _ a b;
-      shown = λ es s ran a. (g.met.D.Desk.follows _ _ es s ran a).1;
-    }) inv.2 x e c.requires.apart inv.3 (search rules) in
+    {old = c.args.formers.now.items} {start = c.len-start.result} (joins (λ es fs a b. g.met.D.Desk.more _ _ _ _ _ a b)
+    (λ es s ran a. (g.met.D.Desk.follows _ _ es s ran a).1)) inv.2 x e c.requires.apart inv.3 (search rules) in
     let b = subst (λ (l : List Former). GivesBack (λ es. g.D.Desk.run c.claim_slot.new.desk es c.undo.new.desk)
     (λ s. g.D.Desk.shows c.claim_slot.new.desk s) l) z.rest c.undo.ensures.back in
     let es = inv.0 ++ x.part.events in
     let all : Gathers (λ fs. g.D.Desk.run c.args.desk.now fs c.undo.new.desk)
     (λ s. g.D.Desk.shows c.args.desk.now s) (HasBelow span (i + 1)) (λ h. ⊥) (es ++ b.events) [] =
-    gathers_back _ _ _ _ _ _ _ es (inv.1 ++ x.more) z.joint b (record {
-      more = λ es fs a b. g.met.D.Desk.more _ _ _ _ _ a b;
-      shown = λ es s ran a. (g.met.D.Desk.follows _ _ es s ran a).1;
-    }) in
+    gathers_back _ _ _ _ _ _ _ es (inv.1 ++ x.more) z.joint b (joins (λ es fs a b. g.met.D.Desk.more _ _ _ _ _ a b)
+    (λ es s ran a. (g.met.D.Desk.follows _ _ es s ran a).1)) in
     let held = x.part.done.0.1 in record {
       more = [];
       noted = c.undo.ensures.formers ∙ z.kept ∙ sym (append-nil c.args.formers.now.items);
@@ -151,10 +142,8 @@ loop-slot-preserved g c =
       inv.0 ++ x.part.events,
       inv.1 ++ x.more,
       slot_succeeded _ _ _ _ _ span i slot c.loop-slot.formers.items c.claim_slot.new.formers.items
-          inv.0 inv.1 inv.2 x e c.requires.apart (record {
-            more = λ es fs a b. g.met.D.Desk.more _ _ _ _ _ a b;
-            shown = λ es s ran a. (g.met.D.Desk.follows _ _ es s ran a).1;
-          }),
+          inv.0 inv.1 inv.2 x e c.requires.apart (joins (λ es fs a b. g.met.D.Desk.more _ _ _ _ _ a b)
+    (λ es s ran a. (g.met.D.Desk.follows _ _ es s ran a).1)),
       x.noted ∙ ap (λ (l : List Former). l ++ x.more) inv.3
           ∙ append_assoc c.args.formers.now.items inv.1 x.more,
       omega (arith, inv.4, c.claim_slot.ensures.capacity),

@@ -8,6 +8,7 @@ use Rattle.cb_world.specs.Played.{played}
 use Rattle.cb_evict.specs.Candidates.{AreUnique}
 use Rattle.cb_evict.proofs.Claims.{claims_nothing}
 use Rattle.cb_evict.proofs.Trying.{Tried, tried_none, tried_more, all_tried}
+use Rattle.cb_evict.proofs.CallParts.{joins}
 use Rattle.cb_evict.proofs.claiming.claim_spans.Goals as goal
 
 pub loop-frame-init : goal.loop-frame-init
@@ -55,10 +56,8 @@ loop-frame-preserved g c =
       tried_more _ _ _ _ _ c.args.spans.now _ c.args.loose.now c.loop-frame.frame-index inv.0
           c.loop-frame.frames.items c.claim_frame.new.frames.items c.loop-frame.formers.items
           c.claim_frame.new.formers.items inv.1 x c.requires.unique c.requires.apart c.loop-frame-test.true
-          (record {
-            more = λ es fs a b. g.met.D.Desk.more _ _ _ _ _ a b;
-            shown = λ es s ran a. (g.met.D.Desk.follows _ _ es s ran a).1;
-          }),
+          (joins (λ es fs a b. g.met.D.Desk.more _ _ _ _ _ a b)
+    (λ es s ran a. (g.met.D.Desk.follows _ _ es s ran a).1)),
       omega (arith, few, c.claim_frame.ensures.count),
       omega (arith, inv.3, c.claim_frame.ensures.room),
       omega (arith, inv.4, c.claim_frame.ensures.capacity),

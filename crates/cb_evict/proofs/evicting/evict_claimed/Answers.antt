@@ -12,6 +12,7 @@ use Rattle.cb_evict.proofs.Evicts.{told_all}
 use Rattle.cb_evict.proofs.Ending.{taken_ready, place_in, handles_all, are_read, kept_parities, end_allowed, ended, state_then, homes_then, end_in, spans_touched, frames_below}
 use Rattle.cb_evict.proofs.Restored.{gives_back_ends, settled_end}
 use Rattle.cb_evict.proofs.Standing.{are_unique}
+use Rattle.cb_evict.proofs.CallParts.{joins}
 use Rattle.cb_evict.proofs.evicting.evict_claimed.Goals as goal
 
 pub store_frames-requires-clause-config : goal.store_frames-requires-clause-config
@@ -145,10 +146,8 @@ returns-in-Ok-clause-evict g c =
     let homed = homes_then far c.store_frames.new.far frames shards _ _ _ kept.state
     c.next_number-set.ensures c.close_spans.ensures.homes in
     settled_end {showsB = λ t. g.D.Desk.shows c.store_frames.new.desk t} far c.close_spans.new.far
-    frames formers (record {
-      more = λ es fs a b. g.met.D.Desk.more _ _ _ _ _ a b;
-      shown = λ es s ran a. (g.met.D.Desk.follows _ _ es s ran a).1;
-    }) only (x.events, x.ran, x.loads) y (λ end before s r shown.
+    frames formers (joins (λ es fs a b. g.met.D.Desk.more _ _ _ _ _ a b)
+    (λ es s ran a. (g.met.D.Desk.follows _ _ es s ran a).1)) only (x.events, x.ran, x.loads) y (λ end before s r shown.
     let sized = g.met.D.Desk.sized _ (played before s) r.shown in
     let told = told_all far before s (played before s) formers r.claimed r.here
     (sized.1 ∙ sym sized.0) in
@@ -170,7 +169,5 @@ returns-in-Ok-clause-evict g c =
     })
 
 pub returns-in-Err-clause-error : goal.returns-in-Err-clause-error
-returns-in-Err-clause-error g c = gives_back_ends c.args.far.now c.args.frames.now c.args.formers.now (record {
-  more = λ es fs a b. g.met.D.Desk.more _ _ _ _ _ a b;
-  shown = λ es s ran a. (g.met.D.Desk.follows _ _ es s ran a).1;
-}) c.requires.taken.among c.requires.taken.of.only c.in-Err.ensures.read c.give_back.ensures
+returns-in-Err-clause-error g c = gives_back_ends c.args.far.now c.args.frames.now c.args.formers.now (joins (λ es fs a b. g.met.D.Desk.more _ _ _ _ _ a b)
+    (λ es s ran a. (g.met.D.Desk.follows _ _ es s ran a).1)) c.requires.taken.among c.requires.taken.of.only c.in-Err.ensures.read c.give_back.ensures

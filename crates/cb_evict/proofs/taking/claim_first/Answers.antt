@@ -11,6 +11,7 @@ use Rattle.cb_evict.specs.Claiming.{GivesBack}
 use Rattle.cb_evict.proofs.Composed.{any_err, are_taken, back_tried, claims_as, claims_tried}
 use Rattle.cb_evict.proofs.Ending.{handles_all}
 use Rattle.cb_evict.proofs.Standing.{are_unique, ready_frame}
+use Rattle.cb_evict.proofs.CallParts.{joins}
 use Rattle.cb_evict.proofs.taking.claim_first.Goals as goal
 
 pub returns-in_err-frames-clause-error : goal.returns-in_err-frames-clause-error
@@ -73,10 +74,8 @@ returns-then-len-k-clause-taken g c =
     let few : length c.claim_spans.new.frames.items < c.args.config.k =
     omega (arith, c.if-len-k.true, c.len.ensures) in record {
       loose = c.claim_spans.new.frames.items;
-      tries = back_tried c.args.far.now (record {
-        more = λ es fs a b. g.met.D.Desk.more _ _ _ _ _ a b;
-        shown = λ es s ran a. (g.met.D.Desk.follows _ _ es s ran a).1;
-      }) c.requires.among x
+      tries = back_tried c.args.far.now (joins (λ es fs a b. g.met.D.Desk.more _ _ _ _ _ a b)
+    (λ es s ran a. (g.met.D.Desk.follows _ _ es s ran a).1)) c.requires.among x
           (subst (λ (l : List Former). GivesBack
           (λ es. g.D.Desk.run c.claim_spans.new.desk es c.give_back.new.desk)
           (λ s. g.D.Desk.shows c.claim_spans.new.desk s) l) c.deref.ensures.value c.give_back.ensures)

@@ -17,6 +17,7 @@ use Rattle.cb_evict.proofs.Loose.{loose_among}
 use Rattle.cb_evict.proofs.Ending.{place_in}
 use Rattle.cb_evict.proofs.Restored.{looked}
 use Rattle.cb_evict.proofs.Standing.{candidates_apart}
+use Rattle.cb_evict.proofs.CallParts.{joins}
 use Rattle.cb_evict.proofs.taking.take_spans.Goals as goal
 
 pub find_spans-requires-clause-config : goal.find_spans-requires-clause-config
@@ -93,10 +94,8 @@ pub returns-in-Loose-clause-taken : goal.returns-in-Loose-clause-taken
 returns-in-Loose-clause-taken g c =
     let found = found_loose _ _ _ _ _ _ _ c.in-Loose.is c.in_ok-found.ensures.found in
     if_map _ _ c.claim_first.result c.claim_first.ensures.taken (λ taken y.
-    looked_takes c.args.far.now c.in-Loose.frames.items (record {
-      more = λ es fs a b. g.met.D.Desk.more _ _ _ _ _ a b;
-      shown = λ es s ran a. (g.met.D.Desk.follows _ _ es s ran a).1;
-    }) found.looks
+    looked_takes c.args.far.now c.in-Loose.frames.items (joins (λ es fs a b. g.met.D.Desk.more _ _ _ _ _ a b)
+    (λ es s ran a. (g.met.D.Desk.follows _ _ es s ran a).1)) found.looks
     (g.D.Desk.settings c.args.desk.now) c.config-config.result taken c.config-config.ensures
     (subst (λ (l : List ℕ). Takes (λ es. g.D.Desk.run c.find_spans.new.desk es c.claim_first.new.desk)
     (λ s. g.D.Desk.shows c.find_spans.new.desk s) c.config-config.result c.args.far.now
