@@ -41,18 +41,18 @@ returns-then-claim_span-clause-claims g c =
       noted = x.noted;
       each_once = x.each_once;
       part = part_more (Names spans f) (λ p. ⊥) _ y (λ h. has_names spans f h span there) (λ p z. z) (
-          inl (
-            record {
-              all = λ h named. y.done.0.0.all h (names_has spans f h span there named);
-              only = λ k d l. has_names spans f _ span there (y.done.0.0.only k d l);
-            },
-            search rules,
-            λ h named. claimed_loose y.events had.0 _ x.more so.0 h
-                (y.done.0.0.all h (names_has spans f h span there named)),
-            y.done.0.1 ∙ ap (λ (o : Option Contents). objects_in (table_of o)) (sym there),
-          ),
-          y.done.1,
-        );
+        inl (
+          record {
+            all = λ h named. y.done.0.0.all h (names_has spans f h span there named);
+            only = λ k d l. has_names spans f _ span there (y.done.0.0.only k d l);
+          },
+          search rules,
+          λ h named. claimed_loose y.events had.0 _ x.more so.0 h
+              (y.done.0.0.all h (names_has spans f h span there named)),
+          y.done.0.1 ∙ ap (λ (o : Option Contents). objects_in (table_of o)) (sym there),
+        ),
+        y.done.1,
+      );
     }
 
 pub returns-then-claim_span-clause-more : goal.returns-then-claim_span-clause-more
@@ -74,13 +74,13 @@ returns-else-claim_span-clause-claims g c =
       noted = x.noted;
       each_once = x.each_once;
       part = part_more (Names spans f) (λ p. ⊥) _ y (λ h. has_names spans f h span there) (λ p z. z) (
-          inr (
-            y.done.0.0,
-            refl,
-            (held.0, held.1, has_names spans f held.0 span there held.2, held.3, held.4),
-          ),
-          y.done.1,
-        );
+        inr (
+          y.done.0.0,
+          refl,
+          (held.0, held.1, has_names spans f held.0 span there held.2, held.3, held.4),
+        ),
+        y.done.1,
+      );
     }
 
 pub returns-else-claim_span-clause-more : goal.returns-else-claim_span-clause-more

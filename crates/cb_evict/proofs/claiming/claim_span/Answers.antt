@@ -143,7 +143,7 @@ loop-slot-preserved g c =
       inv.1 ++ x.more,
       slot_succeeded _ _ _ _ _ span i slot c.loop-slot.formers.items c.claim_slot.new.formers.items
           inv.0 inv.1 inv.2 x e c.requires.apart (joins (λ es fs a b. g.met.D.Desk.more _ _ _ _ _ a b)
-    (λ es s ran a. (g.met.D.Desk.follows _ _ es s ran a).1)),
+          (λ es s ran a. (g.met.D.Desk.follows _ _ es s ran a).1)),
       x.noted ∙ ap (λ (l : List Former). l ++ x.more) inv.3
           ∙ append_assoc c.args.formers.now.items inv.1 x.more,
       omega (arith, inv.4, c.claim_slot.ensures.capacity),

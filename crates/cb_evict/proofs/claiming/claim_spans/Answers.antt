@@ -57,7 +57,7 @@ loop-frame-preserved g c =
           c.loop-frame.frames.items c.claim_frame.new.frames.items c.loop-frame.formers.items
           c.claim_frame.new.formers.items inv.1 x c.requires.unique c.requires.apart c.loop-frame-test.true
           (joins (λ es fs a b. g.met.D.Desk.more _ _ _ _ _ a b)
-    (λ es s ran a. (g.met.D.Desk.follows _ _ es s ran a).1)),
+          (λ es s ran a. (g.met.D.Desk.follows _ _ es s ran a).1)),
       omega (arith, few, c.claim_frame.ensures.count),
       omega (arith, inv.3, c.claim_frame.ensures.room),
       omega (arith, inv.4, c.claim_frame.ensures.capacity),

@@ -25,8 +25,8 @@ returns-then-is_loose-clause-looks g c =
     c.get.ensures.span c.unwrap-span.ensures in
     let x = c.if-is_loose.ensures in
     part_more (Names spans f) (λ p. ⊥) _ x (λ h. has_names spans f h span there) (λ p y. y) (
-        x.done.0,
-        inl (λ h named. x.done.1.1 h (names_has spans f h span there named), search rules),
+      x.done.0,
+      inl (λ h named. x.done.1.1 h (names_has spans f h span there named), search rules),
     )
 
 pub returns-else-is_loose-clause-looks : goal.returns-else-is_loose-clause-looks
@@ -36,12 +36,12 @@ returns-else-is_loose-clause-looks g c =
     c.get.ensures.span c.unwrap-span.ensures in
     let x = c.if-is_loose.ensures in let held = x.done.1.1 in
     part_more (Names spans f) (λ p. ⊥) _ x (λ h. has_names spans f h span there) (λ p y. y) (
-        x.done.0,
-        inr (
-          record {
-            seen = λ h named. x.done.1.0 h (names_has spans f h span there named);
-            barred = (held.0, held.1, has_names spans f held.0 span there held.2, held.3, held.4);
-          },
-          refl,
-        ),
+      x.done.0,
+      inr (
+        record {
+          seen = λ h named. x.done.1.0 h (names_has spans f h span there named);
+          barred = (held.0, held.1, has_names spans f held.0 span there held.2, held.3, held.4);
+        },
+        refl,
+      ),
     )

@@ -75,7 +75,7 @@ returns-then-len-k-clause-taken g c =
     omega (arith, c.if-len-k.true, c.len.ensures) in record {
       loose = c.claim_spans.new.frames.items;
       tries = back_tried c.args.far.now (joins (λ es fs a b. g.met.D.Desk.more _ _ _ _ _ a b)
-    (λ es s ran a. (g.met.D.Desk.follows _ _ es s ran a).1)) c.requires.among x
+          (λ es s ran a. (g.met.D.Desk.follows _ _ es s ran a).1)) c.requires.among x
           (subst (λ (l : List Former). GivesBack
           (λ es. g.D.Desk.run c.claim_spans.new.desk es c.give_back.new.desk)
           (λ s. g.D.Desk.shows c.claim_spans.new.desk s) l) c.deref.ensures.value c.give_back.ensures)
