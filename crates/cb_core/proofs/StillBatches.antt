@@ -109,7 +109,7 @@ commit_done : (x y : Words) (far new : FarState) (r : Reply) (s : Shown) → IsK
     → (c : HasCommitted far new r) → ArePutAway x y c.batch.words → StepKeeps x y far new
 commit_done x y far new r s k c away =
     let none : All (λ former. pins_of (word_at y former.handle) ≡ 0) c.batch.words =
-    λ i d l. (away.away i d l).pins in record {
+    λ i d l. (away.changed i d l).pins in record {
       far = record {
         first = ap (λ (f : FarState). f.first) c.state;
         made = ap (λ (f : FarState). f.made) c.state;
@@ -140,7 +140,7 @@ abort_done x y far new r s k g back =
     let claims : All (IsClaimedFrom s) batch.words =
     claimed_all s far batch k.sound g.there (k.shows.hots ∙ sym k.shows.objects) in
     let none : All (λ former. pins_of (word_at y former.handle) ≡ 0) batch.words =
-    λ i d l. ap pins_of (back.back i d l) ∙ (claims i d l).free.1 in
+    λ i d l. ap pins_of (back.changed i d l) ∙ (claims i d l).free.1 in
     record {
       far = record {
         first = ap (λ (f : FarState). f.first) g.state;

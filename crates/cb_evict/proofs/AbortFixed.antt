@@ -1,6 +1,5 @@
 -- An abort is fixed: one reply, one set of words and one far state.
 use Rattle.std.proofs.Common.{◌≡◌, List, sym, ap, ◌∙◌, subst, inl, inr}
-use Rattle.std.proofs.lemmas.List.{ext_get_or}
 use Rattle.cb_types.specs.declared.reply.Reply.{Reply}
 use Rattle.cb_types.specs.declared.reply.Reply.TheVariants as answer
 use Rattle.cb_world.specs.declared.leaving.Former.{Former}
@@ -11,24 +10,18 @@ use Rattle.cb_world.specs.Reserved.{without_batch}
 use Rattle.cb_world.specs.World.{word_at}
 use Rattle.cb_world.proofs.Laws.{IsOneEnd, refused_alike, some_same}
 use Rattle.cb_evict.specs.AbortStep.{ArePutBack, IsAbortStep, no_batch, given_up}
+use Rattle.cb_evict.proofs.ChangedWords.{changes_fixed}
 use Rattle.cb_evict.proofs.Claims.{among, no_former}
 use Rattle.cb_evict.proofs.BeginFixed.{leaving_or_not}
 
 back_fixed : (x y z : Words) (formers : List Former) → ArePutBack x y formers
     → ArePutBack x z formers → y ≡ z
 back_fixed x y z formers a b =
-    let words : y.words ≡ z.words =
-    ext_get_or 0 y.words z.words (a.count ∙ sym b.count) (λ h within. elim (among formers h) [
-      | inl (k, l, e) ↦ ap (word_at y) (sym (e no_former)) ∙ a.back k no_former l
-          ∙ sym (b.back k no_former l) ∙ ap (word_at z) (e no_former)
-      | inr none ↦ a.others h none ∙ sym (b.others h none)
-    ]) in
-    λ i. record {
-      settings = (a.settings ∙ sym b.settings) i;
-      words = words i;
-      versions = (a.versions ∙ sym b.versions) i;
-      memory = (a.memory ∙ sym b.memory) i;
-    }
+    changes_fixed x y z _ _ _ a b (λ h. elim (among formers h) [
+      | inl (k, l, e) ↦ inr (ap (word_at y) (sym (e no_former)) ∙ a.changed k no_former l
+          ∙ sym (b.changed k no_former l) ∙ ap (word_at z) (e no_former))
+      | inr none ↦ inl none
+    ])
 
 pub abort_step_fixes : (x y z : Words) (far new other : FarState) (r q : Reply)
     → IsAbortStep x y far new r → IsAbortStep x z far other q → IsOneEnd r q y z new other

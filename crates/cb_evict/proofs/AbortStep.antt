@@ -15,13 +15,13 @@ use Rattle.cb_world.specs.Grasped.{IsFree}
 use Rattle.cb_world.specs.Leaving.{LeavingState}
 use Rattle.cb_world.specs.Plain.{Words, Shows}
 use Rattle.cb_world.specs.Played.{played}
-use Rattle.cb_world.specs.StillDesk.{plain_follows, plain_stays}
 use Rattle.cb_world.specs.World.{word_at, IsKnown}
 use Rattle.cb_world.proofs.Laws.{IsStepKnown, HereIs, AreSeen, here_after, seen_after, seen_known, FreeIs, free_after, PerformsStill, RunsStill, runs_still, known_then}
 use Rattle.cb_evict.specs.AbortRule.{HasNoBatch, HasGivenUp, AbortRule, AbortEffect}
 use Rattle.cb_evict.specs.AbortStep.{ArePutBack, IsAbortStep, no_batch, given_up}
 use Rattle.cb_evict.specs.Restoring.{IsClaimedFrom, IsHereAt, AreRestored}
-use Rattle.cb_evict.proofs.EvictStep.{refused, word_stays}
+use Rattle.cb_evict.proofs.ChangedWords.{changes_words, same_count, shows_then}
+use Rattle.cb_evict.proofs.EvictStep.{refused}
 use Rattle.cb_evict.proofs.Noted.{claimed_all}
 
 -- the word of an object that is here, without pins, as a word says, is that word
@@ -40,20 +40,20 @@ here_word v w fits here none hot free below =
 put_back : (x y : Words) (far : FarState) (s : Shown) (es : List Event) (batch : LeavingState)
     → RunsStill x y far s es → far.leaving ≡ Some batch
     → AreRestored s (played es s) batch.words → ArePutBack x y batch.words
-put_back x y far s es batch r there z = record {
-  back = λ i d within. back (get_or batch.words i d) (claimed i d within) (z.here i d within);
-  others = λ h none. word_stays x y far s es h r count (z.others h none) (z.hots h none);
-  count = count;
-  settings = plain_stays x y es r.ran;
-  versions = sym shows.versions ∙ z.versions ∙ r.known.shows.versions;
-  memory = sym shows.memory ∙ z.memory ∙ r.known.shows.memory;
-}
+put_back x y far s es batch r there z =
+    changes_words x y far s es r _ _ (record {
+      objects = z.objects;
+      others = z.others;
+      hots = z.hots;
+      versions = z.versions;
+      memory = z.memory;
+    }) (λ i d within. back (get_or batch.words i d) (claimed i d within) (z.changed i d within))
   where
     shows : Shows y (played es s)
-    shows = (plain_follows es x y s r.ran r.known.shows).1
+    shows = shows_then x y far s es r
 
     count : length y.words ≡ length x.words
-    count = sym shows.objects ∙ z.objects ∙ r.known.shows.objects
+    count = same_count x y far s es r z.objects
 
     seen_then : AreSeen y (played es s)
     seen_then = seen_after es x y s r.ran (seen_known x far s r.known)

@@ -37,7 +37,7 @@ module _ (s t : Shown) (far : FarState) (batch : LeavingState) (sound : Sound s 
   here_one : (h : ℕ) (n : IsNoted s batch h)
       → object_at t h ≡ is.Here (len_of n.former.word) (place_of n.former.word)
   here_one h n = ap (object_at t) (sym n.handle)
-      ∙ (All-contains (IsHereAt t) batch.words n.former r.here n.noted).object
+      ∙ (All-contains (IsHereAt t) batch.words n.former r.changed n.noted).object
 
   here_not_claimed : (m p len place v : ℕ) (words : List ℕ)
       → is.Here m p ≡ is.Claimed len place v words → ⊥
@@ -159,4 +159,4 @@ aborts runs shows far new batch there state warm r = record {
 }
   where
     restoring : (s : Shown) → shows s × Sound s far → IsRestoring far r.events s batch.words
-    restoring s k = r.restored s far k.0 k.1.here (claimed_all s far batch k.1 there (warm s k.0))
+    restoring s k = r.done.1 s far k.0 k.1.here (claimed_all s far batch k.1 there (warm s k.0))

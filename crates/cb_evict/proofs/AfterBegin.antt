@@ -50,7 +50,7 @@ pub begin_pins : (x y : Words) (far new : FarState) (r : Reply) (h : ℕ)
 begin_pins x y far new r h step =
     by_step (λ u f. pins_of (word_at u h) ≡ pins_of (word_at x h)) x y far new r step refl
     (λ m. elim (in_or_not far.spans (take x.settings.k (loose_frames x far)) h) [
-      | inl i ↦ (m.begun.held.claimed h i).pins ∙ sym (leaves_free x far x.settings.k h i).1
+      | inl i ↦ (m.begun.held.changed h i).pins ∙ sym (leaves_free x far x.settings.k h i).1
       | inr out ↦ ap pins_of (m.begun.held.others h out)
     ])
 

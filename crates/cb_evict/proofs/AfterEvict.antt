@@ -138,7 +138,7 @@ pub evict_pins : (x y : Words) (far new : FarState) (r : Reply) (h : ℕ)
 evict_pins x y far new r h step =
     by_step (λ u f. pins_of (word_at u h) ≡ pins_of (word_at x h)) x y far new r step refl
     (λ m. elim (in_or_not far.spans (take x.settings.k (loose_frames x far)) h) [
-      | inl i ↦ (m.evicted.sent.sent h i).pins ∙ sym (leaves_free x far x.settings.k h i).1
+      | inl i ↦ (m.evicted.sent.changed h i).pins ∙ sym (leaves_free x far x.settings.k h i).1
       | inr out ↦ ap pins_of (m.evicted.sent.others h out)
     ])
 

@@ -1,6 +1,6 @@
 -- A begin is fixed: one reply, one set of words and one far state.
 use Rattle.std.proofs.Common.{◌≡◌, ℕ, suc, ◌*◌, List, [], ◌∷◌, ◌++◌, length, take, map, All, None, Some, refl, sym, ap, ◌∙◌, arith, inl, inr}
-use Rattle.std.proofs.lemmas.List.{append_cancel_left, ext_get_or, get_or_append_left, length-map}
+use Rattle.std.proofs.lemmas.List.{append_cancel_left, get_or_append_left, length-map}
 use Rattle.cb_gf256.specs.InRange.{IsInRange}
 use Rattle.cb_types.specs.declared.reply.Reply.{Reply}
 use Rattle.cb_types.specs.declared.reply.Reply.TheVariants as answer
@@ -19,6 +19,7 @@ use Rattle.cb_evict.specs.BeginStep.{AreHeld, IsBatchMade, IsBeginStep, IsBegunT
 use Rattle.cb_evict.specs.EvictStep.{loose_frames}
 use Rattle.cb_evict.specs.Order.{noted_of}
 use Rattle.cb_evict.proofs.AfterEvict.{in_or_not}
+use Rattle.cb_evict.proofs.ChangedWords.{changes_fixed}
 use Rattle.cb_evict.proofs.Ending.{code_range}
 use Rattle.cb_evict.proofs.EvictFixed.{first_loose}
 use Rattle.cb_evict.proofs.Options.{none_some}
@@ -46,18 +47,10 @@ noted_fixed x handles xs ys a b c d =
 held_fixed : (x y z : Words) (far : FarState) (frames : List ℕ) → AreHeld x y far frames
     → AreHeld x z far frames → y ≡ z
 held_fixed x y z far frames a b =
-    let words : y.words ≡ z.words =
-    ext_get_or 0 y.words z.words (a.count ∙ sym b.count) (λ h within.
-    elim (in_or_not far.spans frames h) [
-      | inl in_span ↦ (a.claimed h in_span).number ∙ sym (b.claimed h in_span).number
-      | inr out ↦ a.others h out ∙ sym (b.others h out)
-    ]) in
-    λ i. record {
-      settings = (a.settings ∙ sym b.settings) i;
-      words = words i;
-      versions = (a.versions ∙ sym b.versions) i;
-      memory = (a.memory ∙ sym b.memory) i;
-    }
+    changes_fixed x y z _ _ _ a b (λ h. elim (in_or_not far.spans frames h) [
+      | inl i ↦ inr ((a.changed h i).number ∙ sym (b.changed h i).number)
+      | inr out ↦ inl out
+    ])
 
 -- data rows have one list of parities
 parities_fixed : (k r : ℕ) (rows a b : List (List ℕ)) → IsInRange k r → length rows ≡ k

@@ -1,5 +1,5 @@
 -- The parts of a begin one after another.
-use Rattle.std.proofs.Common.{◌≡◌, ◌⊎◌, ℕ, List, [], ◌++◌, length, replicate, Option, Some, None, sym, refl, ap, ◌∙◌, subst, inl, inr}
+use Rattle.std.proofs.Common.{◌≡◌, ◌⊎◌, ℕ, List, [], length, replicate, Option, Some, None, sym, refl, ap, ◌∙◌, subst, inl, inr}
 use Rattle.std.specs.Option.{option_map}
 use Rattle.cb_member.specs.declared.names.Shard.{Shard}
 use Rattle.cb_types.specs.declared.config.Config.{Config}
@@ -23,7 +23,8 @@ use Rattle.cb_evict.specs.BeginRule.{HasBegun, HasBatch, BeginRule}
 use Rattle.cb_evict.specs.BeginEffect.{BeginEffect}
 use Rattle.cb_evict.specs.Beginning.{BeginsClaimed}
 use Rattle.cb_evict.specs.Taking.{AreLooseNow, TakesEnough, TakesFew}
-use Rattle.cb_evict.proofs.Composed.{all_touched, few_nodes, few_spans, loose_still, ready, replied, takes_few, tried_end}
+use Rattle.cb_evict.proofs.CallParts.{Joins}
+use Rattle.cb_evict.proofs.Composed.{all_tried, ended_from, few_nodes, few_spans, replied, takes_few, tried_end}
 use Rattle.cb_evict.proofs.Still.{does_nothing, still_none}
 use Rattle.cb_evict.proofs.Options.{none_some}
 
@@ -152,37 +153,30 @@ begins_not c far r id runs knows e is ran =
     })
 
 -- ---- k spans were claimed and are leaving from here
-pub takes_begin : (c : Config) (far new : FarState) (r : Reply) (frames : List ℕ)
-    (formers : List Former) (runsA runsB runsC : List Event → Type 0)
-    (showsA showsB : Shown → Type 0)
-    → (x : TakesEnough runsA showsA c far (AreLooseNow far) frames formers)
-    → (y : BeginsClaimed runsB showsB c far new frames formers)
-    → ((es fs : List Event) → runsA es → runsB fs → runsC (es ++ fs))
-    → ((es : List Event) (s : Shown) → runsA es → showsA s → showsB (played es s))
+pub takes_begin : {runsA runsB runsC : List Event → Type 0} {showsA showsB : Shown → Type 0}
+    {c : Config} {far new : FarState} {frames : List ℕ} {formers : List Former} (r : Reply)
+    → Joins runsA runsB runsC showsA showsB
+    → TakesEnough runsA showsA c far (AreLooseNow far) frames formers
+    → BeginsClaimed runsB showsB c far new frames formers
     → far.leaving ≡ None → r ≡ answer.Batch (record { n = far.counts.sets })
     → (s : Shown) × showsA s × Sound s far
     → Performs runsC (λ s. showsA s × Sound s far) (BeginRule c far new r) (λ t. Sound t new)
     (BeginEffect far new r)
-takes_begin c far new r frames formers runsA runsB runsC showsA showsB x y more shown none is
-    (s, knows, sound) =
-    let t = x.tries in let all = t.events ++ y.events in
-    tried_end _ _ _ _ _ _ _ runsA runsB runsC showsA showsB t y more shown
-    (BeginRule c far new r) (BeginEffect far new r)
+takes_begin {c = c} {far = far} {new = new} r j x y none is (s, knows, sound) =
+    let all = all_tried j x y in
+    tried_end j x y (BeginRule c far new r) (BeginEffect far new r)
     (inr (record {
       none = none;
       loose = x.loose;
-      found = loose_still _ _ _ _ _ _ _ runsA runsB runsC showsA showsB t y more shown x.loose
-          t.found;
+      found = all.done;
       answered = inr (inr (record {
         enough = x.enough;
         room = x.room;
         reply = is;
-        begun = subst (λ (l : List ℕ). HasBegun c far new l all) x.first
-            (y.rule t.events s
-            (ready _ _ _ _ _ _ _ runsA runsB runsC showsA showsB t y more shown s knows sound));
+        begun = subst (λ (l : List ℕ). HasBegun c far new l all.events) x.first
+            (ended_from j x y s knows sound).rule;
       }));
-      touches = all_touched _ _ _ _ _ _ _ runsA runsB runsC showsA showsB t y more shown
-          x.taken.among;
+      touches = all.touches;
     }))
     (λ a b did. record {
       begun = λ id e. did;

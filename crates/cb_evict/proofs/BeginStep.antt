@@ -9,7 +9,7 @@ use Rattle.cb_world.specs.declared.event.Event.{Event}
 use Rattle.cb_world.specs.declared.object.Object.{Object}
 use Rattle.cb_world.specs.declared.object.Object.TheVariants as is
 use Rattle.cb_world.specs.declared.shown.Shown.{Shown}
-use Rattle.cb_world.specs.Shown.{Fits}
+use Rattle.cb_world.specs.Shown.{Fits, hot_at}
 use Rattle.cb_world.specs.FarSound.{batch_rows}
 use Rattle.cb_world.specs.FarState.{FarState}
 use Rattle.cb_world.specs.Grasped.{IsFree}
@@ -20,7 +20,6 @@ use Rattle.cb_world.specs.Plain.{Words, Shows}
 use Rattle.cb_world.specs.Played.{played}
 use Rattle.cb_world.specs.RowWords.{row_of}
 use Rattle.cb_world.specs.SetWord.{IsSpanWord}
-use Rattle.cb_world.specs.StillDesk.{plain_follows, plain_stays}
 use Rattle.cb_world.specs.World.{word_at, IsKnown}
 use Rattle.cb_world.proofs.Laws.{IsStepKnown, found_exact, AreSeen, seen_after, seen_known, PerformsStill, RunsStill, runs_still, known_then}
 use Rattle.cb_evict.specs.BeginEffect.{IsLeavingNow, IsBegun, BeginEffect}
@@ -31,7 +30,8 @@ use Rattle.cb_evict.specs.EvictStep.{loose_frames}
 use Rattle.cb_evict.specs.Looking.{IsIn}
 use Rattle.cb_evict.proofs.AfterEvict.{leaves_free}
 use Rattle.cb_evict.proofs.BeginParts.{leaving_batch, spans_batch, nodes_batch}
-use Rattle.cb_evict.proofs.EvictStep.{refused, word_stays}
+use Rattle.cb_evict.proofs.ChangedWords.{changes_words, same_count, shows_then}
+use Rattle.cb_evict.proofs.EvictStep.{refused}
 use Rattle.cb_evict.proofs.LooseSpans.{loose_exact}
 use Rattle.cb_evict.proofs.Standing.{are_unique}
 
@@ -52,46 +52,45 @@ held_words : (x y : Words) (far new : FarState) (s : Shown) (es : List Event) (f
     → RunsStill x y far s es → new.spans ≡ far.spans → leaving_frames new.leaving ≡ frames
     → ((h : ℕ) → IsIn far.spans frames h → IsFree (word_at x h))
     → IsBegun far new es s (played es s) → AreHeld x y far frames
-held_words x y far new s es frames r spans leaves free z = record {
-  claimed = λ h i.
-      let a = z.claimed h (into h i) in
-      let found : word_at x h ≡ a.word =
-      found_exact es x y h a.word r.ran r.looks_first a.found in
-      let below : h < length s.objects =
-      (are_unique far s (length s.objects) r.known.sound.here refl).below i.0 h i.2 in
-      let range : h < length x.words = omega (arith, below, r.known.shows.objects) in
-      let fit : Fits (is.Claimed (len_of a.word) (place_of a.word) a.version a.words)
-      (word_at y h) =
-      subst (λ (o : Object). Fits o (word_at y h)) a.object
-      (shows.fit h (omega (arith, range, count))) in
-      let was : Fits (is.Here (len_of a.word) (place_of a.word)) (word_at x h) =
-      subst (λ (o : Object). Fits o (word_at x h)) a.was (r.known.shows.fit h range) in
-      claimed_word (word_at x h) (word_at y h) 0 (len_of a.word) (place_of a.word) a.version a.words
-      was.0 (free h i) fit (ap len_of (sym found)) (ap place_of (sym found))
-      (sym (seen_then.hot h (omega (arith, range, count)))
-      ∙ ap (λ (l : List Bool). get_or l h false) (z.hots ∙ ap (λ (t : Shown). t.hots) r.told)
-      ∙ seen.hot h range);
-  others = λ h out. word_stays x y far s es h r count (z.others h (λ i. out (out_of h i)))
-      (ap (λ (l : List Bool). get_or l h false) (z.hots ∙ ap (λ (t : Shown). t.hots) r.told));
-  count = count;
-  settings = plain_stays x y es r.ran;
-  versions = sym shows.versions ∙ z.versions ∙ ap (λ (t : Shown). t.versions) r.told
-      ∙ r.known.shows.versions;
-  memory = sym shows.memory ∙ z.memory ∙ ap (λ (t : Shown). t.memory) r.told
-      ∙ r.known.shows.memory;
-}
+held_words x y far new s es frames r spans leaves free z =
+    changes_words x y far s es r _ _ (record {
+      objects = z.objects;
+      others = λ h out. z.others h (λ i. out (out_of h i));
+      hots = λ h out. hots h;
+      versions = z.versions ∙ ap (λ (t : Shown). t.versions) r.told;
+      memory = z.memory ∙ ap (λ (t : Shown). t.memory) r.told;
+    }) (λ h i.
+    let a = z.claimed h (into h i) in
+    let found : word_at x h ≡ a.word =
+    found_exact es x y h a.word r.ran r.looks_first a.found in
+    let below : h < length s.objects =
+    (are_unique far s (length s.objects) r.known.sound.here refl).below i.0 h i.2 in
+    let range : h < length x.words = omega (arith, below, r.known.shows.objects) in
+    let fit : Fits (is.Claimed (len_of a.word) (place_of a.word) a.version a.words)
+    (word_at y h) =
+    subst (λ (o : Object). Fits o (word_at y h)) a.object
+    (shows.fit h (omega (arith, range, count))) in
+    let was : Fits (is.Here (len_of a.word) (place_of a.word)) (word_at x h) =
+    subst (λ (o : Object). Fits o (word_at x h)) a.was (r.known.shows.fit h range) in
+    claimed_word (word_at x h) (word_at y h) 0 (len_of a.word) (place_of a.word) a.version a.words
+    was.0 (free h i) fit (ap len_of (sym found)) (ap place_of (sym found))
+    (sym (seen_then.hot h (omega (arith, range, count)))
+    ∙ hots h ∙ seen.hot h range))
   where
     shows : Shows y (played es s)
-    shows = (plain_follows es x y s r.ran r.known.shows).1
+    shows = shows_then x y far s es r
+
+    count : length y.words ≡ length x.words
+    count = same_count x y far s es r z.objects
+
+    hots : (h : ℕ) → hot_at (played es s) h ≡ hot_at s h
+    hots h = ap (λ (l : List Bool). get_or l h false) (z.hots ∙ ap (λ (t : Shown). t.hots) r.told)
 
     seen : AreSeen x s
     seen = seen_known x far s r.known
 
     seen_then : AreSeen y (played es s)
     seen_then = seen_after es x y s r.ran seen
-
-    count : length y.words ≡ length x.words
-    count = sym shows.objects ∙ z.objects ∙ r.known.shows.objects
 
     into : (h : ℕ) → IsIn far.spans frames h → IsLeavingNow new h
     into h i = subst (λ (l : List ℕ). IsIn new.spans l h) (sym leaves)

@@ -1,6 +1,5 @@
 -- A commit is fixed: one reply, one set of words and one far state.
 use Rattle.std.proofs.Common.{◌≡◌, ℕ, ◌≤◌, List, [], length, Some, sym, ap, ◌∙◌, subst, arith, inl, inr}
-use Rattle.std.proofs.lemmas.List.{ext_get_or}
 use Rattle.cb_types.specs.declared.reply.Reply.{Reply}
 use Rattle.cb_types.specs.declared.reply.Reply.TheVariants as answer
 use Rattle.cb_world.specs.declared.leaving.Former.{Former}
@@ -13,6 +12,7 @@ use Rattle.cb_evict.specs.Closing.{HaveHomes, with_homes}
 use Rattle.cb_evict.specs.CommitRule.{with_committed}
 use Rattle.cb_evict.specs.CommitStep.{ArePutAway, IsCommitStep, no_batch, short, committed}
 use Rattle.cb_evict.specs.Waiting.{waiting}
+use Rattle.cb_evict.proofs.ChangedWords.{changes_fixed}
 use Rattle.cb_evict.proofs.Claims.{among, no_former}
 use Rattle.cb_evict.proofs.BeginFixed.{leaving_or_not}
 use Rattle.cb_evict.proofs.EvictFixed.{homes_fixed}
@@ -20,18 +20,11 @@ use Rattle.cb_evict.proofs.EvictFixed.{homes_fixed}
 away_fixed : (x y z : Words) (formers : List Former) → ArePutAway x y formers
     → ArePutAway x z formers → y ≡ z
 away_fixed x y z formers a b =
-    let words : y.words ≡ z.words =
-    ext_get_or 0 y.words z.words (a.count ∙ sym b.count) (λ h within. elim (among formers h) [
-      | inl (k, l, e) ↦ ap (word_at y) (sym (e no_former)) ∙ (a.away k no_former l).number
-          ∙ sym (b.away k no_former l).number ∙ ap (word_at z) (e no_former)
-      | inr none ↦ a.others h none ∙ sym (b.others h none)
-    ]) in
-    λ i. record {
-      settings = (a.settings ∙ sym b.settings) i;
-      words = words i;
-      versions = (a.versions ∙ sym b.versions) i;
-      memory = (a.memory ∙ sym b.memory) i;
-    }
+    changes_fixed x y z _ _ _ a b (λ h. elim (among formers h) [
+      | inl (k, l, e) ↦ inr (ap (word_at y) (sym (e no_former)) ∙ (a.changed k no_former l).number
+          ∙ sym (b.changed k no_former l).number ∙ ap (word_at z) (e no_former))
+      | inr none ↦ inl none
+    ])
 
 short_or_whole : (far : FarState) (s t : LeavingState) → far.leaving ≡ Some s
     → far.leaving ≡ Some t → 1 ≤ length (waiting far.members s.shards)

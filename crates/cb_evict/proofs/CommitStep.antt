@@ -14,7 +14,6 @@ use Rattle.cb_world.specs.FarState.{FarState}
 use Rattle.cb_world.specs.Leaving.{LeavingState}
 use Rattle.cb_world.specs.Plain.{Words, Shows}
 use Rattle.cb_world.specs.Played.{played}
-use Rattle.cb_world.specs.StillDesk.{plain_follows, plain_stays}
 use Rattle.cb_world.specs.World.{word_at, IsKnown}
 use Rattle.cb_world.proofs.Laws.{IsStepKnown, PerformsStill, RunsStill, runs_still, known_then}
 use Rattle.cb_evict.specs.AbortRule.{HasNoBatch}
@@ -23,26 +22,27 @@ use Rattle.cb_evict.specs.CommitStep.{ArePutAway, IsCommitStep, no_batch, short,
 use Rattle.cb_evict.specs.Restoring.{IsClaimedFrom}
 use Rattle.cb_evict.specs.Sending.{IsSent, AreSent}
 use Rattle.cb_evict.proofs.Commits.{no_batch_set, short_set}
-use Rattle.cb_evict.proofs.EvictStep.{refused, word_stays}
+use Rattle.cb_evict.proofs.ChangedWords.{changes_words, same_count, shows_then}
+use Rattle.cb_evict.proofs.EvictStep.{refused}
 use Rattle.cb_evict.proofs.Noted.{claimed_all}
 
 put_away : (x y : Words) (far : FarState) (s : Shown) (es : List Event) (batch : LeavingState)
     → RunsStill x y far s es → far.leaving ≡ Some batch
     → AreSent s (played es s) batch.words → ArePutAway x y batch.words
-put_away x y far s es batch r there z = record {
-  away = λ i d within. away (get_or batch.words i d) (claimed i d within) (z.sent i d within);
-  others = λ h none. word_stays x y far s es h r count (z.others h none) (z.hots h none);
-  count = count;
-  settings = plain_stays x y es r.ran;
-  versions = sym shows.versions ∙ z.versions ∙ r.known.shows.versions;
-  memory = sym shows.memory ∙ z.memory ∙ r.known.shows.memory;
-}
+put_away x y far s es batch r there z =
+    changes_words x y far s es r _ _ (record {
+      objects = z.objects;
+      others = z.others;
+      hots = z.hots;
+      versions = z.versions;
+      memory = z.memory;
+    }) (λ i d within. away (get_or batch.words i d) (claimed i d within) (z.changed i d within))
   where
     shows : Shows y (played es s)
-    shows = (plain_follows es x y s r.ran r.known.shows).1
+    shows = shows_then x y far s es r
 
     count : length y.words ≡ length x.words
-    count = sym shows.objects ∙ z.objects ∙ r.known.shows.objects
+    count = same_count x y far s es r z.objects
 
     claimed : All (IsClaimedFrom s) batch.words
     claimed = claimed_all s far batch r.known.sound there

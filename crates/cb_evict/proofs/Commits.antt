@@ -23,7 +23,7 @@ use Rattle.cb_evict.specs.Claiming.{IsOne}
 use Rattle.cb_evict.specs.Closing.{HaveHomes, with_homes}
 use Rattle.cb_evict.specs.CommitRule.{CommitRule, CommitEffect, IsCommitted, with_committed}
 use Rattle.cb_evict.specs.Committing.{AreAllPut, with_shards}
-use Rattle.cb_evict.specs.Sending.{Sends}
+use Rattle.cb_evict.specs.Sending.{IsSending, Sends}
 use Rattle.cb_evict.specs.Waiting.{waiting}
 use Rattle.cb_evict.proofs.BatchCommitted.{Done, sound_committed, now_committed}
 use Rattle.cb_evict.proofs.BatchReady.{told_all}
@@ -152,7 +152,7 @@ commits runs shows far new batch id same there whole state homes warm r = record
     touches = touches_more (IsOne batch.words) (IsOfBatch far) (λ p. ⊥) (λ p. ⊥) r.events
         (λ h one. (batch, there, one)) (λ p x. x) r.touches;
   };
-  allowed = λ s k. r.allowed s k.0 (told_all s far batch k.1 there (warm s k.0));
+  allowed = λ s k. (sending s k).allowed;
   sound_after = λ s k. subst (λ (f : FarState). Sound (played r.events s) f) (sym state)
       (sound_committed s (played r.events s) far batch new.homes (done s k));
   effect = λ s k. record {
@@ -160,7 +160,7 @@ commits runs shows far new batch id same there whole state homes warm r = record
         subst (λ (c : LeavingState). IsCommitted far new c r.events s (played r.events s))
         (some_same batch b (sym there ∙ at)) (record {
           sent = (done s k).sent;
-          nothing = r.nothing s k.0 (told_all s far batch k.1 there (warm s k.0));
+          nothing = (sending s k).nothing;
           same_now = λ h. subst (λ (f : FarState). now (played r.events s) f h ≡ now s far h) (sym state)
               (now_committed s (played r.events s) far batch new.homes (done s k) h);
         });
@@ -168,12 +168,15 @@ commits runs shows far new batch id same there whole state homes warm r = record
   };
 }
   where
+    sending : (s : Shown) → shows s × Sound s far → IsSending r.events s batch.words
+    sending s k = r.done.1 s k.0 (told_all s far batch k.1 there (warm s k.0))
+
     done : (s : Shown) → shows s × Sound s far → Done s (played r.events s) far batch new.homes
     done s k = record {
       sound = k.1;
       there = there;
       all = all_put far batch whole;
       up = all_up far batch whole;
-      sent = r.sent s k.0 (told_all s far batch k.1 there (warm s k.0));
+      sent = (sending s k).sent;
       homed = homes;
     }

@@ -1,8 +1,8 @@
 -- The front of an eviction and of a begin, and what comes behind it.
-use Rattle.std.proofs.Common.{◌≡◌, ◌≢◌, ◌⊎◌, ℕ, ◌+◌, ◌<◌, ◌≤◌, List, [], ◌∷◌, ◌++◌, length, get_or, All, Option, replicate, take, sym, refl, ap, ◌∙◌, subst, arith, inl, inr}
+use Rattle.std.proofs.Common.{◌≡◌, ◌≢◌, ◌⊎◌, ℕ, ◌+◌, ◌<◌, List, [], ◌∷◌, ◌++◌, length, get_or, All, Option, replicate, sym, refl, ap, ◌∙◌, subst, arith, inl, inr}
 use Rattle.std.specs.Prelude.{Result, Ok, Err, IfOk, OnOk, OnErr}
 use Rattle.std.specs.List.{Contains, AllPairs}
-use Rattle.std.proofs.lemmas.List.{append-nil, append_assoc, take_at, length-append, length-replicate, get_or-replicate, get_or_default}
+use Rattle.std.proofs.lemmas.List.{append-nil, append_assoc, length-replicate, get_or-replicate, get_or_default}
 use Rattle.std.proofs.lemmas.List.Elements.{All-contains, All-nil}
 use Rattle.std.proofs.lemmas.List.Kept.{AllPairs-cons}
 use Rattle.cb_span.specs.Contents.{Contents}
@@ -16,20 +16,19 @@ use Rattle.cb_world.specs.declared.leaving.Former.{Former}
 use Rattle.cb_world.specs.declared.shown.Shown.{Shown}
 use Rattle.cb_world.specs.Choices.{room_count}
 use Rattle.cb_world.specs.Played.{played}
-use Rattle.cb_world.specs.Looks.{NoLook, LooksFirst}
-use Rattle.cb_world.specs.LocalSound.{LocalSound}
+use Rattle.cb_world.specs.Looks.{NoLook}
 use Rattle.cb_world.specs.Still.{IsStill}
 use Rattle.cb_world.specs.FarState.{FarState}
 use Rattle.cb_world.specs.Sound.{Sound}
 use Rattle.cb_world.specs.Performs.{Performs}
-use Rattle.cb_world.proofs.Laws.{played_append, allowed_append}
+use Rattle.cb_world.proofs.Laws.{allowed_append}
 use Rattle.cb_evict.specs.Candidates.{candidates, AreLoose}
-use Rattle.cb_evict.specs.Claims.{AreClaimed, IsNone}
-use Rattle.cb_evict.specs.Claiming.{GivesBack, ClaimsSpans}
-use Rattle.cb_evict.specs.Events.{TouchesOnly}
+use Rattle.cb_evict.specs.CallPart.{CallPart}
+use Rattle.cb_evict.specs.Claims.{IsNone}
+use Rattle.cb_evict.specs.Claiming.{Claims, GivesBack, ClaimsSpans}
 use Rattle.cb_evict.specs.EvictEffect.{IsEvicted, EvictEffect}
 use Rattle.cb_evict.specs.EvictRule.{HasEvicted, HasFewSpans, HasFewNodes, HasBoth, EvictRule}
-use Rattle.cb_evict.specs.Evicting.{TouchesSpans, ReadsFrames, AreTaken, IsReady, EndsClaimed, EvictsClaimed, LeavesClaimed}
+use Rattle.cb_evict.specs.Evicting.{TouchesSpans, ReadsFrames, AreTaken, IsEnded, IsReady, EndsClaimed, EvictsClaimed, LeavesClaimed}
 use Rattle.cb_evict.specs.declared.eviction.Eviction.{Eviction}
 use Rattle.cb_evict.specs.declared.eviction.Eviction.TheVariants as eviction
 use Rattle.cb_evict.specs.Eviction.{CountsRule, TellsCounts, reply_of}
@@ -41,10 +40,10 @@ use Rattle.cb_evict.specs.Finding.{Finds}
 use Rattle.cb_evict.specs.Taking.{AreLooseNow, AreLooseStill, Tries, TakesFew, TakesEnough, Takes}
 use Rattle.cb_evict.specs.Loading.{LiesInOne, OnlyLoads}
 use Rattle.cb_evict.specs.Looking.{IsIn, LooksOver}
-use Rattle.cb_evict.proofs.Claims.{claims_append, claims_nothing}
-use Rattle.cb_evict.proofs.Ending.{spans_touched}
-use Rattle.cb_evict.proofs.Events.{touches_append, touches_more, first_append, looks_before, steady_append}
-use Rattle.cb_evict.proofs.Gathers.{gathers_back}
+use Rattle.cb_evict.proofs.CallParts.{Joins, part_more, part_then}
+use Rattle.cb_evict.proofs.Claims.{claims_nothing}
+use Rattle.cb_evict.proofs.Events.{touches_more}
+use Rattle.cb_evict.proofs.Gathers.{claims_then, gathers_back}
 use Rattle.cb_evict.proofs.Loose.{loose_among, all_quiet, apart_tail, fresh_head}
 use Rattle.cb_evict.proofs.Restored.{restored}
 use Rattle.cb_evict.proofs.Standing.{candidates_apart}
@@ -152,13 +151,6 @@ nothing_done far runs knows ran =
     does_nothing runs knows far far (TouchesSpans far) IsStill ran refl tt still_none
 
 -- ---- the looks
--- only objects of candidates were looked at
-pub looks_touch : (far : FarState) (es : List Event)
-    → TouchesOnly (IsIn far.spans (candidates far)) (λ p. ⊥) es → TouchesSpans far es
-looks_touch far es t = touches_more (IsIn far.spans (candidates far))
-    (IsIn far.spans (candidates far))
-    (λ p. ⊥) (LiesInOne (candidates far)) es (λ h x. x) (λ p x. absurd x) t
-
 pub looks_as : (runs : List Event → Type 0) (spans ys : List (Option Contents))
     (frames gs loose hs : List ℕ) → ys ≡ spans → gs ≡ frames → hs ≡ loose → LooksOver runs ys gs hs
     → LooksOver runs spans frames loose
@@ -168,45 +160,31 @@ looks_as runs spans ys frames gs loose hs e f h x =
     (subst (λ (l : List ℕ). LooksOver runs ys gs l) h x))
 
 -- nothing is claimed by looks
-pub looks_tried : (far : FarState) (loose : List ℕ) (runs : List Event → Type 0)
-    (shows : Shown → Type 0) → LooksOver runs far.spans (candidates far) loose
+pub looks_tried : {runs : List Event → Type 0} {shows : Shown → Type 0} (far : FarState)
+    (loose : List ℕ) → LooksOver runs far.spans (candidates far) loose
     → Tries runs shows far (AreLooseNow far loose) []
-looks_tried far loose runs shows x = record {
-  events = x.events;
-  ran = x.ran;
-  first = subst LooksFirst (append-nil x.events) (looks_before x.events [] x.looks tt);
-  touches = looks_touch far x.events x.touches;
-  found = x.finds;
-  claims = λ s knows here. claims_nothing far s x.events x.looks here;
-}
+looks_tried far loose x =
+    part_more (IsIn far.spans (candidates far)) (LiesInOne (candidates far)) _ x (λ h y. y)
+    (λ p y. absurd y) (x.done.1, λ at s knows here. claims_nothing at s x.events x.done.0 here)
 
 -- ---- the looks, and then the rest
-module _ (far : FarState) (was : List ℕ) (runsA runsB runsC : List Event → Type 0)
-    (showsA showsB : Shown → Type 0) (x : LooksOver runsA far.spans (candidates far) was)
-    (more : (es fs : List Event) → runsA es → runsB fs → runsC (es ++ fs))
-    (shown : (es : List Event) (s : Shown) → runsA es → showsA s → showsB (played es s)) where
+module _ {runsA runsB runsC : List Event → Type 0} {showsA showsB : Shown → Type 0} (far : FarState)
+    (was : List ℕ) (j : Joins runsA runsB runsC showsA showsB)
+    (x : LooksOver runsA far.spans (candidates far) was) where
   looked_tries : (loose : List ℕ) (formers : List Former)
       → Tries runsB showsB far (AreLooseStill far was loose) formers
       → Tries runsC showsA far (AreLooseNow far loose) formers
   looked_tries loose formers y =
-      let es = x.events in let fs = y.events in record {
-        events = es ++ fs;
-        ran = more es fs x.ran y.ran;
-        first = looks_before es fs x.looks y.first;
-        touches = touches_append (IsIn far.spans (candidates far)) (LiesInOne (candidates far)) es
-            fs (looks_touch far es x.touches) y.touches;
-        found = y.found es x.finds;
-        claims = λ s knows here.
-            let a = claims_nothing far s es x.looks here in
-            let b = y.claims (played es s) (shown es s x.ran knows) a.1 in (
-              subst (λ (u : Shown). AreClaimed (es ++ fs) s u formers) (sym (played_append es fs s))
-                  (claims_append far es fs s (played es s) (played fs (played es s)) [] formers a.1
-                  a.0 b.0 (All-nil (λ f. IsNone formers f.handle)) (All-nil (λ f. NoLook f.handle fs))
-                  (λ k d l. All-nil (λ f. f.handle ≢ (get_or formers k d).handle))),
-              subst (λ (u : Shown). LocalSound u far) (sym (played_append es fs s)) b.1,
-              steady_append es fs s a.2 b.2,
-            );
-      }
+      part_then (IsIn far.spans (candidates far)) (LiesInOne (candidates far))
+      (λ es. AreLooseNow far loose es × ((at : FarState) → Claims showsA at es formers)) j x y (λ h z. z) (λ p z. absurd z) (λ h z. z) (λ p z. z) (inl x.done.0) (
+        y.done.0 x.events x.done.1,
+        λ at s knows here.
+            let a = claims_nothing at s x.events x.done.0 here in
+            claims_then {showsB = showsB} at x.events y.events s [] formers a
+            (j.shown x.events s x.ran knows) y.done.1
+            (All-nil (λ f. IsNone formers f.handle)) (All-nil (λ f. NoLook f.handle y.events))
+            (λ k d l. All-nil (λ f. f.handle ≢ (get_or formers k d).handle)),
+      )
 
   pub looked_takes : (c d : Config) (taken : Taken) → d ≡ c
       → Takes runsB showsB d far (AreLooseStill far was) taken
@@ -233,36 +211,35 @@ module _ (far : FarState) (was : List ℕ) (runsA runsB runsC : List Event → T
 
 -- ---- nothing is claimed in the end
 -- so nothing changed
-still_at : (far : FarState) (finds : List Event → Type 0) (runs : List Event → Type 0)
-    (shows : Shown → Type 0) → (x : Tries runs shows far finds []) → (s : Shown)
+still_at : (far : FarState) (finds : List Event → Type 0) {runs : List Event → Type 0}
+    {shows : Shown → Type 0} → (x : Tries runs shows far finds []) → (s : Shown)
     → shows s × Sound s far
     → IsStill x.events s (played x.events s) × Sound (played x.events s) far
-still_at far finds runs shows x s k =
-    let a = x.claims s k.0 k.1.here in
+still_at far finds x s k =
+    let a = x.done.1 far s k.0 k.1.here in
     restored far x.events s (IsIn far.spans (candidates far)) (LiesInOne (candidates far)) k.1 a.0
     a.1 a.2 x.touches
 
-pub tried_still : (far : FarState) (finds : List Event → Type 0) (runs : List Event → Type 0)
-    (shows : Shown → Type 0) → Tries runs shows far finds []
+tried_still : (far : FarState) (finds : List Event → Type 0) {runs : List Event → Type 0}
+    {shows : Shown → Type 0} → Tries runs shows far finds []
     → Performs runs (λ s. shows s × Sound s far) (TouchesSpans far) (λ t. Sound t far) IsStill
-tried_still far finds runs shows x = record {
+tried_still far finds x = record {
   events = x.events;
   ran = x.ran;
   looks_first = x.first;
   rule = x.touches;
-  allowed = λ s k. (x.claims s k.0 k.1.here).2.allowed;
-  sound_after = λ s k. (still_at far finds runs shows x s k).1;
-  effect = λ s k. (still_at far finds runs shows x s k).0;
+  allowed = λ s k. (x.done.1 far s k.0 k.1.here).2.allowed;
+  sound_after = λ s k. (still_at far finds x s k).1;
+  effect = λ s k. (still_at far finds x s k).0;
 }
 
 -- looks, and no more
-pub looked_fails : (far : FarState) (loose : List ℕ) (runsA runsB : List Event → Type 0)
-    (shows : Shown → Type 0) → LooksOver runsA far.spans (candidates far) loose
+pub looked_fails : (far : FarState) (loose : List ℕ) {runsA runsB : List Event → Type 0}
+    {shows : Shown → Type 0} → LooksOver runsA far.spans (candidates far) loose
     → ((es : List Event) → runsA es → runsB es)
     → Performs runsB (λ s. shows s × Sound s far) (TouchesSpans far) (λ t. Sound t far) IsStill
-looked_fails far loose runsA runsB shows x on =
-    let y = tried_still far (AreLooseNow far loose) runsA shows
-    (looks_tried far loose runsA shows x) in record {
+looked_fails far loose {shows = shows} x on =
+    let y = tried_still far (AreLooseNow far loose) (looks_tried {shows = shows} far loose x) in record {
       events = y.events;
       ran = on y.events y.ran;
       looks_first = y.looks_first;
@@ -284,16 +261,16 @@ takes_few c far e runs shows x = let y = x.tries in record {
   rule = record {
     rule = record {
       loose = x.loose;
-      found = y.found;
+      found = y.done.0;
       answered = answer_of x.few;
       touches = y.touches;
     };
     counts = x.counts;
   };
-  allowed = λ s k. (y.claims s k.0 k.1.here).2.allowed;
-  sound_after = λ s k. (still_at far (AreLooseNow far x.loose) runs shows y s k).1;
+  allowed = λ s k. (y.done.1 far s k.0 k.1.here).2.allowed;
+  sound_after = λ s k. (still_at far (AreLooseNow far x.loose) y s k).1;
   effect = λ s k. left_effect far far (reply_of e) y.events s (played y.events s) (no_set x.few)
-      (still_at far (AreLooseNow far x.loose) runs shows y s k).0;
+      (still_at far (AreLooseNow far x.loose) y s k).0;
 }
   where
     answer_of : HasFewSpans c far far (reply_of e) x.loose
@@ -346,16 +323,6 @@ set_counted c far new id e es is x = record {
 }
 
 -- ---- the claims
--- what was claimed are objects of candidates
-pub claims_touch : (far : FarState) (loose : List ℕ) (es : List Event)
-    → All (Contains (candidates far)) loose → TouchesOnly (IsIn far.spans loose) (λ p. ⊥) es
-    → TouchesSpans far es
-claims_touch far loose es among t = touches_more (IsIn far.spans loose)
-    (IsIn far.spans (candidates far))
-    (λ p. ⊥) (LiesInOne (candidates far)) es
-    (λ h (f, c, named). (f, All-contains (Contains (candidates far)) loose f among c, named))
-    (λ p x. absurd x) t
-
 pub are_taken : (c : Config) (far : FarState) (loose frames : List ℕ) (formers : List Former)
     (runs : List Event → Type 0) (shows : Shown → Type 0) (k : ℕ)
     → ClaimsSpans runs shows far.spans loose k frames formers
@@ -402,20 +369,22 @@ pub claims_as : (runs : List Event → Type 0) (shows : Shown → Type 0)
 claims_as runs shows spans ys loose k frames formers e x =
     subst (λ (l : List (Option Contents)). ClaimsSpans runs shows l loose k frames formers) e x
 
+-- what was claimed are objects of candidates
+pub among_spans : (far : FarState) (loose : List ℕ) → All (Contains (candidates far)) loose → (h : ℕ)
+    → IsIn far.spans loose h → IsIn far.spans (candidates far) h
+among_spans far loose among h (f, c, named) =
+    (f, All-contains (Contains (candidates far)) loose f among c, named)
+
 -- what the claims tried
-pub claims_tried : (far : FarState) (loose frames : List ℕ) (formers : List Former) (k : ℕ)
-    (runs : List Event → Type 0) (shows : Shown → Type 0)
+pub claims_tried : (far : FarState) {loose frames : List ℕ} {formers : List Former} {k : ℕ}
+    {runs : List Event → Type 0} {shows : Shown → Type 0}
     → All (Contains (candidates far)) loose
     → (x : ClaimsSpans runs shows far.spans loose k frames formers)
     → Tries runs shows far (AreLooseStill far loose (frames ++ x.rest)) formers
-claims_tried far loose frames formers k runs shows among x = record {
-  events = x.events;
-  ran = x.ran;
-  first = x.first;
-  touches = claims_touch far loose x.events among x.touches;
-  found = λ before was. x.found before (candidates far) (candidates_apart far) was;
-  claims = x.claims far;
-}
+claims_tried far {loose = loose} among x =
+    part_more (IsIn far.spans (candidates far)) (LiesInOne (candidates far)) _ x.part
+    (among_spans far loose among) (λ p z. absurd z)
+    (λ before was. x.part.done.0 before (candidates far) (candidates_apart far) was, x.part.done.1)
 
 -- where fewer are claimed than wanted, none is left
 pub few_left : (loose frames : List ℕ) (formers : List Former) (k : ℕ) (far : FarState)
@@ -430,48 +399,49 @@ few_left loose frames formers k far runs shows x few =
     none (inr e) = e
 
 -- and they are given back
-pub back_tried : (far : FarState) (loose frames : List ℕ) (formers : List Former) (k : ℕ)
-    (runsA runsB runsC : List Event → Type 0) (showsA showsB : Shown → Type 0)
-    → All (Contains (candidates far)) loose
-    → (x : ClaimsSpans runsA showsA far.spans loose k frames formers)
-    → (y : GivesBack runsB showsB formers)
-    → ((es fs : List Event) → runsA es → runsB fs → runsC (es ++ fs))
-    → ((es : List Event) (s : Shown) → runsA es → showsA s → showsB (played es s))
+pub back_tried : (far : FarState) {loose frames : List ℕ} {formers : List Former} {k : ℕ}
+    {runsA runsB runsC : List Event → Type 0} {showsA showsB : Shown → Type 0}
+    → Joins runsA runsB runsC showsA showsB → All (Contains (candidates far)) loose
+    → ClaimsSpans runsA showsA far.spans loose k frames formers → GivesBack runsB showsB formers
     → length frames < k → Tries runsC showsA far (AreLooseStill far loose frames) []
-back_tried far loose frames formers k runsA runsB runsC showsA showsB among x y more shown few =
-    let es = x.events in let fs = y.events in
+back_tried far {loose = loose} {frames = frames} {formers = formers} {k = k} {runsA = runsA}
+    {runsB = runsB} {runsC = runsC} {showsA = showsA} {showsB = showsB} j among x y few =
+    let es = x.part.events in let fs = y.events in
     let g = gathers_back runsA runsB runsC showsA showsB (IsIn far.spans loose)
     (IsIn far.spans frames) es formers (record {
-      ran = x.ran;
-      touches = x.touches;
-      first = x.first;
+      ran = x.part.ran;
+      touches = x.part.touches;
+      first = x.part.first;
       of = x.of;
       within = λ h (f, c, named). (f, All-contains (Contains loose) frames f x.among c, named);
       each_once = x.each_once;
-      claims = x.claims;
-    }) y (more es fs) (λ s. shown es s) in record {
+      claims = x.part.done.1;
+    }) y j in record {
       events = es ++ fs;
       ran = g.ran;
+      touches = touches_more (IsIn far.spans loose) (IsIn far.spans (candidates far)) (λ p. ⊥)
+          (LiesInOne (candidates far)) (es ++ fs) (among_spans far loose among) (λ p z. absurd z) g.touches;
       first = g.first;
-      touches = claims_touch far loose (es ++ fs) among g.touches;
-      found = λ before was.
-          subst (λ (l : List ℕ). AreLooseNow far l (before ++ (es ++ fs)))
-          (few_left loose frames formers k far runsA showsA x few)
-          (subst (AreLooseNow far (frames ++ x.rest)) (append_assoc before es fs)
-          (all_quiet (before ++ es) fs far.spans (candidates far) (frames ++ x.rest)
-          (λ f c h named. y.quiet h)
-          (x.found before (candidates far) (candidates_apart far) was)));
-      claims = g.claims far;
+      done = (
+        λ before was.
+            subst (λ (l : List ℕ). AreLooseNow far l (before ++ (es ++ fs)))
+            (few_left loose frames formers k far runsA showsA x few)
+            (subst (AreLooseNow far (frames ++ x.rest)) (append_assoc before es fs)
+            (all_quiet (before ++ es) fs far.spans (candidates far) (frames ++ x.rest)
+            (λ f c h named. y.done.0 h)
+            (x.part.done.0 before (candidates far) (candidates_apart far) was))),
+        g.claims,
+      );
     }
 
 -- ---- the claims, and then an end
 -- after the claims all is ready
 pub tried_ready : (far : FarState) (formers : List Former) (finds : List Event → Type 0)
-    (runs : List Event → Type 0) (shows showsB : Shown → Type 0)
+    {runs : List Event → Type 0} {shows showsB : Shown → Type 0}
     → (x : Tries runs shows far finds formers) → (s : Shown) → showsB (played x.events s)
     → shows s → Sound s far → IsReady showsB far formers x.events s
-tried_ready far formers finds runs shows showsB x s shown knows sound =
-    let a = x.claims s knows sound.here in record {
+tried_ready far formers finds x s shown knows sound =
+    let a = x.done.1 far s knows sound.here in record {
       shown = shown;
       sound = sound;
       claimed = a.0;
@@ -480,89 +450,75 @@ tried_ready far formers finds runs shows showsB x s shown knows sound =
       touches = x.touches;
     }
 
-module _ (far new : FarState) (frames : List ℕ) (formers : List Former)
-    (finds ends : List Event → Type 0) (does : List Event → Shown → Shown → Type 0)
-    (runsA runsB runsC : List Event → Type 0) (showsA showsB : Shown → Type 0)
-    (x : Tries runsA showsA far finds formers)
-    (y : EndsClaimed runsB showsB far new frames formers ends does)
-    (more : (es fs : List Event) → runsA es → runsB fs → runsC (es ++ fs))
-    (shown : (es : List Event) (s : Shown) → runsA es → showsA s → showsB (played es s)) where
-  pub ready : (s : Shown) → showsA s → Sound s far → IsReady showsB far formers x.events s
-  ready s knows sound =
-      tried_ready far formers finds runsA showsA showsB x s (shown x.events s x.ran knows) knows
-      sound
+module _ {runsA runsB runsC : List Event → Type 0} {showsA showsB : Shown → Type 0}
+    {far new : FarState} {frames : List ℕ} {formers : List Former} {c : Config}
+    {ends : List Event → Type 0} {does : List Event → Shown → Shown → Type 0}
+    (j : Joins runsA runsB runsC showsA showsB)
+    (x : TakesEnough runsA showsA c far (AreLooseNow far) frames formers)
+    (y : EndsClaimed runsB showsB far new frames formers ends does) where
+  -- what is known of all events in the end
+  pub ended_from : (s : Shown) → showsA s → Sound s far
+      → IsEnded new x.tries.events y.events s ends does
+  ended_from s knows sound = y.done.1 x.tries.events s
+      (tried_ready far formers (AreLooseNow far x.loose) x.tries s (j.shown x.tries.events s x.tries.ran knows) knows sound)
+
+  -- both parts are one, by which the spans that were loose are so in the end
+  abbrev pub all_tried : CallPart runsC (IsIn far.spans (candidates far)) (LiesInOne (candidates far))
+      (AreLooseNow far x.loose)
+  all_tried = part_then (IsIn far.spans (candidates far)) (LiesInOne (candidates far))
+      (AreLooseNow far x.loose) j x.tries y (λ h z. z) (λ p z. z) (among_spans far frames x.taken.among)
+      (λ p (f, e, lies). (f, All-contains (Contains (candidates far)) frames f x.taken.among e, lies))
+      (inr (λ h z. y.done.0 h))
+      (all_quiet x.tries.events y.events far.spans (candidates far) x.loose
+      (λ f e h named. y.done.0 h) x.tries.done.0)
 
   pub tried_end : (rule : List Event → Type 0) (effect : List Event → Shown → Shown → Type 0)
-      → rule (x.events ++ y.events)
-      → ((s t : Shown) → does (x.events ++ y.events) s t → effect (x.events ++ y.events) s t)
+      → rule all_tried.events
+      → ((s t : Shown) → does all_tried.events s t → effect all_tried.events s t)
       → Performs runsC (λ s. showsA s × Sound s far) rule (λ t. Sound t new) effect
-  tried_end rule effect meets moves =
-      let es = x.events in let fs = y.events in record {
-        events = es ++ fs;
-        ran = more es fs x.ran y.ran;
-        looks_first = first_append (IsIn far.spans (candidates far)) (LiesInOne (candidates far)) es
-            fs x.touches x.first y.first (λ h t. y.quiet h);
-        rule = meets;
-        allowed = λ s k. allowed_append es fs s (x.claims s k.0 k.1.here).2.allowed
-            (y.allowed es s (ready s k.0 k.1));
-        sound_after = λ s k. y.sound es s (ready s k.0 k.1);
-        effect = λ s k. moves s (played (es ++ fs) s) (y.effect es s (ready s k.0 k.1));
-      }
-
-  -- the frames are candidates
-  pub all_touched : All (Contains (candidates far)) frames → TouchesSpans far (x.events ++ y.events)
-  all_touched among = spans_touched far frames x.events y.events among x.touches y.touches
-
-  -- the spans that were loose are so in the end
-  pub loose_still : (loose : List ℕ) → AreLooseNow far loose x.events
-      → AreLooseNow far loose (x.events ++ y.events)
-  loose_still loose found = all_quiet x.events y.events far.spans (candidates far) loose
-      (λ f c h named. y.quiet h) found
+  tried_end rule effect meets moves = record {
+    events = all_tried.events;
+    ran = all_tried.ran;
+    looks_first = all_tried.first;
+    rule = meets;
+    allowed = λ s k. allowed_append x.tries.events y.events s
+        (x.tries.done.1 far s k.0 k.1.here).2.allowed (ended_from s k.0 k.1).allowed;
+    sound_after = λ s k. (ended_from s k.0 k.1).sound;
+    effect = λ s k. moves s (played all_tried.events s) (ended_from s k.0 k.1).effect;
+  }
 
 -- k spans were claimed and are evicted
-pub takes_evict : (c : Config) (far new : FarState) (e : Eviction) (frames : List ℕ)
-    (formers : List Former) (runsA runsB runsC : List Event → Type 0)
-    (showsA showsB : Shown → Type 0)
-    → (x : TakesEnough runsA showsA c far (AreLooseNow far) frames formers)
-    → (y : EvictsClaimed runsB showsB c far new frames formers)
-    → ((es fs : List Event) → runsA es → runsB fs → runsC (es ++ fs))
-    → ((es : List Event) (s : Shown) → runsA es → showsA s → showsB (played es s))
+pub takes_evict : {runsA runsB runsC : List Event → Type 0} {showsA showsB : Shown → Type 0}
+    {c : Config} {far new : FarState} {frames : List ℕ} {formers : List Former} (e : Eviction)
+    → Joins runsA runsB runsC showsA showsB
+    → TakesEnough runsA showsA c far (AreLooseNow far) frames formers
+    → EvictsClaimed runsB showsB c far new frames formers
     → e ≡ eviction.Set (record { n = far.counts.sets }) → (s : Shown) × showsA s × Sound s far
     → Performs runsC (λ s. showsA s × Sound s far) (CountsRule c far new e) (λ t. Sound t new)
     (EvictEffect far new (reply_of e))
-takes_evict c far new e frames formers runsA runsB runsC showsA showsB x y more shown is
-    (s, knows, sound) =
-    let t = x.tries in let all = t.events ++ y.events in
-    let id : SetId = record { n = far.counts.sets } in
-    tried_end _ _ _ _ _ _ _ runsA runsB runsC showsA showsB t y more shown
-    (CountsRule c far new e) (EvictEffect far new (reply_of e))
-    (set_counted c far new id e all is (record {
+takes_evict {c = c} {far = far} {new = new} e j x y is (s, knows, sound) =
+    let all = all_tried j x y in let id : SetId = record { n = far.counts.sets } in
+    tried_end j x y (CountsRule c far new e) (EvictEffect far new (reply_of e))
+    (set_counted c far new id e all.events is (record {
       loose = x.loose;
-      found = loose_still _ _ _ _ _ _ _ runsA runsB runsC showsA showsB t y more shown x.loose
-          t.found;
+      found = all.done;
       answered = inr (inr (record {
         enough = x.enough;
         room = x.room;
         reply = ap reply_of is;
-        evicted = subst (λ (l : List ℕ). HasEvicted c far new l all) x.first
-            (y.rule t.events s
-            (ready _ _ _ _ _ _ _ runsA runsB runsC showsA showsB t y more shown s knows sound));
+        evicted = subst (λ (l : List ℕ). HasEvicted c far new l all.events) x.first
+            (ended_from j x y s knows sound).rule;
       }));
-      touches = all_touched _ _ _ _ _ _ _ runsA runsB runsC showsA showsB t y more shown
-          x.taken.among;
+      touches = all.touches;
     }))
-    (λ a b. set_effect far new id (reply_of e) all a b (ap reply_of is))
+    (λ a b. set_effect far new id (reply_of e) all.events a b (ap reply_of is))
 
 -- k spans were claimed and are given back for want of memory
-pub takes_fail : (c : Config) (far : FarState) (frames : List ℕ) (formers : List Former)
-    (runsA runsB runsC : List Event → Type 0) (showsA showsB : Shown → Type 0)
-    → (x : TakesEnough runsA showsA c far (AreLooseNow far) frames formers)
-    → (y : LeavesClaimed runsB showsB far frames formers)
-    → ((es fs : List Event) → runsA es → runsB fs → runsC (es ++ fs))
-    → ((es : List Event) (s : Shown) → runsA es → showsA s → showsB (played es s))
+pub takes_fail : {runsA runsB runsC : List Event → Type 0} {showsA showsB : Shown → Type 0}
+    {c : Config} {far : FarState} {frames : List ℕ} {formers : List Former}
+    → Joins runsA runsB runsC showsA showsB
+    → TakesEnough runsA showsA c far (AreLooseNow far) frames formers
+    → LeavesClaimed runsB showsB far frames formers
     → Performs runsC (λ s. showsA s × Sound s far) (TouchesSpans far) (λ t. Sound t far) IsStill
-takes_fail c far frames formers runsA runsB runsC showsA showsB x y more shown =
-    tried_end _ _ _ _ _ _ _ runsA runsB runsC showsA showsB x.tries y more shown (TouchesSpans far)
-    IsStill
-    (all_touched _ _ _ _ _ _ _ runsA runsB runsC showsA showsB x.tries y more shown x.taken.among)
-    (λ s t a. a)
+takes_fail {far = far} j x y =
+    tried_end j x y (TouchesSpans far) IsStill (all_tried j x y).touches (λ s t a. a)

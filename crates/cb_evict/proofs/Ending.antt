@@ -17,6 +17,7 @@ use Rattle.cb_world.specs.declared.event.Event.{Event}
 use Rattle.cb_world.specs.declared.homes.Home.{Home}
 use Rattle.cb_world.specs.declared.leaving.Former.{Former}
 use Rattle.cb_world.specs.declared.shown.Shown.{Shown}
+use Rattle.cb_world.specs.Allowed.{Allowed}
 use Rattle.cb_world.specs.Played.{played}
 use Rattle.cb_world.specs.Looks.{NoLook}
 use Rattle.cb_world.specs.Written.{Writes, written_by}
@@ -24,7 +25,7 @@ use Rattle.cb_world.specs.FarState.{FarState, handle_in}
 use Rattle.cb_world.specs.LocalSound.{LocalSound}
 use Rattle.cb_world.specs.RowWords.{row_of}
 use Rattle.cb_world.specs.Sound.{Sound}
-use Rattle.cb_world.proofs.Laws.{played_append, written_append, frame_owned}
+use Rattle.cb_world.proofs.Laws.{allowed_append, played_append, written_append, frame_owned}
 use Rattle.cb_evict.specs.Candidates.{candidates}
 use Rattle.cb_evict.specs.Beginning.{AreParities}
 use Rattle.cb_evict.specs.Claims.{AreClaimed}
@@ -155,6 +156,13 @@ end_touches q formers ls ss e = touches_append (IsOne formers) q ls ss
     (touches_more (IsOne formers) (IsOne formers) (λ p. ⊥) q ss (λ h x. x) (λ p x. absurd x)
     e.touches)
 
+-- they are allowed, where those that settle are so
+pub end_allowed : (q : ℕ → Type 0) (formers : List Former) (before ls ss : List Event) (s : Shown)
+    → IsEnd q formers ls ss → Allowed (played before s) ss → Allowed (played before s) (ls ++ ss)
+end_allowed q formers before ls ss s e may = allowed_append ls ss (played before s)
+    (e.reads.steady (played before s)).allowed
+    (subst (λ (v : Shown). Allowed v ss) (sym (e.reads.stays (played before s))) may)
+
 pub end_played : (q : ℕ → Type 0) (formers : List Former) (before ls ss : List Event) (s : Shown)
     → IsEnd q formers ls ss → played (before ++ (ls ++ ss)) s ≡ played ss (played before s)
 end_played q formers before ls ss s e = played_append before (ls ++ ss) s
@@ -222,15 +230,18 @@ homes_then far mid frames shards rows id homes a e x =
     (subst (λ (y : FarState). HaveHomes y.spans frames id y.homes homes) a x)
 
 -- the events touch objects and words of the frames alone
+pub one_in : (far : FarState) (frames : List ℕ) (formers : List Former)
+    → All (λ f. IsIn far.spans frames f.handle) formers → (h : ℕ) → IsOne formers h
+    → IsIn far.spans frames h
+one_in far frames formers only h (f, x, same) = subst (IsIn far.spans frames) same
+    (All-contains (λ g. IsIn far.spans frames g.handle) formers f only x)
+
 pub end_in : (far : FarState) (frames : List ℕ) (formers : List Former) (ls ss : List Event)
     → All (λ f. IsIn far.spans frames f.handle) formers → IsEnd (LiesInOne frames) formers ls ss
     → TouchesOnly (IsIn far.spans frames) (LiesInOne frames) (ls ++ ss)
 end_in far frames formers ls ss only e =
     touches_more (IsOne formers) (IsIn far.spans frames) (LiesInOne frames) (LiesInOne frames)
-    (ls ++ ss)
-    (λ h (f, x, same). subst (IsIn far.spans frames) same
-    (All-contains (λ g. IsIn far.spans frames g.handle) formers f only x))
-    (λ p x. x) (end_touches (LiesInOne frames) formers ls ss e)
+    (ls ++ ss) (one_in far frames formers only) (λ p x. x) (end_touches (LiesInOne frames) formers ls ss e)
 
 -- the frames are candidates
 pub spans_touched : (far : FarState) (frames : List ℕ) (before es : List Event)

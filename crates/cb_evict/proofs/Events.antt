@@ -1,6 +1,7 @@
 -- What lists of events tell, and what they leave, one after another.
 use Rattle.std.proofs.Common.{◌≡◌, ◌⊎◌, ℕ, Bool, List, [], ◌∷◌, ◌++◌, length, set, sym, refl, ap, ◌∙◌, subst, inl, inr, length-set}
 use Rattle.std.proofs.lemmas.Bool.{cases_eq}
+use Rattle.std.proofs.lemmas.List.{append-nil}
 use Rattle.cb_ptr.specs.Word.{hot_of, place_of}
 use Rattle.cb_world.specs.declared.entry.Entry.{Entry}
 use Rattle.cb_world.specs.declared.event.Event.{Event}
@@ -132,6 +133,9 @@ looks_before (Loaded p x ∷ es) fs a b = absurd a
 looks_before (Told h v ∷ es) fs a b = absurd a
 looks_before (Stored p x ∷ es) fs a b = absurd a
 looks_before (Stamped h v ∷ es) fs a b = absurd a
+
+pub looks_are_first : (es : List Event) → OnlyLooks es → LooksFirst es
+looks_are_first es looks = subst LooksFirst (append-nil es) (looks_before es [] looks tt)
 
 -- they change nothing, and tell of the hot bits alone
 pub looks_change : (es : List Event) (s : Shown) → OnlyLooks es → (hots : List Bool)

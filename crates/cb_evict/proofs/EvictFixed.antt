@@ -19,6 +19,7 @@ use Rattle.cb_evict.specs.Closing.{HaveHomes, with_homes}
 use Rattle.cb_evict.specs.EvictStep.{AreFrameRows, AreSentOff, IsEvictedTo, IsEvictStep, IsSetMade, loose_frames, few_spans, few_nodes, made}
 use Rattle.cb_evict.specs.Storing.{AreShards, with_set}
 use Rattle.cb_evict.proofs.AfterEvict.{in_or_not}
+use Rattle.cb_evict.proofs.ChangedWords.{changes_fixed}
 use Rattle.cb_evict.proofs.Ending.{code_range}
 
 -- ---- the shards of a set
@@ -72,18 +73,10 @@ homes_fixed far frames set a b x y =
 sent_fixed : (x y z : Words) (far : FarState) (frames : List ℕ) → AreSentOff x y far frames
     → AreSentOff x z far frames → y ≡ z
 sent_fixed x y z far frames a b =
-    let words : y.words ≡ z.words =
-    ext_get_or 0 y.words z.words (a.count ∙ sym b.count) (λ h within.
-    elim (in_or_not far.spans frames h) [
-      | inl in_span ↦ (a.sent h in_span).number ∙ sym (b.sent h in_span).number
-      | inr out ↦ a.others h out ∙ sym (b.others h out)
-    ]) in
-    λ i. record {
-      settings = (a.settings ∙ sym b.settings) i;
-      words = words i;
-      versions = (a.versions ∙ sym b.versions) i;
-      memory = (a.memory ∙ sym b.memory) i;
-    }
+    changes_fixed x y z _ _ _ a b (λ h. elim (in_or_not far.spans frames h) [
+      | inl i ↦ inr ((a.changed h i).number ∙ sym (b.changed h i).number)
+      | inr out ↦ inl out
+    ])
 
 -- ---- a set that was made
 module _ (x y z : Words) (far new other : FarState) (frames : List ℕ)

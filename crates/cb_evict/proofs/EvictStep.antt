@@ -1,8 +1,8 @@
 -- Over a still desk an eviction is a step: what its rule and its effect say is exact there.
 use Rattle.std.proofs.Common.{◌≡◌, ◌⊎◌, ℕ, true, ◌+◌, ◌*◌, ◌<◌, ◌≤◌, List, length, take, Option, Some, None, refl, sym, ap, ◌∙◌, subst, arith, inl, inr}
 use Rattle.std.specs.List.{Contains}
-use Rattle.std.proofs.lemmas.Bool.{cases_lt, false≢true}
-use Rattle.std.proofs.lemmas.List.{get_or_past, length-take-le}
+use Rattle.std.proofs.lemmas.Bool.{false≢true}
+use Rattle.std.proofs.lemmas.List.{length-take-le}
 use Rattle.std.proofs.lemmas.List.Elements.{All-contains, filter_passes}
 use Rattle.cb_class.specs.Class.{words_of}
 use Rattle.cb_gf256.specs.Rows.{row_at}
@@ -14,7 +14,7 @@ use Rattle.cb_world.specs.declared.object.Object.{Object}
 use Rattle.cb_world.specs.declared.object.Object.TheVariants as is
 use Rattle.cb_world.specs.declared.event.Event.{Event}
 use Rattle.cb_world.specs.declared.shown.Shown.{Shown}
-use Rattle.cb_world.specs.Shown.{Fits, hot_at, object_at}
+use Rattle.cb_world.specs.Shown.{Fits, hot_at}
 use Rattle.cb_world.specs.FarState.{FarState, span_in}
 use Rattle.cb_world.specs.Memory.{window, words_for}
 use Rattle.cb_world.specs.Now.{now}
@@ -22,9 +22,9 @@ use Rattle.cb_world.specs.Plain.{Words, Shows}
 use Rattle.cb_world.specs.Played.{played}
 use Rattle.cb_world.specs.RowWords.{words_in}
 use Rattle.cb_world.specs.Still.{IsStill}
-use Rattle.cb_world.specs.StillDesk.{plain_follows, plain_stays}
+use Rattle.cb_world.specs.StillDesk.{plain_follows}
 use Rattle.cb_world.specs.World.{word_at, IsKnown}
-use Rattle.cb_world.proofs.Laws.{IsStepKnown, found_exact, taken_exact, now_same, word_back, PerformsStill, RunsStill, runs_still, known_then, stays_still}
+use Rattle.cb_world.proofs.Laws.{IsStepKnown, found_exact, taken_exact, now_same, PerformsStill, RunsStill, runs_still, known_then, stays_still}
 use Rattle.cb_evict.specs.Closing.{all_closed}
 use Rattle.cb_evict.specs.Candidates.{candidates}
 use Rattle.cb_evict.specs.EvictEffect.{HasLeft, HaveFrameRows, IsEvicted, EvictEffect}
@@ -34,6 +34,7 @@ use Rattle.cb_evict.specs.Evicting.{TouchesSpans}
 use Rattle.cb_evict.specs.declared.eviction.Eviction.{Eviction}
 use Rattle.cb_evict.specs.Eviction.{CountsRule, TellsCounts, reply_of}
 use Rattle.cb_evict.specs.Looking.{IsIn}
+use Rattle.cb_evict.proofs.ChangedWords.{changes_words, same_count, shows_then}
 use Rattle.cb_evict.proofs.Composed.{few_spans as not_few_spans, few_nodes as not_few_nodes, rule_weaker}
 use Rattle.cb_evict.proofs.FrameRows.{rows_of_frames}
 use Rattle.cb_evict.proofs.Gone.{in_or_out, closed_in}
@@ -62,50 +63,36 @@ was_in far new frames h e (f, named, gone) = elim (in_or_out frames f) [
 ]
 
 -- ---- every word
--- the word of an object that stays, hot bit included, is as it was
-pub word_stays : (x y : Words) (far : FarState) (s : Shown) (es : List Event) (h : ℕ)
-    → RunsStill x y far s es → length y.words ≡ length x.words
-    → object_at (played es s) h ≡ object_at s h → hot_at (played es s) h ≡ hot_at s h
-    → word_at y h ≡ word_at x h
-word_stays x y far s es h r count object hot = elim (cases_lt h (length x.words)) [
-  | inl below ↦ word_back x y far s es h r.known r.ran r.allowed below
-      (omega (arith, below, count)) object hot
-  | inr past ↦ get_or_past y.words h 0 (omega (arith, past, count))
-      ∙ sym (get_or_past x.words h 0 past)
-]
-
 sent_off : (x y : Words) (far new : FarState) (s : Shown) (es : List Event) (frames : List ℕ)
     → RunsStill x y far s es → new.spans ≡ all_closed far.spans frames
     → IsEvicted far new es s (played es s) → AreSentOff x y far frames
-sent_off x y far new s es frames r closed z = record {
-  sent = λ h m.
-      let a = z.away h (has_left far new frames h closed m) in
-      let found : word_at x h ≡ a.word =
-      found_exact es x y h a.word r.ran r.looks_first a.found in
-      let below : h < length s.objects =
-      (are_unique far s (length s.objects) r.known.sound.here refl).below m.0 h m.2 in
-      let fit : Fits (is.Far (len_of a.word) a.version a.words) (word_at y h) =
-      subst (λ (o : Object). Fits o (word_at y h)) a.object
-      (shows.fit h (omega (arith, below, count, r.known.shows.objects))) in
-      far_word_is (len_of (word_at x h)) (word_at y h) (len_of-below (word_at x h))
-      (fit.0 ∙ ap (λ (n : ℕ). 1 + n * 8192) (fit.1 ∙ ap len_of (sym found)));
-  others = λ h out.
-      let stays : ¬ (HasLeft far new h) = λ left. out (was_in far new frames h closed left) in
-      word_stays x y far s es h r count (z.others h stays)
-      (z.hots h stays ∙ ap (λ (t : Shown). hot_at t h) r.told);
-  count = count;
-  settings = plain_stays x y es r.ran;
-  versions = sym shows.versions ∙ z.versions ∙ ap (λ (t : Shown). t.versions) r.told
-      ∙ r.known.shows.versions;
-  memory = sym shows.memory ∙ z.memory ∙ ap (λ (t : Shown). t.memory) r.told
-      ∙ r.known.shows.memory;
-}
+sent_off x y far new s es frames r closed z =
+    changes_words x y far s es r _ _ (record {
+      objects = z.objects;
+      others = λ h out. z.others h (stays h out);
+      hots = λ h out. z.hots h (stays h out) ∙ ap (λ (t : Shown). hot_at t h) r.told;
+      versions = z.versions ∙ ap (λ (t : Shown). t.versions) r.told;
+      memory = z.memory ∙ ap (λ (t : Shown). t.memory) r.told;
+    }) (λ h m.
+    let a = z.away h (has_left far new frames h closed m) in
+    let found : word_at x h ≡ a.word =
+    found_exact es x y h a.word r.ran r.looks_first a.found in
+    let below : h < length s.objects =
+    (are_unique far s (length s.objects) r.known.sound.here refl).below m.0 h m.2 in
+    let fit : Fits (is.Far (len_of a.word) a.version a.words) (word_at y h) =
+    subst (λ (o : Object). Fits o (word_at y h)) a.object
+    (shows.fit h (omega (arith, below, count, r.known.shows.objects))) in
+    far_word_is (len_of (word_at x h)) (word_at y h) (len_of-below (word_at x h))
+    (fit.0 ∙ ap (λ (n : ℕ). 1 + n * 8192) (fit.1 ∙ ap len_of (sym found))))
   where
     shows : Shows y (played es s)
-    shows = (plain_follows es x y s r.ran r.known.shows).1
+    shows = shows_then x y far s es r
 
     count : length y.words ≡ length x.words
-    count = sym shows.objects ∙ z.objects ∙ r.known.shows.objects
+    count = same_count x y far s es r z.objects
+
+    stays : (h : ℕ) → ¬ (IsIn far.spans frames h) → ¬ (HasLeft far new h)
+    stays h out left = out (was_in far new frames h closed left)
 
 -- the claims told the memory words as they stand
 have_contents : (x y : Words) (far : FarState) (s : Shown) (es : List Event) (frames : List ℕ)

@@ -194,7 +194,7 @@ module _ (c : Config) (far : FarState) (frames : List ℕ) (formers : List Forme
               put_away h
               g.noted;
           cold = ap (hot_at u) (sym g.noted.handle)
-              ∙ (All-contains (IsSent t u) formers g.noted.former d.sent.sent g.noted.noted).cold;
+              ∙ (All-contains (IsSent t u) formers g.noted.former d.sent.changed g.noted.noted).cold;
         };
     others = λ h not. let none = not_left h not in d.sent.others h none
         ∙ d.read.claimed.others h none;

@@ -7,13 +7,14 @@ use Rattle.cb_world.specs.declared.leaving.Former.{Former}
 use Rattle.cb_world.specs.declared.event.Event.{Event}
 use Rattle.cb_world.specs.declared.shown.Shown.{Shown}
 use Rattle.cb_world.specs.Played.{played}
-use Rattle.cb_world.specs.Looks.{LooksFirst}
+use Rattle.cb_world.specs.Looks.{LooksFirst, NoLook}
 use Rattle.cb_world.specs.FarState.{FarState}
 use Rattle.cb_world.specs.LocalSound.{LocalSound}
 use Rattle.cb_world.proofs.Laws.{played_append}
-use Rattle.cb_evict.specs.Events.{TouchesOnly}
+use Rattle.cb_evict.specs.Events.{IsSteady, TouchesOnly}
 use Rattle.cb_evict.specs.Claims.{AreClaimed, AreApart, IsNone}
 use Rattle.cb_evict.specs.Claiming.{IsOne, Claims, AreOf, GivesBack}
+use Rattle.cb_evict.proofs.CallParts.{Joins}
 use Rattle.cb_evict.proofs.Events.{touches_append, touches_more, touches_quiet, first_append, steady_append}
 use Rattle.cb_evict.proofs.Claims.{claims_append, claims_back}
 
@@ -79,25 +80,42 @@ of_append hasA hasB hasC xs ys a b left right split = record {
       (λ k d l. right (get_or ys k d).handle (b.only k d l));
 }
 
+-- claims and then more claims, of other objects, at which the first ones' objects are not looked at
+pub claims_then : {showsB : Shown → Type 0} (far : FarState) (es fs : List Event) (s : Shown)
+    (xs ys : List Former)
+    → AreClaimed es s (played es s) xs × LocalSound (played es s) far × IsSteady es s
+    → showsB (played es s) → ((at : FarState) → Claims showsB at fs ys)
+    → All (λ x. IsNone ys x.handle) xs → All (λ x. NoLook x.handle fs) xs
+    → All (λ y. IsNone xs y.handle) ys
+    → AreClaimed (es ++ fs) s (played (es ++ fs) s) (xs ++ ys)
+    × LocalSound (played (es ++ fs) s) far × IsSteady (es ++ fs) s
+claims_then far es fs s xs ys x shown claims none quiet other =
+    let y = claims far (played es s) shown x.1 in (
+      subst (λ (u : Shown). AreClaimed (es ++ fs) s u (xs ++ ys)) (sym (played_append es fs s))
+          (claims_append far es fs s (played es s) (played fs (played es s)) xs ys x.1 x.0 y.0 none
+          quiet other),
+      subst (λ (u : Shown). LocalSound u far) (sym (played_append es fs s)) y.1,
+      steady_append es fs s x.2 y.2,
+    )
+
 -- claims and then more claims, of other objects
 pub gathers_more : (runsA runsB runsC : List Event → Type 0) (showsA showsB : Shown → Type 0)
     (touchedA touchedB touchedC hasA hasB hasC : ℕ → Type 0) (es fs : List Event)
     (xs ys : List Former) → Gathers runsA showsA touchedA hasA es xs
     → Gathers runsB showsB touchedB hasB fs ys
-    → (runsA es → runsB fs → runsC (es ++ fs))
-    → ((s : Shown) → runsA es → showsA s → showsB (played es s))
+    → Joins runsA runsB runsC showsA showsB
     → ((h : ℕ) → touchedA h → touchedB h → ⊥)
     → ((h : ℕ) → touchedA h → touchedC h) → ((h : ℕ) → touchedB h → touchedC h)
     → ((h : ℕ) → hasA h → hasC h) → ((h : ℕ) → hasB h → hasC h)
     → ((h : ℕ) → hasC h → hasA h ⊎ hasB h)
     → Gathers runsC showsA touchedC hasC (es ++ fs) (xs ++ ys)
 gathers_more runsA runsB runsC showsA showsB touchedA touchedB touchedC hasA hasB hasC es fs xs ys
-    a b run shown apart tl tr left right split =
+    a b j apart tl tr left right split =
     let off : (h : ℕ) → hasA h → hasB h → ⊥ = λ h x y. apart h (a.within h x) (b.within h y) in
     let none = none_of hasA hasB xs ys a.of b.of off in
     let other = none_of hasB hasA ys xs b.of a.of (λ h x y. off h y x) in
     record {
-      ran = run a.ran b.ran;
+      ran = j.more es fs a.ran b.ran;
       touches = touches_append touchedC (λ p. ⊥) es fs
           (touches_more touchedA touchedC (λ p. ⊥) (λ p. ⊥) es tl (λ p x. x) a.touches)
           (touches_more touchedB touchedC (λ p. ⊥) (λ p. ⊥) fs tr (λ p x. x) b.touches);
@@ -111,36 +129,31 @@ gathers_more runsA runsB runsC showsA showsB touchedA touchedB touchedC hasA has
       each_once = apart_append xs ys a.each_once b.each_once none;
       claims = λ far s knows sound.
           let x = a.claims far s knows sound in
-          let y = b.claims far (played es s) (shown s a.ran knows) x.1 in (
-            subst (λ (u : Shown). AreClaimed (es ++ fs) s u (xs ++ ys)) (sym (played_append es fs s))
-                (claims_append far es fs s (played es s) (played fs (played es s)) xs ys x.1 x.0 y.0
-                none (λ k d l. touches_quiet touchedB (λ p. ⊥) (get_or xs k d).handle fs
-                (apart (get_or xs k d).handle (a.within (get_or xs k d).handle (a.of.only k d l))) b.touches) other),
-            subst (λ (u : Shown). LocalSound u far) (sym (played_append es fs s)) y.1,
-            steady_append es fs s x.2 y.2,
-          );
+          claims_then far es fs s xs ys x (j.shown es s a.ran knows) b.claims none
+          (λ k d l. touches_quiet touchedB (λ p. ⊥) (get_or xs k d).handle fs
+          (apart (get_or xs k d).handle (a.within (get_or xs k d).handle (a.of.only k d l)))
+          b.touches) other;
     }
 
 -- claims that are given back
 pub gathers_back : (runsA runsB runsC : List Event → Type 0) (showsA showsB : Shown → Type 0)
     (touched has : ℕ → Type 0) (es : List Event) (xs : List Former)
     → Gathers runsA showsA touched has es xs → (b : GivesBack runsB showsB xs)
-    → (runsA es → runsB b.events → runsC (es ++ b.events))
-    → ((s : Shown) → runsA es → showsA s → showsB (played es s))
+    → Joins runsA runsB runsC showsA showsB
     → Gathers runsC showsA touched (λ h. ⊥) (es ++ b.events) []
-gathers_back runsA runsB runsC showsA showsB touched has es xs a b run shown = record {
-  ran = run a.ran b.ran;
+gathers_back runsA runsB runsC showsA showsB touched has es xs a b j = record {
+  ran = j.more es b.events a.ran b.ran;
   touches = touches_append touched (λ p. ⊥) es b.events a.touches
       (touches_more (IsOne xs) touched (λ p. ⊥) (λ p. ⊥) b.events (λ h (f, c, e).
       subst touched e (a.within f.handle (All-contains (λ x. has x.handle) xs f a.of.only c)))
       (λ p x. x) b.touches);
-  first = first_append touched (λ p. ⊥) es b.events a.touches a.first b.first (λ h t. b.quiet h);
+  first = first_append touched (λ p. ⊥) es b.events a.touches a.first b.first (λ h t. b.done.0 h);
   of = record { all = λ h x. absurd x; only = All-nil (λ f. ⊥) };
   within = λ h x. absurd x;
   each_once = λ i j d less within. absurd (omega (arith, within));
   claims = λ far s knows sound.
       let x = a.claims far s knows sound in
-      let y = b.back (played es s) far (shown s a.ran knows) x.1 (λ k d l. (x.0.taken k d l).at) in (
+      let y = b.done.1 (played es s) far (j.shown es s a.ran knows) x.1 (λ k d l. (x.0.taken k d l).at) in (
         subst (λ (u : Shown). AreClaimed (es ++ b.events) s u []) (sym (played_append es b.events s))
             (claims_back es b.events s (played es s) (played b.events (played es s)) xs x.0 y.0),
         subst (λ (u : Shown). LocalSound u far) (sym (played_append es b.events s)) y.1,

@@ -1,4 +1,6 @@
 mod Options
+mod ChangedWords
+mod ChangedObjects
 mod Still
 mod Framing
 pub mod Putting
@@ -6,6 +8,7 @@ mod Filling
 mod Sharing
 pub mod Homing
 mod Events
+mod CallParts
 pub mod Claims
 mod Gathers
 mod Slots

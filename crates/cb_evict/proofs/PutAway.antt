@@ -104,7 +104,7 @@ module _ (t u : Shown) (far : FarState) (batch : LeavingState) (shards : List Sh
   pub is_sent : (h : ℕ) → (n : IsNoted t batch h)
       → object_at u h ≡ is.Far (len_of n.former.word) n.version n.words
   is_sent h n =
-      let b = All-contains (IsSent t u) batch.words n.former d.sent.sent n.noted in
+      let b = All-contains (IsSent t u) batch.words n.former d.sent.changed n.noted in
       let e : is.Claimed (len_of n.former.word) (place_of n.former.word) b.version b.words
       ≡ is.Claimed (len_of n.former.word) (place_of n.former.word) n.version n.words =
       sym b.before ∙ ap (object_at t) n.handle ∙ n.claimed in

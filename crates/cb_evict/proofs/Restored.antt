@@ -1,5 +1,5 @@
 -- What is left where all that was claimed was given back.
-use Rattle.std.proofs.Common.{◌≡◌, ◌≢◌, ℕ, List, [], ◌++◌, All, sym, refl, ap, ◌∙◌, subst, inl}
+use Rattle.std.proofs.Common.{◌≡◌, ◌≢◌, ℕ, List, [], ◌++◌, All, sym, refl, ap, ◌∙◌, subst, inl, inr}
 use Rattle.std.specs.List.{Contains}
 use Rattle.std.proofs.lemmas.List.{ext_get_or}
 use Rattle.std.proofs.lemmas.List.Elements.{All-nil}
@@ -8,22 +8,24 @@ use Rattle.cb_world.specs.declared.leaving.Former.{Former}
 use Rattle.cb_world.specs.declared.shown.Shown.{Shown}
 use Rattle.cb_world.specs.Shown.{IsHeld, object_at, never}
 use Rattle.cb_world.specs.Played.{played}
+use Rattle.cb_world.specs.Looks.{NoLook}
 use Rattle.cb_world.specs.FarState.{FarState}
 use Rattle.cb_world.specs.LocalSound.{LocalSound}
 use Rattle.cb_world.specs.Sound.{Sound}
-use Rattle.cb_world.specs.Allowed.{Allowed}
-use Rattle.cb_world.proofs.Laws.{allowed_append, keeps_all, sound_near}
+use Rattle.cb_world.proofs.Laws.{keeps_all, sound_near}
 use Rattle.cb_evict.specs.Candidates.{candidates}
 use Rattle.cb_evict.specs.Claims.{AreClaimed, AreBack}
-use Rattle.cb_evict.specs.Claiming.{GivesBack}
+use Rattle.cb_evict.specs.CallPart.{Settles}
+use Rattle.cb_evict.specs.Claiming.{GivesBack, IsOne}
 use Rattle.cb_evict.specs.Events.{TouchesOnly, OnlyLooks, IsSteady}
-use Rattle.cb_evict.specs.Evicting.{IsReady, LeavesClaimed}
+use Rattle.cb_evict.specs.Evicting.{EndsClaimed, IsEnded, IsReady, LeavesClaimed, ReadsFrames}
 use Rattle.cb_evict.specs.Loading.{LiesInOne}
 use Rattle.cb_evict.specs.Looking.{IsIn}
 use Rattle.cb_world.specs.Still.{IsStill}
 use Rattle.cb_evict.proofs.Claims.{claims_back, sound_hots}
-use Rattle.cb_evict.proofs.Ending.{IsEnd, end_in, end_played, end_quiet, spans_touched}
-use Rattle.cb_evict.proofs.Events.{AreReads, first_append, told_words, steady_append, looks_steady, looks_change}
+use Rattle.cb_evict.proofs.CallParts.{Joins, part_then, reads_part}
+use Rattle.cb_evict.proofs.Ending.{IsEnd, end_allowed, end_in, end_played, end_quiet, one_in, spans_touched}
+use Rattle.cb_evict.proofs.Events.{are_reads, told_words, steady_append, looks_steady, looks_change}
 use Rattle.cb_evict.proofs.Owned.{frame_stays}
 
 -- nothing changed
@@ -90,39 +92,44 @@ batch_back far formers q o p before ls bs s sound claimed steady e back here aft
     (subst (IsSteady bs) (sym (e.reads.stays t)) after)))
     touches
 
--- words are read, and then all is given back
-pub gives_back_ends : (far : FarState) (frames : List ℕ) (formers : List Former)
-    (runsA runsB runsC : List Event → Type 0) (showsA showsB : Shown → Type 0) (ls : List Event)
-    → All (Contains (candidates far)) frames → All (λ f. IsIn far.spans frames f.handle) formers
-    → AreReads (LiesInOne frames) ls → runsA ls → (y : GivesBack runsB showsB formers)
-    → ((es fs : List Event) → runsA es → runsB fs → runsC (es ++ fs))
-    → ((before : List Event) (s : Shown) → IsReady showsA far formers before s
-    → showsB (played before s))
-    → LeavesClaimed runsC showsA far frames formers
-gives_back_ends far frames formers runsA runsB runsC showsA showsB ls among only reads ran y more
-    shown =
-    let end : IsEnd (LiesInOne frames) formers ls y.events =
-    record { reads = reads; touches = y.touches; quiet = y.quiet } in
-    let touched = end_in far frames formers ls y.events only end in
-    let back = λ (before : List Event) (s : Shown) (r : IsReady showsA far formers before s).
-    y.back (played before s) far (shown before s r) r.here (λ k d l. (r.claimed.taken k d l).at) in
-    let all = λ (before : List Event) (s : Shown) (r : IsReady showsA far formers before s).
-    let b = back before s r in
-    batch_back far formers (LiesInOne frames) _ _ before ls y.events s r.sound r.claimed r.steady
-    end
-    b.0 b.1 b.2 (spans_touched far frames before (ls ++ y.events) among r.touches
-    touched) in record {
-      events = ls ++ y.events;
-      ran = more ls y.events ran y.ran;
-      touches = touched;
-      quiet = end_quiet (LiesInOne frames) formers ls y.events end;
-      first = first_append (λ h. ⊥) (LiesInOne frames) ls y.events reads.touches reads.first y.first
-          (λ h e. absurd e);
-      allowed = λ before s r. allowed_append ls y.events (played before s)
-          (reads.steady (played before s)).allowed
-          (subst (λ (v : Shown). Allowed v y.events) (sym (reads.stays (played before s)))
-          (back before s r).2.allowed);
-      rule = λ before s r. tt;
-      sound = λ before s r. (all before s r).1;
-      effect = λ before s r. (all before s r).0;
-    }
+-- words are read, and then claimed objects are settled
+pub settled_end : {runsA runsB runsC : List Event → Type 0} {showsA showsB : Shown → Type 0}
+    {so ends : List Event → Type 0} {does : List Event → Shown → Shown → Type 0} (far new : FarState)
+    (frames : List ℕ) (formers : List Former) → Joins runsA runsB runsC showsA showsB
+    → All (λ f. IsIn far.spans frames f.handle) formers → (x : ReadsFrames runsA frames)
+    → (y : Settles runsB (IsOne formers) (λ p. ⊥) so)
+    → (IsEnd (LiesInOne frames) formers x.0 y.events → (before : List Event) (s : Shown)
+    → IsReady showsA far formers before s → showsB (played before s)
+    → IsEnded new before (x.0 ++ y.events) s ends does)
+    → EndsClaimed runsC showsA far new frames formers ends does
+settled_end {showsA = showsA} {showsB = showsB} {ends = ends} {does = does} far new frames formers j only x y ended =
+    let reads = are_reads (LiesInOne frames) x.0 x.2 in
+    let end : IsEnd (LiesInOne frames) formers x.0 y.events =
+    record { reads = reads; touches = y.touches; quiet = y.done.0 } in
+    part_then (IsIn far.spans frames) (LiesInOne frames)
+    (λ es. ((k : ℕ) → NoLook k es) × ((before : List Event) (s : Shown)
+    → IsReady showsA far formers before s → IsEnded new before es s ends does)) j
+    (reads_part x.0 x.1 reads) y (λ h e. absurd e) (λ p l. l)
+    (one_in far frames formers only) (λ p e. absurd e) (inr (λ h e. absurd e)) (
+      end_quiet (LiesInOne frames) formers x.0 y.events end,
+      λ before s r. ended end before s r
+          (subst showsB (reads.stays (played before s)) (j.shown x.0 (played before s) x.1 r.shown)),
+    )
+
+-- so they are given back
+pub gives_back_ends : {runsA runsB runsC : List Event → Type 0} {showsA showsB : Shown → Type 0}
+    (far : FarState) (frames : List ℕ) (formers : List Former)
+    → Joins runsA runsB runsC showsA showsB → All (Contains (candidates far)) frames
+    → All (λ f. IsIn far.spans frames f.handle) formers → ReadsFrames runsA frames
+    → GivesBack runsB showsB formers → LeavesClaimed runsC showsA far frames formers
+gives_back_ends far frames formers j among only x y =
+    settled_end far far frames formers j only x y (λ end before s r shown.
+    let b = y.done.1 (played before s) far shown r.here (λ k d l. (r.claimed.taken k d l).at) in
+    let all = batch_back far formers (LiesInOne frames) _ _ before x.0 y.events s r.sound r.claimed
+    r.steady end b.0 b.1 b.2 (spans_touched far frames before (x.0 ++ y.events) among r.touches
+    (end_in far frames formers x.0 y.events only end)) in record {
+      allowed = end_allowed (LiesInOne frames) formers before x.0 y.events s end b.2.allowed;
+      rule = tt;
+      sound = all.1;
+      effect = all.0;
+    })

@@ -1,8 +1,7 @@
 -- Claimed objects are settled at the words that are noted, one after another.
 use Rattle.std.proofs.Common.{◌≡◌, ◌≢◌, ℕ, false, ◌+◌, ◌<◌, List, [], ◌∷◌, ◌++◌, length, take, get_or, set, All, sym, refl, ap, ◌∙◌, subst, arith, inl, inr, length-set, get_or-set_other, get_or-set_same}
 use Rattle.std.proofs.lemmas.Bool.{cases_eq}
-use Rattle.std.proofs.lemmas.List.{ext_get_or, take_more}
-use Rattle.std.proofs.lemmas.List.Elements.{All-nil, All-append, All-cons, All-head}
+use Rattle.std.proofs.lemmas.List.{ext_get_or}
 use Rattle.cb_ptr.specs.Word.{len_of, place_of, hot_of}
 use Rattle.cb_world.specs.declared.entry.Entry.{Entry}
 use Rattle.cb_world.specs.declared.leaving.Former.{Former}
@@ -24,21 +23,13 @@ use Rattle.cb_evict.specs.Claims.{AreApart, AreBack, IsHeldAt}
 use Rattle.cb_evict.specs.Claiming.{IsOne}
 use Rattle.cb_evict.specs.Events.{TouchesOnly, IsSteady}
 use Rattle.cb_evict.specs.Restoring.{IsClaimedFrom, IsHereAt, AreRestored, IsRestoring}
-use Rattle.cb_evict.proofs.Claims.{all_left, all_right, among, claimed_here, no_former, none_earlier, sound_lies}
+use Rattle.cb_evict.proofs.ChangedObjects.{changed_none, changed_more, settled_at}
+use Rattle.cb_evict.proofs.Claims.{among, claimed_here, no_former, none_earlier, sound_lies}
 use Rattle.cb_evict.proofs.Events.{quiet_told}
 
 pub restoring_none : (far : FarState) (s : Shown) → LocalSound s far → IsRestoring far [] s []
 restoring_none far s sound = record {
-  restored = record {
-    here = All-nil (IsHereAt s);
-    others = λ h none. refl;
-    hots = λ h none. refl;
-    objects = refl;
-    heat = refl;
-    versions = refl;
-    memory = refl;
-    first = refl;
-  };
+  restored = changed_none s (IsHereAt s);
   sound = sound;
   allowed = tt;
   nothing = λ old. refl;
@@ -71,37 +62,12 @@ restored_more s t fs i v d words a c warm apart within =
     let f = get_or fs i d in let h = f.handle in let w = f.word in
     let e = settled_here t h w c.free.0 in
     let o = is.Here (len_of w) (place_of w) in
-    let u : Shown = record t { objects = set t.objects h o; hots = set t.hots h (hot_of w) } in
-    let other : (k : ℕ) → k ≢ h → object_at u k ≡ object_at t k =
-    λ k off. get_or-set_other t.objects h k o never off in
-    let cool : (k : ℕ) → k ≢ h → hot_at u k ≡ hot_at t k =
-    λ k off. get_or-set_other t.hots h k (hot_of w) false off in
-    let first = none_earlier fs i d apart within in
-    let more = take_more fs i d within in
     subst (λ (q : Shown). AreRestored s q (take (i + 1) fs)) (sym e)
-    (subst (AreRestored s u) (sym more) (record {
-      here = All-append (IsHereAt u) (take i fs) (f ∷ [])
-          (λ k g l. let y = a.here k g l in record {
-            object = other (get_or (take i fs) k g).handle (first k g l) ∙ y.object;
-            hot = cool (get_or (take i fs) k g).handle (first k g l) ∙ y.hot;
-          })
-          (All-cons (IsHereAt u) f [] (record {
-            object = get_or-set_same t.objects h o never c.handle;
-            hot = get_or-set_same t.hots h (hot_of w) false warm;
-          }) (All-nil (IsHereAt u)));
-      others = λ k none.
-          other k (λ q. All-head (λ g. g.handle ≢ k) f []
-          (all_right (λ g. g.handle ≢ k) (take i fs) (f ∷ []) none) (sym q))
-          ∙ a.others k (all_left (λ g. g.handle ≢ k) (take i fs) (f ∷ []) none);
-      hots = λ k none.
-          cool k (λ q. All-head (λ g. g.handle ≢ k) f []
-          (all_right (λ g. g.handle ≢ k) (take i fs) (f ∷ []) none) (sym q))
-          ∙ a.hots k (all_left (λ g. g.handle ≢ k) (take i fs) (f ∷ []) none);
-      objects = length-set t.objects h o ∙ a.objects;
-      heat = length-set t.hots h (hot_of w) ∙ a.heat;
-      versions = a.versions;
-      memory = a.memory;
-      first = a.first;
+    (changed_more s t fs i d o (hot_of w) (IsHereAt t) (IsHereAt (settled_at t h o (hot_of w))) apart
+    within a (λ g object hot y. record { object = object ∙ y.object; hot = hot ∙ y.hot })
+    (record {
+      object = get_or-set_same t.objects h o never c.handle;
+      hot = get_or-set_same t.hots h (hot_of w) false warm;
     }))
 
 -- and the local part stays sound
@@ -180,7 +146,7 @@ back_from far es s fs held r touches quiet =
     let t = played es s in let a = r.restored in
     let hots : t.hots ≡ s.hots = ext_get_or false t.hots s.hots a.heat (λ h below. hot h) in (
       record {
-        back = λ i d within. (a.here i d within).object;
+        back = λ i d within. (a.changed i d within).object;
         others = a.others;
         objects = a.objects;
         hots = hots;
@@ -199,7 +165,7 @@ back_from far es s fs held r touches quiet =
     hot : (h : ℕ) → hot_at (played es s) h ≡ hot_at s h
     hot h = elim (among fs h) [
       | inl (i, l, e) ↦ ap (hot_at (played es s)) (sym (e no_former))
-          ∙ (r.restored.here i no_former l).hot ∙ sym (held i no_former l).hot
+          ∙ (r.restored.changed i no_former l).hot ∙ sym (held i no_former l).hot
           ∙ ap (hot_at s) (e no_former)
       | inr none ↦ r.restored.hots h none
     ]

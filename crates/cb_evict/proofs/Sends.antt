@@ -1,7 +1,5 @@
 -- Claimed objects are put away one after another.
-use Rattle.std.proofs.Common.{◌≡◌, ◌≢◌, ℕ, false, ◌+◌, ◌*◌, ◌<◌, List, [], ◌∷◌, ◌++◌, length, take, get_or, All, sym, refl, ap, ◌∙◌, subst, arith, length-set, get_or-set_other, get_or-set_same}
-use Rattle.std.proofs.lemmas.List.{take_more}
-use Rattle.std.proofs.lemmas.List.Elements.{All-nil, All-append, All-cons, All-head}
+use Rattle.std.proofs.Common.{◌≡◌, ℕ, false, ◌+◌, ◌*◌, ◌<◌, List, [], ◌∷◌, ◌++◌, length, take, get_or, All, sym, ap, ◌∙◌, subst, arith, get_or-set_same}
 use Rattle.cb_ptr.specs.declared.word.State.{State}
 use Rattle.cb_ptr.specs.declared.word.State.TheVariants as word
 use Rattle.cb_ptr.specs.Word.{state_of, hot_of, len_of}
@@ -10,13 +8,14 @@ use Rattle.cb_world.specs.declared.leaving.Former.{Former}
 use Rattle.cb_world.specs.declared.object.Object.TheVariants as is
 use Rattle.cb_world.specs.declared.event.Event.TheVariants.{Settled}
 use Rattle.cb_world.specs.declared.shown.Shown.{Shown}
-use Rattle.cb_world.specs.Shown.{object_at, version_at, hot_at, never}
+use Rattle.cb_world.specs.Shown.{object_at, version_at, never}
 use Rattle.cb_world.specs.Settling.{MaySettle, MaySettleAs, MayPutAway}
 use Rattle.cb_world.specs.Played.{after, settled_by}
 use Rattle.cb_world.specs.Written.{Writes, adds_as}
 use Rattle.cb_evict.specs.Claims.{AreApart}
 use Rattle.cb_evict.specs.Sending.{IsTold, IsSent, AreSent}
-use Rattle.cb_evict.proofs.Claims.{all_left, all_right, none_earlier}
+use Rattle.cb_evict.proofs.ChangedObjects.{changed_more, settled_at}
+use Rattle.cb_evict.proofs.Claims.{none_earlier}
 
 -- a claimed object may be settled as away
 pub may_send : (s : Shown) (f : Former) (n : ℕ) → IsTold s f → IsFarWord (len_of f.word) n
@@ -30,18 +29,6 @@ may_send s f n x far =
 pub sent_written : (s : Shown) (h n len : ℕ) → IsFarWord len n → Writes (Settled h n ∷ []) s []
 sent_written s h n len far old =
     ap (λ (q : State). adds_as q s h n (object_at s h) ++ old) far.state
-
-pub sent_none : (s : Shown) → AreSent s s []
-sent_none s = record {
-  sent = All-nil (IsSent s s);
-  others = λ h none. refl;
-  hots = λ h none. refl;
-  objects = refl;
-  heat = refl;
-  versions = refl;
-  memory = refl;
-  first = refl;
-}
 
 -- the next object is claimed still
 pub still_told : (s t : Shown) (fs : List Former) (i : ℕ) (d : Former) → AreApart fs
@@ -65,46 +52,25 @@ pub sent_more : (s t : Shown) (fs : List Former) (i n : ℕ) (d : Former) → Ar
 sent_more s t fs i n d apart within told a far =
     let f = get_or fs i d in let h = f.handle in
     let x = still_told s t fs i d apart within told a in
-    let first = none_earlier fs i d apart within in
-    let more = take_more fs i d within in
     let o = settled_by (state_of n) n (version_at t h) (object_at t h) in
     let is_o : o ≡ is.Far (len_of f.word) x.version x.words =
     ap (λ (q : State). settled_by q n (version_at t h) (object_at t h)) far.state
     ∙ ap (settled_by word.Far n (version_at t h)) x.object
     ∙ ap (λ (l : ℕ). is.Far l (version_at t h) x.words) far.len
     ∙ ap (λ (v : ℕ). is.Far (len_of f.word) v x.words) x.stamp in
-    let u = after (Settled h n) t in
-    let other : (k : ℕ) → k ≢ h → object_at u k ≡ object_at t k =
-    λ k off. get_or-set_other t.objects h k o never off in
-    let cool : (k : ℕ) → k ≢ h → hot_at u k ≡ hot_at t k =
-    λ k off. get_or-set_other t.hots h k (hot_of n) false off in
-    subst (AreSent s u) (sym more) (record {
-      sent = All-append (IsSent s u) (take i fs) (f ∷ [])
-          (λ k e l. let y = a.sent k e l in record {
-            version = y.version;
-            words = y.words;
-            before = y.before;
-            after = other (get_or (take i fs) k e).handle (first k e l) ∙ y.after;
-            cold = cool (get_or (take i fs) k e).handle (first k e l) ∙ y.cold;
-          })
-          (All-cons (IsSent s u) f [] (record {
-            version = x.version;
-            words = x.words;
-            before = sym (a.others h first) ∙ x.object;
-            after = get_or-set_same t.objects h o never x.handle ∙ is_o;
-            cold = get_or-set_same t.hots h (hot_of n) false x.warm ∙ far.hot;
-          }) (All-nil (IsSent s u)));
-      others = λ k none.
-          other k (λ q. All-head (λ g. g.handle ≢ k) f []
-          (all_right (λ g. g.handle ≢ k) (take i fs) (f ∷ []) none) (sym q))
-          ∙ a.others k (all_left (λ g. g.handle ≢ k) (take i fs) (f ∷ []) none);
-      hots = λ k none.
-          cool k (λ q. All-head (λ g. g.handle ≢ k) f []
-          (all_right (λ g. g.handle ≢ k) (take i fs) (f ∷ []) none) (sym q))
-          ∙ a.hots k (all_left (λ g. g.handle ≢ k) (take i fs) (f ∷ []) none);
-      objects = length-set t.objects h o ∙ a.objects;
-      heat = length-set t.hots h (hot_of n) ∙ a.heat;
-      versions = a.versions;
-      memory = a.memory;
-      first = a.first;
+    changed_more s t fs i d o (hot_of n) (IsSent s t)
+    (IsSent s (settled_at t h o (hot_of n))) apart within a
+    (λ g object hot y. record {
+      version = y.version;
+      words = y.words;
+      before = y.before;
+      after = object ∙ y.after;
+      cold = hot ∙ y.cold;
+    })
+    (record {
+      version = x.version;
+      words = x.words;
+      before = sym (a.others h (none_earlier fs i d apart within)) ∙ x.object;
+      after = get_or-set_same t.objects h o never x.handle ∙ is_o;
+      cold = get_or-set_same t.hots h (hot_of n) false x.warm ∙ far.hot;
     })

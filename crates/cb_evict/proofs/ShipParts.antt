@@ -117,11 +117,8 @@ puts_data runs showsA showsB far new batch p f shard row there at x back state =
 pub puts_nothing : (runs : List Event → Type 0) (shows : Shown → Type 0) (far : FarState)
     (batch : LeavingState) (p f : ℕ) (row : List ℕ) → far.leaving ≡ Some batch
     → slice_get batch.frames p ≡ Some f → LoadsFrame runs shows f row → PutsNothing runs far
-puts_nothing runs shows far batch p f row there at x = record {
-  events = x.events;
-  ran = x.ran;
-  reads = frame_reads far batch p f x.events there at x.loads;
-}
+puts_nothing runs shows far batch p f row there at x =
+    (x.events, x.ran, frame_reads far batch p f x.events there at x.loads)
 
 pub puts_parity : (runs : List Event → Type 0) (shows : Shown → Type 0) (far new : FarState)
     (batch : LeavingState) (p : ℕ) (shard : Shard) → length batch.frames ≤ p → runs []
@@ -155,15 +152,15 @@ pub reads_alone : (runs : List Event → Type 0) (knows : Shown → Type 0) (far
     → new ≡ far → PutsNothing runs far
     → Performs runs (λ s. knows s × Sound s far) (ReadsLeaving far) (λ t. Sound t new) IsStill
 reads_alone runs knows far new same q =
-    let x = are_reads (LiesInOne (leaving_frames far.leaving)) q.events q.reads in record {
-      events = q.events;
-      ran = q.ran;
+    let x = are_reads (LiesInOne (leaving_frames far.leaving)) q.0 q.2 in record {
+      events = q.0;
+      ran = q.1;
       looks_first = x.first;
-      rule = q.reads;
+      rule = q.2;
       allowed = λ s k. (x.steady s).allowed;
       sound_after = λ s k. subst (λ (t : Shown). Sound t new) (sym (x.stays s))
           (subst (Sound s) (sym same) k.1);
-      effect = λ s k. still far q.events s q.reads;
+      effect = λ s k. still far q.0 s q.2;
     }
 
 -- a refusal

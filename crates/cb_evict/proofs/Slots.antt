@@ -1,8 +1,8 @@
 -- The events of a look or a claim.
-use Rattle.std.proofs.Common.{◌≡◌, ◌⊎◌, ℕ, ◌+◌, ◌<◌, ◌≤◌, true, false, List, [], ◌∷◌, ◌++◌, length, get_or, take, All, Option, None, Some, refl, ap, sym, ◌∙◌, subst, arith, inl, inr, Bool, ◌&&◌}
+use Rattle.std.proofs.Common.{◌≡◌, ◌⊎◌, ℕ, ◌+◌, ◌<◌, ◌≤◌, true, false, List, [], ◌∷◌, ◌++◌, length, drop, get_or, take, All, Option, None, Some, refl, ap, sym, ◌∙◌, subst, arith, inl, inr, Bool, ◌&&◌}
 use Rattle.std.specs.Option.{IfSome}
 use Rattle.std.proofs.lemmas.Bool.{cases_eq}
-use Rattle.std.proofs.lemmas.List.{flat_map_more, map-append, take_more}
+use Rattle.std.proofs.lemmas.List.{append_assoc, drop_at, flat_map_more, map-append, take_at, take_more}
 use Rattle.std.proofs.lemmas.List.Elements.{All-nil, All-cons}
 use Rattle.cb_span.specs.Contents.{Contents, handle_at}
 use Rattle.cb_span.proofs.Laws.{slot_in_range}
@@ -22,7 +22,7 @@ use Rattle.cb_evict.specs.Looking.{Has}
 use Rattle.cb_evict.specs.Claiming.{AreOf, Claims, ClaimsSlot, SlotNotes}
 use Rattle.cb_evict.specs.Order.{noted_of, objects_in, one_of}
 use Rattle.cb_evict.proofs.Claims.{claim_of}
-use Rattle.cb_world.specs.Played.{played}
+use Rattle.cb_evict.proofs.CallParts.{Joins}
 use Rattle.cb_evict.proofs.Gathers.{Gathers, gathers_more}
 use Rattle.cb_evict.proofs.Options.{none_some, some_same}
 
@@ -115,31 +115,31 @@ noted_more slots i slot es xs more was now at within =
 
 pub slot_claimed : (runs : List Event → Type 0) (shows : Shown → Type 0) (slot : Option ℕ)
     (old new : List Former) → (c : ClaimsSlot runs shows slot true old new)
-    → Gathers runs shows (λ h. slot ≡ Some h) (λ h. slot ≡ Some h) c.events c.more
-slot_claimed runs shows slot old new c = let x = slot_of slot c.events c.more c.notes in record {
-  ran = c.ran;
-  touches = c.touches;
-  first = c.first;
+    → Gathers runs shows (λ h. slot ≡ Some h) (λ h. slot ≡ Some h) c.part.events c.more
+slot_claimed runs shows slot old new c = let x = slot_of slot c.part.events c.more c.part.done.0 in record {
+  ran = c.part.ran;
+  touches = c.part.touches;
+  first = c.part.first;
   of = x.0;
   within = λ h e. e;
   each_once = x.1;
-  claims = c.claims;
+  claims = c.part.done.1;
 }
 
 pub slot_left : (runs : List Event → Type 0) (shows : Shown → Type 0) (slot : Option ℕ)
     (old new : List Former) → (c : ClaimsSlot runs shows slot false old new)
-    → Gathers runs shows (λ h. slot ≡ Some h) (λ h. ⊥) c.events c.more
+    → Gathers runs shows (λ h. slot ≡ Some h) (λ h. ⊥) c.part.events c.more
 slot_left runs shows slot old new c = record {
-  ran = c.ran;
-  touches = c.touches;
-  first = c.first;
+  ran = c.part.ran;
+  touches = c.part.touches;
+  first = c.part.first;
   of = record {
     all = λ h x. absurd x;
-    only = subst (λ (l : List Former). All (λ f. ⊥) l) (sym c.notes.0) (All-nil (λ f. ⊥));
+    only = subst (λ (l : List Former). All (λ f. ⊥) l) (sym c.part.done.0.0) (All-nil (λ f. ⊥));
   };
   within = λ h x. absurd x;
-  each_once = subst AreApart (sym c.notes.0) (λ i j d less within. absurd (omega (arith, within)));
-  claims = c.claims;
+  each_once = subst AreApart (sym c.part.done.0.0) (λ i j d less within. absurd (omega (arith, within)));
+  claims = c.part.done.1;
 }
 
 -- the next slot's object is another than those before
@@ -199,14 +199,39 @@ pub slot_failed : (runsA runsB runsC : List Event → Type 0) (showsA showsB : S
     → Gathers runsA showsA (HasBelow span i) (HasBelow span i) es more
     → (x : ClaimsSlot runsB showsB slot false old new) → slot ≡ handle_at span i
     → ((i j h : ℕ) → handle_at span i ≡ Some h → handle_at span j ≡ Some h → i ≡ j)
-    → (runsA es → runsB x.events → runsC (es ++ x.events))
-    → ((s : Shown) → runsA es → showsA s → showsB (played es s))
-    → Gathers runsC showsA (HasBelow span (i + 1)) (HasBelow span i) (es ++ x.events) (more ++ x.more)
-slot_failed runsA runsB runsC showsA showsB span i slot old new es more a x e apart run shown =
+    → Joins runsA runsB runsC showsA showsB
+    → Gathers runsC showsA (HasBelow span (i + 1)) (HasBelow span i) (es ++ x.part.events) (more ++ x.more)
+slot_failed runsA runsB runsC showsA showsB span i slot old new es more a x e apart j =
     gathers_more runsA runsB runsC showsA showsB (HasBelow span i) (λ h. slot ≡ Some h)
-    (HasBelow span (i + 1)) (HasBelow span i) (λ h. ⊥) (HasBelow span i) es x.events more x.more a
-    (slot_left runsB showsB slot old new x) run shown (slot_apart span i slot e apart)
+    (HasBelow span (i + 1)) (HasBelow span i) (λ h. ⊥) (HasBelow span i) es x.part.events more x.more a
+    (slot_left runsB showsB slot old new x) j (slot_apart span i slot e apart)
     (below_more span i) (slot_more span i slot e) (λ h y. y) (λ h y. absurd y) (λ h y. inl y)
+
+-- so those that were noted from the start on are to be given back
+pub record ToUndo (runs : List Event → Type 0) (shows : Shown → Type 0) (span : Contents) (i : ℕ)
+    (old new : List Former) (start : ℕ) (es : List Event) (more : List Former) : Type 0 where
+  pub joint : Gathers runs shows (HasBelow span (i + 1)) (HasBelow span i) es more
+  pub whole : new ≡ old ++ more
+  pub rest : drop start new ≡ more
+  pub kept : take start new ≡ old
+
+pub to_undo : {runsA runsB runsC : List Event → Type 0} {showsA showsB : Shown → Type 0}
+    {span : Contents} {i : ℕ} {slot : Option ℕ} {old mid new : List Former} {start : ℕ}
+    {es : List Event} {more : List Former} → Joins runsA runsB runsC showsA showsB
+    → Gathers runsA showsA (HasBelow span i) (HasBelow span i) es more
+    → (x : ClaimsSlot runsB showsB slot false mid new) → slot ≡ handle_at span i
+    → ((i j h : ℕ) → handle_at span i ≡ Some h → handle_at span j ≡ Some h → i ≡ j)
+    → mid ≡ old ++ more → length old ≡ start
+    → ToUndo runsC showsA span i old new start (es ++ x.part.events) (more ++ x.more)
+to_undo {span = span} {i = i} {slot = slot} {old = old} {mid = mid} {new = new} {start = start}
+    {es = es} {more = more} j a x e apart noted is =
+    let whole = x.noted ∙ ap (λ (l : List Former). l ++ x.more) noted
+    ∙ append_assoc old more x.more in record {
+      joint = slot_failed _ _ _ _ _ span i slot mid new es more a x e apart j;
+      whole = whole;
+      rest = ap (λ (l : List Former). drop start l) whole ∙ drop_at old (more ++ x.more) start is;
+      kept = ap (λ (l : List Former). take start l) whole ∙ take_at old (more ++ x.more) start is;
+    }
 
 -- one slot more, whose object was claimed, if there is one
 pub slot_succeeded : (runsA runsB runsC : List Event → Type 0) (showsA showsB : Shown → Type 0)
@@ -215,14 +240,13 @@ pub slot_succeeded : (runsA runsB runsC : List Event → Type 0) (showsA showsB 
     → Gathers runsA showsA (HasBelow span i) (HasBelow span i) es more
     → (x : ClaimsSlot runsB showsB slot true old new) → slot ≡ handle_at span i
     → ((i j h : ℕ) → handle_at span i ≡ Some h → handle_at span j ≡ Some h → i ≡ j)
-    → (runsA es → runsB x.events → runsC (es ++ x.events))
-    → ((s : Shown) → runsA es → showsA s → showsB (played es s))
-    → Gathers runsC showsA (HasBelow span (i + 1)) (HasBelow span (i + 1)) (es ++ x.events) (more ++ x.more)
-slot_succeeded runsA runsB runsC showsA showsB span i slot old new es more a x e apart run shown =
+    → Joins runsA runsB runsC showsA showsB
+    → Gathers runsC showsA (HasBelow span (i + 1)) (HasBelow span (i + 1)) (es ++ x.part.events) (more ++ x.more)
+slot_succeeded runsA runsB runsC showsA showsB span i slot old new es more a x e apart j =
     gathers_more runsA runsB runsC showsA showsB (HasBelow span i) (λ h. slot ≡ Some h)
     (HasBelow span (i + 1)) (HasBelow span i) (λ h. slot ≡ Some h) (HasBelow span (i + 1))
-    es x.events more x.more a
-    (slot_claimed runsB showsB slot old new x) run shown (slot_apart span i slot e apart)
+    es x.part.events more x.more a
+    (slot_claimed runsB showsB slot old new x) j (slot_apart span i slot e apart)
     (below_more span i) (slot_more span i slot e) (below_more span i) (slot_more span i slot e)
     (below_split span i slot e)
 

@@ -8,7 +8,6 @@ use Rattle.cb_span.specs.Contents.{Contents}
 use Rattle.cb_world.specs.declared.leaving.Former.{Former}
 use Rattle.cb_world.specs.declared.event.Event.{Event}
 use Rattle.cb_world.specs.declared.shown.Shown.{Shown}
-use Rattle.cb_world.specs.Played.{played}
 use Rattle.cb_world.specs.FarState.{FarState, span_in}
 use Rattle.cb_world.specs.Reserved.{table_of}
 use Rattle.cb_evict.specs.Candidates.{Names, AreLoose, AreUnique, IsLoose, IsBarred}
@@ -16,6 +15,7 @@ use Rattle.cb_evict.specs.Looking.{IsIn}
 use Rattle.cb_evict.specs.Claiming.{AreOf, Claims, ClaimsFrame, ClaimsSpans}
 use Rattle.cb_evict.specs.Order.{noted_of, objects_in, objects_of}
 use Rattle.cb_evict.proofs.Events.{touches_more}
+use Rattle.cb_evict.proofs.CallParts.{Joins}
 use Rattle.cb_evict.proofs.Gathers.{Gathers, gathers_more}
 use Rattle.cb_evict.proofs.Loose.{loose_kept, loose_lost, loose_after, barred_after, in_more, in_last, not_before, middle}
 
@@ -56,32 +56,32 @@ tried_none runs shows spans loose ran claims = record {
 frame_claimed : (runs : List Event → Type 0) (shows : Shown → Type 0)
     (spans : List (Option Contents)) (f : ℕ) (old new : List ℕ) (before after : List Former)
     → (x : ClaimsFrame runs shows spans f old new before after) → AreOf (Names spans f) x.more
-    → Gathers runs shows (Names spans f) (Names spans f) x.events x.more
+    → Gathers runs shows (Names spans f) (Names spans f) x.part.events x.more
 frame_claimed runs shows spans f old new before after x of = record {
-  ran = x.ran;
-  touches = x.touches;
-  first = x.first;
+  ran = x.part.ran;
+  touches = x.part.touches;
+  first = x.part.first;
   of = of;
   within = λ h y. y;
   each_once = x.each_once;
-  claims = x.claims;
+  claims = x.part.done.1;
 }
 
 frame_left : (runs : List Event → Type 0) (shows : Shown → Type 0)
     (spans : List (Option Contents)) (f : ℕ) (old new : List ℕ) (before after : List Former)
     → (x : ClaimsFrame runs shows spans f old new before after) → x.more ≡ []
-    → Gathers runs shows (Names spans f) (λ h. ⊥) x.events x.more
+    → Gathers runs shows (Names spans f) (λ h. ⊥) x.part.events x.more
 frame_left runs shows spans f old new before after x none = record {
-  ran = x.ran;
-  touches = x.touches;
-  first = x.first;
+  ran = x.part.ran;
+  touches = x.part.touches;
+  first = x.part.first;
   of = record {
     all = λ h y. absurd y;
     only = subst (λ (l : List Former). All (λ g. ⊥) l) (sym none) (All-nil (λ g. ⊥));
   };
   within = λ h y. absurd y;
   each_once = x.each_once;
-  claims = x.claims;
+  claims = x.part.done.1;
 }
 
 in_split : (spans : List (Option Contents)) (frames : List ℕ) (f h : ℕ)
@@ -109,36 +109,35 @@ tried_claimed : (runsA runsB runsC : List Event → Type 0) (showsA showsB : Sho
     (frames new : List ℕ) (formers after : List Former)
     → Tried runsA showsA spans loose i es frames formers
     → (x : ClaimsFrame runsB showsB spans (get_or loose i 0) frames new formers after)
-    → AreOf (Names spans (get_or loose i 0)) x.more → IsLoose x.events spans (get_or loose i 0)
+    → AreOf (Names spans (get_or loose i 0)) x.more → IsLoose x.part.events spans (get_or loose i 0)
     → noted_of x.more ≡ objects_in (table_of (span_in spans (get_or loose i 0)))
     → AreUnique spans n → AllPairs (λ f g. f ≢ g) loose → i < length loose
-    → (runsA es → runsB x.events → runsC (es ++ x.events))
-    → ((s : Shown) → runsA es → showsA s → showsB (played es s))
-    → Tried runsC showsA spans loose (i + 1) (es ++ x.events) (frames ++ get_or loose i 0 ∷ [])
+    → Joins runsA runsB runsC showsA showsB
+    → Tried runsC showsA spans loose (i + 1) (es ++ x.part.events) (frames ++ get_or loose i 0 ∷ [])
     (formers ++ x.more)
 tried_claimed runsA runsB runsC showsA showsB spans n loose i es frames new formers after a x of now
-    order unique apart within run shown =
+    order unique apart within j =
     let f = get_or loose i 0 in
     let more = take_more loose i 0 within in
     let rest = drop_more loose i 0 within in record {
       gathers = subst (λ (l : List ℕ). Gathers runsC showsA (IsIn spans l) (IsIn spans (frames ++ f ∷ []))
-          (es ++ x.events) (formers ++ x.more)) (sym more)
+          (es ++ x.part.events) (formers ++ x.more)) (sym more)
           (gathers_more runsA runsB runsC showsA showsB (IsIn spans (take i loose)) (Names spans f)
           (IsIn spans (take i loose ++ f ∷ [])) (IsIn spans frames) (Names spans f)
-          (IsIn spans (frames ++ f ∷ [])) es x.events formers x.more a.gathers
-          (frame_claimed runsB showsB spans f frames new formers after x of) run shown
+          (IsIn spans (frames ++ f ∷ [])) es x.part.events formers x.more a.gathers
+          (frame_claimed runsB showsB spans f frames new formers after x of) j
           (λ h. in_apart spans n loose i h unique apart within)
           (in_more spans (take i loose) f) (in_last spans (take i loose) f)
           (in_more spans frames f) (in_last spans frames f) (in_split spans frames f));
       found = λ before all apart_all was.
           let b = a.found before all apart_all was in
           let c = subst (λ (l : List ℕ). AreLoose (before ++ es) spans all (frames ++ l)) rest b in
-          let k = loose_kept (before ++ es) x.events spans n f all (frames ++ f ∷ drop (i + 1) loose)
-          unique x.touches apart_all (loose_after spans f (before ++ es) x.events now)
+          let k = loose_kept (before ++ es) x.part.events spans n f all (frames ++ f ∷ drop (i + 1) loose)
+          unique x.part.touches apart_all (loose_after spans f (before ++ es) x.part.events now)
           (middle frames f (drop (i + 1) loose)) c in
           subst (λ (l : List Event). AreLoose l spans all ((frames ++ f ∷ []) ++ drop (i + 1) loose))
-          (append_assoc before es x.events)
-          (subst (λ (l : List ℕ). AreLoose ((before ++ es) ++ x.events) spans all l)
+          (append_assoc before es x.part.events)
+          (subst (λ (l : List ℕ). AreLoose ((before ++ es) ++ x.part.events) spans all l)
           (sym (append_assoc frames (f ∷ []) (drop (i + 1) loose))) k);
       among = subst (λ (l : List ℕ). All (Contains l) (frames ++ f ∷ [])) (sym more)
           (All-append (Contains (take i loose ++ f ∷ [])) frames (f ∷ [])
@@ -159,22 +158,21 @@ tried_left : (runsA runsB runsC : List Event → Type 0) (showsA showsB : Shown 
     (frames new : List ℕ) (formers after : List Former)
     → Tried runsA showsA spans loose i es frames formers
     → (x : ClaimsFrame runsB showsB spans (get_or loose i 0) frames new formers after)
-    → x.more ≡ [] → IsBarred x.events spans (get_or loose i 0)
+    → x.more ≡ [] → IsBarred x.part.events spans (get_or loose i 0)
     → AreUnique spans n → AllPairs (λ f g. f ≢ g) loose → i < length loose
-    → (runsA es → runsB x.events → runsC (es ++ x.events))
-    → ((s : Shown) → runsA es → showsA s → showsB (played es s))
-    → Tried runsC showsA spans loose (i + 1) (es ++ x.events) frames (formers ++ x.more)
+    → Joins runsA runsB runsC showsA showsB
+    → Tried runsC showsA spans loose (i + 1) (es ++ x.part.events) frames (formers ++ x.more)
 tried_left runsA runsB runsC showsA showsB spans n loose i es frames new formers after a x none now
-    unique apart within run shown =
+    unique apart within j =
     let f = get_or loose i 0 in
     let more = take_more loose i 0 within in
     let rest = drop_more loose i 0 within in record {
       gathers = subst (λ (l : List ℕ). Gathers runsC showsA (IsIn spans l) (IsIn spans frames)
-          (es ++ x.events) (formers ++ x.more)) (sym more)
+          (es ++ x.part.events) (formers ++ x.more)) (sym more)
           (gathers_more runsA runsB runsC showsA showsB (IsIn spans (take i loose)) (Names spans f)
           (IsIn spans (take i loose ++ f ∷ [])) (IsIn spans frames) (λ h. ⊥)
-          (IsIn spans frames) es x.events formers x.more a.gathers
-          (frame_left runsB showsB spans f frames new formers after x none) run shown
+          (IsIn spans frames) es x.part.events formers x.more a.gathers
+          (frame_left runsB showsB spans f frames new formers after x none) j
           (λ h. in_apart spans n loose i h unique apart within)
           (in_more spans (take i loose) f) (in_last spans (take i loose) f)
           (λ h y. y) (λ h y. absurd y) (λ h y. inl y));
@@ -182,9 +180,9 @@ tried_left runsA runsB runsC showsA showsB spans n loose i es frames new formers
           let b = a.found before all apart_all was in
           let c = subst (λ (l : List ℕ). AreLoose (before ++ es) spans all (frames ++ l)) rest b in
           subst (λ (l : List Event). AreLoose l spans all (frames ++ drop (i + 1) loose))
-          (append_assoc before es x.events)
-          (loose_lost (before ++ es) x.events spans n f all frames (drop (i + 1) loose)
-          unique x.touches apart_all (barred_after spans f (before ++ es) x.events now) c);
+          (append_assoc before es x.part.events)
+          (loose_lost (before ++ es) x.part.events spans n f all frames (drop (i + 1) loose)
+          unique x.part.touches apart_all (barred_after spans f (before ++ es) x.part.events now) c);
       among = subst (λ (l : List ℕ). All (Contains l) frames) (sym more)
           (λ k d l. Contains-append_left (take i loose) (f ∷ []) (get_or frames k d) (a.among k d l));
       apart = a.apart;
@@ -199,21 +197,20 @@ pub tried_more : (runsA runsB runsC : List Event → Type 0) (showsA showsB : Sh
     → Tried runsA showsA spans loose i es frames formers
     → (x : ClaimsFrame runsB showsB spans (get_or loose i 0) frames new formers after)
     → AreUnique spans n → AllPairs (λ f g. f ≢ g) loose → i < length loose
-    → (runsA es → runsB x.events → runsC (es ++ x.events))
-    → ((s : Shown) → runsA es → showsA s → showsB (played es s))
-    → Tried runsC showsA spans loose (i + 1) (es ++ x.events) new after
+    → Joins runsA runsB runsC showsA showsB
+    → Tried runsC showsA spans loose (i + 1) (es ++ x.part.events) new after
 tried_more runsA runsB runsC showsA showsB spans n loose i es frames new formers after a x
-    unique apart within run shown =
-    subst (λ (l : List Former). Tried runsC showsA spans loose (i + 1) (es ++ x.events) new l)
-    (sym x.noted) (elim x.notes [
+    unique apart within j =
+    subst (λ (l : List Former). Tried runsC showsA spans loose (i + 1) (es ++ x.part.events) new l)
+    (sym x.noted) (elim x.part.done.0 [
       | inl (of, is, now, order) ↦
-          subst (λ (l : List ℕ). Tried runsC showsA spans loose (i + 1) (es ++ x.events) l (formers ++ x.more))
+          subst (λ (l : List ℕ). Tried runsC showsA spans loose (i + 1) (es ++ x.part.events) l (formers ++ x.more))
           (sym is) (tried_claimed runsA runsB runsC showsA showsB spans n loose i es frames new formers
-          after a x of now order unique apart within run shown)
+          after a x of now order unique apart within j)
       | inr (none, is, now) ↦
-          subst (λ (l : List ℕ). Tried runsC showsA spans loose (i + 1) (es ++ x.events) l (formers ++ x.more))
+          subst (λ (l : List ℕ). Tried runsC showsA spans loose (i + 1) (es ++ x.part.events) l (formers ++ x.more))
           (sym is) (tried_left runsA runsB runsC showsA showsB spans n loose i es frames new formers
-          after a x none now unique apart within run shown)
+          after a x none now unique apart within j)
     ])
 
 pub taken_of : (xs : List ℕ) (i x : ℕ) → Contains (take i xs) x → Contains xs x
@@ -232,19 +229,20 @@ pub all_tried : (runs : List Event → Type 0) (shows : Shown → Type 0)
     → length frames ≤ k → (length frames ≡ k) ⊎ (drop i loose ≡ [])
     → ClaimsSpans runs shows spans loose k frames formers
 all_tried runs shows spans loose k i es frames formers a few stops = record {
-  events = es;
-  ran = a.gathers.ran;
-  touches = touches_more (IsIn spans (take i loose)) (IsIn spans loose) (λ p. ⊥) (λ p. ⊥) es
-      (λ h (f, c, named). (f, taken_of loose i f c, named)) (λ p y. y) a.gathers.touches;
-  first = a.gathers.first;
   rest = drop i loose;
   few = few;
   stops = stops;
-  found = a.found;
   among = λ n d l. taken_of loose i (get_or frames n d) (a.among n d l);
   apart = a.apart;
   of = a.gathers.of;
   order = a.order;
   each_once = a.gathers.each_once;
-  claims = a.gathers.claims;
+  part = record {
+    events = es;
+    ran = a.gathers.ran;
+    touches = touches_more (IsIn spans (take i loose)) (IsIn spans loose) (λ p. ⊥) (λ p. ⊥) es
+        (λ h (f, c, named). (f, taken_of loose i f c, named)) (λ p y. y) a.gathers.touches;
+    first = a.gathers.first;
+    done = (a.found, a.gathers.claims);
+  };
 }

@@ -1,6 +1,6 @@
 -- Worked examples of a begin: the loose one of two spans is leaving from here; and for each part of
 -- what is said of it a value that breaks that part alone.
-use Rattle.std.proofs.Common.{◌≡◌, ◌⊎◌, ℕ, zero, suc, ◌+◌, ◌≤◌, Bool, true, false, List, [], ◌∷◌, ◌++◌, length, All, get_or, Option, None, Some, refl, sym, ap, ◌∙◌, subst, lit<, lit≤, arith, inl, inr}
+use Rattle.std.proofs.Common.{◌≡◌, ℕ, zero, suc, ◌+◌, ◌≤◌, Bool, true, false, List, [], ◌∷◌, ◌++◌, length, All, get_or, Option, None, Some, refl, sym, ap, ◌∙◌, subst, lit<, lit≤, arith, inl, inr}
 use Rattle.std.specs.FinMap as map
 use Rattle.std.proofs.lemmas.Bool.{false≢true}
 use Rattle.std.proofs.lemmas.List.Elements.{All-nil, All-cons}
@@ -21,7 +21,7 @@ use Rattle.cb_span.specs.declared.temp.Temp.TheVariants.{Cold, Hot}
 use Rattle.cb_world.specs.declared.object.Object.{Object}
 use Rattle.cb_world.specs.declared.object.Object.TheVariants as is
 use Rattle.cb_world.specs.declared.shown.Shown.{Shown}
-use Rattle.cb_world.specs.FarState.{FarState, span_in, handle_in}
+use Rattle.cb_world.specs.FarState.{FarState, span_in}
 use Rattle.cb_world.specs.Now.{broken_set, now, now_as}
 use Rattle.cb_world.specs.Now.Now.{held as has, gone as is_lost}
 use Rattle.cb_world.specs.Reserved.{set_from}
@@ -59,7 +59,7 @@ claimed = record start { words = moving ∷ pinned ∷ [] }
 
 held : AreHeld start claimed pair (0 ∷ [])
 held = record {
-  claimed = λ h i. subst (λ (k : ℕ). Claims (word_at start k) (word_at claimed k))
+  changed = λ h i. subst (λ (k : ℕ). Claims (word_at start k) (word_at claimed k))
       (only_object h i) (claims calm refl refl);
   others = λ h out. other h out;
   count = refl;
@@ -74,7 +74,7 @@ held = record {
 
 -- the object's word is Moving
 not_here : AreHeld start start pair (0 ∷ []) → ⊥
-not_here a = let e : calm ≡ calm + 1 = (a.claimed 0 first_object).number in absurd (omega (arith, e))
+not_here a = let e : calm ≡ calm + 1 = (a.changed 0 first_object).number in absurd (omega (arith, e))
 
 -- another object's word stays
 not_unpinned : AreHeld start (record start { words = moving ∷ calm ∷ [] }) pair (0 ∷ []) → ⊥

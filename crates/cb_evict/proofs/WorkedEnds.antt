@@ -15,7 +15,7 @@ use Rattle.cb_world.specs.declared.leaving.Former.{Former}
 use Rattle.cb_world.specs.declared.object.Object.{Object}
 use Rattle.cb_world.specs.declared.object.Object.TheVariants as is
 use Rattle.cb_world.specs.declared.shown.Shown.{Shown}
-use Rattle.cb_world.specs.Shown.{object_at, hot_at}
+use Rattle.cb_world.specs.Shown.{object_at, hot_at, never}
 use Rattle.cb_world.specs.FarState.{FarState}
 use Rattle.cb_world.specs.Leaving.{LeavingState}
 use Rattle.cb_world.specs.Memory.{window}
@@ -60,7 +60,7 @@ second = All-cons (λ (f : Former). f.handle ≡ 1 → ⊥) (record { handle = 0
 
 are_put_back : ArePutBack before back noted
 are_put_back = record {
-  back = All-cons (λ (f : Former). word_at back f.handle ≡ f.word) (record { handle = 0; word = calm })
+  changed = All-cons (λ (f : Former). word_at back f.handle ≡ f.word) (record { handle = 0; word = calm })
       [] refl (All-nil (λ (f : Former). word_at back f.handle ≡ f.word));
   others = no_other (λ h. word_at back h ≡ word_at before h) refl (λ h. refl);
   count = refl;
@@ -70,7 +70,7 @@ are_put_back = record {
 }
 
 first : (y : Words) → ArePutBack before y noted → word_at y 0 ≡ calm
-first y a = a.back 0 (record { handle = 0; word = calm }) (lit< tt)
+first y a = a.changed 0 (record { handle = 0; word = calm }) (lit< tt)
 
 moves_still : ¬ (ArePutBack before before noted)
 moves_still a = absurd (let e : moving ≡ calm = first before a in omega (arith, e))
@@ -95,7 +95,7 @@ back_stored a = absurd (let e : 0 ≡ 2 = ap (λ (l : List ℕ). length l) a.mem
 
 are_put_away : ArePutAway before gone noted
 are_put_away = record {
-  away = All-cons (λ (f : Former). IsFarWord (len_of f.word) (word_at gone f.handle))
+  changed = All-cons (λ (f : Former). IsFarWord (len_of f.word) (word_at gone f.handle))
       (record { handle = 0; word = calm }) [] (far_word_is 8 away (lit< tt) refl)
       (All-nil (λ (f : Former). IsFarWord (len_of f.word) (word_at gone f.handle)));
   others = no_other (λ h. word_at gone h ≡ word_at before h) refl (λ h. refl);
@@ -106,7 +106,7 @@ are_put_away = record {
 }
 
 far_number : (y : Words) → ArePutAway before y noted → word_at y 0 ≡ 1 + 8 * 8192
-far_number y a = (a.away 0 (record { handle = 0; word = calm }) (lit< tt)).number
+far_number y a = (a.changed 0 (record { handle = 0; word = calm }) (lit< tt)).number
 
 not_away : ¬ (ArePutAway before before noted)
 not_away a = absurd (let e : moving ≡ 1 + 8 * 8192 = far_number before a in omega (arith, e))
@@ -197,7 +197,7 @@ the_second = All-cons (λ (f : Former). f.handle ≡ 1 → ⊥) hot [] (λ e. om
 
 pub are_restored : AreRestored claimed restored (hot ∷ [])
 are_restored = record {
-  here = All-cons (IsHereAt restored) hot [] (record { object = refl; hot = refl })
+  changed = All-cons (IsHereAt restored) hot [] (record { object = refl; hot = refl })
       (All-nil (IsHereAt restored));
   others = none_of_one (λ h. object_at restored h ≡ object_at claimed h) (λ h. refl);
   hots = none_of_one (λ h. hot_at restored h ≡ hot_at claimed h) (λ h. refl);
@@ -209,10 +209,10 @@ are_restored = record {
 }
 
 cooled : ¬ (AreRestored claimed (record restored { hots = false ∷ true ∷ [] }) (hot ∷ []))
-cooled x = absurd (let e : false ≡ true = (x.here 0 hot (lit< tt)).hot in cc)
+cooled x = absurd (let e : false ≡ true = (x.changed 0 hot (lit< tt)).hot in cc)
 
 elsewhere : ¬ (AreRestored claimed (record restored { objects = is.Here 8 1 ∷ is.Here 8 1 ∷ [] }) (hot ∷ []))
-elsewhere x = absurd (let e : is.Here 8 1 ≡ is.Here 8 0 = (x.here 0 hot (lit< tt)).object in
+elsewhere x = absurd (let e : is.Here 8 1 ≡ is.Here 8 0 = (x.changed 0 hot (lit< tt)).object in
     let n : 1 ≡ 0 = ap place e in omega (arith, n))
   where
     place : Object → ℕ
@@ -236,6 +236,19 @@ writes_a_version x = absurd (let e : 4 ≡ 3 = ap first_of x.versions in omega (
     first_of : List ℕ → ℕ
     first_of [] = 0
     first_of (n ∷ ns) = n
+
+adds_an_object : ¬ (AreRestored claimed (record restored { objects = is.Here 8 0 ∷ is.Here 8 1 ∷ never ∷ [] })
+    (hot ∷ []))
+adds_an_object x = absurd (let e : 3 ≡ 2 = x.objects in omega (arith, e))
+
+adds_heat : ¬ (AreRestored claimed (record restored { hots = true ∷ true ∷ false ∷ [] }) (hot ∷ []))
+adds_heat x = absurd (let e : 3 ≡ 2 = x.heat in omega (arith, e))
+
+loses_words : ¬ (AreRestored claimed (record restored { memory = [] }) (hot ∷ []))
+loses_words x = absurd (let e : 0 ≡ 2 = ap (λ (l : List ℕ). length l) x.memory in omega (arith, e))
+
+makes_one : ¬ (AreRestored claimed (record restored { first = 2 }) (hot ∷ []))
+makes_one x = absurd (let e : 2 ≡ 1 = x.first in omega (arith, e))
 
 -- ---- the far state: a batch of the first span is leaving
 abbrev pub batch : List (Option Shard) → LeavingState

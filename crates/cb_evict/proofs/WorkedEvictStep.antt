@@ -79,7 +79,7 @@ but_leaving = refl
 -- ---- objects that are sent off
 pub sent_off : AreSentOff before after pair (0 ∷ [])
 sent_off = record {
-  sent = λ h i. subst (λ (k : ℕ). IsFarWord (len_of (word_at before k)) (word_at after k))
+  changed = λ h i. subst (λ (k : ℕ). IsFarWord (len_of (word_at before k)) (word_at after k))
       (only_object h i) (far_word_is 8 away (lit< tt) refl);
   others = λ h out. other h out;
   count = refl;
@@ -95,11 +95,11 @@ sent_off = record {
 -- the object's word is far, and has its length
 pub not_here : AreSentOff before before pair (0 ∷ []) → ⊥
 not_here a =
-    let e : calm ≡ 1 + 8 * 8192 = (a.sent 0 first_object).number in absurd (omega (arith, e))
+    let e : calm ≡ 1 + 8 * 8192 = (a.changed 0 first_object).number in absurd (omega (arith, e))
 
 not_longer : AreSentOff before (desk (73729 ∷ pinned ∷ [])) pair (0 ∷ []) → ⊥
 not_longer a =
-    let e : 73729 ≡ 1 + 8 * 8192 = (a.sent 0 first_object).number in absurd (omega (arith, e))
+    let e : 73729 ≡ 1 + 8 * 8192 = (a.changed 0 first_object).number in absurd (omega (arith, e))
 
 -- another object's word stays
 not_unpinned : AreSentOff before (desk (away ∷ calm ∷ [])) pair (0 ∷ []) → ⊥

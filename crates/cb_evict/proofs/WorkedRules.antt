@@ -115,7 +115,7 @@ abort_writes x =
 
 not_back : ¬ (IsAborted (leaving one_put) (leaving one_put) settled (Settled 0 65542 ∷ []) claimed
     (record restored { hots = false ∷ true ∷ [] }))
-not_back x = absurd (let e : false ≡ true = (x.back.here 0 hot (lit< tt)).hot in cc)
+not_back x = absurd (let e : false ≡ true = (x.back.changed 0 hot (lit< tt)).hot in cc)
 
 -- the objects of the batch are away after a commit
 abbrev sent : Shown
@@ -129,7 +129,7 @@ is_sent = record { version = 3; words = 5 ∷ []; before = refl; after = refl; c
 
 are_sent : AreSent claimed sent (hot ∷ [])
 are_sent = record {
-  sent = All-cons (IsSent claimed sent) hot [] is_sent (All-nil (IsSent claimed sent));
+  changed = All-cons (IsSent claimed sent) hot [] is_sent (All-nil (IsSent claimed sent));
   others = none_of_one (λ h. object_at sent h ≡ object_at claimed h) (λ h. refl);
   hots = none_of_one (λ h. hot_at sent h ≡ hot_at claimed h) (λ h. refl);
   objects = refl;
@@ -160,7 +160,7 @@ commit_writes x =
 
 sent_hot : ¬ (IsCommitted (leaving both_put) committed committing (Settled 0 away ∷ []) claimed
     (record sent { hots = true ∷ true ∷ [] }))
-sent_hot x = absurd (let e : true ≡ false = (x.sent.sent 0 hot (lit< tt)).cold in cc)
+sent_hot x = absurd (let e : true ≡ false = (x.sent.changed 0 hot (lit< tt)).cold in cc)
 
 -- both nodes crash with the commit, so that the object is lost
 abbrev crashed : FarState

@@ -1,25 +1,27 @@
 -- The front of an eviction and of a begin: of two spans the second is held up by a pin, and the
 -- first is claimed.
-use Rattle.std.proofs.Common.{◌≡◌, ◌⊎◌, ℕ, zero, suc, List, [], ◌∷◌, length, take, All, None, refl, sym, ap, ◌∙◌, subst, lit<, lit≤, arith, inl, inr}
+use Rattle.std.proofs.Common.{◌≡◌, ◌⊎◌, ℕ, suc, List, [], ◌∷◌, length, take, None, refl, sym, ap, ◌∙◌, subst, lit<, lit≤, arith, inl, inr}
 use Rattle.std.specs.FinMap as map
 use Rattle.std.specs.List.{Contains}
 use Rattle.std.proofs.lemmas.List.Elements.{All-nil, All-cons}
 use Rattle.cb_types.specs.declared.reply.Reply.TheVariants as answer
 use Rattle.cb_world.specs.declared.event.Event.{Event}
-use Rattle.cb_world.specs.declared.event.Event.TheVariants.{Looked, Claimed, Stored}
+use Rattle.cb_world.specs.declared.event.Event.TheVariants.{Looked, Claimed, Settled, Stored}
 use Rattle.cb_world.specs.declared.leaving.Former.{Former}
 use Rattle.cb_world.specs.declared.object.Object.TheVariants as is
 use Rattle.cb_world.specs.declared.shown.Shown.{Shown}
 use Rattle.cb_world.specs.FarState.{FarState}
 use Rattle.cb_world.specs.Grasped.{IsFree}
 use Rattle.cb_world.specs.LocalSound.{LocalSound}
-use Rattle.cb_world.specs.Looks.{IsFound, LooksFirst}
+use Rattle.cb_world.specs.Looks.{IsFound, LooksFirst, NoLook}
 use Rattle.cb_world.specs.Played.{played}
 use Rattle.cb_world.specs.Shown.{object_at}
 use Rattle.cb_evict.specs.declared.eviction.Eviction.TheVariants.{Refused}
 use Rattle.cb_evict.specs.declared.eviction.Lack.TheVariants.{Spans}
+use Rattle.cb_evict.specs.CallPart.{CallPart, LooksAt, Settles}
 use Rattle.cb_evict.specs.Candidates.{candidates, IsBarred, IsLoose, IsHeldUp}
 use Rattle.cb_evict.specs.Claims.{AreClaimed}
+use Rattle.cb_evict.specs.Events.{OnlyLooks}
 use Rattle.cb_evict.specs.EvictRule.{HasFewSpans, HasFewNodes}
 use Rattle.cb_evict.specs.Beginning.{ReservesFrames}
 use Rattle.cb_evict.specs.Evicting.{AreTaken, ReadsFrames, StoresFrames, TouchesSpans}
@@ -58,12 +60,12 @@ over_both : LooksOver (λ es. es ≡ looks) pair.spans (candidates pair) (0 ∷ 
 over_both = record {
   events = looks;
   ran = refl;
-  looks = tt;
   touches = (
     (0, (0, lit< tt, refl), (1, refl)),
     ((1, (1, lit< tt, refl), (1, refl)), tt),
   );
-  finds = inr (first_loose, refl, (second_held, tt));
+  first = tt;
+  done = (tt, inr (first_loose, refl, (second_held, tt)));
 }
 
 finds_first : FindsLoose (λ es. es ≡ looks) settings pair (0 ∷ []) 2
@@ -89,7 +91,7 @@ few : (shows : Shown → Type 0) → TakesFew (λ es. es ≡ looks) shows (recor
     (AreLooseNow pair) (Refused Spans 1 2)
 few shows = record {
   loose = 0 ∷ [];
-  tries = looks_tried pair (0 ∷ []) (λ es. es ≡ looks) shows over_both;
+  tries = looks_tried pair (0 ∷ []) over_both;
   few = inl (record { few = lit< tt; reply = refl; state = refl });
   counts = (refl, sym two_nodes);
 }
@@ -121,6 +123,31 @@ not_other_count runs shows a = let e = a.counts.1 in absurd (omega (arith, e, tw
 abbrev tried : List Event
 tried = Looked 0 calm ∷ Looked 1 pinned ∷ Claimed 0 calm 3 (0 ∷ []) ∷ []
 
+-- a claim is no look
+not_only_looks : (objects : ℕ → Type 0) (finds : List Event → Type 0)
+    → LooksAt (λ es. es ≡ tried) objects finds → ⊥
+not_only_looks objects finds a = subst OnlyLooks a.ran a.done.0
+
+-- what the desk did not run is no part of a call
+not_run : (objects words : ℕ → Type 0) (so : List Event → Type 0)
+    → CallPart (λ es. ⊥) objects words so → ⊥
+not_run objects words so a = a.ran
+
+-- an object is settled, and none is looked at
+settles : Settles (λ es. es ≡ Settled 0 calm ∷ []) (λ h. h ≡ 0) (λ p. ⊥) (λ es. Unit {0})
+settles = record {
+  events = Settled 0 calm ∷ [];
+  ran = refl;
+  touches = (refl, tt);
+  first = (tt, tt);
+  done = (λ k. ((λ w look. look), tt), tt);
+}
+
+not_quiet : (objects words : ℕ → Type 0) (so : List Event → Type 0)
+    → Settles (λ es. es ≡ looks) objects words so → ⊥
+not_quiet objects words so a =
+    (subst (λ (es : List Event). NoLook 0 es) a.ran (a.done.0 0)).0 calm (refl, refl)
+
 still_loose : IsLoose tried pair.spans 0
 still_loose h named = (
   calm,
@@ -149,8 +176,7 @@ tries = record {
       ),
     ),
   );
-  found = inr (still_loose, refl, (still_held, tt));
-  claims = λ s none here. absurd none;
+  done = (inr (still_loose, refl, (still_held, tt)), λ far s none here. absurd none);
 }
 
 taken_first : AreTaken settings pair (0 ∷ []) (former ∷ [])
@@ -188,7 +214,7 @@ not_stored shows finds formers a = subst (TouchesSpans pair) a.ran a.touches
 -- a span that was found loose is one of the loose ones
 not_passed_over : (shows : Shown → Type 0) (formers : List Former)
     → Tries (λ es. es ≡ looks) shows pair (AreLooseNow pair []) formers → ⊥
-not_passed_over shows formers a = by (subst (AreLooseNow pair []) a.ran a.found).0.barred
+not_passed_over shows formers a = by (subst (AreLooseNow pair []) a.ran a.done.0).0.barred
   where
     found_calm : (w : ℕ) → IsFound 0 w looks → calm ≡ w
     found_calm w (inl (inl e)) = absurd e
@@ -206,7 +232,7 @@ not_claimed : (s : Shown) (shows : Shown → Type 0) (finds : List Event → Typ
     → Tries (λ es. es ≡ looks) shows pair finds (former ∷ []) → ⊥
 not_claimed s shows finds known sound was a =
     let c = subst (λ (es : List Event). AreClaimed es s (played es s) (former ∷ [])) a.ran
-    (a.claims s known sound).0 in
+    (a.done.1 pair s known sound).0 in
     let x = (c.taken 0 former (lit< tt)).at in differ 8 0 x.version x.words (sym was ∙ x.object)
   where
     differ : (len place v : ℕ) (xs : List ℕ) → is.Here 8 0 ≡ is.Claimed len place v xs → ⊥
@@ -217,13 +243,13 @@ not_of_none : (runs : List Event → Type 0) (shows : Shown → Type 0) (frames 
     (formers : List Former)
     → TakesEnough runs shows settings pair (λ l es. l ≡ []) frames formers → ⊥
 not_of_none runs shows frames formers a =
-    let l = a.enough in let e = ap (λ (l : List ℕ). length l) a.tries.found in omega (arith, l, e)
+    let l = a.enough in let e = ap (λ (l : List ℕ). length l) a.tries.done.0 in omega (arith, l, e)
 
 -- the first loose span goes
 not_the_other : (runs : List Event → Type 0) (shows : Shown → Type 0) (formers : List Former)
     → TakesEnough runs shows settings pair (λ l es. l ≡ 0 ∷ []) (1 ∷ []) formers → ⊥
 not_the_other runs shows formers a =
-    not_one 0 (heads 1 0 (a.first ∙ ap (λ (l : List ℕ). take 1 l) a.tries.found))
+    not_one 0 (heads 1 0 (a.first ∙ ap (λ (l : List ℕ). take 1 l) a.tries.done.0))
 
 -- one node is too few for two rows
 not_on_one : (runs : List Event → Type 0) (shows : Shown → Type 0)

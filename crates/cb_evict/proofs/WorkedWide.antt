@@ -311,7 +311,7 @@ only_object h (f, (suc k, l, e), named) = absurd (omega (arith, l))
 
 held : AreHeld (desk calm) (desk (calm + 1)) far (0 ∷ [])
 held = record {
-  claimed = λ h i. subst (λ (k : ℕ). Claims (word_at (desk calm) k) (word_at (desk (calm + 1)) k))
+  changed = λ h i. subst (λ (k : ℕ). Claims (word_at (desk calm) k) (word_at (desk (calm + 1)) k))
       (only_object h i) (claims calm refl refl);
   others = other;
   count = refl;

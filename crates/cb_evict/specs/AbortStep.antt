@@ -1,22 +1,18 @@
 -- An abort as a step of the still desk: the reply, every word and the far state afterwards.
-use Rattle.std.specs.Prelude.{◌≡◌, ℕ, All, List, length}
+use Rattle.std.specs.Prelude.{◌≡◌, All, List}
 use Rattle.cb_types.specs.declared.reply.Reply.{Reply}
 use Rattle.cb_world.specs.declared.leaving.Former.{Former}
 use Rattle.cb_world.specs.FarState.{FarState}
 use Rattle.cb_world.specs.Plain.{Words}
 use Rattle.cb_world.specs.World.{word_at}
 use Rattle.cb_evict.specs.AbortRule.{HasNoBatch, HasGivenUp}
+use Rattle.cb_evict.specs.ChangesWords.{ChangesWords}
 use Rattle.cb_evict.specs.Claims.{IsNone}
 
--- The words of these objects are the noted ones. Every other word is as it was, and so are all
--- version words and memory words.
-pub record ArePutBack (x y : Words) (formers : List Former) : Type 0 where
-  pub back : All (λ former. word_at y former.handle ≡ former.word) formers
-  pub others : (h : ℕ) → IsNone formers h → word_at y h ≡ word_at x h
-  pub count : length y.words ≡ length x.words
-  pub settings : y.settings ≡ x.settings
-  pub versions : y.versions ≡ x.versions
-  pub memory : y.memory ≡ x.memory
+-- The words of these objects are the noted ones.
+abbrev pub ArePutBack : Words → Words → List Former → Type 0
+ArePutBack x y formers = ChangesWords x y
+    (All (λ former. word_at y former.handle ≡ former.word) formers) (IsNone formers)
 
 -- An abort leads from the words x and a far state to the words y and another. Where no batch is
 -- leaving nothing changes; else the batch is given up, and the words of its objects are those of

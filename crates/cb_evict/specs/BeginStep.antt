@@ -12,6 +12,7 @@ use Rattle.cb_world.specs.Plain.{Words}
 use Rattle.cb_world.specs.RowWords.{row_of}
 use Rattle.cb_world.specs.SetWord.{IsSpanWord}
 use Rattle.cb_world.specs.World.{word_at}
+use Rattle.cb_evict.specs.ChangesWords.{ChangesWords}
 use Rattle.cb_evict.specs.Claims.{AreApart}
 use Rattle.cb_evict.specs.Claiming.{AreOf}
 use Rattle.cb_evict.specs.Looking.{IsIn}
@@ -24,15 +25,11 @@ use Rattle.cb_evict.specs.BeginRule.{with_batch}
 abbrev pub frame_rows : Words → List ℕ → List (List ℕ)
 frame_rows x frames = map (λ f. row_of (window x.memory (512 * f) 512)) frames
 
--- The objects of the spans in these frames are claimed: each word is as it was, and Moving. Every
--- other word is as it was, and so are all version words and memory words.
-pub record AreHeld (x y : Words) (far : FarState) (frames : List ℕ) : Type 0 where
-  pub claimed : (h : ℕ) → IsIn far.spans frames h → Claims (word_at x h) (word_at y h)
-  pub others : (h : ℕ) → ¬ (IsIn far.spans frames h) → word_at y h ≡ word_at x h
-  pub count : length y.words ≡ length x.words
-  pub settings : y.settings ≡ x.settings
-  pub versions : y.versions ≡ x.versions
-  pub memory : y.memory ≡ x.memory
+-- The objects of the spans in these frames are claimed: each word is as it was, and Moving.
+abbrev pub AreHeld : Words → Words → FarState → List ℕ → Type 0
+AreHeld x y far frames = ChangesWords x y
+    ((h : ℕ) → IsIn far.spans frames h → Claims (word_at x h) (word_at y h))
+    (λ h. ¬ (IsIn far.spans frames h))
 
 -- The spans in these frames are leaving from here: the words of their objects are noted, each once,
 -- in order of frame and slot, and the parities are those of the memory of the frames. Nothing else

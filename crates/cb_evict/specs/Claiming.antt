@@ -6,13 +6,13 @@ use Rattle.cb_world.specs.declared.event.Event.{Event}
 use Rattle.cb_world.specs.declared.leaving.Former.{Former}
 use Rattle.cb_world.specs.declared.shown.Shown.{Shown}
 use Rattle.cb_world.specs.Played.{played}
-use Rattle.cb_world.specs.Looks.{NoLook, LooksFirst}
 use Rattle.cb_world.specs.FarState.{FarState, span_in}
 use Rattle.cb_world.specs.LocalSound.{LocalSound}
 use Rattle.cb_world.specs.Reserved.{table_of}
 use Rattle.cb_evict.specs.Candidates.{Names, IsLoose, AreLoose, IsBarred}
 use Rattle.cb_evict.specs.Looking.{Has, IsIn, IsSlotHeldUp, SpanFinds}
-use Rattle.cb_evict.specs.Events.{TouchesOnly, IsSteady}
+use Rattle.cb_evict.specs.CallPart.{CallPart, Settles}
+use Rattle.cb_evict.specs.Events.{IsSteady}
 use Rattle.cb_evict.specs.Claims.{AreClaimed, AreBack, AreApart, IsHeldAt}
 use Rattle.cb_evict.specs.Order.{noted_of, objects_in, objects_of}
 
@@ -27,16 +27,16 @@ Claims shows far es formers = (s : Shown) → shows s → LocalSound s far
     → AreClaimed es s (played es s) formers × LocalSound (played es s) far × IsSteady es s
 
 -- claimed objects are settled at the words that are noted
-pub record GivesBack (runs : List Event → Type 0) (shows : Shown → Type 0) (formers : List Former)
-    : Type 0 where
-  pub events : List Event
-  pub ran : runs events
-  pub touches : TouchesOnly (IsOne formers) (λ p. ⊥) events
-  pub quiet : (k : ℕ) → NoLook k events
-  pub first : LooksFirst events
-  pub back : (s : Shown) (far : FarState) → shows s → LocalSound s far → All (IsHeldAt s) formers
-      → AreBack s (played events s) formers × LocalSound (played events s) far
-      × IsSteady events s
+abbrev pub GivesBack : (List Event → Type 0) → (Shown → Type 0) → List Former → Type 0
+GivesBack runs shows formers = Settles runs (IsOne formers) (λ p. ⊥) (λ es. (s : Shown)
+    (far : FarState) → shows s → LocalSound s far → All (IsHeldAt s) formers
+    → AreBack s (played es s) formers × LocalSound (played es s) far × IsSteady es s)
+
+-- these objects are claimed, and this is found
+abbrev pub ClaimsThese : (List Event → Type 0) → (Shown → Type 0) → (ℕ → Type 0) → (ℕ → Type 0)
+    → (List Event → Type 0) → List Former → Type 0
+ClaimsThese runs shows objects words finds formers = CallPart runs objects words (λ es.
+    finds es × ((far : FarState) → Claims shows far es formers))
 
 -- what came of the claim of the object in a slot, if there is one: it is noted, or it was found at
 -- a word at which it can't be claimed
@@ -48,14 +48,10 @@ SlotNotes false es slot more = (more ≡ []) × IsSlotHeldUp es slot
 -- the claim of the object in a slot
 pub record ClaimsSlot (runs : List Event → Type 0) (shows : Shown → Type 0) (slot : Option ℕ)
     (claimed : Bool) (old new : List Former) : Type 0 where
-  pub events : List Event
-  pub ran : runs events
-  pub touches : TouchesOnly (λ h. slot ≡ Some h) (λ p. ⊥) events
-  pub first : LooksFirst events
   pub more : List Former
   pub noted : new ≡ old ++ more
-  pub notes : SlotNotes claimed events slot more
-  pub claims : (far : FarState) → Claims shows far events more
+  pub part : ClaimsThese runs shows (λ h. slot ≡ Some h) (λ p. ⊥)
+      (λ es. SlotNotes claimed es slot more) more
 
 -- the objects of the span are those that are noted
 pub record AreOf (has : ℕ → Type 0) (formers : List Former) : Type 0 where
@@ -69,49 +65,36 @@ SpanNotes false es span more = (more ≡ []) × SpanFinds false es span
 -- the claim of all objects of a span, or of none
 pub record ClaimsSpan (runs : List Event → Type 0) (shows : Shown → Type 0) (span : Contents)
     (claimed : Bool) (old new : List Former) : Type 0 where
-  pub events : List Event
-  pub ran : runs events
-  pub touches : TouchesOnly (Has span) (λ p. ⊥) events
-  pub first : LooksFirst events
   pub more : List Former
   pub noted : new ≡ old ++ more
-  pub notes : SpanNotes claimed events span more
   pub each_once : AreApart more
-  pub claims : (far : FarState) → Claims shows far events more
+  pub part : ClaimsThese runs shows (Has span) (λ p. ⊥) (λ es. SpanNotes claimed es span more) more
 
 -- the claim of the span in a frame, which is added if all its objects are claimed
 pub record ClaimsFrame (runs : List Event → Type 0) (shows : Shown → Type 0)
     (spans : List (Option Contents)) (f : ℕ) (old new : List ℕ) (before after : List Former)
     : Type 0 where
-  pub events : List Event
-  pub ran : runs events
-  pub touches : TouchesOnly (Names spans f) (λ p. ⊥) events
-  pub first : LooksFirst events
   pub more : List Former
   pub noted : after ≡ before ++ more
-  pub notes : (AreOf (Names spans f) more × (new ≡ old ++ f ∷ []) × IsLoose events spans f
-      × (noted_of more ≡ objects_in (table_of (span_in spans f))))
-      ⊎ ((more ≡ []) × (new ≡ old) × IsBarred events spans f)
   pub each_once : AreApart more
-  pub claims : (far : FarState) → Claims shows far events more
+  pub part : ClaimsThese runs shows (Names spans f) (λ p. ⊥) (λ es.
+      (AreOf (Names spans f) more × (new ≡ old ++ f ∷ []) × IsLoose es spans f
+      × (noted_of more ≡ objects_in (table_of (span_in spans f))))
+      ⊎ ((more ≡ []) × (new ≡ old) × IsBarred es spans f)) more
 
 -- the claims of the spans in some frames, one after another, until k of them are claimed: the spans
 -- in these frames are, and the objects that are noted are theirs, in order of frame and slot
 pub record ClaimsSpans (runs : List Event → Type 0) (shows : Shown → Type 0)
     (spans : List (Option Contents)) (loose : List ℕ) (k : ℕ) (frames : List ℕ)
     (formers : List Former) : Type 0 where
-  pub events : List Event
-  pub ran : runs events
-  pub touches : TouchesOnly (IsIn spans loose) (λ p. ⊥) events
-  pub first : LooksFirst events
   pub rest : List ℕ
   pub few : length frames ≤ k
   pub stops : (length frames ≡ k) ⊎ (rest ≡ [])
-  pub found : (before : List Event) (all : List ℕ) → AllPairs (λ f g. f ≢ g) all
-      → AreLoose before spans all loose → AreLoose (before ++ events) spans all (frames ++ rest)
   pub among : All (Contains loose) frames
   pub apart : AllPairs (λ f g. f ≢ g) frames
   pub of : AreOf (IsIn spans frames) formers
   pub order : noted_of formers ≡ objects_of spans frames
   pub each_once : AreApart formers
-  pub claims : (far : FarState) → Claims shows far events formers
+  pub part : ClaimsThese runs shows (IsIn spans loose) (λ p. ⊥) (λ es. (before : List Event)
+      (all : List ℕ) → AllPairs (λ f g. f ≢ g) all → AreLoose before spans all loose
+      → AreLoose (before ++ es) spans all (frames ++ rest)) formers

@@ -1,5 +1,5 @@
 -- A commit as a step of the still desk: the reply, every word and the far state afterwards.
-use Rattle.std.specs.Prelude.{◌≡◌, ℕ, All, List, length}
+use Rattle.std.specs.Prelude.{◌≡◌, All, List}
 use Rattle.cb_ptr.specs.Steps.{IsFarWord}
 use Rattle.cb_ptr.specs.Word.{len_of}
 use Rattle.cb_types.specs.declared.reply.Reply.{Reply}
@@ -8,18 +8,15 @@ use Rattle.cb_world.specs.FarState.{FarState}
 use Rattle.cb_world.specs.Plain.{Words}
 use Rattle.cb_world.specs.World.{word_at}
 use Rattle.cb_evict.specs.AbortRule.{HasNoBatch}
+use Rattle.cb_evict.specs.ChangesWords.{ChangesWords}
 use Rattle.cb_evict.specs.Claims.{IsNone}
 use Rattle.cb_evict.specs.CommitRule.{HasShort, HasCommitted}
 
--- The words of these objects are far, with their lengths alone. Every other word is as it was, and
--- so are all version words and memory words.
-pub record ArePutAway (x y : Words) (formers : List Former) : Type 0 where
-  pub away : All (λ former. IsFarWord (len_of former.word) (word_at y former.handle)) formers
-  pub others : (h : ℕ) → IsNone formers h → word_at y h ≡ word_at x h
-  pub count : length y.words ≡ length x.words
-  pub settings : y.settings ≡ x.settings
-  pub versions : y.versions ≡ x.versions
-  pub memory : y.memory ≡ x.memory
+-- The words of these objects are far, with their lengths alone.
+abbrev pub ArePutAway : Words → Words → List Former → Type 0
+ArePutAway x y formers = ChangesWords x y
+    (All (λ former. IsFarWord (len_of former.word) (word_at y former.handle)) formers)
+    (IsNone formers)
 
 -- A commit leads from the words x and a far state to the words y and another. Where no batch is
 -- leaving, and where a position of it waits, nothing changes; else the batch is committed, and the

@@ -21,6 +21,7 @@ use Rattle.cb_world.specs.StillWords.{contents_at}
 use Rattle.cb_world.specs.World.{word_at}
 use Rattle.cb_evict.specs.declared.eviction.Eviction.{Eviction}
 use Rattle.cb_evict.specs.Candidates.{candidates}
+use Rattle.cb_evict.specs.ChangesWords.{ChangesWords}
 use Rattle.cb_evict.specs.Eviction.{reply_of, TellsCounts}
 use Rattle.cb_evict.specs.Looking.{IsIn}
 use Rattle.cb_evict.specs.Storing.{AreShards, with_set}
@@ -47,15 +48,11 @@ is_loose desk (Some span) = list_all (is_slot_loose desk) span.slots
 abbrev pub loose_frames : Words → FarState → List ℕ
 loose_frames desk far = filter (λ f. is_loose desk (span_in far.spans f)) (candidates far)
 
--- The objects of the spans in these frames are far: their words have their lengths alone. Every
--- other word is as it was, and so are all version words and memory words.
-pub record AreSentOff (x y : Words) (far : FarState) (frames : List ℕ) : Type 0 where
-  pub sent : (h : ℕ) → IsIn far.spans frames h → IsFarWord (len_of (word_at x h)) (word_at y h)
-  pub others : (h : ℕ) → ¬ (IsIn far.spans frames h) → word_at y h ≡ word_at x h
-  pub count : length y.words ≡ length x.words
-  pub settings : y.settings ≡ x.settings
-  pub versions : y.versions ≡ x.versions
-  pub memory : y.memory ≡ x.memory
+-- The objects of the spans in these frames are far: their words have their lengths alone.
+abbrev pub AreSentOff : Words → Words → FarState → List ℕ → Type 0
+AreSentOff x y far frames = ChangesWords x y
+    ((h : ℕ) → IsIn far.spans frames h → IsFarWord (len_of (word_at x h)) (word_at y h))
+    (λ h. ¬ (IsIn far.spans frames h))
 
 -- the rows have the memory words of the objects of the spans in these frames, each in its slot of
 -- the row at its frame's place

@@ -7,12 +7,12 @@ use Rattle.cb_world.specs.declared.event.Event.{Event}
 use Rattle.cb_world.specs.declared.leaving.Former.{Former}
 use Rattle.cb_world.specs.declared.shown.Shown.{Shown}
 use Rattle.cb_world.specs.Played.{played}
-use Rattle.cb_world.specs.Looks.{NoLook, LooksFirst}
 use Rattle.cb_world.specs.Allowed.{Allowed}
 use Rattle.cb_world.specs.LocalSound.{LocalSound}
 use Rattle.cb_world.specs.Sound.{Sound}
 use Rattle.cb_world.specs.Still.{IsStill}
 use Rattle.cb_world.specs.FarState.{FarState}
+use Rattle.cb_evict.specs.CallPart.{Settles}
 use Rattle.cb_evict.specs.Candidates.{candidates}
 use Rattle.cb_evict.specs.Events.{TouchesOnly, IsSteady}
 use Rattle.cb_evict.specs.Claims.{AreApart, AreClaimed}
@@ -49,24 +49,21 @@ pub record IsReady (shows : Shown → Type 0) (far : FarState) (formers : List F
   pub steady : IsSteady before s
   pub touches : TouchesSpans far before
 
+-- what is so of all events, those before a part too, and what they do
+pub record IsEnded (new : FarState) (before es : List Event) (s : Shown)
+    (ends : List Event → Type 0) (does : List Event → Shown → Shown → Type 0) : Type 0 where
+  pub allowed : Allowed (played before s) es
+  pub rule : ends (before ++ es)
+  pub sound : Sound (played (before ++ es) s) new
+  pub effect : does (before ++ es) s (played (before ++ es) s)
+
 -- Claimed spans are brought to an end: evicted, begun or given back. All events, those before this
 -- part too, meet the rule, and lead to what the effect says.
-pub record EndsClaimed (runs : List Event → Type 0) (shows : Shown → Type 0) (far new : FarState)
-    (frames : List ℕ) (formers : List Former) (ends : List Event → Type 0)
-    (does : List Event → Shown → Shown → Type 0) : Type 0 where
-  pub events : List Event
-  pub ran : runs events
-  pub touches : TouchesOnly (IsIn far.spans frames) (LiesInOne frames) events
-  pub quiet : (k : ℕ) → NoLook k events
-  pub first : LooksFirst events
-  pub allowed : (before : List Event) (s : Shown) → IsReady shows far formers before s
-      → Allowed (played before s) events
-  pub rule : (before : List Event) (s : Shown) → IsReady shows far formers before s
-      → ends (before ++ events)
-  pub sound : (before : List Event) (s : Shown) → IsReady shows far formers before s
-      → Sound (played (before ++ events) s) new
-  pub effect : (before : List Event) (s : Shown) → IsReady shows far formers before s
-      → does (before ++ events) s (played (before ++ events) s)
+abbrev pub EndsClaimed : (List Event → Type 0) → (Shown → Type 0) → FarState → FarState → List ℕ
+    → List Former → (List Event → Type 0) → (List Event → Shown → Shown → Type 0) → Type 0
+EndsClaimed runs shows far new frames formers ends does =
+    Settles runs (IsIn far.spans frames) (LiesInOne frames) (λ es. (before : List Event) (s : Shown)
+    → IsReady shows far formers before s → IsEnded new before es s ends does)
 
 -- claimed spans are evicted
 abbrev pub EvictsClaimed : (List Event → Type 0) → (Shown → Type 0) → Config → FarState → FarState

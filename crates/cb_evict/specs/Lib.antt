@@ -1,6 +1,9 @@
 pub mod Candidates
+pub mod ChangesWords
 pub mod Events
+pub mod CallPart
 pub mod Claims
+pub mod ChangesObjects
 pub mod Looking
 pub mod Order
 pub mod Claiming

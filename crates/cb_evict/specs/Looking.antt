@@ -6,7 +6,7 @@ use Rattle.cb_world.specs.declared.event.Event.{Event}
 use Rattle.cb_world.specs.Looks.{IsFound}
 use Rattle.cb_world.specs.Grasped.{IsFree}
 use Rattle.cb_evict.specs.Candidates.{Names, IsLoose, IsHeldUp, AreLoose}
-use Rattle.cb_evict.specs.Events.{TouchesOnly, OnlyLooks}
+use Rattle.cb_evict.specs.CallPart.{LooksAt}
 
 -- the object in a slot was found at a word at which it can be claimed, or there is none
 abbrev pub IsSlotLoose : List Event → Option ℕ → Type 0
@@ -22,12 +22,9 @@ SlotFinds true es slot = IsSlotLoose es slot
 SlotFinds false es slot = IsSlotHeldUp es slot
 
 -- one look, if the slot is taken
-pub record LooksAtSlot (runs : List Event → Type 0) (slot : Option ℕ) (loose : Bool) : Type 0 where
-  pub events : List Event
-  pub ran : runs events
-  pub looks : OnlyLooks events
-  pub touches : TouchesOnly (λ h. slot ≡ Some h) (λ p. ⊥) events
-  pub finds : SlotFinds loose events slot
+abbrev pub LooksAtSlot : (List Event → Type 0) → Option ℕ → Bool → Type 0
+LooksAtSlot runs slot loose =
+    LooksAt runs (λ h. slot ≡ Some h) (λ es. SlotFinds loose es slot)
 
 -- a slot of the span has the object
 abbrev pub Has : Contents → ℕ → Type 0
@@ -40,33 +37,21 @@ SpanFinds true es span = (h : ℕ) → Has span h → (w : ℕ) × IsFound h w e
 SpanFinds false es span = (h w : ℕ) × Has span h × IsFound h w es × ¬ (IsFree w)
 
 -- looks at each object of a span
-pub record LooksAtSpan (runs : List Event → Type 0) (span : Contents) (loose : Bool) : Type 0 where
-  pub events : List Event
-  pub ran : runs events
-  pub looks : OnlyLooks events
-  pub touches : TouchesOnly (Has span) (λ p. ⊥) events
-  pub seen : (h : ℕ) → Has span h → (w : ℕ) × IsFound h w events
-  pub finds : SpanFinds loose events span
+abbrev pub LooksAtSpan : (List Event → Type 0) → Contents → Bool → Type 0
+LooksAtSpan runs span loose = LooksAt runs (Has span) (λ es.
+    ((h : ℕ) → Has span h → (w : ℕ) × IsFound h w es) × SpanFinds loose es span)
 
 -- looks at each object of the span in a frame, which is added to the loose ones if it is one
-pub record LooksAtFrame (runs : List Event → Type 0) (spans : List (Option Contents)) (f : ℕ)
-    (old new : List ℕ) : Type 0 where
-  pub events : List Event
-  pub ran : runs events
-  pub looks : OnlyLooks events
-  pub touches : TouchesOnly (Names spans f) (λ p. ⊥) events
-  pub finds : (IsLoose events spans f × (new ≡ old ++ f ∷ []))
-      ⊎ (IsHeldUp events spans f × (new ≡ old))
+abbrev pub LooksAtFrame : (List Event → Type 0) → List (Option Contents) → ℕ → List ℕ → List ℕ
+    → Type 0
+LooksAtFrame runs spans f old new = LooksAt runs (Names spans f) (λ es.
+    (IsLoose es spans f × (new ≡ old ++ f ∷ [])) ⊎ (IsHeldUp es spans f × (new ≡ old)))
 
 -- an object of the span in one of the frames
 abbrev pub IsIn : List (Option Contents) → List ℕ → ℕ → Type 0
 IsIn spans frames h = (f : ℕ) × Contains frames f × Names spans f h
 
 -- looks at each object of the spans in some frames, of which these are loose
-pub record LooksOver (runs : List Event → Type 0) (spans : List (Option Contents))
-    (frames loose : List ℕ) : Type 0 where
-  pub events : List Event
-  pub ran : runs events
-  pub looks : OnlyLooks events
-  pub touches : TouchesOnly (IsIn spans frames) (λ p. ⊥) events
-  pub finds : AreLoose events spans frames loose
+abbrev pub LooksOver : (List Event → Type 0) → List (Option Contents) → List ℕ → List ℕ → Type 0
+LooksOver runs spans frames loose =
+    LooksAt runs (IsIn spans frames) (λ es. AreLoose es spans frames loose)

@@ -9,13 +9,12 @@ use Rattle.cb_world.specs.Shown.{object_at, hot_at}
 use Rattle.cb_world.specs.Memory.{window, words_for}
 use Rattle.cb_world.specs.Grasped.{IsFree}
 use Rattle.cb_world.specs.Played.{played}
-use Rattle.cb_world.specs.Looks.{NoLook, LooksFirst}
 use Rattle.cb_world.specs.Allowed.{Allowed}
 use Rattle.cb_world.specs.Written.{Writes}
 use Rattle.cb_world.specs.FarState.{FarState}
 use Rattle.cb_world.specs.LocalSound.{LocalSound}
-use Rattle.cb_evict.specs.Events.{TouchesOnly}
-use Rattle.cb_evict.specs.Claims.{IsNone}
+use Rattle.cb_evict.specs.CallPart.{Settles}
+use Rattle.cb_evict.specs.ChangesObjects.{ChangesObjects}
 use Rattle.cb_evict.specs.Claiming.{IsOne}
 
 -- The object is claimed with the words that stand at its place, and this was its word. Of its hot
@@ -37,16 +36,9 @@ pub record IsHereAt (t : Shown) (former : Former) : Type 0 where
       ≡ is.Here (len_of former.word) (place_of former.word)
   pub hot : hot_at t former.handle ≡ hot_of former.word
 
--- so are these objects, and all else is as it was
-pub record AreRestored (s t : Shown) (formers : List Former) : Type 0 where
-  pub here : All (IsHereAt t) formers
-  pub others : (h : ℕ) → IsNone formers h → object_at t h ≡ object_at s h
-  pub hots : (h : ℕ) → IsNone formers h → hot_at t h ≡ hot_at s h
-  pub objects : length t.objects ≡ length s.objects
-  pub heat : length t.hots ≡ length s.hots
-  pub versions : t.versions ≡ s.versions
-  pub memory : t.memory ≡ s.memory
-  pub first : t.first ≡ s.first
+-- so are these objects
+abbrev pub AreRestored : Shown → Shown → List Former → Type 0
+AreRestored s t formers = ChangesObjects s t formers (IsHereAt t)
 
 -- what is known, once the events settled these objects
 pub record IsRestoring (far : FarState) (es : List Event) (s : Shown) (formers : List Former)
@@ -57,12 +49,7 @@ pub record IsRestoring (far : FarState) (es : List Event) (s : Shown) (formers :
   pub nothing : Writes es s []
 
 -- claimed objects are settled at the words that are noted
-pub record Restores (runs : List Event → Type 0) (shows : Shown → Type 0) (formers : List Former)
-    : Type 0 where
-  pub events : List Event
-  pub ran : runs events
-  pub touches : TouchesOnly (IsOne formers) (λ p. ⊥) events
-  pub quiet : (k : ℕ) → NoLook k events
-  pub first : LooksFirst events
-  pub restored : (s : Shown) (far : FarState) → shows s → LocalSound s far
-      → All (IsClaimedFrom s) formers → IsRestoring far events s formers
+abbrev pub Restores : (List Event → Type 0) → (Shown → Type 0) → List Former → Type 0
+Restores runs shows formers = Settles runs (IsOne formers) (λ p. ⊥)
+    (λ es. (s : Shown) (far : FarState) → shows s → LocalSound s far → All (IsClaimedFrom s) formers
+    → IsRestoring far es s formers)

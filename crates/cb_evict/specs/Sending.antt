@@ -7,11 +7,10 @@ use Rattle.cb_world.specs.declared.event.Event.{Event}
 use Rattle.cb_world.specs.declared.shown.Shown.{Shown}
 use Rattle.cb_world.specs.Shown.{object_at, version_at, hot_at}
 use Rattle.cb_world.specs.Played.{played}
-use Rattle.cb_world.specs.Looks.{NoLook, LooksFirst}
 use Rattle.cb_world.specs.Allowed.{Allowed}
 use Rattle.cb_world.specs.Written.{Writes}
-use Rattle.cb_evict.specs.Events.{TouchesOnly}
-use Rattle.cb_evict.specs.Claims.{IsNone}
+use Rattle.cb_evict.specs.CallPart.{Settles}
+use Rattle.cb_evict.specs.ChangesObjects.{ChangesObjects}
 use Rattle.cb_evict.specs.Claiming.{IsOne}
 
 -- the object is claimed at the word that is noted, and its version word is its last complete
@@ -34,25 +33,17 @@ pub record IsSent (s t : Shown) (former : Former) : Type 0 where
   pub after : object_at t former.handle ≡ is.Far (len_of former.word) version words
   pub cold : hot_at t former.handle ≡ false
 
--- so are these objects, and all else is as it was
-pub record AreSent (s t : Shown) (formers : List Former) : Type 0 where
-  pub sent : All (IsSent s t) formers
-  pub others : (h : ℕ) → IsNone formers h → object_at t h ≡ object_at s h
-  pub hots : (h : ℕ) → IsNone formers h → hot_at t h ≡ hot_at s h
-  pub objects : length t.objects ≡ length s.objects
-  pub heat : length t.hots ≡ length s.hots
-  pub versions : t.versions ≡ s.versions
-  pub memory : t.memory ≡ s.memory
-  pub first : t.first ≡ s.first
+-- so are these objects
+abbrev pub AreSent : Shown → Shown → List Former → Type 0
+AreSent s t formers = ChangesObjects s t formers (IsSent s t)
+
+-- what is known, once the events put these objects away
+pub record IsSending (es : List Event) (s : Shown) (formers : List Former) : Type 0 where
+  pub sent : AreSent s (played es s) formers
+  pub allowed : Allowed s es
+  pub nothing : Writes es s []
 
 -- claimed objects are settled as away
-pub record Sends (runs : List Event → Type 0) (shows : Shown → Type 0) (formers : List Former)
-    : Type 0 where
-  pub events : List Event
-  pub ran : runs events
-  pub touches : TouchesOnly (IsOne formers) (λ p. ⊥) events
-  pub quiet : (k : ℕ) → NoLook k events
-  pub first : LooksFirst events
-  pub allowed : (s : Shown) → shows s → All (IsTold s) formers → Allowed s events
-  pub nothing : (s : Shown) → shows s → All (IsTold s) formers → Writes events s []
-  pub sent : (s : Shown) → shows s → All (IsTold s) formers → AreSent s (played events s) formers
+abbrev pub Sends : (List Event → Type 0) → (Shown → Type 0) → List Former → Type 0
+Sends runs shows formers = Settles runs (IsOne formers) (λ p. ⊥)
+    (λ es. (s : Shown) → shows s → All (IsTold s) formers → IsSending es s formers)

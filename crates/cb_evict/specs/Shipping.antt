@@ -10,8 +10,10 @@ use Rattle.cb_world.specs.Choices.{MayPut}
 use Rattle.cb_world.specs.FarSound.{batch_rows}
 use Rattle.cb_world.specs.FarState.{FarState}
 use Rattle.cb_world.specs.Leaving.{LeavingState}
+use Rattle.cb_world.specs.Placed.{leaving_frames}
 use Rattle.cb_evict.specs.declared.next_put.NextPut.{NextPut}
 use Rattle.cb_evict.specs.declared.next_put.NextPut.TheVariants as next
+use Rattle.cb_evict.specs.Evicting.{ReadsFrames}
 use Rattle.cb_evict.specs.Loading.{OwnsFrame}
 use Rattle.cb_evict.specs.ShipRule.{IsShardFor, ReadsLeaving, other_puts, with_shipped}
 use Rattle.cb_evict.specs.Waiting.{least_waiting}
@@ -49,8 +51,6 @@ pub record PutsRow (runs : List Event → Type 0) (shows : Shown → Type 0) (fa
   pub state : new ≡ with_shipped far batch p shard row
   pub of_batch : (s : Shown) → shows s → OwnsBatch s batch → row ≡ row_at (batch_rows s batch) p
 
--- nothing is put
-pub record PutsNothing (runs : List Event → Type 0) (far : FarState) : Type 0 where
-  pub events : List Event
-  pub ran : runs events
-  pub reads : ReadsLeaving far events
+-- nothing is put, and words of frames that are leaving are read
+abbrev pub PutsNothing : (List Event → Type 0) → FarState → Type 0
+PutsNothing runs far = ReadsFrames runs (leaving_frames far.leaving)

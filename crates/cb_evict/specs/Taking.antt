@@ -6,16 +6,17 @@ use Rattle.cb_world.specs.declared.leaving.Former.{Former}
 use Rattle.cb_world.specs.declared.shown.Shown.{Shown}
 use Rattle.cb_world.specs.Choices.{room_count}
 use Rattle.cb_world.specs.FarState.{FarState}
-use Rattle.cb_world.specs.Looks.{LooksFirst}
 use Rattle.cb_evict.specs.declared.eviction.Eviction.{Eviction}
 use Rattle.cb_evict.specs.declared.eviction.Eviction.TheVariants.{Refused}
 use Rattle.cb_evict.specs.declared.taking.Taken.{Taken}
 use Rattle.cb_evict.specs.declared.taking.Taken.TheVariants.{Few, Enough}
 use Rattle.cb_evict.specs.Candidates.{candidates, AreLoose}
-use Rattle.cb_evict.specs.Claiming.{Claims}
+use Rattle.cb_evict.specs.Claiming.{ClaimsThese}
 use Rattle.cb_evict.specs.EvictRule.{HasFewSpans, HasFewNodes}
 use Rattle.cb_evict.specs.Eviction.{reply_of, TellsCounts}
-use Rattle.cb_evict.specs.Evicting.{AreTaken, TouchesSpans}
+use Rattle.cb_evict.specs.Evicting.{AreTaken}
+use Rattle.cb_evict.specs.Loading.{LiesInOne}
+use Rattle.cb_evict.specs.Looking.{IsIn}
 
 -- of the spans that may leave these are loose by the last looks
 abbrev pub AreLooseNow : FarState → List ℕ → List Event → Type 0
@@ -28,14 +29,10 @@ AreLooseStill far was loose es = (before : List Event) → AreLooseNow far was b
 
 -- Spans that may leave are looked at and claimed, and this is found. In the end these objects are
 -- claimed, and all else is as it was.
-pub record Tries (runs : List Event → Type 0) (shows : Shown → Type 0) (far : FarState)
-    (finds : List Event → Type 0) (formers : List Former) : Type 0 where
-  pub events : List Event
-  pub ran : runs events
-  pub first : LooksFirst events
-  pub touches : TouchesSpans far events
-  pub found : finds events
-  pub claims : Claims shows far events formers
+abbrev pub Tries : (List Event → Type 0) → (Shown → Type 0) → FarState → (List Event → Type 0)
+    → List Former → Type 0
+Tries runs shows far finds formers = ClaimsThese runs shows (IsIn far.spans (candidates far))
+    (LiesInOne (candidates far)) finds formers
 
 -- fewer than k spans are loose, or fewer than k + r nodes have room; this refusal tells so, and no
 -- object is claimed

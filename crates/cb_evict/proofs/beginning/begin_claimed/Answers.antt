@@ -3,19 +3,18 @@ use Rattle.cb_span.specs.Contents.{Contents}
 use Rattle.cb_types.specs.declared.config.Config.{Config}
 use Rattle.cb_types.specs.declared.handle.SetId.{SetId}
 use Rattle.cb_types.specs.declared.reply.Reply.TheVariants as answer
-use Rattle.cb_world.specs.declared.event.Event.{Event}
 use Rattle.cb_world.specs.declared.leaving.Former.{Former}
 use Rattle.cb_world.specs.declared.shown.Shown.{Shown}
 use Rattle.cb_world.specs.Played.{played}
 use Rattle.cb_world.specs.FarState.{FarState, span_in}
 use Rattle.cb_evict.specs.Claiming.{GivesBack}
 use Rattle.cb_evict.specs.Claims.{AreApart, IsHeldAt}
-use Rattle.cb_evict.specs.Evicting.{IsReady}
 use Rattle.cb_evict.specs.Loading.{LiesInOne}
 use Rattle.cb_evict.proofs.BeginEnd.{starts, reads_as, reads_in, batch_then, reserves_as}
 use Rattle.cb_evict.proofs.Events.{are_reads}
 use Rattle.cb_evict.proofs.Ending.{are_read, taken_ready, place_in, handles_all, frames_below}
 use Rattle.cb_evict.proofs.Restored.{gives_back_ends}
+use Rattle.cb_evict.proofs.CallParts.{joins}
 use Rattle.cb_evict.proofs.beginning.begin_claimed.Goals as goal
 
 pub reserve_frames-requires-clause-config : goal.reserve_frames-requires-clause-config
@@ -93,38 +92,31 @@ returns-in-Ok-clause-begun g c =
     let x = y.loads in let reads = are_reads (LiesInOne frames) x.events x.loads in
     let is = batch_then config far c.reserve_frames.new.far c.note_batch-set.new.far frames formers
     c.in-Ok.reserved.parities c.in-Ok.reserved.shards.items y.state c.note_batch-set.ensures.state c.in-Ok.ensures.shards in
-    let all = λ (before : List Event) (s : Shown) (r : IsReady shows far formers before s).
-    starts config far c.note_batch-set.new.far frames formers c.in-Ok.reserved.parities before x.events s
-    (are_read config far frames formers y.rows c.in-Ok.reserved.parities shows before s
-    c.requires.config r c.requires.taken y.made y.count x.made).0
-    c.requires.none
-    reads is r.steady r.touches in
     record {
       events = x.events;
       ran = x.ran;
       touches = reads_in far frames x.events reads;
-      quiet = reads.quiet;
       first = reads.first;
-      allowed = λ before s r. (reads.steady (played before s)).allowed;
-      rule = λ before s r. (all before s r).begun;
-      sound = λ before s r. (all before s r).sound;
-      effect = λ before s r. (all before s r).effect;
+      done = (
+        reads.quiet,
+        λ before s r.
+            let all = starts config far c.note_batch-set.new.far frames formers
+            c.in-Ok.reserved.parities before x.events s
+            (are_read config far frames formers y.rows c.in-Ok.reserved.parities shows before s
+            c.requires.config r c.requires.taken y.made y.count x.made).0
+            c.requires.none reads is r.steady r.touches in record {
+              allowed = (reads.steady (played before s)).allowed;
+              rule = all.begun;
+              sound = all.sound;
+              effect = all.effect;
+            },
+      );
     }
 
 pub returns-in-Err-clause-error : goal.returns-in-Err-clause-error
-returns-in-Err-clause-error g c =
-    let far = c.args.far.now in let frames = c.args.frames.items in
-    let x = reads_as _ _ frames c.deref.ensures.value c.in-Err.ensures.read in
-    let reads = are_reads (LiesInOne frames) x.0 x.2 in
-    gives_back_ends far frames c.args.formers.items
-    (λ es. g.D.Desk.run c.args.desk.now es c.reserve_frames.new.desk)
-    (λ es. g.D.Desk.run c.reserve_frames.new.desk es c.give_back.new.desk)
-    (λ es. g.D.Desk.run c.args.desk.now es c.give_back.new.desk)
-    (λ t. g.D.Desk.shows c.args.desk.now t) (λ t. g.D.Desk.shows c.reserve_frames.new.desk t) x.0
-    c.requires.taken.among c.requires.taken.of.only reads x.1
+returns-in-Err-clause-error g c = gives_back_ends c.args.far.now c.args.frames.items c.args.formers.items (joins (λ es fs a b. g.met.D.Desk.more _ _ _ _ _ a b)
+    (λ es s ran a. (g.met.D.Desk.follows _ _ es s ran a).1)) c.requires.taken.among c.requires.taken.of.only
+    (reads_as _ _ c.args.frames.items c.deref.ensures.value c.in-Err.ensures.read)
     (subst (λ (l : List Former). GivesBack
     (λ es. g.D.Desk.run c.reserve_frames.new.desk es c.give_back.new.desk)
     (λ s. g.D.Desk.shows c.reserve_frames.new.desk s) l) c.deref-in-Err.ensures.value c.give_back.ensures)
-    (λ es fs a b. g.met.D.Desk.more _ _ _ _ _ a b)
-    (λ before s r. subst (λ (v : Shown). g.D.Desk.shows c.reserve_frames.new.desk v)
-    (reads.stays (played before s)) (g.met.D.Desk.follows _ _ x.0 (played before s) x.1 r.shown).1)

@@ -15,6 +15,7 @@ use Rattle.cb_evict.specs.Evicting.{TouchesSpans}
 use Rattle.cb_evict.specs.Taking.{AreLooseNow, Takes}
 use Rattle.cb_evict.proofs.BeginParts.{begin_few, takes_begin}
 use Rattle.cb_evict.proofs.Composed.{any_err, both_err, if_ok, on_err, taken_as, taken_enough, takes_fail, tried_ready}
+use Rattle.cb_evict.proofs.CallParts.{joins}
 use Rattle.cb_evict.proofs.beginning.begin_new.Goals as goal
 
 pub take_spans-requires-clause-config : goal.take_spans-requires-clause-config
@@ -80,9 +81,7 @@ begin_claimed-requires-clause-ready g c =
     let x = taken.tries in let s = c.requires.sound.0 in (
       x.events,
       s,
-      tried_ready c.args.far.now c.in-Enough.formers.items (AreLooseNow c.args.far.now taken.loose)
-          (λ es. g.D.Desk.run c.args.desk.now es c.take_spans.new.desk)
-          (λ t. g.D.Desk.shows c.args.desk.now t) (λ t. g.D.Desk.shows c.take_spans.new.desk t) x s
+      tried_ready c.args.far.now c.in-Enough.formers.items (AreLooseNow c.args.far.now taken.loose) x s
           (g.met.D.Desk.follows _ _ x.events s x.ran c.requires.sound.1).1
           c.requires.sound.1 c.requires.sound.2,
     )
@@ -92,18 +91,13 @@ returns-in-Enough-clause-begun g c =
     let taken = taken_enough _ _ _ _ _ _ _ _ c.in-Enough.is c.in_ok-taken.ensures.taken in
     let stays = g.met.D.Desk.stays _ _ taken.tries.events taken.tries.ran in
     if_ok _ _ _ c.begin_claimed.result c.begin_claimed.ensures.reply c.begin_claimed.ensures.begun
-    (λ r is y. takes_begin (g.D.Desk.settings c.args.desk.now) c.args.far.now
-    c.begin_claimed.new.far r c.in-Enough.frames.items c.in-Enough.formers.items
-    (λ es. g.D.Desk.run c.args.desk.now es c.take_spans.new.desk)
-    (λ es. g.D.Desk.run c.take_spans.new.desk es c.begin_claimed.new.desk)
-    (λ es. g.D.Desk.run c.args.desk.now es c.begin_claimed.new.desk)
-    (λ s. g.D.Desk.shows c.args.desk.now s) (λ s. g.D.Desk.shows c.take_spans.new.desk s) taken
+    (λ r is y. takes_begin r (joins (λ es fs a b. g.met.D.Desk.more _ _ _ _ _ a b)
+    (λ es s ran a. (g.met.D.Desk.follows _ _ es s ran a).1)) taken
     (subst (λ (n : Config). BeginsClaimed
     (λ es. g.D.Desk.run c.take_spans.new.desk es c.begin_claimed.new.desk)
     (λ s. g.D.Desk.shows c.take_spans.new.desk s) n c.args.far.now c.begin_claimed.new.far
     c.in-Enough.frames.items c.in-Enough.formers.items) stays y)
-    (λ es fs a b. g.met.D.Desk.more _ _ _ _ _ a b)
-    (λ es s ran a. (g.met.D.Desk.follows _ _ es s ran a).1) c.requires.none is c.requires.sound)
+    c.requires.none is c.requires.sound)
 
 pub returns-in-Enough-clause-error : goal.returns-in-Enough-clause-error
 returns-in-Enough-clause-error g c =
@@ -115,14 +109,8 @@ returns-in-Enough-clause-error g c =
     (λ es. g.D.Desk.run c.args.desk.now es c.begin_claimed.new.desk)
     (λ s. g.D.Desk.shows c.args.desk.now s × Sound s c.args.far.now) (TouchesSpans c.args.far.now)
     (λ t. Sound t far) IsStill) (sym same)
-    (takes_fail (g.D.Desk.settings c.args.desk.now) c.args.far.now
-    c.in-Enough.frames.items c.in-Enough.formers.items
-    (λ es. g.D.Desk.run c.args.desk.now es c.take_spans.new.desk)
-    (λ es. g.D.Desk.run c.take_spans.new.desk es c.begin_claimed.new.desk)
-    (λ es. g.D.Desk.run c.args.desk.now es c.begin_claimed.new.desk)
-    (λ s. g.D.Desk.shows c.args.desk.now s) (λ s. g.D.Desk.shows c.take_spans.new.desk s) taken y
-    (λ es fs a b. g.met.D.Desk.more _ _ _ _ _ a b)
-    (λ es s ran a. (g.met.D.Desk.follows _ _ es s ran a).1)))
+    (takes_fail (joins (λ es fs a b. g.met.D.Desk.more _ _ _ _ _ a b)
+    (λ es s ran a. (g.met.D.Desk.follows _ _ es s ran a).1)) taken y))
 
 pub returns-in-Enough-clause-unchanged : goal.returns-in-Enough-clause-unchanged
 returns-in-Enough-clause-unchanged g c = c.begin_claimed.ensures.unchanged

@@ -6,7 +6,7 @@ use Rattle.cb_world.specs.Reserved.{table_of}
 use Rattle.cb_evict.specs.Candidates.{Names}
 use Rattle.cb_evict.specs.Looking.{Has}
 use Rattle.cb_evict.specs.Order.{objects_in}
-use Rattle.cb_evict.proofs.Events.{touches_more}
+use Rattle.cb_evict.proofs.CallParts.{part_more}
 use Rattle.cb_evict.proofs.Filling.{got_span}
 use Rattle.cb_evict.proofs.Loose.{has_names, names_has, span_below, span_once, claimed_loose, span_few_slots}
 use Rattle.cb_evict.proofs.claiming.claim_frame.Goals as goal
@@ -36,26 +36,23 @@ returns-then-claim_span-clause-claims g c =
     let there = got_span _ spans f c.get.result c.unwrap-span.result
     c.get.ensures.span c.unwrap-span.ensures in
     let x = c.if-claim_span.ensures.claims in let had = c.requires.sound in
-    let so = x.claims had.2.0 had.0 had.1 had.2.1 in record {
-      events = x.events;
-      ran = x.ran;
-      touches = touches_more (Has span) (Names spans f) (λ p. ⊥) (λ p. ⊥) x.events
-          (λ h. has_names spans f h span there) (λ p y. y) x.touches;
-      first = x.first;
+    let y = x.part in let so = y.done.1 had.2.0 had.0 had.1 had.2.1 in record {
       more = x.more;
       noted = x.noted;
-      notes = inl (
-        record {
-          all = λ h named. x.notes.0.all h (names_has spans f h span there named);
-          only = λ k d l. has_names spans f _ span there (x.notes.0.only k d l);
-        },
-        search rules,
-        λ h named. claimed_loose x.events had.0 _ x.more so.0 h
-            (x.notes.0.all h (names_has spans f h span there named)),
-        x.notes.1 ∙ ap (λ (o : Option Contents). objects_in (table_of o)) (sym there),
-      );
       each_once = x.each_once;
-      claims = x.claims;
+      part = part_more (Names spans f) (λ p. ⊥) _ y (λ h. has_names spans f h span there) (λ p z. z) (
+        inl (
+          record {
+            all = λ h named. y.done.0.0.all h (names_has spans f h span there named);
+            only = λ k d l. has_names spans f _ span there (y.done.0.0.only k d l);
+          },
+          search rules,
+          λ h named. claimed_loose y.events had.0 _ x.more so.0 h
+              (y.done.0.0.all h (names_has spans f h span there named)),
+          y.done.0.1 ∙ ap (λ (o : Option Contents). objects_in (table_of o)) (sym there),
+        ),
+        y.done.1,
+      );
     }
 
 pub returns-then-claim_span-clause-more : goal.returns-then-claim_span-clause-more
@@ -72,21 +69,18 @@ returns-else-claim_span-clause-claims g c =
     let spans = c.args.spans.now in let f = c.args.frame in let span = c.unwrap-span.result.now in
     let there = got_span _ spans f c.get.result c.unwrap-span.result
     c.get.ensures.span c.unwrap-span.ensures in
-    let x = c.if-claim_span.ensures.claims in let held = x.notes.1 in record {
-      events = x.events;
-      ran = x.ran;
-      touches = touches_more (Has span) (Names spans f) (λ p. ⊥) (λ p. ⊥) x.events
-          (λ h. has_names spans f h span there) (λ p y. y) x.touches;
-      first = x.first;
+    let x = c.if-claim_span.ensures.claims in let y = x.part in let held = y.done.0.1 in record {
       more = x.more;
       noted = x.noted;
-      notes = inr (
-        x.notes.0,
-        refl,
-        (held.0, held.1, has_names spans f held.0 span there held.2, held.3, held.4),
-      );
       each_once = x.each_once;
-      claims = x.claims;
+      part = part_more (Names spans f) (λ p. ⊥) _ y (λ h. has_names spans f h span there) (λ p z. z) (
+        inr (
+          y.done.0.0,
+          refl,
+          (held.0, held.1, has_names spans f held.0 span there held.2, held.3, held.4),
+        ),
+        y.done.1,
+      );
     }
 
 pub returns-else-claim_span-clause-more : goal.returns-else-claim_span-clause-more
@@ -94,4 +88,4 @@ returns-else-claim_span-clause-more g c =
     let x = c.if-claim_span.ensures.claims in
     let n = length-append c.args.formers.now.items x.more in
     let e = ap (λ (l : List Former). length l) x.noted in
-    let z = ap (λ (l : List Former). length l) x.notes.0 in omega (arith, n, e, z)
+    let z = ap (λ (l : List Former). length l) x.part.done.0.0 in omega (arith, n, e, z)

@@ -15,20 +15,24 @@ returns-in-Claimed-clause-claims g c =
     let ran = subst (λ (l : List Event). g.D.Desk.run c.args.desk.now l c.try_claim.new.desk)
     tried.3 got.1 in
     record {
-      events = es;
-      ran = ran;
-      touches = claim_touches tried.0 h w v words tried.4;
-      first = claim_looks_first tried.0 h w v words tried.4;
       more = record { handle = h; word = w } ∷ [];
       noted = (search rules);
-      notes = (w, refl);
-      claims = λ far s a sound.
-          let sized = g.met.D.Desk.sized _ s a in
-          claim_one far s tried.0 h w v words sound
-          (subst (λ (n : ℕ). h < n) (sym sized.0) c.requires.handle)
-          (subst (λ (n : ℕ). h < n) (sym sized.2) c.requires.handle)
-          (subst (λ (n : ℕ). h < n) (sym sized.1) c.requires.handle)
-          tried.4 (g.met.D.Desk.follows _ _ es s ran a).0 tried.5;
+      part = record {
+        events = es;
+        ran = ran;
+        touches = claim_touches tried.0 h w v words tried.4;
+        first = claim_looks_first tried.0 h w v words tried.4;
+        done = (
+          (w, refl),
+          λ far s a sound.
+              let sized = g.met.D.Desk.sized _ s a in
+              claim_one far s tried.0 h w v words sound
+              (subst (λ (n : ℕ). h < n) (sym sized.0) c.requires.handle)
+              (subst (λ (n : ℕ). h < n) (sym sized.2) c.requires.handle)
+              (subst (λ (n : ℕ). h < n) (sym sized.1) c.requires.handle)
+              tried.4 (g.met.D.Desk.follows _ _ es s ran a).0 tried.5,
+        );
+      };
     }
 
 pub returns-in-Left-clause-claims : goal.returns-in-Left-clause-claims
@@ -39,12 +43,16 @@ returns-in-Left-clause-claims g c =
     let ran = subst (λ (l : List Event). g.D.Desk.run c.args.desk.now l c.try_claim.new.desk)
     tried.1 got.1 in
     record {
-      events = es;
-      ran = ran;
-      touches = look_touches tried.0 h w tried.2;
-      first = looks_first tried.0 h w tried.2;
       more = [];
       noted = sym (append-nil c.args.formers.now.items);
-      notes = (refl, (h, w, refl, found_last h w tried.0 (Looked h w) (refl, refl), tried.3));
-      claims = λ far s a sound. left_one far s tried.0 h w sound tried.2;
+      part = record {
+        events = es;
+        ran = ran;
+        touches = look_touches tried.0 h w tried.2;
+        first = looks_first tried.0 h w tried.2;
+        done = (
+          (refl, (h, w, refl, found_last h w tried.0 (Looked h w) (refl, refl), tried.3)),
+          λ far s a sound. left_one far s tried.0 h w sound tried.2,
+        );
+      };
     }

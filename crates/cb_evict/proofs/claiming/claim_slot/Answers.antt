@@ -5,12 +5,13 @@ use Rattle.cb_evict.proofs.claiming.claim_slot.Goals as goal
 
 pub returns-in-None-clause-claims : goal.returns-in-None-clause-claims
 returns-in-None-clause-claims g c = rw c.in-None.is (record {
-  events = [];
-  ran = g.met.D.Desk.none _;
-  touches = tt;
-  first = tt;
   more = [];
   noted = sym (append-nil c.args.formers.now.items);
-  notes = refl;
-  claims = λ far s a sound. claims_nothing far s [] tt sound;
+  part = record {
+    events = [];
+    ran = g.met.D.Desk.none _;
+    touches = tt;
+    first = tt;
+    done = (refl, λ far s a sound. claims_nothing far s [] tt sound);
+  };
 })

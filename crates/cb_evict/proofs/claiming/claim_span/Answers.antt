@@ -1,6 +1,6 @@
-use Rattle.std.proofs.Common.{◌≡◌, ℕ, ◌+◌, ◌<◌, List, [], ◌++◌, length, take, drop, get_or, All, Option, None, refl, sym, ap, ◌∙◌, subst, arith, rules, length-append}
+use Rattle.std.proofs.Common.{ℕ, ◌+◌, ◌<◌, List, [], ◌++◌, length, get_or, All, Option, None, refl, sym, ap, ◌∙◌, subst, arith, rules, length-append}
 use Rattle.std.specs.Option.{IfSome}
-use Rattle.std.proofs.lemmas.List.{append-nil, append_assoc, drop_at, take_all, take_at}
+use Rattle.std.proofs.lemmas.List.{append-nil, append_assoc, take_all}
 use Rattle.cb_types.specs.declared.config.Config.{Config}
 use Rattle.cb_world.specs.declared.leaving.Former.{Former}
 use Rattle.cb_world.specs.Played.{played}
@@ -12,7 +12,8 @@ use Rattle.cb_evict.proofs.Events.{touches_more, found_after}
 use Rattle.cb_evict.proofs.Claims.{claims_nothing}
 use Rattle.cb_evict.proofs.Gathers.{Gathers, gathers_back}
 use Rattle.cb_evict.specs.Order.{objects_in}
-use Rattle.cb_evict.proofs.Slots.{HasBelow, nothing_yet, noted_more, slot_handle, slot_failed, slot_succeeded, below_all, below_has}
+use Rattle.cb_evict.proofs.Slots.{HasBelow, nothing_yet, noted_more, slot_handle, slot_succeeded, to_undo, below_all, below_has}
+use Rattle.cb_evict.proofs.CallParts.{joins}
 use Rattle.cb_evict.proofs.claiming.claim_span.Goals as goal
 
 pub loop-slot-init : goal.loop-slot-init
@@ -49,73 +50,43 @@ pub undo-requires-clause-handles : goal.undo-requires-clause-handles
 undo-requires-clause-handles g c =
     let inv = c.loop-slot.invariant in let x = c.if-not-claim_slot.ensures.claims in
     let i = c.loop-slot.slot-index in let span = c.args.span.now in
-    let slot = get_or c.slots-slot-items.result.now i None in
     let e = ap (λ (l : List (Option ℕ)). get_or l i None) c.slots-slot-items.ensures.slots in
-    let joint : Gathers (λ fs. g.D.Desk.run c.args.desk.now fs c.claim_slot.new.desk)
-    (λ s. g.D.Desk.shows c.args.desk.now s) (HasBelow span (i + 1)) (HasBelow span i)
-    (inv.0 ++ x.events) (inv.1 ++ x.more) =
-    slot_failed _ _ _ _ _ span i slot c.loop-slot.formers.items c.claim_slot.new.formers.items
-    inv.0 inv.1 inv.2 x e c.requires.apart (λ a b. g.met.D.Desk.more _ _ _ _ _ a b)
-    (λ s a b. (g.met.D.Desk.follows _ _ inv.0 s a b).1) in
-    let whole : c.claim_slot.new.formers.items ≡ c.args.formers.now.items ++ (inv.1 ++ x.more) =
-    x.noted ∙ ap (λ (l : List Former). l ++ x.more) inv.3
-    ∙ append_assoc c.args.formers.now.items inv.1 x.more in
-    let rest : drop c.len-start.result c.claim_slot.new.formers.items ≡ inv.1 ++ x.more =
-    ap (λ (l : List Former). drop c.len-start.result l) whole
-    ∙ drop_at c.args.formers.now.items (inv.1 ++ x.more) c.len-start.result (search rules) in
+    let z = to_undo {runsC = λ fs. g.D.Desk.run c.args.desk.now fs c.claim_slot.new.desk} {span = span}
+    {old = c.args.formers.now.items} {start = c.len-start.result} (joins (λ es fs a b. g.met.D.Desk.more _ _ _ _ _ a b)
+    (λ es s ran a. (g.met.D.Desk.follows _ _ es s ran a).1)) inv.2 x e c.requires.apart inv.3 (search rules) in
     subst (λ (l : List Former). All (λ f. f.handle < (g.D.Desk.settings c.claim_slot.new.desk).handles) l)
-    (sym rest)
+    (sym z.rest)
     (λ k d l. subst (λ (n : Config). (get_or (inv.1 ++ x.more) k d).handle < n.handles)
-    (sym (g.met.D.Desk.stays _ _ (inv.0 ++ x.events) joint.ran))
+    (sym (g.met.D.Desk.stays _ _ (inv.0 ++ x.part.events) z.joint.ran))
     (c.requires.handles (get_or (inv.1 ++ x.more) k d).handle
-    (below_has span i (get_or (inv.1 ++ x.more) k d).handle (joint.of.only k d l))))
+    (below_has span i (get_or (inv.1 ++ x.more) k d).handle (z.joint.of.only k d l))))
 
 pub undo-requires-clause-apart : goal.undo-requires-clause-apart
 undo-requires-clause-apart g c =
     let inv = c.loop-slot.invariant in let x = c.if-not-claim_slot.ensures.claims in
     let i = c.loop-slot.slot-index in let span = c.args.span.now in
-    let slot = get_or c.slots-slot-items.result.now i None in
     let e = ap (λ (l : List (Option ℕ)). get_or l i None) c.slots-slot-items.ensures.slots in
-    let joint : Gathers (λ fs. g.D.Desk.run c.args.desk.now fs c.claim_slot.new.desk)
-    (λ s. g.D.Desk.shows c.args.desk.now s) (HasBelow span (i + 1)) (HasBelow span i)
-    (inv.0 ++ x.events) (inv.1 ++ x.more) =
-    slot_failed _ _ _ _ _ span i slot c.loop-slot.formers.items c.claim_slot.new.formers.items
-    inv.0 inv.1 inv.2 x e c.requires.apart (λ a b. g.met.D.Desk.more _ _ _ _ _ a b)
-    (λ s a b. (g.met.D.Desk.follows _ _ inv.0 s a b).1) in
-    let whole : c.claim_slot.new.formers.items ≡ c.args.formers.now.items ++ (inv.1 ++ x.more) =
-    x.noted ∙ ap (λ (l : List Former). l ++ x.more) inv.3
-    ∙ append_assoc c.args.formers.now.items inv.1 x.more in
-    let rest : drop c.len-start.result c.claim_slot.new.formers.items ≡ inv.1 ++ x.more =
-    ap (λ (l : List Former). drop c.len-start.result l) whole
-    ∙ drop_at c.args.formers.now.items (inv.1 ++ x.more) c.len-start.result (search rules) in
-    subst AreApart (sym rest) joint.each_once
+    let z = to_undo {runsC = λ fs. g.D.Desk.run c.args.desk.now fs c.claim_slot.new.desk} {span = span}
+    {old = c.args.formers.now.items} {start = c.len-start.result} (joins (λ es fs a b. g.met.D.Desk.more _ _ _ _ _ a b)
+    (λ es s ran a. (g.met.D.Desk.follows _ _ es s ran a).1)) inv.2 x e c.requires.apart inv.3 (search rules) in
+    subst AreApart (sym z.rest) z.joint.each_once
 
 pub undo-requires-clause-held : goal.undo-requires-clause-held
 undo-requires-clause-held g c =
     let inv = c.loop-slot.invariant in let x = c.if-not-claim_slot.ensures.claims in
     let i = c.loop-slot.slot-index in let span = c.args.span.now in
-    let slot = get_or c.slots-slot-items.result.now i None in
     let e = ap (λ (l : List (Option ℕ)). get_or l i None) c.slots-slot-items.ensures.slots in
-    let joint : Gathers (λ fs. g.D.Desk.run c.args.desk.now fs c.claim_slot.new.desk)
-    (λ s. g.D.Desk.shows c.args.desk.now s) (HasBelow span (i + 1)) (HasBelow span i)
-    (inv.0 ++ x.events) (inv.1 ++ x.more) =
-    slot_failed _ _ _ _ _ span i slot c.loop-slot.formers.items c.claim_slot.new.formers.items
-    inv.0 inv.1 inv.2 x e c.requires.apart (λ a b. g.met.D.Desk.more _ _ _ _ _ a b)
-    (λ s a b. (g.met.D.Desk.follows _ _ inv.0 s a b).1) in
-    let whole : c.claim_slot.new.formers.items ≡ c.args.formers.now.items ++ (inv.1 ++ x.more) =
-    x.noted ∙ ap (λ (l : List Former). l ++ x.more) inv.3
-    ∙ append_assoc c.args.formers.now.items inv.1 x.more in
-    let rest : drop c.len-start.result c.claim_slot.new.formers.items ≡ inv.1 ++ x.more =
-    ap (λ (l : List Former). drop c.len-start.result l) whole
-    ∙ drop_at c.args.formers.now.items (inv.1 ++ x.more) c.len-start.result (search rules) in
-    let had = c.requires.sound in
-    let so = joint.claims had.2.0 had.0 had.1 had.2.1 in (
-      played (inv.0 ++ x.events) had.0,
-      (g.met.D.Desk.follows _ _ (inv.0 ++ x.events) had.0 joint.ran had.1).1,
+    let z = to_undo {runsC = λ fs. g.D.Desk.run c.args.desk.now fs c.claim_slot.new.desk} {span = span}
+    {old = c.args.formers.now.items} {start = c.len-start.result} (joins (λ es fs a b. g.met.D.Desk.more _ _ _ _ _ a b)
+    (λ es s ran a. (g.met.D.Desk.follows _ _ es s ran a).1)) inv.2 x e c.requires.apart inv.3 (search rules) in
+    let had = c.requires.sound in let es = inv.0 ++ x.part.events in
+    let so = z.joint.claims had.2.0 had.0 had.1 had.2.1 in (
+      played es had.0,
+      (g.met.D.Desk.follows _ _ es had.0 z.joint.ran had.1).1,
       (
         had.2.0,
         so.1,
-        subst (λ (l : List Former). All (IsHeldAt (played (inv.0 ++ x.events) had.0)) l) (sym rest)
+        subst (λ (l : List Former). All (IsHeldAt (played es had.0)) l) (sym z.rest)
             (λ k d l. (so.0.taken k d l).at),
       ),
     )
@@ -124,51 +95,42 @@ pub returns-then-not-claim_slot-clause-claims : goal.returns-then-not-claim_slot
 returns-then-not-claim_slot-clause-claims g c =
     let inv = c.loop-slot.invariant in let x = c.if-not-claim_slot.ensures.claims in
     let i = c.loop-slot.slot-index in let span = c.args.span.now in
-    let slot = get_or c.slots-slot-items.result.now i None in
     let e = ap (λ (l : List (Option ℕ)). get_or l i None) c.slots-slot-items.ensures.slots in
-    let joint : Gathers (λ fs. g.D.Desk.run c.args.desk.now fs c.claim_slot.new.desk)
-    (λ s. g.D.Desk.shows c.args.desk.now s) (HasBelow span (i + 1)) (HasBelow span i)
-    (inv.0 ++ x.events) (inv.1 ++ x.more) =
-    slot_failed _ _ _ _ _ span i slot c.loop-slot.formers.items c.claim_slot.new.formers.items
-    inv.0 inv.1 inv.2 x e c.requires.apart (λ a b. g.met.D.Desk.more _ _ _ _ _ a b)
-    (λ s a b. (g.met.D.Desk.follows _ _ inv.0 s a b).1) in
-    let whole : c.claim_slot.new.formers.items ≡ c.args.formers.now.items ++ (inv.1 ++ x.more) =
-    x.noted ∙ ap (λ (l : List Former). l ++ x.more) inv.3
-    ∙ append_assoc c.args.formers.now.items inv.1 x.more in
-    let rest : drop c.len-start.result c.claim_slot.new.formers.items ≡ inv.1 ++ x.more =
-    ap (λ (l : List Former). drop c.len-start.result l) whole
-    ∙ drop_at c.args.formers.now.items (inv.1 ++ x.more) c.len-start.result (search rules) in
+    let z = to_undo {runsC = λ fs. g.D.Desk.run c.args.desk.now fs c.claim_slot.new.desk} {span = span}
+    {old = c.args.formers.now.items} {start = c.len-start.result} (joins (λ es fs a b. g.met.D.Desk.more _ _ _ _ _ a b)
+    (λ es s ran a. (g.met.D.Desk.follows _ _ es s ran a).1)) inv.2 x e c.requires.apart inv.3 (search rules) in
     let b = subst (λ (l : List Former). GivesBack (λ es. g.D.Desk.run c.claim_slot.new.desk es c.undo.new.desk)
-    (λ s. g.D.Desk.shows c.claim_slot.new.desk s) l) rest c.undo.ensures.back in
-    let es = inv.0 ++ x.events in
+    (λ s. g.D.Desk.shows c.claim_slot.new.desk s) l) z.rest c.undo.ensures.back in
+    let es = inv.0 ++ x.part.events in
     let all : Gathers (λ fs. g.D.Desk.run c.args.desk.now fs c.undo.new.desk)
     (λ s. g.D.Desk.shows c.args.desk.now s) (HasBelow span (i + 1)) (λ h. ⊥) (es ++ b.events) [] =
-    gathers_back _ _ _ _ _ _ _ es (inv.1 ++ x.more) joint b (λ a b. g.met.D.Desk.more _ _ _ _ _ a b)
-    (λ s a b. (g.met.D.Desk.follows _ _ es s a b).1) in
-    let held = x.notes.1 in record {
-      events = es ++ b.events;
-      ran = all.ran;
-      touches = touches_more (HasBelow span (i + 1)) (Has span) (λ p. ⊥) (λ p. ⊥) (es ++ b.events)
-          (below_has span (i + 1)) (λ p y. y) all.touches;
-      first = all.first;
+    gathers_back _ _ _ _ _ _ _ es (inv.1 ++ x.more) z.joint b (joins (λ es fs a b. g.met.D.Desk.more _ _ _ _ _ a b)
+    (λ es s ran a. (g.met.D.Desk.follows _ _ es s ran a).1)) in
+    let held = x.part.done.0.1 in record {
       more = [];
-      noted = c.undo.ensures.formers
-          ∙ ap (λ (l : List Former). take c.len-start.result l) whole
-          ∙ take_at c.args.formers.now.items (inv.1 ++ x.more) c.len-start.result (search rules)
-          ∙ sym (append-nil c.args.formers.now.items);
-      notes = (
-        refl,
-        (
-          held.0,
-          held.1,
-          (i, sym e ∙ held.2),
-          found_more held.0 held.1 es b.events (found_after held.0 held.1 inv.0 x.events held.3)
-              (b.quiet held.0),
-          held.4,
-        ),
-      );
+      noted = c.undo.ensures.formers ∙ z.kept ∙ sym (append-nil c.args.formers.now.items);
       each_once = all.each_once;
-      claims = all.claims;
+      part = record {
+        events = es ++ b.events;
+        ran = all.ran;
+        touches = touches_more (HasBelow span (i + 1)) (Has span) (λ p. ⊥) (λ p. ⊥) (es ++ b.events)
+            (below_has span (i + 1)) (λ p y. y) all.touches;
+        first = all.first;
+        done = (
+          (
+            refl,
+            (
+              held.0,
+              held.1,
+              (i, sym e ∙ held.2),
+              found_more held.0 held.1 es b.events (found_after held.0 held.1 inv.0 x.part.events held.3)
+                  (b.done.0 held.0),
+              held.4,
+            ),
+          ),
+          all.claims,
+        );
+      };
     }
 
 pub loop-slot-preserved : goal.loop-slot-preserved
@@ -177,16 +139,16 @@ loop-slot-preserved g c =
     let i = c.loop-slot.slot-index in let span = c.args.span.now in
     let slot = get_or c.slots-slot-items.result.now i None in
     let e = ap (λ (l : List (Option ℕ)). get_or l i None) c.slots-slot-items.ensures.slots in (
-      inv.0 ++ x.events,
+      inv.0 ++ x.part.events,
       inv.1 ++ x.more,
       slot_succeeded _ _ _ _ _ span i slot c.loop-slot.formers.items c.claim_slot.new.formers.items
-          inv.0 inv.1 inv.2 x e c.requires.apart (λ a b. g.met.D.Desk.more _ _ _ _ _ a b)
-          (λ s a b. (g.met.D.Desk.follows _ _ inv.0 s a b).1),
+          inv.0 inv.1 inv.2 x e c.requires.apart (joins (λ es fs a b. g.met.D.Desk.more _ _ _ _ _ a b)
+          (λ es s ran a. (g.met.D.Desk.follows _ _ es s ran a).1)),
       x.noted ∙ ap (λ (l : List Former). l ++ x.more) inv.3
           ∙ append_assoc c.args.formers.now.items inv.1 x.more,
       omega (arith, inv.4, c.claim_slot.ensures.capacity),
       omega (arith, inv.5, c.claim_slot.ensures.more),
-      noted_more span.slots i slot x.events inv.1 x.more inv.6 x.notes e
+      noted_more span.slots i slot x.part.events inv.1 x.more inv.6 x.part.done.0 e
           (let n = ap (λ (l : List (Option ℕ)). length l) c.slots-slot-items.ensures.slots in
           omega (arith, c.loop-slot-test.true, n)),
     )
@@ -196,22 +158,26 @@ returns-clause-claims g c =
     let inv = c.loop-slot.invariant in let i = c.loop-slot.slot-index in
     let span = c.args.span.now in
     let all = ap (λ (l : List (Option ℕ)). length l) c.slots-slot-items.ensures.slots in record {
-      events = inv.0;
-      ran = inv.2.ran;
-      touches = touches_more (HasBelow span i) (Has span) (λ p. ⊥) (λ p. ⊥) inv.0
-          (below_has span i) (λ p y. y) inv.2.touches;
-      first = inv.2.first;
       more = inv.1;
       noted = inv.3;
-      notes = (
-        record {
-          all = λ h has. inv.2.of.all h (below_all span i h (search rules) has);
-          only = λ k d l. below_has span i (get_or inv.1 k d).handle (inv.2.of.only k d l);
-        },
-        inv.6 ∙ ap objects_in (take_all i span.slots (search rules)),
-      );
       each_once = inv.2.each_once;
-      claims = inv.2.claims;
+      part = record {
+        events = inv.0;
+        ran = inv.2.ran;
+        touches = touches_more (HasBelow span i) (Has span) (λ p. ⊥) (λ p. ⊥) inv.0
+            (below_has span i) (λ p y. y) inv.2.touches;
+        first = inv.2.first;
+        done = (
+          (
+            record {
+              all = λ h has. inv.2.of.all h (below_all span i h (search rules) has);
+              only = λ k d l. below_has span i (get_or inv.1 k d).handle (inv.2.of.only k d l);
+            },
+            inv.6 ∙ ap objects_in (take_all i span.slots (search rules)),
+          ),
+          inv.2.claims,
+        );
+      };
     }
 
 pub undo-requires-clause-within : goal.undo-requires-clause-within

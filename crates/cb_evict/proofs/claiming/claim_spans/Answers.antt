@@ -1,4 +1,4 @@
-use Rattle.std.proofs.Common.{◌≡◌, ℕ, ◌<◌, List, [], ◌++◌, length, refl, sym, ap, subst, arith, rules, inl, inr, vec_len}
+use Rattle.std.proofs.Common.{◌≡◌, ℕ, ◌<◌, List, [], ◌++◌, length, sym, ap, subst, arith, rules, inl, inr, vec_len}
 use Rattle.std.proofs.lemmas.List.{drop_all}
 use Rattle.cb_types.specs.declared.config.Config.{Config}
 use Rattle.cb_world.specs.declared.leaving.Former.{Former}
@@ -8,6 +8,7 @@ use Rattle.cb_world.specs.Played.{played}
 use Rattle.cb_evict.specs.Candidates.{AreUnique}
 use Rattle.cb_evict.proofs.Claims.{claims_nothing}
 use Rattle.cb_evict.proofs.Trying.{Tried, tried_none, tried_more, all_tried}
+use Rattle.cb_evict.proofs.CallParts.{joins}
 use Rattle.cb_evict.proofs.claiming.claim_spans.Goals as goal
 
 pub loop-frame-init : goal.loop-frame-init
@@ -51,12 +52,12 @@ pub loop-frame-preserved : goal.loop-frame-preserved
 loop-frame-preserved g c =
     let inv = c.loop-frame.invariant in let x = c.claim_frame.ensures.claims in
     let few : length c.loop-frame.frames.items < c.args.k = search rules in (
-      inv.0 ++ x.events,
+      inv.0 ++ x.part.events,
       tried_more _ _ _ _ _ c.args.spans.now _ c.args.loose.now c.loop-frame.frame-index inv.0
           c.loop-frame.frames.items c.claim_frame.new.frames.items c.loop-frame.formers.items
           c.claim_frame.new.formers.items inv.1 x c.requires.unique c.requires.apart c.loop-frame-test.true
-          (λ a b. g.met.D.Desk.more _ _ _ _ _ a b)
-          (λ s a b. (g.met.D.Desk.follows _ _ inv.0 s a b).1),
+          (joins (λ es fs a b. g.met.D.Desk.more _ _ _ _ _ a b)
+          (λ es s ran a. (g.met.D.Desk.follows _ _ es s ran a).1)),
       omega (arith, few, c.claim_frame.ensures.count),
       omega (arith, inv.3, c.claim_frame.ensures.room),
       omega (arith, inv.4, c.claim_frame.ensures.capacity),

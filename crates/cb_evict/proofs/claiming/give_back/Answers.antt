@@ -12,10 +12,12 @@ returns g c = let r = c.restore.ensures in record {
   events = r.events;
   ran = r.ran;
   touches = r.touches;
-  quiet = r.quiet;
   first = r.first;
-  back = λ s far a sound held.
-      let sized = g.met.D.Desk.sized _ s a in
-      back_from far r.events s c.args.formers.now held (r.restored s far a sound
-      (claimed_from s c.args.formers.now (sized.1 ∙ sym sized.0) held)) r.touches r.quiet;
+  done = (
+    r.done.0,
+    λ s far a sound held.
+        let sized = g.met.D.Desk.sized _ s a in
+        back_from far r.events s c.args.formers.now held (r.done.1 s far a sound
+        (claimed_from s c.args.formers.now (sized.1 ∙ sym sized.0) held)) r.touches r.done.0,
+  );
 }

@@ -1,21 +1,18 @@
-use Rattle.std.proofs.Common.{◌<◌, List, ◌++◌, length, get_or, All, sym, ap, ◌∙◌, subst, arith, rules}
+use Rattle.std.proofs.Common.{◌<◌, ◌++◌, length, get_or, All, sym, ap, ◌∙◌, subst, arith}
 use Rattle.cb_frame.specs.FreeFrames.{IsFree}
 use Rattle.cb_types.specs.declared.config.Config.{Config}
 use Rattle.cb_types.specs.declared.config.Field.TheVariants.{K}
-use Rattle.cb_world.specs.declared.event.Event.{Event}
 use Rattle.cb_world.specs.declared.shown.Shown.{Shown}
 use Rattle.cb_world.specs.Played.{played}
-use Rattle.cb_world.specs.Allowed.{Allowed}
 use Rattle.cb_world.specs.FarState.{FarState, span_in}
-use Rattle.cb_world.proofs.Laws.{allowed_append}
 use Rattle.cb_evict.specs.Candidates.{AreUnique}
-use Rattle.cb_evict.specs.Evicting.{IsReady}
 use Rattle.cb_evict.specs.Loading.{LiesInOne}
-use Rattle.cb_evict.proofs.Events.{are_reads, first_append}
+use Rattle.cb_evict.proofs.Events.{are_reads}
 use Rattle.cb_evict.proofs.Evicts.{told_all}
-use Rattle.cb_evict.proofs.Ending.{taken_ready, place_in, handles_all, are_read, kept_parities, IsEnd, end_quiet, ended, state_then, homes_then, end_in, spans_touched, frames_below}
-use Rattle.cb_evict.proofs.Restored.{gives_back_ends}
+use Rattle.cb_evict.proofs.Ending.{taken_ready, place_in, handles_all, are_read, kept_parities, end_allowed, ended, state_then, homes_then, end_in, spans_touched, frames_below}
+use Rattle.cb_evict.proofs.Restored.{gives_back_ends, settled_end}
 use Rattle.cb_evict.proofs.Standing.{are_unique}
+use Rattle.cb_evict.proofs.CallParts.{joins}
 use Rattle.cb_evict.proofs.evicting.evict_claimed.Goals as goal
 
 pub store_frames-requires-clause-config : goal.store_frames-requires-clause-config
@@ -141,66 +138,36 @@ close_spans-requires-clause-few g c =
 pub returns-in-Ok-clause-evict : goal.returns-in-Ok-clause-evict
 returns-in-Ok-clause-evict g c =
     let stored = c.in-Ok.ensures.kept in let x = stored.loads in let y = c.send.ensures in
-    let kept = stored.kept in let shards = stored.shards in
+    let kept = stored.kept in let shards = stored.shards in let only = c.requires.taken.of.only in
     let far = c.args.far.now in let frames = c.args.frames.now in let formers = c.args.formers.now in
-    let reads = are_reads (LiesInOne frames) x.events x.loads in
-    let end : IsEnd (LiesInOne frames) formers x.events y.events =
-    record { reads = reads; touches = y.touches; quiet = y.quiet } in
-    let shows = λ (t : Shown). g.D.Desk.shows c.args.desk.now t in
+    let config = g.D.Desk.settings c.args.desk.now in
     let is = state_then far c.store_frames.new.far c.close_spans.new.far frames shards _
     kept.state c.close_spans.ensures.state in
     let homed = homes_then far c.store_frames.new.far frames shards _ _ _ kept.state
     c.next_number-set.ensures c.close_spans.ensures.homes in
-    let shown = λ (before : List Event) (s : Shown) (r : IsReady shows far formers before s).
-    subst (λ (v : Shown). g.D.Desk.shows c.store_frames.new.desk v) (reads.stays (played before s))
-    (g.met.D.Desk.follows _ _ x.events (played before s) x.ran r.shown).1 in
-    let told = λ (before : List Event) (s : Shown) (r : IsReady shows far formers before s).
+    settled_end {showsB = λ t. g.D.Desk.shows c.store_frames.new.desk t} far c.close_spans.new.far
+    frames formers (joins (λ es fs a b. g.met.D.Desk.more _ _ _ _ _ a b)
+    (λ es s ran a. (g.met.D.Desk.follows _ _ es s ran a).1)) only (x.events, x.ran, x.loads) y (λ end before s r shown.
     let sized = g.met.D.Desk.sized _ (played before s) r.shown in
-    told_all far before s (played before s) formers r.claimed r.here (sized.1 ∙ sym sized.0) in
-    let all = λ (before : List Event) (s : Shown) (r : IsReady shows far formers before s).
-    let read = are_read (g.D.Desk.settings c.args.desk.now) far frames formers stored.rows
-    kept.parities shows before s c.requires.config r c.requires.taken
+    let told = told_all far before s (played before s) formers r.claimed r.here
+    (sized.1 ∙ sym sized.0) in
+    let z = y.done.1 (played before s) shown told in
+    let read = are_read config far frames formers stored.rows kept.parities
+    (λ t. g.D.Desk.shows c.args.desk.now t) before s c.requires.config r c.requires.taken
     (kept_parities shards frames _ stored.rows stored.chosen.count kept) stored.count x.made in
-    ended (g.D.Desk.settings c.args.desk.now) far c.close_spans.new.far frames formers shards
+    let all = ended config far c.close_spans.new.far frames formers shards
     stored.rows kept.parities c.close_spans.new.far.homes (LiesInOne frames) _ _ before
     x.events y.events s
-    (record {
-      read = read.0;
-      sent = y.sent (played before s) (shown before s r) (told before s r);
-      chosen = stored.chosen;
-      homed = homed;
-    }) read.1
+    (record { read = read.0; sent = z.sent; chosen = stored.chosen; homed = homed }) read.1
     end is r.steady
     (spans_touched far frames before (x.events ++ y.events) c.requires.taken.among r.touches
-    (end_in far frames formers x.events y.events c.requires.taken.of.only end))
-    (y.nothing (played before s) (shown before s r) (told before s r)) in
-    record {
-      events = x.events ++ y.events;
-      ran = g.met.D.Desk.more _ _ _ _ _ x.ran y.ran;
-      touches = end_in far frames formers x.events y.events c.requires.taken.of.only end;
-      quiet = end_quiet (LiesInOne frames) formers x.events y.events end;
-      first = first_append (λ h. ⊥) (LiesInOne frames) x.events y.events reads.touches reads.first
-          y.first (λ h e. absurd e);
-      allowed = λ before s r. allowed_append x.events y.events (played before s)
-          (reads.steady (played before s)).allowed
-          (subst (λ (v : Shown). Allowed v y.events) (sym (reads.stays (played before s)))
-          (y.allowed (played before s) (shown before s r) (told before s r)));
-      rule = λ before s r. (all before s r).evicted;
-      sound = λ before s r. (all before s r).sound;
-      effect = λ before s r. (all before s r).effect;
-    }
+    (end_in far frames formers x.events y.events only end)) z.nothing in record {
+      allowed = end_allowed (LiesInOne frames) formers before x.events y.events s end z.allowed;
+      rule = all.evicted;
+      sound = all.sound;
+      effect = all.effect;
+    })
 
 pub returns-in-Err-clause-error : goal.returns-in-Err-clause-error
-returns-in-Err-clause-error g c =
-    let x = c.in-Err.ensures.read in
-    let far = c.args.far.now in let frames = c.args.frames.now in
-    let reads = are_reads (LiesInOne frames) x.0 x.2 in
-    gives_back_ends far frames c.args.formers.now
-    (λ es. g.D.Desk.run c.args.desk.now es c.store_frames.new.desk)
-    (λ es. g.D.Desk.run c.store_frames.new.desk es c.give_back.new.desk)
-    (λ es. g.D.Desk.run c.args.desk.now es c.give_back.new.desk)
-    (λ t. g.D.Desk.shows c.args.desk.now t) (λ t. g.D.Desk.shows c.store_frames.new.desk t) x.0
-    c.requires.taken.among c.requires.taken.of.only reads x.1 c.give_back.ensures
-    (λ es fs a b. g.met.D.Desk.more _ _ _ _ _ a b)
-    (λ before s r. subst (λ (v : Shown). g.D.Desk.shows c.store_frames.new.desk v)
-    (reads.stays (played before s)) (g.met.D.Desk.follows _ _ x.0 (played before s) x.1 r.shown).1)
+returns-in-Err-clause-error g c = gives_back_ends c.args.far.now c.args.frames.now c.args.formers.now (joins (λ es fs a b. g.met.D.Desk.more _ _ _ _ _ a b)
+    (λ es s ran a. (g.met.D.Desk.follows _ _ es s ran a).1)) c.requires.taken.among c.requires.taken.of.only c.in-Err.ensures.read c.give_back.ensures

@@ -15,6 +15,7 @@ use Rattle.cb_evict.specs.declared.eviction.Eviction.TheVariants.{Refused}
 use Rattle.cb_evict.specs.Evicting.{IsReady, TouchesSpans}
 use Rattle.cb_evict.specs.Taking.{AreLooseNow, Takes}
 use Rattle.cb_evict.proofs.Composed.{any_err, both_err, evicts_as, if_ok, leaves_as, on_err, taken_as, taken_enough, takes_evict, takes_fail, takes_few, tried_ready}
+use Rattle.cb_evict.proofs.CallParts.{joins}
 use Rattle.cb_evict.proofs.evicting.evict_counted.Goals as goal
 
 pub take_spans-requires-clause-config : goal.take_spans-requires-clause-config
@@ -87,9 +88,7 @@ evict_claimed-requires-clause-ready g c =
       s,
       subst (λ (l : List Former). IsReady (λ t. g.D.Desk.shows c.take_spans.new.desk t) c.args.far.now l x.events s)
           (sym c.deref-in-Enough.ensures.value)
-          (tried_ready c.args.far.now c.in-Enough.formers.items (AreLooseNow c.args.far.now taken.loose)
-          (λ es. g.D.Desk.run c.args.desk.now es c.take_spans.new.desk)
-          (λ t. g.D.Desk.shows c.args.desk.now t) (λ t. g.D.Desk.shows c.take_spans.new.desk t) x s
+          (tried_ready c.args.far.now c.in-Enough.formers.items (AreLooseNow c.args.far.now taken.loose) x s
           (g.met.D.Desk.follows _ _ x.events s x.ran c.requires.sound.1).1
           c.requires.sound.1 c.requires.sound.2),
     )
@@ -99,16 +98,11 @@ returns-in-Enough-clause-evict g c =
     let taken = taken_enough _ _ _ _ _ _ _ _ c.in-Enough.is c.in_ok-taken.ensures.taken in
     let stays = g.met.D.Desk.stays _ _ taken.tries.events taken.tries.ran in
     if_ok _ _ _ c.evict_claimed.result c.evict_claimed.ensures.set c.evict_claimed.ensures.evict
-    (λ e is y. takes_evict (g.D.Desk.settings c.args.desk.now) c.args.far.now
-    c.evict_claimed.new.far e c.in-Enough.frames.items c.in-Enough.formers.items
-    (λ es. g.D.Desk.run c.args.desk.now es c.take_spans.new.desk)
-    (λ es. g.D.Desk.run c.take_spans.new.desk es c.evict_claimed.new.desk)
-    (λ es. g.D.Desk.run c.args.desk.now es c.evict_claimed.new.desk)
-    (λ s. g.D.Desk.shows c.args.desk.now s) (λ s. g.D.Desk.shows c.take_spans.new.desk s) taken
+    (λ e is y. takes_evict e (joins (λ es fs a b. g.met.D.Desk.more _ _ _ _ _ a b)
+    (λ es s ran a. (g.met.D.Desk.follows _ _ es s ran a).1)) taken
     (evicts_as _ _ (g.D.Desk.settings c.args.desk.now) _ c.args.far.now c.evict_claimed.new.far _ _ _ _
     (sym stays) c.deref.ensures.value c.deref-in-Enough.ensures.value y)
-    (λ es fs a b. g.met.D.Desk.more _ _ _ _ _ a b)
-    (λ es s ran a. (g.met.D.Desk.follows _ _ es s ran a).1) is c.requires.sound)
+    is c.requires.sound)
 
 pub returns-in-Enough-clause-error : goal.returns-in-Enough-clause-error
 returns-in-Enough-clause-error g c =
@@ -120,15 +114,9 @@ returns-in-Enough-clause-error g c =
     (λ es. g.D.Desk.run c.args.desk.now es c.evict_claimed.new.desk)
     (λ s. g.D.Desk.shows c.args.desk.now s × Sound s c.args.far.now) (TouchesSpans c.args.far.now)
     (λ t. Sound t far) IsStill) (sym same)
-    (takes_fail (g.D.Desk.settings c.args.desk.now) c.args.far.now
-    c.in-Enough.frames.items c.in-Enough.formers.items
-    (λ es. g.D.Desk.run c.args.desk.now es c.take_spans.new.desk)
-    (λ es. g.D.Desk.run c.take_spans.new.desk es c.evict_claimed.new.desk)
-    (λ es. g.D.Desk.run c.args.desk.now es c.evict_claimed.new.desk)
-    (λ s. g.D.Desk.shows c.args.desk.now s) (λ s. g.D.Desk.shows c.take_spans.new.desk s) taken
-    (leaves_as _ _ c.args.far.now _ _ _ _ c.deref.ensures.value c.deref-in-Enough.ensures.value y)
-    (λ es fs a b. g.met.D.Desk.more _ _ _ _ _ a b)
-    (λ es s ran a. (g.met.D.Desk.follows _ _ es s ran a).1)))
+    (takes_fail (joins (λ es fs a b. g.met.D.Desk.more _ _ _ _ _ a b)
+    (λ es s ran a. (g.met.D.Desk.follows _ _ es s ran a).1)) taken
+    (leaves_as _ _ c.args.far.now _ _ _ _ c.deref.ensures.value c.deref-in-Enough.ensures.value y)))
 
 pub returns-in-Enough-clause-unchanged : goal.returns-in-Enough-clause-unchanged
 returns-in-Enough-clause-unchanged g c = c.evict_claimed.ensures.unchanged

@@ -47,10 +47,8 @@ returns-then-len-config-clause-found g c =
     ∙ ap (λ (far : FarState). room_count far.nodes far.members) c.far.view_is in record {
       loose = c.find_loose.new.loose.items;
       tries = looks_tried c.args.far.now c.find_loose.new.loose.items
-          (λ es. g.D.Desk.run c.args.desk.now es c.find_loose.new.desk)
-          (λ s. g.D.Desk.shows c.args.desk.now s)
-          (looks_as _ _ _ _ _ _ _ (ap (λ (far : FarState). far.spans) c.far.view_is)
-          (c.deref.ensures.value ∙ c.in_ok-frames.ensures.frames) refl c.find_loose.ensures.looks);
+          (looks_as _ _ _ _ _ _ _
+          (ap (λ (far : FarState). far.spans) c.far.view_is) (c.deref.ensures.value ∙ c.in_ok-frames.ensures.frames) refl c.find_loose.ensures.looks);
       few = inl (record {
         few = omega (arith, c.if-len-config.true, c.len-2.ensures, c.find_loose.new.loose.ok);
         reply = ap answer.NoSpans (omega (arith, c.len-then-len-config.ensures, c.find_loose.new.loose.ok));
@@ -81,10 +79,8 @@ returns-then-nodes-config-clause-found g c =
     ∙ ap (λ (far : FarState). room_count far.nodes far.members) c.far.view_is in record {
       loose = c.find_loose.new.loose.items;
       tries = looks_tried c.args.far.now c.find_loose.new.loose.items
-          (λ es. g.D.Desk.run c.args.desk.now es c.find_loose.new.desk)
-          (λ s. g.D.Desk.shows c.args.desk.now s)
-          (looks_as _ _ _ _ _ _ _ (ap (λ (far : FarState). far.spans) c.far.view_is)
-          (c.deref.ensures.value ∙ c.in_ok-frames.ensures.frames) refl c.find_loose.ensures.looks);
+          (looks_as _ _ _ _ _ _ _
+          (ap (λ (far : FarState). far.spans) c.far.view_is) (c.deref.ensures.value ∙ c.in_ok-frames.ensures.frames) refl c.find_loose.ensures.looks);
       few = inr (record {
         enough = omega (arith, c.if-len-config.false, c.len-2.ensures, c.find_loose.new.loose.ok);
         few = omega (arith, nodes, c.if-nodes-config.true);

@@ -4,7 +4,7 @@ use Rattle.cb_types.specs.declared.config.Config.{Config}
 use Rattle.cb_evict.specs.Candidates.{Names, AreLoose, AreUnique}
 use Rattle.cb_evict.specs.Events.{TouchesOnly}
 use Rattle.cb_evict.specs.Looking.{IsIn}
-use Rattle.cb_evict.proofs.Events.{touches_append, touches_more, looks_append}
+use Rattle.cb_evict.proofs.Events.{touches_append, touches_more, looks_append, looks_are_first}
 use Rattle.cb_evict.proofs.Loose.{frame_looked, in_more, in_last}
 use Rattle.cb_evict.proofs.looking.find_loose.Goals as goal
 
@@ -34,7 +34,7 @@ loop-frame-preserved g c =
     let more = take_more frames i 0 within in (
       inv.0 ++ x.events,
       g.met.D.Desk.more _ _ _ _ _ inv.1 x.ran,
-      looks_append inv.0 x.events inv.2 x.looks,
+      looks_append inv.0 x.events inv.2 x.done.0,
       subst (λ (l : List ℕ). TouchesOnly (IsIn spans l) (λ p. ⊥) (inv.0 ++ x.events)) (sym more)
           (touches_append (IsIn spans (take i frames ++ f ∷ [])) (λ p. ⊥) inv.0 x.events
           (touches_more (IsIn spans (take i frames)) (IsIn spans (take i frames ++ f ∷ [])) (λ p. ⊥) (λ p. ⊥)
@@ -43,7 +43,7 @@ loop-frame-preserved g c =
           x.events (in_last spans (take i frames) f) (λ p y. y) x.touches)),
       subst (λ (l : List ℕ). AreLoose (inv.0 ++ x.events) spans l c.look_at.new.loose.items) (sym more)
           (frame_looked spans _ frames i inv.0 x.events c.loop-frame.loose.items
-          c.look_at.new.loose.items c.requires.unique c.requires.apart within inv.4 x.touches x.finds),
+          c.look_at.new.loose.items c.requires.unique c.requires.apart within inv.4 x.touches x.done.1),
       omega (arith, inv.5, c.look_at.ensures.capacity),
       omega (arith, inv.6, c.look_at.ensures.more),
     )
@@ -55,9 +55,9 @@ returns g c =
       looks = record {
         events = inv.0;
         ran = inv.1;
-        looks = inv.2;
         touches = subst (λ (l : List ℕ). TouchesOnly (IsIn c.args.spans.now l) (λ p. ⊥) inv.0) all inv.3;
-        finds = subst (λ (l : List ℕ). AreLoose inv.0 c.args.spans.now l c.loop-frame.loose.items) all inv.4;
+        first = looks_are_first inv.0 inv.2;
+        done = (inv.2, subst (λ (l : List ℕ). AreLoose inv.0 c.args.spans.now l c.loop-frame.loose.items) all inv.4);
       };
       few = search rules;
     }

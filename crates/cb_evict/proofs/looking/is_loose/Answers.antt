@@ -2,7 +2,7 @@ use Rattle.std.proofs.Common.{◌≡◌, ℕ, ◌+◌, ◌<◌, List, [], ◌++�
 use Rattle.std.specs.Option.{IfSome}
 use Rattle.cb_types.specs.declared.config.Config.{Config}
 use Rattle.cb_evict.specs.Looking.{Has}
-use Rattle.cb_evict.proofs.Events.{touches_append, touches_more, looks_append}
+use Rattle.cb_evict.proofs.Events.{touches_append, touches_more, looks_append, looks_are_first}
 use Rattle.cb_evict.proofs.Slots.{HasBelow, slot_handle, slot_more, below_more, below_all, below_has, slot_seen, slot_found, all_found}
 use Rattle.cb_evict.proofs.looking.is_loose.Goals as goal
 
@@ -35,14 +35,14 @@ loop-slot-preserved g c =
     let e = ap (λ (l : List (Option ℕ)). get_or l i None) c.slots-slot-items.ensures.slots in (
       inv.0 ++ x.events,
       g.met.D.Desk.more _ _ _ _ _ inv.1 x.ran,
-      looks_append inv.0 x.events inv.2 x.looks,
+      looks_append inv.0 x.events inv.2 x.done.0,
       touches_append (HasBelow span (i + 1)) (λ p. ⊥) inv.0 x.events
           (touches_more (HasBelow span i) (HasBelow span (i + 1)) (λ p. ⊥) (λ p. ⊥) inv.0 (below_more span i) (λ p y. y) inv.3)
           (touches_more (λ h. slot ≡ Some h) (HasBelow span (i + 1)) (λ p. ⊥) (λ p. ⊥) x.events
           (slot_more span i slot e) (λ p y. y) x.touches),
-      slot_seen span i slot inv.0 x.events e c.requires.apart x.touches c.is_slot_loose-loose.result inv.4 x.finds,
+      slot_seen span i slot inv.0 x.events e c.requires.apart x.touches c.is_slot_loose-loose.result inv.4 x.done.1,
       slot_found span i slot inv.0 x.events e c.requires.apart x.touches c.loop-slot.loose
-          c.is_slot_loose-loose.result inv.5 x.finds,
+          c.is_slot_loose-loose.result inv.5 x.done.1,
     )
 
 pub returns : goal.returns
@@ -52,8 +52,13 @@ returns g c =
     let count = ap (λ (l : List (Option ℕ)). length l) c.slots-slot-items.ensures.slots in record {
       events = inv.0;
       ran = inv.1;
-      looks = inv.2;
       touches = touches_more (HasBelow span i) (Has span) (λ p. ⊥) (λ p. ⊥) inv.0 (below_has span i) (λ p y. y) inv.3;
-      seen = λ h has. inv.4 h (below_all span i h (search rules) has);
-      finds = all_found span i inv.0 c.loop-slot.loose (search rules) inv.5;
+      first = looks_are_first inv.0 inv.2;
+      done = (
+        inv.2,
+        (
+          λ h has. inv.4 h (below_all span i h (search rules) has),
+          all_found span i inv.0 c.loop-slot.loose (search rules) inv.5,
+        ),
+      );
     }

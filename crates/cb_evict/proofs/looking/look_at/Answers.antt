@@ -1,7 +1,7 @@
 use Rattle.std.proofs.Common.{refl, rules, inl, inr}
 use Rattle.cb_evict.specs.Candidates.{Names}
 use Rattle.cb_evict.specs.Looking.{Has}
-use Rattle.cb_evict.proofs.Events.{touches_more}
+use Rattle.cb_evict.proofs.CallParts.{part_more}
 use Rattle.cb_evict.proofs.Filling.{got_span}
 use Rattle.cb_evict.proofs.Loose.{has_names, names_has, span_below, span_once}
 use Rattle.cb_evict.proofs.looking.look_at.Goals as goal
@@ -23,31 +23,25 @@ returns-then-is_loose-clause-looks g c =
     let spans = c.args.spans.now in let f = c.args.frame in let span = c.unwrap-span.result.now in
     let there = got_span _ spans f c.get.result c.unwrap-span.result
     c.get.ensures.span c.unwrap-span.ensures in
-    let x = c.if-is_loose.ensures in record {
-      events = x.events;
-      ran = x.ran;
-      looks = x.looks;
-      touches = touches_more (Has span) (Names spans f) (λ p. ⊥) (λ p. ⊥) x.events
-          (λ h. has_names spans f h span there) (λ p y. y) x.touches;
-      finds = inl (λ h named. x.finds h (names_has spans f h span there named), search rules);
-    }
+    let x = c.if-is_loose.ensures in
+    part_more (Names spans f) (λ p. ⊥) _ x (λ h. has_names spans f h span there) (λ p y. y) (
+      x.done.0,
+      inl (λ h named. x.done.1.1 h (names_has spans f h span there named), search rules),
+    )
 
 pub returns-else-is_loose-clause-looks : goal.returns-else-is_loose-clause-looks
 returns-else-is_loose-clause-looks g c =
     let spans = c.args.spans.now in let f = c.args.frame in let span = c.unwrap-span.result.now in
     let there = got_span _ spans f c.get.result c.unwrap-span.result
     c.get.ensures.span c.unwrap-span.ensures in
-    let x = c.if-is_loose.ensures in let held = x.finds in record {
-      events = x.events;
-      ran = x.ran;
-      looks = x.looks;
-      touches = touches_more (Has span) (Names spans f) (λ p. ⊥) (λ p. ⊥) x.events
-          (λ h. has_names spans f h span there) (λ p y. y) x.touches;
-      finds = inr (
+    let x = c.if-is_loose.ensures in let held = x.done.1.1 in
+    part_more (Names spans f) (λ p. ⊥) _ x (λ h. has_names spans f h span there) (λ p y. y) (
+      x.done.0,
+      inr (
         record {
-          seen = λ h named. x.seen h (names_has spans f h span there named);
+          seen = λ h named. x.done.1.0 h (names_has spans f h span there named);
           barred = (held.0, held.1, has_names spans f held.0 span there held.2, held.3, held.4);
         },
         refl,
-      );
-    }
+      ),
+    )

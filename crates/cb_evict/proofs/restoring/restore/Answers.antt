@@ -73,8 +73,10 @@ returns g c =
       events = inv.0;
       ran = inv.1;
       touches = inv.2;
-      quiet = inv.3;
       first = inv.4;
-      restored = λ s far a sound claimed.
-          subst (λ (l : List Former). IsRestoring far inv.0 s l) all (inv.5 s far a sound claimed);
+      done = (
+        inv.3,
+        λ s far a sound claimed.
+            subst (λ (l : List Former). IsRestoring far inv.0 s l) all (inv.5 s far a sound claimed),
+      );
     }

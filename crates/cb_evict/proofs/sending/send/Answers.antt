@@ -11,10 +11,11 @@ use Rattle.cb_world.specs.Played.{played}
 use Rattle.cb_world.specs.Written.{written_by}
 use Rattle.cb_world.proofs.Laws.{played_append, written_append, allowed_append}
 use Rattle.cb_evict.specs.Claiming.{IsOne}
-use Rattle.cb_evict.specs.Sending.{AreSent}
+use Rattle.cb_evict.specs.Sending.{AreSent, IsSending, IsSent}
 use Rattle.cb_evict.proofs.Events.{touches_append, no_look_append, first_append}
 use Rattle.cb_evict.proofs.Claims.{no_former, former_at}
-use Rattle.cb_evict.proofs.Sends.{may_send, sent_written, sent_none, still_told, sent_more}
+use Rattle.cb_evict.proofs.ChangedObjects.{changed_none}
+use Rattle.cb_evict.proofs.Sends.{may_send, sent_written, still_told, sent_more}
 use Rattle.cb_evict.proofs.sending.send.Goals as goal
 
 pub loop-former-init : goal.loop-former-init
@@ -25,7 +26,7 @@ loop-former-init g c = (
   (λ k. tt),
   tt,
   λ s a told.
-      (sent_none s, tt, λ old. refl),
+      record { sent = changed_none s (IsSent s s); allowed = tt; nothing = λ old. refl },
 )
 
 pub settle-requires-clause-handle : goal.settle-requires-clause-handle
@@ -40,7 +41,7 @@ settle-requires-clause-may g c =
     let inv = c.loop-former.invariant in let had = c.requires.told in let s = had.0 in
     let fs = c.args.formers.now in let i = c.loop-former.former-index in
     let so = inv.5 s had.1 had.2 in
-    let x = still_told s (played inv.0 s) fs i no_former c.requires.apart c.loop-former-test.true had.2 so.0 in (
+    let x = still_told s (played inv.0 s) fs i no_former c.requires.apart c.loop-former-test.true had.2 so.sent in (
       played inv.0 s,
       (g.met.D.Desk.follows _ _ inv.0 s inv.1 had.1).1,
       may_send (played inv.0 s) (get_or fs i no_former) c.far_word.result x (search rules),
@@ -61,15 +62,15 @@ loop-former-preserved g c =
       first_append (IsOne fs) (λ p. ⊥) es last inv.2 inv.4 (tt, tt) (λ h o. ((λ w e. e), tt)),
       λ s a told.
           let so = inv.5 s a told in
-          let x = still_told s (played es s) fs i no_former c.requires.apart c.loop-former-test.true told so.0 in (
-            subst (λ (q : Shown). AreSent s q (take (i + 1) fs)) (sym (played_append es last s))
+          let x = still_told s (played es s) fs i no_former c.requires.apart c.loop-former-test.true told so.sent in record {
+            sent = subst (λ (q : Shown). AreSent s q (take (i + 1) fs)) (sym (played_append es last s))
                 (sent_more s (played es s) fs i c.far_word.result no_former c.requires.apart
-                c.loop-former-test.true told so.0 far),
-            allowed_append es last s so.1 (may_send (played es s) f c.far_word.result x far, tt),
-            λ old. written_append es last s old
-                ∙ ap (λ (l : List Entry). written_by last (played es s) l) (so.2 old)
-                ∙ sent_written (played es s) f.handle c.far_word.result (len_of f.word) far old,
-          ),
+                c.loop-former-test.true told so.sent far);
+            allowed = allowed_append es last s so.allowed (may_send (played es s) f c.far_word.result x far, tt);
+            nothing = λ old. written_append es last s old
+                ∙ ap (λ (l : List Entry). written_by last (played es s) l) (so.nothing old)
+                ∙ sent_written (played es s) f.handle c.far_word.result (len_of f.word) far old;
+          },
     )
 
 pub returns : goal.returns
@@ -79,9 +80,10 @@ returns g c =
       events = inv.0;
       ran = inv.1;
       touches = inv.2;
-      quiet = inv.3;
       first = inv.4;
-      allowed = λ s a told. (inv.5 s a told).1;
-      nothing = λ s a told. (inv.5 s a told).2;
-      sent = λ s a told. subst (λ (l : List Former). AreSent s (played inv.0 s) l) all (inv.5 s a told).0;
+      done = (
+        inv.3,
+        λ s a told.
+            subst (λ (l : List Former). IsSending inv.0 s l) all (inv.5 s a told),
+      );
     }

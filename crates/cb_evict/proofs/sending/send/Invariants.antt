@@ -1,13 +1,10 @@
-use Rattle.std.proofs.Common.{ℕ, List, [], All, take}
+use Rattle.std.proofs.Common.{ℕ, List, All, take}
 use Rattle.cb_world.specs.declared.event.Event.{Event}
 use Rattle.cb_world.specs.declared.shown.Shown.{Shown}
-use Rattle.cb_world.specs.Played.{played}
 use Rattle.cb_world.specs.Looks.{NoLook, LooksFirst}
-use Rattle.cb_world.specs.Allowed.{Allowed}
-use Rattle.cb_world.specs.Written.{Writes}
 use Rattle.cb_evict.specs.Events.{TouchesOnly}
 use Rattle.cb_evict.specs.Claiming.{IsOne}
-use Rattle.cb_evict.specs.Sending.{IsTold, AreSent}
+use Rattle.cb_evict.specs.Sending.{IsTold, IsSending}
 use Rattle.cb_evict.proofs.sending.send.Given as goal
 
 -- the earlier objects were put away
@@ -15,4 +12,4 @@ abbrev pub invariant-loop-former : goal.invariant-loop-former
 invariant-loop-former g l = (es : List Event) × g.D.Desk.run l.fn.desk es l.desk
     × TouchesOnly (IsOne l.formers) (λ p. ⊥) es × ((k : ℕ) → NoLook k es) × LooksFirst es
     × ((s : Shown) → g.D.Desk.shows l.fn.desk s → All (IsTold s) l.formers
-    → AreSent s (played es s) (take l.former-index l.formers) × Allowed s es × Writes es s [])
+    → IsSending es s (take l.former-index l.formers))

@@ -14,7 +14,7 @@ pub returns-in_err-next_put-clause-error : goal.returns-in_err-next_put-clause-e
 returns-in_err-next_put-clause-error g c =
     any_err _ _ (reads_alone (λ es. g.D.Desk.run c.args.desk.now es c.args.desk.now)
     (λ s. g.D.Desk.shows c.args.desk.now s) c.args.far.now c.args.far.now refl
-    (record { events = []; ran = g.met.D.Desk.none _; reads = tt }))
+    ([], g.met.D.Desk.none _, tt))
 
 pub returns-in_err-ship_row-in-Put-clause-error : goal.returns-in_err-ship_row-in-Put-clause-error
 returns-in_err-ship_row-in-Put-clause-error g c =

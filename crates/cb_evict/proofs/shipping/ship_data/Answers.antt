@@ -52,7 +52,7 @@ returns-in_err-row-clause-unchanged g c = any_err _ _ refl
 pub returns-in_err-row-clause-err : goal.returns-in_err-row-clause-err
 returns-in_err-row-clause-err g c =
     let nothing : PutsNothing (λ es. g.D.Desk.run c.args.desk.now es c.args.desk.now) c.args.far.now =
-    record { events = []; ran = g.met.D.Desk.none _; reads = tt } in any_err _ _ nothing
+    ([], g.met.D.Desk.none _, tt) in any_err _ _ nothing
 
 pub load_frame-requires-clause-config : goal.load_frame-requires-clause-config
 load_frame-requires-clause-config g c = c.requires.config

@@ -85,4 +85,4 @@ returns-in-None-clause-unchanged g c = c.ship_parity.ensures.err
 pub returns-in-None-clause-err : goal.returns-in-None-clause-err
 returns-in-None-clause-err g c =
     let nothing : PutsNothing (λ es. g.D.Desk.run c.args.desk.now es c.args.desk.now) c.args.far.now =
-    record { events = []; ran = g.met.D.Desk.none _; reads = tt } in any_err _ _ nothing
+    ([], g.met.D.Desk.none _, tt) in any_err _ _ nothing

@@ -1,6 +1,6 @@
 use Rattle.std.proofs.lemmas.Result.{IfOk-from_err}
 use Rattle.std.proofs.lemmas.List.{length-append, take_at}
-use Rattle.std.proofs.Common.{◌≡◌, ◌<◌, ℕ, List, ◌++◌, length, get_or, All, refl, sym, ap, ◌∙◌, subst, arith, inl}
+use Rattle.std.proofs.Common.{◌≡◌, ◌<◌, List, ◌++◌, length, get_or, All, refl, sym, ap, ◌∙◌, subst, arith, inl}
 use Rattle.cb_types.specs.declared.reply.Reply.TheVariants as answer
 use Rattle.cb_world.specs.declared.leaving.Former.{Former}
 use Rattle.cb_world.specs.Played.{played}
@@ -11,6 +11,7 @@ use Rattle.cb_evict.specs.Claiming.{GivesBack}
 use Rattle.cb_evict.proofs.Composed.{any_err, are_taken, back_tried, claims_as, claims_tried}
 use Rattle.cb_evict.proofs.Ending.{handles_all}
 use Rattle.cb_evict.proofs.Standing.{are_unique, ready_frame}
+use Rattle.cb_evict.proofs.CallParts.{joins}
 use Rattle.cb_evict.proofs.taking.claim_first.Goals as goal
 
 pub returns-in_err-frames-clause-error : goal.returns-in_err-frames-clause-error
@@ -41,8 +42,8 @@ claim_spans-requires-clause-sound g c =
 
 pub give_back-requires-clause-handles : goal.give_back-requires-clause-handles
 give_back-requires-clause-handles g c =
-    let s = c.requires.sound.0 in let x = c.claim_spans.ensures.claims in
-    let a = x.claims c.args.far.now s c.requires.sound.1 c.requires.sound.2.here in
+    let s = c.requires.sound.0 in let x = c.claim_spans.ensures.claims.part in
+    let a = x.done.1 c.args.far.now s c.requires.sound.1 c.requires.sound.2.here in
     let sized = g.met.D.Desk.sized _ (played x.events s)
     (g.met.D.Desk.follows _ _ x.events s x.ran c.requires.sound.1).1 in
     subst (λ (l : List Former). All (λ f. f.handle < (g.D.Desk.settings c.claim_spans.new.desk).handles) l)
@@ -54,8 +55,8 @@ give_back-requires-clause-apart g c =
 
 pub give_back-requires-clause-held : goal.give_back-requires-clause-held
 give_back-requires-clause-held g c =
-    let s = c.requires.sound.0 in let x = c.claim_spans.ensures.claims in
-    let a = x.claims c.args.far.now s c.requires.sound.1 c.requires.sound.2.here in (
+    let s = c.requires.sound.0 in let x = c.claim_spans.ensures.claims.part in
+    let a = x.done.1 c.args.far.now s c.requires.sound.1 c.requires.sound.2.here in (
       played x.events s,
       (g.met.D.Desk.follows _ _ x.events s x.ran c.requires.sound.1).1,
       (
@@ -73,18 +74,12 @@ returns-then-len-k-clause-taken g c =
     let few : length c.claim_spans.new.frames.items < c.args.config.k =
     omega (arith, c.if-len-k.true, c.len.ensures) in record {
       loose = c.claim_spans.new.frames.items;
-      tries = back_tried c.args.far.now c.args.loose.now c.claim_spans.new.frames.items
-          c.claim_spans.new.formers.items c.args.config.k
-          (λ es. g.D.Desk.run c.args.desk.now es c.claim_spans.new.desk)
-          (λ es. g.D.Desk.run c.claim_spans.new.desk es c.give_back.new.desk)
-          (λ es. g.D.Desk.run c.args.desk.now es c.give_back.new.desk)
-          (λ s. g.D.Desk.shows c.args.desk.now s) (λ s. g.D.Desk.shows c.claim_spans.new.desk s)
-          c.requires.among x
+      tries = back_tried c.args.far.now (joins (λ es fs a b. g.met.D.Desk.more _ _ _ _ _ a b)
+          (λ es s ran a. (g.met.D.Desk.follows _ _ es s ran a).1)) c.requires.among x
           (subst (λ (l : List Former). GivesBack
           (λ es. g.D.Desk.run c.claim_spans.new.desk es c.give_back.new.desk)
           (λ s. g.D.Desk.shows c.claim_spans.new.desk s) l) c.deref.ensures.value c.give_back.ensures)
-          (λ es fs a b. g.met.D.Desk.more _ _ _ _ _ a b)
-          (λ es s ran a. (g.met.D.Desk.follows _ _ es s ran a).1) few;
+          few;
       few = inl (record {
         few = few;
         reply = ap answer.NoSpans (omega (arith, c.len-spans.ensures, c.claim_spans.new.frames.ok));
@@ -102,9 +97,7 @@ returns-clause-taken g c =
     omega (arith, c.if-len-k.false, c.len.ensures, x.few, c.claim_spans.new.frames.ok) in
     let more = length-append frames x.rest in record {
       loose = frames ++ x.rest;
-      tries = claims_tried c.args.far.now c.args.loose.now frames c.claim_spans.new.formers.items
-          c.args.config.k (λ es. g.D.Desk.run c.args.desk.now es c.claim_spans.new.desk)
-          (λ s. g.D.Desk.shows c.args.desk.now s) c.requires.among x;
+      tries = claims_tried c.args.far.now c.requires.among x;
       enough = omega (arith, more, count);
       first = sym (take_at frames x.rest c.args.config.k count);
       room = c.requires.room;

@@ -1,6 +1,6 @@
 use Rattle.std.proofs.lemmas.Result.{IfOk-from_err}
 use Rattle.std.proofs.lemmas.List.{append-nil}
-use Rattle.std.proofs.Common.{◌≢◌, ℕ, List, [], All, sym, subst, ◌∙◌}
+use Rattle.std.proofs.Common.{◌≢◌, ℕ, List, All, sym, subst, ◌∙◌}
 use Rattle.std.specs.List.{Contains, AllPairs}
 use Rattle.cb_types.specs.Config.{IsAccepted}
 use Rattle.cb_types.specs.declared.config.Config.{Config}
@@ -17,6 +17,7 @@ use Rattle.cb_evict.proofs.Loose.{loose_among}
 use Rattle.cb_evict.proofs.Ending.{place_in}
 use Rattle.cb_evict.proofs.Restored.{looked}
 use Rattle.cb_evict.proofs.Standing.{candidates_apart}
+use Rattle.cb_evict.proofs.CallParts.{joins}
 use Rattle.cb_evict.proofs.taking.take_spans.Goals as goal
 
 pub find_spans-requires-clause-config : goal.find_spans-requires-clause-config
@@ -62,7 +63,7 @@ claim_first-requires-clause-sound g c =
     let x = found.looks in let s = c.requires.sound.0 in (
       played x.events s,
       (g.met.D.Desk.follows _ _ x.events s x.ran c.requires.sound.1).1,
-      (looked c.args.far.now x.events s c.requires.sound.2 x.looks).0,
+      (looked c.args.far.now x.events s c.requires.sound.2 x.done.0).0,
     )
 
 pub claim_first-requires-clause-among : goal.claim_first-requires-clause-among
@@ -71,7 +72,7 @@ claim_first-requires-clause-among g c =
     let x = found.looks in
     subst (λ (l : List ℕ). All (Contains (candidates c.args.far.now)) l) (sym c.deref.ensures.value)
     (λ k d l. loose_among x.events c.args.far.now.spans (candidates c.args.far.now)
-    c.in-Loose.frames.items _ x.finds (place_in c.in-Loose.frames.items k d l))
+    c.in-Loose.frames.items _ x.done.1 (place_in c.in-Loose.frames.items k d l))
 
 pub claim_first-requires-clause-apart : goal.claim_first-requires-clause-apart
 claim_first-requires-clause-apart g c =
@@ -79,7 +80,7 @@ claim_first-requires-clause-apart g c =
     let x = found.looks in
     subst (λ (l : List ℕ). AllPairs (λ f h. f ≢ h) l) (sym c.deref.ensures.value)
     (loose_apart x.events c.args.far.now (candidates c.args.far.now) c.in-Loose.frames.items
-    (candidates_apart c.args.far.now) x.finds)
+    (candidates_apart c.args.far.now) x.done.1)
 
 pub claim_first-requires-clause-room : goal.claim_first-requires-clause-room
 claim_first-requires-clause-room g c =
@@ -93,14 +94,8 @@ pub returns-in-Loose-clause-taken : goal.returns-in-Loose-clause-taken
 returns-in-Loose-clause-taken g c =
     let found = found_loose _ _ _ _ _ _ _ c.in-Loose.is c.in_ok-found.ensures.found in
     if_map _ _ c.claim_first.result c.claim_first.ensures.taken (λ taken y.
-    looked_takes c.args.far.now c.in-Loose.frames.items
-    (λ es. g.D.Desk.run c.args.desk.now es c.find_spans.new.desk)
-    (λ es. g.D.Desk.run c.find_spans.new.desk es c.claim_first.new.desk)
-    (λ es. g.D.Desk.run c.args.desk.now es c.claim_first.new.desk)
-    (λ s. g.D.Desk.shows c.args.desk.now s) (λ s. g.D.Desk.shows c.find_spans.new.desk s)
-    found.looks
-    (λ es fs a b. g.met.D.Desk.more _ _ _ _ _ a b)
-    (λ es s ran a. (g.met.D.Desk.follows _ _ es s ran a).1)
+    looked_takes c.args.far.now c.in-Loose.frames.items (joins (λ es fs a b. g.met.D.Desk.more _ _ _ _ _ a b)
+    (λ es s ran a. (g.met.D.Desk.follows _ _ es s ran a).1)) found.looks
     (g.D.Desk.settings c.args.desk.now) c.config-config.result taken c.config-config.ensures
     (subst (λ (l : List ℕ). Takes (λ es. g.D.Desk.run c.find_spans.new.desk es c.claim_first.new.desk)
     (λ s. g.D.Desk.shows c.find_spans.new.desk s) c.config-config.result c.args.far.now
@@ -110,9 +105,6 @@ pub returns-in-Loose-clause-error : goal.returns-in-Loose-clause-error
 returns-in-Loose-clause-error g c =
     let found = found_loose _ _ _ _ _ _ _ c.in-Loose.is c.in_ok-found.ensures.found in
     on_err _ _ c.claim_first.result c.claim_first.ensures.error (λ ran.
-    looked_fails c.args.far.now c.in-Loose.frames.items
-    (λ es. g.D.Desk.run c.args.desk.now es c.find_spans.new.desk)
-    (λ es. g.D.Desk.run c.args.desk.now es c.claim_first.new.desk)
-    (λ s. g.D.Desk.shows c.args.desk.now s) found.looks
+    looked_fails c.args.far.now c.in-Loose.frames.items found.looks
     (λ es a. subst (λ (l : List Event). g.D.Desk.run c.args.desk.now l c.claim_first.new.desk)
     (append-nil es) (g.met.D.Desk.more _ _ _ _ _ a ran)))
