@@ -31,9 +31,9 @@ use Rattle.cb_rule.specs.declared.turn.Turn.{Turn}
 use Rattle.cb_rule.specs.declared.view.View.{View}
 use Rattle.cb_rule.specs.Lists.{Has}
 use Rattle.cb_rule.specs.OneHistory.{IsOneHistory}
-use Rattle.cb_record.specs.Backs.{Backs, Tells, happened_at, happened_for, turn_at, turn_of}
+use Rattle.cb_record.specs.Backs.{Backs, Tells, happened_at, happened_for, turn_at, turn_needed}
 use Rattle.cb_record.specs.Deeds.{Deed, deed, happened, happening}
-use Rattle.cb_record.specs.Lists.{HasOne, IsAmong, beside, both, ended, newest_first}
+use Rattle.cb_record.specs.Lists.{HasOne, IsSublist, beside, both, ended, newest_first}
 use Rattle.cb_record.specs.Needs.{IsTurnFor, Meets, need_of}
 use Rattle.cb_record.specs.Parts.{Part}
 use Rattle.cb_record.specs.Told.{tolds}
@@ -220,7 +220,7 @@ all_evict c (t ∷ ts) each d (inl is) = subst (Evicts c) is (each t (inl refl))
 all_evict c (t ∷ ts) each d (inr later) =
     all_evict c ts (λ u there. each u (inr there)) d later
 
-has_among : {A : Type 0} (xs ys : List A) (x : A) → IsAmong xs ys → Has x xs → Has x ys
+has_among : {A : Type 0} (xs ys : List A) (x : A) → IsSublist xs ys → Has x xs → Has x ys
 has_among _ _ x ended there = absurd there
 has_among _ _ x (beside xs y ys among) there = inr (has_among xs ys x among there)
 has_among _ _ x (both y xs ys among) (inl is) = inl is
@@ -295,12 +295,12 @@ module _ (first : ℕ) (c : Config) (ok : IsAccepted c) (v : View) (count : ℕ)
 
   rooms : (before after : List Answer) → AllByRecursion HasLineReply after
       → AllByRecursion InThreads after
-      → ((d : Deed) → Has d (newest_first turn_of (tolds before after)) → Evicts c d)
+      → ((d : Deed) → Has d (newest_first turn_needed (tolds before after)) → Evicts c d)
       → AllByRecursion (Tells (part_of v)) (tolds before after)
       → AllByRecursion (λ a. TellsRoom c a.reply) after
   rooms before [] replies runs tells each = tt
   rooms before (a ∷ after) replies runs tells each =
-      let later : List Deed = newest_first turn_of (tolds (before ++ a ∷ []) after) in
+      let later : List Deed = newest_first turn_needed (tolds (before ++ a ∷ []) after) in
       let own : List Deed = turn_at (handle_for before a.request a.reply) a.request a.reply in (
         room_reply (handle_for before a.request a.reply) a.request a.reply runs.0 replies.0
             (λ d there. tells d (has_right d later own there)) each.0,
@@ -318,5 +318,6 @@ module _ (first : ℕ) (c : Config) (ok : IsAccepted c) (v : View) (count : ℕ)
       → AllByRecursion (λ a. TellsRoom c a.reply) answers
   answers_room replies runs = rooms [] answers replies runs (λ d there. all_evict c v.turns
       (λ t in_it. turn_evicts c t (one.did t (v, (0, refl), in_it))) d
-      (has_among (newest_first turn_of (tolds [] answers)) (map deed v.turns) d backs.turned there))
+      (has_among (newest_first turn_needed (tolds [] answers)) (map deed v.turns) d backs.turned
+      there))
       backs.tells

@@ -12,7 +12,7 @@ use Rattle.std.proofs.lemmas.Map.Keys.{IsDistinct-cons}
 use Rattle.std.proofs.lemmas.Map.Made.{length-le_from_is_member}
 use Rattle.cb_member.specs.declared.names.Epoch.{Epoch}
 use Rattle.cb_member.specs.declared.names.Loss.{Loss}
-use Rattle.cb_member.specs.Membership.{state_of}
+use Rattle.cb_member.specs.Membership.{node_state}
 use Rattle.cb_types.specs.declared.answer.Answer.{Answer}
 use Rattle.cb_types.specs.declared.config.Config.{Config}
 use Rattle.cb_types.specs.Config.{IsAccepted}
@@ -150,7 +150,7 @@ module _ (first : ℕ) (s : Script) (ok : IsAccepted s.config) (v : View) (count
   -- the nodes that have crashed when a turn was taken are those of crash lines
   crashed : (t : Turn) → Has t v.turns → CrashedAmong nodes t.took.members
   crashed t there node some =
-      let x = first_epoch (state_of t.took.members node).crashes some in
+      let x = first_epoch (node_state t.took.members node).crashes some in
       named (record { node = node; epoch = x.0 }) (is_loss v answers losses backs are_losses
       (record { node = node; epoch = x.0 })
       (found_crashes first c ok v count last one t there node 0 x.0 x.1))

@@ -9,7 +9,7 @@ use Rattle.cb_member.specs.declared.names.Epoch.{Epoch}
 use Rattle.cb_member.specs.declared.names.Loss.{Loss}
 use Rattle.cb_member.specs.declared.names.NodeId.{NodeId}
 use Rattle.cb_member.specs.declared.names.Shard.{Shard}
-use Rattle.cb_member.specs.Membership.{Membership, NodeState, crashed_at, fresh_node, next_epoch, state_of, with_crash, with_join, with_state}
+use Rattle.cb_member.specs.Membership.{Membership, NodeState, crashed_at, fresh_node, next_epoch, node_state, with_crash, with_join, with_state}
 use Rattle.cb_member.proofs.Laws.{none_crashed_at_first}
 use Rattle.cb_set.specs.Lost.{lost}
 use Rattle.cb_set.specs.Nodes.{OnDistinctNodes}
@@ -30,14 +30,14 @@ use Rattle.cb_rule.specs.Locking.{turn_number}
 use Rattle.cb_rule.specs.OneHistory.{IsOneHistory}
 use Rattle.cb_shared.specs.Turning.{Did}
 use Rattle.cb_app.specs.Telling.{AreOfOtherNodes}
-use Rattle.cb_app.proofs.TurnGoes.{GoesOn, IsCrammed}
+use Rattle.cb_app.proofs.TurnGoes.{IsCrammed, MembersGoOn}
 use Rattle.cb_app.proofs.TurnHistory.{TellsIf, TurnGoes, at_turn, each_goes}
 
 -- ---- the members, where one node has a new state
 -- a node is that one, or has the state that it had
 by_node : (m : Membership) (node q : NodeId) (s : NodeState)
-    → ((q.n ≡ node.n) × (state_of (with_state m node s) q ≡ s))
-    ⊎ (state_of (with_state m node s) q ≡ state_of m q)
+    → ((q.n ≡ node.n) × (node_state (with_state m node s) q ≡ s))
+    ⊎ (node_state (with_state m node s) q ≡ node_state m q)
 by_node m node q s = elim (cases_eq q.n node.n) [
   | inl e ↦ elim (cases_lt node.n (length m.nodes)) [
     | inl inside ↦ inl (
@@ -73,14 +73,14 @@ crash_cases m node q which epoch e = by (by_node m node q s)
     s : NodeState
     s = record {
       up = false;
-      incarnation = (state_of m node).incarnation;
-      crashes = (state_of m node).crashes ++ next_epoch m ∷ [];
+      incarnation = (node_state m node).incarnation;
+      crashes = (node_state m node).crashes ++ next_epoch m ∷ [];
     }
 
-    by : ((q.n ≡ node.n) × (state_of (with_state m node s) q ≡ s))
-        ⊎ (state_of (with_state m node s) q ≡ state_of m q)
+    by : ((q.n ≡ node.n) × (node_state (with_state m node s) q ≡ s))
+        ⊎ (node_state (with_state m node s) q ≡ node_state m q)
         → (crashed_at m q which ≡ Some epoch) ⊎ ((node ≡ q) × (next_epoch m ≡ epoch))
-    by (inl z) = elim (at_last_one (state_of m node).crashes (next_epoch m) epoch which
+    by (inl z) = elim (at_last_one (node_state m node).crashes (next_epoch m) epoch which
         (ap (λ (x : NodeState). slice_get x.crashes which) (sym z.1) ∙ e)) [
           | inl before ↦ inl (ap (λ (n : ℕ). slice_get (get_or m.nodes n fresh_node).crashes which) z.0 ∙ before)
           | inr now ↦ inr ((λ i. record { n = sym z.0 i }), now)
@@ -95,12 +95,12 @@ join_cases m node q which = by (by_node m node q s)
     s : NodeState
     s = record {
       up = true;
-      incarnation = (state_of m node).incarnation + 1;
-      crashes = (state_of m node).crashes;
+      incarnation = (node_state m node).incarnation + 1;
+      crashes = (node_state m node).crashes;
     }
 
-    by : ((q.n ≡ node.n) × (state_of (with_state m node s) q ≡ s))
-        ⊎ (state_of (with_state m node s) q ≡ state_of m q)
+    by : ((q.n ≡ node.n) × (node_state (with_state m node s) q ≡ s))
+        ⊎ (node_state (with_state m node s) q ≡ node_state m q)
         → crashed_at (with_join m node) q which ≡ crashed_at m q which
     by (inl z) = ap (λ (x : NodeState). slice_get x.crashes which) z.1
         ∙ ap (λ (n : ℕ). slice_get (get_or m.nodes n fresh_node).crashes which) (sym z.0)
@@ -195,7 +195,7 @@ crashes_same : (ts : List Turn) (old new : Membership) → new ≡ old → AreCr
 crashes_same ts old new same are = subst (AreCrashes ts) (sym same) are
 
 crashes_after : (ts : List Turn) (t : Turn) → Has t ts → (j : Job) (old new : Membership)
-    (r : Option Reply) → t.job ≡ j → t.reply ≡ r → GoesOn j old new r → AreCrashes ts old
+    (r : Option Reply) → t.job ≡ j → t.reply ≡ r → MembersGoOn j old new r → AreCrashes ts old
     → AreCrashes ts new
 crashes_after ts t there (job.Crash node) old new r at tells (inl x) are =
     crashes_same ts old new x.0 are

@@ -33,8 +33,8 @@ use Rattle.cb_lanes.specs.Scoped.{AreScoped}
 use Rattle.cb_lanes.specs.Suits.{AreSuited}
 use Rattle.cb_lanes.proofs.Laws.{are_suited_both, are_suited_more, has_split}
 use Rattle.cb_workers.specs.declared.worker.Worker.{Worker as Worker'}
-use Rattle.cb_app.specs.ByLane.{AreApart, AreOfOthers, IsApart, by_lane, flat, has_lines, lanes_up_to, of_lane}
-use Rattle.cb_app.specs.Crew.{AllMade, AreFirst, AreMade, BodyIsReady, HasText, IsDealt, IsFresh, IsDealtOne, IsEnded, IsReady, IsTold, RiseWith, TakesIn, lines_due, lines_in, lines_left, part_of, turns_due, work_in}
+use Rattle.cb_app.specs.ByLane.{AreLanesApart, AreOfOthers, IsApart, by_lane, flat, has_lines, lanes_up_to, of_lane}
+use Rattle.cb_app.specs.Crew.{AllMade, AreFirst, AreMade, BodyIsReady, HasText, IsDealt, IsFreshRecord, IsDealtOne, IsEnded, IsTaskReady, IsLaneTold, RiseWith, TakesIn, lines_due, lines_in, lines_left, part_of, turns_due, work_in}
 use Rattle.cb_app.specs.OwnLines.{KeepAloneWith}
 use Rattle.cb_app.specs.declared.crew.Body.{Body}
 use Rattle.cb_app.specs.declared.crew.Body.TheVariants.{Lane, Worker}
@@ -65,7 +65,7 @@ both_suit xs ys ts us a b = are_suited_both (ys ++ xs) ts us
 -- the answers and the record of both
 pub taken_in : (s : Shared) (given others : List Answer) (lines : List Line) (a e b : LaneEnd)
     → a.answers ≡ given ++ others
-    → IsTold s [] (map asked a.answers) a → IsTold s given lines e
+    → IsLaneTold s [] (map asked a.answers) a → IsLaneTold s given lines e
     → IsApart (map asked others) lines → AreOfOthers (map asked others) lines → AreFirst given
     → IsPassOf s b.pass
     → record_of b.pass ≡ joined (record_of a.pass) (unpinned_all (record_of e.pass))
@@ -139,16 +139,16 @@ pub record IsTaking (s : Shared) (script : List Line) (given : List Answer) (all
     : Type 0 where
   pub others : List Answer
   pub answers : first.answers ≡ given ++ others
-  pub told : IsTold s [] (map asked first.answers) first
+  pub told : IsLaneTold s [] (map asked first.answers) first
   pub ended : All (IsEnded s script given) left
-  pub apart : AreApart (map asked others) (map (lines_left script) left)
+  pub apart : AreLanesApart (map asked others) (map (lines_left script) left)
   pub lines : map asked others ++ flat (map (lines_left script) left) ≡ flat (map (lines_left script) all)
   pub work : (w : Worker') (tasks : List Task) → AllMade w tasks all
       → AreOwed w tasks left (record_of first.pass)
 
 pub taking_from : (s : Shared) (lines : List Line) (all : List Ended) (first : LaneEnd)
-    → IsTold s [] (map asked first.answers) first → All (IsEnded s lines first.answers) all
-    → AreApart [] (map (lines_left lines) all) → IsTaking s lines first.answers all all first
+    → IsLaneTold s [] (map asked first.answers) first → All (IsEnded s lines first.answers) all
+    → AreLanesApart [] (map (lines_left lines) all) → IsTaking s lines first.answers all all first
 taking_from s lines all first told ended apart = record {
   others = [];
   answers = sym (append-nil first.answers);
@@ -167,14 +167,14 @@ pub taking_more : (s : Shared) (lines : List Line) (given : List Answer) (all le
 taking_more s lines given all left e later first next t is takes ended work =
     let both : map asked (t.others ++ takes.more) ≡ map asked t.others ++ lines_left lines e =
     map-append asked t.others takes.more ∙ ap (λ (ls : List Line). map asked t.others ++ ls) takes.lines_are in
-    let apart : AreApart (map asked t.others) (map (lines_left lines) (e ∷ later)) =
-    subst (λ (es : List Ended). AreApart (map asked t.others) (map (lines_left lines) es)) is t.apart in
+    let apart : AreLanesApart (map asked t.others) (map (lines_left lines) (e ∷ later)) =
+    subst (λ (es : List Ended). AreLanesApart (map asked t.others) (map (lines_left lines) es)) is t.apart in
     record {
       others = t.others ++ takes.more;
       answers = takes.answers;
       told = takes.told;
       ended = ended;
-      apart = subst (λ (ls : List Line). AreApart ls (map (lines_left lines) later)) (sym both) apart.2;
+      apart = subst (λ (ls : List Line). AreLanesApart ls (map (lines_left lines) later)) (sym both) apart.2;
       lines = ap (λ (ls : List Line). ls ++ flat (map (lines_left lines) later)) both
           ∙ append_assoc (map asked t.others) (lines_left lines e) (flat (map (lines_left lines) later))
           ∙ ap (λ (es : List Ended). map asked t.others ++ flat (map (lines_left lines) es)) (sym is) ∙ t.lines;
@@ -184,7 +184,7 @@ taking_more s lines given all left e later first next t is takes ended work =
 
 pub taking_all : (s : Shared) (lines : List Line) (given : List Answer) (all left : List Ended) (first : LaneEnd)
     → IsTaking s lines given all left first → left ≡ []
-    → IsTold s [] (map asked given ++ flat (map (lines_left lines) all)) first
+    → IsLaneTold s [] (map asked given ++ flat (map (lines_left lines) all)) first
 taking_all s lines given all left first t none =
     let others : map asked t.others ≡ flat (map (lines_left lines) all) =
     sym (append-nil (map asked t.others))
@@ -192,7 +192,7 @@ taking_all s lines given all left first t none =
     let lines : map asked first.answers ≡ map asked given ++ flat (map (lines_left lines) all) =
     ap (map asked) t.answers ∙ map-append asked given t.others
     ∙ ap (λ (ls : List Line). map asked given ++ ls) others in
-    subst (λ (ls : List Line). IsTold s [] ls first) lines t.told
+    subst (λ (ls : List Line). IsLaneTold s [] ls first) lines t.told
 
 -- and of the turns that the workers owe all are there
 pub taken_work : (s : Shared) (lines : List Line) (given : List Answer) (all left : List Ended) (first : LaneEnd)
@@ -228,7 +228,7 @@ dealt_none s lines p of whole = record {
   own = (record_of p).own;
   left = refl;
   starts = All-nil (λ (t : Task). HasAllOf (record_of p) (record_of t.pass));
-  ready = λ names known are. All-nil (IsReady s lines names);
+  ready = λ names known are. All-nil (IsTaskReady s lines names);
   lines_are = refl;
   apart = λ are. tt;
 }
@@ -281,10 +281,10 @@ module _ (s : Shared) (lines : List Line) (n m : ℕ) (v : View) (tasks new : Li
 
   task_ready : (names : List Named) → KnowsNames v names
       → BodyIsReady s.config.nodes lines names (right_of 1 (rest v d.share d.own)) body
-      → IsReady s lines names one.task
+      → IsTaskReady s lines names one.task
   task_ready names known ready = record {
     of = one.of;
-    fresh = subst IsFresh (sym right_so) (right_fresh 1 (rest v d.share d.own));
+    fresh = subst IsFreshRecord (sym right_so) (right_fresh 1 (rest v d.share d.own));
     body = subst (λ (w : View). BodyIsReady s.config.nodes lines names w one.task.body) (sym right_so)
         (subst (BodyIsReady s.config.nodes lines names (right_of 1 (rest v d.share d.own))) (sym one.body_is) ready);
   }
@@ -298,8 +298,8 @@ module _ (s : Shared) (lines : List Line) (n m : ℕ) (v : View) (tasks new : Li
       ∙ ap (λ (ls : List Line). ls ++ lines_in lines body) d.lines_are
 
   apart_so : AreLines s.config.nodes [] lines → IsApart (lanes_up_to n lines) (lines_in lines body)
-      → AreOfOthers (lanes_up_to n lines) (lines_in lines body) → AreApart [] (map (lines_due lines) new)
-  apart_so are is others = subst (AreApart []) (sym due_so) (apart-push [] (map (lines_due lines) tasks) (lines_in lines body)
+      → AreOfOthers (lanes_up_to n lines) (lines_in lines body) → AreLanesApart [] (map (lines_due lines) new)
+  apart_so are is others = subst (AreLanesApart []) (sym due_so) (apart-push [] (map (lines_due lines) tasks) (lines_in lines body)
       (d.apart are) (subst (λ (ls : List Line). IsApart ls (lines_in lines body)) (sym d.lines_are) is)
       (subst (λ (ls : List Line). AreOfOthers ls (lines_in lines body)) (sym d.lines_are) others))
 
@@ -319,8 +319,8 @@ module _ (s : Shared) (lines : List Line) (n m : ℕ) (v : View) (tasks new : Li
     left = left_so;
     starts = subst (All (λ (t : Task). HasAllOf v (record_of t.pass))) (sym one.tasks)
         (All-push (λ (t : Task). HasAllOf v (record_of t.pass)) tasks one.task d.starts start_so);
-    ready = λ names known are. subst (All (IsReady s lines names)) (sym one.tasks)
-        (All-push (IsReady s lines names) tasks one.task (d.ready names known are)
+    ready = λ names known are. subst (All (IsTaskReady s lines names)) (sym one.tasks)
+        (All-push (IsTaskReady s lines names) tasks one.task (d.ready names known are)
         (task_ready names known (ready names known are)));
     lines_are = flat_so ∙ lanes;
     apart = λ are. apart_so are (apart are) others;
@@ -383,9 +383,9 @@ same_maps {C = C} f g (x ∷ xs) (y ∷ ys) len each =
 
 -- the pass of which tasks were split off has all that it had
 pub told_left : (s : Shared) (given : List Answer) (lines : List Line) (a b : LaneEnd) (share : ℕ) (own : List ℕ)
-    → IsTold s given lines a → b.answers ≡ a.answers → IsPassOf s b.pass
+    → IsLaneTold s given lines a → b.answers ≡ a.answers → IsPassOf s b.pass
     → record_of b.pass ≡ record (record_of a.pass) { share = share; own = own }
-    → IsTold s given lines b
+    → IsLaneTold s given lines b
 told_left s given lines a b share own told same of left = record {
   of = of;
   lines_are = ap (map asked) same ∙ told.lines_are;
@@ -402,29 +402,30 @@ told_left s given lines a b share own told same of left = record {
 }
 
 pub told_again : (s : Shared) (given : List Answer) (lines : List Line) (e : LaneEnd)
-    → IsTold s given lines e → IsTold s given (map asked e.answers) e
+    → IsLaneTold s given lines e → IsLaneTold s given (map asked e.answers) e
 told_again s given lines e told =
-    subst (λ (ls : List Line). IsTold s given ls e) (sym told.lines_are) told
+    subst (λ (ls : List Line). IsLaneTold s given ls e) (sym told.lines_are) told
 
 -- what is left of the tasks of all lanes and workers
 pub left_apart : (s : Shared) (lines : List Line) (v : View) (tasks : List Task) (p : Pass)
     (ends : List Ended) → IsDealt s lines 15 19 v tasks p → AreLines s.config.nodes [] lines
-    → map (lines_left lines) ends ≡ map (lines_due lines) tasks → AreApart [] (map (lines_left lines) ends)
-left_apart s lines v tasks p ends dealt are same = subst (AreApart []) (sym same) (dealt.apart are)
+    → map (lines_left lines) ends ≡ map (lines_due lines) tasks → AreLanesApart [] (map (lines_left lines) ends)
+left_apart s lines v tasks p ends dealt are same =
+    subst (AreLanesApart []) (sym same) (dealt.apart are)
 
 pub all_told : (s : Shared) (lines : List Line) (a b c : LaneEnd) (tasks : List Task)
-    (ends : List Ended) → IsTold s [] (of_lane 0 lines) a → b.answers ≡ a.answers
+    (ends : List Ended) → IsLaneTold s [] (of_lane 0 lines) a → b.answers ≡ a.answers
     → IsDealt s lines 15 19 (record_of a.pass) tasks b.pass
     → map (lines_left lines) ends ≡ map (lines_due lines) tasks
-    → IsTold s [] (map asked b.answers ++ flat (map (lines_left lines) ends)) c
-    → IsTold s [] (by_lane lines) c
+    → IsLaneTold s [] (map asked b.answers ++ flat (map (lines_left lines) ends)) c
+    → IsLaneTold s [] (by_lane lines) c
 all_told s lines a b c tasks ends first same dealt lefts told =
     let own : map asked b.answers ≡ of_lane 0 lines = ap (map asked) same ∙ first.lines_are in
     let others : flat (map (lines_left lines) ends) ≡ lanes_up_to 15 lines = ap flat lefts ∙ dealt.lines_are in
     let lines_are : map asked b.answers ++ flat (map (lines_left lines) ends) ≡ by_lane lines =
     ap (λ (ls : List Line). ls ++ flat (map (lines_left lines) ends)) own
     ∙ ap (λ (ls : List Line). of_lane 0 lines ++ ls) others in
-    subst (λ (ls : List Line). IsTold s [] ls c) lines_are told
+    subst (λ (ls : List Line). IsLaneTold s [] ls c) lines_are told
 
 -- the first of those that are left, and the others
 pub first_ended : (s : Shared) (lines : List Line) (given : List Answer) (left : List Ended) (e : Ended)
@@ -441,20 +442,20 @@ others_ended s lines given left e later all is =
 pub ended_pass : (s : Shared) (lines : List Line) (given : List Answer) (e : Ended) → IsEnded s lines given e
     → IfOk e.left (λ told. IsPassOf s told.end.pass)
 ended_pass s lines given e ended =
-    IfOk-weaker e.left (λ t. IsTold s given (lines_left lines e) t.end) (λ t. IsPassOf s t.end.pass) (λ t told. told.of) ended
+    IfOk-weaker e.left (λ t. IsLaneTold s given (lines_left lines e) t.end) (λ t. IsPassOf s t.end.pass) (λ t told. told.of) ended
 
 pub first_apart : (s : Shared) (lines : List Line) (given : List Answer) (all left : List Ended) (e : Ended)
     (later : List Ended) (first : LaneEnd) → (t : IsTaking s lines given all left first) → left ≡ e ∷ later
     → IsApart (map asked t.others) (lines_left lines e)
 first_apart s lines given all left e later first t is =
-    let apart : AreApart (map asked t.others) (map (lines_left lines) (e ∷ later)) =
-    subst (λ (es : List Ended). AreApart (map asked t.others) (map (lines_left lines) es)) is t.apart in
+    let apart : AreLanesApart (map asked t.others) (map (lines_left lines) (e ∷ later)) =
+    subst (λ (es : List Ended). AreLanesApart (map asked t.others) (map (lines_left lines) es)) is t.apart in
     apart.0
 
 pub first_of_others : (s : Shared) (lines : List Line) (given : List Answer) (all left : List Ended) (e : Ended)
     (later : List Ended) (first : LaneEnd) → (t : IsTaking s lines given all left first) → left ≡ e ∷ later
     → AreOfOthers (map asked t.others) (lines_left lines e)
 first_of_others s lines given all left e later first t is =
-    let apart : AreApart (map asked t.others) (map (lines_left lines) (e ∷ later)) =
-    subst (λ (es : List Ended). AreApart (map asked t.others) (map (lines_left lines) es)) is t.apart in
+    let apart : AreLanesApart (map asked t.others) (map (lines_left lines) (e ∷ later)) =
+    subst (λ (es : List Ended). AreLanesApart (map asked t.others) (map (lines_left lines) es)) is t.apart in
     apart.1

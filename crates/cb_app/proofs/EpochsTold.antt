@@ -21,7 +21,7 @@ use Rattle.cb_rule.specs.declared.turn.Turn.{Turn}
 use Rattle.cb_rule.specs.declared.view.View.{View}
 use Rattle.cb_rule.specs.Lists.{Has, times, total}
 use Rattle.cb_rule.specs.Locking.{turn_number}
-use Rattle.cb_rule.specs.OneHistory.{HasNumber, IsOneHistory}
+use Rattle.cb_rule.specs.OneHistory.{HasTurnNumber, IsOneHistory}
 use Rattle.cb_rule.proofs.Laws.{by_case, times-append}
 use Rattle.cb_record.specs.Backs.{Backs, happened_at, happened_for}
 use Rattle.cb_record.specs.Deeds.{Deed, deed, happened, happening}
@@ -32,7 +32,7 @@ use Rattle.cb_lanes.specs.Asked.{HasLineReply}
 use Rattle.cb_app.specs.Crew.{part_of}
 use Rattle.cb_app.specs.Telling.{AreEpochs, epoch_of, epochs_of}
 use Rattle.cb_app.proofs.CountedTurns.{below, counts_all, counts_more, counts_none, counts_permute, is, stands, times_range}
-use Rattle.cb_app.proofs.TurnGoes.{GoesOn, epochs_in}
+use Rattle.cb_app.proofs.TurnGoes.{MembersGoOn, epochs_in}
 use Rattle.cb_app.proofs.TurnHistory.{TurnGoes, at_last, each_goes, lone, number_of}
 
 abbrev pub turn_epochs : Turn → List ℕ
@@ -48,7 +48,7 @@ data Begins (old new : ℕ) (told : List ℕ) : Type 0 where
   none : new ≡ old → told ≡ [] → Begins old new told
   next : new ≡ old + 1 → told ≡ (old + 1) ∷ [] → Begins old new told
 
-by_goes : (j : Job) (old new : Membership) (r : Option Reply) → GoesOn j old new r
+by_goes : (j : Job) (old new : Membership) (r : Option Reply) → MembersGoOn j old new r
     → Begins old.epoch new.epoch (epochs_in j r)
 by_goes (job.Crash node) old new r (inl x) = none (ap (λ (m : Membership). m.epoch) x.0) x.1
 by_goes (job.Crash node) old new r (inr x) =
@@ -109,7 +109,7 @@ module _ (first : ℕ) (c : Config) (ok : IsAccepted c) (v : View) (count : ℕ)
   counted_or_quiet : (e : ℕ) (t : Turn) → Has t v.turns → (turn_number t < count) ⊎ (tells e t ≡ 0)
   counted_or_quiet e t there = by (number_of first c v count last one t there)
     where
-      by : HasNumber count t → (turn_number t < count) ⊎ (tells e t ≡ 0)
+      by : HasTurnNumber count t → (turn_number t < count) ⊎ (tells e t ≡ 0)
       by (inl less) = inl less
       by (inr z) = inr (quiet t z.2 (begins t there) e)
 

@@ -8,22 +8,22 @@ use Rattle.std.proofs.lemmas.List.Elements.{filter_more}
 use Rattle.cb_types.specs.declared.request.Request.{Request}
 use Rattle.cb_types.specs.declared.request.Request.TheVariants.{Make, Read, Write, Free, Pin, Peek, Unpin, Filter}
 use Rattle.cb_script.specs.declared.script.Line.{Line}
-use Rattle.cb_script.specs.Form.{AreLines, IsKnown, IsMade, IsNew, KnowsName, Makes, MayFollow}
+use Rattle.cb_script.specs.Form.{AreLines, IsNameKnown, IsNameMade, IsNameNew, KnowsName, MakesName, MayFollow}
 use Rattle.cb_script.proofs.PublicLaws.{made_cases}
 use Rattle.cb_model.specs.Legal.{WasTold}
-use Rattle.cb_app.specs.ByLane.{AreApart, AreOfOthers, IsApart, IsUsed, Uses, by_lane, flat, lanes_up_to, of_lane}
+use Rattle.cb_app.specs.ByLane.{AreLanesApart, AreOfOthers, IsApart, IsUsed, Uses, by_lane, flat, lanes_up_to, of_lane}
 
 -- ---- lists of lines, one behind the other
 
-pub made_in_both : (xs ys : List Line) (lane : ℕ) (name : List ℕ) → IsMade (xs ++ ys) lane name
-    → IsMade xs lane name ⊎ IsMade ys lane name
+pub made_in_both : (xs ys : List Line) (lane : ℕ) (name : List ℕ) → IsNameMade (xs ++ ys) lane name
+    → IsNameMade xs lane name ⊎ IsNameMade ys lane name
 made_in_both [] ys lane name is = inr is
 made_in_both (x ∷ xs) ys lane name (inl here) = inl (inl here)
 made_in_both (x ∷ xs) ys lane name (inr later) =
     elim (made_in_both xs ys lane name later) [ inl p ↦ inl (inr p) | inr q ↦ inr q ]
 
-pub made_in_front : (xs ys : List Line) (lane : ℕ) (name : List ℕ) → IsMade xs lane name
-    → IsMade (xs ++ ys) lane name
+pub made_in_front : (xs ys : List Line) (lane : ℕ) (name : List ℕ) → IsNameMade xs lane name
+    → IsNameMade (xs ++ ys) lane name
 made_in_front [] ys lane name is = absurd is
 made_in_front (x ∷ xs) ys lane name (inl here) = inl here
 made_in_front (x ∷ xs) ys lane name (inr later) = inr (made_in_front xs ys lane name later)
@@ -42,24 +42,25 @@ one_lane : (lane : ℕ) (l : Line) → nat_eq l.lane.n lane ≡ true → l.lane.
 one_lane lane l is = grind (arith, is)
 
 pub of_lane_made : (n : ℕ) (lines : List Line) (lane : ℕ) (name : List ℕ)
-    → IsMade (of_lane n lines) lane name → IsMade lines lane name × (lane ≡ n)
+    → IsNameMade (of_lane n lines) lane name → IsNameMade lines lane name × (lane ≡ n)
 of_lane_made n [] lane name is = absurd is
 of_lane_made n (l ∷ lines) lane name is = elim (cases_Bool (nat_eq l.lane.n n)) [
   | inl same ↦
-      let is' : IsMade (l ∷ of_lane n lines) lane name =
-      subst (λ (b : Bool). IsMade (cond b (l ∷ of_lane n lines) (of_lane n lines)) lane name) same is in
+      let is' : IsNameMade (l ∷ of_lane n lines) lane name =
+      subst (λ (b : Bool). IsNameMade (cond b (l ∷ of_lane n lines) (of_lane n lines)) lane name) same is in
       elim is' [
         | inl here ↦ (inl here, sym here.0 ∙ one_lane n l same)
         | inr later ↦ let e = of_lane_made n lines lane name later in (inr e.0, e.1)
       ]
   | inr other ↦
-      let is' : IsMade (of_lane n lines) lane name =
-      subst (λ (b : Bool). IsMade (cond b (l ∷ of_lane n lines) (of_lane n lines)) lane name) other is in
+      let is' : IsNameMade (of_lane n lines) lane name =
+      subst (λ (b : Bool). IsNameMade (cond b (l ∷ of_lane n lines) (of_lane n lines)) lane name) other is in
       let e = of_lane_made n lines lane name is' in (inr e.0, e.1)
 ]
 
 pub lanes_made : (n : ℕ) (lines : List Line) (lane : ℕ) (name : List ℕ)
-    → IsMade (lanes_up_to n lines) lane name → IsMade lines lane name × (1 ≤ lane) × (lane ≤ n)
+    → IsNameMade (lanes_up_to n lines) lane name → IsNameMade lines lane name × (1 ≤ lane)
+    × (lane ≤ n)
 lanes_made zero lines lane name is = absurd is
 lanes_made (suc n) lines lane name is =
     elim (made_in_both (lanes_up_to n lines) (of_lane (suc n) lines) lane name is) [
@@ -70,7 +71,8 @@ lanes_made (suc n) lines lane name is =
 
 -- ---- a name that a line uses is known to its lane
 
-uses_known : (before : List Line) (lane : ℕ) (r : Request) (name : List ℕ) → IsKnown before lane r
+uses_known : (before : List Line) (lane : ℕ) (r : Request) (name : List ℕ)
+    → IsNameKnown before lane r
     → Uses r name → KnowsName before lane name
 uses_known before lane (Make made bytes) name is uses = absurd uses
 uses_known before lane (Read q) name is uses = let e : q ≡ name = cc in subst (KnowsName before lane) e is
@@ -110,11 +112,13 @@ used_known nodes n before (l ∷ after) name are used =
 -- ---- a name has one maker
 
 abbrev pub HaveOneMaker : List Line → Type 0
-HaveOneMaker lines = (name : List ℕ) (m n : ℕ) → IsMade lines m name → IsMade lines n name → m ≡ n
+HaveOneMaker lines = (name : List ℕ) (m n : ℕ) → IsNameMade lines m name → IsNameMade lines n name
+    → m ≡ n
 
-pub new_name : (before : List Line) (lane : ℕ) (r : Request) (name : List ℕ) → IsKnown before lane r
-    → Makes r name → IsNew before name
-new_name before lane (Make made bytes) name is makes = subst (IsNew before) makes is
+pub new_name : (before : List Line) (lane : ℕ) (r : Request) (name : List ℕ)
+    → IsNameKnown before lane r
+    → MakesName r name → IsNameNew before name
+new_name before lane (Make made bytes) name is makes = subst (IsNameNew before) makes is
 new_name before lane _ name is makes = absurd makes
 
 one_maker_more : (nodes : ℕ) (before : List Line) (l : Line) → HaveOneMaker before
@@ -167,20 +171,20 @@ lines_both : (P : Line → Type 0) (xs ys : List Line) → AllByRecursion P xs �
 lines_both P [] ys a b = b
 lines_both P (x ∷ xs) ys a b = (a.0, lines_both P xs ys a.1 b)
 
-abbrev pub IsOf : ℕ → Line → Type 0
-IsOf n l = l.lane.n ≡ n
+abbrev pub IsOfLane : ℕ → Line → Type 0
+IsOfLane n l = l.lane.n ≡ n
 
 abbrev IsUpTo : ℕ → Line → Type 0
 IsUpTo n l = (1 ≤ l.lane.n) × (l.lane.n ≤ n)
 
-pub of_lane_own : (n : ℕ) (lines : List Line) → AllByRecursion (IsOf n) (of_lane n lines)
+pub of_lane_own : (n : ℕ) (lines : List Line) → AllByRecursion (IsOfLane n) (of_lane n lines)
 of_lane_own n [] = tt
 of_lane_own n (l ∷ lines) = elim (cases_Bool (nat_eq l.lane.n n)) [
   | inl same ↦ let at = one_lane n l same in let later = of_lane_own n lines in rw same (at, later)
   | inr other ↦ let later = of_lane_own n lines in rw other later
 ]
 
-own_up_to : (n : ℕ) (l : Line) → IsOf (suc n) l → IsUpTo (suc n) l
+own_up_to : (n : ℕ) (l : Line) → IsOfLane (suc n) l → IsUpTo (suc n) l
 own_up_to n l is = (omega (arith, is), omega (arith, is))
 
 up_to_more : (n : ℕ) (l : Line) → IsUpTo n l → IsUpTo (suc n) l
@@ -190,10 +194,10 @@ lanes_low : (n : ℕ) (lines : List Line) → AllByRecursion (IsUpTo n) (lanes_u
 lanes_low zero lines = tt
 lanes_low (suc n) lines = lines_both (IsUpTo (suc n)) (lanes_up_to n lines) (of_lane (suc n) lines)
     (all_lines (IsUpTo n) (IsUpTo (suc n)) (lanes_up_to n lines) (up_to_more n) (lanes_low n lines))
-    (all_lines (IsOf (suc n)) (IsUpTo (suc n)) (of_lane (suc n) lines) (own_up_to n)
+    (all_lines (IsOfLane (suc n)) (IsUpTo (suc n)) (of_lane (suc n) lines) (own_up_to n)
     (of_lane_own (suc n) lines))
 
-not_told : (n : ℕ) (b l : Line) → IsUpTo n b → IsOf (suc n) l → WasTold b.lane.n l.lane.n → ⊥
+not_told : (n : ℕ) (b l : Line) → IsUpTo n b → IsOfLane (suc n) l → WasTold b.lane.n l.lane.n → ⊥
 not_told n b l low own (inl same) = let below = low.1 in omega (arith, below, own, same)
 not_told n b l low own (inr first) = let above = low.0 in omega (arith, above, first)
 
@@ -202,7 +206,8 @@ pub lane_is_of_others : (n : ℕ) (lines : List Line)
 lane_is_of_others n lines = all_lines (IsUpTo n)
     (λ b. AllByRecursion (λ (l : Line). WasTold b.lane.n l.lane.n → ⊥) (of_lane (suc n) lines))
     (lanes_up_to n lines)
-    (λ b low. all_lines (IsOf (suc n)) (λ l. WasTold b.lane.n l.lane.n → ⊥) (of_lane (suc n) lines)
+    (λ b low. all_lines (IsOfLane (suc n)) (λ l. WasTold b.lane.n l.lane.n
+    → ⊥) (of_lane (suc n) lines)
     (λ l own. not_told n b l low own) (of_lane_own (suc n) lines)) (lanes_low n lines)
 
 pub no_lines_of_others : (before : List Line) → AreOfOthers before []
@@ -237,9 +242,9 @@ flat-push [] xs = append-nil xs
 flat-push (ys ∷ lists) xs =
     ap (λ (zs : List Line). ys ++ zs) (flat-push lists xs) ∙ sym (append_assoc ys (flat lists) xs)
 
-pub apart-push : (before : List Line) (lists : List (List Line)) (xs : List Line) → AreApart before lists
+pub apart-push : (before : List Line) (lists : List (List Line)) (xs : List Line) → AreLanesApart before lists
     → IsApart (before ++ flat lists) xs → AreOfOthers (before ++ flat lists) xs
-    → AreApart before (lists ++ xs ∷ [])
+    → AreLanesApart before (lists ++ xs ∷ [])
 apart-push before [] xs are is others = (
   subst (λ (ls : List Line). IsApart ls xs) (append-nil before) is,
   subst (λ (ls : List Line). AreOfOthers ls xs) (append-nil before) others,

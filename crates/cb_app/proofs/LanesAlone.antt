@@ -14,7 +14,7 @@ use Rattle.cb_types.specs.declared.reply.Reply.TheVariants.{Made}
 use Rattle.cb_types.specs.declared.request.Request.{Request}
 use Rattle.cb_types.specs.declared.request.Request.TheVariants.{Make}
 use Rattle.cb_script.specs.declared.script.Line.{Line}
-use Rattle.cb_script.specs.Form.{IsMade, Makes}
+use Rattle.cb_script.specs.Form.{IsNameMade, MakesName}
 use Rattle.cb_rule.specs.Lists.{Has}
 use Rattle.cb_model.specs.Called.{handle_made}
 use Rattle.cb_model.specs.Legal.{WasTold}
@@ -29,7 +29,7 @@ use Rattle.cb_lanes.proofs.Laws.{AreOfLane, NoneOfLane, handle_is_made, maker_of
 use Rattle.cb_app.specs.ByLane.{AreOfOthers, by_lane, of_lane}
 use Rattle.cb_app.specs.Crew.{AreFirst}
 use Rattle.cb_app.specs.OwnLines.{AreAllOf, AreAmong, KeepAloneWith, to_lane}
-use Rattle.cb_app.proofs.OfLane.{HasSome, all_to_lane, asked_to_lane, has_asked, has_either, lane_by_lane, lane_cases, made_here, made_in_script, none_to_lane, of_each, some_or_none}
+use Rattle.cb_app.proofs.OfLane.{HasLaneAnswer, all_to_lane, asked_to_lane, has_asked, has_either, lane_by_lane, lane_cases, made_here, made_in_script, none_to_lane, of_each, some_or_none}
 
 -- ---- answers behind those of other lanes
 none_both : (lane : ℕ) (xs ys : List Answer) → NoneOfLane lane xs → NoneOfLane lane ys
@@ -51,7 +51,8 @@ line_at P (x ∷ xs) a all (inl is) = subst (λ (z : Answer). P (asked z)) is al
 line_at P (x ∷ xs) a all (inr later) = line_at P xs a all.1 later
 
 others_are_none : (lane : ℕ) (others after : List Answer)
-    → AreOfOthers (map asked others) (map asked after) → HasSome lane after → NoneOfLane lane others
+    → AreOfOthers (map asked others) (map asked after) → HasLaneAnswer lane after
+    → NoneOfLane lane others
 others_are_none lane [] after none some = tt
 others_are_none lane (o ∷ others) after none some = (
   λ same. line_at (λ l. WasTold o.lane.n l.lane.n → ⊥) after some.answer none.0 some.there
@@ -77,7 +78,7 @@ alone_joined nodes given others after answers are first none old new lines all w
             has_left a answers after (subst (Has a) (sym are) (has_left a given others front))
         to (inr back) = has_right a answers after back
 
-    by : HasSome lane after ⊎ NoneOfLane lane after
+    by : HasLaneAnswer lane after ⊎ NoneOfLane lane after
         → KeepAloneUntil lines lane fresh_lane (answers ++ after)
     by (inr off) = until_before lines lane fresh_lane answers after off
         (old lines all whole (λ a has. among a (has_left a answers after has))
@@ -100,7 +101,7 @@ none_alone nodes given answers none =
 
 -- ---- a lane
 makes_name : (name : List ℕ) (q : Request) (r : Reply) (h : ℕ) → handle_made name q r ≡ Some h
-    → Makes q name
+    → MakesName q name
 makes_name name (Make made bytes) r h is = by (cases_Bool (bytes_eq made name)) r is
   where
     by : (bytes_eq made name ≡ true) ⊎ (bytes_eq made name ≡ false) → (q : Reply)
@@ -115,7 +116,7 @@ makes_name name q r h is = absurd cc
 record IsMaker (xs : List Answer) (name : List ℕ) : Type 0 where
   answer : Answer
   there : Has answer xs
-  makes : Makes answer.request name
+  makes : MakesName answer.request name
 
 maker_in : (xs : List Answer) (name : List ℕ) (h : ℕ) → IsMadeAs xs name h → IsMaker xs name
 maker_in [] name h made = absurd made
@@ -130,16 +131,16 @@ module _ (c : Config) (lane : ℕ) (given answers : List Answer) (of : AreOfLane
     (first : AreFirst given) (lines : List Line) (all : List Answer)
     (whole : AreAllOf c.nodes lines all) (among : AreAmong (given ++ answers) all) where
   -- what an answer makes its lane makes in the script
-  made_by_line : (a : Answer) (name : List ℕ) → Has a all → Makes a.request name
-      → IsMade lines a.lane.n name
+  made_by_line : (a : Answer) (name : List ℕ) → Has a all → MakesName a.request name
+      → IsNameMade lines a.lane.n name
   made_by_line a name has makes = made_in_script lines a.lane.n name
-      (subst (λ (l : List Line). IsMade l a.lane.n name) whole.lines_are
+      (subst (λ (l : List Line). IsNameMade l a.lane.n name) whole.lines_are
       (made_here (map asked all) (asked a) name (has_asked all a has) makes))
 
   -- the names that it was given lane 0 makes
   shared : (names : List Named) → AreNamesOf names given → AreShared lines names
   shared names named p h is = let z = maker_in given p h (handle_is_made given p h (named p ∙ is)) in
-      maker_of lines 0 p (subst (λ (n : ℕ). IsMade lines n p)
+      maker_of lines 0 p (subst (λ (n : ℕ). IsNameMade lines n p)
       (of_each (λ a. a.lane.n ≡ 0) given z.answer first z.there)
       (made_by_line z.answer p (among z.answer (has_left z.answer given answers z.there)) z.makes))
 

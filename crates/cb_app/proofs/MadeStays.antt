@@ -33,13 +33,13 @@ use Rattle.cb_core.specs.OnceHere.{OnceHere, OnceHereStops, away, bringing_stops
 use Rattle.cb_core.specs.Parts.{CallStops, Holding, NeverLacks, RoomStops, WithRoom, WhereItIs, at_once, no_room, won, near, declined, stays_far, brought, not_far, was_far}
 use Rattle.cb_core.specs.Parts.RoomStops.{at_once as lacks_at_once, evicting, after}
 use Rattle.cb_core.specs.Parts.CallStops.{near as call_near, far as call_far, after as call_after}
-use Rattle.cb_core.specs.Turned.{BringLacks, Brings, ComeLacks, ComesIn, Declines, Does, EvictLacks, MakeLacks, Makes, Stops, SwapLacks, Swaps, Turned, WinsRoom, Writes, counted, done, worn}
+use Rattle.cb_core.specs.Turned.{BringLacks, Brings, ComeLacks, ComesIn, Declines, Does, EvictLacks, MakeLacks, Makes, Stops, SwapLacks, Swaps, Turned, WinsRoom, WritesObject, counted, done, worn}
 
 -- as many handles were made
-abbrev pub Same : FarState → FarState → Type 0
-Same far new = new.made ≡ far.made
+abbrev pub SameMade : FarState → FarState → Type 0
+SameMade far new = new.made ≡ far.made
 
-same : (far new : FarState) → new ≡ far → Same far new
+same : (far new : FarState) → new ≡ far → SameMade far new
 same far new e = ap (λ (f : FarState). f.made) e
 
 -- the handle that a turn made, as a count
@@ -49,66 +49,66 @@ made_by j r = 0
 
 -- What is so of a turn: a make that is answered Made makes one more, of which there were fewer than
 -- there are handles.
-pub record Adds (c : Config) (j : Job) (far new : FarState) (r : Option Reply) : Type 0 where
+pub record CountsMakes (c : Config) (j : Job) (far new : FarState) (r : Option Reply) : Type 0 where
   pub more : new.made ≡ far.made + made_by j r
   pub few : far.made ≤ c.handles → new.made ≤ c.handles
 
 adds_none : (c : Config) (j : Job) (far new : FarState) (r : Option Reply) → made_by j r ≡ 0
-    → Same far new → Adds c j far new r
+    → SameMade far new → CountsMakes c j far new r
 adds_none c j far new r none e = record {
   more = omega (arith, none, e);
   few = λ le. omega (arith, le, e);
 }
 
 -- ---- one operation
-free_places : (q : State) (far new : FarState) (h : ℕ) → LeavesPlace q far new h → Same far new
+free_places : (q : State) (far new : FarState) (h : ℕ) → LeavesPlace q far new h → SameMade far new
 free_places word.Here far new h x = ap (λ (f : FarState). f.made) x.left
 free_places word.Far far new h x = ap (λ (f : FarState). f.made) x.left
 free_places word.Empty far new h x = absurd x
 free_places word.Moving far new h x = absurd x
 
-free_far : (w h : ℕ) (r : Reply) (far new : FarState) → FreeFar w h r far new → Same far new
+free_far : (w h : ℕ) (r : Reply) (far new : FarState) → FreeFar w h r far new → SameMade far new
 free_far w h (answer.Version n) far new x = free_places (state_of w) far new h x
 free_far w h r far new x = same far new x
 
 filter_same : (frames h : ℕ) (far new : FarState) (r : Reply) (es : List Event)
-    → FilterRule frames h far new r es → Same far new
+    → FilterRule frames h far new r es → SameMade far new
 filter_same frames h far new r es a = by (state_of a.word) a.word a.answer
   where
-    calm : (w : ℕ) → FilterHere frames h w far new r es → Same far new
+    calm : (w : ℕ) → FilterHere frames h w far new r es → SameMade far new
     calm w (inl (some, is, e)) = same far new e
     calm w (inr (claimed, (seat, at, inl x))) = same far new x.state
     calm w (inr (claimed, (seat, at, inr (inl x)))) = same far new x.state
     calm w (inr (claimed, (seat, at, inr (inr (slot, x))))) = ap (λ (f : FarState). f.made) x.state
 
-    by : (q : State) (w : ℕ) → FilterAs q frames h w far new r es → Same far new
+    by : (q : State) (w : ℕ) → FilterAs q frames h w far new r es → SameMade far new
     by word.Here w x = calm w x
     by word.Empty w ((v, told, e), state) = same far new state
     by word.Far w (e, state) = same far new state
     by word.Moving w (e, state) = same far new state
 
 evict_same : (c : Config) (far new : FarState) (r : Reply) (es : List Event)
-    → EvictRule c far new r es → Same far new
+    → EvictRule c far new r es → SameMade far new
 evict_same c far new r es a = by a.answered
   where
     by : HasFewSpans c far new r a.loose ⊎ (HasFewNodes c far new r a.loose
-        ⊎ HasBoth c far new r a.loose es) → Same far new
+        ⊎ HasBoth c far new r a.loose es) → SameMade far new
     by (inl x) = same far new x.state
     by (inr (inl x)) = same far new x.state
     by (inr (inr x)) = ap (λ (f : FarState). f.made) x.evicted.state
 
 begin_same : (c : Config) (far new : FarState) (r : Reply) (es : List Event)
-    → BeginRule c far new r es → Same far new
+    → BeginRule c far new r es → SameMade far new
 begin_same c far new r es (inl a) = same far new a.state
 begin_same c far new r es (inr a) = by a.answered
   where
     by : HasFewSpans c far new r a.loose ⊎ (HasFewNodes c far new r a.loose
-        ⊎ HasBatch c far new r a.loose es) → Same far new
+        ⊎ HasBatch c far new r a.loose es) → SameMade far new
     by (inl x) = same far new x.state
     by (inr (inl x)) = same far new x.state
     by (inr (inr x)) = ap (λ (f : FarState). f.made) x.begun.state
 
-ship_same : (far new : FarState) (r : Reply) (es : List Event) → ShipRule far new r es → Same far new
+ship_same : (far new : FarState) (r : Reply) (es : List Event) → ShipRule far new r es → SameMade far new
 ship_same far new r es a = elim a.ships [
   | inl x ↦ same far new x.state
   | inr (inl x) ↦ same far new x.state
@@ -117,46 +117,46 @@ ship_same far new r es a = elim a.ships [
 ]
 
 commit_same : (far new : FarState) (r : Reply) (es : List Event) → CommitRule far new r es
-    → Same far new
+    → SameMade far new
 commit_same far new r es a = by a.answered
   where
-    by : HasNoBatch far new r ⊎ (HasShort far new r ⊎ HasCommitted far new r) → Same far new
+    by : HasNoBatch far new r ⊎ (HasShort far new r ⊎ HasCommitted far new r) → SameMade far new
     by (inl x) = same far new x.state
     by (inr (inl x)) = same far new x.state
     by (inr (inr x)) = ap (λ (f : FarState). f.made) x.state
 
 abort_same : (far new : FarState) (r : Reply) (es : List Event) → AbortRule far new r es
-    → Same far new
+    → SameMade far new
 abort_same far new r es a = by a.answered
   where
-    by : HasNoBatch far new r ⊎ HasGivenUp far new r → Same far new
+    by : HasNoBatch far new r ⊎ HasGivenUp far new r → SameMade far new
     by (inl x) = same far new x.state
     by (inr x) = ap (λ (f : FarState). f.made) x.state
 
 swap_same : (far new : FarState) (id p : ℕ) (set : SetState) (es : List Event) (r : Reply)
-    → SwapFar far new id p set es r → Same far new
+    → SwapFar far new id p set es r → SameMade far new
 swap_same far new id p set es (answer.Swapped f) x = ap (λ (f : FarState). f.made) x.0.rest
 swap_same far new id p set es r x = ap (λ (f : FarState). f.made) x.0
 
 restored_same : (far new : FarState) (id : ℕ) (set : SetState) (r : Reply)
-    → Restores (surveyed far id) id set new r → Same far new
+    → Restores (surveyed far id) id set new r → SameMade far new
 restored_same far new id set r (inl stuck) = ap (λ (f : FarState). f.made) stuck.same
 restored_same far new id set r (inr z) = ap (λ (f : FarState). f.made) z.state
 
-rebuild_same : (far new : FarState) (r : Reply) → RebuildStep far new r → Same far new
+rebuild_same : (far new : FarState) (r : Reply) → RebuildStep far new r → SameMade far new
 rebuild_same far new r (inl none) = ap (λ (f : FarState). f.made) none.state
 rebuild_same far new r (inr z) = restored_same far new z.id z.set r z.restores
 
-crash_same : (far new : FarState) (node : NodeId) (r : Reply) → CrashTurn node far r new → Same far new
+crash_same : (far new : FarState) (node : NodeId) (r : Reply) → CrashTurn node far r new → SameMade far new
 crash_same far new node r (crashed up is state) = ap (λ (f : FarState). f.made) state
 crash_same far new node r (is_down down is state) = ap (λ (f : FarState). f.made) state
 
-join_same : (far new : FarState) (node : NodeId) (r : Reply) → JoinTurn node far r new → Same far new
+join_same : (far new : FarState) (node : NodeId) (r : Reply) → JoinTurn node far r new → SameMade far new
 join_same far new node r (joined down is state) = ap (λ (f : FarState). f.made) state
 join_same far new node r (is_up up is state) = ap (λ (f : FarState). f.made) state
 
 make_adds : (c : Config) (bytes : List ℕ) (far new : FarState) (r : Reply) (es : List Event)
-    → MakeRule c.handles bytes far new r es → Adds c (job.Make bytes) far new (Some r)
+    → MakeRule c.handles bytes far new r es → CountsMakes c (job.Make bytes) far new (Some r)
 make_adds c bytes far new (answer.Full n) es x =
     adds_none c (job.Make bytes) far new (Some (answer.Full n)) refl (same far new x.2.0)
 make_adds c bytes far new answer.NoFrame es x =
@@ -178,7 +178,7 @@ module _ {D : Type 0} (run : D → List Event → D → Type 0) (shows : D → S
   Hold = Holding D
 
   abbrev Kept : Hold → Hold → Type 0
-  Kept a b = Same a.far b.far
+  Kept a b = SameMade a.far b.far
 
   kept : (a b : Hold) → b.far ≡ a.far → Kept a b
   kept a b e = same a.far b.far e
@@ -212,7 +212,7 @@ module _ {D : Type 0} (run : D → List Event → D → Type 0) (shows : D → S
       kept m b (read h m b r call) ∙ come_kept h a m place come
 
   write_kept : (h at : ℕ) (bytes : List ℕ) (a b : Hold) (r : Reply)
-      → WhereItIs (Writes run shows h at bytes) (Declines run shows h at (length bytes))
+      → WhereItIs (WritesObject run shows h at bytes) (Declines run shows h at (length bytes))
       (Brings run shows c h) a r b → Kept a b
   write_kept h at bytes a b r (near x never) = kept a b x.rule.0
   write_kept h at bytes a b r (declined m x look) = kept m b look.0 ∙ kept a m x.rule.0
@@ -222,8 +222,8 @@ module _ {D : Type 0} (run : D → List Event → D → Type 0) (shows : D → S
       kept o b y.rule.0 ∙ bring_kept h n o (answer.Swapped f) bring ∙ kept m n look.0 ∙ kept a m x.rule.0
 
   -- what is so of a turn is so of one that began as this one
-  adds_from : (j : Job) (a n b : Hold) (r : Option Reply) → Kept a n → Adds c j n.far b.far r
-      → Adds c j a.far b.far r
+  adds_from : (j : Job) (a n b : Hold) (r : Option Reply) → Kept a n → CountsMakes c j n.far b.far r
+      → CountsMakes c j a.far b.far r
   adds_from j a n b r e x = record {
     more = let more = x.more in omega (arith, more, e);
     few = λ le. x.few (omega (arith, le, e));
@@ -231,10 +231,10 @@ module _ {D : Type 0} (run : D → List Event → D → Type 0) (shows : D → S
 
   make_turn : (bytes : List ℕ) (a b : Hold) (r : Reply)
       → WithRoom c.frames (Makes run shows c bytes) (WinsRoom run shows c) a r b
-      → Adds c (job.Make bytes) a.far b.far (Some r)
+      → CountsMakes c (job.Make bytes) a.far b.far (Some r)
   make_turn bytes a b r (at_once x never) = make_adds c bytes a.far b.far r x.events x.rule
   make_turn bytes a b r (no_room m why loose nodes x evict e) =
-      subst (λ (q : Reply). Adds c (job.Make bytes) a.far b.far (Some q)) (sym e)
+      subst (λ (q : Reply). CountsMakes c (job.Make bytes) a.far b.far (Some q)) (sym e)
       (adds_none c (job.Make bytes) a.far b.far (Some (answer.NoRoom c.frames loose nodes)) refl
       (room_lost m b why loose nodes evict ∙ kept a m x.rule.2.0))
   make_turn bytes a b r (won m n id x evict y never) =
@@ -242,7 +242,7 @@ module _ {D : Type 0} (run : D → List Event → D → Type 0) (shows : D → S
       (make_adds c bytes n.far b.far r y.events y.rule)
 
   does_adds : (j : Job) (a b : Hold) (r : Reply) → Does run shows reads c j a r b
-      → Adds c j a.far b.far (Some r)
+      → CountsMakes c j a.far b.far (Some r)
   does_adds (job.Make bytes) a b r x = make_turn bytes a b r x
   does_adds (job.Read handle) a b r x =
       adds_none c (job.Read handle) a.far b.far (Some r) refl (once_kept handle.n a b r x)
@@ -287,9 +287,9 @@ module _ {D : Type 0} (run : D → List Event → D → Type 0) (shows : D → S
 
   -- a turn that was answered
   pub turned_adds : (j : Job) (a b : Hold) (r : Reply) → Turned run shows reads c j a r b
-      → Adds c j a.far b.far (Some r)
+      → CountsMakes c j a.far b.far (Some r)
   turned_adds j a b r (worn end e state ran) =
-      subst (λ (q : Reply). Adds c j a.far b.far (Some q)) (sym e)
+      subst (λ (q : Reply). CountsMakes c j a.far b.far (Some q)) (sym e)
       (adds_none c j a.far b.far (Some answer.Worn) (worn_none j) (kept a b state))
   turned_adds j a b r (done few x) =
       let z = does_adds j (record { desk = a.desk; far = counted a.far j }) b r x in
@@ -321,7 +321,8 @@ module _ {D : Type 0} (run : D → List Event → D → Type 0) (shows : D → S
   once_stops h a b (call_stops m place come there x) = kept m b (lack h m b x) ∙ come_kept h a m place come
 
   write_stops : (h at : ℕ) (bytes : List ℕ) (a b : Hold)
-      → CallStops (Writes run shows h at bytes) NeverLacks (Declines run shows h at (length bytes))
+      → CallStops (WritesObject run shows h at bytes) NeverLacks
+      (Declines run shows h at (length bytes))
       (Brings run shows c h) (BringLacks run shows c h) a b → Kept a b
   write_stops h at bytes a b (call_near x) = absurd x
   write_stops h at bytes a b (call_far m n x look y) =
@@ -357,6 +358,6 @@ module _ {D : Type 0} (run : D → List Event → D → Type 0) (shows : D → S
   -- a turn that found no memory
   pub stops_adds : (j : Job) (a b : Hold)
       → Stops run shows lacks c j (record { desk = a.desk; far = counted a.far j }) b
-      → Adds c j a.far b.far None
+      → CountsMakes c j a.far b.far None
   stops_adds j a b x = adds_none c j a.far b.far None (none_made j)
       (stops_kept j (record { desk = a.desk; far = counted a.far j }) b x)

@@ -21,7 +21,7 @@ use Rattle.cb_rule.specs.declared.turn.Turn.{Turn}
 use Rattle.cb_rule.specs.declared.view.View.{View}
 use Rattle.cb_rule.specs.Lists.{Has, total}
 use Rattle.cb_rule.specs.Locking.{turn_number}
-use Rattle.cb_rule.specs.OneHistory.{HasNumber, IsOneHistory}
+use Rattle.cb_rule.specs.OneHistory.{HasTurnNumber, IsOneHistory}
 use Rattle.cb_rule.proofs.Laws.{by_case}
 use Rattle.cb_model.specs.Called.{calls_behind, calls_of, makes, made_by as makes_by}
 use Rattle.cb_model.specs.Event.{Subject, event_of, refusal}
@@ -33,7 +33,7 @@ use Rattle.cb_record.specs.Told.{tolds}
 use Rattle.cb_record.specs.Upheld.{as_part}
 use Rattle.cb_shared.specs.Turning.{Did, DidAs, PinLacks, ReadsByPin, Slate, held_by, slate_run, slate_shows}
 use Rattle.cb_app.proofs.CountedTurns.{below, counts_all, counts_more, counts_none}
-use Rattle.cb_app.proofs.MadeStays.{Adds, made_by, stops_adds, turned_adds}
+use Rattle.cb_app.proofs.MadeStays.{CountsMakes, made_by, stops_adds, turned_adds}
 use Rattle.cb_app.proofs.TurnHistory.{at_last, at_turn, lone, number_of}
 
 -- ---- one turn
@@ -44,7 +44,7 @@ lacks_same : (h : ℕ) (a b : Holding Slate) → PinLacks h a b → b.far ≡ a.
 lacks_same h a b x = ap (λ (z : Holding Slate). z.far) x
 
 did_adds : (c : Config) (j : Job) (reply : Option Reply) (start : Shown) (es : List Event)
-    (took gave : FarState) → DidAs c j reply start es took gave → Adds c j took gave reply
+    (took gave : FarState) → DidAs c j reply start es took gave → CountsMakes c j took gave reply
 did_adds c j (Some r) start es took gave did =
     turned_adds slate_run slate_shows ReadsByPin read_same PinLacks lacks_same c j
     (held_by start [] took) (held_by (played es start) es gave) r did
@@ -72,7 +72,7 @@ module _ (first : ℕ) (c : Config) (v : View) (count : ℕ) (last : FarState)
   abbrev Counts : ℕ → FarState → Type 0
   Counts n far = (far.made ≡ total (below turn_number made_in n) v.turns) × (far.made ≤ c.handles)
 
-  adds : (t : Turn) → Has t v.turns → Adds c t.job t.took t.gave t.reply
+  adds : (t : Turn) → Has t v.turns → CountsMakes c t.job t.took t.gave t.reply
   adds t there = did_adds c t.job t.reply t.start t.acts t.took t.gave (one.did t (v, (0, refl), there))
 
   step : (t : Turn) → Has t v.turns → turn_number t < count → Counts (turn_number t) t.took
@@ -89,7 +89,7 @@ module _ (first : ℕ) (c : Config) (v : View) (count : ℕ) (last : FarState)
   counted_or_none : (t : Turn) → Has t v.turns → (turn_number t < count) ⊎ (made_in t ≡ 0)
   counted_or_none t there = by (number_of first c v count last one t there)
     where
-      by : HasNumber count t → (turn_number t < count) ⊎ (made_in t ≡ 0)
+      by : HasTurnNumber count t → (turn_number t < count) ⊎ (made_in t ≡ 0)
       by (inl less) = inl less
       by (inr z) = inr (let e = ap (λ (f : FarState). f.made) z.2 in
           let more = (adds t there).more in omega (arith, e, more))
@@ -112,7 +112,7 @@ module _ (first : ℕ) (c : Config) (v : View) (count : ℕ) (last : FarState)
       z : Counts (turn_number t) t.took
       z = at_turn first c v count last one Counts start step t there
 
-      by : HasNumber count t → t.gave.made ≤ total made_in v.turns
+      by : HasTurnNumber count t → t.gave.made ≤ total made_in v.turns
       by (inl low) =
           let a = (step t there low z).0 in
           let b = below_less v.turns (suc (turn_number t)) in omega (arith, a, b)

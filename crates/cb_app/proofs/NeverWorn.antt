@@ -18,10 +18,10 @@ use Rattle.cb_world.specs.FarState.{FarState}
 use Rattle.cb_mutate.specs.Answered.{AbsentAs, AnsweredAs, EmptyAnswer}
 use Rattle.cb_mutate.specs.MakeRule.{MakeRule}
 use Rattle.cb_evict.specs.EvictRule.{EvictRule, HasBoth, HasFewNodes, HasFewSpans}
-use Rattle.cb_filter.specs.FilterRule.{EmptyAnswer as EmptyFilter, FilterAs, FilterHere, FilterRule}
+use Rattle.cb_filter.specs.FilterRule.{EmptyToFilter, FilterAs, FilterHere, FilterRule}
 use Rattle.cb_swapin.specs.SwapRule.{SwapRule}
 use Rattle.cb_swapin.proofs.Laws.{by_answer}
-use Rattle.cb_compact.specs.NowStep.{Ends, NowStep}
+use Rattle.cb_compact.specs.CompactStep.{CompactStep, PairEnds}
 use Rattle.cb_rebuild.specs.RebuildStep.{RebuildStep, Restores, surveyed}
 use Rattle.cb_set.specs.SetState.{SetState}
 use Rattle.cb_core.specs.Membership.{CrashTurn, JoinTurn, crashed, is_down, is_up, joined}
@@ -88,7 +88,7 @@ filter_rule : (frames h : ℕ) (far new : FarState) (r : Reply) (es : List Event
     → FilterRule frames h far new r es → Unworn r
 filter_rule frames h far new r es a = by (state_of a.word) a.word a.answer
   where
-    empty : (v : ℕ) → EmptyFilter v r → Unworn r
+    empty : (v : ℕ) → EmptyToFilter v r → Unworn r
     empty zero e = off r answer.Unmade refl e
     empty (suc n) e = off r answer.NotHere refl e
 
@@ -114,11 +114,11 @@ evict_rule c far new r es a = by a.answered
     by (inr (inl x)) = off r _ refl x.reply
     by (inr (inr x)) = off r _ refl x.reply
 
-now_ends : (far new : FarState) (r : Reply) → Ends far new r → Unworn r
+now_ends : (far new : FarState) (r : Reply) → PairEnds far new r → Unworn r
 now_ends far new r (inl full) = off r (answer.NodeFull full.node) refl full.reply
 now_ends far new r (inr merged) = off r (answer.Merged merged.set merged.moved) refl merged.reply
 
-now_step : (far new : FarState) (r : Reply) → NowStep far new r → Unworn r
+now_step : (far new : FarState) (r : Reply) → CompactStep far new r → Unworn r
 now_step far new r (inl x) = off r _ refl x.reply
 now_step far new r (inr (inl x)) = off r answer.NoPair refl x.reply
 now_step far new r (inr (inr x)) = now_ends x.stepped new r x.ends

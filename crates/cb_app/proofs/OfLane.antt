@@ -9,13 +9,13 @@ use Rattle.cb_types.specs.declared.answer.Answer.{Answer}
 use Rattle.cb_types.specs.declared.request.Request.{Request}
 use Rattle.cb_types.specs.Requests.{name_of}
 use Rattle.cb_script.specs.declared.script.Line.{Line}
-use Rattle.cb_script.specs.Form.{AreLines, IsMade, KnowsName, Makes}
+use Rattle.cb_script.specs.Form.{AreLines, IsNameMade, KnowsName, MakesName}
 use Rattle.cb_rule.specs.Lists.{Has}
 use Rattle.cb_lanes.specs.Asked.{asked}
 use Rattle.cb_lanes.proofs.Laws.{AreOfLane, NoneOfLane}
 use Rattle.cb_app.specs.ByLane.{IsUsed, Uses, by_lane, lanes_up_to, of_lane}
 use Rattle.cb_app.specs.OwnLines.{AreAmong, to_lane}
-use Rattle.cb_app.proofs.Lanes.{IsOf, lanes_made, made_in_both, of_lane_made, of_lane_own, used_known}
+use Rattle.cb_app.proofs.Lanes.{IsOfLane, lanes_made, made_in_both, of_lane_made, of_lane_own, used_known}
 
 -- ---- answers
 pub has_either : {A : Type 0} (x : A) (xs ys : List A) → Has x (xs ++ ys) → Has x xs ⊎ Has x ys
@@ -54,17 +54,17 @@ none_to_lane lane [] none = refl
 none_to_lane lane (a ∷ xs) none = answer_past lane a xs none.0 ∙ none_to_lane lane xs none.1
 
 -- whether some are the lane's
-pub record HasSome (lane : ℕ) (xs : List Answer) : Type 0 where
+pub record HasLaneAnswer (lane : ℕ) (xs : List Answer) : Type 0 where
   pub answer : Answer
   pub there : Has answer xs
   pub own : answer.lane.n ≡ lane
 
-pub some_or_none : (lane : ℕ) (xs : List Answer) → HasSome lane xs ⊎ NoneOfLane lane xs
+pub some_or_none : (lane : ℕ) (xs : List Answer) → HasLaneAnswer lane xs ⊎ NoneOfLane lane xs
 some_or_none lane [] = inr tt
 some_or_none lane (a ∷ xs) = by (lane_cases a.lane.n lane) (some_or_none lane xs)
   where
-    by : (a.lane.n ≡ lane) ⊎ (a.lane.n ≡ lane → ⊥) → HasSome lane xs ⊎ NoneOfLane lane xs
-        → HasSome lane (a ∷ xs) ⊎ NoneOfLane lane (a ∷ xs)
+    by : (a.lane.n ≡ lane) ⊎ (a.lane.n ≡ lane → ⊥) → HasLaneAnswer lane xs ⊎ NoneOfLane lane xs
+        → HasLaneAnswer lane (a ∷ xs) ⊎ NoneOfLane lane (a ∷ xs)
     by (inl same) rest = inl (record { answer = a; there = inl refl; own = same })
     by (inr off) (inl some) =
         inl (record { answer = some.answer; there = inr some.there; own = some.own })
@@ -130,12 +130,12 @@ asked_to_lane lane (a ∷ xs) = by (asked_to_lane lane xs) (lane_cases a.lane.n 
     by rest (inr off) = ap (map asked) (answer_past lane a xs off) ∙ rest
         ∙ sym (line_past lane (asked a) (map asked xs) off)
 
-all_of_lane : (lane : ℕ) (ls : List Line) → AllByRecursion (IsOf lane) ls → of_lane lane ls ≡ ls
+all_of_lane : (lane : ℕ) (ls : List Line) → AllByRecursion (IsOfLane lane) ls → of_lane lane ls ≡ ls
 all_of_lane lane [] all = refl
 all_of_lane lane (l ∷ ls) all =
     line_hit lane l ls all.0 ∙ ap (λ (k : List Line). l ∷ k) (all_of_lane lane ls all.1)
 
-none_of_lane : (lane n : ℕ) (ls : List Line) → (n ≡ lane → ⊥) → AllByRecursion (IsOf n) ls
+none_of_lane : (lane n : ℕ) (ls : List Line) → (n ≡ lane → ⊥) → AllByRecursion (IsOfLane n) ls
     → of_lane lane ls ≡ []
 none_of_lane lane n [] off all = refl
 none_of_lane lane n (l ∷ ls) off all = line_past lane l ls (λ same. off (sym all.0 ∙ same))
@@ -196,11 +196,15 @@ lane_by_lane nodes lane ls are some = of_lanes lane (of_lane 0 ls) (lanes_up_to 
     by (inr low) = lanes_from lane 15 ls some low
 
 -- ---- what a line among them is about
-pub made_here : (ls : List Line) (l : Line) (name : List ℕ) → Has l ls → Makes l.request name
-    → IsMade ls l.lane.n name
+pub made_here : (ls : List Line) (l : Line) (name : List ℕ) → Has l ls → MakesName l.request name
+    → IsNameMade ls l.lane.n name
 made_here [] l name has makes = absurd has
 made_here (k ∷ ls) l name (inl is) makes =
-    inl (ap (λ (z : Line). z.lane.n) is, subst (λ (z : Line). Makes z.request name) (sym is) makes)
+    inl (
+      ap (λ (z : Line). z.lane.n) is,
+      subst (λ (z : Line). MakesName z.request name) (sym is)
+          makes,
+    )
 made_here (k ∷ ls) l name (inr later) makes = inr (made_here ls l name later makes)
 
 pub used_here : (ls : List Line) (l : Line) (name : List ℕ) → Has l ls → Uses l.request name
@@ -211,11 +215,11 @@ used_here (k ∷ ls) l name (inl is) uses =
 used_here (k ∷ ls) l name (inr later) uses = inr (used_here ls l name later uses)
 
 -- a lane that makes a name by lane makes it in the script
-pub made_in_script : (ls : List Line) (lane : ℕ) (name : List ℕ) → IsMade (by_lane ls) lane name
-    → IsMade ls lane name
+pub made_in_script : (ls : List Line) (lane : ℕ) (name : List ℕ) → IsNameMade (by_lane ls) lane name
+    → IsNameMade ls lane name
 made_in_script ls lane name made = by (made_in_both (of_lane 0 ls) (lanes_up_to 15 ls) lane name made)
   where
-    by : IsMade (of_lane 0 ls) lane name ⊎ IsMade (lanes_up_to 15 ls) lane name → IsMade ls lane name
+    by : IsNameMade (of_lane 0 ls) lane name ⊎ IsNameMade (lanes_up_to 15 ls) lane name → IsNameMade ls lane name
     by (inl first) = (of_lane_made 0 ls lane name first).0
     by (inr other) = (lanes_made 15 ls lane name other).0
 
@@ -226,7 +230,7 @@ line_of P (k ∷ ls) l all (inr later) = line_of P ls l all.1 later
 
 in_its_lane : (n : ℕ) (ls : List Line) (l : Line) → Has l (of_lane n ls) → Has l (of_lane l.lane.n ls)
 in_its_lane n ls l has = subst (λ (m : ℕ). Has l (of_lane m ls))
-    (sym (line_of (IsOf n) (of_lane n ls) l (of_lane_own n ls) has)) has
+    (sym (line_of (IsOfLane n) (of_lane n ls) l (of_lane_own n ls) has)) has
 
 in_some_lane : (n : ℕ) (ls : List Line) (l : Line) → Has l (lanes_up_to n ls)
     → Has l (of_lane l.lane.n ls)

@@ -12,7 +12,7 @@ use Rattle.cb_types.specs.declared.request.Request.TheVariants.{Make}
 use Rattle.cb_types.specs.declared.reply.Reply.{Reply}
 use Rattle.cb_types.specs.declared.reply.Reply.TheVariants.{Made}
 use Rattle.cb_script.specs.declared.script.Line.{Line}
-use Rattle.cb_script.specs.Form.{AreLines, IsMade, IsNew, Makes}
+use Rattle.cb_script.specs.Form.{AreLines, IsNameMade, IsNameNew, MakesName}
 use Rattle.cb_model.specs.Called.{calls_behind, calls_of, change_to, called, changes_to, handle_for, handle_made, history}
 use Rattle.cb_model.specs.Event.{event_of}
 use Rattle.cb_model.specs.History.{GoesOn, IsHistory, by_version, placed}
@@ -35,7 +35,7 @@ made_on h (a ∷ later) = made_one h a.request a.reply + made_on h later
 
 -- one answer makes the name, and gives the handle
 record IsMaking (name : List ℕ) (h : ℕ) (q : Request) (r : Reply) : Type 0 where
-  makes : Makes q name
+  makes : MakesName q name
   one : made_one h q r ≡ 1
 
 same_number : (h n : ℕ) → ◌≡◌ {A = Option ℕ} (Some n) (Some h)
@@ -57,7 +57,7 @@ making name h (Make made bytes) (Made handle version) is = by (cases_Bool (bytes
         let e : None ≡ Some h = sym (ap (λ (b : Bool). if b then Some handle.n else None) other) ∙ is in cc)
 making name h q r is = absurd cc
 
-one_name : (q : Request) (x y : List ℕ) → Makes q x → Makes q y → x ≡ y
+one_name : (q : Request) (x y : List ℕ) → MakesName q x → MakesName q y → x ≡ y
 one_name (Make made bytes) x y p q = sym p ∙ q
 one_name r x y p q = absurd p
 
@@ -167,11 +167,13 @@ handle_has_one_name first handles answers legal x y h p q = by (cases_Bool (byte
 abbrev MadeOnce : List Line → List Line → Type 0
 MadeOnce before [] = Unit {0}
 MadeOnce before (l ∷ after) =
-    ((name : List ℕ) → Makes l.request name → IsNew before name) × MadeOnce (before ++ l ∷ []) after
+    ((name : List ℕ) → MakesName l.request name → IsNameNew before name)
+    × MadeOnce (before ++ l ∷ []) after
 
 -- no lane makes a name on the one lines and on the other
 abbrev AreOfTwo : List Line → List Line → Type 0
-AreOfTwo before after = (m n : ℕ) (name : List ℕ) → IsMade before m name → IsMade after n name → ⊥
+AreOfTwo before after = (m n : ℕ) (name : List ℕ) → IsNameMade before m name
+    → IsNameMade after n name → ⊥
 
 not_again : (before after : List Line) → MadeOnce before after → AreOfTwo before after
 not_again before [] once m n name made again = absurd again
@@ -189,7 +191,7 @@ once_behind before front (l ∷ after) once two = (
       (λ m n name made again. two m n name made (inr again))),
 )
   where
-    by : (name : List ℕ) → Makes l.request name → (m : ℕ) → IsMade before m name ⊎ IsMade front m name
+    by : (name : List ℕ) → MakesName l.request name → (m : ℕ) → IsNameMade before m name ⊎ IsNameMade front m name
         → ⊥
     by name makes m (inl made) = two m l.lane.n name made (inl (refl, makes))
     by name makes m (inr made) = once.0 name makes m made
@@ -245,8 +247,8 @@ lanes_once nodes (suc n) lines are =
     front : List Line
     front = of_lane 0 lines ++ lanes_up_to n lines
 
-    by : (m k : ℕ) (name : List ℕ) → IsMade lines k name × (k ≡ suc n)
-        → IsMade (of_lane 0 lines) m name ⊎ IsMade (lanes_up_to n lines) m name → ⊥
+    by : (m k : ℕ) (name : List ℕ) → IsNameMade lines k name × (k ≡ suc n)
+        → IsNameMade (of_lane 0 lines) m name ⊎ IsNameMade (lanes_up_to n lines) m name → ⊥
     by m k name own (inl first) =
         let at = of_lane_made 0 lines m name first in
         let same = one_maker nodes lines are name m k at.0 own.0 in
@@ -261,14 +263,14 @@ lanes_once nodes (suc n) lines are =
         (made_in_both (of_lane 0 lines) (lanes_up_to n lines) m name made)
 
 made_line : (answers : List Answer) (name : List ℕ) (h : ℕ) → IsMadeAs answers name h
-    → (n : ℕ) × IsMade (map asked answers) n name
+    → (n : ℕ) × IsNameMade (map asked answers) n name
 made_line [] name h made = absurd made
 made_line (a ∷ later) name h (inl here) =
     (a.lane.n, inl (refl, (making name h a.request a.reply here).makes))
 made_line (a ∷ later) name h (inr more) = let at = made_line later name h more in (at.0, inr at.1)
 
-made_last : (ls : List Line) (a : Answer) (name : List ℕ) → Makes a.request name
-    → IsMade (ls ++ asked a ∷ []) a.lane.n name
+made_last : (ls : List Line) (a : Answer) (name : List ℕ) → MakesName a.request name
+    → IsNameMade (ls ++ asked a ∷ []) a.lane.n name
 made_last [] a name makes = inl (refl, makes)
 made_last (l ∷ ls) a name makes = inr (made_last ls a name makes)
 

@@ -24,10 +24,10 @@ use Rattle.cb_world.proofs.Laws.{some_same}
 use Rattle.cb_evict.specs.EvictRule.{EvictRule, HasBoth, HasFewNodes, HasFewSpans}
 use Rattle.cb_evict.specs.Storing.{AreShards, set_for}
 use Rattle.cb_compact.specs.MergeStep.{MergeStep, Merges}
-use Rattle.cb_compact.specs.NowStep.{Ends, NowStep}
-use Rattle.cb_compact.specs.Pairing.{BeginStep}
-use Rattle.cb_compact.specs.Standing.{PartStep}
-use Rattle.cb_compact.specs.Steps.{PatchStep, TakesStep}
+use Rattle.cb_compact.specs.CompactStep.{CompactStep, PairEnds}
+use Rattle.cb_compact.specs.PairStep.{PairStep}
+use Rattle.cb_compact.specs.PartStep.{PartStep}
+use Rattle.cb_compact.specs.PatchStep.{PatchStep, TakesStep}
 
 -- ---- the pair
 -- it was joining, with these shards of a
@@ -71,7 +71,7 @@ becomes far new now is from pair there =
     subst (λ (p : JoiningState). WasPair far.joining p.shards_a ⊎ AreOfSet far.sets p.shards_a)
     (some_same now pair (sym is ∙ there)) from
 
-pub begin_pair : (far new : FarState) (r : Reply) → BeginStep far new r → PairGoes far new
+pub begin_pair : (far new : FarState) (r : Reply) → PairStep far new r → PairGoes far new
 begin_pair far new r (inl x) = stays far new x.state
 begin_pair far new r (inr (inl x)) = pair_stays far new (ap (λ (f : FarState). f.joining) x.state)
 begin_pair far new r (inr (inr x)) = becomes far new _ (ap (λ (f : FarState). f.joining) x.state)
@@ -116,12 +116,12 @@ merged_none far new set moved (inr (inr x)) = by x.merges
     by (inl y) = absurd (let e = y.reply in cc)
     by (inr y) = ap (λ (f : FarState). f.joining) y.state
 
-pub now_pair : (far new : FarState) (r : Reply) → NowStep far new r → PairGoes far new
+pub now_pair : (far new : FarState) (r : Reply) → CompactStep far new r → PairGoes far new
 now_pair far new r (inl x) = stays far new x.state
 now_pair far new r (inr (inl x)) = pair_stays far new (ap (λ (f : FarState). f.joining) x.state)
 now_pair far new r (inr (inr x)) = by x.ends
   where
-    by : Ends x.stepped new r → PairGoes far new
+    by : PairEnds x.stepped new r → PairGoes far new
     by (inl y) = pair_gone far new (parted_none x.stepped new answer.Done y.parted)
     by (inr y) = pair_gone far new (merged_none x.stepped new y.set y.moved y.merged)
 

@@ -21,7 +21,7 @@ use Rattle.cb_evict.specs.BeginRule.{BeginRule, HasBatch}
 use Rattle.cb_evict.specs.CommitRule.{CommitRule, HasShort, HasCommitted}
 use Rattle.cb_evict.specs.EvictRule.{EvictRule, HasBoth, HasFewNodes, HasFewSpans}
 use Rattle.cb_evict.specs.ShipRule.{ShipRule}
-use Rattle.cb_filter.specs.FilterRule.{EmptyAnswer as EmptyFilter, FilterAs, FilterHere, FilterRule}
+use Rattle.cb_filter.specs.FilterRule.{EmptyToFilter, FilterAs, FilterHere, FilterRule}
 use Rattle.cb_core.specs.Turned.{IsDeclined}
 
 -- whether a reply tells of a lost set, or of want of room
@@ -31,18 +31,18 @@ tells_lack (answer.NoRoom frames loose nodes) = true
 tells_lack r = false
 
 -- the reply is neither
-abbrev pub Plain : Reply → Type 0
-Plain r = tells_lack r ≡ false
+abbrev pub TellsNoLack : Reply → Type 0
+TellsNoLack r = tells_lack r ≡ false
 
 -- it is this one
-pub off : (r q : Reply) → tells_lack q ≡ false → r ≡ q → Plain r
+pub off : (r q : Reply) → tells_lack q ≡ false → r ≡ q → TellsNoLack r
 off r q other is = ap tells_lack is ∙ other
 
-abbrev pub Standing : Type 0
-Standing = Membership × Option JoiningState
+abbrev pub MembersAndPair : Type 0
+MembersAndPair = Membership × Option JoiningState
 
 -- the members, and the pair that is joining
-abbrev pub standing : FarState → Standing
+abbrev pub standing : FarState → MembersAndPair
 standing far = (far.members, far.joining)
 
 -- they are as they were
@@ -50,15 +50,15 @@ abbrev pub StandsAs : FarState → FarState → Type 0
 StandsAs far new = standing new ≡ standing far
 
 pub members_of : (far new : FarState) → StandsAs far new → new.members ≡ far.members
-members_of far new same = ap (λ (x : Standing). x.0) same
+members_of far new same = ap (λ (x : MembersAndPair). x.0) same
 
 pub joining_of : (far new : FarState) → StandsAs far new → new.joining ≡ far.joining
-joining_of far new same = ap (λ (x : Standing). x.1) same
+joining_of far new same = ap (λ (x : MembersAndPair). x.1) same
 
 -- so behind an operation with a plain reply
 pub record StaysPlain (far new : FarState) (r : Reply) : Type 0 where
   pub stands : StandsAs far new
-  pub plain : Plain r
+  pub plain : TellsNoLack r
 
 pub stands_same : (far new : FarState) → new ≡ far → StandsAs far new
 stands_same far new same = ap standing same
@@ -77,10 +77,10 @@ comes far new next r q other is same keeps = record {
 }
 
 -- ---- calls on objects
-absent : (q : State) (h : ℕ) (es : List Event) (r : Reply) → AbsentAs q h es r → Plain r
+absent : (q : State) (h : ℕ) (es : List Event) (r : Reply) → AbsentAs q h es r → TellsNoLack r
 absent word.Empty h es r (v, told, e) = by v e
   where
-    by : (v : ℕ) → EmptyAnswer v r → Plain r
+    by : (v : ℕ) → EmptyAnswer v r → TellsNoLack r
     by zero e = off r answer.Unmade refl e
     by (suc n) e = off r answer.Freed refl e
 absent word.Far h es r e = off r answer.NotHere refl e
@@ -88,13 +88,13 @@ absent word.Here h es r e = absurd e
 absent word.Moving h es r e = off r answer.Moving refl e
 
 pub answered : (here : ℕ → Type 0) (q : State) (w h : ℕ) (es : List Event) (r : Reply)
-    → (here w → Plain r) → AnsweredAs q here w h es r → Plain r
+    → (here w → TellsNoLack r) → AnsweredAs q here w h es r → TellsNoLack r
 answered here word.Here w h es r f a = f a
 answered here word.Empty w h es r f a = absent word.Empty h es r a
 answered here word.Far w h es r f a = absent word.Far h es r a
 answered here word.Moving w h es r f a = absent word.Moving h es r a
 
-next_plain : (v : ℕ) (r : Reply) → NextVersion v r → Plain r
+next_plain : (v : ℕ) (r : Reply) → NextVersion v r → TellsNoLack r
 next_plain v r (inl (e, is)) = off r answer.Worn refl is
 next_plain v r (inr (l, is)) = off r (answer.Version (v + 1)) refl is
 
@@ -109,24 +109,24 @@ make_plain handles bytes far new (answer.Made h version) es x =
 make_plain handles bytes far new r es x = absurd x
 
 pub write_plain : (h at : ℕ) (bytes : List ℕ) (r : Reply) (es : List Event) → WriteRule h at bytes r es
-    → Plain r
+    → TellsNoLack r
 write_plain h at bytes r es a =
     answered (WriteHere h at bytes es r) (state_of a.word) a.word h es r (by a.word) a.answer
   where
-    by : (w : ℕ) → WriteHere h at bytes es r w → Plain r
+    by : (w : ℕ) → WriteHere h at bytes es r w → TellsNoLack r
     by w (inl (past, is)) = off r (answer.Range (len_of w)) refl is
     by w (inr (fits, inl (some, is))) = off r _ refl is
     by w (inr (fits, inr (none, (v, words, taken, next)))) = next_plain v r next
 
 free_reply : (h : ℕ) (far new : FarState) (r : Reply) (es : List Event) → FreeRule h far new r es
-    → Plain r
+    → TellsNoLack r
 free_reply h far new r es a = by (state_of a.reply.word) a.reply.word a.reply.answer
   where
-    here : (w : ℕ) → FreeHere h es r w → Plain r
+    here : (w : ℕ) → FreeHere h es r w → TellsNoLack r
     here w (inl (some, is)) = off r _ refl is
     here w (inr (none, (v, words, taken, next))) = next_plain v r next
 
-    by : (q : State) (w : ℕ) → FreeAs q w h es r → Plain r
+    by : (q : State) (w : ℕ) → FreeAs q w h es r → TellsNoLack r
     by word.Far w (v, told, next) = next_plain v r next
     by word.Here w x = here w x
     by word.Empty w x = absent word.Empty h es r x
@@ -155,7 +155,7 @@ pub filter_plain : (frames h : ℕ) (far new : FarState) (r : Reply) (es : List 
     → FilterRule frames h far new r es → StaysPlain far new r
 filter_plain frames h far new r es a = by (state_of a.word) a.word a.answer
   where
-    empty : (v : ℕ) → EmptyFilter v r → Plain r
+    empty : (v : ℕ) → EmptyToFilter v r → TellsNoLack r
     empty zero e = off r answer.Unmade refl e
     empty (suc n) e = off r answer.NotHere refl e
 
@@ -228,13 +228,13 @@ some_same : (a b : Reply) → Some a ≡ Some b → a ≡ b
 some_same a b e = cc
 
 pub declined_plain : (h at count : ℕ) (far : FarState) (r : Reply) (es : List Event)
-    → IsDeclined h at count far (Some r) es → Plain r
+    → IsDeclined h at count far (Some r) es → TellsNoLack r
 declined_plain h at count far r es (inl (gone, none, nothing)) = absurd (some_none r none)
 declined_plain h at count far r es (inr (stays, (w, v, found, far_word, told, last, is))) =
     by (nat_lt (len_of w) (at + count)) (v == 2 ^ 64 - 1) is
   where
     by : (past worn : Bool) → Some r ≡ (if past then Some (answer.Range (len_of w))
-        else if worn then Some answer.Worn else None) → Plain r
+        else if worn then Some answer.Worn else None) → TellsNoLack r
     by true worn e = off r (answer.Range (len_of w)) refl (some_same _ _ e)
     by false true e = off r answer.Worn refl (some_same _ _ e)
     by false false e = absurd (some_none r e)

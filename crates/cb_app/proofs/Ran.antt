@@ -22,7 +22,7 @@ use Rattle.cb_shared.specs.declared.pass.Pass.{Pass}
 use Rattle.cb_shared.specs.declared.runtime.Shared.{Shared}
 use Rattle.cb_shared.specs.Closing.{IsClosedBy}
 use Rattle.cb_shared.specs.Joining.{unpinned_all}
-use Rattle.cb_shared.specs.Passes.{IsBegun, record_of}
+use Rattle.cb_shared.specs.Passes.{IsRuntimeBegun, record_of}
 use Rattle.cb_shared.specs.Sealing.{sealed_record, sealed_world}
 use Rattle.cb_shared.specs.Turning.{Did}
 use Rattle.cb_lanes.specs.declared.body.LaneEnd.{LaneEnd}
@@ -36,7 +36,7 @@ use Rattle.cb_lanes.proofs.Laws.{freed_last, keep_alone, none_lacks}
 use Rattle.cb_app.specs.ByLane.{by_lane}
 use Rattle.cb_app.specs.Calm.{IsCalmTo}
 use Rattle.cb_workers.specs.declared.worker.Worker.{Worker}
-use Rattle.cb_app.specs.Crew.{IsTold, RiseWith, part_of, work_in}
+use Rattle.cb_app.specs.Crew.{IsLaneTold, RiseWith, part_of, work_in}
 use Rattle.cb_app.specs.OwnLines.{AreAllOf, KeepAloneWith}
 use Rattle.cb_app.specs.Threaded.{AreLosses, IsRun}
 use Rattle.cb_app.specs.declared.threads.ThreadsEnd.{ThreadsEnd}
@@ -116,9 +116,9 @@ is_run script end mode few are lines replies last seal closed backs suits rises 
 
 module _ (script : Script) (mode : AreInMode modes.Threads script.lines) (shared : Shared)
     (pass : Pass)
-    (begun : IsBegun 1 script.config shared pass) (told : LaneEnd)
+    (begun : IsRuntimeBegun 1 script.config shared pass) (told : LaneEnd)
     (few : length script.lines ≤ 20000) (are : AreLines script.config.nodes [] script.lines)
-    (is_told : IsTold shared [] (by_lane script.lines) told)
+    (is_told : IsLaneTold shared [] (by_lane script.lines) told)
     (work : (w : Worker) → shared.config.turns ≤ work_in w (record_of told.pass)) where
   -- the record of the pass that closed
   abbrev closing : View

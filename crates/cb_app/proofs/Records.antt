@@ -22,7 +22,7 @@ use Rattle.cb_rule.specs.declared.view.View.{View}
 use Rattle.cb_rule.specs.Lists.{Has}
 use Rattle.cb_rule.specs.Records.{seen_of}
 use Rattle.cb_rule.specs.Steps.{Knows, opener, right_of}
-use Rattle.cb_record.specs.Backs.{Backs, Enters, Wrote}
+use Rattle.cb_record.specs.Backs.{Backs, Enters, WroteLines}
 use Rattle.cb_record.specs.Deeds.{Deed, deed, happened, happening}
 use Rattle.cb_record.specs.Parts.{Part, grown}
 use Rattle.cb_record.specs.Told.{Told, tolds}
@@ -36,9 +36,9 @@ use Rattle.cb_lanes.specs.Scoped.{LaneScoped}
 use Rattle.cb_lanes.specs.Scopes.{scope_of}
 use Rattle.cb_lanes.specs.Suits.{AreSuited}
 use Rattle.cb_lanes.proofs.Laws.{answers_of, lane_suits}
-use Rattle.cb_workers.specs.Bodies.{IsWorked, Works}
+use Rattle.cb_workers.specs.Bodies.{IsWorked, WorkerWorks}
 use Rattle.cb_workers.specs.Rules.{owner}
-use Rattle.cb_workers.specs.Work.{AreOf}
+use Rattle.cb_workers.specs.Work.{AreJobsOf}
 use Rattle.cb_workers.specs.declared.worker.Worker.{Worker}
 use Rattle.cb_workers.proofs.Laws.{work_is_of}
 use Rattle.cb_shared.specs.declared.pass.Pass.{Pass}
@@ -49,7 +49,7 @@ use Rattle.cb_script.specs.declared.script.Line.{Line}
 use Rattle.cb_lanes.specs.declared.body.LaneEnd.{LaneEnd}
 use Rattle.cb_lanes.specs.Asked.{HasLineReply, asked}
 use Rattle.cb_lanes.specs.LastTries.{HasLastTry}
-use Rattle.cb_app.specs.Crew.{AreKnownTo, IsFresh, IsTold, name_made, names_in, part_of}
+use Rattle.cb_app.specs.Crew.{AreKnownTo, IsFreshRecord, IsLaneTold, name_made, names_in, part_of}
 use Rattle.cb_app.proofs.AnswersRise.{lane_rise, none_rise}
 use Rattle.cb_app.proofs.LanesAlone.{lane_alone_with, none_alone}
 use Rattle.cb_app.proofs.ScopesTold.{none_scoped}
@@ -95,19 +95,19 @@ right_knows_names [] given v known = tt
 right_knows_names (n ∷ names) given v known =
     (right_knows_handle n.handle given v known.0, right_knows_names names given v known.1)
 
-pub right_fresh : (given : ℕ) (v : View) → IsFresh (right_of given v)
+pub right_fresh : (given : ℕ) (v : View) → IsFreshRecord (right_of given v)
 right_fresh given v = record { pins = refl; written = refl; turns = refl; own = refl }
 
-pub opener_fresh : (c : Config) → IsFresh (opener c)
+pub opener_fresh : (c : Config) → IsFreshRecord (opener c)
 opener_fresh c = record { pins = refl; written = refl; turns = refl; own = refl }
 
 -- ---- a record that grew backs what its new part backs
 
-pub fresh_idle : (v : View) → IsFresh v → Backs (part_of v) []
+pub fresh_idle : (v : View) → IsFreshRecord v → Backs (part_of v) []
 fresh_idle v fresh = idle_backs (part_of v) fresh.written
     (ap (λ (ts : List Turn). flat_map (λ turn. happened (deed turn)) ts) fresh.turns)
 
-pub fresh_backs : (v w : View) (d : Part) (own : List ℕ) (ts : List Told) → IsFresh v
+pub fresh_backs : (v w : View) (d : Part) (own : List ℕ) (ts : List Told) → IsFreshRecord v
     → w ≡ record (grown d v) { own = own } → Backs d ts → Backs (part_of w) ts
 fresh_backs v w d own ts fresh grows backs =
     subst (λ (u : View). Backs (part_of u) ts) (sym grows)
@@ -121,7 +121,7 @@ none_happens w (job.Crash node) r is = absurd cc
 none_happens w (job.Join node) r is = absurd cc
 none_happens w j r is = refl
 
-none_happen : (w : Worker) (ts : List Turn) → AreOf w (map deed ts)
+none_happen : (w : Worker) (ts : List Turn) → AreJobsOf w (map deed ts)
     → flat_map (λ turn. happened (deed turn)) ts ≡ []
 none_happen w [] are = refl
 none_happen w (t ∷ ts) are =
@@ -135,8 +135,8 @@ worked_backs handles turns w d worked = idle_backs d (ap (λ (p : Part). p.writt
     (map deed d.turns) worked.work))
 
 pub worker_told : (s : Shared) (w : Worker) (turns : ℕ) (p q : Pass) (given answers : List Answer)
-    → IsFresh (record_of p) → Works s w turns p q → answers ≡ []
-    → IsTold s given [] (record { answers = answers; pass = q })
+    → IsFreshRecord (record_of p) → WorkerWorks s w turns p q → answers ≡ []
+    → IsLaneTold s given [] (record { answers = answers; pass = q })
 worker_told s w turns p q given answers fresh works none =
     let d = works.1.0 in
     let backs : Backs (part_of (record_of q)) [] =
@@ -195,7 +195,7 @@ has_front e (x ∷ xs) ys (inl here) = inl here
 has_front e (x ∷ xs) ys (inr later) = inr (has_front e xs ys later)
 
 pub told_known : (written : List Entry) (before answers : List Answer) (v : View)
-    → Wrote written (tolds before answers) → HasAll written v → KnowsNames v (names_in answers)
+    → WroteLines written (tolds before answers) → HasAll written v → KnowsNames v (names_in answers)
 told_known written before [] v wrote all = tt
 told_known written before (a ∷ after) v (own, rest, is, enters, later) all =
     known_both v (name_made a.request a.reply) (names_in after)
@@ -206,14 +206,14 @@ told_known written before (a ∷ after) v (own, rest, is, enters, later) all =
 
 -- what a lane leaves that began with a new pass
 pub lane_told : (s : Shared) (lane : ℕ) (names : List Named) (v : View) (lines : List Line) (e : LaneEnd)
-    → IsFresh v → KnowsNames v names → IsPassOf s e.pass → map asked e.answers ≡ lines
+    → IsFreshRecord v → KnowsNames v names → IsPassOf s e.pass → map asked e.answers ≡ lines
     → AllByRecursion HasLineReply e.answers → AllByRecursion (HasLastTry s.config) e.answers
     → AddsBacked names e.answers v (record_of e.pass)
     → LaneGoes s.config names v e.answers (record_of e.pass)
     → LaneRises lane names e.answers v (record_of e.pass) → LaneScoped lane names e.answers
     → (first_version_of s ≡ 1 → v.written ≡ [] → LaneKeepsAlone s.config.nodes lane names lines e.answers)
     → AreLinesOf s.config.nodes lane lines → (given : List Answer) → AreNamesOf names given → AreKnownTo v given → scope_of lane given ≡ []
-    → IsTold s given lines e
+    → IsLaneTold s given lines e
 lane_told s lane names v lines e fresh names_known of are replies last adds goes rises scoped alone form
     given named known no_pin = record {
       of = of;

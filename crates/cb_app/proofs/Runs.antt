@@ -9,7 +9,7 @@ use Rattle.cb_cli.specs.declared.words.Command.{Command}
 use Rattle.cb_cli.specs.declared.words.Asked.TheVariants.{Run}
 use Rattle.cb_cli.specs.declared.words.Plan.{Plan}
 use Rattle.cb_cli.specs.Words.{AskFor, Name, NameNone}
-use Rattle.cb_cli.specs.Taken.{IsTaken, taken_of}
+use Rattle.cb_cli.specs.Taken.{AreBytesTaken, taken_of}
 use Rattle.cb_cli.specs.Fronts.{GetsFront}
 use Rattle.cb_cli.specs.Texts.{words_refused}
 use Rattle.cb_cli.proofs.Laws.{no_command_draws, one_command, taken_is}
@@ -17,7 +17,7 @@ use Rattle.cb_cli.specs.declared.verdict.Verdict.{Verdict}
 use Rattle.cb_cli.specs.declared.verdict.Verdict.TheVariants.{Done, Refused}
 use Rattle.cb_app.specs.declared.ending.Ending.{Ending}
 use Rattle.cb_app.specs.Modes.{Accepts, Refuses, IsVerdict}
-use Rattle.cb_app.specs.Outcome.{IsScriptRefused, IsDone, IsDrawn, IsDecided, Ends}
+use Rattle.cb_app.specs.Outcome.{IsScriptRefused, IsDone, IsDrawn, IsDecided, RunEnds}
 use Rattle.cb_app.specs.Outcome.IsDue.{WhereDone, WhereDrawn, WhereWordsRefused, WhereScriptRefused}
 use Rattle.cb_app.specs.Scripts.{IsSummed}
 use Rattle.cb_app.proofs.Modes.{not_both}
@@ -25,7 +25,7 @@ use Rattle.cb_app.proofs.Modes.{not_both}
 -- bytes were taken, and this is the command's verdict on them
 abbrev pub IsJudged : Command → (before after : Option (List ℕ)) → (old new : Ending) → Verdict → Type 0
 IsJudged command before after old new verdict =
-    (bytes : List ℕ) × IsTaken before after bytes × IsVerdict command bytes old new verdict
+    (bytes : List ℕ) × AreBytesTaken before after bytes × IsVerdict command bytes old new verdict
 
 module _ (command : Command) (before after : Option (List ℕ)) (old new : Ending) (text : List ℕ) where
   is_done : (words : List (String Global)) → Name words command
@@ -52,26 +52,26 @@ module _ (command : Command) (before after : Option (List ℕ)) (old new : Endin
 
   pub ends_done : (held holds : Option (List ℕ)) → IsJudged command before after old new (Done text)
       → Appends held holds text → (words : List (String Global)) → Name words command
-      → Ends words before after held holds old new (Ok dues.Done)
+      → RunEnds words before after held holds old new (Ok dues.Done)
   ends_done held holds judged put words named = inl (text, is_done words named judged, put)
 
   pub ends_refused : (held holds : Option (List ℕ))
       → IsJudged command before after old new (Refused text)
       → Appends held holds text → (words : List (String Global)) → Name words command
-      → Ends words before after held holds old new (Ok dues.ScriptRefused)
+      → RunEnds words before after held holds old new (Ok dues.ScriptRefused)
   ends_refused held holds judged put words named =
       ((text, is_refused words named judged, put), judged.2.1)
 
   pub done_cut : (held holds : Option (List ℕ)) → IsJudged command before after old new (Done text)
       → GetsFront held holds text → (words : List (String Global)) → Name words command
-      → Ends words before after held holds old new (Err Write)
+      → RunEnds words before after held holds old new (Err Write)
   done_cut held holds judged front words named =
       (text, WhereDone (is_done words named judged), front)
 
   pub refused_cut : (held holds : Option (List ℕ))
       → IsJudged command before after old new (Refused text)
       → GetsFront held holds text → (words : List (String Global)) → Name words command
-      → Ends words before after held holds old new (Err Write)
+      → RunEnds words before after held holds old new (Err Write)
   refused_cut held holds judged front words named =
       (text, WhereScriptRefused (is_refused words named judged) judged.2.1, front)
 
@@ -104,12 +104,12 @@ module _ (plan : Plan) (old new : Ending) (text : List ℕ) (summed : IsSummed p
 
   pub ends_drawn : (held holds : Option (List ℕ)) → Appends held holds text
       → (words : List (String Global)) → AskFor words plan → (source : Option (List ℕ))
-      → Ends words source source held holds old new (Ok dues.Done)
+      → RunEnds words source source held holds old new (Ok dues.Done)
   ends_drawn held holds put words asks source = inr (text, is_drawn words asks source, put)
 
   pub drawn_cut : (held holds : Option (List ℕ)) → GetsFront held holds text
       → (words : List (String Global)) → AskFor words plan → (source : Option (List ℕ))
-      → Ends words source source held holds old new (Err Write)
+      → RunEnds words source source held holds old new (Err Write)
   drawn_cut held holds front words asks source =
       (text, WhereDrawn (is_drawn words asks source), front)
 
@@ -128,7 +128,7 @@ decided_failed command before failure =
 -- the words are refused, and the text that tells it is put, or cut short
 pub words_cut : (words : List (String Global)) (before held holds : Option (List ℕ)) (end : Ending)
     → NameNone words → GetsFront held holds words_refused
-    → Ends words before before held holds end end (Err Write)
+    → RunEnds words before before held holds end end (Err Write)
 words_cut words before held holds end none front =
     (words_refused, WhereWordsRefused (record { words_are_not = none; nothing_taken = refl }) refl refl, front)
 

@@ -16,7 +16,7 @@ use Rattle.cb_lanes.specs.Scopes.{KeepScopes, ScopeSays, Scope, scope_after, sco
 use Rattle.cb_lanes.proofs.Laws.{made_as_left, made_as_right}
 use Rattle.cb_app.specs.ByLane.{AreOfOthers, IsApart, Uses, of_lane}
 use Rattle.cb_app.specs.Crew.{AreFirst}
-use Rattle.cb_app.proofs.Lanes.{IsOf, of_lane_own}
+use Rattle.cb_app.proofs.Lanes.{IsOfLane, of_lane_own}
 use Rattle.cb_app.proofs.ToldApart.{unseen}
 
 -- ---- the scope of a lane behind answers of others
@@ -163,11 +163,11 @@ pub no_scope : (lane : ℕ) (given : List Answer) → AreFirst given → 1 ≤ l
 no_scope lane given are other = scope_unseen lane [] given (first_are_others lane given are other)
 
 -- answers to the lines of lane 0 are its own
-asked_first : (answers : List Answer) → AllByRecursion (IsOf 0) (map asked answers) → AreFirst answers
+asked_first : (answers : List Answer) → AllByRecursion (IsOfLane 0) (map asked answers) → AreFirst answers
 asked_first [] are = tt
 asked_first (a ∷ later) are = (are.0, asked_first later are.1)
 
 pub first_answers : (lines : List Line) (answers : List Answer) → map asked answers ≡ of_lane 0 lines
     → AreFirst answers
 first_answers lines answers is =
-    asked_first answers (subst (AllByRecursion (IsOf 0)) (sym is) (of_lane_own 0 lines))
+    asked_first answers (subst (AllByRecursion (IsOfLane 0)) (sym is) (of_lane_own 0 lines))

@@ -10,7 +10,7 @@ use Rattle.cb_types.specs.declared.request.Request.TheVariants.{Make, Read, Writ
 use Rattle.cb_types.specs.declared.reply.Reply.{Reply}
 use Rattle.cb_types.specs.declared.reply.Reply.TheVariants.{Made}
 use Rattle.cb_model.specs.Called.{first_of, handle_for, handle_made, handle_of}
-use Rattle.cb_script.specs.Form.{IsMade, Makes}
+use Rattle.cb_script.specs.Form.{IsNameMade, MakesName}
 use Rattle.cb_record.specs.Told.{Told, told, tolds}
 use Rattle.cb_lanes.specs.Asked.{asked}
 use Rattle.cb_app.specs.ByLane.{IsApart, Uses}
@@ -32,7 +32,7 @@ handle_of-append name (x ∷ xs) ys =
 
 -- no lane makes the name
 abbrev MakesNone : List Answer → List ℕ → Type 0
-MakesNone answers name = (lane : ℕ) → IsMade (map asked answers) lane name → ⊥
+MakesNone answers name = (lane : ℕ) → IsNameMade (map asked answers) lane name → ⊥
 
 not_this : (made name : List ℕ) → (made ≡ name → ⊥) → bytes_eq made name ≡ false
 not_this made name other = elim (cases_Bool (bytes_eq made name)) [
@@ -40,7 +40,7 @@ not_this made name other = elim (cases_Bool (bytes_eq made name)) [
   | inr differs ↦ differs
 ]
 
-makes_no : (r : Request) (reply : Reply) (name : List ℕ) → (Makes r name → ⊥) → handle_made name r reply ≡ None
+makes_no : (r : Request) (reply : Reply) (name : List ℕ) → (MakesName r name → ⊥) → handle_made name r reply ≡ None
 makes_no (Make made bytes) (Made handle version) name other =
     ap (λ (b : Bool). if b then Some handle.n else None) (not_this made name other)
 makes_no request reply name other = refl

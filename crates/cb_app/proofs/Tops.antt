@@ -9,14 +9,14 @@ use Rattle.cb_cli.specs.declared.outcome.Failure.TheVariants.{Read, Write, NoMem
 use Rattle.cb_cli.specs.Status.{status_of}
 use Rattle.cb_cli.proofs.Laws.{same_outcome}
 use Rattle.cb_app.specs.declared.ending.Ending.{Ending}
-use Rattle.cb_app.specs.Outcome.{Ends, RoseOnRead, RoseOnWrite}
+use Rattle.cb_app.specs.Outcome.{RoseOnRead, RoseOnWrite, RunEnds}
 
 -- what holds of an outcome holds of the one with its status
 pub ends_at : (words : List (String Global)) (before after held holds : Option (List ℕ)) (old new : Ending) (outcome at : Result Due Failure) (status : ℕ)
-    → Ends words before after held holds old new outcome → status ≡ status_of outcome
-    → status ≡ status_of at → Ends words before after held holds old new at
+    → RunEnds words before after held holds old new outcome → status ≡ status_of outcome
+    → status ≡ status_of at → RunEnds words before after held holds old new at
 ends_at words before after held holds old new outcome at status ends is other =
-    subst (Ends words before after held holds old new) (same_outcome outcome at (sym is ∙ other)) ends
+    subst (RunEnds words before after held holds old new) (same_outcome outcome at (sym is ∙ other)) ends
 
 pub rose_at_read : (outcome : Result Due Failure) (status before after : ℕ) → status ≡ status_of outcome
     → RoseOnRead outcome before after → status ≡ 3 → Rose before after

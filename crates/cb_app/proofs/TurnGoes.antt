@@ -41,9 +41,9 @@ use Rattle.cb_rebuild.specs.RebuildStep.{RebuildStep, Restores, surveyed}
 use Rattle.cb_core.specs.Membership.{CrashTurn, JoinTurn, crashed, is_down, is_up, joined}
 use Rattle.cb_core.specs.OnceHere.{OnceHere, away, here}
 use Rattle.cb_core.specs.Parts.{Holding, WithRoom, WhereItIs, at_once, no_room, won, near, declined, stays_far, brought, not_far, was_far}
-use Rattle.cb_core.specs.Turned.{Brings, ComesIn, Declines, Does, Makes, Turned, WinsRoom, Writes, counted, done, worn}
+use Rattle.cb_core.specs.Turned.{Brings, ComesIn, Declines, Does, Makes, Turned, WinsRoom, WritesObject, counted, done, worn}
 use Rattle.cb_app.proofs.PairGoes.{AreSetsApart, PairGoes, begin_pair, evicted_apart, merge_pair, now_pair, pair_stays, part_pair, patch_pair}
-use Rattle.cb_app.proofs.PlainReplies.{Plain, StandsAs, StaysPlain, abort_plain, answered, begin_plain, commit_plain, declined_plain, evict_plain, filter_plain, free_plain, joining_of, make_plain, members_of, off, ship_plain, standing, stands_same, write_plain}
+use Rattle.cb_app.proofs.PlainReplies.{StandsAs, StaysPlain, TellsNoLack, abort_plain, answered, begin_plain, commit_plain, declined_plain, evict_plain, filter_plain, free_plain, joining_of, make_plain, members_of, off, ship_plain, standing, stands_same, write_plain}
 
 -- all that some shards on different nodes have lost, more than a set of the configuration has parities
 pub record AreManyLost (c : Config) (m : Membership) (losses : List Loss) : Type 0 where
@@ -59,13 +59,13 @@ pub record IsCrammed (c : Config) (roomy frames loose nodes : ℕ) : Type 0 wher
   pub counted : nodes ≡ roomy
 
 -- what a reply tells of a lost set, and of want of room
-abbrev pub Tells : Config → FarState → Reply → Type 0
-Tells c far (answer.Unavailable set losses) = AreManyLost c far.members losses
-Tells c far (answer.NoRoom frames loose nodes) =
+abbrev pub TellsWant : Config → FarState → Reply → Type 0
+TellsWant c far (answer.Unavailable set losses) = AreManyLost c far.members losses
+TellsWant c far (answer.NoRoom frames loose nodes) =
     IsCrammed c (room_count far.nodes far.members) frames loose nodes
-Tells c far r = Unit {0}
+TellsWant c far r = Unit {0}
 
-plain_tells : (c : Config) (far : FarState) (r : Reply) → Plain r → Tells c far r
+plain_tells : (c : Config) (far : FarState) (r : Reply) → TellsNoLack r → TellsWant c far r
 plain_tells c far (answer.Unavailable set losses) plain = absurd (false≢true (sym plain))
 plain_tells c far (answer.NoRoom frames loose nodes) plain = absurd (false≢true (sym plain))
 plain_tells c far r plain = tt
@@ -97,16 +97,16 @@ epochs_in j r = []
 
 -- the members behind a turn: a crash and a join that take place change a node and tell the next
 -- epoch, and no other turn does
-abbrev pub GoesOn : Job → Membership → Membership → Option Reply → Type 0
-GoesOn (job.Crash node) old new r = ((new ≡ old) × (epochs_in (job.Crash node) r ≡ []))
+abbrev pub MembersGoOn : Job → Membership → Membership → Option Reply → Type 0
+MembersGoOn (job.Crash node) old new r = ((new ≡ old) × (epochs_in (job.Crash node) r ≡ []))
     ⊎ ((new ≡ with_crash old node) × (r ≡ Some (answer.EpochAt (next_epoch old))))
-GoesOn (job.Join node) old new r = ((new ≡ old) × (epochs_in (job.Join node) r ≡ []))
+MembersGoOn (job.Join node) old new r = ((new ≡ old) × (epochs_in (job.Join node) r ≡ []))
     ⊎ ((new ≡ with_join old node) × (r ≡ Some (answer.EpochAt (next_epoch old))))
-GoesOn j old new r = new ≡ old
+MembersGoOn j old new r = new ≡ old
 
 -- the members stay, and no epoch is told
 pub stays_on : (j : Job) (old new : Membership) (r : Option Reply) → new ≡ old
-    → epochs_in j r ≡ [] → GoesOn j old new r
+    → epochs_in j r ≡ [] → MembersGoOn j old new r
 stays_on (job.Crash node) old new r same none = inl (same, none)
 stays_on (job.Join node) old new r same none = inl (same, none)
 stays_on j old new r same none = same
@@ -123,31 +123,33 @@ worn_told j = refl
 
 -- ---- one operation
 -- the members and the pair stand as they did, and the reply tells so of the far state that was found
-pub record Keeps (c : Config) (far new : FarState) (r : Reply) : Type 0 where
+pub record StandsAndTells (c : Config) (far new : FarState) (r : Reply) : Type 0 where
   pub stands : StandsAs far new
-  pub tells : Tells c far r
+  pub tells : TellsWant c far r
 
 pub plain_keeps : (c : Config) (far new : FarState) (r : Reply) → StaysPlain far new r
-    → Keeps c far new r
+    → StandsAndTells c far new r
 plain_keeps c far new r x = record {
   stands = x.stands;
   tells = plain_tells c far r x.plain;
 }
 
-same_keeps : (c : Config) (far new : FarState) (r : Reply) → new ≡ far → Plain r → Keeps c far new r
+same_keeps : (c : Config) (far new : FarState) (r : Reply) → new ≡ far → TellsNoLack r
+    → StandsAndTells c far new r
 same_keeps c far new r same plain = record {
   stands = stands_same far new same;
   tells = plain_tells c far r plain;
 }
 
 -- behind one that left the far state
-keeps_behind : (c : Config) (far mid new : FarState) (r : Reply) → mid ≡ far → Keeps c mid new r
-    → Keeps c far new r
-keeps_behind c far mid new r same x = subst (λ (f : FarState). Keeps c f new r) same x
+keeps_behind : (c : Config) (far mid new : FarState) (r : Reply) → mid ≡ far
+    → StandsAndTells c mid new r
+    → StandsAndTells c far new r
+keeps_behind c far mid new r same x = subst (λ (f : FarState). StandsAndTells c f new r) same x
 
 -- behind one that left them, with a plain reply
 plain_behind : (c : Config) (far mid new : FarState) (r : Reply) → StandsAs far mid
-    → StaysPlain mid new r → Keeps c far new r
+    → StaysPlain mid new r → StandsAndTells c far new r
 plain_behind c far mid new r same x = record {
   stands = x.stands ∙ same;
   tells = plain_tells c far r x.plain;
@@ -160,10 +162,10 @@ swap_stands far new id p set es r x = ap standing x.0
 
 -- behind what left the members and the pair as the first far state has them
 swap_keeps : (c : Config) (id p : ℕ) (first far new : FarState) (r : Reply) (es : List Event)
-    → IsFine c far → StandsAs first far → SwapRule id p far new r es → Keeps c first new r
+    → IsFine c far → StandsAs first far → SwapRule id p far new r es → StandsAndTells c first new r
 swap_keeps c id p first far new r es fine same x = record {
   stands = swap_stands far new id p x.set es r x.state ∙ same;
-  tells = subst (Tells c first) (sym x.reply) (by_answer (Tells c first) far id x.set
+  tells = subst (TellsWant c first) (sym x.reply) (by_answer (TellsWant c first) far id x.set
       (λ broken. record {
         shards = x.set.shards;
         all = ap (λ (m : Membership). lost m x.set.shards) (members_of first far same);
@@ -203,7 +205,7 @@ too_few c far new lack.Nodes loose nodes es x = by x.rule.answered
 -- ---- jobs at the far state alone
 line_plain : (asked : Request) (r : Reply) → IsReplyOf asked r
     → ((id : SetId) (l : List Loss) → IsReplyOf asked (answer.Unavailable id l) → ⊥)
-    → ((f l n : ℕ) → IsReplyOf asked (answer.NoRoom f l n) → ⊥) → Plain r
+    → ((f l n : ℕ) → IsReplyOf asked (answer.NoRoom f l n) → ⊥) → TellsNoLack r
 line_plain asked (answer.Unavailable id l) x lost room = absurd (lost id l x)
 line_plain asked (answer.NoRoom f l n) x lost room = absurd (room f l n x)
 line_plain asked r x lost room = refl
@@ -227,17 +229,17 @@ rebuild_plain far new r (inl none) = record {
 rebuild_plain far new r (inr z) = restored_plain far new z.id z.set r z.restores
 
 -- what a turn leaves and tells
-pub record Goes (c : Config) (j : Job) (far new : FarState) (r : Reply) : Type 0 where
-  pub goes : GoesOn j far.members new.members (Some r)
+pub record LeavesAndTells (c : Config) (j : Job) (far new : FarState) (r : Reply) : Type 0 where
+  pub goes : MembersGoOn j far.members new.members (Some r)
   pub pair : PairGoes far new
-  pub tells : Tells c far r
+  pub tells : TellsWant c far r
 
 crash_goes : (c : Config) (node : NodeId) (far new : FarState) (r : Reply) → CrashTurn node far r new
-    → Goes c (job.Crash node) far new r
+    → LeavesAndTells c (job.Crash node) far new r
 crash_goes c node far new r (crashed up is state) = record {
   goes = inr (ap (λ (f : FarState). f.members) state, ap (λ (q : Reply). Some q) is);
   pair = pair_stays far new (ap (λ (f : FarState). f.joining) state);
-  tells = subst (Tells c far) (sym is) tt;
+  tells = subst (TellsWant c far) (sym is) tt;
 }
 crash_goes c node far new r (is_down down is state) = record {
   goes = inl (
@@ -245,15 +247,15 @@ crash_goes c node far new r (is_down down is state) = record {
     ap (λ (q : Reply). epochs_in (job.Crash node) (Some q)) is,
   );
   pair = pair_stays far new (ap (λ (f : FarState). f.joining) state);
-  tells = subst (Tells c far) (sym is) tt;
+  tells = subst (TellsWant c far) (sym is) tt;
 }
 
 join_goes : (c : Config) (node : NodeId) (far new : FarState) (r : Reply) → JoinTurn node far r new
-    → Goes c (job.Join node) far new r
+    → LeavesAndTells c (job.Join node) far new r
 join_goes c node far new r (joined down is state) = record {
   goes = inr (ap (λ (f : FarState). f.members) state, ap (λ (q : Reply). Some q) is);
   pair = pair_stays far new (ap (λ (f : FarState). f.joining) state);
-  tells = subst (Tells c far) (sym is) tt;
+  tells = subst (TellsWant c far) (sym is) tt;
 }
 join_goes c node far new r (is_up up is state) = record {
   goes = inl (
@@ -261,13 +263,13 @@ join_goes c node far new r (is_up up is state) = record {
     ap (λ (q : Reply). epochs_in (job.Join node) (Some q)) is,
   );
   pair = pair_stays far new (ap (λ (f : FarState). f.joining) state);
-  tells = subst (Tells c far) (sym is) tt;
+  tells = subst (TellsWant c far) (sym is) tt;
 }
 
 -- ---- by parts, over any desk, however an object is read that is here
 module _ {D : Type 0} (run : D → List Event → D → Type 0) (shows : D → Shown → Type 0)
     (reads : ℕ → Holding D → Reply → Holding D → Type 0)
-    (read : (h : ℕ) (a b : Holding D) (r : Reply) → reads h a r b → (b.far ≡ a.far) × Plain r)
+    (read : (h : ℕ) (a b : Holding D) (r : Reply) → reads h a r b → (b.far ≡ a.far) × TellsNoLack r)
     (c : Config) (accepted : IsAccepted c) where
   abbrev Hold : Type 0
   Hold = Holding D
@@ -282,10 +284,10 @@ module _ {D : Type 0} (run : D → List Event → D → Type 0) (shows : D → S
 
   room_lacks : (a m b : Hold) (why : Lack) (loose nodes : ℕ) (r : Reply) → m.far ≡ a.far
       → WinsRoom run shows c m (Refused why loose nodes) b → r ≡ answer.NoRoom c.frames loose nodes
-      → Keeps c a.far b.far r
+      → StandsAndTells c a.far b.far r
   room_lacks a m b why loose nodes r same x is = keeps_behind c a.far m.far b.far r same (record {
     stands = (evict_plain c m.far b.far _ x.events x.rule.rule).stands;
-    tells = subst (Tells c m.far) (sym is) (record {
+    tells = subst (TellsWant c m.far) (sym is) (record {
       frames_are = refl;
       few = too_few c m.far b.far why loose nodes x.events x.rule;
       counted = x.rule.counts.1;
@@ -293,7 +295,7 @@ module _ {D : Type 0} (run : D → List Event → D → Type 0) (shows : D → S
   })
 
   bring_keeps : (h : ℕ) (a b : Hold) (r : Reply) → IsFine c a.far → Brings run shows c h a r b
-      → Keeps c a.far b.far r
+      → StandsAndTells c a.far b.far r
   bring_keeps h a b r fine (at_once (home, at, x) never) =
       swap_keeps c home.set home.position a.far a.far b.far r x.events fine refl x.rule
   bring_keeps h a b r fine (no_room m why loose nodes (home, at, x) evict e) =
@@ -305,7 +307,7 @@ module _ {D : Type 0} (run : D → List Event → D → Type 0) (shows : D → S
       (w.1 ∙ stands_same a.far m.far same) y.rule
 
   pub come_keeps : (h : ℕ) (a b : Hold) (r : Reply) → IsFine c a.far → ComesIn run shows c h a r b
-      → Keeps c a.far b.far r
+      → StandsAndTells c a.far b.far r
   come_keeps h a b r is (not_far x never) = same_keeps c a.far b.far r x.rule.0
       (answered (λ w. r ≡ answer.Stays) (state_of x.rule.1.word) x.rule.1.word h x.events r
       (λ e. off r answer.Stays refl e) x.rule.1.answer)
@@ -314,7 +316,7 @@ module _ {D : Type 0} (run : D → List Event → D → Type 0) (shows : D → S
       (bring_keeps h m b r (subst (IsFine c) (sym x.rule.0) is) bring)
 
   once_keeps : (h : ℕ) (a b : Hold) (r : Reply) → IsFine c a.far
-      → OnceHere (ComesIn run shows c h) (reads h) a r b → Keeps c a.far b.far r
+      → OnceHere (ComesIn run shows c h) (reads h) a r b → StandsAndTells c a.far b.far r
   once_keeps h a b r is (away come off) = come_keeps h a b r is come
   once_keeps h a b r is (here m place come there call) = let x = read h m b r call in
       plain_behind c a.far m.far b.far r (come_keeps h a m place is come).stands
@@ -322,7 +324,7 @@ module _ {D : Type 0} (run : D → List Event → D → Type 0) (shows : D → S
 
   make_keeps : (bytes : List ℕ) (a b : Hold) (r : Reply) → IsFine c a.far
       → WithRoom c.frames (Makes run shows c bytes) (WinsRoom run shows c) a r b
-      → Keeps c a.far b.far r
+      → StandsAndTells c a.far b.far r
   make_keeps bytes a b r is (at_once x never) =
       plain_keeps c a.far b.far r (make_plain c.handles bytes a.far b.far r x.events x.rule)
   make_keeps bytes a b r is (no_room m why loose nodes x evict e) =
@@ -334,8 +336,8 @@ module _ {D : Type 0} (run : D → List Event → D → Type 0) (shows : D → S
       (make_plain c.handles bytes n.far b.far r y.events y.rule)
 
   write_keeps : (h at : ℕ) (bytes : List ℕ) (a b : Hold) (r : Reply) → IsFine c a.far
-      → WhereItIs (Writes run shows h at bytes) (Declines run shows h at (length bytes))
-      (Brings run shows c h) a r b → Keeps c a.far b.far r
+      → WhereItIs (WritesObject run shows h at bytes) (Declines run shows h at (length bytes))
+      (Brings run shows c h) a r b → StandsAndTells c a.far b.far r
   write_keeps h at bytes a b r is (near x never) =
       same_keeps c a.far b.far r x.rule.0 (write_plain h at bytes r x.events x.rule.1)
   write_keeps h at bytes a b r is (declined m x look) =
@@ -355,8 +357,9 @@ module _ {D : Type 0} (run : D → List Event → D → Type 0) (shows : D → S
       })
 
   kept : (j : Job) (a b : Hold) (r : Reply)
-      → ((old new : Membership) → new ≡ old → GoesOn j old new (Some r)) → Keeps c a.far b.far r
-      → Goes c j a.far b.far r
+      → ((old new : Membership) → new ≡ old → MembersGoOn j old new (Some r))
+      → StandsAndTells c a.far b.far r
+      → LeavesAndTells c j a.far b.far r
   kept j a b r on x = record {
     goes = on a.far.members b.far.members (members_of a.far b.far x.stands);
     pair = pair_stays a.far b.far (joining_of a.far b.far x.stands);
@@ -365,8 +368,9 @@ module _ {D : Type 0} (run : D → List Event → D → Type 0) (shows : D → S
 
   -- a job on the pair that is joining
   paired : (j : Job) (a b : Hold) (r : Reply)
-      → ((old new : Membership) → new ≡ old → GoesOn j old new (Some r))
-      → b.far.members ≡ a.far.members → Plain r → PairGoes a.far b.far → Goes c j a.far b.far r
+      → ((old new : Membership) → new ≡ old → MembersGoOn j old new (Some r))
+      → b.far.members ≡ a.far.members → TellsNoLack r → PairGoes a.far b.far
+      → LeavesAndTells c j a.far b.far r
   paired j a b r on members plain pair = record {
     goes = on a.far.members b.far.members members;
     pair = pair;
@@ -374,7 +378,7 @@ module _ {D : Type 0} (run : D → List Event → D → Type 0) (shows : D → S
   }
 
   does_goes : (j : Job) (a b : Hold) (r : Reply) → IsFine c a.far
-      → Does run shows reads c j a r b → Goes c j a.far b.far r
+      → Does run shows reads c j a r b → LeavesAndTells c j a.far b.far r
   does_goes (job.Make bytes) a b r is x =
       kept (job.Make bytes) a b r (λ old new e. e) (make_keeps bytes a b r is x)
   does_goes (job.Read handle) a b r is x =
@@ -424,13 +428,13 @@ module _ {D : Type 0} (run : D → List Event → D → Type 0) (shows : D → S
 
   -- a turn that was answered
   pub turned_goes : (j : Job) (a b : Hold) (r : Reply) → IsFine c a.far
-      → Turned run shows reads c j a r b → Goes c j a.far b.far r
+      → Turned run shows reads c j a r b → LeavesAndTells c j a.far b.far r
   turned_goes j a b r is (worn end e same ran) = record {
-    goes = subst (λ (q : Reply). GoesOn j a.far.members b.far.members (Some q)) (sym e)
+    goes = subst (λ (q : Reply). MembersGoOn j a.far.members b.far.members (Some q)) (sym e)
         (stays_on j a.far.members b.far.members (Some answer.Worn)
         (ap (λ (f : FarState). f.members) same) (worn_told j));
     pair = pair_stays a.far b.far (ap (λ (f : FarState). f.joining) same);
-    tells = subst (Tells c a.far) (sym e) tt;
+    tells = subst (TellsWant c a.far) (sym e) tt;
   }
   turned_goes j a b r is (done few x) =
       let z = does_goes j (record { desk = a.desk; far = counted a.far j }) b r
@@ -438,7 +442,7 @@ module _ {D : Type 0} (run : D → List Event → D → Type 0) (shows : D → S
       record { goes = z.goes; pair = z.pair; tells = told r z.tells }
     where
       -- a turn more is counted in the far state of which it tells
-      told : (q : Reply) → Tells c (counted a.far j) q → Tells c a.far q
+      told : (q : Reply) → TellsWant c (counted a.far j) q → TellsWant c a.far q
       told (answer.NoRoom frames loose nodes) y = y
       told (answer.Unavailable set losses) y = y
       told q y = tt

@@ -17,32 +17,32 @@ use Rattle.cb_rule.specs.declared.turn.Turn.{Turn}
 use Rattle.cb_rule.specs.declared.view.View.{View}
 use Rattle.cb_rule.specs.Lists.{Has, times}
 use Rattle.cb_rule.specs.Locking.{Stood, is_turn, turn_number}
-use Rattle.cb_rule.specs.OneHistory.{HasNumber, IsOneHistory, Made}
+use Rattle.cb_rule.specs.OneHistory.{HasTurnNumber, IsOneHistory, Made}
 use Rattle.cb_rule.proofs.Laws.{by_case}
 use Rattle.cb_shared.specs.Turning.{Did, DidAs, IsReadReply, PinLacks, ReadsByPin, Slate, held_by, slate_run, slate_shows}
 use Rattle.cb_app.proofs.PairGoes.{PairGoes, pair_stays}
-use Rattle.cb_app.proofs.PlainReplies.{Plain, StandsAs, joining_of, members_of}
-use Rattle.cb_app.proofs.TurnGoes.{GoesOn, IsFine, Tells, fine_counted, none_told, stays_on, turned_goes}
+use Rattle.cb_app.proofs.PlainReplies.{StandsAs, TellsNoLack, joining_of, members_of}
+use Rattle.cb_app.proofs.TurnGoes.{IsFine, MembersGoOn, TellsWant, fine_counted, none_told, stays_on, turned_goes}
 use Rattle.cb_app.proofs.TurnStops.{stops_same}
 
 -- ---- one turn
 -- what its reply tells, where it has one
 abbrev pub TellsIf : Config → FarState → Option Reply → Type 0
 TellsIf c far None = Unit {0}
-TellsIf c far (Some r) = Tells c far r
+TellsIf c far (Some r) = TellsWant c far r
 
 -- it leaves the members and the pair so, and tells so of the far state that it found
 pub record TurnGoes (c : Config) (t : Turn) : Type 0 where
-  pub goes : GoesOn t.job t.took.members t.gave.members t.reply
+  pub goes : MembersGoOn t.job t.took.members t.gave.members t.reply
   pub pair : PairGoes t.took t.gave
   pub tells : TellsIf c t.took t.reply
 
-read_plain : (r : Reply) → IsReadReply r → Plain r
+read_plain : (r : Reply) → IsReadReply r → TellsNoLack r
 read_plain (answer.Unavailable id l) x = absurd x
 read_plain (answer.NoRoom f l n) x = absurd x
 read_plain r x = refl
 
-pins_plain : (h : ℕ) (a b : Holding Slate) (r : Reply) → ReadsByPin h a r b → (b.far ≡ a.far) × Plain r
+pins_plain : (h : ℕ) (a b : Holding Slate) (r : Reply) → ReadsByPin h a r b → (b.far ≡ a.far) × TellsNoLack r
 pins_plain h a b r x = (ap (λ (z : Holding Slate). z.far) x.0, read_plain r x.1)
 
 lacks_same : (h : ℕ) (a b : Holding Slate) → PinLacks h a b → b.far ≡ a.far
@@ -50,7 +50,7 @@ lacks_same h a b x = ap (λ (z : Holding Slate). z.far) x
 
 did_goes : (c : Config) → IsAccepted c → (j : Job) (reply : Option Reply) (start : Shown)
     (es : List Event) (took gave : FarState) → IsFine c took → DidAs c j reply start es took gave
-    → GoesOn j took.members gave.members reply × PairGoes took gave × TellsIf c took reply
+    → MembersGoOn j took.members gave.members reply × PairGoes took gave × TellsIf c took reply
 did_goes c ok j (Some r) start es took gave is did =
     let z = turned_goes slate_run slate_shows ReadsByPin pins_plain c ok j (held_by start [] took)
     (held_by (played es start) es gave) r is did in
@@ -107,7 +107,7 @@ module _ (first : ℕ) (c : Config) (v : View) (count : ℕ) (last : FarState)
       turn_goes c ok t (fine_of c t.start t.took (one.sound t (made t there)))
       (one.did t (made t there))
 
-  pub number_of : (t : Turn) → Has t v.turns → HasNumber count t
+  pub number_of : (t : Turn) → Has t v.turns → HasTurnNumber count t
   number_of t there = one.numbers t (made t there)
 
   -- P holds after no turn, and each turn keeps it
@@ -149,7 +149,7 @@ module _ (first : ℕ) (c : Config) (v : View) (count : ℕ) (last : FarState)
         let z = reached (turn_number t) (low (number_of t there)) in
         subst (P (turn_number t)) (sym (z.took t there refl)) z.holds
       where
-        low : HasNumber count t → turn_number t ≤ count
+        low : HasTurnNumber count t → turn_number t ≤ count
         low (inl less) = omega (arith, less)
         low (inr e) = let a = e.0 in let b = e.1 in omega (arith, a, b)
 

@@ -31,21 +31,21 @@ use Rattle.cb_core.specs.Parts.{Holding, NeverLacks, WithRoom, WhereItIs, at_onc
 use Rattle.cb_core.specs.Parts.{CallStops, RoomStops}
 use Rattle.cb_core.specs.Parts.RoomStops.{at_once as lacks_now, evicting, after as lacks_last}
 use Rattle.cb_core.specs.Parts.CallStops.{near as lacks_near, far as lacks_far, after as lacks_after}
-use Rattle.cb_core.specs.Turned.{BringLacks, Brings, ComeLacks, ComesIn, Declines, Does, EvictLacks, MakeLacks, Makes, Stopped, Stops, SwapLacks, Swaps, Turned, WinsRoom, Writes, counted, done, worn}
+use Rattle.cb_core.specs.Turned.{BringLacks, Brings, ComeLacks, ComesIn, Declines, Does, EvictLacks, MakeLacks, Makes, Stopped, Stops, SwapLacks, Swaps, Turned, WinsRoom, WritesObject, counted, done, worn}
 
 -- the turns that were counted, by job
 abbrev pub kinds : FarState → List ℕ
 kinds far = far.counts.by_job
 
 -- they are as they were
-abbrev pub Same : FarState → FarState → Type 0
-Same far new = kinds new ≡ kinds far
+abbrev pub SameKinds : FarState → FarState → Type 0
+SameKinds far new = kinds new ≡ kinds far
 
-same : (far new : FarState) → new ≡ far → Same far new
+same : (far new : FarState) → new ≡ far → SameKinds far new
 same far new is = ap kinds is
 
 swap_same : (far new : FarState) (id p : ℕ) (set : SetState) (es : List Event) (r : Reply)
-    → SwapFar far new id p set es r → Same far new
+    → SwapFar far new id p set es r → SameKinds far new
 swap_same far new id p set es (answer.Swapped f) x = ap kinds x.0.rest
 swap_same far new id p set es r x = same far new x.0
 
@@ -62,17 +62,17 @@ module _ {D : Type 0} (run : D → List Event → D → Type 0) (shows : D → S
 
   -- a part leaves them
   abbrev Keeps : (Hold → Reply → Hold → Type 0) → Type 0
-  Keeps P = (a b : Hold) (r : Reply) → IsConfigured c a.far → P a r b → Same a.far b.far
+  Keeps P = (a b : Hold) (r : Reply) → IsConfigured c a.far → P a r b → SameKinds a.far b.far
 
   abbrev KeepsLack : (Hold → Hold → Type 0) → Type 0
-  KeepsLack L = (a b : Hold) → IsConfigured c a.far → L a b → Same a.far b.far
+  KeepsLack L = (a b : Hold) → IsConfigured c a.far → L a b → SameKinds a.far b.far
 
   -- and leaves all where it finds no frame
   abbrev IsNone : (Hold → Reply → Hold → Type 0) → Type 0
   IsNone P = (a b : Hold) → P a answer.NoFrame b → b.far ≡ a.far
 
   room : (m n : Hold) (e : Eviction) → IsConfigured c m.far → WinsRoom run shows c m e n
-      → IsConfigured c n.far × Same m.far n.far
+      → IsConfigured c n.far × SameKinds m.far n.far
   room m n e is x =
       let z = evict_stays c m.far n.far (reply_of e) x.events accepted x.rule.rule is in
       (z.configured, z.rises.by_job)
@@ -133,7 +133,7 @@ module _ {D : Type 0} (run : D → List Event → D → Type 0) (shows : D → S
   come_lacks h a b is (m, find, x) =
       bring_lacks h m b (subst (IsConfigured c) (sym find.rule.0) is) x ∙ same a.far m.far find.rule.0
 
-  write : (h at : ℕ) (bytes : List ℕ) → Keeps (WhereItIs (Writes run shows h at bytes)
+  write : (h at : ℕ) (bytes : List ℕ) → Keeps (WhereItIs (WritesObject run shows h at bytes)
       (Declines run shows h at (length bytes)) (Brings run shows c h))
   write h at bytes a b r is (near x never) = same a.far b.far x.rule.0
   write h at bytes a b r is (declined m x look) = same m.far b.far look.0 ∙ same a.far m.far x.rule.0
@@ -146,7 +146,8 @@ module _ {D : Type 0} (run : D → List Event → D → Type 0) (shows : D → S
       ∙ bring h n o (answer.Swapped f) (subst (IsConfigured c) (sym stays) is) brings
       ∙ same a.far n.far stays
 
-  write_lacks : (h at : ℕ) (bytes : List ℕ) → KeepsLack (CallStops (Writes run shows h at bytes)
+  write_lacks : (h at : ℕ) (bytes : List ℕ)
+      → KeepsLack (CallStops (WritesObject run shows h at bytes)
       NeverLacks (Declines run shows h at (length bytes)) (Brings run shows c h)
       (BringLacks run shows c h))
   write_lacks h at bytes a b is (lacks_near x) = absurd x
@@ -161,7 +162,7 @@ module _ {D : Type 0} (run : D → List Event → D → Type 0) (shows : D → S
       (lacks : ℕ → Hold → Hold → Type 0)
       (lack : (h : ℕ) (a b : Hold) → lacks h a b → b.far ≡ a.far) where
     does : (j : Job) (a b : Hold) (r : Reply) → IsConfigured c a.far → Sound s a.far
-        → Does run shows reads c j a r b → Same a.far b.far
+        → Does run shows reads c j a r b → SameKinds a.far b.far
     does (job.Make bytes) a b r is sound x =
         with_room (Makes run shows c bytes) (make bytes) (make_none bytes) a b r is x
     does (job.Read handle) a b r is sound (away x off) = come handle.n a b r is x
@@ -192,7 +193,7 @@ module _ {D : Type 0} (run : D → List Event → D → Type 0) (shows : D → S
     does (job.Join node) a b r is sound (ran, is_up up reply state) = same a.far b.far state
 
     stops : (j : Job) (a b : Hold) → IsConfigured c a.far → Stops run shows lacks c j a b
-        → Same a.far b.far
+        → SameKinds a.far b.far
     stops (job.Make bytes) a b is x =
         room_stops (Makes run shows c bytes) (MakeLacks run c bytes) (make_none bytes) (make_lacks bytes) a
         b is x

@@ -14,13 +14,13 @@ use Rattle.cb_core.specs.OnceHere.{OnceHereStops, bringing_stops, call_stops}
 use Rattle.cb_core.specs.Parts.{CallStops, Holding, NeverLacks, RoomStops}
 use Rattle.cb_core.specs.Parts.RoomStops.{at_once, evicting, after}
 use Rattle.cb_core.specs.Parts.CallStops.{near as call_near, far as call_far, after as call_after}
-use Rattle.cb_core.specs.Turned.{BringLacks, Brings, ComeLacks, ComesIn, Declines, EvictLacks, MakeLacks, Makes, Stops, SwapLacks, Swaps, WinsRoom, Writes}
-use Rattle.cb_app.proofs.PlainReplies.{Plain, StandsAs, evict_plain, make_plain, standing, stands_same}
+use Rattle.cb_core.specs.Turned.{BringLacks, Brings, ComeLacks, ComesIn, Declines, EvictLacks, MakeLacks, Makes, Stops, SwapLacks, Swaps, WinsRoom, WritesObject}
+use Rattle.cb_app.proofs.PlainReplies.{StandsAs, TellsNoLack, evict_plain, make_plain, standing, stands_same}
 use Rattle.cb_app.proofs.TurnGoes.{IsFine, come_keeps, swap_stands}
 
 module _ {D : Type 0} (run : D → List Event → D → Type 0) (shows : D → Shown → Type 0)
     (reads : ℕ → Holding D → Reply → Holding D → Type 0)
-    (read : (h : ℕ) (a b : Holding D) (r : Reply) → reads h a r b → (b.far ≡ a.far) × Plain r)
+    (read : (h : ℕ) (a b : Holding D) (r : Reply) → reads h a r b → (b.far ≡ a.far) × TellsNoLack r)
     (lacks : ℕ → Holding D → Holding D → Type 0)
     (lack : (h : ℕ) (a b : Holding D) → lacks h a b → b.far ≡ a.far)
     (c : Config) (accepted : IsAccepted c) where
@@ -71,7 +71,8 @@ module _ {D : Type 0} (run : D → List Event → D → Type 0) (shows : D → S
       same m b (lack h m b x) ∙ (come_keeps run shows reads read c accepted h a m place is come).stands
 
   write_stops : (h at : ℕ) (bytes : List ℕ) (a b : Hold)
-      → CallStops (Writes run shows h at bytes) NeverLacks (Declines run shows h at (length bytes))
+      → CallStops (WritesObject run shows h at bytes) NeverLacks
+      (Declines run shows h at (length bytes))
       (Brings run shows c h) (BringLacks run shows c h) a b → Same a b
   write_stops h at bytes a b (call_near x) = absurd x
   write_stops h at bytes a b (call_far m n x look y) =

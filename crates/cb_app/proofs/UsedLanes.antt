@@ -16,16 +16,16 @@ or_true true = refl
 or_true false = refl
 
 -- there is a flag for each number that a byte has, and it is raised where lines are of that lane
-pub record Flags (used : List Bool) (lines : List Line) : Type 0 where
+pub record FlagsOfLanes (used : List Bool) (lines : List Line) : Type 0 where
   pub all : length used ≡ 256
   pub each : (lane : ℕ) → lane < 256 → get_or used lane false ≡ has_lines lane lines
 
-pub none_raised : Flags (replicate 256 false) []
+pub none_raised : FlagsOfLanes (replicate 256 false) []
 none_raised = record { all = refl; each = λ lane below. get_or-replicate 256 lane false false below }
 
 -- one more line
 raised_behind : (used : List Bool) (before : List Line) (l : Line) → l.lane.n < 256
-    → Flags used before → Flags (set used l.lane.n true) (before ++ l ∷ [])
+    → FlagsOfLanes used before → FlagsOfLanes (set used l.lane.n true) (before ++ l ∷ [])
 raised_behind used before l low flags = record {
   all = length-set used l.lane.n true ∙ flags.all;
   each = λ lane below. elim (cases_eq l.lane.n lane) [
@@ -44,9 +44,9 @@ raised_behind used before l low flags = record {
 }
 
 pub raised : (used : List Bool) (lines : List Line) (i : ℕ) (l d : Line) → i < length lines
-    → l ≡ get_or lines i d → l.lane.n < 256 → Flags used (take i lines)
-    → Flags (set used l.lane.n true) (take (i + 1) lines)
+    → l ≡ get_or lines i d → l.lane.n < 256 → FlagsOfLanes used (take i lines)
+    → FlagsOfLanes (set used l.lane.n true) (take (i + 1) lines)
 raised used lines i l d within at low flags =
     let more : take (i + 1) lines ≡ take i lines ++ l ∷ [] =
     take_more lines i d within ∙ ap (λ (m : Line). take i lines ++ m ∷ []) (sym at) in
-    subst (Flags (set used l.lane.n true)) (sym more) (raised_behind used (take i lines) l low flags)
+    subst (FlagsOfLanes (set used l.lane.n true)) (sym more) (raised_behind used (take i lines) l low flags)

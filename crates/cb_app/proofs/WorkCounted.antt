@@ -21,7 +21,7 @@ use Rattle.cb_rule.specs.declared.turn.Turn.{Turn}
 use Rattle.cb_rule.specs.declared.view.View.{View}
 use Rattle.cb_rule.specs.Lists.{Has, times, total}
 use Rattle.cb_rule.specs.Locking.{turn_number}
-use Rattle.cb_rule.specs.OneHistory.{HasNumber, IsOneHistory}
+use Rattle.cb_rule.specs.OneHistory.{HasTurnNumber, IsOneHistory}
 use Rattle.cb_rule.proofs.Laws.{by_case}
 use Rattle.cb_shared.specs.Turning.{Did, DidAs, PinLacks, ReadsByPin, Slate, held_by, slate_run, slate_shows}
 use Rattle.cb_workers.specs.declared.worker.Worker.{Worker}
@@ -113,7 +113,7 @@ module _ (first : ℕ) (c : Config) (ok : IsAccepted c) (v : View) (count : ℕ)
   has_number : (k : ℕ) (t : Turn) → Has t v.turns → (turn_number t < count) ⊎ (weight k t ≡ 0)
   has_number k t there = by (number_of first c v count last one t there)
     where
-      by : HasNumber count t → (turn_number t < count) ⊎ (weight k t ≡ 0)
+      by : HasTurnNumber count t → (turn_number t < count) ⊎ (weight k t ≡ 0)
       by (inl low) = inl low
       by (inr z) = absurd (let e = z.1 in omega (arith, e, few))
 

@@ -17,13 +17,13 @@ use Rattle.cb_shared.specs.declared.pass.Pass.{Pass}
 use Rattle.cb_shared.specs.declared.runtime.Shared.{Shared}
 use Rattle.cb_shared.specs.Joining.{unpinned_all}
 use Rattle.cb_shared.specs.Passes.{record_of}
-use Rattle.cb_workers.specs.Bodies.{Works}
+use Rattle.cb_workers.specs.Bodies.{WorkerWorks}
 use Rattle.cb_workers.specs.Rules.{owner}
-use Rattle.cb_workers.specs.Work.{AreOf}
+use Rattle.cb_workers.specs.Work.{AreJobsOf}
 use Rattle.cb_workers.specs.declared.worker.Worker.{Worker}
 use Rattle.cb_workers.specs.declared.worker.Worker.TheVariants as worker
 use Rattle.cb_workers.proofs.Laws.{work_is_done, work_is_of}
-use Rattle.cb_app.specs.Crew.{AllMade, AreMade, IsDealtOne, IsFresh, if_same, turns_as, turns_due, turns_for, work_in}
+use Rattle.cb_app.specs.Crew.{AllMade, AreMade, IsDealtOne, IsFreshRecord, if_same, turns_as, turns_due, turns_for, work_in}
 use Rattle.cb_app.specs.Telling.{turns_by}
 use Rattle.cb_app.specs.declared.crew.Body.{Body}
 use Rattle.cb_app.specs.declared.crew.Ended.{Ended}
@@ -84,7 +84,7 @@ number_of ts j = times (λ (t : Turn). eqb (job_index t.job) (job_index j)) ts
 abbrev work_of : Worker → List Turn → ℕ
 work_of w ts = turns_by w (number_of ts)
 
-work_of_turns : (w : Worker) (ts : List Turn) → AreOf w (map deed ts) → length ts ≤ work_of w ts
+work_of_turns : (w : Worker) (ts : List Turn) → AreJobsOf w (map deed ts) → length ts ≤ work_of w ts
 work_of_turns w [] of = omega arith
 work_of_turns w (t ∷ ts) of =
     let one : 1 ≤ turns_by w (one_of t.job) = subst (IsOne t.job) of.0 (is_one t.job) in
@@ -94,8 +94,8 @@ work_of_turns w (t ∷ ts) of =
     omega (arith, one, rest, parts)
 
 -- what a body leaves in the record of a pass that had done nothing yet
-pub worker_made : (s : Shared) (w : Worker) (turns : ℕ) (p q : Pass) → IsFresh (record_of p)
-    → Works s w turns p q → turns ≤ work_in w (record_of q)
+pub worker_made : (s : Shared) (w : Worker) (turns : ℕ) (p q : Pass) → IsFreshRecord (record_of p)
+    → WorkerWorks s w turns p q → turns ≤ work_in w (record_of q)
 worker_made s w turns p q fresh works =
     let d = works.1.0 in
     let worked = works.1.1 in

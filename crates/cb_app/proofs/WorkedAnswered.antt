@@ -27,7 +27,7 @@ use Rattle.cb_world.specs.Seats.{pins_of_seat}
 use Rattle.cb_world.specs.World.{WorldState, IsSoundWorld, empty_world}
 use Rattle.cb_shared.specs.declared.seal.Seal.{Seal}
 use Rattle.cb_app.specs.declared.ending.Ending.{Ending}
-use Rattle.cb_cli.specs.Taken.{IsTaken}
+use Rattle.cb_cli.specs.Taken.{AreBytesTaken}
 use Rattle.cb_cli.specs.Texts.{given_line}
 use Rattle.cb_cli.specs.declared.words.Asked.TheVariants.{Run}
 use Rattle.cb_cli.specs.declared.words.Command.{Command}
@@ -227,7 +227,7 @@ a_count_of_seq old world is = differ local_text text (is.3 ∙ text_is) refl
 no_rows_without_a_world : rows_given None ≡ 0
 no_rows_without_a_world = refl
 
-all_taken : IsTaken (Some input) (Some []) input
+all_taken : AreBytesTaken (Some input) (Some []) input
 all_taken = record { front = refl; few = omega arith; whole = inl refl }
 
 done : (w : String Global) (old : Ending) (world : WorldState) → IsLeft Nodes world

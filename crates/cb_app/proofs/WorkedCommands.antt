@@ -15,7 +15,7 @@ use Rattle.cb_script.specs.Phrase.{Phrase, phrase_of}
 use Rattle.cb_script.specs.declared.script.Line.{Line}
 use Rattle.cb_script.specs.Spelling.{header_line}
 use Rattle.cb_script.proofs.PublicLaws.{empty_input, script_unique, differ}
-use Rattle.cb_cli.specs.Taken.{IsTaken}
+use Rattle.cb_cli.specs.Taken.{AreBytesTaken}
 use Rattle.cb_cli.specs.Texts.{check_text, fault_text}
 use Rattle.cb_cli.specs.declared.outcome.Due.TheVariants as dues
 use Rattle.cb_cli.specs.declared.outcome.Failure.TheVariants.{Read}
@@ -241,10 +241,10 @@ ending_left text is =
 
 -- ---- the run
 
-all_taken : IsTaken (Some input) (Some []) input
+all_taken : AreBytesTaken (Some input) (Some []) input
 all_taken = record { front = refl; few = omega arith; whole = inl refl }
 
-none_taken : IsTaken (Some []) (Some []) []
+none_taken : AreBytesTaken (Some []) (Some []) []
 none_taken = record { front = refl; few = omega arith; whole = inl refl }
 
 done : (w : String Global) (old : Ending) → string_bytes w ≡ codes "check"

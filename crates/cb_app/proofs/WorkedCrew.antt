@@ -23,7 +23,7 @@ use Rattle.cb_lanes.specs.Rising.{FreedIsLast}
 use Rattle.cb_workers.specs.Rules.{visit}
 use Rattle.cb_workers.specs.declared.worker.Worker.TheVariants as worker
 use Rattle.cb_app.specs.ByLane.{has_lines}
-use Rattle.cb_app.specs.Crew.{AreFirst, IsDealt, IsTold, NeverFall, RiseWith, StandIn, lines_due, lines_left, turns_as, turns_due, work_in}
+use Rattle.cb_app.specs.Crew.{AreFirst, IsDealt, IsLaneTold, NeverFall, RiseWith, StandIn, lines_due, lines_left, turns_as, turns_due, work_in}
 use Rattle.cb_app.specs.declared.crew.Body.TheVariants.{Lane, Worker}
 use Rattle.cb_app.specs.declared.crew.Ended.{Ended}
 use Rattle.cb_app.specs.declared.crew.Task.{Task}
@@ -167,7 +167,7 @@ of_lane_1 f = let e : 1 ≡ 0 = f.0 in omega (arith, e)
 
 -- ---- what a lane was told falls
 told_and_falls : (s : Shared) (lines : List Line) (p : Pass) → FreedIsLast (record_of p)
-    → IsTold s given lines (record { answers = reads 1; pass = p }) → ⊥
+    → IsLaneTold s given lines (record { answers = reads 1; pass = p }) → ⊥
 told_and_falls s lines p last t =
     falls_from_what_was_given (t.rises (record_of p) (λ h version freed has. has) last)
 

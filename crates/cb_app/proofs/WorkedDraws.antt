@@ -11,7 +11,7 @@ use Rattle.cb_cli.specs.declared.words.Asked.TheVariants.{Draw}
 use Rattle.cb_cli.specs.declared.words.Plan.{Plan}
 use Rattle.cb_cli.specs.Words.{AskFor}
 use Rattle.cb_cli.proofs.Laws.{no_word}
-use Rattle.cb_lanes.specs.Alone.{IsCalm}
+use Rattle.cb_lanes.specs.Alone.{IsCalmReply}
 use Rattle.cb_lanes.specs.declared.side.Side.TheVariants.{Nodes}
 use Rattle.cb_app.specs.declared.ending.Ending.{Ending}
 use Rattle.cb_app.specs.Outcome.{IsDrawn, TellsSummary}
@@ -31,7 +31,7 @@ unfolding digits
 text_is end none = ap (summary 3 0 2) (sym none)
 
 summed : (end : Ending) → end.answers ≡ [] → IsAnswered Nodes (made_script 3 0 2) end → IsSummed plan end text
-summed end none answered = record { answered = answered; calm = subst (AllByRecursion (λ a. IsCalm a.reply)) (sym none) tt; text_is = text_is end none }
+summed end none answered = record { answered = answered; calm = subst (AllByRecursion (λ a. IsCalmReply a.reply)) (sym none) tt; text_is = text_is end none }
 
 -- another text
 another_seed : (end : Ending) → end.answers ≡ [] → IsSummed plan end (codes "gen seed 4 lines 0 lanes 2\nmake 0 read 0 write 0 free 0 other 0\nrefused 0 text 0\n") → ⊥
@@ -40,7 +40,8 @@ another_seed end none is =
 
 -- a line that found no room
 no_room : (end : Ending) (told : List ℕ) → end.answers ≡ record { lane = record { n = 1 }; line = 2; request = request.Evict; reply = replies.NoRoom 12 0 8 } ∷ [] → IsSummed plan end told → ⊥
-no_room end told one is = (subst (AllByRecursion (λ (a : Answer). IsCalm a.reply)) one is.calm).0
+no_room end told one is =
+    (subst (AllByRecursion (λ (a : Answer). IsCalmReply a.reply)) one is.calm).0
 
 -- an ending that is not as `seq` leaves it
 no_config : (end : Ending) (told : List ℕ) → end.config ≡ None → IsSummed plan end told → ⊥

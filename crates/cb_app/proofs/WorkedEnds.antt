@@ -11,7 +11,7 @@ use Rattle.cb_script.specs.declared.fault.Reason.{Reason}
 use Rattle.cb_script.specs.declared.fault.Reason.TheVariants.{Header}
 use Rattle.cb_script.specs.declared.script.Script.{Script}
 use Rattle.cb_script.proofs.PublicLaws.{empty_input, differ}
-use Rattle.cb_cli.specs.Taken.{IsTaken}
+use Rattle.cb_cli.specs.Taken.{AreBytesTaken}
 use Rattle.cb_cli.specs.Texts.{fault_text, words_refused}
 use Rattle.cb_cli.specs.declared.outcome.Due.TheVariants as dues
 use Rattle.cb_cli.specs.declared.outcome.Failure.TheVariants.{Read, Write, NoMemory}
@@ -25,7 +25,7 @@ use Rattle.cb_lanes.specs.declared.side.Side.TheVariants.{Nodes, Compute}
 use Rattle.cb_world.specs.World.{IsSoundWorld, WorldState}
 use Rattle.cb_app.specs.declared.ending.Ending.{Ending}
 use Rattle.cb_app.specs.Modes.{Accepts, Refuses, Yields, command_of}
-use Rattle.cb_app.specs.Outcome.{AreWordsRefused, Ends, IsCut, IsDone, IsDrawn, IsDue, IsScriptRefused, RefusesScript, RoseOnRead, RoseOnWrite, TellsSummary}
+use Rattle.cb_app.specs.Outcome.{AreWordsRefused, IsCut, IsDone, IsDrawn, IsDue, IsScriptRefused, RefusesScript, RoseOnRead, RoseOnWrite, RunEnds, TellsSummary}
 use Rattle.cb_app.specs.Outcome.IsDue.{WhereDone, WhereDrawn, WhereWordsRefused, WhereScriptRefused}
 use Rattle.cb_app.specs.Scripts.{IsAnswered, TellsFault}
 use Rattle.cb_app.proofs.Modes.{not_both}
@@ -71,7 +71,7 @@ tells_another_line t = differ (codes "script line 2 reason 2 header\n") fault
 tells_no_fault : (text : List ℕ) → TellsFault (λ line reason. ⊥) text → ⊥
 tells_no_fault text t = t.2
 
-none_taken : IsTaken (Some []) (Some []) []
+none_taken : AreBytesTaken (Some []) (Some []) []
 none_taken = record { front = refl; few = omega arith; whole = inl refl }
 
 -- ---- `seq` refuses it, whatever word spells that
@@ -91,7 +91,7 @@ module _ (w : String Global) (is : string_bytes w ≡ codes "seq") where
   refuses_script : Refuses_by (Some (7 ∷ fault))
   refuses_script = (fault, refused, refl)
 
-  ends_refused : Ends (w ∷ []) (Some []) (Some []) (Some (7 ∷ []))
+  ends_refused : RunEnds (w ∷ []) (Some []) (Some []) (Some (7 ∷ []))
       (Some (7 ∷ fault)) checked checked
       (Ok dues.ScriptRefused)
   ends_refused = (refuses_script, refl)
@@ -104,7 +104,7 @@ module _ (w : String Global) (is : string_bytes w ≡ codes "seq") where
       (Some (7 ∷ 115 ∷ [])) checked checked
   cut_refused = (fault, due_refused, (1, lit< tt, refl))
 
-  cut_ends : Ends (w ∷ []) (Some []) (Some []) (Some (7 ∷ []))
+  cut_ends : RunEnds (w ∷ []) (Some []) (Some []) (Some (7 ∷ []))
       (Some (7 ∷ 115 ∷ [])) checked checked
       (Err Write)
   cut_ends = cut_refused
@@ -112,7 +112,7 @@ module _ (w : String Global) (is : string_bytes w ≡ codes "seq") where
 -- the ending changes
 refused_and_changed : (words : List (String Global))
     (before after held_before held_after : Option (List ℕ))
-    → Ends words before after held_before held_after empty checked (Ok dues.ScriptRefused) → ⊥
+    → RunEnds words before after held_before held_after empty checked (Ok dues.ScriptRefused) → ⊥
 refused_and_changed words before after held_before held_after e = changed e.1
 
 -- no words ask for it
@@ -134,7 +134,7 @@ refused_and_accepted words before after text r accepts =
     not_both r.command r.bytes text accepts r.refused
 
 -- nothing was taken of an input that has a byte
-taken_of_none : (bytes : List ℕ) → IsTaken (Some (1 ∷ [])) (Some (1 ∷ [])) bytes → ⊥
+taken_of_none : (bytes : List ℕ) → AreBytesTaken (Some (1 ∷ [])) (Some (1 ∷ [])) bytes → ⊥
 taken_of_none bytes t =
     let all : 1 ≡ length (bytes ++ 1 ∷ []) = ap (λ (xs : List ℕ). length xs) t.front in
     let parts = length-append bytes (1 ∷ []) in at_end t.whole (omega (arith, all, parts))
@@ -170,7 +170,7 @@ drawn_without_a_config words before after end text none d =
 nothing_asked : AreWordsRefused [] (Some (1 ∷ [])) (Some (1 ∷ []))
 nothing_asked = record { words_are_not = no_word; nothing_taken = refl }
 
-ends_without_words : Ends [] (Some (1 ∷ [])) (Some (1 ∷ []))
+ends_without_words : RunEnds [] (Some (1 ∷ [])) (Some (1 ∷ []))
     (Some []) (Some words_refused) checked checked
     (Ok dues.WordsRefused)
 ends_without_words = (nothing_asked, refl, refl)
@@ -202,7 +202,7 @@ due_behind_a_byte d = absurd (let e : Some [] ≡ Some (1 ∷ []) = (due_by_word
 -- such a run takes nothing, puts this text, and leaves the ending
 abbrev Unasked : Option (List ℕ) → Option (List ℕ) → Ending → Type 0
 Unasked after held new =
-    Ends [] (Some (1 ∷ [])) after (Some []) held empty new (Ok dues.WordsRefused)
+    RunEnds [] (Some (1 ∷ [])) after (Some []) held empty new (Ok dues.WordsRefused)
 
 unasked_and_taken : Unasked (Some []) (Some words_refused) empty → ⊥
 unasked_and_taken e = absurd (let t : Some [] ≡ Some (1 ∷ []) = e.0.nothing_taken in cc)
@@ -215,7 +215,7 @@ unasked_and_changed e = changed e.2
 
 -- it is no run that is done
 done_without_words : (before after held_before held_after : Option (List ℕ)) (old new : Ending)
-    → Ends [] before after held_before held_after old new (Ok dues.Done) → ⊥
+    → RunEnds [] before after held_before held_after old new (Ok dues.Done) → ⊥
 done_without_words before after held_before held_after old new (inl t) =
     no_word (Run t.1.command) t.1.words_are
 done_without_words before after held_before held_after old new (inr t) =
@@ -224,17 +224,17 @@ done_without_words before after held_before held_after old new (inr t) =
 -- ---- a run that failed: reading and want of memory leave the ending
 failed_reading : (words : List (String Global))
     (before after held_before held_after : Option (List ℕ))
-    → Ends words before after held_before held_after empty empty (Err Read)
+    → RunEnds words before after held_before held_after empty empty (Err Read)
 failed_reading words before after held_before held_after = refl
 
 failed_reading_and_changed : (words : List (String Global))
     (before after held_before held_after : Option (List ℕ))
-    → Ends words before after held_before held_after empty checked (Err Read) → ⊥
+    → RunEnds words before after held_before held_after empty checked (Err Read) → ⊥
 failed_reading_and_changed words before after held_before held_after e = changed e
 
 failed_for_memory_and_changed : (words : List (String Global))
     (before after held_before held_after : Option (List ℕ))
-    → Ends words before after held_before held_after empty checked (Err NoMemory) → ⊥
+    → RunEnds words before after held_before held_after empty checked (Err NoMemory) → ⊥
 failed_for_memory_and_changed words before after held_before held_after e = changed e
 
 -- what is cut is a front of what was due, and not all of it

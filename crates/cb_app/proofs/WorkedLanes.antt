@@ -12,7 +12,7 @@ use Rattle.cb_member.specs.declared.names.Loss.{Loss}
 use Rattle.cb_script.specs.declared.script.Line.{Line}
 use Rattle.cb_model.specs.Legal.{WasTold}
 use Rattle.cb_lanes.specs.Lost.{losses_of}
-use Rattle.cb_app.specs.ByLane.{AreApart, AreOfOthers, IsApart, IsUsed, Uses, by_lane, flat, lanes_up_to, of_lane}
+use Rattle.cb_app.specs.ByLane.{AreLanesApart, AreOfOthers, IsApart, IsUsed, Uses, by_lane, flat, lanes_up_to, of_lane}
 use Rattle.cb_app.specs.Crew.{handle_told, name_made, names_in}
 use Rattle.cb_app.specs.Threaded.{AreLosses}
 
@@ -120,16 +120,17 @@ not_made_there : IsApart (evict 1 ∷ []) (made_b ∷ read_b ∷ [])
 not_made_there name used lane (inl made) = made.1
 not_made_there name used lane (inr later) = later
 
-are_apart : AreApart [] ((evict 1 ∷ []) ∷ (made_b ∷ read_b ∷ []) ∷ [])
+are_apart : AreLanesApart [] ((evict 1 ∷ []) ∷ (made_b ∷ read_b ∷ []) ∷ [])
 are_apart = (nothing_before (evict 1 ∷ []), tt, (not_made_there, ((not_told, (not_told, tt)), tt), tt))
 
-a_lane_in_two : AreApart [] ((evict 2 ∷ []) ∷ (made_b ∷ []) ∷ []) → ⊥
+a_lane_in_two : AreLanesApart [] ((evict 2 ∷ []) ∷ (made_b ∷ []) ∷ []) → ⊥
 a_lane_in_two are = are.2.1.0.0 (inl refl)
 
-the_last_is_not_apart : AreApart [] ((line 2 2 (Make a (1 ∷ [])) ∷ []) ∷ (read_a ∷ []) ∷ []) → ⊥
+the_last_is_not_apart : AreLanesApart [] ((line 2 2 (Make a (1 ∷ [])) ∷ []) ∷ (read_a ∷ []) ∷ [])
+    → ⊥
 the_last_is_not_apart are = are.2.0 a (inl refl) 2 (inl (refl, refl))
 
-nor_is_the_first_from_those_before : AreApart (made_a ∷ []) ((read_a ∷ []) ∷ []) → ⊥
+nor_is_the_first_from_those_before : AreLanesApart (made_a ∷ []) ((read_a ∷ []) ∷ []) → ⊥
 nor_is_the_first_from_those_before are = who_uses_a_name_made_there_is_not are.0
 
 -- ---- names that were made

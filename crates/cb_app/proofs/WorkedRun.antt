@@ -22,7 +22,7 @@ use Rattle.cb_shared.specs.Sealing.{sealed_record, sealed_world}
 use Rattle.cb_shared.specs.Turning.{Did}
 use Rattle.cb_lanes.specs.Asked.{asked}
 use Rattle.cb_lanes.specs.Lost.{losses_of}
-use Rattle.cb_app.specs.Crew.{IsFresh, part_of}
+use Rattle.cb_app.specs.Crew.{IsFreshRecord, part_of}
 use Rattle.cb_app.specs.Threaded.{AreLosses, IsRun, IsThreaded}
 use Rattle.cb_text.specs.Line.{text_of}
 use Rattle.cb_app.specs.declared.ending.Ending.{Ending}
@@ -51,7 +51,7 @@ are_lines nodes = (
 
 -- with the seal of a runtime that did nothing, whose workers had no turns
 module _ (c : Config) (seal : Seal) (closed : IsClosed Did 1 c (sealed_record seal) (sealed_world seal))
-    (fresh : IsFresh (sealed_record seal)) (none : c.turns ≡ 0) where
+    (fresh : IsFreshRecord (sealed_record seal)) (none : c.turns ≡ 0) where
   abbrev end : List Answer → ThreadsEnd
   end answers = record {
     answers = answers;

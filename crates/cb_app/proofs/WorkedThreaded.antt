@@ -31,15 +31,15 @@ use Rattle.cb_world.specs.World.{WorldState, word_at}
 use Rattle.cb_rule.specs.Closing.{IsClosed}
 use Rattle.cb_model.specs.Called.{calls_of}
 use Rattle.cb_model.specs.Legal.{Rising}
-use Rattle.cb_model.specs.Now.{Now}
+use Rattle.cb_model.specs.Now.{MapNow}
 use Rattle.cb_model.specs.declared.object.Object.TheVariants.{Held, Freed}
 use Rattle.cb_rule.specs.Steps.{opener}
 use Rattle.cb_rule.specs.declared.turn.Turn.{Turn}
 use Rattle.cb_rule.specs.declared.view.View.{View}
 use Rattle.cb_record.specs.Backs.{Backs}
 use Rattle.cb_record.specs.Left.{now_left}
-use Rattle.cb_record.specs.Lists.{IsAmong}
-use Rattle.cb_record.specs.Lists.IsAmong.{ended, both}
+use Rattle.cb_record.specs.Lists.{IsSublist}
+use Rattle.cb_record.specs.Lists.IsSublist.{ended, both}
 use Rattle.cb_record.specs.Told.{tolds}
 use Rattle.cb_shared.specs.Sealing.{sealed, sealed_record, sealed_world}
 use Rattle.cb_shared.specs.Turning.{Did}
@@ -146,7 +146,7 @@ abbrev first_of_bytes : List ℕ → ℕ
 first_of_bytes [] = 0
 first_of_bytes (b ∷ bytes) = b
 
-abbrev first_byte : Now → ℕ
+abbrev first_byte : MapNow → ℕ
 first_byte (Some (Held version bytes)) = first_of_bytes bytes
 first_byte (Some (Freed version)) = 0
 first_byte None = 0
@@ -155,7 +155,7 @@ abbrev first_number : List Line → ℕ
 first_number [] = 0
 first_number (l ∷ lines) = l.line
 
-among_none : {A : Type 0} (xs : List A) → IsAmong xs [] → length xs ≡ 0
+among_none : {A : Type 0} (xs : List A) → IsSublist xs [] → length xs ≡ 0
 among_none xs ended = refl
 
 -- a roomy script, with one line

@@ -34,7 +34,7 @@ use Rattle.cb_lanes.specs.Scoped.{AreOneToOne}
 use Rattle.cb_workers.specs.Rules.{lane_of, visit}
 use Rattle.cb_workers.specs.declared.worker.Worker.{Worker as Worker'}
 use Rattle.cb_workers.specs.declared.worker.Worker.TheVariants as worker
-use Rattle.cb_app.specs.Crew.{AllMade, AreKnownTo, AreMade, BodyIsReady, HasText, IsDealt, IsDealtOne, IsEnded, IsFresh, IsReady, IsTold, Runs, TakesIn, if_same, lines_in, part_of, turns_for, work_in}
+use Rattle.cb_app.specs.Crew.{AllMade, AreKnownTo, AreMade, BodyIsReady, HasText, IsDealt, IsDealtOne, IsEnded, IsFreshRecord, IsLaneTold, IsTaskReady, TakesIn, TaskRuns, if_same, lines_in, part_of, turns_for, work_in}
 use Rattle.cb_app.specs.declared.crew.Body.{Body}
 use Rattle.cb_app.specs.declared.crew.Body.TheVariants.{Lane, Worker}
 use Rattle.cb_app.specs.declared.crew.Task.{Task}
@@ -66,19 +66,21 @@ answer lane request reply = record { lane = record { n = lane }; line = 2; reque
 abbrev clear : View → View
 clear v = record v { pins = []; written = []; turns = []; own = [] }
 
-pub is_fresh : (v : View) → IsFresh (clear v)
+pub is_fresh : (v : View) → IsFreshRecord (clear v)
 is_fresh v = record { pins = refl; written = refl; turns = refl; own = refl }
 
-a_pin_is_not_fresh : (v : View) (p : Stand) → IsFresh (record (clear v) { pins = p ∷ [] }) → ⊥
+a_pin_is_not_fresh : (v : View) (p : Stand) → IsFreshRecord (record (clear v) { pins = p ∷ [] }) → ⊥
 a_pin_is_not_fresh v p fresh = absurd (let e = fresh.pins in cc)
 
-an_entry_is_not_fresh : (v : View) (e : Entry) → IsFresh (record (clear v) { written = e ∷ [] }) → ⊥
+an_entry_is_not_fresh : (v : View) (e : Entry)
+    → IsFreshRecord (record (clear v) { written = e ∷ [] }) → ⊥
 an_entry_is_not_fresh v e fresh = absurd (let e = fresh.written in cc)
 
-a_turn_is_not_fresh : (v : View) (t : Turn) → IsFresh (record (clear v) { turns = t ∷ [] }) → ⊥
+a_turn_is_not_fresh : (v : View) (t : Turn) → IsFreshRecord (record (clear v) { turns = t ∷ [] })
+    → ⊥
 a_turn_is_not_fresh v t fresh = absurd (let e = fresh.turns in cc)
 
-an_own_handle_is_not_fresh : (v : View) → IsFresh (record (clear v) { own = 3 ∷ [] }) → ⊥
+an_own_handle_is_not_fresh : (v : View) → IsFreshRecord (record (clear v) { own = 3 ∷ [] }) → ⊥
 an_own_handle_is_not_fresh v fresh = absurd (let e = fresh.own in cc)
 
 -- ---- what the record of a new pass has
@@ -176,22 +178,22 @@ none_due {n = n} w other = by_case (λ b. cond {A = ℕ} b 0 0 ≤ n) (eqb (lane
 
 -- ---- with a runtime and a pass that has done nothing yet
 
-module _ (s : Shared) (p : Pass) (of : IsPassOf s p) (fresh : IsFresh (record_of p)) where
+module _ (s : Shared) (p : Pass) (of : IsPassOf s p) (fresh : IsFreshRecord (record_of p)) where
   abbrev task : Body → Task
   task body = record { body = body; pass = p }
 
-  is_ready : (w : Worker') → IsReady s leaves none (task (Worker w 3))
+  is_ready : (w : Worker') → IsTaskReady s leaves none (task (Worker w 3))
   is_ready w = record { of = of; fresh = fresh; body = tt }
 
   another_runtime : (w : Worker') (q : Pass) → (IsPassOf s q → ⊥)
-      → IsReady s leaves none (record { body = Worker w 3; pass = q }) → ⊥
+      → IsTaskReady s leaves none (record { body = Worker w 3; pass = q }) → ⊥
   another_runtime w q not ready = not ready.of
 
-  a_used_pass : (w : Worker') (q : Pass) → (IsFresh (record_of q) → ⊥)
-      → IsReady s leaves none (record { body = Worker w 3; pass = q }) → ⊥
+  a_used_pass : (w : Worker') (q : Pass) → (IsFreshRecord (record_of q) → ⊥)
+      → IsTaskReady s leaves none (record { body = Worker w 3; pass = q }) → ⊥
   a_used_pass w q not ready = not ready.fresh
 
-  lane_0_is_not_ready : IsReady s leaves none (task (lane 0)) → ⊥
+  lane_0_is_not_ready : IsTaskReady s leaves none (task (lane 0)) → ⊥
   lane_0_is_not_ready ready = let low = ready.body.2 in absurd (omega (arith, low))
 
   -- ---- what a thread leaves
@@ -215,7 +217,7 @@ module _ (s : Shared) (p : Pass) (of : IsPassOf s p) (fresh : IsFresh (record_of
     happens = idle.happens;
   }
 
-  is_told : IsTold s [] (line 2 Leave ∷ []) (end (answer 2 Leave (Left 0) ∷ []))
+  is_told : IsLaneTold s [] (line 2 Leave ∷ []) (end (answer 2 Leave (Left 0) ∷ []))
   is_told = record {
     of = of;
     lines_are = refl;
@@ -229,13 +231,13 @@ module _ (s : Shared) (p : Pass) (of : IsPassOf s p) (fresh : IsFresh (record_of
         (λ mine. absurd (on_no_name (nat_eq 2 n) mine), tt);
   }
 
-  by_another_pass : (q : Pass) → (IsPassOf s q → ⊥) → IsTold s [] [] (record { answers = []; pass = q }) → ⊥
+  by_another_pass : (q : Pass) → (IsPassOf s q → ⊥) → IsLaneTold s [] [] (record { answers = []; pass = q }) → ⊥
   by_another_pass q not told = not told.of
 
-  told_no_line : IsTold s [] [] (end (answer 2 Leave (Left 0) ∷ [])) → ⊥
+  told_no_line : IsLaneTold s [] [] (end (answer 2 Leave (Left 0) ∷ [])) → ⊥
   told_no_line told = absurd (let e = told.lines_are in cc)
 
-  told_another_lane : IsTold s [] (line 1 Leave ∷ []) (end (answer 2 Leave (Left 0) ∷ [])) → ⊥
+  told_another_lane : IsLaneTold s [] (line 1 Leave ∷ []) (end (answer 2 Leave (Left 0) ∷ [])) → ⊥
   told_another_lane told =
       let e : 2 ≡ 1 = ap (λ (ls : List Line). (slice_index_or ls 0 (line 1 Leave)).lane.n) told.lines_are in
       absurd (omega (arith, e))
@@ -250,15 +252,15 @@ module _ (s : Shared) (p : Pass) (of : IsPassOf s p) (fresh : IsFresh (record_of
     happens = idle.happens;
   }
 
-  no_reply_of_the_line : IsTold s [] (line 2 Leave ∷ []) (end (answer 2 Leave Freed ∷ [])) → ⊥
+  no_reply_of_the_line : IsLaneTold s [] (line 2 Leave ∷ []) (end (answer 2 Leave Freed ∷ [])) → ⊥
   no_reply_of_the_line told = told.replies.0
 
   -- a read was told that its object is being moved, which is tried again
-  told_of_a_move : IsTold s [] (line 2 (Read a) ∷ []) (end (answer 2 (Read a) Moving ∷ [])) → ⊥
+  told_of_a_move : IsLaneTold s [] (line 2 (Read a) ∷ []) (end (answer 2 (Read a) Moving ∷ [])) → ⊥
   told_of_a_move told = told.last.0
 
   -- a name without a handle was told that its object is freed
-  freed_without_a_handle : IsTold s [] (line 2 (Read a) ∷ []) (end (answer 2 (Read a) Freed ∷ [])) → ⊥
+  freed_without_a_handle : IsLaneTold s [] (line 2 (Read a) ∷ []) (end (answer 2 (Read a) Freed ∷ [])) → ⊥
   freed_without_a_handle told = told.suits.0
 
   -- a lane that took no pin is told of one
@@ -266,11 +268,11 @@ module _ (s : Shared) (p : Pass) (of : IsPassOf s p) (fresh : IsFresh (record_of
   no_name r x y g h (inl e) q = absurd cc
   no_name r x y g h (inr missing) q = absurd missing
 
-  told_of_no_pin : IsTold s [] (line 2 Leave ∷ []) (end (answer 2 Leave (Left 1) ∷ [])) → ⊥
+  told_of_no_pin : IsLaneTold s [] (line 2 Leave ∷ []) (end (answer 2 Leave (Left 1) ∷ [])) → ⊥
   told_of_no_pin told = absurd (let e : Left 1 ≡ Left 0 = (told.scopes (no_name (Left 1))).0 in cc)
 
   -- who was told of a made object wrote it
-  not_in_the_record : IsTold s [] (line 2 (Make a (1 ∷ [])) ∷ [])
+  not_in_the_record : IsLaneTold s [] (line 2 (Make a (1 ∷ [])) ∷ [])
       (end (answer 2 (Make a (1 ∷ [])) (Made (record { n = 0 }) 1) ∷ [])) → ⊥
   not_in_the_record told =
       let wrote = told.backs.wrote in
@@ -278,7 +280,7 @@ module _ (s : Shared) (p : Pass) (of : IsPassOf s p) (fresh : IsFresh (record_of
 
   -- ---- how a thread ends
 
-  none_told : (given : List Answer) → IsTold s given [] (end [])
+  none_told : (given : List Answer) → IsLaneTold s given [] (end [])
   none_told given = record {
     of = of;
     lines_are = refl;
@@ -300,18 +302,19 @@ module _ (s : Shared) (p : Pass) (of : IsPassOf s p) (fresh : IsFresh (record_of
   with_none : IsEnded s leaves [] (record { body = lane 2; left = Ok (told []) }) → ⊥
   with_none ended = absurd (let e = ended.lines_are in cc)
 
-  runs : (w : Worker') → Runs s leaves none (task (Worker w 0)) (record { body = Worker w 0; left = Ok (told []) })
+  runs : (w : Worker') → TaskRuns s leaves none (task (Worker w 0)) (record { body = Worker w 0; left = Ok (told []) })
   runs w = (refl, λ given named known. none_told given, λ other. none_due other w, refl)
 
   ran_another_body : (w : Worker')
-      → Runs s leaves none (task (lane 2)) (record { body = Worker w 0; left = Ok (told []) }) → ⊥
+      → TaskRuns s leaves none (task (lane 2)) (record { body = Worker w 0; left = Ok (told []) })
+      → ⊥
   ran_another_body w r = let e : Worker w 0 ≡ lane 2 = r.0 in absurd cc
 
-  did_not_answer : Runs s leaves none (task (lane 2)) (record { body = lane 2; left = Ok (told []) }) → ⊥
+  did_not_answer : TaskRuns s leaves none (task (lane 2)) (record { body = lane 2; left = Ok (told []) }) → ⊥
   did_not_answer r = with_none (r.1 [] (λ name. refl) (none_known (record_of p)))
 
   -- a worker that has made no turn
-  made_none : Runs s leaves none (task (Worker worker.Filter 3))
+  made_none : TaskRuns s leaves none (task (Worker worker.Filter 3))
       (record { body = Worker worker.Filter 3; left = Ok (told []) }) → ⊥
   made_none r =
       let made : 3 ≤ work_in worker.Filter (record_of p) = r.2 worker.Filter in
@@ -319,7 +322,7 @@ module _ (s : Shared) (p : Pass) (of : IsPassOf s p) (fresh : IsFresh (record_of
       ap (λ (ts : List Turn). times (is_like (visit 0)) ts) fresh.turns in absurd (omega (arith, made, nothing))
 
   -- a thread whose text tells of more than it was answered
-  wrote_more : (w : Worker') → Runs s leaves none (task (Worker w 0)) (record {
+  wrote_more : (w : Worker') → TaskRuns s leaves none (task (Worker w 0)) (record {
     body = Worker w 0;
     left = Ok (record { end = end []; text = a });
   }) → ⊥

@@ -29,7 +29,7 @@ use Rattle.cb_mutate.specs.Answered.{AbsentAs, AnsweredAs}
 use Rattle.cb_mutate.specs.FreeRule.{FreeAs}
 use Rattle.cb_mutate.specs.WriteRule.{NextVersion, WriteHere}
 use Rattle.cb_core.specs.Parts.{Holding, WhereItIs, near, declined, stays_far, brought}
-use Rattle.cb_core.specs.Turned.{Brings, Declines, Frees, IsDeclined, Turned, Writes, counted, done, worn}
+use Rattle.cb_core.specs.Turned.{Brings, Declines, Frees, IsDeclined, Turned, WritesObject, counted, done, worn}
 use Rattle.cb_rule.specs.Lists.{Has}
 use Rattle.cb_record.proofs.Laws.{has_right}
 use Rattle.cb_record.specs.Needs.{the_object}
@@ -210,7 +210,7 @@ not_absent : (q : State) (h : ℕ) (es : List Event) → AbsentAs q h es answer.
 not_absent q h es x = worn_is answer.Worn (absent q h es answer.Worn x) refl
 
 write_worn : (h at : ℕ) (bytes : List ℕ) (start : Shown) (a b : Hold)
-    → Writes slate_run slate_shows h at bytes a answer.Worn b → HadLast h start b.desk.acts
+    → WritesObject slate_run slate_shows h at bytes a answer.Worn b → HadLast h start b.desk.acts
 write_worn h at bytes start a b x = by (state_of z.word) z.answer
   where
     z : Rattle.cb_mutate.specs.WriteRule.WriteRule h at bytes answer.Worn x.events
@@ -258,7 +258,7 @@ refusal_worn len n at count = by (nat_lt len (at + count)) (n == 2 ^ 64 - 1) ref
     by false false so e = absurd (none_some e)
 
 declined_worn : (h at : ℕ) (bytes : List ℕ) (count : ℕ) (a m b : Hold)
-    → Sound a.desk.known a.far → Writes slate_run slate_shows h at bytes a answer.NotHere m
+    → Sound a.desk.known a.far → WritesObject slate_run slate_shows h at bytes a answer.NotHere m
     → ClaimHere b.desk.acts
     → Declines slate_run slate_shows h at count m (Some answer.Worn) b
     → HadLast h a.desk.known b.desk.acts
@@ -294,7 +294,7 @@ declined_worn h at bytes count a m b sound x here d = by d.1.rule
 
 where_worn : (c : Config) (h at : ℕ) (bytes : List ℕ) (a b : Hold) → Sound a.desk.known a.far
     → ClaimHere b.desk.acts
-    → WhereItIs (Writes slate_run slate_shows h at bytes)
+    → WhereItIs (WritesObject slate_run slate_shows h at bytes)
     (Declines slate_run slate_shows h at (length bytes)) (Brings slate_run slate_shows c h) a
     answer.Worn b → HadLast h a.desk.known b.desk.acts
 where_worn c h at bytes a b sound here (near x never) = write_worn h at bytes a.desk.known a b x

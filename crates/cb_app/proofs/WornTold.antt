@@ -30,10 +30,10 @@ use Rattle.cb_rule.specs.Closing.{IsClosed}
 use Rattle.cb_rule.specs.History.{is_version}
 use Rattle.cb_rule.specs.Lists.{times, Has}
 use Rattle.cb_rule.specs.Locking.{Stood, turn_number}
-use Rattle.cb_rule.specs.OneHistory.{HasNumber, IsOneHistory, Made}
-use Rattle.cb_rule.specs.Promised.{EntriesStand, GoesOn, Wrote}
+use Rattle.cb_rule.specs.OneHistory.{HasTurnNumber, IsOneHistory, Made}
+use Rattle.cb_rule.specs.Promised.{EntriesStand, EntryGoesOn, Wrote}
 use Rattle.cb_rule.proofs.Laws.{by_case, claimed_written, far_written, times_has}
-use Rattle.cb_record.specs.Backs.{Backs, EntersAt, Tells, Wrote as LinesWrote}
+use Rattle.cb_record.specs.Backs.{Backs, EntersAt, Tells, WroteLines}
 use Rattle.cb_record.specs.Lists.{HasOne}
 use Rattle.cb_record.specs.Needs.{IsJobFor, IsLastOf, IsOwnTurn, IsTurnFor, Meets, need_of, own_job, the_object}
 use Rattle.cb_record.specs.Needs.Need.{AWorn}
@@ -119,7 +119,7 @@ module _ (first : ℕ) (v : View) (entries : EntriesStand first (v ∷ [])) (qui
     subst (λ (fs : List Entry). Has e (fs ++ v.written)) (sym quiet) there,
   ))
     where
-      by : GoesOn first (v ∷ []) e → (e.version ≡ first)
+      by : EntryGoesOn first (v ∷ []) e → (e.version ≡ first)
           ⊎ ((x : Entry) × Has x v.written × (x.handle ≡ e.handle) × (x.version + 1 ≡ e.version))
       by (inl z) = inl z.0
       by (inr z) = inr (z.0, written first v entries quiet z.0 z.1, z.2, z.3)
@@ -176,7 +176,7 @@ enters_few (Some h) (line.Write name at bytes) r es x = write_few _ at bytes r e
 enters_few (Some h) (line.Free name) r es x = free_few _ r es x
 enters_few h q r es x = subst (λ (l : List Entry). length l ≤ 1) (sym x) (omega arith)
 
-wrote_few : (es : List Entry) (ts : List Told) → LinesWrote es ts → length es ≤ length ts
+wrote_few : (es : List Entry) (ts : List Told) → WroteLines es ts → length es ≤ length ts
 wrote_few es [] x = subst (λ (l : List Entry). length l ≤ 0) (sym x) (omega arith)
 wrote_few es (t ∷ ts) (own, rest, is, enters, later) =
     let one = enters_few t.handle t.request t.reply own enters in
@@ -221,7 +221,7 @@ module _ (c : Config) (v : View) (w : WorldState) (closed : IsClosed Did 1 c v w
   all_counted : (t : Turn) → Has t v.turns → turn_number t ≡ 2 ^ 40 → 2 ^ 40 ≤ count
   all_counted t there end = by (number_of 1 c v count w.far one t there)
     where
-      by : HasNumber count t → 2 ^ 40 ≤ count
+      by : HasTurnNumber count t → 2 ^ 40 ≤ count
       by (inl less) = omega (arith, less, end)
       by (inr z) = let e = z.1 in omega (arith, e)
 

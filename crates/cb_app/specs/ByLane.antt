@@ -5,7 +5,7 @@ use Rattle.cb_types.specs.declared.request.Request.{Request}
 use Rattle.cb_types.specs.declared.request.Request.TheVariants.{Make}
 use Rattle.cb_types.specs.Requests.{name_of}
 use Rattle.cb_script.specs.declared.script.Line.{Line}
-use Rattle.cb_script.specs.Form.{IsMade}
+use Rattle.cb_script.specs.Form.{IsNameMade}
 use Rattle.cb_model.specs.Legal.{WasTold}
 pub use Rattle.cb_lanes.specs.Bodies.{of_lane}
 
@@ -35,7 +35,7 @@ IsUsed (l ∷ lines) name = Uses l.request name ⊎ IsUsed lines name
 -- the lines are about no name that is made on those before
 abbrev pub IsApart : List Line → List Line → Type 0
 IsApart before lines = (name : List ℕ) → IsUsed lines name
-    → (lane : ℕ) → IsMade before lane name → ⊥
+    → (lane : ℕ) → IsNameMade before lane name → ⊥
 
 -- none of the lines is of a lane that was told what those before are answered
 abbrev pub AreOfOthers : List Line → List Line → Type 0
@@ -43,10 +43,10 @@ AreOfOthers before lines =
     AllByRecursion (λ b. AllByRecursion (λ l. WasTold b.lane.n l.lane.n → ⊥) lines) before
 
 -- so each of these lists of lines, behind those before it
-abbrev pub AreApart : List Line → List (List Line) → Type 0
-AreApart before [] = Unit {0}
-AreApart before (lines ∷ later) = IsApart before lines × AreOfOthers before lines
-    × AreApart (before ++ lines) later
+abbrev pub AreLanesApart : List Line → List (List Line) → Type 0
+AreLanesApart before [] = Unit {0}
+AreLanesApart before (lines ∷ later) = IsApart before lines × AreOfOthers before lines
+    × AreLanesApart (before ++ lines) later
 
 -- all lines of lists of lines
 abbrev pub flat : List (List Line) → List Line

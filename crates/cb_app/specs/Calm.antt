@@ -3,7 +3,7 @@ use Rattle.cb_types.specs.declared.reply.Reply.{Reply}
 use Rattle.cb_types.specs.declared.reply.Reply.TheVariants.{Moving}
 use Rattle.cb_types.specs.declared.request.Request.{Request}
 use Rattle.cb_types.specs.declared.request.Request.TheVariants.{Filter}
-use Rattle.cb_lanes.specs.Alone.{IsCalm}
+use Rattle.cb_lanes.specs.Alone.{IsCalmReply}
 
 -- a filter line is one turn, and is not made again where another thread moves its object
 abbrev pub MayFindMoving : Request → Type 0
@@ -14,4 +14,4 @@ MayFindMoving request = ⊥
 -- filter line
 abbrev pub IsCalmTo : Request → Reply → Type 0
 IsCalmTo request Moving = MayFindMoving request
-IsCalmTo request reply = IsCalm reply
+IsCalmTo request reply = IsCalmReply reply

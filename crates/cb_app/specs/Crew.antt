@@ -35,7 +35,7 @@ use Rattle.cb_lanes.specs.Scoped.{AreScoped}
 use Rattle.cb_lanes.specs.Suits.{AreSuited}
 use Rattle.cb_workers.specs.Rules.{lane_of}
 use Rattle.cb_workers.specs.declared.worker.Worker.{Worker as Worker'}
-use Rattle.cb_app.specs.ByLane.{AreApart, flat, lanes_up_to, of_lane}
+use Rattle.cb_app.specs.ByLane.{AreLanesApart, flat, lanes_up_to, of_lane}
 use Rattle.cb_app.specs.OwnLines.{KeepAloneWith}
 use Rattle.cb_app.specs.declared.crew.Body.{Body}
 use Rattle.cb_app.specs.declared.crew.Body.TheVariants.{Lane, Worker}
@@ -70,12 +70,12 @@ abbrev pub names_in : List Answer → List Named
 names_in answers = flat_map (λ a. name_made a.request a.reply) answers
 
 -- the text of what was told tells its answers
-abbrev pub IsWritten : Told → Type 0
-IsWritten t = t.text ≡ text_of t.end.answers
+abbrev pub IsTextWritten : Told → Type 0
+IsTextWritten t = t.text ≡ text_of t.end.answers
 
 -- so of what a thread left, unless memory was wanting
 abbrev pub HasText : Ended → Type 0
-HasText e = IfOk e.left IsWritten
+HasText e = IfOk e.left IsTextWritten
 
 -- the lines of a thread, of these lines: those of its lane, and a worker has none
 abbrev pub lines_in : List Line → Body → List Line
@@ -119,7 +119,7 @@ AllMade w (t ∷ ts) (e ∷ es) = AreMade w t e × AllMade w ts es
 AllMade w tasks ends = ⊥
 
 -- the record of a pass that has done nothing yet, and may have seen what another one has
-pub record IsFresh (v : View) : Type 0 where
+pub record IsFreshRecord (v : View) : Type 0 where
   pub pins : v.pins ≡ []
   pub written : v.written ≡ []
   pub turns : v.turns ≡ []
@@ -133,9 +133,10 @@ BodyIsReady nodes lines names v (Lane lane) =
 BodyIsReady nodes lines names v (Worker worker turns) = Unit {0}
 
 -- what a thread has to be given, with these lines of all lanes and these names
-pub record IsReady (s : Shared) (lines : List Line) (names : List Named) (t : Task) : Type 0 where
+pub record IsTaskReady (s : Shared) (lines : List Line) (names : List Named) (t : Task) : Type
+    0 where
   pub of : IsPassOf s t.pass
-  pub fresh : IsFresh (record_of t.pass)
+  pub fresh : IsFreshRecord (record_of t.pass)
   pub body : BodyIsReady s.config.nodes lines names (record_of t.pass) t.body
 
 -- no version falls from the answers given before to these, or among these
@@ -166,7 +167,7 @@ AreKnownTo v answers = (w : View) × HasAllOf w v × StandIn w answers × AreFir
 -- have the names; and they suit the handles of their names, what the pass has read, and the scopes
 -- of their lanes; and no version falls; and where makes give version 1 the own lines of lanes are
 -- answered as if these were alone.
-pub record IsTold (s : Shared) (given : List Answer) (lines : List Line) (e : LaneEnd) : Type 0
+pub record IsLaneTold (s : Shared) (given : List Answer) (lines : List Line) (e : LaneEnd) : Type 0
   where
     pub of : IsPassOf s e.pass
     pub lines_are : map asked e.answers ≡ lines
@@ -180,12 +181,12 @@ pub record IsTold (s : Shared) (given : List Answer) (lines : List Line) (e : La
 
 -- so a thread ended that had its lines among these, unless memory was wanting
 abbrev pub IsEnded : Shared → List Line → List Answer → Ended → Type 0
-IsEnded s lines given e = IfOk e.left (λ told. IsTold s given (lines_left lines e) told.end)
+IsEnded s lines given e = IfOk e.left (λ told. IsLaneTold s given (lines_left lines e) told.end)
 
 -- a thread left the body that it was given, and answered its lines, by whatever answers have the
 -- names and are known to its pass; a worker made its turns; and the text tells the answers
-abbrev pub Runs : Shared → List Line → List Named → Task → Ended → Type 0
-Runs s lines names t e = (e.body ≡ t.body)
+abbrev pub TaskRuns : Shared → List Line → List Named → Task → Ended → Type 0
+TaskRuns s lines names t e = (e.body ≡ t.body)
     × ((given : List Answer) → AreNamesOf names given → AreKnownTo (record_of t.pass) given
     → IsEnded s lines given e)
     × ((w : Worker') → AreMade w t e)
@@ -210,9 +211,9 @@ pub record IsDealt (s : Shared) (lines : List Line) (n m : ℕ) (v : View) (task
   pub left : record_of p ≡ record v { share = share; own = own }
   pub starts : All (λ t. HasAllOf v (record_of t.pass)) tasks
   pub ready : (names : List Named) → KnowsNames v names → AreLines s.config.nodes [] lines
-      → All (IsReady s lines names) tasks
+      → All (IsTaskReady s lines names) tasks
   pub lines_are : flat (map (lines_due lines) tasks) ≡ lanes_up_to n lines
-  pub apart : AreLines s.config.nodes [] lines → AreApart [] (map (lines_due lines) tasks)
+  pub apart : AreLines s.config.nodes [] lines → AreLanesApart [] (map (lines_due lines) tasks)
 
 -- The answers given before, others behind them and those of these lines were told one after the
 -- other.
@@ -221,4 +222,4 @@ pub record TakesIn (s : Shared) (given others : List Answer) (lines : List Line)
   pub more : List Answer
   pub answers : e.answers ≡ given ++ (others ++ more)
   pub lines_are : map asked more ≡ lines
-  pub told : IsTold s [] (map asked e.answers) e
+  pub told : IsLaneTold s [] (map asked e.answers) e

@@ -11,7 +11,7 @@ use Rattle.cb_cli.specs.declared.outcome.Failure.TheVariants.{Read, Write, NoMem
 use Rattle.cb_cli.specs.declared.words.Command.{Command}
 use Rattle.cb_cli.specs.declared.words.Plan.{Plan}
 use Rattle.cb_cli.specs.Words.{AskFor, Name, NameNone}
-use Rattle.cb_cli.specs.Taken.{IsTaken, taken_of}
+use Rattle.cb_cli.specs.Taken.{AreBytesTaken, taken_of}
 use Rattle.cb_cli.specs.Fronts.{GetsFront}
 use Rattle.cb_cli.specs.Texts.{words_refused}
 use Rattle.cb_app.specs.declared.ending.Ending.{Ending}
@@ -23,7 +23,7 @@ pub record IsDone (words : List (String Global)) (before after : Option (List �
   pub command : Command
   pub words_are : Name words command
   pub bytes : List ℕ
-  pub taken : IsTaken before after bytes
+  pub taken : AreBytesTaken before after bytes
   pub yields : Yields command bytes old new text
 
 -- The words ask for a drawn script, whose lines are answered, and this is the summary of the answers.
@@ -44,7 +44,7 @@ pub record IsScriptRefused (words : List (String Global)) (before after : Option
   pub command : Command
   pub words_are : Name words command
   pub bytes : List ℕ
-  pub taken : IsTaken before after bytes
+  pub taken : AreBytesTaken before after bytes
   pub refused : Refuses command bytes text
 
 -- The text that is due, and the ending with it. `old` and `new` are the ending before and after.
@@ -85,20 +85,20 @@ IsCut words before after held_before held_after old new =
     (text : List ℕ) × IsDue words before after old new text × GetsFront held_before held_after text
 
 -- What holds of a run that ends so: what it took and put, and the ending that it leaves.
-abbrev pub Ends : List (String Global) → (before after held_before held_after : Option (List ℕ))
+abbrev pub RunEnds : List (String Global) → (before after held_before held_after : Option (List ℕ))
     → (old new : Ending) → Result Due Failure
     → Type 0
-Ends words before after held_before held_after old new (Ok Done) =
+RunEnds words before after held_before held_after old new (Ok Done) =
     TellsScript words before after held_before held_after old new
     ⊎ TellsSummary words before after held_before held_after new
-Ends words before after held_before held_after old new (Ok WordsRefused) =
+RunEnds words before after held_before held_after old new (Ok WordsRefused) =
     AreWordsRefused words before after × Appends held_before held_after words_refused × (new ≡ old)
-Ends words before after held_before held_after old new (Ok ScriptRefused) =
+RunEnds words before after held_before held_after old new (Ok ScriptRefused) =
     RefusesScript words before after held_before held_after × (new ≡ old)
-Ends words before after held_before held_after old new (Err Read) = new ≡ old
-Ends words before after held_before held_after old new (Err Write) =
+RunEnds words before after held_before held_after old new (Err Read) = new ≡ old
+RunEnds words before after held_before held_after old new (Err Write) =
     IsCut words before after held_before held_after old new
-Ends words before after held_before held_after old new (Err NoMemory) = new ≡ old
+RunEnds words before after held_before held_after old new (Err NoMemory) = new ≡ old
 
 -- the count of faults of reading rose exactly where the run failed so
 abbrev pub RoseOnRead : Result Due Failure → (before after : ℕ) → Type 0

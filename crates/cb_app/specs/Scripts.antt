@@ -6,7 +6,7 @@ use Rattle.cb_script.specs.declared.fault.Reason.{Reason}
 use Rattle.cb_script.specs.Roomy.{IsAtEase}
 use Rattle.cb_model.specs.Legal.{IsLegalInOrder}
 use Rattle.cb_text.specs.Line.{text_of}
-use Rattle.cb_lanes.specs.Alone.{HasOwnLines, IsCalm, KeepAlone, fresh_lane}
+use Rattle.cb_lanes.specs.Alone.{HasOwnLines, IsCalmReply, KeepAlone, fresh_lane}
 use Rattle.cb_lanes.specs.Asked.{asked, HasLineReply}
 use Rattle.cb_lanes.specs.declared.side.Side.{Side}
 use Rattle.cb_lanes.specs.declared.side.Side.TheVariants.{Nodes, Compute}
@@ -48,7 +48,7 @@ pub record IsAnswered (side : Side) (script : Script) (end : Ending) : Type 0 wh
   pub idle : (seat : ℕ) → pins_of_seat world.seats seat ≡ []
   -- at ease no line is told of a want of room or of a loss, and the own lines of each lane are
   -- answered as if it were alone
-  pub calm : IsAtEase script → AllByRecursion (λ a. IsCalm a.reply) end.answers
+  pub calm : IsAtEase script → AllByRecursion (λ a. IsCalmReply a.reply) end.answers
   pub alone : IsAtEase script → (lane : ℕ) → HasOwnLines script.lines lane
       → KeepAlone script.lines lane fresh_lane end.answers
 
@@ -75,7 +75,7 @@ pub record IsChecked (script : Script) (end : Ending) : Type 0 where
 -- summary of its answers.
 pub record IsSummed (plan : Plan) (end : Ending) (text : List ℕ) : Type 0 where
   pub answered : IsAnswered Nodes (made_script plan.seed plan.lines plan.lanes) end
-  pub calm : AllByRecursion (λ a. IsCalm a.reply) end.answers
+  pub calm : AllByRecursion (λ a. IsCalmReply a.reply) end.answers
   pub text_is : text ≡ summary plan.seed plan.lines plan.lanes end.answers
 
 -- the text tells a line and a reason for which this holds

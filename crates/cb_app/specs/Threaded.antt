@@ -10,7 +10,7 @@ use Rattle.cb_rule.specs.Closing.{IsClosed}
 use Rattle.cb_model.specs.Called.{calls_of}
 use Rattle.cb_model.specs.Legal.{IsLegal}
 use Rattle.cb_record.specs.Backs.{Backs}
-use Rattle.cb_record.specs.Left.{HasLast}
+use Rattle.cb_record.specs.Left.{HasHistoryEnds}
 use Rattle.cb_record.specs.Told.{tolds}
 use Rattle.cb_record.specs.Upheld.{Upholds}
 use Rattle.cb_shared.specs.Sealing.{sealed_record, sealed_world}
@@ -51,7 +51,7 @@ pub record IsRun (script : Script) (end : ThreadsEnd) : Type 0 where
   -- from lane 0 to another, did a version fall
   pub legal : IsLegal 1 script.config.handles end.answers
   -- and the world holds of each object the last entry of its history in them, or it is gone
-  pub holds : HasLast end.answers end.world
+  pub holds : HasHistoryEnds end.answers end.world
   -- what lines are answered follows from the scopes of their lanes: pin, peek, unpin and leave
   -- lines, and where a write, a free or a filter is held up by pins
   pub scopes : KeepScopes [] end.answers

@@ -12,7 +12,7 @@ ghost use Rattle.cb_lanes.specs.Asked.{HasLineReply, asked};
 ghost use Rattle.cb_lanes.specs.Bodies.{AreLinesOf, AreNamesOf, KnowsNames};
 ghost use Rattle.cb_rule.specs.Lists.{total};
 ghost use Rattle.cb_workers.specs.declared.worker.Worker.{Worker as Worker'};
-ghost use Rattle.cb_app.specs.ByLane.{AreApart, AreOfOthers, IsApart, by_lane, flat, has_lines, of_lane};
+ghost use Rattle.cb_app.specs.ByLane.{AreLanesApart, AreOfOthers, IsApart, by_lane, flat, has_lines, of_lane};
 ghost use Rattle.cb_app.specs.Crew.{
   AllMade,
   AreFirst,
@@ -22,11 +22,11 @@ ghost use Rattle.cb_app.specs.Crew.{
   IsDealt,
   IsDealtOne,
   IsEnded,
-  IsFresh,
-  IsReady,
-  IsTold,
-  IsWritten,
-  Runs,
+  IsFreshRecord,
+  IsTaskReady,
+  IsLaneTold,
+  IsTextWritten,
+  TaskRuns,
   StandIn,
   TakesIn,
   if_same,
@@ -94,14 +94,14 @@ pub(crate) fn run_crew<R: Threads + Wait + Sync, G: Gate>(
     names: &Names,
     gate: &G,
 ) -> Result<(), NoMemory>
-    requires first { IsTold shared.now [] (of_lane 0 lines.now) first.old }
+    requires first { IsLaneTold shared.now [] (of_lane 0 lines.now) first.old }
     requires whole { (record_of first.old.pass).share ≡ 64 }
     requires lines { AreLines shared.now.config.nodes [] lines.now }
     requires names { AreNamesOf names.now first.old.answers }
     requires known { KnowsNames (record_of first.old.pass) names.now }
     requires stand { StandIn (record_of first.old.pass) first.old.answers }
     requires text { text.old ≡ text_of first.old.answers }
-    ensures told { IfOk result (λ _. IsTold shared.now [] (by_lane lines.now) first.new) }
+    ensures told { IfOk result (λ _. IsLaneTold shared.now [] (by_lane lines.now) first.new) }
     ensures work { IfOk result (λ _. (w : Worker') → shared.now.config.turns
         ≤ work_in w (record_of first.new.pass)) }
     ensures text { IfOk result (λ _. text.new ≡ text_of first.new.answers) }
@@ -240,7 +240,7 @@ fn scatter<R: Threads + Wait + Sync, G: Gate>(
     names: &Names,
     gate: &G,
 ) -> Result<Vec<Ended>, NoMemory>
-    requires ready { All (IsReady shared.now lines.now names.now) tasks.items }
+    requires ready { All (IsTaskReady shared.now lines.now names.now) tasks.items }
     ensures len { IfOk result (λ ends. vec_len ends ≡ vec_len tasks) }
     ensures lines { IfOk result (λ ends. (i : ℕ) (d : Ended) (t : Task) → i < vec_len tasks
         → lines_left lines.now (slice_index_or ends.items i d)
@@ -257,8 +257,8 @@ fn scatter<R: Threads + Wait + Sync, G: Gate>(
         rt,
         tasks,
         &|task: Task| -> Ended
-            requires { IsReady shared.now lines.now names.now task }
-            ensures { Runs shared.entry.now lines.entry.now names.entry.now task result }
+            requires { IsTaskReady shared.now lines.now names.now task }
+            ensures { TaskRuns shared.entry.now lines.entry.now names.entry.now task result }
         { run_task(rt, alloc, shared, task, lines, names, gate) },
     )?;
     Ok(ends)
@@ -274,8 +274,8 @@ fn run_task<R: Wait, G: Gate>(
     names: &Names,
     gate: &G,
 ) -> Ended
-    requires ready { IsReady shared.now lines.now names.now task }
-    ensures runs { Runs shared.now lines.now names.now task result }
+    requires ready { IsTaskReady shared.now lines.now names.now task }
+    ensures runs { TaskRuns shared.now lines.now names.now task result }
 {
     let Task { body, pass } = task;
     match body {
@@ -305,14 +305,15 @@ fn run_lane<R: Wait, G: Gate>(
     gate: &G,
 ) -> Ended
     requires of { IsPassOf shared.now pass }
-    requires fresh { IsFresh (record_of pass) }
+    requires fresh { IsFreshRecord (record_of pass) }
     requires lines { AreLinesOf shared.now.config.nodes lane.n (of_lane lane.n lines.now) }
     requires names { KnowsNames (record_of pass) names.now }
     requires other { 1 ≤ lane.n }
     ensures body { result.body ≡ Body.Lane lane }
     ensures ended { (given : List Answer) → AreNamesOf names.now given
         → AreKnownTo (record_of pass) given
-        → IfOk result.left (λ told. IsTold shared.now given (of_lane lane.n lines.now) told.end) }
+        → IfOk result.left (λ told. IsLaneTold shared.now given (of_lane lane.n lines.now)
+        told.end) }
     ensures made { (w : Worker')
         → IfOk result.left (λ told. 0 ≤ work_in w (record_of told.end.pass)) }
     ensures text { HasText result }
@@ -336,14 +337,14 @@ fn answer_lane<R: Wait, G: Gate>(
     gate: &G,
 ) -> Result<Told, NoMemory>
     requires of { IsPassOf shared.now pass }
-    requires fresh { IsFresh (record_of pass) }
+    requires fresh { IsFreshRecord (record_of pass) }
     requires lines { AreLinesOf shared.now.config.nodes lane.n (of_lane lane.n lines.now) }
     requires names { KnowsNames (record_of pass) names.now }
     requires other { 1 ≤ lane.n }
     ensures told { (given : List Answer) → AreNamesOf names.now given
         → AreKnownTo (record_of pass) given
-        → IfOk result (λ told. IsTold shared.now given (of_lane lane.n lines.now) told.end) }
-    ensures text { IfOk result IsWritten }
+        → IfOk result (λ told. IsLaneTold shared.now given (of_lane lane.n lines.now) told.end) }
+    ensures text { IfOk result IsTextWritten }
 {
     let own = of_lane(alloc, lines, lane)?;
     match lane_body(rt, alloc, shared, pass, lane, own.as_slice(), names, gate) {
@@ -363,10 +364,10 @@ fn run_worker<R: Wait, G: Gate>(
     gate: &G,
 ) -> Ended
     requires of { IsPassOf shared.now pass }
-    requires fresh { IsFresh (record_of pass) }
+    requires fresh { IsFreshRecord (record_of pass) }
     ensures body { result.body ≡ Body.Worker worker turns }
     ensures ended { (given : List Answer)
-        → IfOk result.left (λ told. IsTold shared.now given [] told.end) }
+        → IfOk result.left (λ told. IsLaneTold shared.now given [] told.end) }
     ensures made { (w : Worker') → IfOk result.left (λ told. if_same worker w turns
         ≤ work_in w (record_of told.end.pass)) }
     ensures text { HasText result }
@@ -394,7 +395,7 @@ fn run_worker<R: Wait, G: Gate>(
 pub(crate) fn with_text(alloc: Global, end: LaneEnd) -> Result<Told, NoMemory>
     requires { AllByRecursion HasLineReply end.answers }
     ensures end { IfOk result (λ told. told.end ≡ end) }
-    ensures text { IfOk result IsWritten }
+    ensures text { IfOk result IsTextWritten }
 {
     let text = answers_text(alloc, &end.answers)?;
     let text = Pieces::one(alloc, text);
@@ -410,13 +411,13 @@ fn gather(
     lines: &[Line],
     ends: Vec<Ended>,
 ) -> Result<(), NoMemory>
-    requires first { IsTold shared.now [] (map asked first.old.answers) first.old }
+    requires first { IsLaneTold shared.now [] (map asked first.old.answers) first.old }
     requires ended { All (IsEnded shared.now lines.now first.old.answers) ends.items }
-    requires apart { AreApart [] (map (lines_left lines.now) ends.items) }
+    requires apart { AreLanesApart [] (map (lines_left lines.now) ends.items) }
     requires of_first { AreFirst first.old.answers }
     requires text { text.old ≡ text_of first.old.answers }
     requires texts { All HasText ends.items }
-    ensures told { IfOk result (λ _. IsTold shared.now []
+    ensures told { IfOk result (λ _. IsLaneTold shared.now []
         (map asked first.old.answers ++ flat (map (lines_left lines.now) ends.items)) first.new) }
     ensures work { (w : Worker') (tasks : List Task) → AllMade w tasks ends.items
         → IfOk result (λ _. total (turns_due w) tasks ≤ work_in w (record_of first.new.pass)) }
@@ -439,7 +440,7 @@ fn take_in(
     requires ended { IfOk ended.left (λ told. IsPassOf shared.now told.end.pass) }
     ensures told { (given others : List Answer) (lines : List Line)
         → first.old.answers ≡ given ++ others
-        → IsTold shared.now [] (map asked first.old.answers) first.old
+        → IsLaneTold shared.now [] (map asked first.old.answers) first.old
         → IsEnded shared.now lines given ended
         → IsApart (map asked others) (lines_left lines ended)
         → AreOfOthers (map asked others) (lines_left lines ended) → AreFirst given
@@ -468,13 +469,13 @@ fn take_told(
     requires end { IsPassOf shared.now told.end.pass }
     ensures told { (given others : List Answer) (lines : List Line)
         → first.old.answers ≡ given ++ others
-        → IsTold shared.now [] (map asked first.old.answers) first.old
-        → IsTold shared.now given lines told.end → IsApart (map asked others) lines
+        → IsLaneTold shared.now [] (map asked first.old.answers) first.old
+        → IsLaneTold shared.now given lines told.end → IsApart (map asked others) lines
         → AreOfOthers (map asked others) lines → AreFirst given
         → IfOk result (λ _. TakesIn shared.now given others lines first.new) }
     ensures work { (w : Worker') → IfOk result (λ _. work_in w (record_of first.new.pass)
         ≡ work_in w (record_of first.old.pass) + work_in w (record_of told.end.pass)) }
-    ensures text { text.old ≡ text_of first.old.answers → IsWritten told
+    ensures text { text.old ≡ text_of first.old.answers → IsTextWritten told
         → IfOk result (λ _. text.new ≡ text_of first.new.answers) }
 {
     let Told { end, text: more } = told;
@@ -487,8 +488,8 @@ fn take_end(shared: &Shared, first: &mut LaneEnd, end: LaneEnd) -> Result<(), No
     requires end { IsPassOf shared.now end.pass }
     ensures told { (given others : List Answer) (lines : List Line)
         → first.old.answers ≡ given ++ others
-        → IsTold shared.now [] (map asked first.old.answers) first.old
-        → IsTold shared.now given lines end → IsApart (map asked others) lines
+        → IsLaneTold shared.now [] (map asked first.old.answers) first.old
+        → IsLaneTold shared.now given lines end → IsApart (map asked others) lines
         → AreOfOthers (map asked others) lines → AreFirst given
         → IfOk result (λ _. TakesIn shared.now given others lines first.new) }
     ensures work { (w : Worker') → IfOk result (λ _. work_in w (record_of first.new.pass)

@@ -6,7 +6,7 @@ ghost use Rattle.cb_types.specs.Table.{IsReplyOf};
 ghost use Rattle.std.specs.List.{AllByRecursion};
 ghost use Rattle.cb_cli.specs.Words.{AskFor, IsPlan};
 ghost use Rattle.cb_gen.specs.Summary.{summary};
-ghost use Rattle.cb_app.specs.Outcome.{Ends, RoseOnWrite};
+ghost use Rattle.cb_app.specs.Outcome.{RoseOnWrite, RunEnds};
 ghost use Rattle.cb_app.specs.Scripts.{IsSummed};
 
 use crate::commands::answer;
@@ -27,7 +27,7 @@ pub(crate) fn run_drawn<K: Sink>(
 ) -> Result<Due, Failure>
     requires plan { IsPlan plan }
     ensures ends { (words : List (String Global)) → AskFor words plan
-        → (source : Option (List ℕ)) → Ends words source source
+        → (source : Option (List ℕ)) → RunEnds words source source
         (K.held sink.old) (K.held sink.new) end.old end.new result }
     ensures writes { RoseOnWrite result (K.faults sink.old) (K.faults sink.new) }
     ensures due { (result ≡ Ok Due.Done) ⊎ IsErr result }

@@ -2,12 +2,12 @@ ghost use Rattle.std.specs.Prelude.{◌≡◌, ◌≢◌, ◌≤◌, ◌⊎◌, 
 ghost use Rattle.std.specs.Io.KnownBytes.{Consumes};
 ghost use Rattle.std.specs.declared.alloc.Global.{Global};
 ghost use Rattle.cb_types.specs.Faults.{Rose};
-ghost use Rattle.cb_cli.specs.Taken.{IsTaken};
+ghost use Rattle.cb_cli.specs.Taken.{AreBytesTaken};
 ghost use Rattle.cb_cli.specs.Words.{AskFor, Name, NameNone};
 ghost use Rattle.cb_cli.specs.declared.words.Command.{Command};
 ghost use Rattle.cb_cli.specs.declared.words.Plan.{Plan};
 ghost use Rattle.cb_app.specs.Modes.{IsVerdict};
-ghost use Rattle.cb_app.specs.Outcome.{Ends, RoseOnRead, RoseOnWrite, IsDecided};
+ghost use Rattle.cb_app.specs.Outcome.{RunEnds, RoseOnRead, RoseOnWrite, IsDecided};
 
 use crate::commands::obey;
 use crate::drawn::run_drawn;
@@ -29,7 +29,7 @@ pub fn run<R: Threads + Wait + Sync, S: Source, K: Sink>(
     sink: &mut K,
     end: &mut Ending,
 ) -> Result<Due, Failure>
-    ensures ends { Ends words.now (S.left source.old) (S.left source.new)
+    ensures ends { RunEnds words.now (S.left source.old) (S.left source.new)
         (K.held sink.old) (K.held sink.new) end.old end.new result }
     ensures reads { RoseOnRead result (S.faults source.old) (S.faults source.new) }
     ensures writes { RoseOnWrite result (K.faults sink.old) (K.faults sink.new) }
@@ -66,7 +66,7 @@ fn run_command<R: Threads + Wait + Sync, S: Source, K: Sink>(
     end: &mut Ending,
 ) -> Result<Due, Failure>
     ensures ends { (words : List (String Global)) → Name words command
-        → Ends words (S.left source.old) (S.left source.new)
+        → RunEnds words (S.left source.old) (S.left source.new)
         (K.held sink.old) (K.held sink.new) end.old end.new result }
     ensures reads { RoseOnRead result (S.faults source.old) (S.faults source.new) }
     ensures writes { RoseOnWrite result (K.faults sink.old) (K.faults sink.new) }
@@ -98,7 +98,7 @@ fn judge<R: Threads + Wait + Sync, S: Source>(
     end: &mut Ending,
 ) -> Result<Verdict, Failure>
     ensures verdict { IfOk result (λ verdict. (bytes : List ℕ)
-        × IsTaken (S.left source.old) (S.left source.new) bytes
+        × AreBytesTaken (S.left source.old) (S.left source.new) bytes
         × IsVerdict command bytes end.old end.new verdict) }
     ensures kept { OnErr result (end.new ≡ end.old) }
     ensures fault { result ≡ Err Failure.Read → Rose (S.faults source.old) (S.faults source.new) }

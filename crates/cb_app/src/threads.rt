@@ -3,9 +3,9 @@ ghost use Rattle.std.specs.Prelude.{◌≡◌, ◌≤◌, [], ◌++◌, IfOk};
 ghost use Rattle.cb_script.specs.Form.{AreInMode, AreLines, IsScript};
 ghost use Rattle.cb_script.specs.declared.script.Mode.TheVariants as scripts;
 ghost use Rattle.cb_shared.specs.Closing.{IsClosedBy};
-ghost use Rattle.cb_shared.specs.Passes.{IsBegun, IsPassOf, record_of};
+ghost use Rattle.cb_shared.specs.Passes.{IsPassOf, IsRuntimeBegun, record_of};
 ghost use Rattle.cb_app.specs.ByLane.{by_lane, of_lane};
-ghost use Rattle.cb_app.specs.Crew.{IsTold, IsWritten, StandIn, names_in, work_in};
+ghost use Rattle.cb_app.specs.Crew.{IsLaneTold, IsTextWritten, StandIn, names_in, work_in};
 ghost use Rattle.cb_app.specs.Threaded.{AreLosses, IsRun};
 ghost use Rattle.cb_lanes.specs.Bodies.{KnowsNames};
 ghost use Rattle.cb_lanes.specs.Lost.{losses_of};
@@ -69,12 +69,12 @@ fn run_all<R: Threads + Wait + Sync, G: Gate>(
     s: &Script,
     gate: &G,
 ) -> Result<Told, NoMemory>
-    requires begun { IsBegun 1 s.now.config shared.now pass }
+    requires begun { IsRuntimeBegun 1 s.now.config shared.now pass }
     requires lines { AreLines s.now.config.nodes [] s.now.lines }
-    ensures told { IfOk result (λ told. IsTold shared.now [] (by_lane s.now.lines) told.end) }
+    ensures told { IfOk result (λ told. IsLaneTold shared.now [] (by_lane s.now.lines) told.end) }
     ensures work { IfOk result (λ told. (w : Worker) → shared.now.config.turns
         ≤ work_in w (record_of told.end.pass)) }
-    ensures text { IfOk result IsWritten }
+    ensures text { IfOk result IsTextWritten }
 {
     let mut end = run_first(rt, alloc, shared, pass, s, gate)?;
     let names = names_of(alloc, &end.answers)?;
@@ -101,9 +101,9 @@ fn run_first<R: Wait, G: Gate>(
     s: &Script,
     gate: &G,
 ) -> Result<LaneEnd, NoMemory>
-    requires begun { IsBegun 1 s.now.config shared.now pass }
+    requires begun { IsRuntimeBegun 1 s.now.config shared.now pass }
     requires lines { AreLines s.now.config.nodes [] s.now.lines }
-    ensures told { IfOk result (IsTold shared.now [] (of_lane 0 s.now.lines)) }
+    ensures told { IfOk result (IsLaneTold shared.now [] (of_lane 0 s.now.lines)) }
     ensures whole { IfOk result (λ told. (record_of told.pass).share ≡ 64) }
     ensures known { IfOk result (λ told. KnowsNames (record_of told.pass)
         (names_in told.answers)) }
@@ -130,7 +130,7 @@ fn run_first<R: Wait, G: Gate>(
 /// Closes the runtime.
 fn end(alloc: Global, shared: Shared, told: Told) -> Result<ThreadsEnd, NoMemory>
     requires of { IsPassOf shared told.end.pass }
-    requires text { IsWritten told }
+    requires text { IsTextWritten told }
     ensures answers { IfOk result (λ end. end.answers ≡ told.end.answers) }
     ensures closed { IfOk result (λ end. IsClosedBy shared told.end.pass end.world end.seal) }
     ensures losses { IfOk result (λ end. AreLosses end.losses told.end.answers) }

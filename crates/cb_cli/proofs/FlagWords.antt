@@ -63,39 +63,39 @@ whole_is : (text : Text) → has_byte 61 text ≡ false → text ≡ before_firs
 whole_is text none = sym (ap (λ (n : ℕ). take n text) (none_past text none) ∙ take_all (length text) text (omega arith))
 
 -- a name, and `=` and a value where there is one
-abbrev pub IsCut : Text → Text → Option Text → Type 0
-IsCut text name None = text ≡ name
-IsCut text name (Some value) = text ≡ name ++ 61 ∷ value
+abbrev pub IsCutAtEquals : Text → Text → Option Text → Type 0
+IsCutAtEquals text name None = text ≡ name
+IsCutAtEquals text name (Some value) = text ≡ name ++ 61 ∷ value
 
-cut_of : (text name : Text) (value : Option Text) → name_and_value text ≡ (name, value) → IsCut text name value
+cut_of : (text name : Text) (value : Option Text) → name_and_value text ≡ (name, value) → IsCutAtEquals text name value
 cut_of text name value e =
     let names : before_first is_equals text ≡ name = ap (λ (p : Text × Option Text). p.0) e in
     let values : cond (has_byte 61 text) (Some (after_first is_equals text)) None ≡ value = ap (λ (p : Text × Option Text). p.1) e in
     elim (cases_Bool (has_byte 61 text)) [
       | inl t ↦
           let found : Some (after_first is_equals text) ≡ value = sym (ap (λ (b : Bool). cond b (Some (after_first is_equals text)) None) t) ∙ values in
-          subst (λ (o : Option Text). IsCut text name o) found (cut_is text t ∙ ap (λ (n : Text). n ++ 61 ∷ after_first is_equals text) names)
+          subst (λ (o : Option Text). IsCutAtEquals text name o) found (cut_is text t ∙ ap (λ (n : Text). n ++ 61 ∷ after_first is_equals text) names)
       | inr f ↦
           let found : None ≡ value = sym (ap (λ (b : Bool). cond b (Some (after_first is_equals text)) None) f) ∙ values in
-          subst (λ (o : Option Text). IsCut text name o) found (whole_is text f ∙ names)
+          subst (λ (o : Option Text). IsCutAtEquals text name o) found (whole_is text f ∙ names)
     ]
 
-rest_is : (text name : Text) (value : Option Text) → long_of_rest text ≡ Some (name, value) → IsCut text name value
+rest_is : (text name : Text) (value : Option Text) → long_of_rest text ≡ Some (name, value) → IsCutAtEquals text name value
 rest_is [] name value e = absurd cc
 rest_is (x ∷ xs) name value e =
     let pair : name_and_value (x ∷ xs) ≡ (name, value) = cc in
     cut_of (x ∷ xs) name value pair
 
 -- two dashes and a name, and `=` and a value where there is one
-abbrev pub IsLong : Text → Text → Option Text → Type 0
-IsLong w name None = w ≡ 45 ∷ 45 ∷ name
-IsLong w name (Some value) = w ≡ 45 ∷ 45 ∷ (name ++ 61 ∷ value)
+abbrev pub IsLongFlag : Text → Text → Option Text → Type 0
+IsLongFlag w name None = w ≡ 45 ∷ 45 ∷ name
+IsLongFlag w name (Some value) = w ≡ 45 ∷ 45 ∷ (name ++ 61 ∷ value)
 
-long_from_cut : (w rest name : Text) (value : Option Text) → w ≡ 45 ∷ 45 ∷ rest → IsCut rest name value → IsLong w name value
+long_from_cut : (w rest name : Text) (value : Option Text) → w ≡ 45 ∷ 45 ∷ rest → IsCutAtEquals rest name value → IsLongFlag w name value
 long_from_cut w rest name None e cut = e ∙ ap (λ (t : Text). 45 ∷ 45 ∷ t) cut
 long_from_cut w rest name (Some value) e cut = e ∙ ap (λ (t : Text). 45 ∷ 45 ∷ t) cut
 
-pub long_is : (w name : Text) (value : Option Text) → long_of w ≡ Some (name, value) → IsLong w name value
+pub long_is : (w name : Text) (value : Option Text) → long_of w ≡ Some (name, value) → IsLongFlag w name value
 long_is w name value e =
     let last = and_then_is long_of_rest (option_and_then (strip_byte 45) (strip_byte 45 w)) (name, value) e in
     let first = and_then_is (strip_byte 45) (strip_byte 45 w) last.0 last.1 in
@@ -104,17 +104,17 @@ long_is w name value e =
 -- ---- words that are no option
 
 -- no word of an option, of letters or of two dashes
-pub record IsPlain (w : Text) : Type 0 where
+pub record IsNoFlag (w : Text) : Type 0 where
   pub long : long_of w ≡ None
   pub short : short_of w ≡ None
   pub other : bytes_eq w dashes ≡ false
 
 -- a text that does not begin with a dash
-pub plain_from : (c : ℕ) (cs : Text) → (c == 45) ≡ false → IsPlain (c ∷ cs)
+pub plain_from : (c : ℕ) (cs : Text) → (c == 45) ≡ false → IsNoFlag (c ∷ cs)
 plain_from c cs f = record { long = rw f refl; short = rw f refl; other = rw f refl }
 
 -- as a number
-pub plain_digits : (ds : Text) → 0 < length ds → AllDigits 10 ds → IsPlain ds
+pub plain_digits : (ds : Text) → 0 < length ds → AllDigits 10 ds → IsNoFlag ds
 plain_digits [] some all = absurd (omega (arith, some))
 plain_digits (c ∷ cs) some all =
     plain_from c cs (ne_eqb c 45 (λ e. omega (arith, e, (digit_at (c ∷ cs) 0 all some).0)))

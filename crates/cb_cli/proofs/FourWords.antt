@@ -5,23 +5,23 @@ use Rattle.std.specs.Prelude.{string_bytes}
 use Rattle.std.proofs.lemmas.List.{length-map}
 use Rattle.cb_cli.specs.declared.words.Command.{Command}
 use Rattle.cb_cli.specs.declared.words.Plan.{Plan}
-use Rattle.cb_cli.specs.Words.{AreParts, AskFor, IsPart, Name, Part, is_given, is_word}
-use Rattle.cb_cli.specs.Words.Part.{Word, Given}
+use Rattle.cb_cli.specs.Words.{AreParts, AskFor, CommandPart, IsPart, Name, is_given, is_word}
+use Rattle.cb_cli.specs.Words.CommandPart.{Word, Given}
 use Rattle.cb_cli.specs.Words.Setting.{Seed, Lines, Lanes}
 
-kinds_sum : (parts : List Part) → length parts ≡ length (filter is_word parts) + (length (filter (is_given Seed) parts) + (length (filter (is_given Lines) parts) + length (filter (is_given Lanes) parts)))
+kinds_sum : (parts : List CommandPart) → length parts ≡ length (filter is_word parts) + (length (filter (is_given Seed) parts) + (length (filter (is_given Lines) parts) + length (filter (is_given Lanes) parts)))
 kinds_sum [] = refl
 kinds_sum (Word w ∷ parts) = omega (arith, kinds_sum parts)
 kinds_sum (Given Seed v ∷ parts) = omega (arith, kinds_sum parts)
 kinds_sum (Given Lines v ∷ parts) = omega (arith, kinds_sum parts)
 kinds_sum (Given Lanes v ∷ parts) = omega (arith, kinds_sum parts)
 
-front_some : (p : Part) (front : List (List ℕ)) → IsPart p front → 1 ≤ length front
+front_some : (p : CommandPart) (front : List (List ℕ)) → IsPart p front → 1 ≤ length front
 front_some (Word w) front is = omega (arith, ap length is)
 front_some (Given o v) front (inl is) = omega (arith, ap length is)
 front_some (Given o v) front (inr is) = omega (arith, ap length is)
 
-few_parts : (parts : List Part) (words : List (List ℕ)) → AreParts parts words → length parts ≤ length words
+few_parts : (parts : List CommandPart) (words : List (List ℕ)) → AreParts parts words → length parts ≤ length words
 few_parts [] words are = omega arith
 few_parts (p ∷ parts) words are =
     omega (arith, front_some p are.0 are.2, few_parts parts are.1 are.3, ap length are.4, length-append are.0 are.1)

@@ -43,7 +43,7 @@ count_more (y ∷ xs) x =
     ]
 
 -- there is a flag for each number that a byte has, and it is raised where the number is on the list
-pub record Flags (seen : List Bool) (lanes : List ℕ) : Type 0 where
+pub record FlagsOfNumbers (seen : List Bool) (lanes : List ℕ) : Type 0 where
   pub all : length seen ≡ 256
   pub each : (lane : ℕ) → lane < 256 → get_or seen lane false ≡ is_member nat_eq lanes lane
 
@@ -52,8 +52,8 @@ or_other true = refl
 or_other false = refl
 
 -- the flag of the number at the end is raised
-pub raised : (seen : List Bool) (lanes : List ℕ) (x : ℕ) → x < 256 → Flags seen lanes
-    → Flags (set seen x true) (lanes ++ x ∷ [])
+pub raised : (seen : List Bool) (lanes : List ℕ) (x : ℕ) → x < 256 → FlagsOfNumbers seen lanes
+    → FlagsOfNumbers (set seen x true) (lanes ++ x ∷ [])
 raised seen lanes x low flags = record {
   all = length-set seen x true ∙ flags.all;
   each = λ lane below. elim (cases_eq lane x) [
@@ -64,7 +64,7 @@ raised seen lanes x low flags = record {
 
 -- the flag of the number at the end is raised already
 pub raised_before : (seen : List Bool) (lanes : List ℕ) (x : ℕ) → is_member nat_eq lanes x ≡ true
-    → Flags seen lanes → Flags seen (lanes ++ x ∷ [])
+    → FlagsOfNumbers seen lanes → FlagsOfNumbers seen (lanes ++ x ∷ [])
 raised_before seen lanes x is flags = record {
   all = flags.all;
   each = λ lane below. elim (cases_eq lane x) [
@@ -74,7 +74,7 @@ raised_before seen lanes x is flags = record {
 }
 
 -- no lane is flagged at first
-pub none_raised : Flags (replicate 256 false) []
+pub none_raised : FlagsOfNumbers (replicate 256 false) []
 none_raised = record { all = refl; each = λ lane below. get_or-replicate 256 lane false false below }
 
 -- one more line, and its lane
@@ -84,7 +84,8 @@ lanes_more lines i l d within at =
     ap lanes_of (take_more lines i d within ∙ ap (λ (m : Line). take i lines ++ m ∷ []) (sym at)) ∙ map-append (λ (m : Line). m.lane.n) (take i lines) (l ∷ [])
 
 -- the count with a number that is not on the list
-pub counts_new : (seen : List Bool) (lanes : List ℕ) (x count : ℕ) → x < 256 → Flags seen lanes
+pub counts_new : (seen : List Bool) (lanes : List ℕ) (x count : ℕ) → x < 256
+    → FlagsOfNumbers seen lanes
     → get_or seen x false ≡ false → count ≡ distinct_count nat_eq lanes
     → count + 1 ≡ distinct_count nat_eq (lanes ++ x ∷ [])
 counts_new seen lanes x count low flags is counted =
@@ -94,7 +95,8 @@ counts_new seen lanes x count low flags is counted =
     omega (arith, one, counted)
 
 -- the count with a number that is on the list
-pub counts_again : (seen : List Bool) (lanes : List ℕ) (x count : ℕ) → x < 256 → Flags seen lanes
+pub counts_again : (seen : List Bool) (lanes : List ℕ) (x count : ℕ) → x < 256
+    → FlagsOfNumbers seen lanes
     → get_or seen x false ≡ true → count ≡ distinct_count nat_eq lanes
     → count ≡ distinct_count nat_eq (lanes ++ x ∷ [])
 counts_again seen lanes x count low flags is counted =

@@ -18,8 +18,8 @@ use Rattle.clap.specs.declared.error.kind.ErrorKind.{ErrorKind}
 use Rattle.clap.specs.declared.parser.matches.ValueSource.TheVariants.{CommandLine}
 use Rattle.clap.specs.declared.builder.value_parser.Reading.{Reading}
 use Rattle.cb_cli.specs.Reader.{option_rule, quieted, reader, word_reader, word_rule}
-use Rattle.cb_cli.specs.Words.{Part, Setting, name_of}
-use Rattle.cb_cli.specs.Words.Part.{Word, Given}
+use Rattle.cb_cli.specs.Words.{CommandPart, Setting, setting_name}
+use Rattle.cb_cli.specs.Words.CommandPart.{Word, Given}
 use Rattle.cb_cli.specs.Words.Setting.{Seed, Lines, Lanes}
 use Rattle.cb_cli.proofs.FlagWords.{dashes}
 
@@ -53,17 +53,17 @@ reader_is_simple = refl
 -- ---- parts as rows
 
 abbrev pub option_of : Setting → Rule
-option_of o = with_index 2 (filled (option_rule (name_of o)))
+option_of o = with_index 2 (filled (option_rule (setting_name o)))
 
-abbrev pub part_rule : Part → Rule
+abbrev pub part_rule : CommandPart → Rule
 part_rule (Word w) = with_index 1 (filled word_rule)
 part_rule (Given o v) = option_of o
 
-abbrev pub part_id : Part → Text
+abbrev pub part_id : CommandPart → Text
 part_id (Word w) = codes "command"
-part_id (Given o v) = name_of o
+part_id (Given o v) = setting_name o
 
-abbrev pub part_value : Part → Text
+abbrev pub part_value : CommandPart → Text
 part_value (Word w) = w
 part_value (Given o v) = v
 
@@ -73,10 +73,10 @@ how = reading_by (with_index 1 (filled word_rule))
 abbrev row_with : Text → Text → Row
 row_with id v = record { id = id; values = v ∷ []; count = None; source = Some CommandLine; reading = how }
 
-abbrev pub row : Part → Row
+abbrev pub row : CommandPart → Row
 row p = row_with (part_id p) (part_value p)
 
-pub by_id : (p : Part) → arg_by_id rules (part_id p) ≡ Some (part_rule p)
+pub by_id : (p : CommandPart) → arg_by_id rules (part_id p) ≡ Some (part_rule p)
 by_id (Word w) = refl
 by_id (Given Seed v) = refl
 by_id (Given Lines v) = refl
@@ -114,36 +114,36 @@ set_is id v rs none =
     ap (with_values id how CommandLine (v ∷ [])) (at_row_none id (λ r. []) [] rs none ∙ append-nil rs)
     ∙ at_row_none id (more_values CommandLine (v ∷ [])) (row_with id v ∷ []) rs none
 
-pub used_is : (p : Part) (rs : List Row) → has_row (part_id p) rs ≡ false → used (part_rule p) (part_value p ∷ []) rs ≡ rs ++ row p ∷ []
+pub used_is : (p : CommandPart) (rs : List Row) → has_row (part_id p) rs ≡ false → used (part_rule p) (part_value p ∷ []) rs ≡ rs ++ row p ∷ []
 used_is (Word w) rs none = set_is (codes "command") w rs none
-used_is (Given o v) rs none = set_is (name_of o) v rs none
+used_is (Given o v) rs none = set_is (setting_name o) v rs none
 
 repeat_is : (k : ErrorKind) (b : Bool) → cond (b && true) (k ∷ []) [] ≡ [] → b ≡ false
 repeat_is k true e = absurd cc
 repeat_is k false e = refl
 
-pub use_is : (p : Part) (rs : List Row) → use_fault again (part_rule p) (part_value p ∷ []) rs ≡ [] → has_row (part_id p) rs ≡ false
+pub use_is : (p : CommandPart) (rs : List Row) → use_fault again (part_rule p) (part_value p ∷ []) rs ≡ [] → has_row (part_id p) rs ≡ false
 use_is (Word w) rs e = repeat_is _ (has_row (codes "command") rs) (no_first _ _ e)
-use_is (Given o v) rs e = repeat_is _ (has_row (name_of o) rs) (no_first _ _ e)
+use_is (Given o v) rs e = repeat_is _ (has_row (setting_name o) rs) (no_first _ _ e)
 
-pub use_free : (p : Part) (rs : List Row) → has_row (part_id p) rs ≡ false → use_fault again (part_rule p) (part_value p ∷ []) rs ≡ []
+pub use_free : (p : CommandPart) (rs : List Row) → has_row (part_id p) rs ≡ false → use_fault again (part_rule p) (part_value p ∷ []) rs ≡ []
 use_free (Word w) rs none = rw none refl
 use_free (Given o v) rs none = rw none refl
 
 -- ---- where the walk stands between two parts
 
-abbrev pub all_of : List Part → Option Part → List Part
+abbrev pub all_of : List CommandPart → Option CommandPart → List CommandPart
 all_of done None = done
 all_of done (Some p) = done ++ p ∷ []
 
-abbrev pub held_at : List Part → Option Part → Held
+abbrev pub held_at : List CommandPart → Option CommandPart → Held
 held_at done pending = record { rows = map row done; pending = option_map (λ p. (part_id p, part_value p ∷ [])) pending; skip = 0 }
 
-pub settle_fault_is : (done : List Part) (p : Part) → settle_fault rules again (held_at done (Some p)) ≡ use_fault again (part_rule p) (part_value p ∷ []) (map row done)
+pub settle_fault_is : (done : List CommandPart) (p : CommandPart) → settle_fault rules again (held_at done (Some p)) ≡ use_fault again (part_rule p) (part_value p ∷ []) (map row done)
 settle_fault_is done p =
     ap (λ (found : Option Rule). option_map_or (λ a. use_fault again a (part_value p ∷ []) (map row done)) found []) (by_id p)
 
-pub settled_is : (done : List Part) (pending : Option Part) → settle_fault rules again (held_at done pending) ≡ [] → settled rules (held_at done pending) ≡ held_at (all_of done pending) None
+pub settled_is : (done : List CommandPart) (pending : Option CommandPart) → settle_fault rules again (held_at done pending) ≡ [] → settled rules (held_at done pending) ≡ held_at (all_of done pending) None
 settled_is done None e = refl
 settled_is done (Some p) e =
     let none = use_is p (map row done) (sym (settle_fault_is done p) ∙ e) in
@@ -155,14 +155,14 @@ settled_is done (Some p) e =
 abbrev pub at_idle : Held → ℕ → Walk
 at_idle held position = record { held = held; waiting = idle; position = position; is_trailing = false; stopped = None }
 
-abbrev pub held_for : List Part → Setting → Held
-held_for done o = record { rows = map row done; pending = Some (name_of o, []); skip = 0 }
+abbrev pub held_for : List CommandPart → Setting → Held
+held_for done o = record { rows = map row done; pending = Some (setting_name o, []); skip = 0 }
 
-abbrev pub at_waiting : List Part → Setting → ℕ → Walk
-at_waiting done o position = record { held = held_for done o; waiting = option (name_of o); position = position; is_trailing = false; stopped = None }
+abbrev pub at_waiting : List CommandPart → Setting → ℕ → Walk
+at_waiting done o position = record { held = held_for done o; waiting = option (setting_name o); position = position; is_trailing = false; stopped = None }
 
 -- an option without its value is refused
-pub no_value : (done : List Part) (o : Setting) → settle_fault rules again (held_for done o) ≡ [] → ⊥
+pub no_value : (done : List CommandPart) (o : Setting) → settle_fault rules again (held_for done o) ≡ [] → ⊥
 no_value done Seed e = a_kind _ _ e
 no_value done Lines e = a_kind _ _ e
 no_value done Lanes e = a_kind _ _ e
@@ -172,7 +172,7 @@ no_value done Lanes e = a_kind _ _ e
 decided : (a b : Text) → bytes_eq a b ≡ true → b ≡ a
 decided a b t = sym ((bytes_eq-Decides a b).0 t)
 
-pub option_named : (name : Text) → (arg_by_long rules name ≡ None) ⊎ ((o : Setting) × (name ≡ name_of o) × (arg_by_long rules name ≡ Some (option_of o)))
+pub option_named : (name : Text) → (arg_by_long rules name ≡ None) ⊎ ((o : Setting) × (name ≡ setting_name o) × (arg_by_long rules name ≡ Some (option_of o)))
 option_named name = elim (cases_Bool (bytes_eq (codes "seed") name)) [
   | inl t ↦ inr (Seed, decided (codes "seed") name t, rw t refl)
   | inr f ↦ elim (cases_Bool (bytes_eq (codes "lines") name)) [

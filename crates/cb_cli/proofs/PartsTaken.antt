@@ -6,17 +6,17 @@ use Rattle.clap.specs.Lexer.{long_of, short_of}
 use Rattle.clap.specs.Kinds.{Kinds, or_else}
 use Rattle.clap.specs.Walk.{Held, Rule, Text, Walk, after_step, arg_by_long, has_row, idle, settled, value, walked}
 use Rattle.clap.specs.Faults.{long_fault, settle_fault, step_fault, turn_fault, use_fault, walk_fault}
-use Rattle.cb_cli.specs.Words.{AreParts, Part, Setting, is_word, name_of}
-use Rattle.cb_cli.specs.Words.Part.{Word, Given}
+use Rattle.cb_cli.specs.Words.{AreParts, CommandPart, Setting, is_word, setting_name}
+use Rattle.cb_cli.specs.Words.CommandPart.{Word, Given}
 use Rattle.cb_cli.specs.Words.Setting.{Seed, Lines, Lanes}
-use Rattle.cb_cli.proofs.FlagWords.{IsLong, IsPlain, dashes, long_is}
+use Rattle.cb_cli.proofs.FlagWords.{IsLongFlag, IsNoFlag, dashes, long_is}
 use Rattle.cb_cli.proofs.OptionReader.{a_kind, again, all_of, at_idle, at_waiting, fault_by, held_at, is_false_or, no_first, no_second, no_value, option_named, option_of, part_value, row, rules, settle_fault_is, settled_is, shape, short_case, use_free, use_is, walked_by}
 use Rattle.cb_cli.proofs.PartsRead.{AreOnce, by_rule, fresh, joined_fault, joined_walk, kind_count, named_walk, once_more, pend, turned, value_fault, value_taken, value_turn, value_walk, walk_rule, went, word_turn}
 
 -- where the walk stands: between two parts, or where an option waits for its value
 pub data At : Type 0 where
-  idle_at : (done : List Part) (pending : Option Part) (position : ℕ) → At
-  waits_at : (done : List Part) (o : Setting) (position : ℕ) → At
+  idle_at : (done : List CommandPart) (pending : Option CommandPart) (position : ℕ) → At
+  waits_at : (done : List CommandPart) (o : Setting) (position : ℕ) → At
 
 abbrev pub walk_of : At → Walk
 walk_of (idle_at done pending position) = at_idle (held_at done pending) position
@@ -27,30 +27,32 @@ IsFine (idle_at done pending position) = AreOnce done × ((position ≡ 1) ⊎ (
 IsFine (waits_at done o position) = AreOnce done × ((position ≡ 1) ⊎ (position ≡ 2))
 
 -- from there the words read as parts, and with those before they are these
-abbrev pub Reads : At → List Text → List Part → Type 0
-Reads (idle_at done pending position) words total =
-    (parts : List Part) × AreParts parts words × (total ≡ all_of done pending ++ parts)
-Reads (waits_at done o position) words total =
-    (v : Text) × (rest : List Text) × (parts : List Part) × (words ≡ v ∷ rest) × AreParts parts rest × (total ≡ (done ++ Given o v ∷ []) ++ parts)
+abbrev pub ReadsParts : At → List Text → List CommandPart → Type 0
+ReadsParts (idle_at done pending position) words total =
+    (parts : List CommandPart) × AreParts parts words × (total ≡ all_of done pending ++ parts)
+ReadsParts (waits_at done o position) words total =
+    (v : Text) × (rest : List Text) × (parts : List CommandPart) × (words ≡ v ∷ rest) × AreParts parts rest × (total ≡ (done ++ Given o v ∷ []) ++ parts)
 
-settled_once : (done : List Part) (pending : Option Part) → AreOnce done → settle_fault rules again (held_at done pending) ≡ [] → AreOnce (all_of done pending)
+settled_once : (done : List CommandPart) (pending : Option CommandPart) → AreOnce done → settle_fault rules again (held_at done pending) ≡ [] → AreOnce (all_of done pending)
 settled_once done None once e = once
 settled_once done (Some p) once e = once_more done p once (use_is p (map row done) (sym (settle_fault_is done p) ∙ e))
 
 -- ---- one word that is not refused
 
-data Turns (done : List Part) (pending : Option Part) (position : ℕ) (w : Text) : At → Type 0 where
+data Turns (done : List CommandPart) (pending : Option CommandPart) (position : ℕ) (w : Text) : At
+    → Type 0 where
   to_word : Turns done pending position w (idle_at (all_of done pending) (Some (Word w)) 2)
-  to_joined : (o : Setting) (v : Text) → w ≡ 45 ∷ 45 ∷ (name_of o ++ 61 ∷ v) → Turns done pending position w (idle_at (all_of done pending ++ Given o v ∷ []) None position)
-  to_name : (o : Setting) → w ≡ 45 ∷ 45 ∷ name_of o → Turns done pending position w (waits_at (all_of done pending) o position)
+  to_joined : (o : Setting) (v : Text) → w ≡ 45 ∷ 45 ∷ (setting_name o ++ 61 ∷ v) → Turns done pending position w (idle_at (all_of done pending ++ Given o v ∷ []) None position)
+  to_name : (o : Setting) → w ≡ 45 ∷ 45 ∷ setting_name o → Turns done pending position w (waits_at (all_of done pending) o position)
 
-record Turned (done : List Part) (pending : Option Part) (position : ℕ) (w : Text) : Type 0 where
+record Turned (done : List CommandPart) (pending : Option CommandPart) (position : ℕ)
+    (w : Text) : Type 0 where
   next : At
   walk : walked rules [] (at_idle (held_at done pending) position) w ≡ walk_of next
   fine : IsFine next
   turns : Turns done pending position w next
 
-module _ (done : List Part) (pending : Option Part) (position : ℕ) (w : Text) (fine : AreOnce done × ((position ≡ 1) ⊎ (position ≡ 2))) where
+module _ (done : List CommandPart) (pending : Option CommandPart) (position : ℕ) (w : Text) (fine : AreOnce done × ((position ≡ 1) ⊎ (position ≡ 2))) where
   abbrev held : Held
   held = held_at done pending
 
@@ -76,7 +78,7 @@ module _ (done : List Part) (pending : Option Part) (position : ℕ) (w : Text) 
         | inr two ↦ absurd (a_kind _ _ (sym (ap (λ (n : ℕ). step_fault shape n held value) two) ∙ step_free))
       ]
 
-  on_option : (o : Setting) (name : Text) (v : Option Text) → name ≡ name_of o → IsLong w name v → by_rule done pending w position (Some (option_of o)) v ≡ []
+  on_option : (o : Setting) (name : Text) (v : Option Text) → name ≡ setting_name o → IsLongFlag w name v → by_rule done pending w position (Some (option_of o)) v ≡ []
       → walked rules [] (at_idle held position) w ≡ walk_rule done pending w position (Some (option_of o)) v → Turned done pending position w
   on_option o name None named long e walk_is =
       let free : settle_fault rules again held ≡ [] = no_first _ _ e in
@@ -121,16 +123,16 @@ first_turn w rest at e = (no_first _ _ e, no_second _ _ e)
 
 -- What the words come to: these parts, each kind of them once at the most.
 pub record Total (at : At) (words : List Text) : Type 0 where
-  pub total : List Part
-  pub reads : Reads at words total
+  pub total : List CommandPart
+  pub reads : ReadsParts at words total
   pub rows : settled rules (fold (walked rules []) (walk_of at) words).held ≡ held_at total None
   pub once : AreOnce total
 
-module _ (done : List Part) (pending : Option Part) (position : ℕ) (w : Text) (rest : List Text) (total : List Part) where
-  abbrev all : List Part
+module _ (done : List CommandPart) (pending : Option CommandPart) (position : ℕ) (w : Text) (rest : List Text) (total : List CommandPart) where
+  abbrev all : List CommandPart
   all = all_of done pending
 
-  joined : (next : At) → Turns done pending position w next → Reads next rest total → Reads (idle_at done pending position) (w ∷ rest) total
+  joined : (next : At) → Turns done pending position w next → ReadsParts next rest total → ReadsParts (idle_at done pending position) (w ∷ rest) total
   joined _ to_word reads =
       (Word w ∷ reads.0, (w ∷ [], rest, refl, reads.1, refl), reads.2 ∙ append_assoc all (Word w ∷ []) reads.0)
   joined _ (to_joined o v is) reads =
@@ -175,9 +177,9 @@ sound (w ∷ rest) (waits_at done o position) fine others e free =
 -- ---- all words of parts, each once
 
 -- The words are taken from here, and come to these parts.
-pub record Finished (start : Walk) (words : List Text) (total : List Part) : Type 0 where
-  pub done : List Part
-  pub pending : Option Part
+pub record Finished (start : Walk) (words : List Text) (total : List CommandPart) : Type 0 where
+  pub done : List CommandPart
+  pub pending : Option CommandPart
   pub position : ℕ
   pub no_fault : walk_fault shape [] start words ≡ []
   pub walk : fold (walked rules []) start words ≡ at_idle (held_at done pending) position
@@ -192,7 +194,7 @@ one_word : (w : Text) (rest : List Text) (at : Walk) → walk_fault shape [] at 
 unfolding walk_fault
 one_word w rest at = refl
 
-one_step : (start next : Walk) (w : Text) (rest : List Text) (total : List Part) → turn_fault shape [] start w ≡ [] → walked rules [] start w ≡ next → Finished next rest total → Finished start (w ∷ rest) total
+one_step : (start next : Walk) (w : Text) (rest : List Text) (total : List CommandPart) → turn_fault shape [] start w ≡ [] → walked rules [] start w ≡ next → Finished next rest total → Finished start (w ∷ rest) total
 one_step start next w rest total free walk f = record {
   done = f.done;
   pending = f.pending;
@@ -203,19 +205,19 @@ one_step start next w rest total free walk f = record {
   free = f.free;
 }
 
-free_at : (done : List Part) (p : Part) (rest : List Part) → AreOnce ((done ++ p ∷ []) ++ rest) → settle_fault rules again (held_at done (Some p)) ≡ []
+free_at : (done : List CommandPart) (p : CommandPart) (rest : List CommandPart) → AreOnce ((done ++ p ∷ []) ++ rest) → settle_fault rules again (held_at done (Some p)) ≡ []
 free_at done p rest once = settle_fault_is done p ∙ use_free p (map row done) (fresh done p rest once)
 
 -- the words of an option
 abbrev dashed : Setting → Text
-dashed o = 45 ∷ 45 ∷ name_of o
+dashed o = 45 ∷ 45 ∷ setting_name o
 
-long_dashed : (o : Setting) → long_of (dashed o) ≡ Some (name_of o, None)
+long_dashed : (o : Setting) → long_of (dashed o) ≡ Some (setting_name o, None)
 long_dashed Seed = refl
 long_dashed Lines = refl
 long_dashed Lanes = refl
 
-long_joined : (o : Setting) (v : Text) → long_of (45 ∷ 45 ∷ (name_of o ++ 61 ∷ v)) ≡ Some (name_of o, Some v)
+long_joined : (o : Setting) (v : Text) → long_of (45 ∷ 45 ∷ (setting_name o ++ 61 ∷ v)) ≡ Some (setting_name o, Some v)
 long_joined Seed v = refl
 long_joined Lines v = refl
 long_joined Lanes v = refl
@@ -225,17 +227,17 @@ other_dashed Seed = refl
 other_dashed Lines = refl
 other_dashed Lanes = refl
 
-pub other_joined : (o : Setting) (v : Text) → bytes_eq (45 ∷ 45 ∷ (name_of o ++ 61 ∷ v)) dashes ≡ false
+pub other_joined : (o : Setting) (v : Text) → bytes_eq (45 ∷ 45 ∷ (setting_name o ++ 61 ∷ v)) dashes ≡ false
 other_joined Seed v = refl
 other_joined Lines v = refl
 other_joined Lanes v = refl
 
-by_long : (o : Setting) → arg_by_long rules (name_of o) ≡ Some (option_of o)
+by_long : (o : Setting) → arg_by_long rules (setting_name o) ≡ Some (option_of o)
 by_long Seed = refl
 by_long Lines = refl
 by_long Lanes = refl
 
-module _ (done : List Part) (pending : Option Part) (position : ℕ) (o : Setting) (free : settle_fault rules again (held_at done pending) ≡ []) where
+module _ (done : List CommandPart) (pending : Option CommandPart) (position : ℕ) (o : Setting) (free : settle_fault rules again (held_at done pending) ≡ []) where
   name_fault : turn_fault shape [] (at_idle (held_at done pending) position) (dashed o) ≡ []
   name_fault =
       turned done pending (dashed o) position (other_dashed o) ∙ ap (fault_by (dashed o) (map row done) (pend done pending (dashed o)) idle position) (long_dashed o)
@@ -246,9 +248,10 @@ module _ (done : List Part) (pending : Option Part) (position : ℕ) (o : Settin
       went done pending (dashed o) position (other_dashed o) ∙ ap (walked_by (dashed o) (map row done) (pend done pending (dashed o)) idle position) (long_dashed o)
       ∙ ap (λ (rule : Option Rule). walk_rule done pending (dashed o) position rule None) (by_long o) ∙ named_walk done pending (dashed o) o position free
 
-  module _ (v : Text) (none : has_row (name_of o) (map row (all_of done pending)) ≡ false) where
+  module _ (v : Text) (none : has_row (setting_name o) (map row (all_of done pending))
+      ≡ false) where
     abbrev joint : Text
-    joint = 45 ∷ 45 ∷ (name_of o ++ 61 ∷ v)
+    joint = 45 ∷ 45 ∷ (setting_name o ++ 61 ∷ v)
 
     joint_fault : turn_fault shape [] (at_idle (held_at done pending) position) joint ≡ []
     joint_fault =
@@ -261,15 +264,15 @@ module _ (done : List Part) (pending : Option Part) (position : ℕ) (o : Settin
         ∙ ap (λ (rule : Option Rule). walk_rule done pending joint position rule (Some v)) (by_long o) ∙ joined_walk done pending joint o v free none position
 
 -- behind the word there is no second one
-no_second_word : (all : List Part) (w : Text) (parts : List Part) → AreOnce (all ++ Word w ∷ parts) → 0 < length (filter is_word parts) → ◌≡◌ {A = ℕ} 2 1
+no_second_word : (all : List CommandPart) (w : Text) (parts : List CommandPart) → AreOnce (all ++ Word w ∷ parts) → 0 < length (filter is_word parts) → ◌≡◌ {A = ℕ} 2 1
 no_second_word all w parts once some =
     absurd (omega (arith, some, once.word, kind_count is_word all (Word w ∷ parts)))
 
 -- the value of a part is no option's word
-abbrev pub IsPlainPart : Part → Type 0
-IsPlainPart p = IsPlain (part_value p)
+abbrev pub IsPlainPart : CommandPart → Type 0
+IsPlainPart p = IsNoFlag (part_value p)
 
-pub complete : (parts done : List Part) (pending : Option Part) (position : ℕ) (words : List Text) → AreParts parts words → AllByRecursion IsPlainPart parts → AreOnce (all_of done pending ++ parts)
+pub complete : (parts done : List CommandPart) (pending : Option CommandPart) (position : ℕ) (words : List Text) → AreParts parts words → AllByRecursion IsPlainPart parts → AreOnce (all_of done pending ++ parts)
     → settle_fault rules again (held_at done pending) ≡ [] → (0 < length (filter is_word parts) → position ≡ 1) → Finished (at_idle (held_at done pending) position) words (all_of done pending ++ parts)
 complete [] done pending position words are plain once free first =
     subst (λ (ws : List Text). Finished (at_idle (held_at done pending) position) ws (all_of done pending ++ [])) (sym are) (record {
@@ -294,7 +297,7 @@ complete (Word w ∷ parts) done pending position words are plain once free firs
     let words_are : words ≡ w ∷ rest = are.4 ∙ ap (λ (front : List Text). front ++ rest) are.2 in
     subst (λ (n : ℕ). Finished (at_idle (held_at done pending) n) words (all ++ Word w ∷ parts)) (sym at)
     (subst (λ (ws : List Text). Finished (at_idle (held_at done pending) 1) ws (all ++ Word w ∷ parts)) (sym words_are)
-    (subst (λ (total : List Part). Finished (at_idle (held_at done pending) 1) (w ∷ rest) total) regroup here))
+    (subst (λ (total : List CommandPart). Finished (at_idle (held_at done pending) 1) (w ∷ rest) total) regroup here))
 complete (Given o v ∷ parts) done pending position words are plain once free first =
     let all = all_of done pending in
     let rest = are.1 in
@@ -309,12 +312,12 @@ complete (Given o v ∷ parts) done pending position words are plain once free f
           let behind : Finished (at_waiting all o position) (v ∷ rest) total = one_step (at_waiting all o position) (at_idle (held_at all (Some (Given o v))) position) v rest total turn.0 turn.1 more in
           let here : Finished start (dashed o ∷ v ∷ rest) total = one_step start (at_waiting all o position) (dashed o) (v ∷ rest) total (name_fault done pending position o free) (name_walk done pending position o free) behind in
           let words_are : words ≡ dashed o ∷ v ∷ rest = are.4 ∙ ap (λ (front : List Text). front ++ rest) two in
-          subst (λ (ws : List Text). Finished start ws (all ++ Given o v ∷ parts)) (sym words_are) (subst (λ (t : List Part). Finished start (dashed o ∷ v ∷ rest) t) regroup here)
+          subst (λ (ws : List Text). Finished start ws (all ++ Given o v ∷ parts)) (sym words_are) (subst (λ (t : List CommandPart). Finished start (dashed o ∷ v ∷ rest) t) regroup here)
       | inr one ↦
           let none = fresh all (Given o v) parts once_there in
           let more = complete parts (all ++ Given o v ∷ []) None position rest are.3 plain.1 once_there refl first in
-          let word = 45 ∷ 45 ∷ (name_of o ++ 61 ∷ v) in
+          let word = 45 ∷ 45 ∷ (setting_name o ++ 61 ∷ v) in
           let here : Finished start (word ∷ rest) total = one_step start (at_idle (held_at (all ++ Given o v ∷ []) None) position) word rest total (joint_fault done pending position o free v none) (joint_walk done pending position o free v none) more in
           let words_are : words ≡ word ∷ rest = are.4 ∙ ap (λ (front : List Text). front ++ rest) one in
-          subst (λ (ws : List Text). Finished start ws (all ++ Given o v ∷ parts)) (sym words_are) (subst (λ (t : List Part). Finished start (word ∷ rest) t) regroup here)
+          subst (λ (ws : List Text). Finished start ws (all ++ Given o v ∷ parts)) (sym words_are) (subst (λ (t : List CommandPart). Finished start (word ∷ rest) t) regroup here)
     ]

@@ -5,7 +5,7 @@ use Rattle.std.proofs.lemmas.Grind.{flat_map-append}
 use Rattle.std.proofs.lemmas.List.{append-nil, length-append, take-append-drop, take-append-le, take_more}
 use Rattle.std.proofs.Math.Seq.{take-append-add}
 use Rattle.cb_cli.specs.Fronts.{GetsFront}
-use Rattle.cb_cli.specs.Pieces.{joined}
+use Rattle.cb_cli.specs.Pieces.{joined_pieces}
 use Rattle.cb_cli.proofs.Streams.{Appends-then}
 
 -- a front of a text is one of a longer text
@@ -33,20 +33,23 @@ front_behind held between holds text more first (n, short, put) =
 
 -- the pieces before one, that piece, and those behind it
 pub joined_at : (pieces : List (List ℕ)) (i : ℕ) (d : List ℕ) → i < length pieces
-    → joined pieces ≡ (joined (take i pieces) ++ get_or pieces i d) ++ joined (drop (i + 1) pieces)
+    → joined_pieces pieces ≡ (joined_pieces (take i pieces) ++ get_or pieces i d)
+    ++ joined_pieces (drop (i + 1) pieces)
 joined_at pieces i d within =
     let one = λ (piece : List ℕ). piece in
-    let so_far = ap joined (take_more pieces i d within)
+    let so_far = ap joined_pieces (take_more pieces i d within)
     ∙ flat_map-append one (take i pieces) (get_or pieces i d ∷ [])
-    ∙ ap (λ (l : List ℕ). joined (take i pieces) ++ l) (append-nil (get_or pieces i d)) in
-    ap joined (sym (take-append-drop (i + 1) pieces))
+    ∙ ap (λ (l : List ℕ). joined_pieces (take i pieces) ++ l) (append-nil (get_or pieces i d)) in
+    ap joined_pieces (sym (take-append-drop (i + 1) pieces))
     ∙ flat_map-append one (take (i + 1) pieces) (drop (i + 1) pieces)
-    ∙ ap (λ (l : List ℕ). l ++ joined (drop (i + 1) pieces)) so_far
+    ∙ ap (λ (l : List ℕ). l ++ joined_pieces (drop (i + 1) pieces)) so_far
 
 -- so with the piece that stands there
 pub joined_at_item : (pieces : List (List ℕ)) (i : ℕ) (piece : List ℕ) → i < length pieces
     → piece ≡ get_or pieces i piece
-    → joined pieces ≡ (joined (take i pieces) ++ piece) ++ joined (drop (i + 1) pieces)
+    → joined_pieces pieces ≡ (joined_pieces (take i pieces) ++ piece)
+    ++ joined_pieces (drop (i + 1) pieces)
 joined_at_item pieces i piece within is =
     joined_at pieces i piece within
-    ∙ ap (λ (p : List ℕ). (joined (take i pieces) ++ p) ++ joined (drop (i + 1) pieces)) (sym is)
+    ∙ ap (λ (p : List ℕ). (joined_pieces (take i pieces) ++ p)
+    ++ joined_pieces (drop (i + 1) pieces)) (sym is)

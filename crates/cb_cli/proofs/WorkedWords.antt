@@ -11,8 +11,8 @@ use Rattle.cb_cli.specs.Reader.{reader}
 use Rattle.cb_cli.specs.declared.words.Asked.TheVariants.{Run, Draw}
 use Rattle.cb_cli.specs.declared.words.Command.TheVariants.{Seq, Threads, Local, Check, Rma, Scrub}
 use Rattle.cb_cli.specs.declared.words.Plan.{Plan}
-use Rattle.cb_cli.specs.Words.{word_of, AskFor, Name, NameNone, Setting, is_given, IsPlan, value_of}
-use Rattle.cb_cli.specs.Words.Part.{Word, Given}
+use Rattle.cb_cli.specs.Words.{command_word, AskFor, Name, NameNone, Setting, is_given, IsPlan, setting_value}
+use Rattle.cb_cli.specs.Words.CommandPart.{Word, Given}
 use Rattle.cb_cli.specs.Words.Setting.{Seed, Lines, Lanes}
 use Rattle.cb_cli.proofs.AskedWords.{another_than_gen, fault_names_none, without_option}
 use Rattle.cb_cli.proofs.FourWords.{four_words}
@@ -49,7 +49,7 @@ second_word v w (Draw plan) asks = omega (arith, four_words (v ∷ w ∷ []) pla
 another_word : (w : String Global) (text : List ℕ) → string_bytes w ≡ text → is_command_word text ≡ false
     → NameNone (w ∷ [])
 another_word w text is other (Run c) named =
-    let same_word : string_bytes w ≡ word_of c = (let e : string_bytes w ∷ [] ≡ word_of c ∷ [] = named in cc) in
+    let same_word : string_bytes w ≡ command_word c = (let e : string_bytes w ∷ [] ≡ command_word c ∷ [] = named in cc) in
     no_word_of text other c (sym is ∙ same_word)
 another_word w text is other (Draw plan) asks = omega (arith, four_words (w ∷ []) plan asks)
 
@@ -79,7 +79,7 @@ plan = record { seed = 7; lines = 4000; lanes = 15 }
 in_range : IsPlan plan
 in_range = record { seed = omega arith; lines = (omega arith, omega arith); lanes = (omega arith, omega arith) }
 
-options_are : (o : Setting) → filter (is_given o) (Word (codes "gen") ∷ Given Seed (codes "7") ∷ Given Lines (codes "4000") ∷ Given Lanes (codes "15") ∷ []) ≡ Given o (decimal (value_of plan o)) ∷ []
+options_are : (o : Setting) → filter (is_given o) (Word (codes "gen") ∷ Given Seed (codes "7") ∷ Given Lines (codes "4000") ∷ Given Lanes (codes "15") ∷ []) ≡ Given o (decimal (setting_value plan o)) ∷ []
 unfolding digits
 options_are Seed = refl
 options_are Lines = refl
@@ -96,7 +96,7 @@ asked words is = record {
   in_range = in_range;
 }
 
-options_behind : (o : Setting) → filter (is_given o) (Given Lanes (codes "15") ∷ Given Lines (codes "4000") ∷ Word (codes "gen") ∷ Given Seed (codes "7") ∷ []) ≡ Given o (decimal (value_of plan o)) ∷ []
+options_behind : (o : Setting) → filter (is_given o) (Given Lanes (codes "15") ∷ Given Lines (codes "4000") ∷ Word (codes "gen") ∷ Given Seed (codes "7") ∷ []) ≡ Given o (decimal (setting_value plan o)) ∷ []
 unfolding digits
 options_behind Seed = refl
 options_behind Lines = refl

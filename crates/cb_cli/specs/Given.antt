@@ -4,7 +4,7 @@ use Rattle.std.specs.Borrow.{Bor}
 use Rattle.clap.specs.Matches.{first_value, found_of}
 use Rattle.clap.specs.declared.parser.matches.ArgMatches.{ArgMatches}
 use Rattle.cb_script.specs.Rules.{IsNumber}
-use Rattle.cb_cli.specs.Words.{IsPlan, word_of}
+use Rattle.cb_cli.specs.Words.{IsPlan, command_word}
 use Rattle.cb_cli.specs.declared.words.Asked.{Asked}
 use Rattle.cb_cli.specs.declared.words.Asked.TheVariants.{Run, Draw}
 use Rattle.cb_cli.specs.declared.words.Given.{Given}
@@ -40,7 +40,7 @@ GivesPlan given plan =
 -- what was given asks for this
 abbrev pub GivenAsks : Given → Asked → Type 0
 GivenAsks given (Run command) =
-    (text_in given.word ≡ Some (word_of command)) × (given.seed ≡ None) × (given.lines ≡ None)
+    (text_in given.word ≡ Some (command_word command)) × (given.seed ≡ None) × (given.lines ≡ None)
     × (given.lanes ≡ None)
 GivenAsks given (Draw plan) =
     (text_in given.word ≡ Some (codes "gen")) × GivesPlan given plan

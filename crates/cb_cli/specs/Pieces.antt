@@ -3,5 +3,5 @@ use Rattle.std.specs.Prelude.{ℕ, List}
 use Rattle.std.specs.List.{flat_map}
 
 -- the bytes of the pieces, one piece behind the other
-abbrev pub joined : List (List ℕ) → List ℕ
-joined pieces = flat_map (λ piece. piece) pieces
+abbrev pub joined_pieces : List (List ℕ) → List ℕ
+joined_pieces pieces = flat_map (λ piece. piece) pieces

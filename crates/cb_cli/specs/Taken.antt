@@ -4,7 +4,7 @@ use Rattle.std.specs.Io.KnownBytes.{Consumes, IsAtEnd}
 
 -- The bytes that were taken, all there were or as many as may be taken. The two options are what the
 -- source had and has left, where it tells.
-pub record IsTaken (before after : Option (List ℕ)) (bytes : List ℕ) : Type 0 where
+pub record AreBytesTaken (before after : Option (List ℕ)) (bytes : List ℕ) : Type 0 where
   pub front : Consumes before after bytes
   pub few : length bytes ≤ 1048577
   pub whole : IsAtEnd after ⊎ (length bytes ≡ 1048577)

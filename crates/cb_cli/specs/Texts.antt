@@ -1,7 +1,7 @@
 -- The texts that a run puts.
 use Rattle.std.specs.Prelude.{ℕ, List, ◌++◌, length, codes, decimal}
 use Rattle.cb_script.specs.declared.fault.Reason.{Reason}
-use Rattle.cb_script.specs.Reasons.{number_of, word_of}
+use Rattle.cb_script.specs.Reasons.{reason_number, reason_word}
 use Rattle.cb_script.specs.declared.script.Script.{Script}
 use Rattle.cb_cli.specs.Lanes.{lane_count}
 
@@ -12,8 +12,8 @@ words_refused = codes "words refused\n"
 -- what is wrong with a script, and at which line
 abbrev pub fault_text : ℕ → Reason → List ℕ
 fault_text line reason =
-    codes "script line " ++ decimal line ++ codes " reason " ++ decimal (number_of reason)
-    ++ codes " " ++ word_of reason ++ codes "\n"
+    codes "script line " ++ decimal line ++ codes " reason " ++ decimal (reason_number reason)
+    ++ codes " " ++ reason_word reason ++ codes "\n"
 
 -- how many rows the nodes gave out
 abbrev pub given_line : ℕ → List ℕ

@@ -1,7 +1,7 @@
 ghost use Rattle.std.specs.Prelude.{◌≡◌, ◌≢◌, ◌≤◌, List, ℕ, length, Err, IfOk};
 ghost use Rattle.std.specs.Io.KnownBytes.{Consumes};
 ghost use Rattle.cb_types.specs.Faults.{Rose};
-ghost use Rattle.cb_cli.specs.Taken.{IsTaken};
+ghost use Rattle.cb_cli.specs.Taken.{AreBytesTaken};
 
 use cb_types::{Source, Took};
 use std::alloc::{AllocError, Global};
@@ -34,7 +34,7 @@ impl From<AllocError> for TakeError {
 
 /// Takes bytes up to the end of the input, or as many as may be taken.
 pub fn take_all<S: Source>(alloc: Global, source: &mut S) -> Result<Vec<u8>, TakeError>
-    ensures taken { IfOk result (λ bytes. IsTaken (S.left source.old) (S.left source.new) bytes.items) }
+    ensures taken { IfOk result (λ bytes. AreBytesTaken (S.left source.old) (S.left source.new) bytes.items) }
     ensures fault { result ≡ Err TakeError.Failed → Rose (S.faults source.old) (S.faults source.new) }
     ensures no_fault { result ≢ Err TakeError.Failed → S.faults source.new ≡ S.faults source.old }
     ensures most { (bytes : List ℕ) × Consumes (S.left source.old) (S.left source.new) bytes × (length bytes ≤ MOST_TAKEN) }

@@ -2,7 +2,7 @@ ghost use Rattle.std.specs.Prelude.{◌≡◌, ◌<◌, length, OnOk, OnErr};
 ghost use Rattle.std.specs.Io.KnownBytes.{Appends};
 ghost use Rattle.cb_types.specs.Faults.{Rose};
 ghost use Rattle.cb_cli.specs.Fronts.{GetsFront};
-ghost use Rattle.cb_cli.specs.Pieces.{joined};
+ghost use Rattle.cb_cli.specs.Pieces.{joined_pieces};
 ghost use Rattle.cb_cli.specs.Puts.{IsPutEnd};
 
 use crate::pieces::Pieces;
@@ -62,10 +62,11 @@ pub fn put_pieces<K: Sink>(sink: &mut K, text: &Pieces) -> Result<(), PutFailed>
 
 /// Puts each of these pieces.
 fn put_each<K: Sink>(sink: &mut K, pieces: &[Bytes]) -> Result<(), PutFailed>
-    ensures ok { OnOk result (Appends (K.held sink.old) (K.held sink.new) (joined pieces.now)) }
+    ensures ok { OnOk result
+        (Appends (K.held sink.old) (K.held sink.new) (joined_pieces pieces.now)) }
     ensures no_fault { OnOk result (K.faults sink.new ≡ K.faults sink.old) }
     ensures front { OnErr result (GetsFront (K.held sink.old) (K.held sink.new)
-        (joined pieces.now)) }
+        (joined_pieces pieces.now)) }
     ensures fault { OnErr result (Rose (K.faults sink.old) (K.faults sink.new)) }
 {
     for piece in pieces {

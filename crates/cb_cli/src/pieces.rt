@@ -1,5 +1,5 @@
 ghost use Rattle.std.specs.Prelude.{◌≡◌, ◌++◌, OnOk};
-ghost use Rattle.cb_cli.specs.Pieces.{joined};
+ghost use Rattle.cb_cli.specs.Pieces.{joined_pieces};
 
 use cb_types::{Bytes, NoMemory};
 use std::alloc::Global;
@@ -14,11 +14,11 @@ pub struct Pieces {
 
 impl Model for Pieces {
     ghost use Rattle.std.specs.Prelude.{List, ℕ, ◌++◌};
-    ghost use Rattle.cb_cli.specs.Pieces.{joined};
+    ghost use Rattle.cb_cli.specs.Pieces.{joined_pieces};
 
     ghost Value = { List ℕ };
 
-    ghost view = { λ a. a.first ++ joined a.rest.items };
+    ghost view = { λ a. a.first ++ joined_pieces a.rest.items };
 }
 
 impl Pieces {
@@ -44,7 +44,7 @@ impl Pieces {
 
     /// The first piece, and those behind it.
     pub fn parts(&self) -> (&[u8], &[Bytes])
-        ensures text { result.0.now ++ joined result.1.now ≡ self.now }
+        ensures text { result.0.now ++ joined_pieces result.1.now ≡ self.now }
     {
         (self.first.as_slice(), self.rest.as_slice())
     }

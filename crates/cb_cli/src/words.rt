@@ -6,7 +6,7 @@ ghost use Rattle.clap.specs.declared.error.kind.ErrorKind.TheVariants.{OutOfMemo
 ghost use Rattle.cb_script.specs.Found.{Finds};
 ghost use Rattle.cb_cli.specs.Given.{AreFound, GivenAsks, GivesPlan, IsCount, IsPlanOf};
 ghost use Rattle.cb_cli.specs.Reader.{option_rule, reader, word_reader};
-ghost use Rattle.cb_cli.specs.Words.{word_of, Ask, NameNone};
+ghost use Rattle.cb_cli.specs.Words.{command_word, WordsAsk, NameNone};
 ghost use Rattle.cb_cli.specs.declared.words.Asked.{Asked};
 ghost use Rattle.cb_cli.specs.declared.words.Command.{Command};
 
@@ -67,7 +67,7 @@ struct Given<'a> {
 
 /// What the words ask for, and None exactly where they ask for nothing.
 pub fn asked_of(alloc: Global, words: &[String]) -> Result<Option<Asked>, NoMemory>
-    ensures { IfOk result (λ found. MatchOption found (NameNone words.now) (Ask words.now)) }
+    ensures { IfOk result (λ found. MatchOption found (NameNone words.now) (WordsAsk words.now)) }
 {
     match given_of(alloc, words) {
         Ok(Some(given)) => Ok(asked_by(given)),
@@ -79,7 +79,7 @@ pub fn asked_of(alloc: Global, words: &[String]) -> Result<Option<Asked>, NoMemo
 /// What is given by words that are a word and options. Words that ask for something are.
 fn given_of<'a>(alloc: Global, words: &'a [String]) -> Result<Option<Given<'a>>, NoMemory>
     ensures { IfOk result (λ found. MatchOption found (NameNone words.entry.now)
-        (λ given. (asked : Asked) → (Ask words.entry.now asked ↔ GivenAsks given asked))) }
+        (λ given. (asked : Asked) → (WordsAsk words.entry.now asked ↔ GivenAsks given asked))) }
 {
     // clap would pass over this word.
     if has_two_dashes(words) {
@@ -214,8 +214,8 @@ fn count_of(text: &str, most: u32) -> Option<u32>
 /// The command of a word.
 fn named(word: &str) -> Option<Command>
     ensures { MatchOption result
-        ((command : Command) → word.now ≡ word_of command → ⊥)
-        (λ command. word.now ≡ word_of command) }
+        ((command : Command) → word.now ≡ command_word command → ⊥)
+        (λ command. word.now ≡ command_word command) }
 {
     match word {
         "seq" => Some(Command::Seq),

@@ -6,7 +6,7 @@ use Rattle.cb_gf256.specs.Rows.{row_at}
 use Rattle.cb_gf256.proofs.PublicLaws.{row_sum_length, scaled_row_length}
 use Rattle.cb_member.specs.declared.names.NodeId.{NodeId}
 use Rattle.cb_member.specs.declared.names.Shard.{Shard}
-use Rattle.cb_node.specs.NodesState.{NodesState, has, known_row, row_at as row_under, with_row}
+use Rattle.cb_node.specs.NodesState.{NodesState, has, known_row, row_under, with_row}
 use Rattle.cb_node.specs.Delta.{with_delta}
 use Rattle.cb_node.proofs.Laws.{row_is_put, put_keeps_other_rows, later_row_stays, same_row_changes_nothing}
 use Rattle.cb_world.specs.Fetched.{StandsAt}

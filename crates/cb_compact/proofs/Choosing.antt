@@ -21,7 +21,7 @@ use Rattle.cb_compact.specs.declared.candidates.Candidate.{Candidate}
 use Rattle.cb_world.specs.declared.groups.Group.{Group}
 use Rattle.cb_compact.specs.Candidates.{AreAlike, AreFirsts, AreSeen, CanMatch, IsAdded, IsCandidate, IsFirstMatch, NoneMatch, group}
 use Rattle.cb_compact.specs.Tables.{AreMasks}
-use Rattle.cb_compact.specs.Pairing.{CanJoin, IsFirstPair, NoneCanJoin}
+use Rattle.cb_compact.specs.PairStep.{CanJoin, IsFirstPair, NoneCanJoin}
 use Rattle.cb_compact.proofs.Looked.{set_same}
 
 pub candidate_same : (a b : Candidate) → Some a ≡ Some b → a ≡ b

@@ -26,12 +26,12 @@ use Rattle.cb_world.specs.Stored.{AreThere, all_dropped}
 use Rattle.cb_world.proofs.Laws.{home_same, live_names, set_there, shards_there}
 use Rattle.cb_types.specs.declared.reply.Reply.TheVariants as answer
 use Rattle.cb_compact.specs.MergeStep.{IsMerged, merged_set, moved_count, replaced_shards}
-use Rattle.cb_compact.specs.Pairing.{numbered}
-use Rattle.cb_compact.specs.Merging.{AreTables, IsReadyToMerge}
+use Rattle.cb_compact.specs.PairStep.{set_numbered}
+use Rattle.cb_compact.specs.Merging.{AreSlotTables, IsReadyToMerge}
 use Rattle.cb_compact.specs.Rehoming.{AreNamedOnce, AreRehomed}
-use Rattle.cb_compact.specs.Standing.{IsFreshPair}
-use Rattle.cb_compact.specs.Steps.{AreDone, has_step, is_undone}
-use Rattle.cb_compact.proofs.Keeping.{fresh_is}
+use Rattle.cb_compact.specs.PartStep.{IsFreshPair}
+use Rattle.cb_compact.specs.PatchStep.{AreDone, has_step, is_undone}
+use Rattle.cb_compact.proofs.CompactKeeps.{fresh_is}
 use Rattle.cb_compact.proofs.Ready.{same_fresh}
 use Rattle.cb_compact.proofs.Merged.{chosen_a, chosen_at, chosen_b, length_merged, length_shards, named_from, shards_at}
 
@@ -137,10 +137,10 @@ module _ (s : Shown) (far : FarState) (pair : JoiningState) (a b : SetState)
   pub ready_data : length b.positions ≡ length a.positions
   ready_data = ready_fit.b_count ∙ sym ready_fit.a_count
 
-  pub tables_a : AreTables a
+  pub tables_a : AreSlotTables a
   tables_a p = away.sets.live pair.a p a x.fresh.a_stands.there
 
-  pub tables_b : AreTables b
+  pub tables_b : AreSlotTables b
   tables_b p = away.sets.live pair.b p b x.fresh.b_stands.there
 
   pub rows_a : AreThere far.nodes pair.shards_a
@@ -177,7 +177,7 @@ module _ (s : Shown) (far : FarState) (pair : JoiningState) (a b : SetState)
         | inr y ↦ (pair.a, home_a p slot h y.1)
       ]
 
-  tables_c : AreTables c
+  tables_c : AreSlotTables c
   tables_c p = by (live_at b p) refl
     where
       by : (l : Bool) → live_at b p ≡ l
@@ -255,7 +255,7 @@ pub merged_is : (s : Shown) (far mid new : FarState) (pair : JoiningState) (a b 
     })
     → ((set : SetState) → set_in mid.sets id ≡ Some set → AreRehomed id set mid.homes new.homes)
     → moved ≡ moved_count pair b
-    → IsMerged far pair a b new (answer.Merged (numbered id) moved)
+    → IsMerged far pair a b new (answer.Merged (set_numbered id) moved)
 merged_is s far mid new pair a b id moved x number kept state homes count =
     let y = state pair (ap (λ (f : FarState). f.joining) kept ∙ x.fresh.was) in
     let h : AreRehomed id (merged_set id pair a b) far.homes new.homes =
@@ -284,7 +284,7 @@ merged_is s far mid new pair a b id moved x number kept state homes count =
     record {
       done = x.done;
       homes = subst (λ (n : ℕ). AreRehomed n (merged_set n pair a b) far.homes new.homes) number h;
-      reply = λ i. answer.Merged (numbered (number i)) (count i);
+      reply = λ i. answer.Merged (set_numbered (number i)) (count i);
       state = z ∙ ap (λ (n : ℕ). record far {
         sets = map.remove (map.remove (map.insert far.sets n (record {
           set = merged_set n pair a b;

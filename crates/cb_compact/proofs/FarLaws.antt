@@ -10,7 +10,7 @@ use Rattle.cb_world.specs.declared.shown.Shown.{Shown}
 use Rattle.cb_world.specs.FarState.{FarState}
 use Rattle.cb_world.specs.Sound.{Sound}
 use Rattle.cb_world.proofs.Laws.{StaysIfBy}
-use Rattle.cb_compact.proofs.Keeping.{Keeps}
+use Rattle.cb_compact.proofs.CompactKeeps.{JoinKeeps}
 
 -- the handles that were made, local memory, the members, the batch that is leaving and the count of
 -- turns stay
@@ -32,7 +32,7 @@ pub record AreFarLaws (N : FarState → FarState → Type 0) (most : ℕ) (line 
   pub stays : (c : Config) (s : Shown) (far new : FarState) (r : Reply) → Sound s far
       → step far new r → StaysIfBy N c most far new
   pub keeps : (s : Shown) (far new : FarState) (r : Reply) → Sound s far → step far new r
-      → Keeps s far new
+      → JoinKeeps s far new
   pub leaves : (far new : FarState) (r : Reply) → step far new r → LeavesLocal far new
   pub fixes : (s : Shown) (far new other : FarState) (r q : Reply) → Sound s far
       → step far new r → step far other q → (r ≡ q) × (new ≡ other)

@@ -8,35 +8,36 @@ use Rattle.cb_world.specs.FarState.{FarState}
 use Rattle.cb_world.specs.Sound.{Sound}
 use Rattle.cb_world.proofs.Laws.{KeepsHolding, KeepsNote, no_pair_sound}
 use Rattle.cb_compact.specs.MergeStep.{MergeStep, Merges}
-use Rattle.cb_compact.specs.Pairing.{BeginStep}
-use Rattle.cb_compact.specs.Standing.{PartStep}
-use Rattle.cb_compact.specs.Steps.{PatchStep, TakesStep}
-use Rattle.cb_compact.proofs.Begins.{begun_keeps}
-use Rattle.cb_compact.proofs.Committed.{merge_keeps}
+use Rattle.cb_compact.specs.PairStep.{PairStep}
+use Rattle.cb_compact.specs.PartStep.{PartStep}
+use Rattle.cb_compact.specs.PatchStep.{PatchStep, TakesStep}
+use Rattle.cb_compact.proofs.PairSound.{begun_keeps}
+use Rattle.cb_compact.proofs.MergeSound.{merge_keeps}
 use Rattle.cb_compact.proofs.FarLaws.{AreFarLaws, LeavesLocal}
-use Rattle.cb_compact.proofs.Fixed.{begin_fixes, merge_fixes, part_fixes, patch_fixes}
-use Rattle.cb_compact.proofs.Keeping.{Keeps, keeps_all, parted_keeps}
-use Rattle.cb_compact.proofs.OneStep.{patch_keeps}
-use Rattle.cb_compact.proofs.Stays.{begin_stays, merge_stays, part_stays, patch_stays}
+use Rattle.cb_compact.proofs.CompactFixed.{begin_fixes, merge_fixes, part_fixes, patch_fixes}
+use Rattle.cb_compact.proofs.CompactKeeps.{JoinKeeps, keeps_all, parted_keeps}
+use Rattle.cb_compact.proofs.PatchSound.{patch_keeps}
+use Rattle.cb_compact.proofs.CompactStays.{begin_stays, merge_stays, part_stays, patch_stays}
 use Rattle.cb_compact.proofs.TableExists.{table_exists}
 
 -- ---- what is kept
-begin_keeps : (s : Shown) (far new : FarState) (r : Reply) → Sound s far → BeginStep far new r
-    → Keeps s far new
-begin_keeps s far new r sound (inl x) = subst (Keeps s far) (sym x.state) (keeps_all s far sound)
-begin_keeps s far new r sound (inr (inl x)) = subst (Keeps s far) (sym x.state)
+begin_keeps : (s : Shown) (far new : FarState) (r : Reply) → Sound s far → PairStep far new r
+    → JoinKeeps s far new
+begin_keeps s far new r sound (inl x) =
+    subst (JoinKeeps s far) (sym x.state) (keeps_all s far sound)
+begin_keeps s far new r sound (inr (inl x)) = subst (JoinKeeps s far) (sym x.state)
     (record { sound = no_pair_sound s far sound; same_now = λ h. refl })
 begin_keeps s far new r sound (inr (inr x)) =
     let shaped = sound.away.sound.sets.shaped x.x x.a x.first.can.a_there in
     let table = table_exists _ _ shaped.range in
-    subst (Keeps s far) (sym x.state)
+    subst (JoinKeeps s far) (sym x.state)
     (begun_keeps s far x.x x.y x.a x.b table.0 sound x.none x.first table.1)
 
 part_keeps : (s : Shown) (far new : FarState) (r : Reply) → Sound s far → PartStep far new r
-    → Keeps s far new
-part_keeps s far new r sound (inl x) = subst (Keeps s far) (sym x.state) (keeps_all s far sound)
+    → JoinKeeps s far new
+part_keeps s far new r sound (inl x) = subst (JoinKeeps s far) (sym x.state) (keeps_all s far sound)
 part_keeps s far new r sound (inr x) =
-    subst (Keeps s far) (sym x.state) (parted_keeps s far x.pair sound x.there)
+    subst (JoinKeeps s far) (sym x.state) (parted_keeps s far x.pair sound x.there)
 
 -- ---- local memory
 leaves_all : (far : FarState) → LeavesLocal far far
@@ -54,7 +55,7 @@ leaves_all far = record {
 leaves : (far new other : FarState) → new ≡ other → LeavesLocal far other → LeavesLocal far new
 leaves far new other e x = subst (LeavesLocal far) (sym e) x
 
-begin_leaves : (far new : FarState) (r : Reply) → BeginStep far new r → LeavesLocal far new
+begin_leaves : (far new : FarState) (r : Reply) → PairStep far new r → LeavesLocal far new
 begin_leaves far new r (inl x) = leaves far new _ x.state (leaves_all far)
 begin_leaves far new r (inr (inl x)) = leaves far new _ x.state (record {
   first = refl;
@@ -139,7 +140,7 @@ part_leaves far new r (inr x) = leaves far new _ x.state (record {
 })
 
 -- ---- replies
-begin_answers : (far new : FarState) (r : Reply) → BeginStep far new r → IsReplyOf line.Pair r
+begin_answers : (far new : FarState) (r : Reply) → PairStep far new r → IsReplyOf line.Pair r
 begin_answers far new r (inl x) = subst (IsReplyOf line.Pair) (sym x.reply) tt
 begin_answers far new r (inr (inl x)) = subst (IsReplyOf line.Pair) (sym x.reply) tt
 begin_answers far new r (inr (inr x)) = subst (IsReplyOf line.Pair) (sym x.reply) tt
@@ -168,7 +169,7 @@ part_answers far new r (inl x) = subst (IsReplyOf line.Part) (sym x.reply) tt
 part_answers far new r (inr x) = subst (IsReplyOf line.Part) (sym x.reply) tt
 
 -- ---- all of it, for each step
-pub begin_laws : AreFarLaws KeepsHolding 1 line.Pair BeginStep
+pub begin_laws : AreFarLaws KeepsHolding 1 line.Pair PairStep
 begin_laws = record {
   stays = begin_stays;
   keeps = begin_keeps;

@@ -54,14 +54,14 @@ passing_out f n off = passing_more f n ∙ ap (λ (b : Bool). passing f n ++ con
     ∙ append-nil (passing f n)
 
 -- the passing ones of the first n positions stand in the first places
-pub record Found (f : ℕ → Bool) (n : ℕ) (found : List ℕ) (count : ℕ) : Type 0 where
+pub record FoundPassing (f : ℕ → Bool) (n : ℕ) (found : List ℕ) (count : ℕ) : Type 0 where
   pub size : length found ≡ 20
   pub behind : count ≤ n
   pub counted : count ≡ length (passing f n)
   pub listed : take count found ≡ passing f n
 
-pub found_not : (f : ℕ → Bool) (n : ℕ) (found : List ℕ) (count : ℕ) → Found f n found count
-    → f n ≡ false → Found f (n + 1) found count
+pub found_not : (f : ℕ → Bool) (n : ℕ) (found : List ℕ) (count : ℕ) → FoundPassing f n found count
+    → f n ≡ false → FoundPassing f (n + 1) found count
 found_not f n found count x off = let e = passing_out f n off in record {
   size = x.size;
   behind = let b = x.behind in omega (arith, b);
@@ -69,8 +69,8 @@ found_not f n found count x off = let e = passing_out f n off in record {
   listed = x.listed ∙ sym e;
 }
 
-pub found_more : (f : ℕ → Bool) (n : ℕ) (found : List ℕ) (count : ℕ) → Found f n found count
-    → n < 20 → f n ≡ true → Found f (n + 1) (set found count n) (count + 1)
+pub found_more : (f : ℕ → Bool) (n : ℕ) (found : List ℕ) (count : ℕ) → FoundPassing f n found count
+    → n < 20 → f n ≡ true → FoundPassing f (n + 1) (set found count n) (count + 1)
 found_more f n found count x few on =
     let e = passing_in f n on in
     let room : count < length found = let s = x.size in let b = x.behind in omega (

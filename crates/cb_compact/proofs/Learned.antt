@@ -20,7 +20,7 @@ use Rattle.cb_world.specs.SetsFrom.{AreFrom}
 use Rattle.cb_world.proofs.Laws.{among_last, among_more}
 use Rattle.cb_compact.specs.declared.candidates.Candidate.{Candidate}
 use Rattle.cb_compact.specs.Candidates.{AreAlike, AreFirsts, AreWholeBut, CanMatch, IsCandidate, NoneMatch, group, groups_of}
-use Rattle.cb_compact.specs.Pairing.{NoneCanJoin}
+use Rattle.cb_compact.specs.PairStep.{NoneCanJoin}
 use Rattle.cb_compact.proofs.Choosing.{candidate_of, candidate_same, is_candidate, no_set}
 use Rattle.cb_compact.proofs.Looked.{set_same}
 

@@ -3,28 +3,28 @@ mod Dropping
 mod Homing
 mod Finding
 mod Looked
-pub mod Keeping
+pub mod CompactKeeps
 mod Choosing
 mod Learned
 mod Within
 mod Groups
-mod Begins
+mod PairSound
 mod Merged
 mod Committing
-pub mod Committed
-pub mod OneStep
+pub mod MergeSound
+pub mod PatchSound
 mod NowDropped
 mod NowGone
 mod NowEnds
-pub mod NowKept
+pub mod CompactSound
 pub mod NowLaws
 mod Parity
 mod Ready
 mod Taken
 mod TableExists
 pub mod FarLaws
-mod Stays
-mod Fixed
+mod CompactStays
+mod CompactFixed
 pub mod FarTurns
 mod WorkedPair
 mod WorkedTables

@@ -10,7 +10,7 @@ use Rattle.std.proofs.lemmas.List.{set-set}
 use Rattle.cb_member.specs.declared.names.NodeId.{NodeId}
 use Rattle.cb_member.specs.declared.names.Shard.{Shard}
 use Rattle.cb_node.specs.Rows.{RowsByKey}
-use Rattle.cb_node.specs.NodesState.{NodesState, has, rows_at, with_dropped, with_row, with_rows}
+use Rattle.cb_node.specs.NodesState.{NodesState, has, rows_of_node, with_dropped, with_row, with_rows}
 use Rattle.cb_node.proofs.Laws.{change_is_at_its_node, change_keeps_other_nodes, drop_keeps_other_rows, put_then_dropped}
 use Rattle.cb_world.specs.FarState.{FarState}
 use Rattle.cb_world.specs.Joining.{JoiningState}
@@ -18,8 +18,8 @@ use Rattle.cb_world.specs.JoinSteps.{with_step}
 use Rattle.cb_world.specs.Reserved.{put_shards}
 use Rattle.cb_world.specs.Stored.{AreThere, all_dropped}
 use Rattle.cb_compact.specs.NowGoing.{with_keys}
-use Rattle.cb_compact.specs.Standing.{with_parted}
-use Rattle.cb_compact.specs.Steps.{with_stepped}
+use Rattle.cb_compact.specs.PartStep.{with_parted}
+use Rattle.cb_compact.specs.PatchStep.{with_stepped}
 
 -- ---- a row dropped beside one that is put
 not_both : (k q key : ℕ) → (q ≡ key → ⊥) → eq_by_cmp nat_cmp k q ≡ true
@@ -60,12 +60,12 @@ here : (nodes : NodesState) (x : NodeId) (k q : ℕ) (row : List ℕ) → x.n < 
     → (q ≡ k → ⊥)
     → with_dropped (with_row nodes x k row) x q ≡ with_row (with_dropped nodes x q) x k row
 here nodes x k q row within off =
-    let put = map.insert (rows_at nodes x) k row in
-    let gone = map.remove (rows_at nodes x) q in
+    let put = map.insert (rows_of_node nodes x) k row in
+    let gone = map.remove (rows_of_node nodes x) q in
     ap (λ rows. with_rows (with_row nodes x k row) x (map.remove rows q))
     (change_is_at_its_node nodes x put within)
     ∙ ap (λ l. record nodes { nodes = l }) (set-set nodes.nodes x.n put (map.remove put q))
-    ∙ ap (λ rows. with_rows nodes x rows) (remove_insert (rows_at nodes x) k q row off)
+    ∙ ap (λ rows. with_rows nodes x rows) (remove_insert (rows_of_node nodes x) k q row off)
     ∙ ap (λ l. record nodes { nodes = l })
     (sym (set-set nodes.nodes x.n gone (map.insert gone k row)))
     ∙ ap (λ rows. with_rows (with_dropped nodes x q) x (map.insert rows k row))
@@ -74,8 +74,8 @@ here nodes x k q row within off =
 elsewhere : (nodes : NodesState) (x y : NodeId) (k q : ℕ) (row : List ℕ) → (y.n ≡ x.n → ⊥)
     → with_dropped (with_row nodes x k row) y q ≡ with_row (with_dropped nodes y q) x k row
 elsewhere nodes x y k q row off =
-    let put = map.insert (rows_at nodes x) k row in
-    let gone = map.remove (rows_at nodes y) q in
+    let put = map.insert (rows_of_node nodes x) k row in
+    let gone = map.remove (rows_of_node nodes y) q in
     ap (λ rows. with_rows (with_row nodes x k row) y (map.remove rows q))
     (change_keeps_other_nodes nodes x y put off)
     ∙ ap (λ l. record nodes { nodes = l })
@@ -118,7 +118,7 @@ step_dropped nodes (None ∷ rest) (suc p) shard row within there fresh at off =
 step_dropped nodes (Some s ∷ rest) (suc p) shard row within there fresh at off =
     let gone = with_dropped nodes s.node s.key in
     let apart : s.key ≡ shard.key → ⊥ = off zero s refl in
-    let count = length-set nodes.nodes s.node.n (map.remove (rows_at nodes s.node) s.key) in
+    let count = length-set nodes.nodes s.node.n (map.remove (rows_of_node nodes s.node) s.key) in
     ap (λ (n : NodesState). all_dropped n (put_shards (set rest p (Some shard))))
     (drop_beside nodes shard.node s.node shard.key s.key row within apart)
     ∙ step_dropped gone rest p shard row (omega (arith, within, count))

@@ -15,8 +15,8 @@ use Rattle.cb_world.specs.Stored.{AreThere}
 use Rattle.cb_compact.specs.MergeStep.{IsMerged}
 use Rattle.cb_compact.specs.Merging.{IsReadyToMerge}
 use Rattle.cb_compact.specs.NowGoing.{EndsFrom, GoesTo, HasGone}
-use Rattle.cb_compact.specs.Standing.{IsFreshPair, with_parted}
-use Rattle.cb_compact.proofs.Keeping.{steps_there}
+use Rattle.cb_compact.specs.PartStep.{IsFreshPair, with_parted}
+use Rattle.cb_compact.proofs.CompactKeeps.{steps_there}
 use Rattle.cb_compact.proofs.NowGone.{stepped_keeps_all}
 
 -- ---- what is known then

@@ -16,12 +16,12 @@ use Rattle.cb_world.specs.Sound.{Sound}
 use Rattle.cb_world.specs.Stored.{all_dropped}
 use Rattle.cb_world.proofs.Laws.{undrawn_is_fresh}
 use Rattle.cb_compact.specs.NowGoing.{HasGone, IsUndone, TriesStep, with_keys, without_pair}
-use Rattle.cb_compact.specs.NowStep.{AreStepped}
-use Rattle.cb_compact.specs.Standing.{IsFreshPair, with_parted}
-use Rattle.cb_compact.specs.Steps.{IsFull, IsOneStep, PatchStep, has_step, is_undone, shard_beside, with_stepped}
-use Rattle.cb_compact.proofs.Keeping.{Keeps, keeps_all, keeps_both, steps_there}
+use Rattle.cb_compact.specs.CompactStep.{AreStepped}
+use Rattle.cb_compact.specs.PartStep.{IsFreshPair, with_parted}
+use Rattle.cb_compact.specs.PatchStep.{IsNodeFull, IsOneStep, PatchStep, has_step, is_undone, shard_beside, with_stepped}
+use Rattle.cb_compact.proofs.CompactKeeps.{JoinKeeps, keeps_all, keeps_both, steps_there}
 use Rattle.cb_compact.proofs.NowDropped.{stepped_back}
-use Rattle.cb_compact.proofs.OneStep.{patch_keeps, step_is_none}
+use Rattle.cb_compact.proofs.PatchSound.{patch_keeps, step_is_none}
 
 -- ---- steps one after another
 pub stepped_more : (far mid new : FarState) (done : List ℕ) (p : ℕ) → AreStepped far done mid
@@ -32,9 +32,9 @@ stepped_more far mid new (q ∷ done) p steps step =
     (steps.0, steps.1, stepped_more steps.0 mid new done p steps.2 step)
 
 pub stepped_keeps_all : (s : Shown) (far new : FarState) (done : List ℕ) → Sound s far
-    → AreStepped far done new → Keeps s far new
+    → AreStepped far done new → JoinKeeps s far new
 stepped_keeps_all s far new [] sound steps =
-    subst (Keeps s far) (sym steps) (keeps_all s far sound)
+    subst (JoinKeeps s far) (sym steps) (keeps_all s far sound)
 stepped_keeps_all s far new (p ∷ done) sound steps =
     let x = patch_keeps s far steps.0 (answer.Stepped p) sound steps.1 in
     keeps_both s far steps.0 new x (stepped_keeps_all s steps.0 new done x.sound steps.2)
@@ -186,21 +186,22 @@ position_same : (p q : ℕ) → answer.Stepped p ≡ answer.Stepped q → p ≡ 
 position_same p q e = cc
 
 -- whatever was tried
-abbrev pub GoesOn : FarState → FarState → ℕ → Option NodeId → Type 0
-GoesOn begun new n None = HasGone begun new (n + 1)
-GoesOn begun new n (Some node) = (x : HasGone begun new n)
-    × IsFull new x.pair x.a new (answer.NodeFull node)
+abbrev pub StepGoesOn : FarState → FarState → ℕ → Option NodeId → Type 0
+StepGoesOn begun new n None = HasGone begun new (n + 1)
+StepGoesOn begun new n (Some node) = (x : HasGone begun new n)
+    × IsNodeFull new x.pair x.a new (answer.NodeFull node)
 
 pub gone_on : (s : Shown) (begun far new : FarState) (n : ℕ) (full : Option NodeId) → Sound s far
     → (x : HasGone begun far n) → TriesStep far x.pair x.a x.b n new full
-    → GoesOn begun new n full
+    → StepGoesOn begun new n full
 gone_on s begun far new n full sound x (inl y) =
-    subst (GoesOn begun new n) (sym y.1)
+    subst (StepGoesOn begun new n) (sym y.1)
     (subst (λ (f : FarState). HasGone begun f (n + 1)) (sym y.2) (gone_past begun far n x y.0))
 gone_on s begun far new n None sound x (inr y) =
     gone_one s begun far new n sound x y.1 (sym (position_same n y.1.position y.1.reply))
 gone_on s begun far new n (Some node) sound x (inr y) =
-    subst (λ (f : FarState). (z : HasGone begun f n) × IsFull f z.pair z.a f (answer.NodeFull node))
+    subst (λ (f : FarState). (z : HasGone begun f n)
+    × IsNodeFull f z.pair z.a f (answer.NodeFull node))
     (sym y.1.state) (
       x,
       record {

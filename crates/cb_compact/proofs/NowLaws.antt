@@ -23,16 +23,16 @@ use Rattle.cb_world.specs.Stored.{all_dropped}
 use Rattle.cb_world.specs.World.{IsConfigured}
 use Rattle.cb_world.proofs.Laws.{KeepsHolding, KeepsNote, StaysBy, StaysIfBy, others_same, rises_more}
 use Rattle.cb_compact.specs.MergeStep.{IsMerged, MergeStep, Merges, replaced_shards}
-use Rattle.cb_compact.specs.NowStep.{AreStepped, Ends, GoesThrough, NowStep}
-use Rattle.cb_compact.specs.Pairing.{BeginStep, numbered}
-use Rattle.cb_compact.specs.Standing.{IsFreshPair, PartStep}
-use Rattle.cb_compact.specs.Steps.{IsOneStep, PatchStep, TakesStep, shard_beside}
+use Rattle.cb_compact.specs.CompactStep.{AreStepped, CompactStep, GoesThrough, PairEnds}
+use Rattle.cb_compact.specs.PairStep.{PairStep, set_numbered}
+use Rattle.cb_compact.specs.PartStep.{IsFreshPair, PartStep}
+use Rattle.cb_compact.specs.PatchStep.{IsOneStep, PatchStep, TakesStep, shard_beside}
 use Rattle.cb_compact.proofs.FarLaws.{AreFarLaws, LeavesLocal}
 use Rattle.cb_compact.proofs.FarTurns.{begin_laws, merge_laws, part_laws, patch_laws}
-use Rattle.cb_compact.proofs.Keeping.{Keeps, dropped_given, keeps_both}
+use Rattle.cb_compact.proofs.CompactKeeps.{JoinKeeps, dropped_given, keeps_both}
 use Rattle.cb_compact.proofs.NowGone.{stepped_keeps_all}
-use Rattle.cb_compact.proofs.NowKept.{at_pair, from_keep, has_begun}
-use Rattle.cb_compact.proofs.OneStep.{few_steps, step_is_none}
+use Rattle.cb_compact.proofs.CompactSound.{at_pair, from_keep, has_begun}
+use Rattle.cb_compact.proofs.PatchSound.{few_steps, step_is_none}
 
 -- ---- what a reply tells of the step
 -- a row was put
@@ -50,7 +50,7 @@ took_one far new p (inl x) = absurd (other x.reply)
     other e = cc
 took_one far new p (inr (inl x)) = absurd (other x.reply)
   where
-    other : answer.Stepped p ≡ answer.Changed (numbered x.id) → ⊥
+    other : answer.Stepped p ≡ answer.Changed (set_numbered x.id) → ⊥
     other e = cc
 took_one far new p (inr (inr x)) = by x.takes
   where
@@ -81,7 +81,7 @@ got_merged far new set moved (inl x) = absurd (other x.reply)
     other e = cc
 got_merged far new set moved (inr (inl x)) = absurd (other x.reply)
   where
-    other : answer.Merged set moved ≡ answer.Changed (numbered x.id) → ⊥
+    other : answer.Merged set moved ≡ answer.Changed (set_numbered x.id) → ⊥
     other e = cc
 got_merged far new set moved (inr (inr x)) = by x.merges
   where
@@ -121,7 +121,7 @@ all_or_stepped : (p : ℕ) → answer.AllStepped ≡ answer.Stepped p → ⊥
 all_or_stepped p e = cc
 
 module _ (s : Shown) (far : FarState) (sound : Sound s far) where
-  end_fixed : (new other : FarState) (r q : Reply) → Ends far new r → Ends far other q
+  end_fixed : (new other : FarState) (r q : Reply) → PairEnds far new r → PairEnds far other q
       → IsOne new other r q
   end_fixed new other r q (inl x) (inl y) =
       let e = patch_laws.fixes s far far far (answer.NodeFull x.node) (answer.NodeFull y.node) sound
@@ -141,7 +141,7 @@ module _ (s : Shown) (far : FarState) (sound : Sound s far) where
       (merged_all far new x.set x.moved x.merged) in
       absurd (full_or_all y.node e.0)
 
-  end_or_step : (new next : FarState) (r : Reply) (p : ℕ) → Ends far new r
+  end_or_step : (new next : FarState) (r : Reply) (p : ℕ) → PairEnds far new r
       → PatchStep far next (answer.Stepped p) → ⊥
   end_or_step new next r p (inl x) step =
       let e = patch_laws.fixes s far far next (answer.NodeFull x.node) (answer.Stepped p) sound
@@ -153,16 +153,17 @@ module _ (s : Shown) (far : FarState) (sound : Sound s far) where
       all_or_stepped p e.0
 
 through_fixed : (s : Shown) (far mid last new other : FarState) (done more : List ℕ) (r q : Reply)
-    → Sound s far → AreStepped far done mid → Ends mid new r → AreStepped far more last
-    → Ends last other q → IsOne new other r q
+    → Sound s far → AreStepped far done mid → PairEnds mid new r → AreStepped far more last
+    → PairEnds last other q → IsOne new other r q
 through_fixed s far mid last new other [] [] r q sound x ends y stops =
-    end_fixed s far sound new other r q (subst (λ (f : FarState). Ends f new r) x ends)
-    (subst (λ (f : FarState). Ends f other q) y stops)
+    end_fixed s far sound new other r q (subst (λ (f : FarState). PairEnds f new r) x ends)
+    (subst (λ (f : FarState). PairEnds f other q) y stops)
 through_fixed s far mid last new other [] (p ∷ more) r q sound x ends y stops =
-    absurd (end_or_step s far sound new y.0 r p (subst (λ (f : FarState). Ends f new r) x ends) y.1)
+    absurd (end_or_step s far sound new y.0 r p (subst (λ (f : FarState). PairEnds f new r) x ends)
+    y.1)
 through_fixed s far mid last new other (p ∷ done) [] r q sound x ends y stops =
     absurd (end_or_step s far sound other x.0 q p
-    (subst (λ (f : FarState). Ends f other q) y stops) x.1)
+    (subst (λ (f : FarState). PairEnds f other q) y stops) x.1)
 through_fixed s far mid last new other (p ∷ done) (n ∷ more) r q sound x ends y stops =
     let e = patch_laws.fixes s far x.0 y.0 (answer.Stepped p) (answer.Stepped n) sound x.1 y.1 in
     let k = patch_laws.keeps s far x.0 (answer.Stepped p) sound x.1 in
@@ -177,7 +178,7 @@ none_or_pair c d e = cc
 
 module _ (s : Shown) (far new other : FarState) (r q : Reply) (sound : Sound s far) where
   -- where no pair begins, none does
-  not_begun : BeginStep far new r → ((a b : SetId) → r ≡ answer.Pair a b → ⊥)
+  not_begun : PairStep far new r → ((a b : SetId) → r ≡ answer.Pair a b → ⊥)
       → GoesThrough far other q → ⊥
   not_begun x off y =
       off y.a y.b (begin_laws.fixes s far new y.begun r (answer.Pair y.a y.b) sound x y.paired).0
@@ -191,7 +192,7 @@ module _ (s : Shown) (far new other : FarState) (r q : Reply) (sound : Sound s f
       (subst (λ (f : FarState). AreStepped f y.done y.stepped) (sym e.1) y.steps) y.ends
 
 pub now_fixes : (s : Shown) (far new other : FarState) (r q : Reply) → Sound s far
-    → NowStep far new r → NowStep far other q → (r ≡ q) × (new ≡ other)
+    → CompactStep far new r → CompactStep far other q → (r ≡ q) × (new ≡ other)
 now_fixes s far new other r q sound (inl x) (inl y) =
     begin_laws.fixes s far new other r q sound (inl x) (inl y)
 now_fixes s far new other r q sound (inl x) (inr (inl y)) =
@@ -202,13 +203,15 @@ now_fixes s far new other r q sound (inr (inl x)) (inr (inl y)) =
     begin_laws.fixes s far new other r q sound (inr (inl x)) (inr (inl y))
 now_fixes s far new other r q sound (inl x) (inr (inr y)) =
     absurd (not_begun s far new other r q sound (inl x)
-    (λ a b e. joining_or_pair (numbered x.pair.a) (numbered x.pair.b) a b (sym x.reply ∙ e)) y)
+    (λ a b e. joining_or_pair (set_numbered x.pair.a) (set_numbered x.pair.b) a b (sym x.reply ∙ e))
+    y)
 now_fixes s far new other r q sound (inr (inl x)) (inr (inr y)) =
     absurd (not_begun s far new other r q sound (inr (inl x))
     (λ a b e. none_or_pair a b (sym x.reply ∙ e)) y)
 now_fixes s far new other r q sound (inr (inr x)) (inl y) =
     absurd (not_begun s far other new q r sound (inl y)
-    (λ a b e. joining_or_pair (numbered y.pair.a) (numbered y.pair.b) a b (sym y.reply ∙ e)) x)
+    (λ a b e. joining_or_pair (set_numbered y.pair.a) (set_numbered y.pair.b) a b (sym y.reply ∙ e))
+    x)
 now_fixes s far new other r q sound (inr (inr x)) (inr (inl y)) =
     absurd (not_begun s far other new q r sound (inr (inl y))
     (λ a b e. none_or_pair a b (sym y.reply ∙ e)) x)
@@ -216,8 +219,8 @@ now_fixes s far new other r q sound (inr (inr x)) (inr (inr y)) =
     both_fixed s far new other r q sound x y
 
 -- ---- what is kept
-now_keeps : (s : Shown) (far new : FarState) (r : Reply) → Sound s far → NowStep far new r
-    → Keeps s far new
+now_keeps : (s : Shown) (far new : FarState) (r : Reply) → Sound s far → CompactStep far new r
+    → JoinKeeps s far new
 now_keeps s far new r sound (inl x) = begin_laws.keeps s far new r sound (inl x)
 now_keeps s far new r sound (inr (inl x)) = begin_laws.keeps s far new r sound (inr (inl x))
 now_keeps s far new r sound (inr (inr x)) =
@@ -306,7 +309,7 @@ merged_counted far new set moved step =
       keys = refl;
     })
 
-end_counted : (far new : FarState) (r : Reply) → Ends far new r → EndCounted far new
+end_counted : (far new : FarState) (r : Reply) → PairEnds far new r → EndCounted far new
 end_counted far new r (inl x) = part_counted far new answer.Done x.parted
 end_counted far new r (inr x) = merged_counted far new x.set x.moved x.merged
 
@@ -363,7 +366,7 @@ steps_configured c s far new (p ∷ done) sound steps is =
     (patch_laws.stays c s far steps.0 (answer.Stepped p) sound steps.1 is).configured
 
 end_configured : (c : Config) (s : Shown) (far new : FarState) (r : Reply) → Sound s far
-    → Ends far new r → IsConfigured c far → IsConfigured c new
+    → PairEnds far new r → IsConfigured c far → IsConfigured c new
 end_configured c s far new r sound (inl x) is =
     (part_laws.stays c s far new answer.Done sound x.parted is).configured
 end_configured c s far new r sound (inr x) is =
@@ -380,7 +383,8 @@ steps_note c s far new (p ∷ done) sound steps is n e =
     let z = patch_laws.stays c s far steps.0 (answer.Stepped p) sound steps.1 is in
     z.rises.note n (steps_note c s steps.0 new done k.sound steps.2 z.configured n e)
 
-end_note : (c : Config) (s : Shown) (far new : FarState) (r : Reply) → Sound s far → Ends far new r
+end_note : (c : Config) (s : Shown) (far new : FarState) (r : Reply) → Sound s far
+    → PairEnds far new r
     → IsConfigured c far → KeepsNote far new
 end_note c s far new r sound (inl x) is =
     (part_laws.stays c s far new answer.Done sound x.parted is).rises.note
@@ -388,7 +392,7 @@ end_note c s far new r sound (inr x) is =
     (merge_laws.stays c s far new (answer.Merged x.set x.moved) sound x.merged is).rises.note
 
 -- the note of a far state in which two sets can be joined is an older one
-older_note : (far mid new : FarState) (a b : SetId) → BeginStep far mid (answer.Pair a b)
+older_note : (far mid new : FarState) (a b : SetId) → PairStep far mid (answer.Pair a b)
     → KeepsNote mid new → others new.counts ≡ others far.counts → KeepsHolding far new
 older_note far mid new a b begun keeps same holds n e =
     let x = at_pair far mid a b begun in
@@ -446,7 +450,7 @@ more_stays c far new z = record {
 }
 
 now_stays : (c : Config) (s : Shown) (far new : FarState) (r : Reply) → Sound s far
-    → NowStep far new r → StaysIfBy KeepsHolding c 20 far new
+    → CompactStep far new r → StaysIfBy KeepsHolding c 20 far new
 now_stays c s far new r sound (inl x) is = more_stays c far new
     (begin_laws.stays c s far new r sound (inl x) is)
 now_stays c s far new r sound (inr (inl x)) is = more_stays c far new
@@ -480,11 +484,11 @@ steps_leave far new (p ∷ done) steps =
     leaves_both far steps.0 new (patch_laws.leaves far steps.0 (answer.Stepped p) steps.1)
     (steps_leave steps.0 new done steps.2)
 
-ends_leave : (far new : FarState) (r : Reply) → Ends far new r → LeavesLocal far new
+ends_leave : (far new : FarState) (r : Reply) → PairEnds far new r → LeavesLocal far new
 ends_leave far new r (inl x) = part_laws.leaves far new answer.Done x.parted
 ends_leave far new r (inr x) = merge_laws.leaves far new (answer.Merged x.set x.moved) x.merged
 
-now_leaves : (far new : FarState) (r : Reply) → NowStep far new r → LeavesLocal far new
+now_leaves : (far new : FarState) (r : Reply) → CompactStep far new r → LeavesLocal far new
 now_leaves far new r (inl x) = begin_laws.leaves far new r (inl x)
 now_leaves far new r (inr (inl x)) = begin_laws.leaves far new r (inr (inl x))
 now_leaves far new r (inr (inr x)) =
@@ -493,17 +497,17 @@ now_leaves far new r (inr (inr x)) =
     (ends_leave x.stepped new r x.ends))
 
 -- ---- replies
-now_answers : (far new : FarState) (r : Reply) → NowStep far new r → IsReplyOf line.Compact r
+now_answers : (far new : FarState) (r : Reply) → CompactStep far new r → IsReplyOf line.Compact r
 now_answers far new r (inl x) = subst (IsReplyOf line.Compact) (sym x.reply) tt
 now_answers far new r (inr (inl x)) = subst (IsReplyOf line.Compact) (sym x.reply) tt
 now_answers far new r (inr (inr x)) = by x.ends
   where
-    by : Ends x.stepped new r → IsReplyOf line.Compact r
+    by : PairEnds x.stepped new r → IsReplyOf line.Compact r
     by (inl y) = subst (IsReplyOf line.Compact) (sym y.reply) tt
     by (inr y) = subst (IsReplyOf line.Compact) (sym y.reply) tt
 
 -- ---- all of it
-pub now_laws : AreFarLaws KeepsHolding 20 line.Compact NowStep
+pub now_laws : AreFarLaws KeepsHolding 20 line.Compact CompactStep
 now_laws = record {
   stays = now_stays;
   keeps = now_keeps;

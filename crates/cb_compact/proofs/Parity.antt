@@ -5,7 +5,7 @@ use Rattle.std.proofs.lemmas.Option.{slice_get-get_or}
 use Rattle.cb_gf256.specs.Rows.{row_at}
 use Rattle.cb_code.specs.Coefficients.{AreCoefficients}
 use Rattle.cb_member.specs.declared.names.Shard.{Shard}
-use Rattle.cb_node.specs.NodesState.{NodesState, has, row_at as row_under, with_row}
+use Rattle.cb_node.specs.NodesState.{NodesState, has, row_under, with_row}
 use Rattle.cb_node.proofs.Laws.{later_row_stays, put_keeps_other_rows, row_is_put}
 use Rattle.cb_world.specs.Fetched.{StandAt}
 use Rattle.cb_world.specs.Joining.{JoiningState}

@@ -6,7 +6,7 @@ use Rattle.cb_gf256.specs.Rows.{row_at}
 use Rattle.cb_gf256.specs.InRange.{IsInRange}
 use Rattle.cb_member.specs.declared.names.Shard.{Shard}
 use Rattle.cb_node.specs.Answer.{PutGives}
-use Rattle.cb_node.specs.NodesState.{NodesState, has, row_at as row_under}
+use Rattle.cb_node.specs.NodesState.{NodesState, has, row_under}
 use Rattle.cb_node.specs.declared.nodes.PutAnswer.{PutAnswer}
 use Rattle.cb_node.specs.declared.nodes.PutAnswer.TheVariants.{Full, Stored}
 use Rattle.cb_node.proofs.Laws.{row_is_put}
@@ -21,11 +21,11 @@ use Rattle.cb_world.specs.Sets.{set_in}
 use Rattle.cb_world.specs.SetWord.{IsSpanWord, IsWordOf}
 use Rattle.cb_world.specs.Stored.{AreThere}
 use Rattle.cb_world.proofs.Laws.{undrawn_is_fresh, whole_none}
-use Rattle.cb_compact.specs.Deltas.{HaveAllRows, IsOfCode, IsReady, NoneNames, PutsMerged, StandTogether}
-use Rattle.cb_compact.specs.Standing.{IsFreshPair, Stands}
-use Rattle.cb_compact.proofs.Keeping.{fresh_is}
+use Rattle.cb_compact.specs.Deltas.{HaveAllRows, IsOfCode, IsReadyToPut, NoneNames, PutsMerged, StandTogether}
+use Rattle.cb_compact.specs.PartStep.{IsFreshPair, SetStands}
+use Rattle.cb_compact.proofs.CompactKeeps.{fresh_is}
 use Rattle.cb_compact.proofs.Looked.{set_same}
-use Rattle.cb_compact.proofs.OneStep.{counted, step_is_taken, word_merged}
+use Rattle.cb_compact.proofs.PatchSound.{counted, step_is_taken, word_merged}
 
 -- ---- the pair and its sets are one of each
 pub pair_same : (p q : JoiningState) → Some p ≡ Some q → p ≡ q
@@ -56,7 +56,7 @@ same_fresh far pair other a b c d x y =
 
 -- ---- all rows of a set that stands
 pub stand_all : (far : FarState) (id : ℕ) (shards : List Shard) (set : SetState)
-    (rows : List (List ℕ)) → Stands far id shards set → IsWordOf far.nodes far.members set rows
+    (rows : List (List ℕ)) → SetStands far id shards set → IsWordOf far.nodes far.members set rows
     → HaveAllRows far.nodes shards rows
 stand_all far id shards set rows x word p shard at =
     let here = ap (λ (l : List Shard). slice_get l p) x.same ∙ at in
@@ -128,7 +128,7 @@ module _ (s : Shown) (far : FarState) (pair : JoiningState) (a b : SetState)
       (x.0, y.0, fresh_together x.0 y.0 x.1.word y.1.word)
 
 module _ (s : Shown) (far : FarState) (pair : JoiningState) (a b : SetState) (p : ℕ)
-    (shard : Shard) (x : IsReady s far pair a b p shard) where
+    (shard : Shard) (x : IsReadyToPut s far pair a b p shard) where
   joined : IsJoin far pair
   joined = x.sound.join pair x.fresh.was
 

@@ -11,14 +11,14 @@ use Rattle.cb_world.specs.FarSound.{FarSound}
 use Rattle.cb_world.specs.Joining.{JoiningState}
 use Rattle.cb_world.specs.JoinSteps.{with_step}
 use Rattle.cb_types.specs.declared.reply.Reply.TheVariants as answer
-use Rattle.cb_compact.specs.Deltas.{IsReady, PutsMerged}
-use Rattle.cb_compact.specs.Standing.{IsFreshPair}
-use Rattle.cb_compact.specs.Steps.{IsFull, IsNext, IsOneStep, shard_beside, with_stepped}
+use Rattle.cb_compact.specs.Deltas.{IsReadyToPut, PutsMerged}
+use Rattle.cb_compact.specs.PartStep.{IsFreshPair}
+use Rattle.cb_compact.specs.PatchStep.{IsNext, IsNodeFull, IsOneStep, shard_beside, with_stepped}
 
 pub ready : (s : Shown) (far : FarState) (pair : JoiningState) (a b : SetState) (p : ℕ)
     (shard old : Shard) → FarSound s far → IsFreshPair far pair a b
     → IsNext pair (length a.positions) p → slice_get pair.shards_a p ≡ Some old
-    → shard ≡ shard_beside far old → IsReady s far pair a b p shard
+    → shard ≡ shard_beside far old → IsReadyToPut s far pair a b p shard
 ready s far pair a b p shard old sound fresh next at beside = record {
   sound = sound;
   fresh = fresh;
@@ -63,7 +63,7 @@ pub full_step : (far new : FarState) (pair : JoiningState) (a b : SetState) (p :
     → slice_get pair.shards_a p ≡ Some old → shard ≡ shard_beside far old
     → new ≡ record far { nodes = new.nodes } → PutsMerged far pair a b p shard (Full count)
     new.nodes
-    → IsFull far pair a new (answer.NodeFull shard.node)
+    → IsNodeFull far pair a new (answer.NodeFull shard.node)
 full_step far new pair a b p shard old count fresh next at beside put full = record {
   position = p;
   next = next;

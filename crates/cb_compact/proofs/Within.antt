@@ -7,7 +7,7 @@ use Rattle.std.proofs.lemmas.Bool.{cases_eq, cases_lt, false≢true}
 use Rattle.std.proofs.lemmas.List.{get_or-set_other, get_or-set_same, length-set}
 use Rattle.std.proofs.lemmas.Nat.{one_shl, pow_pos}
 use Rattle.std.proofs.lemmas.Nat.Bits.{and_pow, bit_at-lt, bit_at-suc, bit_at-zero, bit_at_above, bit_at_and, bit_at_lowest, same_from_bits}
-use Rattle.cb_compact.specs.Tables.{IsWithin}
+use Rattle.cb_compact.specs.Tables.{AreBitsWithin}
 
 -- a number with a bit is no less than that bit
 pub bit_on_le : (n p : ℕ) → bit_at n p ≡ 1 → 2 ^ p ≤ n
@@ -18,7 +18,7 @@ bit_on_le n p on = elim (cases_lt n (2 ^ p)) [
 ]
 
 -- the bits of a number's half
-half : (live mask : ℕ) → IsWithin live mask → IsWithin (live / 2) (mask / 2)
+half : (live mask : ℕ) → AreBitsWithin live mask → AreBitsWithin (live / 2) (mask / 2)
 half live mask w i =
     let l = w (suc i) in let a = bit_at-suc live i in let b = bit_at-suc mask i in
     omega (arith, l, a, b)
@@ -28,9 +28,9 @@ pub record Smaller (k live mask : ℕ) : Type 0 where
   pub place : ℕ
   pub within : place < k
   pub on : bit_at mask place ≡ 1
-  pub less : IsWithin live (mask - 2 ^ place)
+  pub less : AreBitsWithin live (mask - 2 ^ place)
 
-pub smaller : (k live mask : ℕ) → mask < 2 ^ k → IsWithin live mask → live ≢ mask
+pub smaller : (k live mask : ℕ) → mask < 2 ^ k → AreBitsWithin live mask → live ≢ mask
     → Smaller k live mask
 smaller zero live mask fits w off =
     let none : mask ≡ 0 = omega (arith, fits) in
@@ -66,8 +66,8 @@ smaller (suc k) live mask fits w off =
   where
     lifted : (live mask p : ℕ) → bit_at live 0 ≤ bit_at mask 0 → bit_at live 0 ≡ live % 2
         → bit_at mask 0 ≡ mask % 2 → live % 2 ≡ mask % 2 → 2 ^ p ≤ mask / 2
-        → 2 ^ suc p ≡ 2 ^ p * 2 → IsWithin (live / 2) (mask / 2 - 2 ^ p)
-        → IsWithin live (mask - 2 ^ suc p)
+        → 2 ^ suc p ≡ 2 ^ p * 2 → AreBitsWithin (live / 2) (mask / 2 - 2 ^ p)
+        → AreBitsWithin live (mask - 2 ^ suc p)
     lifted live mask p low a b e there twice rest zero =
         let c = bit_at_lowest (mask - 2 ^ suc p) in
         omega (arith, low, a, b, c, e, there, twice)
@@ -77,8 +77,8 @@ smaller (suc k) live mask fits w off =
         let z = ap (λ (n : ℕ). bit_at n i) same in
         omega (arith, l, x, y, z)
 
-    dropped : (live mask : ℕ) → mask % 2 ≡ 1 → live % 2 ≡ 0 → IsWithin live mask
-        → IsWithin live (mask - 2 ^ 0)
+    dropped : (live mask : ℕ) → mask % 2 ≡ 1 → live % 2 ≡ 0 → AreBitsWithin live mask
+        → AreBitsWithin live (mask - 2 ^ 0)
     dropped live mask odd even w zero =
         let a = bit_at_lowest live in omega (arith, a, even)
     dropped live mask odd even w (suc i) =
@@ -102,7 +102,7 @@ complement (suc k) n (suc i) fits within =
 
 -- what has no bit in common with a number lies within the bits that this one does not have
 pub apart_within : (k a b : ℕ) → a < 2 ^ k → b < 2 ^ k → bit_and a b ≡ 0
-    → IsWithin b (2 ^ k - 1 - a)
+    → AreBitsWithin b (2 ^ k - 1 - a)
 apart_within k a b fits low none i = elim (cases_lt i k) [
   | inl below ↦
       let c = complement k a i fits below in let d = bit_at_and a b i in
@@ -149,7 +149,7 @@ abbrev pub Spread : ℕ → List Bool → List Bool → ℕ → Type 0
 Spread k old marks n = record {
   size : length marks ≡ 2 ^ k;
   kept : (m : ℕ) → slice_index_or old m false ≡ true → slice_index_or marks m false ≡ true;
-  marked : (live m : ℕ) → m < n → m < 2 ^ k → IsWithin live m
+  marked : (live m : ℕ) → m < n → m < 2 ^ k → AreBitsWithin live m
       → slice_index_or old live false ≡ true → slice_index_or marks m false ≡ true;
 }
 
@@ -185,7 +185,7 @@ spread_stays k old marks n x none = record {
   ];
 }
   where
-    here : (live m : ℕ) → m ≡ n → m < 2 ^ k → IsWithin live m
+    here : (live m : ℕ) → m ≡ n → m < 2 ^ k → AreBitsWithin live m
         → slice_index_or old live false ≡ true → slice_index_or marks m false ≡ true
     here live m e fits w on = elim (cases_eq live m) [
       | inl same ↦ x.kept m (ap (λ (i : ℕ). slice_index_or old i false) (sym same) ∙ on)

@@ -6,7 +6,7 @@ use Rattle.cb_member.specs.declared.names.Loss.{Loss}
 use Rattle.cb_set.specs.Matched.{PositionsApart}
 use Rattle.cb_set.specs.SetState.{SetState, set_of}
 use Rattle.cb_world.specs.FarState.{FarState}
-use Rattle.cb_compact.specs.Pairing.{CanJoin, IsFirstPair, NoneCanJoin}
+use Rattle.cb_compact.specs.PairStep.{CanJoin, IsFirstPair, NoneCanJoin}
 use Rattle.cb_compact.proofs.WorkedGround.{all_up, far, first_of, first_of_four, four, four_down, fourth_of_four, ground, none_third, one_down, second_of, second_of_four, third_of_four, two}
 use Rattle.cb_compact.proofs.WorkedPair.{dead, live_with, on_node, set_a, set_b}
 

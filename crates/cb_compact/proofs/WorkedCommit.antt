@@ -5,7 +5,7 @@ use Rattle.std.proofs.Common.{◌≡◌, ℕ, zero, suc, List, Option, None, Som
 use Rattle.std.specs.FinMap as map
 use Rattle.std.proofs.lemmas.Bool.{false≢true}
 use Rattle.std.proofs.lemmas.Option.{none-some, same_Some}
-use Rattle.cb_node.specs.NodesState.{row_at as row_under}
+use Rattle.cb_node.specs.NodesState.{row_under}
 use Rattle.cb_set.specs.SetState.{SetState, slot_at}
 use Rattle.cb_types.specs.declared.reply.Reply.{Reply}
 use Rattle.cb_types.specs.declared.reply.Reply.TheVariants as answer
@@ -15,7 +15,7 @@ use Rattle.cb_world.specs.Homes.{home_at}
 use Rattle.cb_world.specs.Sets.{set_in}
 use Rattle.cb_world.proofs.Laws.{node, row}
 use Rattle.cb_compact.specs.MergeStep.{IsMerged, IsUnfinished, merged_set, with_merged}
-use Rattle.cb_compact.specs.Pairing.{numbered}
+use Rattle.cb_compact.specs.PairStep.{set_numbered}
 use Rattle.cb_compact.specs.Rehoming.{AreRehomed}
 use Rattle.cb_compact.proofs.WorkedGround.{all_up, far, has_row, homes_in, two}
 use Rattle.cb_compact.proofs.WorkedMerge.{all_done}
@@ -66,7 +66,7 @@ abbrev after : List (Option Home) → FarState
 after homes = with_merged joined all_done set_a set_b homes
 
 pub is_merged : IsMerged joined all_done set_a set_b (after (homes_in 2 2))
-    (answer.Merged (numbered 2) 1)
+    (answer.Merged (set_numbered 2) 1)
 is_merged = record { done = done_at; homes = homes; reply = refl; state = refl }
 
 -- the merged set stands in place of both
@@ -81,7 +81,7 @@ b_is_gone = grind (arith, map.gets)
 
 -- ---- each part
 not_left_at_home : IsMerged joined all_done set_a set_b (after (homes_in 0 1))
-    (answer.Merged (numbered 2) 1) → ⊥
+    (answer.Merged (set_numbered 2) 1) → ⊥
 not_left_at_home x = let e : 0 ≡ 2 = ap (λ (home : Home). home.set)
     (same_Some (record { set = 0; position = 0; slot = 0 })
     (record { set = 2; position = 0; slot = 0 }) (x.homes.here 0 0 7 refl)) in omega (arith, e)
@@ -91,11 +91,12 @@ set_told (answer.Merged set moved) = set.n
 set_told r = 20
 
 tells_the_next_number : IsMerged joined all_done set_a set_b (after (homes_in 2 2))
-    (answer.Merged (numbered 3) 1) → ⊥
+    (answer.Merged (set_numbered 3) 1) → ⊥
 tells_the_next_number x = let e : 3 ≡ 2 = ap set_told x.reply in omega (arith, e)
 
 draws_its_number : IsMerged joined all_done set_a set_b
-    (record (after (homes_in 2 2)) { counts = joined.counts }) (answer.Merged (numbered 2) 1) → ⊥
+    (record (after (homes_in 2 2)) { counts = joined.counts }) (answer.Merged (set_numbered 2) 1)
+    → ⊥
 draws_its_number x = let e : 2 ≡ 3 = ap (λ (f : FarState). f.counts.sets) x.state in
     omega (arith, e)
 
@@ -111,12 +112,12 @@ row_of_a_stays : row_under (after (homes_in 2 2)).nodes (node 0) 0 ≡ Some (row
 row_of_a_stays = has_row 0 7
 
 leaves_no_row_of_b : IsMerged joined all_done set_a set_b
-    (record (after (homes_in 2 2)) { nodes = joined.nodes }) (answer.Merged (numbered 2) 1) → ⊥
+    (record (after (homes_in 2 2)) { nodes = joined.nodes }) (answer.Merged (set_numbered 2) 1) → ⊥
 leaves_no_row_of_b x = none-some (row 7) (sym row_of_b_gone
     ∙ sym (ap (λ (f : FarState). row_under f.nodes (node 3) 3) x.state) ∙ has_row 3 7)
 
 leaves_no_set : IsMerged joined all_done set_a set_b
-    (record (after (homes_in 2 2)) { sets = joined.sets }) (answer.Merged (numbered 2) 1) → ⊥
+    (record (after (homes_in 2 2)) { sets = joined.sets }) (answer.Merged (set_numbered 2) 1) → ⊥
 leaves_no_set x = none-some both (sym none_yet ∙ ap (λ (f : FarState). set_in f.sets 2) x.state
     ∙ merged_there)
   where

@@ -5,7 +5,7 @@ use Rattle.std.specs.List.{slice_get}
 use Rattle.std.proofs.lemmas.Option.{none-some, same_Some}
 use Rattle.cb_gf256.specs.Rows.{row_at}
 use Rattle.cb_member.specs.declared.names.Shard.{Shard}
-use Rattle.cb_node.specs.NodesState.{NodesState, held, row_at as row_under, with_row}
+use Rattle.cb_node.specs.NodesState.{NodesState, held, row_under, with_row}
 use Rattle.cb_node.specs.declared.nodes.PutAnswer.TheVariants.{Full, Stored}
 use Rattle.cb_node.proofs.Laws.{row_is_put}
 use Rattle.cb_set.specs.SetState.{SetState}
@@ -15,8 +15,8 @@ use Rattle.cb_world.specs.Fetched.{StandsAt}
 use Rattle.cb_world.specs.Joining.{JoiningState}
 use Rattle.cb_world.specs.Stored.{AreThere}
 use Rattle.cb_world.proofs.Laws.{node, row, row_byte, rows}
-use Rattle.cb_compact.specs.Deltas.{CanPatch, HaveAllRows, IsOfCode, IsReady, NoneNames, PutsMerged, StandTogether}
-use Rattle.cb_compact.specs.Steps.{shard_beside}
+use Rattle.cb_compact.specs.Deltas.{CanPatch, HaveAllRows, IsOfCode, IsReadyToPut, NoneNames, PutsMerged, StandTogether}
+use Rattle.cb_compact.specs.PatchStep.{shard_beside}
 use Rattle.cb_compact.proofs.WorkedGround.{all_up, far, ground, has_row, holds_one, merged_word, two, word_a, word_b}
 use Rattle.cb_compact.proofs.WorkedPair.{begun, not_the_parity_yet, on_node, set_a, set_b}
 use Rattle.cb_compact.proofs.WorkedPatch.{row_of_b}
@@ -247,19 +247,19 @@ full_puts_none : PutsMerged full begun set_a set_b 1 beside (Full 1)
 full_puts_none x = let e : 1 ≡ 0 = ap (λ (n : NodesState). n.given) x.1 in omega (arith, e)
 
 -- ---- the shard of the next step alone is ready
-not_of_a_later_position : (s : Shown) (shard : Shard) → IsReady s ground begun set_a set_b 2 shard → ⊥
+not_of_a_later_position : (s : Shown) (shard : Shard) → IsReadyToPut s ground begun set_a set_b 2 shard → ⊥
 not_of_a_later_position s shard x = not_the_parity_yet x.next
 
 not_beside_another : (s : Shown)
-    → IsReady s ground begun set_a set_b 1 (shard_beside ground (on_node 0)) → ⊥
+    → IsReadyToPut s ground begun set_a set_b 1 (shard_beside ground (on_node 0)) → ⊥
 not_beside_another s x =
     let old = same_Some x.old (on_node 1) (sym x.at) in
     let e : 0 ≡ x.old.node.n = ap (λ (h : Shard). h.node.n) x.beside in
     let f : x.old.node.n ≡ 1 = ap (λ (h : Shard). h.node.n) old in omega (arith, e, f)
 
-not_under_another_key : (s : Shown) → IsReady s ground begun set_a set_b 1 (on_node 1) → ⊥
+not_under_another_key : (s : Shown) → IsReadyToPut s ground begun set_a set_b 1 (on_node 1) → ⊥
 not_under_another_key s x = let e : 1 ≡ 6 = ap (λ (h : Shard). h.key) x.beside in omega (arith, e)
 
 not_of_a_stale_pair : (s : Shown) (p : JoiningState) (a b : SetState) (shard : Shard)
-    → IsReady s put p a b 2 shard → ⊥
+    → IsReadyToPut s put p a b 2 shard → ⊥
 not_of_a_stale_pair s p a b shard x = not_fresh p a b x.fresh

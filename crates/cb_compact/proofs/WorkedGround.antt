@@ -6,7 +6,7 @@ use Rattle.std.proofs.lemmas.Option.{none-some, same_Some}
 use Rattle.cb_gf256.specs.Rows.{row_at}
 use Rattle.cb_member.specs.declared.names.Shard.{Shard}
 use Rattle.cb_member.specs.Membership.{Membership, NodeState, fresh_node}
-use Rattle.cb_node.specs.NodesState.{NodesState, empty_nodes, held, nodes_of, row_at as row_under}
+use Rattle.cb_node.specs.NodesState.{NodesState, empty_nodes, held, nodes_of, row_under}
 use Rattle.cb_node.specs.Rows.{RowsByKey}
 use Rattle.cb_set.specs.SetState.{PositionState, SetState, set_of}
 use Rattle.cb_world.specs.declared.homes.Home.{Home}

@@ -11,10 +11,10 @@ use Rattle.cb_types.specs.declared.reply.Reply.TheVariants as answer
 use Rattle.cb_world.specs.Joining.{JoiningState}
 use Rattle.cb_world.specs.JoinSteps.{with_step}
 use Rattle.cb_compact.specs.MergeStep.{IsMerged, IsUnfinished, merged_positions, merged_set, moved_count, replaced_shards}
-use Rattle.cb_compact.specs.Merging.{AreTables, IsFilledBelow, chosen_position}
+use Rattle.cb_compact.specs.Merging.{AreSlotTables, IsFilledBelow, chosen_position}
 use Rattle.cb_world.specs.Homes.{HasHomes, home_at}
 use Rattle.cb_compact.specs.Rehoming.{AreNamedOnce, AreRehomed}
-use Rattle.cb_compact.specs.Steps.{undone}
+use Rattle.cb_compact.specs.PatchStep.{undone}
 use Rattle.cb_compact.proofs.WorkedPair.{begun, dead, live_with, on_node, set_a, set_b, stepped}
 
 -- ---- the pair of the worked pair, with its first step and with both done
@@ -216,15 +216,15 @@ pub not_so_many_slots : (slots : List (Option ℕ)) → 2 ^ 32 ≤ length slots
 not_so_many_slots slots many x = let l = x.few 0 refl in omega (arith, many, l)
 
 -- ---- slot tables and live positions
-pub tables : AreTables set_a
+pub tables : AreSlotTables set_a
 tables zero = refl
 tables (suc zero) = refl
 tables (suc (suc p)) = refl
 
-pub not_live_with_none : AreTables (set_of 5 [] (record { live = true; slots = [] } ∷ [])) → ⊥
+pub not_live_with_none : AreSlotTables (set_of 5 [] (record { live = true; slots = [] } ∷ [])) → ⊥
 not_live_with_none x = false_is_true (sym (x 0))
 
-pub not_dead_with_one : AreTables (set_of 5 [] (record {
+pub not_dead_with_one : AreSlotTables (set_of 5 [] (record {
   live = false;
   slots = Some 1 ∷ [];
 } ∷ [])) → ⊥

@@ -7,7 +7,7 @@ use Rattle.std.proofs.lemmas.Bool.{false≢true}
 use Rattle.std.proofs.lemmas.Option.{none-some, same_Some}
 use Rattle.cb_member.specs.declared.names.NodeId.{NodeId}
 use Rattle.cb_member.specs.declared.names.Shard.{Shard}
-use Rattle.cb_node.specs.NodesState.{held, row_at as row_under}
+use Rattle.cb_node.specs.NodesState.{held, row_under}
 use Rattle.cb_node.proofs.Laws.{row_is_put}
 use Rattle.cb_set.specs.SetState.{SetState}
 use Rattle.cb_types.specs.declared.handle.SetId.{SetId}
@@ -19,12 +19,12 @@ use Rattle.cb_world.specs.JoinSteps.{with_step}
 use Rattle.cb_world.proofs.Laws.{node, row}
 use Rattle.cb_compact.specs.MergeStep.{MergeStep, with_merged}
 use Rattle.cb_compact.specs.NowGoing.{EndsFrom, GoesTo, HasGone, IsUndone, TriesStep}
-use Rattle.cb_compact.specs.NowStep.{AreStepped, Ends, EndsFull, EndsMerged, GoesThrough, NowStep}
-use Rattle.cb_compact.specs.Pairing.{BeginStep, IsPaired, numbered}
-use Rattle.cb_compact.specs.Standing.{IsFreshPair, PartStep, with_parted}
-use Rattle.cb_compact.specs.Steps.{AreDone, IsFull, IsOneStep, PatchStep, TakesStep, is_undone, shard_beside, with_stepped}
-use Rattle.cb_compact.proofs.Fixed.{begins_fixed, next_fixed}
-use Rattle.cb_compact.proofs.NowKept.{at_pair}
+use Rattle.cb_compact.specs.CompactStep.{AreStepped, CompactStep, EndsFull, EndsMerged, GoesThrough, PairEnds}
+use Rattle.cb_compact.specs.PairStep.{IsPaired, PairStep, set_numbered}
+use Rattle.cb_compact.specs.PartStep.{IsFreshPair, PartStep, with_parted}
+use Rattle.cb_compact.specs.PatchStep.{AreDone, IsNodeFull, IsOneStep, PatchStep, TakesStep, is_undone, shard_beside, with_stepped}
+use Rattle.cb_compact.proofs.CompactFixed.{begins_fixed, next_fixed}
+use Rattle.cb_compact.proofs.CompactSound.{at_pair}
 use Rattle.cb_compact.proofs.NowLaws.{got_merged, took_one}
 use Rattle.cb_compact.proofs.Ready.{same_fresh}
 use Rattle.cb_compact.proofs.WorkedBegin.{a_or_b}
@@ -50,7 +50,7 @@ fresh room = record {
 }
 
 abbrev pub paired : (room : ℕ)
-    → IsPaired (idle room) (joining room) (answer.Pair (numbered 0) (numbered 1))
+    → IsPaired (idle room) (joining room) (answer.Pair (set_numbered 0) (set_numbered 1))
 paired room = record {
   none = refl;
   x = 0;
@@ -73,7 +73,8 @@ paired room = record {
   state = refl;
 }
 
-begins : (room : ℕ) → BeginStep (idle room) (joining room) (answer.Pair (numbered 0) (numbered 1))
+begins : (room : ℕ) → PairStep (idle room) (joining room)
+    (answer.Pair (set_numbered 0) (set_numbered 1))
 begins room = inr (inr (paired room))
 
 -- ---- a node that is full
@@ -98,7 +99,7 @@ record FoundFull (f : FarState) (n : NodeId) : Type 0 where
   a : SetState
   b : SetState
   stands : IsFreshPair f pair a b
-  full : IsFull f pair a f (answer.NodeFull n)
+  full : IsNodeFull f pair a f (answer.NodeFull n)
 
 found_full : (f : FarState) (n : NodeId) → PatchStep f f (answer.NodeFull n) → FoundFull f n
 found_full f n (inl x) = absurd (other x.reply)
@@ -107,7 +108,7 @@ found_full f n (inl x) = absurd (other x.reply)
     other e = cc
 found_full f n (inr (inl x)) = absurd (other x.reply)
   where
-    other : answer.NodeFull n ≡ answer.Changed (numbered x.id) → ⊥
+    other : answer.NodeFull n ≡ answer.Changed (set_numbered x.id) → ⊥
     other e = cc
 found_full f n (inr (inr x)) = by x.takes
   where
@@ -131,9 +132,9 @@ is_node_one : (room : ℕ) (n : NodeId) → PatchStep (joining room) (joining ro
 is_node_one room n step =
     let x = found_full (joining room) n step in
     let same = same_fresh (joining room) x.pair begun x.a x.b set_a set_b x.stands (fresh room) in
-    let full = subst (λ (p : JoiningState). IsFull (joining room) p set_a (joining room)
+    let full = subst (λ (p : JoiningState). IsNodeFull (joining room) p set_a (joining room)
     (answer.NodeFull n)) same.pairs
-    (subst (λ (s : SetState). IsFull (joining room) x.pair s (joining room) (answer.NodeFull n))
+    (subst (λ (s : SetState). IsNodeFull (joining room) x.pair s (joining room) (answer.NodeFull n))
     same.a_is x.full) in
     let at = next_fixed begun 2 full.position 1 full.next next_is_the_taken in
     let old : full.old ≡ on_node 1 = same_Some full.old (on_node 1)
@@ -174,8 +175,8 @@ not_told_as_done x = full_or_done x.node x.reply
 -- ---- the whole turn, where the first node is full
 goes : GoesThrough (idle 1) (idle 1) (answer.NodeFull (node 1))
 goes = record {
-  a = numbered 0;
-  b = numbered 1;
+  a = set_numbered 0;
+  b = set_numbered 1;
   begun = joining 1;
   paired = begins 1;
   done = [];
@@ -184,7 +185,7 @@ goes = record {
   ends = inl ends_full;
 }
 
-pub full_turn : NowStep (idle 1) (idle 1) (answer.NodeFull (node 1))
+pub full_turn : CompactStep (idle 1) (idle 1) (answer.NodeFull (node 1))
 full_turn = inr (inr goes)
 
 -- no pair may be joining before
@@ -193,7 +194,8 @@ not_while_one_joins new r x =
     kept_pair begun (at_pair (joining 1) x.begun x.a x.b x.paired).none
 
 -- then it is told which one
-told_of_the_pair : NowStep (joining 1) (joining 1) (answer.Joining (numbered 0) (numbered 1))
+told_of_the_pair : CompactStep (joining 1) (joining 1)
+    (answer.Joining (set_numbered 0) (set_numbered 1))
 told_of_the_pair = inl (record { pair = begun; there = refl; reply = refl; state = refl })
 
 full_or_merged : (n : NodeId) (s : SetId) (m : ℕ) → answer.NodeFull n ≡ answer.Merged s m → ⊥
@@ -267,18 +269,18 @@ not_to_a_full_node p rest new x = let l = (was_first 1 p x.0 x.1).fits in omega 
 
 -- ---- so where the first node is full, the turn does not keep the pair, and tells of no other node
 ends_there : (new : FarState) (r : Reply) (begun_at last : FarState) (done : List ℕ)
-    → begun_at ≡ joining 1 → AreStepped begun_at done last → Ends last new r
-    → Ends (joining 1) new r
+    → begun_at ≡ joining 1 → AreStepped begun_at done last → PairEnds last new r
+    → PairEnds (joining 1) new r
 ends_there new r begun_at last [] from steps ends =
-    subst (λ (f : FarState). Ends f new r) (steps ∙ from) ends
+    subst (λ (f : FarState). PairEnds f new r) (steps ∙ from) ends
 ends_there new r begun_at last (p ∷ rest) from steps ends =
     absurd (not_to_a_full_node p rest last
     (subst (λ (f : FarState). AreStepped f (p ∷ rest) last) from steps))
 
-turn_ends : (new : FarState) (r : Reply) → GoesThrough (idle 1) new r → Ends (joining 1) new r
+turn_ends : (new : FarState) (r : Reply) → GoesThrough (idle 1) new r → PairEnds (joining 1) new r
 turn_ends new r x = ends_there new r x.begun x.stepped x.done
     (begins_fixed (idle 1) x.begun (joining 1) (answer.Pair x.a x.b)
-    (answer.Pair (numbered 0) (numbered 1)) x.paired (begins 1)).1 x.steps x.ends
+    (answer.Pair (set_numbered 0) (set_numbered 1)) x.paired (begins 1)).1 x.steps x.ends
 
 turn_keeps_no_pair : GoesThrough (idle 1) (joining 1) (answer.NodeFull (node 1)) → ⊥
 turn_keeps_no_pair x = elim (turn_ends (joining 1) (answer.NodeFull (node 1)) x) [
@@ -306,7 +308,7 @@ all_fresh = record {
   b_stands = record { there = second_of set_a set_b; same = refl; whole = refl };
 }
 
-merge : MergeStep all_joined one_set (answer.Merged (numbered 2) 1)
+merge : MergeStep all_joined one_set (answer.Merged (set_numbered 2) 1)
 merge = inr (inr (record {
   pair = all_done;
   a = set_a;
@@ -315,17 +317,17 @@ merge = inr (inr (record {
   merges = inr is_merged;
 }))
 
-ends_merged : EndsMerged all_joined one_set (answer.Merged (numbered 2) 1)
-ends_merged = record { set = numbered 2; moved = 1; merged = merge; reply = refl }
+ends_merged : EndsMerged all_joined one_set (answer.Merged (set_numbered 2) 1)
+ends_merged = record { set = set_numbered 2; moved = 1; merged = merge; reply = refl }
 
 set_same_in : (x y : SetId) (m n : ℕ) → answer.Merged x m ≡ answer.Merged y n → x ≡ y
 set_same_in x y m n e = cc
 
-not_another_number : EndsMerged all_joined one_set (answer.Merged (numbered 3) 1) → ⊥
+not_another_number : EndsMerged all_joined one_set (answer.Merged (set_numbered 3) 1) → ⊥
 not_another_number x =
-    let e = ap (λ (s : SetId). s.n) (set_same_in (numbered 3) x.set 1 x.moved x.reply) in
+    let e = ap (λ (s : SetId). s.n) (set_same_in (set_numbered 3) x.set 1 x.moved x.reply) in
     let y = got_merged all_joined one_set x.set x.moved x.merged in
-    let f = ap (λ (s : SetId). s.n) (set_same_in x.set (numbered 2) x.moved _ y.merged.reply) in
+    let f = ap (λ (s : SetId). s.n) (set_same_in x.set (set_numbered 2) x.moved _ y.merged.reply) in
     omega (arith, e, f)
 
 not_before_its_steps : (new : FarState) (r : Reply) → EndsMerged ground new r → ⊥

@@ -7,8 +7,8 @@ use Rattle.cb_world.specs.Joining.{JoiningState}
 use Rattle.cb_world.specs.JoinSteps.{with_step}
 use Rattle.cb_compact.specs.declared.candidates.Candidate.{Candidate}
 use Rattle.cb_compact.specs.Candidates.{AreAlike, CanMatch}
-use Rattle.cb_compact.specs.Pairing.{begun_pair, live_positions}
-use Rattle.cb_compact.specs.Steps.{AreDone, IsNext, has_step, is_undone}
+use Rattle.cb_compact.specs.PairStep.{begun_pair, live_positions}
+use Rattle.cb_compact.specs.PatchStep.{AreDone, IsNext, has_step, is_undone}
 
 abbrev pub on_node : ℕ → Shard
 on_node n = record { node = record { n = n }; incarnation = 0; key = n }

@@ -5,7 +5,7 @@ use Rattle.std.specs.List.{slice_get}
 use Rattle.std.proofs.lemmas.Bool.{false≢true}
 use Rattle.std.proofs.lemmas.Option.{same_Some}
 use Rattle.cb_member.specs.declared.names.Shard.{Shard}
-use Rattle.cb_node.specs.NodesState.{held, row_at as row_under}
+use Rattle.cb_node.specs.NodesState.{held, row_under}
 use Rattle.cb_node.proofs.Laws.{row_is_put}
 use Rattle.cb_types.specs.declared.reply.Reply.{Reply}
 use Rattle.cb_types.specs.declared.reply.Reply.TheVariants as answer
@@ -13,8 +13,8 @@ use Rattle.cb_world.specs.FarState.{FarState}
 use Rattle.cb_world.specs.Joining.{JoiningState}
 use Rattle.cb_world.proofs.Laws.{node, row, row_byte, rows}
 use Rattle.cb_gf256.specs.Rows.{row_at}
-use Rattle.cb_compact.specs.Steps.{IsAllStepped, IsFull, IsMergedRow, IsNext, IsOneStep, is_undone, shard_beside, with_stepped}
-use Rattle.cb_compact.proofs.Fixed.{next_fixed}
+use Rattle.cb_compact.specs.PatchStep.{IsAllStepped, IsMergedRow, IsNext, IsNodeFull, IsOneStep, is_undone, shard_beside, with_stepped}
+use Rattle.cb_compact.proofs.CompactFixed.{next_fixed}
 use Rattle.cb_compact.proofs.WorkedGround.{all_up, far, ground, has_row, holds_one, merged_word, two, word_a, word_b}
 use Rattle.cb_compact.proofs.WorkedMerge.{all_done}
 use Rattle.cb_compact.proofs.WorkedPair.{begun, next_is_the_taken, not_the_parity_yet, on_node, set_a, set_b}
@@ -117,7 +117,7 @@ draws_a_key x = let e : 6 ≡ 7 = ap (λ (f : FarState). f.counts.keys)
 abbrev full : FarState
 full = far (two set_a set_b) all_up 1 (Some begun)
 
-pub node_is_full : IsFull full begun set_a full (answer.NodeFull (node 1))
+pub node_is_full : IsNodeFull full begun set_a full (answer.NodeFull (node 1))
 node_is_full = record {
   position = 1;
   next = next_is_the_taken;
@@ -134,32 +134,32 @@ done_at (suc zero) l = refl
 done_at (suc (suc zero)) l = refl
 done_at (suc (suc (suc p))) l = absurd (omega (arith, l))
 
-not_once_all_is_done : (r : Reply) → IsFull full all_done set_a full r → ⊥
+not_once_all_is_done : (r : Reply) → IsNodeFull full all_done set_a full r → ⊥
 not_once_all_is_done r x =
     false≢true (sym (done_at x.position x.next.within) ∙ x.next.undone)
 
 -- the shard that a has at the next position
-old_is : (far new : FarState) (r : Reply) (x : IsFull far begun set_a new r) → x.old ≡ on_node 1
+old_is : (far new : FarState) (r : Reply) (x : IsNodeFull far begun set_a new r) → x.old ≡ on_node 1
 old_is far new r x = same_Some x.old (on_node 1) (sym x.at
     ∙ ap (slice_get begun.shards_a) (next_fixed begun 2 x.position 1 x.next next_is_the_taken))
 
-not_another_node : IsFull full begun set_a full (answer.NodeFull (node 0)) → ⊥
+not_another_node : IsNodeFull full begun set_a full (answer.NodeFull (node 0)) → ⊥
 not_another_node x =
     let e : 0 ≡ x.old.node.n = ap node_in x.reply in
     let f = ap (λ (s : Shard). s.node.n) (old_is full full (answer.NodeFull (node 0)) x) in
     omega (arith, e, f)
 
-not_where_room_is : IsFull ground begun set_a ground (answer.NodeFull (node 1)) → ⊥
+not_where_room_is : IsNodeFull ground begun set_a ground (answer.NodeFull (node 1)) → ⊥
 not_where_room_is x =
     let e : held ground.nodes x.old.node ≡ 2 = x.full in
     let f = ap (λ (s : Shard). held ground.nodes s.node)
     (old_is ground ground (answer.NodeFull (node 1)) x) in
     let h = holds_one 2 in omega (arith, e, f, h)
 
-not_told_as_stepped : IsFull full begun set_a full (answer.Stepped 1) → ⊥
+not_told_as_stepped : IsNodeFull full begun set_a full (answer.Stepped 1) → ⊥
 not_told_as_stepped x = let e : 1 ≡ 20 = ap position_in x.reply in omega (arith, e)
 
-full_changes_nothing : IsFull full begun set_a (record full { made = 10 })
+full_changes_nothing : IsNodeFull full begun set_a (record full { made = 10 })
     (answer.NodeFull (node 1)) → ⊥
 full_changes_nothing x = let e : 10 ≡ 9 = ap (λ (f : FarState). f.made) x.state in omega (arith, e)
 

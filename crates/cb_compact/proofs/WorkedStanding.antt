@@ -8,7 +8,7 @@ use Rattle.cb_member.specs.Membership.{Membership}
 use Rattle.cb_set.specs.Lost.{IsWhole}
 use Rattle.cb_set.specs.SetState.{SetState}
 use Rattle.cb_world.specs.FarState.{FarState}
-use Rattle.cb_compact.specs.Standing.{HasChanged, IsChangedSet, IsFreshPair, Stands}
+use Rattle.cb_compact.specs.PartStep.{HasChanged, IsChangedSet, IsFreshPair, SetStands}
 use Rattle.cb_compact.proofs.WorkedGround.{all_up, both_down, far, first_of, four_down, ground, none_third, one_down, second_of, two}
 use Rattle.cb_compact.proofs.WorkedPair.{begun, on_node, set_a, set_b}
 
@@ -16,18 +16,18 @@ use Rattle.cb_compact.proofs.WorkedPair.{begun, on_node, set_a, set_b}
 abbrev under : Membership → FarState
 under members = far (two set_a set_b) members 2 (Some begun)
 
-pub a_stands : Stands ground 0 set_a.shards set_a
+pub a_stands : SetStands ground 0 set_a.shards set_a
 a_stands = record { there = first_of set_a set_b; same = refl; whole = refl }
 
-b_stands : Stands ground 1 set_b.shards set_b
+b_stands : SetStands ground 1 set_b.shards set_b
 b_stands = record { there = second_of set_a set_b; same = refl; whole = refl }
 
 -- one that is gone does not stand
-not_once_gone : Stands ground 2 set_a.shards set_a → ⊥
+not_once_gone : SetStands ground 2 set_a.shards set_a → ⊥
 not_once_gone x = none-some set_a (sym (none_third set_a set_b) ∙ x.there)
 
 -- nor one that was given another shard, as by a rebuild
-not_with_another_shard : Stands ground 0 (on_node 0 ∷ on_node 1 ∷ on_node 5 ∷ []) set_a → ⊥
+not_with_another_shard : SetStands ground 0 (on_node 0 ∷ on_node 1 ∷ on_node 5 ∷ []) set_a → ⊥
 not_with_another_shard x = let e : 2 ≡ 5 = ap third_node x.same in omega (arith, e)
   where
     third_node : List Shard → ℕ
@@ -38,7 +38,7 @@ not_with_another_shard x = let e : 2 ≡ 5 = ap third_node x.same in omega (arit
 lost_one : IsWhole one_down set_a → ⊥
 lost_one x = let e : 1 ≡ 0 = ap (λ (l : List Loss). length l) x in omega (arith, e)
 
-not_with_a_lost_shard : Stands (under one_down) 0 set_a.shards set_a → ⊥
+not_with_a_lost_shard : SetStands (under one_down) 0 set_a.shards set_a → ⊥
 not_with_a_lost_shard x = lost_one x.whole
 
 -- ---- the pair
@@ -59,12 +59,12 @@ not_where_b_lost_one x = b_lost_one x.b_stands.whole
 
 -- ---- the set that has changed
 a_is : (members : Membership) (set : SetState)
-    → Stands (under members) 0 set_a.shards set → IsWhole members set_a
+    → SetStands (under members) 0 set_a.shards set → IsWhole members set_a
 a_is members set x = subst (IsWhole members)
     (same_Some set set_a (sym x.there ∙ first_of set_a set_b)) x.whole
 
 b_is : (members : Membership) (set : SetState)
-    → Stands (under members) 1 set_b.shards set → IsWhole members set_b
+    → SetStands (under members) 1 set_b.shards set → IsWhole members set_b
 b_is members set x = subst (IsWhole members)
     (same_Some set set_b (sym x.there ∙ second_of set_a set_b)) x.whole
 

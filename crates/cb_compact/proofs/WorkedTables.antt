@@ -5,7 +5,7 @@ use Rattle.std.proofs.lemmas.Bool.{false≢true}
 use Rattle.std.proofs.lemmas.Nat.Bits.{bit_at-suc, bit_at-zero}
 use Rattle.cb_compact.specs.declared.candidates.Candidate.{Candidate}
 use Rattle.cb_compact.specs.Candidates.{group}
-use Rattle.cb_compact.specs.Tables.{AreMarked, AreMasks, IsFilled, IsWithin}
+use Rattle.cb_compact.specs.Tables.{AreBitsWithin, AreMarked, AreMasks, IsFilled}
 
 -- set 4 is live at position 0 of two
 abbrev first : Candidate
@@ -27,14 +27,14 @@ pub another_code_is_another : group first ≡ group (record { id = 9; k = 2; r =
 another_code_is_another e = one_two 0 (λ i. (e i).r)
 
 -- ---- what lies within what
-pub nothing_lies_within_all : IsWithin 0 3
+pub nothing_lies_within_all : AreBitsWithin 0 3
 nothing_lies_within_all i = let z = bit_at-zero i in omega (arith, z)
 
 -- position 0 does not lie within position 1
-pub not_within_the_other : IsWithin 1 2 → ⊥
+pub not_within_the_other : AreBitsWithin 1 2 → ⊥
 not_within_the_other w = let l = w 0 in omega (arith, l)
 
-one_in_three : IsWithin 1 3
+one_in_three : AreBitsWithin 1 3
 one_in_three zero = omega arith
 one_in_three (suc i) = let e = bit_at-suc 1 i ∙ bit_at-zero i in omega (arith, e)
 
@@ -53,7 +53,7 @@ its_own_entry_is_marked zero c at k r =
     subst (λ (d : Candidate). slice_index_or marks d.live false ≡ true) (same first c at) refl
 its_own_entry_is_marked (suc i) c at k r = absurd (no_candidate c at)
 
-filled : (mask : ℕ) → mask < 2 ^ 2 → IsWithin 1 mask → slice_index_or marks mask false ≡ true
+filled : (mask : ℕ) → mask < 2 ^ 2 → AreBitsWithin 1 mask → slice_index_or marks mask false ≡ true
 filled zero fits w = absurd (let l = w 0 in omega (arith, l))
 filled (suc zero) fits w = refl
 filled (suc (suc zero)) fits w = absurd (let l = w 0 in omega (arith, l))
@@ -62,7 +62,7 @@ filled (suc (suc (suc (suc m)))) fits w = absurd (omega (arith, fits))
 
 pub those_that_have_it_within_are_marked : IsFilled (first ∷ []) 2 1 marks
 those_that_have_it_within_are_marked zero mask c at k r fits w =
-    subst (λ (d : Candidate). IsWithin d.live mask → slice_index_or marks mask false ≡ true)
+    subst (λ (d : Candidate). AreBitsWithin d.live mask → slice_index_or marks mask false ≡ true)
     (same first c at) (filled mask fits) w
 those_that_have_it_within_are_marked (suc i) mask c at k r fits w = absurd (no_candidate c at)
 

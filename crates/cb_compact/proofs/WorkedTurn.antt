@@ -11,10 +11,10 @@ use Rattle.cb_world.specs.Joining.{JoiningState}
 use Rattle.cb_world.specs.JoinSteps.{with_step}
 use Rattle.cb_world.proofs.Laws.{node, row, rows, same_data}
 use Rattle.cb_compact.specs.MergeStep.{MergeStep, with_merged}
-use Rattle.cb_compact.specs.NowStep.{AreStepped, GoesThrough, NowStep}
-use Rattle.cb_compact.specs.Pairing.{numbered}
-use Rattle.cb_compact.specs.Standing.{IsFreshPair}
-use Rattle.cb_compact.specs.Steps.{IsMergedRow, IsNext, IsOneStep, PatchStep, is_undone, shard_beside, with_stepped}
+use Rattle.cb_compact.specs.CompactStep.{AreStepped, CompactStep, GoesThrough}
+use Rattle.cb_compact.specs.PairStep.{set_numbered}
+use Rattle.cb_compact.specs.PartStep.{IsFreshPair}
+use Rattle.cb_compact.specs.PatchStep.{IsMergedRow, IsNext, IsOneStep, PatchStep, is_undone, shard_beside, with_stepped}
 use Rattle.cb_compact.proofs.WorkedCommit.{is_merged}
 use Rattle.cb_compact.proofs.WorkedGround.{first_of, ground, has_row, homes_in, merged_word, second_of}
 use Rattle.cb_compact.proofs.WorkedMerge.{all_done}
@@ -112,7 +112,7 @@ both_taken = (first_put, first_step, (second_put, second_step, refl))
 abbrev one_set : FarState
 one_set = with_merged second_put all_done set_a set_b (homes_in 2 2)
 
-merge : MergeStep second_put one_set (answer.Merged (numbered 2) 1)
+merge : MergeStep second_put one_set (answer.Merged (set_numbered 2) 1)
 merge = inr (inr (record {
   pair = all_done;
   a = set_a;
@@ -125,17 +125,17 @@ merge = inr (inr (record {
   merges = inr (record { done = done_at; homes = is_merged.homes; reply = refl; state = refl });
 }))
 
-goes : GoesThrough idle one_set (answer.Merged (numbered 2) 1)
+goes : GoesThrough idle one_set (answer.Merged (set_numbered 2) 1)
 goes = record {
-  a = numbered 0;
-  b = numbered 1;
+  a = set_numbered 0;
+  b = set_numbered 1;
   begun = ground;
   paired = inr (inr paired);
   done = 1 ∷ 2 ∷ [];
   stepped = second_put;
   steps = both_taken;
-  ends = inr (record { set = numbered 2; moved = 1; merged = merge; reply = refl });
+  ends = inr (record { set = set_numbered 2; moved = 1; merged = merge; reply = refl });
 }
 
-whole_turn : NowStep idle one_set (answer.Merged (numbered 2) 1)
+whole_turn : CompactStep idle one_set (answer.Merged (set_numbered 2) 1)
 whole_turn = inr (inr goes)

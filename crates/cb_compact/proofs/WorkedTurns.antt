@@ -5,7 +5,7 @@ use Rattle.std.specs.FinMap as map
 use Rattle.std.proofs.lemmas.Bool.{false≢true}
 use Rattle.std.proofs.lemmas.Option.{none-some, same_Some}
 use Rattle.cb_member.specs.declared.names.Loss.{Loss}
-use Rattle.cb_node.specs.NodesState.{row_at as row_under}
+use Rattle.cb_node.specs.NodesState.{row_under}
 use Rattle.cb_node.proofs.Laws.{row_is_put}
 use Rattle.cb_set.specs.Lost.{IsWhole}
 use Rattle.cb_set.specs.SetState.{SetState}
@@ -23,9 +23,9 @@ use Rattle.cb_compact.specs.declared.looking.Look.TheVariants as look
 use Rattle.cb_compact.specs.Looking.{Looks}
 use Rattle.cb_compact.specs.MergeStep.{Merges, MergesOn}
 use Rattle.cb_compact.specs.Merging.{IsReadyToMerge}
-use Rattle.cb_compact.specs.Pairing.{BeginStep, CanJoin, FindsNoPair, IsFirstPair, IsJoining, IsPaired, NoneCanJoin, begun_pair, live_positions, numbered, with_pair}
-use Rattle.cb_compact.specs.Standing.{HasChanged, HasNoPair, IsChangedSet, IsFreshPair, IsGivenUp, IsPartedPair, with_parted}
-use Rattle.cb_compact.specs.Steps.{AreDone, StepsOn, TakesStep, shard_beside, with_stepped}
+use Rattle.cb_compact.specs.PairStep.{CanJoin, FindsNoPair, IsFirstPair, IsJoining, IsPaired, NoneCanJoin, PairStep, begun_pair, live_positions, set_numbered, with_pair}
+use Rattle.cb_compact.specs.PartStep.{HasChanged, HasNoPair, IsChangedSet, IsFreshPair, IsPairGivenUp, IsPartedPair, with_parted}
+use Rattle.cb_compact.specs.PatchStep.{AreDone, StepsOn, TakesStep, shard_beside, with_stepped}
 use Rattle.cb_compact.proofs.Ready.{same_fresh}
 use Rattle.cb_compact.proofs.WorkedBegin.{a_or_b, first_pair}
 use Rattle.cb_compact.proofs.WorkedGround.{all_up, far, first_of, ground, one_down, second_of, two}
@@ -51,26 +51,26 @@ second_told (answer.Pair a b) = b.n
 second_told r = 20
 
 -- ---- a pair is joining already
-joining_is_told : IsJoining ground ground (answer.Joining (numbered 0) (numbered 1))
+joining_is_told : IsJoining ground ground (answer.Joining (set_numbered 0) (set_numbered 1))
 joining_is_told = record { pair = begun; there = refl; reply = refl; state = refl }
 
 not_where_none_is : (new : FarState) (r : Reply) → IsJoining idle new r → ⊥
 not_where_none_is new r x = none-some x.pair x.there
 
-a_is_told_first : IsJoining ground ground (answer.Joining (numbered 1) (numbered 1)) → ⊥
+a_is_told_first : IsJoining ground ground (answer.Joining (set_numbered 1) (set_numbered 1)) → ⊥
 a_is_told_first x =
     let e : 1 ≡ x.pair.a = ap first_told x.reply in
     let f : x.pair.a ≡ 0 = ap (λ (p : JoiningState). p.a) (same_Some x.pair begun (sym x.there)) in
     omega (arith, e, f)
 
-b_is_told_next : IsJoining ground ground (answer.Joining (numbered 0) (numbered 0)) → ⊥
+b_is_told_next : IsJoining ground ground (answer.Joining (set_numbered 0) (set_numbered 0)) → ⊥
 b_is_told_next x =
     let e : 0 ≡ x.pair.b = ap second_told x.reply in
     let f : x.pair.b ≡ 1 = ap (λ (p : JoiningState). p.b) (same_Some x.pair begun (sym x.there)) in
     omega (arith, e, f)
 
 telling_changes_nothing : IsJoining ground (record ground { made = 10 })
-    (answer.Joining (numbered 0) (numbered 1)) → ⊥
+    (answer.Joining (set_numbered 0) (set_numbered 1)) → ⊥
 telling_changes_nothing x = let e : 10 ≡ 9 = ap (λ (f : FarState). f.made) x.state in
     omega (arith, e)
 
@@ -78,13 +78,13 @@ telling_changes_nothing x = let e : 10 ≡ 9 = ap (λ (f : FarState). f.made) x.
 abbrev stale : FarState
 stale = far (two set_a set_b) one_down 2 (Some begun)
 
-stale_is_told : BeginStep stale stale (answer.Joining (numbered 0) (numbered 1))
+stale_is_told : PairStep stale stale (answer.Joining (set_numbered 0) (set_numbered 1))
 stale_is_told = inl (record { pair = begun; there = refl; reply = refl; state = refl })
 
 some_none : (p : JoiningState) → Some p ≡ None → ⊥
 some_none p e = cc
 
-stale_is_kept : (r : Reply) → BeginStep stale (with_parted stale begun) r → ⊥
+stale_is_kept : (r : Reply) → PairStep stale (with_parted stale begun) r → ⊥
 stale_is_kept r (inl x) = none-some begun (ap (λ (f : FarState). f.joining) x.state)
 stale_is_kept r (inr (inl x)) = some_none begun x.none
 stale_is_kept r (inr (inr x)) = some_none begun x.none
@@ -118,7 +118,7 @@ not_where_two_can : (new : FarState) (r : Reply) → FindsNoPair idle new r → 
 not_where_two_can new r x = x.no_two 0 1 set_a set_b (omega arith) can_join
 
 not_told_as_a_pair : FindsNoPair (bare None) (with_no_pair (bare None))
-    (answer.Pair (numbered 0) (numbered 1)) → ⊥
+    (answer.Pair (set_numbered 0) (set_numbered 1)) → ⊥
 not_told_as_a_pair x = let e : 0 ≡ 20 = ap first_told x.reply in omega (arith, e)
 
 -- it is noted, and nothing else changes
@@ -131,7 +131,7 @@ finding_none_makes_none x = let e : 10 ≡ 9 = ap (λ (f : FarState). f.made) x.
     omega (arith, e)
 
 -- ---- the first two begin to join
-pub paired : IsPaired idle ground (answer.Pair (numbered 0) (numbered 1))
+pub paired : IsPaired idle ground (answer.Pair (set_numbered 0) (set_numbered 1))
 paired = record {
   none = refl;
   x = 0;
@@ -152,7 +152,7 @@ not_beside_another : (new : FarState) (r : Reply) → IsPaired ground new r → 
 not_beside_another new r x = some_none begun x.none
 
 not_the_other_way_round : IsPaired idle (with_pair idle (begun_pair 1 0 set_b set_a))
-    (answer.Pair (numbered 1) (numbered 0)) → ⊥
+    (answer.Pair (set_numbered 1) (set_numbered 0)) → ⊥
 not_the_other_way_round x =
     let e : 1 ≡ x.x = ap first_told x.reply in let f : 0 ≡ x.y = ap second_told x.reply in
     let l = x.first.above in omega (arith, e, f, l)
@@ -170,23 +170,23 @@ abbrev first_taken : Option JoiningState → ℕ
 first_taken None = 20
 first_taken (Some pair) = get_or pair.taken 0 20
 
-tells_the_first : IsPaired idle ground (answer.Pair (numbered 1) (numbered 1)) → ⊥
+tells_the_first : IsPaired idle ground (answer.Pair (set_numbered 1) (set_numbered 1)) → ⊥
 tells_the_first x =
     let e : 1 ≡ x.x = ap first_told x.reply in
     let f : 0 ≡ x.x = ap (λ (f : FarState). first_of_pair f.joining) x.state in
     omega (arith, e, f)
 
-tells_the_second : IsPaired idle ground (answer.Pair (numbered 0) (numbered 2)) → ⊥
+tells_the_second : IsPaired idle ground (answer.Pair (set_numbered 0) (set_numbered 2)) → ⊥
 tells_the_second x =
     let e : 2 ≡ x.y = ap second_told x.reply in
     let f : 1 ≡ x.y = ap (λ (f : FarState). second_of_pair f.joining) x.state in
     omega (arith, e, f)
 
-lets_it_join : IsPaired idle idle (answer.Pair (numbered 0) (numbered 1)) → ⊥
+lets_it_join : IsPaired idle idle (answer.Pair (set_numbered 0) (set_numbered 1)) → ⊥
 lets_it_join x = none-some _ (ap (λ (f : FarState). f.joining) x.state)
 
 takes_what_is_live_in_b : IsPaired idle (with_pair idle (record begun { taken = 0 ∷ [] }))
-    (answer.Pair (numbered 0) (numbered 1)) → ⊥
+    (answer.Pair (set_numbered 0) (set_numbered 1)) → ⊥
 takes_what_is_live_in_b x =
     let at : x.y ≡ 1 = sym (ap second_told x.reply) in
     let b : x.b ≡ set_b = same_Some x.b set_b (sym x.first.can.b_there ∙ ap (set_in idle.sets) at
@@ -233,7 +233,7 @@ a_changed set x =
     (same_Some set set_a (sym x.there ∙ first_of set_a set_b)) x.whole in
     let e : 1 ≡ 0 = ap (λ (l : List Loss). length l) whole in omega (arith, e)
 
-given_up : IsGivenUp put (with_parted put put_pair) (answer.Changed (numbered 0))
+given_up : IsPairGivenUp put (with_parted put put_pair) (answer.Changed (set_numbered 0))
 given_up = record {
   pair = put_pair;
   there = refl;
@@ -243,11 +243,11 @@ given_up = record {
   state = refl;
 }
 
-none_to_give_up : (new : FarState) (r : Reply) → IsGivenUp (record put { joining = None }) new r
+none_to_give_up : (new : FarState) (r : Reply) → IsPairGivenUp (record put { joining = None }) new r
     → ⊥
 none_to_give_up new r x = none-some x.pair x.there
 
-not_while_both_stand : (new : FarState) (r : Reply) → IsGivenUp ground new r → ⊥
+not_while_both_stand : (new : FarState) (r : Reply) → IsPairGivenUp ground new r → ⊥
 not_while_both_stand new r x = none_changed x.id
     (subst (λ (p : JoiningState). IsChangedSet ground p x.id)
     (same_Some x.pair begun (sym x.there)) x.changed)
@@ -255,7 +255,8 @@ not_while_both_stand new r x = none_changed x.id
 is_put : (p : JoiningState) → put.joining ≡ Some p → p ≡ put_pair
 is_put p there = same_Some p put_pair (sym there)
 
-tells_what_changed : IsGivenUp put (with_parted put put_pair) (answer.Changed (numbered 1)) → ⊥
+tells_what_changed : IsPairGivenUp put (with_parted put put_pair) (answer.Changed (set_numbered 1))
+    → ⊥
 tells_what_changed x = elim (subst (λ (p : JoiningState). IsChangedSet put p x.id)
     (is_put x.pair x.there) x.changed) [
       | inl y ↦ let e : 1 ≡ x.id = ap first_told x.reply in let f : x.id ≡ 0 = y.1 in
@@ -263,7 +264,7 @@ tells_what_changed x = elim (subst (λ (p : JoiningState). IsChangedSet put p x.
       | inr y ↦ a_changed y.0 y.1
     ]
 
-no_changed_pair_is_kept : IsGivenUp put put (answer.Changed (numbered 0)) → ⊥
+no_changed_pair_is_kept : IsPairGivenUp put put (answer.Changed (set_numbered 0)) → ⊥
 no_changed_pair_is_kept x = some_none put_pair (ap (λ (f : FarState). f.joining) x.state)
 
 -- the new row is dropped
@@ -274,7 +275,8 @@ parted_has_none p there state = none-some (row 0) (sym row_is_gone
     (is_put p there))
     ∙ sym (ap (λ (f : FarState). row_under f.nodes (node 1) 6) state) ∙ row_is_there)
 
-leaves_no_new_row : IsGivenUp put (record put { joining = None }) (answer.Changed (numbered 0)) → ⊥
+leaves_no_new_row : IsPairGivenUp put (record put { joining = None })
+    (answer.Changed (set_numbered 0)) → ⊥
 leaves_no_new_row x = parted_has_none x.pair x.there x.state
 
 -- ---- a pair is parted

@@ -4,10 +4,10 @@ use Rattle.cb_gf256.specs.Rows.{row_at}
 use Rattle.cb_gf256.specs.InRange.{IsInRange}
 use Rattle.cb_member.specs.declared.names.NodeId.{NodeId}
 use Rattle.cb_member.specs.declared.names.Shard.{Shard}
-use Rattle.cb_node.specs.NodesState.{NodesState, held, row_at as row_under, with_row}
+use Rattle.cb_node.specs.NodesState.{NodesState, held, row_under, with_row}
 use Rattle.cb_node.specs.declared.nodes.PutAnswer.{PutAnswer}
 use Rattle.cb_node.specs.declared.nodes.PutAnswer.TheVariants.{Full, Stored}
-use Rattle.cb_node.specs.Delta.{Names}
+use Rattle.cb_node.specs.Delta.{NamesRow}
 use Rattle.cb_set.specs.SetState.{SetState}
 use Rattle.cb_world.specs.declared.shown.Shown.{Shown}
 use Rattle.cb_world.specs.FarState.{FarState}
@@ -17,13 +17,13 @@ use Rattle.cb_world.specs.Joining.{JoiningState}
 use Rattle.cb_world.specs.Merged.{AreTaken}
 use Rattle.cb_world.specs.SetWord.{IsSpanWord}
 use Rattle.cb_world.specs.Stored.{AreThere}
-use Rattle.cb_compact.specs.Standing.{IsFreshPair}
-use Rattle.cb_compact.specs.Steps.{IsMergedRow, IsNext, shard_beside}
+use Rattle.cb_compact.specs.PartStep.{IsFreshPair}
+use Rattle.cb_compact.specs.PatchStep.{IsMergedRow, IsNext, shard_beside}
 
 -- no shard names that row
 abbrev pub NoneNames : List Shard → NodeId → ℕ → Type 0
 NoneNames shards node key = (p : ℕ) (shard : Shard) → slice_get shards p ≡ Some shard
-    → ¬ (Names shard node key)
+    → ¬ (NamesRow shard node key)
 
 -- the row stands at the node under the key, beside the rows of two words at these positions
 pub record CanPatch (nodes : NodesState) (to : NodeId) (key : ℕ) (a b : List Shard) (taken : List
@@ -57,7 +57,7 @@ pub record IsOfCode (nodes : NodesState) (pair : JoiningState) (k r : ℕ) : Typ
   pub b_nodes : AreThere nodes pair.shards_b
 
 -- a row can be put under the shard for a position of a pair whose sets stand as they did
-pub record IsReady (s : Shown) (far : FarState) (pair : JoiningState) (a b : SetState) (p : ℕ)
+pub record IsReadyToPut (s : Shown) (far : FarState) (pair : JoiningState) (a b : SetState) (p : ℕ)
     (shard : Shard) : Type 0 where
   pub sound : FarSound s far
   pub fresh : IsFreshPair far pair a b

@@ -1,8 +1,8 @@
-pub mod Pairing
-pub mod Standing
-pub mod Steps
+pub mod PairStep
+pub mod PartStep
+pub mod PatchStep
 pub mod MergeStep
-pub mod NowStep
+pub mod CompactStep
 pub mod NowGoing
 pub mod Candidates
 pub mod Tables

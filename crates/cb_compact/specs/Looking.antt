@@ -5,7 +5,7 @@ use Rattle.cb_world.specs.Joining.{JoiningState}
 use Rattle.cb_world.specs.FarState.{FarState}
 use Rattle.cb_compact.specs.declared.looking.Look.{Look}
 use Rattle.cb_compact.specs.declared.looking.Look.TheVariants as look
-use Rattle.cb_compact.specs.Standing.{IsChangedSet, IsFreshPair}
+use Rattle.cb_compact.specs.PartStep.{IsChangedSet, IsFreshPair}
 
 -- no pair is joining, a set of it has changed, or both stand as they did at the begin
 abbrev pub Looks : FarState → Look → Type 0

@@ -9,10 +9,10 @@ use Rattle.cb_world.specs.declared.homes.Home.{Home}
 use Rattle.cb_world.specs.Joining.{JoiningState}
 use Rattle.cb_world.specs.Stored.{all_dropped}
 use Rattle.cb_world.specs.FarState.{FarState}
-use Rattle.cb_compact.specs.Pairing.{numbered}
+use Rattle.cb_compact.specs.PairStep.{set_numbered}
 use Rattle.cb_compact.specs.Rehoming.{AreRehomed}
-use Rattle.cb_compact.specs.Standing.{HasNoPair, IsFreshPair, IsGivenUp}
-use Rattle.cb_compact.specs.Steps.{AreDone, is_undone, undone}
+use Rattle.cb_compact.specs.PartStep.{HasNoPair, IsFreshPair, IsPairGivenUp}
+use Rattle.cb_compact.specs.PatchStep.{AreDone, is_undone, undone}
 
 -- the shards of the merged set: the new one where the position has one, else a's
 abbrev pub merged_shards : List (Option Shard) → List Shard → List Shard
@@ -73,7 +73,7 @@ pub record IsMerged (far : FarState) (pair : JoiningState) (a b : SetState) (new
     (r : Reply) : Type 0 where
   pub done : AreDone pair (length a.positions)
   pub homes : AreRehomed far.counts.sets (merged_set far.counts.sets pair a b) far.homes new.homes
-  pub reply : r ≡ answer.Merged (numbered far.counts.sets) (moved_count pair b)
+  pub reply : r ≡ answer.Merged (set_numbered far.counts.sets) (moved_count pair b)
   pub state : new ≡ with_merged far pair a b new.homes
 
 -- what becomes of a pair whose sets stand as they did
@@ -90,4 +90,4 @@ pub record MergesOn (far new : FarState) (r : Reply) : Type 0 where
 
 -- the commit of the joining pair: the reply and the far state after it
 abbrev pub MergeStep : FarState → FarState → Reply → Type 0
-MergeStep far new r = HasNoPair far new r ⊎ IsGivenUp far new r ⊎ MergesOn far new r
+MergeStep far new r = HasNoPair far new r ⊎ IsPairGivenUp far new r ⊎ MergesOn far new r

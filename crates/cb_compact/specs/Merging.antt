@@ -7,12 +7,13 @@ use Rattle.cb_world.specs.declared.shown.Shown.{Shown}
 use Rattle.cb_world.specs.FarState.{FarState}
 use Rattle.cb_world.specs.FarSound.{FarSound}
 use Rattle.cb_world.specs.Joining.{JoiningState}
-use Rattle.cb_compact.specs.Standing.{IsFreshPair}
-use Rattle.cb_compact.specs.Steps.{AreDone}
+use Rattle.cb_compact.specs.PartStep.{IsFreshPair}
+use Rattle.cb_compact.specs.PatchStep.{AreDone}
 
 -- a position is live exactly where its slot table names an object
-abbrev pub AreTables : SetState → Type 0
-AreTables set = (p : ℕ) → live_at set p ≡ list_any (λ slot. is_some slot) (position_of set p).slots
+abbrev pub AreSlotTables : SetState → Type 0
+AreSlotTables set = (p : ℕ)
+    → live_at set p ≡ list_any (λ slot. is_some slot) (position_of set p).slots
 
 -- what the merged set holds at a position: what b does where b is live there, and else what a does
 abbrev pub chosen_position : SetState → SetState → ℕ → PositionState

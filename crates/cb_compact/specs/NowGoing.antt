@@ -7,10 +7,10 @@ use Rattle.cb_types.specs.declared.reply.Reply.TheVariants as answer
 use Rattle.cb_world.specs.FarState.{FarState}
 use Rattle.cb_world.specs.Joining.{JoiningState}
 use Rattle.cb_world.specs.Reserved.{put_shards}
-use Rattle.cb_compact.specs.NowStep.{AreStepped, Ends}
-use Rattle.cb_compact.specs.Standing.{IsFreshPair, with_parted}
+use Rattle.cb_compact.specs.CompactStep.{AreStepped, PairEnds}
+use Rattle.cb_compact.specs.PartStep.{IsFreshPair, with_parted}
 use Rattle.cb_compact.specs.Stepping.{TakesOne}
-use Rattle.cb_compact.specs.Steps.{AreDone, IsFull, IsNext, is_undone}
+use Rattle.cb_compact.specs.PatchStep.{AreDone, IsNext, IsNodeFull, is_undone}
 
 -- no step of the pair is done
 abbrev pub IsUndone : JoiningState → Type 0
@@ -51,9 +51,9 @@ abbrev pub GoesTo : FarState → FarState → Option NodeId → Type 0
 GoesTo begun far None = (n : ℕ) × (gone : HasGone begun far n)
     × AreDone gone.pair (length gone.a.positions)
 GoesTo begun far (Some node) = (n : ℕ) × (gone : HasGone begun far n)
-    × IsFull far gone.pair gone.a far (answer.NodeFull node)
+    × IsNodeFull far gone.pair gone.a far (answer.NodeFull node)
 
 -- a pair that has begun is gone through with
 abbrev pub EndsFrom : FarState → FarState → Reply → Type 0
 EndsFrom begun new r = (done : List ℕ) × (stepped : FarState) × AreStepped begun done stepped
-    × Ends stepped new r
+    × PairEnds stepped new r

@@ -6,7 +6,7 @@ use Rattle.cb_types.specs.declared.reply.Reply.{Reply}
 use Rattle.cb_types.specs.declared.reply.Reply.TheVariants as answer
 use Rattle.cb_world.specs.Joining.{JoiningState}
 use Rattle.cb_world.specs.FarState.{FarState}
-use Rattle.cb_compact.specs.Steps.{IsFull, IsOneStep}
+use Rattle.cb_compact.specs.PatchStep.{IsNodeFull, IsOneStep}
 
 -- what is answered when the step of a position was tried, at whose node there is no room or some
 abbrev pub step_reply : ℕ → Option NodeId → Reply
@@ -17,4 +17,4 @@ step_reply position (Some node) = answer.NodeFull node
 abbrev pub TakesOne : FarState → JoiningState → SetState → SetState → ℕ → FarState → Option NodeId
     → Type 0
 TakesOne far pair a b p new None = IsOneStep far pair a b new (answer.Stepped p)
-TakesOne far pair a b p new (Some node) = IsFull far pair a new (answer.NodeFull node)
+TakesOne far pair a b p new (Some node) = IsNodeFull far pair a new (answer.NodeFull node)

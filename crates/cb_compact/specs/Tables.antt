@@ -5,8 +5,8 @@ use Rattle.cb_compact.specs.declared.candidates.Candidate.{Candidate}
 use Rattle.cb_compact.specs.declared.tables.Table.{Table}
 
 -- each bit of the first number is one of the second
-abbrev pub IsWithin : ℕ → ℕ → Type 0
-IsWithin live mask = (i : ℕ) → bit_at live i ≤ bit_at mask i
+abbrev pub AreBitsWithin : ℕ → ℕ → Type 0
+AreBitsWithin live mask = (i : ℕ) → bit_at live i ≤ bit_at mask i
 
 -- a candidate has a bit for each of at most 16 positions
 abbrev pub AreMasks : List Candidate → Type 0
@@ -21,7 +21,7 @@ AreMarked found k r marks = (i : ℕ) (c : Candidate) → slice_get found i ≡ 
 -- an entry is marked wherever all live positions of a candidate of this code are among its own
 abbrev pub IsFilled : List Candidate → ℕ → ℕ → List Bool → Type 0
 IsFilled found k r marks = (i mask : ℕ) (c : Candidate) → slice_get found i ≡ Some c → c.k ≡ k
-    → c.r ≡ r → mask < 2 ^ k → IsWithin c.live mask → slice_index_or marks mask false ≡ true
+    → c.r ≡ r → mask < 2 ^ k → AreBitsWithin c.live mask → slice_index_or marks mask false ≡ true
 
 -- the table has an entry for each set of positions, and they are filled
 pub record IsTable (found : List Candidate) (table : Table) : Type 0 where

@@ -7,7 +7,7 @@ ghost use Rattle.cb_world.specs.Pairs.{HoldsNoPair, with_no_pair};
 ghost use Rattle.cb_world.specs.Sets.{set_in};
 ghost use Rattle.cb_world.specs.Sound.{Sound};
 ghost use Rattle.cb_compact.specs.Begun.{reply_of};
-ghost use Rattle.cb_compact.specs.Pairing.{BeginStep, IsFirstPair, NoneCanJoin, begun_pair, live_positions, with_pair};
+ghost use Rattle.cb_compact.specs.PairStep.{IsFirstPair, NoneCanJoin, PairStep, begun_pair, live_positions, with_pair};
 
 use crate::candidates::{Match, find_pair};
 use cb_member::Shard;
@@ -127,7 +127,7 @@ fn note_none(far: &mut Far)
 pub fn begin(far: &mut Far) -> Result<Begun, NoMemory>
     requires sound { (s : Shown) × Sound s far.old }
     requires note { HoldsNoPair far.old }
-    ensures step { IfOk result (λ begun. BeginStep far.old far.new (reply_of begun)) }
+    ensures step { IfOk result (λ begun. PairStep far.old far.new (reply_of begun)) }
     ensures error { OnErr result (far.new ≡ far.old) }
     ensures sound { (s : Shown) → Sound s far.old → Sound s far.new }
 {
@@ -181,7 +181,7 @@ pub fn compact_begin<D: Desk>(desk: &mut D, far: &mut Far) -> Result<Reply, NoMe
     requires sound { (s : Shown) × D.shows desk.old s × Sound s far.old }
     requires note { HoldsNoPair far.old }
     ensures desk { desk.new ≡ desk.old }
-    ensures step { IfOk result (λ reply. BeginStep far.old far.new reply) }
+    ensures step { IfOk result (λ reply. PairStep far.old far.new reply) }
     ensures error { OnErr result (far.new ≡ far.old) }
     ensures sound { (s : Shown) → Sound s far.old → Sound s far.new }
     ensures now { (s : Shown) (h : ℕ) → Sound s far.old → now s far.new h ≡ now s far.old h }

@@ -5,7 +5,7 @@ ghost use Rattle.cb_world.specs.declared.shown.Shown.{Shown};
 ghost use Rattle.cb_world.specs.FarSound.{AwaySound};
 ghost use Rattle.cb_world.specs.Groups.{AreGrouped};
 ghost use Rattle.cb_compact.specs.Candidates.{AreAlike, AreFirsts, AreSeen, AreWholeBut, CanMatch, HasNoPartner, IsAdded, IsCandidate, IsFirstMatch, IsPartner, NoneMatch, group, groups_of};
-ghost use Rattle.cb_compact.specs.Pairing.{IsFirstPair, NoneCanJoin};
+ghost use Rattle.cb_compact.specs.PairStep.{IsFirstPair, NoneCanJoin};
 ghost use Rattle.cb_compact.specs.Tables.{AreMasks, AreTables};
 
 use crate::tables::{Table, matches_none, tables_of};

@@ -9,9 +9,9 @@ ghost use Rattle.cb_world.specs.Reserved.{put_shards};
 ghost use Rattle.cb_world.specs.Sound.{Sound};
 ghost use Rattle.cb_world.specs.Stored.{AreThere};
 ghost use Rattle.cb_compact.specs.NowGoing.{EndsFrom, GoesTo, HasGone, IsUndone, TriesStep, without_pair};
-ghost use Rattle.cb_compact.specs.NowStep.{NowStep};
-ghost use Rattle.cb_compact.specs.Standing.{IsFreshPair, with_parted};
-ghost use Rattle.cb_compact.specs.Steps.{is_undone};
+ghost use Rattle.cb_compact.specs.CompactStep.{CompactStep};
+ghost use Rattle.cb_compact.specs.PartStep.{IsFreshPair, with_parted};
+ghost use Rattle.cb_compact.specs.PatchStep.{is_undone};
 
 use crate::beginning::{Begun, begin};
 use crate::merging::merge;
@@ -151,7 +151,7 @@ pub fn compact_now<D: Desk>(desk: &mut D, far: &mut Far) -> Result<Reply, NoMemo
     requires keys { far.old.counts.keys + 20 < 2 ^ 62 }
     requires sets { far.old.counts.sets < 2 ^ 62 }
     ensures desk { desk.new ≡ desk.old }
-    ensures step { IfOk result (λ reply. NowStep far.old far.new reply) }
+    ensures step { IfOk result (λ reply. CompactStep far.old far.new reply) }
     ensures error { OnErr result (far.new ≡ far.old) }
     ensures sound { (s : Shown) → Sound s far.old → Sound s far.new }
     ensures now { (s : Shown) (h : ℕ) → Sound s far.old → now s far.new h ≡ now s far.old h }

@@ -3,7 +3,7 @@ ghost use Rattle.cb_set.specs.SetState.{SetState};
 ghost use Rattle.cb_world.specs.declared.shown.Shown.{Shown};
 ghost use Rattle.cb_world.specs.FarSound.{AwaySound};
 ghost use Rattle.cb_compact.specs.Looking.{Looks};
-ghost use Rattle.cb_compact.specs.Standing.{HasChanged, Stands};
+ghost use Rattle.cb_compact.specs.PartStep.{HasChanged, SetStands};
 
 use cb_member::Shard;
 use cb_world::Far;
@@ -45,7 +45,7 @@ fn are_same(a: &[Shard], b: &[Shard]) -> bool
 /// Whether the committed set of a number is whole and has these shards.
 fn stands(far: &Far, id: u64, shards: &[Shard]) -> bool
     requires sound { (s : Shown) × AwaySound s far.now }
-    ensures stands { result ≡ true → (set : SetState) × Stands far.now id shards.now set }
+    ensures stands { result ≡ true → (set : SetState) × SetStands far.now id shards.now set }
     ensures changed { result ≡ false → HasChanged far.now id shards.now }
 {
     match far.sets.committed(id) {

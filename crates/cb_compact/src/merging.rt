@@ -9,11 +9,11 @@ ghost use Rattle.cb_world.specs.FarSound.{FarSound};
 ghost use Rattle.cb_world.specs.Sound.{Sound};
 ghost use Rattle.cb_world.specs.Stored.{AreThere, all_dropped};
 ghost use Rattle.cb_world.specs.Sets.{set_in};
-ghost use Rattle.cb_compact.specs.Standing.{IsFreshPair};
+ghost use Rattle.cb_compact.specs.PartStep.{IsFreshPair};
 ghost use Rattle.cb_compact.specs.Rehoming.{AreNamedOnce, AreRehomed};
-ghost use Rattle.cb_compact.specs.Merging.{AreTables, IsFilledBelow, IsReadyToMerge, chosen_position};
+ghost use Rattle.cb_compact.specs.Merging.{AreSlotTables, IsFilledBelow, IsReadyToMerge, chosen_position};
 ghost use Rattle.cb_compact.specs.MergeStep.{IsMerged, MergeStep, Merges, merged_set, merged_shards, moved_count, replaced_shards};
-ghost use Rattle.cb_compact.specs.Steps.{undone};
+ghost use Rattle.cb_compact.specs.PatchStep.{undone};
 
 use crate::looking::{Look, how_it_stands};
 use crate::parting::give_up;
@@ -46,8 +46,8 @@ fn fill_position(set: &mut SpanSet, a: &SpanSet, b: &SpanSet, position: u32) -> 
     requires here { position < length set.old.positions }
     requires in_a { position < length a.now.positions }
     requires in_b { position < length b.now.positions }
-    requires a_tables { AreTables a.now }
-    requires b_tables { AreTables b.now }
+    requires a_tables { AreSlotTables a.now }
+    requires b_tables { AreSlotTables b.now }
     ensures { OnOk result
         (set.new ≡ with_position set.old position (chosen_position a.now b.now position)) }
 {
@@ -61,8 +61,8 @@ fn fill_position(set: &mut SpanSet, a: &SpanSet, b: &SpanSet, position: u32) -> 
 fn fill_positions(set: &mut SpanSet, a: &SpanSet, b: &SpanSet) -> Result<(), NoMemory>
     requires here { length set.old.positions ≡ length a.now.positions }
     requires in_b { length b.now.positions ≡ length a.now.positions }
-    requires a_tables { AreTables a.now }
-    requires b_tables { AreTables b.now }
+    requires a_tables { AreSlotTables a.now }
+    requires b_tables { AreSlotTables b.now }
     ensures { OnOk result (IsFilledBelow set.old.id set.old.shards a.now b.now
         (length a.now.positions) set.new) }
 {
@@ -83,8 +83,8 @@ fn merged(
     requires steps { length pair.now.steps ≡ length pair.now.shards_a }
     requires in_a { length a.now.shards ≡ length pair.now.shards_a }
     requires in_b { length b.now.positions ≡ length a.now.positions }
-    requires a_tables { AreTables a.now }
-    requires b_tables { AreTables b.now }
+    requires a_tables { AreSlotTables a.now }
+    requires b_tables { AreSlotTables b.now }
     ensures { IfOk result (λ set. set ≡ merged_set id pair.now a.now b.now) }
 {
     let shards = shards_of(alloc, &pair.steps, &pair.shards_a)?;

@@ -8,7 +8,7 @@ ghost use Rattle.cb_world.specs.Reserved.{put_shards};
 ghost use Rattle.cb_world.specs.Sound.{Sound};
 ghost use Rattle.cb_world.specs.Stored.{AreThere, all_dropped};
 ghost use Rattle.cb_compact.specs.NowGoing.{with_keys};
-ghost use Rattle.cb_compact.specs.Standing.{PartStep, with_parted};
+ghost use Rattle.cb_compact.specs.PartStep.{PartStep, with_parted};
 
 use cb_member::Shard;
 use cb_node::Nodes;

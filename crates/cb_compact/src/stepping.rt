@@ -7,10 +7,10 @@ ghost use Rattle.cb_world.specs.JoinSteps.{with_step};
 ghost use Rattle.cb_world.specs.Now.{now};
 ghost use Rattle.cb_world.specs.FarSound.{FarSound};
 ghost use Rattle.cb_world.specs.Sound.{Sound};
-ghost use Rattle.cb_compact.specs.Standing.{IsFreshPair};
-ghost use Rattle.cb_compact.specs.Deltas.{IsReady, PutsMerged};
+ghost use Rattle.cb_compact.specs.PartStep.{IsFreshPair};
+ghost use Rattle.cb_compact.specs.Deltas.{IsReadyToPut, PutsMerged};
 ghost use Rattle.cb_compact.specs.Stepping.{TakesOne, step_reply};
-ghost use Rattle.cb_compact.specs.Steps.{AreDone, IsNext, PatchStep, TakesStep, shard_beside};
+ghost use Rattle.cb_compact.specs.PatchStep.{AreDone, IsNext, PatchStep, TakesStep, shard_beside};
 
 use crate::deltas::put_merged;
 use crate::looking::{Look, how_it_stands};
@@ -75,7 +75,7 @@ pub fn new_shard(far: &Far, position: u32) -> Shard
 /// answered with its count.
 fn put_step(far: &mut Far, position: u32, shard: Shard) -> Result<PutAnswer, NoMemory>
     requires ready { (s : Shown) × (pair : JoiningState) × (a : SetState) × (b : SetState)
-        × IsReady s far.old pair a b position shard }
+        × IsReadyToPut s far.old pair a b position shard }
     ensures put { IfOk result (λ answer. (pair : JoiningState) (a b : SetState)
         → IsFreshPair far.old pair a b
         → PutsMerged far.old pair a b position shard answer far.new.nodes) }

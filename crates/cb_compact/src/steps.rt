@@ -4,7 +4,7 @@ ghost use Rattle.cb_set.specs.SetState.{SetState, parities};
 ghost use Rattle.cb_world.specs.Joining.{JoiningState};
 ghost use Rattle.cb_world.specs.JoinSteps.{with_step};
 ghost use Rattle.cb_world.specs.Merged.{takes};
-ghost use Rattle.cb_compact.specs.Steps.{AreDone, IsNext, has_step, is_undone, undone};
+ghost use Rattle.cb_compact.specs.PatchStep.{AreDone, IsNext, has_step, is_undone, undone};
 
 use cb_member::Shard;
 use cb_set::MOST_POSITIONS;

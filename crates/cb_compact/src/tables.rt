@@ -2,7 +2,7 @@ ghost use Rattle.std.specs.Prelude.{◌≡◌, ℕ, ◌-◌, ◌*◌, ◌^◌, �
 ghost use Rattle.std.specs.Int.{bit_at};
 ghost use Rattle.cb_compact.specs.declared.candidates.Candidate.{Candidate};
 ghost use Rattle.cb_compact.specs.Candidates.{CanMatch};
-ghost use Rattle.cb_compact.specs.Tables.{AreMarked, AreMasks, AreTables, IsFilled, IsTable, IsWithin};
+ghost use Rattle.cb_compact.specs.Tables.{AreBitsWithin, AreMarked, AreMasks, AreTables, IsFilled, IsTable};
 
 use crate::candidates::Candidate;
 use cb_types::NoMemory;
@@ -38,7 +38,7 @@ fn spread(marks: &mut [bool], k: u32)
     requires size { length marks.old ≡ 2 ^ k }
     requires few { k ≤ 16 }
     ensures size { length marks.new ≡ 2 ^ k }
-    ensures marked { (live mask : ℕ) → mask < 2 ^ k → IsWithin live mask
+    ensures marked { (live mask : ℕ) → mask < 2 ^ k → AreBitsWithin live mask
         → slice_index_or marks.old live false ≡ true → slice_index_or marks.new mask false ≡ true }
 {
     for mask in 0..marks.len() {

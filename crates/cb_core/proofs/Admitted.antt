@@ -8,7 +8,7 @@ use Rattle.cb_world.specs.Plain.{Words}
 use Rattle.cb_world.specs.Sound.{Sound}
 use Rattle.cb_world.specs.World.{WorldState, IsKnown, IsSoundWorld}
 use Rattle.cb_world.proofs.Laws.{KeepsHolding, KeepsNote, StaysIfBy, stays_noted, stays_same}
-use Rattle.cb_compact.specs.NowStep.{NowStep}
+use Rattle.cb_compact.specs.CompactStep.{CompactStep}
 use Rattle.cb_compact.proofs.Laws.{now_laws}
 use Rattle.cb_core.specs.Holding.{NoOtherHolds}
 use Rattle.cb_core.specs.Parts.{Holding}
@@ -60,7 +60,7 @@ compacted_sound w n new most sound few stays then = far_after w Compact sound fe
 -- what the nodes do in such a turn is a turn of the core
 pub compact_made : (w : WorldState) (seat : ℕ) (mid : FarState) (r : Reply) → IsSoundWorld w
     → NoOtherHolds w.seats seat → w.far.counts.turns < 2 ^ 40
-    → NowStep (counted w.far Compact) mid r → SeatTurn seat Compact w r (record w { far = mid })
+    → CompactStep (counted w.far Compact) mid r → SeatTurn seat Compact w r (record w { far = mid })
 compact_made w seat mid r sound none few step = free none (done few (
   refl,
   step,

@@ -15,7 +15,7 @@ use Rattle.cb_model.specs.Event.Subject.{NewObject, Contents, Other, Nothing}
 use Rattle.cb_model.specs.Event.Event.{Makes, Shows, Pins, Writes, Frees, FindsFull, FindsUnmade, FindsFreed, FindsEnd, Refused, Wrong}
 use Rattle.cb_model.specs.Called.{Called, makes, made_by, value, change_to, is_about}
 use Rattle.cb_model.specs.Legal.{Follow, IsMapReply}
-use Rattle.cb_model.specs.Now.{Now as MapNow, Change, changed}
+use Rattle.cb_model.specs.Now.{MapNow, Change, changed}
 use Rattle.cb_model.specs.Now.Change.{Create}
 use Rattle.cb_model.specs.Replies.{MapReplies}
 use Rattle.cb_model.proofs.Laws.{value-push, makes-push}
@@ -27,14 +27,14 @@ use Rattle.cb_mutate.proofs.Laws.{FollowsOf, between_follows, is_make_of, is_rep
 use Rattle.cb_core.specs.Called.{handle_on, handle_given, says_nothing, call_of}
 
 -- ---- what comes of an event: its calls are the map's, and the map has afterwards what is told
-pub record Comes (first handles : ℕ) (before more : List Called) (count : ℕ) (holds : ℕ → Now) : Type 0
+pub record CallsCome (first handles : ℕ) (before more : List Called) (count : ℕ) (holds : ℕ → Now) : Type 0
   where
     pub follow : Follow first handles before more
     pub beside : IsMapOf (before ++ more) count holds
 
 -- no call
 pub comes_none : (first handles : ℕ) (before : List Called) (count : ℕ) (holds : ℕ → Now)
-    → IsMapOf before count holds → Comes first handles before [] count holds
+    → IsMapOf before count holds → CallsCome first handles before [] count holds
 comes_none first handles before count holds map = record {
   follow = tt;
   beside = subst (λ (cs : List Called). IsMapOf cs count holds) (sym (append-nil before)) map;
@@ -43,37 +43,38 @@ comes_none first handles before count holds map = record {
 -- one call
 comes_one : (first handles : ℕ) (before : List Called) (c : Called) (count : ℕ) (holds : ℕ → Now)
     → IsMapReply first handles before c → IsMapOf (before ++ c ∷ []) count holds
-    → Comes first handles before (c ∷ []) count holds
+    → CallsCome first handles before (c ∷ []) count holds
 comes_one first handles before c count holds reply map =
     record { follow = (reply, tt); beside = map }
 
 -- ---- requests on an object
 
 -- what was answered changes nothing of the map
-abbrev pub IsQuiet : Event → Type 0
-IsQuiet e = (change_of e ≡ []) × (made_by e ≡ 0)
+abbrev pub IsQuietEvent : Event → Type 0
+IsQuietEvent e = (change_of e ≡ []) × (made_by e ≡ 0)
 
 -- it is told of one object, and no make
-abbrev pub IsOnObject : Event → Type 0
-IsOnObject (Makes bytes version) = ⊥
-IsOnObject (FindsFull number) = ⊥
-IsOnObject (Refused NewObject) = ⊥
-IsOnObject (Refused Nothing) = ⊥
-IsOnObject e = Unit {0}
+abbrev pub IsOfOneObject : Event → Type 0
+IsOfOneObject (Makes bytes version) = ⊥
+IsOfOneObject (FindsFull number) = ⊥
+IsOfOneObject (Refused NewObject) = ⊥
+IsOfOneObject (Refused Nothing) = ⊥
+IsOfOneObject e = Unit {0}
 
 -- the request is on an object
 pub record IsObjectCall (q : Request) : Type 0 where
-  pub quiet : (r : Reply) → says_nothing r ≡ true → IsQuiet (event_of q r)
-  pub own : (r : Reply) → IsOnObject (event_of q r)
+  pub quiet : (r : Reply) → says_nothing r ≡ true → IsQuietEvent (event_of q r)
+  pub own : (r : Reply) → IsOfOneObject (event_of q r)
 
-read_quiet : (name : List ℕ) (r : Reply) → says_nothing r ≡ true → IsQuiet (event_of (Read name) r)
+read_quiet : (name : List ℕ) (r : Reply) → says_nothing r ≡ true
+    → IsQuietEvent (event_of (Read name) r)
 read_quiet name answer.Worn e = (refl, refl)
 read_quiet name answer.ScopeFull e = (refl, refl)
 read_quiet name (answer.Held seat) e = (refl, refl)
 read_quiet name answer.Claimed e = (refl, refl)
 read_quiet name r e = absurd cc
 
-read_own : (name : List ℕ) (r : Reply) → IsOnObject (event_of (Read name) r)
+read_own : (name : List ℕ) (r : Reply) → IsOfOneObject (event_of (Read name) r)
 read_own name answer.Worn = tt
 read_own name r = tt
 
@@ -81,7 +82,7 @@ pub on_read : (name : List ℕ) → IsObjectCall (Read name)
 on_read name = record { quiet = read_quiet name; own = read_own name }
 
 write_quiet : (name : List ℕ) (at : ℕ) (bytes : List ℕ) (r : Reply) → says_nothing r ≡ true
-    → IsQuiet (event_of (Write name at bytes) r)
+    → IsQuietEvent (event_of (Write name at bytes) r)
 write_quiet name at bytes answer.Worn e = (refl, refl)
 write_quiet name at bytes answer.ScopeFull e = (refl, refl)
 write_quiet name at bytes (answer.Held seat) e = (refl, refl)
@@ -89,35 +90,37 @@ write_quiet name at bytes answer.Claimed e = (refl, refl)
 write_quiet name at bytes r e = absurd cc
 
 write_own : (name : List ℕ) (at : ℕ) (bytes : List ℕ) (r : Reply)
-    → IsOnObject (event_of (Write name at bytes) r)
+    → IsOfOneObject (event_of (Write name at bytes) r)
 write_own name at bytes answer.Worn = tt
 write_own name at bytes r = tt
 
 pub on_write : (name : List ℕ) (at : ℕ) (bytes : List ℕ) → IsObjectCall (Write name at bytes)
 on_write name at bytes = record { quiet = write_quiet name at bytes; own = write_own name at bytes }
 
-free_quiet : (name : List ℕ) (r : Reply) → says_nothing r ≡ true → IsQuiet (event_of (Free name) r)
+free_quiet : (name : List ℕ) (r : Reply) → says_nothing r ≡ true
+    → IsQuietEvent (event_of (Free name) r)
 free_quiet name answer.Worn e = (refl, refl)
 free_quiet name answer.ScopeFull e = (refl, refl)
 free_quiet name (answer.Held seat) e = (refl, refl)
 free_quiet name answer.Claimed e = (refl, refl)
 free_quiet name r e = absurd cc
 
-free_own : (name : List ℕ) (r : Reply) → IsOnObject (event_of (Free name) r)
+free_own : (name : List ℕ) (r : Reply) → IsOfOneObject (event_of (Free name) r)
 free_own name answer.Worn = tt
 free_own name r = tt
 
 pub on_free : (name : List ℕ) → IsObjectCall (Free name)
 on_free name = record { quiet = free_quiet name; own = free_own name }
 
-pin_quiet : (name : List ℕ) (r : Reply) → says_nothing r ≡ true → IsQuiet (event_of (Pin name) r)
+pin_quiet : (name : List ℕ) (r : Reply) → says_nothing r ≡ true
+    → IsQuietEvent (event_of (Pin name) r)
 pin_quiet name answer.Worn e = (refl, refl)
 pin_quiet name answer.ScopeFull e = (refl, refl)
 pin_quiet name (answer.Held seat) e = (refl, refl)
 pin_quiet name answer.Claimed e = (refl, refl)
 pin_quiet name r e = absurd cc
 
-pin_own : (name : List ℕ) (r : Reply) → IsOnObject (event_of (Pin name) r)
+pin_own : (name : List ℕ) (r : Reply) → IsOfOneObject (event_of (Pin name) r)
 pin_own name answer.Worn = tt
 pin_own name r = tt
 
@@ -129,7 +132,7 @@ on_pinned name = record { quiet = pin_quiet name; own = pin_own name }
 -- a call that changes nothing of the map leaves it as it is
 quiet_beside : (first handles count more : ℕ) (old new : ℕ → Now) (calls : List Called) (h : ℕ)
     (q : Request) (r : Reply) → IsMapOf calls count old
-    → IsCallBetween first handles count more old new h q r → IsQuiet (event_of q r)
+    → IsCallBetween first handles count more old new h q r → IsQuietEvent (event_of q r)
     → IsMapOf calls more new
 quiet_beside first handles count more old new calls h q r map call quiet = record {
   made = let made = map.made in let counted = call.counted in let none = quiet.1 in
@@ -158,7 +161,7 @@ unmade_beside calls c count holds map about none = record {
 }
 
 -- objects from the count on were never made, and those below it were
-pub record AreMade (count : ℕ) (holds : ℕ → Now) : Type 0 where
+pub record AreMadeBelow (count : ℕ) (holds : ℕ → Now) : Type 0 where
   pub past : (h : ℕ) → count ≤ h → holds h ≡ never
   pub below : (h : ℕ) → h < count → holds h ≡ never → ⊥
 
@@ -168,7 +171,7 @@ has_none (Some (Freed u)) i = absurd i
 has_none (Some (Held u b)) i = absurd i
 
 -- is told so by every call on it
-finds_unmade : (first handles made : ℕ) (handle : Option ℕ) (e : Event) → IsOnObject e
+finds_unmade : (first handles made : ℕ) (handle : Option ℕ) (e : Event) → IsOfOneObject e
     → MapReplies first handles made handle None e → e ≡ FindsUnmade
 finds_unmade first handles made handle (Makes bytes version) on m = absurd on
 finds_unmade first handles made handle (Shows version bytes) on m = absurd m
@@ -217,16 +220,16 @@ IsMakeBetween first handles count more old new q r =
 module _ (first handles seat count more : ℕ) (before : List Called) (old new : ℕ → Now)
     (map : IsMapOf before count old) where
   -- on an object
-  pub call_comes : (h : ℕ) (q : Request) (r : Reply) → AreMade count old
+  pub call_comes : (h : ℕ) (q : Request) (r : Reply) → AreMadeBelow count old
       → IsCallBetween first handles count more old new h q r → IsObjectCall q
-      → Comes first handles before (call_of seat (handle_on (makes before) h) q r) more new
+      → CallsCome first handles before (call_of seat (handle_on (makes before) h) q r) more new
   call_comes h q r are call on = by (says_nothing r) refl
     where
       c : Option ℕ → Called
       c o = record { lane = seat; handle = o; event = event_of q r }
 
       P : Bool → Option ℕ → Type 0
-      P b o = Comes first handles before (if b then [] else c o ∷ []) more new
+      P b o = CallsCome first handles before (if b then [] else c o ∷ []) more new
 
       told : (o : Option ℕ) → handle_on (makes before) h ≡ o → P false o
           → P false (handle_on (makes before) h)
@@ -278,10 +281,10 @@ module _ (first handles seat count more : ℕ) (before : List Called) (old new :
   pub make_comes : (bytes name : List ℕ) (r : Reply)
       → IsMakeBetween first handles count more old new (Make name bytes) r
       → IsReplyOf (Make name bytes) r
-      → Comes first handles before (call_of seat (handle_given r) (Make name bytes) r) more new
+      → CallsCome first handles before (call_of seat (handle_given r) (Make name bytes) r) more new
   make_comes bytes name r (inl (h, v, is, call)) line =
       subst (λ (q : Reply).
-      Comes first handles before (call_of seat (handle_given q) (Make name bytes) q) more new)
+      CallsCome first handles before (call_of seat (handle_given q) (Make name bytes) q) more new)
       (sym is) (comes_one first handles before c more new
       (is_make_of first handles before c more new follows (λ e. cc)) follows.beside)
     where
@@ -306,7 +309,7 @@ module _ (first handles seat count more : ℕ) (before : List Called) (old new :
           (record { about = none; event = refl })
 
       P : Bool → Type 0
-      P b = Comes first handles before (if b then [] else c ∷ []) more new
+      P b = CallsCome first handles before (if b then [] else c ∷ []) more new
 
       by : (b : Bool) → says_nothing r ≡ b → P (says_nothing r)
       by true e = subst P (sym e) (comes_none first handles before more new (record {

@@ -27,11 +27,11 @@ use Rattle.cb_evict.specs.declared.eviction.Lack.{Lack}
 use Rattle.cb_evict.specs.declared.eviction.Lack.TheVariants as lack
 use Rattle.cb_evict.specs.Eviction.{reply_of}
 use Rattle.cb_evict.specs.EvictStep.{IsEvictStep, few_nodes, few_spans, loose_frames, made}
-use Rattle.cb_filter.specs.FilterRule.{EmptyAnswer}
+use Rattle.cb_filter.specs.FilterRule.{EmptyToFilter}
 use Rattle.cb_filter.specs.FilterStep.{RefusesAs, cools, moves, refused, without_slot}
 use Rattle.cb_swapin.specs.SwapRule.{frame_answer, swap_answer}
 use Rattle.cb_swapin.proofs.Laws.{step_cases, step_only_no_frame}
-use Rattle.cb_compact.specs.NowStep.{NowStep}
+use Rattle.cb_compact.specs.CompactStep.{CompactStep}
 use Rattle.cb_rebuild.specs.RebuildStep.{RebuildStep}
 use Rattle.cb_core.specs.Declining.{write_refusal}
 use Rattle.cb_core.specs.Membership.{CrashTurn, JoinTurn, crashed, is_down, is_up, joined}
@@ -39,8 +39,8 @@ use Rattle.cb_core.specs.Parts.{Holding, NeverDeclined, WithRoom, at_once, no_ro
 use Rattle.cb_core.specs.Pinning.{PinStep, pin_refusal, refused as refused_pin, scope_full, taken}
 use Rattle.cb_core.specs.Step.{StillBring, StillDecline, StillEvict, StillFilter, StillFind, StillFree, StillMake, StillRead, StillRoom, StillSwap, StillWorks, StillWrite, TurnStep, worn, done}
 use Rattle.cb_core.specs.Turned.{counted}
-use Rattle.cb_core.proofs.NodesStay.{IsWhole}
-use Rattle.cb_core.proofs.PartsStay.{Leaves, room_same}
+use Rattle.cb_core.proofs.NodesStay.{IsWholeJob}
+use Rattle.cb_core.proofs.PartsStay.{LeavesSame, room_same}
 use Rattle.cb_core.proofs.TurnCalls.{held_at, held_then, known_at}
 use Rattle.cb_core.proofs.TurnCallsKept.{same_holding}
 use Rattle.cb_core.proofs.TurnCallsFar.{BringEnds, bring_ends, broke, came, crammed, lost_gone}
@@ -258,7 +258,7 @@ brought_still h f a b s known step = by (bring_ends a b h (answer.Swapped f) s k
 abbrev versions_of : Holding Words → List ℕ
 versions_of a = a.desk.versions
 
-room_versions : Leaves versions_of StillRoom
+room_versions : LeavesSame versions_of StillRoom
 room_versions a b e step = by (reply_of e) step.0.step
   where
     by : (r : Reply) → IsEvictStep a.desk b.desk a.far b.far r → versions_of b ≡ versions_of a
@@ -266,7 +266,7 @@ room_versions a b e step = by (reply_of e) step.0.step
     by r (few_nodes few same) = ap (λ (x : Words). x.versions) same
     by r (made m) = m.evicted.sent.versions
 
-swap_versions : (h : ℕ) → Leaves versions_of (StillSwap h)
+swap_versions : (h : ℕ) → LeavesSame versions_of (StillSwap h)
 swap_versions h a b r (home, at, step, hold) =
     step_cases (versions_of b ≡ versions_of a) a.desk b.desk a.far b.far home.set home.position r
     step (λ same. ap (λ (x : Words). x.versions) same.0) (λ f whole least e w. w.words.versions)
@@ -351,7 +351,7 @@ filter_job : (h : ℕ) (a b : Holding Words) (r : Reply) → IsEasy a → StillF
 filter_job h a b r easy (refused why same state, hold) =
     by (state_of (word_at a.desk h)) (still_at a.desk a.far easy h) why
   where
-    empty : (version : ℕ) → EmptyAnswer version r → IsEased r
+    empty : (version : ℕ) → EmptyToFilter version r → IsEased r
     empty zero e = calm_as r answer.Unmade tt e
     empty (suc version) e = calm_as r answer.NotHere tt e
 
@@ -373,7 +373,7 @@ evict_job a b r step = by step.0
     by (few_nodes few same) = calm_as r _ tt few.reply
     by (made m) = calm_as r _ tt m.reply
 
-compact_job : (far new : FarState) (r : Reply) → NowStep far new r → IsEased r
+compact_job : (far new : FarState) (r : Reply) → CompactStep far new r → IsEased r
 compact_job far new r (inl z) = calm_as r _ tt z.reply
 compact_job far new r (inr (inl z)) = calm_as r _ tt z.reply
 compact_job far new r (inr (inr z)) = elim z.ends [
@@ -397,7 +397,7 @@ join_job node far new r (joined down reply state) = calm_as r _ tt reply
 join_job node far new r (is_up up reply state) = calm_as r _ tt reply
 
 works_calm : (job : Job) (a b : Holding Words) (r : Reply) (s : Shown) → IsKnown a.desk a.far s
-    → IsEasy a → IsWhole job → StillWorks job a r b → IsEased r
+    → IsEasy a → IsWholeJob job → StillWorks job a r b → IsEased r
 works_calm (Make bytes) a b r s known easy whole step = make_calm bytes a b r easy step
 works_calm (Read handle) a b r s known easy whole step =
     read_job handle.n a b r s known easy step
@@ -434,7 +434,7 @@ easy_counted x far job easy = record {
 }
 
 pub turn_calm : (w new : WorldState) (job : Job) (r : Reply) → IsSoundWorld w
-    → w.far.counts.turns < 2 ^ 40 → IsWhole job → MakesEasy w.desk w.far → TurnStep job w r new
+    → w.far.counts.turns < 2 ^ 40 → IsWholeJob job → MakesEasy w.desk w.far → TurnStep job w r new
     → IsEased r
 turn_calm w new job r sound few whole easy (worn end reply same) = absurd (omega (arith, few, end))
 turn_calm w new job r sound few whole easy (done more works seats) =

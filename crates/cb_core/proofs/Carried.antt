@@ -21,10 +21,10 @@ pub record KeepsAlong {D : Type 0} (G : Holding D → Type 0)
       → W → C k a d W
 
 -- each part that is P is also Q, at the desks that `on` leads to
-abbrev pub Along : {D E A : Type 0} → (Holding D → Holding E) → (Holding D → Type 0)
+abbrev pub CarriesAlong : {D E A : Type 0} → (Holding D → Holding E) → (Holding D → Type 0)
     → (ℕ → Holding D → Holding D → Type 0 → Type 0) → ℕ → (Holding D → A → Holding D → Type 0)
     → (Holding E → A → Holding E → Type 0) → Type 0
-Along {D = D} {A = A} on G C n P Q =
+CarriesAlong {D = D} {A = A} on G C n P Q =
     (a b : Holding D) (r : A) → G a → P a r b → C n a b (Q (on a) r (on b))
 
 -- so is each that found no memory
@@ -38,13 +38,13 @@ pub record AreAlong {D E : Type 0} (on : Holding D → Holding E) (G : Holding D
     (C : ℕ → Holding D → Holding D → Type 0 → Type 0) (p : JobParts D) (q : JobParts E) : Type 0
   where
     pub frames : (a : Holding D) → G a → q.frames (on a) ≡ p.frames a
-    pub makes : (bytes : List ℕ) → Along on G C 1 (p.makes bytes) (q.makes bytes)
-    pub writes : (h at : ℕ) (bytes : List ℕ) → Along on G C 1 (p.writes h at bytes) (q.writes h at bytes)
-    pub finds : (h : ℕ) → Along on G C 1 (p.finds h) (q.finds h)
+    pub makes : (bytes : List ℕ) → CarriesAlong on G C 1 (p.makes bytes) (q.makes bytes)
+    pub writes : (h at : ℕ) (bytes : List ℕ) → CarriesAlong on G C 1 (p.writes h at bytes) (q.writes h at bytes)
+    pub finds : (h : ℕ) → CarriesAlong on G C 1 (p.finds h) (q.finds h)
     pub declines : (h at count : ℕ)
-        → Along on G C 1 (p.declines h at count) (q.declines h at count)
-    pub swaps : (h : ℕ) → Along on G C 16 (p.swaps h) (q.swaps h)
-    pub wins : Along on G C 24 p.wins q.wins
+        → CarriesAlong on G C 1 (p.declines h at count) (q.declines h at count)
+    pub swaps : (h : ℕ) → CarriesAlong on G C 16 (p.swaps h) (q.swaps h)
+    pub wins : CarriesAlong on G C 24 p.wins q.wins
 
 pub record LackAlong {D E : Type 0} (on : Holding D → Holding E) (G : Holding D → Type 0)
     (C : ℕ → Holding D → Holding D → Type 0 → Type 0) (l : PartLacks D) (k : PartLacks E) : Type 0
@@ -69,7 +69,7 @@ module _ {D E : Type 0} (on : Holding D → Holding E) (G : Holding D → Type 0
     (C : ℕ → Holding D → Holding D → Type 0 → Type 0) (laws : KeepsAlong G C) where
   abbrev Carries : {A : Type 0} → ℕ → (Holding D → A → Holding D → Type 0)
       → (Holding E → A → Holding E → Type 0) → Type 0
-  Carries n P Q = Along on G C n P Q
+  Carries n P Q = CarriesAlong on G C n P Q
 
   abbrev CarriesLack : ℕ → (Holding D → Holding D → Type 0) → (Holding E → Holding E → Type 0) → Type 0
   CarriesLack n L M = AlongLack on G C n L M

@@ -12,7 +12,7 @@ use Rattle.cb_world.specs.Plain.{Words}
 use Rattle.cb_world.specs.World.{word_at}
 use Rattle.cb_world.specs.StillWords.{stamp_at}
 use Rattle.cb_mutate.specs.StillReplies.{reply_as, next_reply, change_reply, free_as}
-use Rattle.cb_mutate.specs.Steps.{ReadChange, IsReadStep, with_seen, WriteChange, IsWriteStep, IsOverwritten, FreeChange, IsFreeStep, IsTakenOut}
+use Rattle.cb_mutate.specs.CallStep.{ReadChange, IsReadStep, with_seen, WriteChange, IsWriteStep, IsOverwritten, FreeChange, IsFreeStep, IsTakenOut}
 
 -- a reply that is by the state of the word: of an object that is not here, or of one that is
 by_state : (C : Reply → Type 0) (Z : Type 0) (q : State) (v : ℕ) (r here : Reply)

@@ -11,7 +11,7 @@ use Rattle.cb_types.specs.declared.reply.Reply.{Reply}
 use Rattle.cb_types.specs.declared.reply.Reply.TheVariants as answer
 use Rattle.cb_world.specs.Memory.{words_for}
 use Rattle.cb_world.specs.OpenSteps.{IsClaimOn, next_word, stored_once}
-use Rattle.cb_world.specs.OpenWrites.{left_of, touched}
+use Rattle.cb_world.specs.OpenWrites.{stores_left, touched}
 use Rattle.cb_world.specs.Seats.{OpenWriteState, IsClaimAt, claims_of_seat, with_claims}
 use Rattle.cb_world.specs.Shown.{object_at}
 use Rattle.cb_world.specs.StillDesk.{here_is}
@@ -41,7 +41,7 @@ touches_within at zero len fits k less = absurd (omega (arith, less))
 touches_within at (suc n) len fits k less = omega (arith, fits, less)
 
 -- the numbers of an open write are small
-pub record IsSmall (c : OpenWriteState) : Type 0 where
+pub record IsSmallWrite (c : OpenWriteState) : Type 0 where
   pub end : c.at + length c.bytes < 2 ^ 16
   pub few : c.stored ≤ touched c.at (length c.bytes) + 1
   pub stored : c.stored < 2 ^ 18
@@ -49,7 +49,7 @@ pub record IsSmall (c : OpenWriteState) : Type 0 where
   pub version : c.version < 2 ^ 64 - 1
 
 pub open_small : (w : WorldState) (seat at : ℕ) (c : OpenWriteState) → IsSoundWorld w
-    → IsClaimAt w.seats seat at c → IsSmall c
+    → IsClaimAt w.seats seat at c → IsSmallWrite c
 open_small w seat at c sound there =
     let o = sound.ongoing.each seat at c there in
     let inside = o.inside in let len = o.len in let few = o.few in
@@ -103,7 +103,8 @@ claim_is claims h at c x there =
 
 -- where two words or more are left, the next one lies in the memory
 pub store_within : (w : WorldState) (seat h at left : ℕ) (c : OpenWriteState) → IsSoundWorld w
-    → IsClaimOn (claims_of_seat w.seats seat) h at → IsClaimAt w.seats seat at c → left ≡ left_of c
+    → IsClaimOn (claims_of_seat w.seats seat) h at → IsClaimAt w.seats seat at c
+    → left ≡ stores_left c
     → 2 ≤ left → next_place w.desk h c < length w.desk.memory
 store_within w seat h at left c sound x there is two =
     subst (λ (k : ℕ). place_of (word_at w.desk k) + next_word c < length w.desk.memory)
@@ -111,7 +112,8 @@ store_within w seat h at left c sound x there is two =
     (next_within w seat at c sound there (omega (arith, is, two)))
 
 pub store_done : (w new : WorldState) (seat h at left : ℕ) (c : OpenWriteState)
-    → IsClaimOn (claims_of_seat w.seats seat) h at → IsClaimAt w.seats seat at c → left ≡ left_of c
+    → IsClaimOn (claims_of_seat w.seats seat) h at → IsClaimAt w.seats seat at c
+    → left ≡ stores_left c
     → 1 ≤ left → (2 ≤ left → IsWordStored h c w.desk new.desk)
     → (left ≡ 1 → IsVersionStored h c w.desk new.desk)
     → new.seats ≡ with_claims w.seats seat (slice_set (claims_of_seat w.seats seat) at (stored_once c))
@@ -134,7 +136,8 @@ store_done w new seat h at left c x there is some word version seats far = by (�
         (record { seats = seats; far = far })
 
 pub store_nothing : (w : WorldState) (seat h at left : ℕ) (c : OpenWriteState)
-    → IsClaimOn (claims_of_seat w.seats seat) h at → IsClaimAt w.seats seat at c → left ≡ left_of c
+    → IsClaimOn (claims_of_seat w.seats seat) h at → IsClaimAt w.seats seat at c
+    → left ≡ stores_left c
     → left ≡ 0 → StoreStep seat h w (answer.Stored left) w
 store_nothing w seat h at left c x there is none =
     let y : IsClaimOn (claims_of_seat w.seats seat) h at = record {
@@ -145,7 +148,8 @@ store_nothing w seat h at left c x there is none =
     nothing_left at y (sym is ∙ none) (ap answer.Stored none) refl
 
 pub settle_refused : (w : WorldState) (seat h at left : ℕ) (c : OpenWriteState)
-    → IsClaimOn (claims_of_seat w.seats seat) h at → IsClaimAt w.seats seat at c → left ≡ left_of c
+    → IsClaimOn (claims_of_seat w.seats seat) h at → IsClaimAt w.seats seat at c
+    → left ≡ stores_left c
     → 1 ≤ left → SettleStep seat h w (answer.NotStored left) w
 settle_refused w seat h at left c x there is some =
     let y : IsClaimOn (claims_of_seat w.seats seat) h at = record {
@@ -156,7 +160,8 @@ settle_refused w seat h at left c x there is some =
     not_stored at y (subst (λ (n : ℕ). 1 ≤ n) is some) (ap answer.NotStored is) refl
 
 pub settle_done : (w new : WorldState) (seat h at left version : ℕ) (c : OpenWriteState)
-    → IsClaimOn (claims_of_seat w.seats seat) h at → IsClaimAt w.seats seat at c → left ≡ left_of c
+    → IsClaimOn (claims_of_seat w.seats seat) h at → IsClaimAt w.seats seat at c
+    → left ≡ stores_left c
     → left ≡ 0 → version ≡ c.version → IsClaimSettled seat h at w new
     → SettleStep seat h w (answer.Version (version + 1)) new
 settle_done w new seat h at left version c x there is none same done =

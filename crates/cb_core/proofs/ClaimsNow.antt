@@ -16,7 +16,7 @@ use Rattle.cb_world.specs.Memory.{bytes_in, window, words_for}
 use Rattle.cb_world.specs.Now.{Now, now}
 use Rattle.cb_world.specs.Now.Now.{held}
 use Rattle.cb_world.specs.OpenSteps.{next_word, stored_once}
-use Rattle.cb_world.specs.OpenWrites.{IsOpen, left_of, touched}
+use Rattle.cb_world.specs.OpenWrites.{IsOpen, stores_left, touched}
 use Rattle.cb_world.specs.Pinned.{with_word}
 use Rattle.cb_world.specs.Plain.{Words}
 use Rattle.cb_world.specs.Seats.{SeatState, OpenWriteState, IsClaimAt, claims_of_seat, seat_at, with_claims}
@@ -180,7 +180,7 @@ all_written n old at bytes new all w = record {
 
 module _ (seat at v : ℕ) (c : OpenWriteState) (w new : WorldState) (before : IsSoundWorld w)
     (after : IsSoundWorld new) (lt : seat < 64) (there : IsClaimAt w.seats seat at c)
-    (done : left_of c ≡ 0) (settles : Settles (word_at w.desk c.handle)
+    (done : stores_left c ≡ 0) (settles : Settles (word_at w.desk c.handle)
     (place_of (word_at w.desk c.handle)) true v) (changed : new.desk ≡ with_word w.desk c.handle v)
     (seats : new.seats ≡ with_claims w.seats seat (remove (claims_of_seat w.seats seat) at))
     (far : new.far ≡ w.far) where
@@ -204,7 +204,7 @@ module _ (seat at v : ℕ) (c : OpenWriteState) (w new : WorldState) (before : I
 
   stamp : stamp_at new.desk c.handle ≡ c.version + 1
   stamp = ap (λ (y : Words). stamp_at y c.handle) changed ∙ o.stamp
-      ∙ is_zero (left_of c) (c.version + 1) c.version done
+      ∙ is_zero (stores_left c) (c.version + 1) c.version done
 
   contents : contents_at new.desk c.handle ≡ contents_at x c.handle
   contents = λ i. window (ap (λ (y : Words). y.memory) changed i)

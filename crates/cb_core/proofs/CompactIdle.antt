@@ -6,8 +6,8 @@ use Rattle.cb_types.specs.declared.handle.SetId.{SetId}
 use Rattle.cb_world.specs.FarState.{FarState}
 use Rattle.cb_world.specs.Joining.{JoiningState}
 use Rattle.cb_compact.specs.MergeStep.{MergeStep}
-use Rattle.cb_compact.specs.NowStep.{Ends, NowStep}
-use Rattle.cb_compact.specs.Standing.{PartStep}
+use Rattle.cb_compact.specs.CompactStep.{CompactStep, PairEnds}
+use Rattle.cb_compact.specs.PartStep.{PartStep}
 use Rattle.cb_compact.proofs.Laws.{now_laws}
 use Rattle.cb_core.proofs.RowsHeld.{IsIdle}
 
@@ -40,14 +40,14 @@ merge_ends far new set moved (inr (inr on)) = elim on.merges [
   | inr merged ↦ ap (λ (f : FarState). f.joining) merged.state
 ]
 
-ends_none : (far new : FarState) (r : Reply) → Ends far new r → new.joining ≡ None
+ends_none : (far new : FarState) (r : Reply) → PairEnds far new r → new.joining ≡ None
 ends_none far new r (inl full) = part_ends far new full.parted
 ends_none far new r (inr merged) = merge_ends far new merged.set merged.moved merged.merged
 
-pub now_idle : (far new : FarState) (r : Reply) → NowStep far new r → IsIdle far → IsIdle new
+pub now_idle : (far new : FarState) (r : Reply) → CompactStep far new r → IsIdle far → IsIdle new
 now_idle far new r step idle = ((now_laws.leaves far new r step).leaving ∙ idle.0, by step)
   where
-    by : NowStep far new r → new.joining ≡ None
+    by : CompactStep far new r → new.joining ≡ None
     by (inl pair) = absurd (is_joining far pair.pair idle.1 pair.there)
     by (inr (inl none)) = ap (λ (f : FarState). f.joining) none.state ∙ idle.1
     by (inr (inr through)) = ends_none through.stepped new r through.ends

@@ -31,19 +31,19 @@ use Rattle.cb_core.specs.Parts.CallStops.{far as far_lacks, after as come_lacks}
 use Rattle.cb_core.specs.Parts.WhereItIs.{declined, stays_far, brought}
 use Rattle.cb_core.specs.Parts.WithRoom.{no_room, won}
 use Rattle.cb_core.specs.Parts.RoomStops.{at_once, evicting, after}
-use Rattle.cb_core.specs.Turned.{Brings, BringLacks, EvictLacks, Finds, IsGiven, WinsRoom, MakeLacks, Makes, Operates, SwapLacks}
+use Rattle.cb_core.specs.Turned.{Brings, BringLacks, EvictLacks, FindsWhere, IsGiven, WinsRoom, MakeLacks, Makes, Operates, SwapLacks}
 use Rattle.cb_core.proofs.PartsFar.{HasWon, has_won, live_home, make_crammed, swap_crammed}
 
 -- ---- what a part leaves known
 -- a sound world that the desk shows
-abbrev pub IsShown : (Shown → Type 0) → FarState → Type 0
-IsShown shows far = (s : Shown) × shows s × Sound s far
+abbrev pub IsSoundShown : (Shown → Type 0) → FarState → Type 0
+IsSoundShown shows far = (s : Shown) × shows s × Sound s far
 
 pub shown_after : (runs : List Event → Type 0) (shows then_shows : Shown → Type 0) (far new : FarState)
     (rules : List Event → Type 0) (does : List Event → Shown → Shown → Type 0)
     → Performs runs (λ s. shows s × Sound s far) rules (λ t. Sound t new) does
     → ((es : List Event) (s : Shown) → runs es → shows s → then_shows (played es s))
-    → IsShown shows far → IsShown then_shows new
+    → IsSoundShown shows far → IsSoundShown then_shows new
 shown_after runs shows then_shows far new rules does p follows k =
     (played p.events k.0, follows p.events k.0 p.ran k.1, p.sound_after k.0 (k.1, k.2))
 
@@ -81,9 +81,9 @@ pub shown_if : (runs : List Event → Type 0) (shows then_shows : Shown → Type
     (result : Result Reply NoMemory)
     → IfOk result (λ r. Performs runs (λ s. shows s × Sound s far) (rules r) (λ t. Sound t new) (does r))
     → ((es : List Event) (s : Shown) → runs es → shows s → then_shows (played es s))
-    → IsShown shows far → IfOk result (λ r. IsShown then_shows new)
+    → IsSoundShown shows far → IfOk result (λ r. IsSoundShown then_shows new)
 shown_if runs shows then_shows far new rules does result x follows k =
-    if_map (λ r. IsShown then_shows new)
+    if_map (λ r. IsSoundShown then_shows new)
     (λ r. Performs runs (λ s. shows s × Sound s far) (rules r) (λ t. Sound t new) (does r)) result x
     (λ r p. shown_after runs shows then_shows far new (rules r) (does r) p follows k)
 
@@ -106,7 +106,7 @@ wins_as run shows c d a b e f same is x =
 -- an eviction that made a set, in the far state that the operation left as it was
 pub won_between : {D : Type 0} (run : D → List Event → D → Type 0) (shows : D → Shown → Type 0)
     (c d : Config) (far : FarState) (m n : Holding D) (e : Eviction) (id : SetId) → d ≡ c
-    → IsAccepted c → IsConfigured c far → m.far ≡ far → IsShown (λ s. shows m.desk s) m.far
+    → IsAccepted c → IsConfigured c far → m.far ≡ far → IsSoundShown (λ s. shows m.desk s) m.far
     → e ≡ Set id → WinsRoom run shows d m e n → HasWon c far n.far
 won_between run shows c d far m n e id same accepted configured left k is x =
     let y = wins_as run shows c d m n e (Set id) same is x in
@@ -189,7 +189,7 @@ is_given s far new h home sound at x =
 -- a swap-in that lacks memory, from a sound world
 module _ {D : Type 0} (run : D → List Event → D → Type 0) (shows : D → Shown → Type 0) (h : ℕ)
     (home : Home) (a b : Holding D) (nothing : (x : D) → run x [] x)
-    (k : IsShown (λ s. shows a.desk s) a.far) (at : home_at a.far.homes h ≡ Some home) where
+    (k : IsSoundShown (λ s. shows a.desk s) a.far) (at : home_at a.far.homes h ≡ Some home) where
   swap_lacks : b.desk ≡ a.desk → ((set : SetState) → set_in a.far.sets home.set ≡ Some set → (n : ℕ)
       × (n ≤ length set.positions) × (b.far ≡ far_given a.far n)) → SwapLacks run h a b
   swap_lacks desk far = (
@@ -234,7 +234,7 @@ module _ {D : Type 0} (run : D → List Event → D → Type 0) (shows : D → S
 
   pub swap_lacks_again : (n b : Holding D) (d : Config) (p : Eviction) (id : SetId)
       (result : Result Reply NoMemory) → q ≡ answer.NoFrame → d ≡ c → WinsRoom run shows d m p n
-      → p ≡ Set id → ((x : D) → run x [] x) → IsShown (λ s. shows n.desk s) n.far
+      → p ≡ Set id → ((x : D) → run x [] x) → IsSoundShown (λ s. shows n.desk s) n.far
       → HasWon c a.far n.far → OnErr result (b.desk ≡ n.desk)
       → OnErr result ((set : SetState) → set_in n.far.sets home.set ≡ Some set → (i : ℕ)
       × (i ≤ length set.positions) × (b.far ≡ far_given n.far i))
@@ -331,8 +331,9 @@ comes_in call bringing a m b q result called away x = if_map (λ r. BringsIn cal
     (λ r y. was_far m (subst (λ (p : Reply). call a p m) away called) y)
 
 pub finds_as : {D : Type 0} (run : D → List Event → D → Type 0) (shows : D → Shown → Type 0) (h : ℕ)
-    (a b : Holding D) (q r : Reply) → q ≡ r → Finds run shows h a q b → Finds run shows h a r b
-finds_as run shows h a b q r is x = subst (λ (p : Reply). Finds run shows h a p b) is x
+    (a b : Holding D) (q r : Reply) → q ≡ r → FindsWhere run shows h a q b
+    → FindsWhere run shows h a r b
+finds_as run shows h a b q r is x = subst (λ (p : Reply). FindsWhere run shows h a p b) is x
 
 pub brings_as_if : {D : Type 0} (run : D → List Event → D → Type 0) (shows : D → Shown → Type 0)
     (c d : Config) (h : ℕ) (a b : Holding D) (result : Result Reply NoMemory) → d ≡ c

@@ -4,7 +4,7 @@ use Rattle.std.proofs.Common.{◌≡◌, ◌⊎◌, ℕ, ◌+◌, ◌<◌, ◌�
 use Rattle.std.proofs.lemmas.Bool.{cases_eq, cases_lt}
 use Rattle.std.proofs.lemmas.List.{get_or-replicate, get_or_past, length-replicate}
 use Rattle.cb_member.specs.declared.names.NodeId.{NodeId}
-use Rattle.cb_member.specs.Membership.{Membership, NodeState, fresh_members, fresh_node, state_of, with_crash, with_join}
+use Rattle.cb_member.specs.Membership.{Membership, NodeState, fresh_members, fresh_node, node_state, with_crash, with_join}
 use Rattle.cb_types.specs.declared.job.Job.{Job}
 use Rattle.cb_types.specs.declared.job.Job.TheVariants.{Crash, Join}
 use Rattle.cb_types.specs.declared.reply.Reply.{Reply}
@@ -12,7 +12,7 @@ use Rattle.cb_world.specs.World.{WorldState}
 use Rattle.cb_core.specs.Step.{TurnStep}
 use Rattle.cb_core.proofs.Epochs.{turn_stands}
 use Rattle.cb_core.proofs.FewLost.{CrashedAmong}
-use Rattle.cb_core.proofs.NodesStay.{IsWhole, MembersAfter}
+use Rattle.cb_core.proofs.NodesStay.{IsWholeJob, MembersAfter}
 use Rattle.cb_core.proofs.RowsHeld.{IsIdle}
 
 -- a node that the job crashes is one of these
@@ -24,7 +24,7 @@ NamesAmong nodes job = Unit {0}
 pub none_crashed : (nodes : List ℕ) (count : ℕ) → CrashedAmong nodes (fresh_members count)
 none_crashed nodes count node some = absurd (by (cases_lt node.n count))
   where
-    is_fresh : length (state_of (fresh_members count) node).crashes ≡ 0 → ⊥
+    is_fresh : length (node_state (fresh_members count) node).crashes ≡ 0 → ⊥
     is_fresh e = omega (arith, some, e)
 
     by : (node.n < count) ⊎ (count ≤ node.n) → ⊥
@@ -47,8 +47,8 @@ crash_among nodes m node named among other some = elim (cases_eq other.n node.n)
 abbrev back_up : Membership → NodeId → NodeState
 back_up m node = record {
   up = true;
-  incarnation = (state_of m node).incarnation + 1;
-  crashes = (state_of m node).crashes;
+  incarnation = (node_state m node).incarnation + 1;
+  crashes = (node_state m node).crashes;
 }
 
 join_among : (nodes : List ℕ) (m : Membership) (node : NodeId) → CrashedAmong nodes m
@@ -91,6 +91,6 @@ pub turn_crashed : (nodes : List ℕ) (w new : WorldState) (job : Job) (r : Repl
 turn_crashed nodes w new job r named step among = members_among nodes job w.far.members
     new.far.members named (turn_stands w new job r step).members among
 
-pub turn_idle : (w new : WorldState) (job : Job) (r : Reply) → IsWhole job → TurnStep job w r new
+pub turn_idle : (w new : WorldState) (job : Job) (r : Reply) → IsWholeJob job → TurnStep job w r new
     → IsIdle w.far → IsIdle new.far
 turn_idle w new job r whole step idle = (turn_stands w new job r step).idle whole idle

@@ -22,8 +22,8 @@ use Rattle.cb_world.proofs.Laws.{look_allowed, look_first, look_found, look_soun
 use Rattle.cb_mutate.specs.Answered.{AnsweredAs, EmptyAnswer}
 use Rattle.cb_mutate.specs.WriteRule.{WriteEffect, WriteRule}
 use Rattle.cb_core.specs.Declining.{write_refusal}
-use Rattle.cb_core.specs.Turned.{Declines, Finds}
-use Rattle.cb_core.proofs.FarLooks.{IsAway, found_away}
+use Rattle.cb_core.specs.Turned.{Declines, FindsWhere}
+use Rattle.cb_core.proofs.FarLooks.{IsFarNow, found_away}
 
 -- ---- why a write is declined
 pub past_end : (w version at count len : ℕ) → len ≡ len_of w → len < at + count
@@ -55,7 +55,7 @@ may_go_on w version at count len is fits next =
 
 -- ---- the word of a far object
 -- an object that is known to be far has the word of one
-pub far_word : (shows : Shown → Type 0) (h w : ℕ) → ((s : Shown) × shows s × IsAway s h)
+pub far_word : (shows : Shown → Type 0) (h w : ℕ) → ((s : Shown) × shows s × IsFarNow s h)
     → ((s : Shown) → shows s → Agree s (Looked h w ∷ [])) → state_of w ≡ state.Far
 far_word shows h w (s, shown, away) agree =
     found_away (Looked h w ∷ []) s h w away (agree s shown) tt (inr ((refl, refl), tt))
@@ -66,8 +66,8 @@ pub away_after : (runs : List Event → Type 0) (shows then_shows : Shown → Ty
     → Performs runs (λ s. shows s × Sound s far) (WriteRule h at bytes r) (λ t. Sound t new)
     (WriteEffect h at bytes r) → r ≡ answer.NotHere
     → ((es : List Event) (s : Shown) → runs es → shows s → then_shows (played es s))
-    → ((s : Shown) × shows s × Sound s far) → ((s : Shown) → shows s → IsAway s h)
-    → (s : Shown) × then_shows s × IsAway s h
+    → ((s : Shown) × shows s × Sound s far) → ((s : Shown) → shows s → IsFarNow s h)
+    → (s : Shown) × then_shows s × IsFarNow s h
 away_after runs shows then_shows far new h at bytes r p is follows (s, shown, sound) away =
     let t = played p.events s in
     let still : IsStill p.events s t =
@@ -124,7 +124,7 @@ module _ {D : Type 0} (run : D → List Event → D → Type 0) (shows : D → S
   pub finds_by : (es : List Event) (w : ℕ) (r : Reply) → run x (Looked h w ∷ es) y → AreReads h es
       → Touches h (place_of w) (len_of w) es
       → AnsweredAs (state_of w) (λ v. r ≡ answer.Stays) w h (Looked h w ∷ es) r
-      → Finds run shows h (record { desk = x; far = far }) r (record { desk = y; far = far })
+      → FindsWhere run shows h (record { desk = x; far = far }) r (record { desk = y; far = far })
   finds_by es w r ran reads touches is = record {
     events = Looked h w ∷ es;
     ran = ran;

@@ -19,7 +19,7 @@ use Rattle.cb_core.specs.Turned.{counted}
 use Rattle.cb_core.proofs.HoldingFixed.{take_leaves, give_leaves}
 use Rattle.cb_core.proofs.OpenFrame.{claim_leaves, store_leaves, settle_leaves}
 use Rattle.cb_core.proofs.FarJobs.{far_job}
-use Rattle.cb_core.proofs.NodesStay.{MembersAfter, Stands, stands_same}
+use Rattle.cb_core.proofs.NodesStay.{MembersAfter, MembersStand, stands_same}
 use Rattle.cb_core.proofs.PartsStay.{Steady, works_left}
 
 -- the members that stay are those behind a job
@@ -29,7 +29,7 @@ stay (Join node) old new e = inl e
 stay job old new e = e
 
 works_stand : (job : Job) (a b : Holding Words) (r : Reply) → StillWorks job a r b
-    → Stands job a.far b.far
+    → MembersStand job a.far b.far
 works_stand job a b r step = elim (works_left job a b r step) [
   | inl e ↦ stands_same job (stay job) a.far b.far (λ i. ((e i).0.1, (e i).1, (e i).2))
   | inr (inl e) ↦ record {
@@ -41,8 +41,9 @@ works_stand job a b r step = elim (works_left job a b r step) [
 
 -- where 2^40 turns were counted all stays
 pub turn_stands : (w new : WorldState) (job : Job) (r : Reply) → TurnStep job w r new
-    → Stands job w.far new.far
-turn_stands w new job r (worn end reply same) = subst (λ (v : WorldState). Stands job w.far v.far)
+    → MembersStand job w.far new.far
+turn_stands w new job r (worn end reply same) =
+    subst (λ (v : WorldState). MembersStand job w.far v.far)
     (sym same) (record { members = stay job w.far.members w.far.members refl; idle = λ whole idle. idle })
 turn_stands w new job r (done few works seats) =
     let z = works_stand job (record { desk = w.desk; far = counted w.far job })
@@ -51,17 +52,17 @@ turn_stands w new job r (done few works seats) =
 
 -- ---- the epoch
 -- the epoch did not fall
-abbrev Rises : FarState → FarState → Type 0
-Rises far new = far.members.epoch ≤ new.members.epoch
+abbrev EpochRises : FarState → FarState → Type 0
+EpochRises far new = far.members.epoch ≤ new.members.epoch
 
-rises_by : (far new : FarState) → new.members ≡ far.members → Rises far new
+rises_by : (far new : FarState) → new.members ≡ far.members → EpochRises far new
 rises_by far new same = let e = ap (λ (m : Membership). m.epoch) same in omega (arith, e)
 
-rises_one : (far new : FarState) → new.members.epoch ≡ far.members.epoch + 1 → Rises far new
+rises_one : (far new : FarState) → new.members.epoch ≡ far.members.epoch + 1 → EpochRises far new
 rises_one far new e = omega (arith, e)
 
 stands_rise : (job : Job) (far new : FarState) → MembersAfter job far.members new.members
-    → Rises far new
+    → EpochRises far new
 stands_rise (Crash node) far new (inl same) = rises_by far new same
 stands_rise (Crash node) far new (inr next) =
     rises_one far new (ap (λ (m : Membership). m.epoch) next)
@@ -72,7 +73,7 @@ stands_rise job far new same = rises_by far new same
 
 -- ---- events
 turn_rises : (w new : WorldState) (job : Job) (r : Reply) → TurnStep job w r new
-    → Rises w.far new.far
+    → EpochRises w.far new.far
 turn_rises w new job r step = stands_rise job w.far new.far (turn_stands w new job r step).members
 
 pub pin_far : (w new : WorldState) (seat h : ℕ) (r : Reply) → PinStep seat h w r new
@@ -86,7 +87,7 @@ pub unpin_far : (w new : WorldState) (seat h : ℕ) (r : Reply) → UnpinStep se
 unpin_far w new seat h r (not_pinned none reply same) = ap (λ (v : WorldState). v.far) same
 unpin_far w new seat h r (given reply t) = t.far
 
-same_rises : (w new : WorldState) → new.far ≡ w.far → Rises w.far new.far
+same_rises : (w new : WorldState) → new.far ≡ w.far → EpochRises w.far new.far
 same_rises w new e = rises_by w.far new.far (ap (λ (f : FarState). f.members) e)
 
 pub step_rises : (w new : WorldState) (e : Event) (r : Reply) → Step w e r new

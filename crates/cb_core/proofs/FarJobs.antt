@@ -22,7 +22,7 @@ use Rattle.cb_rebuild.proofs.Laws.{failed_stays, keeps_first, keeps_step, rebuil
 use Rattle.cb_core.specs.FarJobs.{FarLacks, FarStep, IsWeakGiven}
 use Rattle.cb_core.specs.Jobs.{IsJob}
 use Rattle.cb_core.proofs.CompactIdle.{now_idle}
-use Rattle.cb_core.proofs.NodesStay.{IsWhole, MakesNone, MembersAfter, Stands, crash_fixed, crash_line, crash_none, crash_sound, crash_stands, crash_stays, join_fixed, join_line, join_none, join_now, join_sound, join_stands, join_stays, member_of, standing, stands_same}
+use Rattle.cb_core.proofs.NodesStay.{IsWholeJob, MakesNone, MembersAfter, MembersStand, crash_fixed, crash_line, crash_none, crash_sound, crash_stands, crash_stays, join_fixed, join_line, join_none, join_now, join_sound, join_stands, join_stays, member_of, standing, stands_same}
 use Rattle.cb_core.proofs.RowsHeld.{IsIdle}
 
 -- the replies of the job are those of its line
@@ -38,9 +38,9 @@ AnswersLine (Join node) r = IsReplyOf (line.Join node) r
 AnswersLine job r = ⊥
 
 -- what every object holds stays, but for a crash
-abbrev pub Holds : Job → Type 0
-Holds (Crash node) = ⊥
-Holds job = Unit {0}
+abbrev pub KeepsContents : Job → Type 0
+KeepsContents (Crash node) = ⊥
+KeepsContents job = Unit {0}
 
 -- what a job does to what is noted of a search for a pair: one that looks keeps it as it should be,
 -- and any other notes nothing
@@ -59,11 +59,12 @@ pub record StaysSound (N : FarState → FarState → Type 0) (c : Config) (s : S
 -- what is owed
 pub record IsFarJob (job : Job) : Type 0 where
   pub none : (far new : FarState) (r : Reply) → FarStep job far new r → MakesNone far new
-  pub stands : (far new : FarState) (r : Reply) → FarStep job far new r → Stands job far new
+  pub stands : (far new : FarState) (r : Reply) → FarStep job far new r → MembersStand job far new
   pub answers : (far new : FarState) (r : Reply) → FarStep job far new r → AnswersLine job r
   pub keeps : (c : Config) (s : Shown) (far new : FarState) (r : Reply) → IsJob c job
       → IsConfigured c far → Sound s far → FarStep job far new r → StaysSound (note_of job) c s far new
-  pub now : Holds job → (c : Config) (s : Shown) (far new : FarState) (r : Reply) → IsJob c job
+  pub now : KeepsContents job → (c : Config) (s : Shown) (far new : FarState) (r : Reply)
+      → IsJob c job
       → IsConfigured c far → Sound s far → FarStep job far new r → (h : ℕ) → now s new h ≡ now s far h
   pub fixes : (s : Shown) (far new other : FarState) (r q : Reply) → Sound s far
       → FarStep job far new r → FarStep job far other q → (r ≡ q) × (new ≡ other)
@@ -99,7 +100,7 @@ same_looks = same_by KeepsHolding (λ far holds. holds)
 by_laws : (job : Job) (most : ℕ) (asked : Request) → most ≤ 64
     → AreFarLaws (note_of job) most asked (FarStep job)
     → ((old new : Membership) → new ≡ old → MembersAfter job old new)
-    → (IsWhole job → (far new : FarState) (r : Reply) → FarStep job far new r → IsIdle far
+    → (IsWholeJob job → (far new : FarState) (r : Reply) → FarStep job far new r → IsIdle far
     → IsIdle new)
     → ((r : Reply) → IsReplyOf asked r → AnswersLine job r)
     → ((c : Config) (s : Shown) (far new : FarState) → IsConfigured c far → Sound s far

@@ -14,8 +14,8 @@ use Rattle.cb_world.specs.Played.{Agree, after, settled_by}
 use Rattle.cb_world.specs.Shown.{Fits, never, object_at, version_at}
 
 -- what is known of an object: it is far
-abbrev pub IsAway : Shown → ℕ → Type 0
-IsAway s h = (len v : ℕ) × (words : List ℕ) × (object_at s h ≡ is.Far len v words)
+abbrev pub IsFarNow : Shown → ℕ → Type 0
+IsFarNow s h = (len v : ℕ) × (words : List ℕ) × (object_at s h ≡ is.Far len v words)
 
 not_seen : (h w : ℕ) (es : List Event) → NoLook h es → IsFound h w es → ⊥
 not_seen h w [] none found = found
@@ -26,7 +26,7 @@ far_state : (len v w : ℕ) (words : List ℕ) → Fits (is.Far len v words) w �
 far_state len v w words fit = (far_word_is (len_of w) w (len_of-below w) fit.0).state
 
 -- an object that is far is no other
-not_here : (s : Shown) (h k len place : ℕ) → IsAway s h → object_at s k ≡ is.Here len place → k ≡ h → ⊥
+not_here : (s : Shown) (h k len place : ℕ) → IsFarNow s h → object_at s k ≡ is.Here len place → k ≡ h → ⊥
 not_here s h k len place (l, v, words, o) here e =
     far_here (sym o ∙ ap (object_at s) (sym e) ∙ here)
   where
@@ -34,8 +34,8 @@ not_here s h k len place (l, v, words, o) here e =
     far_here f = cc
 
 -- another object changes
-another : (s : Shown) (h k : ℕ) (o : Object) → (k ≡ h → ⊥) → IsAway s h
-    → (t : Shown) → t.objects ≡ set s.objects k o → IsAway t h
+another : (s : Shown) (h k : ℕ) (o : Object) → (k ≡ h → ⊥) → IsFarNow s h
+    → (t : Shown) → t.objects ≡ set s.objects k o → IsFarNow t h
 another s h k o off (l, v, words, away) t same = (
   l,
   v,
@@ -45,8 +45,8 @@ another s h k o off (l, v, words, away) t same = (
 )
 
 -- an object that is settled is looked at no more
-apart : (s : Shown) (h w k u : ℕ) (es : List Event) → IsAway s h → NoLook k es → IsFound h w es
-    → (IsAway (after (Settled k u) s) h → state_of w ≡ state.Far) → state_of w ≡ state.Far
+apart : (s : Shown) (h w k u : ℕ) (es : List Event) → IsFarNow s h → NoLook k es → IsFound h w es
+    → (IsFarNow (after (Settled k u) s) h → state_of w ≡ state.Far) → state_of w ≡ state.Far
 apart s h w k u es away none found then = by (ℕ_discrete k h)
   where
     by : Dec (k ≡ h) → state_of w ≡ state.Far
@@ -55,7 +55,7 @@ apart s h w k u es away none found then = by (ℕ_discrete k h)
         (settled_by (state_of u) u (version_at s k) (object_at s k)) off away
         (after (Settled k u) s) refl)
 
-pub found_away : (es : List Event) (s : Shown) (h w : ℕ) → IsAway s h → Agree s es → LooksFirst es
+pub found_away : (es : List Event) (s : Shown) (h w : ℕ) → IsFarNow s h → Agree s es → LooksFirst es
     → IsFound h w es → state_of w ≡ state.Far
 found_away [] s h w away agree first found = absurd found
 found_away (Looked k u ∷ es) s h w away agree first (inl found) =

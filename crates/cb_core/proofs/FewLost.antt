@@ -13,7 +13,7 @@ use Rattle.cb_member.specs.declared.names.Epoch.{Epoch}
 use Rattle.cb_member.specs.declared.names.Loss.{Loss}
 use Rattle.cb_member.specs.declared.names.NodeId.{NodeId}
 use Rattle.cb_member.specs.declared.names.Shard.{Shard}
-use Rattle.cb_member.specs.Membership.{Membership, crashed_at, state_of}
+use Rattle.cb_member.specs.Membership.{Membership, crashed_at, node_state}
 use Rattle.cb_set.specs.Lost.{is_lost, loss_of, lost}
 use Rattle.cb_set.specs.Nodes.{OnDistinctNodes}
 use Rattle.cb_set.specs.SetState.{SetState, parities}
@@ -31,7 +31,7 @@ use Rattle.cb_world.specs.Sound.{Sound}
 -- each node that ever crashed is one of these
 abbrev pub CrashedAmong : List ℕ → Membership → Type 0
 CrashedAmong nodes m =
-    (node : NodeId) → 1 ≤ length (state_of m node).crashes → Contains nodes node.n
+    (node : NodeId) → 1 ≤ length (node_state m node).crashes → Contains nodes node.n
 
 -- ---- a lost shard's node has crashed
 some_within : {X : Type 0} (xs : List X) (i : ℕ) → is_some (slice_get xs i) ≡ true → 1 ≤ length xs
@@ -46,9 +46,9 @@ loss_at : Shard → Epoch → Loss
 loss_at shard epoch = record { node = shard.node; epoch = epoch }
 
 lost_crashed : (m : Membership) (shard : Shard) → is_lost m shard ≡ true
-    → 1 ≤ length (state_of m shard.node).crashes
+    → 1 ≤ length (node_state m shard.node).crashes
 unfolding loss_at
-lost_crashed m shard e = some_within (state_of m shard.node).crashes shard.incarnation
+lost_crashed m shard e = some_within (node_state m shard.node).crashes shard.incarnation
     (sym (mapped_some (loss_at shard) (crashed_at m shard.node shard.incarnation)) ∙ e)
 
 -- ---- as many losses as shards that are lost

@@ -36,25 +36,25 @@ module _ (seat : ℕ) (w a b : WorldState) (r q : Reply) (one : AtMostOneHolds w
 
 -- ---- what stays
 
-pub record LeavesAll (w new : WorldState) : Type 0 where
+pub record LeavesWorld (w new : WorldState) : Type 0 where
   pub desk : new.desk ≡ w.desk
   pub far : new.far ≡ w.far
 
-pub leaves_same : (w new : WorldState) → new ≡ w → LeavesAll w new
+pub leaves_same : (w new : WorldState) → new ≡ w → LeavesWorld w new
 leaves_same w new same = record {
   desk = ap (λ (v : WorldState). v.desk) same;
   far = ap (λ (v : WorldState). v.far) same;
 }
 
 module _ (w new : WorldState) (seat : ℕ) (r : Reply) where
-  pub take_leaves : TakeStep seat w r new → LeavesAll w new
+  pub take_leaves : TakeStep seat w r new → LeavesWorld w new
   take_leaves (held k x e same) = leaves_same w new same
   take_leaves (taken none e same) = record {
     desk = ap (λ (v : WorldState). v.desk) same;
     far = ap (λ (v : WorldState). v.far) same;
   }
 
-  pub give_leaves : GiveStep seat w r new → LeavesAll w new
+  pub give_leaves : GiveStep seat w r new → LeavesWorld w new
   give_leaves (not_held none e same) = leaves_same w new same
   give_leaves (given x e same) = record {
     desk = ap (λ (v : WorldState). v.desk) same;

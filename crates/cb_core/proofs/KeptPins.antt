@@ -14,7 +14,7 @@ use Rattle.cb_world.specs.World.{ArePinned, word_at}
 use Rattle.cb_world.proofs.Laws.{pinned_still}
 use Rattle.cb_mutate.specs.MakeRule.{new_word}
 use Rattle.cb_mutate.specs.MakeStep.{with_new}
-use Rattle.cb_mutate.specs.Steps.{with_seen, with_contents, with_freed}
+use Rattle.cb_mutate.specs.CallStep.{with_seen, with_contents, with_freed}
 use Rattle.cb_mutate.proofs.Laws.{hot_fields}
 use Rattle.cb_core.proofs.Changes.{MayGo}
 

@@ -5,7 +5,7 @@ pub use Rattle.cb_core.proofs.Changes.{read_leaves}
 pub use Rattle.cb_core.proofs.CrashesKept.{NamesAmong, none_crashed, turn_crashed, turn_idle}
 pub use Rattle.cb_core.proofs.Epochs.{lead_rises, pin_far, step_rises, unpin_far}
 pub use Rattle.cb_core.proofs.FewLost.{CrashedAmong, never_broken, never_gone}
-pub use Rattle.cb_core.proofs.NodesStay.{IsWhole}
+pub use Rattle.cb_core.proofs.NodesStay.{IsWholeJob}
 pub use Rattle.cb_core.proofs.NowIn.{are_gone}
 pub use Rattle.cb_core.proofs.PinsKept.{pin_step_sound, unpin_step_sound}
 pub use Rattle.cb_core.proofs.RoomyNodes.{enough_beside, enough_roomy}
@@ -13,7 +13,7 @@ pub use Rattle.cb_core.proofs.RowsHeld.{IsIdle, JoinsApart}
 pub use Rattle.cb_core.proofs.RunEvents.{kept_beside, lost_beside}
 pub use Rattle.cb_core.proofs.Settings.{step_settings, turn_settings}
 pub use Rattle.cb_core.proofs.StepFixed.{newest_fixed, pin_fixed, step_fixes, unpin_fixed}
-pub use Rattle.cb_core.proofs.TurnCalls.{IsQuiet, abort_turn, begin_turn, commit_turn, compact_turn, crash_turn, evict_turn, filter_turn, free_turn, is_done, join_turn, make_turn, merge_turn, pair_turn, part_turn, patch_turn, read_turn, rebuild_turn, ship_turn, swap_turn, turn_first, turn_turns, write_turn}
+pub use Rattle.cb_core.proofs.TurnCalls.{IsQuietJob, abort_turn, begin_turn, commit_turn, compact_turn, crash_turn, evict_turn, filter_turn, free_turn, is_done, join_turn, make_turn, merge_turn, pair_turn, part_turn, patch_turn, read_turn, rebuild_turn, ship_turn, swap_turn, turn_first, turn_turns, write_turn}
 pub use Rattle.cb_core.proofs.TurnCallsKept.{known_same, once_known}
 pub use Rattle.cb_core.proofs.TurnCallsMap.{IsSameMap, counted_map}
 pub use Rattle.cb_core.proofs.TurnCallsPinned.{IsPinCount, free_counts, write_counts}

@@ -25,7 +25,7 @@ use Rattle.cb_evict.specs.CommitRule.{CommitRule, HasShort, HasCommitted}
 use Rattle.cb_evict.specs.EvictRule.{EvictRule, HasBoth, HasFewNodes, HasFewSpans}
 use Rattle.cb_evict.specs.ShipRule.{ShipRule}
 use Rattle.cb_evict.specs.declared.eviction.Eviction.{Eviction}
-use Rattle.cb_filter.specs.FilterRule.{EmptyAnswer as EmptyFilter, FilterAs, FilterHere, FilterRule}
+use Rattle.cb_filter.specs.FilterRule.{EmptyToFilter, FilterAs, FilterHere, FilterRule}
 use Rattle.cb_core.specs.Parts.{Holding, WithRoom, at_once, no_room, won, WhereItIs, near, declined, stays_far, brought, BringsIn, not_far, was_far}
 use Rattle.cb_core.specs.OnceHere.{OnceHere, away, here as once_in}
 use Rattle.cb_core.specs.Turned.{ComesIn, Does, IsDeclined, Reads}
@@ -38,30 +38,31 @@ says_lack (answer.Unavailable id lost) = true
 says_lack r = false
 
 -- the reply is neither
-abbrev pub Plain : Reply → Type 0
-Plain r = says_lack r ≡ false
+abbrev pub SaysNoLack : Reply → Type 0
+SaysNoLack r = says_lack r ≡ false
 
 -- the reply is not that there is no frame
 abbrev pub Never : Reply → Type 0
 Never r = r ≡ answer.NoFrame → ⊥
 
-off : (r q : Reply) → says_lack q ≡ false → r ≡ q → Plain r
+off : (r q : Reply) → says_lack q ≡ false → r ≡ q → SaysNoLack r
 off r q other is = ap says_lack is ∙ other
 
-pub stays_plain : (r : Reply) → r ≡ answer.Stays → Plain r
+pub stays_plain : (r : Reply) → r ≡ answer.Stays → SaysNoLack r
 stays_plain r is = off r answer.Stays refl is
 
-never : (r : Reply) → Plain r → Never r
+never : (r : Reply) → SaysNoLack r → Never r
 never r plain e = false≢true (sym plain ∙ ap says_lack e)
 
-pub whole : (r : Reply) → Plain r → (id : SetId) (l : List Loss) → r ≡ answer.Unavailable id l → ⊥
+pub whole : (r : Reply) → SaysNoLack r → (id : SetId) (l : List Loss) → r ≡ answer.Unavailable id l
+    → ⊥
 whole r plain id l e = false≢true (sym plain ∙ ap says_lack e)
 
 -- ---- calls on objects
-absent : (q : State) (h : ℕ) (es : List Event) (r : Reply) → AbsentAs q h es r → Plain r
+absent : (q : State) (h : ℕ) (es : List Event) (r : Reply) → AbsentAs q h es r → SaysNoLack r
 absent word.Empty h es r (v, told, e) = by v e
   where
-    by : (v : ℕ) → EmptyAnswer v r → Plain r
+    by : (v : ℕ) → EmptyAnswer v r → SaysNoLack r
     by zero e = off r answer.Unmade refl e
     by (suc n) e = off r answer.Freed refl e
 absent word.Far h es r e = off r answer.NotHere refl e
@@ -69,63 +70,63 @@ absent word.Here h es r e = absurd e
 absent word.Moving h es r e = off r answer.Moving refl e
 
 pub answered : (here : ℕ → Type 0) (q : State) (w h : ℕ) (es : List Event) (r : Reply)
-    → (here w → Plain r) → AnsweredAs q here w h es r → Plain r
+    → (here w → SaysNoLack r) → AnsweredAs q here w h es r → SaysNoLack r
 answered here word.Here w h es r f a = f a
 answered here word.Empty w h es r f a = absent word.Empty h es r a
 answered here word.Far w h es r f a = absent word.Far h es r a
 answered here word.Moving w h es r f a = absent word.Moving h es r a
 
-next_plain : (v : ℕ) (r : Reply) → NextVersion v r → Plain r
+next_plain : (v : ℕ) (r : Reply) → NextVersion v r → SaysNoLack r
 next_plain v r (inl (e, is)) = off r answer.Worn refl is
 next_plain v r (inr (l, is)) = off r (answer.Version (v + 1)) refl is
 
-pub read_plain : (h : ℕ) (r : Reply) (es : List Event) → ReadRule h r es → Plain r
+pub read_plain : (h : ℕ) (r : Reply) (es : List Event) → ReadRule h r es → SaysNoLack r
 read_plain h r es a =
     answered (ReadHere h es r) (state_of a.word) a.word h es r (by a.word) a.answer
   where
-    by : (w : ℕ) → ReadHere h es r w → Plain r
+    by : (w : ℕ) → ReadHere h es r w → SaysNoLack r
     by w (inl (none, (v, words, taken, is))) = off r _ refl is
     by w (inr (some, (v, words, told, count, loaded, is))) = off r _ refl is
 
 pub write_plain : (h at : ℕ) (bytes : List ℕ) (r : Reply) (es : List Event) → WriteRule h at bytes r es
-    → Plain r
+    → SaysNoLack r
 write_plain h at bytes r es a =
     answered (WriteHere h at bytes es r) (state_of a.word) a.word h es r (by a.word) a.answer
   where
-    by : (w : ℕ) → WriteHere h at bytes es r w → Plain r
+    by : (w : ℕ) → WriteHere h at bytes es r w → SaysNoLack r
     by w (inl (past, is)) = off r (answer.Range (len_of w)) refl is
     by w (inr (fits, inl (some, is))) = off r _ refl is
     by w (inr (fits, inr (none, (v, words, taken, next)))) = next_plain v r next
 
 pub free_plain : (h : ℕ) (far new : FarState) (r : Reply) (es : List Event) → FreeRule h far new r es
-    → Plain r
+    → SaysNoLack r
 free_plain h far new r es a = by (state_of a.reply.word) a.reply.word a.reply.answer
   where
-    here : (w : ℕ) → FreeHere h es r w → Plain r
+    here : (w : ℕ) → FreeHere h es r w → SaysNoLack r
     here w (inl (some, is)) = off r _ refl is
     here w (inr (none, (v, words, taken, next))) = next_plain v r next
 
-    by : (q : State) (w : ℕ) → FreeAs q w h es r → Plain r
+    by : (q : State) (w : ℕ) → FreeAs q w h es r → SaysNoLack r
     by word.Far w (v, told, next) = next_plain v r next
     by word.Here w x = here w x
     by word.Empty w x = absent word.Empty h es r x
     by word.Moving w x = absent word.Moving h es r x
 
 pub filter_plain : (frames h : ℕ) (far new : FarState) (r : Reply) (es : List Event)
-    → FilterRule frames h far new r es → Plain r
+    → FilterRule frames h far new r es → SaysNoLack r
 filter_plain frames h far new r es a = by (state_of a.word) a.word a.answer
   where
-    empty : (v : ℕ) → EmptyFilter v r → Plain r
+    empty : (v : ℕ) → EmptyToFilter v r → SaysNoLack r
     empty zero e = off r answer.Unmade refl e
     empty (suc n) e = off r answer.NotHere refl e
 
-    here : (w : ℕ) → FilterHere frames h w far new r es → Plain r
+    here : (w : ℕ) → FilterHere frames h w far new r es → SaysNoLack r
     here w (inl (some, is, same)) = off r _ refl is
     here w (inr (claimed, (seat, at, inl x))) = off r _ refl x.reply
     here w (inr (claimed, (seat, at, inr (inl x)))) = off r _ refl x.reply
     here w (inr (claimed, (seat, at, inr (inr (slot, x))))) = off r _ refl x.reply
 
-    by : (q : State) (w : ℕ) → FilterAs q frames h w far new r es → Plain r
+    by : (q : State) (w : ℕ) → FilterAs q frames h w far new r es → SaysNoLack r
     by word.Here w x = here w x
     by word.Empty w ((v, told, e), same) = empty v e
     by word.Far w (e, same) = off r answer.NotHere refl e
@@ -133,27 +134,27 @@ filter_plain frames h far new r es a = by (state_of a.word) a.word a.answer
 
 -- ---- evictions
 pub evict_plain : (c : Config) (far new : FarState) (r : Reply) (es : List Event)
-    → EvictRule c far new r es → Plain r
+    → EvictRule c far new r es → SaysNoLack r
 evict_plain c far new r es a = by a.answered
   where
     by : HasFewSpans c far new r a.loose ⊎ (HasFewNodes c far new r a.loose
-        ⊎ HasBoth c far new r a.loose es) → Plain r
+        ⊎ HasBoth c far new r a.loose es) → SaysNoLack r
     by (inl x) = off r _ refl x.reply
     by (inr (inl x)) = off r _ refl x.reply
     by (inr (inr x)) = off r _ refl x.reply
 
 pub begin_plain : (c : Config) (far new : FarState) (r : Reply) (es : List Event)
-    → BeginRule c far new r es → Plain r
+    → BeginRule c far new r es → SaysNoLack r
 begin_plain c far new r es (inl a) = off r _ refl a.reply
 begin_plain c far new r es (inr a) = by a.answered
   where
     by : HasFewSpans c far new r a.loose ⊎ (HasFewNodes c far new r a.loose
-        ⊎ HasBatch c far new r a.loose es) → Plain r
+        ⊎ HasBatch c far new r a.loose es) → SaysNoLack r
     by (inl x) = off r _ refl x.reply
     by (inr (inl x)) = off r _ refl x.reply
     by (inr (inr x)) = off r _ refl x.reply
 
-pub ship_plain : (far new : FarState) (r : Reply) (es : List Event) → ShipRule far new r es → Plain r
+pub ship_plain : (far new : FarState) (r : Reply) (es : List Event) → ShipRule far new r es → SaysNoLack r
 ship_plain far new r es a = elim a.ships [
   | inl x ↦ off r _ refl x.reply
   | inr (inl x) ↦ off r _ refl x.reply
@@ -161,18 +162,18 @@ ship_plain far new r es a = elim a.ships [
   | inr (inr (inr x)) ↦ off r _ refl x.reply
 ]
 
-pub commit_plain : (far new : FarState) (r : Reply) (es : List Event) → CommitRule far new r es → Plain r
+pub commit_plain : (far new : FarState) (r : Reply) (es : List Event) → CommitRule far new r es → SaysNoLack r
 commit_plain far new r es a = by a.answered
   where
-    by : HasNoBatch far new r ⊎ (HasShort far new r ⊎ HasCommitted far new r) → Plain r
+    by : HasNoBatch far new r ⊎ (HasShort far new r ⊎ HasCommitted far new r) → SaysNoLack r
     by (inl x) = off r _ refl x.reply
     by (inr (inl x)) = off r _ refl x.reply
     by (inr (inr x)) = off r _ refl x.reply
 
-pub abort_plain : (far new : FarState) (r : Reply) (es : List Event) → AbortRule far new r es → Plain r
+pub abort_plain : (far new : FarState) (r : Reply) (es : List Event) → AbortRule far new r es → SaysNoLack r
 abort_plain far new r es a = by a.answered
   where
-    by : HasNoBatch far new r ⊎ HasGivenUp far new r → Plain r
+    by : HasNoBatch far new r ⊎ HasGivenUp far new r → SaysNoLack r
     by (inl x) = off r _ refl x.reply
     by (inr x) = off r _ refl x.reply
 
@@ -184,13 +185,13 @@ some_same : (a b : Reply) → Some a ≡ Some b → a ≡ b
 some_same a b e = cc
 
 pub declined_plain : (h at count : ℕ) (far : FarState) (r : Reply) (es : List Event)
-    → IsDeclined h at count far (Some r) es → Plain r
+    → IsDeclined h at count far (Some r) es → SaysNoLack r
 declined_plain h at count far r es (inl (gone, none, nothing)) = absurd (some_none r none)
 declined_plain h at count far r es (inr (stays, (w, v, found, far_word, told, last, is))) =
     by (nat_lt (len_of w) (at + count)) (v == 2 ^ 64 - 1) is
   where
     by : (past worn : Bool) → Some r ≡ (if past then Some (answer.Range (len_of w))
-        else if worn then Some answer.Worn else None) → Plain r
+        else if worn then Some answer.Worn else None) → SaysNoLack r
     by true worn e = off r (answer.Range (len_of w)) refl (some_same _ _ e)
     by false true e = off r answer.Worn refl (some_same _ _ e)
     by false false e = absurd (some_none r e)

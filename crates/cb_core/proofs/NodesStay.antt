@@ -93,11 +93,11 @@ join_now s far new node r h within (joined down reply state) =
 join_now s far new node r h within (is_up up reply state) = ap (λ (f : FarState). now s f h) state
 
 -- ---- the members, the batch and the pair
-abbrev pub Standing : Type 0
-Standing = Membership × Option LeavingState × Option JoiningState
+abbrev pub MembersBatchPair : Type 0
+MembersBatchPair = Membership × Option LeavingState × Option JoiningState
 
 -- the members, the batch that is leaving and the pair that is joining
-abbrev pub standing : FarState → Standing
+abbrev pub standing : FarState → MembersBatchPair
 standing far = (far.members, far.leaving, far.joining)
 
 -- the members behind a job: a crash and a join that take place change a node, and no other job does
@@ -107,36 +107,36 @@ MembersAfter (Join node) old new = (new ≡ old) ⊎ (new ≡ with_join old node
 MembersAfter job old new = new ≡ old
 
 -- the job is no step of an eviction or of a pair
-abbrev pub IsWhole : Job → Type 0
-IsWhole Begin = ⊥
-IsWhole Ship = ⊥
-IsWhole Commit = ⊥
-IsWhole Abort = ⊥
-IsWhole Pair = ⊥
-IsWhole Patch = ⊥
-IsWhole Merge = ⊥
-IsWhole Part = ⊥
-IsWhole job = Unit {0}
+abbrev pub IsWholeJob : Job → Type 0
+IsWholeJob Begin = ⊥
+IsWholeJob Ship = ⊥
+IsWholeJob Commit = ⊥
+IsWholeJob Abort = ⊥
+IsWholeJob Pair = ⊥
+IsWholeJob Patch = ⊥
+IsWholeJob Merge = ⊥
+IsWholeJob Part = ⊥
+IsWholeJob job = Unit {0}
 
 -- how the members stand behind a job; and where no batch is leaving and no pair is joining, none is
 -- behind a job that is whole
-pub record Stands (job : Job) (far new : FarState) : Type 0 where
+pub record MembersStand (job : Job) (far new : FarState) : Type 0 where
   pub members : MembersAfter job far.members new.members
-  pub idle : IsWhole job → IsIdle far → IsIdle new
+  pub idle : IsWholeJob job → IsIdle far → IsIdle new
 
 -- so it is behind a job that leaves all three, one of those whose members stay
 pub stands_same : (job : Job) → ((old new : Membership) → new ≡ old → MembersAfter job old new)
-    → (far new : FarState) → standing new ≡ standing far → Stands job far new
+    → (far new : FarState) → standing new ≡ standing far → MembersStand job far new
 stands_same job stay far new e = record {
-  members = stay far.members new.members (ap (λ (x : Standing). x.0) e);
+  members = stay far.members new.members (ap (λ (x : MembersBatchPair). x.0) e);
   idle = λ whole idle. (
-    ap (λ (x : Standing). x.1) e ∙ idle.0,
-    ap (λ (x : Standing). x.2) e ∙ idle.1,
+    ap (λ (x : MembersBatchPair). x.1) e ∙ idle.0,
+    ap (λ (x : MembersBatchPair). x.2) e ∙ idle.1,
   );
 }
 
 pub crash_stands : (far new : FarState) (node : NodeId) (r : Reply) → CrashTurn node far r new
-    → Stands (Crash node) far new
+    → MembersStand (Crash node) far new
 crash_stands far new node r (crashed up reply state) = record {
   members = inr (ap (λ (f : FarState). f.members) state);
   idle = λ whole idle. subst IsIdle (sym state) idle;
@@ -147,7 +147,7 @@ crash_stands far new node r (is_down down reply state) = record {
 }
 
 pub join_stands : (far new : FarState) (node : NodeId) (r : Reply) → JoinTurn node far r new
-    → Stands (Join node) far new
+    → MembersStand (Join node) far new
 join_stands far new node r (joined down reply state) = record {
   members = inr (ap (λ (f : FarState). f.members) state);
   idle = λ whole idle. subst IsIdle (sym state) idle;

@@ -14,7 +14,7 @@ use Rattle.cb_model.specs.Called.{Called, value}
 use Rattle.cb_model.specs.Event.{event_of}
 use Rattle.cb_model.specs.Event.Event.{Refused}
 use Rattle.cb_model.specs.Event.Subject.{Contents}
-use Rattle.cb_model.specs.Now.{Now as MapNow}
+use Rattle.cb_model.specs.Now.{MapNow}
 use Rattle.cb_model.specs.Replies.{MapReplies}
 use Rattle.cb_world.specs.declared.object.Object.{Object}
 use Rattle.cb_world.specs.declared.object.Object.TheVariants as is
@@ -36,7 +36,7 @@ use Rattle.cb_mutate.specs.MapBeside.{IsMapOf}
 use Rattle.cb_mutate.specs.MapCalls.{IsValue, IsMapCall, IsCallBetween, IsCallOn, IsMakeCall}
 use Rattle.cb_mutate.proofs.Laws.{here_near, map_kept, map_same, moving_near, near_held, refused_by, was_made}
 use Rattle.cb_core.specs.NowIn.{AreGone, IsLostAt, claim_on, now_in, now_with}
-use Rattle.cb_core.proofs.CallsBeside.{AreMade, IsMakeBetween}
+use Rattle.cb_core.proofs.CallsBeside.{AreMadeBelow, IsMakeBetween}
 use Rattle.cb_core.proofs.ClaimOn.{claim_found}
 use Rattle.cb_core.proofs.TurnCallsMap.{IsSameMap}
 use Rattle.cb_core.proofs.TurnCallsNodes.{IsMapLost}
@@ -92,7 +92,7 @@ claimed_made w s h c k ongoing e past =
     ∙ not_made s w.far h k.sound past)
 
 pub are_made : (w : WorldState) (s : Shown) → IsKnown w.desk w.far s
-    → AreOpen w.desk w.far w.seats → AreMade w.far.made (λ h. now_in w s h)
+    → AreOpen w.desk w.far w.seats → AreMadeBelow w.far.made (λ h. now_in w s h)
 are_made w s k ongoing = record {
   past = λ h past. past_by h past (claim_on w.seats h) refl;
   below = λ h less e. below_by h less e (claim_on w.seats h) refl;

@@ -11,17 +11,17 @@ use Rattle.cb_ptr.proofs.Laws.{same_from_fields}
 use Rattle.cb_types.specs.declared.reply.Reply.{Reply}
 use Rattle.cb_types.specs.declared.reply.Reply.TheVariants as answer
 use Rattle.cb_world.specs.OpenSteps.{IsClaimOn, next_word, stored_once}
-use Rattle.cb_world.specs.OpenWrites.{left_of}
+use Rattle.cb_world.specs.OpenWrites.{stores_left}
 use Rattle.cb_world.specs.Pinned.{with_word}
 use Rattle.cb_world.specs.Seats.{OpenWriteState, claims_of_seat, with_claims}
 use Rattle.cb_world.specs.World.{WorldState, IsSoundWorld, word_at}
 use Rattle.cb_world.proofs.Laws.{some_same}
-use Rattle.cb_mutate.specs.Merged.{IsMerged}
+use Rattle.cb_mutate.specs.Merged.{IsWordMerged}
 use Rattle.cb_core.specs.Claiming.{ClaimStep, refused, taken, next_place, StoreStep, not_claimed, nothing_left, stored, stamped, SettleStep, not_stored, settled}
 
 -- a word with one write is one word
 merged_one : (old first at : ℕ) (bytes : List ℕ) (a b : ℕ) → a < 2 ^ 64 → b < 2 ^ 64
-    → IsMerged old first at bytes a → IsMerged old first at bytes b → a ≡ b
+    → IsWordMerged old first at bytes a → IsWordMerged old first at bytes b → a ≡ b
 merged_one old first at bytes a b low_a low_b x y =
     sym (from_le_bytes-to_le_bytes_8 a low_a)
     ∙ ap (from_le_bytes w64) (ext_get_or 0 (to_le_bytes w64 a) (to_le_bytes w64 b) (x.sized ∙ sym y.sized)
@@ -66,8 +66,8 @@ module _ (w a b : WorldState) (sound : IsSoundWorld w) (seat h : ℕ) where
 
   -- as many words are left of it
   one_left : (i j : ℕ) (x : IsClaimOn cs h i) (y : IsClaimOn cs h j)
-      → left_of x.ongoing ≡ left_of y.ongoing
-  one_left i j x y = ap left_of (one_claim i j x y).1
+      → stores_left x.ongoing ≡ stores_left y.ongoing
+  one_left i j x y = ap stores_left (one_claim i j x y).1
 
   pub claim_fixed : (at : ℕ) (bytes : List ℕ) (r q : Reply) → ClaimStep seat h at bytes w r a
       → ClaimStep seat h at bytes w q b → (r ≡ q) × (a ≡ b)
@@ -108,9 +108,9 @@ module _ (w a b : WorldState) (sound : IsSoundWorld w) (seat h : ℕ) where
       let word : m.word ≡ n.word =
       merged_one (get_or w.desk.memory (next_place w.desk h c) 0) (8 * next_word c) c.at c.bytes m.word
       n.word m.small n.small m.merged
-      (subst (λ (d : OpenWriteState). IsMerged (get_or w.desk.memory (next_place w.desk h d) 0)
+      (subst (λ (d : OpenWriteState). IsWordMerged (get_or w.desk.memory (next_place w.desk h d) 0)
       (8 * next_word d) d.at d.bytes n.word) (sym one.1) n.merged) in (
-        e ∙ ap (λ (d : OpenWriteState). answer.Stored (left_of d - 1)) one.1 ∙ sym f,
+        e ∙ ap (λ (d : OpenWriteState). answer.Stored (stores_left d - 1)) one.1 ∙ sym f,
         world_is a b (m.words
             ∙ (λ k. record w.desk { memory = set w.desk.memory (next_place w.desk h (one.1 k)) (word k) })
             ∙ sym n.words) (s.far ∙ sym t.far) (s.seats

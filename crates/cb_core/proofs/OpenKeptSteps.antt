@@ -7,7 +7,7 @@ use Rattle.cb_world.specs.OpenSteps.{next_word}
 use Rattle.cb_world.specs.Pinned.{with_word}
 use Rattle.cb_world.specs.Plain.{Words}
 use Rattle.cb_world.specs.World.{WorldState, IsSoundWorld, word_at}
-use Rattle.cb_mutate.specs.Merged.{IsMerged}
+use Rattle.cb_mutate.specs.Merged.{IsWordMerged}
 use Rattle.cb_core.specs.Claiming.{ClaimStep, refused, taken, StoreStep, not_claimed, nothing_left, stored, stamped, SettleStep, not_stored, settled}
 use Rattle.cb_core.proofs.OpenSettled.{settled_sound}
 use Rattle.cb_core.proofs.OpenStamped.{stamped_sound}
@@ -46,7 +46,8 @@ store_step_sound w new seat h r sound within (stored at x two reply m n) =
       seats = n.seats i;
     }))
     (stored_sound w seat at m.word c sound within x.there (omega (arith, two))
-    (subst (λ (k : ℕ). IsMerged (get_or w.desk.memory (place_of (word_at w.desk k) + next_word c) 0)
+    (subst (λ (k : ℕ). IsWordMerged
+    (get_or w.desk.memory (place_of (word_at w.desk k) + next_word c) 0)
     (8 * next_word c) c.at c.bytes m.word) on m.merged))
 store_step_sound w new seat h r sound within (stamped at x last reply m n) =
     let c = x.ongoing in let on : h ≡ c.handle = sym x.on in

@@ -4,7 +4,7 @@ use Rattle.std.specs.Prelude.{nat_eq, if◌then◌else◌}
 use Rattle.cb_ptr.specs.Word.{len_of, place_of, pins_of}
 use Rattle.cb_world.specs.declared.object.Object.TheVariants as is
 use Rattle.cb_world.specs.declared.shown.Shown.{Shown}
-use Rattle.cb_world.specs.OpenWrites.{IsOpen, touched, left_of}
+use Rattle.cb_world.specs.OpenWrites.{IsOpen, touched, stores_left}
 use Rattle.cb_world.specs.Plain.{Words}
 use Rattle.cb_world.specs.Seats.{OpenWriteState, IsClaimAt, claims_of_seat, with_claims}
 use Rattle.cb_world.specs.Shown.{object_at}
@@ -39,7 +39,7 @@ done_past n m old at bytes new more all w = record {
     side p (inr e) = inr e
 
 module _ (w : WorldState) (seat place : ℕ) (c : OpenWriteState) (sound : IsSoundWorld w) (lt : seat < 64)
-    (there : IsClaimAt w.seats seat place c) (last : left_of c ≡ 1) where
+    (there : IsClaimAt w.seats seat place c) (last : stores_left c ≡ 1) where
   abbrev pub h : ℕ
   h = c.handle
 
@@ -69,7 +69,7 @@ module _ (w : WorldState) (seat place : ℕ) (c : OpenWriteState) (sound : IsSou
       let now = get_or-set_same sound.shown.versions h (c.version + 1) 0 (omega (arith, ranged, same)) in
       let was : get_or sound.shown.versions h 0 ≡ c.version =
       ap (λ (l : List ℕ). get_or l h 0) sound.known.shows.versions ∙ o.stamp
-      ∙ not_zero (left_of c) (c.version + 1) c.version (omega (arith, last)) in
+      ∙ not_zero (stores_left c) (c.version + 1) c.version (omega (arith, last)) in
       omega (arith, now, was)
 
   stamped_known : IsKnown y w.far t
@@ -104,7 +104,7 @@ module _ (w : WorldState) (seat place : ℕ) (c : OpenWriteState) (sound : IsSou
     next = o.next;
     few = omega (arith, last);
     stamp = get_or-set_same w.desk.versions h (c.version + 1) 0 ranged
-        ∙ sym (is_zero (left_of next) (c.version + 1) c.version (omega (arith, last)));
+        ∙ sym (is_zero (stores_left next) (c.version + 1) c.version (omega (arith, last)));
     contents = done_past (8 * (c.at / 8 + c.stored)) (8 * (c.at / 8 + (c.stored + 1))) c.words c.at c.bytes
         (contents_at w.desk h) (omega arith)
         (λ i below. let z = lies_in c.at (length c.bytes) i below in

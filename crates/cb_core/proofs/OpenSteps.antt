@@ -17,7 +17,7 @@ use Rattle.cb_world.specs.Memory.{window, words_for}
 use Rattle.cb_world.specs.OpenWrites.{IsOpen, IsLeavingNow, IsClaimedNow, AreOpen, touched}
 use Rattle.cb_world.specs.Pinned.{with_word}
 use Rattle.cb_world.specs.Plain.{Words}
-use Rattle.cb_world.specs.Seats.{SeatState, OpenWriteState, AtMostOneHolds, IsClaimAt, idle_seat, seat_at, claims_of_seat, with_claims, pins_on}
+use Rattle.cb_world.specs.Seats.{SeatState, OpenWriteState, AtMostOneHolds, IsClaimAt, idle_seat, seat_at, claims_of_seat, with_claims, pins_among}
 use Rattle.cb_world.specs.Shown.{Fits, object_at}
 use Rattle.cb_world.specs.StillDesk.{here_is, below_here}
 use Rattle.cb_world.specs.StillWords.{stamp_at, contents_at}
@@ -37,8 +37,8 @@ kept_pinned desk seats seat new same within p = record {
       (subst (λ (l : List Pin). length l ≤ 16) (sym same)
       (All-get_or (λ (x : SeatState). length x.pins ≤ 16) seats seat idle_seat within p.few)) p.few;
   counted = λ h below.
-      let z = sum_by-set (λ (x : SeatState). pins_on h x.pins) seats seat new idle_seat within in
-      let c = p.counted h below in let e = ap (pins_on h) same in omega (arith, z, c, e);
+      let z = sum_by-set (λ (x : SeatState). pins_among h x.pins) seats seat new idle_seat within in
+      let c = p.counted h below in let e = ap (pins_among h) same in omega (arith, z, c, e);
   known = All-set (λ (x : SeatState). Within x.pins) seats seat new
       (subst Within (sym same)
       (All-get_or (λ (x : SeatState). Within x.pins) seats seat idle_seat within p.known)) p.known;

@@ -1,13 +1,13 @@
 -- The world is sound after a store of a memory word of an open write.
 use Rattle.std.proofs.Common.{◌≡◌, ◌≢◌, ℕ, ◌+◌, ◌*◌, ◌/◌, ◌<◌, length, get_or, set, sym, refl, ◌∙◌, subst, arith}
-use Rattle.cb_world.specs.OpenWrites.{IsOpen, touched, left_of, stamp_of}
+use Rattle.cb_world.specs.OpenWrites.{IsOpen, touched, stores_left, stamp_of}
 use Rattle.cb_world.specs.Plain.{Words}
 use Rattle.cb_world.specs.Seats.{OpenWriteState, IsClaimAt, claims_of_seat, with_claims}
 use Rattle.cb_world.specs.StillWords.{contents_at}
 use Rattle.cb_world.specs.World.{WorldState, IsSoundWorld}
 use Rattle.cb_world.specs.Write.{IsWriteBelow}
 use Rattle.cb_world.proofs.Laws.{pinned_still}
-use Rattle.cb_mutate.specs.Merged.{IsMerged}
+use Rattle.cb_mutate.specs.Merged.{IsWordMerged}
 use Rattle.cb_core.proofs.OpenChanges.{goes_on}
 use Rattle.cb_core.proofs.OpenSteps.{claims_hold, claims_pinned, not_zero}
 use Rattle.cb_core.proofs.OpenStores.{desk, i, p, t, stored_known, stored_contents, others_stay}
@@ -15,7 +15,7 @@ use Rattle.cb_core.proofs.OpenStores.{desk, i, p, t, stored_known, stored_conten
 module _ (w : WorldState) (seat place m : ℕ) (c : OpenWriteState) (sound : IsSoundWorld w)
     (lt : seat < 64) (there : IsClaimAt w.seats seat place c)
     (less : c.stored < touched c.at (length c.bytes))
-    (merged : IsMerged (get_or w.desk.memory (p w seat place m c sound there less) 0)
+    (merged : IsWordMerged (get_or w.desk.memory (p w seat place m c sound there less) 0)
     (8 * i w seat place m c sound there less) c.at c.bytes m) where
   abbrev pub y : Words
   y = desk w seat place m c sound there less
@@ -27,10 +27,10 @@ module _ (w : WorldState) (seat place m : ℕ) (c : OpenWriteState) (sound : IsS
   o = sound.ongoing.each seat place c there
 
   not_last : stamp_of c ≡ c.version
-  not_last = not_zero (left_of c) (c.version + 1) c.version (omega (arith, less))
+  not_last = not_zero (stores_left c) (c.version + 1) c.version (omega (arith, less))
 
   nor_now : stamp_of next ≡ c.version
-  nor_now = not_zero (left_of next) (c.version + 1) c.version (omega (arith, less))
+  nor_now = not_zero (stores_left next) (c.version + 1) c.version (omega (arith, less))
 
   mine : IsOpen y next
   mine = record {

@@ -13,8 +13,8 @@ use Rattle.cb_world.specs.StillDesk.{here_is, put_window, window_length}
 use Rattle.cb_world.specs.StillWords.{contents_at}
 use Rattle.cb_world.specs.World.{WorldState, IsKnown, IsSoundWorld, word_at}
 use Rattle.cb_world.specs.Write.{IsWriteBelow}
-use Rattle.cb_world.proofs.Laws.{IsBeside, apart, lies, lies_within, open_here, set_put, sound_beside, window_at, window_put, window_same}
-use Rattle.cb_mutate.specs.Merged.{IsMerged}
+use Rattle.cb_world.proofs.Laws.{IsOutside, apart, lies, lies_within, open_here, set_put, sound_beside, window_at, window_put, window_same}
+use Rattle.cb_mutate.specs.Merged.{IsWordMerged}
 use Rattle.cb_mutate.proofs.Laws.{write_more}
 
 -- the window of a memory in which one of its words was set
@@ -73,11 +73,11 @@ module _ (w : WorldState) (seat place m : ℕ) (c : OpenWriteState) (sound : IsS
   t = record s { memory = set s.memory p m }
 
   -- a word beside the object is another one than that which is stored
-  pub other_word : (q : ℕ) → IsBeside (place_of old) (len_of old) q → q ≢ p
+  pub other_word : (q : ℕ) → IsOutside (place_of old) (len_of old) q → q ≢ p
   other_word q (inl before) e = omega (arith, before, e)
   other_word q (inr behind) e = omega (arith, behind, e, inside)
 
-  beside : (q : ℕ) → IsBeside (place_of old) (len_of old) q → get_or t.memory q 0 ≡ get_or s.memory q 0
+  beside : (q : ℕ) → IsOutside (place_of old) (len_of old) q → get_or t.memory q 0 ≡ get_or s.memory q 0
   beside q side = get_or-set_other s.memory p q m 0 (other_word q side)
 
   pub stored_known : IsKnown desk w.far t
@@ -101,7 +101,7 @@ module _ (w : WorldState) (seat place m : ℕ) (c : OpenWriteState) (sound : IsS
   }
 
   -- the object's words have one more of the write
-  pub stored_contents : IsMerged (get_or w.desk.memory p 0) (8 * i) c.at c.bytes m
+  pub stored_contents : IsWordMerged (get_or w.desk.memory p 0) (8 * i) c.at c.bytes m
       → IsWriteBelow (8 * (i + 1)) c.words c.at c.bytes (contents_at desk h)
   stored_contents merged =
       let ws = window w.desk.memory (place_of old) (words_for (len_of old)) in
@@ -110,7 +110,7 @@ module _ (w : WorldState) (seat place m : ℕ) (c : OpenWriteState) (sound : IsS
       (sym (window_set w.desk.memory (place_of old) (words_for (len_of old)) i m inside fits))
       (write_more c.words ws i c.at c.bytes m o.contents
       (let z = o.contents.sized in omega (arith, inside, l, z))
-      (subst (λ x. IsMerged x (8 * i) c.at c.bytes m)
+      (subst (λ x. IsWordMerged x (8 * i) c.at c.bytes m)
       (sym (window_at w.desk.memory (place_of old) (words_for (len_of old)) i inside)) merged))
 
   -- the words of another object that is here are as they were

@@ -33,7 +33,7 @@ use Rattle.cb_world.specs.Sound.{Sound}
 use Rattle.cb_world.specs.Stored.{all_put}
 use Rattle.cb_world.specs.World.{IsConfigured}
 use Rattle.cb_mutate.specs.MakeRule.{MakeRule}
-use Rattle.cb_evict.specs.Candidates.{candidates, Names}
+use Rattle.cb_evict.specs.Candidates.{candidates, SpanNames}
 use Rattle.cb_evict.specs.Closing.{all_given}
 use Rattle.cb_evict.specs.EvictRule.{HasEvicted, EvictRule}
 use Rattle.cb_evict.proofs.Laws.{few_spans, few_nodes, given_in, loose_among, evict_stays, names_span, named_at, ready_frame, taken_of}
@@ -63,7 +63,7 @@ far_has_home s far h sound x = sound.away.sound.away.away h x.0 x.1 x.2 x.3
 
 -- no span of local memory names an object that has a home
 pub not_resident : (s : Shown) (far : FarState) (h f : ℕ) (home : Home) → Sound s far
-    → home_at far.homes h ≡ Some home → Names far.spans f h → ⊥
+    → home_at far.homes h ≡ Some home → SpanNames far.spans f h → ⊥
 not_resident s far h f home sound at (slot, named) =
     let x = sound.away.sound.away.home h home at in
     let word = sound.away.sound.sets.worded home.set x.0 x.1 in

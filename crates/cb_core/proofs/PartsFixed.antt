@@ -17,8 +17,8 @@ abbrev pub IsFixed : {D R : Type 0} → (Holding D → R → Holding D → Type 
 IsFixed {D} {R} part a = (r q : R) (b c : Holding D) → part a r b → part a q c → AreOne r q b c
 
 -- a part with this answer leaves all as it is
-abbrev pub LeavesAll : {D R : Type 0} → (Holding D → R → Holding D → Type 0) → R → Type 0
-LeavesAll {D} {R} part r = (a b : Holding D) → part a r b → b ≡ a
+abbrev pub PartLeavesAll : {D R : Type 0} → (Holding D → R → Holding D → Type 0) → R → Type 0
+PartLeavesAll {D} {R} part r = (a b : Holding D) → part a r b → b ≡ a
 
 refused_set : (why : Lack) (n m : ℕ) (id : SetId) → Refused why n m ≡ Set id → ⊥
 refused_set why n m id e = cc
@@ -44,7 +44,7 @@ some_same x y e = cc
 module _ {D : Type 0} (frames : ℕ) (operation : Holding D → Reply → Holding D → Type 0)
     (eviction : Holding D → Eviction → Holding D → Type 0)
     (each : (a : Holding D) → IsFixed operation a)
-    (refuses : LeavesAll operation answer.NoFrame) (a : Holding D) (evicts : IsFixed eviction a) where
+    (refuses : PartLeavesAll operation answer.NoFrame) (a : Holding D) (evicts : IsFixed eviction a) where
   -- evictions behind two refusals are behind one
   evictions_fixed : (m n : Holding D) (e f : Eviction) (b c : Holding D)
       → operation a answer.NoFrame m → operation a answer.NoFrame n → eviction m e b
@@ -85,8 +85,8 @@ module _ {D : Type 0} (frames : ℕ) (operation : Holding D → Reply → Holdin
 module _ {D : Type 0} (call : Holding D → Reply → Holding D → Type 0)
     (look : Holding D → Option Reply → Holding D → Type 0)
     (bringing : Holding D → Reply → Holding D → Type 0)
-    (each : (a : Holding D) → IsFixed call a) (refuses : LeavesAll call answer.NotHere)
-    (looks : (a : Holding D) → IsFixed look a) (stays : LeavesAll look None) (a : Holding D)
+    (each : (a : Holding D) → IsFixed call a) (refuses : PartLeavesAll call answer.NotHere)
+    (looks : (a : Holding D) → IsFixed look a) (stays : PartLeavesAll look None) (a : Holding D)
     (brings : IsFixed bringing a) where
   not_there : (r : Reply) (b m : Holding D) → call a r b → call a answer.NotHere m
       → (r ≡ answer.NotHere → ⊥) → ⊥
@@ -144,7 +144,8 @@ module _ {D : Type 0} (call : Holding D → Reply → Holding D → Type 0)
 
 -- ---- an object that is far is brought in
 module _ {D : Type 0} (call bringing : Holding D → Reply → Holding D → Type 0) (a : Holding D)
-    (calls : IsFixed call a) (refuses : LeavesAll call answer.NotHere) (brings : IsFixed bringing a)
+    (calls : IsFixed call a) (refuses : PartLeavesAll call answer.NotHere)
+    (brings : IsFixed bringing a)
   where
     pub brings_in_fixed : IsFixed (BringsIn call bringing) a
     brings_in_fixed r q b c (not_far o off) (not_far p on) = calls r q b c o p

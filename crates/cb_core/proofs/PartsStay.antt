@@ -29,14 +29,14 @@ use Rattle.cb_swapin.proofs.Laws.{keeps_far, leaving_stays, settings_stay}
 use Rattle.cb_core.specs.FarJobs.{FarStep}
 use Rattle.cb_core.specs.Parts.{Holding, WithRoom, WhereItIs, NeverDeclined}
 use Rattle.cb_core.specs.Step.{StillAlone, StillMake, StillRead, StillWrite, StillFree, StillSwap, StillBring, StillFilter, StillBegin, StillShip, StillCommit, StillAbort, StillWorks, still_parts}
-use Rattle.cb_core.proofs.Carried.{Along, AreAlong, KeepsAlong, brings, does, itself, where_it_is, with_room}
+use Rattle.cb_core.proofs.Carried.{AreAlong, CarriesAlong, KeepsAlong, brings, does, itself, where_it_is, with_room}
 use Rattle.cb_core.proofs.Changes.{read_leaves, write_leaves, free_leaves}
-use Rattle.cb_core.proofs.NodesStay.{IsWhole}
+use Rattle.cb_core.proofs.NodesStay.{IsWholeJob}
 
 -- all that is done by P leaves this as it was
-abbrev pub Leaves : {X A : Type 0} → (Holding Words → X)
+abbrev pub LeavesSame : {X A : Type 0} → (Holding Words → X)
     → (Holding Words → A → Holding Words → Type 0) → Type 0
-Leaves {A = A} what P = (a b : Holding Words) (r : A) → P a r b → what b ≡ what a
+LeavesSame {A = A} what P = (a b : Holding Words) (r : A) → P a r b → what b ≡ what a
 
 -- ---- one part after another
 abbrev Anywhere : Holding Words → Type 0
@@ -55,8 +55,8 @@ along what = record {
 
 pub room_same : {X : Type 0} (what : Holding Words → X) (n : ℕ)
     (P : Holding Words → Reply → Holding Words → Type 0)
-    (V : Holding Words → Eviction → Holding Words → Type 0) → Leaves what P → Leaves what V
-    → Leaves what (WithRoom n P V)
+    (V : Holding Words → Eviction → Holding Words → Type 0) → LeavesSame what P → LeavesSame what V
+    → LeavesSame what (WithRoom n P V)
 room_same what n P V p v a b r x = (with_room itself Anywhere (LeftAs what) (along what) n 0 0 0 P P V V
     (omega arith) (λ a b r good x. (p a b r x, x)) (λ a b e good x. (v a b e x, x)) a b r tt x).0
 
@@ -86,7 +86,7 @@ ends : (b : Holding Words) (x : Words) (f : FarState) → b.desk ≡ x → b.far
 ends b x f desk far = λ i. lasting (record { desk = desk i; far = far i })
 
 -- ---- each part
-make_lasts : (bytes : List ℕ) → Leaves lasting (StillMake bytes)
+make_lasts : (bytes : List ℕ) → LeavesSame lasting (StillMake bytes)
 make_lasts bytes a b r step = by step
   where
     by : IsMakeStep a.desk b.desk a.far b.far bytes r → lasting b ≡ lasting a
@@ -94,19 +94,19 @@ make_lasts bytes a b r step = by step
     by (inr (more, inl (crammed, reply, e, same))) = ends b a.desk a.far e same
     by (inr (more, inr (reply, z))) = ends b _ _ z.left z.state
 
-read_lasts : (h : ℕ) → Leaves lasting (StillRead h)
+read_lasts : (h : ℕ) → LeavesSame lasting (StillRead h)
 read_lasts h a b r step = elim (read_leaves a.desk b.desk h r step.0) [
   | inl e ↦ ends b a.desk a.far e step.1
   | inr e ↦ ends b _ a.far e step.1
 ]
 
-write_lasts : (h at : ℕ) (bytes : List ℕ) → Leaves lasting (StillWrite h at bytes)
+write_lasts : (h at : ℕ) (bytes : List ℕ) → LeavesSame lasting (StillWrite h at bytes)
 write_lasts h at bytes a b r step = elim (write_leaves a.desk b.desk h at bytes r step.0) [
   | inl e ↦ ends b a.desk a.far e step.1
   | inr e ↦ ends b _ a.far e.1.1.left step.1
 ]
 
-free_lasts : (h : ℕ) → Leaves lasting (StillFree h)
+free_lasts : (h : ℕ) → LeavesSame lasting (StillFree h)
 free_lasts h a b r step = elim (free_leaves a.desk b.desk a.far b.far h r step) [
   | inl e ↦ ends b a.desk a.far e.0 e.1
   | inr e ↦ place (state_of (word_at a.desk h)) (ap (λ (x : Words). x.settings) e.1.1.left) e.1.1.leaves
@@ -130,27 +130,27 @@ evicted a b r step =
     let keeps = evict_keeps a.desk b.desk a.far b.far r step in
     λ i. ((settings i, keeps.members i, keeps.first i, keeps.turns i), keeps.leaving i, keeps.joining i)
 
-swap_lasts : (h : ℕ) → Leaves lasting (StillSwap h)
+swap_lasts : (h : ℕ) → LeavesSame lasting (StillSwap h)
 swap_lasts h a b r (home, at, step, hold) =
     let settings = settings_stay a.desk b.desk a.far b.far home.set home.position r step in
     let leaving = leaving_stays a.desk b.desk a.far b.far home.set home.position r step in
     let keeps = keeps_far a.desk b.desk a.far b.far home.set home.position r step in λ i.
     ((settings i, keeps.members i, keeps.first i, keeps.turns i), leaving i, keeps.joining i)
 
-filter_lasts : (h : ℕ) → Leaves lasting (StillFilter h)
+filter_lasts : (h : ℕ) → LeavesSame lasting (StillFilter h)
 filter_lasts h a b r (refuses why same state, hold) = ends b a.desk a.far same state
 filter_lasts h a b r (cools seat is place same, hold) = ends b _ _ same place.state
 filter_lasts h a b r (without_slot seat is none same, hold) = ends b a.desk a.far same none.state
 filter_lasts h a b r (moves seat slot is gets same, hold) = ends b _ _ same gets.state
 
 -- the steps of a batch
-begin_stays : Leaves steady StillBegin
+begin_stays : LeavesSame steady StillBegin
 begin_stays a b r (is_leaving batch there reply state same, hold) = settled b a.desk a.far same state
 begin_stays a b r (few_spans none few same, hold) = settled b a.desk a.far same few.state
 begin_stays a b r (few_nodes none few same, hold) = settled b a.desk a.far same few.state
 begin_stays a b r (begins m, hold) = begun b a.desk _ m.begun.held.settings m.begun.state
 
-ship_stays : Leaves steady StillShip
+ship_stays : LeavesSame steady StillShip
 ship_stays a b r (step, hold) = elim step.ships [
   | inl z ↦ settled b a.desk a.far step.words z.state
   | inr (inl z) ↦ settled b a.desk a.far step.words z.state
@@ -158,19 +158,19 @@ ship_stays a b r (step, hold) = elim step.ships [
   | inr (inr (inr z)) ↦ settled b a.desk _ step.words z.state
 ]
 
-commit_stays : Leaves steady StillCommit
+commit_stays : LeavesSame steady StillCommit
 commit_stays a b r (none_to_commit n same, hold) = settled b a.desk a.far same n.state
 commit_stays a b r (short z same, hold) = settled b a.desk a.far same z.state
 commit_stays a b r (committed c away, hold) = begun b a.desk _ away.settings c.state
 
-abort_stays : Leaves steady StillAbort
+abort_stays : LeavesSame steady StillAbort
 abort_stays a b r (none_to_abort n same, hold) = settled b a.desk a.far same n.state
 abort_stays a b r (given_up g back, hold) = begun b a.desk _ back.settings g.state
 
 -- ---- a job
 -- what a job leaves: all that lasts; or it is a step of a batch; or it works at the far state alone
 abbrev pub LeftBy : Job → Holding Words → Holding Words → Type 0
-LeftBy job a b = (lasting b ≡ lasting a) ⊎ (((IsWhole job → ⊥) × (steady b ≡ steady a))
+LeftBy job a b = (lasting b ≡ lasting a) ⊎ (((IsWholeJob job → ⊥) × (steady b ≡ steady a))
     ⊎ ((r : Reply) × (b.desk ≡ a.desk) × FarStep job a.far b.far r))
 
 alone_left : (job : Job) (a b : Holding Words) (r : Reply) → StillAlone job a r b → LeftBy job a b
@@ -194,7 +194,7 @@ parts = record {
   wins = λ a b e good x. (evicted a b (reply_of e) x.0.step, x);
 }
 
-reads : (h : ℕ) → Along itself Anywhere (LeftAs lasting) 64
+reads : (h : ℕ) → CarriesAlong itself Anywhere (LeftAs lasting) 64
     (WhereItIs (StillRead h) NeverDeclined (StillBring h))
     (WhereItIs (StillRead h) NeverDeclined (StillBring h))
 reads h = where_it_is itself Anywhere (LeftAs lasting) (along lasting) 1 1 56 64 (StillRead h) (StillRead h)

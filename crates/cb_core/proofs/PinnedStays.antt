@@ -24,7 +24,7 @@ use Rattle.cb_world.specs.Pinned.{with_word}
 use Rattle.cb_world.specs.Plain.{Words}
 use Rattle.cb_world.specs.StillWords.{stamp_at, contents_at, with_hot}
 use Rattle.cb_world.specs.World.{WorldState, IsKnown, IsSoundWorld, word_at}
-use Rattle.cb_mutate.specs.Steps.{with_seen}
+use Rattle.cb_mutate.specs.CallStep.{with_seen}
 use Rattle.cb_mutate.specs.MapCalls.{IsCallOn, IsRefusedMake}
 use Rattle.cb_mutate.proofs.Laws.{near_held, here_near, free_call, make_call}
 use Rattle.cb_evict.specs.declared.eviction.Eviction.TheVariants.{Refused, Set}
@@ -52,7 +52,7 @@ use Rattle.cb_core.proofs.TurnCallsFilter.{kept_filter}
 use Rattle.cb_core.proofs.TurnCallsKept.{HasKept, kept_evict, kept_room, kept_bring, once_known, same_holding}
 use Rattle.cb_core.proofs.TurnCallsMake.{make_crammed}
 use Rattle.cb_core.proofs.TurnCallsParts.{read_part, write_part}
-use Rattle.cb_core.proofs.TurnCallsWhere.{IsPart, kept_map, within}
+use Rattle.cb_core.proofs.TurnCallsWhere.{IsCallWithLook, kept_map, within}
 
 -- ---- what is told of a pinned object
 -- the object is one of those that there are, is here and has a pin
@@ -213,7 +213,7 @@ make_fixed a b s t k bytes r ka kb p (won m n id c evict again never) =
 -- ---- a call on an object wherever it is
 where_fixed : (call : Holding Words → Reply → Holding Words → Type 0)
     (look : Holding Words → Option Reply → Holding Words → Type 0) (h k : ℕ) (q : Request)
-    → IsPart call look h q
+    → IsCallWithLook call look h q
     → ((a b : Holding Words) (s t : Shown) (r : Reply) → IsKnown a.desk a.far s → IsKnown b.desk b.far t
     → h < length a.desk.words → IsHeldHere a.desk k → call a r b → Fixed a b s t k)
     → (a b : Holding Words) (s t : Shown) (r : Reply) → IsKnown a.desk a.far s → IsKnown b.desk b.far t

@@ -9,7 +9,7 @@ use Rattle.std.proofs.lemmas.List.FromFn.{length-range_with_len}
 use Rattle.std.proofs.lemmas.List.Sums.{sum_by-cons}
 use Rattle.cb_member.specs.declared.names.NodeId.{NodeId}
 use Rattle.cb_member.specs.declared.names.Shard.{Shard}
-use Rattle.cb_member.specs.Membership.{IsMembership, Membership, alive, fresh_node, state_of}
+use Rattle.cb_member.specs.Membership.{IsMembership, Membership, alive, fresh_node, node_state}
 use Rattle.cb_node.specs.NodesState.{held}
 use Rattle.cb_types.specs.declared.config.Config.{Config}
 use Rattle.cb_world.specs.declared.shown.Shown.{Shown}
@@ -25,10 +25,10 @@ use Rattle.cb_core.proofs.RowsHeld.{IsIdle, JoinsApart, count_of, held_few, idle
 
 -- ---- a node that is down has crashed
 down_crashed : (m : Membership) (node : NodeId) → IsMembership m → node.n < length m.nodes
-    → alive m node ≡ false → 1 ≤ length (state_of m node).crashes
+    → alive m node ≡ false → 1 ≤ length (node_state m node).crashes
 down_crashed m node is inside down =
     let ended = is.ended node.n fresh_node inside in
-    let x = state_of m node in
+    let x = node_state m node in
     let over = ap (λ (b : Bool). if b then x.incarnation else x.incarnation + 1) down in
     omega (arith, ended, over)
 

@@ -18,7 +18,7 @@ use Rattle.std.proofs.lemmas.Map.Made.{length-le_from_is_member}
 use Rattle.std.proofs.lemmas.Option.{get_or_from_slice_get, slice_get-map, slice_get_within}
 use Rattle.cb_member.specs.declared.names.NodeId.{NodeId}
 use Rattle.cb_member.specs.declared.names.Shard.{Shard}
-use Rattle.cb_node.specs.NodesState.{held, rows_at}
+use Rattle.cb_node.specs.NodesState.{held, rows_of_node}
 use Rattle.cb_set.specs.Nodes.{OnDistinctNodes}
 use Rattle.cb_set.specs.SetState.{SetState, position_of}
 use Rattle.cb_world.specs.declared.homes.Home.{Home}
@@ -338,10 +338,11 @@ module _ (s : Shown) (far : FarState) (sound : Sound s far) (joins : JoinsApart 
         (key_named (λ (pair : JoiningState). pair.steps) far.joining x.0 p shard node.n x.1
         (steps_apart x.0 x.1) x.2 on))
 
-    inside : (q : ℕ) → is_member nat_eq (keys_of (map.entries (rows_at far.nodes node))) q ≡ true
+    inside : (q : ℕ) → is_member nat_eq (keys_of (map.entries (rows_of_node far.nodes node))) q
+        ≡ true
         → is_member nat_eq named q ≡ true
     inside q e =
-        let rows = rows_at far.nodes node in
+        let rows = rows_of_node far.nodes node in
         let keys = keys_of (map.entries rows) in
         let row = some_row (map.get rows q) (map.contains_key-keys rows q
         ∙ sym (any_agree (nat_eq q) (eq_by_cmp nat_cmp q) (same_test q) keys) ∙ e) in
@@ -350,7 +351,7 @@ module _ (s : Shown) (far : FarState) (sound : Sound s far) (joins : JoinsApart 
 
     pub held_few : held far.nodes node ≤ far.made + count_of far.leaving + count_of far.joining
     held_few =
-        let rows = rows_at far.nodes node in
+        let rows = rows_of_node far.nodes node in
         let keys = keys_of (map.entries rows) in
         let most = length-le_from_is_member nat_eq_equiv keys named
         (keys_apart (map.entries rows) (map.entries_sorted rows)) inside in

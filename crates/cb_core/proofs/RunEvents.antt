@@ -19,7 +19,7 @@ use Rattle.cb_model.specs.Event.{event_of}
 use Rattle.cb_model.specs.Event.Event.{Pins, Refused}
 use Rattle.cb_model.specs.Event.Subject.{Contents}
 use Rattle.cb_model.specs.Called.{Called, makes, value}
-use Rattle.cb_model.specs.Now.{Now as MapNow}
+use Rattle.cb_model.specs.Now.{MapNow}
 use Rattle.cb_model.specs.Replies.{MapReplies}
 use Rattle.cb_world.specs.declared.seats.Pin.{Pin}
 use Rattle.cb_world.specs.declared.shown.Shown.{Shown}
@@ -30,19 +30,19 @@ use Rattle.cb_world.specs.Now.Now.{held}
 use Rattle.cb_world.specs.OpenSteps.{next_word}
 use Rattle.cb_world.specs.Pinned.{with_word}
 use Rattle.cb_world.specs.Plain.{Words}
-use Rattle.cb_world.specs.Seats.{IsNewest, SeatState, idle_seat, pins_of_seat, seat_at, with_holds, with_pins}
+use Rattle.cb_world.specs.Seats.{IsNewestOf, SeatState, idle_seat, pins_of_seat, seat_at, with_holds, with_pins}
 use Rattle.cb_world.specs.StillWords.{stamp_at, contents_at}
 use Rattle.cb_world.specs.World.{WorldState, IsKnown, IsSoundWorld, word_at}
 use Rattle.cb_world.proofs.Laws.{pinned_now, unpinned_now, pin_counts}
 use Rattle.cb_mutate.specs.MapCalls.{IsValue, IsMapCall, IsCallBetween, IsCallOn}
 use Rattle.cb_mutate.specs.MapBeside.{IsMapOf, IsMapBeside}
-use Rattle.cb_mutate.specs.Steps.{WriteChange}
+use Rattle.cb_mutate.specs.CallStep.{WriteChange}
 use Rattle.cb_mutate.specs.StillReplies.{change_reply, reply_as, write_reply}
-use Rattle.cb_mutate.proofs.Laws.{beside_kept, map_kept, IsOnContents, map_same, call_by_state, refused_call, near_held, here_near, IsThere, write_call}
+use Rattle.cb_mutate.proofs.Laws.{beside_kept, map_kept, IsOnContents, map_same, call_by_state, refused_call, near_held, here_near, IsObjectThere, write_call}
 use Rattle.cb_core.specs.declared.event.Atomic.TheVariants as atomic
 use Rattle.cb_core.specs.declared.event.Event.{Event}
 use Rattle.cb_core.specs.declared.event.Event.TheVariants as event
-use Rattle.cb_core.specs.Called.{AreBegun, ClaimCall, called_as, call_of, claim_by, claims_after, handle_on, written_by}
+use Rattle.cb_core.specs.Called.{AreBegun, ClaimCall, called_as, call_of, claim_by, claims_after, handle_on, write_settled}
 use Rattle.cb_core.specs.Claiming.{ClaimStep, claim_reply, refused as claim_refused, taken as claim_taken, StoreStep, not_claimed as none_stored, nothing_left, stored, stamped, SettleStep, not_claimed as none_settled, not_stored, settled}
 use Rattle.cb_core.specs.Events.{IsEvent}
 use Rattle.cb_core.specs.Holding.{TakeStep, held as lock_held, taken as lock_taken, GiveStep, not_held, given as lock_given}
@@ -50,13 +50,13 @@ use Rattle.cb_core.specs.Jobs.{IsJob}
 use Rattle.cb_core.specs.NowIn.{claim_on, now_in}
 use Rattle.cb_core.specs.Pinning.{PinStep, scope_full, refused, taken, pin_refusal, UnpinStep, not_pinned, given}
 use Rattle.cb_core.specs.Step.{Step, TurnStep, worn, done, held as other_holds, free}
-use Rattle.cb_core.proofs.CallsBeside.{Comes, IsObjectCall, comes_none, call_comes, make_comes, on_read, on_write, on_free, on_pinned}
+use Rattle.cb_core.proofs.CallsBeside.{CallsCome, IsObjectCall, comes_none, call_comes, make_comes, on_read, on_write, on_free, on_pinned}
 use Rattle.cb_core.proofs.ClaimOn.{claim_set}
 use Rattle.cb_core.proofs.ClaimsBegun.{begun_beside, begun_still, claim_begun, settle_begun, store_begun}
 use Rattle.cb_core.proofs.ClaimsNow.{claimed_in, settled_in, stamped_in, stored_in}
 use Rattle.cb_core.proofs.MovingCalls.{free_moving, read_moving, write_moving}
 use Rattle.cb_core.proofs.NowIn.{are_made, call_in, claimed_moves, in_same, lost_in, lost_value, make_in, same_in}
-use Rattle.cb_core.proofs.HoldingFixed.{LeavesAll, give_leaves, take_leaves}
+use Rattle.cb_core.proofs.HoldingFixed.{LeavesWorld, give_leaves, take_leaves}
 use Rattle.cb_core.proofs.OpenFrame.{claim_leaves, store_leaves, settle_leaves}
 use Rattle.cb_core.proofs.OpenKeptSteps.{with_stamp, with_stored}
 use Rattle.cb_core.proofs.OpenSteps.{here_moving}
@@ -68,26 +68,28 @@ use Rattle.cb_core.proofs.TurnCallsNodes.{IsMapLost}
 -- ---- a world and its map
 
 -- the world is sound before an event and after it, and the map and the claims stand beside it before
-pub record Around (before : List Called) (claims : List ClaimCall) (w new : WorldState) : Type 0 where
+pub record AroundEvent (before : List Called) (claims : List ClaimCall) (w new : WorldState) : Type 0 where
   pub at_first : IsSoundWorld w
   pub after : IsSoundWorld new
   pub beside : IsMapOf before w.far.made (λ h. now_in w at_first.shown h)
   pub begun : AreBegun claims w.seats
 
 -- the map has afterwards what the world holds
-abbrev pub IsBeside : List Called → (new : WorldState) → IsSoundWorld new → Type 0
-IsBeside before new after = IsMapOf before new.far.made (λ h. now_in new after.shown h)
+abbrev pub IsMapAfter : List Called → (new : WorldState) → IsSoundWorld new → Type 0
+IsMapAfter before new after = IsMapOf before new.far.made (λ h. now_in new after.shown h)
 
 -- what an event comes to, as these calls
 abbrev pub GoesAs : List Called → List Called → WorldState → (new : WorldState) → IsSoundWorld new
     → Type 0
-GoesAs before more w new after = Comes w.far.first w.desk.settings.handles before more new.far.made
+GoesAs before more w new after =
+    CallsCome w.far.first w.desk.settings.handles before more new.far.made
     (λ h. now_in new after.shown h)
 
 -- and as those that it is
-abbrev pub Goes : List Called → List ClaimCall → Event → Reply → WorldState → (new : WorldState)
+abbrev pub EventGoes : List Called → List ClaimCall → Event → Reply → WorldState
+    → (new : WorldState)
     → IsSoundWorld new → Type 0
-Goes before claims e r w new after = GoesAs before (called_as before claims e r) w new after
+EventGoes before claims e r w new after = GoesAs before (called_as before claims e r) w new after
 
 -- the seats have the same open writes
 abbrev pub SameClaims : WorldState → WorldState → Type 0
@@ -98,7 +100,7 @@ seats_same w new same h = ap (λ (l : List SeatState). claim_on l h) same
 
 -- an event that is no call and leaves what every object holds
 pub none_goes : (before : List Called) (claims : List ClaimCall) (w new : WorldState)
-    → (c : Around before claims w new) → new.far.made ≡ w.far.made
+    → (c : AroundEvent before claims w new) → new.far.made ≡ w.far.made
     → ((h : ℕ) → now_in new c.after.shown h ≡ now_in w c.at_first.shown h)
     → GoesAs before [] w new c.after
 none_goes before claims w new c made same = comes_none w.far.first w.desk.settings.handles before
@@ -115,7 +117,7 @@ now_of w new before after same h = ap (λ (v : WorldState). now after.shown v.fa
 
 -- an event that changes nothing is no call
 same_goes : (before : List Called) (claims : List ClaimCall) (w new : WorldState)
-    → (c : Around before claims w new) → new ≡ w → GoesAs before [] w new c.after
+    → (c : AroundEvent before claims w new) → new ≡ w → GoesAs before [] w new c.after
 same_goes before claims w new c same = none_goes before claims w new c
     (ap (λ (v : WorldState). v.far.made) same)
     (λ h. in_same w new c.at_first.shown c.after.shown
@@ -141,7 +143,7 @@ lost_beside before s t far new map lost = record {
 
 -- a call on an object, by a seat, where the open writes stay
 call_goes : (before : List Called) (claims : List ClaimCall) (seat h : ℕ) (q : Request) (r : Reply)
-    (w new : WorldState) → (c : Around before claims w new) → SameClaims w new
+    (w new : WorldState) → (c : AroundEvent before claims w new) → SameClaims w new
     → IsCallOn w.desk.settings.handles c.at_first.shown c.after.shown w.far new.far h q r
     → (state_of (word_at w.desk h) ≡ state.Moving → event_of q r ≡ Refused Contents)
     → IsObjectCall q
@@ -162,8 +164,8 @@ worn_none before claims seat job.Evict = refl
 worn_none before claims seat j = refl
 
 worn_goes : (before : List Called) (claims : List ClaimCall) (seat : ℕ) (j : Job) (r : Reply)
-    (w new : WorldState) → (c : Around before claims w new) → r ≡ answer.Worn → new ≡ w
-    → Goes before claims (event.Turn seat j) r w new c.after
+    (w new : WorldState) → (c : AroundEvent before claims w new) → r ≡ answer.Worn → new ≡ w
+    → EventGoes before claims (event.Turn seat j) r w new c.after
 worn_goes before claims seat j r w new c is same =
     subst (λ (cs : List Called). GoesAs before cs w new c.after)
     (sym (ap (called_as before claims (event.Turn seat j)) is ∙ worn_none before claims seat j))
@@ -176,8 +178,8 @@ held_none before claims seat holder job.Evict = refl
 held_none before claims seat holder j = refl
 
 held_goes : (before : List Called) (claims : List ClaimCall) (seat holder : ℕ) (j : Job) (r : Reply)
-    (w new : WorldState) → (c : Around before claims w new) → r ≡ answer.Held holder → new ≡ w
-    → Goes before claims (event.Turn seat j) r w new c.after
+    (w new : WorldState) → (c : AroundEvent before claims w new) → r ≡ answer.Held holder → new ≡ w
+    → EventGoes before claims (event.Turn seat j) r w new c.after
 held_goes before claims seat holder j r w new c is same =
     subst (λ (cs : List Called). GoesAs before cs w new c.after)
     (sym (ap (called_as before claims (event.Turn seat j)) is
@@ -186,16 +188,16 @@ held_goes before claims seat holder j r w new c is same =
 
 -- a turn that keeps the map is no call
 quiet_goes : (before : List Called) (claims : List ClaimCall) (w new : WorldState)
-    → (c : Around before claims w new) → SameClaims w new
+    → (c : AroundEvent before claims w new) → SameClaims w new
     → IsSameMap c.at_first.shown c.after.shown w.far new.far → GoesAs before [] w new c.after
 quiet_goes before claims w new c stay same = comes_none w.far.first w.desk.settings.handles before
     new.far.made (λ h. now_in new c.after.shown h)
     (same_in w new c.at_first.shown c.after.shown stay before c.beside same)
 
 done_goes : (before : List Called) (claims : List ClaimCall) (seat : ℕ) (j : Job) (r : Reply)
-    (w new : WorldState) → (c : Around before claims w new) → SameClaims w new
+    (w new : WorldState) → (c : AroundEvent before claims w new) → SameClaims w new
     → IsJob w.desk.settings j → w.far.counts.turns < 2 ^ 40 → TurnStep j w r new
-    → Goes before claims (event.Turn seat j) r w new c.after
+    → EventGoes before claims (event.Turn seat j) r w new c.after
 done_goes before claims seat (job.Make bytes) r w new c stay ok few step =
     let z = make_turn w new bytes [] r c.at_first c.after few step in
     make_comes w.far.first w.desk.settings.handles seat w.far.made new.far.made before
@@ -239,8 +241,8 @@ done_goes before claims seat j r w new c stay ok few step =
     (far_map j w new r c.at_first c.after (is_done j w new r few step))
 
 turn_goes : (before : List Called) (claims : List ClaimCall) (seat : ℕ) (j : Job) (r : Reply)
-    (w new : WorldState) → (c : Around before claims w new) → IsJob w.desk.settings j
-    → TurnStep j w r new → Goes before claims (event.Turn seat j) r w new c.after
+    (w new : WorldState) → (c : AroundEvent before claims w new) → IsJob w.desk.settings j
+    → TurnStep j w r new → EventGoes before claims (event.Turn seat j) r w new c.after
 turn_goes before claims seat j r w new c ok (worn end is same) =
     worn_goes before claims seat j r w new c is same
 turn_goes before claims seat j r w new c ok (done few works seats) =
@@ -250,7 +252,7 @@ turn_goes before claims seat j r w new c ok (done few works seats) =
 
 -- a pinned object is here
 pinned_here : (w : WorldState) (seat at h : ℕ) → IsSoundWorld w → seat < 64
-    → IsNewest (pins_of_seat w.seats seat) h at → state_of (word_at w.desk h) ≡ state.Here
+    → IsNewestOf (pins_of_seat w.seats seat) h at → state_of (word_at w.desk h) ≡ state.Here
 pinned_here w seat at h sound lt n =
     (sound.pinned.here h below (pin_counts w.desk w.seats seat at h sound.pinned lt n below)).0
   where
@@ -290,7 +292,7 @@ pins_by v first handles made h bytes (Some (Held u b)) is = is.0
 
 -- a pin of an object that can't be pinned
 refused_pin : (before : List Called) (claims : List ClaimCall) (h : ℕ) (r : Reply)
-    (w new : WorldState) → (c : Around before claims w new) → h < length w.desk.words
+    (w new : WorldState) → (c : AroundEvent before claims w new) → h < length w.desk.words
     → r ≡ pin_refusal (state_of (word_at w.desk h)) (stamp_at w.desk h) (pins_of (word_at w.desk h))
     → new ≡ w
     → IsCallOn w.desk.settings.handles c.at_first.shown c.after.shown w.far new.far h (PinLine []) r
@@ -303,7 +305,7 @@ refused_pin before claims h r w new c below is same =
     (λ here crowded. refused_call w.desk new.desk w.far new.far c.at_first.shown c.after.shown h
     w.desk.settings.handles (PinLine []) r
     (record { before = c.at_first.known; afterwards = c.after.known }) stays
-    (subst IsThere (sym (near_held w.desk w.far c.at_first.shown h c.at_first.known below
+    (subst IsObjectThere (sym (near_held w.desk w.far c.at_first.shown h c.at_first.known below
     (here_near (word_at w.desk h) here))) tt) (ap (event_of (PinLine [])) crowded))
   where
     stays : (new.desk ≡ w.desk) × (new.far ≡ w.far)
@@ -311,7 +313,7 @@ refused_pin before claims h r w new c below is same =
 
 -- a pin changes nothing of what objects hold
 taken_pin : (before : List Called) (claims : List ClaimCall) (h v : ℕ) (bytes : List ℕ)
-    (w new : WorldState) → (c : Around before claims w new) → new.far ≡ w.far
+    (w new : WorldState) → (c : AroundEvent before claims w new) → new.far ≡ w.far
     → ((k : ℕ) → now c.after.shown new.far k ≡ now c.at_first.shown w.far k)
     → now c.at_first.shown w.far h ≡ held v bytes
     → IsCallOn w.desk.settings.handles c.at_first.shown c.after.shown w.far new.far h (PinLine [])
@@ -334,12 +336,13 @@ pins_stay w new seat pins seats h = ap (λ (l : List SeatState). claim_on l h) s
     ∙ claim_set w.seats seat (record (seat_at w.seats seat) { pins = pins }) h refl
 
 pin_goes : (before : List Called) (claims : List ClaimCall) (seat h : ℕ) (r : Reply)
-    (w new : WorldState) → (c : Around before claims w new) → h < w.desk.settings.handles
+    (w new : WorldState) → (c : AroundEvent before claims w new) → h < w.desk.settings.handles
     → PinStep seat h w r new
-    → Goes before claims (event.Step seat (atomic.Pin (record { n = h }))) r w new c.after
+    → EventGoes before claims (event.Step seat (atomic.Pin (record { n = h }))) r w new c.after
 pin_goes before claims seat h r w new c below (scope_full full is same) =
     subst (λ (q : Reply).
-    Goes before claims (event.Step seat (atomic.Pin (record { n = h }))) q w new c.after) (sym is)
+    EventGoes before claims (event.Step seat (atomic.Pin (record { n = h }))) q w new c.after)
+    (sym is)
     (same_goes before claims w new c same)
 pin_goes before claims seat h r w new c below (refused room never_may is same) =
     call_goes before claims seat h (PinLine []) r w new c
@@ -364,7 +367,8 @@ pin_goes before claims seat h r w new c below (taken room may is t) =
 
 -- the end of a pin is no call, and leaves the map as it is
 unpin_goes : (before : List Called) (claims : List ClaimCall) (seat h : ℕ) (r : Reply)
-    (w new : WorldState) → (c : Around before claims w new) → seat < 64 → UnpinStep seat h w r new
+    (w new : WorldState) → (c : AroundEvent before claims w new) → seat < 64
+    → UnpinStep seat h w r new
     → GoesAs before [] w new c.after
 unpin_goes before claims seat h r w new c lt (not_pinned none is same) =
     same_goes before claims w new c same
@@ -386,9 +390,10 @@ unclaimed r q x y h at bytes is off same =
     (is, subst (λ (z : Reply). WriteChange z x y h at bytes) (sym is) same)
 
 claim_goes : (before : List Called) (claims : List ClaimCall) (seat : ℕ) (h : Handle) (at : ℕ)
-    (bytes : List ℕ) (r : Reply) (w new : WorldState) → (c : Around before claims w new) → seat < 64
+    (bytes : List ℕ) (r : Reply) (w new : WorldState) → (c : AroundEvent before claims w new)
+    → seat < 64
     → h.n < length w.desk.words → ClaimStep seat h.n at bytes w r new
-    → Goes before claims (event.Step seat (atomic.Claim h at bytes)) r w new c.after
+    → EventGoes before claims (event.Step seat (atomic.Claim h at bytes)) r w new c.after
 claim_goes before claims seat h at bytes r w new c lt below (claim_refused off is same) =
     let z = unclaimed r (write_reply (word_at w.desk h.n) (stamp_at w.desk h.n) at (length bytes)) w.desk
     new.desk h.n at bytes is off (ap (λ (v : WorldState). v.desk) same) in
@@ -404,12 +409,13 @@ claim_goes before claims seat h at bytes r w new c lt below (claim_refused off i
     else change_reply (word_at w.desk h.n) (stamp_at w.desk h.n))) moving)) (on_write [] at bytes)
 claim_goes before claims seat h at bytes r w new c lt below (claim_taken may is reply t) =
     subst (λ (q : Reply).
-    Goes before claims (event.Step seat (atomic.Claim h at bytes)) q w new c.after) (sym is)
+    EventGoes before claims (event.Step seat (atomic.Claim h at bytes)) q w new c.after) (sym is)
     (none_goes before claims w new c (ap (λ (f : FarState). f.made) t.far)
     (claimed_in seat h.n at bytes w new c.at_first c.after lt below may t))
 
 store_goes : (before : List Called) (claims : List ClaimCall) (seat h : ℕ) (r : Reply)
-    (w new : WorldState) → (c : Around before claims w new) → seat < 64 → StoreStep seat h w r new
+    (w new : WorldState) → (c : AroundEvent before claims w new) → seat < 64
+    → StoreStep seat h w r new
     → GoesAs before [] w new c.after
 store_goes before claims seat h r w new c lt (none_stored off is same) =
     same_goes before claims w new c same
@@ -425,21 +431,24 @@ store_goes before claims seat h r w new c lt (stamped at x last is m n) =
     (m ∙ ap (with_stamp w.desk (x.ongoing.version + 1)) (sym x.on)))
 
 settle_goes : (before : List Called) (claims : List ClaimCall) (seat : ℕ) (h : Handle) (r : Reply)
-    (w new : WorldState) → (c : Around before claims w new) → seat < 64
+    (w new : WorldState) → (c : AroundEvent before claims w new) → seat < 64
     → SettleStep seat h.n w r new
-    → Goes before claims (event.Step seat (atomic.Settle h)) r w new c.after
+    → EventGoes before claims (event.Step seat (atomic.Settle h)) r w new c.after
 settle_goes before claims seat h r w new c lt (none_settled off is same) =
-    subst (λ (q : Reply). Goes before claims (event.Step seat (atomic.Settle h)) q w new c.after)
+    subst (λ (q : Reply). EventGoes before claims (event.Step seat (atomic.Settle h)) q w new
+    c.after)
     (sym is) (same_goes before claims w new c same)
 settle_goes before claims seat h r w new c lt (not_stored at x left is same) =
-    subst (λ (q : Reply). Goes before claims (event.Step seat (atomic.Settle h)) q w new c.after)
+    subst (λ (q : Reply). EventGoes before claims (event.Step seat (atomic.Settle h)) q w new
+    c.after)
     (sym is) (same_goes before claims w new c same)
 settle_goes before claims seat h r w new c lt (settled at x none is t) =
     let d = x.ongoing in
     let begun = c.begun seat at d x.there in
-    subst (λ (q : Reply). Goes before claims (event.Step seat (atomic.Settle h)) q w new c.after)
+    subst (λ (q : Reply). EventGoes before claims (event.Step seat (atomic.Settle h)) q w new
+    c.after)
     (sym is)
-    (subst (λ (o : Option ClaimCall). GoesAs before (written_by seat (handle_on (makes before) h.n) o
+    (subst (λ (o : Option ClaimCall). GoesAs before (write_settled seat (handle_on (makes before) h.n) o
     (answer.Version (d.version + 1))) w new c.after)
     (sym (subst (λ (k : ℕ). claim_by claims seat k
     ≡ Some (record { seat = seat; handle = k; at = d.at; bytes = d.bytes })) x.on begun))
@@ -488,7 +497,7 @@ lock_begun claims seat w new (inr (b, same)) begun =
 
 -- where the words and the far state stay, the map stays beside them
 lock_goes : (before : List Called) (claims : List ClaimCall) (seat : ℕ) (w new : WorldState)
-    → (c : Around before claims w new) → LeavesAll w new → LeavesClaims seat w new
+    → (c : AroundEvent before claims w new) → LeavesWorld w new → LeavesClaims seat w new
     → GoesAs before [] w new c.after
 lock_goes before claims seat w new c same seats =
     none_goes before claims w new c (ap (λ (f : FarState). f.made) same.far)
@@ -505,8 +514,8 @@ pub in_words_of : (w : WorldState) (h : ℕ) → IsSoundWorld w → h < w.desk.s
 in_words_of w h sound below = let n = sound.known.sized.words in omega (arith, below, n)
 
 pub event_goes : (before : List Called) (claims : List ClaimCall) (e : Event) (r : Reply)
-    (w new : WorldState) → (c : Around before claims w new) → IsEvent w.desk.settings e → Step w e r new
-    → Goes before claims e r w new c.after
+    (w new : WorldState) → (c : AroundEvent before claims w new) → IsEvent w.desk.settings e → Step w e r new
+    → EventGoes before claims e r w new c.after
 event_goes before claims (event.Turn seat j) r w new c ok (other_holds holder off holds is same) =
     held_goes before claims seat holder j r w new c is same
 event_goes before claims (event.Turn seat j) r w new c ok (free none step) =

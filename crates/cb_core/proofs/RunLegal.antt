@@ -27,7 +27,7 @@ use Rattle.cb_core.specs.Run.{LeadsSoundly}
 use Rattle.cb_core.specs.Step.{Step}
 use Rattle.cb_core.proofs.ClaimOn.{claim_none}
 use Rattle.cb_core.proofs.NowIn.{are_gone, in_same, in_words}
-use Rattle.cb_core.proofs.RunEvents.{Around, IsBeside, GoesAs, event_goes, event_begun, event_first}
+use Rattle.cb_core.proofs.RunEvents.{AroundEvent, IsMapAfter, GoesAs, event_goes, event_begun, event_first}
 use Rattle.cb_core.proofs.Settings.{step_settings}
 use Rattle.cb_core.proofs.TurnCallsKept.{known_same}
 
@@ -69,14 +69,14 @@ legal_more e r before more rest claims w mid new step sound after goes later = r
 legal_by : (events : List Event) (replies : List Reply) (before : List Called)
     (claims : List ClaimCall) (w new : WorldState) → LeadsSoundly w events replies new
     → AllByRecursion (IsEvent w.desk.settings) events → (sound : IsSoundWorld w)
-    → IsBeside before w sound → AreBegun claims w.seats
+    → IsMapAfter before w sound → AreBegun claims w.seats
     → IsLegalRun before (calls_by before claims events replies) (claims_by claims events replies) w new
 legal_by [] [] before claims w new leads ok sound map begun = record {
   follow = tt;
   beside = subst (StandsBeside (before ++ []) claims) (sym leads) (record {
     shown = sound.shown;
     known = sound.known;
-    beside = subst (λ (cs : List Called). IsBeside cs w sound) (sym (append-nil before)) map;
+    beside = subst (λ (cs : List Called). IsMapAfter cs w sound) (sym (append-nil before)) map;
     gone = are_gone w sound.shown sound.known sound.ongoing;
     begun = begun;
   });
@@ -84,7 +84,7 @@ legal_by [] [] before claims w new leads ok sound map begun = record {
 legal_by [] (r ∷ replies) before claims w new leads ok sound map begun = absurd leads
 legal_by (e ∷ events) [] before claims w new leads ok sound map begun = absurd leads
 legal_by (e ∷ events) (r ∷ replies) before claims w new (mid, step, after, leads) ok sound map begun =
-    let c : Around before claims w mid =
+    let c : AroundEvent before claims w mid =
     record { at_first = sound; after = after; beside = map; begun = begun } in
     let goes = event_goes before claims e r w mid c ok.0 step in
     legal_more e r before (called_as before claims e r)

@@ -9,7 +9,7 @@ use Rattle.cb_world.specs.World.{WorldState, IsSoundWorld}
 use Rattle.cb_core.specs.declared.event.Event.{Event}
 use Rattle.cb_core.specs.Events.{IsEvent}
 use Rattle.cb_core.specs.Run.{LeadsSoundly, RunStops}
-use Rattle.cb_core.specs.Step.{Step, Leads, Stops}
+use Rattle.cb_core.specs.Step.{Step, Leads, EventStops}
 use Rattle.cb_core.proofs.Settings.{step_settings}
 
 -- one more event
@@ -91,7 +91,7 @@ of_error P (Err e) p = p
 -- the next event stopped
 pub going_stops : (start : WorldState) (events : List Event) (i : ℕ) (replies : List Reply)
     (w new : WorldState) (e : Event) → Going start events i replies w → i < length events
-    → e ≡ get_or events i e → Stops w e new → RunStops start events new
+    → e ≡ get_or events i e → EventStops w e new → RunStops start events new
 going_stops start events i replies w new e g lt at stops = record {
   before = take i events;
   after = drop i events;

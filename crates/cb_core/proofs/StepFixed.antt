@@ -13,7 +13,7 @@ use Rattle.cb_world.specs.declared.seats.Pin.{Pin}
 use Rattle.cb_world.specs.declared.shown.Shown.{Shown}
 use Rattle.cb_world.specs.Pinned.{with_word}
 use Rattle.cb_world.specs.Plain.{Words}
-use Rattle.cb_world.specs.Seats.{IsNewest, pins_of_seat, with_pins}
+use Rattle.cb_world.specs.Seats.{IsNewestOf, pins_of_seat, with_pins}
 use Rattle.cb_world.specs.Sound.{Sound}
 use Rattle.cb_world.specs.World.{WorldState, IsSoundWorld}
 use Rattle.cb_world.proofs.Laws.{home_same, IsOneEnd}
@@ -35,7 +35,7 @@ use Rattle.cb_core.proofs.Counting.{counted_sound}
 use Rattle.cb_core.proofs.FarJobs.{far_job}
 use Rattle.cb_core.proofs.HoldingFixed.{give_fixed, one_holder, take_fixed}
 use Rattle.cb_core.proofs.OpenFixed.{claim_fixed, store_fixed, settle_fixed}
-use Rattle.cb_core.proofs.PartsFixed.{AreOne, IsFixed, LeavesAll, brings_in_fixed, where_it_is_fixed, with_room_fixed}
+use Rattle.cb_core.proofs.PartsFixed.{AreOne, IsFixed, PartLeavesAll, brings_in_fixed, where_it_is_fixed, with_room_fixed}
 
 -- where the words and the far state stay, all does
 both_same : (a b : Holding Words) → b.desk ≡ a.desk → b.far ≡ a.far → b ≡ a
@@ -53,7 +53,7 @@ make_fixed bytes a r q b c x y =
 not_made : (h : Handle) (v : ℕ) → answer.NoFrame ≡ answer.Made h v → ⊥
 not_made h v e = cc
 
-make_refuses : (bytes : List ℕ) → LeavesAll (StillMake bytes) answer.NoFrame
+make_refuses : (bytes : List ℕ) → PartLeavesAll (StillMake bytes) answer.NoFrame
 make_refuses bytes a b (inl x) = both_same a b x.2 x.3
 make_refuses bytes a b (inr x) = elim x.1 [
   | inl y ↦ both_same a b y.2 y.3
@@ -64,32 +64,32 @@ read_fixed : (h : ℕ) (a : Holding Words) → IsFixed (StillRead h) a
 read_fixed h a r q b c x y = both r q b c
     (read_step_fixes a.desk b.desk c.desk a.far b.far c.far h r q x.0 x.1 y.0 y.1)
 
-read_refuses : (h : ℕ) → LeavesAll (StillRead h) answer.NotHere
+read_refuses : (h : ℕ) → PartLeavesAll (StillRead h) answer.NotHere
 read_refuses h a b x = both_same a b x.0.change x.1
 
 write_fixed : (h at : ℕ) (bytes : List ℕ) (a : Holding Words) → IsFixed (StillWrite h at bytes) a
 write_fixed h at bytes a r q b c x y = both r q b c
     (write_step_fixes a.desk b.desk c.desk a.far b.far c.far h at bytes r q x.0 x.1 y.0 y.1)
 
-write_refuses : (h at : ℕ) (bytes : List ℕ) → LeavesAll (StillWrite h at bytes) answer.NotHere
+write_refuses : (h at : ℕ) (bytes : List ℕ) → PartLeavesAll (StillWrite h at bytes) answer.NotHere
 write_refuses h at bytes a b x = both_same a b x.0.change x.1
 
 find_fixed : (h : ℕ) (a : Holding Words) → IsFixed (StillFind h) a
 find_fixed h a r q b c x y = (x.0 ∙ sym y.0, x.1 ∙ sym y.1)
 
-find_refuses : (h : ℕ) → LeavesAll (StillFind h) answer.NotHere
+find_refuses : (h : ℕ) → PartLeavesAll (StillFind h) answer.NotHere
 find_refuses h a b x = x.1
 
 decline_fixed : (h at count : ℕ) (a : Holding Words) → IsFixed (StillDecline h at count) a
 decline_fixed h at count a r q b c x y = (x.0 ∙ sym y.0, x.1 ∙ sym y.1)
 
-decline_stays : (h at count : ℕ) → LeavesAll (StillDecline h at count) None
+decline_stays : (h at count : ℕ) → PartLeavesAll (StillDecline h at count) None
 decline_stays h at count a b x = x.1
 
 never_fixed : (a : Holding Words) → IsFixed (NeverDeclined {D = Words}) a
 never_fixed a r q b c x y = (x.0 ∙ sym y.0, x.1 ∙ sym y.1)
 
-never_stays : LeavesAll (NeverDeclined {D = Words}) None
+never_stays : PartLeavesAll (NeverDeclined {D = Words}) None
 never_stays a b x = x.1
 
 -- ---- far objects
@@ -100,7 +100,7 @@ swap_fixed h a r q b c x y =
     (subst (λ (home : Home). IsSwapStep a.desk b.desk a.far b.far home.set home.position r) homes x.2)
     y.2)
 
-pub swap_refuses : (h : ℕ) → LeavesAll (StillSwap h) answer.NoFrame
+pub swap_refuses : (h : ℕ) → PartLeavesAll (StillSwap h) answer.NoFrame
 swap_refuses h a b x = both_same a b x.2.change.0 x.2.change.1
 
 room_fixed : (a : Holding Words) → IsAccepted a.desk.settings → IsFixed StillRoom a
@@ -120,12 +120,12 @@ still r q a b c e f same =
 
 -- ---- a job
 -- what its part rests on: an accepted configuration, and a sound far state
-pub record IsReady (a : Holding Words) : Type 0 where
+pub record IsReadyToWork (a : Holding Words) : Type 0 where
   pub accepted : IsAccepted a.desk.settings
   pub shown : Shown
   pub sound : Sound shown a.far
 
-pub works_fixed : (job : Job) (a : Holding Words) → IsReady a → IsFixed (StillWorks job) a
+pub works_fixed : (job : Job) (a : Holding Words) → IsReadyToWork a → IsFixed (StillWorks job) a
 works_fixed (Make bytes) a ready r q b c x y =
     with_room_fixed a.desk.settings.frames (StillMake bytes) StillRoom (make_fixed bytes)
     (make_refuses bytes) a (room_fixed a ready.accepted) r q b c x y
@@ -162,7 +162,7 @@ turned : (a b : WorldState) → a.desk ≡ b.desk → a.far ≡ b.far → a.seat
 turned a b desks fars seats = λ i. record { desk = desks i; far = fars i; seats = seats i }
 
 turn_ready : (w : WorldState) (job : Job) → IsSoundWorld w
-    → IsReady (record { desk = w.desk; far = counted w.far job })
+    → IsReadyToWork (record { desk = w.desk; far = counted w.far job })
 turn_ready w job sound = record {
   accepted = sound.config;
   shown = sound.shown;
@@ -196,7 +196,7 @@ seat_fixed seat job w a b r q sound (free none x) (free m y) = turn_fixed job w 
 
 -- ---- a pin and its end
 -- the newest pin on an object is one
-pub newest_fixed : (pins : List Pin) (h i j : ℕ) → IsNewest pins h i → IsNewest pins h j → i ≡ j
+pub newest_fixed : (pins : List Pin) (h i j : ℕ) → IsNewestOf pins h i → IsNewestOf pins h j → i ≡ j
 newest_fixed pins h i j x y = elim (cases_order i j) [
   | inl e ↦ e
   | inr apart ↦ elim apart [

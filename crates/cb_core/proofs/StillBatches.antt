@@ -29,7 +29,7 @@ use Rattle.cb_evict.proofs.Laws.{abort_step, begin_settings, begin_count, begin_
 use Rattle.cb_core.specs.Step.{StillBegin, StillShip, StillCommit, StillAbort, StillShipLacks}
 use Rattle.cb_core.specs.Turned.{Begins, Ships, Commits, Aborts, ShipLacks}
 use Rattle.cb_core.proofs.KeptParts.{Carries, CarriesLack, arrives_kept, arrives_same, holds_on}
-use Rattle.cb_core.proofs.StillParts.{Ran, Tells, both_same}
+use Rattle.cb_core.proofs.StillParts.{Ran, SaysAll, both_same}
 
 -- ---- a begin
 pub begin_keeps : (x y : Words) (far new : FarState) (r : Reply) → IsBeginStep x y far new r
@@ -166,7 +166,7 @@ abort_keeps x y far new r s k (given_up g back) = abort_done x y far new r s k g
 
 -- ---- the parts of a turn
 pub begin_part : (c : Config) (seats : List SeatState)
-    → Carries c seats 1 (Begins Ran Tells c) StillBegin
+    → Carries c seats 1 (Begins Ran SaysAll c) StillBegin
 begin_part c seats a b r good p =
     let x = a.desk in let y = b.desk in let far = a.far in let new = b.far in
     let q = subst (λ (d : Config). PerformsStill x y far new (BeginRule d far new r)
@@ -181,7 +181,7 @@ begin_part c seats a b r good p =
     )
 
 pub ship_part : (c : Config) (seats : List SeatState)
-    → Carries c seats 1 (Ships Ran Tells) StillShip
+    → Carries c seats 1 (Ships Ran SaysAll) StillShip
 ship_part c seats a b r good p =
     let x = a.desk in let y = b.desk in let far = a.far in let new = b.far in
     let z = ship_step x y far new r good.shown p good.known in
@@ -195,7 +195,7 @@ ship_part c seats a b r good p =
 
 -- one that found no memory changed nothing
 pub ship_lack : (c : Config) (seats : List SeatState)
-    → CarriesLack c seats 1 (ShipLacks Ran Tells) StillShipLacks
+    → CarriesLack c seats 1 (ShipLacks Ran SaysAll) StillShipLacks
 ship_lack c seats a b good (same, p) =
     let q = subst (λ (f : FarState). PerformsStill a.desk b.desk a.far f (ReadsLeaving a.far) IsStill)
     same p in
@@ -203,7 +203,7 @@ ship_lack c seats a b good (same, p) =
     arrives_same c seats 1 a b (StillShipLacks a b) good e e
 
 pub commit_part : (c : Config) (seats : List SeatState)
-    → Carries c seats 1 (Commits Ran Tells) StillCommit
+    → Carries c seats 1 (Commits Ran SaysAll) StillCommit
 commit_part c seats a b r good p =
     let x = a.desk in let y = b.desk in let far = a.far in let new = b.far in
     let z = commit_step x y far new r good.shown p good.known in
@@ -216,7 +216,7 @@ commit_part c seats a b r good p =
     )
 
 pub abort_part : (c : Config) (seats : List SeatState)
-    → Carries c seats 1 (Aborts Ran Tells) StillAbort
+    → Carries c seats 1 (Aborts Ran SaysAll) StillAbort
 abort_part c seats a b r good p =
     let x = a.desk in let y = b.desk in let far = a.far in let new = b.far in
     let z = abort_step x y far new r good.shown p good.known in

@@ -16,7 +16,7 @@ use Rattle.cb_core.specs.Jobs.{IsJob}
 use Rattle.cb_core.specs.Parts.{Holding}
 use Rattle.cb_core.specs.Step.{StillFar, StillFarLacks}
 use Rattle.cb_core.specs.Turned.{AtFar, AtFarLacks}
-use Rattle.cb_core.proofs.FarJobs.{Holds, StaysSound, far_job, note_of}
+use Rattle.cb_core.proofs.FarJobs.{KeepsContents, StaysSound, far_job, note_of}
 use Rattle.cb_core.proofs.KeptParts.{IsGood, ArrivesBy}
 use Rattle.cb_core.proofs.StillParts.{Ran}
 
@@ -68,7 +68,7 @@ pub far_arrives : (c : Config) (seats : List SeatState) (job : Job) (a b : Holdi
 far_arrives c seats job a b r Z ok good same step z = arrives_far c seats a b Z good same
     ((far_job job).keeps c good.shown a.far b.far r ok good.configured good.known.sound step) z
 
-pub far_part : (c : Config) (seats : List SeatState) (job : Job) → IsJob c job → Holds job
+pub far_part : (c : Config) (seats : List SeatState) (job : Job) → IsJob c job → KeepsContents job
     → (a b : Holding Words) (r : Reply) → IsGood c seats a → AtFar Ran (FarStep job) a r b
     → ArrivesBy (note_of job) c seats 64 a b (StillFar (FarStep job) a r b)
 far_part c seats job ok holds a b r good (ran, step) =

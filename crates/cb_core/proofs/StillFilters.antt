@@ -19,10 +19,10 @@ use Rattle.cb_filter.proofs.Laws.{filter_keeps, filter_step, filter_stopped, fil
 use Rattle.cb_core.specs.Step.{StillFilter, StillFilterLacks}
 use Rattle.cb_core.specs.Turned.{Filters, FilterLacks}
 use Rattle.cb_core.proofs.KeptParts.{Carries, CarriesLack, arrives_kept, arrives_same, holds_on}
-use Rattle.cb_core.proofs.StillParts.{Ran, Tells, both_same}
+use Rattle.cb_core.proofs.StillParts.{Ran, SaysAll, both_same}
 
 pub filter_part : (c : Config) (seats : List SeatState) (h : ℕ)
-    → Carries c seats 1 (Filters Ran Tells c h) (StillFilter h)
+    → Carries c seats 1 (Filters Ran SaysAll c h) (StillFilter h)
 filter_part c seats h a b r good p =
     let x = a.desk in let y = b.desk in let far = a.far in let new = b.far in
     let q = subst (λ (d : Config). PerformsStill x y far new (FilterRule d.frames h far new r)
@@ -64,7 +64,7 @@ claim_free (Settled k u ∷ es) x y h v words run first taken =
     (t.0, inl t.1, t.2)
 
 pub filter_lack : (c : Config) (seats : List SeatState) (h : ℕ)
-    → CarriesLack c seats 1 (FilterLacks Ran Tells h) (StillFilterLacks h)
+    → CarriesLack c seats 1 (FilterLacks Ran SaysAll h) (StillFilterLacks h)
 filter_lack c seats h a b good p =
     let e = filter_stopped a.desk b.desk a.far b.far good.shown h good.known p in
     let same = both_same a b e.0 e.1 in

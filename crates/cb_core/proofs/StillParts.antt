@@ -23,10 +23,10 @@ use Rattle.cb_mutate.specs.Answered.{Answered}
 use Rattle.cb_mutate.specs.MakeRule.{MakeRule, MakeEffect, NeedsNewSpan, new_word}
 use Rattle.cb_mutate.specs.MakeStep.{IsMakeStep}
 use Rattle.cb_mutate.specs.ReadRule.{ReadRule, ReadEffect}
-use Rattle.cb_mutate.specs.Steps.{IsReadStep, with_seen, IsWriteStep, IsOverwritten, IsFreeStep, IsTakenOut}
+use Rattle.cb_mutate.specs.CallStep.{IsReadStep, with_seen, IsWriteStep, IsOverwritten, IsFreeStep, IsTakenOut}
 use Rattle.cb_mutate.specs.StillReplies.{reply_as}
 use Rattle.cb_mutate.specs.WriteRule.{WriteRule, WriteEffect}
-use Rattle.cb_mutate.proofs.Laws.{free_step, make_step, free_stays, make_stays, read_step, failed_step, is_exact, Comes, comes, reply_comes, write_step}
+use Rattle.cb_mutate.proofs.Laws.{free_step, make_step, free_stays, make_stays, read_step, failed_step, is_exact, ComesTo, comes, reply_comes, write_step}
 use Rattle.cb_evict.specs.Evicting.{TouchesSpans}
 use Rattle.cb_evict.specs.EvictEffect.{EvictEffect}
 use Rattle.cb_evict.specs.EvictRule.{EvictRule}
@@ -37,7 +37,7 @@ use Rattle.cb_swapin.proofs.Laws.{given_known, given_stays, swap_keeps, swap_sta
 use Rattle.cb_core.specs.Declining.{write_refusal}
 use Rattle.cb_core.specs.Parts.{Holding, NeverDeclined}
 use Rattle.cb_core.specs.Step.{StillMake, StillRead, StillWrite, StillFree, StillFind, StillDecline, StillEvict, StillRoom, StillSwap, StillMakeLacks, StillReadLacks, StillEvictLacks, StillSwapLacks}
-use Rattle.cb_core.specs.Turned.{Makes, Reads, Writes, Frees, Finds, Declines, Evicts, WinsRoom, Swaps, MakeLacks, ReadLacks, EvictLacks, SwapLacks, IsDeclined}
+use Rattle.cb_core.specs.Turned.{Makes, Reads, WritesObject, Frees, FindsWhere, Declines, Evicts, WinsRoom, Swaps, MakeLacks, ReadLacks, EvictLacks, SwapLacks, IsDeclined}
 use Rattle.cb_core.proofs.Changes.{MayGo, read_leaves, write_leaves, free_leaves}
 use Rattle.cb_core.proofs.KeptParts.{IsGood, Rises, Arrives, Carries, CarriesLack, arrives_kept, arrives_same, arrives_stays, holds_on}
 use Rattle.cb_core.proofs.KeptPins.{seen_pinned, written_pinned, freed_pinned, new_pinned, no_pins}
@@ -46,8 +46,8 @@ use Rattle.cb_core.proofs.KeptPins.{seen_pinned, written_pinned, freed_pinned, n
 abbrev pub Ran : Words → List Event → Words → Type 0
 Ran x es y = Plain x es y × (IsSized x → IsSized y)
 
-abbrev pub Tells : Words → Shown → Type 0
-Tells x s = IsSized x × Shows x s
+abbrev pub SaysAll : Words → Shown → Type 0
+SaysAll x s = IsSized x × Shows x s
 
 -- both the words and the far state stay
 pub both_same : (a b : Holding Words) → b.desk ≡ a.desk → b.far ≡ a.far → b ≡ a
@@ -86,7 +86,7 @@ read_kept c seats h a b r t Z good same step known ongoing z =
         ongoing z
 
 pub read_part : (c : Config) (seats : List SeatState) (h : ℕ)
-    → Carries c seats 1 (Reads Ran Tells h) (StillRead h)
+    → Carries c seats 1 (Reads Ran SaysAll h) (StillRead h)
 read_part c seats h a b r good p =
     let q = without_far a.desk b.desk a.far b.far (ReadRule h r) (ReadEffect h r) p in
     let z = read_step a.desk b.desk a.far b.far good.shown h r good.known q in
@@ -95,7 +95,7 @@ read_part c seats h a b r good p =
     good.ongoing) (z.0, p.rule.0)
 
 pub write_part : (c : Config) (seats : List SeatState) (h at : ℕ) (bytes : List ℕ)
-    → Carries c seats 1 (Writes Ran Tells h at bytes) (StillWrite h at bytes)
+    → Carries c seats 1 (WritesObject Ran SaysAll h at bytes) (StillWrite h at bytes)
 write_part c seats h at bytes a b r good p =
     let q = without_far a.desk b.desk a.far b.far (WriteRule h at bytes r) (WriteEffect h at bytes r) p in
     let z = write_step a.desk b.desk a.far b.far good.shown h at bytes r good.known q in
@@ -124,7 +124,7 @@ write_part c seats h at bytes a b r good p =
         (written_pinned a.desk seats h n o.words good.pinned free)) ongoing (step, p.rule.0)
 
 pub free_part : (c : Config) (seats : List SeatState) (h : ℕ)
-    → Carries c seats 1 (Frees Ran Tells h) (StillFree h)
+    → Carries c seats 1 (Frees Ran SaysAll h) (StillFree h)
 free_part c seats h a b r good p =
     let z = free_step a.desk b.desk a.far b.far good.shown h r good.known p in
     go _ z.0 z.1 (free_leaves a.desk b.desk a.far b.far h r z.0)
@@ -157,7 +157,7 @@ new_pins : (len place : ℕ) → pins_of (new_word len place) ≡ 0
 new_pins len place = omega arith
 
 pub make_part : (c : Config) (seats : List SeatState) (bytes : List ℕ)
-    → Carries c seats 1 (Makes Ran Tells c bytes) (StillMake bytes)
+    → Carries c seats 1 (Makes Ran SaysAll c bytes) (StillMake bytes)
 make_part c seats bytes a b r good p =
     let q = subst (λ (d : Config). PerformsStill a.desk b.desk a.far b.far
     (MakeRule d.handles bytes a.far b.far r) (MakeEffect bytes a.far b.far r)) (sym good.settings) p in
@@ -180,7 +180,7 @@ make_part c seats bytes a b r good p =
 
 -- ---- looks at an object
 pub find_part : (c : Config) (seats : List SeatState) (h : ℕ)
-    → Carries c seats 1 (Finds Ran Tells h) (StillFind h)
+    → Carries c seats 1 (FindsWhere Ran SaysAll h) (StillFind h)
 find_part c seats h a b r good p =
     arrives_same c seats 1 a b (StillFind h a r b) good same (reply, same)
   where
@@ -203,7 +203,7 @@ find_part c seats h a b r good p =
     reply : r ≡ reply_as (state_of (word_at a.desk h)) (stamp_at a.desk h) answer.Stays
     reply = let exact = is_exact a.desk b.desk h q.events q.ran.0 q.looks_first q.rule.settles_last in
         let w = q.rule.word in
-        let z : Comes (λ _. Unit {0}) (λ _. Unit {0}) r
+        let z : ComesTo (λ _. Unit {0}) (λ _. Unit {0}) r
         (reply_as (state_of w) (stamp_at a.desk h) answer.Stays) =
         reply_comes (λ _. Unit {0}) (λ _. Unit {0}) (state_of w) (λ w. r ≡ answer.Stays) answer.Stays w h
         (stamp_at a.desk h) q.events r
@@ -221,7 +221,7 @@ abbrev Refuses : ℕ → ℕ → Option Reply → Bool → ℕ → ℕ → Type 
 Refuses at count r lost w v = r ≡ write_refusal lost (len_of w) v at count
 
 pub decline_part : (c : Config) (seats : List SeatState) (h at count : ℕ)
-    → Carries c seats 1 (Declines Ran Tells h at count) (StillDecline h at count)
+    → Carries c seats 1 (Declines Ran SaysAll h at count) (StillDecline h at count)
 decline_part c seats h at count a b r good (far_same, p) =
     arrives_same c seats 1 a b (StillDecline h at count a r b) good same (by p.rule, same)
   where
@@ -241,7 +241,7 @@ decline_part c seats h at count a b r good (far_same, p) =
 
 -- ---- what leaves and what comes in
 pub evict_part : (c : Config) (seats : List SeatState) → IsAccepted c
-    → Carries c seats 24 (Evicts Ran Tells c) StillEvict
+    → Carries c seats 24 (Evicts Ran SaysAll c) StillEvict
 evict_part c seats accepted a b r good p =
     let x = a.desk in let y = b.desk in let far = a.far in let new = b.far in
     let q = subst (λ (d : Config). PerformsStill x y far new (EvictRule d far new r)
@@ -262,7 +262,7 @@ evict_part c seats accepted a b r good p =
 
 -- so is one that tells both counts
 pub room_part : (c : Config) (seats : List SeatState) → IsAccepted c
-    → Carries c seats 24 (WinsRoom Ran Tells c) StillRoom
+    → Carries c seats 24 (WinsRoom Ran SaysAll c) StillRoom
 room_part c seats accepted a b e good p =
     let x = a.desk in let y = b.desk in let far = a.far in let new = b.far in
     let q = subst (λ (d : Config). PerformsStill x y far new (CountsRule d far new e)
@@ -276,7 +276,7 @@ room_part c seats accepted a b e good p =
     }
 
 pub swap_part : (c : Config) (seats : List SeatState) (h : ℕ)
-    → Carries c seats 16 (Swaps Ran Tells h) (StillSwap h)
+    → Carries c seats 16 (Swaps Ran SaysAll h) (StillSwap h)
 swap_part c seats h a b r good (home, at, p) =
     let x = a.desk in let y = b.desk in let far = a.far in let new = b.far in
     let z = swap_step x y far new home.set home.position r good.shown p good.known in
@@ -299,14 +299,14 @@ make_lack c seats bytes a b good p =
     (same, subst (λ (d : Config). NeedsNewSpan d.handles (length bytes) a.far) (sym good.settings) p.2)
 
 pub read_lack : (c : Config) (seats : List SeatState) (h : ℕ)
-    → CarriesLack c seats 1 (ReadLacks Ran Tells h) (StillReadLacks h)
+    → CarriesLack c seats 1 (ReadLacks Ran SaysAll h) (StillReadLacks h)
 read_lack c seats h a b good (same, p) =
     let z = failed_step a.desk b.desk a.far b.far good.shown h good.known p in
     let e = both_same a b z.1 same in
     arrives_same c seats 1 a b (StillReadLacks h a b) good e (e, z.0)
 
 pub evict_lack : (c : Config) (seats : List SeatState)
-    → CarriesLack c seats 24 (EvictLacks Ran Tells) StillEvictLacks
+    → CarriesLack c seats 24 (EvictLacks Ran SaysAll) StillEvictLacks
 evict_lack c seats a b good (same, p) =
     let q = subst (λ (f : FarState). PerformsStill a.desk b.desk a.far f (TouchesSpans a.far) IsStill)
     same p in

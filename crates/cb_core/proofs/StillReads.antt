@@ -16,7 +16,7 @@ use Rattle.cb_world.specs.SetWord.{is_broken}
 use Rattle.cb_world.specs.StillWords.{stamp_at, contents_at}
 use Rattle.cb_world.specs.World.{word_at}
 use Rattle.cb_mutate.specs.StillReplies.{reply_as}
-use Rattle.cb_mutate.specs.Steps.{ReadChange}
+use Rattle.cb_mutate.specs.CallStep.{ReadChange}
 use Rattle.cb_swapin.specs.SwapRule.{swap_answer, frame_answer}
 use Rattle.cb_core.specs.OnceHere.{IsThere, OnceHere, away, here, OnceHereStops, bringing_stops, call_stops}
 use Rattle.cb_core.specs.Parts.{Holding, NeverDeclined, at_once, no_room, won, WhereItIs, near, stays_far, brought, BringsIn, not_far, was_far, CallStops}

@@ -32,7 +32,7 @@ use Rattle.cb_core.specs.Parts.WithRoom.{no_room}
 use Rattle.cb_core.specs.Parts.RoomStops.{at_once as lacks_at_once, evicting, after as lacks_after}
 use Rattle.cb_core.specs.Parts.CallStops.{near, far as was_away, after as call_after}
 use Rattle.cb_core.specs.Run.{but_counts, HoldsAsBefore, MakesRoom, nothing, evicts, brings, LeavesAsBefore, LeavesPrefix}
-use Rattle.cb_core.specs.Step.{Step, Stops, AtomicStops, StillBring, StillBringLacks, StillFarLacks, StillFind, StillRoom, StillStops, StillSwapLacks, StillWorks, done}
+use Rattle.cb_core.specs.Step.{Step, EventStops, AtomicStops, StillBring, StillBringLacks, StillFarLacks, StillFind, StillRoom, StillStops, StillSwapLacks, StillWorks, done}
 use Rattle.cb_core.specs.Step.SeatTurn.{free}
 use Rattle.cb_core.specs.Turned.{counted}
 use Rattle.cb_core.specs.Unavailable.{brought_by}
@@ -245,7 +245,7 @@ atomic_leaves seat (Claim handle at bytes) w new same =
     leaves_same w new (event.Step seat (Claim handle at bytes)) same
 atomic_leaves seat atomic w new never = absurd never
 
-pub stop_leaves : (e : Event) (w new : WorldState) → IsSoundWorld w → Stops w e new
+pub stop_leaves : (e : Event) (w new : WorldState) → IsSoundWorld w → EventStops w e new
     → LeavesAsBefore w e new
 stop_leaves (event.Step seat atomic) w new sound stops = atomic_leaves seat atomic w new stops
 stop_leaves (event.Turn seat j) w new sound (alone, (few, seats, stops)) =
@@ -259,7 +259,7 @@ stop_leaves (event.Turn seat j) w new sound (alone, (few, seats, stops)) =
 -- ---- a run
 pub prefix_stops : (start : WorldState) (events : List Event) (i : ℕ) (replies : List Reply)
     (w new : WorldState) (e : Event) → Going start events i replies w → i < length events
-    → e ≡ get_or events i e → Stops w e new → LeavesPrefix start events new
+    → e ≡ get_or events i e → EventStops w e new → LeavesPrefix start events new
 prefix_stops start events i replies w new e g lt at stops =
     let z = stop_leaves e w new g.sound stops in record {
       before = take i events;

@@ -23,13 +23,13 @@ use Rattle.cb_core.proofs.PartsStay.{works_left}
 use Rattle.cb_core.proofs.TurnCallsKept.{HasKept, once_known, kept_evict}
 use Rattle.cb_core.proofs.TurnCallsBatch.{kept_begin, kept_ship, kept_commit, kept_abort, begin_line, ship_line, commit_line, abort_line}
 use Rattle.cb_core.proofs.TurnCallsFilter.{IsFilterAs, filter_line, filter_answered, kept_far}
-use Rattle.cb_core.proofs.TurnCallsMake.{IsMadeAs, make_answered, evict_line}
+use Rattle.cb_core.proofs.TurnCallsMake.{IsMakeAnswered, make_answered, evict_line}
 use Rattle.cb_core.proofs.TurnCallsMap.{IsSameMap, map_stays, map_then, counted_map, call_carried, make_carried}
 use Rattle.cb_core.proofs.TurnCallsNodes.{IsMapLost, crash_map}
 use Rattle.cb_core.proofs.TurnCallsParts.{read_part, write_part, read_refusable, write_refusable}
 use Rattle.cb_core.proofs.TurnCallsReply.{free_line}
 use Rattle.cb_core.proofs.TurnCallsSwap.{IsSwapAs, swap_answered}
-use Rattle.cb_core.proofs.TurnCallsWhere.{IsAnswered, where_answered, kept_map, within}
+use Rattle.cb_core.proofs.TurnCallsWhere.{IsCallAnswered, where_answered, kept_map, within}
 
 -- what is held once the turn is counted, and after it
 abbrev pub held_at : WorldState → Job → Holding Words
@@ -51,8 +51,8 @@ known_at w j before = once_known w j before.shown before.known
 
 -- the map before is that of the counted far state
 pub answered_at : (handles : ℕ) (w : WorldState) (j : Job) (s t : Shown) (new : FarState) (h : ℕ)
-    (q : Request) (r : Reply) → IsAnswered handles s t (counted w.far j) new h q r
-    → IsAnswered handles s t w.far new h q r
+    (q : Request) (r : Reply) → IsCallAnswered handles s t (counted w.far j) new h q r
+    → IsCallAnswered handles s t w.far new h q r
 answered_at handles w j s t new h q r z = record {
   call = call_carried handles s s t t w.far (counted w.far j) new new q r (counted_map s w.far j)
       (map_stays t new) h z.call;
@@ -64,7 +64,7 @@ answered_at handles w j s t new h q r z = record {
 pub read_turn : (w new : WorldState) (h : ℕ) (name : List ℕ) (r : Reply) → (before : IsSoundWorld w)
     → (after : IsSoundWorld new) → w.far.counts.turns < 2 ^ 40 → h < w.desk.settings.handles
     → TurnStep (job.Read (record { n = h })) w r new
-    → IsAnswered w.desk.settings.handles before.shown after.shown w.far new.far h (Read name) r
+    → IsCallAnswered w.desk.settings.handles before.shown after.shown w.far new.far h (Read name) r
 read_turn w new h name r before after few below step =
     let j = job.Read (record { n = h }) in
     let d = is_done j w new r few step in
@@ -77,7 +77,7 @@ read_turn w new h name r before after few below step =
 pub write_turn : (w new : WorldState) (h at : ℕ) (bytes name : List ℕ) (r : Reply)
     → (before : IsSoundWorld w) → (after : IsSoundWorld new) → w.far.counts.turns < 2 ^ 40
     → h < w.desk.settings.handles → TurnStep (job.Write (record { n = h }) at bytes) w r new
-    → IsAnswered w.desk.settings.handles before.shown after.shown w.far new.far h (Write name at bytes) r
+    → IsCallAnswered w.desk.settings.handles before.shown after.shown w.far new.far h (Write name at bytes) r
 write_turn w new h at bytes name r before after few below step =
     let j = job.Write (record { n = h }) at bytes in
     let d = is_done j w new r few step in
@@ -90,7 +90,7 @@ write_turn w new h at bytes name r before after few below step =
 pub free_turn : (w new : WorldState) (h : ℕ) (name : List ℕ) (r : Reply) → (before : IsSoundWorld w)
     → (after : IsSoundWorld new) → w.far.counts.turns < 2 ^ 40 → h < w.desk.settings.handles
     → TurnStep (job.Free (record { n = h })) w r new
-    → IsAnswered w.desk.settings.handles before.shown after.shown w.far new.far h (Free name) r
+    → IsCallAnswered w.desk.settings.handles before.shown after.shown w.far new.far h (Free name) r
 free_turn w new h name r before after few below step =
     let j = job.Free (record { n = h }) in
     let d = is_done j w new r few step in
@@ -105,7 +105,8 @@ free_turn w new h name r before after few below step =
 -- A make, for which room is won.
 pub make_turn : (w new : WorldState) (bytes name : List ℕ) (r : Reply) → (before : IsSoundWorld w)
     → (after : IsSoundWorld new) → w.far.counts.turns < 2 ^ 40 → TurnStep (job.Make bytes) w r new
-    → IsMadeAs w.desk.settings.handles before.shown after.shown w.far new.far (Make name bytes) r
+    → IsMakeAnswered w.desk.settings.handles before.shown after.shown w.far new.far
+    (Make name bytes) r
 make_turn w new bytes name r before after few step =
     let j = job.Make bytes in
     let d = is_done j w new r few step in
@@ -120,8 +121,8 @@ make_turn w new bytes name r before after few step =
 
 -- ---- turns that are no calls
 -- Each turn of the job leaves the map as it is, and is answered as a line of that request is.
-abbrev pub IsQuiet : Job → Request → Type 0
-IsQuiet j line = (w new : WorldState) (r : Reply) → (before : IsSoundWorld w)
+abbrev pub IsQuietJob : Job → Request → Type 0
+IsQuietJob j line = (w new : WorldState) (r : Reply) → (before : IsSoundWorld w)
     → (after : IsSoundWorld new) → w.far.counts.turns < 2 ^ 40 → TurnStep j w r new
     → IsSameMap before.shown after.shown w.far new.far × IsReplyOf line r
 
@@ -130,7 +131,7 @@ quiet_turn : (j : Job) (line : Request)
     → ((a b : Holding Words) (q : Reply) (s : Shown) → IsKnown a.desk a.far s → StillWorks j a q b
     → HasKept a b s)
     → ((a b : Holding Words) (q : Reply) → StillWorks j a q b → IsReplyOf line q)
-    → IsQuiet j line
+    → IsQuietJob j line
 quiet_turn j line keeps answered w new r before after few step =
     let d = is_done j w new r few step in
     let kept = keeps (held_at w j) (held_then new) r before.shown (known_at w j before) d in (
@@ -181,23 +182,23 @@ filter_turn w new h r before after few below step =
     }
 
 -- An eviction and the steps of a batch leave the map as it is.
-pub evict_turn : IsQuiet job.Evict Evict
+pub evict_turn : IsQuietJob job.Evict Evict
 evict_turn = quiet_turn job.Evict Evict kept_evict
     (λ a b q x. evict_line a.desk b.desk a.far b.far q x.0)
 
-pub begin_turn : IsQuiet job.Begin Begin
+pub begin_turn : IsQuietJob job.Begin Begin
 begin_turn = quiet_turn job.Begin Begin kept_begin
     (λ a b q x. begin_line a.desk b.desk a.far b.far q x.0)
 
-pub ship_turn : IsQuiet job.Ship Ship
+pub ship_turn : IsQuietJob job.Ship Ship
 ship_turn = quiet_turn job.Ship Ship kept_ship
     (λ a b q x. ship_line a.desk b.desk a.far b.far q x.0)
 
-pub commit_turn : IsQuiet job.Commit Commit
+pub commit_turn : IsQuietJob job.Commit Commit
 commit_turn = quiet_turn job.Commit Commit kept_commit
     (λ a b q x. commit_line a.desk b.desk a.far b.far q x.0)
 
-pub abort_turn : IsQuiet job.Abort Abort
+pub abort_turn : IsQuietJob job.Abort Abort
 abort_turn = quiet_turn job.Abort Abort kept_abort
     (λ a b q x. abort_line a.desk b.desk a.far b.far q x.0)
 
@@ -214,32 +215,32 @@ far_map j w new r before after step =
 
 far_turn : (j : Job) (line : Request)
     → ((a b : Holding Words) (q : Reply) → StillWorks j a q b → StillFar (FarStep j) a q b)
-    → ((q : Reply) → AnswersLine j q → IsReplyOf line q) → IsQuiet j line
+    → ((q : Reply) → AnswersLine j q → IsReplyOf line q) → IsQuietJob j line
 far_turn j line works answers w new r before after few step =
     let d = works (held_at w j) (held_then new) r (is_done j w new r few step) in (
       far_map j w new r before after d,
       answers r ((far_job j).answers (counted w.far j) new.far r d.1),
     )
 
-pub pair_turn : IsQuiet job.Pair Pair
+pub pair_turn : IsQuietJob job.Pair Pair
 pair_turn = far_turn job.Pair Pair (λ a b q x. x) (λ q x. x)
 
-pub patch_turn : IsQuiet job.Patch Patch
+pub patch_turn : IsQuietJob job.Patch Patch
 patch_turn = far_turn job.Patch Patch (λ a b q x. x) (λ q x. x)
 
-pub merge_turn : IsQuiet job.Merge Merge
+pub merge_turn : IsQuietJob job.Merge Merge
 merge_turn = far_turn job.Merge Merge (λ a b q x. x) (λ q x. x)
 
-pub part_turn : IsQuiet job.Part Part
+pub part_turn : IsQuietJob job.Part Part
 part_turn = far_turn job.Part Part (λ a b q x. x) (λ q x. x)
 
-pub compact_turn : IsQuiet job.Compact Compact
+pub compact_turn : IsQuietJob job.Compact Compact
 compact_turn = far_turn job.Compact Compact (λ a b q x. x) (λ q x. x)
 
-pub rebuild_turn : IsQuiet job.Rebuild Rebuild
+pub rebuild_turn : IsQuietJob job.Rebuild Rebuild
 rebuild_turn = far_turn job.Rebuild Rebuild (λ a b q x. x) (λ q x. x)
 
-pub join_turn : (node : NodeId) → IsQuiet (job.Join node) (Join node)
+pub join_turn : (node : NodeId) → IsQuietJob (job.Join node) (Join node)
 join_turn node = far_turn (job.Join node) (Join node) (λ a b q x. x) (λ q x. x)
 
 -- A crash: each object holds what it held, or is gone.

@@ -11,7 +11,7 @@ use Rattle.cb_world.specs.World.{IsKnown}
 use Rattle.cb_evict.specs.AbortStep.{IsAbortStep, no_batch as none_to_abort, given_up}
 use Rattle.cb_evict.specs.BeginStep.{IsBeginStep, is_leaving, few_spans, few_nodes, begins}
 use Rattle.cb_evict.specs.CommitStep.{IsCommitStep, no_batch as none_to_commit, short, committed}
-use Rattle.cb_evict.specs.ShipRule.{Ships as ShipsRow}
+use Rattle.cb_evict.specs.ShipRule.{ShipsRow}
 use Rattle.cb_evict.specs.ShipStep.{IsShipStep}
 use Rattle.cb_core.specs.Parts.{Holding}
 use Rattle.cb_core.specs.Step.{StillBegin, StillShip, StillCommit, StillAbort}

@@ -9,7 +9,7 @@ use Rattle.cb_types.specs.declared.reply.Reply.{Reply}
 use Rattle.cb_types.specs.declared.reply.Reply.TheVariants as answer
 use Rattle.cb_types.specs.Table.{IsReplyOf}
 use Rattle.cb_model.specs.declared.object.Object.TheVariants.{Held, Freed}
-use Rattle.cb_model.specs.Now.{Now as MapNow}
+use Rattle.cb_model.specs.Now.{MapNow}
 use Rattle.cb_model.specs.Event.{event_of}
 use Rattle.cb_model.specs.Event.Subject.{Other}
 use Rattle.cb_model.specs.Event.Event.{FindsUnmade, Refused}
@@ -23,8 +23,8 @@ use Rattle.cb_world.specs.StillWords.{stamp_at}
 use Rattle.cb_world.specs.World.{IsKnown, word_at}
 use Rattle.cb_world.proofs.Laws.{bits, empty_value, empty_now}
 use Rattle.cb_mutate.specs.MapCalls.{IsValue, IsCallOn}
-use Rattle.cb_mutate.proofs.Laws.{IsThere, map_same, stays_call, far_there, near_held, here_near}
-use Rattle.cb_filter.specs.FilterRule.{EmptyAnswer}
+use Rattle.cb_mutate.proofs.Laws.{IsObjectThere, map_same, stays_call, far_there, near_held, here_near}
+use Rattle.cb_filter.specs.FilterRule.{EmptyToFilter}
 use Rattle.cb_filter.specs.FilterStep.{IsFilterStep, refused, cools, without_slot, moves, RefusesAs}
 use Rattle.cb_filter.proofs.Laws.{filter_keeps}
 use Rattle.cb_core.specs.Parts.{Holding}
@@ -56,7 +56,7 @@ kept_far step a b r s k none (same, done, hold) = let then = hold s k in record 
 }
 
 -- ---- how it is answered
-empty_line : (name : List ℕ) (v : ℕ) (r : Reply) → EmptyAnswer v r → IsReplyOf (Filter name) r
+empty_line : (name : List ℕ) (v : ℕ) (r : Reply) → EmptyToFilter v r → IsReplyOf (Filter name) r
 empty_line name zero r e = subst (IsReplyOf (Filter name)) (sym e) tt
 empty_line name (suc v) r e = subst (IsReplyOf (Filter name)) (sym e) tt
 
@@ -86,7 +86,7 @@ WasMade (freed v) = Unit {0}
 WasMade (held v bytes) = Unit {0}
 WasMade (gone v) = Unit {0}
 
-was_there : (n : Now) → IsThere n → WasMade n
+was_there : (n : Now) → IsObjectThere n → WasMade n
 was_there never there = absurd there
 was_there (freed v) there = absurd there
 was_there (held v bytes) there = tt
@@ -133,7 +133,8 @@ module _ (x : Words) (far : FarState) (s : Shown) (h : ℕ) (r : Reply) (k : IsK
   near_made here = subst WasMade
       (sym (near_held x far s h k below (here_near (word_at x h) here))) tt
 
-  empty_tells : (v : ℕ) → stamp_at x h ≡ v → state_of (word_at x h) ≡ state.Empty → EmptyAnswer v r
+  empty_tells : (v : ℕ) → stamp_at x h ≡ v → state_of (word_at x h) ≡ state.Empty
+      → EmptyToFilter v r
       → Tells (now s far h) r
   empty_tells zero stamp e is =
       inl (empty_now x far s h k.shows k.sound below e ∙ ap empty_value stamp, is)

@@ -22,7 +22,7 @@ use Rattle.cb_swapin.proofs.Laws.{named_far}
 use Rattle.cb_core.specs.Parts.{Holding, WhereItIs, near, declined, stays_far, brought}
 use Rattle.cb_core.specs.Step.{StillBring}
 use Rattle.cb_core.proofs.TurnCallsFar.{IsLostFar, BringEnds, came, broke, crammed, bring_ends}
-use Rattle.cb_core.proofs.TurnCallsWhere.{IsPart}
+use Rattle.cb_core.proofs.TurnCallsWhere.{IsCallWithLook}
 
 -- an object with a home is far
 pub home_far : (x : Words) (far : FarState) (s : Shown) (h : ℕ) (home : Home) → IsKnown x far s
@@ -100,7 +100,7 @@ brings_gone a b h r gone (crammed frames loose nodes e whole) = absurd (false≢
 
 module _ (call : Holding Words → Reply → Holding Words → Type 0)
     (look : Holding Words → Option Reply → Holding Words → Type 0) (h : ℕ) (q : Request)
-    (part : IsPart call look h q) where
+    (part : IsCallWithLook call look h q) where
   -- a call that is answered so is on an object whose set is broken, and tells its number and its losses
   pub where_lost : (a b : Holding Words) (s : Shown) (id : SetId) (l : List Loss) → IsKnown a.desk a.far s
       → WhereItIs call look (StillBring h) a (answer.Unavailable id l) b → IsLostFar a.far h id l

@@ -21,7 +21,7 @@ use Rattle.cb_core.proofs.TurnCallsMap.{map_stays, make_carried}
 use Rattle.cb_core.proofs.TurnCallsWhere.{kept_map}
 
 -- the make is the map's, and the reply is one of the line's
-pub record IsMadeAs (handles : ℕ) (s t : Shown) (far new : FarState) (q : Request) (r : Reply)
+pub record IsMakeAnswered (handles : ℕ) (s t : Shown) (far new : FarState) (q : Request) (r : Reply)
     : Type 0 where
   pub call : IsMakeCall handles s t far new q r
   pub line : IsReplyOf q r
@@ -51,7 +51,7 @@ make_line x y far new bytes name r (inr (more, inr (is, z))) never =
 pub make_answered : (a b : Holding Words) (s t : Shown) (bytes name : List ℕ) (r : Reply)
     → IsKnown a.desk a.far s → IsKnown b.desk b.far t
     → WithRoom a.desk.settings.frames (StillMake bytes) StillRoom a r b
-    → IsMadeAs a.desk.settings.handles s t a.far b.far (Make name bytes) r
+    → IsMakeAnswered a.desk.settings.handles s t a.far b.far (Make name bytes) r
 make_answered a b s t bytes name r before after (at_once c never) =
     record {
       call = make_call a.desk b.desk a.far b.far s t bytes name r
@@ -64,7 +64,7 @@ make_answered a b s t bytes name r before after (no_room m why loose nodes c evi
     (subst (λ (x : Holding Words). StillRoom x (Refused why loose nodes) b)
     (same_holding a m none.1 none.2) evict) in
     let same = kept_map a b s t kept after in
-    subst (IsMadeAs a.desk.settings.handles s t a.far b.far (Make name bytes)) (sym e)
+    subst (IsMakeAnswered a.desk.settings.handles s t a.far b.far (Make name bytes)) (sym e)
     (record {
       call = inr (record {
         reply = λ m. none.0;

@@ -13,7 +13,7 @@ use Rattle.cb_types.specs.Table.{IsReplyOf}
 use Rattle.cb_model.specs.declared.object.Object.TheVariants.{Held, Freed}
 use Rattle.cb_model.specs.Event.{event_of}
 use Rattle.cb_model.specs.Event.Event.{FindsEnd}
-use Rattle.cb_model.specs.Now.{Now as MapNow}
+use Rattle.cb_model.specs.Now.{MapNow}
 use Rattle.cb_model.specs.Replies.{MapReplies}
 use Rattle.cb_world.specs.declared.object.Object.TheVariants as object
 use Rattle.cb_world.specs.declared.shown.Shown.{Shown}
@@ -34,7 +34,7 @@ use Rattle.cb_core.specs.Step.{StillRead, StillWrite, StillDecline}
 use Rattle.cb_core.proofs.TurnCallsKept.{same_holding}
 use Rattle.cb_core.proofs.TurnCallsMap.{map_stays, far_refused}
 use Rattle.cb_core.proofs.TurnCallsReply.{read_line, write_line, read_not_here, write_not_here, read_is_here, write_is_here}
-use Rattle.cb_core.proofs.TurnCallsWhere.{IsAnswered, IsRefusable, IsPart}
+use Rattle.cb_core.proofs.TurnCallsWhere.{IsCallAnswered, IsRefusable, IsCallWithLook}
 
 pub read_refusable : (name : List ℕ) → IsRefusable (Read name)
 read_refusable name = record {
@@ -82,7 +82,7 @@ write_whole w v at count id l = by_state_whole (state_of w) v _ id l (by (nat_lt
 none_some : (r : Reply) → Some r ≡ None → ⊥
 none_some r e = cc
 
-pub read_part : (h : ℕ) (name : List ℕ) → IsPart (StillRead h) NeverDeclined h (Read name)
+pub read_part : (h : ℕ) (name : List ℕ) → IsCallWithLook (StillRead h) NeverDeclined h (Read name)
 read_part h name = record {
   nothing = λ a b c. same_holding a b c.0.change c.1;
   away = λ a b c. read_not_here (word_at a.desk h) (stamp_at a.desk h) (contents_at a.desk h) c.0.reply;
@@ -172,14 +172,14 @@ declined_call : (a : Holding Words) (s : Shown) (h at : ℕ) (bytes name : List 
     → IsKnown a.desk a.far s → h < length a.desk.words → state_of (word_at a.desk h) ≡ state.Far
     → Some r ≡ write_refusal (is_gone a.far h) (len_of (word_at a.desk h)) (stamp_at a.desk h) at
     (length bytes)
-    → IsAnswered a.desk.settings.handles s s a.far a.far h (Write name at bytes) r
+    → IsCallAnswered a.desk.settings.handles s s a.far a.far h (Write name at bytes) r
 declined_call a s h at bytes name r k below away e =
     let d = declined_as (is_gone a.far h) (len_of (word_at a.desk h)) (stamp_at a.desk h) at (length bytes)
     r e in by d.0 d.1
   where
     by : is_gone a.far h ≡ false
         → DeclinedAs (len_of (word_at a.desk h)) (stamp_at a.desk h) at (length bytes) r
-        → IsAnswered a.desk.settings.handles s s a.far a.far h (Write name at bytes) r
+        → IsCallAnswered a.desk.settings.handles s s a.far a.far h (Write name at bytes) r
     by whole (past more is) = record {
       call = past_call a s h at bytes name r k below away whole more is;
       line = subst (IsReplyOf (Write name at bytes)) (sym is) tt;
@@ -209,7 +209,8 @@ declined_pinned lost len version at count pins e =
     by (end is) = cc
 
 pub write_part : (h at : ℕ) (bytes name : List ℕ)
-    → IsPart (StillWrite h at bytes) (StillDecline h at (length bytes)) h (Write name at bytes)
+    → IsCallWithLook (StillWrite h at bytes) (StillDecline h at (length bytes)) h
+    (Write name at bytes)
 write_part h at bytes name = record {
   nothing = λ a b c. same_holding a b c.0.change c.1;
   away = λ a b c. write_not_here (word_at a.desk h) (stamp_at a.desk h) at (length bytes) c.0.reply;

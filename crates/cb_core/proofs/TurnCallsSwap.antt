@@ -20,7 +20,7 @@ use Rattle.cb_world.specs.StillWords.{stamp_at}
 use Rattle.cb_world.specs.World.{IsKnown, word_at}
 use Rattle.cb_mutate.specs.MapCalls.{IsCallOn}
 use Rattle.cb_mutate.specs.StillReplies.{reply_as}
-use Rattle.cb_mutate.proofs.Laws.{AreKnownBoth, IsThere, IsOnContents, refused_call, call_by_state, near_held, here_near}
+use Rattle.cb_mutate.proofs.Laws.{AreKnownBoth, IsObjectThere, IsOnContents, refused_call, call_by_state, near_held, here_near}
 use Rattle.cb_core.specs.Parts.{Holding, BringsIn, not_far, was_far}
 use Rattle.cb_core.specs.Step.{StillBring, StillFind}
 use Rattle.cb_core.proofs.TurnCallsKept.{HasKept, kept_all, kept_bring}
@@ -100,7 +100,7 @@ find_call a s h r name k below e =
     a.desk.settings.handles (Pin name) r answer.Stays known (within a s h k below) (on_pin name)
     (record { unmade = λ z. z; freed = λ z. z; not_here = λ z. z; moving = λ z. z }) e (refl, refl)
     (λ here is. refused_call a.desk a.desk a.far a.far s s h a.desk.settings.handles (Pin name) r known
-    (refl, refl) (subst IsThere (sym (near_held a.desk a.far s h k (within a s h k below)
+    (refl, refl) (subst IsObjectThere (sym (near_held a.desk a.far s h k (within a s h k below)
     (here_near (word_at a.desk h) here))) tt) (ap (event_of (Pin name)) is))
 
 pub swap_answered : (a b : Holding Words) (s t : Shown) (h : ℕ) (r : Reply)

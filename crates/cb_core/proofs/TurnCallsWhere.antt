@@ -24,7 +24,7 @@ use Rattle.cb_core.proofs.TurnCallsFar.{BringEnds, came, broke, crammed, bring_e
 use Rattle.cb_core.proofs.TurnCallsMap.{IsSameMap, map_stays, call_carried, far_refused}
 
 -- the call is the map's, and the reply is one of the line's
-pub record IsAnswered (handles : ℕ) (s t : Shown) (far new : FarState) (h : ℕ) (q : Request) (r : Reply)
+pub record IsCallAnswered (handles : ℕ) (s t : Shown) (far new : FarState) (h : ℕ) (q : Request) (r : Reply)
     : Type 0 where
   pub call : IsCallOn handles s t far new h q r
   pub line : IsReplyOf q r
@@ -37,7 +37,7 @@ pub record IsRefusable (q : Request) : Type 0 where
   pub lost_line : (id : SetId) (l : List Loss) → IsReplyOf q (answer.Unavailable id l)
 
 -- A call on an object and the look at one that is far, as the parts of a turn for a request.
-pub record IsPart (call : Holding Words → Reply → Holding Words → Type 0)
+pub record IsCallWithLook (call : Holding Words → Reply → Holding Words → Type 0)
     (look : Holding Words → Option Reply → Holding Words → Type 0) (h : ℕ) (q : Request) : Type 0 where
   -- an object is not here exactly where its word is far, and then nothing changes
   pub nothing : (a b : Holding Words) → call a answer.NotHere b → b ≡ a
@@ -56,7 +56,7 @@ pub record IsPart (call : Holding Words → Reply → Holding Words → Type 0)
   pub looks : (a b : Holding Words) (o : Option Reply) → look a o b → b ≡ a
   pub declines : (a b : Holding Words) (s : Shown) (r : Reply) → IsKnown a.desk a.far s
       → h < length a.desk.words → state_of (word_at a.desk h) ≡ state.Far → look a (Some r) b
-      → IsAnswered a.desk.settings.handles s s a.far a.far h q r
+      → IsCallAnswered a.desk.settings.handles s s a.far a.far h q r
   pub not_lost : (a b : Holding Words) (id : SetId) (l : List Loss)
       → look a (Some (answer.Unavailable id l)) b → ⊥
   pub lost : (a b : Holding Words) (r : Reply) → is_gone a.far h ≡ true → look a (Some r) b → ⊥
@@ -82,13 +82,13 @@ swapped_crammed f a b c e = cc
 
 module _ (call : Holding Words → Reply → Holding Words → Type 0)
     (look : Holding Words → Option Reply → Holding Words → Type 0) (h : ℕ) (q : Request)
-    (part : IsPart call look h q) where
+    (part : IsCallWithLook call look h q) where
   -- a far object that could not be brought in
   far_stays : (a b : Holding Words) (s t : Shown) (r : Reply) → IsRefusable q
       → IsKnown a.desk a.far s → IsKnown b.desk b.far t → h < a.desk.settings.handles
       → state_of (word_at a.desk h) ≡ state.Far → StillBring h a r b
       → ((f : ℕ) → r ≡ answer.Swapped f → ⊥)
-      → IsAnswered a.desk.settings.handles s t a.far b.far h q r
+      → IsCallAnswered a.desk.settings.handles s t a.far b.far h q r
   far_stays a b s t r refusable before then below away bring never =
       by (bring_ends a b h r s before bring)
     where
@@ -96,7 +96,7 @@ module _ (call : Holding Words → Reply → Holding Words → Type 0)
       same = kept_map a b s t (kept_bring a b h r s before bring) then
 
       C : Reply → Type 0
-      C p = IsAnswered a.desk.settings.handles s t a.far b.far h q p
+      C p = IsCallAnswered a.desk.settings.handles s t a.far b.far h q p
 
       refused : (p : Reply) → event_of q p ≡ Refused Contents → IsReplyOf q p → C p
       refused p event line = record {
@@ -129,7 +129,7 @@ module _ (call : Holding Words → Reply → Holding Words → Type 0)
   pub where_answered : (a b : Holding Words) (s t : Shown) (r : Reply) → IsRefusable q
       → IsKnown a.desk a.far s → IsKnown b.desk b.far t
       → h < a.desk.settings.handles → WhereItIs call look (StillBring h) a r b
-      → IsAnswered a.desk.settings.handles s t a.far b.far h q r
+      → IsCallAnswered a.desk.settings.handles s t a.far b.far h q r
   where_answered a b s t r refusable before then below (near c never) =
       record {
         call = part.is a b s t r before then (within a s h before below) c;

@@ -28,10 +28,10 @@ use Rattle.cb_swapin.proofs.Laws.{given_stays, swap_stays, by_answer, swap_unwri
 use Rattle.cb_core.specs.Declining.{far_refusal}
 use Rattle.cb_core.specs.Jobs.{IsJob}
 use Rattle.cb_core.specs.Parts.{Holding, NeverDeclined, NeverLacks, at_once, no_room, won}
-use Rattle.cb_core.specs.Turned.{Swaps, SwapLacks, Brings, BringLacks, ComesIn, ComeLacks, Evicts, WinsRoom, EvictLacks, Makes, MakeLacks, Reads, ReadLacks, Writes as WritesAt, Declines, Finds, Does, Stops, IsDeclined}
+use Rattle.cb_core.specs.Turned.{Swaps, SwapLacks, Brings, BringLacks, ComesIn, ComeLacks, Evicts, WinsRoom, EvictLacks, Makes, MakeLacks, Reads, ReadLacks, WritesObject, Declines, FindsWhere, Does, Stops, IsDeclined}
 use Rattle.cb_mutate.specs.JobWrites.{MakeWrites, WriteWrites, FreeWrites, TurnWrites}
 use Rattle.cb_core.proofs.FarJobs.{StaysSound, far_job, note_of}
-use Rattle.cb_core.proofs.TurnComes.{AreLaws, Carries, CarriesLack, Comes, ComesBy, Good, IsNone, IsQuiet, Nil, comes_by, comes_far, comes_more, comes_none, then_none, good_then, with_room, room_stops, where_it_is, brings_in, call_stops, once_here, once_here_stops}
+use Rattle.cb_core.proofs.TurnComes.{AreLaws, CarriesWrites, CarriesNoWrites, Comes, ComesBy, Good, WritesNothing, IsQuietReply, Nil, comes_by, comes_far, comes_more, comes_none, then_none, good_then, with_room, room_stops, where_it_is, brings_in, call_stops, once_here, once_here_stops}
 
 -- ---- what the calls write
 make_writes : (bytes : List ℕ) (far new : FarState) (r : Reply) (es : List Event) (s t : Shown)
@@ -91,13 +91,13 @@ swap_none h at bytes id p far new r es rule =
     (by_answer (λ (q : Reply). WriteWrites h at bytes q []) far id rule.set (λ e. refl)
     (λ e f. refl) (λ f e g. refl))
 
-nil_quiet : (r : Reply) → IsQuiet Nil r
+nil_quiet : (r : Reply) → IsQuietReply Nil r
 nil_quiet r = record { none = λ more e. e; some = refl }
 
-make_quiet : (bytes : List ℕ) → IsQuiet (MakeWrites bytes) answer.NoFrame
+make_quiet : (bytes : List ℕ) → IsQuietReply (MakeWrites bytes) answer.NoFrame
 make_quiet bytes = record { none = λ more e. e; some = refl }
 
-write_quiet : (h at : ℕ) (bytes : List ℕ) → IsQuiet (WriteWrites h at bytes) answer.NotHere
+write_quiet : (h at : ℕ) (bytes : List ℕ) → IsQuietReply (WriteWrites h at bytes) answer.NotHere
 write_quiet h at bytes = record { none = λ more e. e; some = refl }
 
 module _ {D : Type 0} (run : D → List Event → D → Type 0) (shows : D → Shown → Type 0)
@@ -106,10 +106,10 @@ module _ {D : Type 0} (run : D → List Event → D → Type 0) (shows : D → S
   Hold = Holding D
 
   abbrev Leads : {A : Type 0} → ℕ → (A → List Entry → Type 0) → (Hold → A → Hold → Type 0) → Type 0
-  Leads n W P = Carries run shows laws c n W P
+  Leads n W P = CarriesWrites run shows laws c n W P
 
   abbrev Lacks : ℕ → (Hold → Hold → Type 0) → Type 0
-  Lacks n L = CarriesLack run shows laws c n L
+  Lacks n L = CarriesNoWrites run shows laws c n L
 
   -- ---- the parts
   makes : (bytes : List ℕ) → Leads 1 (MakeWrites bytes) (Makes run shows c bytes)
@@ -130,12 +130,12 @@ module _ {D : Type 0} (run : D → List Event → D → Type 0) (shows : D → S
   read_lacks h a b good (same, p) = comes_none run shows laws c 1 a b _ _ good
       (λ s sound. stays_same c 1 a.far b.far (omega arith) same) p (λ s e. e.nothing)
 
-  writes : (h at : ℕ) (bytes : List ℕ) → Leads 1 (WriteWrites h at bytes) (WritesAt run shows h at bytes)
+  writes : (h at : ℕ) (bytes : List ℕ) → Leads 1 (WriteWrites h at bytes) (WritesObject run shows h at bytes)
   writes h at bytes a b r good p = comes_by run shows laws c (WriteWrites h at bytes r) 1 a b _ _ good
       (λ s sound. stays_same c 1 a.far b.far (omega arith) p.rule.0) p
       (λ s e. write_writes h at bytes r p.events s (played p.events s) e)
 
-  finds : (h : ℕ) → Leads 1 Nil (Finds run shows h)
+  finds : (h : ℕ) → Leads 1 Nil (FindsWhere run shows h)
   finds h a b r good p = comes_none run shows laws c 1 a b _ _ good
       (λ s sound. stays_same c 1 a.far b.far (omega arith) p.rule.0) p (λ s e. e.nothing)
 
@@ -145,7 +145,7 @@ module _ {D : Type 0} (run : D → List Event → D → Type 0) (shows : D → S
 
   never : Leads 1 Nil NeverDeclined
   never a b r good (nothing, same) =
-      subst (λ (d : Hold). Comes run shows c 1 IsNone a d) (sym same)
+      subst (λ (d : Hold). Comes run shows c 1 WritesNothing a d) (sym same)
       (comes_far run shows laws c 1 a a good (laws.none a.desk)
       (λ s sound. (stays_same c 1 a.far a.far (omega arith) refl, sound)))
 
@@ -187,13 +187,13 @@ module _ {D : Type 0} (run : D → List Event → D → Type 0) (shows : D → S
 
   -- an object comes in, or there is no memory for that
   pub comes_in : (h : ℕ) → Leads 57 Nil (ComesIn run shows c h)
-  comes_in h = brings_in run shows laws c 1 56 57 (Finds run shows h) (Brings run shows c h)
+  comes_in h = brings_in run shows laws c 1 56 57 (FindsWhere run shows h) (Brings run shows c h)
       (omega arith) (finds h) (brings h)
 
   pub come_lacks : (h : ℕ) → Lacks 57 (ComeLacks run shows c h)
   come_lacks h a b good (m, find, lacks) = let z = finds h a m answer.NotHere good find in
       then_none run shows laws c 1 56 57 a m b (omega arith) z
-      (bring_lacks h m b (good_then run shows laws c 1 IsNone a m good z) lacks)
+      (bring_lacks h m b (good_then run shows laws c 1 WritesNothing a m good z) lacks)
 
   -- a write whose object can't be brought in is answered no version
   brings_no_version : (h at : ℕ) (bytes : List ℕ) (k : ℕ) (x y : Hold) (r : Reply)
@@ -235,7 +235,7 @@ module _ {D : Type 0} (run : D → List Event → D → Type 0) (shows : D → S
   does_comes reading read (Write handle at bytes) a b r ok good x =
       let h = handle.n in let count = length bytes in
       where_it_is run shows laws c (WriteWrites h at bytes) (write_quiet h at bytes) 1 1 56 64
-      (WritesAt run shows h at bytes) (Brings run shows c h) (Declines run shows h at count)
+      (WritesObject run shows h at bytes) (Brings run shows c h) (Declines run shows h at count)
       (λ m n q (same, p). declined_none h at bytes count m.far q p.events p.rule)
       (λ m n q e. brings_no_version h at bytes h m n q e) (omega arith) (writes h at bytes)
       (declines h at count) (brings h) a b r good x
@@ -244,25 +244,25 @@ module _ {D : Type 0} (run : D → List Event → D → Type 0) (shows : D → S
       (λ s sound. free_stays c h a.far b.far r p.events p.rule) p
       (λ s e. free_writes h r p.events s (played p.events s) e))
   does_comes reading read (Swap handle) a b r ok good x =
-      in_job IsNone 57 a b (omega arith) (comes_in handle.n a b r good x)
+      in_job WritesNothing 57 a b (omega arith) (comes_in handle.n a b r good x)
   does_comes reading read (Filter handle) a b r ok good p = let h = handle.n in
-      in_job IsNone 1 a b (omega arith) (comes_none run shows laws c 1 a b _ _ good
+      in_job WritesNothing 1 a b (omega arith) (comes_none run shows laws c 1 a b _ _ good
       (λ s sound. filter_stays c c.frames h a.far b.far r p.events p.rule) p
       (λ s e. filter_unwritten h a.far b.far r p.events s (played p.events s) e))
-  does_comes reading read Evict a b r ok good x = in_job IsNone 24 a b (omega arith) (evicts a b r good x)
+  does_comes reading read Evict a b r ok good x = in_job WritesNothing 24 a b (omega arith) (evicts a b r good x)
   does_comes reading read Begin a b r ok good p =
-      in_job IsNone 1 a b (omega arith) (comes_none run shows laws c 1 a b _ _ good
+      in_job WritesNothing 1 a b (omega arith) (comes_none run shows laws c 1 a b _ _ good
       (λ s sound. begin_stays c a.far b.far r p.events p.rule) p
       (λ s e. begin_unwritten c a.far b.far r p.events s (played p.events s) p.rule e))
   does_comes reading read Ship a b r ok good p =
-      in_job IsNone 1 a b (omega arith) (comes_none run shows laws c 1 a b _ _ good
+      in_job WritesNothing 1 a b (omega arith) (comes_none run shows laws c 1 a b _ _ good
       (λ s sound. ship_stays c a.far b.far r p.events p.rule) p (λ s e. e.still.nothing))
   does_comes reading read Commit a b r ok good p =
-      in_job IsNone 1 a b (omega arith) (comes_none run shows laws c 1 a b _ _ good
+      in_job WritesNothing 1 a b (omega arith) (comes_none run shows laws c 1 a b _ _ good
       (λ s sound. commit_stays c s a.far b.far r p.events sound p.rule) p
       (λ s e. commit_unwritten a.far b.far r p.events s (played p.events s) p.rule e))
   does_comes reading read Abort a b r ok good p =
-      in_job IsNone 1 a b (omega arith) (comes_none run shows laws c 1 a b _ _ good
+      in_job WritesNothing 1 a b (omega arith) (comes_none run shows laws c 1 a b _ _ good
       (λ s sound. abort_stays c a.far b.far r p.events p.rule) p
       (λ s e. abort_unwritten a.far b.far r p.events s (played p.events s) p.rule e))
   does_comes reading read job a b r ok good (ran, step) =
@@ -272,7 +272,7 @@ module _ {D : Type 0} (run : D → List Event → D → Type 0) (shows : D → S
   -- ---- want of memory
   pub stops_comes : (lacking : ℕ → Hold → Hold → Type 0) → ((h : ℕ) → Lacks 1 (lacking h))
       → (job : Job) (a b : Hold) → Good shows c a → Stops run shows lacking c job a b
-      → ComesBy (note_of job) run shows c 64 IsNone a b
+      → ComesBy (note_of job) run shows c 64 WritesNothing a b
   stops_comes lacking lack (Make bytes) a b good x =
       room_stops run shows laws c (MakeWrites bytes) (make_quiet bytes) 1 24 64
       (Makes run shows c bytes) (WinsRoom run shows c) (MakeLacks run c bytes) (EvictLacks run shows)
@@ -283,18 +283,18 @@ module _ {D : Type 0} (run : D → List Event → D → Type 0) (shows : D → S
   stops_comes lacking lack (Write handle at bytes) a b good x =
       let h = handle.n in let count = length bytes in
       call_stops run shows laws c (WriteWrites h at bytes) (write_quiet h at bytes) 1 1 56 64
-      (WritesAt run shows h at bytes) (Brings run shows c h) (Declines run shows h at count) NeverLacks
+      (WritesObject run shows h at bytes) (Brings run shows c h) (Declines run shows h at count) NeverLacks
       (BringLacks run shows c h) (omega arith) (writes h at bytes) never_lacks (declines h at count)
       (brings h) (bring_lacks h) a b good x
   stops_comes lacking lack (Swap handle) a b good x =
-      in_job IsNone 57 a b (omega arith) (come_lacks handle.n a b good x)
+      in_job WritesNothing 57 a b (omega arith) (come_lacks handle.n a b good x)
   stops_comes lacking lack (Filter handle) a b good p =
-      in_job IsNone 1 a b (omega arith) (comes_none run shows laws c 1 a b _ _ good
+      in_job WritesNothing 1 a b (omega arith) (comes_none run shows laws c 1 a b _ _ good
       (λ s sound. stays_same c 1 a.far b.far (omega arith) p.rule.state) p (λ s e. e.nothing))
-  stops_comes lacking lack Evict a b good x = in_job IsNone 24 a b (omega arith) (evict_lacks a b good x)
-  stops_comes lacking lack Begin a b good x = in_job IsNone 24 a b (omega arith) (evict_lacks a b good x)
+  stops_comes lacking lack Evict a b good x = in_job WritesNothing 24 a b (omega arith) (evict_lacks a b good x)
+  stops_comes lacking lack Begin a b good x = in_job WritesNothing 24 a b (omega arith) (evict_lacks a b good x)
   stops_comes lacking lack Ship a b good (same, p) =
-      in_job IsNone 1 a b (omega arith) (comes_none run shows laws c 1 a b _ _ good
+      in_job WritesNothing 1 a b (omega arith) (comes_none run shows laws c 1 a b _ _ good
       (λ s sound. stays_same c 1 a.far b.far (omega arith) same) p (λ s e. e.nothing))
   stops_comes lacking lack (Free handle) a b good x = absurd x
   stops_comes lacking lack Commit a b good x = absurd x

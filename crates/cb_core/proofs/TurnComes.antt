@@ -25,15 +25,15 @@ use Rattle.cb_core.specs.Parts.CallStops.{near as lacks_near, far as lacks_far, 
 use Rattle.cb_core.specs.TurnLeaves.{SoundAfter}
 
 -- nothing was written
-abbrev pub IsNone : List Entry → Type 0
-IsNone more = more ≡ []
+abbrev pub WritesNothing : List Entry → Type 0
+WritesNothing more = more ≡ []
 
 -- whatever is answered
 abbrev pub Nil : {A : Type 0} → A → List Entry → Type 0
-Nil r = IsNone
+Nil r = WritesNothing
 
 -- an operation with this reply writes nothing
-pub record IsQuiet (W : Reply → List Entry → Type 0) (r : Reply) : Type 0 where
+pub record IsQuietReply (W : Reply → List Entry → Type 0) (r : Reply) : Type 0 where
   pub none : (more : List Entry) → W r more → more ≡ []
   pub some : W r []
 
@@ -130,14 +130,16 @@ module _ {D : Type 0} (run : D → List Event → D → Type 0) (shows : D → S
       → Comes run shows c n W a b → Comes run shows c k W a b
   comes_more W n k a b most p = comes_as W W (λ x w. w) n k a b most p
 
-  pub then_none : (n m k : ℕ) (a b d : Hold) → n + m ≤ k → Comes run shows c n IsNone a b
-      → Comes run shows c m IsNone b d → Comes run shows c k IsNone a d
-  then_none = comes_then IsNone IsNone IsNone (λ x y e f. ap (λ (l : List Entry). l ++ x) f ∙ e)
+  pub then_none : (n m k : ℕ) (a b d : Hold) → n + m ≤ k → Comes run shows c n WritesNothing a b
+      → Comes run shows c m WritesNothing b d → Comes run shows c k WritesNothing a d
+  then_none = comes_then WritesNothing WritesNothing WritesNothing
+      (λ x y e f. ap (λ (l : List Entry). l ++ x) f ∙ e)
 
   -- nothing was written before
   then_last : (W : List Entry → Type 0) (n m k : ℕ) (a b d : Hold) → n + m ≤ k
-      → Comes run shows c n IsNone a b → Comes run shows c m W b d → Comes run shows c k W a d
-  then_last W = comes_then IsNone W W (λ x y e w.
+      → Comes run shows c n WritesNothing a b → Comes run shows c m W b d
+      → Comes run shows c k W a d
+  then_last W = comes_then WritesNothing W W (λ x y e w.
       subst W (sym (append-nil y) ∙ ap (λ (l : List Entry). y ++ l) (sym e)) w)
 
   -- ---- a part
@@ -171,15 +173,15 @@ module _ {D : Type 0} (run : D → List Event → D → Type 0) (shows : D → S
       → (p : Performs (λ es. run a.desk es b.desk) (λ s. shows a.desk s × Sound s a.far) rules
       (λ t. Sound t b.far) does)
       → ((s : Shown) → does p.events s (played p.events s) → Writes p.events s [])
-      → Comes run shows c n IsNone a b
+      → Comes run shows c n WritesNothing a b
   comes_none n a b rules does good stays p wrote =
-      comes_by IsNone n a b rules does good stays p (λ s e. ([], refl, wrote s e))
+      comes_by WritesNothing n a b rules does good stays p (λ s e. ([], refl, wrote s e))
 
   -- nothing is done at the desk
   pub comes_far : {N : FarState → FarState → Type 0} (n : ℕ) (a b : Hold) → Good shows c a
       → run a.desk [] b.desk
       → ((s : Shown) → Sound s a.far → StaysIfBy N c n a.far b.far × Sound s b.far)
-      → ComesBy N run shows c n IsNone a b
+      → ComesBy N run shows c n WritesNothing a b
   comes_far n a b good ran stays =
       let k = good.shown in let z = (stays k.0 k.2).0 good.configured in record {
         events = [];
@@ -196,135 +198,143 @@ module _ {D : Type 0} (run : D → List Event → D → Type 0) (shows : D → S
 
   -- ---- the combinators
   -- each part that is P leaves a far state that is configured, and writes W
-  abbrev pub Carries : {A : Type 0} → ℕ → (A → List Entry → Type 0) → (Hold → A → Hold → Type 0)
+  abbrev pub CarriesWrites : {A : Type 0} → ℕ → (A → List Entry → Type 0)
+      → (Hold → A → Hold → Type 0)
       → Type 0
-  Carries {A = A} n W P = (a b : Hold) (r : A) → Good shows c a → P a r b
+  CarriesWrites {A = A} n W P = (a b : Hold) (r : A) → Good shows c a → P a r b
       → Comes run shows c n (W r) a b
 
   -- so does each that found no memory, and writes nothing
-  abbrev pub CarriesLack : ℕ → (Hold → Hold → Type 0) → Type 0
-  CarriesLack n L = (a b : Hold) → Good shows c a → L a b → Comes run shows c n IsNone a b
+  abbrev pub CarriesNoWrites : ℕ → (Hold → Hold → Type 0) → Type 0
+  CarriesNoWrites n L = (a b : Hold) → Good shows c a → L a b
+      → Comes run shows c n WritesNothing a b
 
   -- a part that writes nothing by its reply
   first : (W : Reply → List Entry → Type 0) (n : ℕ) (P : Hold → Reply → Hold → Type 0) (r : Reply)
-      (a m : Hold) → IsQuiet W r → Carries n W P → Good shows c a → P a r m
-      → Comes run shows c n IsNone a m
+      (a m : Hold) → IsQuietReply W r → CarriesWrites n W P → Good shows c a → P a r m
+      → Comes run shows c n WritesNothing a m
   first W n P r a m quiet p good x =
-      comes_as (W r) IsNone quiet.none n n a m (omega arith) (p a m r good x)
+      comes_as (W r) WritesNothing quiet.none n n a m (omega arith) (p a m r good x)
 
-  pub with_room : (W : Reply → List Entry → Type 0) → IsQuiet W answer.NoFrame → (frames : ℕ)
+  pub with_room : (W : Reply → List Entry → Type 0) → IsQuietReply W answer.NoFrame → (frames : ℕ)
       → ((loose nodes : ℕ) → W (answer.NoRoom frames loose nodes) []) → (n m k : ℕ)
       (P : Hold → Reply → Hold → Type 0) (E : Hold → Eviction → Hold → Type 0) → n + m + n ≤ k
-      → Carries n W P → Carries m Nil E → Carries k W (WithRoom frames P E)
+      → CarriesWrites n W P → CarriesWrites m Nil E → CarriesWrites k W (WithRoom frames P E)
   with_room W quiet frames off_room n m k P E most p e a b r good (at_once o off) =
       comes_more (W r) n k a b (omega (arith, most)) (p a b r good o)
   with_room W quiet frames off_room n m k P E most p e a b r good (no_room mid why loose nodes o v is) =
       let z = first W n P answer.NoFrame a mid quiet p good o in
-      let y = e mid b (Refused why loose nodes) (good_then n IsNone a mid good z) v in
-      comes_as IsNone (W r) (λ more none. subst (λ (q : Reply). W q more) (sym is)
+      let y = e mid b (Refused why loose nodes) (good_then n WritesNothing a mid good z) v in
+      comes_as WritesNothing (W r) (λ more none. subst (λ (q : Reply). W q more) (sym is)
       (subst (W (answer.NoRoom frames loose nodes)) (sym none) (off_room loose nodes))) (n + m) k a b
       (omega (arith, most))
       (then_none n m (n + m) a mid b (omega arith) z y)
   with_room W quiet frames off_room n m k P E most p e a b r good (won mid next id o v again off) =
       let z = first W n P answer.NoFrame a mid quiet p good o in
       let y = then_none n m (n + m) a mid next (omega arith) z
-      (e mid next (Set id) (good_then n IsNone a mid good z) v) in
+      (e mid next (Set id) (good_then n WritesNothing a mid good z) v) in
       then_last (W r) (n + m) n k a next b most y
-      (p next b r (good_then (n + m) IsNone a next good y) again)
+      (p next b r (good_then (n + m) WritesNothing a next good y) again)
 
-  pub room_stops : (W : Reply → List Entry → Type 0) → IsQuiet W answer.NoFrame → (n m k : ℕ)
+  pub room_stops : (W : Reply → List Entry → Type 0) → IsQuietReply W answer.NoFrame → (n m k : ℕ)
       (P : Hold → Reply → Hold → Type 0) (E : Hold → Eviction → Hold → Type 0)
       (L I : Hold → Hold → Type 0) → n + m + n ≤ k
-      → Carries n W P → CarriesLack n L → Carries m Nil E → CarriesLack m I
-      → CarriesLack k (RoomStops P L E I)
+      → CarriesWrites n W P → CarriesNoWrites n L → CarriesWrites m Nil E → CarriesNoWrites m I
+      → CarriesNoWrites k (RoomStops P L E I)
   room_stops W quiet n m k P E L I most p l e i a b good (lacks_now o) =
-      comes_more IsNone n k a b (omega (arith, most)) (l a b good o)
+      comes_more WritesNothing n k a b (omega (arith, most)) (l a b good o)
   room_stops W quiet n m k P E L I most p l e i a b good (evicting mid o v) =
       let z = first W n P answer.NoFrame a mid quiet p good o in
-      then_none n m k a mid b (omega (arith, most)) z (i mid b (good_then n IsNone a mid good z) v)
+      then_none n m k a mid b (omega (arith, most)) z
+      (i mid b (good_then n WritesNothing a mid good z) v)
   room_stops W quiet n m k P E L I most p l e i a b good (lacks_last mid next id o v u) =
       let z = first W n P answer.NoFrame a mid quiet p good o in
       let y = then_none n m (n + m) a mid next (omega arith) z
-      (e mid next (Set id) (good_then n IsNone a mid good z) v) in
+      (e mid next (Set id) (good_then n WritesNothing a mid good z) v) in
       then_none (n + m) n k a next b most y
-      (l next b (good_then (n + m) IsNone a next good y) u)
+      (l next b (good_then (n + m) WritesNothing a next good y) u)
 
   -- a call that is declined, or whose object stays far, writes nothing
-  pub where_it_is : (W : Reply → List Entry → Type 0) → IsQuiet W answer.NotHere → (n l m k : ℕ)
+  pub where_it_is : (W : Reply → List Entry → Type 0) → IsQuietReply W answer.NotHere
+      → (n l m k : ℕ)
       (P E : Hold → Reply → Hold → Type 0) (L : Hold → Option Reply → Hold → Type 0)
       → ((x y : Hold) (r : Reply) → L x (Some r) y → W r [])
       → ((x y : Hold) (r : Reply) → E x r y → W r [])
-      → n + l + m + n ≤ k → Carries n W P → Carries l Nil L → Carries m Nil E
-      → Carries k W (WhereItIs P L E)
+      → n + l + m + n ≤ k → CarriesWrites n W P → CarriesWrites l Nil L → CarriesWrites m Nil E
+      → CarriesWrites k W (WhereItIs P L E)
   where_it_is W quiet n l m k P E L off stays most p look e a b r good (near o never) =
       comes_more (W r) n k a b (omega (arith, most)) (p a b r good o)
   where_it_is W quiet n l m k P E L off stays most p look e a b r good (declined mid o d) =
       let z = first W n P answer.NotHere a mid quiet p good o in
-      let y = look mid b (Some r) (good_then n IsNone a mid good z) d in
-      comes_as IsNone (W r) (λ more none. subst (W r) (sym none) (off mid b r d)) (n + l) k a b
+      let y = look mid b (Some r) (good_then n WritesNothing a mid good z) d in
+      comes_as WritesNothing (W r) (λ more none. subst (W r) (sym none) (off mid b r d)) (n + l) k a
+      b
       (omega (arith, most)) (then_none n l (n + l) a mid b (omega arith) z y)
   where_it_is W quiet n l m k P E L off stays most p look e a b r good
       (stays_far mid next o d v never) =
       let z = first W n P answer.NotHere a mid quiet p good o in
       let y = then_none n l (n + l) a mid next (omega arith) z
-      (look mid next None (good_then n IsNone a mid good z) d) in
-      let x = e next b r (good_then (n + l) IsNone a next good y) v in
-      comes_as IsNone (W r) (λ more none. subst (W r) (sym none) (stays next b r v)) (n + l + m) k a b
+      (look mid next None (good_then n WritesNothing a mid good z) d) in
+      let x = e next b r (good_then (n + l) WritesNothing a next good y) v in
+      comes_as WritesNothing (W r) (λ more none. subst (W r) (sym none) (stays next b r v)) (n + l + m) k a b
       (omega (arith, most)) (then_none (n + l) m (n + l + m) a next b (omega arith) y x)
   where_it_is W quiet n l m k P E L off stays most p look e a b r good
       (brought mid next last f o d v again) =
       let z = first W n P answer.NotHere a mid quiet p good o in
       let y = then_none n l (n + l) a mid next (omega arith) z
-      (look mid next None (good_then n IsNone a mid good z) d) in
+      (look mid next None (good_then n WritesNothing a mid good z) d) in
       let x = then_none (n + l) m (n + l + m) a next last (omega arith) y
-      (e next last (answer.Swapped f) (good_then (n + l) IsNone a next good y) v) in
+      (e next last (answer.Swapped f) (good_then (n + l) WritesNothing a next good y) v) in
       then_last (W r) (n + l + m) n k a last b most x
-      (p last b r (good_then (n + l + m) IsNone a last good x) again)
+      (p last b r (good_then (n + l + m) WritesNothing a last good x) again)
 
-  pub brings_in : (n m k : ℕ) (P E : Hold → Reply → Hold → Type 0) → n + m ≤ k → Carries n Nil P
-      → Carries m Nil E → Carries k Nil (BringsIn P E)
+  pub brings_in : (n m k : ℕ) (P E : Hold → Reply → Hold → Type 0) → n + m ≤ k
+      → CarriesWrites n Nil P
+      → CarriesWrites m Nil E → CarriesWrites k Nil (BringsIn P E)
   brings_in n m k P E most p e a b r good (not_far o never) =
-      comes_more IsNone n k a b (omega (arith, most)) (p a b r good o)
+      comes_more WritesNothing n k a b (omega (arith, most)) (p a b r good o)
   brings_in n m k P E most p e a b r good (was_far mid o v) =
       let z = p a mid answer.NotHere good o in
-      then_none n m k a mid b most z (e mid b r (good_then n IsNone a mid good z) v)
+      then_none n m k a mid b most z (e mid b r (good_then n WritesNothing a mid good z) v)
 
-  pub call_stops : (W : Reply → List Entry → Type 0) → IsQuiet W answer.NotHere → (n l m k : ℕ)
+  pub call_stops : (W : Reply → List Entry → Type 0) → IsQuietReply W answer.NotHere → (n l m k : ℕ)
       (P E : Hold → Reply → Hold → Type 0) (S : Hold → Option Reply → Hold → Type 0)
-      (L I : Hold → Hold → Type 0) → n + l + m + n ≤ k → Carries n W P → CarriesLack n L
-      → Carries l Nil S → Carries m Nil E → CarriesLack m I → CarriesLack k (CallStops P L S E I)
+      (L I : Hold → Hold → Type 0) → n + l + m + n ≤ k → CarriesWrites n W P → CarriesNoWrites n L
+      → CarriesWrites l Nil S → CarriesWrites m Nil E → CarriesNoWrites m I
+      → CarriesNoWrites k (CallStops P L S E I)
   call_stops W quiet n l m k P E S L I most p lack look e i a b good (lacks_near o) =
-      comes_more IsNone n k a b (omega (arith, most)) (lack a b good o)
+      comes_more WritesNothing n k a b (omega (arith, most)) (lack a b good o)
   call_stops W quiet n l m k P E S L I most p lack look e i a b good (lacks_far mid next o d v) =
       let z = first W n P answer.NotHere a mid quiet p good o in
       let y = then_none n l (n + l) a mid next (omega arith) z
-      (look mid next None (good_then n IsNone a mid good z) d) in
+      (look mid next None (good_then n WritesNothing a mid good z) d) in
       then_none (n + l) m k a next b (omega (arith, most)) y
-      (i next b (good_then (n + l) IsNone a next good y) v)
+      (i next b (good_then (n + l) WritesNothing a next good y) v)
   call_stops W quiet n l m k P E S L I most p lack look e i a b good
       (lacks_after mid next last f o d v again) =
       let z = first W n P answer.NotHere a mid quiet p good o in
       let y = then_none n l (n + l) a mid next (omega arith) z
-      (look mid next None (good_then n IsNone a mid good z) d) in
+      (look mid next None (good_then n WritesNothing a mid good z) d) in
       let x = then_none (n + l) m (n + l + m) a next last (omega arith) y
-      (e next last (answer.Swapped f) (good_then (n + l) IsNone a next good y) v) in
+      (e next last (answer.Swapped f) (good_then (n + l) WritesNothing a next good y) v) in
       then_none (n + l + m) n k a last b most x
-      (lack last b (good_then (n + l + m) IsNone a last good x) again)
+      (lack last b (good_then (n + l + m) WritesNothing a last good x) again)
 
   -- an object is brought in, and the call is made where it is here
-  pub once_here : (n m k : ℕ) (E P : Hold → Reply → Hold → Type 0) → n + m ≤ k → Carries n Nil E
-      → Carries m Nil P → Carries k Nil (OnceHere E P)
+  pub once_here : (n m k : ℕ) (E P : Hold → Reply → Hold → Type 0) → n + m ≤ k
+      → CarriesWrites n Nil E
+      → CarriesWrites m Nil P → CarriesWrites k Nil (OnceHere E P)
   once_here n m k E P most e p a b r good (away o off) =
-      comes_more IsNone n k a b (omega (arith, most)) (e a b r good o)
+      comes_more WritesNothing n k a b (omega (arith, most)) (e a b r good o)
   once_here n m k E P most e p a b r good (here mid place o there call) =
       let z = e a mid place good o in
-      then_none n m k a mid b most z (p mid b r (good_then n IsNone a mid good z) call)
+      then_none n m k a mid b most z (p mid b r (good_then n WritesNothing a mid good z) call)
 
   pub once_here_stops : (n m k : ℕ) (E : Hold → Reply → Hold → Type 0) (I L : Hold → Hold → Type 0)
-      → n + m ≤ k → Carries n Nil E → CarriesLack n I → CarriesLack m L
-      → CarriesLack k (OnceHereStops E I L)
+      → n + m ≤ k → CarriesWrites n Nil E → CarriesNoWrites n I → CarriesNoWrites m L
+      → CarriesNoWrites k (OnceHereStops E I L)
   once_here_stops n m k E I L most e i l a b good (bringing_stops o) =
-      comes_more IsNone n k a b (omega (arith, most)) (i a b good o)
+      comes_more WritesNothing n k a b (omega (arith, most)) (i a b good o)
   once_here_stops n m k E I L most e i l a b good (lacks_here mid place o there lack) =
       let z = e a mid place good o in
-      then_none n m k a mid b most z (l mid b (good_then n IsNone a mid good z) lack)
+      then_none n m k a mid b most z (l mid b (good_then n WritesNothing a mid good z) lack)

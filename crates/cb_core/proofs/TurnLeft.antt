@@ -29,7 +29,7 @@ use Rattle.cb_core.proofs.FarJobs.{note_of}
 use Rattle.cb_core.proofs.KeptParts.{counted_rises}
 use Rattle.cb_core.proofs.Noted.{noted_after}
 use Rattle.cb_core.proofs.TurnCarries.{come_lacks, comes_in, does_comes, in_job, reads, read_lacks, stops_comes}
-use Rattle.cb_core.proofs.TurnComes.{AreLaws, Carries, CarriesLack, ComesBy, Good, IsNone, Nil}
+use Rattle.cb_core.proofs.TurnComes.{AreLaws, CarriesNoWrites, CarriesWrites, ComesBy, Good, Nil, WritesNothing}
 
 -- those of a desk
 pub laws_of : {D : Type 0} → (run : D → List Event → D → Type 0) → (shows : D → Shown → Type 0)
@@ -97,7 +97,7 @@ module _ {D : Type 0} (run : D → List Event → D → Type 0) (shows : D → S
 
   -- however an object is read, by a part that writes nothing
   pub turn_leaves : (reading : ℕ → Hold → Reply → Hold → Type 0)
-      → ((h : ℕ) → Carries run shows laws c 1 Nil (reading h)) → (job : Job) (a b : Hold) (r : Reply)
+      → ((h : ℕ) → CarriesWrites run shows laws c 1 Nil (reading h)) → (job : Job) (a b : Hold) (r : Reply)
       → IsJob c job → Good shows c a → AreCounted a.far → Turned run shows reading c job a r b
       → TurnLeaves run shows c a b (TurnWrites job r)
   turn_leaves reading read job a b r ok good counts (worn end reply same ran) =
@@ -108,11 +108,11 @@ module _ {D : Type 0} (run : D → List Event → D → Type 0) (shows : D → S
       (counted_good job a good) x)
 
   pub stop_leaves : (lacking : ℕ → Hold → Hold → Type 0)
-      → ((h : ℕ) → CarriesLack run shows laws c 1 (lacking h)) → (job : Job) (a b : Hold)
+      → ((h : ℕ) → CarriesNoWrites run shows laws c 1 (lacking h)) → (job : Job) (a b : Hold)
       → Good shows c a → AreCounted a.far → Stopped run shows lacking c job a b
-      → TurnLeaves run shows c a b IsNone
+      → TurnLeaves run shows c a b WritesNothing
   stop_leaves lacking lack job a b good counts x =
-      counted_leaves IsNone job a b counts x.few
+      counted_leaves WritesNothing job a b counts x.few
       (stops_comes run shows laws c accepted lacking lack job (once_counted a job) b
       (counted_good job a good) x.stops)
 
@@ -130,18 +130,19 @@ module _ {D : Type 0} (run : D → List Event → D → Type 0) (shows : D → S
 
   -- the first call of a read
   pub first_leaves : (h : Handle) (a b : Hold) (r : Reply) → Good shows c a → AreCounted a.far
-      → BroughtToRead run shows c h a r b → TurnLeaves run shows c a b IsNone
+      → BroughtToRead run shows c h a r b → TurnLeaves run shows c a b WritesNothing
   first_leaves h a b r good counts (first_worn end reply same ran) =
       refused_leaves (Read h) a b r good counts end reply same ran
   first_leaves h a b r good counts (first_done few x) = let a' = once_counted a (Read h) in
-      counted_leaves IsNone (Read h) a b counts few (in_job run shows laws c accepted IsNone 57 a' b
+      counted_leaves WritesNothing (Read h) a b counts few
+      (in_job run shows laws c accepted WritesNothing 57 a' b
       (omega arith) (comes_in run shows laws c accepted h.n a' b r (counted_good (Read h) a good) x))
 
   pub brought_leaves : (h : Handle) (a b : Hold) (result : Result Reply NoMemory) → Good shows c a
       → AreCounted a.far → IfOk result (λ r. BroughtToRead run shows c h a r b)
-      → OnErr result (StoppedToRead run shows c h a b) → TurnLeaves run shows c a b IsNone
+      → OnErr result (StoppedToRead run shows c h a b) → TurnLeaves run shows c a b WritesNothing
   brought_leaves h a b (Ok r) good counts brought stopped = first_leaves h a b r good counts brought
   brought_leaves h a b (Err e) good counts brought stopped = let a' = once_counted a (Read h) in
-      counted_leaves IsNone (Read h) a b counts stopped.few (in_job run shows laws c accepted IsNone 57 a'
+      counted_leaves WritesNothing (Read h) a b counts stopped.few (in_job run shows laws c accepted WritesNothing 57 a'
       b (omega arith) (come_lacks run shows laws c accepted h.n a' b (counted_good (Read h) a good)
       stopped.stops))

@@ -22,7 +22,7 @@ use Rattle.cb_world.specs.SetWord.{is_broken}
 use Rattle.cb_world.specs.Shown.{object_at}
 use Rattle.cb_world.specs.Sound.{Sound}
 use Rattle.cb_world.proofs.Laws.{some_same}
-use Rattle.cb_mutate.specs.Answered.{AnsweredAs, AnsweredBy}
+use Rattle.cb_mutate.specs.Answered.{AnsweredAs, AnsweredByLook}
 use Rattle.cb_mutate.specs.MakeRule.{MakeRule}
 use Rattle.cb_swapin.proofs.Laws.{by_answer, gone_is_broken}
 use Rattle.cb_core.specs.OnceHere.{IsThere, OnceHere, away, here}
@@ -30,7 +30,7 @@ use Rattle.cb_core.specs.Parts.{Holding, WithRoom, WhereItIs, at_once, no_room, 
 use Rattle.cb_core.specs.FarJobs.{FarStep}
 use Rattle.cb_core.specs.ReadTurn.{BroughtToRead}
 use Rattle.cb_core.specs.ReadTurn.BroughtToRead.{worn as first_worn, done as first_done}
-use Rattle.cb_core.specs.Turned.{Brings, ComesIn, Declines, Does, IsDeclined, Makes, Reads, Swaps, Turned, WinsRoom, Writes, counted, once_counted, worn, done}
+use Rattle.cb_core.specs.Turned.{Brings, ComesIn, Declines, Does, IsDeclined, Makes, Reads, Swaps, Turned, WinsRoom, WritesObject, counted, once_counted, worn, done}
 use Rattle.cb_core.specs.Unavailable.{IsInLost, TurnTells, brought_by}
 use Rattle.cb_core.proofs.Counting.{counted_sound}
 use Rattle.cb_core.proofs.FarJobs.{AnswersLine, far_job}
@@ -156,7 +156,7 @@ module _ {D : Type 0} (run : D → List Event → D → Type 0) (shows : D → S
   -- a call on an object that is gone is answered that it is not here
   gone_far : (a : Hold) (h : ℕ) (near_as : ℕ → Type 0) (r : Reply) (es : List Event) (e : D) → Good a
       → run a.desk es e → LooksFirst es
-      → AnsweredBy (λ w. AnsweredAs (state_of w) near_as w h es r) h es → is_gone a.far h ≡ true
+      → AnsweredByLook (λ w. AnsweredAs (state_of w) near_as w h es r) h es → is_gone a.far h ≡ true
       → r ≡ answer.NotHere
   gone_far a h near_as r es e (s, shown, sound) ran first x gone =
       let z = gone_lost a.far h gone in
@@ -167,7 +167,8 @@ module _ {D : Type 0} (run : D → List Event → D → Type 0) (shows : D → S
   -- so where it is answered otherwise, the object is not gone
   near_whole : (a : Hold) (h : ℕ) (near_as : ℕ → Type 0) (r : Reply) (es : List Event) (e : D) → Good a
       → run a.desk es e → LooksFirst es
-      → AnsweredBy (λ w. AnsweredAs (state_of w) near_as w h es r) h es → (r ≡ answer.NotHere → ⊥)
+      → AnsweredByLook (λ w. AnsweredAs (state_of w) near_as w h es r) h es
+      → (r ≡ answer.NotHere → ⊥)
       → is_gone a.far h ≡ false
   near_whole a h near_as r es e good ran first x never = by (is_gone a.far h) refl
     where
@@ -209,7 +210,7 @@ module _ {D : Type 0} (run : D → List Event → D → Type 0) (shows : D → S
       (whole r (read_plain h r call.events call.rule.1))
 
   write_tells : (a b : Hold) (h at : ℕ) (bytes : List ℕ) (r : Reply) → Good a
-      → WhereItIs (Writes run shows h at bytes) (Declines run shows h at (length bytes))
+      → WhereItIs (WritesObject run shows h at bytes) (Declines run shows h at (length bytes))
       (Brings run shows c h) a r b → Tells a.far h r
   write_tells a b h at bytes r good (near x never) = whole_there
       (near_whole a h _ r x.events b.desk good x.ran x.looks_first x.rule.1 never)

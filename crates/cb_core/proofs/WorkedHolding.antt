@@ -13,7 +13,7 @@ use Rattle.cb_core.specs.declared.event.Event.TheVariants as event
 use Rattle.cb_core.specs.Events.{IsEvent}
 use Rattle.cb_core.specs.Holding.{not_held, taken, given}
 use Rattle.cb_core.specs.Membership.{crashed, is_down}
-use Rattle.cb_core.specs.Step.{SeatTurn, held, free, TurnStep, worn, done, Leads, Stops}
+use Rattle.cb_core.specs.Step.{SeatTurn, held, free, TurnStep, worn, done, Leads, EventStops}
 use Rattle.cb_core.proofs.WorkedPins.{settings, calm}
 use Rattle.cb_core.proofs.WorkedTurns.{node, far, far_down, world, idle, three, four, old, crashed_down, nobody}
 
@@ -82,13 +82,13 @@ counts_it (held other off holds reply same) =
 counts_it (free none step) = never_held (at_lock three) (at_lock four) 0 step
 
 -- ---- no memory
-stops_with_it : Stops (at_lock three) (event.Turn 0 crash) (at_lock four)
+stops_with_it : EventStops (at_lock three) (event.Turn 0 crash) (at_lock four)
 stops_with_it = (the_first, (lit< tt, refl, (refl, (refl, refl))))
 
-stops_beside : (new : WorldState) → Stops (at_lock three) (event.Turn 1 crash) new → ⊥
+stops_beside : (new : WorldState) → EventStops (at_lock three) (event.Turn 1 crash) new → ⊥
 stops_beside new stopped = apart 0 (stopped.0 0 refl)
 
-takes_and_stops : (new : WorldState) → Stops old (event.Step 0 Take) new → ⊥
+takes_and_stops : (new : WorldState) → EventStops old (event.Step 0 Take) new → ⊥
 takes_and_stops new stopped = stopped
 
 -- ---- events

@@ -21,7 +21,7 @@ use Rattle.cb_world.specs.Written.{Writes, entry, gone}
 use Rattle.cb_world.proofs.Laws.{counted_holds, empty_world_sound, recounted}
 use Rattle.cb_core.specs.Parts.{Holding}
 use Rattle.cb_mutate.specs.JobWrites.{TurnWrites}
-use Rattle.cb_core.specs.TurnLeaves.{IsNext, TurnLeaves}
+use Rattle.cb_core.specs.TurnLeaves.{IsOneTurnOn, TurnLeaves}
 use Rattle.cb_core.proofs.Counting.{counted_sound}
 use Rattle.cb_core.proofs.KeptParts.{KeepsNote, counted_rises}
 
@@ -99,14 +99,14 @@ module _ (c : Config) (accepted : IsAccepted c) where
   abbrev then_ : FarState
   then_ = counted far Evict
 
-  one_turn : IsNext far then_
+  one_turn : IsOneTurnOn far then_
   one_turn = inl (lit< tt, refl)
 
-  no_turn : IsNext far far → ⊥
+  no_turn : IsOneTurnOn far far → ⊥
   no_turn (inl x) = let n : 0 ≡ 1 = x.1 in omega (arith, n)
   no_turn (inr x) = let n : 0 ≡ 2 ^ 40 = x.0 in omega (arith, n)
 
-  two_turns : IsNext far (counted then_ Evict) → ⊥
+  two_turns : IsOneTurnOn far (counted then_ Evict) → ⊥
   two_turns (inl x) = let n : 2 ≡ 1 = x.1 in omega (arith, n)
   two_turns (inr x) = let n : 0 ≡ 2 ^ 40 = x.0 in omega (arith, n)
 

@@ -4,7 +4,7 @@ use Rattle.std.specs.Prelude.{slice_index_or, None}
 use Rattle.std.specs.FinMap as map
 use Rattle.cb_member.specs.declared.names.NodeId.{NodeId}
 use Rattle.cb_member.specs.Membership.{Membership, alive, fresh_node}
-use Rattle.cb_node.specs.NodesState.{NodesState, empty_nodes, held, with_row, with_rows, row_at}
+use Rattle.cb_node.specs.NodesState.{NodesState, empty_nodes, held, with_row, with_rows, row_under}
 use Rattle.cb_types.specs.declared.reply.Reply.{Reply}
 use Rattle.cb_types.specs.declared.reply.Reply.TheVariants as answer
 use Rattle.cb_world.specs.FarState.{FarState}
@@ -89,29 +89,29 @@ crashes_at_the_same_epoch far step =
 none_some : (row : List ℕ) → None ≡ Some row → ⊥
 none_some row e = cc
 
-first_row : row_at rows (node 0) 7 ≡ Some (1 ∷ [])
+first_row : row_under rows (node 0) 7 ≡ Some (1 ∷ [])
 first_row = grind (arith, map.gets)
 
-first_gone : row_at without_rows (node 0) 7 ≡ None
+first_gone : row_under without_rows (node 0) 7 ≡ None
 first_gone = grind (arith, map.gets)
 
-second_row : row_at without_rows (node 1) 7 ≡ Some (2 ∷ [])
+second_row : row_under without_rows (node 1) 7 ≡ Some (2 ∷ [])
 second_row = grind (arith, map.gets)
 
 crashes_and_keeps_a_row : (far : FarState) → CrashTurn (node 0) (with_nodes far rows both_up)
     (answer.EpochAt (record { n = 5 })) (forgetful (with_nodes far rows first_down)) → ⊥
 crashes_and_keeps_a_row far step = none_some (1 ∷ []) (sym (sym first_row
-    ∙ ap (λ (f : FarState). row_at f.nodes (node 0) 7) (up_crashed far _ _ step).1 ∙ first_gone))
+    ∙ ap (λ (f : FarState). row_under f.nodes (node 0) 7) (up_crashed far _ _ step).1 ∙ first_gone))
 
 -- the rows of the other node stay
 crashes_another : (far : FarState) → CrashTurn (node 0) (with_nodes far rows both_up)
     (answer.EpochAt (record { n = 5 }))
     (forgetful (with_nodes far (with_rows without_rows (node 1) map.empty) first_down)) → ⊥
 crashes_another far step =
-    let none : row_at (with_rows without_rows (node 1) map.empty) (node 1) 7 ≡ None =
+    let none : row_under (with_rows without_rows (node 1) map.empty) (node 1) 7 ≡ None =
     grind (arith, map.gets) in
     none_some (2 ∷ []) (sym none
-    ∙ ap (λ (f : FarState). row_at f.nodes (node 1) 7) (up_crashed far _ _ step).1 ∙ second_row)
+    ∙ ap (λ (f : FarState). row_under f.nodes (node 1) 7) (up_crashed far _ _ step).1 ∙ second_row)
 
 crashes_and_stays_up : (far : FarState) → CrashTurn (node 0) (with_nodes far rows both_up)
     (answer.EpochAt (record { n = 5 })) (forgetful (with_nodes far without_rows both_up)) → ⊥
@@ -205,7 +205,8 @@ joins_at_the_same_epoch far step =
 joins_with_a_row : (far : FarState) → JoinTurn (node 0) (with_nodes far without_rows first_down)
     (answer.EpochAt (record { n = 6 })) (with_nodes far rows again_up) → ⊥
 joins_with_a_row far step = none_some (1 ∷ []) (sym (sym first_row
-    ∙ ap (λ (f : FarState). row_at f.nodes (node 0) 7) (down_joined far _ _ step).1 ∙ first_gone))
+    ∙ ap (λ (f : FarState). row_under f.nodes (node 0) 7) (down_joined far _ _ step).1
+    ∙ first_gone))
 
 -- as in its next incarnation, and not in the one that crashed
 joins_in_the_same_incarnation : (far : FarState)
@@ -229,7 +230,7 @@ up_and_loses_its_rows : (far : FarState) → JoinTurn (node 1) (with_nodes far r
     (answer.Up (node 1)) (with_nodes far (with_rows rows (node 1) map.empty) first_down) → ⊥
 up_and_loses_its_rows far (joined down reply state) = absurd cc
 up_and_loses_its_rows far (is_up up reply same) =
-    let none : row_at (with_rows rows (node 1) map.empty) (node 1) 7 ≡ None =
+    let none : row_under (with_rows rows (node 1) map.empty) (node 1) 7 ≡ None =
     grind (arith, map.gets) in
-    let some : row_at rows (node 1) 7 ≡ Some (2 ∷ []) = grind (arith, map.gets) in
-    none_some (2 ∷ []) (sym none ∙ ap (λ (f : FarState). row_at f.nodes (node 1) 7) same ∙ some)
+    let some : row_under rows (node 1) 7 ≡ Some (2 ∷ []) = grind (arith, map.gets) in
+    none_some (2 ∷ []) (sym none ∙ ap (λ (f : FarState). row_under f.nodes (node 1) 7) same ∙ some)

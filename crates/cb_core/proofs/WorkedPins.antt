@@ -10,7 +10,7 @@ use Rattle.cb_types.specs.declared.reply.Reply.TheVariants as answer
 use Rattle.cb_world.specs.declared.seats.Pin.{Pin}
 use Rattle.cb_world.specs.FarState.{FarState}
 use Rattle.cb_world.specs.Plain.{Words}
-use Rattle.cb_world.specs.Seats.{IsNewest, NoneOn, SeatState, pins_of_seat, with_pins}
+use Rattle.cb_world.specs.Seats.{IsNewestOf, NoneOn, SeatState, pins_of_seat, with_pins}
 use Rattle.cb_world.specs.StillWords.{stamp_at}
 use Rattle.cb_world.specs.World.{WorldState, word_at}
 use Rattle.cb_core.specs.Pinning.{MayPin, pin_refusal, IsPinTaken, PinStep, scope_full, refused, taken, IsPinGiven, UnpinStep, not_pinned, given}
@@ -280,7 +280,7 @@ gives_the_older_one far step = older t.at t.newest t.pins
     t : IsPinGiven 0 0 w (world far hot (pin_on 0 3 ∷ []) [])
     t = (is_given 0 0 w _ _ (λ none. none 0 (pin_on 0 2) refl refl) step).1
 
-    older : (at : ℕ) → IsNewest both 0 at
+    older : (at : ℕ) → IsNewestOf both 0 at
         → (seat_with (pin_on 0 3 ∷ []) ∷ seat_with [] ∷ []) ≡ with_pins w.seats 0 (remove both at) → ⊥
     older zero n e = n.newest 1 (pin_on 0 3) (lit< tt) refl refl
     older (suc zero) n e = let z : 3 ≡ 2 =

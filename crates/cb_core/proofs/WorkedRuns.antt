@@ -10,7 +10,7 @@ use Rattle.cb_core.specs.declared.event.Atomic.TheVariants.{Load}
 use Rattle.cb_core.specs.declared.event.Event.{Event}
 use Rattle.cb_core.specs.declared.event.Event.TheVariants as event
 use Rattle.cb_core.specs.Run.{LeadsSoundly, RunStops}
-use Rattle.cb_core.specs.Step.{Stops}
+use Rattle.cb_core.specs.Step.{EventStops}
 
 abbrev c : Config
 c = record { k = 1; r = 1; nodes = 2; frames = 2; room = 4; handles = 2; turns = 0 }
@@ -64,5 +64,5 @@ stops_behind_one = record {
 }
 
 -- a look finds memory, so nothing else is left behind it
-looks_never_stop : (new : WorldState) → Stops w look new → ⊥
+looks_never_stop : (new : WorldState) → EventStops w look new → ⊥
 looks_never_stop new stops = stops

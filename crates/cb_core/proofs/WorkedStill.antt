@@ -34,7 +34,7 @@ use Rattle.cb_evict.specs.AbortStep.{no_batch as none_to_abort, given_up}
 use Rattle.cb_evict.specs.BeginStep.{IsBeginStep, is_leaving, few_spans as few_to_begin, few_nodes as few_to_take, begins}
 use Rattle.cb_evict.specs.CommitStep.{no_batch as none_to_commit, short, committed}
 use Rattle.cb_evict.specs.EvictStep.{few_spans, few_nodes, made}
-use Rattle.cb_evict.specs.ShipRule.{Ships as ShipsRow}
+use Rattle.cb_evict.specs.ShipRule.{ShipsRow}
 use Rattle.cb_evict.specs.Waiting.{waiting, least_waiting}
 use Rattle.cb_evict.proofs.Laws.{calm as wide_calm, desk as wide_desk, far as wide_far, known as wide_shown, after as wide_after, all_known as wide_known, step as wide_step, none_known}
 use Rattle.cb_filter.specs.FilterStep.{refused, cools, without_slot, moves}

@@ -33,7 +33,7 @@ use Rattle.cb_evict.specs.declared.eviction.Eviction.TheVariants.{Refused, Set}
 use Rattle.cb_evict.specs.declared.eviction.Lack.{Lack}
 use Rattle.cb_evict.specs.declared.eviction.Lack.TheVariants.{Spans}
 use Rattle.cb_core.specs.Parts.{Holding, at_once, no_room as no_room_won, won, near, far as was_away, after as once_in}
-use Rattle.cb_core.specs.Step.{StillEvict, StillRoom, TurnStep, worn, done, free, Step, Leads, Stops, StillStops}
+use Rattle.cb_core.specs.Step.{StillEvict, StillRoom, TurnStep, worn, done, free, Step, Leads, EventStops, StillStops}
 use Rattle.cb_core.proofs.WorkedPins.{settings, desk, calm, hot, pinned, pin_on, seat_with}
 use Rattle.cb_core.proofs.WorkedRoom.{counts, far_of, first_down, span_with, two_open, words_are}
 
@@ -307,58 +307,59 @@ a_reply_too_few : (new : WorldState)
 a_reply_too_few new none = none
 
 -- ---- no memory
-stops : Stops old (event.Turn 0 (Crash (node 0))) (world (far four) calm idle)
+stops : EventStops old (event.Turn 0 (Crash (node 0))) (world (far four) calm idle)
 stops = (nobody 0, (lit< tt, refl, (refl, (refl, refl))))
 
-stops_and_crashes : Stops old (event.Turn 0 (Crash (node 0))) (world (far_down four) calm idle) → ⊥
+stops_and_crashes : EventStops old (event.Turn 0 (Crash (node 0))) (world (far_down four) calm idle)
+    → ⊥
 stops_and_crashes stopped = let e : 1 ≡ 0 =
     ap (λ (f : FarState). f.members.epoch) stopped.1.2.1.0 in omega (arith, e)
 
-stops_uncounted : Stops old (event.Turn 0 (Crash (node 0))) old → ⊥
+stops_uncounted : EventStops old (event.Turn 0 (Crash (node 0))) old → ⊥
 stops_uncounted stopped = let e : 3 ≡ 4 =
     ap (λ (f : FarState). f.counts.turns) stopped.1.2.1.0 in omega (arith, e)
 
-stops_and_takes_a_pin : Stops old (event.Turn 0 (Crash (node 0)))
+stops_and_takes_a_pin : EventStops old (event.Turn 0 (Crash (node 0)))
     (world (far four) calm (seat_with (pin_on 0 3 ∷ []) ∷ seat_with [] ∷ [])) → ⊥
 stops_and_takes_a_pin stopped = let e : 1 ≡ 0 =
     ap (λ (s : List SeatState). length (get_or s 0 (seat_with [])).pins) stopped.1.1 in omega (arith, e)
 
 -- the last turn was counted before
-stops_too_late : (new : WorldState) → Stops worn_out (event.Turn 0 (Crash (node 0))) new → ⊥
+stops_too_late : (new : WorldState) → EventStops worn_out (event.Turn 0 (Crash (node 0))) new → ⊥
 stops_too_late new stopped = let few = stopped.1.0 in omega (arith, few)
 
 -- a crash of a node that is down, a free, a join and a write to an object that is here take no memory
-down_and_stops : Stops (world (far_down three) calm idle) (event.Turn 0 (Crash (node 0)))
+down_and_stops : EventStops (world (far_down three) calm idle) (event.Turn 0 (Crash (node 0)))
     (world (far_down four) calm idle) → ⊥
 down_and_stops stopped = absurd (let e = stopped.1.2.1.1 in cc)
 
-free_stops : (new : WorldState) → Stops old (event.Turn 0 (Free (handle 0))) new → ⊥
+free_stops : (new : WorldState) → EventStops old (event.Turn 0 (Free (handle 0))) new → ⊥
 free_stops new stopped = stopped.1.2
 
-join_stops : (new : WorldState) → Stops old (event.Turn 0 (Join (node 0))) new → ⊥
+join_stops : (new : WorldState) → EventStops old (event.Turn 0 (Join (node 0))) new → ⊥
 join_stops new stopped = stopped.1.2.1
 
 not_here_version : (v : ℕ) → answer.NotHere ≡ answer.Version v → ⊥
 not_here_version v e = cc
 
-write_stops : (new : WorldState) → Stops old (event.Turn 0 (Write (handle 0) 1 [])) new → ⊥
+write_stops : (new : WorldState) → EventStops old (event.Turn 0 (Write (handle 0) 1 [])) new → ⊥
 write_stops new (alone, (few, seats, near none)) = none
 write_stops new (alone, (few, seats, was_away m n o d lacks)) = not_here_version 4 o.0.reply
 write_stops new (alone, (few, seats, once_in m n last f o d v lacks)) = lacks
 
-stops_at_a_step : (new : WorldState) → Stops old (event.Step 0 (Load (handle 0))) new → ⊥
+stops_at_a_step : (new : WorldState) → EventStops old (event.Step 0 (Load (handle 0))) new → ⊥
 stops_at_a_step new stopped = stopped
 
 -- a claim that found no memory changed nothing
-claim_stops : Stops old (event.Step 0 (Claim (handle 0) 0 [])) old
+claim_stops : EventStops old (event.Step 0 (Claim (handle 0) 0 [])) old
 claim_stops = refl
 
-claim_stops_and_counts : Stops old (event.Step 0 (Claim (handle 0) 0 []))
+claim_stops_and_counts : EventStops old (event.Step 0 (Claim (handle 0) 0 []))
     (world (far four) calm idle) → ⊥
 claim_stops_and_counts same =
     let e : 4 ≡ 3 = ap (λ (v : WorldState). v.far.counts.turns) same in omega (arith, e)
 
-store_stops : (new : WorldState) → Stops old (event.Step 0 (Store (handle 0))) new → ⊥
+store_stops : (new : WorldState) → EventStops old (event.Step 0 (Store (handle 0))) new → ⊥
 store_stops new stops = stops
 
 -- a read that found no memory for its reply leaves the hot bit as it was

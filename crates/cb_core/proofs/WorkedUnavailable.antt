@@ -20,7 +20,7 @@ use Rattle.cb_world.specs.World.{WorldState}
 use Rattle.cb_core.specs.declared.event.Atomic.TheVariants as atomic
 use Rattle.cb_core.specs.declared.event.Event.{Event}
 use Rattle.cb_core.specs.declared.event.Event.TheVariants as event
-use Rattle.cb_core.specs.Unavailable.{IsInLost, IsLost, TurnTells, asked_by, IsMade, TellsUnavailable, LeadsTelling}
+use Rattle.cb_core.specs.Unavailable.{IsInLost, IsLost, TurnTells, asked_by, IsTurnMade, TellsUnavailable, LeadsTelling}
 use Rattle.cb_core.proofs.WorkedPins.{desk, away, calm, seat_with}
 use Rattle.cb_core.proofs.WorkedRoom.{counts, far_of, first_down, span_with}
 
@@ -184,21 +184,21 @@ told_by_a_free z = none_asked (z.only five both_lost refl).0 (z.only five both_l
     none_asked h e = cc
 
 -- the read of the lost object tells the set and both shards, and nothing else
-not_told : (r : Reply) → IsMade lost_world read → TellsUnavailable lost_world read r → r ≡ unavailable
+not_told : (r : Reply) → IsTurnMade lost_world read → TellsUnavailable lost_world read r → r ≡ unavailable
 not_told r made z = z.each 0 five both_lost refl made is_lost
 
-tells_another_set : IsMade lost_world read
+tells_another_set : IsTurnMade lost_world read
     → TellsUnavailable lost_world read (answer.Unavailable (record { n = 4 }) both_lost) → ⊥
 tells_another_set made z =
     let e : 4 ≡ 5 = ap number_of (not_told _ made z) in absurd (omega (arith, e))
 
-tells_one_loss : IsMade lost_world read
+tells_one_loss : IsTurnMade lost_world read
     → TellsUnavailable lost_world read (answer.Unavailable five (loss 0 1 ∷ [])) → ⊥
 tells_one_loss made z =
     let e : 1 ≡ 2 = ap (λ (r : Reply). length (losses_of r)) (not_told _ made z) in
     absurd (omega (arith, e))
 
-reads_all_the_same : IsMade lost_world read
+reads_all_the_same : IsTurnMade lost_world read
     → TellsUnavailable lost_world read (answer.Bytes 3 (10 ∷ 11 ∷ [])) → ⊥
 reads_all_the_same made z =
     let e : 9 ≡ 5 = ap number_of (not_told _ made z) in absurd (omega (arith, e))
@@ -269,7 +269,7 @@ one_look = (lost_world, (refl, refl), look_tells, refl)
 a_reply_too_few : LeadsTelling lost_world (read ∷ []) [] lost_world → ⊥
 a_reply_too_few leads = leads
 
-told_wrongly : (new : WorldState) → IsMade lost_world read
+told_wrongly : (new : WorldState) → IsTurnMade lost_world read
     → LeadsTelling lost_world (read ∷ []) (answer.Bytes 3 (10 ∷ 11 ∷ []) ∷ []) new → ⊥
 told_wrongly new made leads = reads_all_the_same made leads.2
 

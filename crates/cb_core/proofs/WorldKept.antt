@@ -20,7 +20,7 @@ use Rattle.cb_core.specs.Turned.{Does, DoesAlone, LacksAlone, Turned, worn as wa
 use Rattle.cb_core.proofs.Carried.{AreAlong, IsMany, LackAlong, come_stops, comes_in, does, itself, once_here, once_here_stops, stops}
 use Rattle.cb_core.proofs.Counting.{counted_sound, job_below}
 use Rattle.cb_core.proofs.KeptParts.{IsGood, Arrives, Carries, CarriesLack, rises_more, arrives_then, arrives_more, counted_rises, good_along, ArrivesBy}
-use Rattle.cb_core.proofs.StillParts.{Ran, Tells, make_part, read_part, write_part, free_part, find_part, decline_part, evict_part, room_part, swap_part, make_lack, read_lack, evict_lack, swap_lack}
+use Rattle.cb_core.proofs.StillParts.{Ran, SaysAll, make_part, read_part, write_part, free_part, find_part, decline_part, evict_part, room_part, swap_part, make_lack, read_lack, evict_lack, swap_lack}
 use Rattle.cb_core.proofs.FarJobs.{note_of}
 use Rattle.cb_core.proofs.Noted.{noted_after}
 use Rattle.cb_core.proofs.StillBatches.{begin_part, ship_part, ship_lack, commit_part, abort_part}
@@ -30,7 +30,7 @@ use Rattle.cb_core.proofs.StillReads.{StillComes, StillComeLacks, reads_where, r
 
 -- ---- jobs
 module _ (c : Config) (seats : List SeatState) (accepted : IsAccepted c) where
-  parts : AreAlong itself (IsGood c seats) (Arrives c seats) (desk_parts Ran Tells c) still_parts
+  parts : AreAlong itself (IsGood c seats) (Arrives c seats) (desk_parts Ran SaysAll c) still_parts
   parts = record {
     frames = λ a good. ap (λ (d : Config). d.frames) good.settings;
     makes = make_part c seats;
@@ -41,15 +41,15 @@ module _ (c : Config) (seats : List SeatState) (accepted : IsAccepted c) where
     wins = room_part c seats accepted;
   }
 
-  lacks : LackAlong itself (IsGood c seats) (Arrives c seats) (desk_lacks Ran Tells c) still_lacks
+  lacks : LackAlong itself (IsGood c seats) (Arrives c seats) (desk_lacks Ran SaysAll c) still_lacks
   lacks = record {
     makes = make_lack c seats;
     swaps = swap_lack c seats;
     evicts = evict_lack c seats;
   }
 
-  come_part : (h : ℕ) → Carries c seats 57 (ComesIn Ran Tells c h) (StillComes h)
-  come_part = comes_in itself (IsGood c seats) (Arrives c seats) (good_along c seats) (desk_parts Ran Tells c)
+  come_part : (h : ℕ) → Carries c seats 57 (ComesIn Ran SaysAll c h) (StillComes h)
+  come_part = comes_in itself (IsGood c seats) (Arrives c seats) (good_along c seats) (desk_parts Ran SaysAll c)
       still_parts parts
 
   -- a part whose numbers rise by no more than those of a job may
@@ -66,7 +66,7 @@ module _ (c : Config) (seats : List SeatState) (accepted : IsAccepted c) where
   many job two a b Z z = absurd two
 
   alone_part : (job : Job) → IsJob c job → (a b : Holding Words) (r : Reply) → IsGood c seats a
-      → DoesAlone Ran Tells c job a r b
+      → DoesAlone Ran SaysAll c job a r b
       → ArrivesBy (note_of job) c seats 64 a b (StillAlone job a r b)
   alone_part (Free handle) ok a b r good x =
       in_job 1 a b _ _ (omega arith) (free_part c seats handle.n a b r good x) (λ z. z)
@@ -88,21 +88,21 @@ module _ (c : Config) (seats : List SeatState) (accepted : IsAccepted c) where
   alone_part job ok a b r good x = far_part c seats job ok tt a b r good x
 
   works_part : (job : Job) (a b : Holding Words) (r : Reply) → IsJob c job → IsGood c seats a
-      → Does Ran Tells (Reads Ran Tells) c job a r b
+      → Does Ran SaysAll (Reads Ran SaysAll) c job a r b
       → ArrivesBy (note_of job) c seats 64 a b (StillWorks job a r b)
   works_part job a b r ok good x = does itself (IsGood c seats) (Arrives c seats) (good_along c seats)
-      (desk_parts Ran Tells c) still_parts parts (λ j. ArrivesBy (note_of j) c seats 64) _ _ job
+      (desk_parts Ran SaysAll c) still_parts parts (λ j. ArrivesBy (note_of j) c seats 64) _ _ job
       (many job) read (alone_part job ok) a b r good x
     where
-      read : (h : ℕ) → Carries c seats 64 (OnceHere (ComesIn Ran Tells c h) (Reads Ran Tells h))
+      read : (h : ℕ) → Carries c seats 64 (OnceHere (ComesIn Ran SaysAll c h) (Reads Ran SaysAll h))
           (WhereItIs (StillRead h) NeverDeclined (StillBring h))
       read h a b r good x = in_job 64 a b _ _ (omega arith) (once_here itself (IsGood c seats)
-          (Arrives c seats) (good_along c seats) 57 1 64 (ComesIn Ran Tells c h) (Reads Ran Tells h) (StillComes h)
+          (Arrives c seats) (good_along c seats) 57 1 64 (ComesIn Ran SaysAll c h) (Reads Ran SaysAll h) (StillComes h)
           (StillRead h) (omega arith) (come_part h) (read_part c seats h) a b r good x)
           (reads_where h a b r)
 
   -- a job that found no memory
-  alone_lack : (job : Job) (a b : Holding Words) → IsGood c seats a → LacksAlone Ran Tells job a b
+  alone_lack : (job : Job) (a b : Holding Words) → IsGood c seats a → LacksAlone Ran SaysAll job a b
       → ArrivesBy (note_of job) c seats 64 a b (StillLacksAlone job a b)
   alone_lack (Filter handle) a b good x =
       in_job 1 a b _ _ (omega arith) (filter_lack c seats handle.n a b good x) (λ z. z)
@@ -115,20 +115,22 @@ module _ (c : Config) (seats : List SeatState) (accepted : IsAccepted c) where
   alone_lack job a b good x = far_lack c seats job a b good x
 
   stops_part : (job : Job) (a b : Holding Words) → IsGood c seats a
-      → StopsOver Ran Tells (ReadLacks Ran Tells) c job a b
+      → StopsOver Ran SaysAll (ReadLacks Ran SaysAll) c job a b
       → ArrivesBy (note_of job) c seats 64 a b (StillStops job a b)
   stops_part job a b good x = stops itself (IsGood c seats) (Arrives c seats) (good_along c seats)
-      (desk_parts Ran Tells c) still_parts parts (desk_lacks Ran Tells c) still_lacks lacks
+      (desk_parts Ran SaysAll c) still_parts parts (desk_lacks Ran SaysAll c) still_lacks lacks
       (λ j. ArrivesBy (note_of j) c seats 64) _ _ job (many job) read (alone_lack job) a b good x
     where
       read : (h : ℕ) → CarriesLack c seats 64
-          (OnceHereStops (ComesIn Ran Tells c h) (ComeLacks Ran Tells c h) (ReadLacks Ran Tells h))
+          (OnceHereStops (ComesIn Ran SaysAll c h) (ComeLacks Ran SaysAll c h)
+          (ReadLacks Ran SaysAll h))
           (CallStops (StillRead h) (StillReadLacks h) NeverDeclined (StillBring h) (StillBringLacks h))
       read h a b good x = in_job 64 a b _ _ (omega arith) (once_here_stops itself (IsGood c seats)
-          (Arrives c seats) (good_along c seats) 57 1 64 (ComesIn Ran Tells c h) (StillComes h) (ComeLacks Ran Tells c h)
-          (ReadLacks Ran Tells h) (StillComeLacks h) (StillReadLacks h) (omega arith) (come_part h)
-          (come_stops itself (IsGood c seats) (Arrives c seats) (good_along c seats) (desk_parts Ran Tells c) still_parts
-          parts (desk_lacks Ran Tells c) still_lacks lacks h) (read_lack c seats h) a b good x)
+          (Arrives c seats) (good_along c seats) 57 1 64 (ComesIn Ran SaysAll c h) (StillComes h) (ComeLacks Ran SaysAll c h)
+          (ReadLacks Ran SaysAll h) (StillComeLacks h) (StillReadLacks h) (omega arith)
+          (come_part h)
+          (come_stops itself (IsGood c seats) (Arrives c seats) (good_along c seats) (desk_parts Ran SaysAll c) still_parts
+          parts (desk_lacks Ran SaysAll c) still_lacks lacks h) (read_lack c seats h) a b good x)
           (read_stops_where h a b)
 
 -- ---- the whole world
@@ -181,7 +183,7 @@ pub record IsTurned (w : WorldState) (job : Job) (q : Reply) (y : Words) (new : 
 
 pub turn_works : (w : WorldState) (job : Job) (q : Reply) (y : Words) (new : FarState)
     → IsSoundWorld w → IsJob w.desk.settings job
-    → Turned Ran Tells (Reads Ran Tells) w.desk.settings job (held w) q (record { desk = y; far = new })
+    → Turned Ran SaysAll (Reads Ran SaysAll) w.desk.settings job (held w) q (record { desk = y; far = new })
     → IsTurned w job q y new
 turn_works w job q y new sound ok (was_worn end reply state ran) =
     let same : with_job w y new ≡ w = (λ i. record { desk = ran.0 i; far = state i; seats = w.seats }) in
@@ -196,13 +198,13 @@ turn_works w job q y new sound ok (was_done few does) =
     record { sound = arrived_sound w job b _ sound few z; step = done few z.is refl }
 
 -- ---- a turn that found no memory
-pub record IsStopped (w : WorldState) (job : Job) (y : Words) (new : FarState) : Type 0 where
+pub record IsTurnStopped (w : WorldState) (job : Job) (y : Words) (new : FarState) : Type 0 where
   pub sound : IsSoundWorld (with_job w y new)
   pub stops : TurnStops job w (with_job w y new)
 
 pub turn_stops : (w : WorldState) (job : Job) (y : Words) (new : FarState) → IsSoundWorld w
-    → Stopped Ran Tells (ReadLacks Ran Tells) w.desk.settings job (held w) (record { desk = y; far = new })
-    → IsStopped w job y new
+    → Stopped Ran SaysAll (ReadLacks Ran SaysAll) w.desk.settings job (held w) (record { desk = y; far = new })
+    → IsTurnStopped w job y new
 turn_stops w job y new sound stopped =
     let b : Holding Words = record { desk = y; far = new } in
     let z = stops_part w.desk.settings w.seats sound.config job (once_counted (held w) job) b

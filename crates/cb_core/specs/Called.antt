@@ -60,9 +60,9 @@ claim_by (c ∷ claims) seat h =
     if nat_eq c.seat seat && nat_eq c.handle h then Some c else claim_by claims seat h
 
 -- the write that a settling completes, where it was begun by this claim
-abbrev pub written_by : ℕ → Option ℕ → Option ClaimCall → Reply → List Called
-written_by seat handle None r = []
-written_by seat handle (Some c) r = call_of seat handle (line.Write [] c.at c.bytes) r
+abbrev pub write_settled : ℕ → Option ℕ → Option ClaimCall → Reply → List Called
+write_settled seat handle None r = []
+write_settled seat handle (Some c) r = call_of seat handle (line.Write [] c.at c.bytes) r
 
 -- An answered event, behind the calls and the claims before it: a make, a turn on an object and a
 -- pin are calls of their seat, with no name. A claim that is refused is a write that is refused, and
@@ -82,7 +82,7 @@ called_as before claims (event.Step seat (Pin handle)) r =
 called_as before claims (event.Step seat (Claim handle at bytes)) r =
     call_of seat (handle_on (makes before) handle.n) (line.Write [] at bytes) r
 called_as before claims (event.Step seat (Settle handle)) (answer.Version version) =
-    written_by seat (handle_on (makes before) handle.n) (claim_by claims seat handle.n)
+    write_settled seat (handle_on (makes before) handle.n) (claim_by claims seat handle.n)
     (answer.Version version)
 called_as before claims e r = []
 

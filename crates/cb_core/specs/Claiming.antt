@@ -6,12 +6,12 @@ use Rattle.cb_types.specs.declared.reply.Reply.{Reply}
 use Rattle.cb_types.specs.declared.reply.Reply.TheVariants as answer
 use Rattle.cb_world.specs.Grasped.{IsFree}
 use Rattle.cb_world.specs.OpenSteps.{IsClaimOn, NoClaimOn, IsClaimed, IsSettled, next_word, stored_once}
-use Rattle.cb_world.specs.OpenWrites.{left_of}
+use Rattle.cb_world.specs.OpenWrites.{stores_left}
 use Rattle.cb_world.specs.Plain.{Words}
 use Rattle.cb_world.specs.Seats.{OpenWriteState, claims_of_seat, with_claims}
 use Rattle.cb_world.specs.StillWords.{stamp_at, contents_at}
 use Rattle.cb_world.specs.World.{WorldState, word_at}
-use Rattle.cb_mutate.specs.Merged.{IsMerged}
+use Rattle.cb_mutate.specs.Merged.{IsWordMerged}
 use Rattle.cb_mutate.specs.StillReplies.{write_reply}
 
 -- a claim is answered as a write would be: where that would be done, the object is claimed
@@ -23,8 +23,8 @@ abbrev pub claim_answer : Words → ℕ → ℕ → ℕ → Reply
 claim_answer desk h at count = claim_reply (write_reply (word_at desk h) (stamp_at desk h) at count)
 
 -- a claim of an object with this pointer word and version word is refused with this reply
-abbrev pub IsRefused : ℕ → ℕ → ℕ → ℕ → Reply → Type 0
-IsRefused word version at count r =
+abbrev pub IsClaimRefused : ℕ → ℕ → ℕ → ℕ → Reply → Type 0
+IsClaimRefused word version at count r =
     (r ≡ claim_reply (write_reply word version at count)) × (r ≡ answer.Claimed → ⊥)
 
 -- an object that can be claimed for a write of so many bytes: it is here without pins, the bytes
@@ -75,7 +75,8 @@ next_place desk h c = place_of (word_at desk h) + next_word c
 pub record IsWordStored (h : ℕ) (c : OpenWriteState) (old new : Words) : Type 0 where
   pub word : ℕ
   pub small : word < 2 ^ 64
-  pub merged : IsMerged (slice_index old.memory (next_place old h c)) (8 * next_word c) c.at c.bytes
+  pub merged : IsWordMerged (slice_index old.memory (next_place old h c)) (8 * next_word c) c.at
+      c.bytes
       word
   pub words : new ≡ record old { memory = slice_set old.memory (next_place old h c) word }
 
@@ -90,11 +91,11 @@ pub data StoreStep (seat h : ℕ) (w : WorldState) (r : Reply) (new : WorldState
   not_claimed : NoClaimOn (claims_of_seat w.seats seat) h → r ≡ answer.NotClaimed → new ≡ w
       → StoreStep seat h w r new
   nothing_left : (at : ℕ) (x : IsClaimOn (claims_of_seat w.seats seat) h at)
-      → left_of x.ongoing ≡ 0 → r ≡ answer.Stored 0 → new ≡ w → StoreStep seat h w r new
-  stored : (at : ℕ) (x : IsClaimOn (claims_of_seat w.seats seat) h at) → 2 ≤ left_of x.ongoing
-      → r ≡ answer.Stored (left_of x.ongoing - 1) → IsWordStored h x.ongoing w.desk new.desk
+      → stores_left x.ongoing ≡ 0 → r ≡ answer.Stored 0 → new ≡ w → StoreStep seat h w r new
+  stored : (at : ℕ) (x : IsClaimOn (claims_of_seat w.seats seat) h at) → 2 ≤ stores_left x.ongoing
+      → r ≡ answer.Stored (stores_left x.ongoing - 1) → IsWordStored h x.ongoing w.desk new.desk
       → IsCounted seat at x.ongoing w new → StoreStep seat h w r new
-  stamped : (at : ℕ) (x : IsClaimOn (claims_of_seat w.seats seat) h at) → left_of x.ongoing ≡ 1
+  stamped : (at : ℕ) (x : IsClaimOn (claims_of_seat w.seats seat) h at) → stores_left x.ongoing ≡ 1
       → r ≡ answer.Stored 0 → IsVersionStored h x.ongoing w.desk new.desk
       → IsCounted seat at x.ongoing w new → StoreStep seat h w r new
 
@@ -109,8 +110,8 @@ pub data SettleStep (seat h : ℕ) (w : WorldState) (r : Reply) (new : WorldStat
   not_claimed : NoClaimOn (claims_of_seat w.seats seat) h → r ≡ answer.NotClaimed → new ≡ w
       → SettleStep seat h w r new
   not_stored : (at : ℕ) (x : IsClaimOn (claims_of_seat w.seats seat) h at)
-      → 1 ≤ left_of x.ongoing → r ≡ answer.NotStored (left_of x.ongoing) → new ≡ w
+      → 1 ≤ stores_left x.ongoing → r ≡ answer.NotStored (stores_left x.ongoing) → new ≡ w
       → SettleStep seat h w r new
   settled : (at : ℕ) (x : IsClaimOn (claims_of_seat w.seats seat) h at)
-      → left_of x.ongoing ≡ 0 → r ≡ answer.Version (x.ongoing.version + 1)
+      → stores_left x.ongoing ≡ 0 → r ≡ answer.Version (x.ongoing.version + 1)
       → IsClaimSettled seat h at w new → SettleStep seat h w r new

@@ -7,21 +7,21 @@ use Rattle.cb_types.specs.declared.job.Job.TheVariants.{Pair, Patch, Merge, Part
 use Rattle.cb_types.specs.declared.reply.Reply.{Reply}
 use Rattle.cb_world.specs.FarState.{FarState}
 use Rattle.cb_compact.specs.MergeStep.{MergeStep}
-use Rattle.cb_compact.specs.NowStep.{NowStep}
-use Rattle.cb_compact.specs.Pairing.{BeginStep}
-use Rattle.cb_compact.specs.Standing.{PartStep}
-use Rattle.cb_compact.specs.Steps.{PatchStep}
+use Rattle.cb_compact.specs.CompactStep.{CompactStep}
+use Rattle.cb_compact.specs.PairStep.{PairStep}
+use Rattle.cb_compact.specs.PartStep.{PartStep}
+use Rattle.cb_compact.specs.PatchStep.{PatchStep}
 use Rattle.cb_rebuild.specs.RebuildStep.{IsFirstWeak, RebuildStep, surveyed}
 use Rattle.cb_swapin.specs.Fetching.{far_given}
 use Rattle.cb_core.specs.Membership.{CrashTurn, JoinTurn}
 
 -- What such a job does: the far state before and after it, and its reply. No other job is one.
 abbrev pub FarStep : Job → FarState → FarState → Reply → Type 0
-FarStep Pair = BeginStep
+FarStep Pair = PairStep
 FarStep Patch = PatchStep
 FarStep Merge = MergeStep
 FarStep Part = PartStep
-FarStep Compact = NowStep
+FarStep Compact = CompactStep
 FarStep Rebuild = RebuildStep
 FarStep (Crash node) = λ far new r. CrashTurn node far r new
 FarStep (Join node) = λ far new r. JoinTurn node far r new

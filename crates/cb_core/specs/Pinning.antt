@@ -7,7 +7,7 @@ use Rattle.cb_ptr.specs.Word.{state_of, pins_of}
 use Rattle.cb_types.specs.declared.reply.Reply.{Reply}
 use Rattle.cb_types.specs.declared.reply.Reply.TheVariants as answer
 use Rattle.cb_world.specs.Pinned.{IsPinned, IsUnpinned}
-use Rattle.cb_world.specs.Seats.{IsNewest, NoneOn, pins_of_seat, with_pins}
+use Rattle.cb_world.specs.Seats.{IsNewestOf, NoneOn, pins_of_seat, with_pins}
 use Rattle.cb_world.specs.StillWords.{stamp_at}
 use Rattle.cb_world.specs.World.{WorldState, word_at}
 use Rattle.cb_mutate.specs.StillReplies.{empty_reply}
@@ -45,7 +45,7 @@ pub data PinStep (seat h : ℕ) (w : WorldState) (r : Reply) (new : WorldState) 
 -- the seat's newest pin on the object is gone, and the object has one pin less
 pub record IsPinGiven (seat h : ℕ) (w new : WorldState) : Type 0 where
   pub at : ℕ
-  pub newest : IsNewest (pins_of_seat w.seats seat) h at
+  pub newest : IsNewestOf (pins_of_seat w.seats seat) h at
   pub word : IsUnpinned w.desk h new.desk
   pub pins : new.seats ≡ with_pins w.seats seat (remove (pins_of_seat w.seats seat) at)
   pub far : new.far ≡ w.far

@@ -12,7 +12,7 @@ use Rattle.cb_world.specs.World.{WorldState, IsKnown, IsSoundWorld}
 use Rattle.cb_core.specs.declared.event.Event.{Event}
 use Rattle.cb_core.specs.declared.event.Event.TheVariants as event
 use Rattle.cb_core.specs.NowIn.{now_in}
-use Rattle.cb_core.specs.Step.{Step, Leads, Stops}
+use Rattle.cb_core.specs.Step.{Step, Leads, EventStops}
 use Rattle.cb_core.specs.Unavailable.{asked_by}
 
 -- The world leads by these events, with these replies, to another, and after each of them it is
@@ -33,7 +33,7 @@ pub record RunStops (w : WorldState) (events : List Event) (new : WorldState) : 
   pub are : events ≡ before ++ after
   pub leads : Leads w before replies reached
   pub left : (new ≡ reached)
-      ⊎ ((next : Event) × (rest : List Event) × (after ≡ next ∷ rest) × Stops reached next new)
+      ⊎ ((next : Event) × (rest : List Event) × (after ≡ next ∷ rest) × EventStops reached next new)
 
 -- ---- want of memory
 

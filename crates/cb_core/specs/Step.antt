@@ -19,7 +19,7 @@ use Rattle.cb_world.specs.World.{WorldState, IsKnown, word_at}
 use Rattle.cb_mutate.specs.MakeRule.{NeedsNewSpan}
 use Rattle.cb_mutate.specs.MakeStep.{IsMakeStep}
 use Rattle.cb_mutate.specs.StillReplies.{reply_as}
-use Rattle.cb_mutate.specs.Steps.{IsReadStep, IsWriteStep, IsFreeStep}
+use Rattle.cb_mutate.specs.CallStep.{IsReadStep, IsWriteStep, IsFreeStep}
 use Rattle.cb_evict.specs.AbortStep.{IsAbortStep}
 use Rattle.cb_evict.specs.BeginStep.{IsBeginStep}
 use Rattle.cb_evict.specs.CommitStep.{IsCommitStep}
@@ -252,6 +252,6 @@ TurnStops job w new = (w.far.counts.turns < 2 ^ 40) × (new.seats ≡ w.seats)
     (record { desk = new.desk; far = new.far })
 
 -- An event that found no memory. No turn does beside a seat that holds the far lock.
-abbrev pub Stops : WorldState → Event → WorldState → Type 0
-Stops w (event.Step seat atomic) new = AtomicStops atomic w new
-Stops w (event.Turn seat job) new = NoOtherHolds w.seats seat × TurnStops job w new
+abbrev pub EventStops : WorldState → Event → WorldState → Type 0
+EventStops w (event.Step seat atomic) new = AtomicStops atomic w new
+EventStops w (event.Turn seat job) new = NoOtherHolds w.seats seat × TurnStops job w new

@@ -21,8 +21,8 @@ OutcomeWrites job (Ok r) more = TurnWrites job r more
 OutcomeWrites job (Err e) more = more ≡ []
 
 -- one turn more was counted; or 2^40 were, and the far state is as it was
-abbrev pub IsNext : FarState → FarState → Type 0
-IsNext far new = ((far.counts.turns < 2 ^ 40) × (new.counts.turns ≡ far.counts.turns + 1))
+abbrev pub IsOneTurnOn : FarState → FarState → Type 0
+IsOneTurnOn far new = ((far.counts.turns < 2 ^ 40) × (new.counts.turns ≡ far.counts.turns + 1))
     ⊎ ((far.counts.turns ≡ 2 ^ 40) × (new ≡ far))
 
 -- What is known of a desk and was sound is sound once the events are played, and they write such
@@ -43,5 +43,5 @@ pub record TurnLeaves {D : Type 0} (run : D → List Event → D → Type 0) (sh
   pub ran : run a.desk events b.desk
   pub configured : IsConfigured c b.far
   pub counted : AreCounted b.far
-  pub next : IsNext a.far b.far
+  pub next : IsOneTurnOn a.far b.far
   pub after : (s : Shown) → shows a.desk s → Sound s a.far → SoundAfter events s b.far writes

@@ -72,9 +72,10 @@ abbrev pub Reads : {D : Type 0} → (D → List Event → D → Type 0) → (D �
 Reads run shows h = Operates run shows (λ far new r es. (new ≡ far) × ReadRule h r es)
     (λ far new r. ReadEffect h r)
 
-abbrev pub Writes : {D : Type 0} → (D → List Event → D → Type 0) → (D → Shown → Type 0) → ℕ → ℕ
+abbrev pub WritesObject : {D : Type 0} → (D → List Event → D → Type 0) → (D → Shown → Type 0) → ℕ
+    → ℕ
     → List ℕ → Holding D → Reply → Holding D → Type 0
-Writes run shows h at bytes =
+WritesObject run shows h at bytes =
     Operates run shows (λ far new r es. (new ≡ far) × WriteRule h at bytes r es)
     (λ far new r. WriteEffect h at bytes r)
 
@@ -83,9 +84,9 @@ abbrev pub Frees : {D : Type 0} → (D → List Event → D → Type 0) → (D �
 Frees run shows h = Operates run shows (λ far new r. FreeRule h far new r) (λ far new r. FreeEffect h r)
 
 -- a look at where an object is: Stays where it is here
-abbrev pub Finds : {D : Type 0} → (D → List Event → D → Type 0) → (D → Shown → Type 0) → ℕ
+abbrev pub FindsWhere : {D : Type 0} → (D → List Event → D → Type 0) → (D → Shown → Type 0) → ℕ
     → Holding D → Reply → Holding D → Type 0
-Finds run shows h =
+FindsWhere run shows h =
     Operates run shows (λ far new r es. (new ≡ far) × Answered (λ w. r ≡ answer.Stays) h es r)
     (λ far new r. IsStill)
 
@@ -158,7 +159,7 @@ AtFar run step a r b = run a.desk [] b.desk × step a.far b.far r
 -- an object is brought in where it is far; the reply tells where it is: Stays where it is here
 abbrev pub ComesIn : {D : Type 0} → (D → List Event → D → Type 0) → (D → Shown → Type 0) → Config → ℕ
     → Holding D → Reply → Holding D → Type 0
-ComesIn run shows c h = BringsIn (Finds run shows h) (Brings run shows c h)
+ComesIn run shows c h = BringsIn (FindsWhere run shows h) (Brings run shows c h)
 
 -- a job that is one call; every job that has no row works at the far state alone
 abbrev pub DoesAlone : {D : Type 0} → (D → List Event → D → Type 0) → (D → Shown → Type 0) → Config
@@ -178,8 +179,8 @@ abbrev pub desk_parts : {D : Type 0} → (D → List Event → D → Type 0) →
 desk_parts run shows c = record {
   frames = λ a. c.frames;
   makes = λ bytes. Makes run shows c bytes;
-  writes = λ h at bytes. Writes run shows h at bytes;
-  finds = λ h. Finds run shows h;
+  writes = λ h at bytes. WritesObject run shows h at bytes;
+  finds = λ h. FindsWhere run shows h;
   declines = λ h at count. Declines run shows h at count;
   swaps = λ h. Swaps run shows h;
   wins = WinsRoom run shows c;
@@ -265,7 +266,7 @@ ShipLacks run shows a b = (b.far ≡ a.far) × Performs (λ es. run a.desk es b.
 abbrev pub ComeLacks : {D : Type 0} → (D → List Event → D → Type 0) → (D → Shown → Type 0) → Config
     → ℕ → Holding D → Holding D → Type 0
 ComeLacks {D = D} run shows c h a b =
-    (m : Holding D) × Finds run shows h a answer.NotHere m × BringLacks run shows c h m b
+    (m : Holding D) × FindsWhere run shows h a answer.NotHere m × BringLacks run shows c h m b
 
 -- a job that is one call; a free, a commit and an abort take no memory
 abbrev pub LacksAlone : {D : Type 0} → (D → List Event → D → Type 0) → (D → Shown → Type 0) → Job

@@ -57,9 +57,9 @@ asked_by (event.Turn seat job) = brought_by job
 asked_by (event.Step seat atomic) = None
 
 -- the turn is made: no other seat holds the far lock, and fewer than 2^40 turns were counted
-abbrev pub IsMade : WorldState → Event → Type 0
-IsMade w (event.Turn seat job) = NoOtherHolds w.seats seat × (w.far.counts.turns < 2 ^ 40)
-IsMade w (event.Step seat atomic) = ⊥
+abbrev pub IsTurnMade : WorldState → Event → Type 0
+IsTurnMade w (event.Turn seat job) = NoOtherHolds w.seats seat × (w.far.counts.turns < 2 ^ 40)
+IsTurnMade w (event.Step seat atomic) = ⊥
 
 -- An event is answered Unavailable exactly where it is a turn that brings in an object, and that is
 -- far in a set that has lost more shards than it has parities; and the answer tells the set and all
@@ -67,7 +67,7 @@ IsMade w (event.Step seat atomic) = ⊥
 pub record TellsUnavailable (w : WorldState) (e : Event) (r : Reply) : Type 0 where
   pub only : (id : SetId) (losses : List Loss) → r ≡ answer.Unavailable id losses
       → (h : ℕ) × (asked_by e ≡ Some h) × IsLost w h id losses
-  pub each : (h : ℕ) (id : SetId) (losses : List Loss) → asked_by e ≡ Some h → IsMade w e
+  pub each : (h : ℕ) (id : SetId) (losses : List Loss) → asked_by e ≡ Some h → IsTurnMade w e
       → IsLost w h id losses → r ≡ answer.Unavailable id losses
 
 -- The world leads by these events, with these replies, to another, and each of them is answered

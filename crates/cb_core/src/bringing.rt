@@ -7,7 +7,7 @@ ghost use Rattle.cb_world.specs.Homes.{home_at};
 ghost use Rattle.cb_world.specs.Sound.{Sound};
 ghost use Rattle.cb_world.specs.World.{IsConfigured};
 ghost use Rattle.cb_core.specs.Parts.{CallStops, NeverLacks, RoomStops, WhereItIs, WithRoom};
-ghost use Rattle.cb_core.specs.Turned.{BringLacks, Brings, Declines, EvictLacks, MakeLacks, Makes, WinsRoom, Writes, ComeLacks, ComesIn};
+ghost use Rattle.cb_core.specs.Turned.{BringLacks, Brings, Declines, EvictLacks, MakeLacks, Makes, WinsRoom, WritesObject, ComeLacks, ComesIn};
 
 use crate::declining::{decline, find};
 use cb_evict::{Eviction, evict_counted};
@@ -103,12 +103,12 @@ pub(crate) fn write_anywhere<D: Desk>(
     requires given { far.old.nodes.given + 16 < 2 ^ 64 }
     requires sound { (s : Shown) × D.shows desk.old s × Sound s far.old }
     ensures writes { IfOk result (λ reply. WhereItIs
-        (Writes (λ d es e. D.run d es e) (λ d s. D.shows d s) h.n at bytes.now)
+        (WritesObject (λ d es e. D.run d es e) (λ d s. D.shows d s) h.n at bytes.now)
         (Declines (λ d es e. D.run d es e) (λ d s. D.shows d s) h.n at (length bytes.now))
         (Brings (λ d es e. D.run d es e) (λ d s. D.shows d s) (D.settings desk.old) h.n)
         (record { desk = desk.old; far = far.old }) reply (record { desk = desk.new; far = far.new })) }
     ensures error { OnErr result (CallStops
-        (Writes (λ d es e. D.run d es e) (λ d s. D.shows d s) h.n at bytes.now)
+        (WritesObject (λ d es e. D.run d es e) (λ d s. D.shows d s) h.n at bytes.now)
         NeverLacks
         (Declines (λ d es e. D.run d es e) (λ d s. D.shows d s) h.n at (length bytes.now))
         (Brings (λ d es e. D.run d es e) (λ d s. D.shows d s) (D.settings desk.old) h.n)

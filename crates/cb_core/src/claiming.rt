@@ -6,7 +6,7 @@ ghost use Rattle.cb_world.specs.Memory.{words_for};
 ghost use Rattle.cb_world.specs.OpenSteps.{next_word};
 ghost use Rattle.cb_world.specs.World.{IsSoundWorld, word_at};
 ghost use Rattle.cb_world.specs.StillWords.{stamp_at};
-ghost use Rattle.cb_core.specs.Claiming.{ClaimStep, IsRefused, IsVersionStored, IsWordStored, MayClaim, SettleStep, StoreStep, next_place, opened};
+ghost use Rattle.cb_core.specs.Claiming.{ClaimStep, IsClaimRefused, IsVersionStored, IsWordStored, MayClaim, SettleStep, StoreStep, next_place, opened};
 
 use cb_mutate::merged;
 use cb_ptr::{State, unpack};
@@ -49,7 +49,7 @@ pub(crate) fn claim(
 fn claim_refusal(desk: &PlainDesk, h: Handle, at: u32, bytes: &[u8]) -> Option<Reply>
     requires { h.n < desk.now.settings.handles }
     ensures refused { IfSome result (λ r.
-        IsRefused (word_at desk.now h.n) (stamp_at desk.now h.n) at (length bytes.now) r) }
+        IsClaimRefused (word_at desk.now h.n) (stamp_at desk.now h.n) at (length bytes.now) r) }
     ensures none { IfNone result (MayClaim desk.now h.n at (length bytes.now)) }
 {
     let fields = unpack(desk.look(h));

@@ -6,7 +6,7 @@ ghost use Rattle.cb_world.specs.Shown.{object_at};
 ghost use Rattle.cb_world.specs.Now.{is_gone};
 ghost use Rattle.cb_world.specs.Sound.{Sound};
 ghost use Rattle.cb_world.specs.FarSound.{AwaySound};
-ghost use Rattle.cb_core.specs.Turned.{Declines, Finds};
+ghost use Rattle.cb_core.specs.Turned.{Declines, FindsWhere};
 
 use cb_ptr::{State, unpack};
 use cb_types::{Handle, Reply};
@@ -19,7 +19,7 @@ pub(crate) fn find<D: Desk>(desk: &mut D, far: &Far, h: Handle) -> Reply
     requires sound { (s : Shown) × D.shows desk.old s × Sound s far.now }
     ensures away { result ≡ answer.NotHere → (s : Shown) → D.shows desk.old s
         → (len v : ℕ) × (words : List ℕ) × (object_at s h.n ≡ is.Far len v words) }
-    ensures finds { Finds (λ d es e. D.run d es e) (λ d s. D.shows d s) h.n
+    ensures finds { FindsWhere (λ d es e. D.run d es e) (λ d s. D.shows d s) h.n
         (record { desk = desk.old; far = far.now }) result (record { desk = desk.new; far = far.now }) }
 {
     let _far = far;

@@ -3,7 +3,7 @@ ghost use Rattle.cb_world.specs.World.{IsSoundWorld};
 ghost use Rattle.cb_core.specs.Events.{IsAtomic, IsEvent};
 ghost use Rattle.cb_core.specs.Jobs.{IsJob};
 ghost use Rattle.cb_core.specs.Run.{LeavesAsBefore};
-ghost use Rattle.cb_core.specs.Step.{AtomicStep, AtomicStops, SeatTurn, Step, Stops, TurnStep, TurnStops};
+ghost use Rattle.cb_core.specs.Step.{AtomicStep, AtomicStops, EventStops, SeatTurn, Step, TurnStep, TurnStops};
 ghost use Rattle.cb_core.specs.Unavailable.{TellsUnavailable};
 
 use crate::claiming::{claim, settle, store};
@@ -29,7 +29,7 @@ pub fn step(alloc: Global, world: &mut World, event: &Event) -> Result<Reply, No
     ensures step { IfOk result (λ reply. Step world.old event.now reply world.new) }
     ensures unavailable { IfOk result (λ reply. TellsUnavailable world.old event.now reply) }
     ensures sound { IsSoundWorld world.new }
-    ensures error { OnErr result (Stops world.old event.now world.new) }
+    ensures error { OnErr result (EventStops world.old event.now world.new) }
     ensures leaves { OnErr result (LeavesAsBefore world.old event.now world.new) }
 {
     match event {
@@ -78,7 +78,7 @@ fn seat_turn(alloc: Global, world: &mut World, seat: u32, job: &Job) -> Result<R
     requires job { IsJob world.old.desk.settings job.now }
     ensures step { IfOk result (λ reply. SeatTurn seat job.now world.old reply world.new) }
     ensures sound { IsSoundWorld world.new }
-    ensures error { OnErr result (Stops world.old (Event.Turn seat job.now) world.new) }
+    ensures error { OnErr result (EventStops world.old (Event.Turn seat job.now) world.new) }
 {
     match other_holder(world, seat) {
         Some(holder) => Ok(Reply::Held { seat: holder }),

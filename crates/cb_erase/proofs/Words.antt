@@ -50,7 +50,7 @@ unit_sum k i f x l unit byte =
 
 -- ---- what a filled table holds
 -- the corner of the table: units at the present positions, and factors at the lost ones
-pub record IsFilled (k r : ℕ) (present lost : List ℕ) (table : List (List ℕ)) : Type 0 where
+pub record IsTableSolved (k r : ℕ) (present lost : List ℕ) (table : List (List ℕ)) : Type 0 where
   pub range : IsInRange k r
   pub positions : ArePositions (k + r) k present
   pub split : Splits (k + r) k r (λ i. get_or present i 0) (λ e. get_or lost e 0)
@@ -60,7 +60,7 @@ pub record IsFilled (k r : ℕ) (present lost : List ℕ) (table : List (List �
   pub units : (i j : ℕ) → i < k → j < k → byte_at table (get_or present i 0) j ≡ (if j == i then 1 else 0)
   pub factors : AreFactors k r (λ i. get_or present i 0) (λ e. get_or lost e 0) (λ e i. byte_at table (get_or lost e 0) i)
 
-pub filled_corner : (k r : ℕ) (present lost : List ℕ) (table : List (List ℕ)) → IsInRange k r → ArePositions (k + r) k present → length lost ≡ r → Splits (k + r) k r (λ i. get_or present i 0) (λ e. get_or lost e 0) → Filled present lost table r → IsFilled k r present lost (corner k (k + r) table)
+pub filled_corner : (k r : ℕ) (present lost : List ℕ) (table : List (List ℕ)) → IsInRange k r → ArePositions (k + r) k present → length lost ≡ r → Splits (k + r) k r (λ i. get_or present i 0) (λ e. get_or lost e 0) → Filled present lost table r → IsTableSolved k r present lost (corner k (k + r) table)
 filled_corner k r present lost table range positions count split h =
     let n = k + r in
     let inside : n ≤ length table = omega (arith, h.height, range.data_most, range.parities_most) in
@@ -90,7 +90,7 @@ filled_corner k r present lost table range positions count split h =
         ⊎_elim (λ s. omega (arith, e ∙ ap (λ b. cond b 1 0) (eq-eqb i x s))) (λ s. omega (arith, e ∙ ap (λ b. cond b 1 0) (ne_eqb i x s))) (cases_eq i x)
 
 -- ---- the weights
-restored : (k r : ℕ) (present lost : List ℕ) (table word : List (List ℕ)) → IsFilled k r present lost table → IsCodeWord k r word → HoldBytes word → AreCombinations table (rows_at word present) word
+restored : (k r : ℕ) (present lost : List ℕ) (table word : List (List ℕ)) → IsTableSolved k r present lost table → IsCodeWord k r word → HoldBytes word → AreCombinations table (rows_at word present) word
 restored k r present lost table word h is_word bytes =
     let small : k + r ≤ 255 = omega (arith, h.range.data_most, h.range.parities_most) in
     let below : All (λ p. p < length word) present = λ i d l. omega (arith, h.positions.below i d l, is_word.count) in
@@ -118,7 +118,7 @@ restored k r present lost table word h is_word bytes =
           (h.split.covers p within);
     }
 
-solved : (k r : ℕ) (present lost : List ℕ) (table shown word : List (List ℕ)) → IsFilled k r present lost table → length shown ≡ k → AreRows shown → AreCombinations table shown word → IsSolution k r present shown word
+solved : (k r : ℕ) (present lost : List ℕ) (table shown word : List (List ℕ)) → IsTableSolved k r present lost table → length shown ≡ k → AreRows shown → AreCombinations table shown word → IsSolution k r present shown word
 solved k r present lost table shown word h count are_rows made =
     let len = length (row_at shown 0) in
     let byte : (i column : ℕ) → i < k → column < len → byte_at shown i column < 256 = λ i column l m.
@@ -156,7 +156,7 @@ solved k r present lost table shown word h count are_rows made =
           ∙ sym (get_or_default shown i d [] in_shown));
     }
 
-pub weights_of : (k r : ℕ) (present lost : List ℕ) (table : List (List ℕ)) → IsFilled k r present lost table → AreWeights k r present table
+pub weights_of : (k r : ℕ) (present lost : List ℕ) (table : List (List ℕ)) → IsTableSolved k r present lost table → AreWeights k r present table
 weights_of k r present lost table h = record {
   positions = h.height;
   factors = h.width;
@@ -167,7 +167,8 @@ weights_of k r present lost table h = record {
 
 -- ---- the word that `solve` makes
 -- the lost rows of the word are sums of the present rows, each times its factor, and the present rows are those that were given
-pub record IsMade (k r : ℕ) (present lost : List ℕ) (table rows word : List (List ℕ)) : Type 0 where
+pub record IsWordSolved (k r : ℕ) (present lost : List ℕ) (table rows word : List (List ℕ)) : Type
+    0 where
   pub range : IsInRange k r
   pub positions : ArePositions (k + r) k present
   pub lost_count : length lost ≡ r
@@ -182,7 +183,7 @@ pub record IsMade (k r : ℕ) (present lost : List ℕ) (table rows word : List 
   pub sums : AreCombinations table (rows_at rows present) (rows_at word lost)
   pub kept : (i : ℕ) → i < k → row_at word (get_or present i 0) ≡ row_at rows (get_or present i 0)
 
-pub made_solution : (k r : ℕ) (present lost : List ℕ) (table rows word : List (List ℕ)) → IsMade k r present lost table rows word → IsSolution k r present (rows_at rows present) word
+pub made_solution : (k r : ℕ) (present lost : List ℕ) (table rows word : List (List ℕ)) → IsWordSolved k r present lost table rows word → IsSolution k r present (rows_at rows present) word
 made_solution k r present lost table rows word h =
     let len = length (row_at rows 0) in
     let first : length (row_at (rows_at rows present) 0) ≡ len =
@@ -211,13 +212,13 @@ made_solution k r present lost table rows word h =
     }
 
 -- its rows are bytes
-factors_are_bytes : (k r : ℕ) (present lost : List ℕ) (table rows word : List (List ℕ)) → IsMade k r present lost table rows word → HoldBytes table
+factors_are_bytes : (k r : ℕ) (present lost : List ℕ) (table rows word : List (List ℕ)) → IsWordSolved k r present lost table rows word → HoldBytes table
 factors_are_bytes k r present lost table rows word h e d l i z m =
     let same : get_or table e d ≡ row_at table e = get_or_default table e d [] l in
     let wide : i < k = omega (arith, ap length same, h.width e [] l) in
     omega (arith, ap (λ row. get_or row i z) same, get_or_default (row_at table e) i z 0 (omega (arith, ap length same)), (h.factors.factor e i (omega (arith, h.height)) wide).byte)
 
-made_bytes : (k r : ℕ) (present lost : List ℕ) (table rows word : List (List ℕ)) → IsMade k r present lost table rows word → HoldBytes word
+made_bytes : (k r : ℕ) (present lost : List ℕ) (table rows word : List (List ℕ)) → IsWordSolved k r present lost table rows word → HoldBytes word
 made_bytes k r present lost table rows word h p d l column z m =
     let below : All (λ q. q < length rows) present = λ i e q. omega (arith, h.positions.below i e q, h.rows_count) in
     let shown_count : length (rows_at rows present) ≡ k = length-map present (row_at rows) ∙ h.positions.count in
@@ -235,7 +236,7 @@ made_bytes k r present lost table rows word h p d l column z m =
     (h.split.covers p (omega (arith, h.count)))
 
 -- ---- the only solution
-pub only_solution : (k r : ℕ) (present lost : List ℕ) (table rows word other : List (List ℕ)) → IsMade k r present lost table rows word → HoldBytes other
+pub only_solution : (k r : ℕ) (present lost : List ℕ) (table rows word other : List (List ℕ)) → IsWordSolved k r present lost table rows word → HoldBytes other
     → IsSolution k r present (rows_at rows present) other → other ≡ word
 only_solution k r present lost table rows word other h bytes solution =
     let own = made_solution k r present lost table rows word h in

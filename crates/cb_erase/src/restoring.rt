@@ -11,7 +11,7 @@ ghost use Rattle.cb_gf256.specs.Corner.{corner};
 ghost use Rattle.cb_gf256.specs.InRange.{IsInRange};
 ghost use Rattle.cb_gf256.specs.Lagrange.{AreFactors};
 ghost use Rattle.cb_gf256.specs.Split.{Splits};
-ghost use Rattle.cb_gf256.specs.Placing.{Placed, Restored, AreApart};
+ghost use Rattle.cb_gf256.specs.Placing.{Placed, Restored, AreDisjoint};
 ghost use Rattle.cb_erase.specs.TwoBlocks.{HasBytes};
 ghost use Rattle.cb_erase.specs.Closing.{sum_by, plain_sum, Closes};
 
@@ -151,7 +151,7 @@ fn restore_pairs<const M: usize>(
     requires ascending { IsStrictlyIncreasing sources.now × IsStrictlyIncreasing targets.now }
     requires below { All (λ p. p < length out.old) sources.now
         × All (λ p. p < length out.old) targets.now }
-    requires apart { AreApart sources.now targets.now }
+    requires apart { AreDisjoint sources.now targets.now }
     requires lengths { HaveLength len rows.now × HaveLength len out.old }
     ensures { (whole : List (List ℕ))
         → Closes M (length sources.now) len products.now (rows_at rows.now sources.now) whole
@@ -199,7 +199,7 @@ fn restore_whole(
     requires ascending { IsStrictlyIncreasing sources.now × IsStrictlyIncreasing targets.now }
     requires below { All (λ p. p < length out.old) sources.now
         × All (λ p. p < length out.old) targets.now }
-    requires apart { AreApart sources.now targets.now }
+    requires apart { AreDisjoint sources.now targets.now }
     requires lengths { HaveLength len rows.now × HaveLength len out.old }
     ensures { Restored (corner (length sources.now) (length targets.now) table.now)
         (rows_at rows.now sources.now) targets.now sources.now out.old out.new 0 (len / 64 * 64) }
@@ -236,7 +236,7 @@ pub(crate) fn restore(
     requires ascending { IsStrictlyIncreasing sources.now × IsStrictlyIncreasing targets.now }
     requires below { All (λ p. p < length out.old) sources.now
         × All (λ p. p < length out.old) targets.now }
-    requires apart { AreApart sources.now targets.now }
+    requires apart { AreDisjoint sources.now targets.now }
     requires lengths { HaveLength (length (row_at rows.now 0)) out.old }
     ensures count { length out.new ≡ length out.old }
     ensures lengths { HaveLength (length (row_at rows.now 0)) out.new }

@@ -11,7 +11,7 @@ use Rattle.cb_types.specs.declared.job.Job.TheVariants.{Merge}
 use Rattle.cb_core.specs.declared.event.Event.{Event}
 use Rattle.cb_core.specs.declared.event.Event.TheVariants as event
 use Rattle.cb_events.specs.Listing.{AreListed, IsListed}
-use Rattle.cb_events.specs.Told.{IsTold, refused, answered, TellsReplies, no_config, rest_line, told_line}
+use Rattle.cb_events.specs.Told.{IsTextTold, refused, answered, TellsReplies, no_config, rest_line, told_line}
 use Rattle.cb_events.proofs.WorkedListing.{few, header, merge, merges, rest}
 
 accepted : IsAccepted few
@@ -36,7 +36,7 @@ nothing_listed = record {
   told = refl;
 }
 
-nothing_told : IsTold header (codes "rest 0\n")
+nothing_told : IsTextTold header (codes "rest 0\n")
 nothing_told = answered (lit≤ tt) accepted nothing_listed
 
 -- an event that stands at the front can't be left out
@@ -49,7 +49,7 @@ left_out text tells none =
     (subst (λ (bytes : List ℕ). IsListed few bytes (event.Turn 0 Merge)) (sym is) merges)
 
 -- bytes without a configuration are refused, and no others
-too_few : IsTold (2 ∷ 0 ∷ []) no_config
+too_few : IsTextTold (2 ∷ 0 ∷ []) no_config
 too_few = refused (λ long is. omega (arith, long)) refl
 
 abbrev front : List ℕ → ℕ
@@ -61,6 +61,6 @@ no_refusal : (replies : List Reply) (n : ℕ)
 no_refusal [] n e = let first : 110 ≡ 114 = ap front e in omega (arith, first)
 no_refusal (r ∷ replies) n e = let first : 110 ≡ 114 = ap front e in omega (arith, first)
 
-never_refused : IsTold header no_config → ⊥
+never_refused : IsTextTold header no_config → ⊥
 never_refused (refused never text) = never (lit≤ tt) accepted
 never_refused (answered long is tells) = no_refusal tells.replies (length tells.rest) tells.told

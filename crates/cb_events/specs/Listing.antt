@@ -94,8 +94,8 @@ IsStepOf head written atomic = (head.kind ≡ step_index atomic) × HasOfStep he
 abbrev pub NoJob : Config → Head → List ℕ → Type 0
 NoJob c head written = (job : Job) → IsJobOf head written job → IsJob c job → ⊥
 
-abbrev pub NoStep : Head → List ℕ → Type 0
-NoStep head written = (atomic : Atomic) → IsStepOf head written atomic → ⊥
+abbrev pub SaysNoStep : Head → List ℕ → Type 0
+SaysNoStep head written = (atomic : Atomic) → IsStepOf head written atomic → ⊥
 
 -- the event that these say
 abbrev pub IsEventOf : Head → List ℕ → Event → Type 0
@@ -103,18 +103,18 @@ IsEventOf head written (event.Turn seat job) = (seat ≡ head.seat) × IsJobOf h
 IsEventOf head written (event.Step seat atomic) = (seat ≡ head.seat) × IsStepOf head written atomic
 
 -- its handle and its node are among those that there are, also where the event speaks of neither
-abbrev pub IsWithin : Config → Head → Type 0
-IsWithin c head = (head.handle.n < c.handles) × (head.node.n < c.nodes)
+abbrev pub IsHeadWithin : Config → Head → Type 0
+IsHeadWithin c head = (head.handle.n < c.handles) × (head.node.n < c.nodes)
 
 -- they say no event that may come
 abbrev pub SaysNone : Config → Head → List ℕ → Type 0
 SaysNone c head written =
-    (e : Event) → IsWithin c head → IsEventOf head written e → IsEvent c e → ⊥
+    (e : Event) → IsHeadWithin c head → IsEventOf head written e → IsEvent c e → ⊥
 
 -- the event stands whole at the front of the bytes, and may come
 pub record IsListed (c : Config) (bytes : List ℕ) (e : Event) : Type 0 where
   pub whole : event_len bytes ≤ length bytes
-  pub within : IsWithin c (head_in bytes)
+  pub within : IsHeadWithin c (head_in bytes)
   pub said : IsEventOf (head_in bytes) (written_in bytes) e
   pub may : IsEvent c e
 

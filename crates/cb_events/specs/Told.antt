@@ -1,7 +1,7 @@
 -- What is told of a list of events.
 use Rattle.std.specs.Prelude.{◌≡◌, ℕ, ◌≤◌, List, [], ◌∷◌, ◌++◌, length, drop, codes, decimal}
 use Rattle.std.specs.List.{flat_map}
-use Rattle.cb_text.specs.Line.{counted, reply_text, spaced, version_text}
+use Rattle.cb_text.specs.Line.{reply_text, spaced, version_text, word_and_number}
 use Rattle.cb_types.specs.Config.{IsAccepted}
 use Rattle.cb_types.specs.declared.config.Config.{Config}
 use Rattle.cb_types.specs.declared.reply.Reply.{Reply}
@@ -15,12 +15,12 @@ use Rattle.cb_events.specs.Listing.{AreListed, NoneListed, config_in}
 -- so, but that a make tells its handle too.
 abbrev pub told_text : Reply → List ℕ
 told_text (Made handle version) =
-    counted (codes "made") handle.n ++ spaced (version_text version)
-told_text (Swapped frame) = counted (codes "swapped") frame
-told_text (Word word) = counted (codes "word") word
-told_text (Stored left) = counted (codes "stored") left
-told_text (NotStored left) = counted (codes "notstored") left
-told_text (Held seat) = counted (codes "held") seat
+    word_and_number (codes "made") handle.n ++ spaced (version_text version)
+told_text (Swapped frame) = word_and_number (codes "swapped") frame
+told_text (Word word) = word_and_number (codes "word") word
+told_text (Stored left) = word_and_number (codes "stored") left
+told_text (NotStored left) = word_and_number (codes "notstored") left
+told_text (Held seat) = word_and_number (codes "held") seat
 told_text Stays = spaced (codes "stays")
 told_text Claimed = spaced (codes "claimed")
 told_text NotClaimed = spaced (codes "notclaimed")
@@ -58,8 +58,8 @@ pub record TellsReplies (config : Config) (bytes text : List ℕ) : Type 0 where
 
 -- The text is what is told of these bytes: the replies to the events that they list, or that they
 -- begin with no configuration that is accepted.
-pub data IsTold (bytes text : List ℕ) : Type 0 where
+pub data IsTextTold (bytes text : List ℕ) : Type 0 where
   refused : (14 ≤ length bytes → IsAccepted (config_in bytes) → ⊥) → text ≡ no_config
-      → IsTold bytes text
+      → IsTextTold bytes text
   answered : 14 ≤ length bytes → IsAccepted (config_in bytes)
-      → TellsReplies (config_in bytes) (drop 14 bytes) text → IsTold bytes text
+      → TellsReplies (config_in bytes) (drop 14 bytes) text → IsTextTold bytes text

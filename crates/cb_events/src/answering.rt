@@ -4,9 +4,9 @@ ghost use Rattle.std.specs.List.{AllByRecursion};
 ghost use Rattle.cb_types.specs.Config.{IsAccepted};
 ghost use Rattle.cb_types.specs.Faults.{Rose};
 ghost use Rattle.cb_core.specs.Events.{IsEvent};
-ghost use Rattle.cb_cli.specs.Taken.{IsTaken};
+ghost use Rattle.cb_cli.specs.Taken.{AreBytesTaken};
 ghost use Rattle.cb_events.specs.Listing.{AreListed, NoneListed, config_in};
-ghost use Rattle.cb_events.specs.Told.{IsTold, LeadFromEmpty, TellsReplies};
+ghost use Rattle.cb_events.specs.Told.{IsTextTold, LeadFromEmpty, TellsReplies};
 
 use crate::reading::{behind_event, event_at, number_at};
 use crate::telling::{refusal_text, replies_text};
@@ -34,7 +34,7 @@ pub fn answer_all<S: Source, K: Sink>(
     sink: &mut K,
 ) -> Result<(), Failure>
     ensures told { IfOk result (λ _. (bytes text : List ℕ)
-        × IsTaken (S.left source.old) (S.left source.new) bytes × IsTold bytes text
+        × AreBytesTaken (S.left source.old) (S.left source.new) bytes × IsTextTold bytes text
         × Appends (K.held sink.old) (K.held sink.new) text) }
     ensures reading { result ≡ Err Failure.Read → Rose (S.faults source.old) (S.faults source.new) }
     ensures writing { result ≡ Err Failure.Write → Rose (K.faults sink.old) (K.faults sink.new) }
@@ -48,7 +48,7 @@ pub fn answer_all<S: Source, K: Sink>(
 
 /// What is told of these bytes.
 fn told_text(alloc: Global, bytes: &[u8]) -> Result<Vec<u8>, NoMemory>
-    ensures told { IfOk result (λ text. IsTold bytes.now text.items) }
+    ensures told { IfOk result (λ text. IsTextTold bytes.now text.items) }
 {
     match config_of(bytes) {
         Some(config) => answer_events(alloc, config, &bytes[CONFIG_BYTES..]),

@@ -1,7 +1,7 @@
 ghost use Rattle.std.specs.Prelude.{◌≡◌, ◌≢◌, ◌+◌, ◌<◌, ◌≤◌, List, ℕ, drop, length, IfOk, MatchOption};
 ghost use Rattle.cb_core.specs.Events.{IsAtomic, IsEvent};
 ghost use Rattle.cb_core.specs.Jobs.{IsJob};
-ghost use Rattle.cb_events.specs.Listing.{IsEventOf, IsJobOf, IsListed, IsStepOf, IsWithin, NoJob, NoStep, NoneListed, SaysNone};
+ghost use Rattle.cb_events.specs.Listing.{IsEventOf, IsHeadWithin, IsJobOf, IsListed, IsStepOf, NoJob, NoneListed, SaysNoStep, SaysNone};
 ghost use Rattle.cb_events.specs.Listing.{event_len as len_of_event, head_in, number_in};
 
 use cb_core::{Atomic, Event};
@@ -94,7 +94,7 @@ fn event_of(
     written: &[u8],
 ) -> Result<Option<Event>, NoMemory>
     ensures { IfOk result (λ found. MatchOption found (SaysNone config head written.now)
-        (λ event. IsWithin config head × IsEventOf head written.now event
+        (λ event. IsHeadWithin config head × IsEventOf head written.now event
         × IsEvent config event)) }
 {
     if head.seat >= 64
@@ -197,7 +197,7 @@ fn step_of(
     written: &[u8],
 ) -> Result<Option<Atomic>, NoMemory>
     requires { head.handle.n < config.handles }
-    ensures { IfOk result (λ found. MatchOption found (NoStep head written.now)
+    ensures { IfOk result (λ found. MatchOption found (SaysNoStep head written.now)
         (λ atomic. IsStepOf head written.now atomic × IsAtomic config atomic)) }
 {
     if head.kind == 35 {
@@ -215,7 +215,7 @@ fn step_of(
 fn plain_step(config: Config, head: Head) -> Option<Atomic>
     requires no_claim { head.kind ≢ 35 }
     requires handle { head.handle.n < config.handles }
-    ensures { (written : List ℕ) → MatchOption result (NoStep head written)
+    ensures { (written : List ℕ) → MatchOption result (SaysNoStep head written)
         (λ atomic. IsStepOf head written atomic × IsAtomic config atomic) }
 {
     let handle = head.handle;

@@ -16,7 +16,7 @@ use Rattle.cb_world.specs.Leaving.{LeavingState}
 use Rattle.cb_world.specs.Plain.{Words, Shows}
 use Rattle.cb_world.specs.Played.{played}
 use Rattle.cb_world.specs.World.{word_at, IsKnown}
-use Rattle.cb_world.proofs.Laws.{IsStepKnown, HereIs, AreSeen, here_after, seen_after, seen_known, FreeIs, free_after, PerformsStill, RunsStill, runs_still, known_then}
+use Rattle.cb_world.proofs.Laws.{IsStepKnown, HereIs, AreHotsKnown, here_after, seen_after, seen_known, FreeIs, free_after, PerformsStill, RunsStill, runs_still, known_then}
 use Rattle.cb_evict.specs.AbortRule.{HasNoBatch, HasGivenUp, AbortRule, AbortEffect}
 use Rattle.cb_evict.specs.AbortStep.{ArePutBack, IsAbortStep, no_batch, given_up}
 use Rattle.cb_evict.specs.Restoring.{IsClaimedFrom, IsHereAt, AreRestored}
@@ -55,7 +55,7 @@ put_back x y far s es batch r there z =
     count : length y.words ≡ length x.words
     count = same_count x y far s es r z.objects
 
-    seen_then : AreSeen y (played es s)
+    seen_then : AreHotsKnown y (played es s)
     seen_then = seen_after es x y s r.ran (seen_known x far s r.known)
 
     claimed : All (IsClaimedFrom s) batch.words

@@ -4,7 +4,7 @@ use Rattle.std.specs.List.{AllPairs, Contains, slice_get}
 use Rattle.std.specs.Prelude.{IfSome}
 use Rattle.std.proofs.lemmas.List.{get_or_default}
 use Rattle.std.proofs.lemmas.Option.{slice_get-get_or}
-use Rattle.cb_frame.specs.FreeFrames.{IsFree}
+use Rattle.cb_frame.specs.FreeFrames.{IsFreeFrame}
 use Rattle.cb_member.specs.declared.names.Shard.{Shard}
 use Rattle.cb_span.specs.Contents.{Contents}
 use Rattle.cb_world.specs.declared.shown.Shown.{Shown}
@@ -15,7 +15,7 @@ use Rattle.cb_world.specs.Sound.{AreNoted, Sound}
 use Rattle.cb_world.proofs.Laws.{frame_in_range}
 use Rattle.cb_evict.specs.Candidates.{AreUnique}
 use Rattle.cb_evict.specs.Committing.{HasPlaces}
-use Rattle.cb_evict.specs.Sending.{IsTold}
+use Rattle.cb_evict.specs.Sending.{IsFormerTold}
 use Rattle.cb_evict.specs.Waiting.{PutAtMembers}
 use Rattle.cb_evict.proofs.Noted.{claimed_all, stamp_of}
 use Rattle.cb_evict.proofs.Standing.{are_unique}
@@ -62,7 +62,7 @@ module _ (s : Shown) (far : FarState) (batch : LeavingState) (sound : Sound s fa
       let within = frame_in_range far.spans f x.0 x.1 in
       (subst (λ (n : ℕ). f < n) sound.here.frames.sized within, within)
 
-  pub frames_busy : All (λ f. ¬ (IsFree far.frames f)) batch.frames
+  pub frames_busy : All (λ f. ¬ (IsFreeFrame far.frames f)) batch.frames
   frames_busy k d l free =
       let f = get_or batch.frames k d in
       let x = frames_held k d l in
@@ -78,7 +78,7 @@ module _ (s : Shown) (far : FarState) (batch : LeavingState) (sound : Sound s fa
   spans_unique n count = are_unique far s n sound.here count
 
   -- ---- its objects
-  pub told_all : length s.hots ≡ length s.objects → All (IsTold s) batch.words
+  pub told_all : length s.hots ≡ length s.objects → All (IsFormerTold s) batch.words
   told_all warm k d l =
       let f = get_or batch.words k d in
       let c = claimed_all s far batch sound there warm k d l in record {

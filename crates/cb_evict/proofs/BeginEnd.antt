@@ -13,38 +13,38 @@ use Rattle.cb_world.specs.Sound.{Sound}
 use Rattle.cb_world.specs.Written.{written_by}
 use Rattle.cb_world.proofs.Laws.{played_append, written_append}
 use Rattle.cb_evict.specs.Candidates.{candidates}
-use Rattle.cb_evict.specs.Events.{TouchesOnly, IsSteady}
+use Rattle.cb_evict.specs.Events.{TouchesOnly, AreSteady}
 use Rattle.cb_evict.specs.Evicting.{ReadsFrames, TouchesSpans}
 use Rattle.cb_evict.specs.Loading.{LiesInOne}
 use Rattle.cb_evict.specs.Looking.{IsIn}
 use Rattle.cb_evict.specs.BeginRule.{blank_shard, blank_shards, with_batch, HasBegun}
-use Rattle.cb_evict.specs.BeginEffect.{IsBegun}
+use Rattle.cb_evict.specs.BeginEffect.{IsBatchBegun}
 use Rattle.cb_evict.specs.Beginning.{with_reserved, ReservesFrames}
-use Rattle.cb_evict.proofs.Begun.{sound_begun, rule_begun, effect_begun}
+use Rattle.cb_evict.proofs.BeginSound.{sound_begun, rule_begun, effect_begun}
 use Rattle.cb_evict.proofs.Ending.{spans_touched}
-use Rattle.cb_evict.proofs.Events.{AreReads, touches_more, told_words, told_objects}
-use Rattle.cb_evict.proofs.Evicts.{told_before}
-use Rattle.cb_evict.proofs.TakenGroup.{AreRead}
+use Rattle.cb_evict.proofs.Events.{AreAllReads, touches_more, told_words, told_objects}
+use Rattle.cb_evict.proofs.EvictSound.{told_before}
+use Rattle.cb_evict.proofs.TakenGroup.{AreRowsCoded}
 
 -- all that is promised of the reads
 pub record Starts (c : Config) (far new : FarState) (frames : List ℕ) (before events : List Event)
     (s : Shown) : Type 0 where
   pub begun : HasBegun c far new frames (before ++ events)
   pub sound : Sound (played (before ++ events) s) new
-  pub effect : IsBegun far new (before ++ events) s (played (before ++ events) s)
+  pub effect : IsBatchBegun far new (before ++ events) s (played (before ++ events) s)
 
 -- the reads touch words of the frames alone
 pub reads_in : (far : FarState) (frames : List ℕ) (ls : List Event)
-    → AreReads (LiesInOne frames) ls → TouchesOnly (IsIn far.spans frames) (LiesInOne frames) ls
+    → AreAllReads (LiesInOne frames) ls → TouchesOnly (IsIn far.spans frames) (LiesInOne frames) ls
 reads_in far frames ls reads =
     touches_more (λ h. ⊥) (IsIn far.spans frames) (LiesInOne frames) (LiesInOne frames) ls
     (λ h x. absurd x) (λ p x. x) reads.touches
 
 pub starts : (c : Config) (far new : FarState) (frames : List ℕ) (formers : List Former)
     (parities : List (List ℕ)) (before ls : List Event) (s : Shown)
-    → AreRead c far frames formers parities before s (played before s) → far.leaving ≡ None
-    → AreReads (LiesInOne frames) ls → new ≡ with_batch c far frames formers parities
-    → IsSteady before s → TouchesSpans far before → Starts c far new frames before ls s
+    → AreRowsCoded c far frames formers parities before s (played before s) → far.leaving ≡ None
+    → AreAllReads (LiesInOne frames) ls → new ≡ with_batch c far frames formers parities
+    → AreSteady before s → TouchesSpans far before → Starts c far new frames before ls s
 starts c far new frames formers parities before ls s d none reads is steady touched =
     let t = played before s in
     let same : played (before ++ ls) s ≡ t = played_append before ls s ∙ reads.stays t in
@@ -60,9 +60,10 @@ starts c far new frames formers parities before ls s d none reads is steady touc
       sound = subst (λ (x : FarState). Sound (played (before ++ ls) s) x) (sym is)
           (subst (λ (v : Shown). Sound v (with_batch c far frames formers parities)) (sym same)
           (sound_begun c far frames formers parities before s t d none));
-      effect = subst (λ (x : FarState). IsBegun far x (before ++ ls) s (played (before ++ ls) s))
+      effect = subst (λ (x : FarState). IsBatchBegun far x (before ++ ls) s
+          (played (before ++ ls) s))
           (sym is)
-          (subst (λ (v : Shown). IsBegun far (with_batch c far frames formers parities)
+          (subst (λ (v : Shown). IsBatchBegun far (with_batch c far frames formers parities)
           (before ++ ls) s v) (sym same)
           (effect_begun c far frames formers parities before s t d none ls reads.quiet
           (steady.hots ∙ sym (ap (λ (x : Shown). x.hots) told))

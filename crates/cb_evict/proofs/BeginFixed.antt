@@ -15,10 +15,10 @@ use Rattle.cb_world.specs.SetWord.{IsSpanWord}
 use Rattle.cb_world.specs.World.{word_at}
 use Rattle.cb_world.proofs.Laws.{IsOneEnd, refused_alike, same_data, some_same}
 use Rattle.cb_evict.specs.BeginRule.{with_batch}
-use Rattle.cb_evict.specs.BeginStep.{AreHeld, IsBatchMade, IsBeginStep, IsBegunTo, frame_rows, is_leaving, few_spans, few_nodes, begins}
+use Rattle.cb_evict.specs.BeginStep.{AreSpansClaimed, IsBatchMade, IsBeginStep, IsBegunTo, frame_rows, is_leaving, few_spans, few_nodes, begins}
 use Rattle.cb_evict.specs.EvictStep.{loose_frames}
 use Rattle.cb_evict.specs.Order.{noted_of}
-use Rattle.cb_evict.proofs.AfterEvict.{in_or_not}
+use Rattle.cb_evict.proofs.EvictKeeps.{in_or_not}
 use Rattle.cb_evict.proofs.ChangedWords.{changes_fixed}
 use Rattle.cb_evict.proofs.Ending.{code_range}
 use Rattle.cb_evict.proofs.EvictFixed.{first_loose}
@@ -44,8 +44,8 @@ noted_fixed x handles xs ys a b c d =
     noted_as x xs c ∙ ap (map (former_of x)) (a ∙ sym b) ∙ sym (noted_as x ys d)
 
 -- the words of claimed objects
-held_fixed : (x y z : Words) (far : FarState) (frames : List ℕ) → AreHeld x y far frames
-    → AreHeld x z far frames → y ≡ z
+held_fixed : (x y z : Words) (far : FarState) (frames : List ℕ) → AreSpansClaimed x y far frames
+    → AreSpansClaimed x z far frames → y ≡ z
 held_fixed x y z far frames a b =
     changes_fixed x y z _ _ _ a b (λ h. elim (in_or_not far.spans frames h) [
       | inl i ↦ inr ((a.changed h i).number ∙ sym (b.changed h i).number)

@@ -60,24 +60,24 @@ nodes_batch n r id a b = cc
 
 -- ---- the refusals, which are those of an eviction
 -- a reply that says neither that a set was made nor that a batch is leaving
-pub record IsRefusal (r : Reply) : Type 0 where
+pub record IsFrontRefusal (r : Reply) : Type 0 where
   pub no_set : (id : SetId) → r ≡ answer.Set id → ⊥
   pub no_batch : (id : SetId) → r ≡ answer.Batch id → ⊥
 
-pub spans_refusal : (n : ℕ) (r : Reply) → r ≡ answer.NoSpans n → IsRefusal r
+pub spans_refusal : (n : ℕ) (r : Reply) → r ≡ answer.NoSpans n → IsFrontRefusal r
 spans_refusal n r e = record {
   no_set = λ id f. few_spans n r id e f;
   no_batch = λ id f. spans_batch n r id e f;
 }
 
-nodes_refusal : (n : ℕ) (r : Reply) → r ≡ answer.NoNodes n → IsRefusal r
+nodes_refusal : (n : ℕ) (r : Reply) → r ≡ answer.NoNodes n → IsFrontRefusal r
 nodes_refusal n r e = record {
   no_set = λ id f. few_nodes n r id e f;
   no_batch = λ id f. nodes_batch n r id e f;
 }
 
 refused_rule : (c : Config) (far : FarState) (r : Reply) (es : List Event)
-    → far.leaving ≡ None → IsRefusal r → EvictRule c far far r es → BeginRule c far far r es
+    → far.leaving ≡ None → IsFrontRefusal r → EvictRule c far far r es → BeginRule c far far r es
 refused_rule c far r es none off x = inr (record {
   none = none;
   loose = x.loose;
@@ -94,7 +94,7 @@ refused_rule c far r es none off x = inr (record {
     by (inr (inl a)) = inr (inl a)
     by (inr (inr a)) = absurd (off.no_set (record { n = far.counts.sets }) a.reply)
 
-refused_effect : (far : FarState) (r : Reply) (es : List Event) (s t : Shown) → IsRefusal r
+refused_effect : (far : FarState) (r : Reply) (es : List Event) (s t : Shown) → IsFrontRefusal r
     → EvictEffect far far r es s t → BeginEffect far far r es s t
 refused_effect far r es s t off x = record {
   begun = λ id e. absurd (off.no_batch id e);
@@ -102,7 +102,7 @@ refused_effect far r es s t off x = record {
 }
 
 pub refuses : (c : Config) (far : FarState) (r : Reply) (runs : List Event → Type 0)
-    (knows sound : Shown → Type 0) → far.leaving ≡ None → IsRefusal r
+    (knows sound : Shown → Type 0) → far.leaving ≡ None → IsFrontRefusal r
     → Performs runs knows (EvictRule c far far r) sound (EvictEffect far far r)
     → Performs runs knows (BeginRule c far far r) sound (BeginEffect far far r)
 refuses c far r runs knows sound none off x = record {
@@ -116,7 +116,7 @@ refuses c far r runs knows sound none off x = record {
 }
 
 few_refusal : (c : Config) (far : FarState) (r : Reply) (loose : List ℕ)
-    → HasFewSpans c far far r loose ⊎ HasFewNodes c far far r loose → IsRefusal r
+    → HasFewSpans c far far r loose ⊎ HasFewNodes c far far r loose → IsFrontRefusal r
 few_refusal c far r loose (inl a) = spans_refusal (length loose) r a.reply
 few_refusal c far r loose (inr a) = nodes_refusal (room_count far.nodes far.members) r a.reply
 
@@ -127,7 +127,7 @@ pub begin_few : (c : Config) (far : FarState) (r : Reply) (e : Eviction)
     (BeginEffect far far r)
 begin_few c far r e runs shows none is x =
     refuses c far r runs (λ s. shows s × Sound s far) (λ t. Sound t far) none
-    (subst IsRefusal (sym is) (few_refusal c far (reply_of e) x.loose x.few))
+    (subst IsFrontRefusal (sym is) (few_refusal c far (reply_of e) x.loose x.few))
     (replied c far far e r runs (λ s. shows s × Sound s far) (λ t. Sound t far) is
     (takes_few c far e runs shows x))
 

@@ -21,14 +21,14 @@ use Rattle.cb_world.specs.Played.{played}
 use Rattle.cb_world.specs.RowWords.{row_of}
 use Rattle.cb_world.specs.SetWord.{IsSpanWord}
 use Rattle.cb_world.specs.World.{word_at, IsKnown}
-use Rattle.cb_world.proofs.Laws.{IsStepKnown, found_exact, AreSeen, seen_after, seen_known, PerformsStill, RunsStill, runs_still, known_then}
-use Rattle.cb_evict.specs.BeginEffect.{IsLeavingNow, IsBegun, BeginEffect}
+use Rattle.cb_world.proofs.Laws.{IsStepKnown, found_exact, AreHotsKnown, seen_after, seen_known, PerformsStill, RunsStill, runs_still, known_then}
+use Rattle.cb_evict.specs.BeginEffect.{IsInLeavingSpan, IsBatchBegun, BeginEffect}
 use Rattle.cb_evict.specs.BeginRule.{new_batch, HasBegun, HasBatch, BeginRule}
-use Rattle.cb_evict.specs.BeginStep.{AreHeld, IsBegunTo, IsBeginStep, is_leaving, few_spans, few_nodes, begins}
+use Rattle.cb_evict.specs.BeginStep.{AreSpansClaimed, IsBegunTo, IsBeginStep, is_leaving, few_spans, few_nodes, begins}
 use Rattle.cb_evict.specs.EvictRule.{HasFewSpans, HasFewNodes}
 use Rattle.cb_evict.specs.EvictStep.{loose_frames}
 use Rattle.cb_evict.specs.Looking.{IsIn}
-use Rattle.cb_evict.proofs.AfterEvict.{leaves_free}
+use Rattle.cb_evict.proofs.EvictKeeps.{leaves_free}
 use Rattle.cb_evict.proofs.BeginParts.{leaving_batch, spans_batch, nodes_batch}
 use Rattle.cb_evict.proofs.ChangedWords.{changes_words, same_count, shows_then}
 use Rattle.cb_evict.proofs.EvictStep.{refused}
@@ -51,7 +51,7 @@ claimed_word v w n len place u words below free fit same_len same_place hot =
 held_words : (x y : Words) (far new : FarState) (s : Shown) (es : List Event) (frames : List ℕ)
     → RunsStill x y far s es → new.spans ≡ far.spans → leaving_frames new.leaving ≡ frames
     → ((h : ℕ) → IsIn far.spans frames h → IsFree (word_at x h))
-    → IsBegun far new es s (played es s) → AreHeld x y far frames
+    → IsBatchBegun far new es s (played es s) → AreSpansClaimed x y far frames
 held_words x y far new s es frames r spans leaves free z =
     changes_words x y far s es r _ _ (record {
       objects = z.objects;
@@ -86,17 +86,17 @@ held_words x y far new s es frames r spans leaves free z =
     hots : (h : ℕ) → hot_at (played es s) h ≡ hot_at s h
     hots h = ap (λ (l : List Bool). get_or l h false) (z.hots ∙ ap (λ (t : Shown). t.hots) r.told)
 
-    seen : AreSeen x s
+    seen : AreHotsKnown x s
     seen = seen_known x far s r.known
 
-    seen_then : AreSeen y (played es s)
+    seen_then : AreHotsKnown y (played es s)
     seen_then = seen_after es x y s r.ran seen
 
-    into : (h : ℕ) → IsIn far.spans frames h → IsLeavingNow new h
+    into : (h : ℕ) → IsIn far.spans frames h → IsInLeavingSpan new h
     into h i = subst (λ (l : List ℕ). IsIn new.spans l h) (sym leaves)
         (subst (λ (l : List _). IsIn l frames h) (sym spans) i)
 
-    out_of : (h : ℕ) → IsLeavingNow new h → IsIn far.spans frames h
+    out_of : (h : ℕ) → IsInLeavingSpan new h → IsIn far.spans frames h
     out_of h i = subst (λ (l : List _). IsIn l frames h) spans
         (subst (λ (l : List ℕ). IsIn new.spans l h) leaves i)
 
@@ -104,7 +104,7 @@ begun_to : (x y : Words) (far new : FarState) (s : Shown) (es : List Event)
     → RunsStill x y far s es → IsKnown y new (played es s)
     → x.settings.k ≤ length (loose_frames x far)
     → HasBegun x.settings far new (take x.settings.k (loose_frames x far)) es
-    → IsBegun far new es s (played es s)
+    → IsBatchBegun far new es s (played es s)
     → IsBegunTo x y far new (take x.settings.k (loose_frames x far))
 begun_to x y far new s es r l enough b z =
     let k = x.settings.k in let frames = take k (loose_frames x far) in

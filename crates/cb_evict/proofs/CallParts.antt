@@ -6,7 +6,7 @@ use Rattle.cb_world.specs.Looks.{NoLook}
 use Rattle.cb_world.specs.Played.{played}
 use Rattle.cb_evict.specs.CallPart.{CallPart}
 use Rattle.cb_evict.specs.Events.{OnlyLooks}
-use Rattle.cb_evict.proofs.Events.{AreReads, first_append, looks_before, touches_append, touches_more}
+use Rattle.cb_evict.proofs.Events.{AreAllReads, first_append, looks_before, touches_append, touches_more}
 
 -- What ran to the middle and what ran from there ran in all, and what is shown is followed.
 pub record Joins (runsA runsB runsC : List Event → Type 0) (showsA showsB : Shown → Type 0)
@@ -45,7 +45,7 @@ part_then {o = o} {p = p} {q = q} {r = r} objects words so j x y f g k l quiet i
 
 -- words are read, and no more
 abbrev pub reads_part : {runs : List Event → Type 0} {q : ℕ → Type 0} (es : List Event) → runs es
-    → AreReads q es → CallPart runs (λ h. ⊥) q (λ fs. Unit {0})
+    → AreAllReads q es → CallPart runs (λ h. ⊥) q (λ fs. Unit {0})
 reads_part es ran reads =
     record { events = es; ran = ran; touches = reads.touches; first = reads.first; done = tt }
 

@@ -21,7 +21,7 @@ use Rattle.cb_world.specs.FarState.{FarState}
 use Rattle.cb_world.specs.LocalSound.{LocalSound, LiesAt, IsStamped}
 use Rattle.cb_world.specs.Claimed.{IsClaimedAt}
 use Rattle.cb_world.proofs.Laws.{apart, taken_before, lies_within, claimed_from, claim_played, found_more, found_last, taken_more, taken_after_looks, played_append, window_same, put_else, length_put, is_claimed_at, avoids}
-use Rattle.cb_evict.specs.Events.{OnlyLooks, IsSteady}
+use Rattle.cb_evict.specs.Events.{OnlyLooks, AreSteady}
 use Rattle.cb_evict.specs.Claims.{Keeps, IsClaimedBy, WasHere, IsNone, AreClaimed, AreBack, AreApart}
 use Rattle.cb_evict.proofs.Events.{found_after, looks_append, looks_change, looks_steady, steady_append}
 
@@ -255,7 +255,7 @@ pub claim_one : (far : FarState) (s : Shown) (before : List Event) (h w v : ℕ)
     → AreClaimed (claim_of before h w v words) s (played (claim_of before h w v words) s)
     (record { handle = h; word = w } ∷ [])
     × LocalSound (played (claim_of before h w v words) s) far
-    × IsSteady (claim_of before h w v words) s
+    × AreSteady (claim_of before h w v words) s
 claim_one far s before h w v words sound range stamp warm looks agree free =
     let es = claim_of before h w v words in
     let f : Former = record { handle = h; word = w } in
@@ -395,7 +395,7 @@ claim_one far s before h w v words sound range stamp warm looks agree free =
 
 -- ---- looks claim nothing
 pub claims_nothing : (far : FarState) (s : Shown) (es : List Event) → OnlyLooks es → LocalSound s far
-    → AreClaimed es s (played es s) [] × LocalSound (played es s) far × IsSteady es s
+    → AreClaimed es s (played es s) [] × LocalSound (played es s) far × AreSteady es s
 claims_nothing far s es looks sound =
     let l = looks_change es s looks in (
       record {
@@ -413,7 +413,8 @@ claims_nothing far s es looks sound =
 pub left_one : (far : FarState) (s : Shown) (before : List Event) (h w : ℕ) → LocalSound s far
     → AreLooks h before
     → AreClaimed (before ++ Looked h w ∷ []) s (played (before ++ Looked h w ∷ []) s) []
-    × LocalSound (played (before ++ Looked h w ∷ []) s) far × IsSteady (before ++ Looked h w ∷ []) s
+    × LocalSound (played (before ++ Looked h w ∷ []) s) far
+    × AreSteady (before ++ Looked h w ∷ []) s
 left_one far s before h w sound looks = claims_nothing far s (before ++ Looked h w ∷ [])
     (looks_append before (Looked h w ∷ []) (only_looks h before looks) tt) sound
 

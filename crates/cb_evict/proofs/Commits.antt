@@ -21,11 +21,11 @@ use Rattle.cb_world.specs.Sound.{Sound}
 use Rattle.cb_evict.specs.AbortRule.{IsOfBatch}
 use Rattle.cb_evict.specs.Claiming.{IsOne}
 use Rattle.cb_evict.specs.Closing.{HaveHomes, with_homes}
-use Rattle.cb_evict.specs.CommitRule.{CommitRule, CommitEffect, IsCommitted, with_committed}
+use Rattle.cb_evict.specs.CommitRule.{CommitRule, CommitEffect, IsBatchCommitted, with_committed}
 use Rattle.cb_evict.specs.Committing.{AreAllPut, with_shards}
 use Rattle.cb_evict.specs.Sending.{IsSending, Sends}
 use Rattle.cb_evict.specs.Waiting.{waiting}
-use Rattle.cb_evict.proofs.BatchCommitted.{Done, sound_committed, now_committed}
+use Rattle.cb_evict.proofs.CommitSound.{BatchDone, sound_committed, now_committed}
 use Rattle.cb_evict.proofs.BatchReady.{told_all}
 use Rattle.cb_evict.proofs.Events.{touches_more}
 use Rattle.cb_evict.proofs.WhichWait.{all_stand}
@@ -157,7 +157,7 @@ commits runs shows far new batch id same there whole state homes warm r = record
       (sound_committed s (played r.events s) far batch new.homes (done s k));
   effect = λ s k. record {
     committed = λ b n at e.
-        subst (λ (c : LeavingState). IsCommitted far new c r.events s (played r.events s))
+        subst (λ (c : LeavingState). IsBatchCommitted far new c r.events s (played r.events s))
         (some_same batch b (sym there ∙ at)) (record {
           sent = (done s k).sent;
           nothing = (sending s k).nothing;
@@ -171,7 +171,7 @@ commits runs shows far new batch id same there whole state homes warm r = record
     sending : (s : Shown) → shows s × Sound s far → IsSending r.events s batch.words
     sending s k = r.done.1 s k.0 (told_all s far batch k.1 there (warm s k.0))
 
-    done : (s : Shown) → shows s × Sound s far → Done s (played r.events s) far batch new.homes
+    done : (s : Shown) → shows s × Sound s far → BatchDone s (played r.events s) far batch new.homes
     done s k = record {
       sound = k.1;
       there = there;

@@ -25,10 +25,10 @@ use Rattle.cb_world.proofs.Laws.{allowed_append}
 use Rattle.cb_evict.specs.Candidates.{candidates, AreLoose}
 use Rattle.cb_evict.specs.CallPart.{CallPart}
 use Rattle.cb_evict.specs.Claims.{IsNone}
-use Rattle.cb_evict.specs.Claiming.{Claims, GivesBack, ClaimsSpans}
+use Rattle.cb_evict.specs.Claiming.{ClaimsObjects, GivesBack, ClaimsSpans}
 use Rattle.cb_evict.specs.EvictEffect.{IsEvicted, EvictEffect}
 use Rattle.cb_evict.specs.EvictRule.{HasEvicted, HasFewSpans, HasFewNodes, HasBoth, EvictRule}
-use Rattle.cb_evict.specs.Evicting.{TouchesSpans, ReadsFrames, AreTaken, IsEnded, IsReady, EndsClaimed, EvictsClaimed, LeavesClaimed}
+use Rattle.cb_evict.specs.Evicting.{TouchesSpans, ReadsFrames, AreSpansTaken, IsEnded, IsReadyToEvict, EndsClaimed, EvictsClaimed, LeavesClaimed}
 use Rattle.cb_evict.specs.declared.eviction.Eviction.{Eviction}
 use Rattle.cb_evict.specs.declared.eviction.Eviction.TheVariants as eviction
 use Rattle.cb_evict.specs.Eviction.{CountsRule, TellsCounts, reply_of}
@@ -36,8 +36,8 @@ use Rattle.cb_evict.specs.declared.finding.Found.{Found}
 use Rattle.cb_evict.specs.declared.finding.Found.TheVariants.{Loose}
 use Rattle.cb_evict.specs.declared.taking.Taken.{Taken}
 use Rattle.cb_evict.specs.declared.taking.Taken.TheVariants.{Few, Enough}
-use Rattle.cb_evict.specs.Finding.{Finds}
-use Rattle.cb_evict.specs.Taking.{AreLooseNow, AreLooseStill, Tries, TakesFew, TakesEnough, Takes}
+use Rattle.cb_evict.specs.Finding.{FindsSpans}
+use Rattle.cb_evict.specs.Taking.{AreLooseNow, AreLooseStill, TriesSpans, TakesFew, TakesEnough, Takes}
 use Rattle.cb_evict.specs.Loading.{LiesInOne, OnlyLoads}
 use Rattle.cb_evict.specs.Looking.{IsIn, LooksOver}
 use Rattle.cb_evict.proofs.CallParts.{Joins, part_more, part_then}
@@ -83,8 +83,8 @@ read_err runs frames es r ran loads = any_err (ReadsFrames runs frames) r (es, r
 -- ---- by what was found, and by what was taken
 pub found_loose : (runs : List Event → Type 0) (shows : Shown → Type 0) (c : Config)
     (far : FarState) (found : Found) (frames : _) (nodes : ℕ) → found ≡ Loose frames nodes
-    → Finds runs shows c far found → Finds runs shows c far (Loose frames nodes)
-found_loose runs shows c far found frames nodes is x = subst (Finds runs shows c far) is x
+    → FindsSpans runs shows c far found → FindsSpans runs shows c far (Loose frames nodes)
+found_loose runs shows c far found frames nodes is x = subst (FindsSpans runs shows c far) is x
 
 pub taken_enough : (runs : List Event → Type 0) (shows : Shown → Type 0) (c : Config)
     (far : FarState) (finds : List ℕ → List Event → Type 0) (taken : Taken) (frames : _)
@@ -162,7 +162,7 @@ looks_as runs spans ys frames gs loose hs e f h x =
 -- nothing is claimed by looks
 pub looks_tried : {runs : List Event → Type 0} {shows : Shown → Type 0} (far : FarState)
     (loose : List ℕ) → LooksOver runs far.spans (candidates far) loose
-    → Tries runs shows far (AreLooseNow far loose) []
+    → TriesSpans runs shows far (AreLooseNow far loose) []
 looks_tried far loose x =
     part_more (IsIn far.spans (candidates far)) (LiesInOne (candidates far)) _ x (λ h y. y)
     (λ p y. absurd y) (x.done.1, λ at s knows here. claims_nothing at s x.events x.done.0 here)
@@ -172,11 +172,11 @@ module _ {runsA runsB runsC : List Event → Type 0} {showsA showsB : Shown → 
     (was : List ℕ) (j : Joins runsA runsB runsC showsA showsB)
     (x : LooksOver runsA far.spans (candidates far) was) where
   looked_tries : (loose : List ℕ) (formers : List Former)
-      → Tries runsB showsB far (AreLooseStill far was loose) formers
-      → Tries runsC showsA far (AreLooseNow far loose) formers
+      → TriesSpans runsB showsB far (AreLooseStill far was loose) formers
+      → TriesSpans runsC showsA far (AreLooseNow far loose) formers
   looked_tries loose formers y =
       part_then (IsIn far.spans (candidates far)) (LiesInOne (candidates far))
-      (λ es. AreLooseNow far loose es × ((at : FarState) → Claims showsA at es formers)) j x y (λ h z. z) (λ p z. absurd z) (λ h z. z) (λ p z. z) (inl x.done.0) (
+      (λ es. AreLooseNow far loose es × ((at : FarState) → ClaimsObjects showsA at es formers)) j x y (λ h z. z) (λ p z. absurd z) (λ h z. z) (λ p z. z) (inl x.done.0) (
         y.done.0 x.events x.done.1,
         λ at s knows here.
             let a = claims_nothing at s x.events x.done.0 here in
@@ -212,7 +212,7 @@ module _ {runsA runsB runsC : List Event → Type 0} {showsA showsB : Shown → 
 -- ---- nothing is claimed in the end
 -- so nothing changed
 still_at : (far : FarState) (finds : List Event → Type 0) {runs : List Event → Type 0}
-    {shows : Shown → Type 0} → (x : Tries runs shows far finds []) → (s : Shown)
+    {shows : Shown → Type 0} → (x : TriesSpans runs shows far finds []) → (s : Shown)
     → shows s × Sound s far
     → IsStill x.events s (played x.events s) × Sound (played x.events s) far
 still_at far finds x s k =
@@ -221,7 +221,7 @@ still_at far finds x s k =
     a.1 a.2 x.touches
 
 tried_still : (far : FarState) (finds : List Event → Type 0) {runs : List Event → Type 0}
-    {shows : Shown → Type 0} → Tries runs shows far finds []
+    {shows : Shown → Type 0} → TriesSpans runs shows far finds []
     → Performs runs (λ s. shows s × Sound s far) (TouchesSpans far) (λ t. Sound t far) IsStill
 tried_still far finds x = record {
   events = x.events;
@@ -327,7 +327,7 @@ pub are_taken : (c : Config) (far : FarState) (loose frames : List ℕ) (formers
     (runs : List Event → Type 0) (shows : Shown → Type 0) (k : ℕ)
     → ClaimsSpans runs shows far.spans loose k frames formers
     → All (Contains (candidates far)) loose
-    → length frames ≡ c.k → AreTaken c far frames formers
+    → length frames ≡ c.k → AreSpansTaken c far frames formers
 are_taken c far loose frames formers runs shows k x among count = record {
   count = count;
   among = λ i d l. All-contains (Contains (candidates far)) loose (get_or frames i d) among
@@ -340,11 +340,12 @@ are_taken c far loose frames formers runs shows k x among count = record {
 
 -- the same, of the same configuration and the same lists
 pub taken_as : (c d : Config) (far : FarState) (frames gs : List ℕ) (formers hs : List Former)
-    → c ≡ d → gs ≡ frames → hs ≡ formers → AreTaken c far frames formers → AreTaken d far gs hs
+    → c ≡ d → gs ≡ frames → hs ≡ formers → AreSpansTaken c far frames formers
+    → AreSpansTaken d far gs hs
 taken_as c d far frames gs formers hs e f h a =
-    subst (λ (n : Config). AreTaken n far gs hs) e
-    (subst (λ (l : List Former). AreTaken c far gs l) (sym h)
-    (subst (λ (l : List ℕ). AreTaken c far l formers) (sym f) a))
+    subst (λ (n : Config). AreSpansTaken n far gs hs) e
+    (subst (λ (l : List Former). AreSpansTaken c far gs l) (sym h)
+    (subst (λ (l : List ℕ). AreSpansTaken c far l formers) (sym f) a))
 
 pub evicts_as : (runs : List Event → Type 0) (shows : Shown → Type 0) (c d : Config)
     (far new : FarState) (frames gs : List ℕ) (formers hs : List Former) → c ≡ d → gs ≡ frames
@@ -380,7 +381,7 @@ pub claims_tried : (far : FarState) {loose frames : List ℕ} {formers : List Fo
     {runs : List Event → Type 0} {shows : Shown → Type 0}
     → All (Contains (candidates far)) loose
     → (x : ClaimsSpans runs shows far.spans loose k frames formers)
-    → Tries runs shows far (AreLooseStill far loose (frames ++ x.rest)) formers
+    → TriesSpans runs shows far (AreLooseStill far loose (frames ++ x.rest)) formers
 claims_tried far {loose = loose} among x =
     part_more (IsIn far.spans (candidates far)) (LiesInOne (candidates far)) _ x.part
     (among_spans far loose among) (λ p z. absurd z)
@@ -403,7 +404,7 @@ pub back_tried : (far : FarState) {loose frames : List ℕ} {formers : List Form
     {runsA runsB runsC : List Event → Type 0} {showsA showsB : Shown → Type 0}
     → Joins runsA runsB runsC showsA showsB → All (Contains (candidates far)) loose
     → ClaimsSpans runsA showsA far.spans loose k frames formers → GivesBack runsB showsB formers
-    → length frames < k → Tries runsC showsA far (AreLooseStill far loose frames) []
+    → length frames < k → TriesSpans runsC showsA far (AreLooseStill far loose frames) []
 back_tried far {loose = loose} {frames = frames} {formers = formers} {k = k} {runsA = runsA}
     {runsB = runsB} {runsC = runsC} {showsA = showsA} {showsB = showsB} j among x y few =
     let es = x.part.events in let fs = y.events in
@@ -438,8 +439,8 @@ back_tried far {loose = loose} {frames = frames} {formers = formers} {k = k} {ru
 -- after the claims all is ready
 pub tried_ready : (far : FarState) (formers : List Former) (finds : List Event → Type 0)
     {runs : List Event → Type 0} {shows showsB : Shown → Type 0}
-    → (x : Tries runs shows far finds formers) → (s : Shown) → showsB (played x.events s)
-    → shows s → Sound s far → IsReady showsB far formers x.events s
+    → (x : TriesSpans runs shows far finds formers) → (s : Shown) → showsB (played x.events s)
+    → shows s → Sound s far → IsReadyToEvict showsB far formers x.events s
 tried_ready far formers finds x s shown knows sound =
     let a = x.done.1 far s knows sound.here in record {
       shown = shown;

@@ -31,23 +31,23 @@ use Rattle.cb_evict.specs.Beginning.{AreParities}
 use Rattle.cb_evict.specs.Claims.{AreClaimed}
 use Rattle.cb_evict.specs.Claiming.{IsOne}
 use Rattle.cb_evict.specs.Closing.{HaveHomes, with_homes}
-use Rattle.cb_evict.specs.Events.{TouchesOnly, IsSteady}
+use Rattle.cb_evict.specs.Events.{TouchesOnly, AreSteady}
 use Rattle.cb_evict.specs.EvictEffect.{IsEvicted}
 use Rattle.cb_evict.specs.EvictRule.{HasEvicted}
-use Rattle.cb_evict.specs.Evicting.{AreTaken, IsReady, TouchesSpans}
-use Rattle.cb_evict.specs.Loading.{LiesInOne, OwnsFrame, IsRowOf}
+use Rattle.cb_evict.specs.Evicting.{AreSpansTaken, IsReadyToEvict, TouchesSpans}
+use Rattle.cb_evict.specs.Loading.{LiesInOne, OwnsFrame, IsRowOfFrame}
 use Rattle.cb_evict.specs.Looking.{IsIn}
 use Rattle.cb_evict.specs.Storing.{KeepsSet, with_set}
-use Rattle.cb_evict.proofs.Events.{AreReads, touches_append, touches_more, no_look_append, told_words, told_objects}
-use Rattle.cb_evict.proofs.Evicts.{Done, after_far, rule_then, sound_then, effect_then, told_before}
+use Rattle.cb_evict.proofs.Events.{AreAllReads, touches_append, touches_more, no_look_append, told_words, told_objects}
+use Rattle.cb_evict.proofs.EvictSound.{EvictDone, after_far, rule_then, sound_then, effect_then, told_before}
 use Rattle.cb_evict.proofs.Owned.{claimed_held}
 use Rattle.cb_evict.proofs.Standing.{IsReadyFrame, ready_frame}
-use Rattle.cb_evict.proofs.TakenGroup.{AreRead, frame_rows, rows_read}
+use Rattle.cb_evict.proofs.TakenGroup.{AreRowsCoded, frame_rows, rows_read}
 
 -- ---- the frames that were taken
 pub taken_ready : (c : Config) (far : FarState) (frames : List ℕ) (formers : List Former)
     (s : Shown)
-    → AreTaken c far frames formers → LocalSound s far → (f : ℕ) → Contains frames f
+    → AreSpansTaken c far frames formers → LocalSound s far → (f : ℕ) → Contains frames f
     → IsReadyFrame far f
 taken_ready c far frames formers s a sound f x =
     ready_frame far s f sound (All-contains (Contains (candidates far)) frames f a.among x)
@@ -62,7 +62,7 @@ handles_all es s t formers n a count k d l =
 
 -- the caller owns the words of the frames
 pub owns_taken : (c : Config) (far : FarState) (frames : List ℕ) (formers : List Former)
-    (before : List Event) (s t : Shown) → AreTaken c far frames formers → LocalSound s far
+    (before : List Event) (s t : Shown) → AreSpansTaken c far frames formers → LocalSound s far
     → LocalSound t far → AreClaimed before s t formers → (f : ℕ) → Contains frames f → OwnsFrame t f
 owns_taken c far frames formers before s t a sound here claimed f x =
     frame_owned far t f here (taken_ready c far frames formers s a sound f x).within
@@ -89,10 +89,10 @@ kept_parities shards frames n coded count kept =
 -- what is known once the rows are read and coded
 pub are_read : (c : Config) (far : FarState) (frames : List ℕ) (formers : List Former)
     (coded parities : List (List ℕ)) (shows : Shown → Type 0) (before : List Event) (s : Shown)
-    → IsAccepted c → IsReady shows far formers before s → AreTaken c far frames formers
+    → IsAccepted c → IsReadyToEvict shows far formers before s → AreSpansTaken c far frames formers
     → AreParities (length frames) (c.k + c.r) coded parities → length coded ≡ length frames
-    → ((p f : ℕ) → slice_get frames p ≡ Some f → IsRowOf shows f (row_at coded p))
-    → AreRead c far frames formers parities before s (played before s)
+    → ((p f : ℕ) → slice_get frames p ≡ Some f → IsRowOfFrame shows f (row_at coded p))
+    → AreRowsCoded c far frames formers parities before s (played before s)
     × (coded ≡ frame_rows (played before s) frames)
 are_read c far frames formers coded parities shows before s ok r taken a count made =
     let t = played before s in
@@ -139,18 +139,18 @@ pub record Ended (c : Config) (far new : FarState) (frames : List ℕ) (before e
   pub effect : IsEvicted far new (before ++ events) s (played (before ++ events) s)
 
 -- the events read words and put objects away
-pub record IsEnd (q : ℕ → Type 0) (formers : List Former) (ls ss : List Event) : Type 0 where
-  pub reads : AreReads q ls
+pub record IsEvictEnd (q : ℕ → Type 0) (formers : List Former) (ls ss : List Event) : Type 0 where
+  pub reads : AreAllReads q ls
   pub touches : TouchesOnly (IsOne formers) (λ p. ⊥) ss
   pub quiet : (k : ℕ) → NoLook k ss
 
 pub end_quiet : (q : ℕ → Type 0) (formers : List Former) (ls ss : List Event)
-    → IsEnd q formers ls ss
+    → IsEvictEnd q formers ls ss
     → (k : ℕ) → NoLook k (ls ++ ss)
 end_quiet q formers ls ss e k = no_look_append k ls ss (e.reads.quiet k) (e.quiet k)
 
 pub end_touches : (q : ℕ → Type 0) (formers : List Former) (ls ss : List Event)
-    → IsEnd q formers ls ss → TouchesOnly (IsOne formers) q (ls ++ ss)
+    → IsEvictEnd q formers ls ss → TouchesOnly (IsOne formers) q (ls ++ ss)
 end_touches q formers ls ss e = touches_append (IsOne formers) q ls ss
     (touches_more (λ h. ⊥) (IsOne formers) q q ls (λ h x. absurd x) (λ p x. x) e.reads.touches)
     (touches_more (IsOne formers) (IsOne formers) (λ p. ⊥) q ss (λ h x. x) (λ p x. absurd x)
@@ -158,23 +158,24 @@ end_touches q formers ls ss e = touches_append (IsOne formers) q ls ss
 
 -- they are allowed, where those that settle are so
 pub end_allowed : (q : ℕ → Type 0) (formers : List Former) (before ls ss : List Event) (s : Shown)
-    → IsEnd q formers ls ss → Allowed (played before s) ss → Allowed (played before s) (ls ++ ss)
+    → IsEvictEnd q formers ls ss → Allowed (played before s) ss
+    → Allowed (played before s) (ls ++ ss)
 end_allowed q formers before ls ss s e may = allowed_append ls ss (played before s)
     (e.reads.steady (played before s)).allowed
     (subst (λ (v : Shown). Allowed v ss) (sym (e.reads.stays (played before s))) may)
 
 pub end_played : (q : ℕ → Type 0) (formers : List Former) (before ls ss : List Event) (s : Shown)
-    → IsEnd q formers ls ss → played (before ++ (ls ++ ss)) s ≡ played ss (played before s)
+    → IsEvictEnd q formers ls ss → played (before ++ (ls ++ ss)) s ≡ played ss (played before s)
 end_played q formers before ls ss s e = played_append before (ls ++ ss) s
     ∙ played_append ls ss (played before s) ∙ ap (played ss) (e.reads.stays (played before s))
 
 pub ended : (c : Config) (far new : FarState) (frames : List ℕ) (formers : List Former)
     (shards : List Shard) (coded parities : List (List ℕ)) (homes : List (Option Home))
     (q o p : ℕ → Type 0) (before ls ss : List Event) (s : Shown)
-    → Done c far frames formers shards parities homes before s (played before s)
+    → EvictDone c far frames formers shards parities homes before s (played before s)
     (played ss (played before s))
-    → coded ≡ frame_rows (played before s) frames → IsEnd q formers ls ss
-    → new ≡ after_far far frames shards (coded ++ parities) homes → IsSteady before s
+    → coded ≡ frame_rows (played before s) frames → IsEvictEnd q formers ls ss
+    → new ≡ after_far far frames shards (coded ++ parities) homes → AreSteady before s
     → TouchesOnly o p (before ++ (ls ++ ss)) → Writes ss (played before s) []
     → Ended c far new frames before (ls ++ ss) s
 ended c far new frames formers shards coded parities homes q o p before ls ss s d read e state
@@ -237,7 +238,8 @@ one_in far frames formers only h (f, x, same) = subst (IsIn far.spans frames) sa
     (All-contains (λ g. IsIn far.spans frames g.handle) formers f only x)
 
 pub end_in : (far : FarState) (frames : List ℕ) (formers : List Former) (ls ss : List Event)
-    → All (λ f. IsIn far.spans frames f.handle) formers → IsEnd (LiesInOne frames) formers ls ss
+    → All (λ f. IsIn far.spans frames f.handle) formers
+    → IsEvictEnd (LiesInOne frames) formers ls ss
     → TouchesOnly (IsIn far.spans frames) (LiesInOne frames) (ls ++ ss)
 end_in far frames formers ls ss only e =
     touches_more (IsOne formers) (IsIn far.spans frames) (LiesInOne frames) (LiesInOne frames)
@@ -256,7 +258,7 @@ spans_touched far frames before es among touched t =
 
 -- the frames are those that there are
 pub frames_below : (c : Config) (far : FarState) (frames : List ℕ) (formers : List Former)
-    (s t : Shown) (n : ℕ) → AreTaken c far frames formers → LocalSound s far → LocalSound t far
+    (s t : Shown) (n : ℕ) → AreSpansTaken c far frames formers → LocalSound s far → LocalSound t far
     → length t.memory ≡ 512 * n → All (λ f. f < n) frames
 frames_below c far frames formers s t n a sound here count k d l =
     let x = taken_ready c far frames formers s a sound (get_or frames k d) (place_in frames k d l)

@@ -13,7 +13,7 @@ use Rattle.cb_world.specs.Looks.{IsLook, NoLook, IsFound, LooksFirst, told_by}
 use Rattle.cb_world.specs.Allowed.{Allowed}
 use Rattle.cb_world.specs.Written.{written_by}
 use Rattle.cb_world.proofs.Laws.{found_more, played_append, told_append, written_append, allowed_append}
-use Rattle.cb_evict.specs.Events.{TouchesOnly, OnlyLooks, IsSteady}
+use Rattle.cb_evict.specs.Events.{TouchesOnly, OnlyLooks, AreSteady}
 use Rattle.cb_evict.specs.Loading.{OnlyLoads}
 
 -- ---- what events are about
@@ -152,7 +152,7 @@ looks_change (Told h v ∷ es) s a = absurd a
 looks_change (Stored p x ∷ es) s a = absurd a
 looks_change (Stamped h v ∷ es) s a = absurd a
 
-pub looks_steady : (es : List Event) (s : Shown) → OnlyLooks es → IsSteady es s
+pub looks_steady : (es : List Event) (s : Shown) → OnlyLooks es → AreSteady es s
 looks_steady es s a = record {
   allowed = allowed es s a;
   nothing = λ old. nothing es s old a;
@@ -224,11 +224,11 @@ told_words o q (Told h v ∷ es) s u a b c = absurd a
 told_words o q (Stored p x ∷ es) s u a b c = absurd a
 told_words o q (Stamped h v ∷ es) s u a b c = absurd a
 
-pub steady_none : (s : Shown) → IsSteady [] s
+pub steady_none : (s : Shown) → AreSteady [] s
 steady_none s = record { allowed = tt; nothing = λ old. refl; hots = refl }
 
-pub steady_append : (es fs : List Event) (s : Shown) → IsSteady es s → IsSteady fs (played es s)
-    → IsSteady (es ++ fs) s
+pub steady_append : (es fs : List Event) (s : Shown) → AreSteady es s → AreSteady fs (played es s)
+    → AreSteady (es ++ fs) s
 steady_append es fs s a b = record {
   allowed = allowed_append es fs s a.allowed b.allowed;
   nothing = λ old. written_append es fs s old
@@ -262,14 +262,14 @@ loads_more q r (Stored p x ∷ es) f a = absurd a
 loads_more q r (Stamped h v ∷ es) f a = absurd a
 
 -- what reads are, all at once: they change and tell nothing
-pub record AreReads (q : ℕ → Type 0) (es : List Event) : Type 0 where
+pub record AreAllReads (q : ℕ → Type 0) (es : List Event) : Type 0 where
   pub stays : (s : Shown) → played es s ≡ s
-  pub steady : (s : Shown) → IsSteady es s
+  pub steady : (s : Shown) → AreSteady es s
   pub touches : TouchesOnly (λ h. ⊥) q es
   pub quiet : (k : ℕ) → NoLook k es
   pub first : LooksFirst es
 
-pub are_reads : (q : ℕ → Type 0) (es : List Event) → OnlyLoads q es → AreReads q es
+pub are_reads : (q : ℕ → Type 0) (es : List Event) → OnlyLoads q es → AreAllReads q es
 are_reads q [] a = record {
   stays = λ s. refl;
   steady = steady_none;

@@ -18,7 +18,7 @@ use Rattle.cb_evict.specs.BeginRule.{blank_shard}
 use Rattle.cb_evict.specs.Closing.{HaveHomes, with_homes}
 use Rattle.cb_evict.specs.EvictStep.{AreFrameRows, AreSentOff, IsEvictedTo, IsEvictStep, IsSetMade, loose_frames, few_spans, few_nodes, made}
 use Rattle.cb_evict.specs.Storing.{AreShards, with_set}
-use Rattle.cb_evict.proofs.AfterEvict.{in_or_not}
+use Rattle.cb_evict.proofs.EvictKeeps.{in_or_not}
 use Rattle.cb_evict.proofs.ChangedWords.{changes_fixed}
 use Rattle.cb_evict.proofs.Ending.{code_range}
 

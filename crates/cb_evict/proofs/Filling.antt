@@ -8,7 +8,8 @@ use Rattle.cb_world.specs.FarState.{span_in}
 use Rattle.cb_world.specs.Reserved.{position_for}
 
 -- the first n positions have the slot tables of the spans in the first n frames
-pub record IsFilled (spans : List (Option Contents)) (frames : List ℕ) (n : ℕ) (old new : SetState)
+pub record ArePositionsFilled (spans : List (Option Contents)) (frames : List ℕ) (n : ℕ)
+    (old new : SetState)
     : Type 0 where
   pub id : new.id ≡ old.id
   pub shards : new.shards ≡ old.shards
@@ -16,7 +17,8 @@ pub record IsFilled (spans : List (Option Contents)) (frames : List ℕ) (n : �
   pub filled : (q : ℕ) → q < n → get_or new.positions q dead_position ≡ position_for spans (get_or frames q 0)
 
 pub all_filled : (spans : List (Option Contents)) (frames : List ℕ) (n : ℕ) (old new : SetState)
-    → IsFilled spans frames n old new → n ≡ length frames → length old.positions ≡ length frames
+    → ArePositionsFilled spans frames n old new → n ≡ length frames
+    → length old.positions ≡ length frames
     → new ≡ record old { positions = map (position_for spans) frames }
 all_filled spans frames n old new a all count =
     let positions : new.positions ≡ map (position_for spans) frames =

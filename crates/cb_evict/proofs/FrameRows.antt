@@ -5,7 +5,7 @@ use Rattle.std.proofs.lemmas.List.Sums.{sum_by-cons}
 use Rattle.std.proofs.lemmas.Option.{slice_get-get_or, slice_get_within, get_or_from_slice_get}
 use Rattle.cb_gf256.specs.Rows.{row_at}
 use Rattle.cb_member.specs.declared.names.Shard.{Shard}
-use Rattle.cb_node.specs.NodesState.{row_at as row_under}
+use Rattle.cb_node.specs.NodesState.{row_under}
 use Rattle.cb_span.specs.Contents.{Contents}
 use Rattle.cb_types.specs.declared.config.Config.{Config}
 use Rattle.cb_world.specs.declared.event.Event.{Event}
@@ -17,7 +17,7 @@ use Rattle.cb_world.specs.RowWords.{row_of}
 use Rattle.cb_world.specs.Sets.{set_in}
 use Rattle.cb_world.proofs.Laws.{some_same, put_there}
 use Rattle.cb_evict.specs.BeginRule.{blank_shard}
-use Rattle.cb_evict.specs.Candidates.{Names}
+use Rattle.cb_evict.specs.Candidates.{SpanNames}
 use Rattle.cb_evict.specs.EvictEffect.{HaveFrameRows}
 use Rattle.cb_evict.specs.EvictRule.{HasEvicted}
 use Rattle.cb_evict.specs.Storing.{set_for}
@@ -34,7 +34,7 @@ some_object (None ∷ slots) l =
     let x = some_object slots (omega (arith, e, l)) in (suc x.0, x.1, x.2)
 
 pub names_one : (far : FarState) (s : Shown) (f : ℕ) (span : Contents) → LocalSound s far
-    → span_in far.spans f ≡ Some span → (h : ℕ) × Names far.spans f h
+    → span_in far.spans f ≡ Some span → (h : ℕ) × SpanNames far.spans f h
 names_one far s f span sound there =
     let x = some_object span.slots (sound.frames.taken f span there) in
     (x.1, (x.0, ap (λ (o : Option Contents). handle_in o x.0) there ∙ x.2))

@@ -11,9 +11,9 @@ use Rattle.cb_world.specs.Looks.{LooksFirst, NoLook}
 use Rattle.cb_world.specs.FarState.{FarState}
 use Rattle.cb_world.specs.LocalSound.{LocalSound}
 use Rattle.cb_world.proofs.Laws.{played_append}
-use Rattle.cb_evict.specs.Events.{IsSteady, TouchesOnly}
+use Rattle.cb_evict.specs.Events.{AreSteady, TouchesOnly}
 use Rattle.cb_evict.specs.Claims.{AreClaimed, AreApart, IsNone}
-use Rattle.cb_evict.specs.Claiming.{IsOne, Claims, AreOf, GivesBack}
+use Rattle.cb_evict.specs.Claiming.{IsOne, ClaimsObjects, AreOf, GivesBack}
 use Rattle.cb_evict.proofs.CallParts.{Joins}
 use Rattle.cb_evict.proofs.Events.{touches_append, touches_more, touches_quiet, first_append, steady_append}
 use Rattle.cb_evict.proofs.Claims.{claims_append, claims_back}
@@ -27,7 +27,7 @@ pub record Gathers (runs : List Event → Type 0) (shows : Shown → Type 0) (to
   pub of : AreOf has more
   pub within : (h : ℕ) → has h → touched h
   pub each_once : AreApart more
-  pub claims : (far : FarState) → Claims shows far es more
+  pub claims : (far : FarState) → ClaimsObjects shows far es more
 
 -- the objects that are noted are none of those that others touch
 pub none_of : (has other : ℕ → Type 0) (xs ys : List Former) → AreOf has xs → AreOf other ys
@@ -83,12 +83,12 @@ of_append hasA hasB hasC xs ys a b left right split = record {
 -- claims and then more claims, of other objects, at which the first ones' objects are not looked at
 pub claims_then : {showsB : Shown → Type 0} (far : FarState) (es fs : List Event) (s : Shown)
     (xs ys : List Former)
-    → AreClaimed es s (played es s) xs × LocalSound (played es s) far × IsSteady es s
-    → showsB (played es s) → ((at : FarState) → Claims showsB at fs ys)
+    → AreClaimed es s (played es s) xs × LocalSound (played es s) far × AreSteady es s
+    → showsB (played es s) → ((at : FarState) → ClaimsObjects showsB at fs ys)
     → All (λ x. IsNone ys x.handle) xs → All (λ x. NoLook x.handle fs) xs
     → All (λ y. IsNone xs y.handle) ys
     → AreClaimed (es ++ fs) s (played (es ++ fs) s) (xs ++ ys)
-    × LocalSound (played (es ++ fs) s) far × IsSteady (es ++ fs) s
+    × LocalSound (played (es ++ fs) s) far × AreSteady (es ++ fs) s
 claims_then far es fs s xs ys x shown claims none quiet other =
     let y = claims far (played es s) shown x.1 in (
       subst (λ (u : Shown). AreClaimed (es ++ fs) s u (xs ++ ys)) (sym (played_append es fs s))

@@ -5,7 +5,7 @@ use Rattle.std.specs.List.{Contains}
 use Rattle.std.proofs.lemmas.Bool.{cases_eq, cases_lt}
 use Rattle.std.proofs.lemmas.List.{get_or_past}
 use Rattle.std.proofs.lemmas.List.Elements.{All-nil, All-cons}
-use Rattle.cb_frame.specs.FreeFrames.{IsFree, with_given}
+use Rattle.cb_frame.specs.FreeFrames.{IsFreeFrame, with_given}
 use Rattle.cb_span.specs.Contents.{Contents, handle_at}
 use Rattle.cb_span.specs.Places.{slot_place}
 use Rattle.cb_world.specs.declared.homes.Home.{Home}
@@ -84,13 +84,13 @@ given_in free (g ∷ frames) f within (suc k, l, e) =
 
 -- ---- objects that are gone
 -- the object is as it was, and the spans do not name it
-pub record IsSpared (s t : Shown) (spans : List (Option Contents)) (frames : List ℕ) (h : ℕ)
+pub record IsSparedOf (s t : Shown) (spans : List (Option Contents)) (frames : List ℕ) (h : ℕ)
     : Type 0 where
   pub object : object_at t h ≡ object_at s h
   pub absent : IsIn spans frames h → ⊥
 
 -- one of the spans names the object, which was made and lies nowhere in local memory any more
-pub record IsSentAway (t : Shown) (spans : List (Option Contents)) (frames : List ℕ) (h : ℕ)
+pub record IsSentAwayOf (t : Shown) (spans : List (Option Contents)) (frames : List ℕ) (h : ℕ)
     : Type 0 where
   pub named : IsIn spans frames h
   pub gone : (len place : ℕ) → LiesAt (object_at t h) len place → ⊥
@@ -102,7 +102,7 @@ pub record LeftMemory (s t : Shown) (spans : List (Option Contents)) (frames : L
   pub objects : length t.objects ≡ length s.objects
   pub stamped : (h : ℕ) → IsStamped (object_at t h) (version_at t h)
   pub risen : (h : ℕ) → version_at s h ≤ version_at t h
-  pub each : (h : ℕ) → IsSpared s t spans frames h ⊎ IsSentAway t spans frames h
+  pub each : (h : ℕ) → IsSparedOf s t spans frames h ⊎ IsSentAwayOf t spans frames h
 
 lies_never : (o : Object) (len place : ℕ) → LiesAt o len place → o ≡ never → ⊥
 lies_never o len place lies e = subst (λ (q : Object). LiesAt q len place) e lies
@@ -157,7 +157,7 @@ sound_gone far s t frames homes sound within x = record {
             (let n = length_given far.frames frames in omega (arith, n, below)) c),
       )
       | inr none ↦
-          subst (λ (o : Option Contents). IsFree (all_given far.frames frames) g ↔ (o ≡ None))
+          subst (λ (o : Option Contents). IsFreeFrame (all_given far.frames frames) g ↔ (o ≡ None))
           (sym (closed_else far.spans frames g none))
           (subst (λ (b : Bool). (b ≡ true) ↔ (span_in far.spans g ≡ None))
           (sym (given_else far.frames frames g none))

@@ -70,22 +70,22 @@ here_beside s far sets nodes leaving counts x = record {
 
 -- ---- objects that are not far
 -- the object is as it was, or is not far, before and after
-abbrev pub IsQuiet : Shown → Shown → ℕ → Type 0
-IsQuiet s t h = (object_at t h ≡ object_at s h)
+abbrev pub IsNotFarBoth : Shown → Shown → ℕ → Type 0
+IsNotFarBoth s t h = (object_at t h ≡ object_at s h)
     ⊎ ((is_far (object_at s h) → ⊥) × (is_far (object_at t h) → ⊥))
 
-far_then : (s t : Shown) (h len v : ℕ) (words : List ℕ) → IsQuiet s t h
+far_then : (s t : Shown) (h len v : ℕ) (words : List ℕ) → IsNotFarBoth s t h
     → object_at s h ≡ is.Far len v words → object_at t h ≡ is.Far len v words
 far_then s t h len v words (inl same) e = same ∙ e
 far_then s t h len v words (inr near) e = absurd (near.0 (was_far (object_at s h) len v words e))
 
-far_before : (s t : Shown) (h len v : ℕ) (words : List ℕ) → IsQuiet s t h
+far_before : (s t : Shown) (h len v : ℕ) (words : List ℕ) → IsNotFarBoth s t h
     → object_at t h ≡ is.Far len v words → object_at s h ≡ is.Far len v words
 far_before s t h len v words (inl same) e = sym same ∙ e
 far_before s t h len v words (inr near) e = absurd (near.1 (was_far (object_at t h) len v words e))
 
 -- the far part stays sound, where the rows of a batch that leaves stay
-pub quiet_away : (s t : Shown) (far : FarState) → ((h : ℕ) → IsQuiet s t h)
+pub quiet_away : (s t : Shown) (far : FarState) → ((h : ℕ) → IsNotFarBoth s t h)
     → ((b : LeavingState) → far.leaving ≡ Some b → batch_rows t b ≡ batch_rows s b)
     → FarSound s far → FarSound t far
 quiet_away s t far quiet rows sound = record {

@@ -1,8 +1,8 @@
 -- The lemmas of this crate that other crates cite.
 pub use Rattle.cb_evict.proofs.AbortFixed.{abort_step_fixes}
 pub use Rattle.cb_evict.proofs.AbortStep.{abort_step}
-pub use Rattle.cb_evict.proofs.AfterBegin.{begin_count, begin_keeps, begin_pinned, begin_pins, begin_settings, begin_versions}
-pub use Rattle.cb_evict.proofs.AfterEvict.{evict_keeps, evict_made, evict_pinned, evict_pins, evict_seats, evict_settings}
+pub use Rattle.cb_evict.proofs.BeginKeeps.{begin_count, begin_keeps, begin_pinned, begin_pins, begin_settings, begin_versions}
+pub use Rattle.cb_evict.proofs.EvictKeeps.{evict_keeps, evict_made, evict_pinned, evict_pins, evict_seats, evict_settings}
 pub use Rattle.cb_evict.proofs.BeginFixed.{begin_step_fixes}
 pub use Rattle.cb_evict.proofs.BeginStep.{begin_step}
 pub use Rattle.cb_evict.proofs.Claims.{among, no_former}
@@ -18,7 +18,7 @@ pub use Rattle.cb_evict.proofs.Noted.{claimed_all}
 pub use Rattle.cb_evict.proofs.ShipFixed.{ship_step_fixes}
 pub use Rattle.cb_evict.proofs.ShipStep.{ship_step, ship_stopped, ships_leaves}
 pub use Rattle.cb_evict.proofs.Standing.{named_at, names_span, ready_frame}
-pub use Rattle.cb_evict.proofs.Stays.{abort_stays, begin_stays, commit_stays, evict_stays, evict_step_stays, ship_stays}
+pub use Rattle.cb_evict.proofs.EvictStays.{abort_stays, begin_stays, commit_stays, evict_stays, evict_step_stays, ship_stays}
 pub use Rattle.cb_evict.proofs.Trying.{taken_of}
-pub use Rattle.cb_evict.proofs.Unwritten.{abort_unwritten, begin_unwritten, commit_unwritten, evict_unwritten}
+pub use Rattle.cb_evict.proofs.EvictUnwritten.{abort_unwritten, begin_unwritten, commit_unwritten, evict_unwritten}
 pub use Rattle.cb_evict.proofs.WorkedWide.{after, all_known, calm, desk, far, known, none_known, step}

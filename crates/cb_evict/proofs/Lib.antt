@@ -23,14 +23,14 @@ pub mod Gone
 mod Group
 mod PutAway
 mod TakenGroup
-mod Evicts
+mod EvictSound
 mod Ending
 mod Restored
 pub mod Composed
 mod LooseSpans
 pub mod FrameRows
 pub mod EvictStep
-pub mod AfterEvict
+pub mod EvictKeeps
 mod SmallWorlds
 mod WorkedLoose
 mod WorkedEvict
@@ -40,23 +40,23 @@ mod WorkedSetMade
 mod WorkedShip
 mod Restores
 pub mod Noted
-mod Aborted
+mod AbortSound
 mod SmallWords
 mod NamesShards
-mod BatchCommitted
+mod CommitSound
 pub mod AbortStep
 pub mod WhichWait
 mod BatchReady
 mod Commits
 pub mod CommitStep
-pub mod Stays
-pub mod Unwritten
+pub mod EvictStays
+pub mod EvictUnwritten
 mod WorkedEnds
-pub mod Begun
+pub mod BeginSound
 pub mod BeginParts
 mod BeginEnd
 pub mod BeginStep
-pub mod AfterBegin
+pub mod BeginKeeps
 pub mod EvictFixed
 pub mod EvictionFixed
 pub mod BeginFixed
@@ -67,7 +67,7 @@ mod WorkedTaking
 mod WorkedRules
 pub mod WorkedWide
 pub mod PutShards
-pub mod ShippedFar
+pub mod ShipSound
 pub mod ShipParts
 pub mod ShipStep
 pub mod ShipFixed

@@ -13,11 +13,11 @@ use Rattle.cb_world.specs.Shown.{Owns}
 use Rattle.cb_world.specs.Memory.{window}
 use Rattle.cb_world.specs.Played.{Agree}
 use Rattle.cb_world.specs.FrameWords.{ReadsFrame, loads_from}
-use Rattle.cb_evict.specs.Loading.{LiesIn, OnlyLoads, IsRowOf, LoadsFrame}
+use Rattle.cb_evict.specs.Loading.{LiesInFrame, OnlyLoads, IsRowOfFrame, LoadsFrame}
 
 -- ---- the words of a frame
 reads_frame : (f p : ℕ) (ws : List ℕ) → 512 * f ≤ p → p + length ws ≤ 512 * f + 512
-    → OnlyLoads (LiesIn f) (loads_from p ws)
+    → OnlyLoads (LiesInFrame f) (loads_from p ws)
 reads_frame f p [] low high = tt
 reads_frame f p (w ∷ ws) low high = (
   (low, omega (arith, high)),
@@ -74,26 +74,27 @@ row_else rows p q bytes lengths wide within off =
 -- one frame more was read
 pub frame_read : (showsA showsB : Shown → Type 0) (frames : List ℕ) (p : ℕ)
     (rows : List (List ℕ)) (bytes : List ℕ)
-    → ((q f : ℕ) → q < p → slice_get frames q ≡ Some f → IsRowOf showsA f (row_at rows q))
-    → IsRowOf showsB (get_or frames p 0) bytes → ((s : Shown) → showsA s → showsB s)
+    → ((q f : ℕ) → q < p → slice_get frames q ≡ Some f → IsRowOfFrame showsA f (row_at rows q))
+    → IsRowOfFrame showsB (get_or frames p 0) bytes → ((s : Shown) → showsA s → showsB s)
     → HaveLength 4096 rows → length bytes ≡ 4096 → p < length rows
     → (q f : ℕ) → q < p + 1 → slice_get frames q ≡ Some f
-    → IsRowOf showsA f (row_at (with_row rows p bytes) q)
+    → IsRowOfFrame showsA f (row_at (with_row rows p bytes) q)
 frame_read showsA showsB frames p rows bytes a x back lengths wide within q f below at =
     elim (cases_eq q p) [
       | inl e ↦
           let same : get_or frames p 0 ≡ f =
           get_or_from_slice_get frames p f 0 (subst (λ (n : ℕ). slice_get frames n ≡ Some f) e at) in
-          subst (λ (n : ℕ). IsRowOf showsA f (row_at (with_row rows p bytes) n)) (sym e)
-          (subst (IsRowOf showsA f) (sym (row_here rows p bytes lengths wide within))
-          (subst (λ (n : ℕ). IsRowOf showsA n bytes) same (record {
+          subst (λ (n : ℕ). IsRowOfFrame showsA f (row_at (with_row rows p bytes) n)) (sym e)
+          (subst (IsRowOfFrame showsA f) (sym (row_here rows p bytes lengths wide within))
+          (subst (λ (n : ℕ). IsRowOfFrame showsA n bytes) same (record {
             words = x.words;
             count = x.count;
             small = x.small;
             made = x.made;
             contents = λ s b owns. x.contents s (back s b) owns;
           })))
-      | inr off ↦ subst (IsRowOf showsA f) (sym (row_else rows p q bytes lengths wide within off))
+      | inr off ↦ subst (IsRowOfFrame showsA f)
+          (sym (row_else rows p q bytes lengths wide within off))
           (a q f (omega (arith, below, off)) at)
     ]
 

@@ -12,31 +12,33 @@ use Rattle.cb_world.specs.Looks.{NoLook, IsFound}
 use Rattle.cb_world.specs.Grasped.{IsFree}
 use Rattle.cb_world.specs.FarState.{span_in, handle_in}
 use Rattle.cb_world.proofs.Laws.{found_more}
-use Rattle.cb_evict.specs.Candidates.{Names, IsLoose, IsSeen, IsBarred, IsHeldUp, AreLoose, AreUnique}
+use Rattle.cb_evict.specs.Candidates.{SpanNames, IsLoose, IsSeen, IsBarred, IsHeldUp, AreLoose, AreUnique}
 use Rattle.cb_evict.specs.Events.{TouchesOnly}
-use Rattle.cb_evict.specs.Looking.{Has, IsIn}
+use Rattle.cb_evict.specs.Looking.{IsIn, SpanHas}
 use Rattle.cb_evict.proofs.Homing.{none_before, span_slots}
 use Rattle.cb_evict.proofs.Events.{touches_quiet, found_after, found_on}
 
 -- ---- the names of a span
 pub has_names : (spans : List (Option Contents)) (f h : ℕ) (span : Contents)
-    → span_in spans f ≡ Some span → Has span h → Names spans f h
+    → span_in spans f ≡ Some span → SpanHas span h → SpanNames spans f h
 has_names spans f h span there (slot, named) =
     (slot, ap (λ (o : Option Contents). handle_in o slot) there ∙ named)
 
 pub names_has : (spans : List (Option Contents)) (f h : ℕ) (span : Contents)
-    → span_in spans f ≡ Some span → Names spans f h → Has span h
+    → span_in spans f ≡ Some span → SpanNames spans f h → SpanHas span h
 names_has spans f h span there (slot, named) =
     (slot, sym (ap (λ (o : Option Contents). handle_in o slot) there) ∙ named)
 
 -- ---- one span
 pub loose_more : (spans : List (Option Contents)) (f : ℕ) (es fs : List Event)
-    → ((h : ℕ) → Names spans f h → NoLook h fs) → IsLoose es spans f → IsLoose (es ++ fs) spans f
+    → ((h : ℕ) → SpanNames spans f h → NoLook h fs) → IsLoose es spans f
+    → IsLoose (es ++ fs) spans f
 loose_more spans f es fs quiet a h named =
     let x = a h named in (x.0, found_more h x.0 es fs x.1 (quiet h named), x.2)
 
 pub held_more : (spans : List (Option Contents)) (f : ℕ) (es fs : List Event)
-    → ((h : ℕ) → Names spans f h → NoLook h fs) → IsHeldUp es spans f → IsHeldUp (es ++ fs) spans f
+    → ((h : ℕ) → SpanNames spans f h → NoLook h fs) → IsHeldUp es spans f
+    → IsHeldUp (es ++ fs) spans f
 held_more spans f es fs quiet a = let b = a.barred in record {
   seen = λ h named. let x = a.seen h named in (x.0, found_more h x.0 es fs x.1 (quiet h named));
   barred = (b.0, b.1, b.2, found_more b.0 b.1 es fs b.3 (quiet b.0 b.2), b.4);
@@ -59,7 +61,7 @@ held_after spans f es fs a = record {
 
 -- a span with one object, which can't be claimed
 pub held_alone : (spans : List (Option Contents)) (f : ℕ) (es : List Event) (h w : ℕ)
-    → ((k : ℕ) → Names spans f k → h ≡ k) → Names spans f h → IsFound h w es → ¬ (IsFree w)
+    → ((k : ℕ) → SpanNames spans f k → h ≡ k) → SpanNames spans f h → IsFound h w es → ¬ (IsFree w)
     → IsHeldUp es spans f
 held_alone spans f es h w only named found held = record {
   seen = λ k n. (w, subst (λ (j : ℕ). IsFound j w es) (only k n) found);
@@ -120,7 +122,7 @@ held_push es spans (h ∷ frames) (g ∷ loose) f (inr a) x =
 
 -- what is not looked at again stays as it was found
 pub all_quiet : (es fs : List Event) (spans : List (Option Contents)) (frames loose : List ℕ)
-    → ((f : ℕ) → Contains frames f → (h : ℕ) → Names spans f h → NoLook h fs)
+    → ((f : ℕ) → Contains frames f → (h : ℕ) → SpanNames spans f h → NoLook h fs)
     → AreLoose es spans frames loose → AreLoose (es ++ fs) spans frames loose
 all_quiet es fs spans [] [] quiet a = tt
 all_quiet es fs spans [] (g ∷ loose) quiet a = a
@@ -150,20 +152,20 @@ apart_tail f frames apart i j d less within =
 
 -- the spans in other frames are not looked at
 pub others_quiet : (spans : List (Option Contents)) (n x : ℕ) (fs : List Event) → AreUnique spans n
-    → TouchesOnly (Names spans x) (λ p. ⊥) fs → (f : ℕ) → f ≢ x → (h : ℕ) → Names spans f h → NoLook h fs
+    → TouchesOnly (SpanNames spans x) (λ p. ⊥) fs → (f : ℕ) → f ≢ x → (h : ℕ) → SpanNames spans f h → NoLook h fs
 others_quiet spans n x fs unique touches f off h named =
-    touches_quiet (Names spans x) (λ p. ⊥) h fs (λ other. off (unique.one_frame f x h named other)) touches
+    touches_quiet (SpanNames spans x) (λ p. ⊥) h fs (λ other. off (unique.one_frame f x h named other)) touches
 
 -- the frames behind x are others
 tail_quiet : (spans : List (Option Contents)) (n x : ℕ) (fs : List Event) (frames : List ℕ)
-    → AreUnique spans n → TouchesOnly (Names spans x) (λ p. ⊥) fs → (Contains frames x → ⊥)
-    → (f : ℕ) → Contains frames f → (h : ℕ) → Names spans f h → NoLook h fs
+    → AreUnique spans n → TouchesOnly (SpanNames spans x) (λ p. ⊥) fs → (Contains frames x → ⊥)
+    → (f : ℕ) → Contains frames f → (h : ℕ) → SpanNames spans f h → NoLook h fs
 tail_quiet spans n x fs frames unique touches none f c =
     others_quiet spans n x fs unique touches f (λ e. none (subst (Contains frames) e c))
 
 -- it is loose still
 pub loose_kept : (es fs : List Event) (spans : List (Option Contents)) (n x : ℕ)
-    (frames loose : List ℕ) → AreUnique spans n → TouchesOnly (Names spans x) (λ p. ⊥) fs
+    (frames loose : List ℕ) → AreUnique spans n → TouchesOnly (SpanNames spans x) (λ p. ⊥) fs
     → AllPairs (λ f g. f ≢ g) frames → IsLoose (es ++ fs) spans x → Contains loose x
     → AreLoose es spans frames loose → AreLoose (es ++ fs) spans frames loose
 loose_kept es fs spans n x [] [] unique touches apart now among a = tt
@@ -198,7 +200,7 @@ middle (c ∷ chosen) x rest = contains_tail c x (chosen ++ x ∷ rest) (middle 
 
 -- an object of it can't be claimed
 pub loose_lost : (es fs : List Event) (spans : List (Option Contents)) (n x : ℕ)
-    (frames chosen rest : List ℕ) → AreUnique spans n → TouchesOnly (Names spans x) (λ p. ⊥) fs
+    (frames chosen rest : List ℕ) → AreUnique spans n → TouchesOnly (SpanNames spans x) (λ p. ⊥) fs
     → AllPairs (λ f g. f ≢ g) frames → IsBarred (es ++ fs) spans x
     → AreLoose es spans frames (chosen ++ x ∷ rest)
     → AreLoose (es ++ fs) spans frames (chosen ++ rest)
@@ -233,7 +235,7 @@ loose_lost es fs spans n x (f ∷ frames) (g ∷ chosen) rest unique touches apa
 
 -- the objects of a span have handles below so many, each in one slot
 pub span_below : (spans : List (Option Contents)) (f n : ℕ) (span : Contents)
-    → span_in spans f ≡ Some span → AreUnique spans n → (h : ℕ) → Has span h → h < n
+    → span_in spans f ≡ Some span → AreUnique spans n → (h : ℕ) → SpanHas span h → h < n
 span_below spans f n span there unique h has = unique.below f h (has_names spans f h span there has)
 
 pub span_once : (spans : List (Option Contents)) (f n : ℕ) (span : Contents)
@@ -247,7 +249,7 @@ pub in_more : (spans : List (Option Contents)) (frames : List ℕ) (f h : ℕ) �
     → IsIn spans (frames ++ f ∷ []) h
 in_more spans frames f h (g, c, named) = (g, Contains-append_left frames (f ∷ []) g c, named)
 
-pub in_last : (spans : List (Option Contents)) (frames : List ℕ) (f h : ℕ) → Names spans f h
+pub in_last : (spans : List (Option Contents)) (frames : List ℕ) (f h : ℕ) → SpanNames spans f h
     → IsIn spans (frames ++ f ∷ []) h
 in_last spans frames f h named = (f, Contains-push frames f, named)
 
@@ -261,7 +263,7 @@ not_before frames i apart within (k, l, e) =
 pub frame_looked : (spans : List (Option Contents)) (n : ℕ) (frames : List ℕ) (i : ℕ)
     (es fs : List Event) (old new : List ℕ) → AreUnique spans n → AllPairs (λ f g. f ≢ g) frames
     → i < length frames → AreLoose es spans (take i frames) old
-    → TouchesOnly (Names spans (get_or frames i 0)) (λ p. ⊥) fs
+    → TouchesOnly (SpanNames spans (get_or frames i 0)) (λ p. ⊥) fs
     → (IsLoose fs spans (get_or frames i 0) × (new ≡ old ++ get_or frames i 0 ∷ []))
     ⊎ (IsHeldUp fs spans (get_or frames i 0) × (new ≡ old))
     → AreLoose (es ++ fs) spans (take i frames ++ get_or frames i 0 ∷ []) new

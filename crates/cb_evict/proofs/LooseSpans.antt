@@ -17,7 +17,7 @@ use Rattle.cb_world.specs.Plain.{Words, Plain}
 use Rattle.cb_world.specs.World.{word_at}
 use Rattle.cb_world.proofs.Laws.{found_exact}
 use Rattle.cb_evict.specs.Candidates.{candidates, IsLoose, IsHeldUp, AreLoose}
-use Rattle.cb_evict.specs.Looking.{Has}
+use Rattle.cb_evict.specs.Looking.{SpanHas}
 use Rattle.cb_evict.specs.EvictStep.{is_here, is_slot_loose, is_loose, loose_frames}
 use Rattle.cb_evict.proofs.Loose.{has_names, names_has, contains_head, contains_tail}
 use Rattle.cb_evict.proofs.Standing.{is_standing}
@@ -63,7 +63,7 @@ slot_below span slot h named = elim (cases_lt slot (length span.slots)) [
   | inr past ↦ absurd (none_some h (sym (get_or_past span.slots slot None past) ∙ named))
 ]
 
-span_passes : (x : Words) (span : Contents) → ((h : ℕ) → Has span h → IsFree (word_at x h))
+span_passes : (x : Words) (span : Contents) → ((h : ℕ) → SpanHas span h → IsFree (word_at x h))
     → is_loose x (Some span) ≡ true
 span_passes x span free = list_all-from_AllPass (is_slot_loose x) span.slots
     (λ k d below. slot_passes x (get_or span.slots k d)
@@ -71,13 +71,13 @@ span_passes x span free = list_all-from_AllPass (is_slot_loose x) span.slots
 
 -- each object of a loose span can be claimed
 pub loose_free : (x : Words) (span : Contents) (h : ℕ) → is_loose x (Some span) ≡ true
-    → Has span h → IsFree (word_at x h)
+    → SpanHas span h → IsFree (word_at x h)
 loose_free x span h loose (slot, named) =
     passes_free (word_at x h) (sym (ap (is_slot_loose x) named)
     ∙ AllPass-from_list_all (is_slot_loose x) span.slots loose slot None
     (slot_below span slot h named))
 
-span_fails : (x : Words) (span : Contents) (h : ℕ) → Has span h → ¬ (IsFree (word_at x h))
+span_fails : (x : Words) (span : Contents) (h : ℕ) → SpanHas span h → ¬ (IsFree (word_at x h))
     → is_loose x (Some span) ≡ false
 span_fails x span h (slot, named) held =
     list_all_at (is_slot_loose x) span.slots slot None (slot_below span slot h named)

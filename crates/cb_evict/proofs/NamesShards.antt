@@ -51,7 +51,7 @@ insert_over sets new id kept others =
     by q (inr off) = ap (cond (eq_by_cmp nat_cmp q id) (Some kept)) (others q off)
 
 -- the shards of the first p positions are named in the kept set
-pub record AreNamed (old sets : SetMap) (id : ℕ) (kept : Kept) (shards : List (Option Shard))
+pub record AreShardsNamed (old sets : SetMap) (id : ℕ) (kept : Kept) (shards : List (Option Shard))
     (p : ℕ) (named : List Shard) : Type 0 where
   pub there : map.get sets id ≡ Some (with_shards kept named)
   pub count : length named ≡ length kept.set.shards
@@ -59,7 +59,7 @@ pub record AreNamed (old sets : SetMap) (id : ℕ) (kept : Kept) (shards : List 
   pub at : (q : ℕ) (d : Shard) → q < p → get_or shards q None ≡ Some (get_or named q d)
 
 pub named_none : (sets : SetMap) (id : ℕ) (kept : Kept) (shards : List (Option Shard))
-    → map.get sets id ≡ Some kept → AreNamed sets sets id kept shards 0 kept.set.shards
+    → map.get sets id ≡ Some kept → AreShardsNamed sets sets id kept shards 0 kept.set.shards
 named_none sets id kept shards e = record {
   there = e;
   count = refl;
@@ -68,10 +68,10 @@ named_none sets id kept shards e = record {
 }
 
 pub named_more : (old sets new : SetMap) (id : ℕ) (kept : Kept) (shards : List (Option Shard))
-    (p : ℕ) (named : List Shard) (shard : Shard) → AreNamed old sets id kept shards p named
+    (p : ℕ) (named : List Shard) (shard : Shard) → AreShardsNamed old sets id kept shards p named
     → p < length kept.set.shards → get_or shards p None ≡ Some shard
     → new ≡ map.insert sets id (with_shards kept (set named p shard))
-    → AreNamed old new id kept shards (p + 1) (set named p shard)
+    → AreShardsNamed old new id kept shards (p + 1) (set named p shard)
 named_more old sets new id kept shards p named shard a within here e = record {
   there = ap (λ (m : SetMap). map.get m id) e
       ∙ insert_here sets id (with_shards kept (set named p shard));

@@ -17,7 +17,7 @@ use Rattle.cb_set.specs.Nodes.{OnDistinctNodes}
 use Rattle.cb_span.specs.Contents.{Contents}
 use Rattle.cb_world.specs.declared.shown.Shown.{Shown}
 use Rattle.cb_world.specs.FarState.{FarState, span_in, resident, handle_in}
-use Rattle.cb_world.specs.FarSound.{AreRows, AwaySound}
+use Rattle.cb_world.specs.FarSound.{AreShardRows, AwaySound}
 use Rattle.cb_world.specs.LocalSound.{LocalSound}
 use Rattle.cb_world.specs.SetWord.{AreCurrent}
 use Rattle.cb_world.specs.Reserved.{table_of, position_for}
@@ -67,7 +67,8 @@ shards_distinct far n shards a i j d less within same =
     false≢true (sym (a.each j x at).node.may.spare ∙ stands)
 
 -- no row is under their keys
-pub can_put : (far : FarState) (n : ℕ) (shards : List Shard) → AreShards far n shards → AreRows far
+pub can_put : (far : FarState) (n : ℕ) (shards : List Shard) → AreShards far n shards
+    → AreShardRows far
     → CanPut far.nodes shards
 can_put far n shards a rows = record {
   within = shards_within far n shards a;
@@ -86,13 +87,13 @@ have_room far n shards a = record {
 
 -- none of them is lost
 pub shards_up : (far : FarState) (n : ℕ) (shards : List Shard) → AreShards far n shards
-    → AreRows far → (p : ℕ) (shard : Shard) → slice_get shards p ≡ Some shard
+    → AreShardRows far → (p : ℕ) (shard : Shard) → slice_get shards p ≡ Some shard
     → is_lost far.members shard ≡ false
 shards_up far n shards a rows p shard at =
     up_is_kept far shard rows (shard_up far n shards a p shard at)
 
 pub shards_current : (far : FarState) (n : ℕ) (shards : List Shard) → AreShards far n shards
-    → AreRows far → AreCurrent far.members shards
+    → AreShardRows far → AreCurrent far.members shards
 shards_current far n shards a rows p shard at =
     up_is_current far shard rows (shard_up far n shards a p shard at)
 

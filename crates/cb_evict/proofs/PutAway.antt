@@ -12,7 +12,7 @@ use Rattle.cb_gf256.specs.InRange.{IsInRange}
 use Rattle.cb_gf256.specs.Rows.{row_at}
 use Rattle.cb_member.specs.declared.names.NodeId.{NodeId}
 use Rattle.cb_member.specs.declared.names.Shard.{Shard}
-use Rattle.cb_node.specs.NodesState.{NodesState, row_at as row_under}
+use Rattle.cb_node.specs.NodesState.{NodesState, row_under}
 use Rattle.cb_ptr.specs.Word.{len_of, place_of}
 use Rattle.cb_set.specs.Lost.{is_lost}
 use Rattle.cb_set.specs.Nodes.{OnDistinctNodes}
@@ -34,13 +34,13 @@ use Rattle.cb_world.specs.Now.{broken_set, broken_home, now}
 use Rattle.cb_world.specs.Reserved.{IsUnpaired, set_from, table_of}
 use Rattle.cb_world.specs.RowWords.{words_in}
 use Rattle.cb_world.specs.Rooms.{KeepRoom}
-use Rattle.cb_world.specs.SetAdded.{is_far, IsMoved, IsSetAdded}
+use Rattle.cb_world.specs.SetAdded.{is_far, IsMovedIntoSet, IsSetAdded}
 use Rattle.cb_world.specs.Stored.{NoKey}
 use Rattle.cb_world.specs.Sets.{Kept, SetMap, if_committed, set_in}
 use Rattle.cb_world.specs.SetWord.{AreCurrent, IsSpanWord}
 use Rattle.cb_world.specs.Sound.{AreNoted, IsLeaving, IsNoted, Sound}
 use Rattle.cb_world.proofs.Laws.{frame_in_range, put_away_now, now_kept, added_whole, noted_by}
-use Rattle.cb_evict.specs.Candidates.{Names}
+use Rattle.cb_evict.specs.Candidates.{SpanNames}
 use Rattle.cb_evict.specs.Claims.{IsNone}
 use Rattle.cb_evict.specs.Closing.{HaveHomes, with_homes}
 use Rattle.cb_evict.specs.Looking.{IsIn}
@@ -63,7 +63,8 @@ away_far far batch sets nodes counts homes =
     with_homes (record far { sets = sets; nodes = nodes; counts = counts }) batch.frames homes
 
 -- the objects of the group are away, and the rows, which are a word, stand under the shards
-pub record IsPutAway (t u : Shown) (far : FarState) (batch : LeavingState) (shards : List Shard)
+pub record IsGroupPutAway (t u : Shown) (far : FarState) (batch : LeavingState)
+    (shards : List Shard)
     (sets : SetMap) (nodes : NodesState) (counts : CountsState) (homes : List (Option Home))
     : Type 0 where
   pub group : IsGroup t far batch
@@ -100,7 +101,7 @@ pub record IsPutAway (t u : Shown) (far : FarState) (batch : LeavingState) (shar
 
 module _ (t u : Shown) (far : FarState) (batch : LeavingState) (shards : List Shard)
     (sets : SetMap) (nodes : NodesState) (counts : CountsState) (homes : List (Option Home))
-    (d : IsPutAway t u far batch shards sets nodes counts homes) where
+    (d : IsGroupPutAway t u far batch shards sets nodes counts homes) where
   pub is_sent : (h : ℕ) → (n : IsNoted t batch h)
       → object_at u h ≡ is.Far (len_of n.former.word) n.version n.words
   is_sent h n =
@@ -151,7 +152,7 @@ module _ (t u : Shown) (far : FarState) (batch : LeavingState) (shards : List Sh
       }
 
   moved : (h : ℕ) → IsIn far.spans batch.frames h
-      → IsMoved t u far (away_far far batch sets nodes counts homes) batch.set
+      → IsMovedIntoSet t u far (away_far far batch sets nodes counts homes) batch.set
       (put_set far batch shards) (batch_rows t batch) h
   moved h (f, (p, within, at), (slot, is)) =
       let n = d.group.each h (f, (p, within, at), (slot, is)) in
@@ -298,7 +299,7 @@ module _ (t u : Shown) (far : FarState) (batch : LeavingState) (shards : List Sh
       → IsNone batch.words h
   leaving_none b there f slot h span leaves at named = elim (either t far batch d.group h) [
     | inl x ↦
-        let mine : Names far.spans f h =
+        let mine : SpanNames far.spans f h =
         (slot, ap (λ (o : Option Contents). handle_in o slot) at ∙ named) in
         absurd (d.group.out b there f leaves (subst (Contains batch.frames)
         ((unique t far batch d.group).one_frame x.0 f h x.2 mine) x.1))

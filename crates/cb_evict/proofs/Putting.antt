@@ -6,7 +6,7 @@ use Rattle.std.proofs.lemmas.List.{take_more, length-take-le}
 use Rattle.std.proofs.lemmas.Option.{slice_get_within, slice_get-get_or, get_or_from_slice_get}
 use Rattle.cb_member.specs.declared.names.NodeId.{NodeId}
 use Rattle.cb_member.specs.declared.names.Shard.{Shard}
-use Rattle.cb_node.specs.NodesState.{NodesState, has, held, rows_at, with_row, with_dropped}
+use Rattle.cb_node.specs.NodesState.{NodesState, has, held, rows_of_node, with_row, with_dropped}
 use Rattle.cb_node.proofs.Laws.{other_nodes_hold_as_many, put_then_dropped}
 use Rattle.cb_world.specs.Stored.{all_put}
 use Rattle.cb_world.proofs.Laws.{put_elsewhere}
@@ -86,7 +86,7 @@ held_elsewhere nodes (x ∷ xs) [] node off = refl
 held_elsewhere nodes (x ∷ xs) (row ∷ rows) node off =
     held_elsewhere (with_row nodes x.node x.key row) xs rows node
     (λ p other at. off (suc p) other at)
-    ∙ other_nodes_hold_as_many nodes x.node node (map.insert (rows_at nodes x.node) x.key row)
+    ∙ other_nodes_hold_as_many nodes x.node node (map.insert (rows_of_node nodes x.node) x.key row)
     (off 0 x refl)
 
 -- the node of the next row has room still

@@ -17,20 +17,20 @@ use Rattle.cb_evict.specs.Candidates.{candidates}
 use Rattle.cb_evict.specs.Claims.{AreClaimed, AreBack}
 use Rattle.cb_evict.specs.CallPart.{Settles}
 use Rattle.cb_evict.specs.Claiming.{GivesBack, IsOne}
-use Rattle.cb_evict.specs.Events.{TouchesOnly, OnlyLooks, IsSteady}
-use Rattle.cb_evict.specs.Evicting.{EndsClaimed, IsEnded, IsReady, LeavesClaimed, ReadsFrames}
+use Rattle.cb_evict.specs.Events.{TouchesOnly, OnlyLooks, AreSteady}
+use Rattle.cb_evict.specs.Evicting.{EndsClaimed, IsEnded, IsReadyToEvict, LeavesClaimed, ReadsFrames}
 use Rattle.cb_evict.specs.Loading.{LiesInOne}
 use Rattle.cb_evict.specs.Looking.{IsIn}
 use Rattle.cb_world.specs.Still.{IsStill}
 use Rattle.cb_evict.proofs.Claims.{claims_back, sound_hots}
 use Rattle.cb_evict.proofs.CallParts.{Joins, part_then, reads_part}
-use Rattle.cb_evict.proofs.Ending.{IsEnd, end_allowed, end_in, end_played, end_quiet, one_in, spans_touched}
+use Rattle.cb_evict.proofs.Ending.{IsEvictEnd, end_allowed, end_in, end_played, end_quiet, one_in, spans_touched}
 use Rattle.cb_evict.proofs.Events.{are_reads, told_words, steady_append, looks_steady, looks_change}
 use Rattle.cb_evict.proofs.Owned.{frame_stays}
 
 -- nothing changed
 pub restored : (far : FarState) (es : List Event) (s : Shown) (o p : ℕ → Type 0) → Sound s far
-    → AreClaimed es s (played es s) [] → LocalSound (played es s) far → IsSteady es s
+    → AreClaimed es s (played es s) [] → LocalSound (played es s) far → AreSteady es s
     → TouchesOnly o p es → IsStill es s (played es s) × Sound (played es s) far
 restored far es s o p sound claimed here steady touches =
     let t = played es s in
@@ -75,9 +75,10 @@ looked far es s sound looks =
 -- a batch that was claimed is given back
 pub batch_back : (far : FarState) (formers : List Former) (q o p : ℕ → Type 0)
     (before ls bs : List Event) (s : Shown) → Sound s far
-    → AreClaimed before s (played before s) formers → IsSteady before s → IsEnd q formers ls bs
+    → AreClaimed before s (played before s) formers → AreSteady before s
+    → IsEvictEnd q formers ls bs
     → AreBack (played before s) (played bs (played before s)) formers
-    → LocalSound (played bs (played before s)) far → IsSteady bs (played before s)
+    → LocalSound (played bs (played before s)) far → AreSteady bs (played before s)
     → TouchesOnly o p (before ++ (ls ++ bs))
     → IsStill (before ++ (ls ++ bs)) s (played (before ++ (ls ++ bs)) s)
     × Sound (played (before ++ (ls ++ bs)) s) far
@@ -89,7 +90,7 @@ batch_back far formers q o p before ls bs s sound claimed steady e back here aft
     (claims_back before (ls ++ bs) s t u formers claimed back))
     (subst (λ (v : Shown). LocalSound v far) (sym same) here)
     (steady_append before (ls ++ bs) s steady (steady_append ls bs t (e.reads.steady t)
-    (subst (IsSteady bs) (sym (e.reads.stays t)) after)))
+    (subst (AreSteady bs) (sym (e.reads.stays t)) after)))
     touches
 
 -- words are read, and then claimed objects are settled
@@ -98,17 +99,17 @@ pub settled_end : {runsA runsB runsC : List Event → Type 0} {showsA showsB : S
     (frames : List ℕ) (formers : List Former) → Joins runsA runsB runsC showsA showsB
     → All (λ f. IsIn far.spans frames f.handle) formers → (x : ReadsFrames runsA frames)
     → (y : Settles runsB (IsOne formers) (λ p. ⊥) so)
-    → (IsEnd (LiesInOne frames) formers x.0 y.events → (before : List Event) (s : Shown)
-    → IsReady showsA far formers before s → showsB (played before s)
+    → (IsEvictEnd (LiesInOne frames) formers x.0 y.events → (before : List Event) (s : Shown)
+    → IsReadyToEvict showsA far formers before s → showsB (played before s)
     → IsEnded new before (x.0 ++ y.events) s ends does)
     → EndsClaimed runsC showsA far new frames formers ends does
 settled_end {showsA = showsA} {showsB = showsB} {ends = ends} {does = does} far new frames formers j only x y ended =
     let reads = are_reads (LiesInOne frames) x.0 x.2 in
-    let end : IsEnd (LiesInOne frames) formers x.0 y.events =
+    let end : IsEvictEnd (LiesInOne frames) formers x.0 y.events =
     record { reads = reads; touches = y.touches; quiet = y.done.0 } in
     part_then (IsIn far.spans frames) (LiesInOne frames)
     (λ es. ((k : ℕ) → NoLook k es) × ((before : List Event) (s : Shown)
-    → IsReady showsA far formers before s → IsEnded new before es s ends does)) j
+    → IsReadyToEvict showsA far formers before s → IsEnded new before es s ends does)) j
     (reads_part x.0 x.1 reads) y (λ h e. absurd e) (λ p l. l)
     (one_in far frames formers only) (λ p e. absurd e) (inr (λ h e. absurd e)) (
       end_quiet (LiesInOne frames) formers x.0 y.events end,

@@ -21,7 +21,7 @@ use Rattle.cb_world.proofs.Laws.{may_put_back, settled_here, back_written, playe
 use Rattle.cb_world.specs.Looks.{NoLook}
 use Rattle.cb_evict.specs.Claims.{AreApart, AreBack, IsHeldAt}
 use Rattle.cb_evict.specs.Claiming.{IsOne}
-use Rattle.cb_evict.specs.Events.{TouchesOnly, IsSteady}
+use Rattle.cb_evict.specs.Events.{TouchesOnly, AreSteady}
 use Rattle.cb_evict.specs.Restoring.{IsClaimedFrom, IsHereAt, AreRestored, IsRestoring}
 use Rattle.cb_evict.proofs.ChangedObjects.{changed_none, changed_more, settled_at}
 use Rattle.cb_evict.proofs.Claims.{among, claimed_here, no_former, none_earlier, sound_lies}
@@ -141,7 +141,7 @@ claimed_from s fs warm held i d within = let x = held i d within in record {
 pub back_from : (far : FarState) (es : List Event) (s : Shown) (fs : List Former)
     → All (IsHeldAt s) fs → IsRestoring far es s fs → TouchesOnly (IsOne fs) (λ p. ⊥) es
     → ((k : ℕ) → NoLook k es)
-    → AreBack s (played es s) fs × LocalSound (played es s) far × IsSteady es s
+    → AreBack s (played es s) fs × LocalSound (played es s) far × AreSteady es s
 back_from far es s fs held r touches quiet =
     let t = played es s in let a = r.restored in
     let hots : t.hots ≡ s.hots = ext_get_or false t.hots s.hots a.heat (λ h below. hot h) in (

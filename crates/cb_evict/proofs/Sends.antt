@@ -13,12 +13,12 @@ use Rattle.cb_world.specs.Settling.{MaySettle, MaySettleAs, MayPutAway}
 use Rattle.cb_world.specs.Played.{after, settled_by}
 use Rattle.cb_world.specs.Written.{Writes, adds_as}
 use Rattle.cb_evict.specs.Claims.{AreApart}
-use Rattle.cb_evict.specs.Sending.{IsTold, IsSent, AreSent}
+use Rattle.cb_evict.specs.Sending.{IsFormerTold, IsSent, AreSent}
 use Rattle.cb_evict.proofs.ChangedObjects.{changed_more, settled_at}
 use Rattle.cb_evict.proofs.Claims.{none_earlier}
 
 -- a claimed object may be settled as away
-pub may_send : (s : Shown) (f : Former) (n : ℕ) → IsTold s f → IsFarWord (len_of f.word) n
+pub may_send : (s : Shown) (f : Former) (n : ℕ) → IsFormerTold s f → IsFarWord (len_of f.word) n
     → MaySettle s f.handle n
 may_send s f n x far =
     subst (λ (q : State). MaySettleAs q s f.handle n) (sym far.state)
@@ -32,7 +32,8 @@ sent_written s h n len far old =
 
 -- the next object is claimed still
 pub still_told : (s t : Shown) (fs : List Former) (i : ℕ) (d : Former) → AreApart fs
-    → i < length fs → All (IsTold s) fs → AreSent s t (take i fs) → IsTold t (get_or fs i d)
+    → i < length fs → All (IsFormerTold s) fs → AreSent s t (take i fs)
+    → IsFormerTold t (get_or fs i d)
 still_told s t fs i d apart within told a =
     let x = told i d within in
     let same = a.others (get_or fs i d).handle (none_earlier fs i d apart within) in record {
@@ -46,7 +47,7 @@ still_told s t fs i d apart within told a =
 
 -- one object more is sent
 pub sent_more : (s t : Shown) (fs : List Former) (i n : ℕ) (d : Former) → AreApart fs
-    → i < length fs → All (IsTold s) fs → AreSent s t (take i fs)
+    → i < length fs → All (IsFormerTold s) fs → AreSent s t (take i fs)
     → IsFarWord (len_of (get_or fs i d).word) n
     → AreSent s (after (Settled (get_or fs i d).handle n) t) (take (i + 1) fs)
 sent_more s t fs i n d apart within told a far =

@@ -10,7 +10,7 @@ use Rattle.cb_world.specs.FarState.{FarState}
 use Rattle.cb_world.specs.Leaving.{LeavingState}
 use Rattle.cb_world.specs.Plain.{Words}
 use Rattle.cb_world.proofs.Laws.{IsOneEnd, least_node_fixed, refused_alike, some_same}
-use Rattle.cb_evict.specs.ShipRule.{HasNoNode, HasShipped, Ships, other_puts, with_shipped}
+use Rattle.cb_evict.specs.ShipRule.{HasNoNode, HasShipped, ShipsRow, other_puts, with_shipped}
 use Rattle.cb_evict.specs.ShipStep.{IsShipStep, rows_at_desk}
 use Rattle.cb_evict.specs.Waiting.{least_waiting}
 use Rattle.cb_evict.proofs.BeginFixed.{leaving_or_not}
@@ -71,7 +71,7 @@ module _ (x y z : Words) (far new other : FarState) (r q : Reply) (left : y ≡ 
       (λ i. other_puts (batches i).shards (at i)) b.named.node in
       a.none b.shard.node node.may
 
-  pub ships_fixed : Ships far new r row → Ships far other q row → IsOneEnd r q y z new other
+  pub ships_fixed : ShipsRow far new r row → ShipsRow far other q row → IsOneEnd r q y z new other
   ships_fixed (inl a) (inl b) = alike answer.NoBatch a.reply b.reply a.state b.state
   ships_fixed (inl a) (inr (inl b)) = absurd (leaving_or_not far b.batch b.there a.none)
   ships_fixed (inl a) (inr (inr (inl b))) = absurd (leaving_or_not far b.batch b.there a.none)

@@ -11,7 +11,7 @@ use Rattle.cb_types.specs.declared.reply.Reply.{Reply}
 use Rattle.cb_types.specs.declared.reply.Reply.TheVariants as answer
 use Rattle.cb_world.specs.declared.event.Event.{Event}
 use Rattle.cb_world.specs.declared.shown.Shown.{Shown}
-use Rattle.cb_world.specs.FarSound.{AreRows, of_leaving, batch_rows}
+use Rattle.cb_world.specs.FarSound.{AreShardRows, of_leaving, batch_rows}
 use Rattle.cb_world.specs.FarState.{FarState, span_in}
 use Rattle.cb_world.specs.Leaving.{LeavingState}
 use Rattle.cb_world.specs.Memory.{window}
@@ -22,18 +22,18 @@ use Rattle.cb_world.specs.RowWords.{row_of}
 use Rattle.cb_world.specs.Sound.{Sound}
 use Rattle.cb_world.proofs.Laws.{batch_owned}
 use Rattle.cb_world.specs.Still.{IsStill}
-use Rattle.cb_evict.specs.Loading.{LiesIn, LiesInOne, OnlyLoads, LoadsFrame}
-use Rattle.cb_evict.specs.ShipRule.{IsShardFor, ReadsLeaving, ShipEffect, ShipRule, Ships, with_shipped}
+use Rattle.cb_evict.specs.Loading.{LiesInFrame, LiesInOne, OnlyLoads, LoadsFrame}
+use Rattle.cb_evict.specs.ShipRule.{IsShardFor, ReadsLeaving, ShipEffect, ShipRule, ShipsRow, with_shipped}
 use Rattle.cb_evict.specs.Shipping.{PutsNothing, PutsRow}
 use Rattle.cb_evict.specs.Waiting.{PutAtMembers, least_waiting}
 use Rattle.cb_evict.proofs.Events.{are_reads, loads_more, told_words}
-use Rattle.cb_evict.proofs.ShippedFar.{put_sound}
+use Rattle.cb_evict.proofs.ShipSound.{put_sound}
 use Rattle.cb_evict.proofs.Options.{none_some}
 use Rattle.cb_evict.proofs.Still.{does_nothing}
 
 -- ---- the batch
 -- the nodes of its rows are among the members
-pub put_at_members : (far : FarState) (batch : LeavingState) → AreRows far
+pub put_at_members : (far : FarState) (batch : LeavingState) → AreShardRows far
     → far.leaving ≡ Some batch → PutAtMembers far.members batch.shards
 put_at_members far batch rows there k d l = by (get_or batch.shards k d) refl
   where
@@ -91,11 +91,11 @@ parity_row s batch p behind =
 
 -- ---- a row is put
 frame_reads : (far : FarState) (batch : LeavingState) (p f : ℕ) (es : List Event)
-    → far.leaving ≡ Some batch → slice_get batch.frames p ≡ Some f → OnlyLoads (LiesIn f) es
+    → far.leaving ≡ Some batch → slice_get batch.frames p ≡ Some f → OnlyLoads (LiesInFrame f) es
     → ReadsLeaving far es
 frame_reads far batch p f es there at loads =
     subst (λ (o : Option LeavingState). OnlyLoads (LiesInOne (leaving_frames o)) es) (sym there)
-    (loads_more (LiesIn f) (LiesInOne batch.frames) es
+    (loads_more (LiesInFrame f) (LiesInOne batch.frames) es
     (λ i lies. (f, contains_at batch.frames p f at, lies)) loads)
 
 pub puts_data : (runs : List Event → Type 0) (showsA showsB : Shown → Type 0) (far new : FarState)
@@ -165,7 +165,7 @@ reads_alone runs knows far new same q =
 
 -- a refusal
 pub refused : (runs : List Event → Type 0) (knows : Shown → Type 0) (far new : FarState) (r : Reply)
-    → runs [] → new ≡ far → ((row : LeavingState → ℕ → List ℕ) → Ships far new r row)
+    → runs [] → new ≡ far → ((row : LeavingState → ℕ → List ℕ) → ShipsRow far new r row)
     → Performs runs (λ s. knows s × Sound s far) (ShipRule far new r) (λ t. Sound t new)
     (ShipEffect far new r)
 refused runs knows far new r ran same ships =
@@ -212,7 +212,7 @@ shipped runs knows far new batch p shard there least named q =
         (row : LeavingState → ℕ → List ℕ) → far.leaving ≡ Some batch
         → least_waiting far.members batch.shards ≡ Some p → IsShardFor far batch p shard
         → new ≡ with_shipped far batch p shard (row batch p)
-        → Ships far new (answer.Shipped p) row
+        → ShipsRow far new (answer.Shipped p) row
     is_shipped far new batch p shard row there least named is = inr (inr (inr (record {
       batch = batch;
       there = there;

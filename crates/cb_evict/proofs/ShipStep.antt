@@ -16,7 +16,7 @@ use Rattle.cb_world.specs.Still.{IsStill}
 use Rattle.cb_world.specs.World.{IsKnown}
 use Rattle.cb_world.proofs.Laws.{IsStepKnown, PerformsStill, runs_still, known_then, stays_still}
 use Rattle.cb_evict.specs.Loading.{LiesInOne}
-use Rattle.cb_evict.specs.ShipRule.{ReadsLeaving, ShipEffect, ShipRule, Ships}
+use Rattle.cb_evict.specs.ShipRule.{ReadsLeaving, ShipEffect, ShipRule, ShipsRow}
 use Rattle.cb_evict.specs.ShipStep.{IsShipStep}
 use Rattle.cb_evict.proofs.Events.{are_reads}
 
@@ -60,7 +60,7 @@ leaves_all far = record {
 }
 
 pub ships_leaves : (far new : FarState) (r : Reply) (row : LeavingState → ℕ → List ℕ)
-    → Ships far new r row → ShipLeaves far new
+    → ShipsRow far new r row → ShipLeaves far new
 ships_leaves far new r row (inl x) = subst (ShipLeaves far) (sym x.state) (leaves_all far)
 ships_leaves far new r row (inr (inl x)) = subst (ShipLeaves far) (sym x.state) (leaves_all far)
 ships_leaves far new r row (inr (inr (inl x))) = subst (ShipLeaves far) (sym x.state) (leaves_all far)
@@ -84,7 +84,7 @@ ships_leaves far new r row (inr (inr (inr x))) = subst (ShipLeaves far) (sym x.s
 
 -- what every object has stays
 pub ships_now : (s : Shown) (far new : FarState) (r : Reply) (row : LeavingState → ℕ → List ℕ)
-    → Ships far new r row → (h : ℕ) → now s new h ≡ now s far h
+    → ShipsRow far new r row → (h : ℕ) → now s new h ≡ now s far h
 ships_now s far new r row (inl x) h = ap (λ (f : FarState). now s f h) x.state
 ships_now s far new r row (inr (inl x)) h = ap (λ (f : FarState). now s f h) x.state
 ships_now s far new r row (inr (inr (inl x))) h = ap (λ (f : FarState). now s f h) x.state
@@ -106,7 +106,7 @@ ship_step x y far new r s p k =
     let reads = are_reads (LiesInOne (leaving_frames far.leaving)) p.events p.rule.reads in (
       record {
         words = stays_still x y far s p.events (runs_still x y far new rules does s k p) effect.still;
-        ships = subst (λ (memory : List ℕ). Ships far new r (row_in memory)) k.shows.memory
+        ships = subst (λ (memory : List ℕ). ShipsRow far new r (row_in memory)) k.shows.memory
             effect.ships;
       },
       record {

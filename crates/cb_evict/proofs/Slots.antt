@@ -18,8 +18,8 @@ use Rattle.cb_evict.proofs.Events.{touches_quiet, found_after}
 use Rattle.cb_world.specs.FarState.{FarState}
 use Rattle.cb_evict.specs.Events.{TouchesOnly}
 use Rattle.cb_evict.specs.Claims.{AreApart}
-use Rattle.cb_evict.specs.Looking.{Has}
-use Rattle.cb_evict.specs.Claiming.{AreOf, Claims, ClaimsSlot, SlotNotes}
+use Rattle.cb_evict.specs.Looking.{SpanHas}
+use Rattle.cb_evict.specs.Claiming.{AreOf, ClaimsObjects, ClaimsSlot, SlotNotes}
 use Rattle.cb_evict.specs.Order.{noted_of, objects_in, one_of}
 use Rattle.cb_evict.proofs.Claims.{claim_of}
 use Rattle.cb_evict.proofs.CallParts.{Joins}
@@ -163,16 +163,17 @@ below_split span i slot e h (j, less, named) = elim (cases_eq j i) [
   | inr off ↦ inl (j, omega (arith, less, off), named)
 ]
 
-pub below_all : (span : Contents) (n h : ℕ) → length span.slots ≤ n → Has span h → HasBelow span n h
+pub below_all : (span : Contents) (n h : ℕ) → length span.slots ≤ n → SpanHas span h
+    → HasBelow span n h
 below_all span n h all (slot, named) =
     let w = slot_in_range span slot h named in (slot, omega (arith, w, all), named)
 
-pub below_has : (span : Contents) (n h : ℕ) → HasBelow span n h → Has span h
+pub below_has : (span : Contents) (n h : ℕ) → HasBelow span n h → SpanHas span h
 below_has span n h (slot, less, named) = (slot, named)
 
 -- no slot is below the first
 pub nothing_yet : (runs : List Event → Type 0) (shows : Shown → Type 0) (span : Contents) → runs []
-    → ((far : FarState) → Claims shows far [] [])
+    → ((far : FarState) → ClaimsObjects shows far [] [])
     → Gathers runs shows (HasBelow span 0) (HasBelow span 0) [] []
 nothing_yet runs shows span ran claims = record {
   ran = ran;
@@ -188,7 +189,7 @@ nothing_yet runs shows span ran claims = record {
 }
 
 pub slot_handle : (span : Contents) (i n : ℕ) (slot : Option ℕ) → slot ≡ handle_at span i
-    → ((h : ℕ) → Has span h → h < n) → IfSome slot (λ h. h < n)
+    → ((h : ℕ) → SpanHas span h → h < n) → IfSome slot (λ h. h < n)
 slot_handle span i n None e below = tt
 slot_handle span i n (Some h) e below = below h (i, sym e)
 

@@ -6,7 +6,7 @@ use Rattle.std.specs.FinMap as map
 use Rattle.std.specs.List.{Contains, slice_get}
 use Rattle.cb_class.specs.Class.{bytes_of, words_of}
 use Rattle.cb_evict.proofs.Options.{none_some, some_same}
-use Rattle.cb_evict.specs.Candidates.{Names}
+use Rattle.cb_evict.specs.Candidates.{SpanNames}
 use Rattle.cb_evict.specs.Closing.{HaveHomes}
 use Rattle.cb_evict.specs.EvictStep.{made}
 use Rattle.cb_evict.specs.Looking.{IsIn}
@@ -110,12 +110,12 @@ pub heads : (a b : ℕ) → a ∷ [] ≡ b ∷ [] → a ≡ b
 heads a b e = cc
 
 -- each of the two spans has one object
-pub only_first : (h : ℕ) → Names pair.spans 0 h → 0 ≡ h
+pub only_first : (h : ℕ) → SpanNames pair.spans 0 h → 0 ≡ h
 only_first h (zero, e) = absurd (none_some h e)
 only_first h (suc zero, e) = some_same 0 h e
 only_first h (suc (suc n), e) = absurd (none_some h e)
 
-pub only_second : (h : ℕ) → Names pair.spans 1 h → 1 ≡ h
+pub only_second : (h : ℕ) → SpanNames pair.spans 1 h → 1 ≡ h
 only_second h (zero, e) = absurd (none_some h e)
 only_second h (suc zero, e) = some_same 1 h e
 only_second h (suc (suc n), e) = absurd (none_some h e)
@@ -221,7 +221,7 @@ homed = record {
         (ap (λ (n : ℕ). handle_in (span_in pair.spans n) slot) (some_same 0 f at) ∙ named)
     here (suc p) f slot h at named = absurd (none_some f at)
 
-    others : (h : ℕ) → ((f : ℕ) → Contains (0 ∷ []) f → Names pair.spans f h → ⊥)
+    others : (h : ℕ) → ((f : ℕ) → Contains (0 ∷ []) f → SpanNames pair.spans f h → ⊥)
         → home_at homes h ≡ home_at pair.homes h
     others zero none = absurd (none 0 (0, lit< tt, refl) (1, refl))
     others (suc h) none = refl

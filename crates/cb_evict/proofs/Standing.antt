@@ -7,7 +7,7 @@ use Rattle.std.proofs.lemmas.List.Elements.{Contains-append_cases, All-contains,
 use Rattle.std.proofs.lemmas.List.FromFn.{get_or-range_with_len, length-range_with_len}
 use Rattle.std.proofs.lemmas.List.Kept.{AllPairs-filter}
 use Rattle.std.proofs.lemmas.List.Folds.{list_any_at}
-use Rattle.cb_frame.specs.FreeFrames.{IsFree}
+use Rattle.cb_frame.specs.FreeFrames.{IsFreeFrame}
 use Rattle.cb_span.specs.declared.temp.Temp.{Temp}
 use Rattle.cb_span.specs.declared.temp.Temp.TheVariants.{Hot, Cold}
 use Rattle.cb_span.specs.Contents.{Contents, IsSpan, handle_at}
@@ -19,7 +19,7 @@ use Rattle.cb_world.specs.FarState.{FarState, span_in, resident, handle_in}
 use Rattle.cb_world.specs.LocalSound.{LocalSound, LiesAt}
 use Rattle.cb_world.proofs.Laws.{one_slot, frame_in_range}
 use Rattle.cb_world.specs.Placed.{leaving_frames}
-use Rattle.cb_evict.specs.Candidates.{is_among, same_temp, has_temp, may_leave, frames_with, candidates, Names, AreUnique}
+use Rattle.cb_evict.specs.Candidates.{is_among, same_temp, has_temp, may_leave, frames_with, candidates, SpanNames, AreUnique}
 use Rattle.cb_evict.proofs.Options.{none_some, some_same}
 
 -- ---- objects of spans
@@ -27,7 +27,7 @@ never_lies : (o : Object) (len place : ℕ) → LiesAt o len place → o ≡ nev
 never_lies o len place lies e = subst (λ (q : Object). LiesAt q len place) e lies
 
 -- a frame that names an object holds a span
-pub names_span : (spans : List (Option Contents)) (f h : ℕ) → Names spans f h
+pub names_span : (spans : List (Option Contents)) (f h : ℕ) → SpanNames spans f h
     → (span : Contents) × (span_in spans f ≡ Some span)
 names_span spans f h (slot, named) = go (span_in spans f) refl
   where
@@ -41,7 +41,7 @@ named_at spans f slot h span there named =
     sym (ap (λ (o : Option Contents). handle_in o slot) there) ∙ named
 
 -- an object of a span was made, and its handle is one that there is
-object_within : (far : FarState) (s : Shown) (f h : ℕ) → LocalSound s far → Names far.spans f h
+object_within : (far : FarState) (s : Shown) (f h : ℕ) → LocalSound s far → SpanNames far.spans f h
     → h < length s.objects
 object_within far s f h sound (slot, named) =
     let span = names_span far.spans f h (slot, named) in
@@ -185,7 +185,7 @@ pub record IsReadyFrame (far : FarState) (f : ℕ) : Type 0 where
   pub valid : IsSpan span
   pub within : f < length far.spans
   pub counted : f < length far.frames
-  pub busy : ¬ (IsFree far.frames f)
+  pub busy : ¬ (IsFreeFrame far.frames f)
   pub stays : is_among (leaving_frames far.leaving) f ≡ false
 
 pub ready_frame : (far : FarState) (s : Shown) (f : ℕ) → LocalSound s far

@@ -32,13 +32,13 @@ use Rattle.cb_world.specs.Sound.{Sound, IsNoted}
 use Rattle.cb_world.specs.StillDesk.{window_length}
 use Rattle.cb_world.proofs.Laws.{batch_kept, found_more, noted_by, slot_inside, taken_more, window_at, window_same}
 use Rattle.cb_evict.specs.BeginRule.{new_batch}
-use Rattle.cb_evict.specs.Candidates.{candidates, AreUnique, Names}
+use Rattle.cb_evict.specs.Candidates.{candidates, AreUnique, SpanNames}
 use Rattle.cb_evict.specs.Claims.{AreClaimed, IsClaimedBy, IsNone, WasHere}
 use Rattle.cb_evict.specs.EvictRule.{AreInRows}
-use Rattle.cb_evict.specs.Evicting.{AreTaken}
+use Rattle.cb_evict.specs.Evicting.{AreSpansTaken}
 use Rattle.cb_evict.specs.Looking.{IsIn}
 use Rattle.cb_evict.proofs.Claims.{among, no_former}
-use Rattle.cb_evict.proofs.Group.{IsGroup, IsQuiet, quiet_away, claimed_not_far, here_not_far, in_row, row_is, noted_still}
+use Rattle.cb_evict.proofs.Group.{IsGroup, IsNotFarBoth, quiet_away, claimed_not_far, here_not_far, in_row, row_is, noted_still}
 use Rattle.cb_evict.proofs.Owned.{frame_stays}
 use Rattle.cb_evict.proofs.SmallWords.{small_part}
 use Rattle.cb_evict.proofs.Standing.{IsReadyFrame, ready_frame, are_unique, not_among}
@@ -57,12 +57,12 @@ abbrev pub frame_rows : Shown → List ℕ → List (List ℕ)
 frame_rows t frames = mapped (λ f. row_of (window t.memory (512 * f) 512)) frames
 
 -- in a sound world objects of k spans were claimed; their words were read, and the rows were coded
-pub record AreRead (c : Config) (far : FarState) (frames : List ℕ) (formers : List Former)
+pub record AreRowsCoded (c : Config) (far : FarState) (frames : List ℕ) (formers : List Former)
     (parities : List (List ℕ)) (before : List Event) (s t : Shown) : Type 0 where
   pub sound : Sound s far
   pub claimed : AreClaimed before s t formers
   pub here : LocalSound t far
-  pub taken : AreTaken c far frames formers
+  pub taken : AreSpansTaken c far frames formers
   pub range : IsInRange c.k c.r
   pub few : length parities ≡ c.r
   pub word : IsCodeWord c.k c.r (frame_rows t frames ++ parities)
@@ -114,7 +114,7 @@ claimed_same n p v m q w a b e = (ap len_in e, ap place_in e, ap words_of_it e)
 
 module _ (c : Config) (far : FarState) (frames : List ℕ) (formers : List Former)
     (parities : List (List ℕ)) (before : List Event) (s t : Shown)
-    (d : AreRead c far frames formers parities before s t) where
+    (d : AreRowsCoded c far frames formers parities before s t) where
   ready : (f : ℕ) → Contains frames f → IsReadyFrame far f
   ready f x = ready_frame far s f d.sound.here
       (All-contains (Contains (candidates far)) frames f d.taken.among x)
@@ -131,7 +131,7 @@ module _ (c : Config) (far : FarState) (frames : List ℕ) (formers : List Forme
   ]
 
   -- the words that stand in one of the frames are of 64 bits
-  small_one : (h f len place v : ℕ) (words : List ℕ) → Contains frames f → Names far.spans f h
+  small_one : (h f len place v : ℕ) (words : List ℕ) → Contains frames f → SpanNames far.spans f h
       → object_at t h ≡ is.Claimed len place v words
       → All (λ w. w < 2 ^ 64) (window t.memory place (words_for len))
   small_one h f len place v words x named e =
@@ -181,7 +181,7 @@ module _ (c : Config) (far : FarState) (frames : List ℕ) (formers : List Forme
       → IsToldOne (before ++ []) s t (new_batch c far frames formers parities) h
   one h x = told_one [] (λ k. tt) h x
 
-  quiet_one : (h : ℕ) → IsQuiet s t h
+  quiet_one : (h : ℕ) → IsNotFarBoth s t h
   quiet_one h = elim (either_one h) [
     | inl x ↦ let g = one h x in inr (
       here_not_far (object_at s h) _ _ g.was,
@@ -203,7 +203,7 @@ module _ (c : Config) (far : FarState) (frames : List ℕ) (formers : List Forme
       → IsNone formers h
   leaving_none b there f slot h span leaves at named = elim (either_one h) [
     | inl x ↦
-        let mine : Names far.spans f h = (
+        let mine : SpanNames far.spans f h = (
           slot,
           ap (λ (o : Option Contents). handle_in o slot) at
               ∙ named,

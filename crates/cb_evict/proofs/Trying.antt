@@ -10,9 +10,9 @@ use Rattle.cb_world.specs.declared.event.Event.{Event}
 use Rattle.cb_world.specs.declared.shown.Shown.{Shown}
 use Rattle.cb_world.specs.FarState.{FarState, span_in}
 use Rattle.cb_world.specs.Reserved.{table_of}
-use Rattle.cb_evict.specs.Candidates.{Names, AreLoose, AreUnique, IsLoose, IsBarred}
+use Rattle.cb_evict.specs.Candidates.{SpanNames, AreLoose, AreUnique, IsLoose, IsBarred}
 use Rattle.cb_evict.specs.Looking.{IsIn}
-use Rattle.cb_evict.specs.Claiming.{AreOf, Claims, ClaimsFrame, ClaimsSpans}
+use Rattle.cb_evict.specs.Claiming.{AreOf, ClaimsFrame, ClaimsObjects, ClaimsSpans}
 use Rattle.cb_evict.specs.Order.{noted_of, objects_in, objects_of}
 use Rattle.cb_evict.proofs.Events.{touches_more}
 use Rattle.cb_evict.proofs.CallParts.{Joins}
@@ -32,7 +32,7 @@ pub record Tried (runs : List Event → Type 0) (shows : Shown → Type 0)
 
 pub tried_none : (runs : List Event → Type 0) (shows : Shown → Type 0)
     (spans : List (Option Contents)) (loose : List ℕ) → runs []
-    → ((far : FarState) → Claims shows far [] []) → Tried runs shows spans loose 0 [] [] []
+    → ((far : FarState) → ClaimsObjects shows far [] []) → Tried runs shows spans loose 0 [] [] []
 tried_none runs shows spans loose ran claims = record {
   gathers = record {
     ran = ran;
@@ -55,8 +55,8 @@ tried_none runs shows spans loose ran claims = record {
 -- what the claim of one frame gathers
 frame_claimed : (runs : List Event → Type 0) (shows : Shown → Type 0)
     (spans : List (Option Contents)) (f : ℕ) (old new : List ℕ) (before after : List Former)
-    → (x : ClaimsFrame runs shows spans f old new before after) → AreOf (Names spans f) x.more
-    → Gathers runs shows (Names spans f) (Names spans f) x.part.events x.more
+    → (x : ClaimsFrame runs shows spans f old new before after) → AreOf (SpanNames spans f) x.more
+    → Gathers runs shows (SpanNames spans f) (SpanNames spans f) x.part.events x.more
 frame_claimed runs shows spans f old new before after x of = record {
   ran = x.part.ran;
   touches = x.part.touches;
@@ -70,7 +70,7 @@ frame_claimed runs shows spans f old new before after x of = record {
 frame_left : (runs : List Event → Type 0) (shows : Shown → Type 0)
     (spans : List (Option Contents)) (f : ℕ) (old new : List ℕ) (before after : List Former)
     → (x : ClaimsFrame runs shows spans f old new before after) → x.more ≡ []
-    → Gathers runs shows (Names spans f) (λ h. ⊥) x.part.events x.more
+    → Gathers runs shows (SpanNames spans f) (λ h. ⊥) x.part.events x.more
 frame_left runs shows spans f old new before after x none = record {
   ran = x.part.ran;
   touches = x.part.touches;
@@ -85,10 +85,10 @@ frame_left runs shows spans f old new before after x none = record {
 }
 
 in_split : (spans : List (Option Contents)) (frames : List ℕ) (f h : ℕ)
-    → IsIn spans (frames ++ f ∷ []) h → IsIn spans frames h ⊎ Names spans f h
+    → IsIn spans (frames ++ f ∷ []) h → IsIn spans frames h ⊎ SpanNames spans f h
 in_split spans frames f h (g, c, named) = elim (Contains-append_cases frames (f ∷ []) g c) [
   | inl old ↦ inl (g, old, named)
-  | inr (k, l, e) ↦ inr (subst (λ (n : ℕ). Names spans n h) (last k g l e) named)
+  | inr (k, l, e) ↦ inr (subst (λ (n : ℕ). SpanNames spans n h) (last k g l e) named)
 ]
   where
     last : (k g : ℕ) → k < 1 → get_or (f ∷ []) k g ≡ g → g ≡ f
@@ -98,7 +98,7 @@ in_split spans frames f h (g, c, named) = elim (Contains-append_cases frames (f 
 -- an object of the next frame is none of those before
 in_apart : (spans : List (Option Contents)) (n : ℕ) (loose : List ℕ) (i h : ℕ) → AreUnique spans n
     → AllPairs (λ f g. f ≢ g) loose → i < length loose → IsIn spans (take i loose) h
-    → Names spans (get_or loose i 0) h → ⊥
+    → SpanNames spans (get_or loose i 0) h → ⊥
 in_apart spans n loose i h unique apart within (g, c, named) next =
     not_before loose i apart within
     (subst (Contains (take i loose)) (unique.one_frame g (get_or loose i 0) h named next) c)
@@ -109,7 +109,8 @@ tried_claimed : (runsA runsB runsC : List Event → Type 0) (showsA showsB : Sho
     (frames new : List ℕ) (formers after : List Former)
     → Tried runsA showsA spans loose i es frames formers
     → (x : ClaimsFrame runsB showsB spans (get_or loose i 0) frames new formers after)
-    → AreOf (Names spans (get_or loose i 0)) x.more → IsLoose x.part.events spans (get_or loose i 0)
+    → AreOf (SpanNames spans (get_or loose i 0)) x.more
+    → IsLoose x.part.events spans (get_or loose i 0)
     → noted_of x.more ≡ objects_in (table_of (span_in spans (get_or loose i 0)))
     → AreUnique spans n → AllPairs (λ f g. f ≢ g) loose → i < length loose
     → Joins runsA runsB runsC showsA showsB
@@ -122,8 +123,9 @@ tried_claimed runsA runsB runsC showsA showsB spans n loose i es frames new form
     let rest = drop_more loose i 0 within in record {
       gathers = subst (λ (l : List ℕ). Gathers runsC showsA (IsIn spans l) (IsIn spans (frames ++ f ∷ []))
           (es ++ x.part.events) (formers ++ x.more)) (sym more)
-          (gathers_more runsA runsB runsC showsA showsB (IsIn spans (take i loose)) (Names spans f)
-          (IsIn spans (take i loose ++ f ∷ [])) (IsIn spans frames) (Names spans f)
+          (gathers_more runsA runsB runsC showsA showsB (IsIn spans (take i loose))
+          (SpanNames spans f)
+          (IsIn spans (take i loose ++ f ∷ [])) (IsIn spans frames) (SpanNames spans f)
           (IsIn spans (frames ++ f ∷ [])) es x.part.events formers x.more a.gathers
           (frame_claimed runsB showsB spans f frames new formers after x of) j
           (λ h. in_apart spans n loose i h unique apart within)
@@ -169,7 +171,8 @@ tried_left runsA runsB runsC showsA showsB spans n loose i es frames new formers
     let rest = drop_more loose i 0 within in record {
       gathers = subst (λ (l : List ℕ). Gathers runsC showsA (IsIn spans l) (IsIn spans frames)
           (es ++ x.part.events) (formers ++ x.more)) (sym more)
-          (gathers_more runsA runsB runsC showsA showsB (IsIn spans (take i loose)) (Names spans f)
+          (gathers_more runsA runsB runsC showsA showsB (IsIn spans (take i loose))
+          (SpanNames spans f)
           (IsIn spans (take i loose ++ f ∷ [])) (IsIn spans frames) (λ h. ⊥)
           (IsIn spans frames) es x.part.events formers x.more a.gathers
           (frame_left runsB showsB spans f frames new formers after x none) j

@@ -28,7 +28,7 @@ waiting_more m shards n =
     (let e : 0 + n ≡ n = omega arith in e)
 
 -- the waiting ones of the first n positions stand in the first places
-pub record Found (m : Membership) (shards : List (Option Shard)) (n : ℕ) (found : List ℕ)
+pub record FoundWaiting (m : Membership) (shards : List (Option Shard)) (n : ℕ) (found : List ℕ)
     (count : ℕ) : Type 0 where
   pub size : length found ≡ 20
   pub behind : count ≤ n
@@ -36,7 +36,7 @@ pub record Found (m : Membership) (shards : List (Option Shard)) (n : ℕ) (foun
   pub listed : take count found ≡ waiting_below m shards n
 
 pub found_put : (m : Membership) (shards : List (Option Shard)) (n : ℕ) (found : List ℕ) (count : ℕ)
-    → Found m shards n found count → waits_at m shards n ≡ false → Found m shards (n + 1) found count
+    → FoundWaiting m shards n found count → waits_at m shards n ≡ false → FoundWaiting m shards (n + 1) found count
 found_put m shards n found count f put =
     let e : waiting_below m shards (n + 1) ≡ waiting_below m shards n =
     waiting_more m shards n
@@ -50,8 +50,8 @@ found_put m shards n found count f put =
     }
 
 pub found_more : (m : Membership) (shards : List (Option Shard)) (n : ℕ) (found : List ℕ) (count : ℕ)
-    → Found m shards n found count → n < 20 → waits_at m shards n ≡ true
-    → Found m shards (n + 1) (set found count n) (count + 1)
+    → FoundWaiting m shards n found count → n < 20 → waits_at m shards n ≡ true
+    → FoundWaiting m shards (n + 1) (set found count n) (count + 1)
 found_more m shards n found count f few waits =
     let e : waiting_below m shards (n + 1) ≡ waiting_below m shards n ++ n ∷ [] =
     waiting_more m shards n

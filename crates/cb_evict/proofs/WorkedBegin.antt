@@ -34,13 +34,13 @@ use Rattle.cb_world.specs.Plain.{Words}
 use Rattle.cb_world.specs.Sets.{set_in, if_committed}
 use Rattle.cb_world.specs.SetWord.{IsSpanWord}
 use Rattle.cb_world.specs.World.{word_at}
-use Rattle.cb_evict.specs.BeginEffect.{IsClaimedNow, IsBegun, BeginEffect}
+use Rattle.cb_evict.specs.BeginEffect.{IsClaimedThere, IsBatchBegun, BeginEffect}
 use Rattle.cb_evict.specs.BeginRule.{blank_shards, new_batch, with_batch, HasBegun, IsLeavingAlready, HasBatch, HasLooked, BeginRule}
 use Rattle.cb_evict.specs.Beginning.{AreParities}
 use Rattle.cb_evict.specs.EvictRule.{IsInRow, AreInRows}
-use Rattle.cb_evict.proofs.Begun.{reserved_kept}
+use Rattle.cb_evict.proofs.BeginSound.{reserved_kept}
 use Rattle.cb_evict.proofs.NewSet.{set_added_in}
-use Rattle.cb_evict.specs.BeginStep.{frame_rows, AreHeld, IsBegunTo, IsBatchMade, IsBeginStep, is_leaving, few_spans, few_nodes, begins}
+use Rattle.cb_evict.specs.BeginStep.{frame_rows, AreSpansClaimed, IsBegunTo, IsBatchMade, IsBeginStep, is_leaving, few_spans, few_nodes, begins}
 use Rattle.cb_evict.specs.Claims.{AreApart}
 use Rattle.cb_evict.specs.Order.{noted_of, objects_of}
 use Rattle.cb_evict.specs.Claiming.{AreOf}
@@ -57,7 +57,7 @@ start = record (desk (calm ∷ pinned ∷ [])) { memory = [] }
 abbrev claimed : Words
 claimed = record start { words = moving ∷ pinned ∷ [] }
 
-held : AreHeld start claimed pair (0 ∷ [])
+held : AreSpansClaimed start claimed pair (0 ∷ [])
 held = record {
   changed = λ h i. subst (λ (k : ℕ). Claims (word_at start k) (word_at claimed k))
       (only_object h i) (claims calm refl refl);
@@ -73,28 +73,30 @@ held = record {
     other (suc h) out = refl
 
 -- the object's word is Moving
-not_here : AreHeld start start pair (0 ∷ []) → ⊥
+not_here : AreSpansClaimed start start pair (0 ∷ []) → ⊥
 not_here a = let e : calm ≡ calm + 1 = (a.changed 0 first_object).number in absurd (omega (arith, e))
 
 -- another object's word stays
-not_unpinned : AreHeld start (record start { words = moving ∷ calm ∷ [] }) pair (0 ∷ []) → ⊥
+not_unpinned : AreSpansClaimed start (record start { words = moving ∷ calm ∷ [] }) pair (0 ∷ []) → ⊥
 not_unpinned a =
     let e : calm ≡ pinned = a.others 1 (λ i. let z = only_object 1 i in omega (arith, z)) in
     absurd (omega (arith, e))
 
-not_more : AreHeld start (record start { words = moving ∷ pinned ∷ 0 ∷ [] }) pair (0 ∷ []) → ⊥
+not_more : AreSpansClaimed start (record start { words = moving ∷ pinned ∷ 0 ∷ [] }) pair (0 ∷ [])
+    → ⊥
 not_more a = let e : 3 ≡ 2 = a.count in absurd (omega (arith, e))
 
-not_other_settings : AreHeld start (record claimed { settings = record settings { k = 2 } }) pair
+not_other_settings : AreSpansClaimed start (record claimed { settings = record settings { k = 2 } })
+    pair
     (0 ∷ []) → ⊥
 not_other_settings a =
     let e : 2 ≡ 1 = ap (λ (c : Config). c.k) a.settings in absurd (omega (arith, e))
 
-not_other_versions : AreHeld start (record claimed { versions = [] }) pair (0 ∷ []) → ⊥
+not_other_versions : AreSpansClaimed start (record claimed { versions = [] }) pair (0 ∷ []) → ⊥
 not_other_versions a =
     let e : 0 ≡ 4 = ap (λ (l : List ℕ). length l) a.versions in absurd (omega (arith, e))
 
-not_other_memory : AreHeld start (record claimed { memory = 7 ∷ [] }) pair (0 ∷ []) → ⊥
+not_other_memory : AreSpansClaimed start (record claimed { memory = 7 ∷ [] }) pair (0 ∷ []) → ⊥
 not_other_memory a =
     let e : 1 ≡ 0 = ap (λ (l : List ℕ). length l) a.memory in absurd (omega (arith, e))
 
@@ -319,7 +321,7 @@ taken version content = record here { objects = is.Claimed 8 0 version (content 
 abbrev pub claim : List Event
 claim = Claimed 0 calm 3 (7 ∷ []) ∷ []
 
-claimed_now : IsClaimedNow claim here (taken 3 7) 0
+claimed_now : IsClaimedThere claim here (taken 3 7) 0
 claimed_now = record {
   word = calm;
   version = 3;
@@ -330,7 +332,7 @@ claimed_now = record {
   object = refl;
 }
 
-not_unclaimed : (t : Shown) → IsClaimedNow [] here t 0 → ⊥
+not_unclaimed : (t : Shown) → IsClaimedThere [] here t 0 → ⊥
 not_unclaimed t a = a.found
 
 claimed_is : (n m p q v w : ℕ) (xs ys : List ℕ) → is.Claimed n p v xs ≡ is.Claimed m q w ys
@@ -345,21 +347,21 @@ heads : (a b : ℕ) → a ∷ [] ≡ b ∷ [] → a ≡ b
 heads a b e = cc
 
 -- with other contents, or at another version
-not_other_words : IsClaimedNow claim here (taken 3 6) 0 → ⊥
+not_other_words : IsClaimedThere claim here (taken 3 6) 0 → ⊥
 not_other_words a =
     let e = heads 6 7 ((claimed_is _ _ _ _ _ _ _ _ a.object).1
     ∙ sym (told_is a.version a.words a.told).1) in absurd (omega (arith, e))
 
-not_newer : IsClaimedNow claim here (taken 4 7) 0 → ⊥
+not_newer : IsClaimedThere claim here (taken 4 7) 0 → ⊥
 not_newer a =
     let e : 4 ≡ 3 = (claimed_is _ _ _ _ _ _ _ _ a.object).0
     ∙ sym (told_is a.version a.words a.told).0 in absurd (omega (arith, e))
 
 -- it is not here any more, and it was
-not_still_here : IsClaimedNow claim here here 0 → ⊥
+not_still_here : IsClaimedThere claim here here 0 → ⊥
 not_still_here a = let e : is.Here 8 0 ≡ is.Claimed _ _ _ _ = a.object in cc
 
-not_before : IsClaimedNow claim (taken 3 7) (taken 3 7) 0 → ⊥
+not_before : IsClaimedThere claim (taken 3 7) (taken 3 7) 0 → ⊥
 not_before a = let e : is.Claimed 8 0 3 (7 ∷ []) ≡ is.Here _ _ = a.was in cc
 
 -- ---- the rule
@@ -433,12 +435,12 @@ abbrev held_object : Object
 held_object = is.Claimed 8 0 3 (7 ∷ [])
 
 abbrev effect_of : Shown → Type 0
-effect_of t = IsBegun pair second claim (both (is.Here 8 0 ∷ is.Here 8 1 ∷ [])) t
+effect_of t = IsBatchBegun pair second claim (both (is.Here 8 0 ∷ is.Here 8 1 ∷ [])) t
 
 is_begun : effect_of (both (held_object ∷ is.Here 8 1 ∷ []))
 unfolding put window
 is_begun = record {
-  claimed = λ h i. subst (IsClaimedNow claim (both (is.Here 8 0 ∷ is.Here 8 1 ∷ []))
+  claimed = λ h i. subst (IsClaimedThere claim (both (is.Here 8 0 ∷ is.Here 8 1 ∷ []))
       (both (held_object ∷ is.Here 8 1 ∷ []))) (only_object h i) (record {
         word = calm;
         version = 3;
@@ -501,7 +503,7 @@ unfolding put
 not_stored a = let e : 0 ≡ 1 = ap (λ (l : List ℕ). length l) a.memory in absurd (omega (arith, e))
 
 -- a version is written: an empty object is settled here
-not_made : IsBegun pair second (Claimed 0 calm 3 (7 ∷ []) ∷ Settled 1 calm ∷ [])
+not_made : IsBatchBegun pair second (Claimed 0 calm 3 (7 ∷ []) ∷ Settled 1 calm ∷ [])
     (both (is.Here 8 0 ∷ is.Empty 4 ∷ [])) (both (held_object ∷ is.Empty 4 ∷ [])) → ⊥
 not_made a = let e : 1 ≡ 0 = ap (λ (l : List Entry). length l) (a.nothing []) in absurd (omega (arith, e))
 
@@ -510,7 +512,8 @@ not_made a = let e : 1 ≡ 0 = ap (λ (l : List Entry). length l) (a.nothing [])
 bytes_are : (v w : ℕ) (xs ys : List ℕ) → has v xs ≡ has w ys → xs ≡ ys
 bytes_are v w xs ys e = cc
 
-not_told_anew : IsBegun pair second (Claimed 0 calm 3 (7 ∷ []) ∷ Claimed 1 calm 4 (8 ∷ []) ∷ [])
+not_told_anew : IsBatchBegun pair second
+    (Claimed 0 calm 3 (7 ∷ []) ∷ Claimed 1 calm 4 (8 ∷ []) ∷ [])
     (both (is.Here 8 0 ∷ is.Here 8 1 ∷ []))
     (record (both (held_object ∷ is.Here 8 1 ∷ [])) { memory = 8 ∷ [] }) → ⊥
 unfolding put window bytes_in
@@ -529,7 +532,7 @@ with_loss = record second {
   members = with_crash pair.members (numbered 0);
 }
 
-not_lost : IsBegun pair with_loss claim (both (is.Here 8 0 ∷ is.Far 8 4 (9 ∷ []) ∷ []))
+not_lost : IsBatchBegun pair with_loss claim (both (is.Here 8 0 ∷ is.Far 8 4 (9 ∷ []) ∷ []))
     (both (held_object ∷ is.Far 8 4 (9 ∷ []) ∷ [])) → ⊥
 not_lost a = differ 4 4 _ (sym gone ∙ a.same_now 1)
   where

@@ -9,7 +9,7 @@ use Rattle.cb_world.specs.declared.event.Event.{Event}
 use Rattle.cb_world.specs.declared.event.Event.TheVariants.{Looked, Loaded, Stored, Settled}
 use Rattle.cb_world.specs.Looks.{IsFound}
 use Rattle.cb_world.specs.Grasped.{IsFree}
-use Rattle.cb_evict.specs.Candidates.{candidates_of, Names, IsLoose, IsHeldUp, AreLoose, AreUnique}
+use Rattle.cb_evict.specs.Candidates.{candidates_of, SpanNames, IsLoose, IsHeldUp, AreLoose, AreUnique}
 use Rattle.cb_evict.specs.Events.{TouchesOnly, OnlyLooks}
 use Rattle.cb_evict.proofs.Options.{none_some}
 
@@ -49,7 +49,7 @@ looks = Looked 1 2 ∷ Looked 0 14 ∷ []
 one_is : (h : ℕ) → Some 1 ≡ Some h → h ≡ 1
 one_is h e = cc
 
-only_one : (h : ℕ) → Names spans 1 h → h ≡ 1
+only_one : (h : ℕ) → SpanNames spans 1 h → h ≡ 1
 only_one h (zero, e) = absurd (none_some h e)
 only_one h (suc zero, e) = one_is h e
 only_one h (suc (suc zero), e) = absurd (none_some h e)
@@ -76,7 +76,7 @@ is_loose h named = (2, subst (λ (k : ℕ). IsFound k 2 looks) (sym (only_one h 
 zero_is : (h : ℕ) → Some 0 ≡ Some h → h ≡ 0
 zero_is h e = cc
 
-only_zero : (h : ℕ) → Names spans 0 h → h ≡ 0
+only_zero : (h : ℕ) → SpanNames spans 0 h → h ≡ 0
 only_zero h (zero, e) = absurd (none_some h e)
 only_zero h (suc zero, e) = zero_is h e
 only_zero h (suc (suc zero), e) = absurd (none_some h e)

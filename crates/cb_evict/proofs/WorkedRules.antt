@@ -34,7 +34,7 @@ use Rattle.cb_evict.specs.AbortRule.{AbortRule, IsAborted, IsOfBatch}
 use Rattle.cb_evict.specs.BeginRule.{HasBegun, HasLooked, new_batch}
 use Rattle.cb_evict.specs.Claiming.{IsOne}
 use Rattle.cb_evict.specs.Closing.{with_homes}
-use Rattle.cb_evict.specs.CommitRule.{CommitRule, IsCommitted, with_committed}
+use Rattle.cb_evict.specs.CommitRule.{CommitRule, IsBatchCommitted, with_committed}
 use Rattle.cb_evict.specs.EvictRule.{EvictRule, IsInRow}
 use Rattle.cb_evict.specs.Loading.{LiesInOne}
 use Rattle.cb_evict.specs.Looking.{IsIn}
@@ -151,14 +151,15 @@ now_in (suc (suc h)) = refl
 abbrev committing : LeavingState
 committing = record (batch both_put) { words = hot ∷ [] }
 
-commit_effect : IsCommitted (leaving both_put) committed committing (Settled 0 away ∷ []) claimed sent
+commit_effect : IsBatchCommitted (leaving both_put) committed committing (Settled 0 away ∷ []) claimed sent
 commit_effect = record { sent = are_sent; nothing = λ old. refl; same_now = now_in }
 
-commit_writes : ¬ (IsCommitted (leaving both_put) committed committing (stamped 65542) claimed sent)
+commit_writes : ¬ (IsBatchCommitted (leaving both_put) committed committing (stamped 65542) claimed
+    sent)
 commit_writes x =
     absurd (let e : 1 ≡ 0 = ap (λ (l : List Entry). length l) (x.nothing []) in omega (arith, e))
 
-sent_hot : ¬ (IsCommitted (leaving both_put) committed committing (Settled 0 away ∷ []) claimed
+sent_hot : ¬ (IsBatchCommitted (leaving both_put) committed committing (Settled 0 away ∷ []) claimed
     (record sent { hots = true ∷ true ∷ [] }))
 sent_hot x = absurd (let e : true ≡ false = (x.sent.changed 0 hot (lit< tt)).cold in cc)
 
@@ -168,7 +169,8 @@ crashed = record committed {
   members = with_crash (with_crash committed.members (numbered 0)) (numbered 1);
 }
 
-commit_loses : ¬ (IsCommitted (leaving both_put) crashed committing (Settled 0 away ∷ []) claimed
+commit_loses : ¬ (IsBatchCommitted (leaving both_put) crashed committing (Settled 0 away ∷ [])
+    claimed
     sent)
 commit_loses x = lost_held _ _ _ (sym lost ∙ x.same_now 0)
   where

@@ -5,7 +5,7 @@ use Rattle.std.specs.FinMap as map
 use Rattle.std.proofs.lemmas.Bool.{false≢true}
 use Rattle.cb_member.specs.declared.names.Shard.{Shard}
 use Rattle.cb_member.specs.Membership.{Membership, fresh_members, with_crash}
-use Rattle.cb_node.specs.NodesState.{NodesState, empty_nodes, held, row_at as row_under, with_row}
+use Rattle.cb_node.specs.NodesState.{NodesState, empty_nodes, held, row_under, with_row}
 use Rattle.cb_node.proofs.Laws.{row_is_put}
 use Rattle.cb_types.specs.declared.reply.Reply.{Reply}
 use Rattle.cb_types.specs.declared.reply.Reply.TheVariants as answer
@@ -15,7 +15,7 @@ use Rattle.cb_world.specs.FarState.{FarState}
 use Rattle.cb_world.specs.Leaving.{LeavingState}
 use Rattle.cb_world.specs.Plain.{Words}
 use Rattle.cb_world.specs.Survey.{no_survey}
-use Rattle.cb_evict.specs.ShipRule.{HasAllShipped, HasNoNode, HasShipped, IsShardFor, ReadsLeaving, Ships, other_puts, with_shipped}
+use Rattle.cb_evict.specs.ShipRule.{HasAllShipped, HasNoNode, HasShipped, IsShardFor, ReadsLeaving, ShipsRow, other_puts, with_shipped}
 use Rattle.cb_evict.specs.ShipStep.{IsShipStep}
 use Rattle.cb_evict.specs.Shipping.{Waits}
 use Rattle.cb_evict.specs.Waiting.{is_waiting, waits_at, waiting, least_waiting, PutAtMembers}
@@ -167,7 +167,7 @@ is_shipped = record {
   state = refl;
 }
 
-ships : Ships leaving after (answer.Shipped 1) rows
+ships : ShipsRow leaving after (answer.Shipped 1) rows
 ships = inr (inr (inr is_shipped))
 
 -- what is told as shipped is no refusal
@@ -175,7 +175,7 @@ shipped_same : (p q : ℕ) → answer.Shipped p ≡ answer.Shipped q → p ≡ q
 shipped_same p q e = cc
 
 only : (new : FarState) (p : ℕ) (row : LeavingState → ℕ → List ℕ)
-    → Ships leaving new (answer.Shipped p) row → HasShipped leaving new (answer.Shipped p) row
+    → ShipsRow leaving new (answer.Shipped p) row → HasShipped leaving new (answer.Shipped p) row
 only new p row (inl x) = absurd (some_none (batch some_wait) x.none)
 only new p row (inr (inl x)) = absurd (let e : answer.Shipped p ≡ answer.AllShipped = x.reply in cc)
 only new p row (inr (inr (inl x))) = absurd (let e : answer.Shipped p ≡ answer.NoNode = x.reply in cc)
@@ -191,12 +191,12 @@ is_least : (new : FarState) (r : Reply) (row : LeavingState → ℕ → List ℕ
 is_least new r row x = some_same 1 x.position
     (ap (λ (b : LeavingState). least_waiting members b.shards) (is_batch new r row x) ∙ x.least)
 
-not_next_position : Ships leaving after (answer.Shipped 2) rows → ⊥
+not_next_position : ShipsRow leaving after (answer.Shipped 2) rows → ⊥
 not_next_position s = let x = only after 2 rows s in
     let e = is_least after (answer.Shipped 2) rows x in let f = shipped_same 2 x.position x.reply in
     absurd (omega (arith, e, f))
 
-key_stays : Ships leaving (record after { counts = leaving.counts }) (answer.Shipped 1) rows → ⊥
+key_stays : ShipsRow leaving (record after { counts = leaving.counts }) (answer.Shipped 1) rows → ⊥
 key_stays s = let x = only (record after { counts = leaving.counts }) 1 rows s in
     let e : 5 ≡ 6 = ap (λ (f : FarState). f.counts.keys) x.state in absurd (omega (arith, e))
 
@@ -215,7 +215,8 @@ is_second new x =
     (sym (is_least new (answer.Shipped 1) rows x))
 
 -- no position has the new shard
-batch_stays : Ships leaving (record after { leaving = leaving.leaving }) (answer.Shipped 1) rows → ⊥
+batch_stays : ShipsRow leaving (record after { leaving = leaving.leaving }) (answer.Shipped 1) rows
+    → ⊥
 batch_stays s =
     let x = only (record after { leaving = leaving.leaving }) 1 rows s in
     let e = some_same (at 0 1) x.shard (is_second (record after { leaving = leaving.leaving }) x) in
@@ -229,7 +230,7 @@ wrong = with_shipped leaving (batch some_wait) 1 shard (9 ∷ [])
 abbrev put_at : Shard → List ℕ → Option (List ℕ)
 put_at a row = row_under (with_row nodes a.node a.key row) (numbered 2) 5
 
-other_row : Ships leaving wrong (answer.Shipped 1) rows → ⊥
+other_row : ShipsRow leaving wrong (answer.Shipped 1) rows → ⊥
 other_row s =
     let x = only wrong 1 rows s in
     let a = some_same shard x.shard (is_second wrong x) in

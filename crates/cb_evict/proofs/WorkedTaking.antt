@@ -24,12 +24,12 @@ use Rattle.cb_evict.specs.Claims.{AreClaimed}
 use Rattle.cb_evict.specs.Events.{OnlyLooks}
 use Rattle.cb_evict.specs.EvictRule.{HasFewSpans, HasFewNodes}
 use Rattle.cb_evict.specs.Beginning.{ReservesFrames}
-use Rattle.cb_evict.specs.Evicting.{AreTaken, ReadsFrames, StoresFrames, TouchesSpans}
+use Rattle.cb_evict.specs.Evicting.{AreSpansTaken, ReadsFrames, StoresFrames, TouchesSpans}
 use Rattle.cb_evict.specs.Finding.{FindsLoose}
 use Rattle.cb_evict.specs.Loading.{LiesInOne, OnlyLoads}
 use Rattle.cb_evict.specs.Looking.{LooksOver}
-use Rattle.cb_evict.specs.Taking.{AreLooseNow, Tries, TakesEnough, TakesFew}
-use Rattle.cb_evict.proofs.Begun.{reserved_kept}
+use Rattle.cb_evict.specs.Taking.{AreLooseNow, TriesSpans, TakesEnough, TakesFew}
+use Rattle.cb_evict.proofs.BeginSound.{reserved_kept}
 use Rattle.cb_evict.proofs.Composed.{looks_tried}
 use Rattle.cb_evict.proofs.Loose.{held_alone}
 use Rattle.cb_evict.proofs.Options.{none_some}
@@ -161,7 +161,7 @@ still_held = held_alone pair.spans 1 tried 1 pinned only_second (1, refl)
     (λ free. let e : 1 ≡ 0 = free.1 in omega (arith, e))
 
 -- over a desk of which nothing is known
-tries : Tries (λ es. es ≡ tried) (λ s. ⊥) pair (AreLooseNow pair (0 ∷ [])) (former ∷ [])
+tries : TriesSpans (λ es. es ≡ tried) (λ s. ⊥) pair (AreLooseNow pair (0 ∷ [])) (former ∷ [])
 tries = record {
   events = tried;
   ran = refl;
@@ -179,7 +179,7 @@ tries = record {
   done = (inr (still_loose, refl, (still_held, tt)), λ far s none here. absurd none);
 }
 
-taken_first : AreTaken settings pair (0 ∷ []) (former ∷ [])
+taken_first : AreSpansTaken settings pair (0 ∷ []) (former ∷ [])
 taken_first = record {
   count = refl;
   among = All-cons (Contains (candidates pair)) 0 [] (0, lit< tt, refl)
@@ -203,17 +203,18 @@ enough = record {
 
 -- an object is not looked at again once it is claimed
 not_after : (shows : Shown → Type 0) (finds : List Event → Type 0) (formers : List Former)
-    → Tries (λ es. es ≡ Claimed 0 calm 3 (0 ∷ []) ∷ Looked 0 calm ∷ []) shows pair finds formers → ⊥
+    → TriesSpans (λ es. es ≡ Claimed 0 calm 3 (0 ∷ []) ∷ Looked 0 calm ∷ []) shows pair finds
+    formers → ⊥
 not_after shows finds formers a = let x = subst LooksFirst a.ran a.first in x.0.0 calm (refl, refl)
 
 -- nothing is stored
 not_stored : (shows : Shown → Type 0) (finds : List Event → Type 0) (formers : List Former)
-    → Tries (λ es. es ≡ Stored 0 1 ∷ []) shows pair finds formers → ⊥
+    → TriesSpans (λ es. es ≡ Stored 0 1 ∷ []) shows pair finds formers → ⊥
 not_stored shows finds formers a = subst (TouchesSpans pair) a.ran a.touches
 
 -- a span that was found loose is one of the loose ones
 not_passed_over : (shows : Shown → Type 0) (formers : List Former)
-    → Tries (λ es. es ≡ looks) shows pair (AreLooseNow pair []) formers → ⊥
+    → TriesSpans (λ es. es ≡ looks) shows pair (AreLooseNow pair []) formers → ⊥
 not_passed_over shows formers a = by (subst (AreLooseNow pair []) a.ran a.done.0).0.barred
   where
     found_calm : (w : ℕ) → IsFound 0 w looks → calm ≡ w
@@ -229,7 +230,7 @@ not_passed_over shows formers a = by (subst (AreLooseNow pair []) a.ran a.done.0
 -- looks claim no object
 not_claimed : (s : Shown) (shows : Shown → Type 0) (finds : List Event → Type 0) → shows s
     → LocalSound s pair → object_at s 0 ≡ is.Here 8 0
-    → Tries (λ es. es ≡ looks) shows pair finds (former ∷ []) → ⊥
+    → TriesSpans (λ es. es ≡ looks) shows pair finds (former ∷ []) → ⊥
 not_claimed s shows finds known sound was a =
     let c = subst (λ (es : List Event). AreClaimed es s (played es s) (former ∷ [])) a.ran
     (a.done.1 pair s known sound).0 in

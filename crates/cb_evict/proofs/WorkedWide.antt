@@ -7,11 +7,11 @@ use Rattle.std.proofs.lemmas.List.Elements.{All-nil, All-cons}
 use Rattle.std.proofs.Math.Dec.{ltb}
 use Rattle.cb_class.specs.declared.class.Class.{Class}
 use Rattle.cb_class.specs.Class.{IsClassOf, bytes_of, slots_of, words_of}
-use Rattle.cb_frame.specs.FreeFrames.{IsFree}
+use Rattle.cb_frame.specs.FreeFrames.{IsFreeFrame}
 use Rattle.cb_member.specs.declared.names.Shard.{Shard}
 use Rattle.cb_member.specs.Membership.{fresh_members}
 use Rattle.cb_member.proofs.Laws.{fresh-IsMembership}
-use Rattle.cb_node.specs.NodesState.{empty_nodes, row_at as row_under}
+use Rattle.cb_node.specs.NodesState.{empty_nodes, row_under}
 use Rattle.cb_ptr.specs.Steps.{Claims}
 use Rattle.cb_ptr.specs.Word.{hot_of, len_of, place_of}
 use Rattle.cb_ptr.proofs.Laws.{claims}
@@ -26,7 +26,7 @@ use Rattle.cb_world.specs.declared.object.Object.{Object}
 use Rattle.cb_world.specs.declared.object.Object.TheVariants as is
 use Rattle.cb_world.specs.declared.shown.Shown.{Shown}
 use Rattle.cb_world.specs.Choices.{room_count}
-use Rattle.cb_world.specs.FarSound.{AreAway, AreRows, AreSets, Owner, of_set, of_leaving, of_joining, IsShardOf}
+use Rattle.cb_world.specs.FarSound.{AreAway, AreShardRows, AreSets, Owner, of_set, of_leaving, of_joining, IsShardOf}
 use Rattle.cb_world.specs.FarState.{FarState, handle_in, span_in}
 use Rattle.cb_world.specs.Homes.{home_at}
 use Rattle.cb_world.specs.LocalSound.{AreFrames, AreKnown, ArePlaced, HasSlot, IsStamped, LiesAt, NamesObject}
@@ -41,7 +41,7 @@ use Rattle.cb_world.specs.Survey.{no_survey}
 use Rattle.cb_world.specs.World.{IsKnown, word_at}
 use Rattle.cb_world.proofs.Laws.{some_same, room_empty, unsurveyed}
 use Rattle.cb_evict.specs.BeginRule.{with_batch, new_batch}
-use Rattle.cb_evict.specs.BeginStep.{AreHeld, IsBegunTo, IsBeginStep, begins}
+use Rattle.cb_evict.specs.BeginStep.{AreSpansClaimed, IsBegunTo, IsBeginStep, begins}
 use Rattle.cb_evict.specs.Looking.{IsIn}
 use Rattle.cb_evict.proofs.Options.{none_some}
 use Rattle.cb_evict.proofs.SmallWorlds.{is_word, row, zero_row}
@@ -135,7 +135,7 @@ is_span = record { in_table = lit< tt; sized = refl }
 are_frames : AreFrames far
 are_frames = record { sized = refl; free = free; valid = valid; taken = taken }
   where
-    free : (f : ℕ) → f < 1 → IsFree far.frames f ↔ (span_in far.spans f ≡ None)
+    free : (f : ℕ) → f < 1 → IsFreeFrame far.frames f ↔ (span_in far.spans f ≡ None)
     free zero below = (λ e. absurd (cc), λ e. absurd (cc))
     free (suc f) below = absurd (omega (arith, below))
 
@@ -209,7 +209,7 @@ are_away = record {
     no_home zero home e = none_some home e
     no_home (suc h) home e = none_some home e
 
-are_rows : AreRows far
+are_rows : AreShardRows far
 are_rows = record {
   members = fresh-IsMembership 2 (lit< tt);
   counted = refl;
@@ -309,7 +309,7 @@ only_object h (f, (zero, l, e), (slot, named)) =
     go (suc (suc (suc (suc n)))) e = absurd (none_some h e)
 only_object h (f, (suc k, l, e), named) = absurd (omega (arith, l))
 
-held : AreHeld (desk calm) (desk (calm + 1)) far (0 ∷ [])
+held : AreSpansClaimed (desk calm) (desk (calm + 1)) far (0 ∷ [])
 held = record {
   changed = λ h i. subst (λ (k : ℕ). Claims (word_at (desk calm) k) (word_at (desk (calm + 1)) k))
       (only_object h i) (claims calm refl refl);

@@ -17,12 +17,12 @@ use Rattle.cb_world.specs.Placed.{leaving_frames}
 use Rattle.cb_evict.specs.Looking.{IsIn}
 
 -- the object is in a span that is leaving
-abbrev pub IsLeavingNow : FarState → ℕ → Type 0
-IsLeavingNow far h = IsIn far.spans (leaving_frames far.leaving) h
+abbrev pub IsInLeavingSpan : FarState → ℕ → Type 0
+IsInLeavingSpan far h = IsIn far.spans (leaving_frames far.leaving) h
 
 -- the object was here and is claimed at its place, with the version and the words that its claim
 -- told
-pub record IsClaimedNow (es : List Event) (s t : Shown) (h : ℕ) : Type 0 where
+pub record IsClaimedThere (es : List Event) (s t : Shown) (h : ℕ) : Type 0 where
   pub word : ℕ
   pub version : ℕ
   pub words : List ℕ
@@ -34,9 +34,9 @@ pub record IsClaimedNow (es : List Event) (s t : Shown) (h : ℕ) : Type 0 where
 -- The objects of the spans that are leaving are claimed, every other object is as it was, words and
 -- hot bits are as the events told of them, and no version is written. So the last complete contents
 -- of every object stay.
-pub record IsBegun (far new : FarState) (es : List Event) (s t : Shown) : Type 0 where
-  pub claimed : (h : ℕ) → IsLeavingNow new h → IsClaimedNow es s t h
-  pub others : (h : ℕ) → ¬ (IsLeavingNow new h) → object_at t h ≡ object_at s h
+pub record IsBatchBegun (far new : FarState) (es : List Event) (s t : Shown) : Type 0 where
+  pub claimed : (h : ℕ) → IsInLeavingSpan new h → IsClaimedThere es s t h
+  pub others : (h : ℕ) → ¬ (IsInLeavingSpan new h) → object_at t h ≡ object_at s h
   pub hots : t.hots ≡ (told_by es s).hots
   pub first : t.first ≡ s.first
   pub objects : length t.objects ≡ length s.objects
@@ -48,5 +48,5 @@ pub record IsBegun (far new : FarState) (es : List Event) (s t : Shown) : Type 0
 -- by the reply; a refusal changes nothing
 pub record BeginEffect (far new : FarState) (r : Reply) (es : List Event) (s t : Shown)
     : Type 0 where
-  pub begun : (id : SetId) → r ≡ answer.Batch id → IsBegun far new es s t
+  pub begun : (id : SetId) → r ≡ answer.Batch id → IsBatchBegun far new es s t
   pub left : ((id : SetId) → r ≡ answer.Batch id → ⊥) → IsStill es s t

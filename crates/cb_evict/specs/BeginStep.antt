@@ -26,8 +26,8 @@ abbrev pub frame_rows : Words → List ℕ → List (List ℕ)
 frame_rows x frames = map (λ f. row_of (window x.memory (512 * f) 512)) frames
 
 -- The objects of the spans in these frames are claimed: each word is as it was, and Moving.
-abbrev pub AreHeld : Words → Words → FarState → List ℕ → Type 0
-AreHeld x y far frames = ChangesWords x y
+abbrev pub AreSpansClaimed : Words → Words → FarState → List ℕ → Type 0
+AreSpansClaimed x y far frames = ChangesWords x y
     ((h : ℕ) → IsIn far.spans frames h → Claims (word_at x h) (word_at y h))
     (λ h. ¬ (IsIn far.spans frames h))
 
@@ -44,7 +44,7 @@ pub record IsBegunTo (x y : Words) (far new : FarState) (frames : List ℕ) : Ty
   pub count : length parities ≡ x.settings.r
   pub word : IsSpanWord x.settings.k x.settings.r (frame_rows x frames ++ parities)
   pub state : new ≡ with_batch x.settings far frames words parities
-  pub held : AreHeld x y far frames
+  pub held : AreSpansClaimed x y far frames
 
 -- enough spans are loose and enough nodes have room: the first k of the loose spans are leaving
 pub record IsBatchMade (x y : Words) (far new : FarState) (r : Reply) : Type 0 where

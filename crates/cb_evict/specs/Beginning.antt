@@ -13,7 +13,7 @@ use Rattle.cb_world.specs.Reserved.{set_from}
 use Rattle.cb_evict.specs.Loading.{LoadsFrames}
 use Rattle.cb_evict.specs.Evicting.{EndsClaimed}
 use Rattle.cb_evict.specs.BeginRule.{HasBegun, blank_shards}
-use Rattle.cb_evict.specs.BeginEffect.{IsBegun}
+use Rattle.cb_evict.specs.BeginEffect.{IsBatchBegun}
 
 -- the far state where the set is kept that a batch will be
 abbrev pub with_reserved : FarState → List Shard → List ℕ → FarState
@@ -43,4 +43,4 @@ pub record ReservesFrames (runs : List Event → Type 0) (shows : Shown → Type
 abbrev pub BeginsClaimed : (List Event → Type 0) → (Shown → Type 0) → Config → FarState → FarState
     → List ℕ → List Former → Type 0
 BeginsClaimed runs shows c far new frames formers =
-    EndsClaimed runs shows far new frames formers (HasBegun c far new frames) (IsBegun far new)
+    EndsClaimed runs shows far new frames formers (HasBegun c far new frames) (IsBatchBegun far new)

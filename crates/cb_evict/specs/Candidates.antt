@@ -52,21 +52,21 @@ abbrev pub candidates : FarState → List ℕ
 candidates far = candidates_of far.spans (leaving_frames far.leaving)
 
 -- a slot of the frame's span has the object of h
-abbrev pub Names : List (Option Contents) → ℕ → ℕ → Type 0
-Names spans f h = (slot : ℕ) × (resident spans f slot ≡ Some h)
+abbrev pub SpanNames : List (Option Contents) → ℕ → ℕ → Type 0
+SpanNames spans f h = (slot : ℕ) × (resident spans f slot ≡ Some h)
 
 -- the span in the frame is loose by the last looks: each of its objects was found at a word at
 -- which it can be claimed, so neither pinned nor claimed
 abbrev pub IsLoose : List Event → List (Option Contents) → ℕ → Type 0
-IsLoose es spans f = (h : ℕ) → Names spans f h → (w : ℕ) × IsFound h w es × IsFree w
+IsLoose es spans f = (h : ℕ) → SpanNames spans f h → (w : ℕ) × IsFound h w es × IsFree w
 
 -- each of its objects was looked at
 abbrev pub IsSeen : List Event → List (Option Contents) → ℕ → Type 0
-IsSeen es spans f = (h : ℕ) → Names spans f h → (w : ℕ) × IsFound h w es
+IsSeen es spans f = (h : ℕ) → SpanNames spans f h → (w : ℕ) × IsFound h w es
 
 -- one of its objects was found at a word at which it can't be claimed
 abbrev pub IsBarred : List Event → List (Option Contents) → ℕ → Type 0
-IsBarred es spans f = (h w : ℕ) × Names spans f h × IsFound h w es × ¬ (IsFree w)
+IsBarred es spans f = (h w : ℕ) × SpanNames spans f h × IsFound h w es × ¬ (IsFree w)
 
 -- the span in the frame is held up by the last looks: each of its objects was looked at, and one of
 -- them can't be claimed
@@ -85,6 +85,6 @@ AreLoose es spans (f ∷ frames) (g ∷ loose) =
 
 -- an object has one slot of one span at most, and its handle is below so many
 pub record AreUnique (spans : List (Option Contents)) (handles : ℕ) : Type 0 where
-  pub below : (f h : ℕ) → Names spans f h → h < handles
-  pub one_frame : (f g h : ℕ) → Names spans f h → Names spans g h → f ≡ g
+  pub below : (f h : ℕ) → SpanNames spans f h → h < handles
+  pub one_frame : (f g h : ℕ) → SpanNames spans f h → SpanNames spans g h → f ≡ g
   pub one_slot : (f i j h : ℕ) → resident spans f i ≡ Some h → resident spans f j ≡ Some h → i ≡ j

@@ -9,10 +9,10 @@ use Rattle.cb_world.specs.Played.{played}
 use Rattle.cb_world.specs.FarState.{FarState, span_in}
 use Rattle.cb_world.specs.LocalSound.{LocalSound}
 use Rattle.cb_world.specs.Reserved.{table_of}
-use Rattle.cb_evict.specs.Candidates.{Names, IsLoose, AreLoose, IsBarred}
-use Rattle.cb_evict.specs.Looking.{Has, IsIn, IsSlotHeldUp, SpanFinds}
+use Rattle.cb_evict.specs.Candidates.{SpanNames, IsLoose, AreLoose, IsBarred}
+use Rattle.cb_evict.specs.Looking.{IsIn, IsSlotHeldUp, SpanFinds, SpanHas}
 use Rattle.cb_evict.specs.CallPart.{CallPart, Settles}
-use Rattle.cb_evict.specs.Events.{IsSteady}
+use Rattle.cb_evict.specs.Events.{AreSteady}
 use Rattle.cb_evict.specs.Claims.{AreClaimed, AreBack, AreApart, IsHeldAt}
 use Rattle.cb_evict.specs.Order.{noted_of, objects_in, objects_of}
 
@@ -22,21 +22,21 @@ IsOne formers h = (former : Former) × Contains formers former × (former.handle
 
 -- what claims do, for all knowledge that the desk shows and of which the local part is sound: these
 -- objects are claimed, and the events are allowed and write no version
-abbrev pub Claims : (Shown → Type 0) → FarState → List Event → List Former → Type 0
-Claims shows far es formers = (s : Shown) → shows s → LocalSound s far
-    → AreClaimed es s (played es s) formers × LocalSound (played es s) far × IsSteady es s
+abbrev pub ClaimsObjects : (Shown → Type 0) → FarState → List Event → List Former → Type 0
+ClaimsObjects shows far es formers = (s : Shown) → shows s → LocalSound s far
+    → AreClaimed es s (played es s) formers × LocalSound (played es s) far × AreSteady es s
 
 -- claimed objects are settled at the words that are noted
 abbrev pub GivesBack : (List Event → Type 0) → (Shown → Type 0) → List Former → Type 0
 GivesBack runs shows formers = Settles runs (IsOne formers) (λ p. ⊥) (λ es. (s : Shown)
     (far : FarState) → shows s → LocalSound s far → All (IsHeldAt s) formers
-    → AreBack s (played es s) formers × LocalSound (played es s) far × IsSteady es s)
+    → AreBack s (played es s) formers × LocalSound (played es s) far × AreSteady es s)
 
 -- these objects are claimed, and this is found
 abbrev pub ClaimsThese : (List Event → Type 0) → (Shown → Type 0) → (ℕ → Type 0) → (ℕ → Type 0)
     → (List Event → Type 0) → List Former → Type 0
 ClaimsThese runs shows objects words finds formers = CallPart runs objects words (λ es.
-    finds es × ((far : FarState) → Claims shows far es formers))
+    finds es × ((far : FarState) → ClaimsObjects shows far es formers))
 
 -- what came of the claim of the object in a slot, if there is one: it is noted, or it was found at
 -- a word at which it can't be claimed
@@ -59,7 +59,7 @@ pub record AreOf (has : ℕ → Type 0) (formers : List Former) : Type 0 where
   pub only : All (λ former. has former.handle) formers
 
 abbrev pub SpanNotes : Bool → List Event → Contents → List Former → Type 0
-SpanNotes true es span more = AreOf (Has span) more × (noted_of more ≡ objects_in span.slots)
+SpanNotes true es span more = AreOf (SpanHas span) more × (noted_of more ≡ objects_in span.slots)
 SpanNotes false es span more = (more ≡ []) × SpanFinds false es span
 
 -- the claim of all objects of a span, or of none
@@ -68,7 +68,8 @@ pub record ClaimsSpan (runs : List Event → Type 0) (shows : Shown → Type 0) 
   pub more : List Former
   pub noted : new ≡ old ++ more
   pub each_once : AreApart more
-  pub part : ClaimsThese runs shows (Has span) (λ p. ⊥) (λ es. SpanNotes claimed es span more) more
+  pub part : ClaimsThese runs shows (SpanHas span) (λ p. ⊥) (λ es. SpanNotes claimed es span more)
+      more
 
 -- the claim of the span in a frame, which is added if all its objects are claimed
 pub record ClaimsFrame (runs : List Event → Type 0) (shows : Shown → Type 0)
@@ -77,8 +78,8 @@ pub record ClaimsFrame (runs : List Event → Type 0) (shows : Shown → Type 0)
   pub more : List Former
   pub noted : after ≡ before ++ more
   pub each_once : AreApart more
-  pub part : ClaimsThese runs shows (Names spans f) (λ p. ⊥) (λ es.
-      (AreOf (Names spans f) more × (new ≡ old ++ f ∷ []) × IsLoose es spans f
+  pub part : ClaimsThese runs shows (SpanNames spans f) (λ p. ⊥) (λ es.
+      (AreOf (SpanNames spans f) more × (new ≡ old ++ f ∷ []) × IsLoose es spans f
       × (noted_of more ≡ objects_in (table_of (span_in spans f))))
       ⊎ ((more ≡ []) × (new ≡ old) × IsBarred es spans f)) more
 

@@ -7,7 +7,7 @@ use Rattle.cb_world.specs.declared.homes.Home.{Home}
 use Rattle.cb_world.specs.Homes.{HasHomes, home_at}
 use Rattle.cb_world.specs.FarState.{FarState, span_in, resident}
 use Rattle.cb_world.specs.Reserved.{table_of}
-use Rattle.cb_evict.specs.Candidates.{Names}
+use Rattle.cb_evict.specs.Candidates.{SpanNames}
 
 -- the frames that are free once these are given back
 abbrev pub all_given : List Bool → List ℕ → List Bool
@@ -26,7 +26,7 @@ pub record HaveHomes (spans : List (Option Contents)) (frames : List ℕ) (set :
   pub count : length new ≡ length old
   pub here : (p f slot h : ℕ) → slice_get frames p ≡ Some f → resident spans f slot ≡ Some h
       → home_at new h ≡ Some (record { set = set; position = p; slot = slot })
-  pub others : (h : ℕ) → ((f : ℕ) → Contains frames f → Names spans f h → ⊥)
+  pub others : (h : ℕ) → ((f : ℕ) → Contains frames f → SpanNames spans f h → ⊥)
       → home_at new h ≡ home_at old h
 
 -- the far state with these homes, without the spans in these frames, which are given back

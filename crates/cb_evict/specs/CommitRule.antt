@@ -55,7 +55,8 @@ pub record CommitRule (far new : FarState) (r : Reply) (es : List Event) : Type 
 -- The objects of the batch are away, cold, with the versions and the words that they had, every
 -- other object and every word is as it was, and no version is written. So the last complete
 -- contents of every object stay.
-pub record IsCommitted (far new : FarState) (batch : LeavingState) (es : List Event) (s t : Shown)
+pub record IsBatchCommitted (far new : FarState) (batch : LeavingState) (es : List Event)
+    (s t : Shown)
     : Type 0 where
   pub sent : AreSent s t batch.words
   pub nothing : Writes es s []
@@ -64,5 +65,5 @@ pub record IsCommitted (far new : FarState) (batch : LeavingState) (es : List Ev
 -- by the reply; a refusal changes nothing
 pub record CommitEffect (far new : FarState) (r : Reply) (es : List Event) (s t : Shown) : Type 0 where
   pub committed : (batch : LeavingState) (id : SetId) → far.leaving ≡ Some batch
-      → r ≡ answer.Set id → IsCommitted far new batch es s t
+      → r ≡ answer.Set id → IsBatchCommitted far new batch es s t
   pub left : ((id : SetId) → r ≡ answer.Set id → ⊥) → IsStill es s t

@@ -25,7 +25,7 @@ OnlyLooks (Looked h w ∷ es) = OnlyLooks es
 OnlyLooks (e ∷ es) = ⊥
 
 -- the events are allowed, write no version, and leave the hot bits as they told of them
-pub record IsSteady (es : List Event) (s : Shown) : Type 0 where
+pub record AreSteady (es : List Event) (s : Shown) : Type 0 where
   pub allowed : Allowed s es
   pub nothing : Writes es s []
   pub hots : (played es s).hots ≡ (told_by es s).hots

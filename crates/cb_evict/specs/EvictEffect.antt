@@ -1,7 +1,7 @@
 -- What an eviction does.
 use Rattle.std.specs.Prelude.{◌≡◌, ℕ, ◌*◌, false, List, [], None, Some, length, slice_get}
 use Rattle.cb_member.specs.declared.names.Shard.{Shard}
-use Rattle.cb_node.specs.NodesState.{row_at as row_under}
+use Rattle.cb_node.specs.NodesState.{row_under}
 use Rattle.cb_ptr.specs.Word.{len_of}
 use Rattle.cb_set.specs.SetState.{SetState}
 use Rattle.cb_types.specs.declared.handle.SetId.{SetId}
@@ -21,11 +21,11 @@ use Rattle.cb_world.specs.Memory.{window}
 use Rattle.cb_world.specs.RowWords.{row_of}
 use Rattle.cb_world.specs.Sets.{set_in}
 use Rattle.cb_world.specs.Now.{now}
-use Rattle.cb_evict.specs.Candidates.{Names}
+use Rattle.cb_evict.specs.Candidates.{SpanNames}
 
 -- the object was in a span that is gone
 abbrev pub HasLeft : FarState → FarState → ℕ → Type 0
-HasLeft far new h = (f : ℕ) × Names far.spans f h × (span_in new.spans f ≡ None)
+HasLeft far new h = (f : ℕ) × SpanNames far.spans f h × (span_in new.spans f ≡ None)
 
 -- the object is away, cold, with the version and the words that its claim told
 pub record IsAway (es : List Event) (t : Shown) (h : ℕ) : Type 0 where
@@ -41,7 +41,7 @@ pub record IsAway (es : List Event) (t : Shown) (h : ℕ) : Type 0 where
 -- are as in this memory
 abbrev pub HaveFrameRows : FarState → FarState → List ℕ → Type 0
 HaveFrameRows far new memory = (h f : ℕ) (home : Home) (set : SetState) (shard : Shard)
-    → Names far.spans f h → span_in new.spans f ≡ None → home_at new.homes h ≡ Some home
+    → SpanNames far.spans f h → span_in new.spans f ≡ None → home_at new.homes h ≡ Some home
     → set_in new.sets home.set ≡ Some set → slice_get set.shards home.position ≡ Some shard
     → row_under new.nodes shard.node shard.key ≡ Some (row_of (window memory (512 * f) 512))
 

@@ -14,7 +14,7 @@ use Rattle.cb_world.specs.Still.{IsStill}
 use Rattle.cb_world.specs.FarState.{FarState}
 use Rattle.cb_evict.specs.CallPart.{Settles}
 use Rattle.cb_evict.specs.Candidates.{candidates}
-use Rattle.cb_evict.specs.Events.{TouchesOnly, IsSteady}
+use Rattle.cb_evict.specs.Events.{TouchesOnly, AreSteady}
 use Rattle.cb_evict.specs.Claims.{AreApart, AreClaimed}
 use Rattle.cb_evict.specs.Claiming.{AreOf}
 use Rattle.cb_evict.specs.Looking.{IsIn}
@@ -29,7 +29,7 @@ abbrev pub TouchesSpans : FarState → List Event → Type 0
 TouchesSpans far es = TouchesOnly (IsIn far.spans (candidates far)) (LiesInOne (candidates far)) es
 
 -- k different spans may leave, and these are their objects, in order
-pub record AreTaken (c : Config) (far : FarState) (frames : List ℕ) (formers : List Former)
+pub record AreSpansTaken (c : Config) (far : FarState) (frames : List ℕ) (formers : List Former)
     : Type 0 where
   pub count : length frames ≡ c.k
   pub among : All (Contains (candidates far)) frames
@@ -40,13 +40,13 @@ pub record AreTaken (c : Config) (far : FarState) (frames : List ℕ) (formers :
 
 -- the desk shows what is known after these events, by which these objects were claimed in a sound
 -- world
-pub record IsReady (shows : Shown → Type 0) (far : FarState) (formers : List Former)
+pub record IsReadyToEvict (shows : Shown → Type 0) (far : FarState) (formers : List Former)
     (before : List Event) (s : Shown) : Type 0 where
   pub shown : shows (played before s)
   pub sound : Sound s far
   pub claimed : AreClaimed before s (played before s) formers
   pub here : LocalSound (played before s) far
-  pub steady : IsSteady before s
+  pub steady : AreSteady before s
   pub touches : TouchesSpans far before
 
 -- what is so of all events, those before a part too, and what they do
@@ -63,7 +63,7 @@ abbrev pub EndsClaimed : (List Event → Type 0) → (Shown → Type 0) → FarS
     → List Former → (List Event → Type 0) → (List Event → Shown → Shown → Type 0) → Type 0
 EndsClaimed runs shows far new frames formers ends does =
     Settles runs (IsIn far.spans frames) (LiesInOne frames) (λ es. (before : List Event) (s : Shown)
-    → IsReady shows far formers before s → IsEnded new before es s ends does)
+    → IsReadyToEvict shows far formers before s → IsEnded new before es s ends does)
 
 -- claimed spans are evicted
 abbrev pub EvictsClaimed : (List Event → Type 0) → (Shown → Type 0) → Config → FarState → FarState

@@ -21,7 +21,8 @@ pub record FindsLoose (runs : List Event → Type 0) (c : Config) (far : FarStat
   pub nodes : n ≡ room_count far.nodes far.members
 
 -- by the answer: there is too little, or the spans are loose
-abbrev pub Finds : (List Event → Type 0) → (Shown → Type 0) → Config → FarState → Found → Type 0
-Finds runs shows c far (Few lack loose nodes) =
+abbrev pub FindsSpans : (List Event → Type 0) → (Shown → Type 0) → Config → FarState → Found
+    → Type 0
+FindsSpans runs shows c far (Few lack loose nodes) =
     TakesFew runs shows c far (AreLooseNow far) (Refused lack loose nodes)
-Finds runs shows c far (Loose frames nodes) = FindsLoose runs c far frames.items nodes
+FindsSpans runs shows c far (Loose frames nodes) = FindsLoose runs c far frames.items nodes

@@ -10,12 +10,12 @@ use Rattle.cb_world.specs.Memory.{window}
 use Rattle.cb_world.specs.RowWords.{row_of}
 
 -- the word p lies in the frame
-abbrev pub LiesIn : ℕ → ℕ → Type 0
-LiesIn f p = (512 * f ≤ p) × (p < 512 * f + 512)
+abbrev pub LiesInFrame : ℕ → ℕ → Type 0
+LiesInFrame f p = (512 * f ≤ p) × (p < 512 * f + 512)
 
 -- the word p lies in one of the frames
 abbrev pub LiesInOne : List ℕ → ℕ → Type 0
-LiesInOne frames p = (f : ℕ) × Contains frames f × LiesIn f p
+LiesInOne frames p = (f : ℕ) × Contains frames f × LiesInFrame f p
 
 -- each event reads a word at one of these places
 abbrev pub OnlyLoads : (ℕ → Type 0) → List Event → Type 0
@@ -25,10 +25,10 @@ OnlyLoads places (e ∷ es) = ⊥
 
 -- the caller owns all words of the frame
 abbrev pub OwnsFrame : Shown → ℕ → Type 0
-OwnsFrame s f = (p : ℕ) → LiesIn f p → Owns s p
+OwnsFrame s f = (p : ℕ) → LiesInFrame f p → Owns s p
 
 -- the row is made of the words of the frame, which the desk shows where the caller owns them
-pub record IsRowOf (shows : Shown → Type 0) (f : ℕ) (row : List ℕ) : Type 0 where
+pub record IsRowOfFrame (shows : Shown → Type 0) (f : ℕ) (row : List ℕ) : Type 0 where
   pub words : List ℕ
   pub count : length words ≡ 512
   pub small : All (λ w. w < 2 ^ 64) words
@@ -40,8 +40,8 @@ pub record LoadsFrame (runs : List Event → Type 0) (shows : Shown → Type 0) 
     : Type 0 where
   pub events : List Event
   pub ran : runs events
-  pub loads : OnlyLoads (LiesIn f) events
-  pub made : IsRowOf shows f row
+  pub loads : OnlyLoads (LiesInFrame f) events
+  pub made : IsRowOfFrame shows f row
 
 -- so of each frame, into the row at its place
 pub record LoadsFrames (runs : List Event → Type 0) (shows : Shown → Type 0) (frames : List ℕ)
@@ -49,4 +49,4 @@ pub record LoadsFrames (runs : List Event → Type 0) (shows : Shown → Type 0)
   pub events : List Event
   pub ran : runs events
   pub loads : OnlyLoads (LiesInOne frames) events
-  pub made : (p f : ℕ) → slice_get frames p ≡ Some f → IsRowOf shows f (row_at rows p)
+  pub made : (p f : ℕ) → slice_get frames p ≡ Some f → IsRowOfFrame shows f (row_at rows p)

@@ -49,7 +49,7 @@ pub record IsRestoring (far : FarState) (es : List Event) (s : Shown) (formers :
   pub nothing : Writes es s []
 
 -- claimed objects are settled at the words that are noted
-abbrev pub Restores : (List Event → Type 0) → (Shown → Type 0) → List Former → Type 0
-Restores runs shows formers = Settles runs (IsOne formers) (λ p. ⊥)
+abbrev pub RestoresClaims : (List Event → Type 0) → (Shown → Type 0) → List Former → Type 0
+RestoresClaims runs shows formers = Settles runs (IsOne formers) (λ p. ⊥)
     (λ es. (s : Shown) (far : FarState) → shows s → LocalSound s far → All (IsClaimedFrom s) formers
     → IsRestoring far es s formers)

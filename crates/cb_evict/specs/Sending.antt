@@ -15,7 +15,7 @@ use Rattle.cb_evict.specs.Claiming.{IsOne}
 
 -- the object is claimed at the word that is noted, and its version word is its last complete
 -- version
-pub record IsTold (s : Shown) (former : Former) : Type 0 where
+pub record IsFormerTold (s : Shown) (former : Former) : Type 0 where
   pub version : ℕ
   pub words : List ℕ
   pub object : object_at s former.handle
@@ -46,4 +46,4 @@ pub record IsSending (es : List Event) (s : Shown) (formers : List Former) : Typ
 -- claimed objects are settled as away
 abbrev pub Sends : (List Event → Type 0) → (Shown → Type 0) → List Former → Type 0
 Sends runs shows formers = Settles runs (IsOne formers) (λ p. ⊥)
-    (λ es. (s : Shown) → shows s → All (IsTold s) formers → IsSending es s formers)
+    (λ es. (s : Shown) → shows s → All (IsFormerTold s) formers → IsSending es s formers)

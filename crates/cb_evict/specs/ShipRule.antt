@@ -81,8 +81,8 @@ pub record HasShipped (far new : FarState) (r : Reply) (row : LeavingState → �
     pub state : new ≡ with_shipped far batch position shard (row batch position)
 
 -- the reply and the far state afterwards, where a position of a batch has this row
-abbrev pub Ships : FarState → FarState → Reply → (LeavingState → ℕ → List ℕ) → Type 0
-Ships far new r row =
+abbrev pub ShipsRow : FarState → FarState → Reply → (LeavingState → ℕ → List ℕ) → Type 0
+ShipsRow far new r row =
     HasNoBatch far new r ⊎ (HasAllShipped far new r ⊎ (HasNoNode far new r
     ⊎ HasShipped far new r row))
 
@@ -93,7 +93,7 @@ ReadsLeaving far es = OnlyLoads (LiesInOne (leaving_frames far.leaving)) es
 -- so, whatever was read
 pub record ShipRule (far new : FarState) (r : Reply) (es : List Event) : Type 0 where
   pub row : LeavingState → ℕ → List ℕ
-  pub ships : Ships far new r row
+  pub ships : ShipsRow far new r row
   pub reads : ReadsLeaving far es
 
 -- no object and no word changes, and the row is that of the span as it stands in memory, or the
@@ -101,4 +101,4 @@ pub record ShipRule (far new : FarState) (r : Reply) (es : List Event) : Type 0 
 pub record ShipEffect (far new : FarState) (r : Reply) (es : List Event) (s t : Shown) : Type 0
   where
     pub still : IsStill es s t
-    pub ships : Ships far new r (λ batch. row_at (batch_rows s batch))
+    pub ships : ShipsRow far new r (λ batch. row_at (batch_rows s batch))

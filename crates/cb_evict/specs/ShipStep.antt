@@ -6,7 +6,7 @@ use Rattle.cb_world.specs.FarState.{FarState}
 use Rattle.cb_world.specs.Leaving.{LeavingState}
 use Rattle.cb_world.specs.Plain.{Words}
 use Rattle.cb_evict.specs.BeginStep.{frame_rows}
-use Rattle.cb_evict.specs.ShipRule.{Ships}
+use Rattle.cb_evict.specs.ShipRule.{ShipsRow}
 
 -- the rows of a batch at a desk: the words of its frames, and its parities
 abbrev pub rows_at_desk : Words → LeavingState → List (List ℕ)
@@ -15,4 +15,4 @@ rows_at_desk desk batch = frame_rows desk batch.frames ++ batch.parities
 -- A turn that ships a row, from the words x to the words y: no word changes.
 pub record IsShipStep (x y : Words) (far new : FarState) (r : Reply) : Type 0 where
   pub words : y ≡ x
-  pub ships : Ships far new r (λ batch. row_at (rows_at_desk x batch))
+  pub ships : ShipsRow far new r (λ batch. row_at (rows_at_desk x batch))

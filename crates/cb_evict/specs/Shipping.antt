@@ -19,18 +19,18 @@ use Rattle.cb_evict.specs.ShipRule.{IsShardFor, ReadsLeaving, other_puts, with_s
 use Rattle.cb_evict.specs.Waiting.{least_waiting}
 
 -- what is to be put next of a batch, and under which shard
-abbrev pub IsNextOf : FarState → LeavingState → NextPut → Type 0
-IsNextOf far batch next.NoBatch = ⊥
-IsNextOf far batch next.AllShipped = least_waiting far.members batch.shards ≡ None
-IsNextOf far batch next.NoNode = (p : ℕ) × (least_waiting far.members batch.shards ≡ Some p)
+abbrev pub IsNextPutOf : FarState → LeavingState → NextPut → Type 0
+IsNextPutOf far batch next.NoBatch = ⊥
+IsNextPutOf far batch next.AllShipped = least_waiting far.members batch.shards ≡ None
+IsNextPutOf far batch next.NoNode = (p : ℕ) × (least_waiting far.members batch.shards ≡ Some p)
     × ((node : NodeId) → ¬ (MayPut far.nodes far.members (other_puts batch.shards p) node))
-IsNextOf far batch (next.Put p shard) = (least_waiting far.members batch.shards ≡ Some p)
+IsNextPutOf far batch (next.Put p shard) = (least_waiting far.members batch.shards ≡ Some p)
     × IsShardFor far batch p shard
 
 -- so, where one is leaving
-abbrev pub IsNext : FarState → NextPut → Type 0
-IsNext far next.NoBatch = far.leaving ≡ None
-IsNext far x = (batch : LeavingState) × (far.leaving ≡ Some batch) × IsNextOf far batch x
+abbrev pub IsNextPut : FarState → NextPut → Type 0
+IsNextPut far next.NoBatch = far.leaving ≡ None
+IsNextPut far x = (batch : LeavingState) × (far.leaving ≡ Some batch) × IsNextPutOf far batch x
 
 -- a position of the batch that is leaving waits for its row to be put
 abbrev pub Waits : FarState → Type 0

@@ -14,7 +14,7 @@ use Rattle.cb_evict.specs.Candidates.{candidates, AreLoose}
 use Rattle.cb_evict.specs.Claiming.{ClaimsThese}
 use Rattle.cb_evict.specs.EvictRule.{HasFewSpans, HasFewNodes}
 use Rattle.cb_evict.specs.Eviction.{reply_of, TellsCounts}
-use Rattle.cb_evict.specs.Evicting.{AreTaken}
+use Rattle.cb_evict.specs.Evicting.{AreSpansTaken}
 use Rattle.cb_evict.specs.Loading.{LiesInOne}
 use Rattle.cb_evict.specs.Looking.{IsIn}
 
@@ -29,9 +29,9 @@ AreLooseStill far was loose es = (before : List Event) → AreLooseNow far was b
 
 -- Spans that may leave are looked at and claimed, and this is found. In the end these objects are
 -- claimed, and all else is as it was.
-abbrev pub Tries : (List Event → Type 0) → (Shown → Type 0) → FarState → (List Event → Type 0)
+abbrev pub TriesSpans : (List Event → Type 0) → (Shown → Type 0) → FarState → (List Event → Type 0)
     → List Former → Type 0
-Tries runs shows far finds formers = ClaimsThese runs shows (IsIn far.spans (candidates far))
+TriesSpans runs shows far finds formers = ClaimsThese runs shows (IsIn far.spans (candidates far))
     (LiesInOne (candidates far)) finds formers
 
 -- fewer than k spans are loose, or fewer than k + r nodes have room; this refusal tells so, and no
@@ -39,7 +39,7 @@ Tries runs shows far finds formers = ClaimsThese runs shows (IsIn far.spans (can
 pub record TakesFew (runs : List Event → Type 0) (shows : Shown → Type 0) (c : Config)
     (far : FarState) (finds : List ℕ → List Event → Type 0) (e : Eviction) : Type 0 where
   pub loose : List ℕ
-  pub tries : Tries runs shows far (finds loose) []
+  pub tries : TriesSpans runs shows far (finds loose) []
   pub few : HasFewSpans c far far (reply_of e) loose ⊎ HasFewNodes c far far (reply_of e) loose
   pub counts : TellsCounts far loose e
 
@@ -48,11 +48,11 @@ pub record TakesEnough (runs : List Event → Type 0) (shows : Shown → Type 0)
     (far : FarState) (finds : List ℕ → List Event → Type 0) (frames : List ℕ)
     (formers : List Former) : Type 0 where
   pub loose : List ℕ
-  pub tries : Tries runs shows far (finds loose) formers
+  pub tries : TriesSpans runs shows far (finds loose) formers
   pub enough : c.k ≤ length loose
   pub first : frames ≡ take c.k loose
   pub room : c.k + c.r ≤ room_count far.nodes far.members
-  pub taken : AreTaken c far frames formers
+  pub taken : AreSpansTaken c far frames formers
 
 -- by the answer
 abbrev pub Takes : (List Event → Type 0) → (Shown → Type 0) → Config → FarState

@@ -15,7 +15,7 @@ ghost use Rattle.cb_world.specs.Performs.{Performs};
 ghost use Rattle.cb_evict.specs.BeginRule.{BeginRule, blank_shard, blank_shards};
 ghost use Rattle.cb_evict.specs.BeginEffect.{BeginEffect};
 ghost use Rattle.cb_evict.specs.Beginning.{AreParities, BeginsClaimed, ReservesFrames, with_reserved};
-ghost use Rattle.cb_evict.specs.Evicting.{AreTaken, IsReady, LeavesClaimed, ReadsFrames, TouchesSpans};
+ghost use Rattle.cb_evict.specs.Evicting.{AreSpansTaken, IsReadyToEvict, LeavesClaimed, ReadsFrames, TouchesSpans};
 
 use crate::claiming::give_back;
 use crate::eviction::refusal;
@@ -170,9 +170,9 @@ fn begin_claimed<D: Desk>(
     requires configured { IsConfigured (D.settings desk.old) far.old }
     requires counts { far.old.counts.sets < 2 ^ 62 }
     requires none { far.old.leaving ≡ None }
-    requires taken { AreTaken (D.settings desk.old) far.old frames.items formers.items }
+    requires taken { AreSpansTaken (D.settings desk.old) far.old frames.items formers.items }
     requires ready { (before : List Event) × (s : Shown)
-        × IsReady (λ t. D.shows desk.old t) far.old formers.items before s }
+        × IsReadyToEvict (λ t. D.shows desk.old t) far.old formers.items before s }
     ensures reply { IfOk result (λ reply.
         reply ≡ answer.Batch (record { n = far.old.counts.sets })) }
     ensures begun { OnOk result (BeginsClaimed (λ es. D.run desk.old es desk.new)

@@ -5,7 +5,7 @@ ghost use Rattle.cb_world.specs.declared.shown.Shown.{Shown};
 ghost use Rattle.cb_world.specs.FarState.{FarState, span_in};
 ghost use Rattle.cb_world.specs.LocalSound.{LocalSound};
 ghost use Rattle.cb_evict.specs.Candidates.{AreUnique};
-ghost use Rattle.cb_evict.specs.Looking.{Has};
+ghost use Rattle.cb_evict.specs.Looking.{SpanHas};
 ghost use Rattle.cb_evict.specs.Claims.{IsHeldAt, AreApart};
 ghost use Rattle.cb_evict.specs.Claiming.{GivesBack, ClaimsSlot, ClaimsSpan, ClaimsFrame, ClaimsSpans};
 
@@ -81,7 +81,7 @@ fn undo<D: Desk>(desk: &mut D, formers: &mut Vec<Former>, start: usize)
 /// Claims all objects of the span, or none: where one is pinned or claimed by another, those that
 /// were claimed are given back. Answers whether they are claimed; their words are noted then.
 pub(crate) fn claim_span<D: Desk>(desk: &mut D, span: &Span, formers: &mut Vec<Former>) -> bool
-    requires handles { (h : ℕ) → Has span.now h → h < (D.settings desk.old).handles }
+    requires handles { (h : ℕ) → SpanHas span.now h → h < (D.settings desk.old).handles }
     requires apart { (i j h : ℕ) → handle_at span.now i ≡ Some h → handle_at span.now j ≡ Some h → i ≡ j }
     requires room { vec_len formers.old + length span.now.slots ≤ vec_capacity formers.old }
     requires sound { (s : Shown) × D.shows desk.old s × ((far : FarState) × LocalSound s far) }

@@ -1,6 +1,6 @@
 ghost use Rattle.std.specs.Prelude.{◌≡◌, ◌≢◌, ◌^◌, ◌<◌, All, None, Some, length, slice_set};
 ghost use Rattle.std.specs.List.{AllPairs};
-ghost use Rattle.cb_frame.specs.FreeFrames.{IsFree, with_given};
+ghost use Rattle.cb_frame.specs.FreeFrames.{IsFreeFrame, with_given};
 ghost use Rattle.cb_span.specs.Contents.{Contents};
 ghost use Rattle.cb_world.specs.FarState.{span_in};
 ghost use Rattle.cb_evict.specs.Candidates.{AreUnique};
@@ -23,7 +23,7 @@ fn take_out(
 )
     requires there { (span : Contents) × (span_in spans.old frame ≡ Some span) }
     requires unique { AreUnique spans.old (length homes.old) }
-    requires busy { ¬ (IsFree free.old frame) }
+    requires busy { ¬ (IsFreeFrame free.old frame) }
     requires within { (frame < length free.old) × (frame < length spans.old) }
     ensures homes { HasHomes (table_of (span_in spans.old frame)) set position homes.old homes.new }
     ensures spans { spans.new ≡ slice_set spans.old frame None }
@@ -40,7 +40,7 @@ fn take_out(
 fn close_span(far: &mut Far, set: u64, position: u32, frame: u32)
     requires there { (span : Contents) × (span_in far.old.spans frame ≡ Some span) }
     requires unique { AreUnique far.old.spans (length far.old.homes) }
-    requires busy { ¬ (IsFree far.old.frames frame) }
+    requires busy { ¬ (IsFreeFrame far.old.frames frame) }
     requires within { (frame < length far.old.frames) × (frame < length far.old.spans) }
     ensures { ClosesSpan far.old far.new set position frame }
 {
@@ -62,7 +62,7 @@ pub(crate) fn close_spans(far: &mut Far, set: u64, frames: &[u32])
     requires unique { AreUnique far.old.spans (length far.old.homes) }
     requires apart { AllPairs (λ f g. f ≢ g) frames.now }
     requires within { All (λ f. (f < length far.old.frames) × (f < length far.old.spans)) frames.now }
-    requires busy { All (λ f. ¬ (IsFree far.old.frames f)) frames.now }
+    requires busy { All (λ f. ¬ (IsFreeFrame far.old.frames f)) frames.now }
     requires few { length frames.now < 2 ^ 32 }
     ensures state { far.new ≡ with_homes far.old frames.now far.new.homes }
     ensures homes { HaveHomes far.old.spans frames.now set far.old.homes far.new.homes }

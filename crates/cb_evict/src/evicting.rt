@@ -7,13 +7,13 @@ ghost use Rattle.cb_world.specs.declared.shown.Shown.{Shown};
 ghost use Rattle.cb_world.specs.World.{IsConfigured};
 ghost use Rattle.cb_world.specs.Still.{IsStill};
 ghost use Rattle.cb_world.specs.Choices.{room_count};
-ghost use Rattle.cb_world.specs.FarSound.{AreRows};
+ghost use Rattle.cb_world.specs.FarSound.{AreShardRows};
 ghost use Rattle.cb_world.specs.FarState.{span_in};
 ghost use Rattle.cb_world.specs.Sound.{Sound};
 ghost use Rattle.cb_world.specs.Performs.{Performs};
 ghost use Rattle.cb_evict.specs.EvictRule.{EvictRule};
 ghost use Rattle.cb_evict.specs.EvictEffect.{EvictEffect};
-ghost use Rattle.cb_evict.specs.Evicting.{AreTaken, EvictsClaimed, IsReady, LeavesClaimed, ReadsFrames, StoresFrames, TouchesSpans};
+ghost use Rattle.cb_evict.specs.Evicting.{AreSpansTaken, EvictsClaimed, IsReadyToEvict, LeavesClaimed, ReadsFrames, StoresFrames, TouchesSpans};
 ghost use Rattle.cb_evict.specs.Eviction.{CountsRule, reply_of};
 
 use crate::claiming::give_back;
@@ -114,7 +114,7 @@ fn store_frames<D: Desk>(desk: &mut D, far: &mut Far, frames: &[u32]) -> Result<
     requires there { All (λ f. (span : Contents) × (span_in far.old.spans f ≡ Some span))
         frames.now }
     requires below { All (λ f. f < (D.settings desk.old).frames) frames.now }
-    requires rows { AreRows far.old }
+    requires rows { AreShardRows far.old }
     ensures kept { OnOk result (StoresFrames (λ es. D.run desk.old es desk.new)
         (λ s. D.shows desk.old s) (D.settings desk.old) far.old far.new frames.now) }
     ensures read { OnErr result (ReadsFrames (λ es. D.run desk.old es desk.new) frames.now) }
@@ -141,9 +141,9 @@ fn evict_claimed<D: Desk>(
     requires counts { (far.old.counts.sets < 2 ^ 62) × (far.old.counts.keys < 2 ^ 62) }
     requires room { (D.settings desk.old).k + (D.settings desk.old).r
         ≤ room_count far.old.nodes far.old.members }
-    requires taken { AreTaken (D.settings desk.old) far.old frames.now formers.now }
+    requires taken { AreSpansTaken (D.settings desk.old) far.old frames.now formers.now }
     requires ready { (before : List Event) × (s : Shown)
-        × IsReady (λ t. D.shows desk.old t) far.old formers.now before s }
+        × IsReadyToEvict (λ t. D.shows desk.old t) far.old formers.now before s }
     ensures set { IfOk result (λ eviction.
         eviction ≡ Eviction.Set (record { n = far.old.counts.sets })) }
     ensures evict { OnOk result (EvictsClaimed (λ es. D.run desk.old es desk.new)

@@ -3,7 +3,7 @@ ghost use Rattle.cb_types.specs.Config.{IsAccepted};
 ghost use Rattle.cb_world.specs.declared.shown.Shown.{Shown};
 ghost use Rattle.cb_world.specs.World.{IsConfigured};
 ghost use Rattle.cb_world.specs.Sound.{Sound};
-ghost use Rattle.cb_evict.specs.Finding.{Finds};
+ghost use Rattle.cb_evict.specs.Finding.{FindsSpans};
 
 use crate::candidates::candidates;
 use crate::eviction::Lack;
@@ -35,7 +35,8 @@ pub(crate) fn find_spans<D: Desk>(
     requires config { (IsAccepted config) × (config ≡ D.settings desk.old) }
     requires configured { IsConfigured config far.now }
     requires sound { (s : Shown) × D.shows desk.old s × Sound s far.now }
-    ensures found { IfOk result (Finds (λ es. D.run desk.old es desk.new) (λ s. D.shows desk.old s)
+    ensures found { IfOk result
+        (FindsSpans (λ es. D.run desk.old es desk.new) (λ s. D.shows desk.old s)
         config far.now) }
     ensures error { OnErr result (D.run desk.old [] desk.new) }
 {

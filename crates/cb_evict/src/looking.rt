@@ -4,7 +4,7 @@ ghost use Rattle.std.specs.Prelude.{vec_len, vec_capacity};
 ghost use Rattle.cb_span.specs.Contents.{Contents, handle_at};
 ghost use Rattle.cb_world.specs.FarState.{span_in};
 ghost use Rattle.cb_evict.specs.Candidates.{AreUnique};
-ghost use Rattle.cb_evict.specs.Looking.{Has, LooksAtSlot, LooksAtSpan, LooksAtFrame, LooksOver};
+ghost use Rattle.cb_evict.specs.Looking.{SpanHas, LooksAtSlot, LooksAtSpan, LooksAtFrame, LooksOver};
 
 use cb_span::Span;
 use cb_types::Handle;
@@ -23,7 +23,7 @@ fn is_slot_loose<D: Desk>(desk: &mut D, slot: Option<u32>) -> bool
 
 /// Whether each object of the span can be claimed, by one look at each.
 fn is_loose<D: Desk>(desk: &mut D, span: &Span) -> bool
-    requires handles { (h : ℕ) → Has span.now h → h < (D.settings desk.old).handles }
+    requires handles { (h : ℕ) → SpanHas span.now h → h < (D.settings desk.old).handles }
     requires apart { (i j h : ℕ) → handle_at span.now i ≡ Some h → handle_at span.now j ≡ Some h → i ≡ j }
     ensures { LooksAtSpan (λ es. D.run desk.old es desk.new) span.now result }
 {

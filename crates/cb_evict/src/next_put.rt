@@ -5,7 +5,7 @@ ghost use Rattle.cb_world.specs.Leaving.{LeavingState};
 ghost use Rattle.cb_world.specs.Reserved.{put_shards};
 ghost use Rattle.cb_world.specs.Sound.{Sound};
 ghost use Rattle.cb_evict.specs.ShipRule.{other_puts};
-ghost use Rattle.cb_evict.specs.Shipping.{IsNext, IsNextOf, Waits};
+ghost use Rattle.cb_evict.specs.Shipping.{IsNextPut, IsNextPutOf, Waits};
 ghost use Rattle.cb_evict.specs.Waiting.{least_waiting};
 
 use crate::waiting::least_waiting;
@@ -61,7 +61,7 @@ fn next_of(far: &Far, batch: &Leaving) -> Result<NextPut, NoMemory>
     requires there { far.now.leaving ≡ Some batch.now }
     requires sound { (s : Shown) × Sound s far.now }
     requires few { length far.now.nodes.nodes ≤ 256 }
-    ensures next { IfOk result (λ next. IsNextOf far.now batch.now next) }
+    ensures next { IfOk result (λ next. IsNextPutOf far.now batch.now next) }
     ensures waits { OnErr result ((p : ℕ) × (least_waiting far.now.members batch.now.shards ≡ Some p)) }
 {
     let Some(position) = least_waiting(&batch.shards, &far.members) else {
@@ -82,7 +82,7 @@ fn next_of(far: &Far, batch: &Leaving) -> Result<NextPut, NoMemory>
 pub(crate) fn next_put(far: &Far) -> Result<NextPut, NoMemory>
     requires sound { (s : Shown) × Sound s far.now }
     requires few { length far.now.nodes.nodes ≤ 256 }
-    ensures next { IfOk result (λ next. IsNext far.now next) }
+    ensures next { IfOk result (λ next. IsNextPut far.now next) }
     ensures waits { OnErr result (Waits far.now) }
 {
     match &far.leaving {

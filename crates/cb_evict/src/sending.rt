@@ -1,7 +1,7 @@
 ghost use Rattle.std.specs.Prelude.{◌≡◌, ◌<◌, All};
 ghost use Rattle.cb_world.specs.declared.shown.Shown.{Shown};
 ghost use Rattle.cb_evict.specs.Claims.{AreApart};
-ghost use Rattle.cb_evict.specs.Sending.{IsTold, Sends};
+ghost use Rattle.cb_evict.specs.Sending.{IsFormerTold, Sends};
 
 use cb_ptr::{far_word, unpack};
 use cb_types::Handle;
@@ -11,7 +11,7 @@ use cb_world::{Desk, Former};
 pub(crate) fn send<D: Desk>(desk: &mut D, formers: &[Former])
     requires handles { All (λ former. former.handle < (D.settings desk.old).handles) formers.now }
     requires apart { AreApart formers.now }
-    requires told { (s : Shown) × D.shows desk.old s × All (IsTold s) formers.now }
+    requires told { (s : Shown) × D.shows desk.old s × All (IsFormerTold s) formers.now }
     ensures { Sends (λ es. D.run desk.old es desk.new) (λ s. D.shows desk.old s) formers.now }
 {
     for former in formers {

@@ -12,7 +12,7 @@ ghost use Rattle.cb_world.specs.Sound.{Sound};
 ghost use Rattle.cb_world.specs.Performs.{Performs};
 ghost use Rattle.cb_evict.specs.ShipRule.{ReadsLeaving, ShipEffect, ShipRule, with_noted, with_shard_at};
 ghost use Rattle.cb_evict.specs.declared.next_put.NextPut.TheVariants as next;
-ghost use Rattle.cb_evict.specs.Shipping.{IsNext, PutsNothing, PutsRow, Waits};
+ghost use Rattle.cb_evict.specs.Shipping.{IsNextPut, PutsNothing, PutsRow, Waits};
 
 use crate::loading::load_frame;
 use crate::next_put::{NextPut, next_put};
@@ -145,7 +145,7 @@ fn ship_row<D: Desk>(
     requires configured { IsConfigured (D.settings desk.old) far.old }
     requires keys { far.old.counts.keys < 2 ^ 62 }
     requires sound { (s : Shown) × Sound s far.old }
-    requires next { IsNext far.old (next.Put position shard) }
+    requires next { IsNextPut far.old (next.Put position shard) }
     ensures ok { OnOk result ((batch : LeavingState) → far.old.leaving ≡ Some batch
         → PutsRow (λ es. D.run desk.old es desk.new) (λ s. D.shows desk.old s)
         far.old far.new batch position shard) }

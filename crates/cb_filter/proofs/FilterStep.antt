@@ -27,9 +27,9 @@ use Rattle.cb_world.specs.Still.{IsStill}
 use Rattle.cb_world.specs.StillDesk.{here_is as fits_here, plain_follows, plain_stays}
 use Rattle.cb_world.specs.StillWords.{stamp_at, contents_at}
 use Rattle.cb_world.specs.World.{word_at, IsKnown}
-use Rattle.cb_world.proofs.Laws.{IsStepKnown, found_exact, taken_exact, HereIs, AreSeen, here_after, seen_after, seen_known, told_exact, FreeIs, free_after, one_exact, PerformsStill, RunsStill, runs_still, known_then, stays_still}
+use Rattle.cb_world.proofs.Laws.{IsStepKnown, found_exact, taken_exact, HereIs, AreHotsKnown, here_after, seen_after, seen_known, told_exact, FreeIs, free_after, one_exact, PerformsStill, RunsStill, runs_still, known_then, stays_still}
 use Rattle.cb_filter.specs.Seats.{temp_for}
-use Rattle.cb_filter.specs.FilterRule.{EmptyAnswer, FilterSeated, FilterHere, FilterAs, FilterRule, NeedsMemory}
+use Rattle.cb_filter.specs.FilterRule.{EmptyToFilter, FilterSeated, FilterHere, FilterAs, FilterRule, NeedsMemory}
 use Rattle.cb_filter.specs.FilterEffect.{IsCooled, IsMoved, FilterEffect}
 use Rattle.cb_filter.specs.FilterStep.{cool_word, with_cooled, with_carried_to, RefusesAs, temp_of, IsFilterStep, refused, cools, without_slot, moves}
 
@@ -89,7 +89,7 @@ cool_exact x y far s es h place k run ok free objects hots =
     w : ℕ
     w = word_at x h
 
-    seen_then : AreSeen y (played es s)
+    seen_then : AreHotsKnown y (played es s)
     seen_then = seen_after es x y s run (seen_known x far s k)
 
     mine : h < length x.words → h < length y.words → word_at y h ≡ cool_word w place
@@ -205,7 +205,7 @@ step_here x y far new s es h r runs effect here (inr (claim, (seat, stands, seat
         }) m.1
 
 step_empty : (x y : Words) (far new : FarState) (s : Shown) (es : List Event) (h v : ℕ) (r : Reply)
-    → RunsStill x y far s es → FilterEffect h far new r es s (played es s) → EmptyAnswer v r
+    → RunsStill x y far s es → FilterEffect h far new r es s (played es s) → EmptyToFilter v r
     → y ≡ x
 step_empty x y far new s es h zero r runs effect e = stays_still x y far s es runs
     (subst (λ (q : Reply). FilterEffect h far new q es s (played es s)) e effect).change
@@ -219,7 +219,7 @@ step_by : (q : State) (x y : Words) (far new : FarState) (s : Shown) (es : List 
     → FilterAs q x.settings.frames h (word_at x h) far new r es → IsFilterStep x y far new h r
 step_by state.Empty x y far new s es h r runs last effect e a =
     refused (subst (λ (q : State). RefusesAs q (word_at x h) (stamp_at x h) r) (sym e)
-    (subst (λ (v : ℕ). EmptyAnswer v r) (told_exact es x y h a.0.0 runs.ran last a.0.1) a.0.2))
+    (subst (λ (v : ℕ). EmptyToFilter v r) (told_exact es x y h a.0.0 runs.ran last a.0.1) a.0.2))
     (step_empty x y far new s es h a.0.0 r runs effect a.0.2) a.1
 step_by state.Far x y far new s es h r runs last effect e a =
     refused (subst (λ (q : State). RefusesAs q (word_at x h) (stamp_at x h) r) (sym e) a.0)

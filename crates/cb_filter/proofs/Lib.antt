@@ -4,13 +4,13 @@ pub mod Seated
 pub mod Berths
 pub mod Moved
 pub mod Settled
-pub mod Filtered
+pub mod FilterSound
 pub mod Unmade
 pub mod FilterStep
 pub mod FilterKeeps
-pub mod StepFixed
-pub mod Stays
-pub mod Unwritten
+pub mod FilterFixed
+pub mod FilterStays
+pub mod FilterUnwritten
 pub mod WorkedSeats
 mod WorkedFilter
 mod WorkedFilterStep

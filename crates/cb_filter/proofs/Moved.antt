@@ -20,9 +20,9 @@ use Rattle.cb_world.specs.LocalSound.{HasSlot}
 use Rattle.cb_world.specs.Sound.{Sound}
 use Rattle.cb_world.specs.Placed.{Slot, IsChosen, place_in}
 use Rattle.cb_world.specs.Released.{is_last, frames_without, with_released}
-use Rattle.cb_world.proofs.Laws.{slot_inside, length_put, frame_in_range, lies, put_beside, sound_gone, IsEmptySlot, chosen_empty, chosen_class, chosen_stays, IsCounted, made_counted, slot_bounds, may_lie, sound_brought, with_made}
+use Rattle.cb_world.proofs.Laws.{slot_inside, length_put, frame_in_range, lies, put_beside, sound_gone, IsEmptySlot, chosen_empty, chosen_class, chosen_stays, IsCountedMade, made_counted, slot_bounds, may_lie, sound_brought, with_made}
 use Rattle.cb_filter.specs.Seats.{Seat, with_moved}
-use Rattle.cb_filter.specs.Plans.{LiesIn}
+use Rattle.cb_filter.specs.Plans.{LiesAtPlace}
 use Rattle.cb_filter.proofs.Berths.{apart_frame}
 
 some_none : (x : Contents) → Some x ≡ None → ⊥
@@ -40,7 +40,7 @@ abbrev pub seat_of : (spans : List (Option Contents)) (h len place : ℕ)
 seat_of spans h len place c = record { frame = c.frame; number = c.slot; span = c.span }
 
 pub seat_lies : (far : FarState) (s : Shown) (h len place : ℕ) → Sound s far
-    → (c : HasSlot far.spans h len place) → LiesIn far place (seat_of far.spans h len place c)
+    → (c : HasSlot far.spans h len place) → LiesAtPlace far place (seat_of far.spans h len place c)
 seat_lies far s h len place sound c =
     let within = frame_in_range far.spans c.frame c.span c.there in record {
       there = c.there;
@@ -55,7 +55,7 @@ seat_lies far s h len place sound c =
     }
 
 -- What holds where an object that is here gets another slot.
-pub record IsReady (s : Shown) (far : FarState) (h len place : ℕ) (temp : Temp) (slot : Slot)
+pub record IsReadyToMove (s : Shown) (far : FarState) (h len place : ℕ) (temp : Temp) (slot : Slot)
     : Type 0 where
   pub sound : Sound s far
   pub here : object_at s h ≡ is.Here len place
@@ -66,7 +66,7 @@ pub record IsReady (s : Shown) (far : FarState) (h len place : ℕ) (temp : Temp
   pub chosen : IsChosen far c.span.class temp slot
 
 module _ (s : Shown) (far : FarState) (h len place : ℕ) (temp : Temp) (slot : Slot)
-    (x : IsReady s far h len place temp slot) where
+    (x : IsReadyToMove s far h len place temp slot) where
   -- the frames are two
   frames_apart : x.c.frame ≢ slot.frame
   frames_apart = apart_frame far x.c.span.class temp slot place
@@ -177,7 +177,7 @@ module _ (s : Shown) (far : FarState) (h len place : ℕ) (temp : Temp) (slot : 
       IsAt (is.Here l p) = Unit {0}
       IsAt _ = ⊥
 
-  counted : IsCounted far.made far.made h
+  counted : IsCountedMade far.made far.made h
   counted = made_counted far.made h (by (cases_lt h far.made))
     where
       by : (h < far.made) ⊎ (far.made ≤ h) → h < far.made

@@ -23,8 +23,8 @@ use Rattle.cb_world.proofs.Laws.{length_put}
 use Rattle.cb_filter.specs.declared.planning.Plan.TheVariants as plan
 use Rattle.cb_filter.specs.FilterEffect.{IsCooled, IsMoved, FilterEffect}
 use Rattle.cb_filter.specs.Copies.{copied_from, IsCoolWord, IsVacant}
-use Rattle.cb_filter.specs.Plans.{LiesIn, Plans, Wants}
-use Rattle.cb_filter.specs.ClaimEnds.{IsKnownAt, Ends, IsSettledBack, IsCarried, SeatEnds}
+use Rattle.cb_filter.specs.Plans.{LiesAtPlace, Plans, Wants}
+use Rattle.cb_filter.specs.ClaimEnds.{IsKnownAt, ClaimEnds, IsSettledBack, IsCarried, SeatEnds}
 use Rattle.cb_filter.proofs.Settled.{now_fields}
 use Rattle.cb_filter.proofs.WorkedSeats.{far, moved, full, short, seat, slot, stands, chosen, gets, in_place, hot_cold, no_room}
 
@@ -229,7 +229,7 @@ vacant_where_it_lies : ¬ (IsVacant (record s {
 vacant_where_it_lies x = x.apart 1 (lit≤ tt, lit< tt) (lit≤ tt, lit< tt)
 
 -- ---- plans
-lies : LiesIn far 512 seat
+lies : LiesAtPlace far 512 seat
 unfolding slots_of bytes_of words_of
 lies = record {
   there = refl;
@@ -241,7 +241,7 @@ lies = record {
   busy = λ free. let z : false ≡ true = free in cc;
 }
 
-lies_elsewhere : ¬ (LiesIn far 640 seat)
+lies_elsewhere : ¬ (LiesAtPlace far 640 seat)
 unfolding words_of bytes_of
 lies_elsewhere x = absurd (let z : 640 ≡ 512 = x.at in omega (arith, z))
 
@@ -327,7 +327,7 @@ ends_same_of_a_cold_one (inr (inr x)) = absurd (let z : answer.Same ≡ answer.M
 
 -- ---- the events behind a claim
 abbrev Ending : (List Event → Type 0) → (Shown → Type 0) → Type 0
-Ending runs knows = Ends runs (λ q v words. knows q) 0 (λ es q u words. u ≡ played es q)
+Ending runs knows = ClaimEnds runs (λ q v words. knows q) 0 (λ es q u words. u ≡ played es q)
 
 ends : Ending (λ es. es ≡ Settled 0 cold_word ∷ []) (λ q. MaySettle q 0 cold_word)
 ends = record {

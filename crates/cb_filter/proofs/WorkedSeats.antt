@@ -14,7 +14,7 @@ use Rattle.cb_world.specs.FarState.{FarState}
 use Rattle.cb_world.specs.Placed.{HasRoom, Slot, IsChosen}
 use Rattle.cb_world.proofs.Laws.{some_same}
 use Rattle.cb_filter.specs.Seats.{Seat, IsSeatOf, temp_for, with_moved}
-use Rattle.cb_filter.specs.FilterRule.{EmptyAnswer, AbsentAs, IsInPlace, HasNoSlot, GetsSlot, WasClaimed, FilterHere, FilterAs, FilterRule, NeedsMemory}
+use Rattle.cb_filter.specs.FilterRule.{EmptyToFilter, AbsentToFilter, IsInPlace, HasNoSlot, GetsSlot, WasClaimed, FilterHere, FilterAs, FilterRule, NeedsMemory}
 use Rattle.cb_filter.specs.Refused.{RefusedAs}
 
 -- the class of 1,024 bytes, with four slots a span
@@ -236,31 +236,31 @@ here_with_another_count (inl x) = absurd (let z : 1 ≡ 2 = ap count_of x.1 in o
 here_with_another_count (inr x) = x.0.1.2
 
 -- an object that is not here
-never_made : AbsentAs state.Empty 0 (Looked 0 0 ∷ Told 0 0 ∷ []) answer.Unmade
+never_made : AbsentToFilter state.Empty 0 (Looked 0 0 ∷ Told 0 0 ∷ []) answer.Unmade
 never_made = (0, inr (refl, refl), refl)
 
-freed : AbsentAs state.Empty 0 (Looked 0 0 ∷ Told 0 9 ∷ []) answer.NotHere
+freed : AbsentToFilter state.Empty 0 (Looked 0 0 ∷ Told 0 9 ∷ []) answer.NotHere
 freed = (9, inr (refl, refl), refl)
 
-freed_is_not_unmade : ¬ (EmptyAnswer 9 answer.Unmade)
+freed_is_not_unmade : ¬ (EmptyToFilter 9 answer.Unmade)
 freed_is_not_unmade e = absurd (let z : answer.Unmade ≡ answer.NotHere = e in cc)
 
-unmade_is_not_freed : ¬ (EmptyAnswer 0 answer.NotHere)
+unmade_is_not_freed : ¬ (EmptyToFilter 0 answer.NotHere)
 unmade_is_not_freed e = absurd (let z : answer.NotHere ≡ answer.Unmade = e in cc)
 
-untold : ¬ (AbsentAs state.Empty 0 (Looked 0 0 ∷ []) answer.Unmade)
+untold : ¬ (AbsentToFilter state.Empty 0 (Looked 0 0 ∷ []) answer.Unmade)
 untold x = x.1
 
-far_away : AbsentAs state.Far 0 [] answer.NotHere
+far_away : AbsentToFilter state.Far 0 [] answer.NotHere
 far_away = refl
 
-far_away_is_not_moving : ¬ (AbsentAs state.Far 0 [] answer.Moving)
+far_away_is_not_moving : ¬ (AbsentToFilter state.Far 0 [] answer.Moving)
 far_away_is_not_moving e = absurd (let z : answer.Moving ≡ answer.NotHere = e in cc)
 
-moving : AbsentAs state.Moving 0 [] answer.Moving
+moving : AbsentToFilter state.Moving 0 [] answer.Moving
 moving = refl
 
-moving_is_here : ¬ (AbsentAs state.Here 0 [] answer.Moving)
+moving_is_here : ¬ (AbsentToFilter state.Here 0 [] answer.Moving)
 moving_is_here x = x
 
 refused_moving : FilterAs state.Moving 3 0 (word + 1) far far answer.Moving []

@@ -17,19 +17,19 @@ use Rattle.cb_world.specs.Placed.{Slot, IsChosen, place_in}
 use Rattle.cb_filter.specs.Seats.{Seat, temp_for}
 use Rattle.cb_filter.specs.FilterRule.{IsInPlace, HasNoSlot, GetsSlot}
 use Rattle.cb_filter.specs.Copies.{IsVacant}
-use Rattle.cb_filter.specs.Plans.{LiesIn}
+use Rattle.cb_filter.specs.Plans.{LiesAtPlace}
 
 -- what is known of the claimed object: it may lie in each slot that it could get
 pub record IsKnownAt (s : Shown) (far : FarState) (h word v : ℕ) (words : List ℕ) : Type 0 where
   pub claimed : IsClaimedAt s h word v words
-  pub vacant : (seat : Seat) (slot : Slot) → LiesIn far (place_of word) seat
+  pub vacant : (seat : Seat) (slot : Slot) → LiesAtPlace far (place_of word) seat
       → seat.span.temp ≢ temp_for (hot_of word)
       → IsChosen far seat.span.class (temp_for (hot_of word)) slot
       → IsVacant s h word (place_in slot)
 
 -- The events after the claim, which the desk ran: none looks at the object or claims one, and its
 -- word is settled last. And for all that is known: they are allowed, and end so.
-pub record Ends (runs : List Event → Type 0) (knows : Shown → ℕ → List ℕ → Type 0) (h : ℕ)
+pub record ClaimEnds (runs : List Event → Type 0) (knows : Shown → ℕ → List ℕ → Type 0) (h : ℕ)
     (ends : List Event → Shown → Shown → List ℕ → Type 0) : Type 0 where
   pub events : List Event
   pub ran : runs events
@@ -72,5 +72,5 @@ SeatEnds frames far new h w seat r es s t words =
 -- whichever slot is known to lie at the object's place
 abbrev pub FilterEnds : ℕ → FarState → FarState → ℕ → ℕ → Reply → List Event → Shown → Shown
     → List ℕ → Type 0
-FilterEnds frames far new h w r es s t words = (seat : Seat) → LiesIn far (place_of w) seat
+FilterEnds frames far new h w r es s t words = (seat : Seat) → LiesAtPlace far (place_of w) seat
     → SeatEnds frames far new h w seat r es s t words

@@ -15,16 +15,16 @@ use Rattle.cb_world.specs.Placed.{Slot, IsChosen, IsCrammed, NeedsSpan}
 use Rattle.cb_filter.specs.Seats.{Seat, IsSeatOf, temp_for, with_moved}
 
 -- an object with an empty word: never made at version 0, and else freed
-abbrev pub EmptyAnswer : ℕ → Reply → Type 0
-EmptyAnswer zero r = r ≡ answer.Unmade
-EmptyAnswer (suc v) r = r ≡ answer.NotHere
+abbrev pub EmptyToFilter : ℕ → Reply → Type 0
+EmptyToFilter zero r = r ≡ answer.Unmade
+EmptyToFilter (suc v) r = r ≡ answer.NotHere
 
 -- an object that is not here, by the state of its word
-abbrev pub AbsentAs : State → ℕ → List Event → Reply → Type 0
-AbsentAs word.Empty h es r = (v : ℕ) × IsTold h v es × EmptyAnswer v r
-AbsentAs word.Far h es r = r ≡ answer.NotHere
-AbsentAs word.Here h es r = ⊥
-AbsentAs word.Moving h es r = r ≡ answer.Moving
+abbrev pub AbsentToFilter : State → ℕ → List Event → Reply → Type 0
+AbsentToFilter word.Empty h es r = (v : ℕ) × IsTold h v es × EmptyToFilter v r
+AbsentToFilter word.Far h es r = r ≡ answer.NotHere
+AbsentToFilter word.Here h es r = ⊥
+AbsentToFilter word.Moving h es r = r ≡ answer.Moving
 
 -- the object's span has its temperature
 pub record IsInPlace (far new : FarState) (temp : Temp) (seat : Seat) (r : Reply) : Type 0 where
@@ -68,7 +68,7 @@ FilterHere frames h w far new r es =
 -- by the state of the word; an object that is not here is refused
 abbrev pub FilterAs : State → ℕ → ℕ → ℕ → FarState → FarState → Reply → List Event → Type 0
 FilterAs word.Here frames h w far new r es = FilterHere frames h w far new r es
-FilterAs state frames h w far new r es = AbsentAs state h es r × (new ≡ far)
+FilterAs state frames h w far new r es = AbsentToFilter state h es r × (new ≡ far)
 
 -- every event tells of a word, and nothing else is done
 abbrev pub OnlyTell : List Event → Type 0

@@ -15,7 +15,7 @@ use Rattle.cb_world.specs.Plain.{Words}
 use Rattle.cb_world.specs.StillWords.{stamp_at, contents_at}
 use Rattle.cb_world.specs.World.{word_at}
 use Rattle.cb_filter.specs.Seats.{Seat, IsSeatOf, temp_for}
-use Rattle.cb_filter.specs.FilterRule.{EmptyAnswer, IsInPlace, HasNoSlot, GetsSlot}
+use Rattle.cb_filter.specs.FilterRule.{EmptyToFilter, IsInPlace, HasNoSlot, GetsSlot}
 
 -- the pointer word with all its fields but this place, and not hot
 abbrev pub cool_word : ℕ → ℕ → ℕ
@@ -33,7 +33,7 @@ with_carried_to x h place = record (with_word x h (cool_word (word_at x h) place
 
 -- why an object is not filtered, by the state of its word: it is not here, or pinned
 abbrev pub RefusesAs : State → ℕ → ℕ → Reply → Type 0
-RefusesAs word.Empty w version r = EmptyAnswer version r
+RefusesAs word.Empty w version r = EmptyToFilter version r
 RefusesAs word.Far w version r = r ≡ answer.NotHere
 RefusesAs word.Here w version r = (1 ≤ pins_of w) × (r ≡ answer.Pinned (pins_of w))
 RefusesAs word.Moving w version r = r ≡ answer.Moving

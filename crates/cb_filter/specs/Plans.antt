@@ -9,8 +9,8 @@ use Rattle.cb_filter.specs.declared.planning.Plan.TheVariants as plan
 use Rattle.cb_filter.specs.Seats.{Seat}
 
 -- the slot lies at the place
-abbrev pub LiesIn : FarState → ℕ → Seat → Type 0
-LiesIn far place seat = IsSlotAt far.frames far.spans place seat.frame seat.number seat.span
+abbrev pub LiesAtPlace : FarState → ℕ → Seat → Type 0
+LiesAtPlace far place seat = IsSlotAt far.frames far.spans place seat.frame seat.number seat.span
 
 -- by what is planned: its span has the temperature; there is no slot for it; or it has one beside
 -- the one where it is

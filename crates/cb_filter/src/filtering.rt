@@ -10,8 +10,8 @@ ghost use Rattle.cb_world.specs.Performs.{Performs};
 ghost use Rattle.cb_filter.specs.Seats.{Seat, temp_for};
 ghost use Rattle.cb_filter.specs.FilterRule.{FilterRule, NeedsMemory};
 ghost use Rattle.cb_filter.specs.FilterEffect.{FilterEffect};
-ghost use Rattle.cb_filter.specs.Plans.{LiesIn, Wants};
-ghost use Rattle.cb_filter.specs.ClaimEnds.{Ends, FilterEnds, IsKnownAt};
+ghost use Rattle.cb_filter.specs.Plans.{LiesAtPlace, Wants};
+ghost use Rattle.cb_filter.specs.ClaimEnds.{ClaimEnds, FilterEnds, IsKnownAt};
 
 use crate::copying::{carry, cool};
 use crate::planning::{Plan, plan_move};
@@ -64,14 +64,14 @@ fn filter_claimed<D: Desk>(
     requires config { IsAccepted (D.settings desk.old) }
     requires frames { AreFrames far.old }
     requires numbered { length far.old.frames ≤ 2 ^ 15 }
-    requires seat { (seat : Seat) × LiesIn far.old (place_of word) seat }
+    requires seat { (seat : Seat) × LiesAtPlace far.old (place_of word) seat }
     requires ready { (s : Shown) × D.shows desk.old s
         × ((v : ℕ) × (words : List ℕ) × IsKnownAt s far.old h.n word v words) }
-    ensures ends { IfOk result (λ reply. Ends (λ es. D.run desk.old es desk.new)
+    ensures ends { IfOk result (λ reply. ClaimEnds (λ es. D.run desk.old es desk.new)
         (λ s v words. D.shows desk.old s × IsKnownAt s far.old h.n word v words) h.n
         (FilterEnds (D.settings desk.old).frames far.old far.new h.n word reply)) }
     ensures error { OnErr result ((far.new ≡ far.old)
-        × ((seat : Seat) → LiesIn far.old (place_of word) seat
+        × ((seat : Seat) → LiesAtPlace far.old (place_of word) seat
         → Wants far.old (temp_for (hot_of word)) seat)
         × D.run desk.old (Settled h.n word ∷ []) desk.new) }
 {

@@ -2,7 +2,7 @@ ghost use Rattle.std.specs.Prelude.{◌≡◌, ◌≢◌, ℕ, ◌^◌, ◌≤�
 ghost use Rattle.cb_ptr.specs.Word.{hot_of, place_of};
 ghost use Rattle.cb_world.specs.LocalSound.{AreFrames};
 ghost use Rattle.cb_filter.specs.Seats.{Seat, temp_for};
-ghost use Rattle.cb_filter.specs.Plans.{LiesIn, Plans, Wants};
+ghost use Rattle.cb_filter.specs.Plans.{LiesAtPlace, Plans, Wants};
 
 use cb_class::Class;
 use cb_ptr::unpack;
@@ -49,7 +49,7 @@ struct Kind {
 
 /// The class and the temperature of the span in which a place lies, where there is one.
 fn kind_at(far: &Far, place: u32) -> Option<Kind>
-    ensures { (seat : Seat) → LiesIn far.now place seat
+    ensures { (seat : Seat) → LiesAtPlace far.now place seat
         → result ≡ Some (record { class = seat.span.class; temp = seat.span.temp }) }
 {
     match far.spans.get(place_frame(place)) {
@@ -66,11 +66,11 @@ fn kind_at(far: &Far, place: u32) -> Option<Kind>
 pub(crate) fn plan_move(far: &mut Far, handle: u32, word: u64) -> Result<Plan, NoMemory>
     requires frames { AreFrames far.old }
     requires numbered { length far.old.frames ≤ 2 ^ 15 }
-    requires seat { (seat : Seat) × LiesIn far.old (place_of word) seat }
-    ensures plan { IfOk result (λ plan. (seat : Seat) → LiesIn far.old (place_of word) seat
+    requires seat { (seat : Seat) × LiesAtPlace far.old (place_of word) seat }
+    ensures plan { IfOk result (λ plan. (seat : Seat) → LiesAtPlace far.old (place_of word) seat
         → Plans far.old far.new (temp_for (hot_of word)) handle seat plan) }
     ensures far { OnErr result (far.new ≡ far.old) }
-    ensures error { OnErr result ((seat : Seat) → LiesIn far.old (place_of word) seat
+    ensures error { OnErr result ((seat : Seat) → LiesAtPlace far.old (place_of word) seat
         → Wants far.old (temp_for (hot_of word)) seat) }
 {
     let fields = unpack(word);

@@ -5,7 +5,7 @@ ghost use Rattle.cb_types.specs.declared.reply.Reply.TheVariants as answer;
 ghost use Rattle.cb_world.specs.declared.event.Event.{Event};
 ghost use Rattle.cb_world.specs.Grasped.{IsFree};
 ghost use Rattle.cb_world.specs.Reads.{AreReads};
-ghost use Rattle.cb_filter.specs.FilterRule.{AbsentAs};
+ghost use Rattle.cb_filter.specs.FilterRule.{AbsentToFilter};
 ghost use Rattle.cb_filter.specs.Refused.{RefusedAs};
 
 use cb_ptr::{State, unpack};
@@ -31,7 +31,7 @@ fn absent<D: Desk>(desk: &mut D, h: Handle, found: u64) -> Reply
     requires handle { h.n < (D.settings desk.old).handles }
     requires away { state_of found ≢ state.Here }
     ensures { (es : List Event) × D.run desk.old es desk.new × AreReads h.n es
-        × AbsentAs (state_of found) h.n es result }
+        × AbsentToFilter (state_of found) h.n es result }
 {
     match unpack(found).state {
         State::Empty => {

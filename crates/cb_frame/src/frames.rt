@@ -1,6 +1,6 @@
 ghost use Rattle.std.specs.Prelude.{◌≡◌, ◌<◌, IfNone, IfOk, IfSome, length};
 ghost use Rattle.cb_frame.specs.FrameSet.{contains};
-ghost use Rattle.cb_frame.specs.FreeFrames.{IsFree, all_free, free_count, least_free, with_given, with_taken};
+ghost use Rattle.cb_frame.specs.FreeFrames.{IsFreeFrame, all_free, free_count, least_free, with_given, with_taken};
 
 use crate::frame_set::FrameSet;
 use cb_member::NoMemory;
@@ -55,7 +55,7 @@ impl Frames {
     /// Gives a taken frame back. Takes no memory.
     pub fn give(&mut self, f: u32)
         requires in_range { f < length self.old }
-        requires taken { ¬ (IsFree self.old f) }
+        requires taken { ¬ (IsFreeFrame self.old f) }
         ensures given { self.new ≡ with_given self.old f }
         ensures count { length self.new ≡ length self.old }
     {

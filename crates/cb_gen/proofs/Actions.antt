@@ -1,7 +1,7 @@
 -- Which request an action has.
 use Rattle.std.proofs.Common.{◌≡◌, ℕ, ◌+◌, ◌<◌, ◌==◌, ◌||◌, true, false, nat_lt, List, [], ◌∷◌, length, refl, sym, suc, zero, arith}
 use Rattle.std.specs.List.{All}
-use Rattle.cb_gen.specs.Draws.{next, after, drawn}
+use Rattle.cb_gen.specs.Draws.{next_state, state_after, drawn}
 use Rattle.cb_gen.specs.Drawn.{Drawn, drawn_action, drawn_make, drawn_seldom, drawn_write, length_made}
 use Rattle.cb_gen.proofs.Drawing.{bytes_count, drawn_low}
 use Rattle.cb_gen.proofs.RequestKinds.{either}
@@ -16,7 +16,7 @@ module _ (action x lane : ℕ) (lengths : List ℕ) where
       → drawn_action action x lane lengths ≡ drawn_write x lane lengths
   action_writes a b c = rw (a, b, c) refl
 
-  pub action_seldom : (what y : ℕ) → what ≡ drawn x 0 6 → y ≡ next x
+  pub action_seldom : (what y : ℕ) → what ≡ drawn x 0 6 → y ≡ next_state x
       → (nat_lt action 4 || (length lengths == 0)) ≡ false → nat_lt action 10 ≡ false
       → nat_lt action 14 ≡ false → (action == 14) ≡ false
       → drawn_action action x lane lengths ≡ drawn_seldom what y lane (length lengths)
@@ -46,8 +46,8 @@ module _ (action x lane : ℕ) (lengths : List ℕ) where
       let count = 1 + drawn x 0 120 in
       let low = drawn_low x 0 120 (omega arith) in
       either IsShort (nat_lt action 4 || (length lengths == 0)) _ _ (λ t. one_short _
-      (omega (arith, low, bytes_count (after x 1) count)))
+      (omega (arith, low, bytes_count (state_after x 1) count)))
       (λ f. either IsShort (nat_lt action 10) _ _ (λ t. none_long)
       (λ f. either IsShort (nat_lt action 14) _ _ (λ t. none_long)
       (λ f. either IsShort (action == 14) _ _ (λ t. none_long)
-      (λ f. seldom_short (drawn x 0 6) (after x 1)))))
+      (λ f. seldom_short (drawn x 0 6) (state_after x 1)))))

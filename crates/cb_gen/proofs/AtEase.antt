@@ -7,8 +7,8 @@ use Rattle.std.proofs.lemmas.List.Folds.{list_any-append}
 use Rattle.std.proofs.lemmas.List.Sums.{count_by-le-length}
 use Rattle.cb_types.specs.declared.request.Request.{Request}
 use Rattle.cb_script.specs.declared.script.Line.{Line}
-use Rattle.cb_script.specs.Roomy.{IsAtEase, crashing, has_crash, has_pin, has_step, is_crash, is_make, is_pin, is_step, makes_in, pinning}
-use Rattle.cb_gen.specs.Draws.{after, drawn}
+use Rattle.cb_script.specs.Roomy.{IsAtEase, crashing, has_crash, has_pin, has_step_line, is_crash, is_make, is_pin, is_step, makes_in, pinning}
+use Rattle.cb_gen.specs.Draws.{drawn, state_after}
 use Rattle.cb_gen.specs.Drawn.{drawn_lines, lengths_of, made_script}
 use Rattle.cb_gen.proofs.Grammar.{drawn_all}
 use Rattle.cb_gen.proofs.RequestKinds.{IsKind, kind_of}
@@ -17,7 +17,7 @@ use Rattle.cb_gen.proofs.RequestKinds.IsKind.{makes, reads, writes, frees, filte
 -- no line pins, none is a part of an operation, and only nodes 0 and 1 crash
 record AreGentle (lines : List Line) : Type 0 where
   pins : (lane : ℕ) → has_pin lines lane ≡ false
-  steps : has_step lines ≡ false
+  steps : has_step_line lines ≡ false
   others : (n : ℕ) → 2 ≤ n → has_crash lines n ≡ false
 
 record IsGentle (r : Request) : Type 0 where
@@ -68,7 +68,7 @@ gentle_all seed lanes (suc n) few some low =
     let lane = 1 + drawn d.left 0 lanes in
     let before = drawn_all seed lanes n (omega (arith, few)) some low in
     let kind =
-    kind_of (drawn d.left 1 16) (after d.left 2) lane (lengths_of d.lines lane) (before.0.short lane) in
+    kind_of (drawn d.left 1 16) (state_after d.left 2) lane (lengths_of d.lines lane) (before.0.short lane) in
     gentle_then d.lines _ (gentle_all seed lanes n (omega (arith, few)) some low) (gentle lane
     (lengths_of d.lines lane) _ kind)
 

@@ -2,18 +2,18 @@
 use Rattle.std.proofs.Common.{◌≡◌, ℕ, suc, ◌+◌, ◌<◌, ◌≤◌, ◌^◌, ◌/◌, ◌%◌, List, [], ◌∷◌, ◌++◌, length, get_or, sym, ap, ◌∙◌, arith}
 use Rattle.std.specs.List.{All}
 use Rattle.std.proofs.lemmas.List.FromFn.{length-map-range_with_len, get_or-map-range_with_len, map-range_with_len_more}
-use Rattle.cb_gen.specs.Draws.{next, after, drawn, drawn_bytes}
+use Rattle.cb_gen.specs.Draws.{next_state, state_after, drawn, drawn_bytes}
 
-pub after_more : (x i y z : ℕ) → y ≡ after x i → z ≡ next y → z ≡ after x (i + 1)
+pub after_more : (x i y z : ℕ) → y ≡ state_after x i → z ≡ next_state y → z ≡ state_after x (i + 1)
 after_more x i y z is then_is =
     let one : suc i ≡ i + 1 = omega arith in
-    then_is ∙ ap next is ∙ ap (after x) one
+    then_is ∙ ap next_state is ∙ ap (state_after x) one
 
-pub bytes_more : (x i y b : ℕ) (bytes more : List ℕ) → bytes ≡ drawn_bytes x i → y ≡ after x i
+pub bytes_more : (x i y b : ℕ) (bytes more : List ℕ) → bytes ≡ drawn_bytes x i → y ≡ state_after x i
     → b ≡ drawn y 0 256 → more ≡ bytes ++ b ∷ []
     → more ≡ drawn_bytes x (i + 1)
 bytes_more x i y b bytes more so_far state is pushed =
-    let byte : b ≡ drawn x i 256 = is ∙ ap (λ (s : ℕ). next s / 2 ^ 33 % 256) state in
+    let byte : b ≡ drawn x i 256 = is ∙ ap (λ (s : ℕ). next_state s / 2 ^ 33 % 256) state in
     pushed ∙ (λ j. so_far j ++ byte j ∷ [])
     ∙ sym (map-range_with_len_more (λ n. drawn x n 256) 0 i i (omega arith))
 

@@ -8,9 +8,9 @@ use Rattle.cb_types.specs.Config.{IsAccepted}
 use Rattle.cb_types.specs.declared.config.Field.TheVariants as field
 use Rattle.cb_types.specs.declared.request.Request.{Request}
 use Rattle.cb_script.specs.declared.script.Line.{Line}
-use Rattle.cb_script.specs.Form.{AreLines, IsKnown, IsMade, IsName, IsNew, IsRequest, IsScript, Makes, MayFollow}
+use Rattle.cb_script.specs.Form.{AreLines, IsName, IsNameKnown, IsNameMade, IsNameNew, IsRequest, IsScript, MakesName, MayFollow}
 use Rattle.cb_script.proofs.PublicLaws.{AreLines-push, made_before, made_cases, made_here}
-use Rattle.cb_gen.specs.Draws.{after, drawn}
+use Rattle.cb_gen.specs.Draws.{drawn, state_after}
 use Rattle.cb_gen.specs.Drawn.{drawn_config, drawn_lines, length_made, lengths_of, made_script, object_name}
 use Rattle.cb_gen.proofs.Drawing.{drawn_low}
 use Rattle.cb_gen.proofs.RequestKinds.{IsKind, kind_of}
@@ -21,11 +21,11 @@ use Rattle.cb_gen.proofs.ObjectNames.{is_object_name, one_object}
 -- by their numbers.
 pub record AreDrawn (lines : List Line) : Type 0 where
   pub are : AreLines 8 [] lines
-  pub made : (lane : ℕ) (name : List ℕ) → IsMade lines lane name
+  pub made : (lane : ℕ) (name : List ℕ) → IsNameMade lines lane name
       → (object : ℕ) × (lane ≤ 15) × (object < length (lengths_of lines lane)) ×
       (name ≡ object_name lane object)
   pub named : (lane object : ℕ) → object < length (lengths_of lines lane)
-      → IsMade lines lane (object_name lane object)
+      → IsNameMade lines lane (object_name lane object)
   pub few : (lane : ℕ) → length (lengths_of lines lane) ≤ length lines
   pub short : (lane : ℕ) → All (λ len. len ≤ 120) (lengths_of lines lane)
 
@@ -58,7 +58,7 @@ one_short len short (suc k) d within = absurd (omega (arith, within))
 
 module _ (lane : ℕ) (lengths : List ℕ) where
   -- what a drawn request makes
-  made_name : (r : Request) → IsKind lane lengths r → (name : List ℕ) → Makes r name
+  made_name : (r : Request) → IsKind lane lengths r → (name : List ℕ) → MakesName r name
       → (name ≡ object_name lane (length lengths)) × (length (length_made r) ≡ 1)
   made_name _ (makes bytes some few each) name is = (sym is, refl)
   made_name _ (reads object within) name is = absurd is
@@ -72,7 +72,7 @@ module _ (lane : ℕ) (lengths : List ℕ) where
   made_name _ compacts name is = absurd is
 
   made_one : (r : Request) → IsKind lane lengths r
-      → IsOneAtMost (Makes r (object_name lane (length lengths))) (length_made r)
+      → IsOneAtMost (MakesName r (object_name lane (length lengths))) (length_made r)
   made_one _ (makes bytes some few each) = (
     omega arith,
     (λ more. refl),
@@ -117,7 +117,7 @@ module _ (lines : List Line) (so_far : AreDrawn lines) (few : length lines < 400
   requested _ rebuilds = tt
   requested _ compacts = tt
 
-  is_new : IsNew lines (object_name lane (length lengths))
+  is_new : IsNameNew lines (object_name lane (length lengths))
   is_new other made =
       let m = so_far.made other (object_name lane (length lengths)) made in
       let few_there : length (lengths_of lines other) < 4000 =
@@ -128,7 +128,7 @@ module _ (lines : List Line) (so_far : AreDrawn lines) (few : length lines < 400
       ap (λ (n : ℕ). length (lengths_of lines n)) same.0 in
       omega (arith, m.2, there, same.1)
 
-  known : (r : Request) → IsKind lane lengths r → IsKnown lines lane r
+  known : (r : Request) → IsKind lane lengths r → IsNameKnown lines lane r
   known _ (makes bytes one few each) = is_new
   known _ (reads object within) = inl (so_far.named lane object within)
   known _ (writes object at bytes within at_low few each) = inl (so_far.named lane object within)
@@ -168,7 +168,7 @@ module _ (lines : List Line) (so_far : AreDrawn lines) (few : length lines < 400
         ∙ ap (λ (b : Bool). lengths_of lines other ++ cond b (length_made r) []) differs
         ∙ append-nil (lengths_of lines other)
 
-    at_most : IsOneAtMost (Makes r (object_name lane (length lengths))) (length_made r)
+    at_most : IsOneAtMost (MakesName r (object_name lane (length lengths))) (length_made r)
     at_most = made_one lane lengths r kind
 
     -- each lane has at most one more
@@ -182,7 +182,7 @@ module _ (lines : List Line) (so_far : AreDrawn lines) (few : length lines < 400
     more_count other = ap length (lengths_more lines line other)
         ∙ length-append (lengths_of lines other) (cond (lane == other) (length_made r) [])
 
-    made_then : (other : ℕ) (name : List ℕ) → IsMade more other name
+    made_then : (other : ℕ) (name : List ℕ) → IsNameMade more other name
         → (object : ℕ) × (other ≤ 15) × (object < length (lengths_of more other)) ×
         (name ≡ object_name other object)
     made_then other name is = elim (made_cases lines line other name is) [
@@ -197,25 +197,25 @@ module _ (lines : List Line) (so_far : AreDrawn lines) (few : length lines < 400
     ]
 
     named_here : (object : ℕ) → object < length (lengths_of more lane)
-        → IsMade more lane (object_name lane object)
+        → IsNameMade more lane (object_name lane object)
     named_here object within = elim (cases_Bool (nat_lt object (length lengths))) [
       | inl earlier ↦ made_before lines line lane (object_name lane object)
           (so_far.named lane object (ltb-true object (length lengths) earlier))
       | inr later ↦
           let past : length lengths ≤ object = ltb-false object (length lengths) later in
           let last : length lengths ≡ object = omega (arith, past, within, here_count, at_most.0) in
-          let makes_it : Makes r (object_name lane (length lengths)) =
+          let makes_it : MakesName r (object_name lane (length lengths)) =
           at_most.1 (omega (arith, past, within, here_count)) in
-          subst (λ (n : ℕ). IsMade more lane (object_name lane n)) last (made_here lines line
+          subst (λ (n : ℕ). IsNameMade more lane (object_name lane n)) last (made_here lines line
           (object_name lane (length lengths)) makes_it)
     ]
 
     named_then : (other object : ℕ) → object < length (lengths_of more other)
-        → IsMade more other (object_name other object)
+        → IsNameMade more other (object_name other object)
     named_then other object within = elim (cases_Bool (lane == other)) [
       | inl same ↦
           let e : lane ≡ other = eqb-true lane other same in
-          subst (λ (n : ℕ). object < length (lengths_of more n) → IsMade more n
+          subst (λ (n : ℕ). object < length (lengths_of more n) → IsNameMade more n
           (object_name n object)) e (named_here object) within
       | inr differs ↦
           let before : object < length (lengths_of lines other) =
@@ -259,7 +259,7 @@ drawn_all seed lanes (suc n) few some low =
     let lane = 1 + drawn d.left 0 lanes in
     let lane_low : lane ≤ 15 = omega (arith, drawn_low d.left 0 lanes some, low) in
     let kind =
-    kind_of (drawn d.left 1 16) (after d.left 2) lane (lengths_of d.lines lane) (before.0.short lane) in (
+    kind_of (drawn d.left 1 16) (state_after d.left 2) lane (lengths_of d.lines lane) (before.0.short lane) in (
       drawn_then d.lines before.0 (omega (arith, few, before.1)) lane (omega arith) lane_low _ kind,
       length-append d.lines _ ∙ omega (arith, before.1),
     )

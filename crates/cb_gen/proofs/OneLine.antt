@@ -4,9 +4,9 @@ use Rattle.std.proofs.lemmas.List.Concat.{flat_map-cons}
 use Rattle.cb_types.specs.declared.request.Request.{Request}
 use Rattle.cb_types.specs.declared.request.Request.TheVariants.{Make}
 use Rattle.cb_script.specs.declared.script.Line.{Line}
-use Rattle.cb_gen.specs.Draws.{after, drawn}
+use Rattle.cb_gen.specs.Draws.{drawn, state_after}
 use Rattle.cb_gen.specs.Drawn.{DrawnLines, drawn_action, drawn_lines, length_made, lengths_of, with_line}
-use Rattle.cb_gen.specs.Noted.{AreNoted}
+use Rattle.cb_gen.specs.Noted.{AreLengthsNoted}
 use Rattle.cb_gen.proofs.Grammar.{lengths_more}
 
 -- what two clauses of a call say on success, together
@@ -45,7 +45,7 @@ line_behind lines lane r =
 
 pub line_added : (lanes x lane action s y : ℕ) (lengths : List ℕ) (r : Request)
     (lines more : List Line)
-    → lane ≡ 1 + drawn x 0 lanes → action ≡ drawn x 1 16 → s ≡ after x 2
+    → lane ≡ 1 + drawn x 0 lanes → action ≡ drawn x 1 16 → s ≡ state_after x 2
     → lengths ≡ lengths_of lines lane
     → r ≡ (drawn_action action s lane lengths).request
     → y ≡ (drawn_action action s lane lengths).left
@@ -59,9 +59,9 @@ line_added lanes x lane action s y lengths r lines more lane_is action_is s_is l
     ∙ (λ i. record { lines = lines ++ line_behind lines (lane_is i) (drawn_action (action_is i) (s_is i) (lane_is i) (lengths_of lines (lane_is i))).request ∷ []; left = (drawn_action (action_is i) (s_is i) (lane_is i) (lengths_of lines (lane_is i))).left })
 
 pub noted_more : (old new : List (List ℕ)) (lines more : List Line) (l : Line)
-    → AreNoted old lines → length new ≡ length old
+    → AreLengthsNoted old lines → length new ≡ length old
     → ((other : ℕ) → get_or new other [] ≡ get_or old other [] ++ cond (l.lane.n == other)
-    (length_made l.request) []) → more ≡ lines ++ l ∷ [] → AreNoted new more
+    (length_made l.request) []) → more ≡ lines ++ l ∷ [] → AreLengthsNoted new more
 noted_more old new lines more l are places noted pushed = record {
   places = places ∙ are.places;
   noted = λ other.

@@ -4,7 +4,7 @@ use Rattle.std.proofs.lemmas.Bool.Decides.{nat_tests}
 use Rattle.std.specs.List.{All}
 use Rattle.cb_types.specs.declared.request.Request.{Request}
 use Rattle.cb_types.specs.declared.request.Request.TheVariants as request
-use Rattle.cb_gen.specs.Draws.{after, drawn}
+use Rattle.cb_gen.specs.Draws.{drawn, state_after}
 use Rattle.cb_gen.specs.Drawn.{Drawn, object_name, drawn_make, drawn_write, drawn_seldom, drawn_action}
 use Rattle.cb_gen.proofs.Drawing.{bytes_count, bytes_low, drawn_low}
 
@@ -40,8 +40,8 @@ module _ (x lane : ℕ) (lengths : List ℕ) where
   fits_make : Fits (drawn_make x lane (length lengths))
   fits_make =
       let low = drawn_low x 0 120 (omega arith) in
-      let count = bytes_count (after x 1) (1 + drawn x 0 120) in
-      makes _ (omega (arith, count)) (omega (arith, count, low)) (bytes_low (after x 1)
+      let count = bytes_count (state_after x 1) (1 + drawn x 0 120) in
+      makes _ (omega (arith, count)) (omega (arith, count, low)) (bytes_low (state_after x 1)
       (1 + drawn x 0 120))
 
   module _ (some : 1 ≤ length lengths) where
@@ -56,9 +56,9 @@ module _ (x lane : ℕ) (lengths : List ℕ) where
         let most = min (len - at) 32 + 1 in
         let count = drawn x 2 most in
         let low : count < most = drawn_low x 2 most (omega arith) in
-        let all = bytes_count (after x 3) count in
+        let all = bytes_count (state_after x 3) count in
         writes object at _ within (omega (arith, at_low, small)) (omega (arith, all, low, small))
-        (bytes_low (after x 3) count)
+        (bytes_low (state_after x 3) count)
 
     fits_seldom : (what : ℕ) → Fits (drawn_seldom what x lane (length lengths))
     fits_seldom what =
@@ -83,4 +83,4 @@ kind_of action x lane lengths short =
     either P (nat_lt action 10) _ _ (λ t. reads _ (drawn_low x 0 (length lengths) some))
     (λ f. either P (nat_lt action 14) _ _ (λ t. fits_write x lane lengths some short)
     (λ f. either P (action == 14) _ _ (λ t. evicts)
-    (λ f. fits_seldom (after x 1) lane lengths some (drawn x 0 6)))))
+    (λ f. fits_seldom (state_after x 1) lane lengths some (drawn x 0 6)))))

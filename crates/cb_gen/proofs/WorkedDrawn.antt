@@ -4,19 +4,19 @@ use Rattle.std.specs.Fmt.{digits}
 use Rattle.cb_types.specs.declared.request.Request.{Request}
 use Rattle.cb_types.specs.declared.request.Request.TheVariants.{Make, Read, Write, Filter, Evict, Crash, Rebuild, Compact}
 use Rattle.cb_script.specs.declared.script.Line.{Line}
-use Rattle.cb_gen.specs.Draws.{after, drawn, drawn_bytes, next}
+use Rattle.cb_gen.specs.Draws.{drawn, drawn_bytes, next_state, state_after}
 use Rattle.cb_gen.specs.Drawn.{drawn_action, drawn_config, lengths_of, made_script, object_name}
 
 -- ---- draws
 
-one_step : next 1 ≡ 7806831264735756412
+one_step : next_state 1 ≡ 7806831264735756412
 one_step = refl
 
 -- the product is reduced
-large_step : next 18446744073709551615 ≡ 13525302890751722018
+large_step : next_state 18446744073709551615 ≡ 13525302890751722018
 large_step = refl
 
-three_steps : after 1 3 ≡ 11960119808228829710
+three_steps : state_after 1 3 ≡ 11960119808228829710
 three_steps = refl
 
 -- the upper bits of the state are what is drawn, and not the lower ones

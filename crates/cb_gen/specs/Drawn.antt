@@ -8,7 +8,7 @@ use Rattle.cb_types.specs.declared.request.Request.{Request}
 use Rattle.cb_types.specs.declared.request.Request.TheVariants.{Make, Read, Write, Free, Filter, Evict, Crash, Join, Rebuild, Compact}
 use Rattle.cb_script.specs.declared.script.Line.{Line}
 use Rattle.cb_script.specs.declared.script.Script.{Script}
-use Rattle.cb_gen.specs.Draws.{after, drawn, drawn_bytes}
+use Rattle.cb_gen.specs.Draws.{drawn, drawn_bytes, state_after}
 
 -- the configuration of each drawn script
 abbrev pub drawn_config : Config
@@ -29,8 +29,8 @@ abbrev pub drawn_make : (x lane before : ℕ) → Drawn
 drawn_make x lane before =
     let count = 1 + drawn x 0 120 in
     record {
-      request = Make (object_name lane before) (drawn_bytes (after x 1) count);
-      left = after (after x 1) count;
+      request = Make (object_name lane before) (drawn_bytes (state_after x 1) count);
+      left = state_after (state_after x 1) count;
     }
 
 -- A write within one of the lane's objects, which have these lengths: at most 32 bytes.
@@ -41,8 +41,8 @@ drawn_write x lane lengths =
     let at = drawn x 1 (len + 1) in
     let count = drawn x 2 (min (len - at) 32 + 1) in
     record {
-      request = Write (object_name lane object) at (drawn_bytes (after x 3) count);
-      left = after (after x 3) count;
+      request = Write (object_name lane object) at (drawn_bytes (state_after x 3) count);
+      left = state_after (state_after x 3) count;
     }
 
 -- one of the lane's objects, of so many
@@ -53,10 +53,18 @@ drawn_object x n lane count = object_name lane (drawn x n count)
 -- them, a rebuild or a compaction. The lane made so many objects.
 abbrev pub drawn_seldom : (what x lane count : ℕ) → Drawn
 drawn_seldom what x lane count =
-    if what == 0 then record { request = Free (drawn_object x 0 lane count); left = after x 1 }
-    else (if what == 1 then record { request = Filter (drawn_object x 0 lane count); left = after x 1 }
-    else (if what == 2 then record { request = Crash (record { n = drawn x 0 2 }); left = after x 1 }
-    else (if what == 3 then record { request = Join (record { n = drawn x 0 2 }); left = after x 1 }
+    if what == 0 then record {
+      request = Free (drawn_object x 0 lane count);
+      left =
+          state_after x 1;
+    }
+    else (if what == 1 then record { request = Filter (drawn_object x 0 lane count); left = state_after x 1 }
+    else (if what == 2 then record { request = Crash (record { n = drawn x 0 2 }); left = state_after x 1 }
+    else (if what == 3 then record {
+      request = Join (record { n = drawn x 0 2 });
+      left =
+          state_after x 1;
+    }
     else (if what == 4 then record { request = Rebuild; left = x }
     else record { request = Compact; left = x }))))
 
@@ -65,10 +73,10 @@ drawn_seldom what x lane count =
 abbrev pub drawn_action : (action x lane : ℕ) → List ℕ → Drawn
 drawn_action action x lane lengths =
     if nat_lt action 4 || (length lengths == 0) then drawn_make x lane (length lengths)
-    else (if nat_lt action 10 then record { request = Read (drawn_object x 0 lane (length lengths)); left = after x 1 }
+    else (if nat_lt action 10 then record { request = Read (drawn_object x 0 lane (length lengths)); left = state_after x 1 }
     else (if nat_lt action 14 then drawn_write x lane lengths
     else (if action == 14 then record { request = Evict; left = x }
-    else drawn_seldom (drawn x 0 6) (after x 1) lane (length lengths))))
+    else drawn_seldom (drawn x 0 6) (state_after x 1) lane (length lengths))))
 
 -- the length of what a request makes, where it makes something
 abbrev pub length_made : Request → List ℕ
@@ -89,7 +97,7 @@ abbrev pub with_line : ℕ → DrawnLines → DrawnLines
 with_line lanes d =
     let lane = 1 + drawn d.left 0 lanes in
     let action = drawn d.left 1 16 in
-    let more = drawn_action action (after d.left 2) lane (lengths_of d.lines lane) in
+    let more = drawn_action action (state_after d.left 2) lane (lengths_of d.lines lane) in
     record {
       lines = d.lines ++ record { lane = record { n = lane }; line = length d.lines + 2; request = more.request } ∷ [];
       left = more.left;

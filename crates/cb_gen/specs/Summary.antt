@@ -48,8 +48,8 @@ is_refusal (EpochAt epoch) = false
 is_refusal _ = true
 
 -- how many answers have a request of the verb
-abbrev pub asked : (Request → Bool) → List Answer → ℕ
-asked verb answers = count_by (λ a. verb a.request) answers
+abbrev pub count_asked : (Request → Bool) → List Answer → ℕ
+count_asked verb answers = count_by (λ a. verb a.request) answers
 
 -- how many answers are refusals
 abbrev pub refused : List Answer → ℕ
@@ -73,11 +73,11 @@ asked_text seed lines lanes =
 -- the requests by verb
 abbrev pub requests_text : List Answer → List ℕ
 requests_text answers =
-    codes "\nmake " ++ decimal (asked is_make answers)
-    ++ codes " read " ++ decimal (asked is_read answers)
-    ++ codes " write " ++ decimal (asked is_write answers)
-    ++ codes " free " ++ decimal (asked is_free answers)
-    ++ codes " other " ++ decimal (asked is_other answers)
+    codes "\nmake " ++ decimal (count_asked is_make answers)
+    ++ codes " read " ++ decimal (count_asked is_read answers)
+    ++ codes " write " ++ decimal (count_asked is_write answers)
+    ++ codes " free " ++ decimal (count_asked is_free answers)
+    ++ codes " other " ++ decimal (count_asked is_other answers)
 
 -- the refusals, and how many bytes the answers' text has
 abbrev pub refused_text : List Answer → (text : ℕ) → List ℕ

@@ -1,5 +1,5 @@
 ghost use Rattle.std.specs.Prelude.{◌≡◌, ◌<◌, ◌≤◌, OnOk, IfOk};
-ghost use Rattle.cb_gen.specs.Draws.{after, next, drawn, drawn_bytes};
+ghost use Rattle.cb_gen.specs.Draws.{state_after, next_state, drawn, drawn_bytes};
 
 use cb_types::{Bytes, NoMemory};
 use std::alloc::Global;
@@ -21,7 +21,7 @@ impl Draws {
     pub(crate) fn below(&mut self, most: u32) -> u32
         requires { 1 ≤ most }
         ensures drawn { result ≡ drawn self.old.state 0 most }
-        ensures left { self.new.state ≡ next self.old.state }
+        ensures left { self.new.state ≡ next_state self.old.state }
         ensures low { result < most }
     {
         self.state = self.state.wrapping_mul(FACTOR).wrapping_add(SUMMAND);
@@ -31,7 +31,7 @@ impl Draws {
     /// The next bytes.
     pub(crate) fn bytes(&mut self, alloc: Global, count: u32) -> Result<Bytes, NoMemory>
         ensures bytes { IfOk result (λ bytes. bytes ≡ drawn_bytes self.old.state count) }
-        ensures left { OnOk result (self.new.state ≡ after self.old.state count) }
+        ensures left { OnOk result (self.new.state ≡ state_after self.old.state count) }
     {
         let mut bytes = Vec::new(alloc);
         for _i in 0..count {

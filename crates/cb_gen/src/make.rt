@@ -2,7 +2,7 @@ ghost use Rattle.std.specs.Prelude.{◌≡◌, ◌<◌, ◌≤◌, ◌∷◌, �
 ghost use Rattle.cb_script.specs.Form.{IsScript};
 ghost use Rattle.cb_script.specs.Roomy.{IsAtEase};
 ghost use Rattle.cb_gen.specs.Drawn.{made_script, with_line};
-ghost use Rattle.cb_gen.specs.Noted.{AreNoted};
+ghost use Rattle.cb_gen.specs.Noted.{AreLengthsNoted};
 
 use crate::draws::Draws;
 use crate::lengths::{LaneLengths, length_made};
@@ -54,10 +54,10 @@ fn add_line(
 ) -> Result<(), NoMemory>
     requires lanes { (1 ≤ lanes) × (lanes ≤ 15) }
     requires few { length lines.old < 4000 }
-    requires noted { AreNoted made.old lines.old }
+    requires noted { AreLengthsNoted made.old lines.old }
     ensures line { OnOk result (record { lines = lines.new; left = draws.new.state }
         ≡ with_line lanes (record { lines = lines.old; left = draws.old.state })) }
-    ensures noted { OnOk result (AreNoted made.new lines.new) }
+    ensures noted { OnOk result (AreLengthsNoted made.new lines.new) }
 {
     let lane = 1 + draws.below(lanes) as u8;
     let action = draws.below(16);

@@ -1,6 +1,6 @@
 ghost use Rattle.std.specs.Prelude.{◌≡◌, ◌<◌, ◌≤◌, ◌^◌, ◌==◌, ◌||◌, nat_lt, length, OnOk, IfOk};
 ghost use Rattle.cb_gen.specs.Drawn.{object_name, drawn_make, drawn_write, drawn_object, drawn_seldom, drawn_action};
-ghost use Rattle.cb_gen.specs.Draws.{drawn, next};
+ghost use Rattle.cb_gen.specs.Draws.{drawn, next_state};
 
 use crate::draws::Draws;
 use cb_types::{Name, NoMemory, NodeId, Request};
@@ -125,7 +125,7 @@ fn draw_seldom(
 /// One of the two nodes that crash and join.
 fn draw_node(draws: &mut Draws) -> NodeId
     ensures node { result.n ≡ drawn draws.old.state 0 2 }
-    ensures left { draws.new.state ≡ next draws.old.state }
+    ensures left { draws.new.state ≡ next_state draws.old.state }
 {
     NodeId {
         n: draws.below(2) as u8,
@@ -136,7 +136,7 @@ fn draw_node(draws: &mut Draws) -> NodeId
 fn draw_object(alloc: Global, draws: &mut Draws, lane: u8, count: u32) -> Result<Name, NoMemory>
     requires { 1 ≤ count }
     ensures name { IfOk result (λ name. name ≡ drawn_object draws.old.state 0 lane count) }
-    ensures left { draws.new.state ≡ next draws.old.state }
+    ensures left { draws.new.state ≡ next_state draws.old.state }
 {
     let object = draws.below(count);
     object_name(alloc, lane, object)

@@ -8,7 +8,7 @@ use Rattle.cb_gf256.specs.Combination.{combination, AreCombinations}
 use Rattle.std.proofs.Common.{All}
 use Rattle.std.proofs.lemmas.List.{length-map}
 use Rattle.cb_gf256.proofs.Summing.{row_at-rows_at}
-use Rattle.cb_gf256.specs.Placing.{Placed, Combined, Restored, AreApart}
+use Rattle.cb_gf256.specs.Placing.{Placed, Combined, Restored, AreDisjoint}
 use Rattle.std.proofs.lemmas.Grind.{same_number_lists}
 use Rattle.std.specs.Simd.Lanes.{put_chunk}
 use Rattle.std.proofs.lemmas.Simd.{length-put_chunk, get_or-put_chunk_at, get_or-put_chunk_below, get_or-put_chunk_above}
@@ -114,7 +114,7 @@ restored_none table shown targets sources rows at = record {
 }
 
 -- a block of the copies and then of the sums
-copied_columns : (shown : List (List ℕ)) (targets sources : List ℕ) (v : ℕ → ℕ → ℕ) (now mid next : List (List ℕ)) (w at m : ℕ) → m ≡ length targets → AreApart sources targets
+copied_columns : (shown : List (List ℕ)) (targets sources : List ℕ) (v : ℕ → ℕ → ℕ) (now mid next : List (List ℕ)) (w at m : ℕ) → m ≡ length targets → AreDisjoint sources targets
     → Placed w at sources (λ i l. byte_at shown i (at + l)) now mid (length sources) → Placed w at targets v mid next m
     → (i c : ℕ) → i < length sources → at ≤ c → c < at + w → byte_at next (get_or sources i 0) c ≡ byte_at shown i c
 copied_columns shown targets sources v now mid next w at m all apart copied put i c k low high =
@@ -123,7 +123,7 @@ copied_columns shown targets sources v now mid next w at m all apart copied put 
     ∙ subst (λ x. byte_at mid (get_or sources i 0) x ≡ byte_at shown i x) place (copied.placed i (c - at) k (omega arith))
 
 -- the columns before those that are made
-pub restored_before : (table shown : List (List ℕ)) (targets sources : List ℕ) (before now mid next : List (List ℕ)) (w at m from to : ℕ) → m ≡ length targets → from ≡ at + w → AreApart sources targets
+pub restored_before : (table shown : List (List ℕ)) (targets sources : List ℕ) (before now mid next : List (List ℕ)) (w at m from to : ℕ) → m ≡ length targets → from ≡ at + w → AreDisjoint sources targets
     → Restored table shown targets sources before now from to
     → Placed w at sources (λ i l. byte_at shown i (at + l)) now mid (length sources) → Placed w at targets (λ j l. combination (row_at table j) shown (at + l)) mid next m
     → Restored table shown targets sources before next at to
@@ -144,7 +144,7 @@ restored_before table shown targets sources before now mid next w at m from to a
 }
 
 -- the columns after those that are made
-pub restored_more : (table shown : List (List ℕ)) (targets sources : List ℕ) (before now mid next : List (List ℕ)) (w from at m to : ℕ) → m ≡ length targets → to ≡ at + w → AreApart sources targets
+pub restored_more : (table shown : List (List ℕ)) (targets sources : List ℕ) (before now mid next : List (List ℕ)) (w from at m to : ℕ) → m ≡ length targets → to ≡ at + w → AreDisjoint sources targets
     → Restored table shown targets sources before now from at
     → Placed w at sources (λ i l. byte_at shown i (at + l)) now mid (length sources) → Placed w at targets (λ j l. combination (row_at table j) shown (at + l)) mid next m
     → Restored table shown targets sources before next from to

@@ -19,15 +19,15 @@ AreBytes [] = Unit {0}
 AreBytes (a ∷ cs) = (a < 256) × AreBytes cs
 
 -- each number of the list is 0
-abbrev pub AreZero : List ℕ → Type 0
-AreZero [] = Unit {0}
-AreZero (a ∷ cs) = (a ≡ 0) × AreZero cs
+abbrev pub AreAllZero : List ℕ → Type 0
+AreAllZero [] = Unit {0}
+AreAllZero (a ∷ cs) = (a ≡ 0) × AreAllZero cs
 
 pub evaluated-lt : (cs : List ℕ) (x : ℕ) → AreBytes cs → x < 256 → evaluated cs x < 256
 evaluated-lt [] x h k = omega arith
 evaluated-lt (a ∷ cs) x h k = sum-lt a (x ⊗ evaluated cs x) h.0 (product-lt x (evaluated cs x) k (evaluated-lt cs x h.1 k))
 
-pub evaluated_zero : (cs : List ℕ) (x : ℕ) → AreZero cs → evaluated cs x ≡ 0
+pub evaluated_zero : (cs : List ℕ) (x : ℕ) → AreAllZero cs → evaluated cs x ≡ 0
 evaluated_zero [] x h = refl
 evaluated_zero (a ∷ cs) x h = ap₂ (λ b e. b ⊕ x ⊗ e) h.0 (evaluated_zero cs x h.1) ∙ product-zero x
 
@@ -118,7 +118,7 @@ pub zero_factor : (a b : ℕ) → 0 < a → a < 256 → b < 256 → a ⊗ b ≡ 
 zero_factor a b p q r e =
     ⊎_elim (λ some. let positive : 0 < a ⊗ b = product_nonzero a b p q some r in absurd (omega arith)) (λ none. omega arith) (cases_lt 0 b)
 
-zero_quotient : (y a : ℕ) (cs : List ℕ) → evaluated (a ∷ cs) y ≡ 0 → AreZero (divided y (a ∷ cs)) → AreZero (a ∷ cs)
+zero_quotient : (y a : ℕ) (cs : List ℕ) → evaluated (a ∷ cs) y ≡ 0 → AreAllZero (divided y (a ∷ cs)) → AreAllZero (a ∷ cs)
 unfolding divided
 zero_quotient y a [] e h = (sym (xor_zero_r a) ∙ ap (λ p. a ⊕ p) (sym (product-zero y)) ∙ e, tt)
 zero_quotient y a (b ∷ cs) e h =
@@ -129,7 +129,7 @@ differ_nonzero a b h =
     ⊎_elim (λ some. some) (λ none. let same : a ⊕ b ≡ 0 = omega arith in absurd (h (same_from_zero_sum a b same))) (cases_lt 0 (a ⊕ b))
 
 -- a polynomial with as many distinct roots as coefficients is zero
-pub zero_from_roots : (n : ℕ) (cs : List ℕ) (root : ℕ → ℕ) → length cs ≡ n → AreBytes cs → ((i : ℕ) → i < n → root i < 256) → ((i j : ℕ) → i < j → j < n → root i ≢ root j) → ((i : ℕ) → i < n → evaluated cs (root i) ≡ 0) → AreZero cs
+pub zero_from_roots : (n : ℕ) (cs : List ℕ) (root : ℕ → ℕ) → length cs ≡ n → AreBytes cs → ((i : ℕ) → i < n → root i < 256) → ((i j : ℕ) → i < j → j < n → root i ≢ root j) → ((i : ℕ) → i < n → evaluated cs (root i) ≡ 0) → AreAllZero cs
 zero_from_roots n [] root e h b d z = tt
 zero_from_roots zero (a ∷ cs) root e h b d z = absurd (omega arith)
 zero_from_roots (suc n) (a ∷ cs) root e h b d z =
@@ -247,7 +247,7 @@ AreBytes-from_all : (cs : List ℕ) → All (λ a. a < 256) cs → AreBytes cs
 AreBytes-from_all [] h = tt
 AreBytes-from_all (a ∷ cs) h = (h 0 0 (omega arith), AreBytes-from_all cs (λ k d l. h (suc k) d (omega arith)))
 
-all_from_AreZero : (cs : List ℕ) → AreZero cs → All (λ a. a ≡ 0) cs
+all_from_AreZero : (cs : List ℕ) → AreAllZero cs → All (λ a. a ≡ 0) cs
 all_from_AreZero [] h k d l = absurd (omega arith)
 all_from_AreZero (a ∷ cs) h zero d l = h.0
 all_from_AreZero (a ∷ cs) h (suc k) d l = all_from_AreZero cs h.1 k d (omega arith)

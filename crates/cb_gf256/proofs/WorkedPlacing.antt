@@ -3,7 +3,7 @@ use Rattle.std.proofs.Common.{◌≡◌, ℕ, zero, suc, ◌<◌, ◌≤◌, ◌
 use Rattle.cb_gf256.specs.Product.{◌⊗◌}
 use Rattle.cb_gf256.specs.Rows.{row_at, byte_at}
 use Rattle.cb_gf256.specs.Combination.{combination}
-use Rattle.cb_gf256.specs.Placing.{Placed, Combined, Restored, AreApart}
+use Rattle.cb_gf256.specs.Placing.{Placed, Combined, Restored, AreDisjoint}
 use Rattle.cb_gf256.specs.Split.{Splits}
 use Rattle.cb_gf256.proofs.Splitting.{split_none, split_with_present, split_with_lost}
 
@@ -207,13 +207,13 @@ no_other_row_restored h =
     absurd (omega (arith, first_of (0x08 ∷ []) (0x09 ∷ []) (h.others 3 not_three not_a_source)))
 
 -- the sources and the target are apart, and a target that is a source is not
-pub are_apart : AreApart (0 ∷ 1 ∷ []) (2 ∷ [])
+pub are_apart : AreDisjoint (0 ∷ 1 ∷ []) (2 ∷ [])
 are_apart zero zero p q e = absurd (omega (arith, e))
 are_apart (suc zero) zero p q e = absurd (omega (arith, e))
 are_apart (suc (suc i)) j p q e = absurd (omega arith)
 are_apart i (suc j) p q e = absurd (omega arith)
 
-pub no_source_is_target : AreApart (0 ∷ 1 ∷ []) (1 ∷ []) → ⊥
+pub no_source_is_target : AreDisjoint (0 ∷ 1 ∷ []) (1 ∷ []) → ⊥
 no_source_is_target h = h 1 0 (omega arith) (omega arith) refl
 
 -- ---- of the positions 0 to 3 the rows 1 and 2 are present, and 0 and 3 are lost

@@ -39,6 +39,6 @@ pub record Restored (table shown : List (List ℕ)) (targets sources : List ℕ)
       → row_at now i ≡ row_at before i
 
 -- no source is a target
-abbrev pub AreApart : List ℕ → List ℕ → Type 0
-AreApart sources targets = (i j : ℕ) → i < length sources → j < length targets
+abbrev pub AreDisjoint : List ℕ → List ℕ → Type 0
+AreDisjoint sources targets = (i j : ℕ) → i < length sources → j < length targets
     → slice_index sources i ≢ slice_index targets j

@@ -5,7 +5,7 @@ ghost use Rattle.std.specs.List.Sorted.{IsStrictlyIncreasing};
 ghost use Rattle.cb_gf256.specs.Rows.{row_at, rows_at, byte_at, HaveLength};
 ghost use Rattle.cb_gf256.specs.Lanes.{HasLanes};
 ghost use Rattle.cb_gf256.specs.Combination.{combination, AreCombinations};
-ghost use Rattle.cb_gf256.specs.Placing.{Placed, Restored, AreApart};
+ghost use Rattle.cb_gf256.specs.Placing.{Placed, Restored, AreDisjoint};
 
 use crate::factors::Factors;
 use crate::lanes::{BLOCK, block_at, put_block};
@@ -66,7 +66,7 @@ fn restore_blocks<const R: usize>(
     requires ascending { IsStrictlyIncreasing sources.now × IsStrictlyIncreasing targets.now }
     requires below { All (λ p. p < length out.old) sources.now
         × All (λ p. p < length out.old) targets.now }
-    requires apart { AreApart sources.now targets.now }
+    requires apart { AreDisjoint sources.now targets.now }
     requires lengths { HaveLength len rows.now × HaveLength len out.old }
     ensures { Restored factors.now (rows_at rows.now sources.now) targets.now sources.now
         out.old out.new 0 (len / 32 * 32) }
@@ -94,7 +94,7 @@ fn restore_whole_blocks(
     requires ascending { IsStrictlyIncreasing sources.now × IsStrictlyIncreasing targets.now }
     requires below { All (λ p. p < length out.old) sources.now
         × All (λ p. p < length out.old) targets.now }
-    requires apart { AreApart sources.now targets.now }
+    requires apart { AreDisjoint sources.now targets.now }
     requires lengths { HaveLength len rows.now × HaveLength len out.old }
     ensures height { length factors.now ≤ 4 }
     ensures blocks { Restored factors.now (rows_at rows.now sources.now) targets.now sources.now
@@ -144,7 +144,7 @@ fn restore_rest(
     requires ascending { IsStrictlyIncreasing sources.now × IsStrictlyIncreasing targets.now }
     requires below { All (λ p. p < length out.old) sources.now
         × All (λ p. p < length out.old) targets.now }
-    requires apart { AreApart sources.now targets.now }
+    requires apart { AreDisjoint sources.now targets.now }
     requires lengths { HaveLength len rows.now × HaveLength len out.old }
     requires inside { from ≤ len }
     ensures { (before : List (List ℕ))
@@ -172,7 +172,7 @@ impl Rows {
         requires ascending { IsStrictlyIncreasing sources.now × IsStrictlyIncreasing targets.now }
         requires below { All (λ p. p < length self.old) sources.now
             × All (λ p. p < length self.old) targets.now }
-        requires apart { AreApart sources.now targets.now }
+        requires apart { AreDisjoint sources.now targets.now }
         requires lengths { HaveLength (length (row_at rows.now 0)) self.old }
         ensures count { length self.new ≡ length self.old }
         ensures lengths { HaveLength (length (row_at rows.now 0)) self.new }

@@ -11,7 +11,7 @@ use Rattle.cb_types.specs.declared.reply.Reply.{Reply}
 use Rattle.cb_types.specs.declared.reply.Reply.TheVariants as answer
 use Rattle.cb_types.specs.Requests.{name_of}
 use Rattle.cb_types.specs.Table.{IsReplyOf}
-use Rattle.cb_model.specs.Now.{Now}
+use Rattle.cb_model.specs.Now.{MapNow}
 use Rattle.cb_model.specs.Event.{Event, Subject, change_of, event_of, refusal}
 use Rattle.cb_model.specs.Event.Subject.{Contents, Other, Nothing}
 use Rattle.cb_model.specs.Event.Event.{Makes, Writes, Frees}
@@ -19,7 +19,7 @@ use Rattle.cb_model.specs.Called.{calls_of, handle_for, handle_made, handle_name
 use Rattle.cb_model.specs.Legal.{IsUnmadeRight}
 use Rattle.cb_model.specs.Replies.{MapReplies}
 use Rattle.cb_script.specs.declared.script.Line.{Line}
-use Rattle.cb_lanes.specs.Alone.{AloneSays, HasOwnLines, IsCalm, KeepAlone, LaneState, alone_after, alone_more, objects_after, fresh_lane, is_leave, is_maker, is_maker_of, is_own, leaves, now_after, now_named, own_name, peek_alone, pin_alone, pins_shared, read_alone, free_alone, unpin_alone, write_alone}
+use Rattle.cb_lanes.specs.Alone.{AloneSays, HasOwnLines, IsCalmReply, KeepAlone, LaneState, alone_after, alone_more, named_objects_after, fresh_lane, is_leave, is_maker, is_maker_of, is_own, leaves, now_after, now_named, own_name, peek_alone, pin_alone, pins_shared, read_alone, free_alone, unpin_alone, write_alone}
 use Rattle.cb_lanes.specs.Scopes.{PinnedSays, Scope, ScopeSays, named_on, newest_on, scope_after, scope_more, scope_of, without_newest}
 use Rattle.cb_lanes.proofs.AloneReplies.{PinsTell, free_says, make_says, peek_says, pin_says, read_says, unpin_says, write_says}
 use Rattle.cb_lanes.proofs.AloneValues.{made_value, other_value, own_value, quiet_value, value_named}
@@ -43,7 +43,7 @@ pub record Telling (lines : List Line) (handles : ℕ) (before : List Answer) (a
   pub right : IsUnmadeRight (handle_for before request r) (event_of request r)
   pub says : ScopeSays (handle_named before (name_of request)) (scope_of asker before) request r
   pub line : IsReplyOf request r
-  pub calm : IsCalm r
+  pub calm : IsCalmReply r
   pub pins : (name : List ℕ) → name_of request ≡ Some name → is_maker lines asker name ≡ true → 1 ≤ asker
       → PinsTell (value_named before name) (named_on name (scope_of asker before)) request r
   pub apart : (p q : List ℕ) (h : ℕ) → handle_of before p ≡ Some h → handle_of before q ≡ Some h → p ≡ q
@@ -72,37 +72,39 @@ none_pinned_free name handles made own r m count is = absurd
     (subst (λ (q : Reply). MapReplies 1 handles made None None (event_of (Free name) q)) is m)
 
 module _ (handles : ℕ) (before : List Answer) (scope : Scope) (name : List ℕ) (r : Reply) where
-  abbrev pub Replies : Option ℕ → Event → Type 0
-  Replies o event = MapReplies 1 handles (makes (calls_of before)) o (value_at (calls_of before) o) event
+  abbrev pub RepliesAlone : Option ℕ → Event → Type 0
+  RepliesAlone o event = MapReplies 1 handles (makes (calls_of before)) o (value_at (calls_of before) o) event
 
   write_pinned : (at : ℕ) (bytes : List ℕ) (o : Option ℕ) → ScopeSays o scope (Write name at bytes) r
-      → Replies o (event_of (Write name at bytes) r) → PinnedSays (named_on name scope) r
+      → RepliesAlone o (event_of (Write name at bytes) r) → PinnedSays (named_on name scope) r
   write_pinned at bytes None says m =
       none_pinned name at bytes handles (makes (calls_of before)) (named_on name scope) r m
   write_pinned at bytes (Some h) says m = says
 
-  free_pinned : (o : Option ℕ) → ScopeSays o scope (Free name) r → Replies o (event_of (Free name) r)
+  free_pinned : (o : Option ℕ) → ScopeSays o scope (Free name) r → RepliesAlone o (event_of (Free name) r)
       → PinnedSays (named_on name scope) r
   free_pinned None says m =
       none_pinned_free name handles (makes (calls_of before)) (named_on name scope) r m
   free_pinned (Some h) says m = says
 
-  pin_by : (o : Option ℕ) → ScopeSays o scope (Pin name) r → Replies o (event_of (Pin name) r)
-      → IsUnmadeRight o (event_of (Pin name) r) → IsReplyOf (Pin name) r → IsCalm r
+  pin_by : (o : Option ℕ) → ScopeSays o scope (Pin name) r → RepliesAlone o (event_of (Pin name) r)
+      → IsUnmadeRight o (event_of (Pin name) r) → IsReplyOf (Pin name) r → IsCalmReply r
       → r ≡ pin_alone (value_at (calls_of before) o) (length scope)
   pin_by None says m right line calm = says
   pin_by (Some h) says m right line calm =
       pin_says name handles (makes (calls_of before)) h (value_at (calls_of before) (Some h)) (length scope) r m
       right line calm says.0 says.1
 
-  peek_by : (o : Option ℕ) → ScopeSays o scope (Peek name) r → Replies o (event_of (Peek name) r)
+  peek_by : (o : Option ℕ) → ScopeSays o scope (Peek name) r
+      → RepliesAlone o (event_of (Peek name) r)
       → r ≡ peek_alone (value_at (calls_of before) o) (newest_on name scope)
   peek_by None says m = says
   peek_by (Some h) says m =
       peek_says name handles (makes (calls_of before)) h (value_at (calls_of before) (Some h))
       (newest_on name scope) r m says
 
-  unpin_by : (o : Option ℕ) → ScopeSays o scope (Unpin name) r → Replies o (event_of (Unpin name) r)
+  unpin_by : (o : Option ℕ) → ScopeSays o scope (Unpin name) r
+      → RepliesAlone o (event_of (Unpin name) r)
       → r ≡ unpin_alone (value_at (calls_of before) o) (newest_on name scope)
   unpin_by None says m = says
   unpin_by (Some h) says m =
@@ -381,18 +383,18 @@ module _ (lines : List Line) (handles : ℕ) (before : List Answer) (a : Answer)
       on : OnName before a p
       on = on_name lines handles before a p a.request refl named t
 
-      now : Now
+      now : MapNow
       now = now_after (now_named p state.objects) a.request a.reply
 
       objects_named : (alone_after state a.request a.reply).objects
           ≡ record { name = p; now = now } ∷ state.objects
-      objects_named = ap (λ (o : Option (List ℕ)). objects_after state.objects o a.request a.reply) named
+      objects_named = ap (λ (o : Option (List ℕ)). named_objects_after state.objects o a.request a.reply) named
 
       by : (q : List ℕ) → is_maker lines lane q ≡ true
           → ((bytes_eq p q ≡ true) × (p ≡ q)) ⊎ ((bytes_eq p q ≡ false) × (p ≢ q))
           → (if bytes_eq p q then now else now_named q state.objects) ≡ value_named (before ++ a ∷ []) q
       by q maker (inl e) = ap (λ (b : Bool). if b then now else now_named q state.objects) e.0
-          ∙ ap (λ (n : Now). now_after n a.request a.reply) (stands.objects p own) ∙ sym on.own
+          ∙ ap (λ (n : MapNow). now_after n a.request a.reply) (stands.objects p own) ∙ sym on.own
           ∙ ap (value_named (before ++ a ∷ [])) e.1
       by q maker (inr e) = ap (λ (b : Bool). if b then now else now_named q state.objects) e.0
           ∙ stands.objects q maker ∙ sym (on.other q e.1)
@@ -402,7 +404,7 @@ module _ (lines : List Line) (handles : ℕ) (before : List Answer) (a : Answer)
       → StandsAlone lines lane (before ++ a ∷ []) (alone_after state a.request a.reply)
   stands_leave asks same = record {
     scope = ap (λ (s : Scope). scope_after s a.request a.reply) stands.scope ∙ sym (scope_own same);
-    objects = λ q maker. (λ i. now_named q (objects_after state.objects (name_of (asks i)) a.request a.reply))
+    objects = λ q maker. (λ i. now_named q (named_objects_after state.objects (name_of (asks i)) a.request a.reply))
         ∙ stands.objects q maker ∙ sym (quiet_value before a q (λ i. handle_made q (asks i) a.reply)
         ((λ i. change_of (event_of (asks i) a.reply)) ∙ refusal_still Nothing a.reply));
     others = λ q not. others_after q state.scope a.request a.reply

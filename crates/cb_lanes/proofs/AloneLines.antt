@@ -15,7 +15,7 @@ use Rattle.cb_model.specs.Event.{Subject, event_of, refusal, subject_of}
 use Rattle.cb_model.specs.Event.Subject.{Contents, Other}
 use Rattle.cb_model.specs.Called.{calls_behind, made_by, makes}
 use Rattle.cb_script.specs.declared.script.Line.{Line}
-use Rattle.cb_script.specs.Form.{AreLines, IsKnown, IsMade, IsNew, KnowsName, Makes}
+use Rattle.cb_script.specs.Form.{AreLines, IsNameKnown, IsNameMade, IsNameNew, KnowsName, MakesName}
 use Rattle.cb_script.specs.Roomy.{has_pin, is_make, is_pin, makes_in}
 use Rattle.cb_lanes.specs.Asked.{asked}
 use Rattle.cb_lanes.specs.Alone.{is_maker, makes_named}
@@ -55,11 +55,11 @@ any_at p (y ∷ xs) (suc i) x none below at =
 
 -- ---- who makes a name
 
-makes_it : (name : List ℕ) (request : Request) → Makes request name → makes_named name request ≡ true
+makes_it : (name : List ℕ) (request : Request) → MakesName request name → makes_named name request ≡ true
 makes_it name (Make made bytes) e = (bytes_eq-Decides made name).1 e
 makes_it name request e = absurd e
 
-pub maker_of : (lines : List Line) (lane : ℕ) (name : List ℕ) → IsMade lines lane name
+pub maker_of : (lines : List Line) (lane : ℕ) (name : List ℕ) → IsNameMade lines lane name
     → is_maker lines lane name ≡ true
 maker_of [] lane name made = absurd made
 maker_of (l ∷ lines) lane name (inl (same, makes)) =
@@ -69,30 +69,31 @@ maker_of (l ∷ lines) lane name (inr made) =
     or_right (nat_eq l.lane.n lane && makes_named name l.request) (is_maker lines lane name)
     (maker_of lines lane name made)
 
-made_name : (name : List ℕ) (request : Request) → makes_named name request ≡ true → Makes request name
+made_name : (name : List ℕ) (request : Request) → makes_named name request ≡ true → MakesName request name
 made_name name (Make made bytes) e = (bytes_eq-Decides made name).0 e
 made_name name request e = absurd (false≢true e)
 
 -- a request that makes a name is known only where the name is new
-new_name : (before : List Line) (lane : ℕ) (name : List ℕ) (request : Request) → Makes request name
-    → IsKnown before lane request → IsNew before name
-new_name before lane name (Make made bytes) e known = subst (IsNew before) e known
+new_name : (before : List Line) (lane : ℕ) (name : List ℕ) (request : Request)
+    → MakesName request name
+    → IsNameKnown before lane request → IsNameNew before name
+new_name before lane name (Make made bytes) e known = subst (IsNameNew before) e known
 new_name before lane name request e known = absurd e
 
-made_more : (before : List Line) (l : Line) (lane : ℕ) (name : List ℕ) → IsMade before lane name
-    → IsMade (before ++ l ∷ []) lane name
+made_more : (before : List Line) (l : Line) (lane : ℕ) (name : List ℕ) → IsNameMade before lane name
+    → IsNameMade (before ++ l ∷ []) lane name
 made_more [] l lane name made = absurd made
 made_more (b ∷ before) l lane name (inl z) = inl z
 made_more (b ∷ before) l lane name (inr z) = inr (made_more before l lane name z)
 
 made_last : (before : List Line) (l : Line) (lane : ℕ) (name : List ℕ) → l.lane.n ≡ lane
-    → Makes l.request name → IsMade (before ++ l ∷ []) lane name
+    → MakesName l.request name → IsNameMade (before ++ l ∷ []) lane name
 made_last [] l lane name same makes = inl (same, makes)
 made_last (b ∷ before) l lane name same makes = inr (made_last before l lane name same makes)
 
 -- a name that was made is made no more
 made_once : (nodes : ℕ) (before lines : List Line) (k m : ℕ) (name : List ℕ) → AreLines nodes before lines
-    → IsMade before k name → is_maker lines m name ≡ true → ⊥
+    → IsNameMade before k name → is_maker lines m name ≡ true → ⊥
 made_once nodes before [] k m name all was again = false≢true again
 made_once nodes before (l ∷ lines) k m name all was again =
     by (λ rest. made_once nodes (before ++ l ∷ []) lines k m name all.1 (made_more before l k name was) rest)
@@ -118,7 +119,7 @@ one_maker nodes before (l ∷ lines) k m name all a b =
         → is_maker lines lane name ≡ true
     rest lane e off = sym (ap (λ (b : Bool). b || is_maker lines lane name) off) ∙ e
 
-    here : (lane : ℕ) → head lane ≡ true → (l.lane.n ≡ lane) × Makes l.request name
+    here : (lane : ℕ) → head lane ≡ true → (l.lane.n ≡ lane) × MakesName l.request name
     here lane e = let z = both (nat_eq l.lane.n lane) (makes_named name l.request) e in
         (eqb-true l.lane.n lane z.0, made_name name l.request z.1)
 
@@ -134,24 +135,24 @@ one_maker nodes before (l ∷ lines) k m name all a b =
 -- ---- the name of each line
 
 -- the lane of a line makes its name, or lane 0 does
-abbrev pub IsNamed : List Line → Line → Type 0
-IsNamed lines l = (name : List ℕ) → name_of l.request ≡ Some name
+abbrev pub IsOwnName : List Line → Line → Type 0
+IsOwnName lines l = (name : List ℕ) → name_of l.request ≡ Some name
     → (is_maker lines l.lane.n name ≡ true) ⊎ (is_maker lines 0 name ≡ true)
 
 same_name : (a b : List ℕ) → Some a ≡ Some b → a ≡ b
 same_name a b e = cc
 
 known_maker : (lines before : List Line) (lane : ℕ)
-    → ((k : ℕ) (name : List ℕ) → IsMade before k name → is_maker lines k name ≡ true)
+    → ((k : ℕ) (name : List ℕ) → IsNameMade before k name → is_maker lines k name ≡ true)
     → (name : List ℕ) → KnowsName before lane name
     → (is_maker lines lane name ≡ true) ⊎ (is_maker lines 0 name ≡ true)
 known_maker lines before lane among name (inl own) = inl (among lane name own)
 known_maker lines before lane among name (inr shared) = inr (among 0 name shared)
 
 line_named : (lines before : List Line) (l : Line) (request : Request)
-    → ((k : ℕ) (name : List ℕ) → IsMade before k name → is_maker lines k name ≡ true)
-    → ((name : List ℕ) → Makes request name → is_maker lines l.lane.n name ≡ true)
-    → IsKnown before l.lane.n request → (name : List ℕ)
+    → ((k : ℕ) (name : List ℕ) → IsNameMade before k name → is_maker lines k name ≡ true)
+    → ((name : List ℕ) → MakesName request name → is_maker lines l.lane.n name ≡ true)
+    → IsNameKnown before l.lane.n request → (name : List ℕ)
     → name_of request ≡ Some name
     → (is_maker lines l.lane.n name ≡ true) ⊎ (is_maker lines 0 name ≡ true)
 line_named lines before l (Make made bytes) among own known name e =
@@ -174,9 +175,9 @@ line_named lines before l request among own known name e = absurd (let z : None 
 
 -- those behind these lines, of all lines
 named_behind : (nodes : ℕ) (all before lines : List Line)
-    → ((k : ℕ) (name : List ℕ) → IsMade before k name → is_maker all k name ≡ true)
+    → ((k : ℕ) (name : List ℕ) → IsNameMade before k name → is_maker all k name ≡ true)
     → ((k : ℕ) (name : List ℕ) → is_maker lines k name ≡ true → is_maker all k name ≡ true)
-    → AreLines nodes before lines → AllByRecursion (IsNamed all) lines
+    → AreLines nodes before lines → AllByRecursion (IsOwnName all) lines
 named_behind nodes all before [] earlier later are = tt
 named_behind nodes all before (l ∷ lines) earlier later are = (
   line_named all before l l.request earlier own are.0.known,
@@ -185,13 +186,13 @@ named_behind nodes all before (l ∷ lines) earlier later are = (
       (is_maker lines k name) e)) are.1,
 )
   where
-    own : (name : List ℕ) → Makes l.request name → is_maker all l.lane.n name ≡ true
+    own : (name : List ℕ) → MakesName l.request name → is_maker all l.lane.n name ≡ true
     own name makes = later l.lane.n name
         (or_left (nat_eq l.lane.n l.lane.n && makes_named name l.request) (is_maker lines l.lane.n name)
         (λ i. (eq-eqb l.lane.n l.lane.n refl i) && (makes_it name l.request makes i)))
 
-    split : (bs : List Line) (k : ℕ) (name : List ℕ) → IsMade (bs ++ l ∷ []) k name
-        → IsMade bs k name ⊎ ((l.lane.n ≡ k) × Makes l.request name)
+    split : (bs : List Line) (k : ℕ) (name : List ℕ) → IsNameMade (bs ++ l ∷ []) k name
+        → IsNameMade bs k name ⊎ ((l.lane.n ≡ k) × MakesName l.request name)
     split [] k name (inl z) = inr z
     split [] k name (inr z) = absurd z
     split (b ∷ bs) k name (inl z) = inl (inl z)
@@ -200,14 +201,15 @@ named_behind nodes all before (l ∷ lines) earlier later are = (
       | inr x ↦ inr x
     ]
 
-    pushed : (k : ℕ) (name : List ℕ) → IsMade (before ++ l ∷ []) k name → is_maker all k name ≡ true
+    pushed : (k : ℕ) (name : List ℕ) → IsNameMade (before ++ l ∷ []) k name
+        → is_maker all k name ≡ true
     pushed k name made = elim (split before k name made) [
       | inl x ↦ earlier k name x
       | inr x ↦ subst (λ (j : ℕ). is_maker all j name ≡ true) x.0 (own name x.1)
     ]
 
 pub names_known : (nodes : ℕ) (lines : List Line) → AreLines nodes [] lines
-    → AllByRecursion (IsNamed lines) lines
+    → AllByRecursion (IsOwnName lines) lines
 names_known nodes lines are =
     named_behind nodes lines [] lines (λ k name made. absurd made) (λ k name e. e) are
 
@@ -298,7 +300,7 @@ none_named name (pin ∷ older) none = by (none_named name older) (cases_Bool (b
 pins_not : (lines : List Line) (own lane : ℕ) (name : List ℕ)
     → ((k m : ℕ) (q : List ℕ) → is_maker lines k q ≡ true → is_maker lines m q ≡ true → k ≡ m)
     → 1 ≤ own → lane ≢ own → is_maker lines own name ≡ true → (ls : List Line)
-    → AllByRecursion (IsNamed lines) ls → AllByRecursion (PinsNot lane name) ls
+    → AllByRecursion (IsOwnName lines) ls → AllByRecursion (PinsNot lane name) ls
 pins_not lines own lane name one some apart maker [] all = tt
 pins_not lines own lane name one some apart maker (l ∷ ls) all = (
   λ same pinned asks e. elim (all.0 pinned (ap name_of asks)) [
@@ -317,7 +319,7 @@ named_none nodes lines i own lane name answers are so_far some apart maker =
     none_named name (scope_of lane answers) (scope_off_from lane name [] answers refl
     (subst (AllByRecursion (PinsNot lane name)) (sym so_far)
     (pins_not lines own lane name (λ k m q. one_maker nodes [] lines k m q are) some apart maker (take i lines)
-    (each_front (IsNamed lines) lines i (names_known nodes lines are)))))
+    (each_front (IsOwnName lines) lines i (names_known nodes lines are)))))
 
 -- ---- makes
 

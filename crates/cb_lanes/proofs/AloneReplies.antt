@@ -9,11 +9,11 @@ use Rattle.cb_types.specs.declared.reply.Reply.TheVariants as answer
 use Rattle.cb_types.specs.Table.{IsReplyOf}
 use Rattle.cb_model.specs.declared.object.Object.{Object}
 use Rattle.cb_model.specs.declared.object.Object.TheVariants.{Held, Freed}
-use Rattle.cb_model.specs.Now.{Now}
+use Rattle.cb_model.specs.Now.{MapNow}
 use Rattle.cb_model.specs.Event.{event_of}
 use Rattle.cb_model.specs.Replies.{MapReplies}
 use Rattle.cb_model.specs.Legal.{IsUnmadeRight}
-use Rattle.cb_lanes.specs.Alone.{IsCalm, change_alone, free_alone, peek_alone, pin_alone, pin_object, read_alone, unpin_alone, write_alone}
+use Rattle.cb_lanes.specs.Alone.{IsCalmReply, change_alone, free_alone, peek_alone, pin_alone, pin_object, read_alone, unpin_alone, write_alone}
 use Rattle.cb_lanes.specs.Scopes.{PeekSays, PinnedSays, UnpinSays}
 
 -- ---- what a change tells of the pins on its object
@@ -24,20 +24,21 @@ pub record ChangeTells (own : ℕ) (r : Reply) : Type 0 where
   pub done : (version : ℕ) → r ≡ answer.Version version → own ≡ 0
 
 -- and a write that is refused so does not go past the object's end
-abbrev pub StaysWithin : Now → ℕ → Reply → Type 0
+abbrev pub StaysWithin : MapNow → ℕ → Reply → Type 0
 StaysWithin now past r = (count version : ℕ) (bytes : List ℕ) → r ≡ answer.Pinned count
     → now ≡ Some (Held version bytes) → past ≤ length bytes
 
-abbrev pub PinsTell : Now → ℕ → Request → Reply → Type 0
+abbrev pub PinsTell : MapNow → ℕ → Request → Reply → Type 0
 PinsTell now own (Write name at bytes) r = ChangeTells own r × StaysWithin now (at + length bytes) r
 PinsTell now own (Free name) r = ChangeTells own r
 PinsTell now own request r = Unit {0}
 
 -- ---- by the reply and what the map has
 
-pub make_says : (name bytes : List ℕ) (handles made : ℕ) (handle : Option ℕ) (now : Now) (r : Reply)
+pub make_says : (name bytes : List ℕ) (handles made : ℕ) (handle : Option ℕ) (now : MapNow)
+    (r : Reply)
     → MapReplies 1 handles made handle now (event_of (Make name bytes) r) → IsReplyOf (Make name bytes) r
-    → IsCalm r → (given : Handle) × (r ≡ answer.Made given 1)
+    → IsCalmReply r → (given : Handle) × (r ≡ answer.Made given 1)
 make_says name bytes handles made handle now (answer.Made given v) m line calm =
     (given, ap (answer.Made given) m.2)
 make_says name bytes handles made handle now (answer.Full n) m line calm = absurd calm
@@ -45,9 +46,9 @@ make_says name bytes handles made handle now (answer.NoRoom f l n) m line calm =
 make_says name bytes handles made handle now answer.Worn m line calm = absurd calm
 make_says name bytes handles made handle now r m line calm = absurd line
 
-pub read_says : (name : List ℕ) (handles made : ℕ) (handle : Option ℕ) (now : Now) (r : Reply)
+pub read_says : (name : List ℕ) (handles made : ℕ) (handle : Option ℕ) (now : MapNow) (r : Reply)
     → MapReplies 1 handles made handle now (event_of (Read name) r) → IsReplyOf (Read name) r
-    → IsCalm r → r ≡ read_alone now
+    → IsCalmReply r → r ≡ read_alone now
 read_says name handles made handle None (answer.Bytes v b) m line calm = absurd m
 read_says name handles made handle (Some (Held u c)) (answer.Bytes v b) m line calm =
     λ i. answer.Bytes (m.0 i) (m.1 i)
@@ -87,9 +88,9 @@ past_alone u own past len c over is = ap answer.Range is
     (lt-leb past (length c) over))
 
 pub write_says : (name : List ℕ) (at : ℕ) (bytes : List ℕ) (handles made : ℕ) (handle : Option ℕ)
-    (now : Now) (own : ℕ) (r : Reply)
+    (now : MapNow) (own : ℕ) (r : Reply)
     → MapReplies 1 handles made handle now (event_of (Write name at bytes) r)
-    → IsReplyOf (Write name at bytes) r → IsCalm r → PinsTell now own (Write name at bytes) r
+    → IsReplyOf (Write name at bytes) r → IsCalmReply r → PinsTell now own (Write name at bytes) r
     → PinnedSays own r → r ≡ write_alone now own at (length bytes)
 write_says name at bytes handles made handle None own (answer.Version v) m line calm tells some = absurd m
 write_says name at bytes handles made handle (Some (Held u c)) own (answer.Version v) m line calm tells some =
@@ -117,9 +118,9 @@ write_says name at bytes handles made handle now own (answer.Unavailable i l) m 
 write_says name at bytes handles made handle now own answer.Worn m line calm tells some = absurd calm
 write_says name at bytes handles made handle now own r m line calm tells some = absurd line
 
-pub free_says : (name : List ℕ) (handles made : ℕ) (handle : Option ℕ) (now : Now) (own : ℕ) (r : Reply)
+pub free_says : (name : List ℕ) (handles made : ℕ) (handle : Option ℕ) (now : MapNow) (own : ℕ) (r : Reply)
     → MapReplies 1 handles made handle now (event_of (Free name) r) → IsReplyOf (Free name) r
-    → IsCalm r → ChangeTells own r → PinnedSays own r → r ≡ free_alone now own
+    → IsCalmReply r → ChangeTells own r → PinnedSays own r → r ≡ free_alone now own
 free_says name handles made handle None own (answer.Version v) m line calm tells some = absurd m
 free_says name handles made handle (Some (Held u c)) own (answer.Version v) m line calm tells some =
     changed_alone u v own m (tells.done v refl)
@@ -159,9 +160,9 @@ version_full v e = cc
 freed_full : answer.Freed ≡ answer.ScopeFull → ⊥
 freed_full e = cc
 
-pub pin_says : (name : List ℕ) (handles made h : ℕ) (now : Now) (pins : ℕ) (r : Reply)
+pub pin_says : (name : List ℕ) (handles made h : ℕ) (now : MapNow) (pins : ℕ) (r : Reply)
     → MapReplies 1 handles made (Some h) now (event_of (Pin name) r)
-    → IsUnmadeRight (Some h) (event_of (Pin name) r) → IsReplyOf (Pin name) r → IsCalm r
+    → IsUnmadeRight (Some h) (event_of (Pin name) r) → IsReplyOf (Pin name) r → IsCalmReply r
     → (r ≡ answer.ScopeFull → pins ≡ 16) → (pins ≡ 16 → r ≡ answer.ScopeFull) → r ≡ pin_alone now pins
 pin_says name handles made h None pins (answer.Version v) m right line calm full says = absurd m
 pin_says name handles made h (Some (Held u c)) pins (answer.Version v) m right line calm full says =
@@ -185,21 +186,21 @@ pin_says name handles made h now pins answer.Worn m right line calm full says = 
 pin_says name handles made h now pins r m right line calm full says = absurd line
 
 -- a peek shows what the map has, at the version that the scope tells
-peek_shows : (name : List ℕ) (handles made h : ℕ) (now : Now) (version : ℕ) (bytes : List ℕ)
+peek_shows : (name : List ℕ) (handles made h : ℕ) (now : MapNow) (version : ℕ) (bytes : List ℕ)
     → MapReplies 1 handles made (Some h) now (event_of (Peek name) (answer.Bytes version bytes))
     → answer.Bytes version bytes ≡ peek_alone now (Some version)
 peek_shows name handles made h None version bytes m = absurd m
 peek_shows name handles made h (Some (Held u c)) version bytes m = λ i. answer.Bytes version (m.1 i)
 peek_shows name handles made h (Some (Freed u)) version bytes m = absurd m
 
-peek_refused : (name : List ℕ) (handles made h : ℕ) (now : Now)
+peek_refused : (name : List ℕ) (handles made h : ℕ) (now : MapNow)
     → MapReplies 1 handles made (Some h) now (event_of (Peek name) answer.NotPinned)
     → answer.NotPinned ≡ peek_alone now None
 peek_refused name handles made h None m = absurd m
 peek_refused name handles made h (Some (Held u c)) m = refl
 peek_refused name handles made h (Some (Freed u)) m = refl
 
-pub peek_says : (name : List ℕ) (handles made h : ℕ) (now : Now) (pinned : Option ℕ) (r : Reply)
+pub peek_says : (name : List ℕ) (handles made h : ℕ) (now : MapNow) (pinned : Option ℕ) (r : Reply)
     → MapReplies 1 handles made (Some h) now (event_of (Peek name) r) → PeekSays pinned r
     → r ≡ peek_alone now pinned
 peek_says name handles made h now None r m says = says ∙ peek_refused name handles made h now
@@ -208,19 +209,19 @@ peek_says name handles made h now (Some v) r m (bytes, says) = says
     ∙ peek_shows name handles made h now v bytes
     (subst (λ (q : Reply). MapReplies 1 handles made (Some h) now (event_of (Peek name) q)) says m)
 
-unpin_refused : (name : List ℕ) (handles made h : ℕ) (now : Now)
+unpin_refused : (name : List ℕ) (handles made h : ℕ) (now : MapNow)
     → MapReplies 1 handles made (Some h) now (event_of (Unpin name) answer.NotPinned)
     → answer.NotPinned ≡ unpin_alone now None
 unpin_refused name handles made h None m = absurd m
 unpin_refused name handles made h (Some o) m = refl
 
-unpin_done : (name : List ℕ) (handles made h : ℕ) (now : Now) (v : ℕ)
+unpin_done : (name : List ℕ) (handles made h : ℕ) (now : MapNow) (v : ℕ)
     → MapReplies 1 handles made (Some h) now (event_of (Unpin name) answer.Done)
     → answer.Done ≡ unpin_alone now (Some v)
 unpin_done name handles made h None v m = absurd m
 unpin_done name handles made h (Some o) v m = refl
 
-pub unpin_says : (name : List ℕ) (handles made h : ℕ) (now : Now) (pinned : Option ℕ) (r : Reply)
+pub unpin_says : (name : List ℕ) (handles made h : ℕ) (now : MapNow) (pinned : Option ℕ) (r : Reply)
     → MapReplies 1 handles made (Some h) now (event_of (Unpin name) r) → UnpinSays pinned r
     → r ≡ unpin_alone now pinned
 unpin_says name handles made h now None r m says = says ∙ unpin_refused name handles made h now

@@ -5,14 +5,14 @@ use Rattle.cb_types.specs.declared.answer.Answer.{Answer}
 use Rattle.cb_types.specs.declared.handle.Handle.{Handle}
 use Rattle.cb_types.specs.declared.request.Request.TheVariants.{Make}
 use Rattle.cb_types.specs.declared.reply.Reply.TheVariants.{Made}
-use Rattle.cb_model.specs.Now.{Now, Change, changed}
+use Rattle.cb_model.specs.Now.{MapNow, Change, changed}
 use Rattle.cb_model.specs.Event.{event_of, change_of}
 use Rattle.cb_model.specs.Called.{Called, first_of, handle_of, handle_for, handle_made, called, calls_of, change_to, is_about, value, value_at}
 use Rattle.cb_model.proofs.Laws.{calls_of-push, handle_of-push, value-push}
 use Rattle.cb_lanes.specs.Alone.{now_after}
 
 -- what the map has under a name after these answers
-abbrev pub value_named : List Answer → List ℕ → Now
+abbrev pub value_named : List Answer → List ℕ → MapNow
 value_named answers name = value_at (calls_of answers) (handle_of answers name)
 
 -- ---- one call more

@@ -19,7 +19,7 @@ use Rattle.cb_types.specs.Requests.{name_of}
 use Rattle.cb_model.specs.Event.{event_of}
 use Rattle.cb_model.specs.Event.Event.{FindsUnmade}
 use Rattle.cb_model.specs.Called.{first_of, handle_of, handle_made, handle_named, handle_for, called, calls_of, makes, made_by, value_at}
-use Rattle.cb_model.specs.Now.{Now as MapNow}
+use Rattle.cb_model.specs.Now.{MapNow}
 use Rattle.cb_model.specs.Replies.{MapReplies}
 use Rattle.cb_model.specs.Legal.{Follow, IsMapReply}
 use Rattle.cb_model.proofs.Laws.{calls_of-push, handle_of-push, Follow-push, makes-le, makes-push}
@@ -38,13 +38,13 @@ use Rattle.cb_world.specs.Empty.{empty_words, empty_far, empty_shown}
 use Rattle.cb_world.proofs.Laws.{empty_shows, empty_sound, now_same, empty_world_sound}
 use Rattle.cb_lanes.specs.Asked.{answer_to, asked, HasLineReply}
 use Rattle.cb_lanes.specs.Held.{HoldsAnswers}
-use Rattle.cb_lanes.specs.GivingBack.{Rests, lines_of}
+use Rattle.cb_lanes.specs.GivingBack.{Rests, lines_by}
 use Rattle.cb_lanes.specs.LineAnswered.{LineAnswered}
 use Rattle.cb_lanes.specs.LineStep.{LineStep, goes_at}
 use Rattle.cb_lanes.specs.declared.side.Side.{Side}
 use Rattle.cb_lanes.specs.LinesLeft.{AreLanes}
 use Rattle.cb_lanes.specs.Lost.{loss_of, losses_of}
-use Rattle.cb_lanes.specs.Names.{Names, kept_number, handle_at, handle_in, number_after, AreKept, AreReady}
+use Rattle.cb_lanes.specs.Names.{Names, kept_number, handle_at, request_handle, number_after, AreKept, AreReady}
 use Rattle.cb_lanes.specs.Scopes.{KeepScopes, ScopeSays, scope_of}
 use Rattle.cb_lanes.proofs.ByAsk.{by_ask}
 use Rattle.cb_lanes.proofs.CompactGoes.{compact_goes}
@@ -56,9 +56,9 @@ use Rattle.cb_lanes.proofs.Pinning.{pin_goes, pin_settings, peek_goes, unpin_goe
 use Rattle.cb_lanes.proofs.Recounting.{turn_beside}
 use Rattle.cb_lanes.proofs.Scoping.{Scoped, line_scoped}
 use Rattle.cb_lanes.proofs.SeatGoes.{ask_settings}
-use Rattle.cb_lanes.proofs.ScopesKept.{AreScopes, scopes_none, scopes_push, keep_push, Rested, rests, LeadsOn, leads_push, IsFresh, grown, apart_after, lines_own}
+use Rattle.cb_lanes.proofs.ScopesKept.{AreScopes, scopes_none, scopes_push, keep_push, Rested, rests, LeadsOn, leads_push, IsFreshName, grown, apart_after, lines_own}
 use Rattle.cb_lanes.proofs.Silent.{unmade_line, still_goes, crash_goes, join_goes}
-use Rattle.cb_lanes.proofs.Turning.{Turning, around, Goes}
+use Rattle.cb_lanes.proofs.Turning.{Turning, around, LineGives}
 
 -- The answers so far are the map's, the map is beside the world that they led to, in which no seat
 -- holds the far lock, the names are what these answers made of them, and each lane that has lines to
@@ -90,7 +90,7 @@ pub line_goes : (side : Side) (answers : List Answer) (l : Line) (request : Requ
     → l.lane.n < 64 → ((h : ℕ) → handle ≡ Some h → h < w.far.made)
     → ((seat : ℕ) → 16 ≤ seat → pins_of_seat w.seats seat ≡ [])
     → LineStep side l.lane.n handle request w r new
-    → Goes answers (answer_to l request r) w new c.then.shown
+    → LineGives answers (answer_to l request r) w new c.then.shown
 line_goes side answers l (Make name bytes) r w new handle c is named ready lt made few step =
     make_goes answers l name bytes r w new c
     (turn_alone l.lane.n (job.Make bytes) w new r c.lone step)
@@ -192,7 +192,7 @@ about_made answers request r h made within e = absurd cc
 pub reply_of : (answers : List Answer) (l : Line) (request : Request) (r : Reply) (w new : WorldState)
     → (c : Turning answers w new)
     → ((name : List ℕ) (k : ℕ) → handle_of answers name ≡ Some k → k < w.far.made)
-    → Goes answers (answer_to l request r) w new c.then.shown
+    → LineGives answers (answer_to l request r) w new c.then.shown
     → IsMapReply w.far.first w.desk.settings.handles (calls_of answers)
     (called answers (answer_to l request r))
 reply_of answers l request r w new c within goes = by (handle_for answers request r) refl
@@ -271,9 +271,9 @@ line_settings side seat handle request w new r sound lt ready step =
 along_push : (side : Side) (c : Config) (later : List ℕ) (answers : List Answer) (l : Line)
     (request : Request) (r : Reply) (w new rested : WorldState) (names kept : Names) → Along side c (l.lane.n ∷ later) answers w names
     → length answers < 20000 → l.lane.n < 64 → IsSoundWorld new → IsRequest c.nodes request
-    → IsFresh (kept_number names) request
-    → LineStep side l.lane.n (handle_in names request) request w r new → AreKept names request r kept
-    → Rests (lines_of l.lane.n later) l.lane.n new rested
+    → IsFreshName (kept_number names) request
+    → LineStep side l.lane.n (request_handle names request) request w r new → AreKept names request r kept
+    → Rests (lines_by l.lane.n later) l.lane.n new rested
     → Along side c later (answers ++ answer_to l request r ∷ []) rested kept
 along_push side c later answers l request r w new rested names kept along few lt then is fresh step
     names_after rest = record {
@@ -284,14 +284,14 @@ along_push side c later answers l request r w new rested names kept along few lt
           (λ k. behind.stands.holds then.shown behind.stands.sound.shown k then.known
           behind.stands.sound.known));
       settings = behind.stands.settings
-          ∙ line_settings side l.lane.n (handle_in names request) request w new r along.sound lt ready step
+          ∙ line_settings side l.lane.n (request_handle names request) request w new r along.sound lt ready step
           ∙ along.settings;
       first = ap (λ (f : FarState). f.first) behind.stands.far ∙ goes.first ∙ along.first;
       turns = let turns = goes.turns in let before = along.turns in
           let same = ap (λ (f : FarState). f.counts.turns) behind.stands.far in
           omega (arith, turns, before, same, length_push answers a);
-      lone = rests_lone (lines_of l.lane.n later) l.lane.n new rested rest
-          (line_lone side l.lane.n (handle_in names request) request w new r step along.lone);
+      lone = rests_lone (lines_by l.lane.n later) l.lane.n new rested rest
+          (line_lone side l.lane.n (request_handle names request) request w new r step along.lone);
       leads = leads_push side later [] answers (empty_world c) w new rested a along.leads step_by_answers rest
           behind.stands.sound;
       follow = rw more (Follow-push 1 c.handles [] (calls_of answers) (called answers a) along.follow reply);
@@ -303,7 +303,7 @@ along_push side c later answers l request r w new rested names kept along few lt
           (value_at (calls_of answers) (handle_for answers request r)) request r name h along.within
           map_reply made (sym (names_after name) ∙ e) in
           let same = ap (λ (f : FarState). f.made) behind.stands.far in omega (arith, n, same);
-      scopes = scopes_push (kept_number names) (kept_number kept) later answers a (handle_in names request) w new
+      scopes = scopes_push (kept_number names) (kept_number kept) later answers a (request_handle names request) w new
           rested along.scopes scoped
           (λ q h e. names_after q ∙ grown names request r q h fresh e)
           (λ p q h x y. apart_after names answers 1 c.handles w.far.made
@@ -316,7 +316,7 @@ along_push side c later answers l request r w new rested names kept along few lt
     a : Answer
     a = answer_to l request r
 
-    named : handle_named answers (name_of request) ≡ handle_in names request
+    named : handle_named answers (name_of request) ≡ request_handle names request
     named = same_name answers names (name_of request) along.kept
 
     step_by_answers : LineStep side l.lane.n (handle_named answers (name_of request)) request w r new
@@ -325,7 +325,7 @@ along_push side c later answers l request r w new rested names kept along few lt
     most : makes (calls_of answers) ≤ c.handles
     most = makes-le 1 c.handles [] (calls_of answers) (omega arith) along.follow
 
-    ready : (h : ℕ) → handle_in names request ≡ Some h → h < w.desk.settings.handles
+    ready : (h : ℕ) → request_handle names request ≡ Some h → h < w.desk.settings.handles
     ready h e = let below = name_within names w.far.made (name_of request) h along.within e in
         let same = ap (λ (d : Config). d.handles) along.settings in
         omega (arith, below, most, along.beside.made, same)
@@ -339,18 +339,19 @@ along_push side c later answers l request r w new rested names kept along few lt
       beside = along.beside;
     }
 
-    goes : Goes answers a w new then.shown
-    goes = line_goes side answers l request r w new (handle_in names request) turning
+    goes : LineGives answers a w new then.shown
+    goes = line_goes side answers l request r w new (request_handle names request) turning
         (subst (λ (d : Config). IsRequest d.nodes request) (sym along.settings) is) named ready lt
         (λ h e. name_within names w.far.made (name_of request) h along.within e)
         (λ seat high. along.scopes.gone seat (along.scopes.low seat high)) step
 
-    behind : Rested (lines_of l.lane.n later) l.lane.n new rested
-    behind = rests (lines_of l.lane.n later) l.lane.n new rested then lt rest
+    behind : Rested (lines_by l.lane.n later) l.lane.n new rested
+    behind = rests (lines_by l.lane.n later) l.lane.n new rested then lt rest
 
-    scoped : Scoped (kept_number names) (handle_in names request) (scope_of l.lane.n answers) request r l.lane.n
+    scoped : Scoped (kept_number names) (request_handle names request) (scope_of l.lane.n answers) request r l.lane.n
         w new
-    scoped = line_scoped side answers request r w new (handle_in names request) (kept_number names)
+    scoped = line_scoped side answers request r w new (request_handle names request)
+        (kept_number names)
         (scope_of l.lane.n answers) l.lane.n turning lt along.scopes.apart
         (λ name e. ap (handle_at names) (sym e)) ready
         (along.scopes.are l.lane.n (let own = lines_own l.lane.n later in omega (arith, own))) step
@@ -377,7 +378,7 @@ along_push side c later answers l request r w new rested names kept along few lt
 pub along_answered : (side : Side) (c : Config) (later : List ℕ) (answers all : List Answer) (l : Line) (w rested : WorldState)
     (names kept : Names) → Along side c (l.lane.n ∷ later) answers w names → length answers < 20000
     → l.lane.n < 64 → IsRequest c.nodes l.request
-    → IsFresh (kept_number names) l.request
+    → IsFreshName (kept_number names) l.request
     → LineAnswered side l later w names answers rested kept all → Along side c later all rested kept
 along_answered side c later answers all l w rested names kept along few lt is fresh done =
     subst (λ (xs : List Answer). Along side c later xs rested kept) (sym done.answer)

@@ -15,7 +15,7 @@ use Rattle.cb_world.specs.World.{WorldState, IsSoundWorld, word_at}
 use Rattle.cb_core.specs.declared.event.Event.TheVariants.{Turn}
 use Rattle.cb_core.specs.Pinning.{PinStep, UnpinStep, given, not_pinned as none_given, pin_refusal, refused, scope_full, taken}
 use Rattle.cb_core.specs.Step.{Step}
-use Rattle.cb_core.proofs.Laws.{IsEased, IsSwapRefusal, IsWhole, MakesEasy, SwapEnds, pin_calm, refused as swap_refused, stays, swap_sound, swap_turn, swapped, turn_calm}
+use Rattle.cb_core.proofs.Laws.{IsEased, IsSwapRefusal, IsWholeJob, MakesEasy, SwapEnds, pin_calm, refused as swap_refused, stays, swap_sound, swap_turn, swapped, turn_calm}
 use Rattle.cb_lanes.specs.LineGoes.{job_of}
 use Rattle.cb_lanes.specs.LineStep.{LineStep, ObjectStep, OtherStep, IsInReply, PeekStep, not_pinned, shown, PinLine, at_once, stays_far, swapped_in}
 use Rattle.cb_lanes.specs.declared.side.Side.{Side}
@@ -56,7 +56,7 @@ peek_calm seat h w new r (shown at newest reply same) = eased_as r _ tt reply
 
 module _ (w : WorldState) (sound : IsSoundWorld w) (few : w.far.counts.turns < 2 ^ 40)
     (lone : NoneHolds w.seats) (easy : MakesEasy w.desk w.far) where
-  event_calm : (seat : ℕ) (j : Job) (new : WorldState) (r : Reply) → IsWhole j
+  event_calm : (seat : ℕ) (j : Job) (new : WorldState) (r : Reply) → IsWholeJob j
       → Step w (Turn seat j) r new → IsEased r
   event_calm seat j new r whole step =
       turn_calm w new j r sound few whole easy (turn_alone seat j w new r lone step)
@@ -93,7 +93,7 @@ module _ (w : WorldState) (sound : IsSoundWorld w) (few : w.far.counts.turns < 2
   object_calm side seat (Some h) request new r ready x = absurd x
 
   other_calm : (side : Side) (seat : ℕ) (handle : Option ℕ) (request : Request) (o : Option Job)
-      (new : WorldState) (r : Reply) → ((j : Job) → o ≡ Some j → IsWhole j)
+      (new : WorldState) (r : Reply) → ((j : Job) → o ≡ Some j → IsWholeJob j)
       → ((h : ℕ) → handle ≡ Some h → h < w.desk.settings.handles)
       → OtherStep side seat handle request o w r new → IsEased r
   other_calm side seat handle request (Some j) new r whole ready x =

@@ -25,7 +25,7 @@ use Rattle.cb_lanes.specs.declared.side.Side.{Side}
 use Rattle.cb_lanes.specs.declared.side.Side.TheVariants as parities
 use Rattle.cb_lanes.proofs.Lone.{turn_alone}
 use Rattle.cb_lanes.proofs.Silent.{nothing_told, silent_follows, still_goes}
-use Rattle.cb_lanes.proofs.Turning.{Goes, Turning}
+use Rattle.cb_lanes.proofs.Turning.{LineGives, Turning}
 
 -- the turn took place: no word changed, and the far state did as the compute side joins two sets
 record IsDoneHere (w : WorldState) (r : Reply) (new : WorldState) : Type 0 where
@@ -64,7 +64,7 @@ same_map w new r before then d =
 
 here_goes : (answers : List Answer) (l : Line) (r : Reply) (w new : WorldState)
     → (c : Turning answers w new) → IsDoneHere w r new
-    → Goes answers (answer_to l Compact r) w new c.then.shown
+    → LineGives answers (answer_to l Compact r) w new c.then.shown
 here_goes answers l r w new c d =
     let leaves = local_laws.leaves (counted w.far job.Compact) new.far r d.step in
     let turns = leaves.turns in
@@ -91,7 +91,7 @@ here_goes answers l r w new c d =
 
 pub compact_goes : (side : Side) (answers : List Answer) (l : Line) (r : Reply)
     (w new : WorldState) → (c : Turning answers w new) → CompactsAt side l.lane.n w r new
-    → Goes answers (answer_to l Compact r) w new c.then.shown
+    → LineGives answers (answer_to l Compact r) w new c.then.shown
 compact_goes parities.Nodes answers l r w new c step =
     still_goes job.Compact Compact compact_turn refl (λ xs q. refl) answers l r w new c
     (turn_alone l.lane.n job.Compact w new r c.lone step)

@@ -23,18 +23,18 @@ use Rattle.cb_script.specs.Roomy.{IsAtEase, is_make}
 use Rattle.cb_world.specs.World.{WorldState, IsSoundWorld, empty_world}
 use Rattle.cb_core.proofs.Laws.{IsEased, MakesEasy}
 use Rattle.cb_lanes.specs.declared.side.Side.{Side}
-use Rattle.cb_lanes.specs.Alone.{HasOwnLines, IsCalm, pins_shared}
+use Rattle.cb_lanes.specs.Alone.{HasOwnLines, IsCalmReply, pins_shared}
 use Rattle.cb_lanes.specs.Asked.{HasLineReply, answer_to, asked}
-use Rattle.cb_lanes.specs.GivingBack.{Rests, lines_of}
+use Rattle.cb_lanes.specs.GivingBack.{Rests, lines_by}
 use Rattle.cb_lanes.specs.LineAnswered.{LineAnswered}
 use Rattle.cb_lanes.specs.LineStep.{LineStep}
-use Rattle.cb_lanes.specs.Names.{Names, handle_at, handle_in, kept_number}
+use Rattle.cb_lanes.specs.Names.{Names, handle_at, kept_number, request_handle}
 use Rattle.cb_lanes.specs.Scopes.{KeepScopes, ScopeSays, scope_of}
 use Rattle.cb_lanes.proofs.AloneGoes.{GoesAlone, Telling, alone_none, alone_push}
-use Rattle.cb_lanes.proofs.AloneLines.{IsNamed, any_at, count_front, each_at, names_known, one_maker}
+use Rattle.cb_lanes.proofs.AloneLines.{IsOwnName, any_at, count_front, each_at, names_known, one_maker}
 use Rattle.cb_lanes.proofs.Along.{Along, along_ready, line_form}
 use Rattle.cb_lanes.proofs.CalmLines.{line_calm}
-use Rattle.cb_lanes.proofs.EasyLines.{IsAtRest, empty_at_rest, line_at_rest, rests_at_rest}
+use Rattle.cb_lanes.proofs.EasyLines.{IsIdleAmong, empty_at_rest, line_at_rest, rests_at_rest}
 use Rattle.cb_lanes.proofs.EasyWorlds.{crashed_nodes, easy_line, easy_world, few_answers, few_made}
 use Rattle.cb_lanes.proofs.OwnPins.{line_tells}
 use Rattle.cb_lanes.proofs.ScopesKept.{lines_own}
@@ -44,9 +44,9 @@ use Rattle.cb_lanes.proofs.Versions.{version_more}
 
 -- what is kept
 pub record Eases (s : Script) (answers : List Answer) (w : WorldState) : Type 0 where
-  pub rest : IsAtRest (crashed_nodes s) w
+  pub rest : IsIdleAmong (crashed_nodes s) w
   pub young : (h : ℕ) → version_had (value (calls_of answers) h) ≤ length answers
-  pub calm : AllByRecursion (λ a. IsCalm a.reply) answers
+  pub calm : AllByRecursion (λ a. IsCalmReply a.reply) answers
   pub alone : (lane : ℕ) → HasOwnLines s.lines lane → GoesAlone s.lines lane answers
 
 -- ---- the last of some answers
@@ -81,7 +81,7 @@ all_push P (b ∷ answers) a all is = (all.0, all_push P answers a all.1 is)
 
 -- ---- calm
 
-calm_by : (r : Reply) → IsEased r → ((n : ℕ) → r ≡ answer.Full n → ⊥) → IsCalm r
+calm_by : (r : Reply) → IsEased r → ((n : ℕ) → r ≡ answer.Full n → ⊥) → IsCalmReply r
 calm_by (answer.NoRoom frames loose nodes) eased full = absurd eased
 calm_by (answer.Unavailable set lost) eased full = absurd eased
 calm_by answer.Worn eased full = absurd eased
@@ -135,7 +135,7 @@ module _ (side : Side) (s : Script) (i : ℕ) (later : List ℕ) (answers : List
   ready : (name : List ℕ) (h : ℕ) → kept_number names name ≡ Some h → h < w.desk.settings.handles
   ready = along_ready side s.config (l.lane.n ∷ later) answers w names along
 
-  handle_ready : (h : ℕ) → handle_in names l.request ≡ Some h → h < w.desk.settings.handles
+  handle_ready : (h : ℕ) → request_handle names l.request ≡ Some h → h < w.desk.settings.handles
   handle_ready h e = by (name_of l.request) e
     where
       by : (o : Option (List ℕ)) → handle_at names o ≡ Some h → h < w.desk.settings.handles
@@ -153,7 +153,7 @@ module _ (side : Side) (s : Script) (i : ℕ) (later : List ℕ) (answers : List
       let most = ease.makes in
       omega (arith, made, same, one, front, most)
 
-  eased_calm : IsEased r → IsCalm r
+  eased_calm : IsEased r → IsCalmReply r
   eased_calm eased = calm_by r eased (λ n e.
       never_full s.config.handles (calls_of answers) answers l.lane.n l.request n
       (subst (IsReplyOf l.request) e is_line) more_made
@@ -165,8 +165,8 @@ module _ (side : Side) (s : Script) (i : ℕ) (later : List ℕ) (answers : List
       (event_of l.request q)) e by_map.reply))
 
   telling : Turning answers w between
-      → LineStep side l.lane.n (handle_in names l.request) l.request w r between
-      → IsCalm r → Telling s.lines s.config.handles answers l.lane.n l.request r
+      → LineStep side l.lane.n (request_handle names l.request) l.request w r between
+      → IsCalmReply r → Telling s.lines s.config.handles answers l.lane.n l.request r
   telling turning step calm = record {
     map = by_map.reply;
     right = by_map.unmade;
@@ -177,33 +177,33 @@ module _ (side : Side) (s : Script) (i : ℕ) (later : List ℕ) (answers : List
         let low = form.1 in let own = lines_own l.lane.n later in
         line_tells side s.config.nodes i s.lines answers w between (kept_number names) (l.lane.n ∷ later) l.lane.n
         script.lines so_far along.scopes turning some (omega (arith, low)) (omega (arith, own)) along.kept ready
-        l.request r (handle_in names l.request) (λ q e. ap (handle_at names) (sym e)) step name named maker;
+        l.request r (request_handle names l.request) (λ q e. ap (handle_at names) (sym e)) step name named maker;
     apart = λ p q h x y. along.scopes.apart p q h (sym (along.kept p) ∙ x) (sym (along.kept q) ∙ y);
     within = λ q h e. let n = along.within q h (sym (along.kept q) ∙ e) in
         let made = along.beside.made in omega (arith, n, made);
     makers = λ k m q. one_maker s.config.nodes [] s.lines k m q script.lines;
-    maker = each_at (IsNamed s.lines) s.lines i l (names_known s.config.nodes s.lines script.lines) lt at;
+    maker = each_at (IsOwnName s.lines) s.lines i l (names_known s.config.nodes s.lines script.lines) lt at;
     shared = λ has. sym (ap (λ (b : Bool). b && pins_shared s.lines l.request)
         (eq-eqb l.lane.n l.lane.n refl))
         ∙ any_at (λ (x : Line). nat_eq x.lane.n l.lane.n && pins_shared s.lines x.request) s.lines i l has.pins
         lt at;
   }
 
-  pub eases_more : (step : LineStep side l.lane.n (handle_in names l.request) l.request w
+  pub eases_more : (step : LineStep side l.lane.n (request_handle names l.request) l.request w
       r between)
       → (sound : IsSoundWorld between)
-      → Rests (lines_of l.lane.n later) l.lane.n between rested
+      → Rests (lines_by l.lane.n later) l.lane.n between rested
       → Eases s (answers ++ told ∷ []) rested
   eases_more step sound rests = record {
-    rest = rests_at_rest (crashed_nodes s) (lines_of l.lane.n later) l.lane.n between rested rests
-        (line_at_rest (crashed_nodes s) side l.lane.n (handle_in names l.request) l.request w between r
+    rest = rests_at_rest (crashed_nodes s) (lines_by l.lane.n later) l.lane.n between rested rests
+        (line_at_rest (crashed_nodes s) side l.lane.n (request_handle names l.request) l.request w between r
         (easy_line s i l ease lt at form.0) step eases.rest);
     young = λ h.
         let z = version_more s.config.handles (calls_of answers) (called answers told) h (length answers) by_map
         (eases.young h) in
         let same = ap (λ (cs : List Called). version_had (value cs h)) (calls_of-push answers told) in
         omega (arith, z, same, length_push answers told);
-    calm = all_push (λ (a : Answer). IsCalm a.reply) answers told eases.calm calm;
+    calm = all_push (λ (a : Answer). IsCalmReply a.reply) answers told eases.calm calm;
     alone = λ lane has. alone_push s.lines s.config.handles lane answers told
         (telling turning step calm) has (eases.alone lane has);
   }
@@ -217,8 +217,8 @@ module _ (side : Side) (s : Script) (i : ℕ) (later : List ℕ) (answers : List
         lone = along.lone;
       }
 
-      calm : IsCalm r
-      calm = eased_calm (line_calm (crashed_nodes s) side l.lane.n (handle_in names l.request) l.request w between r
+      calm : IsCalmReply r
+      calm = eased_calm (line_calm (crashed_nodes s) side l.lane.n (request_handle names l.request) l.request w between r
           along.sound few_turns along.lone easy (easy_line s i l ease lt at form.0) handle_ready step)
 
 pub eases_answered : (side : Side) (s : Script) (i : ℕ) (later : List ℕ) (answers all : List Answer) (l : Line)

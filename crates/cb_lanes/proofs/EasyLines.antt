@@ -16,27 +16,27 @@ use Rattle.cb_world.specs.Seats.{SeatState, idle_seat, seat_at, with_pins}
 use Rattle.cb_world.specs.World.{WorldState, empty_world}
 use Rattle.cb_world.proofs.Laws.{seat_beside}
 use Rattle.cb_core.specs.Pinning.{PinStep, UnpinStep, given, not_pinned, refused, scope_full, taken}
-use Rattle.cb_core.proofs.Laws.{CrashedAmong, IsIdle, IsWhole, NamesAmong, none_crashed, pin_far, turn_crashed, turn_idle, unpin_far}
+use Rattle.cb_core.proofs.Laws.{CrashedAmong, IsIdle, IsWholeJob, NamesAmong, none_crashed, pin_far, turn_crashed, turn_idle, unpin_far}
 use Rattle.cb_lanes.specs.GivingBack.{Rests}
 use Rattle.cb_lanes.specs.LineGoes.{job_of}
 use Rattle.cb_lanes.specs.LineStep.{LineStep}
 use Rattle.cb_lanes.specs.declared.side.Side.{Side}
-use Rattle.cb_lanes.proofs.LineKeeps.{IsKept, IsOnObject, MayBe, line_kept, rests_kept}
+use Rattle.cb_lanes.proofs.LineKeeps.{IsKeptByTurns, IsObjectJob, MayBe, line_kept, rests_kept}
 use Rattle.cb_lanes.proofs.Lone.{turn_seats}
 use Rattle.cb_lanes.proofs.LooseSpans.{NoClaims}
 
 -- what is kept
-pub record IsAtRest (nodes : List ℕ) (w : WorldState) : Type 0 where
+pub record IsIdleAmong (nodes : List ℕ) (w : WorldState) : Type 0 where
   pub idle : IsIdle w.far
   pub crashed : CrashedAmong nodes w.far.members
   pub claims : NoClaims w.seats
 
 -- the job is no step of a batch or of a pair, and crashes none but these nodes
 record IsEasyJob (nodes : List ℕ) (j : Job) : Type 0 where
-  whole : IsWhole j
+  whole : IsWholeJob j
   named : NamesAmong nodes j
 
-object_job : (nodes : List ℕ) (j : Job) → IsOnObject j → IsEasyJob nodes j
+object_job : (nodes : List ℕ) (j : Job) → IsObjectJob j → IsEasyJob nodes j
 object_job nodes (job.Make bytes) is = record { whole = tt; named = tt }
 object_job nodes (job.Read handle) is = record { whole = tt; named = tt }
 object_job nodes (job.Write handle at bytes) is = record { whole = tt; named = tt }
@@ -69,14 +69,14 @@ unpin_claims seat h w new r (given is t) claims =
 
 -- the far state stays
 rest_by : (nodes : List ℕ) (w new : WorldState) → new.far ≡ w.far → NoClaims new.seats
-    → IsAtRest nodes w → IsAtRest nodes new
+    → IsIdleAmong nodes w → IsIdleAmong nodes new
 rest_by nodes w new far claims rest = record {
   idle = subst IsIdle (sym far) rest.idle;
   crashed = subst (λ (f : FarState). CrashedAmong nodes f.members) (sym far) rest.crashed;
   claims = claims;
 }
 
-rest_kept : (nodes : List ℕ) → IsKept (IsAtRest nodes) (IsEasyJob nodes)
+rest_kept : (nodes : List ℕ) → IsKeptByTurns (IsIdleAmong nodes) (IsEasyJob nodes)
 rest_kept nodes = record {
   object = object_job nodes;
   turn = λ j w new r easy step rest. record {
@@ -133,23 +133,24 @@ job_easy nodes request easy = by request easy.step easy.crash
     by q step crash j e = absurd (no_job j e)
 
 pub job_whole : (nodes : List ℕ) (request : Request) → IsEasyLine nodes request
-    → MayBe IsWhole request
+    → MayBe IsWholeJob request
 job_whole nodes request easy j e = (job_easy nodes request easy j e).whole
 
 -- a line of a script at ease, and a lane that rests behind one
 pub line_at_rest : (nodes : List ℕ) (side : Side) (seat : ℕ) (handle : Option ℕ)
     (request : Request) (w new : WorldState) (r : Reply) → IsEasyLine nodes request
-    → LineStep side seat handle request w r new → IsAtRest nodes w → IsAtRest nodes new
+    → LineStep side seat handle request w r new → IsIdleAmong nodes w → IsIdleAmong nodes new
 line_at_rest nodes side seat handle request w new r easy =
-    line_kept (IsAtRest nodes) (IsEasyJob nodes) (rest_kept nodes) side seat handle request w new r
+    line_kept (IsIdleAmong nodes) (IsEasyJob nodes) (rest_kept nodes) side seat handle request w new
+    r
     (job_easy nodes request easy)
 
 pub rests_at_rest : (nodes : List ℕ) (left seat : ℕ) (w new : WorldState) → Rests left seat w new
-    → IsAtRest nodes w → IsAtRest nodes new
-rests_at_rest nodes = rests_kept (IsAtRest nodes) (IsEasyJob nodes) (rest_kept nodes)
+    → IsIdleAmong nodes w → IsIdleAmong nodes new
+rests_at_rest nodes = rests_kept (IsIdleAmong nodes) (IsEasyJob nodes) (rest_kept nodes)
 
 -- so it is at first
-pub empty_at_rest : (nodes : List ℕ) (c : Config) → IsAtRest nodes (empty_world c)
+pub empty_at_rest : (nodes : List ℕ) (c : Config) → IsIdleAmong nodes (empty_world c)
 empty_at_rest nodes c = record {
   idle = (refl, refl);
   crashed = none_crashed nodes c.nodes;

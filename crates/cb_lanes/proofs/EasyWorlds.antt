@@ -21,12 +21,12 @@ use Rattle.cb_world.specs.World.{WorldState}
 use Rattle.cb_core.proofs.Laws.{MakesEasy, enough_roomy, never_gone}
 use Rattle.cb_lanes.specs.declared.side.Side.{Side}
 use Rattle.cb_lanes.specs.Asked.{asked}
-use Rattle.cb_lanes.specs.GivingBack.{lines_of}
+use Rattle.cb_lanes.specs.GivingBack.{lines_by}
 use Rattle.cb_lanes.specs.Names.{Names, kept_number}
 use Rattle.cb_lanes.specs.Scopes.{Scope}
 use Rattle.cb_lanes.proofs.AloneLines.{any_at, count_front, makes_few, scope_none}
 use Rattle.cb_lanes.proofs.Along.{Along}
-use Rattle.cb_lanes.proofs.EasyLines.{IsAtRest, IsEasyLine}
+use Rattle.cb_lanes.proofs.EasyLines.{IsEasyLine, IsIdleAmong}
 use Rattle.cb_lanes.proofs.FewPins.{pins_few}
 use Rattle.cb_lanes.proofs.LooseSpans.{loose_or_pinned, never_moving}
 use Rattle.cb_lanes.proofs.PinLists.{ArePinsOf}
@@ -85,9 +85,9 @@ module _ (side : Side) (s : Script) (i : ℕ) (later : List ℕ) (answers : List
     (so_far : map asked answers ≡ take i s.lines) where
   -- a lane without a pin line has no pins
   no_pins : (k : ℕ) → has_pin s.lines k ≡ false → pins_of_seat w.seats k ≡ []
-  no_pins k off = by (cases_lt 0 (lines_of k later))
+  no_pins k off = by (cases_lt 0 (lines_by k later))
     where
-      by : (0 < lines_of k later) ⊎ (lines_of k later ≤ 0) → pins_of_seat w.seats k ≡ []
+      by : (0 < lines_by k later) ⊎ (lines_by k later ≤ 0) → pins_of_seat w.seats k ≡ []
       by (inl more) = subst (λ (scope : Scope). ArePinsOf (kept_number names) scope (pins_of_seat w.seats k))
           (scope_none s.lines i k answers so_far off) (along.scopes.are k (omega (arith, more)))
       by (inr none) = along.scopes.gone k (omega (arith, none))
@@ -118,7 +118,7 @@ module _ (side : Side) (s : Script) (i : ℕ) (later : List ℕ) (answers : List
   few_answers = let most = script.few in
       omega (arith, ap (λ (ls : List Line). length ls) so_far, length-take i s.lines, length-map answers asked, most)
 
-  pub easy_world : IsAtRest (crashed_nodes s) w
+  pub easy_world : IsIdleAmong (crashed_nodes s) w
       → ((h : ℕ) → version_had (value (calls_of answers) h) ≤ length answers) → MakesEasy w.desk w.far
   easy_world rest young = record {
     still = λ h below moves.

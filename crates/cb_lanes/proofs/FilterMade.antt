@@ -18,7 +18,7 @@ use Rattle.cb_world.specs.FarState.{FarState}
 use Rattle.cb_world.specs.Looks.{IsFound, IsTaken, IsTold}
 use Rattle.cb_world.specs.Played.{Agree, after}
 use Rattle.cb_world.specs.Shown.{Fits, IsHeld, object_at, version_at}
-use Rattle.cb_filter.specs.FilterRule.{AbsentAs, EmptyAnswer, FilterAs, FilterRule, OnlyTell}
+use Rattle.cb_filter.specs.FilterRule.{AbsentToFilter, EmptyToFilter, FilterAs, FilterRule, OnlyTell}
 use Rattle.cb_core.specs.Parts.{Holding}
 use Rattle.cb_core.specs.Turned.{Does, Turned, done, worn}
 use Rattle.cb_rule.specs.declared.view.View.{View}
@@ -90,7 +90,7 @@ is_unmade r = 0
 not_unmade : (q : Reply) → is_unmade q ≡ 0 → answer.Unmade ≡ q → ⊥
 not_unmade q none e = let both : 1 ≡ 0 = ap is_unmade e ∙ none in omega (arith, both)
 
-empty_unmade : (v : ℕ) → EmptyAnswer v answer.Unmade → v ≡ 0
+empty_unmade : (v : ℕ) → EmptyToFilter v answer.Unmade → v ≡ 0
 empty_unmade zero e = refl
 empty_unmade (suc v) e = absurd (not_unmade answer.NotHere refl e)
 

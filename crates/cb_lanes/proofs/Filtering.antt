@@ -9,13 +9,13 @@ use Rattle.cb_world.specs.FarState.{FarState}
 use Rattle.cb_world.specs.Plain.{Words}
 use Rattle.cb_world.specs.StillWords.{stamp_at}
 use Rattle.cb_world.specs.World.{WorldState, word_at}
-use Rattle.cb_filter.specs.FilterRule.{EmptyAnswer}
+use Rattle.cb_filter.specs.FilterRule.{EmptyToFilter}
 use Rattle.cb_filter.specs.FilterStep.{RefusesAs, IsFilterStep, refused, cools, without_slot, moves}
 use Rattle.cb_core.specs.Step.{TurnStep}
 use Rattle.cb_core.specs.Turned.{counted}
 use Rattle.cb_core.proofs.Laws.{is_done, IsPinCount}
 
-empty_pinned : (version count : ℕ) → EmptyAnswer version (answer.Pinned count) → ⊥
+empty_pinned : (version count : ℕ) → EmptyToFilter version (answer.Pinned count) → ⊥
 empty_pinned zero count e = cc
 empty_pinned (suc v) count e = cc
 

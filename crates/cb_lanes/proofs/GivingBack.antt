@@ -14,7 +14,7 @@ use Rattle.cb_world.specs.declared.shown.Shown.{Shown}
 use Rattle.cb_world.specs.FarState.{FarState}
 use Rattle.cb_world.specs.Now.{now}
 use Rattle.cb_world.specs.Plain.{Words}
-use Rattle.cb_world.specs.Seats.{IsNewest, NoneOn, SeatState, idle_seat, pins_of_seat, with_pins}
+use Rattle.cb_world.specs.Seats.{IsNewestOf, NoneOn, SeatState, idle_seat, pins_of_seat, with_pins}
 use Rattle.cb_world.specs.World.{WorldState, IsKnown, IsSoundWorld, word_at}
 use Rattle.cb_world.proofs.Laws.{pinned_now, unpinned_now, pin_counts}
 use Rattle.cb_core.specs.declared.event.Event.{Event}
@@ -27,7 +27,7 @@ use Rattle.cb_lanes.proofs.PinLists.{newest_last, none_last, remove_last}
 -- ---- what stays
 
 -- The world changed in the pins of a seat alone: it is sound, and every object holds what it held.
-pub record Stands (seat : ℕ) (w new : WorldState) : Type 0 where
+pub record StandsWithout (seat : ℕ) (w new : WorldState) : Type 0 where
   pub sound : IsSoundWorld new
   pub far : new.far ≡ w.far
   pub settings : new.desk.settings ≡ w.desk.settings
@@ -35,8 +35,9 @@ pub record Stands (seat : ℕ) (w new : WorldState) : Type 0 where
   pub holds : (s t : Shown) (k : ℕ) → IsKnown w.desk w.far s → IsKnown new.desk new.far t
       → now t new.far k ≡ now s w.far k
 
-pub stands_same : (seat : ℕ) (w new : WorldState) → IsSoundWorld w → new ≡ w → Stands seat w new
-stands_same seat w new sound e = subst (Stands seat w) (sym e) (record {
+pub stands_same : (seat : ℕ) (w new : WorldState) → IsSoundWorld w → new ≡ w
+    → StandsWithout seat w new
+stands_same seat w new sound e = subst (StandsWithout seat w) (sym e) (record {
   sound = sound;
   far = refl;
   settings = refl;
@@ -44,8 +45,9 @@ stands_same seat w new sound e = subst (Stands seat w) (sym e) (record {
   holds = λ s t k a b. known_same w.desk w.far s t k a b;
 })
 
-pub stands_on : (seat : ℕ) (w mid new : WorldState) → Stands seat w mid → Stands seat mid new
-    → Stands seat w new
+pub stands_on : (seat : ℕ) (w mid new : WorldState) → StandsWithout seat w mid
+    → StandsWithout seat mid new
+    → StandsWithout seat w new
 stands_on seat w mid new a b = record {
   sound = b.sound;
   far = b.far ∙ a.far;
@@ -67,7 +69,7 @@ pins_own seats seat pins lt = ap (λ (x : SeatState). x.pins)
 
 -- a pin's handle is one of those that there are
 pub pin_below : (w : WorldState) (seat at h : ℕ) → IsSoundWorld w → seat < 64
-    → IsNewest (pins_of_seat w.seats seat) h at → h < length w.desk.words
+    → IsNewestOf (pins_of_seat w.seats seat) h at → h < length w.desk.words
 pin_below w seat at h sound lt n =
     let pins = pins_of_seat w.seats seat in
     let below = All-get_or (λ (y : Pin). y.handle < length w.desk.words) pins at n.pin
@@ -79,13 +81,13 @@ pin_below w seat at h sound lt n =
 
 -- a pinned object is here
 pub pinned_here : (w : WorldState) (seat at h : ℕ) → IsSoundWorld w → seat < 64
-    → IsNewest (pins_of_seat w.seats seat) h at → state_of (word_at w.desk h) ≡ word.Here
+    → IsNewestOf (pins_of_seat w.seats seat) h at → state_of (word_at w.desk h) ≡ word.Here
 pinned_here w seat at h sound lt n =
     let below = pin_below w seat at h sound lt n in
     (sound.pinned.here h below (pin_counts w.desk w.seats seat at h sound.pinned lt n below)).0
 
 pub pin_stands : (w new : WorldState) (seat h : ℕ) (r : Reply) → IsSoundWorld w → seat < 64
-    → h < w.desk.settings.handles → PinStep seat h w r new → Stands seat w new
+    → h < w.desk.settings.handles → PinStep seat h w r new → StandsWithout seat w new
 pin_stands w new seat h r sound lt below (scope_full full is same) = stands_same seat w new sound same
 pin_stands w new seat h r sound lt below (refused room never is same) = stands_same seat w new sound same
 pin_stands w new seat h r sound lt below (taken room may is t) = record {
@@ -100,7 +102,7 @@ pin_stands w new seat h r sound lt below (taken room may is t) = record {
 
 given_stands : (w new : WorldState) (seat h : ℕ) (r : Reply) → IsSoundWorld w → seat < 64
     → h < w.desk.settings.handles → UnpinStep seat h w r new → (t : IsPinGiven seat h w new)
-    → Stands seat w new
+    → StandsWithout seat w new
 given_stands w new seat h r sound lt below step t = record {
   sound = unpin_step_sound w new seat h r sound lt below step;
   far = t.far;
@@ -113,7 +115,7 @@ given_stands w new seat h r sound lt below step t = record {
 }
 
 pub unpin_stands : (w new : WorldState) (seat h : ℕ) (r : Reply) → IsSoundWorld w → seat < 64
-    → h < w.desk.settings.handles → UnpinStep seat h w r new → Stands seat w new
+    → h < w.desk.settings.handles → UnpinStep seat h w r new → StandsWithout seat w new
 unpin_stands w new seat h r sound lt below (not_pinned none is same) = stands_same seat w new sound same
 unpin_stands w new seat h r sound lt below (given is t) =
     given_stands w new seat h r sound lt below (given is t) t
@@ -129,7 +131,7 @@ given_pins w new seat h sound lt t = ap (λ (xs : List SeatState). pins_of_seat 
 
 -- some pins of the seat were given back, one by one
 pub record Gave (seat count : ℕ) (w new : WorldState) : Type 0 where
-  pub stands : Stands seat w new
+  pub stands : StandsWithout seat w new
   pub fewer : length (pins_of_seat new.seats seat) + count ≡ length (pins_of_seat w.seats seat)
 
 gave_by : (seat : ℕ) (pins : List Pin) (w new : WorldState) → IsSoundWorld w → seat < 64
@@ -163,7 +165,7 @@ gave_by seat (pin ∷ pins) w new sound lt (mid, step, leads) =
 
 -- all pins of the seat were given back: the world stands, and the seat has none
 pub gives_all : (seat : ℕ) (w new : WorldState) → IsSoundWorld w → seat < 64 → GivesAll seat w new
-    → Stands seat w new × (pins_of_seat new.seats seat ≡ [])
+    → StandsWithout seat w new × (pins_of_seat new.seats seat ≡ [])
 gives_all seat w new sound lt leads =
     let pins = pins_of_seat w.seats seat in
     let gave = gave_by seat (reverse pins) w new sound lt
@@ -200,8 +202,8 @@ gave_last seat w new front pin r sound lt e (given is t) = record {
   fewer = ap length e ∙ length_push front pin ∙ sym (ap (λ (ps : List Pin). length ps + 1) own);
 }
   where
-    m : IsNewest (front ++ pin ∷ []) pin.handle t.at
-    m = subst (λ (ps : List Pin). IsNewest ps pin.handle t.at) e t.newest
+    m : IsNewestOf (front ++ pin ∷ []) pin.handle t.at
+    m = subst (λ (ps : List Pin). IsNewestOf ps pin.handle t.at) e t.newest
 
     own : pins_of_seat new.seats seat ≡ front
     own = given_pins w new seat pin.handle sound lt t ∙ ap (λ (ps : List Pin). remove ps t.at) e

@@ -24,10 +24,10 @@ use Rattle.cb_lanes.proofs.LineParts.{LineAdds, about, line_adds, told_as}
 use Rattle.cb_lanes.proofs.LinesBack.{first_assoc, lines_add}
 use Rattle.cb_lanes.proofs.NamesAmong.{among_known}
 use Rattle.cb_lanes.proofs.OwnLine.{LeadsTo}
-use Rattle.cb_lanes.proofs.OwnLines.{IsLaneLine, StepsOn, line_steps}
+use Rattle.cb_lanes.proofs.OwnLines.{IsLaneLine, LineStepsOn, line_steps}
 use Rattle.cb_lanes.proofs.OwnObjects.{none_some_of}
 use Rattle.cb_lanes.proofs.OwnSays.{goes_own}
-use Rattle.cb_lanes.proofs.OwnStands.{ObjectStands, PinsStand, Stands}
+use Rattle.cb_lanes.proofs.OwnStands.{LanePinsStand, LaneStands, ObjectStands}
 use Rattle.cb_lanes.proofs.OwnSteps.{Grew, OwnMore, grew_by, line_own}
 
 -- each answer is to a line of the lane
@@ -81,7 +81,8 @@ handle_more names before a p = ap (λ (o : Option ℕ). first_of o (handle_among
 
 module _ (c : Config) (lines : List Line) (lane : ℕ) (names : List Named) where
   abbrev StandsBehind : List Answer → LaneState → View → Type 0
-  StandsBehind before state v = Stands lines lane (λ p. handle_behind names before (Some p)) state v
+  StandsBehind before state v =
+      LaneStands lines lane (λ p. handle_behind names before (Some p)) state v
 
   -- ---- whose a line is
   own_is : (a : Answer) → a.lane.n ≡ lane → is_own lines lane a ≡ is_maker_of lines lane (own_name a.request)
@@ -94,7 +95,7 @@ module _ (c : Config) (lines : List Line) (lane : ℕ) (names : List Named) wher
   -- ---- one line
   module _ (before : List Answer) (a : Answer) (state : LaneState) (v m w : View)
       (z : StandsBehind before state v) (same : a.lane.n ≡ lane) (leads : LeadsTo m w) (grew : Grew v m)
-      (steps : StepsOn c lines lane (handle_behind names before)
+      (steps : LineStepsOn c lines lane (handle_behind names before)
       (λ p. handle_behind names (before ++ a ∷ []) (Some p)) state v m w z leads grew a.request a.reply)
       (room : lacks lines lane a ≡ false) where
     calm : is_own lines lane a ≡ true → is_lack a.reply ≡ false
@@ -150,7 +151,7 @@ module _ (c : Config) (lines : List Line) (lane : ℕ) (names : List Named) wher
       leads = lines_lead c names (before ++ a ∷ []) after m w keeps
           (lines_old c names (before ++ a ∷ []) after m w rest)
 
-      steps : StepsOn c lines lane (handle_behind names before)
+      steps : LineStepsOn c lines lane (handle_behind names before)
           (λ p. handle_behind names (before ++ a ∷ []) (Some p)) state v m w z leads grew a.request a.reply
       steps = line_steps c lines lane (handle_behind names before)
           (λ p. handle_behind names (before ++ a ∷ []) (Some p)) state v m w z leads grew a.request a.reply one adds is
@@ -165,7 +166,7 @@ module _ (c : Config) (lines : List Line) (lane : ℕ) (names : List Named) wher
     knows = λ p h is. among_known names v p h knows is;
     apart = λ p q h mine at there. absurd (none_some_of h (sym (own p mine) ∙ at));
     objects = λ p mine. subst (λ (o : Option ℕ). ObjectStands o v None) (sym (own p mine)) refl;
-    pins = subst (PinsStand lines lane (λ p. handle_behind names [] (Some p)) v.written [])
+    pins = subst (LanePinsStand lines lane (λ p. handle_behind names [] (Some p)) v.written [])
         (sym none) tt;
   }
 

@@ -15,7 +15,7 @@ use Rattle.cb_types.specs.declared.reply.Reply.TheVariants as answer
 use Rattle.cb_types.specs.Requests.{name_of}
 use Rattle.cb_model.specs.Called.{first_of, handle_made, handle_of}
 use Rattle.cb_script.specs.declared.script.Line.{Line}
-use Rattle.cb_script.specs.Form.{AreLines, IsKnown, IsMade, IsNew, KnowsName, Makes}
+use Rattle.cb_script.specs.Form.{AreLines, IsNameKnown, IsNameMade, IsNameNew, KnowsName, MakesName}
 use Rattle.cb_rule.specs.declared.view.View.{View}
 use Rattle.cb_lanes.specs.declared.body.Named.{Named}
 use Rattle.cb_lanes.specs.Alone.{HasOwnLines, fresh_lane, is_maker, pins_shared}
@@ -46,17 +46,17 @@ no_line : (l : Line) (xs : List Line) → l ∷ xs ≡ [] → ⊥
 no_line l xs e = absurd cc
 
 -- ---- names that are made
-made_left : (front back : List Line) (k : ℕ) (p : List ℕ) → IsMade front k p → IsMade (front ++ back) k p
+made_left : (front back : List Line) (k : ℕ) (p : List ℕ) → IsNameMade front k p → IsNameMade (front ++ back) k p
 made_left [] back k p made = absurd made
 made_left (l ∷ front) back k p (inl x) = inl x
 made_left (l ∷ front) back k p (inr x) = inr (made_left front back k p x)
 
-made_at : (front back : List Line) (l : Line) (p : List ℕ) → Makes l.request p
-    → IsMade (front ++ l ∷ back) l.lane.n p
+made_at : (front back : List Line) (l : Line) (p : List ℕ) → MakesName l.request p
+    → IsNameMade (front ++ l ∷ back) l.lane.n p
 made_at [] back l p makes = inl (refl, makes)
 made_at (k ∷ front) back l p makes = inr (made_at front back l p makes)
 
-pub made_request : (name : List ℕ) (q : Request) (r : Reply) (h : ℕ) → handle_made name q r ≡ Some h → Makes q name
+pub made_request : (name : List ℕ) (q : Request) (r : Reply) (h : ℕ) → handle_made name q r ≡ Some h → MakesName q name
 made_request name (Make made bytes) (answer.Made hd version) h is = by (cases_Bool (bytes_eq made name))
   where
     by : (bytes_eq made name ≡ true) ⊎ (bytes_eq made name ≡ false) → made ≡ name
@@ -68,14 +68,14 @@ made_request name q r h is = absurd cc
 
 -- a name with a handle was made by the lines that were answered
 handle_makes : (p : List ℕ) (h : ℕ) (before : List Answer) → handle_of before p ≡ Some h
-    → (lane : ℕ) → AllByRecursion (λ (a : Answer). a.lane.n ≡ lane) before → IsMade (map asked before) lane p
+    → (lane : ℕ) → AllByRecursion (λ (a : Answer). a.lane.n ≡ lane) before → IsNameMade (map asked before) lane p
 handle_makes p h [] is lane of = absurd cc
 handle_makes p h (a ∷ before) is lane of =
     by (handle_of before p) refl (λ k e. handle_makes p k before e lane of.1)
   where
     by : (o : Option ℕ) → handle_of before p ≡ o
-        → ((k : ℕ) → handle_of before p ≡ Some k → IsMade (map asked before) lane p)
-        → IsMade (map asked (a ∷ before)) lane p
+        → ((k : ℕ) → handle_of before p ≡ Some k → IsNameMade (map asked before) lane p)
+        → IsNameMade (map asked (a ∷ before)) lane p
     by (Some k) e rest = inr (rest k e)
     by None e rest = inl (
       of.0,
@@ -91,18 +91,18 @@ line_past : (lane : ℕ) (l : Line) (ls : List Line) → nat_eq l.lane.n lane �
     → of_lane lane (l ∷ ls) ≡ of_lane lane ls
 line_past lane l ls e = ap (λ (b : Bool). if b then l ∷ of_lane lane ls else of_lane lane ls) e
 
-pub made_among : (lane : ℕ) (front : List Line) (k : ℕ) (p : List ℕ) → IsMade (of_lane lane front) k p
-    → IsMade front k p
+pub made_among : (lane : ℕ) (front : List Line) (k : ℕ) (p : List ℕ) → IsNameMade (of_lane lane front) k p
+    → IsNameMade front k p
 made_among lane [] k p made = absurd made
 made_among lane (l ∷ front) k p made = by (cases_Bool (nat_eq l.lane.n lane)) (made_among lane front k p)
   where
     by : (nat_eq l.lane.n lane ≡ true) ⊎ (nat_eq l.lane.n lane ≡ false)
-        → (IsMade (of_lane lane front) k p → IsMade front k p) → IsMade (l ∷ front) k p
-    by (inl e) rest = elim (subst (λ (ls : List Line). IsMade ls k p) (line_hit lane l front e) made) [
+        → (IsNameMade (of_lane lane front) k p → IsNameMade front k p) → IsNameMade (l ∷ front) k p
+    by (inl e) rest = elim (subst (λ (ls : List Line). IsNameMade ls k p) (line_hit lane l front e) made) [
       | inl x ↦ inl x
       | inr x ↦ inr (rest x)
     ]
-    by (inr e) rest = inr (rest (subst (λ (ls : List Line). IsMade ls k p) (line_past lane l front e) made))
+    by (inr e) rest = inr (rest (subst (λ (ls : List Line). IsNameMade ls k p) (line_past lane l front e) made))
 
 either : (a b : Bool) → (a || b) ≡ false → (a ≡ false) × (b ≡ false)
 either true b e = absurd (true≢false e)
@@ -123,30 +123,31 @@ module _ (nodes : ℕ) (all : List Line) (lane : ℕ) (names : List Named) (has 
     (apart : (p : List ℕ) → is_maker all lane p ≡ true → handle_among names p ≡ None) where
   -- one of them, behind those of the script before it
   one_line : (front back : List Line) (before : List Answer) (a : Answer) → all ≡ front ++ asked a ∷ back
-      → IsKnown front lane a.request → a.lane.n ≡ lane → map asked before ≡ of_lane lane front
+      → IsNameKnown front lane a.request → a.lane.n ≡ lane → map asked before ≡ of_lane lane front
       → AllByRecursion (λ (b : Answer). b.lane.n ≡ lane) before → HasLineReply a
       → IsLaneLine all lane (λ p. handle_behind names before (Some p)) a.request a.reply
   one_line front back before a split known same were of line = record {
     line = line;
-    makes = λ p bytes e. (own p bytes e, fresh p (own p bytes e) (subst (IsKnown front lane) e known));
-    pins = λ p e. pinned p e (subst (IsKnown front lane) e known);
+    makes = λ p bytes e. (own p bytes e, fresh p (own p bytes e) (subst (IsNameKnown front lane) e known));
+    pins = λ p e. pinned p e (subst (IsNameKnown front lane) e known);
   }
     where
       own : (p bytes : List ℕ) → a.request ≡ Make p bytes → is_maker all lane p ≡ true
-      own p bytes e = maker_of all lane p (subst (λ (ls : List Line). IsMade ls lane p) (sym split)
-          (subst (λ (k : ℕ). IsMade (front ++ asked a ∷ back) k p) same
-          (made_at front back (asked a) p (subst (λ (q : Request). Makes q p) (sym e) refl))))
+      own p bytes e = maker_of all lane p
+          (subst (λ (ls : List Line). IsNameMade ls lane p) (sym split)
+          (subst (λ (k : ℕ). IsNameMade (front ++ asked a ∷ back) k p) same
+          (made_at front back (asked a) p (subst (λ (q : Request). MakesName q p) (sym e) refl))))
 
-      fresh : (p : List ℕ) → is_maker all lane p ≡ true → IsNew front p → handle_behind names before (Some p) ≡ None
+      fresh : (p : List ℕ) → is_maker all lane p ≡ true → IsNameNew front p → handle_behind names before (Some p) ≡ None
       fresh p mine new = by (handle_of before p) refl
         where
           by : (o : Option ℕ) → handle_of before p ≡ o → first_of (handle_of before p) (handle_among names p) ≡ None
           by None e = ap (λ (o : Option ℕ). first_of o (handle_among names p)) e ∙ apart p mine
           by (Some h) e = absurd (new lane (made_among lane front lane p
-              (subst (λ (ls : List Line). IsMade ls lane p) were (handle_makes p h before e lane of))))
+              (subst (λ (ls : List Line). IsNameMade ls lane p) were (handle_makes p h before e lane of))))
 
       pinned : (p : List ℕ) → a.request ≡ Pin p → KnowsName front lane p → is_maker all lane p ≡ true
-      pinned p e (inl made) = maker_of all lane p (subst (λ (ls : List Line). IsMade ls lane p) (sym split)
+      pinned p e (inl made) = maker_of all lane p (subst (λ (ls : List Line). IsNameMade ls lane p) (sym split)
           (made_left front (asked a ∷ back) lane p made))
       pinned p e (inr made) = absurd (true≢false
           (sym (λ i. (eq-eqb a.lane.n lane same i) && (shared i))
@@ -155,7 +156,7 @@ module _ (nodes : ℕ) (all : List Line) (lane : ℕ) (names : List Named) (has 
           split has.pins)))
         where
           shared : pins_shared all a.request ≡ true
-          shared = ap (pins_shared all) e ∙ maker_of all 0 p (subst (λ (ls : List Line). IsMade ls 0 p) (sym split)
+          shared = ap (pins_shared all) e ∙ maker_of all 0 p (subst (λ (ls : List Line). IsNameMade ls 0 p) (sym split)
               (made_left front (asked a ∷ back) 0 p made))
 
   ends : (before after : List Answer) → map asked after ≡ [] → AreLaneLines all lane names before after
@@ -185,8 +186,8 @@ module _ (nodes : ℕ) (all : List Line) (lane : ℕ) (names : List Named) (has 
           let same : a.lane.n ≡ lane = ap (λ (k : Line). k.lane.n) z.0 ∙ eqb-true l.lane.n lane e in (
             same,
             one_line front back before a (split ∙ ap (λ (k : Line). front ++ k ∷ back) (sym z.0))
-                (subst (λ (k : Line). IsKnown front lane k.request) (sym z.0)
-                (subst (λ (k : ℕ). IsKnown front k l.request) (eqb-true l.lane.n lane e) are.0.known)) same were of line.0,
+                (subst (λ (k : Line). IsNameKnown front lane k.request) (sym z.0)
+                (subst (λ (k : ℕ). IsNameKnown front k l.request) (eqb-true l.lane.n lane e) are.0.known)) same were of line.0,
             rest (before ++ a ∷ []) after
                 (map_push asked before a ∙ (λ i. were i ++ z.0 i ∷ [])
                 ∙ sym (filter-append (λ k. nat_eq k.lane.n lane) front (l ∷ [])

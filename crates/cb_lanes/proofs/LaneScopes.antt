@@ -25,7 +25,7 @@ use Rattle.cb_record.specs.Parts.{Part, grown}
 use Rattle.cb_script.specs.declared.script.Line.{Line}
 use Rattle.cb_shared.specs.declared.answers.WriteAnswer.{WriteAnswer}
 use Rattle.cb_shared.specs.declared.answers.WriteAnswer.TheVariants as place
-use Rattle.cb_shared.specs.Calls.{SaysAs, WriteEnds, WriteFinds}
+use Rattle.cb_shared.specs.Calls.{SaysAs, WriteCallEnds, WriteFinds}
 use Rattle.cb_shared.specs.Reading.{looked}
 use Rattle.cb_shared.specs.Turning.{PinsTold}
 use Rattle.cb_lanes.specs.declared.body.Named.{Named}
@@ -37,7 +37,7 @@ use Rattle.cb_lanes.specs.Scopes.{CallSays, KeepScopes, NamedPin, PeekSays, Pinn
 use Rattle.cb_lanes.specs.Scoped.{AreOneToOne, IsMadeAs, LaneScoped}
 use Rattle.cb_lanes.proofs.LaneRises.{answers_of}
 use Rattle.cb_lanes.proofs.LinesBack.{first_assoc, handle_append, named_behind}
-use Rattle.cb_lanes.proofs.PinLists.{AreApart, name_cases}
+use Rattle.cb_lanes.proofs.PinLists.{AreHandlesApart, name_cases}
 
 abbrev one_if : Bool → ℕ
 one_if b = cond b 1 0
@@ -78,7 +78,7 @@ named_kept number other (named ∷ older) (p ∷ pins) kept (is, are) = (
   named_kept number other older pins kept are,
 )
 
-module _ (number : List ℕ → Option ℕ) (apart : AreApart number) (name : List ℕ) (h : ℕ)
+module _ (number : List ℕ → Option ℕ) (apart : AreHandlesApart number) (name : List ℕ) (h : ℕ)
     (at_name : number name ≡ Some h) where
   same_name : (named : NamedPin) (p : Stand) → IsPinNamed number named p → p.handle ≡ h
       → bytes_eq named.name name ≡ true
@@ -259,7 +259,7 @@ module _ (c : Config) where
   here_pinned h at bytes (place.Raced saw other) r v d says x count told = absurd says
 
   ends_pinned : (h at : ℕ) (bytes : List ℕ) (r : Reply) (v : View) (d : Part)
-      → WriteEnds c h at bytes r v d → PinnedSays (pins_on h v) r
+      → WriteCallEnds c h at bytes r v d → PinnedSays (pins_on h v) r
   ends_pinned h at bytes r v d (inl (a, says, x)) = here_pinned h at bytes a r v d says x
   ends_pinned h at bytes r v d (inr x) =
       told_pinned h r (grown (looked h x.word) v) x.turned.1.pins
@@ -277,7 +277,8 @@ module _ (c : Config) where
       → CallGives c (job.Filter (record { n = h })) v r w → PinnedSays (pins_on h v) r
   filter_pinned h r v w (d, x, is) = told_pinned h r v x.pins
 
-  module _ (number : List ℕ → Option ℕ) (apart : AreApart number) (scope : Scope) (name : List ℕ)
+  module _ (number : List ℕ
+      → Option ℕ) (apart : AreHandlesApart number) (scope : Scope) (name : List ℕ)
       (h : ℕ) (at_name : number name ≡ Some h) (v w : View)
       (are : AreNamedPins number scope v.pins) where
     -- by the lane's scope as by the pass's pins
@@ -357,7 +358,7 @@ module _ (c : Config) where
         (subst (AreNamedPins number []) (sym none) tt);
   }
 
-  pub line_scoped : (number : List ℕ → Option ℕ) → AreApart number → (handle : Option ℕ)
+  pub line_scoped : (number : List ℕ → Option ℕ) → AreHandlesApart number → (handle : Option ℕ)
       (scope : Scope) (q : Request) (r : Reply) (v w : View)
       → ((name : List ℕ) → name_of q ≡ Some name → number name ≡ handle)
       → AreNamedPins number scope v.pins → LineGoes (goes_in c) handle q v r w
@@ -481,7 +482,7 @@ module _ (names : List Named) (given : List Answer) (are_names : AreNamesOf name
       (named_behind names given before (Some q) are_names ∙ is)
 
   apart_behind : (before : List Answer) → AreOneToOne (given ++ before)
-      → AreApart (number_behind names before)
+      → AreHandlesApart (number_behind names before)
   apart_behind before one a b h p q =
       (one a b h h (behind_made before a h p) (behind_made before b h q)).1 refl
 

@@ -12,7 +12,7 @@ use Rattle.cb_types.specs.Requests.{name_of}
 use Rattle.cb_types.specs.Table.{IsReplyOf}
 use Rattle.cb_rule.specs.declared.view.View.{View}
 use Rattle.cb_record.specs.Parts.{Part, grown}
-use Rattle.cb_shared.specs.Calls.{IsAnswer, IsLack, ReadEnds, ReadGives, SaysAs, TellsOfIt, TurnGives, WriteAnswers, WriteEnds, the_handle}
+use Rattle.cb_shared.specs.Calls.{IsAnswer, IsLack, ReadCallEnds, ReadGives, SaysAs, TellsOfIt, TurnGives, WriteAnswers, WriteCallEnds, the_handle}
 use Rattle.cb_shared.specs.declared.answers.WriteAnswer.{WriteAnswer}
 use Rattle.cb_shared.specs.declared.answers.WriteAnswer.TheVariants as place
 use Rattle.cb_lanes.specs.declared.body.Named.{Named}
@@ -46,7 +46,7 @@ module _ (c : Config) where
   answer_ends r (inl x) = told_ends r x
   answer_ends r (inr x) = lack_ends r x
 
-  read_ends : (h : ℕ) (r : Reply) (v : View) (d : Part) → ReadEnds c h r v d → EndsTries c r
+  read_ends : (h : ℕ) (r : Reply) (v : View) (d : Part) → ReadCallEnds c h r v d → EndsTries c r
   read_ends h (answer.Bytes version bytes) v d x = refl
   read_ends h answer.Freed v d x = refl
   read_ends h r v d x = lack_ends r x.turned.0
@@ -62,7 +62,7 @@ module _ (c : Config) where
   said_ends (place.Raced saw found) r is = absurd is
 
   write_ends : (h at : ℕ) (bytes : List ℕ) (r : Reply) (v : View) (d : Part)
-      → WriteEnds c h at bytes r v d → EndsTries c r
+      → WriteCallEnds c h at bytes r v d → EndsTries c r
   write_ends h at bytes r v d (inl (a, says, x)) = said_ends a r says
   write_ends h at bytes r v d (inr x) = answer_ends r x.turned.0
 

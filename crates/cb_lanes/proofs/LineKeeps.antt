@@ -17,19 +17,19 @@ use Rattle.cb_lanes.specs.declared.side.Side.{Side}
 use Rattle.cb_lanes.proofs.Recounting.{IsRecounted, turn_beside}
 
 -- the job is one of a line on an object
-abbrev pub IsOnObject : Job → Type 0
-IsOnObject (job.Make bytes) = Unit {0}
-IsOnObject (job.Read handle) = Unit {0}
-IsOnObject (job.Write handle at bytes) = Unit {0}
-IsOnObject (job.Free handle) = Unit {0}
-IsOnObject (job.Swap handle) = Unit {0}
-IsOnObject (job.Filter handle) = Unit {0}
-IsOnObject j = ⊥
+abbrev pub IsObjectJob : Job → Type 0
+IsObjectJob (job.Make bytes) = Unit {0}
+IsObjectJob (job.Read handle) = Unit {0}
+IsObjectJob (job.Write handle at bytes) = Unit {0}
+IsObjectJob (job.Free handle) = Unit {0}
+IsObjectJob (job.Swap handle) = Unit {0}
+IsObjectJob (job.Filter handle) = Unit {0}
+IsObjectJob j = ⊥
 
 -- P is kept by each turn whose job may be, among them those on objects, by pins and their ends, and
 -- where rows given and keys drawn are counted otherwise
-pub record IsKept (P : WorldState → Type 0) (May : Job → Type 0) : Type 0 where
-  pub object : (j : Job) → IsOnObject j → May j
+pub record IsKeptByTurns (P : WorldState → Type 0) (May : Job → Type 0) : Type 0 where
+  pub object : (j : Job) → IsObjectJob j → May j
   pub turn : (j : Job) (w new : WorldState) (r : Reply) → May j → TurnStep j w r new → P w → P new
   pub pin : (seat h : ℕ) (w new : WorldState) (r : Reply) → PinStep seat h w r new → P w → P new
   pub unpin : (seat h : ℕ) (w new : WorldState) (r : Reply) → UnpinStep seat h w r new → P w → P new
@@ -39,7 +39,7 @@ pub record IsKept (P : WorldState → Type 0) (May : Job → Type 0) : Type 0 wh
 abbrev pub MayBe : (Job → Type 0) → Request → Type 0
 MayBe May request = (j : Job) → job_of request ≡ Some j → May j
 
-module _ (P : WorldState → Type 0) (May : Job → Type 0) (k : IsKept P May) where
+module _ (P : WorldState → Type 0) (May : Job → Type 0) (k : IsKeptByTurns P May) where
   same_kept : (w new : WorldState) → new ≡ w → P w → P new
   same_kept w new same p = subst P (sym same) p
 
@@ -53,7 +53,7 @@ module _ (P : WorldState → Type 0) (May : Job → Type 0) (k : IsKept P May) w
   turn_kept side seat j w new r may x p = let z = turn_beside j side seat w new r x in
       k.recount z.mid new z.counts (event_kept seat j w z.mid r may z.step p)
 
-  on_object : (seat : ℕ) (j : Job) (w new : WorldState) (r : Reply) → IsOnObject j
+  on_object : (seat : ℕ) (j : Job) (w new : WorldState) (r : Reply) → IsObjectJob j
       → Step w (Turn seat j) r new → P w → P new
   on_object seat j w new r is step p = event_kept seat j w new r (k.object j is) step p
 

@@ -22,7 +22,7 @@ use Rattle.cb_world.specs.declared.entry.Entry.{Entry}
 use Rattle.cb_world.specs.declared.event.Event.{Event}
 use Rattle.cb_world.specs.declared.shown.Shown.{Shown}
 use Rattle.cb_world.specs.FarState.{FarState}
-use Rattle.cb_world.specs.Memory.{byte_at, bytes_in, words_for}
+use Rattle.cb_world.specs.Memory.{bytes_in, memory_byte, words_for}
 use Rattle.cb_filter.specs.FilterRule.{FilterAs}
 use Rattle.cb_core.specs.Turned.{done, worn}
 use Rattle.cb_mutate.specs.JobWrites.{TurnWrites}
@@ -31,20 +31,20 @@ use Rattle.cb_rule.specs.declared.view.Stand.{Stand}
 use Rattle.cb_rule.specs.declared.view.View.{View}
 use Rattle.cb_rule.specs.Lists.{Each, Has}
 use Rattle.cb_rule.specs.Steps.{Knows, stand}
-use Rattle.cb_record.specs.Backs.{Backs, Enters, EntersAt, Tells, happened_at, happened_for, pins_at, pins_for, turn_at, turn_of}
+use Rattle.cb_record.specs.Backs.{Backs, Enters, EntersAt, Tells, happened_at, happened_for, pins_at, pins_for, turn_at, turn_needed}
 use Rattle.cb_record.specs.Deeds.{Deed, deed, happened, happening}
-use Rattle.cb_record.specs.Lists.{HasOne, IsAmong, beside, both, ended}
+use Rattle.cb_record.specs.Lists.{HasOne, IsSublist, beside, both, ended}
 use Rattle.cb_record.specs.Needs.Need.{AFreed}
 use Rattle.cb_record.specs.Needs.{FindsEmpty, IsFreedAs, IsJobFor, IsTurnFor, Meets, need_of, own_job, peek_at}
 use Rattle.cb_record.specs.Parts.{Grows, Part, grown, nothing_more, sum}
 use Rattle.cb_record.specs.Told.{Told}
 use Rattle.cb_record.proofs.Laws.{backs_sum, grown-nothing_more, grown-sum, has_one_left, idle_backs}
-use Rattle.cb_shared.specs.Calls.{AsksFor, AtThis, EndsAtLast, IsInVain, IsLack, ReadEnds, ReadGives, TurnGives, WriteAnswers, WriteEnds, WriteFinds, SaysAs, the_handle, worn_once, written_once}
+use Rattle.cb_shared.specs.Calls.{AsksFor, AtThis, EndsAtLast, IsInVain, IsLack, ReadCallEnds, ReadGives, TurnGives, WriteAnswers, WriteCallEnds, WriteFinds, SaysAs, the_handle, worn_once, written_once}
 use Rattle.cb_shared.specs.declared.answers.WriteAnswer.{WriteAnswer}
 use Rattle.cb_shared.specs.declared.answers.WriteAnswer.TheVariants as place
 use Rattle.cb_shared.specs.declared.reading.ReadAnswer.TheVariants as found
 use Rattle.cb_shared.specs.Reading.{FindsGone, looked, looked_freed, read_once}
-use Rattle.cb_shared.specs.Turning.{DidAs, FindsAtLast, TurnAdds, TurnBy, made_by, turn_part}
+use Rattle.cb_shared.specs.Turning.{DidAs, FindsAtLast, TurnAdds, TurnBy, made_by_turn, turn_part}
 use Rattle.cb_shared.proofs.Laws.{freed_part, known_grown}
 use Rattle.cb_lanes.specs.Names.{IsOnObject}
 use Rattle.cb_lanes.specs.LineGoes.{CallGoes, LineGoes, job_of}
@@ -80,7 +80,7 @@ adds_knows h v w d x knows = subst (Knows h) (sym x) (known_grown h d v knows)
 
 -- ---- one answer
 pub one_backs : (d : Part) (t : Told) → Enters t d.written → Tells d t → pins_for t ≤ d.ever
-    → IsAmong (turn_of t) (map deed d.turns)
+    → IsSublist (turn_needed t) (map deed d.turns)
     → flat_map (λ (u : Turn). happened (deed u)) d.turns ≡ happened_for t → Backs d (t ∷ [])
 one_backs d t enters tells pins turned happens = record {
   wrote = (d.written, [], refl, enters, refl);
@@ -121,7 +121,7 @@ look_idle h word = idle_backs (looked h word) refl refl
 record IsByTurn (j : Job) (h : Option ℕ) (q : Request) (r : Reply) : Type 0 where
   pub enters : (es : List Entry) → TurnWrites j r es → EntersAt h q r es
   pub no_pin : pins_at q r ≡ 0
-  pub turned : IsAmong (turn_at h q r) (record { job = j; reply = Some r } ∷ [])
+  pub turned : IsSublist (turn_at h q r) (record { job = j; reply = Some r } ∷ [])
   pub happens : happening j (Some r) ≡ happened_at q r
 
 turn_backs : (c : Config) (j : Job) (h : Option ℕ) (q : Request) (r : Reply) (v : View) (d : Part)
@@ -131,7 +131,7 @@ turn_backs : (c : Config) (j : Job) (h : Option ℕ) (q : Request) (r : Reply) (
 turn_backs c j h q r v d x by meets = subst (λ (z : Part). Backs z (t ∷ [])) (sym x.part)
     (one_backs e t (by.enters x.more x.wrote) meets
     (let z = by.no_pin in omega (arith, z))
-    (subst (λ (u : Deed). IsAmong (turn_at h q r) (u ∷ [])) (sym same) by.turned)
+    (subst (λ (u : Deed). IsSublist (turn_at h q r) (u ∷ [])) (sym same) by.turned)
     (append-nil (happened (deed x.turn)) ∙ ap happened same ∙ by.happens))
   where
     t : Told
@@ -170,7 +170,7 @@ still_backs : (h : Option ℕ) (q : Request) (r : Reply) → EntersAt h q r [] �
     → Backs nothing_more (told_as h q r ∷ [])
 still_backs h q r enters meets pins turned happens =
     one_backs nothing_more (told_as h q r) enters meets (omega (arith, pins))
-    (subst (λ (l : List Deed). IsAmong l []) (sym turned) ended) (sym happens)
+    (subst (λ (l : List Deed). IsSublist l []) (sym turned) ended) (sym happens)
 
 -- ---- a make
 abbrev pub make_handle : Reply → Option ℕ
@@ -198,7 +198,7 @@ make_line : (c : Config) (name bytes : List ℕ) (r : Reply) (v w : View)
     → LineAdds v w (told_as (make_handle r) (Make name bytes) r)
 make_line c name bytes r v w (d, x, is) = (
   d,
-  adds_by v w d (made_by (job.Make bytes) (Some r) ++ v.own) v.pins is,
+  adds_by v w d (made_by_turn (job.Make bytes) (Some r) ++ v.own) v.pins is,
   ends_back _ _ _ v d _ x (turn_backs c (job.Make bytes) _ _ r (grown x.before v) x.last x.ends_so.1
       (make_by (make_handle r) name bytes r) (make_meets c name bytes r (grown x.before v) x.last x.ends_so.1)),
 )
@@ -226,7 +226,7 @@ by_turn : (c : Config) (j : Job) (h : Option ℕ) (q : Request) (r : Reply) (v w
     → TurnBy c j (Ok r) v w → LineAdds v w (told_as h q r)
 by_turn c j h q r v w by meets (d, x, is) = (
   d,
-  adds_by v w d (made_by j (Some r) ++ v.own) v.pins is,
+  adds_by v w d (made_by_turn j (Some r) ++ v.own) v.pins is,
   turn_backs c j h q r v d x by (meets d x),
 )
 
@@ -239,20 +239,20 @@ record IsTurnLine (q : Request) (j : Job) : Type 0 where
 -- the turn is the line's own
 deed_turned : (q : Request) (j : Job) (r : Reply)
     → turn_at None q r ≡ record { job = j; reply = Some r } ∷ []
-    → IsAmong (turn_at None q r) (record { job = j; reply = Some r } ∷ [])
-deed_turned q j r is = subst (λ (l : List Deed). IsAmong l (record { job = j; reply = Some r } ∷ []))
+    → IsSublist (turn_at None q r) (record { job = j; reply = Some r } ∷ [])
+deed_turned q j r is = subst (λ (l : List Deed). IsSublist l (record { job = j; reply = Some r } ∷ []))
     (sym is) (both _ [] [] ended)
 
 -- a step of an eviction or a compaction is not one of those that are counted
 step_turned : (q : Request) (j : Job) (r : Reply) → turn_at None q r ≡ []
-    → IsAmong (turn_at None q r) (record { job = j; reply = Some r } ∷ [])
-step_turned q j r is = subst (λ (l : List Deed). IsAmong l (record { job = j; reply = Some r } ∷ []))
+    → IsSublist (turn_at None q r) (record { job = j; reply = Some r } ∷ [])
+step_turned q j r is = subst (λ (l : List Deed). IsSublist l (record { job = j; reply = Some r } ∷ []))
     (sym is) (beside [] _ [] ended)
 
 line_of : (q : Request) (j : Job) → IsPlain j → own_job None q ≡ Some j
     → ((r : Reply) → (es : List Entry) → TurnWrites j r es → EntersAt None q r es)
     → ((r : Reply) → pins_at q r ≡ 0)
-    → ((r : Reply) → IsAmong (turn_at None q r) (record { job = j; reply = Some r } ∷ []))
+    → ((r : Reply) → IsSublist (turn_at None q r) (record { job = j; reply = Some r } ∷ []))
     → ((r : Reply) → happening j (Some r) ≡ happened_at q r) → IsTurnLine q j
 line_of q j plain own enters no_pin turned happens = record {
   plain = plain;
@@ -361,7 +361,7 @@ swap_backs c h q r v d by x = look_behind h x.word x.later d (told_as (Some h) q
     (turn_backs c (job.Swap (the_handle h)) (Some h) q r _ x.later x.turned.1 (record {
       enters = λ es none. subst (EntersAt (Some h) q r) (sym none) (by.enters r);
       no_pin = by.no_pin c r x.turned.0;
-      turned = subst (λ (l : List Deed). IsAmong l (record { job = job.Swap (the_handle h); reply = Some r } ∷ []))
+      turned = subst (λ (l : List Deed). IsSublist l (record { job = job.Swap (the_handle h); reply = Some r } ∷ []))
           (sym (by.turned r)) (beside [] _ [] ended);
       happens = sym (by.happens r);
     }) (by.needs c r x.turned.0 _ x.later x.turned.1))
@@ -418,11 +418,11 @@ freed_backs : (h : ℕ) (q : Request) (version word : ℕ) → EntersAt (Some h)
 freed_backs h q version word enters needs empty no_pin turned happens =
     one_backs (looked_freed h version word) (told_as (Some h) q answer.Freed) enters
     (needs (inl (refl, refl), inl (refl, empty))) (omega (arith, no_pin))
-    (subst (λ (l : List Deed). IsAmong l []) (sym turned) ended) (sym happens)
+    (subst (λ (l : List Deed). IsSublist l []) (sym turned) ended) (sym happens)
 
 -- ---- a read
 read_ends : (c : Config) (h : ℕ) (name : List ℕ) (r : Reply) (v : View) (d : Part)
-    → ReadEnds c h r v d → Backs d (told_as (Some h) (Read name) r ∷ [])
+    → ReadCallEnds c h r v d → Backs d (told_as (Some h) (Read name) r ∷ [])
 read_ends c h name (answer.Bytes version bytes) v d x =
     subst (λ (z : Part). Backs z (told_as (Some h) (Read name) (answer.Bytes version bytes) ∷ []))
     (sym x.part)
@@ -489,7 +489,7 @@ look_backs : (h word : ℕ) (q : Request) (r : Reply) → EntersAt (Some h) q r 
     → happened_at q r ≡ [] → Backs (looked h word) (told_as (Some h) q r ∷ [])
 look_backs h word q r enters meets no_pin turned happens =
     one_backs (looked h word) (told_as (Some h) q r) enters meets (omega (arith, no_pin))
-    (subst (λ (l : List Deed). IsAmong l []) (sym turned) ended) (sym happens)
+    (subst (λ (l : List Deed). IsSublist l []) (sym turned) ended) (sym happens)
 
 write_here : (h at : ℕ) (name bytes : List ℕ) (a : WriteAnswer) (r : Reply) (v : View) (d : Part)
     → SaysAs a r → WriteFinds h at bytes a v d → Backs d (told_as (Some h) (Write name at bytes) r ∷ [])
@@ -523,7 +523,7 @@ write_here h at name bytes place.Moving r v d says x = absurd says
 write_here h at name bytes (place.Raced saw other) r v d says x = absurd says
 
 write_ends : (c : Config) (h at : ℕ) (name bytes : List ℕ) (r : Reply) (v : View) (d : Part)
-    → WriteEnds c h at bytes r v d → Backs d (told_as (Some h) (Write name at bytes) r ∷ [])
+    → WriteCallEnds c h at bytes r v d → Backs d (told_as (Some h) (Write name at bytes) r ∷ [])
 write_ends c h at name bytes r v d (inl (a, says, x)) = write_here h at name bytes a r v d says x
 write_ends c h at name bytes r v d (inr x) =
     look_behind h x.word x.later d (told_as (Some h) (Write name at bytes) r) x.part
@@ -665,7 +665,7 @@ newest_handle h p (q ∷ ps) (inr x) = newest_handle h p ps x.1
 
 bytes_long : (words : List ℕ) (len : ℕ) → length (bytes_in words len) ≡ len
 unfolding bytes_in
-bytes_long words len = length-map-range_with_len (byte_at words) 0 len
+bytes_long words len = length-map-range_with_len (memory_byte words) 0 len
 
 peek_next : (p : Stand) (n j : ℕ) → j < suc n
     → (j < n → Has (peek_at p.handle p.version p.words j) (peeks_of p n)) → (j < n) ⊎ (n ≤ j)

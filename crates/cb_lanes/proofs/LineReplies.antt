@@ -18,7 +18,7 @@ use Rattle.cb_core.specs.Parts.{Holding}
 use Rattle.cb_core.specs.Turned.{Does}
 use Rattle.cb_rule.specs.declared.view.View.{View}
 use Rattle.cb_record.specs.Parts.{Part, grown}
-use Rattle.cb_shared.specs.Calls.{IsAnswer, IsLack, ReadEnds, ReadGives, SaysAs, TurnGives, WriteAnswers, WriteEnds, the_handle}
+use Rattle.cb_shared.specs.Calls.{IsAnswer, IsLack, ReadCallEnds, ReadGives, SaysAs, TurnGives, WriteAnswers, WriteCallEnds, the_handle}
 use Rattle.cb_shared.specs.declared.answers.WriteAnswer.{WriteAnswer}
 use Rattle.cb_shared.specs.declared.answers.WriteAnswer.TheVariants as place
 use Rattle.cb_shared.specs.Turning.{DidAs, ReadsByPin, Slate, TurnAdds, TurnBy, slate_run, slate_shows}
@@ -72,7 +72,7 @@ module _ (c : Config) where
   lack_pin name (answer.NoRoom frames loose nodes) x = tt
   lack_pin name r x = absurd x
 
-  read_ends : (h : ℕ) (name : List ℕ) (r : Reply) (v : View) (d : Part) → ReadEnds c h r v d
+  read_ends : (h : ℕ) (name : List ℕ) (r : Reply) (v : View) (d : Part) → ReadCallEnds c h r v d
       → IsReplyOf (Read name) r
   read_ends h name (answer.Bytes version bytes) v d x = tt
   read_ends h name answer.Freed v d x = tt
@@ -102,7 +102,7 @@ module _ (c : Config) where
       by (inr y) = y
 
   write_ends : (h at : ℕ) (name bytes : List ℕ) (r : Reply) (v : View) (d : Part)
-      → WriteEnds c h at bytes r v d → IsReplyOf (Write name at bytes) r
+      → WriteCallEnds c h at bytes r v d → IsReplyOf (Write name at bytes) r
   write_ends h at name bytes r v d (inl (a, says, x)) = says_so name bytes at a r says
   write_ends h at name bytes r v d (inr x) =
       turn_reply (job.Write (the_handle h) at bytes) (Write name at bytes) r _ x.later

@@ -33,16 +33,17 @@ pub one_number : (n m : ℕ) → Some n ≡ Some m → n ≡ m
 one_number n m e = cc
 
 -- ---- what an event told of an object stands in a record
-abbrev pub StandsIn : View → ℕ → Event → Type 0
-StandsIn v h (Makes bytes version) = HasVersion v h version false
-StandsIn v h (Shows version bytes) = HasVersion v h version false
-StandsIn v h (Pins version) = HasVersion v h version false
-StandsIn v h (Writes at bytes version) = HasVersion v h version false
-StandsIn v h (Frees version) = HasVersion v h version true
-StandsIn v h FindsFreed = (version : ℕ) × HasVersion v h version true
-StandsIn v h other = Unit {0}
+abbrev pub StandsInRecord : View → ℕ → Event → Type 0
+StandsInRecord v h (Makes bytes version) = HasVersion v h version false
+StandsInRecord v h (Shows version bytes) = HasVersion v h version false
+StandsInRecord v h (Pins version) = HasVersion v h version false
+StandsInRecord v h (Writes at bytes version) = HasVersion v h version false
+StandsInRecord v h (Frees version) = HasVersion v h version true
+StandsInRecord v h FindsFreed = (version : ℕ) × HasVersion v h version true
+StandsInRecord v h other = Unit {0}
 
-pub stands_more : (v w : View) (h : ℕ) (e : Event) → HasAllOf v w → StandsIn v h e → StandsIn w h e
+pub stands_more : (v w : View) (h : ℕ) (e : Event) → HasAllOf v w → StandsInRecord v h e
+    → StandsInRecord w h e
 stands_more v w h (Makes bytes version) all x = all h version false x
 stands_more v w h (Shows version bytes) all x = all h version false x
 stands_more v w h (Pins version) all x = all h version false x
@@ -75,7 +76,7 @@ module _ (v w : View) (d : Part) (x : Adds v d w) where
 
   backed_make : (h : ℕ) (name bytes : List ℕ) (r : Reply)
       → Backs d (told_as (make_handle r) (Make name bytes) r ∷ []) → make_handle r ≡ Some h
-      → StandsIn w h (event_of (Make name bytes) r)
+      → StandsInRecord w h (event_of (Make name bytes) r)
   backed_make h name bytes (answer.Made handle version) b is = inl (
     entry handle.n version _ [] b.wrote.3.0,
     wrote_in b.wrote.0 b.wrote.1 _ b.wrote.2 b.wrote.3.2,
@@ -87,7 +88,7 @@ module _ (v w : View) (d : Part) (x : Adds v d w) where
   backed_make h name bytes r b is = tt
 
   backed_read : (h : ℕ) (name : List ℕ) (r : Reply) → Backs d (told_as (Some h) (Read name) r ∷ [])
-      → StandsIn w h (event_of (Read name) r)
+      → StandsInRecord w h (event_of (Read name) r)
   backed_read h name (answer.Bytes version bytes) b =
       let z = find (IsReadAs h version bytes) d.seen b.tells.0 in
       inr (z.0, read_in z.0 z.1, z.2.0, z.2.1, z.2.2)
@@ -95,7 +96,7 @@ module _ (v w : View) (d : Part) (x : Adds v d w) where
   backed_read h name r b = tt
 
   backed_pin : (h : ℕ) (name : List ℕ) (r : Reply) → Backs d (told_as (Some h) (Pin name) r ∷ [])
-      → StandsIn w h (event_of (Pin name) r)
+      → StandsInRecord w h (event_of (Pin name) r)
   backed_pin h name (answer.Version version) b =
       let z = find (IsPinnedAs h version) d.seen b.tells.0 in
       inr (z.0, read_in z.0 z.1, z.2.0, z.2.1, z.2.2)
@@ -104,7 +105,7 @@ module _ (v w : View) (d : Part) (x : Adds v d w) where
 
   backed_write : (h at : ℕ) (name bytes : List ℕ) (r : Reply)
       → Backs d (told_as (Some h) (Write name at bytes) r ∷ [])
-      → StandsIn w h (event_of (Write name at bytes) r)
+      → StandsInRecord w h (event_of (Write name at bytes) r)
   backed_write h at name bytes (answer.Version version) b = inl (
     entry h version b.wrote.3.0 b.wrote.3.1 b.wrote.3.2,
     wrote_in b.wrote.0 b.wrote.1 _ b.wrote.2 b.wrote.3.5,
@@ -116,7 +117,7 @@ module _ (v w : View) (d : Part) (x : Adds v d w) where
   backed_write h at name bytes r b = tt
 
   backed_free : (h : ℕ) (name : List ℕ) (r : Reply) → Backs d (told_as (Some h) (Free name) r ∷ [])
-      → StandsIn w h (event_of (Free name) r)
+      → StandsInRecord w h (event_of (Free name) r)
   backed_free h name (answer.Version version) b = inl (
     gone h version b.wrote.3.0,
     wrote_in b.wrote.0 b.wrote.1 _ b.wrote.2 b.wrote.3.1,
@@ -143,7 +144,7 @@ pub not_bytes : (version : ℕ) (bytes : List ℕ) → answer.Bytes version byte
 not_bytes version bytes e = cc
 
 peek_stands : (h : ℕ) (name : List ℕ) (r : Reply) (v w : View) → PinsRead v → HasAllOf v w
-    → PeekGoes h v r w → StandsIn w h (event_of (Peek name) r)
+    → PeekGoes h v r w → StandsInRecord w h (event_of (Peek name) r)
 peek_stands h name (answer.Bytes version bytes) v w read all (inl x) =
     absurd (not_bytes version bytes x.told)
 peek_stands h name (answer.Bytes version bytes) v w read all (inr x) = all h version false
@@ -152,11 +153,11 @@ peek_stands h name (answer.Bytes version bytes) v w read all (inr x) = all h ver
 peek_stands h name answer.Freed v w read all x = tt
 peek_stands h name r v w read all x = tt
 
-quiet_unpin : (w : View) (h : ℕ) (name : List ℕ) (r : Reply) → StandsIn w h (event_of (Unpin name) r)
+quiet_unpin : (w : View) (h : ℕ) (name : List ℕ) (r : Reply) → StandsInRecord w h (event_of (Unpin name) r)
 quiet_unpin w h name answer.Freed = tt
 quiet_unpin w h name r = tt
 
-quiet_filter : (w : View) (h : ℕ) (name : List ℕ) (r : Reply) → StandsIn w h (event_of (Filter name) r)
+quiet_filter : (w : View) (h : ℕ) (name : List ℕ) (r : Reply) → StandsInRecord w h (event_of (Filter name) r)
 quiet_filter w h name answer.Freed = tt
 quiet_filter w h name r = tt
 
@@ -188,14 +189,14 @@ module _ (goes : Goes View) (v w : View) (r : Reply) (T : ℕ → Event → Type
 
 module _ (c : Config) (v w : View) (r : Reply) where
   make_stands : (name bytes : List ℕ) → goes_in c (Calls (job.Make bytes)) v r w → (h : ℕ)
-      → make_handle r ≡ Some h → StandsIn w h (event_of (Make name bytes) r)
+      → make_handle r ≡ Some h → StandsInRecord w h (event_of (Make name bytes) r)
   make_stands name bytes x h is =
       let one : LineAdds v w (told_as (make_handle r) (Make name bytes) r) =
       line_adds c None (Make name bytes) r v w x in
       backed_make v w one.0 one.1 h name bytes r one.2 is
 
   call_stands : PinsRead v → (h : ℕ) (q : Request) → CallGoes (goes_in c) h q v r w
-      → StandsIn w h (event_of q r)
+      → StandsInRecord w h (event_of q r)
   call_stands read h (Read name) x =
       let one : LineAdds v w (told_as (Some h) (Read name) r) = line_adds c (Some h) (Read name) r v w x in
       backed_read v w one.0 one.1 h name r one.2
@@ -218,6 +219,6 @@ module _ (c : Config) (v w : View) (r : Reply) where
 
   -- what a line was answered stands in the record behind it
   pub line_stands : PinsRead v → (o : Option ℕ) (q : Request) → LineGoes (goes_in c) o q v r w
-      → (h : ℕ) → about o q r ≡ Some h → StandsIn w h (event_of q r)
-  line_stands read o q x h is = by_line (goes_in c) v w r (StandsIn w) make_stands
+      → (h : ℕ) → about o q r ≡ Some h → StandsInRecord w h (event_of q r)
+  line_stands read o q x h is = by_line (goes_in c) v w r (StandsInRecord w) make_stands
       (call_stands read) o q x h is

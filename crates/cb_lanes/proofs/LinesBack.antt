@@ -23,13 +23,13 @@ use Rattle.cb_record.specs.Told.{Told, told, tolds}
 use Rattle.cb_record.proofs.Laws.{backs_sum, idle_backs}
 use Rattle.cb_shared.specs.Calls.{TurnGives}
 use Rattle.cb_shared.specs.Joining.{unpinned_all}
-use Rattle.cb_shared.specs.Turning.{made_by, with_own}
+use Rattle.cb_shared.specs.Turning.{made_by_turn, with_own}
 use Rattle.cb_script.specs.declared.script.Line.{Line}
 use Rattle.cb_lanes.specs.declared.body.Named.{Named}
 use Rattle.cb_lanes.specs.Asked.{answer_to}
 use Rattle.cb_lanes.specs.Bodies.{AddsBacked, AnswersOne, AreNamesOf, KeepHandles, KnowsKept, LaneGoes, LinesGo, handle_among, handle_behind}
 use Rattle.cb_lanes.specs.LineGoes.{Goes, LineGoes}
-use Rattle.cb_lanes.specs.Names.{AreKept, Names, handle_at, handle_in, kept_number, number_after}
+use Rattle.cb_lanes.specs.Names.{AreKept, Names, handle_at, kept_number, number_after, request_handle}
 use Rattle.cb_lanes.specs.Passing.{goes_in}
 use Rattle.cb_lanes.proofs.LineParts.{Adds, about, adds_knows, adds_none, adds_sum, line_adds, told_as}
 
@@ -222,9 +222,9 @@ pub kept_known : (c : Config) (line : Line) (kept later : Names) (answers all : 
 kept_known c line kept later answers all v w knows x name k is = ⊎_elim
     (λ (same : kept_number kept name ≡ Some k). adds_knows k v w one.0 one.1 (knows name k same))
     (λ (made : IsMadeAs line.request x.reply k).
-    made_knows c (handle_in kept line.request) line.request x.reply v w k x.goes made)
+    made_knows c (request_handle kept line.request) line.request x.reply v w k x.goes made)
     (number_case kept line.request x.reply name k (sym (x.keeps name) ∙ is))
   where
-    one : (d : Part) × Adds v d w × Backs d (told_as (about (handle_in kept line.request)
+    one : (d : Part) × Adds v d w × Backs d (told_as (about (request_handle kept line.request)
         line.request x.reply) line.request x.reply ∷ [])
-    one = line_adds c (handle_in kept line.request) line.request x.reply v w x.goes
+    one = line_adds c (request_handle kept line.request) line.request x.reply v w x.goes

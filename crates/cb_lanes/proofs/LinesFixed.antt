@@ -25,7 +25,7 @@ use Rattle.cb_core.proofs.Laws.{newest_fixed, step_fixes, unpin_fixed}
 use Rattle.cb_core.proofs.Laws as core
 use Rattle.cb_local.proofs.Laws.{beside_fixed}
 use Rattle.cb_lanes.specs.Asked.{asked}
-use Rattle.cb_lanes.specs.GivingBack.{GivesAll, Rests, end_of, lines_of}
+use Rattle.cb_lanes.specs.GivingBack.{GivesAll, Rests, end_of, lines_by}
 use Rattle.cb_lanes.specs.LineGoes.{job_of}
 use Rattle.cb_lanes.specs.LineStep.{IsInReply, LinesLead, LineStep, ObjectStep, OtherStep, TurnAt, PeekStep, not_pinned, shown, PinEvent, PinLine, at_once, stays_far, swapped_in, SwapEvent}
 use Rattle.cb_lanes.specs.LinesSoundly.{LinesLeadSoundly}
@@ -207,14 +207,14 @@ lines_fix side before w a b (c ∷ xs) (d ∷ ys) sound x y lines =
     } in
     let lanes : map (λ (e : Answer). e.lane.n) xs ≡ map (λ (e : Answer). e.lane.n) ys = lanes_asked xs
     ∙ ap (map (λ (l : Line). l.lane.n)) split.1 ∙ sym (lanes_asked ys) in
-    let left : lines_of c.lane.n (map (λ (e : Answer). e.lane.n) xs)
-    ≡ lines_of d.lane.n (map (λ (e : Answer). e.lane.n) ys) =
-    λ i. lines_of (same i).lane.n (lanes i) in
-    let rested = rests_fixed (lines_of d.lane.n (map (λ (e : Answer). e.lane.n) ys)) d.lane.n y.0 x.1 y.1
-    (subst (λ (v : WorldState). Rests (lines_of d.lane.n (map (λ (e : Answer). e.lane.n) ys)) d.lane.n v x.1)
+    let left : lines_by c.lane.n (map (λ (e : Answer). e.lane.n) xs)
+    ≡ lines_by d.lane.n (map (λ (e : Answer). e.lane.n) ys) =
+    λ i. lines_by (same i).lane.n (lanes i) in
+    let rested = rests_fixed (lines_by d.lane.n (map (λ (e : Answer). e.lane.n) ys)) d.lane.n y.0 x.1 y.1
+    (subst (λ (v : WorldState). Rests (lines_by d.lane.n (map (λ (e : Answer). e.lane.n) ys)) d.lane.n v x.1)
     done.1
     (subst (λ (n : ℕ). Rests n d.lane.n x.0 x.1) left
-    (subst (λ (e : Answer). Rests (lines_of c.lane.n (map (λ (f : Answer). f.lane.n) xs)) e.lane.n x.0 x.1)
+    (subst (λ (e : Answer). Rests (lines_by c.lane.n (map (λ (f : Answer). f.lane.n) xs)) e.lane.n x.0 x.1)
     same x.3))) y.3 in
     let rest = lines_fix side (before ++ c ∷ []) x.1 a b xs ys x.4 x.5
     (subst (λ (v : WorldState). LinesLead side (before ++ c ∷ []) v ys b) (sym rested)

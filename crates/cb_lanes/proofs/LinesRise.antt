@@ -9,7 +9,7 @@ use Rattle.cb_rule.specs.declared.view.View.{View}
 use Rattle.cb_model.specs.Called.{Called, called, calls_behind, handle_for}
 use Rattle.cb_model.specs.Event.{Event, event_of, version_of}
 use Rattle.cb_model.specs.Event.Event.{Makes, Shows, Pins, Writes, Frees, FindsFull, FindsUnmade, FindsFreed, FindsEnd, Refused, Wrong}
-use Rattle.cb_model.specs.Legal.{IsNotBelow, MayFollow, NeverFalls}
+use Rattle.cb_model.specs.Legal.{IsNotBelow, MayComeLater, NeverFalls}
 use Rattle.cb_record.specs.Rises.{HasAllOf, HasVersion, IsBehind, IsKnownTo, IsOnRecord, MayFollowVersion, RisesFrom}
 use Rattle.cb_lanes.specs.declared.body.Named.{Named}
 use Rattle.cb_lanes.specs.Bodies.{AreNamesOf, LaneGoes, LinesGo, handle_behind}
@@ -19,11 +19,11 @@ use Rattle.cb_lanes.specs.Rising.{FreedIsLast}
 use Rattle.cb_lanes.proofs.LineParts.{about, line_adds}
 use Rattle.cb_lanes.proofs.LineRises.{IsHigher, line_higher}
 use Rattle.cb_lanes.proofs.LinesBack.{about_for, lines_add, named_behind}
-use Rattle.cb_lanes.proofs.LineVersions.{StandsIn, line_stands, none_some, one_number, stands_more}
+use Rattle.cb_lanes.proofs.LineVersions.{StandsInRecord, line_stands, none_some, one_number, stands_more}
 use Rattle.cb_lanes.proofs.PinsRead.{PinsRead, adds_all, has_both, has_same, line_pins, pins_none}
 
 -- ---- what stands in a record is known to it
-stands_known : (v : View) (h : ℕ) (e : Event) → StandsIn v h e → IsKnownTo v h e
+stands_known : (v : View) (h : ℕ) (e : Event) → StandsInRecord v h e → IsKnownTo v h e
 stands_known v h (Makes bytes version) x = λ n is.
     (false, subst (λ (k : ℕ). HasVersion v h k false) (one_number version n is) x)
 stands_known v h (Shows version bytes) x = λ n is.
@@ -51,7 +51,7 @@ not_behind all h last n is_last gone has up_to =
     let e : false ≡ true = x.1 (omega (arith, below, up_to)) in cc
 
 may_follow : (v all : View) (h : ℕ) (e : Event) → HasAllOf v all → FreedIsLast all
-    → IsHigher v h e → StandsIn all h e → (n : ℕ) (freed : Bool) → HasVersion v h n freed
+    → IsHigher v h e → StandsInRecord all h e → (n : ℕ) (freed : Bool) → HasVersion v h n freed
     → MayFollowVersion n freed e
 may_follow v all h e more is_last higher stands n false has = higher n false has
 may_follow v all h (Makes bytes version) more is_last higher stands n true has =
@@ -95,7 +95,7 @@ module _ (v : View) (h : ℕ) (later : Event)
   follows_at version n x is = subst (λ (k : ℕ). IsNotBelow k later) (one_number version n is)
       (behind version false x)
 
-  follows : (e : Event) → StandsIn v h e → MayFollow e later
+  follows : (e : Event) → StandsInRecord v h e → MayComeLater e later
   follows (Makes bytes version) x = λ n is. follows_at version n x is
   follows (Shows version bytes) x = λ n is. follows_at version n x is
   follows (Pins version) x = λ n is. follows_at version n x is
@@ -116,7 +116,7 @@ all_map P Q (x ∷ xs) f all = (f x all.0, all_map P Q xs f all.1)
 
 -- what the call was answered stands in the record
 abbrev StandsOn : View → Called → Type 0
-StandsOn v call = (h : ℕ) → call.handle ≡ Some h → StandsIn v h call.event
+StandsOn v call = (h : ℕ) → call.handle ≡ Some h → StandsInRecord v h call.event
 
 never_falls : (v : View) (earlier later : Called) → StandsOn v earlier → IsBehind v later
     → NeverFalls earlier later

@@ -26,7 +26,7 @@ use Rattle.cb_record.specs.Parts.{Part, grown}
 use Rattle.cb_record.specs.Told.{Told, tolds}
 use Rattle.cb_record.specs.Upheld.{IsSeenLong}
 use Rattle.cb_record.proofs.Laws.{has_left}
-use Rattle.cb_shared.specs.Calls.{IsAnswer, IsLack, ReadEnds, ReadGives, SaysAs, WriteEnds}
+use Rattle.cb_shared.specs.Calls.{IsAnswer, IsLack, ReadCallEnds, ReadGives, SaysAs, WriteCallEnds}
 use Rattle.cb_shared.specs.declared.answers.WriteAnswer.{WriteAnswer}
 use Rattle.cb_shared.specs.declared.answers.WriteAnswer.TheVariants as place
 use Rattle.cb_lanes.specs.declared.body.Named.{Named}
@@ -224,14 +224,14 @@ not_said a r x is = by a (subst (SaysAs a) is x)
     by place.Moving y = y
     by (place.Raced saw other) y = y
 
-not_read : (c : Config) (h : ℕ) (r : Reply) (v : View) (d : Part) → ReadEnds c h r v d
+not_read : (c : Config) (h : ℕ) (r : Reply) (v : View) (d : Part) → ReadCallEnds c h r v d
     → r ≢ answer.Unmade
 not_read c h (answer.Bytes version bytes) v d x is = absurd cc
 not_read c h answer.Freed v d x is = absurd cc
 not_read c h r v d x is = not_lack c r x.turned.0 is
 
 not_written : (c : Config) (h at : ℕ) (bytes : List ℕ) (r : Reply) (v : View) (d : Part)
-    → WriteEnds c h at bytes r v d → r ≢ answer.Unmade
+    → WriteCallEnds c h at bytes r v d → r ≢ answer.Unmade
 not_written c h at bytes r v d (inl (a, says, x)) is = not_said a r says is
 not_written c h at bytes r v d (inr x) is = not_told c r x.turned.0 is
 

@@ -18,7 +18,7 @@ use Rattle.cb_core.specs.Step.{Step, TurnStep, worn, done, held as other_holds, 
 use Rattle.cb_lanes.specs.GivingBack.{Rests}
 use Rattle.cb_lanes.specs.LineStep.{LineStep}
 use Rattle.cb_lanes.specs.declared.side.Side.{Side}
-use Rattle.cb_lanes.proofs.LineKeeps.{IsKept, line_kept, rests_kept}
+use Rattle.cb_lanes.proofs.LineKeeps.{IsKeptByTurns, line_kept, rests_kept}
 
 -- at first no seat holds the far lock
 pub empty_lone : NoneHolds (replicate 64 idle_seat)
@@ -83,7 +83,7 @@ IsLone w = NoneHolds w.seats
 abbrev AnyJob : Job → Type 0
 AnyJob j = Unit {0}
 
-lone_kept : IsKept IsLone AnyJob
+lone_kept : IsKeptByTurns IsLone AnyJob
 lone_kept = record {
   object = λ j is. tt;
   turn = λ j w new r may step lone. subst NoneHolds (sym (turn_seats j w new r step)) lone;

@@ -26,7 +26,7 @@ use Rattle.cb_world.specs.LocalSound.{LiesAt, LocalSound}
 use Rattle.cb_world.specs.OpenWrites.{AreOpen, IsClaimedNow, IsLeavingNow}
 use Rattle.cb_world.specs.Placed.{leaving_frames}
 use Rattle.cb_world.specs.Plain.{Words}
-use Rattle.cb_world.specs.Seats.{OpenWriteState, SeatState, all_pins_on, claims_of_seat, pins_on}
+use Rattle.cb_world.specs.Seats.{OpenWriteState, SeatState, all_pins_on, claims_of_seat, pins_among}
 use Rattle.cb_world.specs.Shown.{Fits, never, object_at}
 use Rattle.cb_world.specs.World.{ArePinned, IsKnown, word_at}
 use Rattle.cb_world.proofs.Laws.{one_slot}
@@ -136,7 +136,7 @@ module _ (s : Shown) (far : FarState) (frame : (h : ℕ) → HasFrame far h) whe
       omega (arith, both, one, more, all)
 
   pin_there : (f slot h : ℕ) (pins : List Pin) → resident far.spans f slot ≡ Some h
-      → 1 ≤ pins_on h pins → list_any (nat_eq f) (pin_frames pins) ≡ true
+      → 1 ≤ pins_among h pins → list_any (nat_eq f) (pin_frames pins) ≡ true
   pin_there f slot h [] r some = absurd (omega (arith, some))
   pin_there f slot h (pin ∷ pins) r some =
       by (pin_there f slot h pins r) (cases_eq pin.handle h)
@@ -144,7 +144,7 @@ module _ (s : Shown) (far : FarState) (frame : (h : ℕ) → HasFrame far h) whe
       here : ℕ → Bool
       here g = nat_eq f g
 
-      by : (1 ≤ pins_on h pins → list_any (nat_eq f) (pin_frames pins) ≡ true)
+      by : (1 ≤ pins_among h pins → list_any (nat_eq f) (pin_frames pins) ≡ true)
           → (pin.handle ≡ h) ⊎ (pin.handle ≢ h)
           → list_any (nat_eq f) (pin_frames (pin ∷ pins)) ≡ true
       by later (inl e) = or_left (here (frame pin.handle).0) (list_any (nat_eq f) (pin_frames pins))
@@ -159,17 +159,17 @@ module _ (s : Shown) (far : FarState) (frame : (h : ℕ) → HasFrame far h) whe
   seat_there f slot h [] r some = absurd (omega (arith, some))
   seat_there f slot h (seat ∷ seats) r some =
       list_any-append (nat_eq f) (pin_frames seat.pins) (seat_frames seats)
-      ∙ by (seat_there f slot h seats r) (cases_lt 0 (pins_on h seat.pins))
+      ∙ by (seat_there f slot h seats r) (cases_lt 0 (pins_among h seat.pins))
     where
       by : (1 ≤ all_pins_on h seats → list_any (nat_eq f) (seat_frames seats) ≡ true)
-          → (0 < pins_on h seat.pins) ⊎ (pins_on h seat.pins ≤ 0)
+          → (0 < pins_among h seat.pins) ⊎ (pins_among h seat.pins ≤ 0)
           → (list_any (nat_eq f) (pin_frames seat.pins) || list_any (nat_eq f) (seat_frames seats)) ≡ true
       by later (inl own) = or_left (list_any (nat_eq f) (pin_frames seat.pins))
           (list_any (nat_eq f) (seat_frames seats))
           (pin_there f slot h seat.pins r (omega (arith, own)))
       by later (inr none) = or_right (list_any (nat_eq f) (pin_frames seat.pins))
           (list_any (nat_eq f) (seat_frames seats))
-          (later (let all = sum_by-cons (λ (x : SeatState). pins_on h x.pins) seat seats in
+          (later (let all = sum_by-cons (λ (x : SeatState). pins_among h x.pins) seat seats in
           omega (arith, all, none, some)))
 
 -- ---- a span that is not loose

@@ -20,21 +20,22 @@ use Rattle.cb_core.specs.declared.event.Event.TheVariants.{Turn}
 use Rattle.cb_core.specs.Membership.{crashed, is_down}
 use Rattle.cb_core.specs.Step.{TurnStep, worn, done, held as other_holds, free}
 use Rattle.cb_core.proofs.Laws.{lead_rises, step_rises}
-use Rattle.cb_lanes.specs.GivingBack.{GivesAll, Rests, lines_of}
+use Rattle.cb_lanes.specs.GivingBack.{GivesAll, Rests, lines_by}
 use Rattle.cb_lanes.specs.LineGoes.{job_of}
 use Rattle.cb_lanes.specs.LineStep.{LinesLead, LineStep, ObjectStep, OtherStep, PeekStep, not_pinned, shown, PinLine, at_once, stays_far, swapped_in}
 use Rattle.cb_lanes.specs.declared.side.Side.{Side}
 use Rattle.cb_lanes.specs.Lost.{AreInOrder, loss_of, losses_of}
 use Rattle.cb_lanes.proofs.Recounting.{turn_beside}
 
-abbrev Rises : WorldState → WorldState → Type 0
-Rises w new = w.far.members.epoch ≤ new.far.members.epoch
+abbrev EpochRises : WorldState → WorldState → Type 0
+EpochRises w new = w.far.members.epoch ≤ new.far.members.epoch
 
 -- ---- a line
-stays : (w new : WorldState) → new ≡ w → Rises w new
+stays : (w new : WorldState) → new ≡ w → EpochRises w new
 stays w new same = let e = ap (λ (v : WorldState). v.far.members.epoch) same in omega (arith, e)
 
-pin_rises : (seat h : ℕ) (w new : WorldState) (r : Reply) → PinLine seat h w r new → Rises w new
+pin_rises : (seat h : ℕ) (w new : WorldState) (r : Reply) → PinLine seat h w r new
+    → EpochRises w new
 pin_rises seat h w new r (at_once e off) =
     step_rises w new (event.Step seat (atomic.Pin (record { n = h }))) r e
 pin_rises seat h w new r (stays_far away x off) =
@@ -44,12 +45,13 @@ pin_rises seat h w new r (swapped_in m q away x is z) =
     let two = step_rises m new (event.Step seat (atomic.Pin (record { n = h }))) r z in
     omega (arith, one, two)
 
-peek_rises : (seat h : ℕ) (w new : WorldState) (r : Reply) → PeekStep seat h w r new → Rises w new
+peek_rises : (seat h : ℕ) (w new : WorldState) (r : Reply) → PeekStep seat h w r new
+    → EpochRises w new
 peek_rises seat h w new r (not_pinned n e same) = stays w new same
 peek_rises seat h w new r (shown at x e same) = stays w new same
 
 object_rises : (side : Side) (seat : ℕ) (handle : Option ℕ) (request : Request) (w new : WorldState) (r : Reply)
-    → ObjectStep side seat handle request w r new → Rises w new
+    → ObjectStep side seat handle request w r new → EpochRises w new
 object_rises side seat None request w new r x = stays w new x.1
 object_rises side seat (Some h) (Pin name) w new r x = pin_rises seat h w new r x
 object_rises side seat (Some h) (Peek name) w new r x = peek_rises seat h w new r x
@@ -65,15 +67,16 @@ object_rises side seat (Some h) (Filter name) w new r x =
     step_rises w new (Turn seat (job.Filter (record { n = h }))) r x
 object_rises side seat (Some h) request w new r x = absurd x
 
-gives_rise : (seat : ℕ) (w new : WorldState) → GivesAll seat w new → Rises w new
+gives_rise : (seat : ℕ) (w new : WorldState) → GivesAll seat w new → EpochRises w new
 gives_rise seat w new x = lead_rises w new _ _ x
 
-rests_rise : (left seat : ℕ) (w new : WorldState) → Rests left seat w new → Rises w new
+rests_rise : (left seat : ℕ) (w new : WorldState) → Rests left seat w new → EpochRises w new
 rests_rise zero seat w new x = gives_rise seat w new x
 rests_rise (suc left) seat w new x = stays w new x
 
 other_rises : (side : Side) (seat : ℕ) (handle : Option ℕ) (request : Request) (o : Option Job)
-    (w new : WorldState) (r : Reply) → OtherStep side seat handle request o w r new → Rises w new
+    (w new : WorldState) (r : Reply) → OtherStep side seat handle request o w r new
+    → EpochRises w new
 other_rises side seat handle request (Some j) w new r x =
     let z = turn_beside j side seat w new r x in
     let rise = step_rises w z.mid (Turn seat j) r z.step in
@@ -81,7 +84,7 @@ other_rises side seat handle request (Some j) w new r x =
 other_rises side seat handle request None w new r x = object_rises side seat handle request w new r x
 
 line_rises : (side : Side) (seat : ℕ) (handle : Option ℕ) (request : Request) (w new : WorldState)
-    (r : Reply) → LineStep side seat handle request w r new → Rises w new
+    (r : Reply) → LineStep side seat handle request w r new → EpochRises w new
 line_rises side seat handle (Make name bytes) w new r x =
     step_rises w new (Turn seat (job.Make bytes)) r x
 line_rises side seat handle Leave w new r x = gives_rise seat w new x.1
@@ -150,7 +153,7 @@ losses_ascend side before [] w new x = (tt, tt)
 losses_ascend side before (a ∷ after) w new (between, rested, step, rests, rest) =
     let named = handle_named before (name_of a.request) in
     let line = line_rises side a.lane.n named a.request w between a.reply step in
-    let back = rests_rise (lines_of a.lane.n (map (λ (later : Answer). later.lane.n) after)) a.lane.n
+    let back = rests_rise (lines_by a.lane.n (map (λ (later : Answer). later.lane.n) after)) a.lane.n
     between rested rests in
     let more = losses_ascend side (before ++ a ∷ []) after rested new rest in
     one_more w.far.members.epoch rested.far.members.epoch (loss_of a.request a.reply) (losses_of after)

@@ -18,7 +18,7 @@ use Rattle.cb_mutate.specs.WriteRule.{NextVersion, WriteHere, WriteRule}
 use Rattle.cb_swapin.specs.SwapRule.{SwapRule}
 use Rattle.cb_swapin.proofs.Laws.{by_answer}
 use Rattle.cb_core.specs.Parts.{Holding, WhereItIs, at_once, no_room, won, near, declined, stays_far, brought}
-use Rattle.cb_core.specs.Turned.{Brings, Declines, IsDeclined, Turned, Writes, done, worn}
+use Rattle.cb_core.specs.Turned.{Brings, Declines, IsDeclined, Turned, WritesObject, done, worn}
 use Rattle.cb_rule.specs.declared.turn.Turn.{Turn}
 use Rattle.cb_rule.specs.declared.view.Look.{Look}
 use Rattle.cb_rule.specs.declared.view.View.{View}
@@ -29,7 +29,7 @@ use Rattle.cb_record.specs.Parts.{Part, grown}
 use Rattle.cb_record.proofs.Laws.{has_left, has_right}
 use Rattle.cb_shared.specs.declared.answers.WriteAnswer.{WriteAnswer}
 use Rattle.cb_shared.specs.declared.answers.WriteAnswer.TheVariants as place
-use Rattle.cb_shared.specs.Calls.{SaysAs, WriteAnswers, WriteEnds, WriteFinds, the_handle}
+use Rattle.cb_shared.specs.Calls.{SaysAs, WriteAnswers, WriteCallEnds, WriteFinds, the_handle}
 use Rattle.cb_shared.specs.Reading.{looked}
 use Rattle.cb_shared.specs.Turning.{DidAs, ReadsByPin, Slate, TurnAdds, held_by, slate_run, slate_shows}
 
@@ -138,7 +138,8 @@ module _ (h at : ℕ) (bytes : List ℕ) (r : Reply) (of_word : IsOfWord r) wher
       by state.Far is x = absurd (absent_none state.Far es x)
       by state.Moving is x = absurd (absent_none state.Moving es x)
 
-  write_in : (a b : Hold) → Writes slate_run slate_shows h at bytes a r b → FoundIn b.desk.acts
+  write_in : (a b : Hold) → WritesObject slate_run slate_shows h at bytes a r b
+      → FoundIn b.desk.acts
   write_in a b x = more_in a.desk.acts x.events b.desk.acts (ap (λ (s : Slate). s.acts) x.ran.0)
       (rule_in x.events x.rule.1)
 
@@ -172,7 +173,7 @@ module _ (h at : ℕ) (bytes : List ℕ) (r : Reply) (of_word : IsOfWord r) wher
       swap_none home.set home.position n.far b.far y.events y.rule
 
   -- ---- the turn
-  where_in : (c : Config) (a b : Hold) → WhereItIs (Writes slate_run slate_shows h at bytes)
+  where_in : (c : Config) (a b : Hold) → WhereItIs (WritesObject slate_run slate_shows h at bytes)
       (Declines slate_run slate_shows h at (length bytes)) (Brings slate_run slate_shows c h) a r b
       → FoundIn b.desk.acts
   where_in c a b (near x never) = write_in a b x
@@ -247,7 +248,7 @@ module _ (h at : ℕ) (bytes : List ℕ) (r : Reply) (of_word : IsOfWord r) wher
 
   ends_saw : (c : Config) (u : View) (d : Part) (m : View)
       → ((l : Look) → Has l d.looks → Has l m.looks) → ((t : Turn) → Has t d.turns → Has t m.turns)
-      → WriteEnds c h at bytes r u d → SawWord m
+      → WriteCallEnds c h at bytes r u d → SawWord m
   ends_saw c u d m looks turns (inl x) = place_saw u d m looks x.0 x.1 x.2
   ends_saw c u d m looks turns (inr x) =
       turn_saw c (grown (looked h x.word) u) x.later m x.turned.1

@@ -15,7 +15,7 @@ use Rattle.cb_record.proofs.Laws.{has_left}
 use Rattle.cb_shared.specs.declared.answers.WriteAnswer.{WriteAnswer}
 use Rattle.cb_shared.specs.declared.answers.WriteAnswer.TheVariants as place
 use Rattle.cb_shared.specs.declared.reading.ReadAnswer.TheVariants as found
-use Rattle.cb_shared.specs.Calls.{AtNone, AtThis, IsInVain, ReadGives, SaysAs, TurnGives, WriteAnswers, WriteEnds, WriteFinds, the_handle}
+use Rattle.cb_shared.specs.Calls.{AtNone, AtThis, IsInVain, ReadGives, SaysAs, TurnGives, WriteAnswers, WriteCallEnds, WriteFinds, the_handle}
 use Rattle.cb_shared.specs.Reading.{FindsGone, IsReadHere, looked}
 use Rattle.cb_shared.specs.Turning.{FindsAtLast, TurnAdds, turn_part, with_own}
 use Rattle.cb_lanes.specs.Passing.{IsPinnedOnce, PinGoes}
@@ -127,7 +127,7 @@ place_gone h at bytes v d place.Worn says x = absurd cc
 place_gone h at bytes v d a says x = absurd says
 
 write_ends : (c : Config) (h at : ℕ) (bytes : List ℕ) (v : View) (before last : Part)
-    → before.written ≡ [] → WriteEnds c h at bytes answer.Freed (grown before v) last
+    → before.written ≡ [] → WriteCallEnds c h at bytes answer.Freed (grown before v) last
     → (version : ℕ) × SawNewest h version v × Has (freed_seen h version) last.seen
 write_ends c h at bytes v before last none (inl x) =
     gone_saw h v before last none (place_gone h at bytes (grown before v) last x.0 x.1 x.2)

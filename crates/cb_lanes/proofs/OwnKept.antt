@@ -9,10 +9,10 @@ use Rattle.cb_rule.specs.declared.view.Seen.{Seen}
 use Rattle.cb_rule.specs.declared.view.View.{View}
 use Rattle.cb_rule.specs.Lists.{Has}
 use Rattle.cb_rule.specs.OwnStands.{WroteItself}
-use Rattle.cb_rule.specs.Promised.{GoesOn}
+use Rattle.cb_rule.specs.Promised.{EntryGoesOn}
 use Rattle.cb_record.proofs.Laws.{has_right}
 use Rattle.cb_shared.specs.Recalls.{Recalls}
-use Rattle.cb_lanes.specs.KeepsOwn.{AreInOrder, AreLong, AreRead, ComesBehind, KeepsOwn, last_in}
+use Rattle.cb_lanes.specs.KeepsOwn.{AreEntriesInOrder, AreLong, AreRead, ComesBehind, KeepsOwn, last_in}
 use Rattle.cb_lanes.proofs.OwnObjects.{handle_cases, last_has, last_hit, last_past, none_has, some_same}
 
 -- versions of these objects rise
@@ -98,7 +98,7 @@ module _ (w : View) (told : Recalls 1 w) (calm : w.fresh ≡ []) where
       below x there same next = older_behind later es e x rising (subst Mine (sym same) mine) (sym same)
           (subst (Has x) split (written_in x there)) (omega (arith, next))
 
-      by : (o : Option Entry) → last_in es e.handle ≡ o → GoesOn 1 (w ∷ []) e → ComesBehind o e
+      by : (o : Option Entry) → last_in es e.handle ≡ o → EntryGoesOn 1 (w ∷ []) e → ComesBehind o e
       by None is (inl begins) = begins.0
       by None is (inr (x, its, same, next, past, there, long)) =
           absurd (none_has es e.handle x is (below x its same next) same)
@@ -119,7 +119,7 @@ module _ (w : View) (told : Recalls 1 w) (calm : w.fresh ≡ []) where
           }
 
   order_own : (later es : List Entry) → w.written ≡ later ++ es → AreRising Mine (later ++ es)
-      → AreInOrder Mine es
+      → AreEntriesInOrder Mine es
   order_own later [] split rising = tt
   order_own later (e ∷ es) split rising = (
     comes_behind later es e split rising,

@@ -11,7 +11,7 @@ use Rattle.cb_types.specs.declared.request.Request.{Request}
 use Rattle.cb_types.specs.declared.request.Request.TheVariants.{Read, Write, Free, Pin, Peek, Unpin}
 use Rattle.cb_types.specs.Table.{IsReplyOf}
 use Rattle.cb_model.specs.declared.object.Object.TheVariants.{Held, Freed}
-use Rattle.cb_model.specs.Now.{Now, overwritten}
+use Rattle.cb_model.specs.Now.{MapNow, overwritten}
 use Rattle.cb_script.specs.declared.script.Line.{Line}
 use Rattle.cb_mutate.proofs.Laws.{write_bytes}
 use Rattle.cb_world.specs.declared.entry.Entry.{Entry}
@@ -35,7 +35,7 @@ use Rattle.cb_lanes.specs.Scopes.{named_on, newest_on, without_newest}
 use Rattle.cb_lanes.proofs.LineParts.{LineAdds, told_as}
 use Rattle.cb_lanes.proofs.OwnObjects.{last_hit}
 use Rattle.cb_lanes.proofs.OwnSays.{OwnAt, comes_next, free_one, free_reply, goes_own, peek_reply, pin_reply, pin_shows, read_reply, unpin_reply, write_one, write_reply}
-use Rattle.cb_lanes.proofs.OwnStands.{IsObject, PinsStand, ShowsLast, Stands, given_back, named_pins, newest_none, newest_some, scope_long}
+use Rattle.cb_lanes.proofs.OwnStands.{IsObject, LanePinsStand, LaneStands, ShowsLast, given_back, named_pins, newest_none, newest_some, scope_long}
 use Rattle.cb_lanes.proofs.OwnSteps.{Grew, OwnMore, call_pins, name_test, pinned_held, pins_still, stands_changed, stands_still}
 
 -- The record in the end: it has all that the record m has, and keeps what it has of its own objects.
@@ -61,7 +61,7 @@ no_entry v m t y none = let b = y.2.wrote in ap (λ (z : View). z.written) y.1
     ∙ ap (λ (l : List Entry). l ++ v.written) (b.2 ∙ (λ i. b.4 i ++ none b.0 b.3 i))
 
 -- ---- names
-nows_same : (p : List ℕ) (objects : List NamedNow) (now : Now) → now ≡ now_named p objects → (q : List ℕ)
+nows_same : (p : List ℕ) (objects : List NamedNow) (now : MapNow) → now ≡ now_named p objects → (q : List ℕ)
     → now_named q (record { name = p; now = now } ∷ objects) ≡ now_named q objects
 nows_same p objects now same q = by (name_test p q)
   where
@@ -73,7 +73,7 @@ nows_same p objects now same q = by (name_test p q)
 
 module _ (c : Config) (lines : List Line) (lane : ℕ) (named : Option (List ℕ) → Option ℕ)
     (later : List ℕ → Option ℕ) (state : LaneState) (v m all : View)
-    (z : Stands lines lane (λ q. named (Some q)) state v) (leads : LeadsTo m all) (grew : Grew v m) where
+    (z : LaneStands lines lane (λ q. named (Some q)) state v) (leads : LeadsTo m all) (grew : Grew v m) where
   abbrev handle : List ℕ → Option ℕ
   handle q = named (Some q)
 
@@ -81,13 +81,13 @@ module _ (c : Config) (lines : List Line) (lane : ℕ) (named : Option (List ℕ
   Same = (q : List ℕ) → later q ≡ handle q
 
   abbrev Later : LaneState → Type 0
-  Later new = Stands lines lane later new m
+  Later new = LaneStands lines lane later new m
 
   -- what a line on an own name comes to
   abbrev Comes : Request → Reply → Type 0
   Comes q r = AloneSays state q r × Later (alone_after state q r)
 
-  own_at : (h : ℕ) (now : Now) (t : Told) → LineAdds v m t → (o : IsObject h v now)
+  own_at : (h : ℕ) (now : MapNow) (t : Told) → LineAdds v m t → (o : IsObject h v now)
       → OwnAt (λ k. Has k all.own) h o.last v m all
   own_at h now t y o = record {
     is_mine = leads.own h (grew.own h o.own);
@@ -108,17 +108,17 @@ module _ (c : Config) (lines : List Line) (lane : ℕ) (named : Option (List ℕ
   -- no entry was written
   pub quiet : (new : LaneState) → Same
       → ((q : List ℕ) → now_named q new.objects ≡ now_named q state.objects) → m.written ≡ v.written
-      → PinsStand lines lane handle v.written new.scope m.pins → Later new
+      → LanePinsStand lines lane handle v.written new.scope m.pins → Later new
   quiet new same nows wrote pins = stands_still lines lane handle later state new v m grew same nows
       (λ q k own at. ap (λ (l : List Entry). last_in l k) wrote)
       (pins_still lines lane handle later v.written m.written new.scope m.pins same
       (λ q k own at. ap (λ (l : List Entry). last_in l k) wrote) pins) z
 
-  pub pins_kept : m.pins ≡ v.pins → PinsStand lines lane handle v.written state.scope m.pins
-  pins_kept same = subst (PinsStand lines lane handle v.written state.scope) (sym same) z.pins
+  pub pins_kept : m.pins ≡ v.pins → LanePinsStand lines lane handle v.written state.scope m.pins
+  pins_kept same = subst (LanePinsStand lines lane handle v.written state.scope) (sym same) z.pins
 
   -- a line on an own name that changes nothing
-  pub quiet_own : (p : List ℕ) (now : Now) → Same → now ≡ now_named p state.objects → m.written ≡ v.written
+  pub quiet_own : (p : List ℕ) (now : MapNow) → Same → now ≡ now_named p state.objects → m.written ≡ v.written
       → m.pins ≡ v.pins
       → Later (record { objects = record { name = p; now = now } ∷ state.objects; scope = state.scope })
   quiet_own p now same is wrote pins =
@@ -173,7 +173,7 @@ module _ (c : Config) (lines : List Line) (lane : ℕ) (named : Option (List ℕ
           last = e;
           is_last = ap (λ (l : List Entry). last_in l h) w.0.written ∙ last_hit e v.written h w.0.handle;
           long = λ _. omega (arith, long, same_len, sized, past);
-          is_now = ap (λ (i : Now). now_after i (Write p at_ bytes) (answer.Version n)) o.is_now
+          is_now = ap (λ (i : MapNow). now_after i (Write p at_ bytes) (answer.Version n)) o.is_now
               ∙ ap (λ (b : Bool). now_after (Some (if b then Freed o.last.version
               else Held o.last.version (bytes_in o.last.after o.last.len))) (Write p at_ bytes) (answer.Version n)) next.there
               ∙ (λ i. Some (Held (sym w.0.number i) (sym (written e w.2 fits (omega (arith, long, same_len, past))
@@ -212,7 +212,7 @@ module _ (c : Config) (lines : List Line) (lane : ℕ) (named : Option (List ℕ
         let next = comes_next (λ k. Has k all.own) h o.last v m all a n w.0 in
         stands_changed lines lane handle later state (alone_after state (Free p) (answer.Version n)) v m p h
         e (Some (Freed n)) grew same
-        (ap (λ (i : Now). record { objects = record { name = p; now = i } ∷ state.objects; scope = state.scope })
+        (ap (λ (i : MapNow). record { objects = record { name = p; now = i } ∷ state.objects; scope = state.scope })
         (gone n (now_named p state.objects))) own at w.0.written w.0.handle
         (call_pins c (job.Free (record { n = h })) (answer.Version n) v m x.0) (x.1 o.own) (record {
           own = grew.own h o.own;
@@ -223,7 +223,7 @@ module _ (c : Config) (lines : List Line) (lane : ℕ) (named : Option (List ℕ
               ∙ sym (ap (λ (b : Bool). Some (if b then Freed e.version else Held e.version (bytes_in e.after e.len))) w.1);
         }) z
       where
-        gone : (n : ℕ) (now : Now) → now_after now (Free p) (answer.Version n) ≡ Some (Freed n)
+        gone : (n : ℕ) (now : MapNow) → now_after now (Free p) (answer.Version n) ≡ Some (Freed n)
         gone n None = refl
         gone n (Some (Held a b)) = refl
         gone n (Some (Freed a)) = refl
@@ -261,7 +261,7 @@ module _ (c : Config) (lines : List Line) (lane : ℕ) (named : Option (List ℕ
             let y = pin_shows (λ k. Has k all.own) h o.last v m all (own_at h _ _ adds o) c n x in
             quiet (alone_after state (Pin p) (answer.Version n)) same
             (nows_same p state.objects (now_named p state.objects) refl) (wrote _ adds)
-            (subst (PinsStand lines lane handle v.written (record { name = p; version = n } ∷ state.scope))
+            (subst (LanePinsStand lines lane handle v.written (record { name = p; version = n } ∷ state.scope))
             (sym y.0.pins) (
               record {
                 own = own;
@@ -285,7 +285,7 @@ module _ (c : Config) (lines : List Line) (lane : ℕ) (named : Option (List ℕ
       peek_reply h o.last v m (newest_on p state.scope) r o.is_last
           (λ none. newest_none lines lane handle v.written p h at apart state.scope v.pins z.pins none)
           (λ q is. newest_some lines lane handle v.written p h at apart state.scope v.pins q z.pins is) x
-          ∙ ap (λ (i : Now). peek_alone i (newest_on p state.scope)) (sym o.is_now),
+          ∙ ap (λ (i : MapNow). peek_alone i (newest_on p state.scope)) (sym o.is_now),
       quiet_own p (now_after (now_named p state.objects) (Peek p) r) same (still r)
           (no_entry v m _ adds (λ es e. e)) (pins x),
     )
@@ -306,12 +306,12 @@ module _ (c : Config) (lines : List Line) (lane : ℕ) (named : Option (List ℕ
       unpin_reply h o.last v m (newest_on p state.scope) r
           (λ none. newest_none lines lane handle v.written p h at apart state.scope v.pins z.pins none)
           (λ some_one. (given some_one).0) x
-          ∙ ap (λ (i : Now). unpin_alone i (newest_on p state.scope)) (sym o.is_now),
+          ∙ ap (λ (i : MapNow). unpin_alone i (newest_on p state.scope)) (sym o.is_now),
       moves x,
     )
       where
         given : 1 ≤ pins_on h v → ((version : ℕ) × (newest_on p state.scope ≡ Some version))
-            × PinsStand lines lane handle v.written (without_newest p state.scope) (removed (pins_it h) v.pins)
+            × LanePinsStand lines lane handle v.written (without_newest p state.scope) (removed (pins_it h) v.pins)
         given some_one = given_back lines lane handle v.written p h at apart state.scope v.pins z.pins some_one
 
         wrote : m.written ≡ v.written
@@ -323,5 +323,5 @@ module _ (c : Config) (lines : List Line) (lane : ℕ) (named : Option (List ℕ
         moves (inr y) = subst (λ (q : Reply). Later (alone_after state (Unpin p) q)) (sym y.told)
             (quiet (alone_after state (Unpin p) answer.Done) same
             (nows_same p state.objects (now_named p state.objects) refl) wrote
-            (subst (PinsStand lines lane handle v.written (without_newest p state.scope))
+            (subst (LanePinsStand lines lane handle v.written (without_newest p state.scope))
             (sym (ap (λ (k : View). k.pins) y.left)) (given y.some).1))

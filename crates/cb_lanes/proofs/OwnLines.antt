@@ -13,7 +13,7 @@ use Rattle.cb_types.specs.Requests.{name_of}
 use Rattle.cb_types.specs.Table.{IsReplyOf}
 use Rattle.cb_model.specs.declared.object.Object.TheVariants.{Held}
 use Rattle.cb_model.specs.Called.{first_of, handle_made}
-use Rattle.cb_model.specs.Now.{Now}
+use Rattle.cb_model.specs.Now.{MapNow}
 use Rattle.cb_script.specs.declared.script.Line.{Line}
 use Rattle.cb_mutate.specs.WordsOf.{AreWordsOf}
 use Rattle.cb_world.specs.declared.entry.Entry.{Entry}
@@ -36,17 +36,17 @@ use Rattle.cb_lanes.proofs.OwnLine.{LeadsTo, pins_kept, quiet, quiet_own, own_fr
 use Rattle.cb_lanes.proofs.OwnMade.{made_first, made_fresh}
 use Rattle.cb_lanes.proofs.OwnObjects.{last_hit, last_past}
 use Rattle.cb_lanes.proofs.OwnSays.{goes_own}
-use Rattle.cb_lanes.proofs.OwnStands.{ObjectStands, PinsStand, Stands, none_shared}
+use Rattle.cb_lanes.proofs.OwnStands.{LanePinsStand, LaneStands, ObjectStands, none_shared}
 use Rattle.cb_lanes.proofs.OwnSteps.{Grew, call_pins, name_test, pins_still, stands_made, stands_still}
 use Rattle.cb_lanes.proofs.TellingNew.{ask_new}
 
 -- the request neither makes an object nor changes the scope
-abbrev pub IsPlain : Request → Type 0
-IsPlain (Make name bytes) = ⊥
-IsPlain (Pin name) = ⊥
-IsPlain (Unpin name) = ⊥
-IsPlain Leave = ⊥
-IsPlain q = Unit {0}
+abbrev pub KeepsScope : Request → Type 0
+KeepsScope (Make name bytes) = ⊥
+KeepsScope (Pin name) = ⊥
+KeepsScope (Unpin name) = ⊥
+KeepsScope Leave = ⊥
+KeepsScope q = Unit {0}
 
 -- one entry, of the object of this handle
 abbrev IsOneOf : Option ℕ → List Entry → Type 0
@@ -85,7 +85,7 @@ module _ (c : Config) (v m : View) (r : Reply) where
   peek_pins h (inl y) = ap (λ (k : View). k.pins) y.left
   peek_pins h (inr y) = ap (λ (k : View). k.pins) y.peeks.left
 
-  object_pins : (o : Option ℕ) (q : Request) → IsPlain q → ObjectGoes (goes_in c) o q v r m → m.pins ≡ v.pins
+  object_pins : (o : Option ℕ) (q : Request) → KeepsScope q → ObjectGoes (goes_in c) o q v r m → m.pins ≡ v.pins
   object_pins None q plain x = ap (λ (k : View). k.pins) x.1
   object_pins (Some h) (Read p) plain x = call_pins c (job.Read (record { n = h })) r v m x
   object_pins (Some h) (Write p at bytes) plain x = call_pins c (job.Write (record { n = h }) at bytes) r v m x
@@ -97,7 +97,7 @@ module _ (c : Config) (v m : View) (r : Reply) where
   object_pins (Some h) q plain x = absurd x
 
   -- such a line leaves the pins
-  plain_pins : (o : Option ℕ) (q : Request) → IsPlain q → LineGoes (goes_in c) o q v r m → m.pins ≡ v.pins
+  plain_pins : (o : Option ℕ) (q : Request) → KeepsScope q → LineGoes (goes_in c) o q v r m → m.pins ≡ v.pins
   plain_pins o (Make p bytes) plain x = absurd plain
   plain_pins o Leave plain x = absurd plain
   plain_pins o line.Evict plain x = call_pins c job.Evict r v m x
@@ -126,7 +126,7 @@ pub record IsLaneLine (lines : List Line) (lane : ℕ) (handle : List ℕ → Op
 
 module _ (c : Config) (lines : List Line) (lane : ℕ) (named : Option (List ℕ) → Option ℕ)
     (later : List ℕ → Option ℕ) (state : LaneState) (v m all : View)
-    (z : Stands lines lane (λ q. named (Some q)) state v) (leads : LeadsTo m all) (grew : Grew v m) where
+    (z : LaneStands lines lane (λ q. named (Some q)) state v) (leads : LeadsTo m all) (grew : Grew v m) where
   abbrev handle : List ℕ → Option ℕ
   handle q = named (Some q)
 
@@ -134,7 +134,7 @@ module _ (c : Config) (lines : List Line) (lane : ℕ) (named : Option (List ℕ
   Same = (q : List ℕ) → later q ≡ handle q
 
   abbrev Later : LaneState → Type 0
-  Later new = Stands lines lane later new m
+  Later new = LaneStands lines lane later new m
 
   -- what a line on an own name comes to
   abbrev Comes : Request → Reply → Type 0
@@ -220,7 +220,7 @@ module _ (c : Config) (lines : List Line) (lane : ℕ) (named : Option (List ℕ
           → ObjectGoes (goes_own c) o (Write p at_ bytes) v r m
           → LineAdds v m (told_as o (Write p at_ bytes) r) → IsReplyOf (Write p at_ bytes) r → Comes (Write p at_ bytes) r
       write_comes at_ bytes None at x adds line = (
-        x.0 ∙ ap (λ (i : Now). write_alone i (named_on p state.scope) at_ (length bytes)) (sym (stood None at)),
+        x.0 ∙ ap (λ (i : MapNow). write_alone i (named_on p state.scope) at_ (length bytes)) (sym (stood None at)),
         unmade_stands (Write p at_ bytes) p r refl same x,
       )
       write_comes at_ bytes (Some h) at x adds line =
@@ -230,7 +230,7 @@ module _ (c : Config) (lines : List Line) (lane : ℕ) (named : Option (List ℕ
       free_comes : (o : Option ℕ) → handle p ≡ o → ObjectGoes (goes_own c) o (Free p) v r m
           → LineAdds v m (told_as o (Free p) r) → IsReplyOf (Free p) r → Comes (Free p) r
       free_comes None at x adds line = (
-        x.0 ∙ ap (λ (i : Now). free_alone i (named_on p state.scope)) (sym (stood None at)),
+        x.0 ∙ ap (λ (i : MapNow). free_alone i (named_on p state.scope)) (sym (stood None at)),
         unmade_stands (Free p) p r refl same x,
       )
       free_comes (Some h) at x adds line =
@@ -240,7 +240,7 @@ module _ (c : Config) (lines : List Line) (lane : ℕ) (named : Option (List ℕ
       pin_comes : (o : Option ℕ) → handle p ≡ o → ObjectGoes (goes_own c) o (Pin p) v r m
           → LineAdds v m (told_as o (Pin p) r) → Comes (Pin p) r
       pin_comes None at x adds = (
-        x.0 ∙ ap (λ (i : Now). pin_alone i (length state.scope)) (sym (stood None at)),
+        x.0 ∙ ap (λ (i : MapNow). pin_alone i (length state.scope)) (sym (stood None at)),
         unmade_stands (Pin p) p r refl same x,
       )
       pin_comes (Some h) at x adds =
@@ -249,7 +249,7 @@ module _ (c : Config) (lines : List Line) (lane : ℕ) (named : Option (List ℕ
       peek_comes : (o : Option ℕ) → handle p ≡ o → ObjectGoes (goes_own c) o (Peek p) v r m
           → LineAdds v m (told_as o (Peek p) r) → Comes (Peek p) r
       peek_comes None at x adds = (
-        x.0 ∙ ap (λ (i : Now). peek_alone i (newest_on p state.scope)) (sym (stood None at)),
+        x.0 ∙ ap (λ (i : MapNow). peek_alone i (newest_on p state.scope)) (sym (stood None at)),
         unmade_stands (Peek p) p r refl same x,
       )
       peek_comes (Some h) at x adds =
@@ -258,7 +258,7 @@ module _ (c : Config) (lines : List Line) (lane : ℕ) (named : Option (List ℕ
       unpin_comes : (o : Option ℕ) → handle p ≡ o → ObjectGoes (goes_own c) o (Unpin p) v r m
           → LineAdds v m (told_as o (Unpin p) r) → Comes (Unpin p) r
       unpin_comes None at x adds = (
-        x.0 ∙ ap (λ (i : Now). unpin_alone i (newest_on p state.scope)) (sym (stood None at)),
+        x.0 ∙ ap (λ (i : MapNow). unpin_alone i (newest_on p state.scope)) (sym (stood None at)),
         unmade_stands (Unpin p) p r refl same x,
       )
       unpin_comes (Some h) at x adds =
@@ -276,7 +276,8 @@ module _ (c : Config) (lines : List Line) (lane : ℕ) (named : Option (List ℕ
       ap (λ (l : List Entry). last_in l k) (grew_by ∙ ap (λ (l : List Entry). l ++ v.written) one)
       ∙ last_past e v.written k (λ same. off q k own at (is ∙ ap (λ (i : ℕ). Some i) (sym on ∙ same)))
 
-  other_last : (q : Request) (r : Reply) (es : List Entry) → IsPlain q → m.written ≡ es ++ v.written
+  other_last : (q : Request) (r : Reply) (es : List Entry) → KeepsScope q
+      → m.written ≡ es ++ v.written
       → EntersAt (about (named (name_of q)) q r) q r es → is_maker_of lines lane (own_name q) ≡ false
       → (n : List ℕ) (k : ℕ) → is_maker lines lane n ≡ true → handle n ≡ Some k
       → last_in m.written k ≡ last_in v.written k
@@ -290,7 +291,7 @@ module _ (c : Config) (lines : List Line) (lane : ℕ) (named : Option (List ℕ
       (wrote ∙ ap (λ (l : List Entry). l ++ v.written) (enters_none (about (named (name_of q)) q r) q r es tt enters))
 
   -- no own object changes, nor does the scope
-  other_stands : (q : Request) (r : Reply) → IsPlain q → LineGoes (goes_in c) (named (name_of q)) q v r m
+  other_stands : (q : Request) (r : Reply) → KeepsScope q → LineGoes (goes_in c) (named (name_of q)) q v r m
       → LineAdds v m (told_as (about (named (name_of q)) q r) q r) → Same
       → is_maker_of lines lane (own_name q) ≡ false → Later state
   other_stands q r plain x adds same not =
@@ -300,7 +301,7 @@ module _ (c : Config) (lines : List Line) (lane : ℕ) (named : Option (List ℕ
       let last = other_last q r b.0 plain wrote b.3 not in
       stands_still lines lane handle later state state v m grew same (λ n. refl) last
       (pins_still lines lane handle later v.written m.written state.scope m.pins same last
-      (subst (PinsStand lines lane handle v.written state.scope)
+      (subst (LanePinsStand lines lane handle v.written state.scope)
       (sym (plain_pins c v m r (named (name_of q)) q plain x)) z.pins)) z
 
   -- an unpin of another lane's object finds no pin
@@ -328,19 +329,20 @@ module _ (c : Config) (lines : List Line) (lane : ℕ) (named : Option (List ℕ
       (quiet c lines lane named later state v m all z leads grew
       (alone_after state Leave (answer.Left (length v.pins))) same (λ n. refl)
       (ap (λ (k : View). k.written) x.1)
-      (subst (PinsStand lines lane handle v.written []) (sym (ap (λ (k : View). k.pins) x.1)) tt))
+      (subst (LanePinsStand lines lane handle v.written []) (sym (ap (λ (k : View). k.pins) x.1))
+      tt))
 
   -- ---- all of them
   -- what a line comes to, by whose it is
-  pub record StepsOn (q : Request) (r : Reply) : Type 0 where
+  pub record LineStepsOn (q : Request) (r : Reply) : Type 0 where
     pub own : is_maker_of lines lane (own_name q) ≡ true → is_lack r ≡ false → Comes q r
     pub leave : is_leave q ≡ true → Later (alone_after state q r)
     pub other : is_maker_of lines lane (own_name q) ≡ false → is_leave q ≡ false → Later state
 
-  plain_steps : (q : Request) (r : Reply) → IsPlain q → is_leave q ≡ false
+  plain_steps : (q : Request) (r : Reply) → KeepsScope q → is_leave q ≡ false
       → (is_maker_of lines lane (own_name q) ≡ true → is_lack r ≡ false → Comes q r)
       → LineGoes (goes_in c) (named (name_of q)) q v r m
-      → LineAdds v m (told_as (about (named (name_of q)) q r) q r) → Same → StepsOn q r
+      → LineAdds v m (told_as (about (named (name_of q)) q r) q r) → Same → LineStepsOn q r
   plain_steps q r plain stays own x adds same = record {
     own = own;
     leave = λ e. absurd (true≢false (sym e ∙ stays));
@@ -353,7 +355,7 @@ module _ (c : Config) (lines : List Line) (lane : ℕ) (named : Option (List ℕ
 
   pub line_steps : (q : Request) (r : Reply) → LineGoes (goes_own c) (named (name_of q)) q v r m
       → LineAdds v m (told_as (about (named (name_of q)) q r) q r) → IsLaneLine lines lane handle q r
-      → ((p : List ℕ) → later p ≡ first_of (handle_made p q r) (handle p)) → StepsOn q r
+      → ((p : List ℕ) → later p ≡ first_of (handle_made p q r) (handle p)) → LineStepsOn q r
   line_steps (Make p bytes) r x adds is more = record {
     own = λ own room. own_make p bytes r x adds is.line room (is.makes p bytes refl).1 more;
     leave = λ e. absurd (false≢true e);

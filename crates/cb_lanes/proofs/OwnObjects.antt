@@ -10,7 +10,7 @@ use Rattle.cb_rule.specs.Records.{seen_of}
 use Rattle.cb_rule.specs.Steps.{IsNewest}
 use Rattle.cb_rule.proofs.Laws.{each_has}
 use Rattle.cb_record.proofs.Laws.{has_right}
-use Rattle.cb_lanes.specs.KeepsOwn.{AreInOrder, AreRead, ComesBehind, ComesNext, last_in}
+use Rattle.cb_lanes.specs.KeepsOwn.{AreEntriesInOrder, AreRead, ComesBehind, EntryComesNext, last_in}
 
 -- one, where it is so
 abbrev pub one_if : Bool → ℕ
@@ -61,8 +61,8 @@ none_has (y ∷ es) h e none has same = by (none_has es h e) (handle_cases y h) 
     by later (inr off) (inr rest) = later (sym (last_past y es h off) ∙ none) rest same
 
 -- ---- in order
-pub order_front : (mine : ℕ → Type 0) (later es : List Entry) → AreInOrder mine (later ++ es)
-    → AreInOrder mine es
+pub order_front : (mine : ℕ → Type 0) (later es : List Entry) → AreEntriesInOrder mine (later ++ es)
+    → AreEntriesInOrder mine es
 order_front mine [] es all = all
 order_front mine (e ∷ later) es all = order_front mine later es all.1
 
@@ -72,12 +72,12 @@ begins (Some z) y n = let v = n.next in omega (arith, v)
 
 module _ (mine : ℕ → Type 0) (h : ℕ) (own : mine h) where
   -- each entry of the object is its last one, or of an older version
-  pub older : (es : List Entry) (x e : Entry) → AreInOrder mine es → last_in es h ≡ Some x → Has e es
+  pub older : (es : List Entry) (x e : Entry) → AreEntriesInOrder mine es → last_in es h ≡ Some x → Has e es
       → e.handle ≡ h → (e ≡ x) ⊎ (e.version < x.version)
   older [] x e all is has same = absurd has
   older (y ∷ es) x e all is has same = by (λ z. older es z e all.1) (handle_cases y h) has
     where
-      next : (z : Entry) → y.handle ≡ h → last_in es h ≡ Some z → ComesNext z y
+      next : (z : Entry) → y.handle ≡ h → last_in es h ≡ Some z → EntryComesNext z y
       next z at was = subst (λ (o : Option Entry). ComesBehind o y) (ap (last_in es) at ∙ was)
           (all.0 (subst mine (sym at) own))
 
@@ -87,7 +87,7 @@ module _ (mine : ℕ → Type 0) (h : ℕ) (own : mine h) where
       behind None was at rest later = absurd (none_has es h e was rest same)
       behind (Some z) was at rest later = below z (next z at was) (later z was rest same)
         where
-          below : (z : Entry) → ComesNext z y → (e ≡ z) ⊎ (e.version < z.version) → e.version < y.version
+          below : (z : Entry) → EntryComesNext z y → (e ≡ z) ⊎ (e.version < z.version) → e.version < y.version
           below z n (inl one) = let v = n.next in let w : e.version ≡ z.version = ap (λ (k : Entry). k.version) one in
               omega (arith, v, w)
           below z n (inr less) = let v = n.next in omega (arith, v, less)
@@ -101,7 +101,8 @@ module _ (mine : ℕ → Type 0) (h : ℕ) (own : mine h) where
       by later (inr off) (inr rest) = later x (sym (last_past y es h off) ∙ is) rest same
 
   -- an entry behind which the object has another one is above it
-  above_all : (y : Entry) (es : List Entry) (e : Entry) → AreInOrder mine (y ∷ es) → y.handle ≡ h
+  above_all : (y : Entry) (es : List Entry) (e : Entry) → AreEntriesInOrder mine (y ∷ es)
+      → y.handle ≡ h
       → Has e es → e.handle ≡ h → e.version < y.version
   above_all y es e all at rest same = by (last_in es h) refl
     where
@@ -110,13 +111,14 @@ module _ (mine : ℕ → Type 0) (h : ℕ) (own : mine h) where
       by (Some z) was = less (subst (λ (o : Option Entry). ComesBehind o y) (ap (last_in es) at ∙ was)
           (all.0 (subst mine (sym at) own))) (older es z e all.1 was rest same)
         where
-          less : ComesNext z y → (e ≡ z) ⊎ (e.version < z.version) → e.version < y.version
+          less : EntryComesNext z y → (e ≡ z) ⊎ (e.version < z.version) → e.version < y.version
           less n (inl one) = let v = n.next in let w : e.version ≡ z.version = ap (λ (k : Entry). k.version) one in
               omega (arith, v, w)
           less n (inr low) = let v = n.next in omega (arith, v, low)
 
   -- two entries of one version are the same
-  pub one_of_version : (es : List Entry) (e x : Entry) → AreInOrder mine es → Has e es → Has x es
+  pub one_of_version : (es : List Entry) (e x : Entry) → AreEntriesInOrder mine es → Has e es
+      → Has x es
       → e.handle ≡ h → x.handle ≡ h → e.version ≡ x.version → e ≡ x
   one_of_version [] e x all he hx eh xh same = absurd he
   one_of_version (y ∷ es) e x all (inl a) (inl b) eh xh same = sym a ∙ b
@@ -132,7 +134,7 @@ module _ (mine : ℕ → Type 0) (h : ℕ) (own : mine h) where
       one_of_version es e x all.1 a b eh xh same
 
   -- versions begin with 1
-  pub born : (es : List Entry) (e : Entry) → AreInOrder mine es → Has e es → e.handle ≡ h → 1 ≤ e.version
+  pub born : (es : List Entry) (e : Entry) → AreEntriesInOrder mine es → Has e es → e.handle ≡ h → 1 ≤ e.version
   born [] e all has same = absurd has
   born (y ∷ es) e all (inl is) same = subst (λ (z : Entry). 1 ≤ z.version) is
       (begins (last_in es y.handle) y
@@ -140,7 +142,8 @@ module _ (mine : ℕ → Type 0) (h : ℕ) (own : mine h) where
   born (y ∷ es) e all (inr has) same = born es e all.1 has same
 
   -- two entries that are not the freed one are as long
-  first_long : (y : Entry) (es : List Entry) (x : Entry) → AreInOrder mine (y ∷ es) → y.handle ≡ h
+  first_long : (y : Entry) (es : List Entry) (x : Entry) → AreEntriesInOrder mine (y ∷ es)
+      → y.handle ≡ h
       → y.freed ≡ false → Has x es → x.handle ≡ h
       → ((z : Entry) → Has z es → z.handle ≡ h → z.freed ≡ false → x.len ≡ z.len) → x.len ≡ y.len
   first_long y es x all at held has same rest = by (last_in es h) refl
@@ -152,7 +155,7 @@ module _ (mine : ℕ → Type 0) (h : ℕ) (own : mine h) where
           (all.0 (subst mine (sym at) own)) in
           let w = last_has es h z was in rest z w.0 w.1 n.there ∙ sym (n.same_len held)
 
-  pub one_length : (es : List Entry) (e x : Entry) → AreInOrder mine es → Has e es → Has x es
+  pub one_length : (es : List Entry) (e x : Entry) → AreEntriesInOrder mine es → Has e es → Has x es
       → e.handle ≡ h → x.handle ≡ h → e.freed ≡ false → x.freed ≡ false → e.len ≡ x.len
   one_length [] e x all he hx eh xh held kept = absurd he
   one_length (y ∷ es) e x all (inl a) (inl b) eh xh held kept = ap (λ (z : Entry). z.len) (sym a ∙ b)
@@ -170,7 +173,8 @@ module _ (mine : ℕ → Type 0) (h : ℕ) (own : mine h) where
 
   -- what was read at the version of the last entry is that entry
   pub read_is : (later es : List Entry) (seen : List Seen) (x : Entry) (s : Seen)
-      → AreInOrder mine (later ++ es) → AreRead mine (later ++ es) seen → last_in es h ≡ Some x
+      → AreEntriesInOrder mine (later ++ es) → AreRead mine (later ++ es) seen
+      → last_in es h ≡ Some x
       → Has s seen → s.handle ≡ h → s.version ≡ x.version → s ≡ seen_of x
   read_is later es seen x s all read is has same version =
       let z = read s has (subst mine (sym same) own) in
@@ -181,7 +185,8 @@ module _ (mine : ℕ → Type 0) (h : ℕ) (own : mine h) where
 
   -- the newest version is that of the last entry
   pub newest_is : (version : ℕ) (u : View) (x : Entry) → IsNewest h version u → u.fresh ≡ []
-      → Has h u.own → AreInOrder mine u.written → last_in u.written h ≡ Some x → version ≡ x.version
+      → Has h u.own → AreEntriesInOrder mine u.written → last_in u.written h ≡ Some x
+      → version ≡ x.version
   newest_is version u x newest fresh mine_own all is =
       let w = last_has u.written h x is in
       let low = each_has _ x u.written (subst (λ (l : List Entry).

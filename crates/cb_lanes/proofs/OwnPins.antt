@@ -11,14 +11,14 @@ use Rattle.cb_types.specs.declared.reply.Reply.{Reply}
 use Rattle.cb_types.specs.declared.reply.Reply.TheVariants as answer
 use Rattle.cb_types.specs.Requests.{name_of}
 use Rattle.cb_model.specs.declared.object.Object.TheVariants.{Held}
-use Rattle.cb_model.specs.Now.{Now as MapNow}
+use Rattle.cb_model.specs.Now.{MapNow}
 use Rattle.cb_model.specs.Called.{calls_of, handle_of, value, value_at}
 use Rattle.cb_script.specs.declared.script.Line.{Line}
 use Rattle.cb_script.specs.Form.{AreLines}
 use Rattle.cb_world.specs.Memory.{bytes_in}
 use Rattle.cb_world.specs.Now.{now}
 use Rattle.cb_world.specs.Now.Now.{held}
-use Rattle.cb_world.specs.Seats.{SeatState, idle_seat, pins_of_seat, pins_on}
+use Rattle.cb_world.specs.Seats.{SeatState, idle_seat, pins_among, pins_of_seat}
 use Rattle.cb_world.specs.StillWords.{contents_at, stamp_at}
 use Rattle.cb_world.specs.World.{WorldState, word_at}
 use Rattle.cb_world.proofs.Laws.{bits, near_now}
@@ -27,7 +27,7 @@ use Rattle.cb_mutate.proofs.Laws.{bytes_length}
 use Rattle.cb_core.specs.Step.{TurnStep}
 use Rattle.cb_core.proofs.Laws.{free_counts, free_unpinned, write_counts, write_fits, write_unpinned}
 use Rattle.cb_lanes.specs.Asked.{asked}
-use Rattle.cb_lanes.specs.GivingBack.{lines_of}
+use Rattle.cb_lanes.specs.GivingBack.{lines_by}
 use Rattle.cb_lanes.specs.LineStep.{LineStep}
 use Rattle.cb_lanes.specs.declared.side.Side.{Side}
 use Rattle.cb_lanes.specs.Alone.{is_maker}
@@ -45,22 +45,23 @@ module _ (nodes i : ℕ) (lines : List Line) (answers : List Answer) (w new : Wo
     (number : List ℕ → Option ℕ) (later : List ℕ) (own : ℕ) (name : List ℕ) (h : ℕ)
     (are : AreLines nodes [] lines) (so_far : map asked answers ≡ take i lines)
     (scopes : AreScopes number later answers w) (c : Turning answers w new)
-    (some : 1 ≤ own) (low : own < 16) (comes : 1 ≤ lines_of own later)
+    (some : 1 ≤ own) (low : own < 16) (comes : 1 ≤ lines_by own later)
     (maker : is_maker lines own name ≡ true) (at_name : number name ≡ Some h)
     (below : h < w.desk.settings.handles) where
   -- no other seat has a pin on it
-  none_else : (k : ℕ) → k ≢ own → pins_on h (pins_of_seat w.seats k) ≡ 0
-  none_else k off = by (cases_lt 0 (lines_of k later))
+  none_else : (k : ℕ) → k ≢ own → pins_among h (pins_of_seat w.seats k) ≡ 0
+  none_else k off = by (cases_lt 0 (lines_by k later))
     where
-      by : (0 < lines_of k later) ⊎ (lines_of k later ≤ 0) → pins_on h (pins_of_seat w.seats k) ≡ 0
+      by : (0 < lines_by k later) ⊎ (lines_by k later ≤ 0)
+          → pins_among h (pins_of_seat w.seats k) ≡ 0
       by (inl more) = sym (scope_count number scopes.apart name h at_name (scope_of k answers)
           (pins_of_seat w.seats k) (scopes.are k (omega (arith, more))))
           ∙ named_none nodes lines i own k name answers are so_far some off maker
-      by (inr none) = ap (pins_on h) (scopes.gone k (omega (arith, none)))
+      by (inr none) = ap (pins_among h) (scopes.gone k (omega (arith, none)))
 
   pub pins_are : pins_of (word_at w.desk h) ≡ named_on name (scope_of own answers)
   pins_are = c.before.pinned.counted h (within w h c.before below)
-      ∙ sum_one (λ (x : SeatState). pins_on h x.pins) w.seats own idle_seat
+      ∙ sum_one (λ (x : SeatState). pins_among h x.pins) w.seats own idle_seat
       (let n = c.before.pinned.count in omega (arith, low, n)) (λ k off lt. none_else k off)
       ∙ sym (scope_count number scopes.apart name h at_name (scope_of own answers)
       (pins_of_seat w.seats own) (scopes.are own comes))
@@ -125,7 +126,7 @@ module _ (side : Side) (nodes i : ℕ) (lines : List Line) (answers : List Answe
     (number : List ℕ → Option ℕ) (later : List ℕ) (own : ℕ)
     (are : AreLines nodes [] lines) (so_far : map asked answers ≡ take i lines)
     (scopes : AreScopes number later answers w) (c : Turning answers w new)
-    (some : 1 ≤ own) (low : own < 16) (comes : 1 ≤ lines_of own later)
+    (some : 1 ≤ own) (low : own < 16) (comes : 1 ≤ lines_by own later)
     (same : (name : List ℕ) → handle_of answers name ≡ number name)
     (ready : (name : List ℕ) (h : ℕ) → number name ≡ Some h → h < w.desk.settings.handles) where
   write_by : (name : List ℕ) (at : ℕ) (bytes : List ℕ) (r : Reply) → is_maker lines own name ≡ true

@@ -9,7 +9,7 @@ use Rattle.cb_types.specs.declared.request.Request.TheVariants.{Read, Write, Fre
 use Rattle.cb_types.specs.Table.{IsReplyOf}
 use Rattle.cb_model.specs.declared.object.Object.{Object}
 use Rattle.cb_model.specs.declared.object.Object.TheVariants.{Held, Freed}
-use Rattle.cb_model.specs.Now.{Now}
+use Rattle.cb_model.specs.Now.{MapNow}
 use Rattle.cb_ptr.specs.Word.{len_of}
 use Rattle.cb_mutate.proofs.Laws.{bytes_length}
 use Rattle.cb_world.specs.declared.entry.Entry.{Entry}
@@ -34,7 +34,7 @@ use Rattle.cb_shared.specs.declared.answers.WriteAnswer.TheVariants as place
 use Rattle.cb_shared.specs.Calls.{ReadGives, SaysAs, TurnGives, WriteAnswers, the_handle}
 use Rattle.cb_lanes.specs.Alone.{change_alone, free_alone, peek_alone, pin_alone, pin_object, read_alone, unpin_alone, write_alone}
 use Rattle.cb_lanes.specs.AloneUntil.{is_lack}
-use Rattle.cb_lanes.specs.KeepsOwn.{AreInOrder, AreLong, AreRead, ComesBehind, ComesNext, last_in}
+use Rattle.cb_lanes.specs.KeepsOwn.{AreEntriesInOrder, AreLong, AreRead, ComesBehind, EntryComesNext, last_in}
 use Rattle.cb_lanes.specs.LineGoes.{Ask, Calls, Goes}
 use Rattle.cb_lanes.specs.Passing.{HasNoPin, IsNewestPin, PeekGoes, PinGoes, UnpinGoes, goes_in}
 use Rattle.cb_lanes.proofs.AloneReplies.{changed_alone, full_pin, past_alone, pinned_alone, room_pin, within_alone}
@@ -73,7 +73,7 @@ pub record OwnAt (mine : ℕ → Type 0) (h : ℕ) (x : Entry) (v m all : View) 
   pub own : Has h v.own
   pub fresh : v.fresh ≡ []
   pub last : last_in v.written h ≡ Some x
-  pub order : AreInOrder mine all.written
+  pub order : AreEntriesInOrder mine all.written
   pub read : AreRead mine all.written all.seen
   pub more : List Entry
   pub adds : m.written ≡ more ++ v.written
@@ -96,12 +96,12 @@ pub record WritesOne (h version : ℕ) (v m : View) : Type 0 where
   pub number : entry_is.version ≡ version
 
 module _ (x : Entry) where
-  held_alone : (F : Now → Reply) → x.freed ≡ false
+  held_alone : (F : MapNow → Reply) → x.freed ≡ false
       → F (Some (object_of x)) ≡ F (Some (Held x.version (bytes_in x.after x.len)))
   held_alone F e = ap (λ (b : Bool). F (Some (cond b (Freed x.version)
       (Held x.version (bytes_in x.after x.len))))) e
 
-  freed_alone : (F : Now → Reply) → x.freed ≡ true → F (Some (object_of x)) ≡ F (Some (Freed x.version))
+  freed_alone : (F : MapNow → Reply) → x.freed ≡ true → F (Some (object_of x)) ≡ F (Some (Freed x.version))
   freed_alone F e = ap (λ (b : Bool). F (Some (cond b (Freed x.version)
       (Held x.version (bytes_in x.after x.len))))) e
 
@@ -110,13 +110,13 @@ module _ (mine : ℕ → Type 0) (h : ℕ) (x : Entry) (v m all : View) (at_ : O
   all_is = at_.grows ∙ ap (λ (l : List Entry). at_.rest ++ l) at_.adds
       ∙ sym (append_assoc at_.rest at_.more v.written)
 
-  order_all : AreInOrder mine ((at_.rest ++ at_.more) ++ v.written)
-  order_all = subst (AreInOrder mine) all_is at_.order
+  order_all : AreEntriesInOrder mine ((at_.rest ++ at_.more) ++ v.written)
+  order_all = subst (AreEntriesInOrder mine) all_is at_.order
 
   saw_version : (version : ℕ) → SawNewest h version v → version ≡ x.version
   saw_version version saw = newest_is mine h at_.is_mine version saw.at x saw.newest
       (saw.fresh ∙ at_.fresh) (saw.own h at_.own)
-      (subst (AreInOrder mine) (sym saw.written) (order_front mine (at_.rest ++ at_.more) v.written order_all))
+      (subst (AreEntriesInOrder mine) (sym saw.written) (order_front mine (at_.rest ++ at_.more) v.written order_all))
       (ap (λ (l : List Entry). last_in l h) saw.written ∙ at_.last)
 
   last_same : (len : ℕ) (z : HasLast h len v) → z.last ≡ x
@@ -150,11 +150,12 @@ module _ (mine : ℕ → Type 0) (h : ℕ) (x : Entry) (v m all : View) (at_ : O
       (saw_version z.version z.saw)))
 
   -- an entry that was written comes next
-  pub comes_next : (version : ℕ) → (w : WritesOne h version v m) → ComesNext x w.entry_is
+  pub comes_next : (version : ℕ) → (w : WritesOne h version v m) → EntryComesNext x w.entry_is
   comes_next version w = subst (λ (o : Option Entry). ComesBehind o w.entry_is)
       (ap (last_in v.written) w.handle ∙ at_.last)
-      ((subst (AreInOrder mine) w.written (order_front mine at_.rest m.written
-      (subst (AreInOrder mine) at_.grows at_.order))).0 (subst mine (sym w.handle) at_.is_mine))
+      ((subst (AreEntriesInOrder mine) w.written (order_front mine at_.rest m.written
+      (subst (AreEntriesInOrder mine) at_.grows at_.order))).0
+      (subst mine (sym w.handle) at_.is_mine))
 
   -- ---- a read
   bytes_read : (version : ℕ) (bytes : List ℕ) (d : Part) → ((s : Seen) → Has s d.seen → Has s m.seen)
@@ -251,7 +252,7 @@ module _ (mine : ℕ → Type 0) (h : ℕ) (x : Entry) (v m all : View) (at_ : O
       → r ≡ write_alone (Some (Held x.version (bytes_in x.after x.len))) pins at count
       → r ≡ write_alone (Some (object_of x)) pins at count
   write_held F at count pins r held is =
-      is ∙ sym (held_alone x (λ (o : Now). write_alone o pins at count) held)
+      is ∙ sym (held_alone x (λ (o : MapNow). write_alone o pins at count) held)
 
   pub write_reply : (c : Config) (name bytes : List ℕ) (at : ℕ) (r : Reply) → WriteAnswers c h at bytes r v m
       → WriteTells h v r → LineAdds v m (told_as (Some h) (Write name at bytes) r)
@@ -291,7 +292,7 @@ module _ (mine : ℕ → Type 0) (h : ℕ) (x : Entry) (v m all : View) (at_ : O
       (past_alone x.version (pins_on h v) (at + length bytes) len (bytes_in x.after x.len)
       (omega (arith, long, is, past)) (omega (arith, long, is)))
   write_reply c name bytes at answer.Freed y tells adds line pinned room =
-      sym (freed_alone x (λ (o : Now). write_alone o (pins_on h v) at (length bytes))
+      sym (freed_alone x (λ (o : MapNow). write_alone o (pins_on h v) at (length bytes))
       (freed_here (freed_write c h at bytes v m y)))
   write_reply c name bytes at answer.Unmade y tells adds line pinned room = absurd (unmade_write c at bytes y)
   write_reply c name bytes at answer.Moving y tells adds line pinned room = absurd (moving_write c at bytes y)
@@ -303,7 +304,7 @@ module _ (mine : ℕ → Type 0) (h : ℕ) (x : Entry) (v m all : View) (at_ : O
   -- ---- a free
   free_held : (pins : ℕ) (r : Reply) → x.freed ≡ false → r ≡ change_alone x.version pins
       → r ≡ free_alone (Some (object_of x)) pins
-  free_held pins r held is = is ∙ sym (held_alone x (λ (o : Now). free_alone o pins) held)
+  free_held pins r held is = is ∙ sym (held_alone x (λ (o : MapNow). free_alone o pins) held)
 
   pub free_reply : (c : Config) (name : List ℕ) (r : Reply) → TurnGives c (job.Free (the_handle h)) r v m
       → FreeTells h v r → LineAdds v m (told_as (Some h) (Free name) r)
@@ -319,7 +320,7 @@ module _ (mine : ℕ → Type 0) (h : ℕ) (x : Entry) (v m all : View) (at_ : O
       free_held (pins_on h v) (answer.Pinned count) (pinned (omega (arith, same, some_one)))
       (pinned_alone x.version count (pins_on h v) tells.0 tells.1)
   free_reply c name answer.Freed y tells adds line pinned room =
-      sym (freed_alone x (λ (o : Now). free_alone o (pins_on h v)) (freed_here (freed_free c h v m y)))
+      sym (freed_alone x (λ (o : MapNow). free_alone o (pins_on h v)) (freed_here (freed_free c h v m y)))
   free_reply c name answer.Unmade (d, y, is) tells adds line pinned room = absurd (neither y.ends_so.0)
   free_reply c name answer.Moving (d, y, is) tells adds line pinned room = absurd (neither y.ends_so.0)
   free_reply c name answer.Worn y tells adds line pinned room = absurd (true≢false room)
@@ -383,7 +384,7 @@ peek_reply h x v m newest r last none some_one (inr y) =
     let same : z.1.last ≡ x = some_same z.1.last x (sym z.1.is_last ∙ last) in
     let held : x.freed ≡ false = sym (ap (λ (e : Entry). e.freed) same) ∙ z.1.held in
     y.peeks.told ∙ ap (answer.Bytes y.pin.version) (z.1.bytes ∙ ap (λ (e : Entry). bytes_in e.after e.len) same)
-    ∙ sym (held_alone x (λ (o : Now). peek_alone o (Some y.pin.version)) held)
+    ∙ sym (held_alone x (λ (o : MapNow). peek_alone o (Some y.pin.version)) held)
     ∙ ap (peek_alone (Some (object_of x))) (sym z.0)
 
 pub unpin_reply : (h : ℕ) (x : Entry) (v m : View) (newest : Option ℕ) (r : Reply)

@@ -6,7 +6,7 @@ use Rattle.std.proofs.lemmas.List.Sums.{sum_by-cons}
 use Rattle.std.proofs.lemmas.Slice.Eq.{bytes_eq-Decides}
 use Rattle.cb_model.specs.declared.object.Object.{Object}
 use Rattle.cb_model.specs.declared.object.Object.TheVariants.{Held, Freed}
-use Rattle.cb_model.specs.Now.{Now}
+use Rattle.cb_model.specs.Now.{MapNow}
 use Rattle.cb_script.specs.declared.script.Line.{Line}
 use Rattle.cb_world.specs.declared.entry.Entry.{Entry}
 use Rattle.cb_world.specs.Memory.{bytes_in}
@@ -27,7 +27,7 @@ abbrev pub object_of : Entry → Object
 object_of e = cond e.freed (Freed e.version) (Held e.version (bytes_in e.after e.len))
 
 -- the map has what the object's last entry left, and the pass made the object
-pub record IsObject (h : ℕ) (v : View) (now : Now) : Type 0 where
+pub record IsObject (h : ℕ) (v : View) (now : MapNow) : Type 0 where
   pub own : Has h v.own
   pub last : Entry
   pub is_last : last_in v.written h ≡ Some last
@@ -35,7 +35,7 @@ pub record IsObject (h : ℕ) (v : View) (now : Now) : Type 0 where
   pub is_now : now ≡ Some (object_of last)
 
 -- nothing, where the name has no handle
-abbrev pub ObjectStands : Option ℕ → View → Now → Type 0
+abbrev pub ObjectStands : Option ℕ → View → MapNow → Type 0
 ObjectStands None v now = now ≡ None
 ObjectStands (Some h) v now = IsObject h v now
 
@@ -57,26 +57,26 @@ module _ (lines : List Line) (lane : ℕ) where
       pub shows : ShowsLast p.handle n.version es p
 
   -- so each pin
-  abbrev pub PinsStand : (List ℕ → Option ℕ) → List Entry → Scope → List Stand → Type 0
-  PinsStand handle es [] [] = Unit {0}
-  PinsStand handle es [] (p ∷ ps) = ⊥
-  PinsStand handle es (n ∷ scope) [] = ⊥
-  PinsStand handle es (n ∷ scope) (p ∷ ps) =
-      PinStands handle es n p × PinsStand handle es scope ps
+  abbrev pub LanePinsStand : (List ℕ → Option ℕ) → List Entry → Scope → List Stand → Type 0
+  LanePinsStand handle es [] [] = Unit {0}
+  LanePinsStand handle es [] (p ∷ ps) = ⊥
+  LanePinsStand handle es (n ∷ scope) [] = ⊥
+  LanePinsStand handle es (n ∷ scope) (p ∷ ps) =
+      PinStands handle es n p × LanePinsStand handle es scope ps
 
   -- what stands between two lines, where names have these handles
-  pub record Stands (handle : List ℕ → Option ℕ) (state : LaneState) (v : View) : Type 0 where
+  pub record LaneStands (handle : List ℕ → Option ℕ) (state : LaneState) (v : View) : Type 0 where
     pub fresh : v.fresh ≡ []
     pub knows : (q : List ℕ) (h : ℕ) → handle q ≡ Some h → Knows h v
     pub apart : (p q : List ℕ) (h : ℕ) → is_maker lines lane p ≡ true → handle p ≡ Some h
         → handle q ≡ Some h → p ≡ q
     pub objects : (p : List ℕ) → is_maker lines lane p ≡ true
         → ObjectStands (handle p) v (now_named p state.objects)
-    pub pins : PinsStand handle v.written state.scope v.pins
+    pub pins : LanePinsStand handle v.written state.scope v.pins
 
   -- ---- pins
   pub scope_long : (handle : List ℕ → Option ℕ) (es : List Entry) (scope : Scope) (ps : List Stand)
-      → PinsStand handle es scope ps → length scope ≡ length ps
+      → LanePinsStand handle es scope ps → length scope ≡ length ps
   scope_long handle es [] [] z = refl
   scope_long handle es [] (p ∷ ps) z = absurd z
   scope_long handle es (n ∷ scope) [] z = absurd z
@@ -85,7 +85,7 @@ module _ (lines : List Line) (lane : ℕ) where
 
   pub pins_map : (handle later : List ℕ → Option ℕ) (es new : List Entry) (scope : Scope) (ps : List Stand)
       → ((n : NamedPin) (p : Stand) → Has p ps → PinStands handle es n p → PinStands later new n p)
-      → PinsStand handle es scope ps → PinsStand later new scope ps
+      → LanePinsStand handle es scope ps → LanePinsStand later new scope ps
   pins_map handle later es new [] [] f z = tt
   pins_map handle later es new [] (p ∷ ps) f z = absurd z
   pins_map handle later es new (n ∷ scope) [] f z = absurd z
@@ -131,7 +131,7 @@ module _ (lines : List Line) (lane : ℕ) where
               (sym (apart n.name (z.handle_is ∙ ap (λ (k : ℕ). Some k) same)))) ∙ is),
         )
 
-    pub named_pins : (scope : Scope) (ps : List Stand) → PinsStand handle es scope ps
+    pub named_pins : (scope : Scope) (ps : List Stand) → LanePinsStand handle es scope ps
         → named_on p scope ≡ times (pins_it h) ps
     named_pins [] [] z = refl
     named_pins [] (q ∷ ps) z = absurd z
@@ -148,7 +148,7 @@ module _ (lines : List Line) (lane : ℕ) where
         by (inr e) rest = (λ i. (if e.0 i then 1 else 0) + rest i)
             ∙ ap (λ (b : Bool). cond b 1 0 + times (pins_it h) ps) (sym (ne_eqb q.handle h e.1))
 
-    pub newest_none : (scope : Scope) (ps : List Stand) → PinsStand handle es scope ps → HasNoPin h ps
+    pub newest_none : (scope : Scope) (ps : List Stand) → LanePinsStand handle es scope ps → HasNoPin h ps
         → newest_on p scope ≡ None
     newest_none [] [] z none = refl
     newest_none [] (q ∷ ps) z none = absurd z
@@ -161,7 +161,8 @@ module _ (lines : List Line) (lane : ℕ) where
         by (inr e) rest = ap (λ (b : Bool). if b then Some n.version else newest_on p scope) e.0 ∙ rest
 
     -- the newest pin on the object is the newest one on the name
-    pub newest_some : (scope : Scope) (ps : List Stand) (q : Stand) → PinsStand handle es scope ps
+    pub newest_some : (scope : Scope) (ps : List Stand) (q : Stand)
+        → LanePinsStand handle es scope ps
         → IsNewestPin h q ps → (newest_on p scope ≡ Some q.version) × ShowsLast h q.version es q
     newest_some scope [] q z is = absurd is
     newest_some [] (k ∷ ps) q z is = absurd z
@@ -195,9 +196,9 @@ module _ (lines : List Line) (lane : ℕ) where
             (ap (λ (b : Bool). if b then Some n.version else newest_on p scope) e.0 ∙ w.0, w.1)
 
     -- where the newest one is given back, the others stand, and there was one
-    pub given_back : (scope : Scope) (ps : List Stand) → PinsStand handle es scope ps → 0 < times (pins_it h) ps
+    pub given_back : (scope : Scope) (ps : List Stand) → LanePinsStand handle es scope ps → 0 < times (pins_it h) ps
         → ((version : ℕ) × (newest_on p scope ≡ Some version))
-        × PinsStand handle es (without_newest p scope) (removed (pins_it h) ps)
+        × LanePinsStand handle es (without_newest p scope) (removed (pins_it h) ps)
     given_back [] [] z some_one = absurd (omega (arith, some_one))
     given_back [] (q ∷ ps) z some_one = absurd z
     given_back (n ∷ scope) [] z some_one = absurd z
@@ -206,12 +207,12 @@ module _ (lines : List Line) (lane : ℕ) where
       where
         Goal : Bool → Bool → Type 0
         Goal a b = ((version : ℕ) × ((if a then Some n.version else newest_on p scope) ≡ Some version))
-            × PinsStand handle es (if a then scope else n ∷ without_newest p scope)
+            × LanePinsStand handle es (if a then scope else n ∷ without_newest p scope)
             (cond b ps (q ∷ removed (pins_it h) ps))
 
         by : ((bytes_eq n.name p ≡ true) × (q.handle ≡ h)) ⊎ ((bytes_eq n.name p ≡ false) × (q.handle ≢ h))
             → (0 < times (pins_it h) ps → ((version : ℕ) × (newest_on p scope ≡ Some version))
-            × PinsStand handle es (without_newest p scope) (removed (pins_it h) ps))
+            × LanePinsStand handle es (without_newest p scope) (removed (pins_it h) ps))
             → Goal (bytes_eq n.name p) (eqb q.handle h)
         by (inl e) rest = subst (λ (a : Bool). Goal a (eqb q.handle h)) (sym e.0)
             (subst (Goal true) (sym (eq-eqb q.handle h e.1)) ((n.version, refl), z.1))
@@ -224,7 +225,8 @@ module _ (lines : List Line) (lane : ℕ) where
   -- no pin is on an object that another lane made
   pub none_shared : (handle : List ℕ → Option ℕ) (es : List Entry) (s : List ℕ) (g : ℕ)
       → ((q : List ℕ) → is_maker lines lane q ≡ true → handle q ≡ Some g → ⊥)
-      → (scope : Scope) (ps : List Stand) → PinsStand handle es scope ps → times (pins_it g) ps ≡ 0
+      → (scope : Scope) (ps : List Stand) → LanePinsStand handle es scope ps
+      → times (pins_it g) ps ≡ 0
   none_shared handle es s g off [] [] z = refl
   none_shared handle es s g off [] (q ∷ ps) z = absurd z
   none_shared handle es s g off (n ∷ scope) [] z = absurd z

@@ -9,7 +9,7 @@ use Rattle.cb_types.specs.declared.job.Job.TheVariants as job
 use Rattle.cb_types.specs.declared.reply.Reply.{Reply}
 use Rattle.cb_types.specs.declared.reply.Reply.TheVariants as answer
 use Rattle.cb_types.specs.declared.request.Request.{Request}
-use Rattle.cb_model.specs.Now.{Now}
+use Rattle.cb_model.specs.Now.{MapNow}
 use Rattle.cb_script.specs.declared.script.Line.{Line}
 use Rattle.cb_world.specs.declared.entry.Entry.{Entry}
 use Rattle.cb_rule.specs.declared.view.Stand.{Stand}
@@ -19,7 +19,7 @@ use Rattle.cb_rule.specs.Seats.{pins_it, pins_on}
 use Rattle.cb_rule.specs.Steps.{Knows}
 use Rattle.cb_record.specs.Parts.{Part}
 use Rattle.cb_record.proofs.Laws.{has_right}
-use Rattle.cb_shared.specs.Turning.{made_by}
+use Rattle.cb_shared.specs.Turning.{made_by_turn}
 use Rattle.cb_lanes.specs.Alone.{LaneState, is_maker, now_named}
 use Rattle.cb_lanes.specs.KeepsOwn.{last_in}
 use Rattle.cb_lanes.specs.LineGoes.{Ask, Calls, Leaves, LineGoes, Peeks, Pins, Unpins}
@@ -28,7 +28,7 @@ use Rattle.cb_lanes.specs.Scopes.{Scope}
 use Rattle.cb_lanes.proofs.ByAsk.{by_ask}
 use Rattle.cb_lanes.proofs.LineParts.{Adds, adds_knows}
 use Rattle.cb_lanes.proofs.OwnObjects.{last_past, none_some_of, one_if, some_same}
-use Rattle.cb_lanes.proofs.OwnStands.{IsObject, ObjectStands, PinsStand, Stands, none_on, pin_still, pins_map}
+use Rattle.cb_lanes.proofs.OwnStands.{IsObject, LanePinsStand, LaneStands, ObjectStands, none_on, pin_still, pins_map}
 
 -- ---- own handles stay own, and a call leaves the pins
 abbrev pub OwnMore : View → View → Type 0
@@ -47,14 +47,14 @@ module _ (c : Config) where
 
   call_own : (j : Job) (r : Reply) (v m : View) → CallGives c j v r m → OwnMore v m
   call_own (job.Make bytes) r v m (d, x, is) k has = subst (λ (z : View). Has k z.own) (sym is)
-      (has_right k (made_by (job.Make bytes) (Some r)) v.own has)
+      (has_right k (made_by_turn (job.Make bytes) (Some r)) v.own has)
   call_own (job.Read handle) r v m (d, x, is) k has = subst (λ (z : View). Has k z.own) (sym is) has
   call_own (job.Write handle at bytes) r v m (d, x, is) k has =
       subst (λ (z : View). Has k z.own) (sym is) has
   call_own (job.Free handle) r v m (d, x, is) k has = subst (λ (z : View). Has k z.own) (sym is)
-      (has_right k (made_by (job.Free handle) (Some r)) v.own has)
+      (has_right k (made_by_turn (job.Free handle) (Some r)) v.own has)
   call_own j r v m (d, x, is) k has = subst (λ (z : View). Has k z.own) (sym is)
-      (has_right k (made_by j (Some r)) v.own has)
+      (has_right k (made_by_turn j (Some r)) v.own has)
 
   end_own : (h : ℕ) (r : Reply) (v m : View) → PinEnds c h r v m → OwnMore v m
   end_own h (answer.Version version) v m x k has = subst (λ (z : View). Has k z.own) (sym x.left) has
@@ -107,7 +107,7 @@ name_test a b = by (cases_Bool (bytes_eq a b))
     by (inr e) = inr (e, λ same. true≢false (sym ((bytes_eq-Decides a b).1 same) ∙ e))
 
 -- an object whose last entry stays
-object_still : (v m : View) (now : Now) → Grew v m → (o : Option ℕ)
+object_still : (v m : View) (now : MapNow) → Grew v m → (o : Option ℕ)
     → ((k : ℕ) → o ≡ Some k → last_in m.written k ≡ last_in v.written k)
     → ObjectStands o v now → ObjectStands o m now
 object_still v m now grew None still z = z
@@ -127,7 +127,7 @@ module _ (lines : List Line) (lane : ℕ) where
   pub pins_still : (handle later : List ℕ → Option ℕ) (es new : List Entry) (scope : Scope) (ps : List Stand)
       → ((q : List ℕ) → later q ≡ handle q)
       → ((q : List ℕ) (k : ℕ) → is_maker lines lane q ≡ true → handle q ≡ Some k → last_in new k ≡ last_in es k)
-      → PinsStand lines lane handle es scope ps → PinsStand lines lane later new scope ps
+      → LanePinsStand lines lane handle es scope ps → LanePinsStand lines lane later new scope ps
   pins_still handle later es new scope ps same still = pins_map lines lane handle later es new scope ps
       (λ n p has z. pin_still lines lane handle later es new n p (same n.name)
       (still n.name p.handle z.own z.handle_is) z)
@@ -138,8 +138,8 @@ module _ (lines : List Line) (lane : ℕ) where
       → ((q : List ℕ) → now_named q new.objects ≡ now_named q state.objects)
       → ((q : List ℕ) (k : ℕ) → is_maker lines lane q ≡ true → handle q ≡ Some k
       → last_in m.written k ≡ last_in v.written k)
-      → PinsStand lines lane later m.written new.scope m.pins
-      → Stands lines lane handle state v → Stands lines lane later new m
+      → LanePinsStand lines lane later m.written new.scope m.pins
+      → LaneStands lines lane handle state v → LaneStands lines lane later new m
   stands_still handle later state new v m grew same nows still pins z = record {
     fresh = grew.fresh ∙ z.fresh;
     knows = λ q h is. grew.knows h (z.knows q h (sym (same q) ∙ is));
@@ -153,18 +153,18 @@ module _ (lines : List Line) (lane : ℕ) where
 
   -- one own object, on which there are no pins, has a new last entry
   pub stands_changed : (handle later : List ℕ → Option ℕ) (state new : LaneState) (v m : View) (p : List ℕ) (h : ℕ)
-      (e : Entry) (now : Now) → Grew v m → ((q : List ℕ) → later q ≡ handle q)
+      (e : Entry) (now : MapNow) → Grew v m → ((q : List ℕ) → later q ≡ handle q)
       → new ≡ record { objects = record { name = p; now = now } ∷ state.objects; scope = state.scope }
       → is_maker lines lane p ≡ true → handle p ≡ Some h → m.written ≡ e ∷ v.written → e.handle ≡ h
       → m.pins ≡ v.pins → pins_on h v ≡ 0 → IsObject h m now
-      → Stands lines lane handle state v → Stands lines lane later new m
+      → LaneStands lines lane handle state v → LaneStands lines lane later new m
   stands_changed handle later state new v m p h e now grew same is own at wrote on pins bare object z = subst
-      (λ (s : LaneState). Stands lines lane later s m) (sym is) record {
+      (λ (s : LaneState). LaneStands lines lane later s m) (sym is) record {
         fresh = grew.fresh ∙ z.fresh;
         knows = λ q k named. grew.knows k (z.knows q k (sym (same q) ∙ named));
         apart = λ a b k mine x y. z.apart a b k mine (sym (same a) ∙ x) (sym (same b) ∙ y);
         objects = λ q mine. by q mine (name_test p q);
-        pins = subst (PinsStand lines lane later m.written state.scope) (sym pins)
+        pins = subst (LanePinsStand lines lane later m.written state.scope) (sym pins)
             (pins_map lines lane handle later v.written m.written state.scope v.pins
             (λ n k has y. pin_still lines lane handle later v.written m.written n k (same n.name)
             (past k.handle (λ eq. none_on h v.pins k bare has eq)) y) z.pins);
@@ -189,18 +189,18 @@ module _ (lines : List Line) (lane : ℕ) where
 
   -- an object is made
   pub stands_made : (handle later : List ℕ → Option ℕ) (state new : LaneState) (v m : View) (p : List ℕ) (h : ℕ)
-      (e : Entry) (now : Now) → Grew v m → ((q : List ℕ) → p ≢ q → later q ≡ handle q) → later p ≡ Some h
+      (e : Entry) (now : MapNow) → Grew v m → ((q : List ℕ) → p ≢ q → later q ≡ handle q) → later p ≡ Some h
       → new ≡ record { objects = record { name = p; now = now } ∷ state.objects; scope = state.scope }
       → handle p ≡ None → (Knows h v → ⊥) → m.written ≡ e ∷ v.written → e.handle ≡ h
       → m.pins ≡ v.pins → IsObject h m now
-      → Stands lines lane handle state v → Stands lines lane later new m
+      → LaneStands lines lane handle state v → LaneStands lines lane later new m
   stands_made handle later state new v m p h e now grew same made is none fresh wrote on pins object z = subst
-      (λ (s : LaneState). Stands lines lane later s m) (sym is) record {
+      (λ (s : LaneState). LaneStands lines lane later s m) (sym is) record {
         fresh = grew.fresh ∙ z.fresh;
         knows = λ q k named. known q k named (name_test p q);
         apart = λ a b k mine x y. alone a b k mine x y (name_test p a) (name_test p b);
         objects = λ q mine. by q mine (name_test p q);
-        pins = subst (PinsStand lines lane later m.written state.scope) (sym pins)
+        pins = subst (LanePinsStand lines lane later m.written state.scope) (sym pins)
             (pins_map lines lane handle later v.written m.written state.scope v.pins
             (λ n k has y. pin_still lines lane handle later v.written m.written n k
             (same n.name (λ eq. none_some_of k.handle (sym none ∙ ap handle eq ∙ y.handle_is)))
@@ -252,7 +252,7 @@ module _ (lines : List Line) (lane : ℕ) where
 
   -- an object with a pin on it was not freed
   pub pinned_held : (handle : List ℕ → Option ℕ) (es : List Entry) (h : ℕ) (x : Entry) → last_in es h ≡ Some x
-      → (scope : Scope) (ps : List Stand) → PinsStand lines lane handle es scope ps → 1 ≤ times (pins_it h) ps
+      → (scope : Scope) (ps : List Stand) → LanePinsStand lines lane handle es scope ps → 1 ≤ times (pins_it h) ps
       → x.freed ≡ false
   pinned_held handle es h x last [] [] z some_one = absurd (omega (arith, some_one))
   pinned_held handle es h x last [] (p ∷ ps) z some_one = absurd z

@@ -13,7 +13,7 @@ use Rattle.cb_rule.specs.Steps.{look_at}
 use Rattle.cb_record.specs.Parts.{Part, grown, nothing_more}
 use Rattle.cb_shared.specs.declared.answers.WriteAnswer.{WriteAnswer}
 use Rattle.cb_shared.specs.declared.answers.WriteAnswer.TheVariants as place
-use Rattle.cb_shared.specs.Calls.{IsInVain, SaysAs, WriteEnds, WriteFinds, the_handle}
+use Rattle.cb_shared.specs.Calls.{IsInVain, SaysAs, WriteCallEnds, WriteFinds, the_handle}
 use Rattle.cb_shared.specs.Turning.{TurnAdds}
 use Rattle.cb_lanes.specs.LineGoes.{Ask, Calls}
 use Rattle.cb_lanes.specs.Passing.{goes_in}
@@ -77,7 +77,7 @@ module _ (c : Config) where
   turn_tells (job.Free handle) r u d x = λ own. tt
   turn_tells j r u d x = tt
 
-  ends_tell : (h at : ℕ) (bytes : List ℕ) (r : Reply) (u : View) (d : Part) → WriteEnds c h at bytes r u d
+  ends_tell : (h at : ℕ) (bytes : List ℕ) (r : Reply) (u : View) (d : Part) → WriteCallEnds c h at bytes r u d
       → TellsOwn (Calls (job.Write (the_handle h) at bytes)) u r
   ends_tell h at bytes r u d (inl x) = here_tells h at bytes x.0 r u d x.1 x.2
   ends_tell h at bytes r u d (inr x) = still (Calls (job.Write (the_handle h) at bytes)) r u

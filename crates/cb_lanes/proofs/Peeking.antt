@@ -11,13 +11,13 @@ use Rattle.cb_rule.specs.Lists.{Has}
 use Rattle.cb_rule.specs.Steps.{IsNewest, with_peek}
 use Rattle.cb_shared.specs.declared.pass.Pin.{Pin}
 use Rattle.cb_shared.specs.Passes.{IsPinOf, stand_of}
-use Rattle.cb_shared.proofs.Laws.{IsFilled, IsPutInto, filled_all, filled_more}
+use Rattle.cb_shared.proofs.Laws.{AreBytesFilled, IsPutInto, filled_all, filled_more}
 use Rattle.cb_lanes.specs.Passing.{AreHeld, IsNewestAt, IsNewestPin, PeekGoes, PeeksAll, marks_of, peeks_of}
-use Rattle.cb_lanes.proofs.PinsHeld.{IsThere, found_at, newest_below, pin_there}
+use Rattle.cb_lanes.proofs.PinsHeld.{IsPinThere, found_at, newest_below, pin_there}
 
 -- the first words of a pin were peeked, and stand in the room
 pub record PeeksSome (p : Stand) (i : ℕ) (room : List ℕ) (v w : View) : Type 0 where
-  pub filled : IsFilled p.words i room
+  pub filled : AreBytesFilled p.words i room
   pub left : w ≡ record v { peeked = peeks_of p i ++ v.peeked }
 
 pub peeks_none : (p : Stand) (room : List ℕ) (v w : View) → w ≡ v → PeeksSome p 0 room v w
@@ -81,7 +81,7 @@ module _ (h at : ℕ) (d : Pin) (xs ps : List Pin) (o : Option ℕ) (v : View) (
   new : IsNewestAt h (marks_of ps) at
   new = found_at h at xs ps o is same some
 
-  there : IsThere h at (get_or xs at d) ps v.pins
+  there : IsPinThere h at (get_or xs at d) ps v.pins
   there = pin_there h at (get_or xs at d) ps v.pins held new
       (ap (λ (l : List Pin). get_or l at d) same
       ∙ same_there at ps d (get_or xs at d) (newest_below h at ps new))

@@ -9,7 +9,7 @@ use Rattle.std.proofs.lemmas.List.Sums.{sum_by-cons, sum_by_push}
 use Rattle.std.proofs.lemmas.Option.{slice_get_within}
 use Rattle.std.proofs.lemmas.Slice.Eq.{bytes_eq-Decides}
 use Rattle.cb_world.specs.declared.seats.Pin.{Pin}
-use Rattle.cb_world.specs.Seats.{IsNewest, NoneOn, pins_on}
+use Rattle.cb_world.specs.Seats.{IsNewestOf, NoneOn, pins_among}
 use Rattle.cb_lanes.specs.Scopes.{NamedPin, Scope, newest_on, without_newest, named_on}
 
 -- ---- the newest pin of a list with one pin more at its end
@@ -37,7 +37,7 @@ within_push xs p x i there = by (cases_lt i (length xs))
 
 -- a last pin on the object is its newest
 pub newest_last : (front : List Pin) (pin : Pin) (h at : ℕ) → pin.handle ≡ h
-    → (n : IsNewest (front ++ pin ∷ []) h at) → (at ≡ length front) × (n.pin ≡ pin)
+    → (n : IsNewestOf (front ++ pin ∷ []) h at) → (at ≡ length front) × (n.pin ≡ pin)
 newest_last front pin h at on n = by (within_push front pin n.pin at n.there)
   where
     by : (at < length front) ⊎ ((at ≡ length front) × (n.pin ≡ pin))
@@ -47,12 +47,12 @@ newest_last front pin h at on n = by (within_push front pin n.pin at n.there)
 
 -- and where the last pin is on another object, the newest is before it
 pub newest_before : (front : List Pin) (pin : Pin) (h at : ℕ) → pin.handle ≢ h
-    → (n : IsNewest (front ++ pin ∷ []) h at)
-    → (at < length front) × (m : IsNewest front h at) × (m.pin ≡ n.pin)
+    → (n : IsNewestOf (front ++ pin ∷ []) h at)
+    → (at < length front) × (m : IsNewestOf front h at) × (m.pin ≡ n.pin)
 newest_before front pin h at off n = by (within_push front pin n.pin at n.there)
   where
     by : (at < length front) ⊎ ((at ≡ length front) × (n.pin ≡ pin))
-        → (at < length front) × (m : IsNewest front h at) × (m.pin ≡ n.pin)
+        → (at < length front) × (m : IsNewestOf front h at) × (m.pin ≡ n.pin)
     by (inr e) = absurd (off (sym (ap (λ (p : Pin). p.handle) e.1) ∙ n.on))
     by (inl less) = (
       less,
@@ -105,11 +105,11 @@ name_cases a b = by (cases_Bool (bytes_eq a b))
     by (inr e) = inr (e, λ same. true≢false (sym ((bytes_eq-Decides a b).1 same) ∙ e))
 
 -- no two names have one handle
-abbrev pub AreApart : (List ℕ → Option ℕ) → Type 0
-AreApart number = (a b : List ℕ) (h : ℕ) → number a ≡ Some h → number b ≡ Some h → a ≡ b
+abbrev pub AreHandlesApart : (List ℕ → Option ℕ) → Type 0
+AreHandlesApart number = (a b : List ℕ) (h : ℕ) → number a ≡ Some h → number b ≡ Some h → a ≡ b
 
 -- a pin is on this name at this version
-pub record IsPinOf (number : List ℕ → Option ℕ) (named : NamedPin) (pin : Pin) : Type 0 where
+pub record IsPinOfName (number : List ℕ → Option ℕ) (named : NamedPin) (pin : Pin) : Type 0 where
   pub name : number named.name ≡ Some pin.handle
   pub version : pin.version ≡ named.version
 
@@ -117,7 +117,7 @@ pub record IsPinOf (number : List ℕ → Option ℕ) (named : NamedPin) (pin : 
 abbrev pub ArePinsOf : (List ℕ → Option ℕ) → Scope → List Pin → Type 0
 ArePinsOf number [] pins = pins ≡ []
 ArePinsOf number (named ∷ older) pins = (front : List Pin) × (pin : Pin)
-    × (pins ≡ front ++ pin ∷ []) × IsPinOf number named pin × ArePinsOf number older front
+    × (pins ≡ front ++ pin ∷ []) × IsPinOfName number named pin × ArePinsOf number older front
 
 pub pins_length : (number : List ℕ → Option ℕ) (scope : Scope) (pins : List Pin)
     → ArePinsOf number scope pins → length pins ≡ length scope
@@ -140,14 +140,14 @@ pins_kept number other (named ∷ older) pins kept (front, pin, e, is, rest) = (
 )
 
 -- whether a pin is on the name, and so on its object
-module _ (number : List ℕ → Option ℕ) (apart : AreApart number) (name : List ℕ) (h : ℕ)
+module _ (number : List ℕ → Option ℕ) (apart : AreHandlesApart number) (name : List ℕ) (h : ℕ)
     (at_name : number name ≡ Some h) where
-  same_handle : (named : NamedPin) (pin : Pin) → IsPinOf number named pin → named.name ≡ name
+  same_handle : (named : NamedPin) (pin : Pin) → IsPinOfName number named pin → named.name ≡ name
       → pin.handle ≡ h
   same_handle named pin is e =
       let both : Some pin.handle ≡ Some h = sym is.name ∙ ap number e ∙ at_name in cc
 
-  other_handle : (named : NamedPin) (pin : Pin) → IsPinOf number named pin → named.name ≢ name
+  other_handle : (named : NamedPin) (pin : Pin) → IsPinOfName number named pin → named.name ≢ name
       → pin.handle ≢ h
   other_handle named pin is off e =
       off (apart named.name name h (is.name ∙ ap Some e) at_name)
@@ -168,14 +168,14 @@ module _ (number : List ℕ → Option ℕ) (apart : AreApart number) (name : Li
           ap (λ (b : Bool). if b then Some named.version else newest_on name older) off.0 ∙ later
 
   pub scope_newest : (scope : Scope) (pins : List Pin) (at : ℕ) → ArePinsOf number scope pins
-      → (n : IsNewest pins h at) → newest_on name scope ≡ Some n.pin.version
+      → (n : IsNewestOf pins h at) → newest_on name scope ≡ Some n.pin.version
   scope_newest [] pins at are n =
       absurd (let there : slice_get [] at ≡ Some n.pin = subst
       (λ (ps : List Pin). slice_get ps at ≡ Some n.pin) are n.there in cc)
   scope_newest (named ∷ older) pins at (front, pin, e, is, rest) n =
       by (λ m. scope_newest older front at rest m) (name_cases named.name name)
     where
-      m : IsNewest (front ++ pin ∷ []) h at
+      m : IsNewestOf (front ++ pin ∷ []) h at
       m = record {
         pin = n.pin;
         there = ap (λ (ps : List Pin). slice_get ps at) (sym e) ∙ n.there;
@@ -184,7 +184,7 @@ module _ (number : List ℕ → Option ℕ) (apart : AreApart number) (name : Li
             (ap (λ (ps : List Pin). slice_get ps later) e ∙ there);
       }
 
-      by : ((before : IsNewest front h at) → newest_on name older ≡ Some before.pin.version)
+      by : ((before : IsNewestOf front h at) → newest_on name older ≡ Some before.pin.version)
           → ((bytes_eq named.name name ≡ true) × (named.name ≡ name))
           ⊎ ((bytes_eq named.name name ≡ false) × (named.name ≢ name))
           → newest_on name (named ∷ older) ≡ Some n.pin.version
@@ -199,17 +199,17 @@ module _ (number : List ℕ → Option ℕ) (apart : AreApart number) (name : Li
           ∙ ap (λ (p : Pin). Some p.version) before.2
 
   pub scope_without : (scope : Scope) (pins : List Pin) (at : ℕ) → ArePinsOf number scope pins
-      → IsNewest pins h at → ArePinsOf number (without_newest name scope) (remove pins at)
+      → IsNewestOf pins h at → ArePinsOf number (without_newest name scope) (remove pins at)
   scope_without [] pins at are n =
       absurd (let there : slice_get [] at ≡ Some n.pin = subst
       (λ (ps : List Pin). slice_get ps at ≡ Some n.pin) are n.there in cc)
   scope_without (named ∷ older) pins at (front, pin, e, is, rest) n =
       by (λ m. scope_without older front at rest m) (name_cases named.name name)
     where
-      m : IsNewest (front ++ pin ∷ []) h at
-      m = subst (λ (ps : List Pin). IsNewest ps h at) e n
+      m : IsNewestOf (front ++ pin ∷ []) h at
+      m = subst (λ (ps : List Pin). IsNewestOf ps h at) e n
 
-      by : (IsNewest front h at → ArePinsOf number (without_newest name older) (remove front at))
+      by : (IsNewestOf front h at → ArePinsOf number (without_newest name older) (remove front at))
           → ((bytes_eq named.name name ≡ true) × (named.name ≡ name))
           ⊎ ((bytes_eq named.name name ≡ false) × (named.name ≢ name))
           → ArePinsOf number (without_newest name (named ∷ older)) (remove pins at)
@@ -231,8 +231,8 @@ module _ (number : List ℕ → Option ℕ) (apart : AreApart number) (name : Li
           )
 
   pub scope_count : (scope : Scope) (pins : List Pin) → ArePinsOf number scope pins
-      → named_on name scope ≡ pins_on h pins
-  scope_count [] pins are = sym (ap (pins_on h) are)
+      → named_on name scope ≡ pins_among h pins
+  scope_count [] pins are = sym (ap (pins_among h) are)
   scope_count (named ∷ older) pins (front, pin, e, is, rest) =
       by (scope_count older front rest) (name_cases named.name name)
     where
@@ -242,17 +242,17 @@ module _ (number : List ℕ → Option ℕ) (apart : AreApart number) (name : Li
       pin_one : Pin → ℕ
       pin_one p = if nat_eq p.handle h then 1 else 0
 
-      whole : named_on name older ≡ pins_on h front → one named ≡ pin_one pin
-          → named_on name (named ∷ older) ≡ pins_on h pins
+      whole : named_on name older ≡ pins_among h front → one named ≡ pin_one pin
+          → named_on name (named ∷ older) ≡ pins_among h pins
       whole r same =
           let now = sum_by-cons (λ (p : NamedPin). if bytes_eq p.name name then 1 else 0) named older in
           let then_ = sum_by_push (λ (p : Pin). if nat_eq p.handle h then 1 else 0) front pin in
-          now ∙ omega (arith, same, r, then_) ∙ sym (ap (pins_on h) e)
+          now ∙ omega (arith, same, r, then_) ∙ sym (ap (pins_among h) e)
 
-      by : named_on name older ≡ pins_on h front
+      by : named_on name older ≡ pins_among h front
           → ((bytes_eq named.name name ≡ true) × (named.name ≡ name))
           ⊎ ((bytes_eq named.name name ≡ false) × (named.name ≢ name))
-          → named_on name (named ∷ older) ≡ pins_on h pins
+          → named_on name (named ∷ older) ≡ pins_among h pins
       by r (inl same) = whole r (ap (λ (b : Bool). if b then 1 else 0)
           (same.0 ∙ sym (eq-eqb pin.handle h (same_handle named pin is same.1))))
       by r (inr off) = whole r (ap (λ (b : Bool). if b then 1 else 0)

@@ -14,7 +14,7 @@ use Rattle.cb_types.specs.declared.reply.Reply.{Reply}
 use Rattle.cb_types.specs.declared.reply.Reply.TheVariants as answer
 use Rattle.cb_types.specs.Table.{IsReplyOf}
 use Rattle.cb_model.specs.declared.object.Object.TheVariants.{Held, Freed}
-use Rattle.cb_model.specs.Now.{Now as MapNow}
+use Rattle.cb_model.specs.Now.{MapNow}
 use Rattle.cb_model.specs.Event.{Event, event_of, change_of}
 use Rattle.cb_model.specs.Event.Subject.{Other}
 use Rattle.cb_model.specs.Event.Event.{Shows, Pins, Refused}
@@ -28,7 +28,7 @@ use Rattle.cb_world.specs.Memory.{bytes_in}
 use Rattle.cb_world.specs.Now.{Now, now}
 use Rattle.cb_world.specs.Now.Now.{never, freed, held, gone}
 use Rattle.cb_world.specs.Plain.{Words}
-use Rattle.cb_world.specs.Seats.{IsNewest, SeatState, idle_seat, pins_of_seat, pins_on}
+use Rattle.cb_world.specs.Seats.{IsNewestOf, SeatState, idle_seat, pins_among, pins_of_seat}
 use Rattle.cb_world.specs.StillWords.{stamp_at, contents_at}
 use Rattle.cb_world.specs.World.{WorldState, IsSoundWorld, word_at}
 use Rattle.cb_mutate.specs.MapCalls.{IsValue, IsMapCall, IsCallOn}
@@ -42,16 +42,16 @@ use Rattle.cb_core.proofs.Laws.{step_settings, turn_settings, swap_turn, turn_tu
 use Rattle.cb_lanes.specs.Asked.{answer_to, HasLineReply}
 use Rattle.cb_lanes.specs.GivingBack.{GivesAll}
 use Rattle.cb_lanes.specs.LineStep.{PeekStep, not_pinned, shown, IsInReply, PinLine, at_once, stays_far, swapped_in}
-use Rattle.cb_lanes.proofs.GivingBack.{Stands, pin_stands, unpin_stands, stands_same, gives_all, pinned_here, pin_below}
+use Rattle.cb_lanes.proofs.GivingBack.{StandsWithout, pin_stands, unpin_stands, stands_same, gives_all, pinned_here, pin_below}
 use Rattle.cb_lanes.proofs.Silent.{silent_follows}
 use Rattle.cb_lanes.proofs.Lone.{turn_alone, turn_seats}
-use Rattle.cb_lanes.proofs.Turning.{Around, Turning, around, within, Goes, call_goes}
+use Rattle.cb_lanes.proofs.Turning.{AroundLine, Turning, around, within, LineGives, call_goes}
 
 -- a world that changed in pins alone goes on by what it answers
-step_goes : (answers : List Answer) (a : Answer) (w new : WorldState) (h : ℕ) → (c : Around answers w new)
+step_goes : (answers : List Answer) (a : Answer) (w new : WorldState) (h : ℕ) → (c : AroundLine answers w new)
     → new.far ≡ w.far
     → IsCallOn w.desk.settings.handles c.before.shown c.then.shown w.far new.far h a.request a.reply
-    → handle_for answers a.request a.reply ≡ Some h → HasLineReply a → Goes answers a w new c.then.shown
+    → handle_for answers a.request a.reply ≡ Some h → HasLineReply a → LineGives answers a w new c.then.shown
 step_goes answers a w new h c far call about reply = record {
   follows = call_follows w.desk.settings.handles (calls_of answers) (called answers a) c.before.shown
       c.then.shown w.far new.far h a.request a.reply c.beside call (record { about = about; event = refl });
@@ -62,12 +62,12 @@ step_goes answers a w new h c far call about reply = record {
 
 -- so does one that is answered about an object, and changes nothing of what any holds
 kept_goes : (answers : List Answer) (a : Answer) (w new : WorldState) (h : ℕ) (e : Event)
-    → (c : Around answers w new) → new.far ≡ w.far
+    → (c : AroundLine answers w new) → new.far ≡ w.far
     → ((k : ℕ) → now c.then.shown new.far k ≡ now c.before.shown w.far k)
     → event_of a.request a.reply ≡ e → change_of e ≡ [] → made_by e ≡ 0
     → ((m : MapNow) → IsValue m (now c.before.shown w.far h)
     → MapReplies w.far.first w.desk.settings.handles w.far.made (Some h) m e)
-    → handle_for answers a.request a.reply ≡ Some h → HasLineReply a → Goes answers a w new c.then.shown
+    → handle_for answers a.request a.reply ≡ Some h → HasLineReply a → LineGives answers a w new c.then.shown
 kept_goes answers a w new h e c far same event silent none replies about reply =
     step_goes answers a w new h c far (record {
       own = subst (IsMapCall w.far.first w.desk.settings.handles w.far.made (Some h) a.request a.reply
@@ -107,9 +107,9 @@ shows_by v first handles made h bytes (Some (Freed u)) is = absurd is
 shows_by v first handles made h bytes (Some (Held u b)) is = is
 
 -- a line on an object that was made, which is refused and tells nothing of it
-refused_goes : (answers : List Answer) (a : Answer) (w new : WorldState) (h : ℕ) → (c : Around answers w new)
+refused_goes : (answers : List Answer) (a : Answer) (w new : WorldState) (h : ℕ) → (c : AroundLine answers w new)
     → h < w.far.made → new ≡ w → event_of a.request a.reply ≡ Refused Other
-    → handle_for answers a.request a.reply ≡ Some h → HasLineReply a → Goes answers a w new c.then.shown
+    → handle_for answers a.request a.reply ≡ Some h → HasLineReply a → LineGives answers a w new c.then.shown
 refused_goes answers a w new h c made same event about reply =
     kept_goes answers a w new h (Refused Other) c (ap (λ (v : WorldState). v.far) same)
     (λ k. (stands_same 0 w new c.before same).holds c.before.shown c.then.shown k c.before.known c.then.known)
@@ -132,9 +132,9 @@ not_crowded w h sound below none =
     omega (arith, all, low, high, counted, length-take 16 w.seats)
   where
     on : SeatState → ℕ
-    on x = pins_on h x.pins
+    on x = pins_among h x.pins
 
-    short : (pins : List SeatPin) → pins_on h pins ≤ length pins
+    short : (pins : List SeatPin) → pins_among h pins ≤ length pins
     short pins = count_by-le-length (λ (p : SeatPin). nat_eq p.handle h) pins
 
     few : (i : ℕ) → i < length (take 16 w.seats) → on (get_or (take 16 w.seats) i idle_seat) ≤ 16
@@ -150,7 +150,7 @@ not_crowded w h sound below none =
     rest : (i : ℕ) → i < length (drop 16 w.seats) → on (get_or (drop 16 w.seats) i idle_seat) ≤ 0
     rest i lt =
         subst (λ (x : SeatState). on x ≤ 0) (sym (get_or-drop 16 w.seats i idle_seat))
-        (subst (λ (ps : List SeatPin). pins_on h ps ≤ 0)
+        (subst (λ (ps : List SeatPin). pins_among h ps ≤ 0)
         (sym (none (16 + i) (omega arith))) (omega arith))
 
 on_pin : (name : List ℕ) → IsOnContents (Pin name)
@@ -182,12 +182,12 @@ refusal_as state.Here v pins = refl
 refusal_as state.Moving v pins = refl
 
 pin_here_goes : (answers : List Answer) (l : Line) (name : List ℕ) (h : ℕ) (r : Reply) (w new : WorldState)
-    → (c : Around answers w new) → l.lane.n < 64 → h < w.desk.settings.handles → h < w.far.made
+    → (c : AroundLine answers w new) → l.lane.n < 64 → h < w.desk.settings.handles → h < w.far.made
     → ((seat : ℕ) → 16 ≤ seat → pins_of_seat w.seats seat ≡ [])
     → handle_of answers name ≡ Some h → PinStep l.lane.n h w r new → (r ≡ answer.NotHere → ⊥)
-    → Goes answers (answer_to l (Pin name) r) w new c.then.shown
+    → LineGives answers (answer_to l (Pin name) r) w new c.then.shown
 pin_here_goes answers l name h r w new c lt below made few named (scope_full full is same) unless =
-    subst (λ (q : Reply). Goes answers (answer_to l (Pin name) q) w new c.then.shown) (sym is)
+    subst (λ (q : Reply). LineGives answers (answer_to l (Pin name) q) w new c.then.shown) (sym is)
     (refused_goes answers (answer_to l (Pin name) answer.ScopeFull) w new h c made same refl named tt)
 pin_here_goes answers l name h r w new c lt below made few named (refused room never_may is same) unless =
     let at = within w h c.before below in
@@ -208,7 +208,7 @@ pin_here_goes answers l name h r w new c lt below made few named (refused room n
     stays : (new.desk ≡ w.desk) × (new.far ≡ w.far)
     stays = (ap (λ (v : WorldState). v.desk) same, ap (λ (v : WorldState). v.far) same)
 pin_here_goes answers l name h r w new c lt below made few named (taken room may is t) unless =
-    subst (λ (q : Reply). Goes answers (answer_to l (Pin name) q) w new c.then.shown) (sym is)
+    subst (λ (q : Reply). LineGives answers (answer_to l (Pin name) q) w new c.then.shown) (sym is)
     (kept_goes answers (answer_to l (Pin name) (answer.Version (stamp_at w.desk h))) w new h
     (Pins (stamp_at w.desk h)) c t.far
     (λ k. (pin_stands w new l.lane.n h r c.before lt below (taken room may is t)).holds
@@ -282,7 +282,7 @@ swapped_here w n h seat q before after few below step is =
 stays_goes : (answers : List Answer) (l : Line) (name : List ℕ) (h : ℕ) (r : Reply) (w new : WorldState)
     → (c : Turning answers w new) → h < w.desk.settings.handles → handle_of answers name ≡ Some h
     → TurnStep (job.Swap (record { n = h })) w r new → (IsInReply r → ⊥)
-    → Goes answers (answer_to l (Pin name) r) w new c.then.shown
+    → LineGives answers (answer_to l (Pin name) r) w new c.then.shown
 stays_goes answers l name h r w new c below named step off =
     let j = job.Swap (record { n = h }) in
     let z = swap_turn w new h r c.before c.then c.few below step in
@@ -293,11 +293,11 @@ swapped_goes : (answers : List Answer) (l : Line) (name : List ℕ) (h : ℕ) (q
     (w n new : WorldState) → (c : Turning answers w new) → l.lane.n < 64 → h < w.desk.settings.handles
     → h < w.far.made → ((seat : ℕ) → 16 ≤ seat → pins_of_seat w.seats seat ≡ [])
     → handle_of answers name ≡ Some h → TurnStep (job.Swap (record { n = h })) w q n → IsInReply q
-    → PinStep l.lane.n h n r new → Goes answers (answer_to l (Pin name) r) w new c.then.shown
+    → PinStep l.lane.n h n r new → LineGives answers (answer_to l (Pin name) r) w new c.then.shown
 swapped_goes answers l name h q r w n new c lt below made few named swap is pin =
     let after = swap_sound w n h q c.before swap in
     let z = swapped_here w n h l.lane.n q c.before after c.few below swap is in
-    let d : Around answers n new = record {
+    let d : AroundLine answers n new = record {
       before = after;
       then = c.then;
       beside = beside_kept (calls_of answers) c.before.shown after.shown w.far n.far c.beside z.same.made
@@ -328,7 +328,7 @@ pub pin_goes : (answers : List Answer) (l : Line) (name : List ℕ) (h : ℕ) (r
     → (c : Turning answers w new) → l.lane.n < 64 → h < w.desk.settings.handles → h < w.far.made
     → ((seat : ℕ) → 16 ≤ seat → pins_of_seat w.seats seat ≡ [])
     → handle_of answers name ≡ Some h → PinLine l.lane.n h w r new
-    → Goes answers (answer_to l (Pin name) r) w new c.then.shown
+    → LineGives answers (answer_to l (Pin name) r) w new c.then.shown
 pin_goes answers l name h r w new c lt below made few named (at_once pin unless) =
     pin_here_goes answers l name h r w new (around answers w new c) lt below made few named pin unless
 pin_goes answers l name h r w new c lt below made few named (stays_far away swap off) =
@@ -353,7 +353,7 @@ pin_settings seat h w new r (swapped_in m q away swap is again) =
 
 -- a pin's version is that of the object
 pub pin_version : (w : WorldState) (seat at h : ℕ) → IsSoundWorld w → seat < 64
-    → (n : IsNewest (pins_of_seat w.seats seat) h at) → n.pin.version ≡ stamp_at w.desk h
+    → (n : IsNewestOf (pins_of_seat w.seats seat) h at) → n.pin.version ≡ stamp_at w.desk h
 pin_version w seat at h sound lt n =
     let pins = pins_of_seat w.seats seat in
     let all = All-get_or (λ (y : SeatPin). y.version ≡ get_or w.desk.versions y.handle 0) pins at n.pin
@@ -366,10 +366,11 @@ pin_version w seat at h sound lt n =
     ∙ ap (stamp_at w.desk) n.on
 
 pub peek_goes : (answers : List Answer) (l : Line) (name : List ℕ) (h : ℕ) (r : Reply) (w new : WorldState)
-    → (c : Around answers w new) → l.lane.n < 64 → h < w.far.made → handle_of answers name ≡ Some h
-    → PeekStep l.lane.n h w r new → Goes answers (answer_to l (Peek name) r) w new c.then.shown
+    → (c : AroundLine answers w new) → l.lane.n < 64 → h < w.far.made
+    → handle_of answers name ≡ Some h
+    → PeekStep l.lane.n h w r new → LineGives answers (answer_to l (Peek name) r) w new c.then.shown
 peek_goes answers l name h r w new c lt made named (not_pinned none is same) =
-    subst (λ (q : Reply). Goes answers (answer_to l (Peek name) q) w new c.then.shown) (sym is)
+    subst (λ (q : Reply). LineGives answers (answer_to l (Peek name) q) w new c.then.shown) (sym is)
     (refused_goes answers (answer_to l (Peek name) answer.NotPinned) w new h c made same refl named tt)
 peek_goes answers l name h r w new c lt made named (shown at newest is same) =
     let bytes = bytes_in (contents_at w.desk h) (len_of (word_at w.desk h)) in
@@ -377,7 +378,8 @@ peek_goes answers l name h r w new c lt made named (shown at newest is same) =
     is ∙ ap (λ (v : ℕ). answer.Bytes v bytes) (pin_version w l.lane.n at h c.before lt newest) in
     let here = pinned_here w l.lane.n at h c.before lt newest in
     let below = pin_below w l.lane.n at h c.before lt newest in
-    subst (λ (q : Reply). Goes answers (answer_to l (Peek name) q) w new c.then.shown) (sym own)
+    subst (λ (q : Reply). LineGives answers (answer_to l (Peek name) q) w new c.then.shown)
+    (sym own)
     (kept_goes answers (answer_to l (Peek name) (answer.Bytes (stamp_at w.desk h) bytes)) w new h
     (Shows (stamp_at w.desk h) bytes) c (ap (λ (v : WorldState). v.far) same)
     (λ k. (stands_same 0 w new c.before same).holds c.before.shown c.then.shown k c.before.known c.then.known)
@@ -389,14 +391,16 @@ peek_goes answers l name h r w new c lt made named (shown at newest is same) =
 -- ---- an unpin
 
 pub unpin_goes : (answers : List Answer) (l : Line) (name : List ℕ) (h : ℕ) (r : Reply) (w new : WorldState)
-    → (c : Around answers w new) → l.lane.n < 64 → h < w.desk.settings.handles → h < w.far.made
+    → (c : AroundLine answers w new) → l.lane.n < 64 → h < w.desk.settings.handles → h < w.far.made
     → handle_of answers name ≡ Some h → UnpinStep l.lane.n h w r new
-    → Goes answers (answer_to l (Unpin name) r) w new c.then.shown
+    → LineGives answers (answer_to l (Unpin name) r) w new c.then.shown
 unpin_goes answers l name h r w new c lt below made named (unpin_refused none is same) =
-    subst (λ (q : Reply). Goes answers (answer_to l (Unpin name) q) w new c.then.shown) (sym is)
+    subst (λ (q : Reply). LineGives answers (answer_to l (Unpin name) q) w new c.then.shown)
+    (sym is)
     (refused_goes answers (answer_to l (Unpin name) answer.NotPinned) w new h c made same refl named tt)
 unpin_goes answers l name h r w new c lt below made named (given is t) =
-    subst (λ (q : Reply). Goes answers (answer_to l (Unpin name) q) w new c.then.shown) (sym is)
+    subst (λ (q : Reply). LineGives answers (answer_to l (Unpin name) q) w new c.then.shown)
+    (sym is)
     (kept_goes answers (answer_to l (Unpin name) answer.Done) w new h (Refused Other) c t.far
     (λ k. (unpin_stands w new l.lane.n h r c.before lt below (given is t)).holds
     c.before.shown c.then.shown k c.before.known c.then.known)
@@ -407,10 +411,11 @@ unpin_goes answers l name h r w new c lt below made named (given is t) =
 -- ---- a leave
 
 pub leave_goes : (answers : List Answer) (l : Line) (n : ℕ) (r : Reply) (w new : WorldState)
-    → (c : Around answers w new) → l.lane.n < 64 → r ≡ answer.Left n → GivesAll l.lane.n w new
-    → Goes answers (answer_to l Leave r) w new c.then.shown
+    → (c : AroundLine answers w new) → l.lane.n < 64 → r ≡ answer.Left n → GivesAll l.lane.n w new
+    → LineGives answers (answer_to l Leave r) w new c.then.shown
 leave_goes answers l n r w new c lt is leads =
-    subst (λ (q : Reply). Goes answers (answer_to l Leave q) w new c.then.shown) (sym is) (record {
+    subst (λ (q : Reply). LineGives answers (answer_to l Leave q) w new c.then.shown) (sym is)
+    (record {
       follows = silent_follows w.desk.settings.handles (calls_of answers)
           (called answers (answer_to l Leave (answer.Left n))) c.then.shown w.far new.far
           (beside_kept (calls_of answers) c.before.shown c.then.shown w.far new.far c.beside
@@ -422,7 +427,7 @@ leave_goes answers l n r w new c lt is leads =
       turns = omega (arith, ap (λ (f : FarState). f.counts.turns) gave.far);
     })
   where
-    gave : Stands l.lane.n w new
+    gave : StandsWithout l.lane.n w new
     gave = (gives_all l.lane.n w new c.before lt leads).0
 
 -- ---- a name that has no handle

@@ -10,7 +10,7 @@ use Rattle.cb_rule.specs.Seats.{pins_it}
 use Rattle.cb_rule.specs.Steps.{stand}
 use Rattle.cb_shared.specs.declared.pass.Pin.{Pin}
 use Rattle.cb_shared.specs.Passes.{stand_of}
-use Rattle.cb_shared.specs.Pinning.{IsPinned}
+use Rattle.cb_shared.specs.Pinning.{IsPinnedHere}
 use Rattle.cb_lanes.specs.Passing.{AreHeld, HasNoMark, HasNoPin, IsNewestAt, IsNewestPin, IsNotPinned, Mark, mark_in, mark_of, marks_of}
 
 pub held_same : (ps : List Pin) (v w : View) → w.pins ≡ v.pins → AreHeld ps v → AreHeld ps w
@@ -21,7 +21,7 @@ held_count ps v held = sym (length-map ps mark_of) ∙ ap (λ (l : List Mark). l
     ∙ length-map v.pins mark_in
 
 -- one pin more
-pub held_more : (ps qs : List Pin) (h : ℕ) (p : Pin) (v w : View) → IsPinned h p v w
+pub held_more : (ps qs : List Pin) (h : ℕ) (p : Pin) (v w : View) → IsPinnedHere h p v w
     → qs ≡ p ∷ ps → AreHeld ps v → AreHeld qs w
 held_more ps qs h p v w x is held = ap marks_of is
     ∙ (λ i. record { handle = x.handle i; version = p.version; len = x.len i; place = x.place i } ∷ held i)
@@ -51,7 +51,7 @@ none_there h (m ∷ ms) (s ∷ ss) e none = (
 )
 
 -- what the place of the newest pin on an object tells of it
-pub record IsThere (h at : ℕ) (p : Pin) (ps : List Pin) (ss : List Stand) : Type 0 where
+pub record IsPinThere (h at : ℕ) (p : Pin) (ps : List Pin) (ss : List Stand) : Type 0 where
   pub words : List ℕ
   pub has : Has (stand_of p words) ss
   pub handle : p.handle.n ≡ h
@@ -60,8 +60,8 @@ pub record IsThere (h at : ℕ) (p : Pin) (ps : List Pin) (ss : List Stand) : Ty
   pub rest : marks_of (remove ps at) ≡ map mark_in (removed (pins_it h) ss)
 
 there_behind : (h at : ℕ) (p q : Pin) (ps : List Pin) (s : Stand) (ss : List Stand)
-    → marks_of (q ∷ ps) ≡ map mark_in (s ∷ ss) → (mark_of q).handle ≢ h → IsThere h at p ps ss
-    → IsThere h (suc at) p (q ∷ ps) (s ∷ ss)
+    → marks_of (q ∷ ps) ≡ map mark_in (s ∷ ss) → (mark_of q).handle ≢ h → IsPinThere h at p ps ss
+    → IsPinThere h (suc at) p (q ∷ ps) (s ∷ ss)
 there_behind h at p q ps s ss e not_it later = record {
   words = later.words;
   has = inr later.has;
@@ -82,7 +82,7 @@ there_behind h at p q ps s ss e not_it later = record {
 
 pub pin_there : (h at : ℕ) (p : Pin) (ps : List Pin) (ss : List Stand)
     → marks_of ps ≡ map mark_in ss → IsNewestAt h (marks_of ps) at → p ≡ get_or ps at p
-    → IsThere h at p ps ss
+    → IsPinThere h at p ps ss
 pin_there h at p [] ss e new is = absurd new
 pin_there h at p (q ∷ ps) [] e new is =
     absurd (let z : suc (length (marks_of ps)) ≡ 0 = ap length e in omega (arith, z))

@@ -11,7 +11,7 @@ use Rattle.cb_rule.specs.declared.view.Stand.{Stand}
 use Rattle.cb_rule.specs.declared.view.View.{View}
 use Rattle.cb_rule.specs.Lists.{Each, Has, removed}
 use Rattle.cb_rule.specs.Seats.{pins_it}
-use Rattle.cb_rule.specs.Steps.{with_freed, with_look, with_pin}
+use Rattle.cb_rule.specs.Steps.{with_freed_seen, with_look, with_pin}
 use Rattle.cb_record.specs.Parts.{Part, grown}
 use Rattle.cb_record.specs.Rises.{HasAllOf, HasVersion}
 use Rattle.cb_record.proofs.Laws.{has_right}
@@ -100,7 +100,7 @@ module _ (c : Config) where
         (λ s has. inr has) read,
   )
   end_pins h answer.Freed v w (word, version, empty, newest, is) read = subst PinsRead (sym is)
-      (pins_more v (with_freed h version word v) v.pins (λ s has. inr has) read)
+      (pins_more v (with_freed_seen h version word v) v.pins (λ s has. inr has) read)
   end_pins h answer.ScopeFull v w x read = absurd x
   end_pins h r v w x read = pins_grown v w x.0 v.own x.2 read
 

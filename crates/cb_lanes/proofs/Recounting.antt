@@ -9,7 +9,7 @@ use Rattle.cb_world.specs.World.{WorldState}
 use Rattle.cb_core.specs.declared.event.Event.TheVariants.{Turn}
 use Rattle.cb_core.specs.Step.{Step}
 use Rattle.cb_core.specs.Turned.{counted}
-use Rattle.cb_local.specs.LocalStep.{IsBeside}
+use Rattle.cb_local.specs.LocalStep.{IsBesideNodes}
 use Rattle.cb_lanes.specs.CompactsHere.{CompactsHere}
 use Rattle.cb_lanes.specs.LineStep.{CompactsAt, TurnAt}
 use Rattle.cb_lanes.specs.declared.side.Side.{Side}
@@ -42,7 +42,7 @@ here_recounts : (seat : ℕ) (w new : WorldState) (r : Reply) → (x : CompactsH
     → IsRecounted x.mid new
 here_recounts seat w new r x = by x.beside
   where
-    by : IsBeside (counted w.far job.Compact) x.mid.far new.far r → IsRecounted x.mid new
+    by : IsBesideNodes (counted w.far job.Compact) x.mid.far new.far r → IsRecounted x.mid new
     by (inl y) = record {
       desk = x.desk;
       seats = x.seats;
@@ -59,17 +59,17 @@ here_recounts seat w new r x = by x.beside
     }
 
 -- the core's turn, and the world beside the one to which it leads
-pub record StandsBeside (j : Job) (seat : ℕ) (w : WorldState) (r : Reply) (new : WorldState) : Type 0
+pub record StandsBesideTurn (j : Job) (seat : ℕ) (w : WorldState) (r : Reply) (new : WorldState) : Type 0
   where
     pub mid : WorldState
     pub step : Step w (Turn seat j) r mid
     pub counts : IsRecounted mid new
 
 pub turn_beside : (j : Job) (side : Side) (seat : ℕ) (w new : WorldState) (r : Reply)
-    → TurnAt j side seat w r new → StandsBeside j seat w r new
+    → TurnAt j side seat w r new → StandsBesideTurn j seat w r new
 turn_beside job.Compact side seat w new r x = by side x
   where
-    by : (which : Side) → CompactsAt which seat w r new → StandsBeside job.Compact seat w r new
+    by : (which : Side) → CompactsAt which seat w r new → StandsBesideTurn job.Compact seat w r new
     by parities.Nodes step = record { mid = new; step = step; counts = same_counts new }
     by parities.Compute x = record {
       mid = x.mid;

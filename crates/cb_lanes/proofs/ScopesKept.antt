@@ -13,22 +13,22 @@ use Rattle.cb_types.specs.declared.reply.Reply.TheVariants.{Made}
 use Rattle.cb_types.specs.Requests.{name_of}
 use Rattle.cb_model.specs.Called.{first_of, handle_of, handle_for, handle_made, handle_named}
 use Rattle.cb_model.specs.Event.{event_of}
-use Rattle.cb_model.specs.Now.{Now as MapNow}
+use Rattle.cb_model.specs.Now.{MapNow}
 use Rattle.cb_model.specs.Replies.{MapReplies}
 use Rattle.cb_script.specs.declared.script.Line.{Line}
-use Rattle.cb_script.specs.Form.{Makes, IsNew, IsKnown, AreLines}
+use Rattle.cb_script.specs.Form.{MakesName, IsNameNew, IsNameKnown, AreLines}
 use Rattle.cb_world.specs.Seats.{SeatState, idle_seat, pins_of_seat}
 use Rattle.cb_world.specs.World.{WorldState, IsSoundWorld}
 use Rattle.cb_lanes.specs.Asked.{asked}
-use Rattle.cb_lanes.specs.GivingBack.{Rests, lines_of}
+use Rattle.cb_lanes.specs.GivingBack.{Rests, lines_by}
 use Rattle.cb_lanes.specs.LineStep.{LineStep, LinesLead}
 use Rattle.cb_lanes.specs.LinesSoundly.{LinesLeadSoundly}
 use Rattle.cb_lanes.specs.declared.side.Side.{Side}
 use Rattle.cb_lanes.specs.LinesLeft.{AreLanes, AreLeft, lanes_of}
 use Rattle.cb_lanes.specs.Names.{Names, kept_number, number_after}
 use Rattle.cb_lanes.specs.Scopes.{Scope, scope_after, scope_more, scope_of, ScopeSays, KeepScopes}
-use Rattle.cb_lanes.proofs.GivingBack.{Stands, stands_same, gives_all}
-use Rattle.cb_lanes.proofs.PinLists.{AreApart, ArePinsOf, name_cases, pins_kept}
+use Rattle.cb_lanes.proofs.GivingBack.{StandsWithout, stands_same, gives_all}
+use Rattle.cb_lanes.proofs.PinLists.{AreHandlesApart, ArePinsOf, name_cases, pins_kept}
 use Rattle.cb_lanes.proofs.Scoping.{Scoped}
 
 -- ---- counts of lines
@@ -36,18 +36,18 @@ use Rattle.cb_lanes.proofs.Scoping.{Scoped}
 abbrev one_if : Bool → ℕ
 one_if b = cond b 1 0
 
-pub lines_own : (lane : ℕ) (later : List ℕ) → lines_of lane (lane ∷ later) ≡ 1 + lines_of lane later
+pub lines_own : (lane : ℕ) (later : List ℕ) → lines_by lane (lane ∷ later) ≡ 1 + lines_by lane later
 lines_own lane later = sum_by-cons (λ (x : ℕ). one_if (nat_eq lane x)) lane later
-    ∙ ap (λ (b : Bool). one_if b + lines_of lane later) (eq-eqb lane lane refl)
+    ∙ ap (λ (b : Bool). one_if b + lines_by lane later) (eq-eqb lane lane refl)
 
-pub lines_other : (k lane : ℕ) (later : List ℕ) → k ≢ lane → lines_of k (lane ∷ later) ≡ lines_of k later
+pub lines_other : (k lane : ℕ) (later : List ℕ) → k ≢ lane → lines_by k (lane ∷ later) ≡ lines_by k later
 lines_other k lane later off =
     let one = sum_by-cons (λ (x : ℕ). one_if (nat_eq k x)) lane later in
     let none : one_if (nat_eq k lane) ≡ 0 = ap one_if (ne_eqb k lane off) in
     omega (arith, one, none)
 
 -- without lines of the lanes from 16 on
-lines_low : (lanes : List ℕ) → AreLanes lanes → (k : ℕ) → 16 ≤ k → lines_of k lanes ≡ 0
+lines_low : (lanes : List ℕ) → AreLanes lanes → (k : ℕ) → 16 ≤ k → lines_by k lanes ≡ 0
 lines_low [] are k high = refl
 lines_low (x ∷ lanes) are k high =
     let low = are.0 in
@@ -57,7 +57,7 @@ lines_low (x ∷ lanes) are k high =
 
 -- the lane's pins are given back where it has no line to come, and stay where it has one
 pub record Rested (left seat : ℕ) (between rested : WorldState) : Type 0 where
-  pub stands : Stands seat between rested
+  pub stands : StandsWithout seat between rested
   pub gone : left ≡ 0 → pins_of_seat rested.seats seat ≡ []
   pub stay : 1 ≤ left → pins_of_seat rested.seats seat ≡ pins_of_seat between.seats seat
 
@@ -77,13 +77,14 @@ rests (suc left) seat between rested sound lt same = record {
 -- Each lane that has a line to come has the pins of its scope, and no other seat has a pin.
 pub record AreScopes (number : List ℕ → Option ℕ) (later : List ℕ) (answers : List Answer) (w : WorldState)
     : Type 0 where
-  pub apart : AreApart number
-  pub low : (k : ℕ) → 16 ≤ k → lines_of k later ≡ 0
-  pub are : (k : ℕ) → 1 ≤ lines_of k later
+  pub apart : AreHandlesApart number
+  pub low : (k : ℕ) → 16 ≤ k → lines_by k later ≡ 0
+  pub are : (k : ℕ) → 1 ≤ lines_by k later
       → ArePinsOf number (scope_of k answers) (pins_of_seat w.seats k)
-  pub gone : (k : ℕ) → lines_of k later ≡ 0 → pins_of_seat w.seats k ≡ []
+  pub gone : (k : ℕ) → lines_by k later ≡ 0 → pins_of_seat w.seats k ≡ []
 
-pub scopes_none : (number : List ℕ → Option ℕ) (later : List ℕ) (w : WorldState) → AreApart number
+pub scopes_none : (number : List ℕ → Option ℕ) (later : List ℕ) (w : WorldState)
+    → AreHandlesApart number
     → AreLanes later → w.seats ≡ replicate 64 idle_seat → AreScopes number later [] w
 scopes_none number later w apart lanes idle = record {
   apart = apart;
@@ -104,8 +105,8 @@ pub scopes_push : (number other : List ℕ → Option ℕ) (later : List ℕ) (a
     (handle : Option ℕ) (w between new : WorldState)
     → AreScopes number (a.lane.n ∷ later) answers w
     → Scoped number handle (scope_of a.lane.n answers) a.request a.reply a.lane.n w between
-    → ((q : List ℕ) (h : ℕ) → number q ≡ Some h → other q ≡ Some h) → AreApart other
-    → Rested (lines_of a.lane.n later) a.lane.n between new
+    → ((q : List ℕ) (h : ℕ) → number q ≡ Some h → other q ≡ Some h) → AreHandlesApart other
+    → Rested (lines_by a.lane.n later) a.lane.n between new
     → AreScopes other later (answers ++ a ∷ []) new
 scopes_push number other later answers a handle w between new scopes line kept apart rested = record {
   apart = apart;
@@ -132,19 +133,19 @@ scopes_push number other later answers a handle w between new scopes line kept a
     same_pins : (k : ℕ) → k ≢ lane → pins_of_seat new.seats k ≡ pins_of_seat w.seats k
     same_pins k off = rested.stands.others k off ∙ line.others k off
 
-    low : (k : ℕ) → 16 ≤ k → Dec (k ≡ lane) → lines_of k later ≡ 0
+    low : (k : ℕ) → 16 ≤ k → Dec (k ≡ lane) → lines_by k later ≡ 0
     low k high (yes e) = absurd (let n = scopes.low k high in
-        let one : lines_of k (lane ∷ later) ≡ 1 + lines_of k later =
-        subst (λ (j : ℕ). lines_of j (lane ∷ later) ≡ 1 + lines_of j later) (sym e) (lines_own lane later) in
+        let one : lines_by k (lane ∷ later) ≡ 1 + lines_by k later =
+        subst (λ (j : ℕ). lines_by j (lane ∷ later) ≡ 1 + lines_by j later) (sym e) (lines_own lane later) in
         omega (arith, n, one))
     low k high (no off) = sym (lines_other k lane later off) ∙ scopes.low k high
 
-    are : (k : ℕ) → 1 ≤ lines_of k later → Dec (k ≡ lane)
+    are : (k : ℕ) → 1 ≤ lines_by k later → Dec (k ≡ lane)
         → ArePinsOf other (scope_of k (answers ++ a ∷ [])) (pins_of_seat new.seats k)
     are k some (yes e) = subst (λ (j : ℕ). ArePinsOf other (scope_of j (answers ++ a ∷ []))
         (pins_of_seat new.seats j)) (sym e)
         (subst (λ (s : Scope). ArePinsOf other s (pins_of_seat new.seats lane)) (sym own_more)
-        (rw (rested.stay (subst (λ (j : ℕ). 1 ≤ lines_of j later) e some))
+        (rw (rested.stay (subst (λ (j : ℕ). 1 ≤ lines_by j later) e some))
         (pins_kept number other (scope_after (scope_of lane answers) a.request a.reply)
         (pins_of_seat between.seats lane) kept line.pins)))
     are k some (no off) =
@@ -153,9 +154,9 @@ scopes_push number other later answers a handle w between new scopes line kept a
         (pins_kept number other (scope_of k answers) (pins_of_seat w.seats k) kept
         (scopes.are k (let n = lines_other k lane later off in omega (arith, n, some)))))
 
-    gone : (k : ℕ) → lines_of k later ≡ 0 → Dec (k ≡ lane) → pins_of_seat new.seats k ≡ []
+    gone : (k : ℕ) → lines_by k later ≡ 0 → Dec (k ≡ lane) → pins_of_seat new.seats k ≡ []
     gone k zero_ (yes e) = ap (pins_of_seat new.seats) e
-        ∙ rested.gone (ap (λ (j : ℕ). lines_of j later) (sym e) ∙ zero_)
+        ∙ rested.gone (ap (λ (j : ℕ). lines_by j later) (sym e) ∙ zero_)
     gone k zero_ (no off) = same_pins k off
         ∙ scopes.gone k (lines_other k lane later off ∙ zero_)
 
@@ -189,14 +190,14 @@ abbrev pub LeadsOn : Side → List ℕ → List Answer → WorldState → List A
 LeadsOn side later before w [] new = new ≡ w
 LeadsOn side later before w (a ∷ after) new = (between : WorldState) × (rested : WorldState)
     × LineStep side a.lane.n (handle_named before (name_of a.request)) a.request w a.reply between
-    × Rests (lines_of a.lane.n (answered_lanes after ++ later)) a.lane.n between rested
+    × Rests (lines_by a.lane.n (answered_lanes after ++ later)) a.lane.n between rested
     × IsSoundWorld rested × LeadsOn side later (before ++ a ∷ []) rested after new
 
 pub leads_push : (side : Side) (later : List ℕ) (before after : List Answer)
     (w mid between new : WorldState) (a : Answer)
     → LeadsOn side (a.lane.n ∷ later) before w after mid
     → LineStep side a.lane.n (handle_named (before ++ after) (name_of a.request)) a.request mid a.reply between
-    → Rests (lines_of a.lane.n later) a.lane.n between new → IsSoundWorld new
+    → Rests (lines_by a.lane.n later) a.lane.n between new → IsSoundWorld new
     → LeadsOn side later before w (after ++ a ∷ []) new
 leads_push side later before [] w mid between new a leads step rest sound = (
   between,
@@ -214,7 +215,7 @@ leads_push side later before (b ∷ after) w mid between new a leads step rest s
   leads.0,
   leads.1,
   leads.2,
-  subst (λ (lanes : List ℕ). Rests (lines_of b.lane.n lanes) b.lane.n leads.0 leads.1) moved leads.3,
+  subst (λ (lanes : List ℕ). Rests (lines_by b.lane.n lanes) b.lane.n leads.0 leads.1) moved leads.3,
   leads.4,
   leads_push side later (before ++ b ∷ []) after leads.1 mid between new a leads.5
       (subst (λ (xs : List Answer).
@@ -234,7 +235,7 @@ leads_end side before (a ∷ after) w new leads = (
   leads.0,
   leads.1,
   leads.2,
-  subst (λ (lanes : List ℕ). Rests (lines_of a.lane.n lanes) a.lane.n leads.0 leads.1)
+  subst (λ (lanes : List ℕ). Rests (lines_by a.lane.n lanes) a.lane.n leads.0 leads.1)
       (append-nil (answered_lanes after)) leads.3,
   leads_end side (before ++ a ∷ []) after leads.1 new leads.5,
 )
@@ -246,7 +247,7 @@ soundly_end side before (a ∷ after) w new leads = (
   leads.0,
   leads.1,
   leads.2,
-  subst (λ (lanes : List ℕ). Rests (lines_of a.lane.n lanes) a.lane.n leads.0 leads.1)
+  subst (λ (lanes : List ℕ). Rests (lines_by a.lane.n lanes) a.lane.n leads.0 leads.1)
       (append-nil (answered_lanes after)) leads.3,
   leads.4,
   soundly_end side (before ++ a ∷ []) after leads.1 new leads.5,
@@ -255,13 +256,13 @@ soundly_end side before (a ∷ after) w new leads = (
 -- ---- names and their handles
 
 -- a make's name has no handle yet
-abbrev pub IsFresh : (List ℕ → Option ℕ) → Request → Type 0
-IsFresh number (Make name bytes) = number name ≡ None
-IsFresh number request = Unit {0}
+abbrev pub IsFreshName : (List ℕ → Option ℕ) → Request → Type 0
+IsFreshName number (Make name bytes) = number name ≡ None
+IsFreshName number request = Unit {0}
 
 -- names keep their handles
 pub grown : (names : Names) (request : Request) (reply : Reply) (q : List ℕ) (h : ℕ)
-    → IsFresh (kept_number names) request → kept_number names q ≡ Some h
+    → IsFreshName (kept_number names) request → kept_number names q ≡ Some h
     → number_after names request reply q ≡ Some h
 grown names (Make name bytes) (Made handle version) q h fresh e = by (name_cases name q)
   where
@@ -274,10 +275,10 @@ grown names request reply q h fresh e = e
 
 -- no two names have one handle: a make gets one that no name had
 pub apart_after : (names : Names) (answers : List Answer) (first handles made : ℕ) (now : MapNow)
-    (request : Request) (reply : Reply) → AreApart (kept_number names)
+    (request : Request) (reply : Reply) → AreHandlesApart (kept_number names)
     → ((q : List ℕ) (k : ℕ) → kept_number names q ≡ Some k → k < made)
     → MapReplies first handles made (handle_for answers request reply) now (event_of request reply)
-    → AreApart (number_after names request reply)
+    → AreHandlesApart (number_after names request reply)
 apart_after names answers first handles made now (Make text bytes) (Made handle version) apart within m =
     λ a b h x y. by a b h x y (name_cases text a) (name_cases text b)
   where
@@ -307,7 +308,7 @@ apart_after names answers first handles made now (Make text bytes) (Made handle 
 apart_after names answers first handles made now (Make text bytes) reply apart within m = apart
 apart_after names answers first handles made now request reply apart within m = apart
 
-not_made : (name : List ℕ) (request : Request) (reply : Reply) → (Makes request name → ⊥)
+not_made : (name : List ℕ) (request : Request) (reply : Reply) → (MakesName request name → ⊥)
     → handle_made name request reply ≡ None
 not_made name (Make made bytes) (Made handle version) never = by (name_cases made name)
   where
@@ -319,7 +320,7 @@ not_made name (Make made bytes) reply never = refl
 not_made name request reply never = refl
 
 -- a name that no line before makes has no handle
-never_made : (answers : List Answer) (name : List ℕ) → IsNew (map asked answers) name
+never_made : (answers : List Answer) (name : List ℕ) → IsNameNew (map asked answers) name
     → handle_of answers name ≡ None
 never_made [] name new = refl
 never_made (a ∷ later) name new =
@@ -328,22 +329,23 @@ never_made (a ∷ later) name new =
 
 -- the request of a line is known behind the lines before it
 pub line_known : (nodes : ℕ) (before lines : List Line) (i : ℕ) (l : Line) → AreLines nodes before lines
-    → i < length lines → l ≡ get_or lines i l → IsKnown (before ++ take i lines) l.lane.n l.request
+    → i < length lines → l ≡ get_or lines i l
+    → IsNameKnown (before ++ take i lines) l.lane.n l.request
 line_known nodes before (x ∷ lines) zero l all below at =
-    subst (λ (ls : List Line). IsKnown ls l.lane.n l.request) (sym (append-nil before))
-    (subst (λ (y : Line). IsKnown before y.lane.n y.request) (sym at) all.0.known)
+    subst (λ (ls : List Line). IsNameKnown ls l.lane.n l.request) (sym (append-nil before))
+    (subst (λ (y : Line). IsNameKnown before y.lane.n y.request) (sym at) all.0.known)
 line_known nodes before (x ∷ lines) (suc i) l all below at =
-    subst (λ (ls : List Line). IsKnown ls l.lane.n l.request) (append_assoc before (x ∷ []) (take i lines))
+    subst (λ (ls : List Line). IsNameKnown ls l.lane.n l.request) (append_assoc before (x ∷ []) (take i lines))
     (line_known nodes (before ++ x ∷ []) lines i l all.1 (omega (arith, below)) at)
 line_known nodes before [] i l all below at = absurd (omega (arith, below))
 
 -- so a make's name has no handle
 pub fresh_by : (answers : List Answer) (lines : List Line) (lane : ℕ) (request : Request)
     (number : List ℕ → Option ℕ) → ((name : List ℕ) → handle_of answers name ≡ number name)
-    → map asked answers ≡ lines → IsKnown lines lane request → IsFresh number request
+    → map asked answers ≡ lines → IsNameKnown lines lane request → IsFreshName number request
 fresh_by answers lines lane (Make name bytes) number same asked_are known =
     sym (same name) ∙ never_made answers name
-    (subst (λ (ls : List Line). IsNew ls name) (sym asked_are) known)
+    (subst (λ (ls : List Line). IsNameNew ls name) (sym asked_are) known)
 fresh_by answers lines lane request number same asked_are known = tt
 
 -- the lanes of the lines
@@ -357,7 +359,7 @@ lines_lanes nodes before (x ∷ lines) all =
 
 -- and one less
 pub left_less : (later left : List ℕ) (lane n : ℕ) → lane < 16 → n + 1 ≡ get_or left lane 0
-    → AreLeft (lane ∷ later) left → AreLeft later (set left lane n) × (n ≡ lines_of lane later)
+    → AreLeft (lane ∷ later) left → AreLeft later (set left lane n) × (n ≡ lines_by lane later)
 left_less later left lane n lt is are = (
   record {
     sized = length-set left lane n ∙ are.sized;
@@ -366,13 +368,13 @@ left_less later left lane n lt is are = (
   own,
 )
   where
-    own : n ≡ lines_of lane later
+    own : n ≡ lines_by lane later
     own = let a = are.counts lane lt in let b = lines_own lane later in omega (arith, a, b, is)
 
-    by : (k : ℕ) → k < 16 → Dec (k ≡ lane) → get_or (set left lane n) k 0 ≡ lines_of k later
+    by : (k : ℕ) → k < 16 → Dec (k ≡ lane) → get_or (set left lane n) k 0 ≡ lines_by k later
     by k below (yes e) = ap (λ (j : ℕ). get_or (set left lane n) j 0) e
         ∙ get_or-set_same left lane n 0 (omega (arith, lt, are.sized)) ∙ own
-        ∙ ap (λ (j : ℕ). lines_of j later) (sym e)
+        ∙ ap (λ (j : ℕ). lines_by j later) (sym e)
     by k below (no off) = get_or-set_other left lane k n 0 off ∙ are.counts k below
         ∙ lines_other k lane later off
 

@@ -12,7 +12,7 @@ use Rattle.cb_types.specs.declared.request.Request.TheVariants.{Make, Read, Writ
 use Rattle.cb_types.specs.declared.reply.Reply.{Reply}
 use Rattle.cb_types.specs.declared.reply.Reply.TheVariants as answer
 use Rattle.cb_types.specs.Requests.{name_of}
-use Rattle.cb_world.specs.Seats.{SeatState, idle_seat, pins_of_seat, pins_on}
+use Rattle.cb_world.specs.Seats.{SeatState, idle_seat, pins_among, pins_of_seat}
 use Rattle.cb_world.specs.StillWords.{stamp_at}
 use Rattle.cb_world.specs.World.{WorldState, IsSoundWorld, word_at}
 use Rattle.cb_core.specs.Pinning.{PinStep, scope_full, refused, taken, pin_refusal, UnpinStep, not_pinned as unpin_refused, given}
@@ -25,7 +25,7 @@ use Rattle.cb_lanes.specs.declared.side.Side.{Side}
 use Rattle.cb_lanes.specs.Scopes.{Scope, without_newest, named_on, scope_after, PinnedSays, PeekSays, UnpinSays, ScopeSays}
 use Rattle.cb_lanes.proofs.GivingBack.{gives_all, pins_own, pins_other, given_pins}
 use Rattle.cb_lanes.proofs.Filtering.{filter_counts}
-use Rattle.cb_lanes.proofs.PinLists.{AreApart, ArePinsOf, pins_length, scope_none, scope_newest, scope_without, scope_count}
+use Rattle.cb_lanes.proofs.PinLists.{AreHandlesApart, ArePinsOf, pins_length, scope_none, scope_newest, scope_without, scope_count}
 use Rattle.cb_lanes.proofs.Lone.{event_seats, turn_alone}
 use Rattle.cb_lanes.proofs.Pinning.{in_or_refused}
 use Rattle.cb_lanes.proofs.Recounting.{turn_beside}
@@ -83,15 +83,16 @@ quiet_scoped number handle scope request r seat w new j step =
 
 -- the pins of a word are those of all seats
 own_pins : (w : WorldState) (seat h : ℕ) → IsSoundWorld w → seat < 64 → h < length w.desk.words
-    → pins_on h (pins_of_seat w.seats seat) ≤ pins_of (word_at w.desk h)
+    → pins_among h (pins_of_seat w.seats seat) ≤ pins_of (word_at w.desk h)
 own_pins w seat h sound lt below =
-    let one = get_or-le-sum_by (λ (x : SeatState). pins_on h x.pins) w.seats seat idle_seat
+    let one = get_or-le-sum_by (λ (x : SeatState). pins_among h x.pins) w.seats seat idle_seat
     (omega (arith, lt, sound.pinned.count)) in
     let all = sound.pinned.counted h below in
     omega (arith, one, all)
 
 -- so a lane's own pins on the object are among those that are answered
-pinned_says : (number : List ℕ → Option ℕ) → AreApart number → (scope : Scope) (name : List ℕ)
+pinned_says : (number : List ℕ → Option ℕ) → AreHandlesApart number
+    → (scope : Scope) (name : List ℕ)
     (h seat : ℕ) (r : Reply) (w : WorldState) → number name ≡ Some h
     → ArePinsOf number scope (pins_of_seat w.seats seat) → IsSoundWorld w → seat < 64
     → h < w.desk.settings.handles
@@ -120,7 +121,7 @@ refusal_keeps scope name state.Far v pins = refl
 refusal_keeps scope name state.Moving v pins = refl
 refusal_keeps scope name state.Here v pins = refl
 
-module _ (number : List ℕ → Option ℕ) (apart : AreApart number) (scope : Scope) (name : List ℕ) (h seat : ℕ)
+module _ (number : List ℕ → Option ℕ) (apart : AreHandlesApart number) (scope : Scope) (name : List ℕ) (h seat : ℕ)
     (r : Reply) (w new : WorldState) (sound : IsSoundWorld w) (lt : seat < 64)
     (at_name : number name ≡ Some h) (are : ArePinsOf number scope (pins_of_seat w.seats seat)) where
   long : length (pins_of_seat w.seats seat) ≡ length scope
@@ -216,7 +217,8 @@ refusal_still scope name r z = absurd z
 swap_not_full : (r : Reply) → IsSwapRefusal r → r ≡ answer.ScopeFull → ⊥
 swap_not_full r z e = absurd (subst IsSwapRefusal e z)
 
-pin_line_scoped : (answers : List Answer) (number : List ℕ → Option ℕ) (apart : AreApart number)
+pin_line_scoped : (answers : List Answer) (number : List ℕ
+    → Option ℕ) (apart : AreHandlesApart number)
     (scope : Scope) (name : List ℕ) (h seat : ℕ) (r : Reply) (w new : WorldState)
     → (c : Turning answers w new) → seat < 64 → h < w.desk.settings.handles → number name ≡ Some h
     → ArePinsOf number scope (pins_of_seat w.seats seat) → PinLine seat h w r new
@@ -247,7 +249,7 @@ pin_line_scoped answers number apart scope name h seat r w new c lt below at_nam
 
 pub line_scoped : (side : Side) (answers : List Answer) (request : Request) (r : Reply) (w new : WorldState)
     (handle : Option ℕ) (number : List ℕ → Option ℕ) (scope : Scope) (seat : ℕ) → (c : Turning answers w new)
-    → seat < 64 → AreApart number
+    → seat < 64 → AreHandlesApart number
     → ((name : List ℕ) → name_of request ≡ Some name → number name ≡ handle)
     → ((h : ℕ) → handle ≡ Some h → h < w.desk.settings.handles)
     → ArePinsOf number scope (pins_of_seat w.seats seat) → LineStep side seat handle request w r new

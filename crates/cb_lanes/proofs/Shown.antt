@@ -9,14 +9,14 @@ use Rattle.cb_world.specs.FarState.{FarState}
 use Rattle.cb_world.specs.Memory.{bytes_in}
 use Rattle.cb_world.specs.Pinned.{with_word}
 use Rattle.cb_world.specs.Plain.{Words}
-use Rattle.cb_world.specs.Seats.{IsNewest, pins_of_seat}
+use Rattle.cb_world.specs.Seats.{IsNewestOf, pins_of_seat}
 use Rattle.cb_world.specs.Still.{IsStill}
 use Rattle.cb_world.specs.StillWords.{stamp_at, contents_at, with_hot}
 use Rattle.cb_world.specs.World.{WorldState, IsSoundWorld, word_at}
 use Rattle.cb_world.proofs.Laws.{pin_counts, PerformsStill}
 use Rattle.cb_mutate.specs.ReadRule.{ReadRule, ReadEffect, IsSeenHere}
 use Rattle.cb_mutate.specs.StillReplies.{reply_as}
-use Rattle.cb_mutate.specs.Steps.{IsReadStep, with_seen}
+use Rattle.cb_mutate.specs.CallStep.{IsReadStep, with_seen}
 use Rattle.cb_mutate.proofs.Laws.{read_step, failed_step}
 use Rattle.cb_core.proofs.Laws.{read_leaves}
 use Rattle.cb_lanes.specs.LineStep.{PeekStep, shown}
@@ -44,7 +44,7 @@ seen_same x h some =
 pub record PeekedAt (w : WorldState) (seat h at : ℕ) (y : Words) (far : FarState) : Type 0 where
   pub sound : IsSoundWorld w
   pub seat_is : seat < 64
-  pub newest : IsNewest (pins_of_seat w.seats seat) h at
+  pub newest : IsNewestOf (pins_of_seat w.seats seat) h at
   pub same : far ≡ w.far
 
 left_same : (w : WorldState) (seat h at : ℕ) (y : Words) (far : FarState) (r : Reply)

@@ -14,7 +14,7 @@ use Rattle.cb_model.specs.Event.{event_of, change_of, refusal, subject_of}
 use Rattle.cb_model.specs.Event.Subject.{Nothing}
 use Rattle.cb_model.specs.Event.Event.{FindsUnmade, Refused}
 use Rattle.cb_model.specs.Called.{Called, handle_of, handle_for, called, calls_of, makes, made_by, value, change_to, is_about}
-use Rattle.cb_model.specs.Now.{Now as MapNow, Change, changed}
+use Rattle.cb_model.specs.Now.{MapNow, Change, changed}
 use Rattle.cb_model.specs.Replies.{MapReplies}
 use Rattle.cb_model.proofs.Laws.{value-push, makes-push}
 use Rattle.cb_script.specs.declared.script.Line.{Line}
@@ -24,11 +24,11 @@ use Rattle.cb_world.specs.Now.{now}
 use Rattle.cb_world.specs.World.{WorldState, IsKnown}
 use Rattle.cb_mutate.specs.MapCalls.{IsValue}
 use Rattle.cb_mutate.specs.MapBeside.{IsMapBeside}
-use Rattle.cb_mutate.proofs.Laws.{Follows, beside_kept}
+use Rattle.cb_mutate.proofs.Laws.{FollowsMap, beside_kept}
 use Rattle.cb_core.specs.Step.{TurnStep}
-use Rattle.cb_core.proofs.Laws.{kept_beside, lost_beside, IsQuiet, crash_turn, join_turn, known_same, IsSameMap}
+use Rattle.cb_core.proofs.Laws.{kept_beside, lost_beside, IsQuietJob, crash_turn, join_turn, known_same, IsSameMap}
 use Rattle.cb_lanes.specs.Asked.{answer_to, HasLineReply}
-use Rattle.cb_lanes.proofs.Turning.{Around, Turning, Goes, goes_by}
+use Rattle.cb_lanes.proofs.Turning.{AroundLine, Turning, LineGives, goes_by}
 
 change_none : (c : Called) (k : ℕ) → c.handle ≡ None → change_to k c ≡ []
 change_none c k about = ap (λ (o : Option ℕ). if is_about k o then change_of c.event else []) about
@@ -47,7 +47,7 @@ beside_silent calls c t new map about none = record {
 -- the map answers so, and is beside the world
 pub silent_follows : (handles : ℕ) (calls : List Called) (c : Called) (t : Shown) (far new : FarState)
     → IsMapBeside calls t new → c.handle ≡ None → made_by c.event ≡ 0
-    → MapReplies far.first handles (makes calls) None None c.event → Follows handles calls c t far new
+    → MapReplies far.first handles (makes calls) None None c.event → FollowsMap handles calls c t far new
 silent_follows handles calls c t far new map about none reply = record {
   reply = rw about reply;
   beside = beside_silent calls c t new map about none;
@@ -56,9 +56,9 @@ silent_follows handles calls c t far new map about none reply = record {
 -- ---- a name that has no handle
 
 unmade_goes : (answers : List Answer) (l : Line) (request : Request) (w new : WorldState)
-    → (c : Around answers w new) → new ≡ w → handle_for answers request answer.Unmade ≡ None
+    → (c : AroundLine answers w new) → new ≡ w → handle_for answers request answer.Unmade ≡ None
     → event_of request answer.Unmade ≡ FindsUnmade → IsReplyOf request answer.Unmade
-    → Goes answers (answer_to l request answer.Unmade) w new c.then.shown
+    → LineGives answers (answer_to l request answer.Unmade) w new c.then.shown
 unmade_goes answers l request w new c same about event line = record {
   follows = silent_follows w.desk.settings.handles (calls_of answers)
       (called answers (answer_to l request answer.Unmade)) c.then.shown w.far new.far
@@ -76,12 +76,12 @@ unmade_goes answers l request w new c same about event line = record {
 }
 
 pub unmade_line : (answers : List Answer) (l : Line) (request : Request) (name : List ℕ) (r : Reply)
-    (w new : WorldState) → (c : Around answers w new) → handle_of answers name ≡ None
+    (w new : WorldState) → (c : AroundLine answers w new) → handle_of answers name ≡ None
     → handle_for answers request answer.Unmade ≡ handle_of answers name
     → event_of request answer.Unmade ≡ FindsUnmade → IsReplyOf request answer.Unmade
-    → (r ≡ answer.Unmade) × (new ≡ w) → Goes answers (answer_to l request r) w new c.then.shown
+    → (r ≡ answer.Unmade) × (new ≡ w) → LineGives answers (answer_to l request r) w new c.then.shown
 unmade_line answers l request name r w new c none about event line is =
-    subst (λ (q : Reply). Goes answers (answer_to l request q) w new c.then.shown) (sym is.0)
+    subst (λ (q : Reply). LineGives answers (answer_to l request q) w new c.then.shown) (sym is.0)
     (unmade_goes answers l request w new c is.1 (about ∙ none) event line)
 
 -- ---- turns about no object
@@ -90,7 +90,7 @@ unmade_line answers l request name r w new c none about event line is =
 quiet_goes : (answers : List Answer) (a : Answer) (w new : WorldState) (j : Job) (r : Reply)
     → (c : Turning answers w new) → TurnStep j w r new → IsMapBeside (calls_of answers) c.then.shown new.far
     → handle_for answers a.request a.reply ≡ None → event_of a.request a.reply ≡ Refused Nothing
-    → HasLineReply a → Goes answers a w new c.then.shown
+    → HasLineReply a → LineGives answers a w new c.then.shown
 quiet_goes answers a w new j r c step map about event reply =
     goes_by answers a w new j r c step
     (silent_follows w.desk.settings.handles (calls_of answers) (called answers a) c.then.shown w.far new.far
@@ -131,17 +131,17 @@ nothing_told request r about line = told_nothing (IsReplyOf request) (λ h v z. 
 same_goes : (answers : List Answer) (a : Answer) (w new : WorldState) (j : Job) (r : Reply)
     → (c : Turning answers w new) → TurnStep j w r new
     → IsSameMap c.before.shown c.then.shown w.far new.far → handle_for answers a.request a.reply ≡ None
-    → event_of a.request a.reply ≡ Refused Nothing → HasLineReply a → Goes answers a w new c.then.shown
+    → event_of a.request a.reply ≡ Refused Nothing → HasLineReply a → LineGives answers a w new c.then.shown
 same_goes answers a w new j r c step same about event reply =
     quiet_goes answers a w new j r c step
     (kept_beside (calls_of answers) c.before.shown c.then.shown w.far new.far c.beside same) about event
     reply
 
 -- a turn of a job that leaves the map as it is answers a line about no object as the map does
-pub still_goes : (j : Job) (request : Request) → IsQuiet j request → subject_of request ≡ Nothing
+pub still_goes : (j : Job) (request : Request) → IsQuietJob j request → subject_of request ≡ Nothing
     → ((answers : List Answer) (r : Reply) → handle_for answers request r ≡ None)
     → (answers : List Answer) (l : Line) (r : Reply) (w new : WorldState) → (c : Turning answers w new)
-    → TurnStep j w r new → Goes answers (answer_to l request r) w new c.then.shown
+    → TurnStep j w r new → LineGives answers (answer_to l request r) w new c.then.shown
 still_goes j request turns nothing about answers l r w new c step =
     let z = turns w new r c.before c.then c.few step in
     same_goes answers (answer_to l request r) w new j r c step z.0 (about answers r)
@@ -149,7 +149,7 @@ still_goes j request turns nothing about answers l r w new c step =
 
 pub crash_goes : (answers : List Answer) (l : Line) (node : NodeId) (r : Reply) (w new : WorldState)
     → (c : Turning answers w new) → node.n < w.desk.settings.nodes
-    → TurnStep (job.Crash node) w r new → Goes answers (answer_to l (Crash node) r) w new c.then.shown
+    → TurnStep (job.Crash node) w r new → LineGives answers (answer_to l (Crash node) r) w new c.then.shown
 crash_goes answers l node r w new c below step =
     let z = crash_turn w new node r c.before c.then c.few below step in
     quiet_goes answers (answer_to l (Crash node) r) w new (job.Crash node) r c step
@@ -158,7 +158,8 @@ crash_goes answers l node r w new c below step =
 
 pub join_goes : (answers : List Answer) (l : Line) (node : NodeId) (r : Reply) (w new : WorldState)
     → (c : Turning answers w new) → node.n < w.desk.settings.nodes
-    → TurnStep (job.Join node) w r new → Goes answers (answer_to l (Join node) r) w new c.then.shown
+    → TurnStep (job.Join node) w r new
+    → LineGives answers (answer_to l (Join node) r) w new c.then.shown
 join_goes answers l node r w new c below step =
     let z = join_turn node w new r c.before c.then c.few step in
     same_goes answers (answer_to l (Join node) r) w new (job.Join node) r c step z.0 refl

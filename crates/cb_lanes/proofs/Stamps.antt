@@ -1,7 +1,7 @@
 -- The version word of an object is the version that the map has of it.
 use Rattle.std.proofs.Common.{◌≡◌, ℕ, zero, suc, Bool, true, false, List, slice_index, None, Some, refl, sym, ap, ◌∙◌}
 use Rattle.cb_model.specs.declared.object.Object.TheVariants.{Held, Freed}
-use Rattle.cb_model.specs.Now.{Now as MapNow}
+use Rattle.cb_model.specs.Now.{MapNow}
 use Rattle.cb_world.specs.declared.object.Object.{Object}
 use Rattle.cb_world.specs.declared.object.Object.TheVariants as is
 use Rattle.cb_world.specs.declared.shown.Shown.{Shown}

@@ -8,12 +8,12 @@ use Rattle.cb_types.specs.declared.reply.Reply.{Reply}
 use Rattle.cb_types.specs.declared.reply.Reply.TheVariants as answer
 use Rattle.cb_world.specs.declared.entry.Entry.{Entry}
 use Rattle.cb_rule.specs.declared.view.View.{View}
-use Rattle.cb_rule.specs.Steps.{AreNew, IsNew, IsNewest}
+use Rattle.cb_rule.specs.Steps.{AreNew, IsNewVersion, IsNewest}
 use Rattle.cb_rule.proofs.Laws.{each_has}
 use Rattle.cb_record.specs.Parts.{Part, grown}
 use Rattle.cb_record.specs.Rises.{HasAllOf, HasVersion}
 use Rattle.cb_record.proofs.Laws.{has_right}
-use Rattle.cb_shared.specs.Calls.{IsWrittenOnce, SaysAs, WriteEnds, WriteFinds, the_handle}
+use Rattle.cb_shared.specs.Calls.{IsWrittenOnce, SaysAs, WriteCallEnds, WriteFinds, the_handle}
 use Rattle.cb_shared.specs.declared.answers.WriteAnswer.{WriteAnswer}
 use Rattle.cb_shared.specs.declared.answers.WriteAnswer.TheVariants as place
 use Rattle.cb_shared.specs.Reading.{looked}
@@ -45,7 +45,7 @@ newest_above h version u x n freed (inl y) = subst (λ (k : ℕ). k ≤ version)
 newest_above h version u x n freed (inr y) = subst (λ (k : ℕ). k ≤ version) y.3
     (each_has _ y.0 u.seen x.seen y.1 y.2)
 
-new_above : (h version : ℕ) (u : View) → IsNew h version u → IsAbove u h version
+new_above : (h version : ℕ) (u : View) → IsNewVersion h version u → IsAbove u h version
 new_above h version u x n freed (inl y) = subst (λ (k : ℕ). k < version) y.3
     (each_has _ y.0 (u.fresh ++ u.written) x.written (has_right y.0 u.fresh u.written y.1) y.2)
 new_above h version u x n freed (inr y) = subst (λ (k : ℕ). k < version) y.3
@@ -100,7 +100,7 @@ here_new h at bytes place.Moving r v d says x = absurd says
 here_new h at bytes (place.Raced saw other) r v d says x = absurd says
 
 ends_new : (c : Config) (h at : ℕ) (bytes : List ℕ) (r : Reply) (v : View) (d : Part)
-    → WriteEnds c h at bytes r v d → TellsNew (Calls (job.Write (the_handle h) at bytes)) v r
+    → WriteCallEnds c h at bytes r v d → TellsNew (Calls (job.Write (the_handle h) at bytes)) v r
 ends_new c h at bytes r v d (inl x) = here_new h at bytes x.0 r v d x.1 x.2
 ends_new c h at bytes r v d (inr x) =
     tells_less (Calls (job.Write (the_handle h) at bytes)) r v (grown (looked h x.word) v)

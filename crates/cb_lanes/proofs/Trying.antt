@@ -16,18 +16,18 @@ use Rattle.cb_record.specs.Parts.{Grows, Part}
 use Rattle.cb_shared.specs.declared.answers.PinAnswer.{PinAnswer}
 use Rattle.cb_shared.specs.declared.answers.PinAnswer.TheVariants as found
 use Rattle.cb_shared.specs.declared.pass.Pin.{Pin}
-use Rattle.cb_shared.specs.Calls.{AsksFor, AtThis, Stops, TurnTries, the_handle}
-use Rattle.cb_shared.specs.Pinning.{FindsFreed, IsPinned, LooksOnce, PinGives}
+use Rattle.cb_shared.specs.Calls.{AsksFor, AtThis, StopsInVain, TurnTries, the_handle}
+use Rattle.cb_shared.specs.Pinning.{FindsFreed, IsPinnedHere, LooksOnce, PinGives}
 use Rattle.cb_shared.specs.Reading.{looked, looked_twice}
 use Rattle.cb_shared.specs.Turning.{TurnBy}
 use Rattle.cb_shared.proofs.Laws.{look_asks, look_part, look_stops, stops_then, twice_part, vain_look}
 use Rattle.cb_lanes.specs.Passing.{CallGives, IsPinnedOnce, PinEnds, PinGoes, PinTries, PinsAtLast}
 
 abbrev Vain : ℕ → View → View → Type 0
-Vain h v w = Stops (AtThis h) (job.Swap (the_handle h)) v w
+Vain h v w = StopsInVain (AtThis h) (job.Swap (the_handle h)) v w
 
 pub pinned_once : (h : ℕ) (p : Pin) (version : ℕ) (v w : View) → version ≡ p.version
-    → IsPinned h p v w → IsPinnedOnce h version v w
+    → IsPinnedHere h p v w → IsPinnedOnce h version v w
 pinned_once h p version v w is x = subst (λ (n : ℕ). IsPinnedOnce h n v w) (sym is) (record {
   word = x.word;
   words = x.words;
@@ -37,7 +37,7 @@ pinned_once h p version v w is x = subst (λ (n : ℕ). IsPinnedOnce h n v w) (s
 })
 
 pub was_pinned : (h : ℕ) (a : PinAnswer) (p : Pin) (v w : View) → a ≡ found.Pinned p
-    → PinGives h a v w → IsPinned h p v w
+    → PinGives h a v w → IsPinnedHere h p v w
 was_pinned h a p v w is x = subst (λ (z : PinAnswer). PinGives h z v w) is x
 
 pub was_freed : (h : ℕ) (a : PinAnswer) (v w : View) → a ≡ found.Freed → PinGives h a v w
@@ -136,7 +136,7 @@ pins_left c j r v w x = ap (λ (z : View). z.pins) x.2
 
 pub call_leaves : (c : Config) (j k : Job) (on : ℕ → Type 0) (v w : View)
     (result : Result Reply NoMemory) → IfOk result (λ r. CallGives c j v r w)
-    → OnErr result (Stops on k v w) → w.pins ≡ v.pins
+    → OnErr result (StopsInVain on k v w) → w.pins ≡ v.pins
 call_leaves c j k on v w (Ok r) x y = pins_left c j r v w x
 call_leaves c j k on v w (Err e) x y = ap (λ (z : View). z.pins) y.2
 

@@ -28,7 +28,7 @@ use Rattle.cb_rebuild.specs.RebuildStep.{RebuildStep, Restores, surveyed}
 use Rattle.cb_swapin.proofs.Laws.{by_answer}
 use Rattle.cb_core.specs.Membership.{CrashTurn, JoinTurn, crashed, is_down, is_up, joined}
 use Rattle.cb_core.specs.Parts.{Holding, WhereItIs, WithRoom, at_once, brought, declined, near, no_room, stays_far, won}
-use Rattle.cb_core.specs.Turned.{Brings, Declines, Does, IsDeclined, Makes, Swaps, Turned, WinsRoom, Writes, done, once_counted, worn}
+use Rattle.cb_core.specs.Turned.{Brings, Declines, Does, IsDeclined, Makes, Swaps, Turned, WinsRoom, WritesObject, done, once_counted, worn}
 use Rattle.cb_world.specs.declared.shown.Shown.{Shown}
 
 -- the reply is that one
@@ -204,7 +204,7 @@ module _ {D : Type 0} (run : D → List Event → D → Type 0) (shows : D → S
 
   pub write_where : (name bytes : List ℕ) (h at : ℕ) (a b : Holding D) (r : Reply)
       → (r ≡ answer.NotHere → ⊥)
-      → WhereItIs (Writes run shows h at bytes)
+      → WhereItIs (WritesObject run shows h at bytes)
       (Declines run shows h at (length bytes)) (Brings run shows c h) a r b
       → IsReplyOf (Write name at bytes) r
   write_where name bytes h at a b r off (near x never) =

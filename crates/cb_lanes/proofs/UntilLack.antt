@@ -7,7 +7,7 @@ use Rattle.cb_types.specs.declared.answer.Answer.{Answer}
 use Rattle.cb_types.specs.declared.reply.Reply.{Reply}
 use Rattle.cb_types.specs.declared.reply.Reply.TheVariants as answer
 use Rattle.cb_script.specs.declared.script.Line.{Line}
-use Rattle.cb_lanes.specs.Alone.{IsCalm, KeepAlone, LaneState, alone_after, alone_more, is_leave, is_maker_of, is_own, leaves, own_name}
+use Rattle.cb_lanes.specs.Alone.{IsCalmReply, KeepAlone, LaneState, alone_after, alone_more, is_leave, is_maker_of, is_own, leaves, own_name}
 use Rattle.cb_lanes.specs.AloneUntil.{KeepAloneUntil, is_lack, lacks}
 
 -- none of the answers is of the lane
@@ -77,7 +77,7 @@ module _ (lines : List Line) (lane : ℕ) where
   none_lacks (a ∷ answers) none = (no_lack a none.0, none_lacks answers none.1)
 
 -- a calm reply tells of no lack
-pub calm_lacks_none : (r : Reply) → IsCalm r → is_lack r ≡ false
+pub calm_lacks_none : (r : Reply) → IsCalmReply r → is_lack r ≡ false
 calm_lacks_none (answer.NoRoom frames loose nodes) calm = absurd calm
 calm_lacks_none (answer.Unavailable set lost) calm = absurd calm
 calm_lacks_none (answer.Full handles) calm = absurd calm

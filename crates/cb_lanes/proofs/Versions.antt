@@ -2,7 +2,7 @@
 use Rattle.std.proofs.Common.{◌≡◌, ◌⊎◌, ℕ, ◌+◌, ◌≤◌, Bool, true, false, List, [], ◌∷◌, ◌++◌, fold, Option, None, Some, refl, sym, ap, ◌∙◌, subst, arith, inl, inr, if◌then◌else◌, nat_eq}
 use Rattle.std.proofs.lemmas.Bool.{cases_Bool, eqb-true}
 use Rattle.cb_model.specs.declared.object.Object.TheVariants.{Held, Freed}
-use Rattle.cb_model.specs.Now.{Now, Change, changed}
+use Rattle.cb_model.specs.Now.{MapNow, Change, changed}
 use Rattle.cb_model.specs.Event.{Event, change_of}
 use Rattle.cb_model.specs.Event.Event.{Makes, Writes, Frees}
 use Rattle.cb_model.specs.Called.{Called, change_to, is_about, makes, value, value_at}
@@ -12,7 +12,7 @@ use Rattle.cb_model.proofs.Laws.{value-push}
 use Rattle.cb_lanes.proofs.Stamps.{version_had}
 
 -- a call makes it at most one higher
-one_higher : (handles made : ℕ) (handle : Option ℕ) (now : Now) (event : Event)
+one_higher : (handles made : ℕ) (handle : Option ℕ) (now : MapNow) (event : Event)
     → MapReplies 1 handles made handle now event
     → version_had (fold changed now (change_of event)) ≤ version_had now + 1
 one_higher handles made handle now (Makes bytes version) m = let one = m.2 in omega (arith, one)

@@ -9,7 +9,7 @@ use Rattle.cb_model.specs.declared.object.Object.{Object}
 use Rattle.cb_model.specs.declared.object.Object.TheVariants as has
 use Rattle.cb_script.specs.declared.script.Line.{Line}
 use Rattle.cb_lanes.specs.Scopes.{NamedPin}
-use Rattle.cb_lanes.specs.Alone.{is_own, leaves, HasOwnLines, NamedNow, LaneState, fresh_lane, now_named, alone_after, AloneSays, KeepAlone, IsCalm}
+use Rattle.cb_lanes.specs.Alone.{is_own, leaves, HasOwnLines, NamedNow, LaneState, fresh_lane, now_named, alone_after, AloneSays, KeepAlone, IsCalmReply}
 
 abbrev a : List ℕ
 a = 97 ∷ []
@@ -253,20 +253,20 @@ another_lane_has_a_part are = absurd (let e = are.1.1.0 refl in cc)
 
 -- ---- calm replies
 
-calm : IsCalm (Pinned 2)
+calm : IsCalmReply (Pinned 2)
 calm = tt
 
-no_room : IsCalm (NoRoom 8 1 2) → ⊥
+no_room : IsCalmReply (NoRoom 8 1 2) → ⊥
 no_room is = is
 
-unavailable : IsCalm (Unavailable (record { n = 0 }) []) → ⊥
+unavailable : IsCalmReply (Unavailable (record { n = 0 }) []) → ⊥
 unavailable is = is
 
-full_handles : IsCalm (Full 3) → ⊥
+full_handles : IsCalmReply (Full 3) → ⊥
 full_handles is = is
 
-worn : IsCalm Worn → ⊥
+worn : IsCalmReply Worn → ⊥
 worn is = is
 
-moving : IsCalm Moving → ⊥
+moving : IsCalmReply Moving → ⊥
 moving is = is

@@ -12,7 +12,7 @@ use Rattle.cb_rule.specs.declared.view.Look.{Look}
 use Rattle.cb_rule.specs.declared.view.View.{View}
 use Rattle.cb_rule.specs.Lists.{Each}
 use Rattle.cb_rule.specs.Own.{IsAlone}
-use Rattle.cb_rule.specs.Steps.{IsNewest, blank, look_at, with_freed, with_look, with_pin}
+use Rattle.cb_rule.specs.Steps.{IsNewest, blank, look_at, with_freed_seen, with_look, with_pin}
 use Rattle.cb_record.specs.Parts.{Part, grown, nothing_more, sum}
 use Rattle.cb_shared.specs.declared.answers.WriteAnswer.TheVariants as place
 use Rattle.cb_shared.specs.Calls.{IsInVain}
@@ -183,7 +183,7 @@ ends_pinned = pinned
 ends_unpinned : PinEnds two 1 (answer.Version 3) part part → ⊥
 ends_unpinned p = eqb-false 0 2 refl (ap (λ (v : View). length v.looks) p.left)
 
-ends_freed : PinEnds two 1 answer.Freed part (with_freed 1 3 0 part)
+ends_freed : PinEnds two 1 answer.Freed part (with_freed_seen 1 3 0 part)
 ends_freed = (0, 3, refl, newest_made, refl)
 
 ends_unread : PinEnds two 1 answer.Freed part (with_look 1 0 part) → ⊥

@@ -7,12 +7,12 @@ use Rattle.cb_types.specs.declared.reply.Reply.TheVariants.{Held, NoPair, NodeFu
 use Rattle.cb_types.specs.declared.request.Request.TheVariants.{Compact, Ship}
 use Rattle.cb_world.specs.FarState.{FarState}
 use Rattle.cb_world.specs.World.{WorldState, empty_world}
-use Rattle.cb_compact.specs.NowStep.{NowStep}
+use Rattle.cb_compact.specs.CompactStep.{CompactStep}
 use Rattle.cb_core.specs.declared.event.Event.TheVariants.{Turn}
 use Rattle.cb_core.specs.Holding.{NoOtherHolds}
 use Rattle.cb_core.specs.Step.{Step, done, free, held, worn}
 use Rattle.cb_core.specs.Turned.{counted}
-use Rattle.cb_local.specs.LocalStep.{IsBeside}
+use Rattle.cb_local.specs.LocalStep.{IsBesideNodes}
 use Rattle.cb_lanes.specs.CompactsHere.{CompactsHere}
 use Rattle.cb_lanes.specs.LineStep.{LineStep}
 use Rattle.cb_lanes.specs.declared.side.Side.{Side}
@@ -85,7 +85,7 @@ other_seats new off x =
 a_row_given : (new : WorldState) → new.far.nodes.given ≡ 1 → CompactsHere 1 full_count Worn new → ⊥
 a_row_given new one x = by x.beside
   where
-    by : IsBeside (counted full_count.far job.Compact) x.mid.far new.far Worn → ⊥
+    by : IsBesideNodes (counted full_count.far job.Compact) x.mid.far new.far Worn → ⊥
     by (inl y) =
         let there = ap (λ (f : FarState). f.nodes.given) y.state in
         let none = ap (λ (v : WorldState). v.far.nodes.given) (mid_is Worn x.mid x.there).1 in
@@ -106,12 +106,13 @@ uncounted x = by x.there x.beside
     none : 0 ≡ x.mid.far.counts.turns → x.mid.far.counts.turns ≡ 1 → ⊥
     none e f = omega (arith, e, f)
 
-    same : IsBeside (counted (empty_world small).far job.Compact) x.mid.far (empty_world small).far
+    same : IsBesideNodes (counted (empty_world small).far job.Compact) x.mid.far
+        (empty_world small).far
         NoPair → 0 ≡ x.mid.far.counts.turns
     same (inl y) = ap (λ (f : FarState). f.counts.turns) y.state
     same (inr y) = absurd (let e : NoPair ≡ Merged y.set y.moved = y.reply in cc)
 
-    found : (far : FarState) → NowStep (counted (empty_world small).far job.Compact) far NoPair
+    found : (far : FarState) → CompactStep (counted (empty_world small).far job.Compact) far NoPair
         → far.counts.turns ≡ 1
     found far (inl y) = absurd (let e = y.reply in cc)
     found far (inr (inl y)) = ap (λ (f : FarState). f.counts.turns) y.state
@@ -121,7 +122,8 @@ uncounted x = by x.there x.beside
     ]
 
     by : Step (empty_world small) (Turn 1 job.Compact) NoPair x.mid
-        → IsBeside (counted (empty_world small).far job.Compact) x.mid.far (empty_world small).far
+        → IsBesideNodes (counted (empty_world small).far job.Compact) x.mid.far
+        (empty_world small).far
         NoPair → ⊥
     by (held holder off holds reply equal) beside =
         absurd (let e : NoPair ≡ Held holder = reply in cc)

@@ -13,7 +13,7 @@ use Rattle.cb_types.specs.declared.reply.Reply.{Reply}
 use Rattle.cb_types.specs.declared.reply.Reply.TheVariants.{Made, Bytes}
 use Rattle.cb_model.specs.Called.{first_of}
 use Rattle.cb_script.specs.declared.script.Line.{Line}
-use Rattle.cb_script.specs.Form.{AreLines, IsContents, IsMade, IsName, IsNameByte}
+use Rattle.cb_script.specs.Form.{AreLines, IsContents, IsName, IsNameByte, IsNameMade}
 use Rattle.cb_lanes.specs.declared.body.Named.{Named}
 use Rattle.cb_lanes.specs.Alone.{HasOwnLines, alone_after, fresh_lane, is_maker, now_named, read_alone}
 use Rattle.cb_lanes.specs.AloneUntil.{AreShared, LaneKeepsAlone}
@@ -85,7 +85,7 @@ one_byte n low = record {
   each = All-cons (λ m. m < 256) n [] low (All-nil (λ m. m < 256));
 }
 
-new_b : (lane : ℕ) → IsMade (by 0 2 (Make a (1 ∷ [])) ∷ []) lane b → ⊥
+new_b : (lane : ℕ) → IsNameMade (by 0 2 (Make a (1 ∷ [])) ∷ []) lane b → ⊥
 new_b lane (inl made) = let e : 97 ≡ 98 = ap (λ (p : List ℕ). get_or p 0 0) made.1 in
     absurd (omega (arith, e))
 new_b lane (inr none) = none
@@ -158,7 +158,7 @@ answers n = made ∷ told 1 4 (Read b) (Bytes 1 (n ∷ [])) ∷ []
 
 maker_is : (all : List Line) → own ≡ of_lane 1 all → is_maker all 1 b ≡ true
 maker_is all is = maker_of all 1 b
-    (made_among 1 all 1 b (subst (λ (ls : List Line). IsMade ls 1 b) is (inl (refl, refl))))
+    (made_among 1 all 1 b (subst (λ (ls : List Line). IsNameMade ls 1 b) is (inl (refl, refl))))
 
 -- the read shows what the lane wrote
 right : LaneKeepsAlone 2 1 (named a 0) own (answers 2)

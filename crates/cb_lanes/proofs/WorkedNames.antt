@@ -28,7 +28,7 @@ use Rattle.cb_lanes.specs.LineGoes.{CallGoes, Goes, JobGoes, ObjectGoes, OtherGo
 use Rattle.cb_lanes.specs.LineGoes.Ask.{Calls, Pins, Peeks, Unpins}
 use Rattle.cb_lanes.specs.LineStep.{CompactsAt, PeekStep, PinLine, TurnAt, goes_at}
 use Rattle.cb_lanes.specs.MayAsk.{MayCall}
-use Rattle.cb_lanes.specs.Names.{AreKept, AreNamed, AreReady, Names, handle_at, handle_in, kept_handle, kept_number, number_after}
+use Rattle.cb_lanes.specs.Names.{AreKept, AreNamed, AreReady, Names, handle_at, kept_handle, kept_number, number_after, request_handle}
 use Rattle.cb_lanes.specs.Passing.{UnpinGoes}
 use Rattle.cb_lanes.specs.Suits.{AreSuited, Suits}
 use Rattle.cb_lanes.proofs.WorkedPassing.{pinning}
@@ -51,9 +51,9 @@ module _ (names : Names) where
   kept_of_none is = ap (option_map (λ (x : Handle). x.n)) is
 
   at_names : (handle_at names (Some a) ≡ kept_number names a) × (handle_at names None ≡ None)
-      × (handle_in names (Read a) ≡ kept_number names a)
-      × (handle_in names (Unpin b) ≡ kept_number names b)
-      × (handle_in names Evict ≡ None) × (handle_in names Leave ≡ None)
+      × (request_handle names (Read a) ≡ kept_number names a)
+      × (request_handle names (Unpin b) ≡ kept_number names b)
+      × (request_handle names Evict ≡ None) × (request_handle names Leave ≡ None)
   at_names = (refl, refl, refl, refl, refl, refl)
 
   -- a make that was given a handle has it kept under its name, and nothing else changes

@@ -18,7 +18,7 @@ use Rattle.cb_rule.specs.declared.view.View.{View}
 use Rattle.cb_rule.specs.Lists.{Has}
 use Rattle.cb_rule.specs.Steps.{blank, look_at, stand, version_seen}
 use Rattle.cb_lanes.specs.Alone.{is_maker}
-use Rattle.cb_lanes.specs.KeepsOwn.{AreInOrder, AreRead, ComesBehind, ComesNext, KeepsOwn}
+use Rattle.cb_lanes.specs.KeepsOwn.{AreEntriesInOrder, AreRead, ComesBehind, EntryComesNext, KeepsOwn}
 use Rattle.cb_lanes.specs.LineGoes.{Calls}
 use Rattle.cb_lanes.proofs.OwnKept.{AreRising}
 use Rattle.cb_lanes.proofs.OwnLines.{IsLaneLine}
@@ -44,22 +44,22 @@ written = entry 1 2 2 (7 ∷ []) (8 ∷ [])
 abbrev freed : Entry
 freed = gone 1 3 (8 ∷ [])
 
-a_write_comes_next : ComesNext made written
+a_write_comes_next : EntryComesNext made written
 a_write_comes_next = record { there = refl; next = refl; past = refl; same_len = λ _. refl }
 
-a_free_comes_next : ComesNext written freed
+a_free_comes_next : EntryComesNext written freed
 a_free_comes_next = record { there = refl; next = refl; past = refl; same_len = λ e. absurd cc }
 
-behind_the_freed_one : ComesNext freed (entry 1 4 0 [] []) → ⊥
+behind_the_freed_one : EntryComesNext freed (entry 1 4 0 [] []) → ⊥
 behind_the_freed_one x = absurd (let e = x.there in cc)
 
-a_version_left_out : ComesNext made (entry 1 3 2 (7 ∷ []) (8 ∷ [])) → ⊥
+a_version_left_out : EntryComesNext made (entry 1 3 2 (7 ∷ []) (8 ∷ [])) → ⊥
 a_version_left_out x = absurd (let e = x.next in cc)
 
-from_other_words : ComesNext made (entry 1 2 2 (6 ∷ []) (8 ∷ [])) → ⊥
+from_other_words : EntryComesNext made (entry 1 2 2 (6 ∷ []) (8 ∷ [])) → ⊥
 from_other_words x = absurd (let e = x.past in cc)
 
-another_length : ComesNext made (entry 1 2 3 (7 ∷ []) (8 ∷ [])) → ⊥
+another_length : EntryComesNext made (entry 1 2 3 (7 ∷ []) (8 ∷ [])) → ⊥
 another_length x = absurd (let e = x.same_len refl in cc)
 
 a_make : ComesBehind None made
@@ -75,13 +75,13 @@ Mine h = h ≤ 1
 foreign : (v : ℕ) → Mine (entry 2 v 1 [] []).handle → ⊥
 foreign v own = omega (arith, own)
 
-in_order : AreInOrder Mine (freed ∷ written ∷ entry 2 9 1 [] [] ∷ made ∷ [])
+in_order : AreEntriesInOrder Mine (freed ∷ written ∷ entry 2 9 1 [] [] ∷ made ∷ [])
 in_order = (
   λ own. a_free_comes_next,
   (λ own. a_write_comes_next, (λ own. absurd (foreign 9 own), (λ own. refl, tt))),
 )
 
-out_of_order : AreInOrder Mine (made ∷ written ∷ []) → ⊥
+out_of_order : AreEntriesInOrder Mine (made ∷ written ∷ []) → ⊥
 out_of_order x = absurd (let e = (x.1.0 (lit≤ tt)) in cc)
 
 rising : AreRising Mine (written ∷ entry 2 9 1 [] [] ∷ made ∷ [])

@@ -14,7 +14,7 @@ use Rattle.cb_rule.specs.Own.{IsAlone}
 use Rattle.cb_rule.specs.Steps.{blank, stand, version_seen, with_look}
 use Rattle.cb_shared.specs.declared.pass.Pin.{Pin}
 use Rattle.cb_lanes.specs.LineGoes.{Leaves, Peeks, Pins, Unpins}
-use Rattle.cb_lanes.specs.Passing.{AreHeld, GivesPin, HasNoMark, HasNoPin, IsCall, IsNewestAt, IsNewestPin, IsNotPinned, LeaveGoes, Mark, PeekGoes, PeeksAll, PinGoes, UnpinGoes, goes_in, mark_in, peeks_of}
+use Rattle.cb_lanes.specs.Passing.{AreHeld, GivesPinBack, HasNoMark, HasNoPin, IsCall, IsNewestAt, IsNewestPin, IsNotPinned, LeaveGoes, Mark, PeekGoes, PeeksAll, PinGoes, UnpinGoes, goes_in, mark_in, peeks_of}
 
 abbrev pub two : Config
 two = record { k = 1; r = 1; nodes = 2; frames = 1; room = 6; handles = 2; turns = 0 }
@@ -165,13 +165,14 @@ refused_and_gives x = eqb-false 0 2 refl (ap pins_in x.left)
 gives : UnpinGoes 1 pinning answer.Done (record pinning { pins = older ∷ [] })
 gives = inr (record { some = lit< tt; told = refl; left = refl })
 
-gives_none : GivesPin 2 answer.Done pinning pinning → ⊥
+gives_none : GivesPinBack 2 answer.Done pinning pinning → ⊥
 gives_none x = let some = x.some in omega (arith, some)
 
-gives_and_refuses : GivesPin 1 answer.NotPinned pinning (record pinning { pins = older ∷ [] }) → ⊥
+gives_and_refuses : GivesPinBack 1 answer.NotPinned pinning (record pinning { pins = older ∷ [] })
+    → ⊥
 gives_and_refuses x = absurd (let e = x.told in cc)
 
-gives_and_keeps : GivesPin 1 answer.Done pinning pinning → ⊥
+gives_and_keeps : GivesPinBack 1 answer.Done pinning pinning → ⊥
 gives_and_keeps x = eqb-false 2 1 refl (ap pins_in x.left)
 
 -- the first of two pins on the object
@@ -179,7 +180,7 @@ abbrev version_first : List Stand → ℕ
 version_first [] = 0
 version_first (s ∷ ss) = s.version
 
-gives_the_first : GivesPin 1 answer.Done twice (record twice { pins = newer ∷ [] }) → ⊥
+gives_the_first : GivesPinBack 1 answer.Done twice (record twice { pins = newer ∷ [] }) → ⊥
 gives_the_first x = eqb-false 4 3 refl (ap (λ (v : View). version_first v.pins) x.left)
 
 -- ---- all pins are given back, and how many there were is told

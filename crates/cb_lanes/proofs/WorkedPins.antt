@@ -12,13 +12,13 @@ use Rattle.cb_types.specs.declared.reply.Reply.TheVariants.{Made, Version, Bytes
 use Rattle.cb_ptr.specs.Word.{len_of, state_number}
 use Rattle.cb_world.specs.declared.seats.Pin.{Pin as SeatPin}
 use Rattle.cb_world.specs.Memory.{bytes_in}
-use Rattle.cb_world.specs.Seats.{SeatState, IsNewest, pins_of_seat, with_pins}
+use Rattle.cb_world.specs.Seats.{SeatState, IsNewestOf, pins_of_seat, with_pins}
 use Rattle.cb_world.specs.StillWords.{contents_at}
 use Rattle.cb_world.specs.World.{WorldState, empty_world, word_at}
 use Rattle.cb_core.specs.declared.event.Atomic.TheVariants as atomic
 use Rattle.cb_core.specs.declared.event.Event.TheVariants as event
 use Rattle.cb_core.specs.Pinning.{not_pinned as unpin_refused, given}
-use Rattle.cb_lanes.specs.GivingBack.{end_of, GivesAll, lines_of, Rests}
+use Rattle.cb_lanes.specs.GivingBack.{end_of, GivesAll, lines_by, Rests}
 use Rattle.cb_lanes.specs.declared.side.Side.TheVariants.{Nodes}
 use Rattle.cb_lanes.specs.LineStep.{not_pinned, shown, CallStep, LineStep, IsInReply, PinEvent, SwapEvent, IsFarToPin, PinLine, at_once, stays_far, swapped_in}
 use Rattle.cb_lanes.specs.LinesLeft.{AreLanes, AreLeft}
@@ -201,7 +201,7 @@ run_tells_too_many keep = absurd (let e : Left 2 ≡ Left 1 = keep.1.1.1.0 in cc
 
 -- ---- giving back
 
-lanes_with_two_lines : lines_of 1 (1 ∷ 2 ∷ 1 ∷ []) ≡ 2
+lanes_with_two_lines : lines_by 1 (1 ∷ 2 ∷ 1 ∷ []) ≡ 2
 lanes_with_two_lines = refl
 
 abbrev small : Config
@@ -252,7 +252,7 @@ a_lane_16 lanes = omega (arith, lanes.0)
 abbrev bytes : List ℕ
 bytes = bytes_in (contents_at held.desk 0) (len_of (word_at held.desk 0))
 
-abbrev newest : IsNewest (pin ∷ []) 0 0
+abbrev newest : IsNewestOf (pin ∷ []) 0 0
 newest = record {
   pin = pin;
   there = refl;

@@ -6,9 +6,9 @@ use Rattle.cb_types.specs.declared.request.Request.{Request}
 use Rattle.cb_types.specs.declared.request.Request.TheVariants.{Make, Read, Write, Free, Pin, Peek, Unpin, Filter, Leave, Evict}
 use Rattle.cb_types.specs.declared.reply.Reply.TheVariants.{Made, Version, Bytes, Done, Left, Unmade, Freed, Range, Pinned, ScopeFull, NotPinned}
 use Rattle.cb_model.specs.declared.object.Object.TheVariants as has
-use Rattle.cb_model.specs.Now.{Now}
+use Rattle.cb_model.specs.Now.{MapNow}
 use Rattle.cb_script.specs.declared.script.Line.{Line}
-use Rattle.cb_lanes.specs.Alone.{LaneState, NamedNow, alone_more, change_alone, free_alone, is_leave, is_maker, is_maker_of, makes_named, now_after, objects_after, own_name, peek_alone, pin_alone, pin_object, pins_shared, read_alone, unpin_alone, write_alone}
+use Rattle.cb_lanes.specs.Alone.{LaneState, NamedNow, alone_more, change_alone, free_alone, is_leave, is_maker, is_maker_of, makes_named, named_objects_after, now_after, own_name, peek_alone, pin_alone, pin_object, pins_shared, read_alone, unpin_alone, write_alone}
 use Rattle.cb_lanes.specs.Bodies.{KnowsHandle, number_of}
 use Rattle.cb_lanes.specs.LinesLeft.{lanes_of}
 use Rattle.cb_lanes.specs.Names.{IsOnObject}
@@ -170,10 +170,10 @@ shared_pins : (pins_shared lines (Pin a) ≡ true) × (pins_shared lines (Pin b)
 shared_pins = (refl, refl, refl)
 
 -- ---- what the map has under a name, and what each line on it is answered
-abbrev held : Now
+abbrev held : MapNow
 held = Some (has.Held 3 (7 ∷ 8 ∷ []))
 
-abbrev freed : Now
+abbrev freed : MapNow
 freed = Some (has.Freed 4)
 
 after_lines : (now_after held (Free b) (Version 4) ≡ freed)
@@ -184,11 +184,11 @@ after_lines = (refl, refl, refl)
 abbrev objects : List NamedNow
 objects = record { name = b; now = held } ∷ []
 
-objects_in_front : objects_after objects (Some b) (Free b) (Version 4)
+objects_in_front : named_objects_after objects (Some b) (Free b) (Version 4)
     ≡ record { name = b; now = freed } ∷ objects
 objects_in_front = refl
 
-objects_stay : objects_after objects None Evict Done ≡ objects
+objects_stay : named_objects_after objects None Evict Done ≡ objects
 objects_stay = refl
 
 reads : (read_alone held ≡ Bytes 3 (7 ∷ 8 ∷ [])) × (read_alone freed ≡ Freed)

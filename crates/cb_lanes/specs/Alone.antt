@@ -13,7 +13,7 @@ use Rattle.cb_types.specs.declared.reply.Reply.TheVariants as answer
 use Rattle.cb_types.specs.Requests.{name_of}
 use Rattle.cb_model.specs.declared.object.Object.{Object}
 use Rattle.cb_model.specs.declared.object.Object.TheVariants.{Held, Freed}
-use Rattle.cb_model.specs.Now.{Now, changed}
+use Rattle.cb_model.specs.Now.{MapNow, changed}
 use Rattle.cb_model.specs.Event.{event_of, change_of}
 use Rattle.cb_script.specs.declared.script.Line.{Line}
 use Rattle.cb_lanes.specs.Scopes.{Scope, named_on, newest_on, scope_after}
@@ -67,7 +67,7 @@ pub record HasOwnLines (lines : List Line) (lane : ℕ) : Type 0 where
 -- what the map has under a name
 pub record NamedNow : Type 0 where
   pub name : List ℕ
-  pub now : Now
+  pub now : MapNow
 
 -- what the map has under the lane's names, the last change first, and its scope
 pub record LaneState : Type 0 where
@@ -79,31 +79,31 @@ abbrev pub fresh_lane : LaneState
 fresh_lane = record { objects = []; scope = [] }
 
 -- what the map has under a name, by the last change
-abbrev pub now_named : List ℕ → List NamedNow → Now
+abbrev pub now_named : List ℕ → List NamedNow → MapNow
 now_named name [] = None
 now_named name (o ∷ older) = if bytes_eq o.name name then o.now else now_named name older
 
 -- what a completed call makes of what the map has
-abbrev pub now_after : Now → Request → Reply → Now
+abbrev pub now_after : MapNow → Request → Reply → MapNow
 now_after now request r = fold changed now (change_of (event_of request r))
 
 -- the objects after a completed call on this name, where there is one
-abbrev pub objects_after : List NamedNow → Option (List ℕ) → Request → Reply → List NamedNow
-objects_after objects None request r = objects
-objects_after objects (Some name) request r =
+abbrev pub named_objects_after : List NamedNow → Option (List ℕ) → Request → Reply → List NamedNow
+named_objects_after objects None request r = objects
+named_objects_after objects (Some name) request r =
     record { name = name; now = now_after (now_named name objects) request r } ∷ objects
 
 -- the lane after one of its own lines, or a leave
 abbrev pub alone_after : LaneState → Request → Reply → LaneState
 alone_after lane request r = record {
-  objects = objects_after lane.objects (name_of request) request r;
+  objects = named_objects_after lane.objects (name_of request) request r;
   scope = scope_after lane.scope request r;
 }
 
 -- ---- what it is answered
 
 -- a read, by what the map has
-abbrev pub read_alone : Now → Reply
+abbrev pub read_alone : MapNow → Reply
 read_alone None = answer.Unmade
 read_alone (Some (Held version bytes)) = answer.Bytes version bytes
 read_alone (Some (Freed version)) = answer.Freed
@@ -114,7 +114,7 @@ change_alone version pins =
     if nat_eq pins 0 then answer.Version (version + 1) else answer.Pinned pins
 
 -- a write of so many bytes, by what the map has and the pins on it
-abbrev pub write_alone : Now → ℕ → ℕ → ℕ → Reply
+abbrev pub write_alone : MapNow → ℕ → ℕ → ℕ → Reply
 write_alone None pins at count = answer.Unmade
 write_alone (Some (Held version bytes)) pins at count =
     if nat_le (at + count) (length bytes) then change_alone version pins
@@ -122,7 +122,7 @@ write_alone (Some (Held version bytes)) pins at count =
 write_alone (Some (Freed version)) pins at count = answer.Freed
 
 -- a free, by what the map has and the pins on it
-abbrev pub free_alone : Now → ℕ → Reply
+abbrev pub free_alone : MapNow → ℕ → Reply
 free_alone None pins = answer.Unmade
 free_alone (Some (Held version bytes)) pins = change_alone version pins
 free_alone (Some (Freed version)) pins = answer.Freed
@@ -133,18 +133,18 @@ pin_object (Held version bytes) = answer.Version version
 pin_object (Freed version) = answer.Freed
 
 -- a pin, by what the map has and how many pins the scope has
-abbrev pub pin_alone : Now → ℕ → Reply
+abbrev pub pin_alone : MapNow → ℕ → Reply
 pin_alone None pins = answer.Unmade
 pin_alone (Some object) pins = if nat_eq pins 16 then answer.ScopeFull else pin_object object
 
 -- a peek, by what the map has and the version of the newest pin on it
-abbrev pub peek_alone : Now → Option ℕ → Reply
+abbrev pub peek_alone : MapNow → Option ℕ → Reply
 peek_alone None pinned = answer.Unmade
 peek_alone (Some (Held version bytes)) (Some pinned) = answer.Bytes pinned bytes
 peek_alone (Some object) pinned = answer.NotPinned
 
 -- an unpin, by what the map has and the version of the newest pin on it
-abbrev pub unpin_alone : Now → Option ℕ → Reply
+abbrev pub unpin_alone : MapNow → Option ℕ → Reply
 unpin_alone None pinned = answer.Unmade
 unpin_alone (Some object) None = answer.NotPinned
 unpin_alone (Some object) (Some pinned) = answer.Done
@@ -180,10 +180,10 @@ KeepAlone lines lane state (a ∷ after) =
 -- ---- replies that no line has at ease
 
 -- the reply tells of no lack of room, no loss, no move and no number at its end
-abbrev pub IsCalm : Reply → Type 0
-IsCalm (answer.NoRoom frames loose nodes) = ⊥
-IsCalm (answer.Unavailable set lost) = ⊥
-IsCalm (answer.Full handles) = ⊥
-IsCalm answer.Worn = ⊥
-IsCalm answer.Moving = ⊥
-IsCalm r = Unit {0}
+abbrev pub IsCalmReply : Reply → Type 0
+IsCalmReply (answer.NoRoom frames loose nodes) = ⊥
+IsCalmReply (answer.Unavailable set lost) = ⊥
+IsCalmReply (answer.Full handles) = ⊥
+IsCalmReply answer.Worn = ⊥
+IsCalmReply answer.Moving = ⊥
+IsCalmReply r = Unit {0}

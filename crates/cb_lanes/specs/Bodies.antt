@@ -21,7 +21,7 @@ use Rattle.cb_shared.specs.Joining.{unpinned_all}
 use Rattle.cb_lanes.specs.declared.body.Named.{Named}
 use Rattle.cb_lanes.specs.LineGoes.{Goes, LineGoes}
 use Rattle.cb_lanes.specs.Asked.{answer_to}
-use Rattle.cb_lanes.specs.Names.{AreKept, Names, handle_in, kept_number}
+use Rattle.cb_lanes.specs.Names.{AreKept, Names, kept_number, request_handle}
 use Rattle.cb_lanes.specs.Passing.{goes_in}
 
 -- the lines of this lane, in order
@@ -102,6 +102,6 @@ LaneGoes c names v answers w = (between : View)
 pub record AnswersOne (c : Config) (line : Line) (kept later : Names) (answers all : List Answer)
     (v w : View) : Type 0 where
   pub reply : Reply
-  pub goes : LineGoes (goes_in c) (handle_in kept line.request) line.request v reply w
+  pub goes : LineGoes (goes_in c) (request_handle kept line.request) line.request v reply w
   pub keeps : AreKept kept line.request reply later
   pub answer : all ≡ answers ++ answer_to line line.request reply ∷ []

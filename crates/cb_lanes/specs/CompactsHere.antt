@@ -8,7 +8,7 @@ use Rattle.cb_world.specs.World.{WorldState}
 use Rattle.cb_core.specs.declared.event.Event.TheVariants.{Turn}
 use Rattle.cb_core.specs.Step.{Step}
 use Rattle.cb_core.specs.Turned.{counted}
-use Rattle.cb_local.specs.LocalStep.{IsBeside}
+use Rattle.cb_local.specs.LocalStep.{IsBesideNodes}
 
 -- It is counted and answered as the turn in which the nodes make them, which would lead to `mid`.
 -- The world is `mid` but for two counts of the far state: more rows were given where sets were
@@ -18,5 +18,5 @@ pub record CompactsHere (seat : ℕ) (w : WorldState) (r : Reply) (new : WorldSt
   pub there : Step w (Turn seat Compact) r mid
   pub desk : new.desk ≡ mid.desk
   pub seats : new.seats ≡ mid.seats
-  pub beside : IsBeside (counted w.far Compact) mid.far new.far r
+  pub beside : IsBesideNodes (counted w.far Compact) mid.far new.far r
   pub full : (node : NodeId) → r ≡ answer.NodeFull node → new.far ≡ counted w.far Compact

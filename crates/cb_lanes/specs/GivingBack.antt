@@ -20,8 +20,8 @@ GivesAll seat w new = Leads w (map (end_of seat) (reverse (pins_of_seat w.seats 
     (replicate (length (pins_of_seat w.seats seat)) answer.Done) new
 
 -- how many of these lines are of the lane
-abbrev pub lines_of : ℕ → List ℕ → ℕ
-lines_of lane lanes = count_by (nat_eq lane) lanes
+abbrev pub lines_by : ℕ → List ℕ → ℕ
+lines_by lane lanes = count_by (nat_eq lane) lanes
 
 -- Behind a line whose lane has so many lines yet to come: where there is none, the lane's pins are
 -- given back; else all stays.

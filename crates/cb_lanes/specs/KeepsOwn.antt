@@ -22,7 +22,7 @@ last_in (e ∷ es) h = cond (eqb e.handle h) (Some e) (last_in es h)
 
 -- the entry comes next behind one of its object: it has the next version, goes on from its words, and
 -- keeps its length until it is the freed one, behind which there is none
-pub record ComesNext (x e : Entry) : Type 0 where
+pub record EntryComesNext (x e : Entry) : Type 0 where
   pub there : x.freed ≡ false
   pub next : e.version ≡ x.version + 1
   pub past : e.before ≡ x.after
@@ -31,13 +31,13 @@ pub record ComesNext (x e : Entry) : Type 0 where
 -- or it makes the object
 abbrev pub ComesBehind : Option Entry → Entry → Type 0
 ComesBehind None e = e.version ≡ 1
-ComesBehind (Some x) e = ComesNext x e
+ComesBehind (Some x) e = EntryComesNext x e
 
 -- each entry of these objects comes behind the one before it
-abbrev pub AreInOrder : (ℕ → Type 0) → List Entry → Type 0
-AreInOrder mine [] = Unit {0}
-AreInOrder mine (e ∷ es) =
-    (mine e.handle → ComesBehind (last_in es e.handle) e) × AreInOrder mine es
+abbrev pub AreEntriesInOrder : (ℕ → Type 0) → List Entry → Type 0
+AreEntriesInOrder mine [] = Unit {0}
+AreEntriesInOrder mine (e ∷ es) =
+    (mine e.handle → ComesBehind (last_in es e.handle) e) × AreEntriesInOrder mine es
 
 -- what was read of these objects are entries that were written
 abbrev pub AreRead : (ℕ → Type 0) → List Entry → List Seen → Type 0
@@ -55,7 +55,7 @@ AreMadeFirst turns = MakesFirst 1 turns
 
 -- So of the own objects of a record in the end.
 pub record KeepsOwn (w : View) : Type 0 where
-  pub order : AreInOrder (λ h. Has h w.own) w.written
+  pub order : AreEntriesInOrder (λ h. Has h w.own) w.written
   pub read : AreRead (λ h. Has h w.own) w.written w.seen
   pub long : AreLong (λ h. Has h w.own) w
   pub makes : AreMadeFirst w.turns

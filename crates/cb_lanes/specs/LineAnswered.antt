@@ -6,9 +6,9 @@ use Rattle.cb_script.specs.declared.script.Line.{Line}
 use Rattle.cb_world.specs.World.{WorldState, IsSoundWorld}
 use Rattle.cb_lanes.specs.Asked.{answer_to}
 use Rattle.cb_lanes.specs.declared.side.Side.{Side}
-use Rattle.cb_lanes.specs.GivingBack.{Rests, lines_of}
+use Rattle.cb_lanes.specs.GivingBack.{Rests, lines_by}
 use Rattle.cb_lanes.specs.LineStep.{LineStep}
-use Rattle.cb_lanes.specs.Names.{Names, AreKept, handle_in}
+use Rattle.cb_lanes.specs.Names.{Names, AreKept, request_handle}
 
 -- A line was answered in a world with these names and answers, where these lanes have the lines
 -- behind it: the line leads to a sound world, with the reply of its answer; its lane rests from
@@ -18,8 +18,9 @@ pub record LineAnswered (side : Side) (line : Line) (later : List ℕ) (w : Worl
     (all : List Answer) : Type 0 where
   pub reply : Reply
   pub between : WorldState
-  pub step : LineStep side line.lane.n (handle_in names line.request) line.request w reply between
+  pub step : LineStep side line.lane.n (request_handle names line.request) line.request w reply
+      between
   pub sound : IsSoundWorld between
-  pub rests : Rests (lines_of line.lane.n later) line.lane.n between rested
+  pub rests : Rests (lines_by line.lane.n later) line.lane.n between rested
   pub holds : AreKept names line.request reply kept
   pub answer : all ≡ answers ++ answer_to line line.request reply ∷ []

@@ -11,7 +11,7 @@ use Rattle.cb_types.specs.declared.reply.Reply.TheVariants as answer
 use Rattle.cb_types.specs.Requests.{name_of}
 use Rattle.cb_model.specs.Called.{handle_named}
 use Rattle.cb_world.specs.Memory.{bytes_in}
-use Rattle.cb_world.specs.Seats.{IsNewest, NoneOn, pins_of_seat}
+use Rattle.cb_world.specs.Seats.{IsNewestOf, NoneOn, pins_of_seat}
 use Rattle.cb_world.specs.StillWords.{contents_at}
 use Rattle.cb_world.specs.World.{WorldState, word_at}
 use Rattle.cb_core.specs.declared.event.Atomic.TheVariants as atomic
@@ -21,7 +21,7 @@ use Rattle.cb_core.specs.Step.{Step}
 use Rattle.cb_lanes.specs.CompactsHere.{CompactsHere}
 use Rattle.cb_lanes.specs.declared.side.Side.{Side}
 use Rattle.cb_lanes.specs.declared.side.Side.TheVariants as parities
-use Rattle.cb_lanes.specs.GivingBack.{GivesAll, Rests, lines_of}
+use Rattle.cb_lanes.specs.GivingBack.{GivesAll, Rests, lines_by}
 use Rattle.cb_lanes.specs.LineGoes.{Goes, Calls, Pins, Peeks, Unpins, Leaves, CallGoes, ObjectGoes}
 use Rattle.cb_lanes.specs.LineGoes.{OtherGoes, LineGoes}
 
@@ -30,7 +30,7 @@ use Rattle.cb_lanes.specs.LineGoes.{OtherGoes, LineGoes}
 pub data PeekStep (seat h : ℕ) (w : WorldState) (r : Reply) (new : WorldState) : Type 0 where
   not_pinned : NoneOn (pins_of_seat w.seats seat) h → r ≡ answer.NotPinned → new ≡ w
       → PeekStep seat h w r new
-  shown : (at : ℕ) → (newest : IsNewest (pins_of_seat w.seats seat) h at)
+  shown : (at : ℕ) → (newest : IsNewestOf (pins_of_seat w.seats seat) h at)
       → r ≡ answer.Bytes newest.pin.version
       (bytes_in (contents_at w.desk h) (len_of (word_at w.desk h)))
       → new ≡ w → PeekStep seat h w r new
@@ -111,5 +111,5 @@ abbrev pub LinesLead : Side → List Answer → WorldState → List Answer → W
 LinesLead side before w [] new = new ≡ w
 LinesLead side before w (a ∷ after) new = (between : WorldState) × (rested : WorldState)
     × LineStep side a.lane.n (handle_named before (name_of a.request)) a.request w a.reply between
-    × Rests (lines_of a.lane.n (map (λ later. later.lane.n) after)) a.lane.n between rested
+    × Rests (lines_by a.lane.n (map (λ later. later.lane.n) after)) a.lane.n between rested
     × LinesLead side (before ++ a ∷ []) rested after new

@@ -5,7 +5,7 @@ use Rattle.cb_types.specs.Requests.{name_of}
 use Rattle.cb_model.specs.Called.{handle_named}
 use Rattle.cb_world.specs.World.{WorldState, IsSoundWorld}
 use Rattle.cb_lanes.specs.declared.side.Side.{Side}
-use Rattle.cb_lanes.specs.GivingBack.{Rests, lines_of}
+use Rattle.cb_lanes.specs.GivingBack.{Rests, lines_by}
 use Rattle.cb_lanes.specs.LineStep.{LineStep}
 
 -- as LinesLead, and the world behind each line is sound
@@ -13,5 +13,5 @@ abbrev pub LinesLeadSoundly : Side → List Answer → WorldState → List Answe
 LinesLeadSoundly side before w [] new = new ≡ w
 LinesLeadSoundly side before w (a ∷ after) new = (between : WorldState) × (rested : WorldState)
     × LineStep side a.lane.n (handle_named before (name_of a.request)) a.request w a.reply between
-    × Rests (lines_of a.lane.n (map (λ later. later.lane.n) after)) a.lane.n between rested
+    × Rests (lines_by a.lane.n (map (λ later. later.lane.n) after)) a.lane.n between rested
     × IsSoundWorld rested × LinesLeadSoundly side (before ++ a ∷ []) rested after new

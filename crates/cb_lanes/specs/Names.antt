@@ -31,8 +31,8 @@ abbrev pub handle_at : Names → Option (List ℕ) → Option ℕ
 handle_at names None = None
 handle_at names (Some name) = kept_number names name
 
-abbrev pub handle_in : Names → Request → Option ℕ
-handle_in names request = handle_at names (name_of request)
+abbrev pub request_handle : Names → Request → Option ℕ
+request_handle names request = handle_at names (name_of request)
 
 -- the names after an answer: a make that was given a handle has it kept under its name
 abbrev pub number_after : Names → Request → Reply → List ℕ → Option ℕ

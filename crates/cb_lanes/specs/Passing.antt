@@ -18,7 +18,7 @@ use Rattle.cb_rule.specs.Seats.{pins_on}
 use Rattle.cb_rule.specs.Steps.{IsNewest, with_look, with_pin, without_pin}
 use Rattle.cb_record.specs.Parts.{Grows, Part}
 use Rattle.cb_shared.specs.declared.pass.Pin.{Pin}
-use Rattle.cb_shared.specs.Calls.{AsksFor, AtThis, ReadGives, Stops, TurnGives, WriteAnswers}
+use Rattle.cb_shared.specs.Calls.{AsksFor, AtThis, ReadGives, StopsInVain, TurnGives, WriteAnswers}
 use Rattle.cb_shared.specs.Calls.{the_handle}
 use Rattle.cb_shared.specs.Joining.{unpinned_all}
 use Rattle.cb_shared.specs.Pinning.{FindsFreed}
@@ -53,7 +53,7 @@ PinEnds c h r v w = (d : Part) × AsksFor c (job.Swap (the_handle h)) r h v d ×
 -- tries that came to nothing, and then one that ends so
 pub record PinsAtLast (c : Config) (h : ℕ) (r : Reply) (v w : View) : Type 0 where
   pub between : View
-  pub in_vain : Stops (AtThis h) (job.Swap (the_handle h)) v between
+  pub in_vain : StopsInVain (AtThis h) (job.Swap (the_handle h)) v between
   pub ends_so : PinEnds c h r between w
 
 -- A pin: a pass that has as many pins as it may have is told so, and nothing changes.
@@ -102,13 +102,13 @@ abbrev pub PeekGoes : ℕ → View → Reply → View → Type 0
 PeekGoes h v r w = IsNotPinned h r v w ⊎ ShowsPin h r v w
 
 -- the newest pin on the object is given back
-pub record GivesPin (h : ℕ) (r : Reply) (v w : View) : Type 0 where
+pub record GivesPinBack (h : ℕ) (r : Reply) (v w : View) : Type 0 where
   pub some : 0 < pins_on h v
   pub told : r ≡ answer.Done
   pub left : w ≡ without_pin h v
 
 abbrev pub UnpinGoes : ℕ → View → Reply → View → Type 0
-UnpinGoes h v r w = IsNotPinned h r v w ⊎ GivesPin h r v w
+UnpinGoes h v r w = IsNotPinned h r v w ⊎ GivesPinBack h r v w
 
 -- all pins are given back
 abbrev pub LeaveGoes : View → Reply → View → Type 0
@@ -125,7 +125,7 @@ goes_in c Leaves v r w = LeaveGoes v r w
 -- ---- one try of a pin
 abbrev pub PinTries : Config → ℕ → Option Reply → View → View → Type 0
 PinTries c h (Some r) v w = PinEnds c h r v w
-PinTries c h None v w = Stops (AtThis h) (job.Swap (the_handle h)) v w
+PinTries c h None v w = StopsInVain (AtThis h) (job.Swap (the_handle h)) v w
 
 -- ---- the pins that a lane keeps beside its pass
 -- a pin without the words that stand in the record alone

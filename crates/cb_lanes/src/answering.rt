@@ -3,7 +3,7 @@ ghost use Rattle.std.specs.Option.{option_map};
 ghost use Rattle.cb_script.specs.Form.{IsRequest};
 ghost use Rattle.cb_lanes.specs.LineGoes.{Calls, LineGoes, ObjectGoes, job_of};
 ghost use Rattle.cb_lanes.specs.MayAsk.{StayNamed};
-ghost use Rattle.cb_lanes.specs.Names.{AreKept, AreNamed, IsOnObject, handle_in};
+ghost use Rattle.cb_lanes.specs.Names.{AreKept, AreNamed, IsOnObject, request_handle};
 
 use crate::caller::Caller;
 use cb_types::{Bytes, Handle, Job, Name, NoMemory, Reply, Request};
@@ -23,7 +23,7 @@ pub(crate) fn reply_to<'a, C: Caller>(
     requires ready { AreNamed (C.may_name caller.now lane.old) names.old }
     requires well { C.well caller.now lane.old }
     ensures line { IfOk result (λ reply. LineGoes (C.goes caller.now)
-        (handle_in names.old request.now) request.now lane.old reply lane.new) }
+        (request_handle names.old request.now) request.now lane.old reply lane.new) }
     ensures names { IfOk result (λ reply. AreKept names.old request.now reply names.new) }
     ensures ready { IfOk result (λ reply. AreNamed (C.may_name caller.now lane.new) names.new) }
     ensures well { C.well caller.now lane.new }
@@ -104,7 +104,7 @@ fn call_named<'a, C: Caller>(
     requires ready { AreNamed (C.may_name caller.now lane.old) names.now }
     requires well { C.well caller.now lane.old }
     ensures step { IfOk result (λ reply. ObjectGoes (C.goes caller.now)
-        (handle_in names.now request.now) request.now lane.old reply lane.new) }
+        (request_handle names.now request.now) request.now lane.old reply lane.new) }
     ensures stays { IfOk result (λ reply.
         StayNamed (C.may_name caller.now lane.old) (C.may_name caller.now lane.new)) }
     ensures well { C.well caller.now lane.new }
@@ -117,7 +117,7 @@ fn call_named<'a, C: Caller>(
 
 /// The handle that is kept for the request's name.
 fn handle_of<'a>(names: &HashMap<&'a [u8], Handle>, request: &'a Request) -> Option<Handle>
-    ensures { option_map (λ handle. handle.n) result ≡ handle_in names.now request.now }
+    ensures { option_map (λ handle. handle.n) result ≡ request_handle names.now request.now }
 {
     let name = request.name()?;
     names.get(&name.as_slice()).copied()

@@ -1,7 +1,7 @@
 ghost use Rattle.std.specs.Prelude.{◌≡◌, ◌+◌, ◌<◌, ◌≤◌, ℕ, List, ◌∷◌, length, slice_index, IfOk};
 ghost use Rattle.cb_world.specs.Seats.{pins_of_seat};
 ghost use Rattle.cb_world.specs.World.{WorldState, IsSoundWorld};
-ghost use Rattle.cb_lanes.specs.GivingBack.{GivesAll, Rests, lines_of};
+ghost use Rattle.cb_lanes.specs.GivingBack.{GivesAll, Rests, lines_by};
 ghost use Rattle.cb_lanes.specs.LinesLeft.{AreLanes, AreLeft, lanes_of};
 
 use cb_core::{Atomic, Event, step};
@@ -80,7 +80,7 @@ pub(crate) fn take_line(left: &mut [u32; LANES], lane: u8) -> u32
     requires lane { lane < 16 }
     requires some { 1 ≤ slice_index left.old lane }
     ensures left { (later : List ℕ) → AreLeft (lane ∷ later) left.old
-        → AreLeft later left.new × (result ≡ lines_of lane later) }
+        → AreLeft later left.new × (result ≡ lines_by lane later) }
 {
     let count = left[usize::from(lane)] - 1;
     left[usize::from(lane)] = count;

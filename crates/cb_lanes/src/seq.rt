@@ -5,7 +5,7 @@ ghost use Rattle.cb_script.specs.Form.{IsRequest, IsScript};
 ghost use Rattle.cb_script.specs.Roomy.{IsAtEase};
 ghost use Rattle.cb_world.specs.Seats.{pins_of_seat};
 ghost use Rattle.cb_world.specs.World.{IsSoundWorld, empty_world};
-ghost use Rattle.cb_lanes.specs.Alone.{HasOwnLines, IsCalm, KeepAlone, fresh_lane};
+ghost use Rattle.cb_lanes.specs.Alone.{HasOwnLines, IsCalmReply, KeepAlone, fresh_lane};
 ghost use Rattle.cb_lanes.specs.Asked.{asked, HasLineReply};
 ghost use Rattle.cb_lanes.specs.Held.{HoldsAnswers};
 ghost use Rattle.cb_lanes.specs.LineAnswered.{LineAnswered};
@@ -57,7 +57,7 @@ pub fn run_lines(alloc: Global, s: &Script, side: Side) -> Result<SeqEnd, NoMemo
     ensures scopes { IfOk result (λ end. KeepScopes [] end.answers) }
     ensures idle { IfOk result (λ end. (seat : ℕ) → pins_of_seat end.world.seats seat ≡ []) }
     ensures calm { IfOk result (λ end.
-        IsAtEase s.now → AllByRecursion (λ a. IsCalm a.reply) end.answers) }
+        IsAtEase s.now → AllByRecursion (λ a. IsCalmReply a.reply) end.answers) }
     ensures alone { IfOk result (λ end. IsAtEase s.now → (lane : ℕ)
         → HasOwnLines s.now.lines lane → KeepAlone s.now.lines lane fresh_lane end.answers) }
 {

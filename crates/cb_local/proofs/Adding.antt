@@ -6,7 +6,7 @@ use Rattle.cb_gf256.specs.Block.{with_row}
 use Rattle.cb_gf256.specs.Row.{row_sum, scaled_row}
 use Rattle.cb_gf256.specs.Rows.{HaveLength, byte_at, row_at}
 use Rattle.cb_gf256.proofs.PublicLaws.{row_sum_length, scaled_row_length, written_count, written_lengths, written_row}
-use Rattle.cb_local.specs.Adding.{IsAdded}
+use Rattle.cb_local.specs.Adding.{IsDeltaAdded}
 
 -- it is added to the parities below this one
 pub record IsAddedBelow (table : List (List ℕ)) (position : ℕ) (delta : List ℕ)
@@ -62,7 +62,7 @@ one_more table position delta old now n row g within is =
 
 pub all_added : (table : List (List ℕ)) (position : ℕ) (delta : List ℕ) (old now : List (List ℕ))
     (n : ℕ) → IsAddedBelow table position delta old now n → length old ≤ n
-    → IsAdded table position delta old now
+    → IsDeltaAdded table position delta old now
 all_added table position delta old now n g past = record {
   count = g.count;
   rows = λ j l. g.front j (omega (arith, l, past));

@@ -13,8 +13,8 @@ use Rattle.cb_world.specs.Sound.{Sound}
 use Rattle.cb_world.specs.Stored.{all_dropped}
 use Rattle.cb_world.proofs.Laws.{recounted_sound}
 use Rattle.cb_compact.specs.MergeStep.{IsMerged, replaced_shards, with_merged}
-use Rattle.cb_compact.specs.Standing.{IsFreshPair}
-use Rattle.cb_compact.specs.Steps.{IsMergedRow}
+use Rattle.cb_compact.specs.PartStep.{IsFreshPair}
+use Rattle.cb_compact.specs.PatchStep.{IsMergedRow}
 use Rattle.cb_local.specs.Putting.{with_count}
 
 pub sound_counted : (s : Shown) (far : FarState) (given : ℕ) → Sound s far

@@ -9,7 +9,7 @@ use Rattle.cb_node.specs.NodesState.{NodesState}
 use Rattle.cb_set.specs.SetState.{SetState, parities}
 use Rattle.cb_world.specs.declared.shown.Shown.{Shown}
 use Rattle.cb_world.specs.FarState.{FarState}
-use Rattle.cb_world.specs.Fetched.{StandAt, with_given}
+use Rattle.cb_world.specs.Fetched.{StandAt, with_rows_given}
 use Rattle.cb_world.specs.Joining.{JoiningState}
 use Rattle.cb_world.specs.Merged.{AreTaken}
 use Rattle.cb_world.specs.SetWord.{IsSpanWord}
@@ -17,7 +17,7 @@ use Rattle.cb_world.specs.Stored.{AreThere}
 use Rattle.cb_compact.specs.Deltas.{HaveAllRows, IsOfCode, StandTogether}
 use Rattle.cb_compact.proofs.Laws.{fresh_code, fresh_together, fresh_words, taken_few as few_taken}
 use Rattle.cb_local.specs.Delta.{IsOrder, width}
-use Rattle.cb_local.specs.Fetching.{AreFetched, CanFetch, HasOrder, IsBlank, IsFetched, rows_given}
+use Rattle.cb_local.specs.Fetching.{AreFetched, CanFetch, HasOrder, IsBlank, IsOrderFetched, rows_given}
 use Rattle.cb_local.specs.declared.order.DeltaOrder.{DeltaOrder}
 use Rattle.cb_local.proofs.Merged.{wide_row}
 
@@ -48,7 +48,7 @@ stand_at nodes shards w k r positions rows there count word below i l =
 
 -- and so once rows were given out
 pub stand_given : (nodes new : NodesState) (shards : List Shard) (w : List (List ℕ))
-    (positions : List ℕ) (n : ℕ) → new ≡ with_given nodes n → StandAt nodes shards w positions
+    (positions : List ℕ) (n : ℕ) → new ≡ with_rows_given nodes n → StandAt nodes shards w positions
     → StandAt new shards w positions
 stand_given nodes new shards w positions n is stand =
     subst (λ (m : NodesState). StandAt m shards w positions) (sym is) (λ i l.
@@ -56,10 +56,10 @@ stand_given nodes new shards w positions n is stand =
     record { shard = x.shard; at = x.at; node = x.node; row = x.row; wide = x.wide })
 
 -- rows given out one after another
-pub given_twice : (nodes mid new : NodesState) (m n : ℕ) → mid ≡ with_given nodes m
-    → new ≡ with_given mid n → new ≡ with_given nodes (m + n)
+pub given_twice : (nodes mid new : NodesState) (m n : ℕ) → mid ≡ with_rows_given nodes m
+    → new ≡ with_rows_given mid n → new ≡ with_rows_given nodes (m + n)
 given_twice nodes mid new m n first second =
-    second ∙ ap (λ (x : NodesState). with_given x n) first
+    second ∙ ap (λ (x : NodesState). with_rows_given x n) first
     ∙ ap (λ (g : ℕ). record nodes { given = g })
     (let e : nodes.given + m + n ≡ nodes.given + (m + n) = omega arith in e)
 
@@ -206,7 +206,7 @@ module _ (s : Shown) (far : FarState) (pair : JoiningState) (a b : SetState)
     }
 
     pub is_fetched : (new : DeltaOrder) → AreFetched far.nodes pair order new
-        → IsFetched far pair a b new
+        → IsOrderFetched far pair a b new
     is_fetched new x = record {
       order_is = x.order;
       taken_is = x.taken_is;

@@ -12,13 +12,13 @@ use Rattle.cb_world.specs.Stored.{AreThere, all_dropped}
 use Rattle.cb_compact.specs.MergeStep.{IsMerged, replaced_shards}
 use Rattle.cb_compact.specs.Merging.{IsReadyToMerge}
 use Rattle.cb_compact.specs.NowGoing.{HasGone, with_keys, without_pair}
-use Rattle.cb_compact.specs.Pairing.{numbered}
+use Rattle.cb_compact.specs.PairStep.{set_numbered}
 use Rattle.cb_compact.specs.MergeStep.{moved_count}
-use Rattle.cb_compact.specs.Standing.{IsFreshPair, with_parted}
+use Rattle.cb_compact.specs.PartStep.{IsFreshPair, with_parted}
 use Rattle.cb_compact.proofs.Laws.{dropped_given, ends_merged, fresh_code, gone_all, gone_sets, gone_there, none_gone, taken_few}
 use Rattle.cb_local.specs.Delta.{DoneState}
-use Rattle.cb_local.specs.Fetching.{IsMade, far_given, rows_given}
-use Rattle.cb_local.specs.LocalGoing.{EndsMergedHere, HasGoneGiving, IsBegunPair, IsStopped}
+use Rattle.cb_local.specs.Fetching.{AreParitiesMade, far_given, rows_given}
+use Rattle.cb_local.specs.LocalGoing.{EndsMergedHere, HasGoneGiving, IsBegunPair, IsJoinStopped}
 use Rattle.cb_local.specs.Putting.{ArePut, with_count}
 use Rattle.cb_local.proofs.Counted.{dropped_counted, fresh_counted, merged_counted, sound_counted}
 use Rattle.cb_local.specs.Rooms.{AllHaveRoom}
@@ -78,7 +78,7 @@ module _ (done : DoneState) (s : Shown) (begun : FarState) (first : JoiningState
       (replaced_shards x.taken.pair.steps x.taken.pair.shards_a)
       ∙ dropped_given far.nodes x.taken.pair.shards_b ∙ x.given in record {
         mid = with_count new begun.nodes.given;
-        set = numbered far.counts.sets;
+        set = set_numbered far.counts.sets;
         moved = moved_count x.taken.pair b;
         reply = m.reply;
         ends = ends_merged begun plain (with_count new begun.nodes.given) (Ok r)
@@ -99,7 +99,7 @@ stopped_there s begun far sound x =
 pub undone_stops : (begun far new : FarState) (keys : ℕ) → (x : HasGoneGiving begun far)
     → keys ≡ begun.counts.keys
     → ((q : JoiningState) → far.joining ≡ Some q → new ≡ with_keys (with_parted far q) keys)
-    → IsStopped begun new
+    → IsJoinStopped begun new
 undone_stops begun far new keys x same undo =
     let pair = x.gone.pair in let shards = put_shards pair.steps in record {
       rows = x.rows;
@@ -127,7 +127,8 @@ stopped_first s begun new pair a b is x = record {
 
 pub put_none : (done : DoneState) (s : Shown) (begun : FarState) (pair : JoiningState)
     (a b : SetState) (far : FarState) → IsBegunPair s begun pair a b → AllHaveRoom begun pair a
-    → IsMade begun pair a b done → far ≡ far_given begun (rows_given pair.taken (parities a))
+    → AreParitiesMade begun pair a b done
+    → far ≡ far_given begun (rows_given pair.taken (parities a))
     → ArePut done s begun pair a b far 0
 put_none done s begun pair a b far is rooms made state =
     subst (λ (f : FarState). ArePut done s begun pair a b f 0) (sym state) (record {

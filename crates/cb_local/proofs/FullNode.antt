@@ -12,12 +12,12 @@ use Rattle.cb_world.specs.Joining.{JoiningState}
 use Rattle.cb_world.specs.Sound.{Sound}
 use Rattle.cb_world.specs.Stored.{all_dropped}
 use Rattle.cb_compact.specs.NowGoing.{GoesTo, without_pair}
-use Rattle.cb_compact.specs.Standing.{with_parted}
-use Rattle.cb_compact.specs.Steps.{IsFull, is_undone, shard_beside, with_stepped}
+use Rattle.cb_compact.specs.PartStep.{with_parted}
+use Rattle.cb_compact.specs.PatchStep.{IsNodeFull, is_undone, shard_beside, with_stepped}
 use Rattle.cb_compact.proofs.Laws.{as_fresh, ends_full}
 use Rattle.cb_local.specs.LocalGoing.{EndsFullHere, IsBegunPair}
-use Rattle.cb_local.specs.Putting.{HasTaken}
-use Rattle.cb_local.specs.Rooms.{HaveRoom, IsFirstFull}
+use Rattle.cb_local.specs.Putting.{HasTakenSteps}
+use Rattle.cb_local.specs.Rooms.{HaveStepRoom, IsFirstFull}
 use Rattle.cb_local.proofs.RowThere.{row_exists}
 use Rattle.cb_local.proofs.Taking.{none_taken, taken_below, taken_one, taken_past, taken_sound}
 
@@ -26,10 +26,10 @@ module _ (s : Shown) (begun : FarState) (first : JoiningState) (a b : SetState)
   -- the steps of a pair in front of a full node
   record AreBefore (n : ℕ) : Type 0 where
     pub far : FarState
-    pub taken : HasTaken begun first a b far n
+    pub taken : HasTakenSteps begun first a b far n
 
-  one_before : (n : ℕ) (far : FarState) → HasTaken begun first a b far n
-      → HaveRoom begun first a n (n + 1) → n < length first.steps → AreBefore (n + 1)
+  one_before : (n : ℕ) (far : FarState) → HasTakenSteps begun first a b far n
+      → HaveStepRoom begun first a n (n + 1) → n < length first.steps → AreBefore (n + 1)
   one_before n far x room within = by (is_undone x.pair (length a.positions) n) refl
     where
       by : (c : Bool) → is_undone x.pair (length a.positions) n ≡ c → AreBefore (n + 1)
@@ -56,10 +56,10 @@ module _ (s : Shown) (begun : FarState) (first : JoiningState) (a b : SetState)
             }) at (omega (arith, fits, same, wide)) row.1;
           }
 
-  all_before : (m n : ℕ) (far : FarState) → HasTaken begun first a b far n
-      → HaveRoom begun first a n (n + m) → n + m ≤ length first.steps → AreBefore (n + m)
+  all_before : (m n : ℕ) (far : FarState) → HasTakenSteps begun first a b far n
+      → HaveStepRoom begun first a n (n + m) → n + m ≤ length first.steps → AreBefore (n + m)
   all_before zero n far x room within =
-      record { far = far; taken = subst (HasTaken begun first a b far) (omega arith) x }
+      record { far = far; taken = subst (HasTakenSteps begun first a b far) (omega arith) x }
   all_before (suc m) n far x room within =
       let y = one_before n far x (λ q old l h. room q old l (omega (arith, h)))
       (omega (arith, within)) in
@@ -67,7 +67,7 @@ module _ (s : Shown) (begun : FarState) (first : JoiningState) (a b : SetState)
       (λ q old l h. room q old (omega (arith, l)) (omega (arith, h))) (omega (arith, within)) in
       record {
         far = z.far;
-        taken = subst (HasTaken begun first a b z.far)
+        taken = subst (HasTakenSteps begun first a b z.far)
             (let e : n + 1 + m ≡ n + suc m = omega arith in e) z.taken;
       }
 
@@ -83,7 +83,7 @@ module _ (s : Shown) (begun : FarState) (first : JoiningState) (a b : SetState) 
       (λ q old l h. x.before q old l (omega (arith, h)))
       (let l = x.within in omega (arith, l)))
 
-  is_full : IsFull before.far before.taken.pair a before.far (answer.NodeFull node)
+  is_full : IsNodeFull before.far before.taken.pair a before.far (answer.NodeFull node)
   is_full = let t = before.taken in record {
     position = x.position;
     next = record {
@@ -103,7 +103,7 @@ module _ (s : Shown) (begun : FarState) (first : JoiningState) (a b : SetState) 
     x.position,
     t.gone,
     as_fresh before.far t.pair t.gone.pair a b t.gone.a t.gone.b
-        (λ (p : JoiningState) (c d : SetState). IsFull before.far p c before.far
+        (λ (p : JoiningState) (c d : SetState). IsNodeFull before.far p c before.far
         (answer.NodeFull node)) t.fresh t.gone.fresh is_full,
   )
 

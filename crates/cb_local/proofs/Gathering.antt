@@ -7,13 +7,13 @@ use Rattle.cb_gf256.specs.Block.{with_row}
 use Rattle.cb_gf256.specs.Rows.{HaveLength, row_at}
 use Rattle.cb_gf256.proofs.PublicLaws.{written_count, written_lengths, written_row}
 use Rattle.cb_member.specs.declared.names.Shard.{Shard}
-use Rattle.cb_node.specs.NodesState.{NodesState, row_at as row_under}
-use Rattle.cb_world.specs.Fetched.{StandAt, with_given}
+use Rattle.cb_node.specs.NodesState.{NodesState, row_under}
+use Rattle.cb_world.specs.Fetched.{StandAt, with_rows_given}
 
 -- the rows of the first i positions are those of each word that stands there
 pub record AreGiven (old now : NodesState) (shards : List Shard) (positions : List ℕ)
     (table : List (List ℕ)) (i : ℕ) : Type 0 where
-  pub nodes : now ≡ with_given old i
+  pub nodes : now ≡ with_rows_given old i
   pub count : length table ≡ length positions
   pub lengths : HaveLength 4096 table
   pub rows : (rows : List (List ℕ)) → StandAt old shards rows positions → (j : ℕ) → j < i
@@ -52,7 +52,7 @@ shard_same a b e = cc
 
 -- the row that is given for a position
 pub row_stands : (old now : NodesState) (shards : List Shard) (positions : List ℕ) (i p : ℕ)
-    (shard : Shard) (rows : List (List ℕ)) → now ≡ with_given old i
+    (shard : Shard) (rows : List (List ℕ)) → now ≡ with_rows_given old i
     → StandAt old shards rows positions → i < length positions → p ≡ get_or positions i 0
     → slice_get shards p ≡ Some shard
     → (row_under now shard.node shard.key ≡ Some (row_at rows (get_or positions i 0)))

@@ -11,7 +11,7 @@ pub mod Taking
 pub mod FullNode
 pub mod PutStep
 pub mod Finishing
-pub mod LocalKept
+pub mod LocalKeeps
 pub mod WorkedLocal
 pub mod LocalLaws
 pub mod Laws

@@ -12,20 +12,20 @@ use Rattle.cb_world.specs.Pairs.{HoldsNoPair}
 use Rattle.cb_world.specs.Sound.{Sound}
 use Rattle.cb_world.proofs.Laws.{KeepsHolding, StaysBy, StaysIfBy, rises_more, stays_noted, stays_same}
 use Rattle.cb_compact.specs.NowGoing.{with_keys}
-use Rattle.cb_compact.specs.NowStep.{Ends, NowStep}
-use Rattle.cb_compact.specs.Pairing.{live_positions}
+use Rattle.cb_compact.specs.CompactStep.{CompactStep, PairEnds}
+use Rattle.cb_compact.specs.PairStep.{live_positions}
 use Rattle.cb_compact.proofs.Laws.{AreFarLaws, LeavesLocal, begin_laws, first_fixed, now_given, now_laws}
 use Rattle.cb_local.specs.Fetching.{far_given, rows_given}
-use Rattle.cb_local.specs.LocalStep.{IsBeside, IsMergedHere, IsRefused, LocalStep}
+use Rattle.cb_local.specs.LocalStep.{IsBesideNodes, IsMergedHere, IsNotMerged, LocalStep}
 use Rattle.cb_local.proofs.Finishing.{rows_few}
-use Rattle.cb_local.proofs.LocalKept.{local_keeps, paired_fresh}
+use Rattle.cb_local.proofs.LocalKeeps.{local_keeps, paired_fresh}
 
 -- ---- a refusal leaves the far state as it was, or as the nodes' turn leaves it
 data IsEither (far mid new : FarState) : Type 0 where
   as_it_was : new ≡ far → IsEither far mid new
   as_there : new ≡ mid → IsEither far mid new
 
-either : (far mid new : FarState) (r : Reply) → NowStep far mid r → IsRefused far mid new r
+either : (far mid new : FarState) (r : Reply) → CompactStep far mid r → IsNotMerged far mid new r
     → ((node : NodeId) → r ≡ answer.NodeFull node → new ≡ far) → IsEither far mid new
 either far mid new r (inl x) z full =
     as_it_was (z.state ∙ ap (λ (f : FarState). with_keys f far.counts.keys) x.state)
@@ -33,7 +33,7 @@ either far mid new r (inr (inl x)) z full =
     as_there (z.state ∙ ap (with_keys mid) (sym (ap (λ (f : FarState). f.counts.keys) x.state)))
 either far mid new r (inr (inr x)) z full = by x.ends
   where
-    by : Ends x.stepped mid r → IsEither far mid new
+    by : PairEnds x.stepped mid r → IsEither far mid new
     by (inl y) = as_it_was (full y.node y.reply)
     by (inr y) = absurd (z.refusal y.set y.moved y.reply)
 
@@ -107,7 +107,7 @@ local_stays c s far new r sound x is = by x.beside
         subst (StaysBy KeepsHolding c 36 far) (sym e)
         (more_stays c 20 far x.mid (omega arith) at_mid)
 
-    by : IsBeside far x.mid new r → StaysBy KeepsHolding c 36 far new
+    by : IsBesideNodes far x.mid new r → StaysBy KeepsHolding c 36 far new
     by (inl y) = refused (either far x.mid new r x.same y x.full)
     by (inr y) = subst (StaysBy KeepsHolding c 36 far) (sym y.state)
         (given_stays c far x.mid _ (merged_few s far x.mid new r sound y)
@@ -120,7 +120,7 @@ local_leaves far new r x = by x.beside
     z : LeavesLocal far x.mid
     z = now_laws.leaves far x.mid r x.same
 
-    by : IsBeside far x.mid new r → LeavesLocal far new
+    by : IsBesideNodes far x.mid new r → LeavesLocal far new
     by (inl y) = subst (LeavesLocal far) (sym y.state) (record {
       first = z.first;
       made = z.made;
@@ -143,7 +143,7 @@ local_leaves far new r x = by x.beside
 -- ---- one reply and one far state
 -- beside one far state stands one, by the reply
 pub beside_fixed : (far mid there new other : FarState) (r q : Reply) → r ≡ q → mid ≡ there
-    → IsBeside far mid new r → IsBeside far there other q → new ≡ other
+    → IsBesideNodes far mid new r → IsBesideNodes far there other q → new ≡ other
 beside_fixed far mid there new other r q e f (inl a) (inl b) =
     a.state ∙ ap (λ (m : FarState). with_keys m far.counts.keys) f ∙ sym b.state
 beside_fixed far mid there new other r q e f (inl a) (inr b) =

@@ -6,7 +6,7 @@ use Rattle.cb_gf256.specs.Rows.{HaveLength, byte_at, row_at}
 use Rattle.cb_gf256.specs.Sum.{◌⊕◌}
 use Rattle.cb_gf256.proofs.PublicLaws.{at_default, row_sum_by_byte, row_sum_length, scaled_row_by_byte, scaled_row_length, sum_associates, sum_with_zero}
 use Rattle.cb_code.specs.Coefficients.{AreCoefficients}
-use Rattle.cb_local.specs.Adding.{IsAdded}
+use Rattle.cb_local.specs.Adding.{IsDeltaAdded}
 use Rattle.cb_local.specs.Delta.{ArePatched, IsOrder, added_byte, width}
 use Rattle.cb_local.specs.declared.order.DeltaOrder.{DeltaOrder}
 
@@ -71,7 +71,7 @@ module _ (table : List (List ℕ)) (order : DeltaOrder) (is : IsOrder order) (n 
     wide_as rows wide j d l = wide j d l ∙ sym change_long
 
     pub one_patched : (rows next : List (List ℕ)) (before : List ℕ)
-        → ArePatchedTo table order rows before n → IsAdded table position change rows next
+        → ArePatchedTo table order rows before n → IsDeltaAdded table position change rows next
         → ArePatchedTo table order next change (n + 1)
     one_patched rows next before x added =
         let more : suc n ≡ n + 1 = omega arith in

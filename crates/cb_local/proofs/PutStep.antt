@@ -13,11 +13,11 @@ use Rattle.cb_world.specs.FarState.{FarState}
 use Rattle.cb_world.specs.Joining.{JoiningState}
 use Rattle.cb_world.specs.Merged.{IsMergedWord}
 use Rattle.cb_world.specs.Sound.{Sound}
-use Rattle.cb_compact.specs.Standing.{IsFreshPair}
-use Rattle.cb_compact.specs.Steps.{IsMergedRow, IsNext, is_undone, shard_beside, with_stepped}
+use Rattle.cb_compact.specs.PartStep.{IsFreshPair}
+use Rattle.cb_compact.specs.PatchStep.{IsMergedRow, IsNext, is_undone, shard_beside, with_stepped}
 use Rattle.cb_compact.proofs.Laws.{few_steps, fresh_code}
 use Rattle.cb_local.specs.Delta.{DoneState}
-use Rattle.cb_local.specs.Putting.{ArePut, HasTaken, with_count}
+use Rattle.cb_local.specs.Putting.{ArePut, HasTakenSteps, with_count}
 use Rattle.cb_local.specs.Words.{AreMergedParities, IsOfWords}
 use Rattle.cb_local.specs.declared.order.DeltaOrder.{DeltaOrder}
 use Rattle.cb_local.proofs.Counted.{fresh_counted, sound_counted}
@@ -138,7 +138,7 @@ module _ (done : DoneState) (s : Shown) (begun : FarState) (first : JoiningState
           made = x.made;
           rooms = x.rooms;
           few = x.few;
-          taken = subst (λ (f : FarState). HasTaken begun first a b f (n + 1))
+          taken = subst (λ (f : FarState). HasTakenSteps begun first a b f (n + 1))
               (sym (ap (λ (f : FarState). with_count f begun.nodes.given) state))
               (taken_one s begun first a b plain n x.sound x.taken at_old row at_next at_there
               at_room merged);

@@ -14,8 +14,8 @@ use Rattle.cb_world.specs.SetWord.{IsSpanWord}
 use Rattle.cb_world.specs.Sound.{Sound}
 use Rattle.cb_world.proofs.Laws.{same_data}
 use Rattle.cb_compact.specs.Deltas.{HaveAllRows}
-use Rattle.cb_compact.specs.Standing.{IsFreshPair}
-use Rattle.cb_compact.specs.Steps.{IsMergedRow}
+use Rattle.cb_compact.specs.PartStep.{IsFreshPair}
+use Rattle.cb_compact.specs.PatchStep.{IsMergedRow}
 use Rattle.cb_compact.proofs.Laws.{fresh_code, fresh_together, has_merged}
 
 -- all rows of two words stand at the same shards

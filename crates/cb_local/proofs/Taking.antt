@@ -18,17 +18,17 @@ use Rattle.cb_world.specs.Sets.{set_in}
 use Rattle.cb_world.specs.SetWord.{IsWordOf}
 use Rattle.cb_world.specs.Sound.{Sound}
 use Rattle.cb_compact.specs.NowGoing.{IsUndone, TriesStep}
-use Rattle.cb_compact.specs.Standing.{IsFreshPair}
-use Rattle.cb_compact.specs.Steps.{IsMergedRow, IsNext, IsOneStep, is_undone, shard_beside, with_stepped}
+use Rattle.cb_compact.specs.PartStep.{IsFreshPair}
+use Rattle.cb_compact.specs.PatchStep.{IsMergedRow, IsNext, IsOneStep, is_undone, shard_beside, with_stepped}
 use Rattle.cb_compact.proofs.Laws.{as_fresh, fresh_code, gone_on, gone_sound, none_gone, step_other}
-use Rattle.cb_local.specs.Putting.{HasTaken}
+use Rattle.cb_local.specs.Putting.{HasTakenSteps}
 
 no_shard : Shard
 no_shard = record { node = record { n = 0 }; incarnation = 0; key = 0 }
 
 -- at the begin
 pub none_taken : (begun : FarState) (pair : JoiningState) (a b : SetState)
-    → IsFreshPair begun pair a b → IsUndone pair → HasTaken begun pair a b begun 0
+    → IsFreshPair begun pair a b → IsUndone pair → HasTakenSteps begun pair a b begun 0
 none_taken begun pair a b fresh undone = record {
   gone = none_gone begun pair a b fresh undone;
   pair = pair;
@@ -52,7 +52,7 @@ apart shards i j x y distinct less at other same =
     ∙ sym (ap (λ (s : Shard). s.node.n) (get_or_from_slice_get shards j y no_shard other)))
 
 module _ (s : Shown) (begun : FarState) (first : JoiningState) (a b : SetState) (far : FarState)
-    (n : ℕ) (sound : Sound s begun) (x : HasTaken begun first a b far n) where
+    (n : ℕ) (sound : Sound s begun) (x : HasTakenSteps begun first a b far n) where
   pub taken_sound : Sound s far
   taken_sound = gone_sound s begun far n sound x.gone
 
@@ -72,7 +72,7 @@ module _ (s : Shown) (begun : FarState) (first : JoiningState) (a b : SetState) 
 
   -- nothing was to be done
   pub taken_past : is_undone x.pair (length a.positions) n ≡ false
-      → HasTaken begun first a b far (n + 1)
+      → HasTakenSteps begun first a b far (n + 1)
   taken_past e = record {
     gone = gone_on s begun far far n None taken_sound x.gone (goes far None (inl (e, refl, refl)));
     pair = x.pair;
@@ -134,7 +134,7 @@ module _ (s : Shown) (begun : FarState) (first : JoiningState) (a b : SetState) 
         (ap (λ (t : List Shard). slice_get t n) e ∙ at)
         (ap (λ (t : List Shard). slice_get t q) (e ∙ x.shards) ∙ here) (sym same)
 
-    pub taken_one : HasTaken begun first a b after (n + 1)
+    pub taken_one : HasTakenSteps begun first a b after (n + 1)
     taken_one = record {
       gone = gone_on s begun far after n None taken_sound x.gone
           (goes after None (inr (next, step)));

@@ -8,11 +8,11 @@ use Rattle.cb_types.specs.declared.reply.Reply.{Reply}
 use Rattle.cb_types.specs.declared.reply.Reply.TheVariants as answer
 use Rattle.cb_world.specs.FarState.{FarState}
 use Rattle.cb_world.proofs.Laws.{node}
-use Rattle.cb_compact.specs.Pairing.{live_positions, numbered}
+use Rattle.cb_compact.specs.PairStep.{live_positions, set_numbered}
 use Rattle.cb_compact.proofs.Laws.{first_fixed, full_turn, idle, joining, now_laws, paired, set_a, set_b}
 use Rattle.cb_local.specs.Fetching.{far_given, rows_given}
-use Rattle.cb_local.specs.LocalGoing.{IsStopped}
-use Rattle.cb_local.specs.LocalStep.{IsMergedHere, IsRefused, LocalStep}
+use Rattle.cb_local.specs.LocalGoing.{IsJoinStopped}
+use Rattle.cb_local.specs.LocalStep.{IsMergedHere, IsNotMerged, LocalStep}
 use Rattle.cb_local.specs.Putting.{with_count}
 
 -- ---- how many rows are given: two for a taken position, one for a parity
@@ -32,11 +32,11 @@ counted_as = refl
 full_or_merged : (n : NodeId) (s : SetId) (m : ℕ) → answer.NodeFull n ≡ answer.Merged s m → ⊥
 full_or_merged n s m e = cc
 
-refused : IsRefused (idle 1) (idle 1) (idle 1) (answer.NodeFull (node 1))
+refused : IsNotMerged (idle 1) (idle 1) (idle 1) (answer.NodeFull (node 1))
 refused = record { refusal = full_or_merged (node 1); state = refl }
 
 not_where_sets_are_merged : (far mid new : FarState) (s : SetId) (m : ℕ)
-    → IsRefused far mid new (answer.Merged s m) → ⊥
+    → IsNotMerged far mid new (answer.Merged s m) → ⊥
 not_where_sets_are_merged far mid new s m x = x.refusal s m refl
 
 full_here : LocalStep (idle 1) (idle 1) (answer.NodeFull (node 1))
@@ -47,11 +47,11 @@ full_here = record {
   full = λ n e. refl;
 }
 
-no_row_given : IsRefused (idle 1) (idle 1) (far_given (idle 1) 3) (answer.NodeFull (node 1)) → ⊥
+no_row_given : IsNotMerged (idle 1) (idle 1) (far_given (idle 1) 3) (answer.NodeFull (node 1)) → ⊥
 no_row_given x =
     let e : 3 ≡ 0 = ap (λ (f : FarState). f.nodes.given) x.state in omega (arith, e)
 
-no_key_drawn : IsRefused (idle 1) (idle 1)
+no_key_drawn : IsNotMerged (idle 1) (idle 1)
     (record (idle 1) { counts = record (idle 1).counts { keys = 99 } }) (answer.NodeFull (node 1))
     → ⊥
 no_key_drawn x =
@@ -68,13 +68,13 @@ no_other_reply : (new : FarState) → LocalStep (idle 1) new answer.Stays → �
 no_other_reply new x = now_laws.answers (idle 1) x.mid answer.Stays x.same
 
 -- ---- two sets that are merged: three rows are given
-merged : IsMergedHere (idle 2) (idle 2) (far_given (idle 2) 3) (answer.Merged (numbered 2) 1)
+merged : IsMergedHere (idle 2) (idle 2) (far_given (idle 2) 3) (answer.Merged (set_numbered 2) 1)
 merged = record {
-  set = numbered 2;
+  set = set_numbered 2;
   moved = 1;
   reply = refl;
   begun = joining 2;
-  begins = answer.Pair (numbered 0) (numbered 1);
+  begins = answer.Pair (set_numbered 0) (set_numbered 1);
   pair = paired 2;
   state = refl;
 }
@@ -102,16 +102,16 @@ not_while_one_joins mid new r x = some x.pair.none
     some e = cc
 
 -- ---- what want of memory leaves: at most 36 rows were given
-stopped : IsStopped (joining 2) (far_given (idle 2) 3)
+stopped : IsJoinStopped (joining 2) (far_given (idle 2) 3)
 stopped = record { rows = 3; few = omega arith; state = refl }
 
-not_more_rows : IsStopped (joining 2) (far_given (idle 2) 40) → ⊥
+not_more_rows : IsJoinStopped (joining 2) (far_given (idle 2) 40) → ⊥
 not_more_rows x =
     let few = x.few in
     let e : 40 ≡ 0 + x.rows = ap (λ (f : FarState). f.nodes.given) x.state in
     omega (arith, few, e)
 
-not_with_the_pair : IsStopped (joining 2) (joining 2) → ⊥
+not_with_the_pair : IsJoinStopped (joining 2) (joining 2) → ⊥
 not_with_the_pair x = some (ap (λ (f : FarState). f.joining) x.state)
   where
     some : (joining 2).joining ≡ None → ⊥

@@ -5,7 +5,7 @@ use Rattle.cb_gf256.specs.Product.{◌⊗◌}
 use Rattle.cb_gf256.specs.Row.{row_sum, scaled_row}
 use Rattle.cb_gf256.specs.Rows.{byte_at, row_at}
 use Rattle.cb_gf256.specs.Sum.{◌⊕◌}
-use Rattle.cb_local.specs.Adding.{IsAdded}
+use Rattle.cb_local.specs.Adding.{IsDeltaAdded}
 use Rattle.cb_local.specs.Delta.{ArePatched, IsOrder, added_byte}
 use Rattle.cb_local.specs.declared.order.DeltaOrder.{DeltaOrder}
 
@@ -134,7 +134,7 @@ summed_is : get_or summed 0 0 ≡ 0x0E
 unfolding ◌⊗◌
 summed_is = refl
 
-pub is_added : IsAdded table 0 (row 0x02) (row 0x0A ∷ []) (summed ∷ [])
+pub is_added : IsDeltaAdded table 0 (row 0x02) (row 0x0A ∷ []) (summed ∷ [])
 is_added = record { count = refl; rows = rows }
   where
     rows : (j : ℕ) → j < 1 → row_at (summed ∷ []) j
@@ -142,10 +142,10 @@ is_added = record { count = refl; rows = rows }
     rows zero l = refl
     rows (suc j) l = absurd (omega (arith, l))
 
-no_added_more : IsAdded table 0 (row 0x02) (row 0x0A ∷ []) (summed ∷ summed ∷ []) → ⊥
+no_added_more : IsDeltaAdded table 0 (row 0x02) (row 0x0A ∷ []) (summed ∷ summed ∷ []) → ⊥
 no_added_more x = let e : 2 ≡ 1 = x.count in omega (arith, e)
 
-no_other_added : IsAdded table 0 (row 0x02) (row 0x0A ∷ []) (row 0x0A ∷ []) → ⊥
+no_other_added : IsDeltaAdded table 0 (row 0x02) (row 0x0A ∷ []) (row 0x0A ∷ []) → ⊥
 no_other_added x =
     let e = ap (λ (l : List ℕ). get_or l 0 0) (x.rows 0 (omega arith)) in
     let f = summed_is in omega (arith, e, f)

@@ -41,8 +41,8 @@ pub record ArePatched (table : List (List ℕ)) (order : DeltaOrder) (rows : Lis
         ≡ byte_at order.parities j column ⊕ added_byte table order (length order.taken) j column
 
 -- they are so by the coefficients of the order's code
-abbrev pub IsDone : DeltaOrder → List (List ℕ) → Type 0
-IsDone order rows = (table : List (List ℕ)) → AreCoefficients order.k order.r table
+abbrev pub HasItsParities : DeltaOrder → List (List ℕ) → Type 0
+HasItsParities order rows = (table : List (List ℕ)) → AreCoefficients order.k order.r table
     → ArePatched table order rows
 
 -- an order that was run, and the patched parities

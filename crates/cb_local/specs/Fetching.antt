@@ -7,11 +7,11 @@ use Rattle.cb_set.specs.SetState.{SetState, parities}
 use Rattle.cb_world.specs.declared.shown.Shown.{Shown}
 use Rattle.cb_world.specs.FarSound.{FarSound}
 use Rattle.cb_world.specs.FarState.{FarState}
-use Rattle.cb_world.specs.Fetched.{with_given}
+use Rattle.cb_world.specs.Fetched.{with_rows_given}
 use Rattle.cb_world.specs.Joining.{JoiningState}
 use Rattle.cb_world.specs.SetWord.{IsWordOf}
 use Rattle.cb_compact.specs.Deltas.{IsOfCode, StandTogether}
-use Rattle.cb_compact.specs.Standing.{IsFreshPair}
+use Rattle.cb_compact.specs.PartStep.{IsFreshPair}
 use Rattle.cb_local.specs.Delta.{DoneState, IsOrder}
 use Rattle.cb_local.specs.Words.{AreMergedParities, IsOfWords}
 use Rattle.cb_local.specs.declared.order.DeltaOrder.{DeltaOrder}
@@ -23,7 +23,7 @@ rows_given taken r = 2 * length taken + r
 
 -- the far state once so many rows more were given out
 abbrev pub far_given : FarState → ℕ → FarState
-far_given far n = record far { nodes = with_given far.nodes n }
+far_given far n = record far { nodes = with_rows_given far.nodes n }
 
 -- the order is for the pair, with rows of spans, as many as it takes
 pub record IsBlank (pair : JoiningState) (k r : ℕ) (order : DeltaOrder) : Type 0 where
@@ -65,7 +65,8 @@ pub record HasOrder (s : Shown) (far : FarState) (pair : JoiningState) (a b : Se
     pub ascend : IsStrictlyIncreasing pair.taken
 
 -- the order is the pair's, and its rows are those of the sets' words
-pub record IsFetched (far : FarState) (pair : JoiningState) (a b : SetState) (order : DeltaOrder)
+pub record IsOrderFetched (far : FarState) (pair : JoiningState) (a b : SetState)
+    (order : DeltaOrder)
     : Type 0 where
   pub order_is : IsOrder order
   pub taken_is : order.taken ≡ pair.taken
@@ -75,8 +76,9 @@ pub record IsFetched (far : FarState) (pair : JoiningState) (a b : SetState) (or
       → IsWordOf far.nodes far.members b wb → IsOfWords order wa wb
 
 -- and it was run: the parities are the merged set's
-pub record IsMade (far : FarState) (pair : JoiningState) (a b : SetState) (done : DoneState)
+pub record AreParitiesMade (far : FarState) (pair : JoiningState) (a b : SetState)
+    (done : DoneState)
     : Type 0 where
-  pub fetched : IsFetched far pair a b done.order
+  pub fetched : IsOrderFetched far pair a b done.order
   pub count : length done.parities ≡ done.order.r
   pub parities_are : AreMergedParities done.order done.parities

@@ -11,7 +11,7 @@ use Rattle.cb_world.specs.FarState.{FarState}
 use Rattle.cb_world.specs.Joining.{JoiningState}
 use Rattle.cb_world.specs.Sound.{Sound}
 use Rattle.cb_compact.specs.NowGoing.{EndsFrom, HasGone, IsUndone, with_keys, without_pair}
-use Rattle.cb_compact.specs.Standing.{IsFreshPair}
+use Rattle.cb_compact.specs.PartStep.{IsFreshPair}
 use Rattle.cb_local.specs.Fetching.{far_given, rows_given}
 use Rattle.cb_local.specs.Putting.{with_count}
 
@@ -59,7 +59,7 @@ pub record HasGoneGiving (begun far : FarState) : Type 0 where
   pub given : far.nodes.given ≡ begun.nodes.given + rows
 
 -- without the pair all is as it was before the begin, but that at most so many rows were given
-pub record IsStopped (begun new : FarState) : Type 0 where
+pub record IsJoinStopped (begun new : FarState) : Type 0 where
   pub rows : ℕ
   pub few : rows ≤ 36
   pub state : new ≡ far_given (without_pair begun) rows

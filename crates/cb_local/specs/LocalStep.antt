@@ -7,12 +7,12 @@ use Rattle.cb_types.specs.declared.reply.Reply.{Reply}
 use Rattle.cb_types.specs.declared.reply.Reply.TheVariants as answer
 use Rattle.cb_world.specs.FarState.{FarState}
 use Rattle.cb_compact.specs.NowGoing.{with_keys}
-use Rattle.cb_compact.specs.NowStep.{NowStep}
-use Rattle.cb_compact.specs.Pairing.{IsPaired, live_positions}
+use Rattle.cb_compact.specs.CompactStep.{CompactStep}
+use Rattle.cb_compact.specs.PairStep.{IsPaired, live_positions}
 use Rattle.cb_local.specs.Fetching.{far_given, rows_given}
 
 -- no sets were merged: no row is given, and no key is drawn
-pub record IsRefused (far mid new : FarState) (r : Reply) : Type 0 where
+pub record IsNotMerged (far mid new : FarState) (r : Reply) : Type 0 where
   pub refusal : (set : SetId) (moved : ℕ) → r ≢ answer.Merged set moved
   pub state : new ≡ with_keys mid far.counts.keys
 
@@ -28,14 +28,14 @@ pub record IsMergedHere (far mid new : FarState) (r : Reply) : Type 0 where
   pub state : new ≡ far_given mid (rows_given (live_positions pair.b) (parities pair.a))
 
 -- how the far state stands beside `mid`, in which the nodes would have ended the turn
-abbrev pub IsBeside : FarState → FarState → FarState → Reply → Type 0
-IsBeside far mid new r = IsRefused far mid new r ⊎ IsMergedHere far mid new r
+abbrev pub IsBesideNodes : FarState → FarState → FarState → Reply → Type 0
+IsBesideNodes far mid new r = IsNotMerged far mid new r ⊎ IsMergedHere far mid new r
 
 -- The turn has the reply that it has where the nodes make the parities, and leads to the same far
 -- state, but for the rows that were given and the keys that a full node left drawn: here it leaves
 -- all as it was.
 pub record LocalStep (far new : FarState) (r : Reply) : Type 0 where
   pub mid : FarState
-  pub same : NowStep far mid r
-  pub beside : IsBeside far mid new r
+  pub same : CompactStep far mid r
+  pub beside : IsBesideNodes far mid new r
   pub full : (node : NodeId) → r ≡ answer.NodeFull node → new ≡ far

@@ -9,10 +9,10 @@ use Rattle.cb_world.specs.Joining.{JoiningState}
 use Rattle.cb_world.specs.SetWord.{IsWordOf}
 use Rattle.cb_world.specs.Sound.{Sound}
 use Rattle.cb_compact.specs.NowGoing.{HasGone}
-use Rattle.cb_compact.specs.Standing.{IsFreshPair}
-use Rattle.cb_compact.specs.Steps.{is_undone}
+use Rattle.cb_compact.specs.PartStep.{IsFreshPair}
+use Rattle.cb_compact.specs.PatchStep.{is_undone}
 use Rattle.cb_local.specs.Delta.{DoneState}
-use Rattle.cb_local.specs.Fetching.{IsMade, rows_given}
+use Rattle.cb_local.specs.Fetching.{AreParitiesMade, rows_given}
 use Rattle.cb_local.specs.Rooms.{AllHaveRoom}
 
 -- the far state where so many rows were given out
@@ -22,7 +22,7 @@ with_count far given = record far { nodes = record far.nodes { given = given } }
 -- Steps were taken since the begin, in order, none of those below the position is left, and from it
 -- on all is as at the begin: what is to be done, and how many rows a's nodes hold there. The words
 -- of both sets are those of the begin.
-pub record HasTaken (begun : FarState) (first : JoiningState) (a b : SetState) (far : FarState)
+pub record HasTakenSteps (begun : FarState) (first : JoiningState) (a b : SetState) (far : FarState)
     (n : ℕ) : Type 0 where
   pub gone : HasGone begun far n
   pub pair : JoiningState
@@ -46,8 +46,8 @@ pub record HasTaken (begun : FarState) (first : JoiningState) (a b : SetState) (
 pub record ArePut (done : DoneState) (s : Shown) (begun : FarState) (first : JoiningState)
     (a b : SetState) (far : FarState) (n : ℕ) : Type 0 where
   pub sound : Sound s begun
-  pub made : IsMade begun first a b done
+  pub made : AreParitiesMade begun first a b done
   pub rooms : AllHaveRoom begun first a
   pub few : begun.counts.keys + 20 < 2 ^ 62
-  pub taken : HasTaken begun first a b (with_count far begun.nodes.given) n
+  pub taken : HasTakenSteps begun first a b (with_count far begun.nodes.given) n
   pub given : far.nodes.given ≡ begun.nodes.given + rows_given first.taken (parities a)

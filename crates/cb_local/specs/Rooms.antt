@@ -6,11 +6,11 @@ use Rattle.cb_node.specs.NodesState.{held}
 use Rattle.cb_set.specs.SetState.{SetState}
 use Rattle.cb_world.specs.FarState.{FarState}
 use Rattle.cb_world.specs.Joining.{JoiningState}
-use Rattle.cb_compact.specs.Steps.{is_undone}
+use Rattle.cb_compact.specs.PatchStep.{is_undone}
 
 -- each of a's nodes at these positions has room, if there is a step to be done
-abbrev pub HaveRoom : FarState → JoiningState → SetState → ℕ → ℕ → Type 0
-HaveRoom far pair a from to = (q : ℕ) (old : Shard) → from ≤ q → q < to
+abbrev pub HaveStepRoom : FarState → JoiningState → SetState → ℕ → ℕ → Type 0
+HaveStepRoom far pair a from to = (q : ℕ) (old : Shard) → from ≤ q → q < to
     → is_undone pair (length a.positions) q ≡ true → slice_get pair.shards_a q ≡ Some old
     → held far.nodes old.node < far.nodes.room
 
@@ -24,8 +24,8 @@ pub record IsFirstFull (far : FarState) (pair : JoiningState) (a : SetState) (no
   pub at : slice_get pair.shards_a position ≡ Some old
   pub name : node ≡ old.node
   pub full : held far.nodes old.node ≡ far.nodes.room
-  pub before : HaveRoom far pair a 0 position
+  pub before : HaveStepRoom far pair a 0 position
 
 -- all of a's nodes have room
 abbrev pub AllHaveRoom : FarState → JoiningState → SetState → Type 0
-AllHaveRoom far pair a = HaveRoom far pair a 0 (length pair.steps)
+AllHaveRoom far pair a = HaveStepRoom far pair a 0 (length pair.steps)

@@ -7,12 +7,12 @@ ghost use Rattle.cb_world.specs.Joining.{JoiningState};
 ghost use Rattle.cb_world.specs.Now.{now};
 ghost use Rattle.cb_world.specs.Pairs.{HoldsNoPair};
 ghost use Rattle.cb_world.specs.Sound.{Sound};
-ghost use Rattle.cb_compact.specs.NowStep.{NowStep};
-ghost use Rattle.cb_compact.specs.Standing.{IsFreshPair};
+ghost use Rattle.cb_compact.specs.CompactStep.{CompactStep};
+ghost use Rattle.cb_compact.specs.PartStep.{IsFreshPair};
 ghost use Rattle.cb_local.specs.Delta.{DoneState};
 ghost use Rattle.cb_local.specs.Fetching.{far_given};
-ghost use Rattle.cb_local.specs.LocalGoing.{EndsHere, HasGoneGiving, IsBegunPair, IsStopped};
-ghost use Rattle.cb_local.specs.LocalStep.{IsBeside, LocalStep};
+ghost use Rattle.cb_local.specs.LocalGoing.{EndsHere, HasGoneGiving, IsBegunPair, IsJoinStopped};
+ghost use Rattle.cb_local.specs.LocalStep.{IsBesideNodes, LocalStep};
 ghost use Rattle.cb_local.specs.Putting.{ArePut};
 ghost use Rattle.cb_local.specs.Rooms.{AllHaveRoom};
 
@@ -56,7 +56,7 @@ fn finish_or_undo(alloc: Global, far: &mut Far) -> Result<Reply, NoMemory>
         × IsBegunPair s far.old pair a b × AllHaveRoom far.old pair a }
     ensures ends { IfOk result (λ reply. (pair : JoiningState) (a b : SetState)
         → IsFreshPair far.old pair a b → EndsHere far.old far.new pair a reply) }
-    ensures error { OnErr result (IsStopped far.old far.new) }
+    ensures error { OnErr result (IsJoinStopped far.old far.new) }
 {
     let keys = drawn_keys(far);
     match finish(alloc, far) {
@@ -75,7 +75,7 @@ fn go_through(alloc: Global, far: &mut Far) -> Result<Reply, NoMemory>
         × IsBegunPair s far.old pair a b }
     ensures ends { IfOk result (λ reply. (pair : JoiningState) (a b : SetState)
         → IsFreshPair far.old pair a b → EndsHere far.old far.new pair a reply) }
-    ensures error { OnErr result (IsStopped far.old far.new) }
+    ensures error { OnErr result (IsJoinStopped far.old far.new) }
 {
     match full_node(far) {
         Some(node) => Ok(stop_at(far, node)),
@@ -103,8 +103,8 @@ pub fn compact_local<D: Desk>(alloc: Global, desk: &mut D, far: &mut Far) -> Res
     ensures desk { desk.new ≡ desk.old }
     ensures step { IfOk result (λ reply. LocalStep far.old far.new reply) }
     ensures same { IfOk result (λ reply. (s : Shown) (mid : FarState) (other : Reply)
-        → Sound s far.old → NowStep far.old mid other
-        → (reply ≡ other) × IsBeside far.old mid far.new reply) }
+        → Sound s far.old → CompactStep far.old mid other
+        → (reply ≡ other) × IsBesideNodes far.old mid far.new reply) }
     ensures error { OnErr result ((rows : ℕ) × (rows ≤ 36)
         × (far.new ≡ far_given far.old rows)) }
     ensures sound { (s : Shown) → Sound s far.old → Sound s far.new }

@@ -5,11 +5,11 @@ ghost use Rattle.cb_gf256.specs.Rows.{row_at, HaveLength};
 ghost use Rattle.cb_set.specs.SetState.{SetState, parities};
 ghost use Rattle.cb_world.specs.declared.shown.Shown.{Shown};
 ghost use Rattle.cb_world.specs.FarSound.{FarSound};
-ghost use Rattle.cb_world.specs.Fetched.{StandAt, with_given};
+ghost use Rattle.cb_world.specs.Fetched.{StandAt, with_rows_given};
 ghost use Rattle.cb_world.specs.Joining.{JoiningState};
 ghost use Rattle.cb_compact.specs.Deltas.{IsOfCode, StandTogether};
-ghost use Rattle.cb_compact.specs.Standing.{IsFreshPair};
-ghost use Rattle.cb_local.specs.Fetching.{AreFetched, CanFetch, HasOrder, IsBlank, IsFetched, IsMade, far_given, rows_given};
+ghost use Rattle.cb_compact.specs.PartStep.{IsFreshPair};
+ghost use Rattle.cb_local.specs.Fetching.{AreFetched, AreParitiesMade, CanFetch, HasOrder, IsBlank, IsOrderFetched, far_given, rows_given};
 
 use crate::order::{DeltaDone, DeltaOrder};
 use crate::running::run_delta;
@@ -30,7 +30,7 @@ fn give_rows(nodes: &mut Nodes, shards: &[Shard], positions: &[u32], table: &mut
     requires count { length table.old ≡ length positions.now }
     requires lengths { HaveLength 4096 table.old }
     requires there { (rows : List (List ℕ)) × StandAt nodes.old shards.now rows positions.now }
-    ensures nodes { nodes.new ≡ with_given nodes.old (length positions.now) }
+    ensures nodes { nodes.new ≡ with_rows_given nodes.old (length positions.now) }
     ensures count { length table.new ≡ length positions.now }
     ensures lengths { HaveLength 4096 table.new }
     ensures rows { (rows : List (List ℕ)) → StandAt nodes.old shards.now rows positions.now
@@ -102,7 +102,7 @@ fn blank_order(
 fn fetch_rows(nodes: &mut Nodes, pair: &Joining, order: &mut DeltaOrder)
     requires given { nodes.old.given + 36 < 2 ^ 64 }
     requires ready { CanFetch nodes.old pair.now order.now }
-    ensures nodes { nodes.new ≡ with_given nodes.old
+    ensures nodes { nodes.new ≡ with_rows_given nodes.old
         (rows_given pair.now.taken order.entry.now.r) }
     ensures rows { AreFetched nodes.old pair.now order.entry.now order.exit.now }
 {
@@ -141,7 +141,7 @@ fn fill_order(far: &mut Far, order: &mut DeltaOrder)
     ensures far { (pair : JoiningState) (a b : SetState) → IsFreshPair far.old pair a b
         → far.new ≡ far_given far.old (rows_given pair.taken (parities a)) }
     ensures order { (pair : JoiningState) (a b : SetState) → IsFreshPair far.old pair a b
-        → IsFetched far.old pair a b order.exit.now }
+        → IsOrderFetched far.old pair a b order.exit.now }
 {
     let pair = far.joining.as_ref().unwrap();
     fetch_rows(&mut far.nodes, pair, order);
@@ -156,7 +156,7 @@ fn fetch(alloc: Global, far: &mut Far) -> Result<DeltaOrder, NoMemory>
         → IsFreshPair far.old pair a b
         → far.new ≡ far_given far.old (rows_given pair.taken (parities a))) }
     ensures order { IfOk result (λ order. (pair : JoiningState) (a b : SetState)
-        → IsFreshPair far.old pair a b → IsFetched far.old pair a b order) }
+        → IsFreshPair far.old pair a b → IsOrderFetched far.old pair a b order) }
     ensures error { OnErr result (far.new ≡ far.old) }
 {
     let mut order = new_order(alloc, far)?;
@@ -174,7 +174,7 @@ pub(crate) fn run_pair(alloc: Global, far: &mut Far) -> Result<DeltaDone, NoMemo
         → IsFreshPair far.old pair a b
         → far.new ≡ far_given far.old (rows_given pair.taken (parities a))) }
     ensures made { IfOk result (λ done. (pair : JoiningState) (a b : SetState)
-        → IsFreshPair far.old pair a b → IsMade far.old pair a b done) }
+        → IsFreshPair far.old pair a b → AreParitiesMade far.old pair a b done) }
     ensures error { OnErr result ((n : ℕ) × (n ≤ 36) × (far.new ≡ far_given far.old n)) }
 {
     let order = fetch(alloc, far)?;

@@ -1,5 +1,5 @@
 ghost use Rattle.std.specs.Prelude.{◌≡◌};
-ghost use Rattle.cb_local.specs.Delta.{IsDone};
+ghost use Rattle.cb_local.specs.Delta.{HasItsParities};
 
 use cb_gf256::Rows;
 use cb_types::Positions;
@@ -33,19 +33,19 @@ pub struct DeltaDone {
 }
 
 impl Model for DeltaDone {
-    ghost use Rattle.cb_local.specs.Delta.{DoneState, IsDone};
+    ghost use Rattle.cb_local.specs.Delta.{DoneState, HasItsParities};
 
     ghost Value = { DoneState };
 
     ghost view = { λ d. record { order = d.order; parities = d.parities } };
 
-    ghost invariant = { λ d. IsDone d.order d.parities };
+    ghost invariant = { λ d. HasItsParities d.order d.parities };
 }
 
 impl DeltaDone {
     /// The order and its patched parities.
     pub(crate) fn of(order: DeltaOrder, parities: Rows) -> DeltaDone
-        requires { IsDone order parities }
+        requires { HasItsParities order parities }
         ensures { result ≡ record { order = order; parities = parities } }
     {
         DeltaDone { order, parities }
@@ -61,7 +61,7 @@ impl DeltaDone {
     /// The parities of the set with the new rows in their places.
     pub fn parities(&self) -> &Rows
         ensures rows { result.now ≡ self.now.parities }
-        ensures done { IsDone self.now.order result.now }
+        ensures done { HasItsParities self.now.order result.now }
     {
         &self.parities
     }

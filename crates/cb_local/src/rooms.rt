@@ -6,8 +6,8 @@ ghost use Rattle.cb_set.specs.SetState.{SetState};
 ghost use Rattle.cb_world.specs.declared.shown.Shown.{Shown};
 ghost use Rattle.cb_world.specs.FarSound.{FarSound};
 ghost use Rattle.cb_world.specs.Joining.{JoiningState};
-ghost use Rattle.cb_compact.specs.Standing.{IsFreshPair};
-ghost use Rattle.cb_compact.specs.Steps.{is_undone};
+ghost use Rattle.cb_compact.specs.PartStep.{IsFreshPair};
+ghost use Rattle.cb_compact.specs.PatchStep.{is_undone};
 ghost use Rattle.cb_local.specs.Rooms.{AllHaveRoom, IsFirstFull};
 
 use cb_compact::{new_shard, step_count, undone_at};

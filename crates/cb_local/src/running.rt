@@ -1,8 +1,8 @@
 ghost use Rattle.std.specs.Prelude.{◌≡◌, ◌<◌, All, IfErr, IfOk, length};
 ghost use Rattle.cb_gf256.specs.Rows.{row_at, HaveLength};
 ghost use Rattle.cb_code.specs.Coefficients.{AreCoefficients};
-ghost use Rattle.cb_local.specs.Delta.{ArePatched, IsDone, IsOrder, width};
-ghost use Rattle.cb_local.specs.Adding.{IsAdded};
+ghost use Rattle.cb_local.specs.Delta.{ArePatched, HasItsParities, IsOrder, width};
+ghost use Rattle.cb_local.specs.Adding.{IsDeltaAdded};
 ghost use Rattle.cb_local.specs.Words.{AreMergedParities};
 
 use crate::order::{DeltaDone, DeltaOrder};
@@ -16,7 +16,7 @@ fn add_delta(parities: &mut Rows, table: &Coeffs, position: u32, delta: &[u8])
     requires count { length parities.old ≡ length table.now }
     requires wide { HaveLength (length delta.now) parities.old }
     requires position { All (λ row. position < length row) table.now }
-    ensures { IsAdded table.now position delta.now parities.old parities.new }
+    ensures { IsDeltaAdded table.now position delta.now parities.old parities.new }
 {
     for parity in 0..parities.count() {
         patch(parities.row_mut(parity), table.at(parity, position), delta);
@@ -42,7 +42,7 @@ fn add_deltas(parities: &mut Rows, table: &Coeffs, order: &DeltaOrder, change: &
 /// The order's parities with all deltas added. The only error is want of memory.
 fn patched(alloc: Global, order: &DeltaOrder) -> Result<Rows, NoMemory>
     requires { IsOrder order.now }
-    ensures done { IfOk result (IsDone order.now) }
+    ensures done { IfOk result (HasItsParities order.now) }
     ensures merged { IfOk result (AreMergedParities order.now) }
 {
     coefficient_laws();
@@ -59,7 +59,7 @@ fn patched(alloc: Global, order: &DeltaOrder) -> Result<Rows, NoMemory>
 pub fn run_delta(alloc: Global, order: DeltaOrder) -> Result<DeltaDone, DeltaOrder>
     requires { IsOrder order }
     ensures order { IfOk result (λ done. done.order ≡ order) }
-    ensures done { IfOk result (λ done. IsDone order done.parities) }
+    ensures done { IfOk result (λ done. HasItsParities order done.parities) }
     ensures merged { IfOk result (λ done. AreMergedParities order done.parities) }
     ensures back { IfErr result (λ kept. kept ≡ order) }
 {

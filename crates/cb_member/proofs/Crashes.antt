@@ -8,7 +8,7 @@ use Rattle.std.proofs.lemmas.Bool.Decides.{nat_tests}
 use Rattle.std.proofs.lemmas.List.{get_or-set_same, get_or-set_other}
 use Rattle.std.proofs.lemmas.List.Sums.{get_or-le-sum_by}
 use Rattle.cb_member.specs.declared.names.NodeId.{NodeId}
-use Rattle.cb_member.specs.Membership.{Membership, NodeState, fresh_node, state_of, alive, incarnation, crashed_at, next_epoch, with_crash, with_join, with_state, events_of, ended_incarnations, IsMembership}
+use Rattle.cb_member.specs.Membership.{Membership, NodeState, fresh_node, node_state, alive, incarnation, crashed_at, next_epoch, with_crash, with_join, with_state, events_of, ended_incarnations, IsMembership}
 
 -- the element after the last of a list, once it is appended
 slice_get-push_end : {X : Type 0} (xs : List X) (x : X) (i : ℕ) → length xs ≡ i
@@ -38,12 +38,12 @@ up_crashes s up ended = ended ∙ ap (λ b. if b then s.incarnation else s.incar
 
 -- one node has the new state
 pub state_of-with_state_here : (m : Membership) (node : NodeId) (s : NodeState)
-    → node.n < length m.nodes → state_of (with_state m node s) node ≡ s
+    → node.n < length m.nodes → node_state (with_state m node s) node ≡ s
 state_of-with_state_here m node s within = get_or-set_same m.nodes node.n s fresh_node within
 
 -- every other node has its old state
 pub state_of-with_state_other : (m : Membership) (node q : NodeId) (s : NodeState)
-    → q.n ≢ node.n → state_of (with_state m node s) q ≡ state_of m q
+    → q.n ≢ node.n → node_state (with_state m node s) q ≡ node_state m q
 state_of-with_state_other m node q s other =
     get_or-set_other m.nodes node.n q.n s fresh_node other
 
@@ -52,7 +52,7 @@ pub crashed_at-with_crash_here : (m : Membership) (node : NodeId) → IsMembersh
     → node.n < length m.nodes → alive m node ≡ true
     → crashed_at (with_crash m node) node (incarnation m node) ≡ Some (next_epoch m)
 crashed_at-with_crash_here m node valid within up =
-    let s = state_of m node in
+    let s = node_state m node in
     let over : length s.crashes ≡ incarnation m node =
     up_crashes s up (valid.ended node.n fresh_node within) in
     ap (λ t. slice_get t.crashes (incarnation m node)) (state_of-with_state_here m node _ within)
@@ -63,7 +63,7 @@ pub crashed_at-with_crash_other_incarnation : (m : Membership) (node : NodeId) (
     → IsMembership m → node.n < length m.nodes → alive m node ≡ true → which ≢ incarnation m node
     → crashed_at (with_crash m node) node which ≡ crashed_at m node which
 crashed_at-with_crash_other_incarnation m node which valid within up other =
-    let s = state_of m node in
+    let s = node_state m node in
     let over : length s.crashes ≡ incarnation m node =
     up_crashes s up (valid.ended node.n fresh_node within) in
     ap (λ t. slice_get t.crashes which) (state_of-with_state_here m node _ within)
@@ -90,9 +90,9 @@ crashed_at-with_join m node q which within = elim (cases_eq q.n node.n) [
 -- an incarnation has a crash exactly where it is over
 pub is_some-crashed_at : (m : Membership) (node : NodeId) (which : ℕ) → IsMembership m
     → node.n < length m.nodes
-    → is_some (crashed_at m node which) ≡ nat_lt which (ended_incarnations (state_of m node))
+    → is_some (crashed_at m node which) ≡ nat_lt which (ended_incarnations (node_state m node))
 is_some-crashed_at m node which valid within =
-    is_some-slice_get (state_of m node).crashes which
+    is_some-slice_get (node_state m node).crashes which
     ∙ ap (λ n. nat_lt which n) (valid.ended node.n fresh_node within)
 
 -- a node has joined no more often than there were crashes and joins

@@ -7,10 +7,11 @@ use Rattle.std.proofs.lemmas.List.{get_or-replicate, get_or_past, length-replica
 use Rattle.std.proofs.lemmas.List.Elements.{All-replicate}
 use Rattle.std.proofs.lemmas.List.Folds.{sum_by-replicate}
 use Rattle.cb_member.specs.declared.names.NodeId.{NodeId}
-use Rattle.cb_member.specs.Membership.{NodeState, fresh_node, fresh_members, state_of, crashed_at, events_of, ended_incarnations, IsMembership}
+use Rattle.cb_member.specs.Membership.{NodeState, fresh_node, fresh_members, node_state, crashed_at, events_of, ended_incarnations, IsMembership}
 
 -- every node is fresh
-pub state_of-fresh : (count : ℕ) (node : NodeId) → state_of (fresh_members count) node ≡ fresh_node
+pub state_of-fresh : (count : ℕ) (node : NodeId)
+    → node_state (fresh_members count) node ≡ fresh_node
 state_of-fresh count node = elim (cases_lt node.n count) [
   | inl within ↦ get_or-replicate count node.n fresh_node fresh_node within
   | inr past ↦

@@ -8,7 +8,7 @@ use Rattle.std.proofs.lemmas.List.Elements.{All-set}
 use Rattle.std.proofs.lemmas.List.Sums.{sum_by-set}
 use Rattle.cb_member.specs.declared.names.NodeId.{NodeId}
 use Rattle.cb_member.specs.declared.names.Epoch.{Epoch}
-use Rattle.cb_member.specs.Membership.{Membership, NodeState, fresh_node, state_of, alive, incarnation, crashed_at, next_epoch, with_crash, with_join, with_state, events_of, ended_incarnations, IsMembership}
+use Rattle.cb_member.specs.Membership.{Membership, NodeState, fresh_node, node_state, alive, incarnation, crashed_at, next_epoch, with_crash, with_join, with_state, events_of, ended_incarnations, IsMembership}
 use Rattle.cb_member.proofs.Crashes.{crashed_at-with_crash_here, crashed_at-with_crash_other_incarnation, crashed_at-with_crash_other_node, crashed_at-with_join, is_some-slice_get, up_crashes}
 
 -- two names of one number are one name
@@ -58,10 +58,10 @@ crash_keeps_epochs m node q which e valid within up at = elim (cases_eq q.n node
   | inl same ↦
       let here : crashed_at m node which ≡ Some e =
       subst (λ p. crashed_at m p which ≡ Some e) (same_node q node same) at in
-      let over : length (state_of m node).crashes ≡ incarnation m node =
-      up_crashes (state_of m node) up (valid.ended node.n fresh_node within) in
-      let old : which < length (state_of m node).crashes =
-      found_within (state_of m node).crashes which e here in
+      let over : length (node_state m node).crashes ≡ incarnation m node =
+      up_crashes (node_state m node) up (valid.ended node.n fresh_node within) in
+      let old : which < length (node_state m node).crashes =
+      found_within (node_state m node).crashes which e here in
       subst (λ p. crashed_at (with_crash m node) p which ≡ Some e) (sym (same_node q node same))
       (crashed_at-with_crash_other_incarnation m node which valid within up (λ e. omega arith)
       ∙ here)
@@ -70,7 +70,7 @@ crash_keeps_epochs m node q which e valid within up at = elim (cases_eq q.n node
 
 -- with one event more at one node the epoch still counts them
 counts_one_more : (m : Membership) (node : NodeId) (s : NodeState) → IsMembership m
-    → node.n < length m.nodes → events_of s ≡ events_of (state_of m node) + 1
+    → node.n < length m.nodes → events_of s ≡ events_of (node_state m node) + 1
     → (with_state m node s).epoch ≡ sum_by events_of (with_state m node s).nodes
 counts_one_more m node s valid within more =
     omega (arith, valid.counted, more, sum_by-set events_of m.nodes node.n s fresh_node within)
@@ -79,7 +79,7 @@ counts_one_more m node s valid within more =
 pub crash_stays_valid : (m : Membership) (node : NodeId) → IsMembership m
     → node.n < length m.nodes → alive m node ≡ true → IsMembership (with_crash m node)
 crash_stays_valid m node valid within up =
-    let s = state_of m node in
+    let s = node_state m node in
     let down : NodeState = record {
       up = false;
       incarnation = s.incarnation;
@@ -141,7 +141,7 @@ crash_stays_valid m node valid within up =
 pub join_stays_valid : (m : Membership) (node : NodeId) → IsMembership m
     → node.n < length m.nodes → alive m node ≡ false → IsMembership (with_join m node)
 join_stays_valid m node valid within down =
-    let s = state_of m node in
+    let s = node_state m node in
     let up : NodeState = record {
       up = true;
       incarnation = s.incarnation + 1;
@@ -190,7 +190,7 @@ crashes_differ m a b i j d e valid at_a at_b same = elim (cases_eq a.n b.n) [
 
 -- what was read at a node is its state
 state_read : (m : Membership) (node : NodeId) (n : ℕ) (s d : NodeState) → node.n < length m.nodes
-    → n ≡ node.n → s ≡ get_or m.nodes n d → s ≡ state_of m node
+    → n ≡ node.n → s ≡ get_or m.nodes n d → s ≡ node_state m node
 state_read m node n s d within at read =
     read ∙ ap (λ k. get_or m.nodes k d) at ∙ get_or_default m.nodes node.n d fresh_node within
 

@@ -24,20 +24,20 @@ abbrev pub fresh_members : ℕ → Membership
 fresh_members count = record { epoch = 0; nodes = replicate count fresh_node }
 
 -- the node of that number
-abbrev pub state_of : Membership → NodeId → NodeState
-state_of m node = slice_index_or m.nodes node.n fresh_node
+abbrev pub node_state : Membership → NodeId → NodeState
+node_state m node = slice_index_or m.nodes node.n fresh_node
 
 -- whether the node is up
 abbrev pub alive : Membership → NodeId → Bool
-alive m node = (state_of m node).up
+alive m node = (node_state m node).up
 
 -- how often the node has joined
 abbrev pub incarnation : Membership → NodeId → ℕ
-incarnation m node = (state_of m node).incarnation
+incarnation m node = (node_state m node).incarnation
 
 -- the epoch of the crash that ended that incarnation of the node, if one did
 abbrev pub crashed_at : Membership → NodeId → ℕ → Option Epoch
-crashed_at m node which = slice_get (state_of m node).crashes which
+crashed_at m node which = slice_get (node_state m node).crashes which
 
 -- the epoch of the next crash or join
 abbrev pub next_epoch : Membership → Epoch
@@ -50,7 +50,7 @@ with_state m node state = record { epoch = m.epoch + 1; nodes = slice_set m.node
 -- a crash of a node that is up: it is down, and the epoch stands under the incarnation that ended
 abbrev pub with_crash : Membership → NodeId → Membership
 with_crash m node =
-    let s = state_of m node in
+    let s = node_state m node in
     with_state m node (record {
       up = false;
       incarnation = s.incarnation;
@@ -60,7 +60,7 @@ with_crash m node =
 -- a join of a node that is down: it is up, in the next incarnation
 abbrev pub with_join : Membership → NodeId → Membership
 with_join m node =
-    let s = state_of m node in
+    let s = node_state m node in
     with_state m node (record {
       up = true;
       incarnation = s.incarnation + 1;

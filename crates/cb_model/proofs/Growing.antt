@@ -5,19 +5,19 @@ use Rattle.std.proofs.lemmas.Bool.{le-leb, lt-leb}
 use Rattle.std.proofs.lemmas.List.{append-nil}
 use Rattle.std.proofs.lemmas.List.Elements.{filter-append}
 use Rattle.cb_model.specs.declared.object.Object.TheVariants.{Held, Freed}
-use Rattle.cb_model.specs.Now.{Now, Change, changed, overwritten}
+use Rattle.cb_model.specs.Now.{MapNow, Change, changed, overwritten}
 use Rattle.cb_model.specs.Now.Change.{Create, Overwrite, Remove}
 use Rattle.cb_model.specs.History.{GoesOn, IsHistory, IsMadeWith, by_version, placed, left_by, at_version}
 
 -- a change that may come next
-abbrev pub Fits : ℕ → Now → ℕ × Change → Type 0
-Fits first None (version, Create bytes) = version ≡ first
-Fits first (Some (Held old bytes)) (version, Overwrite at new) =
+abbrev pub ChangeFits : ℕ → MapNow → ℕ × Change → Type 0
+ChangeFits first None (version, Create bytes) = version ≡ first
+ChangeFits first (Some (Held old bytes)) (version, Overwrite at new) =
     (at + length new ≤ length bytes) × (version ≡ old + 1)
-Fits first (Some (Held old bytes)) (version, Remove) = version ≡ old + 1
-Fits first now change = ⊥
+ChangeFits first (Some (Held old bytes)) (version, Remove) = version ≡ old + 1
+ChangeFits first now change = ⊥
 
-not_freed : (first w : ℕ) (c : ℕ × Change) → Fits first (Some (Freed w)) c → ⊥
+not_freed : (first w : ℕ) (c : ℕ × Change) → ChangeFits first (Some (Freed w)) c → ⊥
 not_freed first w (v, Create bytes) fits = fits
 not_freed first w (v, Overwrite at bytes) fits = fits
 not_freed first w (v, Remove) fits = fits
@@ -30,7 +30,7 @@ length-overwritten old at new within =
 
 grow_on : (first next len v : ℕ) (b : List ℕ) (later : List (ℕ × Change)) (c : ℕ × Change)
     → v + 1 ≡ next → length b ≡ len → GoesOn next len later
-    → Fits first (fold changed (Some (Held v b)) later) c → GoesOn next len (later ++ c ∷ [])
+    → ChangeFits first (fold changed (Some (Held v b)) later) c → GoesOn next len (later ++ c ∷ [])
 grow_on first next len v b [] (w, Create x) e l g fits = absurd fits
 grow_on first next len v b [] (w, Overwrite at x) e l g fits =
     (fits.1 ∙ e, omega (arith, l, fits.0), tt)
@@ -45,7 +45,7 @@ grow_on first next len v b ((w, Remove) ∷ d ∷ later) c e l g fits =
 
 -- a change that fits is a history's next one
 pub grow : (first : ℕ) (cs : List (ℕ × Change)) (c : ℕ × Change) → IsHistory first cs
-    → Fits first (left_by cs) c → IsHistory first (cs ++ c ∷ [])
+    → ChangeFits first (left_by cs) c → IsHistory first (cs ++ c ∷ [])
 grow first [] (w, Create x) h fits = (fits, tt)
 grow first [] (w, Overwrite at x) h fits = absurd fits
 grow first [] (w, Remove) h fits = absurd fits
@@ -80,7 +80,7 @@ sorted first ((v, Overwrite at b) ∷ later) h = absurd h
 sorted first ((v, Remove) ∷ later) h = absurd h
 
 -- the version that is had
-abbrev pub latest : Now → ℕ
+abbrev pub latest : MapNow → ℕ
 latest None = 0
 latest (Some (Held version bytes)) = version
 latest (Some (Freed version)) = version
@@ -118,7 +118,7 @@ front_on next len ((w, Remove) ∷ []) ys g = (g.0, refl)
 front_on next len ((w, Remove) ∷ d ∷ xs) ys g = absurd (let none : d ∷ (xs ++ ys) ≡ [] = g.1 in cc)
 
 -- what stands behind a front that leaves this
-abbrev pub IsRest : ℕ → List (ℕ × Change) → Now → Type 0
+abbrev pub IsRest : ℕ → List (ℕ × Change) → MapNow → Type 0
 IsRest len rest None = ⊥
 IsRest len rest (Some (Held v b)) = GoesOn (v + 1) len rest × (length b ≡ len)
 IsRest len rest (Some (Freed v)) = rest ≡ []

@@ -3,30 +3,30 @@ use Rattle.std.proofs.Common.{◌≡◌, ℕ, ◌+◌, ◌≤◌, List, [], ◌�
 use Rattle.std.specs.List.{fold}
 use Rattle.std.proofs.lemmas.List.{append-nil}
 use Rattle.cb_model.specs.declared.object.Object.TheVariants.{Held, Freed}
-use Rattle.cb_model.specs.Now.{Now, Change, changed}
+use Rattle.cb_model.specs.Now.{MapNow, Change, changed}
 use Rattle.cb_model.specs.Now.Change.{Create, Overwrite, Remove}
 use Rattle.cb_model.specs.Event.{Event, change_of, version_of}
 use Rattle.cb_model.specs.Event.Event.{Makes, Shows, Pins, Writes, Frees, FindsFull, FindsUnmade, FindsFreed, FindsEnd, Refused, Wrong}
 use Rattle.cb_model.specs.History.{IsHistory, left_by}
 use Rattle.cb_model.specs.Replies.{MapReplies}
-use Rattle.cb_model.specs.Legal.{IsNotBelow, MayFollow}
-use Rattle.cb_model.proofs.Growing.{Fits, grow, latest}
+use Rattle.cb_model.specs.Legal.{IsNotBelow, MayComeLater}
+use Rattle.cb_model.proofs.Growing.{ChangeFits, grow, latest}
 
 -- at most one change, and one that may come next
-abbrev pub FitsAll : ℕ → Now → List (ℕ × Change) → Type 0
+abbrev pub FitsAll : ℕ → MapNow → List (ℕ × Change) → Type 0
 FitsAll first now [] = Unit {0}
-FitsAll first now (c ∷ []) = Fits first now c
+FitsAll first now (c ∷ []) = ChangeFits first now c
 FitsAll first now (c ∷ d ∷ changes) = ⊥
 
 -- the handle that a make gives was never made
-abbrev pub IsFresh : ℕ → ℕ → Now → Type 0
-IsFresh made h now = made ≤ h → now ≡ None
+abbrev pub IsUnmade : ℕ → ℕ → MapNow → Type 0
+IsUnmade made h now = made ≤ h → now ≡ None
 
 same_handle : (h made : ℕ) → Some h ≡ Some made → h ≡ made
 same_handle h made e = cc
 
 -- the change of an answered call may come next
-pub fits : (first handles made h : ℕ) (now : Now) (event : Event) → IsFresh made h now
+pub fits : (first handles made h : ℕ) (now : MapNow) (event : Event) → IsUnmade made h now
     → MapReplies first handles made (Some h) now event → FitsAll first now (change_of event)
 fits first handles made h now (Makes bytes version) fresh m =
     let none : now ≡ None = fresh (omega (arith, same_handle h made m.0)) in rw none m.2
@@ -53,13 +53,13 @@ more_history first cs (c ∷ []) h all = grow first cs c h all
 more_history first cs (c ∷ d ∷ changes) h all = absurd all
 
 -- freed, at whatever version
-abbrev pub IsFreed : Now → Type 0
-IsFreed None = ⊥
-IsFreed (Some (Held version bytes)) = ⊥
-IsFreed (Some (Freed version)) = Unit {0}
+abbrev pub IsFreedNow : MapNow → Type 0
+IsFreedNow None = ⊥
+IsFreedNow (Some (Held version bytes)) = ⊥
+IsFreedNow (Some (Freed version)) = Unit {0}
 
-one_more : (first : ℕ) (now : Now) (c : ℕ × Change) → Fits first now c
-    → (latest now ≤ latest (changed now c)) × (IsFreed now → IsFreed (changed now c))
+one_more : (first : ℕ) (now : MapNow) (c : ℕ × Change) → ChangeFits first now c
+    → (latest now ≤ latest (changed now c)) × (IsFreedNow now → IsFreedNow (changed now c))
 one_more first None (v, Create bytes) f = (omega arith, λ e. absurd e)
 one_more first None (v, Overwrite at bytes) f = absurd f
 one_more first None (v, Remove) f = absurd f
@@ -71,14 +71,14 @@ one_more first (Some (Freed w)) (v, Overwrite at bytes) f = absurd f
 one_more first (Some (Freed w)) (v, Remove) f = absurd f
 
 -- the version does not fall, and what was freed stays so
-pub moves : (first : ℕ) (now : Now) (changes : List (ℕ × Change)) → FitsAll first now changes
-    → (latest now ≤ latest (fold changed now changes)) × (IsFreed now → IsFreed (fold changed now changes))
+pub moves : (first : ℕ) (now : MapNow) (changes : List (ℕ × Change)) → FitsAll first now changes
+    → (latest now ≤ latest (fold changed now changes)) × (IsFreedNow now → IsFreedNow (fold changed now changes))
 moves first now [] all = (omega arith, λ e. e)
 moves first now (c ∷ []) all = one_more first now c all
 moves first now (c ∷ d ∷ changes) all = absurd all
 
 -- a version that the map answers is not below the one it has
-pub not_below : (first handles made h : ℕ) (now : Now) (event : Event) → IsFresh made h now
+pub not_below : (first handles made h : ℕ) (now : MapNow) (event : Event) → IsUnmade made h now
     → MapReplies first handles made (Some h) now event → IsNotBelow (latest now) event
 not_below first handles made h now (Makes bytes version) fresh m =
     let none : now ≡ None = fresh (omega (arith, same_handle h made m.0)) in rw none (omega arith)
@@ -103,8 +103,8 @@ not_below first handles made h now (Refused subject) fresh m = tt
 not_below first handles made h now Wrong fresh m = tt
 
 -- what was freed is answered no version
-pub no_version : (first handles made h : ℕ) (now : Now) (event : Event) → IsFreed now
-    → IsFresh made h now → MapReplies first handles made (Some h) now event
+pub no_version : (first handles made h : ℕ) (now : MapNow) (event : Event) → IsFreedNow now
+    → IsUnmade made h now → MapReplies first handles made (Some h) now event
     → version_of event ≡ None
 no_version first handles made h None event freed fresh m = absurd freed
 no_version first handles made h (Some (Held v b)) event freed fresh m = absurd freed
@@ -122,17 +122,17 @@ no_version first handles made h (Some (Freed v)) (Refused subject) freed fresh m
 no_version first handles made h (Some (Freed v)) Wrong freed fresh m = refl
 
 -- what an answer told of an object that the map has: its version at the most, and freed only where it is
-pub record Covers (event : Event) (now : Now) : Type 0 where
+pub record CoversAnswer (event : Event) (now : MapNow) : Type 0 where
   pub version : (v : ℕ) → version_of event ≡ Some v → v ≤ latest now
-  pub freed : event ≡ FindsFreed → IsFreed now
+  pub freed : event ≡ FindsFreed → IsFreedNow now
 
 some_number : (v w : ℕ) → Some v ≡ Some w → w ≤ v
 some_number v w e = let same : v ≡ w = cc in omega arith
 
 -- the answer that was just given tells of what the map has now
-pub covers : (first handles made h : ℕ) (now : Now) (event : Event)
+pub covers : (first handles made h : ℕ) (now : MapNow) (event : Event)
     → MapReplies first handles made (Some h) now event
-    → Covers event (fold changed now (change_of event))
+    → CoversAnswer event (fold changed now (change_of event))
 covers first handles made h now (Makes bytes version) m = record { version = λ v e. some_number version v e; freed = λ e. absurd cc }
 covers first handles made h None (Shows version bytes) m = absurd m
 covers first handles made h (Some (Held v b)) (Shows version bytes) m = record { version = λ w e. omega (arith, some_number version w e, m.0); freed = λ e. absurd cc }
@@ -169,7 +169,7 @@ lower v w (Refused subject) le n = tt
 lower v w Wrong le n = tt
 
 by_cases : (earlier later : Event) → ((v : ℕ) → version_of earlier ≡ Some v → IsNotBelow v later)
-    → (earlier ≡ FindsFreed → version_of later ≡ None) → MayFollow earlier later
+    → (earlier ≡ FindsFreed → version_of later ≡ None) → MayComeLater earlier later
 by_cases FindsFreed later bound freed = freed refl
 by_cases (Makes bytes version) later bound freed = bound
 by_cases (Shows version bytes) later bound freed = bound
@@ -183,22 +183,25 @@ by_cases (Refused subject) later bound freed = bound
 by_cases Wrong later bound freed = bound
 
 -- the map's next reply may follow what was told
-pub may_follow : (first handles made h : ℕ) (now : Now) (earlier later : Event)
-    → Covers earlier now → IsFresh made h now → MapReplies first handles made (Some h) now later
-    → MayFollow earlier later
+pub may_follow : (first handles made h : ℕ) (now : MapNow) (earlier later : Event)
+    → CoversAnswer earlier now → IsUnmade made h now
+    → MapReplies first handles made (Some h) now later
+    → MayComeLater earlier later
 may_follow first handles made h now earlier later told fresh m =
     by_cases earlier later
     (λ v e. lower v (latest now) later (told.version v e) (not_below first handles made h now later fresh m))
     (λ e. no_version first handles made h now later (told.freed e) fresh m)
 
 -- what was told stays told
-pub still_covers : (first : ℕ) (event : Event) (now : Now) (changes : List (ℕ × Change))
-    → Covers event now → FitsAll first now changes → Covers event (fold changed now changes)
+pub still_covers : (first : ℕ) (event : Event) (now : MapNow) (changes : List (ℕ × Change))
+    → CoversAnswer event now → FitsAll first now changes
+    → CoversAnswer event (fold changed now changes)
 still_covers first event now changes told all =
     let on = moves first now changes all in
     record { version = λ v e. omega (arith, told.version v e, on.0); freed = λ e. on.1 (told.freed e) }
 
-one_higher : (now : Now) (c : ℕ × Change) → Fits 1 now c → latest (changed now c) ≤ latest now + 1
+one_higher : (now : MapNow) (c : ℕ × Change) → ChangeFits 1 now c
+    → latest (changed now c) ≤ latest now + 1
 one_higher None (v, Create bytes) f = omega (arith, f)
 one_higher None (v, Overwrite at bytes) f = absurd f
 one_higher None (v, Remove) f = absurd f
@@ -210,7 +213,7 @@ one_higher (Some (Freed w)) (v, Overwrite at bytes) f = absurd f
 one_higher (Some (Freed w)) (v, Remove) f = absurd f
 
 -- where first versions are 1, a call raises the version by one at the most
-pub not_higher : (now : Now) (changes : List (ℕ × Change)) → FitsAll 1 now changes
+pub not_higher : (now : MapNow) (changes : List (ℕ × Change)) → FitsAll 1 now changes
     → latest (fold changed now changes) ≤ latest now + 1
 not_higher now [] all = omega arith
 not_higher now (c ∷ []) all = one_higher now c all

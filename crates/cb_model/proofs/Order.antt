@@ -7,7 +7,7 @@ use Rattle.std.proofs.lemmas.List.Concat.{flat_map-append}
 use Rattle.std.proofs.lemmas.List.Sums.{fold-append}
 use Rattle.cb_types.specs.declared.answer.Answer.{Answer}
 use Rattle.cb_model.specs.declared.object.Object.TheVariants.{Held, Freed}
-use Rattle.cb_model.specs.Now.{Now, Change, changed}
+use Rattle.cb_model.specs.Now.{MapNow, Change, changed}
 use Rattle.cb_model.specs.Event.{Event, change_of}
 use Rattle.cb_model.specs.Event.Subject.{NewObject, Contents, Other, Nothing}
 use Rattle.cb_model.specs.Event.Event.{Makes, Shows, Pins, Writes, Frees, FindsFull, FindsUnmade, FindsFreed, FindsEnd, Refused, Wrong}
@@ -16,7 +16,7 @@ use Rattle.cb_model.specs.Replies.{MapReplies, ObjectReplies}
 use Rattle.cb_model.specs.Called.{Called, calls_of, change_to, changes_to, is_about, value, value_at, history, makes, made_by}
 use Rattle.cb_model.specs.Legal.{IsTrueOf, NeverFalls, Rising, AreLegal, IsMapReply, IsUnmadeRight, Follow, IsLegalInOrder}
 use Rattle.cb_model.proofs.Growing.{sorted, held_front, freed_front}
-use Rattle.cb_model.proofs.Moves.{FitsAll, IsFresh, fits, more_history, Covers, covers, still_covers, may_follow}
+use Rattle.cb_model.proofs.Moves.{FitsAll, IsUnmade, fits, more_history, CoversAnswer, covers, still_covers, may_follow}
 
 -- the changes of calls and of those behind them
 pub changes_to-append : (h : ℕ) (xs ys : List Called)
@@ -43,17 +43,17 @@ pub makes-push : (before : List Called) (call : Called)
 makes-push before call = omega (arith, makes-append before (call ∷ []))
 
 -- What holds of calls that followed the map: each handle has a history, and those not made have none.
-pub record Kept (first : ℕ) (calls : List Called) : Type 0 where
+pub record KeptHistories (first : ℕ) (calls : List Called) : Type 0 where
   pub histories : (h : ℕ) → IsHistory first (changes_to h calls)
   pub fresh : (h : ℕ) → makes calls ≤ h → changes_to h calls ≡ []
 
-pub is_fresh : (first : ℕ) (calls : List Called) (h : ℕ) → Kept first calls
-    → IsFresh (makes calls) h (value calls h)
+pub is_fresh : (first : ℕ) (calls : List Called) (h : ℕ) → KeptHistories first calls
+    → IsUnmade (makes calls) h (value calls h)
 is_fresh first calls h kept = λ le. ap left_by (kept.fresh h le)
 
 -- the change of a call at a handle may come next there
 pub fits_at : (first handles : ℕ) (before : List Called) (handle : Option ℕ) (event : Event) (h : ℕ)
-    → Kept first before
+    → KeptHistories first before
     → MapReplies first handles (makes before) handle (value_at before handle) event
     → FitsAll first (value before h) (cond (is_about h handle) (change_of event) [])
 fits_at first handles before None event h kept m = tt
@@ -65,7 +65,7 @@ fits_at first handles before (Some k) event h kept m =
       | inr differs ↦ rw differs tt
     ]
 
-unchanged : (made : ℕ) (now : Now) (first handles k : ℕ) (event : Event) → now ≡ None
+unchanged : (made : ℕ) (now : MapNow) (first handles k : ℕ) (event : Event) → now ≡ None
     → made + made_by event ≤ k → MapReplies first handles made (Some k) now event
     → change_of event ≡ []
 unchanged made now first handles k (Makes bytes version) none le m =
@@ -82,7 +82,7 @@ unchanged made now first handles k (Refused subject) none le m = refl
 unchanged made now first handles k Wrong none le m = refl
 
 fresh_at : (first handles : ℕ) (before : List Called) (handle : Option ℕ) (event : Event) (h : ℕ)
-    → Kept first before → makes before + made_by event ≤ h
+    → KeptHistories first before → makes before + made_by event ≤ h
     → MapReplies first handles (makes before) handle (value_at before handle) event
     → cond (is_about h handle) (change_of event) [] ≡ []
 fresh_at first handles before None event h kept le m = refl
@@ -95,8 +95,9 @@ fresh_at first handles before (Some k) event h kept le m =
       | inr differs ↦ rw differs refl
     ]
 
-pub Kept-push : (first handles : ℕ) (before : List Called) (call : Called) → Kept first before
-    → IsMapReply first handles before call → Kept first (before ++ call ∷ [])
+pub Kept-push : (first handles : ℕ) (before : List Called) (call : Called)
+    → KeptHistories first before
+    → IsMapReply first handles before call → KeptHistories first (before ++ call ∷ [])
 Kept-push first handles before call kept reply = record {
   histories =
       λ h. rw (changes_to-push h before call) (more_history first (changes_to h before) (change_to h call) (kept.histories h) (fits_at first handles before call.handle call.event h kept reply.reply));
@@ -107,13 +108,13 @@ Kept-push first handles before call kept reply = record {
       rw (changes_to-push h before call, none, rest) refl;
 }
 
-pub Kept-append : (first handles : ℕ) (before after : List Called) → Kept first before
-    → Follow first handles before after → Kept first (before ++ after)
+pub Kept-append : (first handles : ℕ) (before after : List Called) → KeptHistories first before
+    → Follow first handles before after → KeptHistories first (before ++ after)
 Kept-append first handles before [] kept follow = rw (append-nil before) kept
 Kept-append first handles before (call ∷ after) kept follow =
     rw (← append_assoc before (call ∷ []) after) (Kept-append first handles (before ++ call ∷ []) after (Kept-push first handles before call kept follow.0) follow.1)
 
-made_within : (first handles made : ℕ) (handle : Option ℕ) (now : Now) (event : Event)
+made_within : (first handles made : ℕ) (handle : Option ℕ) (now : MapNow) (event : Event)
     → made ≤ handles → MapReplies first handles made handle now event
     → made + made_by event ≤ handles
 made_within first handles made handle now (Makes bytes version) le m = omega (arith, m.1)
@@ -139,7 +140,7 @@ makes-le first handles before (call ∷ after) le follow =
 
 -- what was answered on an object is true of a history that goes on from there
 shows_on : (first h v : ℕ) (b : List ℕ) (front rest : List (ℕ × Change))
-    → IsHistory first (front ++ rest) → (now : Now) → left_by front ≡ now
+    → IsHistory first (front ++ rest) → (now : MapNow) → left_by front ≡ now
     → ObjectReplies now (Shows v b) → at_version (front ++ rest) v ≡ Some (Held v b)
 shows_on first h v b front rest history None e m = absurd m
 shows_on first h v b front rest history (Some (Held w c)) e m =
@@ -147,7 +148,7 @@ shows_on first h v b front rest history (Some (Held w c)) e m =
 shows_on first h v b front rest history (Some (Freed w)) e m = absurd m
 
 pins_on : (first v : ℕ) (front rest : List (ℕ × Change)) → IsHistory first (front ++ rest)
-    → (now : Now) → left_by front ≡ now → ObjectReplies now (Pins v)
+    → (now : MapNow) → left_by front ≡ now → ObjectReplies now (Pins v)
     → (bytes : List ℕ) × (at_version (front ++ rest) v ≡ Some (Held v bytes))
 pins_on first v front rest history None e m = absurd m
 pins_on first v front rest history (Some (Held w c)) e m =
@@ -155,7 +156,7 @@ pins_on first v front rest history (Some (Held w c)) e m =
 pins_on first v front rest history (Some (Freed w)) e m = absurd m
 
 ends_on : (first at len : ℕ) (new : List ℕ) (front rest : List (ℕ × Change))
-    → IsHistory first (front ++ rest) → (now : Now) → left_by front ≡ now
+    → IsHistory first (front ++ rest) → (now : MapNow) → left_by front ≡ now
     → ObjectReplies now (FindsEnd at new len)
     → IsMadeWith (front ++ rest) len × (len < at + length new)
 ends_on first at len new front rest history None e m = absurd m
@@ -164,14 +165,14 @@ ends_on first at len new front rest history (Some (Held w c)) e m =
 ends_on first at len new front rest history (Some (Freed w)) e m = absurd m
 
 freed_on : (first : ℕ) (front rest : List (ℕ × Change)) → IsHistory first (front ++ rest)
-    → (now : Now) → left_by front ≡ now → ObjectReplies now FindsFreed
+    → (now : MapNow) → left_by front ≡ now → ObjectReplies now FindsFreed
     → (version : ℕ) × (left_by (front ++ rest) ≡ Some (Freed version))
 freed_on first front rest history None e m = absurd m
 freed_on first front rest history (Some (Held w c)) e m = absurd m
 freed_on first front rest history (Some (Freed w)) e m =
     (w, rw (freed_front first front rest w history e, append-nil front) e)
 
-wrong_never : (now : Now) → ObjectReplies now Wrong → ⊥
+wrong_never : (now : MapNow) → ObjectReplies now Wrong → ⊥
 wrong_never None m = m
 wrong_never (Some (Held v b)) m = m
 wrong_never (Some (Freed v)) m = m
@@ -224,7 +225,8 @@ true_of first handles before all None Wrong more few on m right = absurd m
 true_of first handles before all (Some h) Wrong more few on m right =
     absurd (wrong_never (value before h) m)
 
-goes_on_from : (first : ℕ) (before after : List Called) (h : ℕ) → Kept first (before ++ after)
+goes_on_from : (first : ℕ) (before after : List Called) (h : ℕ)
+    → KeptHistories first (before ++ after)
     → GoesOnFrom first before (before ++ after) h
 goes_on_from first before after h kept =
     let split = changes_to-append h before after in
@@ -233,7 +235,7 @@ goes_on_from first before after h kept =
 
 -- so is each answer that follows
 all_true : (first handles : ℕ) (all before after : List Called) → all ≡ before ++ after
-    → Kept first all → makes all ≤ handles → Follow first handles before after
+    → KeptHistories first all → makes all ≤ handles → Follow first handles before after
     → AllByRecursion (λ call. IsTrueOf handles all call.handle call.event) after
 all_true first handles all before [] e kept few follow = tt
 all_true first handles all before (call ∷ after) e kept few follow =
@@ -248,7 +250,7 @@ one_handle h k e = cc
 
 -- each later call may follow one that was told of what the map has
 none_falls : (first handles h : ℕ) (call : Called) (before after : List Called)
-    → call.handle ≡ Some h → Covers call.event (value before h) → Kept first before
+    → call.handle ≡ Some h → CoversAnswer call.event (value before h) → KeptHistories first before
     → Follow first handles before after → AllByRecursion (NeverFalls call) after
 none_falls first handles h call before [] about told kept follow = tt
 none_falls first handles h call before (b ∷ after) about told kept follow = (
@@ -270,20 +272,20 @@ unbound call (b ∷ after) none =
 
 told_now : (first handles h : ℕ) (before : List Called) (call : Called) → call.handle ≡ Some h
     → MapReplies first handles (makes before) call.handle (value_at before call.handle) call.event
-    → Covers call.event (value (before ++ call ∷ []) h)
+    → CoversAnswer call.event (value (before ++ call ∷ []) h)
 told_now first handles h before call about m =
     let m_here : MapReplies first handles (makes before) (Some h) (value before h) call.event = rw about at m in
     let here : change_to h call ≡ change_of call.event = rw (about, eq-eqb h h refl) refl in
     rw (value-push before call h, here) (covers first handles (makes before) h (value before h) call.event m_here)
 
 falls_behind : (first handles : ℕ) (before : List Called) (call : Called) (after : List Called) (handle : Option ℕ)
-    → call.handle ≡ handle → Kept first before → IsMapReply first handles before call
+    → call.handle ≡ handle → KeptHistories first before → IsMapReply first handles before call
     → Follow first handles (before ++ call ∷ []) after → AllByRecursion (NeverFalls call) after
 falls_behind first handles before call after None about kept reply follow = unbound call after about
 falls_behind first handles before call after (Some h) about kept reply follow =
     none_falls first handles h call (before ++ call ∷ []) after about (told_now first handles h before call about reply.reply) (Kept-push first handles before call kept reply) follow
 
-rises : (first handles : ℕ) (before after : List Called) → Kept first before
+rises : (first handles : ℕ) (before after : List Called) → KeptHistories first before
     → Follow first handles before after → Rising after
 rises first handles before [] kept follow = tt
 rises first handles before (call ∷ after) kept follow = (
@@ -291,7 +293,7 @@ rises first handles before (call ∷ after) kept follow = (
   rises first handles (before ++ call ∷ []) after (Kept-push first handles before call kept follow.0) follow.1,
 )
 
-pub none_yet : (first : ℕ) → Kept first []
+pub none_yet : (first : ℕ) → KeptHistories first []
 none_yet first = record { histories = λ h. tt; fresh = λ h le. refl }
 
 pub Follow-AreLegal : (first handles : ℕ) (calls : List Called) → Follow first handles [] calls

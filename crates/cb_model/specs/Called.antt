@@ -8,7 +8,7 @@ use Rattle.cb_types.specs.declared.request.Request.TheVariants.{Make}
 use Rattle.cb_types.specs.declared.reply.Reply.{Reply}
 use Rattle.cb_types.specs.declared.reply.Reply.TheVariants.{Made}
 use Rattle.cb_types.specs.Requests.{name_of}
-use Rattle.cb_model.specs.Now.{Now, Change}
+use Rattle.cb_model.specs.Now.{MapNow, Change}
 use Rattle.cb_model.specs.Event.{Event, event_of, change_of}
 use Rattle.cb_model.specs.Event.Event.{Makes}
 use Rattle.cb_model.specs.History.{left_by, by_version}
@@ -76,10 +76,10 @@ abbrev pub changes_to : ℕ → List Called → List (ℕ × Change)
 changes_to h calls = flat_map (change_to h) calls
 
 -- what the map has at a handle after these calls, one after the other
-abbrev pub value : List Called → ℕ → Now
+abbrev pub value : List Called → ℕ → MapNow
 value calls h = left_by (changes_to h calls)
 
-abbrev pub value_at : List Called → Option ℕ → Now
+abbrev pub value_at : List Called → Option ℕ → MapNow
 value_at calls None = None
 value_at calls (Some h) = value calls h
 

@@ -1,6 +1,6 @@
 -- The history of a handle: its changes in order of their versions. It is a fact about calls alone.
 use Rattle.std.specs.Prelude.{◌≡◌, ℕ, ◌+◌, ◌≤◌, nat_le, if◌then◌else◌, List, [], ◌∷◌, length, filter, fold, None}
-use Rattle.cb_model.specs.Now.{Now, Change, changed}
+use Rattle.cb_model.specs.Now.{MapNow, Change, changed}
 use Rattle.cb_model.specs.Now.Change.{Create, Overwrite, Remove}
 
 -- a change put at its place among changes in order of their versions
@@ -14,11 +14,11 @@ by_version [] = []
 by_version (c ∷ cs) = placed c (by_version cs)
 
 -- what changes, one after the other, leave at a handle
-abbrev pub left_by : List (ℕ × Change) → Now
+abbrev pub left_by : List (ℕ × Change) → MapNow
 left_by changes = fold changed None changes
 
 -- what a handle had at a version
-abbrev pub at_version : List (ℕ × Change) → ℕ → Now
+abbrev pub at_version : List (ℕ × Change) → ℕ → MapNow
 at_version changes version = left_by (filter (λ c. nat_le c.0 version) changes)
 
 -- the make's bytes are so many

@@ -13,16 +13,16 @@ use Rattle.cb_model.specs.Called.{Called, calls_of, value_at, history, makes}
 
 -- What an answer on an object says of the object's history. What was written or freed stands in it; what
 -- was read or pinned was held at that version; a write was past the end of the bytes of the make.
-abbrev pub Tells : List (ℕ × Change) → Event → Type 0
-Tells history (Shows version bytes) = at_version history version ≡ Some (Held version bytes)
-Tells history (Pins version) =
+abbrev pub TellsHistory : List (ℕ × Change) → Event → Type 0
+TellsHistory history (Shows version bytes) = at_version history version ≡ Some (Held version bytes)
+TellsHistory history (Pins version) =
     (bytes : List ℕ) × (at_version history version ≡ Some (Held version bytes))
-Tells history (Writes at bytes version) = Unit {0}
-Tells history (Frees version) = Unit {0}
-Tells history (FindsEnd at bytes len) = IsMadeWith history len × (len < at + length bytes)
-Tells history FindsFreed = (version : ℕ) × (left_by history ≡ Some (Freed version))
-Tells history (Refused subject) = Unit {0}
-Tells history event = ⊥
+TellsHistory history (Writes at bytes version) = Unit {0}
+TellsHistory history (Frees version) = Unit {0}
+TellsHistory history (FindsEnd at bytes len) = IsMadeWith history len × (len < at + length bytes)
+TellsHistory history FindsFreed = (version : ℕ) × (left_by history ≡ Some (Freed version))
+TellsHistory history (Refused subject) = Unit {0}
+TellsHistory history event = ⊥
 
 -- What an answer says of all calls: a handle is one of those that there are, full is told with their
 -- number where as many were made, and unmade exactly where the name has no handle.
@@ -32,7 +32,7 @@ IsTrueOf handles calls handle (FindsFull number) = (makes calls ≡ handles) × 
 IsTrueOf handles calls handle (Refused NewObject) = Unit {0}
 IsTrueOf handles calls handle (Refused Nothing) = Unit {0}
 IsTrueOf handles calls None FindsUnmade = Unit {0}
-IsTrueOf handles calls (Some h) event = Tells (history calls h) event
+IsTrueOf handles calls (Some h) event = TellsHistory (history calls h) event
 IsTrueOf handles calls None event = ⊥
 
 -- a version that is answered later does not fall, and that of a write or a free is above
@@ -45,9 +45,9 @@ IsNotBelow version (Frees later) = version < later
 IsNotBelow version event = Unit {0}
 
 -- what may be answered later: behind a version none below it, and behind freed no version at all
-abbrev pub MayFollow : Event → Event → Type 0
-MayFollow FindsFreed later = version_of later ≡ None
-MayFollow earlier later =
+abbrev pub MayComeLater : Event → Event → Type 0
+MayComeLater FindsFreed later = version_of later ≡ None
+MayComeLater earlier later =
     (version : ℕ) → version_of earlier ≡ Some version → IsNotBelow version later
 
 -- the answer was given to this lane before: to itself, or to lane 0
@@ -58,7 +58,7 @@ WasTold teller lane = (teller ≡ lane) ⊎ (teller ≡ 0)
 abbrev pub NeverFalls : Called → Called → Type 0
 NeverFalls earlier later =
     (h : ℕ) → WasTold earlier.lane later.lane → earlier.handle ≡ Some h → later.handle ≡ Some h
-    → MayFollow earlier.event later.event
+    → MayComeLater earlier.event later.event
 
 -- so of each call and each later one
 abbrev pub Rising : List Called → Type 0

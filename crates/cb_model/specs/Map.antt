@@ -8,7 +8,7 @@ use Rattle.cb_model.specs.declared.call.MapReply.{MapReply}
 use Rattle.cb_model.specs.declared.call.MapReply.TheVariants as reply
 use Rattle.cb_types.specs.declared.reply.Reply.{Reply}
 use Rattle.cb_types.specs.declared.reply.Reply.TheVariants as lines
-use Rattle.cb_model.specs.Now.{Now, overwritten}
+use Rattle.cb_model.specs.Now.{MapNow, overwritten}
 use Rattle.cb_model.specs.Event.{Event}
 use Rattle.cb_model.specs.Event.Event.{Makes, Shows, Writes, Frees, FindsFull, FindsUnmade, FindsFreed, FindsEnd, Wrong}
 use Rattle.cb_model.specs.Replies.{MapReplies}
@@ -34,12 +34,12 @@ IsSmall (Held version bytes) = length bytes < 2 ^ 32
 IsSmall (Freed version) = Unit {0}
 
 -- what the map has at a handle, where there is one
-abbrev pub now_at : Map → Option ℕ → Now
+abbrev pub now_at : Map → Option ℕ → MapNow
 now_at map None = None
 now_at map (Some handle) = slice_get map.objects handle
 
 -- there is a version above that of what is held
-abbrev pub HasNext : Now → Type 0
+abbrev pub HasNext : MapNow → Type 0
 HasNext (Some (Held version bytes)) = version < 2 ^ 64 - 1
 HasNext now = Unit {0}
 
@@ -97,7 +97,7 @@ object_after object (Frees next) = Freed next
 object_after object event = object
 
 -- the objects after a call on this handle, where the map has `now`
-abbrev pub objects_after : List Object → ℕ → Now → Event → List Object
+abbrev pub objects_after : List Object → ℕ → MapNow → Event → List Object
 objects_after objects handle now (Makes bytes version) = objects ++ Held version bytes ∷ []
 objects_after objects handle (Some object) event =
     slice_set objects handle (object_after object event)

@@ -4,8 +4,8 @@ use Rattle.cb_model.specs.declared.object.Object.{Object}
 use Rattle.cb_model.specs.declared.object.Object.TheVariants.{Held, Freed}
 
 -- a handle was never made, it has bytes at a version, or it was freed at a version
-abbrev pub Now : Type 0
-Now = Option Object
+abbrev pub MapNow : Type 0
+MapNow = Option Object
 
 -- the bytes from place `at` on are replaced by as many others
 abbrev pub overwritten : List ℕ → ℕ → List ℕ → List ℕ
@@ -18,7 +18,7 @@ pub data Change : Type 0 where
   Remove : Change
 
 -- what the map has after a change that answered this version
-abbrev pub changed : Now → ℕ × Change → Now
+abbrev pub changed : MapNow → ℕ × Change → MapNow
 changed before (version, Create bytes) = Some (Held version bytes)
 changed (Some (Held old bytes)) (version, Overwrite at new) =
     Some (Held version (overwritten bytes at new))

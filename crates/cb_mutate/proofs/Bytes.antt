@@ -4,14 +4,14 @@ use native.Mathlib.Decide.{ℕ_discrete}
 use Rattle.std.specs.Int.{to_le_bytes, w64}
 use Rattle.cb_world.specs.declared.event.Event.{Event}
 use Rattle.cb_world.specs.declared.event.Event.TheVariants.{Loaded, Stored}
-use Rattle.cb_world.specs.Memory.{byte_at, window, put, words_for}
+use Rattle.cb_world.specs.Memory.{memory_byte, window, put, words_for}
 use Rattle.cb_world.specs.declared.shown.Shown.{Shown}
 use Rattle.cb_world.specs.Played.{Agree, played}
 use Rattle.cb_world.specs.Write.{IsWrite, IsWriteBelow}
 use Rattle.cb_world.specs.Shown.{Owns, Covers}
 use Rattle.cb_world.proofs.Laws.{put_at-windows as put_at, set_put, length_put, played_append, agree_last}
 use Rattle.cb_world.specs.StillDesk.{window_length}
-use Rattle.cb_mutate.specs.Merged.{IsMerged, IsMixed}
+use Rattle.cb_mutate.specs.Merged.{IsMixed, IsWordMerged}
 use Rattle.cb_mutate.specs.Wordwise.{IsReached, IsWordwise}
 use Rattle.cb_mutate.specs.Stores.{AreStores}
 use Rattle.cb_world.specs.Claimed.{OwnsAll}
@@ -63,12 +63,12 @@ wordwise_all n old at count new enough w = record {
 
 -- the byte at a position of the word that was set, and of another
 byte_here : (xs : List ℕ) (i y p : ℕ) → i < length xs → p / 8 ≡ i
-    → byte_at (set xs i y) p ≡ get_or (to_le_bytes w64 y) (p % 8) 0
+    → memory_byte (set xs i y) p ≡ get_or (to_le_bytes w64 y) (p % 8) 0
 byte_here xs i y p within at =
     ap (λ (w : ℕ). get_or (to_le_bytes w64 w) (p % 8) 0) (ap (λ (j : ℕ). get_or (set xs i y) j 0) at
     ∙ get_or-set_same xs i y 0 within)
 
-byte_else : (xs : List ℕ) (i y p : ℕ) → p / 8 ≢ i → byte_at (set xs i y) p ≡ byte_at xs p
+byte_else : (xs : List ℕ) (i y p : ℕ) → p / 8 ≢ i → memory_byte (set xs i y) p ≡ memory_byte xs p
 byte_else xs i y p apart =
     ap (λ (w : ℕ). get_or (to_le_bytes w64 w) (p % 8) 0) (get_or-set_other xs i (p / 8) y 0 apart)
 
@@ -109,7 +109,7 @@ write_all n old at bytes new enough w =
 
 pub write_more : (old new : List ℕ) (i at : ℕ) (bytes : List ℕ) (y : ℕ)
     → IsWriteBelow (8 * i) old at bytes new → i < length old
-    → IsMerged (get_or new i 0) (8 * i) at bytes y
+    → IsWordMerged (get_or new i 0) (8 * i) at bytes y
     → IsWriteBelow (8 * (i + 1)) old at bytes (set new i y)
 write_more old new i at bytes y w within m = record {
   sized = length-set new i y ∙ w.sized;
@@ -118,7 +118,7 @@ write_more old new i at bytes y w within m = record {
 }
   where
     inside : (k : ℕ) → k < length bytes → at + k < 8 * (i + 1) → Dec ((at + k) / 8 ≡ i)
-        → byte_at (set new i y) (at + k) ≡ get_or bytes k 0
+        → memory_byte (set new i y) (at + k) ≡ get_or bytes k 0
     inside k below e (yes here) =
         let j = (at + k) % 8 in
         let split : 8 * i + j ≡ at + k = omega (arith, here) in
@@ -131,7 +131,7 @@ write_more old new i at bytes y w within m = record {
 
     outside : (p : ℕ) → p < 8 * length old → (8 * (i + 1) ≤ p)
         ⊎ ((p < at) ⊎ (at + length bytes ≤ p)) → Dec (p / 8 ≡ i)
-        → byte_at (set new i y) p ≡ byte_at old p
+        → memory_byte (set new i y) p ≡ memory_byte old p
     outside p below (inl e) (yes here) = absurd (omega (arith, e, here))
     outside p below (inr e) (yes here) =
         let j = p % 8 in
@@ -176,7 +176,7 @@ pub store_one : (es : List Event) (s : Shown) (place len i at x y : ℕ) (bytes 
     → (new : List ℕ) → IsWriteBelow (8 * i) (window s.memory place (words_for len)) at bytes new
     → IsWordwiseBelow i (window s.memory place (words_for len)) at (length bytes) new
     → 8 * i < at + length bytes → y < 2 ^ 64
-    → played es s ≡ record s { memory = put s.memory place new } → IsMerged x (8 * i) at bytes y
+    → played es s ≡ record s { memory = put s.memory place new } → IsWordMerged x (8 * i) at bytes y
     → (next : List ℕ)
     × IsWriteBelow (8 * (i + 1)) (window s.memory place (words_for len)) at bytes next
     × IsWordwiseBelow (i + 1) (window s.memory place (words_for len)) at (length bytes) next
@@ -204,7 +204,7 @@ store_one es s place len i at x y bytes agree o below new w b reaches low e m =
         below,
         window_length s.memory place (words_for len),
       )) (subst (λ (z : ℕ).
-          IsMerged z (8 * i) at bytes y) read m),
+          IsWordMerged z (8 * i) at bytes y) read m),
       wordwise_more (window s.memory place (words_for len)) new i at (length bytes) y b (omega (
         arith,
         below,

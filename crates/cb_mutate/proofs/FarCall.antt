@@ -7,7 +7,7 @@ use Rattle.cb_types.specs.declared.request.Request.TheVariants.{Free}
 use Rattle.cb_types.specs.declared.reply.Reply.{Reply}
 use Rattle.cb_types.specs.declared.reply.Reply.TheVariants as answer
 use Rattle.cb_model.specs.declared.object.Object.TheVariants.{Held, Freed}
-use Rattle.cb_model.specs.Now.{Now as MapNow}
+use Rattle.cb_model.specs.Now.{MapNow}
 use Rattle.cb_model.specs.Event.{event_of}
 use Rattle.cb_model.specs.Replies.{MapReplies}
 use Rattle.cb_model.specs.Called.{made_by}
@@ -28,7 +28,7 @@ use Rattle.cb_world.proofs.Laws.{IsFarFreed, sound_far_gone, now_far_gone, empty
 use Rattle.cb_mutate.specs.FreeRule.{IsRemoved, LeavesPlace}
 use Rattle.cb_mutate.specs.FreeEnds.{with_emptied}
 use Rattle.cb_mutate.specs.StillReplies.{next_reply, change_reply, free_as}
-use Rattle.cb_mutate.specs.Steps.{FreeChange, IsTakenOut, IsFreeStep, with_freed}
+use Rattle.cb_mutate.specs.CallStep.{FreeChange, IsTakenOut, IsFreeStep, with_freed}
 use Rattle.cb_mutate.specs.MapCalls.{IsValue, value_after, IsMapCall, IsCallOn}
 use Rattle.cb_mutate.proofs.MapReplies.{AreKnownBoth, IsOnContents, far_there, refused_call}
 use Rattle.cb_mutate.proofs.ChangedObject.{stamped}

@@ -33,8 +33,8 @@ use Rattle.cb_mutate.specs.FreeEnds.{with_emptied}
 use Rattle.cb_mutate.proofs.Emptied.{with_stamped}
 
 -- an object is far, with these words at this version
-abbrev pub IsAway : Shown → ℕ → ℕ → Type 0
-IsAway s h v = (len : ℕ) × (words : List ℕ) × (object_at s h ≡ is.Far len v words)
+abbrev pub IsFarWith : Shown → ℕ → ℕ → Type 0
+IsFarWith s h v = (len : ℕ) × (words : List ℕ) × (object_at s h ≡ is.Far len v words)
 
 -- ---- the word that was found
 pub one_look_more : (h w : ℕ) (es : List Event) → AreLooks h es → AreLooks h (look_after es h w)

@@ -19,7 +19,7 @@ use Rattle.cb_world.specs.StillWords.{stamp_at, contents_at}
 use Rattle.cb_world.proofs.Laws.{KeepsAway}
 use Rattle.cb_mutate.specs.FreeRule.{IsReleased, LeavesPlace}
 use Rattle.cb_mutate.specs.StillReplies.{change_reply, free_as, reply_as}
-use Rattle.cb_mutate.specs.Steps.{FreeChange, IsTakenOut, IsFreeStep}
+use Rattle.cb_mutate.specs.CallStep.{FreeChange, IsTakenOut, IsFreeStep}
 use Rattle.cb_mutate.specs.MapCalls.{IsMapCall, IsCallOn}
 use Rattle.cb_mutate.proofs.MapReplies.{AreKnownBoth, IsOnContents, ChangesAt, call_by_state, change_call, others_hold, near_held, here_near}
 use Rattle.cb_mutate.proofs.FarCall.{far_call, free_by, freed_then}

@@ -18,8 +18,8 @@ use Rattle.cb_world.proofs.Laws.{empty_exact, PerformsStill, RunsStill, runs_sti
 use Rattle.cb_mutate.specs.Answered.{AnsweredAs}
 use Rattle.cb_mutate.specs.FreeRule.{FreeAs, FreeHere, FreeRule, FreeFar, FreeEffect, IsGone, LeavesPlace}
 use Rattle.cb_mutate.specs.StillReplies.{next_reply, change_reply, free_as, free_reply, reply_as}
-use Rattle.cb_mutate.specs.Steps.{FreeChange, IsTakenOut, IsFreeStep}
-use Rattle.cb_mutate.proofs.Stepping.{IsExact, is_exact, Comes, reply_comes, next_comes, change_comes}
+use Rattle.cb_mutate.specs.CallStep.{FreeChange, IsTakenOut, IsFreeStep}
+use Rattle.cb_mutate.proofs.Stepping.{IsExact, is_exact, ComesTo, reply_comes, next_comes, change_comes}
 
 -- every word after a free that was answered a version
 taken_out : (x y : Words) (far new : FarState) (s : Shown) (es : List Event) (h n : ℕ)
@@ -61,7 +61,7 @@ free_back x y far new s es runs e = (stays_still x y far s es runs e.0, e.1)
 here_comes : (x y : Words) (far new : FarState) (s : Shown) (es : List Event) (h : ℕ) (r : Reply)
     → RunsStill x y far s es → IsExact x h es → Does (word_at x h) h far new es s r
     → FreeHere h es r (word_at x h)
-    → Comes (Does (word_at x h) h far new es s) (Leaves x y far new h) r
+    → ComesTo (Does (word_at x h) h far new es s) (Leaves x y far new h) r
     (change_reply (word_at x h) (stamp_at x h))
 here_comes x y far new s es h r runs exact effect rule =
     change_comes (Does (word_at x h) h far new es s) (Leaves x y far new h) (word_at x h) (stamp_at x h) r effect
@@ -69,7 +69,7 @@ here_comes x y far new s es h r runs exact effect rule =
   where
     claimed : FreeHere h es r (word_at x h)
         → ((1 ≤ pins_of (word_at x h)) × (r ≡ answer.Pinned (pins_of (word_at x h))))
-        ⊎ ((pins_of (word_at x h) ≡ 0) × Comes (Does (word_at x h) h far new es s) (Leaves x y far new h) r
+        ⊎ ((pins_of (word_at x h) ≡ 0) × ComesTo (Does (word_at x h) h far new es s) (Leaves x y far new h) r
         (next_reply (stamp_at x h)))
     claimed (inl b) = inl b
     claimed (inr b) = inr (
@@ -84,14 +84,14 @@ near_comes : (q : State) (x y : Words) (far new : FarState) (s : Shown) (es : Li
     (h w : ℕ) (r : Reply) → RunsStill x y far s es → IsExact x h es
     → Does (word_at x h) h far new es s r → w ≡ word_at x h
     → AnsweredAs q (FreeHere h es r) w h es r
-    → Comes (Does (word_at x h) h far new es s) (Leaves x y far new h) r
+    → ComesTo (Does (word_at x h) h far new es s) (Leaves x y far new h) r
     (reply_as q (stamp_at x h) (change_reply w (stamp_at x h)))
 near_comes q x y far new s es h w r runs exact effect e a =
     let back = free_back x y far new s es runs in
     reply_comes (Does (word_at x h) h far new es s) (Leaves x y far new h) q (FreeHere h es r)
     (change_reply w (stamp_at x h)) w h (stamp_at x h) es r
     (record { unmade = back; freed = back; not_here = back; moving = back }) exact.told
-    (λ here found. subst (λ (n : ℕ). Comes (Does (word_at x h) h far new es s)
+    (λ here found. subst (λ (n : ℕ). ComesTo (Does (word_at x h) h far new es s)
     (Leaves x y far new h) r (change_reply n (stamp_at x h))) (sym e)
     (here_comes x y far new s es h r runs exact effect (subst (FreeHere h es r) e found)))
     a effect
@@ -100,7 +100,7 @@ near_comes q x y far new s es h w r runs exact effect e a =
 free_comes : (q : State) (x y : Words) (far new : FarState) (s : Shown) (es : List Event)
     (h w : ℕ) (r : Reply) → RunsStill x y far s es → IsExact x h es
     → Does (word_at x h) h far new es s r → w ≡ word_at x h → FreeAs q w h es r
-    → Comes (Does (word_at x h) h far new es s) (Leaves x y far new h) r
+    → ComesTo (Does (word_at x h) h far new es s) (Leaves x y far new h) r
     (free_as q (stamp_at x h) (change_reply w (stamp_at x h)))
 free_comes state.Far x y far new s es h w r runs exact effect e a =
     next_comes (Does (word_at x h) h far new es s) (Leaves x y far new h) a.0 (stamp_at x h) r
@@ -128,7 +128,7 @@ free_step x y far new s h r k p =
       p.effect s ((k.sized, k.shows), k.sound),
       subst (λ (n : ℕ). FreeFar n h r far new) e p.rule.state,
     ) in
-    let c = subst (λ (n : ℕ). Comes (Does (word_at x h) h far new es s) (Leaves x y far new h) r
+    let c = subst (λ (n : ℕ). ComesTo (Does (word_at x h) h far new es s) (Leaves x y far new h) r
     (free_reply n (stamp_at x h))) e
     (free_comes (state_of w) x y far new s es h w r runs exact effect e rule.answer) in (
       record { reply = c.reply; change = c.change },

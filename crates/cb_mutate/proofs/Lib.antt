@@ -1,18 +1,18 @@
 pub mod Bytes
 pub mod Packing
 pub mod NewObject
-pub mod Made
+pub mod MakeSound
 mod WorkedMake
 mod WorkedMap
 pub mod Settling
-pub mod Written
+pub mod WriteSound
 pub mod Emptied
-pub mod Freed
+pub mod FreeSound
 pub mod FarFreed
 pub mod FarSeen
 pub mod Loaded
 pub mod SettledHot
-pub mod ReadAfter
+pub mod ReadSound
 pub mod Rooms
 pub mod Stepping
 pub mod WriteStep
@@ -26,9 +26,9 @@ pub mod WriteCall
 pub mod FarCall
 pub mod FreeCall
 pub mod MakeStep
-pub mod StepsFixed
-pub mod Stays
-pub mod Unwritten
+pub mod CallFixed
+pub mod CallStays
+pub mod ReadUnwritten
 pub mod MakeCall
 mod WorkedSteps
 mod WorkedReads

@@ -9,7 +9,7 @@ use Rattle.std.specs.List.{range_with_len}
 use Rattle.cb_world.specs.declared.event.Event.{Event}
 use Rattle.cb_world.specs.declared.event.Event.TheVariants.{Loaded}
 use Rattle.cb_world.specs.declared.shown.Shown.{Shown}
-use Rattle.cb_world.specs.Memory.{window, words_for, byte_at, bytes_in}
+use Rattle.cb_world.specs.Memory.{window, words_for, memory_byte, bytes_in}
 use Rattle.cb_world.specs.Shown.{Covers, Owns}
 use Rattle.cb_world.specs.Touches.{Touches}
 use Rattle.cb_world.specs.Played.{played, Agree}
@@ -30,7 +30,7 @@ pub record LoadsBelow (runs : List Event → Type 0) (owns : Shown → Type 0) (
   pub count : length words ≡ i
   pub loaded : AreLoaded place words events
   pub sized : length into ≡ 1024
-  pub bytes : (p : ℕ) → p < 8 * i → get_or into p 0 ≡ byte_at words p
+  pub bytes : (p : ℕ) → p < 8 * i → get_or into p 0 ≡ memory_byte words p
   pub contents : (s : Shown) → owns s → (k : ℕ) → k < i
       → get_or words k 0 ≡ get_or s.memory (place + k) 0
 
@@ -127,7 +127,7 @@ loads_one runs more owns place len i x old new l covers ran put told = record {
         (l.loaded k (omega (arith, less, l.count))))
 
     bytes : (p : ℕ) → p < 8 * (i + 1) → (p < 8 * i) ⊎ (8 * i ≤ p)
-        → get_or new p 0 ≡ byte_at (l.words ++ x ∷ []) p
+        → get_or new p 0 ≡ memory_byte (l.words ++ x ∷ []) p
     bytes p below (inl less) = put.outside p (inl less) ∙ l.bytes p less
         ∙ ap (λ (w : ℕ). get_or (to_le_bytes w64 w) (p % 8) 0)
         (sym (earlier (p / 8) (omega (arith, less))))
@@ -160,11 +160,12 @@ loads_all runs owns place len i into same short l = record {
   words = l.words;
   count = l.count ∙ same;
   loaded = l.loaded;
-  bytes = ext_get_or 0 (take len into) (map (byte_at l.words) (range_with_len 0 len))
-      (taken ∙ sym (length-map-range_with_len (byte_at l.words) 0 len))
+  bytes = ext_get_or 0 (take len into) (map (memory_byte l.words) (range_with_len 0 len))
+      (taken ∙ sym (length-map-range_with_len (memory_byte l.words) 0 len))
       (λ k below. get_or-take len into k 0 (omega (arith, below, taken))
       ∙ l.bytes k (omega (arith, below, taken, same))
-      ∙ sym (get_or-map-range_with_len (byte_at l.words) 0 len k k 0 (omega (arith, below, taken))
+      ∙ sym (get_or-map-range_with_len (memory_byte l.words) 0 len k k 0
+      (omega (arith, below, taken))
       (omega arith)));
   contents = λ s o. ext_get_or 0 l.words (window s.memory place (words_for len))
       (l.count ∙ same ∙ sym (window_length s.memory place (words_for len)))

@@ -6,7 +6,7 @@ use Rattle.cb_types.specs.declared.handle.Handle.{Handle}
 use Rattle.cb_types.specs.declared.reply.Reply.{Reply}
 use Rattle.cb_types.specs.declared.reply.Reply.TheVariants as answer
 use Rattle.cb_model.specs.declared.object.Object.TheVariants.{Held, Freed}
-use Rattle.cb_model.specs.Now.{Now as MapNow}
+use Rattle.cb_model.specs.Now.{MapNow}
 use Rattle.cb_model.specs.Event.{event_of, change_of}
 use Rattle.cb_model.specs.Replies.{MapReplies}
 use Rattle.cb_model.specs.Called.{made_by}

@@ -4,7 +4,7 @@ use Rattle.std.proofs.Common.{◌≡◌, ◌≢◌, ◌⊎◌, ℕ, ◌+◌, Boo
 use native.Mathlib.Decide.{ℕ_discrete}
 use Rattle.cb_types.specs.declared.request.Request.{Request}
 use Rattle.cb_types.specs.declared.reply.Reply.{Reply}
-use Rattle.cb_model.specs.Now.{Now as MapNow, Change, changed}
+use Rattle.cb_model.specs.Now.{MapNow, Change, changed}
 use Rattle.cb_model.specs.Event.{Event, event_of, change_of}
 use Rattle.cb_model.specs.Replies.{MapReplies}
 use Rattle.cb_model.specs.Called.{Called, change_to, is_about, value, value_at, made_by, makes}
@@ -28,7 +28,8 @@ use Rattle.cb_mutate.specs.MapCalls.{IsValue, IsCallBetween, IsCallOn, IsRefused
 use Rattle.cb_mutate.specs.MapBeside.{IsMapOf, IsMapBeside}
 
 -- The answered call: what it was about, and what was answered.
-pub record Tells (c : Called) (handle : Option ℕ) (request : Request) (r : Reply) : Type 0 where
+pub record IsAnsweredCall (c : Called) (handle : Option ℕ) (request : Request) (r : Reply) : Type
+    0 where
   pub about : c.handle ≡ handle
   pub event : c.event ≡ event_of request r
 
@@ -39,8 +40,8 @@ pub record FollowsOf (first handles : ℕ) (calls : List Called) (c : Called) (m
   pub beside : IsMapOf (calls ++ c ∷ []) more new
 
 -- the map stays beside the world
-abbrev pub Follows : ℕ → List Called → Called → Shown → FarState → FarState → Type 0
-Follows handles calls c t far new =
+abbrev pub FollowsMap : ℕ → List Called → Called → Shown → FarState → FarState → Type 0
+FollowsMap handles calls c t far new =
     FollowsOf far.first handles calls c new.made (λ k. now t new k)
 
 -- what a call changes at the object that it is about, and at another
@@ -66,7 +67,7 @@ module _ (first handles count more : ℕ) (old new : ℕ → Now) (calls : List 
     (map : IsMapOf calls count old) where
   -- a call on an object
   pub between_follows : (c : Called) (h : ℕ) (q : Request) (r : Reply)
-      → IsCallBetween first handles count more old new h q r → Tells c (Some h) q r
+      → IsCallBetween first handles count more old new h q r → IsAnsweredCall c (Some h) q r
       → FollowsOf first handles calls c more new
   between_follows c h q r call told = record {
     reply = subst (λ (o : Option ℕ).
@@ -96,7 +97,7 @@ module _ (first handles count more : ℕ) (old new : ℕ → Now) (calls : List 
 
   -- a make that made no object
   pub refused_between : (c : Called) (q : Request) (r : Reply)
-      → IsRefusedBetween first handles count more old new q r → Tells c None q r
+      → IsRefusedBetween first handles count more old new q r → IsAnsweredCall c None q r
       → FollowsOf first handles calls c more new
   refused_between c q r call told = record {
     reply = subst (λ (o : Option ℕ).
@@ -125,7 +126,8 @@ module _ (first handles count more : ℕ) (old new : ℕ → Now) (calls : List 
 -- a call on an object of a world
 pub call_follows : (handles : ℕ) (calls : List Called) (c : Called) (s t : Shown)
     (far new : FarState) (h : ℕ) (q : Request) (r : Reply) → IsMapBeside calls s far
-    → IsCallOn handles s t far new h q r → Tells c (Some h) q r → Follows handles calls c t far new
+    → IsCallOn handles s t far new h q r → IsAnsweredCall c (Some h) q r
+    → FollowsMap handles calls c t far new
 call_follows handles calls c s t far new h q r map call told =
     between_follows far.first handles far.made new.made (λ k. now s far k) (λ k. now t new k) calls
     map c h q r call told
@@ -133,7 +135,8 @@ call_follows handles calls c s t far new h q r map call told =
 -- a make in a world that made no object
 pub refused_follows : (handles : ℕ) (calls : List Called) (c : Called) (s t : Shown)
     (far new : FarState) (q : Request) (r : Reply) → IsMapBeside calls s far
-    → IsRefusedMake handles s t far new q r → Tells c None q r → Follows handles calls c t far new
+    → IsRefusedMake handles s t far new q r → IsAnsweredCall c None q r
+    → FollowsMap handles calls c t far new
 refused_follows handles calls c s t far new q r map call told =
     refused_between far.first handles far.made new.made (λ k. now s far k) (λ k. now t new k) calls
     map c q r call told
@@ -237,7 +240,7 @@ is_reply_of first handles count more old new calls c h follows map was about = r
 }
 
 pub is_map_reply : (handles : ℕ) (calls : List Called) (c : Called) (s t : Shown)
-    (far new : FarState) (h : ℕ) → Follows handles calls c t far new → IsMapBeside calls s far
+    (far new : FarState) (h : ℕ) → FollowsMap handles calls c t far new → IsMapBeside calls s far
     → Sound s far → c.handle ≡ Some h → h < far.made → IsMapReply far.first handles calls c
 is_map_reply handles calls c s t far new h follows map sound about more =
     is_reply_of far.first handles far.made new.made (λ k. now s far k) (λ k. now t new k) calls c h
@@ -251,7 +254,7 @@ is_make_of first handles calls c more new follows other =
     record { reply = follows.reply; unmade = right_unmade c.handle c.event other }
 
 pub is_map_make : (handles : ℕ) (calls : List Called) (c : Called) (t : Shown)
-    (far new : FarState) → Follows handles calls c t far new → (c.event ≡ FindsUnmade → ⊥)
+    (far new : FarState) → FollowsMap handles calls c t far new → (c.event ≡ FindsUnmade → ⊥)
     → IsMapReply far.first handles calls c
 is_map_make handles calls c t far new follows other =
     is_make_of far.first handles calls c new.made (λ k. now t new k) follows other

@@ -9,7 +9,7 @@ use Rattle.cb_types.specs.declared.request.Request.{Request}
 use Rattle.cb_types.specs.declared.reply.Reply.{Reply}
 use Rattle.cb_types.specs.declared.reply.Reply.TheVariants as answer
 use Rattle.cb_model.specs.declared.object.Object.TheVariants.{Held, Freed}
-use Rattle.cb_model.specs.Now.{Now as MapNow, Change, changed}
+use Rattle.cb_model.specs.Now.{MapNow, Change, changed}
 use Rattle.cb_model.specs.Event.{Event, event_of, change_of}
 use Rattle.cb_model.specs.Event.Subject.{Contents}
 use Rattle.cb_model.specs.Event.Event.{FindsUnmade, FindsFreed, Refused}
@@ -43,13 +43,14 @@ map_same first handles made handle q r n e same none replies = record {
 }
 
 -- there is an object
-abbrev pub IsThere : Now → Type 0
-IsThere never = ⊥
-IsThere (freed v) = ⊥
-IsThere (held v bytes) = Unit {0}
-IsThere (gone v) = Unit {0}
+abbrev pub IsObjectThere : Now → Type 0
+IsObjectThere never = ⊥
+IsObjectThere (freed v) = ⊥
+IsObjectThere (held v bytes) = Unit {0}
+IsObjectThere (gone v) = Unit {0}
 
-pub refused_by : (n : Now) → IsThere n → (first handles made : ℕ) (handle : Option ℕ) (m : MapNow)
+pub refused_by : (n : Now) → IsObjectThere n
+    → (first handles made : ℕ) (handle : Option ℕ) (m : MapNow)
     → IsValue m n → MapReplies first handles made handle m (Refused Contents)
 refused_by never there first handles made handle m i = absurd there
 refused_by (freed v) there first handles made handle m i = absurd there
@@ -87,11 +88,11 @@ pub record AreKnownBoth (x y : Words) (far new : FarState) (s t : Shown) : Type 
   pub afterwards : IsKnown y new t
 
 -- nothing changed
-abbrev pub Stays : Words → Words → FarState → FarState → Type 0
-Stays x y far new = (y ≡ x) × (new ≡ far)
+abbrev pub NothingChanged : Words → Words → FarState → FarState → Type 0
+NothingChanged x y far new = (y ≡ x) × (new ≡ far)
 
 pub now_stays : (x y : Words) (far new : FarState) (s t : Shown) (k : ℕ)
-    → AreKnownBoth x y far new s t → Stays x y far new → now t new k ≡ now s far k
+    → AreKnownBoth x y far new s t → NothingChanged x y far new → now t new k ≡ now s far k
 now_stays x y far new s t k a e =
     subst (λ (g : FarState). Sound t g → now t g k ≡ now s far k) (sym e.1)
     (λ sound. now_same x s t far k a.before.shows a.before.sound
@@ -100,7 +101,7 @@ now_stays x y far new s t k a e =
 
 -- a call that left all as it was
 pub stays_call : (x y : Words) (far new : FarState) (s t : Shown) (h handles : ℕ) (q : Request)
-    (r : Reply) (e : Event) → AreKnownBoth x y far new s t → Stays x y far new
+    (r : Reply) (e : Event) → AreKnownBoth x y far new s t → NothingChanged x y far new
     → event_of q r ≡ e → made_by e ≡ 0
     → IsMapCall far.first handles far.made (Some h) q r (now s far h) (now s far h)
     → IsCallOn handles s t far new h q r
@@ -113,7 +114,8 @@ stays_call x y far new s t h handles q r v a e event none own = record {
 
 -- an object that is there, and a refusal that the map does not give
 pub refused_call : (x y : Words) (far new : FarState) (s t : Shown) (h handles : ℕ) (q : Request)
-    (r : Reply) → AreKnownBoth x y far new s t → Stays x y far new → IsThere (now s far h)
+    (r : Reply) → AreKnownBoth x y far new s t → NothingChanged x y far new
+    → IsObjectThere (now s far h)
     → event_of q r ≡ Refused Contents → IsCallOn handles s t far new h q r
 refused_call x y far new s t h handles q r a e there same =
     stays_call x y far new s t h handles q r (Refused Contents) a e same refl
@@ -121,14 +123,14 @@ refused_call x y far new s t h handles q r a e there same =
     (refused_by (now s far h) there far.first handles far.made (Some h)))
 
 pub far_there : (x : Words) (far : FarState) (s : Shown) (h : ℕ) → IsKnown x far s
-    → h < length x.words → state_of (word_at x h) ≡ state.Far → IsThere (now s far h)
+    → h < length x.words → state_of (word_at x h) ≡ state.Far → IsObjectThere (now s far h)
 far_there x far s h k below e =
     let o = far_object (object_at s h) (word_at x h) (k.shows.fit h below) e in
-    subst IsThere (sym (ap (now_as s h (is_gone far h)) o.2))
+    subst IsObjectThere (sym (ap (now_as s h (is_gone far h)) o.2))
     (by (is_gone far h) o.0 (len_of (word_at x h)) o.1)
   where
     by : (lost : Bool) (v len : ℕ) (words : List ℕ)
-        → IsThere (now_as s h lost (is.Far len v words))
+        → IsObjectThere (now_as s h lost (is.Far len v words))
     by true v len words = tt
     by false v len words = tt
 
@@ -146,10 +148,10 @@ moving_near w e = let b = bits w state.Moving e in omega (arith, b)
 
 -- what is left by the refusals of an object that is not here: all as it was
 pub record LeavesAll (C : Reply → Type 0) (x y : Words) (far new : FarState) : Type 0 where
-  pub unmade : C answer.Unmade → Stays x y far new
-  pub freed : C answer.Freed → Stays x y far new
-  pub not_here : C answer.NotHere → Stays x y far new
-  pub moving : C answer.Moving → Stays x y far new
+  pub unmade : C answer.Unmade → NothingChanged x y far new
+  pub freed : C answer.Freed → NothingChanged x y far new
+  pub not_here : C answer.NotHere → NothingChanged x y far new
+  pub moving : C answer.Moving → NothingChanged x y far new
 
 -- a call whose reply is by the state of the object's word
 pub call_by_state : (C : Reply → Type 0) (x y : Words) (far new : FarState) (s t : Shown)
@@ -197,15 +199,15 @@ call_by_state C x y far new s t h handles q r here a below on leaves reply chang
         let is : r ≡ answer.Moving =
         reply ∙ ap (λ (z : State). reply_as z (stamp_at x h) here) e in
         refused_call x y far new s t h handles q r a (leaves.moving (subst C is change))
-        (subst IsThere (sym (near_held x far s h a.before below (moving_near w e))) tt)
+        (subst IsObjectThere (sym (near_held x far s h a.before below (moving_near w e))) tt)
         (ap (event_of q) is ∙ on.moving)
 
 -- a call that changes an object that is here, where it has no pins and a next version
 pub change_call : (C : Reply → Type 0) (x y : Words) (far new : FarState) (s t : Shown)
     (h handles : ℕ) (q : Request) (r : Reply) → AreKnownBoth x y far new s t → h < length x.words
     → IsOnContents q → state_of (word_at x h) ≡ state.Here
-    → (C (answer.Pinned (pins_of (word_at x h))) → Stays x y far new)
-    → (C answer.Worn → Stays x y far new)
+    → (C (answer.Pinned (pins_of (word_at x h))) → NothingChanged x y far new)
+    → (C answer.Worn → NothingChanged x y far new)
     → r ≡ change_reply (word_at x h) (stamp_at x h) → C r
     → (r ≡ answer.Version (stamp_at x h + 1) → IsCallOn handles s t far new h q r)
     → IsCallOn handles s t far new h q r
@@ -218,8 +220,8 @@ change_call C x y far new s t h handles q r a below on here pinned worn reply ch
     v : ℕ
     v = stamp_at x h
 
-    there : IsThere (now s far h)
-    there = subst IsThere (sym (near_held x far s h a.before below (here_near w here))) tt
+    there : IsObjectThere (now s far h)
+    there = subst IsObjectThere (sym (near_held x far s h a.before below (here_near w here))) tt
 
     unpinned : pins_of w ≡ 0 → r ≡ next_reply v
     unpinned none = reply ∙ ap (λ (b : Bool). if b then next_reply v else answer.Pinned (pins_of w))

@@ -21,7 +21,7 @@ use Rattle.cb_world.specs.Written.{Writes, written_by, adds_as, entry}
 use Rattle.cb_world.specs.Claimed.{OwnsAll}
 use Rattle.cb_world.proofs.Laws.{window_put, length_put, settled_here, played_append, allowed_append}
 use Rattle.cb_mutate.specs.Stores.{AreStores, stores_from}
-use Rattle.cb_mutate.specs.MakeRule.{new_word, made_by}
+use Rattle.cb_mutate.specs.MakeRule.{new_word, make_events}
 use Rattle.cb_mutate.specs.MakeEnds.{IsNewAt}
 use Rattle.cb_mutate.proofs.Settling.{stores_first, stores_written}
 
@@ -183,7 +183,7 @@ with_new s h version place len words = record s {
 
 -- nothing is looked at
 pub made_first : (h version len place : ℕ) (words : List ℕ)
-    → LooksFirst (made_by h version len place words)
+    → LooksFirst (make_events h version len place words)
 made_first h version len place words =
     stores_first (stores_from place words) _ (stores_are place words) tt (tt, (tt, tt))
 
@@ -197,8 +197,8 @@ pub record IsWellMade (s t : Shown) (es : List Event) (h version place len : ℕ
 pub well_made : (s : Shown) (h version place len : ℕ) (words : List ℕ)
     → IsNewAt s h version place len → length words ≡ words_for len → IsPacked len words
     → len < 2 ^ 16 → place < 2 ^ 24
-    → IsWellMade s (played (made_by h version len place words) s)
-    (made_by h version len place words) h version place len words
+    → IsWellMade s (played (make_events h version len place words) s)
+    (make_events h version len place words) h version place len words
 well_made s h version place len words new count packed short low = record {
   allowed = allowed_append es tail s
       (stores_allowed place words s

@@ -10,7 +10,7 @@ use Rattle.std.specs.Int.{to_le_bytes, w64}
 use Rattle.byteorder.specs.Endian.{little_from}
 use Rattle.byteorder.proofs.Bytes.{from_le_bytes-put_mid8}
 use borrow.Rule.Slice.PartMut.{put_mid}
-use Rattle.cb_world.specs.Memory.{words_for, byte_at, bytes_in}
+use Rattle.cb_world.specs.Memory.{words_for, memory_byte, bytes_in}
 use Rattle.cb_mutate.specs.WordsOf.{IsWordAt, AreWordsOf}
 
 -- the bytes of a word that was read from n bytes: these, and zeros behind them
@@ -119,7 +119,7 @@ words_more bytes words n x a at low = record {
 
 -- the byte at a position of the words
 byte_is : (bytes words : List ℕ) (n p : ℕ) → AreFirstWords bytes words n → p < 8 * n
-    → byte_at words p ≡ get_or bytes p 0
+    → memory_byte words p ≡ get_or bytes p 0
 byte_is bytes words n p a below =
     a.each (p / 8) (omega (arith, below)) (p % 8) (omega arith)
     ∙ ap (λ (k : ℕ). get_or bytes k 0) (let e : 8 * (p / 8) + p % 8 ≡ p = omega arith in e)
@@ -129,9 +129,10 @@ first_bytes : (bytes words : List ℕ) → AreFirstWords bytes words (words_for 
 unfolding bytes_in
 first_bytes bytes words a =
     let len = length bytes in
-    let all = length-map-range_with_len (byte_at words) 0 len in
-    ext_get_or 0 (map (byte_at words) (range_with_len 0 len)) bytes all
-    (λ k below. get_or-map-range_with_len (byte_at words) 0 len k k 0 (omega (arith, below, all))
+    let all = length-map-range_with_len (memory_byte words) 0 len in
+    ext_get_or 0 (map (memory_byte words) (range_with_len 0 len)) bytes all
+    (λ k below. get_or-map-range_with_len (memory_byte words) 0 len k k 0
+    (omega (arith, below, all))
     (omega arith)
     ∙ byte_is bytes words (words_for len) k a (omega (arith, below, all)))
 

@@ -8,7 +8,7 @@ use Rattle.cb_types.specs.declared.request.Request.TheVariants.{Read}
 use Rattle.cb_types.specs.declared.reply.Reply.{Reply}
 use Rattle.cb_types.specs.declared.reply.Reply.TheVariants as answer
 use Rattle.cb_model.specs.declared.object.Object.TheVariants.{Held, Freed}
-use Rattle.cb_model.specs.Now.{Now as MapNow}
+use Rattle.cb_model.specs.Now.{MapNow}
 use Rattle.cb_model.specs.Event.{event_of}
 use Rattle.cb_model.specs.Event.Event.{Shows}
 use Rattle.cb_model.specs.Replies.{MapReplies}
@@ -21,7 +21,7 @@ use Rattle.cb_world.specs.Now.{Now, now}
 use Rattle.cb_world.specs.Now.Now.{held}
 use Rattle.cb_world.specs.World.{word_at}
 use Rattle.cb_world.specs.StillWords.{stamp_at, contents_at, with_hot}
-use Rattle.cb_mutate.specs.Steps.{ReadChange, IsReadStep, with_seen}
+use Rattle.cb_mutate.specs.CallStep.{ReadChange, IsReadStep, with_seen}
 use Rattle.cb_mutate.specs.MapCalls.{IsValue, IsMapCall, IsCallOn}
 use Rattle.cb_mutate.proofs.MapReplies.{AreKnownBoth, IsOnContents, ChangesAt, map_same, call_by_state, others_hold, near_held, here_near}
 use Rattle.cb_mutate.proofs.ChangedObject.{IsSameHere, hot_same, lies_there, keeps_same, own_held}

@@ -14,7 +14,7 @@ use Rattle.cb_world.specs.Memory.{words_for, bytes_in}
 use Rattle.cb_world.specs.Shown.{Covers, Spares, object_at, never}
 use Rattle.cb_world.specs.Played.{after, played}
 use Rattle.cb_world.specs.Plain.{Words, Plain}
-use Rattle.cb_world.specs.Allowed.{Allowed, Leaves}
+use Rattle.cb_world.specs.Allowed.{Allowed, LeavesUnclaimed}
 use Rattle.cb_world.specs.Still.{IsStill}
 use Rattle.cb_world.specs.FarState.{FarState}
 use Rattle.cb_world.specs.World.{word_at, IsKnown}
@@ -24,12 +24,12 @@ use Rattle.cb_world.specs.StillDesk.{here_is, window_length, plain_follows, plai
 use Rattle.cb_world.proofs.Laws.{window_at, settles_other, busy_leaves, hot_exact, PerformsStill, RunsStill, runs_still, known_then, stays_still}
 use Rattle.cb_mutate.specs.ReadRule.{IsLoaded, AreLoaded, ReadHere, ReadRule, ReadEffect, IsShown, IsSeenHere}
 use Rattle.cb_mutate.specs.StillReplies.{read_reply}
-use Rattle.cb_mutate.specs.Steps.{ReadChange, IsReadStep, with_seen}
-use Rattle.cb_mutate.proofs.Stepping.{IsExact, is_exact, Comes, comes, reply_comes}
+use Rattle.cb_mutate.specs.CallStep.{ReadChange, IsReadStep, with_seen}
+use Rattle.cb_mutate.proofs.Stepping.{IsExact, is_exact, ComesTo, comes, reply_comes}
 
 -- a memory word of an object that stays as it is was read as it stands
 loaded_there : (es : List Event) (x y : Words) (s : Shown) (h len place p u : ℕ) → Plain x es y
-    → Allowed s es → Leaves h es → object_at s h ≡ is.Here len place → Covers place len p
+    → Allowed s es → LeavesUnclaimed h es → object_at s h ≡ is.Here len place → Covers place len p
     → IsLoaded p u es → u ≡ get_or x.memory p 0
 loaded_there [] x y s h len place p u run ok leaves here covers loaded = absurd loaded
 loaded_there (Looked k w ∷ es) x y s h len place p u run ok leaves here covers loaded =
@@ -145,7 +145,7 @@ Leaves_ x y h q = ReadChange q x y h
 here_comes : (x y : Words) (far : FarState) (s : Shown) (es : List Event) (h : ℕ) (r : Reply)
     → RunsStill x y far s es → IsExact x h es → state_of (word_at x h) ≡ state.Here
     → Does h es s r → ReadHere h es r (word_at x h)
-    → Comes (Does h es s) (Leaves_ x y h) r
+    → ComesTo (Does h es s) (Leaves_ x y h) r
     (answer.Bytes (stamp_at x h) (bytes_in (contents_at x h) (len_of (word_at x h))))
 here_comes x y far s es h r runs exact here effect (inl (none, (v, words, taken, e))) =
     let told = exact.taken v words taken in
@@ -173,12 +173,12 @@ read_step x y far new s h r k p =
     let effect = p.effect s ((k.sized, k.shows), k.sound) in
     let w = p.rule.word in let e = exact.found w p.rule.found in
     let back = stays_still x y far s es runs in
-    let c = subst (λ (n : ℕ). Comes (Does h es s) (Leaves_ x y h) r
+    let c = subst (λ (n : ℕ). ComesTo (Does h es s) (Leaves_ x y h) r
     (read_reply n (stamp_at x h) (contents_at x h))) e
     (reply_comes (Does h es s) (Leaves_ x y h) (state_of w) (ReadHere h es r)
     (answer.Bytes (stamp_at x h) (bytes_in (contents_at x h) (len_of w))) w h (stamp_at x h) es r
     (record { unmade = back; freed = back; not_here = back; moving = back }) exact.told
-    (λ here found. subst (λ (n : ℕ). Comes (Does h es s) (Leaves_ x y h) r
+    (λ here found. subst (λ (n : ℕ). ComesTo (Does h es s) (Leaves_ x y h) r
     (answer.Bytes (stamp_at x h) (bytes_in (contents_at x h) (len_of n)))) (sym e)
     (here_comes x y far s es h r runs exact (ap state_of (sym e) ∙ here) effect
     (subst (ReadHere h es r) e found)))

@@ -17,8 +17,8 @@ use Rattle.cb_world.specs.Looks.{AreLooks}
 use Rattle.cb_world.specs.Played.{Agree, Agrees, played}
 use Rattle.cb_world.specs.Grasped.{Grasps}
 use Rattle.cb_world.proofs.Laws.{agree_last, looks_played}
-use Rattle.cb_mutate.specs.Reaches.{HasRoom}
-use Rattle.cb_mutate.proofs.ReadAfter.{fits_here}
+use Rattle.cb_mutate.specs.Reaches.{HasReadRoom}
+use Rattle.cb_mutate.proofs.ReadSound.{fits_here}
 
 -- what holds anyhow holds on an error
 pub on_err_so : {P : Type 0} (r : Result Reply NoMemory) → P → OnErr r P
@@ -45,7 +45,7 @@ object_behind s h looks are = ap (λ (t : Shown). object_at t h) (looks_played h
 -- the room for an object that was seen here is the room for what the try found
 pub room_stays : (s : Shown) (es : List Event) (h saw : ℕ) (grasp : Grasp) (room : List ℕ)
     → Agree s (Looked h saw ∷ es) → state_of saw ≡ state.Here → length room ≡ len_of saw
-    → Grasps h es grasp → HasRoom grasp room
+    → Grasps h es grasp → HasReadRoom grasp room
 room_stays s es h saw (came.Claimed w) room agree here sized (before, v, words, e, looks, free) =
     let object = fits_here (object_at s h) saw agree.0.0 here in
     let last : Agree (played (Looked h saw ∷ before) s) (Claimed h w v words ∷ []) =

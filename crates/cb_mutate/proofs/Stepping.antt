@@ -38,11 +38,11 @@ is_exact x y h es run first last = record {
 }
 
 -- the reply r, with what is left then, is the reply q, with what is left then
-pub record Comes (E C : Reply → Type 0) (r q : Reply) : Type 0 where
+pub record ComesTo (E C : Reply → Type 0) (r q : Reply) : Type 0 where
   pub reply : r ≡ q
   pub change : C r
 
-pub comes : (E C : Reply → Type 0) (r q : Reply) → r ≡ q → E r → (E q → C q) → Comes E C r q
+pub comes : (E C : Reply → Type 0) (r q : Reply) → r ≡ q → E r → (E q → C q) → ComesTo E C r q
 comes E C r q e effect go = record {
   reply = e;
   change = subst C (sym e) (go (subst E e effect));
@@ -56,17 +56,17 @@ pub record LeavesAbsent (E C : Reply → Type 0) : Type 0 where
   pub moving : E answer.Moving → C answer.Moving
 
 empty_comes : (E C : Reply → Type 0) (v : ℕ) (r : Reply) → LeavesAbsent E C → EmptyAnswer v r → E r
-    → Comes E C r (empty_reply v)
+    → ComesTo E C r (empty_reply v)
 empty_comes E C zero r l e effect = comes E C r answer.Unmade e effect l.unmade
 empty_comes E C (suc v) r l e effect = comes E C r answer.Freed e effect l.freed
 
 -- a call whose reply is by the state of the word
 pub reply_comes : (E C : Reply → Type 0) (q : State) (here : ℕ → Type 0) (is : Reply) (w h v : ℕ)
     (es : List Event) (r : Reply) → LeavesAbsent E C → ((u : ℕ) → IsTold h u es → u ≡ v)
-    → (q ≡ state.Here → here w → Comes E C r is) → AnsweredAs q here w h es r → E r
-    → Comes E C r (reply_as q v is)
+    → (q ≡ state.Here → here w → ComesTo E C r is) → AnsweredAs q here w h es r → E r
+    → ComesTo E C r (reply_as q v is)
 reply_comes E C state.Empty here is w h v es r l told at a effect =
-    subst (λ (u : ℕ). Comes E C r (empty_reply u)) (told a.0 a.1)
+    subst (λ (u : ℕ). ComesTo E C r (empty_reply u)) (told a.0 a.1)
     (empty_comes E C a.0 r l a.2 effect)
 reply_comes E C state.Far here is w h v es r l told at a effect =
     comes E C r answer.NotHere a effect l.not_here
@@ -78,13 +78,13 @@ reply_comes E C state.Moving here is w h v es r l told at a effect =
 pub next_comes : (E C : Reply → Type 0) (v u : ℕ) (r : Reply) → v ≡ u → (E answer.Worn
     → C answer.Worn)
     → (E (answer.Version (u + 1)) → C (answer.Version (u + 1))) → NextVersion v r → E r
-    → Comes E C r (next_reply u)
+    → ComesTo E C r (next_reply u)
 next_comes E C v u r same worn next (inl a) effect =
-    subst (Comes E C r) (ap (λ (b : Bool). if b then answer.Worn else answer.Version (u + 1))
+    subst (ComesTo E C r) (ap (λ (b : Bool). if b then answer.Worn else answer.Version (u + 1))
     (sym (eq-eqb u (2 ^ 64 - 1) (sym same ∙ a.0))))
     (comes E C r answer.Worn a.1 effect worn)
 next_comes E C v u r same worn next (inr a) effect =
-    subst (Comes E C r) (ap (λ (b : Bool). if b then answer.Worn else answer.Version (u + 1))
+    subst (ComesTo E C r) (ap (λ (b : Bool). if b then answer.Worn else answer.Version (u + 1))
     (sym (ne_eqb u (2 ^ 64 - 1) (λ e. omega (arith, e, same, a.0)))))
     (comes E C r (answer.Version (u + 1)) (a.1 ∙ ap (λ (n : ℕ). answer.Version (n + 1)) same) effect
     next)
@@ -93,12 +93,12 @@ next_comes E C v u r same worn next (inr a) effect =
 pub change_comes : (E C : Reply → Type 0) (w v : ℕ) (r : Reply) → E r
     → (E (answer.Pinned (pins_of w)) → C (answer.Pinned (pins_of w)))
     → ((1 ≤ pins_of w) × (r ≡ answer.Pinned (pins_of w)))
-    ⊎ ((pins_of w ≡ 0) × Comes E C r (next_reply v))
-    → Comes E C r (change_reply w v)
+    ⊎ ((pins_of w ≡ 0) × ComesTo E C r (next_reply v))
+    → ComesTo E C r (change_reply w v)
 change_comes E C w v r effect pinned (inl a) =
-    subst (Comes E C r) (ap (λ (b : Bool). if b then next_reply v else answer.Pinned (pins_of w))
+    subst (ComesTo E C r) (ap (λ (b : Bool). if b then next_reply v else answer.Pinned (pins_of w))
     (sym (ne_eqb (pins_of w) 0 (λ e. omega (arith, e, a.0)))))
     (comes E C r (answer.Pinned (pins_of w)) a.1 effect pinned)
 change_comes E C w v r effect pinned (inr a) =
-    subst (Comes E C r) (ap (λ (b : Bool). if b then next_reply v else answer.Pinned (pins_of w))
+    subst (ComesTo E C r) (ap (λ (b : Bool). if b then next_reply v else answer.Pinned (pins_of w))
     (sym (eq-eqb (pins_of w) 0 a.0))) a.1

@@ -8,12 +8,12 @@ use Rattle.cb_span.specs.Contents.{new_span}
 use Rattle.cb_types.specs.declared.reply.Reply.TheVariants as answer
 use Rattle.cb_world.specs.declared.event.Event.{Event}
 use Rattle.cb_world.specs.declared.event.Event.TheVariants.{Stored, Stamped, Settled}
-use Rattle.cb_world.specs.Memory.{byte_at, bytes_in}
+use Rattle.cb_world.specs.Memory.{bytes_in, memory_byte}
 use Rattle.cb_world.specs.Empty.{empty_far}
 use Rattle.cb_world.specs.FarState.{FarState}
 use Rattle.cb_world.specs.Placed.{Slot, HasRoom}
 use Rattle.cb_mutate.specs.WordsOf.{AreWordsOf}
-use Rattle.cb_mutate.specs.MakeRule.{IsMake, MakeRule, made_by, with_made}
+use Rattle.cb_mutate.specs.MakeRule.{IsMake, MakeRule, make_events, with_made}
 
 abbrev three : List ℕ
 three = 1 ∷ 2 ∷ 3 ∷ []
@@ -28,7 +28,7 @@ three_words = record {
   below = λ i. below i;
 }
   where
-    packed : (p : ℕ) → 3 ≤ p → p < 8 → byte_at (197121 ∷ []) p ≡ 0
+    packed : (p : ℕ) → 3 ≤ p → p < 8 → memory_byte (197121 ∷ []) p ≡ 0
     packed zero past below = absurd (omega (arith, past))
     packed (suc zero) past below = absurd (omega (arith, past))
     packed (suc (suc zero)) past below = absurd (omega (arith, past))
@@ -57,7 +57,7 @@ filled : ¬ (AreWordsOf three (16974337 ∷ []))
 filled x = absurd (let z : 1 ≡ 0 = x.packed 3 (lit≤ tt) (lit< tt) in omega (arith, z))
 
 -- the events of a make
-events : made_by 2 1 3 512 (197121 ∷ [])
+events : make_events 2 1 3 512 (197121 ∷ [])
     ≡ Stored 512 197121 ∷ Stamped 2 1 ∷ Settled 2 (2 + 3 * 8192 + 512 * 536870912) ∷ []
 events = refl
 
@@ -102,7 +102,7 @@ no_room class (suc zero) may = absurd (let z : None ≡ Some (2 * class.index + 
 no_room class (suc (suc f)) may = absurd (let z : None ≡ Some (2 * class.index + 0) = may.0 in cc)
 
 abbrev done : List Event
-done = made_by 2 1 3 512 (197121 ∷ [])
+done = make_events 2 1 3 512 (197121 ∷ [])
 
 make : IsMake 2 1 three far (with_made far slot) done
 unfolding bytes_of words_of

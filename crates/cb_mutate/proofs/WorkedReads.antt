@@ -6,7 +6,7 @@ use Rattle.cb_world.specs.declared.event.Event.{Event}
 use Rattle.cb_world.specs.declared.event.Event.TheVariants.{Looked, Settled}
 use Rattle.cb_world.specs.declared.grasp.Grasp.TheVariants.{Claimed, Left}
 use Rattle.cb_mutate.specs.ReadRule.{IsSeenHere}
-use Rattle.cb_mutate.specs.Reaches.{HasRoom}
+use Rattle.cb_mutate.specs.Reaches.{HasReadRoom}
 
 -- words of an object of two bytes at place 0: here, here and hot, and far
 abbrev calm : ℕ
@@ -40,17 +40,17 @@ seen_far x = let e : 1 ≡ 2 =
     ap (λ (es : List Event). state_number (state_of (word_seen es))) x.1 ∙ ap state_number x.2 in
     omega (arith, e)
 
-has_room : HasRoom (Claimed calm) (0 ∷ 0 ∷ [])
+has_room : HasReadRoom (Claimed calm) (0 ∷ 0 ∷ [])
 has_room = refl
 
-has_little : HasRoom (Claimed calm) (0 ∷ []) → ⊥
+has_little : HasReadRoom (Claimed calm) (0 ∷ []) → ⊥
 has_little x = let e : 1 ≡ 2 = x in omega (arith, e)
 
-left_room : HasRoom (Left calm) (0 ∷ 0 ∷ [])
+left_room : HasReadRoom (Left calm) (0 ∷ 0 ∷ [])
 left_room here = refl
 
-left_little : HasRoom (Left calm) (0 ∷ []) → ⊥
+left_little : HasReadRoom (Left calm) (0 ∷ []) → ⊥
 left_little x = let e : 1 ≡ 2 = x refl in omega (arith, e)
 
-left_far : HasRoom (Left away) []
+left_far : HasReadRoom (Left away) []
 left_far here = let e : 1 ≡ 2 = ap state_number here in absurd (omega (arith, e))

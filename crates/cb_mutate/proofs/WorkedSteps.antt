@@ -5,11 +5,11 @@ use Rattle.cb_types.specs.declared.config.Config.{Config}
 use Rattle.cb_types.specs.declared.reply.Reply.{Reply}
 use Rattle.cb_types.specs.declared.reply.Reply.TheVariants as answer
 use Rattle.cb_types.specs.declared.request.Request.TheVariants.{Read, Write, Free}
-use Rattle.cb_model.specs.Now.{Now as MapNow, overwritten}
+use Rattle.cb_model.specs.Now.{MapNow, overwritten}
 use Rattle.cb_model.specs.Event.{event_of}
 use Rattle.cb_model.specs.Replies.{MapReplies}
 use Rattle.cb_model.specs.declared.object.Object.TheVariants.{Held, Freed}
-use Rattle.cb_world.specs.Memory.{put, window, byte_at, bytes_in}
+use Rattle.cb_world.specs.Memory.{put, window, memory_byte, bytes_in}
 use Rattle.cb_world.specs.Write.{IsWrite}
 use Rattle.cb_world.specs.Plain.{Words}
 use Rattle.cb_world.specs.declared.homes.Home.{Home}
@@ -23,7 +23,7 @@ use Rattle.cb_mutate.specs.Wordwise.{IsReached, IsWordwise}
 use Rattle.cb_mutate.specs.FreeRule.{IsRemoved}
 use Rattle.cb_mutate.proofs.FarFreed.{home_known}
 use Rattle.cb_mutate.specs.StillReplies.{read_reply, write_reply, free_reply}
-use Rattle.cb_mutate.specs.Steps.{IsReadStep, IsWriteStep, IsFreeStep}
+use Rattle.cb_mutate.specs.CallStep.{IsReadStep, IsWriteStep, IsFreeStep}
 use Rattle.cb_mutate.specs.MapCalls.{IsValue, value_after, IsMapCall}
 
 -- words of an object of two bytes at place 0: here, here and hot, here with a pin, moving; and far
@@ -113,11 +113,12 @@ old c = desk c calm 1 (2826 ∷ 7 ∷ [])
 write_it : IsWrite (2826 ∷ []) 1 (12 ∷ []) (3082 ∷ [])
 write_it = record { sized = refl; inside = inside; outside = outside }
   where
-    inside : (i : ℕ) → i < 1 → byte_at (3082 ∷ []) (1 + i) ≡ get_or (12 ∷ []) i 0
+    inside : (i : ℕ) → i < 1 → memory_byte (3082 ∷ []) (1 + i) ≡ get_or (12 ∷ []) i 0
     inside zero below = refl
     inside (suc i) below = absurd (omega (arith, below))
 
-    outside : (p : ℕ) → p < 8 → (p < 1) ⊎ (2 ≤ p) → byte_at (3082 ∷ []) p ≡ byte_at (2826 ∷ []) p
+    outside : (p : ℕ) → p < 8 → (p < 1) ⊎ (2 ≤ p)
+        → memory_byte (3082 ∷ []) p ≡ memory_byte (2826 ∷ []) p
     outside zero below side = refl
     outside (suc zero) below (inl before) = absurd (omega (arith, before))
     outside (suc zero) below (inr behind) = absurd (omega (arith, behind))

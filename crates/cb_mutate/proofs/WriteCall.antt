@@ -7,7 +7,7 @@ use Rattle.cb_types.specs.declared.request.Request.TheVariants.{Write}
 use Rattle.cb_types.specs.declared.reply.Reply.{Reply}
 use Rattle.cb_types.specs.declared.reply.Reply.TheVariants as answer
 use Rattle.cb_model.specs.declared.object.Object.TheVariants.{Held, Freed}
-use Rattle.cb_model.specs.Now.{Now as MapNow, overwritten}
+use Rattle.cb_model.specs.Now.{MapNow, overwritten}
 use Rattle.cb_model.specs.Event.{event_of}
 use Rattle.cb_model.specs.Event.Event.{FindsEnd}
 use Rattle.cb_model.specs.Replies.{MapReplies}
@@ -23,7 +23,7 @@ use Rattle.cb_world.specs.StillWords.{stamp_at, contents_at, with_hot}
 use Rattle.cb_world.specs.StillDesk.{window_length}
 use Rattle.cb_world.proofs.Laws.{window_put, lies_within, put_beside}
 use Rattle.cb_mutate.specs.StillReplies.{change_reply}
-use Rattle.cb_mutate.specs.Steps.{WriteChange, IsOverwritten, IsWriteStep}
+use Rattle.cb_mutate.specs.CallStep.{WriteChange, IsOverwritten, IsWriteStep}
 use Rattle.cb_mutate.specs.MapCalls.{IsValue, value_after, IsMapCall, IsCallOn}
 use Rattle.cb_mutate.proofs.MapReplies.{AreKnownBoth, IsOnContents, ChangesAt, map_same, stays_call, call_by_state, change_call, others_hold, near_held, here_near}
 use Rattle.cb_mutate.proofs.WrittenBytes.{bytes_length, write_bytes}

@@ -20,9 +20,9 @@ use Rattle.cb_world.specs.StillDesk.{plain_follows, plain_stays}
 use Rattle.cb_world.proofs.Laws.{hot_exact, PerformsStill, RunsStill, runs_still, known_then, stays_still}
 use Rattle.cb_mutate.specs.WriteRule.{NextVersion, WriteHere, WriteRule, IsWritten, WriteEffect}
 use Rattle.cb_mutate.specs.StillReplies.{next_reply, change_reply, write_reply}
-use Rattle.cb_mutate.specs.Steps.{WriteChange, IsOverwritten, IsWriteStep}
+use Rattle.cb_mutate.specs.CallStep.{WriteChange, IsOverwritten, IsWriteStep}
 use Rattle.cb_mutate.specs.Wordwise.{IsWordwise}
-use Rattle.cb_mutate.proofs.Stepping.{IsExact, is_exact, Comes, comes, reply_comes, next_comes, change_comes}
+use Rattle.cb_mutate.proofs.Stepping.{IsExact, is_exact, ComesTo, comes, reply_comes, next_comes, change_comes}
 
 -- every word after a write that was answered a version
 overwritten : (x y : Words) (far : FarState) (s : Shown) (es : List Event) (h n at : ℕ)
@@ -65,7 +65,7 @@ here_comes : (x y : Words) (far : FarState) (s : Shown) (es : List Event) (h at 
     (bytes : List ℕ) (r : Reply) → RunsStill x y far s es → IsExact x h es
     → state_of (word_at x h) ≡ state.Here → Does h at bytes es s r
     → WriteHere h at bytes es r (word_at x h)
-    → Comes (Does h at bytes es s) (Leaves x y h at bytes) r
+    → ComesTo (Does h at bytes es s) (Leaves x y h at bytes) r
     (if nat_lt (len_of (word_at x h)) (at + length bytes) then answer.Range (len_of
     (word_at x h)) else
     change_reply (word_at x h) (stamp_at x h))
@@ -74,15 +74,15 @@ here_comes x y far s es h at bytes r runs exact here effect rule = by rule
     w : ℕ
     w = word_at x h
 
-    by : WriteHere h at bytes es r w → Comes (Does h at bytes es s) (Leaves x y h at bytes) r
+    by : WriteHere h at bytes es r w → ComesTo (Does h at bytes es s) (Leaves x y h at bytes) r
         (if nat_lt (len_of w) (at + length bytes) then answer.Range (len_of w) else
         change_reply w (stamp_at x h))
-    by (inl a) = subst (Comes (Does h at bytes es s) (Leaves x y h at bytes) r)
+    by (inl a) = subst (ComesTo (Does h at bytes es s) (Leaves x y h at bytes) r)
         (ap (λ (b : Bool). if b then answer.Range (len_of w) else change_reply w (stamp_at x h))
         (sym (lt-ltb (len_of w) (at + length bytes) a.0)))
         (comes (Does h at bytes es s) (Leaves x y h at bytes) r (answer.Range (len_of w)) a.1 effect
         (stays_still x y far s es runs))
-    by (inr a) = subst (Comes (Does h at bytes es s) (Leaves x y h at bytes) r)
+    by (inr a) = subst (ComesTo (Does h at bytes es s) (Leaves x y h at bytes) r)
         (ap (λ (b : Bool). if b then answer.Range (len_of w) else change_reply w (stamp_at x h))
         (sym (le-ltb (len_of w) (at + length bytes) a.0)))
         (change_comes (Does h at bytes es s) (Leaves x y h at bytes) w (stamp_at x h) r effect
@@ -92,7 +92,7 @@ here_comes x y far s es h at bytes r runs exact here effect rule = by rule
             ⊎ ((pins_of w ≡ 0)
             × ((v : ℕ) × (words : List ℕ) × IsTaken h v words es × NextVersion v r))
             → ((1 ≤ pins_of w) × (r ≡ answer.Pinned (pins_of w)))
-            ⊎ ((pins_of w ≡ 0) × Comes (Does h at bytes es s) (Leaves x y h at bytes) r
+            ⊎ ((pins_of w ≡ 0) × ComesTo (Does h at bytes es s) (Leaves x y h at bytes) r
             (next_reply (stamp_at x h)))
         claimed (inl b) = inl b
         claimed (inr b) = inr (
@@ -115,14 +115,14 @@ write_step x y far new s h at bytes r k p =
     let effect = p.effect s ((k.sized, k.shows), k.sound) in
     let w = p.rule.word in let e = exact.found w p.rule.found in
     let back = stays_still x y far s es runs in
-    let c = subst (λ (n : ℕ). Comes (Does h at bytes es s) (Leaves x y h at bytes) r
+    let c = subst (λ (n : ℕ). ComesTo (Does h at bytes es s) (Leaves x y h at bytes) r
     (write_reply n (stamp_at x h) at (length bytes))) e
     (reply_comes (Does h at bytes es s) (Leaves x y h at bytes) (state_of w)
     (WriteHere h at bytes es r)
     (if nat_lt (len_of w) (at + length bytes) then answer.Range (len_of w) else
     change_reply w (stamp_at x h)) w h (stamp_at x h) es r
     (record { unmade = back; freed = back; not_here = back; moving = back }) exact.told
-    (λ here rule. subst (λ (n : ℕ). Comes (Does h at bytes es s) (Leaves x y h at bytes) r
+    (λ here rule. subst (λ (n : ℕ). ComesTo (Does h at bytes es s) (Leaves x y h at bytes) r
     (if nat_lt (len_of n) (at + length bytes) then answer.Range (len_of n) else
     change_reply n (stamp_at x h))) (sym e)
     (here_comes x y far s es h at bytes r runs exact (ap state_of (sym e) ∙ here) effect

@@ -5,17 +5,17 @@ use Rattle.std.proofs.lemmas.List.{ext_get_or, get_or_append_left, get_or-append
 use Rattle.std.proofs.lemmas.List.FromFn.{get_or-map-range_with_len, length-map-range_with_len}
 use Rattle.cb_model.specs.Now.{overwritten}
 use Rattle.cb_model.proofs.Laws.{length-overwritten}
-use Rattle.cb_world.specs.Memory.{byte_at, bytes_in}
+use Rattle.cb_world.specs.Memory.{bytes_in, memory_byte}
 use Rattle.cb_world.specs.Write.{IsWrite}
 
 pub bytes_length : (words : List ℕ) (len : ℕ) → length (bytes_in words len) ≡ len
 unfolding bytes_in
-bytes_length words len = length-map-range_with_len (byte_at words) 0 len
+bytes_length words len = length-map-range_with_len (memory_byte words) 0 len
 
 pub bytes_at : (words : List ℕ) (len k : ℕ) → k < len → get_or (bytes_in words len) k 0
-    ≡ byte_at words k
+    ≡ memory_byte words k
 unfolding bytes_in
-bytes_at words len k below = get_or-map-range_with_len (byte_at words) 0 len k k 0 below
+bytes_at words len k below = get_or-map-range_with_len (memory_byte words) 0 len k k 0 below
     (omega arith)
 
 -- a list up to the end of others in its middle
@@ -65,12 +65,12 @@ write_bytes old new at len bytes w inside fits =
     within = omega (arith, inside, bytes_length old len)
 
     by : (k : ℕ) → k < len → (k < at) ⊎ (at ≤ k) → (k < at + length bytes) ⊎ (at + length bytes ≤ k)
-        → byte_at new k ≡ get_or (overwritten (bytes_in old len) at bytes) k 0
+        → memory_byte new k ≡ get_or (overwritten (bytes_in old len) at bytes) k 0
     by k small (inl less) other = w.outside k (omega (arith, small, fits)) (inl less)
         ∙ sym (before_them (bytes_in old len) at k bytes within less ∙ bytes_at old len k small)
     by k small (inr more) (inl less) =
         let i = k - at in let split : at + i ≡ k = omega (arith, more) in
-        ap (byte_at new) (sym split) ∙ w.inside i (omega (arith, more, less))
+        ap (memory_byte new) (sym split) ∙ w.inside i (omega (arith, more, less))
         ∙ sym (among_them (bytes_in old len) at k bytes within more less)
     by k small (inr more) (inr past) = w.outside k (omega (arith, small, fits)) (inr past)
         ∙ sym (behind_them (bytes_in old len) at k bytes within past ∙ bytes_at old len k small)

@@ -28,7 +28,7 @@ AnsweredAs state here w h es r = AbsentAs state h es r
 
 -- The answer is by the word that the last look at the object found. Nothing but the words of the
 -- object was read and stored, and its pointer word last.
-pub record AnsweredBy (by : ℕ → Type 0) (h : ℕ) (es : List Event) : Type 0 where
+pub record AnsweredByLook (by : ℕ → Type 0) (h : ℕ) (es : List Event) : Type 0 where
   pub word : ℕ
   pub found : IsFound h word es
   pub touches : Touches h (place_of word) (len_of word) es
@@ -37,4 +37,4 @@ pub record AnsweredBy (by : ℕ → Type 0) (h : ℕ) (es : List Event) : Type 0
 
 -- an object that is not here is refused
 abbrev pub Answered : (ℕ → Type 0) → ℕ → List Event → Reply → Type 0
-Answered here h es r = AnsweredBy (λ w. AnsweredAs (state_of w) here w h es r) h es
+Answered here h es r = AnsweredByLook (λ w. AnsweredAs (state_of w) here w h es r) h es

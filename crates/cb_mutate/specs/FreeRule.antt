@@ -18,7 +18,7 @@ use Rattle.cb_world.specs.Still.{IsStill}
 use Rattle.cb_world.specs.FarState.{FarState, span_in}
 use Rattle.cb_world.specs.Released.{with_released}
 use Rattle.cb_world.specs.LeftOver.{LiesIn, without_far}
-use Rattle.cb_mutate.specs.Answered.{AnsweredAs, AnsweredBy}
+use Rattle.cb_mutate.specs.Answered.{AnsweredAs, AnsweredByLook}
 use Rattle.cb_mutate.specs.WriteRule.{NextVersion}
 
 -- an object that is here: pinned, or claimed and freed
@@ -66,7 +66,7 @@ FreeFar w h _ far new = new ≡ far
 
 -- the reply of a free, and the far state after it
 pub record FreeRule (h : ℕ) (far new : FarState) (r : Reply) (es : List Event) : Type 0 where
-  pub reply : AnsweredBy (λ w. FreeAs (state_of w) w h es r) h es
+  pub reply : AnsweredByLook (λ w. FreeAs (state_of w) w h es r) h es
   pub state : FreeFar reply.word h r far new
 
 -- the last complete version and words of an object: a claim told them, or it is far

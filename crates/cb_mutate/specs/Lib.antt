@@ -11,7 +11,7 @@ pub mod Loads
 pub mod ReadEnds
 pub mod Reaches
 pub mod StillReplies
-pub mod Steps
+pub mod CallStep
 pub mod WordsOf
 pub mod MakeRule
 pub mod MakeEnds

@@ -4,7 +4,7 @@ use Rattle.cb_world.specs.declared.event.Event.{Event}
 use Rattle.cb_world.specs.declared.shown.Shown.{Shown}
 use Rattle.cb_world.specs.Memory.{words_for}
 use Rattle.cb_world.specs.Shown.{Covers, MayLie, object_at, never}
-use Rattle.cb_mutate.specs.MakeRule.{made_by}
+use Rattle.cb_mutate.specs.MakeRule.{make_events}
 use Rattle.cb_mutate.specs.WordsOf.{AreWordsOf}
 
 -- nothing was made under the handle yet, and an object of so many bytes may lie at the place
@@ -16,8 +16,8 @@ pub record IsNewAt (s : Shown) (h version place len : ℕ) : Type 0 where
   pub alone : (p : ℕ) → Covers place len p → MayLie s h p
 
 -- the object's words, its version word and its pointer word were stored
-pub record Makes (runs : List Event → Type 0) (h version place : ℕ) (bytes : List ℕ)
+pub record StoresNew (runs : List Event → Type 0) (h version place : ℕ) (bytes : List ℕ)
     : Type 0 where
   pub words : List ℕ
   pub packed : AreWordsOf bytes words
-  pub ran : runs (made_by h version (length bytes) place words)
+  pub ran : runs (make_events h version (length bytes) place words)

@@ -30,8 +30,8 @@ new_word len place = word_of (record {
 })
 
 -- each word of the object is stored once, then its version word, then its pointer word
-abbrev pub made_by : ℕ → ℕ → ℕ → ℕ → List ℕ → List Event
-made_by h version len place words =
+abbrev pub make_events : ℕ → ℕ → ℕ → ℕ → List ℕ → List Event
+make_events h version len place words =
     stores_from place words ++ Stamped h version ∷ Settled h (new_word len place) ∷ []
 
 -- the far state with one handle more, whose object is in the slot
@@ -50,7 +50,7 @@ pub record IsMake (h version : ℕ) (bytes : List ℕ) (far new : FarState) (es 
   pub chosen : IsChosen far class Hot slot
   pub state : new ≡ with_made far slot
   pub packed : AreWordsOf bytes words
-  pub done : es ≡ made_by h version (length bytes) (place_in slot) words
+  pub done : es ≡ make_events h version (length bytes) (place_in slot) words
 
 -- for an object of so many bytes there is neither a slot in a hot span nor a free frame
 abbrev pub HasNoPlace : ℕ → FarState → Type 0

@@ -13,6 +13,6 @@ pub record IsMixed (n : ℕ) (old : List ℕ) (first at : ℕ) (bytes : List ℕ
         → slice_index new j ≡ slice_index old j
 
 -- the word with one write
-abbrev pub IsMerged : ℕ → ℕ → ℕ → List ℕ → ℕ → Type 0
-IsMerged old first at bytes new =
+abbrev pub IsWordMerged : ℕ → ℕ → ℕ → List ℕ → ℕ → Type 0
+IsWordMerged old first at bytes new =
     IsMixed 8 (to_le_bytes w64 old) first at bytes (to_le_bytes w64 new)

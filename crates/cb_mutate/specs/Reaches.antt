@@ -17,6 +17,6 @@ room_of (reached.Claimed w room) = room
 room_of (reached.Left w room) = room
 
 -- the room has as many bytes as the object at the word that was found
-abbrev pub HasRoom : Grasp → List ℕ → Type 0
-HasRoom (came.Claimed w) room = length room ≡ len_of w
-HasRoom (came.Left w) room = state_of w ≡ state.Here → length room ≡ len_of w
+abbrev pub HasReadRoom : Grasp → List ℕ → Type 0
+HasReadRoom (came.Claimed w) room = length room ≡ len_of w
+HasReadRoom (came.Left w) room = state_of w ≡ state.Here → length room ≡ len_of w

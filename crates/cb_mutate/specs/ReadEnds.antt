@@ -28,6 +28,6 @@ pub record ReadsPinned (runs : List Event → Type 0) (h word : ℕ) (reply : Re
   pub shown : ShowsPinned h events reply word
 
 -- the words of the object at this word lie in memory
-pub record IsWithin (word frames_words : ℕ) : Type 0 where
+pub record LiesInMemory (word frames_words : ℕ) : Type 0 where
   pub short : len_of word ≤ 1024
   pub inside : place_of word + words_for (len_of word) ≤ frames_words

@@ -7,7 +7,7 @@ ghost use Rattle.cb_world.specs.Claimed.{OwnsAll};
 ghost use Rattle.cb_world.specs.Performs.{Performs};
 ghost use Rattle.cb_mutate.specs.Stores.{stores_from};
 ghost use Rattle.cb_mutate.specs.WordsOf.{AreWordsOf, IsWordAt};
-ghost use Rattle.cb_mutate.specs.MakeEnds.{IsNewAt, Makes};
+ghost use Rattle.cb_mutate.specs.MakeEnds.{IsNewAt, StoresNew};
 ghost use Rattle.cb_mutate.specs.MakeRule.{MakeRule, MakeEffect, NeedsNewSpan};
 
 use byteorder::{ByteOrder, LittleEndian};
@@ -64,7 +64,7 @@ fn write_new<D: Desk>(desk: &mut D, h: Handle, version: u64, place: u32, bytes: 
     requires config { IsAccepted (D.settings desk.old) }
     requires new { (s : Shown) × D.shows desk.old s
         × IsNewAt s h.n version place (length bytes.now) }
-    ensures { Makes (λ es. D.run desk.old es desk.new) h.n version place bytes.now }
+    ensures { StoresNew (λ es. D.run desk.old es desk.new) h.n version place bytes.now }
 {
     store_bytes(desk, place, bytes);
     desk.store_version(h, version);

@@ -5,7 +5,7 @@ ghost use Rattle.cb_world.specs.declared.event.Event.{Event};
 ghost use Rattle.cb_world.specs.declared.event.Event.TheVariants.{Looked};
 ghost use Rattle.cb_world.specs.declared.shown.Shown.{Shown};
 ghost use Rattle.cb_world.specs.Grasped.{Grasps};
-ghost use Rattle.cb_mutate.specs.Reaches.{HasRoom, grasp_of, room_of};
+ghost use Rattle.cb_mutate.specs.Reaches.{HasReadRoom, grasp_of, room_of};
 
 use cb_ptr::{State, unpack};
 use cb_types::{Bytes, Handle, NoMemory};
@@ -40,7 +40,7 @@ pub(crate) fn reach<D: Desk>(alloc: Global, desk: &mut D, h: Handle) -> Result<R
     requires shown { (s : Shown) × D.shows desk.old s }
     ensures reached { IfOk result (λ reached. (es : List Event) × D.run desk.old es desk.new
         × Grasps h.n es (grasp_of reached)) }
-    ensures room { IfOk result (λ reached. HasRoom (grasp_of reached) (room_of reached)) }
+    ensures room { IfOk result (λ reached. HasReadRoom (grasp_of reached) (room_of reached)) }
     ensures error { OnErr result ((w : ℕ) × D.run desk.old (Looked h.n w ∷ []) desk.new
         × (state_of w ≡ state.Here)) }
 {

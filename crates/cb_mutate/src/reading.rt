@@ -17,7 +17,7 @@ ghost use Rattle.cb_world.specs.Performs.{Performs};
 ghost use Rattle.cb_world.specs.Finishes.{Finishes};
 ghost use Rattle.cb_mutate.specs.Answered.{AnsweredAs};
 ghost use Rattle.cb_mutate.specs.ReadRule.{ReadHere, ReadRule, ReadEffect, IsSeenHere};
-ghost use Rattle.cb_mutate.specs.ReadEnds.{ReadEnds, ReadsPinned, IsWithin};
+ghost use Rattle.cb_mutate.specs.ReadEnds.{ReadEnds, ReadsPinned, LiesInMemory};
 
 use crate::loading::load_into;
 use crate::reaching::{Reached, reach};
@@ -70,7 +70,7 @@ fn read_left<D: Desk>(desk: &mut D, h: Handle, word: u64, room: Bytes) -> Reply
     requires config { IsAccepted (D.settings desk.old) }
     requires left { ¬ (IsFree word) }
     requires within { state_of word ≡ state.Here
-        → IsWithin word (512 * (D.settings desk.old).frames) }
+        → LiesInMemory word (512 * (D.settings desk.old).frames) }
     requires room { state_of word ≡ state.Here → length room ≡ len_of word }
     ensures { (es : List Event) × D.run desk.old es desk.new × AreReads h.n es
         × Touches h.n (place_of word) (len_of word) es
@@ -108,7 +108,7 @@ fn read_claimed<D: Desk>(desk: &mut D, h: Handle, word: u64, mut room: Bytes) ->
 fn read_pinned<D: Desk>(desk: &mut D, h: Handle, word: u64, mut room: Bytes) -> Reply
     requires handle { h.n < (D.settings desk.old).handles }
     requires config { IsAccepted (D.settings desk.old) }
-    requires within { IsWithin word (512 * (D.settings desk.old).frames) }
+    requires within { LiesInMemory word (512 * (D.settings desk.old).frames) }
     requires room { length room ≡ len_of word }
     ensures { ReadsPinned (λ es. D.run desk.old es desk.new) h.n word result }
 {

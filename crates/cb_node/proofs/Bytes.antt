@@ -10,7 +10,7 @@ use Rattle.cb_gf256.proofs.PublicLaws.{product_is_byte, row_sum_by_byte, row_sum
 use Rattle.cb_member.specs.declared.names.NodeId.{NodeId}
 use Rattle.cb_member.specs.declared.names.Shard.{Shard}
 use Rattle.cb_node.specs.Rows.{RowsByKey}
-use Rattle.cb_node.specs.NodesState.{NodesState, RowsAreBytes, empty_nodes, known_row, row_at, rows_at, with_dropped, with_row, with_wiped}
+use Rattle.cb_node.specs.NodesState.{NodesState, RowsAreBytes, empty_nodes, known_row, row_under, rows_of_node, with_dropped, with_row, with_wiped}
 use Rattle.cb_node.specs.Delta.{with_delta}
 use Rattle.cb_node.proofs.Put.{row_at-with_row_here, row_at-with_row_other}
 use Rattle.cb_node.proofs.Dropped.{row_at-with_dropped_here, row_at-with_dropped_other, row_at-with_wiped_here, row_at-with_wiped_other}
@@ -45,12 +45,12 @@ scaled_row-AreBytes c xs small bytes =
 pub empty_nodes-RowsAreBytes : (count room : ℕ) → RowsAreBytes (empty_nodes count room)
 empty_nodes-RowsAreBytes count room node key row at = elim (cases_lt node.n count) [
   | inl within ↦
-      let none : rows_at (empty_nodes count room) node ≡ map.empty =
+      let none : rows_of_node (empty_nodes count room) node ≡ map.empty =
       get_or-replicate count node.n map.empty map.empty within in
       absurd (none-some row (sym (map.get-empty nat_cmp key)
       ∙ ap (λ rows. map.get rows key) (sym none) ∙ at))
   | inr past ↦
-      let none : rows_at (empty_nodes count room) node ≡ map.empty =
+      let none : rows_of_node (empty_nodes count room) node ≡ map.empty =
       get_or_past (empty_nodes count room).nodes node.n map.empty
       (omega (arith, length-replicate {A = RowsByKey} count map.empty)) in
       absurd (none-some row (sym (map.get-empty nat_cmp key)
@@ -59,9 +59,9 @@ empty_nodes-RowsAreBytes count room node key row at = elim (cases_lt node.n coun
 
 -- names of one row
 same_at : (state : NodesState) (a b : NodeId) (i j : ℕ) → a.n ≡ b.n → i ≡ j
-    → row_at state a i ≡ row_at state b j
+    → row_under state a i ≡ row_under state b j
 same_at state a b i j one same =
-    ap (λ (n : ℕ). row_at state (record { n = n }) i) one ∙ ap (row_at state b) same
+    ap (λ (n : ℕ). row_under state (record { n = n }) i) one ∙ ap (row_under state b) same
 
 pub with_row-RowsAreBytes : (state : NodesState) (node : NodeId) (key : ℕ) (row : List ℕ)
     → node.n < length state.nodes → RowsAreBytes state → AreBytes row
@@ -113,7 +113,7 @@ with_wiped-RowsAreBytes state node within bytes q k there at = elim (cases_eq q.
 -- a row that is known is one of bytes, and so is no row
 pub known_row-AreBytes : (state : NodesState) (node : NodeId) (key : ℕ) → RowsAreBytes state
     → All (λ x. x < 2 ^ 8) (known_row state node key)
-known_row-AreBytes state node key bytes = known (row_at state node key) (bytes node key)
+known_row-AreBytes state node key bytes = known (row_under state node key) (bytes node key)
   where
     known : (o : Option (List ℕ)) → ((row : List ℕ) → o ≡ Some row → AreBytes row)
         → AreBytes (unwrap_or o [])

@@ -5,7 +5,7 @@ use Rattle.cb_member.specs.declared.names.Shard.{Shard}
 use Rattle.cb_gf256.specs.Row.{row_sum, scaled_row}
 use Rattle.cb_gf256.proofs.PublicLaws.{row_sum_associates, row_added_twice_is_gone, row_sum_length, scaled_row_length, scaled_row_of_sum}
 use Rattle.cb_node.specs.NodesState.{NodesState, known_row, has, with_row}
-use Rattle.cb_node.specs.Delta.{Names}
+use Rattle.cb_node.specs.Delta.{NamesRow}
 use Rattle.cb_node.proofs.Put.{row_at-with_row_here, row_at-with_row_other}
 
 -- a put under a key leaves a row that is there
@@ -16,13 +16,13 @@ has-with_row_here state node key row within =
 
 -- and the rows that other shards name
 pub has-with_row_other : (state : NodesState) (node : NodeId) (key : ℕ) (row : List ℕ)
-    (shard : Shard) → node.n < length state.nodes → ¬ (Names shard node key)
+    (shard : Shard) → node.n < length state.nodes → ¬ (NamesRow shard node key)
     → has (with_row state node key row) shard.node shard.key ≡ has state shard.node shard.key
 has-with_row_other state node key row shard within other =
     ap is_some (row_at-with_row_other state node shard.node key shard.key row within other)
 
 pub known_row-with_row_other : (state : NodesState) (node : NodeId) (key : ℕ) (row : List ℕ)
-    (shard : Shard) → node.n < length state.nodes → ¬ (Names shard node key)
+    (shard : Shard) → node.n < length state.nodes → ¬ (NamesRow shard node key)
     → known_row (with_row state node key row) shard.node shard.key
     ≡ known_row state shard.node shard.key
 known_row-with_row_other state node key row shard within other =
@@ -31,7 +31,7 @@ known_row-with_row_other state node key row shard within other =
 
 -- a shard names the row that stands there
 pub known_row-named : (state : NodesState) (shard : Shard) (node : NodeId) (key : ℕ)
-    → Names shard node key → known_row state shard.node shard.key ≡ known_row state node key
+    → NamesRow shard node key → known_row state shard.node shard.key ≡ known_row state node key
 known_row-named state shard node key names =
     ap (λ n. known_row state (record { n = n }) shard.key) names.0
     ∙ ap (λ k. known_row state node k) names.1

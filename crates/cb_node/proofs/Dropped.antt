@@ -7,7 +7,7 @@ use Rattle.std.proofs.lemmas.Bool.{cases_eq, false≢true}
 use Rattle.std.proofs.lemmas.List.{set-set, set-get_or}
 use Rattle.cb_member.specs.declared.names.NodeId.{NodeId}
 use Rattle.cb_node.specs.Rows.{RowsByKey}
-use Rattle.cb_node.specs.NodesState.{NodesState, has, held, row_at, rows_at, with_dropped, with_row, with_rows, with_wiped}
+use Rattle.cb_node.specs.NodesState.{NodesState, has, held, row_under, rows_of_node, with_dropped, with_row, with_rows, with_wiped}
 use Rattle.cb_node.proofs.Put.{chosen, covered, eq_by_cmp-other, eq_by_cmp-same, equal_from_eq, some_known, rows_at-with_rows_here, rows_at-with_rows_other}
 
 none_unknown : (o : Option (List ℕ)) → is_some o ≡ false → o ≡ None
@@ -62,23 +62,23 @@ len-remove_known rows key there =
 
 -- the row that is dropped is gone
 pub row_at-with_dropped_here : (state : NodesState) (node : NodeId) (key : ℕ)
-    → node.n < length state.nodes → row_at (with_dropped state node key) node key ≡ None
+    → node.n < length state.nodes → row_under (with_dropped state node key) node key ≡ None
 row_at-with_dropped_here state node key within =
     ap (λ rows. map.get rows key) (rows_at-with_rows_here state node _ within)
-    ∙ map.get-remove nat_cmp_total (rows_at state node) key key
-    ∙ ap (λ b. cond b None (map.get (rows_at state node) key)) (eq_by_cmp-same key)
+    ∙ map.get-remove nat_cmp_total (rows_of_node state node) key key
+    ∙ ap (λ b. cond b None (map.get (rows_of_node state node) key)) (eq_by_cmp-same key)
 
 -- and no other
 pub row_at-with_dropped_other : (state : NodesState) (node other : NodeId) (key k : ℕ)
     → node.n < length state.nodes → ((other.n ≡ node.n) × (k ≡ key) → ⊥)
-    → row_at (with_dropped state node key) other k ≡ row_at state other k
+    → row_under (with_dropped state node key) other k ≡ row_under state other k
 row_at-with_dropped_other state node other key k within apart =
     elim (cases_eq other.n node.n) [
       | inl here ↦
           ap (λ (n : ℕ). map.get (get_or (with_dropped state node key).nodes n map.empty) k) here
           ∙ ap (λ rows. map.get rows k) (rows_at-with_rows_here state node _ within)
-          ∙ map.get-remove nat_cmp_total (rows_at state node) key k
-          ∙ ap (λ b. cond b None (map.get (rows_at state node) k))
+          ∙ map.get-remove nat_cmp_total (rows_of_node state node) key k
+          ∙ ap (λ b. cond b None (map.get (rows_of_node state node) k))
           (eq_by_cmp-other k key (λ same. apart (here, same)))
           ∙ ap (λ (n : ℕ). map.get (get_or state.nodes n map.empty) k) (sym here)
       | inr off ↦ ap (λ rows. map.get rows k) (rows_at-with_rows_other state node other _ off)
@@ -87,7 +87,7 @@ row_at-with_dropped_other state node other key k within apart =
 -- a node that is wiped keeps no row
 pub row_at-with_wiped_here : (state : NodesState) (node other : NodeId) (key : ℕ)
     → node.n < length state.nodes → other.n ≡ node.n
-    → row_at (with_wiped state node) other key ≡ None
+    → row_under (with_wiped state node) other key ≡ None
 row_at-with_wiped_here state node other key within here =
     ap (λ (n : ℕ). map.get (get_or (with_wiped state node).nodes n map.empty) key) here
     ∙ ap (λ rows. map.get rows key) (rows_at-with_rows_here state node map.empty within)
@@ -95,7 +95,7 @@ row_at-with_wiped_here state node other key within here =
 
 -- and every other node keeps its rows
 pub row_at-with_wiped_other : (state : NodesState) (node other : NodeId) (key : ℕ)
-    → other.n ≢ node.n → row_at (with_wiped state node) other key ≡ row_at state other key
+    → other.n ≢ node.n → row_under (with_wiped state node) other key ≡ row_under state other key
 row_at-with_wiped_other state node other key off =
     ap (λ rows. map.get rows key) (rows_at-with_rows_other state node other map.empty off)
 
@@ -105,7 +105,7 @@ pub held-with_row : (state : NodesState) (node : NodeId) (key : ℕ) (row : List
     → held (with_row state node key row) node ≡ held state node + 1
 held-with_row state node key row within fresh =
     ap (λ rows. map.len rows) (rows_at-with_rows_here state node _ within)
-    ∙ map.len-insert nat_cmp_total (rows_at state node) key row
+    ∙ map.len-insert nat_cmp_total (rows_of_node state node) key row
     ∙ ap (λ b. cond b (held state node) (held state node + 1)) fresh
 
 pub held-with_dropped : (state : NodesState) (node : NodeId) (key : ℕ)
@@ -113,7 +113,7 @@ pub held-with_dropped : (state : NodesState) (node : NodeId) (key : ℕ)
     → held (with_dropped state node key) node + 1 ≡ held state node
 held-with_dropped state node key within there =
     ap (λ rows. map.len rows + 1) (rows_at-with_rows_here state node _ within)
-    ∙ len-remove_known (rows_at state node) key there
+    ∙ len-remove_known (rows_of_node state node) key there
 
 pub held-with_wiped : (state : NodesState) (node : NodeId) → node.n < length state.nodes
     → held (with_wiped state node) node ≡ 0
@@ -131,7 +131,7 @@ held-with_rows_other state node other rows off =
 pub with_dropped-absent : (state : NodesState) (node : NodeId) (key : ℕ)
     → has state node key ≡ false → with_dropped state node key ≡ state
 with_dropped-absent state node key absent =
-    ap (λ rows. with_rows state node rows) (remove-absent (rows_at state node) key absent)
+    ap (λ rows. with_rows state node rows) (remove-absent (rows_of_node state node) key absent)
     ∙ ap (λ nodes. record state { nodes = nodes }) (set-get_or state.nodes node.n map.empty)
 
 -- a row that was put under a fresh key and dropped leaves the nodes as they were
@@ -139,11 +139,12 @@ pub with_dropped-with_row : (state : NodesState) (node : NodeId) (key : ℕ) (ro
     → node.n < length state.nodes → has state node key ≡ false
     → with_dropped (with_row state node key row) node key ≡ state
 with_dropped-with_row state node key row within fresh =
-    let put = map.insert (rows_at state node) key row in
+    let put = map.insert (rows_of_node state node) key row in
     ap (λ rows. with_rows (with_row state node key row) node (map.remove rows key))
     (rows_at-with_rows_here state node put within)
     ∙ ap (λ nodes. record state { nodes = nodes })
     (set-set state.nodes node.n put (map.remove put key))
     ∙ ap (λ rows. with_rows state node rows)
-    (remove-insert (rows_at state node) key row ∙ remove-absent (rows_at state node) key fresh)
+    (remove-insert (rows_of_node state node) key row
+    ∙ remove-absent (rows_of_node state node) key fresh)
     ∙ ap (λ nodes. record state { nodes = nodes }) (set-get_or state.nodes node.n map.empty)

@@ -7,7 +7,7 @@ use Rattle.std.proofs.lemmas.List.{get_or_read, length-replicate, length-set}
 use Rattle.std.proofs.lemmas.List.Elements.{All-replicate, All-set}
 use Rattle.cb_member.specs.declared.names.NodeId.{NodeId}
 use Rattle.cb_node.specs.Rows.{RowsByKey}
-use Rattle.cb_node.specs.NodesState.{NodesState, IsNodes, empty_nodes, rows_at, with_dropped, with_row, with_rows, with_wiped, held, has}
+use Rattle.cb_node.specs.NodesState.{NodesState, IsNodes, empty_nodes, rows_of_node, with_dropped, with_row, with_rows, with_wiped, held, has}
 
 pub IsNodes-empty_nodes : (count room : ℕ) → count < 2 ^ 32 → room < 2 ^ 32
     → IsNodes (empty_nodes count room)
@@ -35,8 +35,8 @@ pub IsNodes-with_row : (state : NodesState) (node : NodeId) (key : ℕ) (row : L
     → IsNodes state → has state node key ≡ false → held state node < state.room
     → IsNodes (with_row state node key row)
 IsNodes-with_row state node key row valid fresh room =
-    let one_more : map.len (map.insert (rows_at state node) key row) ≡ held state node + 1 =
-    map.len-insert nat_cmp_total (rows_at state node) key row
+    let one_more : map.len (map.insert (rows_of_node state node) key row) ≡ held state node + 1 =
+    map.len-insert nat_cmp_total (rows_of_node state node) key row
     ∙ ap (λ b. cond b (held state node) (held state node + 1)) fresh in
     IsNodes-with_rows state node _ valid (omega arith)
 
@@ -45,8 +45,8 @@ pub IsNodes-with_row_again : (state : NodesState) (node : NodeId) (key : ℕ) (r
     → node.n < length state.nodes → IsNodes state → has state node key ≡ true
     → IsNodes (with_row state node key row)
 IsNodes-with_row_again state node key row within valid there =
-    let as_many : map.len (map.insert (rows_at state node) key row) ≡ held state node =
-    map.len-insert nat_cmp_total (rows_at state node) key row
+    let as_many : map.len (map.insert (rows_of_node state node) key row) ≡ held state node =
+    map.len-insert nat_cmp_total (rows_of_node state node) key row
     ∙ ap (λ b. cond b (held state node) (held state node + 1)) there in
     IsNodes-with_rows state node _ valid (omega (arith, valid.room_is_kept node.n map.empty within))
 
@@ -54,8 +54,8 @@ IsNodes-with_row_again state node key row within valid there =
 pub IsNodes-with_dropped : (state : NodesState) (node : NodeId) (key : ℕ)
     → node.n < length state.nodes → IsNodes state → IsNodes (with_dropped state node key)
 IsNodes-with_dropped state node key within valid =
-    let fewer : map.len (map.remove (rows_at state node) key) ≤ held state node =
-    grind (arith, map.len-remove nat_cmp_total (rows_at state node) key) in
+    let fewer : map.len (map.remove (rows_of_node state node) key) ≤ held state node =
+    grind (arith, map.len-remove nat_cmp_total (rows_of_node state node) key) in
     IsNodes-with_rows state node _ valid (omega (arith, valid.room_is_kept node.n map.empty within))
 
 -- no row at all
@@ -67,7 +67,7 @@ IsNodes-with_wiped state node valid =
 -- what a read of one node's rows gives
 pub rows_at-read : (old : NodesState) (items : List RowsByKey) (node : NodeId) (n : ℕ)
     (rows : RowsByKey) → items ≡ old.nodes → n ≡ node.n → node.n < length old.nodes
-    → rows ≡ get_or items n rows → rows ≡ rows_at old node
+    → rows ≡ get_or items n rows → rows ≡ rows_of_node old node
 rows_at-read old items node n rows same at within read =
     let here : rows ≡ get_or old.nodes node.n rows =
     read ∙ ap (λ xs. get_or xs n rows) same ∙ ap (λ k. get_or old.nodes k rows) at in

@@ -10,17 +10,17 @@ use Rattle.std.proofs.lemmas.Bool.Decides.{nat_tests}
 use Rattle.std.proofs.lemmas.List.{get_or-set_same, get_or-set_other, set-set, set-get_or}
 use Rattle.cb_member.specs.declared.names.NodeId.{NodeId}
 use Rattle.cb_node.specs.Rows.{RowsByKey}
-use Rattle.cb_node.specs.NodesState.{NodesState, rows_at, row_at, known_row, has, with_rows, with_row}
+use Rattle.cb_node.specs.NodesState.{NodesState, rows_of_node, row_under, known_row, has, with_rows, with_row}
 
 -- one node has the new rows
 pub rows_at-with_rows_here : (state : NodesState) (node : NodeId) (rows : RowsByKey)
-    → node.n < length state.nodes → rows_at (with_rows state node rows) node ≡ rows
+    → node.n < length state.nodes → rows_of_node (with_rows state node rows) node ≡ rows
 rows_at-with_rows_here state node rows within =
     get_or-set_same state.nodes node.n rows map.empty within
 
 -- and every other node its old ones
 pub rows_at-with_rows_other : (state : NodesState) (node q : NodeId) (rows : RowsByKey)
-    → q.n ≢ node.n → rows_at (with_rows state node rows) q ≡ rows_at state q
+    → q.n ≢ node.n → rows_of_node (with_rows state node rows) q ≡ rows_of_node state q
 rows_at-with_rows_other state node q rows other =
     get_or-set_other state.nodes node.n q.n rows map.empty other
 
@@ -32,31 +32,32 @@ eq_by_cmp-other q k other = grind (arith, nat_tests)
 
 -- the row stands under its key
 pub row_at-with_row_here : (state : NodesState) (node : NodeId) (key : ℕ) (row : List ℕ)
-    → node.n < length state.nodes → row_at (with_row state node key row) node key ≡ Some row
+    → node.n < length state.nodes → row_under (with_row state node key row) node key ≡ Some row
 row_at-with_row_here state node key row within =
     ap (λ rows. map.get rows key) (rows_at-with_rows_here state node _ within)
-    ∙ map.get-insert nat_cmp_total (rows_at state node) key row key
-    ∙ ap (λ b. cond b (Some row) (map.get (rows_at state node) key)) (eq_by_cmp-same key)
+    ∙ map.get-insert nat_cmp_total (rows_of_node state node) key row key
+    ∙ ap (λ b. cond b (Some row) (map.get (rows_of_node state node) key)) (eq_by_cmp-same key)
 
 -- every other key of the node keeps its row
 pub row_at-with_row_other_key : (state : NodesState) (node : NodeId) (key q : ℕ) (row : List ℕ)
     → node.n < length state.nodes → q ≢ key
-    → row_at (with_row state node key row) node q ≡ row_at state node q
+    → row_under (with_row state node key row) node q ≡ row_under state node q
 row_at-with_row_other_key state node key q row within other =
     ap (λ rows. map.get rows q) (rows_at-with_rows_here state node _ within)
-    ∙ map.get-insert nat_cmp_total (rows_at state node) key row q
-    ∙ ap (λ b. cond b (Some row) (map.get (rows_at state node) q)) (eq_by_cmp-other q key other)
+    ∙ map.get-insert nat_cmp_total (rows_of_node state node) key row q
+    ∙ ap (λ b. cond b (Some row) (map.get (rows_of_node state node) q))
+    (eq_by_cmp-other q key other)
 
 -- and every key of every other node
 pub row_at-with_row_other_node : (state : NodesState) (node q : NodeId) (key k : ℕ) (row : List ℕ)
-    → q.n ≢ node.n → row_at (with_row state node key row) q k ≡ row_at state q k
+    → q.n ≢ node.n → row_under (with_row state node key row) q k ≡ row_under state q k
 row_at-with_row_other_node state node q key k row other =
     ap (λ rows. map.get rows k) (rows_at-with_rows_other state node q _ other)
 
 -- both in one
 pub row_at-with_row_other : (state : NodesState) (node q : NodeId) (key k : ℕ) (row : List ℕ)
     → node.n < length state.nodes → ((q.n ≡ node.n) × (k ≡ key) → ⊥)
-    → row_at (with_row state node key row) q k ≡ row_at state q k
+    → row_under (with_row state node key row) q k ≡ row_under state q k
 row_at-with_row_other state node q key k row within other = elim (cases_eq q.n node.n) [
   | inl here ↦
       ap (λ n. map.get (get_or (with_row state node key row).nodes n map.empty) k) here
@@ -88,9 +89,9 @@ with_row-with_row state node key a b within =
     ap (λ rows. with_rows (with_row state node key a) node (map.insert rows key b))
     (rows_at-with_rows_here state node _ within)
     ∙ ap (λ nodes. record state { nodes = nodes })
-    (set-set state.nodes node.n (map.insert (rows_at state node) key a)
-    (map.insert (map.insert (rows_at state node) key a) key b))
-    ∙ ap (λ rows. with_rows state node rows) (insert-insert (rows_at state node) key a b)
+    (set-set state.nodes node.n (map.insert (rows_of_node state node) key a)
+    (map.insert (map.insert (rows_of_node state node) key a) key b))
+    ∙ ap (λ rows. with_rows state node rows) (insert-insert (rows_of_node state node) key a b)
 
 pub equal_from_eq : (o : Ordering) → is_eq o ≡ true → o ≡ Equal
 equal_from_eq Less e = absurd (false≢true e)
@@ -120,5 +121,5 @@ insert-known rows key there = map.same_map nat_cmp_total map.nat_cmp-IsAntisymme
 pub with_row-known_row : (state : NodesState) (node : NodeId) (key : ℕ) → has state node key ≡ true
     → with_row state node key (known_row state node key) ≡ state
 with_row-known_row state node key there =
-    ap (λ rows. with_rows state node rows) (insert-known (rows_at state node) key there)
+    ap (λ rows. with_rows state node rows) (insert-known (rows_of_node state node) key there)
     ∙ ap (λ nodes. record state { nodes = nodes }) (set-get_or state.nodes node.n map.empty)

@@ -8,9 +8,9 @@ use Rattle.cb_gf256.specs.Row.{row_sum, scaled_row}
 use Rattle.cb_member.specs.declared.names.NodeId.{NodeId}
 use Rattle.cb_member.specs.declared.names.Shard.{Shard}
 use Rattle.cb_node.specs.declared.nodes.PutAnswer.TheVariants.{Stored, Full}
-use Rattle.cb_node.specs.NodesState.{IsNodes, NodesState, RowsAreBytes, empty_nodes, has, held, known_row, row_at, with_dropped, with_row, with_spoiled, with_wiped}
+use Rattle.cb_node.specs.NodesState.{IsNodes, NodesState, RowsAreBytes, empty_nodes, has, held, known_row, row_under, with_dropped, with_row, with_spoiled, with_wiped}
 use Rattle.cb_node.specs.Answer.{PutGives}
-use Rattle.cb_node.specs.Delta.{Names, with_delta}
+use Rattle.cb_node.specs.Delta.{NamesRow, with_delta}
 use Rattle.cb_node.proofs.Put.{row_at-with_row_here}
 
 abbrev node : ℕ → NodeId
@@ -26,13 +26,13 @@ none = empty_nodes 2 2
 abbrev one : NodesState
 one = with_row none (node 0) 7 (1 ∷ 2 ∷ [])
 
-there : row_at one (node 0) 7 ≡ Some (1 ∷ 2 ∷ [])
+there : row_under one (node 0) 7 ≡ Some (1 ∷ 2 ∷ [])
 there = grind (arith, map.gets)
 
-under_another_key : row_at one (node 0) 8 ≡ None
+under_another_key : row_under one (node 0) 8 ≡ None
 under_another_key = grind (arith, map.gets)
 
-at_another_node : row_at one (node 1) 7 ≡ None
+at_another_node : row_under one (node 1) 7 ≡ None
 at_another_node = grind (arith, map.gets)
 
 has_it : has one (node 0) 7 ≡ true
@@ -47,16 +47,16 @@ holds_one = grind (arith, map.gets)
 no_row_is_known : known_row one (node 1) 7 ≡ []
 no_row_is_known = grind (arith, map.gets)
 
-dropped : row_at (with_dropped one (node 0) 7) (node 0) 7 ≡ None
+dropped : row_under (with_dropped one (node 0) 7) (node 0) 7 ≡ None
 dropped = grind (arith, map.gets)
 
-drop_of_another_key : row_at (with_dropped one (node 0) 8) (node 0) 7 ≡ Some (1 ∷ 2 ∷ [])
+drop_of_another_key : row_under (with_dropped one (node 0) 8) (node 0) 7 ≡ Some (1 ∷ 2 ∷ [])
 drop_of_another_key = grind (arith, map.gets)
 
-wiped : row_at (with_wiped one (node 0)) (node 0) 7 ≡ None
+wiped : row_under (with_wiped one (node 0)) (node 0) 7 ≡ None
 wiped = grind (arith, map.gets)
 
-wipe_of_another_node : row_at (with_wiped one (node 1)) (node 0) 7 ≡ Some (1 ∷ 2 ∷ [])
+wipe_of_another_node : row_under (with_wiped one (node 1)) (node 0) 7 ≡ Some (1 ∷ 2 ∷ [])
 wipe_of_another_node = grind (arith, map.gets)
 
 no_row_at_the_other : held one (node 1) ≡ 0
@@ -84,7 +84,7 @@ room_past_32_bits h = absurd (omega (arith, h.room_fits))
 
 not_of_bytes : ¬ (RowsAreBytes (with_row none (node 0) 7 (256 ∷ [])))
 not_of_bytes h =
-    let at : row_at (with_row none (node 0) 7 (256 ∷ [])) (node 0) 7 ≡ Some (256 ∷ []) =
+    let at : row_under (with_row none (node 0) 7 (256 ∷ [])) (node 0) 7 ≡ Some (256 ∷ []) =
     grind (arith, map.gets) in
     absurd (omega (arith, h (node 0) 7 (256 ∷ []) at 0 0 (lit< tt)))
 
@@ -120,13 +120,13 @@ full_that_stores : ¬ (PutGives one (node 0) 8 [] (Full 2) (with_row one (node 0
 full_that_stores h = absurd (omega (arith, h.0, holds_one))
 
 -- a shard and the row that it names
-names : Names (shard 1 7) (node 1) 7
+names : NamesRow (shard 1 7) (node 1) 7
 names = (refl, refl)
 
-another_node : ¬ (Names (shard 1 7) (node 0) 7)
+another_node : ¬ (NamesRow (shard 1 7) (node 0) 7)
 another_node h = absurd (omega (arith, h.0))
 
-another_key : ¬ (Names (shard 1 7) (node 1) 8)
+another_key : ¬ (NamesRow (shard 1 7) (node 1) 8)
 another_key h = absurd (omega (arith, h.1))
 
 -- 2 times the sum of rows 5 and 6, added to row 9
@@ -145,15 +145,16 @@ sum =
     let c : known_row three (node 1) 9 ≡ 0x10 ∷ [] = grind (arith, map.gets) in
     rw (a, b, c) refl
 
-delta : row_at (with_delta three (node 1) 9 2 (shard 0 5) (shard 0 6)) (node 1) 9 ≡ Some (0x0D ∷ [])
+delta : row_under (with_delta three (node 1) 9 2 (shard 0 5) (shard 0 6)) (node 1) 9
+    ≡ Some (0x0D ∷ [])
 delta = row_at-with_row_here three (node 1) 9 _ (lit< tt) ∙ ap Some sum
 
 delta_keeps_the_others :
-    row_at (with_delta three (node 1) 9 2 (shard 0 5) (shard 0 6)) (node 0) 6 ≡ Some (0x81 ∷ [])
+    row_under (with_delta three (node 1) 9 2 (shard 0 5) (shard 0 6)) (node 0) 6 ≡ Some (0x81 ∷ [])
 delta_keeps_the_others = grind (arith, map.gets)
 
 -- byte 1 of the row of node 0 is changed, and nothing else
-spoiled : row_at (with_spoiled one (node 0) 7 1 5) (node 0) 7 ≡ Some (1 ∷ 7 ∷ [])
+spoiled : row_under (with_spoiled one (node 0) 7 1 5) (node 0) 7 ≡ Some (1 ∷ 7 ∷ [])
 spoiled =
     row_at-with_row_here one (node 0) 7 _ (omega arith)
     ∙ ap (λ row. Some (set row 1 (get_or row 1 0 ⊕ 5))) (ap (λ o. unwrap_or o []) there)

@@ -12,5 +12,5 @@ with_delta state to key c old new =
     with_row state to key (row_sum (known_row state to key) (scaled_row c change))
 
 -- the shard names that row of that node; its incarnation is not looked at
-abbrev pub Names : Shard → NodeId → ℕ → Type 0
-Names shard node key = (shard.node.n ≡ node.n) × (shard.key ≡ key)
+abbrev pub NamesRow : Shard → NodeId → ℕ → Type 0
+NamesRow shard node key = (shard.node.n ≡ node.n) × (shard.key ≡ key)

@@ -29,24 +29,24 @@ abbrev pub empty_nodes : ℕ → ℕ → NodesState
 empty_nodes count room = nodes_of room 0 (replicate count map.empty)
 
 -- the rows at the node
-abbrev pub rows_at : NodesState → NodeId → RowsByKey
-rows_at state node = slice_index_or state.nodes node.n map.empty
+abbrev pub rows_of_node : NodesState → NodeId → RowsByKey
+rows_of_node state node = slice_index_or state.nodes node.n map.empty
 
 -- how many rows the node holds
 abbrev pub held : NodesState → NodeId → ℕ
-held state node = map.len (rows_at state node)
+held state node = map.len (rows_of_node state node)
 
 -- whether the node has a row under the key
 abbrev pub has : NodesState → NodeId → ℕ → Bool
-has state node key = map.contains_key (rows_at state node) key
+has state node key = map.contains_key (rows_of_node state node) key
 
 -- the row under the key at the node, if it is there
-abbrev pub row_at : NodesState → NodeId → ℕ → Option (List ℕ)
-row_at state node key = map.get (rows_at state node) key
+abbrev pub row_under : NodesState → NodeId → ℕ → Option (List ℕ)
+row_under state node key = map.get (rows_of_node state node) key
 
 -- the same where it is known to be there
 abbrev pub known_row : NodesState → NodeId → ℕ → List ℕ
-known_row state node key = unwrap_or (row_at state node key) []
+known_row state node key = unwrap_or (row_under state node key) []
 
 -- other rows at one node; every other node, and the count of rows given, are as they were
 abbrev pub with_rows : NodesState → NodeId → RowsByKey → NodesState
@@ -54,7 +54,7 @@ with_rows state node rows = record state { nodes = slice_set state.nodes node.n 
 
 -- one row put under the key at the node; every other key and every other node are as they were
 abbrev pub with_row : NodesState → NodeId → ℕ → List ℕ → NodesState
-with_row state node key row = with_rows state node (map.insert (rows_at state node) key row)
+with_row state node key row = with_rows state node (map.insert (rows_of_node state node) key row)
 
 -- one byte of the row under the key at the node changed by adding this; every other byte, key and
 -- node are as they were
@@ -65,7 +65,7 @@ with_spoiled state node key at with =
 
 -- no row under the key at the node; every other key and every other node are as they were
 abbrev pub with_dropped : NodesState → NodeId → ℕ → NodesState
-with_dropped state node key = with_rows state node (map.remove (rows_at state node) key)
+with_dropped state node key = with_rows state node (map.remove (rows_of_node state node) key)
 
 -- no row at the node; every other node is as it was
 abbrev pub with_wiped : NodesState → NodeId → NodesState
@@ -74,7 +74,7 @@ with_wiped state node = with_rows state node map.empty
 -- each number of each row is a byte
 abbrev pub RowsAreBytes : NodesState → Type 0
 RowsAreBytes state =
-    (node : NodeId) (key : ℕ) (row : List ℕ) → row_at state node key ≡ Some row
+    (node : NodeId) (key : ℕ) (row : List ℕ) → row_under state node key ≡ Some row
     → All (λ x. x < 2 ^ 8) row
 
 -- What holds at every moment: a u32 counts the nodes, and none holds more than it has room for.

@@ -2,9 +2,9 @@ ghost use Rattle.std.specs.Prelude.{◌≡◌, ◌-◌, ◌+◌, ◌^◌, ◌<�
 ghost use Rattle.std.specs.Borrow.{sem};
 ghost use Rattle.cb_gf256.specs.Row.{row_sum, scaled_row};
 ghost use Rattle.cb_gf256.specs.Rows.{HaveLength};
-ghost use Rattle.cb_node.specs.NodesState.{IsNodes, empty_nodes, row_at, known_row, held, has, with_dropped, with_row, with_spoiled, with_wiped};
+ghost use Rattle.cb_node.specs.NodesState.{IsNodes, empty_nodes, row_under, known_row, held, has, with_dropped, with_row, with_spoiled, with_wiped};
 ghost use Rattle.cb_node.specs.Answer.{PutGives};
-ghost use Rattle.cb_node.specs.Delta.{with_delta, Names};
+ghost use Rattle.cb_node.specs.Delta.{with_delta, NamesRow};
 ghost use Rattle.cb_node.specs.Lent.{GivesOne};
 
 use crate::node::Node;
@@ -167,10 +167,11 @@ impl Nodes {
     pub fn give_row(&mut self, node: NodeId, key: u64, into: &mut [u8]) -> bool
         requires node { node.n < length self.old.nodes }
         requires given { self.old.given < 2 ^ 64 - 1 }
-        requires length { IfSome (row_at self.old node key) (λ row. length row ≡ length into.old) }
+        requires length { IfSome (row_under self.old node key)
+            (λ row. length row ≡ length into.old) }
         ensures there { result ≡ has self.old node key }
-        ensures row { IfSome (row_at self.old node key) (λ row. into.new ≡ row) }
-        ensures no_row { IfNone (row_at self.old node key) (into.new ≡ into.old) }
+        ensures row { IfSome (row_under self.old node key) (λ row. into.new ≡ row) }
+        ensures no_row { IfNone (row_under self.old node key) (into.new ≡ into.old) }
         ensures given { self.new
             ≡ record self.old { given = self.old.given + (if result then 1 else 0) } }
         ensures valid { IsNodes self.new }
@@ -298,8 +299,8 @@ impl Nodes {
         requires to { to.n < length self.old.nodes }
         requires old_node { old.node.n < length self.old.nodes }
         requires new_node { new.node.n < length self.old.nodes }
-        requires old_other { ¬ (Names old to key) }
-        requires new_other { ¬ (Names new to key) }
+        requires old_other { ¬ (NamesRow old to key) }
+        requires new_other { ¬ (NamesRow new to key) }
         requires target { has self.old to key ≡ true }
         requires old_row { has self.old old.node old.key ≡ true }
         requires new_row { has self.old new.node new.key ≡ true }
@@ -321,7 +322,7 @@ impl Nodes {
     fn add_own_change(&mut self, to: NodeId, key: u64, c: u8, other: Shard)
         requires to { to.n < length self.old.nodes }
         requires other_node { other.node.n < length self.old.nodes }
-        requires other { ¬ (Names other to key) }
+        requires other { ¬ (NamesRow other to key) }
         requires target { has self.old to key ≡ true }
         requires other_row { has self.old other.node other.key ≡ true }
         requires other_length { length (known_row self.old to key)
@@ -373,7 +374,7 @@ impl Nodes {
 
 /// Whether the shard names that row of that node.
 fn is_row(shard: Shard, node: NodeId, key: u64) -> bool
-    ensures { IsTrue result ↔ Names shard node key }
+    ensures { IsTrue result ↔ NamesRow shard node key }
 {
     shard.node.n == node.n && shard.key == key
 }

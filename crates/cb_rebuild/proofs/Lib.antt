@@ -1,9 +1,9 @@
 pub mod WeakSets
 mod Walking
-pub mod RestoredFar
+pub mod RebuildSound
 pub mod RebuildKeeps
-pub mod StepFixed
-pub mod Stays
+pub mod RebuildFixed
+pub mod RebuildStays
 mod WorkedWord
 mod WorkedWeak
 mod WorkedRebuilt

@@ -14,15 +14,15 @@ use Rattle.cb_rebuild.specs.declared.finding.Found.{Found}
 use Rattle.cb_rebuild.specs.declared.finding.Found.TheVariants as found
 use Rattle.cb_rebuild.specs.Finding.{with_found}
 use Rattle.cb_rebuild.specs.RebuildStep.{FindsNone, IsFirstWeak, IsRebuilt, KeepWords, RebuildStep, Restores, far_given, gone_count, surveyed}
-use Rattle.cb_rebuild.proofs.RestoredFar.{Stands, stood_now, stood_sound, word_stays}
+use Rattle.cb_rebuild.proofs.RebuildSound.{IsRestored, stood_now, stood_sound, word_stays}
 
 -- what a change of the far state keeps
-pub record Keeps (s : Shown) (far new : FarState) : Type 0 where
+pub record RebuildKeeps (s : Shown) (far new : FarState) : Type 0 where
   pub sound : Sound s new
   pub same_now : (h : ℕ) → now s new h ≡ now s far h
   pub words : KeepWords far new
 
-keeps_all : (s : Shown) (far : FarState) → Sound s far → Keeps s far far
+keeps_all : (s : Shown) (far : FarState) → Sound s far → RebuildKeeps s far far
 keeps_all s far sound = record {
   sound = sound;
   same_now = λ h. refl;
@@ -30,8 +30,8 @@ keeps_all s far sound = record {
 }
 
 -- one change after another
-keeps_both : (s : Shown) (far mid new : FarState) → Keeps s far mid → Keeps s mid new
-    → Keeps s far new
+keeps_both : (s : Shown) (far mid new : FarState) → RebuildKeeps s far mid → RebuildKeeps s mid new
+    → RebuildKeeps s far new
 keeps_both s far mid new x y = record {
   sound = y.sound;
   same_now = λ h. y.same_now h ∙ x.same_now h;
@@ -49,7 +49,7 @@ survey_first s far id set sound first = record {
 }
 
 keeps_survey : (s : Shown) (far : FarState) (n : ℕ) → Sound s far
-    → IsSurvey far (record { below = n; gone = gone_below far n; no_pair = None }) → Keeps s far (surveyed far n)
+    → IsSurvey far (record { below = n; gone = gone_below far n; no_pair = None }) → RebuildKeeps s far (surveyed far n)
 keeps_survey s far n sound holds = record {
   sound = retold_sound s far far.counts.turns far.counts.by_job far.nodes.given
       (record { below = n; gone = gone_below far n; no_pair = None }) holds sound;
@@ -59,13 +59,13 @@ keeps_survey s far n sound holds = record {
 }
 
 pub keeps_first : (s : Shown) (far : FarState) (id : ℕ) (set : SetState) → Sound s far
-    → IsFirstWeak far id set → Keeps s far (surveyed far id)
+    → IsFirstWeak far id set → RebuildKeeps s far (surveyed far id)
 keeps_first s far id set sound first =
     keeps_survey s far id sound (survey_first s far id set sound first)
 
 pub keeps_none : (s : Shown) (far new : FarState) (r : Reply) → Sound s far → FindsNone far new r
-    → Keeps s far new
-keeps_none s far new r sound x = subst (Keeps s far) (sym x.state)
+    → RebuildKeeps s far new
+keeps_none s far new r sound x = subst (RebuildKeeps s far) (sym x.state)
     (keeps_survey s far far.counts.sets sound (record {
       drawn = omega arith;
       none = λ id set l there. x.none id set there;
@@ -79,8 +79,8 @@ first_still far id n set first =
     record { there = first.there; weak = first.weak; least = first.least }
 
 keeps_given : (s : Shown) (far new : FarState) (n : ℕ) → Sound s far
-    → new ≡ far_given far n → Keeps s far new
-keeps_given s far new n sound e = subst (Keeps s far) (sym e) (record {
+    → new ≡ far_given far n → RebuildKeeps s far new
+keeps_given s far new n sound e = subst (RebuildKeeps s far) (sym e) (record {
   sound = recounted_sound s far far.counts.turns far.counts.by_job (far.nodes.given + n) sound;
   same_now = λ h. refl;
   words = λ id set rows there word.
@@ -88,9 +88,9 @@ keeps_given s far new n sound e = subst (Keeps s far) (sym e) (record {
 })
 
 keeps_rebuilt : (s : Shown) (far new : FarState) (id : ℕ) (set : SetState) (r : Reply)
-    → Sound s far → IsFirstWeak far id set → IsRebuilt far id set new r → Keeps s far new
+    → Sound s far → IsFirstWeak far id set → IsRebuilt far id set new r → RebuildKeeps s far new
 keeps_rebuilt s far new id set r sound first x =
-    let stands : Stands s far id set x.position x.shard x.row = record {
+    let stands : IsRestored s far id set x.position x.shard x.row = record {
       sound = sound.away.sound;
       there = first.there;
       weak = first.weak;
@@ -98,7 +98,7 @@ keeps_rebuilt s far new id set r sound first x =
       named = x.named;
       of_word = x.of_word;
     } in
-    subst (Keeps s far) (sym x.state) (record {
+    subst (RebuildKeeps s far) (sym x.state) (record {
       sound = stood_sound s far id set x.position x.shard x.row sound stands;
       same_now = λ h. stood_now s far id set x.position x.shard x.row stands h;
       words = λ j c rows there word.
@@ -106,22 +106,22 @@ keeps_rebuilt s far new id set r sound first x =
     })
 
 keeps_restored : (s : Shown) (far new : FarState) (id : ℕ) (set : SetState) (r : Reply)
-    → Sound s far → IsFirstWeak far id set → Restores far id set new r → Keeps s far new
+    → Sound s far → IsFirstWeak far id set → Restores far id set new r → RebuildKeeps s far new
 keeps_restored s far new id set r sound first (inl x) =
-    subst (Keeps s far) (sym x.same) (keeps_all s far sound)
+    subst (RebuildKeeps s far) (sym x.same) (keeps_all s far sound)
 keeps_restored s far new id set r sound first (inr x) =
     keeps_rebuilt s far new id set r sound first x
 
 -- what the restoring of the first weak set ends in
-pub record Ends (far new : FarState) (id : ℕ) (r : Result Reply NoMemory) : Type 0 where
+pub record RestoringEnds (far new : FarState) (id : ℕ) (r : Result Reply NoMemory) : Type 0 where
   pub step : IfOk r (λ reply. (set : SetState) → IsFirstWeak far id set
       → Restores far id set new reply)
   pub error : OnErr r ((set : SetState) → IsFirstWeak far id set → (n : ℕ)
       × (n ≤ length set.positions) × (new ≡ far_given far n))
 
 keeps_ends : (s : Shown) (far new : FarState) (id : ℕ) (set : SetState)
-    (r : Result Reply NoMemory) → Sound s far → IsFirstWeak far id set → Ends far new id r
-    → Keeps s far new
+    (r : Result Reply NoMemory) → Sound s far → IsFirstWeak far id set → RestoringEnds far new id r
+    → RebuildKeeps s far new
 keeps_ends s far new id set (Ok reply) sound first x =
     keeps_restored s far new id set reply sound first (x.step set first)
 keeps_ends s far new id set (Err e) sound first x = let y = x.error set first in
@@ -129,8 +129,8 @@ keeps_ends s far new id set (Err e) sound first x = let y = x.error set first in
 
 -- once the sets before it were looked at
 pub keeps : (s : Shown) (far new : FarState) (id : ℕ) (r : Result Reply NoMemory) → Sound s far
-    → ((set : SetState) × IsFirstWeak far id set) → Ends (surveyed far id) new id r
-    → Keeps s far new
+    → ((set : SetState) × IsFirstWeak far id set) → RestoringEnds (surveyed far id) new id r
+    → RebuildKeeps s far new
 keeps s far new id r sound first x = let before = keeps_first s far id first.0 sound first.1 in
     keeps_both s far (surveyed far id) new before
     (keeps_ends s (surveyed far id) new id first.0 r before.sound
@@ -138,7 +138,7 @@ keeps s far new id r sound first x = let before = keeps_first s far id first.0 s
 
 -- whatever the step was
 pub keeps_step : (s : Shown) (far new : FarState) (r : Reply) → Sound s far
-    → RebuildStep far new r → Keeps s far new
+    → RebuildStep far new r → RebuildKeeps s far new
 keeps_step s far new r sound (inl none) = keeps_none s far new r sound none
 keeps_step s far new r sound (inr z) =
     let before = keeps_first s far z.id z.set sound z.first in
@@ -159,7 +159,7 @@ found_whole far new f gone kept is counted = kept ∙ ap (with_found far) is
 
 -- ---- the step, and what an error leaves
 pub steps_first : (far new : FarState) (id : ℕ) (r : Result Reply NoMemory)
-    → ((set : SetState) × IsFirstWeak far id set) → Ends (surveyed far id) new id r
+    → ((set : SetState) × IsFirstWeak far id set) → RestoringEnds (surveyed far id) new id r
     → IfOk r (λ reply. RebuildStep far new reply)
 steps_first far new id (Ok reply) first x = inr (record {
   id = id;
@@ -170,7 +170,7 @@ steps_first far new id (Ok reply) first x = inr (record {
 steps_first far new id (Err e) first x = x.step
 
 pub error_first : (far new : FarState) (id : ℕ) (r : Result Reply NoMemory)
-    → ((set : SetState) × IsFirstWeak far id set) → Ends (surveyed far id) new id r
+    → ((set : SetState) × IsFirstWeak far id set) → RestoringEnds (surveyed far id) new id r
     → OnErr r ((j : ℕ) × (set : SetState) × (n : ℕ) × IsFirstWeak far j set
     × (n ≤ length set.positions) × (new ≡ far_given (surveyed far j) n))
 error_first far new id (Ok reply) first x = x.error

@@ -44,12 +44,12 @@ skip_by far a (suc d) none =
     ap (gone_below far) e ∙ omega (arith, more, one, rest)
 
 -- the sets below a number were looked at: none is weak, and so many are gone
-abbrev pub Walked : FarState → ℕ → ℕ → Type 0
-Walked far from gone = IsSurvey far (record { below = from; gone = gone; no_pair = None })
+abbrev pub WalkedSets : FarState → ℕ → ℕ → Type 0
+WalkedSets far from gone = IsSurvey far (record { below = from; gone = gone; no_pair = None })
 
-pub walked_to : (far : FarState) (from id gone : ℕ) → Walked far from gone → from ≤ id
+pub walked_to : (far : FarState) (from id gone : ℕ) → WalkedSets far from gone → from ≤ id
     → id ≤ far.counts.sets → ((j : ℕ) → from ≤ j → j < id → map.get far.sets j ≡ None)
-    → Walked far id gone
+    → WalkedSets far id gone
 walked_to far from id gone w low high none = record {
   drawn = high;
   none = λ j set l there. elim (cases_lt j from) [
@@ -87,9 +87,9 @@ here_counted : (m : Membership) (o : Option SetState) (x : Health) → HealthAt 
 here_counted m None x e off = ap gone_number (sym e)
 here_counted m (Some set) x e off = is_counted m set x e off
 
-pub walked_over : (far : FarState) (id gone : ℕ) (x : Health) → Walked far id gone
+pub walked_over : (far : FarState) (id gone : ℕ) (x : Health) → WalkedSets far id gone
     → id < far.counts.sets → HealthAt far.members (set_in far.sets id) x → x ≢ health.Weak
-    → Walked far (id + 1) (gone + gone_number x)
+    → WalkedSets far (id + 1) (gone + gone_number x)
 walked_over far id gone x w below has off = record {
   drawn = omega (arith, below);
   none = λ j set l there. elim (cases_eq j id) [
@@ -105,7 +105,7 @@ walked_over far id gone x w below has off = record {
 }
 
 -- ---- what is found
-pub found_first : (far : FarState) (id gone : ℕ) → Walked far id gone
+pub found_first : (far : FarState) (id gone : ℕ) → WalkedSets far id gone
     → HealthAt far.members (set_in far.sets id) health.Weak → ((set : SetState)
     × IsFirstWeak far id set) × (gone ≡ gone_below far id)
 found_first far id gone w has = (by (set_in far.sets id) refl has, w.counted)
@@ -122,7 +122,7 @@ found_first far id gone w has = (by (set_in far.sets id) refl has, w.counted)
     )
 
 pub found_none : (s : Shown) (far : FarState) (from gone : ℕ) → AwaySound s far
-    → Walked far from gone
+    → WalkedSets far from gone
     → ((j : ℕ) → from ≤ j → j < far.counts.sets → map.get far.sets j ≡ None)
     → ((id : ℕ) (set : SetState) → set_in far.sets id ≡ Some set → ¬ (IsWeak far.members set))
     × (gone ≡ gone_count far)
@@ -141,8 +141,8 @@ kept_members s far id kept sound there set is =
 
 -- what the walk knows at the next kept set
 module _ (far : FarState) (from id gone : ℕ) (kept : Kept) (rest : List (ℕ × Kept))
-    (w : Walked far from gone) (f : IsFirst far.sets from (id, kept) rest) where
-  up_to : id < far.counts.sets → Walked far id gone
+    (w : WalkedSets far from gone) (f : IsFirst far.sets from (id, kept) rest) where
+  up_to : id < far.counts.sets → WalkedSets far id gone
   up_to below = walked_to far from id gone w f.above (omega (arith, below)) f.none
 
   health_there : (x : Health) → HealthAt far.members (if_committed (Some kept)) x
@@ -152,7 +152,7 @@ module _ (far : FarState) (from id gone : ℕ) (kept : Kept) (rest : List (ℕ �
 
   pub passed : (x : Health) → id < far.counts.sets → HealthAt far.members
       (if_committed (Some kept)) x
-      → x ≢ health.Weak → Walked far (id + 1) (gone + gone_number x)
+      → x ≢ health.Weak → WalkedSets far (id + 1) (gone + gone_number x)
   passed x below has off = walked_over far id gone x (up_to below) below (health_there x has) off
 
   pub weak_here : id < far.counts.sets → HealthAt far.members (if_committed (Some kept)) health.Weak
@@ -165,7 +165,8 @@ module _ (far : FarState) (from id gone : ℕ) (kept : Kept) (rest : List (ℕ �
   past_drawn s sound past =
       found_none s far from gone sound w (λ j low below. f.none j low (omega (arith, below, past)))
 
-pub no_more : (s : Shown) (far : FarState) (from gone : ℕ) → AwaySound s far → Walked far from gone
+pub no_more : (s : Shown) (far : FarState) (from gone : ℕ) → AwaySound s far
+    → WalkedSets far from gone
     → AreFrom far.sets from []
     → ((id : ℕ) (set : SetState) → set_in far.sets id ≡ Some set → ¬ (IsWeak far.members set))
     × (gone ≡ gone_count far)

@@ -4,7 +4,7 @@ use Rattle.std.proofs.Common.{◌≡◌, None, refl, sym, ◌∙◌, subst, arit
 use Rattle.std.specs.FinMap as map
 use Rattle.std.proofs.lemmas.Option.{none-some, same_Some}
 use Rattle.cb_gf256.specs.Rows.{row_at}
-use Rattle.cb_node.specs.NodesState.{empty_nodes, row_at as row_under}
+use Rattle.cb_node.specs.NodesState.{empty_nodes, row_under}
 use Rattle.cb_set.specs.SetState.{SetState}
 use Rattle.cb_world.specs.FarState.{FarState}
 use Rattle.cb_world.specs.SetWord.{IsWordOf}

@@ -7,7 +7,7 @@ use Rattle.std.proofs.lemmas.Option.{none-some, same_Some}
 use Rattle.cb_member.specs.declared.names.NodeId.{NodeId}
 use Rattle.cb_member.specs.declared.names.Shard.{Shard}
 use Rattle.cb_gf256.specs.Rows.{row_at}
-use Rattle.cb_node.specs.NodesState.{held, with_row, row_at as row_under}
+use Rattle.cb_node.specs.NodesState.{held, with_row, row_under}
 use Rattle.cb_set.specs.SetState.{SetState, with_shard}
 use Rattle.cb_set.specs.Nodes.{other_shards}
 use Rattle.cb_types.specs.declared.reply.Reply.{Reply}
@@ -16,7 +16,7 @@ use Rattle.cb_world.specs.Choices.{IsBefore, IsLeastNode, MayPut}
 use Rattle.cb_world.specs.Sets.{set_in}
 use Rattle.cb_world.specs.FarState.{FarState}
 use Rattle.cb_world.proofs.Laws.{set_there, at, node, row, row_byte, rows}
-use Rattle.cb_rebuild.specs.RebuildStep.{IsFirstWeak, IsNewShard, IsRebuilt, IsRowOf, KeepWords, RebuildStep, far_given, with_name, with_put}
+use Rattle.cb_rebuild.specs.RebuildStep.{IsFirstWeak, IsNewShard, IsRebuilt, IsRowOf, KeepWords, RebuildStep, far_given, with_put, with_shard_named}
 use Rattle.cb_rebuild.proofs.WorkedWord.{is_word, members, nodes, one_row, set}
 use Rattle.cb_rebuild.proofs.WorkedWeak.{far, one, only_of, weak_is}
 
@@ -108,7 +108,7 @@ put_keeps_the_sets : put.sets ≡ old.sets
 put_keeps_the_sets = refl
 
 abbrev after : FarState
-after = with_name put 0 set 2 shard
+after = with_shard_named put 0 set 2 shard
 
 named_there : set_in after.sets 0 ≡ Some (with_shard set 2 shard)
 named_there = set_there old.sets 0 (with_shard set 2 shard)

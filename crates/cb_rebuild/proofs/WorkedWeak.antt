@@ -25,7 +25,7 @@ use Rattle.cb_world.proofs.Laws.{at, node}
 use Rattle.cb_rebuild.specs.declared.finding.Found.TheVariants as found
 use Rattle.cb_rebuild.specs.declared.finding.Health.TheVariants as health
 use Rattle.cb_rebuild.specs.RebuildStep.{FindsNone, IsFirstWeak, IsStuck, gone_count, surveyed}
-use Rattle.cb_rebuild.specs.Finding.{Finds, HasHealth, HealthAt, gone_number}
+use Rattle.cb_rebuild.specs.Finding.{FindsWeak, HasHealth, HealthAt, gone_number}
 use Rattle.cb_rebuild.proofs.WorkedWord.{members, on}
 
 -- a whole set, two that are weak, and one that is gone: it lost two shards, and has one parity
@@ -260,21 +260,21 @@ numbers = refl
 none_before : gone_below (far (both whole weak) 2) 1 ≡ 0
 none_before = grind (arith, first_of whole weak)
 
-finds_weak : Finds (far (both whole weak) 2) (found.Weak 1 0)
+finds_weak : FindsWeak (far (both whole weak) 2) (found.Weak 1 0)
 finds_weak = ((weak, first_weak), sym none_before)
 
-finds_whole_in_place : Finds (far (both whole weak) 2) (found.Weak 0 0) → ⊥
+finds_whole_in_place : FindsWeak (far (both whole weak) 2) (found.Weak 0 0) → ⊥
 finds_whole_in_place x = whole_is_not_weak (subst (IsWeak members)
     (same_Some x.0.0 whole (sym x.0.1.there ∙ first_of whole weak)) x.0.1.weak)
 
-finds_one_gone_before : Finds (far (both whole weak) 2) (found.Weak 1 1) → ⊥
+finds_one_gone_before : FindsWeak (far (both whole weak) 2) (found.Weak 1 1) → ⊥
 finds_one_gone_before x = let e = x.1 in let n = none_before in omega (arith, e, n)
 
-finds_gone : Finds lone (found.Whole 1)
+finds_gone : FindsWeak lone (found.Whole 1)
 finds_gone = (none_weak, sym lone_count)
 
-finds_none_gone : Finds lone (found.Whole 0) → ⊥
+finds_none_gone : FindsWeak lone (found.Whole 0) → ⊥
 finds_none_gone x = let e = x.1 in let n = lone_count in omega (arith, e, n)
 
-finds_no_weak : Finds lone_weak (found.Whole 0) → ⊥
+finds_no_weak : FindsWeak lone_weak (found.Whole 0) → ⊥
 finds_no_weak x = x.0 0 weak (only_of weak) weak_is

@@ -32,10 +32,10 @@ gone_number health.Gone = 1
 
 -- the first set that is weak and how many before it are gone, or that none is weak and how many are
 -- gone
-abbrev pub Finds : FarState → Found → Type 0
-Finds far (found.Weak id gone) =
+abbrev pub FindsWeak : FarState → Found → Type 0
+FindsWeak far (found.Weak id gone) =
     ((set : SetState) × IsFirstWeak far id set) × (gone ≡ gone_below far id)
-Finds far (found.Whole gone) =
+FindsWeak far (found.Whole gone) =
     ((id : ℕ) (set : SetState) → set_in far.sets id ≡ Some set → ¬ (IsWeak far.members set))
     × (gone ≡ gone_count far)
 

@@ -12,7 +12,7 @@ use Rattle.cb_set.specs.Nodes.{other_shards}
 use Rattle.cb_types.specs.declared.reply.Reply.{Reply}
 use Rattle.cb_types.specs.declared.reply.Reply.TheVariants as answer
 use Rattle.cb_world.specs.Choices.{IsLeastNode, MayPut}
-use Rattle.cb_world.specs.Fetched.{with_given}
+use Rattle.cb_world.specs.Fetched.{with_rows_given}
 use Rattle.cb_world.specs.Sets.{set_in}
 use Rattle.cb_world.specs.SetWord.{IsWeak, IsWordOf}
 use Rattle.cb_world.specs.Surveyed.{gone_below}
@@ -67,17 +67,17 @@ IsRowOf far set position row = (rows : List (List ℕ)) → IsWordOf far.nodes f
 
 -- the far state once so many rows more were given out
 abbrev pub far_given : FarState → ℕ → FarState
-far_given far n = record far { nodes = with_given far.nodes n }
+far_given far n = record far { nodes = with_rows_given far.nodes n }
 
 -- the far state once k rows of the set were given out, and this row was put under the shard
 abbrev pub with_put : FarState → SetState → Shard → List ℕ → FarState
 with_put far set shard row = record far {
-  nodes = with_row (with_given far.nodes (length set.positions)) shard.node shard.key row;
+  nodes = with_row (with_rows_given far.nodes (length set.positions)) shard.node shard.key row;
 }
 
 -- the far state once the position of the set names the shard, whose key is drawn
-abbrev pub with_name : FarState → ℕ → SetState → ℕ → Shard → FarState
-with_name far id set position shard = record far {
+abbrev pub with_shard_named : FarState → ℕ → SetState → ℕ → Shard → FarState
+with_shard_named far id set position shard = record far {
   sets = map.insert far.sets id (record {
     set = with_shard set position shard;
     committed = true;
@@ -97,7 +97,7 @@ pub record IsRebuilt (far : FarState) (id : ℕ) (set : SetState) (new : FarStat
     pub named : IsNewShard far set position shard
     pub some_word : (rows : List (List ℕ)) × IsWordOf far.nodes far.members set rows
     pub of_word : IsRowOf far set position row
-    pub state : new ≡ with_name (with_put far set shard row) id set position shard
+    pub state : new ≡ with_shard_named (with_put far set shard row) id set position shard
     pub reply : r ≡ answer.Rebuilt (record { n = id }) position shard.node
 
 -- what becomes of a set that is weak

@@ -6,7 +6,7 @@ ghost use Rattle.cb_world.specs.Sets.{if_committed};
 ghost use Rattle.cb_world.specs.FarSound.{AwaySound};
 ghost use Rattle.cb_world.specs.Surveyed.{IsSurvey};
 ghost use Rattle.cb_rebuild.specs.declared.finding.Health.TheVariants as Health;
-ghost use Rattle.cb_rebuild.specs.Finding.{Finds, HasHealth, HealthAt, gone_number, with_found};
+ghost use Rattle.cb_rebuild.specs.Finding.{FindsWeak, HasHealth, HealthAt, gone_number, with_found};
 
 use cb_member::Members;
 use cb_set::SpanSet;
@@ -92,7 +92,7 @@ pub(crate) fn find_weak(far: &Far) -> Found
     requires sound { (s : Shown) × AwaySound s far.now }
     requires survey { IsSurvey far.now far.now.survey }
     requires homes { length far.now.homes < 2 ^ 32 }
-    ensures { Finds far.now result }
+    ensures { FindsWeak far.now result }
 {
     let mut gone = far.survey.gone;
     let mut sets = far.sets.range_from(far.survey.below);

@@ -6,7 +6,7 @@ ghost use Rattle.cb_world.specs.declared.shown.Shown.{Shown};
 ghost use Rattle.cb_world.specs.Sets.{set_in};
 ghost use Rattle.cb_world.specs.FarSound.{AwaySound};
 ghost use Rattle.cb_world.specs.SetWord.{IsWeak};
-ghost use Rattle.cb_rebuild.specs.RebuildStep.{IsRowOf, far_given, with_name, with_put};
+ghost use Rattle.cb_rebuild.specs.RebuildStep.{IsRowOf, far_given, with_put, with_shard_named};
 
 use cb_member::Shard;
 use cb_types::NoMemory;
@@ -39,7 +39,7 @@ pub(crate) fn name_shard(far: &mut Far, id: u64, position: u32, shard: Shard)
         × (position < length set.shards) }
     requires keys { far.old.counts.keys < 2 ^ 62 }
     ensures { (set : SetState) → set_in far.old.sets id ≡ Some set
-        → far.new ≡ with_name far.old id set position shard }
+        → far.new ≡ with_shard_named far.old id set position shard }
 {
     far.counts.keys += 1;
     far.sets.set_shard(id, position, shard);

@@ -18,7 +18,7 @@ use Rattle.cb_record.specs.Upheld.{IsUpheld}
 use Rattle.cb_record.proofs.Links.{StandsFor}
 
 -- an answer changed nothing and entered nothing, or made one change and one entry
-pub record IsOne (handle : Option ℕ) (cs : List (ℕ × Change)) (own : List Entry) : Type 0 where
+pub record EntersOne (handle : Option ℕ) (cs : List (ℕ × Change)) (own : List Entry) : Type 0 where
   pub number : ℕ
   pub about : handle ≡ Some number
   pub entry : Entry
@@ -27,8 +27,8 @@ pub record IsOne (handle : Option ℕ) (cs : List (ℕ × Change)) (own : List E
   pub entries : own ≡ entry ∷ []
   pub stands : StandsFor number entry change
 
-abbrev pub AreAlike : Option ℕ → List (ℕ × Change) → List Entry → Type 0
-AreAlike handle cs own = ((cs ≡ []) × (own ≡ [])) ⊎ IsOne handle cs own
+abbrev pub EntersAlike : Option ℕ → List (ℕ × Change) → List Entry → Type 0
+EntersAlike handle cs own = ((cs ≡ []) × (own ≡ [])) ⊎ EntersOne handle cs own
 
 refusal_quiet : (s : Subject) (r : Reply) → change_of (refusal s r) ≡ []
 refusal_quiet NewObject answer.Freed = refl
@@ -51,7 +51,7 @@ pin_quiet name r = refl
 
 make_alike : (before : List Answer) (name bytes : List ℕ) (r : Reply) (own : List Entry)
     → EntersAt (handle_for before (request.Make name bytes) r) (request.Make name bytes) r own
-    → AreAlike (handle_for before (request.Make name bytes) r) (change_of (event_of (request.Make name bytes) r)) own
+    → EntersAlike (handle_for before (request.Make name bytes) r) (change_of (event_of (request.Make name bytes) r)) own
 make_alike before name bytes (answer.Made h v) own e = inr (record {
   number = h.n;
   about = refl;
@@ -65,7 +65,7 @@ make_alike before name bytes r own e = inl (refl, e)
 
 write_alike : (h : ℕ) (name : List ℕ) (at : ℕ) (bytes : List ℕ) (r : Reply) (own : List Entry)
     → EntersAt (Some h) (request.Write name at bytes) r own
-    → AreAlike (Some h) (change_of (event_of (request.Write name at bytes) r)) own
+    → EntersAlike (Some h) (change_of (event_of (request.Write name at bytes) r)) own
 write_alike h name at bytes (answer.Version v) own e = inr (record {
   number = h;
   about = refl;
@@ -79,7 +79,7 @@ write_alike h name at bytes r own e = inl (refl, e)
 
 free_alike : (h : ℕ) (name : List ℕ) (r : Reply) (own : List Entry)
     → EntersAt (Some h) (request.Free name) r own
-    → AreAlike (Some h) (change_of (event_of (request.Free name) r)) own
+    → EntersAlike (Some h) (change_of (event_of (request.Free name) r)) own
 free_alike h name (answer.Version v) own e = inr (record {
   number = h;
   about = refl;
@@ -109,9 +109,10 @@ module _ (first handles : ℕ) (calls : List Called) (v : View) where
   -- each answer changed what it entered
   pub enters : (before : List Answer) (handle : Option ℕ) (q : Request) (r : Reply) (own : List Entry)
       → handle_for before q r ≡ handle → IsUpheld first handles calls v handle (event_of q r)
-      → EntersAt handle q r own → AreAlike handle (change_of (event_of q r)) own
+      → EntersAt handle q r own → EntersAlike handle (change_of (event_of q r)) own
   enters before handle (request.Make name bytes) r own is up e =
-      subst (λ (h : Option ℕ). AreAlike h (change_of (event_of (request.Make name bytes) r)) own) is
+      subst (λ (h : Option ℕ). EntersAlike h (change_of (event_of (request.Make name bytes) r)) own)
+      is
       (make_alike before name bytes r own e)
   enters before None (request.Write name at bytes) r own is up e =
       inl (none_quiet (event_of (request.Write name at bytes) r) up, e)

@@ -14,7 +14,7 @@ use Rattle.cb_model.specs.Now.{Change}
 use Rattle.cb_model.specs.History.{by_version}
 use Rattle.cb_record.specs.Lists.{HasOne}
 use Rattle.cb_record.specs.Upheld.{OneLength}
-use Rattle.cb_record.proofs.Links.{Any, AreLinked, AreTrue, IsEntered, IsMake, IsRun, StandsFor, are_true}
+use Rattle.cb_record.proofs.Links.{Any, AreLinked, AreTrue, GoesUp, IsEntered, IsFirstMake, StandsFor, are_true}
 use Rattle.cb_record.proofs.Ordering.{all_by_version, changes_at, one_by_version, ordered_by_version, stands, times_by_version, versions_run}
 use Rattle.cb_record.proofs.Pieces.{IsPiece}
 
@@ -162,7 +162,7 @@ module _ (first : ℕ) (v : View) (entries : EntriesStand first (v ∷ [])) (qui
 
   run_none : (n h : ℕ) (cs : List (ℕ × Change))
       → ((e : Entry) → Has e v.written → e.handle ≡ h → ⊥)
-      → AllByRecursion (IsEntered first v.written h) cs → IsRun n cs
+      → AllByRecursion (IsEntered first v.written h) cs → GoesUp n cs
   run_none n h [] none all = tt
   run_none n h (c ∷ cs) none all =
       absurd (none all.0.entry all.0.there all.0.stands.handle)
@@ -173,7 +173,7 @@ module _ (first : ℕ) (v : View) (entries : EntriesStand first (v ∷ [])) (qui
 
   -- the changes at an object, in order, are its entries
   pub histories : (h : ℕ) (cs : List (ℕ × Change))
-      → IsPiece first v.written h cs v.written → (HasOne Any cs → HasOne (IsMake first) cs)
+      → IsPiece first v.written h cs v.written → (HasOne Any cs → HasOne (IsFirstMake first) cs)
       → AreTrue first v.written h linked (by_version cs)
   histories h cs piece made = are_true first v.written h linked (by_version cs)
       (⊎_elim (λ (z : (e : Entry) × IsTop h v.written e).
@@ -183,7 +183,7 @@ module _ (first : ℕ) (v : View) (entries : EntriesStand first (v ∷ [])) (qui
       run_none first h (by_version cs) none each) (find_top h v.written))
       each
       (λ e there on. one_by_version (StandsFor h e) cs (piece.all e there on))
-      (λ one. one_by_version (IsMake first) cs (made (still_any cs one)))
+      (λ one. one_by_version (IsFirstMake first) cs (made (still_any cs one)))
     where
       each : AllByRecursion (IsEntered first v.written h) (by_version cs)
       each = all_by_version (IsEntered first v.written h) cs piece.each

@@ -9,13 +9,13 @@ use Rattle.cb_model.specs.Now.{Change}
 use Rattle.cb_model.specs.Called.{Called, calls_behind, handle_for}
 use Rattle.cb_model.specs.Event.{Event, change_of, event_of}
 use Rattle.cb_model.specs.Event.Event.{Makes, Shows, Pins, Writes, Frees, FindsFull, FindsUnmade, FindsFreed, FindsEnd, Refused, Wrong}
-use Rattle.cb_record.specs.Backs.{Tells, Wrote}
+use Rattle.cb_record.specs.Backs.{Tells, WroteLines}
 use Rattle.cb_record.specs.Lists.{HasOne}
 use Rattle.cb_record.specs.Needs.{IsFreedAs, IsPinnedAs, Meets, need_of}
 use Rattle.cb_record.specs.Rises.{HasVersion, IsKnownTo, IsOnRecord}
 use Rattle.cb_record.specs.Told.{tolds}
 use Rattle.cb_record.specs.Upheld.{IsSeenLong, IsUpheld, Upholds, as_part}
-use Rattle.cb_record.proofs.Entering.{AreAlike, IsOne, enters}
+use Rattle.cb_record.proofs.Entering.{EntersAlike, EntersOne, enters}
 use Rattle.cb_record.proofs.Listing.{has_left, has_right}
 use Rattle.cb_record.proofs.Meeting.{IsMet, met}
 use Rattle.cb_record.proofs.Replied.{find_one}
@@ -30,11 +30,12 @@ one_number n m e = cc
 module _ (v : View) (h : ℕ) where
   -- the version of a change stands as written
   entered : (version n : ℕ) (change : Change) (own : List Entry)
-      → AreAlike (Some h) ((version, change) ∷ []) own → ((e : Entry) → Has e own → Has e v.written)
+      → EntersAlike (Some h) ((version, change) ∷ []) own
+      → ((e : Entry) → Has e own → Has e v.written)
       → Some version ≡ Some n → (freed : Bool) × HasVersion v h n freed
   entered version n change own alike sub e = ⊎_elim
       (λ (none : ((version, change) ∷ [] ≡ []) × (own ≡ [])). absurd (let z = none.0 in cc))
-      (λ (one : IsOne (Some h) ((version, change) ∷ []) own). (
+      (λ (one : EntersOne (Some h) ((version, change) ∷ []) own). (
         one.entry.freed,
         inl (
           one.entry,
@@ -56,7 +57,7 @@ module _ (v : View) (h : ℕ) where
       (false, inr (z.0, z.1, z.2.0, z.2.1 ∙ one_number version n e, z.2.2))
 
   known : (first handles : ℕ) (calls : List Called) (e : Event) (own : List Entry)
-      → AreAlike (Some h) (change_of e) own → ((x : Entry) → Has x own → Has x v.written)
+      → EntersAlike (Some h) (change_of e) own → ((x : Entry) → Has x own → Has x v.written)
       → IsMet (as_part v) h e → IsUpheld first handles calls v (Some h) e → IsKnownTo v h e
   known first handles calls (Makes bytes version) own alike sub m up =
       λ n is. entered version n _ own alike sub is
@@ -79,7 +80,7 @@ module _ (v : View) (h : ℕ) where
 module _ (first handles : ℕ) (calls : List Called) (v : View) where
   -- what each answer told stands in the record that backs them all
   pub on_record : (before after : List Answer) (written : List Entry)
-      → Wrote written (tolds before after) → ((e : Entry) → Has e written → Has e v.written)
+      → WroteLines written (tolds before after) → ((e : Entry) → Has e written → Has e v.written)
       → AllByRecursion (Tells (as_part v)) (tolds before after)
       → AllByRecursion (Upholds first handles calls v) (calls_behind before after)
       → AllByRecursion (IsOnRecord v) (calls_behind before after)
@@ -89,7 +90,7 @@ module _ (first handles : ℕ) (calls : List Called) (v : View) where
       let within : (e : Entry) → Has e (wrote.1 ++ wrote.0) → Has e v.written =
       λ e there. sub e (subst (Has e) (sym wrote.2) there) in (
         λ h on. known v h first handles calls (event_of a.request a.reply) wrote.0
-            (subst (λ (k : Option ℕ). AreAlike k (change_of (event_of a.request a.reply)) wrote.0) on
+            (subst (λ (k : Option ℕ). EntersAlike k (change_of (event_of a.request a.reply)) wrote.0) on
             (enters first handles calls v before handle a.request a.reply wrote.0 refl up.0 wrote.3))
             (λ e there. within e (has_right e wrote.1 wrote.0 there))
             (met (as_part v) h a.request a.reply

@@ -25,7 +25,7 @@ use Rattle.cb_model.specs.Called.{calls_of, history}
 use Rattle.cb_model.specs.History.{left_by}
 use Rattle.cb_model.specs.Now.{Change}
 use Rattle.cb_record.specs.Backs.{Backs}
-use Rattle.cb_record.specs.Left.{HasLast, now_left}
+use Rattle.cb_record.specs.Left.{HasHistoryEnds, now_left}
 use Rattle.cb_record.specs.Told.{tolds}
 use Rattle.cb_record.specs.Upheld.{Upholds, as_part}
 use Rattle.cb_record.proofs.Histories.{IsTop, find_top, linked, written, wrote}
@@ -99,7 +99,7 @@ module _ (deeds : Deeds) (first : ℕ) (c : Config) (v : View) (w : WorldState)
   ]
 
   -- so the world has what the history of each object leaves
-  pub has_last : HasLast answers w
+  pub has_last : HasHistoryEnds answers w
   has_last = record {
     shown = closed.holds.shown;
     known = closed.holds.known;

@@ -9,7 +9,7 @@ use Rattle.cb_mutate.specs.WordsOf.{AreWordsOf}
 use Rattle.cb_mutate.proofs.Laws.{write_bytes}
 use Rattle.cb_rule.specs.Lists.{Has}
 use Rattle.cb_model.specs.declared.object.Object.TheVariants.{Held, Freed}
-use Rattle.cb_model.specs.Now.{Now, Change, changed, overwritten}
+use Rattle.cb_model.specs.Now.{MapNow, Change, changed, overwritten}
 use Rattle.cb_model.specs.Now.Change.{Create, Overwrite, Remove}
 use Rattle.cb_model.specs.History.{GoesOn, IsHistory, IsMadeWith, at_version, left_by}
 use Rattle.cb_record.specs.Lists.{HasOne}
@@ -29,16 +29,16 @@ pub record StandsFor (h : ℕ) (e : Entry) (c : ℕ × Change) : Type 0 where
   pub does : DoesTo e c.1
 
 -- where a change may stand: a make first, and every other above
-abbrev pub Fits : ℕ → ℕ × Change → Type 0
-Fits first (v, Create bytes) = v ≡ first
-Fits first (v, Overwrite at bytes) = Unit {0}
-Fits first (v, Remove) = Unit {0}
+abbrev pub MayStandAt : ℕ → ℕ × Change → Type 0
+MayStandAt first (v, Create bytes) = v ≡ first
+MayStandAt first (v, Overwrite at bytes) = Unit {0}
+MayStandAt first (v, Remove) = Unit {0}
 
 -- it makes the object, at the first version
-abbrev pub IsMake : ℕ → ℕ × Change → Type 0
-IsMake first (v, Create bytes) = v ≡ first
-IsMake first (v, Overwrite at bytes) = ⊥
-IsMake first (v, Remove) = ⊥
+abbrev pub IsFirstMake : ℕ → ℕ × Change → Type 0
+IsFirstMake first (v, Create bytes) = v ≡ first
+IsFirstMake first (v, Overwrite at bytes) = ⊥
+IsFirstMake first (v, Remove) = ⊥
 
 abbrev pub Any : ℕ × Change → Type 0
 Any c = Unit {0}
@@ -48,7 +48,7 @@ pub record IsEntered (first : ℕ) (es : List Entry) (h : ℕ) (c : ℕ × Chang
   pub entry : Entry
   pub there : Has entry es
   pub stands : StandsFor h entry c
-  pub fits : Fits first c
+  pub fits : MayStandAt first c
 
 -- the entries before and after one another
 pub record AreLinked (first : ℕ) (es : List Entry) : Type 0 where
@@ -61,12 +61,12 @@ pub record AreLinked (first : ℕ) (es : List Entry) : Type 0 where
   pub long : OneLength es
 
 -- the versions go up one by one from n
-abbrev pub IsRun : ℕ → List (ℕ × Change) → Type 0
-IsRun n [] = Unit {0}
-IsRun n (c ∷ cs) = (c.0 ≡ n) × IsRun (n + 1) cs
+abbrev pub GoesUp : ℕ → List (ℕ × Change) → Type 0
+GoesUp n [] = Unit {0}
+GoesUp n (c ∷ cs) = (c.0 ≡ n) × GoesUp (n + 1) cs
 
 -- y is the version after x, written
-pub record IsOverwritten (es : List Entry) (h : ℕ) (x y : Entry) (v at : ℕ) (bytes : List ℕ)
+pub record IsNextWritten (es : List Entry) (h : ℕ) (x y : Entry) (v at : ℕ) (bytes : List ℕ)
     : Type 0 where
   pub there : Has y es
   pub handle : y.handle ≡ h
@@ -82,7 +82,7 @@ abbrev pub Chain : List Entry → ℕ → Entry → List (ℕ × Change) → Typ
 Chain es h x [] = Unit {0}
 Chain es h x ((v, Create bytes) ∷ later) = ⊥
 Chain es h x ((v, Overwrite at bytes) ∷ later) =
-    (y : Entry) × IsOverwritten es h x y v at bytes × Chain es h y later
+    (y : Entry) × IsNextWritten es h x y v at bytes × Chain es h y later
 Chain es h x ((v, Remove) ∷ later) = (v ≡ x.version + 1) × (later ≡ [])
 
 module _ (first : ℕ) (es : List Entry) (h : ℕ) (linked : AreLinked first es) where
@@ -99,7 +99,7 @@ module _ (first : ℕ) (es : List Entry) (h : ℕ) (linked : AreLinked first es)
       (linked.goes_on y hy)
 
   chained : (x : Entry) (cs : List (ℕ × Change)) → Has x es → x.handle ≡ h → x.freed ≡ false
-      → IsRun (x.version + 1) cs → AllByRecursion (IsEntered first es h) cs → Chain es h x cs
+      → GoesUp (x.version + 1) cs → AllByRecursion (IsEntered first es h) cs → Chain es h x cs
   chained x [] hx ex kept run all = tt
   chained x ((v, Create bytes) ∷ later) hx ex kept run all =
       absurd (let f = all.0.fits in let r = run.0 in let b = linked.born x hx in omega (arith, f, r, b))
@@ -122,7 +122,7 @@ module _ (first : ℕ) (es : List Entry) (h : ℕ) (linked : AreLinked first es)
           room = room;
           write = subst (λ (old : List ℕ). IsWrite old at bytes y.after) (sym l.0) does.1;
         },
-        chained y later all.0.there all.0.stands.handle does.0 (subst (λ (n : ℕ). IsRun (n + 1) later) (sym next) run.1) all.1,
+        chained y later all.0.there all.0.stands.handle does.0 (subst (λ (n : ℕ). GoesUp (n + 1) later) (sym next) run.1) all.1,
       )
   chained x ((v, Remove) ∷ []) hx ex kept run all = (run.0, refl)
   chained x ((v, Remove) ∷ d ∷ later) hx ex kept run all =
@@ -160,12 +160,12 @@ module _ (first : ℕ) (es : List Entry) (h : ℕ) (linked : AreLinked first es)
       let n = chain.0 in let none = chain.1 in rw (lt-leb v bound (omega (arith, le, n)), none) refl
 
   -- what was held at a version that was written
-  abbrev Holds : Entry → Now
+  abbrev Holds : Entry → MapNow
   Holds e = Some (Held e.version (bytes_in e.after e.len))
 
   -- the bytes of the next version are those of this one with the write applied
   next_bytes : (x y : Entry) (v at : ℕ) (bytes : List ℕ) → x.len ≤ 8 * length x.after
-      → IsOverwritten es h x y v at bytes
+      → IsNextWritten es h x y v at bytes
       → changed (Holds x) (v, Overwrite at bytes) ≡ Holds y
   next_bytes x y v at bytes filled w = λ i. Some (Held (sym w.version i)
       ((sym (write_bytes x.after y.after at x.len bytes w.write w.room filled)
@@ -190,7 +190,7 @@ module _ (first : ℕ) (es : List Entry) (h : ℕ) (linked : AreLinked first es)
       let more : y.len ≤ 8 * length y.after = let l = w.len in let z = w.write.sized in
       omega (arith, l, z, filled) in
       rw (le-leb v e.version low)
-      (ap (λ (now : Now). fold changed now (filter (λ c. nat_le c.0 e.version) later))
+      (ap (λ (now : MapNow). fold changed now (filter (λ c. nat_le c.0 e.version) later))
       (next_bytes x y v at bytes filled w)
       ∙ folded e y later he w.there ee w.handle kept more (let n = w.version in omega (arith, n, low))
       (λ less. ⊎_elim (λ (s : StandsFor h e (v, Overwrite at bytes)).
@@ -231,22 +231,22 @@ module _ (first : ℕ) (es : List Entry) (h : ℕ) (linked : AreLinked first es)
     pub long : (e : Entry) → Has e es → e.handle ≡ h → e.freed ≡ false → IsMadeWith cs e.len
 
   -- no make stands among versions above the first
-  made_first : (n : ℕ) (cs : List (ℕ × Change)) → first < n → IsRun n cs
-      → HasOne (IsMake first) cs → ⊥
+  made_first : (n : ℕ) (cs : List (ℕ × Change)) → first < n → GoesUp n cs
+      → HasOne (IsFirstMake first) cs → ⊥
   made_first n [] lt run one = one
   made_first n ((v, Create bytes) ∷ cs) lt run one = ⊎_elim
       (λ (is : v ≡ first). let r = run.0 in omega (arith, is, r, lt))
-      (λ (more : HasOne (IsMake first) cs). made_first (n + 1) cs (omega (arith, lt)) run.1 more) one
+      (λ (more : HasOne (IsFirstMake first) cs). made_first (n + 1) cs (omega (arith, lt)) run.1 more) one
   made_first n ((v, Overwrite at bytes) ∷ cs) lt run one = ⊎_elim (λ (none : ⊥). none)
-      (λ (more : HasOne (IsMake first) cs). made_first (n + 1) cs (omega (arith, lt)) run.1 more) one
+      (λ (more : HasOne (IsFirstMake first) cs). made_first (n + 1) cs (omega (arith, lt)) run.1 more) one
   made_first n ((v, Remove) ∷ cs) lt run one = ⊎_elim (λ (none : ⊥). none)
-      (λ (more : HasOne (IsMake first) cs). made_first (n + 1) cs (omega (arith, lt)) run.1 more) one
+      (λ (more : HasOne (IsFirstMake first) cs). made_first (n + 1) cs (omega (arith, lt)) run.1 more) one
 
   -- changes that run from the first version, each with its entry, and each entry with its change
-  pub are_true : (cs : List (ℕ × Change)) → IsRun first cs
+  pub are_true : (cs : List (ℕ × Change)) → GoesUp first cs
       → AllByRecursion (IsEntered first es h) cs
       → ((e : Entry) → Has e es → e.handle ≡ h → HasOne (StandsFor h e) cs)
-      → (HasOne Any cs → HasOne (IsMake first) cs) → AreTrue cs
+      → (HasOne Any cs → HasOne (IsFirstMake first) cs) → AreTrue cs
   are_true [] run all one made = record {
     history = tt;
     shows = λ e he ee kept. absurd (one e he ee);
@@ -256,11 +256,11 @@ module _ (first : ℕ) (es : List Entry) (h : ℕ) (linked : AreLinked first es)
   }
   are_true ((v, Overwrite at bytes) ∷ later) run all one made =
       absurd (⊎_elim (λ (none : ⊥). none)
-      (λ (more : HasOne (IsMake first) later). made_first (first + 1) later (omega arith) run.1 more)
+      (λ (more : HasOne (IsFirstMake first) later). made_first (first + 1) later (omega arith) run.1 more)
       (made (inl tt)))
   are_true ((v, Remove) ∷ later) run all one made =
       absurd (⊎_elim (λ (none : ⊥). none)
-      (λ (more : HasOne (IsMake first) later). made_first (first + 1) later (omega arith) run.1 more)
+      (λ (more : HasOne (IsFirstMake first) later). made_first (first + 1) later (omega arith) run.1 more)
       (made (inl tt)))
   are_true ((v, Create bytes) ∷ later) run all one made = record {
     history = (run.0, goes_on_chain (first + 1) (length bytes) x later (ap (λ (n : ℕ). n + 1) (sym at)) does.1 chain);
@@ -281,7 +281,7 @@ module _ (first : ℕ) (es : List Entry) (h : ℕ) (linked : AreLinked first es)
 
       chain : Chain es h x later
       chain = chained x later all.0.there all.0.stands.handle does.0
-          (subst (λ (n : ℕ). IsRun (n + 1) later) (sym at) run.1) all.1
+          (subst (λ (n : ℕ). GoesUp (n + 1) later) (sym at) run.1) all.1
 
       filled : x.len ≤ 8 * length x.after
       filled = let c = does.2.count in let l = does.1 in omega (arith, c, l)
@@ -307,7 +307,7 @@ module _ (first : ℕ) (es : List Entry) (h : ℕ) (linked : AreLinked first es)
           let low : v ≤ e.version = let b = linked.born e he in let r = run.0 in
           omega (arith, b, r) in
           rw (le-leb v e.version low)
-          (ap (λ (now : Now). fold changed now (filter (λ c. nat_le c.0 e.version) later)) start
+          (ap (λ (now : MapNow). fold changed now (filter (λ c. nat_le c.0 e.version) later)) start
           ∙ folded e x later he all.0.there ee all.0.stands.handle kept filled
           (let b = linked.born e he in omega (arith, b, at)) (later_one e (one e he ee)) chain
           (cases_lt x.version e.version))

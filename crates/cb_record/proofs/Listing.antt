@@ -3,8 +3,8 @@ use Rattle.std.proofs.Common.{◌≡◌, List, [], ◌∷◌, ◌++◌, sym, ap,
 use Rattle.std.specs.List.{AllByRecursion}
 use Rattle.std.proofs.lemmas.List.{append-nil}
 use Rattle.cb_rule.specs.Lists.{Has}
-use Rattle.cb_record.specs.Lists.{HasOne, IsAmong, newest_first}
-use Rattle.cb_record.specs.Lists.IsAmong.{ended, beside, both}
+use Rattle.cb_record.specs.Lists.{HasOne, IsSublist, newest_first}
+use Rattle.cb_record.specs.Lists.IsSublist.{ended, beside, both}
 
 module _ {A : Type 0} where
   pub has_one_left : (P : A → Type 0) (xs ys : List A) → HasOne P xs → HasOne P (xs ++ ys)
@@ -35,15 +35,15 @@ module _ {A : Type 0} where
   all_append P [] ys h k = k
   all_append P (x ∷ xs) ys h k = (h.0, all_append P xs ys h.1 k)
 
-  pub among_append : (xs ys us vs : List A) → IsAmong xs ys → IsAmong us vs
-      → IsAmong (xs ++ us) (ys ++ vs)
+  pub among_append : (xs ys us vs : List A) → IsSublist xs ys → IsSublist us vs
+      → IsSublist (xs ++ us) (ys ++ vs)
   among_append _ _ us vs ended b = b
   among_append _ _ us vs (beside xs y ys a) b =
       beside (xs ++ us) y (ys ++ vs) (among_append xs ys us vs a b)
   among_append _ _ us vs (both x xs ys a) b =
       both x (xs ++ us) (ys ++ vs) (among_append xs ys us vs a b)
 
-  pub among_none : (xs : List A) → IsAmong [] xs
+  pub among_none : (xs : List A) → IsSublist [] xs
   among_none [] = ended
   among_none (x ∷ xs) = beside [] x xs (among_none xs)
 

@@ -19,7 +19,7 @@ use Rattle.cb_model.specs.Event.{change_of, event_of}
 use Rattle.cb_model.proofs.Laws.{calls_of-push, handle_of-push}
 use Rattle.cb_record.specs.Lists.{HasOne}
 use Rattle.cb_record.specs.Upheld.{IsUpheld, Upholds}
-use Rattle.cb_record.proofs.Links.{Any, IsMake}
+use Rattle.cb_record.proofs.Links.{Any, IsFirstMake}
 use Rattle.cb_record.proofs.Listing.{has_one_left, has_one_right}
 
 split_one : {A : Type 0} (P : A → Type 0) (xs ys : List A) → HasOne P (xs ++ ys)
@@ -46,7 +46,7 @@ module _ (first handles : ℕ) (all : List Called) (v : View) (h : ℕ) where
   -- a name has the object: it was made
   abbrev Known : List Answer → Type 0
   Known before = (name : List ℕ) → handle_of before name ≡ Some h
-      → HasOne (IsMake first) (changes_to h (calls_of before))
+      → HasOne (IsFirstMake first) (changes_to h (calls_of before))
 
   names : (before : List Answer) (name : Option (List ℕ)) → handle_named before name ≡ Some h
       → (n : List ℕ) × (handle_of before n ≡ Some h)
@@ -57,11 +57,11 @@ module _ (first handles : ℕ) (all : List Called) (v : View) (h : ℕ) where
   by_answer : (before : List Answer) (q : Request) (r : Reply)
       → IsUpheld first handles all v (handle_for before q r) (event_of q r)
       → HasOne Any (at_it (handle_for before q r) (change_of (event_of q r)))
-      → HasOne (IsMake first) (at_it (handle_for before q r) (change_of (event_of q r)))
+      → HasOne (IsFirstMake first) (at_it (handle_for before q r) (change_of (event_of q r)))
       ⊎ ((n : List ℕ) × (handle_of before n ≡ Some h))
   by_answer before (request.Make name bytes) (answer.Made handle version) up one =
       inl (by_case (λ b. HasOne Any (cond b ((version, Create bytes) ∷ []) [])
-      → HasOne (IsMake first) (cond b ((version, Create bytes) ∷ []) [])) (eqb h handle.n)
+      → HasOne (IsFirstMake first) (cond b ((version, Create bytes) ∷ []) [])) (eqb h handle.n)
       (λ _ _. inl up.1) (λ _ none. none) one)
   by_answer before (request.Make name bytes) r up one = absurd one
   by_answer before q r up one = inr (names before (name_of q)
@@ -71,10 +71,10 @@ module _ (first handles : ℕ) (all : List Called) (v : View) (h : ℕ) where
   by_name : (before : List Answer) (name : List ℕ) (q : Request) (r : Reply) (old : Option ℕ)
       → IsUpheld first handles all v (handle_for before q r) (event_of q r)
       → first_of (handle_made name q r) old ≡ Some h
-      → (old ≡ Some h) ⊎ HasOne (IsMake first) (at_it (handle_for before q r) (change_of (event_of q r)))
+      → (old ≡ Some h) ⊎ HasOne (IsFirstMake first) (at_it (handle_for before q r) (change_of (event_of q r)))
   by_name before name (request.Make made bytes) (answer.Made handle version) old up e =
       by_case (λ b. first_of (cond b (Some handle.n) None) old ≡ Some h
-      → (old ≡ Some h) ⊎ HasOne (IsMake first) (at_it (Some handle.n) ((version, Create bytes) ∷ [])))
+      → (old ≡ Some h) ⊎ HasOne (IsFirstMake first) (at_it (Some handle.n) ((version, Create bytes) ∷ [])))
       (bytes_eq made name)
       (λ _ is. inr (rw (eq-eqb h handle.n (same_handle handle.n h is)) (inl up.1)))
       (λ _ is. inl is) e
@@ -91,17 +91,17 @@ module _ (first handles : ℕ) (all : List Called) (v : View) (h : ℕ) where
   known_more : (before : List Answer) (a : Answer) → Upholds first handles all v (called before a)
       → Known before → Known (before ++ a ∷ [])
   known_more before a up known name e =
-      subst (HasOne (IsMake first)) (sym (one_more before a))
+      subst (HasOne (IsFirstMake first)) (sym (one_more before a))
       (⊎_elim (λ (old : handle_of before name ≡ Some h).
-      has_one_left (IsMake first) (changes_to h (calls_of before)) (change_to h (called before a)) (known name old))
-      (λ (made : HasOne (IsMake first) (change_to h (called before a))).
-      has_one_right (IsMake first) (changes_to h (calls_of before)) (change_to h (called before a)) made)
+      has_one_left (IsFirstMake first) (changes_to h (calls_of before)) (change_to h (called before a)) (known name old))
+      (λ (made : HasOne (IsFirstMake first) (change_to h (called before a))).
+      has_one_right (IsFirstMake first) (changes_to h (calls_of before)) (change_to h (called before a)) made)
       (by_name before name a.request a.reply (handle_of before name) up (sym (handle_of-push name before a) ∙ e)))
 
   pub made : (before after : List Answer) → Known before
       → AllByRecursion (Upholds first handles all v) (calls_behind before after)
       → HasOne Any (changes_to h (calls_behind before after))
-      → HasOne (IsMake first) (changes_to h (calls_of before) ++ changes_to h (calls_behind before after))
+      → HasOne (IsFirstMake first) (changes_to h (calls_of before) ++ changes_to h (calls_behind before after))
   made before [] known up one = absurd one
   made before (a ∷ after) known up one =
       let front = changes_to h (calls_of before) in
@@ -109,13 +109,14 @@ module _ (first handles : ℕ) (all : List Called) (v : View) (h : ℕ) where
       let later = changes_to h (calls_behind (before ++ a ∷ []) after) in
       ⊎_elim
       (λ (here : HasOne Any own). ⊎_elim
-      (λ (is : HasOne (IsMake first) own).
-      has_one_right (IsMake first) front (own ++ later) (has_one_left (IsMake first) own later is))
+      (λ (is : HasOne (IsFirstMake first) own).
+      has_one_right (IsFirstMake first) front (own ++ later)
+      (has_one_left (IsFirstMake first) own later is))
       (λ (n : (n : List ℕ) × (handle_of before n ≡ Some h)).
-      has_one_left (IsMake first) front (own ++ later) (known n.0 n.1))
+      has_one_left (IsFirstMake first) front (own ++ later) (known n.0 n.1))
       (by_answer before a.request a.reply up.0 here))
       (λ (more : HasOne Any later).
-      subst (HasOne (IsMake first)) (ap (λ (cs : List (ℕ × Change)). cs ++ later) (one_more before a)
+      subst (HasOne (IsFirstMake first)) (ap (λ (cs : List (ℕ × Change)). cs ++ later) (one_more before a)
       ∙ append_assoc front own later)
       (made (before ++ a ∷ []) after (known_more before a up.0 known) up.1 more))
       (split_one Any own later one)

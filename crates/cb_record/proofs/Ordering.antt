@@ -8,7 +8,7 @@ use Rattle.cb_rule.proofs.Laws.{by_case, hit}
 use Rattle.cb_model.specs.Now.{Change}
 use Rattle.cb_model.specs.History.{by_version, placed}
 use Rattle.cb_record.specs.Lists.{HasOne}
-use Rattle.cb_record.proofs.Links.{IsRun}
+use Rattle.cb_record.proofs.Links.{GoesUp}
 use Rattle.cb_record.proofs.Listing.{all_map}
 
 -- whether it is the change of this version
@@ -101,7 +101,7 @@ below_none n x (c ∷ cs) l s =
 
 -- changes in order, each version as often as in a run, go up one by one
 pub versions_run : (n top : ℕ) (cs : List (ℕ × Change)) → IsOrdered cs
-    → ((k : ℕ) → times (changes_at k) cs ≡ stands n k top) → IsRun n cs
+    → ((k : ℕ) → times (changes_at k) cs ≡ stands n k top) → GoesUp n cs
 versions_run n top [] s h = tt
 versions_run n top (c ∷ cs) s h =
     let at_y = h c.0 in let own_y = own c.0 in

@@ -11,12 +11,12 @@ use Rattle.cb_model.specs.Now.{Change}
 use Rattle.cb_model.specs.Called.{Called, calls_behind, changes_to, handle_for, is_about}
 use Rattle.cb_model.specs.Event.{Event, change_of, event_of}
 use Rattle.cb_model.specs.Event.Event.{Makes, Shows, Pins, Writes, Frees, FindsFull, FindsUnmade, FindsFreed, FindsEnd, Refused, Wrong}
-use Rattle.cb_record.specs.Backs.{Wrote}
+use Rattle.cb_record.specs.Backs.{WroteLines}
 use Rattle.cb_record.specs.Lists.{HasOne}
 use Rattle.cb_record.specs.Told.{tolds}
 use Rattle.cb_record.specs.Upheld.{IsUpheld, Upholds}
-use Rattle.cb_record.proofs.Entering.{AreAlike, IsOne, enters}
-use Rattle.cb_record.proofs.Links.{Fits, IsEntered, StandsFor}
+use Rattle.cb_record.proofs.Entering.{EntersAlike, EntersOne, enters}
+use Rattle.cb_record.proofs.Links.{IsEntered, MayStandAt, StandsFor}
 use Rattle.cb_record.proofs.Listing.{all_append, has_left, has_one_left, has_one_right, has_right}
 use Rattle.cb_record.proofs.Ordering.{changes_at}
 
@@ -49,7 +49,7 @@ module _ (first : ℕ) (es : List Entry) (h : ℕ) where
         (split e rest own there);
   }
 
-  piece_one : (n : ℕ) (e : Entry) (c : ℕ × Change) → Has e es → StandsFor n e c → Fits first c
+  piece_one : (n : ℕ) (e : Entry) (c : ℕ × Change) → Has e es → StandsFor n e c → MayStandAt first c
       → IsPiece (cond (eqb h n) (c ∷ []) []) (e ∷ [])
   piece_one n e c there s fits = by_case (λ b. IsPiece (cond b (c ∷ []) []) (e ∷ [])) (eqb h n)
       (λ is. let one : n ≡ h = sym (eqb-true h n is) in
@@ -87,8 +87,8 @@ module _ (first : ℕ) (es : List Entry) (h : ℕ) where
   at_it handle cs = cond (is_about h handle) cs []
 
   piece_of : (handle : Option ℕ) (cs : List (ℕ × Change)) (own : List Entry)
-      → AreAlike handle cs own → ((e : Entry) → Has e own → Has e es)
-      → ((n : ℕ) → handle ≡ Some n → AllByRecursion (Fits first) cs)
+      → EntersAlike handle cs own → ((e : Entry) → Has e own → Has e es)
+      → ((n : ℕ) → handle ≡ Some n → AllByRecursion (MayStandAt first) cs)
       → IsPiece (at_it handle cs) own
   piece_of handle cs own alike sub fits = ⊎_elim
       (λ (none : (cs ≡ []) × (own ≡ [])).
@@ -96,9 +96,9 @@ module _ (first : ℕ) (es : List Entry) (h : ℕ) where
       (subst (λ (xs : List Entry). IsPiece (at_it handle []) xs) (sym none.1)
       (by_case (λ b. IsPiece (cond b [] []) []) (is_about h handle)
       (λ _. piece_none) (λ _. piece_none))))
-      (λ (one : IsOne handle cs own).
+      (λ (one : EntersOne handle cs own).
       let there = sub one.entry (subst (λ (xs : List Entry). Has one.entry xs) (sym one.entries) (inl refl)) in
-      let fit = subst (λ (ds : List (ℕ × Change)). AllByRecursion (Fits first) ds) one.changes (fits one.number one.about) in
+      let fit = subst (λ (ds : List (ℕ × Change)). AllByRecursion (MayStandAt first) ds) one.changes (fits one.number one.about) in
       subst (λ (k : Option ℕ). IsPiece (at_it k cs) own) (sym one.about)
       (subst (λ (ds : List (ℕ × Change)). IsPiece (at_it (Some one.number) ds) own) (sym one.changes)
       (subst (λ (xs : List Entry). IsPiece (at_it (Some one.number) (one.change ∷ [])) xs) (sym one.entries)
@@ -107,7 +107,7 @@ module _ (first : ℕ) (es : List Entry) (h : ℕ) where
 module _ (first handles : ℕ) (calls : List Called) (v : View) where
   -- a change of an answer that is upheld stands where it may
   fits_upheld : (n : ℕ) (e : Event) → IsUpheld first handles calls v (Some n) e
-      → AllByRecursion (Fits first) (change_of e)
+      → AllByRecursion (MayStandAt first) (change_of e)
   fits_upheld n (Makes bytes version) up = (up.1, tt)
   fits_upheld n (Writes at bytes version) up = (tt, tt)
   fits_upheld n (Frees version) up = (tt, tt)
@@ -122,7 +122,7 @@ module _ (first handles : ℕ) (calls : List Called) (v : View) where
 
   -- what answers wrote is what they changed at each object
   pub pieces : (h : ℕ) (before after : List Answer) (written : List Entry)
-      → Wrote written (tolds before after)
+      → WroteLines written (tolds before after)
       → AllByRecursion (Upholds first handles calls v) (calls_behind before after)
       → ((e : Entry) → Has e written → Has e v.written)
       → IsPiece first v.written h (changes_to h (calls_behind before after)) written

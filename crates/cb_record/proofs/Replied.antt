@@ -8,7 +8,7 @@ use Rattle.cb_types.specs.declared.answer.Answer.{Answer}
 use Rattle.cb_types.specs.declared.reply.Reply.{Reply}
 use Rattle.cb_types.specs.declared.request.Request.{Request}
 use Rattle.cb_world.specs.declared.entry.Entry.{Entry}
-use Rattle.cb_world.specs.Memory.{byte_at, bytes_in, words_for}
+use Rattle.cb_world.specs.Memory.{bytes_in, memory_byte, words_for}
 use Rattle.cb_mutate.proofs.Laws.{bytes_length}
 use Rattle.cb_rule.specs.declared.view.Seen.{Seen}
 use Rattle.cb_rule.specs.declared.view.View.{View}
@@ -36,10 +36,11 @@ find_one P [] h = absurd h
 find_one P (x ∷ xs) h = ⊎_elim (λ (p : P x). (x, inl refl, p))
     (λ (q : HasOne P xs). let z = find_one P xs q in (z.0, inr z.1, z.2)) h
 
-byte_in : (words : List ℕ) (len k : ℕ) → k < len → get_or (bytes_in words len) k 0 ≡ byte_at words k
+byte_in : (words : List ℕ) (len k : ℕ) → k < len
+    → get_or (bytes_in words len) k 0 ≡ memory_byte words k
 unfolding bytes_in
 byte_in words len k below =
-    get_or-map-range_with_len (byte_at words) 0 len k k 0 below (omega arith)
+    get_or-map-range_with_len (memory_byte words) 0 len k k 0 below (omega arith)
 
 -- bytes are those of the words that hold them
 pub same_bytes : (xs ys : List ℕ) (len : ℕ)

@@ -6,7 +6,7 @@ use Rattle.cb_rule.specs.declared.view.View.{View}
 use Rattle.cb_model.specs.Called.{Called}
 use Rattle.cb_model.specs.Event.{Event, version_of}
 use Rattle.cb_model.specs.Event.Event.{Makes, Shows, Pins, Writes, Frees, FindsFull, FindsUnmade, FindsFreed, FindsEnd, Refused, Wrong}
-use Rattle.cb_model.specs.Legal.{IsNotBelow, MayFollow, NeverFalls, Rising}
+use Rattle.cb_model.specs.Legal.{IsNotBelow, MayComeLater, NeverFalls, Rising}
 use Rattle.cb_record.specs.Rises.{RiseTogether, HasAllOf, HasVersion, MayPrecede, IsBehind, IsKnownTo, RisesAlone, IsOnRecord, LaneCalls, MayFollowVersion}
 use Rattle.cb_record.proofs.Listing.{all_append, all_map}
 
@@ -33,7 +33,7 @@ not_below version false e may = may
 follows_known : (v : View) (h : ℕ) (earlier later : Event) → IsKnownTo v h earlier
     → ((version : ℕ) (freed : Bool) → HasVersion v h version freed
     → MayFollowVersion version freed later)
-    → MayFollow earlier later
+    → MayComeLater earlier later
 follows_known v h FindsFreed later known behind = behind known.0 true known.1
 follows_known v h (Makes bytes version) later known behind = λ n e.
     let k = known n e in not_below n k.0 later (behind n k.0 k.1)

@@ -9,19 +9,19 @@ use Rattle.cb_types.specs.declared.reply.Reply.TheVariants as answer
 use Rattle.cb_world.specs.declared.entry.Entry.{Entry}
 use Rattle.cb_rule.specs.declared.turn.Turn.{Turn}
 use Rattle.cb_rule.specs.declared.view.View.{View}
-use Rattle.cb_record.specs.Backs.{Backs, Tells, Wrote, happened_for, pins_for, turn_of}
+use Rattle.cb_record.specs.Backs.{Backs, Tells, WroteLines, happened_for, pins_for, turn_needed}
 use Rattle.cb_record.specs.Deeds.{Deed, deed, happened}
-use Rattle.cb_record.specs.Lists.{IsAmong, newest_first}
+use Rattle.cb_record.specs.Lists.{IsSublist, newest_first}
 use Rattle.cb_record.specs.Needs.{FindsEmpty, FindsPast, FindsPins, IsFreedAs, IsLastOf, IsOwnTurn, IsPinnedAs, IsReadAs, IsTurnFor, Meets, Need, peek_at}
 use Rattle.cb_record.specs.Needs.Need.{Nothing, ARead, APin, APeek, AFreed, APinned, AnEnd, AWorn, ATurn}
 use Rattle.cb_record.specs.Parts.{Part, grown, nothing_more, sum}
 use Rattle.cb_record.specs.Told.{Told, told, tolds}
 use Rattle.cb_record.proofs.Listing.{all_append, all_map, among_append, among_none, has_left, has_one_left, has_one_right, has_right, newest_append}
 
-wrote_sum : (ws xs : List Entry) (ts us : List Told) → Wrote ws ts → Wrote xs us
-    → Wrote (xs ++ ws) (ts ++ us)
-wrote_sum ws xs [] us a b = subst (λ (w : List Entry). Wrote (xs ++ w) us) (sym a)
-    (subst (λ (z : List Entry). Wrote z us) (sym (append-nil xs)) b)
+wrote_sum : (ws xs : List Entry) (ts us : List Told) → WroteLines ws ts → WroteLines xs us
+    → WroteLines (xs ++ ws) (ts ++ us)
+wrote_sum ws xs [] us a b = subst (λ (w : List Entry). WroteLines (xs ++ w) us) (sym a)
+    (subst (λ (z : List Entry). WroteLines z us) (sym (append-nil xs)) b)
 wrote_sum ws xs (t ∷ ts) us a b = (
   a.0,
   xs ++ a.1,
@@ -105,9 +105,10 @@ backs_sum d e ts us a b = record {
       (all_map (Tells d) (Tells (sum d e)) ts (λ t m. meets_earlier d e _ m) a.tells)
       (all_map (Tells e) (Tells (sum d e)) us (λ t m. meets_later d e _ m) b.tells);
   pins = let s = sum_by-append pins_for ts us in omega (arith, a.pins, b.pins);
-  turned = subst (λ (l : List Deed). IsAmong l (map deed (e.turns ++ d.turns)))
-      (sym (newest_append turn_of ts us))
-      (subst (λ (l : List Deed). IsAmong (newest_first turn_of us ++ newest_first turn_of ts) l)
+  turned = subst (λ (l : List Deed). IsSublist l (map deed (e.turns ++ d.turns)))
+      (sym (newest_append turn_needed ts us))
+      (subst (λ (l : List Deed). IsSublist
+      (newest_first turn_needed us ++ newest_first turn_needed ts) l)
       (sym (map-append deed e.turns d.turns))
       (among_append _ _ _ _ b.turned a.turned));
   happens = happens_sum d e ts us a.happens b.happens;

@@ -8,9 +8,9 @@ use Rattle.cb_world.specs.Memory.{bytes_in}
 use Rattle.cb_world.specs.Written.{entry, gone}
 use Rattle.cb_mutate.specs.WordsOf.{AreWordsOf}
 use Rattle.cb_rule.specs.declared.turn.Turn.{Turn}
-use Rattle.cb_record.specs.Backs.{Backs, Enters, happened_for, pins_for, turn_of}
+use Rattle.cb_record.specs.Backs.{Backs, Enters, happened_for, pins_for, turn_needed}
 use Rattle.cb_record.specs.Deeds.{Deed}
-use Rattle.cb_record.specs.Lists.IsAmong.{ended, beside, both}
+use Rattle.cb_record.specs.Lists.IsSublist.{ended, beside, both}
 use Rattle.cb_record.specs.Needs.{the_object}
 use Rattle.cb_record.specs.Parts.{Part, nothing_more}
 use Rattle.cb_record.specs.Told.{Told}
@@ -107,13 +107,13 @@ past_the_end e = let len : 0 ≡ e.0 = ap first_len e.5 in let room = e.4 in
 unmade_enters : Enters (record { handle = None; request = request.Write (97 ∷ []) 0 []; reply = answer.Unmade }) []
 unmade_enters = refl
 
-crash_turns : turn_of crash_line ≡ record {
+crash_turns : turn_needed crash_line ≡ record {
   job = job.Crash (record { n = 5 });
   reply = Some (answer.EpochAt (record { n = 9 }));
 } ∷ []
 crash_turns = refl
 
-read_turns : turn_of read_line ≡ []
+read_turns : turn_needed read_line ≡ []
 read_turns = refl
 
 read_pins : pins_for read_line ≡ 1

@@ -17,11 +17,11 @@ use Rattle.cb_world.specs.Now.{is_gone, now}
 use Rattle.cb_world.specs.Now.Now.{never, freed, held, gone}
 use Rattle.cb_world.specs.World.{IsKnown, WorldState, empty_world, word_at}
 use Rattle.cb_world.proofs.Laws.{empty_never, empty_shows, empty_sound, empty_world_sound, now_same}
-use Rattle.cb_model.specs.Now.{Now as Left}
+use Rattle.cb_model.specs.Now.{MapNow}
 use Rattle.cb_model.specs.declared.object.Object.TheVariants.{Held}
 use Rattle.cb_model.specs.Called.{calls_of, history}
 use Rattle.cb_model.specs.History.{left_by}
-use Rattle.cb_record.specs.Left.{HasLast, now_left}
+use Rattle.cb_record.specs.Left.{HasHistoryEnds, now_left}
 
 abbrev a : List ℕ
 a = 97 ∷ []
@@ -81,7 +81,7 @@ module _ (c : Config) (ok : IsAccepted c) where
       (empty_sound 1 c (lit≤ tt) (let n = (ok Nodes).1 in omega (arith, n))) known.shows known.sound
       ∙ empty_never 1 c h
 
-  empty_has : HasLast [] (empty_world c)
+  empty_has : HasHistoryEnds [] (empty_world c)
   empty_has = let sound = empty_world_sound c ok in record {
     shown = sound.shown;
     known = sound.known;
@@ -90,7 +90,7 @@ module _ (c : Config) (ok : IsAccepted c) where
   }
 
 -- object 3 alone has a history
-abbrev left_at : ℕ → Left
+abbrev left_at : ℕ → MapNow
 left_at h = left_by (history (calls_of two_writes) h)
 
 left_if : (h : ℕ) (b : Bool) → nat_eq h 3 ≡ b
@@ -101,7 +101,7 @@ left_if h false is = rw is refl
 -- a world with it and no other object, which is near
 has_two : (w : WorldState) (shown : Shown) → IsKnown w.desk w.far shown → is_gone w.far 3 ≡ false
     → now shown w.far 3 ≡ held 3 (1 ∷ 6 ∷ []) → ((h : ℕ) → h ≢ 3 → now shown w.far h ≡ never)
-    → HasLast two_writes w
+    → HasHistoryEnds two_writes w
 has_two w shown known whole it none = record {
   shown = shown;
   known = known;
@@ -126,7 +126,8 @@ has_two w shown known whole it none = record {
         ∙ subst (λ (k : ℕ). now shown w.far k ≡ gone v) (eqb-true h 3 at) is))
     far_by h v is false at = absurd (never_gone v (sym (none h (off h at)) ∙ is))
 
-module _ (w : WorldState) (has : HasLast two_writes w) (inside : 3 < length w.desk.words) where
+module _ (w : WorldState) (has : HasHistoryEnds two_writes w)
+    (inside : 3 < length w.desk.words) where
   is_left : (lost : Bool) → is_gone w.far 3 ≡ lost
       → now has.shown w.far 3 ≡ now_left lost (Some (Held 3 (1 ∷ 6 ∷ [])))
   is_left lost is =
@@ -173,7 +174,8 @@ module _ (w : WorldState) (has : HasLast two_writes w) (inside : 3 < length w.de
       let n = has.known.sized.words in omega (arith, n, few, inside)
 
 -- one that still holds what was freed, or that freed it at another version
-module _ (w : WorldState) (has : HasLast then_freed w) (inside : 3 < length w.desk.words) where
+module _ (w : WorldState) (has : HasHistoryEnds then_freed w)
+    (inside : 3 < length w.desk.words) where
   held_though_freed : (v : ℕ) (bytes : List ℕ) → now has.shown w.far 3 ≡ held v bytes → ⊥
   held_though_freed v bytes is = absurd (let e = sym is ∙ has.last 3 inside in cc)
 

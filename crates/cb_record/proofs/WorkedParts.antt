@@ -9,8 +9,8 @@ use Rattle.cb_world.specs.Written.{entry}
 use Rattle.cb_rule.specs.declared.turn.Turn.{Turn}
 use Rattle.cb_rule.specs.declared.view.View.{View}
 use Rattle.cb_record.specs.Deeds.{deed, happened, happening}
-use Rattle.cb_record.specs.Lists.{HasOne, IsAmong, newest_first}
-use Rattle.cb_record.specs.Lists.IsAmong.{ended, beside, both}
+use Rattle.cb_record.specs.Lists.{HasOne, IsSublist, newest_first}
+use Rattle.cb_record.specs.Lists.IsSublist.{ended, beside, both}
 use Rattle.cb_record.specs.Needs.{the_object}
 use Rattle.cb_record.specs.Parts.{Grows, Part, nothing_more, sum}
 use Rattle.cb_record.specs.Told.{told, tolds}
@@ -67,19 +67,19 @@ none_of_two = λ h. ⊎_elim (λ (e : 1 ≡ 3). omega (arith, e))
 last_first : newest_first (λ (n : ℕ). n ∷ (n + 10) ∷ []) (1 ∷ 2 ∷ []) ≡ 2 ∷ 12 ∷ 1 ∷ 11 ∷ []
 last_first = refl
 
-among : IsAmong {A = ℕ} (1 ∷ 3 ∷ []) (1 ∷ 2 ∷ 3 ∷ [])
+among : IsSublist {A = ℕ} (1 ∷ 3 ∷ []) (1 ∷ 2 ∷ 3 ∷ [])
 among = both 1 (3 ∷ []) (2 ∷ 3 ∷ []) (beside (3 ∷ []) 2 (3 ∷ []) (both 3 [] [] ended))
 
-pub among_length : {A : Type 0} (xs ys : List A) → IsAmong xs ys → length xs ≤ length ys
+pub among_length : {A : Type 0} (xs ys : List A) → IsSublist xs ys → length xs ≤ length ys
 among_length _ _ ended = omega arith
 among_length _ _ (beside xs y ys a) = let l = among_length xs ys a in omega (arith, l)
 among_length _ _ (both x xs ys a) = let l = among_length xs ys a in omega (arith, l)
 
 -- twice where it stands once, and in another order
-among_twice : IsAmong {A = ℕ} (1 ∷ 1 ∷ []) (1 ∷ []) → ⊥
+among_twice : IsSublist {A = ℕ} (1 ∷ 1 ∷ []) (1 ∷ []) → ⊥
 among_twice a = let l = among_length {A = ℕ} (1 ∷ 1 ∷ []) (1 ∷ []) a in omega (arith, l)
 
-among_turned : IsAmong (true ∷ false ∷ []) (false ∷ true ∷ []) → ⊥
+among_turned : IsSublist (true ∷ false ∷ []) (false ∷ true ∷ []) → ⊥
 among_turned (beside _ _ _ a) =
     let l = among_length (true ∷ false ∷ []) (true ∷ []) a in omega (arith, l)
 

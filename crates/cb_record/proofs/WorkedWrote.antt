@@ -6,7 +6,7 @@ use Rattle.cb_types.specs.declared.reply.Reply.TheVariants as answer
 use Rattle.cb_types.specs.declared.request.Request.TheVariants as request
 use Rattle.cb_world.specs.declared.entry.Entry.{Entry}
 use Rattle.cb_world.specs.Written.{entry}
-use Rattle.cb_record.specs.Backs.{EntersAt, Tells, Wrote, happened_at, turn_at}
+use Rattle.cb_record.specs.Backs.{EntersAt, Tells, WroteLines, happened_at, turn_at}
 use Rattle.cb_record.specs.Needs.{the_object}
 use Rattle.cb_record.specs.Parts.{nothing_more}
 use Rattle.cb_record.proofs.WorkedBacks.{make_enters, make_line, no_bytes, read_line, write_enters, written_at}
@@ -21,7 +21,7 @@ of_make = entry 3 1 0 [] []
 abbrev of_write : Entry
 of_write = entry 3 2 0 [] []
 
-both_wrote : Wrote (of_write ∷ of_make ∷ []) (make_line ∷ written_at 0 ∷ [])
+both_wrote : WroteLines (of_write ∷ of_make ∷ []) (make_line ∷ written_at 0 ∷ [])
 both_wrote = (
   of_make ∷ [],
   of_write ∷ [],
@@ -30,7 +30,7 @@ both_wrote = (
   (of_write ∷ [], [], refl, write_enters, refl),
 )
 
-none_wrote : Wrote [] []
+none_wrote : WroteLines [] []
 none_wrote = refl
 
 -- the oldest entry is the make's
@@ -44,20 +44,20 @@ oldest_last [] e = refl
 oldest_last (x ∷ []) e = refl
 oldest_last (x ∷ y ∷ es) e = oldest_last (y ∷ es) e
 
-in_another_order : Wrote (of_make ∷ of_write ∷ []) (make_line ∷ written_at 0 ∷ []) → ⊥
+in_another_order : WroteLines (of_make ∷ of_write ∷ []) (make_line ∷ written_at 0 ∷ []) → ⊥
 in_another_order w = let e : 2 ≡ 1 =
     ap oldest (w.2 ∙ ap (λ (own : List Entry). w.1 ++ own) w.3.2)
     ∙ oldest_last w.1 (entry 3 1 0 [] w.3.0) in omega (arith, e)
 
 -- an entry of no line
-by_no_line : Wrote (of_make ∷ []) (read_line ∷ []) → ⊥
+by_no_line : WroteLines (of_make ∷ []) (read_line ∷ []) → ⊥
 by_no_line w =
     let own : length w.0 ≡ 0 = ap (λ (es : List Entry). length es) w.3 in
     let rest : length w.1 ≡ 0 = ap (λ (es : List Entry). length es) w.4 in
     let all : 1 ≡ length (w.1 ++ w.0) = ap (λ (es : List Entry). length es) w.2 in
     omega (arith, own, rest, all, length-append w.1 w.0)
 
-left_unwritten : Wrote (of_write ∷ []) [] → ⊥
+left_unwritten : WroteLines (of_write ∷ []) [] → ⊥
 left_unwritten w = let e : 1 ≡ 0 = ap (λ (es : List Entry). length es) w in omega (arith, e)
 
 -- ---- what a line enters, with the handle of its name or without

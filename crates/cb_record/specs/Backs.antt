@@ -11,7 +11,7 @@ use Rattle.cb_types.specs.declared.request.Request.TheVariants.{Crash, Join}
 use Rattle.cb_world.specs.declared.entry.Entry.{Entry}
 use Rattle.cb_mutate.specs.JobWrites.{TurnWrites}
 use Rattle.cb_record.specs.Deeds.{Deed, deed, happened, happening}
-use Rattle.cb_record.specs.Lists.{IsAmong, newest_first}
+use Rattle.cb_record.specs.Lists.{IsSublist, newest_first}
 use Rattle.cb_record.specs.Needs.{Meets, need_of, the_object}
 use Rattle.cb_record.specs.Parts.{Part}
 use Rattle.cb_record.specs.Told.{Told}
@@ -27,10 +27,10 @@ abbrev pub Enters : Told → List Entry → Type 0
 Enters t es = EntersAt t.handle t.request t.reply es
 
 -- what is written is what the lines wrote, line by line, the newest first
-abbrev pub Wrote : List Entry → List Told → Type 0
-Wrote written [] = written ≡ []
-Wrote written (t ∷ later) = (own : List Entry) × (rest : List Entry)
-    × (written ≡ rest ++ own) × Enters t own × Wrote rest later
+abbrev pub WroteLines : List Entry → List Told → Type 0
+WroteLines written [] = written ≡ []
+WroteLines written (t ∷ later) = (own : List Entry) × (rest : List Entry)
+    × (written ≡ rest ++ own) × Enters t own × WroteLines rest later
 
 -- the turn of a line that is one turn
 abbrev pub turn_at : Option ℕ → Request → Reply → List Deed
@@ -42,8 +42,8 @@ turn_at h (Crash node) r = record { job = job.Crash node; reply = Some r } ∷ [
 turn_at h (Join node) r = record { job = job.Join node; reply = Some r } ∷ []
 turn_at h request r = []
 
-abbrev pub turn_of : Told → List Deed
-turn_of t = turn_at t.handle t.request t.reply
+abbrev pub turn_needed : Told → List Deed
+turn_needed t = turn_at t.handle t.request t.reply
 
 -- the pin that a line took, if it took one
 abbrev pub pins_at : Request → Reply → ℕ
@@ -71,12 +71,12 @@ Tells d t = Meets d (need_of t.handle t.request t.reply)
 -- A part of a record backs these answered lines.
 pub record Backs (d : Part) (ts : List Told) : Type 0 where
   -- the entries are those of the makes, writes and frees that were answered so, each once
-  pub wrote : Wrote d.written ts
+  pub wrote : WroteLines d.written ts
   -- what was read, pinned, peeked, found freed or pinned, and refused by a turn stands in it
   pub tells : AllByRecursion (Tells d) ts
   -- each read and each pin took one
   pub pins : sum_by pins_for ts ≤ d.ever
   -- the turns are those of the lines that are one turn, each once, and others
-  pub turned : IsAmong (newest_first turn_of ts) (map deed d.turns)
+  pub turned : IsSublist (newest_first turn_needed ts) (map deed d.turns)
   -- and no object was made, and no node crashed or joined, but by these lines
   pub happens : flat_map (λ turn. happened (deed turn)) d.turns ≡ newest_first happened_for ts

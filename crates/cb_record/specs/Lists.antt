@@ -13,7 +13,7 @@ newest_first f [] = []
 newest_first f (x ∷ xs) = newest_first f xs ++ f x
 
 -- the one list is the other, less some of its elements
-pub data IsAmong {A : Type 0} : List A → List A → Type 0 where
-  ended : IsAmong [] []
-  beside : (xs : List A) (y : A) (ys : List A) → IsAmong xs ys → IsAmong xs (y ∷ ys)
-  both : (x : A) (xs ys : List A) → IsAmong xs ys → IsAmong (x ∷ xs) (x ∷ ys)
+pub data IsSublist {A : Type 0} : List A → List A → Type 0 where
+  ended : IsSublist [] []
+  beside : (xs : List A) (y : A) (ys : List A) → IsSublist xs ys → IsSublist xs (y ∷ ys)
+  both : (x : A) (xs ys : List A) → IsSublist xs ys → IsSublist (x ∷ xs) (x ∷ ys)

@@ -33,7 +33,7 @@ pub record IsAckOf (incarnation applied : ℕ) (ack : Ack) : Type 0 where
   pub late : ack.incarnation ≤ incarnation
   pub count : ack.incarnation ≡ incarnation → ack.count ≤ applied
 
-pub record IsKept (size : ℕ) (s : Standing) : Type 0 where
+pub record IsWindowKept (size : ℕ) (s : Standing) : Type 0 where
   pub window_is : s.sender.window ≡ size
   pub same : s.sender.incarnation ≡ s.keeper.incarnation
   pub all : submitted s.sender ≡ length s.orders
@@ -44,7 +44,7 @@ pub record IsKept (size : ℕ) (s : Standing) : Type 0 where
   pub asks : AllByRecursion (IsAskOf s.keeper.incarnation s.orders) s.asks
   pub acks : AllByRecursion (IsAckOf s.keeper.incarnation s.keeper.count) s.acks
 
-pub kept_start : (window : ℕ) → IsKept window (start window)
+pub kept_start : (window : ℕ) → IsWindowKept window (start window)
 kept_start window = record {
   window_is = refl;
   same = refl;
@@ -70,10 +70,11 @@ more_orders incarnation orders others ask is = record {
   order = λ here. get_front orders others ask.number ask.order (is.order here);
 }
 
-kept_answer : (window : ℕ) (s : Standing) (order : Order) (answer : Submitted) → IsKept window s
-    → IsKept window (with_answer s order answer)
+kept_answer : (window : ℕ) (s : Standing) (order : Order) (answer : Submitted)
+    → IsWindowKept window s
+    → IsWindowKept window (with_answer s order answer)
 kept_answer window s order (Window waiting) kept =
-    let P : List Order → Type 0 = λ orders. IsKept window (record s { orders = orders }) in
+    let P : List Order → Type 0 = λ orders. IsWindowKept window (record s { orders = orders }) in
     subst P (sym (append-nil s.orders)) kept
 kept_answer window s order (Taken number) kept =
     let low : s.sender.acknowledged ≤ length s.orders = omega (arith, kept.heard, kept.taken) in
@@ -100,7 +101,7 @@ sent_asks s number None is = tt
 sent_asks s number (Some order) is =
     (record { late = omega arith; order = λ here. is order refl }, tt)
 
-kept_sent : (window : ℕ) (s : Standing) (number : ℕ) → IsKept window s
+kept_sent : (window : ℕ) (s : Standing) (number : ℕ) → IsWindowKept window s
     → AllByRecursion (IsAskOf s.sender.incarnation s.orders) (sent (ask_of s.sender number))
 kept_sent window s number kept =
     elim (ltb number s.sender.acknowledged)
@@ -114,8 +115,8 @@ kept_sent window s number kept =
           ∙ ap (λ orders. slice_get orders (number - s.sender.acknowledged)) (sym kept.waiting) ∙ is)
     ] refl
 
-kept_send : (window : ℕ) (s : Standing) (number : ℕ) → IsKept window s
-    → IsKept window (record s { asks = s.asks ++ sent (ask_of s.sender number) })
+kept_send : (window : ℕ) (s : Standing) (number : ℕ) → IsWindowKept window s
+    → IsWindowKept window (record s { asks = s.asks ++ sent (ask_of s.sender number) })
 kept_send window s number kept = record {
   window_is = kept.window_is;
   same = kept.same;
@@ -131,8 +132,9 @@ kept_send window s number kept = record {
 }
 
 -- an acknowledgement of what is applied now
-kept_told : (window : ℕ) (s : Standing) → IsKept window s
-    → IsKept window (record s { acks = s.acks ++ ack_of s.keeper.incarnation s.keeper.count ∷ [] })
+kept_told : (window : ℕ) (s : Standing) → IsWindowKept window s
+    → IsWindowKept window
+    (record s { acks = s.acks ++ ack_of s.keeper.incarnation s.keeper.count ∷ [] })
 kept_told window s kept = record {
   window_is = kept.window_is;
   same = kept.same;
@@ -163,8 +165,8 @@ with_applied s order = record s {
   };
 }
 
-kept_applied : (window : ℕ) (s : Standing) (order : Order) → IsKept window s
-    → slice_get s.orders s.keeper.count ≡ Some order → IsKept window (with_applied s order)
+kept_applied : (window : ℕ) (s : Standing) (order : Order) → IsWindowKept window s
+    → slice_get s.orders s.keeper.count ≡ Some order → IsWindowKept window (with_applied s order)
 kept_applied window s order kept is =
     let within = slice_get_within s.orders s.keeper.count order is in
     record {
@@ -219,29 +221,29 @@ comes k ask =
       | false ↦ λ other. tt
     ] refl
 
-kept_handled : (window : ℕ) (s : Standing) (ask : Ask) (answer : Handled) → IsKept window s
+kept_handled : (window : ℕ) (s : Standing) (ask : Ask) (answer : Handled) → IsWindowKept window s
     → IsAskOf s.keeper.incarnation s.orders ask → Comes s.keeper ask answer
-    → IsKept window (record s {
+    → IsWindowKept window (record s {
       keeper = after_handled s.keeper ask.order answer;
       acks = s.acks ++ acks_of answer;
     })
 kept_handled window s ask (Applied ack) kept is came =
     let order : slice_get s.orders s.keeper.count ≡ Some ask.order =
     ap (λ n. slice_get s.orders n) (sym came.1) ∙ is.order came.0 in
-    let P : Ack → Type 0 = λ told. IsKept window (record (with_applied s ask.order) { acks = s.acks ++ told ∷ [] }) in
+    let P : Ack → Type 0 = λ told. IsWindowKept window (record (with_applied s ask.order) { acks = s.acks ++ told ∷ [] }) in
     subst P (sym came.2) (kept_told window (with_applied s ask.order) (kept_applied window s ask.order kept order))
 kept_handled window s ask (Repeated ack) kept is came =
-    let P : Ack → Type 0 = λ told. IsKept window (record s { acks = s.acks ++ told ∷ [] }) in
+    let P : Ack → Type 0 = λ told. IsWindowKept window (record s { acks = s.acks ++ told ∷ [] }) in
     subst P (sym came) (kept_told window s kept)
 kept_handled window s ask (Ahead ack) kept is came =
-    let P : Ack → Type 0 = λ told. IsKept window (record s { acks = s.acks ++ told ∷ [] }) in
+    let P : Ack → Type 0 = λ told. IsWindowKept window (record s { acks = s.acks ++ told ∷ [] }) in
     subst P (sym came) (kept_told window s kept)
 kept_handled window s ask (Other incarnation) kept is came =
-    let P : List Ack → Type 0 = λ acks. IsKept window (record s { acks = acks }) in
+    let P : List Ack → Type 0 = λ acks. IsWindowKept window (record s { acks = acks }) in
     subst P (sym (append-nil s.acks)) kept
 
-kept_ask : (window : ℕ) (s : Standing) (packet : ℕ) (ask : Option Ask) → IsKept window s
-    → slice_get s.asks packet ≡ ask → IsKept window (behind_ask s ask)
+kept_ask : (window : ℕ) (s : Standing) (packet : ℕ) (ask : Option Ask) → IsWindowKept window s
+    → slice_get s.asks packet ≡ ask → IsWindowKept window (behind_ask s ask)
 kept_ask window s packet None kept is = kept
 kept_ask window s packet (Some ask) kept is =
     kept_handled window s ask (handles s.keeper ask) kept
@@ -282,9 +284,9 @@ tells s ack =
       | false ↦ λ other. tt
     ] refl
 
-kept_heard : (window : ℕ) (s : Standing) (ack : Ack) (answer : Heard) → IsKept window s
+kept_heard : (window : ℕ) (s : Standing) (ack : Ack) (answer : Heard) → IsWindowKept window s
     → IsAckOf s.keeper.incarnation s.keeper.count ack → Tells s.sender ack answer
-    → IsKept window (record s { sender = after_heard s.sender answer })
+    → IsWindowKept window (record s { sender = after_heard s.sender answer })
 kept_heard window s ack (Fresh count) kept is told =
     let applied = is.count (told.0 ∙ kept.same) in
     let behind : drop (count - s.sender.acknowledged) s.sender.waiting ≡ drop count s.orders =
@@ -305,8 +307,8 @@ kept_heard window s ack (Old count) kept is told = kept
 kept_heard window s ack (Beyond count) kept is told = kept
 kept_heard window s ack (OtherAck incarnation) kept is told = kept
 
-kept_ack : (window : ℕ) (s : Standing) (packet : ℕ) (ack : Option Ack) → IsKept window s
-    → slice_get s.acks packet ≡ ack → IsKept window (behind_ack s ack)
+kept_ack : (window : ℕ) (s : Standing) (packet : ℕ) (ack : Option Ack) → IsWindowKept window s
+    → slice_get s.acks packet ≡ ack → IsWindowKept window (behind_ack s ack)
 kept_ack window s packet None kept is = kept
 kept_ack window s packet (Some ack) kept is =
     kept_heard window s ack (hears s.sender ack) kept
@@ -328,7 +330,8 @@ past_ack incarnation count ack is = record {
   count = λ here. absurd (omega (arith, is.late, here));
 }
 
-kept_restart : (window : ℕ) (s : Standing) → IsKept window s → IsKept window (next s step.Restart)
+kept_restart : (window : ℕ) (s : Standing) → IsWindowKept window s
+    → IsWindowKept window (next s step.Restart)
 kept_restart window s kept = record {
   window_is = kept.window_is;
   same = refl;
@@ -343,8 +346,8 @@ kept_restart window s kept = record {
       (past_ack s.keeper.incarnation s.keeper.count) s.acks kept.acks;
 }
 
-pub kept_next : (window : ℕ) (s : Standing) (event : Step) → IsKept window s
-    → IsKept window (next s event)
+pub kept_next : (window : ℕ) (s : Standing) (event : Step) → IsWindowKept window s
+    → IsWindowKept window (next s event)
 kept_next window s (step.Submit order) kept = kept_answer window s order (answer_to_order s.sender) kept
 kept_next window s (step.Send number) kept = kept_send window s number kept
 kept_next window s (step.Ask packet) kept = kept_ask window s packet (slice_get s.asks packet) kept refl

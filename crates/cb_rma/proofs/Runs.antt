@@ -20,16 +20,16 @@ use Rattle.cb_rma.specs.Rows.{rows_after}
 use Rattle.cb_rma.specs.Sending.{SenderState, answer_to_order}
 use Rattle.cb_rma.specs.Keeping.{KeeperState, after_handled, handles}
 use Rattle.cb_rma.specs.Schedule.{Standing, start, reply, next, replies, behind, is_submit, taken, behind_ask, behind_ack}
-use Rattle.cb_rma.specs.Course.{standing_of, Moves, IsReady}
+use Rattle.cb_rma.specs.Course.{standing_of, CourseMoves, HasRoomForEvent}
 use Rattle.cb_rma.specs.Ends.{Ends}
-use Rattle.cb_rma.proofs.Kept.{IsKept, kept_start, kept_next}
+use Rattle.cb_rma.proofs.Kept.{IsWindowKept, kept_start, kept_next}
 
 -- The events before this place were run: this was said to them, and so things stand.
 pub record IsOnWay (window : ℕ) (events : List Step) (place : ℕ) (said : List Said) (s : Standing)
     : Type 0 where
   pub replies_are : said ++ replies s (drop place events) ≡ replies (start window) events
   pub behind_is : behind s (drop place events) ≡ behind (start window) events
-  pub kept : IsKept window s
+  pub kept : IsWindowKept window s
   pub few : length s.orders + count_by is_submit (drop place events) ≤ count_by is_submit events
   pub late : s.keeper.incarnation ≤ place
 
@@ -146,7 +146,7 @@ ends window events place said s ended way past said_is sender_is keeper_is =
 pub ready : (window : ℕ) (events : List Step) (place : ℕ) (said : List Said) (course : Course)
     (orders : List Order) → IsOnWay window events place said (standing_of course orders)
     → place < length events → length events < 2 ^ 64 → count_by is_submit events < 2 ^ 40
-    → IsReady course
+    → HasRoomForEvent course
 ready window events place said course orders way within long few = record {
   submitted = omega (arith, way.kept.all, way.few);
   count = omega (arith, way.kept.taken, way.few);
@@ -163,7 +163,8 @@ on_way_begun window events said s said_is is =
 pub on_way_moved : (window : ℕ) (events : List Step) (place : ℕ) (said all : List Said)
     (course behind : Course) (orders : List Order) (event : Step) (one : Said)
     → IsOnWay window events place said (standing_of course orders) → place < length events
-    → event ≡ get_or events place event → Moves course event one behind → all ≡ said ++ one ∷ []
+    → event ≡ get_or events place event → CourseMoves course event one behind
+    → all ≡ said ++ one ∷ []
     → IsOnWay window events (place + 1) all
     (standing_of behind (next (standing_of course orders) event).orders)
 on_way_moved window events place said all course behind orders event one way within is moves more =

@@ -18,14 +18,15 @@ standing_of course orders = record {
 }
 
 -- this is said to the event, and the course goes on behind it, whatever orders were taken
-pub record Moves (course : Course) (event : Step) (said : Said) (behind : Course) : Type 0 where
+pub record CourseMoves (course : Course) (event : Step) (said : Said) (behind : Course) : Type
+    0 where
   pub said_is : (orders : List Order) → said ≡ reply (standing_of course orders) event
   pub stands : (orders : List Order)
       → standing_of behind (next (standing_of course orders) event).orders
       ≡ next (standing_of course orders) event
 
 -- the numbers have room for one event more
-pub record IsReady (course : Course) : Type 0 where
+pub record HasRoomForEvent (course : Course) : Type 0 where
   pub submitted : submitted course.sender < 2 ^ 40
   pub count : course.keeper.count < 2 ^ 40
   pub incarnation : course.keeper.incarnation < 2 ^ 64 - 1

@@ -1,7 +1,7 @@
 ghost use Rattle.std.specs.Prelude.{◌≡◌, ◌∷◌, [], ◌++◌, ◌<◌, ◌^◌, ◌-◌, length, IfOk, OnOk};
 ghost use Rattle.cb_rma.specs.Sending.{submitted};
 ghost use Rattle.cb_rma.specs.Keeping.{acks_of};
-ghost use Rattle.cb_rma.specs.Course.{Moves, IsReady};
+ghost use Rattle.cb_rma.specs.Course.{CourseMoves, HasRoomForEvent};
 ghost use Rattle.cb_rma.specs.declared.step.Step.TheVariants as event;
 
 use crate::keeper::{Handled, Keeper};
@@ -25,8 +25,8 @@ pub(crate) struct Course {
 impl Course {
     /// Does what the event says. After want of memory the course is not gone on with.
     pub(crate) fn step(&mut self, event: &Step) -> Result<Said, NoMemory>
-        requires { IsReady self.old }
-        ensures { IfOk result (λ said. Moves self.old event.now said self.new) }
+        requires { HasRoomForEvent self.old }
+        ensures { IfOk result (λ said. CourseMoves self.old event.now said self.new) }
     {
         match event {
             Step::Submit { order } => self.submit(order),
@@ -40,14 +40,15 @@ impl Course {
 
     fn submit(&mut self, order: &Order) -> Result<Said, NoMemory>
         requires { submitted self.old.sender < 2 ^ 40 }
-        ensures { IfOk result (λ said. Moves self.old (event.Submit order.now) said self.new) }
+        ensures { IfOk result
+            (λ said. CourseMoves self.old (event.Submit order.now) said self.new) }
     {
         let answer = self.sender.submit(order)?;
         Ok(Said::Submitted(answer))
     }
 
     fn send(&mut self, number: u64) -> Result<Said, NoMemory>
-        ensures { IfOk result (λ said. Moves self.old (event.Send number) said self.new) }
+        ensures { IfOk result (λ said. CourseMoves self.old (event.Send number) said self.new) }
     {
         match self.sender.ask(self.alloc, number)? {
             Some(ask) => send_ask(&mut self.asks, ask),
@@ -57,7 +58,7 @@ impl Course {
 
     fn bring_ask(&mut self, packet: u64) -> Result<Said, NoMemory>
         requires { self.old.keeper.count < 2 ^ 40 }
-        ensures { IfOk result (λ said. Moves self.old (event.Ask packet) said self.new) }
+        ensures { IfOk result (λ said. CourseMoves self.old (event.Ask packet) said self.new) }
     {
         let Some(ask) = self.asks.get(packet as usize) else {
             return Ok(Said::NoPacket);
@@ -68,7 +69,7 @@ impl Course {
     }
 
     fn bring_ack(&mut self, packet: u64) -> Said
-        ensures { Moves self.old (event.Ack packet) result self.new }
+        ensures { CourseMoves self.old (event.Ack packet) result self.new }
     {
         match self.acks.get(packet as usize) {
             Some(ack) => Said::Heard(self.sender.heard(ack)),
@@ -78,7 +79,7 @@ impl Course {
 
     fn restart(&mut self) -> Said
         requires { self.old.keeper.incarnation < 2 ^ 64 - 1 }
-        ensures { Moves self.old event.Restart result self.new }
+        ensures { CourseMoves self.old event.Restart result self.new }
     {
         let n = self.keeper.incarnation() + 1;
         self.sender = Sender::new(self.alloc, n, self.sender.window());
@@ -87,7 +88,7 @@ impl Course {
     }
 
     fn show(&self, key: u64) -> Result<Said, NoMemory>
-        ensures { IfOk result (λ said. Moves self.now (event.Show key) said self.now) }
+        ensures { IfOk result (λ said. CourseMoves self.now (event.Show key) said self.now) }
     {
         match self.keeper.row(key) {
             Some(row) => {

@@ -7,7 +7,7 @@ use Rattle.cb_rma.specs.declared.step.Step.{Step}
 use Rattle.cb_rma_text.specs.First.{First, HasWindow, IsBadLine, IsNoEvent}
 use Rattle.cb_rma_text.specs.First.First.{NoHeader, AtLine}
 use Rattle.cb_rma_text.specs.Form.{IsInForm, IsWindow, Spells}
-use Rattle.cb_rma_text.specs.Reading.{AreTheEvents, FaultIs, HasBadLine, IsEventOf}
+use Rattle.cb_rma_text.specs.Reading.{AreTheEvents, FaultIs, HasBadLine, IsEventText}
 use Rattle.cb_rma_text.specs.Spelling.{step_line, window_line}
 use Rattle.cb_rma_text.specs.declared.read.Fault.{Fault}
 use Rattle.cb_rma_text.specs.declared.read.Fault.TheVariants.{Line, NoMemory}
@@ -32,7 +32,7 @@ module _ (text : List ℕ) (events : List Step) (rest : List ℕ) (front : Front
   next_text line behind cut = front.read ∙ ap (λ (texts : List (List ℕ)). map step_line events ++ texts) cut
 
   pub front_more : (line behind : List ℕ) (event : Step) → lines_of rest ≡ line ∷ lines_of behind
-      → length events < 20000 → IsEventOf line event → FrontIsRead text (events ++ event ∷ []) behind
+      → length events < 20000 → IsEventText line event → FrontIsRead text (events ++ event ∷ []) behind
   front_more line behind event cut few is = record {
     few = omega (arith, few, length_push events event);
     form = form_push events event front.form is.form;

@@ -9,8 +9,8 @@ use Rattle.cb_rma.specs.declared.step.Step.TheVariants.{Submit, Send, Ask, Ack, 
 use Rattle.cb_rma_text.specs.Spelling.{window_line, step_line}
 
 -- a number of at most nine digits
-abbrev pub IsSmall : ℕ → Type 0
-IsSmall n = n < 10 ^ 9
+abbrev pub IsOfNineDigits : ℕ → Type 0
+IsOfNineDigits n = n < 10 ^ 9
 
 -- 1 to 4,096 bytes
 pub record IsRow (row : List ℕ) : Type 0 where
@@ -25,18 +25,18 @@ pub record IsWindow (window : ℕ) : Type 0 where
 
 -- the order's numbers and bytes have their forms
 abbrev pub IsOrderInForm : Order → Type 0
-IsOrderInForm (Put key row) = IsSmall key × IsRow row
-IsOrderInForm (Add key c row) = IsSmall key × (c < 256) × IsRow row
-IsOrderInForm (Drop key) = IsSmall key
+IsOrderInForm (Put key row) = IsOfNineDigits key × IsRow row
+IsOrderInForm (Add key c row) = IsOfNineDigits key × (c < 256) × IsRow row
+IsOrderInForm (Drop key) = IsOfNineDigits key
 
 -- the event's numbers and bytes have their forms
 abbrev pub IsInForm : Step → Type 0
 IsInForm (Submit order) = IsOrderInForm order
-IsInForm (Send number) = IsSmall number
-IsInForm (Ask packet) = IsSmall packet
-IsInForm (Ack packet) = IsSmall packet
+IsInForm (Send number) = IsOfNineDigits number
+IsInForm (Ask packet) = IsOfNineDigits packet
+IsInForm (Ack packet) = IsOfNineDigits packet
 IsInForm Restart = Unit {0}
-IsInForm (Show key) = IsSmall key
+IsInForm (Show key) = IsOfNineDigits key
 
 -- The bytes spell the schedule, and they are no longer than they may be.
 pub record Spells (bytes : List ℕ) (window : ℕ) (events : List Step) : Type 0 where

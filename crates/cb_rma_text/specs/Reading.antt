@@ -15,14 +15,14 @@ pub record HasRowLength (text : List ℕ) : Type 0 where
   pub even : length text % 2 ≡ 0
 
 -- the event has this text
-pub record IsEventOf (text : List ℕ) (event : Step) : Type 0 where
+pub record IsEventText (text : List ℕ) (event : Step) : Type 0 where
   pub form : IsInForm event
   pub spelled : text ≡ step_line event
 
 -- an event of this text is added, or there is none
 abbrev pub IsPushed : List Step → List Step → List ℕ → Bool → Type 0
 IsPushed old new text true =
-    (event : Step) × IsEventOf text event × (new ≡ old ++ event ∷ [])
+    (event : Step) × IsEventText text event × (new ≡ old ++ event ∷ [])
 IsPushed old new text false = IsNoEvent text
 
 -- these texts are the events

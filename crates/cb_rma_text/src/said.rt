@@ -1,5 +1,5 @@
 ghost use Rattle.std.specs.Prelude.{◌≡◌, ◌∷◌, ◌++◌, [], IfOk, OnOk};
-ghost use Rattle.cb_rma_text.specs.Texts.{told, handled_line, heard_line, row_line, said_line, said_text, submitted_line, refusal_text};
+ghost use Rattle.cb_rma_text.specs.Texts.{word_then_number, handled_line, heard_line, row_line, said_line, said_text, submitted_line, refusal_text};
 
 use cb_rma::{Handled, Heard, Said, Submitted};
 use cb_text::word::{push_hexadecimal, push_number};
@@ -96,7 +96,7 @@ fn push_row(text: &mut Vec<u8>, row: &[u8]) -> Result<(), NoMemory>
 
 /// Adds a word and a number at the end, with a space between them.
 fn push_told(text: &mut Vec<u8>, word: &[u8], n: u64) -> Result<(), NoMemory>
-    ensures { OnOk result (text.new.items ≡ text.old.items ++ told word.now n) }
+    ensures { OnOk result (text.new.items ≡ text.old.items ++ word_then_number word.now n) }
 {
     push_text(text, word)?;
     push_number(text, n)

@@ -17,7 +17,7 @@ use Rattle.cb_world.specs.Written.{adds}
 use Rattle.cb_rule.specs.Own.{AreBound, MayWrite}
 use Rattle.cb_rule.specs.Ruled.{Beside, IsSteady, Ruled}
 use Rattle.cb_rule.specs.Slot.{Sat}
-use Rattle.cb_rule.specs.Steps.{AreNew, Does, TellsPins, act, claimed, handles_of, settled, stamped, stored}
+use Rattle.cb_rule.specs.Steps.{AreNew, HasEvent, TellsPins, act, claimed, handle_count, settled, stamped, stored}
 use Rattle.cb_rule.specs.Words.{base, pointer, stamp, stamps, words_at}
 use Rattle.cb_rule.proofs.Binding.{settles_within}
 use Rattle.cb_rule.proofs.Claiming.{claim_agrees, claim_steps}
@@ -45,7 +45,7 @@ module _ (beside : Beside) (steady : IsSteady beside) (first : ℕ) (c : Config)
             (subst (λ (k : Shown). AreBound c k s.views)
             (sym ((r.kept.seats id me.0 at).knows holds)) r.bound) h w l may) tt steps,
         λ h' e. let same : h ≡ h' = omega arith in
-            subst (λ (j : ℕ). Does me (Settled j w) (act (Settled h w) me.0, me.1)
+            subst (λ (j : ℕ). HasEvent me (Settled j w) (act (Settled h w) me.0, me.1)
             × AreNew (adds (Settled j w) me.0.known) me.0) same (
               (refl, tt),
               are_new c s.words s.views me.0.known r.history m r.shares first r.own id me.0
@@ -54,7 +54,7 @@ module _ (beside : Beside) (steady : IsSteady beside) (first : ℕ) (c : Config)
       )
 
   -- a memory word that it owns is stored
-  pub stores : (p y : ℕ) → p < 512 * c.frames → handles_of me ≡ c.handles → Owns me.0.known p
+  pub stores : (p y : ℕ) → p < 512 * c.frames → handle_count me ≡ c.handles → Owns me.0.known p
       → Allows (Ruled beside first c) slots id me (base c + p) (λ _. y)
       (λ _. stored (step slots (base c + p) y 0 none) me y)
   stores p y l sized own s r _ at _ =
@@ -65,11 +65,12 @@ module _ (beside : Beside) (steady : IsSteady beside) (first : ℕ) (c : Config)
         next beside steady first c s id me.0 at r (Stored p y) (base c + p) y holds live
             (omega arith) tt tt (store_steps c s.words s.views me.0 r.history m p y l own),
         λ p' e. let same : p ≡ p' = omega arith in
-            subst (λ (j : ℕ). Does me (Stored j y) (act (Stored p y) me.0, me.1)) same (refl, tt),
+            subst (λ (j : ℕ). HasEvent me (Stored j y) (act (Stored p y) me.0, me.1)) same
+            (refl, tt),
       )
 
   -- the version word of an object that it holds and may write is stored
-  pub stamps_version : (h y : ℕ) → h < c.handles → handles_of me ≡ c.handles
+  pub stamps_version : (h y : ℕ) → h < c.handles → handle_count me ≡ c.handles
       → IsHeld (object_at me.0.known h) → MayWrite h me.0.known me.0
       → Allows (Ruled beside first c) slots id me (stamps c + h) (λ _. y)
       (λ _. stamped (step slots (stamps c + h) y 0 none) me y)
@@ -81,7 +82,8 @@ module _ (beside : Beside) (steady : IsSteady beside) (first : ℕ) (c : Config)
         next beside steady first c s id me.0 at r (Stamped h y) (stamps c + h) y holds live
             (omega arith) tt may (stamp_steps c s.words s.views me.0 r.history m h y l held),
         λ h' e. let same : h ≡ h' = omega arith in
-            subst (λ (j : ℕ). Does me (Stamped j y) (act (Stamped h y) me.0, me.1)) same (refl, tt),
+            subst (λ (j : ℕ). HasEvent me (Stamped j y) (act (Stamped h y) me.0, me.1)) same
+            (refl, tt),
       )
 
   -- an object whose word is Here without pins is claimed, where its word is the one that was seen
@@ -115,8 +117,9 @@ module _ (beside : Beside) (steady : IsSteady beside) (first : ℕ) (c : Config)
           (λ _. (
             v,
             words,
-            subst (λ (j : ℕ). Does me (Claimed j x v words) (act ev me.0, me.1))
-                same (subst (λ (n : ℕ). Does me (Claimed h n v words) (act ev me.0, me.1)) (sym e)
+            subst (λ (j : ℕ). HasEvent me (Claimed j x v words) (act ev me.0, me.1))
+                same (subst (λ (n : ℕ). HasEvent me (Claimed h n v words) (act ev me.0, me.1))
+                (sym e)
                 (refl, agrees)),
           )),
           (λ ne. absurd (ne e)),
@@ -136,7 +139,7 @@ module _ (beside : Beside) (steady : IsSteady beside) (first : ℕ) (c : Config)
             (omega arith) tt tt (look_steps c s.words s.views me.0 r.history m h l)),
         λ h' q. let same : h ≡ h' = omega arith in (
           (λ e. absurd (ne e)),
-          (λ _. subst (λ (j : ℕ). Does me (Looked j x) (act (Looked h x) me.0, me.1)) same
+          (λ _. subst (λ (j : ℕ). HasEvent me (Looked j x) (act (Looked h x) me.0, me.1)) same
               (refl, look_agrees c s.words s.views me.0 r.history m h l)),
           subst (λ (j : ℕ). TellsPins j x me.0) same tells,
         ),

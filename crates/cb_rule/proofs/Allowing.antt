@@ -23,7 +23,7 @@ use Rattle.cb_rule.specs.Records.{LookOk}
 use Rattle.cb_rule.specs.Ruled.{Beside, IsSteady, Ruled}
 use Rattle.cb_rule.specs.Seats.{claims_it}
 use Rattle.cb_rule.specs.Slot.{Sat, Table}
-use Rattle.cb_rule.specs.Steps.{Finds, Knows, claimed_here, look_at, next_entry, put_back, settled_here, stamped_here, stored_here, with_claim, with_back, with_held, with_look, with_stamp, with_version, with_word}
+use Rattle.cb_rule.specs.Steps.{FindsVersion, Knows, claimed_here, look_at, next_entry, put_back, settled_here, stamped_here, stored_here, with_claim, with_back, with_held, with_look, with_stamp, with_version, with_claim_word}
 use Rattle.cb_rule.specs.Words.{base, pointer, stamps}
 use Rattle.cb_rule.proofs.Calm.{look_ok, still_rule}
 use Rattle.cb_rule.proofs.Claiming.{found_below, found_calm, found_here, found_shared}
@@ -85,7 +85,7 @@ module _ (beside : Beside) (steady : IsSteady beside) (first : ℕ) (c : Config)
   -- what was found of an object whose word is Here
   finds_it : (s : Table) (r : Ruled beside first c s) (at : get_elem? s.views id ≡ some me.0)
       (h w : ℕ) → h < c.handles → pointer s.words h ≡ w → state_of w ≡ word.Here
-      → Finds h w (top r.history h) (newest r.history h).words me.0
+      → FindsVersion h w (top r.history h) (newest r.history h).words me.0
   finds_it s r at h w l found here =
       let is_here = found_here c s.words s.views r.known r.history r.kept h w l found here in
       let k = found_shared c s.words s.views r.known r.history r.kept h w l found here in
@@ -135,7 +135,7 @@ module _ (beside : Beside) (steady : IsSteady beside) (first : ℕ) (c : Config)
             words,
             ap (λ (j : ℕ). let m : Sat = (with_claim j x v words me.0, me.1) in m)
                 same,
-            subst (λ (j : ℕ). Finds j x v words me.0) same
+            subst (λ (j : ℕ). FindsVersion j x v words me.0) same
                 (finds_it s r at h x l refl here'),
           )),
           λ ne. absurd (ne e),
@@ -170,13 +170,13 @@ module _ (beside : Beside) (steady : IsSteady beside) (first : ℕ) (c : Config)
     pub stores_here : (j y : ℕ) → j < words_for x.len
         → Allows (Ruled beside first c) slots id me (base c + x.place + j) (λ _. y)
         (λ _. stored_here (step slots (base c + x.place + j) y 0 none) me y)
-    stores_here j y lt s r _ at _ = let u : View = with_held x.handle (with_word j y) me.0 in (
+    stores_here j y lt s r _ at _ = let u : View = with_held x.handle (with_claim_word j y) me.0 in (
       u,
       keeps,
       tt,
       any_seat beside steady first c s id me.0 at r u (set s.words (base c + x.place + j) y)
           r.history refl live record { holds = refl; start = refl; took = refl; turns = refl }
-          (keeps_held x.handle (with_word j y) me.0 (λ z. refl))
+          (keeps_held x.handle (with_claim_word j y) me.0 (λ z. refl))
           (same_lock s.words (base c + x.place + j) y (omega arith))
           (own_store c s.words s.views r.known r.history r.kept id me.0 at x there j y lt),
       λ z i has lt' e. let k = r.kept in
@@ -200,7 +200,7 @@ module _ (beside : Beside) (steady : IsSteady beside) (first : ℕ) (c : Config)
           let same : x ≡ z = only_one s r at x z there has one in
           let place : x.place ≡ z.place = ap (λ (q : Held). q.place) same in
           let index : j ≡ i = omega (arith, p, place) in
-          (λ q. (with_held (one q) (with_word (index q) y) me.0, me.1)),
+          (λ q. (with_held (one q) (with_claim_word (index q) y) me.0, me.1)),
     )
 
     -- its version word is stored

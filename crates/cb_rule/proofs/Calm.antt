@@ -18,9 +18,9 @@ use Rattle.cb_rule.specs.declared.view.View.{View}
 use Rattle.cb_rule.specs.History.{Value, holding_words, newest, top}
 use Rattle.cb_rule.specs.Lists.{times, total, Each, Has}
 use Rattle.cb_rule.specs.Records.{LookOk, PinOk, HeldOk, RecordOk, SeatOk}
-use Rattle.cb_rule.specs.Rule.{StandsIn, Kept}
+use Rattle.cb_rule.specs.Rule.{StandsIn, RuleKept}
 use Rattle.cb_rule.specs.Seats.{claims_it, pins_on, claims_on, written_on, holding}
-use Rattle.cb_rule.specs.Stands.{IsCalm, IsTaken, Stands}
+use Rattle.cb_rule.specs.Stands.{IsCalm, IsClaimedBySeat, Stands}
 use Rattle.cb_rule.specs.Steps.{look_at}
 use Rattle.cb_rule.specs.Words.{stamps, base, pointer, stamp, words_at}
 use Rattle.cb_rule.proofs.Counts.{each_there, total-at, total-same}
@@ -40,7 +40,7 @@ pub record Quiet (c : Config) (known : Shown) (es : List Entry) (h : ℕ) (v w :
   pub lasting : RecordOk c known.first es w
 
 module _ (c : Config) (ws : List ℕ) (views : List View) (known : Shown) (es : List Entry)
-    (r : Kept c ws views known es) where
+    (r : RuleKept c ws views known es) where
   same_claims : (id : ℕ) (v w : View) → get_elem? views id ≡ some v → w.claims ≡ v.claims
       → (k : ℕ) → total (claims_on k) (set views id w) ≡ total (claims_on k) views
   same_claims id v w at e k = total-same (claims_on k) views id v w at
@@ -66,7 +66,7 @@ module _ (c : Config) (ws : List ℕ) (views : List View) (known : Shown) (es : 
 
   -- the words stay, and the pins of each object
   pub still_rule : (id h : ℕ) (v w : View) → get_elem? views id ≡ some v → Quiet c known es h v w
-      → pins_on h w ≡ pins_on h v → Kept c ws (set views id w) known es
+      → pins_on h w ≡ pins_on h v → RuleKept c ws (set views id w) known es
   still_rule id h v w at q mine = record {
     wide = r.wide;
     sized = r.sized;
@@ -143,7 +143,7 @@ module _ (c : Config) (ws : List ℕ) (views : List View) (known : Shown) (es : 
             packed = k.packed;
             low = k.low;
           })
-          (λ (m : IsTaken ws h (total (pins_on h) views) (total (claims_on h) views)).
+          (λ (m : IsClaimedBySeat ws h (total (pins_on h) views) (total (claims_on h) views)).
           absurd (⊎_elim
           (λ (s : state_of (pointer ws h) ≡ word.Here).
           let b = bits_here (pointer ws h) s in
@@ -152,7 +152,7 @@ module _ (c : Config) (ws : List ℕ) (views : List View) (known : Shown) (es : 
           why)) k.word
 
   -- the newest entry of an object that has contents, whose length its word tells
-  pub record HasContents (h : ℕ) : Type 0 where
+  pub record HasNewestEntry (h : ℕ) : Type 0 where
     pub entry : Entry
     pub there : Has entry es
     pub handle : entry.handle ≡ h
@@ -162,14 +162,14 @@ module _ (c : Config) (ws : List ℕ) (views : List View) (known : Shown) (es : 
     pub made : 0 < top es h
 
   -- an object has contents where its word is not Empty
-  pub contents : (h : ℕ) → h < c.handles → state_of (pointer ws h) ≢ word.Empty → HasContents h
+  pub contents : (h : ℕ) → h < c.handles → state_of (pointer ws h) ≢ word.Empty → HasNewestEntry h
   contents h l full = go (object_at known h) (r.stand h l) (r.fit h l)
     where
       w : ℕ
       w = pointer ws h
 
       entry_of : (len : ℕ) (value : Value) → known.first ≤ top es h → newest es h ≡ value
-          → value.freed ≡ false → value.len ≡ len → len_of w ≡ len → HasContents h
+          → value.freed ≡ false → value.len ≡ len → len_of w ≡ len → HasNewestEntry h
       entry_of len value born has kept long at =
           let made : 0 < top es h = (let b = r.begins in omega (arith, b, born)) in
           let n = newest_entry es h made in record {
@@ -185,7 +185,7 @@ module _ (c : Config) (ws : List ℕ) (views : List View) (known : Shown) (es : 
       go : (z : Object)
           → Stands c known.first ws h (total (pins_on h) views) (total (claims_on h) views)
           (top es h) (newest es h) (version_at known h) z
-          → Fits z w → HasContents h
+          → Fits z w → HasNewestEntry h
       go (is.Empty m) k f = absurd (full (ap state_of f))
       go (is.Far len m words) k f = entry_of len (holding_words len words)
           (let b = k.born in let a = k.kept.at in omega (arith, a, b)) k.kept.has refl refl f.1
@@ -234,7 +234,7 @@ module _ (c : Config) (ws : List ℕ) (views : List View) (known : Shown) (es : 
         → (hot_of (pointer ws h) ≡ true → hot_of x ≡ true)
         → (1 ≤ total (pins_on h) (set views id w) → hot_of x ≡ true)
         → pins_of x ≡ total (pins_on h) (set views id w)
-        → Kept c ws' (set views id w) known es
+        → RuleKept c ws' (set views id w) known es
     calm_rule id v w at q fits state hot warm count = let vs' : List View = set views id w in
         record {
           wide = length-set ws (1 + h) x ∙ r.wide;

@@ -20,11 +20,11 @@ use Rattle.cb_world.proofs.Laws.{length_put, put_at-windows as put_at, put_else,
 use Rattle.cb_rule.specs.declared.view.View.{View}
 use Rattle.cb_rule.specs.History.{Value, WasNow, holding_words, top, newest}
 use Rattle.cb_rule.specs.Lists.{total}
-use Rattle.cb_rule.specs.Rule.{Kept}
+use Rattle.cb_rule.specs.Rule.{RuleKept}
 use Rattle.cb_rule.specs.Seats.{pins_on, claims_on}
-use Rattle.cb_rule.specs.Stands.{IsCalm, IsTaken, IsShared, Stands}
+use Rattle.cb_rule.specs.Stands.{IsCalm, IsClaimedBySeat, IsShared, Stands}
 use Rattle.cb_rule.specs.Words.{stamps, base, pointer, stamp, words_at}
-use Rattle.cb_rule.proofs.Keeping.{Steps, lies_here, lt_or_le, words_else, stands_same, held_same}
+use Rattle.cb_rule.proofs.Keeping.{HolderSteps, lies_here, lt_or_le, words_else, stands_same, held_same}
 
 -- what is the newest one now
 is_now : (es : List Entry) (since h version : ℕ) (value : Value) → since ≤ length es
@@ -41,7 +41,7 @@ is_now es since h version value low at has = record {
 
 -- an object whose word is Here
 module _ (c : Config) (ws : List ℕ) (views : List View) (known : Shown) (es : List Entry)
-    (r : Kept c ws views known es) (h w : ℕ) (l : h < c.handles) (found : pointer ws h ≡ w)
+    (r : RuleKept c ws views known es) (h w : ℕ) (l : h < c.handles) (found : pointer ws h ≡ w)
     (here : state_of w ≡ word.Here) where
   abbrev Calm : Type 0
   Calm = IsCalm c ws h (total (pins_on h) views) (total (claims_on h) views) (top es h)
@@ -65,7 +65,7 @@ module _ (c : Config) (ws : List ℕ) (views : List View) (known : Shown) (es : 
 
   pub found_calm : Calm
   found_calm = ⊎_elim (λ (m : Calm). m)
-      (λ (m : IsTaken ws h (total (pins_on h) views) (total (claims_on h) views)).
+      (λ (m : IsClaimedBySeat ws h (total (pins_on h) views) (total (claims_on h) views)).
       absurd (let a = bits_here w here in
       let b = bits_moving w (ap state_of (sym found) ∙ m.state) in omega arith))
       found_shared.word
@@ -82,7 +82,7 @@ module _ (c : Config) (ws : List ℕ) (views : List View) (known : Shown) (es : 
       omega (arith, last, pos)
 
 module _ (c : Config) (ws : List ℕ) (views : List View) (v : View) (es : List Entry)
-    (r : Kept c ws views v.known es) (h w : ℕ) (l : h < c.handles) (found : pointer ws h ≡ w)
+    (r : RuleKept c ws views v.known es) (h w : ℕ) (l : h < c.handles) (found : pointer ws h ≡ w)
     (here : state_of w ≡ word.Here) (bare : pins_of w ≡ 0) (low : v.since ≤ length es) where
   abbrev claim_words : List ℕ
   claim_words = words_at c ws (place_of w) (len_of w)
@@ -157,7 +157,7 @@ module _ (c : Config) (ws : List ℕ) (views : List View) (v : View) (es : List 
       ap (λ (j : ℕ). total (claims_on j) views) e in
       let z = calm.no_claims in omega (arith, q, m, z)) busy
 
-  pub claim_steps : Steps c ws (set ws (1 + h) (w + 1)) views v
+  pub claim_steps : HolderSteps c ws (set ws (1 + h) (w + 1)) views v
       (Claimed h w (stamp c ws h) claim_words) es
   claim_steps =
       let s = v.known in let x = w + 1 in let ws' : List ℕ = set ws (1 + h) x in

@@ -24,7 +24,7 @@ use Rattle.cb_world.specs.Now.{Now, broken_home, is_gone, now, now_as}
 use Rattle.cb_world.specs.Now.Now.{held, gone}
 use Rattle.cb_world.specs.OpenWrites.{AreOpen, IsLeavingNow}
 use Rattle.cb_world.specs.Plain.{Shows, word_at}
-use Rattle.cb_world.specs.Seats.{SeatState, OpenWriteState, Holds, IsClaimAt, idle_seat, pins_on as pins_there}
+use Rattle.cb_world.specs.Seats.{SeatState, OpenWriteState, Holds, IsClaimAt, idle_seat, pins_among}
 use Rattle.cb_world.specs.Shown.{Fits, object_at, version_at}
 use Rattle.cb_world.specs.Sound.{Sound, IsLeaving}
 use Rattle.cb_world.specs.StillDesk.{bits_here, bits_moving, window_length}
@@ -36,9 +36,9 @@ use Rattle.cb_rule.specs.Closing.{desk_of}
 use Rattle.cb_rule.specs.History.{Value, holding_words, newest, top}
 use Rattle.cb_rule.specs.Lists.{total}
 use Rattle.cb_rule.specs.Locking.{Stood}
-use Rattle.cb_rule.specs.Rule.{Kept}
+use Rattle.cb_rule.specs.Rule.{RuleKept}
 use Rattle.cb_rule.specs.Seats.{claims_on, pins_on}
-use Rattle.cb_rule.specs.Stands.{IsCalm, IsTaken, Stands}
+use Rattle.cb_rule.specs.Stands.{IsCalm, IsClaimedBySeat, Stands}
 use Rattle.cb_rule.specs.Words.{base, pointer, stamps}
 use Rattle.cb_rule.proofs.Opening.{same_each}
 use Rattle.cb_rule.proofs.Promising.{pins_stand}
@@ -110,7 +110,7 @@ none_holds seat has = true≢false (sym has
     ∙ ap (λ (s : SeatState). s.holds) (same_each 64 idle_seat seat))
 
 module _ (c : Config) (ws : List ℕ) (views : List View) (known : Shown) (es : List Entry)
-    (r : Kept c ws views known es) (far : FarState) (stood : Stood c known far) where
+    (r : RuleKept c ws views known es) (far : FarState) (stood : Stood c known far) where
   abbrev t : Shown
   t = as_shown c ws known
 
@@ -199,7 +199,7 @@ module _ (c : Config) (ws : List ℕ) (views : List View) (known : Shown) (es : 
       go (is.Here len place) q k = ⊎_elim
           (λ (m : IsCalm c ws h (total (pins_on h) views) (total (claims_on h) views) (top es h)
           (newest es h) len place). here len place q k.held m)
-          (λ (m : IsTaken ws h (total (pins_on h) views) (total (claims_on h) views)).
+          (λ (m : IsClaimedBySeat ws h (total (pins_on h) views) (total (claims_on h) views)).
           absurd (let one = m.one_claim in omega (arith, one, unclaimed))) k.word
 
   -- where no view has a pin or a claim
@@ -214,7 +214,7 @@ module _ (c : Config) (ws : List ℕ) (views : List View) (known : Shown) (es : 
       count = length-replicate 64 idle_seat;
       few = idle_each (λ (seat : SeatState). length seat.pins ≤ 16) (omega arith);
       counted = λ h below. bare h (subst (λ (n : ℕ). h < n) wide below)
-          ∙ sym (sum_by-replicate (λ (seat : SeatState). pins_there h seat.pins) 64 idle_seat);
+          ∙ sym (sum_by-replicate (λ (seat : SeatState). pins_among h seat.pins) 64 idle_seat);
       known = idle_each (λ (seat : SeatState).
           All (λ (pin : Pin). pin.handle < length (desk_of c ws).words) seat.pins) (no_pin _);
       here = λ h below some. absurd (let n = bare h (subst (λ (n : ℕ). h < n) wide below) in
@@ -255,7 +255,7 @@ module _ (c : Config) (ws : List ℕ) (views : List View) (known : Shown) (es : 
             (λ (m : IsCalm c ws h (total (pins_on h) views) (total (claims_on h) views) (top es h)
             (newest es h) len place). let b = bits_moving (pointer ws h) moving in
             let g = bits_here (pointer ws h) m.state in omega (arith, b, g))
-            (λ (m : IsTaken ws h (total (pins_on h) views) (total (claims_on h) views)).
+            (λ (m : IsClaimedBySeat ws h (total (pins_on h) views) (total (claims_on h) views)).
             let one = m.one_claim in let none = unclaimed h in omega (arith, one, none)) k.word)
 
     ongoing : AreOpen (desk_of c ws) far (replicate 64 idle_seat)

@@ -16,11 +16,11 @@ use Rattle.cb_rule.specs.Lists.{times, total}
 use Rattle.cb_rule.specs.Locking.{Deeds, IsUnlocked, Locked}
 use Rattle.cb_rule.specs.OneHistory.{IsOneHistory}
 use Rattle.cb_rule.specs.Promised.{EntriesStand}
-use Rattle.cb_rule.specs.Rule.{Kept}
+use Rattle.cb_rule.specs.Rule.{RuleKept}
 use Rattle.cb_rule.specs.Ruled.{Ruled}
 use Rattle.cb_rule.specs.Seats.{claims_it, claims_on, holding, pins_it, pins_on}
 use Rattle.cb_rule.specs.ShownWorld.{ShowsWorld}
-use Rattle.cb_rule.specs.Slot.{Slot, Table}
+use Rattle.cb_rule.specs.Slot.{LockSlot, Table}
 use Rattle.cb_rule.specs.Steps.{blank}
 use Rattle.cb_rule.proofs.ClosedWorld.{closed_sound}
 use Rattle.cb_rule.proofs.ShownWorld.{world_shown}
@@ -38,7 +38,7 @@ pub record IsAtEnd (v : View) : Type 0 where
   pub no_lock : v.holds ≡ false
 
 -- The far state at home, and that the view closes the words with it.
-pub record Closes (deeds : Deeds) (first : ℕ) (c : Config) (s : Table) (v : View) : Type 0 where
+pub record ViewCloses (deeds : Deeds) (first : ℕ) (c : Config) (s : Table) (v : View) : Type 0 where
   pub far : FarState
   pub home : get_elem? s.homes 0 ≡ some (some (Some far))
   pub closed : IsClosed deeds first c v record {
@@ -50,7 +50,7 @@ pub record Closes (deeds : Deeds) (first : ℕ) (c : Config) (s : Table) (v : Vi
 module _ (deeds : Deeds) (first : ℕ) (c : Config) (accepted : IsAccepted c) (s : Table)
     (r : Ruled (Locked deeds) first c s) (id : ℕ) (v : View) (at : get_elem? s.views id ≡ some v)
     (end : IsAtEnd v) where
-  abbrev k : Kept c s.words s.views r.known r.history
+  abbrev k : RuleKept c s.words s.views r.known r.history
   k = r.kept
 
   abbrev es : List Entry
@@ -93,7 +93,7 @@ module _ (deeds : Deeds) (first : ℕ) (c : Config) (accepted : IsAccepted c) (s
         (λ e w. none e (wrote c s.views id v at spent e w));
   }
 
-  pub closing : Closes deeds first c s v
+  pub closing : ViewCloses deeds first c s v
   closing = record {
     far = far;
     home = free.home;
@@ -118,7 +118,7 @@ module _ (deeds : Deeds) (first : ℕ) (c : Config) (accepted : IsAccepted c) (s
 
 -- The far state stands in the first of these slots, and the view closes these words with it.
 pub record EndsIn (deeds : Deeds) (first : ℕ) (c : Config) (v : View) (ws : List ℕ)
-    (slots : List Slot) : Type 0 where
+    (slots : List LockSlot) : Type 0 where
   pub far : FarState
   pub there : get_elem? slots 0 ≡ some (Some far)
   pub closed : IsClosed deeds first c v record {
@@ -129,7 +129,7 @@ pub record EndsIn (deeds : Deeds) (first : ℕ) (c : Config) (v : View) (ws : Li
 
 -- so of the words and slots of a table that is closed with the seat of that view
 pub closes_table : (deeds : Deeds) (first : ℕ) (c : Config) → IsAccepted c → (id : ℕ) (v : View)
-    → IsAtEnd v → (ws : List ℕ) (slots : List Slot)
+    → IsAtEnd v → (ws : List ℕ) (slots : List LockSlot)
     → Final (Seen (Ruled (Locked deeds) first c) id v) ws slots
     → EndsIn deeds first c v ws slots
 closes_table deeds first c accepted id v end ws slots f =

@@ -13,7 +13,7 @@ use Rattle.cb_rule.specs.declared.view.View.{View}
 use Rattle.cb_rule.specs.History.{newest, top}
 use Rattle.cb_rule.specs.Lists.{times, total, Each}
 use Rattle.cb_rule.specs.Records.{HeldOk, PinOk, RecordOk, SeatOk}
-use Rattle.cb_rule.specs.Rule.{Kept}
+use Rattle.cb_rule.specs.Rule.{RuleKept}
 use Rattle.cb_rule.specs.Seats.{claims_it, claims_on, holding, pins_it, pins_on, written_on}
 use Rattle.cb_rule.specs.Stands.{Stands}
 use Rattle.cb_rule.specs.Words.{base, pointer, stamp, stamps, words_at}
@@ -30,9 +30,9 @@ pub record Flags (c : Config) (known : Shown) (es : List Entry) (v w : View) : T
   pub lasting : RecordOk c known.first es w
 
 module _ (c : Config) (ws : List ℕ) (views : List View) (known : Shown) (es : List Entry)
-    (r : Kept c ws views known es) where
+    (r : RuleKept c ws views known es) where
   -- the word of the lock changes
-  pub lock_word : (x : ℕ) → Kept c (set ws 0 x) views known es
+  pub lock_word : (x : ℕ) → RuleKept c (set ws 0 x) views known es
   lock_word x = record {
     wide = length-set ws 0 x ∙ r.wide;
     sized = r.sized;
@@ -76,7 +76,7 @@ module _ (c : Config) (ws : List ℕ) (views : List View) (known : Shown) (es : 
 
   -- the view of a seat changes, which takes the lock or gives it back
   pub flagged : (id : ℕ) (v w : View) → get_elem? views id ≡ some v → Flags c known es v w
-      → total holding (set views id w) ≤ 1 → Kept c ws (set views id w) known es
+      → total holding (set views id w) ≤ 1 → RuleKept c ws (set views id w) known es
   flagged id v w at f one = record {
     wide = r.wide;
     sized = r.sized;

@@ -22,10 +22,10 @@ use Rattle.cb_rule.specs.Locking.{Deeds, IsUnlocked, Locked, Stood, TurnStands, 
 use Rattle.cb_rule.specs.LockSteps.{HasGiven, IsFoundFreed, MayGive, gave, gave_lock, turn_of}
 use Rattle.cb_rule.specs.Records.{SeenOk}
 use Rattle.cb_rule.specs.Own.{AreOwn, Make, reads_it, traces, writes_it}
-use Rattle.cb_rule.specs.Rule.{Kept}
+use Rattle.cb_rule.specs.Rule.{RuleKept}
 use Rattle.cb_rule.specs.Ruled.{Ruled}
 use Rattle.cb_rule.specs.Seats.{holding}
-use Rattle.cb_rule.specs.Slot.{Sat, Slot, Table}
+use Rattle.cb_rule.specs.Slot.{LockSlot, Sat, Table}
 use Rattle.cb_rule.proofs.Counts.{each_append, each_map, hit, miss, times-append, total-at, total-set}
 use Rattle.cb_rule.proofs.Flagging.{flagged, lock_word}
 use Rattle.cb_rule.proofs.Glancing.{freed_at}
@@ -145,7 +145,7 @@ module _ (deeds : Deeds) (first : ℕ) (c : Config) (s : Table) (id : ℕ) (v : 
   wrote_all = let k = (r.kept.seats id v at).lasting in
       each_append (λ e. Has e r.history) v.fresh v.written k.fresh k.written
 
-  kept_given : (n : ℕ) → Kept c (set s.words 0 n) views r.known r.history
+  kept_given : (n : ℕ) → RuleKept c (set s.words 0 n) views r.known r.history
   kept_given n = let k = (r.kept.seats id v at).lasting in
       flagged c (set s.words 0 n) s.views r.known r.history
       (lock_word c s.words s.views r.known r.history r.kept n) id v w at record {
@@ -325,7 +325,7 @@ module _ (deeds : Deeds) (first : ℕ) (c : Config) (s : Table) (id : ℕ) (v : 
         may.adds;
   }
 
-  has_given : (hand : List (ℕ × Slot)) → HasGiven job reply far freed made (v, hand) (w, [])
+  has_given : (hand : List (ℕ × LockSlot)) → HasGiven job reply far freed made (v, hand) (w, [])
   has_given hand = let ok = r.kept in let same = (ok.seats id v at).same_config in record {
     entries = length r.history;
     given = refl;
@@ -340,11 +340,11 @@ module _ (deeds : Deeds) (first : ℕ) (c : Config) (s : Table) (id : ℕ) (v : 
   }
 
 -- the far state in hand is one
-one_in_hand : (d : FarState) (l : List (ℕ × Slot)) (f g : FarState) → l ≡ (0, Some f) ∷ []
+one_in_hand : (d : FarState) (l : List (ℕ × LockSlot)) (f g : FarState) → l ≡ (0, Some f) ∷ []
     → l ≡ (0, Some g) ∷ [] → f ≡ g
 one_in_hand d l f g a b = ap in_hand (sym a ∙ b)
   where
-    in_hand : List (ℕ × Slot) → FarState
+    in_hand : List (ℕ × LockSlot) → FarState
     in_hand [] = d
     in_hand ((n, Some x) ∷ xs) = x
     in_hand ((n, None) ∷ xs) = d
@@ -361,7 +361,7 @@ gives_lock deeds first c slots id me job reply far freed made n live carried may
       w,
       gives_slot,
       tt,
-      subst (λ (l : List (ℕ × Slot)). Ruled (Locked deeds) first c record {
+      subst (λ (l : List (ℕ × LockSlot)). Ruled (Locked deeds) first c record {
         words = set s.words 0 n;
         homes = put_back s.homes l;
         views = set s.views id w;
@@ -369,7 +369,7 @@ gives_lock deeds first c slots id me job reply far freed made n live carried may
           word),
       λ g there. subst (λ (f : FarState). HasGiven job reply f freed made me (w, rest me.1))
           (one_in_hand far me.1 far g carried there)
-          (subst (λ (l : List (ℕ × Slot)). HasGiven job reply far freed made me (w, rest l))
+          (subst (λ (l : List (ℕ × LockSlot)). HasGiven job reply far freed made me (w, rest l))
           (sym carried) (has_given deeds first c s id me.0 at r job reply far freed made may
           me.1)),
     )

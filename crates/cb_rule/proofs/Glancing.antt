@@ -22,12 +22,12 @@ use Rattle.cb_rule.specs.declared.view.View.{View}
 use Rattle.cb_rule.specs.History.{newest, top}
 use Rattle.cb_rule.specs.Lists.{total}
 use Rattle.cb_rule.specs.Records.{PinOk, HeldOk, SeenOk}
-use Rattle.cb_rule.specs.Rule.{Kept}
+use Rattle.cb_rule.specs.Rule.{RuleKept}
 use Rattle.cb_rule.specs.Ruled.{Beside, IsSteady, Ruled}
 use Rattle.cb_rule.specs.Seats.{pins_on, claims_on}
 use Rattle.cb_rule.specs.Slot.{Sat, Table}
 use Rattle.cb_rule.specs.Stands.{Stands}
-use Rattle.cb_rule.specs.Steps.{IsNewest, Knows, LoadsHeld, TellsHeld, TellsPin, TellsPins, dated, freed_seen, glanced, read_held, with_freed, with_look}
+use Rattle.cb_rule.specs.Steps.{IsNewest, Knows, LoadsHeld, TellsHeld, TellsPin, TellsPins, dated, freed_seen, glanced, read_held, with_freed_seen, with_look}
 use Rattle.cb_rule.specs.Words.{stamps, base, pointer}
 use Rattle.cb_rule.proofs.Calm.{lies, look_ok, still_rule}
 use Rattle.cb_rule.proofs.Counts.{each_map, each_there, total-at}
@@ -57,7 +57,7 @@ bits_empty : (w : ℕ) → state_of w ≡ word.Empty → w % 4 ≡ 0
 bits_empty w e = sym (state_number-state_of w) ∙ ap state_number e
 
 module _ (c : Config) (ws : List ℕ) (views : List View) (known : Shown) (es : List Entry)
-    (r : Kept c ws views known es) where
+    (r : RuleKept c ws views known es) where
   -- one that is known to be empty is freed
   pub freed_at : (h m : ℕ) → h < c.handles → 0 < top es h → object_at known h ≡ is.Empty m
       → SeenOk es (freed_seen h m)
@@ -106,18 +106,18 @@ module _ (beside : Beside) (steady : IsSteady beside) (first : ℕ) (c : Config)
       (glanced (step slots (1 + h) 0 0 none) me)
   glances live h l knows s r _ at _ = ⊎_elim
       (λ (e : state_of x ≡ word.Empty). (
-        with_freed h v x me.0,
+        with_freed_seen h v x me.0,
         keeps,
         tt,
         subst (λ (ws : List ℕ). Ruled beside first c record {
           words = ws;
           homes = s.homes;
-          views = set s.views id (with_freed h v x me.0);
+          views = set s.views id (with_freed_seen h v x me.0);
         }) (sym (same_words s.words (1 + h))) (found e),
         λ h' q. let same : h ≡ h' = omega (arith, q) in (
           (λ _. (
             v,
-            ap (λ (j : ℕ). let z : Sat = (with_freed j v x me.0, me.1) in z) same,
+            ap (λ (j : ℕ). let z : Sat = (with_freed_seen j v x me.0, me.1) in z) same,
             subst (λ (j : ℕ). IsNewest j v me.0) same above,
           )),
           (λ ne. absurd (ne e)),
@@ -141,7 +141,7 @@ module _ (beside : Beside) (steady : IsSteady beside) (first : ℕ) (c : Config)
         ),
       )) (empty_or (state_of x))
     where
-      k : Kept c s.words s.views r.known r.history
+      k : RuleKept c s.words s.views r.known r.history
       k = r.kept
 
       x : ℕ
@@ -159,13 +159,15 @@ module _ (beside : Beside) (steady : IsSteady beside) (first : ℕ) (c : Config)
       found : state_of x ≡ word.Empty → Ruled beside first c record {
         words = s.words;
         homes = s.homes;
-        views = set s.views id (with_freed h v x me.0);
+        views = set s.views id (with_freed_seen h v x me.0);
       }
       found e = let ok = k.seats id me.0 at in
-          any_seat beside steady first c s id me.0 at r (with_freed h v x me.0) s.words r.history
+          any_seat beside steady first c s id me.0 at r (with_freed_seen h v x me.0) s.words
+          r.history
           refl live record { holds = refl; start = refl; took = refl; turns = refl }
           (keeps_freed h me.0 (known_traces h me.0 knows) v x) refl
-          (still_rule c s.words s.views r.known r.history k id h me.0 (with_freed h v x me.0) at
+          (still_rule c s.words s.views r.known r.history k id h me.0 (with_freed_seen h v x me.0)
+          at
           record {
             same_config = refl;
             claims = refl;

@@ -2,7 +2,7 @@
 -- it.
 use Rattle.std.proofs.Common.{◌≡◌, ◌≢◌, ◌⊎◌, ℕ, ◌+◌, ◌-◌, ◌<◌, ◌≤◌, ◌&&◌, min, Bool, false, cond, eqb, List, [], ◌∷◌, sym, refl, ap, ◌∙◌, subst, inl, inr, ⊎_elim, arith, eq-eqb, ne_eqb, eqb-true, true≢false}
 use Rattle.cb_world.specs.declared.entry.Entry.{Entry}
-use Rattle.cb_rule.specs.History.{Value, IsMade, IsChanged, Follows, IsHistory, is_version, newest, no_value, top, value_of}
+use Rattle.cb_rule.specs.History.{Value, IsMadeEntry, IsChanged, Follows, IsEntryHistory, is_version, newest, no_value, top, value_of}
 use Rattle.cb_rule.specs.Lists.{times, Has}
 use Rattle.cb_rule.proofs.Counts.{by_case}
 
@@ -69,26 +69,26 @@ module _ (first : ℕ) (pos : 1 ≤ first) where
       → Follows first (top es e.handle) (newest es e.handle) e
       → (first ≤ e.version) × (top es e.handle < e.version)
   follows_above es e b f = ⊎_elim
-      (λ (m : IsMade first (top es e.handle) e).
+      (λ (m : IsMadeEntry first (top es e.handle) e).
       let z = m.never in let n = m.number in (omega arith, omega arith))
       (λ (m : IsChanged (top es e.handle) (newest es e.handle) e). let n = m.number in ⊎_elim
       (λ (none : (top es e.handle ≡ 0) × (newest es e.handle ≡ no_value)).
       absurd (true≢false (ap (λ (v : Value). v.freed) (sym none.1) ∙ m.there)))
       (λ (some : first ≤ top es e.handle). (omega arith, omega arith)) b) f
 
-  pub begun : (es : List Entry) (h : ℕ) → IsHistory first es → Begun first es h
+  pub begun : (es : List Entry) (h : ℕ) → IsEntryHistory first es → Begun first es h
   begun [] h k = inl (refl, refl)
   begun (e ∷ es) h k = by_case
       (λ b. ((cond b e.version (top es h) ≡ 0) × (cond b (value_of e) (newest es h) ≡ no_value))
       ⊎ (first ≤ cond b e.version (top es h))) (eqb e.handle h)
       (λ _. inr (follows_above es e (begun es e.handle k.1) k.0).0) (λ _. begun es h k.1)
 
-  pub above : (e : Entry) (es : List Entry) → IsHistory first (e ∷ es)
+  pub above : (e : Entry) (es : List Entry) → IsEntryHistory first (e ∷ es)
       → (first ≤ e.version) × (top es e.handle < e.version)
   above e es k = follows_above es e (begun es e.handle k.1) k.0
 
   -- versions only rise
-  pub rises : (e : Entry) (es : List Entry) (h : ℕ) → IsHistory first (e ∷ es)
+  pub rises : (e : Entry) (es : List Entry) (h : ℕ) → IsEntryHistory first (e ∷ es)
       → top es h ≤ top (e ∷ es) h
   rises e es h k = by_case (λ b. top es h ≤ cond b e.version (top es h)) (eqb e.handle h)
       (λ is. let same : top es e.handle ≡ top es h = ap (top es) (eqb-true e.handle h is) in
@@ -96,7 +96,7 @@ module _ (first : ℕ) (pos : 1 ≤ first) where
       (λ _. omega arith)
 
   -- an entry is not below the first version and not above its object's newest
-  pub entry_within : (e : Entry) (es : List Entry) → IsHistory first es → Has e es
+  pub entry_within : (e : Entry) (es : List Entry) → IsEntryHistory first es → Has e es
       → (first ≤ e.version) × (e.version ≤ top es e.handle)
   entry_within e [] k h = absurd h
   entry_within e (x ∷ es) k h = ⊎_elim
@@ -107,7 +107,7 @@ module _ (first : ℕ) (pos : 1 ≤ first) where
       (z.0, (let r = rises x es e.handle k in let a = z.1 in omega arith))) h
 
   -- a version is written once
-  pub same_entry : (e x : Entry) (es : List Entry) → IsHistory first es → Has e es → Has x es
+  pub same_entry : (e x : Entry) (es : List Entry) → IsEntryHistory first es → Has e es → Has x es
       → e.handle ≡ x.handle → e.version ≡ x.version → e ≡ x
   same_entry e x [] k h g eh ev = absurd h
   same_entry e x (y ∷ es) k h g eh ev = ⊎_elim
@@ -125,7 +125,7 @@ module _ (first : ℕ) (pos : 1 ≤ first) where
           omega (arith, low, high, same, v)
 
   -- the contents before it are those of the entry one version lower; the first has none
-  pub entry_before : (e : Entry) (es : List Entry) → IsHistory first es → Has e es
+  pub entry_before : (e : Entry) (es : List Entry) → IsEntryHistory first es → Has e es
       → ((e.version ≡ first) × (e.before ≡ []))
       ⊎ ((x : Entry) × Has x es × (x.handle ≡ e.handle) × (x.version + 1 ≡ e.version)
       × (x.after ≡ e.before) × (x.freed ≡ false) × (e.freed ≡ false → e.len ≡ x.len))
@@ -141,7 +141,7 @@ module _ (first : ℕ) (pos : 1 ≤ first) where
 
       head : Before y
       head = ⊎_elim
-          (λ (m : IsMade first (top es y.handle) y). inl (m.number, m.nothing))
+          (λ (m : IsMadeEntry first (top es y.handle) y). inl (m.number, m.nothing))
           (λ (m : IsChanged (top es y.handle) (newest es y.handle) y). ⊎_elim
           (λ (none : (top es y.handle ≡ 0) × (newest es y.handle ≡ no_value)).
           absurd (true≢false (ap (λ (v : Value). v.freed) (sym none.1) ∙ m.there)))
@@ -159,7 +159,7 @@ module _ (first : ℕ) (pos : 1 ≤ first) where
           (begun es y.handle k.1)) k.0
 
   -- each version from the first to the newest stands once
-  pub once : (es : List Entry) (h k : ℕ) → IsHistory first es
+  pub once : (es : List Entry) (h k : ℕ) → IsEntryHistory first es
       → times (is_version h k) es ≡ stands first k (top es h)
   once [] h k ok = omega arith
   once (e ∷ es) h k ok = by_case
@@ -181,7 +181,7 @@ module _ (first : ℕ) (pos : 1 ≤ first) where
       number : Follows first (top es h) (newest es h) e → Begun first es h
           → ((top es h ≡ 0) × (e.version ≡ first))
           ⊎ ((first ≤ top es h) × (e.version ≡ top es h + 1))
-      number f b = ⊎_elim (λ (m : IsMade first (top es h) e). inl (m.never, m.number))
+      number f b = ⊎_elim (λ (m : IsMadeEntry first (top es h) e). inl (m.never, m.number))
           (λ (m : IsChanged (top es h) (newest es h) e). ⊎_elim
           (λ (none : (top es h ≡ 0) × (newest es h ≡ no_value)).
           absurd (true≢false (ap (λ (v : Value). v.freed) (sym none.1) ∙ m.there)))

@@ -20,12 +20,12 @@ use Rattle.cb_world.proofs.Laws.{window_same, length_put}
 use Rattle.cb_rule.specs.declared.view.Held.{Held}
 use Rattle.cb_rule.specs.declared.view.Stand.{Stand}
 use Rattle.cb_rule.specs.declared.view.View.{View}
-use Rattle.cb_rule.specs.History.{Value, IsHistory, holding_words, is_version, newest, top}
+use Rattle.cb_rule.specs.History.{Value, IsEntryHistory, holding_words, is_version, newest, top}
 use Rattle.cb_rule.specs.Lists.{times, total, Each, Has}
 use Rattle.cb_rule.specs.Records.{PinOk, HeldOk, TellsOk, RecordOk, SeatOk}
-use Rattle.cb_rule.specs.Rule.{AreSized, Kept}
+use Rattle.cb_rule.specs.Rule.{AreSized, RuleKept}
 use Rattle.cb_rule.specs.Seats.{pins_on, claims_on, written_on, holding}
-use Rattle.cb_rule.specs.Stands.{IsCalm, IsTaken, IsKept, IsHolding, Stands}
+use Rattle.cb_rule.specs.Stands.{IsCalm, IsClaimedBySeat, IsKeptByHolder, IsHolding, Stands}
 use Rattle.cb_rule.specs.Steps.{act}
 use Rattle.cb_rule.specs.Words.{base, pointer, stamp, words_at}
 use Rattle.cb_rule.proofs.Counts.{total-set, total-at, total-two, total-same, times-append, each_append, each_there}
@@ -88,8 +88,8 @@ module _ (c : Config) (first : ℕ) (ws ws' : List ℕ) (h p q : ℕ) where
       (subst (λ (v : Value). Stands c first ws' h p q n v sv' o) (sym ev)
       (subst (λ (t : ℕ). Stands c first ws' h p q n value t o) (sym es) (go o f ok))))
     where
-      kept : (last : ℕ) (contents : Value) → IsKept c ws h p q n value sv last contents
-          → IsKept c ws' h p q n value sv last contents
+      kept : (last : ℕ) (contents : Value) → IsKeptByHolder c ws h p q n value sv last contents
+          → IsKeptByHolder c ws' h p q n value sv last contents
       kept last contents k = record {
         no_pins = k.no_pins;
         no_claims = k.no_claims;
@@ -128,7 +128,7 @@ module _ (c : Config) (first : ℕ) (ws ws' : List ℕ) (h p q : ℕ) where
               stamped = b ∙ m.stamped;
               words = g len place refl ∙ m.words;
             })
-            (λ (m : IsTaken ws h p q). inr record {
+            (λ (m : IsClaimedBySeat ws h p q). inr record {
               one_claim = m.one_claim;
               no_pins = m.no_pins;
               state = ap state_of a ∙ m.state;
@@ -174,7 +174,7 @@ seats_stay K vs me w mine others j u e = ⊎_elim
     (λ (t : (j ≢ me) × (get_elem? vs j ≡ some u)). others j u t.0 t.1) (at_set vs me j w u e)
 
 -- what a step of the holder has to show; the history has then what the event adds
-pub record Steps (c : Config) (ws ws' : List ℕ) (views : List View) (v : View) (e : Event)
+pub record HolderSteps (c : Config) (ws ws' : List ℕ) (views : List View) (v : View) (e : Event)
     (es : List Entry) : Type 0 where
   pub wide : length ws' ≡ length ws
   pub fit : (h : ℕ) → h < c.handles → Fits (object_at (after e v.known) h) (pointer ws' h)
@@ -198,7 +198,7 @@ pub record Steps (c : Config) (ws ws' : List ℕ) (views : List View) (v : View)
       × (object_at (after e v.known) k ≡ object_at v.known k)
   pub helds : (x : Held) → 0 < total (claims_on x.handle) views → HeldOk c ws v.known es x
       → HeldOk c ws' (after e v.known) (adds e v.known ++ es) x
-  pub follows : IsHistory v.known.first (adds e v.known ++ es)
+  pub follows : IsEntryHistory v.known.first (adds e v.known ++ es)
   pub within : Each (λ (x : Entry). x.handle < c.handles) (adds e v.known)
   pub tells : TellsOk v.known.first (adds e v.known ++ es) v.since
       (length (adds e v.known ++ es)) e
@@ -257,8 +257,8 @@ held_one vs id j v u ne at there mine one his =
     let b : holding u ≡ 1 = ap (λ (b : Bool). cond {A = ℕ} b 1 0) his in omega arith
 
 module _ (c : Config) (ws ws' : List ℕ) (views : List View) (id : ℕ) (v : View) (e : Event)
-    (es : List Entry) (r : Kept c ws views v.known es) (at : get_elem? views id
-    ≡ some v) (mine : v.holds ≡ true) (t : Steps c ws ws' views v e es) where
+    (es : List Entry) (r : RuleKept c ws views v.known es) (at : get_elem? views id
+    ≡ some v) (mine : v.holds ≡ true) (t : HolderSteps c ws ws' views v e es) where
   abbrev w : View
   w = act e v
 
@@ -314,7 +314,7 @@ module _ (c : Config) (ws ws' : List ℕ) (views : List View) (id : ℕ) (v : Vi
       front [] f = tt
       front (x ∷ xs) f = (f x (inl refl), front xs (λ y h. f y (inr h)))
 
-  pub keeps_rule : Kept c ws' (set views id w) s more
+  pub keeps_rule : RuleKept c ws' (set views id w) s more
   keeps_rule = record {
     wide = t.wide ∙ r.wide;
     sized = sized_after c e v.known r.sized;
@@ -349,7 +349,7 @@ module _ (c : Config) (ws ws' : List ℕ) (views : List View) (id : ℕ) (v : Vi
           knows = λ his. absurd (held_one views id j v u ne at there mine r.one his);
           lasting = kept_record u ok.lasting;
         });
-    history = subst (λ (n : ℕ). IsHistory n more) (sym (first_stays e v.known)) t.follows;
+    history = subst (λ (n : ℕ). IsEntryHistory n more) (sym (first_stays e v.known)) t.follows;
     within = each_append (λ (x : Entry). x.handle < c.handles)
         (adds e v.known) es t.within r.within;
     recorded = λ h k. let sum = total-set (written_on h k) views id v w at in

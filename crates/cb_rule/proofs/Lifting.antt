@@ -11,16 +11,16 @@ use Rattle.cb_world.specs.Played.{after}
 use Rattle.cb_world.specs.Written.{adds}
 use Rattle.cb_rule.specs.declared.view.View.{View}
 use Rattle.cb_rule.specs.Lists.{Each}
-use Rattle.cb_rule.specs.Rule.{Kept}
+use Rattle.cb_rule.specs.Rule.{RuleKept}
 use Rattle.cb_rule.specs.Own.{AreBound, AreOwn, MayWrite}
 use Rattle.cb_rule.specs.Ruled.{AreShares, Beside, IsAlike, IsSteady, Ruled}
 use Rattle.cb_rule.specs.Seats.{share_of}
 use Rattle.cb_rule.specs.Slot.{Table}
 use Rattle.cb_rule.specs.Steps.{act, blank}
 use Rattle.cb_rule.proofs.Counts.{total-same}
-use Rattle.cb_rule.proofs.Keeping.{Steps, first_stays, keeps_rule, seats_stay}
+use Rattle.cb_rule.proofs.Keeping.{HolderSteps, first_stays, keeps_rule, seats_stay}
 use Rattle.cb_rule.proofs.Binding.{Stamps, bound_acted, bound_stays}
-use Rattle.cb_rule.proofs.Owning.{Keeps, own_acted, own_kept}
+use Rattle.cb_rule.proofs.Owning.{KeepsOwned, own_acted, own_kept}
 
 -- a list with an element put where it is
 pub set_same : {A : Type 0} (vs : List A) (id : ℕ) (v : A) → get_elem? vs id ≡ some v
@@ -53,7 +53,7 @@ module _ (beside : Beside) (steady : IsSteady beside) (first : ℕ) (c : Config)
   pub any_step : (w : View) (ws : List ℕ) (es : List Entry) → w.share ≡ v.share → 1 ≤ v.share
       → IsAlike v w → AreOwn first (set s.views id w)
       → AreBound c r.known (set s.views id w) → get_or ws 0 0 ≡ get_or s.words 0 0
-      → Kept c ws (set s.views id w) r.known es
+      → RuleKept c ws (set s.views id w) r.known es
       → Ruled beside first c record { words = ws; homes = s.homes; views = set s.views id w }
   any_step w ws es share live alike own bound lock kept = record {
     known = r.known;
@@ -68,22 +68,22 @@ module _ (beside : Beside) (steady : IsSteady beside) (first : ℕ) (c : Config)
 
   -- one under which no object comes to it that is another's own
   pub any_seat : (w : View) (ws : List ℕ) (es : List Entry) → w.share ≡ v.share → 1 ≤ v.share
-      → IsAlike v w → Keeps v w → get_or ws 0 0 ≡ get_or s.words 0 0
-      → Kept c ws (set s.views id w) r.known es
+      → IsAlike v w → KeepsOwned v w → get_or ws 0 0 ≡ get_or s.words 0 0
+      → RuleKept c ws (set s.views id w) r.known es
       → Ruled beside first c record { words = ws; homes = s.homes; views = set s.views id w }
   any_seat w ws es share live alike keeps lock kept = any_step w ws es share live alike
       (own_kept first s.views id v at r.own w keeps)
       (bound_stays c r.known s.views id v w at keeps.holds keeps.more r.bound) lock kept
 
   -- what the holder knows is what the rule knows
-  pub mine : v.holds ≡ true → Kept c s.words s.views v.known r.history
-  mine holds = subst (λ (k : Shown). Kept c s.words s.views k r.history)
+  pub mine : v.holds ≡ true → RuleKept c s.words s.views v.known r.history
+  mine holds = subst (λ (k : Shown). RuleKept c s.words s.views k r.history)
       (sym ((r.kept.seats id v at).knows holds)) r.kept
 
   -- a step of the holder
   pub next : (e : Event) (i x : ℕ) → v.holds ≡ true → 1 ≤ v.share → 0 < i
       → Each (λ (y : Entry). MayWrite y.handle v.known v) (adds e v.known) → Stamps e v
-      → Steps c s.words (set s.words i x) s.views v e r.history
+      → HolderSteps c s.words (set s.words i x) s.views v e r.history
       → Ruled beside first c record {
         words = set s.words i x;
         homes = s.homes;
@@ -112,7 +112,7 @@ module _ (beside : Beside) (steady : IsSteady beside) (first : ℕ) (c : Config)
   -- a load of the holder
   pub next_load : (e : Event) (i : ℕ) → v.holds ≡ true → 1 ≤ v.share → 0 < i
       → Each (λ (y : Entry). MayWrite y.handle v.known v) (adds e v.known) → Stamps e v
-      → Steps c s.words s.words s.views v e r.history
+      → HolderSteps c s.words s.words s.views v e r.history
       → Ruled beside first c record {
         words = set s.words i (get_or s.words i 0);
         homes = s.homes;
@@ -120,5 +120,5 @@ module _ (beside : Beside) (steady : IsSteady beside) (first : ℕ) (c : Config)
       }
   next_load e i holds live pos within stamps t = next e i (get_or s.words i 0) holds live pos
       within stamps
-      (subst (λ (ws : List ℕ). Steps c s.words ws s.views v e r.history)
+      (subst (λ (ws : List ℕ). HolderSteps c s.words ws s.views v e r.history)
       (sym (same_words s.words i)) t)

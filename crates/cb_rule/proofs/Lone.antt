@@ -11,7 +11,7 @@ use Rattle.cb_rule.specs.declared.view.View.{View}
 use Rattle.cb_rule.specs.Lists.{total, Has}
 use Rattle.cb_rule.specs.Locking.{Deeds, turns_on}
 use Rattle.cb_rule.specs.OneHistory.{IsOneHistory, Made}
-use Rattle.cb_rule.specs.Promised.{EntriesStand, FoundBy, GoesOn, Is, IsLast, Wrote}
+use Rattle.cb_rule.specs.Promised.{EntriesStand, EntryGoesOn, FoundBy, Is, IsLast, Wrote}
 use Rattle.cb_rule.specs.Seats.{written_on}
 use Rattle.cb_rule.specs.Steps.{blank}
 use Rattle.cb_rule.specs.Told.{AreTold}
@@ -80,7 +80,7 @@ module _ (c : Config) (views : List View) (id : ℕ) (v : View) (at : get_elem? 
     goes_on = λ e w. goes e (r.goes_on e (unwrote e w));
   }
     where
-      goes : (e : Entry) → GoesOn first views e → GoesOn first (v ∷ []) e
+      goes : (e : Entry) → EntryGoesOn first views e → EntryGoesOn first (v ∷ []) e
       goes e (inl z) = inl z
       goes e (inr z) = inr (z.0, wrote z.0 z.1, z.2, z.3, z.4, z.5, z.6)
 

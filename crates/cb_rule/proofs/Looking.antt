@@ -14,21 +14,22 @@ use Rattle.cb_world.specs.Shown.{IsHeld, object_at, version_at}
 use Rattle.cb_rule.specs.declared.view.View.{View}
 use Rattle.cb_rule.specs.History.{newest, top}
 use Rattle.cb_rule.specs.Lists.{total}
-use Rattle.cb_rule.specs.Rule.{Kept}
+use Rattle.cb_rule.specs.Rule.{RuleKept}
 use Rattle.cb_rule.specs.Ruled.{Beside, IsSteady, Ruled}
 use Rattle.cb_rule.specs.Seats.{pins_on, claims_on}
 use Rattle.cb_rule.specs.Slot.{Sat}
 use Rattle.cb_rule.specs.Stands.{Stands}
-use Rattle.cb_rule.specs.Steps.{Does, TellsPins, act, handles_of, looked, told, loaded}
+use Rattle.cb_rule.specs.Steps.{HasEvent, TellsPins, act, handle_count, looked, told, loaded}
 use Rattle.cb_rule.specs.Words.{stamps, base, pointer, stamp}
 use Rattle.cb_rule.proofs.Calm.{look_ok}
-use Rattle.cb_rule.proofs.Keeping.{Steps, held_same}
+use Rattle.cb_rule.proofs.Keeping.{HolderSteps, held_same}
 use Rattle.cb_rule.proofs.Lifting.{mine, next_load}
 use Rattle.cb_rule.proofs.PinsTold.{tells_pins}
 
 module _ (c : Config) (ws : List ℕ) (views : List View) (v : View) (es : List Entry)
-    (r : Kept c ws views v.known es) where
-  pub look_steps : (h : ℕ) → h < c.handles → Steps c ws ws views v (Looked h (pointer ws h)) es
+    (r : RuleKept c ws views v.known es) where
+  pub look_steps : (h : ℕ) → h < c.handles
+      → HolderSteps c ws ws views v (Looked h (pointer ws h)) es
   look_steps h l = let s = v.known in let x : ℕ = pointer ws h in record {
     wide = refl;
     fit = r.fit;
@@ -54,7 +55,7 @@ module _ (c : Config) (ws : List ℕ) (views : List View) (v : View) (es : List 
   pub look_agrees : (h : ℕ) → h < c.handles → Agrees v.known (Looked h (pointer ws h))
   look_agrees h l = (r.fit h l, r.hot h l)
 
-  pub tell_steps : (h : ℕ) → Steps c ws ws views v (Told h (stamp c ws h)) es
+  pub tell_steps : (h : ℕ) → HolderSteps c ws ws views v (Told h (stamp c ws h)) es
   tell_steps h = record {
     wide = refl;
     fit = r.fit;
@@ -82,7 +83,7 @@ module _ (c : Config) (ws : List ℕ) (views : List View) (v : View) (es : List 
       go (is.Here len place) k held = absurd held
       go (is.Claimed len place m words) k held = k.kept.stamped
 
-  pub load_steps : (p : ℕ) → Steps c ws ws views v (Loaded p (get_or ws (base c + p) 0)) es
+  pub load_steps : (p : ℕ) → HolderSteps c ws ws views v (Loaded p (get_or ws (base c + p) 0)) es
   load_steps p = record {
     wide = refl;
     fit = r.fit;
@@ -116,14 +117,14 @@ module _ (beside : Beside) (steady : IsSteady beside) (first : ℕ) (c : Config)
             tt tt
             (look_steps c s.words s.views me.0 r.history m h l),
         λ h' e. let same : h ≡ h' = omega arith in
-            subst (λ (j : ℕ). Does me (Looked j x) (act (Looked h x) me.0, me.1)
+            subst (λ (j : ℕ). HasEvent me (Looked j x) (act (Looked h x) me.0, me.1)
             × TellsPins j x me.0) same (
               (refl, look_agrees c s.words s.views me.0 r.history m h l),
               tells_pins c s.words s.views me.0.known r.history m r.shares first r.own id h me.0 at l,
             ),
       )
 
-  pub tells : (h : ℕ) → h < c.handles → handles_of me ≡ c.handles
+  pub tells : (h : ℕ) → h < c.handles → handle_count me ≡ c.handles
       → Allows (Ruled beside first c) slots id me (stamps c + h) (λ n. n)
       (told (step slots (stamps c + h) 0 0 none) me)
   tells h l sized s r _ at _ =
@@ -135,11 +136,11 @@ module _ (beside : Beside) (steady : IsSteady beside) (first : ℕ) (c : Config)
         next_load beside steady first c s id me.0 at r (Told h x) (stamps c + h) holds live
             (omega arith) tt tt (tell_steps c s.words s.views me.0 r.history m h),
         λ h' e. let same : h ≡ h' = omega arith in
-            subst (λ (j : ℕ). Does me (Told j x) (act (Told h x) me.0, me.1)) same
+            subst (λ (j : ℕ). HasEvent me (Told j x) (act (Told h x) me.0, me.1)) same
             (refl, tell_agrees c s.words s.views me.0 r.history m h l),
       )
 
-  pub loads : (p : ℕ) → handles_of me ≡ c.handles
+  pub loads : (p : ℕ) → handle_count me ≡ c.handles
       → Allows (Ruled beside first c) slots id me (base c + p) (λ n. n)
       (loaded (step slots (base c + p) 0 0 none) me)
   loads p sized s r _ at _ =
@@ -151,6 +152,6 @@ module _ (beside : Beside) (steady : IsSteady beside) (first : ℕ) (c : Config)
         next_load beside steady first c s id me.0 at r (Loaded p x) (base c + p) holds live
             (omega arith) tt tt (load_steps c s.words s.views me.0 r.history m p),
         λ p' e. let same : p ≡ p' = omega arith in
-            subst (λ (j : ℕ). Does me (Loaded j x) (act (Loaded p x) me.0, me.1)) same
+            subst (λ (j : ℕ). HasEvent me (Loaded j x) (act (Loaded p x) me.0, me.1)) same
             (refl, load_agrees c s.words s.views me.0 r.history m p),
       )

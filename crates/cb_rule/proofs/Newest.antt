@@ -9,14 +9,14 @@ use Rattle.cb_world.specs.declared.entry.Entry.{Entry}
 use Rattle.cb_world.specs.declared.shown.Shown.{Shown}
 use Rattle.cb_rule.specs.declared.view.Seen.{Seen}
 use Rattle.cb_rule.specs.declared.view.View.{View}
-use Rattle.cb_rule.specs.History.{IsChanged, IsHistory, IsMade, is_version, newest, top}
+use Rattle.cb_rule.specs.History.{IsChanged, IsEntryHistory, IsMadeEntry, is_version, newest, top}
 use Rattle.cb_rule.specs.Lists.{times, total, Each, Has}
 use Rattle.cb_rule.specs.Own.{AreOwn, IsAlone}
 use Rattle.cb_rule.specs.Records.{SeenOk}
-use Rattle.cb_rule.specs.Rule.{Kept}
+use Rattle.cb_rule.specs.Rule.{RuleKept}
 use Rattle.cb_rule.specs.Ruled.{AreShares}
 use Rattle.cb_rule.specs.Seats.{share_of, written_on}
-use Rattle.cb_rule.specs.Steps.{AreNew, FollowsLast, IsNew, IsNewest, Knows, blank}
+use Rattle.cb_rule.specs.Steps.{AreNew, FollowsLast, IsNewVersion, IsNewest, Knows, blank}
 use Rattle.cb_rule.proofs.Counts.{each_append, each_map, times-append, total-two}
 use Rattle.cb_rule.proofs.Histories.{above, begun, entry_within, once, rises}
 use Rattle.cb_rule.proofs.Members.{each_has}
@@ -52,7 +52,7 @@ others_spent c views id j v u r at whole ne there =
     r.spent j u there (omega (arith, two, all, whole))
 
 module _ (c : Config) (ws : List ℕ) (views : List View) (known : Shown) (es : List Entry)
-    (r : Kept c ws views known es) where
+    (r : RuleKept c ws views known es) where
   below : (h : ℕ) (e : Entry) → Has e es → e.handle ≡ h → e.version ≤ top es h
   below h e there same = let z = (entry_within known.first r.begins e es r.history there).1 in
       let t : top es e.handle ≡ top es h = ap (top es) same in omega (arith, z, t)
@@ -73,7 +73,7 @@ module _ (c : Config) (ws : List ℕ) (views : List View) (known : Shown) (es : 
 
   -- a version above the newest one is new to each record
   is_new : (id : ℕ) (v : View) (h version : ℕ) → get_elem? views id ≡ some v
-      → top es h < version → IsNew h version v
+      → top es h < version → IsNewVersion h version v
   is_new id v h version at high = record {
     written = each_map (λ (e : Entry). e.handle ≡ h → e.version ≤ top es h)
         (λ (e : Entry). e.handle ≡ h → e.version < version) (v.fresh ++ v.written)
@@ -83,7 +83,7 @@ module _ (c : Config) (ws : List ℕ) (views : List View) (known : Shown) (es : 
         (λ s low same. let z = low same in omega (arith, z, high)) (seen_below id v h at);
   }
 
-  rises_by : (more : List Entry) (h : ℕ) → IsHistory known.first (more ++ es)
+  rises_by : (more : List Entry) (h : ℕ) → IsEntryHistory known.first (more ++ es)
       → top es h ≤ top (more ++ es) h
   rises_by [] h k = omega arith
   rises_by (e ∷ more) h k = let low = rises_by more h k.1 in
@@ -119,7 +119,7 @@ module _ (c : Config) (ws : List ℕ) (views : List View) (known : Shown) (es : 
       (λ (z : known.first ≤ top es h). z) (begun known.first r.begins es h r.history)
 
 module _ (c : Config) (ws : List ℕ) (views : List View) (known : Shown) (es : List Entry)
-    (r : Kept c ws views known es) (shares : AreShares c views) (first : ℕ)
+    (r : RuleKept c ws views known es) (shares : AreShares c views) (first : ℕ)
     (own : AreOwn first views) where
   -- what no other view has no other view wrote
   written_alone : (id : ℕ) (v : View) (h n : ℕ) → get_elem? views id ≡ some v → IsAlone h v
@@ -145,7 +145,8 @@ module _ (c : Config) (ws : List ℕ) (views : List View) (known : Shown) (es : 
 
   -- where the record alone has the object, its newest entry before one that comes next is there
   last_there : (id : ℕ) (v : View) (h n : ℕ) (more : List Entry) → get_elem? views id ≡ some v
-      → IsHistory known.first (more ++ es) → 0 < top es h → IsAlone h v → top (more ++ es) h ≡ n
+      → IsEntryHistory known.first (more ++ es) → 0 < top es h → IsAlone h v
+      → top (more ++ es) h ≡ n
       → 0 < times (is_version h n) (more ++ (v.fresh ++ v.written))
   last_there id v h n more at k pos alone is = let lone = written_alone id v h n at alone in
       let count = r.recorded h n in
@@ -159,12 +160,12 @@ module _ (c : Config) (ws : List ℕ) (views : List View) (known : Shown) (es : 
 
   -- and the one that comes next is one above it
   follows_last : (id : ℕ) (v : View) (e : Entry) (more : List Entry) → get_elem? views id ≡ some v
-      → IsHistory known.first (e ∷ (more ++ es)) → FollowsLast e more v
+      → IsEntryHistory known.first (e ∷ (more ++ es)) → FollowsLast e more v
   follows_last id v e more at k alone knows =
       let pos = known_made c ws views known es r id e.handle v at knows in
       let rise = rises_by c ws views known es r more e.handle k.1 in (
         top (more ++ es) e.handle,
-        ⊎_elim (λ (m : IsMade known.first (top (more ++ es) e.handle) e).
+        ⊎_elim (λ (m : IsMadeEntry known.first (top (more ++ es) e.handle) e).
             absurd (let n = m.never in omega (arith, pos, rise, n)))
             (λ (m : IsChanged (top (more ++ es) e.handle) (newest (more ++ es) e.handle) e).
             m.number) k.0,
@@ -173,7 +174,7 @@ module _ (c : Config) (ws : List ℕ) (views : List View) (known : Shown) (es : 
 
   -- entries that may come next are new to each record
   pub are_new : (id : ℕ) (v : View) (more : List Entry) → get_elem? views id ≡ some v
-      → IsHistory known.first (more ++ es) → AreNew more v
+      → IsEntryHistory known.first (more ++ es) → AreNew more v
   are_new id v [] at k = tt
   are_new id v (e ∷ more) at k = (
     is_new c ws views known es r id v e.handle e.version at

@@ -20,7 +20,7 @@ use Rattle.cb_rule.specs.History.{Value, WasNow, newest, no_value, top}
 use Rattle.cb_rule.specs.Lists.{total, Each}
 use Rattle.cb_rule.specs.Locking.{Deeds, Locked, Stood, TurnStands}
 use Rattle.cb_rule.specs.Records.{OldOk, SeatOk}
-use Rattle.cb_rule.specs.Rule.{Kept}
+use Rattle.cb_rule.specs.Rule.{RuleKept}
 use Rattle.cb_rule.specs.Ruled.{Ruled}
 use Rattle.cb_rule.specs.Seats.{pins_on, claims_on}
 use Rattle.cb_rule.specs.Slot.{Table}
@@ -95,7 +95,7 @@ module _ (first : ℕ) (pos : 1 ≤ first) (c : Config) (ws : List ℕ) (wide : 
   }
   one_seat (suc j) u e = absurd (some-ne-none u (sym e))
 
-  pub kept_opens : Kept c ws (opener c ∷ []) s []
+  pub kept_opens : RuleKept c ws (opener c ∷ []) s []
   kept_opens = record {
     wide = wide;
     sized = record {
@@ -178,7 +178,7 @@ module _ (first : ℕ) (pos : 1 ≤ first) (c : Config) (ws : List ℕ) (wide : 
 
 -- what is known now is what the newest entries say
 pub old_now : (c : Config) (ws : List ℕ) (views : List View) (known : Shown) (es : List Entry)
-    → Kept c ws views known es → (h : ℕ) → h < c.handles
+    → RuleKept c ws views known es → (h : ℕ) → h < c.handles
     → OldOk known.first es (length es) h (object_at known h)
 old_now c ws views known es r h l = go (object_at known h) (r.stand h l)
   where

@@ -13,12 +13,12 @@ use Rattle.cb_world.specs.Shown.{Fits, Owns, object_at, hot_at, version_at}
 use Rattle.cb_rule.specs.declared.view.Held.{Held}
 use Rattle.cb_rule.specs.declared.view.Stand.{Stand}
 use Rattle.cb_rule.specs.declared.view.View.{View}
-use Rattle.cb_rule.specs.History.{IsHistory, is_version, newest, top}
+use Rattle.cb_rule.specs.History.{IsEntryHistory, is_version, newest, top}
 use Rattle.cb_rule.specs.Lists.{times, total, Each}
 use Rattle.cb_rule.specs.Records.{PinOk, HeldOk, RecordOk, SeatOk}
-use Rattle.cb_rule.specs.Rule.{StandsIn, Kept}
+use Rattle.cb_rule.specs.Rule.{StandsIn, RuleKept}
 use Rattle.cb_rule.specs.Seats.{claims_it, claims_on, holding, pins_it, pins_on, written_on}
-use Rattle.cb_rule.specs.Stands.{IsCalm, IsShared, IsTaken, Stands}
+use Rattle.cb_rule.specs.Stands.{IsCalm, IsClaimedBySeat, IsShared, Stands}
 use Rattle.cb_rule.specs.Words.{base, pointer, stamp, words_at}
 use Rattle.cb_rule.proofs.Counts.{each_none, each_there, times-append, total-at, total-same, total-two, total-set, each_append}
 use Rattle.cb_rule.proofs.Growing.{record_more}
@@ -40,7 +40,7 @@ pub record Other (c : Config) (ws ws' : List ℕ) (views : List View) (id : ℕ)
   pub stand : StandsIn c ws' (set views id w) known (more ++ es) h
   pub others : (k : ℕ) → k ≢ h
       → (top (more ++ es) k ≡ top es k) × (newest (more ++ es) k ≡ newest es k)
-  pub follows : IsHistory known.first (more ++ es)
+  pub follows : IsEntryHistory known.first (more ++ es)
   pub within : Each (λ (x : Entry). x.handle < c.handles) more
   pub no_pins : total (pins_on h) views ≡ 0
   pub lone : (j : ℕ) (u : View) → j ≢ id → get_elem? views j ≡ some u → claims_on h u ≡ 0
@@ -55,7 +55,7 @@ pub record Other (c : Config) (ws ws' : List ℕ) (views : List View) (id : ℕ)
       → written_on a k w ≡ times (is_version a k) more + written_on a k v
 
 module _ (c : Config) (ws ws' : List ℕ) (views : List View) (id : ℕ) (v w : View)
-    (known : Shown) (es more : List Entry) (h : ℕ) (r : Kept c ws views known es)
+    (known : Shown) (es more : List Entry) (h : ℕ) (r : RuleKept c ws views known es)
     (at : get_elem? views id ≡ some v) (t : Other c ws ws' views id v w known es more h) where
   abbrev vs' : List View
   vs' = set views id w
@@ -84,7 +84,7 @@ module _ (c : Config) (ws ws' : List ℕ) (views : List View) (id : ℕ) (v w : 
       (t.others x.handle ne).1 (t.stamps x.handle o.below ne)
       (t.memory x.handle x.len x.place ne o.there) (t.pointers x.handle o.below ne) o
 
-  pub other_rule : Kept c ws' (set views id w) known (more ++ es)
+  pub other_rule : RuleKept c ws' (set views id w) known (more ++ es)
   other_rule = record {
     wide = t.wide ∙ r.wide;
     sized = r.sized;
@@ -150,14 +150,14 @@ module _ (c : Config) (ws ws' : List ℕ) (views : List View) (id : ℕ) (v w : 
 -- an object that a seat claims outside of a turn
 pub record Claimer (c : Config) (ws : List ℕ) (views : List View) (known : Shown)
     (es : List Entry) (id h : ℕ) (v : View) (len place : ℕ) : Type 0 where
-  pub taken : IsTaken ws h (total (pins_on h) views) (total (claims_on h) views)
+  pub taken : IsClaimedBySeat ws h (total (pins_on h) views) (total (claims_on h) views)
   pub shared : IsShared c known.first ws h (total (pins_on h) views)
       (total (claims_on h) views) (top es h) (newest es h) (version_at known h) len place
   pub own : claims_on h v ≡ 1
   pub lone : (j : ℕ) (u : View) → j ≢ id → get_elem? views j ≡ some u → claims_on h u ≡ 0
 
 pub claimer : (c : Config) (ws : List ℕ) (views : List View) (known : Shown) (es : List Entry)
-    (r : Kept c ws views known es) (id h : ℕ) (v : View) → get_elem? views id ≡ some v
+    (r : RuleKept c ws views known es) (id h : ℕ) (v : View) → get_elem? views id ≡ some v
     → h < c.handles → 0 < claims_on h v → (len place : ℕ)
     → object_at known h ≡ is.Here len place → Claimer c ws views known es id h v len place
 claimer c ws views known es r id h v at l mine len place here =
@@ -165,10 +165,11 @@ claimer c ws views known es r id h v at l mine len place here =
     (total (claims_on h) views) (top es h) (newest es h) (version_at known h)) here
     (r.stand h l) in
     let le = total-at (claims_on h) views id v at in
-    let t : IsTaken ws h (total (pins_on h) views) (total (claims_on h) views) = ⊎_elim
+    let t : IsClaimedBySeat ws h (total (pins_on h) views) (total (claims_on h) views) = ⊎_elim
     (λ (m : IsCalm c ws h (total (pins_on h) views) (total (claims_on h) views) (top es h)
     (newest es h) len place). absurd (let z = m.no_claims in omega arith))
-    (λ (m : IsTaken ws h (total (pins_on h) views) (total (claims_on h) views)). m) k.word in
+    (λ (m : IsClaimedBySeat ws h (total (pins_on h) views) (total (claims_on h) views)). m)
+    k.word in
     record {
       taken = t;
       shared = k;

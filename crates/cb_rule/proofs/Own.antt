@@ -21,13 +21,13 @@ use Rattle.cb_world.proofs.Laws.{packed_write, window_same}
 use Rattle.cb_rule.specs.declared.view.Held.{Held}
 use Rattle.cb_rule.specs.declared.view.Look.{Look}
 use Rattle.cb_rule.specs.declared.view.View.{View}
-use Rattle.cb_rule.specs.History.{Value, holding_words, newest, top, value_of, IsHistory, is_version}
+use Rattle.cb_rule.specs.History.{Value, holding_words, newest, top, value_of, IsEntryHistory, is_version}
 use Rattle.cb_rule.specs.Lists.{times, total, Each, Has, removed}
 use Rattle.cb_rule.specs.Records.{HeldOk, LookOk, RecordOk, SeenOk}
-use Rattle.cb_rule.specs.Rule.{StandsIn, Kept}
+use Rattle.cb_rule.specs.Rule.{StandsIn, RuleKept}
 use Rattle.cb_rule.specs.Seats.{claims_it, claims_on, pins_on, written_on, pins_it}
 use Rattle.cb_rule.specs.Stands.{Stands}
-use Rattle.cb_rule.specs.Steps.{look_at, next_entry, with_claim, with_held, with_back, with_stamp, with_version, with_word, version_seen}
+use Rattle.cb_rule.specs.Steps.{look_at, next_entry, with_claim, with_held, with_back, with_stamp, with_version, with_claim_word, version_seen}
 use Rattle.cb_rule.specs.Words.{stamps, base, pointer, stamp, words_at}
 use Rattle.cb_rule.proofs.Calm.{look_ok}
 use Rattle.cb_rule.proofs.Claiming.{found_below, found_calm, found_here, found_shared}
@@ -83,11 +83,11 @@ record_held c first es v claims looks l o = record {
 }
 
 module _ (c : Config) (ws : List ℕ) (views : List View) (known : Shown) (es : List Entry)
-    (r : Kept c ws views known es) (id : ℕ) (v : View) (at : get_elem? views id ≡ some v) where
+    (r : RuleKept c ws views known es) (id : ℕ) (v : View) (at : get_elem? views id ≡ some v) where
   -- the claim: the word was Here without pins
   pub own_claim : (h w : ℕ) → h < c.handles → pointer ws h ≡ w → state_of w ≡ word.Here
       → pins_of w ≡ 0
-      → Kept c (set ws (1 + h) (w + 1))
+      → RuleKept c (set ws (1 + h) (w + 1))
       (set views id (with_claim h w (top es h) (newest es h).words v)) known es
   own_claim h w l found here bare =
       let x : ℕ = w + 1 in let ws' : List ℕ = set ws (1 + h) x in
@@ -213,12 +213,12 @@ module _ (c : Config) (ws : List ℕ) (views : List View) (known : Shown) (es : 
 
     -- a store at one of its own words: no other object has them, and the holder does not own them
     pub own_store : (j y : ℕ) → j < words_for x.len
-        → Kept c (set ws (base c + x.place + j) y)
-        (set views id (with_held x.handle (with_word j y) v)) known es
+        → RuleKept c (set ws (base c + x.place + j) y)
+        (set views id (with_held x.handle (with_claim_word j y) v)) known es
     own_store j y lt =
         let h = x.handle in let p : ℕ = x.place + j in let i : ℕ = base c + x.place + j in
         let ws' : List ℕ = set ws i y in
-        let u : View = with_held h (with_word j y) v in
+        let u : View = with_held h (with_claim_word j y) v in
         let k = own_alone in let o = own_ok in
         let cov : Covers x.place x.len p = (
           (let a : x.place ≤ x.place + j = omega arith in a),
@@ -237,7 +237,7 @@ module _ (c : Config) (ws : List ℕ) (views : List View) (known : Shown) (es : 
         (outside a n p (λ c'. r.apart h x.len x.place q n a p here
         (lies_here known q n a is_there) (λ e. ne (sym e)) cov c'))) in
         let same_claims : (q : ℕ) → claims_on q u ≡ claims_on q v =
-        λ q. times-edited (claims_it h) (claims_it q) (with_word j y) v.claims (λ z. refl) in
+        λ q. times-edited (claims_it h) (claims_it q) (with_claim_word j y) v.claims (λ z. refl) in
         let own_words : words_at c ws' x.place x.len ≡ set (words_at c ws x.place x.len) j y =
         window_set ws j y (base c + x.place) (words_for x.len) lt
         (let z = r.wide in omega arith) in
@@ -262,7 +262,7 @@ module _ (c : Config) (ws : List ℕ) (views : List View) (known : Shown) (es : 
           pins = refl;
           claims = λ q ne. same_claims q;
           held = each_edited (HeldOk c ws known es) (HeldOk c ws' known es) (claims_it h)
-              (with_word j y) v.claims (let z = k.own in omega arith)
+              (with_claim_word j y) v.claims (let z = k.own in omega arith)
               (λ z is a. let e = eqb-true z.handle h is in
               let he = sym a.there ∙ ap (object_at known) e ∙ o.there in
               let pe : z.place ≡ x.place = ap place_in he in
@@ -291,7 +291,7 @@ module _ (c : Config) (ws : List ℕ) (views : List View) (known : Shown) (es : 
 
     -- a store of its version word
     pub own_stamp : (y : ℕ) → x.version ≤ y
-        → Kept c (set ws (stamps c + x.handle) y)
+        → RuleKept c (set ws (stamps c + x.handle) y)
         (set views id (with_held x.handle (with_stamp y) v)) known es
     own_stamp y low =
         let h = x.handle in let i : ℕ = stamps c + h in let ws' : List ℕ = set ws i y in
@@ -368,7 +368,7 @@ module _ (c : Config) (ws : List ℕ) (views : List View) (known : Shown) (es : 
         pub packed : IsPacked x.len x.memory
         pub others : (k : ℕ) → k ≢ x.handle
             → (top (more ++ es) k ≡ top es k) × (newest (more ++ es) k ≡ newest es k)
-        pub follows : IsHistory known.first (more ++ es)
+        pub follows : IsEntryHistory known.first (more ++ es)
         pub within : Each (λ (e : Entry). e.handle < c.handles) more
         pub same_config : u.config ≡ v.config
         pub pins : u.pins ≡ v.pins
@@ -380,7 +380,7 @@ module _ (c : Config) (ws : List ℕ) (views : List View) (known : Shown) (es : 
             ≡ times (is_version a k) more
             + written_on a k v
 
-      pub own_leaves : Leaves → Kept c ws' (set views id u) known (more ++ es)
+      pub own_leaves : Leaves → RuleKept c ws' (set views id u) known (more ++ es)
       own_leaves t =
           let h = x.handle in
           let k = own_alone in let o = own_ok in let l = o.below in
@@ -461,7 +461,7 @@ module _ (c : Config) (ws : List ℕ) (views : List View) (known : Shown) (es : 
         → IsWrite x.old at' bytes x.memory → at' + length bytes ≤ x.len
         → state_of n ≡ word.Here → pins_of n ≡ 0 → hot_of n ≡ true
         → Fits (is.Here x.len x.place) n
-        → Kept c (set ws (1 + x.handle) n) (set views id (with_version x v)) known
+        → RuleKept c (set ws (1 + x.handle) n) (set views id (with_version x v)) known
         (next_entry x ∷ es)
     own_settle n at' bytes up write inside here bare hot fits =
         let o = own_ok in let k = own_alone in let e : Entry = next_entry x in
@@ -515,7 +515,7 @@ module _ (c : Config) (ws : List ℕ) (views : List View) (known : Shown) (es : 
 
     -- put back as it was, with nothing stored
     pub own_put_back : x.stamp ≡ x.version → x.memory ≡ x.old
-        → Kept c (set ws (1 + x.handle) x.word) (set views id (with_back x v)) known es
+        → RuleKept c (set ws (1 + x.handle) x.word) (set views id (with_back x v)) known es
     own_put_back same_stamp same_memory =
         let o = own_ok in let k = own_alone in
         let moving = bits_moving (pointer ws x.handle) k.taken.state in

@@ -10,7 +10,7 @@ use Rattle.cb_rule.specs.declared.view.View.{View}
 use Rattle.cb_rule.specs.Lists.{Has}
 use Rattle.cb_rule.specs.Own.{AreOwn, traces, writes_it}
 use Rattle.cb_rule.specs.OwnStands.{OwnStands, WroteItself}
-use Rattle.cb_rule.specs.Promised.{EntriesStand, GoesOn, Wrote}
+use Rattle.cb_rule.specs.Promised.{EntriesStand, EntryGoesOn, Wrote}
 use Rattle.cb_rule.specs.Ruled.{Beside, Ruled}
 use Rattle.cb_rule.specs.Slot.{Table}
 use Rattle.cb_rule.proofs.Counts.{by_case, times-append}
@@ -60,7 +60,8 @@ module _ (first : ℕ) (views : List View) (stand : EntriesStand first views) (o
     goes_on = λ e wrote mine. here e mine (stand.goes_on e (wrote_there e wrote));
   }
     where
-      here : (e : Entry) → Has e.handle u.own → GoesOn first views e → GoesOn first (u ∷ []) e
+      here : (e : Entry) → Has e.handle u.own → EntryGoesOn first views e
+          → EntryGoesOn first (u ∷ []) e
       here e mine (inl begins) = inl begins
       here e mine (inr (x, wrote, same, next, past, there, long)) = inr (
         x,

@@ -15,14 +15,14 @@ use Rattle.cb_rule.specs.declared.view.Look.{Look}
 use Rattle.cb_rule.specs.declared.view.Peeked.{Peeked}
 use Rattle.cb_rule.specs.declared.view.Seen.{Seen}
 use Rattle.cb_rule.specs.declared.view.View.{View}
-use Rattle.cb_rule.specs.History.{IsChanged, IsHistory, IsMade, is_version, newest, no_value, top}
+use Rattle.cb_rule.specs.History.{IsChanged, IsEntryHistory, IsMadeEntry, is_version, newest, no_value, top}
 use Rattle.cb_rule.specs.Lists.{times, total, removed, Each, Has}
 use Rattle.cb_rule.specs.Own.{AreOwn, IsOwn, Make, MayWrite, entries_on, reads_it, traces, writes_it}
 use Rattle.cb_rule.specs.Records.{SeenOk, seen_of}
-use Rattle.cb_rule.specs.Rule.{Kept}
+use Rattle.cb_rule.specs.Rule.{RuleKept}
 use Rattle.cb_rule.specs.Seats.{claims_it, claims_on, pins_it, pins_on}
 use Rattle.cb_rule.specs.Stands.{Stands}
-use Rattle.cb_rule.specs.Steps.{Knows, act, blank, joined, left_of, right_of, with_back, with_claim, with_freed, with_held, with_pin, with_version, without_pin}
+use Rattle.cb_rule.specs.Steps.{Knows, act, blank, joined, left_of, right_of, with_back, with_claim, with_freed_seen, with_held, with_pin, with_version, without_pin}
 use Rattle.cb_rule.proofs.Counts.{by_case, times-append, times-edited, total-at}
 use Rattle.cb_rule.proofs.Histories.{begun, entry_within, rises}
 use Rattle.cb_rule.proofs.Keeping.{lt_or_le, seats_stay}
@@ -99,7 +99,7 @@ fewer t t' (x ∷ xs) = let rest = fewer t t' xs in by_case
     (λ _. omega arith) (λ _. omega (arith, rest))
 
 -- what a step of any seat leaves of its view, so that its own objects stay and none comes to it
-pub record Keeps (v w : View) : Type 0 where
+pub record KeepsOwned (v w : View) : Type 0 where
   pub own : w.own ≡ v.own
   pub fresh : w.fresh ≡ v.fresh
   pub holds : w.holds ≡ v.holds
@@ -111,7 +111,7 @@ pub record Keeps (v w : View) : Type 0 where
 pub keeps_by : (v w : View) → w.own ≡ v.own → w.fresh ≡ v.fresh → w.holds ≡ v.holds
     → w.written ≡ v.written
     → ((h : ℕ) → times (reads_it h) v.seen ≤ times (reads_it h) w.seen)
-    → ((h : ℕ) → traces h v ≡ 0 → traces h w ≡ 0) → Keeps v w
+    → ((h : ℕ) → traces h v ≡ 0 → traces h w ≡ 0) → KeepsOwned v w
 keeps_by v w own fresh holds written read none = record {
   own = own;
   fresh = fresh;
@@ -124,38 +124,38 @@ keeps_by v w own fresh holds written read none = record {
 
 -- a look or a word that was peeked is no trace
 pub keeps_all : (v : View) (looks : List Look) (peeked : List Peeked)
-    → Keeps v (record v { looks = looks; peeked = peeked })
+    → KeepsOwned v (record v { looks = looks; peeked = peeked })
 keeps_all v looks peeked = keeps_by v (record v { looks = looks; peeked = peeked }) refl refl refl
     refl (λ h. omega arith) (λ h none. none)
 
 -- an object that is known is pinned, claimed or found freed
 module _ (h : ℕ) (v : View) (knows : 0 < traces h v) where
-  pub keeps_pin : (w version : ℕ) (words : List ℕ) → Keeps v (with_pin h w version words v)
+  pub keeps_pin : (w version : ℕ) (words : List ℕ) → KeepsOwned v (with_pin h w version words v)
   keeps_pin w version words = keeps_by v (with_pin h w version words v) refl refl refl refl
       (λ k. omega arith) (λ k none. let out = not_it h k v knows none in omega (arith, none, out))
 
-  pub keeps_claim : (w version : ℕ) (words : List ℕ) → Keeps v (with_claim h w version words v)
+  pub keeps_claim : (w version : ℕ) (words : List ℕ) → KeepsOwned v (with_claim h w version words v)
   keeps_claim w version words = keeps_by v (with_claim h w version words v) refl refl refl refl
       (λ k. omega arith) (λ k none. let out = not_it h k v knows none in omega (arith, none, out))
 
-  pub keeps_freed : (version w : ℕ) → Keeps v (with_freed h version w v)
-  keeps_freed version w = keeps_by v (with_freed h version w v) refl refl refl refl
+  pub keeps_freed : (version w : ℕ) → KeepsOwned v (with_freed_seen h version w v)
+  keeps_freed version w = keeps_by v (with_freed_seen h version w v) refl refl refl refl
       (λ k. omega arith) (λ k none. let out = not_it h k v knows none in omega (arith, none, out))
 
 -- a pin is given back
-pub keeps_unpin : (h : ℕ) (v : View) → Keeps v (without_pin h v)
+pub keeps_unpin : (h : ℕ) (v : View) → KeepsOwned v (without_pin h v)
 keeps_unpin h v = keeps_by v (without_pin h v) refl refl refl refl
     (λ k. omega arith) (λ k none. let le = fewer (pins_it k) (pins_it h) v.pins in omega (arith, none, le))
 
 -- a claim is changed
 pub keeps_held : (h : ℕ) (f : Held → Held) (v : View) → ((x : Held) → (f x).handle ≡ x.handle)
-    → Keeps v (with_held h f v)
+    → KeepsOwned v (with_held h f v)
 keeps_held h f v same = keeps_by v (with_held h f v) refl refl refl refl
     (λ k. omega arith) (λ k none. let e = times-edited (claims_it h) (claims_it k) f v.claims
     (λ x. ap (λ (j : ℕ). eqb j k) (same x)) in omega (arith, none, e))
 
 -- and given up, with what was claimed as read
-pub keeps_back : (x : Held) (v : View) → Has x v.claims → Keeps v (with_back x v)
+pub keeps_back : (x : Held) (v : View) → Has x v.claims → KeepsOwned v (with_back x v)
 keeps_back x v has = let one = times_has (claims_it x.handle) x v.claims has
     (eq-eqb x.handle x.handle refl) in
     keeps_by v (with_back x v) refl refl refl refl (λ k. omega arith)
@@ -163,7 +163,7 @@ keeps_back x v has = let one = times_has (claims_it x.handle) x v.claims has
     let le = fewer (claims_it k) (claims_it x.handle) v.claims in omega (arith, none, le, out))
 
 -- with an entry more of the claimed object
-pub keeps_version : (x : Held) (v : View) → Has x v.claims → Keeps v (with_version x v)
+pub keeps_version : (x : Held) (v : View) → Has x v.claims → KeepsOwned v (with_version x v)
 keeps_version x v has = let one = times_has (claims_it x.handle) x v.claims has
     (eq-eqb x.handle x.handle refl) in record {
       own = refl;
@@ -198,7 +198,7 @@ module _ (first : ℕ) (views : List View) (id : ℕ) (v : View) (at : get_elem?
         (λ j u _ there. r.idle j u there);
   }
 
-  pub own_kept : (w : View) → Keeps v w → AreOwn first (set views id w)
+  pub own_kept : (w : View) → KeepsOwned v w → AreOwn first (set views id w)
   own_kept w k = own_stays w
       (λ h has. let a = r.made id v at h (subst (Has h) k.own has) in let b = k.wrote h first in
       omega (arith, a, b))
@@ -233,7 +233,7 @@ module _ (first : ℕ) (views : List View) (id : ℕ) (v : View) (at : get_elem?
       nothing h m = omega (arith, m)
 
 module _ (c : Config) (ws : List ℕ) (views : List View) (known : Shown) (es : List Entry)
-    (r : Kept c ws views known es) where
+    (r : RuleKept c ws views known es) where
   -- of an object that was never made no record has anything
   pub never_seen : (j : ℕ) (u : View) → get_elem? views j ≡ some u → (h : ℕ) → h < c.handles
       → top es h ≡ 0 → traces h u ≡ 0
@@ -278,7 +278,8 @@ module _ (c : Config) (ws : List ℕ) (views : List View) (known : Shown) (es : 
       (version_at known h)) is_never (r.stand h l) in never_seen j u there h l k.at
 
 -- what comes at the first version had no entry before
-pub never_before : (first : ℕ) → 1 ≤ first → (more es : List Entry) → IsHistory first (more ++ es)
+pub never_before : (first : ℕ) → 1 ≤ first → (more es : List Entry)
+    → IsEntryHistory first (more ++ es)
     → (e : Entry) → Has e more → e.version ≡ first → top es e.handle ≡ 0
 never_before first pos [] es k e has make = absurd has
 never_before first pos (x ∷ more) es k e has make = ⊎_elim
@@ -287,14 +288,14 @@ never_before first pos (x ∷ more) es k e has make = ⊎_elim
     omega (arith, low, z)) make)
     (λ (later : Has e more). never_before first pos more es k.1 e later make) has
   where
-    lower : (ys : List Entry) → IsHistory first (ys ++ es) → (h : ℕ)
+    lower : (ys : List Entry) → IsEntryHistory first (ys ++ es) → (h : ℕ)
         → top es h ≤ top (ys ++ es) h
     lower [] k h = omega arith
     lower (y ∷ ys) k h = let a = lower ys k.1 h in let b = rises first pos y (ys ++ es) h k in
         omega (arith, a, b)
 
     of_make : x.version ≡ first → top (more ++ es) x.handle ≡ 0
-    of_make at_first = ⊎_elim (λ (m : IsMade first (top (more ++ es) x.handle) x). m.never)
+    of_make at_first = ⊎_elim (λ (m : IsMadeEntry first (top (more ++ es) x.handle) x). m.never)
         (λ (m : IsChanged (top (more ++ es) x.handle) (newest (more ++ es) x.handle) x). ⊎_elim
         (λ (none : (top (more ++ es) x.handle ≡ 0) × (newest (more ++ es) x.handle ≡ no_value)).
         none.0)
@@ -305,8 +306,8 @@ never_before first pos (x ∷ more) es k e has make = ⊎_elim
 -- A step of the holder, which writes what it may: what it makes was never made before.
 pub own_acted : (first : ℕ) (c : Config) (ws : List ℕ) (views : List View) (id : ℕ) (v : View)
     → get_elem? views id ≡ some v → AreOwn first views → (e : Event) (es : List Entry)
-    → Kept c ws views v.known es → v.holds ≡ true → first ≡ v.known.first
-    → IsHistory v.known.first (adds e v.known ++ es)
+    → RuleKept c ws views v.known es → v.holds ≡ true → first ≡ v.known.first
+    → IsEntryHistory v.known.first (adds e v.known ++ es)
     → Each (λ (x : Entry). x.handle < c.handles) (adds e v.known)
     → Each (λ (x : Entry). MayWrite x.handle v.known v) (adds e v.known)
     → AreOwn first (set views id (act e v))

@@ -18,7 +18,7 @@ use Rattle.cb_rule.specs.declared.view.View.{View}
 use Rattle.cb_rule.specs.History.{newest, top}
 use Rattle.cb_rule.specs.Lists.{times, total, Has}
 use Rattle.cb_rule.specs.Records.{PinOk, PeekedOk}
-use Rattle.cb_rule.specs.Rule.{Kept}
+use Rattle.cb_rule.specs.Rule.{RuleKept}
 use Rattle.cb_rule.specs.Ruled.{Beside, IsSteady, Ruled}
 use Rattle.cb_rule.specs.Seats.{pins_it, pins_on}
 use Rattle.cb_rule.specs.Slot.{Sat}
@@ -55,7 +55,7 @@ place_in (is.Here len place) = place
 place_in (is.Claimed len place m words) = place
 
 module _ (c : Config) (ws : List ℕ) (views : List View) (known : Shown) (es : List Entry)
-    (r : Kept c ws views known es) (id : ℕ) (v : View) (at : get_elem? views id
+    (r : RuleKept c ws views known es) (id : ℕ) (v : View) (at : get_elem? views id
     ≡ some v) (p : Stand) (there : Has p v.pins) (j : ℕ) (lt : j < words_for p.len) where
   ok : PinOk c known es p
   ok = each_has (PinOk c known es) p v.pins (r.seats id v at).pins there
@@ -137,7 +137,7 @@ module _ (beside : Beside) (steady : IsSteady beside) (first : ℕ) (c : Config)
         ),
   )
     where
-      k : Kept c s.words s.views r.known r.history
+      k : RuleKept c s.words s.views r.known r.history
       k = r.kept
 
       same_config : me.0.config ≡ c

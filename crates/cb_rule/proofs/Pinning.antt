@@ -28,11 +28,11 @@ use Rattle.cb_rule.specs.History.{Value, newest, top}
 use Rattle.cb_rule.specs.Lists.{removed, Each}
 use Rattle.cb_rule.specs.Own.{AreOwn}
 use Rattle.cb_rule.specs.Records.{LookOk, PinOk, SeenOk, PeekedOk, RecordOk}
-use Rattle.cb_rule.specs.Rule.{Kept}
+use Rattle.cb_rule.specs.Rule.{RuleKept}
 use Rattle.cb_rule.specs.Ruled.{Beside, IsSteady, Ruled, AreShares}
 use Rattle.cb_rule.specs.Seats.{pins_it, pins_on}
 use Rattle.cb_rule.specs.Slot.{Sat}
-use Rattle.cb_rule.specs.Steps.{Finds, Knows, look_at, pinned, unpinned, version_seen, with_look, with_pin, without_pin}
+use Rattle.cb_rule.specs.Steps.{FindsVersion, Knows, look_at, pinned, unpinned, version_seen, with_look, with_pin, without_pin}
 use Rattle.cb_rule.specs.Words.{base, pointer}
 use Rattle.cb_rule.proofs.Calm.{Lies, Quiet, calm_rule, lies, look_ok, still_rule}
 use Rattle.cb_rule.proofs.Counts.{each_removed, hit, miss, times-removed, times-removed_else, total-at, total-set}
@@ -69,7 +69,7 @@ reread c first es v share ever pins claims looks seen peeked ok l s p = record {
 
 -- a look alone
 pub looks_quiet : (c : Config) (ws : List ℕ) (views : List View) (known : Shown) (es : List Entry)
-    (r : Kept c ws views known es) (id h w : ℕ) (v : View) → get_elem? views id ≡ some v
+    (r : RuleKept c ws views known es) (id h w : ℕ) (v : View) → get_elem? views id ≡ some v
     → LookOk es (look_at h w) → Quiet c known es h v (with_look h w v)
 looks_quiet c ws views known es r id h w v at o = let ok = r.seats id v at in record {
   same_config = refl;
@@ -101,12 +101,12 @@ seen_is es h k len words value n e = (
 )
 
 module _ (c : Config) (ws : List ℕ) (views : List View) (known : Shown) (es : List Entry)
-    (r : Kept c ws views known es) (shares : AreShares c views) (first : ℕ)
+    (r : RuleKept c ws views known es) (shares : AreShares c views) (first : ℕ)
     (own : AreOwn first views) where
   -- what a word tells of an object that lies in local memory and that no one claims
   pub finds : (id h : ℕ) (v : View) → get_elem? views id ≡ some v → h < c.handles
       → (o : Lies c ws views known es r h)
-      → Finds h (pointer ws h) (top es h) (newest es h).words v
+      → FindsVersion h (pointer ws h) (top es h) (newest es h).words v
   finds id h v at l o = let x : ℕ = pointer ws h in
       let f = subst (λ (z : Object). Fits z x) o.here (r.fit h l) in record {
         above = is_newest c ws views known es r shares first own id v h at
@@ -198,7 +198,7 @@ module _ (beside : Beside) (steady : IsSteady beside) (first : ℕ) (c : Config)
         λ h' q. let same : h ≡ h' = omega (arith, q) in (
           (λ _. let p = subst (λ (j : ℕ).
               (let z : Sat = (w, me.1) in z ≡ (with_pin j x v words me.0, me.1))
-              × Finds j x v words me.0) same
+              × FindsVersion j x v words me.0) same
               (refl, finds c s.words s.views r.known es k r.shares first r.own id h me.0 at l o) in
               (v, words, p.0, p.1)),
           λ ne. absurd (ne e),

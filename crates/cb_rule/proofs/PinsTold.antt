@@ -14,10 +14,10 @@ use Rattle.cb_rule.specs.declared.view.View.{View}
 use Rattle.cb_rule.specs.History.{is_version, newest, top}
 use Rattle.cb_rule.specs.Lists.{total, Has}
 use Rattle.cb_rule.specs.Own.{AreOwn, IsAlone}
-use Rattle.cb_rule.specs.Rule.{Kept}
+use Rattle.cb_rule.specs.Rule.{RuleKept}
 use Rattle.cb_rule.specs.Ruled.{AreShares}
 use Rattle.cb_rule.specs.Seats.{pins_on, claims_on}
-use Rattle.cb_rule.specs.Stands.{IsCalm, IsTaken, Stands}
+use Rattle.cb_rule.specs.Stands.{IsCalm, IsClaimedBySeat, Stands}
 use Rattle.cb_rule.specs.Steps.{HasLast, IsNewest, TellsPins}
 use Rattle.cb_rule.specs.Words.{pointer}
 use Rattle.cb_rule.proofs.Calm.{contents, lies}
@@ -28,7 +28,7 @@ use Rattle.cb_rule.proofs.Newest.{is_newest, others_spent, total_alone}
 use Rattle.cb_rule.proofs.Owning.{both_true}
 
 module _ (c : Config) (ws : List ℕ) (views : List View) (known : Shown) (es : List Entry)
-    (r : Kept c ws views known es) where
+    (r : RuleKept c ws views known es) where
   -- where no other view has the object all pins are one's own
   pub own_pins : AreShares c views → (first : ℕ) → AreOwn first views → (id h : ℕ) (v : View)
       → get_elem? views id ≡ some v → IsAlone h v → total (pins_on h) views ≡ pins_on h v
@@ -53,7 +53,8 @@ module _ (c : Config) (ws : List ℕ) (views : List View) (known : Shown) (es : 
       go (is.Here len place) k = ⊎_elim
           (λ (m : IsCalm c ws h (total (pins_on h) views) (total (claims_on h) views) (top es h)
           (newest es h) len place). absurd (off m.state))
-          (λ (m : IsTaken ws h (total (pins_on h) views) (total (claims_on h) views)). m.no_pins)
+          (λ (m : IsClaimedBySeat ws h (total (pins_on h) views) (total (claims_on h) views)).
+          m.no_pins)
           k.word
       go (is.Claimed len place v words) k = k.kept.no_pins
 

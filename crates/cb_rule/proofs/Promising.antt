@@ -21,13 +21,13 @@ use Rattle.cb_rule.specs.declared.view.Look.{Look}
 use Rattle.cb_rule.specs.declared.view.View.{View}
 use Rattle.cb_rule.specs.History.{Value, WasNow, holding_words, is_version, newest, top, value_of}
 use Rattle.cb_rule.specs.Lists.{total, Each, Has}
-use Rattle.cb_rule.specs.Promised.{ClaimsStand, EntriesStand, HeldStands, HereStands, Is, IsLast, Names, PinsStand, WordsStand, Wrote}
+use Rattle.cb_rule.specs.Promised.{ClaimsStand, EntriesStand, HeldStands, HereStands, Is, IsLast, NamesPlace, PinsStand, WordsStand, Wrote}
 use Rattle.cb_rule.specs.Records.{HeldOk, LookOk, PeekedOk, SeenOk, TellsOk, TurnOk}
-use Rattle.cb_rule.specs.Rule.{Kept}
+use Rattle.cb_rule.specs.Rule.{RuleKept}
 use Rattle.cb_rule.specs.Ruled.{Beside, Ruled}
 use Rattle.cb_rule.specs.Seats.{pins_on, claims_on, written_on}
 use Rattle.cb_rule.specs.Slot.{Table}
-use Rattle.cb_rule.specs.Stands.{IsCalm, IsTaken, Stands}
+use Rattle.cb_rule.specs.Stands.{IsCalm, IsClaimedBySeat, Stands}
 use Rattle.cb_rule.specs.Words.{pointer, words_at}
 use Rattle.cb_rule.proofs.Calm.{lies}
 use Rattle.cb_rule.proofs.Counts.{each_append, times-append}
@@ -47,7 +47,7 @@ far_bare : (w n : ℕ) → w ≡ 1 + n * 8192 → w / 8 % 1024 ≡ 0
 far_bare w n e = omega arith
 
 module _ (c : Config) (ws : List ℕ) (views : List View) (known : Shown) (es : List Entry)
-    (r : Kept c ws views known es) where
+    (r : RuleKept c ws views known es) where
   all_written : (j : ℕ) (u : View) → get_elem? views j ≡ some u
       → Each (λ e. Has e es) (u.fresh ++ u.written)
   all_written j u at = let ok = (r.seats j u at).lasting in
@@ -121,7 +121,7 @@ module _ (c : Config) (ws : List ℕ) (views : List View) (known : Shown) (es : 
       go (is.Here len place) k f = ⊎_elim
           (λ (m : IsCalm c ws h (total (pins_on h) views) (total (claims_on h) views) (top es h)
           (newest es h) len place). m.count)
-          (λ (m : IsTaken ws h (total (pins_on h) views) (total (claims_on h) views)).
+          (λ (m : IsClaimedBySeat ws h (total (pins_on h) views) (total (claims_on h) views)).
           m.bare ∙ sym m.no_pins) k.word
 
       all : pins_of (pointer ws h) ≡ total (pins_on h) views
@@ -146,14 +146,14 @@ module _ (c : Config) (ws : List ℕ) (views : List View) (known : Shown) (es : 
       go (is.Here len place) k = ⊎_elim
           (λ (m : IsCalm c ws h (total (pins_on h) views) (total (claims_on h) views) (top es h)
           (newest es h) len place). none_claims m.no_claims)
-          (λ (m : IsTaken ws h (total (pins_on h) views) (total (claims_on h) views)).
+          (λ (m : IsClaimedBySeat ws h (total (pins_on h) views) (total (claims_on h) views)).
           let one = m.one_claim in record {
             lone = omega (arith, one);
             moving = λ pos. m.state;
           }) k.word
 
   -- a word that names a place is that of an object that lies there
-  named_lies : (h : ℕ) → h < c.handles → Names (pointer ws h)
+  named_lies : (h : ℕ) → h < c.handles → NamesPlace (pointer ws h)
       → LiesAt (object_at known h) (len_of (pointer ws h)) (place_of (pointer ws h))
   named_lies h l named = go (object_at known h) (r.fit h l)
     where

@@ -13,7 +13,7 @@ use Rattle.cb_rule.specs.declared.view.View.{View}
 use Rattle.cb_rule.specs.History.{WasNow, is_version, newest, no_value, top}
 use Rattle.cb_rule.specs.Lists.{total, Has}
 use Rattle.cb_rule.specs.Records.{HeldOk, LookOk, PeekedOk, PinOk, RecordOk, SeatOk, SeenOk, TurnOk, seen_of}
-use Rattle.cb_rule.specs.Rule.{StandsIn, Kept}
+use Rattle.cb_rule.specs.Rule.{StandsIn, RuleKept}
 use Rattle.cb_rule.specs.Ruled.{AreShares, Beside, IsSteady, Ruled}
 use Rattle.cb_rule.specs.Seats.{claims_it, claims_on, holding, pins_it, pins_on, share_of, written_on}
 use Rattle.cb_rule.specs.Stands.{Stands}
@@ -61,7 +61,7 @@ never_now es h = record {
 }
 
 module _ (c : Config) (ws : List ℕ) (views : List View) (known : Shown) (es : List Entry)
-    (r : Kept c ws views known es) where
+    (r : RuleKept c ws views known es) where
   -- a view without pins and claims, which knows some entries
   fresh_seat : (given : ℕ) (v : View) → v.config ≡ c → RecordOk c known.first es v
       → SeatOk c ws known es (right_of given v)
@@ -118,7 +118,7 @@ module _ (c : Config) (ws : List ℕ) (views : List View) (known : Shown) (es : 
       (newest es h) (version_at known h) (object_at known h)) (sym q) k)
 
   pub kept_splits : (id : ℕ) (v : View) (given : ℕ) → get_elem? views id ≡ some v
-      → Kept c ws (set views id (left_of given v) ++ right_of given v ∷ []) known es
+      → RuleKept c ws (set views id (left_of given v) ++ right_of given v ∷ []) known es
   kept_splits id v given at = record {
     wide = r.wide;
     sized = r.sized;
@@ -179,7 +179,7 @@ module _ (c : Config) (ws : List ℕ) (views : List View) (known : Shown) (es : 
 
   pub kept_joins : (id : ℕ) (v : View) (other : ℕ) (w : View) → get_elem? views id ≡ some v
       → other ≢ id → get_elem? (set views id (joined v w)) other ≡ some w → w.holds ≡ false
-      → w.pins ≡ [] → Kept c ws (set (set views id (joined v w)) other (blank c)) known es
+      → w.pins ≡ [] → RuleKept c ws (set (set views id (joined v w)) other (blank c)) known es
   kept_joins id v other w at ne there quiet bare = record {
     wide = r.wide;
     sized = r.sized;

@@ -19,16 +19,16 @@ use Rattle.cb_world.proofs.Laws.{contents_packed}
 use Rattle.cb_rule.specs.declared.view.View.{View}
 use Rattle.cb_rule.specs.History.{Value, Follows, holding_words, newest, top}
 use Rattle.cb_rule.specs.Lists.{total}
-use Rattle.cb_rule.specs.Rule.{Kept}
+use Rattle.cb_rule.specs.Rule.{RuleKept}
 use Rattle.cb_rule.specs.Seats.{pins_on, claims_on}
 use Rattle.cb_rule.specs.Stands.{IsHolding, Stands}
 use Rattle.cb_rule.specs.Words.{stamps, base, pointer, stamp, words_at}
-use Rattle.cb_rule.proofs.Keeping.{Steps, words_else, win_shift}
+use Rattle.cb_rule.proofs.Keeping.{HolderSteps, words_else, win_shift}
 use Rattle.cb_rule.proofs.Histories.{newest_else, newest_same, top_else, top_same}
 use Rattle.cb_rule.proofs.Settling.{owns_lie, settled_steps}
 
 module _ (c : Config) (ws : List ℕ) (views : List View) (v : View) (h w : ℕ) (es : List Entry)
-    (r : Kept c ws views v.known es) (l : h < c.handles) where
+    (r : RuleKept c ws views v.known es) (l : h < c.handles) where
   abbrev pins : ℕ
   pins = total (pins_on h) views
 
@@ -40,7 +40,7 @@ module _ (c : Config) (ws : List ℕ) (views : List View) (v : View) (h w : ℕ)
 
   -- what is shown: the step of the settling
   abbrev Next : Type 0
-  Next = Steps c ws (set ws (1 + h) w) views v (Settled h w) es
+  Next = HolderSteps c ws (set ws (1 + h) w) views v (Settled h w) es
 
   -- what is known of the object, with contents of this length, version and words
   abbrev Has : ℕ → ℕ → List ℕ → Type 0
@@ -326,5 +326,5 @@ module _ (c : Config) (ws : List ℕ) (views : List View) (v : View) (h w : ℕ)
 
   -- every way to settle
   pub settle_steps : MaySettle v.known h w
-      → Steps c ws (set ws (1 + h) w) views v (Settled h w) es
+      → HolderSteps c ws (set ws (1 + h) w) views v (Settled h w) es
   settle_steps may = by_state (state_of w) refl may

@@ -13,27 +13,27 @@ use Rattle.cb_world.specs.Played.{after, settled_by}
 use Rattle.cb_world.specs.LocalSound.{LiesAt}
 use Rattle.cb_world.specs.Written.{adds}
 use Rattle.cb_rule.specs.declared.view.View.{View}
-use Rattle.cb_rule.specs.History.{IsHistory, newest, top}
+use Rattle.cb_rule.specs.History.{IsEntryHistory, newest, top}
 use Rattle.cb_rule.specs.Lists.{total, Each}
-use Rattle.cb_rule.specs.Rule.{Kept}
+use Rattle.cb_rule.specs.Rule.{RuleKept}
 use Rattle.cb_rule.specs.Seats.{pins_on, claims_on}
 use Rattle.cb_rule.specs.Stands.{Stands}
 use Rattle.cb_rule.specs.Words.{stamps, base, pointer, stamp, words_at}
-use Rattle.cb_rule.proofs.Keeping.{Steps, words_else, stands_same, held_same}
+use Rattle.cb_rule.proofs.Keeping.{HolderSteps, words_else, stands_same, held_same}
 
 -- the history gets these entries: the object stands as n, and others have their newest entries
-pub record Enters (c : Config) (ws : List ℕ) (views : List View) (known : Shown) (h w : ℕ)
+pub record EntersHistory (c : Config) (ws : List ℕ) (views : List View) (known : Shown) (h w : ℕ)
     (es : List Entry) (n : Object) (more : List Entry) : Type 0 where
   pub mine : Stands c known.first (set ws (1 + h) w) h (total (pins_on h) views)
       (total (claims_on h) views) (top (more ++ es) h) (newest (more ++ es) h)
       (version_at known h) n
   pub others : (k : ℕ) → k ≢ h
       → (top (more ++ es) k ≡ top es k) × (newest (more ++ es) k ≡ newest es k)
-  pub follows : IsHistory known.first (more ++ es)
+  pub follows : IsEntryHistory known.first (more ++ es)
   pub within : Each (λ (x : Entry). x.handle < c.handles) more
 
 -- the word of the object is settled as w, and the object becomes n
-pub record Settles (c : Config) (ws : List ℕ) (views : List View) (v : View) (h w : ℕ)
+pub record SettlesWord (c : Config) (ws : List ℕ) (views : List View) (v : View) (h w : ℕ)
     (es : List Entry) (n : Object) (more : List Entry) : Type 0 where
   pub becomes : settled_by (state_of w) w (version_at v.known h) (object_at v.known h) ≡ n
   pub adds_more : adds (Settled h w) v.known ≡ more
@@ -43,7 +43,7 @@ pub record Settles (c : Config) (ws : List ℕ) (views : List View) (v : View) (
   pub no_claims : total (claims_on h) views ≡ 0
   pub fits : Fits n w
   pub lies : (len place p : ℕ) → LiesAt n len place → Covers place len p → MayLie v.known h p
-  pub enters : Enters c ws views v.known h w es n more
+  pub enters : EntersHistory c ws views v.known h w es n more
 
 spared : (s : Shown) (h p : ℕ) → IsHeld (object_at s h) → Spares p (object_at s h)
 spared s h p held = go (object_at s h) held
@@ -80,8 +80,8 @@ owns_lie s h p held may = (
     go (is.Claimed n q v words) a = tt
 
 module _ (c : Config) (ws : List ℕ) (views : List View) (v : View) (h w : ℕ) (es : List Entry)
-    (n : Object) (more : List Entry) (r : Kept c ws views v.known es)
-    (t : Settles c ws views v h w es n more) where
+    (n : Object) (more : List Entry) (r : RuleKept c ws views v.known es)
+    (t : SettlesWord c ws views v h w es n more) where
   abbrev s : Shown
   s = v.known
 
@@ -92,8 +92,8 @@ module _ (c : Config) (ws : List ℕ) (views : List View) (v : View) (h w : ℕ)
   abbrev object : Object
   object = settled_by (state_of w) w (version_at v.known h) (object_at v.known h)
 
-  enters : Enters c ws views v.known h w es n (adds (Settled h w) v.known)
-  enters = subst (Enters c ws views v.known h w es n) (sym t.adds_more) t.enters
+  enters : EntersHistory c ws views v.known h w es n (adds (Settled h w) v.known)
+  enters = subst (EntersHistory c ws views v.known h w es n) (sym t.adds_more) t.enters
 
   at_h : get_or (set s.objects h object) h never ≡ n
   at_h = get_or-set_same s.objects h object never
@@ -141,7 +141,7 @@ module _ (c : Config) (ws : List ℕ) (views : List View) (v : View) (h w : ℕ)
       → LiesAt (get_or s.objects k never) len place
   else_lies k len place ne z = subst (λ (o : Object). LiesAt o len place) (at_k k ne) z
 
-  pub settled_steps : Steps c ws (set ws (1 + h) w) views v (Settled h w) es
+  pub settled_steps : HolderSteps c ws (set ws (1 + h) w) views v (Settled h w) es
   settled_steps = record {
     wide = length-set ws (1 + h) w;
     fit = λ k l. elim (ℕ_discrete k h) [

@@ -9,15 +9,15 @@ use Rattle.cb_world.specs.FarState.{FarState}
 use Rattle.cb_world.specs.Shown.{IsHeld, object_at, version_at}
 use Rattle.cb_world.specs.Sound.{Sound}
 use Rattle.cb_world.specs.StillDesk.{window_length}
-use Rattle.cb_world.proofs.Laws.{IsSeen, seen_sound, window_at}
+use Rattle.cb_world.proofs.Laws.{IsSeenFrom, seen_sound, window_at}
 use Rattle.cb_rule.specs.declared.view.View.{View}
 use Rattle.cb_rule.specs.AsShown.{as_shown}
 use Rattle.cb_rule.specs.History.{newest, top}
 use Rattle.cb_rule.specs.Lists.{total}
 use Rattle.cb_rule.specs.Records.{HeldOk}
-use Rattle.cb_rule.specs.Rule.{Kept}
+use Rattle.cb_rule.specs.Rule.{RuleKept}
 use Rattle.cb_rule.specs.Seats.{claims_it, claims_on, pins_on}
-use Rattle.cb_rule.specs.Stands.{IsCalm, IsTaken, Stands}
+use Rattle.cb_rule.specs.Stands.{IsCalm, IsClaimedBySeat, Stands}
 use Rattle.cb_rule.specs.Words.{base, stamp, stamps}
 use Rattle.cb_rule.proofs.Members.{each_has, has_times, total_some}
 use Rattle.cb_rule.proofs.Keeping.{lt_or_le}
@@ -28,7 +28,7 @@ beyond (x ∷ xs) zero d e = absurd (omega (arith, e))
 beyond (x ∷ xs) (suc i) d e = beyond xs i d (omega (arith, e))
 
 module _ (c : Config) (ws : List ℕ) (views : List View) (known : Shown) (es : List Entry)
-    (r : Kept c ws views known es) where
+    (r : RuleKept c ws views known es) where
   abbrev t : Shown
   t = as_shown c ws known
 
@@ -77,11 +77,11 @@ module _ (c : Config) (ws : List ℕ) (views : List View) (known : Shown) (es : 
       go (is.Here len place) k = let low = k.low in ⊎_elim
           (λ (m : IsCalm c ws h (total (pins_on h) views) (total (claims_on h) views) (top es h)
           (newest es h) len place). let e = m.stamped in omega (arith, e, low))
-          (λ (m : IsTaken ws h (total (pins_on h) views) (total (claims_on h) views)).
+          (λ (m : IsClaimedBySeat ws h (total (pins_on h) views) (total (claims_on h) views)).
           let e = of_claim h m.one_claim in omega (arith, e, low)) k.word
       go (is.Claimed len place m words) k = let e = k.kept.stamped in omega (arith, e)
 
-  pub is_shown : IsSeen known t
+  pub is_shown : IsSeenFrom known t
   is_shown = record {
     first = refl;
     objects = refl;

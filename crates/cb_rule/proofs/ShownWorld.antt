@@ -16,7 +16,7 @@ use Rattle.cb_rule.specs.History.{newest, no_value, top, value_of}
 use Rattle.cb_rule.specs.Lists.{total}
 use Rattle.cb_rule.specs.Locking.{Deeds, IsUnlocked, Locked}
 use Rattle.cb_rule.specs.Promised.{Wrote}
-use Rattle.cb_rule.specs.Rule.{Kept}
+use Rattle.cb_rule.specs.Rule.{RuleKept}
 use Rattle.cb_rule.specs.Ruled.{Ruled}
 use Rattle.cb_rule.specs.Seats.{claims_on, holding, pins_on}
 use Rattle.cb_rule.specs.ShownWorld.{ShowsWorld}
@@ -42,7 +42,7 @@ left lost e pos = by e.version e.freed pos
 
 module _ (deeds : Deeds) (first : ℕ) (c : Config) (s : Table)
     (r : Ruled (Locked deeds) first c s) where
-  abbrev k : Kept c s.words s.views r.known r.history
+  abbrev k : RuleKept c s.words s.views r.known r.history
   k = r.kept
 
   abbrev es : List Entry

@@ -14,14 +14,14 @@ use Rattle.cb_world.specs.Played.{after}
 use Rattle.cb_rule.specs.declared.view.View.{View}
 use Rattle.cb_rule.specs.History.{Value, no_value, holding_words, top, newest}
 use Rattle.cb_rule.specs.Lists.{total}
-use Rattle.cb_rule.specs.Rule.{Kept}
+use Rattle.cb_rule.specs.Rule.{RuleKept}
 use Rattle.cb_rule.specs.Seats.{pins_on, claims_on}
-use Rattle.cb_rule.specs.Stands.{IsKept, Stands}
+use Rattle.cb_rule.specs.Stands.{IsKeptByHolder, Stands}
 use Rattle.cb_rule.specs.Words.{stamps, base, pointer, stamp, words_at}
-use Rattle.cb_rule.proofs.Keeping.{Steps, outside, words_else, stands_same, held_same}
+use Rattle.cb_rule.proofs.Keeping.{HolderSteps, outside, words_else, stands_same, held_same}
 
 module _ (c : Config) (ws : List ℕ) (views : List View) (v : View) (es : List Entry)
-    (r : Kept c ws views v.known es) where
+    (r : RuleKept c ws views v.known es) where
   -- the words of an object that others may change do not have the place
   spared_words : (p y : ℕ) → Owns v.known p → (k len place : ℕ)
       → object_at v.known k ≡ is.Here len place
@@ -32,7 +32,7 @@ module _ (c : Config) (ws : List ℕ) (views : List View) (v : View) (es : List 
       (outside place len p (subst (Spares p) here (own.1 k))))
 
   pub store_steps : (p y : ℕ) → p < 512 * c.frames → Owns v.known p
-      → Steps c ws (set ws (base c + p) y) views v (Stored p y) es
+      → HolderSteps c ws (set ws (base c + p) y) views v (Stored p y) es
   store_steps p y l own = let s = v.known in let ws' : List ℕ = set ws (base c + p) y in
       let ptr : (h : ℕ) → h < c.handles → pointer ws' h ≡ pointer ws h =
       λ h lh. get_or-set_other ws (base c + p) (1 + h) y 0 (λ e. omega arith) in
@@ -77,9 +77,9 @@ module _ (c : Config) (ws : List ℕ) (views : List View) (v : View) (es : List 
   restamped o h y ws' e held k = go o held k
     where
       kept : (last : ℕ) (contents : Value)
-          → IsKept c ws h (total (pins_on h) views) (total (claims_on h) views) (top es h)
+          → IsKeptByHolder c ws h (total (pins_on h) views) (total (claims_on h) views) (top es h)
           (newest es h) (version_at v.known h) last contents
-          → IsKept c ws' h (total (pins_on h) views) (total (claims_on h) views) (top es h)
+          → IsKeptByHolder c ws' h (total (pins_on h) views) (total (claims_on h) views) (top es h)
           (newest es h) y last contents
       kept last contents a = record {
         no_pins = a.no_pins;
@@ -108,7 +108,7 @@ module _ (c : Config) (ws : List ℕ) (views : List View) (v : View) (es : List 
       }
 
   pub stamp_steps : (h y : ℕ) → h < c.handles → IsHeld (object_at v.known h)
-      → Steps c ws (set ws (stamps c + h) y) views v (Stamped h y) es
+      → HolderSteps c ws (set ws (stamps c + h) y) views v (Stamped h y) es
   stamp_steps h y l held = let s = v.known in let ws' : List ℕ = set ws (stamps c + h) y in
       let ptr : (k : ℕ) → k < c.handles → pointer ws' k ≡ pointer ws k =
       λ k lk. get_or-set_other ws (stamps c + h) (1 + k) y 0 (λ e. omega arith) in

@@ -18,7 +18,7 @@ use Rattle.cb_rule.specs.Lists.{total, Each}
 use Rattle.cb_rule.specs.Locking.{Deeds, Locked, Stood, TurnStands, turns_on}
 use Rattle.cb_rule.specs.LockSteps.{HasTaken, took, took_lock}
 use Rattle.cb_rule.specs.Own.{AreOwn, held_on}
-use Rattle.cb_rule.specs.Rule.{AreSized, Kept}
+use Rattle.cb_rule.specs.Rule.{AreSized, RuleKept}
 use Rattle.cb_rule.specs.Ruled.{Ruled}
 use Rattle.cb_rule.specs.Seats.{claims_on, holding, pins_on}
 use Rattle.cb_rule.specs.Slot.{Sat, Table}
@@ -67,7 +67,7 @@ module _ (deeds : Deeds) (first : ℕ) (c : Config) (s : Table) (id : ℕ) (me :
   one_holds = let sum = total-set holding s.views id me.0 taken at in
       omega (arith, sum, not_mine, nobody)
 
-  kept_taken : Kept c (set s.words 0 1) views r.known r.history
+  kept_taken : RuleKept c (set s.words 0 1) views r.known r.history
   kept_taken = let ok = r.kept.seats id me.0 at in let k = ok.lasting in
       flagged c (set s.words 0 1) s.views r.known r.history
       (lock_word c s.words s.views r.known r.history r.kept 1) id me.0 taken at record {

@@ -5,7 +5,7 @@ use Rattle.cb_world.specs.Empty.{empty_far}
 use Rattle.cb_world.specs.FarState.{FarState}
 use Rattle.cb_rule.specs.declared.turn.Turn.{Turn}
 use Rattle.cb_rule.specs.Locking.{Deeds, Locked, TurnStands, turn_number}
-use Rattle.cb_rule.specs.OneHistory.{HasNumber, IsOneHistory, Made, TurnsStand}
+use Rattle.cb_rule.specs.OneHistory.{HasTurnNumber, IsOneHistory, Made, TurnsStand}
 use Rattle.cb_rule.specs.Ruled.{Ruled}
 use Rattle.cb_rule.specs.Slot.{Table}
 use Rattle.cb_rule.proofs.Members.{each_has}
@@ -22,7 +22,7 @@ module _ (deeds : Deeds) (first : ℕ) (c : Config) (s : Table)
   turn_stands t m = each_has (TurnStands deeds c lock.count lock.chain) t m.0.turns
       (lock.turns m.1.0 m.0 m.1.1) m.2
 
-  has_number : (t : Turn) → Made s.views t → HasNumber lock.count t
+  has_number : (t : Turn) → Made s.views t → HasTurnNumber lock.count t
   has_number t m = ⊎_elim
       (λ (a : (turn_number t < lock.count) × (t.gave ≡ lock.chain (turn_number t + 1))). inl a.0)
       (λ (a : (turn_number t ≡ 2 ^ 40) × (lock.count ≡ 2 ^ 40) × (t.gave ≡ t.took)). inr a)

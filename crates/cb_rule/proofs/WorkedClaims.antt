@@ -14,7 +14,7 @@ use Rattle.cb_rule.specs.declared.view.Held.{Held}
 use Rattle.cb_rule.specs.declared.view.View.{View}
 use Rattle.cb_rule.specs.History.{Value, WasNow, holding_words}
 use Rattle.cb_rule.specs.Records.{HeldOk, OldOk, TellsOk}
-use Rattle.cb_rule.specs.Steps.{blank, version_seen, with_back, with_claim, with_held, with_stamp, with_version, with_word}
+use Rattle.cb_rule.specs.Steps.{blank, version_seen, with_back, with_claim, with_claim_word, with_held, with_stamp, with_version}
 use Rattle.cb_rule.proofs.WorkedStands.{here, moving, table, two}
 
 -- object 1 was made with 5 and written with 7, and lies at place 0
@@ -155,7 +155,7 @@ abbrev seat : View
 seat = record (blank two) { share = 64; written = past }
 
 abbrev after_stores : View
-after_stores = with_held 1 (with_stamp 3) (with_held 1 (with_word 0 9)
+after_stores = with_held 1 (with_stamp 3) (with_held 1 (with_claim_word 0 9)
     (with_claim 1 here 2 (7 ∷ []) seat))
 
 holds_claim : after_stores.claims ≡ claim ∷ []

@@ -26,12 +26,12 @@ use Rattle.cb_rule.specs.declared.view.View.{View}
 use Rattle.cb_rule.specs.Closing.{HoldsEntries, IsClosed, desk_of, now_of}
 use Rattle.cb_rule.specs.History.{top}
 use Rattle.cb_rule.specs.Lists.{total, Has}
-use Rattle.cb_rule.specs.Promised.{EntriesStand, GoesOn, Is, Wrote}
+use Rattle.cb_rule.specs.Promised.{EntriesStand, EntryGoesOn, Is, Wrote}
 use Rattle.cb_rule.specs.Records.{TellsOk}
 use Rattle.cb_rule.specs.Seats.{written_on}
-use Rattle.cb_rule.specs.Slot.{Slot}
+use Rattle.cb_rule.specs.Slot.{LockSlot}
 use Rattle.cb_rule.specs.Steps.{freed_seen, look_at, opener}
-use Rattle.cb_rule.proofs.Closing.{Closes, closing}
+use Rattle.cb_rule.proofs.Closing.{ViewCloses, closing}
 use Rattle.cb_rule.proofs.Opening.{opens, same_each}
 use Rattle.cb_rule.proofs.WorkedHistory.{freed, made, written}
 use Rattle.cb_rule.proofs.WorkedLocking.{accepted, far, quiet, turn}
@@ -110,7 +110,7 @@ stands = record {
       let top : e.version ≡ 3 = ap (λ (y : Entry). y.version) is in
       let at : k ≡ 3 = omega (arith, top, low, high) in
       (λ i. total (written_on (is i).handle (at i)) (maker ∷ []));
-  goes_on = λ e w. subst (GoesOn 3 (maker ∷ [])) (sym (is_made e w)) (inl (refl, refl));
+  goes_on = λ e w. subst (EntryGoesOn 3 (maker ∷ [])) (sym (is_made e w)) (inl (refl, refl));
 }
 
 abbrev pub here : (v : View) → Is (v ∷ []) v
@@ -183,7 +183,7 @@ goes_on_from_nothing : Stands (record_with (written ∷ [])) → ⊥
 goes_on_from_nothing s = let v = record_with (written ∷ []) in
     by (s.goes_on written (v, here v, inl refl))
   where
-    by : GoesOn 3 (record_with (written ∷ []) ∷ []) written → ⊥
+    by : EntryGoesOn 3 (record_with (written ∷ []) ∷ []) written → ⊥
     by (inl z) = let e = z.0 in omega (arith, e)
     by (inr z) = let e : z.0.version ≡ 4 = ap (λ (x : Entry). x.version)
         (the_one z.0 written (wrote_in (record_with (written ∷ [])) z.0 z.1)) in
@@ -196,11 +196,11 @@ shorter = entry 1 4 7 (7 ∷ []) (9 ∷ [])
 abbrev freer : View
 freer = record_with (freed ∷ written ∷ made ∷ [])
 
-a_write_goes_on : GoesOn 3 (freer ∷ []) written
+a_write_goes_on : EntryGoesOn 3 (freer ∷ []) written
 a_write_goes_on =
     inr (made, (freer, here freer, inr (inr (inl refl))), refl, refl, refl, refl, λ kept. refl)
 
-a_free_goes_on : GoesOn 3 (freer ∷ []) freed
+a_free_goes_on : EntryGoesOn 3 (freer ∷ []) freed
 a_free_goes_on = inr (
   written,
   (freer, here freer, inr (inl refl)),
@@ -211,7 +211,7 @@ a_free_goes_on = inr (
   λ kept. absurd (true≢false kept),
 )
 
-goes_on_shorter : GoesOn 3 (record_with (shorter ∷ made ∷ []) ∷ []) shorter → ⊥
+goes_on_shorter : EntryGoesOn 3 (record_with (shorter ∷ made ∷ []) ∷ []) shorter → ⊥
 goes_on_shorter (inl z) = let e = z.0 in omega (arith, e)
 goes_on_shorter (inr z) = by (wrote_in (record_with (shorter ∷ made ∷ [])) z.0 z.1)
   where
@@ -233,14 +233,14 @@ world_of f = record {
 abbrev Closed : View → WorldState → Type 0
 Closed v w = IsClosed quiet 3 pair_of v w
 
-closes : Closes quiet 3 pair_of (opening (replicate 517 0) (Some (empty_far 3 pair_of) ∷ [])
+closes : ViewCloses quiet 3 pair_of (opening (replicate 517 0) (Some (empty_far 3 pair_of) ∷ [])
     (opener pair_of)) (opener pair_of)
 closes = closing quiet 3 pair_of accepted _
     (opens 3 (omega arith) pair_of (replicate 517 0) refl (same_each 517 0) quiet accepted) 0
     (opener pair_of) refl
     record { whole = refl; no_pins = refl; no_claims = refl; no_lock = refl }
 
-abbrev pub far_in : Maybe (Maybe Slot) → FarState
+abbrev pub far_in : Maybe (Maybe LockSlot) → FarState
 far_in (some (some (Some f))) = f
 far_in (some (some None)) = empty_far 3 pair_of
 far_in (some none) = empty_far 3 pair_of

@@ -2,7 +2,7 @@
 use Rattle.std.proofs.Common.{◌≡◌, ℕ, ◌+◌, ◌≤◌, true, List, [], ◌∷◌, length, sym, refl, ap, ◌∙◌, inl, inr, true≢false, arith}
 use Rattle.cb_world.specs.declared.entry.Entry.{Entry}
 use Rattle.cb_world.specs.Written.{entry, gone}
-use Rattle.cb_rule.specs.History.{IsChanged, IsHistory, IsMade, Value, WasNow, holding_words, is_version, newest, no_value, top}
+use Rattle.cb_rule.specs.History.{IsChanged, IsEntryHistory, IsMadeEntry, Value, WasNow, holding_words, is_version, newest, no_value, top}
 use Rattle.cb_rule.specs.Lists.{times}
 
 -- object 1 is made with 8 bytes, written and freed; object 0 is made between. Makes give version 3.
@@ -48,10 +48,10 @@ once_written = refl
 never_sixth : times (is_version 1 6) all_entries ≡ 0
 never_sixth = refl
 
-is_made : IsMade 3 0 made
+is_made : IsMadeEntry 3 0 made
 is_made = record { never = refl; number = refl; kept = refl; nothing = refl }
 
-is_other : IsMade 3 0 other
+is_other : IsMadeEntry 3 0 other
 is_other = record { never = refl; number = refl; kept = refl; nothing = refl }
 
 is_written : IsChanged 3 (holding_words 8 (7 ∷ [])) written
@@ -72,17 +72,17 @@ is_freed = record {
   ends = λ ended. refl;
 }
 
-pub history : IsHistory 3 all_entries
+pub history : IsEntryHistory 3 all_entries
 history = (inr is_freed, (inr is_written, (inl is_other, (inl is_made, tt))))
 
 -- ---- a make, with one part off each
-made_twice : IsMade 3 3 made → ⊥
+made_twice : IsMadeEntry 3 3 made → ⊥
 made_twice m = let e = m.never in absurd (omega (arith, e))
 
-made_at_another : IsMade 3 0 (entry 1 4 8 [] (7 ∷ [])) → ⊥
+made_at_another : IsMadeEntry 3 0 (entry 1 4 8 [] (7 ∷ [])) → ⊥
 made_at_another m = let e = m.number in absurd (omega (arith, e))
 
-made_freed : IsMade 3 0 record {
+made_freed : IsMadeEntry 3 0 record {
   handle = 1;
   version = 3;
   len = 8;
@@ -96,7 +96,7 @@ abbrev count_words : List ℕ → ℕ
 count_words [] = 0
 count_words (x ∷ xs) = 1 + count_words xs
 
-made_of_old_words : IsMade 3 0 (entry 1 3 8 (1 ∷ []) (7 ∷ [])) → ⊥
+made_of_old_words : IsMadeEntry 3 0 (entry 1 3 8 (1 ∷ []) (7 ∷ [])) → ⊥
 made_of_old_words m = let e : 1 ≡ 0 = ap count_words m.nothing in absurd (omega (arith, e))
 
 -- ---- a change, with one part off each: after a free, a version left out, another past, another

@@ -16,7 +16,7 @@ use Rattle.cb_rule.specs.declared.view.View.{View}
 use Rattle.cb_rule.specs.Lists.{total, Each}
 use Rattle.cb_rule.specs.Locking.{Deeds, Locked, Stood, TurnStands, turns_on}
 use Rattle.cb_rule.specs.Seats.{holding}
-use Rattle.cb_rule.specs.Slot.{Slot, Table}
+use Rattle.cb_rule.specs.Slot.{LockSlot, Table}
 use Rattle.cb_rule.specs.Steps.{blank}
 use Rattle.cb_rule.proofs.Opening.{stood_empty}
 use Rattle.cb_rule.proofs.WorkedViews.{pair_of}
@@ -91,17 +91,17 @@ turn took gave = record {
   gave = gave;
 }
 
-abbrev pub Stands : ℕ → Turn → Type 0
-Stands count t = TurnStands quiet pair_of count far t
+abbrev pub LockStands : ℕ → Turn → Type 0
+LockStands count t = TurnStands quiet pair_of count far t
 
-pub first_turn : Stands 1 (turn (far 0) (far 1))
+pub first_turn : LockStands 1 (turn (far 0) (far 1))
 first_turn = record { took = refl; stood = stood 0 (lit≤ tt); gave = inl (lit< tt, refl); did = refl }
 
-pub second_turn : Stands 2 (turn (far 1) (far 2))
+pub second_turn : LockStands 2 (turn (far 1) (far 2))
 second_turn = record { took = refl; stood = stood 1 (lit≤ tt); gave = inl (lit< tt, refl); did = refl }
 
 -- one that was refused after 2^40 turns
-no_number : Stands (2 ^ 40) (turn (far (2 ^ 40)) (far (2 ^ 40)))
+no_number : LockStands (2 ^ 40) (turn (far (2 ^ 40)) (far (2 ^ 40)))
 no_number = record {
   took = refl;
   stood = stood (2 ^ 40) (lit≤ tt);
@@ -109,18 +109,18 @@ no_number = record {
   did = refl;
 }
 
-another_taken : Stands 1 (turn record (far 0) { made = 1 } (far 1)) → ⊥
+another_taken : LockStands 1 (turn record (far 0) { made = 1 } (far 1)) → ⊥
 another_taken s = let e : 1 ≡ 0 = ap (λ (f : FarState). f.made) s.took in omega (arith, e)
 
 -- the far state of before is given
-as_before : Stands 1 (turn (far 0) (far 0)) → ⊥
+as_before : LockStands 1 (turn (far 0) (far 0)) → ⊥
 as_before s = ⊎_elim
     (λ (a : (0 < 1) × (far 0 ≡ far 1)). let e : 0 ≡ 1 =
     ap (λ (f : FarState). f.counts.turns) a.1 in omega (arith, e))
     (λ (a : (0 ≡ 2 ^ 40) × (1 ≡ 2 ^ 40) × (far 0 ≡ far 0)). let e = a.0 in omega (arith, e)) s.gave
 
 -- its number was not counted yet
-too_early : Stands 1 (turn (far 1) (far 2)) → ⊥
+too_early : LockStands 1 (turn (far 1) (far 2)) → ⊥
 too_early s = ⊎_elim (λ (a : (1 < 1) × (far 2 ≡ far 2)). let l = a.0 in omega (arith, l))
     (λ (a : (1 ≡ 2 ^ 40) × (1 ≡ 2 ^ 40) × (far 2 ≡ far 1)). let e = a.0 in omega (arith, e)) s.gave
 
@@ -128,11 +128,12 @@ too_early s = ⊎_elim (λ (a : (1 < 1) × (far 2 ≡ far 2)). let l = a.0 in om
 abbrev pub no_frames : FarState
 no_frames = record (far 1) { spans = [] }
 
-knew_nothing : Stands 1 record (turn (far 0) (far 1)) { start = record seen { memory = [] } } → ⊥
+knew_nothing : LockStands 1 record (turn (far 0) (far 1)) { start = record seen { memory = [] } }
+    → ⊥
 knew_nothing s = let n = s.stood.configured.frames in
     let e : 0 ≡ 512 * length (far 0).spans = s.stood.sound.here.placed.memory in omega (arith, e, n)
 
-did_else : Stands 1 record (turn (far 0) (far 1)) { acts = Looked 0 0 ∷ [] } → ⊥
+did_else : LockStands 1 record (turn (far 0) (far 1)) { acts = Looked 0 0 ∷ [] } → ⊥
 did_else s = let e : 1 ≡ 0 = ap (λ (es : List _). length es) s.did in omega (arith, e)
 
 -- ---- the lock
@@ -142,16 +143,16 @@ seat turns = record (blank pair_of) { share = 64; turns = turns }
 abbrev pub one_turn : List Turn
 one_turn = turn (far 0) (far 1) ∷ []
 
-abbrev pub table : ℕ → Maybe Slot → View → Table
+abbrev pub table : ℕ → Maybe LockSlot → View → Table
 table word home v = record { words = word ∷ []; homes = home ∷ []; views = v ∷ [] }
 
-abbrev pub home : ℕ → Maybe Slot
+abbrev pub home : ℕ → Maybe LockSlot
 home n = some (Some (far n))
 
 abbrev Lock : Table → Type 0
 Lock s = Locked quiet pair_of s seen
 
-abbrev number_in : Maybe (Maybe Slot) → ℕ
+abbrev number_in : Maybe (Maybe LockSlot) → ℕ
 number_in (some (some (Some f))) = f.counts.turns
 number_in (some (some None)) = 0
 number_in (some none) = 0
@@ -179,7 +180,7 @@ free = record {
   takers = one_view (λ u. u.holds ≡ true → u.took ≡ far 1) (seat one_turn) (λ e. absurd (cc));
   began = one_view (λ u. u.holds ≡ true → Stood pair_of u.start u.took) (seat one_turn)
       (λ e. absurd (cc));
-  turns = one_view (λ u. Each (Stands 1) u.turns) (seat one_turn) (first_turn, tt);
+  turns = one_view (λ u. Each (LockStands 1) u.turns) (seat one_turn) (first_turn, tt);
   once = λ k l. ap (λ (n : ℕ). total (λ u. turns_on n u)
       (seat one_turn ∷ [])) (below_one k l);
 }
@@ -201,7 +202,7 @@ held = record {
   takers = one_view (λ u. u.holds ≡ true → u.took ≡ far 1) (holder one_turn) (λ _. refl);
   began = one_view (λ u. u.holds ≡ true → Stood pair_of u.start u.took) (holder one_turn)
       (λ _. stood 1 (lit≤ tt));
-  turns = one_view (λ u. Each (Stands 1) u.turns) (holder one_turn) (first_turn, tt);
+  turns = one_view (λ u. Each (LockStands 1) u.turns) (holder one_turn) (first_turn, tt);
   once = λ k l. ap (λ (n : ℕ). total (λ u. turns_on n u)
       (holder one_turn ∷ [])) (below_one k l);
 }
@@ -231,7 +232,7 @@ knows_no_memory l = let s = (l.free refl).stood in let n = s.configured.frames i
 out_of_its_slot : Lock (table 2 none (seat one_turn)) → ⊥
 out_of_its_slot l = some-ne-none _ (sym (some-injective _ _ (l.free refl).home))
 
-abbrev is_there : Maybe (Maybe Slot) → ℕ
+abbrev is_there : Maybe (Maybe LockSlot) → ℕ
 is_there (some (some (Some f))) = 1
 is_there (some (some None)) = 0
 is_there (some none) = 0

@@ -8,7 +8,7 @@ use Rattle.cb_rule.specs.declared.view.Seen.{Seen}
 use Rattle.cb_rule.specs.declared.view.View.{View}
 use Rattle.cb_rule.specs.Lists.{Has}
 use Rattle.cb_rule.specs.OwnStands.{OwnStands, WroteItself}
-use Rattle.cb_rule.specs.Promised.{GoesOn}
+use Rattle.cb_rule.specs.Promised.{EntryGoesOn}
 use Rattle.cb_rule.specs.Steps.{blank, look_at, version_seen}
 use Rattle.cb_rule.proofs.OwnStanding.{itself}
 use Rattle.cb_rule.proofs.WorkedHistory.{made, written}
@@ -56,7 +56,7 @@ stands = record {
       (λ h v. absurd (omega (arith, v))) x b)
       (of_both (λ z. 1 ≡ z.handle → 3 ≡ z.version → made ≡ z) (λ h v. absurd (omega (arith, v)))
       (λ h v. refl) x b) e a;
-  goes_on = λ e wrote own. of_both (GoesOn 3 (kept ∷ []))
+  goes_on = λ e wrote own. of_both (EntryGoesOn 3 (kept ∷ []))
       (inr (made, wrote_made, refl, refl, refl, refl, λ _. refl)) (inl (refl, refl)) e wrote;
 }
 
@@ -102,7 +102,7 @@ from_nothing x = go (x.goes_on written (u, (0, refl), inl refl) (inl refl))
     only e (inl is) next = let v = ap (λ (k : Entry). k.version) is in omega (arith, v, next)
     only e (inr none) next = none
 
-    go : GoesOn 3 (record kept { written = written ∷ []; seen = [] } ∷ []) written → ⊥
+    go : EntryGoesOn 3 (record kept { written = written ∷ []; seen = [] } ∷ []) written → ⊥
     go (inl begins) = let v = begins.0 in omega (arith, v)
     go (inr (e, wrote, same, next, past, there, long)) =
         only e (each_of record kept { written = written ∷ []; seen = [] } (written ∷ []) refl e wrote) next

@@ -24,14 +24,14 @@ use Rattle.cb_rule.specs.History.{Value, WasNow, no_value, top}
 use Rattle.cb_rule.specs.Lists.{Has}
 use Rattle.cb_rule.specs.Locking.{IsUnlocked, Locked}
 use Rattle.cb_rule.specs.LockSteps.{IsFoundFreed, MayGive}
-use Rattle.cb_rule.specs.OneHistory.{IsFree}
+use Rattle.cb_rule.specs.OneHistory.{IsLockFree}
 use Rattle.cb_rule.specs.Own.{AreBound}
 use Rattle.cb_rule.specs.Promised.{WordsStand, Wrote}
 use Rattle.cb_rule.specs.Records.{OldOk, TellsOk, TurnOk}
-use Rattle.cb_rule.specs.Rule.{AreSized, Kept, StandsIn}
+use Rattle.cb_rule.specs.Rule.{AreSized, RuleKept, StandsIn}
 use Rattle.cb_rule.specs.Ruled.{Beside, Ruled}
 use Rattle.cb_rule.specs.Stands.{IsShared, Stands}
-use Rattle.cb_rule.specs.Slot.{Slot}
+use Rattle.cb_rule.specs.Slot.{LockSlot}
 use Rattle.cb_rule.specs.Steps.{blank, freed_seen, held_at, opener, stand, version_seen}
 use Rattle.cb_rule.proofs.Opening.{opens, same_each}
 use Rattle.cb_rule.proofs.WorkedHistory.{made, written}
@@ -68,12 +68,12 @@ too_little_memory a = let e : 1 ≡ 512 = a.memory in omega (arith, e)
 
 -- ---- the words, the views and the history by what is known
 abbrev Keeps : List ℕ → List View → Shown → List Entry → Type 0
-Keeps ws views known es = Kept pair_of ws views known es
+Keeps ws views known es = RuleKept pair_of ws views known es
 
 abbrev one_seat : List View
 one_seat = opener pair_of ∷ []
 
-kept_at_start : Kept pair_of zeros one_seat at_start.known at_start.history
+kept_at_start : RuleKept pair_of zeros one_seat at_start.known at_start.history
 kept_at_start = at_start.kept
 
 too_few_words : Keeps (0 ∷ 0 ∷ []) one_seat seen [] → ⊥
@@ -195,7 +195,7 @@ with_nothing_beside : Ruled (λ c s known. ⊥) 3 pair_of record {
 with_nothing_beside r = r.far
 
 -- ---- the lock is free after one turn: its word, the slot and what is known
-abbrev Unlocked : ℕ → Maybe Slot → ℕ → FarState → Type 0
+abbrev Unlocked : ℕ → Maybe LockSlot → ℕ → FarState → Type 0
 Unlocked word slot count f = IsUnlocked pair_of (table word slot (seat one_turn)) seen count f
 
 unlocked : Unlocked 2 (home 1) 1 (far 1)
@@ -210,8 +210,8 @@ unlocked_without_far u = some-ne-none _ (sym (some-injective _ _ u.home))
 unlocked_unsound : Unlocked 2 (some (Some no_frames)) 1 no_frames → ⊥
 unlocked_unsound u = let e : 0 ≡ 1 = u.stood.configured.frames in omega (arith, e)
 
-abbrev Free : ℕ → Maybe Slot → List Turn → Type 0
-Free word slot turns = IsFree quiet 3 pair_of (table word slot (seat turns))
+abbrev Free : ℕ → Maybe LockSlot → List Turn → Type 0
+Free word slot turns = IsLockFree quiet 3 pair_of (table word slot (seat turns))
 
 -- an odd word, no far state at home, and turns that are no history
 free_and_odd : Free 3 (home 1) one_turn → ⊥

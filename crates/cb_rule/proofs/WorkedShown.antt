@@ -20,7 +20,7 @@ use Rattle.cb_rule.specs.Closing.{desk_of}
 use Rattle.cb_rule.specs.Lists.{Has}
 use Rattle.cb_rule.specs.Promised.{Wrote}
 use Rattle.cb_rule.specs.ShownWorld.{ShowsWorld}
-use Rattle.cb_rule.specs.Slot.{Slot, Table}
+use Rattle.cb_rule.specs.Slot.{LockSlot, Table}
 use Rattle.cb_rule.specs.Steps.{opener}
 use Rattle.cb_rule.proofs.Opening.{opens, same_each}
 use Rattle.cb_rule.proofs.ShownWorld.{world_shown}
@@ -35,10 +35,10 @@ zeros = replicate 517 0
 abbrev empty : FarState
 empty = empty_far 3 pair_of
 
-abbrev table : List ℕ → Maybe Slot → View → Table
+abbrev table : List ℕ → Maybe LockSlot → View → Table
 table words home v = record { words = words; homes = home ∷ []; views = v ∷ [] }
 
-abbrev home : FarState → Maybe Slot
+abbrev home : FarState → Maybe LockSlot
 home f = some (Some f)
 
 -- ---- at the start the table shows the empty world

@@ -6,7 +6,7 @@ use Rattle.cb_types.specs.declared.config.Config.{Config}
 use Rattle.cb_ptr.specs.Word.{state_number}
 use Rattle.cb_world.specs.Memory.{IsPacked, window}
 use Rattle.cb_rule.specs.History.{Value, holding_words, no_value}
-use Rattle.cb_rule.specs.Stands.{IsCalm, IsHolding, IsKept, IsShared, IsTaken}
+use Rattle.cb_rule.specs.Stands.{IsCalm, IsClaimedBySeat, IsHolding, IsKeptByHolder, IsShared}
 
 -- two objects
 abbrev pub two : Config
@@ -75,19 +75,19 @@ unfolding window
 not_laid k = eqb-false 8 7 refl (ap (λ (xs : List ℕ). get_or xs 0 0) k.words)
 
 -- ---- one that a seat claims
-taken : IsTaken (table moving 4 9) 1 0 1
+taken : IsClaimedBySeat (table moving 4 9) 1 0 1
 taken = record { one_claim = refl; no_pins = refl; state = refl; bare = refl }
 
-not_twice : IsTaken (table moving 4 9) 1 0 2 → ⊥
+not_twice : IsClaimedBySeat (table moving 4 9) 1 0 2 → ⊥
 not_twice k = let e = k.one_claim in omega arith
 
-not_pinned : IsTaken (table moving 4 9) 1 1 1 → ⊥
+not_pinned : IsClaimedBySeat (table moving 4 9) 1 1 1 → ⊥
 not_pinned k = let e = k.no_pins in omega arith
 
-not_here : IsTaken (table here 4 9) 1 0 1 → ⊥
+not_here : IsClaimedBySeat (table here 4 9) 1 0 1 → ⊥
 not_here k = eqb-false 2 3 refl (ap state_number k.state)
 
-not_bare : IsTaken (table 65547 4 9) 1 0 1 → ⊥
+not_bare : IsClaimedBySeat (table 65547 4 9) 1 0 1 → ⊥
 not_bare k = eqb-false 1 0 refl (k.bare)
 
 -- ---- either of them lies there; the holder may have known an older version word
@@ -117,22 +117,22 @@ not_known : IsShared two 1 (table moving 4 9) 1 0 1 3 seven 4 8 0 → ⊥
 not_known k = let e = k.low in omega arith
 
 -- ---- one that the holder alone may change
-kept : IsKept two (table 65537 4 0) 1 0 0 3 seven 4 3 seven
+kept : IsKeptByHolder two (table 65537 4 0) 1 0 0 3 seven 4 3 seven
 kept = record { no_pins = refl; no_claims = refl; stamped = refl; at = refl; has = refl }
 
-not_kept_pinned : IsKept two (table 65537 4 0) 1 1 0 3 seven 4 3 seven → ⊥
+not_kept_pinned : IsKeptByHolder two (table 65537 4 0) 1 1 0 3 seven 4 3 seven → ⊥
 not_kept_pinned k = let e = k.no_pins in omega arith
 
-not_kept_claimed : IsKept two (table 65537 4 0) 1 0 1 3 seven 4 3 seven → ⊥
+not_kept_claimed : IsKeptByHolder two (table 65537 4 0) 1 0 1 3 seven 4 3 seven → ⊥
 not_kept_claimed k = let e = k.no_claims in omega arith
 
-not_kept_stamped : IsKept two (table 65537 4 0) 1 0 0 3 seven 3 3 seven → ⊥
+not_kept_stamped : IsKeptByHolder two (table 65537 4 0) 1 0 0 3 seven 3 3 seven → ⊥
 not_kept_stamped k = eqb-false 4 3 refl (k.stamped)
 
-not_last : IsKept two (table 65537 4 0) 1 0 0 2 seven 4 3 seven → ⊥
+not_last : IsKeptByHolder two (table 65537 4 0) 1 0 0 2 seven 4 3 seven → ⊥
 not_last k = let e = k.at in omega arith
 
-not_contents : IsKept two (table 65537 4 0) 1 0 0 3 seven 4 3 no_value → ⊥
+not_contents : IsKeptByHolder two (table 65537 4 0) 1 0 0 3 seven 4 3 no_value → ⊥
 not_contents k = true≢false (sym (ap (λ (v : Value). v.freed) k.has))
 
 -- and has contents

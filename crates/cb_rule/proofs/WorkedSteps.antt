@@ -16,8 +16,8 @@ use Rattle.cb_rule.specs.declared.view.View.{View}
 use Rattle.cb_rule.specs.Own.{IsAlone}
 use Rattle.cb_rule.specs.Lists.{edited, picked, removed}
 use Rattle.cb_rule.specs.Records.{seen_of}
-use Rattle.cb_rule.specs.Slot.{Sat, Slot}
-use Rattle.cb_rule.specs.Steps.{Does, Finds, IsInside, IsNewest, act, all_seen, blank, claimed_here, dated, freed_seen, glanced, held_at, joined, left_of, loaded, look_at, next_entry, nothing, peeked, pinned, put_back, read_held, right_of, settled, settled_here, stamped, stamped_here, stand, stored, stored_here, told, unpinned, version_seen, with_claim, with_freed, with_held, with_look, with_peek, with_pin, with_back, with_stamp, with_version, with_word, without_claim, without_pin}
+use Rattle.cb_rule.specs.Slot.{LockSlot, Sat}
+use Rattle.cb_rule.specs.Steps.{HasEvent, FindsVersion, IsInside, IsNewest, act, all_seen, blank, claimed_here, dated, freed_seen, glanced, held_at, joined, left_of, loaded, look_at, next_entry, nothing, peeked, pinned, put_back, read_held, right_of, settled, settled_here, stamped, stamped_here, stand, stored, stored_here, told, unpinned, version_seen, with_claim, with_freed_seen, with_held, with_look, with_peek, with_pin, with_back, with_stamp, with_version, with_claim_word, without_claim, without_pin}
 use Rattle.cb_rule.proofs.WorkedHistory.{made, written}
 use Rattle.cb_rule.proofs.WorkedLocking.{far, turn}
 use Rattle.cb_rule.proofs.WorkedViews.{here_full, here_word, pair_of}
@@ -32,7 +32,7 @@ abbrev lone : View → Sat
 lone v = (v, [])
 
 abbrev Kind : Type 1
-Kind = Step Slot → Sat → ℕ → Sat → Type 0
+Kind = Step LockSlot → Sat → ℕ → Sat → Type 0
 
 -- a step of the seat v on a word, which was found to have this number
 abbrev Steps : Kind → ℕ → View → ℕ → View → Type 0
@@ -68,7 +68,7 @@ owned = (lit< tt, spares)
     spares (suc (suc h)) = tt
 
 tells : Steps told 4 worker 3 (act (Told 1 3) worker)
-tells = of_one (λ h. Does (lone worker) (Told h 3) (lone (act (Told 1 3) worker)))
+tells = of_one (λ h. HasEvent (lone worker) (Told h 3) (lone (act (Told 1 3) worker)))
     (refl, λ _. refl) 3
 
 tells_unnoted : Steps told 4 worker 3 worker → ⊥
@@ -78,7 +78,7 @@ tells_another_version : (w : View) → Steps told 4 worker 5 w → ⊥
 tells_another_version w t = let e : 5 ≡ 3 = (t 1 refl).1 tt in omega (arith, e)
 
 loads : Steps loaded 5 worker 9 (act (Loaded 0 9) worker)
-loads p e = subst (λ (q : ℕ). Does (lone worker) (Loaded q 9) (lone (act (Loaded 0 9) worker)))
+loads p e = subst (λ (q : ℕ). HasEvent (lone worker) (Loaded q 9) (lone (act (Loaded 0 9) worker)))
     (let same : 0 ≡ p = omega (arith, e) in same) (refl, λ _. refl)
 
 loads_unnoted : Steps loaded 5 worker 9 worker → ⊥
@@ -88,14 +88,14 @@ loads_another_word : (w : View) → Steps loaded 5 worker 8 w → ⊥
 loads_another_word w t = let e : 8 ≡ 9 = (t 0 refl).1 owned in omega (arith, e)
 
 stores : Steps stored 6 worker 8 (act (Stored 1 8) worker)
-stores = of_one (λ p. Does (lone worker) (Stored p 8) (lone (act (Stored 1 8) worker)))
+stores = of_one (λ p. HasEvent (lone worker) (Stored p 8) (lone (act (Stored 1 8) worker)))
     (refl, tt) 5
 
 stores_unnoted : Steps stored 6 worker 8 worker → ⊥
 stores_unnoted t = differ acts_in worker (act (Stored 1 8) worker) refl (t 1 refl).0
 
 stamps_it : Steps stamped 4 worker 8 (act (Stamped 1 8) worker)
-stamps_it = of_one (λ h. Does (lone worker) (Stamped h 8) (lone (act (Stamped 1 8) worker)))
+stamps_it = of_one (λ h. HasEvent (lone worker) (Stamped h 8) (lone (act (Stamped 1 8) worker)))
     (refl, tt) 3
 
 stamps_unnoted : Steps stamped 4 worker 8 worker → ⊥
@@ -133,24 +133,24 @@ glances_unnoted g = differ looks_in maker (with_look 1 (here_word 8) maker) refl
 
 glances_unread : Steps glanced 2 maker 0 (with_look 1 0 maker) → ⊥
 glances_unread g = let z = (g 1 refl).0 refl in
-    differ (λ v. length v.seen) (with_look 1 0 maker) (with_freed 1 z.0 0 maker) refl z.1
+    differ (λ v. length v.seen) (with_look 1 0 maker) (with_freed_seen 1 z.0 0 maker) refl z.1
 
 abbrev version_in : List Seen → ℕ
 version_in [] = 0
 version_in (s ∷ ss) = s.version
 
-glances_below : Steps glanced 2 maker 0 (with_freed 1 2 0 maker) → ⊥
+glances_below : Steps glanced 2 maker 0 (with_freed_seen 1 2 0 maker) → ⊥
 glances_below g = let z = (g 1 refl).0 refl in
     let two : 2 ≡ z.0 = ap (λ (m : Sat). version_in m.0.seen) z.1 in
     let above : 3 ≤ z.0 = z.2.written.0 refl in omega (arith, two, above)
 
-read_freed : ((with_freed 1 5 0 maker).looks ≡ look_at 1 0 ∷ [])
-    × ((with_freed 1 5 0 maker).seen ≡ freed_seen 1 5 ∷ [])
+read_freed : ((with_freed_seen 1 5 0 maker).looks ≡ look_at 1 0 ∷ [])
+    × ((with_freed_seen 1 5 0 maker).seen ≡ freed_seen 1 5 ∷ [])
 read_freed = (refl, refl)
 
 -- ---- what an exchange at a word of object 1 finds
 abbrev Found : ℕ → ℕ → List ℕ → Type 0
-Found w version words = Finds 1 w version words maker
+Found w version words = FindsVersion 1 w version words maker
 
 abbrev at_place : ℕ → ℕ → ℕ
 at_place place len = here_word len + place * 536870912
@@ -192,7 +192,7 @@ pinned_well = (refl, refl, refl, refl)
 -- which of two words an exchange finds, and what it then does
 abbrev Exchanged : (ℕ → ℕ → List ℕ → View → View) → ℕ → ℕ → View → Type 0
 Exchanged with n h w = (n ≡ here_word 8 → (v : ℕ) × (words : List ℕ)
-    × (lone w ≡ lone (with n v words maker)) × Finds h n v words maker)
+    × (lone w ≡ lone (with n v words maker)) × FindsVersion h n v words maker)
     × (n ≢ here_word 8 → lone w ≡ lone (with_look h n maker))
 
 not_nine : here_word 9 ≡ here_word 8 → ⊥
@@ -332,22 +332,22 @@ abbrev stamp_in : List Held → ℕ
 stamp_in [] = 0
 stamp_in (x ∷ xs) = x.stamp
 
-stores_here : Steps stored_here 5 claimer 9 (with_held 1 (with_word 0 9) claimer)
+stores_here : Steps stored_here 5 claimer 9 (with_held 1 (with_claim_word 0 9) claimer)
 stores_here x j has less e = ⊎_elim
     (λ (is : the_claim ≡ x). subst Stores is (λ i few. subst (AtWord the_claim)
     (let same : 0 ≡ i = omega (arith, few) in same) refl) j less)
     (λ (none_of : ⊥). absurd none_of) has
   where
     AtWord : Held → ℕ → Type 0
-    AtWord q i = lone (with_held 1 (with_word 0 9) claimer)
-        ≡ lone (with_held q.handle (with_word i 9) claimer)
+    AtWord q i = lone (with_held 1 (with_claim_word 0 9) claimer)
+        ≡ lone (with_held q.handle (with_claim_word i 9) claimer)
 
     Stores : Held → Type 0
     Stores q = (i : ℕ) → i < words_for q.len → AtWord q i
 
 stores_nothing : Steps stored_here 5 claimer 9 claimer → ⊥
 stores_nothing s = differ (λ v. memory_in v.claims) claimer
-    (with_held 1 (with_word 0 9) claimer) refl (s the_claim 0 (inl refl) (lit< tt) refl)
+    (with_held 1 (with_claim_word 0 9) claimer) refl (s the_claim 0 (inl refl) (lit< tt) refl)
 
 stamps_here : Steps stamped_here 4 claimer 4 (with_held 1 (with_stamp 4) claimer)
 stamps_here = of_one (λ h. lone (with_held 1 (with_stamp 4) claimer)

@@ -18,8 +18,8 @@ use Rattle.cb_rule.specs.declared.view.View.{View}
 use Rattle.cb_rule.specs.Lists.{total, Each, Has}
 use Rattle.cb_rule.specs.Locking.{Stood, turn_number, turns_on}
 use Rattle.cb_rule.specs.LockSteps.{AddsTurn, HasGiven, HasTaken, IsFoundFreed, MayGive, gave_lock, took, took_lock}
-use Rattle.cb_rule.specs.OneHistory.{HasNumber, IsOneHistory, Made, TurnsStand}
-use Rattle.cb_rule.specs.Slot.{Sat, Slot}
+use Rattle.cb_rule.specs.OneHistory.{HasTurnNumber, IsOneHistory, Made, TurnsStand}
+use Rattle.cb_rule.specs.Slot.{LockSlot, Sat}
 use Rattle.cb_rule.specs.Steps.{Knows, freed_seen, version_seen}
 use Rattle.cb_rule.proofs.Members.{each_has}
 use Rattle.cb_rule.proofs.WorkedHistory.{made}
@@ -30,10 +30,10 @@ use Rattle.cb_rule.proofs.WorkedViews.{pair_of}
 abbrev before : Sat
 before = (seat one_turn, [])
 
-abbrev taken : Shown → FarState → List (ℕ × Slot) → Sat
+abbrev taken : Shown → FarState → List (ℕ × LockSlot) → Sat
 taken known f hand = (took_lock known f 0 (seat one_turn), hand)
 
-abbrev in_hand : FarState → List (ℕ × Slot)
+abbrev in_hand : FarState → List (ℕ × LockSlot)
 in_hand f = (0, Some f) ∷ []
 
 abbrev holder : Sat
@@ -83,7 +83,7 @@ another_count : HasTaken before 4 holder → ⊥
 another_count t = let e : 1 ≡ t.far.counts.turns =
     ap (λ (m : Sat). m.0.took.counts.turns) t.taken in let n = t.number in omega (arith, e, n)
 
-abbrev exchange : Step Slot
+abbrev exchange : Step LockSlot
 exchange = step 1 0 2 1 none
 
 won : took exchange before 2 holder
@@ -252,7 +252,7 @@ one_history = record {
       ) t mt;
   ends = all_made (λ t. turn_number t + 1 ≡ 2 → t.gave ≡ far 2) two_turns
       ((λ e. refl), ((λ e. absurd (omega (arith, e))), tt));
-  numbers = all_made (HasNumber 2) two_turns (inl (lit< tt), (inl (lit< tt), tt));
+  numbers = all_made (HasTurnNumber 2) two_turns (inl (lit< tt), (inl (lit< tt), tt));
   sound = all_made (λ t. Stood pair_of t.start t.took) two_turns
       (stood 1 (lit≤ tt), (stood 0 (lit≤ tt), tt));
   starts = all_made (λ t. t.gave.first ≡ 3) two_turns (refl, (refl, tt));

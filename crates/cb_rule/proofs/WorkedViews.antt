@@ -16,11 +16,11 @@ use Rattle.cb_rule.specs.declared.view.View.{View}
 use Rattle.cb_rule.specs.History.{is_version}
 use Rattle.cb_rule.specs.Lists.{times, Has}
 use Rattle.cb_rule.specs.Own.{IsAlone}
-use Rattle.cb_rule.specs.Records.{IsWordOf, LookOk, PeekedOk, SeenOk, seen_of}
+use Rattle.cb_rule.specs.Records.{IsPeekedOf, LookOk, PeekedOk, SeenOk, seen_of}
 use Rattle.cb_rule.specs.Ruled.{AreShares}
 use Rattle.cb_rule.specs.Seats.{written_on}
-use Rattle.cb_rule.specs.Slot.{Sat, Slot}
-use Rattle.cb_rule.specs.Steps.{AreNew, Does, FollowsLast, HasLast, IsNew, IsNewest, Knows, TellsPins, act, blank, claimed, freed_seen, joined, left_of, look_at, looked, nothing, opener, right_of, stand, version_seen}
+use Rattle.cb_rule.specs.Slot.{LockSlot, Sat}
+use Rattle.cb_rule.specs.Steps.{AreNew, FollowsLast, HasEvent, HasLast, IsNewVersion, IsNewest, Knows, TellsPins, act, blank, claimed, freed_seen, joined, left_of, look_at, looked, nothing, opener, right_of, stand, version_seen}
 use Rattle.cb_rule.proofs.WorkedHistory.{all_entries, freed, made, written}
 
 abbrev pub pair_of : Config
@@ -48,16 +48,16 @@ peeked_made = (
   },
 )
 
-of_another_object : IsWordOf made (a_peek 0 3 0 7) → ⊥
+of_another_object : IsPeekedOf made (a_peek 0 3 0 7) → ⊥
 of_another_object w = let e = w.handle in omega (arith, e)
 
-of_another_version : IsWordOf made (a_peek 1 4 0 7) → ⊥
+of_another_version : IsPeekedOf made (a_peek 1 4 0 7) → ⊥
 of_another_version w = let e = w.version in omega (arith, e)
 
-past_the_end : IsWordOf made (a_peek 1 3 1 0) → ⊥
+past_the_end : IsPeekedOf made (a_peek 1 3 1 0) → ⊥
 past_the_end w = let e = w.within in omega (arith, e)
 
-another_word : IsWordOf made (a_peek 1 3 0 8) → ⊥
+another_word : IsPeekedOf made (a_peek 1 3 0 8) → ⊥
 another_word w = let e = w.word in omega (arith, e)
 
 -- ---- looks at the pointer word of object 1, which is Here with 8 bytes, or with 9
@@ -116,24 +116,24 @@ not_its_own : IsNewest 1 5 owner → ⊥
 not_its_own n = let e = n.lone (inr (inl refl)) in omega (arith, e)
 
 -- ---- a version that is new to the first seat
-is_next : IsNew 1 5 first_seat
+is_next : IsNewVersion 1 5 first_seat
 is_next = record { written = ((λ _. omega arith), ((λ _. omega arith), tt)); seen = tt }
 
 -- of another object any version is
-of_another : IsNew 0 3 first_seat
+of_another : IsNewVersion 0 3 first_seat
 of_another = record {
   written = ((λ e. omega (arith, e)), ((λ e. omega (arith, e)), tt));
   seen = tt;
 }
 
-not_what_it_wrote : IsNew 1 4 first_seat → ⊥
+not_what_it_wrote : IsNewVersion 1 4 first_seat → ⊥
 not_what_it_wrote n = let e = n.written.0 refl in omega (arith, e)
 
 -- nor what its running turn did
-not_what_is_fresh : IsNew 1 3 record (blank pair_of) { fresh = made ∷ [] } → ⊥
+not_what_is_fresh : IsNewVersion 1 3 record (blank pair_of) { fresh = made ∷ [] } → ⊥
 not_what_is_fresh n = let e = n.written.0 refl in omega (arith, e)
 
-not_what_it_read : IsNew 1 5 record (blank pair_of) { seen = freed_seen 1 5 ∷ [] } → ⊥
+not_what_it_read : IsNewVersion 1 5 record (blank pair_of) { seen = freed_seen 1 5 ∷ [] } → ⊥
 not_what_it_read n = let e = n.seen.0 refl in omega (arith, e)
 
 knows_made : Knows 1 first_seat
@@ -322,12 +322,12 @@ knows_no_fresh k = ⊎_elim (λ (z : _). z.1) (λ (z : _). z.1) k
 abbrev worker : View
 worker = record pinner { known = record nothing { objects = is.Here 8 0 ∷ is.Here 8 0 ∷ [] } }
 
-abbrev at_word : ℕ → Step Slot
+abbrev at_word : ℕ → Step LockSlot
 at_word first = step 1 2 first 0 no_slot
 
 looks_there : looked (at_word 0) (worker, []) one_pin (act (Looked 1 one_pin) worker, [])
 looks_there h e = let same : 1 ≡ h = omega (arith, e) in
-    subst (λ (j : ℕ). Does (worker, []) (Looked j one_pin) (act (Looked 1 one_pin) worker, [])
+    subst (λ (j : ℕ). HasEvent (worker, []) (Looked j one_pin) (act (Looked 1 one_pin) worker, [])
     × TellsPins j one_pin worker) same (
       (refl, ((lit< tt, refl, refl, inl refl), λ hot. absurd (true≢false (sym hot)))),
       record {

@@ -35,7 +35,7 @@ newest [] h = no_value
 newest (e ∷ es) h = cond (eqb e.handle h) (value_of e) (newest es h)
 
 -- the object is made: it has no entry yet, and gets the first version
-pub record IsMade (first version : ℕ) (e : Entry) : Type 0 where
+pub record IsMadeEntry (first version : ℕ) (e : Entry) : Type 0 where
   pub never : version ≡ 0
   pub number : e.version ≡ first
   pub kept : e.freed ≡ false
@@ -51,13 +51,13 @@ pub record IsChanged (version : ℕ) (value : Value) (e : Entry) : Type 0 where
 
 -- the entry may come next, where its object's newest one has this version and this value
 abbrev pub Follows : ℕ → ℕ → Value → Entry → Type 0
-Follows first version value e = IsMade first version e ⊎ IsChanged version value e
+Follows first version value e = IsMadeEntry first version e ⊎ IsChanged version value e
 
 -- each entry may come after those before it
-abbrev pub IsHistory : ℕ → List Entry → Type 0
-IsHistory first [] = Unit {0}
-IsHistory first (e ∷ es) =
-    Follows first (top es e.handle) (newest es e.handle) e × IsHistory first es
+abbrev pub IsEntryHistory : ℕ → List Entry → Type 0
+IsEntryHistory first [] = Unit {0}
+IsEntryHistory first (e ∷ es) =
+    Follows first (top es e.handle) (newest es e.handle) e × IsEntryHistory first es
 
 -- this was the object's newest version, with this value, when the history had at least since
 -- entries and at most until

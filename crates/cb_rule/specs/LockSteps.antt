@@ -17,7 +17,7 @@ use Rattle.cb_rule.specs.Lists.{Each}
 use Rattle.cb_rule.specs.Locking.{Deeds, Stood}
 use Rattle.cb_rule.specs.Own.{Make}
 use Rattle.cb_rule.specs.Rule.{AreSized}
-use Rattle.cb_rule.specs.Slot.{Slot, Sat}
+use Rattle.cb_rule.specs.Slot.{LockSlot, Sat}
 use Rattle.cb_rule.specs.Steps.{Knows, freed_seen, nothing}
 
 -- the seat has the lock and this far state, and its turn begins with what is known. The history has
@@ -46,7 +46,7 @@ pub record HasTaken (m : Sat) (n : ℕ) (m' : Sat) : Type 0 where
 
 -- an exchange of the lock's word that takes the lock and the far state out of its slot, or finds
 -- another word
-abbrev pub took : Step Slot → Sat → ℕ → Sat → Type 0
+abbrev pub took : Step LockSlot → Sat → ℕ → Sat → Type 0
 took st m n m' = (n ≡ st.first → HasTaken m n m') × (n ≢ st.first → m' ≡ m)
 
 -- the turn that a seat made which gives this far state
@@ -114,6 +114,6 @@ pub record HasGiven (job : Job) (reply : Option Reply) (far : FarState) (freed :
 
 -- a store of the lock's word that gives the lock back, and the far state that is in hand to its
 -- slot
-abbrev pub gave : Job → Option Reply → List Seen → List ℕ → Step Slot → Sat → ℕ → Sat → Type 0
+abbrev pub gave : Job → Option Reply → List Seen → List ℕ → Step LockSlot → Sat → ℕ → Sat → Type 0
 gave job reply freed made st m n m' = (far : FarState) → m.1 ≡ (0, Some far) ∷ []
     → HasGiven job reply far freed made m m'

@@ -19,8 +19,8 @@ abbrev pub Made : List View → Turn → Type 0
 Made views t = (u : View) × Is views u × Has t u.turns
 
 -- one of the counted turns; or it was refused after 2^40 of them, and gave what it took
-abbrev pub HasNumber : ℕ → Turn → Type 0
-HasNumber count t = (turn_number t < count)
+abbrev pub HasTurnNumber : ℕ → Turn → Type 0
+HasTurnNumber count t = (turn_number t < count)
     ⊎ ((turn_number t ≡ 2 ^ 40) × (count ≡ 2 ^ 40) × (t.gave ≡ t.took))
 
 -- So many turns are counted, and led from the empty world to this far state: each number stands
@@ -36,13 +36,13 @@ pub record IsOneHistory (deeds : Deeds) (first : ℕ) (c : Config) (views : List
   pub follows : (t u : Turn) → Made views t → Made views u → turn_number u ≡ turn_number t + 1
       → u.took ≡ t.gave
   pub ends : (t : Turn) → Made views t → turn_number t + 1 ≡ count → t.gave ≡ last
-  pub numbers : (t : Turn) → Made views t → HasNumber count t
+  pub numbers : (t : Turn) → Made views t → HasTurnNumber count t
   pub sound : (t : Turn) → Made views t → Stood c t.start t.took
   pub starts : (t : Turn) → Made views t → t.gave.first ≡ first
   pub did : (t : Turn) → Made views t → deeds c t
 
 -- No seat holds the lock: its word is twice the count, and the slot has the last far state.
-pub record IsFree (deeds : Deeds) (first : ℕ) (c : Config) (s : Table) : Type 0 where
+pub record IsLockFree (deeds : Deeds) (first : ℕ) (c : Config) (s : Table) : Type 0 where
   pub count : ℕ
   pub last : FarState
   pub word : slice_index s.words 0 ≡ 2 * count
@@ -54,4 +54,4 @@ pub record IsFree (deeds : Deeds) (first : ℕ) (c : Config) (s : Table) : Type 
 pub record TurnsStand (deeds : Deeds) (first : ℕ) (c : Config) (s : Table) : Type 0 where
   pub one : total holding s.views ≤ 1
   pub held : total holding s.views ≡ 1 → slice_index s.words 0 ≡ 1
-  pub free : total holding s.views ≡ 0 → IsFree deeds first c s
+  pub free : total holding s.views ≡ 0 → IsLockFree deeds first c s

@@ -7,7 +7,7 @@ use Rattle.cb_rule.specs.declared.view.Look.{Look}
 use Rattle.cb_rule.specs.declared.view.Seen.{Seen}
 use Rattle.cb_rule.specs.declared.view.View.{View}
 use Rattle.cb_rule.specs.Lists.{Has}
-use Rattle.cb_rule.specs.Promised.{FoundBy, GoesOn, Wrote}
+use Rattle.cb_rule.specs.Promised.{EntryGoesOn, FoundBy, Wrote}
 use Rattle.cb_rule.specs.Records.{seen_of}
 
 -- the view itself wrote the entry
@@ -26,4 +26,4 @@ pub record OwnStands (first : ℕ) (u : View) : Type 0 where
   pub born : (e : Entry) → WroteItself u e → first ≤ e.version
   pub same : (e x : Entry) → WroteItself u e → WroteItself u x → e.handle ≡ x.handle
       → e.version ≡ x.version → e ≡ x
-  pub goes_on : (e : Entry) → WroteItself u e → Has e.handle u.own → GoesOn first (u ∷ []) e
+  pub goes_on : (e : Entry) → WroteItself u e → Has e.handle u.own → EntryGoesOn first (u ∷ []) e

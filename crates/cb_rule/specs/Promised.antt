@@ -16,7 +16,7 @@ use Rattle.cb_rule.specs.declared.view.Peeked.{Peeked}
 use Rattle.cb_rule.specs.declared.view.Seen.{Seen}
 use Rattle.cb_rule.specs.declared.view.View.{View}
 use Rattle.cb_rule.specs.Lists.{total, Has}
-use Rattle.cb_rule.specs.Records.{IsWordOf, seen_of}
+use Rattle.cb_rule.specs.Records.{IsPeekedOf, seen_of}
 use Rattle.cb_rule.specs.Seats.{pins_on, claims_on, written_on}
 use Rattle.cb_rule.specs.Words.{pointer, stamp, words_at}
 
@@ -61,8 +61,8 @@ pub record ClaimsStand (ws : List ℕ) (views : List View) (h : ℕ) : Type 0 wh
   pub moving : 1 ≤ total (claims_on h) views → state_of (pointer ws h) ≡ word.Moving
 
 -- the word names a place
-abbrev pub Names : ℕ → Type 0
-Names w = (state_of w ≡ word.Here) ⊎ (state_of w ≡ word.Moving)
+abbrev pub NamesPlace : ℕ → Type 0
+NamesPlace w = (state_of w ≡ word.Here) ⊎ (state_of w ≡ word.Moving)
 
 -- The words of an object that is Here are those of its last entry.
 pub record HereStands (c : Config) (ws : List ℕ) (views : List View) (h : ℕ) : Type 0 where
@@ -85,8 +85,8 @@ pub record HeldStands (views : List View) (x : Held) : Type 0 where
 
 -- An entry that was written goes on from the one before it, whose length it has unless it is the
 -- freed one, and a make from none.
-abbrev pub GoesOn : ℕ → List View → Entry → Type 0
-GoesOn first views e = ((e.version ≡ first) × (e.before ≡ []))
+abbrev pub EntryGoesOn : ℕ → List View → Entry → Type 0
+EntryGoesOn first views e = ((e.version ≡ first) × (e.before ≡ []))
     ⊎ ((x : Entry) × Wrote views x × (x.handle ≡ e.handle) × (x.version + 1 ≡ e.version)
     × (x.after ≡ e.before) × (x.freed ≡ false) × (e.freed ≡ false → e.len ≡ x.len))
 
@@ -95,7 +95,7 @@ GoesOn first views e = ((e.version ≡ first) × (e.before ≡ []))
 pub record EntriesStand (first : ℕ) (views : List View) : Type 0 where
   pub read : (s : Seen) → Read views s → (e : Entry) × Wrote views e × (s ≡ seen_of e)
   -- a word that was peeked is one of an entry's
-  pub peeked : (p : Peeked) → Peeks views p → (e : Entry) × Wrote views e × IsWordOf e p
+  pub peeked : (p : Peeked) → Peeks views p → (e : Entry) × Wrote views e × IsPeekedOf e p
   -- a word that was found not Empty tells the length of an entry of its object
   pub looked : (l : Look) → Looked views l → state_of l.word ≢ word.Empty → (e : Entry)
       × Wrote views e × (e.handle ≡ l.handle) × (e.freed ≡ false) × (e.len ≡ len_of l.word)
@@ -106,7 +106,7 @@ pub record EntriesStand (first : ℕ) (views : List View) : Type 0 where
   -- each version from the first to the last is written in one view, once
   pub once : (e : Entry) (k : ℕ) → IsLast views e → first ≤ k → k ≤ e.version
       → total (written_on e.handle k) views ≡ 1
-  pub goes_on : (e : Entry) → Wrote views e → GoesOn first views e
+  pub goes_on : (e : Entry) → Wrote views e → EntryGoesOn first views e
 
 pub record WordsStand (first : ℕ) (c : Config) (ws : List ℕ) (views : List View) : Type 0 where
   pub pins : (h : ℕ) → h < c.handles → PinsStand ws views h
@@ -114,7 +114,7 @@ pub record WordsStand (first : ℕ) (c : Config) (ws : List ℕ) (views : List V
   pub claims : (h : ℕ) → h < c.handles → ClaimsStand ws views h
   -- places of different objects do not overlap
   pub apart : (h k p : ℕ) → h < c.handles → k < c.handles → h ≢ k
-      → Names (pointer ws h) → Names (pointer ws k)
+      → NamesPlace (pointer ws h) → NamesPlace (pointer ws k)
       → Covers (place_of (pointer ws h)) (len_of (pointer ws h)) p
       → Covers (place_of (pointer ws k)) (len_of (pointer ws k)) p → ⊥
   pub here : (h : ℕ) → h < c.handles → state_of (pointer ws h) ≡ word.Here

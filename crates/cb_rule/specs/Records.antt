@@ -56,14 +56,14 @@ abbrev pub SeenOk : List Entry → Seen → Type 0
 SeenOk es s = (e : Entry) × Has e es × (s ≡ seen_of e)
 
 -- the word that was peeked is one of an entry's
-pub record IsWordOf (e : Entry) (p : Peeked) : Type 0 where
+pub record IsPeekedOf (e : Entry) (p : Peeked) : Type 0 where
   pub handle : p.handle ≡ e.handle
   pub version : p.version ≡ e.version
   pub within : p.index < words_for e.len
   pub word : p.word ≡ slice_index e.after p.index
 
 abbrev pub PeekedOk : List Entry → Peeked → Type 0
-PeekedOk es p = (e : Entry) × Has e es × IsWordOf e p
+PeekedOk es p = (e : Entry) × Has e es × IsPeekedOf e p
 
 -- a word that is not Empty tells the length of an entry that is not the freed one
 abbrev pub LookOk : List Entry → Look → Type 0

@@ -9,7 +9,7 @@ use Rattle.cb_world.specs.declared.shown.Shown.{Shown}
 use Rattle.cb_world.specs.LocalSound.{LiesAt}
 use Rattle.cb_world.specs.Shown.{Fits, Covers, Owns, object_at, hot_at, version_at}
 use Rattle.cb_rule.specs.declared.view.View.{View}
-use Rattle.cb_rule.specs.History.{IsHistory, is_version, newest, top}
+use Rattle.cb_rule.specs.History.{IsEntryHistory, is_version, newest, top}
 use Rattle.cb_rule.specs.Lists.{times, total, Each}
 use Rattle.cb_rule.specs.Records.{SeatOk}
 use Rattle.cb_rule.specs.Seats.{pins_on, claims_on, written_on, holding}
@@ -30,7 +30,7 @@ StandsIn c ws views known es h = Stands c known.first ws h
 
 -- The words of a table, the views of its seats and the history of all objects, by what the holder of
 -- the far lock knows, or would know if it were taken now.
-pub record Kept (c : Config) (ws : List ℕ) (views : List View) (known : Shown)
+pub record RuleKept (c : Config) (ws : List ℕ) (views : List View) (known : Shown)
     (es : List Entry) : Type 0 where
   pub wide : length ws ≡ base c + 512 * c.frames
   pub sized : AreSized c known
@@ -45,7 +45,7 @@ pub record Kept (c : Config) (ws : List ℕ) (views : List View) (known : Shown)
       → Covers place len p → Covers place' len' p → ⊥
   pub stand : (h : ℕ) → h < c.handles → StandsIn c ws views known es h
   pub seats : (j : ℕ) (u : View) → get_elem? views j ≡ some u → SeatOk c ws known es u
-  pub history : IsHistory known.first es
+  pub history : IsEntryHistory known.first es
   pub within : Each (λ (e : Entry). e.handle < c.handles) es
   pub recorded : (h k : ℕ) → total (written_on h k) views ≡ times (is_version h k) es
   pub one : total holding views ≤ 1

@@ -8,7 +8,7 @@ use Rattle.cb_world.specs.declared.shown.Shown.{Shown}
 use Rattle.cb_rule.specs.declared.view.View.{View}
 use Rattle.cb_rule.specs.Lists.{total}
 use Rattle.cb_rule.specs.Own.{AreBound, AreOwn}
-use Rattle.cb_rule.specs.Rule.{Kept}
+use Rattle.cb_rule.specs.Rule.{RuleKept}
 use Rattle.cb_rule.specs.Seats.{share_of}
 use Rattle.cb_rule.specs.Slot.{Table}
 use Rattle.cb_rule.specs.Steps.{blank, joined}
@@ -62,7 +62,7 @@ pub record Ruled (beside : Beside) (first : ℕ) (c : Config) (s : Table) : Type
   pub known : Shown
   pub history : List Entry
   pub starts : known.first ≡ first
-  pub kept : Kept c s.words s.views known history
+  pub kept : RuleKept c s.words s.views known history
   pub shares : AreShares c s.views
   pub own : AreOwn first s.views
   pub bound : AreBound c known s.views

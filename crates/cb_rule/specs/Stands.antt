@@ -21,7 +21,7 @@ pub record IsCalm (c : Config) (ws : List ℕ) (h pins claims version : ℕ) (va
   pub words : words_at c ws place len ≡ value.words
 
 -- a seat claims it outside of a turn
-pub record IsTaken (ws : List ℕ) (h pins claims : ℕ) : Type 0 where
+pub record IsClaimedBySeat (ws : List ℕ) (h pins claims : ℕ) : Type 0 where
   pub one_claim : claims ≡ 1
   pub no_pins : pins ≡ 0
   pub state : state_of (pointer ws h) ≡ word.Moving
@@ -34,10 +34,10 @@ pub record IsShared (c : Config) (first : ℕ) (ws : List ℕ) (h pins claims ve
   pub held : value ≡ holding_words len value.words
   pub packed : IsPacked len value.words
   pub low : seen ≤ version
-  pub word : IsCalm c ws h pins claims version value len place ⊎ IsTaken ws h pins claims
+  pub word : IsCalm c ws h pins claims version value len place ⊎ IsClaimedBySeat ws h pins claims
 
 -- only the holder of the far lock may change it, and its version word is as it left it
-pub record IsKept (c : Config) (ws : List ℕ) (h pins claims version : ℕ) (value : Value)
+pub record IsKeptByHolder (c : Config) (ws : List ℕ) (h pins claims version : ℕ) (value : Value)
     (seen last : ℕ) (contents : Value) : Type 0 where
   pub no_pins : pins ≡ 0
   pub no_claims : claims ≡ 0
@@ -48,7 +48,7 @@ pub record IsKept (c : Config) (ws : List ℕ) (h pins claims version : ℕ) (va
 -- and it has contents
 pub record IsHolding (c : Config) (first : ℕ) (ws : List ℕ) (h pins claims version : ℕ)
     (value : Value) (seen len last : ℕ) (words : List ℕ) : Type 0 where
-  pub kept : IsKept c ws h pins claims version value seen last (holding_words len words)
+  pub kept : IsKeptByHolder c ws h pins claims version value seen last (holding_words len words)
   pub born : first ≤ last
   pub packed : IsPacked len words
 
@@ -56,7 +56,7 @@ pub record IsHolding (c : Config) (first : ℕ) (ws : List ℕ) (h pins claims v
 -- newest entry. The holder knows that its version word is seen.
 abbrev pub Stands : Config → ℕ → List ℕ → ℕ → ℕ → ℕ → ℕ → Value → ℕ → Object → Type 0
 Stands c first ws h pins claims version value seen (is.Empty v) =
-    IsKept c ws h pins claims version value seen v no_value
+    IsKeptByHolder c ws h pins claims version value seen v no_value
 Stands c first ws h pins claims version value seen (is.Far len v words) =
     IsHolding c first ws h pins claims version value seen len v words
 Stands c first ws h pins claims version value seen (is.Here len place) =

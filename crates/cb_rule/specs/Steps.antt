@@ -22,7 +22,7 @@ use Rattle.cb_rule.specs.Lists.{times, Each, Has, edited, removed}
 use Rattle.cb_rule.specs.Own.{IsAlone}
 use Rattle.cb_rule.specs.Records.{seen_of}
 use Rattle.cb_rule.specs.Seats.{claims_it, pins_it, pins_on, written_on}
-use Rattle.cb_rule.specs.Slot.{Slot, Sat}
+use Rattle.cb_rule.specs.Slot.{LockSlot, Sat}
 use Rattle.cb_rule.specs.Words.{base, stamps}
 
 -- this version of the object is at least all that the record has of it; where no other view has the
@@ -66,36 +66,38 @@ acted [] v = v
 acted (e ∷ es) v = acted es (act e v)
 
 -- the view has one event more, which agrees with what is known
-abbrev pub Does : Sat → Event → Sat → Type 0
-Does m e m' = (m' ≡ (act e m.0, m.1)) × Agrees m.0.known e
+abbrev pub HasEvent : Sat → Event → Sat → Type 0
+HasEvent m e m' = (m' ≡ (act e m.0, m.1)) × Agrees m.0.known e
 
-abbrev pub handles_of : Sat → ℕ
-handles_of m = length m.0.known.objects
+abbrev pub handle_count : Sat → ℕ
+handle_count m = length m.0.known.objects
 
-abbrev pub looked : Step Slot → Sat → ℕ → Sat → Type 0
-looked st m n m' = (h : ℕ) → st.word ≡ 1 + h → Does m (Looked h n) m' × TellsPins h n m.0
+abbrev pub looked : Step LockSlot → Sat → ℕ → Sat → Type 0
+looked st m n m' = (h : ℕ) → st.word ≡ 1 + h → HasEvent m (Looked h n) m' × TellsPins h n m.0
 
-abbrev pub told : Step Slot → Sat → ℕ → Sat → Type 0
-told st m n m' = (h : ℕ) → st.word ≡ 1 + handles_of m + h → Does m (Told h n) m'
+abbrev pub told : Step LockSlot → Sat → ℕ → Sat → Type 0
+told st m n m' = (h : ℕ) → st.word ≡ 1 + handle_count m + h → HasEvent m (Told h n) m'
 
-abbrev pub loaded : Step Slot → Sat → ℕ → Sat → Type 0
-loaded st m n m' = (p : ℕ) → st.word ≡ 1 + handles_of m + handles_of m + p → Does m (Loaded p n) m'
+abbrev pub loaded : Step LockSlot → Sat → ℕ → Sat → Type 0
+loaded st m n m' = (p : ℕ) → st.word ≡ 1 + handle_count m + handle_count m + p
+    → HasEvent m (Loaded p n) m'
 
 -- where another word was found it is a look
-abbrev pub claimed : Step Slot → Sat → ℕ → Sat → Type 0
+abbrev pub claimed : Step LockSlot → Sat → ℕ → Sat → Type 0
 claimed st m n m' = (h : ℕ) → st.word ≡ 1 + h
-    → (n ≡ st.first → (v : ℕ) × (words : List ℕ) × Does m (Claimed h n v words) m')
-    × (n ≢ st.first → Does m (Looked h n) m')
+    → (n ≡ st.first → (v : ℕ) × (words : List ℕ) × HasEvent m (Claimed h n v words) m')
+    × (n ≢ st.first → HasEvent m (Looked h n) m')
     × TellsPins h n m.0
 
-abbrev pub stored : Step Slot → Sat → ℕ → Sat → Type 0
-stored st m n m' = (p : ℕ) → st.word ≡ 1 + handles_of m + handles_of m + p → Does m (Stored p n) m'
+abbrev pub stored : Step LockSlot → Sat → ℕ → Sat → Type 0
+stored st m n m' = (p : ℕ) → st.word ≡ 1 + handle_count m + handle_count m + p
+    → HasEvent m (Stored p n) m'
 
-abbrev pub stamped : Step Slot → Sat → ℕ → Sat → Type 0
-stamped st m n m' = (h : ℕ) → st.word ≡ 1 + handles_of m + h → Does m (Stamped h n) m'
+abbrev pub stamped : Step LockSlot → Sat → ℕ → Sat → Type 0
+stamped st m n m' = (h : ℕ) → st.word ≡ 1 + handle_count m + h → HasEvent m (Stamped h n) m'
 
 -- this version of the object is above all that the record has of it
-pub record IsNew (h version : ℕ) (u : View) : Type 0 where
+pub record IsNewVersion (h version : ℕ) (u : View) : Type 0 where
   pub written : Each (λ (e : Entry). e.handle ≡ h → e.version < version) (u.fresh ++ u.written)
   pub seen : Each (λ (s : Seen). s.handle ≡ h → s.version < version) u.seen
 
@@ -115,12 +117,12 @@ FollowsLast e before u = IsAlone e.handle u → Knows e.handle u
 -- that the record and the entries before have of an object that no other view has.
 abbrev pub AreNew : List Entry → View → Type 0
 AreNew [] u = Unit {0}
-AreNew (e ∷ es) u = IsNew e.handle e.version u × FollowsLast e es u × AreNew es u
+AreNew (e ∷ es) u = IsNewVersion e.handle e.version u × FollowsLast e es u × AreNew es u
 
 -- what it writes is new to the record
-abbrev pub settled : Step Slot → Sat → ℕ → Sat → Type 0
+abbrev pub settled : Step LockSlot → Sat → ℕ → Sat → Type 0
 settled st m n m' = (h : ℕ) → st.word ≡ 1 + h
-    → Does m (Settled h n) m' × AreNew (adds (Settled h n) m.0.known) m.0
+    → HasEvent m (Settled h n) m' × AreNew (adds (Settled h n) m.0.known) m.0
 
 -- Any seat, also while another holds the lock.
 
@@ -149,14 +151,14 @@ freed_seen h v = record {
 }
 
 -- a look that found the object freed at this version
-abbrev pub with_freed : ℕ → ℕ → ℕ → View → View
-with_freed h v w u = record (with_look h w u) { seen = freed_seen h v ∷ u.seen }
+abbrev pub with_freed_seen : ℕ → ℕ → ℕ → View → View
+with_freed_seen h v w u = record (with_look h w u) { seen = freed_seen h v ∷ u.seen }
 
 -- a load of the pointer word of an object that the record knows
-abbrev pub glanced : Step Slot → Sat → ℕ → Sat → Type 0
+abbrev pub glanced : Step LockSlot → Sat → ℕ → Sat → Type 0
 glanced st m n m' = (h : ℕ) → st.word ≡ 1 + h
     → (state_of n ≡ word.Empty
-    → (v : ℕ) × (m' ≡ (with_freed h v n m.0, m.1)) × IsNewest h v m.0)
+    → (v : ℕ) × (m' ≡ (with_freed_seen h v n m.0, m.1)) × IsNewest h v m.0)
     × (state_of n ≢ word.Empty → m' ≡ (with_look h n m.0, m.1))
     × TellsPins h n m.0
 
@@ -185,20 +187,20 @@ abbrev pub IsInside : Config → ℕ → Type 0
 IsInside c w = (j : ℕ) → j < words_for (len_of w) → place_of w + j < 512 * c.frames
 
 -- what an exchange at the word w tells of the object: its newest version, with its words
-pub record Finds (h w version : ℕ) (words : List ℕ) (u : View) : Type 0 where
+pub record FindsVersion (h w version : ℕ) (words : List ℕ) (u : View) : Type 0 where
   pub above : IsNewest h version u
   pub inside : IsInside u.config w
   pub below : w < 2 ^ 53
   pub long : length words ≡ words_for (len_of w)
 
 -- an exchange that takes a pin, or finds another word
-abbrev pub pinned : Step Slot → Sat → ℕ → Sat → Type 0
+abbrev pub pinned : Step LockSlot → Sat → ℕ → Sat → Type 0
 pinned st m n m' = (h : ℕ) → st.word ≡ 1 + h
     → (n ≡ st.first → (v : ℕ) × (words : List ℕ)
-    × (m' ≡ (with_pin h n v words m.0, m.1)) × Finds h n v words m.0)
+    × (m' ≡ (with_pin h n v words m.0, m.1)) × FindsVersion h n v words m.0)
     × (n ≢ st.first → m' ≡ (with_look h n m.0, m.1))
 
-abbrev pub unpinned : Step Slot → Sat → ℕ → Sat → Type 0
+abbrev pub unpinned : Step LockSlot → Sat → ℕ → Sat → Type 0
 unpinned st m n m' = (h : ℕ) → st.word ≡ 1 + h → m' ≡ (without_pin h m.0, m.1)
 
 abbrev pub with_peek : ℕ → ℕ → ℕ → ℕ → View → View
@@ -207,7 +209,7 @@ with_peek h v j n u = record u {
 }
 
 -- a load of the word j of a pin gives that word of its version
-abbrev pub peeked : Step Slot → Sat → ℕ → Sat → Type 0
+abbrev pub peeked : Step LockSlot → Sat → ℕ → Sat → Type 0
 peeked st m n m' = (p : Stand) (j : ℕ) → Has p m.0.pins → j < words_for p.len
     → st.word ≡ base m.0.config + p.place + j
     → (n ≡ slice_index p.words j) × (m' ≡ (with_peek p.handle p.version j n m.0, m.1))
@@ -220,7 +222,7 @@ TellsPin c i n p = i ≡ stamps c + p.handle → n ≡ p.version
 abbrev pub TellsHeld : Config → ℕ → ℕ → Held → Type 0
 TellsHeld c i n x = i ≡ stamps c + x.handle → n ≡ x.stamp
 
-abbrev pub dated : Step Slot → Sat → ℕ → Sat → Type 0
+abbrev pub dated : Step LockSlot → Sat → ℕ → Sat → Type 0
 dated st m n m' = (m' ≡ m) × Each (TellsPin m.0.config st.word n) m.0.pins
     × Each (TellsHeld m.0.config st.word n) m.0.claims
     × Each (λ (p : Stand). IsNewest p.handle p.version m.0) m.0.pins
@@ -230,7 +232,7 @@ abbrev pub LoadsHeld : Config → ℕ → ℕ → Held → Type 0
 LoadsHeld c i n x = (j : ℕ) → j < words_for x.len → i ≡ base c + x.place + j
     → n ≡ slice_index x.memory j
 
-abbrev pub read_held : Step Slot → Sat → ℕ → Sat → Type 0
+abbrev pub read_held : Step LockSlot → Sat → ℕ → Sat → Type 0
 read_held st m n m' = (m' ≡ m) × Each (LoadsHeld m.0.config st.word n) m.0.claims
 
 -- a claim at the word w
@@ -250,29 +252,29 @@ abbrev pub with_claim : ℕ → ℕ → ℕ → List ℕ → View → View
 with_claim h w v words u = record (with_look h w u) { claims = held_at h w v words ∷ u.claims }
 
 -- an exchange that claims, or finds another word
-abbrev pub claimed_here : Step Slot → Sat → ℕ → Sat → Type 0
+abbrev pub claimed_here : Step LockSlot → Sat → ℕ → Sat → Type 0
 claimed_here st m n m' = (h : ℕ) → st.word ≡ 1 + h
     → (n ≡ st.first → (v : ℕ) × (words : List ℕ)
-    × (m' ≡ (with_claim h n v words m.0, m.1)) × Finds h n v words m.0)
+    × (m' ≡ (with_claim h n v words m.0, m.1)) × FindsVersion h n v words m.0)
     × (n ≢ st.first → m' ≡ (with_look h n m.0, m.1))
 
 -- the seat's claim of an object, changed
 abbrev pub with_held : ℕ → (Held → Held) → View → View
 with_held h f u = record u { claims = edited (claims_it h) f u.claims }
 
-abbrev pub with_word : ℕ → ℕ → Held → Held
-with_word j n x = record x { memory = slice_set x.memory j n }
+abbrev pub with_claim_word : ℕ → ℕ → Held → Held
+with_claim_word j n x = record x { memory = slice_set x.memory j n }
 
 abbrev pub with_stamp : ℕ → Held → Held
 with_stamp n x = record x { stamp = n }
 
 -- a store of the word j of a claimed object, and of its version word
-abbrev pub stored_here : Step Slot → Sat → ℕ → Sat → Type 0
+abbrev pub stored_here : Step LockSlot → Sat → ℕ → Sat → Type 0
 stored_here st m n m' = (x : Held) (j : ℕ) → Has x m.0.claims → j < words_for x.len
     → st.word ≡ base m.0.config + x.place + j
-    → m' ≡ (with_held x.handle (with_word j n) m.0, m.1)
+    → m' ≡ (with_held x.handle (with_claim_word j n) m.0, m.1)
 
-abbrev pub stamped_here : Step Slot → Sat → ℕ → Sat → Type 0
+abbrev pub stamped_here : Step LockSlot → Sat → ℕ → Sat → Type 0
 stamped_here st m n m' = (h : ℕ) → st.word ≡ stamps m.0.config + h
     → m' ≡ (with_held h (with_stamp n) m.0, m.1)
 
@@ -287,7 +289,7 @@ abbrev pub with_version : Held → View → View
 with_version x u = record (without_claim x.handle u) { written = next_entry x ∷ u.written }
 
 -- the word of a claimed object is settled with the version that it stored
-abbrev pub settled_here : Step Slot → Sat → ℕ → Sat → Type 0
+abbrev pub settled_here : Step LockSlot → Sat → ℕ → Sat → Type 0
 settled_here st m n m' = (x : Held) → Has x m.0.claims → st.word ≡ 1 + x.handle
     → m' ≡ (with_version x m.0, m.1)
 
@@ -297,7 +299,7 @@ with_back x u = record (without_claim x.handle u) {
   seen = version_seen x.handle x.version x.len x.old ∷ u.seen;
 }
 
-abbrev pub put_back : Step Slot → Sat → ℕ → Sat → Type 0
+abbrev pub put_back : Step LockSlot → Sat → ℕ → Sat → Type 0
 put_back st m n m' = (x : Held) → Has x m.0.claims → st.word ≡ 1 + x.handle
     → m' ≡ (with_back x m.0, m.1)
 

@@ -4,7 +4,7 @@ use Rattle.cb_types.specs.declared.config.Config.{Config}
 use Rattle.cb_world.specs.declared.entry.Entry.{Entry}
 use Rattle.cb_rule.specs.declared.turn.Turn.{Turn}
 use Rattle.cb_rule.specs.declared.view.View.{View}
-use Rattle.cb_rule.specs.History.{IsHistory}
+use Rattle.cb_rule.specs.History.{IsEntryHistory}
 use Rattle.cb_rule.specs.Lists.{Has}
 use Rattle.cb_rule.specs.OneHistory.{Made}
 use Rattle.cb_rule.specs.Promised.{Wrote}
@@ -15,7 +15,7 @@ use Rattle.cb_rule.specs.Records.{TurnOk}
 -- object's newest entry at some time of that turn.
 pub record AreTold (first : ℕ) (c : Config) (views : List View) : Type 0 where
   pub history : List Entry
-  pub ordered : IsHistory first history
+  pub ordered : IsEntryHistory first history
   pub written : (e : Entry) → Has e history → Wrote views e
   pub whole : (e : Entry) → Wrote views e → Has e history
   pub told : (t : Turn) → Made views t → TurnOk c first history t

@@ -9,11 +9,11 @@ use Rattle.cb_types.specs.declared.request.Request.{Request}
 use Rattle.cb_types.specs.declared.request.Request.TheVariants as request
 use Rattle.cb_script.specs.declared.fault.Reason.{Reason}
 use Rattle.cb_script.specs.declared.fault.Reason.TheVariants as reasons
-use Rattle.cb_script.specs.Form.{IsContents, IsChange, IsKnown, IsRequest, FitsMode}
+use Rattle.cb_script.specs.Form.{IsContents, IsChange, IsNameKnown, IsRequest, FitsMode}
 use Rattle.cb_script.specs.Hexadecimal.{IsHexadecimal}
 use Rattle.cb_script.specs.Phrase.{Phrase, phrase_of, change_text}
 use Rattle.cb_script.specs.Reading.{alone, facing, naming}
-use Rattle.cb_script.specs.Rules.{Place, Rule, HasName, HasKnown, HasNumber, HasHex, HasLength}
+use Rattle.cb_script.specs.Rules.{LinePlace, Rule, HasName, HasKnown, HasNumber, HasHex, HasLength}
 use Rattle.cb_script.proofs.Decimals.{decimal_value}
 use Rattle.cb_script.proofs.HexText.{bytes_at, contents_hexadecimal}
 
@@ -77,7 +77,7 @@ has_name nodes (request.Unpin name) is = is
 has_name nodes (request.Filter name) is = is
 has_name nodes _ is = tt
 
-has_known : (place : Place) (lane : ℕ) (r : Request) → IsKnown place.before lane r → HasKnown place lane (phrase_of r)
+has_known : (place : LinePlace) (lane : ℕ) (r : Request) → IsNameKnown place.before lane r → HasKnown place lane (phrase_of r)
 has_known place lane (request.Make name bytes) is = is
 has_known place lane (request.Write name at bytes) is = is
 has_known place lane (request.Read name) is = is
@@ -88,7 +88,7 @@ has_known place lane (request.Unpin name) is = is
 has_known place lane (request.Filter name) is = is
 has_known place lane _ is = tt
 
-has_number : (place : Place) (r : Request) → place.nodes ≤ 64 → IsRequest place.nodes r → HasNumber place (phrase_of r)
+has_number : (place : LinePlace) (r : Request) → place.nodes ≤ 64 → IsRequest place.nodes r → HasNumber place (phrase_of r)
 has_number place (request.Write name at bytes) few is = (at, (omega (arith, is.1), refl), is.1)
 has_number place (request.Crash node) few is = (node.n, (omega (arith, few, is), refl), is)
 has_number place (request.Join node) few is = (node.n, (omega (arith, few, is), refl), is)
@@ -115,7 +115,7 @@ has_length nodes (request.Make name bytes) is = (contents_hexadecimal bytes is.1
 has_length nodes (request.Write name at bytes) is = has_change_length bytes is.2
 has_length nodes _ is = tt
 
-pub rules_hold : (place : Place) (lane : ℕ) (r : Request) → place.nodes ≤ 64 → IsRequest place.nodes r → IsKnown place.before lane r → FitsMode (phrase_of r) place.mode → (reason : Reason) → Rule place lane (phrase_of r) reason
+pub rules_hold : (place : LinePlace) (lane : ℕ) (r : Request) → place.nodes ≤ 64 → IsRequest place.nodes r → IsNameKnown place.before lane r → FitsMode (phrase_of r) place.mode → (reason : Reason) → Rule place lane (phrase_of r) reason
 rules_hold place lane r few is is_known fits reasons.Name = has_name place.nodes r is
 rules_hold place lane r few is is_known fits reasons.Known = has_known place lane r is_known
 rules_hold place lane r few is is_known fits reasons.Number = has_number place r few is

@@ -11,8 +11,8 @@ use Rattle.cb_script.specs.declared.script.Line.{Line}
 use Rattle.cb_script.specs.declared.script.Mode.{Mode}
 use Rattle.cb_script.specs.Form.{MayFollow, AreLines, AreInMode, FitsMode}
 use Rattle.cb_script.specs.Phrase.{phrase_of}
-use Rattle.cb_script.specs.Reading.{AreTheLines, ComesNext, FaultIs, HasBadLine, IsLeastLane, Refuses, fault_at}
-use Rattle.cb_script.specs.Rules.{Holds, IsLeast}
+use Rattle.cb_script.specs.Reading.{AreTheLines, ComesNext, FaultIs, HasBadLine, IsLeastLane, RefusesBy, fault_at}
+use Rattle.cb_script.specs.Rules.{IsLeast, RuleHolds}
 use Rattle.cb_script.specs.Spelling.{lines_of, script_line}
 use Rattle.cb_script.proofs.Least.{least_lines}
 
@@ -68,7 +68,7 @@ module _ (mode : Mode) (nodes : ℕ) (text : List ℕ) (lines : List Line) (rest
         ∙ sym (append_assoc (map script_line lines) (script_line l ∷ []) (lines_of behind)) ∙ ap (λ (ts : List (List ℕ)). ts ++ lines_of behind) (sym (map_push script_line lines l));
   }
 
-  pub has_bad_line : (line behind : List ℕ) (number : ℕ) (reason : Reason) → lines_of rest ≡ line ∷ lines_of behind → number ≡ length lines + 2 → IsLeast (Holds (record { mode = mode; nodes = nodes; before = lines }) line) reason
+  pub has_bad_line : (line behind : List ℕ) (number : ℕ) (reason : Reason) → lines_of rest ≡ line ∷ lines_of behind → number ≡ length lines + 2 → IsLeast (RuleHolds (record { mode = mode; nodes = nodes; before = lines }) line) reason
       → HasBadLine mode nodes (lines_of text) number reason
   has_bad_line line behind number reason cut numbered least = record {
     before = lines;
@@ -86,9 +86,9 @@ module _ (mode : Mode) (nodes : ℕ) (text : List ℕ) (lines : List Line) (rest
   pub has_lines_fault : (line behind : List ℕ) (number : ℕ) → lines_of rest ≡ line ∷ lines_of behind → number ≡ length lines + 2 → 20000 ≤ length lines → HasBadLine mode nodes (lines_of text) number reasons.Lines
   has_lines_fault line behind number cut numbered many =
       has_bad_line line behind number reasons.Lines cut numbered
-      (least_lines (Holds (record { mode = mode; nodes = nodes; before = lines }) line) (λ l p low is. tt) (λ l p low is. tt) (λ l p low is. tt) (λ (few : length lines < 20000). omega (arith, few, many)))
+      (least_lines (RuleHolds (record { mode = mode; nodes = nodes; before = lines }) line) (λ l p low is. tt) (λ l p low is. tt) (λ l p low is. tt) (λ (few : length lines < 20000). omega (arith, few, many)))
 
-  pub line_fault : (line behind : List ℕ) (number : ℕ) (e : Refusal) → lines_of rest ≡ line ∷ lines_of behind → number ≡ length lines + 2 → Refuses e (IsLeast (Holds (record { mode = mode; nodes = nodes; before = lines }) line))
+  pub line_fault : (line behind : List ℕ) (number : ℕ) (e : Refusal) → lines_of rest ≡ line ∷ lines_of behind → number ≡ length lines + 2 → RefusesBy e (IsLeast (RuleHolds (record { mode = mode; nodes = nodes; before = lines }) line))
       → FaultIs (fault_at number e) (HasBadLine mode nodes (lines_of text))
   line_fault line behind number (Broken reason) cut numbered least = has_bad_line line behind number reason cut numbered least
   line_fault line behind number NoMemory cut numbered least = tt

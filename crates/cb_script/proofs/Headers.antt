@@ -11,7 +11,7 @@ use Rattle.cb_types.specs.declared.config.Config.{Config}
 use Rattle.cb_types.specs.declared.config.Field.TheVariants.{K, R, Nodes, Frames, Room, Handles, Turns}
 use Rattle.cb_script.specs.Spelling.{header_line, setting, header_words}
 use Rattle.cb_script.specs.Numbers.{AreNumbers}
-use Rattle.cb_script.proofs.Words.{Lacks, header_is_words, words_split, lacks_feed}
+use Rattle.cb_script.proofs.Words.{LacksByte, header_is_words, words_split, lacks_feed}
 
 pub header_splits : (c : Config) → AreNumbers c → slice_split (λ b. b == 32) (header_line c) ≡ header_words c
 unfolding header_line
@@ -22,7 +22,7 @@ pub header_joins : (c : Config) (text : List ℕ) → slice_split (λ b. b == 32
 unfolding header_line
 header_joins c text cut = sym (join_with_byte-slice_split 32 text) ∙ ap (join_with_byte 32) cut
 
-pub header_lacks_feed : (c : Config) → AreNumbers c → Lacks 10 (header_line c)
+pub header_lacks_feed : (c : Config) → AreNumbers c → LacksByte 10 (header_line c)
 unfolding header_line
 header_lacks_feed c numbers = lacks_feed (header_words c) (header_is_words c numbers)
 

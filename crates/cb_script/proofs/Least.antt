@@ -2,11 +2,11 @@
 use Rattle.std.proofs.Common.{◌<◌, arith}
 use Rattle.cb_script.specs.declared.fault.Reason.{Reason}
 use Rattle.cb_script.specs.declared.fault.Reason.TheVariants as reasons
-use Rattle.cb_script.specs.Reasons.{number_of}
+use Rattle.cb_script.specs.Reasons.{reason_number}
 use Rattle.cb_script.specs.Rules.{IsLeast}
 
 module _ (R : Reason → Type 0) where
-  below_lines : R reasons.TooLong → R reasons.Header → R reasons.Config → (other : Reason) → number_of other < 4 → R other
+  below_lines : R reasons.TooLong → R reasons.Header → R reasons.Config → (other : Reason) → reason_number other < 4 → R other
   below_lines r1 r2 r3 reasons.TooLong below = r1
   below_lines r1 r2 r3 reasons.Header below = r2
   below_lines r1 r2 r3 reasons.Config below = r3
@@ -15,7 +15,7 @@ module _ (R : Reason → Type 0) where
   pub least_lines : R reasons.TooLong → R reasons.Header → R reasons.Config → (R reasons.Lines → ⊥) → IsLeast R reasons.Lines
   least_lines r1 r2 r3 broken = record { broken = broken; lesser = λ other below. below_lines r1 r2 r3 other below }
 
-  below_shape : R reasons.TooLong → R reasons.Header → R reasons.Config → R reasons.Lines → (other : Reason) → number_of other < 5 → R other
+  below_shape : R reasons.TooLong → R reasons.Header → R reasons.Config → R reasons.Lines → (other : Reason) → reason_number other < 5 → R other
   below_shape r1 r2 r3 r4 reasons.TooLong below = r1
   below_shape r1 r2 r3 r4 reasons.Header below = r2
   below_shape r1 r2 r3 r4 reasons.Config below = r3
@@ -25,7 +25,7 @@ module _ (R : Reason → Type 0) where
   pub least_shape : R reasons.TooLong → R reasons.Header → R reasons.Config → R reasons.Lines → (R reasons.Shape → ⊥) → IsLeast R reasons.Shape
   least_shape r1 r2 r3 r4 broken = record { broken = broken; lesser = λ other below. below_shape r1 r2 r3 r4 other below }
 
-  below_lane : R reasons.TooLong → R reasons.Header → R reasons.Config → R reasons.Lines → R reasons.Shape → (other : Reason) → number_of other < 6 → R other
+  below_lane : R reasons.TooLong → R reasons.Header → R reasons.Config → R reasons.Lines → R reasons.Shape → (other : Reason) → reason_number other < 6 → R other
   below_lane r1 r2 r3 r4 r5 reasons.TooLong below = r1
   below_lane r1 r2 r3 r4 r5 reasons.Header below = r2
   below_lane r1 r2 r3 r4 r5 reasons.Config below = r3
@@ -36,7 +36,7 @@ module _ (R : Reason → Type 0) where
   pub least_lane : R reasons.TooLong → R reasons.Header → R reasons.Config → R reasons.Lines → R reasons.Shape → (R reasons.Lane → ⊥) → IsLeast R reasons.Lane
   least_lane r1 r2 r3 r4 r5 broken = record { broken = broken; lesser = λ other below. below_lane r1 r2 r3 r4 r5 other below }
 
-  below_name : R reasons.TooLong → R reasons.Header → R reasons.Config → R reasons.Lines → R reasons.Shape → R reasons.Lane → (other : Reason) → number_of other < 7 → R other
+  below_name : R reasons.TooLong → R reasons.Header → R reasons.Config → R reasons.Lines → R reasons.Shape → R reasons.Lane → (other : Reason) → reason_number other < 7 → R other
   below_name r1 r2 r3 r4 r5 r6 reasons.TooLong below = r1
   below_name r1 r2 r3 r4 r5 r6 reasons.Header below = r2
   below_name r1 r2 r3 r4 r5 r6 reasons.Config below = r3
@@ -48,7 +48,7 @@ module _ (R : Reason → Type 0) where
   pub least_name : R reasons.TooLong → R reasons.Header → R reasons.Config → R reasons.Lines → R reasons.Shape → R reasons.Lane → (R reasons.Name → ⊥) → IsLeast R reasons.Name
   least_name r1 r2 r3 r4 r5 r6 broken = record { broken = broken; lesser = λ other below. below_name r1 r2 r3 r4 r5 r6 other below }
 
-  below_known : R reasons.TooLong → R reasons.Header → R reasons.Config → R reasons.Lines → R reasons.Shape → R reasons.Lane → R reasons.Name → (other : Reason) → number_of other < 8 → R other
+  below_known : R reasons.TooLong → R reasons.Header → R reasons.Config → R reasons.Lines → R reasons.Shape → R reasons.Lane → R reasons.Name → (other : Reason) → reason_number other < 8 → R other
   below_known r1 r2 r3 r4 r5 r6 r7 reasons.TooLong below = r1
   below_known r1 r2 r3 r4 r5 r6 r7 reasons.Header below = r2
   below_known r1 r2 r3 r4 r5 r6 r7 reasons.Config below = r3
@@ -61,7 +61,7 @@ module _ (R : Reason → Type 0) where
   pub least_known : R reasons.TooLong → R reasons.Header → R reasons.Config → R reasons.Lines → R reasons.Shape → R reasons.Lane → R reasons.Name → (R reasons.Known → ⊥) → IsLeast R reasons.Known
   least_known r1 r2 r3 r4 r5 r6 r7 broken = record { broken = broken; lesser = λ other below. below_known r1 r2 r3 r4 r5 r6 r7 other below }
 
-  below_number : R reasons.TooLong → R reasons.Header → R reasons.Config → R reasons.Lines → R reasons.Shape → R reasons.Lane → R reasons.Name → R reasons.Known → (other : Reason) → number_of other < 9 → R other
+  below_number : R reasons.TooLong → R reasons.Header → R reasons.Config → R reasons.Lines → R reasons.Shape → R reasons.Lane → R reasons.Name → R reasons.Known → (other : Reason) → reason_number other < 9 → R other
   below_number r1 r2 r3 r4 r5 r6 r7 r8 reasons.TooLong below = r1
   below_number r1 r2 r3 r4 r5 r6 r7 r8 reasons.Header below = r2
   below_number r1 r2 r3 r4 r5 r6 r7 r8 reasons.Config below = r3
@@ -75,7 +75,7 @@ module _ (R : Reason → Type 0) where
   pub least_number : R reasons.TooLong → R reasons.Header → R reasons.Config → R reasons.Lines → R reasons.Shape → R reasons.Lane → R reasons.Name → R reasons.Known → (R reasons.Number → ⊥) → IsLeast R reasons.Number
   least_number r1 r2 r3 r4 r5 r6 r7 r8 broken = record { broken = broken; lesser = λ other below. below_number r1 r2 r3 r4 r5 r6 r7 r8 other below }
 
-  below_hex : R reasons.TooLong → R reasons.Header → R reasons.Config → R reasons.Lines → R reasons.Shape → R reasons.Lane → R reasons.Name → R reasons.Known → R reasons.Number → (other : Reason) → number_of other < 10 → R other
+  below_hex : R reasons.TooLong → R reasons.Header → R reasons.Config → R reasons.Lines → R reasons.Shape → R reasons.Lane → R reasons.Name → R reasons.Known → R reasons.Number → (other : Reason) → reason_number other < 10 → R other
   below_hex r1 r2 r3 r4 r5 r6 r7 r8 r9 reasons.TooLong below = r1
   below_hex r1 r2 r3 r4 r5 r6 r7 r8 r9 reasons.Header below = r2
   below_hex r1 r2 r3 r4 r5 r6 r7 r8 r9 reasons.Config below = r3
@@ -90,7 +90,7 @@ module _ (R : Reason → Type 0) where
   pub least_hex : R reasons.TooLong → R reasons.Header → R reasons.Config → R reasons.Lines → R reasons.Shape → R reasons.Lane → R reasons.Name → R reasons.Known → R reasons.Number → (R reasons.Hex → ⊥) → IsLeast R reasons.Hex
   least_hex r1 r2 r3 r4 r5 r6 r7 r8 r9 broken = record { broken = broken; lesser = λ other below. below_hex r1 r2 r3 r4 r5 r6 r7 r8 r9 other below }
 
-  below_length : R reasons.TooLong → R reasons.Header → R reasons.Config → R reasons.Lines → R reasons.Shape → R reasons.Lane → R reasons.Name → R reasons.Known → R reasons.Number → R reasons.Hex → (other : Reason) → number_of other < 11 → R other
+  below_length : R reasons.TooLong → R reasons.Header → R reasons.Config → R reasons.Lines → R reasons.Shape → R reasons.Lane → R reasons.Name → R reasons.Known → R reasons.Number → R reasons.Hex → (other : Reason) → reason_number other < 11 → R other
   below_length r1 r2 r3 r4 r5 r6 r7 r8 r9 r10 reasons.TooLong below = r1
   below_length r1 r2 r3 r4 r5 r6 r7 r8 r9 r10 reasons.Header below = r2
   below_length r1 r2 r3 r4 r5 r6 r7 r8 r9 r10 reasons.Config below = r3
@@ -106,7 +106,7 @@ module _ (R : Reason → Type 0) where
   pub least_length : R reasons.TooLong → R reasons.Header → R reasons.Config → R reasons.Lines → R reasons.Shape → R reasons.Lane → R reasons.Name → R reasons.Known → R reasons.Number → R reasons.Hex → (R reasons.Length → ⊥) → IsLeast R reasons.Length
   least_length r1 r2 r3 r4 r5 r6 r7 r8 r9 r10 broken = record { broken = broken; lesser = λ other below. below_length r1 r2 r3 r4 r5 r6 r7 r8 r9 r10 other below }
 
-  below_mode : R reasons.TooLong → R reasons.Header → R reasons.Config → R reasons.Lines → R reasons.Shape → R reasons.Lane → R reasons.Name → R reasons.Known → R reasons.Number → R reasons.Hex → R reasons.Length → (other : Reason) → number_of other < 12 → R other
+  below_mode : R reasons.TooLong → R reasons.Header → R reasons.Config → R reasons.Lines → R reasons.Shape → R reasons.Lane → R reasons.Name → R reasons.Known → R reasons.Number → R reasons.Hex → R reasons.Length → (other : Reason) → reason_number other < 12 → R other
   below_mode r1 r2 r3 r4 r5 r6 r7 r8 r9 r10 r11 reasons.TooLong below = r1
   below_mode r1 r2 r3 r4 r5 r6 r7 r8 r9 r10 r11 reasons.Header below = r2
   below_mode r1 r2 r3 r4 r5 r6 r7 r8 r9 r10 r11 reasons.Config below = r3

@@ -13,39 +13,39 @@ use Rattle.cb_script.specs.declared.fault.Refusal.{Refusal}
 use Rattle.cb_script.specs.declared.fault.Refusal.TheVariants.{Broken, NoMemory}
 use Rattle.cb_script.specs.declared.script.Line.{Line}
 use Rattle.cb_script.specs.Cut.{texts}
-use Rattle.cb_script.specs.Form.{FitsMode, IsKnown, IsLane}
+use Rattle.cb_script.specs.Form.{FitsMode, IsLane, IsNameKnown}
 use Rattle.cb_script.specs.Phrase.{Phrase, phrase_words}
-use Rattle.cb_script.specs.Reading.{ComesNext, IsLeastLane, MayStand, Refuses}
-use Rattle.cb_script.specs.Rules.{Place, Rule, Holds, HasLane, IsLeast, IsShaped}
+use Rattle.cb_script.specs.Reading.{ComesNext, IsLeastLane, MayStand, RefusesBy}
+use Rattle.cb_script.specs.Rules.{LinePlace, Rule, RuleHolds, HasLane, IsLeast, IsLineShaped}
 use Rattle.cb_script.specs.Spelling.{words_of, line_words}
 use Rattle.cb_script.proofs.Least.{least_shape, least_lane}
 use Rattle.cb_script.proofs.Phrases.{phrase_injective}
 
 -- a line has one shape
-pub shaped_same : (text a b : List ℕ) (p q : Phrase) → IsShaped text a p → IsShaped text b q → (a ≡ b) × (p ≡ q)
+pub shaped_same : (text a b : List ℕ) (p q : Phrase) → IsLineShaped text a p → IsLineShaped text b q → (a ≡ b) × (p ≡ q)
 shaped_same text a b p q x y =
     let both : a ∷ phrase_words p ≡ b ∷ phrase_words q = sym x.words ∙ y.words in
     let lanes : a ≡ b = cc in
     let words : phrase_words p ≡ phrase_words q = cc in
     (lanes, phrase_injective p q words)
 
-module _ (place : Place) (text : List ℕ) (few : length place.before < 20000) where
-  pub shape_fault : ((lane : List ℕ) (phrase : Phrase) → IsShaped text lane phrase → ⊥) → IsLeast (Holds place text) reasons.Shape
-  shape_fault none = least_shape (Holds place text) (λ l p low is. tt) (λ l p low is. tt) (λ l p low is. tt) few (λ some. none some.0 some.1 some.2)
+module _ (place : LinePlace) (text : List ℕ) (few : length place.before < 20000) where
+  pub shape_fault : ((lane : List ℕ) (phrase : Phrase) → IsLineShaped text lane phrase → ⊥) → IsLeast (RuleHolds place text) reasons.Shape
+  shape_fault none = least_shape (RuleHolds place text) (λ l p low is. tt) (λ l p low is. tt) (λ l p low is. tt) few (λ some. none some.0 some.1 some.2)
 
-  pub lane_fault : (lane : List ℕ) (phrase : Phrase) → IsShaped text lane phrase → (HasLane place lane → ⊥) → IsLeast (Holds place text) reasons.Lane
-  lane_fault lane phrase shaped none = least_lane (Holds place text) (λ l p low is. tt) (λ l p low is. tt) (λ l p low is. tt) few (lane, phrase, shaped) (λ holds. none (holds lane phrase shaped))
+  pub lane_fault : (lane : List ℕ) (phrase : Phrase) → IsLineShaped text lane phrase → (HasLane place lane → ⊥) → IsLeast (RuleHolds place text) reasons.Lane
+  lane_fault lane phrase shaped none = least_lane (RuleHolds place text) (λ l p low is. tt) (λ l p low is. tt) (λ l p low is. tt) few (lane, phrase, shaped) (λ holds. none (holds lane phrase shaped))
 
   -- ---- a line of a lane that may stand here
 
-  module _ (lane : ℕ) (phrase : Phrase) (shaped : IsShaped text (decimal lane) phrase) (is_lane : IsLane place.before lane) where
-    same_rule : (reason : Reason) → Rule place lane phrase reason → (l : ℕ) (p : Phrase) → l ≤ 15 → IsShaped text (decimal l) p → Rule place l p reason
+  module _ (lane : ℕ) (phrase : Phrase) (shaped : IsLineShaped text (decimal lane) phrase) (is_lane : IsLane place.before lane) where
+    same_rule : (reason : Reason) → Rule place lane phrase reason → (l : ℕ) (p : Phrase) → l ≤ 15 → IsLineShaped text (decimal l) p → Rule place l p reason
     same_rule reason rule l p low is =
         let same = shaped_same text (decimal lane) (decimal l) phrase p shaped is in
         let lanes : lane ≡ l = decimal_injective lane l (omega (arith, is_lane.low)) (omega arith) same.0 in
         subst (λ (q : Phrase). Rule place l q reason) same.1 (subst (λ (n : ℕ). Rule place n phrase reason) lanes rule)
 
-    pub line_holds : (reason : Reason) → Rule place lane phrase reason → Holds place text reason
+    pub line_holds : (reason : Reason) → Rule place lane phrase reason → RuleHolds place text reason
     line_holds reasons.Lines rule = few
     line_holds reasons.Shape rule = (decimal lane, phrase, shaped)
     line_holds reasons.Lane rule = λ l p is.
@@ -53,16 +53,16 @@ module _ (place : Place) (text : List ℕ) (few : length place.before < 20000) w
         (lane, (omega (arith, is_lane.low), same.0), is_lane)
     line_holds reason rule = same_rule reason rule
 
-    line_breaks : (reason : Reason) → (Rule place lane phrase reason → ⊥) → Holds place text reason → ⊥
+    line_breaks : (reason : Reason) → (Rule place lane phrase reason → ⊥) → RuleHolds place text reason → ⊥
     line_breaks reasons.Lines broken holds = broken tt
     line_breaks reasons.Shape broken holds = broken tt
     line_breaks reasons.Lane broken holds = broken tt
     line_breaks reason broken holds = broken (holds lane phrase is_lane.low shaped)
 
-    least_line : (reason : Reason) → IsLeast (Rule place lane phrase) reason → IsLeast (Holds place text) reason
+    least_line : (reason : Reason) → IsLeast (Rule place lane phrase) reason → IsLeast (RuleHolds place text) reason
     least_line reason least = record { broken = line_breaks reason least.broken; lesser = λ other below. line_holds other (least.lesser other below) }
 
-    pub line_refused : (e : Refusal) → Refuses e (IsLeast (Rule place lane phrase)) → Refuses e (IsLeast (Holds place text))
+    pub line_refused : (e : Refusal) → RefusesBy e (IsLeast (Rule place lane phrase)) → RefusesBy e (IsLeast (RuleHolds place text))
     line_refused (Broken reason) least = least_line reason least
     line_refused NoMemory least = tt
 
@@ -75,7 +75,7 @@ module _ (place : Place) (text : List ℕ) (few : length place.before < 20000) w
             lane = subst (IsLane place.before) (sym same) is_lane;
             line = numbered;
             request = stands.request;
-            known = subst (λ (n : ℕ). IsKnown place.before n r) (sym same) stands.known;
+            known = subst (λ (n : ℕ). IsNameKnown place.before n r) (sym same) stands.known;
           };
           allowed = subst (λ (p : Phrase). FitsMode p place.mode) (sym stands.spelled) stands.allowed;
           spelled = sym (join_with_byte-slice_split 32 text) ∙ ap (join_with_byte 32) words;
@@ -100,11 +100,11 @@ module _ (before : List Line) (least : ℕ) (is_least : IsLeastLane before least
 -- ---- the words of a line, as code reads them
 
 pub shaped_of : (text : List ℕ) (words : List (Bor (List ℕ))) (first : Bor (List ℕ)) (others : List (Bor (List ℕ))) (phrase : Phrase) → texts words ≡ words_of text → words ≡ first ∷ others → AllByRecursion (λ word. 0 < length word) (texts words)
-    → texts others ≡ phrase_words phrase → IsShaped text first.now phrase
+    → texts others ≡ phrase_words phrase → IsLineShaped text first.now phrase
 shaped_of text words first others phrase cut is full spelled = record {
   words = sym cut ∙ ap texts is ∙ ap (λ (ws : List (List ℕ)). first.now ∷ ws) spelled;
   full = subst (λ (ws : List (List ℕ)). AllByRecursion (λ word. 0 < length word) ws) cut full;
 }
 
-pub shaped_lane : (text a b : List ℕ) (phrase : Phrase) → a ≡ b → IsShaped text a phrase → IsShaped text b phrase
-shaped_lane text a b phrase same shaped = subst (λ (lane : List ℕ). IsShaped text lane phrase) same shaped
+pub shaped_lane : (text a b : List ℕ) (phrase : Phrase) → a ≡ b → IsLineShaped text a phrase → IsLineShaped text b phrase
+shaped_lane text a b phrase same shaped = subst (λ (lane : List ℕ). IsLineShaped text lane phrase) same shaped

@@ -11,14 +11,14 @@ use Rattle.cb_script.specs.declared.verb.NameVerb.{NameVerb}
 use Rattle.cb_script.specs.declared.verb.NameVerb.TheVariants as on_name
 use Rattle.cb_script.specs.declared.verb.NodeVerb.{NodeVerb}
 use Rattle.cb_script.specs.declared.verb.NodeVerb.TheVariants as on_node
-use Rattle.cb_script.specs.Form.{IsName, IsContents, IsChange, IsNew, KnowsName}
+use Rattle.cb_script.specs.Form.{IsName, IsContents, IsChange, IsNameNew, KnowsName}
 use Rattle.cb_script.specs.Hexadecimal.{IsHexadecimal}
 use Rattle.cb_script.specs.Phrase.{Phrase, change_text}
-use Rattle.cb_script.specs.Reading.{NameFault, HexFault, MayStand, Refuses, naming, facing}
-use Rattle.cb_script.specs.Rules.{Place, Rule, IsLeast, IsNumber}
+use Rattle.cb_script.specs.Reading.{NameFault, HexFault, MayStand, RefusesBy, naming, facing}
+use Rattle.cb_script.specs.Rules.{LinePlace, Rule, IsLeast, IsNumber}
 use Rattle.cb_script.proofs.Least.{least_name, least_known, least_number, least_hex, least_length}
 
-module _ (place : Place) (lane : ℕ) where
+module _ (place : LinePlace) (lane : ℕ) where
   -- ---- a verb in front of a name
 
   pub naming_stands : (verb : NameVerb) (name : List ℕ) → IsName name → KnowsName place.before lane name → MayStand place lane (Phrase.Naming verb name) (naming verb name)
@@ -46,26 +46,26 @@ module _ (place : Place) (lane : ℕ) where
   -- ---- a make
 
   module _ (name hex : List ℕ) where
-    pub making_stands : (bytes : List ℕ) → IsName name → IsNew place.before name → IsContents bytes × (hex ≡ encode_lower bytes) → MayStand place lane (Phrase.Making name hex) (request.Make name bytes)
+    pub making_stands : (bytes : List ℕ) → IsName name → IsNameNew place.before name → IsContents bytes × (hex ≡ encode_lower bytes) → MayStand place lane (Phrase.Making name hex) (request.Make name bytes)
     making_stands bytes is new contents = record { spelled = ap (λ (t : List ℕ). Phrase.Making name t) (sym contents.1); request = (is, contents.0); known = new; allowed = tt }
 
-    pub making_name_fault : (reason : Reason) → NameFault (IsName name) (IsNew place.before name) reason → IsLeast (Rule place lane (Phrase.Making name hex)) reason
+    pub making_name_fault : (reason : Reason) → NameFault (IsName name) (IsNameNew place.before name) reason → IsLeast (Rule place lane (Phrase.Making name hex)) reason
     making_name_fault reasons.Name fault = least_name (Rule place lane (Phrase.Making name hex)) tt tt tt tt tt tt fault
     making_name_fault reasons.Known fault = least_known (Rule place lane (Phrase.Making name hex)) tt tt tt tt tt tt fault.0 fault.1
     making_name_fault _ fault = absurd fault
 
-    pub making_hex_fault : (reason : Reason) → IsName name → IsNew place.before name → HexFault (IsHexadecimal hex) (length hex ≤ 2048) reason → IsLeast (Rule place lane (Phrase.Making name hex)) reason
+    pub making_hex_fault : (reason : Reason) → IsName name → IsNameNew place.before name → HexFault (IsHexadecimal hex) (length hex ≤ 2048) reason → IsLeast (Rule place lane (Phrase.Making name hex)) reason
     making_hex_fault reasons.Hex is new fault = least_hex (Rule place lane (Phrase.Making name hex)) tt tt tt tt tt tt is new tt fault
     making_hex_fault reasons.Length is new fault = least_length (Rule place lane (Phrase.Making name hex)) tt tt tt tt tt tt is new tt fault.0 fault.1
     making_hex_fault _ is new fault = absurd fault
 
-    pub making_name_refused : (e : Refusal) → Refuses e (NameFault (IsName name) (IsNew place.before name))
-        → Refuses e (IsLeast (Rule place lane (Phrase.Making name hex)))
+    pub making_name_refused : (e : Refusal) → RefusesBy e (NameFault (IsName name) (IsNameNew place.before name))
+        → RefusesBy e (IsLeast (Rule place lane (Phrase.Making name hex)))
     making_name_refused (Broken reason) fault = making_name_fault reason fault
     making_name_refused NoMemory fault = tt
 
-    pub making_hex_refused : (e : Refusal) → IsName name → IsNew place.before name → Refuses e (HexFault (IsHexadecimal hex) (length hex ≤ 2048))
-        → Refuses e (IsLeast (Rule place lane (Phrase.Making name hex)))
+    pub making_hex_refused : (e : Refusal) → IsName name → IsNameNew place.before name → RefusesBy e (HexFault (IsHexadecimal hex) (length hex ≤ 2048))
+        → RefusesBy e (IsLeast (Rule place lane (Phrase.Making name hex)))
     making_hex_refused (Broken reason) is new fault = making_hex_fault reason is new fault
     making_hex_refused NoMemory is new fault = tt
 
@@ -93,7 +93,7 @@ module _ (place : Place) (lane : ℕ) where
     writing_hex_fault reasons.Length n is known_name start fault = least_length (Rule place lane (Phrase.Writing name at hex)) tt tt tt tt tt tt is known_name (n, start.0, start.1) fault.0 fault.1
     writing_hex_fault _ n is known_name start fault = absurd fault
 
-    pub writing_refused : (e : Refusal) (n : ℕ) → IsName name → KnowsName place.before lane name → IsNumber at n × (n ≤ 1024) → Refuses e (HexFault (IsHexadecimal hex ⊎ (hex ≡ codes "-")) (length hex ≤ 2048))
-        → Refuses e (IsLeast (Rule place lane (Phrase.Writing name at hex)))
+    pub writing_refused : (e : Refusal) (n : ℕ) → IsName name → KnowsName place.before lane name → IsNumber at n × (n ≤ 1024) → RefusesBy e (HexFault (IsHexadecimal hex ⊎ (hex ≡ codes "-")) (length hex ≤ 2048))
+        → RefusesBy e (IsLeast (Rule place lane (Phrase.Writing name at hex)))
     writing_refused (Broken reason) n is known_name start fault = writing_hex_fault reason n is known_name start fault
     writing_refused NoMemory n is known_name start fault = tt

@@ -12,7 +12,7 @@ use Rattle.cb_script.specs.declared.script.Mode.{Mode}
 use Rattle.cb_script.specs.First.{First, IsBadLine}
 use Rattle.cb_script.specs.Form.{AreLines, Spells}
 use Rattle.cb_script.specs.Reading.{AreTheLines, FaultIs, HasBadLine, HeaderFault}
-use Rattle.cb_script.specs.Rules.{Holds, IsLeast}
+use Rattle.cb_script.specs.Rules.{IsLeast, RuleHolds}
 use Rattle.cb_script.specs.Spelling.{lines_of, header_line}
 
 -- an input of no bytes
@@ -50,7 +50,7 @@ module _ (bytes : List ℕ) (mode : Mode) (header : List ℕ) (others : List (Li
       after = bad.after;
       lines = lines_are ∙ ap (λ (texts : List (List ℕ)). header_line c ∷ texts) bad.read;
       number = bad.number;
-      least = subst (λ (n : ℕ). IsLeast (Holds (record { mode = mode; nodes = n; before = bad.before }) bad.text) reason) same bad.least;
+      least = subst (λ (n : ℕ). IsLeast (RuleHolds (record { mode = mode; nodes = n; before = bad.before }) bad.text) reason) same bad.least;
     }
 
     bad_first : (line : ℕ) (reason : Reason) → HasBadLine mode nodes others line reason → First bytes mode line reason

@@ -26,15 +26,15 @@ use Rattle.cb_script.proofs.HexText.{lower_encoded}
 -- ---- pieces without a byte
 
 -- the byte is not in the piece
-abbrev pub Lacks : ℕ → List ℕ → Type 0
-Lacks c piece = All (λ b. eqb b c ≡ false) piece
+abbrev pub LacksByte : ℕ → List ℕ → Type 0
+LacksByte c piece = All (λ b. eqb b c ≡ false) piece
 
 -- the byte is in none of the pieces
 abbrev pub AllLack : ℕ → List (List ℕ) → Type 0
 AllLack c [] = Unit {0}
-AllLack c (piece ∷ pieces) = Lacks c piece × AllLack c pieces
+AllLack c (piece ∷ pieces) = LacksByte c piece × AllLack c pieces
 
-pub split_join : (c : ℕ) (piece : List ℕ) (pieces : List (List ℕ)) → Lacks c piece → AllLack c pieces → slice_split (λ b. eqb b c) (join_with_byte c (piece ∷ pieces)) ≡ piece ∷ pieces
+pub split_join : (c : ℕ) (piece : List ℕ) (pieces : List (List ℕ)) → LacksByte c piece → AllLack c pieces → slice_split (λ b. eqb b c) (join_with_byte c (piece ∷ pieces)) ≡ piece ∷ pieces
 split_join c piece [] lacks others = slice_split_none (λ b. eqb b c) piece lacks
 split_join c piece (next ∷ pieces) lacks others =
     slice_split_at (λ b. eqb b c) piece c (join_with_byte c (next ∷ pieces)) lacks (eq-eqb c c refl) ∙ ap (λ (ps : List (List ℕ)). piece ∷ ps) (split_join c next pieces others.0 others.1)
@@ -42,13 +42,13 @@ split_join c piece (next ∷ pieces) lacks others =
 -- ---- the bytes of words
 
 -- some bytes, each above the space
-pub record IsWord (word : List ℕ) : Type 0 where
+pub record IsWordOfLine (word : List ℕ) : Type 0 where
   pub some : 0 < length word
   pub each : All (λ b. 32 < b) word
 
 abbrev pub AreWords : List (List ℕ) → Type 0
 AreWords [] = Unit {0}
-AreWords (word ∷ words) = IsWord word × AreWords words
+AreWords (word ∷ words) = IsWordOfLine word × AreWords words
 
 abbrev pub is_word : List ℕ → Bool
 is_word [] = true
@@ -62,7 +62,8 @@ above_from_test (b ∷ bytes) h =
     All-cons (λ b. 32 < b) b bytes (omega arith) (above_from_test bytes parts.1)
 
 -- a word that is written out
-pub word_from_test : (b : ℕ) (bytes : List ℕ) → is_word (b ∷ bytes) ≡ true → IsWord (b ∷ bytes)
+pub word_from_test : (b : ℕ) (bytes : List ℕ) → is_word (b ∷ bytes) ≡ true
+    → IsWordOfLine (b ∷ bytes)
 word_from_test b bytes h = record { some = omega arith; each = above_from_test (b ∷ bytes) h }
 
 above_digits : (word : List ℕ) → AllDigits 10 word → All (λ b. 32 < b) word
@@ -71,7 +72,7 @@ above_digits (b ∷ bytes) digits =
     let digit = digit_from_value b digits.0 in
     All-cons (λ b. 32 < b) b bytes (omega (arith, digit)) (above_digits bytes digits.1)
 
-pub IsWord-decimal : (n : ℕ) → n < 10 ^ 9 → IsWord (decimal n)
+pub IsWord-decimal : (n : ℕ) → n < 10 ^ 9 → IsWordOfLine (decimal n)
 IsWord-decimal n small = record { some = (decimal_canonical n small).some; each = above_digits (decimal n) (decimal_digits n small) }
 
 above_name : (b : ℕ) → IsNameByte b → 32 < b
@@ -82,17 +83,17 @@ above_lower : (b : ℕ) → IsLowerDigit b → 32 < b
 above_lower b (inl digit) = omega arith
 above_lower b (inr letter) = omega arith
 
-IsWord-name : (name : List ℕ) → IsName name → IsWord name
+IsWord-name : (name : List ℕ) → IsName name → IsWordOfLine name
 IsWord-name name is = record { some = omega (arith, is.some); each = All-weaker IsNameByte (λ b. 32 < b) above_name name is.each }
 
-pub IsWord-encoded : (bytes : List ℕ) → 1 ≤ length bytes → All (λ b. b < 256) bytes → IsWord (encode_lower bytes)
+pub IsWord-encoded : (bytes : List ℕ) → 1 ≤ length bytes → All (λ b. b < 256) bytes → IsWordOfLine (encode_lower bytes)
 IsWord-encoded bytes some each = record { some = omega (arith, some, length-encode_with lower_digits bytes); each = All-weaker IsLowerDigit (λ b. 32 < b) above_lower (encode_lower bytes) (lower_encoded bytes each) }
 
-IsWord-change : (bytes : List ℕ) → IsChange bytes → IsWord (change_text bytes)
+IsWord-change : (bytes : List ℕ) → IsChange bytes → IsWordOfLine (change_text bytes)
 IsWord-change [] change = word_from_test 45 [] refl
 IsWord-change (b ∷ bytes) change = IsWord-encoded (b ∷ bytes) (omega arith) change.each
 
-pub IsWord-setting : (b : ℕ) (name : List ℕ) (n : ℕ) → is_word (b ∷ name) ≡ true → n < 10 ^ 9 → IsWord (setting (b ∷ name) n)
+pub IsWord-setting : (b : ℕ) (name : List ℕ) (n : ℕ) → is_word (b ∷ name) ≡ true → n < 10 ^ 9 → IsWordOfLine (setting (b ∷ name) n)
 IsWord-setting b name n is small = record {
   some = omega arith;
   each = All-append (λ b. 32 < b) (b ∷ name) (61 ∷ decimal n) (above_from_test (b ∷ name) is) (All-cons (λ b. 32 < b) 61 (decimal n) (omega arith) (IsWord-decimal n small).each);
@@ -100,7 +101,7 @@ IsWord-setting b name n is small = record {
 
 -- ---- words joined by spaces
 
-lacks_space : (word : List ℕ) → IsWord word → Lacks 32 word
+lacks_space : (word : List ℕ) → IsWordOfLine word → LacksByte 32 word
 lacks_space word is = All-weaker (λ b. 32 < b) (λ b. eqb b 32 ≡ false) (λ b above. ne_eqb b 32 (λ e. omega arith)) word is.each
 
 all_lack_space : (words : List (List ℕ)) → AreWords words → AllLack 32 words
@@ -117,7 +118,7 @@ from_space (word ∷ next ∷ words) are =
     All-append (λ b. 32 ≤ b) word (32 ∷ join_with_byte 32 (next ∷ words)) (All-weaker (λ b. 32 < b) (λ b. 32 ≤ b) (λ b above. omega arith) word are.0.each)
     (All-cons (λ b. 32 ≤ b) 32 (join_with_byte 32 (next ∷ words)) (omega arith) (from_space (next ∷ words) are.1))
 
-pub lacks_feed : (words : List (List ℕ)) → AreWords words → Lacks 10 (join_with_byte 32 words)
+pub lacks_feed : (words : List (List ℕ)) → AreWords words → LacksByte 10 (join_with_byte 32 words)
 lacks_feed words are = All-weaker (λ b. 32 ≤ b) (λ b. eqb b 10 ≡ false) (λ b above. ne_eqb b 10 (λ e. omega arith)) (join_with_byte 32 words) (from_space words are)
 
 pub words_full : (words : List (List ℕ)) → AreWords words → AllByRecursion (λ word. 0 < length word) words

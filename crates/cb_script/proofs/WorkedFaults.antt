@@ -14,7 +14,7 @@ use Rattle.cb_script.specs.declared.verb.BareVerb.TheVariants as bare
 use Rattle.cb_script.specs.First.{First, place_behind}
 use Rattle.cb_script.specs.Form.{IsScript, Spells}
 use Rattle.cb_script.specs.Phrase.{Phrase}
-use Rattle.cb_script.specs.Rules.{Holds, IsLeast, IsShaped, Rule}
+use Rattle.cb_script.specs.Rules.{IsLeast, IsLineShaped, Rule, RuleHolds}
 use Rattle.cb_script.specs.Spelling.{header_line}
 use Rattle.cb_script.proofs.LineRules.{lane_fault, line_refused}
 use Rattle.cb_script.specs.declared.fault.Refusal.TheVariants.{Broken}
@@ -117,11 +117,11 @@ evicting_form = record {
 abbrev step_input : List ℕ
 step_input = header ++ codes "1 evict" ++ 10 ∷ (codes "1 begin" ++ 10 ∷ [])
 
-begin_shaped : IsShaped (codes "1 begin") (decimal 1) (Phrase.Alone bare.Begin)
+begin_shaped : IsLineShaped (codes "1 begin") (decimal 1) (Phrase.Alone bare.Begin)
 unfolding digits
 begin_shaped = record { words = refl; full = (omega arith, (omega arith, tt)) }
 
-begin_refused : IsLeast (Holds (place_behind Threads evicting) (codes "1 begin")) reasons.Mode
+begin_refused : IsLeast (RuleHolds (place_behind Threads evicting) (codes "1 begin")) reasons.Mode
 begin_refused =
     line_refused (place_behind Threads evicting) (codes "1 begin") (omega arith) 1 (Phrase.Alone bare.Begin) begin_shaped (record { low = omega arith; first = λ e. absurd (omega (arith, e)) })
     (Broken reasons.Mode) (least_mode (Rule (place_behind Threads evicting) 1 (Phrase.Alone bare.Begin)) tt tt tt tt tt tt tt tt tt tt tt (λ fits. fits tt))

@@ -6,7 +6,7 @@ use Rattle.cb_types.specs.declared.request.Request.TheVariants.{Make, Read, Writ
 use Rattle.cb_script.specs.declared.script.Line.{Line}
 use Rattle.cb_script.specs.declared.script.Mode.TheVariants.{Seq, Threads}
 use Rattle.cb_script.specs.declared.script.Script.{Script}
-use Rattle.cb_script.specs.Form.{IsName, IsNameByte, IsContents, IsChange, IsRequest, IsLane, IsNew, KnowsName, IsKnown, MayFollow, AreInMode, IsScript, Spells}
+use Rattle.cb_script.specs.Form.{IsName, IsNameByte, IsContents, IsChange, IsRequest, IsLane, IsNameNew, KnowsName, IsNameKnown, MayFollow, AreInMode, IsScript, Spells}
 use Rattle.cb_script.proofs.Phrases.{differ}
 use Rattle.cb_script.proofs.WorkedSpelling.{worked_lane}
 
@@ -90,20 +90,20 @@ another_lanes_name (inr (inl here)) = absurd (differ (codes "a") (codes "b") her
 another_lanes_name (inr (inr (inl here))) = let e : 1 ≡ 0 = here.0 in absurd (omega (arith, e))
 another_lanes_name (inr (inr (inr none))) = none
 
-new_name : IsNew two_makes (codes "c")
+new_name : IsNameNew two_makes (codes "c")
 new_name lane (inl here) = absurd (differ (codes "a") (codes "c") here.1 refl)
 new_name lane (inr (inl here)) = absurd (differ (codes "b") (codes "c") here.1 refl)
 new_name lane (inr (inr none)) = none
 
 -- a name that another lane made is not new
-pub made_twice : IsNew two_makes (codes "b") → ⊥
+pub made_twice : IsNameNew two_makes (codes "b") → ⊥
 made_twice new = new 1 (inr (inl (refl, refl)))
 
 -- a make asks for a new name, and a read for a known one
-make_twice : IsKnown two_makes 2 (Make (codes "b") (0 ∷ [])) → ⊥
+make_twice : IsNameKnown two_makes 2 (Make (codes "b") (0 ∷ [])) → ⊥
 make_twice is = made_twice is
 
-read_unknown : IsKnown two_makes 2 (Read (codes "b")) → ⊥
+read_unknown : IsNameKnown two_makes 2 (Read (codes "b")) → ⊥
 read_unknown is = another_lanes_name is
 
 -- ---- lanes

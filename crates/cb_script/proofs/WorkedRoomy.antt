@@ -4,7 +4,7 @@ use Rattle.cb_types.specs.declared.request.Request.{Request}
 use Rattle.cb_types.specs.declared.request.Request.TheVariants.{Make, Read, Write, Free, Pin, Peek, Unpin, Filter, Evict, Begin, Ship, Commit, Abort, Pair, Patch, Merge, Part, Compact, Rebuild, Crash, Join, Leave}
 use Rattle.cb_script.specs.declared.script.Line.{Line}
 use Rattle.cb_script.specs.declared.script.Script.{Script}
-use Rattle.cb_script.specs.Roomy.{is_step, has_step, makes_in, has_pin, pinning, has_crash, crashing, IsRoomy, IsAtEase}
+use Rattle.cb_script.specs.Roomy.{is_step, has_step_line, makes_in, has_pin, pinning, has_crash, crashing, IsRoomy, IsAtEase}
 
 abbrev a : List ℕ
 a = 97 ∷ []
@@ -81,7 +81,7 @@ all (request ∷ more) = by 0 request ∷ all more
 each_step : map is_step (Begin ∷ Ship ∷ Commit ∷ Abort ∷ Pair ∷ Patch ∷ Merge ∷ Part ∷ []) ≡ replicate 8 true
 each_step = refl
 
-no_other_line_is_one : has_step (all (Make a [] ∷ Read a ∷ Write a 0 [] ∷ Free a ∷ Pin a ∷ Peek a ∷ Unpin a
+no_other_line_is_one : has_step_line (all (Make a [] ∷ Read a ∷ Write a 0 [] ∷ Free a ∷ Pin a ∷ Peek a ∷ Unpin a
     ∷ Leave ∷ Filter a ∷ Evict ∷ Compact ∷ Rebuild ∷ crash 0 ∷ Join (record { n = 0 }) ∷ [])) ≡ false
 no_other_line_is_one = refl
 

@@ -13,13 +13,13 @@ use Rattle.cb_script.specs.declared.verb.BareVerb.TheVariants as bare
 use Rattle.cb_script.specs.Form.{FitsMode}
 use Rattle.cb_script.specs.Hexadecimal.{IsLowerDigit, IsHexadecimal}
 use Rattle.cb_script.specs.Phrase.{Phrase, bare_verb, phrase_words}
-use Rattle.cb_script.specs.Rules.{Place, IsNumber, IsShaped, HasLane, HasName, HasKnown, HasNumber, HasHex, HasLength}
+use Rattle.cb_script.specs.Rules.{LinePlace, IsNumber, IsLineShaped, HasLane, HasName, HasKnown, HasNumber, HasHex, HasLength}
 use Rattle.cb_script.proofs.Decimals.{leading_is_none, one_number}
 use Rattle.cb_script.proofs.Phrases.{differ}
 use Rattle.cb_script.proofs.WorkedForms.{another_lanes_name, bad_byte, made_twice, own_name, two_makes}
 
 -- six nodes, lane 0's name a and lane 1's name b
-abbrev worked_place : Place
+abbrev worked_place : LinePlace
 worked_place = record { mode = Seq; nodes = 6; before = two_makes }
 
 -- ---- numbers
@@ -141,13 +141,13 @@ compact_in_threads = λ step. step
 
 -- ---- shapes
 
-good_shape : IsShaped (codes "7 read a") (codes "7") (Phrase.Naming on_name.Read (codes "a"))
+good_shape : IsLineShaped (codes "7 read a") (codes "7") (Phrase.Naming on_name.Read (codes "a"))
 good_shape = record { words = refl; full = (omega arith, (omega arith, (omega arith, tt))) }
 
-two_spaces : (lane : List ℕ) (phrase : Phrase) → IsShaped (codes "7  evict") lane phrase → ⊥
+two_spaces : (lane : List ℕ) (phrase : Phrase) → IsLineShaped (codes "7  evict") lane phrase → ⊥
 two_spaces lane phrase is = omega (arith, is.full.1.0)
 
-space_behind : (lane : List ℕ) (phrase : Phrase) → IsShaped (codes "7 evict ") lane phrase → ⊥
+space_behind : (lane : List ℕ) (phrase : Phrase) → IsLineShaped (codes "7 evict ") lane phrase → ⊥
 space_behind lane phrase is = omega (arith, is.full.1.1.0)
 
 not_recode : (verb : BareVerb) → bytes_eq (bare_verb verb) (codes "recode") ≡ false
@@ -175,7 +175,7 @@ abbrev tail_of : List (List ℕ) → List (List ℕ)
 tail_of [] = []
 tail_of (word ∷ words) = words
 
-another_verb : (lane : List ℕ) (phrase : Phrase) → IsShaped (codes "7 recode") lane phrase → ⊥
+another_verb : (lane : List ℕ) (phrase : Phrase) → IsLineShaped (codes "7 recode") lane phrase → ⊥
 another_verb lane phrase is =
     let both : codes "7" ∷ codes "recode" ∷ [] ≡ lane ∷ phrase_words phrase = is.words in
     let behind : phrase_words phrase ≡ codes "recode" ∷ [] = ap tail_of (sym both) in

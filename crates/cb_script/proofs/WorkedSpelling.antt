@@ -9,7 +9,7 @@ use Rattle.cb_types.specs.declared.request.Request.TheVariants.{Make, Read, Writ
 use Rattle.cb_script.specs.declared.fault.Reason.TheVariants as reasons
 use Rattle.cb_script.specs.declared.script.Line.{Line}
 use Rattle.cb_script.specs.declared.script.Script.{Script}
-use Rattle.cb_script.specs.Reasons.{number_of, word_of}
+use Rattle.cb_script.specs.Reasons.{reason_number, reason_word}
 use Rattle.cb_script.specs.Spelling.{lines_of, words_of, header_line, script_line, script_lines, script_text, with_feed}
 
 -- ---- lines and words
@@ -98,8 +98,8 @@ leave_line = refl
 
 -- ---- reasons
 
-first_reason : (number_of reasons.TooLong ≡ 1) × (word_of reasons.TooLong ≡ codes "toolong")
+first_reason : (reason_number reasons.TooLong ≡ 1) × (reason_word reasons.TooLong ≡ codes "toolong")
 first_reason = (refl, refl)
 
-last_reason : (number_of reasons.Mode ≡ 12) × (word_of reasons.Mode ≡ codes "mode")
+last_reason : (reason_number reasons.Mode ≡ 12) × (reason_word reasons.Mode ≡ codes "mode")
 last_reason = (refl, refl)

@@ -8,7 +8,7 @@ use Rattle.cb_script.specs.declared.script.Mode.{Mode}
 use Rattle.cb_script.specs.declared.script.Script.{Script}
 use Rattle.cb_script.specs.Form.{IsScript, AreInMode}
 use Rattle.cb_script.specs.Numbers.{AreNumbers}
-use Rattle.cb_script.specs.Rules.{Place, Holds, IsLeast}
+use Rattle.cb_script.specs.Rules.{LinePlace, RuleHolds, IsLeast}
 use Rattle.cb_script.specs.Spelling.{lines_of, header_line, script_lines}
 
 -- line 1 is the header of this configuration
@@ -18,7 +18,7 @@ pub record HasHeader (bytes : List ℕ) (c : Config) : Type 0 where
   pub text : lines_of bytes ≡ header_line c ∷ others
 
 -- the place behind a script's lines
-abbrev pub place_behind : Mode → Script → Place
+abbrev pub place_behind : Mode → Script → LinePlace
 place_behind mode s = record { mode = mode; nodes = s.config.nodes; before = s.lines }
 
 -- The lines before this one are a script's, and the reason is the least whose rule it breaks.
@@ -30,7 +30,7 @@ pub record IsBadLine (bytes : List ℕ) (mode : Mode) (line : ℕ) (reason : Rea
   pub after : List (List ℕ)
   pub lines : lines_of bytes ≡ script_lines before ++ text ∷ after
   pub number : line ≡ length before.lines + 2
-  pub least : IsLeast (Holds (place_behind mode before) text) reason
+  pub least : IsLeast (RuleHolds (place_behind mode before) text) reason
 
 -- The first bad line, and the least reason on it. The input is tested as a whole, and then line 1.
 abbrev pub First : List ℕ → Mode → ℕ → Reason → Type 0

@@ -54,34 +54,35 @@ names_made (Make name bytes) = name ∷ []
 names_made _ = []
 
 -- the request makes the name
-abbrev pub Makes : Request → List ℕ → Type 0
-Makes (Make made_name bytes) name = made_name ≡ name
-Makes _ name = ⊥
+abbrev pub MakesName : Request → List ℕ → Type 0
+MakesName (Make made_name bytes) name = made_name ≡ name
+MakesName _ name = ⊥
 
 -- the lane makes the name on one of these lines
-abbrev pub IsMade : List Line → ℕ → List ℕ → Type 0
-IsMade [] lane name = ⊥
-IsMade (l ∷ lines) lane name = ((l.lane.n ≡ lane) × Makes l.request name) ⊎ IsMade lines lane name
+abbrev pub IsNameMade : List Line → ℕ → List ℕ → Type 0
+IsNameMade [] lane name = ⊥
+IsNameMade (l ∷ lines) lane name = ((l.lane.n ≡ lane) × MakesName l.request name)
+    ⊎ IsNameMade lines lane name
 
 -- no lane makes the name on these lines
-abbrev pub IsNew : List Line → List ℕ → Type 0
-IsNew before name = (lane : ℕ) → IsMade before lane name → ⊥
+abbrev pub IsNameNew : List Line → List ℕ → Type 0
+IsNameNew before name = (lane : ℕ) → IsNameMade before lane name → ⊥
 
 -- the name is the lane's own, or shared: lane 0 makes it
 abbrev pub KnowsName : List Line → ℕ → List ℕ → Type 0
-KnowsName before lane name = IsMade before lane name ⊎ IsMade before 0 name
+KnowsName before lane name = IsNameMade before lane name ⊎ IsNameMade before 0 name
 
 -- a make's name is new, and every other name is known to the lane
-abbrev pub IsKnown : List Line → ℕ → Request → Type 0
-IsKnown before lane (Make name bytes) = IsNew before name
-IsKnown before lane (Write name at bytes) = KnowsName before lane name
-IsKnown before lane (Read name) = KnowsName before lane name
-IsKnown before lane (Free name) = KnowsName before lane name
-IsKnown before lane (Pin name) = KnowsName before lane name
-IsKnown before lane (Peek name) = KnowsName before lane name
-IsKnown before lane (Unpin name) = KnowsName before lane name
-IsKnown before lane (Filter name) = KnowsName before lane name
-IsKnown before lane _ = Unit {0}
+abbrev pub IsNameKnown : List Line → ℕ → Request → Type 0
+IsNameKnown before lane (Make name bytes) = IsNameNew before name
+IsNameKnown before lane (Write name at bytes) = KnowsName before lane name
+IsNameKnown before lane (Read name) = KnowsName before lane name
+IsNameKnown before lane (Free name) = KnowsName before lane name
+IsNameKnown before lane (Pin name) = KnowsName before lane name
+IsNameKnown before lane (Peek name) = KnowsName before lane name
+IsNameKnown before lane (Unpin name) = KnowsName before lane name
+IsNameKnown before lane (Filter name) = KnowsName before lane name
+IsNameKnown before lane _ = Unit {0}
 
 -- The lane may stand behind these lines: there are lanes 0 to 15, and lane 0 stands first.
 pub record IsLane (before : List Line) (lane : ℕ) : Type 0 where
@@ -93,7 +94,7 @@ pub record MayFollow (nodes : ℕ) (before : List Line) (l : Line) : Type 0 wher
   pub lane : IsLane before l.lane.n
   pub line : l.line ≡ length before + 2
   pub request : IsRequest nodes l.request
-  pub known : IsKnown before l.lane.n l.request
+  pub known : IsNameKnown before l.lane.n l.request
 
 -- each line may stand behind the lines before it
 abbrev pub AreLines : ℕ → List Line → List Line → Type 0

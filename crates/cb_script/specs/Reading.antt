@@ -23,21 +23,21 @@ use Rattle.cb_script.specs.declared.verb.NodeVerb.{NodeVerb}
 use Rattle.cb_script.specs.declared.verb.NodeVerb.TheVariants as on_node
 use Rattle.cb_script.specs.declared.verb.BareVerb.{BareVerb}
 use Rattle.cb_script.specs.declared.verb.BareVerb.TheVariants as bare
-use Rattle.cb_script.specs.Form.{IsName, IsMade, IsRequest, IsKnown, MayFollow, FitsMode, AreLines, AreInMode}
+use Rattle.cb_script.specs.Form.{IsName, IsNameMade, IsRequest, IsNameKnown, MayFollow, FitsMode, AreLines, AreInMode}
 use Rattle.cb_script.specs.Numbers.{AreNumbers}
 use Rattle.cb_script.specs.Phrase.{Phrase, phrase_of}
-use Rattle.cb_script.specs.Rules.{Place, Holds, IsLeast}
+use Rattle.cb_script.specs.Rules.{LinePlace, RuleHolds, IsLeast}
 use Rattle.cb_script.specs.Spelling.{script_line, header_line}
 
 -- the reason is this one, unless memory was wanting
-abbrev pub Refuses : Refusal → (Reason → Type 0) → Type 0
-Refuses NoMemory faults = Unit {0}
-Refuses (Broken reason) faults = faults reason
+abbrev pub RefusesBy : Refusal → (Reason → Type 0) → Type 0
+RefusesBy NoMemory faults = Unit {0}
+RefusesBy (Broken reason) faults = faults reason
 
 -- what was read is so, or a rule is broken so
-abbrev pub Reads : {X : Type 0} → Result X Refusal → (X → Type 0) → (Reason → Type 0) → Type 0
-Reads (Ok x) is faults = is x
-Reads (Err refusal) is faults = Refuses refusal faults
+abbrev pub ReadsAs : {X : Type 0} → Result X Refusal → (X → Type 0) → (Reason → Type 0) → Type 0
+ReadsAs (Ok x) is faults = is x
+ReadsAs (Err refusal) is faults = RefusesBy refusal faults
 
 -- NAME is broken, or the name stands and whether it is known is broken
 abbrev pub NameFault : Type 0 → Type 0 → Reason → Type 0
@@ -62,9 +62,9 @@ maker_of names name = get nat_cmp names (number_of_name name)
 
 -- the lane alone made the name on these lines, or none did
 abbrev pub IsMaker : List Line → List ℕ → Option ℕ → Type 0
-IsMaker before name None = (lane : ℕ) → IsMade before lane name → ⊥
+IsMaker before name None = (lane : ℕ) → IsNameMade before lane name → ⊥
 IsMaker before name (Some maker) =
-    IsMade before maker name × ((lane : ℕ) → IsMade before lane name → lane ≡ maker)
+    IsNameMade before maker name × ((lane : ℕ) → IsNameMade before lane name → lane ≡ maker)
 
 -- the names kept are those made on these lines, each with its lane
 abbrev pub HasNames : BTreeMap ℕ ℕ → List Line → Type 0
@@ -72,14 +72,14 @@ HasNames names before =
     (name : List ℕ) → IsName name → IsMaker before name (maker_of names name)
 
 -- the request has this phrase, and may stand here in this lane
-pub record MayStand (place : Place) (lane : ℕ) (phrase : Phrase) (r : Request) : Type 0 where
+pub record MayStand (place : LinePlace) (lane : ℕ) (phrase : Phrase) (r : Request) : Type 0 where
   pub spelled : phrase_of r ≡ phrase
   pub request : IsRequest place.nodes r
-  pub known : IsKnown place.before lane r
+  pub known : IsNameKnown place.before lane r
   pub allowed : FitsMode phrase place.mode
 
 -- the line has this text, and may stand here
-pub record ComesNext (place : Place) (text : List ℕ) (l : Line) : Type 0 where
+pub record ComesNext (place : LinePlace) (text : List ℕ) (l : Line) : Type 0 where
   pub follows : MayFollow place.nodes place.before l
   pub allowed : FitsMode (phrase_of l.request) place.mode
   pub spelled : text ≡ script_line l
@@ -90,8 +90,8 @@ StaysNamed names before lane r =
     (line : ℕ) → HasNames names (before ++ record { lane = lane; line = line; request = r } ∷ [])
 
 -- the place behind these lines
-abbrev pub place_of : Limits → List Line → Place
-place_of limits before = record { mode = limits.mode; nodes = limits.nodes; before = before }
+abbrev pub line_place : Limits → List Line → LinePlace
+line_place limits before = record { mode = limits.mode; nodes = limits.nodes; before = before }
 
 -- the request of a verb in front of a name
 abbrev pub naming : NameVerb → List ℕ → Request
@@ -154,7 +154,8 @@ pub record HasBadLine (mode : Mode) (nodes : ℕ) (texts : List (List ℕ)) (lin
   pub after : List (List ℕ)
   pub read : texts ≡ map script_line before ++ text ∷ after
   pub number : line ≡ length before + 2
-  pub least : IsLeast (Holds (record { mode = mode; nodes = nodes; before = before }) text) reason
+  pub least : IsLeast (RuleHolds (record { mode = mode; nodes = nodes; before = before }) text)
+      reason
 
 -- the fault is that of a bad line, unless memory was wanting
 abbrev pub FaultIs : ScriptFault → (ℕ → Reason → Type 0) → Type 0

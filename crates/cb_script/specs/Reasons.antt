@@ -4,31 +4,31 @@ use Rattle.cb_script.specs.declared.fault.Reason.{Reason}
 use Rattle.cb_script.specs.declared.fault.Reason.TheVariants as reasons
 
 -- its number
-abbrev pub number_of : Reason → ℕ
-number_of reasons.TooLong = 1
-number_of reasons.Header = 2
-number_of reasons.Config = 3
-number_of reasons.Lines = 4
-number_of reasons.Shape = 5
-number_of reasons.Lane = 6
-number_of reasons.Name = 7
-number_of reasons.Known = 8
-number_of reasons.Number = 9
-number_of reasons.Hex = 10
-number_of reasons.Length = 11
-number_of reasons.Mode = 12
+abbrev pub reason_number : Reason → ℕ
+reason_number reasons.TooLong = 1
+reason_number reasons.Header = 2
+reason_number reasons.Config = 3
+reason_number reasons.Lines = 4
+reason_number reasons.Shape = 5
+reason_number reasons.Lane = 6
+reason_number reasons.Name = 7
+reason_number reasons.Known = 8
+reason_number reasons.Number = 9
+reason_number reasons.Hex = 10
+reason_number reasons.Length = 11
+reason_number reasons.Mode = 12
 
 -- its word
-abbrev pub word_of : Reason → List ℕ
-word_of reasons.TooLong = codes "toolong"
-word_of reasons.Header = codes "header"
-word_of reasons.Config = codes "config"
-word_of reasons.Lines = codes "lines"
-word_of reasons.Shape = codes "shape"
-word_of reasons.Lane = codes "lane"
-word_of reasons.Name = codes "name"
-word_of reasons.Known = codes "known"
-word_of reasons.Number = codes "number"
-word_of reasons.Hex = codes "hex"
-word_of reasons.Length = codes "length"
-word_of reasons.Mode = codes "mode"
+abbrev pub reason_word : Reason → List ℕ
+reason_word reasons.TooLong = codes "toolong"
+reason_word reasons.Header = codes "header"
+reason_word reasons.Config = codes "config"
+reason_word reasons.Lines = codes "lines"
+reason_word reasons.Shape = codes "shape"
+reason_word reasons.Lane = codes "lane"
+reason_word reasons.Name = codes "name"
+reason_word reasons.Known = codes "known"
+reason_word reasons.Number = codes "number"
+reason_word reasons.Hex = codes "hex"
+reason_word reasons.Length = codes "length"
+reason_word reasons.Mode = codes "mode"

@@ -34,8 +34,8 @@ is_step Part = true
 is_step request = false
 
 -- whether one of the lines is
-abbrev pub has_step : List Line → Bool
-has_step lines = list_any (λ l. is_step l.request) lines
+abbrev pub has_step_line : List Line → Bool
+has_step_line lines = list_any (λ l. is_step l.request) lines
 
 -- how many of the lines make an object
 abbrev pub makes_in : List Line → ℕ
@@ -76,4 +76,4 @@ pub record IsAtEase (s : Script) : Type 0 where
   pub nodes : s.config.k + s.config.r + crashing s.config.nodes s.lines ≤ s.config.nodes
   pub makes : makes_in s.lines ≤ s.config.handles
   pub crashes : crashing s.config.nodes s.lines ≤ s.config.r
-  pub steps : has_step s.lines ≡ false
+  pub steps : has_step_line s.lines ≡ false

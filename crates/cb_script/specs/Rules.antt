@@ -6,14 +6,14 @@ use Rattle.cb_script.specs.declared.fault.Reason.{Reason}
 use Rattle.cb_script.specs.declared.fault.Reason.TheVariants as reasons
 use Rattle.cb_script.specs.declared.script.Line.{Line}
 use Rattle.cb_script.specs.declared.script.Mode.{Mode}
-use Rattle.cb_script.specs.Form.{IsName, IsNew, KnowsName, IsLane, FitsMode}
+use Rattle.cb_script.specs.Form.{IsName, IsNameNew, KnowsName, IsLane, FitsMode}
 use Rattle.cb_script.specs.Hexadecimal.{IsHexadecimal}
 use Rattle.cb_script.specs.Phrase.{Phrase, phrase_words}
-use Rattle.cb_script.specs.Reasons.{number_of}
+use Rattle.cb_script.specs.Reasons.{reason_number}
 use Rattle.cb_script.specs.Spelling.{words_of}
 
 -- where a line stands: the mode, the header's nodes, and the lines before it
-pub record Place : Type 0 where
+pub record LinePlace : Type 0 where
   pub mode : Mode
   pub nodes : ℕ
   pub before : List Line
@@ -23,7 +23,7 @@ abbrev pub IsNumber : List ℕ → ℕ → Type 0
 IsNumber word n = (n < 10 ^ 9) × (word ≡ decimal n)
 
 -- LANE is a number of a lane that may stand here
-abbrev pub HasLane : Place → List ℕ → Type 0
+abbrev pub HasLane : LinePlace → List ℕ → Type 0
 HasLane place word = (lane : ℕ) × IsNumber word lane × IsLane place.before lane
 
 -- NAME has its form
@@ -34,14 +34,14 @@ HasName (Phrase.Naming verb name) = IsName name
 HasName _ = Unit {0}
 
 -- the NAME of a make was made by no line before, and every other NAME is known to its lane
-abbrev pub HasKnown : Place → ℕ → Phrase → Type 0
-HasKnown place lane (Phrase.Making name hex) = IsNew place.before name
+abbrev pub HasKnown : LinePlace → ℕ → Phrase → Type 0
+HasKnown place lane (Phrase.Making name hex) = IsNameNew place.before name
 HasKnown place lane (Phrase.Writing name at hex) = KnowsName place.before lane name
 HasKnown place lane (Phrase.Naming verb name) = KnowsName place.before lane name
 HasKnown place lane _ = Unit {0}
 
 -- NODE is a number below the nodes, and AT a number up to 1,024
-abbrev pub HasNumber : Place → Phrase → Type 0
+abbrev pub HasNumber : LinePlace → Phrase → Type 0
 HasNumber place (Phrase.Facing verb node) = (n : ℕ) × IsNumber node n × (n < place.nodes)
 HasNumber place (Phrase.Writing name at hex) = (n : ℕ) × IsNumber at n × (n ≤ 1024)
 HasNumber place _ = Unit {0}
@@ -59,7 +59,7 @@ HasLength (Phrase.Writing name at hex) = length hex ≤ 2048
 HasLength _ = Unit {0}
 
 -- what each reason asks of a phrase behind this lane; the others ask nothing of it
-abbrev pub Rule : Place → ℕ → Phrase → Reason → Type 0
+abbrev pub Rule : LinePlace → ℕ → Phrase → Reason → Type 0
 Rule place lane phrase reasons.Name = HasName phrase
 Rule place lane phrase reasons.Known = HasKnown place lane phrase
 Rule place lane phrase reasons.Number = HasNumber place phrase
@@ -69,21 +69,22 @@ Rule place lane phrase reasons.Mode = FitsMode phrase place.mode
 Rule place lane phrase _ = Unit {0}
 
 -- The line is LANE and this phrase, with one space between words and none at either end.
-pub record IsShaped (text lane : List ℕ) (phrase : Phrase) : Type 0 where
+pub record IsLineShaped (text lane : List ℕ) (phrase : Phrase) : Type 0 where
   pub words : words_of text ≡ lane ∷ phrase_words phrase
   pub full : AllByRecursion (λ word. 0 < length word) (words_of text)
 
 -- what each reason asks of a line of this text
-abbrev pub Holds : Place → List ℕ → Reason → Type 0
-Holds place text reasons.Lines = length place.before < 20000
-Holds place text reasons.Shape = (lane : List ℕ) × (phrase : Phrase) × IsShaped text lane phrase
-Holds place text reasons.Lane =
-    (lane : List ℕ) (phrase : Phrase) → IsShaped text lane phrase → HasLane place lane
-Holds place text reason =
-    (lane : ℕ) (phrase : Phrase) → lane ≤ 15 → IsShaped text (decimal lane) phrase
+abbrev pub RuleHolds : LinePlace → List ℕ → Reason → Type 0
+RuleHolds place text reasons.Lines = length place.before < 20000
+RuleHolds place text reasons.Shape = (lane : List ℕ) × (phrase : Phrase)
+    × IsLineShaped text lane phrase
+RuleHolds place text reasons.Lane =
+    (lane : List ℕ) (phrase : Phrase) → IsLineShaped text lane phrase → HasLane place lane
+RuleHolds place text reason =
+    (lane : ℕ) (phrase : Phrase) → lane ≤ 15 → IsLineShaped text (decimal lane) phrase
     → Rule place lane phrase reason
 
 -- The reason's rule is broken, and no rule of a lesser number is.
 pub record IsLeast (rules : Reason → Type 0) (reason : Reason) : Type 0 where
   pub broken : rules reason → ⊥
-  pub lesser : (other : Reason) → number_of other < number_of reason → rules other
+  pub lesser : (other : Reason) → reason_number other < reason_number reason → rules other

@@ -3,7 +3,7 @@ ghost use Rattle.hex.specs.Hex.{encode_lower};
 ghost use Rattle.cb_script.specs.Form.{IsChange, IsContents};
 ghost use Rattle.cb_script.specs.Hexadecimal.{IsLowerDigit, IsHexadecimal};
 ghost use Rattle.cb_script.specs.Phrase.{change_text};
-ghost use Rattle.cb_script.specs.Reading.{Reads, HexFault};
+ghost use Rattle.cb_script.specs.Reading.{ReadsAs, HexFault};
 
 use crate::digits::spelled_bytes;
 use crate::fault::{Reason, Refusal};
@@ -16,7 +16,7 @@ const MOST_DIGITS: usize = 2048;
 
 /// The bytes of a make: 1 to 1,024 of them, in lower-case hexadecimal.
 pub(crate) fn contents_of(alloc: Global, text: &[u8]) -> Result<Bytes, Refusal>
-    ensures { Reads result
+    ensures { ReadsAs result
         (λ bytes. IsContents bytes × (text.now ≡ encode_lower bytes))
         (HexFault (IsHexadecimal text.now) (length text.now ≤ 2048)) }
 {
@@ -38,7 +38,7 @@ pub(crate) fn contents_of(alloc: Global, text: &[u8]) -> Result<Bytes, Refusal>
 
 /// The bytes of a write: 0 to 1,024 of them, in lower-case hexadecimal, and `-` for none.
 pub(crate) fn change_of(alloc: Global, text: &[u8]) -> Result<Bytes, Refusal>
-    ensures { Reads result
+    ensures { ReadsAs result
         (λ bytes. IsChange bytes × (text.now ≡ change_text bytes))
         (HexFault (IsHexadecimal text.now ⊎ (text.now ≡ codes "-")) (length text.now ≤ 2048)) }
 {

@@ -34,11 +34,11 @@ pub enum Reason {
 }
 
 impl Reason {
-    ghost use Rattle.cb_script.specs.Reasons.{number_of, word_of};
+    ghost use Rattle.cb_script.specs.Reasons.{reason_number, reason_word};
 
     /// The number by which the reason is printed.
     pub fn number(&self) -> u32
-        ensures { result ≡ number_of self.now }
+        ensures { result ≡ reason_number self.now }
     {
         match self {
             Reason::TooLong => 1,
@@ -58,7 +58,7 @@ impl Reason {
 
     /// The word by which the reason is printed.
     pub fn word(&self) -> &'static str
-        ensures { result.now ≡ word_of self.now }
+        ensures { result.now ≡ reason_word self.now }
     {
         match self {
             Reason::TooLong => "toolong",

@@ -1,7 +1,7 @@
 ghost use Rattle.std.specs.Prelude.{◌≡◌, ◌∷◌, [], ◌++◌, ℕ, List, MatchResult, IfOk};
 ghost use Rattle.cb_script.specs.declared.script.Line.{Line};
-ghost use Rattle.cb_script.specs.Form.{IsName, IsNew, KnowsName, Makes};
-ghost use Rattle.cb_script.specs.Reading.{Reads, NameFault, HasNames, maker_of};
+ghost use Rattle.cb_script.specs.Form.{IsName, IsNameNew, KnowsName, MakesName};
+ghost use Rattle.cb_script.specs.Reading.{ReadsAs, NameFault, HasNames, maker_of};
 
 use crate::fault::{Reason, Refusal};
 use crate::name::{is_name, name_number};
@@ -13,11 +13,11 @@ pub(crate) type Names = BTreeMap<u128, u8>;
 
 /// Accepts a name that no line made, and keeps it with its lane.
 pub(crate) fn accept_new(names: &mut Names, name: &[u8], lane: Lane) -> Result<(), Refusal>
-    ensures rule { (before : List Line) → HasNames names.old before → Reads result
-        (λ _. IsName name.now × IsNew before name.now)
-        (NameFault (IsName name.now) (IsNew before name.now)) }
+    ensures rule { (before : List Line) → HasNames names.old before → ReadsAs result
+        (λ _. IsName name.now × IsNameNew before name.now)
+        (NameFault (IsName name.now) (IsNameNew before name.now)) }
     ensures kept { (before : List Line) (l : Line) → HasNames names.old before → l.lane ≡ lane
-        → Makes l.request name.now → IfOk result (λ _. HasNames names.new (before ++ l ∷ [])) }
+        → MakesName l.request name.now → IfOk result (λ _. HasNames names.new (before ++ l ∷ [])) }
 {
     if !is_name(name) {
         return Err(Refusal::Broken(Reason::Name));
@@ -56,7 +56,7 @@ fn keep(names: &mut Names, name: &[u8], lane: Lane) -> Result<Option<u8>, NoMemo
     requires { IsName name.now }
     ensures maker { IfOk result (λ maker. maker ≡ maker_of names.old name.now) }
     ensures kept { (before : List Line) (l : Line) → HasNames names.old before
-        → IsNew before name.now → l.lane ≡ lane → Makes l.request name.now
+        → IsNameNew before name.now → l.lane ≡ lane → MakesName l.request name.now
         → IfOk result (λ _. HasNames names.new (before ++ l ∷ [])) }
 {
     Ok(names.insert(name_number(name), lane.n)?)

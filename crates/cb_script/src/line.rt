@@ -3,8 +3,8 @@ ghost use Rattle.std.specs.List.{AllByRecursion};
 ghost use Rattle.cb_script.specs.declared.script.Line.{Line};
 ghost use Rattle.cb_script.specs.Cut.{texts, phrase};
 ghost use Rattle.cb_script.specs.Phrase.{phrase_words};
-ghost use Rattle.cb_script.specs.Reading.{Reads, ComesNext, HasNames, IsLeastLane, place_of};
-ghost use Rattle.cb_script.specs.Rules.{Holds, IsLeast};
+ghost use Rattle.cb_script.specs.Reading.{ReadsAs, ComesNext, HasNames, IsLeastLane, line_place};
+ghost use Rattle.cb_script.specs.Rules.{IsLeast, RuleHolds};
 
 use crate::cut::words_into;
 use crate::fault::{Reason, Refusal};
@@ -30,9 +30,9 @@ pub(crate) fn line_of<'a>(
     text: &'a [u8],
 ) -> Result<Line, Refusal>
     ensures line { (before : List Line) → HasNames names.old before → IsLeastLane before least_lane
-        → number ≡ length before + 2 → length before < 20000 → Reads result
-        (ComesNext (place_of limits before) text.entry.now)
-        (IsLeast (Holds (place_of limits before) text.entry.now)) }
+        → number ≡ length before + 2 → length before < 20000 → ReadsAs result
+        (ComesNext (line_place limits before) text.entry.now)
+        (IsLeast (RuleHolds (line_place limits before) text.entry.now)) }
     ensures names { (before : List Line) → HasNames names.old before
         → IfOk result (λ l. HasNames names.new (before ++ l ∷ [])) }
 {

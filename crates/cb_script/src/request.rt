@@ -3,8 +3,8 @@ ghost use Rattle.cb_script.specs.declared.script.Line.{Line};
 ghost use Rattle.cb_script.specs.Cut.{phrase};
 ghost use Rattle.cb_script.specs.Form.{IsStep, names_made};
 ghost use Rattle.cb_script.specs.Phrase.Phrase.{Making, Writing, Naming, Facing, Alone};
-ghost use Rattle.cb_script.specs.Reading.{Reads, MayStand, HasNames, StaysNamed, place_of, naming, facing, alone};
-ghost use Rattle.cb_script.specs.Rules.{Place, Rule, IsLeast};
+ghost use Rattle.cb_script.specs.Reading.{ReadsAs, MayStand, HasNames, StaysNamed, line_place, naming, facing, alone};
+ghost use Rattle.cb_script.specs.Rules.{LinePlace, Rule, IsLeast};
 
 use crate::contents::{change_of, contents_of};
 use crate::fault::{Reason, Refusal};
@@ -32,9 +32,9 @@ pub(crate) fn request_of<'a>(
     lane: Lane,
     words: Words<'a>,
 ) -> Result<Request, Refusal>
-    ensures request { (before : List Line) → HasNames names.old before → Reads result
-        (MayStand (place_of limits before) lane.n (phrase words.entry))
-        (IsLeast (Rule (place_of limits before) lane.n (phrase words.entry))) }
+    ensures request { (before : List Line) → HasNames names.old before → ReadsAs result
+        (MayStand (line_place limits before) lane.n (phrase words.entry))
+        (IsLeast (Rule (line_place limits before) lane.n (phrase words.entry))) }
     ensures names { (before : List Line) → HasNames names.old before
         → IfOk result (λ r. StaysNamed names.new before lane r) }
 {
@@ -54,7 +54,7 @@ fn make_of<'a>(
     name: &'a [u8],
     hex: &[u8],
 ) -> Result<Request, Refusal>
-    ensures request { (place : Place) → HasNames names.old place.before → Reads result
+    ensures request { (place : LinePlace) → HasNames names.old place.before → ReadsAs result
         (MayStand place lane.n (Making name.entry.now hex.now))
         (IsLeast (Rule place lane.n (Making name.entry.now hex.now))) }
     ensures names { (before : List Line) → HasNames names.old before
@@ -74,7 +74,7 @@ fn write_of(
     at: &[u8],
     hex: &[u8],
 ) -> Result<Request, Refusal>
-    ensures request { (place : Place) → HasNames names.now place.before → Reads result
+    ensures request { (place : LinePlace) → HasNames names.now place.before → ReadsAs result
         (MayStand place lane.n (Writing name.now at.now hex.now))
         (IsLeast (Rule place lane.n (Writing name.now at.now hex.now))) }
     ensures names { IfOk result (λ r. names_made r ≡ []) }
@@ -95,7 +95,7 @@ fn named_of(
     verb: NameVerb,
     name: &[u8],
 ) -> Result<Request, Refusal>
-    ensures request { (place : Place) → HasNames names.now place.before → Reads result
+    ensures request { (place : LinePlace) → HasNames names.now place.before → ReadsAs result
         (MayStand place lane.n (Naming verb name.now))
         (IsLeast (Rule place lane.n (Naming verb name.now))) }
     ensures names { IfOk result (λ r. names_made r ≡ []) }
@@ -107,8 +107,8 @@ fn named_of(
 
 fn facing_of(limits: Limits, verb: NodeVerb, node: &[u8]) -> Result<Request, Reason>
     ensures request { (lane : ℕ) (before : List Line) → MatchResult result
-        (MayStand (place_of limits before) lane (Facing verb node.now))
-        (IsLeast (Rule (place_of limits before) lane (Facing verb node.now))) }
+        (MayStand (line_place limits before) lane (Facing verb node.now))
+        (IsLeast (Rule (line_place limits before) lane (Facing verb node.now))) }
     ensures names { IfOk result (λ r. names_made r ≡ []) }
 {
     match node_of(node, limits.nodes) {
@@ -119,8 +119,8 @@ fn facing_of(limits: Limits, verb: NodeVerb, node: &[u8]) -> Result<Request, Rea
 
 fn alone_of(limits: Limits, verb: BareVerb) -> Result<Request, Reason>
     ensures request { (lane : ℕ) (before : List Line) → MatchResult result
-        (MayStand (place_of limits before) lane (Alone verb))
-        (IsLeast (Rule (place_of limits before) lane (Alone verb))) }
+        (MayStand (line_place limits before) lane (Alone verb))
+        (IsLeast (Rule (line_place limits before) lane (Alone verb))) }
     ensures names { IfOk result (λ r. names_made r ≡ []) }
 {
     match limits.mode {

@@ -6,7 +6,7 @@ use Rattle.cb_gf256.specs.CodeWord.{syndrome}
 use Rattle.cb_scrub.specs.declared.found.Found.{Found}
 use Rattle.cb_scrub.specs.declared.found.Found.TheVariants.{Clean, One, Many}
 use Rattle.cb_scrub.specs.Wrong.{HaveParities, IsWord, IsWordBut, AreZero}
-use Rattle.cb_scrub.specs.Finds.{IsFirstSum, IsFound, IsMended}
+use Rattle.cb_scrub.specs.Finds.{IsFinding, IsFirstSum, IsMended}
 use Rattle.cb_scrub.proofs.Words.{one_position, one_word}
 
 not_word : (r j c s : ℕ) (rows : List (List ℕ)) → IsWord r rows → IsFirstSum r rows j c s → ⊥
@@ -34,7 +34,7 @@ one_first r j i c d s t rows x y =
     let sum : s ≡ t = x.value ∙ ap (λ m. syndrome m rows c) power ∙ sym z.value in
     λ m. Many (power m) (column m) (sum m)
 
-pub one_finding : (r : ℕ) (rows : List (List ℕ)) → HaveParities r rows → (a b : Found) → IsFound r rows a → IsFound r rows b → a ≡ b
+pub one_finding : (r : ℕ) (rows : List (List ℕ)) → HaveParities r rows → (a b : Found) → IsFinding r rows a → IsFinding r rows b → a ≡ b
 one_finding r rows h Clean Clean x y = refl
 one_finding r rows h Clean (One q) x y = absurd (y.wrong x)
 one_finding r rows h Clean (Many j c s) x y = absurd (not_word r j c s rows x y.0)
@@ -46,7 +46,7 @@ one_finding r rows h (Many j c s) (One q) x y = absurd (x.1 q y)
 one_finding r rows h (Many j c s) (Many i d t) x y = one_first r j i c d s t rows x.0 y.0
 
 -- what is found where some word differs from the rows in one row at the most
-pub near_word : (r p : ℕ) (rows word : List (List ℕ)) → HaveParities r rows → 2 ≤ r → IsWordBut r rows p word → (f : Found) → IsFound r rows f → IsMended rows p word f
+pub near_word : (r p : ℕ) (rows word : List (List ℕ)) → HaveParities r rows → 2 ≤ r → IsWordBut r rows p word → (f : Found) → IsFinding r rows f → IsMended rows p word f
 near_word r p rows word h two w Clean x =
     one_word r p p rows word rows h two w (record { inside = w.inside; code_word = x; bytes = h.are_rows.bytes; agrees = λ i l apart. refl })
 near_word r p rows word h two w (One q) x = one_position r q p rows h x (record { parities = two; wrong = x.wrong; agreeing = (word, w) })

@@ -8,23 +8,23 @@ use Rattle.cb_gf256.specs.Power.{power}
 use Rattle.cb_gf256.specs.CodeWord.{syndrome}
 use Rattle.cb_gf256.specs.Lanes.{HasLanes}
 use Rattle.cb_gf256.proofs.PublicLaws.{same_from_zero_sum, sum_with_itself}
-use Rattle.cb_scrub.specs.Fitting.{Fits, FitsAt}
+use Rattle.cb_scrub.specs.Fitting.{FitsAt, FitsColumns}
 
-pub fits_more : (r p from at : ℕ) (rows : List (List ℕ)) → Fits r rows p from at → FitsAt r rows p at → Fits r rows p from (at + 1)
+pub fits_more : (r p from at : ℕ) (rows : List (List ℕ)) → FitsColumns r rows p from at → FitsAt r rows p at → FitsColumns r rows p from (at + 1)
 fits_more r p from at rows h here x l m =
     ⊎_elim (λ before. h x l before) (λ after. let same : at ≡ x = omega arith in subst (FitsAt r rows p) same here) (cases_lt x at)
 
-pub fits_block : (r p from block : ℕ) (rows : List (List ℕ)) → Fits r rows p from (block * 32) → Fits r rows p (block * 32) (block * 32 + 32) → Fits r rows p from ((block + 1) * 32)
+pub fits_block : (r p from block : ℕ) (rows : List (List ℕ)) → FitsColumns r rows p from (block * 32) → FitsColumns r rows p (block * 32) (block * 32 + 32) → FitsColumns r rows p from ((block + 1) * 32)
 fits_block r p from block rows h here x l m =
     ⊎_elim (λ before. h x l before) (λ after. here x after (omega arith)) (cases_lt x (block * 32))
 
 -- a block by its lanes
-pub fits_lanes : (r p at : ℕ) (rows : List (List ℕ)) → ((l j : ℕ) → l < 32 → 1 ≤ j → j < r → syndrome j rows (at + l) ≡ power 2 (p * j) ⊗ syndrome 0 rows (at + l)) → Fits r rows p at (at + 32)
+pub fits_lanes : (r p at : ℕ) (rows : List (List ℕ)) → ((l j : ℕ) → l < 32 → 1 ≤ j → j < r → syndrome j rows (at + l) ≡ power 2 (p * j) ⊗ syndrome 0 rows (at + l)) → FitsColumns r rows p at (at + 32)
 fits_lanes r p at rows h x from to j least below =
     let place : at + (x - at) ≡ x = omega arith in
     subst (λ column. syndrome j rows column ≡ power 2 (p * j) ⊗ syndrome 0 rows column) place (h (x - at) j (omega arith) least below)
 
-pub fits_parts : (r p from mid to : ℕ) (rows : List (List ℕ)) → Fits r rows p from mid → Fits r rows p mid to → Fits r rows p from to
+pub fits_parts : (r p from mid to : ℕ) (rows : List (List ℕ)) → FitsColumns r rows p from mid → FitsColumns r rows p mid to → FitsColumns r rows p from to
 fits_parts r p from mid to rows a b x l m = ⊎_elim (λ before. a x l before) (λ after. b x after m) (cases_lt x mid)
 
 -- the powers of a position's power of 2

@@ -7,7 +7,7 @@ use Rattle.cb_gf256.specs.Rows.{row_at}
 use Rattle.cb_gf256.specs.CodeWord.{syndrome}
 use Rattle.cb_gf256.proofs.PublicLaws.{product_commutes, product_associates, product_with_one, product_with_zero, product_is_nonzero, power_is_byte, power_of_nonzero}
 use Rattle.cb_scrub.specs.Wrong.{HaveParities, IsOneWrong, AreZero, IsFirstWrong}
-use Rattle.cb_scrub.specs.Fitting.{Fits}
+use Rattle.cb_scrub.specs.Fitting.{FitsColumns}
 use Rattle.cb_scrub.specs.Mended.{mended}
 use Rattle.cb_scrub.proofs.Differing.{syndrome_lt}
 use Rattle.cb_scrub.proofs.Words.{word_fits, mended_is_word, apart_is_zero, at_one}
@@ -82,7 +82,7 @@ none_told r column len sum next rows h size first s t none p one =
     sum_is_some r p column len rows h size first one
     (sym s ∙ none p one.agreeing.1.inside (t ∙ word_fits r p rows one.agreeing.0 h one.agreeing.1 1 column (omega arith) (omega arith) ∙ at_one p (syndrome 0 rows column) ∙ ap (λ x. power 2 p ⊗ x) (sym s)))
 
-fits_all : (r p column len : ℕ) (rows : List (List ℕ)) → HaveParities r rows → IsFirstWrong r rows 0 column len → Fits r rows p (column / 32 * 32) len → Fits r rows p 0 len
+fits_all : (r p column len : ℕ) (rows : List (List ℕ)) → HaveParities r rows → IsFirstWrong r rows 0 column len → FitsColumns r rows p (column / 32 * 32) len → FitsColumns r rows p 0 len
 fits_all r p column len rows h first fits x from to j some below =
     let one = h.some in
     ⊎_elim
@@ -94,16 +94,16 @@ fits_all r p column len rows h first fits x from to j some below =
 
 -- where the syndromes fit the position, the row there is wrong alone
 pub one_wrong : (r p column len : ℕ) (rows : List (List ℕ)) → HaveParities r rows → len ≡ length (row_at rows 0) → 2 ≤ r → p < length rows → IsFirstWrong r rows 0 column len
-    → Fits r rows p (column / 32 * 32) len → IsOneWrong r rows p
+    → FitsColumns r rows p (column / 32 * 32) len → IsOneWrong r rows p
 one_wrong r p column len rows h size two inside first fits = record {
   parities = two;
   wrong = λ word. first.wrong (λ j below. word.syndromes_zero j column below (let within = first.inside in omega arith));
-  agreeing = (mended rows p, mended_is_word r p rows h inside (subst (Fits r rows p 0) size (fits_all r p column len rows h first fits)));
+  agreeing = (mended rows p, mended_is_word r p rows h inside (subst (FitsColumns r rows p 0) size (fits_all r p column len rows h first fits)));
 }
 
 -- where they do not fit it, no one row is wrong
 pub none_fits : (r p column len sum next : ℕ) (rows : List (List ℕ)) → HaveParities r rows → len ≡ length (row_at rows 0) → IsFirstWrong r rows 0 column len → sum ≡ syndrome 0 rows column → next ≡ syndrome 1 rows column
-    → p < length rows → 0 < sum → next ≡ power 2 p ⊗ sum → (Fits r rows p (column / 32 * 32) len → ⊥) → (q : ℕ) → ¬ (IsOneWrong r rows q)
+    → p < length rows → 0 < sum → next ≡ power 2 p ⊗ sum → (FitsColumns r rows p (column / 32 * 32) len → ⊥) → (q : ℕ) → ¬ (IsOneWrong r rows q)
 none_fits r p column len sum next rows h size first s t inside some e not q one =
     let two = one.parities in
     let few = h.few in

@@ -10,7 +10,7 @@ use Rattle.cb_gf256.specs.Rows.{row_at, byte_at}
 use Rattle.cb_gf256.specs.CodeWord.{syndrome}
 use Rattle.cb_gf256.proofs.PublicLaws.{sum_commutes, sum_with_zero, sum_is_byte, product_commutes, product_with_zero, factor_cancels, power_is_byte, powers_of_two_differ, same_rows, HoldBytes-from_byte_at}
 use Rattle.cb_scrub.specs.Wrong.{HaveParities, IsWord, IsWordBut, IsOneWrong}
-use Rattle.cb_scrub.specs.Fitting.{Fits}
+use Rattle.cb_scrub.specs.Fitting.{FitsColumns}
 use Rattle.cb_scrub.specs.Mended.{sum_of_others, mended}
 use Rattle.cb_scrub.proofs.Differing.{byte_lt, syndrome_lt, differ_at, times_first, nothing_added, other_of_sum, others_and_row, others_lt, length-mended, other_row, mended_byte, mended_lengths}
 
@@ -65,11 +65,11 @@ mended_sum r p column rows h inside within =
     ap (λ x. byte_at rows p column ⊕ x) (mended_byte rows p column inside within) ∙ sum_commutes (byte_at rows p column) (sum_of_others rows p column)
     ∙ others_and_row rows p column h.are_rows inside within
 
-fits_each : (r p column : ℕ) (rows : List (List ℕ)) → HaveParities r rows → Fits r rows p 0 (length (row_at rows 0)) → column < length (row_at rows 0) → (j : ℕ) → j < r → syndrome j rows column ≡ power 2 (p * j) ⊗ syndrome 0 rows column
+fits_each : (r p column : ℕ) (rows : List (List ℕ)) → HaveParities r rows → FitsColumns r rows p 0 (length (row_at rows 0)) → column < length (row_at rows 0) → (j : ℕ) → j < r → syndrome j rows column ≡ power 2 (p * j) ⊗ syndrome 0 rows column
 fits_each r p column rows h fits within zero below = sym (times_first p (syndrome 0 rows column) (syndrome_lt 0 column rows h.are_rows within))
 fits_each r p column rows h fits within (suc j) below = fits column (omega arith) within (suc j) (omega arith) below
 
-pub mended_is_word : (r p : ℕ) (rows : List (List ℕ)) → HaveParities r rows → p < length rows → Fits r rows p 0 (length (row_at rows 0)) → IsWordBut r rows p (mended rows p)
+pub mended_is_word : (r p : ℕ) (rows : List (List ℕ)) → HaveParities r rows → p < length rows → FitsColumns r rows p 0 (length (row_at rows 0)) → IsWordBut r rows p (mended rows p)
 mended_is_word r p rows h inside fits =
     let now = mended rows p in
     let more = h.more in

@@ -8,7 +8,7 @@ use Rattle.cb_scrub.specs.declared.found.Found.TheVariants.{Clean, One, Many}
 use Rattle.cb_scrub.specs.Wrong.{HaveParities, IsWord, IsWordBut, IsOneWrong, AreZero, IsFirstWrong}
 use Rattle.cb_scrub.specs.Fitting.{FitsAt}
 use Rattle.cb_scrub.specs.Mended.{mended}
-use Rattle.cb_scrub.specs.Finds.{IsFirstSum, IsFound, IsMended}
+use Rattle.cb_scrub.specs.Finds.{IsFinding, IsFirstSum, IsMended}
 use Rattle.cb_scrub.proofs.Words.{word_fits}
 
 abbrev pub four : (a b c d : ℕ) → List (List ℕ)
@@ -230,22 +230,22 @@ pub second_power : IsFirstSum 2 many 1 0 0x02 → ⊥
 second_power h = absurd (omega (arith, h.powers 0 (omega arith), of_many.0))
 
 -- ---- what is found
-pub found_clean : IsFound 2 word Clean
+pub found_clean : IsFinding 2 word Clean
 found_clean = is_word
 
-pub found_one : IsFound 2 one (One 1)
+pub found_one : IsFinding 2 one (One 1)
 found_one = one_is_wrong
 
-pub found_many : IsFound 2 many (Many 0 0 0x04)
+pub found_many : IsFinding 2 many (Many 0 0 0x04)
 found_many = (first_sum, none_of_many)
 
-pub found_no_word : IsFound 2 one Clean → ⊥
+pub found_no_word : IsFinding 2 one Clean → ⊥
 found_no_word = no_word
 
-pub found_no_one : (p : ℕ) → IsFound 2 many (One p) → ⊥
+pub found_no_one : (p : ℕ) → IsFinding 2 many (One p) → ⊥
 found_no_one = none_of_many
 
-pub found_not_many : (j column s : ℕ) → IsFound 2 one (Many j column s) → ⊥
+pub found_not_many : (j column s : ℕ) → IsFinding 2 one (Many j column s) → ⊥
 found_not_many j column s h = h.1 1 one_is_wrong
 
 pub near_clean : IsMended word 1 word Clean

@@ -17,10 +17,10 @@ pub record IsFirstSum (r : ℕ) (rows : List (List ℕ)) (power column sum : ℕ
 
 -- Clean where the rows are a code word, One where one row alone is wrong, and Many where neither
 -- holds, with the first syndrome that is not 0
-abbrev pub IsFound : ℕ → List (List ℕ) → Found → Type 0
-IsFound r rows Clean = IsWord r rows
-IsFound r rows (One position) = IsOneWrong r rows position
-IsFound r rows (Many power column sum) =
+abbrev pub IsFinding : ℕ → List (List ℕ) → Found → Type 0
+IsFinding r rows Clean = IsWord r rows
+IsFinding r rows (One position) = IsOneWrong r rows position
+IsFinding r rows (Many power column sum) =
     IsFirstSum r rows power column sum × ((position : ℕ) → ¬ (IsOneWrong r rows position))
 
 -- what is found where a code word agrees with the rows at every position but this one: the rows are

@@ -11,6 +11,6 @@ FitsAt r rows position column =
     → syndrome j rows column ≡ power 2 (position * j) ⊗ syndrome 0 rows column
 
 -- the same in the columns from one to before another
-abbrev pub Fits : ℕ → List (List ℕ) → ℕ → ℕ → ℕ → Type 0
-Fits r rows position from to =
+abbrev pub FitsColumns : ℕ → List (List ℕ) → ℕ → ℕ → ℕ → Type 0
+FitsColumns r rows position from to =
     (column : ℕ) → from ≤ column → column < to → FitsAt r rows position column

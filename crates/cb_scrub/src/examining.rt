@@ -4,7 +4,7 @@ ghost use Rattle.cb_gf256.specs.Power.{power};
 ghost use Rattle.cb_gf256.specs.Rows.{HaveLength};
 ghost use Rattle.cb_scrub.specs.declared.found.Found.{Found};
 ghost use Rattle.cb_scrub.specs.Wrong.{HaveParities, IsFirstWrong, IsOneWrong, IsWordBut};
-ghost use Rattle.cb_scrub.specs.Finds.{IsFound, IsMended};
+ghost use Rattle.cb_scrub.specs.Finds.{IsFinding, IsMended};
 
 use crate::finding::first_wrong_column;
 use crate::fitting::fits;
@@ -19,8 +19,8 @@ use cb_gf256::{BLOCK, Rows, inv, logarithm, mul};
 pub fn examine(r: u32, rows: &Rows) -> Found
     requires parities { (1 ≤ r) × (r ≤ 4) }
     requires rows { (r < length rows.now) × (length rows.now ≤ 20) }
-    ensures found { IsFound r rows.now result }
-    ensures only { (other : Found) → IsFound r rows.now other → other ≡ result }
+    ensures found { IsFinding r rows.now result }
+    ensures only { (other : Found) → IsFinding r rows.now other → other ≡ result }
     ensures near { (position : ℕ) (word : List (List ℕ)) → 2 ≤ r
         → IsWordBut r rows.now position word → IsMended rows.now position word result }
 {
@@ -37,7 +37,7 @@ fn examine_from(r: u32, rows: &Rows, column: usize, len: usize) -> Found
     requires lengths { HaveLength len rows.now }
     requires first { IsFirstWrong r rows.now 0 column len }
     requires few { len < 2 ^ 32 }
-    ensures { IsFound r rows.now result }
+    ensures { IsFinding r rows.now result }
 {
     match only_wrong(r, rows, column, len) {
         Some(position) => Found::One { position },
@@ -97,7 +97,7 @@ fn first_sum(r: u32, rows: &Rows, column: usize, len: usize) -> Found
     requires first { IsFirstWrong r rows.now 0 column len }
     requires many { (position : ℕ) → ¬ (IsOneWrong r rows.now position) }
     requires short { len < 2 ^ 32 }
-    ensures { IsFound r rows.now result }
+    ensures { IsFinding r rows.now result }
 {
     for power in 0..r {
         let sum = syndrome_at(power, rows, column, len);

@@ -5,7 +5,7 @@ ghost use Rattle.cb_gf256.specs.Product.{◌⊗◌};
 ghost use Rattle.cb_gf256.specs.Power.{power};
 ghost use Rattle.cb_gf256.specs.Rows.{HaveLength};
 ghost use Rattle.cb_gf256.specs.CodeWord.{syndrome};
-ghost use Rattle.cb_scrub.specs.Fitting.{Fits, FitsAt};
+ghost use Rattle.cb_scrub.specs.Fitting.{FitsAt, FitsColumns};
 
 use cb_code::{block_syndrome, powers_of_two, syndrome_at};
 use cb_gf256::{BLOCK, Products, Rows, add_blocks, is_zero_block, mul, pow};
@@ -19,7 +19,7 @@ pub(crate) fn fits(r: u32, rows: &Rows, position: u32, block: usize, len: usize)
     requires lengths { HaveLength len rows.now }
     requires inside { position < length rows.now }
     requires block { block ≤ len / 32 }
-    ensures { IsTrue result ↔ Fits r rows.now position (block * 32) len }
+    ensures { IsTrue result ↔ FitsColumns r rows.now position (block * 32) len }
 {
     blocks_fit(r, rows, position, block, len)
         && columns_fit(r, rows, position, len / BLOCK * BLOCK, len)
@@ -32,7 +32,7 @@ fn blocks_fit(r: u32, rows: &Rows, position: u32, first: usize, len: usize) -> b
     requires lengths { HaveLength len rows.now }
     requires inside { position < length rows.now }
     requires first { first ≤ len / 32 }
-    ensures { IsTrue result ↔ Fits r rows.now position (first * 32) (len / 32 * 32) }
+    ensures { IsTrue result ↔ FitsColumns r rows.now position (first * 32) (len / 32 * 32) }
 {
     let powers = powers_of_two();
     let factors = powers_of(position);
@@ -75,7 +75,7 @@ fn block_fits(
     requires lengths { HaveLength len rows.now }
     requires some { 0 < length rows.now }
     requires inside { at + 32 ≤ len }
-    ensures { IsTrue result ↔ Fits r rows.now position at (at + 32) }
+    ensures { IsTrue result ↔ FitsColumns r rows.now position at (at + 32) }
 {
     let first = power_at(powers, 0);
     let sum = block_syndrome(first, rows, at, len);
@@ -124,7 +124,7 @@ fn columns_fit(r: u32, rows: &Rows, position: u32, from: usize, len: usize) -> b
     requires positions { length rows.now ≤ 20 }
     requires lengths { HaveLength len rows.now }
     requires inside { position < length rows.now }
-    ensures { IsTrue result ↔ Fits r rows.now position from len }
+    ensures { IsTrue result ↔ FitsColumns r rows.now position from len }
 {
     for column in from..len {
         if !column_fits(r, rows, position, column, len) {

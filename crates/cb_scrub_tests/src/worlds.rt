@@ -4,7 +4,7 @@ ghost use Rattle.cb_world.specs.World.{IsSoundWorld};
 ghost use Rattle.cb_world.specs.declared.shown.Shown.{Shown};
 ghost use Rattle.cb_scrub_world.specs.Scrub.{MayScrub};
 ghost use Rattle.cb_scrub_world.specs.Spoilt.{IsSoundAgain, IsSpoilt};
-ghost use Rattle.cb_scrub_world.specs.Standing.{Stands};
+ghost use Rattle.cb_scrub_world.specs.Standing.{RowStands};
 ghost use Rattle.cb_scrub_tests.specs.Shards.{IsFirstSets};
 
 use cb_core::{Event, step};
@@ -38,7 +38,7 @@ pub(crate) fn world_of(alloc: Global, text: &[u8]) -> Result<World, Fail>
 /// is not lost.
 fn kept_shard(far: &Far, position: u32) -> Option<Shard>
     requires { MayScrub far.now }
-    ensures stands { IfSome result (Stands far.now.nodes) }
+    ensures stands { IfSome result (RowStands far.now.nodes) }
     ensures shard { IfSome result (IsFirstSets far.now position) }
 {
     let set = far.sets.committed(0)?;

@@ -10,7 +10,7 @@ use Rattle.cb_scrub_text.specs.Form.{AreSizes, IsAsked, Spells, header_line, ask
 use Rattle.cb_scrub_text.specs.FirstBad.{Begin, StopBefore, IsBadLine, IsFirstBad}
 use Rattle.cb_scrub_text.specs.declared.reading.Reading.{Reading}
 use Rattle.cb_scrub_text.specs.declared.reading.Reading.TheVariants.{Read, Bad}
-use Rattle.cb_scrub_text.specs.Reading.{SpellsRow, IsNoRow, StopsBehind, StopsAt, IsFilled, BadRows, AreRowsRead, IsReading}
+use Rattle.cb_scrub_text.specs.Reading.{SpellsRow, IsNoRow, StopsBehind, StopsAt, AreRowsFilled, BadRows, AreRowsRead, IsReading}
 use Rattle.cb_scrub_text.proofs.HeaderText.{one_header}
 
 -- ---- rows that begin
@@ -24,12 +24,12 @@ zero_row_bytes len = All-replicate (λ x. x < 256) len 0 (omega arith)
 
 -- what was read over rows of zeros
 pub filled_is : (k r len : ℕ) (zeros now texts : List (List ℕ)) (found : Option ℕ) → zeros ≡ replicate (k + r) (zero_row len)
-    → ((n : ℕ) → HaveLength n zeros → HoldBytes zeros → IsFilled n (length zeros) texts now found) → IsFilled len (k + r) texts now found
+    → ((n : ℕ) → HaveLength n zeros → HoldBytes zeros → AreRowsFilled n (length zeros) texts now found) → AreRowsFilled len (k + r) texts now found
 filled_is k r len zeros now texts found is told =
     let lengths : HaveLength len zeros = subst (HaveLength len) (sym is) (All-replicate (λ row. length row ≡ len) (k + r) (zero_row len) (length-replicate len 0)) in
     let bytes : HoldBytes zeros = subst HoldBytes (sym is) (All-replicate (λ row. All (λ x. x < 256) row) (k + r) (zero_row len) (zero_row_bytes len)) in
     let count : length zeros ≡ k + r = ap length is ∙ length-replicate (k + r) (zero_row len) in
-    subst (λ (n : ℕ). IsFilled len n texts now found) count (told len lengths bytes)
+    subst (λ (n : ℕ). AreRowsFilled len n texts now found) count (told len lengths bytes)
 
 begins : (k r len : ℕ) (rows : List (List ℕ)) → AreSizes k r → 1 ≤ len → len ≤ 4096 → length rows ≤ k + r → HaveLength len rows → HoldBytes rows → Begin (header_line k r ∷ map encode_lower rows)
 begins k r len rows sizes some most few lengths bytes =

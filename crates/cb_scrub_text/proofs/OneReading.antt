@@ -9,7 +9,7 @@ use Rattle.cb_gf256.specs.Rows.{HoldBytes, row_at}
 use Rattle.cb_types.specs.declared.NoMemory.{NoMemory}
 use Rattle.cb_scrub.specs.declared.found.Found.{Found}
 use Rattle.cb_scrub.specs.declared.found.Found.TheVariants.{Clean, One, Many}
-use Rattle.cb_scrub.specs.Finds.{IsFound}
+use Rattle.cb_scrub.specs.Finds.{IsFinding}
 use Rattle.cb_scrub.specs.Wrong.{HaveParities}
 use Rattle.cb_scrub.proofs.Laws.{one_finding, one_word}
 use Rattle.cb_cli.specs.declared.verdict.Verdict.{Verdict}
@@ -110,7 +110,7 @@ have_parities a form =
       few = omega (arith, form.count, form.sizes.few_data, form.sizes.few_parities);
     }
 
-one_told : (a : Asked) → IsAsked a → (found : Found) → IsFound a.r a.rows found → (t u : List ℕ) → TellsFound a found t → TellsFound a found u → t ≡ u
+one_told : (a : Asked) → IsAsked a → (found : Found) → IsFinding a.r a.rows found → (t u : List ℕ) → TellsFound a found t → TellsFound a found u → t ≡ u
 one_told a form Clean is t u x y = x ∙ sym y
 one_told a form (One position) is t u x y =
     let same : x.0 ≡ y.0 = one_word a.r position position a.rows x.0 y.0 (have_parities a form) is.parities x.1 y.1 in

@@ -45,9 +45,9 @@ pub record AreRowsOf (len count : ℕ) (texts rows : List (List ℕ)) : Type 0 w
   pub are : texts ≡ map encode_lower rows
 
 -- all rows are read, or it stopped at this one
-abbrev pub IsFilled : ℕ → ℕ → List (List ℕ) → List (List ℕ) → Option ℕ → Type 0
-IsFilled len count texts rows None = AreRowsOf len count texts rows
-IsFilled len count texts rows (Some i) = StopsAt len count texts i
+abbrev pub AreRowsFilled : ℕ → ℕ → List (List ℕ) → List (List ℕ) → Option ℕ → Type 0
+AreRowsFilled len count texts rows None = AreRowsOf len count texts rows
+AreRowsFilled len count texts rows (Some i) = StopsAt len count texts i
 
 -- no row of a length that may be has this text
 abbrev pub IsNoRow : List ℕ → Type 0

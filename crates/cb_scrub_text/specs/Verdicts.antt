@@ -6,7 +6,7 @@ use Rattle.hex.specs.Hex.{encode_lower}
 use Rattle.cb_scrub.specs.declared.found.Found.{Found}
 use Rattle.cb_scrub.specs.declared.found.Found.TheVariants.{Clean, One, Many}
 use Rattle.cb_scrub.specs.Wrong.{IsWordBut}
-use Rattle.cb_scrub.specs.Finds.{IsFound}
+use Rattle.cb_scrub.specs.Finds.{IsFinding}
 use Rattle.cb_cli.specs.declared.verdict.Verdict.{Verdict}
 use Rattle.cb_cli.specs.declared.verdict.Verdict.TheVariants.{Done, Refused}
 use Rattle.cb_scrub_text.specs.declared.asked.Asked.{Asked}
@@ -44,7 +44,7 @@ TellsFound a (Many power column sum) text = text ≡ many_text power column sum
 -- the text tells what the rows are
 pub record FindsAndTells (a : Asked) (text : List ℕ) : Type 0 where
   pub found : Found
-  pub is_found : IsFound a.r a.rows found
+  pub is_found : IsFinding a.r a.rows found
   pub told : TellsFound a found text
 
 -- the bytes spell rows, and the text tells what these are

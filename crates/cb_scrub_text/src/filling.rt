@@ -2,7 +2,7 @@
 ghost use Rattle.std.specs.Prelude.{◌≡◌, ℕ, ◌<◌, ◌≤◌, length, IfOk};
 ghost use Rattle.cb_gf256.specs.Rows.{HaveLength, HoldBytes};
 ghost use Rattle.cb_script.specs.Spelling.{lines_of};
-ghost use Rattle.cb_scrub_text.specs.Reading.{IsFilled, IsReadInto};
+ghost use Rattle.cb_scrub_text.specs.Reading.{AreRowsFilled, IsReadInto};
 
 use cb_gf256::Rows;
 use cb_script::{first_line, spelled_bytes};
@@ -19,7 +19,7 @@ pub(crate) fn fill_rows(
 ) -> Result<Option<u32>, NoMemory>
     requires { length rows.old ≤ 20 }
     ensures { (len : ℕ) → HaveLength len rows.old → HoldBytes rows.old → IfOk result
-        (IsFilled len (length rows.old) (lines_of text.now) rows.new) }
+        (AreRowsFilled len (length rows.old) (lines_of text.now) rows.new) }
 {
     let count = rows.count();
     let mut rest = text;

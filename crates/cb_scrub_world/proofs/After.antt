@@ -10,20 +10,20 @@ use Rattle.cb_gf256.specs.InRange.{IsInRange}
 use Rattle.cb_gf256.specs.Rows.{row_at, AreRows}
 use Rattle.cb_member.specs.declared.names.NodeId.{NodeId}
 use Rattle.cb_member.specs.declared.names.Shard.{Shard}
-use Rattle.cb_node.specs.NodesState.{NodesState, known_row, with_row, row_at as row_under}
+use Rattle.cb_node.specs.NodesState.{NodesState, known_row, with_row, row_under}
 use Rattle.cb_node.proofs.Laws.{row_is_put, put_keeps_other_rows}
 use Rattle.cb_scrub.specs.declared.found.Found.{Found}
 use Rattle.cb_scrub.specs.declared.found.Found.TheVariants.{Clean, One, Many}
-use Rattle.cb_scrub.specs.Finds.{IsFound}
+use Rattle.cb_scrub.specs.Finds.{IsFinding}
 use Rattle.cb_scrub.specs.Mended.{mended, row_of_others}
 use Rattle.cb_scrub.specs.Wrong.{HaveParities, IsWord, IsWordBut}
 use Rattle.cb_scrub.proofs.Laws.{length-others, mended_row, have_parities, near_word, mended_word, one_word}
 use Rattle.cb_types.specs.declared.NoMemory.{NoMemory}
 use Rattle.cb_set.specs.Nodes.{OnDistinctNodes}
 use Rattle.cb_set.specs.SetState.{SetState, parities}
-use Rattle.cb_world.specs.Fetched.{with_given}
-use Rattle.cb_scrub_world.specs.Scrub.{IsExamined, Leaves, MakesRight}
-use Rattle.cb_scrub_world.specs.Standing.{Stands, rows_of}
+use Rattle.cb_world.specs.Fetched.{with_rows_given}
+use Rattle.cb_scrub_world.specs.Scrub.{IsExamined, LeavesNodes, MakesRight}
+use Rattle.cb_scrub_world.specs.Standing.{RowStands, rows_of}
 use Rattle.cb_scrub_world.proofs.Given.{row_of_shard, stands_at}
 
 -- shards at two positions stand on two nodes
@@ -62,13 +62,13 @@ rows_after nodes shards p shard row distinct within at =
     ])
 
 -- the rows are right afterwards
-pub made_right : (old new : NodesState) (set : SetState) (found : Found) → HaveParities (parities set) (rows_of old set.shards) → OnDistinctNodes set.shards → All (Stands old) set.shards
-    → IsFound (parities set) (rows_of old set.shards) found → Leaves old set found new → MakesRight (parities set) (rows_of old set.shards) found (rows_of new set.shards)
+pub made_right : (old new : NodesState) (set : SetState) (found : Found) → HaveParities (parities set) (rows_of old set.shards) → OnDistinctNodes set.shards → All (RowStands old) set.shards
+    → IsFinding (parities set) (rows_of old set.shards) found → LeavesNodes old set found new → MakesRight (parities set) (rows_of old set.shards) found (rows_of new set.shards)
 made_right old new set Clean h distinct standing is leaves =
     let same : rows_of new set.shards ≡ rows_of old set.shards = ap (λ (n : NodesState). rows_of n set.shards) leaves in
     record { right = (subst (IsWord (parities set)) (sym same) is, same); near = λ q word two w. same ∙ sym (near_word (parities set) q (rows_of old set.shards) word h two w Clean is) }
 made_right old new set (One p) h distinct standing is leaves =
-    let given : NodesState = with_given old (length set.shards) in
+    let given : NodesState = with_rows_given old (length set.shards) in
     let row : List ℕ = row_of_others (rows_of old set.shards) p in
     let within : leaves.0.node.n < length given.nodes = (stands_at old set.shards p leaves.0 standing leaves.1).node in
     let same : rows_of new set.shards ≡ mended (rows_of old set.shards) p =
@@ -82,7 +82,7 @@ made_right old new set (Many power column sum) h distinct standing is leaves =
 -- ---- what a set's rows are
 
 -- a row that is put in place of another has its length
-pub mended_wide : (nodes : NodesState) (shards : List Shard) (p : ℕ) (rows : List (List ℕ)) → rows ≡ rows_of nodes shards → All (Stands nodes) shards → p < length shards
+pub mended_wide : (nodes : NodesState) (shards : List Shard) (p : ℕ) (rows : List (List ℕ)) → rows ≡ rows_of nodes shards → All (RowStands nodes) shards → p < length shards
     → length (row_at (mended rows p) p) ≡ 4096
 mended_wide nodes [] p rows is standing within = absurd (omega (arith, within))
 mended_wide nodes (s ∷ shards) p rows is standing within =
@@ -90,7 +90,7 @@ mended_wide nodes (s ∷ shards) p rows is standing within =
     let first : length (row_at rows 0) ≡ 4096 = ap (λ (x : List (List ℕ)). length (row_at x 0)) is ∙ (stands_at nodes (s ∷ shards) 0 s standing refl).wide in
     ap length (mended_row rows p inside) ∙ length-others rows p ∙ first
 
-pub made_right_if_ok : (old new : NodesState) (set : SetState) (result : Result Found NoMemory) → IsInRange (length set.positions) (parities set) → OnDistinctNodes set.shards → All (Stands old) set.shards
+pub made_right_if_ok : (old new : NodesState) (set : SetState) (result : Result Found NoMemory) → IsInRange (length set.positions) (parities set) → OnDistinctNodes set.shards → All (RowStands old) set.shards
     → IfOk result (λ found. IsExamined old set found new) → OnOk result (AreRows (rows_of old set.shards)) → IfOk result (λ found. MakesRight (parities set) (rows_of old set.shards) found (rows_of new set.shards))
 made_right_if_ok old new set (Ok found) range distinct standing examined are =
     let count = count_of old set.shards in

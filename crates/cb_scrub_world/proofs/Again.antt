@@ -13,25 +13,25 @@ use Rattle.cb_set.specs.SetState.{SetState}
 use Rattle.cb_types.specs.declared.NoMemory.{NoMemory}
 use Rattle.cb_types.specs.declared.handle.SetId.{SetId}
 use Rattle.cb_world.specs.FarState.{FarState}
-use Rattle.cb_world.specs.Fetched.{with_given}
+use Rattle.cb_world.specs.Fetched.{with_rows_given}
 use Rattle.cb_scrub_world.specs.declared.scrubbed.Scrubbed.{Scrubbed}
 use Rattle.cb_scrub_world.specs.declared.scrubbed.Scrubbed.TheVariants.{Done, Skipped, Set}
-use Rattle.cb_scrub_world.specs.Scrub.{Leaves, MayScrub, Scrubs}
-use Rattle.cb_scrub_world.specs.Standing.{Stands, rows_of}
+use Rattle.cb_scrub_world.specs.Scrub.{LeavesNodes, MayScrub, Scrubs}
+use Rattle.cb_scrub_world.specs.Standing.{RowStands, rows_of}
 use Rattle.cb_scrub_world.proofs.After.{mended_wide}
 use Rattle.cb_scrub_world.proofs.Given.{stands_at}
 use Rattle.cb_scrub_world.proofs.Scrubs.{all_stand}
 use Rattle.cb_scrub_world.proofs.SoundScrub.{stands_with}
 
-pub given_stands : (old : NodesState) (n : ℕ) (shard : Shard) → Stands old shard → Stands (with_given old n) shard
+pub given_stands : (old : NodesState) (n : ℕ) (shard : Shard) → RowStands old shard → RowStands (with_rows_given old n) shard
 given_stands old n shard stands = record { node = stands.node; there = stands.there; wide = stands.wide }
 
 -- each row still stands behind an examination
-leaves_stand : (old new : NodesState) (set : SetState) (found : Found) (shard : Shard) → All (Stands old) set.shards → Leaves old set found new → Stands old shard → Stands new shard
-leaves_stand old new set Clean shard all leaves stands = subst (λ (n : NodesState). Stands n shard) (sym leaves) (given_stands old (length set.shards) shard stands)
-leaves_stand old new set (Many power column sum) shard all leaves stands = subst (λ (n : NodesState). Stands n shard) (sym leaves) (given_stands old (length set.shards) shard stands)
+leaves_stand : (old new : NodesState) (set : SetState) (found : Found) (shard : Shard) → All (RowStands old) set.shards → LeavesNodes old set found new → RowStands old shard → RowStands new shard
+leaves_stand old new set Clean shard all leaves stands = subst (λ (n : NodesState). RowStands n shard) (sym leaves) (given_stands old (length set.shards) shard stands)
+leaves_stand old new set (Many power column sum) shard all leaves stands = subst (λ (n : NodesState). RowStands n shard) (sym leaves) (given_stands old (length set.shards) shard stands)
 leaves_stand old new set (One p) shard all leaves stands =
-    let given : NodesState = with_given old (length set.shards) in
+    let given : NodesState = with_rows_given old (length set.shards) in
     let rows : List (List ℕ) = rows_of old set.shards in
     let row : List ℕ = row_of_others rows p in
     let mine = stands_at old set.shards p leaves.0 all leaves.1 in
@@ -39,9 +39,9 @@ leaves_stand old new set (One p) shard all leaves stands =
     let inside : p < length rows = omega (arith, within, length-map set.shards (λ (s : Shard). known_row old s.node s.key)) in
     let long : length row ≡ length (known_row given leaves.0.node leaves.0.key) =
     sym (ap length (mended_row rows p inside)) ∙ mended_wide old set.shards p rows refl all within ∙ sym mine.wide in
-    subst (λ (n : NodesState). Stands n shard) (sym leaves.2) (stands_with given leaves.0.node leaves.0.key row shard mine.node long (given_stands old (length set.shards) shard stands))
+    subst (λ (n : NodesState). RowStands n shard) (sym leaves.2) (stands_with given leaves.0.node leaves.0.key row shard mine.node long (given_stands old (length set.shards) shard stands))
 
-leaves_given : (old new : NodesState) (set : SetState) (found : Found) → Leaves old set found new → new.given ≡ old.given + length set.shards
+leaves_given : (old new : NodesState) (set : SetState) (found : Found) → LeavesNodes old set found new → new.given ≡ old.given + length set.shards
 leaves_given old new set Clean leaves = ap (λ (n : NodesState). n.given) leaves
 leaves_given old new set (One p) leaves = ap (λ (n : NodesState). n.given) leaves.2
 leaves_given old new set (Many power column sum) leaves = ap (λ (n : NodesState). n.given) leaves

@@ -9,16 +9,16 @@ use Rattle.cb_gf256.specs.Rows.{row_at, HaveLength}
 use Rattle.cb_gf256.specs.Block.{with_row}
 use Rattle.cb_gf256.proofs.PublicLaws.{written_count, written_row, written_lengths}
 use Rattle.cb_member.specs.declared.names.Shard.{Shard}
-use Rattle.cb_node.specs.NodesState.{NodesState, known_row, row_at as row_under}
-use Rattle.cb_world.specs.Fetched.{with_given}
-use Rattle.cb_scrub_world.specs.Standing.{Stands, rows_of}
+use Rattle.cb_node.specs.NodesState.{NodesState, known_row, row_under}
+use Rattle.cb_world.specs.Fetched.{with_rows_given}
+use Rattle.cb_scrub_world.specs.Standing.{RowStands, rows_of}
 
 -- ---- the shard at a position, and its row
 
-pub stands_at : (nodes : NodesState) (shards : List Shard) (i : ℕ) (shard : Shard) → All (Stands nodes) shards → slice_get shards i ≡ Some shard → Stands nodes shard
+pub stands_at : (nodes : NodesState) (shards : List Shard) (i : ℕ) (shard : Shard) → All (RowStands nodes) shards → slice_get shards i ≡ Some shard → RowStands nodes shard
 stands_at nodes [] i shard all at = absurd cc
-stands_at nodes (s ∷ shards) zero shard all at = let same : s ≡ shard = cc in subst (Stands nodes) same (All-head (Stands nodes) s shards all)
-stands_at nodes (s ∷ shards) (suc i) shard all at = stands_at nodes shards i shard (All-tail (Stands nodes) s shards all) at
+stands_at nodes (s ∷ shards) zero shard all at = let same : s ≡ shard = cc in subst (RowStands nodes) same (All-head (RowStands nodes) s shards all)
+stands_at nodes (s ∷ shards) (suc i) shard all at = stands_at nodes shards i shard (All-tail (RowStands nodes) s shards all) at
 
 pub row_of_shard : (nodes : NodesState) (shards : List Shard) (i : ℕ) (shard : Shard) → slice_get shards i ≡ Some shard → row_at (rows_of nodes shards) i ≡ known_row nodes shard.node shard.key
 row_of_shard nodes [] i shard at = absurd cc
@@ -29,14 +29,14 @@ some_known : (o : Option (List ℕ)) → is_some o ≡ true → o ≡ Some (unwr
 some_known None some = absurd cc
 some_known (Some row) some = refl
 
-pub row_is_known : (nodes : NodesState) (shard : Shard) → Stands nodes shard → row_under nodes shard.node shard.key ≡ Some (known_row nodes shard.node shard.key)
+pub row_is_known : (nodes : NodesState) (shard : Shard) → RowStands nodes shard → row_under nodes shard.node shard.key ≡ Some (known_row nodes shard.node shard.key)
 row_is_known nodes shard stands = some_known (row_under nodes shard.node shard.key) stands.there
 
 -- ---- the rows so far
 
 -- the rows below a position are given, and the table is as it was in form
 pub record Giving (old now : NodesState) (shards : List Shard) (table : List (List ℕ)) (i : ℕ) : Type 0 where
-  pub nodes : now ≡ with_given old i
+  pub nodes : now ≡ with_rows_given old i
   pub count : length table ≡ length shards
   pub lengths : HaveLength 4096 table
   pub rows : (j : ℕ) → j < i → row_at table j ≡ row_at (rows_of old shards) j
@@ -45,10 +45,10 @@ pub giving_none : (old : NodesState) (shards : List Shard) (table : List (List �
 giving_none old shards table count lengths = record { nodes = ap (λ (n : ℕ). record old { given = n }) (omega arith); count = count; lengths = lengths; rows = λ j below. absurd (omega (arith, below)) }
 
 module _ (old now : NodesState) (shards : List Shard) (table : List (List ℕ)) (i : ℕ) (giving : Giving old now shards table i) where
-  pub stands_now : (shard : Shard) → Stands old shard → Stands now shard
-  stands_now shard stands = subst (λ (n : NodesState). Stands n shard) (sym giving.nodes) (record { node = stands.node; there = stands.there; wide = stands.wide })
+  pub stands_now : (shard : Shard) → RowStands old shard → RowStands now shard
+  stands_now shard stands = subst (λ (n : NodesState). RowStands n shard) (sym giving.nodes) (record { node = stands.node; there = stands.there; wide = stands.wide })
 
-  pub giving_more : (next : NodesState) (shard : Shard) (row : List ℕ) → i < length shards → slice_get shards i ≡ Some shard → Stands old shard
+  pub giving_more : (next : NodesState) (shard : Shard) (row : List ℕ) → i < length shards → slice_get shards i ≡ Some shard → RowStands old shard
       → next ≡ record now { given = now.given + 1 } → row ≡ known_row now shard.node shard.key → Giving old next shards (with_row table i row) (i + 1)
   giving_more next shard row within at stands one is =
       let same : row ≡ known_row old shard.node shard.key = is ∙ ap (λ (n : NodesState). known_row n shard.node shard.key) giving.nodes in
@@ -67,8 +67,8 @@ module _ (old now : NodesState) (shards : List Shard) (table : List (List ℕ)) 
             ];
       }
 
-  pub all_given : i ≡ length shards → (now ≡ with_given old (length shards)) × (table ≡ rows_of old shards)
+  pub all_given : i ≡ length shards → (now ≡ with_rows_given old (length shards)) × (table ≡ rows_of old shards)
   all_given all = (
-    giving.nodes ∙ ap (with_given old) all,
+    giving.nodes ∙ ap (with_rows_given old) all,
     ext_get_or [] table (rows_of old shards) (giving.count ∙ sym (length-map shards (λ (s : Shard). known_row old s.node s.key))) (λ j l. giving.rows j (omega (arith, l, giving.count, all))),
   )

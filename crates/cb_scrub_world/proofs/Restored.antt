@@ -12,11 +12,11 @@ use Rattle.cb_gf256.specs.Rows.{row_at}
 use Rattle.cb_gf256.specs.Sum.{◌⊕◌}
 use Rattle.cb_member.specs.Membership.{Membership}
 use Rattle.cb_member.specs.declared.names.Shard.{Shard}
-use Rattle.cb_node.specs.NodesState.{NodesState, known_row, rows_at, with_row, with_spoiled}
+use Rattle.cb_node.specs.NodesState.{NodesState, known_row, rows_of_node, with_row, with_spoiled}
 use Rattle.cb_node.proofs.Laws.{row_is_put, put_keeps_other_rows, later_row_stays, same_row_changes_nothing}
 use Rattle.cb_scrub.specs.declared.found.Found.{Found}
 use Rattle.cb_scrub.specs.declared.found.Found.TheVariants.{Clean, One, Many}
-use Rattle.cb_scrub.specs.Finds.{IsFound}
+use Rattle.cb_scrub.specs.Finds.{IsFinding}
 use Rattle.cb_scrub.specs.Mended.{row_of_others}
 use Rattle.cb_scrub.specs.Wrong.{IsWord, IsWordBut}
 use Rattle.cb_set.specs.Lost.{IsWhole}
@@ -26,7 +26,7 @@ use Rattle.cb_set.proofs.Laws.{whole_none}
 use Rattle.cb_types.specs.declared.NoMemory.{NoMemory}
 use Rattle.cb_types.specs.declared.handle.SetId.{SetId}
 use Rattle.cb_world.specs.FarState.{FarState}
-use Rattle.cb_world.specs.Fetched.{with_given}
+use Rattle.cb_world.specs.Fetched.{with_rows_given}
 use Rattle.cb_world.specs.SetWord.{IsShaped, IsWordOf}
 use Rattle.cb_world.specs.Sets.{set_in}
 use Rattle.cb_world.specs.Sound.{Sound}
@@ -34,9 +34,9 @@ use Rattle.cb_world.specs.declared.shown.Shown.{Shown}
 use Rattle.cb_world.proofs.Laws.{recounted_sound}
 use Rattle.cb_scrub_world.specs.declared.scrubbed.Scrubbed.{Scrubbed}
 use Rattle.cb_scrub_world.specs.declared.scrubbed.Scrubbed.TheVariants.{Done, Skipped, Set}
-use Rattle.cb_scrub_world.specs.Scrub.{Examines, KeepsWord, Leaves, MakesRight, Scrubs, with_nodes}
-use Rattle.cb_scrub_world.specs.Spoilt.{IsSoundAgain, IsSpoilt, Restores}
-use Rattle.cb_scrub_world.specs.Standing.{Stands, rows_of}
+use Rattle.cb_scrub_world.specs.Scrub.{Examines, KeepsWord, LeavesNodes, MakesRight, Scrubs, with_nodes}
+use Rattle.cb_scrub_world.specs.Spoilt.{IsSoundAgain, IsSpoilt, RestoresWorld}
+use Rattle.cb_scrub_world.specs.Standing.{RowStands, rows_of}
 use Rattle.cb_scrub_world.proofs.After.{apart, count_of, rows_after}
 use Rattle.cb_scrub_world.proofs.Given.{row_of_shard, stands_at}
 use Rattle.cb_scrub_world.proofs.SoundScrub.{sound_set}
@@ -45,19 +45,19 @@ use Rattle.cb_scrub_world.proofs.Scrubs.{all_stand}
 -- ---- the nodes
 
 -- a row that stands, put again, changes nothing
-put_again : (nodes : NodesState) (shard : Shard) (row : List ℕ) → Stands nodes shard
+put_again : (nodes : NodesState) (shard : Shard) (row : List ℕ) → RowStands nodes shard
     → row ≡ known_row nodes shard.node shard.key → with_row nodes shard.node shard.key row ≡ nodes
 put_again nodes shard row stands same = ap (with_row nodes shard.node shard.key) same
     ∙ same_row_changes_nothing nodes shard.node shard.key stands.there
 
 -- the row that was put is known
-known_put : (nodes : NodesState) (shard : Shard) (row : List ℕ) → Stands nodes shard
+known_put : (nodes : NodesState) (shard : Shard) (row : List ℕ) → RowStands nodes shard
     → known_row (with_row nodes shard.node shard.key row) shard.node shard.key ≡ row
 known_put nodes shard row stands = ap (λ (o : Option (List ℕ)). unwrap_or o [])
     (row_is_put nodes shard.node shard.key row stands.node)
 
 -- a row that was put and is as it was before changed nothing
-put_same : (nodes : NodesState) (shard : Shard) (row : List ℕ) → Stands nodes shard
+put_same : (nodes : NodesState) (shard : Shard) (row : List ℕ) → RowStands nodes shard
     → known_row (with_row nodes shard.node shard.key row) shard.node shard.key
     ≡ known_row nodes shard.node shard.key
     → with_row nodes shard.node shard.key row ≡ nodes
@@ -74,7 +74,7 @@ same_row a b shards i shard same at = sym (row_of_shard a shards i shard at)
 
 -- a shard's row is put, and the set's rows are as they were
 put_back : (nodes : NodesState) (shards : List Shard) (i : ℕ) (shard : Shard) (row : List ℕ)
-    → Stands nodes shard → slice_get shards i ≡ Some shard
+    → RowStands nodes shard → slice_get shards i ≡ Some shard
     → rows_of (with_row nodes shard.node shard.key row) shards ≡ rows_of nodes shards
     → with_row nodes shard.node shard.key row ≡ nodes
 put_back nodes shards i shard row stands at same = put_same nodes shard row stands
@@ -94,7 +94,7 @@ data_rows nodes m set shaped =
     let count = count_of nodes set.shards in omega (arith, first, count)
 
 module _ (right : NodesState) (set : SetState) (p : ℕ) (shard : Shard) (row : List ℕ)
-    (distinct : OnDistinctNodes set.shards) (stand : All (Stands right) set.shards)
+    (distinct : OnDistinctNodes set.shards) (stand : All (RowStands right) set.shards)
     (at : slice_get set.shards p ≡ Some shard) where
   abbrev spoilt : NodesState
   spoilt = with_row right shard.node shard.key row
@@ -103,7 +103,7 @@ module _ (right : NodesState) (set : SetState) (p : ℕ) (shard : Shard) (row : 
   abbrev AreAsBefore : NodesState → Type 0
   AreAsBefore nodes = rows_of nodes set.shards ≡ rows_of right set.shards
 
-  stands : Stands right shard
+  stands : RowStands right shard
   stands = stands_at right set.shards p shard stand at
 
   -- the row that was spoilt is replaced
@@ -118,11 +118,12 @@ module _ (right : NodesState) (set : SetState) (p : ℕ) (shard : Shard) (row : 
       → slice_get set.shards q ≡ Some other → AreAsBefore (with_row spoilt other.node other.key put)
       → with_row spoilt other.node other.key put ≡ right
   replaced_there q other put off there same =
-      let mine : Stands right other = stands_at right set.shards q other stand there in
+      let mine : RowStands right other = stands_at right set.shards q other stand there in
       let elsewhere : ((shard.node.n ≡ other.node.n) × (shard.key ≡ other.key)) → ⊥ =
       λ both. apart set.shards p q shard other distinct at there (λ e. off (sym e)) both.0 in
       let count : length spoilt.nodes ≡ length right.nodes =
-      length-set right.nodes shard.node.n (map.insert (rows_at right shard.node) shard.key row) in
+      length-set right.nodes shard.node.n
+      (map.insert (rows_of_node right shard.node) shard.key row) in
       let kept = put_keeps_other_rows spoilt other.node shard.node other.key shard.key put
       (omega (arith, count, mine.node)) elsewhere in
       let back : spoilt ≡ right = put_same right shard row stands
@@ -148,16 +149,18 @@ module _ (right : NodesState) (set : SetState) (p : ℕ) (shard : Shard) (row : 
   ]
 
   -- nothing is put, and the set's rows are as they were
-  given_out : (new : NodesState) → new ≡ with_given spoilt (length set.shards) → AreAsBefore new
+  given_out : (new : NodesState) → new ≡ with_rows_given spoilt (length set.shards)
+      → AreAsBefore new
       → new ≡ record right { given = new.given }
   given_out new leaves same =
       let back : spoilt ≡ right =
       put_back right set.shards p shard row stands at (subst AreAsBefore leaves same) in
       given_alone right new (right.given + length set.shards)
-      (leaves ∙ ap (λ (n : NodesState). with_given n (length set.shards)) back)
+      (leaves ∙ ap (λ (n : NodesState). with_rows_given n (length set.shards)) back)
 
   -- what an examination leaves, where the set's rows are as they were
-  nodes_again : (found : Found) (new : NodesState) → Leaves spoilt set found new → AreAsBefore new
+  nodes_again : (found : Found) (new : NodesState) → LeavesNodes spoilt set found new
+      → AreAsBefore new
       → new ≡ record right { given = new.given }
   nodes_again Clean new leaves same = given_out new leaves same
   nodes_again (One q) new leaves same =
@@ -236,7 +239,7 @@ module _ (s : Shown) (right : FarState) (sound : Sound s right) (id : ℕ) (set 
   word : (word : List (List ℕ)) × IsWordOf right.nodes right.members set word
   word = let worded = sound.away.sound.sets.worded id set committed in (worded.0, worded.1.word)
 
-  stand : All (Stands right.nodes) set.shards
+  stand : All (RowStands right.nodes) set.shards
   stand =
       let counted = sound.away.sound.rows.counted in
       all_stand right.nodes right.members set
@@ -253,7 +256,7 @@ module _ (s : Shown) (right : FarState) (sound : Sound s right) (id : ℕ) (set 
   -- one row of the set was spoilt, and it was examined
   examined_again : (p : ℕ) (shard : Shard) (row : List ℕ) (new : NodesState) (found : Found)
       → 2 ≤ parities set → slice_get set.shards p ≡ Some shard
-      → Leaves (with_row right.nodes shard.node shard.key row) set found new
+      → LeavesNodes (with_row right.nodes shard.node shard.key row) set found new
       → MakesRight (parities set)
       (rows_of (with_row right.nodes shard.node shard.key row) set.shards) found
       (rows_of new set.shards)
@@ -266,8 +269,8 @@ module _ (s : Shown) (right : FarState) (sound : Sound s right) (id : ℕ) (set 
 
   -- a set whose rows are right was examined
   examined_right : (new : NodesState) (found : Found)
-      → IsFound (parities set) (rows_of right.nodes set.shards) found
-      → Leaves right.nodes set found new → new ≡ record right.nodes { given = new.given }
+      → IsFinding (parities set) (rows_of right.nodes set.shards) found
+      → LeavesNodes right.nodes set found new → new ≡ record right.nodes { given = new.given }
   examined_right new Clean is leaves =
       given_alone right.nodes new (right.nodes.given + length set.shards) leaves
   examined_right new (One p) is leaves = absurd (is.wrong rows_are_word)
@@ -287,7 +290,7 @@ spoilt_again s right id after far new found sound is examines keeps =
     let same : examined.set ≡ is.set =
     same_Some examined.set is.set (sym examined.is_set ∙ is.committed) in
     let whole = subst (IsWhole right.members) same examined.whole in
-    let leaves = subst (λ (set : SetState). Leaves there.nodes set found new.nodes) same
+    let leaves = subst (λ (set : SetState). LeavesNodes there.nodes set found new.nodes) same
     examined.examined.leaves in
     as_sound s right new sound (examined.others
     ∙ ap (with_nodes right)
@@ -316,7 +319,7 @@ byte_is_spoilt far id set position shard at with committed two there =
 pub restores : (after : Option SetId) (far new : FarState) (result : Result Scrubbed NoMemory)
     → IfOk result (λ scrubbed. Scrubs after far scrubbed new)
     → IfOk result (λ scrubbed. KeepsWord far scrubbed new)
-    → IfOk result (λ scrubbed. Restores far scrubbed new)
+    → IfOk result (λ scrubbed. RestoresWorld far scrubbed new)
 restores after far new (Ok Done) scrubs keeps = tt
 restores after far new (Ok (Skipped id count)) scrubs keeps = tt
 restores after far new (Ok (Set id found)) scrubs keeps = λ s right sound is.

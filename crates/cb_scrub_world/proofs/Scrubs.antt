@@ -11,12 +11,12 @@ use Rattle.cb_scrub.specs.declared.found.Found.{Found}
 use Rattle.cb_types.specs.declared.handle.SetId.{SetId}
 use Rattle.cb_world.specs.FarState.{FarState}
 use Rattle.cb_world.specs.Sets.{set_in}
-use Rattle.cb_scrub_world.specs.Next.{IsNext}
+use Rattle.cb_scrub_world.specs.Next.{IsNextSet}
 use Rattle.cb_scrub_world.specs.Scrub.{Examines, IsExamined, MayScrubSet, Skips, with_nodes}
-use Rattle.cb_scrub_world.specs.Standing.{Stands}
+use Rattle.cb_scrub_world.specs.Standing.{RowStands}
 
 -- where nothing is lost, each row stands
-pub all_stand : (nodes : NodesState) (m : Membership) (set : SetState) → MayScrubSet nodes m set → length (lost m set.shards) ≡ 0 → All (Stands nodes) set.shards
+pub all_stand : (nodes : NodesState) (m : Membership) (set : SetState) → MayScrubSet nodes m set → length (lost m set.shards) ≡ 0 → All (RowStands nodes) set.shards
 all_stand nodes m set may none k d within =
     let whole = whole_by_count m set.shards none in
     may.standing k d within (whole_none m set.shards whole k (get_or set.shards k d) (slice_get-get_or set.shards k d within))
@@ -25,13 +25,13 @@ some_set : (o : Option SetState) → IsSome o → (set : SetState) × (o ≡ Som
 some_set None is = absurd cc
 some_set (Some set) is = (set, refl)
 
-pub examines : (after : Option SetId) (far new : FarState) (id : ℕ) (found : Found) → IsNext after far.sets id → ((set : SetState) → set_in far.sets id ≡ Some set → length (lost far.members set.shards) ≡ 0)
+pub examines : (after : Option SetId) (far new : FarState) (id : ℕ) (found : Found) → IsNextSet after far.sets id → ((set : SetState) → set_in far.sets id ≡ Some set → length (lost far.members set.shards) ≡ 0)
     → ((set : SetState) → set_in far.sets id ≡ Some set → IsExamined far.nodes set found new.nodes) → new ≡ with_nodes far new.nodes → Examines after far id found new
 examines after far new id found next none examined others =
     let there = some_set (set_in far.sets id) next.committed in
     record { next = next; set = there.0; is_set = there.1; whole = whole_by_count far.members there.0.shards (none there.0 there.1); examined = examined there.0 there.1; others = others }
 
-pub skips : (after : Option SetId) (far : FarState) (id count : ℕ) → IsNext after far.sets id → ((set : SetState) → set_in far.sets id ≡ Some set → count ≡ length (lost far.members set.shards)) → 0 < count → Skips after far id count far
+pub skips : (after : Option SetId) (far : FarState) (id count : ℕ) → IsNextSet after far.sets id → ((set : SetState) → set_in far.sets id ≡ Some set → count ≡ length (lost far.members set.shards)) → 0 < count → Skips after far id count far
 skips after far id count next counted some =
     let there = some_set (set_in far.sets id) next.committed in
     record { next = next; set = there.0; is_set = there.1; counted = counted there.0 there.1; some = some; same = refl }

@@ -10,7 +10,7 @@ use Rattle.cb_gf256.specs.Rows.{row_at}
 use Rattle.cb_gf256.specs.Sum.{◌⊕◌}
 use Rattle.cb_member.specs.declared.names.NodeId.{NodeId}
 use Rattle.cb_member.specs.declared.names.Shard.{Shard}
-use Rattle.cb_node.specs.NodesState.{NodesState, known_row, with_row, with_spoiled, row_at as row_under}
+use Rattle.cb_node.specs.NodesState.{NodesState, known_row, with_row, with_spoiled, row_under}
 use Rattle.cb_node.proofs.Laws.{row_is_put, put_keeps_other_rows}
 use Rattle.cb_set.specs.SetState.{SetState}
 use Rattle.cb_world.specs.FarSound.{AwaySound}
@@ -18,10 +18,10 @@ use Rattle.cb_world.specs.FarState.{FarState}
 use Rattle.cb_world.specs.SetWord.{IsShaped, IsWordOf}
 use Rattle.cb_world.specs.declared.shown.Shown.{Shown}
 use Rattle.cb_scrub_world.specs.Scrub.{MayScrub, MayScrubSet, with_nodes}
-use Rattle.cb_scrub_world.specs.Standing.{Stands}
+use Rattle.cb_scrub_world.specs.Standing.{RowStands}
 
 -- a row that is known stands
-row_stands : (nodes : NodesState) (shard : Shard) (row : List ℕ) → shard.node.n < length nodes.nodes → row_under nodes shard.node shard.key ≡ Some row → length row ≡ 4096 → Stands nodes shard
+row_stands : (nodes : NodesState) (shard : Shard) (row : List ℕ) → shard.node.n < length nodes.nodes → row_under nodes shard.node shard.key ≡ Some row → length row ≡ 4096 → RowStands nodes shard
 row_stands nodes shard row within is wide = record { node = within; there = ap is_some is; wide = ap (λ (o : Option (List ℕ)). length (unwrap_or o [])) is ∙ wide }
 
 pub sound_set : (nodes : NodesState) (far : FarState) (set : SetState) (rows : List (List ℕ)) → length far.nodes.nodes ≡ length far.members.nodes → IsShaped far.members set → IsWordOf far.nodes far.members set rows → MayScrubSet far.nodes far.members set
@@ -46,7 +46,7 @@ sound_may_scrub s far sound given = record {
 -- ---- a byte that is spoilt
 
 -- a row that is replaced by one of its length, and each other row, stands
-pub stands_with : (nodes : NodesState) (node : NodeId) (key : ℕ) (row : List ℕ) (shard : Shard) → node.n < length nodes.nodes → length row ≡ length (known_row nodes node key) → Stands nodes shard → Stands (with_row nodes node key row) shard
+pub stands_with : (nodes : NodesState) (node : NodeId) (key : ℕ) (row : List ℕ) (shard : Shard) → node.n < length nodes.nodes → length row ≡ length (known_row nodes node key) → RowStands nodes shard → RowStands (with_row nodes node key row) shard
 stands_with nodes node key row shard within long stands =
     let count : length (with_row nodes node key row).nodes ≡ length nodes.nodes = length-set nodes.nodes node.n (map.insert (get_or nodes.nodes node.n map.empty) key row) in
     let inside : shard.node.n < length (with_row nodes node key row).nodes = omega (arith, count, stands.node) in
@@ -63,7 +63,7 @@ stands_with nodes node key row shard within long stands =
       | inr other ↦ kept (λ both. other both.0) inside
     ]
   where
-    kept : ((shard.node.n ≡ node.n) × (shard.key ≡ key) → ⊥) → shard.node.n < length (with_row nodes node key row).nodes → Stands (with_row nodes node key row) shard
+    kept : ((shard.node.n ≡ node.n) × (shard.key ≡ key) → ⊥) → shard.node.n < length (with_row nodes node key row).nodes → RowStands (with_row nodes node key row) shard
     kept apart inside =
         let is = put_keeps_other_rows nodes node shard.node key shard.key row within apart in
         record { node = inside; there = ap is_some is ∙ stands.there; wide = ap (λ (o : Option (List ℕ)). length (unwrap_or o [])) is ∙ stands.wide }

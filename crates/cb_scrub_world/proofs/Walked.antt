@@ -5,7 +5,7 @@ use Rattle.std.specs.FinMap as map
 use Rattle.std.proofs.lemmas.Bool.{cases_eq, cases_lt}
 use Rattle.cb_types.specs.declared.handle.SetId.{SetId}
 use Rattle.cb_world.specs.Sets.{SetMap, if_committed, set_in}
-use Rattle.cb_scrub_world.specs.Next.{Above, IsNext, AreNone}
+use Rattle.cb_scrub_world.specs.Next.{Above, IsNextSet, AreNone}
 
 -- the committed sets above and below this number were passed, and from it on all are above
 pub record Passed (after : Option SetId) (sets : SetMap) (from : ℕ) : Type 0 where
@@ -21,7 +21,7 @@ module _ (after : Option SetId) (sets : SetMap) (from : ℕ) (passed : Passed af
   up_to id on least j above below =
       elim (cases_lt j from) [ inl before ↦ passed.none j above before | inr behind ↦ ap if_committed (least j behind below) ]
 
-  pub next_found : (id : ℕ) → from ≤ id → ((j : ℕ) → from ≤ j → j < id → map.get sets j ≡ None) → IsSome (set_in sets id) → IsNext after sets id
+  pub next_found : (id : ℕ) → from ≤ id → ((j : ℕ) → from ≤ j → j < id → map.get sets j ≡ None) → IsSome (set_in sets id) → IsNextSet after sets id
   next_found id on least committed = record { above = passed.above id on; committed = committed; least = up_to id on least }
 
   -- with one that is not committed

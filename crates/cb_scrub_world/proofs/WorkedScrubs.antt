@@ -10,8 +10,8 @@ use Rattle.cb_scrub.specs.Wrong.{IsWord}
 use Rattle.cb_types.specs.declared.handle.SetId.{SetId}
 use Rattle.cb_world.specs.FarState.{FarState}
 use Rattle.cb_world.specs.Sets.{SetMap, if_committed, set_in}
-use Rattle.cb_scrub_world.specs.Next.{Above, IsNext, AreNone}
-use Rattle.cb_scrub_world.specs.Standing.{Stands}
+use Rattle.cb_scrub_world.specs.Next.{Above, IsNextSet, AreNone}
+use Rattle.cb_scrub_world.specs.Standing.{RowStands}
 use Rattle.cb_scrub_world.specs.Scrub.{AreRight, MakesRight, MayScrub, Skips}
 
 -- ---- which set comes next
@@ -29,7 +29,7 @@ above_none = tt
 none_there : (after : Option SetId) → AreNone after map.empty
 none_there after id few above = ap if_committed (map.get-empty nat_cmp id)
 
-not_committed : (after : Option SetId) (id : ℕ) → IsNext after map.empty id → ⊥
+not_committed : (after : Option SetId) (id : ℕ) → IsNextSet after map.empty id → ⊥
 not_committed after id next = absurd (let none : set_in map.empty id ≡ None = ap if_committed (map.get-empty nat_cmp id) in is_none (set_in map.empty id) none next.committed)
   where
     is_none : {X : Type 0} (o : Option X) → o ≡ None → is_some o ≡ true → ⊥
@@ -37,20 +37,20 @@ not_committed after id next = absurd (let none : set_in map.empty id ≡ None = 
     is_none (Some x) e some = absurd cc
 
 -- one that is not above, and one that is passed over
-not_above : (sets : SetMap) → IsNext (Some (record { n = 3 })) sets 2 → ⊥
+not_above : (sets : SetMap) → IsNextSet (Some (record { n = 3 })) sets 2 → ⊥
 not_above sets next = omega (arith, next.above)
 
-passed_over : (sets : SetMap) (id j : ℕ) → j < id → (set_in sets j ≡ None → ⊥) → IsNext None sets id → ⊥
+passed_over : (sets : SetMap) (id j : ℕ) → j < id → (set_in sets j ≡ None → ⊥) → IsNextSet None sets id → ⊥
 passed_over sets id j less there next = there (next.least j tt less)
 
 -- ---- a row that stands
-on_no_node : (nodes : NodesState) (shard : Shard) → length nodes.nodes ≤ shard.node.n → Stands nodes shard → ⊥
+on_no_node : (nodes : NodesState) (shard : Shard) → length nodes.nodes ≤ shard.node.n → RowStands nodes shard → ⊥
 on_no_node nodes shard past stands = omega (arith, past, stands.node)
 
-not_there : (nodes : NodesState) (shard : Shard) → has nodes shard.node shard.key ≡ false → Stands nodes shard → ⊥
+not_there : (nodes : NodesState) (shard : Shard) → has nodes shard.node shard.key ≡ false → RowStands nodes shard → ⊥
 not_there nodes shard none stands = absurd (let e : true ≡ false = sym stands.there ∙ none in cc)
 
-too_short : (nodes : NodesState) (shard : Shard) → length (known_row nodes shard.node shard.key) ≡ 1 → Stands nodes shard → ⊥
+too_short : (nodes : NodesState) (shard : Shard) → length (known_row nodes shard.node shard.key) ≡ 1 → RowStands nodes shard → ⊥
 too_short nodes shard one_byte stands = omega (arith, one_byte, stands.wide)
 
 too_many_given : (far : FarState) → far.nodes.given ≡ 4611686018427387904 → MayScrub far → ⊥

@@ -6,13 +6,13 @@ use Rattle.std.specs.Ordering.{nat_cmp}
 use Rattle.std.proofs.lemmas.Option.{none-some, same_Some}
 use Rattle.cb_member.specs.declared.names.NodeId.{NodeId}
 use Rattle.cb_member.specs.declared.names.Shard.{Shard}
-use Rattle.cb_node.specs.NodesState.{NodesState, with_row, row_at as row_under}
+use Rattle.cb_node.specs.NodesState.{NodesState, with_row, row_under}
 use Rattle.cb_node.proofs.Laws.{row_is_put, put_keeps_other_rows}
 use Rattle.cb_set.specs.SetState.{SetState, dead_position, parities, set_of}
 use Rattle.cb_types.specs.declared.config.Config.{Config}
 use Rattle.cb_world.specs.Empty.{empty_far, empty_shown}
 use Rattle.cb_world.specs.FarState.{FarState}
-use Rattle.cb_world.specs.Fetched.{with_given}
+use Rattle.cb_world.specs.Fetched.{with_rows_given}
 use Rattle.cb_world.specs.Sets.{SetMap, set_in}
 use Rattle.cb_world.specs.declared.shown.Shown.{Shown}
 use Rattle.cb_world.proofs.Laws.{empty_sound}
@@ -108,7 +108,7 @@ on_another_node is =
 
 -- and a row was given out as well
 abbrev given_too : FarState
-given_too = with_nodes (with_set set) (with_given (changed set 1 8).nodes 1)
+given_too = with_nodes (with_set set) (with_rows_given (changed set 1 8).nodes 1)
 
 one_given : IsSpoilt (with_set set) 0 given_too → ⊥
 one_given is =
@@ -123,7 +123,7 @@ shown = empty_shown 1 config
 
 -- three rows were given out
 abbrev given_three : FarState
-given_three = with_nodes empty (with_given empty.nodes 3)
+given_three = with_nodes empty (with_rows_given empty.nodes 3)
 
 is_sound_again : IsSoundAgain shown empty given_three
 is_sound_again = as_sound shown empty given_three (empty_sound 1 config (lit≤ tt) (lit< tt)) refl

@@ -9,7 +9,7 @@ Above None id = Unit {0}
 Above (Some set) id = set.n < id
 
 -- the committed set with the least number above
-pub record IsNext (after : Option SetId) (sets : SetMap) (id : ℕ) : Type 0 where
+pub record IsNextSet (after : Option SetId) (sets : SetMap) (id : ℕ) : Type 0 where
   pub above : Above after id
   pub committed : IsSome (set_in sets id)
   pub least : (j : ℕ) → Above after j → j < id → set_in sets j ≡ None

@@ -6,7 +6,7 @@ use Rattle.cb_member.specs.Membership.{Membership}
 use Rattle.cb_node.specs.NodesState.{NodesState, with_row}
 use Rattle.cb_scrub.specs.declared.found.Found.{Found}
 use Rattle.cb_scrub.specs.declared.found.Found.TheVariants.{Clean, One, Many}
-use Rattle.cb_scrub.specs.Finds.{IsFound}
+use Rattle.cb_scrub.specs.Finds.{IsFinding}
 use Rattle.cb_scrub.specs.Mended.{row_of_others}
 use Rattle.cb_scrub.specs.Wrong.{IsWord, IsWordBut}
 use Rattle.cb_set.specs.Lost.{IsWhole, NodesAreMembers, is_lost, lost}
@@ -14,12 +14,12 @@ use Rattle.cb_set.specs.Nodes.{OnDistinctNodes}
 use Rattle.cb_set.specs.SetState.{SetState, parities}
 use Rattle.cb_types.specs.declared.handle.SetId.{SetId}
 use Rattle.cb_world.specs.FarState.{FarState}
-use Rattle.cb_world.specs.Fetched.{with_given}
+use Rattle.cb_world.specs.Fetched.{with_rows_given}
 use Rattle.cb_world.specs.Sets.{set_in}
 use Rattle.cb_scrub_world.specs.declared.scrubbed.Scrubbed.{Scrubbed}
 use Rattle.cb_scrub_world.specs.declared.scrubbed.Scrubbed.TheVariants.{Done, Skipped, Set}
-use Rattle.cb_scrub_world.specs.Next.{IsNext, AreNone}
-use Rattle.cb_scrub_world.specs.Standing.{Stands, rows_of}
+use Rattle.cb_scrub_world.specs.Next.{IsNextSet, AreNone}
+use Rattle.cb_scrub_world.specs.Standing.{RowStands, rows_of}
 
 -- what a committed set has to be: of a code that is built, its shards on different nodes, and each
 -- that is not lost with its row at its node; the rows need not be those of a code word
@@ -27,7 +27,7 @@ pub record MayScrubSet (nodes : NodesState) (m : Membership) (set : SetState) : 
   pub range : IsInRange (length set.positions) (parities set)
   pub members : NodesAreMembers m set.shards
   pub distinct : OnDistinctNodes set.shards
-  pub standing : All (λ shard. is_lost m shard ≡ false → Stands nodes shard) set.shards
+  pub standing : All (λ shard. is_lost m shard ≡ false → RowStands nodes shard) set.shards
 
 -- each committed set is so, and there is room for the count of the rows given
 pub record MayScrub (far : FarState) : Type 0 where
@@ -43,18 +43,18 @@ Replaces old set rows position new =
 
 -- The nodes behind an examination: all rows were given out, and where one row alone was wrong, the
 -- sum of all others stands in its place.
-abbrev pub Leaves : NodesState → SetState → Found → NodesState → Type 0
-Leaves old set Clean new = new ≡ with_given old (length set.shards)
-Leaves old set (One position) new =
-    Replaces (with_given old (length set.shards)) set (rows_of old set.shards) position new
-Leaves old set (Many power column sum) new = new ≡ with_given old (length set.shards)
+abbrev pub LeavesNodes : NodesState → SetState → Found → NodesState → Type 0
+LeavesNodes old set Clean new = new ≡ with_rows_given old (length set.shards)
+LeavesNodes old set (One position) new =
+    Replaces (with_rows_given old (length set.shards)) set (rows_of old set.shards) position new
+LeavesNodes old set (Many power column sum) new = new ≡ with_rows_given old (length set.shards)
 
 -- the rows of the set are examined
 pub record IsExamined (old : NodesState) (set : SetState) (found : Found) (new : NodesState)
     : Type 0
   where
-    pub is_found : IsFound (parities set) (rows_of old set.shards) found
-    pub leaves : Leaves old set found new
+    pub is_found : IsFinding (parities set) (rows_of old set.shards) found
+    pub leaves : LeavesNodes old set found new
 
 -- the rows afterwards: a code word where there was one, or where one row alone was wrong, and then
 -- it differs in that row alone; else as they were
@@ -78,7 +78,7 @@ with_nodes far nodes = record far { nodes = nodes }
 -- the next set is one of which nothing is lost, and it is examined
 pub record Examines (after : Option SetId) (far : FarState) (id : ℕ) (found : Found) (new : FarState)
     : Type 0 where
-  pub next : IsNext after far.sets id
+  pub next : IsNextSet after far.sets id
   pub set : SetState
   pub is_set : set_in far.sets id ≡ Some set
   pub whole : IsWhole far.members set
@@ -88,7 +88,7 @@ pub record Examines (after : Option SetId) (far : FarState) (id : ℕ) (found : 
 -- the next set is one that has lost so many shards, and nothing changes
 pub record Skips (after : Option SetId) (far : FarState) (id count : ℕ) (new : FarState) : Type 0
   where
-    pub next : IsNext after far.sets id
+    pub next : IsNextSet after far.sets id
     pub set : SetState
     pub is_set : set_in far.sets id ≡ Some set
     pub counted : count ≡ length (lost far.members set.shards)

@@ -29,8 +29,8 @@ pub record IsSoundAgain (s : Shown) (right new : FarState) : Type 0 where
   pub sound : Sound s new
 
 -- where the set that was examined had one row spoilt in a sound world, the world is sound again
-abbrev pub Restores : FarState → Scrubbed → FarState → Type 0
-Restores far (Set id found) new =
+abbrev pub RestoresWorld : FarState → Scrubbed → FarState → Type 0
+RestoresWorld far (Set id found) new =
     (s : Shown) (right : FarState) → Sound s right → IsSpoilt right id.n far
     → IsSoundAgain s right new
-Restores far _ new = Unit {0}
+RestoresWorld far _ new = Unit {0}

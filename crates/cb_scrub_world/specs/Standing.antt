@@ -4,7 +4,7 @@ use Rattle.cb_member.specs.declared.names.Shard.{Shard}
 use Rattle.cb_node.specs.NodesState.{NodesState, has, known_row}
 
 -- the shard's row is at its node under its key, and is as long as a span
-pub record Stands (nodes : NodesState) (shard : Shard) : Type 0 where
+pub record RowStands (nodes : NodesState) (shard : Shard) : Type 0 where
   pub node : shard.node.n < length nodes.nodes
   pub there : has nodes shard.node shard.key ≡ true
   pub wide : length (known_row nodes shard.node shard.key) ≡ 4096

@@ -1,7 +1,7 @@
 ghost use Rattle.std.specs.Prelude.{◌≡◌, ℕ, ◌+◌, ◌^◌, ◌<◌, ◌≤◌, IfNone, IfSome, IsSome, None};
 ghost use Rattle.std.specs.FinMap as map;
 ghost use Rattle.cb_world.specs.Sets.{set_in};
-ghost use Rattle.cb_scrub_world.specs.Next.{Above, IsNext, AreNone};
+ghost use Rattle.cb_scrub_world.specs.Next.{Above, IsNextSet, AreNone};
 
 use cb_types::SetId;
 use cb_world::Far;
@@ -20,7 +20,7 @@ fn least_above(after: Option<SetId>) -> Option<u64>
 
 /// The least number of a committed set above this one's, or of all.
 pub(crate) fn next_committed(far: &Far, after: Option<SetId>) -> Option<u64>
-    ensures next { IfSome result (IsNext after far.now.sets) }
+    ensures next { IfSome result (IsNextSet after far.now.sets) }
     ensures none { IfNone result (AreNone after far.now.sets) }
 {
     let mut from = least_above(after)?;

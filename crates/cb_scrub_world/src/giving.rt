@@ -1,7 +1,7 @@
 ghost use Rattle.std.specs.Prelude.{◌≡◌, ◌+◌, ◌^◌, ◌<◌, All, length};
 ghost use Rattle.cb_gf256.specs.Rows.{AreRows, HaveLength};
-ghost use Rattle.cb_world.specs.Fetched.{with_given};
-ghost use Rattle.cb_scrub_world.specs.Standing.{Stands, rows_of};
+ghost use Rattle.cb_world.specs.Fetched.{with_rows_given};
+ghost use Rattle.cb_scrub_world.specs.Standing.{RowStands, rows_of};
 
 use cb_gf256::Rows;
 use cb_node::Nodes;
@@ -11,10 +11,10 @@ use cb_set::SpanSet;
 pub(crate) fn give_all(nodes: &mut Nodes, set: &SpanSet, table: &mut Rows)
     requires count { length table.old ≡ length set.now.shards }
     requires lengths { HaveLength 4096 table.old }
-    requires stand { All (Stands nodes.old) set.now.shards }
+    requires stand { All (RowStands nodes.old) set.now.shards }
     requires some { 0 < length set.now.shards }
     requires given { nodes.old.given + length set.now.shards < 2 ^ 64 }
-    ensures nodes { nodes.new ≡ with_given nodes.old (length set.now.shards) }
+    ensures nodes { nodes.new ≡ with_rows_given nodes.old (length set.now.shards) }
     ensures rows { table.new ≡ rows_of nodes.old set.now.shards }
     ensures bytes { AreRows table.new }
 {

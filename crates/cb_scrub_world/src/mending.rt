@@ -3,7 +3,7 @@ ghost use Rattle.cb_set.specs.Nodes.{OnDistinctNodes};
 ghost use Rattle.cb_set.specs.SetState.{parities};
 ghost use Rattle.cb_gf256.specs.Rows.{AreRows};
 ghost use Rattle.cb_gf256.specs.InRange.{IsInRange};
-ghost use Rattle.cb_scrub_world.specs.Standing.{Stands, rows_of};
+ghost use Rattle.cb_scrub_world.specs.Standing.{RowStands, rows_of};
 ghost use Rattle.cb_scrub_world.specs.Scrub.{IsExamined, MakesRight, Replaces};
 
 use crate::giving::give_all;
@@ -25,7 +25,7 @@ pub(crate) fn examine_set(
     set: &SpanSet,
 ) -> Result<Found, NoMemory>
     requires range { IsInRange (length set.now.positions) (parities set.now) }
-    requires stand { All (Stands nodes.old) set.now.shards }
+    requires stand { All (RowStands nodes.old) set.now.shards }
     requires given { nodes.old.given + length set.now.shards < 2 ^ 64 }
     ensures examined { IfOk result (λ found. IsExamined nodes.old set.now found nodes.new) }
     ensures right { OnDistinctNodes set.now.shards → IfOk result (λ found.
@@ -38,7 +38,7 @@ pub(crate) fn examine_set(
 
 fn examine_rows(alloc: Global, nodes: &mut Nodes, set: &SpanSet) -> Result<Found, NoMemory>
     requires range { IsInRange (length set.now.positions) (parities set.now) }
-    requires stand { All (Stands nodes.old) set.now.shards }
+    requires stand { All (RowStands nodes.old) set.now.shards }
     requires given { nodes.old.given + length set.now.shards < 2 ^ 64 }
     ensures examined { IfOk result (λ found. IsExamined nodes.old set.now found nodes.new) }
     ensures bytes { OnOk result (AreRows (rows_of nodes.old set.now.shards)) }
@@ -59,7 +59,7 @@ fn examine_rows(alloc: Global, nodes: &mut Nodes, set: &SpanSet) -> Result<Found
 fn mend_at_node(nodes: &mut Nodes, set: &SpanSet, rows: &mut Rows, position: u32)
     requires position { position < length set.now.shards }
     requires rows { rows.old ≡ rows_of nodes.old set.now.shards }
-    requires stand { All (Stands nodes.old) set.now.shards }
+    requires stand { All (RowStands nodes.old) set.now.shards }
     ensures { Replaces nodes.old set.now (rows_of nodes.old set.now.shards) position nodes.new }
 {
     mend(rows, position);

@@ -6,10 +6,10 @@ ghost use Rattle.cb_set.specs.SetState.{SetState, parities};
 ghost use Rattle.cb_world.specs.Sets.{set_in};
 ghost use Rattle.cb_world.specs.Sound.{Sound};
 ghost use Rattle.cb_world.specs.declared.shown.Shown.{Shown};
-ghost use Rattle.cb_scrub_world.specs.Standing.{Stands, rows_of};
+ghost use Rattle.cb_scrub_world.specs.Standing.{RowStands, rows_of};
 ghost use Rattle.cb_scrub_world.specs.Scrub.{IsExamined, MakesRight, MayScrub, Scrubs, KeepsWord};
 ghost use Rattle.cb_scrub_world.specs.Scrub.{with_nodes};
-ghost use Rattle.cb_scrub_world.specs.Spoilt.{IsSoundAgain, Restores};
+ghost use Rattle.cb_scrub_world.specs.Spoilt.{IsSoundAgain, RestoresWorld};
 
 use crate::choosing::next_committed;
 use crate::mending::examine_set;
@@ -33,7 +33,7 @@ pub fn scrub_next(alloc: Global, far: &mut Far, after: Option<SetId>) -> Result<
     ensures given { far.new.nodes.given ≤ far.old.nodes.given + 20 }
     // A sound world stays so, and is so again where one row of the set that was examined was wrong.
     ensures sound { (s : Shown) → Sound s far.old → IsSoundAgain s far.old far.new }
-    ensures restored { IfOk result (λ scrubbed. Restores far.old scrubbed far.new) }
+    ensures restored { IfOk result (λ scrubbed. RestoresWorld far.old scrubbed far.new) }
 {
     scrub_least(alloc, far, after)
 }
@@ -72,7 +72,8 @@ fn lost_shards(far: &Far, id: u64) -> u32
 fn scrub_set(alloc: Global, far: &mut Far, id: u64) -> Result<Found, NoMemory>
     requires committed { IsSome (set_in far.old.sets id) }
     requires set { (set : SetState) → set_in far.old.sets id ≡ Some set
-        → IsInRange (length set.positions) (parities set) × All (Stands far.old.nodes) set.shards }
+        → IsInRange (length set.positions) (parities set)
+        × All (RowStands far.old.nodes) set.shards }
     requires given { far.old.nodes.given < 2 ^ 62 }
     ensures examined { IfOk result (λ found. (set : SetState) → set_in far.old.sets id ≡ Some set
         → IsExamined far.old.nodes set found far.new.nodes) }

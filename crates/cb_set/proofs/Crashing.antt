@@ -8,7 +8,7 @@ use Rattle.cb_member.specs.declared.names.NodeId.{NodeId}
 use Rattle.cb_member.specs.declared.names.Epoch.{Epoch}
 use Rattle.cb_member.specs.declared.names.Loss.{Loss}
 use Rattle.cb_member.specs.declared.names.Shard.{Shard}
-use Rattle.cb_member.specs.Membership.{IsMembership, Membership, alive, crashed_at, ended_incarnations, incarnation, state_of, with_crash}
+use Rattle.cb_member.specs.Membership.{IsMembership, Membership, alive, crashed_at, ended_incarnations, incarnation, node_state, with_crash}
 use Rattle.cb_member.proofs.Laws.{crash_keeps_epochs, ended_incarnations_crashed, same_node}
 use Rattle.cb_set.specs.Lost.{is_lost, loss_of, lost}
 use Rattle.cb_set.specs.Nodes.{OnDistinctNodes}
@@ -21,7 +21,7 @@ is_some-option_map f (Some x) = refl
 -- a shard is lost where its incarnation is over
 pub is_lost-ended : (m : Membership) (shard : Shard) → IsMembership m
     → shard.node.n < length m.nodes
-    → is_lost m shard ≡ nat_lt shard.incarnation (ended_incarnations (state_of m shard.node))
+    → is_lost m shard ≡ nat_lt shard.incarnation (ended_incarnations (node_state m shard.node))
 is_lost-ended m shard valid within =
     is_some-option_map _ (crashed_at m shard.node shard.incarnation)
     ∙ ended_incarnations_crashed m shard.node shard.incarnation valid within
@@ -33,7 +33,7 @@ pub survivor_is_current : (m : Membership) (shard : Shard) → IsMembership m
     → is_lost m shard ≡ false
     → (alive m shard.node ≡ true) × (shard.incarnation ≡ incarnation m shard.node)
 survivor_is_current m shard valid within current kept =
-    let s = state_of m shard.node in
+    let s = node_state m shard.node in
     let test = sym (is_lost-ended m shard valid within) ∙ kept in
     elim (cases_Bool s.up) [
       | inl up ↦
@@ -55,7 +55,7 @@ pub current_is_kept : (m : Membership) (shard : Shard) → IsMembership m
     → shard.node.n < length m.nodes → alive m shard.node ≡ true
     → shard.incarnation ≡ incarnation m shard.node → is_lost m shard ≡ false
 current_is_kept m shard valid within up now =
-    let s = state_of m shard.node in
+    let s = node_state m shard.node in
     is_lost-ended m shard valid within
     ∙ ap (λ b. nat_lt shard.incarnation (if b then s.incarnation else s.incarnation + 1)) up
     ∙ le-ltb shard.incarnation s.incarnation (omega (arith, now))
@@ -66,7 +66,7 @@ pub crash_loses : (m : Membership) (shard : Shard) → IsMembership m
     → shard.incarnation ≤ incarnation m shard.node
     → is_lost (with_crash m shard.node) shard ≡ true
 crash_loses m shard valid within up current =
-    let s = state_of m shard.node in
+    let s = node_state m shard.node in
     elim (cases_eq shard.incarnation (incarnation m shard.node)) [
       | inl now ↦ ap is_some (loss_of-with_crash_here m shard valid within up now)
       | inr before ↦

@@ -29,7 +29,7 @@ pub lost_and_surviving : (m : Membership) (shards : List Shard)
 lost_and_surviving m shards = count_surviving m 0 shards
 
 -- q is first and the place of a shard that is not lost
-pub record Survives (m : Membership) (first : ℕ) (shards : List Shard) (q : ℕ) : Type 0 where
+pub record SurvivesFirst (m : Membership) (first : ℕ) (shards : List Shard) (q : ℕ) : Type 0 where
   pub shard : Shard
   pub at : ℕ
   pub place : q ≡ first + at
@@ -37,7 +37,7 @@ pub record Survives (m : Membership) (first : ℕ) (shards : List Shard) (q : �
   pub kept : is_lost m shard ≡ false
 
 survives_later : (m : Membership) (p : ℕ) (x : Shard) (xs : List Shard) (q : ℕ)
-    → Survives m (p + 1) xs q → Survives m p (x ∷ xs) q
+    → SurvivesFirst m (p + 1) xs q → SurvivesFirst m p (x ∷ xs) q
 survives_later m p x xs q s = record {
   shard = s.shard;
   at = suc s.at;
@@ -48,10 +48,10 @@ survives_later m p x xs q s = record {
 
 survives_step : (m : Membership) (p : ℕ) (x : Shard) (xs : List Shard)
     → ((i : ℕ) → i < length (surviving_from m (p + 1) xs)
-    → Survives m (p + 1) xs (get_or (surviving_from m (p + 1) xs) i 0))
+    → SurvivesFirst m (p + 1) xs (get_or (surviving_from m (p + 1) xs) i 0))
     → (b : Bool) → is_lost m x ≡ b → (j : ℕ)
     → j < length (cond b (surviving_from m (p + 1) xs) (p ∷ surviving_from m (p + 1) xs))
-    → Survives m p (x ∷ xs)
+    → SurvivesFirst m p (x ∷ xs)
     (get_or (cond b (surviving_from m (p + 1) xs) (p ∷ surviving_from m (p + 1) xs)) j 0)
 survives_step m p x xs later true e j l = survives_later m p x xs _ (later j l)
 survives_step m p x xs later false e zero l = record {
@@ -67,7 +67,7 @@ survives_step m p x xs later false e (suc j) l =
 -- each of these positions has a shard that is not lost
 pub survives : (m : Membership) (p : ℕ) (shards : List Shard) (i : ℕ)
     → i < length (surviving_from m p shards)
-    → Survives m p shards (get_or (surviving_from m p shards) i 0)
+    → SurvivesFirst m p shards (get_or (surviving_from m p shards) i 0)
 survives m p [] i within = absurd (omega (arith, within))
 survives m p (x ∷ xs) i within =
     survives_step m p x xs (survives m (p + 1) xs) (is_lost m x) refl i within

@@ -22,14 +22,14 @@ use Rattle.cb_rule.specs.Locking.{Stood}
 use Rattle.cb_rule.specs.LockSteps.{AddsTurn, gave_lock, took_lock, turn_of}
 use Rattle.cb_rule.specs.Own.{Make}
 use Rattle.cb_rule.specs.Rule.{AreSized}
-use Rattle.cb_rule.specs.Slot.{Sat, Slot}
+use Rattle.cb_rule.specs.Slot.{LockSlot, Sat}
 use Rattle.cb_rule.specs.Steps.{AreNew, Knows, acted}
 use Rattle.cb_shared.specs.declared.setup.Setup.{Setup}
 use Rattle.cb_record.specs.Parts.{Part, grown, nothing_more}
 use Rattle.cb_shared.specs.Passes.{IsAtRest}
 use Rattle.cb_shared.specs.Places.{HoldsLock, IsOf, Place}
 use Rattle.cb_shared.specs.SeatLaws.{Runs, acted_is, acted_known, after_events, sized_after}
-use Rattle.cb_shared.specs.Turning.{CountsPins, Did, DidAs, KnowsIt, KnowsOf, PinsTold, answer_of, made_by, object_of, turn_part, with_own}
+use Rattle.cb_shared.specs.Turning.{CountsPins, Did, DidAs, KnowsIt, KnowsOf, PinsTold, answer_of, made_by_turn, object_of, turn_part, with_own}
 use Rattle.cb_shared.specs.UnderLock.{GivesFar, IsBeginning, IsEnding, IsQuiet, TakesFar, TurnWith, TurnedBy, WorkBy}
 use Rattle.cb_shared.proofs.MadeFirst.{makes_own}
 
@@ -50,7 +50,8 @@ of_moved z k c p q of table config share = record {
   live = subst (λ (n : ℕ). 1 ≤ n) (sym share) of.live;
 }
 
-pub view_is : (p q : Place) (w : View) (slots : List (ℕ × Slot)) → q.me ≡ (w, slots) → q.me.0 ≡ w
+pub view_is : (p q : Place) (w : View) (slots : List (ℕ × LockSlot)) → q.me ≡ (w, slots)
+    → q.me.0 ≡ w
 view_is p q w slots e = ap (λ (m : Sat). m.0) e
 
 -- the record after the events of a seat
@@ -91,7 +92,7 @@ module _ (c : Config) (far : FarState) (p q : Place) (t : TakesFar c far p q) wh
 
   slots_take : p.me.1 ≡ [] → q.me.1 ≡ (0, None) ∷ []
   slots_take none = ap (λ (m : Sat). m.1) t.at.2
-      ∙ ap (λ (l : List (ℕ × Slot)). let k : List (ℕ × Slot) = (0, None) ∷ l in k) none
+      ∙ ap (λ (l : List (ℕ × LockSlot)). let k : List (ℕ × LockSlot) = (0, None) ∷ l in k) none
 
   pins_take : length p.me.0.pins ≤ 16 → length q.me.0.pins ≤ 16
   pins_take few = subst (λ (v : View). length v.pins ≤ 16) (sym taken) few
@@ -132,12 +133,14 @@ ends_work c job r took gave p q b w =
           (subst (λ (s : Shown). DidAs c job reply s (v.acts ++ es) v.took gave) (sym b.start)
           (subst (λ (l : List Event). DidAs c job reply v.known (l ++ es) v.took gave) (sym b.idle)
           (subst (λ (f : FarState). DidAs c job reply v.known es f gave) (sym b.took) w.did)));
-      makes = subst (λ (x : View). Each (λ h. Make x.known.first h x.fresh) (made_by job reply))
+      makes = subst (λ (x : View). Each (λ h. Make x.known.first h x.fresh)
+          (made_by_turn job reply))
           (sym (ap (λ (x : Sat). x.0) w.moves.2))
-          (subst (λ (s : Shown). Each (λ h. Make s.first h (acted es v).fresh) (made_by job reply))
+          (subst (λ (s : Shown). Each (λ h. Make s.first h (acted es v).fresh)
+          (made_by_turn job reply))
           (sym (acted_known es v))
           (subst (λ (l : List Entry). Each (λ h. Make (played es v.known).first h l)
-          (made_by job reply)) (sym w.fresh)
+          (made_by_turn job reply)) (sym w.fresh)
           (makes_own c job r v.known (played es v.known) es took gave w.more w.did w.wrote
           w.stood.sound.here.known.first)));
     }
@@ -154,7 +157,7 @@ pub turn_with : (c : Config) (job : Job) (r : Result Reply NoMemory) (took gave 
     (p m q : Place) → WorkBy c job r took gave p m → GivesFar c job (answer_of r) gave m q
     → TurnWith c job r took p q
 turn_with c job r took gave p m q w g =
-    let v = p.me.0 in let reply = answer_of r in let made = made_by job reply in
+    let v = p.me.0 in let reply = answer_of r in let made = made_by_turn job reply in
     let at : m.me.0 ≡ grown w.within (acted w.events v) = ap (λ (x : Sat). x.0) w.moves.2 in
     let is : m.me.0 ≡ grown w.within (after_events w.events v) = at
     ∙ ap (grown w.within) (acted_is w.events v) in
@@ -242,7 +245,7 @@ pub turned_by : (c : Config) (job : Job) (r : Result Reply NoMemory) (far : FarS
     → IsAtRest c p.me.0 → TakesFar c far p m → TurnWith c job r far m q
     → IfOk r (λ reply. TurnTells job far reply) → TurnedBy c job r p.me.0 q.me.0
 turned_by c job r far p m q rest t w tells =
-    let v = p.me.0 in let reply = answer_of r in let made = made_by job reply in
+    let v = p.me.0 in let reply = answer_of r in let made = made_by_turn job reply in
     let u : View = took_lock t.known far t.entries v in
     let at : m.me.0 ≡ u = ap (λ (x : Sat). x.0) t.at.2 in
     let es = w.events in let d = w.within in let z : View = after_events es u in

@@ -12,7 +12,7 @@ use Rattle.cb_rule.specs.Locking.{Locked}
 use Rattle.cb_rule.specs.Own.{MayWrite}
 use Rattle.cb_rule.specs.Ruled.{Ruled}
 use Rattle.cb_rule.specs.Slot.{Sat}
-use Rattle.cb_rule.specs.Steps.{looked, told, loaded, claimed, stored, stamped, settled, handles_of}
+use Rattle.cb_rule.specs.Steps.{looked, told, loaded, claimed, stored, stamped, settled, handle_count}
 use Rattle.cb_rule.specs.Words.{base, stamps}
 use Rattle.cb_rule.proofs.Laws.{loads, locked_steady, looks, settles, stamps_version, stores, takes_claim, tells}
 use Rattle.cb_shared.specs.Turning.{Did}
@@ -32,28 +32,28 @@ module _ (first : ℕ) (c k : Config) (key : k ≡ c) (slots id : ℕ) (me : Sat
       (looked (step slots (1 + h) 0 0 none) me) key
       (looks (Locked Did) (locked_steady Did) first c slots id me live holds h l)
 
-  pub tells_at : (h : ℕ) → h < c.handles → handles_of me ≡ c.handles
+  pub tells_at : (h : ℕ) → h < c.handles → handle_count me ≡ c.handles
       → Allows (Ruled (Locked Did) first k) slots id me (stamps c + h) (λ n. n)
       (told (step slots (stamps c + h) 0 0 none) me)
   tells_at h l sized = at_key first c k slots id me (stamps c + h) (λ n. n)
       (told (step slots (stamps c + h) 0 0 none) me) key
       (tells (Locked Did) (locked_steady Did) first c slots id me live holds h l sized)
 
-  pub loads_at : (p : ℕ) → handles_of me ≡ c.handles
+  pub loads_at : (p : ℕ) → handle_count me ≡ c.handles
       → Allows (Ruled (Locked Did) first k) slots id me (base c + p) (λ n. n)
       (loaded (step slots (base c + p) 0 0 none) me)
   loads_at p sized = at_key first c k slots id me (base c + p) (λ n. n)
       (loaded (step slots (base c + p) 0 0 none) me) key
       (loads (Locked Did) (locked_steady Did) first c slots id me live holds p sized)
 
-  pub stores_at : (p y : ℕ) → p < 512 * c.frames → handles_of me ≡ c.handles → Owns me.0.known p
+  pub stores_at : (p y : ℕ) → p < 512 * c.frames → handle_count me ≡ c.handles → Owns me.0.known p
       → Allows (Ruled (Locked Did) first k) slots id me (base c + p) (λ _. y)
       (λ _. stored (step slots (base c + p) y 0 none) me y)
   stores_at p y l sized own = at_key first c k slots id me (base c + p) (λ _. y)
       (λ _. stored (step slots (base c + p) y 0 none) me y) key
       (stores (Locked Did) (locked_steady Did) first c slots id me live holds p y l sized own)
 
-  pub stamps_at : (h y : ℕ) → h < c.handles → handles_of me ≡ c.handles
+  pub stamps_at : (h y : ℕ) → h < c.handles → handle_count me ≡ c.handles
       → IsHeld (object_at me.0.known h) → MayWrite h me.0.known me.0
       → Allows (Ruled (Locked Did) first k) slots id me (stamps c + h) (λ _. y)
       (λ _. stamped (step slots (stamps c + h) y 0 none) me y)

@@ -16,14 +16,14 @@ use Rattle.cb_rule.specs.declared.view.Look.{Look}
 use Rattle.cb_rule.specs.declared.view.View.{View}
 use Rattle.cb_rule.specs.Lists.{Each, Has}
 use Rattle.cb_rule.specs.Steps.{Knows, look_at}
-use Rattle.cb_shared.specs.Calls.{AsksFor, AtNone, AtThis, EndsAtLast, IsAnswer, IsAnswerTo, IsCalled, IsInVain, ReadEnds, ReadGives, ReadTries, Stops, TurnEnds, TurnGives, TurnTries, the_handle}
+use Rattle.cb_shared.specs.Calls.{AsksFor, AtNone, AtThis, EndsAtLast, IsAnswer, IsAnswerTo, IsCalled, IsInVain, ReadCallEnds, ReadGives, ReadTries, StopsInVain, TurnEnds, TurnGives, TurnTries, the_handle}
 use Rattle.cb_record.specs.Deeds.{happening}
 use Rattle.cb_record.specs.Parts.{Part, Grows, grown, nothing_more, sum}
 use Rattle.cb_shared.specs.declared.reading.ReadAnswer.{ReadAnswer}
 use Rattle.cb_shared.specs.declared.reading.ReadAnswer.TheVariants as found
 use Rattle.cb_shared.specs.Making.{MakesNew, TriesNew}
 use Rattle.cb_shared.specs.Reading.{FindsOther, FindsWord, ReadFinds, looked}
-use Rattle.cb_shared.specs.Turning.{FindsFreed, KnowsIt, TurnAdds, TurnBy, answer_of, freed_of, made_by, made_in, object_of, turn_part, with_own}
+use Rattle.cb_shared.specs.Turning.{FindsFreedAfter, KnowsIt, TurnAdds, TurnBy, answer_of, freed_of, made_by_turn, made_in, object_of, turn_part, with_own}
 use Rattle.cb_shared.proofs.ReadParts.{grown_nothing, grown_sum}
 
 each_both : {A : Type 0} (P : A → Type 0) (xs ys : List A) → Each P xs → Each P ys
@@ -51,7 +51,7 @@ module _ (on : ℕ → Type 0) (job : Job) where
 
   -- one try more that came to nothing
   pub stops_after : (v w u : View) (d : Part) → IsInVain on job d → Grows v d w
-      → Stops on job w u → Stops on job v u
+      → StopsInVain on job w u → StopsInVain on job v u
   stops_after v w u d x is (e, y, next) =
       (sum d e, vain_sum d e x y, next ∙ ap (grown e) is ∙ grown_sum d e v)
 
@@ -109,10 +109,10 @@ free_none h (answer.Version v) more off w = absurd (off v refl)
 free_none h r more off w = w
 
 later_none : (job : Job) (r : Reply) (v : View) (d : Part)
-    → (r ≡ answer.Freed → object_of job ≡ None) → FindsFreed (freed_of job (Ok r)) v d
+    → (r ≡ answer.Freed → object_of job ≡ None) → FindsFreedAfter (freed_of job (Ok r)) v d
     → d ≡ nothing_more
 later_none job answer.Freed v d none x =
-    subst (λ (o : Option ℕ). FindsFreed o v d) (none refl) x
+    subst (λ (o : Option ℕ). FindsFreedAfter o v d) (none refl) x
 later_none job r v d none x = x
 
 make_idle : (bytes : List ℕ) (r : Reply) → ((h : Handle) (v : ℕ) → r ≡ answer.Made h v → ⊥)
@@ -139,7 +139,7 @@ vain_turn c job r v d x more within later idle = record {
 -- a turn that does not answer its call
 pub turn_vain : (c : Config) (job : Job) (r : Reply) (v : View) (d : Part) → IsCalled job
     → (IsAnswerTo c job r → ⊥) → TurnAdds c job (Ok r) v d
-    → IsInVain AtNone job d × (made_by job (Some r) ≡ [])
+    → IsInVain AtNone job d × (made_by_turn job (Some r) ≡ [])
 turn_vain c (jobs.Make bytes) r v d called off x =
     let other : (h : Handle) (w : ℕ) → r ≡ answer.Made h w → ⊥ =
     λ h w e. off (subst (IsAnswerTo c (jobs.Make bytes)) (sym e) (inl tt)) in (
@@ -174,7 +174,7 @@ turn_vain c job r v d called off x = absurd called
 
 -- nor does one that found no memory
 pub turn_stops : (c : Config) (job : Job) (e : NoMemory) (v : View) (d : Part) → IsCalled job
-    → TurnAdds c job (Err e) v d → IsInVain AtNone job d × (made_by job None ≡ [])
+    → TurnAdds c job (Err e) v d → IsInVain AtNone job d × (made_by_turn job None ≡ [])
 turn_stops c (jobs.Make bytes) e v d called x =
     (vain_turn c (jobs.Make bytes) (Err e) v d x x.wrote x.reads x.finds refl, refl)
 turn_stops c (jobs.Write handle at bytes) e v d called x =
@@ -195,25 +195,25 @@ pub turn_ends : (c : Config) (job : Job) (r : Reply) (v w : View) → IsAnswerTo
 turn_ends c job r v w ends (d, x, is) = (d, (ends, x), is)
 
 pub turn_in_vain : (c : Config) (job : Job) (r : Reply) (v w : View) → IsCalled job
-    → (IsAnswerTo c job r → ⊥) → TurnBy c job (Ok r) v w → Stops AtNone job v w
+    → (IsAnswerTo c job r → ⊥) → TurnBy c job (Ok r) v w → StopsInVain AtNone job v w
 turn_in_vain c job r v w called off (d, x, is) = let z = turn_vain c job r v d called off x in
-    (d, z.0, grows_own (made_by job (Some r)) v w d z.1 is)
+    (d, z.0, grows_own (made_by_turn job (Some r)) v w d z.1 is)
 
 pub turn_without : (c : Config) (job : Job) (e : NoMemory) (v w : View) → IsCalled job
-    → TurnBy c job (Err e) v w → Stops AtNone job v w
+    → TurnBy c job (Err e) v w → StopsInVain AtNone job v w
 turn_without c job e v w called (d, x, is) = let z = turn_stops c job e v d called x in
-    (d, z.0, grows_own (made_by job None) v w d z.1 is)
+    (d, z.0, grows_own (made_by_turn job None) v w d z.1 is)
 
 -- ---- a look that found the object far, and then a turn
 pub look_stops : (h word : ℕ) (job : Job) (v w u : View) (d : Part) → d ≡ looked h word
-    → Grows v d w → Stops AtNone job w u → Stops (AtThis h) job v u
+    → Grows v d w → StopsInVain AtNone job w u → StopsInVain (AtThis h) job v u
 look_stops h word job v w u d is grew (e, x, next) =
     stops_after (AtThis h) job v w u (looked h word) (vain_look h word job)
     (grew ∙ ap (λ (z : Part). grown z v) is) (e, vain_any (AtThis h) job e x, next)
 
 pub look_asks : (c : Config) (h word : ℕ) (job : Job) (r : Reply) (v w u : View) (d e : Part)
     → d ≡ looked h word → state_of word ≡ state.Far → Grows v d w → TurnEnds c job r w e
-    → made_by job (Some r) ≡ [] → u ≡ with_own (made_by job (Some r)) (grown e w)
+    → made_by_turn job (Some r) ≡ [] → u ≡ with_own (made_by_turn job (Some r)) (grown e w)
     → (x : Part) × AsksFor c job r h v x × Grows v x u
 look_asks c h word job r v w u d e is far grew ends none next =
     let at : w ≡ grown (looked h word) v = grew ∙ ap (λ (z : Part). grown z v) is in (
@@ -230,7 +230,7 @@ look_asks c h word job r v w u d e is far grew ends none next =
     )
 
 pub ends_asked : (c : Config) (h : ℕ) (r : Reply) (v : View) (d : Part)
-    → AsksFor c (jobs.Swap (the_handle h)) r h v d → ReadEnds c h r v d
+    → AsksFor c (jobs.Swap (the_handle h)) r h v d → ReadCallEnds c h r v d
 ends_asked c h (answer.Bytes version bytes) v d x = absurd x.turned.0
 ends_asked c h answer.Freed v d x = absurd x.turned.0
 ends_asked c h r v d x = x
@@ -265,7 +265,7 @@ found_freed c h a v w is (d, grew, f) =
     (d, subst (λ (z : ReadAnswer). ReadFinds h z v d) is f, grew)
 
 one_look : (h word : ℕ) (v w : View) (d : Part) → Grows v d w → d ≡ looked h word
-    → Stops (AtThis h) (jobs.Swap (the_handle h)) v w
+    → StopsInVain (AtThis h) (jobs.Swap (the_handle h)) v w
 one_look h word v w d grew is = (
   d,
   subst (IsInVain (AtThis h) (jobs.Swap (the_handle h))) (sym is)
@@ -274,19 +274,19 @@ one_look h word v w d grew is = (
 )
 
 pub found_moving : (h : ℕ) (a : ReadAnswer) (v w : View) → a ≡ found.Moving → Found h a v w
-    → Stops (AtThis h) (jobs.Swap (the_handle h)) v w
+    → StopsInVain (AtThis h) (jobs.Swap (the_handle h)) v w
 found_moving h a v w is (d, grew, f) =
     let x : FindsWord h (λ word. state_of word ≡ state.Moving) d =
     subst (λ (z : ReadAnswer). ReadFinds h z v d) is f in one_look h x.0 v w d grew x.2
 
 pub found_crowded : (h : ℕ) (a : ReadAnswer) (v w : View) → a ≡ found.Crowded → Found h a v w
-    → Stops (AtThis h) (jobs.Swap (the_handle h)) v w
+    → StopsInVain (AtThis h) (jobs.Swap (the_handle h)) v w
 found_crowded h a v w is (d, grew, f) =
     let x : FindsWord h (λ word. (state_of word ≡ state.Here) × (pins_of word ≡ 1023)) d =
     subst (λ (z : ReadAnswer). ReadFinds h z v d) is f in one_look h x.0 v w d grew x.2
 
 pub found_raced : (h saw other : ℕ) (a : ReadAnswer) (v w : View) → a ≡ found.Raced saw other
-    → Found h a v w → Stops (AtThis h) (jobs.Swap (the_handle h)) v w
+    → Found h a v w → StopsInVain (AtThis h) (jobs.Swap (the_handle h)) v w
 found_raced h saw other a v w is (d, grew, f) =
     let x : FindsOther h saw other d = subst (λ (z : ReadAnswer). ReadFinds h z v d) is f in (
       d,
@@ -303,12 +303,13 @@ found_raced h saw other a v w is (d, grew, f) =
 
 pub lacks_room : (h : ℕ) (v w : View)
     → (word : ℕ) × (state_of word ≡ state.Here) × Grows v (looked h word) w
-    → Stops (AtThis h) (jobs.Swap (the_handle h)) v w
+    → StopsInVain (AtThis h) (jobs.Swap (the_handle h)) v w
 lacks_room h v w (word, here, grew) =
     (looked h word, vain_look h word (jobs.Swap (the_handle h)), grew)
 
 pub away_stops : (h : ℕ) (a : ReadAnswer) (v w u : View) → a ≡ found.NotHere → Found h a v w
-    → Stops AtNone (jobs.Swap (the_handle h)) w u → Stops (AtThis h) (jobs.Swap (the_handle h)) v u
+    → StopsInVain AtNone (jobs.Swap (the_handle h)) w u
+    → StopsInVain (AtThis h) (jobs.Swap (the_handle h)) v u
 away_stops h a v w u is (d, grew, f) x =
     let y : FindsWord h (λ word. state_of word ≡ state.Far) d =
     subst (λ (z : ReadAnswer). ReadFinds h z v d) is f in
@@ -325,7 +326,7 @@ away_tries c h a (Some r) v w u is (d, grew, f) (e, ends, next) =
     (z.0, ends_asked c h r v z.0 z.1, z.2)
 
 -- ---- the loops round the tries
-pub so_far : (on : ℕ → Type 0) (job : Job) (v : View) → Stops on job v v
+pub so_far : (on : ℕ → Type 0) (job : Job) (v : View) → StopsInVain on job v v
 so_far on job v = (nothing_more, vain_none on job, grown_nothing v)
 
 has_behind : {A : Type 0} (x : A) (xs ys : List A) → Has x ys → Has x (xs ++ ys)
@@ -341,12 +342,12 @@ know_grown None d v knows = tt
 know_grown (Some h) d v knows = known_grown h d v knows
 
 pub known_still : (on : ℕ → Type 0) (job : Job) (o : Option ℕ) (v w : View)
-    → KnowsIt o v → Stops on job v w → KnowsIt o w
+    → KnowsIt o v → StopsInVain on job v w → KnowsIt o w
 known_still on job o v w knows (d, x, grew) =
     subst (KnowsIt o) (sym grew) (know_grown o d v knows)
 
 -- a make behind such tries
-new_before : (first : ℕ) (job : Job) (r : Reply) (v w : View) → Stops AtNone job v w
+new_before : (first : ℕ) (job : Job) (r : Reply) (v w : View) → StopsInVain AtNone job v w
     → MakesNew first job r w → MakesNew first job r v
 new_before first (jobs.Make bytes) (answer.Made h n) v w x new =
     (new.0, λ knows. new.1 (known_still AtNone (jobs.Make bytes) (Some h.n) v w knows x))
@@ -354,36 +355,38 @@ new_before first (jobs.Make bytes) r v w x new = tt
 new_before first job r v w x new = tt
 
 pub new_at_last : (first : ℕ) (job : Job) (o : Option Reply) (r : Reply) (v w : View) → o ≡ Some r
-    → Stops AtNone job v w → TriesNew first job o w → MakesNew first job r v
+    → StopsInVain AtNone job v w → TriesNew first job o w → MakesNew first job r v
 new_at_last first job o r v w is x new = new_before first job r v w x
     (subst (λ (z : Option Reply). TriesNew first job z w) is new)
 
-pub stops_then : (on : ℕ → Type 0) (job : Job) (v w u : View) → Stops on job v w
-    → Stops on job w u → Stops on job v u
+pub stops_then : (on : ℕ → Type 0) (job : Job) (v w u : View) → StopsInVain on job v w
+    → StopsInVain on job w u → StopsInVain on job v u
 stops_then on job v w u (d, x, grew) y = stops_after on job v w u d x grew y
 
 pub read_again : (c : Config) (h : ℕ) (o : Option Reply) (v w u : View) → o ≡ None
-    → Stops (AtThis h) (jobs.Swap (the_handle h)) v w → ReadTries c h o w u
-    → Stops (AtThis h) (jobs.Swap (the_handle h)) v u
+    → StopsInVain (AtThis h) (jobs.Swap (the_handle h)) v w → ReadTries c h o w u
+    → StopsInVain (AtThis h) (jobs.Swap (the_handle h)) v u
 read_again c h o v w u is x y = stops_then (AtThis h) (jobs.Swap (the_handle h)) v w u x
     (subst (λ (z : Option Reply). ReadTries c h z w u) is y)
 
 pub read_at_last : (c : Config) (h : ℕ) (o : Option Reply) (r : Reply) (v w u : View) → o ≡ Some r
-    → Stops (AtThis h) (jobs.Swap (the_handle h)) v w → ReadTries c h o w u → ReadGives c h r v u
+    → StopsInVain (AtThis h) (jobs.Swap (the_handle h)) v w → ReadTries c h o w u
+    → ReadGives c h r v u
 read_at_last c h o r v w u is (d, x, grew) y =
     let z : ReadTries c h (Some r) w u = subst (λ (q : Option Reply). ReadTries c h q w u) is y in
-    ends_after (AtThis h) (jobs.Swap (the_handle h)) (ReadEnds c h r) (λ (q : View). q) v w u d z.0
+    ends_after (AtThis h) (jobs.Swap (the_handle h)) (ReadCallEnds c h r) (λ (q : View). q) v w u d
+    z.0
     x grew z.1 z.2
 
 pub turn_again : (c : Config) (job : Job) (o : Option Reply) (v w u : View) → o ≡ None
-    → Stops AtNone job v w → TurnTries c job o w u → Stops AtNone job v u
+    → StopsInVain AtNone job v w → TurnTries c job o w u → StopsInVain AtNone job v u
 turn_again c job o v w u is x y = stops_then AtNone job v w u x
     (subst (λ (z : Option Reply). TurnTries c job z w u) is y)
 
 pub turn_at_last : (c : Config) (job : Job) (o : Option Reply) (r : Reply) (v w u : View)
-    → o ≡ Some r → Stops AtNone job v w → TurnTries c job o w u → TurnGives c job r v u
+    → o ≡ Some r → StopsInVain AtNone job v w → TurnTries c job o w u → TurnGives c job r v u
 turn_at_last c job o r v w u is (d, x, grew) y =
     let z : TurnTries c job (Some r) w u =
     subst (λ (q : Option Reply). TurnTries c job q w u) is y in
-    ends_after AtNone job (TurnEnds c job r) (with_own (made_by job (Some r))) v w u d z.0
+    ends_after AtNone job (TurnEnds c job r) (with_own (made_by_turn job (Some r))) v w u d z.0
     x grew z.1 z.2

@@ -12,7 +12,7 @@ use Rattle.cb_rule.specs.declared.view.View.{View}
 use Rattle.cb_rule.specs.Closing.{IsClosed, desk_of}
 use Rattle.cb_rule.specs.Locking.{Locked}
 use Rattle.cb_rule.specs.Ruled.{Ruled}
-use Rattle.cb_rule.specs.Slot.{Slot}
+use Rattle.cb_rule.specs.Slot.{LockSlot}
 use Rattle.cb_rule.proofs.Laws.{EndsIn, IsAtEnd, closes_table}
 use Rattle.cb_shared.specs.declared.setup.Setup.{Setup}
 use Rattle.cb_shared.specs.Joining.{unpinned_all}
@@ -32,7 +32,7 @@ at_end c v rest whole = record {
 -- is its record without pins
 pub ends_in : (k : Setup) (c : Config) → k.config ≡ c → IsAccepted c → (v u : View)
     → IsAtRest c v → v.share ≡ 64 → u ≡ unpinned_all v → (id : ℕ) (ws : List ℕ)
-    (slots : List Slot) → Final (Seen (Ruled (Locked Did) k.first k.config) id u) ws slots
+    (slots : List LockSlot) → Final (Seen (Ruled (Locked Did) k.first k.config) id u) ws slots
     → EndsIn Did k.first c (unpinned_all v) ws slots
 ends_in k c key ok v u rest whole back id ws slots f =
     closes_table Did k.first c ok id (unpinned_all v) (at_end c v rest whole) ws slots
@@ -40,12 +40,12 @@ ends_in k c key ok v u rest whole back id ws slots f =
     (subst (λ (d : Config). Final (Seen (Ruled (Locked Did) k.first d) id u) ws slots) key f))
 
 -- the far state in a slot, or else this one
-abbrev far_of : FarState → Slot → FarState
+abbrev far_of : FarState → LockSlot → FarState
 far_of other None = other
 far_of other (Some far) = far
 
 -- a world with these words, the far state of that slot and idle seats is closed
-pub is_closed : (first : ℕ) (c : Config) (v : View) (ws : List ℕ) (slots : List Slot)
+pub is_closed : (first : ℕ) (c : Config) (v : View) (ws : List ℕ) (slots : List LockSlot)
     → EndsIn Did first c v ws slots → (w : WorldState) → w.desk ≡ desk_of c ws
     → get_elem? slots 0 ≡ some (Some w.far) → w.seats ≡ replicate 64 idle_seat
     → IsClosed Did first c v w

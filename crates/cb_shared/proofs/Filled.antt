@@ -10,7 +10,7 @@ use Rattle.cb_world.specs.Plain.{IsSized, Words}
 use Rattle.cb_world.specs.StillDesk.{window_length}
 use Rattle.cb_world.proofs.Laws.{window_at}
 use Rattle.cb_rule.specs.Closing.{desk_of}
-use Rattle.cb_rule.specs.Slot.{Slot}
+use Rattle.cb_rule.specs.Slot.{LockSlot}
 use Rattle.cb_rule.specs.Words.{base, stamps}
 
 -- a word that stands there
@@ -20,15 +20,16 @@ read_at (w ∷ ws) zero x e = sym (some-injective w x e)
 read_at (w ∷ ws) (suc i) x e = read_at ws i x e
 
 -- The first n words are those of the other list from p on.
-pub record IsFilled (ws : List ℕ) (p n : ℕ) (old new : List ℕ) : Type 0 where
+pub record AreWordsFilled (ws : List ℕ) (p n : ℕ) (old new : List ℕ) : Type 0 where
   pub len : length new ≡ length old
   pub below : (i : ℕ) → i < n → get_or new i 0 ≡ get_or ws (p + i) 0
 
-pub none_filled : (ws : List ℕ) (p : ℕ) (old : List ℕ) → IsFilled ws p 0 old old
+pub none_filled : (ws : List ℕ) (p : ℕ) (old : List ℕ) → AreWordsFilled ws p 0 old old
 none_filled ws p old = record { len = refl; below = λ i l. absurd (omega (arith, l)) }
 
 pub more_filled : (ws : List ℕ) (p n x : ℕ) (old new : List ℕ) → n < length old
-    → x ≡ get_or ws (p + n) 0 → IsFilled ws p n old new → IsFilled ws p (n + 1) old (set new n x)
+    → x ≡ get_or ws (p + n) 0 → AreWordsFilled ws p n old new
+    → AreWordsFilled ws p (n + 1) old (set new n x)
 more_filled ws p n x old new within is f = record {
   len = length-set new n x ∙ f.len;
   below = λ i l. elim (ℕ_discrete i n) [
@@ -50,7 +51,7 @@ same_lists (x ∷ xs) (y ∷ ys) e same =
 
 -- all of them are a window of it
 pub all_filled : (ws : List ℕ) (p n m : ℕ) (old new : List ℕ) → length old ≡ n → n ≤ m
-    → IsFilled ws p m old new → new ≡ window ws p n
+    → AreWordsFilled ws p m old new → new ≡ window ws p n
 all_filled ws p n m old new e more f = let z = f.len in let w = window_length ws p n in
     same_lists new (window ws p n) (omega (arith, z, w, e))
     (λ i l. let below : i < n = omega (arith, l, z, e) in
@@ -92,7 +93,7 @@ module _ (c : Config) (ws : List ℕ) (d : Words) (settings : d.settings ≡ c) 
         } in r) settings
 
 -- a far state that stands in a slot is there
-abbrev is_there : Slot → Bool
+abbrev is_there : LockSlot → Bool
 is_there None = false
 is_there (Some far) = true
 

@@ -1,7 +1,7 @@
 -- The lemmas of this crate that other crates cite.
 pub use Rattle.cb_shared.proofs.CallSteps.{known_grown, known_still, look_asks, look_stops, so_far, stops_then, turn_ends, turn_in_vain, vain_look}
 pub use Rattle.cb_shared.proofs.MadeFirst.{makes_backed, makes_first, makes_full}
-pub use Rattle.cb_shared.proofs.ReadBytes.{IsFilled, IsPutInto, filled_all, filled_more}
+pub use Rattle.cb_shared.proofs.ReadBytes.{AreBytesFilled, IsPutInto, filled_all, filled_more}
 pub use Rattle.cb_shared.proofs.ReadParts.{grown_nothing, grown_sum}
 pub use Rattle.cb_shared.proofs.Resting.{known_below}
 pub use Rattle.cb_shared.proofs.ReadSteps.{freed_part, look_part, twice_part}

@@ -16,13 +16,13 @@ use Rattle.cb_rule.specs.Locking.{Locked, Stood}
 use Rattle.cb_rule.specs.LockSteps.{HasGiven, MayGive, gave, gave_lock, took, took_lock}
 use Rattle.cb_rule.specs.Rule.{AreSized}
 use Rattle.cb_rule.specs.Ruled.{Ruled}
-use Rattle.cb_rule.specs.Slot.{Sat, Slot, Table}
+use Rattle.cb_rule.specs.Slot.{LockSlot, Sat, Table}
 use Rattle.cb_rule.specs.Steps.{Knows}
 use Rattle.cb_rule.proofs.Laws.{gives_lock, takes_lock}
 use Rattle.cb_shared.specs.Making.{took_first}
 use Rattle.cb_shared.specs.Places.{Moves, Place}
-use Rattle.cb_shared.specs.Turning.{Did, made_by}
-use Rattle.cb_shared.specs.UnderLock.{GivesFar, IsEnding, Takes, TakesFar}
+use Rattle.cb_shared.specs.Turning.{Did, made_by_turn}
+use Rattle.cb_shared.specs.UnderLock.{GivesFar, IsEnding, TakesFar, TakesLock}
 use Rattle.cb_shared.proofs.Alone.{at_key}
 
 set_there : (vs : List View) (id : ℕ) (v w : View) → get_elem? vs id ≡ some v
@@ -57,7 +57,7 @@ takes_lock_at first one is c k key slots id old me live even s r long at low =
     )
 
 may_give : (c : Config) (job : Job) (reply : Option Reply) (me : Sat) (far : FarState)
-    → IsEnding c job reply far me.0 → MayGive Did c job reply far [] (made_by job reply) me.0
+    → IsEnding c job reply far me.0 → MayGive Did c job reply far [] (made_by_turn job reply) me.0
 may_give c job reply me far e = record {
   holds = e.holds;
   stood = e.stood;
@@ -71,28 +71,28 @@ pub gives_lock_at : (first : ℕ) (c k : Config) → k ≡ c → (slots id : ℕ
     (reply r : Option Reply) → j ≡ job → r ≡ reply → (far : FarState) (n : ℕ) → 1 ≤ me.0.share
     → me.1 ≡ (0, Some far) ∷ [] → IsEnding c job reply far me.0 → n ≡ 2 * far.counts.turns
     → Allows (Ruled (Locked Did) first k) slots id me 0 (λ _. n)
-    (λ _. gave j r [] (made_by j r) (step slots 0 n 0 none) me n)
+    (λ _. gave j r [] (made_by_turn j r) (step slots 0 n 0 none) me n)
 gives_lock_at first c k key slots id me job j reply r ej er far n live carried ends is =
     subst (λ (x : Job). Allows (Ruled (Locked Did) first k) slots id me 0 (λ _. n)
-    (λ _. gave x r [] (made_by x r) (step slots 0 n 0 none) me n)) (sym ej)
+    (λ _. gave x r [] (made_by_turn x r) (step slots 0 n 0 none) me n)) (sym ej)
     (subst (λ (x : Option Reply). Allows (Ruled (Locked Did) first k) slots id me 0 (λ _. n)
-    (λ _. gave job x [] (made_by job x) (step slots 0 n 0 none) me n)) (sym er)
+    (λ _. gave job x [] (made_by_turn job x) (step slots 0 n 0 none) me n)) (sym er)
     (at_key first c k slots id me 0 (λ _. n)
-    (λ _. gave job reply [] (made_by job reply) (step slots 0 n 0 none) me n) key
-    (gives_lock Did first c slots id me job reply far [] (made_by job reply) n live carried
+    (λ _. gave job reply [] (made_by_turn job reply) (step slots 0 n 0 none) me n) key
+    (gives_lock Did first c slots id me job reply far [] (made_by_turn job reply) n live carried
     (may_give c job reply me far ends) is)))
 
 -- what the step tells of the seat
 pub gives_far : (c : Config) (job j : Job) (reply r : Option Reply) → j ≡ job → r ≡ reply
     → (far : FarState) (p q : Place) → p.me.0.config ≡ c → q.table_id ≡ p.table_id → q.id ≡ p.id
-    → HasGiven j r far [] (made_by j r) p.me q.me → GivesFar c job reply far p q
+    → HasGiven j r far [] (made_by_turn j r) p.me q.me → GivesFar c job reply far p q
 gives_far c job j reply r ej er far p q key table id h = record {
   entries = h.entries;
   at = (
     table,
     id,
     h.given ∙ (λ i. (
-      gave_lock (ej i) (er i) far h.entries [] (made_by (ej i) (er i)) p.me.0,
+      gave_lock (ej i) (er i) far h.entries [] (made_by_turn (ej i) (er i)) p.me.0,
       [],
     )),
   );
@@ -100,11 +100,11 @@ gives_far c job j reply r ej er far p q key table id h = record {
       (p.me.0.fresh ++ p.me.0.written)) key h.written;
 }
 
-abbrev slot_in : Slot → List (ℕ × Slot) → Slot
+abbrev slot_in : LockSlot → List (ℕ × LockSlot) → LockSlot
 slot_in d [] = d
 slot_in d (x ∷ xs) = x.1
 
-abbrev far_in : FarState → Slot → FarState
+abbrev far_in : FarState → LockSlot → FarState
 far_in d None = d
 far_in d (Some f) = f
 
@@ -113,7 +113,7 @@ some_far f g e = ap (far_in f) e
 
 -- the seat took the far state that was in the slot
 pub takes_far : (c : Config) (word : ℕ) (far : FarState) (p m q : Place) → p.me.0.config ≡ c
-    → Takes word p m → (q.table_id ≡ m.table_id) × (q.id ≡ m.id)
+    → TakesLock word p m → (q.table_id ≡ m.table_id) × (q.id ≡ m.id)
     × (q.me ≡ (m.me.0, (0, None) ∷ rest m.me.1)) → m.me.1 ≡ (0, Some far) ∷ rest m.me.1
     → TakesFar c far p q
 takes_far c word far p m q key (table, id, t) out slot =
@@ -163,7 +163,7 @@ gives_from c job reply far p m q table id same g = record {
     g.at.0 ∙ table,
     g.at.1 ∙ id,
     g.at.2 ∙ ap (λ (v : View).
-        let z : Sat = (gave_lock job reply far g.entries [] (made_by job reply) v, []) in
+        let z : Sat = (gave_lock job reply far g.entries [] (made_by_turn job reply) v, []) in
         z) same,
   );
   written = subst (λ (v : View). Each (λ (e : Entry). e.handle < c.handles) (v.fresh ++ v.written))

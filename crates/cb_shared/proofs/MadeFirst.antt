@@ -35,7 +35,7 @@ use Rattle.cb_record.specs.Upheld.{as_part}
 use Rattle.cb_record.proofs.Laws.{turn_of_make}
 use Rattle.cb_shared.specs.Making.{MakesNew}
 use Rattle.cb_shared.specs.Recalls.{MakesFirst}
-use Rattle.cb_shared.specs.Turning.{Did, DidAs, ReadsByPin, Slate, answer_of, held_by, made_by, slate_run, slate_shows}
+use Rattle.cb_shared.specs.Turning.{Did, DidAs, ReadsByPin, Slate, answer_of, held_by, made_by_turn, slate_run, slate_shows}
 
 -- whether a reply is Made
 abbrev is_made : Reply → ℕ
@@ -166,7 +166,7 @@ of_make : (c : Config) (bytes : List ℕ) (r : Result Reply NoMemory) (start kno
     (es : List Event) (took gave : FarState) (more : List Entry)
     → DidAs c (Make bytes) (answer_of r) start es took gave → OutcomeWrites (Make bytes) r more
     → known.first ≡ gave.first
-    → Each (λ h. IsMadeIn known.first h more) (made_by (Make bytes) (answer_of r))
+    → Each (λ h. IsMadeIn known.first h more) (made_by_turn (Make bytes) (answer_of r))
 of_make c bytes (Ok (answer.Made h n)) start known es took gave more did wrote first = (
   subst (λ (l : List Entry). IsMadeIn known.first h.n l) (sym wrote.2)
       (let e = (made_is_first c bytes h n _ _ did).1 in
@@ -182,7 +182,7 @@ pub makes_own : (c : Config) (job : Job) (r : Result Reply NoMemory) (start know
     (es : List Event) (took gave : FarState) (more : List Entry)
     → DidAs c job (answer_of r) start es took gave → OutcomeWrites job r more
     → known.first ≡ gave.first
-    → Each (λ h. IsMadeIn known.first h more) (made_by job (answer_of r))
+    → Each (λ h. IsMadeIn known.first h more) (made_by_turn job (answer_of r))
 makes_own c (Make bytes) r start known es took gave more did wrote first =
     of_make c bytes r start known es took gave more did wrote first
 makes_own c job r start known es took gave more did wrote first = tt

@@ -21,7 +21,7 @@ use Rattle.cb_core.specs.Parts.RoomStops.{at_once as lacks_now, evicting, after}
 use Rattle.cb_core.specs.Parts.CallStops.{near as lacks_near, far as lacks_far, after as lacks_after}
 use Rattle.cb_core.specs.ReadTurn.{BroughtToRead, StoppedToRead}
 use Rattle.cb_core.specs.ReadTurn.BroughtToRead.{worn as first_worn, done as first_done}
-use Rattle.cb_core.specs.Turned.{BringLacks, Brings, ComeLacks, ComesIn, Declines, Does, EvictLacks, Finds, Makes, MakeLacks, Stopped, Stops, SwapLacks, Swaps, Turned, WinsRoom, Writes, done, worn}
+use Rattle.cb_core.specs.Turned.{BringLacks, Brings, ComeLacks, ComesIn, Declines, Does, EvictLacks, FindsWhere, Makes, MakeLacks, Stopped, Stops, SwapLacks, Swaps, Turned, WinsRoom, WritesObject, done, worn}
 use Rattle.cb_shared.specs.UnderLock.{IsNoRead}
 
 module _ {D E : Type 0} (run : D → List Event → D → Type 0) (shows : D → Shown → Type 0)
@@ -140,13 +140,13 @@ module _ {D E : Type 0} (run : D → List Event → D → Type 0) (shows : D →
   make_lacks c bytes a b (ran, same, needs) = (back a.desk b.desk [] ran, same, needs)
 
   writes : (h at : ℕ) (bytes : List ℕ)
-      → Maps (Writes run shows h at bytes) (Writes run' shows' h at bytes)
+      → Maps (WritesObject run shows h at bytes) (WritesObject run' shows' h at bytes)
   writes h at bytes a b r p = performs a.desk b.desk a.far _ _ _ p
 
   never_lacks : MapsLack NeverLacks NeverLacks
   never_lacks a b x = x
 
-  finds : (h : ℕ) → Maps (Finds run shows h) (Finds run' shows' h)
+  finds : (h : ℕ) → Maps (FindsWhere run shows h) (FindsWhere run' shows' h)
   finds h a b r p = performs a.desk b.desk a.far _ _ _ p
 
   declines : (h at count : ℕ)
@@ -154,7 +154,8 @@ module _ {D E : Type 0} (run : D → List Event → D → Type 0) (shows : D →
   declines h at count a b r (same, p) = (same, performs a.desk b.desk a.far _ _ _ p)
 
   comes_in : (c : Config) (h : ℕ) → Maps (ComesIn run shows c h) (ComesIn run' shows' c h)
-  comes_in c h = brings_in (Finds run shows h) (Brings run shows c h) (Finds run' shows' h)
+  comes_in c h = brings_in (FindsWhere run shows h) (Brings run shows c h)
+      (FindsWhere run' shows' h)
       (Brings run' shows' c h) (finds h) (brings c h)
 
   come_lacks : (c : Config) (h : ℕ) → MapsLack (ComeLacks run shows c h) (ComeLacks run' shows' c h)
@@ -166,8 +167,9 @@ module _ {D E : Type 0} (run : D → List Event → D → Type 0) (shows : D →
   does c (Make bytes) other a b r x = with_room c.frames (Makes run shows c bytes) (WinsRoom run shows c)
       (Makes run' shows' c bytes) (WinsRoom run' shows' c) (makes c bytes) (wins c) a b r x
   does c (Read handle) other a b r x = absurd other
-  does c (Write handle at bytes) other a b r x = where_it_is (Writes run shows handle.n at bytes)
-      (Brings run shows c handle.n) _ (Writes run' shows' handle.n at bytes)
+  does c (Write handle at bytes) other a b r x =
+      where_it_is (WritesObject run shows handle.n at bytes)
+      (Brings run shows c handle.n) _ (WritesObject run' shows' handle.n at bytes)
       (Brings run' shows' c handle.n) _ (writes handle.n at bytes) (declines handle.n at _)
       (brings c handle.n) a b r x
   does c (Free handle) other a b r p = performs a.desk b.desk a.far _ _ _ p
@@ -194,9 +196,10 @@ module _ {D E : Type 0} (run : D → List Event → D → Type 0) (shows : D →
       (WinsRoom run' shows' c) (MakeLacks run' c bytes) (EvictLacks run' shows') (makes c bytes)
       (make_lacks c bytes) (wins c) evict_lacks a b x
   stops c (Read handle) other a b x = absurd other
-  stops c (Write handle at bytes) other a b x = call_lacks (Writes run shows handle.n at bytes)
+  stops c (Write handle at bytes) other a b x =
+      call_lacks (WritesObject run shows handle.n at bytes)
       (Brings run shows c handle.n) _ NeverLacks (BringLacks run shows c handle.n)
-      (Writes run' shows' handle.n at bytes) (Brings run' shows' c handle.n) _ NeverLacks
+      (WritesObject run' shows' handle.n at bytes) (Brings run' shows' c handle.n) _ NeverLacks
       (BringLacks run' shows' c handle.n) (writes handle.n at bytes) never_lacks
       (declines handle.n at _) (brings c handle.n) (bring_lacks c handle.n) a b x
   stops c (Swap handle) other a b x = come_lacks c handle.n a b x

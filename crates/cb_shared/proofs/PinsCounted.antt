@@ -26,7 +26,7 @@ use Rattle.cb_mutate.specs.JobWrites.{FreeWrites, WriteWrites}
 use Rattle.cb_mutate.specs.WriteRule.{NextVersion, WriteHere}
 use Rattle.cb_core.specs.Parts.{Holding, WhereItIs, near, declined, stays_far, brought}
 use Rattle.cb_core.specs.TurnLeaves.{OutcomeWrites}
-use Rattle.cb_core.specs.Turned.{Brings, Declines, Filters, Frees, IsDeclined, Turned, Writes, done, worn}
+use Rattle.cb_core.specs.Turned.{Brings, Declines, Filters, Frees, IsDeclined, Turned, WritesObject, done, worn}
 use Rattle.cb_rule.specs.declared.view.View.{View}
 use Rattle.cb_rule.specs.Seats.{pins_on}
 use Rattle.cb_rule.specs.Steps.{HasLast, TellsPins, act, acted}
@@ -179,7 +179,7 @@ module _ (v : View) (h : ℕ) where
   -- ---- a write, and a free, by the desk of plain data
   write_counts : (at : ℕ) (bytes : List ℕ) (a b : Holding Slate) (r : Reply)
       → SayPins b.desk.acts v → Unwritten r b.desk.acts v
-      → Writes slate_run slate_shows h at bytes a r b → PinsTold h r v
+      → WritesObject slate_run slate_shows h at bytes a r b → PinsTold h r v
   write_counts at bytes a b r all none x = let z = x.rule.1 in
       by_word h v a.desk b.desk x.events z.word r x.ran all z.found none
       (λ u tells. write_told u h at bytes x.events r z.word (state_of z.word) refl tells z.answer)
@@ -215,7 +215,7 @@ module _ (v : View) (h : ℕ) where
 
   pub where_counts : (c : Config) (at : ℕ) (bytes : List ℕ) (a b : Holding Slate) (r : Reply)
       → SayPins b.desk.acts v → Unwritten r b.desk.acts v
-      → WhereItIs (Writes slate_run slate_shows h at bytes)
+      → WhereItIs (WritesObject slate_run slate_shows h at bytes)
       (Declines slate_run slate_shows h at (length bytes)) (Brings slate_run slate_shows c h) a r b
       → PinsTold h r v
   where_counts c at bytes a b r all none (near x off) = write_counts at bytes a b r all none x

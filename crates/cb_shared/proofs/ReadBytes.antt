@@ -5,7 +5,7 @@ use Rattle.std.proofs.lemmas.List.{ext_get_or, get_or_append_left, get_or-append
 use Rattle.std.proofs.lemmas.List.FromFn.{get_or-map-range_with_len, length-map-range_with_len}
 use Rattle.std.specs.Int.{to_le_bytes, w64}
 use Rattle.std.specs.List.{range_with_len}
-use Rattle.cb_world.specs.Memory.{byte_at, bytes_in}
+use Rattle.cb_world.specs.Memory.{bytes_in, memory_byte}
 
 -- a list with so many of its elements, from a place on, replaced by the first of another
 abbrev pub replaced : ℕ → ℕ → List ℕ → List ℕ → List ℕ
@@ -57,15 +57,15 @@ pub record IsPutInto (old new : List ℕ) (i x : ℕ) : Type 0 where
   pub sized : length new ≡ length old
 
 -- the bytes of the first i words stand in the room
-abbrev pub IsFilled : List ℕ → ℕ → List ℕ → Type 0
-IsFilled words i room =
-    (p : ℕ) → p < 8 * i → p < length room → get_or room p 0 ≡ byte_at words p
+abbrev pub AreBytesFilled : List ℕ → ℕ → List ℕ → Type 0
+AreBytesFilled words i room =
+    (p : ℕ) → p < 8 * i → p < length room → get_or room p 0 ≡ memory_byte words p
 
 pub filled_more : (words old new : List ℕ) (i x : ℕ) → x ≡ get_or words i 0
-    → IsPutInto old new i x → IsFilled words i old → IsFilled words (i + 1) new
+    → IsPutInto old new i x → AreBytesFilled words i old → AreBytesFilled words (i + 1) new
 filled_more words old new i x is put f p below within = go (cases_lt p (8 * i))
   where
-    go : (p < 8 * i) ⊎ (8 * i ≤ p) → get_or new p 0 ≡ byte_at words p
+    go : (p < 8 * i) ⊎ (8 * i ≤ p) → get_or new p 0 ≡ memory_byte words p
     go (inl less) = put.outside p (inl less)
         ∙ f p less (let s = put.sized in omega (arith, within, s))
     go (inr more) =
@@ -79,11 +79,11 @@ filled_more words old new i x is put f p below within = go (cases_lt p (8 * i))
         (is ∙ ap (λ (n : ℕ). get_or words n 0) (sym at))
 
 pub filled_all : (words room : List ℕ) (n i : ℕ) → length room ≡ n → n ≤ 8 * i
-    → IsFilled words i room → room ≡ bytes_in words n
+    → AreBytesFilled words i room → room ≡ bytes_in words n
 unfolding bytes_in
 filled_all words room n i sized all f =
-    ext_get_or 0 room (map (byte_at words) (range_with_len 0 n))
-    (sized ∙ sym (length-map-range_with_len (byte_at words) 0 n))
+    ext_get_or 0 room (map (memory_byte words) (range_with_len 0 n))
+    (sized ∙ sym (length-map-range_with_len (memory_byte words) 0 n))
     (λ k below. f k (omega (arith, below, sized, all)) below
-    ∙ sym (get_or-map-range_with_len (byte_at words) 0 n k k 0 (omega (arith, below, sized))
+    ∙ sym (get_or-map-range_with_len (memory_byte words) 0 n k k 0 (omega (arith, below, sized))
     (omega arith)))

@@ -20,16 +20,16 @@ use Rattle.cb_shared.specs.Reading.{ReadFinds, ReadMoves, looked}
 use Rattle.cb_shared.specs.Trying.{newest_tries, tries_of}
 
 -- the part wrote nothing, has no turns, and read entries of objects that there are
-pub record IsReading (c : Config) (d : Part) : Type 0 where
+pub record IsReadPart (c : Config) (d : Part) : Type 0 where
   pub wrote : d.written ≡ []
   pub turns : d.turns ≡ []
   pub seen : Each (λ (s : Seen). s.handle < c.handles) d.seen
 
-reading_as : (c : Config) (d e : Part) → d ≡ e → IsReading c e → IsReading c d
-reading_as c d e is x = subst (IsReading c) (sym is) x
+reading_as : (c : Config) (d e : Part) → d ≡ e → IsReadPart c e → IsReadPart c d
+reading_as c d e is x = subst (IsReadPart c) (sym is) x
 
 finds_reading : (c : Config) (h : ℕ) (a : ReadAnswer) (v : View) (d : Part) → h < c.handles
-    → ReadFinds h a v d → IsReading c d
+    → ReadFinds h a v d → IsReadPart c d
 finds_reading c h (Bytes version bytes) v d l x =
     reading_as c d _ x.part (record { wrote = refl; turns = refl; seen = (l, tt) })
 finds_reading c h Freed v d l x = reading_as c d _ x.4 (record { wrote = refl; turns = refl; seen = (l, tt) })
@@ -40,7 +40,7 @@ finds_reading c h (Raced saw found) v d l x =
     reading_as c d _ x.1 (record { wrote = refl; turns = refl; seen = tt })
 
 -- what stands of the seat afterwards
-pub record IsKept (c : Config) (p q : Place) : Type 0 where
+pub record IsSeatKept (c : Config) (p q : Place) : Type 0 where
   pub table : q.table_id ≡ p.table_id
   pub share : q.me.0.share ≡ p.me.0.share
   pub carries : q.me.1 ≡ p.me.1
@@ -54,7 +54,7 @@ each_both P [] ys a b = b
 each_both P (x ∷ xs) ys a b = (a.0, each_both P xs ys a.1 b)
 
 kept_part : (c : Config) (p q : Place) (d : Part) → IsAtRest c p.me.0
-    → Moves p q (grown d p.me.0) → IsReading c d → IsKept c p q
+    → Moves p q (grown d p.me.0) → IsReadPart c d → IsSeatKept c p q
 kept_part c p q d rest m x = record {
   table = m.0;
   share = ap (λ (s : Sat). s.0.share) m.2;
@@ -80,7 +80,7 @@ kept_part c p q d rest m x = record {
 pub kept_read : (c : Config) (h : ℕ) (p q : Place) (r : Result ReadAnswer NoMemory)
     → IsAtRest c p.me.0 → h < c.handles → IfOk r (λ a. ReadMoves h a p q)
     → OnErr r ((word : ℕ) × (state_of word ≡ state.Here)
-    × Moves p q (grown (looked h word) p.me.0)) → IsKept c p q
+    × Moves p q (grown (looked h word) p.me.0)) → IsSeatKept c p q
 kept_read c h p q (Ok a) rest l ok err =
     kept_part c p q ok.0 rest ok.1 (finds_reading c h a p.me.0 ok.0 l ok.2)
 kept_read c h p q (Err e) rest l ok err =

@@ -9,7 +9,7 @@ use Rattle.cb_rule.specs.declared.view.View.{View}
 use Rattle.cb_rule.specs.Lists.{Each, Has, removed}
 use Rattle.cb_rule.specs.Seats.{pins_it}
 use Rattle.cb_rule.specs.Slot.{Sat}
-use Rattle.cb_rule.specs.Steps.{IsNewest, stand, with_freed, with_look, with_pin, without_pin}
+use Rattle.cb_rule.specs.Steps.{IsNewest, stand, with_freed_seen, with_look, with_pin, without_pin}
 use Rattle.cb_shared.specs.declared.reading.ReadAnswer.{ReadAnswer}
 use Rattle.cb_shared.specs.declared.reading.ReadAnswer.TheVariants.{Bytes, Freed, NotHere, Moving, Crowded, Raced}
 use Rattle.cb_shared.specs.Glances.{Glances, TellsVersion}
@@ -23,9 +23,9 @@ pub look_part : (h w : ℕ) (v : View) → with_look h w v ≡ grown (looked h w
 look_part h w v = let e : v.ever ≡ v.ever + 0 = omega arith in
     ap (λ (n : ℕ). let z : View = record (with_look h w v) { ever = n } in z) e
 
-pub freed_part : (h n w : ℕ) (v : View) → with_freed h n w v ≡ grown (looked_freed h n w) v
+pub freed_part : (h n w : ℕ) (v : View) → with_freed_seen h n w v ≡ grown (looked_freed h n w) v
 freed_part h n w v = let e : v.ever ≡ v.ever + 0 = omega arith in
-    ap (λ (k : ℕ). let z : View = record (with_freed h n w v) { ever = k } in z) e
+    ap (λ (k : ℕ). let z : View = record (with_freed_seen h n w v) { ever = k } in z) e
 
 pub twice_part : (h saw found : ℕ) (v : View)
     → with_look h found (with_look h saw v) ≡ grown (looked_twice h saw found) v
@@ -59,7 +59,7 @@ pub refused_moves : (h w : ℕ) (a : ReadAnswer) (p q : Place) → Glances h w p
 refused_moves h w (Bytes version bytes) p q g why = absurd why
 refused_moves h w Freed p q g why = let f = g.freed why in (
   looked_freed h f.0 w,
-  moves_as p q (with_freed h f.0 w p.me.0) (grown (looked_freed h f.0 w) p.me.0) f.2
+  moves_as p q (with_freed_seen h f.0 w p.me.0) (grown (looked_freed h f.0 w) p.me.0) f.2
       (freed_part h f.0 w p.me.0),
   (w, f.0, why, f.1, refl),
 )

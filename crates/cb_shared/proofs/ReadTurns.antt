@@ -36,7 +36,7 @@ use Rattle.cb_record.specs.Parts.{Part, grown, nothing_more}
 use Rattle.cb_shared.specs.Places.{Place}
 use Rattle.cb_shared.specs.SeatLaws.{Runs, acted_fresh, acted_is, acted_known, fresh_new}
 use Rattle.cb_shared.specs.Turning.{DidAs, IsReadReply, JobReads, Slate, TellsNoPin, Tries, answer_of, slate_run, slate_shows}
-use Rattle.cb_shared.specs.UnderLock.{BringAt, Brought, CameThere, HasSame, IsNoRead, TriesOn, TurnAtSeat, WorkBy}
+use Rattle.cb_shared.specs.UnderLock.{BringAt, BroughtForRead, CameThere, HasSame, IsNoRead, TriesOn, TurnAtSeat, WorkBy}
 use Rattle.cb_shared.proofs.AfterTurn.{after_runs}
 use Rattle.cb_shared.proofs.Bringing.{bring_gives}
 use Rattle.cb_shared.proofs.PinsCounted.{counts_pins}
@@ -78,13 +78,13 @@ no_worn_there r is (inr swapped) = worn_swapped swapped.0 (sym is ∙ swapped.1)
 
 -- the object stays away
 did_away : (c : Config) (handle : Handle) (r : Reply) (start : Shown) (es : List Event)
-    (took gave : FarState) → Brought c handle (Ok r) start es took gave → (IsThere r → ⊥)
+    (took gave : FarState) → BroughtForRead c handle (Ok r) start es took gave → (IsThere r → ⊥)
     → DidAs c (Read handle) (Some r) start es took gave
 did_away c handle r start es took gave (first_worn end is same ran) off = worn end is same ran
 did_away c handle r start es took gave (first_done few come) off = done few (away come off)
 
 did_stop : (c : Config) (handle : Handle) (e : NoMemory) (start : Shown) (es : List Event)
-    (took gave : FarState) → Brought c handle (Err e) start es took gave
+    (took gave : FarState) → BroughtForRead c handle (Err e) start es took gave
     → DidAs c (Read handle) None start es took gave
 did_stop c handle e start es took gave x = record { few = x.few; stops = bringing_stops x.stops }
 
@@ -98,7 +98,7 @@ tries_reply h other v d x = absurd x
 -- it is here, and is read
 did_read : (c : Config) (handle : Handle) (place : Reply) (r : Result Reply NoMemory) (v : View)
     (d : Part) (start : Shown) (es : List Event) (took gave : FarState)
-    → Brought c handle (Ok place) start es took gave → IsThere place → Tries handle.n r v d
+    → BroughtForRead c handle (Ok place) start es took gave → IsThere place → Tries handle.n r v d
     → DidAs c (Read handle) (answer_of r) start es took gave
 did_read c handle place r v d start es took gave (first_worn end is same ran) there x =
     absurd (no_worn_there place is there)

@@ -10,7 +10,7 @@ use Rattle.cb_rule.specs.declared.view.Stand.{Stand}
 use Rattle.cb_rule.specs.declared.view.View.{View}
 use Rattle.cb_rule.specs.Lists.{Each, Has, removed, times}
 use Rattle.cb_rule.specs.Seats.{pins_it}
-use Rattle.cb_rule.specs.Steps.{IsInside, Knows, with_look, with_freed, with_pin, with_peek, without_pin}
+use Rattle.cb_rule.specs.Steps.{IsInside, Knows, with_look, with_freed_seen, with_pin, with_peek, without_pin}
 use Rattle.cb_rule.specs.Slot.{Sat}
 use Rattle.cb_shared.specs.declared.answers.PinAnswer.{PinAnswer}
 use Rattle.cb_shared.specs.declared.answers.PinAnswer.TheVariants.{Pinned, ScopeFull, Freed, NotHere, Moving, Crowded, Raced}
@@ -67,7 +67,7 @@ rest_look c h w v rest = record {
 }
 
 pub rest_freed : (c : Config) (h n w : ℕ) (v : View) → IsAtRest c v → h < c.handles
-    → IsAtRest c (with_freed h n w v)
+    → IsAtRest c (with_freed_seen h n w v)
 rest_freed c h n w v rest below = record {
   config = rest.config;
   live = rest.live;
@@ -139,7 +139,7 @@ pub rest_glance : (c : Config) (h w : ℕ) (p q : Place) → Glances h w p q →
     → IsAtRest c p.me.0 → IsAtRest c q.me.0
 rest_glance c h w p q g below rest = ⊎_elim
     (λ (e : state_of w ≡ state.Empty). let f = g.freed e in
-    rest_moved c p q (with_freed h f.0 w p.me.0) f.2 (rest_freed c h f.0 w p.me.0 rest below))
+    rest_moved c p q (with_freed_seen h f.0 w p.me.0) f.2 (rest_freed c h f.0 w p.me.0 rest below))
     (λ (ne : state_of w ≢ state.Empty).
     rest_moved c p q (with_look h w p.me.0) (g.other ne) (rest_look c h w p.me.0 rest)) (by_state w)
 
@@ -150,11 +150,11 @@ view_of p q w m = ap (λ (x : Sat). x.0) m.2
 pub knows_glance : (h k w : ℕ) (p q : Place) → Glances h w p q → Knows k p.me.0 → Knows k q.me.0
 knows_glance h k w p q g knows = ⊎_elim
     (λ (e : state_of w ≡ state.Empty). let f = g.freed e in
-    subst (Knows k) (sym (view_of p q (with_freed h f.0 w p.me.0) f.2)) (also f.0 knows))
+    subst (Knows k) (sym (view_of p q (with_freed_seen h f.0 w p.me.0) f.2)) (also f.0 knows))
     (λ (ne : state_of w ≢ state.Empty).
     subst (Knows k) (sym (view_of p q (with_look h w p.me.0) (g.other ne))) knows) (by_state w)
   where
-    also : (v : ℕ) → Knows k p.me.0 → Knows k (with_freed h v w p.me.0)
+    also : (v : ℕ) → Knows k p.me.0 → Knows k (with_freed_seen h v w p.me.0)
     also v (inl x) = inl x
     also v (inr (s, has, is)) = inr (s, inr has, is)
 
@@ -164,7 +164,7 @@ pub refused_gives : (h w : ℕ) (a : PinAnswer) (p q : Place) → Glances h w p 
 refused_gives h w (Pinned x) p q g why = absurd why
 refused_gives h w ScopeFull p q g why = absurd why
 refused_gives h w Freed p q g why = let f = g.freed why in
-    (w, f.0, why, f.1, view_of p q (with_freed h f.0 w p.me.0) f.2)
+    (w, f.0, why, f.1, view_of p q (with_freed_seen h f.0 w p.me.0) f.2)
 refused_gives h w NotHere p q g why =
     (w, why, view_of p q (with_look h w p.me.0) (g.other (λ e. far_empty (sym why ∙ e))))
 refused_gives h w Moving p q g why =

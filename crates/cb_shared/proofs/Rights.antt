@@ -57,13 +57,13 @@ rights_are h known v may = ⊎_elim (λ (some_of : 0 < entries_on h v). omega (a
     omega (arith, one)) may
 
 -- what is settled may be settled so
-abbrev pub Settles : Event → Shown → Type 0
-Settles (ev.Settled h w) s = MaySettle s h w
-Settles e s = Unit {0}
+abbrev pub SettlesRightly : Event → Shown → Type 0
+SettlesRightly (ev.Settled h w) s = MaySettle s h w
+SettlesRightly e s = Unit {0}
 
 module _ (k : ℕ) (s : Shown) (v : View) (known : v.known ≡ s) where
   -- an object that was never made is made by the step, or stays so
-  unmade_after : (e : Event) → Agrees s e → Settles e s → object_at s k ≡ never
+  unmade_after : (e : Event) → Agrees s e → SettlesRightly e s → object_at s k ≡ never
       → MayWrite k (after e s) (act e v)
   unmade_after (ev.Looked h w) a m n = inr n
   unmade_after (ev.Claimed h w version words) a m n = elim (ℕ_discrete k h) [
@@ -111,7 +111,7 @@ module _ (k : ℕ) (s : Shown) (v : View) (known : v.known ≡ s) where
 
 -- a step of the holder leaves the rights of its turn
 pub rights_acted : (allowed : Option ℕ) (e : Event) (v : View) → Agrees v.known e
-    → Settles e v.known → 1 ≤ rights allowed v.known v
+    → SettlesRightly e v.known → 1 ≤ rights allowed v.known v
     → 1 ≤ rights allowed (act e v).known (act e v)
 rights_acted None e v a m r = r
 rights_acted (Some k) e v a m r = rights_are k (act e v).known (act e v) (⊎_elim
@@ -120,7 +120,7 @@ rights_acted (Some k) e v a m r = rights_are k (act e v).known (act e v) (⊎_el
     (may_write k v.known v r))
 
 pub rights_moved : (allowed : Option ℕ) (e : Event) (p q : Place) → Acts p e q
-    → Settles e p.me.0.known → 1 ≤ rights allowed p.me.0.known p.me.0
+    → SettlesRightly e p.me.0.known → 1 ≤ rights allowed p.me.0.known p.me.0
     → 1 ≤ rights allowed q.me.0.known q.me.0
 rights_moved allowed e p q a m r = subst (λ (x : Sat). 1 ≤ rights allowed x.0.known x.0)
     (sym a.0.2) (rights_acted allowed e p.me.0 a.1 m r)

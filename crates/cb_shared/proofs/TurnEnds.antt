@@ -18,7 +18,7 @@ use Rattle.cb_record.specs.Parts.{Part, grown, nothing_more}
 use Rattle.cb_shared.specs.Passes.{IsAtRest}
 use Rattle.cb_shared.specs.Places.{Place}
 use Rattle.cb_shared.specs.Trying.{is_to_try_again, tries_of}
-use Rattle.cb_shared.specs.Turning.{KnowsIt, KnowsOf, TurnBy, answer_of, freed_of, made_by, object_of, turn_part, with_own}
+use Rattle.cb_shared.specs.Turning.{KnowsIt, KnowsOf, TurnBy, answer_of, freed_of, made_by_turn, object_of, turn_part, with_own}
 use Rattle.cb_shared.specs.UnderLock.{FreedMoves, IsBelow, IsQuiet, TurnedBy}
 use Rattle.cb_shared.proofs.Resting.{known_below}
 
@@ -54,7 +54,7 @@ know_more (Some h) made d v knows = knows_more h made d v knows
 pub freed_knows : (c : Config) (job : Job) (r : Result Reply NoMemory) (v w : View) → IsAtRest c v
     → TurnedBy c job r v w → KnowsOf job v → KnowsIt (freed_of job r) w
 freed_knows c job r v w rest t knows = subst (KnowsIt (freed_of job r)) (sym t.left)
-    (know_more (freed_of job r) (made_by job (answer_of r))
+    (know_more (freed_of job r) (made_by_turn job (answer_of r))
     (turn_part t.turn t.more t.within nothing_more) v (freed_known job r v knows))
 
 -- ---- the record at the end
@@ -84,7 +84,7 @@ module _ (c : Config) (job : Job) (r : Result Reply NoMemory) (p m q : Place)
   v = p.me.0
 
   abbrev made : List ℕ
-  made = made_by job (answer_of r)
+  made = made_by_turn job (answer_of r)
 
   abbrev d : Part
   d = turn_part t.turn t.more t.within f.0

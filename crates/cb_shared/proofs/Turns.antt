@@ -15,7 +15,7 @@ use Rattle.cb_world.specs.Sound.{Sound}
 use Rattle.cb_core.specs.Parts.{Holding}
 use Rattle.cb_core.specs.ReadTurn.{BroughtToRead, StoppedToRead}
 use Rattle.cb_core.specs.Turned.{ReadLacks, Reads, Stopped, Turned}
-use Rattle.cb_core.specs.TurnLeaves.{IsNext, OutcomeWrites, TurnLeaves}
+use Rattle.cb_core.specs.TurnLeaves.{IsOneTurnOn, OutcomeWrites, TurnLeaves}
 use Rattle.cb_rule.specs.declared.view.View.{View}
 use Rattle.cb_rule.specs.Locking.{Stood}
 use Rattle.cb_rule.specs.Slot.{Sat}
@@ -23,7 +23,7 @@ use Rattle.cb_rule.specs.Steps.{acted}
 use Rattle.cb_shared.specs.Places.{Place}
 use Rattle.cb_shared.specs.SeatLaws.{Runs, acted_fresh, acted_is, acted_known}
 use Rattle.cb_shared.specs.Turning.{DidAs, PinLacks, ReadsByPin, Slate, answer_of, held_by, slate_run, slate_shows}
-use Rattle.cb_shared.specs.UnderLock.{BringAt, Brought, IsNoRead, TurnAtSeat}
+use Rattle.cb_shared.specs.UnderLock.{BringAt, BroughtForRead, IsNoRead, TurnAtSeat}
 use Rattle.cb_shared.proofs.Mapped.{brought_in, stopped, stopped_first, turned}
 
 -- the events that were run, what they wrote, and that what is known then is sound
@@ -32,7 +32,7 @@ record LeftAt (c : Config) (W : List Entry → Type 0) (runs : List Event → Ty
   pub events : List Event
   pub more : List Entry
   pub ran : runs events
-  pub next : IsNext took gave
+  pub next : IsOneTurnOn took gave
   pub wrote : W more
   pub fresh : w.fresh ≡ more
   pub stood : Stood c w.known gave
@@ -107,7 +107,7 @@ module _ {D : Type 0} (at : D → Place) (run : D → List Event → D → Type 
     brought_by : (handle : Handle) → (r : Result Reply NoMemory)
         → IfOk r (λ q. BroughtToRead run shows c handle a q b)
         → OnErr r (StoppedToRead run shows c handle a b)
-        → Brought c handle r v.known es a.far b.far
+        → BroughtForRead c handle r v.known es a.far b.far
     brought_by handle (Ok q) x y = as_slate
         (λ z w. BroughtToRead slate_run slate_shows c handle z q w)
         (brought_in run shows (Reads run shows) (ReadLacks run shows) slate_run slate_shows ReadsByPin

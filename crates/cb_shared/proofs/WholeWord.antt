@@ -5,7 +5,7 @@ use Rattle.std.proofs.lemmas.List.{get_or_past, get_or-drop, get_or-take, length
 use Rattle.std.proofs.lemmas.Nat.{le_bytes_8}
 use Rattle.std.specs.Int.{from_le_bytes, to_le_bytes, w64}
 use Rattle.byteorder.specs.Endian.{little_number}
-use Rattle.cb_mutate.specs.Merged.{IsMerged}
+use Rattle.cb_mutate.specs.Merged.{IsWordMerged}
 
 -- eight bytes from the place k on
 module _ (bytes : List ℕ) (k : ℕ) (fits : k + 8 ≤ length bytes) where
@@ -32,7 +32,7 @@ module _ (bytes : List ℕ) (k : ℕ) (fits : k + 8 ≤ length bytes) where
 pub whole_merged : (old first at x : ℕ) (bytes : List ℕ) → at ≤ first
     → first + 8 ≤ at + length bytes → ((i : ℕ) → get_or bytes i 0 < 256)
     → x ≡ little_number 8 (take (first - at + 8 - (first - at)) (drop (first - at) bytes))
-    → IsMerged old first at bytes x
+    → IsWordMerged old first at bytes x
 whole_merged old first at x bytes from end below read =
     let k = first - at in
     let fits : k + 8 ≤ length bytes = omega (arith, from, end) in

@@ -11,23 +11,23 @@ use Rattle.cb_types.specs.declared.reply.Reply.{Reply}
 use Rattle.cb_types.specs.declared.reply.Reply.TheVariants as answer
 use Rattle.cb_ptr.specs.Word.{len_of, pins_of, state_number, state_of}
 use Rattle.cb_world.specs.FarState.{FarState}
-use Rattle.cb_world.specs.Memory.{byte_at, bytes_in}
+use Rattle.cb_world.specs.Memory.{bytes_in, memory_byte}
 use Rattle.cb_world.specs.Played.{Agree}
 use Rattle.cb_core.specs.Turned.{done, worn}
-use Rattle.cb_core.specs.TurnLeaves.{IsNext}
+use Rattle.cb_core.specs.TurnLeaves.{IsOneTurnOn}
 use Rattle.atomic_table.specs.Seated.{TableId}
 use Rattle.cb_rule.specs.declared.turn.Turn.{Turn}
 use Rattle.cb_rule.specs.declared.view.Seen.{Seen}
 use Rattle.cb_rule.specs.declared.view.View.{View}
 use Rattle.cb_rule.specs.Lists.{Each}
 use Rattle.cb_rule.specs.LockSteps.{AddsTurn, turn_of}
-use Rattle.cb_rule.specs.Slot.{Slot}
+use Rattle.cb_rule.specs.Slot.{LockSlot}
 use Rattle.cb_rule.specs.Steps.{freed_seen, with_look}
 use Rattle.cb_record.specs.Parts.{Part, grown, nothing_more, sum}
 use Rattle.cb_shared.specs.declared.answers.WriteAnswer.TheVariants as place
 use Rattle.cb_shared.specs.declared.pass.Pass.{Pass}
 use Rattle.cb_shared.specs.declared.runtime.Shared.{Shared}
-use Rattle.cb_shared.specs.Calls.{AsksFor, AtNone, AtThis, EndsAtLast, IsAnswer, IsInVain, IsWrittenOnce, ReadEnds, ReadTries, TurnGives, WriteAnswers, WriteEnds, the_handle, written_once}
+use Rattle.cb_shared.specs.Calls.{AsksFor, AtNone, AtThis, EndsAtLast, IsAnswer, IsInVain, IsWrittenOnce, ReadCallEnds, ReadTries, TurnGives, WriteAnswers, WriteCallEnds, the_handle, written_once}
 use Rattle.cb_shared.specs.Joining.{IsSpare}
 use Rattle.cb_shared.specs.Passes.{IsPassOf}
 use Rattle.cb_shared.specs.Places.{Place}
@@ -50,7 +50,7 @@ turned_in_vain t work x = absurd (let e = sym work
 -- ---- a read that found the object freed at last: with an entry of no try, or with a pin beside it
 abbrev ReadsFreed : Part → Type 0
 ReadsFreed d =
-    EndsAtLast (AtThis 1) (jobs.Swap (the_handle 1)) (ReadEnds two 1 answer.Freed) part d
+    EndsAtLast (AtThis 1) (jobs.Swap (the_handle 1)) (ReadCallEnds two 1 answer.Freed) part d
 
 reads_and_writes : ReadsFreed record (looked_freed 1 3 0) { written = made ∷ [] } → ⊥
 reads_and_writes x =
@@ -68,7 +68,7 @@ reads_and_pins x =
     omega (arith, all, first, behind)
 
 -- a refusal is that of a turn
-reads_worn_without_a_turn : ReadEnds two 1 answer.Worn part (looked 1 calm) → ⊥
+reads_worn_without_a_turn : ReadCallEnds two 1 answer.Worn part (looked 1 calm) → ⊥
 reads_worn_without_a_turn a = eqb-false 0 1 refl (ap (λ (d : Part). length d.turns)
     (a.part ∙ ap (sum (looked 1 a.word)) a.turned.1.part))
 
@@ -93,7 +93,7 @@ once_while_pinned p =
 
 once_without_its_bytes : Once 1 (written_once 1 calm 4 (2826 ∷ []) (2826 ∷ [])) → ⊥
 once_without_its_bytes p = eqb-false 11 12 refl
-    (ap (λ (d : Part). byte_at (words_in d.written) 1) p.part ∙ p.write.inside 0 (lit< tt))
+    (ap (λ (d : Part). memory_byte (words_in d.written) 1) p.part ∙ p.write.inside 0 (lit< tt))
 
 -- ---- a read under a pin tells the bytes of its version
 abbrev other_bytes : List ℕ
@@ -208,9 +208,9 @@ changed = record refused { gave = record refused.took { first = 4 } }
 
 adds_another_state : Adds answer.Worn changed → ⊥
 adds_another_state x =
-    no_next (subst (λ (t : Turn). IsNext t.took t.gave) (sym (is_first _ _ x)) x.next)
+    no_next (subst (λ (t : Turn). IsOneTurnOn t.took t.gave) (sym (is_first _ _ x)) x.next)
   where
-    no_next : IsNext changed.took changed.gave → ⊥
+    no_next : IsOneTurnOn changed.took changed.gave → ⊥
     no_next (inl few) = let n = few.0 in omega (arith, n)
     no_next (inr same) = eqb-false 4 3 refl (ap (λ (f : FarState). f.first) same.1)
 
@@ -308,11 +308,11 @@ other_own s = eqb-false 1 0 refl (ap length s.4)
 not_accepted : (s : Shared) (p : Pass) → s.config ≡ record two { k = 0 } → IsPassOf s p → ⊥
 not_accepted s p e i = let n : 1 ≤ 0 = (subst IsAccepted e i.accepted K).0 in omega (arith, n)
 
-spare_with_a_slot : (z : TableId) (p : Place) (x : ℕ × Slot) → p.me.1 ≡ x ∷ [] → IsSpare z p → ⊥
+spare_with_a_slot : (z : TableId) (p : Place) (x : ℕ × LockSlot) → p.me.1 ≡ x ∷ [] → IsSpare z p → ⊥
 spare_with_a_slot z p x e i = eqb-false 1 0 refl (ap length (sym e ∙ i.carries))
 
 -- ---- the last try of a write, and what it leaves
-ends_writing_moving : (v : View) (d : Part) → WriteEnds two 1 1 (12 ∷ []) answer.Moving v d → ⊥
+ends_writing_moving : (v : View) (d : Part) → WriteCallEnds two 1 1 (12 ∷ []) answer.Moving v d → ⊥
 ends_writing_moving v d (inl (place.Ok version, says, finds)) = absurd (let e = says in cc)
 ends_writing_moving v d (inl (place.Freed, says, finds)) = absurd (let e = says in cc)
 ends_writing_moving v d (inl (place.NotHere, says, finds)) = says

@@ -9,7 +9,7 @@ use Rattle.cb_world.specs.declared.shown.Shown.{Shown}
 use Rattle.cb_world.specs.Empty.{empty_shown}
 use Rattle.cb_world.specs.FarState.{FarState}
 use Rattle.cb_core.specs.ReadTurn.BroughtToRead.{done, worn}
-use Rattle.cb_core.specs.TurnLeaves.{IsNext}
+use Rattle.cb_core.specs.TurnLeaves.{IsOneTurnOn}
 use Rattle.cb_rule.specs.declared.turn.Turn.{Turn}
 use Rattle.cb_rule.specs.declared.view.Seen.{Seen}
 use Rattle.cb_rule.specs.declared.view.View.{View}
@@ -23,7 +23,7 @@ use Rattle.cb_shared.specs.Calls.{the_handle}
 use Rattle.cb_shared.specs.Places.{Moves, Place}
 use Rattle.cb_shared.specs.Reading.{looked, looked_freed}
 use Rattle.cb_shared.specs.Turning.{FindsAtLast}
-use Rattle.cb_shared.specs.UnderLock.{BringAt, Brought, FreedMoves, LooksFor, TriesOn}
+use Rattle.cb_shared.specs.UnderLock.{BringAt, BroughtForRead, FreedMoves, LooksFor, TriesOn}
 use Rattle.cb_shared.proofs.WorkedGround.{calm, made, newest_made, part, two}
 use Rattle.cb_shared.proofs.WorkedSeat.{Has, refusing}
 use Rattle.cb_shared.proofs.WorkedUnder.{far, last, stood}
@@ -32,11 +32,11 @@ use Rattle.cb_shared.proofs.WorkedUnder.{far, last, stood}
 abbrev Brings : FarState → Place → Place → Type 0
 Brings gave p q = BringAt two (the_handle 1) (Ok answer.Worn) (far last) gave p q
 
-no_end : (s : Shown) (es : List Event) → Brought two (the_handle 1) (Ok answer.Stays) s es (far last) (far last) → ⊥
+no_end : (s : Shown) (es : List Event) → BroughtForRead two (the_handle 1) (Ok answer.Stays) s es (far last) (far last) → ⊥
 no_end s es (worn end is same ran) = absurd cc
 no_end s es (done few comes) = omega (arith, few)
 
-no_next : IsNext (far last) (far 3) → ⊥
+no_next : IsOneTurnOn (far last) (far 3) → ⊥
 no_next (inl few) = let n = few.0 in omega (arith, n)
 no_next (inr same) = eqb-false 3 last refl (ap (λ (f : FarState). f.counts.turns) same.1)
 

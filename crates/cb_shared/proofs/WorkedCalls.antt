@@ -11,7 +11,7 @@ use Rattle.cb_rule.specs.declared.view.View.{View}
 use Rattle.cb_rule.specs.Lists.{Each}
 use Rattle.cb_rule.specs.Steps.{IsNewest, look_at}
 use Rattle.cb_shared.specs.declared.answers.WriteAnswer.TheVariants as place
-use Rattle.cb_shared.specs.Calls.{AsksFor, AtNone, AtThis, EndsAtLast, IsAnswer, IsAnswerTo, IsInVain, IsLack, IsWrittenOnce, ReadEnds, SaysAs, TurnGives, WriteAnswers, is_to_try_again, newest_tries, the_handle, written_once}
+use Rattle.cb_shared.specs.Calls.{AsksFor, AtNone, AtThis, EndsAtLast, IsAnswer, IsAnswerTo, IsInVain, IsLack, IsWrittenOnce, ReadCallEnds, SaysAs, TurnGives, WriteAnswers, is_to_try_again, newest_tries, the_handle, written_once}
 use Rattle.cb_record.specs.Deeds.{Deed, deed, happened, happening}
 use Rattle.cb_record.specs.Parts.{Part, grown, nothing_more, sum}
 use Rattle.cb_shared.specs.Reading.{looked, looked_freed}
@@ -144,7 +144,8 @@ says_nothing_of_a_race : SaysAs (place.Raced calm pinned) answer.Moving → ⊥
 says_nothing_of_a_race x = x
 
 -- ---- the last try
-reads_freed_at_last : EndsAtLast (AtThis 1) (jobs.Swap (the_handle 1)) (ReadEnds two 1 answer.Freed)
+reads_freed_at_last : EndsAtLast (AtThis 1) (jobs.Swap (the_handle 1))
+    (ReadCallEnds two 1 answer.Freed)
     part (sum (looked 1 moving) (looked_freed 1 3 0))
 reads_freed_at_last = record {
   before = looked 1 moving;
@@ -160,7 +161,7 @@ reads_freed_at_last = record {
   part = refl;
 }
 
-answers_moving : EndsAtLast (AtThis 1) (jobs.Swap (the_handle 1)) (ReadEnds two 1 answer.Moving)
+answers_moving : EndsAtLast (AtThis 1) (jobs.Swap (the_handle 1)) (ReadCallEnds two 1 answer.Moving)
     part (looked 1 moving) → ⊥
 answers_moving x = x.ends_so.turned.0
 

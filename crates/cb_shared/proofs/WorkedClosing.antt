@@ -13,10 +13,10 @@ use Rattle.cb_shared.specs.declared.refused.CloseRefused.TheVariants.{Out, NoMem
 use Rattle.cb_shared.specs.declared.runtime.Shared.{Shared}
 use Rattle.cb_shared.specs.declared.seal.Seal.{Seal}
 use Rattle.cb_shared.specs.declared.seal.Sealed.{Sealed}
-use Rattle.cb_shared.specs.Closing.{IsClosedBy, Refuses}
+use Rattle.cb_shared.specs.Closing.{IsClosedBy, RefusesToClose}
 use Rattle.cb_shared.specs.Joining.{unpinned_all}
 use Rattle.cb_shared.specs.Passes.{record_of}
-use Rattle.cb_shared.specs.Sealing.{least, sealed, sealed_record, sealed_world, unsealed}
+use Rattle.cb_shared.specs.Sealing.{least_config, sealed, sealed_record, sealed_world, unsealed}
 use Rattle.cb_shared.specs.Turning.{Did}
 use Rattle.cb_shared.proofs.WorkedGround.{a_stand, part, two, whole}
 
@@ -65,43 +65,44 @@ module _ (s : Shared) (p : Pass) (seal : Seal) where
   seals_another_world f k = eqb-false 4 3 refl (ap (λ (w : WorldState). w.far.first)
       (sym f ∙ k.world))
 
-  of_another_configuration : s.config ≡ least → IsClosedBy s p (a_world 3) seal → ⊥
+  of_another_configuration : s.config ≡ least_config → IsClosedBy s p (a_world 3) seal → ⊥
   of_another_configuration e k = eqb-false 2 1 refl (ap (λ (c : Config). c.handles)
       (k.closed.settings ∙ e))
 
 -- ---- what is refused
 module _ (s t : Shared) (p q : Pass) where
-  is_out : (record_of p).share ≡ 63 → Refuses s p (Out s p 63)
+  is_out : (record_of p).share ≡ 63 → RefusesToClose s p (Out s p 63)
   is_out e = (refl, refl, sym e, lit< tt)
 
-  out_with_the_whole : Refuses s p (Out s p 64) → ⊥
+  out_with_the_whole : RefusesToClose s p (Out s p 64) → ⊥
   out_with_the_whole r = let e = r.3 in omega (arith, e)
 
-  out_with_another_share : (record_of p).share ≡ 63 → Refuses s p (Out s p 62) → ⊥
+  out_with_another_share : (record_of p).share ≡ 63 → RefusesToClose s p (Out s p 62) → ⊥
   out_with_another_share e r = eqb-false 62 63 refl (r.2 ∙ e)
 
   out_with_another_pass : (record_of p).share ≡ 63 → (record_of q).share ≡ 62
-      → Refuses s p (Out s q 63) → ⊥
+      → RefusesToClose s p (Out s q 63) → ⊥
   out_with_another_pass e f r = eqb-false 62 63 refl (sym f
       ∙ ap (λ (x : Pass). (record_of x).share) r.1 ∙ e)
 
-  out_of_another_runtime : s.config ≡ two → t.config ≡ least → Refuses s p (Out t p 63) → ⊥
+  out_of_another_runtime : s.config ≡ two → t.config ≡ least_config
+      → RefusesToClose s p (Out t p 63) → ⊥
   out_of_another_runtime e f r = eqb-false 1 2 refl (ap (λ (c : Config). c.handles)
       (sym f ∙ ap (λ (x : Shared). x.config) r.0 ∙ e))
 
-  has_no_memory : (record_of p).share ≡ 64 → Refuses s p (NoMemory s p)
+  has_no_memory : (record_of p).share ≡ 64 → RefusesToClose s p (NoMemory s p)
   has_no_memory e = (refl, refl, e)
 
   -- a part of the share is tested before any memory is taken
-  no_memory_with_a_part : (record_of p).share ≡ 63 → Refuses s p (NoMemory s p) → ⊥
+  no_memory_with_a_part : (record_of p).share ≡ 63 → RefusesToClose s p (NoMemory s p) → ⊥
   no_memory_with_a_part e r = eqb-false 63 64 refl (sym e ∙ r.2)
 
   no_memory_with_another_pass : (record_of p).share ≡ 64 → (record_of q).share ≡ 62
-      → Refuses s p (NoMemory s q) → ⊥
+      → RefusesToClose s p (NoMemory s q) → ⊥
   no_memory_with_another_pass e f r = eqb-false 62 64 refl (sym f
       ∙ ap (λ (x : Pass). (record_of x).share) r.1 ∙ e)
 
-  no_memory_of_another_runtime : s.config ≡ two → t.config ≡ least
-      → Refuses s p (NoMemory t p) → ⊥
+  no_memory_of_another_runtime : s.config ≡ two → t.config ≡ least_config
+      → RefusesToClose s p (NoMemory t p) → ⊥
   no_memory_of_another_runtime e f r = eqb-false 1 2 refl (ap (λ (c : Config). c.handles)
       (sym f ∙ ap (λ (x : Shared). x.config) r.0 ∙ e))

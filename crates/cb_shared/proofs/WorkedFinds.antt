@@ -16,7 +16,7 @@ use Rattle.cb_rule.specs.declared.view.Seen.{Seen}
 use Rattle.cb_rule.specs.declared.view.Stand.{Stand}
 use Rattle.cb_rule.specs.declared.view.View.{View}
 use Rattle.cb_rule.specs.Lists.{Has}
-use Rattle.cb_rule.specs.Slot.{Sat, Slot}
+use Rattle.cb_rule.specs.Slot.{LockSlot, Sat}
 use Rattle.cb_rule.specs.Steps.{IsNewest, act, held_at, look_at, stand, version_seen, with_look}
 use Rattle.cb_rule.specs.Words.{base}
 use Rattle.cb_record.specs.Parts.{Part, grown}
@@ -197,7 +197,7 @@ acts_against : (p q : Place) (e : Event) → (Agrees p.me.0.known e → ⊥) →
 acts_against p q e n a = n a.1
 
 -- ---- a load of the one word of a pinned object
-loads : (st : Step Slot) → read_pin st (with_one, []) 2826 (with_one, [])
+loads : (st : Step LockSlot) → read_pin st (with_one, []) 2826 (with_one, [])
 loads st = (refl, λ s j there low at. word s j there low)
   where
     word : (s : Stand) (j : ℕ) → Has s with_one.pins → j < words_for s.len
@@ -210,11 +210,11 @@ loads st = (refl, λ s j there low at. word s j there low)
         first zero low = refl
         first (suc j) low = absurd (omega (arith, low))
 
-loads_another_word : (st : Step Slot) → st.word ≡ base two + 5 + 0
+loads_another_word : (st : Step LockSlot) → st.word ≡ base two + 5 + 0
     → read_pin st (with_one, []) 7 (with_one, []) → ⊥
 loads_another_word st at r = eqb-false 7 2826 refl (r.1 a_stand 0 (inl refl) (lit< tt) at)
 
-loads_and_gives : (st : Step Slot) → read_pin st (with_one, []) 2826 (part, []) → ⊥
+loads_and_gives : (st : Step LockSlot) → read_pin st (with_one, []) 2826 (part, []) → ⊥
 loads_and_gives st r = eqb-false 0 1 refl (ap (λ (m : Sat). length m.0.pins) r.0)
 
 -- ---- pins of a pass

@@ -10,7 +10,7 @@ use Rattle.cb_rule.specs.declared.view.View.{View}
 use Rattle.cb_rule.specs.History.{is_version}
 use Rattle.cb_rule.specs.Own.{IsAlone}
 use Rattle.cb_rule.specs.Lists.{times, Each, Has}
-use Rattle.cb_rule.specs.Steps.{FollowsLast, HasLast, IsNew, IsNewest, Knows, blank, opener, stand}
+use Rattle.cb_rule.specs.Steps.{FollowsLast, HasLast, IsNewVersion, IsNewest, Knows, blank, opener, stand}
 use Rattle.cb_shared.specs.declared.pass.Pin.{Pin}
 
 -- two objects at most
@@ -151,7 +151,7 @@ last_is_freed ps x = by x.last x.wrote x.held
     by e (inr none) off = none
 
 -- ---- a version that stands as written is not new
-pub not_new : (v : View) → v.written ≡ made ∷ [] → IsNew 1 3 v → ⊥
+pub not_new : (v : View) → v.written ≡ made ∷ [] → IsNewVersion 1 3 v → ⊥
 not_new v is new = let few = behind v.fresh v.written new.written in
     let e = (subst (Each (λ (x : Entry). x.handle ≡ 1 → x.version < 3)) is few).0 refl in
     omega (arith, e)

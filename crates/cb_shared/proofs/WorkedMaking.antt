@@ -6,7 +6,7 @@ use Rattle.atomic_table.specs.Table.{Step, step}
 use Rattle.cb_types.specs.declared.job.Job.TheVariants as jobs
 use Rattle.cb_types.specs.declared.reply.Reply.TheVariants as answer
 use Rattle.cb_rule.specs.LockSteps.{took_lock}
-use Rattle.cb_rule.specs.Slot.{Sat, Slot}
+use Rattle.cb_rule.specs.Slot.{LockSlot, Sat}
 use Rattle.cb_shared.specs.Calls.{the_handle}
 use Rattle.cb_shared.specs.Making.{MakesNew, TriesNew, took_first}
 use Rattle.cb_shared.proofs.WorkedGround.{made, part}
@@ -40,7 +40,7 @@ tries_in_vain : TriesNew 3 (jobs.Make (10 ∷ [])) None part
 tries_in_vain = tt
 
 -- ---- the lock is taken where its word is 2, and makes give version 3
-abbrev takes_two : Step Slot
+abbrev takes_two : Step LockSlot
 takes_two = step 1 0 2 1 none
 
 takes_it : took_first 3 takes_two before 2 holder

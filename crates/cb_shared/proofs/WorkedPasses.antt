@@ -13,14 +13,14 @@ use Rattle.cb_world.specs.FarState.{FarState}
 use Rattle.cb_world.specs.Written.{entry}
 use Rattle.cb_rule.specs.declared.view.Held.{Held}
 use Rattle.cb_rule.specs.declared.view.View.{View}
-use Rattle.cb_rule.specs.Slot.{Sat, Slot}
+use Rattle.cb_rule.specs.Slot.{LockSlot, Sat}
 use Rattle.cb_rule.specs.Steps.{freed_seen, held_at, joined, left_of, right_of, stand}
 use Rattle.cb_shared.specs.declared.pass.Pass.{Pass}
 use Rattle.cb_shared.specs.declared.runtime.Shared.{Shared}
-use Rattle.cb_shared.specs.Claims.{IsAsBefore, IsFreshClaim, IsNextOf, IsWithin}
+use Rattle.cb_shared.specs.Claims.{IsAsClaimed, IsFreshClaim, IsNextOf, IsWithin}
 use Rattle.cb_shared.specs.Handles.{IsFirstAt}
 use Rattle.cb_shared.specs.Joining.{IsSpare, unpinned_all}
-use Rattle.cb_shared.specs.Passes.{IsAtRest, IsBegun, IsPassOf}
+use Rattle.cb_shared.specs.Passes.{IsAtRest, IsPassOf, IsRuntimeBegun}
 use Rattle.cb_shared.specs.Places.{Place}
 use Rattle.cb_shared.specs.Tallies.{tallied}
 use Rattle.cb_shared.proofs.WorkedGround.{a_stand, calm, made, part, pinned, two, whole}
@@ -103,17 +103,18 @@ spent_pass : (s : Shared) (p : Pass) → p.seat.me.0.share ≡ 0 → IsPassOf s 
 spent_pass s p e f = let live = f.rest.live in omega (arith, e, live)
 
 -- ---- the start
-of_another_config : (s : Shared) (p : Pass) → s.config ≡ roomy → IsBegun 3 two s p → ⊥
+of_another_config : (s : Shared) (p : Pass) → s.config ≡ roomy → IsRuntimeBegun 3 two s p → ⊥
 of_another_config s p e b = eqb-false 7 6 refl (ap (λ (c : Config). c.room) (sym e ∙ b.config))
 
-of_another_first : (s : Shared) (p : Pass) → s.board.shared.key.first ≡ 4 → IsBegun 3 two s p → ⊥
+of_another_first : (s : Shared) (p : Pass) → s.board.shared.key.first ≡ 4 → IsRuntimeBegun 3 two s p
+    → ⊥
 of_another_first s p e b = eqb-false 4 3 refl (sym e ∙ b.first_is)
 
-begun_with_an_entry : (s : Shared) (p : Pass) → p.seat.me.0 ≡ whole → IsBegun 3 two s p → ⊥
+begun_with_an_entry : (s : Shared) (p : Pass) → p.seat.me.0 ≡ whole → IsRuntimeBegun 3 two s p → ⊥
 begun_with_an_entry s p e b =
     eqb-false 1 0 refl (ap (λ (v : View). length v.written) (sym e ∙ b.begun))
 
-begun_of_another : (s : Shared) (p : Pass) → (IsPassOf s p → ⊥) → IsBegun 3 two s p → ⊥
+begun_of_another : (s : Shared) (p : Pass) → (IsPassOf s p → ⊥) → IsRuntimeBegun 3 two s p → ⊥
 begun_of_another s p n b = n b.of
 
 -- ---- a claim directly after the exchange
@@ -188,16 +189,16 @@ next_past_the_end : IsNextOf record stored { len = 1 } 2684362758 → ⊥
 next_past_the_end n = eqb-false 12 11 refl (n.write.3.outside 1 (lit< tt) (inr n.write.2))
 
 -- ---- a claim with nothing stored
-as_before : IsAsBefore claim calm
+as_before : IsAsClaimed claim calm
 as_before = record { word = refl; version = refl; memory = refl }
 
-another_word : IsAsBefore claim warm → ⊥
+another_word : IsAsClaimed claim warm → ⊥
 another_word b = eqb-false warm calm refl (b.word)
 
-another_stamp : IsAsBefore record claim { stamp = 4 } calm → ⊥
+another_stamp : IsAsClaimed record claim { stamp = 4 } calm → ⊥
 another_stamp b = eqb-false 4 3 refl (b.version)
 
-another_memory : IsAsBefore record claim { memory = 3082 ∷ [] } calm → ⊥
+another_memory : IsAsClaimed record claim { memory = 3082 ∷ [] } calm → ⊥
 another_memory b = eqb-false 3082 2826 refl (ap (λ (xs : List ℕ). get_or xs 0 0) b.memory)
 
 -- ---- bytes of a claimed object
@@ -227,13 +228,13 @@ without_words : IsWithin two record claim { memory = [] } 5 1 1 → ⊥
 without_words w = eqb-false 0 1 refl (w.whole)
 
 -- ---- a look at how large the share may be
-tallied_whole : (st : Step Slot) → tallied st (whole, []) 0 (whole, [])
+tallied_whole : (st : Step LockSlot) → tallied st (whole, []) 0 (whole, [])
 tallied_whole st = (refl, lit≤ tt)
 
-tallied_another : (st : Step Slot) → tallied st (whole, []) 0 (part, []) → ⊥
+tallied_another : (st : Step LockSlot) → tallied st (whole, []) 0 (part, []) → ⊥
 tallied_another st t = eqb-false 40 64 refl (ap (λ (m : Sat). m.0.share) t.0)
 
-tallied_over : (st : Step Slot)
+tallied_over : (st : Step LockSlot)
     → tallied st (record whole { share = 65 }, []) 0 (record whole { share = 65 }, []) → ⊥
 tallied_over st t = let e : 65 ≤ 64 = t.1 in omega (arith, e)
 

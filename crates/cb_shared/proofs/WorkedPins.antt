@@ -6,10 +6,10 @@ use Rattle.cb_ptr.specs.declared.word.State.TheVariants as state
 use Rattle.cb_rule.specs.declared.view.Seen.{Seen}
 use Rattle.cb_rule.specs.declared.view.Stand.{Stand}
 use Rattle.cb_rule.specs.declared.view.View.{View}
-use Rattle.cb_rule.specs.Steps.{IsNewest, with_freed, with_look, with_pin}
+use Rattle.cb_rule.specs.Steps.{IsNewest, with_freed_seen, with_look, with_pin}
 use Rattle.cb_shared.specs.declared.answers.PinAnswer.TheVariants.{Pinned, ScopeFull, Freed, NotHere, Moving, Crowded, Raced}
 use Rattle.cb_shared.specs.Passes.{IsPinOf}
-use Rattle.cb_shared.specs.Pinning.{FindsFreed, IsPinned, LooksOnce, LoosesRace, PinGives}
+use Rattle.cb_shared.specs.Pinning.{FindsFreed, IsPinnedHere, LooksOnce, LoosesRace, PinGives}
 use Rattle.cb_shared.proofs.WorkedGround.{a_pin, a_stand, away, calm, full, last_look, last_state, moving, newest_later, newest_made, not_foreign, not_second, part, part_pinned, pinned, whole}
 
 abbrev looks_of : View → ℕ
@@ -19,7 +19,7 @@ looks_of v = length v.looks
 abbrev taken : ℕ → ℕ → View
 taken w version = with_pin 1 w version (2826 ∷ []) (with_look 1 w part)
 
-is_pinned : IsPinned 1 (a_pin 1 3 8 5) part (taken calm 3)
+is_pinned : IsPinnedHere 1 (a_pin 1 3 8 5) part (taken calm 3)
 is_pinned = record {
   word = calm;
   words = 2826 ∷ [];
@@ -31,33 +31,33 @@ is_pinned = record {
   left = refl;
 }
 
-moving_pinned : IsPinned 1 (a_pin 1 3 8 5) part (taken moving 3) → ⊥
+moving_pinned : IsPinnedHere 1 (a_pin 1 3 8 5) part (taken moving 3) → ⊥
 moving_pinned p = eqb-false 3 2 refl (ap last_state p.left ∙ ap state_number p.here)
 
-another_object : IsPinned 1 (a_pin 0 3 8 5) part (taken calm 3) → ⊥
+another_object : IsPinnedHere 1 (a_pin 0 3 8 5) part (taken calm 3) → ⊥
 another_object p = eqb-false 0 1 refl (p.handle)
 
-another_length : IsPinned 1 (a_pin 1 3 16 5) part (taken calm 3) → ⊥
+another_length : IsPinnedHere 1 (a_pin 1 3 16 5) part (taken calm 3) → ⊥
 another_length p = eqb-false 16 8 refl (p.len ∙ ap len_of (sym (ap last_look p.left)))
 
-another_place : IsPinned 1 (a_pin 1 3 8 6) part (taken calm 3) → ⊥
+another_place : IsPinnedHere 1 (a_pin 1 3 8 6) part (taken calm 3) → ⊥
 another_place p = eqb-false 6 5 refl (p.place ∙ ap place_of (sym (ap last_look p.left)))
 
-older_version : IsPinned 1 (a_pin 1 2 8 5) part (taken calm 2) → ⊥
+older_version : IsPinnedHere 1 (a_pin 1 2 8 5) part (taken calm 2) → ⊥
 older_version p = not_second p.newest
 
-foreign_version : IsPinned 1 (a_pin 1 4 8 5) whole
+foreign_version : IsPinnedHere 1 (a_pin 1 4 8 5) whole
     (with_pin 1 calm 4 (2826 ∷ []) (with_look 1 calm whole)) → ⊥
 foreign_version p = not_foreign p.newest
 
 -- without the look, without the version as read, or with others of its words
-not_looked : IsPinned 1 (a_pin 1 3 8 5) part (with_pin 1 calm 3 (2826 ∷ []) part) → ⊥
+not_looked : IsPinnedHere 1 (a_pin 1 3 8 5) part (with_pin 1 calm 3 (2826 ∷ []) part) → ⊥
 not_looked p = eqb-false 1 2 refl (ap looks_of p.left)
 
-not_read : IsPinned 1 (a_pin 1 3 8 5) part (record (taken calm 3) { seen = [] }) → ⊥
+not_read : IsPinnedHere 1 (a_pin 1 3 8 5) part (record (taken calm 3) { seen = [] }) → ⊥
 not_read p = eqb-false 0 1 refl (ap (λ (v : View). length v.seen) p.left)
 
-not_counted : IsPinned 1 (a_pin 1 3 8 5) part (record (taken calm 3) { ever = 0 }) → ⊥
+not_counted : IsPinnedHere 1 (a_pin 1 3 8 5) part (record (taken calm 3) { ever = 0 }) → ⊥
 not_counted p = eqb-false 0 1 refl (ap (λ (v : View). v.ever) p.left)
 
 -- ---- the answers, each for its word
@@ -98,7 +98,7 @@ not_crowded g =
 crowded_moving : PinGives 1 Crowded part (with_look 1 (full + 1) part) → ⊥
 crowded_moving g = eqb-false 3 2 refl (ap last_state g.2 ∙ ap state_number g.1.0)
 
-by_freed : PinGives 1 Freed part (with_freed 1 4 0 part)
+by_freed : PinGives 1 Freed part (with_freed_seen 1 4 0 part)
 by_freed = (0, 4, refl, newest_later, refl)
 
 by_race : PinGives 1 (Raced calm moving) part (with_look 1 moving (with_look 1 calm part))
@@ -117,15 +117,15 @@ abbrev version_read : List Seen → ℕ
 version_read [] = 0
 version_read (x ∷ xs) = x.version
 
-freed_here : FindsFreed 1 part (with_freed 1 4 calm part) → ⊥
+freed_here : FindsFreed 1 part (with_freed_seen 1 4 calm part) → ⊥
 freed_here g = eqb-false 2 0 refl (ap last_state g.4 ∙ ap state_number g.2)
 
-freed_before : FindsFreed 1 part (with_freed 1 2 0 part) → ⊥
+freed_before : FindsFreed 1 part (with_freed_seen 1 2 0 part) → ⊥
 freed_before g =
     let e : 2 ≡ g.1 = ap (λ (v : View). version_read v.seen) g.4 in
     not_second (subst (λ (n : ℕ). IsNewest 1 n part) (sym e) g.3)
 
-freed_by_another : FindsFreed 1 whole (with_freed 1 4 0 whole) → ⊥
+freed_by_another : FindsFreed 1 whole (with_freed_seen 1 4 0 whole) → ⊥
 freed_by_another g =
     let e : 4 ≡ g.1 = ap (λ (v : View). version_read v.seen) g.4 in
     not_foreign (subst (λ (n : ℕ). IsNewest 1 n whole) (sym e) g.3)

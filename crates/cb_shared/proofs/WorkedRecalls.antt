@@ -14,7 +14,7 @@ use Rattle.cb_rule.specs.declared.turn.Turn.{Turn}
 use Rattle.cb_rule.specs.declared.view.View.{View}
 use Rattle.cb_rule.specs.Lists.{Has}
 use Rattle.cb_rule.specs.OwnStands.{OwnStands, WroteItself}
-use Rattle.cb_rule.specs.Slot.{Sat, Slot}
+use Rattle.cb_rule.specs.Slot.{LockSlot, Sat}
 use Rattle.cb_rule.specs.Steps.{blank, freed_seen}
 use Rattle.cb_shared.specs.Recalls.{MakesFirst, Recalls, recalled}
 
@@ -69,14 +69,14 @@ module _ (c : Config) (t : Turn) where
   recalls_a_later_make x = makes_later x.makes
 
   -- a look changes nothing
-  looks : (st : Step Slot) → recalled 3 st (kept, []) 0 (kept, [])
+  looks : (st : Step LockSlot) → recalled 3 st (kept, []) 0 (kept, [])
   looks st = (refl, recalls)
 
-  looks_and_takes : (st : Step Slot)
+  looks_and_takes : (st : Step LockSlot)
       → recalled 3 st (kept, []) 0 (record kept { share = 1 }, []) → ⊥
   looks_and_takes st x = eqb-false 1 0 refl (ap (λ (m : Sat). m.0.share) x.0)
 
-  looks_at_a_later_make : (st : Step Slot)
+  looks_at_a_later_make : (st : Step LockSlot)
       → recalled 3 st (record kept { turns = makes 4 ∷ [] }, []) 0
       (record kept { turns = makes 4 ∷ [] }, []) → ⊥
   looks_at_a_later_make st x = recalls_a_later_make x.1

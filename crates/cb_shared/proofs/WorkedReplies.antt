@@ -13,7 +13,7 @@ use Rattle.cb_shared.specs.declared.reading.ReadAnswer.TheVariants as found
 use Rattle.cb_shared.specs.Calls.{IsAnswerTo, IsCalled, IsLack, IsNoReply, SaysAs, TellsOfIt, the_handle}
 use Rattle.cb_shared.specs.Reading.{IsReadRefusal}
 use Rattle.cb_shared.specs.Rights.{writes_of}
-use Rattle.cb_shared.specs.Turning.{IsReadReply, KnowsIt, PinLacks, Slate, TellsNoPin, answer_of, freed_of, held_by, made_by, made_in, object_of, slate_shows}
+use Rattle.cb_shared.specs.Turning.{IsReadReply, KnowsIt, PinLacks, Slate, TellsNoPin, answer_of, freed_of, held_by, made_by_turn, made_in, object_of, slate_shows}
 use Rattle.cb_shared.specs.UnderLock.{CameThere, IsNoRead, IsReplyTo, IsTriedAgain}
 use Rattle.cb_shared.specs.Writing.{IsRoomFor, IsWriteRefusal}
 use Rattle.cb_shared.proofs.WorkedGround.{away, calm, full, made, moving, part, pinned, two}
@@ -205,8 +205,8 @@ knows_no_other (inr (s, off, at)) = off
 
 made_ones : (made_in (Some (answer.Made (the_handle 1) 3)) ≡ 1 ∷ [])
     × (made_in (Some (answer.Version 3)) ≡ []) × (made_in None ≡ [])
-    × (made_by (job.Make []) (Some (answer.Full 2)) ≡ [])
-    × (made_by (job.Write (the_handle 1) 0 []) (Some (answer.Made (the_handle 1) 3)) ≡ [])
+    × (made_by_turn (job.Make []) (Some (answer.Full 2)) ≡ [])
+    × (made_by_turn (job.Write (the_handle 1) 0 []) (Some (answer.Made (the_handle 1) 3)) ≡ [])
 made_ones = (refl, refl, refl, refl, refl)
 
 written_ones : (writes_of (job.Write (the_handle 1) 0 []) (empty_far 3 two) ≡ Some 1)

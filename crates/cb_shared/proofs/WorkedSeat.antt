@@ -16,7 +16,7 @@ use Rattle.cb_world.specs.Written.{entry, written_by}
 use Rattle.cb_rule.specs.declared.view.View.{View}
 use Rattle.cb_rule.specs.Lists.{Each}
 use Rattle.cb_rule.specs.LockSteps.{gave_lock, took_lock}
-use Rattle.cb_rule.specs.Slot.{Slot, Sat}
+use Rattle.cb_rule.specs.Slot.{LockSlot, Sat}
 use Rattle.cb_rule.specs.Steps.{AreNew, Knows, act}
 use Rattle.cb_shared.specs.Places.{Moves, Place}
 use Rattle.cb_shared.specs.SeatLaws.{Runs, SayPins, SaysPins}
@@ -25,10 +25,10 @@ use Rattle.cb_shared.proofs.WorkedGround.{calm, made, part, part_pinned, pinned,
 use Rattle.cb_shared.proofs.WorkedUnder.{beginner, far, known, knows_nothing, last, newcomer, stood}
 
 -- the seat has this view and these slots
-abbrev pub Has : Place → View → List (ℕ × Slot) → Type 0
+abbrev pub Has : Place → View → List (ℕ × LockSlot) → Type 0
 Has p v slots = p.me ≡ (v, slots)
 
-abbrev pub seat : View → List (ℕ × Slot) → Sat
+abbrev pub seat : View → List (ℕ × LockSlot) → Sat
 seat v slots = (v, slots)
 
 -- ---- events of a seat
@@ -217,7 +217,7 @@ module _ (p q : Place) where
   gives_no_lock : q.me.0.holds ≡ true → Gives p q → ⊥
   gives_no_lock is g = true≢false (sym is ∙ ap (λ (m : Sat). m.0.holds) g.at.2)
 
-  gives_no_slot : (x : ℕ × Slot) → q.me.1 ≡ x ∷ [] → Gives p q → ⊥
+  gives_no_slot : (x : ℕ × LockSlot) → q.me.1 ≡ x ∷ [] → Gives p q → ⊥
   gives_no_slot x is g = eqb-false 1 0 refl (ap length (sym is ∙ ap (λ (m : Sat). m.1) g.at.2))
 
   -- the turn does not stand in the record

@@ -7,7 +7,7 @@ use Rattle.atomic_table.specs.Seated.{TableId}
 use Rattle.atomic_table.specs.Table.{Step, step}
 use Rattle.cb_types.specs.declared.config.Config.{Config}
 use Rattle.cb_ptr.specs.Word.{state_number}
-use Rattle.cb_world.specs.Memory.{byte_at}
+use Rattle.cb_world.specs.Memory.{memory_byte}
 use Rattle.cb_world.specs.Written.{entry}
 use Rattle.cb_rule.specs.declared.view.Held.{Held}
 use Rattle.cb_rule.specs.declared.view.Seen.{Seen}
@@ -17,14 +17,14 @@ use Rattle.cb_rule.specs.Lists.{Each}
 use Rattle.cb_rule.specs.Own.{IsAlone}
 use Rattle.cb_rule.specs.Rule.{AreSized}
 use Rattle.cb_rule.specs.Seats.{pins_on}
-use Rattle.cb_rule.specs.Slot.{Sat, Slot}
-use Rattle.cb_rule.specs.Steps.{HasLast, IsNewest, TellsPins, glanced as glance_of, held_at, version_seen, with_freed, with_look, with_pin}
+use Rattle.cb_rule.specs.Slot.{LockSlot, Sat}
+use Rattle.cb_rule.specs.Steps.{HasLast, IsNewest, TellsPins, glanced as glance_of, held_at, version_seen, with_freed_seen, with_look, with_pin}
 use Rattle.cb_rule.specs.Words.{base}
 use Rattle.cb_shared.specs.declared.answers.PinAnswer.TheVariants as pins
 use Rattle.cb_shared.specs.declared.answers.WriteAnswer.TheVariants as writes
 use Rattle.cb_shared.specs.declared.setup.Setup.{Setup}
 use Rattle.cb_shared.specs.Claims.{ClaimsHere, HoldsOnly, with_only}
-use Rattle.cb_shared.specs.Glances.{Glances, TakesPin, TellsVersion}
+use Rattle.cb_shared.specs.Glances.{Glances, TakesPinAt, TellsVersion}
 use Rattle.cb_shared.specs.Pinning.{IsPinnedAt, IsRefusal, PinAt}
 use Rattle.cb_shared.specs.Places.{HoldsLock, IsOf, Moves, Place}
 use Rattle.cb_shared.specs.Writing.{IsWriteRefusal, IsWrittenAt, WriteAt, WriteClaimed, last_seen}
@@ -141,7 +141,7 @@ another_entry p = eqb-false 5 4 refl (ap (λ (v : View). version_in v.written) p
 
 not_the_bytes : IsWrittenAt 1 calm 1 (12 ∷ []) 4 part (changed calm 4 (2826 ∷ []) part) → ⊥
 not_the_bytes p = eqb-false 11 12 refl
-    (ap (λ (v : View). byte_at (words_in v.written) 1) p.left ∙ p.write.inside 0 (lit< tt))
+    (ap (λ (v : View). memory_byte (words_in v.written) 1) p.left ∙ p.write.inside 0 (lit< tt))
 
 no_entry : IsWrittenAt 1 calm 1 (12 ∷ []) 4 part (with_look 1 calm part) → ⊥
 no_entry p = eqb-false 1 2 refl (ap (λ (v : View). length v.written) p.left)
@@ -250,7 +250,7 @@ claimed_same_version p q g = eqb-false 3 4 refl (g.0)
 claimed_not_the_bytes : (p q : Place) → q.me.0 ≡ settled 4 (2826 ∷ []) p.me.0
     → WriteClaimed 1 calm 1 (12 ∷ []) 3 (2826 ∷ []) (writes.Ok 4) p q → ⊥
 claimed_not_the_bytes p q e g = eqb-false 11 12 refl
-    (ap (λ (v : View). byte_at (words_in v.written) 1) (sym e ∙ ap (λ (m : Sat). m.0) g.3.2)
+    (ap (λ (v : View). memory_byte (words_in v.written) 1) (sym e ∙ ap (λ (m : Sat). m.0) g.3.2)
     ∙ g.2.inside 0 (lit< tt))
 
 claimed_kept : (p q : Place) (x : Held) → q.me.0.claims ≡ x ∷ []
@@ -307,7 +307,7 @@ glanced p q e m = record {
   held = λ _ l. absurd (shared_part 1 (subst (IsAlone 1) e l));
 }
 
-glanced_freed : (p q : Place) → p.me.0 ≡ part → Moves p q (with_freed 1 4 0 p.me.0)
+glanced_freed : (p q : Place) → p.me.0 ≡ part → Moves p q (with_freed_seen 1 4 0 p.me.0)
     → Glances 1 0 p q
 glanced_freed p q e m = record {
   freed = λ _. (4, subst (λ (v : View). IsNewest 1 4 v) (sym e) newest_later, m);
@@ -321,7 +321,7 @@ glanced_unlooked p q e f g = eqb-false 0 1 refl
     (ap looks_of (sym f ∙ ap (λ (m : Sat). m.0)
     (g.other (λ h. eqb-false 2 0 refl (ap state_number h))).2 ∙ ap (with_look 1 calm) e))
 
-glanced_freed_before : (p q : Place) → p.me.0 ≡ part → q.me.0 ≡ with_freed 1 2 0 part
+glanced_freed_before : (p q : Place) → p.me.0 ≡ part → q.me.0 ≡ with_freed_seen 1 2 0 part
     → Glances 1 0 p q → ⊥
 glanced_freed_before p q e f g = let z = g.freed refl in
     let same : 2 ≡ z.0 = ap (λ (v : View). version_read v.seen)
@@ -344,7 +344,7 @@ glanced_gone p q e g = last_is_freed [] (subst (HasLast 1 8) e
     (g.held refl (inl (ap (λ (v : View). v.share) e))))
 
 -- ---- a load of the pointer word: one that is not Empty tells of the last entry
-abbrev at_one : Step Slot
+abbrev at_one : Step LockSlot
 at_one = step 1 2 0 0 none
 
 abbrev before : Sat
@@ -379,7 +379,7 @@ lies : (j : ℕ) → j < 1 → 5 + j < 512
 lies j below = omega (arith, below)
 
 takes : (p q : Place) → p.me.0 ≡ part → Moves p q (with_pin 1 calm 3 (2826 ∷ []) p.me.0)
-    → TakesPin two 1 calm calm p q
+    → TakesPinAt two 1 calm calm p q
 takes p q e m = record {
   won = λ _. (
     3,
@@ -392,24 +392,24 @@ takes p q e m = record {
 }
 
 takes_an_older : (p q : Place) → p.me.0 ≡ part
-    → q.me.0 ≡ with_pin 1 calm 2 (2826 ∷ []) part → TakesPin two 1 calm calm p q → ⊥
+    → q.me.0 ≡ with_pin 1 calm 2 (2826 ∷ []) part → TakesPinAt two 1 calm calm p q → ⊥
 takes_an_older p q e f t = let z = t.won refl in
     let same : 2 ≡ z.0 = ap (λ (v : View). version_read v.seen)
     (sym f ∙ ap (λ (m : Sat). m.0) z.4.2) in
     not_second (subst (λ (n : ℕ). IsNewest 1 n part) (sym same)
     (subst (λ (v : View). IsNewest 1 z.0 v) e z.2))
 
-takes_outside : (p q : Place) → TakesPin no_frames 1 calm calm p q → ⊥
+takes_outside : (p q : Place) → TakesPinAt no_frames 1 calm calm p q → ⊥
 takes_outside p q t = let e : 5 + 0 < 0 = (t.won refl).3 0 (lit< tt) in omega (arith, e)
 
 takes_none : (p q : Place) → p.me.0 ≡ part → q.me.0 ≡ with_look 1 calm part
-    → TakesPin two 1 calm calm p q → ⊥
+    → TakesPinAt two 1 calm calm p q → ⊥
 takes_none p q e f t = eqb-false 0 1 refl
     (ap (λ (v : View). length v.pins) (sym f ∙ ap (λ (m : Sat). m.0) (t.won refl).4.2)
     ∙ ap (λ (v : View). suc (length v.pins)) e)
 
 loses_unlooked : (p q : Place) → p.me.0 ≡ part → q.me.0 ≡ part
-    → TakesPin two 1 calm moving p q → ⊥
+    → TakesPinAt two 1 calm moving p q → ⊥
 loses_unlooked p q e f t = eqb-false 0 1 refl
     (ap looks_of (sym f ∙ ap (λ (m : Sat). m.0) (t.lost (λ h. eqb-false moving calm refl h)).2
     ∙ ap (with_look 1 moving) e))

@@ -10,7 +10,7 @@ use Rattle.cb_rule.specs.Lists.{Each}
 use Rattle.cb_rule.specs.Steps.{IsNewest, look_at, with_look}
 use Rattle.cb_record.specs.Parts.{Part, grown, nothing_more, sum}
 use Rattle.cb_shared.specs.declared.answers.WriteAnswer.TheVariants as place
-use Rattle.cb_shared.specs.Calls.{AtNone, AtThis, IsCalled, IsNoReply, IsWornOut, ReadGives, ReadTries, Stops, TurnEnds, TurnTries, WriteEnds, WriteFinds, WriteTries, the_handle, worn_once}
+use Rattle.cb_shared.specs.Calls.{AtNone, AtThis, IsCalled, IsNoReply, IsWornOut, ReadGives, ReadTries, StopsInVain, TurnEnds, TurnTries, WriteCallEnds, WriteFinds, WriteTries, the_handle, worn_once}
 use Rattle.cb_shared.specs.Reading.{looked, looked_freed, looked_twice}
 use Rattle.cb_shared.specs.Writing.{last_seen}
 use Rattle.cb_shared.proofs.WorkedGround.{a_stand, away, calm, freed_last, has_last, knows_made, last_is_freed, moving, newest_made, part, pinned, shared_part, two, whole, word_in}
@@ -135,7 +135,7 @@ a_race_is_no_reply = tt
 an_end_is_one : IsNoReply (place.Range 8) → ⊥
 an_end_is_one x = x
 
-ends_in_place : WriteEnds two 1 8 (12 ∷ []) (answer.Range 8) part (looked 1 calm)
+ends_in_place : WriteCallEnds two 1 8 (12 ∷ []) (answer.Range 8) part (looked 1 calm)
 ends_in_place = inl (place.Range 8, refl, finds_its_end)
 
 ends_moving : (v : View) (d : Part) → TurnEnds two (jobs.Free (the_handle 1)) answer.Moving v d → ⊥
@@ -149,7 +149,7 @@ an_eviction_is_not : IsCalled jobs.Evict → ⊥
 an_eviction_is_not x = x
 
 -- ---- tries that came to nothing
-tried : Stops (AtThis 1) (jobs.Swap (the_handle 1)) part (with_look 1 moving part)
+tried : StopsInVain (AtThis 1) (jobs.Swap (the_handle 1)) part (with_look 1 moving part)
 tried = (
   looked 1 moving,
   record {
@@ -163,7 +163,7 @@ tried = (
   refl,
 )
 
-tried_and_pinned : Stops (AtThis 1) (jobs.Swap (the_handle 1)) part (record part { pins = a_stand ∷ [] }) → ⊥
+tried_and_pinned : StopsInVain (AtThis 1) (jobs.Swap (the_handle 1)) part (record part { pins = a_stand ∷ [] }) → ⊥
 tried_and_pinned (d, x, is) = eqb-false 1 0 refl (ap (λ (v : View). length v.pins) is)
 
 -- a make looks at no object
@@ -171,7 +171,7 @@ no_look : (ls : List Look) → Each (λ (l : Look). ⊥) ls → length (ls ++ []
 no_look [] each = refl
 no_look (l ∷ ls) each = absurd (each.0)
 
-made_and_looked : Stops AtNone (jobs.Make (10 ∷ [])) part (with_look 1 calm part) → ⊥
+made_and_looked : StopsInVain AtNone (jobs.Make (10 ∷ [])) part (with_look 1 calm part) → ⊥
 made_and_looked (d, x, is) = eqb-false 1 0 refl (ap (λ (v : View). length v.looks) is
     ∙ ap (λ (e : Part). length (e.looks ++ [])) x.part ∙ no_look x.looks x.at)
 

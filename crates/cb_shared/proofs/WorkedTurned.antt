@@ -15,7 +15,7 @@ use Rattle.cb_world.specs.Shown.{version_at}
 use Rattle.cb_world.specs.Written.{entry}
 use Rattle.cb_world.specs.FarState.{FarState}
 use Rattle.cb_core.specs.Turned.{done, worn}
-use Rattle.cb_core.specs.TurnLeaves.{IsNext}
+use Rattle.cb_core.specs.TurnLeaves.{IsOneTurnOn}
 use Rattle.cb_rule.specs.declared.turn.Turn.{Turn}
 use Rattle.cb_rule.specs.declared.view.Seen.{Seen}
 use Rattle.cb_rule.specs.declared.view.View.{View}
@@ -120,9 +120,9 @@ changed = record refused { gave = record refused.took { first = 4 } }
 
 to_another_state : Turned answer.Worn part (with_turn changed part) → ⊥
 to_another_state x =
-    no_next (subst (λ (t : Turn). IsNext t.took t.gave) (sym (is_first _ _ x)) x.next)
+    no_next (subst (λ (t : Turn). IsOneTurnOn t.took t.gave) (sym (is_first _ _ x)) x.next)
   where
-    no_next : IsNext changed.took changed.gave → ⊥
+    no_next : IsOneTurnOn changed.took changed.gave → ⊥
     no_next (inl few) = let n = few.0 in omega (arith, n)
     no_next (inr same) = eqb-false 4 3 refl (ap (λ (f : FarState). f.first) same.1)
 

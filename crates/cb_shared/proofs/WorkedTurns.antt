@@ -23,7 +23,7 @@ use Rattle.cb_rule.specs.Lists.{Has}
 use Rattle.cb_rule.specs.Steps.{AreNew, Knows, look_at, opener}
 use Rattle.cb_record.specs.Parts.{Part, grown, nothing_more}
 use Rattle.cb_shared.specs.Trying.{newest_tries, tries_of}
-use Rattle.cb_shared.specs.Turning.{AreLooksAt, CountsPins, Did, JobReads, KnowsOf, PinsTold, ReadsByPin, Slate, TellsNoPin, TurnAdds, TurnBy, freed_of, held_by, made_by, object_of, slate_run, turn_part}
+use Rattle.cb_shared.specs.Turning.{AreLooksAt, CountsPins, Did, JobReads, KnowsOf, PinsTold, ReadsByPin, Slate, TellsNoPin, TurnAdds, TurnBy, freed_of, held_by, made_by_turn, object_of, slate_run, turn_part}
 use Rattle.cb_shared.proofs.WorkedGround.{a_stand, freed_last, has_last, knows_made, last_is_freed, made, not_after, not_new, owner, part, part_pinned, shared_part, two, whole, whole_pinned}
 
 abbrev one : Handle
@@ -120,10 +120,10 @@ knows_not (inr (s, has, at)) = has
 evicts_any : KnowsOf job.Evict part
 evicts_any = tt
 
-made_one : made_by (job.Make (10 ∷ [])) (Some (answer.Made one 3)) ≡ 1 ∷ []
+made_one : made_by_turn (job.Make (10 ∷ [])) (Some (answer.Made one 3)) ≡ 1 ∷ []
 made_one = refl
 
-made_none : made_by (job.Read one) (Some (answer.Made one 3)) ≡ []
+made_none : made_by_turn (job.Read one) (Some (answer.Made one 3)) ≡ []
 made_none = refl
 
 freed_one : freed_of (job.Free one) (Ok answer.Freed) ≡ Some 1

@@ -21,7 +21,7 @@ use Rattle.cb_rule.proofs.Laws.{stood_empty}
 use Rattle.cb_shared.specs.declared.reading.ReadAnswer.TheVariants as found
 use Rattle.cb_shared.specs.Calls.{the_handle}
 use Rattle.cb_shared.specs.Places.{Place}
-use Rattle.cb_shared.specs.UnderLock.{CameThere, IsBeginning, IsBelow, IsEnding, IsNoRead, IsReplyTo, IsTriedAgain, Takes}
+use Rattle.cb_shared.specs.UnderLock.{CameThere, IsBeginning, IsBelow, IsEnding, IsNoRead, IsReplyTo, IsTriedAgain, TakesLock}
 use Rattle.cb_shared.proofs.WorkedGround.{made, part, two}
 
 accepted : IsAccepted two
@@ -153,7 +153,7 @@ has_taken = record {
 }
 
 takes : (p q : Place) → p.me ≡ before → q.table_id ≡ p.table_id → q.id ≡ p.id → q.me ≡ holder
-    → Takes 2 p q
+    → TakesLock 2 p q
 takes p q at table id me = (
   table,
   id,
@@ -161,13 +161,13 @@ takes p q at table id me = (
       (subst (λ (m : Sat). HasTaken before 2 m) (sym me) has_taken),
 )
 
-takes_at_another_table : (p q : Place) → (q.table_id ≡ p.table_id → ⊥) → Takes 2 p q → ⊥
+takes_at_another_table : (p q : Place) → (q.table_id ≡ p.table_id → ⊥) → TakesLock 2 p q → ⊥
 takes_at_another_table p q n t = n t.0
 
-takes_as_another_seat : (p q : Place) → (q.id ≡ p.id → ⊥) → Takes 2 p q → ⊥
+takes_as_another_seat : (p q : Place) → (q.id ≡ p.id → ⊥) → TakesLock 2 p q → ⊥
 takes_as_another_seat p q n t = n t.1
 
-takes_nothing : (p q : Place) → q.me ≡ before → Takes 2 p q → ⊥
+takes_nothing : (p q : Place) → q.me ≡ before → TakesLock 2 p q → ⊥
 takes_nothing p q me t =
     true≢false (sym (ap (λ (m : Sat). m.0.holds) (sym me ∙ t.2.taken)))
 

@@ -11,7 +11,7 @@ use Rattle.cb_world.specs.FarState.{FarState}
 use Rattle.cb_world.specs.Played.{Agree}
 use Rattle.cb_world.specs.Written.{entry}
 use Rattle.cb_core.specs.Turned.{done, worn}
-use Rattle.cb_core.specs.TurnLeaves.{IsNext}
+use Rattle.cb_core.specs.TurnLeaves.{IsOneTurnOn}
 use Rattle.cb_rule.specs.declared.turn.Turn.{Turn}
 use Rattle.cb_rule.specs.declared.view.Seen.{Seen}
 use Rattle.cb_rule.specs.declared.view.View.{View}
@@ -35,7 +35,7 @@ not_done : (s : Shown) (es : List Event) (gave : FarState)
 not_done s es gave (worn end is same ran) = absurd cc
 not_done s es gave (done few does) = omega (arith, few)
 
-not_next : IsNext (far last) (far 3) → ⊥
+not_next : IsOneTurnOn (far last) (far 3) → ⊥
 not_next (inl few) = let n = few.0 in omega (arith, n)
 not_next (inr same) = eqb-false 3 last refl (ap (λ (f : FarState). f.counts.turns) same.1)
 
@@ -277,7 +277,7 @@ module _ (p q : Place) where
   turns_to_another_end t = not_done _ _ _ t.did
 
   turns_uncounted : first_gave q.me.0.turns ≡ far 3 → Turns p q → ⊥
-  turns_uncounted is t = not_next (subst (λ (f : FarState). IsNext (far last) f)
+  turns_uncounted is t = not_next (subst (λ (f : FarState). IsOneTurnOn (far last) f)
       (sym (ap (λ (m : Sat). first_gave m.0.turns) t.at.2) ∙ is) t.next)
 
   turns_and_writes : p.me.0.written ≡ [] → q.me.0.written ≡ made ∷ [] → Turns p q → ⊥

@@ -2,11 +2,11 @@
 use Rattle.std.proofs.Common.{◌≡◌, ◌⊎◌, ℕ, zero, suc, ◌+◌, ◌<◌, ◌≤◌, List, [], ◌∷◌, length, get_or, refl, sym, ap, ◌∙◌, subst, inl, inr, ⊎_elim, lit<, lit≤, arith}
 use Rattle.std.proofs.lemmas.Bool.{eqb-false}
 use Rattle.cb_ptr.specs.Word.{len_of, pins_of, state_number}
-use Rattle.cb_world.specs.Memory.{byte_at}
+use Rattle.cb_world.specs.Memory.{memory_byte}
 use Rattle.cb_world.specs.Write.{IsWrite}
 use Rattle.cb_world.specs.Written.{entry}
 use Rattle.cb_rule.specs.declared.view.View.{View}
-use Rattle.cb_rule.specs.Steps.{HasLast, IsNewest, version_seen, with_freed, with_look}
+use Rattle.cb_rule.specs.Steps.{HasLast, IsNewest, version_seen, with_freed_seen, with_look}
 use Rattle.cb_shared.specs.declared.answers.WriteAnswer.TheVariants.{Ok, Freed, NotHere, Moving, Range, Pinned, Worn, Raced}
 use Rattle.cb_shared.specs.Writing.{IsPastEnd, IsPinnedSo, IsWorn, IsWrittenHere, WriteGives, last_seen}
 use Rattle.cb_shared.proofs.WorkedGround.{a_stand, away, calm, freed_last, has_last, last_is_freed, last_look, last_state, made, moving, newest_later, newest_made, newest_whole, not_foreign, not_second, owner, part, pinned, shared_part, version_in, whole, words_in}
@@ -22,11 +22,12 @@ pinning = record part { pins = a_stand ∷ [] }
 pub write_it : IsWrite (2826 ∷ []) 1 (12 ∷ []) (3082 ∷ [])
 write_it = record { sized = refl; inside = inside; outside = outside }
   where
-    inside : (i : ℕ) → i < 1 → byte_at (3082 ∷ []) (1 + i) ≡ get_or (12 ∷ []) i 0
+    inside : (i : ℕ) → i < 1 → memory_byte (3082 ∷ []) (1 + i) ≡ get_or (12 ∷ []) i 0
     inside zero below = refl
     inside (suc i) below = absurd (omega (arith, below))
 
-    outside : (p : ℕ) → p < 8 → (p < 1) ⊎ (2 ≤ p) → byte_at (3082 ∷ []) p ≡ byte_at (2826 ∷ []) p
+    outside : (p : ℕ) → p < 8 → (p < 1) ⊎ (2 ≤ p)
+        → memory_byte (3082 ∷ []) p ≡ memory_byte (2826 ∷ []) p
     outside zero below side = refl
     outside (suc zero) below (inl before) = absurd (omega (arith, before))
     outside (suc zero) below (inr behind) = absurd (omega (arith, behind))
@@ -108,7 +109,7 @@ past_the_end p =
 
 not_the_bytes : IsWrittenHere 1 1 (12 ∷ []) 4 part (changed calm 4 (2826 ∷ []) part) → ⊥
 not_the_bytes p = eqb-false 11 12 refl
-    (ap (λ (v : View). byte_at (words_in v.written) 1) p.left ∙ p.write.inside 0 (lit< tt))
+    (ap (λ (v : View). memory_byte (words_in v.written) 1) p.left ∙ p.write.inside 0 (lit< tt))
 
 no_entry : IsWrittenHere 1 1 (12 ∷ []) 4 part (with_look 1 calm (with_look 1 calm part)) → ⊥
 no_entry p = eqb-false 1 2 refl (ap (λ (v : View). length v.written) p.left)
@@ -219,7 +220,7 @@ fewer_than_its_own g = let e : 2 ≤ 1 = g.3 in omega (arith, e)
 by_write : WriteGives 1 1 (12 ∷ []) (Ok 4) part (changed calm 4 (3082 ∷ []) part)
 by_write = is_written
 
-by_freed : WriteGives 1 1 (12 ∷ []) Freed part (with_freed 1 4 0 part)
+by_freed : WriteGives 1 1 (12 ∷ []) Freed part (with_freed_seen 1 4 0 part)
 by_freed = (0, 4, refl, newest_later, refl)
 
 by_place : WriteGives 1 1 (12 ∷ []) NotHere part (with_look 1 away part)

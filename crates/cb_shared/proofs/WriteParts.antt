@@ -10,7 +10,7 @@ use Rattle.cb_rule.specs.declared.view.View.{View}
 use Rattle.cb_rule.specs.Steps.{look_at, with_look}
 use Rattle.cb_shared.specs.declared.answers.WriteAnswer.{WriteAnswer}
 use Rattle.cb_shared.specs.declared.answers.WriteAnswer.TheVariants as place
-use Rattle.cb_shared.specs.Calls.{AtNone, AtThis, IsNoReply, SaysAs, Stops, TurnTries, WriteAnswers, WriteEnds, WriteFinds, WriteTries, the_handle, worn_once, written_once}
+use Rattle.cb_shared.specs.Calls.{AtNone, AtThis, IsNoReply, SaysAs, StopsInVain, TurnTries, WriteAnswers, WriteCallEnds, WriteFinds, WriteTries, the_handle, worn_once, written_once}
 use Rattle.cb_record.specs.Parts.{Part, Grows, grown}
 use Rattle.cb_shared.specs.Reading.{looked, looked_freed, looked_twice}
 use Rattle.cb_shared.specs.Writing.{WriteGives, last_seen}
@@ -90,7 +90,7 @@ write_says c h at bytes a r v w says x = let z = write_finds h at bytes a v w x 
 
 pub write_vain : (h at : ℕ) (bytes : List ℕ) (job : Job) (a : WriteAnswer) (v w : View)
     → IsNoReply a → (a ≡ place.NotHere → ⊥) → WriteGives h at bytes a v w
-    → Stops (AtThis h) job v w
+    → StopsInVain (AtThis h) job v w
 write_vain h at bytes job (place.Ok version) v w none here x = absurd none
 write_vain h at bytes job place.Freed v w none here x = absurd none
 write_vain h at bytes job place.NotHere v w none here x = absurd (here refl)
@@ -123,8 +123,8 @@ write_tried c h at bytes a (Some r) v w says none here x =
 
 pub away_write_stops : (h at : ℕ) (bytes : List ℕ) (a : WriteAnswer) (v w u : View)
     → a ≡ place.NotHere → WriteGives h at bytes a v w
-    → Stops AtNone (jobs.Write (the_handle h) at bytes) w u
-    → Stops (AtThis h) (jobs.Write (the_handle h) at bytes) v u
+    → StopsInVain AtNone (jobs.Write (the_handle h) at bytes) w u
+    → StopsInVain (AtThis h) (jobs.Write (the_handle h) at bytes) v u
 away_write_stops h at bytes a v w u is x stops =
     let y = subst (λ (z : WriteAnswer). WriteGives h at bytes z v w) is x in
     look_stops h y.0 (jobs.Write (the_handle h) at bytes) v w u (looked h y.0) refl
@@ -141,17 +141,18 @@ away_write_tries c h at bytes a (Some r) v w u is x (e, ends, next) =
 
 -- ---- the loop round the tries
 pub write_again : (c : Config) (h at : ℕ) (bytes : List ℕ) (o : Option Reply) (v w u : View)
-    → o ≡ None → Stops (AtThis h) (jobs.Write (the_handle h) at bytes) v w
-    → WriteTries c h at bytes o w u → Stops (AtThis h) (jobs.Write (the_handle h) at bytes) v u
+    → o ≡ None → StopsInVain (AtThis h) (jobs.Write (the_handle h) at bytes) v w
+    → WriteTries c h at bytes o w u
+    → StopsInVain (AtThis h) (jobs.Write (the_handle h) at bytes) v u
 write_again c h at bytes o v w u is x y =
     stops_then (AtThis h) (jobs.Write (the_handle h) at bytes) v w u x
     (subst (λ (z : Option Reply). WriteTries c h at bytes z w u) is y)
 
 pub write_at_last : (c : Config) (h at : ℕ) (bytes : List ℕ) (o : Option Reply) (r : Reply)
-    (v w u : View) → o ≡ Some r → Stops (AtThis h) (jobs.Write (the_handle h) at bytes) v w
+    (v w u : View) → o ≡ Some r → StopsInVain (AtThis h) (jobs.Write (the_handle h) at bytes) v w
     → WriteTries c h at bytes o w u → WriteAnswers c h at bytes r v u
 write_at_last c h at bytes o r v w u is (d, x, grew) y =
     let z : WriteTries c h at bytes (Some r) w u =
     subst (λ (q : Option Reply). WriteTries c h at bytes q w u) is y in
-    ends_after (AtThis h) (jobs.Write (the_handle h) at bytes) (WriteEnds c h at bytes r)
+    ends_after (AtThis h) (jobs.Write (the_handle h) at bytes) (WriteCallEnds c h at bytes r)
     (λ (q : View). q) v w u d z.0 x grew z.1 z.2

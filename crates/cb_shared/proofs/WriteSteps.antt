@@ -9,7 +9,7 @@ use Rattle.cb_rule.specs.declared.view.Seen.{Seen}
 use Rattle.cb_rule.specs.declared.view.View.{View}
 use Rattle.cb_rule.specs.Seats.{pins_on}
 use Rattle.cb_rule.specs.Slot.{Sat}
-use Rattle.cb_rule.specs.Steps.{HasLast, IsNewest, held_at, with_freed, with_look}
+use Rattle.cb_rule.specs.Steps.{HasLast, IsNewest, held_at, with_freed_seen, with_look}
 use Rattle.cb_shared.specs.declared.answers.WriteAnswer.{WriteAnswer}
 use Rattle.cb_shared.specs.declared.answers.WriteAnswer.TheVariants.{Ok, Freed, NotHere, Moving, Range, Pinned, Worn, Raced}
 use Rattle.cb_shared.specs.declared.setup.Setup.{Setup}
@@ -124,7 +124,7 @@ pub refused_writes : (h w at : ℕ) (bytes : List ℕ) (a : WriteAnswer) (p q : 
     → IsWriteRefusal at (length bytes) w a → WriteGives h at bytes a p.me.0 q.me.0
 refused_writes h w at bytes (Ok n) p q g why = absurd why
 refused_writes h w at bytes Freed p q g why = let f = g.freed why in
-    (w, f.0, why, f.1, view_of p q (with_freed h f.0 w p.me.0) f.2)
+    (w, f.0, why, f.1, view_of p q (with_freed_seen h f.0 w p.me.0) f.2)
 refused_writes h w at bytes NotHere p q g why =
     (w, why, view_of p q (with_look h w p.me.0) (g.other (λ e. far_empty (sym why ∙ e))))
 refused_writes h w at bytes Moving p q g why =

@@ -23,7 +23,7 @@ use Rattle.cb_record.specs.Deeds.{deed, happened}
 use Rattle.cb_record.specs.Parts.{Part, Grows, grown, nothing_more, sum}
 pub use Rattle.cb_shared.specs.Trying.{is_to_try_again, may_come_loose, newest_tries}
 use Rattle.cb_shared.specs.Reading.{FindsGone, FindsOther, FindsWord, IsReadHere, looked, looked_twice}
-use Rattle.cb_shared.specs.Turning.{TurnAdds, made_by, with_own}
+use Rattle.cb_shared.specs.Turning.{TurnAdds, made_by_turn, with_own}
 use Rattle.cb_shared.specs.Writing.{IsPastEnd, IsPinnedSo, IsRoomFor, last_seen}
 
 -- why an object can't be brought in
@@ -81,8 +81,8 @@ abbrev pub AtNone : ℕ → Type 0
 AtNone h = ⊥
 
 -- there was no memory: the record grew by such tries alone
-abbrev pub Stops : (ℕ → Type 0) → Job → View → View → Type 0
-Stops on job v w = (d : Part) × IsInVain on job d × Grows v d w
+abbrev pub StopsInVain : (ℕ → Type 0) → Job → View → View → Type 0
+StopsInVain on job v w = (d : Part) × IsInVain on job d × Grows v d w
 
 -- tries that came to nothing, and then one that ends so
 pub record EndsAtLast (on : ℕ → Type 0) (job : Job) (ends : View → Part → Type 0) (v : View)
@@ -107,10 +107,10 @@ pub record AsksFor (c : Config) (job : Job) (r : Reply) (h : ℕ) (v : View) (d 
 
 -- The last try of a read: under a pin of its own, or a look that finds the object freed, or a turn
 -- that can't bring it in.
-abbrev pub ReadEnds : Config → ℕ → Reply → View → Part → Type 0
-ReadEnds c h (answer.Bytes version bytes) v d = IsReadHere h version bytes v d
-ReadEnds c h answer.Freed v d = FindsGone h v d
-ReadEnds c h r v d = AsksFor c (jobs.Swap (the_handle h)) r h v d
+abbrev pub ReadCallEnds : Config → ℕ → Reply → View → Part → Type 0
+ReadCallEnds c h (answer.Bytes version bytes) v d = IsReadHere h version bytes v d
+ReadCallEnds c h answer.Freed v d = FindsGone h v d
+ReadCallEnds c h r v d = AsksFor c (jobs.Swap (the_handle h)) r h v d
 
 -- a look and an exchange that claimed the object at this word, and the entry that was written
 abbrev pub written_once : ℕ → ℕ → ℕ → List ℕ → List ℕ → Part
@@ -180,36 +180,36 @@ IsNoReply (place.Raced saw found) = Unit {0}
 IsNoReply other = ⊥
 
 -- The last try of a write: in place, or by a turn where a look found the object far.
-abbrev pub WriteEnds : Config → ℕ → ℕ → List ℕ → Reply → View → Part → Type 0
-WriteEnds c h at bytes r v d =
+abbrev pub WriteCallEnds : Config → ℕ → ℕ → List ℕ → Reply → View → Part → Type 0
+WriteCallEnds c h at bytes r v d =
     ((a : WriteAnswer) × SaysAs a r × WriteFinds h at bytes a v d)
     ⊎ AsksFor c (jobs.Write (the_handle h) at bytes) r h v d
 
 -- the record after a read, a write, and a make or a free by turns
 abbrev pub ReadGives : Config → ℕ → Reply → View → View → Type 0
 ReadGives c h r v w = (d : Part)
-    × EndsAtLast (AtThis h) (jobs.Swap (the_handle h)) (ReadEnds c h r) v d × Grows v d w
+    × EndsAtLast (AtThis h) (jobs.Swap (the_handle h)) (ReadCallEnds c h r) v d × Grows v d w
 
 abbrev pub WriteAnswers : Config → ℕ → ℕ → List ℕ → Reply → View → View → Type 0
 WriteAnswers c h at bytes r v w = (d : Part)
-    × EndsAtLast (AtThis h) (jobs.Write (the_handle h) at bytes) (WriteEnds c h at bytes r) v d
+    × EndsAtLast (AtThis h) (jobs.Write (the_handle h) at bytes) (WriteCallEnds c h at bytes r) v d
     × Grows v d w
 
 -- a handle that was made is the pass's own
 abbrev pub TurnGives : Config → Job → Reply → View → View → Type 0
 TurnGives c job r v w = (d : Part) × EndsAtLast AtNone job (TurnEnds c job r) v d
-    × (w ≡ with_own (made_by job (Some r)) (grown d v))
+    × (w ≡ with_own (made_by_turn job (Some r)) (grown d v))
 
 -- what one try comes to: it ends so, or came to nothing
 abbrev pub TurnTries : Config → Job → Option Reply → View → View → Type 0
 TurnTries c job (Some r) v w =
-    (d : Part) × TurnEnds c job r v d × (w ≡ with_own (made_by job (Some r)) (grown d v))
-TurnTries c job None v w = Stops AtNone job v w
+    (d : Part) × TurnEnds c job r v d × (w ≡ with_own (made_by_turn job (Some r)) (grown d v))
+TurnTries c job None v w = StopsInVain AtNone job v w
 
 abbrev pub ReadTries : Config → ℕ → Option Reply → View → View → Type 0
-ReadTries c h (Some r) v w = (d : Part) × ReadEnds c h r v d × Grows v d w
-ReadTries c h None v w = Stops (AtThis h) (jobs.Swap (the_handle h)) v w
+ReadTries c h (Some r) v w = (d : Part) × ReadCallEnds c h r v d × Grows v d w
+ReadTries c h None v w = StopsInVain (AtThis h) (jobs.Swap (the_handle h)) v w
 
 abbrev pub WriteTries : Config → ℕ → ℕ → List ℕ → Option Reply → View → View → Type 0
-WriteTries c h at bytes (Some r) v w = (d : Part) × WriteEnds c h at bytes r v d × Grows v d w
-WriteTries c h at bytes None v w = Stops (AtThis h) (jobs.Write (the_handle h) at bytes) v w
+WriteTries c h at bytes (Some r) v w = (d : Part) × WriteCallEnds c h at bytes r v d × Grows v d w
+WriteTries c h at bytes None v w = StopsInVain (AtThis h) (jobs.Write (the_handle h) at bytes) v w

@@ -51,7 +51,7 @@ pub record IsNextOf (x : Held) (w : ℕ) : Type 0 where
       × IsWrite x.old at bytes x.memory
 
 -- the word is the one that was claimed, and nothing is stored
-pub record IsAsBefore (x : Held) (w : ℕ) : Type 0 where
+pub record IsAsClaimed (x : Held) (w : ℕ) : Type 0 where
   pub word : w ≡ x.word
   pub version : x.stamp ≡ x.version
   pub memory : x.memory ≡ x.old

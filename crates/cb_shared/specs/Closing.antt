@@ -22,7 +22,7 @@ pub record IsClosedBy (s : Shared) (p : Pass) (w : WorldState) (seal : Seal) : T
 
 -- Other passes are out, exactly where the share is below the whole one; or there is no memory. The
 -- runtime and the pass are as they were.
-abbrev pub Refuses : Shared → Pass → CloseRefused → Type 0
-Refuses s p (Out shared pass share) =
+abbrev pub RefusesToClose : Shared → Pass → CloseRefused → Type 0
+RefusesToClose s p (Out shared pass share) =
     (shared ≡ s) × (pass ≡ p) × (share ≡ (record_of p).share) × (share < 64)
-Refuses s p (NoMemory shared pass) = (shared ≡ s) × (pass ≡ p) × ((record_of p).share ≡ 64)
+RefusesToClose s p (NoMemory shared pass) = (shared ≡ s) × (pass ≡ p) × ((record_of p).share ≡ 64)

@@ -8,7 +8,7 @@ use Rattle.cb_rule.specs.declared.view.View.{View}
 use Rattle.cb_rule.specs.Lists.{Each}
 use Rattle.cb_rule.specs.Own.{IsAlone}
 use Rattle.cb_rule.specs.Seats.{pins_on}
-use Rattle.cb_rule.specs.Steps.{HasLast, IsInside, IsNewest, with_freed, with_look, with_pin}
+use Rattle.cb_rule.specs.Steps.{HasLast, IsInside, IsNewest, with_freed_seen, with_look, with_pin}
 use Rattle.cb_shared.specs.Places.{Place, Moves}
 
 -- the record wrote the object's last entry, of this length, where no other pass has the object
@@ -20,7 +20,7 @@ IsLastAlone h len v = IsAlone h v → HasLast h len v
 -- seat wrote its last entry.
 pub record Glances (h w : ℕ) (p q : Place) : Type 0 where
   pub freed : state_of w ≡ state.Empty → (v : ℕ) × IsNewest h v p.me.0
-      × Moves p q (with_freed h v w p.me.0)
+      × Moves p q (with_freed_seen h v w p.me.0)
   pub other : state_of w ≢ state.Empty → Moves p q (with_look h w p.me.0)
   pub counted : state_of w ≡ state.Here → (pins_on h p.me.0 ≤ pins_of w)
       × (IsAlone h p.me.0 → pins_of w ≡ pins_on h p.me.0)
@@ -28,7 +28,7 @@ pub record Glances (h w : ℕ) (p q : Place) : Type 0 where
 
 -- A pin was taken at the word that was expected, of the newest version, which is read; or another
 -- word was found, and looked at.
-pub record TakesPin (c : Config) (h saw w : ℕ) (p q : Place) : Type 0 where
+pub record TakesPinAt (c : Config) (h saw w : ℕ) (p q : Place) : Type 0 where
   pub won : w ≡ saw → (v : ℕ) × (words : List ℕ) × IsNewest h v p.me.0 × IsInside c saw
       × Moves p q (with_pin h saw v words p.me.0)
   pub lost : w ≢ saw → Moves p q (with_look h w p.me.0)

@@ -7,12 +7,12 @@ use Rattle.cb_types.specs.declared.reply.Reply.{Reply}
 use Rattle.cb_types.specs.declared.reply.Reply.TheVariants as answer
 use Rattle.cb_rule.specs.declared.view.View.{View}
 use Rattle.cb_rule.specs.LockSteps.{took}
-use Rattle.cb_rule.specs.Slot.{Sat, Slot}
+use Rattle.cb_rule.specs.Slot.{LockSlot, Sat}
 use Rattle.cb_rule.specs.Steps.{Knows}
 
 -- an exchange of the lock's word that takes the lock, or finds another word, as the rule tells it.
 -- Where it takes the lock, it is known which version makes give.
-abbrev pub took_first : ℕ → Step Slot → Sat → ℕ → Sat → Type 0
+abbrev pub took_first : ℕ → Step LockSlot → Sat → ℕ → Sat → Type 0
 took_first first st m n m' = took st m n m' × (n ≡ st.first → m'.0.known.first ≡ first)
 
 -- A make that is answered Made gave this first version, to an object that the record did not know.

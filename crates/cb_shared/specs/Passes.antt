@@ -56,7 +56,7 @@ pub record IsPassOf (s : Shared) (p : Pass) : Type 0 where
 
 -- the runtime and its first pass at the start: makes give the version first, and the far state is
 -- that of the empty world
-pub record IsBegun (first : ℕ) (c : Config) (s : Shared) (p : Pass) : Type 0 where
+pub record IsRuntimeBegun (first : ℕ) (c : Config) (s : Shared) (p : Pass) : Type 0 where
   pub config : s.config ≡ c
   pub first_is : s.board.shared.key.first ≡ first
   pub of : IsPassOf s p

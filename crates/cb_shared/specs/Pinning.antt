@@ -3,7 +3,7 @@ use Rattle.std.specs.Prelude.{◌≡◌, ◌≢◌, ℕ, List, length}
 use Rattle.cb_ptr.specs.declared.word.State.TheVariants as state
 use Rattle.cb_ptr.specs.Word.{state_of, len_of, place_of, pins_of}
 use Rattle.cb_rule.specs.declared.view.View.{View}
-use Rattle.cb_rule.specs.Steps.{IsNewest, with_freed, with_look, with_pin}
+use Rattle.cb_rule.specs.Steps.{IsNewest, with_freed_seen, with_look, with_pin}
 use Rattle.cb_shared.specs.declared.answers.PinAnswer.{PinAnswer}
 use Rattle.cb_shared.specs.declared.answers.PinAnswer.TheVariants.{Pinned, ScopeFull, Freed, NotHere, Moving, Crowded, Raced}
 use Rattle.cb_shared.specs.declared.pass.Pin.{Pin}
@@ -15,14 +15,14 @@ LooksOnce h v w P = (n : ℕ) × P n × (w ≡ with_look h n v)
 -- it looked, and found the object freed: its last entry is read
 abbrev pub FindsFreed : ℕ → View → View → Type 0
 FindsFreed h v w = (n : ℕ) × (version : ℕ) × (state_of n ≡ state.Empty) × IsNewest h version v
-    × (w ≡ with_freed h version n v)
+    × (w ≡ with_freed_seen h version n v)
 
 -- it looked, and its exchange found another word
 abbrev pub LoosesRace : ℕ → ℕ → ℕ → View → View → Type 0
 LoosesRace h saw found v w = (found ≢ saw) × (w ≡ with_look h found (with_look h saw v))
 
 -- the object was pinned where it is: the pin has its newest version, which is read
-pub record IsPinned (h : ℕ) (p : Pin) (v w : View) : Type 0 where
+pub record IsPinnedHere (h : ℕ) (p : Pin) (v w : View) : Type 0 where
   pub word : ℕ
   pub words : List ℕ
   pub here : state_of word ≡ state.Here
@@ -42,7 +42,7 @@ pub record IsPinnedAt (h word : ℕ) (words : List ℕ) (p : Pin) (v w : View) :
 
 -- by the answer
 abbrev pub PinGives : ℕ → PinAnswer → View → View → Type 0
-PinGives h (Pinned p) v w = IsPinned h p v w
+PinGives h (Pinned p) v w = IsPinnedHere h p v w
 PinGives h ScopeFull v w = (length v.pins ≡ 16) × (w ≡ v)
 PinGives h Freed v w = FindsFreed h v w
 PinGives h NotHere v w = LooksOnce h v w (λ n. state_of n ≡ state.Far)

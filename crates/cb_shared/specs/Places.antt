@@ -7,13 +7,13 @@ use Rattle.cb_world.specs.declared.event.Event.{Event}
 use Rattle.cb_world.specs.Played.{Agrees}
 use Rattle.cb_rule.specs.declared.view.View.{View}
 use Rattle.cb_rule.specs.Rule.{AreSized}
-use Rattle.cb_rule.specs.Slot.{Slot}
+use Rattle.cb_rule.specs.Slot.{LockSlot}
 use Rattle.cb_rule.specs.Steps.{act}
 use Rattle.cb_rule.specs.Words.{base}
 use Rattle.cb_shared.specs.declared.setup.Setup.{Setup}
 
 abbrev pub Place : Type 0
-Place = Seat Slot View
+Place = Seat LockSlot View
 
 -- the same seat, with the view w
 abbrev pub Moves : Place → Place → View → Type 0

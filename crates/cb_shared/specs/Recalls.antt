@@ -8,7 +8,7 @@ use Rattle.cb_rule.specs.declared.turn.Turn.{Turn}
 use Rattle.cb_rule.specs.declared.view.View.{View}
 use Rattle.cb_rule.specs.Lists.{Has}
 use Rattle.cb_rule.specs.OwnStands.{OwnStands}
-use Rattle.cb_rule.specs.Slot.{Sat, Slot}
+use Rattle.cb_rule.specs.Slot.{LockSlot, Sat}
 use Rattle.cb_shared.specs.declared.runtime.Shared.{Shared}
 
 -- the version that makes give in the runtime
@@ -26,5 +26,5 @@ pub record Recalls (first : ℕ) (v : View) : Type 0 where
   pub makes : MakesFirst first v.turns
 
 -- a step that changes nothing, and tells so of the record
-abbrev pub recalled : ℕ → Step Slot → Sat → ℕ → Sat → Type 0
+abbrev pub recalled : ℕ → Step LockSlot → Sat → ℕ → Sat → Type 0
 recalled first st m n m' = (m' ≡ m) × Recalls first m.0

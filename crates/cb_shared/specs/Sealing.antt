@@ -12,14 +12,14 @@ abbrev pub sealed : WorldState → View → Sealed
 sealed w v = record { world = w; view = v }
 
 -- before anything is put under it: the empty world of a least configuration, and a blank record
-abbrev pub least : Config
-least = record { k = 1; r = 1; nodes = 2; frames = 1; room = 1; handles = 1; turns = 0 }
+abbrev pub least_config : Config
+least_config = record { k = 1; r = 1; nodes = 2; frames = 1; room = 1; handles = 1; turns = 0 }
 
 abbrev pub no_world : WorldState
-no_world = empty_world least
+no_world = empty_world least_config
 
 abbrev pub no_view : View
-no_view = blank least
+no_view = blank least_config
 
 abbrev pub unsealed : Sealed
 unsealed = sealed no_world no_view

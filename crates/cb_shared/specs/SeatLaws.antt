@@ -17,7 +17,7 @@ use Rattle.cb_rule.specs.History.{is_version}
 use Rattle.cb_rule.specs.Lists.{times, Each}
 use Rattle.cb_rule.specs.Rule.{AreSized}
 use Rattle.cb_rule.specs.Slot.{Sat}
-use Rattle.cb_rule.specs.Steps.{AreNew, FollowsLast, IsNew, TellsPins, act, acted}
+use Rattle.cb_rule.specs.Steps.{AreNew, FollowsLast, IsNewVersion, TellsPins, act, acted}
 use Rattle.cb_shared.specs.declared.setup.Setup.{Setup}
 use Rattle.cb_shared.specs.Places.{Moves, Place, HoldsLock, Acts}
 
@@ -95,7 +95,8 @@ each_behind P [] ys all = all
 each_behind P (x ∷ xs) ys all = each_behind P xs ys all.1
 
 -- what is new after events was so before them
-new_kept : (h n : ℕ) (es : List Event) (v : View) → IsNew h n (after_events es v) → IsNew h n v
+new_kept : (h n : ℕ) (es : List Event) (v : View) → IsNewVersion h n (after_events es v)
+    → IsNewVersion h n v
 new_kept h n es v new = let P : Entry → Type 0 = λ x. x.handle ≡ h → x.version < n in
     let more = written_by es v.known [] in record {
       written = each_behind P more (v.fresh ++ v.written)

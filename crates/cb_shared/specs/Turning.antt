@@ -14,7 +14,7 @@ use Rattle.cb_world.specs.Played.{Agree, played}
 use Rattle.cb_world.specs.Shown.{version_at}
 use Rattle.cb_core.specs.Parts.{Holding}
 use Rattle.cb_core.specs.Turned.{Stopped, Turned}
-use Rattle.cb_core.specs.TurnLeaves.{IsNext, OutcomeWrites}
+use Rattle.cb_core.specs.TurnLeaves.{IsOneTurnOn, OutcomeWrites}
 use Rattle.cb_core.specs.Unavailable.{TurnTells}
 use Rattle.cb_rule.specs.declared.turn.Turn.{Turn}
 use Rattle.cb_rule.specs.declared.view.Look.{Look}
@@ -93,9 +93,9 @@ made_in (Some (answer.Made handle version)) = handle.n ∷ []
 made_in reply = []
 
 -- the handle that a turn made
-abbrev pub made_by : Job → Option Reply → List ℕ
-made_by (Make bytes) reply = made_in reply
-made_by job reply = []
+abbrev pub made_by_turn : Job → Option Reply → List ℕ
+made_by_turn (Make bytes) reply = made_in reply
+made_by_turn job reply = []
 
 -- the object that a job reads, writes or frees
 abbrev pub object_of : Job → Option ℕ
@@ -154,9 +154,9 @@ freed_of job (Ok answer.Freed) = object_of job
 freed_of job r = None
 
 -- its freed entry is read after the turn, by a look at it
-abbrev pub FindsFreed : Option ℕ → View → Part → Type 0
-FindsFreed (Some h) v d = FindsAtLast h found.Freed v d
-FindsFreed None v d = d ≡ nothing_more
+abbrev pub FindsFreedAfter : Option ℕ → View → Part → Type 0
+FindsFreedAfter (Some h) v d = FindsAtLast h found.Freed v d
+FindsFreedAfter None v d = d ≡ nothing_more
 
 -- What a write, a free or a filter tells of its object, by the word that it found last. It is
 -- answered Pinned where there are some pins: as many at least as the pass has on it, and these alone
@@ -201,18 +201,18 @@ pub record TurnAdds (c : Config) (job : Job) (r : Result Reply NoMemory) (v : Vi
   pub reply_is : turn.reply ≡ answer_of r
   pub agree : Agree turn.start turn.acts
   pub did : Did c turn
-  pub next : IsNext turn.took turn.gave
+  pub next : IsOneTurnOn turn.took turn.gave
   pub wrote : OutcomeWrites job r more
   pub new : AreNew more v
   pub pins : CountsPins job r v
   pub made : (h : ℕ) → Knows h v → 1 ≤ version_at turn.start h
   pub tells : IfOk r (λ reply. TurnTells job turn.took reply)
   pub reads : JobReads job r v within
-  pub finds : FindsFreed (freed_of job r) (with_own (made_by job (answer_of r))
+  pub finds : FindsFreedAfter (freed_of job r) (with_own (made_by_turn job (answer_of r))
       (grown (turn_part turn more within nothing_more) v)) later
   pub part : d ≡ turn_part turn more within later
 
 -- A handle that it made is the pass's own, and all else of the record is as it was.
 abbrev pub TurnBy : Config → Job → Result Reply NoMemory → View → View → Type 0
 TurnBy c job r v w = (d : Part) × TurnAdds c job r v d
-    × (w ≡ with_own (made_by job (answer_of r)) (grown d v))
+    × (w ≡ with_own (made_by_turn job (answer_of r)) (grown d v))

@@ -15,7 +15,7 @@ use Rattle.cb_world.specs.FarState.{FarState}
 use Rattle.cb_world.specs.Played.{Agree, played}
 use Rattle.cb_core.specs.OnceHere.{IsThere}
 use Rattle.cb_core.specs.ReadTurn.{BroughtToRead, StoppedToRead}
-use Rattle.cb_core.specs.TurnLeaves.{IsNext, OutcomeWrites}
+use Rattle.cb_core.specs.TurnLeaves.{IsOneTurnOn, OutcomeWrites}
 use Rattle.cb_core.specs.Unavailable.{TurnTells}
 use Rattle.cb_rule.specs.declared.turn.Turn.{Turn}
 use Rattle.cb_rule.specs.declared.view.Seen.{Seen}
@@ -25,22 +25,22 @@ use Rattle.cb_rule.specs.Locking.{Stood}
 use Rattle.cb_rule.specs.LockSteps.{AddsTurn, HasTaken, gave_lock, took_lock, turn_of}
 use Rattle.cb_rule.specs.Own.{Make}
 use Rattle.cb_rule.specs.Rule.{AreSized}
-use Rattle.cb_rule.specs.Slot.{Slot}
+use Rattle.cb_rule.specs.Slot.{LockSlot}
 use Rattle.cb_rule.specs.Steps.{AreNew, Knows, acted}
 use Rattle.cb_shared.specs.declared.reading.ReadAnswer.{ReadAnswer}
 use Rattle.cb_shared.specs.declared.reading.ReadAnswer.TheVariants as found
 use Rattle.cb_record.specs.Parts.{Part, grown, nothing_more}
 use Rattle.cb_shared.specs.Places.{Moves, Place}
 use Rattle.cb_shared.specs.SeatLaws.{Runs}
-use Rattle.cb_shared.specs.Turning.{CountsPins, Did, DidAs, FindsAtLast, FindsFreed, JobReads, Tries, answer_of, held_by, made_by, slate_run, slate_shows, turn_part, with_own}
+use Rattle.cb_shared.specs.Turning.{CountsPins, Did, DidAs, FindsAtLast, FindsFreedAfter, JobReads, Tries, answer_of, held_by, made_by_turn, slate_run, slate_shows, turn_part, with_own}
 
 -- the same seat, with this view and these slots in hand
-abbrev pub IsAt : Place → Place → View → List (ℕ × Slot) → Type 0
+abbrev pub IsAt : Place → Place → View → List (ℕ × LockSlot) → Type 0
 IsAt p q w slots = (q.table_id ≡ p.table_id) × (q.id ≡ p.id) × (q.me ≡ (w, slots))
 
 -- the seat took the lock where its word was this one
-abbrev pub Takes : ℕ → Place → Place → Type 0
-Takes word p q = (q.table_id ≡ p.table_id) × (q.id ≡ p.id) × HasTaken p.me word q.me
+abbrev pub TakesLock : ℕ → Place → Place → Type 0
+TakesLock word p q = (q.table_id ≡ p.table_id) × (q.id ≡ p.id) × HasTaken p.me word q.me
 
 -- The seat took the lock, and the far state out of its slot: what is known then is sound for it, and
 -- each object of which the record has an entry was made.
@@ -71,17 +71,17 @@ pub record TurnAtSeat (c : Config) (job : Job) (r : Result Reply NoMemory) (took
   pub more : List Entry
   pub runs : Runs p events q
   pub did : DidAs c job (answer_of r) p.me.0.known events took gave
-  pub next : IsNext took gave
+  pub next : IsOneTurnOn took gave
   pub wrote : OutcomeWrites job r more
   pub fresh : q.me.0.fresh ≡ more
   pub stood : Stood c q.me.0.known gave
 
 -- what the first part of a read did
-abbrev pub Brought : Config → Handle → Result Reply NoMemory → Shown → List Event → FarState
+abbrev pub BroughtForRead : Config → Handle → Result Reply NoMemory → Shown → List Event → FarState
     → FarState → Type 0
-Brought c handle (Ok reply) start es took gave = BroughtToRead slate_run slate_shows c handle
+BroughtForRead c handle (Ok reply) start es took gave = BroughtToRead slate_run slate_shows c handle
     (held_by start [] took) reply (held_by (played es start) es gave)
-Brought c handle (Err e) start es took gave = StoppedToRead slate_run slate_shows c handle
+BroughtForRead c handle (Err e) start es took gave = StoppedToRead slate_run slate_shows c handle
     (held_by start [] took) (held_by (played es start) es gave)
 
 -- The first part of a read at the desk over the seat: it wrote nothing.
@@ -89,8 +89,8 @@ pub record BringAt (c : Config) (handle : Handle) (r : Result Reply NoMemory) (t
     (p q : Place) : Type 0 where
   pub events : List Event
   pub runs : Runs p events q
-  pub brought : Brought c handle r p.me.0.known events took gave
-  pub next : IsNext took gave
+  pub brought : BroughtForRead c handle r p.me.0.known events took gave
+  pub next : IsOneTurnOn took gave
   pub fresh : q.me.0.fresh ≡ []
   pub stood : Stood c q.me.0.known gave
 
@@ -120,7 +120,7 @@ pub record WorkBy (c : Config) (job : Job) (r : Result Reply NoMemory) (took gav
   pub range : ReadsBelow c within
   pub reads : (u : View) → HasSame u p.me.0 → JobReads job r u within
   pub did : DidAs c job (answer_of r) p.me.0.known events took gave
-  pub next : IsNext took gave
+  pub next : IsOneTurnOn took gave
   pub wrote : OutcomeWrites job r more
   pub fresh : (acted events p.me.0).fresh ≡ more
   pub new : AreNew more p.me.0
@@ -169,7 +169,7 @@ LooksFor c h p q = (d : Part) × Moves p q (grown d p.me.0) × IsQuiet d × Read
 
 abbrev pub FreedMoves : Config → Option ℕ → Place → Place → Type 0
 FreedMoves c freed p q = (d : Part) × Moves p q (grown d p.me.0) × IsQuiet d × ReadsBelow c d
-    × FindsFreed freed p.me.0 d
+    × FindsFreedAfter freed p.me.0 d
 
 -- The seat may give the lock back with this far state, whose turn had this job and this reply. What it
 -- made has the first version.
@@ -179,13 +179,13 @@ pub record IsEnding (c : Config) (job : Job) (r : Option Reply) (far : FarState)
     pub stood : Stood c v.known far
     pub adds : AddsTurn v.took far
     pub did : (n : ℕ) → Did c (turn_of job r far n v)
-    pub makes : Each (λ h. Make v.known.first h v.fresh) (made_by job r)
+    pub makes : Each (λ h. Make v.known.first h v.fresh) (made_by_turn job r)
 
 -- the seat gave the lock back, with the far state in its slot
 pub record GivesFar (c : Config) (job : Job) (r : Option Reply) (far : FarState) (p q : Place)
     : Type 0 where
   pub entries : ℕ
-  pub at : IsAt p q (gave_lock job r far entries [] (made_by job r) p.me.0) []
+  pub at : IsAt p q (gave_lock job r far entries [] (made_by_turn job r) p.me.0) []
   pub written : Each (λ (e : Entry). e.handle < c.handles) (p.me.0.fresh ++ p.me.0.written)
 
 -- A turn of a seat that took the lock, to its end.
@@ -197,14 +197,14 @@ pub record TurnWith (c : Config) (job : Job) (r : Result Reply NoMemory) (took :
   pub within : Part
   pub entries : ℕ
   pub agree : Agree p.me.0.known events
-  pub at : IsAt p q (gave_lock job (answer_of r) gave entries [] (made_by job (answer_of r))
+  pub at : IsAt p q (gave_lock job (answer_of r) gave entries [] (made_by_turn job (answer_of r))
       (grown within (acted events p.me.0))) []
   pub below : Each (λ (e : Entry). e.handle < c.handles) (more ++ p.me.0.written)
   pub quiet : IsQuiet within
   pub range : ReadsBelow c within
   pub reads : (u : View) → HasSame u p.me.0 → JobReads job r u within
   pub did : DidAs c job (answer_of r) p.me.0.known events took gave
-  pub next : IsNext took gave
+  pub next : IsOneTurnOn took gave
   pub wrote : OutcomeWrites job r more
   pub fresh : (acted events p.me.0).fresh ≡ more
   pub new : AreNew more p.me.0
@@ -219,7 +219,7 @@ pub record TurnedBy (c : Config) (job : Job) (r : Result Reply NoMemory) (v w : 
   pub reply_is : turn.reply ≡ answer_of r
   pub agree : Agree turn.start turn.acts
   pub did : Did c turn
-  pub next : IsNext turn.took turn.gave
+  pub next : IsOneTurnOn turn.took turn.gave
   pub wrote : OutcomeWrites job r more
   pub new : AreNew more v
   pub pins : CountsPins job r v
@@ -228,5 +228,5 @@ pub record TurnedBy (c : Config) (job : Job) (r : Result Reply NoMemory) (v w : 
   pub range : ReadsBelow c within
   pub reads : JobReads job r v within
   pub tells : IfOk r (λ reply. TurnTells job turn.took reply)
-  pub left : w ≡ with_own (made_by job (answer_of r))
+  pub left : w ≡ with_own (made_by_turn job (answer_of r))
       (grown (turn_part turn more within nothing_more) v)

@@ -6,7 +6,7 @@ ghost use Rattle.cb_types.specs.declared.reply.Reply.{Reply};
 ghost use Rattle.cb_shared.specs.declared.answers.WriteAnswer.TheVariants as places;
 ghost use Rattle.cb_core.specs.Jobs.{IsJob};
 ghost use Rattle.cb_rule.specs.Steps.{Knows};
-ghost use Rattle.cb_shared.specs.Calls.{AtNone, AtThis, IsAnswerTo, IsCalled, IsLack, IsNoReply, ReadGives, ReadTries, SaysAs, Stops, TellsOfIt, TurnGives, TurnTries, WriteAnswers, WriteTries, is_to_try_again, may_come_loose, the_handle};
+ghost use Rattle.cb_shared.specs.Calls.{AtNone, AtThis, IsAnswerTo, IsCalled, IsLack, IsNoReply, ReadGives, ReadTries, SaysAs, StopsInVain, TellsOfIt, TurnGives, TurnTries, WriteAnswers, WriteTries, is_to_try_again, may_come_loose, the_handle};
 ghost use Rattle.cb_record.specs.Parts.{Part, Grows};
 ghost use Rattle.cb_shared.specs.Making.{MakesNew, TriesNew};
 ghost use Rattle.cb_shared.specs.Passes.{IsPassOf};
@@ -48,7 +48,7 @@ impl Shared {
         ensures of { IsPassOf self.now pass.new }
         ensures read { IfOk result (λ reply. ReadGives self.now.config h.n reply
             pass.old.seat.me.0 pass.new.seat.me.0) }
-        ensures error { OnErr result (Stops (AtThis h.n) (jobs.Swap (the_handle h.n))
+        ensures error { OnErr result (StopsInVain (AtThis h.n) (jobs.Swap (the_handle h.n))
             pass.old.seat.me.0 pass.new.seat.me.0) }
     {
         for _ in rt.forever() {
@@ -81,7 +81,7 @@ impl Shared {
         ensures of { IsPassOf self.now pass.new }
         ensures write { IfOk result (λ reply. WriteAnswers self.now.config h.n at bytes.now reply
             pass.old.seat.me.0 pass.new.seat.me.0) }
-        ensures error { OnErr result (Stops (AtThis h.n)
+        ensures error { OnErr result (StopsInVain (AtThis h.n)
             (jobs.Write (the_handle h.n) at bytes.now) pass.old.seat.me.0 pass.new.seat.me.0) }
     {
         for _ in rt.forever() {
@@ -111,7 +111,7 @@ impl Shared {
             pass.old.seat.me.0 pass.new.seat.me.0) }
         ensures new { IfOk result (λ reply. MakesNew self.now.board.shared.key.first
             (jobs.Make bytes.now) reply pass.old.seat.me.0) }
-        ensures error { OnErr result (Stops AtNone (jobs.Make bytes.now) pass.old.seat.me.0
+        ensures error { OnErr result (StopsInVain AtNone (jobs.Make bytes.now) pass.old.seat.me.0
             pass.new.seat.me.0) }
     {
         let job = Job::Make {
@@ -136,7 +136,7 @@ impl Shared {
         ensures of { IsPassOf self.now pass.new }
         ensures free { IfOk result (λ reply. TurnGives self.now.config (jobs.Free h) reply
             pass.old.seat.me.0 pass.new.seat.me.0) }
-        ensures error { OnErr result (Stops AtNone (jobs.Free h) pass.old.seat.me.0
+        ensures error { OnErr result (StopsInVain AtNone (jobs.Free h) pass.old.seat.me.0
             pass.new.seat.me.0) }
     {
         self.turn_until(rt, alloc, pass, &Job::Free { handle: h })
@@ -171,7 +171,7 @@ impl Shared {
             pass.old.seat.me.0 pass.new.seat.me.0) }
         ensures new { IfOk result (λ reply. MakesNew self.now.board.shared.key.first job.now reply
             pass.old.seat.me.0) }
-        ensures error { OnErr result (Stops AtNone job.now pass.old.seat.me.0
+        ensures error { OnErr result (StopsInVain AtNone job.now pass.old.seat.me.0
             pass.new.seat.me.0) }
     {
         for _ in rt.forever() {
@@ -200,7 +200,7 @@ impl Shared {
             pass.new.seat.me.0) }
         ensures new { IfOk result (λ o. TriesNew self.now.board.shared.key.first job.now o
             pass.old.seat.me.0) }
-        ensures error { OnErr result (Stops AtNone job.now pass.old.seat.me.0
+        ensures error { OnErr result (StopsInVain AtNone job.now pass.old.seat.me.0
             pass.new.seat.me.0) }
     {
         let reply = self.turn(rt, alloc, pass, job)?;
@@ -225,7 +225,7 @@ impl Shared {
         ensures of { IsPassOf self.now pass.new }
         ensures read { IfOk result (λ o. ReadTries self.now.config h.n o pass.old.seat.me.0
             pass.new.seat.me.0) }
-        ensures error { OnErr result (Stops (AtThis h.n) (jobs.Swap (the_handle h.n))
+        ensures error { OnErr result (StopsInVain (AtThis h.n) (jobs.Swap (the_handle h.n))
             pass.old.seat.me.0 pass.new.seat.me.0) }
     {
         match self.read_beside(alloc, pass, h)? {
@@ -253,7 +253,7 @@ impl Shared {
         ensures of { IsPassOf self.now pass.new }
         ensures write { IfOk result (λ o. WriteTries self.now.config h.n at bytes.now o
             pass.old.seat.me.0 pass.new.seat.me.0) }
-        ensures error { OnErr result (Stops (AtThis h.n)
+        ensures error { OnErr result (StopsInVain (AtThis h.n)
             (jobs.Write (the_handle h.n) at bytes.now) pass.old.seat.me.0 pass.new.seat.me.0) }
     {
         let answer = self.write_here(pass, h, at, bytes);
@@ -278,7 +278,7 @@ impl Shared {
         ensures of { IsPassOf self.now pass.new }
         ensures turn { IfOk result (λ o. TurnTries self.now.config
             (jobs.Write (the_handle h.n) at bytes.now) o pass.old.seat.me.0 pass.new.seat.me.0) }
-        ensures error { OnErr result (Stops AtNone (jobs.Write (the_handle h.n) at bytes.now)
+        ensures error { OnErr result (StopsInVain AtNone (jobs.Write (the_handle h.n) at bytes.now)
             pass.old.seat.me.0 pass.new.seat.me.0) }
     {
         let job = Job::Write {

@@ -10,7 +10,7 @@ ghost use Rattle.cb_world.specs.Plain.{IsSized};
 ghost use Rattle.cb_world.specs.Seats.{idle_seat};
 ghost use Rattle.cb_rule.specs.Closing.{desk_of};
 ghost use Rattle.cb_rule.specs.Words.{base};
-ghost use Rattle.cb_shared.specs.Closing.{IsClosedBy, Refuses};
+ghost use Rattle.cb_shared.specs.Closing.{IsClosedBy, RefusesToClose};
 ghost use Rattle.cb_shared.specs.Passes.{IsPassOf};
 
 use crate::filling::{Rows, fill, take_far};
@@ -38,7 +38,7 @@ impl Shared {
     pub fn close(self, alloc: Global, pass: Pass) -> Result<(World, Seal), CloseRefused>
         requires of { IsPassOf self pass }
         ensures closed { IfOk result (λ r. IsClosedBy self pass r.0 r.1) }
-        ensures refused { IfErr result (λ e. Refuses self pass e) }
+        ensures refused { IfErr result (λ e. RefusesToClose self pass e) }
     {
         let share = pass.share;
         if is_part(share) {

@@ -4,7 +4,7 @@ ghost use Rattle.cb_world.specs.FarState.{FarState};
 ghost use Rattle.atomic_table.specs.Table.{rest};
 ghost use Rattle.cb_shared.specs.Places.{IsOf, Moves};
 ghost use Rattle.cb_shared.specs.Turning.{answer_of};
-ghost use Rattle.cb_shared.specs.UnderLock.{GivesFar, IsEnding, Takes, TakesFar};
+ghost use Rattle.cb_shared.specs.UnderLock.{GivesFar, IsEnding, TakesFar, TakesLock};
 
 use crate::board::{Place, Top};
 use crate::plays::{Deed, GiveLock, Opening, TakeLock};
@@ -98,7 +98,7 @@ fn take_far(top: &Top, seat: &mut Place, config: &Config, word: u64) -> Option<F
 fn take_lock(top: &Top, seat: &mut Place, config: &Config, word: u64) -> bool
     requires of { IsOf top.now.table_id top.now.key config.now seat.old }
     requires even { word % 2 ≡ 0 }
-    ensures won { result ≡ true → Takes word seat.old seat.new }
+    ensures won { result ≡ true → TakesLock word seat.old seat.new }
     ensures first { result ≡ true → seat.new.me.0.known.first ≡ top.now.key.first }
     ensures lost { result ≡ false → Moves seat.old seat.new seat.old.me.0 }
 {
@@ -109,7 +109,7 @@ fn take_lock_as<W: Opening>(top: &Top, seat: &mut Place, config: &Config, word: 
     requires of { IsOf top.now.table_id top.now.key config.now seat.old }
     requires picks { W.first ≡ top.now.key.first }
     requires even { word % 2 ≡ 0 }
-    ensures won { result ≡ true → Takes word seat.old seat.new }
+    ensures won { result ≡ true → TakesLock word seat.old seat.new }
     ensures first { result ≡ true → seat.new.me.0.known.first ≡ top.now.key.first }
     ensures lost { result ≡ false → Moves seat.old seat.new seat.old.me.0 }
 {

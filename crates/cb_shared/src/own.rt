@@ -4,8 +4,8 @@ ghost use Rattle.cb_ptr.specs.declared.word.State.TheVariants as state;
 ghost use Rattle.cb_ptr.specs.Word.{state_of, len_of, pins_of, place_of};
 ghost use Rattle.cb_world.specs.Memory.{words_for};
 ghost use Rattle.cb_rule.specs.declared.view.Held.{Held};
-ghost use Rattle.cb_rule.specs.Steps.{Knows, with_word, with_stamp};
-ghost use Rattle.cb_shared.specs.Claims.{ClaimsHere, HoldsOnly, IsAsBefore, IsNextOf, back_only, written_only, with_only};
+ghost use Rattle.cb_rule.specs.Steps.{Knows, with_claim_word, with_stamp};
+ghost use Rattle.cb_shared.specs.Claims.{ClaimsHere, HoldsOnly, IsAsClaimed, IsNextOf, back_only, written_only, with_only};
 ghost use Rattle.cb_shared.specs.Places.{IsOf, Moves};
 
 use crate::board::{Place, Top};
@@ -56,7 +56,7 @@ pub(crate) fn store_own(top: &Top, seat: &mut Place, config: &Config, place: usi
     requires held { (x : Held) × (j : ℕ) × HoldsOnly x x.handle seat.old × (j < words_for x.len)
         × (place ≡ x.place + j) }
     ensures { (x : Held) (j : ℕ) → HoldsOnly x x.handle seat.old → j < words_for x.len
-        → place ≡ x.place + j → Moves seat.old seat.new (with_only (with_word j word x) seat.old.me.0) }
+        → place ≡ x.place + j → Moves seat.old seat.new (with_only (with_claim_word j word x) seat.old.me.0) }
 {
     let config = *config;
     let handles = config.handles as usize;
@@ -89,7 +89,7 @@ pub(crate) fn settle_own(top: &Top, seat: &mut Place, config: &Config, h: u32, w
 pub(crate) fn put_back(top: &Top, seat: &mut Place, config: &Config, h: u32, word: u64)
     requires of { IsOf top.now.table_id top.now.key config.now seat.old }
     requires handle { h < config.now.handles }
-    requires held { (x : Held) × HoldsOnly x h seat.old × IsAsBefore x word }
+    requires held { (x : Held) × HoldsOnly x h seat.old × IsAsClaimed x word }
     ensures { (x : Held) → HoldsOnly x h seat.old
         → Moves seat.old seat.new (back_only x seat.old.me.0) }
 {

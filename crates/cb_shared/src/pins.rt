@@ -9,7 +9,7 @@ ghost use Rattle.cb_rule.specs.Seats.{pins_on};
 ghost use Rattle.cb_rule.specs.Steps.{Knows, with_peek, without_pin};
 ghost use Rattle.cb_shared.specs.Passes.{IsPinOf, stand_of};
 ghost use Rattle.cb_shared.specs.Places.{IsOf, Moves};
-ghost use Rattle.cb_shared.specs.Glances.{Glances, TakesPin, TellsVersion};
+ghost use Rattle.cb_shared.specs.Glances.{Glances, TakesPinAt, TellsVersion};
 
 use crate::board::{Place, Top};
 use crate::pass::Pin;
@@ -35,7 +35,7 @@ pub(crate) fn take_pin(top: &Top, seat: &mut Place, config: &Config, h: u32, saw
     requires room { pins_of saw < 1023 }
     requires knows { Knows h seat.old.me.0 }
     requires few { length seat.old.me.0.pins < 17 }
-    ensures { TakesPin config.now h saw result seat.old seat.new }
+    ensures { TakesPinAt config.now h saw result seat.old seat.new }
 {
     top.compare_exchange::<TakePin>(seat, 1 + h as usize, saw, cb_ptr::pinned(saw))
 }

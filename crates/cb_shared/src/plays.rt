@@ -10,7 +10,7 @@ ghost use Rattle.cb_shared.specs.Making.{took_first};
 ghost use Rattle.cb_shared.specs.PinLoads.{read_pin};
 ghost use Rattle.cb_shared.specs.Recalls.{recalled};
 ghost use Rattle.cb_shared.specs.Tallies.{tallied};
-ghost use Rattle.cb_shared.specs.Turning.{made_by};
+ghost use Rattle.cb_shared.specs.Turning.{made_by_turn};
 
 use atomic_table::{Join, Play, Split};
 use cb_rule::View;
@@ -106,7 +106,7 @@ pub struct GiveLock<W> {
 }
 
 impl<W: Deed> Play<Option<Far>, View> for GiveLock<W> {
-    ghost then = { gave W.job W.reply [] (made_by W.job W.reply) };
+    ghost then = { gave W.job W.reply [] (made_by_turn W.job W.reply) };
 }
 
 // Any seat.

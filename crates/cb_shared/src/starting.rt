@@ -3,7 +3,7 @@ ghost use Rattle.cb_types.specs.Config.{IsAccepted};
 ghost use Rattle.cb_world.specs.Empty.{empty_far};
 ghost use Rattle.cb_rule.specs.Steps.{opener};
 ghost use Rattle.cb_rule.specs.Words.{base};
-ghost use Rattle.cb_shared.specs.Passes.{IsBegun};
+ghost use Rattle.cb_shared.specs.Passes.{IsRuntimeBegun};
 
 use crate::board::{Board, Place};
 use crate::handles::no_pins;
@@ -23,7 +23,7 @@ impl Shared {
     /// share. A make gives version 1. Takes the memory of all words and of the far state.
     pub fn new(alloc: Global, config: Config) -> Result<(Shared, Pass), NoMemory>
         requires accepted { IsAccepted config }
-        ensures begun { IfOk result (λ r. IsBegun 1 config r.0 r.1) }
+        ensures begun { IfOk result (λ r. IsRuntimeBegun 1 config r.0 r.1) }
     {
         Shared::with_first_version(alloc, config, 1)
     }
@@ -36,7 +36,7 @@ impl Shared {
     ) -> Result<(Shared, Pass), NoMemory>
         requires accepted { IsAccepted config }
         requires first { 1 ≤ first }
-        ensures begun { IfOk result (λ r. IsBegun first config r.0 r.1) }
+        ensures begun { IfOk result (λ r. IsRuntimeBegun first config r.0 r.1) }
     {
         let count = 1 + 2 * config.handles as usize + 512 * config.frames as usize;
         let words = vec![in alloc; 0u64; count]?;

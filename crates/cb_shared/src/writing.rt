@@ -3,7 +3,7 @@ ghost use Rattle.cb_ptr.specs.declared.word.State.TheVariants as state;
 ghost use Rattle.cb_ptr.specs.Word.{len_of, pins_of, place_of, state_of};
 ghost use Rattle.cb_world.specs.Memory.{words_for};
 ghost use Rattle.cb_world.specs.Write.{IsWrite};
-ghost use Rattle.cb_mutate.specs.Merged.{IsMerged};
+ghost use Rattle.cb_mutate.specs.Merged.{IsWordMerged};
 ghost use Rattle.cb_rule.specs.declared.view.Held.{Held};
 ghost use Rattle.cb_rule.specs.Steps.{Knows};
 ghost use Rattle.cb_shared.specs.declared.answers.WriteAnswer.{WriteAnswer};
@@ -187,7 +187,7 @@ fn merged_own(
     requires end { at + length bytes.now < 2 ^ 16 }
     ensures same { Moves seat.old seat.new seat.old.me.0 }
     ensures merged { (x : Held) (j : ℕ) → HoldsOnly x x.handle seat.old → j < words_for x.len
-        → place ≡ x.place + j → IsMerged (slice_index x.memory j) first at bytes.now result }
+        → place ≡ x.place + j → IsWordMerged (slice_index x.memory j) first at bytes.now result }
 {
     let end = at + bytes.len() as u32;
     if at <= first && first + 8 <= end {
@@ -202,7 +202,7 @@ fn merged_own(
 fn whole_word(first: u32, at: u32, bytes: &[u8]) -> u64
     requires from { at ≤ first }
     requires end { first + 8 ≤ at + length bytes.now }
-    ensures { (old : ℕ) → IsMerged old first at bytes.now result }
+    ensures { (old : ℕ) → IsWordMerged old first at bytes.now result }
 {
     let from = (first - at) as usize;
     LittleEndian::read_u64(&bytes[from..from + 8])

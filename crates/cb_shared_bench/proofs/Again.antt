@@ -8,12 +8,12 @@ use Rattle.cb_world.specs.World.{WorldState, IsSoundWorld}
 use Rattle.cb_core.specs.declared.event.Event.{Event}
 use Rattle.cb_core.specs.Step.{Step}
 use Rattle.cb_core.proofs.Laws.{step_settings}
-use Rattle.cb_shared_bench.specs.Callers.{IsStill}
+use Rattle.cb_shared_bench.specs.Callers.{IsBenchWorld}
 
 -- a turn that is answered leaves a still world with the same settings
-pub still_again : (w new : WorldState) (e : Event) (r : Result Reply NoMemory) → IsStill w
+pub still_again : (w new : WorldState) (e : Event) (r : Result Reply NoMemory) → IsBenchWorld w
     → IsSoundWorld new → IfOk r (λ reply. Step w e reply new) → (x : Reply) × (r ≡ Ok x)
-    → IsStill new
+    → IsBenchWorld new
 still_again w new e r still sound stepped is = record {
   sound = sound;
   settings = step_settings w new e is.0

@@ -23,12 +23,12 @@ use Rattle.cb_shared.specs.declared.answers.WriteAnswer.TheVariants as writes
 use Rattle.cb_shared.specs.declared.pass.Pass.{Pass}
 use Rattle.cb_shared.specs.declared.pass.Pin.{Pin}
 use Rattle.cb_shared.specs.declared.runtime.Shared.{Shared}
-use Rattle.cb_shared.specs.Calls.{ReadGives, Stops, TurnGives}
+use Rattle.cb_shared.specs.Calls.{ReadGives, StopsInVain, TurnGives}
 use Rattle.cb_shared.specs.Passes.{IsPassOf, IsPinOf, stand_of}
-use Rattle.cb_shared.specs.Pinning.{IsPinned, PinGives}
+use Rattle.cb_shared.specs.Pinning.{IsPinnedHere, PinGives}
 use Rattle.cb_shared.specs.Turning.{TurnAdds, TurnBy, with_own}
 use Rattle.cb_shared.specs.Writing.{WriteGives}
-use Rattle.cb_shared_bench.specs.Callers.{IfPinned, IsCaller, IsMade}
+use Rattle.cb_shared_bench.specs.Callers.{IfPinned, IsCaller, IsToldMade}
 
 -- what the record v knew the record w knows
 abbrev pub Keeps : View → View → Type 0
@@ -108,7 +108,7 @@ write_keeps h at bytes (writes.Raced saw found) v w g =
     looks_more v w (written_is w _ g.1) (seen_is w _ g.1)
 
 -- ---- a pin that was taken is one of the pass, also behind a peek
-pin_is_of : (h : ℕ) (p : Pin) (v w : View) → IsPinned h p v w → IsPinOf p w
+pin_is_of : (h : ℕ) (p : Pin) (v w : View) → IsPinnedHere h p v w → IsPinOf p w
 pin_is_of h p v w g = (
   g.words,
   subst (λ (x : View). Has (stand_of p g.words) x.pins) (sym g.left) (inl (λ i. stand_of record p {
@@ -165,7 +165,7 @@ pub turn_keeps : (c : Config) (job : Job) (r : Result Reply NoMemory) (v w : Vie
 turn_keeps c job r v w t = subst (Keeps v) (sym t.2) (λ h x. part_keeps t.0 v h x)
 
 pub read_keeps : (c : Config) (h : ℕ) (on : ℕ → Type 0) (job : Job) (r : Result Reply NoMemory)
-    (v w : View) → IfOk r (λ x. ReadGives c h x v w) → OnErr r (Stops on job v w) → Keeps v w
+    (v w : View) → IfOk r (λ x. ReadGives c h x v w) → OnErr r (StopsInVain on job v w) → Keeps v w
 read_keeps c h on job (Ok x) v w a b = grows_keeps a.0 v w a.2
 read_keeps c h on job (Err e) v w a b = grows_keeps b.0 v w b.2
 
@@ -187,7 +187,7 @@ made_entry c bytes h n v d t =
     )
 
 call_made : (c : Config) (bytes : List ℕ) (r : Result Reply NoMemory) (h : Handle)
-    (v w : View) → IfOk r (λ x. TurnGives c (jobs.Make bytes) x v w) → IsMade r h → Knows h.n w
+    (v w : View) → IfOk r (λ x. TurnGives c (jobs.Make bytes) x v w) → IsToldMade r h → Knows h.n w
 call_made c bytes r h v w given is = makes (subst (λ (x : Result Reply NoMemory).
     IfOk x (λ y. TurnGives c (jobs.Make bytes) y v w)) is.1 given)
   where
@@ -202,7 +202,7 @@ call_made c bytes r h v w given is = makes (subst (λ (x : Result Reply NoMemory
 pub call_makes : (s : Shared) (bytes : List ℕ) (r : Result Reply NoMemory) (o : Option Handle)
     (p q : Pass) → IsPassOf s q
     → IfOk r (λ x. TurnGives s.config (jobs.Make bytes) x p.seat.me.0 q.seat.me.0)
-    → IfSome o (IsMade r) → IfSome o (λ h. IsCaller s h q)
+    → IfSome o (IsToldMade r) → IfSome o (λ h. IsCaller s h q)
 call_makes s bytes r None p q of given is = tt
 call_makes s bytes r (Some h) p q of given is = record {
   of = of;

@@ -27,8 +27,8 @@ IfPinned (Pinned p) P = P p
 IfPinned other P = Unit {0}
 
 -- the reply tells of this handle as made
-abbrev pub IsMade : Result Reply NoMemory → Handle → Type 0
-IsMade r h = (version : ℕ) × (r ≡ Ok (Made h version))
+abbrev pub IsToldMade : Result Reply NoMemory → Handle → Type 0
+IsToldMade r h = (version : ℕ) × (r ≡ Ok (Made h version))
 
 -- the job is about no object
 abbrev pub IsPlain : Job → Type 0
@@ -41,6 +41,6 @@ abbrev pub the_config : Config
 the_config = record { k = 1; r = 1; nodes = 4; frames = 64; room = 64; handles = 1024; turns = 0 }
 
 -- a sound world with these settings
-pub record IsStill (w : WorldState) : Type 0 where
+pub record IsBenchWorld (w : WorldState) : Type 0 where
   pub sound : IsSoundWorld w
   pub settings : w.desk.settings ≡ the_config

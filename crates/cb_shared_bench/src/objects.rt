@@ -1,7 +1,7 @@
 //! Runtimes, and objects that are made in them.
 ghost use Rattle.std.specs.Prelude.{◌≤◌, length, IfOk, IfSome};
 ghost use Rattle.cb_shared.specs.Passes.{IsPassOf};
-ghost use Rattle.cb_shared_bench.specs.Callers.{IsCaller, IsMade};
+ghost use Rattle.cb_shared_bench.specs.Callers.{IsCaller, IsToldMade};
 
 use crate::deeds::Deed;
 use cb_shared::{Pass, Shared};
@@ -42,7 +42,7 @@ pub(crate) fn begun(alloc: Global) -> Result<(Shared, Pass), NoMemory>
 
 /// The handle that a reply tells of as made.
 fn made_in(reply: &Result<Reply, NoMemory>) -> Option<Handle>
-    ensures { IfSome result (IsMade reply.now) }
+    ensures { IfSome result (IsToldMade reply.now) }
 {
     match reply {
         Ok(Reply::Made { handle, .. }) => Some(*handle),

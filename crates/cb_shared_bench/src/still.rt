@@ -3,7 +3,7 @@ ghost use Rattle.std.specs.Prelude.{◌≡◌, true, IfOk, IfSome};
 ghost use Rattle.cb_core.specs.declared.event.Event.TheVariants.{Turn};
 ghost use Rattle.cb_core.specs.Events.{IsEvent};
 ghost use Rattle.cb_world.specs.World.{IsSoundWorld};
-ghost use Rattle.cb_shared_bench.specs.Callers.{IsStill, the_config};
+ghost use Rattle.cb_shared_bench.specs.Callers.{IsBenchWorld, the_config};
 
 use crate::objects::{BYTES, CONFIG};
 use crate::replies::is_right;
@@ -16,9 +16,9 @@ use std::time::Clock;
 
 /// A turn; whether its reply is one that is waited for.
 fn turn(alloc: Global, world: &mut World, event: &Event) -> bool
-    requires still { IsStill world.old }
+    requires still { IsBenchWorld world.old }
     requires event { IsEvent the_config event.now }
-    ensures still { result ≡ true → IsStill world.new }
+    ensures still { result ≡ true → IsBenchWorld world.new }
 {
     let reply = step(alloc, world, event);
     is_right(&reply)
@@ -26,8 +26,8 @@ fn turn(alloc: Global, world: &mut World, event: &Event) -> bool
 
 /// Makes an object.
 fn make(alloc: Global, world: &mut World) -> bool
-    requires still { IsStill world.old }
-    ensures still { result ≡ true → IsStill world.new }
+    requires still { IsBenchWorld world.old }
+    ensures still { result ≡ true → IsBenchWorld world.new }
 {
     match Bytes::copy_of(alloc, &[1u8; BYTES]) {
         Ok(bytes) => turn(alloc, world, &the_turn(Job::Make { bytes })),
@@ -50,7 +50,7 @@ fn time_reads<R: Clock>(
     read: &Event,
     count: u32,
 ) -> Option<u64>
-    requires still { IsStill world.old }
+    requires still { IsBenchWorld world.old }
     requires read { IsEvent the_config read.now }
 {
     let start = now(rt)?;
@@ -70,10 +70,10 @@ fn time_far_read<R: Clock>(
     read: &Event,
     evict: &Event,
 ) -> Option<u64>
-    requires still { IsStill world.old }
+    requires still { IsBenchWorld world.old }
     requires read { IsEvent the_config read.now }
     requires evict { IsEvent the_config evict.now }
-    ensures still { IfSome result (λ _. IsStill world.new) }
+    ensures still { IfSome result (λ _. IsBenchWorld world.new) }
 {
     if !turn(alloc, world, evict) {
         return None;
@@ -94,7 +94,7 @@ fn time_far_reads<R: Clock>(
     evict: &Event,
     count: u32,
 ) -> Option<u64>
-    requires still { IsStill world.old }
+    requires still { IsBenchWorld world.old }
     requires read { IsEvent the_config read.now }
     requires evict { IsEvent the_config evict.now }
 {
@@ -107,7 +107,7 @@ fn time_far_reads<R: Clock>(
 
 /// Makes an object, and reads it so often.
 fn time<R: Clock>(rt: &R, alloc: Global, world: &mut World, count: u32, is_far: bool) -> Option<u64>
-    requires still { IsStill world.old }
+    requires still { IsBenchWorld world.old }
 {
     if !make(alloc, world) {
         return None;
@@ -123,7 +123,7 @@ fn time<R: Clock>(rt: &R, alloc: Global, world: &mut World, count: u32, is_far: 
 
 /// A world in which nothing was made.
 fn empty(alloc: Global) -> Result<World, NoMemory>
-    ensures { IfOk result IsStill }
+    ensures { IfOk result IsBenchWorld }
 {
     let Ok(()) = CONFIG.check() else {
         return Err(NoMemory);

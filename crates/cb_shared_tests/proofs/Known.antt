@@ -21,9 +21,9 @@ use Rattle.cb_shared.specs.declared.answers.PinAnswer.TheVariants as pins
 use Rattle.cb_shared.specs.declared.answers.WriteAnswer.{WriteAnswer}
 use Rattle.cb_shared.specs.declared.answers.WriteAnswer.TheVariants as writes
 use Rattle.cb_shared.specs.declared.pass.Pin.{Pin}
-use Rattle.cb_shared.specs.Calls.{ReadGives, Stops, TurnGives, WriteAnswers}
+use Rattle.cb_shared.specs.Calls.{ReadGives, StopsInVain, TurnGives, WriteAnswers}
 use Rattle.cb_shared.specs.Passes.{IsPinOf, stand_of}
-use Rattle.cb_shared.specs.Pinning.{IsPinned, PinGives}
+use Rattle.cb_shared.specs.Pinning.{IsPinnedHere, PinGives}
 use Rattle.cb_shared.specs.Turning.{TurnAdds, TurnBy, with_own}
 use Rattle.cb_shared.specs.Writing.{WriteGives}
 use Rattle.cb_shared_tests.specs.Callers.{IfPinned, TellsMade}
@@ -106,7 +106,7 @@ write_keeps h at bytes (writes.Raced saw found) v w g =
     looks_more v w (written_is w _ g.1) (seen_is w _ g.1)
 
 -- ---- a pin that was taken is one of the pass, also behind a peek
-pin_is_of : (h : ℕ) (p : Pin) (v w : View) → IsPinned h p v w → IsPinOf p w
+pin_is_of : (h : ℕ) (p : Pin) (v w : View) → IsPinnedHere h p v w → IsPinOf p w
 pin_is_of h p v w g = (
   g.words,
   subst (λ (x : View). Has (stand_of p g.words) x.pins) (sym g.left) (inl (λ i. stand_of record p {
@@ -173,18 +173,19 @@ pub turn_keeps : (c : Config) (job : Job) (r : Result Reply NoMemory) (v w : Vie
 turn_keeps c job r v w t = owns_keeps _ t.0 v w t.2
 
 pub read_keeps : (c : Config) (h : ℕ) (on : ℕ → Type 0) (job : Job) (r : Result Reply NoMemory)
-    (v w : View) → IfOk r (λ x. ReadGives c h x v w) → OnErr r (Stops on job v w) → Keeps v w
+    (v w : View) → IfOk r (λ x. ReadGives c h x v w) → OnErr r (StopsInVain on job v w) → Keeps v w
 read_keeps c h on job (Ok x) v w a b = grows_keeps a.0 v w a.2
 read_keeps c h on job (Err e) v w a b = grows_keeps b.0 v w b.2
 
 pub call_keeps : (c : Config) (h at : ℕ) (bytes : List ℕ) (on : ℕ → Type 0) (job : Job)
     (r : Result Reply NoMemory) (v w : View)
-    → IfOk r (λ x. WriteAnswers c h at bytes x v w) → OnErr r (Stops on job v w) → Keeps v w
+    → IfOk r (λ x. WriteAnswers c h at bytes x v w) → OnErr r (StopsInVain on job v w) → Keeps v w
 call_keeps c h at bytes on job (Ok x) v w a b = grows_keeps a.0 v w a.2
 call_keeps c h at bytes on job (Err e) v w a b = grows_keeps b.0 v w b.2
 
 pub turns_keep : (c : Config) (on : ℕ → Type 0) (job : Job) (r : Result Reply NoMemory)
-    (v w : View) → IfOk r (λ x. TurnGives c job x v w) → OnErr r (Stops on job v w) → Keeps v w
+    (v w : View) → IfOk r (λ x. TurnGives c job x v w) → OnErr r (StopsInVain on job v w)
+    → Keeps v w
 turns_keep c on job (Ok x) v w a b = owns_keeps _ a.0 v w a.2
 turns_keep c on job (Err e) v w a b = grows_keeps b.0 v w b.2
 

@@ -18,8 +18,8 @@ abbrev pub KnowsAll : List Handle → View → Type 0
 KnowsAll objects v = All (λ (h : Handle). Knows h.n v) objects
 
 -- the object is one that whoever knows these objects knows
-abbrev pub IsAmong : Handle → List Handle → Type 0
-IsAmong h objects = (v : View) → KnowsAll objects v → Knows h.n v
+abbrev pub IsKnownAmong : Handle → List Handle → Type 0
+IsKnownAmong h objects = (v : View) → KnowsAll objects v → Knows h.n v
 
 -- the pass is one of this runtime and knows these objects
 pub record IsCaller (s : Shared) (objects : List Handle) (p : Pass) : Type 0 where

@@ -4,7 +4,7 @@ ghost use Rattle.cb_core.specs.Jobs.{IsJob};
 ghost use Rattle.cb_rule.specs.declared.view.View.{View};
 ghost use Rattle.cb_rule.specs.Steps.{Knows};
 ghost use Rattle.cb_shared.specs.Turning.{KnowsOf};
-ghost use Rattle.cb_shared_tests.specs.Callers.{IsAmong, IsCaller};
+ghost use Rattle.cb_shared_tests.specs.Callers.{IsCaller, IsKnownAmong};
 
 use crate::pinned::{look, look_beside};
 use crate::told::{Told, told_by, told_of_write};
@@ -90,7 +90,7 @@ fn turn_on<R: Wait>(
     deed: Deed,
 ) -> Result<Told, NoMemory>
     requires caller { IsCaller shared.now objects.now pass.old }
-    requires among { IsAmong h objects.now }
+    requires among { IsKnownAmong h objects.now }
     ensures caller { IsCaller shared.now objects.now pass.new }
 {
     match job_of(shared.config(), h, deed) {
@@ -102,7 +102,7 @@ fn turn_on<R: Wait>(
 /// A write in place, from the first byte on.
 fn write_here(shared: &Shared, objects: &[Handle], pass: &mut Pass, h: Handle, bytes: &[u8]) -> Told
     requires caller { IsCaller shared.now objects.now pass.old }
-    requires among { IsAmong h objects.now }
+    requires among { IsKnownAmong h objects.now }
     ensures caller { IsCaller shared.now objects.now pass.new }
 {
     told_of_write(shared.write_here(pass, h, 0, bytes))
@@ -118,7 +118,7 @@ fn read<R: Wait>(
     h: Handle,
 ) -> Result<Told, NoMemory>
     requires caller { IsCaller shared.now objects.now pass.old }
-    requires among { IsAmong h objects.now }
+    requires among { IsKnownAmong h objects.now }
     ensures caller { IsCaller shared.now objects.now pass.new }
 {
     told_by(shared.read(rt, alloc, pass, h))
@@ -135,7 +135,7 @@ fn write<R: Wait>(
     bytes: &[u8],
 ) -> Result<Told, NoMemory>
     requires caller { IsCaller shared.now objects.now pass.old }
-    requires among { IsAmong h objects.now }
+    requires among { IsKnownAmong h objects.now }
     ensures caller { IsCaller shared.now objects.now pass.new }
 {
     told_by(shared.write(rt, alloc, pass, h, 0, bytes))
@@ -151,7 +151,7 @@ fn free<R: Wait>(
     h: Handle,
 ) -> Result<Told, NoMemory>
     requires caller { IsCaller shared.now objects.now pass.old }
-    requires among { IsAmong h objects.now }
+    requires among { IsKnownAmong h objects.now }
     ensures caller { IsCaller shared.now objects.now pass.new }
 {
     told_by(shared.free(rt, alloc, pass, h))
@@ -169,7 +169,7 @@ fn called<R: Wait>(
     bytes: &[u8],
 ) -> Result<Told, NoMemory>
     requires caller { IsCaller shared.now objects.now pass.old }
-    requires among { IsAmong h objects.now }
+    requires among { IsKnownAmong h objects.now }
     ensures caller { IsCaller shared.now objects.now pass.new }
 {
     match call {

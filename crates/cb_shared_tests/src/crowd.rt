@@ -1,6 +1,6 @@
 //! As many pins of an object as its word counts.
 ghost use Rattle.std.specs.Prelude.{OnOk};
-ghost use Rattle.cb_shared_tests.specs.Callers.{IsAmong, IsCaller};
+ghost use Rattle.cb_shared_tests.specs.Callers.{IsCaller, IsKnownAmong};
 
 use crate::making::{Way, make};
 use crate::pinned::{pin, split};
@@ -21,7 +21,7 @@ const LAST: u32 = 15;
 /// Pins an object so often, and keeps the pins; whether each pin was taken.
 fn pins(shared: &Shared, objects: &[Handle], pass: &mut Pass, h: Handle, count: u32) -> bool
     requires caller { IsCaller shared.now objects.now pass.old }
-    requires among { IsAmong h objects.now }
+    requires among { IsKnownAmong h objects.now }
     ensures caller { IsCaller shared.now objects.now pass.new }
 {
     let mut all = true;
@@ -35,7 +35,7 @@ fn pins(shared: &Shared, objects: &[Handle], pass: &mut Pass, h: Handle, count: 
 /// was taken.
 fn leave_one(shared: &Shared, objects: &[Handle], first: &mut Pass, h: Handle) -> bool
     requires caller { IsCaller shared.now objects.now first.old }
-    requires among { IsAmong h objects.now }
+    requires among { IsKnownAmong h objects.now }
     ensures caller { IsCaller shared.now objects.now first.new }
 {
     match split(shared, objects, first, 1) {
@@ -50,7 +50,7 @@ fn leave_one(shared: &Shared, objects: &[Handle], first: &mut Pass, h: Handle) -
 /// The same with each of the other passes.
 fn leave_all(shared: &Shared, objects: &[Handle], first: &mut Pass, h: Handle) -> bool
     requires caller { IsCaller shared.now objects.now first.old }
-    requires among { IsAmong h objects.now }
+    requires among { IsKnownAmong h objects.now }
     ensures caller { IsCaller shared.now objects.now first.new }
 {
     let mut all = true;
@@ -63,7 +63,7 @@ fn leave_all(shared: &Shared, objects: &[Handle], first: &mut Pass, h: Handle) -
 /// Whether an object takes as many pins as its word counts, and one more is refused.
 fn fills(shared: &Shared, objects: &[Handle], first: &mut Pass, h: Handle) -> bool
     requires caller { IsCaller shared.now objects.now first.old }
-    requires among { IsAmong h objects.now }
+    requires among { IsKnownAmong h objects.now }
     ensures caller { IsCaller shared.now objects.now first.new }
 {
     let are_left = leave_all(shared, objects, first, h);

@@ -2,7 +2,7 @@
 ghost use Rattle.std.specs.Prelude.{◌≡◌, ◌<◌, ◌≤◌, ◌++◌, IfSome};
 ghost use Rattle.cb_world.specs.Memory.{words_for};
 ghost use Rattle.cb_shared.specs.Passes.{IsPinOf};
-ghost use Rattle.cb_shared_tests.specs.Callers.{IfPinned, IsAmong, IsCaller};
+ghost use Rattle.cb_shared_tests.specs.Callers.{IfPinned, IsCaller, IsKnownAmong};
 
 use crate::told::Told;
 use cb_shared::{Pass, Pin, PinAnswer, Shared};
@@ -80,7 +80,7 @@ fn unpin(shared: &Shared, objects: &[Handle], pass: &mut Pass, pin: Pin)
 /// Pins an object, where it is here.
 pub(crate) fn pin(shared: &Shared, objects: &[Handle], pass: &mut Pass, h: Handle) -> PinAnswer
     requires caller { IsCaller shared.now objects.now pass.old }
-    requires among { IsAmong h objects.now }
+    requires among { IsKnownAmong h objects.now }
     ensures caller { IsCaller shared.now objects.now pass.new }
     ensures pin { IfPinned result (λ p. IsPinOf p pass.new.seat.me.0) }
 {
@@ -96,7 +96,7 @@ pub(crate) fn look(
     is_kept: bool,
 ) -> Told
     requires caller { IsCaller shared.now objects.now pass.old }
-    requires among { IsAmong h objects.now }
+    requires among { IsKnownAmong h objects.now }
     ensures caller { IsCaller shared.now objects.now pass.new }
 {
     match pin(shared, objects, pass, h) {
@@ -139,7 +139,7 @@ pub(crate) fn join(shared: &Shared, objects: &[Handle], pass: &mut Pass, other: 
 /// Looks at an object by a second pass, which is split off and taken in.
 pub(crate) fn look_beside(shared: &Shared, objects: &[Handle], pass: &mut Pass, h: Handle) -> Told
     requires caller { IsCaller shared.now objects.now pass.old }
-    requires among { IsAmong h objects.now }
+    requires among { IsKnownAmong h objects.now }
     ensures caller { IsCaller shared.now objects.now pass.new }
 {
     match split(shared, objects, pass, 1) {

@@ -2,7 +2,7 @@
 use Rattle.std.proofs.Common.{◌≡◌, ◌≢◌, ◌⊎◌, ◌↔◌, ℕ, Bool, true, false, ◌*◌, ◌<◌, ◌≤◌, List, Option, Some, None, length, get_or, set, refl, sym, ap, ◌∙◌, subst, arith, inl, inr, length-set, get_or-set_same, get_or-set_other}
 use Rattle.std.proofs.lemmas.Bool.{cases_eq}
 use Rattle.cb_class.specs.Class.{IsClassOf}
-use Rattle.cb_frame.specs.FreeFrames.{IsFree, with_taken}
+use Rattle.cb_frame.specs.FreeFrames.{IsFreeFrame, with_taken}
 use Rattle.cb_frame.specs.FrameSet.{contains}
 use Rattle.cb_frame.proofs.Laws.{contains-with_removed, contains-with_removed_other}
 use Rattle.cb_set.specs.SetState.{SetState, dead_position, position_of, with_position}
@@ -14,16 +14,16 @@ use Rattle.cb_world.specs.declared.object.Object.TheVariants as is
 use Rattle.cb_world.specs.declared.shown.Shown.{Shown}
 use Rattle.cb_world.specs.Shown.{object_at, version_at, never}
 use Rattle.cb_world.specs.RowWords.{words_in}
-use Rattle.cb_world.specs.Fetched.{with_given}
+use Rattle.cb_world.specs.Fetched.{with_rows_given}
 use Rattle.cb_world.specs.LeftOver.{nodes_left, sets_left}
 use Rattle.cb_world.specs.FarState.{FarState, span_in}
 use Rattle.cb_world.specs.LocalSound.{LocalSound, AreFrames, AreKnown, ArePlaced, HasSlot, IsStamped, LiesAt, NamesObject}
 use Rattle.cb_world.proofs.Laws.{live_names, length_put}
-use Rattle.cb_swapin.specs.Named.{AreCleared, Names, IsNamed}
+use Rattle.cb_swapin.specs.Named.{AreCleared, NamesHandle, IsNamed}
 use Rattle.cb_swapin.specs.BroughtIn.{IsSpanBrought}
 use Rattle.cb_swapin.proofs.SlotNames.{named_or_not}
 use Rattle.cb_swapin.proofs.SlotsBrought.{far_same}
-use Rattle.cb_swapin.proofs.Waits.{Arrives, free_frame, named_waits}
+use Rattle.cb_swapin.proofs.Waits.{CanArrive, free_frame, named_waits}
 
 -- the spans with this one in a frame
 abbrev pub set_at : List (Option Contents) → ℕ → Contents → List (Option Contents)
@@ -37,7 +37,8 @@ pub record HasArrived (s t : Shown) (far new : FarState) (id p : ℕ) (set : Set
   pub frames : new.frames ≡ with_taken far.frames f
   pub spans : new.spans ≡ set_at far.spans f span
   pub sets : new.sets ≡ sets_left far.sets id (with_position set p dead_position)
-  pub nodes : new.nodes ≡ nodes_left (with_given far.nodes n) (with_position set p dead_position)
+  pub nodes : new.nodes
+      ≡ nodes_left (with_rows_given far.nodes n) (with_position set p dead_position)
   pub first : new.first ≡ far.first
   pub made : new.made ≡ far.made
   pub members : new.members ≡ far.members
@@ -62,9 +63,9 @@ pub other_span : (spans : List (Option Contents)) (f g : ℕ) (span : Contents) 
 other_span spans f g span off = get_or-set_other spans f g (Some span) None off
 
 -- an object that the span names, before and after
-pub record IsMoved (s t : Shown) (span : Contents) (f h : ℕ) : Type 0 where
+pub record IsBroughtIn (s t : Shown) (span : Contents) (f h : ℕ) : Type 0 where
   pub slot : ℕ
-  pub named : Names span.slots slot h
+  pub named : NamesHandle span.slots slot h
   pub len : ℕ
   pub version : ℕ
   pub words : List ℕ
@@ -73,9 +74,9 @@ pub record IsMoved (s t : Shown) (span : Contents) (f h : ℕ) : Type 0 where
   pub fits : IsClassOf len span.class
 
 pub moved : (s t : Shown) (far new : FarState) (id p : ℕ) (set : SetState) (f n : ℕ)
-    (span : Contents) (row : List ℕ) → Arrives s far id p set f span row
-    → HasArrived s t far new id p set f n span row → (slot h : ℕ) → Names span.slots slot h
-    → IsMoved s t span f h
+    (span : Contents) (row : List ℕ) → CanArrive s far id p set f span row
+    → HasArrived s t far new id p set f n span row → (slot h : ℕ) → NamesHandle span.slots slot h
+    → IsBroughtIn s t span f h
 moved s t far new id p set f n span row x y slot h named =
     let b = y.brought.brought slot h named in
     let w = named_waits s far id p set f span row x slot h named in record {
@@ -92,9 +93,9 @@ moved s t far new id p set f n span row x y slot h named =
 
 -- each object is moved, or as it was
 pub each_moved : (s t : Shown) (far new : FarState) (id p : ℕ) (set : SetState) (f n : ℕ)
-    (span : Contents) (row : List ℕ) → Arrives s far id p set f span row
+    (span : Contents) (row : List ℕ) → CanArrive s far id p set f span row
     → HasArrived s t far new id p set f n span row → (h : ℕ)
-    → IsMoved s t span f h ⊎ ((object_at t h ≡ object_at s h) × (IsNamed span.slots h → ⊥))
+    → IsBroughtIn s t span f h ⊎ ((object_at t h ≡ object_at s h) × (IsNamed span.slots h → ⊥))
 each_moved s t far new id p set f n span row x y h = elim (named_or_not span.slots h) [
   | inl named ↦ inl (moved s t far new id p set f n span row x y named.0 h named.1)
   | inr none ↦ inr ((y.brought.others h none).object, none)
@@ -107,7 +108,7 @@ here_never : (len place : ℕ) → is.Here len place ≡ never → ⊥
 here_never len place e = cc
 
 pub arrived_known : (s t : Shown) (far new : FarState) (id p : ℕ) (set : SetState) (f n : ℕ)
-    (span : Contents) (row : List ℕ) → Arrives s far id p set f span row
+    (span : Contents) (row : List ℕ) → CanArrive s far id p set f span row
     → HasArrived s t far new id p set f n span row → AreKnown t new
 arrived_known s t far new id p set f n span row x y = record {
   first = y.brought.first ∙ x.sound.here.known.first ∙ sym y.first;
@@ -133,7 +134,7 @@ arrived_known s t far new id p set f n span row x y = record {
 }
   where
     made : (h : ℕ) → h < length s.objects
-        → IsMoved s t span f h ⊎ ((object_at t h ≡ object_at s h) × (IsNamed span.slots h → ⊥))
+        → IsBroughtIn s t span f h ⊎ ((object_at t h ≡ object_at s h) × (IsNamed span.slots h → ⊥))
         → far.made ≤ h ↔ (object_at t h ≡ never)
     made h below (inl m) = (
       (λ past. absurd (far_never m.len m.version m.words (sym m.was
@@ -144,14 +145,14 @@ arrived_known s t far new id p set f n span row x y = record {
         (x.sound.here.known.made h below)
 
 pub arrived_frames : (s t : Shown) (far new : FarState) (id p : ℕ) (set : SetState) (f n : ℕ)
-    (span : Contents) (row : List ℕ) → Arrives s far id p set f span row
+    (span : Contents) (row : List ℕ) → CanArrive s far id p set f span row
     → HasArrived s t far new id p set f n span row → AreFrames new
 arrived_frames s t far new id p set f n span row x y = record {
   sized = ap length y.spans ∙ length-set far.spans f (Some span) ∙ sound.sized
       ∙ sym (length-set far.frames f false) ∙ sym (ap length y.frames);
-  free = λ g below. subst (λ (l : List Bool). IsFree l g ↔ (span_in new.spans g ≡ None))
+  free = λ g below. subst (λ (l : List Bool). IsFreeFrame l g ↔ (span_in new.spans g ≡ None))
       (sym y.frames) (subst (λ (l : List (Option Contents)).
-      IsFree (with_taken far.frames f) g ↔ (span_in l g ≡ None)) (sym y.spans)
+      IsFreeFrame (with_taken far.frames f) g ↔ (span_in l g ≡ None)) (sym y.spans)
       (free g (let k = ap length y.frames in let l = length-set far.frames f false in
       omega (arith, below, k, l)) (cases_eq g f)));
   valid = λ g other there. elim (cases_eq g f) [
@@ -181,7 +182,7 @@ arrived_frames s t far new id p set f n span row x y = record {
     true_false e = cc
 
     free : (g : ℕ) → g < length far.frames → (g ≡ f) ⊎ (g ≢ f)
-        → IsFree (with_taken far.frames f) g ↔ (span_in (set_at far.spans f span) g ≡ None)
+        → IsFreeFrame (with_taken far.frames f) g ↔ (span_in (set_at far.spans f span) g ≡ None)
     free g below (inl same) = (
       (λ is_free. absurd (true_false (sym (ap (contains (with_taken far.frames f)) same
           ∙ contains-with_removed far.frames f) ∙ is_free))),
@@ -199,14 +200,14 @@ arrived_frames s t far new id p set f n span row x y = record {
     some = let z = live_names (position_of set p).slots
         (sym (x.sound.away.sound.sets.live id p set x.there) ∙ x.live) in
         live_count-pos span z.0 z.1
-        (subst (λ (l : List (Option ℕ)). Names l z.0 z.1) (sym x.fetched.slots) z.2)
+        (subst (λ (l : List (Option ℕ)). NamesHandle l z.0 z.1) (sym x.fetched.slots) z.2)
 
 no_far : (len v place n : ℕ) (words : List ℕ) (o : Object) → o ≡ is.Far len v words
     → LiesAt o n place → ⊥
 no_far len v place n words o e lies = subst (λ (q : Object). LiesAt q n place) e lies
 
 pub arrived_placed : (s t : Shown) (far new : FarState) (id p : ℕ) (set : SetState) (f n : ℕ)
-    (span : Contents) (row : List ℕ) → Arrives s far id p set f span row
+    (span : Contents) (row : List ℕ) → CanArrive s far id p set f span row
     → HasArrived s t far new id p set f n span row → ArePlaced t new
 arrived_placed s t far new id p set f n span row x y = record {
   memory = ap length y.brought.memory ∙ length_put s.memory (512 * f) (words_in row)
@@ -250,7 +251,7 @@ arrived_placed s t far new id p set f n span row x y = record {
     frame = free_frame s far f x.sound.here x.least
 
     placed : (h len place : ℕ) → LiesAt (object_at t h) len place
-        → IsMoved s t span f h ⊎ ((object_at t h ≡ object_at s h) × (IsNamed span.slots h → ⊥))
+        → IsBroughtIn s t span f h ⊎ ((object_at t h ≡ object_at s h) × (IsNamed span.slots h → ⊥))
         → HasSlot (set_at far.spans f span) h len place
     placed h len place lies (inl m) =
         let l = subst (λ (o : Object). LiesAt o len place) m.here lies in record {
@@ -276,7 +277,7 @@ arrived_placed s t far new id p set f n span row x y = record {
         }
 
 pub arrived_here : (s t : Shown) (far new : FarState) (id p : ℕ) (set : SetState) (f n : ℕ)
-    (span : Contents) (row : List ℕ) → Arrives s far id p set f span row
+    (span : Contents) (row : List ℕ) → CanArrive s far id p set f span row
     → HasArrived s t far new id p set f n span row → LocalSound t new
 arrived_here s t far new id p set f n span row x y = record {
   known = arrived_known s t far new id p set f n span row x y;

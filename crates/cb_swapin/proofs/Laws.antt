@@ -1,10 +1,10 @@
 -- The lemmas of this crate that other crates cite.
 pub use Rattle.cb_swapin.proofs.FarHomes.{given_known, gone_is_broken}
 pub use Rattle.cb_swapin.proofs.SlotNames.{named_within}
-pub use Rattle.cb_swapin.proofs.Stays.{given_stays, swap_stays, swap_step_stays}
-pub use Rattle.cb_swapin.proofs.StepFixed.{swap_step_fixes}
+pub use Rattle.cb_swapin.proofs.SwapStays.{given_stays, swap_stays, swap_step_stays}
+pub use Rattle.cb_swapin.proofs.SwapFixed.{swap_step_fixes}
 pub use Rattle.cb_swapin.proofs.SwapAnswers.{by_answer, unavailable_answer}
 pub use Rattle.cb_swapin.proofs.SwapKeeps.{keeps_far, leaving_stays, settings_stay, step_cases, step_only_no_frame}
 pub use Rattle.cb_swapin.proofs.SwapPins.{home_comes_in, named_far, swap_keeps}
 pub use Rattle.cb_swapin.proofs.SwapStep.{swap_step}
-pub use Rattle.cb_swapin.proofs.Unwritten.{swap_unwritten}
+pub use Rattle.cb_swapin.proofs.SwapUnwritten.{swap_unwritten}

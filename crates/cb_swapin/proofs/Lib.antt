@@ -7,15 +7,15 @@ pub mod Committed
 pub mod Waits
 pub mod RowGiven
 pub mod Arrived
-pub mod ArrivedFar
+pub mod SwapSound
 pub mod Swapped
 pub mod SwapAnswers
 pub mod SwapWords
 pub mod SwapStep
-pub mod StepFixed
+pub mod SwapFixed
 pub mod SwapKeeps
-pub mod Stays
-pub mod Unwritten
+pub mod SwapStays
+pub mod SwapUnwritten
 pub mod SwapPins
 pub mod FarHomes
 mod WorkedNamed

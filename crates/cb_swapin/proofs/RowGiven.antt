@@ -6,12 +6,12 @@ use Rattle.std.specs.Option.{option_map_or}
 use Rattle.cb_gf256.specs.Rows.{row_at}
 use Rattle.cb_member.specs.declared.names.Shard.{Shard}
 use Rattle.cb_member.specs.Membership.{Membership}
-use Rattle.cb_node.specs.NodesState.{NodesState, has, known_row, row_at as row_under}
+use Rattle.cb_node.specs.NodesState.{NodesState, has, known_row, row_under}
 use Rattle.cb_set.specs.SetState.{SetState}
 use Rattle.cb_set.specs.Lost.{is_lost, lost_at}
 use Rattle.cb_world.specs.declared.homes.Home.{Home}
 use Rattle.cb_world.specs.FarState.{FarState}
-use Rattle.cb_world.specs.Fetched.{rows_needed, with_given}
+use Rattle.cb_world.specs.Fetched.{rows_needed, with_rows_given}
 use Rattle.cb_world.specs.SetWord.{IsWordOf}
 use Rattle.cb_swapin.specs.Fetching.{far_given}
 
@@ -41,20 +41,21 @@ row_is_wide nodes m set p shard rows word at kept within =
 -- one row is needed where the position's shard is not lost
 pub one_needed : (nodes new : NodesState) (m : Membership) (set : SetState) (p : ℕ) (shard : Shard)
     → slice_get set.shards p ≡ Some shard → is_lost m shard ≡ false
-    → new ≡ with_given nodes 1 → new ≡ with_given nodes (rows_needed m set p)
+    → new ≡ with_rows_given nodes 1 → new ≡ with_rows_given nodes (rows_needed m set p)
 one_needed nodes new m set p shard at kept e =
     let stays : lost_at m set.shards p ≡ false =
     ap (λ (o : Option Shard). option_map_or (is_lost m) o false) at ∙ kept in
-    e ∙ ap (λ (b : Bool). with_given nodes (if b then length set.positions else 1)) (sym stays)
+    e ∙ ap (λ (b : Bool). with_rows_given nodes (if b then length set.positions else 1)) (sym stays)
 
 -- and k rows where it is
 pub all_needed : (nodes new : NodesState) (m : Membership) (set : SetState) (p : ℕ) (shard : Shard)
     → slice_get set.shards p ≡ Some shard → is_lost m shard ≡ true
-    → new ≡ with_given nodes (length set.positions) → new ≡ with_given nodes (rows_needed m set p)
+    → new ≡ with_rows_given nodes (length set.positions)
+    → new ≡ with_rows_given nodes (rows_needed m set p)
 all_needed nodes new m set p shard at gone e =
     let lacks : lost_at m set.shards p ≡ true =
     ap (λ (o : Option Shard). option_map_or (is_lost m) o false) at ∙ gone in
-    e ∙ ap (λ (b : Bool). with_given nodes (if b then length set.positions else 1)) (sym lacks)
+    e ∙ ap (λ (b : Bool). with_rows_given nodes (if b then length set.positions else 1)) (sym lacks)
 
 -- a word of the set has a row at each position of data, of the bytes of a span
 pub word_is_wide : (nodes : NodesState) (m : Membership) (set : SetState) (p : ℕ)
@@ -68,7 +69,7 @@ word_is_wide nodes m set p rows word within =
 -- the far state with the nodes that gave the rows out and with other homes
 pub given_at : (q far new : FarState) (homes : List (Option Home)) (nodes : NodesState)
     (x set : SetState) (p : ℕ) → q ≡ far → x ≡ set
-    → nodes ≡ with_given q.nodes (rows_needed q.members x p)
+    → nodes ≡ with_rows_given q.nodes (rows_needed q.members x p)
     → new ≡ record q { nodes = nodes; homes = homes }
     → new ≡ record (far_given far (rows_needed far.members set p)) { homes = homes }
 given_at q far new homes nodes x set p same found given e =

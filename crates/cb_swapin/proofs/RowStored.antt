@@ -15,7 +15,7 @@ use Rattle.cb_world.specs.Written.{Writes}
 use Rattle.cb_world.specs.RowWords.{words_in}
 use Rattle.cb_world.proofs.Laws.{length_words}
 use Rattle.cb_swapin.specs.Brings.{StoresIn}
-use Rattle.cb_swapin.specs.Waiting.{IsVacant}
+use Rattle.cb_swapin.specs.Waiting.{IsFrameVacant}
 use Rattle.cb_swapin.specs.BroughtIn.{Brought}
 
 spared : (o : Object) (p : ℕ) → Avoids p o → Spares p o
@@ -25,7 +25,7 @@ spared (is.Here len place) p a = a
 spared (is.Claimed len place v words) p a = tt
 
 -- a word of a vacant frame is owned
-pub vacant_owned : (s : Shown) (f : ℕ) → IsVacant s f → OwnsWords s f
+pub vacant_owned : (s : Shown) (f : ℕ) → IsFrameVacant s f → OwnsWords s f
 vacant_owned s f vacant p low high = (
   omega (arith, high, vacant.within),
   λ h. spared (object_at s h) p (vacant.none p h (low, high)),
@@ -75,7 +75,7 @@ leaves_frame s p [] = refl
 leaves_frame s p (w ∷ ws) = leaves_frame (after (Stored p w) s) (p + 1) ws
 
 pub row_stored : (runs : List Event → Type 0) (knows : Shown → Type 0) (f : ℕ) (row : List ℕ)
-    → runs (stores_from (512 * f) (words_in row)) → ((s : Shown) → knows s → IsVacant s f)
+    → runs (stores_from (512 * f) (words_in row)) → ((s : Shown) → knows s → IsFrameVacant s f)
     → Brought runs knows (StoresIn f)
     (λ s t. t ≡ record s { memory = put s.memory (512 * f) (words_in row) })
 row_stored runs knows f row ran vacant =

@@ -7,9 +7,9 @@ use Rattle.cb_world.specs.declared.event.Event.TheVariants.{Looked, Settled}
 use Rattle.cb_world.specs.declared.homes.Home.{Home}
 use Rattle.cb_world.specs.Homes.{home_at}
 use Rattle.cb_world.specs.Looks.{LooksFirst, NoLook}
-use Rattle.cb_swapin.specs.Named.{Names, IsNamed, NamesApart, AreCleared}
+use Rattle.cb_swapin.specs.Named.{NamesHandle, IsNamed, NamesApart, AreCleared}
 use Rattle.cb_world.specs.declared.shown.Shown.{Shown}
-use Rattle.cb_swapin.specs.Brings.{Brings}
+use Rattle.cb_swapin.specs.Brings.{BringsSlots}
 use Rattle.cb_swapin.specs.BroughtIn.{BringsSlot}
 
 pub no_name : (h : ℕ) → None ≡ Some h → ⊥
@@ -20,7 +20,7 @@ name_same a b e = cc
 
 -- a slot below n names the handle
 abbrev pub NamedBelow : ℕ → List (Option ℕ) → ℕ → Type 0
-NamedBelow n slots h = (slot : ℕ) × (slot < n) × Names slots slot h
+NamedBelow n slots h = (slot : ℕ) × (slot < n) × NamesHandle slots slot h
 
 is_name : (o : Option ℕ) (h : ℕ) → (o ≡ Some h) ⊎ (o ≡ Some h → ⊥)
 is_name None h = inr (λ e. no_name h e)
@@ -37,14 +37,14 @@ named_below (suc n) slots h = elim (is_name (get_or slots n None) h) [
   | inr off ↦ elim (named_below n slots h) [
     | inl x ↦ inl (x.0, omega (arith, x.1), x.2)
     | inr none ↦ inr (λ x. elim (cases_eq x.0 n) [
-      | inl same ↦ off (subst (λ (i : ℕ). Names slots i h) same x.2)
+      | inl same ↦ off (subst (λ (i : ℕ). NamesHandle slots i h) same x.2)
       | inr other ↦ none (x.0, omega (arith, x.1, other), x.2)
     ])
   ]
 ]
 
 -- a slot that names a handle is one of the table
-pub named_within : (slots : List (Option ℕ)) (slot h : ℕ) → Names slots slot h
+pub named_within : (slots : List (Option ℕ)) (slot h : ℕ) → NamesHandle slots slot h
     → slot < length slots
 named_within slots slot h e = elim (cases_lt slot (length slots)) [
   | inl within ↦ within
@@ -59,7 +59,7 @@ named_or_not slots h = elim (named_below (length slots) slots h) [
 ]
 
 -- the next slot names a handle that none before it does
-pub not_before : (slots : List (Option ℕ)) (i h : ℕ) → NamesApart slots → Names slots i h
+pub not_before : (slots : List (Option ℕ)) (i h : ℕ) → NamesApart slots → NamesHandle slots i h
     → NamedBelow i slots h → ⊥
 not_before slots i h apart e x = let same = apart x.0 i h x.2 e in omega (arith, same, x.1)
 
@@ -88,7 +88,7 @@ below_more n slots (Settled h w ∷ es) a =
 below_more n slots (e ∷ es) a = absurd a
 
 pub below_brings : (n : ℕ) (slots : List (Option ℕ)) (f : ℕ) (es : List Event)
-    → BringsBelow n slots es → Brings slots f es
+    → BringsBelow n slots es → BringsSlots slots f es
 below_brings n slots f [] a = tt
 below_brings n slots f (Looked h w ∷ es) a = ((a.0.0, a.0.2), below_brings n slots f es a.1)
 below_brings n slots f (Settled h w ∷ es) a = ((a.0.0, a.0.2), below_brings n slots f es a.1)
@@ -101,7 +101,7 @@ below_no_look k h w x [] off none = ((λ v e. off (sym e.0)), ((λ v e. e), tt))
 below_no_look k h w x (e ∷ es) off none = (none.0, below_no_look k h w x es off none.1)
 
 pub below_first : (i : ℕ) (slots : List (Option ℕ)) (h w x : ℕ) (es : List Event)
-    → NamesApart slots → Names slots i h → BringsBelow i slots es → LooksFirst es
+    → NamesApart slots → NamesHandle slots i h → BringsBelow i slots es → LooksFirst es
     → LooksFirst (es ++ Looked h w ∷ Settled h x ∷ [])
 below_first i slots h w x [] apart e a first = (tt, tt)
 below_first i slots h w x (Looked k v ∷ es) apart e a first =
@@ -154,7 +154,7 @@ skip_cleared n slots old new last x empty e =
     })
 
 pub one_cleared : (n : ℕ) (slots : List (Option ℕ)) (old new last : List (Option Home)) (k : ℕ)
-    → ClearedBelow n slots old new → Names slots n k → k < length old → last ≡ set new k None
+    → ClearedBelow n slots old new → NamesHandle slots n k → k < length old → last ≡ set new k None
     → ClearedBelow (n + 1) slots old last
 one_cleared n slots old new last k x e within is =
     subst (ClearedBelow (n + 1) slots old) (sym is) (record {
@@ -165,7 +165,7 @@ one_cleared n slots old new last k x e within is =
         | inr off ↦ get_or-set_other new k h None None off ∙ x.named h (
           y.0,
           (let other : y.0 ≢ n = λ same. off (name_same h k (sym (subst (λ (i : ℕ).
-              Names slots i h) same y.2) ∙ e)) in omega (arith, y.1, other)),
+              NamesHandle slots i h) same y.2) ∙ e)) in omega (arith, y.1, other)),
           y.2,
         )
       ];
@@ -173,7 +173,7 @@ one_cleared n slots old new last k x e within is =
           get_or-set_other new k h None None (λ same. none (
             n,
             omega arith,
-            subst (Names slots n)
+            subst (NamesHandle slots n)
                 (sym same) e,
           ))
           ∙ x.others h (λ y. none (y.0, omega (arith, y.1), y.2));

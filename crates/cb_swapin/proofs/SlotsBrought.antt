@@ -20,8 +20,8 @@ use Rattle.cb_world.specs.Looks.{LooksFirst}
 use Rattle.cb_world.specs.Allowed.{Allowed}
 use Rattle.cb_world.specs.Written.{Writes, written_by}
 use Rattle.cb_world.proofs.Laws.{played_append, written_append, allowed_append}
-use Rattle.cb_swapin.specs.Named.{Names, NamesApart}
-use Rattle.cb_swapin.specs.Brings.{Brings}
+use Rattle.cb_swapin.specs.Named.{NamesApart, NamesHandle}
+use Rattle.cb_swapin.specs.Brings.{BringsSlots}
 use Rattle.cb_swapin.specs.Waiting.{AreStored, IsReady, IsStored}
 use Rattle.cb_swapin.specs.BroughtIn.{AreBrought, BringsSlot, Brought, IsAsBefore, IsBrought, with_here}
 use Rattle.cb_swapin.proofs.SlotNames.{BringsBelow, below_append, below_brings, below_first, below_more, name_same, named_below, named_within, no_name, not_before}
@@ -44,7 +44,7 @@ other_slot s t class f i m k len p valid before st b fits covers =
 
 pub ready_next : (s t : Shown) (class : Class) (f i h : ℕ) (slots : List (Option ℕ))
     → IsClass class → length slots ≡ slots_of class → NamesApart slots → AreStored s f class slots
-    → AreBrought i slots class f s t → Names slots i h → IsReady t h (slot_place class f i)
+    → AreBrought i slots class f s t → NamesHandle slots i h → IsReady t h (slot_place class f i)
 ready_next s t class f i h slots valid sized apart stored b named =
     let st = stored.each i h named in
     let within : i < slots_of class = let w = named_within slots i h named in
@@ -79,7 +79,7 @@ ready_next s t class f i h slots valid sized apart stored b named =
 -- ---- what is known then
 pub one_brought : (s t u : Shown) (class : Class) (f i h w : ℕ) (slots : List (Option ℕ))
     → NamesApart slots → AreStored s f class slots → AreBrought i slots class f s t
-    → Names slots i h
+    → NamesHandle slots i h
     → ((n v : ℕ) (words : List ℕ) → object_at t h ≡ is.Far n v words → len_of w ≡ n)
     → u ≡ with_here t h (len_of w) (slot_place class f i) → AreBrought (i + 1) slots class f s u
 one_brought s t u class f i h w slots apart stored b named len_is came =
@@ -91,7 +91,7 @@ one_brought s t u class f i h w slots apart stored b named len_is came =
       hots = length-set t.hots h false ∙ b.hots;
       brought = λ slot k below e. elim (cases_eq slot i) [
         | inl same ↦
-            let e_i : Names slots i k = subst (λ (n : ℕ). Names slots n k) same e in
+            let e_i : NamesHandle slots i k = subst (λ (n : ℕ). NamesHandle slots n k) same e in
             let here : k ≡ h = name_same k h (sym e_i ∙ named) in
             subst (λ (n : ℕ). IsBrought s v class f n k) (sym same)
             (subst (IsBrought s v class f i) (sym here) (record {
@@ -108,7 +108,7 @@ one_brought s t u class f i h w slots apart stored b named len_is came =
         | inr off ↦
             let x = b.brought slot k (omega (arith, below, off)) e in
             let other : k ≢ h =
-            λ same. off (apart slot i h (subst (Names slots slot) same e) named) in record {
+            λ same. off (apart slot i h (subst (NamesHandle slots slot) same e) named) in record {
               len = x.len;
               version = x.version;
               words = x.words;
@@ -121,7 +121,7 @@ one_brought s t u class f i h w slots apart stored b named len_is came =
       others = λ k none.
           let x = b.others k (λ slot below e. none slot (omega (arith, below)) e) in
           let other : k ≢ h =
-          λ same. none i (omega arith) (subst (Names slots i) (sym same) named) in record {
+          λ same. none i (omega arith) (subst (NamesHandle slots i) (sym same) named) in record {
             object = get_or-set_other t.objects h k (is.Here (len_of w) place) never other
                 ∙ x.object;
             hot = get_or-set_other t.hots h k false false other ∙ x.hot;
@@ -251,7 +251,7 @@ slot_brought runs last next knows later i slots class f homes new b more after_b
 pub all_brought : (runs : List Event → Type 0) (knows : Shown → Type 0) (i : ℕ)
     (slots : List (Option ℕ)) (class : Class) (f : ℕ) → length slots ≤ i → i ≤ length slots
     → BroughtBelow runs knows i slots class f
-    → Brought runs knows (Brings slots f) (AreBrought (length slots) slots class f)
+    → Brought runs knows (BringsSlots slots f) (AreBrought (length slots) slots class f)
 all_brought runs knows i slots class f past most b =
     let same : i ≡ length slots = omega (arith, past, most) in record {
       events = b.events;

@@ -13,7 +13,7 @@ use Rattle.cb_world.specs.Looks.{LooksFirst, NoClaim}
 use Rattle.cb_world.specs.Written.{written_by}
 use Rattle.cb_world.specs.RowWords.{words_in}
 use Rattle.cb_world.proofs.Laws.{played_append, written_append, allowed_append, length_put, row_put}
-use Rattle.cb_swapin.specs.Brings.{Brings, StoresIn}
+use Rattle.cb_swapin.specs.Brings.{BringsSlots, StoresIn}
 use Rattle.cb_swapin.specs.Waiting.{AreStored, AreWaiting}
 use Rattle.cb_swapin.specs.BroughtIn.{AreBrought, Brought, IsSpanBrought}
 use Rattle.cb_swapin.proofs.SlotNames.{named_within}
@@ -52,12 +52,12 @@ waiting_stored s t f class slots row sized x e =
 
 -- ---- lists of events
 stores_bring : (slots : List (Option ℕ)) (f : ℕ) (es fs : List Event) → StoresIn f es
-    → Brings slots f fs → Brings slots f (es ++ fs)
+    → BringsSlots slots f fs → BringsSlots slots f (es ++ fs)
 stores_bring slots f [] fs a b = b
 stores_bring slots f (Stored p x ∷ es) fs a b = (a.0, stores_bring slots f es fs a.1 b)
 stores_bring slots f (e ∷ es) fs a b = absurd a
 
-brings_no_claim : (slots : List (Option ℕ)) (f : ℕ) (es : List Event) → Brings slots f es
+brings_no_claim : (slots : List (Option ℕ)) (f : ℕ) (es : List Event) → BringsSlots slots f es
     → NoClaim es
 brings_no_claim slots f [] a = tt
 brings_no_claim slots f (Looked h w ∷ es) a = brings_no_claim slots f es a.1
@@ -66,7 +66,7 @@ brings_no_claim slots f (Settled h w ∷ es) a = brings_no_claim slots f es a.1
 brings_no_claim slots f (e ∷ es) a = absurd a
 
 stores_then_first : (slots : List (Option ℕ)) (f : ℕ) (es fs : List Event) → StoresIn f es
-    → Brings slots f fs → LooksFirst fs → LooksFirst (es ++ fs)
+    → BringsSlots slots f fs → LooksFirst fs → LooksFirst (es ++ fs)
 stores_then_first slots f [] fs a b first = first
 stores_then_first slots f (Stored p x ∷ es) fs a b first = (
   brings_no_claim slots f (es ++ fs) (stores_bring slots f es fs a.1 b),
@@ -107,10 +107,10 @@ both_parts s t u slots class f row e b =
 pub span_brought : (first last all : List Event → Type 0) (vacant later knows : Shown → Type 0)
     (slots : List (Option ℕ)) (class : Class) (f : ℕ) (row : List ℕ)
     (a : Brought first vacant (StoresIn f) (λ s t. t ≡ with_row_words s f row))
-    (b : Brought last later (Brings slots f) (AreBrought (length slots) slots class f))
+    (b : Brought last later (BringsSlots slots f) (AreBrought (length slots) slots class f))
     → all (a.events ++ b.events) → ((s : Shown) → knows s → vacant s)
     → ((s : Shown) → knows s → later (played a.events s))
-    → Brought all knows (Brings slots f) (IsSpanBrought slots class f row)
+    → Brought all knows (BringsSlots slots f) (IsSpanBrought slots class f row)
 span_brought first last all vacant later knows slots class f row a b ran known after_a = record {
   events = a.events ++ b.events;
   ran = ran;

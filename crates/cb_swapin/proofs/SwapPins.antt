@@ -25,7 +25,7 @@ use Rattle.cb_world.specs.FarState.{FarState, span_in}
 use Rattle.cb_world.specs.LocalSound.{LiesAt}
 use Rattle.cb_world.specs.World.{word_at, IsKnown}
 use Rattle.cb_world.proofs.Laws.{KeepsPins, StepKeeps, pins_same}
-use Rattle.cb_swapin.specs.Named.{Names}
+use Rattle.cb_swapin.specs.Named.{NamesHandle}
 use Rattle.cb_swapin.specs.SwapStep.{IsSwapped, IsSwapStep, brought_word}
 use Rattle.cb_swapin.proofs.SlotNames.{named_or_not}
 use Rattle.cb_swapin.proofs.Waits.{free_frame}
@@ -41,7 +41,7 @@ pub record IsFarAt (x : Words) (h : ℕ) : Type 0 where
 
 pub named_far : (x : Words) (far : FarState) (s : Shown) (id p : ℕ) (set : SetState)
     → IsKnown x far s → set_in far.sets id ≡ Some set → (slot h : ℕ)
-    → Names (position_of set p).slots slot h → IsFarAt x h
+    → NamesHandle (position_of set p).slots slot h → IsFarAt x h
 named_far x far s id p set k there slot h named =
     let z = (k.sound.away.sound.sets.worded id set there).1.holds p slot h named in
     let below : h < length x.words = (let n = far_within s h z.len z.version z.words z.away in
@@ -73,7 +73,7 @@ brought_reads len place short = reads (brought_word len place) len place short (
     }
 
 pub word_reads : (x y : Words) (far new : FarState) (id p : ℕ) (set : SetState) (f : ℕ)
-    → IsSwapped x y far new id p set f → (slot h : ℕ) → Names (position_of set p).slots slot h
+    → IsSwapped x y far new id p set f → (slot h : ℕ) → NamesHandle (position_of set p).slots slot h
     → IsBroughtWord (word_at y h) (len_of (word_at x h))
 word_reads x y far new id p set f w slot h named =
     subst (λ (n : ℕ). IsBroughtWord n (len_of (word_at x h))) (sym (w.words.here slot h named))
@@ -90,7 +90,7 @@ pub record HasComeIn (x y : Words) (class : Class) (f slot h : ℕ) : Type 0 whe
 pub come_in : (x y : Words) (far new : FarState) (s t : Shown) (id p : ℕ) (set : SetState) (f : ℕ)
     → IsKnown x far s → IsKnown y new t → set_in far.sets id ≡ Some set
     → least_free far.frames ≡ Some f → (w : IsSwapped x y far new id p set f) → (slot h : ℕ)
-    → Names (position_of set p).slots slot h → HasComeIn x y w.state.class f slot h
+    → NamesHandle (position_of set p).slots slot h → HasComeIn x y w.state.class f slot h
 come_in x y far new s t id p set f k l there least w slot h named =
     let was = named_far x far s id p set k there slot h named in
     let reads = word_reads x y far new id p set f w slot h named in
@@ -131,7 +131,8 @@ swapped_pins x y far new id p set f s k there w = record {
   ];
 }
   where
-    none_of : (h slot : ℕ) → Names (position_of set p).slots slot h → pins_of (word_at x h) ≡ 0
+    none_of : (h slot : ℕ) → NamesHandle (position_of set p).slots slot h
+        → pins_of (word_at x h) ≡ 0
     none_of h slot named = (named_far x far s id p set k there slot h named).no_pins
 
 pub swap_keeps : (x y : Words) (far new : FarState) (id p : ℕ) (r : Reply) (s : Shown)
@@ -147,7 +148,7 @@ swap_keeps x y far new id p r s k z = record {
 -- each object that the position names came in
 pub step_comes_in : (x y : Words) (far new : FarState) (s t : Shown) (id p f : ℕ)
     → IsKnown x far s → IsKnown y new t → (z : IsSwapStep x y far new id p (answer.Swapped f))
-    → (slot h : ℕ) → Names (position_of z.set p).slots slot h
+    → (slot h : ℕ) → NamesHandle (position_of z.set p).slots slot h
     → HasComeIn x y z.change.state.class f slot h
 step_comes_in x y far new s t id p f k l z =
     come_in x y far new s t id p z.set f k l z.there (only_swapped far id z.set f (sym z.reply)).1
@@ -162,7 +163,8 @@ home_comes_in x y far new s t h home f k l at z =
     let lies = k.sound.away.sound.away.home h home at in
     let same : lies.0 ≡ z.set = set_same lies.0 z.set (sym lies.1 ∙ z.there) in
     step_comes_in x y far new s t home.set home.position f k l z home.slot h
-    (subst (λ (q : SetState). Names (position_of q home.position).slots home.slot h) same lies.2)
+    (subst (λ (q : SetState). NamesHandle (position_of q home.position).slots home.slot h) same
+    lies.2)
   where
     set_same : (a b : SetState) → Some a ≡ Some b → a ≡ b
     set_same a b e = cc

@@ -20,7 +20,7 @@ use Rattle.cb_world.specs.Plain.{Words, Shows}
 use Rattle.cb_world.specs.StillDesk.{plain_follows, plain_stays}
 use Rattle.cb_world.specs.FarState.{FarState}
 use Rattle.cb_world.specs.World.{word_at}
-use Rattle.cb_world.proofs.Laws.{HereIs, AreSeen, here_after, seen_after, seen_known, FreeIs, free_after, word_back, RunsStill}
+use Rattle.cb_world.proofs.Laws.{HereIs, AreHotsKnown, here_after, seen_after, seen_known, FreeIs, free_after, word_back, RunsStill}
 use Rattle.cb_swapin.specs.BroughtIn.{IsBrought, IsAsBefore, IsSpanBrought}
 use Rattle.cb_swapin.specs.SwapStep.{AreBroughtTo, brought_word}
 
@@ -61,7 +61,7 @@ module _ (x y : Words) (far : FarState) (s : Shown) (es : List Event) (slots : L
   shows : Shows y (played es s)
   shows = (plain_follows es x y s r.ran r.known.shows).1
 
-  seen : AreSeen y (played es s)
+  seen : AreHotsKnown y (played es s)
   seen = seen_after es x y s r.ran (seen_known x far s r.known)
 
   count : length y.words ≡ length x.words

@@ -20,12 +20,12 @@ use Rattle.cb_swapin.specs.Named.{AreCleared}
 use Rattle.cb_world.specs.declared.survey.Survey.{Survey}
 use Rattle.cb_world.proofs.Laws.{left_whole}
 use Rattle.cb_swapin.specs.BroughtIn.{IsSpanBrought}
-use Rattle.cb_swapin.specs.Fetching.{IsFetched, far_given, losses_of}
+use Rattle.cb_swapin.specs.Fetching.{IsFetched, far_given, losses_told}
 use Rattle.cb_swapin.specs.SwapRule.{IsSwappedTo, frame_answer, swap_answer}
 use Rattle.cb_swapin.specs.SwapEffect.{IsSwappedIn}
-use Rattle.cb_swapin.proofs.Waits.{Arrives}
+use Rattle.cb_swapin.proofs.Waits.{CanArrive}
 use Rattle.cb_swapin.proofs.Arrived.{HasArrived}
-use Rattle.cb_swapin.proofs.ArrivedFar.{now_arrived}
+use Rattle.cb_swapin.proofs.SwapSound.{now_arrived}
 
 -- ---- the answers
 abbrev losses_by : Bool → FarState → SetState → Option (List Loss)
@@ -45,7 +45,8 @@ none_some a e = cc
 
 -- a set that has lost too much is answered with what it lost
 pub unavailable : (far : FarState) (id : ℕ) (set : SetState) (l : List Loss)
-    → losses_of far set ≡ Some l → answer.Unavailable (record { n = id }) l ≡ swap_answer far id set
+    → losses_told far set ≡ Some l
+    → answer.Unavailable (record { n = id }) l ≡ swap_answer far id set
 unavailable far id set l e = by (is_broken far.members set) refl
   where
     by : (b : Bool) → is_broken far.members set ≡ b
@@ -58,7 +59,7 @@ unavailable far id set l e = by (is_broken far.members set) refl
     by false is = absurd (none_some l (sym (ap (λ (b : Bool). losses_by b far set) is) ∙ e))
 
 -- a set that has lost few enough is not broken
-pub is_whole : (far : FarState) (set : SetState) → losses_of far set ≡ None
+pub is_whole : (far : FarState) (set : SetState) → losses_told far set ≡ None
     → is_broken far.members set ≡ false
 is_whole far set e = by (is_broken far.members set) refl
   where
@@ -139,7 +140,7 @@ swapped_to far new homes id p set f span row x e whole cleared =
 
 -- ---- the effect
 pub swapped_in : (s t : Shown) (far new : FarState) (id p : ℕ) (set : SetState) (f n : ℕ)
-    (span : Contents) (row : List ℕ) (es : List Event) → Arrives s far id p set f span row
+    (span : Contents) (row : List ℕ) (es : List Event) → CanArrive s far id p set f span row
     → HasArrived s t far new id p set f n span row → Writes es s []
     → IsSwappedIn id p f far new es s t
 swapped_in s t far new id p set f n span row es x y nothing = record {

@@ -5,7 +5,7 @@ use Rattle.std.proofs.lemmas.List.{get_or_past}
 use Rattle.cb_class.specs.declared.class.Class.{Class}
 use Rattle.cb_class.specs.Class.{words_of, IsClassOf}
 use Rattle.cb_class.proofs.Laws.{slots_tell_class}
-use Rattle.cb_frame.specs.FreeFrames.{IsFree, least_free}
+use Rattle.cb_frame.specs.FreeFrames.{IsFreeFrame, least_free}
 use Rattle.cb_frame.proofs.Laws.{least_free-Some, IsFree-in_range}
 use Rattle.cb_gf256.specs.Rows.{row_at}
 use Rattle.cb_set.specs.SetState.{SetState, live_at, position_of}
@@ -25,13 +25,13 @@ use Rattle.cb_world.specs.LocalSound.{LocalSound, IsStamped}
 use Rattle.cb_world.specs.FarSound.{AwaySound}
 use Rattle.cb_world.specs.Sound.{Sound}
 use Rattle.cb_world.proofs.Laws.{slot_inside, avoids}
-use Rattle.cb_swapin.specs.Named.{Names, IsNamed, NamesApart}
+use Rattle.cb_swapin.specs.Named.{NamesHandle, IsNamed, NamesApart}
 use Rattle.cb_swapin.specs.Brings.{IsInFrame}
-use Rattle.cb_swapin.specs.Waiting.{AreWaiting, IsInRow, IsVacant}
+use Rattle.cb_swapin.specs.Waiting.{AreWaiting, IsFrameVacant, WaitsInRow}
 use Rattle.cb_swapin.specs.Fetching.{IsFetched}
 
 -- What is known where a live position of a committed set can be swapped in.
-pub record Arrives (s : Shown) (far : FarState) (id p : ℕ) (set : SetState) (f : ℕ)
+pub record CanArrive (s : Shown) (far : FarState) (id p : ℕ) (set : SetState) (f : ℕ)
     (span : Contents) (row : List ℕ) : Type 0 where
   pub sound : Sound s far
   pub there : set_in far.sets id ≡ Some set
@@ -49,14 +49,14 @@ some_none o x e f = cc
 pub free_frame : (s : Shown) (far : FarState) (f : ℕ) → LocalSound s far
     → least_free far.frames ≡ Some f → (f < length far.spans) × (span_in far.spans f ≡ None)
 free_frame s far f sound least =
-    let free : IsFree far.frames f = (least_free-Some far.frames f least).0 in
+    let free : IsFreeFrame far.frames f = (least_free-Some far.frames f least).0 in
     let within = IsFree-in_range far.frames f free in (
       (let n = sound.frames.sized in omega (arith, n, within)),
       (sound.frames.free f within).0 free,
     )
 
 pub vacant : (s : Shown) (far : FarState) (f : ℕ) → LocalSound s far
-    → least_free far.frames ≡ Some f → IsVacant s f
+    → least_free far.frames ≡ Some f → IsFrameVacant s f
 vacant s far f sound least = let frame = free_frame s far f sound least in record {
   within = (let m = sound.placed.memory in omega (arith, m, frame.0));
   none = λ p h inside. avoids (object_at s h) p (λ len place lies covers.
@@ -88,11 +88,12 @@ far_known s h len v words e = elim (cases_lt h (length s.objects)) [
     never_far e = cc
 
 pub named_waits : (s : Shown) (far : FarState) (id p : ℕ) (set : SetState) (f : ℕ)
-    (span : Contents) (row : List ℕ) → Arrives s far id p set f span row → (slot h : ℕ)
-    → Names span.slots slot h → IsInRow s span.class row slot h
+    (span : Contents) (row : List ℕ) → CanArrive s far id p set f span row → (slot h : ℕ)
+    → NamesHandle span.slots slot h → WaitsInRow s span.class row slot h
 named_waits s far id p set f span row x slot h named =
     let w = x.sound.away.sound.sets.worded id set x.there in
-    let y = w.1.holds p slot h (subst (λ (l : List (Option ℕ)). Names l slot h) x.fetched.slots
+    let y = w.1.holds p slot h
+    (subst (λ (l : List (Option ℕ)). NamesHandle l slot h) x.fetched.slots
     named) in
     let class : y.class ≡ span.class = slots_tell_class y.class span.class y.fits.in_table
     x.fetched.valid.in_table
@@ -114,7 +115,7 @@ named_waits s far id p set f span row x slot h named =
     }
 
 pub waiting : (s : Shown) (far : FarState) (id p : ℕ) (set : SetState) (f : ℕ) (span : Contents)
-    (row : List ℕ) → Arrives s far id p set f span row
+    (row : List ℕ) → CanArrive s far id p set f span row
     → AreWaiting s f span.class span.slots row
 waiting s far id p set f span row x = record {
   vacant = vacant s far f x.sound.here x.least;
@@ -124,11 +125,11 @@ waiting s far id p set f span row x = record {
 -- ---- the homes
 pub home_named : (s : Shown) (far : FarState) (id p : ℕ) (set : SetState) (slots : List (Option ℕ))
     → AwaySound s far → set_in far.sets id ≡ Some set → slots ≡ (position_of set p).slots
-    → (slot h : ℕ) → Names slots slot h
+    → (slot h : ℕ) → NamesHandle slots slot h
     → home_at far.homes h ≡ Some (record { set = id; position = p; slot = slot })
 home_named s far id p set slots sound there same slot h named =
     sound.away.named id p slot h set there
-    (subst (λ (l : List (Option ℕ)). Names l slot h) same named)
+    (subst (λ (l : List (Option ℕ)). NamesHandle l slot h) same named)
 
 pub names_apart : (s : Shown) (far : FarState) (id p : ℕ) (set : SetState)
     (slots : List (Option ℕ)) → AwaySound s far → set_in far.sets id ≡ Some set

@@ -12,15 +12,15 @@ use Rattle.cb_world.specs.declared.shown.Shown.{Shown}
 use Rattle.cb_world.specs.Memory.{put}
 use Rattle.cb_world.specs.RowWords.{words_in}
 use Rattle.cb_world.proofs.Laws.{length_words, length_put, put_else}
-use Rattle.cb_swapin.specs.Named.{AreCleared, IsNamed, Names, NamesApart}
-use Rattle.cb_swapin.specs.Brings.{Brings, StoresIn}
+use Rattle.cb_swapin.specs.Named.{AreCleared, IsNamed, NamesApart, NamesHandle}
+use Rattle.cb_swapin.specs.Brings.{BringsSlots, StoresIn}
 use Rattle.cb_swapin.specs.BroughtIn.{IsAsBefore, IsSpanBrought}
 
 -- slots 0 and 2 name the objects 3 and 1
 abbrev slots : List (Option ℕ)
 slots = Some 3 ∷ None ∷ Some 1 ∷ []
 
-names_three : Names slots 0 3
+names_three : NamesHandle slots 0 3
 names_three = refl
 
 names_one : IsNamed slots 1
@@ -33,7 +33,7 @@ none_some : (a : ℕ) → None ≡ Some a → ⊥
 none_some a e = cc
 
 -- which handles are named
-which : (slot h : ℕ) → Names slots slot h → (h ≡ 3) ⊎ (h ≡ 1)
+which : (slot h : ℕ) → NamesHandle slots slot h → (h ≡ 3) ⊎ (h ≡ 1)
 which zero h e = inl (sym (some_same 3 h e))
 which (suc zero) h e = absurd (none_some h e)
 which (suc (suc zero)) h e = inr (sym (some_same 1 h e))
@@ -106,32 +106,32 @@ cuts_the_homes : AreCleared slots (None ∷ None ∷ None ∷ None ∷ []) (None
 cuts_the_homes x = let e = x.count in omega (arith, e)
 
 -- ---- events, where the frame is 1: its words are 512 to 1023
-brings : Brings slots 1 (Stored 512 7 ∷ Stored 1023 8 ∷ Looked 3 9 ∷ Settled 3 10 ∷ Looked 1 9
+brings : BringsSlots slots 1 (Stored 512 7 ∷ Stored 1023 8 ∷ Looked 3 9 ∷ Settled 3 10 ∷ Looked 1 9
     ∷ Settled 1 10 ∷ [])
 brings = (
   (omega arith, omega arith),
   ((omega arith, omega arith), ((0, refl), ((0, refl), ((2, refl), ((2, refl), tt))))),
 )
 
-brings_nothing : Brings slots 1 []
+brings_nothing : BringsSlots slots 1 []
 brings_nothing = tt
 
-stores_behind_the_frame : Brings slots 1 (Stored 1024 7 ∷ []) → ⊥
+stores_behind_the_frame : BringsSlots slots 1 (Stored 1024 7 ∷ []) → ⊥
 stores_behind_the_frame x = omega (arith, x.0.1)
 
-stores_before_the_frame : Brings slots 1 (Stored 511 7 ∷ []) → ⊥
+stores_before_the_frame : BringsSlots slots 1 (Stored 511 7 ∷ []) → ⊥
 stores_before_the_frame x = omega (arith, x.0.0)
 
-settles_another : Brings slots 1 (Settled 2 10 ∷ []) → ⊥
+settles_another : BringsSlots slots 1 (Settled 2 10 ∷ []) → ⊥
 settles_another x = not_two x.0
 
-looks_at_another : Brings slots 1 (Looked 2 10 ∷ []) → ⊥
+looks_at_another : BringsSlots slots 1 (Looked 2 10 ∷ []) → ⊥
 looks_at_another x = not_two x.0
 
-stamps : Brings slots 1 (Stamped 3 2 ∷ []) → ⊥
+stamps : BringsSlots slots 1 (Stamped 3 2 ∷ []) → ⊥
 stamps x = x
 
-claims : Brings slots 1 (Claimed 3 9 1 [] ∷ []) → ⊥
+claims : BringsSlots slots 1 (Claimed 3 9 1 [] ∷ []) → ⊥
 claims x = x
 
 stores : StoresIn 1 (Stored 512 7 ∷ Stored 512 8 ∷ [])
@@ -177,7 +177,7 @@ afterwards memory =
     left (is.Here 2 128 ∷ is.Here 2 600 ∷ []) (false ∷ true ∷ []) (1 ∷ 4 ∷ []) memory
 
 -- the one object of the table
-the_one : (slot h : ℕ) → Names table slot h → (slot ≡ 1) × (h ≡ 0)
+the_one : (slot h : ℕ) → NamesHandle table slot h → (slot ≡ 1) × (h ≡ 0)
 the_one zero h e = absurd (none_some h e)
 the_one (suc zero) h e = (refl, sym (some_same 0 h e))
 the_one (suc (suc zero)) h e = absurd (none_some h e)

@@ -15,13 +15,13 @@ use Rattle.cb_span.specs.Contents.{Contents, span_of}
 use Rattle.cb_types.specs.declared.reply.Reply.TheVariants as answer
 use Rattle.cb_world.specs.declared.event.Event.TheVariants.{Looked}
 use Rattle.cb_world.specs.declared.homes.Home.{Home}
-use Rattle.cb_world.specs.Fetched.{rows_needed, with_given}
+use Rattle.cb_world.specs.Fetched.{rows_needed, with_rows_given}
 use Rattle.cb_world.specs.LeftOver.{nodes_left, sets_left}
 use Rattle.cb_world.specs.Sets.{SetMap, set_in}
 use Rattle.cb_world.specs.FarState.{FarState}
 use Rattle.cb_world.specs.Survey.{no_survey}
 use Rattle.cb_world.proofs.Laws.{at, node}
-use Rattle.cb_swapin.specs.Fetching.{far_given, losses_of}
+use Rattle.cb_swapin.specs.Fetching.{far_given, losses_told}
 use Rattle.cb_swapin.specs.SwapRule.{IsSwappedTo, SwapFar, swap_answer}
 
 -- node 1 crashed at epoch 1 and node 2 at epoch 3
@@ -99,10 +99,10 @@ broken_and_no_frame : swap_answer (far none_free (on 1 2 0)) 5 (on 1 2 0)
     ≡ answer.Unavailable (record { n = 5 }) (loss 1 1 ∷ loss 2 3 ∷ [])
 broken_and_no_frame = refl
 
-losses : losses_of (far some_free (on 0 2 1)) (on 0 2 1) ≡ Some (loss 2 3 ∷ loss 1 1 ∷ [])
+losses : losses_told (far some_free (on 0 2 1)) (on 0 2 1) ≡ Some (loss 2 3 ∷ loss 1 1 ∷ [])
 losses = refl
 
-few_losses : losses_of (far some_free (on 1 0 3)) (on 1 0 3) ≡ None
+few_losses : losses_told (far some_free (on 1 0 3)) (on 1 0 3) ≡ None
 few_losses = refl
 
 -- rows given out: its own, or one of each of as many others as there are data positions
@@ -152,7 +152,7 @@ new = record old {
   spans = None ∷ Some (span Hot) ∷ None ∷ [];
   sets = with_set rest;
   homes = None ∷ Some (home 1 0) ∷ [];
-  nodes = with_given old.nodes 1;
+  nodes = with_rows_given old.nodes 1;
 }
 
 -- the one object of the position
@@ -259,7 +259,7 @@ drops_a_live_set x = none-some rest (sym gone ∙ ap (λ (m : SetMap). set_in m 
     there : set_in (with_set rest) 5 ≡ Some rest
     there = grind (arith, map.gets)
 
-gives_two_rows : Refuted (record new { nodes = with_given old.nodes 2 })
+gives_two_rows : Refuted (record new { nodes = with_rows_given old.nodes 2 })
 gives_two_rows x = let e : 2 ≡ 1 = ap (λ (n : NodesState). n.given) x.nodes in omega (arith, e)
 
 counts_a_set : Refuted (record new { counts = record old.counts { sets = 7 } })

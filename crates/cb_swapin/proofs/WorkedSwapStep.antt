@@ -5,7 +5,7 @@ use Rattle.std.specs.FinMap as map
 use Rattle.std.proofs.lemmas.Option.{none-some, same_Some}
 use Rattle.cb_class.specs.Class.{bytes_of, slots_of, words_of}
 use Rattle.cb_gf256.specs.Rows.{row_at}
-use Rattle.cb_node.specs.NodesState.{NodesState, row_at as row_under}
+use Rattle.cb_node.specs.NodesState.{NodesState, row_under}
 use Rattle.cb_ptr.specs.declared.word.State.TheVariants as pointer
 use Rattle.cb_ptr.specs.Word.{state_of, hot_of, len_of, place_of, pins_of}
 use Rattle.cb_set.specs.SetState.{SetState}
@@ -13,7 +13,7 @@ use Rattle.cb_span.specs.Places.{slot_place}
 use Rattle.cb_types.specs.declared.config.Config.{Config}
 use Rattle.cb_types.specs.declared.reply.Reply.{Reply}
 use Rattle.cb_types.specs.declared.reply.Reply.TheVariants as answer
-use Rattle.cb_world.specs.Fetched.{with_given}
+use Rattle.cb_world.specs.Fetched.{with_rows_given}
 use Rattle.cb_world.specs.FarState.{FarState}
 use Rattle.cb_world.specs.Memory.{put}
 use Rattle.cb_world.specs.Plain.{Words}
@@ -180,7 +180,7 @@ abbrev old_at : NodesState → FarState
 old_at nodes = record old { nodes = nodes }
 
 abbrev new_at : NodesState → FarState
-new_at nodes = record new { nodes = with_given nodes 1 }
+new_at nodes = record new { nodes = with_rows_given nodes 1 }
 
 swapped_at : (nodes : NodesState) → IsSwappedTo (old_at nodes) (new_at nodes) 5 0 set 1
 unfolding slots_of bytes_of

@@ -10,12 +10,12 @@ IsInFrame f p = (512 * f ≤ p) × (p < 512 * f + 512)
 
 -- words are stored in the frame alone, and the objects that the slots name, and no others, are
 -- looked at and settled
-abbrev pub Brings : List (Option ℕ) → ℕ → List Event → Type 0
-Brings slots f [] = Unit {0}
-Brings slots f (Looked h w ∷ es) = IsNamed slots h × Brings slots f es
-Brings slots f (Stored p x ∷ es) = IsInFrame f p × Brings slots f es
-Brings slots f (Settled h w ∷ es) = IsNamed slots h × Brings slots f es
-Brings slots f (e ∷ es) = ⊥
+abbrev pub BringsSlots : List (Option ℕ) → ℕ → List Event → Type 0
+BringsSlots slots f [] = Unit {0}
+BringsSlots slots f (Looked h w ∷ es) = IsNamed slots h × BringsSlots slots f es
+BringsSlots slots f (Stored p x ∷ es) = IsInFrame f p × BringsSlots slots f es
+BringsSlots slots f (Settled h w ∷ es) = IsNamed slots h × BringsSlots slots f es
+BringsSlots slots f (e ∷ es) = ⊥
 
 -- every event stores a word of the frame
 abbrev pub StoresIn : ℕ → List Event → Type 0

@@ -16,7 +16,7 @@ use Rattle.cb_world.specs.Looks.{LooksFirst}
 use Rattle.cb_world.specs.Allowed.{Allowed}
 use Rattle.cb_world.specs.Written.{Writes}
 use Rattle.cb_world.specs.Settling.{MaySettle}
-use Rattle.cb_swapin.specs.Named.{Names, IsNamed}
+use Rattle.cb_swapin.specs.Named.{NamesHandle, IsNamed}
 use Rattle.cb_swapin.specs.Waiting.{IsReady}
 
 -- the object that was far is here in the slot, with its length, and not hot
@@ -42,8 +42,8 @@ pub record AreBrought (n : ℕ) (slots : List (Option ℕ)) (class : Class) (f :
   pub memory : t.memory ≡ s.memory
   pub objects : length t.objects ≡ length s.objects
   pub hots : length t.hots ≡ length s.hots
-  pub brought : (slot h : ℕ) → slot < n → Names slots slot h → IsBrought s t class f slot h
-  pub others : (h : ℕ) → ((slot : ℕ) → slot < n → Names slots slot h → ⊥) → IsAsBefore s t h
+  pub brought : (slot h : ℕ) → slot < n → NamesHandle slots slot h → IsBrought s t class f slot h
+  pub others : (h : ℕ) → ((slot : ℕ) → slot < n → NamesHandle slots slot h → ⊥) → IsAsBefore s t h
 
 -- the words of the row stand in the frame, and the objects of all slots are here
 pub record IsSpanBrought (slots : List (Option ℕ)) (class : Class) (f : ℕ) (row : List ℕ)
@@ -53,7 +53,7 @@ pub record IsSpanBrought (slots : List (Option ℕ)) (class : Class) (f : ℕ) (
   pub memory : t.memory ≡ put s.memory (512 * f) (words_in row)
   pub objects : length t.objects ≡ length s.objects
   pub hots : length t.hots ≡ length s.hots
-  pub brought : (slot h : ℕ) → Names slots slot h → IsBrought s t class f slot h
+  pub brought : (slot h : ℕ) → NamesHandle slots slot h → IsBrought s t class f slot h
   pub others : (h : ℕ) → (IsNamed slots h → ⊥) → IsAsBefore s t h
 
 -- the object is here at the place, and not hot

@@ -8,21 +8,21 @@ use Rattle.cb_span.specs.declared.temp.Temp.TheVariants.{Hot}
 use Rattle.cb_span.specs.Contents.{Contents, IsSpan}
 use Rattle.cb_world.specs.SetWord.{IsWordOf, is_broken}
 use Rattle.cb_world.specs.FarState.{FarState}
-use Rattle.cb_world.specs.Fetched.{rows_needed, with_given}
+use Rattle.cb_world.specs.Fetched.{rows_needed, with_rows_given}
 use Rattle.cb_world.specs.declared.event.Event.{Event}
 use Rattle.cb_world.specs.declared.shown.Shown.{Shown}
 use Rattle.cb_swapin.specs.Named.{AreCleared}
-use Rattle.cb_swapin.specs.Brings.{Brings}
+use Rattle.cb_swapin.specs.Brings.{BringsSlots}
 use Rattle.cb_swapin.specs.Waiting.{AreWaiting}
 use Rattle.cb_swapin.specs.BroughtIn.{Brought, IsSpanBrought}
 
 -- what the set has lost, where it has lost more shards than it has parities
-abbrev pub losses_of : FarState → SetState → Option (List Loss)
-losses_of far set = if is_broken far.members set then Some (lost far.members set.shards) else None
+abbrev pub losses_told : FarState → SetState → Option (List Loss)
+losses_told far set = if is_broken far.members set then Some (lost far.members set.shards) else None
 
 -- the far state once so many rows more were given out
 abbrev pub far_given : FarState → ℕ → FarState
-far_given far n = record far { nodes = with_given far.nodes n }
+far_given far n = record far { nodes = with_rows_given far.nodes n }
 
 -- the span is hot and has the slots of the position
 pub record IsSpanOf (set : SetState) (p : ℕ) (span : Contents) : Type 0 where
@@ -49,4 +49,4 @@ pub record BringsRow (runs : List Event → Type 0) (shows : Shown → Type 0) (
   pub homes : AreCleared span.slots far.homes new.homes
   pub state : new ≡ record (far_given far (rows_needed far.members set p)) { homes = new.homes }
   pub brought : Brought runs (λ s. shows s × AreWaiting s f span.class span.slots row)
-      (Brings span.slots f) (IsSpanBrought span.slots span.class f row)
+      (BringsSlots span.slots f) (IsSpanBrought span.slots span.class f row)

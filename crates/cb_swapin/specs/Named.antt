@@ -4,16 +4,16 @@ use Rattle.cb_world.specs.declared.homes.Home.{Home}
 use Rattle.cb_world.specs.Homes.{home_at}
 
 -- the slot names the handle
-abbrev pub Names : List (Option ℕ) → ℕ → ℕ → Type 0
-Names slots slot h = slice_index_or slots slot None ≡ Some h
+abbrev pub NamesHandle : List (Option ℕ) → ℕ → ℕ → Type 0
+NamesHandle slots slot h = slice_index_or slots slot None ≡ Some h
 
 -- a slot names the handle
 abbrev pub IsNamed : List (Option ℕ) → ℕ → Type 0
-IsNamed slots h = (slot : ℕ) × Names slots slot h
+IsNamed slots h = (slot : ℕ) × NamesHandle slots slot h
 
 -- no two slots name one handle
 abbrev pub NamesApart : List (Option ℕ) → Type 0
-NamesApart slots = (p q h : ℕ) → Names slots p h → Names slots q h → p ≡ q
+NamesApart slots = (p q h : ℕ) → NamesHandle slots p h → NamesHandle slots q h → p ≡ q
 
 -- the objects of the named handles have no home, and every other has the one that it had
 pub record AreCleared (slots : List (Option ℕ)) (old new : List (Option Home)) : Type 0 where

@@ -13,10 +13,10 @@ use Rattle.cb_world.specs.declared.event.Event.{Event}
 use Rattle.cb_world.specs.Sets.{set_in}
 use Rattle.cb_world.specs.SetWord.{is_broken}
 use Rattle.cb_world.specs.FarState.{FarState}
-use Rattle.cb_world.specs.Fetched.{rows_needed, with_given}
+use Rattle.cb_world.specs.Fetched.{rows_needed, with_rows_given}
 use Rattle.cb_world.specs.LeftOver.{nodes_left, sets_left}
 use Rattle.cb_swapin.specs.Named.{AreCleared}
-use Rattle.cb_swapin.specs.Brings.{Brings}
+use Rattle.cb_swapin.specs.Brings.{BringsSlots}
 
 -- the least free frame is taken, if there is one
 abbrev pub frame_answer : Option ℕ → Reply
@@ -45,7 +45,7 @@ pub record IsSwappedTo (far new : FarState) (id p : ℕ) (set : SetState) (f : �
   pub homes : AreCleared (position_of set p).slots far.homes new.homes
   pub sets : new.sets ≡ sets_left far.sets id (with_position set p dead_position)
   pub nodes : new.nodes
-      ≡ nodes_left (with_given far.nodes (rows_needed far.members set p))
+      ≡ nodes_left (with_rows_given far.nodes (rows_needed far.members set p))
       (with_position set p dead_position)
   pub rest : new ≡ record far {
     frames = new.frames;
@@ -58,7 +58,7 @@ pub record IsSwappedTo (far new : FarState) (id p : ℕ) (set : SetState) (f : �
 -- the far state after a swap-in with this reply, and its events; a refusal changes nothing
 abbrev pub SwapFar : FarState → FarState → ℕ → ℕ → SetState → List Event → Reply → Type 0
 SwapFar far new id p set es (answer.Swapped f) =
-    IsSwappedTo far new id p set f × Brings (position_of set p).slots f es
+    IsSwappedTo far new id p set f × BringsSlots (position_of set p).slots f es
 SwapFar far new id p set es _ = (new ≡ far) × (es ≡ [])
 
 -- the reply of a swap-in of position p of the set of a number, and the far state after it

@@ -15,7 +15,7 @@ use Rattle.cb_world.specs.World.{word_at}
 use Rattle.cb_world.specs.Sets.{set_in}
 use Rattle.cb_world.specs.SetWord.{IsWordOf}
 use Rattle.cb_world.specs.FarState.{FarState}
-use Rattle.cb_swapin.specs.Named.{Names, IsNamed}
+use Rattle.cb_swapin.specs.Named.{NamesHandle, IsNamed}
 use Rattle.cb_swapin.specs.SwapRule.{IsSwappedTo, swap_answer}
 
 -- the word of an object that was brought in: here, not hot and without pins, with its length and
@@ -38,7 +38,7 @@ pub record AreBroughtTo (x y : Words) (slots : List (Option ℕ)) (class : Class
   pub versions : y.versions ≡ x.versions
   pub memory : y.memory ≡ put x.memory (512 * f) (words_in row)
   pub count : length y.words ≡ length x.words
-  pub here : (slot h : ℕ) → Names slots slot h
+  pub here : (slot h : ℕ) → NamesHandle slots slot h
       → word_at y h ≡ brought_word (len_of (word_at x h)) (slot_place class f slot)
   pub others : (h : ℕ) → (IsNamed slots h → ⊥) → word_at y h ≡ word_at x h
 

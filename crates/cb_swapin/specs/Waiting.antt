@@ -8,16 +8,16 @@ use Rattle.cb_world.specs.declared.shown.Shown.{Shown}
 use Rattle.cb_world.specs.Memory.{window, words_for}
 use Rattle.cb_world.specs.Shown.{Avoids, Covers, MayLie, object_at, version_at}
 use Rattle.cb_world.specs.RowWords.{words_in}
-use Rattle.cb_swapin.specs.Named.{Names}
+use Rattle.cb_swapin.specs.Named.{NamesHandle}
 use Rattle.cb_swapin.specs.Brings.{IsInFrame}
 
 -- no object lies in the frame
-pub record IsVacant (s : Shown) (f : ℕ) : Type 0 where
+pub record IsFrameVacant (s : Shown) (f : ℕ) : Type 0 where
   pub within : 512 * f + 512 ≤ length s.memory
   pub none : (p h : ℕ) → IsInFrame f p → Avoids p (object_at s h)
 
 -- an object is far, and its words stand in a slot of the row
-pub record IsInRow (s : Shown) (class : Class) (row : List ℕ) (slot h : ℕ) : Type 0 where
+pub record WaitsInRow (s : Shown) (class : Class) (row : List ℕ) (slot h : ℕ) : Type 0 where
   pub len : ℕ
   pub version : ℕ
   pub words : List ℕ
@@ -31,8 +31,8 @@ pub record IsInRow (s : Shown) (class : Class) (row : List ℕ) (slot h : ℕ) :
 -- the frame is vacant, and the named objects are far and stand in the row
 pub record AreWaiting (s : Shown) (f : ℕ) (class : Class) (slots : List (Option ℕ))
     (row : List ℕ) : Type 0 where
-  pub vacant : IsVacant s f
-  pub each : (slot h : ℕ) → Names slots slot h → IsInRow s class row slot h
+  pub vacant : IsFrameVacant s f
+  pub each : (slot h : ℕ) → NamesHandle slots slot h → WaitsInRow s class row slot h
 
 -- a far object can be settled at a place: its words stand there, and no other object lies there
 pub record IsReady (s : Shown) (h place : ℕ) : Type 0 where
@@ -58,5 +58,5 @@ pub record IsStored (s : Shown) (f : ℕ) (class : Class) (slot h : ℕ) : Type 
 
 -- the frame is vacant, and the words of the named objects stand there
 pub record AreStored (s : Shown) (f : ℕ) (class : Class) (slots : List (Option ℕ)) : Type 0 where
-  pub vacant : IsVacant s f
-  pub each : (slot h : ℕ) → Names slots slot h → IsStored s f class slot h
+  pub vacant : IsFrameVacant s f
+  pub each : (slot h : ℕ) → NamesHandle slots slot h → IsStored s f class slot h

@@ -5,7 +5,7 @@ ghost use Rattle.cb_world.specs.declared.event.Event.{Event};
 ghost use Rattle.cb_world.specs.declared.event.Event.TheVariants.{Looked, Settled};
 ghost use Rattle.cb_world.specs.declared.shown.Shown.{Shown};
 ghost use Rattle.cb_swapin.specs.Named.{AreCleared, IsNamed, NamesApart};
-ghost use Rattle.cb_swapin.specs.Brings.{Brings};
+ghost use Rattle.cb_swapin.specs.Brings.{BringsSlots};
 ghost use Rattle.cb_swapin.specs.Waiting.{AreStored, AreWaiting, IsReady};
 ghost use Rattle.cb_swapin.specs.BroughtIn.{AreBrought, BringsOne, BringsSlot, Brought, IsSpanBrought};
 
@@ -36,7 +36,7 @@ pub(crate) fn bring_span<D: Desk>(
     ensures homes { AreCleared span.now.slots homes.old homes.new }
     ensures brought { Brought (λ es. D.run desk.old es desk.new)
         (λ s. D.shows desk.old s × AreWaiting s frame span.now.class span.now.slots row.now)
-        (Brings span.now.slots frame)
+        (BringsSlots span.now.slots frame)
         (IsSpanBrought span.now.slots span.now.class frame row.now) }
 {
     store_row(desk, frame, row);
@@ -61,7 +61,7 @@ fn bring_all<D: Desk>(
     ensures homes { AreCleared slots.now homes.old homes.new }
     ensures brought { Brought (λ es. D.run desk.old es desk.new)
         (λ s. D.shows desk.old s × AreStored s frame class slots.now)
-        (Brings slots.now frame)
+        (BringsSlots slots.now frame)
         (AreBrought (length slots.now) slots.now class frame) }
 {
     for (slot, handle) in slots.iter().enumerate() {

@@ -12,7 +12,7 @@ ghost use Rattle.cb_world.specs.Stored.{AreThere};
 ghost use Rattle.cb_set.specs.Lost.{NodesAreMembers};
 ghost use Rattle.cb_world.specs.LeftOver.{with_left};
 ghost use Rattle.cb_world.specs.Performs.{Performs};
-ghost use Rattle.cb_swapin.specs.Fetching.{BringsRow, IsSpanOf, far_given, losses_of};
+ghost use Rattle.cb_swapin.specs.Fetching.{BringsRow, IsSpanOf, far_given, losses_told};
 ghost use Rattle.cb_swapin.specs.SwapRule.{SwapRule};
 ghost use Rattle.cb_swapin.specs.SwapEffect.{SwapEffect};
 
@@ -70,7 +70,7 @@ fn losses(far: &Far, id: SetId) -> Result<Option<Losses>, NoMemory>
     requires sound { (s : Shown) × AwaySound s far.now }
     requires there { (set : SetState) × (set_in far.now.sets id.n ≡ Some set) }
     ensures { IfOk result (λ lost. (set : SetState) → set_in far.now.sets id.n ≡ Some set
-        → lost ≡ losses_of far.now set) }
+        → lost ≡ losses_told far.now set) }
 {
     let set = far.sets.committed(id.n).unwrap();
     if set.lost_count(&far.members) <= set.r() {

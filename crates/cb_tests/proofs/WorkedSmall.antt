@@ -6,7 +6,7 @@ use Rattle.cb_types.specs.declared.config.Field.TheVariants.{K, R, Nodes, Frames
 use Rattle.cb_types.specs.Config.{IsAccepted}
 use Rattle.cb_world.specs.World.{IsSoundWorld, empty_world}
 use Rattle.cb_world.proofs.Laws.{empty_world_sound}
-use Rattle.cb_tests.specs.Worlds.{IsSmall, small}
+use Rattle.cb_tests.specs.Worlds.{IsSmallWorld, small}
 
 accepted : IsAccepted small
 accepted K = (lit≤ tt, lit≤ tt)
@@ -17,11 +17,11 @@ accepted Room = (lit≤ tt, lit≤ tt)
 accepted Handles = (lit≤ tt, lit≤ tt)
 accepted Turns = lit≤ tt
 
-empty_is_small : IsSmall (empty_world small)
+empty_is_small : IsSmallWorld (empty_world small)
 empty_is_small = record { sound = empty_world_sound small accepted; settings = refl }
 
 -- a world without seats is not sound
-without_seats : IsSmall (record (empty_world small) { seats = [] }) → ⊥
+without_seats : IsSmallWorld (record (empty_world small) { seats = [] }) → ⊥
 without_seats x = let e : 0 ≡ 64 = x.sound.pinned.count in absurd (omega (arith, e))
 
 -- a sound world with a handle more
@@ -40,6 +40,6 @@ more_is_accepted Turns = lit≤ tt
 more_is_sound : IsSoundWorld (empty_world more)
 more_is_sound = empty_world_sound more more_is_accepted
 
-with_more_handles : IsSmall (empty_world more) → ⊥
+with_more_handles : IsSmallWorld (empty_world more) → ⊥
 with_more_handles x =
     let e : 17 ≡ 16 = ap (λ (c : Config). c.handles) x.settings in absurd (omega (arith, e))

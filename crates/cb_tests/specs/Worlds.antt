@@ -8,6 +8,6 @@ abbrev pub small : Config
 small = record { k = 2; r = 2; nodes = 6; frames = 8; room = 64; handles = 16; turns = 0 }
 
 -- a sound world with these settings
-pub record IsSmall (w : WorldState) : Type 0 where
+pub record IsSmallWorld (w : WorldState) : Type 0 where
   pub sound : IsSoundWorld w
   pub settings : w.desk.settings ≡ small

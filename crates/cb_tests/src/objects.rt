@@ -1,6 +1,6 @@
 ghost use Rattle.std.specs.Prelude.{◌≡◌, ◌≤◌, length, IfOk};
 ghost use Rattle.cb_world.specs.World.{IsSoundWorld};
-ghost use Rattle.cb_tests.specs.Worlds.{IsSmall, small};
+ghost use Rattle.cb_tests.specs.Worlds.{IsSmallWorld, small};
 
 use crate::worlds::{Look, holds, turn_of};
 use cb_ptr::unpack;
@@ -71,7 +71,7 @@ pub(crate) fn second_of_length_is_at(
     len: usize,
     place: u32,
 ) -> Result<bool, Fail>
-    requires { IsSmall world.old }
+    requires { IsSmallWorld world.old }
 {
     if len == 0 || len > MOST {
         return Ok(false);
@@ -130,7 +130,7 @@ fn first_words(desk: &mut PlainDesk) -> (u64, u64, u64, u64)
 
 /// Whether an object of nine bytes has its words.
 pub(crate) fn words_are_of_nine_bytes(alloc: Global, world: &mut World) -> Result<bool, Fail>
-    requires { IsSmall world.old }
+    requires { IsSmallWorld world.old }
 {
     make(alloc, world, &[1, 2, 3, 4, 5, 6, 7, 8, 9])?;
     // Here, not hot, no pins, nine bytes, at place 0.

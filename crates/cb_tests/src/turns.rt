@@ -1,4 +1,4 @@
-ghost use Rattle.cb_tests.specs.Worlds.{IsSmall};
+ghost use Rattle.cb_tests.specs.Worlds.{IsSmallWorld};
 
 use crate::worlds::{Look, holds};
 use cb_core::{Atomic, Event, run};
@@ -23,7 +23,7 @@ fn are_of_nothing(replies: &[Reply]) -> bool {
 /// Whether a run whose events evict from the empty world, look at the first handle, pin it and give
 /// back a pin on it replies to each in order.
 pub(crate) fn replies_in_order(alloc: Global, world: &mut World) -> Result<bool, Fail>
-    requires { IsSmall world.old }
+    requires { IsSmallWorld world.old }
 {
     let handle = Handle { n: 0 };
     let events = [

@@ -1,7 +1,7 @@
 ghost use Rattle.std.specs.Prelude.{◌≡◌, IfOk};
 ghost use Rattle.cb_core.specs.Jobs.{IsJob};
 ghost use Rattle.cb_world.specs.World.{IsSoundWorld};
-ghost use Rattle.cb_tests.specs.Worlds.{IsSmall};
+ghost use Rattle.cb_tests.specs.Worlds.{IsSmallWorld};
 
 use crate::objects::{second_of_length_is_at, words_are_of_nine_bytes};
 use crate::turns::replies_in_order;
@@ -60,7 +60,7 @@ pub(crate) enum Look {
 }
 
 fn is_seen(alloc: Global, world: &mut World, look: Look) -> Result<bool, Fail>
-    requires { IsSmall world.old }
+    requires { IsSmallWorld world.old }
 {
     match look {
         Look::Second { len, place } => second_of_length_is_at(alloc, world, len, place),
@@ -80,7 +80,7 @@ pub(crate) fn holds(alloc: Global, look: Look) -> Result<bool, Fail> {
 
 /// A small world in which nothing was made.
 fn small_world(alloc: Global) -> Result<World, Fail>
-    ensures { IfOk result IsSmall }
+    ensures { IfOk result IsSmallWorld }
 {
     empty_world(alloc, SMALL)
 }

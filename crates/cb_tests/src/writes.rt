@@ -1,7 +1,7 @@
 ghost use Rattle.std.specs.Prelude.{◌≡◌, ◌<◌, IfOk};
 ghost use Rattle.std.specs.List.{AllByRecursion};
 ghost use Rattle.cb_core.specs.Events.{IsEvent};
-ghost use Rattle.cb_tests.specs.Worlds.{IsSmall, small};
+ghost use Rattle.cb_tests.specs.Worlds.{IsSmallWorld, small};
 
 use crate::worlds::{Look, holds};
 use cb_core::{Atomic, Event, run, step};
@@ -115,8 +115,8 @@ fn is_answered(
     act: Act,
     wanted: Said,
 ) -> Result<bool, NoMemory>
-    requires small { IsSmall world.old }
-    ensures small { IfOk result (λ _. IsSmall world.new) }
+    requires small { IsSmallWorld world.old }
+    ensures small { IfOk result (λ _. IsSmallWorld world.new) }
 {
     let event = event_of(alloc, u32::from(is_second), act)?;
     let reply = step(alloc, world, &event)?;
@@ -147,7 +147,7 @@ const ROWS: [(bool, Act, Said); 16] = [
 
 /// Whether each step of the rows is answered as its row says.
 pub(crate) fn rows_are_answered(alloc: Global, world: &mut World) -> Result<bool, Fail>
-    requires small { IsSmall world.old }
+    requires small { IsSmallWorld world.old }
 {
     let mut found = true;
     for (is_second, act, wanted) in ROWS {
@@ -182,7 +182,7 @@ fn are_of_rows(replies: &[Reply]) -> bool {
 
 /// Whether a run of all these events is answered as the rows say.
 pub(crate) fn run_is_answered(alloc: Global, world: &mut World) -> Result<bool, Fail>
-    requires small { IsSmall world.old }
+    requires small { IsSmallWorld world.old }
 {
     let events = events_of_rows(alloc)?;
     let replies = run(alloc, world, events.as_slice())?;

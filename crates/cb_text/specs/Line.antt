@@ -21,8 +21,8 @@ abbrev pub version_text : ℕ → List ℕ
 version_text version = 118 ∷ decimal version
 
 -- a word and a number, each behind a space
-abbrev pub counted : List ℕ → ℕ → List ℕ
-counted word number = spaced word ++ spaced (decimal number)
+abbrev pub word_and_number : List ℕ → ℕ → List ℕ
+word_and_number word number = spaced word ++ spaced (decimal number)
 
 -- the verb of a request
 abbrev pub verb_of : Request → List ℕ
@@ -61,64 +61,64 @@ subject_text (Join node) = spaced (decimal node.n)
 subject_text request = name_text (name_of request)
 
 -- the word that a reply is told by; one that no line is answered has none
-abbrev pub word_of : Reply → List ℕ
-word_of (Full handles) = codes "full"
-word_of Unmade = codes "unmade"
-word_of Freed = codes "freed"
-word_of Moving = codes "moving"
-word_of (Range len) = codes "range"
-word_of (Pinned count) = codes "pinned"
-word_of Worn = codes "worn"
-word_of Done = codes "ok"
-word_of (Left pins) = codes "left"
-word_of Moved = codes "moved"
-word_of Same = codes "same"
-word_of (Set set) = codes "set"
-word_of (Batch set) = codes "batch"
-word_of (Shipped position) = codes "shipped"
-word_of AllShipped = codes "allshipped"
-word_of (EpochAt epoch) = codes "epoch"
-word_of ScopeFull = codes "scopefull"
-word_of NotPinned = codes "notpinned"
-word_of NotHere = codes "nothere"
-word_of (NoSlot frames) = codes "noslot"
-word_of (NoSpans loose) = codes "nospans"
-word_of (NoNodes nodes) = codes "nonodes"
-word_of (Leaving set) = codes "leaving"
-word_of NoNode = codes "nonode"
-word_of NoBatch = codes "nobatch"
-word_of (Whole gone) = codes "whole"
-word_of (Down node) = codes "down"
-word_of (Up node) = codes "up"
-word_of (Stepped position) = codes "stepped"
-word_of AllStepped = codes "allstepped"
-word_of NoPair = codes "nopair"
-word_of (NodeFull node) = codes "nodefull"
-word_of (Changed set) = codes "changed"
-word_of NoJoin = codes "nojoin"
-word_of reply = []
+abbrev pub reply_word : Reply → List ℕ
+reply_word (Full handles) = codes "full"
+reply_word Unmade = codes "unmade"
+reply_word Freed = codes "freed"
+reply_word Moving = codes "moving"
+reply_word (Range len) = codes "range"
+reply_word (Pinned count) = codes "pinned"
+reply_word Worn = codes "worn"
+reply_word Done = codes "ok"
+reply_word (Left pins) = codes "left"
+reply_word Moved = codes "moved"
+reply_word Same = codes "same"
+reply_word (Set set) = codes "set"
+reply_word (Batch set) = codes "batch"
+reply_word (Shipped position) = codes "shipped"
+reply_word AllShipped = codes "allshipped"
+reply_word (EpochAt epoch) = codes "epoch"
+reply_word ScopeFull = codes "scopefull"
+reply_word NotPinned = codes "notpinned"
+reply_word NotHere = codes "nothere"
+reply_word (NoSlot frames) = codes "noslot"
+reply_word (NoSpans loose) = codes "nospans"
+reply_word (NoNodes nodes) = codes "nonodes"
+reply_word (Leaving set) = codes "leaving"
+reply_word NoNode = codes "nonode"
+reply_word NoBatch = codes "nobatch"
+reply_word (Whole gone) = codes "whole"
+reply_word (Down node) = codes "down"
+reply_word (Up node) = codes "up"
+reply_word (Stepped position) = codes "stepped"
+reply_word AllStepped = codes "allstepped"
+reply_word NoPair = codes "nopair"
+reply_word (NodeFull node) = codes "nodefull"
+reply_word (Changed set) = codes "changed"
+reply_word NoJoin = codes "nojoin"
+reply_word reply = []
 
 -- the number that is told behind the word, where there is one
-abbrev pub number_of : Reply → Option ℕ
-number_of (Full handles) = Some handles
-number_of (Range len) = Some len
-number_of (Pinned count) = Some count
-number_of (Left pins) = Some pins
-number_of (Set set) = Some set.n
-number_of (Batch set) = Some set.n
-number_of (Shipped position) = Some position
-number_of (EpochAt epoch) = Some epoch.n
-number_of (NoSlot frames) = Some frames
-number_of (NoSpans loose) = Some loose
-number_of (NoNodes nodes) = Some nodes
-number_of (Leaving set) = Some set.n
-number_of (Whole gone) = Some gone
-number_of (Down node) = Some node.n
-number_of (Up node) = Some node.n
-number_of (Stepped position) = Some position
-number_of (NodeFull node) = Some node.n
-number_of (Changed set) = Some set.n
-number_of reply = None
+abbrev pub reply_number : Reply → Option ℕ
+reply_number (Full handles) = Some handles
+reply_number (Range len) = Some len
+reply_number (Pinned count) = Some count
+reply_number (Left pins) = Some pins
+reply_number (Set set) = Some set.n
+reply_number (Batch set) = Some set.n
+reply_number (Shipped position) = Some position
+reply_number (EpochAt epoch) = Some epoch.n
+reply_number (NoSlot frames) = Some frames
+reply_number (NoSpans loose) = Some loose
+reply_number (NoNodes nodes) = Some nodes
+reply_number (Leaving set) = Some set.n
+reply_number (Whole gone) = Some gone
+reply_number (Down node) = Some node.n
+reply_number (Up node) = Some node.n
+reply_number (Stepped position) = Some position
+reply_number (NodeFull node) = Some node.n
+reply_number (Changed set) = Some set.n
+reply_number reply = None
 
 abbrev pub number_text : Option ℕ → List ℕ
 number_text None = []
@@ -134,7 +134,7 @@ position_text position = spaced (decimal position)
 
 -- a word and the numbers of two sets, each behind a space
 abbrev pub pair_text : List ℕ → SetId → SetId → List ℕ
-pair_text word a b = counted word a.n ++ spaced (decimal b.n)
+pair_text word a b = word_and_number word a.n ++ spaced (decimal b.n)
 
 -- a word and positions, each behind a space
 abbrev pub listed : List ℕ → List ℕ → List ℕ
@@ -148,21 +148,24 @@ reply_text (Made handle version) = spaced (version_text version)
 reply_text (Version version) = spaced (version_text version)
 reply_text (Bytes version bytes) = spaced (version_text version) ++ spaced (encode_lower bytes)
 reply_text (NoRoom frames loose nodes) =
-    spaced (codes "noroom") ++ counted (codes "frames") frames ++ counted (codes "loose") loose
-    ++ counted (codes "nodes") nodes
+    spaced (codes "noroom") ++ word_and_number (codes "frames") frames
+    ++ word_and_number (codes "loose") loose
+    ++ word_and_number (codes "nodes") nodes
 reply_text (Unavailable set lost) =
-    spaced (codes "unavailable") ++ counted (codes "set") set.n ++ spaced (codes "lost")
+    spaced (codes "unavailable") ++ word_and_number (codes "set") set.n ++ spaced (codes "lost")
     ++ flat_map loss_text lost
 reply_text (Rebuilt set position node) =
-    spaced (codes "rebuilt") ++ counted (codes "set") set.n ++ counted (codes "position") position
-    ++ counted (codes "node") node.n
-reply_text (Stuck set) = spaced (codes "stuck") ++ counted (codes "set") set.n
+    spaced (codes "rebuilt") ++ word_and_number (codes "set") set.n
+    ++ word_and_number (codes "position") position
+    ++ word_and_number (codes "node") node.n
+reply_text (Stuck set) = spaced (codes "stuck") ++ word_and_number (codes "set") set.n
 reply_text (Short positions) = listed (codes "short") positions
 reply_text (Paired a b) = pair_text (codes "pair") a b
 reply_text (Joining a b) = pair_text (codes "joining") a b
-reply_text (Merged set moved) = counted (codes "set") set.n ++ counted (codes "moved") moved
+reply_text (Merged set moved) =
+    word_and_number (codes "set") set.n ++ word_and_number (codes "moved") moved
 reply_text (Unfinished positions) = listed (codes "unfinished") positions
-reply_text reply = spaced (word_of reply) ++ number_text (number_of reply)
+reply_text reply = spaced (reply_word reply) ++ number_text (reply_number reply)
 
 -- the line of an answer: the lane, the verb, the name or node, the reply and a line feed
 abbrev pub answer_line : Lane → Request → Reply → List ℕ

@@ -1,7 +1,7 @@
 ghost use Rattle.std.specs.Prelude.{◌≡◌, ◌++◌, OnOk, codes};
 ghost use Rattle.std.specs.Io.{StartsWith};
 ghost use Rattle.std.specs.List.{flat_map};
-ghost use Rattle.cb_text.specs.Line.{counted, listed, loss_text, number_of, number_text, pair_text, position_text, reply_text, spaced, word_of};
+ghost use Rattle.cb_text.specs.Line.{listed, loss_text, number_text, pair_text, position_text, reply_number, reply_text, reply_word, spaced, word_and_number};
 
 use crate::word::{push_counted, push_hexadecimal, push_number, push_version, push_word};
 use cb_types::{Loss, NoMemory, NodeId, Reply, SetId};
@@ -43,7 +43,8 @@ pub fn push_reply(text: &mut Vec<u8>, reply: &Reply) -> Result<(), NoMemory>
 /// Adds the word of a reply, and its number where it has one.
 fn push_plain(text: &mut Vec<u8>, reply: &Reply) -> Result<(), NoMemory>
     ensures text { OnOk result (text.new.items
-        ≡ text.old.items ++ (spaced (word_of reply.now) ++ number_text (number_of reply.now))) }
+        ≡ text.old.items ++ (spaced (reply_word reply.now)
+        ++ number_text (reply_number reply.now))) }
     ensures kept { StartsWith text.new.items text.old.items }
 {
     push_word(text, word(reply).as_bytes())?;
@@ -55,7 +56,7 @@ fn push_plain(text: &mut Vec<u8>, reply: &Reply) -> Result<(), NoMemory>
 
 /// The word that tells a reply which is told by one word and perhaps a number; else none.
 fn word(reply: &Reply) -> &'static str
-    ensures { result.now ≡ word_of reply.now }
+    ensures { result.now ≡ reply_word reply.now }
 {
     match reply {
         Reply::Full { .. } => "full",
@@ -98,7 +99,7 @@ fn word(reply: &Reply) -> &'static str
 
 /// The number that is told behind the word of a reply, where there is one.
 fn number(reply: &Reply) -> Option<u64>
-    ensures { result ≡ number_of reply.now }
+    ensures { result ≡ reply_number reply.now }
 {
     match reply {
         Reply::Full { handles } => Some(u64::from(*handles)),
@@ -126,7 +127,7 @@ fn number(reply: &Reply) -> Option<u64>
 /// Adds a word, and the number of a set.
 fn push_set(text: &mut Vec<u8>, word: &[u8], set: SetId) -> Result<(), NoMemory>
     ensures text { OnOk result (text.new.items
-        ≡ text.old.items ++ (spaced word.now ++ counted (codes "set") set.n)) }
+        ≡ text.old.items ++ (spaced word.now ++ word_and_number (codes "set") set.n)) }
     ensures kept { StartsWith text.new.items text.old.items }
 {
     push_word(text, word)?;

@@ -1,7 +1,7 @@
 ghost use Rattle.std.specs.Prelude.{◌≡◌, ◌≤◌, ◌++◌, OnOk, decimal, length};
 ghost use Rattle.std.specs.Io.{StartsWith};
 ghost use Rattle.hex.specs.Hex.{encode_lower};
-ghost use Rattle.cb_text.specs.Line.{spaced, counted, version_text};
+ghost use Rattle.cb_text.specs.Line.{spaced, word_and_number, version_text};
 
 use cb_types::NoMemory;
 use itoa::Buffer;
@@ -26,7 +26,8 @@ pub fn push_number(text: &mut Vec<u8>, number: u64) -> Result<(), NoMemory>
 
 /// Adds a word and a number at the end, each behind a space.
 pub fn push_counted(text: &mut Vec<u8>, word: &[u8], number: u64) -> Result<(), NoMemory>
-    ensures text { OnOk result (text.new.items ≡ text.old.items ++ counted word.now number) }
+    ensures text { OnOk result
+        (text.new.items ≡ text.old.items ++ word_and_number word.now number) }
     ensures kept { StartsWith text.new.items text.old.items }
 {
     push_word(text, word)?;

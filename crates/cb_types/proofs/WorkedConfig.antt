@@ -5,7 +5,7 @@ use Rattle.cb_types.specs.declared.config.Field.{Field}
 use Rattle.cb_types.specs.declared.config.Field.TheVariants.{K, R, Nodes, Frames, Room, Handles, Turns}
 use Rattle.cb_types.specs.declared.request.Request.TheVariants as line
 use Rattle.cb_types.specs.declared.reply.Reply.TheVariants.{Made, Version, Bytes, Done, Left, Full, NoRoom, Unmade, Freed, Moving, Unavailable, Range, Pinned, Worn, ScopeFull, NotHere, NoFrame, Down, Stays, Joining, NodeFull, NoPair, NoJoin, Unfinished, Short, Changed}
-use Rattle.cb_types.specs.Config.{IsInRange, IsAccepted, IsFirstOutOfRange, place}
+use Rattle.cb_types.specs.Config.{IsFieldInRange, IsAccepted, IsFirstOutOfRange, place}
 use Rattle.cb_types.specs.Faults.{Rose}
 use Rattle.cb_types.specs.Table.{IsReplyOf}
 
@@ -76,7 +76,7 @@ too_many_turns is = omega (arith, is Turns)
 the_first : IsFirstOutOfRange (config 2 2 3 0 64 16 0) Nodes
 the_first = record { out = λ is. omega (arith, is.0); before = before } where
   before : (earlier : Field) → place earlier < place Nodes
-      → IsInRange (config 2 2 3 0 64 16 0) earlier
+      → IsFieldInRange (config 2 2 3 0 64 16 0) earlier
   before K lt = (omega arith, omega arith)
   before R lt = (omega arith, omega arith)
   before Nodes lt = absurd (omega (arith, lt))

@@ -8,7 +8,7 @@ use Rattle.cb_types.specs.declared.reply.Reply.{Reply}
 use Rattle.cb_types.specs.declared.reply.Reply.TheVariants as answer
 use Rattle.cb_workers.specs.Rules.{after_batch, after_pair, end_of, first_job, next_job, owner}
 use Rattle.cb_record.specs.Deeds.{Deed}
-use Rattle.cb_workers.specs.Work.{Answered, AreDue, AreOf, IsCutShort, IsOnly, IsWork, deed_of, deeds_of, job_behind, lacked}
+use Rattle.cb_workers.specs.Work.{AnsweredTurn, AreDue, AreJobsOf, IsCutShort, IsOnly, IsWork, deed_of, deeds_of, job_behind, lacked}
 use Rattle.cb_workers.specs.declared.worker.Worker.{Worker}
 use Rattle.cb_workers.specs.declared.worker.Worker.TheVariants as worker
 
@@ -41,13 +41,13 @@ first_of worker.Evict = refl
 first_of worker.Compact = refl
 first_of worker.Rebuild = refl
 
-behind_of : (handles : ℕ) → (w : Worker) → (done : List Answered)
+behind_of : (handles : ℕ) → (w : Worker) → (done : List AnsweredTurn)
     → owner (job_behind handles w done) ≡ Some w
 behind_of handles w [] = first_of w
 behind_of handles w (a ∷ earlier) = next_of handles w a.job a.reply
 
-done_of : (handles : ℕ) → (w : Worker) → (done : List Answered) → AreDue handles w done
-    → AreOf w (deeds_of done)
+done_of : (handles : ℕ) → (w : Worker) → (done : List AnsweredTurn) → AreDue handles w done
+    → AreJobsOf w (deeds_of done)
 done_of handles w [] are = tt
 done_of handles w (a ∷ earlier) are =
     (ap (λ j. owner j) (are.0) ∙ behind_of handles w earlier, done_of handles w earlier are.1)
@@ -70,32 +70,33 @@ end_same job.Merge last e = subst (HasOwner (Some worker.Compact)) e refl
 end_same job.Part last e = subst (HasOwner (Some worker.Compact)) e refl
 end_same due last e = absurd (subst IsSomeNot e tt)
 
-ending_of : (w : Worker) → (due : Job) → (ending : List Answered) → (end : Option Job)
-    → end_of due ≡ end → owner due ≡ Some w → IsOnly end ending → AreOf w (deeds_of ending)
+ending_of : (w : Worker) → (due : Job) → (ending : List AnsweredTurn) → (end : Option Job)
+    → end_of due ≡ end → owner due ≡ Some w → IsOnly end ending → AreJobsOf w (deeds_of ending)
 ending_of w due ending (Some last) e is only =
-    subst (λ xs. AreOf w (deeds_of xs)) (sym only.1) (end_same due last e ∙ is, tt)
-ending_of w due ending None e is only = subst (λ xs. AreOf w (deeds_of xs)) (sym only) tt
+    subst (λ xs. AreJobsOf w (deeds_of xs)) (sym only.1) (end_same due last e ∙ is, tt)
+ending_of w due ending None e is only = subst (λ xs. AreJobsOf w (deeds_of xs)) (sym only) tt
 
-both_of : (w : Worker) → (ds es : List Deed) → AreOf w ds → AreOf w es → AreOf w (ds ++ es)
+both_of : (w : Worker) → (ds es : List Deed) → AreJobsOf w ds → AreJobsOf w es
+    → AreJobsOf w (ds ++ es)
 both_of w [] es some more = more
 both_of w (d ∷ ds) es some more = (some.0, both_of w ds es some.1 more)
 
-pub work_is_of : (handles : ℕ) → (w : Worker) → (n : ℕ) → (done ending : List Answered)
-    → (deeds : List Deed) → IsWork handles w n done ending deeds → AreOf w deeds
+pub work_is_of : (handles : ℕ) → (w : Worker) → (n : ℕ) → (done ending : List AnsweredTurn)
+    → (deeds : List Deed) → IsWork handles w n done ending deeds → AreJobsOf w deeds
 work_is_of handles w n done ending deeds work =
-    subst (AreOf w) (sym (work.are ∙ map-append deed_of ending done))
+    subst (AreJobsOf w) (sym (work.are ∙ map-append deed_of ending done))
     (both_of w (deeds_of ending) (deeds_of done)
     (ending_of w (job_behind handles w done) ending _ refl (behind_of handles w done) work.ends)
     (done_of handles w done work.are_due))
 
-pub cut_is_of : (handles : ℕ) → (w : Worker) → (n : ℕ) → (done ending : List Answered)
-    → (deeds : List Deed) → IsCutShort handles w n done ending deeds → AreOf w deeds
-cut_is_of handles w n done ending deeds work = subst (AreOf w) (sym work.are)
+pub cut_is_of : (handles : ℕ) → (w : Worker) → (n : ℕ) → (done ending : List AnsweredTurn)
+    → (deeds : List Deed) → IsCutShort handles w n done ending deeds → AreJobsOf w deeds
+cut_is_of handles w n done ending deeds work = subst (AreJobsOf w) (sym work.are)
     (both_of w (deeds_of ending) (lacked (job_behind handles w done) ∷ deeds_of done)
     (ending_of w (job_behind handles w done) ending _ refl (behind_of handles w done) work.ends)
     (behind_of handles w done, done_of handles w done work.are_due))
 
-pub work_is_done : (handles : ℕ) → (w : Worker) → (n : ℕ) → (done ending : List Answered)
+pub work_is_done : (handles : ℕ) → (w : Worker) → (n : ℕ) → (done ending : List AnsweredTurn)
     → (deeds : List Deed) → IsWork handles w n done ending deeds → n ≤ length deeds
 work_is_done handles w n done ending deeds work =
     let all : length deeds ≡ length (ending ++ done) =

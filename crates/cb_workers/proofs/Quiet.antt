@@ -12,7 +12,7 @@ use Rattle.cb_core.specs.TurnLeaves.{OutcomeWrites}
 use Rattle.cb_rule.specs.declared.turn.Turn.{Turn}
 use Rattle.cb_rule.specs.declared.view.View.{View}
 use Rattle.cb_record.specs.Parts.{Part, grown, nothing_more}
-use Rattle.cb_shared.specs.Turning.{DidAs, FindsFreed, JobReads, TurnBy, answer_of, freed_of, made_by, object_of, turn_part, with_own}
+use Rattle.cb_shared.specs.Turning.{DidAs, FindsFreedAfter, JobReads, TurnBy, answer_of, freed_of, made_by_turn, object_of, turn_part, with_own}
 use Rattle.cb_workers.specs.Bodies.{AddsTurns, IsEnd, IsOwed, one_deed, turns_alone}
 
 -- what a worker's job leaves alone: it reads no object under a pin, is about no object that a pass
@@ -21,7 +21,7 @@ record IsQuiet (work : Job) : Type 0 where
   pub reads : (r : Result Reply NoMemory) → (v : View) → (d : Part) → JobReads work r v d
       → d ≡ nothing_more
   pub object : object_of work ≡ None
-  pub made : (r : Option Reply) → made_by work r ≡ []
+  pub made : (r : Option Reply) → made_by_turn work r ≡ []
   pub writes : (r : Reply) → (more : List Entry) → TurnWrites work r more → more ≡ []
 
 quiet : (handles : ℕ) → (work : Job) → IsOwed handles work → IsQuiet work
@@ -62,7 +62,7 @@ adds_turn c work r v w owed (d, adds, grows) = record {
     within = q.reads r v adds.within adds.reads
 
     later : adds.later ≡ nothing_more
-    later = subst (λ h. FindsFreed h (with_own (made_by work (answer_of r))
+    later = subst (λ h. FindsFreedAfter h (with_own (made_by_turn work (answer_of r))
         (grown (turn_part adds.turn adds.more adds.within nothing_more) v)) adds.later)
         (freed_none work q.object r) adds.finds
 

@@ -15,8 +15,8 @@ use Rattle.cb_record.specs.Parts.{Grows, Part}
 use Rattle.cb_shared.specs.Passes.{IsPassOf}
 use Rattle.cb_shared.specs.Turning.{answer_of}
 use Rattle.cb_workers.specs.Rules.{after_batch, after_pair, end_of, first_job, next_job, visited}
-use Rattle.cb_workers.specs.Work.{Answered, IsOnly, deed_of, deeds_of, job_behind, lacked}
-use Rattle.cb_workers.specs.Bodies.{AddsTurns, Cuts, Ends, HasMade, IsOwed, IsStopped, IsWorked, IsEnd, Lacks, Steps, one_deed, turns_alone}
+use Rattle.cb_workers.specs.Work.{AnsweredTurn, IsOnly, deed_of, deeds_of, job_behind, lacked}
+use Rattle.cb_workers.specs.Bodies.{AddsTurns, Cuts, EndsBegun, HasMade, IsOwed, IsStopped, IsWorked, IsEnd, Lacks, Steps, one_deed, turns_alone}
 use Rattle.cb_workers.specs.declared.worker.Worker.{Worker}
 use Rattle.cb_workers.specs.declared.worker.Worker.TheVariants as worker
 use Rattle.cb_workers.proofs.Visits.{next_visit_below}
@@ -52,7 +52,7 @@ first_owed handles worker.Evict some = tt
 first_owed handles worker.Compact some = tt
 first_owed handles worker.Rebuild some = tt
 
-behind_owed : (handles : ℕ) → (w : Worker) → (done : List Answered) → 0 < handles
+behind_owed : (handles : ℕ) → (w : Worker) → (done : List AnsweredTurn) → 0 < handles
     → IsOwed handles (job_behind handles w done)
 behind_owed handles w [] some = first_owed handles w some
 behind_owed handles w (a ∷ earlier) some = next_owed handles w a.job a.reply some
@@ -96,7 +96,7 @@ one_lacked handles w n turns due new v u t few made (same, adds) = record {
 
 -- ---- the end
 pub all_worked : (handles : ℕ) → (w : Worker) → (turns : ℕ) → (due : Job) → (v u t : View)
-    → HasMade handles w turns due v u → Ends due u t
+    → HasMade handles w turns due v u → EndsBegun due u t
     → (d : Part) × IsWorked handles w turns d × Grows v d t
 all_worked handles w turns due v u t made (ending, only, adds) = (
   turns_alone all.turns,
@@ -118,7 +118,7 @@ all_worked handles w turns due v u t made (ending, only, adds) = (
     all = both_added (deeds_of made.done) (deeds_of ending) v u t made.adds adds
 
 pub all_stopped : (handles : ℕ) → (w : Worker) → (turns : ℕ) → (due : Job) → (v u t : View)
-    → Cuts handles w turns due v u → Ends due u t
+    → Cuts handles w turns due v u → EndsBegun due u t
     → (d : Part) × IsStopped handles w turns d × Grows v d t
 all_stopped handles w turns due v u t cut (ending, only, adds) = (
   turns_alone all.turns,
@@ -141,11 +141,11 @@ all_stopped handles w turns due v u t cut (ending, only, adds) = (
 
 -- ---- one end
 -- the end of nothing
-pub none_ended : (due : Job) → (v : View) → end_of due ≡ None → Ends due v v
+pub none_ended : (due : Job) → (v : View) → end_of due ≡ None → EndsBegun due v v
 none_ended due v none = ([], subst (λ o. IsOnly o []) (sym none) refl, none_added v)
 
 pub one_ended : (due last : Job) → (reply : Reply) → (v u : View) → end_of due ≡ Some last
-    → AddsTurns (one_deed last (Some reply)) v u → Ends due v u
+    → AddsTurns (one_deed last (Some reply)) v u → EndsBegun due v u
 one_ended due last reply v u some adds = (
   record { job = last; reply = reply } ∷ [],
   subst (λ o. IsOnly o (record { job = last; reply = reply } ∷ [])) (sym some) (reply, refl),
@@ -172,7 +172,7 @@ is_end due last e = absurd (subst IsSomeNot e tt)
 
 pub end_answered : (due last : Job) → (r : Result Reply NoMemory) → (v u : View)
     → end_of due ≡ Some last → (IsEnd last → IsOk r)
-    → AddsTurns (one_deed last (answer_of r)) v u → Ends due v u
+    → AddsTurns (one_deed last (answer_of r)) v u → EndsBegun due v u
 end_answered due last (Ok reply) v u some ok adds = one_ended due last reply v u some adds
 end_answered due last (Err e) v u some ok adds = absurd (false≢true (ok (is_end due last some)))
 

@@ -14,7 +14,7 @@ use Rattle.cb_record.specs.Parts.{Part}
 use Rattle.cb_workers.specs.Bodies.{IsEnd, IsOwed, IsStopped, IsWorked, turns_alone}
 use Rattle.cb_workers.specs.Rules.{visit}
 use Rattle.cb_record.specs.Deeds.{Deed}
-use Rattle.cb_workers.specs.Work.{Answered, deed_of, deeds_of}
+use Rattle.cb_workers.specs.Work.{AnsweredTurn, deed_of, deeds_of}
 use Rattle.cb_workers.specs.declared.worker.Worker.TheVariants as worker
 
 -- a turn with this job and reply, whatever was known and whatever far state it found
@@ -30,10 +30,10 @@ turn start far work reply = record {
   gave = far;
 }
 
-abbrev pub begun : Answered
+abbrev pub begun : AnsweredTurn
 begun = record { job = job.Begin; reply = answer.Batch (record { n = 0 }) }
 
-abbrev pub aborted : Answered
+abbrev pub aborted : AnsweredTurn
 aborted = record { job = job.Abort; reply = answer.Done }
 
 abbrev pub two_turns : Shown → FarState → List Turn
@@ -54,7 +54,7 @@ works s far = record {
 }
 
 -- no turn was made
-pub deeds_in : (done ending : List Answered)
+pub deeds_in : (done ending : List AnsweredTurn)
     → length (deeds_of (ending ++ done)) ≡ length ending + length done
 deeds_in done ending = length-map (ending ++ done) deed_of ∙ length-append ending done
 

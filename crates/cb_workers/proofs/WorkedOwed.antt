@@ -12,7 +12,7 @@ use Rattle.cb_rule.specs.declared.view.View.{View}
 use Rattle.cb_record.specs.Parts.{Part}
 use Rattle.cb_workers.specs.Bodies.{Cuts, IsEnd, IsOwed, IsStopped, turns_alone}
 use Rattle.cb_workers.specs.Rules.{after_batch, after_pair, end_of, owner}
-use Rattle.cb_workers.specs.Work.{Answered, AreDue}
+use Rattle.cb_workers.specs.Work.{AnsweredTurn, AreDue}
 use Rattle.cb_workers.specs.declared.worker.Worker.TheVariants as worker
 use Rattle.cb_workers.proofs.WorkedBodies.{two_turns}
 
@@ -79,7 +79,7 @@ stopped_and_written s far e w =
 
 -- the turn before the one that found no memory was not due
 shipped_first : (n : ℕ) (due : Job) (v u : View) (c : Cuts 8 worker.Evict n due v u)
-    → (a : Answered) → a.job ≡ job.Ship → c.done ≡ a ∷ [] → ⊥
+    → (a : AnsweredTurn) → a.job ≡ job.Ship → c.done ≡ a ∷ [] → ⊥
 shipped_first n due v u c a ships one =
     let are = subst (AreDue 8 worker.Evict) one c.are_due in
     let e : 8 ≡ 7 = ap job_index (sym ships ∙ are.0) in omega (arith, e)

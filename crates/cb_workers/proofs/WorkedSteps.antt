@@ -16,9 +16,9 @@ use Rattle.cb_record.specs.Parts.{Grows, Part, grown, nothing_more}
 use Rattle.cb_shared.specs.declared.pass.Pass.{Pass}
 use Rattle.cb_shared.specs.declared.runtime.Shared.{Shared}
 use Rattle.cb_shared.specs.Passes.{IsPassOf}
-use Rattle.cb_workers.specs.Bodies.{AddsTurns, Cuts, Ends, HasMade, IsStopped, IsWorked, Lacks, Steps, Stops, Works, one_deed, turns_alone}
+use Rattle.cb_workers.specs.Bodies.{AddsTurns, Cuts, EndsBegun, HasMade, IsStopped, IsWorked, Lacks, Steps, WorkerStops, WorkerWorks, one_deed, turns_alone}
 use Rattle.cb_workers.specs.Rules.{after_visit, next_job, next_visit, visit, visited}
-use Rattle.cb_workers.specs.Work.{Answered, AreDue, IsOnly, deed_of, deeds_of, job_behind, lacked}
+use Rattle.cb_workers.specs.Work.{AnsweredTurn, AreDue, IsOnly, deed_of, deeds_of, job_behind, lacked}
 use Rattle.cb_workers.specs.declared.worker.Worker.{Worker}
 use Rattle.cb_workers.specs.declared.worker.Worker.TheVariants as worker
 use Rattle.cb_workers.proofs.WorkedBodies.{aborted, begun, deeds_in, some_there, stopped, turn, two_turns, works}
@@ -45,14 +45,15 @@ one_abort : IsOnly (Some job.Abort) (aborted ∷ [])
 one_abort = (answer.Done, refl)
 
 none_is_left_out : IsOnly (Some job.Abort) [] → ⊥
-none_is_left_out o = let e : 0 ≡ 1 = ap (λ (xs : List Answered). length xs) o.1 in omega (arith, e)
+none_is_left_out o = let e : 0 ≡ 1 = ap (λ (xs : List AnsweredTurn). length xs) o.1 in
+    omega (arith, e)
 
 no_job_no_turn : IsOnly None []
 no_job_no_turn = refl
 
 a_turn_without_a_job : IsOnly None (aborted ∷ []) → ⊥
 a_turn_without_a_job o =
-    let e : 1 ≡ 0 = ap (λ (xs : List Answered). length xs) o in omega (arith, e)
+    let e : 1 ≡ 0 = ap (λ (xs : List AnsweredTurn). length xs) o in omega (arith, e)
 
 -- ---- a record that grew by turns alone
 -- by so many as are told
@@ -155,28 +156,29 @@ module _ (s : Shown) (far : FarState) (v : View) where
   lacks_nothing x = let e : 1 ≡ 0 = ap has_reply (one_added _ _ v x.1) in omega (arith, e)
 
   -- ---- the end of what was begun
-  ends : Ends job.Ship v (with_turns (did job.Abort answer.Done ∷ []))
+  ends : EndsBegun job.Ship v (with_turns (did job.Abort answer.Done ∷ []))
   ends = (
     aborted ∷ [],
     one_abort,
     record { turns = did job.Abort answer.Done ∷ []; are = refl; grows = refl },
   )
 
-  ends_nothing : Ends job.Begin v (with_turns [])
+  ends_nothing : EndsBegun job.Begin v (with_turns [])
   ends_nothing = ([], refl, adds_none)
 
-  left_open : Ends job.Ship v (with_turns []) → ⊥
-  left_open x = let one : length x.0 ≡ 1 = ap (λ (xs : List Answered). length xs) x.1.1 in
+  left_open : EndsBegun job.Ship v (with_turns []) → ⊥
+  left_open x = let one : length x.0 ≡ 1 = ap (λ (xs : List AnsweredTurn). length xs) x.1.1 in
       let none : length (deeds_of x.0) ≡ 0 = count_added _ [] v x.2 in
       omega (arith, one, none, length-map x.0 deed_of)
 
-  ends_without_need : Ends job.Begin v (with_turns (did job.Abort answer.Done ∷ [])) → ⊥
-  ends_without_need x = let none : length x.0 ≡ 0 = ap (λ (xs : List Answered). length xs) x.1 in
+  ends_without_need : EndsBegun job.Begin v (with_turns (did job.Abort answer.Done ∷ [])) → ⊥
+  ends_without_need x = let none : length x.0 ≡ 0 =
+      ap (λ (xs : List AnsweredTurn). length xs) x.1 in
       let one : length (deeds_of x.0) ≡ 1 = count_added _ (did job.Abort answer.Done ∷ []) v x.2 in
       omega (arith, one, none, length-map x.0 deed_of)
 
-  ends_by_a_commit : Ends job.Ship v (with_turns (did job.Commit answer.Done ∷ [])) → ⊥
-  ends_by_a_commit x = let adds = subst (λ (xs : List Answered). AddsTurns (deeds_of xs) v
+  ends_by_a_commit : EndsBegun job.Ship v (with_turns (did job.Commit answer.Done ∷ [])) → ⊥
+  ends_by_a_commit x = let adds = subst (λ (xs : List AnsweredTurn). AddsTurns (deeds_of xs) v
       (with_turns (did job.Commit answer.Done ∷ []))) x.1.1 x.2 in
       let e : 9 ≡ 10 = ap of_job (one_added _ _ v adds) in omega (arith, e)
 
@@ -196,7 +198,7 @@ module _ (s : Shown) (far : FarState) (v : View) where
       omega (arith, two, one, length-map h.done deed_of)
 
   -- the worker that rebuilds has one job
-  rebuilds_alone : (done : List Answered) → job_behind 8 worker.Rebuild done ≡ job.Rebuild
+  rebuilds_alone : (done : List AnsweredTurn) → job_behind 8 worker.Rebuild done ≡ job.Rebuild
   rebuilds_alone [] = refl
   rebuilds_alone (a ∷ earlier) = refl
 
@@ -209,7 +211,7 @@ module _ (s : Shown) (far : FarState) (v : View) where
       (with_turns (did job.Ship (answer.Shipped 0) ∷ [])) → ⊥
   shipped_first due h = go h.done h.number h.are_due h.adds
     where
-      go : (done : List Answered) → length done ≡ 1 → AreDue 8 worker.Evict done
+      go : (done : List AnsweredTurn) → length done ≡ 1 → AreDue 8 worker.Evict done
           → AddsTurns (deeds_of done) v (with_turns (did job.Ship (answer.Shipped 0) ∷ [])) → ⊥
       go [] one are adds = omega (arith, one)
       go (a ∷ []) one are adds = let e : 8 ≡ 7 =
@@ -242,7 +244,7 @@ module _ (s : Shown) (far : FarState) (v : View) where
   cuts_with_memory : Cuts 8 worker.Evict 1 job.Begin v (with_turns (begins ∷ [])) → ⊥
   cuts_with_memory x = go x.done x.fewer x.adds
     where
-      go : (done : List Answered) → length done < 1
+      go : (done : List AnsweredTurn) → length done < 1
           → AddsTurns (lacked job.Begin ∷ deeds_of done) v (with_turns (begins ∷ [])) → ⊥
       go [] few adds = let e : 1 ≡ 0 = ap has_reply (one_added _ _ v adds) in omega (arith, e)
       go (a ∷ earlier) few adds = omega (arith, few)
@@ -251,7 +253,7 @@ module _ (s : Shown) (far : FarState) (v : View) where
 module _ (s : Shared) (p q : Pass) (known : Shown) (far : FarState) where
   pass_works : IsPassOf s q → s.config.handles ≡ 8
       → Grows p.seat.me.0 (turns_alone (two_turns known far)) q.seat.me.0
-      → Works s worker.Evict 1 p q
+      → WorkerWorks s worker.Evict 1 p q
   pass_works of eight grows = (
     of,
     (
@@ -262,11 +264,11 @@ module _ (s : Shared) (p q : Pass) (known : Shown) (far : FarState) where
     ),
   )
 
-  works_elsewhere : (IsPassOf s q → ⊥) → Works s worker.Evict 1 p q → ⊥
+  works_elsewhere : (IsPassOf s q → ⊥) → WorkerWorks s worker.Evict 1 p q → ⊥
   works_elsewhere n w = n w.0
 
   -- its record is as it was
-  works_not : q.seat.me.0 ≡ grown nothing_more p.seat.me.0 → Works s worker.Evict 1 p q → ⊥
+  works_not : q.seat.me.0 ≡ grown nothing_more p.seat.me.0 → WorkerWorks s worker.Evict 1 p q → ⊥
   works_not as_before w =
       let d = w.1.0 in let k = w.1.1 in
       let same : length p.seat.me.0.turns ≡ length (d.turns ++ p.seat.me.0.turns) =
@@ -290,7 +292,7 @@ module _ (s : Shared) (p q : Pass) (known : Shown) (far : FarState) where
       ∷ turn known far job.Begin (Some (answer.Batch (record { n = 0 }))) ∷ []
 
   pass_stops : IsPassOf s q → s.config.handles ≡ 8
-      → Grows p.seat.me.0 (turns_alone cut_turns) q.seat.me.0 → Stops s worker.Evict 2 p q
+      → Grows p.seat.me.0 (turns_alone cut_turns) q.seat.me.0 → WorkerStops s worker.Evict 2 p q
   pass_stops of eight grows = (
     of,
     (
@@ -301,10 +303,10 @@ module _ (s : Shared) (p q : Pass) (known : Shown) (far : FarState) where
     ),
   )
 
-  stops_elsewhere : (IsPassOf s q → ⊥) → Stops s worker.Evict 2 p q → ⊥
+  stops_elsewhere : (IsPassOf s q → ⊥) → WorkerStops s worker.Evict 2 p q → ⊥
   stops_elsewhere n w = n w.0
 
-  stops_not : q.seat.me.0 ≡ grown nothing_more p.seat.me.0 → Stops s worker.Evict 2 p q → ⊥
+  stops_not : q.seat.me.0 ≡ grown nothing_more p.seat.me.0 → WorkerStops s worker.Evict 2 p q → ⊥
   stops_not as_before w =
       let d = w.1.0 in let k = w.1.1 in
       let same : length p.seat.me.0.turns ≡ length (d.turns ++ p.seat.me.0.turns) =

@@ -8,22 +8,22 @@ use Rattle.cb_types.specs.Jobs.{job_index}
 use Rattle.cb_workers.specs.declared.worker.Worker.{Worker}
 use Rattle.cb_workers.specs.declared.worker.Worker.TheVariants as worker
 use Rattle.cb_record.specs.Deeds.{Deed}
-use Rattle.cb_workers.specs.Work.{Answered, AreOf, AreDue, IsCutShort, IsWork, deed_of, deeds_of, lacked}
+use Rattle.cb_workers.specs.Work.{AnsweredTurn, AreJobsOf, AreDue, IsCutShort, IsWork, deed_of, deeds_of, lacked}
 
-abbrev begun : Answered
+abbrev begun : AnsweredTurn
 begun = record { job = job.Begin; reply = answer.Batch (record { n = 0 }) }
 
-abbrev shipped : Answered
+abbrev shipped : AnsweredTurn
 shipped = record { job = job.Ship; reply = answer.Shipped 0 }
 
-abbrev rebuilt : Answered
+abbrev rebuilt : AnsweredTurn
 rebuilt = record { job = job.Rebuild; reply = answer.Whole 0 }
 
-abbrev aborted : Answered
+abbrev aborted : AnsweredTurn
 aborted = record { job = job.Abort; reply = answer.Done }
 
 -- the kind of the newest turn's job
-abbrev index_of : List Answered → ℕ
+abbrev index_of : List AnsweredTurn → ℕ
 index_of [] = 0
 index_of (a ∷ earlier) = job_index a.job
 
@@ -37,7 +37,7 @@ had [] = 0
 had (d ∷ earlier) = counts d.reply + had earlier
 
 -- the newest first
-abbrev two : List Answered
+abbrev two : List AnsweredTurn
 two = shipped ∷ begun ∷ []
 
 abbrev three_deeds : List Deed
@@ -72,7 +72,7 @@ one_more : IsWork 8 worker.Evict 1 two (aborted ∷ []) three_deeds → ⊥
 one_more w = omega (arith, w.number)
 
 -- a batch begins where one begun is to be shipped
-abbrev begun_twice : List Answered
+abbrev begun_twice : List AnsweredTurn
 begun_twice = begun ∷ begun ∷ []
 
 not_due : IsWork 8 worker.Evict 2 begun_twice (aborted ∷ []) (deeds_of (aborted ∷ begun_twice)) → ⊥
@@ -88,7 +88,7 @@ not_ended : IsWork 8 worker.Evict 2 two [] (deeds_of two) → ⊥
 not_ended w = let e : 0 ≡ 1 = ap (λ xs. length xs) (w.ends.1) in omega (arith, e)
 
 -- a commit ends it
-abbrev committed : Answered
+abbrev committed : AnsweredTurn
 committed = record { job = job.Commit; reply = answer.Done }
 
 not_aborted : IsWork 8 worker.Evict 2 two (committed ∷ []) (deeds_of (committed ∷ two)) → ⊥
@@ -137,11 +137,11 @@ not_cut : IsCutShort 8 worker.Evict 3 two (aborted ∷ []) three_deeds → ⊥
 not_cut w = let e : 3 ≡ 4 = ap (λ xs. length xs) w.are in omega (arith, e)
 
 -- ---- whose turns they are
-are_of : AreOf worker.Evict three_deeds
+are_of : AreJobsOf worker.Evict three_deeds
 are_of = (refl, (refl, (refl, tt)))
 
 -- the last of them is another worker's
-not_of : AreOf worker.Evict (deed_of rebuilt ∷ deeds_of two) → ⊥
+not_of : AreJobsOf worker.Evict (deed_of rebuilt ∷ deeds_of two) → ⊥
 not_of are = let e : 3 ≡ 1 = ap (λ o. number_of o) (are.0) in omega (arith, e)
   where
     number_of : Option Worker → ℕ

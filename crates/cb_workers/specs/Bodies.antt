@@ -11,7 +11,7 @@ use Rattle.cb_record.specs.Parts.{Grows, Part, nothing_more}
 use Rattle.cb_shared.specs.Passes.{IsPassOf}
 use Rattle.cb_workers.specs.Rules.{end_of, next_job}
 use Rattle.cb_record.specs.Deeds.{Deed, deed}
-use Rattle.cb_workers.specs.Work.{Answered, AreDue, IsCutShort, IsOnly, IsWork, deeds_of}
+use Rattle.cb_workers.specs.Work.{AnsweredTurn, AreDue, IsCutShort, IsOnly, IsWork, deeds_of}
 use Rattle.cb_workers.specs.Work.{job_behind, lacked}
 use Rattle.cb_workers.specs.declared.worker.Worker.{Worker}
 
@@ -22,25 +22,25 @@ turns_alone turns = record nothing_more { turns = turns }
 
 -- the work of a worker, as a part of the record of its pass
 pub record IsWorked (handles : ℕ) (w : Worker) (turns : ℕ) (d : Part) : Type 0 where
-  pub done : List Answered
-  pub ending : List Answered
+  pub done : List AnsweredTurn
+  pub ending : List AnsweredTurn
   pub work : IsWork handles w turns done ending (map deed d.turns)
   pub alone : d ≡ turns_alone d.turns
 
 -- the work of one that was cut short
 pub record IsStopped (handles : ℕ) (w : Worker) (turns : ℕ) (d : Part) : Type 0 where
-  pub done : List Answered
-  pub ending : List Answered
+  pub done : List AnsweredTurn
+  pub ending : List AnsweredTurn
   pub work : IsCutShort handles w turns done ending (map deed d.turns)
   pub alone : d ≡ turns_alone d.turns
 
 -- the pass is one of the runtime, and its record grew by such work
-abbrev pub Works : Shared → Worker → ℕ → Pass → Pass → Type 0
-Works s w turns p q = IsPassOf s q × ((d : Part) × IsWorked s.config.handles w turns d
+abbrev pub WorkerWorks : Shared → Worker → ℕ → Pass → Pass → Type 0
+WorkerWorks s w turns p q = IsPassOf s q × ((d : Part) × IsWorked s.config.handles w turns d
     × Grows p.seat.me.0 d q.seat.me.0)
 
-abbrev pub Stops : Shared → Worker → ℕ → Pass → Pass → Type 0
-Stops s w turns p q = IsPassOf s q × ((d : Part) × IsStopped s.config.handles w turns d
+abbrev pub WorkerStops : Shared → Worker → ℕ → Pass → Pass → Type 0
+WorkerStops s w turns p q = IsPassOf s q × ((d : Part) × IsStopped s.config.handles w turns d
     × Grows p.seat.me.0 d q.seat.me.0)
 
 -- ---- parts of the work
@@ -83,13 +83,13 @@ abbrev pub Lacks : Job → Job → View → View → Type 0
 Lacks old new v u = (new ≡ old) × AddsTurns (lacked old ∷ []) v u
 
 -- what was begun is ended, where this job would go on with it
-abbrev pub Ends : Job → View → View → Type 0
-Ends due v u = (ending : List Answered) × IsOnly (end_of due) ending
+abbrev pub EndsBegun : Job → View → View → Type 0
+EndsBegun due v u = (ending : List AnsweredTurn) × IsOnly (end_of due) ending
     × AddsTurns (deeds_of ending) v u
 
 -- so many turns were made, and this job is due
 pub record HasMade (handles : ℕ) (w : Worker) (n : ℕ) (due : Job) (v u : View) : Type 0 where
-  pub done : List Answered
+  pub done : List AnsweredTurn
   pub number : length done ≡ n
   pub are_due : AreDue handles w done
   pub due_is : due ≡ job_behind handles w done
@@ -97,7 +97,7 @@ pub record HasMade (handles : ℕ) (w : Worker) (n : ℕ) (due : Job) (v u : Vie
 
 -- fewer turns were made, and that with the job that is due found no memory
 pub record Cuts (handles : ℕ) (w : Worker) (n : ℕ) (due : Job) (v u : View) : Type 0 where
-  pub done : List Answered
+  pub done : List AnsweredTurn
   pub fewer : length done < n
   pub are_due : AreDue handles w done
   pub due_is : due ≡ job_behind handles w done

@@ -9,17 +9,17 @@ use Rattle.cb_workers.specs.Rules.{end_of, first_job, next_job, owner}
 use Rattle.cb_workers.specs.declared.worker.Worker.{Worker}
 
 -- a turn that was answered
-pub record Answered : Type 0 where
+pub record AnsweredTurn : Type 0 where
   pub job : Job
   pub reply : Reply
 
-abbrev pub deed_of : Answered → Deed
+abbrev pub deed_of : AnsweredTurn → Deed
 deed_of a = record {
   job = a.job;
   reply = Some a.reply;
 }
 
-abbrev pub deeds_of : List Answered → List Deed
+abbrev pub deeds_of : List AnsweredTurn → List Deed
 deeds_of answered = map deed_of answered
 
 -- the turn of this job found no memory
@@ -30,24 +30,24 @@ lacked job = record {
 }
 
 -- the job that is due behind these turns, the newest first
-abbrev pub job_behind : ℕ → Worker → List Answered → Job
+abbrev pub job_behind : ℕ → Worker → List AnsweredTurn → Job
 job_behind handles w [] = first_job w
 job_behind handles w (a ∷ earlier) = next_job handles w a.job a.reply
 
 -- each turn had the job that was due behind those before it
-abbrev pub AreDue : ℕ → Worker → List Answered → Type 0
+abbrev pub AreDue : ℕ → Worker → List AnsweredTurn → Type 0
 AreDue handles w [] = Unit {0}
 AreDue handles w (a ∷ earlier) = (a.job ≡ job_behind handles w earlier) × AreDue handles w earlier
 
 -- one turn with this job, or none where there is no such job
-abbrev pub IsOnly : Option Job → List Answered → Type 0
+abbrev pub IsOnly : Option Job → List AnsweredTurn → Type 0
 IsOnly (Some job) ending = (reply : Reply)
     × (ending ≡ record { job = job; reply = reply } ∷ [])
 IsOnly None ending = ending ≡ []
 
 -- A worker made so many turns, each with the job that was due, and then at the most one that ends
 -- what it had begun; the newest first.
-pub record IsWork (handles : ℕ) (w : Worker) (turns : ℕ) (done ending : List Answered)
+pub record IsWork (handles : ℕ) (w : Worker) (turns : ℕ) (done ending : List AnsweredTurn)
     (deeds : List Deed) : Type 0 where
   pub number : length done ≡ turns
   pub are_due : AreDue handles w done
@@ -56,7 +56,7 @@ pub record IsWork (handles : ℕ) (w : Worker) (turns : ℕ) (done ending : List
 
 -- A worker made fewer turns, each with the job that was due. The next one that was due found no
 -- memory, and what it had begun was ended then.
-pub record IsCutShort (handles : ℕ) (w : Worker) (turns : ℕ) (done ending : List Answered)
+pub record IsCutShort (handles : ℕ) (w : Worker) (turns : ℕ) (done ending : List AnsweredTurn)
     (deeds : List Deed) : Type 0 where
   pub fewer : length done < turns
   pub are_due : AreDue handles w done
@@ -64,5 +64,5 @@ pub record IsCutShort (handles : ℕ) (w : Worker) (turns : ℕ) (done ending : 
   pub are : deeds ≡ deeds_of ending ++ (lacked (job_behind handles w done) ∷ deeds_of done)
 
 -- each of these turns has a job of the worker
-abbrev pub AreOf : Worker → List Deed → Type 0
-AreOf w deeds = Each (λ (d : Deed). owner d.job ≡ Some w) deeds
+abbrev pub AreJobsOf : Worker → List Deed → Type 0
+AreJobsOf w deeds = Each (λ (d : Deed). owner d.job ≡ Some w) deeds

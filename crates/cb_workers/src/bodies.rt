@@ -1,7 +1,7 @@
 //! The bodies of the workers: each makes so many turns of its own pass.
 ghost use Rattle.std.specs.Prelude.{◌≡◌, IfOk, IfErr};
 ghost use Rattle.cb_shared.specs.Passes.{IsPassOf};
-ghost use Rattle.cb_workers.specs.Bodies.{Stops, Works};
+ghost use Rattle.cb_workers.specs.Bodies.{WorkerStops, WorkerWorks};
 ghost use Rattle.cb_workers.specs.declared.worker.Worker.TheVariants as worker;
 
 use crate::worker::Worker;
@@ -27,8 +27,8 @@ pub fn filter_body<R: Wait, G: Gate>(
     gate: &G,
 ) -> Result<Pass, Stopped>
     requires of { IsPassOf shared.now pass }
-    ensures works { IfOk result (λ p. Works shared.now worker.Filter turns pass p) }
-    ensures stopped { IfErr result (λ s. Stops shared.now worker.Filter turns pass s.pass) }
+    ensures works { IfOk result (λ p. WorkerWorks shared.now worker.Filter turns pass p) }
+    ensures stopped { IfErr result (λ s. WorkerStops shared.now worker.Filter turns pass s.pass) }
 {
     worker_body(rt, alloc, shared, pass, Worker::Filter, turns, gate)
 }
@@ -44,8 +44,8 @@ pub fn evict_body<R: Wait, G: Gate>(
     gate: &G,
 ) -> Result<Pass, Stopped>
     requires of { IsPassOf shared.now pass }
-    ensures works { IfOk result (λ p. Works shared.now worker.Evict turns pass p) }
-    ensures stopped { IfErr result (λ s. Stops shared.now worker.Evict turns pass s.pass) }
+    ensures works { IfOk result (λ p. WorkerWorks shared.now worker.Evict turns pass p) }
+    ensures stopped { IfErr result (λ s. WorkerStops shared.now worker.Evict turns pass s.pass) }
 {
     worker_body(rt, alloc, shared, pass, Worker::Evict, turns, gate)
 }
@@ -61,8 +61,8 @@ pub fn compact_body<R: Wait, G: Gate>(
     gate: &G,
 ) -> Result<Pass, Stopped>
     requires of { IsPassOf shared.now pass }
-    ensures works { IfOk result (λ p. Works shared.now worker.Compact turns pass p) }
-    ensures stopped { IfErr result (λ s. Stops shared.now worker.Compact turns pass s.pass) }
+    ensures works { IfOk result (λ p. WorkerWorks shared.now worker.Compact turns pass p) }
+    ensures stopped { IfErr result (λ s. WorkerStops shared.now worker.Compact turns pass s.pass) }
 {
     worker_body(rt, alloc, shared, pass, Worker::Compact, turns, gate)
 }
@@ -77,8 +77,8 @@ pub fn rebuild_body<R: Wait, G: Gate>(
     gate: &G,
 ) -> Result<Pass, Stopped>
     requires of { IsPassOf shared.now pass }
-    ensures works { IfOk result (λ p. Works shared.now worker.Rebuild turns pass p) }
-    ensures stopped { IfErr result (λ s. Stops shared.now worker.Rebuild turns pass s.pass) }
+    ensures works { IfOk result (λ p. WorkerWorks shared.now worker.Rebuild turns pass p) }
+    ensures stopped { IfErr result (λ s. WorkerStops shared.now worker.Rebuild turns pass s.pass) }
 {
     worker_body(rt, alloc, shared, pass, Worker::Rebuild, turns, gate)
 }
@@ -95,8 +95,8 @@ pub fn worker_body<R: Wait, G: Gate>(
     gate: &G,
 ) -> Result<Pass, Stopped>
     requires of { IsPassOf shared.now pass }
-    ensures works { IfOk result (λ p. Works shared.now worker turns pass p) }
-    ensures stopped { IfErr result (λ s. Stops shared.now worker turns pass s.pass) }
+    ensures works { IfOk result (λ p. WorkerWorks shared.now worker turns pass p) }
+    ensures stopped { IfErr result (λ s. WorkerStops shared.now worker turns pass s.pass) }
 {
     match work(rt, alloc, shared, &mut pass, worker, turns, gate) {
         Ok(()) => Ok(pass),

@@ -5,14 +5,14 @@ ghost use Rattle.cb_shared.specs.Turning.{answer_of};
 ghost use Rattle.cb_workers.specs.Bodies.{
   AddsTurns,
   Cuts,
-  Ends,
+  EndsBegun,
   HasMade,
   IsEnd,
   IsOwed,
   Lacks,
   Steps,
-  Stops,
-  Works,
+  WorkerStops,
+  WorkerWorks,
   one_deed,
 };
 ghost use Rattle.cb_workers.specs.Rules.{first_job};
@@ -36,8 +36,8 @@ pub(crate) fn work<R: Wait, G: Gate>(
     gate: &G,
 ) -> Result<(), NoMemory>
     requires of { IsPassOf shared.now pass.old }
-    ensures works { IfOk result (λ _. Works shared.now worker turns pass.old pass.new) }
-    ensures stopped { OnErr result (Stops shared.now worker turns pass.old pass.new) }
+    ensures works { IfOk result (λ _. WorkerWorks shared.now worker turns pass.old pass.new) }
+    ensures stopped { OnErr result (WorkerStops shared.now worker turns pass.old pass.new) }
 {
     let mut due = worker.first();
     let made = make_turns(rt, alloc, shared, pass, worker, turns, gate, &mut due);
@@ -101,7 +101,7 @@ fn step<R: Wait>(
 fn end_work<R: Wait>(rt: &R, alloc: Global, shared: &Shared, pass: &mut Pass, due: &Job) -> bool
     requires of { IsPassOf shared.now pass.old }
     ensures of { IsPassOf shared.now pass.new }
-    ensures ends { Ends due.now pass.old.seat.me.0 pass.new.seat.me.0 }
+    ensures ends { EndsBegun due.now pass.old.seat.me.0 pass.new.seat.me.0 }
 {
     if let Some(job) = end_of(due) {
         let _reply = one_turn(rt, alloc, shared, pass, &job);

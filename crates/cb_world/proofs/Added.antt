@@ -17,7 +17,7 @@ use Rattle.cb_world.specs.Sets.{set_in, if_committed}
 use Rattle.cb_world.specs.Homes.{home_at}
 use Rattle.cb_world.specs.Leaving.{LeavingState}
 use Rattle.cb_world.specs.SetWord.{IsShaped, IsSpanWord}
-use Rattle.cb_world.specs.FarSound.{HoldsObject, IsSetWord, AreSets, AreAway, AreRows, Owner, of_set, of_leaving, of_joining, IsShardOf, IsBatch, batch_rows, AwaySound}
+use Rattle.cb_world.specs.FarSound.{HoldsObject, IsSetWord, AreSets, AreAway, AreShardRows, Owner, of_set, of_leaving, of_joining, IsShardOf, IsBatch, batch_rows, AwaySound}
 use Rattle.cb_world.specs.Stored.{NoKey}
 use Rattle.cb_world.specs.SetAdded.{is_far, IsUntouched, IsSetAdded}
 
@@ -199,12 +199,12 @@ added_away s t far new id set rows sound x = record {
     ]
 
 -- a shard of the new world is one of the old world or of the new set
-abbrev pub IsNewShard : SetState → ℕ → Owner → Shard → Type 0
-IsNewShard set id o shard = (p : ℕ) × (o ≡ of_set id p) × (slice_get set.shards p ≡ Some shard)
+abbrev pub IsOldOrNew : SetState → ℕ → Owner → Shard → Type 0
+IsOldOrNew set id o shard = (p : ℕ) × (o ≡ of_set id p) × (slice_get set.shards p ≡ Some shard)
 
 pub split_shard : (s t : Shown) (far new : FarState) (id : ℕ) (set : SetState)
     (rows : List (List ℕ)) → IsSetAdded s t far new id set rows → (o : Owner) (shard : Shard)
-    → IsShardOf new o shard → IsShardOf far o shard ⊎ IsNewShard set id o shard
+    → IsShardOf new o shard → IsShardOf far o shard ⊎ IsOldOrNew set id o shard
 split_shard s t far new id set rows x (of_set j p) shard is = elim (cases_eq j id) [
   | inl here ↦ let e = set_same set is.0 (sym x.added ∙ ap (set_in new.sets) (sym here) ∙ is.1) in
       inr (
@@ -231,7 +231,7 @@ keep_shard s t far new id set rows sound x (of_leaving p) shard is = (is.0, x.le
 keep_shard s t far new id set rows sound x (of_joining p) shard is = (is.0, x.joining ∙ is.1, is.2)
 
 pub added_rows : (s t : Shown) (far new : FarState) (id : ℕ) (set : SetState) (rows : List (List ℕ))
-    → AwaySound s far → IsSetAdded s t far new id set rows → AreRows new
+    → AwaySound s far → IsSetAdded s t far new id set rows → AreShardRows new
 added_rows s t far new id set rows sound x = record {
   members = subst IsMembership (sym x.members) sound.rows.members;
   counted = x.nodes ∙ sound.rows.counted ∙ ap (λ (m : Membership). length m.nodes) (sym x.members);
@@ -270,8 +270,8 @@ added_rows s t far new id set rows sound x = record {
       ]);
 }
   where
-    one : (o q : Owner) (a b : Shard) → IsShardOf far o a ⊎ IsNewShard set id o a
-        → IsShardOf far q b ⊎ IsNewShard set id q b → a.key ≡ b.key → o ≡ q
+    one : (o q : Owner) (a b : Shard) → IsShardOf far o a ⊎ IsOldOrNew set id o a
+        → IsShardOf far q b ⊎ IsOldOrNew set id q b → a.key ≡ b.key → o ≡ q
     one o q a b (inl i) (inl j) same = sound.rows.one o q a b i j same
     one o q a b (inl i) (inr (p, e, at)) same = absurd (x.fresh_keys o a i p b at (sym same))
     one o q a b (inr (p, e, at)) (inl j) same = absurd (x.fresh_keys q b j p a at same)

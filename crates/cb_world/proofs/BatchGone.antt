@@ -8,11 +8,11 @@ use Rattle.std.proofs.lemmas.Bool.{cases_eq}
 use Rattle.std.proofs.lemmas.Bool.Decides.{nat_tests}
 use Rattle.cb_member.specs.declared.names.NodeId.{NodeId}
 use Rattle.cb_member.specs.declared.names.Shard.{Shard}
-use Rattle.cb_node.specs.NodesState.{row_at as row_under}
+use Rattle.cb_node.specs.NodesState.{row_under}
 use Rattle.cb_set.specs.SetState.{SetState}
 use Rattle.cb_world.specs.declared.shown.Shown.{Shown}
 use Rattle.cb_world.specs.FarState.{FarState}
-use Rattle.cb_world.specs.FarSound.{AreRows, AwaySound, FarSound, IsShardOf, Owner, of_joining, of_leaving, of_set}
+use Rattle.cb_world.specs.FarSound.{AreShardRows, AwaySound, FarSound, IsShardOf, Owner, of_joining, of_leaving, of_set}
 use Rattle.cb_world.specs.Join.{IsFresh, IsJoin}
 use Rattle.cb_world.specs.Joining.{JoiningState}
 use Rattle.cb_world.specs.Leaving.{LeavingState}
@@ -77,7 +77,7 @@ gone_sets far batch x id = elim (cases_eq id batch.set) [
 ]
 
 -- ---- the rows
-put_there : (s : Shown) (far : FarState) (batch : LeavingState) → AreRows far
+put_there : (s : Shown) (far : FarState) (batch : LeavingState) → AreShardRows far
     → far.leaving ≡ Some batch → AreThere far.nodes (put_shards batch.shards)
 put_there s far batch rows there q shard at =
     let x = put_from batch.shards q shard at in
@@ -124,7 +124,7 @@ still_shard far batch x (of_leaving p) shard other is = absurd (true_false other
 still_shard far batch x (of_joining p) shard other is = is
 
 gone_rows : (s : Shown) (far : FarState) (batch : LeavingState) → AwaySound s far
-    → far.leaving ≡ Some batch → IsReserved far batch → AreRows (without_batch far batch)
+    → far.leaving ≡ Some batch → IsReserved far batch → AreShardRows (without_batch far batch)
 gone_rows s far batch sound there x = record {
   members = sound.rows.members;
   counted = drop_count far.nodes (put_shards batch.shards) ∙ sound.rows.counted;

@@ -6,7 +6,7 @@ use Rattle.cb_code.specs.Coefficients.{AreCoefficients}
 use Rattle.cb_member.specs.declared.names.Shard.{Shard}
 use Rattle.cb_member.specs.declared.names.Loss.{Loss}
 use Rattle.cb_member.specs.Membership.{Membership, IsMembership, incarnation}
-use Rattle.cb_node.specs.NodesState.{NodesState, row_at as row_under}
+use Rattle.cb_node.specs.NodesState.{NodesState, row_under}
 use Rattle.cb_set.specs.SetState.{SetState, live_at}
 use Rattle.cb_set.specs.Lost.{is_lost, loss_of, lost}
 use Rattle.cb_world.specs.declared.shown.Shown.{Shown}
@@ -15,7 +15,7 @@ use Rattle.cb_world.specs.Sets.{set_in, SetMap}
 use Rattle.cb_world.specs.Joining.{JoiningState}
 use Rattle.cb_world.specs.SetWord.{IsSpanWord, IsShaped}
 use Rattle.cb_set.specs.SetState.{parities}
-use Rattle.cb_world.specs.FarSound.{IsSetWord, AreRows, Owner, of_set, of_leaving, of_joining, IsShardOf, AwaySound}
+use Rattle.cb_world.specs.FarSound.{IsSetWord, AreShardRows, Owner, of_set, of_leaving, of_joining, IsShardOf, AwaySound}
 use Rattle.cb_world.specs.Merged.{IsMergedWord}
 use Rattle.cb_world.specs.Join.{NoneLost, AreFit, IsJoin}
 use Rattle.cb_world.specs.JoinSteps.{IsBegun}
@@ -45,7 +45,7 @@ whole_none m (x ∷ xs) e p shard at =
     go later None f (suc p) at = later (ap (λ o. cons_option o (lost m xs)) (sym f) ∙ e) p at
 
 begun_rows : (s : Shown) (far new : FarState) (pair : JoiningState) (a b : SetState)
-    → AwaySound s far → IsBegun far new pair a b → AreRows new
+    → AwaySound s far → IsBegun far new pair a b → AreShardRows new
 begun_rows s far new pair a b sound x = record {
   members = subst IsMembership (sym x.left.members) sound.rows.members;
   counted = x.left.nodes ∙ sound.rows.counted

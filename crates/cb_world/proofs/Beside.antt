@@ -16,12 +16,12 @@ use Rattle.cb_world.proofs.Claimed.{lies}
 use Rattle.cb_world.proofs.Unmoved.{KeepsLeaving, IsAtLarge, keeps_all, not_leaving, sound_near}
 
 -- the words before an object of so many bytes at this place, and those behind it
-abbrev pub IsBeside : ℕ → ℕ → ℕ → Type 0
-IsBeside place len p = (p < place) ⊎ (place + words_for len ≤ p)
+abbrev pub IsOutside : ℕ → ℕ → ℕ → Type 0
+IsOutside place len p = (p < place) ⊎ (place + words_for len ≤ p)
 
 -- the words beside the object are as they were
 abbrev pub KeepsBeside : List ℕ → List ℕ → ℕ → ℕ → Type 0
-KeepsBeside old new place len = (p : ℕ) → IsBeside place len p → get_or new p 0 ≡ get_or old p 0
+KeepsBeside old new place len = (p : ℕ) → IsOutside place len p → get_or new p 0 ≡ get_or old p 0
 
 pub put_beside : (ms xs : List ℕ) (place len : ℕ) → length xs ≡ words_for len
     → KeepsBeside ms (put ms place xs) place len
@@ -42,7 +42,7 @@ other_frame ms ns place len f g other start end beside =
     window_same ns ms (512 * f) 512 (λ i low high. beside i (side i (cases_order f g) low high))
   where
     side : (i : ℕ) → (f ≡ g) ⊎ ((f < g) ⊎ (g < f)) → 512 * f ≤ i → i < 512 * f + 512
-        → IsBeside place len i
+        → IsOutside place len i
     side i (inl same) low high = absurd (other same)
     side i (inr (inl less)) low high = inl (omega (arith, less, start, high))
     side i (inr (inr more)) low high = inr (omega (arith, more, end, low))

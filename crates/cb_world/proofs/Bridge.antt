@@ -4,19 +4,19 @@ use Rattle.std.specs.List.{slice_get}
 use Rattle.std.proofs.lemmas.Bool.{cases_eq}
 use Rattle.cb_member.specs.declared.names.NodeId.{NodeId}
 use Rattle.cb_member.specs.declared.names.Shard.{Shard}
-use Rattle.cb_node.specs.NodesState.{NodesState, with_row, row_at as row_under}
+use Rattle.cb_node.specs.NodesState.{NodesState, with_row, row_under}
 use Rattle.cb_node.proofs.Laws.{put_keeps_other_rows}
 use Rattle.cb_world.specs.Stored.{all_put}
 use Rattle.cb_world.proofs.Storing.{InRange}
 
 -- the shard names that row
-abbrev pub IsAt : List Shard → NodeId → ℕ → ℕ → Shard → Type 0
-IsAt shards node key p shard = (slice_get shards p ≡ Some shard) × (shard.node.n ≡ node.n)
+abbrev pub NamesRowAt : List Shard → NodeId → ℕ → ℕ → Shard → Type 0
+NamesRowAt shards node key p shard = (slice_get shards p ≡ Some shard) × (shard.node.n ≡ node.n)
     × (shard.key ≡ key)
 
 pub named_or_not : (shards : List Shard) (node : NodeId) (key : ℕ)
-    → ((p : ℕ) × (shard : Shard) × IsAt shards node key p shard)
-    ⊎ ((p : ℕ) (shard : Shard) → IsAt shards node key p shard → ⊥)
+    → ((p : ℕ) × (shard : Shard) × NamesRowAt shards node key p shard)
+    ⊎ ((p : ℕ) (shard : Shard) → NamesRowAt shards node key p shard → ⊥)
 named_or_not [] node key = inr (λ p shard is. none_some p shard is.0)
   where
     none_some : (p : ℕ) (shard : Shard) → slice_get [] p ≡ Some shard → ⊥
@@ -35,9 +35,9 @@ named_or_not (x ∷ xs) node key = elim (named_or_not xs node key) [
     some_same : (a b : Shard) → Some a ≡ Some b → a ≡ b
     some_same a b e = cc
 
-    first : ((p : ℕ) (shard : Shard) → IsAt xs node key p shard → ⊥)
+    first : ((p : ℕ) (shard : Shard) → NamesRowAt xs node key p shard → ⊥)
         → ((x.node.n ≡ node.n) × (x.key ≡ key) → ⊥) → (p : ℕ) (shard : Shard)
-        → IsAt (x ∷ xs) node key p shard → ⊥
+        → NamesRowAt (x ∷ xs) node key p shard → ⊥
     first none not zero shard is = let e =
         some_same x shard is.0 in
         not (ap (λ (s : Shard). s.node.n) e ∙ is.1, ap (λ (s : Shard). s.key) e ∙ is.2)
@@ -45,7 +45,8 @@ named_or_not (x ∷ xs) node key = elim (named_or_not xs node key) [
 
 -- a row that no shard names stays
 pub put_past : (nodes : NodesState) (shards : List Shard) (rows : List (List ℕ)) (node : NodeId)
-    (key : ℕ) → InRange nodes shards → ((p : ℕ) (shard : Shard) → IsAt shards node key p shard → ⊥)
+    (key : ℕ) → InRange nodes shards
+    → ((p : ℕ) (shard : Shard) → NamesRowAt shards node key p shard → ⊥)
     → row_under (all_put nodes shards rows) node key ≡ row_under nodes node key
 put_past nodes [] rows node key range none = refl
 put_past nodes (x ∷ xs) [] node key range none = refl

@@ -230,13 +230,13 @@ count_more p a n = let e = sum_by-append (λ k. cond (p k) 1 0) (range_with_len 
     ap (λ (xs : List ℕ). count_by p xs) (range_more a n) ∙ omega (arith, e, one)
 
 -- so many of the nodes below n have room
-pub record IsCount (nodes : NodesState) (m : Membership) (n count : ℕ) : Type 0 where
+pub record HaveRoomBelow (nodes : NodesState) (m : Membership) (n count : ℕ) : Type 0 where
   pub few : count ≤ n
   pub counted : count ≡ count_by (λ k. has_room nodes m (numbered k)) (range_with_len 0 n)
 
 pub node_counted : (nodes : NodesState) (m : Membership) (n count next : ℕ) (room : Bool)
-    → IsCount nodes m n count → room ≡ has_room nodes m (numbered n)
-    → next ≡ count + cond room 1 0 → IsCount nodes m (n + 1) next
+    → HaveRoomBelow nodes m n count → room ≡ has_room nodes m (numbered n)
+    → next ≡ count + cond room 1 0 → HaveRoomBelow nodes m (n + 1) next
 node_counted nodes m n count next room a e step =
     let more = count_more (λ k. has_room nodes m (numbered k)) 0 n in
     let same = ap number e in

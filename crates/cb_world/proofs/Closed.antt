@@ -1,7 +1,7 @@
 -- The sound world once all objects of a span are away and its frame is given back.
 use Rattle.std.proofs.Common.{◌≡◌, ◌≢◌, ◌⊎◌, ◌↔◌, ℕ, Bool, true, false, ◌*◌, ◌<◌, ◌≤◌, length, set, sym, ap, ◌∙◌, subst, arith, inl, inr, Option, Some, None, length-set, get_or-set_other, get_or-set_same}
 use Rattle.std.proofs.lemmas.Bool.{cases_eq}
-use Rattle.cb_frame.specs.FreeFrames.{IsFree, with_given}
+use Rattle.cb_frame.specs.FreeFrames.{IsFreeFrame, with_given}
 use Rattle.cb_span.specs.Contents.{Contents, handle_at}
 use Rattle.cb_span.specs.Places.{slot_place}
 use Rattle.cb_world.specs.declared.object.Object.{Object}
@@ -78,7 +78,7 @@ sound_closed far s t f span sound there within x =
             ∙ sym (length-set far.frames f true);
         free = λ g below. elim (cases_eq g f) [
           | inl e ↦ subst (λ (i : ℕ).
-              IsFree (with_given far.frames f) i ↔ (span_in (set far.spans f None) i ≡ None))
+              IsFreeFrame (with_given far.frames f) i ↔ (span_in (set far.spans f None) i ≡ None))
               (sym e) (
                 (λ z. here),
                 (λ z. get_or-set_same far.frames f true false (omega (
@@ -89,7 +89,7 @@ sound_closed far s t f span sound there within x =
               )
           | inr off ↦
               subst (λ (o : Option Contents).
-              IsFree (with_given far.frames f) g ↔ (o ≡ None)) (sym (else g off))
+              IsFreeFrame (with_given far.frames f) g ↔ (o ≡ None)) (sym (else g off))
               (subst (λ (b : Bool).
               (b ≡ true) ↔ (span_in far.spans g ≡ None))
               (sym (get_or-set_other far.frames f g true false off))

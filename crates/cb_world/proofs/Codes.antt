@@ -7,7 +7,7 @@ use Rattle.std.proofs.lemmas.Bool.{cases_eq}
 use Rattle.std.proofs.lemmas.Bool.Decides.{nat_tests}
 use Rattle.cb_set.specs.SetState.{PositionState, SetState, is_live, parities, with_position}
 use Rattle.cb_types.specs.declared.config.Config.{Config}
-use Rattle.cb_world.specs.Codes.{HaveCodes, IsCode}
+use Rattle.cb_world.specs.Codes.{HaveCodes, IsConfiguredCode}
 use Rattle.cb_world.specs.Empty.{empty_far}
 use Rattle.cb_world.specs.FarState.{FarState}
 use Rattle.cb_world.specs.Leaving.{LeavingState}
@@ -18,7 +18,7 @@ use Rattle.cb_world.proofs.SetChanging.{is_kept, kept_same}
 
 -- the code of a set is the configured one
 abbrev pub HasCode : Config → SetState → Type 0
-HasCode c set = IsCode c (length set.positions) (parities set)
+HasCode c set = IsConfiguredCode c (length set.positions) (parities set)
 
 -- and that of each committed set
 abbrev pub SetCodes : Config → SetMap → Type 0
@@ -80,8 +80,9 @@ codes_removed c sets id all q set at = elim (cases_eq q id) [
 pub code_as : (c : Config) (set other : SetState) → length other.positions ≡ length set.positions
     → length other.shards ≡ length set.shards → HasCode c set → HasCode c other
 code_as c set other positions shards x =
-    subst (λ (n : ℕ). IsCode c n (length other.shards - n)) (sym positions)
-    (subst (λ (n : ℕ). IsCode c (length set.positions) (n - length set.positions)) (sym shards) x)
+    subst (λ (n : ℕ). IsConfiguredCode c n (length other.shards - n)) (sym positions)
+    (subst (λ (n : ℕ). IsConfiguredCode c (length set.positions) (n - length set.positions))
+    (sym shards) x)
 
 -- a position of a set gave objects up
 pub codes_left : (c : Config) (sets : SetMap) (id p : ℕ) (set : SetState) (left : PositionState)

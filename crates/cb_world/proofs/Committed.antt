@@ -9,7 +9,7 @@ use Rattle.cb_gf256.specs.InRange.{IsInRange}
 use Rattle.cb_member.specs.declared.names.NodeId.{NodeId}
 use Rattle.cb_member.specs.declared.names.Shard.{Shard}
 use Rattle.cb_member.specs.Membership.{Membership, IsMembership, incarnation}
-use Rattle.cb_node.specs.NodesState.{row_at as row_under}
+use Rattle.cb_node.specs.NodesState.{row_under}
 use Rattle.cb_set.specs.SetState.{SetState, PositionState, position_of, live_at, slot_at, dead_position}
 use Rattle.cb_set.specs.Lost.{is_lost}
 use Rattle.cb_world.specs.declared.shown.Shown.{Shown}
@@ -20,7 +20,7 @@ use Rattle.cb_world.specs.Homes.{home_at}
 use Rattle.cb_world.specs.Joining.{JoiningState}
 use Rattle.cb_world.specs.SetWord.{IsSpanWord, IsWordOf, IsShaped}
 use Rattle.cb_set.specs.SetState.{parities}
-use Rattle.cb_world.specs.FarSound.{HoldsObject, IsSetWord, AreSets, AreAway, AreRows, Owner, of_set, of_leaving, of_joining, IsShardOf, AwaySound}
+use Rattle.cb_world.specs.FarSound.{HoldsObject, IsSetWord, AreSets, AreAway, AreShardRows, Owner, of_set, of_leaving, of_joining, IsShardOf, AwaySound}
 use Rattle.cb_world.specs.Merged.{takes, IsMergedWord}
 use Rattle.cb_world.specs.Join.{IsFresh, IsJoinWord, IsBeside, AreFit, IsJoin}
 use Rattle.cb_world.specs.JoinSteps.{merged_shard, IsMergedSet, IsCommitted}
@@ -560,7 +560,7 @@ pair_same : (x y : JoiningState) → Some x ≡ Some y → x ≡ y
 pair_same x y e = cc
 
 commit_rows : (s : Shown) (far new : FarState) (pair : JoiningState) (a b c : SetState) (id : ℕ)
-    → AwaySound s far → (j : IsJoin far pair) → IsCommitted far new pair a b c id → AreRows new
+    → AwaySound s far → (j : IsJoin far pair) → IsCommitted far new pair a b c id → AreShardRows new
 commit_rows s far new pair a b c id sound j x = record {
   members = subst IsMembership (sym x.members) sound.rows.members;
   counted = x.nodes ∙ sound.rows.counted ∙ ap (λ (m : Membership). length m.nodes) (sym x.members);

@@ -4,7 +4,7 @@ use Rattle.std.specs.FinMap as map
 use Rattle.cb_member.specs.declared.names.NodeId.{NodeId}
 use Rattle.cb_member.specs.declared.names.Shard.{Shard}
 use Rattle.cb_member.specs.Membership.{IsMembership, alive, with_crash}
-use Rattle.cb_node.specs.NodesState.{NodesState, with_rows, row_at as row_under}
+use Rattle.cb_node.specs.NodesState.{NodesState, with_rows, row_under}
 use Rattle.cb_world.specs.declared.shown.Shown.{Shown}
 use Rattle.cb_node.proofs.Laws.{change_keeps_other_nodes as rows_elsewhere}
 use Rattle.cb_set.proofs.Laws.{crash_keeps_other_nodes}
@@ -12,7 +12,7 @@ use Rattle.cb_world.specs.FarState.{FarState}
 use Rattle.cb_world.specs.NodeChanges.{crashed_far}
 use Rattle.cb_world.proofs.Rooms.{room_wiped}
 use Rattle.cb_world.proofs.Storing.{wiped_node_is_empty}
-use Rattle.cb_world.specs.FarSound.{AreRows, Owner, of_set, of_leaving, of_joining, IsShardOf, AwaySound}
+use Rattle.cb_world.specs.FarSound.{AreShardRows, Owner, of_set, of_leaving, of_joining, IsShardOf, AwaySound}
 use Rattle.cb_world.proofs.Words.{crash_keeps_word, crash_keeps_current, crash_survivor, crash_keeps_incarnations}
 
 same_shards : (far : FarState) (node : NodeId) (o : Owner) (a : Shard)
@@ -39,9 +39,9 @@ left_elsewhere nodes node q key row within at =
     λ here. none_some _ None row (wiped_node_is_empty nodes node q key within here) at in
     (off, ap (λ rows. map.get rows key) (sym (rows_elsewhere nodes node q map.empty off)) ∙ at)
 
-crash_keeps_rows : (far : FarState) (node : NodeId) → AreRows far
+crash_keeps_rows : (far : FarState) (node : NodeId) → AreShardRows far
     → node.n < length far.members.nodes → alive far.members node ≡ true
-    → IsMembership (with_crash far.members node) → AreRows (crashed_far far node)
+    → IsMembership (with_crash far.members node) → AreShardRows (crashed_far far node)
 crash_keeps_rows far node rows within up valid = record {
   members = valid;
   counted = omega (arith, counts);

@@ -8,7 +8,7 @@ use Rattle.std.proofs.lemmas.Bool.{cases_eq, eqb-true}
 use Rattle.cb_member.specs.declared.names.NodeId.{NodeId}
 use Rattle.cb_member.specs.declared.names.Shard.{Shard}
 use Rattle.cb_member.specs.Membership.{alive, with_crash}
-use Rattle.cb_node.specs.NodesState.{NodesState, held, rows_at, row_at as row_under}
+use Rattle.cb_node.specs.NodesState.{NodesState, held, rows_of_node, row_under}
 use Rattle.cb_set.specs.SetState.{SetState}
 use Rattle.cb_set.specs.Lost.{is_lost, lost}
 use Rattle.cb_set.proofs.Laws.{crash_keeps_other_nodes}
@@ -28,7 +28,7 @@ no_row : (nodes : NodesState) (node q : NodeId) (key : ℕ) → held nodes node 
     → row_under nodes q key ≡ None
 no_row nodes node q key none here =
     ap (λ (n : ℕ). row_under nodes (record { n = n }) key) here
-    ∙ ap (λ rows. map.get rows key) (map.empty_of_len (rows_at nodes node) none)
+    ∙ ap (λ rows. map.get rows key) (map.empty_of_len (rows_of_node nodes node) none)
     ∙ map.get-empty nat_cmp key
 
 none_some : (x : Option (List ℕ)) (row : List ℕ) → x ≡ None → x ≡ Some row → ⊥

@@ -21,7 +21,7 @@ use Rattle.cb_world.specs.Choices.{IsBefore, IsLeastNode, numbered}
 use Rattle.cb_world.specs.FarState.{FarState, span_in}
 use Rattle.cb_world.specs.LeftOver.{LiesIn}
 use Rattle.cb_world.specs.LocalSound.{LocalSound}
-use Rattle.cb_world.specs.Memory.{byte_at}
+use Rattle.cb_world.specs.Memory.{memory_byte}
 use Rattle.cb_world.specs.Placed.{Slot, IsChosen, IsCrammed, IsInNew, IsInSpan}
 use Rattle.cb_world.specs.Sets.{set_in}
 use Rattle.cb_world.specs.Plain.{Words}
@@ -140,13 +140,14 @@ word_fixed x y low below same = sym (from_le_bytes-to_le_bytes_8 x low)
 
 -- so are words at the same place of two lists
 pub place_fixed : (xs ys : List ℕ) (i : ℕ) → get_or xs i 0 < 2 ^ 64 → get_or ys i 0 < 2 ^ 64
-    → ((p : ℕ) → 8 * i ≤ p → p < 8 * i + 8 → byte_at xs p ≡ byte_at ys p)
+    → ((p : ℕ) → 8 * i ≤ p → p < 8 * i + 8 → memory_byte xs p ≡ memory_byte ys p)
     → get_or xs i 0 ≡ get_or ys i 0
 place_fixed xs ys i low below same =
     word_fixed (get_or xs i 0) (get_or ys i 0) low below (λ j within.
     let word : (8 * i + j) / 8 ≡ i = omega (arith, within) in
     let byte : (8 * i + j) % 8 ≡ j = omega (arith, within) in
-    let at : (zs : List ℕ) → byte_at zs (8 * i + j) ≡ get_or (to_le_bytes w64 (get_or zs i 0)) j 0 =
+    let at : (zs : List ℕ)
+    → memory_byte zs (8 * i + j) ≡ get_or (to_le_bytes w64 (get_or zs i 0)) j 0 =
     λ zs. ap (λ (k : ℕ). get_or (to_le_bytes w64 (get_or zs k 0)) ((8 * i + j) % 8) 0) word
     ∙ ap (λ (k : ℕ). get_or (to_le_bytes w64 (get_or zs i 0)) k 0) byte in
     sym (at xs) ∙ same (8 * i + j) (omega arith) (omega (arith, within)) ∙ at ys)

@@ -4,7 +4,7 @@ use native.Mathlib.Decide.{ℕ_discrete}
 use Rattle.cb_class.specs.Class.{IsClassOf, slots_of, words_of}
 use Rattle.cb_class.proofs.Laws.{slot_within, slots_apart, words_fill, bytes_at_least}
 use Rattle.std.proofs.lemmas.Bool.{cases_order}
-use Rattle.cb_frame.specs.FreeFrames.{IsFree}
+use Rattle.cb_frame.specs.FreeFrames.{IsFreeFrame}
 use Rattle.cb_span.specs.Contents.{Contents, IsSpan, handle_at, with_cleared, live_count}
 use Rattle.cb_span.specs.Places.{slot_place}
 use Rattle.cb_span.proofs.Laws.{slot_in_range, IsSpan-with_cleared, handle_at-with_cleared, handle_at-with_cleared_other}
@@ -172,17 +172,18 @@ sound_freed far s h len place v sound lies c range stamp frame live rises = reco
     some_none x e = cc
 
     free : (f : ℕ) → f < length far.frames → Dec (f ≡ c.frame)
-        → IsFree far.frames f ↔ (span_in (set far.spans c.frame (Some left)) f ≡ None)
+        → IsFreeFrame far.frames f ↔ (span_in (set far.spans c.frame (Some left)) f ≡ None)
     free f below (yes e) =
         subst (λ (i : ℕ).
-        IsFree far.frames i ↔ (span_in (set far.spans c.frame (Some left)) i ≡ None)) (sym e) (
+        IsFreeFrame far.frames i ↔ (span_in (set far.spans c.frame (Some left)) i ≡ None)) (sym e) (
           (λ z. absurd (some_none c.span (sym c.there
               ∙ (sound.frames.free c.frame (subst (λ (i : ℕ). i < length far.frames) e below)).0 z))),
           (λ z. absurd (some_none left (sym here ∙ z))),
         )
     free f below (no apart) =
         subst (λ (o : Option Contents).
-        IsFree far.frames f ↔ (o ≡ None)) (sym (span_else far.spans c.frame f (Some left) apart))
+        IsFreeFrame far.frames f
+        ↔ (o ≡ None)) (sym (span_else far.spans c.frame f (Some left) apart))
         (sound.frames.free f below)
 
     valid : (f : ℕ) (span : Contents) → span_in (set far.spans c.frame (Some left)) f ≡ Some span

@@ -7,12 +7,12 @@ use Rattle.cb_member.specs.declared.names.Epoch.{Epoch}
 use Rattle.cb_member.specs.declared.names.Loss.{Loss}
 use Rattle.cb_member.specs.declared.names.NodeId.{NodeId}
 use Rattle.cb_member.specs.declared.names.Shard.{Shard}
-use Rattle.cb_member.specs.Membership.{alive, ended_incarnations, fresh_node, incarnation, state_of}
-use Rattle.cb_node.specs.NodesState.{has, held, row_at as row_under}
+use Rattle.cb_member.specs.Membership.{alive, ended_incarnations, fresh_node, incarnation, node_state}
+use Rattle.cb_node.specs.NodesState.{has, held, row_under}
 use Rattle.cb_set.specs.Lost.{is_lost}
 use Rattle.cb_world.specs.Choices.{IsLeastNode}
 use Rattle.cb_world.specs.FarState.{FarState}
-use Rattle.cb_world.specs.FarSound.{AreRows}
+use Rattle.cb_world.specs.FarSound.{AreShardRows}
 
 -- the shard is of the incarnation that is on, of a node that is alive
 pub record IsUpShard (far : FarState) (shard : Shard) : Type 0 where
@@ -46,10 +46,10 @@ abbrev loss : Shard → Epoch → Loss
 loss shard epoch = record { node = shard.node; epoch = epoch }
 
 -- it is of no incarnation that is over
-pub up_is_kept : (far : FarState) (shard : Shard) → AreRows far → IsUpShard far shard
+pub up_is_kept : (far : FarState) (shard : Shard) → AreShardRows far → IsUpShard far shard
     → is_lost far.members shard ≡ false
 up_is_kept far shard rows x =
-    let state = state_of far.members shard.node in
+    let state = node_state far.members shard.node in
     let within : shard.node.n < length far.members.nodes =
     let w = x.within in omega (arith, w, rows.counted) in
     let ended : length state.crashes ≡ ended_incarnations state =
@@ -60,7 +60,7 @@ up_is_kept far shard rows x =
     (slice_get_past state.crashes shard.incarnation (let e = x.incarnation in omega (arith, over, e)))
 
 -- nor of one that is still to come
-pub up_is_current : (far : FarState) (shard : Shard) → AreRows far → IsUpShard far shard
+pub up_is_current : (far : FarState) (shard : Shard) → AreShardRows far → IsUpShard far shard
     → (shard.node.n < length far.members.nodes)
     × (shard.incarnation ≤ incarnation far.members shard.node)
 up_is_current far shard rows x =
@@ -68,7 +68,7 @@ up_is_current far shard rows x =
     (omega (arith, w, rows.counted), omega (arith, e))
 
 -- no row stands under a key that was not drawn yet
-pub undrawn_is_fresh : (far : FarState) (node : NodeId) (key : ℕ) → AreRows far
+pub undrawn_is_fresh : (far : FarState) (node : NodeId) (key : ℕ) → AreShardRows far
     → far.counts.keys ≤ key → has far.nodes node key ≡ false
 undrawn_is_fresh far node key rows undrawn = by (row_under far.nodes node key) refl
   where

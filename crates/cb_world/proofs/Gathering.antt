@@ -8,7 +8,7 @@ use Rattle.cb_gf256.specs.Block.{with_row}
 use Rattle.cb_gf256.proofs.PublicLaws.{written_count, written_row, written_lengths}
 use Rattle.cb_member.specs.declared.names.Shard.{Shard}
 use Rattle.cb_member.specs.Membership.{Membership}
-use Rattle.cb_node.specs.NodesState.{NodesState, row_at as row_under}
+use Rattle.cb_node.specs.NodesState.{NodesState, row_under}
 use Rattle.cb_set.specs.SetState.{SetState}
 use Rattle.cb_set.specs.Lost.{lost}
 use Rattle.cb_gf256.specs.Rows.{rows_at}

@@ -10,7 +10,7 @@ use Rattle.cb_gf256.specs.InRange.{IsInRange}
 use Rattle.cb_member.specs.declared.names.NodeId.{NodeId}
 use Rattle.cb_member.specs.declared.names.Shard.{Shard}
 use Rattle.cb_member.specs.Membership.{Membership, IsMembership, incarnation}
-use Rattle.cb_node.specs.NodesState.{NodesState, row_at as row_under}
+use Rattle.cb_node.specs.NodesState.{NodesState, row_under}
 use Rattle.cb_set.specs.SetState.{SetState, PositionState, IsRestOf, position_of, live_at, slot_at, with_position}
 use Rattle.cb_set.proofs.Laws.{named_live, position_here, position_else}
 use Rattle.cb_set.specs.Lost.{is_lost}
@@ -21,8 +21,8 @@ use Rattle.cb_world.specs.FarState.{FarState}
 use Rattle.cb_world.specs.Sets.{set_in, if_committed}
 use Rattle.cb_world.specs.Homes.{home_at}
 use Rattle.cb_world.specs.SetWord.{IsWordOf, IsSpanWord, IsShaped}
-use Rattle.cb_world.specs.FarSound.{HoldsObject, IsSetWord, AreSets, AreAway, AreRows, Owner, of_set, of_leaving, of_joining, IsShardOf, AwaySound}
-use Rattle.cb_world.specs.GivenUp.{IsLeft, GoesOn, GivesUp}
+use Rattle.cb_world.specs.FarSound.{HoldsObject, IsSetWord, AreSets, AreAway, AreShardRows, Owner, of_set, of_leaving, of_joining, IsShardOf, AwaySound}
+use Rattle.cb_world.specs.GivenUp.{IsLeft, SetGoesOn, GivesUp}
 use Rattle.cb_world.proofs.Added.{set_same, home_same, holds_kept, was_far}
 
 -- ---- one position is dead
@@ -135,7 +135,7 @@ set_number (of_joining p) = 0
 -- a set of the new world: what is left of the set, or another one
 abbrev pub IsNewSet : FarState → FarState → ℕ → SetState → ℕ → SetState → Type 0
 IsNewSet far new id rest j other =
-    ((j ≡ id) × GoesOn far new id rest × (rest ≡ other))
+    ((j ≡ id) × SetGoesOn far new id rest × (rest ≡ other))
     ⊎ ((j ≢ id) × (set_in far.sets j ≡ Some other))
 
 new_set : (s t : Shown) (far new : FarState) (id : ℕ) (set : SetState) (p : ℕ)
@@ -160,7 +160,7 @@ new_set s t far new id set p left x j other at = elim (cases_eq j id) [
 -- by the two cases of a new set
 each_set : (s t : Shown) (far new : FarState) (id : ℕ) (set : SetState) (p : ℕ)
     (left : PositionState) → GivesUp s t far new id set p left → (P : ℕ → SetState → Type 0)
-    → (GoesOn far new id (with_position set p left) → P id (with_position set p left))
+    → (SetGoesOn far new id (with_position set p left) → P id (with_position set p left))
     → ((j : ℕ) (other : SetState) → j ≢ id → set_in far.sets j ≡ Some other → P j other)
     → (j : ℕ) (other : SetState) → set_in new.sets j ≡ Some other → P j other
 each_set s t far new id set p left x P on off j other at =
@@ -356,7 +356,7 @@ still_row s t far new id set p left x node key row at = elim x.after [
 ]
 
 pub given_rows : (s t : Shown) (far new : FarState) (id : ℕ) (set : SetState) (p : ℕ)
-    (left : PositionState) → AwaySound s far → GivesUp s t far new id set p left → AreRows new
+    (left : PositionState) → AwaySound s far → GivesUp s t far new id set p left → AreShardRows new
 given_rows s t far new id set p left sound x = record {
   members = subst IsMembership (sym x.members) sound.rows.members;
   counted = x.nodes ∙ sound.rows.counted ∙ ap (λ (m : Membership). length m.nodes) (sym x.members);

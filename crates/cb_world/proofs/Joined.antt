@@ -6,7 +6,7 @@ use Rattle.std.specs.FinMap as map
 use Rattle.cb_member.specs.declared.names.NodeId.{NodeId}
 use Rattle.cb_member.specs.declared.names.Shard.{Shard}
 use Rattle.cb_member.specs.Membership.{Membership, alive}
-use Rattle.cb_node.specs.NodesState.{row_at as row_under}
+use Rattle.cb_node.specs.NodesState.{row_under}
 use Rattle.cb_node.proofs.Laws.{change_keeps_other_nodes as rows_elsewhere}
 use Rattle.cb_set.specs.SetState.{SetState}
 use Rattle.cb_set.specs.Lost.{is_lost}
@@ -16,7 +16,7 @@ use Rattle.cb_world.specs.Sets.{set_in, SetMap}
 use Rattle.cb_world.specs.Homes.{home_at}
 use Rattle.cb_world.specs.Joining.{JoiningState}
 use Rattle.cb_world.specs.SetWord.{IsShaped}
-use Rattle.cb_world.specs.FarSound.{AreRows, of_set, of_leaving, IsShardOf, AwaySound}
+use Rattle.cb_world.specs.FarSound.{AreShardRows, of_set, of_leaving, IsShardOf, AwaySound}
 use Rattle.cb_world.specs.Join.{IsFresh, AreFit, IsJoin}
 use Rattle.cb_world.specs.JoinSteps.{LeavesSets}
 use Rattle.cb_world.proofs.Words.{crash_survivor}
@@ -135,7 +135,7 @@ pub record KeepsRows (far new : FarState) : Type 0 where
       → row_under new.nodes shard.node shard.key ≡ row_under far.nodes shard.node shard.key
 
 pub sets_kept : (s : Shown) (far new : FarState) → AwaySound s far → LeavesSets far new
-    → KeepsRows far new → AreRows new → AwaySound s new
+    → KeepsRows far new → AreShardRows new → AwaySound s new
 sets_kept s far new sound x keeps rows = record {
   sets = record {
     shaped = λ id set at.

@@ -48,7 +48,7 @@ HereIs (is.Here len place) w = state_of w ≡ word.Here
 HereIs _ w = Unit {0}
 
 -- each hot bit is known
-pub record AreSeen (x : Words) (s : Shown) : Type 0 where
+pub record AreHotsKnown (x : Words) (s : Shown) : Type 0 where
   pub objects : length s.objects ≡ length x.words
   pub hots : length s.hots ≡ length x.words
   pub hot : (h : ℕ) → h < length x.words → hot_at s h ≡ hot_of (get_or x.words h 0)
@@ -63,9 +63,9 @@ settled_seen word.Far w v (is.Claimed len place u words) e ok = tt
 settled_seen word.Here w v o e ok = e
 settled_seen word.Moving w v o e ok = absurd ok
 
-pub seen_after : (es : List Event) (x y : Words) (s : Shown) → Plain x es y → AreSeen x s
-    → AreSeen y (played es s)
-seen_after [] x y s run a = subst (λ (z : Words). AreSeen z s) (sym run) a
+pub seen_after : (es : List Event) (x y : Words) (s : Shown) → Plain x es y → AreHotsKnown x s
+    → AreHotsKnown y (played es s)
+seen_after [] x y s run a = subst (λ (z : Words). AreHotsKnown z s) (sym run) a
 seen_after (Looked h w ∷ es) x y s run a =
     let same : set x.words h w ≡ x.words =
     ap (set x.words h) (sym run.0.0) ∙ set-get_or x.words h 0 in
@@ -149,7 +149,7 @@ here_after (Settled k w ∷ es) x y s h run same here =
     (set_here s.objects x.words h k w o same run.0.0
     (settled_seen (state_of w) w (version_at s k) (object_at s k) refl run.0.1) here)
 
-pub seen_known : (x : Words) (far : FarState) (s : Shown) → IsKnown x far s → AreSeen x s
+pub seen_known : (x : Words) (far : FarState) (s : Shown) → IsKnown x far s → AreHotsKnown x s
 seen_known x far s k = record {
   objects = k.shows.objects;
   hots = k.shows.hots;

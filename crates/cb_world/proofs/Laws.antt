@@ -6,7 +6,7 @@ pub use Rattle.cb_world.proofs.Alike.{recounted_sound, retold_sound}
 pub use Rattle.cb_world.proofs.Apart.{apart, slot_inside, some_same}
 pub use Rattle.cb_world.proofs.BatchGone.{batch_given_up_whole, gone_sets, put_at, put_from}
 pub use Rattle.cb_world.proofs.Beginning.{whole_none}
-pub use Rattle.cb_world.proofs.Beside.{IsBeside, KeepsBeside, put_beside, put_twice_beside, sound_beside}
+pub use Rattle.cb_world.proofs.Beside.{IsOutside, KeepsBeside, put_beside, put_twice_beside, sound_beside}
 pub use Rattle.cb_world.proofs.Bridge.{put_only}
 pub use Rattle.cb_world.proofs.Choices.{few_pass, number, range_more}
 pub use Rattle.cb_world.proofs.Claimed.{avoids, back_written, held, is_claimed_at, lies, may_put_back, settled_here}
@@ -29,7 +29,7 @@ pub use Rattle.cb_world.proofs.Grouped.{among_last, among_more}
 pub use Rattle.cb_world.proofs.JoinNow.{commit_now, pair_now, whole_not_broken}
 pub use Rattle.cb_world.proofs.Joined.{pair_kept, sets_kept}
 pub use Rattle.cb_world.proofs.Kept.{claim_played, claimed_from, frame_in_range, lies_within, set_back}
-pub use Rattle.cb_world.proofs.Known.{AreSeen, HereIs, here_after, seen_after, seen_known}
+pub use Rattle.cb_world.proofs.Known.{AreHotsKnown, HereIs, here_after, seen_after, seen_known}
 pub use Rattle.cb_world.proofs.Merging.{merged_parity, merged_word, same_data, word_with_row}
 pub use Rattle.cb_world.proofs.NodeJoin.{claimed_stay, local_stays, node_crash_sound, node_join_now, node_join_sound, noted_stays}
 pub use Rattle.cb_world.proofs.NowKept.{brought_now, now_kept, put_away_now}
@@ -41,12 +41,12 @@ pub use Rattle.cb_world.proofs.Patching.{join_is_merged, parity_step, patched_mo
 pub use Rattle.cb_world.proofs.PinNow.{pinned_now, unpinned_now}
 pub use Rattle.cb_world.proofs.Pins.{known_word, pin_counts, pin_sound, pinned_still, unpin_sound}
 pub use Rattle.cb_world.proofs.PlaceSet.{place_back, place_here, place_on}
-pub use Rattle.cb_world.proofs.Placed.{IsCounted, made_counted, may_lie, next_counted, slot_bounds, sound_brought, with_made}
+pub use Rattle.cb_world.proofs.Placed.{IsCountedMade, made_counted, may_lie, next_counted, slot_bounds, sound_brought, with_made}
 pub use Rattle.cb_world.proofs.Reserving.{noted_by, reserved_is_other, reserved_uncommitted}
 pub use Rattle.cb_world.proofs.Rooms.{room_dropped, room_empty, room_left, room_put, room_puts, room_wiped}
 pub use Rattle.cb_world.proofs.RowPut.{HasRowPut, IsNewOr, IsRefilled, IsRenamed, row_put_away, row_put_join, row_put_words}
 pub use Rattle.cb_world.proofs.RowWords.{length_words, row_put, windows_agree, words_of_row}
-pub use Rattle.cb_world.proofs.Seen.{IsSeen, batch_owned, frame_owned, frame_spares, seen_sound}
+pub use Rattle.cb_world.proofs.Seen.{IsSeenFrom, batch_owned, frame_owned, frame_spares, seen_sound}
 pub use Rattle.cb_world.proofs.SetChanging.{drops_more, kept_same, set_there}
 pub use Rattle.cb_world.proofs.SetWalk.{IsFirst, first_from}
 pub use Rattle.cb_world.proofs.SetsLeft.{drop_count, drop_fewer, drop_room, drop_there, left_count, left_given, left_others, left_over, left_room}

@@ -10,7 +10,7 @@ use Rattle.std.proofs.lemmas.Bool.Decides.{nat_tests}
 use Rattle.cb_node.proofs.Laws.{view, get-view}
 
 -- the key is found, from the given one on, and no lower one is
-pub record IsNext {X : Type 0} (m : BTreeMap ℕ X) (from k : ℕ) : Type 0 where
+pub record IsNextKey {X : Type 0} (m : BTreeMap ℕ X) (from k : ℕ) : Type 0 where
   pub above : from ≤ k
   pub there : IsSome (map.get (view m) k)
   pub least : (j : ℕ) → from ≤ j → j < k → map.get (view m) j ≡ None
@@ -22,7 +22,7 @@ from_le : (a b : ℕ) → a ≤ b → is_gt (nat_cmp a b) ≡ false
 from_le a b l = grind (arith, nat_tests)
 
 pub first_next : {X : Type 0} (m : BTreeMap ℕ X) (from : ℕ) (e : ℕ × X) (r t : List (ℕ × X))
-    → IsRangeOf nat_cmp (Included from) Unbounded m r → r ≡ e ∷ t → IsNext m from e.0
+    → IsRangeOf nat_cmp (Included from) Unbounded m r → r ≡ e ∷ t → IsNextKey m from e.0
 first_next {X} m from e r t range is =
     let x = subst (IsRangeOf nat_cmp (Included from) Unbounded m) is range in record {
       above = at_least from e.0 x.1.0.0;

@@ -17,7 +17,7 @@ use Rattle.cb_world.specs.declared.object.Object.TheVariants as is
 use Rattle.cb_world.specs.declared.shown.Shown.{Shown}
 use Rattle.cb_world.specs.NodeChanges.{joined_far, crashed_far}
 use Rattle.cb_world.specs.FarState.{FarState, span_in}
-use Rattle.cb_world.specs.FarSound.{AwaySound, AreRows, Owner, of_set, of_leaving, of_joining, IsShardOf}
+use Rattle.cb_world.specs.FarSound.{AwaySound, AreShardRows, Owner, of_set, of_leaving, of_joining, IsShardOf}
 use Rattle.cb_world.specs.Join.{IsFresh, IsJoin}
 use Rattle.cb_world.specs.Joining.{JoiningState}
 use Rattle.cb_world.specs.LocalSound.{LocalSound}
@@ -78,8 +78,8 @@ keeps_current m node shard within c = let count = join_keeps_count m node in (
   omega (arith, c.1, no_lower m node shard.node within),
 )
 
-rows_stay : (far : FarState) (node : NodeId) → AreRows far → node.n < length far.members.nodes
-    → alive far.members node ≡ false → AreRows (joined_far far node)
+rows_stay : (far : FarState) (node : NodeId) → AreShardRows far → node.n < length far.members.nodes
+    → alive far.members node ≡ false → AreShardRows (joined_far far node)
 rows_stay far node rows within down = record {
   members = join_stays_valid far.members node rows.members within down;
   counted = rows.counted ∙ sym (join_keeps_count far.members node);

@@ -13,10 +13,10 @@ use Rattle.cb_world.specs.World.{word_at}
 use Rattle.cb_world.specs.StillWords.{contents_at}
 use Rattle.cb_world.proofs.Apart.{apart}
 use Rattle.cb_world.proofs.Windows.{window_same}
-use Rattle.cb_world.proofs.Beside.{IsBeside, KeepsBeside}
+use Rattle.cb_world.proofs.Beside.{IsOutside, KeepsBeside}
 use Rattle.cb_world.proofs.NowSame.{IsNearAt, near_object}
 
-beside : (place len i : ℕ) → (Covers place len i → ⊥) → IsBeside place len i
+beside : (place len i : ℕ) → (Covers place len i → ⊥) → IsOutside place len i
 beside place len i off = elim (cases_lt i place) [
   | inl before ↦ inl before
   | inr behind ↦ elim (cases_lt i (place + words_for len)) [

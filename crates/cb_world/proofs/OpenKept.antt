@@ -23,7 +23,7 @@ use Rattle.cb_world.specs.Sound.{Sound, IsLeaving}
 use Rattle.cb_world.specs.StillWords.{contents_at}
 use Rattle.cb_world.specs.World.{word_at, IsKnown}
 use Rattle.cb_world.specs.Write.{IsWriteBelow}
-use Rattle.cb_world.specs.Allowed.{Allowed, Leaves}
+use Rattle.cb_world.specs.Allowed.{Allowed, LeavesUnclaimed}
 use Rattle.cb_world.specs.Grasped.{IsFree}
 use Rattle.cb_world.specs.OpenWrites.{IsOpen, IsLeavingNow, IsClaimedNow, AreOpen}
 use Rattle.cb_world.specs.StillDesk.{plain_stays}
@@ -36,7 +36,7 @@ use Rattle.cb_world.proofs.Windows.{window_same}
 
 -- an object that is here and that is not claimed is here afterwards, at its place
 stays_here : (es : List Event) (x y : Words) (s : Shown) (k len place : ℕ) → Plain x es y
-    → Allowed s es → Leaves k es → object_at s k ≡ is.Here len place
+    → Allowed s es → LeavesUnclaimed k es → object_at s k ≡ is.Here len place
     → object_at (played es s) k ≡ is.Here len place
 stays_here [] x y s k len place run ok l here = here
 stays_here (Looked h w ∷ es) x y s k len place run ok l here =

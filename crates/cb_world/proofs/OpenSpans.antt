@@ -14,7 +14,7 @@ use Rattle.cb_span.specs.Contents.{Contents, least_empty, live_count}
 use Rattle.cb_span.proofs.Laws.{least_empty_full, live_count-no_empty}
 use Rattle.cb_world.proofs.Apart.{some_same}
 use Rattle.cb_world.specs.FarState.{span_in}
-use Rattle.cb_world.specs.OpenSpans.{IsIndex, IsOpen, MayTake, frames_of, with_flag, retold, is_kind, kind_if, kind_of, open_kind}
+use Rattle.cb_world.specs.OpenSpans.{IsIndex, IsOpenSpan, MayTake, frames_of, with_flag, retold, is_kind, kind_if, kind_of, open_kind}
 
 -- one flag of one set is as said, and every other as it was
 record Flags (sets new : List (List Bool)) (n f : ℕ) (o : Option ℕ) (bit : Bool) : Type 0 where
@@ -210,7 +210,7 @@ kind_when_open o span class temp kind e room same_class same_temp is =
 -- the set of a kind has the frames of the open spans of a class and temperature
 pub open_in : (spans : List (Option Contents)) (sets : List (List Bool)) (class : Class)
     (temp : Temp) (kind f : ℕ) → IsIndex spans sets → kind < 24 → kind ≡ kind_of class temp
-    → contains (frames_of sets kind) f ≡ true → IsOpen spans class temp f
+    → contains (frames_of sets kind) f ≡ true → IsOpenSpan spans class temp f
 open_in spans sets class temp kind f index low is e =
     told_kind (open_kind (span_in spans f)) (sym (index.exact kind f low) ∙ e) ∙ ap Some is
   where
@@ -220,7 +220,7 @@ open_in spans sets class temp kind f index low is e =
 
 pub open_out : (spans : List (Option Contents)) (sets : List (List Bool)) (class : Class)
     (temp : Temp) (kind f : ℕ) → IsIndex spans sets → kind < 24 → kind ≡ kind_of class temp
-    → contains (frames_of sets kind) f ≡ false → ¬ (IsOpen spans class temp f)
+    → contains (frames_of sets kind) f ≡ false → ¬ (IsOpenSpan spans class temp f)
 open_out spans sets class temp kind f index low is e open' =
     let t : is_kind (open_kind (span_in spans f)) kind ≡ true =
     ap (λ (o : Option ℕ). is_kind o kind) (open' ∙ ap Some (sym is)) ∙ eq-eqb kind kind refl in
@@ -231,7 +231,7 @@ pub looks_on : (spans : List (Option Contents)) (sets : List (List Bool)) (class
     (temp : Temp) (except : List ℕ) (kind start f : ℕ) → IsIndex spans sets → kind < 24
     → kind ≡ kind_of class temp → ((g : ℕ) → g < start → ¬ (MayTake spans class temp except g))
     → least_from (frames_of sets kind) start ≡ Some f
-    → IsOpen spans class temp f × ((g : ℕ) → g < f → ¬ (MayTake spans class temp except g))
+    → IsOpenSpan spans class temp f × ((g : ℕ) → g < f → ¬ (MayTake spans class temp except g))
 looks_on spans sets class temp except kind start f index low is before e =
     let x = least_from-Some (frames_of sets kind) start f e in (
       open_in spans sets class temp kind f index low is x.1,

@@ -22,7 +22,7 @@ use Rattle.cb_world.specs.Plain.{Words}
 use Rattle.cb_world.specs.StillDesk.{fits_set, hots_set, here_is, below_here}
 use Rattle.cb_world.specs.FarState.{FarState}
 use Rattle.cb_world.specs.Pinned.{with_word}
-use Rattle.cb_world.specs.Seats.{IsNewest, SeatState, idle_seat, seat_at, pins_of_seat, with_pins, pins_on, all_pins_on}
+use Rattle.cb_world.specs.Seats.{IsNewestOf, SeatState, idle_seat, seat_at, pins_of_seat, with_pins, pins_among, all_pins_on}
 use Rattle.cb_world.specs.World.{IsKnown, ArePinned, word_at}
 use Rattle.cb_world.proofs.AfterLook.{look_sound}
 
@@ -75,20 +75,20 @@ abbrev one_pin : ℕ → Pin → ℕ
 one_pin k pin = if nat_eq pin.handle k then 1 else 0
 
 seats_on : (seats : List SeatState) (seat k : ℕ) (pins : List Pin) → seat < length seats
-    → all_pins_on k (with_pins seats seat pins) + pins_on k (pins_of_seat seats seat)
-    ≡ all_pins_on k seats + pins_on k pins
+    → all_pins_on k (with_pins seats seat pins) + pins_among k (pins_of_seat seats seat)
+    ≡ all_pins_on k seats + pins_among k pins
 seats_on seats seat k pins within =
-    sum_by-set (λ (x : SeatState). pins_on k x.pins) seats seat
+    sum_by-set (λ (x : SeatState). pins_among k x.pins) seats seat
     (record (seat_at seats seat) { pins = pins }) idle_seat within
 
 more_on : (pins : List Pin) (pin : Pin) (k : ℕ)
-    → pins_on k (pins ++ pin ∷ []) ≡ pins_on k pins + one_pin k pin
+    → pins_among k (pins ++ pin ∷ []) ≡ pins_among k pins + one_pin k pin
 more_on pins pin k = let e = sum_by-append (one_pin k) pins (pin ∷ []) in omega (arith, e)
 
 less_on : (pins : List Pin) (at k : ℕ) (pin : Pin) → slice_get pins at ≡ Some pin
-    → pins_on k (remove pins at) + one_pin k pin ≡ pins_on k pins
+    → pins_among k (remove pins at) + one_pin k pin ≡ pins_among k pins
 less_on pins at k pin there =
-    ap (λ (x : Pin). pins_on k (remove pins at) + one_pin k x)
+    ap (λ (x : Pin). pins_among k (remove pins at) + one_pin k x)
     (sym (get_or_from_slice_get pins at pin pin there))
     ∙ sum_by-remove (one_pin k) pins at pin (slice_get_within pins at pin there)
 
@@ -110,8 +110,8 @@ pinned_word : (desk : Words) (seats : List SeatState) (seat h w : ℕ) (pins : L
     → ArePinned desk seats → seat < length seats → h < length desk.words
     → state_of w ≡ word.Here → (1 ≤ pins_of w → hot_of w ≡ true)
     → length pins ≤ 16
-    → ((k : ℕ) → k < length desk.words → pins_on k pins + pins_of (word_at desk k)
-    ≡ pins_on k (pins_of_seat seats seat) + pins_of (get_or (set desk.words h w) k 0))
+    → ((k : ℕ) → k < length desk.words → pins_among k pins + pins_of (word_at desk k)
+    ≡ pins_among k (pins_of_seat seats seat) + pins_of (get_or (set desk.words h w) k 0))
     → All (λ (pin : Pin). pin.handle < length desk.words) pins
     → All (λ (pin : Pin). pin.version ≡ get_or desk.versions pin.handle 0) pins
     → ArePinned (with_word desk h w) (with_pins seats seat pins)
@@ -213,8 +213,8 @@ pin_sound desk far seats s seat h v w known p within below here room few told ta
     one P is = All-cons P pin [] is (λ i d lt. absurd (omega (arith, lt)))
 
     counts : (k : ℕ) → k < length desk.words → Dec (k ≡ h)
-        → pins_on k (pins ++ pin ∷ []) + pins_of (word_at desk k)
-        ≡ pins_on k pins + pins_of (get_or (set desk.words h w) k 0)
+        → pins_among k (pins ++ pin ∷ []) + pins_of (word_at desk k)
+        ≡ pins_among k pins + pins_of (get_or (set desk.words h w) k 0)
     counts k lt (yes e) =
         let more = more_on pins pin k in
         let one : one_pin k pin ≡ 1 = ap (λ (b : Bool). if b then 1 else 0) (eq-eqb h k (sym e)) in
@@ -271,8 +271,8 @@ unpin_sound desk far seats s seat at h w pin known p within there on below here 
     hot some = gives.hot ∙ (p.here h below (let e = gives.pins in omega (arith, e, some))).1
 
     counts : (k : ℕ) → Dec (k ≡ h)
-        → pins_on k (remove pins at) + pins_of (word_at desk k)
-        ≡ pins_on k pins + pins_of (get_or (set desk.words h w) k 0)
+        → pins_among k (remove pins at) + pins_of (word_at desk k)
+        ≡ pins_among k pins + pins_of (get_or (set desk.words h w) k 0)
     counts k (yes e) =
         let less = less_on pins at k pin there in
         let one : one_pin k pin ≡ 1 = ap (λ (b : Bool). if b then 1 else 0) (eq-eqb pin.handle k (on ∙ sym e)) in
@@ -292,7 +292,7 @@ unpin_sound desk far seats s seat at h w pin known p within there on below here 
 
 -- an object on which a seat has a pin has one in its word
 pub pin_counts : (desk : Words) (seats : List SeatState) (seat at h : ℕ) → ArePinned desk seats
-    → seat < 64 → IsNewest (pins_of_seat seats seat) h at → h < length desk.words
+    → seat < 64 → IsNewestOf (pins_of_seat seats seat) h at → h < length desk.words
     → 1 ≤ pins_of (word_at desk h)
 pin_counts desk seats seat at h p within newest below =
     let pins = pins_of_seat seats seat in

@@ -5,7 +5,7 @@ use Rattle.std.proofs.lemmas.Bool.{cases_order}
 use Rattle.cb_class.specs.Class.{IsClassOf, slots_of}
 use Rattle.cb_class.proofs.Laws.{object_fits, slot_within}
 use Rattle.cb_frame.specs.FrameSet.{contains}
-use Rattle.cb_frame.specs.FreeFrames.{IsFree}
+use Rattle.cb_frame.specs.FreeFrames.{IsFreeFrame}
 use Rattle.cb_span.specs.Contents.{Contents, IsSpan, handle_at, live_count, with_placed}
 use Rattle.cb_span.specs.Places.{slot_place}
 use Rattle.cb_span.proofs.Laws.{IsSpan-with_placed, handle_at-with_placed, handle_at-with_placed_other, live_count-pos}
@@ -26,13 +26,13 @@ use Rattle.cb_world.proofs.Unmoved.{IsAtLarge, IsNear, sound_near}
 use Rattle.cb_world.proofs.Beside.{KeepsBeside, other_frame}
 
 -- the handle counts as made, and every other one as before
-pub record IsCounted (before after h : ℕ) : Type 0 where
+pub record IsCountedMade (before after h : ℕ) : Type 0 where
   pub mine : h < after
   pub top : (n : ℕ) → before ≤ n → h < n → after ≤ n
   pub others : (k : ℕ) → k ≢ h → after ≤ k ↔ before ≤ k
 
 -- one handle more is made
-pub next_counted : (made : ℕ) → IsCounted made (made + 1) made
+pub next_counted : (made : ℕ) → IsCountedMade made (made + 1) made
 next_counted made = record {
   mine = omega arith;
   top = λ n most below. omega (arith, below);
@@ -40,7 +40,7 @@ next_counted made = record {
 }
 
 -- a handle that was made before
-pub made_counted : (made h : ℕ) → h < made → IsCounted made made h
+pub made_counted : (made h : ℕ) → h < made → IsCountedMade made made h
 made_counted made h below = record {
   mine = below;
   top = λ n most range. most;
@@ -48,7 +48,7 @@ made_counted made h below = record {
 }
 
 -- the object is here, and all others are as they were
-pub record IsBrought (s t : Shown) (h len place : ℕ) : Type 0 where
+pub record IsPlacedHere (s t : Shown) (h len place : ℕ) : Type 0 where
   pub first : t.first ≡ s.first
   pub objects : t.objects ≡ set s.objects h (is.Here len place)
   pub versions : (k : ℕ) → k ≢ h → version_at t k ≡ version_at s k
@@ -75,8 +75,8 @@ here_never len place e = subst IsAt e tt
 -- The local part: the object lay nowhere, and is in an empty slot of its class.
 pub local_brought : (far : FarState) (s t : Shown) (slot : Slot) (h len made : ℕ)
     → LocalSound s far → ((n p : ℕ) → LiesAt (object_at s h) n p → ⊥) → h < length s.objects
-    → IsEmptySlot far slot → IsClassOf len slot.span.class → IsCounted far.made made h
-    → IsBrought s t h len (place_in slot) → LocalSound t (with_made far slot h made)
+    → IsEmptySlot far slot → IsClassOf len slot.span.class → IsCountedMade far.made made h
+    → IsPlacedHere s t h len (place_in slot) → LocalSound t (with_made far slot h made)
 local_brought far s t slot h len made sound nowhere range free fits count x = record {
   known = record {
     first = x.first ∙ sound.known.first;
@@ -164,7 +164,7 @@ local_brought far s t slot h len made sound nowhere range free fits count x = re
         ] in omega (arith, x.versions k off, sound.known.versioned k was)
 
     frees : (f : ℕ) → f < length slot.free → Dec (f ≡ slot.frame)
-        → IsFree slot.free f ↔ (span_in spans f ≡ None)
+        → IsFreeFrame slot.free f ↔ (span_in spans f ≡ None)
     frees f below (yes e) = (
       (λ z. absurd (let q : false ≡ true =
           sym free.busy ∙ ap (contains slot.free) (sym e) ∙ z in cc)),
@@ -305,8 +305,8 @@ slot_bounds far slot len free fits =
 pub sound_brought : (far : FarState) (s t : Shown) (slot : Slot) (h len made v : ℕ) → Sound s far
     → object_at s h ≡ is.Empty v → h < length s.objects → IsEmptySlot far slot
     → ((batch : LeavingState) → far.leaving ≡ Some batch → Contains batch.frames slot.frame → ⊥)
-    → IsClassOf len slot.span.class → IsCounted far.made made h
-    → IsBrought s t h len (place_in slot) → KeepsBeside s.memory t.memory (place_in slot) len
+    → IsClassOf len slot.span.class → IsCountedMade far.made made h
+    → IsPlacedHere s t h len (place_in slot) → KeepsBeside s.memory t.memory (place_in slot) len
     → Sound t (with_made far slot h made)
 sound_brought far s t slot h len made v sound empty range free off_leaving fits count x beside =
     sound_near s t far (with_made far slot h made) sound
@@ -351,7 +351,7 @@ sound_brought far s t slot h len made v sound empty range free off_leaving fits 
 -- The object may lie in the slot, where no other one lies.
 pub may_lie : (far : FarState) (s : Shown) (slot : Slot) (h len made v p : ℕ) → LocalSound s far
     → object_at s h ≡ is.Empty v → h < length s.objects → h < length s.versions
-    → IsEmptySlot far slot → IsClassOf len slot.span.class → IsCounted far.made made h
+    → IsEmptySlot far slot → IsClassOf len slot.span.class → IsCountedMade far.made made h
     → Covers (place_in slot) len p → MayLie s h p
 may_lie far s slot h len made v p sound empty range stamp free fits count covers =
     let ends = slot_bounds far slot len free fits in (

@@ -10,7 +10,7 @@ use Rattle.std.proofs.lemmas.List.{get_or-replicate, get_or_past, length-replica
 use Rattle.cb_member.specs.declared.names.NodeId.{NodeId}
 use Rattle.cb_member.specs.declared.names.Shard.{Shard}
 use Rattle.cb_node.specs.Rows.{RowsByKey}
-use Rattle.cb_node.specs.NodesState.{NodesState, empty_nodes, held, rows_at, with_dropped, with_row, with_rows}
+use Rattle.cb_node.specs.NodesState.{NodesState, empty_nodes, held, rows_of_node, with_dropped, with_row, with_rows}
 use Rattle.cb_node.proofs.Laws.{change_is_at_its_node, other_nodes_hold_as_many}
 use Rattle.cb_set.specs.Nodes.{OnDistinctNodes}
 use Rattle.cb_set.specs.SetState.{SetState, is_live}
@@ -48,16 +48,16 @@ room_rows nodes node rows fits room other = elim (cases_eq other.n node.n) [
 pub room_put : (nodes : NodesState) (node : NodeId) (key : ℕ) (row : List ℕ)
     → held nodes node < nodes.room → KeepRoom nodes (with_row nodes node key row)
 room_put nodes node key row fits =
-    let more : map.len (map.insert (rows_at nodes node) key row) ≤ held nodes node + 1 =
-    grind (arith, map.len-insert nat_cmp_total (rows_at nodes node) key row) in
+    let more : map.len (map.insert (rows_of_node nodes node) key row) ≤ held nodes node + 1 =
+    grind (arith, map.len-insert nat_cmp_total (rows_of_node nodes node) key row) in
     room_rows nodes node _ (omega (arith, more, fits))
 
 -- a row less
 room_drop : (nodes : NodesState) (node : NodeId) (key : ℕ)
     → KeepRoom nodes (with_dropped nodes node key)
 room_drop nodes node key room =
-    let fewer : map.len (map.remove (rows_at nodes node) key) ≤ held nodes node =
-    grind (arith, map.len-remove nat_cmp_total (rows_at nodes node) key) in
+    let fewer : map.len (map.remove (rows_of_node nodes node) key) ≤ held nodes node =
+    grind (arith, map.len-remove nat_cmp_total (rows_of_node nodes node) key) in
     let r = room node in room_rows nodes node _ (omega (arith, fewer, r)) room
 
 -- many rows less
@@ -91,7 +91,7 @@ room_puts nodes (x ∷ xs) (row ∷ rows) fits apart room =
         λ e. apart 0 (suc p) shard (omega arith) (omega (arith, within))
         (sym e ∙ ap (λ (s : Shard). s.node.n) (sym same)) in
         let e = other_nodes_hold_as_many nodes x.node shard.node
-        (map.insert (rows_at nodes x.node) x.key row) off in
+        (map.insert (rows_of_node nodes x.node) x.key row) off in
         let f = fits (suc p) shard at in omega (arith, e, f)
 
 -- no row at one node

@@ -9,7 +9,7 @@ use Rattle.cb_gf256.specs.Rows.{row_at}
 use Rattle.cb_member.specs.declared.names.NodeId.{NodeId}
 use Rattle.cb_member.specs.declared.names.Shard.{Shard}
 use Rattle.cb_member.specs.Membership.{Membership, IsMembership, incarnation}
-use Rattle.cb_node.specs.NodesState.{NodesState, held, with_row, row_at as row_under}
+use Rattle.cb_node.specs.NodesState.{NodesState, held, with_row, row_under}
 use Rattle.cb_node.proofs.Laws.{row_is_put, put_keeps_other_rows}
 use Rattle.cb_set.specs.SetState.{SetState, live_at, parities, position_of, slot_at}
 use Rattle.cb_set.specs.Lost.{is_lost}
@@ -23,7 +23,7 @@ use Rattle.cb_world.specs.Leaving.{LeavingState}
 use Rattle.cb_world.specs.Sets.{set_in}
 use Rattle.cb_world.specs.SetWord.{IsShaped, IsSpanWord, IsWordOf}
 use Rattle.cb_world.specs.FarState.{FarState}
-use Rattle.cb_world.specs.FarSound.{HoldsObject, IsSetWord, AreSets, AreAway, AreRows, Owner, of_set, of_leaving, of_joining, IsShardOf, IsBatch, AwaySound, batch_rows}
+use Rattle.cb_world.specs.FarSound.{HoldsObject, IsSetWord, AreSets, AreAway, AreShardRows, Owner, of_set, of_leaving, of_joining, IsShardOf, IsBatch, AwaySound, batch_rows}
 use Rattle.cb_world.proofs.FreshShard.{IsUpShard, up_is_current, up_is_kept}
 use Rattle.cb_world.specs.Rooms.{HaveRoom}
 use Rattle.cb_world.proofs.Joined.{pair_kept}
@@ -187,7 +187,7 @@ module _ (s : Shown) (far new : FarState) (o : Owner) (shard : Shard) (row : Lis
   current q a is = subst (λ (m : Membership). IsCurrent m a) (sym x.members)
       (was_current q a (x.back q a is))
 
-  rows : AreRows new
+  rows : AreShardRows new
   rows = record {
     members = subst IsMembership (sym x.members) sound.rows.members;
     counted = ap (λ (n : NodesState). length n.nodes) x.nodes

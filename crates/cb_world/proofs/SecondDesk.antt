@@ -12,7 +12,7 @@ use Rattle.cb_world.proofs.Windows.{length_put}
 use Rattle.cb_world.proofs.Tracing.{played_append}
 
 -- a seat: the configuration, and what it knows
-record Seat : Type 0 where
+record SecondSeat : Type 0 where
   pub settings : Config
   pub known : Shown
 
@@ -22,10 +22,10 @@ record AreSized (c : Config) (s : Shown) : Type 0 where
   pub versions : length s.versions ≡ c.handles
   pub memory : length s.memory ≡ 512 * c.frames
 
-abbrev Runs : Seat → List Event → Seat → Type 0
+abbrev Runs : SecondSeat → List Event → SecondSeat → Type 0
 Runs d es e = (e.settings ≡ d.settings) × (e.known ≡ played es d.known) × Agree d.known es
 
-abbrev Tells : Seat → Shown → Type 0
+abbrev Tells : SecondSeat → Shown → Type 0
 Tells d s = (s ≡ d.known) × AreSized d.settings s
 
 agree_more : (es fs : List Event) (s : Shown) → Agree s es → Agree (played es s) fs
@@ -81,10 +81,11 @@ sized_played : (c : Config) (es : List Event) (s : Shown) → AreSized c s → A
 sized_played c [] s z = z
 sized_played c (e ∷ es) s z = sized_played c es (after e s) (sized_after c e s z)
 
-seat_none : (d : Seat) → Runs d [] d
+seat_none : (d : SecondSeat) → Runs d [] d
 seat_none d = (refl, refl, tt)
 
-seat_more : (d e f : Seat) (es fs : List Event) → Runs d es e → Runs e fs f → Runs d (es ++ fs) f
+seat_more : (d e f : SecondSeat) (es fs : List Event) → Runs d es e → Runs e fs f
+    → Runs d (es ++ fs) f
 seat_more d e f es fs a b = (
   b.0 ∙ a.0,
   b.1 ∙ ap (played fs) a.1
@@ -92,7 +93,8 @@ seat_more d e f es fs a b = (
   agree_more es fs d.known a.2 (subst (λ (s : Shown). Agree s fs) a.1 b.2),
 )
 
-seat_follows : (d e : Seat) (es : List Event) (s : Shown) → Runs d es e → Tells d s → Agree s es
+seat_follows : (d e : SecondSeat) (es : List Event) (s : Shown) → Runs d es e → Tells d s
+    → Agree s es
     × Tells e (played es s)
 seat_follows d e es s a b = (
   subst (λ (t : Shown). Agree t es) (sym b.0) a.2,

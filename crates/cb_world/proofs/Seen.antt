@@ -65,7 +65,7 @@ batch_owned s far batch sound there f leaves =
 
 -- The objects are what they were. No version fell; those of objects that no one else may change are
 -- the same, and so are the memory words that the holder owns.
-pub record IsSeen (s t : Shown) : Type 0 where
+pub record IsSeenFrom (s t : Shown) : Type 0 where
   pub first : t.first ≡ s.first
   pub objects : t.objects ≡ s.objects
   pub memory : length t.memory ≡ length s.memory
@@ -74,7 +74,7 @@ pub record IsSeen (s t : Shown) : Type 0 where
   pub owned : (p : ℕ) → Owns s p → get_or t.memory p 0 ≡ get_or s.memory p 0
 
 -- The world is sound over the words as they are now.
-pub seen_sound : (s t : Shown) (far : FarState) → Sound s far → IsSeen s t → Sound t far
+pub seen_sound : (s t : Shown) (far : FarState) → Sound s far → IsSeenFrom s t → Sound t far
 seen_sound s t far sound x = sound_near s t far far sound here (keeps_all far)
     (λ h. inl (at h)) leaving
   where

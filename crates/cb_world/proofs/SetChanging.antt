@@ -5,10 +5,10 @@ use Rattle.std.specs.Ordering.{nat_cmp, eq_by_cmp}
 use Rattle.std.specs.FinMap as map
 use Rattle.cb_set.specs.SetState.{SetState, is_live}
 use Rattle.cb_member.specs.declared.names.Shard.{Shard}
-use Rattle.cb_node.specs.NodesState.{NodesState, with_dropped as row_dropped}
+use Rattle.cb_node.specs.NodesState.{NodesState, with_dropped}
 use Rattle.cb_world.specs.Sets.{Kept, SetMap, set_in, if_committed}
 use Rattle.cb_world.specs.Stored.{all_dropped}
-use Rattle.cb_world.specs.LeftOver.{with_dropped, with_left}
+use Rattle.cb_world.specs.LeftOver.{with_left, with_set_dropped}
 use Rattle.cb_world.specs.SetWord.{is_broken}
 use Rattle.cb_world.specs.Survey.{survey_without}
 use Rattle.cb_world.specs.FarState.{FarState}
@@ -74,7 +74,7 @@ set_there sets id set =
 
 -- the loop's step: one row less
 pub drops_more : (nodes : NodesState) (shards : List Shard) (i : ℕ) (d : Shard) → i < length shards
-    → all_dropped (row_dropped nodes (get_or shards i d).node (get_or shards i d).key)
+    → all_dropped (with_dropped nodes (get_or shards i d).node (get_or shards i d).key)
     (drop (i + 1) shards) ≡ all_dropped nodes (drop i shards)
 drops_more nodes shards i d within =
     let next : suc i ≡ i + 1 = omega arith in
@@ -83,7 +83,7 @@ drops_more nodes shards i d within =
 
 -- a set that was changed in its place is dropped where no position is live
 left_by : (far : FarState) (id : ℕ) (rest : SetState) (b : Bool)
-    → (if b then with_kept far id rest else with_dropped (with_kept far id rest) id rest)
+    → (if b then with_kept far id rest else with_set_dropped (with_kept far id rest) id rest)
     ≡ record far {
       sets = if b then map.insert far.sets id (record { set = rest; committed = true })
           else map.remove far.sets id;
@@ -101,11 +101,11 @@ left_by far id rest false =
 
 pub left_after : (far : FarState) (new : SetMap) (id : ℕ) (rest : SetState)
     → new ≡ map.insert far.sets id (record { set = rest; committed = true })
-    → (if is_live rest then record far { sets = new } else with_dropped (record far { sets = new }) id rest)
+    → (if is_live rest then record far { sets = new } else with_set_dropped (record far { sets = new }) id rest)
     ≡ with_left far id rest
 left_after far new id rest e =
     ap (λ (m : SetMap). if is_live rest then record far { sets = m }
-    else with_dropped (record far { sets = m }) id rest) e
+    else with_set_dropped (record far { sets = m }) id rest) e
     ∙ left_by far id rest (is_live rest)
 
 pub there_after : (sets new : SetMap) (id : ℕ) (rest : SetState)

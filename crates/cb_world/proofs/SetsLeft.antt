@@ -10,7 +10,7 @@ use Rattle.std.proofs.lemmas.List.{get_or_default, get_or_past}
 use Rattle.std.proofs.lemmas.List.Folds.{Any-from_list_any, list_any_at}
 use Rattle.cb_member.specs.declared.names.NodeId.{NodeId}
 use Rattle.cb_member.specs.declared.names.Shard.{Shard}
-use Rattle.cb_node.specs.NodesState.{NodesState, with_dropped, row_at as row_under}
+use Rattle.cb_node.specs.NodesState.{NodesState, with_dropped, row_under}
 use Rattle.cb_node.proofs.Laws.{dropped_row_is_gone, drop_keeps_other_rows}
 use Rattle.cb_set.specs.SetState.{PositionState, SetState, dead_position, is_live, live_at}
 use Rattle.cb_world.specs.Sets.{Kept, SetMap, set_in, if_committed}
@@ -19,9 +19,9 @@ use Rattle.cb_world.specs.LeftOver.{sets_left, nodes_left, survey_left}
 use Rattle.cb_world.specs.SetWord.{is_broken}
 use Rattle.cb_world.specs.declared.survey.Survey.{Survey}
 use Rattle.cb_world.specs.Survey.{survey_without}
-use Rattle.cb_world.specs.Fetched.{with_given}
+use Rattle.cb_world.specs.Fetched.{with_rows_given}
 use Rattle.cb_world.specs.FarState.{FarState}
-use Rattle.cb_world.specs.GivenUp.{GoesOn, IsDropped}
+use Rattle.cb_world.specs.GivenUp.{IsDropped, SetGoesOn}
 use Rattle.cb_world.proofs.Storing.{drop_elsewhere}
 use Rattle.cb_world.proofs.SetChanging.{set_there}
 
@@ -187,20 +187,21 @@ left_given nodes rest = by (is_live rest) refl
 -- the set goes on, or is dropped with its rows
 pub left_over : (far new : FarState) (id n : ℕ) (rest : SetState)
     → new.sets ≡ sets_left far.sets id rest
-    → new.nodes ≡ nodes_left (with_given far.nodes n) rest → new.survey ≡ survey_left far id rest
-    → AreThere far.nodes rest.shards → GoesOn far new id rest ⊎ IsDropped far new id rest
+    → new.nodes ≡ nodes_left (with_rows_given far.nodes n) rest
+    → new.survey ≡ survey_left far id rest
+    → AreThere far.nodes rest.shards → SetGoesOn far new id rest ⊎ IsDropped far new id rest
 left_over far new id n rest sets nodes survey there = by (is_live rest) refl
   where
     kept : Kept
     kept = record { set = rest; committed = true }
 
     given : NodesState
-    given = with_given far.nodes n
+    given = with_rows_given far.nodes n
 
     dropped : Survey
     dropped = survey_without far.survey id (is_broken far.members rest)
 
-    by : (b : Bool) → is_live rest ≡ b → GoesOn far new id rest ⊎ IsDropped far new id rest
+    by : (b : Bool) → is_live rest ≡ b → SetGoesOn far new id rest ⊎ IsDropped far new id rest
     by true e =
         let sets_e : new.sets ≡ map.insert far.sets id kept = sets
         ∙ ap (λ (b : Bool). if b then map.insert far.sets id kept else map.remove far.sets id) e in

@@ -7,14 +7,14 @@ use Rattle.cb_gf256.specs.Rows.{row_at}
 use Rattle.cb_member.specs.declared.names.NodeId.{NodeId}
 use Rattle.cb_member.specs.declared.names.Shard.{Shard}
 use Rattle.cb_member.specs.Membership.{Membership, IsMembership, incarnation}
-use Rattle.cb_node.specs.NodesState.{row_at as row_under}
+use Rattle.cb_node.specs.NodesState.{row_under}
 use Rattle.cb_set.specs.SetState.{SetState}
 use Rattle.cb_set.specs.Lost.{is_lost}
 use Rattle.cb_world.specs.declared.shown.Shown.{Shown}
 use Rattle.cb_world.specs.FarState.{FarState}
 use Rattle.cb_world.specs.Sets.{set_in, SetMap}
 use Rattle.cb_world.specs.Joining.{JoiningState}
-use Rattle.cb_world.specs.FarSound.{AreRows, Owner, of_set, of_leaving, of_joining, IsShardOf, AwaySound}
+use Rattle.cb_world.specs.FarSound.{AreShardRows, Owner, of_set, of_leaving, of_joining, IsShardOf, AwaySound}
 use Rattle.cb_world.specs.Merged.{takes}
 use Rattle.cb_world.specs.Join.{IsFresh, IsBeside, IsJoin}
 use Rattle.cb_world.specs.JoinSteps.{with_step, IsStepped, IsParted}
@@ -122,7 +122,7 @@ old_owner far new pair a b p old shard row st =
 
 stepped_rows : (s : Shown) (far new : FarState) (pair : JoiningState) (a b : SetState) (p : ℕ)
     (old shard : Shard) (row : List ℕ) → AwaySound s far
-    → IsStepped far new pair a b p old shard row → AreRows new
+    → IsStepped far new pair a b p old shard row → AreShardRows new
 stepped_rows s far new pair a b p old shard row sound st = record {
   members = subst IsMembership (sym st.left.members) sound.rows.members;
   counted = st.left.nodes ∙ sound.rows.counted
@@ -266,7 +266,7 @@ step_keeps_join s far new pair a b p old shard row sound j st = record {
 
 -- ---- the pair is given up
 pub parted_rows : (s : Shown) (far new : FarState) (pair : JoiningState) → AwaySound s far
-    → IsParted far new pair → AreRows new
+    → IsParted far new pair → AreShardRows new
 parted_rows s far new pair sound x = record {
   members = subst IsMembership (sym x.left.members) sound.rows.members;
   counted = x.left.nodes ∙ sound.rows.counted

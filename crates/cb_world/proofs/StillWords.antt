@@ -16,7 +16,7 @@ use Rattle.cb_world.specs.Shown.{Fits, IsHeld, object_at, hot_at, version_at, ne
 use Rattle.cb_world.specs.Settling.{MaySettle, MaySettleAs}
 use Rattle.cb_world.specs.Played.{after, played, settled_by}
 use Rattle.cb_world.specs.Plain.{Words, Plain, Shows}
-use Rattle.cb_world.specs.Allowed.{Allowed, Leaves}
+use Rattle.cb_world.specs.Allowed.{Allowed, LeavesUnclaimed}
 use Rattle.cb_world.specs.Looks.{IsTold, LooksFirst}
 use Rattle.cb_world.specs.Touches.{NoTell, SettlesLast}
 use Rattle.cb_world.specs.Grasped.{IsFree}
@@ -26,7 +26,7 @@ use Rattle.cb_world.specs.World.{word_at, IsKnown}
 use Rattle.cb_world.specs.StillWords.{with_hot}
 use Rattle.cb_world.specs.StillDesk.{here_is as fits_here, plain_follows, plain_stays}
 use Rattle.cb_world.proofs.Untouched.{may_held, untouched}
-use Rattle.cb_world.proofs.Known.{HereIs, AreSeen, seen_after, here_after, seen_known, told_known}
+use Rattle.cb_world.proofs.Known.{HereIs, AreHotsKnown, seen_after, here_after, seen_known, told_known}
 
 not_told : (h v : ℕ) (es : List Event) → NoTell es → IsTold h v es → ⊥
 not_told h v [] none told = told
@@ -58,7 +58,7 @@ settles_other s h k w len place here may e =
 -- an object that is here with pins is not claimed
 pub busy_leaves : (es : List Event) (x y : Words) (s : Shown) (h len place : ℕ) → Plain x es y
     → Allowed s es → object_at s h ≡ is.Here len place → (IsFree (get_or x.words h 0) → ⊥)
-    → Leaves h es
+    → LeavesUnclaimed h es
 busy_leaves [] x y s h len place run ok here busy = tt
 busy_leaves (Looked k w ∷ es) x y s h len place run ok here busy =
     busy_leaves es x y (after (Looked k w) s) h len place run.1 ok.1 here busy
@@ -193,10 +193,10 @@ pub word_back : (x y : Words) (far : FarState) (s : Shown) (es : List Event) (h 
 word_back x y far s es h k run ok below still object hot =
     by (free_or_busy (object_at s h) (word_at x h))
   where
-    seen : AreSeen x s
+    seen : AreHotsKnown x s
     seen = seen_known x far s k
 
-    seen_then : AreSeen y (played es s)
+    seen_then : AreHotsKnown y (played es s)
     seen_then = seen_after es x y s run seen
 
     shows : Shows y (played es s)
@@ -304,7 +304,7 @@ hot_exact x y far s es h k run ok free objects hots =
     ∙ get_or-set_other s.hots h i true false off)
     (λ below. mine below (omega (arith, below, count)))
   where
-    seen_then : AreSeen y (played es s)
+    seen_then : AreHotsKnown y (played es s)
     seen_then = seen_after es x y s run (seen_known x far s k)
 
     mine : h < length x.words → h < length y.words → word_at y h ≡ with_hot (word_at x h)

@@ -9,7 +9,7 @@ use Rattle.std.proofs.lemmas.Bool.Decides.{nat_tests}
 use Rattle.cb_member.specs.declared.names.NodeId.{NodeId}
 use Rattle.cb_member.specs.declared.names.Shard.{Shard}
 use Rattle.cb_node.specs.Rows.{RowsByKey}
-use Rattle.cb_node.specs.NodesState.{NodesState, rows_at, with_rows, with_row, row_at as row_under}
+use Rattle.cb_node.specs.NodesState.{NodesState, rows_of_node, with_rows, with_row, row_under}
 use Rattle.cb_node.proofs.Laws.{row_is_put, put_keeps_other_rows, change_is_at_its_node, change_keeps_other_nodes}
 pub use Rattle.cb_world.specs.Stored.{AreThere as InRange}
 use Rattle.cb_world.specs.Stored.{all_put, all_dropped, NoKey}
@@ -72,9 +72,9 @@ drop_keeps_other_rows state node other key k within apart = elim (cases_eq other
   | inl here ↦
       ap (λ (n : ℕ). map.get (get_or (with_dropped state node key).nodes n map.empty) k) here
       ∙ ap (λ rows. map.get rows k) (change_is_at_its_node state node _ within)
-      ∙ map.get-remove nat_cmp_total (rows_at state node) key k
+      ∙ map.get-remove nat_cmp_total (rows_of_node state node) key k
       ∙ ap (λ b.
-      cond b None (map.get (rows_at state node) k)) (eq_by_cmp-other k key (λ same.
+      cond b None (map.get (rows_of_node state node) k)) (eq_by_cmp-other k key (λ same.
       apart (here, same)))
       ∙ ap (λ (n : ℕ). map.get (get_or state.nodes n map.empty) k) (sym here)
   | inr off ↦ ap (λ rows. map.get rows k) (change_keeps_other_nodes state node other _ off)

@@ -13,7 +13,7 @@ use Rattle.cb_set.specs.Lost.{lost}
 use Rattle.cb_world.specs.SetWord.{IsWordOf, IsShaped}
 use Rattle.cb_set.specs.SetState.{parities}
 use Rattle.cb_set.specs.Surviving.{surviving}
-use Rattle.cb_set.proofs.Laws.{Survives, lost_and_surviving, survives, surviving_ascend}
+use Rattle.cb_set.proofs.Laws.{SurvivesFirst, lost_and_surviving, survives, surviving_ascend}
 
 -- the k least positions whose shards survive
 pub are_positions : (m : Membership) (shards : List Shard) (k n : ℕ) → length shards ≡ n
@@ -40,9 +40,9 @@ are_positions m shards k n count few =
 -- a position among these has a shard that survives
 pub taken_survives : (m : Membership) (shards : List Shard) (k i : ℕ)
     → i < length (take k (surviving m shards))
-    → Survives m 0 shards (get_or (take k (surviving m shards)) i 0)
+    → SurvivesFirst m 0 shards (get_or (take k (surviving m shards)) i 0)
 taken_survives m shards k i l =
-    subst (Survives m 0 shards)
+    subst (SurvivesFirst m 0 shards)
     (sym (get_or-take k (surviving m shards) i 0 (fewer m shards k i l)))
     (survives m 0 shards i (longer m shards k i l))
   where

@@ -12,9 +12,9 @@ use Rattle.cb_ptr.specs.declared.word.State.{State}
 use Rattle.cb_ptr.specs.declared.word.State.TheVariants as word
 use Rattle.cb_ptr.specs.Word.{state_of}
 use Rattle.cb_world.specs.Plain.{Words, Plain}
-use Rattle.cb_world.specs.Allowed.{Allowed, Leaves}
+use Rattle.cb_world.specs.Allowed.{Allowed, LeavesUnclaimed}
 
-pub record IsUntouched (k len place : ℕ) (x y : Words) : Type 0 where
+pub record IsWordUntouched (k len place : ℕ) (x y : Words) : Type 0 where
   pub word : get_or y.words k 0 ≡ get_or x.words k 0
   pub version : get_or y.versions k 0 ≡ get_or x.versions k 0
   pub memory : (p : ℕ) → Covers place len p → get_or y.memory p 0 ≡ get_or x.memory p 0
@@ -38,7 +38,8 @@ may_held s h w may = go (state_of w) (object_at s h) refl may
     go word.Moving (is.Here len place) e m = absurd m
 
 pub untouched : (es : List Event) (x y : Words) (s : Shown) (k len place : ℕ) → Plain x es y
-    → Allowed s es → Leaves k es → object_at s k ≡ is.Here len place → IsUntouched k len place x y
+    → Allowed s es → LeavesUnclaimed k es → object_at s k ≡ is.Here len place
+    → IsWordUntouched k len place x y
 untouched [] x y s k len place run ok l here =
     record {
       word = ap (λ (z : Words). get_or z.words k 0) run;

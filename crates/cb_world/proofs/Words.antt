@@ -10,7 +10,7 @@ use Rattle.cb_member.specs.declared.names.Loss.{Loss}
 use Rattle.cb_member.specs.declared.names.Shard.{Shard}
 use Rattle.cb_member.specs.Membership.{Membership, IsMembership, NodeState, alive, incarnation, with_crash, crashed_at}
 use Rattle.cb_member.proofs.Laws.{ended_incarnations_crashed, change_is_at_its_node, change_keeps_other_nodes}
-use Rattle.cb_node.specs.NodesState.{NodesState, with_rows, row_at as row_under}
+use Rattle.cb_node.specs.NodesState.{NodesState, with_rows, row_under}
 use Rattle.cb_node.proofs.Laws.{change_keeps_other_nodes as rows_elsewhere}
 use Rattle.cb_set.specs.SetState.{SetState}
 use Rattle.cb_set.specs.Lost.{is_lost, loss_of, lost}

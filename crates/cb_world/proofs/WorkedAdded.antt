@@ -17,7 +17,7 @@ use Rattle.cb_gf256.specs.Rows.{byte_at, row_at}
 use Rattle.cb_gf256.proofs.PublicLaws.{product_with_zero, sum_over_zeros}
 use Rattle.cb_member.specs.declared.names.Shard.{Shard}
 use Rattle.cb_member.specs.Membership.{Membership, fresh_members, incarnation, with_crash}
-use Rattle.cb_node.specs.NodesState.{NodesState, empty_nodes, held, with_row, row_at as row_under}
+use Rattle.cb_node.specs.NodesState.{NodesState, empty_nodes, held, with_row, row_under}
 use Rattle.cb_set.specs.SetState.{PositionState, SetState, filled_position, live_at, position_of, set_of, slot_at}
 use Rattle.cb_set.specs.Lost.{is_lost}
 use Rattle.cb_set.specs.Nodes.{OnDistinctNodes}
@@ -32,7 +32,7 @@ use Rattle.cb_world.specs.Joining.{JoiningState}
 use Rattle.cb_world.specs.Leaving.{LeavingState}
 use Rattle.cb_world.specs.Memory.{window}
 use Rattle.cb_world.specs.RowWords.{row_of, words_in}
-use Rattle.cb_world.specs.SetAdded.{IsMoved, IsSetAdded, IsUntouched}
+use Rattle.cb_world.specs.SetAdded.{IsMovedIntoSet, IsSetAdded, IsUntouched}
 use Rattle.cb_world.specs.SetWord.{IsShaped, IsSpanWord}
 use Rattle.cb_world.specs.Sets.{Kept, SetMap, set_in, if_committed}
 use Rattle.cb_world.specs.Shown.{object_at}
@@ -206,7 +206,7 @@ holds = record {
   contents = refl;
 }
 
-is_moved : IsMoved before after far new 6 set rows 0
+is_moved : IsMovedIntoSet before after far new 6 set rows 0
 is_moved = record {
   position = 0;
   slot = 0;
@@ -225,7 +225,7 @@ is_moved = record {
     once zero (suc (suc (suc (suc q)))) e = absurd (none_some 0 e)
     once (suc p) q e = absurd (none_some 0 e)
 
-each_object : (h : ℕ) → IsUntouched before after far new set h ⊎ IsMoved before after far new 6 set rows h
+each_object : (h : ℕ) → IsUntouched before after far new set h ⊎ IsMovedIntoSet before after far new 6 set rows h
 each_object zero = inr is_moved
 each_object (suc h) = inl (record { object = object h; home = home h; absent = absent h })
   where
@@ -531,6 +531,6 @@ stays_here : ¬ (IsSetAdded before before far (unmoved new) 6 set rows)
 stays_here x = by (x.each 0)
   where
     by : IsUntouched before before far (unmoved new) set 0
-        ⊎ IsMoved before before far (unmoved new) 6 set rows 0 → ⊥
+        ⊎ IsMovedIntoSet before before far (unmoved new) 6 set rows 0 → ⊥
     by (inl y) = y.absent 0 0 refl
     by (inr y) = none_some (record { set = 6; position = y.position; slot = y.slot }) y.home

@@ -6,7 +6,7 @@ use Rattle.std.specs.List.{slice_get}
 use Rattle.cb_gf256.specs.Rows.{row_at}
 use Rattle.cb_member.specs.declared.names.Shard.{Shard}
 use Rattle.cb_member.specs.Membership.{fresh_members}
-use Rattle.cb_node.specs.NodesState.{NodesState, nodes_of, row_at as row_under}
+use Rattle.cb_node.specs.NodesState.{NodesState, nodes_of, row_under}
 use Rattle.cb_ptr.specs.Word.{pins_of}
 use Rattle.cb_set.specs.Lost.{is_lost}
 use Rattle.cb_world.specs.declared.leaving.Former.{Former}

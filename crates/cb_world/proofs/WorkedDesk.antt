@@ -3,7 +3,7 @@ use Rattle.std.proofs.Common.{◌≡◌, ◌≤◌, ℕ, zero, suc, true, false,
 use Rattle.cb_world.specs.declared.object.Object.TheVariants as is
 use Rattle.cb_world.specs.declared.event.Event.TheVariants.{Looked, Claimed, Told, Loaded, Stored, Stamped, Settled}
 use Rattle.cb_world.specs.declared.shown.Shown.{Shown}
-use Rattle.cb_world.specs.Memory.{window, put, words_for, byte_at, bytes_in, IsPacked}
+use Rattle.cb_world.specs.Memory.{window, put, words_for, memory_byte, bytes_in, IsPacked}
 use Rattle.cb_world.specs.LocalMemory.{padded}
 use Rattle.cb_world.specs.Write.{IsWrite}
 use Rattle.cb_world.specs.Shown.{Spares, Owns, MayLie, IsHeld, Fits, object_at}
@@ -38,13 +38,13 @@ two_words : words_for 9 ≡ 2
 two_words = refl
 
 -- the bytes 0a 0b, the first one lowest
-lowest_first : byte_at (2826 ∷ []) 0 ≡ 10
+lowest_first : memory_byte (2826 ∷ []) 0 ≡ 10
 lowest_first = refl
 
-next_byte : byte_at (2826 ∷ []) 1 ≡ 11
+next_byte : memory_byte (2826 ∷ []) 1 ≡ 11
 next_byte = refl
 
-ninth_byte : byte_at (0 ∷ 5 ∷ []) 8 ≡ 5
+ninth_byte : memory_byte (0 ∷ 5 ∷ []) 8 ≡ 5
 ninth_byte = refl
 
 both_bytes : bytes_in (2826 ∷ []) 2 ≡ 10 ∷ 11 ∷ []

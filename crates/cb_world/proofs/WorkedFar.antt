@@ -6,7 +6,7 @@ use Rattle.std.specs.FinMap as map
 use Rattle.cb_member.specs.declared.names.NodeId.{NodeId}
 use Rattle.cb_member.specs.declared.names.Shard.{Shard}
 use Rattle.cb_member.specs.Membership.{incarnation, fresh_members, with_crash}
-use Rattle.cb_node.specs.NodesState.{empty_nodes, with_row, row_at as row_under}
+use Rattle.cb_node.specs.NodesState.{empty_nodes, with_row, row_under}
 use Rattle.cb_set.specs.SetState.{SetState, PositionState, dead_position, filled_position, live_at, set_of}
 use Rattle.cb_set.specs.Nodes.{OnDistinctNodes}
 use Rattle.cb_world.specs.declared.homes.Home.{Home}
@@ -21,7 +21,7 @@ use Rattle.cb_world.specs.Joining.{JoiningState}
 use Rattle.cb_world.specs.FarState.{FarState}
 use Rattle.cb_world.specs.RowWords.{words_from, row_of}
 use Rattle.cb_world.specs.SetWord.{AreCurrent, IsShaped}
-use Rattle.cb_world.specs.FarSound.{AreSets, AreAway, AreRows, IsBatch, IsShardOf, Owner}
+use Rattle.cb_world.specs.FarSound.{AreSets, AreAway, AreShardRows, IsBatch, IsShardOf, Owner}
 use Rattle.cb_world.specs.FarSound.Owner.{of_set, of_leaving, of_joining}
 use Rattle.cb_world.specs.SetAdded.{IsSetAdded}
 use Rattle.cb_world.specs.Merged.{takes, AreTaken}
@@ -184,10 +184,11 @@ object_without_home x =
     absurd (let z : None ≡ Some home = x.named 5 0 1 0 set (there set) refl in cc)
 
 -- rows
-uncounted : ¬ (AreRows (record (away set) { nodes = empty_nodes 3 1 }))
+uncounted : ¬ (AreShardRows (record (away set) { nodes = empty_nodes 3 1 }))
 uncounted x = absurd (let z : 3 ≡ 2 = x.counted in omega (arith, z))
 
-no_members : ¬ (AreRows (record (away set) { members = record (fresh_members 2) { epoch = 1 } }))
+no_members : ¬ (AreShardRows
+    (record (away set) { members = record (fresh_members 2) { epoch = 1 } }))
 no_members x = absurd (let z : 1 ≡ 0 = x.members.counted in omega (arith, z))
 
 -- a row that no shard names
@@ -197,7 +198,7 @@ stray = record (away set) {
   nodes = with_row (empty_nodes 2 1) (node 0) 0 [];
 }
 
-row_of_nobody : ¬ (AreRows stray)
+row_of_nobody : ¬ (AreShardRows stray)
 row_of_nobody x =
     let found = x.owned (node 0) 0 [] (stands 0) in nobody found.0 found.1 found.2
   where
@@ -213,13 +214,13 @@ row_of_nobody x =
     nobody (of_leaving p) shard (x, e, y) = absurd (cc)
     nobody (of_joining p) shard (x, e, y) = absurd (cc)
 
-no_key_left : ¬ (AreRows
+no_key_left : ¬ (AreShardRows
     (record (away set) { counts = record { turns = 0; by_job = []; sets = 6; keys = 1 } }))
 no_key_left x =
     absurd (let z : 1 < 1 =
     x.drawn (of_set 5 1) (at 1 1) (set, there set, refl) in omega (arith, z))
 
-past_the_members : ¬ (AreRows (record (away set) {
+past_the_members : ¬ (AreShardRows (record (away set) {
   members = fresh_members 1;
   nodes =
       empty_nodes 1 1;
@@ -236,7 +237,7 @@ position_of_owner (of_joining p) = p
 abbrev twice : SetState
 twice = set_of 5 (at 0 0 ∷ at 1 0 ∷ []) (filled ∷ [])
 
-one_key_twice : ¬ (AreRows (away twice))
+one_key_twice : ¬ (AreShardRows (away twice))
 one_key_twice x =
     let same = x.one (of_set 5 0) (of_set 5 1) (at 0 0) (at 1 0) (twice, there twice, refl)
     (twice, there twice, refl) refl in

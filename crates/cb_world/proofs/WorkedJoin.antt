@@ -7,7 +7,7 @@ use Rattle.cb_gf256.specs.InRange.{IsInRange}
 use Rattle.cb_gf256.specs.Rows.{row_at}
 use Rattle.cb_member.specs.declared.names.NodeId.{NodeId}
 use Rattle.cb_member.specs.declared.names.Shard.{Shard}
-use Rattle.cb_node.specs.NodesState.{NodesState, nodes_of, row_at as row_under}
+use Rattle.cb_node.specs.NodesState.{NodesState, nodes_of, row_under}
 use Rattle.cb_node.specs.Rows.{RowsByKey}
 use Rattle.cb_set.specs.SetState.{SetState, dead_position, live_at}
 use Rattle.cb_world.specs.FarState.{FarState}

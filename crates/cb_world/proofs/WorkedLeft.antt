@@ -7,7 +7,7 @@ use Rattle.std.specs.List.{slice_get}
 use Rattle.cb_member.specs.declared.names.NodeId.{NodeId}
 use Rattle.cb_member.specs.declared.names.Shard.{Shard}
 use Rattle.cb_member.specs.Membership.{fresh_members, with_crash}
-use Rattle.cb_node.specs.NodesState.{NodesState, empty_nodes, held, with_row, with_dropped, row_at as row_under}
+use Rattle.cb_node.specs.NodesState.{NodesState, empty_nodes, held, with_row, with_dropped, row_under}
 use Rattle.cb_set.specs.SetState.{PositionState, SetState, dead_position, filled_position, set_of}
 use Rattle.cb_world.specs.declared.homes.Home.{Home}
 use Rattle.cb_world.specs.declared.object.Object.TheVariants as is
@@ -15,7 +15,7 @@ use Rattle.cb_world.specs.declared.shown.Shown.{Shown}
 use Rattle.cb_world.specs.declared.survey.Survey.{Survey}
 use Rattle.cb_world.specs.Sets.{Kept, SetMap, set_in, if_committed}
 use Rattle.cb_world.specs.FarState.{FarState}
-use Rattle.cb_world.specs.GivenUp.{GivesUp, GoesOn, IsDropped, IsGivenUp, IsLeft}
+use Rattle.cb_world.specs.GivenUp.{GivesUp, IsDropped, IsGivenUp, IsLeft, SetGoesOn}
 use Rattle.cb_world.specs.LeftOver.{LiesIn, nodes_left, set_without, sets_left, with_left, without_far}
 use Rattle.cb_world.specs.Stored.{AreThere, NoKey}
 use Rattle.cb_world.proofs.Apart.{some_same}
@@ -240,7 +240,7 @@ survey below gone = record { below = below; gone = gone; no_pair = None }
 set_then : set_in then_.sets 5 ≡ Some (with_this one)
 set_then = grind (arith, map.gets)
 
-set_goes_on : GoesOn away then_ 5 (with_this one)
+set_goes_on : SetGoesOn away then_ 5 (with_this one)
 set_goes_on = record {
   there = set_then;
   some_live = (0, refl);
@@ -251,13 +251,13 @@ set_goes_on = record {
 false_true : false ≡ true → ⊥
 false_true e = cc
 
-goes_on_nowhere : ¬ (GoesOn away (record then_ { sets = map.empty }) 5 (with_this one))
+goes_on_nowhere : ¬ (SetGoesOn away (record then_ { sets = map.empty }) 5 (with_this one))
 goes_on_nowhere x = none_some (with_this one) (sym none ∙ x.there)
   where
     none : set_in map.empty 5 ≡ None
     none = grind (arith, map.gets)
 
-goes_on_dead : ¬ (GoesOn away (record then_ {
+goes_on_dead : ¬ (SetGoesOn away (record then_ {
   sets = map.insert sets 5 (kept (with_this dead_position));
 }) 5 (with_this dead_position))
 goes_on_dead x = dead x.some_live.0 x.some_live.1
@@ -266,7 +266,7 @@ goes_on_dead x = dead x.some_live.0 x.some_live.1
     dead zero e = false_true e
     dead (suc q) e = false_true e
 
-goes_on_surveyed : ¬ (GoesOn away (record then_ { survey = survey 6 0 }) 5 (with_this one))
+goes_on_surveyed : ¬ (SetGoesOn away (record then_ { survey = survey 6 0 }) 5 (with_this one))
 goes_on_surveyed x = let e : 6 ≡ 0 = ap (λ s. s.below) x.survey in omega (arith, e)
 
 row_nine : row_under nodes (node 0) 9 ≡ Some (3 ∷ [])
@@ -275,7 +275,7 @@ row_nine = grind (arith, map.gets)
 no_row_nine : row_under (with_dropped nodes (node 0) 9) (node 0) 9 ≡ None
 no_row_nine = grind (arith, map.gets)
 
-goes_on_without_a_row : ¬ (GoesOn away (record then_ { nodes = with_dropped nodes (node 0) 9 }) 5
+goes_on_without_a_row : ¬ (SetGoesOn away (record then_ { nodes = with_dropped nodes (node 0) 9 }) 5
     (with_this one))
 goes_on_without_a_row x = none_some (3 ∷ []) (sym no_row_nine ∙ x.rows (node 0) 9 ∙ row_nine)
 

@@ -6,9 +6,9 @@ use Rattle.cb_ptr.specs.Word.{state_of, hot_of}
 use Rattle.cb_types.specs.declared.config.Config.{Config}
 use Rattle.cb_world.specs.FarState.{FarState}
 use Rattle.cb_world.specs.Leaving.{LeavingState}
-use Rattle.cb_world.specs.Memory.{byte_at, window}
+use Rattle.cb_world.specs.Memory.{memory_byte, window}
 use Rattle.cb_world.specs.OpenSteps.{IsClaimOn, NoClaimOn, IsClaimed, IsSettled, NoneHolds, next_word}
-use Rattle.cb_world.specs.OpenWrites.{touched, left_of, IsOpen, IsLeavingNow, IsClaimedNow, AreOpen}
+use Rattle.cb_world.specs.OpenWrites.{touched, stores_left, IsOpen, IsLeavingNow, IsClaimedNow, AreOpen}
 use Rattle.cb_world.specs.Plain.{Words}
 use Rattle.cb_world.specs.Seats.{SeatState, OpenWriteState, IsClaimAt, Holds, AtMostOneHolds, idle_seat, with_claims, with_holds}
 use Rattle.cb_world.specs.World.{WorldState, IsSoundWorld}
@@ -21,11 +21,12 @@ use Rattle.cb_world.proofs.WorkedWorld.{far}
 front : (n : ℕ) → 8 ≤ n → IsWriteBelow n (2826 ∷ []) 1 (12 ∷ []) (3082 ∷ [])
 front n most = record { sized = refl; inside = inside; outside = outside }
   where
-    inside : (i : ℕ) → i < 1 → 1 + i < n → byte_at (3082 ∷ []) (1 + i) ≡ get_or (12 ∷ []) i 0
+    inside : (i : ℕ) → i < 1 → 1 + i < n → memory_byte (3082 ∷ []) (1 + i) ≡ get_or (12 ∷ []) i 0
     inside zero below less = refl
     inside (suc i) below less = absurd (omega (arith, below))
 
-    beside : (p : ℕ) → p < 8 → (p < 1) ⊎ (2 ≤ p) → byte_at (3082 ∷ []) p ≡ byte_at (2826 ∷ []) p
+    beside : (p : ℕ) → p < 8 → (p < 1) ⊎ (2 ≤ p)
+        → memory_byte (3082 ∷ []) p ≡ memory_byte (2826 ∷ []) p
     beside zero below side = refl
     beside (suc zero) below (inl before) = absurd (omega (arith, before))
     beside (suc zero) below (inr behind) = absurd (omega (arith, behind))
@@ -39,7 +40,7 @@ front n most = record { sized = refl; inside = inside; outside = outside }
         absurd (omega (arith, below))
 
     outside : (p : ℕ) → p < 8 → (n ≤ p) ⊎ ((p < 1) ⊎ (2 ≤ p))
-        → byte_at (3082 ∷ []) p ≡ byte_at (2826 ∷ []) p
+        → memory_byte (3082 ∷ []) p ≡ memory_byte (2826 ∷ []) p
     outside p below (inl past) = absurd (omega (arith, most, below, past))
     outside p below (inr side) = beside p below side
 
@@ -110,10 +111,10 @@ write_at version stored = record {
 abbrev write : OpenWriteState
 write = write_at 3 1
 
-two_left : left_of (write_at 3 0) ≡ 2
+two_left : stores_left (write_at 3 0) ≡ 2
 two_left = refl
 
-none_left : left_of (write_at 3 2) ≡ 0
+none_left : stores_left (write_at 3 2) ≡ 0
 none_left = refl
 
 -- claimed, with its memory word stored, and with the version word stored too

@@ -9,7 +9,7 @@ use Rattle.cb_gf256.specs.Rows.{row_at}
 use Rattle.cb_member.specs.declared.names.NodeId.{NodeId}
 use Rattle.cb_member.specs.declared.names.Shard.{Shard}
 use Rattle.cb_member.specs.Membership.{Membership, fresh_members, with_crash}
-use Rattle.cb_node.specs.NodesState.{NodesState, held, nodes_of, row_at as row_under}
+use Rattle.cb_node.specs.NodesState.{NodesState, held, nodes_of, row_under}
 use Rattle.cb_node.specs.Rows.{RowsByKey}
 use Rattle.cb_set.specs.SetState.{SetState, dead_position, live_at}
 use Rattle.cb_set.specs.Matched.{IsMatched}

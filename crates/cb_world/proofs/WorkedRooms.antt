@@ -6,7 +6,7 @@ use Rattle.cb_node.specs.NodesState.{NodesState, empty_nodes, held, with_row}
 use Rattle.cb_set.specs.SetState.{SetState, set_of}
 use Rattle.cb_types.specs.declared.config.Config.{Config}
 use Rattle.cb_world.specs.Codes.{HaveCodes}
-use Rattle.cb_world.specs.FarSound.{AreRows}
+use Rattle.cb_world.specs.FarSound.{AreShardRows}
 use Rattle.cb_world.specs.FarState.{FarState}
 use Rattle.cb_world.specs.Leaving.{LeavingState}
 use Rattle.cb_world.specs.Rooms.{HaveRoom}
@@ -36,7 +36,7 @@ have_room other = by other.n
     by (suc (suc n)) = let e = no_node_holds_none 1 n in omega (arith, e)
 
 -- the rows of a committed set, at nodes that have room for none
-past_its_room : ¬ (AreRows (record (away set) { nodes = two 0 }))
+past_its_room : ¬ (AreShardRows (record (away set) { nodes = two 0 }))
 past_its_room x = let l = x.room (node 0) in let e = first_holds_one 0 in omega (arith, l, e)
 
 -- ---- codes: a committed set and a batch, each of one data position and one parity

@@ -9,7 +9,7 @@ use Rattle.cb_types.specs.declared.order.Kept.TheVariants as kept
 use Rattle.cb_world.specs.FarState.{FarState}
 use Rattle.cb_world.specs.Leaving.{LeavingState}
 use Rattle.cb_world.specs.Memory.{window}
-use Rattle.cb_world.specs.OpenWrites.{left_of, IsOpen, IsLeavingNow, IsClaimedNow, AreOpen}
+use Rattle.cb_world.specs.OpenWrites.{stores_left, IsOpen, IsLeavingNow, IsClaimedNow, AreOpen}
 use Rattle.cb_world.specs.Plain.{Words}
 use Rattle.cb_world.specs.Seats.{SeatState, OpenWriteState, IsClaimAt, idle_seat, with_claims, with_holds, with_pins}
 use Rattle.cb_world.specs.Write.{IsWriteBelow}
@@ -36,7 +36,7 @@ over_the_end = record {
   stored = 0;
 }
 
-three_left : left_of over_the_end ≡ 3
+three_left : stores_left over_the_end ≡ 3
 three_left = refl
 
 -- ---- one byte in the second word of an object of 16 bytes, which lies at the place 1

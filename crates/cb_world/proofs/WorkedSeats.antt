@@ -17,7 +17,7 @@ use Rattle.cb_world.specs.FarState.{FarState}
 use Rattle.cb_world.specs.Leaving.{LeavingState}
 use Rattle.cb_world.specs.Pinned.{IsPinned, IsUnpinned}
 use Rattle.cb_world.specs.Plain.{Words}
-use Rattle.cb_world.specs.Seats.{SeatState, idle_seat, with_pins, IsNewest, NoneOn, pins_on, all_pins_on}
+use Rattle.cb_world.specs.Seats.{SeatState, idle_seat, with_pins, IsNewestOf, NoneOn, pins_among, all_pins_on}
 use Rattle.cb_world.specs.Sets.{set_in}
 use Rattle.cb_world.specs.World.{ArePinned, AreCounted, IsConfigured, word_at}
 use Rattle.cb_world.proofs.WorkedWorld.{far}
@@ -32,7 +32,7 @@ seat_with pins = record { pins = pins; claims = []; holds = false; order = None 
 abbrev three : List Pin
 three = pin_on 0 3 ∷ pin_on 1 5 ∷ pin_on 0 3 ∷ []
 
-last_is_newest : IsNewest three 0 2
+last_is_newest : IsNewestOf three 0 2
 last_is_newest = record { pin = pin_on 0 3; there = refl; on = refl; newest = behind }
   where
     behind : (later : ℕ) (other : Pin) → 2 < later → slice_get three later ≡ Some other
@@ -40,10 +40,10 @@ last_is_newest = record { pin = pin_on 0 3; there = refl; on = refl; newest = be
     behind later other less at on =
         let n = slice_get_within three later other at in omega (arith, less, n)
 
-older_is_not : IsNewest three 0 0 → ⊥
+older_is_not : IsNewestOf three 0 0 → ⊥
 older_is_not n = n.newest 2 (pin_on 0 3) (lit< tt) refl refl
 
-another_is_not : IsNewest three 0 1 → ⊥
+another_is_not : IsNewestOf three 0 1 → ⊥
 another_is_not n = let e : 1 ≡ n.pin.handle = ap handle_of n.there in
     let on = n.on in omega (arith, e, on)
   where
@@ -51,16 +51,16 @@ another_is_not n = let e : 1 ≡ n.pin.handle = ap handle_of n.there in
     handle_of (Some pin) = pin.handle
     handle_of None = 0
 
-past_is_not : IsNewest three 0 3 → ⊥
+past_is_not : IsNewestOf three 0 3 → ⊥
 past_is_not n = let past = slice_get_within three 3 n.pin n.there in omega (arith, past)
 
 some_on : NoneOn three 1 → ⊥
 some_on none = none 1 (pin_on 1 5) refl refl
 
-two_on_it : pins_on 0 three ≡ 2
+two_on_it : pins_among 0 three ≡ 2
 two_on_it = refl
 
-none_on_another : pins_on 2 three ≡ 0
+none_on_another : pins_among 2 three ≡ 0
 none_on_another = refl
 
 all_seats_count : all_pins_on 0 (seat_with three ∷ idle_seat ∷ seat_with (pin_on 0 3 ∷ []) ∷ []) ≡ 3

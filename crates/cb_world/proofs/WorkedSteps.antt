@@ -7,7 +7,7 @@ use Rattle.std.specs.List.{slice_get}
 use Rattle.std.proofs.lemmas.Bool.Decides.{nat_tests}
 use Rattle.cb_member.specs.declared.names.Shard.{Shard}
 use Rattle.cb_member.specs.Membership.{Membership, fresh_members, with_crash}
-use Rattle.cb_node.specs.NodesState.{NodesState, empty_nodes, held, with_row, row_at as row_under}
+use Rattle.cb_node.specs.NodesState.{NodesState, empty_nodes, held, with_row, row_under}
 use Rattle.cb_set.specs.SetState.{PositionState, SetState, dead_position, filled_position, live_at, position_of, set_of, slot_at}
 use Rattle.cb_set.specs.Lost.{is_lost}
 use Rattle.cb_world.specs.declared.homes.Home.{Home}

@@ -6,11 +6,11 @@ use Rattle.std.specs.FinMap as map
 use Rattle.cb_member.specs.declared.names.NodeId.{NodeId}
 use Rattle.cb_member.specs.declared.names.Shard.{Shard}
 use Rattle.cb_member.specs.Membership.{Membership, NodeState, with_crash, with_join}
-use Rattle.cb_node.specs.NodesState.{NodesState, empty_nodes, held, with_row, with_rows, with_dropped as with_row_dropped}
+use Rattle.cb_node.specs.NodesState.{NodesState, empty_nodes, held, with_row, with_rows, with_dropped}
 use Rattle.cb_set.specs.SetState.{SetState, PositionState, dead_position, filled_position, set_of}
 use Rattle.cb_world.specs.declared.survey.Survey.{Survey}
 use Rattle.cb_world.specs.FarState.{FarState}
-use Rattle.cb_world.specs.LeftOver.{survey_left, with_dropped, with_left}
+use Rattle.cb_world.specs.LeftOver.{survey_left, with_left, with_set_dropped}
 use Rattle.cb_world.specs.NodeChanges.{crashed_far, joined_far}
 use Rattle.cb_world.specs.Sets.{Kept, SetMap, set_in}
 use Rattle.cb_world.specs.SetWord.{IsWeak}
@@ -201,8 +201,8 @@ left_on : with_left counted 1 gone
 left_on = refl
 
 abbrev without_rows : NodesState
-without_rows = with_row_dropped
-    (with_row_dropped (with_row_dropped counted.nodes (node 1) 7) (node 2) 8) (node 3) 9
+without_rows = with_dropped
+    (with_dropped (with_dropped counted.nodes (node 1) 7) (node 2) 8) (node 3) 9
 
 left_off : with_left counted 1 (left_dead gone) ≡ record counted {
   sets = map.remove counted.sets 1;
@@ -211,17 +211,17 @@ left_off : with_left counted 1 (left_dead gone) ≡ record counted {
 }
 left_off = refl
 
-dropped : with_dropped counted 1 gone ≡ record counted {
+dropped : with_set_dropped counted 1 gone ≡ record counted {
   sets = map.remove counted.sets 1;
   nodes = without_rows;
   survey = survey 2 0;
 }
 dropped = refl
 
-dropped_uncounted : (with_dropped counted 2 gone).survey ≡ survey 2 1
+dropped_uncounted : (with_set_dropped counted 2 gone).survey ≡ survey 2 1
 dropped_uncounted = refl
 
-dropped_whole : (with_dropped counted 0 whole).survey ≡ survey 2 1
+dropped_whole : (with_set_dropped counted 0 whole).survey ≡ survey 2 1
 dropped_whole = refl
 
 -- ---- a crash and a join

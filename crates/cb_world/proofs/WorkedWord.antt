@@ -15,7 +15,7 @@ use Rattle.cb_gf256.specs.Sum.{sum_over}
 use Rattle.cb_member.specs.declared.names.NodeId.{NodeId}
 use Rattle.cb_member.specs.declared.names.Shard.{Shard}
 use Rattle.cb_member.specs.Membership.{Membership, incarnation}
-use Rattle.cb_node.specs.NodesState.{NodesState, rows_at, with_row, row_at as row_under}
+use Rattle.cb_node.specs.NodesState.{NodesState, rows_of_node, with_row, row_under}
 use Rattle.cb_node.proofs.Laws.{row_is_put, put_keeps_other_rows}
 use Rattle.cb_set.specs.SetState.{PositionState, SetState, set_of}
 use Rattle.cb_set.specs.Lost.{is_lost, lost}
@@ -96,7 +96,7 @@ module _ (others : NodesState) (m : Membership) (id : ℕ) (a b : PositionState)
   set = set_of id shards (a ∷ b ∷ [])
 
   within : 3 < length (with_row others (node 0) 7 (row 7)).nodes
-  within = let n = length-set others.nodes 0 (map.insert (rows_at others (node 0)) 7 (row 7)) in omega (arith, n, many)
+  within = let n = length-set others.nodes 0 (map.insert (rows_of_node others (node 0)) 7 (row 7)) in omega (arith, n, many)
 
   first_there : row_under nodes (node 0) 7 ≡ Some (row 7)
   first_there =

@@ -6,7 +6,7 @@ use Rattle.std.proofs.Math.Dec.{ltb}
 use Rattle.std.specs.FinMap as map
 use Rattle.cb_class.specs.declared.class.Class.{Class}
 use Rattle.cb_class.specs.Class.{IsClassOf, bytes_of, slots_of, words_of}
-use Rattle.cb_frame.specs.FreeFrames.{IsFree}
+use Rattle.cb_frame.specs.FreeFrames.{IsFreeFrame}
 use Rattle.cb_member.specs.Membership.{fresh_members}
 use Rattle.cb_node.specs.NodesState.{empty_nodes}
 use Rattle.cb_span.specs.declared.temp.Temp.TheVariants.{Cold}
@@ -111,7 +111,7 @@ is_span = record { in_table = lit< tt; sized = refl }
 are_frames : AreFrames far
 are_frames = record { sized = refl; free = free; valid = valid; taken = taken }
   where
-    free : (f : ℕ) → f < 2 → IsFree far.frames f ↔ (span_in far.spans f ≡ None)
+    free : (f : ℕ) → f < 2 → IsFreeFrame far.frames f ↔ (span_in far.spans f ≡ None)
     free zero below = (λ e. absurd (cc), λ e. absurd (cc))
     free (suc zero) below = (λ e. refl, λ e. refl)
     free (suc (suc f)) below = absurd (omega (arith, below))

@@ -13,7 +13,7 @@ use Rattle.cb_ptr.specs.Word.{state_of, hot_of, pins_of}
 use Rattle.cb_world.proofs.OpenKept.{none_open}
 use Rattle.cb_world.specs.declared.seats.Pin.{Pin}
 use Rattle.cb_world.specs.Empty.{empty_words, empty_shown, empty_far}
-use Rattle.cb_world.specs.Seats.{SeatState, Holds, idle_seat, pins_on, all_pins_on}
+use Rattle.cb_world.specs.Seats.{SeatState, Holds, idle_seat, pins_among, all_pins_on}
 use Rattle.cb_world.specs.World.{IsKnown, ArePinned, IsSoundWorld, empty_world, word_at}
 use Rattle.cb_world.proofs.Codes.{empty_codes}
 use Rattle.cb_world.proofs.Empty.{empty_sound, empty_shows, reads_one}
@@ -31,7 +31,7 @@ known c ok = record {
 }
 
 none_on : (h : ℕ) → all_pins_on h (replicate 64 idle_seat) ≡ 0
-none_on h = sum_by-replicate (λ (seat : SeatState). pins_on h seat.pins) 64 idle_seat
+none_on h = sum_by-replicate (λ (seat : SeatState). pins_among h seat.pins) 64 idle_seat
 
 no_pins : (c : Config) (h : ℕ) → pins_of (word_at (empty_words c) h) ≡ 0
 no_pins c h = ap pins_of (reads_one c.handles h 0)

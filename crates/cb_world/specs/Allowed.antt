@@ -21,7 +21,7 @@ Allowed s [] = Unit {0}
 Allowed s (e ∷ es) = IsAllowed s e × Allowed (after e s) es
 
 -- the object is not claimed
-abbrev pub Leaves : ℕ → List Event → Type 0
-Leaves k [] = Unit {0}
-Leaves k (Claimed h w v words ∷ es) = (k ≢ h) × Leaves k es
-Leaves k (e ∷ es) = Leaves k es
+abbrev pub LeavesUnclaimed : ℕ → List Event → Type 0
+LeavesUnclaimed k [] = Unit {0}
+LeavesUnclaimed k (Claimed h w v words ∷ es) = (k ≢ h) × LeavesUnclaimed k es
+LeavesUnclaimed k (e ∷ es) = LeavesUnclaimed k es

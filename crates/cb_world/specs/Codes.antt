@@ -7,12 +7,12 @@ use Rattle.cb_world.specs.Leaving.{LeavingState}
 use Rattle.cb_world.specs.Sets.{set_in}
 
 -- the code of k data positions and r parities is the configured one
-abbrev pub IsCode : Config → ℕ → ℕ → Type 0
-IsCode c k r = (k ≡ c.k) × (r ≡ c.r)
+abbrev pub IsConfiguredCode : Config → ℕ → ℕ → Type 0
+IsConfiguredCode c k r = (k ≡ c.k) × (r ≡ c.r)
 
 -- so is the code of each committed set, and that of the set which the batch that is leaving will be
 pub record HaveCodes (c : Config) (far : FarState) : Type 0 where
   pub sets : (id : ℕ) (set : SetState) → set_in far.sets id ≡ Some set
-      → IsCode c (length set.positions) (parities set)
+      → IsConfiguredCode c (length set.positions) (parities set)
   pub batch : (b : LeavingState) → far.leaving ≡ Some b
-      → IsCode c (length b.frames) (length b.parities)
+      → IsConfiguredCode c (length b.frames) (length b.parities)

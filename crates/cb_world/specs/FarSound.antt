@@ -7,7 +7,7 @@ use Rattle.cb_gf256.specs.Rows.{row_at}
 use Rattle.cb_member.specs.declared.names.NodeId.{NodeId}
 use Rattle.cb_member.specs.declared.names.Shard.{Shard}
 use Rattle.cb_member.specs.Membership.{Membership, IsMembership, incarnation}
-use Rattle.cb_node.specs.NodesState.{NodesState, row_at as row_under}
+use Rattle.cb_node.specs.NodesState.{NodesState, row_under}
 use Rattle.cb_set.specs.SetState.{SetState, position_of, live_at, slot_at}
 use Rattle.cb_set.specs.Lost.{is_lost}
 use Rattle.cb_world.specs.declared.object.Object.TheVariants as is
@@ -80,7 +80,7 @@ IsShardOf far (of_joining p) shard = (pair : JoiningState) × (far.joining ≡ S
     × (slice_get pair.steps p ≡ Some (Some shard))
 
 -- each row at a node belongs to one shard, and the nodes have room for their rows
-pub record AreRows (far : FarState) : Type 0 where
+pub record AreShardRows (far : FarState) : Type 0 where
   pub members : IsMembership far.members
   pub counted : length far.nodes.nodes ≡ length far.members.nodes
   pub room : HaveRoom far.nodes
@@ -113,7 +113,7 @@ pub record IsBatch (s : Shown) (far : FarState) (batch : LeavingState) : Type 0 
 pub record AwaySound (s : Shown) (far : FarState) : Type 0 where
   pub sets : AreSets s far
   pub away : AreAway s far
-  pub rows : AreRows far
+  pub rows : AreShardRows far
   pub batch : (b : LeavingState) → far.leaving ≡ Some b → IsBatch s far b
 
 -- the far part of the sound world

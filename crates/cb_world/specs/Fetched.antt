@@ -5,7 +5,7 @@ use Rattle.cb_member.specs.declared.names.Shard.{Shard}
 use Rattle.cb_member.specs.Membership.{Membership}
 use Rattle.cb_set.specs.SetState.{SetState}
 use Rattle.cb_set.specs.Lost.{lost_at}
-use Rattle.cb_node.specs.NodesState.{NodesState, row_at as row_under}
+use Rattle.cb_node.specs.NodesState.{NodesState, row_under}
 
 -- the row of a word at a position stands at the node of the position's shard
 pub record StandsAt (nodes : NodesState) (shards : List Shard) (rows : List (List ℕ)) (p : ℕ) : Type
@@ -22,8 +22,8 @@ StandAt nodes shards rows positions = (i : ℕ) → i < length positions
     → StandsAt nodes shards rows (slice_index positions i)
 
 -- the nodes once so many rows more were given out
-abbrev pub with_given : NodesState → ℕ → NodesState
-with_given nodes n = record nodes { given = nodes.given + n }
+abbrev pub with_rows_given : NodesState → ℕ → NodesState
+with_rows_given nodes n = record nodes { given = nodes.given + n }
 
 -- how many rows are given out for the row of a position: its own, or one at each of k others
 abbrev pub rows_needed : Membership → SetState → ℕ → ℕ

@@ -3,7 +3,7 @@ use Rattle.std.specs.Prelude.{◌≡◌, ◌≢◌, ◌⊎◌, ℕ, ◌<◌, tru
 use Rattle.std.specs.FinMap as map
 use Rattle.cb_member.specs.declared.names.NodeId.{NodeId}
 use Rattle.cb_member.specs.declared.names.Shard.{Shard}
-use Rattle.cb_node.specs.NodesState.{row_at as row_under}
+use Rattle.cb_node.specs.NodesState.{row_under}
 use Rattle.cb_set.specs.SetState.{SetState, PositionState, IsRestOf, position_of, live_at, slot_at, with_position}
 use Rattle.cb_world.specs.declared.shown.Shown.{Shown}
 use Rattle.cb_world.specs.Shown.{object_at}
@@ -36,7 +36,7 @@ pub record IsGivenUp (t : Shown) (new : FarState) (set : SetState) (p : ℕ) (le
   pub near : is_far (object_at t h) → ⊥
 
 -- the set goes on as this one, and all rows stay
-pub record GoesOn (far new : FarState) (id : ℕ) (rest : SetState) : Type 0 where
+pub record SetGoesOn (far new : FarState) (id : ℕ) (rest : SetState) : Type 0 where
   pub there : set_in new.sets id ≡ Some rest
   pub some_live : (q : ℕ) × (live_at rest q ≡ true)
   pub survey : new.survey ≡ far.survey
@@ -61,7 +61,7 @@ pub record GivesUp (s t : Shown) (far new : FarState) (id : ℕ) (set : SetState
   pub inside : p < length set.positions
   pub rest : IsRestOf (position_of set p) left
   pub others : (j : ℕ) → j ≢ id → map.get new.sets j ≡ map.get far.sets j
-  pub after : GoesOn far new id (with_position set p left)
+  pub after : SetGoesOn far new id (with_position set p left)
       ⊎ IsDropped far new id (with_position set p left)
   pub nodes : length new.nodes.nodes ≡ length far.nodes.nodes
   pub room : KeepRoom far.nodes new.nodes

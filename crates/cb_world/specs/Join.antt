@@ -4,7 +4,7 @@ use Rattle.cb_gf256.specs.Rows.{row_at}
 use Rattle.cb_gf256.specs.InRange.{IsInRange}
 use Rattle.cb_member.specs.declared.names.Shard.{Shard}
 use Rattle.cb_member.specs.Membership.{Membership}
-use Rattle.cb_node.specs.NodesState.{row_at as row_under}
+use Rattle.cb_node.specs.NodesState.{row_under}
 use Rattle.cb_set.specs.SetState.{SetState, live_at}
 use Rattle.cb_set.specs.Lost.{is_lost}
 use Rattle.cb_world.specs.Joining.{JoiningState}

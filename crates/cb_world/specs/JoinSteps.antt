@@ -3,7 +3,7 @@ use Rattle.std.specs.Prelude.{◌≡◌, ◌≢◌, ℕ, ◌+◌, ◌<◌, ◌�
 use Rattle.cb_gf256.specs.Rows.{row_at}
 use Rattle.cb_member.specs.declared.names.NodeId.{NodeId}
 use Rattle.cb_member.specs.declared.names.Shard.{Shard}
-use Rattle.cb_node.specs.NodesState.{row_at as row_under}
+use Rattle.cb_node.specs.NodesState.{row_under}
 use Rattle.cb_set.specs.SetState.{SetState, live_at, position_of, slot_at}
 use Rattle.cb_set.specs.Matched.{IsMatched}
 use Rattle.cb_world.specs.Joining.{JoiningState}

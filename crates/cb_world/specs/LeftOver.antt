@@ -32,8 +32,8 @@ survey_left far id rest =
 
 -- The far state once the committed set of a number is dropped: its rows are too, and it is counted
 -- no more.
-abbrev pub with_dropped : FarState → ℕ → SetState → FarState
-with_dropped far id set = record far {
+abbrev pub with_set_dropped : FarState → ℕ → SetState → FarState
+with_set_dropped far id set = record far {
   sets = map.remove far.sets id;
   nodes = all_dropped far.nodes set.shards;
   survey = survey_without far.survey id (is_broken far.members set);

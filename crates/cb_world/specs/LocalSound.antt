@@ -1,7 +1,7 @@
 -- The sound world, over what the holder of the far lock knows and the far state.
 use Rattle.std.specs.Prelude.{◌≡◌, ℕ, ◌*◌, ◌<◌, ◌≤◌, ◌↔◌, List, Option, None, Some, length}
 use Rattle.cb_class.specs.Class.{IsClassOf}
-use Rattle.cb_frame.specs.FreeFrames.{IsFree}
+use Rattle.cb_frame.specs.FreeFrames.{IsFreeFrame}
 use Rattle.cb_span.specs.Contents.{Contents, IsSpan, handle_at, live_count}
 use Rattle.cb_span.specs.Places.{slot_place}
 use Rattle.cb_world.specs.declared.object.Object.{Object}
@@ -52,7 +52,8 @@ pub record AreKnown (s : Shown) (far : FarState) : Type 0 where
 -- each frame is free or holds one span that is not empty
 pub record AreFrames (far : FarState) : Type 0 where
   pub sized : length far.spans ≡ length far.frames
-  pub free : (f : ℕ) → f < length far.frames → IsFree far.frames f ↔ (span_in far.spans f ≡ None)
+  pub free : (f : ℕ) → f < length far.frames → IsFreeFrame far.frames f
+      ↔ (span_in far.spans f ≡ None)
   pub valid : (f : ℕ) (span : Contents) → span_in far.spans f ≡ Some span → IsSpan span
   pub taken : (f : ℕ) (span : Contents) → span_in far.spans f ≡ Some span → 1 ≤ live_count span
 

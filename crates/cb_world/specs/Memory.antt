@@ -19,13 +19,13 @@ abbrev pub words_for : ℕ → ℕ
 words_for len = (len + 7) / 8
 
 -- the byte at a position: a word holds eight, the first one lowest
-abbrev pub byte_at : List ℕ → ℕ → ℕ
-byte_at words p = slice_index (to_le_bytes w64 (slice_index words (p / 8))) (p % 8)
+abbrev pub memory_byte : List ℕ → ℕ → ℕ
+memory_byte words p = slice_index (to_le_bytes w64 (slice_index words (p / 8))) (p % 8)
 
 -- the first bytes of some words
 unfoldable pub bytes_in : List ℕ → ℕ → List ℕ
-bytes_in words len = map (byte_at words) (range_with_len 0 len)
+bytes_in words len = map (memory_byte words) (range_with_len 0 len)
 
 -- the bytes of the words past the first len are 0
 abbrev pub IsPacked : ℕ → List ℕ → Type 0
-IsPacked len words = (p : ℕ) → len ≤ p → p < 8 * length words → byte_at words p ≡ 0
+IsPacked len words = (p : ℕ) → len ≤ p → p < 8 * length words → memory_byte words p ≡ 0

@@ -26,12 +26,12 @@ open_kind None = None
 open_kind (Some span) = kind_if span (least_empty span)
 
 -- the span in the frame has this class and temperature and an empty slot
-abbrev pub IsOpen : List (Option Contents) → Class → Temp → ℕ → Type 0
-IsOpen spans class temp f = open_kind (span_in spans f) ≡ Some (kind_of class temp)
+abbrev pub IsOpenSpan : List (Option Contents) → Class → Temp → ℕ → Type 0
+IsOpenSpan spans class temp f = open_kind (span_in spans f) ≡ Some (kind_of class temp)
 
 -- an object of the class and temperature can be placed in the frame, which is not passed over
 abbrev pub MayTake : List (Option Contents) → Class → Temp → List ℕ → ℕ → Type 0
-MayTake spans class temp except f = IsOpen spans class temp f × ¬ (Contains except f)
+MayTake spans class temp except f = IsOpenSpan spans class temp f × ¬ (Contains except f)
 
 -- the set of frames of a number
 abbrev pub frames_of : List (List Bool) → ℕ → List Bool

@@ -15,12 +15,12 @@ touched at zero = 0
 touched at (suc n) = (at + suc n + 7) / 8 - at / 8
 
 -- how many words an open write still has to store, the version word among them
-abbrev pub left_of : OpenWriteState → ℕ
-left_of c = touched c.at (length c.bytes) + 1 - c.stored
+abbrev pub stores_left : OpenWriteState → ℕ
+stores_left c = touched c.at (length c.bytes) + 1 - c.stored
 
 -- the version word of its object: the next version once all is stored
 abbrev pub stamp_of : OpenWriteState → ℕ
-stamp_of c = if nat_eq (left_of c) 0 then c.version + 1 else c.version
+stamp_of c = if nat_eq (stores_left c) 0 then c.version + 1 else c.version
 
 -- An open write: the object is Moving, without pins; its memory words are those that it had, with
 -- the front of the write that is stored; and its version has a next one.

@@ -1,6 +1,6 @@
 -- Spans and free frames once the object in a slot is gone.
 use Rattle.std.specs.Prelude.{◌≡◌, ℕ, Bool, ◌<◌, ◌==◌, List, Option, None, Some, length, slice_set, if◌then◌else◌}
-use Rattle.cb_frame.specs.FreeFrames.{IsFree, with_given}
+use Rattle.cb_frame.specs.FreeFrames.{IsFreeFrame, with_given}
 use Rattle.cb_span.specs.Contents.{Contents, IsSpan, with_cleared, live_count}
 use Rattle.cb_span.specs.Places.{slot_place}
 use Rattle.cb_world.specs.FarState.{FarState, span_in}
@@ -34,4 +34,4 @@ pub record IsSlotAt (frames : List Bool) (spans : List (Option Contents)) (place
   pub valid : IsSpan span
   pub within : f < length spans
   pub counted : f < length frames
-  pub busy : ¬ (IsFree frames f)
+  pub busy : ¬ (IsFreeFrame frames f)

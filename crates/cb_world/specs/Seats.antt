@@ -65,7 +65,7 @@ abbrev pub with_pins : List SeatState → ℕ → List Pin → List SeatState
 with_pins seats seat pins = slice_set seats seat (record (seat_at seats seat) { pins = pins })
 
 -- the pin at this place is the newest one on the object
-pub record IsNewest (pins : List Pin) (h at : ℕ) : Type 0 where
+pub record IsNewestOf (pins : List Pin) (h at : ℕ) : Type 0 where
   pub pin : Pin
   pub there : slice_get pins at ≡ Some pin
   pub on : pin.handle ≡ h
@@ -77,9 +77,9 @@ abbrev pub NoneOn : List Pin → ℕ → Type 0
 NoneOn pins h = (at : ℕ) (pin : Pin) → slice_get pins at ≡ Some pin → pin.handle ≢ h
 
 -- how many of these pins are on the object
-abbrev pub pins_on : ℕ → List Pin → ℕ
-pins_on h pins = sum_by (λ pin. if nat_eq pin.handle h then 1 else 0) pins
+abbrev pub pins_among : ℕ → List Pin → ℕ
+pins_among h pins = sum_by (λ pin. if nat_eq pin.handle h then 1 else 0) pins
 
 -- how many pins all seats have on the object
 abbrev pub all_pins_on : ℕ → List SeatState → ℕ
-all_pins_on h seats = sum_by (λ seat. pins_on h seat.pins) seats
+all_pins_on h seats = sum_by (λ seat. pins_among h seat.pins) seats

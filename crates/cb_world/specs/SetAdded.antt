@@ -5,7 +5,7 @@ use Rattle.std.specs.FinMap as map
 use Rattle.cb_gf256.specs.Rows.{row_at}
 use Rattle.cb_member.specs.declared.names.NodeId.{NodeId}
 use Rattle.cb_member.specs.declared.names.Shard.{Shard}
-use Rattle.cb_node.specs.NodesState.{row_at as row_under}
+use Rattle.cb_node.specs.NodesState.{row_under}
 use Rattle.cb_set.specs.SetState.{SetState, position_of, live_at, slot_at}
 use Rattle.cb_set.specs.Lost.{is_lost}
 use Rattle.cb_world.specs.declared.object.Object.{Object}
@@ -36,7 +36,7 @@ pub record IsUntouched (s t : Shown) (far new : FarState) (set : SetState) (h : 
   pub absent : (p slot : ℕ) → slot_at set p slot ≡ Some h → ⊥
 
 -- the object is put away into the set
-pub record IsMoved (s t : Shown) (far new : FarState) (id : ℕ) (set : SetState)
+pub record IsMovedIntoSet (s t : Shown) (far new : FarState) (id : ℕ) (set : SetState)
     (rows : List (List ℕ)) (h : ℕ) : Type 0 where
   pub position : ℕ
   pub slot : ℕ
@@ -82,4 +82,4 @@ pub record IsSetAdded (s t : Shown) (far new : FarState) (id : ℕ) (set : SetSt
   pub survey : new.survey ≡ far.survey
   pub batch : (b : LeavingState) → far.leaving ≡ Some b → batch_rows t b ≡ batch_rows s b
   pub unpaired : IsUnpaired far id
-  pub each : (h : ℕ) → IsUntouched s t far new set h ⊎ IsMoved s t far new id set rows h
+  pub each : (h : ℕ) → IsUntouched s t far new set h ⊎ IsMovedIntoSet s t far new id set rows h

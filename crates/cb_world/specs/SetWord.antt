@@ -5,7 +5,7 @@ use Rattle.cb_gf256.specs.CodeWord.{IsCodeWord}
 use Rattle.cb_gf256.specs.InRange.{IsInRange}
 use Rattle.cb_member.specs.declared.names.Shard.{Shard}
 use Rattle.cb_member.specs.Membership.{Membership, incarnation}
-use Rattle.cb_node.specs.NodesState.{NodesState, row_at as row_under}
+use Rattle.cb_node.specs.NodesState.{NodesState, row_under}
 use Rattle.cb_set.specs.SetState.{SetState, parities}
 use Rattle.cb_set.specs.Lost.{is_lost, lost}
 use Rattle.cb_set.specs.Nodes.{OnDistinctNodes}

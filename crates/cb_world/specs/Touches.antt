@@ -6,19 +6,19 @@ use Rattle.cb_world.specs.Shown.{Covers}
 
 -- the event is at a word of this object: its pointer word, its version word, or one of the memory
 -- words that hold so many bytes from the place on
-abbrev pub IsOf : ℕ → ℕ → ℕ → Event → Type 0
-IsOf h place len (Looked k w) = k ≡ h
-IsOf h place len (Claimed k w v words) = k ≡ h
-IsOf h place len (Told k v) = k ≡ h
-IsOf h place len (Loaded p x) = Covers place len p
-IsOf h place len (Stored p x) = Covers place len p
-IsOf h place len (Stamped k v) = k ≡ h
-IsOf h place len (Settled k w) = k ≡ h
+abbrev pub IsAtObject : ℕ → ℕ → ℕ → Event → Type 0
+IsAtObject h place len (Looked k w) = k ≡ h
+IsAtObject h place len (Claimed k w v words) = k ≡ h
+IsAtObject h place len (Told k v) = k ≡ h
+IsAtObject h place len (Loaded p x) = Covers place len p
+IsAtObject h place len (Stored p x) = Covers place len p
+IsAtObject h place len (Stamped k v) = k ≡ h
+IsAtObject h place len (Settled k w) = k ≡ h
 
 -- every event is at a word of this object
 abbrev pub Touches : ℕ → ℕ → ℕ → List Event → Type 0
 Touches h place len [] = Unit {0}
-Touches h place len (e ∷ es) = IsOf h place len e × Touches h place len es
+Touches h place len (e ∷ es) = IsAtObject h place len e × Touches h place len es
 
 -- no memory word is stored
 abbrev pub NoStore : List Event → Type 0

@@ -4,7 +4,7 @@ ghost use Rattle.cb_set.specs.Lost.{lost};
 ghost use Rattle.cb_world.specs.SetWord.{IsShaped, IsWordOf};
 ghost use Rattle.cb_set.specs.SetState.{parities};
 ghost use Rattle.cb_set.specs.Surviving.{surviving};
-ghost use Rattle.cb_world.specs.Fetched.{StandAt, with_given};
+ghost use Rattle.cb_world.specs.Fetched.{StandAt, with_rows_given};
 
 use cb_erase::solve;
 use cb_gf256::Rows;
@@ -43,9 +43,9 @@ pub fn solved(
     requires shaped { IsShaped members.now set.now }
     requires few { length (lost members.now set.now.shards) ≤ parities set.now }
     requires word { (rows : List (List ℕ)) × IsWordOf nodes.old members.now set.now rows }
-    ensures nodes { OnOk result (nodes.new ≡ with_given nodes.old (length set.now.positions)) }
+    ensures nodes { OnOk result (nodes.new ≡ with_rows_given nodes.old (length set.now.positions)) }
     ensures error { OnErr result ((n : ℕ) × (n ≤ length set.now.positions)
-        × (nodes.new ≡ with_given nodes.old n)) }
+        × (nodes.new ≡ with_rows_given nodes.old n)) }
     ensures rows { IfOk result (λ word. (rows : List (List ℕ)) → IsWordOf nodes.old members.now set.now rows → rows ≡ word) }
 {
     let k = set.k();

@@ -5,7 +5,7 @@ ghost use Rattle.cb_world.specs.Sets.{set_in};
 ghost use Rattle.cb_world.specs.SetWord.{is_broken};
 ghost use Rattle.cb_world.specs.Stored.{AreThere, all_dropped};
 ghost use Rattle.cb_world.specs.declared.homes.Home.{Home};
-ghost use Rattle.cb_world.specs.LeftOver.{LiesIn, set_without, with_dropped, with_left, without_far};
+ghost use Rattle.cb_world.specs.LeftOver.{LiesIn, set_without, with_left, with_set_dropped, without_far};
 
 use crate::far::Far;
 use crate::homes::Home;
@@ -70,7 +70,7 @@ fn drop_if_dead(far: &mut Far, id: u64)
     requires set { (set : SetState) × (set_in far.old.sets id ≡ Some set)
         × AreThere far.old.nodes set.shards × NodesAreMembers far.old.members set.shards }
     ensures { (set : SetState) → set_in far.old.sets id ≡ Some set
-        → far.new ≡ (if is_live set then far.old else with_dropped far.old id set) }
+        → far.new ≡ (if is_live set then far.old else with_set_dropped far.old id set) }
 {
     let Some(set) = far.sets.committed(id) else {
         return;

@@ -1,9 +1,9 @@
 ghost use Rattle.std.specs.Prelude.{◌≡◌, ◌<◌, ◌≤◌, ℕ, ◌+◌, ◌^◌, true, false, List, [], ◌++◌, ◌∷◌, length, replicate, Option, Some, None, IfSome, IfNone, IfOk, OnOk, OnErr, slice_get, slice_set};
 ghost use Rattle.std.specs.List.{remove};
 ghost use Rattle.cb_world.specs.declared.seats.Pin.{Pin};
-ghost use Rattle.cb_world.specs.OpenWrites.{left_of, touched};
+ghost use Rattle.cb_world.specs.OpenWrites.{stores_left, touched};
 ghost use Rattle.cb_world.specs.OpenSteps.{IsClaimOn, NoClaimOn, NoneHolds, stored_once};
-ghost use Rattle.cb_world.specs.Seats.{SeatState, OpenWriteState, Holds, IsNewest, NoneOn, claims_of_seat, idle_seat, pins_of_seat, seat_at, with_claims, with_holds, with_pins};
+ghost use Rattle.cb_world.specs.Seats.{SeatState, OpenWriteState, Holds, IsNewestOf, NoneOn, claims_of_seat, idle_seat, pins_of_seat, seat_at, with_claims, with_holds, with_pins};
 
 use arrayvec::ArrayVec;
 use cb_member::NoMemory;
@@ -61,7 +61,7 @@ impl OpenWrite {
     pub fn left(&self) -> u32
         requires end { self.now.at + length self.now.bytes < 2 ^ 31 }
         requires few { self.now.stored ≤ touched self.now.at (length self.now.bytes) + 1 }
-        ensures { result ≡ left_of self.now }
+        ensures { result ≡ stores_left self.now }
     {
         touched(self.at, self.bytes.len() as u32) + 1 - self.stored
     }
@@ -153,7 +153,7 @@ impl Seats {
     /// The place of the seat's newest pin on an object, None exactly where it has none.
     pub fn newest(&self, seat: u32, handle: u32) -> Option<u32>
         requires { seat < length self.now }
-        ensures found { IfSome result (λ at. IsNewest (pins_of_seat self.now seat) handle at) }
+        ensures found { IfSome result (λ at. IsNewestOf (pins_of_seat self.now seat) handle at) }
         ensures none { IfNone result (NoneOn (pins_of_seat self.now seat) handle) }
     {
         let pins = self.pins(seat);
@@ -323,7 +323,7 @@ fn claim_among(claims: &[OpenWrite], handle: u32) -> Option<usize>
 /// The place of the last of these pins on an object, None exactly where none is on it.
 fn newest_among(pins: &[Pin], handle: u32) -> Option<u32>
     requires { length pins.now ≤ 16 }
-    ensures found { IfSome result (λ at. IsNewest pins.now handle at) }
+    ensures found { IfSome result (λ at. IsNewestOf pins.now handle at) }
     ensures none { IfNone result (NoneOn pins.now handle) }
 {
     let mut left = pins.len() as u32;

@@ -4,7 +4,7 @@ use Rattle.cb_workers.specs.declared.worker.Worker.{Worker}
 use Rattle.cb_shared.specs.Passes.{record_of}
 use Rattle.cb_lanes.specs.declared.body.LaneEnd.{LaneEnd}
 use Rattle.cb_app.specs.ByLane.{by_lane, of_lane}
-use Rattle.cb_app.specs.Crew.{IsTold, lines_due, lines_left, work_in}
+use Rattle.cb_app.specs.Crew.{IsLaneTold, lines_due, lines_left, work_in}
 use Rattle.cb_app.proofs.Crews.{all_told, left_apart, same_maps, told_again, told_left}
 use Rattle.cb_app.proofs.ScopesTold.{first_answers}
 use Rattle.cb_app.proofs.WorkDone.{all_made, for_each}
@@ -57,7 +57,7 @@ returns g c =
     let a = c.args.first.now in
     let b : LaneEnd = record { answers = a.answers; pass = c.deal.new.pass } in
     record {
-      told = IfOk-weaker c.gather.result _ (λ x. IsTold s [] (by_lane lines) c.gather.new.first)
+      told = IfOk-weaker c.gather.result _ (λ x. IsLaneTold s [] (by_lane lines) c.gather.new.first)
           (λ x told. all_told s lines a b c.gather.new.first tasks ends c.requires.first refl
           c.in_ok-tasks.ensures.dealt same told) c.gather.ensures.told;
       work = for_each c.gather.result (λ w. s.config.turns ≤ work_in w (record_of c.gather.new.first.pass)) (λ w.

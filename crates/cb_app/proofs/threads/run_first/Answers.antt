@@ -8,7 +8,7 @@ use Rattle.cb_lanes.specs.AloneUntil.{LaneKeepsAlone}
 use Rattle.cb_lanes.specs.Bodies.{AreNamesOf, KnowsNames}
 use Rattle.cb_lanes.proofs.Laws.{lane_on_record}
 use Rattle.cb_app.specs.ByLane.{of_lane}
-use Rattle.cb_app.specs.Crew.{IsFresh}
+use Rattle.cb_app.specs.Crew.{IsFreshRecord}
 use Rattle.cb_app.proofs.AnswersRise.{none_known}
 use Rattle.cb_app.proofs.Crews.{of_lane_lines}
 use Rattle.cb_app.proofs.Records.{first_known, lane_told, opener_fresh}
@@ -24,7 +24,8 @@ lane_body-requires-clause-lines g c = λ κs within.
 pub returns-in-Ok-clause-told : goal.returns-in-Ok-clause-told
 returns-in-Ok-clause-told g c =
     let named = subst (λ (ns : List Named). AreNamesOf ns []) (sym c.new-names.ensures.empty) (λ name. refl) in
-    let fresh = subst IsFresh (sym c.requires.begun.begun) (opener_fresh c.args.s.now.config) in
+    let fresh = subst IsFreshRecord (sym c.requires.begun.begun)
+    (opener_fresh c.args.s.now.config) in
     let nodes = c.args.shared.now.config.nodes in
     let are : AreLines nodes [] c.args.s.now.lines = rw c.requires.begun.config c.requires.lines in
     let lines : c.as_slice-2.result.now ≡ of_lane 0 c.args.s.now.lines =
@@ -46,6 +47,7 @@ returns-in-Ok-clause-known g c =
 pub returns-in-Ok-clause-stand : goal.returns-in-Ok-clause-stand
 returns-in-Ok-clause-stand g c =
     let named = subst (λ (ns : List Named). AreNamesOf ns []) (sym c.new-names.ensures.empty) (λ name. refl) in
-    let fresh = subst IsFresh (sym c.requires.begun.begun) (opener_fresh c.args.s.now.config) in
+    let fresh = subst IsFreshRecord (sym c.requires.begun.begun)
+    (opener_fresh c.args.s.now.config) in
     lane_on_record c.args.shared.now.config c.new-names.result c.in-Ok.end.answers (record_of c.args.pass)
     (record_of c.in-Ok.end.pass) fresh.pins c.in-Ok.ensures.goes [] named

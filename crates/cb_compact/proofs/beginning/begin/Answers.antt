@@ -7,8 +7,8 @@ use Rattle.cb_world.specs.Sets.{set_in}
 use Rattle.cb_world.specs.Sound.{Sound}
 use Rattle.cb_world.proofs.Laws.{no_pair_sound}
 use Rattle.cb_compact.specs.declared.candidates.Match.{Match}
-use Rattle.cb_compact.specs.Pairing.{IsFirstPair, begun_pair, with_pair}
-use Rattle.cb_compact.proofs.Begins.{begun_keeps}
+use Rattle.cb_compact.specs.PairStep.{IsFirstPair, begun_pair, with_pair}
+use Rattle.cb_compact.proofs.PairSound.{begun_keeps}
 use Rattle.cb_compact.proofs.TableExists.{table_exists}
 use Rattle.cb_compact.proofs.beginning.begin.Goals as goal
 

@@ -6,7 +6,7 @@ use Rattle.cb_world.specs.FarSound.{AwaySound}
 use Rattle.cb_compact.specs.declared.candidates.Candidate.{Candidate}
 use Rattle.cb_compact.specs.declared.candidates.Match.{Match}
 use Rattle.cb_compact.specs.Candidates.{AreFirsts, IsFirstMatch, NoneMatch}
-use Rattle.cb_compact.specs.Pairing.{IsFirstPair, NoneCanJoin}
+use Rattle.cb_compact.specs.PairStep.{IsFirstPair, NoneCanJoin}
 use Rattle.cb_compact.specs.Tables.{AreMasks}
 use Rattle.cb_compact.proofs.Choosing.{are_masks, none_found, pair_found}
 use Rattle.cb_compact.proofs.candidates.search.Goals as goal

@@ -1,6 +1,6 @@
 use Rattle.std.proofs.Common.{ap, ◌∙◌}
 use Rattle.cb_compact.specs.NowGoing.{with_keys}
-use Rattle.cb_compact.specs.Standing.{with_parted}
+use Rattle.cb_compact.specs.PartStep.{with_parted}
 use Rattle.cb_compact.proofs.NowEnds.{gone_there}
 use Rattle.cb_compact.proofs.compacting.go_through.Goals as goal
 

@@ -1,7 +1,7 @@
 use Rattle.std.proofs.Common.{◌<◌, length, arith, subst}
 use Rattle.cb_compact.proofs.NowEnds.{gone_all, gone_sound}
-use Rattle.cb_compact.proofs.NowGone.{GoesOn, gone_on, none_gone}
-use Rattle.cb_compact.proofs.OneStep.{few_steps}
+use Rattle.cb_compact.proofs.NowGone.{StepGoesOn, gone_on, none_gone}
+use Rattle.cb_compact.proofs.PatchSound.{few_steps}
 use Rattle.cb_compact.proofs.compacting.take_steps.Goals as goal
 
 pub step_count-position-end-requires : goal.step_count-position-end-requires
@@ -46,7 +46,7 @@ returns-in-Some-clause-gone c =
     let within : n < length x.pair.steps =
     let l = c.loop-position-test.true in let e = c.step_count-position-end.ensures q.0 q.3.was in
     let m = x.count q.0 q.3.was in omega (arith, l, e, m) in
-    let y = subst (GoesOn begun c.try_step.new.far n) c.in-Some.is
+    let y = subst (StepGoesOn begun c.try_step.new.far n) c.in-Some.is
     (gone_on s.0 begun far c.try_step.new.far n c.in_ok-node.field-0
     (gone_sound s.0 begun far n s.1 x) x
     (c.in_ok-node.ensures.step x.pair x.a x.b x.fresh within x.below)) in
@@ -60,7 +60,7 @@ loop-position-preserved c =
     let within : n < length x.pair.steps =
     let l = c.loop-position-test.true in let e = c.step_count-position-end.ensures q.0 q.3.was in
     let m = x.count q.0 q.3.was in omega (arith, l, e, m) in
-    subst (GoesOn begun c.try_step.new.far n) c.in_default.is
+    subst (StepGoesOn begun c.try_step.new.far n) c.in_default.is
     (gone_on s.0 begun far c.try_step.new.far n c.in_ok-node.field-0
     (gone_sound s.0 begun far n s.1 x) x
     (c.in_ok-node.ensures.step x.pair x.a x.b x.fresh within x.below))

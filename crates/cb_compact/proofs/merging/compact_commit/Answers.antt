@@ -3,8 +3,8 @@ use Rattle.cb_world.specs.FarState.{FarState}
 use Rattle.cb_world.specs.Now.{now}
 use Rattle.cb_world.specs.Reserved.{put_shards}
 use Rattle.cb_world.specs.Sound.{Sound}
-use Rattle.cb_compact.proofs.Keeping.{dropped_given, parted_keeps, steps_there}
-use Rattle.cb_compact.proofs.Committed.{merge_ends, merge_ends_given, merges_on}
+use Rattle.cb_compact.proofs.CompactKeeps.{dropped_given, parted_keeps, steps_there}
+use Rattle.cb_compact.proofs.MergeSound.{merge_ends, merge_ends_given, merges_on}
 use Rattle.cb_compact.proofs.merging.compact_commit.Goals as goal
 
 pub how_it_stands-requires : goal.how_it_stands-requires

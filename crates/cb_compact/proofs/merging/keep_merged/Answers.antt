@@ -5,7 +5,7 @@ use Rattle.cb_world.specs.FarState.{FarState}
 use Rattle.cb_world.specs.Joining.{JoiningState}
 use Rattle.std.proofs.lemmas.Result.{on_ok_weaker}
 use Rattle.cb_compact.specs.MergeStep.{merged_set}
-use Rattle.cb_compact.specs.Merging.{AreTables}
+use Rattle.cb_compact.specs.Merging.{AreSlotTables}
 use Rattle.cb_compact.proofs.Committing.{ready_data, ready_shards, ready_steps, tables_a, tables_b}
 use Rattle.cb_compact.proofs.Looked.{looked_some, looked_up}
 use Rattle.cb_compact.proofs.Ready.{unwrapped}
@@ -82,7 +82,7 @@ merged-requires-clause-a_tables c =
     c.pair.inside.a x.1.a x.2 c.committed.ensures c.unwrap-a.ensures (ap (λ (f : FarState).
     f.sets) v)
     (ap (λ (q : JoiningState). q.a) (c.pair.view_is ∙ sym e)) x.4.fresh.a_stands.there in
-    subst AreTables (sym a_is) (tables_a x.0 c.args.far.now x.1 x.2 x.3 x.4)
+    subst AreSlotTables (sym a_is) (tables_a x.0 c.args.far.now x.1 x.2 x.3 x.4)
 
 pub merged-requires-clause-b_tables : goal.merged-requires-clause-b_tables
 merged-requires-clause-b_tables c =
@@ -95,7 +95,7 @@ merged-requires-clause-b_tables c =
     c.pair.inside.b x.1.b x.3 c.committed-2.ensures c.unwrap-b.ensures (ap (λ (f : FarState).
     f.sets) v)
     (ap (λ (q : JoiningState). q.b) (c.pair.view_is ∙ sym e)) x.4.fresh.b_stands.there in
-    subst AreTables (sym b_is) (tables_b x.0 c.args.far.now x.1 x.2 x.3 x.4)
+    subst AreSlotTables (sym b_is) (tables_b x.0 c.args.far.now x.1 x.2 x.3 x.4)
 
 pub returns-clause-kept : goal.returns-clause-kept
 returns-clause-kept c =

@@ -7,8 +7,8 @@ use Rattle.cb_world.specs.Joining.{JoiningState}
 use Rattle.cb_types.specs.declared.reply.Reply.{Reply}
 use Rattle.cb_types.specs.declared.reply.Reply.TheVariants as answer
 use Rattle.cb_compact.specs.MergeStep.{IsMerged, Merges}
-use Rattle.cb_compact.specs.Standing.{IsFreshPair}
-use Rattle.cb_compact.proofs.OneStep.{few_steps}
+use Rattle.cb_compact.specs.PartStep.{IsFreshPair}
+use Rattle.cb_compact.proofs.PatchSound.{few_steps}
 use Rattle.cb_compact.proofs.merging.merge_on.Goals as goal
 
 all_merge : (far new : FarState) (r : Result Reply NoMemory)

@@ -1,7 +1,7 @@
 use Rattle.std.proofs.Common.{◌≤◌, length, sym, ap, ap₂, ◌∙◌, subst}
 use Rattle.cb_world.specs.FarState.{FarState}
 use Rattle.cb_world.specs.Joining.{JoiningState}
-use Rattle.cb_compact.specs.Steps.{undone}
+use Rattle.cb_compact.specs.PatchStep.{undone}
 use Rattle.cb_compact.proofs.Ready.{unwrapped}
 use Rattle.cb_compact.proofs.merging.undone_positions.Goals as goal
 

@@ -3,7 +3,7 @@ use Rattle.cb_world.specs.FarState.{FarState}
 use Rattle.cb_world.specs.Now.{now}
 use Rattle.cb_world.specs.Reserved.{put_shards}
 use Rattle.cb_world.specs.Sound.{Sound}
-use Rattle.cb_compact.proofs.Keeping.{dropped_given, parted_keeps, steps_there}
+use Rattle.cb_compact.proofs.CompactKeeps.{dropped_given, parted_keeps, steps_there}
 use Rattle.cb_compact.proofs.Looked.{none_pair, some_pair}
 use Rattle.cb_compact.proofs.parting.compact_part.Goals as goal
 

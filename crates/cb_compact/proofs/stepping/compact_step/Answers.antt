@@ -3,8 +3,8 @@ use Rattle.cb_world.specs.FarState.{FarState}
 use Rattle.cb_world.specs.Now.{now}
 use Rattle.cb_world.specs.Reserved.{put_shards}
 use Rattle.cb_world.specs.Sound.{Sound}
-use Rattle.cb_compact.proofs.Keeping.{dropped_given, parted_keeps, steps_there}
-use Rattle.cb_compact.proofs.OneStep.{patch_ends, patch_ends_given, steps_on}
+use Rattle.cb_compact.proofs.CompactKeeps.{dropped_given, parted_keeps, steps_there}
+use Rattle.cb_compact.proofs.PatchSound.{patch_ends, patch_ends_given, steps_on}
 use Rattle.cb_compact.proofs.stepping.compact_step.Goals as goal
 
 pub how_it_stands-requires : goal.how_it_stands-requires

@@ -1,7 +1,7 @@
 use Rattle.std.proofs.Common.{◌≤◌, ℕ, IfNone, IfSome, length, sym, ap, ◌∙◌, subst}
 use Rattle.cb_world.specs.FarState.{FarState}
 use Rattle.cb_world.specs.Joining.{JoiningState}
-use Rattle.cb_compact.specs.Steps.{AreDone, IsNext}
+use Rattle.cb_compact.specs.PatchStep.{AreDone, IsNext}
 use Rattle.cb_compact.proofs.Ready.{unwrapped}
 use Rattle.cb_compact.proofs.stepping.next_position.Goals as goal
 

@@ -4,8 +4,8 @@ use Rattle.cb_set.specs.SetState.{SetState}
 use Rattle.cb_world.specs.FarState.{FarState}
 use Rattle.cb_world.specs.Joining.{JoiningState}
 use Rattle.cb_compact.specs.Stepping.{TakesOne, step_reply}
-use Rattle.cb_compact.specs.Steps.{TakesStep}
-use Rattle.cb_compact.proofs.OneStep.{few_steps}
+use Rattle.cb_compact.specs.PatchStep.{TakesStep}
+use Rattle.cb_compact.proofs.PatchSound.{few_steps}
 use Rattle.cb_compact.proofs.stepping.step_on.Goals as goal
 
 taken : (far new : FarState) (pair : JoiningState) (a b : SetState) (p : ℕ) (full : Option NodeId)

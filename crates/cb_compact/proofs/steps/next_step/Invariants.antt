@@ -1,5 +1,5 @@
 use Rattle.std.proofs.Common.{◌≡◌, ℕ, ◌<◌, false}
-use Rattle.cb_compact.specs.Steps.{is_undone}
+use Rattle.cb_compact.specs.PatchStep.{is_undone}
 use Rattle.cb_compact.proofs.steps.next_step.Given as goal
 
 abbrev pub invariant-loop-position : goal.invariant-loop-position

@@ -1,6 +1,6 @@
 use Rattle.std.proofs.Common.{ℕ, ◌+◌, List, length, set, sym, refl, ap, ◌∙◌, subst, arith}
-use Rattle.cb_compact.specs.Steps.{is_undone}
-use Rattle.cb_compact.proofs.Finding.{Found, found_more, found_not, passing}
+use Rattle.cb_compact.specs.PatchStep.{is_undone}
+use Rattle.cb_compact.proofs.Finding.{FoundPassing, found_more, found_not, passing}
 use Rattle.cb_compact.proofs.steps.undone_steps.Goals as goal
 use Rattle.cb_compact.proofs.steps.undone_steps.Goals.{then-is_undone, else-is_undone}
 
@@ -19,8 +19,9 @@ loop-position-preserved c =
     let f = is_undone c.args.pair.now c.args.k in let n = c.loop-position.position in
     elim c.if-is_undone.branch [
       | then-is_undone w ↦
-          subst (λ (l : List ℕ). Found f (n + 1) l c.if-is_undone.count) (sym w.found-is)
-          (subst (λ (k : ℕ). Found f (n + 1) (set c.loop-position.found c.loop-position.count n) k)
+          subst (λ (l : List ℕ). FoundPassing f (n + 1) l c.if-is_undone.count) (sym w.found-is)
+          (subst (λ (k : ℕ). FoundPassing f (n + 1)
+          (set c.loop-position.found c.loop-position.count n) k)
           (sym w.count-is)
           (found_more f n c.loop-position.found c.loop-position.count c.loop-position.invariant
           (let l = c.loop-position-test.true in let e = c.len-position-end.ensures in
@@ -28,8 +29,8 @@ loop-position-preserved c =
           omega (arith, l, e, few, v))
           (sym c.is_undone.ensures ∙ w.if-is_undone.true)))
       | else-is_undone w ↦
-          subst (λ (l : List ℕ). Found f (n + 1) l c.if-is_undone.count) (sym w.found-is)
-          (subst (λ (k : ℕ). Found f (n + 1) c.loop-position.found k) (sym w.count-is)
+          subst (λ (l : List ℕ). FoundPassing f (n + 1) l c.if-is_undone.count) (sym w.found-is)
+          (subst (λ (k : ℕ). FoundPassing f (n + 1) c.loop-position.found k) (sym w.count-is)
           (found_not f n c.loop-position.found c.loop-position.count c.loop-position.invariant
           (sym c.is_undone.ensures ∙ w.if-is_undone.false)))
     ]

@@ -1,5 +1,5 @@
 use Rattle.std.proofs.Common.{◌∙◌}
-use Rattle.cb_core.specs.Turned.{Brings, Finds}
+use Rattle.cb_core.specs.Turned.{Brings, FindsWhere}
 use Rattle.cb_core.proofs.Composing.{bring_lacks_as, brings_as_if, comes_in, err_map, finds_as, holding, shown_after}
 use Rattle.cb_core.proofs.PartsFar.{far_has_home}
 use Rattle.cb_core.proofs.bringing.swap_object.Goals as goal
@@ -17,7 +17,7 @@ bring-requires-clause-sound g c =
 pub returns-clause-comes : goal.returns-clause-comes
 returns-clause-comes g c =
     let x = c.find-place.ensures.finds in
-    comes_in (Finds (λ d es e. g.D.Desk.run d es e) (λ d s. g.D.Desk.shows d s) c.args.h.n) (Brings (λ d es e. g.D.Desk.run d es e) (λ d s. g.D.Desk.shows d s) (g.D.Desk.settings c.args.desk.now) c.args.h.n)
+    comes_in (FindsWhere (λ d es e. g.D.Desk.run d es e) (λ d s. g.D.Desk.shows d s) c.args.h.n) (Brings (λ d es e. g.D.Desk.run d es e) (λ d s. g.D.Desk.shows d s) (g.D.Desk.settings c.args.desk.now) c.args.h.n)
     (holding c.args.desk.now c.args.far.now) (holding c.find-place.new.desk c.args.far.now)
     (holding c.bring.new.desk c.bring.new.far) c.find-place.result c.bring.result x
     (c.is_not_here.ensures.yes c.if-not-is_not_here.false)

@@ -9,7 +9,7 @@ use Rattle.cb_world.specs.declared.homes.Home.{Home}
 use Rattle.cb_world.specs.FarState.{FarState}
 use Rattle.cb_world.specs.Homes.{home_at}
 use Rattle.cb_core.specs.Parts.{NeverLacks}
-use Rattle.cb_core.specs.Turned.{BringLacks, Brings, Declines, Writes}
+use Rattle.cb_core.specs.Turned.{BringLacks, Brings, Declines, WritesObject}
 use Rattle.cb_core.proofs.Composing.{bring_lacks_as, brings_as, far_comes, far_kept, far_kept_if, far_stays, far_stops, holding, is_declined, shown_after}
 use Rattle.cb_core.proofs.DeclinedLooks.{away_after}
 use Rattle.cb_core.proofs.Exits.{configured_as, is_near}
@@ -37,7 +37,7 @@ decline-requires-clause-away g c =
 pub returns-in-Some-clause-writes : goal.returns-in-Some-clause-writes
 returns-in-Some-clause-writes g c =
     let x = c.in_ok-reply.ensures.write in
-    is_declined (Writes (λ d es e. g.D.Desk.run d es e) (λ d s. g.D.Desk.shows d s) c.args.h.n c.args.at c.args.bytes.now) (Declines (λ d es e. g.D.Desk.run d es e) (λ d s. g.D.Desk.shows d s) c.args.h.n c.args.at
+    is_declined (WritesObject (λ d es e. g.D.Desk.run d es e) (λ d s. g.D.Desk.shows d s) c.args.h.n c.args.at c.args.bytes.now) (Declines (λ d es e. g.D.Desk.run d es e) (λ d s. g.D.Desk.shows d s) c.args.h.n c.args.at
     (length c.args.bytes.now)) (Brings (λ d es e. g.D.Desk.run d es e) (λ d s. g.D.Desk.shows d s) (g.D.Desk.settings c.args.desk.now) c.args.h.n)
     (holding c.args.desk.now c.args.far.now) (holding c.write.new.desk c.write.new.far)
     (holding c.decline.new.desk c.write.new.far) c.in_ok-reply.reply c.in-Some.refusal
@@ -62,7 +62,7 @@ bring-requires-clause-sound g c =
 pub returns-in_err-came-clause-error : goal.returns-in_err-came-clause-error
 returns-in_err-came-clause-error g c =
     let x = c.in_ok-reply.ensures.write in let d = c.in_default.ensures.declines.1 in
-    far_stops (Writes (λ d es e. g.D.Desk.run d es e) (λ d s. g.D.Desk.shows d s) c.args.h.n c.args.at c.args.bytes.now) (Declines (λ d es e. g.D.Desk.run d es e) (λ d s. g.D.Desk.shows d s) c.args.h.n c.args.at
+    far_stops (WritesObject (λ d es e. g.D.Desk.run d es e) (λ d s. g.D.Desk.shows d s) c.args.h.n c.args.at c.args.bytes.now) (Declines (λ d es e. g.D.Desk.run d es e) (λ d s. g.D.Desk.shows d s) c.args.h.n c.args.at
     (length c.args.bytes.now)) (Brings (λ d es e. g.D.Desk.run d es e) (λ d s. g.D.Desk.shows d s) (g.D.Desk.settings c.args.desk.now) c.args.h.n)
     (holding c.args.desk.now c.args.far.now) (holding c.write.new.desk c.write.new.far)
     (holding c.decline.new.desk c.write.new.far) c.in_ok-reply.reply
@@ -76,7 +76,7 @@ returns-in_err-came-clause-error g c =
 pub returns-then-not-is_swapped-clause-writes : goal.returns-then-not-is_swapped-clause-writes
 returns-then-not-is_swapped-clause-writes g c =
     let x = c.in_ok-reply.ensures.write in let d = c.in_default.ensures.declines.1 in
-    far_stays (Writes (λ d es e. g.D.Desk.run d es e) (λ d s. g.D.Desk.shows d s) c.args.h.n c.args.at c.args.bytes.now) (Declines (λ d es e. g.D.Desk.run d es e) (λ d s. g.D.Desk.shows d s) c.args.h.n c.args.at
+    far_stays (WritesObject (λ d es e. g.D.Desk.run d es e) (λ d s. g.D.Desk.shows d s) c.args.h.n c.args.at c.args.bytes.now) (Declines (λ d es e. g.D.Desk.run d es e) (λ d s. g.D.Desk.shows d s) c.args.h.n c.args.at
     (length c.args.bytes.now)) (Brings (λ d es e. g.D.Desk.run d es e) (λ d s. g.D.Desk.shows d s) (g.D.Desk.settings c.args.desk.now) c.args.h.n)
     (holding c.args.desk.now c.args.far.now) (holding c.write.new.desk c.write.new.far)
     (holding c.decline.new.desk c.write.new.far) c.in_ok-reply.reply
@@ -98,7 +98,7 @@ pub returns-clause-writes : goal.returns-clause-writes
 returns-clause-writes g c =
     let x = c.in_ok-reply.ensures.write in let d = c.in_default.ensures.declines.1 in
     let is = c.is_swapped.ensures.yes c.if-not-is_swapped.false in
-    far_comes (Writes (λ d es e. g.D.Desk.run d es e) (λ d s. g.D.Desk.shows d s) c.args.h.n c.args.at c.args.bytes.now) (Declines (λ d es e. g.D.Desk.run d es e) (λ d s. g.D.Desk.shows d s) c.args.h.n c.args.at
+    far_comes (WritesObject (λ d es e. g.D.Desk.run d es e) (λ d s. g.D.Desk.shows d s) c.args.h.n c.args.at c.args.bytes.now) (Declines (λ d es e. g.D.Desk.run d es e) (λ d s. g.D.Desk.shows d s) c.args.h.n c.args.at
     (length c.args.bytes.now)) (Brings (λ d es e. g.D.Desk.run d es e) (λ d s. g.D.Desk.shows d s) (g.D.Desk.settings c.args.desk.now) c.args.h.n)
     (holding c.args.desk.now c.args.far.now) (holding c.write.new.desk c.write.new.far)
     (holding c.decline.new.desk c.write.new.far) c.in_ok-reply.reply
@@ -113,7 +113,7 @@ returns-clause-writes g c =
 
 pub returns-then-not-is_not_here-clause-writes : goal.returns-then-not-is_not_here-clause-writes
 returns-then-not-is_not_here-clause-writes g c =
-    is_near (Writes (λ d es e. g.D.Desk.run d es e) (λ d s. g.D.Desk.shows d s) c.args.h.n c.args.at c.args.bytes.now) (Declines (λ d es e. g.D.Desk.run d es e) (λ d s. g.D.Desk.shows d s) c.args.h.n c.args.at
+    is_near (WritesObject (λ d es e. g.D.Desk.run d es e) (λ d s. g.D.Desk.shows d s) c.args.h.n c.args.at c.args.bytes.now) (Declines (λ d es e. g.D.Desk.run d es e) (λ d s. g.D.Desk.shows d s) c.args.h.n c.args.at
     (length c.args.bytes.now))
     (Brings (λ d es e. g.D.Desk.run d es e) (λ d s. g.D.Desk.shows d s) (g.D.Desk.settings c.args.desk.now) c.args.h.n)
     (holding c.args.desk.now c.args.far.now) (holding c.write.new.desk c.write.new.far)

@@ -3,7 +3,7 @@ use Rattle.std.specs.Prelude.{IfOk, OnErr}
 use Rattle.cb_core.specs.declared.event.Event.{Event}
 use Rattle.cb_core.specs.declared.event.Event.TheVariants as event
 use Rattle.cb_core.specs.Run.{LeavesAsBefore}
-use Rattle.cb_core.specs.Step.{Stops, SeatTurn}
+use Rattle.cb_core.specs.Step.{EventStops, SeatTurn}
 use Rattle.cb_core.specs.Unavailable.{TellsUnavailable}
 use Rattle.cb_core.proofs.Composing.{err_map, if_map}
 use Rattle.cb_core.proofs.Stopping.{stop_leaves}
@@ -26,5 +26,5 @@ returns-in-Turn-clause-leaves c =
     subst (λ (e : Event). OnErr c.seat_turn.result (LeavesAsBefore w e c.seat_turn.new.world))
     (sym c.in-Turn.is)
     (err_map (LeavesAsBefore w (event.Turn c.in-Turn.seat job) c.seat_turn.new.world)
-    (Stops w (event.Turn c.in-Turn.seat job) c.seat_turn.new.world) c.seat_turn.result c.seat_turn.ensures.error
+    (EventStops w (event.Turn c.in-Turn.seat job) c.seat_turn.new.world) c.seat_turn.result c.seat_turn.ensures.error
     (λ stops. stop_leaves (event.Turn c.in-Turn.seat job) w c.seat_turn.new.world c.requires.sound stops))

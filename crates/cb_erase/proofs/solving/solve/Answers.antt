@@ -8,7 +8,7 @@ use Rattle.cb_gf256.specs.Lagrange.{IsLagrangeFactor, AreFactors}
 use Rattle.cb_gf256.specs.Split.{Splits}
 use Rattle.cb_gf256.specs.InRange.{IsInRange}
 use Rattle.cb_gf256.proofs.PublicLaws.{split_of_same, corner_count, corner_byte, corner_lengths}
-use Rattle.cb_erase.proofs.Words.{IsMade, made_solution, only_solution}
+use Rattle.cb_erase.proofs.Words.{IsWordSolved, made_solution, only_solution}
 use Rattle.cb_erase.proofs.solving.solve.Goals as goal
 
 lost_count : (r : ℕ) (positions : List ℕ) → length positions ≡ 4 → r ≤ 4 → length (take r positions) ≡ r
@@ -70,7 +70,7 @@ restore-requires-clause-lengths c =
     (All-replicate (λ row. length row ≡ length (row_at c.args.rows.now 0)) (c.args.k + c.args.r) (replicate c.row_len.result 0)
     (length-replicate c.row_len.result 0 ∙ sym (c.row_len.ensures.length 0 [] (omega (arith, c.requires.count, c.requires.in_range.data_least)))))
 
-made : (c : goal.After-restore) → IsMade c.args.k c.args.r c.args.present.now (take c.args.r c.lost_positions-positions.result) (corner c.args.k c.args.r c.lost_factors-table.result) c.args.rows.now c.restore.new.out
+made : (c : goal.After-restore) → IsWordSolved c.args.k c.args.r c.args.present.now (take c.args.r c.lost_positions-positions.result) (corner c.args.k c.args.r c.lost_factors-table.result) c.args.rows.now c.restore.new.out
 made c =
     let k = c.args.k in
     let r = c.args.r in

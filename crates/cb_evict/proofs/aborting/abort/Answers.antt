@@ -5,8 +5,8 @@ use Rattle.cb_world.specs.Leaving.{LeavingState}
 use Rattle.cb_world.specs.Reserved.{put_shards}
 use Rattle.cb_world.specs.Stored.{AreThere}
 use Rattle.cb_evict.specs.Claims.{AreApart}
-use Rattle.cb_evict.specs.Restoring.{IsClaimedFrom, Restores}
-use Rattle.cb_evict.proofs.Aborted.{given_up_state, untaken_state, not_aborted, aborts}
+use Rattle.cb_evict.specs.Restoring.{IsClaimedFrom, RestoresClaims}
+use Rattle.cb_evict.proofs.AbortSound.{given_up_state, untaken_state, not_aborted, aborts}
 use Rattle.cb_evict.proofs.Noted.{claimed_all, noted_apart, nodes_there}
 use Rattle.cb_evict.proofs.aborting.abort.Goals as goal
 
@@ -75,5 +75,6 @@ returns-clause-abort g c =
     (given_up_state _ c.args.far.now c.forget.new.far c.in-Some.batch c.take.new.self c.far.view_is
     c.take.ensures.after c.forget.ensures)
     (λ s shows. let sized = g.met.D.Desk.sized _ s shows in sized.1 ∙ sym sized.0)
-    (subst (λ (l : List Former). Restores (λ es. g.D.Desk.run c.args.desk.now es c.restore.new.desk)
+    (subst (λ (l : List Former). RestoresClaims
+    (λ es. g.D.Desk.run c.args.desk.now es c.restore.new.desk)
     (λ s. g.D.Desk.shows c.args.desk.now s) l) words c.restore.ensures)

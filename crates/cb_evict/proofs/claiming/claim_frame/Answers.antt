@@ -3,8 +3,8 @@ use Rattle.std.proofs.lemmas.List.{length-append}
 use Rattle.cb_span.specs.Contents.{Contents}
 use Rattle.cb_world.specs.declared.leaving.Former.{Former}
 use Rattle.cb_world.specs.Reserved.{table_of}
-use Rattle.cb_evict.specs.Candidates.{Names}
-use Rattle.cb_evict.specs.Looking.{Has}
+use Rattle.cb_evict.specs.Candidates.{SpanNames}
+use Rattle.cb_evict.specs.Looking.{SpanHas}
 use Rattle.cb_evict.specs.Order.{objects_in}
 use Rattle.cb_evict.proofs.CallParts.{part_more}
 use Rattle.cb_evict.proofs.Filling.{got_span}
@@ -40,7 +40,7 @@ returns-then-claim_span-clause-claims g c =
       more = x.more;
       noted = x.noted;
       each_once = x.each_once;
-      part = part_more (Names spans f) (λ p. ⊥) _ y (λ h. has_names spans f h span there) (λ p z. z) (
+      part = part_more (SpanNames spans f) (λ p. ⊥) _ y (λ h. has_names spans f h span there) (λ p z. z) (
         inl (
           record {
             all = λ h named. y.done.0.0.all h (names_has spans f h span there named);
@@ -73,7 +73,7 @@ returns-else-claim_span-clause-claims g c =
       more = x.more;
       noted = x.noted;
       each_once = x.each_once;
-      part = part_more (Names spans f) (λ p. ⊥) _ y (λ h. has_names spans f h span there) (λ p z. z) (
+      part = part_more (SpanNames spans f) (λ p. ⊥) _ y (λ h. has_names spans f h span there) (λ p z. z) (
         inr (
           y.done.0.0,
           refl,

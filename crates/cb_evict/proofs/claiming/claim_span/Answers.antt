@@ -7,7 +7,7 @@ use Rattle.cb_world.specs.Played.{played}
 use Rattle.cb_world.proofs.Laws.{found_more}
 use Rattle.cb_evict.specs.Claims.{IsHeldAt, AreApart}
 use Rattle.cb_evict.specs.Claiming.{GivesBack}
-use Rattle.cb_evict.specs.Looking.{Has}
+use Rattle.cb_evict.specs.Looking.{SpanHas}
 use Rattle.cb_evict.proofs.Events.{touches_more, found_after}
 use Rattle.cb_evict.proofs.Claims.{claims_nothing}
 use Rattle.cb_evict.proofs.Gathers.{Gathers, gathers_back}
@@ -113,7 +113,8 @@ returns-then-not-claim_slot-clause-claims g c =
       part = record {
         events = es ++ b.events;
         ran = all.ran;
-        touches = touches_more (HasBelow span (i + 1)) (Has span) (λ p. ⊥) (λ p. ⊥) (es ++ b.events)
+        touches = touches_more (HasBelow span (i + 1)) (SpanHas span) (λ p. ⊥) (λ p. ⊥)
+            (es ++ b.events)
             (below_has span (i + 1)) (λ p y. y) all.touches;
         first = all.first;
         done = (
@@ -164,7 +165,7 @@ returns-clause-claims g c =
       part = record {
         events = inv.0;
         ran = inv.2.ran;
-        touches = touches_more (HasBelow span i) (Has span) (λ p. ⊥) (λ p. ⊥) inv.0
+        touches = touches_more (HasBelow span i) (SpanHas span) (λ p. ⊥) (λ p. ⊥) inv.0
             (below_has span i) (λ p y. y) inv.2.touches;
         first = inv.2.first;
         done = (

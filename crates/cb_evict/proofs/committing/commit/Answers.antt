@@ -1,5 +1,5 @@
 use Rattle.std.proofs.Common.{◌≡◌, ℕ, ◌<◌, ◌≤◌, All, List, length, Some, sym, refl, ap, ◌∙◌, subst, arith}
-use Rattle.cb_frame.specs.FreeFrames.{IsFree}
+use Rattle.cb_frame.specs.FreeFrames.{IsFreeFrame}
 use Rattle.cb_span.specs.Contents.{Contents}
 use Rattle.cb_world.specs.declared.leaving.Former.{Former}
 use Rattle.cb_world.specs.FarState.{FarState, span_in}
@@ -8,7 +8,7 @@ use Rattle.cb_evict.specs.Candidates.{AreUnique}
 use Rattle.cb_evict.specs.Claims.{AreApart}
 use Rattle.cb_evict.specs.Closing.{HaveHomes}
 use Rattle.cb_evict.specs.Committing.{HasPlaces}
-use Rattle.cb_evict.specs.Sending.{IsTold, Sends}
+use Rattle.cb_evict.specs.Sending.{IsFormerTold, Sends}
 use Rattle.cb_evict.specs.Waiting.{waiting}
 use Rattle.cb_evict.proofs.BatchReady.{put_at_members, few_shards, has_places, frames_held, frames_within, frames_busy, frames_apart, few_frames, spans_unique, told_all}
 use Rattle.cb_evict.proofs.Commits.{not_committed, short_of_rows, some_items, no_items, committed_state, all_put, commits}
@@ -68,7 +68,7 @@ send-requires-clause-told g c =
     let sized = g.met.D.Desk.sized _ s had.1 in (
       s,
       had.1,
-      subst (λ (l : List Former). All (IsTold s) l) (sym words)
+      subst (λ (l : List Former). All (IsFormerTold s) l) (sym words)
           (told_all s c.args.far.now c.unwrap-batch.result had.2 there (sized.1 ∙ sym sized.0)),
     )
 
@@ -136,7 +136,7 @@ keep_batch-requires-clause-busy g c =
     let had = c.requires.sound in
     let there : c.args.far.now.leaving ≡ Some c.unwrap-batch.result =
     sym (ap (λ (f : FarState). f.leaving) c.far.view_is) ∙ sym c.take.ensures.value ∙ c.unwrap-batch.ensures in
-    subst (λ (x : FarState). All (λ f. ¬ (IsFree x.frames f)) c.unwrap-batch.result.frames)
+    subst (λ (x : FarState). All (λ f. ¬ (IsFreeFrame x.frames f)) c.unwrap-batch.result.frames)
     (sym c.far.view_is) (frames_busy had.0 c.args.far.now c.unwrap-batch.result had.2 there)
 
 pub keep_batch-requires-clause-few : goal.keep_batch-requires-clause-few

@@ -1,5 +1,5 @@
 use Rattle.std.proofs.Common.{◌<◌, ◌++◌, length, get_or, All, sym, ap, ◌∙◌, subst, arith}
-use Rattle.cb_frame.specs.FreeFrames.{IsFree}
+use Rattle.cb_frame.specs.FreeFrames.{IsFreeFrame}
 use Rattle.cb_types.specs.declared.config.Config.{Config}
 use Rattle.cb_types.specs.declared.config.Field.TheVariants.{K}
 use Rattle.cb_world.specs.declared.shown.Shown.{Shown}
@@ -8,7 +8,7 @@ use Rattle.cb_world.specs.FarState.{FarState, span_in}
 use Rattle.cb_evict.specs.Candidates.{AreUnique}
 use Rattle.cb_evict.specs.Loading.{LiesInOne}
 use Rattle.cb_evict.proofs.Events.{are_reads}
-use Rattle.cb_evict.proofs.Evicts.{told_all}
+use Rattle.cb_evict.proofs.EvictSound.{told_all}
 use Rattle.cb_evict.proofs.Ending.{taken_ready, place_in, handles_all, are_read, kept_parities, end_allowed, ended, state_then, homes_then, end_in, spans_touched, frames_below}
 use Rattle.cb_evict.proofs.Restored.{gives_back_ends, settled_end}
 use Rattle.cb_evict.proofs.Standing.{are_unique}
@@ -125,7 +125,7 @@ close_spans-requires-clause-within g c =
 pub close_spans-requires-clause-busy : goal.close_spans-requires-clause-busy
 close_spans-requires-clause-busy g c =
     let kept = c.in-Ok.ensures.kept.kept in
-    subst (λ (y : FarState). All (λ f. ¬ (IsFree y.frames f)) c.args.frames.now)
+    subst (λ (y : FarState). All (λ f. ¬ (IsFreeFrame y.frames f)) c.args.frames.now)
     (sym kept.state) (λ k d l.
     (taken_ready _ c.args.far.now c.args.frames.now c.args.formers.now c.requires.ready.1
     c.requires.taken c.requires.ready.2.sound.here (get_or c.args.frames.now k d)

@@ -12,7 +12,7 @@ use Rattle.cb_world.specs.Sound.{Sound}
 use Rattle.cb_world.specs.Still.{IsStill}
 use Rattle.cb_world.specs.World.{IsConfigured}
 use Rattle.cb_evict.specs.declared.eviction.Eviction.TheVariants.{Refused}
-use Rattle.cb_evict.specs.Evicting.{IsReady, TouchesSpans}
+use Rattle.cb_evict.specs.Evicting.{IsReadyToEvict, TouchesSpans}
 use Rattle.cb_evict.specs.Taking.{AreLooseNow, Takes}
 use Rattle.cb_evict.proofs.Composed.{any_err, both_err, evicts_as, if_ok, leaves_as, on_err, taken_as, taken_enough, takes_evict, takes_fail, takes_few, tried_ready}
 use Rattle.cb_evict.proofs.CallParts.{joins}
@@ -86,7 +86,7 @@ evict_claimed-requires-clause-ready g c =
     let x = taken.tries in let s = c.requires.sound.0 in (
       x.events,
       s,
-      subst (λ (l : List Former). IsReady (λ t. g.D.Desk.shows c.take_spans.new.desk t) c.args.far.now l x.events s)
+      subst (λ (l : List Former). IsReadyToEvict (λ t. g.D.Desk.shows c.take_spans.new.desk t) c.args.far.now l x.events s)
           (sym c.deref-in-Enough.ensures.value)
           (tried_ready c.args.far.now c.in-Enough.formers.items (AreLooseNow c.args.far.now taken.loose) x s
           (g.met.D.Desk.follows _ _ x.events s x.ran c.requires.sound.1).1

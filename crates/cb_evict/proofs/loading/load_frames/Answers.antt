@@ -2,7 +2,7 @@ use Rattle.std.proofs.Common.{◌<◌, ◌≤◌, ◌++◌, length, get_or, ◌�
 use Rattle.std.proofs.lemmas.Option.{slice_get_within}
 use Rattle.cb_gf256.proofs.PublicLaws.{written_count, written_lengths}
 use Rattle.cb_world.specs.declared.shown.Shown.{Shown}
-use Rattle.cb_evict.specs.Loading.{LiesIn, LiesInOne}
+use Rattle.cb_evict.specs.Loading.{LiesInFrame, LiesInOne}
 use Rattle.cb_evict.proofs.Events.{are_reads, loads_append, loads_more}
 use Rattle.cb_evict.proofs.Loads.{frame_read, frame_among}
 use Rattle.cb_evict.proofs.loading.load_frames.Goals as goal
@@ -18,7 +18,7 @@ loop-p-preserved g c =
       inv.0 ++ x.events,
       g.met.D.Desk.more _ _ _ _ _ inv.1 x.ran,
       loads_append (LiesInOne frames) inv.0 x.events inv.2
-          (loads_more (LiesIn f) (LiesInOne frames) x.events
+          (loads_more (LiesInFrame f) (LiesInOne frames) x.events
           (λ i lies. (f, frame_among frames p c.loop-p-test.true, lies)) x.loads),
       written_count rows p bytes ∙ inv.3,
       written_lengths 4096 rows p bytes inv.4 c.load_frame.ensures.sized within,

@@ -1,7 +1,7 @@
 use Rattle.std.proofs.Common.{ℕ, List, [], ◌∷◌, ◌++◌, take, get_or, sym, subst, arith, rules}
 use Rattle.std.proofs.lemmas.List.{take_all, take_more}
 use Rattle.cb_types.specs.declared.config.Config.{Config}
-use Rattle.cb_evict.specs.Candidates.{Names, AreLoose, AreUnique}
+use Rattle.cb_evict.specs.Candidates.{SpanNames, AreLoose, AreUnique}
 use Rattle.cb_evict.specs.Events.{TouchesOnly}
 use Rattle.cb_evict.specs.Looking.{IsIn}
 use Rattle.cb_evict.proofs.Events.{touches_append, touches_more, looks_append, looks_are_first}
@@ -39,7 +39,7 @@ loop-frame-preserved g c =
           (touches_append (IsIn spans (take i frames ++ f ∷ [])) (λ p. ⊥) inv.0 x.events
           (touches_more (IsIn spans (take i frames)) (IsIn spans (take i frames ++ f ∷ [])) (λ p. ⊥) (λ p. ⊥)
           inv.0 (in_more spans (take i frames) f) (λ p y. y) inv.3)
-          (touches_more (Names spans f) (IsIn spans (take i frames ++ f ∷ [])) (λ p. ⊥) (λ p. ⊥)
+          (touches_more (SpanNames spans f) (IsIn spans (take i frames ++ f ∷ [])) (λ p. ⊥) (λ p. ⊥)
           x.events (in_last spans (take i frames) f) (λ p y. y) x.touches)),
       subst (λ (l : List ℕ). AreLoose (inv.0 ++ x.events) spans l c.look_at.new.loose.items) (sym more)
           (frame_looked spans _ frames i inv.0 x.events c.loop-frame.loose.items

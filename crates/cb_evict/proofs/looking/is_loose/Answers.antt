@@ -1,7 +1,7 @@
 use Rattle.std.proofs.Common.{◌≡◌, ℕ, ◌+◌, ◌<◌, List, [], ◌++◌, length, get_or, Option, None, Some, sym, ap, subst, arith, rules}
 use Rattle.std.specs.Option.{IfSome}
 use Rattle.cb_types.specs.declared.config.Config.{Config}
-use Rattle.cb_evict.specs.Looking.{Has}
+use Rattle.cb_evict.specs.Looking.{SpanHas}
 use Rattle.cb_evict.proofs.Events.{touches_append, touches_more, looks_append, looks_are_first}
 use Rattle.cb_evict.proofs.Slots.{HasBelow, slot_handle, slot_more, below_more, below_all, below_has, slot_seen, slot_found, all_found}
 use Rattle.cb_evict.proofs.looking.is_loose.Goals as goal
@@ -52,7 +52,7 @@ returns g c =
     let count = ap (λ (l : List (Option ℕ)). length l) c.slots-slot-items.ensures.slots in record {
       events = inv.0;
       ran = inv.1;
-      touches = touches_more (HasBelow span i) (Has span) (λ p. ⊥) (λ p. ⊥) inv.0 (below_has span i) (λ p y. y) inv.3;
+      touches = touches_more (HasBelow span i) (SpanHas span) (λ p. ⊥) (λ p. ⊥) inv.0 (below_has span i) (λ p y. y) inv.3;
       first = looks_are_first inv.0 inv.2;
       done = (
         inv.2,

@@ -1,6 +1,6 @@
 use Rattle.std.proofs.Common.{refl, rules, inl, inr}
-use Rattle.cb_evict.specs.Candidates.{Names}
-use Rattle.cb_evict.specs.Looking.{Has}
+use Rattle.cb_evict.specs.Candidates.{SpanNames}
+use Rattle.cb_evict.specs.Looking.{SpanHas}
 use Rattle.cb_evict.proofs.CallParts.{part_more}
 use Rattle.cb_evict.proofs.Filling.{got_span}
 use Rattle.cb_evict.proofs.Loose.{has_names, names_has, span_below, span_once}
@@ -24,7 +24,7 @@ returns-then-is_loose-clause-looks g c =
     let there = got_span _ spans f c.get.result c.unwrap-span.result
     c.get.ensures.span c.unwrap-span.ensures in
     let x = c.if-is_loose.ensures in
-    part_more (Names spans f) (λ p. ⊥) _ x (λ h. has_names spans f h span there) (λ p y. y) (
+    part_more (SpanNames spans f) (λ p. ⊥) _ x (λ h. has_names spans f h span there) (λ p y. y) (
       x.done.0,
       inl (λ h named. x.done.1.1 h (names_has spans f h span there named), search rules),
     )
@@ -35,7 +35,7 @@ returns-else-is_loose-clause-looks g c =
     let there = got_span _ spans f c.get.result c.unwrap-span.result
     c.get.ensures.span c.unwrap-span.ensures in
     let x = c.if-is_loose.ensures in let held = x.done.1.1 in
-    part_more (Names spans f) (λ p. ⊥) _ x (λ h. has_names spans f h span there) (λ p y. y) (
+    part_more (SpanNames spans f) (λ p. ⊥) _ x (λ h. has_names spans f h span there) (λ p y. y) (
       x.done.0,
       inr (
         record {

@@ -1,7 +1,7 @@
 use Rattle.std.proofs.lemmas.Result.{IfOk-from_err}
 use Rattle.std.proofs.Common.{[], refl, subst, arith, inl, inr}
 use Rattle.cb_types.specs.declared.config.Field.TheVariants.{Nodes}
-use Rattle.cb_evict.specs.Shipping.{IsNext, Waits}
+use Rattle.cb_evict.specs.Shipping.{IsNextPut, Waits}
 use Rattle.cb_evict.proofs.Composed.{any_err}
 use Rattle.cb_evict.proofs.ShipParts.{refused, shipped, reads_alone}
 use Rattle.cb_evict.proofs.shipping.ship.Goals as goal
@@ -25,7 +25,7 @@ returns-in_err-ship_row-in-Put-clause-error g c =
 pub returns-in-NoBatch-clause-ship : goal.returns-in-NoBatch-clause-ship
 returns-in-NoBatch-clause-ship g c =
     let far = c.args.far.now in
-    let x = subst (IsNext far) c.in-NoBatch.is c.in_ok-next_put.ensures.next in
+    let x = subst (IsNextPut far) c.in-NoBatch.is c.in_ok-next_put.ensures.next in
     refused (λ es. g.D.Desk.run c.args.desk.now es c.args.desk.now)
     (λ s. g.D.Desk.shows c.args.desk.now s) far far _ (g.met.D.Desk.none _) refl
     (λ row. inl (record { none = x; reply = refl; state = refl }))
@@ -33,7 +33,7 @@ returns-in-NoBatch-clause-ship g c =
 pub returns-in-AllShipped-clause-ship : goal.returns-in-AllShipped-clause-ship
 returns-in-AllShipped-clause-ship g c =
     let far = c.args.far.now in
-    let x = subst (IsNext far) c.in-AllShipped.is c.in_ok-next_put.ensures.next in
+    let x = subst (IsNextPut far) c.in-AllShipped.is c.in_ok-next_put.ensures.next in
     refused (λ es. g.D.Desk.run c.args.desk.now es c.args.desk.now)
     (λ s. g.D.Desk.shows c.args.desk.now s) far far _ (g.met.D.Desk.none _) refl
     (λ row. inr (inl (record {
@@ -47,7 +47,7 @@ returns-in-AllShipped-clause-ship g c =
 pub returns-in-NoNode-clause-ship : goal.returns-in-NoNode-clause-ship
 returns-in-NoNode-clause-ship g c =
     let far = c.args.far.now in
-    let x = subst (IsNext far) c.in-NoNode.is c.in_ok-next_put.ensures.next in
+    let x = subst (IsNextPut far) c.in-NoNode.is c.in_ok-next_put.ensures.next in
     refused (λ es. g.D.Desk.run c.args.desk.now es c.args.desk.now)
     (λ s. g.D.Desk.shows c.args.desk.now s) far far _ (g.met.D.Desk.none _) refl
     (λ row. inr (inr (inl (record {
@@ -63,7 +63,7 @@ returns-in-NoNode-clause-ship g c =
 pub returns-in_ok-ship_row-in-Put-clause-ship : goal.returns-in_ok-ship_row-in-Put-clause-ship
 returns-in_ok-ship_row-in-Put-clause-ship g c =
     let far = c.args.far.now in
-    let x = subst (IsNext far) c.in-Put.is c.in_ok-next_put.ensures.next in
+    let x = subst (IsNextPut far) c.in-Put.is c.in_ok-next_put.ensures.next in
     shipped (λ es. g.D.Desk.run c.args.desk.now es c.ship_row.new.desk)
     (λ s. g.D.Desk.shows c.args.desk.now s) far c.ship_row.new.far x.0 c.in-Put.position
     c.in-Put.shard x.1 x.2.0 x.2.1 (c.in_ok-ship_row-in-Put.ensures.ok x.0 x.1)
@@ -94,7 +94,7 @@ returns-in_err-next_put-clause-waits g c = any_err _ _ c.in_err-next_put.ensures
 
 pub returns-in_err-ship_row-in-Put-clause-waits : goal.returns-in_err-ship_row-in-Put-clause-waits
 returns-in_err-ship_row-in-Put-clause-waits g c =
-    let x = subst (IsNext c.args.far.now) c.in-Put.is c.in_ok-next_put.ensures.next in
+    let x = subst (IsNextPut c.args.far.now) c.in-Put.is c.in_ok-next_put.ensures.next in
     let waits : Waits c.args.far.now = (x.0, c.in-Put.position, x.1, x.2.0) in any_err _ _ waits
 
 pub returns-in-NoBatch-clause-error : goal.returns-in-NoBatch-clause-error

@@ -10,7 +10,7 @@ use Rattle.cb_world.specs.Played.{played}
 use Rattle.cb_world.specs.World.{IsConfigured}
 use Rattle.cb_evict.specs.Candidates.{candidates}
 use Rattle.cb_evict.specs.declared.taking.Taken.TheVariants.{Few}
-use Rattle.cb_evict.specs.Finding.{Finds}
+use Rattle.cb_evict.specs.Finding.{FindsSpans}
 use Rattle.cb_evict.specs.Taking.{AreLooseNow, AreLooseStill, Takes}
 use Rattle.cb_evict.proofs.Composed.{any_err, found_loose, if_map, looked_fails, looked_takes, loose_apart, nothing_done, on_err}
 use Rattle.cb_evict.proofs.Loose.{loose_among}
@@ -45,7 +45,7 @@ returns-in-Few-clause-taken g c =
     let shows = λ (s : Shown). g.D.Desk.shows c.args.desk.now s in
     subst (λ (n : Config). Takes runs shows n c.args.far.now (AreLooseNow c.args.far.now)
     (Few c.in-Few.lack c.in-Few.loose c.in-Few.nodes)) c.config-config.ensures
-    (subst (Finds runs shows c.config-config.result c.args.far.now) c.in-Few.is
+    (subst (FindsSpans runs shows c.config-config.result c.args.far.now) c.in-Few.is
     c.in_ok-found.ensures.found)
 
 pub returns-in-Few-clause-error : goal.returns-in-Few-clause-error

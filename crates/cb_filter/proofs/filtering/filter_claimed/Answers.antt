@@ -11,7 +11,7 @@ use Rattle.cb_world.specs.Released.{IsSlotAt}
 use Rattle.cb_world.proofs.Laws.{may_put_back, settled_here, back_written}
 use Rattle.cb_filter.specs.Seats.{Seat, temp_for}
 use Rattle.cb_filter.specs.Copies.{IsVacant, copied_from}
-use Rattle.cb_filter.specs.Plans.{LiesIn, Plans}
+use Rattle.cb_filter.specs.Plans.{LiesAtPlace, Plans}
 use Rattle.cb_filter.specs.ClaimEnds.{IsCarried, IsKnownAt}
 use Rattle.cb_filter.proofs.Copied.{copied_no_look, copied_told, copied_first, copied_settle_last}
 use Rattle.cb_filter.proofs.Cooled.{may_cool, cooled, IsCopied, carried, carry_allowed, agree_first}
@@ -24,7 +24,8 @@ release-requires g c =
     let x = c.requires.seat in let seat = x.0 in
     let plan = subst (Plans far c.plan_move.new.far (temp_for (hot_of w)) c.args.h.n seat)
     c.in-Move.is (c.in-Ok.ensures.plan seat x.1) in
-    let lies = subst (λ (q : FarState). LiesIn q (place_of w) seat) (sym (c.far.view_is ∙ plan.3))
+    let lies = subst (λ (q : FarState). LiesAtPlace q (place_of w) seat)
+    (sym (c.far.view_is ∙ plan.3))
     (lies_beside far (temp_for (hot_of w)) plan.0 c.args.h.n (place_of w) seat c.requires.frames
     plan.2 x.1 plan.1) in
     record {
@@ -94,7 +95,7 @@ returns-in-Move-clause-ends g c =
     let did = c.carry.ensures in let copied = did.0 in let n = did.1 in let count = did.2 in
     let k = did.3 in
     let es = copied_from from place copied ++ Settled h n ∷ [] in
-    let plans = λ (seat : Seat) (lies : LiesIn far from seat).
+    let plans = λ (seat : Seat) (lies : LiesAtPlace far from seat).
     subst (Plans far c.plan_move.new.far temp h seat) c.in-Move.is
     (c.in-Ok.ensures.plan seat lies) in
     let known = λ (s : Shown) (v : ℕ) (words : List ℕ)
@@ -118,7 +119,7 @@ returns-in-Move-clause-ends g c =
       allowed = λ s v words z. carry_allowed s h w v place n words copied (known s v words z) k;
       ends_so = λ s v words z seat lies.
           let plan = plans seat lies in
-          let there = subst (λ (q : FarState). LiesIn q from seat)
+          let there = subst (λ (q : FarState). LiesAtPlace q from seat)
           (sym (c.far.view_is ∙ plan.3))
           (lies_beside far temp plan.0 h from seat c.requires.frames plan.2 lies plan.1) in
           let at = subst (λ (p : ℕ). IsSlotAt c.far.inside.frames c.far.inside.spans p seat.frame seat.number

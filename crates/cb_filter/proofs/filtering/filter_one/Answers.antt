@@ -13,11 +13,11 @@ use Rattle.cb_world.specs.Sound.{Sound}
 use Rattle.cb_world.proofs.Laws.{claim_after, after_claim, claim_found, claim_taken, claim_first, claim_all_allowed, look_after, look_found, look_first, look_allowed, look_sound, look_still, may_put_back, settled_here, back_written, claim_settles_last, look_settles_last}
 use Rattle.cb_filter.specs.Seats.{Seat, temp_for}
 use Rattle.cb_filter.specs.FilterRule.{FilterAs}
-use Rattle.cb_filter.specs.Plans.{LiesIn, Wants}
-use Rattle.cb_filter.specs.ClaimEnds.{Ends, FilterEnds, SeatEnds, IsKnownAt}
+use Rattle.cb_filter.specs.Plans.{LiesAtPlace, Wants}
+use Rattle.cb_filter.specs.ClaimEnds.{ClaimEnds, FilterEnds, SeatEnds, IsKnownAt}
 use Rattle.cb_filter.proofs.Moved.{slot_here, seat_of, seat_lies}
 use Rattle.cb_filter.proofs.Settled.{settled_well, is_still}
-use Rattle.cb_filter.proofs.Filtered.{IsBegun, filter_done, no_memory, known_at, refused_effect, refused_rule}
+use Rattle.cb_filter.proofs.FilterSound.{IsFilterBegun, filter_done, no_memory, known_at, refused_effect, refused_rule}
 use Rattle.cb_filter.proofs.Unmade.{here_made, look_tells}
 use Rattle.cb_filter.proofs.filtering.filter_one.Goals as goal
 
@@ -121,7 +121,7 @@ returns-in-Claimed-clause-filter g c =
     let same = g.met.D.Desk.stays _ _ _ ran in
     IfOk-weaker c.filter_claimed.result
     (λ (r : Reply).
-    Ends (λ (es : List Event). g.D.Desk.run c.try_claim.new.desk es c.filter_claimed.new.desk)
+    ClaimEnds (λ (es : List Event). g.D.Desk.run c.try_claim.new.desk es c.filter_claimed.new.desk)
     (λ (s : Shown) (v : ℕ) (words : List ℕ).
     g.D.Desk.shows c.try_claim.new.desk s × IsKnownAt s far h w v words) h
     (FilterEnds (g.D.Desk.settings c.try_claim.new.desk).frames far new h w r)) _
@@ -134,7 +134,7 @@ returns-in-Claimed-clause-filter g c =
     let stamp = subst (λ (n : ℕ). h < n) (sym sized.2) c.requires.handle in
     let claim = after_claim far s before done h w v words sound.here range stamp tried.4 tried.5
     follows.0 rest.quiet in
-    let b : IsBegun far s first done h w v words = record {
+    let b : IsFilterBegun far s first done h w v words = record {
       sound = sound;
       claim = claim;
       free = tried.5;
@@ -195,7 +195,7 @@ returns-in-Claimed-clause-error g c =
     let stamp = subst (λ (n : ℕ). h < n) (sym sized.2) c.requires.handle in
     let claim = after_claim far s before done h w v words sound.here range stamp tried.4 tried.5
     follows.0 (λ t. refl) in
-    let b : IsBegun far s first done h w v words = record {
+    let b : IsFilterBegun far s first done h w v words = record {
       sound = sound;
       claim = claim;
       free = tried.5;
@@ -206,7 +206,7 @@ returns-in-Claimed-clause-error g c =
       c = slot_here far s h (len_of w) (place_of w) sound claim.here;
     } in b in
     on_err_weaker c.filter_claimed.result
-    (λ (x : (new ≡ far) × ((seat : Seat) → LiesIn far (place_of w) seat
+    (λ (x : (new ≡ far) × ((seat : Seat) → LiesAtPlace far (place_of w) seat
     → Wants far (temp_for (hot_of w)) seat)
     × g.D.Desk.run c.try_claim.new.desk done c.filter_claimed.new.desk).
     let back = λ (s : Shown) (a : g.D.Desk.shows c.args.desk.now s) (sound : Sound s far).

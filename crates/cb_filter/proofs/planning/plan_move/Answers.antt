@@ -8,7 +8,7 @@ use Rattle.cb_span.specs.declared.temp.Temp.{Temp}
 use Rattle.cb_world.specs.FarState.{FarState}
 use Rattle.cb_world.specs.Placed.{IsChosen, IsCrammed, NeedsSpan, Places}
 use Rattle.cb_filter.specs.Seats.{Seat, temp_for}
-use Rattle.cb_filter.specs.Plans.{LiesIn}
+use Rattle.cb_filter.specs.Plans.{LiesAtPlace}
 use Rattle.cb_filter.specs.declared.planning.Kind.{Kind}
 use Rattle.cb_filter.proofs.planning.plan_move.Goals as goal
 
@@ -19,27 +19,27 @@ kind_of seat = record { class = seat.span.class; temp = seat.span.temp }
 -- what was found at the place of an object, and the temperature in which it belongs
 record Looked (far : FarState) (word : ℕ) (temp : Temp) (found : Option Kind) : Type 0 where
   temp_is : temp ≡ temp_for (hot_of word)
-  kind : (seat : Seat) → LiesIn far (place_of word) seat → found ≡ Some (kind_of seat)
+  kind : (seat : Seat) → LiesAtPlace far (place_of word) seat → found ≡ Some (kind_of seat)
 
 looked : (far : FarState) (word : ℕ) (fields : PtrWord) (temp : Temp) (found : Option Kind)
     → fields.place ≡ place_of word → fields.hot ≡ hot_of word → temp ≡ temp_for fields.hot
-    → ((seat : Seat) → LiesIn far fields.place seat → found ≡ Some (kind_of seat))
+    → ((seat : Seat) → LiesAtPlace far fields.place seat → found ≡ Some (kind_of seat))
     → Looked far word temp found
 looked far word fields temp found place hot belongs kind = record {
   temp_is = belongs ∙ ap temp_for hot;
-  kind = λ seat x. kind seat (subst (λ (n : ℕ). LiesIn far n seat) (sym place) x);
+  kind = λ seat x. kind seat (subst (λ (n : ℕ). LiesAtPlace far n seat) (sym place) x);
 }
 
 -- what was found is its class and its temperature
 kind_is : {far : FarState} {word : ℕ} {temp : Temp} {found : Option Kind}
     → Looked far word temp found → (kind : Kind) → found ≡ Some kind → (seat : Seat)
-    → LiesIn far (place_of word) seat → kind ≡ kind_of seat
+    → LiesAtPlace far (place_of word) seat → kind ≡ kind_of seat
 kind_is l kind e seat x = let f = l.kind seat x in cc
 
 -- an object of another temperature
 differs : {far : FarState} {word : ℕ} {temp : Temp} {found : Option Kind}
     → Looked far word temp found → (kind : Kind) → found ≡ Some kind → kind.temp ≢ temp
-    → (seat : Seat) → LiesIn far (place_of word) seat
+    → (seat : Seat) → LiesAtPlace far (place_of word) seat
     → (seat.span.temp ≢ temp_for (hot_of word)) × (kind.class ≡ seat.span.class)
 differs l kind e other seat x =
     let k = kind_is l kind e seat x in (
@@ -86,7 +86,7 @@ returns-in_err-place-clause-error c =
     (ap (λ (p : PtrWord). p.hot) c.unpack-fields.ensures.fields) c.temp_for-temp.ensures
     c.kind_at.ensures in
     at_error c.from_residual.result
-    (λ (seat : Seat) (x : LiesIn c.args.far.now (place_of c.args.word) seat).
+    (λ (seat : Seat) (x : LiesAtPlace c.args.far.now (place_of c.args.word) seat).
     let d = differs l c.in-Some.kind c.in-Some.is
     (c.is_same.ensures.other c.if-is_same.false) seat x in (
       d.0,

@@ -3,7 +3,7 @@ use Rattle.std.specs.List.{All}
 use Rattle.std.proofs.lemmas.Result.{on_ok_weaker}
 use Rattle.cb_types.specs.declared.request.Request.{Request}
 use Rattle.cb_gen.specs.Drawn.{length_made, lengths_of}
-use Rattle.cb_gen.specs.Draws.{drawn, next}
+use Rattle.cb_gen.specs.Draws.{drawn, next_state}
 use Rattle.cb_gen.proofs.Actions.{made_short}
 use Rattle.cb_gen.proofs.OneLine.{both_ok, line_added, lengths_few, noted_more}
 use Rattle.cb_gen.proofs.make.add_line.Goals as goal
@@ -39,7 +39,7 @@ returns-clause-line c =
     c.push.new.self
     (ap (λ (n : ℕ). 1 + n) c.below.ensures.drawn) (c.below-action.ensures.drawn
     ∙ ap (λ (s : ℕ). drawn s 0 16) c.below.ensures.left) (c.below-action.ensures.left
-    ∙ ap next c.below.ensures.left) (c.of.ensures
+    ∙ ap next_state c.below.ensures.left) (c.of.ensures
     ∙ c.requires.noted.noted _) c.in_ok-request.ensures.request c.in_ok-request.ensures.left
     (c.in_ok-push.ensures.ok
     ∙ (λ i. c.args.lines.now ++ record {

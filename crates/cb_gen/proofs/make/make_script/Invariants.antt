@@ -1,6 +1,6 @@
 use Rattle.std.proofs.Common.{◌≡◌, length}
 use Rattle.cb_gen.specs.Drawn.{drawn_lines}
-use Rattle.cb_gen.specs.Noted.{AreNoted}
+use Rattle.cb_gen.specs.Noted.{AreLengthsNoted}
 use Rattle.cb_gen.proofs.make.make_script.Given as goal
 
 -- so many lines were drawn
@@ -10,5 +10,5 @@ invariant-loop-line l =
       lines : record { lines = l.drawn; left = l.draws.state } ≡ drawn_lines l.fn.seed l.fn.lanes
           l._line;
       count : length l.drawn ≡ l._line;
-      noted : AreNoted l.made l.drawn;
+      noted : AreLengthsNoted l.made l.drawn;
     }

@@ -4,7 +4,7 @@ use Rattle.cb_types.specs.declared.request.Request.{Request}
 use Rattle.cb_lanes.specs.Asked.{answer_to}
 use Rattle.cb_lanes.specs.Passing.{goes_in}
 use Rattle.cb_lanes.specs.declared.passing.Passing.{Passing}
-use Rattle.cb_lanes.specs.Names.{handle_in}
+use Rattle.cb_lanes.specs.Names.{request_handle}
 use Rattle.cb_lanes.proofs.ByPass.{line_by}
 use Rattle.cb_lanes.proofs.body.answer_one.Goals as goal
 
@@ -27,7 +27,8 @@ pub returns-clause-line : goal.returns-clause-line
 returns-clause-line g c = IfOk-weaker c.push.result _ _ (λ done added. record {
   reply = c.in_ok-reply.reply;
   goes = line_by (goes_in c.args.shared.now.config) (λ (a : Passing). a.pass.seat.me.0)
-      (handle_in c.args.kept.now c.args.line.now.request) c.args.line.now.request c.args.passing.now
+      (request_handle c.args.kept.now c.args.line.now.request) c.args.line.now.request
+      c.args.passing.now
       c.in_ok-reply.reply c.reply_to.new.lane c.in_ok-reply.ensures.line;
   keeps = c.in_ok-reply.ensures.names;
   answer = added ∙ ap (λ (q : Request). c.args.answers.now

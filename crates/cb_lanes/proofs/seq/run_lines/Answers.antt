@@ -10,7 +10,7 @@ use Rattle.cb_lanes.proofs.Eases.{eases_answered, eases_none}
 use Rattle.cb_lanes.specs.LinesLeft.{AreLeft, lanes_of}
 use Rattle.cb_lanes.proofs.ScopesKept.{line_known, fresh_by, lines_lanes, lines_own, leads_end, split_line, LeadsOn, soundly_end}
 use Rattle.cb_world.specs.World.{empty_world}
-use Rattle.cb_lanes.specs.GivingBack.{lines_of}
+use Rattle.cb_lanes.specs.GivingBack.{lines_by}
 use Rattle.cb_lanes.specs.Lost.{AreInOrder}
 use Rattle.cb_lanes.proofs.LossOrder.{losses_in_order}
 use Rattle.cb_lanes.specs.Names.{kept_number}
@@ -47,7 +47,7 @@ answer_line-requires-clause-some c =
     (search rules) in
     let low = form.1 in
     let at = c.loop-line.invariant.left.counts l.lane.n (omega (arith, low)) in
-    let split = ap (lines_of l.lane.n) (split_line lines i l (search rules) (search rules)) in
+    let split = ap (lines_by l.lane.n) (split_line lines i l (search rules) (search rules)) in
     let own = lines_own l.lane.n (lanes_of (drop (i + 1) lines)) in
     omega (arith, at, split, own)
 
@@ -157,7 +157,7 @@ pub returns-clause-idle : goal.returns-clause-idle
 returns-clause-idle c =
     let past : length c.args.s.now.lines ≤ c.loop-line.line-index = search rules in
     λ seat. c.loop-line.invariant.along.scopes.gone seat
-    (ap (λ (ls : List Line). lines_of seat (lanes_of ls))
+    (ap (λ (ls : List Line). lines_by seat (lanes_of ls))
     (drop_all c.loop-line.line-index c.args.s.now.lines past))
 
 pub returns-clause-calm : goal.returns-clause-calm

@@ -4,7 +4,7 @@ use Rattle.cb_set.specs.SetState.{SetState}
 use Rattle.cb_world.specs.FarState.{FarState}
 use Rattle.cb_world.specs.Joining.{JoiningState}
 use Rattle.cb_compact.proofs.Laws.{as_fresh, unwrapped}
-use Rattle.cb_local.specs.Fetching.{AreFetched, CanFetch, IsFetched}
+use Rattle.cb_local.specs.Fetching.{AreFetched, CanFetch, IsOrderFetched}
 use Rattle.cb_local.proofs.Fetched.{can_fetch, is_fetched}
 use Rattle.cb_local.proofs.fetching.fill_order.Goals as goal
 
@@ -23,7 +23,7 @@ returns-clause-order c pair a b fresh =
     let x = c.requires.ready in let order = c.args.order.now in let far = c.args.far.now in
     let new = c.fetch_rows.new.order in
     as_fresh far x.1 pair x.2 x.3 a b (λ (p : JoiningState) (d e : SetState).
-    IsFetched far p d e new) x.4.fresh fresh
+    IsOrderFetched far p d e new) x.4.fresh fresh
     (is_fetched x.0 far x.1 x.2 x.3 x.4 order x.5 new
     (subst (λ (n : NodesState). AreFetched n x.1 order new)
     (ap (λ (f : FarState). f.nodes) c.far.view_is)

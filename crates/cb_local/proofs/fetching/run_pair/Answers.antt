@@ -2,9 +2,9 @@ use Rattle.std.proofs.Common.{sym, subst}
 use Rattle.cb_set.specs.SetState.{parities}
 use Rattle.cb_compact.proofs.Laws.{table_exists}
 use Rattle.cb_local.specs.declared.order.DeltaOrder.{DeltaOrder}
-use Rattle.cb_local.specs.Delta.{IsDone}
+use Rattle.cb_local.specs.Delta.{HasItsParities}
 use Rattle.cb_local.specs.Words.{AreMergedParities}
-use Rattle.cb_local.specs.Fetching.{IsFetched, rows_given}
+use Rattle.cb_local.specs.Fetching.{IsOrderFetched, rows_given}
 use Rattle.cb_local.proofs.Fetched.{pair_rows}
 use Rattle.cb_local.proofs.fetching.run_pair.Goals as goal
 
@@ -15,13 +15,13 @@ run_delta-requires c = let x = c.requires.ready in
 pub returns-in-Ok-clause-made : goal.returns-in-Ok-clause-made
 returns-in-Ok-clause-made c pair a b fresh =
     let same = sym c.in-Ok.ensures.order in
-    let fetched = subst (IsFetched c.args.far.now pair a b) same
+    let fetched = subst (IsOrderFetched c.args.far.now pair a b) same
     (c.in_ok-order.ensures.order pair a b fresh) in
     let range = fetched.order_is.range in
     let table = table_exists _ _ range in
     record {
       fetched = fetched;
-      count = ((subst (λ (o : DeltaOrder). IsDone o c.in-Ok.done.parities) same
+      count = ((subst (λ (o : DeltaOrder). HasItsParities o c.in-Ok.done.parities) same
           c.in-Ok.ensures.done) table.0 table.1).count;
       parities_are = subst (λ (o : DeltaOrder). AreMergedParities o c.in-Ok.done.parities) same
           c.in-Ok.ensures.merged;

@@ -3,7 +3,7 @@ use Rattle.std.specs.List.{slice_get}
 use Rattle.std.proofs.lemmas.Bool.{cases_eq}
 use Rattle.std.proofs.lemmas.Option.{slice_get-get_or}
 use Rattle.cb_member.specs.declared.names.Shard.{Shard}
-use Rattle.cb_compact.specs.Steps.{is_undone}
+use Rattle.cb_compact.specs.PatchStep.{is_undone}
 use Rattle.cb_compact.proofs.Laws.{few_steps}
 use Rattle.cb_local.proofs.PutStep.{at_places}
 use Rattle.cb_local.proofs.rooms.full_node.Goals as goal

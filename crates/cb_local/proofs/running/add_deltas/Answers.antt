@@ -1,6 +1,6 @@
 use Rattle.std.proofs.Common.{◌<◌, ℕ, List, length, get_or, ap, ap₂, ◌∙◌, subst}
 use Rattle.cb_gf256.specs.Row.{row_sum}
-use Rattle.cb_local.specs.Adding.{IsAdded}
+use Rattle.cb_local.specs.Adding.{IsDeltaAdded}
 use Rattle.cb_local.proofs.Patching.{one_patched}
 use Rattle.cb_local.proofs.running.add_deltas.Goals as goal
 
@@ -14,5 +14,6 @@ loop-i-preserved c =
     one_patched table order c.requires.order n below c.delta.new.into
     (c.delta.ensures ∙ ap₂ row_sum c.row.ensures.value c.row-in-loop-i.ensures.value)
     c.loop-i.parities c.add_delta.new.parities c.loop-i.change c.loop-i.invariant
-    (subst (λ (p : ℕ). IsAdded table p c.delta.new.into c.loop-i.parities c.add_delta.new.parities)
+    (subst (λ (p : ℕ). IsDeltaAdded table p c.delta.new.into c.loop-i.parities
+    c.add_delta.new.parities)
     at c.add_delta.ensures)

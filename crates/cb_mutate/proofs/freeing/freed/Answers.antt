@@ -10,7 +10,7 @@ use Rattle.cb_world.specs.Sound.{Sound}
 use Rattle.cb_world.proofs.Laws.{claim_after, after_claim, claim_found, claim_taken, claim_first, claim_all_allowed, look_after, look_found, look_first, look_allowed, look_sound, look_still, claim_touches, claim_settles_last, look_touches, look_settles_last, looks_played}
 use Rattle.cb_mutate.specs.FreeRule.{FreeAs}
 use Rattle.cb_mutate.specs.FreeEnds.{FreeEnds}
-use Rattle.cb_mutate.proofs.Freed.{slot_here, slot_at, free_done, free_before, free_refused}
+use Rattle.cb_mutate.proofs.FreeSound.{slot_here, slot_at, free_done, free_before, free_refused}
 use Rattle.cb_mutate.proofs.FarFreed.{far_at, far_events, far_freed, far_freed_done, far_worn, far_worn_done, found_far, its_home, no_more, one_look_more}
 use Rattle.cb_mutate.proofs.freeing.freed.Goals as goal
 

@@ -6,10 +6,10 @@ use Rattle.cb_world.specs.declared.shown.Shown.{Shown}
 use Rattle.cb_world.specs.FarState.{FarState}
 use Rattle.cb_world.specs.Sound.{Sound}
 use Rattle.cb_world.specs.Placed.{Places, place_in, with_object}
-use Rattle.cb_mutate.specs.MakeRule.{made_by}
+use Rattle.cb_mutate.specs.MakeRule.{make_events}
 use Rattle.cb_mutate.specs.MakeEnds.{IsNewAt}
 use Rattle.cb_mutate.proofs.NewObject.{made_first}
-use Rattle.cb_mutate.proofs.Made.{some_left, new_at, make_done}
+use Rattle.cb_mutate.proofs.MakeSound.{some_left, new_at, make_done}
 use Rattle.cb_mutate.proofs.making.make.Goals as goal
 
 pub returns-then-far-handles-clause-make : goal.returns-then-far-handles-clause-make
@@ -125,7 +125,7 @@ returns-clause-make g c =
     ∙ ap (λ (i : ℕ). let p : FarState =
     record (with_object far slot i) { made = far.made + 1 } in p) next in
     let r = c.write_new.ensures in
-    let es = made_by h v len place r.words in
+    let es = make_events h v len place r.words in
     let done = λ (s : Shown) (a : g.D.Desk.shows c.args.desk.now s) (sound : Sound s far).
     let sized = g.met.D.Desk.sized _ s a in
     make_done s far _ class slot h v bytes r.words (record {
@@ -142,7 +142,7 @@ returns-clause-make g c =
     }) r.packed new in
     record {
       events = es;
-      ran = subst (λ (p : ℕ). g.D.Desk.run c.args.desk.now (made_by h v len p r.words)
+      ran = subst (λ (p : ℕ). g.D.Desk.run c.args.desk.now (make_events h v len p r.words)
           c.write_new.new.desk) placed.place r.ran;
       looks_first = made_first h v len place r.words;
       rule = (

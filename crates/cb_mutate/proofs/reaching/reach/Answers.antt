@@ -4,7 +4,7 @@ use Rattle.cb_ptr.specs.declared.word.State.TheVariants as state
 use Rattle.cb_ptr.specs.Word.{state_of}
 use Rattle.cb_world.specs.declared.event.Event.TheVariants.{Looked}
 use Rattle.cb_world.specs.Played.{after}
-use Rattle.cb_mutate.specs.Reaches.{grasp_of, HasRoom}
+use Rattle.cb_mutate.specs.Reaches.{grasp_of, HasReadRoom}
 use Rattle.cb_mutate.proofs.Rooms.{grasps_more, room_stays}
 use Rattle.cb_mutate.proofs.reaching.reach.Goals as goal
 
@@ -27,7 +27,7 @@ returns-in-Here-clause-room g c =
     let ran = g.met.D.Desk.more _ _ _ _ _ c.word-saw.ensures t.1 in
     let here : state_of saw ≡ state.Here =
     sym (ap (λ (p : PtrWord). p.state) c.unpack.ensures.fields) ∙ c.in-Here.is in
-    subst (HasRoom (grasp_of c.claim_with.result)) (sym c.claim_with.ensures.room)
+    subst (HasReadRoom (grasp_of c.claim_with.result)) (sym c.claim_with.ensures.room)
     (room_stays s.0 t.0 c.args.h.n saw (grasp_of c.claim_with.result) c.in_ok-room.room
     (g.met.D.Desk.follows _ _ (Looked c.args.h.n saw ∷ t.0) s.0 ran s.1).0 here
     (c.in_ok-room.ensures.room here) t.2)

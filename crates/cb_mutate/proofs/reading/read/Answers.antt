@@ -17,13 +17,13 @@ use Rattle.cb_world.specs.Still.{IsStill}
 use Rattle.cb_world.specs.Grasped.{Grasps}
 use Rattle.cb_world.proofs.Laws.{claim_after, after_claim, claim_found, claim_taken, claim_first, claim_all_allowed, look_after, look_found, look_first, look_allowed, look_sound, look_still, claim_touches, claim_settles_last, look_touches, look_settles_last}
 use Rattle.cb_mutate.specs.Answered.{AnsweredAs}
-use Rattle.cb_mutate.specs.Reaches.{grasp_of, room_of, HasRoom}
+use Rattle.cb_mutate.specs.Reaches.{grasp_of, room_of, HasReadRoom}
 use Rattle.cb_mutate.specs.ReadRule.{ReadHere, ReadRule, ReadEffect, IsSeenHere}
-use Rattle.cb_mutate.specs.ReadEnds.{ReadEnds, IsWithin}
+use Rattle.cb_mutate.specs.ReadEnds.{ReadEnds, LiesInMemory}
 use Rattle.cb_mutate.specs.declared.reaching.Reached.{Reached}
 use Rattle.cb_mutate.proofs.FarFreed.{found_far}
 use Rattle.cb_mutate.proofs.FarSeen.{read_far, bytes_not}
-use Rattle.cb_mutate.proofs.ReadAfter.{read_done, read_before, left_effect, seen_within}
+use Rattle.cb_mutate.proofs.ReadSound.{read_done, read_before, left_effect, seen_within}
 use Rattle.cb_mutate.proofs.Rooms.{on_err_so}
 use Rattle.cb_mutate.proofs.reading.read.Goals as goal
 use Rattle.cb_mutate.proofs.reading.read.Goals.{in-Claimed, in-Left}
@@ -67,11 +67,12 @@ read_claimed-requires-clause-claimed g c =
 
 pub read_claimed-requires-clause-room : goal.read_claimed-requires-clause-room
 read_claimed-requires-clause-room g c =
-    subst (λ (q : Reached). HasRoom (grasp_of q) (room_of q)) c.in-Claimed.is c.in_ok-word.ensures.room
+    subst (λ (q : Reached). HasReadRoom (grasp_of q) (room_of q)) c.in-Claimed.is c.in_ok-word.ensures.room
 
 pub read_left-requires-clause-room : goal.read_left-requires-clause-room
 read_left-requires-clause-room g c =
-    subst (λ (q : Reached). HasRoom (grasp_of q) (room_of q)) c.in-Left.is c.in_ok-word.ensures.room
+    subst (λ (q : Reached). HasReadRoom (grasp_of q) (room_of q)) c.in-Left.is
+    c.in_ok-word.ensures.room
 
 pub read_left-requires-clause-left : goal.read_left-requires-clause-left
 read_left-requires-clause-left g c = (subst (λ (q : Reached). (es : List Event)
@@ -91,7 +92,7 @@ read_left-requires-clause-within g c =
     let follows = g.met.D.Desk.follows _ _ first s ran had.1 in
     let sized = g.met.D.Desk.sized _ s had.1 in
     let stays = g.met.D.Desk.stays _ _ _ ran in λ here.
-    subst (λ (q : Config). IsWithin w (512 * q.frames)) (sym stays)
+    subst (λ (q : Config). LiesInMemory w (512 * q.frames)) (sym stays)
     (seen_within c.args.far.now s before h w _ had.2 tried.2 follows.0 here sized.3)
 
 pub returns-clause-read : goal.returns-clause-read

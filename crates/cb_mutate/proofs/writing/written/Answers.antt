@@ -13,7 +13,7 @@ use Rattle.cb_mutate.specs.WriteRule.{WriteHere}
 use Rattle.cb_mutate.specs.WriteEnds.{WriteEnds}
 use Rattle.cb_mutate.proofs.FarFreed.{found_far}
 use Rattle.cb_mutate.proofs.FarSeen.{write_far}
-use Rattle.cb_mutate.proofs.Written.{write_done, write_before, refused_effect}
+use Rattle.cb_mutate.proofs.WriteSound.{write_done, write_before, refused_effect}
 use Rattle.cb_mutate.proofs.writing.written.Goals as goal
 
 pub write_claimed-requires-clause-claimed : goal.write_claimed-requires-clause-claimed

@@ -4,7 +4,7 @@ use Rattle.cb_world.specs.SetsFrom.{AreFrom}
 use Rattle.cb_world.proofs.Laws.{first_from}
 use Rattle.cb_rebuild.specs.declared.finding.Health.{Health}
 use Rattle.cb_rebuild.specs.Finding.{HealthAt}
-use Rattle.cb_rebuild.proofs.Walking.{Walked, few_gone, kept_members, no_more, passed, past_drawn, weak_here}
+use Rattle.cb_rebuild.proofs.Walking.{WalkedSets, few_gone, kept_members, no_more, passed, past_drawn, weak_here}
 use Rattle.cb_rebuild.proofs.finding.find_weak.Goals as goal
 
 pub returns-then-not-is_drawn : goal.returns-then-not-is_drawn
@@ -57,7 +57,7 @@ loop-id-preserved c =
     c.kept_health-health.ensures
     (c.is_weak.ensures.other c.if-is_weak.false) in (
       id + 1,
-      subst (λ (n : ℕ). Walked far (id + 1) (c.loop-id.gone + n))
+      subst (λ (n : ℕ). WalkedSets far (id + 1) (c.loop-id.gone + n))
           (sym c.gone_number-gone.ensures) x,
       f.more,
     )

@@ -6,7 +6,7 @@ use Rattle.cb_world.specs.declared.shown.Shown.{Shown}
 use Rattle.cb_world.specs.FarState.{FarState}
 use Rattle.cb_world.specs.FarSound.{AwaySound}
 use Rattle.cb_rebuild.specs.RebuildStep.{FindsNone, IsFirstWeak}
-use Rattle.cb_rebuild.proofs.RebuildKeeps.{Ends, error_first, first_still, found_weak, found_whole, keeps, keeps_first, keeps_none, steps_first}
+use Rattle.cb_rebuild.proofs.RebuildKeeps.{RestoringEnds, error_first, first_still, found_weak, found_whole, keeps, keeps_first, keeps_none, steps_first}
 use Rattle.cb_rebuild.proofs.rebuilding.rebuild_next.Goals as goal
 
 pub find_weak-found-requires-clause-homes : goal.find_weak-found-requires-clause-homes
@@ -58,7 +58,7 @@ returns-in-Weak-clause-step g c =
     let new = c.restore.new.far in
     let now = found_weak far c.keep_found.new.far _ id c.in-Weak.gone c.keep_found.ensures c.in-Weak.is
     x.1 in
-    let ends = subst (λ (q : FarState). Ends q new id c.restore.result) now
+    let ends = subst (λ (q : FarState). RestoringEnds q new id c.restore.result) now
     (record { step = c.restore.ensures.step; error = c.restore.ensures.error }) in
     steps_first far new id c.restore.result x.0 ends
 
@@ -68,7 +68,7 @@ returns-in-Weak-clause-error g c =
     let new = c.restore.new.far in
     let now = found_weak far c.keep_found.new.far _ id c.in-Weak.gone c.keep_found.ensures c.in-Weak.is
     x.1 in
-    let ends = subst (λ (q : FarState). Ends q new id c.restore.result) now
+    let ends = subst (λ (q : FarState). RestoringEnds q new id c.restore.result) now
     (record { step = c.restore.ensures.step; error = c.restore.ensures.error }) in
     error_first far new id c.restore.result x.0 ends
 
@@ -78,7 +78,7 @@ returns-in-Weak-clause-sound g c = λ s sound.
     let new = c.restore.new.far in
     let now = found_weak far c.keep_found.new.far _ id c.in-Weak.gone c.keep_found.ensures c.in-Weak.is
     x.1 in
-    let ends = subst (λ (q : FarState). Ends q new id c.restore.result) now
+    let ends = subst (λ (q : FarState). RestoringEnds q new id c.restore.result) now
     (record { step = c.restore.ensures.step; error = c.restore.ensures.error }) in
     (keeps s far new id c.restore.result sound x.0 ends).sound
 
@@ -88,7 +88,7 @@ returns-in-Weak-clause-now g c = λ s h sound.
     let new = c.restore.new.far in
     let now = found_weak far c.keep_found.new.far _ id c.in-Weak.gone c.keep_found.ensures c.in-Weak.is
     x.1 in
-    let ends = subst (λ (q : FarState). Ends q new id c.restore.result) now
+    let ends = subst (λ (q : FarState). RestoringEnds q new id c.restore.result) now
     (record { step = c.restore.ensures.step; error = c.restore.ensures.error }) in
     (keeps s far new id c.restore.result sound x.0 ends).same_now h
 
@@ -98,7 +98,7 @@ returns-in-Weak-clause-words g c = λ s sound.
     let new = c.restore.new.far in
     let now = found_weak far c.keep_found.new.far _ id c.in-Weak.gone c.keep_found.ensures c.in-Weak.is
     x.1 in
-    let ends = subst (λ (q : FarState). Ends q new id c.restore.result) now
+    let ends = subst (λ (q : FarState). RestoringEnds q new id c.restore.result) now
     (record { step = c.restore.ensures.step; error = c.restore.ensures.error }) in
     (keeps s far new id c.restore.result sound x.0 ends).words
 

@@ -4,7 +4,7 @@ use Rattle.cb_gf256.specs.Product.{◌⊗◌}
 use Rattle.cb_gf256.specs.Power.{power}
 use Rattle.cb_gf256.specs.CodeWord.{syndrome}
 use Rattle.cb_gf256.proofs.PublicLaws.{power_is_byte}
-use Rattle.cb_scrub.specs.Fitting.{Fits}
+use Rattle.cb_scrub.specs.Fitting.{FitsColumns}
 use Rattle.cb_scrub.proofs.FittingLaws.{fits_lanes, told_lane, refuted}
 use Rattle.cb_scrub.proofs.fitting.block_fits.Goals as goal
 
@@ -35,7 +35,7 @@ pub returns-then-not-power_fits : goal.returns-then-not-power_fits
 returns-then-not-power_fits c =
     let j = c.loop-j.j in
     let few = c.requires.few in
-    refuted c.power_fits.result (Fits c.args.r c.args.rows.now c.args.position c.args.at (c.args.at + 32))
+    refuted c.power_fits.result (FitsColumns c.args.r c.args.rows.now c.args.position c.args.at (c.args.at + 32))
     (λ fits.
     (c.power_fits.ensures j (c.power_at-base.ensures ∙ c.requires.powers j (omega arith))).1 (λ l k.
     fits (c.args.at + l) (omega arith) (omega arith) j (omega arith) (omega arith)

@@ -1,7 +1,7 @@
 use Rattle.std.proofs.Common.{ℕ, refl, sym, subst}
 use Rattle.std.specs.Prelude.{Option}
 use Rattle.cb_record.specs.Parts.{nothing_more}
-use Rattle.cb_shared.specs.Turning.{FindsFreed}
+use Rattle.cb_shared.specs.Turning.{FindsFreedAfter}
 use Rattle.cb_shared.proofs.ReadParts.{not_moved}
 use Rattle.cb_shared.proofs.freed.find_freed.Goals as goal
 
@@ -11,5 +11,6 @@ returns-in-None g c = (
   not_moved c.args.seat.now,
   (refl, refl),
   tt,
-  subst (λ (o : Option ℕ). FindsFreed o c.args.seat.now.me.0 nothing_more) (sym c.in-None.is) refl,
+  subst (λ (o : Option ℕ). FindsFreedAfter o c.args.seat.now.me.0 nothing_more) (sym c.in-None.is)
+      refl,
 )

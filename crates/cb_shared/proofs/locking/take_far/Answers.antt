@@ -1,7 +1,7 @@
 use Rattle.std.proofs.Common.{◌∙◌, ℕ, List, ◌∷◌, Some, ap, sym, subst}
 use Rattle.atomic_table.specs.Table.{rest}
 use Rattle.cb_world.specs.FarState.{FarState}
-use Rattle.cb_rule.specs.Slot.{Sat, Slot}
+use Rattle.cb_rule.specs.Slot.{LockSlot, Sat}
 use Rattle.cb_shared.specs.UnderLock.{TakesFar}
 use Rattle.cb_shared.proofs.LockAlone.{some_far, takes_far}
 use Rattle.cb_shared.proofs.locking.take_far.Goals as goal
@@ -11,8 +11,8 @@ take_out-requires-clause-slot c =
     let t = (c.take_lock.ensures.won c.if-not-take_lock.false).2 in
     let e = ap (λ (m : Sat). m.1) t.taken in (
       t.far,
-      e ∙ sym (ap (λ (l : List (ℕ × Slot)).
-          let k : List (ℕ × Slot) = (0, Some t.far) ∷ rest l in
+      e ∙ sym (ap (λ (l : List (ℕ × LockSlot)).
+          let k : List (ℕ × LockSlot) = (0, Some t.far) ∷ rest l in
           k) e),
     )
 

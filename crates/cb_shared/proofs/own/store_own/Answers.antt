@@ -6,7 +6,7 @@ use Rattle.cb_rule.specs.declared.view.Held.{Held}
 use Rattle.cb_rule.specs.Locking.{Locked}
 use Rattle.cb_rule.specs.Ruled.{Ruled}
 use Rattle.cb_rule.specs.Slot.{Sat}
-use Rattle.cb_rule.specs.Steps.{stored_here, with_word}
+use Rattle.cb_rule.specs.Steps.{stored_here, with_claim_word}
 use Rattle.cb_rule.specs.Words.{base}
 use Rattle.cb_shared.specs.Turning.{Did}
 use Rattle.cb_shared.proofs.Only.{edited_only, has_only}
@@ -36,5 +36,5 @@ returns c x j ho lt is =
       c.store.ensures.0,
       c.store.ensures.1,
       z ∙ ap (λ (l : List Held). let m : Sat = (record u { claims = l }, c.args.seat.now.me.1) in m)
-          (edited_only x x.handle (with_word j c.args.word) u.claims ho.0 refl),
+          (edited_only x x.handle (with_claim_word j c.args.word) u.claims ho.0 refl),
     )

@@ -2,7 +2,7 @@ use Rattle.std.proofs.Common.{◌≡◌, length}
 use Rattle.cb_rule.specs.declared.view.Stand.{Stand}
 use Rattle.cb_shared.specs.Places.{IsOf, Moves}
 use Rattle.cb_shared.specs.Reading.{IsUnderPin}
-use Rattle.cb_shared.proofs.ReadBytes.{IsFilled}
+use Rattle.cb_shared.proofs.ReadBytes.{AreBytesFilled}
 use Rattle.cb_shared.proofs.reading.load_into.Given as goal
 
 abbrev pub invariant-loop-i : goal.invariant-loop-i
@@ -10,4 +10,4 @@ invariant-loop-i l = IsOf l.top.table_id l.top.key l.config l.seat
     × Moves l.fn.seat l.seat l.fn.seat.me.0
     × (length l.room ≡ length l.fn.room)
     × ((p : Stand) → IsUnderPin p l.place (length l.fn.room) l.fn.seat
-    → IsFilled p.words l.i l.room)
+    → AreBytesFilled p.words l.i l.room)

@@ -4,7 +4,7 @@ use Rattle.cb_mutate.proofs.Laws.{write_all, write_more}
 use Rattle.cb_rule.specs.declared.view.Held.{Held}
 use Rattle.cb_rule.specs.Slot.{Sat}
 use Rattle.cb_shared.specs.Claims.{with_memory, with_only}
-use Rattle.cb_rule.specs.Steps.{with_word}
+use Rattle.cb_rule.specs.Steps.{with_claim_word}
 use Rattle.cb_shared.proofs.WriteSteps.{of_moves}
 use Rattle.cb_shared.proofs.writing.overwrite_own.Goals as goal
 
@@ -30,7 +30,7 @@ loop-i-preserved c = let i = c.loop-i.i in let same = c.merged_own-word.ensures.
       let s = c.store_own.ensures y i (ap (λ (m : Sat). m.0.claims) (same.2 ∙ inv.2.2), refl) lt
       (ap (λ (p : ℕ). p + i) (sym h.2.there)) in
       of_moves c.args.top.now.table_id c.args.top.now.key c.args.config.now mid c.store_own.new.seat
-      (with_only (with_word i c.merged_own-word.result y) mid.me.0)
+      (with_only (with_claim_word i c.merged_own-word.result y) mid.me.0)
       (of_moves c.args.top.now.table_id c.args.top.now.key c.args.config.now c.loop-i.seat mid
       c.loop-i.seat.me.0 c.loop-i.invariant.0 same refl refl) s refl refl),
   λ x ho w. let inv = c.loop-i.invariant.1 x ho w in
@@ -49,7 +49,7 @@ loop-i-preserved c = let i = c.loop-i.i in let same = c.merged_own-word.ensures.
           s.0 ∙ (same.0 ∙ inv.2.0),
           s.1 ∙ (same.1 ∙ inv.2.1),
           s.2 ∙ ap (λ (m : Sat).
-              let z : Sat = (with_only (with_word i n y) m.0, m.1) in
+              let z : Sat = (with_only (with_claim_word i n y) m.0, m.1) in
               z) (same.2 ∙ inv.2.2),
         ),
       ),

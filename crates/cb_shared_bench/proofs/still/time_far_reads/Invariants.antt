@@ -1,5 +1,5 @@
-use Rattle.cb_shared_bench.specs.Callers.{IsStill}
+use Rattle.cb_shared_bench.specs.Callers.{IsBenchWorld}
 use Rattle.cb_shared_bench.proofs.still.time_far_reads.Given as goal
 
 abbrev pub invariant-loop : goal.invariant-loop
-invariant-loop g l = IsStill l.world
+invariant-loop g l = IsBenchWorld l.world

@@ -4,7 +4,7 @@ use Rattle.cb_world.specs.declared.event.Event.{Event}
 use Rattle.cb_world.specs.declared.shown.Shown.{Shown}
 use Rattle.cb_world.specs.Played.{played}
 use Rattle.cb_swapin.specs.Named.{IsNamed}
-use Rattle.cb_swapin.specs.Brings.{Brings}
+use Rattle.cb_swapin.specs.Brings.{BringsSlots}
 use Rattle.cb_swapin.specs.Waiting.{AreStored, AreWaiting}
 use Rattle.cb_swapin.specs.BroughtIn.{Brought, IsSpanBrought}
 use Rattle.cb_swapin.proofs.SpanBrought.{span_brought, waiting_stored}
@@ -35,9 +35,9 @@ returns-clause-brought g c =
     let knows : Shown → Type 0 = λ s. g.D.Desk.shows c.args.desk.now s
     × AreWaiting s f span.class span.slots row in
     subst (λ (l : List (Option ℕ)).
-    Brought all knows (Brings l f) (IsSpanBrought l span.class f row)) c.slots.ensures.slots
+    Brought all knows (BringsSlots l f) (IsSpanBrought l span.class f row)) c.slots.ensures.slots
     (subst (λ (k : Class).
-    Brought all knows (Brings c.slots.result.now f) (IsSpanBrought c.slots.result.now k f row))
+    Brought all knows (BringsSlots c.slots.result.now f) (IsSpanBrought c.slots.result.now k f row))
     c.class.ensures.class
     (span_brought _ _ all _ _ knows c.slots.result.now c.class.result f row a b
     (g.met.D.Desk.more _ _ _ _ _ a.ran b.ran) (λ s k. (k.0, k.1.vacant))

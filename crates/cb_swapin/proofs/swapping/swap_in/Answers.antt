@@ -9,12 +9,12 @@ use Rattle.cb_world.specs.Sets.{set_in}
 use Rattle.cb_world.specs.Sound.{Sound}
 use Rattle.cb_world.specs.Stored.{AreThere}
 use Rattle.cb_world.specs.FarState.{FarState}
-use Rattle.cb_swapin.specs.Brings.{Brings}
+use Rattle.cb_swapin.specs.Brings.{BringsSlots}
 use Rattle.cb_swapin.specs.Fetching.{far_given}
 use Rattle.cb_world.proofs.Laws.{are_members}
 use Rattle.cb_swapin.proofs.Committed.{live_within}
-use Rattle.cb_swapin.proofs.Waits.{Arrives, free_frame, waiting}
-use Rattle.cb_swapin.proofs.ArrivedFar.{sound_arrived, there_of}
+use Rattle.cb_swapin.proofs.Waits.{CanArrive, free_frame, waiting}
+use Rattle.cb_swapin.proofs.SwapSound.{sound_arrived, there_of}
 use Rattle.cb_swapin.proofs.Swapped.{by_frame, has_arrived, is_whole, swapped_in, swapped_to, unavailable, with_arrived}
 use Rattle.cb_swapin.proofs.RowGiven.{any_err}
 use Rattle.cb_swapin.proofs.swapping.swap_in.Goals as goal
@@ -139,7 +139,7 @@ returns-clause-swap g c =
     let b = x.brought in
     let arrives = λ (s : Shown) (a : g.D.Desk.shows c.args.desk.now s) (sound : Sound s far).
     let sized = g.met.D.Desk.sized _ s a in
-    let x : Arrives s far id p set f span row = record {
+    let x : CanArrive s far id p set f span row = record {
       sound = sound;
       there = live.1;
       live = live.2;
@@ -162,7 +162,7 @@ returns-clause-swap g c =
         reply = by_frame far id set (Some f) whole least;
         state = (
           swapped_to far new homes id p set f span row fetched left whole cleared,
-          subst (λ (l : List (Option ℕ)). Brings l f b.events) fetched.slots b.tells,
+          subst (λ (l : List (Option ℕ)). BringsSlots l f b.events) fetched.slots b.tells,
         );
       };
       allowed = λ s k. b.allowed s (k.0, knows s k.0 k.1);

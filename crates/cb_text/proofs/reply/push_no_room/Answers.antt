@@ -1,6 +1,6 @@
 use Rattle.std.proofs.Common.{ap, ◌∙◌, ◌++◌, List, ℕ}
 use Rattle.std.specs.Prelude.{codes}
-use Rattle.cb_text.specs.Line.{spaced, counted}
+use Rattle.cb_text.specs.Line.{spaced, word_and_number}
 use Rattle.cb_text.proofs.Digits.{four_parts}
 use Rattle.cb_text.proofs.Fronts.{both}
 use Rattle.cb_text.proofs.reply.push_no_room.Goals as goal
@@ -9,9 +9,9 @@ pub returns-clause-text : goal.returns-clause-text
 returns-clause-text c =
     let text = c.args.text.now.items in
     let word = spaced (codes "noroom") in
-    let frames = counted (codes "frames") c.args.frames in
-    let loose = counted (codes "loose") c.args.loose in
-    let nodes = counted (codes "nodes") c.args.nodes in
+    let frames = word_and_number (codes "frames") c.args.frames in
+    let loose = word_and_number (codes "loose") c.args.loose in
+    let nodes = word_and_number (codes "nodes") c.args.nodes in
     c.in_ok-push_counted-3.ensures.text
     ∙ ap (λ (l : List ℕ). l ++ nodes)
     (c.in_ok-push_counted-2.ensures.text

@@ -1,6 +1,6 @@
 use Rattle.std.proofs.Common.{ap, ◌∙◌, ◌++◌, List, ℕ}
 use Rattle.std.specs.Prelude.{codes}
-use Rattle.cb_text.specs.Line.{spaced, counted}
+use Rattle.cb_text.specs.Line.{spaced, word_and_number}
 use Rattle.cb_text.proofs.Digits.{three_parts}
 use Rattle.cb_text.proofs.Fronts.{both}
 use Rattle.cb_text.proofs.reply.push_rebuilt.Goals as goal
@@ -9,9 +9,9 @@ pub returns-clause-text : goal.returns-clause-text
 returns-clause-text c =
     let text = c.args.text.now.items in
     let word = spaced (codes "rebuilt") in
-    let set = counted (codes "set") c.args.set.n in
-    let position = counted (codes "position") c.args.position in
-    let node = counted (codes "node") c.args.node.n in
+    let set = word_and_number (codes "set") c.args.set.n in
+    let position = word_and_number (codes "position") c.args.position in
+    let node = word_and_number (codes "node") c.args.node.n in
     c.in_ok-push_counted-2.ensures.text
     ∙ ap (λ (l : List ℕ). l ++ node)
     (c.in_ok-push_counted.ensures.text

@@ -1,5 +1,5 @@
 use Rattle.std.proofs.Common.{ℕ, ◌<◌, List, Option, None, length, set, sym, ap, ◌∙◌, subst}
-use Rattle.cb_frame.specs.FreeFrames.{IsFree}
+use Rattle.cb_frame.specs.FreeFrames.{IsFreeFrame}
 use Rattle.cb_span.specs.Contents.{Contents}
 use Rattle.cb_world.specs.FarState.{span_in, class_of, class_in}
 use Rattle.std.specs.Option.{IfSome}
@@ -64,7 +64,7 @@ give-requires-clause-in_range c = let x = c.requires.slot in
 
 pub give-requires-clause-taken : goal.give-requires-clause-taken
 give-requires-clause-taken c = let x = c.requires.slot in λ free. x.3.busy
-    (subst (IsFree c.args.frames.now)
+    (subst (IsFreeFrame c.args.frames.now)
     (frame_is _ _ c.args.place x.0 x.1 c.place_frame-frame.result x.2 x.3
     c.place_frame-frame.ensures) free)
 

@@ -1,6 +1,6 @@
 use Rattle.std.proofs.Common.{ap, ◌∙◌, subst}
 use Rattle.std.specs.FinMap as map
-use Rattle.cb_node.specs.NodesState.{IsNodes, rows_at}
+use Rattle.cb_node.specs.NodesState.{IsNodes, rows_of_node}
 use Rattle.cb_node.proofs.Kept.{rows_at-read, kept_after_write, IsNodes-with_row}
 use Rattle.cb_node.proofs.nodes.Nodes.store.Goals as goal
 
@@ -12,7 +12,7 @@ invariant_of-self-2 c =
     (ap (λ s. s.nodes) c.self.view_is) c.from.ensures c.requires.node c.index_mut.ensures.value
     in
     kept_after_write _ old c.from.result node c.insert.new.self
-    (map.insert (rows_at old node) c.args.key c.args.row) c.self.view_is c.from.ensures
+    (map.insert (rows_of_node old node) c.args.key c.args.row) c.self.view_is c.from.ensures
     (c.in_ok-insert.ensures.ok ∙ ap (λ rows. map.insert rows c.args.key c.args.row) read)
     (IsNodes-with_row old node c.args.key c.args.row
     (subst IsNodes c.self.view_is c.self.invariant) c.requires.fresh c.requires.room)
@@ -25,7 +25,7 @@ returns-clause-valid c =
     (ap (λ s. s.nodes) c.self.view_is) c.from.ensures c.requires.node c.index_mut.ensures.value
     in
     kept_after_write _ old c.from.result node c.insert.new.self
-    (map.insert (rows_at old node) c.args.key c.args.row) c.self.view_is c.from.ensures
+    (map.insert (rows_of_node old node) c.args.key c.args.row) c.self.view_is c.from.ensures
     (c.in_ok-insert.ensures.ok ∙ ap (λ rows. map.insert rows c.args.key c.args.row) read)
     (IsNodes-with_row old node c.args.key c.args.row
     (subst IsNodes c.self.view_is c.self.invariant) c.requires.fresh c.requires.room)

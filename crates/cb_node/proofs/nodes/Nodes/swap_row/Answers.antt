@@ -1,6 +1,6 @@
 use Rattle.std.proofs.Common.{ap, ◌∙◌, subst}
 use Rattle.std.specs.FinMap as map
-use Rattle.cb_node.specs.NodesState.{IsNodes, rows_at}
+use Rattle.cb_node.specs.NodesState.{IsNodes, rows_of_node}
 use Rattle.cb_node.proofs.Kept.{rows_at-read, kept_after_write, IsNodes-with_row_again}
 use Rattle.cb_node.proofs.nodes.Nodes.swap_row.Goals as goal
 
@@ -12,7 +12,7 @@ invariant_of-self c =
     (ap (λ s. s.nodes) c.self.view_is) c.from.ensures c.requires.node c.index_mut.ensures.value
     in
     kept_after_write _ old c.from.result node c.swap_row.new.self
-    (map.insert (rows_at old node) c.args.key c.args.row.now) c.self.view_is c.from.ensures
+    (map.insert (rows_of_node old node) c.args.key c.args.row.now) c.self.view_is c.from.ensures
     (c.swap_row.ensures.after ∙ ap (λ rows. map.insert rows c.args.key c.args.row.now) read)
     (IsNodes-with_row_again old node c.args.key c.args.row.now c.requires.node
     (subst IsNodes c.self.view_is c.self.invariant) c.requires.there)
@@ -25,7 +25,7 @@ returns-clause-valid c =
     (ap (λ s. s.nodes) c.self.view_is) c.from.ensures c.requires.node c.index_mut.ensures.value
     in
     kept_after_write _ old c.from.result node c.swap_row.new.self
-    (map.insert (rows_at old node) c.args.key c.args.row.now) c.self.view_is c.from.ensures
+    (map.insert (rows_of_node old node) c.args.key c.args.row.now) c.self.view_is c.from.ensures
     (c.swap_row.ensures.after ∙ ap (λ rows. map.insert rows c.args.key c.args.row.now) read)
     (IsNodes-with_row_again old node c.args.key c.args.row.now c.requires.node
     (subst IsNodes c.self.view_is c.self.invariant) c.requires.there)

@@ -1,7 +1,7 @@
 use Rattle.std.proofs.Common.{◌≤◌, List, ℕ, length, sym, subst}
 use Rattle.std.specs.Result.{IfOk, OnErr}
 use Rattle.cb_types.specs.declared.job.Job.TheVariants as jobs
-use Rattle.cb_shared.specs.Calls.{AtNone, Stops, TurnGives}
+use Rattle.cb_shared.specs.Calls.{AtNone, StopsInVain, TurnGives}
 use Rattle.cb_shared.specs.Making.{MakesNew}
 use Rattle.cb_shared.proofs.CallSteps.{err_always, so_far}
 use Rattle.cb_shared.proofs.runtime.Shared.make.Goals as goal
@@ -27,5 +27,5 @@ returns-clause-new g c = subst (λ (l : List ℕ). IfOk c.turn_until.result (λ 
 
 pub returns-clause-error : goal.returns-clause-error
 returns-clause-error g c = subst (λ (l : List ℕ). OnErr c.turn_until.result
-    (Stops AtNone (jobs.Make l) c.args.pass.now.seat.me.0 c.turn_until.new.pass.seat.me.0))
+    (StopsInVain AtNone (jobs.Make l) c.args.pass.now.seat.me.0 c.turn_until.new.pass.seat.me.0))
     c.in_ok-copy_of.ensures.items c.turn_until.ensures.error

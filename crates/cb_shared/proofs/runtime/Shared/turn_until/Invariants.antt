@@ -1,7 +1,7 @@
-use Rattle.cb_shared.specs.Calls.{AtNone, Stops}
+use Rattle.cb_shared.specs.Calls.{AtNone, StopsInVain}
 use Rattle.cb_shared.specs.Passes.{IsPassOf}
 use Rattle.cb_shared.proofs.runtime.Shared.turn_until.Given as goal
 
 abbrev pub invariant-loop : goal.invariant-loop
 invariant-loop g l = IsPassOf l.self l.pass
-    × Stops AtNone l.job l.fn.pass.seat.me.0 l.pass.seat.me.0
+    × StopsInVain AtNone l.job l.fn.pass.seat.me.0 l.pass.seat.me.0

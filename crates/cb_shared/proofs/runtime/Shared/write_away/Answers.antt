@@ -1,7 +1,7 @@
 use Rattle.std.proofs.Common.{List, ℕ, subst}
 use Rattle.std.specs.Result.{IfOk, OnErr}
 use Rattle.cb_types.specs.declared.job.Job.TheVariants as jobs
-use Rattle.cb_shared.specs.Calls.{AtNone, Stops, TurnTries, the_handle}
+use Rattle.cb_shared.specs.Calls.{AtNone, StopsInVain, TurnTries, the_handle}
 use Rattle.cb_shared.proofs.CallSteps.{err_always, so_far}
 use Rattle.cb_shared.proofs.Resting.{known_below}
 use Rattle.cb_shared.proofs.runtime.Shared.write_away.Goals as goal
@@ -23,5 +23,5 @@ returns-clause-turn g c = subst (λ (l : List ℕ). IfOk c.try_turn.result (λ o
 
 pub returns-clause-error : goal.returns-clause-error
 returns-clause-error g c = subst (λ (l : List ℕ). OnErr c.try_turn.result
-    (Stops AtNone (jobs.Write (the_handle c.args.h.n) c.args.at l) c.args.pass.now.seat.me.0
+    (StopsInVain AtNone (jobs.Write (the_handle c.args.h.n) c.args.at l) c.args.pass.now.seat.me.0
     c.try_turn.new.pass.seat.me.0)) c.in_ok-copy_of.ensures.items c.try_turn.ensures.error

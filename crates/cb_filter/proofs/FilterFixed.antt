@@ -16,10 +16,10 @@ use Rattle.cb_world.specs.StillWords.{stamp_at}
 use Rattle.cb_world.specs.World.{word_at}
 use Rattle.cb_world.proofs.Laws.{IsOneEnd, refused_alike, chosen_fixed, not_crammed, seat_fixed}
 use Rattle.cb_filter.specs.Seats.{Seat, IsSeatOf, with_moved}
-use Rattle.cb_filter.specs.FilterRule.{EmptyAnswer, GetsSlot, HasNoSlot, IsInPlace}
+use Rattle.cb_filter.specs.FilterRule.{EmptyToFilter, GetsSlot, HasNoSlot, IsInPlace}
 use Rattle.cb_filter.specs.FilterStep.{IsFilterStep, IsFreeIn, RefusesAs, temp_of, with_carried_to, with_cooled, refused, cools, without_slot, moves}
 
-empty_fixed : (v : ℕ) (r q : Reply) → EmptyAnswer v r → EmptyAnswer v q → r ≡ q
+empty_fixed : (v : ℕ) (r q : Reply) → EmptyToFilter v r → EmptyToFilter v q → r ≡ q
 empty_fixed zero r q a b = a ∙ sym b
 empty_fixed (suc v) r q a b = a ∙ sym b
 

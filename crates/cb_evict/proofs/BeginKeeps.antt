@@ -8,7 +8,7 @@ use Rattle.cb_world.specs.World.{word_at}
 use Rattle.cb_evict.specs.BeginRule.{with_batch}
 use Rattle.cb_evict.specs.BeginStep.{IsBatchMade, IsBeginStep, is_leaving, few_spans, few_nodes, begins}
 use Rattle.cb_evict.specs.EvictStep.{loose_frames}
-use Rattle.cb_evict.proofs.AfterEvict.{in_or_not, leaves_free}
+use Rattle.cb_evict.proofs.EvictKeeps.{in_or_not, leaves_free}
 
 -- what a step that begins no batch leaves holds of it, and what the other leaves
 by_step : (P : Words → FarState → Type 0) (x y : Words) (far new : FarState) (r : Reply)

@@ -8,7 +8,7 @@ use Rattle.cb_node.specs.NodesState.{NodesState, with_dropped}
 use Rattle.cb_set.specs.SetState.{SetState}
 use Rattle.cb_world.specs.declared.shown.Shown.{Shown}
 use Rattle.cb_world.specs.FarState.{FarState, span_in}
-use Rattle.cb_world.specs.FarSound.{AreRows, FarSound, of_joining}
+use Rattle.cb_world.specs.FarSound.{AreShardRows, FarSound, of_joining}
 use Rattle.cb_world.specs.Join.{IsFresh}
 use Rattle.cb_world.specs.Joining.{JoiningState}
 use Rattle.cb_world.specs.JoinSteps.{IsParted}
@@ -19,19 +19,19 @@ use Rattle.cb_world.specs.Reserved.{IsReserved, IsUnpaired, put_shards}
 use Rattle.cb_world.specs.Sound.{Sound}
 use Rattle.cb_world.specs.Stored.{AreThere, all_dropped}
 use Rattle.cb_world.proofs.Laws.{claimed_stay, drop_count, drop_elsewhere, drop_fewer, drop_there, local_stays, noted_by, pair_now, parted_whole, put_at, put_from, room_dropped, whole_none}
-use Rattle.cb_compact.specs.Standing.{IsFreshPair, with_parted}
+use Rattle.cb_compact.specs.PartStep.{IsFreshPair, with_parted}
 
 -- what a change of the far state keeps
-pub record Keeps (s : Shown) (far new : FarState) : Type 0 where
+pub record JoinKeeps (s : Shown) (far new : FarState) : Type 0 where
   pub sound : Sound s new
   pub same_now : (h : ℕ) → now s new h ≡ now s far h
 
-pub keeps_all : (s : Shown) (far : FarState) → Sound s far → Keeps s far far
+pub keeps_all : (s : Shown) (far : FarState) → Sound s far → JoinKeeps s far far
 keeps_all s far sound = record { sound = sound; same_now = λ h. refl }
 
 -- one change after another
-pub keeps_both : (s : Shown) (far mid new : FarState) → Keeps s far mid → Keeps s mid new
-    → Keeps s far new
+pub keeps_both : (s : Shown) (far mid new : FarState) → JoinKeeps s far mid → JoinKeeps s mid new
+    → JoinKeeps s far new
 keeps_both s far mid new x y = record {
   sound = y.sound;
   same_now = λ h. y.same_now h ∙ x.same_now h;
@@ -80,7 +80,8 @@ fresh_is far pair a b x = record {
 }
 
 -- ---- the pair is given up
-pub steps_there : (far : FarState) (pair : JoiningState) → AreRows far → far.joining ≡ Some pair
+pub steps_there : (far : FarState) (pair : JoiningState) → AreShardRows far
+    → far.joining ≡ Some pair
     → AreThere far.nodes (put_shards pair.steps)
 steps_there far pair rows there q shard at =
     let x = put_from pair.steps q shard at in
@@ -118,7 +119,7 @@ parted_is s far pair sound there = record {
     rows = steps_there far pair sound.away.sound.rows there
 
 pub parted_keeps : (s : Shown) (far : FarState) (pair : JoiningState) → Sound s far
-    → far.joining ≡ Some pair → Keeps s far (with_parted far pair)
+    → far.joining ≡ Some pair → JoinKeeps s far (with_parted far pair)
 parted_keeps s far pair sound there =
     let x = parted_is s far pair sound there in
     record {

@@ -5,7 +5,7 @@ use Rattle.std.specs.FinMap as map
 use Rattle.std.proofs.lemmas.Option.{slice_get-get_or}
 use Rattle.cb_member.specs.declared.names.NodeId.{NodeId}
 use Rattle.cb_member.specs.declared.names.Shard.{Shard}
-use Rattle.cb_node.specs.NodesState.{row_at as row_under}
+use Rattle.cb_node.specs.NodesState.{row_under}
 use Rattle.cb_set.specs.Lost.{is_lost}
 use Rattle.cb_set.specs.Nodes.{OnDistinctNodes}
 use Rattle.cb_set.specs.SetState.{SetState}
@@ -26,11 +26,12 @@ use Rattle.cb_evict.specs.Sending.{AreSent}
 use Rattle.cb_evict.proofs.Group.{leaving_group, now_without}
 use Rattle.cb_evict.proofs.NamesShards.{put_count, put_place, removed_other}
 use Rattle.cb_evict.proofs.NewSet.{set_added_in, set_others}
-use Rattle.cb_evict.proofs.PutAway.{IsPutAway, now_away, sound_away}
+use Rattle.cb_evict.proofs.PutAway.{IsGroupPutAway, now_away, sound_away}
 use Rattle.cb_evict.proofs.Options.{none_some, some_same}
 
 -- in a sound world the batch that is leaving has all its rows put, and its objects were put away
-pub record Done (s t : Shown) (far : FarState) (batch : LeavingState) (homes : List (Option Home))
+pub record BatchDone (s t : Shown) (far : FarState) (batch : LeavingState)
+    (homes : List (Option Home))
     : Type 0 where
   pub sound : Sound s far
   pub there : far.leaving ≡ Some batch
@@ -65,7 +66,7 @@ joining_leaving : (p q : ℕ) → of_joining p ≡ of_leaving q → ⊥
 joining_leaving p q e = cc
 
 module _ (s t : Shown) (far : FarState) (batch : LeavingState) (homes : List (Option Home))
-    (d : Done s t far batch homes) where
+    (d : BatchDone s t far batch homes) where
   noted : AreNoted s far batch
   noted = d.sound.noted batch d.there
 
@@ -143,7 +144,7 @@ module _ (s t : Shown) (far : FarState) (batch : LeavingState) (homes : List (Op
       inr (x.0, a, x.1, n, k)
 
   -- ---- the set is committed
-  put_away : IsPutAway s t (without_batch far batch) batch (put_shards batch.shards)
+  put_away : IsGroupPutAway s t (without_batch far batch) batch (put_shards batch.shards)
       (new_sets far batch) far.nodes far.counts homes
   put_away =
       let rows = d.sound.away.sound.rows in

@@ -18,7 +18,7 @@ use Rattle.cb_world.specs.declared.shown.Shown.{Shown}
 use Rattle.cb_world.specs.FarState.{FarState}
 use Rattle.cb_world.specs.LeftOver.{without_far}
 use Rattle.cb_world.specs.LocalSound.{LocalSound}
-use Rattle.cb_world.specs.Memory.{byte_at, bytes_in, words_for}
+use Rattle.cb_world.specs.Memory.{bytes_in, memory_byte, words_for}
 use Rattle.cb_world.specs.Placed.{Slot, IsChosen, IsCrammed, place_in}
 use Rattle.cb_world.specs.Plain.{Words}
 use Rattle.cb_world.specs.Released.{with_released}
@@ -29,7 +29,7 @@ use Rattle.cb_world.proofs.Laws.{IsOneEnd, refused_alike, chosen_fixed, not_cram
 use Rattle.cb_mutate.specs.FreeRule.{IsReleased, IsRemoved, LeavesPlace}
 use Rattle.cb_mutate.specs.MakeRule.{HasNoPlace, with_made}
 use Rattle.cb_mutate.specs.MakeStep.{IsMakeStep, IsNewObject, with_new}
-use Rattle.cb_mutate.specs.Steps.{IsFreeStep, IsOverwritten, IsReadStep, IsTakenOut, IsWriteStep, FreeChange, ReadChange, WriteChange, with_contents, with_freed}
+use Rattle.cb_mutate.specs.CallStep.{IsFreeStep, IsOverwritten, IsReadStep, IsTakenOut, IsWriteStep, FreeChange, ReadChange, WriteChange, with_contents, with_freed}
 use Rattle.cb_mutate.specs.WordsOf.{AreWordsOf}
 use Rattle.cb_mutate.specs.Wordwise.{IsReached, IsWordwise}
 use Rattle.cb_mutate.proofs.WrittenBytes.{bytes_at}
@@ -43,7 +43,7 @@ words_fixed bytes xs ys a b =
     byte p (omega (arith, within, below)) (cases_lt p (length bytes))))
   where
     byte : (p : ℕ) → p < 8 * length xs → (p < length bytes) ⊎ (length bytes ≤ p)
-        → byte_at xs p ≡ byte_at ys p
+        → memory_byte xs p ≡ memory_byte ys p
     byte p within (inl less) = sym (bytes_at xs (length bytes) p less)
         ∙ ap (λ (l : List ℕ). get_or l p 0) (a.first_bytes ∙ sym b.first_bytes)
         ∙ bytes_at ys (length bytes) p less
@@ -133,12 +133,13 @@ write_fixed old xs ys at bytes a c b d =
     (λ i within. word i within (reached_or_not i at (length bytes)))
   where
     byte : (p : ℕ) → p < 8 * length old → (p < at) ⊎ (at ≤ p)
-        → (p < at + length bytes) ⊎ (at + length bytes ≤ p) → byte_at xs p ≡ byte_at ys p
+        → (p < at + length bytes) ⊎ (at + length bytes ≤ p) → memory_byte xs p ≡ memory_byte ys p
     byte p within (inl less) side = a.outside p within (inl less) ∙ sym (b.outside p within (inl less))
     byte p within (inr from) (inl less) =
         let i = p - at in let split : at + i ≡ p = omega (arith, from) in
         let low : i < length bytes = omega (arith, from, less) in
-        ap (byte_at xs) (sym split) ∙ a.inside i low ∙ sym (b.inside i low) ∙ ap (byte_at ys) split
+        ap (memory_byte xs) (sym split) ∙ a.inside i low ∙ sym (b.inside i low)
+        ∙ ap (memory_byte ys) split
     byte p within (inr from) (inr past) =
         a.outside p within (inr past) ∙ sym (b.outside p within (inr past))
 

@@ -8,7 +8,7 @@ use Rattle.cb_types.specs.declared.config.Config.{Config}
 use Rattle.cb_types.specs.declared.config.Field.TheVariants.{K, R}
 use Rattle.cb_types.specs.Config.{IsAccepted}
 use Rattle.cb_types.specs.declared.reply.Reply.{Reply}
-use Rattle.cb_world.specs.Codes.{HaveCodes, IsCode}
+use Rattle.cb_world.specs.Codes.{HaveCodes, IsConfiguredCode}
 use Rattle.cb_world.specs.declared.event.Event.{Event}
 use Rattle.cb_world.specs.declared.leaving.Former.{Former}
 use Rattle.cb_world.specs.declared.shown.Shown.{Shown}
@@ -25,7 +25,7 @@ use Rattle.cb_evict.specs.Closing.{with_homes}
 use Rattle.cb_evict.specs.CommitRule.{CommitRule, HasCommitted}
 use Rattle.cb_evict.specs.EvictRule.{EvictRule}
 use Rattle.cb_evict.specs.EvictStep.{IsEvictStep, few_nodes, few_spans, loose_frames, made}
-use Rattle.cb_evict.specs.ShipRule.{HasShipped, ShipRule, Ships, with_shard_at}
+use Rattle.cb_evict.specs.ShipRule.{HasShipped, ShipRule, ShipsRow, with_shard_at}
 use Rattle.cb_evict.specs.Storing.{set_for, with_set}
 use Rattle.cb_evict.proofs.Commits.{all_put as all_shards_put}
 use Rattle.cb_evict.proofs.Homing.{length_closed}
@@ -117,7 +117,7 @@ batch_stays c far new frames words parities k r state is =
           sets = codes_put c far.sets far.counts.sets _ (λ committed. absurd (false_true committed))
               is.codes.sets;
           batch = λ b at. let same = some_same (new_batch c far frames words parities) b at in
-              subst (λ (l : LeavingState). IsCode c (length l.frames) (length l.parities)) same (k, r);
+              subst (λ (l : LeavingState). IsConfiguredCode c (length l.frames) (length l.parities)) same (k, r);
         });
       };
       rises = record {
@@ -163,7 +163,8 @@ shipped_stays c far new r row z is =
         codes = subst (HaveCodes c) (sym e) (record {
           sets = is.codes.sets;
           batch = λ b at. let same = some_same (with_shard_at z.batch z.position z.shard) b at in
-              subst (λ (l : LeavingState). IsCode c (length l.frames) (length l.parities)) same
+              subst (λ (l : LeavingState). IsConfiguredCode c (length l.frames) (length l.parities))
+              same
               (is.codes.batch z.batch z.there);
         });
       };
@@ -179,7 +180,7 @@ shipped_stays c far new r row z is =
     }
 
 pub ships_stays : (c : Config) (far new : FarState) (r : Reply) (row : LeavingState → ℕ → List ℕ)
-    → Ships far new r row → StaysIf c 1 far new
+    → ShipsRow far new r row → StaysIf c 1 far new
 ships_stays c far new r row (inl z) = stays_same c 1 far new (omega arith) z.state
 ships_stays c far new r row (inr (inl z)) = stays_same c 1 far new (omega arith) z.state
 ships_stays c far new r row (inr (inr (inl z))) = stays_same c 1 far new (omega arith) z.state

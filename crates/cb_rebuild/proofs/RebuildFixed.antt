@@ -14,7 +14,7 @@ use Rattle.cb_world.specs.Choices.{IsLeastNode}
 use Rattle.cb_world.specs.FarState.{FarState}
 use Rattle.cb_world.specs.Sets.{set_in}
 use Rattle.cb_world.proofs.Laws.{least_node_fixed}
-use Rattle.cb_rebuild.specs.RebuildStep.{FindsNone, IsFirstWeak, IsNewShard, IsRebuilt, IsRowOf, IsStuck, RebuildStep, Restores, RestoresFirst, surveyed, with_name, with_put}
+use Rattle.cb_rebuild.specs.RebuildStep.{FindsNone, IsFirstWeak, IsNewShard, IsRebuilt, IsRowOf, IsStuck, RebuildStep, Restores, RestoresFirst, surveyed, with_put, with_shard_named}
 use Rattle.cb_rebuild.proofs.WeakSets.{set_same}
 
 -- the first set that is weak is one
@@ -68,7 +68,8 @@ module _ (far : FarState) (id : ℕ) (set : SetState) (new other : FarState) (r 
         a.reply
             ∙ (λ i. answer.Rebuilt (record { n = id }) (at i) (nodes i)) ∙ sym b.reply,
         a.state
-            ∙ (λ i. with_name (with_put far set (shards i) (rows i)) id set (at i) (shards i))
+            ∙ (λ i. with_shard_named (with_put far set (shards i) (rows i)) id set (at i)
+            (shards i))
             ∙ sym b.state,
       )
 

@@ -22,14 +22,14 @@ use Rattle.cb_world.specs.Sound.{Sound}
 use Rattle.cb_world.proofs.Laws.{set_same}
 use Rattle.cb_compact.specs.MergeStep.{IsMerged, MergeStep, Merges, with_merged}
 use Rattle.cb_compact.specs.Merging.{IsReadyToMerge}
-use Rattle.cb_compact.specs.Pairing.{BeginStep, CanJoin, IsFirstPair, IsJoining, IsPaired, begun_pair, numbered, with_pair}
-use Rattle.cb_compact.specs.Standing.{HasNoPair, IsChangedSet, IsFreshPair, IsGivenUp, PartStep, with_parted}
-use Rattle.cb_compact.specs.Steps.{AreDone, IsFull, IsNext, IsOneStep, PatchStep, TakesStep, shard_beside, with_stepped}
-use Rattle.cb_compact.proofs.Committed.{committed_is}
+use Rattle.cb_compact.specs.PairStep.{CanJoin, IsFirstPair, IsJoining, IsPaired, PairStep, begun_pair, set_numbered, with_pair}
+use Rattle.cb_compact.specs.PartStep.{HasNoPair, IsChangedSet, IsFreshPair, IsPairGivenUp, PartStep, with_parted}
+use Rattle.cb_compact.specs.PatchStep.{AreDone, IsNext, IsNodeFull, IsOneStep, PatchStep, TakesStep, shard_beside, with_stepped}
+use Rattle.cb_compact.proofs.MergeSound.{committed_is}
 use Rattle.cb_compact.proofs.Committing.{ready_data}
-use Rattle.cb_compact.proofs.Keeping.{fresh_is}
+use Rattle.cb_compact.proofs.CompactKeeps.{fresh_is}
 use Rattle.cb_compact.proofs.Merged.{named_from}
-use Rattle.cb_compact.proofs.OneStep.{word_merged}
+use Rattle.cb_compact.proofs.PatchSound.{word_merged}
 use Rattle.cb_compact.proofs.Ready.{same_fresh}
 
 -- the two far states and their replies are one
@@ -70,7 +70,7 @@ first_fixed far x y m n a b c d f g =
 module _ (far new other : FarState) (r q : Reply) where
   joining_fixed : IsJoining far new r → IsJoining far other q → IsOne new other r q
   joining_fixed a b = let e = pair_same a.pair b.pair (sym a.there ∙ b.there) in (
-    a.reply ∙ ap (λ (p : JoiningState). answer.Joining (numbered p.a) (numbered p.b)) e
+    a.reply ∙ ap (λ (p : JoiningState). answer.Joining (set_numbered p.a) (set_numbered p.b)) e
         ∙ sym b.reply,
     a.state ∙ sym b.state,
   )
@@ -78,13 +78,14 @@ module _ (far new other : FarState) (r q : Reply) where
   paired_fixed : IsPaired far new r → IsPaired far other q → IsOne new other r q
   paired_fixed a b =
       let e = first_fixed far a.x a.y b.x b.y a.a a.b b.a b.b a.first b.first in (
-        a.reply ∙ (λ i. answer.Pair (numbered (e.first i)) (numbered (e.second i))) ∙ sym b.reply,
+        a.reply ∙ (λ i. answer.Pair (set_numbered (e.first i)) (set_numbered (e.second i)))
+            ∙ sym b.reply,
         a.state
             ∙ (λ i. with_pair far (begun_pair (e.first i) (e.second i) (e.a_is i) (e.b_is i)))
             ∙ sym b.state,
       )
 
-  pub begins_fixed : BeginStep far new r → BeginStep far other q → IsOne new other r q
+  pub begins_fixed : PairStep far new r → PairStep far other q → IsOne new other r q
   begins_fixed (inl a) (inl b) = joining_fixed a b
   begins_fixed (inl a) (inr (inl b)) = absurd (no_pair far.joining a.pair b.none a.there)
   begins_fixed (inl a) (inr (inr b)) = absurd (no_pair far.joining a.pair b.none a.there)
@@ -99,7 +100,7 @@ module _ (far new other : FarState) (r q : Reply) where
 
 -- the begin asks nothing of the far state
 pub begin_fixes : (s : Shown) (far new other : FarState) (r q : Reply) → Sound s far
-    → BeginStep far new r → BeginStep far other q → IsOne new other r q
+    → PairStep far new r → PairStep far other q → IsOne new other r q
 begin_fixes s far new other r q sound a b = begins_fixed far new other r q a b
 
 -- ---- the pair given up
@@ -116,7 +117,7 @@ changed_or_fresh far pair a b n fresh (inl x) = x.0 a fresh.a_stands
 changed_or_fresh far pair a b n fresh (inr x) = x.2 b fresh.b_stands
 
 given_or_fresh : (far new : FarState) (r : Reply) (pair : JoiningState) (a b : SetState)
-    → IsGivenUp far new r → IsFreshPair far pair a b → ⊥
+    → IsPairGivenUp far new r → IsFreshPair far pair a b → ⊥
 given_or_fresh far new r pair a b x fresh =
     changed_or_fresh far pair a b x.id fresh
     (subst (λ (p : JoiningState). IsChangedSet far p x.id)
@@ -126,12 +127,12 @@ module _ (far new other : FarState) (r q : Reply) where
   none_fixed : HasNoPair far new r → HasNoPair far other q → IsOne new other r q
   none_fixed a b = (a.reply ∙ sym b.reply, a.state ∙ sym b.state)
 
-  given_fixed : IsGivenUp far new r → IsGivenUp far other q → IsOne new other r q
+  given_fixed : IsPairGivenUp far new r → IsPairGivenUp far other q → IsOne new other r q
   given_fixed a b =
       let e = pair_same a.pair b.pair (sym a.there ∙ b.there) in
       let ids = changed_fixed far b.pair a.id b.id
       (subst (λ (p : JoiningState). IsChangedSet far p a.id) e a.changed) b.changed in (
-        a.reply ∙ ap (λ (n : ℕ). answer.Changed (numbered n)) ids ∙ sym b.reply,
+        a.reply ∙ ap (λ (n : ℕ). answer.Changed (set_numbered n)) ids ∙ sym b.reply,
         a.state ∙ ap (with_parted far) e ∙ sym b.state,
       )
 
@@ -186,7 +187,7 @@ has_merged s far pair a b sound fresh =
 
 module _ (s : Shown) (far : FarState) (pair : JoiningState) (a b : SetState) (sound : Sound s far)
     (fresh : IsFreshPair far pair a b) (new other : FarState) (r q : Reply) where
-  full_fixed : IsFull far pair a new r → IsFull far pair a other q → IsOne new other r q
+  full_fixed : IsNodeFull far pair a new r → IsNodeFull far pair a other q → IsOne new other r q
   full_fixed x y =
       let at = next_fixed pair (length a.positions) x.position y.position x.next y.next in
       let olds : x.old ≡ y.old =
@@ -195,7 +196,7 @@ module _ (s : Shown) (far : FarState) (pair : JoiningState) (a b : SetState) (so
         x.state ∙ sym y.state,
       )
 
-  full_or_one : (p v : Reply) (next last : FarState) → IsFull far pair a next p
+  full_or_one : (p v : Reply) (next last : FarState) → IsNodeFull far pair a next p
       → IsOneStep far pair a b last v → ⊥
   full_or_one p v next last x y =
       let at = next_fixed pair (length a.positions) x.position y.position x.next y.next in

@@ -11,7 +11,7 @@ use Rattle.cb_types.specs.declared.reply.Reply.TheVariants as answer
 use Rattle.cb_world.specs.declared.event.Event.{Event}
 use Rattle.cb_world.specs.declared.shown.Shown.{Shown}
 use Rattle.cb_world.specs.FarState.{FarState}
-use Rattle.cb_world.specs.Fetched.{rows_needed, with_given}
+use Rattle.cb_world.specs.Fetched.{rows_needed, with_rows_given}
 use Rattle.cb_world.specs.Plain.{Words}
 use Rattle.cb_world.specs.Sets.{set_in}
 use Rattle.cb_world.specs.Sound.{Sound}
@@ -39,7 +39,7 @@ pub swapped_stays : (c : Config) (s : Shown) (far new : FarState) (id p : ℕ) (
 swapped_stays c s far new id p set f sound there z is =
     let given : new.nodes.given ≡ far.nodes.given + rows_needed far.members set p =
     ap (λ (q : NodesState). q.given) z.nodes
-    ∙ left_given (with_given far.nodes (rows_needed far.members set p))
+    ∙ left_given (with_rows_given far.nodes (rows_needed far.members set p))
     (with_position set p dead_position) in
     let sets : new.counts.sets ≡ far.counts.sets = ap (λ (q : FarState). q.counts.sets) z.rest in
     let keys : new.counts.keys ≡ far.counts.keys = ap (λ (q : FarState). q.counts.keys) z.rest in
@@ -51,10 +51,10 @@ swapped_stays c s far new id p set f sound there z is =
             ∙ is.frames;
         homes = z.homes.count ∙ is.homes;
         nodes = ap (λ (q : NodesState). length q.nodes) z.nodes
-            ∙ left_count (with_given far.nodes (rows_needed far.members set p))
+            ∙ left_count (with_rows_given far.nodes (rows_needed far.members set p))
             (with_position set p dead_position) ∙ is.nodes;
         room = ap (λ (q : NodesState). q.room) z.nodes
-            ∙ left_room (with_given far.nodes (rows_needed far.members set p))
+            ∙ left_room (with_rows_given far.nodes (rows_needed far.members set p))
             (with_position set p dead_position) ∙ is.room;
         codes = record {
           sets = subst (SetCodes c) (sym z.sets)

@@ -22,8 +22,8 @@ use Rattle.cb_world.specs.Claimed.{with_settled}
 use Rattle.cb_world.proofs.Laws.{length_put, agree_last, looks_played, claimed_from, lies_within, lies, IsAfterClaim, look_after, told_before, taken_before, sound_beside, put_beside}
 use Rattle.cb_mutate.specs.Answered.{EmptyAnswer, AnsweredAs}
 use Rattle.cb_mutate.specs.ReadRule.{IsLoaded, ReadHere, ReadEffect, IsShown}
-use Rattle.cb_mutate.specs.ReadEnds.{ReadEnds, IsWithin}
-use Rattle.cb_mutate.proofs.Written.{objects_back, claimed_words, claimed_version, absent_before}
+use Rattle.cb_mutate.specs.ReadEnds.{ReadEnds, LiesInMemory}
+use Rattle.cb_mutate.proofs.WriteSound.{objects_back, claimed_words, claimed_version, absent_before}
 
 -- a claimed object that is settled hot is what it was
 hot_well : (far : FarState) (s t : Shown) (first done : List Event) (h w v : ℕ) (words : List ℕ)
@@ -143,7 +143,7 @@ fits_here (is.Claimed len place v words) w f e = absurd (moving_here (sym f.4 �
 -- a word that was seen here names words of the memory
 pub seen_within : (far : FarState) (s : Shown) (before : List Event) (h w size : ℕ) → Sound s far
     → AreLooks h before → Agree s (look_after before h w) → state_of w ≡ state.Here
-    → length s.memory ≡ size → IsWithin w size
+    → length s.memory ≡ size → LiesInMemory w size
 seen_within far s before h w size sound looks agree here sized =
     let p = looks_played h before s looks in
     let a : Agrees (record s { hots = p.0 }) (Looked h w) =

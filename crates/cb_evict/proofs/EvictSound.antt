@@ -25,30 +25,30 @@ use Rattle.cb_world.specs.Stored.{all_put}
 use Rattle.cb_world.specs.Written.{Writes}
 use Rattle.cb_world.proofs.Laws.{told_append, some_same, put_only, fits_on_least, room_puts, put_there, put_elsewhere}
 use Rattle.cb_evict.specs.BeginRule.{new_batch}
-use Rattle.cb_evict.specs.Candidates.{Names}
+use Rattle.cb_evict.specs.Candidates.{SpanNames}
 use Rattle.cb_evict.specs.Claims.{AreClaimed, IsNone}
 use Rattle.cb_evict.specs.Closing.{HaveHomes, with_homes}
 use Rattle.cb_evict.specs.EvictEffect.{HasLeft, HaveFrameRows, IsEvicted}
 use Rattle.cb_evict.specs.EvictRule.{HasEvicted}
 use Rattle.cb_evict.specs.Events.{TouchesOnly}
-use Rattle.cb_evict.specs.Sending.{IsSent, IsTold, AreSent}
+use Rattle.cb_evict.specs.Sending.{IsSent, IsFormerTold, AreSent}
 use Rattle.cb_evict.specs.Storing.{AreShards, set_for, with_set}
 use Rattle.cb_evict.proofs.Events.{quiet_told}
 use Rattle.cb_evict.proofs.Gone.{closed_in, in_or_out}
 use Rattle.cb_evict.proofs.Group.{out_none}
 use Rattle.cb_evict.proofs.Homing.{closed_else}
 use Rattle.cb_evict.proofs.NewSet.{shards_within, shards_apart, keys_apart, shards_distinct, shards_up, shards_current, set_added_in, set_others, fresh_number}
-use Rattle.cb_evict.proofs.PutAway.{IsPutAway, is_sent, now_away, sound_away}
+use Rattle.cb_evict.proofs.PutAway.{IsGroupPutAway, is_sent, now_away, sound_away}
 use Rattle.cb_evict.proofs.Putting.{put_count}
 use Rattle.cb_evict.proofs.Standing.{names_span}
-use Rattle.cb_evict.proofs.TakenGroup.{AreRead, frame_rows, group_range, group_word, now_told, row_at_frame, rows_told, span_word, taken_group, told_one}
+use Rattle.cb_evict.proofs.TakenGroup.{AreRowsCoded, frame_rows, group_range, group_word, now_told, row_at_frame, rows_told, span_word, taken_group, told_one}
 use Rattle.cb_evict.proofs.Options.{some_none}
 
 -- objects of k spans were claimed, their rows coded and put, and they were put away
-pub record Done (c : Config) (far : FarState) (frames : List ℕ) (formers : List Former)
+pub record EvictDone (c : Config) (far : FarState) (frames : List ℕ) (formers : List Former)
     (shards : List Shard) (parities : List (List ℕ)) (homes : List (Option Home))
     (before : List Event) (s t u : Shown) : Type 0 where
-  pub read : AreRead c far frames formers parities before s t
+  pub read : AreRowsCoded c far frames formers parities before s t
   pub sent : AreSent t u formers
   pub chosen : AreShards far (c.k + c.r) shards
   pub homed : HaveHomes far.spans frames far.counts.sets far.homes homes
@@ -69,8 +69,8 @@ new_counts far shards =
 module _ (c : Config) (far : FarState) (frames : List ℕ) (formers : List Former)
     (shards : List Shard) (parities : List (List ℕ)) (homes : List (Option Home))
     (before : List Event) (s t u : Shown)
-    (d : Done c far frames formers shards parities homes before s t u) where
-  put_away : IsPutAway t u far (new_batch c far frames formers parities) shards
+    (d : EvictDone c far frames formers shards parities homes before s t u) where
+  put_away : IsGroupPutAway t u far (new_batch c far frames formers parities) shards
       (new_sets far frames shards) (all_put far.nodes shards (frame_rows t frames ++ parities))
       (new_counts far shards) homes
   put_away =
@@ -135,7 +135,7 @@ module _ (c : Config) (far : FarState) (frames : List ℕ) (formers : List Forme
   }
 
   -- ---- the effect
-  in_gone : (h f : ℕ) → Names far.spans f h
+  in_gone : (h f : ℕ) → SpanNames far.spans f h
       → span_in (after_far far frames shards (frame_rows t frames ++ parities) homes).spans f ≡ None
       → Contains frames f
   in_gone h f named gone = elim (in_or_out frames f) [
@@ -214,7 +214,7 @@ module _ (c : Config) (far : FarState) (frames : List ℕ) (formers : List Forme
 -- claimed objects may be sent
 pub told_all : (far : FarState) (es : List Event) (s t : Shown) (formers : List Former)
     → AreClaimed es s t formers → LocalSound t far → length t.hots ≡ length t.objects
-    → All (IsTold t) formers
+    → All (IsFormerTold t) formers
 told_all far es s t formers a here count k e l = let x = (a.taken k e l).at in record {
   version = x.version;
   words = x.words;

@@ -11,9 +11,9 @@ use Rattle.cb_world.specs.Allowed.{Allowed}
 use Rattle.cb_world.specs.FarState.{FarState}
 use Rattle.cb_world.specs.Sound.{Sound}
 use Rattle.cb_world.specs.Placed.{Slot, IsChosen, place_in, with_object}
-use Rattle.cb_world.proofs.Laws.{length_put, IsEmptySlot, chosen_empty, chosen_class, chosen_stays, IsCounted, next_counted, slot_bounds, may_lie, sound_brought, put_beside}
+use Rattle.cb_world.proofs.Laws.{length_put, IsEmptySlot, chosen_empty, chosen_class, chosen_stays, IsCountedMade, next_counted, slot_bounds, may_lie, sound_brought, put_beside}
 use Rattle.cb_mutate.specs.WordsOf.{AreWordsOf}
-use Rattle.cb_mutate.specs.MakeRule.{IsMade, made_by, with_made}
+use Rattle.cb_mutate.specs.MakeRule.{IsMade, make_events, with_made}
 use Rattle.cb_mutate.specs.MakeEnds.{IsNewAt}
 use Rattle.cb_mutate.proofs.NewObject.{with_new, well_made}
 
@@ -25,7 +25,8 @@ some_left s far made handles count sound sized all same other =
     let z : made ≢ count = other in omega (arith, sound.here.known.bounded, sized, all, same, z)
 
 -- What holds where the next handle is made in the slot that its bytes get.
-pub record IsReady (s : Shown) (far : FarState) (class : Class) (slot : Slot) (h version len : ℕ)
+pub record IsReadyToMake (s : Shown) (far : FarState) (class : Class) (slot : Slot)
+    (h version len : ℕ)
     : Type 0 where
   pub sound : Sound s far
   pub range : h < length s.objects
@@ -39,22 +40,22 @@ pub record IsReady (s : Shown) (far : FarState) (class : Class) (slot : Slot) (h
   pub first : version ≡ far.first
 
 empty_slot : (s : Shown) (far : FarState) (class : Class) (slot : Slot) (h version len : ℕ)
-    → IsReady s far class slot h version len → IsEmptySlot far slot
+    → IsReadyToMake s far class slot h version len → IsEmptySlot far slot
 empty_slot s far class slot h version len x =
     chosen_empty far class Hot slot x.sound.here.frames x.fits.in_table x.chosen
 
 class_fits : (s : Shown) (far : FarState) (class : Class) (slot : Slot) (h version len : ℕ)
-    → IsReady s far class slot h version len → IsClassOf len slot.span.class
+    → IsReadyToMake s far class slot h version len → IsClassOf len slot.span.class
 class_fits s far class slot h version len x =
     subst (IsClassOf len) (sym (chosen_class far class Hot slot x.chosen)) x.fits
 
 never_was : (s : Shown) (far : FarState) (class : Class) (slot : Slot) (h version len : ℕ)
-    → IsReady s far class slot h version len → object_at s h ≡ never
+    → IsReadyToMake s far class slot h version len → object_at s h ≡ never
 never_was s far class slot h version len x =
     (x.sound.here.known.made h x.range).0 (let e : h ≡ far.made = x.next in omega (arith, e))
 
 pub new_at : (s : Shown) (far : FarState) (class : Class) (slot : Slot) (h version len : ℕ)
-    → IsReady s far class slot h version len → IsNewAt s h version (place_in slot) len
+    → IsReadyToMake s far class slot h version len → IsNewAt s h version (place_in slot) len
 new_at s far class slot h version len x =
     let free = empty_slot s far class slot h version len x in
     let fits = class_fits s far class slot h version len x in
@@ -65,7 +66,8 @@ new_at s far class slot h version len x =
       within = omega (arith, ends.1, free.within, x.sound.here.placed.memory);
       alone = λ p covers. may_lie far s slot h len (far.made + 1) 0 p x.sound.here
           (never_was s far class slot h version len x) x.range x.stamp free fits
-          (subst (IsCounted far.made (far.made + 1)) (sym x.next) (next_counted far.made)) covers;
+          (subst (IsCountedMade far.made (far.made + 1)) (sym x.next) (next_counted far.made))
+          covers;
     }
 
 -- What holds after a make.
@@ -76,13 +78,13 @@ pub record IsMakeDone (s t : Shown) (es : List Event) (far new : FarState) (h ve
   pub effect : IsMade h version bytes far new es s t
 
 pub make_done : (s : Shown) (far new : FarState) (class : Class) (slot : Slot) (h version : ℕ)
-    (bytes words : List ℕ) → IsReady s far class slot h version (length bytes)
+    (bytes words : List ℕ) → IsReadyToMake s far class slot h version (length bytes)
     → AreWordsOf bytes words → new ≡ with_made far slot
-    → IsMakeDone s (played (made_by h version (length bytes) (place_in slot) words) s)
-    (made_by h version (length bytes) (place_in slot) words) far new h version bytes
+    → IsMakeDone s (played (make_events h version (length bytes) (place_in slot) words) s)
+    (make_events h version (length bytes) (place_in slot) words) far new h version bytes
 make_done s far new class slot h version bytes words x packed left =
     let len = length bytes in let place = place_in slot in
-    let es = made_by h version len place words in
+    let es = make_events h version len place words in
     let at = new_at s far class slot h version len x in
     let made = well_made s h version place len words at packed.count packed.packed
     (omega (arith, x.short)) (omega (arith, at.within, x.memory, x.some_byte)) in
@@ -98,7 +100,7 @@ make_done s far new class slot h version bytes words x packed left =
           (λ batch there leaves. chosen_stays s far class Hot slot batch x.sound x.chosen there
           leaves)
           (class_fits s far class slot h version len x)
-          (subst (IsCounted far.made (far.made + 1)) (sym x.next) (next_counted far.made))
+          (subst (IsCountedMade far.made (far.made + 1)) (sym x.next) (next_counted far.made))
           (record {
             first = refl;
             objects = refl;

@@ -24,11 +24,11 @@ use Rattle.cb_world.specs.FarState.{FarState}
 use Rattle.cb_world.specs.FarSound.{Owner, of_set, of_leaving, of_joining, IsShardOf, AwaySound}
 use Rattle.cb_world.specs.Sound.{Sound}
 use Rattle.cb_world.proofs.Laws.{number, fits_on_least, up_is_kept, up_on_least, local_stays, noted_stays, claimed_stay, place_on, reserved_is_other, HasRowPut, IsNewOr, IsRenamed, row_put_away, row_put_join, row_put_words, set_there, stands_still, survey_stays}
-use Rattle.cb_rebuild.specs.RebuildStep.{IsNewShard, IsRowOf, with_name, with_put}
+use Rattle.cb_rebuild.specs.RebuildStep.{IsNewShard, IsRowOf, with_put, with_shard_named}
 use Rattle.cb_rebuild.proofs.WeakSets.{least_is_lost, least_within, set_same, weak_not_broken}
 
 -- the row of the least lost position of a weak set was made again, and has a new shard
-pub record Stands (s : Shown) (far : FarState) (id : ℕ) (set : SetState) (p : ℕ) (shard : Shard)
+pub record IsRestored (s : Shown) (far : FarState) (id : ℕ) (set : SetState) (p : ℕ) (shard : Shard)
     (row : List ℕ) : Type 0 where
   pub sound : AwaySound s far
   pub there : set_in far.sets id ≡ Some set
@@ -39,13 +39,13 @@ pub record Stands (s : Shown) (far : FarState) (id : ℕ) (set : SetState) (p : 
 
 -- the far state then
 abbrev pub stood : FarState → ℕ → SetState → ℕ → Shard → List ℕ → FarState
-stood far id set p shard row = with_name (with_put far set shard row) id set p shard
+stood far id set p shard row = with_shard_named (with_put far set shard row) id set p shard
 
 shard_same : (a b : Shard) → Some a ≡ Some b → a ≡ b
 shard_same a b e = cc
 
 module _ (s : Shown) (far : FarState) (id : ℕ) (set : SetState) (p : ℕ) (shard : Shard)
-    (row : List ℕ) (x : Stands s far id set p shard row) where
+    (row : List ℕ) (x : IsRestored s far id set p shard row) where
   abbrev new : FarState
   new = stood far id set p shard row
 
@@ -213,7 +213,7 @@ module _ (s : Shown) (far : FarState) (id : ℕ) (set : SetState) (p : ℕ) (sha
 
 -- the whole world
 pub stood_sound : (s : Shown) (far : FarState) (id : ℕ) (set : SetState) (p : ℕ) (shard : Shard)
-    (row : List ℕ) → Sound s far → Stands s far id set p shard row
+    (row : List ℕ) → Sound s far → IsRestored s far id set p shard row
     → Sound s (stood far id set p shard row)
 stood_sound s far id set p shard row sound x = record {
   here = local_stays s far (stood far id set p shard row) refl refl refl refl sound.here;

@@ -12,18 +12,18 @@ use Rattle.cb_world.specs.Joining.{JoiningState}
 use Rattle.cb_world.specs.Reserved.{put_shards}
 use Rattle.cb_world.specs.Sound.{Sound}
 use Rattle.cb_compact.specs.NowGoing.{EndsFrom, IsUndone, without_pair}
-use Rattle.cb_compact.specs.NowStep.{AreStepped, Ends, NowStep}
-use Rattle.cb_compact.specs.Pairing.{BeginStep, IsPaired, begun_pair, numbered, with_pair}
-use Rattle.cb_compact.specs.Standing.{IsFreshPair, PartStep}
-use Rattle.cb_compact.proofs.Begins.{begin_given, begin_now}
-use Rattle.cb_compact.proofs.Committed.{merge_given, merge_keeps}
-use Rattle.cb_compact.proofs.Keeping.{Keeps, dropped_given, keeps_all, keeps_both, parted_keeps}
+use Rattle.cb_compact.specs.CompactStep.{AreStepped, CompactStep, PairEnds}
+use Rattle.cb_compact.specs.PairStep.{IsPaired, PairStep, begun_pair, set_numbered, with_pair}
+use Rattle.cb_compact.specs.PartStep.{IsFreshPair, PartStep}
+use Rattle.cb_compact.proofs.PairSound.{begin_given, begin_now}
+use Rattle.cb_compact.proofs.MergeSound.{merge_given, merge_keeps}
+use Rattle.cb_compact.proofs.CompactKeeps.{JoinKeeps, dropped_given, keeps_all, keeps_both, parted_keeps}
 use Rattle.cb_compact.proofs.NowGone.{stepped_keeps_all}
-use Rattle.cb_compact.proofs.OneStep.{patch_given}
+use Rattle.cb_compact.proofs.PatchSound.{patch_given}
 
 -- ---- what the begin was
-pub at_joining : (far mid : FarState) (a b : SetId) → BeginStep far mid (answer.Joining a b)
-    → NowStep far mid (answer.Joining a b)
+pub at_joining : (far mid : FarState) (a b : SetId) → PairStep far mid (answer.Joining a b)
+    → CompactStep far mid (answer.Joining a b)
 at_joining far mid a b (inl x) = inl x
 at_joining far mid a b (inr (inl x)) = absurd (other x.reply)
   where
@@ -31,26 +31,26 @@ at_joining far mid a b (inr (inl x)) = absurd (other x.reply)
     other e = cc
 at_joining far mid a b (inr (inr x)) = absurd (other x.reply)
   where
-    other : answer.Joining a b ≡ answer.Pair (numbered x.x) (numbered x.y) → ⊥
+    other : answer.Joining a b ≡ answer.Pair (set_numbered x.x) (set_numbered x.y) → ⊥
     other e = cc
 
-pub at_no_pair : (far mid : FarState) → BeginStep far mid answer.NoPair
-    → NowStep far mid answer.NoPair
+pub at_no_pair : (far mid : FarState) → PairStep far mid answer.NoPair
+    → CompactStep far mid answer.NoPair
 at_no_pair far mid (inl x) = absurd (other x.reply)
   where
-    other : answer.NoPair ≡ answer.Joining (numbered x.pair.a) (numbered x.pair.b) → ⊥
+    other : answer.NoPair ≡ answer.Joining (set_numbered x.pair.a) (set_numbered x.pair.b) → ⊥
     other e = cc
 at_no_pair far mid (inr (inl x)) = inr (inl x)
 at_no_pair far mid (inr (inr x)) = absurd (other x.reply)
   where
-    other : answer.NoPair ≡ answer.Pair (numbered x.x) (numbered x.y) → ⊥
+    other : answer.NoPair ≡ answer.Pair (set_numbered x.x) (set_numbered x.y) → ⊥
     other e = cc
 
-pub at_pair : (far mid : FarState) (a b : SetId) → BeginStep far mid (answer.Pair a b)
+pub at_pair : (far mid : FarState) (a b : SetId) → PairStep far mid (answer.Pair a b)
     → IsPaired far mid (answer.Pair a b)
 at_pair far mid a b (inl x) = absurd (other x.reply)
   where
-    other : answer.Pair a b ≡ answer.Joining (numbered x.pair.a) (numbered x.pair.b) → ⊥
+    other : answer.Pair a b ≡ answer.Joining (set_numbered x.pair.a) (set_numbered x.pair.b) → ⊥
     other e = cc
 at_pair far mid a b (inr (inl x)) = absurd (other x.reply)
   where
@@ -63,7 +63,7 @@ none_put zero = refl
 none_put (suc n) = none_put n
 
 -- the pair that has begun stands as it began, and no step of it is done
-pub record HasBegun (far mid : FarState) : Type 0 where
+pub record PairHasBegun (far mid : FarState) : Type 0 where
   pub none : far.joining ≡ None
   pub pair : JoiningState
   pub a : SetState
@@ -72,8 +72,8 @@ pub record HasBegun (far mid : FarState) : Type 0 where
   pub undone : IsUndone pair
   pub state : mid ≡ with_pair far pair
 
-pub has_begun : (far mid : FarState) (a b : SetId) → BeginStep far mid (answer.Pair a b)
-    → HasBegun far mid
+pub has_begun : (far mid : FarState) (a b : SetId) → PairStep far mid (answer.Pair a b)
+    → PairHasBegun far mid
 has_begun far mid a b step = let x = at_pair far mid a b step in record {
   none = x.none;
   pair = begun_pair x.x x.y x.a x.b;
@@ -98,16 +98,16 @@ has_begun far mid a b step = let x = at_pair far mid a b step in record {
 }
 
 -- without the pair all is as it was before the begin
-pub back_before : (far mid : FarState) → HasBegun far mid → without_pair mid ≡ far
+pub back_before : (far mid : FarState) → PairHasBegun far mid → without_pair mid ≡ far
 back_before far mid x = ap without_pair x.state
     ∙ ap (λ (o : Option JoiningState). record far { joining = o }) (sym x.none)
 
 -- ---- what the end keeps
 part_keeps : (s : Shown) (far new : FarState) (r : Reply) → Sound s far → PartStep far new r
-    → Keeps s far new
-part_keeps s far new r sound (inl x) = subst (Keeps s far) (sym x.state) (keeps_all s far sound)
+    → JoinKeeps s far new
+part_keeps s far new r sound (inl x) = subst (JoinKeeps s far) (sym x.state) (keeps_all s far sound)
 part_keeps s far new r sound (inr x) =
-    subst (Keeps s far) (sym x.state) (parted_keeps s far x.pair sound x.there)
+    subst (JoinKeeps s far) (sym x.state) (parted_keeps s far x.pair sound x.there)
 
 part_given : (far new : FarState) (r : Reply) → PartStep far new r
     → new.nodes.given ≡ far.nodes.given
@@ -115,13 +115,14 @@ part_given far new r (inl x) = ap (λ (f : FarState). f.nodes.given) x.state
 part_given far new r (inr x) = ap (λ (f : FarState). f.nodes.given) x.state
     ∙ dropped_given far.nodes (put_shards x.pair.steps)
 
-ends_keep : (s : Shown) (far new : FarState) (r : Reply) → Sound s far → Ends far new r
-    → Keeps s far new
+ends_keep : (s : Shown) (far new : FarState) (r : Reply) → Sound s far → PairEnds far new r
+    → JoinKeeps s far new
 ends_keep s far new r sound (inl x) = part_keeps s far new answer.Done sound x.parted
 ends_keep s far new r sound (inr x) =
     merge_keeps s far new (answer.Merged x.set x.moved) sound x.merged
 
-ends_given : (far new : FarState) (r : Reply) → Ends far new r → new.nodes.given ≡ far.nodes.given
+ends_given : (far new : FarState) (r : Reply) → PairEnds far new r
+    → new.nodes.given ≡ far.nodes.given
 ends_given far new r (inl x) = part_given far new answer.Done x.parted
 ends_given far new r (inr x) = merge_given far new (answer.Merged x.set x.moved) x.merged
 
@@ -133,7 +134,7 @@ steps_given far new (p ∷ done) steps =
 
 -- ---- the whole turn
 pub from_keep : (s : Shown) (far new : FarState) (r : Reply) → Sound s far → EndsFrom far new r
-    → Keeps s far new
+    → JoinKeeps s far new
 from_keep s far new r sound x =
     let y = stepped_keeps_all s far x.1 x.0 sound x.2 in
     keeps_both s far x.1 new y (ends_keep s x.1 new r y.sound x.3)
@@ -142,9 +143,9 @@ pub from_given : (far new : FarState) (r : Reply) → EndsFrom far new r
     → new.nodes.given ≡ far.nodes.given
 from_given far new r x = ends_given x.1 new r x.3 ∙ steps_given far x.1 x.0 x.2
 
-module _ (far mid new : FarState) (a b : SetId) (begun : BeginStep far mid (answer.Pair a b)) where
+module _ (far mid new : FarState) (a b : SetId) (begun : PairStep far mid (answer.Pair a b)) where
   pub through : (r : Result Reply NoMemory) → IfOk r (λ reply. EndsFrom mid new reply)
-      → IfOk r (λ reply. NowStep far new reply)
+      → IfOk r (λ reply. CompactStep far new reply)
   through (Ok reply) x = inr (inr (record {
     a = a;
     b = b;
@@ -164,14 +165,14 @@ module _ (far mid new : FarState) (a b : SetId) (begun : BeginStep far mid (answ
 
   pub through_keeps : (s : Shown) (r : Result Reply NoMemory) → Sound s far → Sound s mid
       → IfOk r (λ reply. EndsFrom mid new reply) → OnErr r (new ≡ without_pair mid)
-      → Keeps s far new
+      → JoinKeeps s far new
   through_keeps s (Ok reply) sound after x error =
       keeps_both s far mid new (record {
         sound = after;
         same_now = λ h. begin_now s far mid (answer.Pair a b) h sound begun;
       }) (from_keep s mid new reply after x)
   through_keeps s (Err e) sound after x error =
-      subst (Keeps s far) (sym (error ∙ back_before far mid (has_begun far mid a b begun)))
+      subst (JoinKeeps s far) (sym (error ∙ back_before far mid (has_begun far mid a b begun)))
       (keeps_all s far sound)
 
   pub through_given : (r : Result Reply NoMemory) → IfOk r (λ reply. EndsFrom mid new reply)
@@ -183,7 +184,7 @@ module _ (far mid new : FarState) (a b : SetId) (begun : BeginStep far mid (answ
       (error ∙ back_before far mid (has_begun far mid a b begun))
 
 -- no row is given, whatever the turn was
-pub now_given : (far new : FarState) (r : Reply) → NowStep far new r
+pub now_given : (far new : FarState) (r : Reply) → CompactStep far new r
     → new.nodes.given ≡ far.nodes.given
 now_given far new r (inl x) = ap (λ (f : FarState). f.nodes.given) x.state
 now_given far new r (inr (inl x)) = ap (λ (f : FarState). f.nodes.given) x.state

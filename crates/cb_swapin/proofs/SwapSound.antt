@@ -27,13 +27,13 @@ use Rattle.cb_world.specs.GivenUp.{GivesUp}
 use Rattle.cb_world.specs.LocalSound.{LiesAt}
 use Rattle.cb_world.specs.Sound.{AreNoted, IsLeaving, Sound}
 use Rattle.cb_world.proofs.Laws.{slot_inside, brought_now, now_kept, left_gone, room_left, left_count, left_others, left_over, noted_by, reserved_is_other, KeepsLeaving, batch_kept, given_whole, put_else, window_same, length_words, row_put, left_whole}
-use Rattle.cb_world.specs.Fetched.{with_given}
+use Rattle.cb_world.specs.Fetched.{with_rows_given}
 use Rattle.cb_world.specs.Rooms.{HaveRoom}
-use Rattle.cb_swapin.specs.Named.{Names, IsNamed}
+use Rattle.cb_swapin.specs.Named.{NamesHandle, IsNamed}
 use Rattle.cb_swapin.proofs.Committed.{live_within}
 use Rattle.cb_swapin.proofs.SlotNames.{named_or_not, named_within}
 use Rattle.cb_swapin.proofs.SlotsBrought.{far_same}
-use Rattle.cb_swapin.proofs.Waits.{Arrives, free_frame, home_named, named_waits}
+use Rattle.cb_swapin.proofs.Waits.{CanArrive, free_frame, home_named, named_waits}
 use Rattle.cb_swapin.proofs.Arrived.{HasArrived, arrived_here, each_moved, moved, other_span}
 
 some_none : {X : Type 0} (o : Option X) (x : X) → o ≡ None → o ≡ Some x → ⊥
@@ -57,7 +57,7 @@ other_words ms f g row off at n start end =
 
 -- ---- the batch that is leaving
 leaves_apart : (s : Shown) (far : FarState) (id p : ℕ) (set : SetState) (f : ℕ) (span : Contents)
-    (row : List ℕ) (batch : LeavingState) → Arrives s far id p set f span row
+    (row : List ℕ) (batch : LeavingState) → CanArrive s far id p set f span row
     → far.leaving ≡ Some batch → (g : ℕ) → Contains batch.frames g → g ≢ f
 leaves_apart s far id p set f span row batch x there g leaves same =
     let held = (x.sound.noted batch there).held g leaves in
@@ -65,7 +65,7 @@ leaves_apart s far id p set f span row batch x there g leaves same =
     some_none (span_in far.spans f) held.0 frame.1 (ap (span_in far.spans) (sym same) ∙ held.1)
 
 pub keeps_leaving : (s t : Shown) (far new : FarState) (id p : ℕ) (set : SetState) (f n : ℕ)
-    (span : Contents) (row : List ℕ) → Arrives s far id p set f span row
+    (span : Contents) (row : List ℕ) → CanArrive s far id p set f span row
     → HasArrived s t far new id p set f n span row → (batch : LeavingState)
     → far.leaving ≡ Some batch → KeepsLeaving s t far new batch
 keeps_leaving s t far new id p set f n span row x y batch there = record {
@@ -83,7 +83,7 @@ far_claimed : (len v place l u : ℕ) (words ws : List ℕ)
 far_claimed len v place l u words ws e = cc
 
 arrived_noted : (s t : Shown) (far new : FarState) (id p : ℕ) (set : SetState) (f n : ℕ)
-    (span : Contents) (row : List ℕ) → Arrives s far id p set f span row
+    (span : Contents) (row : List ℕ) → CanArrive s far id p set f span row
     → HasArrived s t far new id p set f n span row → (batch : LeavingState)
     → far.leaving ≡ Some batch → AreNoted t new batch
 arrived_noted s t far new id p set f n span row x y batch there =
@@ -114,7 +114,7 @@ arrived_noted s t far new id p set f n span row x y batch there =
 
 -- a claimed object stands in a frame that is leaving, and its words stay
 arrived_claimed : (s t : Shown) (far new : FarState) (id p : ℕ) (set : SetState) (f n : ℕ)
-    (span : Contents) (row : List ℕ) → Arrives s far id p set f span row
+    (span : Contents) (row : List ℕ) → CanArrive s far id p set f span row
     → HasArrived s t far new id p set f n span row → (h len place v : ℕ) (words : List ℕ)
     → object_at t h ≡ is.Claimed len place v words → IsLeaving t new h len place words
 arrived_claimed s t far new id p set f n span row x y h len place v words claimed =
@@ -164,7 +164,7 @@ no_slot slot h e = some_none (get_or dead_position.slots slot None) h
     (get_or_past dead_position.slots slot None (omega arith)) e
 
 pub gives_up : (s t : Shown) (far new : FarState) (id p : ℕ) (set : SetState) (f n : ℕ)
-    (span : Contents) (row : List ℕ) → Arrives s far id p set f span row
+    (span : Contents) (row : List ℕ) → CanArrive s far id p set f span row
     → HasArrived s t far new id p set f n span row
     → GivesUp s t far new id set p dead_position
 gives_up s t far new id p set f n span row x y = record {
@@ -179,7 +179,7 @@ gives_up s t far new id p set f n span row x y = record {
   nodes = ap (λ m. length m.nodes) y.nodes
       ∙ left_count _ (with_position set p dead_position);
   room = λ room. subst HaveRoom (sym y.nodes)
-      (room_left (with_given far.nodes n) (with_position set p dead_position) room);
+      (room_left (with_rows_given far.nodes n) (with_position set p dead_position) room);
   members = y.members;
   leaving = y.leaving;
   joining = y.joining;
@@ -191,7 +191,7 @@ gives_up s t far new id p set f n span row x y = record {
         let m = moved s t far new id p set f n span row x y named.0 h named.1 in
         inr (record {
           slot = named.0;
-          named = subst (λ (l : List (Option ℕ)). Names l named.0 h) x.fetched.slots named.1;
+          named = subst (λ (l : List (Option ℕ)). NamesHandle l named.0 h) x.fetched.slots named.1;
           gone = λ slot e. no_slot slot h e;
           home = y.homes.named h named;
           near = here_near m.len (slot_place span.class f m.slot) (object_at t h) m.here;
@@ -201,7 +201,7 @@ gives_up s t far new id p set f n span row x y = record {
       home = y.homes.others h none;
       stays = λ slot e. absurd (none (
         slot,
-        subst (λ (l : List (Option ℕ)). Names l slot h)
+        subst (λ (l : List (Option ℕ)). NamesHandle l slot h)
             (sym x.fetched.slots) e,
       ));
     })
@@ -209,7 +209,7 @@ gives_up s t far new id p set f n span row x y = record {
 }
 
 pub sound_arrived : (s t : Shown) (far new : FarState) (id p : ℕ) (set : SetState) (f n : ℕ)
-    (span : Contents) (row : List ℕ) → Arrives s far id p set f span row
+    (span : Contents) (row : List ℕ) → CanArrive s far id p set f span row
     → HasArrived s t far new id p set f n span row → Sound t new
 sound_arrived s t far new id p set f n span row x y = record {
   here = arrived_here s t far new id p set f n span row x y;
@@ -222,20 +222,20 @@ sound_arrived s t far new id p set f n span row x y = record {
 
 -- ---- last complete contents
 pub now_arrived : (s t : Shown) (far new : FarState) (id p : ℕ) (set : SetState) (f n : ℕ)
-    (span : Contents) (row : List ℕ) → Arrives s far id p set f span row
+    (span : Contents) (row : List ℕ) → CanArrive s far id p set f span row
     → HasArrived s t far new id p set f n span row → (h : ℕ) → now t new h ≡ now s far h
 now_arrived s t far new id p set f n span row x y h = elim (named_or_not span.slots h) [
   | inl named ↦ named_now named.0 named.1
   | inr none ↦ other_now none
 ]
   where
-    whole : (slot : ℕ) → Names span.slots slot h → is_gone far h ≡ false
+    whole : (slot : ℕ) → NamesHandle span.slots slot h → is_gone far h ≡ false
     whole slot named =
         ap (broken_home far) (home_named s far id p set span.slots x.sound.away.sound x.there
         x.fetched.slots slot h named)
         ∙ ap (broken_set far.members) x.there ∙ x.whole
 
-    named_now : (slot : ℕ) → Names span.slots slot h → now t new h ≡ now s far h
+    named_now : (slot : ℕ) → NamesHandle span.slots slot h → now t new h ≡ now s far h
     named_now slot named =
         let w = named_waits s far id p set f span row x slot h named in
         let b = y.brought.brought slot h named in

@@ -5,9 +5,9 @@ use Rattle.cb_types.specs.declared.handle.SetId.{SetId}
 use Rattle.cb_types.specs.declared.reply.Reply.{Reply}
 use Rattle.cb_types.specs.declared.reply.Reply.TheVariants as answer
 use Rattle.cb_world.specs.FarState.{FarState}
-use Rattle.cb_compact.specs.Pairing.{BeginStep, FindsNoPair, IsJoining}
-use Rattle.cb_compact.specs.Standing.{PartStep}
-use Rattle.cb_compact.specs.Steps.{PatchStep}
+use Rattle.cb_compact.specs.PairStep.{FindsNoPair, IsJoining, PairStep}
+use Rattle.cb_compact.specs.PartStep.{PartStep}
+use Rattle.cb_compact.specs.PatchStep.{PatchStep}
 use Rattle.cb_compact.specs.MergeStep.{MergeStep}
 
 -- the steps of the joining pair at these positions, one after another, lead from one far state to
@@ -32,8 +32,8 @@ pub record EndsMerged (far new : FarState) (r : Reply) : Type 0 where
   pub reply : r ≡ answer.Merged set moved
 
 -- how a pair that is joining ends, whose steps are taken up to here
-abbrev pub Ends : FarState → FarState → Reply → Type 0
-Ends far new r = EndsFull far new r ⊎ EndsMerged far new r
+abbrev pub PairEnds : FarState → FarState → Reply → Type 0
+PairEnds far new r = EndsFull far new r ⊎ EndsMerged far new r
 
 -- the first two sets that can be joined begin to, and their steps are taken in order, up to the
 -- last one or to the first node that is full
@@ -41,12 +41,12 @@ pub record GoesThrough (far new : FarState) (r : Reply) : Type 0 where
   pub a : SetId
   pub b : SetId
   pub begun : FarState
-  pub paired : BeginStep far begun (answer.Pair a b)
+  pub paired : PairStep far begun (answer.Pair a b)
   pub done : List ℕ
   pub stepped : FarState
   pub steps : AreStepped begun done stepped
-  pub ends : Ends stepped new r
+  pub ends : PairEnds stepped new r
 
 -- two sets joined in one turn: the reply and the far state after it
-abbrev pub NowStep : FarState → FarState → Reply → Type 0
-NowStep far new r = IsJoining far new r ⊎ FindsNoPair far new r ⊎ GoesThrough far new r
+abbrev pub CompactStep : FarState → FarState → Reply → Type 0
+CompactStep far new r = IsJoining far new r ⊎ FindsNoPair far new r ⊎ GoesThrough far new r

@@ -21,9 +21,9 @@ use Rattle.cb_world.specs.SetWord.{IsWordOf}
 use Rattle.cb_world.specs.Sound.{Sound}
 use Rattle.cb_world.proofs.Laws.{join_is_merged, pair_now, room_put, stepped_whole}
 use Rattle.cb_types.specs.declared.reply.Reply.{Reply}
-use Rattle.cb_compact.specs.Standing.{IsFreshPair}
-use Rattle.cb_compact.specs.Steps.{IsMergedRow, IsNext, PatchStep, TakesStep, has_step, shard_beside, with_stepped}
-use Rattle.cb_compact.proofs.Keeping.{Keeps, dropped_given, fresh_is, keeps_all, local_sound, parted_keeps}
+use Rattle.cb_compact.specs.PartStep.{IsFreshPair}
+use Rattle.cb_compact.specs.PatchStep.{IsMergedRow, IsNext, PatchStep, TakesStep, has_step, shard_beside, with_stepped}
+use Rattle.cb_compact.proofs.CompactKeeps.{JoinKeeps, dropped_given, fresh_is, keeps_all, local_sound, parted_keeps}
 
 -- ---- a position whose step is to be done
 both_true : (a b : Bool) → (a && b) ≡ true → (a ≡ true) × (b ≡ true)
@@ -54,13 +54,13 @@ step_is_taken pair k p x below =
     ∙ (both_true (has_step pair k p) (is_none (get_or pair.steps p None)) x.undone).0
 
 -- ---- the pair's code
-pub record IsCounted (far : FarState) (pair : JoiningState) (a b : SetState) (j : IsJoin far pair)
+pub record HasPairCode (far : FarState) (pair : JoiningState) (a b : SetState) (j : IsJoin far pair)
     : Type 0 where
   pub k : length a.positions ≡ j.k
   pub r : parities a ≡ j.r
 
 pub counted : (far : FarState) (pair : JoiningState) (a b : SetState) (j : IsJoin far pair)
-    → IsFreshPair far pair a b → IsCounted far pair a b j
+    → IsFreshPair far pair a b → HasPairCode far pair a b j
 counted far pair a b j fresh =
     let k = (j.fit a b (fresh_is far pair a b fresh)).a_count in
     record {
@@ -164,7 +164,7 @@ module _ (s : Shown) (far : FarState) (pair : JoiningState) (a b : SetState) (p 
         shard ≡ q
     pair_same q e = cc
 
-    pub stepped_keeps : Keeps s far after
+    pub stepped_keeps : JoinKeeps s far after
     stepped_keeps = record {
       sound = local_sound s far after sound (record {
         first = refl;
@@ -186,20 +186,21 @@ module _ (s : Shown) (far : FarState) (pair : JoiningState) (a b : SetState) (p 
 -- whatever the step was
 pub takes_keeps : (s : Shown) (far new : FarState) (pair : JoiningState) (a b : SetState) (r :
     Reply)
-    → Sound s far → IsFreshPair far pair a b → TakesStep far pair a b new r → Keeps s far new
+    → Sound s far → IsFreshPair far pair a b → TakesStep far pair a b new r → JoinKeeps s far new
 takes_keeps s far new pair a b r sound fresh (inl x) =
-    subst (Keeps s far) (sym x.state) (keeps_all s far sound)
+    subst (JoinKeeps s far) (sym x.state) (keeps_all s far sound)
 takes_keeps s far new pair a b r sound fresh (inr (inl x)) =
-    subst (Keeps s far) (sym x.state) (keeps_all s far sound)
+    subst (JoinKeeps s far) (sym x.state) (keeps_all s far sound)
 takes_keeps s far new pair a b r sound fresh (inr (inr x)) =
-    subst (Keeps s far) (sym x.state)
+    subst (JoinKeeps s far) (sym x.state)
     (stepped_keeps s far pair a b x.position x.old x.row sound fresh x.next x.at x.merged x.room)
 
 pub patch_keeps : (s : Shown) (far new : FarState) (r : Reply) → Sound s far → PatchStep far new r
-    → Keeps s far new
-patch_keeps s far new r sound (inl x) = subst (Keeps s far) (sym x.state) (keeps_all s far sound)
+    → JoinKeeps s far new
+patch_keeps s far new r sound (inl x) =
+    subst (JoinKeeps s far) (sym x.state) (keeps_all s far sound)
 patch_keeps s far new r sound (inr (inl x)) =
-    subst (Keeps s far) (sym x.state) (parted_keeps s far x.pair sound x.there)
+    subst (JoinKeeps s far) (sym x.state) (parted_keeps s far x.pair sound x.there)
 patch_keeps s far new r sound (inr (inr x)) =
     takes_keeps s far new x.pair x.a x.b r sound x.fresh x.takes
 
@@ -218,9 +219,9 @@ patch_given far new r (inr (inr x)) = takes_given x.takes
 
 -- ---- the step, and what an error leaves
 pub patch_ends : (s : Shown) (far new : FarState) (r : Result Reply NoMemory) → Sound s far
-    → IfOk r (λ reply. PatchStep far new reply) → OnErr r (new ≡ far) → Keeps s far new
+    → IfOk r (λ reply. PatchStep far new reply) → OnErr r (new ≡ far) → JoinKeeps s far new
 patch_ends s far new (Ok reply) sound step error = patch_keeps s far new reply sound step
-patch_ends s far new (Err e) sound step error = subst (Keeps s far) (sym error) (keeps_all s far
+patch_ends s far new (Err e) sound step error = subst (JoinKeeps s far) (sym error) (keeps_all s far
     sound)
 
 pub patch_ends_given : (far new : FarState) (r : Result Reply NoMemory)

@@ -12,7 +12,7 @@ use Rattle.cb_world.specs.JoinSteps.{with_step}
 use Rattle.cb_world.specs.Merged.{takes, IsMergedWord}
 use Rattle.cb_world.specs.SetWord.{IsWordOf}
 use Rattle.cb_world.specs.FarState.{FarState}
-use Rattle.cb_compact.specs.Standing.{HasNoPair, IsFreshPair, IsGivenUp}
+use Rattle.cb_compact.specs.PartStep.{HasNoPair, IsFreshPair, IsPairGivenUp}
 
 -- whether the position has a step, of a pair with so many data positions: it is a data position
 -- taken from b, or a parity's
@@ -68,7 +68,7 @@ pub record IsAllStepped (far : FarState) (pair : JoiningState) (a : SetState) (n
   pub state : new ≡ far
 
 -- a's node at the next position holds as many rows as it has room for: the pair stays
-pub record IsFull (far : FarState) (pair : JoiningState) (a : SetState) (new : FarState) (r :
+pub record IsNodeFull (far : FarState) (pair : JoiningState) (a : SetState) (new : FarState) (r :
     Reply)
     : Type 0 where
   pub position : ℕ
@@ -95,7 +95,7 @@ pub record IsOneStep (far : FarState) (pair : JoiningState) (a b : SetState) (ne
 -- what becomes of a pair whose sets stand as they did
 abbrev pub TakesStep : FarState → JoiningState → SetState → SetState → FarState → Reply → Type 0
 TakesStep far pair a b new r =
-    IsAllStepped far pair a new r ⊎ IsFull far pair a new r ⊎ IsOneStep far pair a b new r
+    IsAllStepped far pair a new r ⊎ IsNodeFull far pair a new r ⊎ IsOneStep far pair a b new r
 
 -- the pair's sets stand as they did, and its next step is taken
 pub record StepsOn (far new : FarState) (r : Reply) : Type 0 where
@@ -107,4 +107,4 @@ pub record StepsOn (far new : FarState) (r : Reply) : Type 0 where
 
 -- a step of the joining pair: the reply and the far state after it
 abbrev pub PatchStep : FarState → FarState → Reply → Type 0
-PatchStep far new r = HasNoPair far new r ⊎ IsGivenUp far new r ⊎ StepsOn far new r
+PatchStep far new r = HasNoPair far new r ⊎ IsPairGivenUp far new r ⊎ StepsOn far new r

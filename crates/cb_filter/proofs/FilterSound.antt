@@ -24,18 +24,18 @@ use Rattle.cb_world.specs.Sound.{Sound}
 use Rattle.cb_world.specs.Placed.{Slot, IsChosen, place_in}
 use Rattle.cb_world.proofs.Laws.{window_put, length_put, claimed_from, IsAfterClaim, told_before}
 use Rattle.cb_filter.specs.Seats.{Seat, IsSeatOf, temp_for}
-use Rattle.cb_filter.specs.FilterRule.{EmptyAnswer, GetsSlot, FilterHere, FilterAs, NeedsMemory}
+use Rattle.cb_filter.specs.FilterRule.{EmptyToFilter, GetsSlot, FilterHere, FilterAs, NeedsMemory}
 use Rattle.cb_filter.specs.FilterEffect.{FilterEffect}
 use Rattle.cb_filter.specs.Refused.{RefusedAs}
 use Rattle.cb_filter.specs.Plans.{Wants}
 use Rattle.cb_filter.specs.Copies.{IsVacant}
 use Rattle.cb_filter.specs.ClaimEnds.{IsKnownAt, IsCarried, with_carried, SeatEnds}
 use Rattle.cb_filter.proofs.Berths.{one_span}
-use Rattle.cb_filter.proofs.Moved.{IsReady, seat_of, seat_lies, vacant_at, sound_moved}
+use Rattle.cb_filter.proofs.Moved.{IsReadyToMove, seat_of, seat_lies, vacant_at, sound_moved}
 use Rattle.cb_filter.proofs.Settled.{claimed_words, told_objects, settled_well, back_now, is_cooled, is_still, still_now, moved_now}
 
 -- What holds where a filter begins with a claim.
-pub record IsBegun (far : FarState) (s : Shown) (first done : List Event) (h w v : ℕ)
+pub record IsFilterBegun (far : FarState) (s : Shown) (first done : List Event) (h w v : ℕ)
     (words : List ℕ) : Type 0 where
   pub sound : Sound s far
   pub claim : IsAfterClaim s h w v words first done
@@ -54,7 +54,7 @@ pub record IsFilterDone (frames : ℕ) (far new : FarState) (s t : Shown) (es : 
   pub rule : FilterHere frames h w far new r es
 
 module _ (far : FarState) (s : Shown) (first done : List Event) (h w v : ℕ) (words : List ℕ)
-    (b : IsBegun far s first done h w v words) where
+    (b : IsFilterBegun far s first done h w v words) where
   abbrev es : List Event
   es = first ++ done
 
@@ -69,7 +69,7 @@ module _ (far : FarState) (s : Shown) (first done : List Event) (h w v : ℕ) (w
 
   abbrev ready : (slot : Slot) (r : Reply) (new : FarState)
       → GetsSlot far new (temp_for (hot_of w)) seat h slot r
-      → IsReady s far h (len_of w) (place_of w) (temp_for (hot_of w)) slot
+      → IsReadyToMove s far h (len_of w) (place_of w) (temp_for (hot_of w)) slot
   ready slot r new x = record {
     sound = b.sound;
     here = b.claim.here;
@@ -195,13 +195,13 @@ module _ (far : FarState) (s : Shown) (first done : List Event) (h w v : ℕ) (w
 
 -- the claimed object may lie in each slot that it could get
 pub known_at : (far : FarState) (s : Shown) (first done : List Event) (h w v : ℕ) (words : List ℕ)
-    → IsBegun far s first done h w v words → IsKnownAt (played first s) far h w v words
+    → IsFilterBegun far s first done h w v words → IsKnownAt (played first s) far h w v words
 known_at far s first done h w v words b = record {
   claimed = b.claim.claimed;
   vacant = λ other slot at warm chosen.
       let same = one_span far (place_of w) other mine at
       (seat_lies far s h (len_of w) (place_of w) b.sound b.c) in
-      let go : IsReady s far h (len_of w) (place_of w) temp slot = record {
+      let go : IsReadyToMove s far h (len_of w) (place_of w) temp slot = record {
         sound = b.sound;
         here = b.claim.here;
         range = b.range;
@@ -234,7 +234,7 @@ still_effect h far es s t r q e x =
     subst (λ (z : Reply). FilterEffect h far far z es s t) (sym e) x
 
 empty_effect : (v h : ℕ) (far : FarState) (es : List Event) (s t : Shown) (r : Reply)
-    → EmptyAnswer v r → IsStill es s t → FilterEffect h far far r es s t
+    → EmptyToFilter v r → IsStill es s t → FilterEffect h far far r es s t
 empty_effect zero h far es s t r e x = still_effect h far es s t r answer.Unmade e (record {
   change = x;
   same_now = λ k. still_now far s t es k x;

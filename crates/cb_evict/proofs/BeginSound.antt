@@ -36,9 +36,9 @@ use Rattle.cb_world.specs.Sound.{Sound, AreNoted, IsLeaving}
 use Rattle.cb_world.specs.Written.{Writes}
 use Rattle.cb_world.proofs.Laws.{some_same, found_more, stands_still, survey_stays}
 use Rattle.cb_evict.specs.BeginRule.{blank_shards, blank_shard, new_batch, with_batch, HasBegun}
-use Rattle.cb_evict.specs.BeginEffect.{IsBegun}
+use Rattle.cb_evict.specs.BeginEffect.{IsBatchBegun}
 use Rattle.cb_evict.proofs.Group.{either, here_beside, out_none, unique}
-use Rattle.cb_evict.proofs.TakenGroup.{AreRead, frame_rows, group_range, group_word, now_told, row_at_frame, rows_told, span_word, taken_group, told_one}
+use Rattle.cb_evict.proofs.TakenGroup.{AreRowsCoded, frame_rows, group_range, group_word, now_told, row_at_frame, rows_told, span_word, taken_group, told_one}
 use Rattle.cb_evict.proofs.Options.{none_some}
 
 -- ---- a set that is not committed
@@ -194,7 +194,7 @@ module _ (t : Shown) (far : FarState) (set : SetState) (batch : LeavingState)
 -- ---- the batch
 module _ (c : Config) (far : FarState) (frames : List ℕ) (formers : List Former)
     (parities : List (List ℕ)) (before : List Event) (s t : Shown)
-    (d : AreRead c far frames formers parities before s t) (none : far.leaving ≡ None) where
+    (d : AreRowsCoded c far frames formers parities before s t) (none : far.leaving ≡ None) where
   no_shard : NoneNamed (new_batch c far frames formers parities)
   no_shard p shard at =
       let n = c.k + c.r in
@@ -323,7 +323,7 @@ module _ (c : Config) (far : FarState) (frames : List ℕ) (formers : List Forme
       → t.versions ≡ (told_by (before ++ events) s).versions
       → t.memory ≡ (told_by (before ++ events) s).memory
       → Writes (before ++ events) s []
-      → IsBegun far (with_batch c far frames formers parities) (before ++ events) s t
+      → IsBatchBegun far (with_batch c far frames formers parities) (before ++ events) s t
   effect_begun events quiet hots objects versions memory nothing = record {
     claimed = λ h x. let g = told_one c far frames formers parities before s t d events quiet h
         x in record {

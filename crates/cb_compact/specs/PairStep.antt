@@ -35,8 +35,8 @@ begun_pair x y a b = record {
 }
 
 -- the number of a set, as a reply carries it
-abbrev pub numbered : ℕ → SetId
-numbered n = record { n = n }
+abbrev pub set_numbered : ℕ → SetId
+set_numbered n = record { n = n }
 
 -- the far state once this pair joins
 abbrev pub with_pair : FarState → JoiningState → FarState
@@ -46,7 +46,7 @@ with_pair far pair = record far { joining = Some pair }
 pub record IsJoining (far new : FarState) (r : Reply) : Type 0 where
   pub pair : JoiningState
   pub there : far.joining ≡ Some pair
-  pub reply : r ≡ answer.Joining (numbered pair.a) (numbered pair.b)
+  pub reply : r ≡ answer.Joining (set_numbered pair.a) (set_numbered pair.b)
   pub state : new ≡ far
 
 -- no two sets can be joined, and that is noted
@@ -64,9 +64,9 @@ pub record IsPaired (far new : FarState) (r : Reply) : Type 0 where
   pub a : SetState
   pub b : SetState
   pub first : IsFirstPair far x y a b
-  pub reply : r ≡ answer.Pair (numbered x) (numbered y)
+  pub reply : r ≡ answer.Pair (set_numbered x) (set_numbered y)
   pub state : new ≡ with_pair far (begun_pair x y a b)
 
 -- the begin of a pair: the reply and the far state after it
-abbrev pub BeginStep : FarState → FarState → Reply → Type 0
-BeginStep far new r = IsJoining far new r ⊎ FindsNoPair far new r ⊎ IsPaired far new r
+abbrev pub PairStep : FarState → FarState → Reply → Type 0
+PairStep far new r = IsJoining far new r ⊎ FindsNoPair far new r ⊎ IsPaired far new r

@@ -21,9 +21,9 @@ use Rattle.cb_world.proofs.Laws.{now_kept}
 use Rattle.cb_evict.specs.AbortRule.{AbortRule, AbortEffect, IsAborted, IsOfBatch}
 use Rattle.cb_evict.specs.Claiming.{IsOne}
 use Rattle.cb_evict.specs.Looking.{IsIn}
-use Rattle.cb_evict.specs.Restoring.{AreRestored, IsHereAt, IsRestoring, Restores}
+use Rattle.cb_evict.specs.Restoring.{AreRestored, IsHereAt, IsRestoring, RestoresClaims}
 use Rattle.cb_evict.proofs.Events.{touches_more}
-use Rattle.cb_evict.proofs.Group.{IsGroup, IsQuiet, claimed_not_far, either, here_beside, here_not_far, leaving_group, now_without, quiet_away}
+use Rattle.cb_evict.proofs.Group.{IsGroup, IsNotFarBoth, claimed_not_far, either, here_beside, here_not_far, leaving_group, now_without, quiet_away}
 use Rattle.cb_evict.proofs.Noted.{claimed_all}
 use Rattle.cb_evict.proofs.Options.{none_some, some_same}
 use Rattle.cb_evict.proofs.Still.{does_nothing, still_none}
@@ -43,7 +43,7 @@ module _ (s t : Shown) (far : FarState) (batch : LeavingState) (sound : Sound s 
       → is.Here m p ≡ is.Claimed len place v words → ⊥
   here_not_claimed m p len place v words e = cc
 
-  all_quiet : (h : ℕ) → IsQuiet s t h
+  all_quiet : (h : ℕ) → IsNotFarBoth s t h
   all_quiet h = elim (either s (without_batch far batch) batch group h) [
     | inl x ↦ let n = group.each h x in inr (
       claimed_not_far (object_at s h) _ _ n.version n.words n.claimed,
@@ -125,7 +125,7 @@ not_aborted runs shows far new ran none state =
 pub aborts : (runs : List Event → Type 0) (shows : Shown → Type 0) (far new : FarState)
     (batch : LeavingState) → far.leaving ≡ Some batch → new ≡ without_batch far batch
     → ((s : Shown) → shows s → length s.hots ≡ length s.objects)
-    → Restores runs shows batch.words
+    → RestoresClaims runs shows batch.words
     → Performs runs (λ s. shows s × Sound s far) (AbortRule far new answer.Done)
     (λ t. Sound t new) (AbortEffect far new)
 aborts runs shows far new batch there state warm r = record {

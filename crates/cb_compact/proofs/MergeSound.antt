@@ -9,7 +9,7 @@ use Rattle.std.proofs.lemmas.Bool.{cases_eq}
 use Rattle.std.proofs.lemmas.Bool.Decides.{nat_tests}
 use Rattle.cb_member.specs.declared.names.Shard.{Shard}
 use Rattle.cb_member.specs.declared.no_memory.NoMemory.{NoMemory}
-use Rattle.cb_node.specs.NodesState.{NodesState, row_at as row_under}
+use Rattle.cb_node.specs.NodesState.{NodesState, row_under}
 use Rattle.cb_set.specs.SetState.{PositionState, SetState, live_at, position_of, slot_at}
 use Rattle.cb_set.proofs.Laws.{named_live}
 use Rattle.cb_world.specs.declared.homes.Home.{Home}
@@ -29,9 +29,9 @@ use Rattle.cb_types.specs.declared.reply.Reply.{Reply}
 use Rattle.cb_compact.specs.MergeStep.{MergeStep, Merges, merged_set, replaced_shards, with_merged}
 use Rattle.cb_compact.specs.Merging.{IsReadyToMerge}
 use Rattle.cb_compact.specs.Rehoming.{AreRehomed}
-use Rattle.cb_compact.specs.Standing.{IsFreshPair}
+use Rattle.cb_compact.specs.PartStep.{IsFreshPair}
 use Rattle.cb_compact.proofs.Committing.{home_a, home_b, is_merged_set, ready_data, ready_fit, ready_join, ready_whole, rows_a, rows_b, tables_a, tables_b}
-use Rattle.cb_compact.proofs.Keeping.{Keeps, dropped_given, keeps_all, local_sound, parted_keeps}
+use Rattle.cb_compact.proofs.CompactKeeps.{JoinKeeps, dropped_given, keeps_all, local_sound, parted_keeps}
 use Rattle.cb_compact.proofs.Merged.{chosen_a, chosen_b, named_from}
 
 none_some : {X : Type 0} (o : Option X) (x : X) → o ≡ None → o ≡ Some x → ⊥
@@ -265,7 +265,7 @@ module _ (s : Shown) (far : FarState) (pair : JoiningState) (a b : SetState)
     no_pair : (q : JoiningState) → None ≡ Some q → ⊥
     no_pair q e = cc
 
-    pub committed_keeps : Sound s far → Keeps s far after
+    pub committed_keeps : Sound s far → JoinKeeps s far after
     committed_keeps sound = record {
       sound = local_sound s far after sound (record {
         first = refl;
@@ -286,19 +286,20 @@ module _ (s : Shown) (far : FarState) (pair : JoiningState) (a b : SetState)
 -- ---- whatever the commit was
 pub merges_keeps : (s : Shown) (far new : FarState) (pair : JoiningState) (a b : SetState)
     (r : Reply) → Sound s far → IsFreshPair far pair a b → Merges far pair a b new r
-    → Keeps s far new
+    → JoinKeeps s far new
 merges_keeps s far new pair a b r sound fresh (inl x) =
-    subst (Keeps s far) (sym x.state) (keeps_all s far sound)
+    subst (JoinKeeps s far) (sym x.state) (keeps_all s far sound)
 merges_keeps s far new pair a b r sound fresh (inr x) =
-    subst (Keeps s far) (sym x.state)
+    subst (JoinKeeps s far) (sym x.state)
     (committed_keeps s far pair a b new.homes
     (record { sound = sound.away; fresh = fresh; done = x.done }) x.homes sound)
 
 pub merge_keeps : (s : Shown) (far new : FarState) (r : Reply) → Sound s far → MergeStep far new r
-    → Keeps s far new
-merge_keeps s far new r sound (inl x) = subst (Keeps s far) (sym x.state) (keeps_all s far sound)
+    → JoinKeeps s far new
+merge_keeps s far new r sound (inl x) =
+    subst (JoinKeeps s far) (sym x.state) (keeps_all s far sound)
 merge_keeps s far new r sound (inr (inl x)) =
-    subst (Keeps s far) (sym x.state) (parted_keeps s far x.pair sound x.there)
+    subst (JoinKeeps s far) (sym x.state) (parted_keeps s far x.pair sound x.there)
 merge_keeps s far new r sound (inr (inr x)) =
     merges_keeps s far new x.pair x.a x.b r sound x.fresh x.merges
 
@@ -319,10 +320,10 @@ merge_given far new r (inr (inr x)) = of_merge x.merges
 
 -- ---- the commit, and what an error leaves
 pub merge_ends : (s : Shown) (far new : FarState) (r : Result Reply NoMemory) → Sound s far
-    → IfOk r (λ reply. MergeStep far new reply) → OnErr r (new ≡ far) → Keeps s far new
+    → IfOk r (λ reply. MergeStep far new reply) → OnErr r (new ≡ far) → JoinKeeps s far new
 merge_ends s far new (Ok reply) sound step error = merge_keeps s far new reply sound step
 merge_ends s far new (Err e) sound step error =
-    subst (Keeps s far) (sym error) (keeps_all s far sound)
+    subst (JoinKeeps s far) (sym error) (keeps_all s far sound)
 
 pub merge_ends_given : (far new : FarState) (r : Result Reply NoMemory)
     → IfOk r (λ reply. MergeStep far new reply) → OnErr r (new ≡ far)

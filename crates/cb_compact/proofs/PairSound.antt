@@ -16,9 +16,9 @@ use Rattle.cb_world.specs.Now.{now}
 use Rattle.cb_world.specs.Sound.{Sound}
 use Rattle.cb_world.proofs.Laws.{begun_whole, pair_now, reserved_is_other}
 use Rattle.cb_types.specs.declared.reply.Reply.{Reply}
-use Rattle.cb_compact.specs.Pairing.{BeginStep, IsFirstPair, begun_pair, live_positions, with_pair}
+use Rattle.cb_compact.specs.PairStep.{IsFirstPair, PairStep, begun_pair, live_positions, with_pair}
 use Rattle.cb_compact.proofs.Finding.{passing, passing_in, passing_more, passing_out}
-use Rattle.cb_compact.proofs.Keeping.{Keeps, local_sound}
+use Rattle.cb_compact.proofs.CompactKeeps.{JoinKeeps, local_sound}
 
 -- ---- the positions that pass a test
 takes_append : (xs ys : List ℕ) (p : ℕ) → takes (xs ++ ys) p ≡ cond (takes xs p) true (takes ys p)
@@ -186,7 +186,7 @@ begun_is s far x y a b sound none first =
 pub begun_keeps : (s : Shown) (far : FarState) (x y : ℕ) (a b : SetState) (table : List (List ℕ))
     → Sound s far → far.joining ≡ None → IsFirstPair far x y a b
     → AreCoefficients (length a.positions) (parities a) table
-    → Keeps s far (with_pair far (begun_pair x y a b))
+    → JoinKeeps s far (with_pair far (begun_pair x y a b))
 begun_keeps s far x y a b table sound none first coeffs =
     let new = with_pair far (begun_pair x y a b) in
     let is = begun_is s far x y a b sound none first in
@@ -211,7 +211,7 @@ begun_keeps s far x y a b table sound none first coeffs =
 
 -- last complete contents stay, whatever the begin was
 pub begin_now : (s : Shown) (far new : FarState) (r : Reply) (h : ℕ) → Sound s far
-    → BeginStep far new r → now s new h ≡ now s far h
+    → PairStep far new r → now s new h ≡ now s far h
 begin_now s far new r h sound (inl x) = ap (λ (f : FarState). now s f h) x.state
 begin_now s far new r h sound (inr (inl x)) = ap (λ (f : FarState). now s f h) x.state
 begin_now s far new r h sound (inr (inr x)) =
@@ -219,7 +219,7 @@ begin_now s far new r h sound (inr (inr x)) =
     ∙ pair_now s far (with_pair far (begun_pair x.x x.y x.a x.b)) h
     (begun_is s far x.x x.y x.a x.b sound x.none x.first).left
 
-pub begin_given : (far new : FarState) (r : Reply) → BeginStep far new r
+pub begin_given : (far new : FarState) (r : Reply) → PairStep far new r
     → new.nodes.given ≡ far.nodes.given
 begin_given far new r (inl x) = ap (λ (f : FarState). f.nodes.given) x.state
 begin_given far new r (inr (inl x)) = ap (λ (f : FarState). f.nodes.given) x.state

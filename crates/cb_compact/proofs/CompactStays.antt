@@ -17,12 +17,12 @@ use Rattle.cb_world.specs.Stored.{all_dropped}
 use Rattle.cb_world.proofs.Laws.{HasCode, code_as, codes_put, codes_removed, codes_stay, drop_count, drop_room, KeepsHolding, KeepsNote, no_pair_configured, noted_holds, StaysBy, StaysIf, StaysIfBy, stays_like, stays_noted, stays_same}
 use Rattle.cb_compact.specs.MergeStep.{MergeStep, Merges, merged_set, replaced_shards, with_merged}
 use Rattle.cb_compact.specs.Merging.{IsReadyToMerge}
-use Rattle.cb_compact.specs.Pairing.{BeginStep, IsFirstPair, with_pair}
+use Rattle.cb_compact.specs.PairStep.{IsFirstPair, PairStep, with_pair}
 use Rattle.cb_compact.specs.Rehoming.{AreRehomed}
-use Rattle.cb_compact.specs.Standing.{PartStep, with_parted}
-use Rattle.cb_compact.specs.Steps.{PatchStep, TakesStep, with_stepped}
+use Rattle.cb_compact.specs.PartStep.{PartStep, with_parted}
+use Rattle.cb_compact.specs.PatchStep.{PatchStep, TakesStep, with_stepped}
 use Rattle.cb_compact.proofs.Committing.{ready_data, ready_shards, ready_steps}
-use Rattle.cb_compact.proofs.Keeping.{dropped_given}
+use Rattle.cb_compact.proofs.CompactKeeps.{dropped_given}
 use Rattle.cb_compact.proofs.Merged.{length_merged, length_shards}
 
 -- ---- each change
@@ -134,7 +134,7 @@ paired_holds far x y a b pair first holds n e = let z = holds n e in let l = z.0
     (omega (arith, l), λ now. absurd (z.1 now x y a b first.above first.can))
 
 pub begin_stays : (c : Config) (s : Shown) (far new : FarState) (r : Reply) → Sound s far
-    → BeginStep far new r → StaysIfBy KeepsHolding c 1 far new
+    → PairStep far new r → StaysIfBy KeepsHolding c 1 far new
 begin_stays c s far new r sound (inl x) is = subst (StaysBy KeepsHolding c 1 far) (sym x.state)
     (stays_noted KeepsNote KeepsHolding c 1 far far (λ holds. holds)
     (stays_same c 1 far far (omega arith) refl is))

@@ -17,13 +17,13 @@ use Rattle.cb_world.specs.Joining.{JoiningState}
 use Rattle.cb_world.specs.Reserved.{put_shards}
 use Rattle.cb_world.specs.Sound.{Sound}
 use Rattle.cb_compact.specs.NowGoing.{with_keys, without_pair}
-use Rattle.cb_compact.specs.NowStep.{Ends, NowStep}
-use Rattle.cb_compact.specs.Pairing.{BeginStep, IsPaired, begun_pair}
-use Rattle.cb_compact.specs.Standing.{IsFreshPair}
-use Rattle.cb_compact.proofs.Laws.{Keeps, at_joining, at_no_pair, at_pair, keeps_all, now_laws, through}
+use Rattle.cb_compact.specs.CompactStep.{CompactStep, PairEnds}
+use Rattle.cb_compact.specs.PairStep.{IsPaired, PairStep, begun_pair}
+use Rattle.cb_compact.specs.PartStep.{IsFreshPair}
+use Rattle.cb_compact.proofs.Laws.{JoinKeeps, at_joining, at_no_pair, at_pair, keeps_all, now_laws, through}
 use Rattle.cb_local.specs.Fetching.{far_given}
-use Rattle.cb_local.specs.LocalGoing.{EndsHere, IsBegunPair, IsStopped}
-use Rattle.cb_local.specs.LocalStep.{IsBeside, IsRefused, LocalStep}
+use Rattle.cb_local.specs.LocalGoing.{EndsHere, IsBegunPair, IsJoinStopped}
+use Rattle.cb_local.specs.LocalStep.{IsBesideNodes, IsNotMerged, LocalStep}
 use Rattle.cb_local.proofs.Counted.{sound_counted}
 
 range_ascends : (a n : ℕ) → IsStrictlyIncreasing (range_with_len a n)
@@ -57,7 +57,7 @@ paired_fresh far begun r x =
     })
 
 module _ (s : Shown) (far begun : FarState) (x y : SetId)
-    (step : BeginStep far begun (answer.Pair x y)) where
+    (step : PairStep far begun (answer.Pair x y)) where
   pub pair_is : IsPaired far begun (answer.Pair x y)
   pair_is = at_pair far begun x y step
 
@@ -119,7 +119,7 @@ module _ (s : Shown) (far begun : FarState) (x y : SetId)
           → answer.NodeFull node ≡ answer.Merged set moved → ⊥
       other node set moved e = cc
 
-  pub local_stopped : (new : FarState) → IsStopped begun new → (rows : ℕ) × (rows ≤ 36)
+  pub local_stopped : (new : FarState) → IsJoinStopped begun new → (rows : ℕ) × (rows ≤ 36)
       × (new ≡ far_given far rows)
   local_stopped new z = (
     z.rows,
@@ -130,13 +130,13 @@ module _ (s : Shown) (far begun : FarState) (x y : SetId)
   )
 
 -- ---- the begin alone
-begin_keys : (far mid : FarState) (r : Reply) → BeginStep far mid r
+begin_keys : (far mid : FarState) (r : Reply) → PairStep far mid r
     → mid.counts.keys ≡ far.counts.keys
 begin_keys far mid r (inl x) = ap (λ (f : FarState). f.counts.keys) x.state
 begin_keys far mid r (inr (inl x)) = ap (λ (f : FarState). f.counts.keys) x.state
 begin_keys far mid r (inr (inr x)) = ap (λ (f : FarState). f.counts.keys) x.state
 
-pub local_joining : (far mid : FarState) (a b : SetId) → BeginStep far mid (answer.Joining a b)
+pub local_joining : (far mid : FarState) (a b : SetId) → PairStep far mid (answer.Joining a b)
     → LocalStep far mid (answer.Joining a b)
 local_joining far mid a b step = record {
   mid = mid;
@@ -154,7 +154,7 @@ local_joining far mid a b step = record {
     full : (node : NodeId) → answer.Joining a b ≡ answer.NodeFull node → ⊥
     full node e = cc
 
-pub local_none : (far mid : FarState) → BeginStep far mid answer.NoPair
+pub local_none : (far mid : FarState) → PairStep far mid answer.NoPair
     → LocalStep far mid answer.NoPair
 local_none far mid step = record {
   mid = mid;
@@ -175,49 +175,50 @@ local_none far mid step = record {
 -- ---- what is kept
 
 -- with other rows given
-given_keeps : (s : Shown) (far mid new : FarState) (rows : ℕ) → Keeps s far mid
-    → new ≡ far_given mid rows → Keeps s far new
+given_keeps : (s : Shown) (far mid new : FarState) (rows : ℕ) → JoinKeeps s far mid
+    → new ≡ far_given mid rows → JoinKeeps s far new
 given_keeps s far mid new rows k state =
-    subst (Keeps s far) (sym state) (record {
+    subst (JoinKeeps s far) (sym state) (record {
       sound = sound_counted s mid (mid.nodes.given + rows) k.sound;
       same_now = λ h. k.same_now h;
     })
 
 refused_keeps : (s : Shown) (far mid new : FarState) (r : Reply) → Sound s far
-    → NowStep far mid r → IsRefused far mid new r
-    → ((node : NodeId) → r ≡ answer.NodeFull node → new ≡ far) → Keeps s far new
+    → CompactStep far mid r → IsNotMerged far mid new r
+    → ((node : NodeId) → r ≡ answer.NodeFull node → new ≡ far) → JoinKeeps s far new
 refused_keeps s far mid new r sound (inl x) z full =
-    subst (Keeps s far) (sym (z.state ∙ ap (λ (f : FarState). with_keys f far.counts.keys) x.state))
+    subst (JoinKeeps s far)
+    (sym (z.state ∙ ap (λ (f : FarState). with_keys f far.counts.keys) x.state))
     (keeps_all s far sound)
 refused_keeps s far mid new r sound (inr (inl x)) z full =
     let k = now_laws.keeps s far mid r sound (inr (inl x)) in
     let keys = ap (λ (f : FarState). f.counts.keys) x.state in
-    subst (Keeps s far) (ap (with_keys mid) keys ∙ sym z.state) k
+    subst (JoinKeeps s far) (ap (with_keys mid) keys ∙ sym z.state) k
 refused_keeps s far mid new r sound (inr (inr x)) z full = by x.ends
   where
-    by : Ends x.stepped mid r → Keeps s far new
-    by (inl y) = subst (Keeps s far) (sym (full y.node y.reply)) (keeps_all s far sound)
+    by : PairEnds x.stepped mid r → JoinKeeps s far new
+    by (inl y) = subst (JoinKeeps s far) (sym (full y.node y.reply)) (keeps_all s far sound)
     by (inr y) = absurd (z.refusal y.set y.moved y.reply)
 
 pub local_keeps : (s : Shown) (far new : FarState) (r : Reply) → Sound s far
-    → LocalStep far new r → Keeps s far new
+    → LocalStep far new r → JoinKeeps s far new
 local_keeps s far new r sound x = by x.beside
   where
-    by : IsBeside far x.mid new r → Keeps s far new
+    by : IsBesideNodes far x.mid new r → JoinKeeps s far new
     by (inl y) = refused_keeps s far x.mid new r sound x.same y x.full
     by (inr y) = given_keeps s far x.mid new _ (now_laws.keeps s far x.mid r sound x.same) y.state
 
 -- every run of the turn whose parities the nodes make has that reply and that far state
 pub local_same : (s : Shown) (far new mid : FarState) (r other : Reply) → Sound s far
-    → LocalStep far new r → NowStep far mid other → (r ≡ other) × IsBeside far mid new r
+    → LocalStep far new r → CompactStep far mid other → (r ≡ other) × IsBesideNodes far mid new r
 local_same s far new mid r other sound x y =
     let e = now_laws.fixes s far x.mid mid r other sound x.same y in
-    (e.0, subst (λ (f : FarState). IsBeside far f new r) e.1 x.beside)
+    (e.0, subst (λ (f : FarState). IsBesideNodes far f new r) e.1 x.beside)
 
 -- whatever the turn ends in
 pub local_ends : (s : Shown) (far new : FarState) (r : Result Reply NoMemory) → Sound s far
     → IfOk r (λ reply. LocalStep far new reply)
-    → OnErr r ((rows : ℕ) × (rows ≤ 36) × (new ≡ far_given far rows)) → Keeps s far new
+    → OnErr r ((rows : ℕ) × (rows ≤ 36) × (new ≡ far_given far rows)) → JoinKeeps s far new
 local_ends s far new (Ok reply) sound step error = local_keeps s far new reply sound step
 local_ends s far new (Err e) sound step error =
     given_keeps s far far new error.0 (keeps_all s far sound) error.2

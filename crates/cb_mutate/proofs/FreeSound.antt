@@ -25,7 +25,7 @@ use Rattle.cb_world.proofs.Laws.{length_put, claimed_from, frame_in_range, lies,
 use Rattle.cb_mutate.specs.Answered.{EmptyAnswer, AnsweredAs}
 use Rattle.cb_mutate.specs.FreeRule.{FreeAs, FreeHere, FreeFar, FreeEffect, IsGone, LeavesPlace}
 use Rattle.cb_mutate.specs.FreeEnds.{with_emptied, IsEmptied, FreeEnds}
-use Rattle.cb_mutate.proofs.Written.{back_well, claimed_words, absent_before, no_taken}
+use Rattle.cb_mutate.proofs.WriteSound.{back_well, claimed_words, absent_before, no_taken}
 
 some_none : (x : Contents) → Some x ≡ None → ⊥
 some_none x e = cc
@@ -148,20 +148,20 @@ free_before state.Far h w es fs r near a = absurd (near refl)
 free_before state.Moving h w es fs r near a = a
 
 -- A free that found no free word changes nothing.
-pub record IsRefused (h w : ℕ) (far : FarState) (es : List Event) (s t : Shown) (r : Reply)
+pub record IsFreeRefused (h w : ℕ) (far : FarState) (es : List Event) (s t : Shown) (r : Reply)
     : Type 0 where
   pub effect : FreeEffect h r es s t
   pub state : FreeFar w h r far far
 
 refused_by : (h w : ℕ) (far : FarState) (es : List Event) (s t : Shown) (r q : Reply) → r ≡ q
-    → FreeEffect h q es s t → FreeFar w h q far far → IsRefused h w far es s t r
+    → FreeEffect h q es s t → FreeFar w h q far far → IsFreeRefused h w far es s t r
 refused_by h w far es s t r q e effect state = record {
   effect = subst (λ (z : Reply). FreeEffect h z es s t) (sym e) effect;
   state = subst (λ (z : Reply). FreeFar w h z far far) (sym e) state;
 }
 
 empty_refused : (v h w : ℕ) (far : FarState) (es : List Event) (s t : Shown) (r : Reply)
-    → EmptyAnswer v r → IsStill es s t → IsRefused h w far es s t r
+    → EmptyAnswer v r → IsStill es s t → IsFreeRefused h w far es s t r
 empty_refused zero h w far es s t r e still =
     refused_by h w far es s t r answer.Unmade e still refl
 empty_refused (suc v) h w far es s t r e still =
@@ -169,7 +169,8 @@ empty_refused (suc v) h w far es s t r e still =
 
 pub free_refused : (q : State) (h w : ℕ) (far : FarState) (reads es : List Event) (s t : Shown)
     (r : Reply) → q ≢ state.Far → AreReads h reads
-    → AnsweredAs q (FreeHere h reads r) w h reads r → IsStill es s t → IsRefused h w far es s t r
+    → AnsweredAs q (FreeHere h reads r) w h reads r → IsStill es s t
+    → IsFreeRefused h w far es s t r
 free_refused state.Empty h w far reads es s t r near told a still =
     empty_refused a.0 h w far es s t r a.2 still
 free_refused state.Far h w far reads es s t r near told a still = absurd (near refl)
