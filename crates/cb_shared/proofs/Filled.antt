@@ -1,5 +1,5 @@
 -- Lists that are filled one by one from a part of another list.
-use Rattle.std.proofs.Common.{◌≡◌, ℕ, zero, suc, ◌+◌, ◌*◌, ◌<◌, ◌≤◌, List, [], ◌∷◌, length, get_or, set, sym, refl, ap, ◌∙◌, arith, true≢false, Bool, true, false, Some, None, length-set, get_or-set_other, get_or-set_same}
+use Rattle.std.proofs.Common.{◌≡◌, ℕ, zero, suc, ◌+◌, ◌*◌, ◌<◌, ◌≤◌, List, [], ◌∷◌, length, get_or, set, sym, refl, ap, ◌∙◌, arith, true≢false, Bool, true, false, Some, None, length-set, get_or-set_other, get_or-set_same, replicate}
 use native.Mathlib.Decide.{ℕ_discrete}
 use mathlib.Core.Option.{some, some-injective, some-ne-none}
 use lib.ListN.{get_elem?}
@@ -19,13 +19,18 @@ read_at [] i x e = absurd (some-ne-none x (sym e))
 read_at (w ∷ ws) zero x e = sym (some-injective w x e)
 read_at (w ∷ ws) (suc i) x e = read_at ws i x e
 
--- The first n words are those of the other list from p on.
+-- The first n words are those of the other list from p on, and the rest are as they were.
 pub record AreWordsFilled (ws : List ℕ) (p n : ℕ) (old new : List ℕ) : Type 0 where
   pub len : length new ≡ length old
   pub below : (i : ℕ) → i < n → get_or new i 0 ≡ get_or ws (p + i) 0
+  pub rest : (i : ℕ) → n ≤ i → get_or new i 0 ≡ get_or old i 0
 
 pub none_filled : (ws : List ℕ) (p : ℕ) (old : List ℕ) → AreWordsFilled ws p 0 old old
-none_filled ws p old = record { len = refl; below = λ i l. absurd (omega (arith, l)) }
+none_filled ws p old = record {
+  len = refl;
+  below = λ i l. absurd (omega (arith, l));
+  rest = λ i l. refl;
+}
 
 pub more_filled : (ws : List ℕ) (p n x : ℕ) (old new : List ℕ) → n < length old
     → x ≡ get_or ws (p + n) 0 → AreWordsFilled ws p n old new
@@ -38,7 +43,15 @@ more_filled ws p n x old new within is f = record {
         ∙ ap (λ (j : ℕ). get_or ws (p + j) 0) (sym at)
     | no apart ↦ get_or-set_other new n i x 0 apart ∙ f.below i (omega (arith, l, apart))
   ];
+  rest = λ i l.
+      get_or-set_other new n i x 0 (λ at. absurd (omega (arith, l, at))) ∙ f.rest i (omega (arith, l));
 }
+
+-- every word of a list of zeros, and behind it, is 0
+pub all_blank : (n i : ℕ) → let z : ℕ = 0 in get_or (replicate n z) i 0 ≡ z
+all_blank zero i = refl
+all_blank (suc n) zero = refl
+all_blank (suc n) (suc i) = all_blank n i
 
 same_lists : (xs ys : List ℕ) → length xs ≡ length ys
     → ((i : ℕ) → i < length xs → get_or xs i 0 ≡ get_or ys i 0) → xs ≡ ys

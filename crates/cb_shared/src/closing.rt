@@ -1,5 +1,5 @@
 //! A runtime is closed.
-ghost use Rattle.std.specs.Prelude.{◌≡◌, ◌<◌, ◌≤◌, ◌+◌, ◌*◌, true, false, Some, replicate, IfOk, IfErr};
+ghost use Rattle.std.specs.Prelude.{◌≡◌, ◌<◌, ◌≤◌, ◌+◌, ◌*◌, ℕ, true, false, Some, replicate, slice_index, IfOk, IfErr};
 ghost use Rattle.std.specs.Slots.{IsFull, slots_items, slots_len};
 ghost use mathlib.Core.Option.{some};
 ghost use lib.ListN.{get_elem?};
@@ -101,6 +101,7 @@ fn world_of(rows: Rows, still: Still, config: &Config) -> World
     requires one { slots_len rows.slots ≡ 1 }
     requires home { (far : FarState) × (get_elem? (slots_items rows.slots) 0 ≡ some (Some far)) }
     requires desk { (still.desk.settings ≡ config.now) × IsSized still.desk }
+    requires blank { (i : ℕ) → slice_index still.desk.memory i ≡ 0 }
     ensures desk { result.desk ≡ desk_of config.now (slots_items rows.words) }
     ensures far { get_elem? (slots_items rows.slots) 0 ≡ some (Some result.far) }
     ensures seats { result.seats ≡ still.seats }

@@ -1,5 +1,5 @@
 //! A closed table, taken apart: its words go into a still desk, and the far state out of its slot.
-ghost use Rattle.std.specs.Prelude.{◌≡◌, ℕ, ◌+◌, ◌*◌, ◌<◌, Some, slice_index};
+ghost use Rattle.std.specs.Prelude.{◌≡◌, ℕ, ◌+◌, ◌*◌, ◌<◌, Some, length, slice_index, slice_set};
 ghost use Rattle.std.specs.Slots.{IsFull, slots_items, slots_len};
 ghost use mathlib.Core.Option.{some};
 ghost use lib.ListN.{get_elem?};
@@ -60,13 +60,27 @@ fn fill_versions(rows: &Rows, desk: &mut PlainDesk, config: &Config)
     }
 }
 
-/// Puts the memory words of all frames.
+/// Puts a memory word where 0 stands. A 0 is left alone, so that pages of memory with no other word
+/// are never touched.
+#[inline]
+fn put_memory(desk: &mut PlainDesk, place: u32, found: u64)
+    requires place { place < length desk.old.memory }
+    requires blank { slice_index desk.old.memory place ≡ 0 }
+    ensures { desk.new ≡ record desk.old { memory = slice_set desk.old.memory place found } }
+{
+    if found != 0 {
+        desk.store_word(place, found);
+    }
+}
+
+/// Puts the memory words of all frames where 0 stands.
 fn fill_memory(rows: &Rows, desk: &mut PlainDesk, config: &Config)
     requires accepted { IsAccepted config.now }
     requires full { IsFull rows.now.words }
     requires words { slots_len rows.now.words ≡ base config.now + 512 * config.now.frames }
     requires settings { desk.old.settings ≡ config.now }
     requires sized { IsSized desk.old }
+    requires blank { (i : ℕ) → slice_index desk.old.memory i ≡ 0 }
     ensures { desk.new ≡ record desk.old {
       memory = window (slots_items rows.now.words) (base config.now) (512 * config.now.frames);
     } }
@@ -74,17 +88,18 @@ fn fill_memory(rows: &Rows, desk: &mut PlainDesk, config: &Config)
     let first = 1 + 2 * config.handles as usize;
     for place in 0..512 * config.frames {
         let found = word(rows, first + place as usize);
-        desk.store_word(place, found);
+        put_memory(desk, place, found);
     }
 }
 
-/// Puts all words of the table into a desk of the same configuration.
+/// Puts all words of the table into a desk of the same configuration, whose memory is all 0.
 pub(crate) fn fill(rows: &Rows, desk: &mut PlainDesk, config: &Config)
     requires accepted { IsAccepted config.now }
     requires full { IsFull rows.now.words }
     requires words { slots_len rows.now.words ≡ base config.now + 512 * config.now.frames }
     requires settings { desk.old.settings ≡ config.now }
     requires sized { IsSized desk.old }
+    requires blank { (i : ℕ) → slice_index desk.old.memory i ≡ 0 }
     ensures { desk.new ≡ desk_of config.now (slots_items rows.now.words) }
 {
     fill_words(rows, desk, config);

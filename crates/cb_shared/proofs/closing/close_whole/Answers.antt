@@ -1,9 +1,11 @@
-use Rattle.std.proofs.Common.{◌∙◌, ap}
+use Rattle.std.proofs.Common.{◌∙◌, ◌*◌, get_or, ap}
+use Rattle.cb_world.specs.Plain.{Words}
 use Rattle.std.specs.Slots.{slots_items}
 use Rattle.cb_rule.specs.Slot.{Sat}
 use Rattle.cb_shared.specs.declared.seal.Sealed.{Sealed}
 use Rattle.cb_shared.specs.Joining.{unpinned_all}
 use Rattle.cb_shared.proofs.Closes.{ends_in, is_closed}
+use Rattle.cb_shared.proofs.Filled.{all_blank}
 use Rattle.cb_shared.proofs.closing.close_whole.Goals as goal
 
 pub world_of-world-requires-clause-home : goal.world_of-world-requires-clause-home
@@ -12,6 +14,10 @@ world_of-world-requires-clause-home c = let s = c.args.shared in
     c.args.pass.seat.me.0 c.give_back.new.pass.seat.me.0 c.requires.of.rest c.requires.whole
     (ap (λ (m : Sat). m.0) c.give_back.ensures.2) c.give_back.new.pass.seat.id _ _
     c.close_with.ensures.values.2 in (e.far, e.there)
+
+pub world_of-world-requires-clause-blank : goal.world_of-world-requires-clause-blank
+world_of-world-requires-clause-blank c i =
+    ap (λ (d : Words). get_or d.memory i 0) c.requires.desk ∙ all_blank (512 * c.args.shared.config.frames) i
 
 pub returns : goal.returns
 returns c = let s = c.args.shared in let v = c.args.pass.seat.me.0 in

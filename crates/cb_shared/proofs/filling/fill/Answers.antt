@@ -1,6 +1,8 @@
-use Rattle.std.proofs.Common.{◌∙◌, ap, sym, subst}
+use Rattle.std.proofs.Common.{◌∙◌, get_or, ap, sym, subst}
 use Rattle.std.specs.Slots.{slots_items}
+use Rattle.cb_world.specs.Memory.{window}
 use Rattle.cb_world.specs.Plain.{IsSized, Words}
+use Rattle.cb_rule.specs.Words.{stamps}
 use Rattle.cb_shared.proofs.Filled.{all_put, versions_sized, words_sized}
 use Rattle.cb_shared.proofs.filling.fill.Goals as goal
 
@@ -24,6 +26,13 @@ fill_memory-requires-clause-sized c = let ws = slots_items c.args.rows.now.words
     (words_sized c.args.config.now ws c.args.desk.now c.requires.settings c.requires.sized) in
     subst IsSized (sym c.fill_versions.ensures)
     (versions_sized c.args.config.now ws c.fill_words.new.desk settings sized)
+
+pub fill_memory-requires-clause-blank : goal.fill_memory-requires-clause-blank
+fill_memory-requires-clause-blank c i = ap (λ (d : Words). get_or d.memory i 0)
+    (c.fill_versions.ensures ∙ ap (λ (q : Words). let e : Words = record q {
+      versions = window (slots_items c.args.rows.now.words) (stamps c.args.config.now)
+          c.args.config.now.handles;
+    } in e) c.fill_words.ensures) ∙ c.requires.blank i
 
 pub returns : goal.returns
 returns c = all_put c.args.config.now (slots_items c.args.rows.now.words) c.args.desk.now

@@ -14,11 +14,16 @@ pub word-found-requires-clause-index : goal.word-found-requires-clause-index
 word-found-requires-clause-index c = let all = c.requires.words in let l = c.loop-place-test.true in
     omega (arith, all, l)
 
-pub store_word-requires : goal.store_word-requires
-store_word-requires c = let inv = c.loop-place.invariant in let f = inv.2.len in
+pub put_memory-requires-clause-place : goal.put_memory-requires-clause-place
+put_memory-requires-clause-place c = let inv = c.loop-place.invariant in let f = inv.2.len in
     let all = c.requires.sized.memory ∙ ap (λ (k : Config). 512 * k.frames) c.requires.settings in
     subst (λ (d : Words). c.loop-place.place < length d.memory) (sym inv.1)
     (let l = c.loop-place-test.true in omega (arith, l, f, all))
+
+pub put_memory-requires-clause-blank : goal.put_memory-requires-clause-blank
+put_memory-requires-clause-blank c = let inv = c.loop-place.invariant in
+    let p = c.loop-place.place in
+    ap (λ (d : Words). get_or d.memory p 0) inv.1 ∙ inv.2.rest p (omega arith) ∙ c.requires.blank p
 
 pub loop-place-preserved : goal.loop-place-preserved
 loop-place-preserved c = let inv = c.loop-place.invariant in let p = c.loop-place.place in
@@ -27,7 +32,7 @@ loop-place-preserved c = let inv = c.loop-place.invariant in let p = c.loop-plac
     let within : p < length old = (let l = c.loop-place-test.true in omega (arith, l, all)) in
     let at : 1 + 2 * c.args.config.now.handles + p ≡ base c.args.config.now + p = omega arith in (
       set inv.0 p c.word-found.result,
-      c.store_word.ensures ∙ ap (λ (d : Words). let e : Words = record d {
+      c.put_memory.ensures ∙ ap (λ (d : Words). let e : Words = record d {
         memory = set d.memory p c.word-found.result;
       } in e) inv.1,
       more_filled ws (base c.args.config.now) p c.word-found.result old inv.0 within
