@@ -78,6 +78,7 @@ pub(crate) fn peek_word(top: &Top, seat: &mut Place, config: &Config, pin: &Pin,
 }
 
 /// A memory word of an object that the seat has pinned, which adds nothing to its record.
+#[inline(always)]
 pub(crate) fn read_word(top: &Top, seat: &mut Place, config: &Config, place: usize) -> u64
     requires of { IsOf top.now.table_id top.now.key config.now seat.old }
     requires place { place < 512 * config.now.frames }

@@ -141,6 +141,7 @@ fn load_into(top: &Top, seat: &mut Place, config: &Config, place: u32, room: &mu
 
 /// Puts the first bytes of a word into the room, as many as it has place for, as word `i` of it.
 /// Takes no memory.
+#[inline(always)]
 pub fn put_word(room: &mut Bytes, i: usize, word: u64)
     requires within { 8 * i < length room.old }
     ensures inside { (j : ℕ) → j < 8 → 8 * i + j < length room.old
@@ -160,6 +161,7 @@ pub fn put_word(room: &mut Bytes, i: usize, word: u64)
 
 /// Puts all eight bytes of a word into the room, from the byte `at` on: a copy of a fixed size is
 /// one store.
+#[inline(always)]
 fn put_whole_word(room: &mut Bytes, at: usize, word: u64)
     requires within { at + 8 ≤ length room.old }
     ensures inside { (j : ℕ) → j < 8
