@@ -79,7 +79,7 @@ module _ (by_job : List ℕ) where
       homes = record { count = e.homes.count; here = e.homes.here; others = e.homes.others };
       state = ap (rejobbed by_job) e.state;
       sent = record {
-        sent = e.sent.sent;
+        changed = e.sent.changed;
         others = e.sent.others;
         count = e.sent.count;
         settings = e.sent.settings;
