@@ -137,7 +137,7 @@ module _ (c : Config) (job : Job) (r : Result Reply NoMemory) (p m q : Place)
       made = t.made;
       tells = t.tells;
       reads = t.reads;
-      finds = subst (λ (x : View). Rattle.cb_shared.specs.Turning.FindsFreed (freed_of job r) x f.0)
+      finds = subst (λ (x : View). Rattle.cb_shared.specs.Turning.FindsFreedAfter (freed_of job r) x f.0)
           t.left f.4;
       part = refl;
     },
