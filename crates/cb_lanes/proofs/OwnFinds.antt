@@ -1,7 +1,6 @@
 -- What a line found of an object: its newest version, or that it was freed.
 use Rattle.std.proofs.Common.{◌≡◌, ℕ, ◌<◌, List, [], ◌∷◌, ◌++◌, length, Ok, inl, inr, sym, refl, ap, ◌∙◌, subst}
 use Rattle.cb_types.specs.declared.config.Config.{Config}
-use Rattle.cb_types.specs.declared.job.Job.{Job}
 use Rattle.cb_types.specs.declared.job.Job.TheVariants as job
 use Rattle.cb_types.specs.declared.reply.Reply.TheVariants as answer
 use Rattle.cb_rule.specs.declared.view.Seen.{Seen}
@@ -10,14 +9,13 @@ use Rattle.cb_rule.specs.declared.view.View.{View}
 use Rattle.cb_rule.specs.Lists.{Has}
 use Rattle.cb_rule.specs.Steps.{IsNewest, freed_seen, stand, version_seen, with_look}
 use Rattle.cb_ptr.specs.Word.{len_of, place_of}
-use Rattle.cb_record.specs.Parts.{Part, grown, nothing_more, sum}
+use Rattle.cb_record.specs.Parts.{Part, grown, sum}
 use Rattle.cb_record.proofs.Laws.{has_left}
 use Rattle.cb_shared.specs.declared.answers.WriteAnswer.{WriteAnswer}
 use Rattle.cb_shared.specs.declared.answers.WriteAnswer.TheVariants as place
-use Rattle.cb_shared.specs.declared.reading.ReadAnswer.TheVariants as found
 use Rattle.cb_shared.specs.Calls.{AtNone, AtThis, IsInVain, ReadGives, SaysAs, TurnGives, WriteAnswers, WriteCallEnds, WriteFinds, the_handle}
 use Rattle.cb_shared.specs.Reading.{FindsGone, IsReadHere, looked}
-use Rattle.cb_shared.specs.Turning.{FindsAtLast, TurnAdds, turn_part, with_own}
+use Rattle.cb_shared.specs.Turning.{TurnAdds, turn_part, with_own}
 use Rattle.cb_lanes.specs.Passing.{IsPinnedOnce, PinGoes}
 
 -- a state of the record with these entries and own handles, by which the version was the newest
@@ -79,21 +77,49 @@ gone_saw h v before last none (word, version, empty, newest, is) = (
 )
 
 -- a turn of a write or a free that was answered so
-gone_turn : (c : Config) (h : ℕ) (j : Job) (v : View) (d : Part) (x : TurnAdds c j (Ok answer.Freed) v d)
-    → x.more ≡ [] → FindsAtLast h found.Freed
-    (with_own [] (grown (turn_part x.turn x.more x.within nothing_more) v)) x.later
+write_gone : (c : Config) (h at : ℕ) (bytes : List ℕ) (v : View) (d : Part)
+    → TurnAdds c (job.Write (the_handle h) at bytes) (Ok answer.Freed) v d
     → (version : ℕ) × SawNewest h version v × Has (freed_seen h version) d.seen
-gone_turn c h j v d x wrote finds =
-    let u = with_own [] (grown (turn_part x.turn x.more x.within nothing_more) v) in
-    let z = gone_saw h u finds.before finds.last (ap (λ (y : Part). y.written) finds.lost.part)
-    finds.finds in (
-      z.0,
-      saw_before h z.0 u v (ap (λ (l : List _). l ++ v.written) wrote) refl (λ k has. has) z.1,
-      subst (λ (y : Part). Has (freed_seen h z.0) y.seen) (sym x.part)
-          (has_left (freed_seen h z.0) x.later.seen x.within.seen
-          (subst (λ (y : Part). Has (freed_seen h z.0) y.seen) (sym finds.part)
-          (has_left (freed_seen h z.0) finds.last.seen finds.before.seen z.2))),
-    )
+write_gone c h at bytes v d x = (
+  z.0,
+  saw_before h z.0 (with_own [] (grown (turn_part x.turn x.more x.within nothing_later) v)) v
+      (ap (λ (l : List _). l ++ v.written) x.wrote) refl (λ k has. has) z.1,
+  subst (λ (y : Part). Has (freed_seen h z.0) y.seen) (sym x.part)
+      (has_left (freed_seen h z.0) x.later.seen x.within.seen
+      (subst (λ (y : Part). Has (freed_seen h z.0) y.seen) (sym x.finds.part)
+      (has_left (freed_seen h z.0) x.finds.last.seen x.finds.before.seen z.2))),
+)
+  where
+    nothing_later : Part
+    nothing_later = record { written = []; seen = []; peeked = []; ever = 0; looks = []; turns = [] }
+
+    z : (version : ℕ) × SawNewest h version
+        (with_own [] (grown (turn_part x.turn x.more x.within nothing_later) v))
+        × Has (freed_seen h version) x.finds.last.seen
+    z = gone_saw h (with_own [] (grown (turn_part x.turn x.more x.within nothing_later) v))
+        x.finds.before x.finds.last (ap (λ (y : Part). y.written) x.finds.lost.part) x.finds.finds
+
+free_gone : (c : Config) (h : ℕ) (v : View) (d : Part)
+    → TurnAdds c (job.Free (the_handle h)) (Ok answer.Freed) v d
+    → (version : ℕ) × SawNewest h version v × Has (freed_seen h version) d.seen
+free_gone c h v d x = (
+  z.0,
+  saw_before h z.0 (with_own [] (grown (turn_part x.turn x.more x.within nothing_later) v)) v
+      (ap (λ (l : List _). l ++ v.written) x.wrote) refl (λ k has. has) z.1,
+  subst (λ (y : Part). Has (freed_seen h z.0) y.seen) (sym x.part)
+      (has_left (freed_seen h z.0) x.later.seen x.within.seen
+      (subst (λ (y : Part). Has (freed_seen h z.0) y.seen) (sym x.finds.part)
+      (has_left (freed_seen h z.0) x.finds.last.seen x.finds.before.seen z.2))),
+)
+  where
+    nothing_later : Part
+    nothing_later = record { written = []; seen = []; peeked = []; ever = 0; looks = []; turns = [] }
+
+    z : (version : ℕ) × SawNewest h version
+        (with_own [] (grown (turn_part x.turn x.more x.within nothing_later) v))
+        × Has (freed_seen h version) x.finds.last.seen
+    z = gone_saw h (with_own [] (grown (turn_part x.turn x.more x.within nothing_later) v))
+        x.finds.before x.finds.last (ap (λ (y : Part). y.written) x.finds.lost.part) x.finds.finds
 
 -- ---- a read
 pub saw_read : (c : Config) (h version : ℕ) (bytes : List ℕ) (v w : View)
@@ -132,9 +158,7 @@ write_ends : (c : Config) (h at : ℕ) (bytes : List ℕ) (v : View) (before las
 write_ends c h at bytes v before last none (inl x) =
     gone_saw h v before last none (place_gone h at bytes (grown before v) last x.0 x.1 x.2)
 write_ends c h at bytes v before last none (inr x) =
-    let y = x.turned.1 in
-    let z = gone_turn c h (job.Write (the_handle h) at bytes) (grown (looked h x.word) (grown before v))
-    x.later y y.wrote y.finds in (
+    let z = write_gone c h at bytes (grown (looked h x.word) (grown before v)) x.later x.turned.1 in (
       z.0,
       saw_before h z.0 (grown (looked h x.word) (grown before v)) v
           (ap (λ (l : List _). l ++ v.written) none) refl (λ k has. has) z.1,
@@ -157,9 +181,7 @@ freed_write c h at bytes v w (d, x, is) =
 pub freed_free : (c : Config) (h : ℕ) (v w : View)
     → TurnGives c (job.Free (the_handle h)) answer.Freed v w → SawFreed h v w
 freed_free c h v w (d, x, is) =
-    let y = x.ends_so.1 in
-    let z = gone_turn c h (job.Free (the_handle h)) (grown x.before v) x.last y y.wrote y.finds in
-    record {
+    let z = free_gone c h (grown x.before v) x.last x.ends_so.1 in record {
       version = z.0;
       saw = saw_before h z.0 (grown x.before v) v
           (ap (λ (l : List _). l ++ v.written) (vain_written AtNone _ x.before x.in_vain)) refl (λ k has. has) z.1;
