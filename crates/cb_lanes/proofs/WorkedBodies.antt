@@ -139,7 +139,7 @@ backs_read = record {
   wrote = ([], [], refl, refl, refl);
   tells = (inl (refl, refl, refl, sym no_bytes), tt);
   pins = omega arith;
-  turned = Rattle.cb_record.specs.Lists.IsAmong.ended;
+  turned = Rattle.cb_record.specs.Lists.IsSublist.ended;
   happens = refl;
 }
 
