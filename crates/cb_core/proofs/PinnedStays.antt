@@ -86,16 +86,16 @@ same_desk a b s t k ka kb p same = (
 -- where what every object holds was kept
 kept_fixed : (a b : Holding Words) (s t : Shown) (k : ℕ) → HasKept a b s → IsKnown b.desk b.far t
     → IsHeldHere a.desk k → Fixed a b s t k
-kept_fixed a b s t k kept kb p = (kept.pinned k p.some, (kept_map a b s t kept kb).now k)
+kept_fixed a b s t k kept kb p = (kept.words.pinned k p.some, (kept_map a b s t kept kb).now k)
 
 still_held : (a b : Holding Words) (s : Shown) (k : ℕ) → IsKnown a.desk a.far s → (kept : HasKept a b s)
     → IsHeldHere a.desk k → IsHeldHere b.desk k
 still_held a b s k ka kept p = record {
   below = let old = ka.sized.words in let new = kept.known.sized.words in
-      let same = ap (λ (c : Config). c.handles) kept.settings in let lt = p.below in
+      let same = ap (λ (c : Config). c.handles) kept.words.settings in let lt = p.below in
       omega (arith, old, new, same, lt);
-  here = ap state_of (kept.pinned k p.some) ∙ p.here;
-  some = subst (λ (n : ℕ). 1 ≤ n) (sym (kept.pins k)) p.some;
+  here = ap state_of (kept.words.pinned k p.some) ∙ p.here;
+  some = subst (λ (n : ℕ). 1 ≤ n) (sym (kept.words.pins k)) p.some;
 }
 
 -- ---- an object that is brought in beside it
@@ -232,7 +232,7 @@ where_fixed call look h k q part fixes a b s t r ka kb below p (brought m n o f 
     (part.looks m n None l ∙ part.nothing a m c) bring in
     let kept = kept_bring a o h (answer.Swapped f) s ka came in
     let lt : h < length o.desk.words = (let old = ka.sized.words in let new = kept.known.sized.words in
-    let same = ap (λ (c : Config). c.handles) kept.settings in omega (arith, old, new, same, below)) in
+    let same = ap (λ (c : Config). c.handles) kept.words.settings in omega (arith, old, new, same, below)) in
     fixed_then a o b s kept.shown t k (kept_fixed a o s kept.shown k kept kept.known p)
     (fixes o b kept.shown t r kept.known kb lt (still_held a o s k ka kept p) again)
 

@@ -20,9 +20,9 @@ use Rattle.cb_core.specs.Turned.{counted}
 use Rattle.cb_core.proofs.FarJobs.{AnswersLine, far_job}
 use Rattle.cb_core.proofs.NodesStay.{crash_line, member_of}
 use Rattle.cb_core.proofs.PartsStay.{works_left}
-use Rattle.cb_core.proofs.TurnCallsKept.{HasKept, once_known, kept_evict}
+use Rattle.cb_core.proofs.TurnCallsKept.{HasKept, kept_evict, kept_far, once_known}
 use Rattle.cb_core.proofs.TurnCallsBatch.{kept_begin, kept_ship, kept_commit, kept_abort, begin_line, ship_line, commit_line, abort_line}
-use Rattle.cb_core.proofs.TurnCallsFilter.{IsFilterAs, filter_line, filter_answered, kept_far}
+use Rattle.cb_core.proofs.TurnCallsFilter.{IsFilterAs, filter_line, filter_answered}
 use Rattle.cb_core.proofs.TurnCallsMake.{IsMakeAnswered, make_answered, evict_line}
 use Rattle.cb_core.proofs.TurnCallsMap.{IsSameMap, map_stays, map_then, counted_map, call_carried, make_carried}
 use Rattle.cb_core.proofs.TurnCallsNodes.{IsMapLost, crash_map}
@@ -269,26 +269,25 @@ crash_turn w new node r before after few below step =
     )
 
 -- ---- every turn
-pub record IsTurnOf (far new : FarState) : Type 0 where
-  pub first : new.first ≡ far.first
-  pub turns : new.counts.turns ≡ far.counts.turns
-
 -- no job changes the first version or the count of turns
-works_turn : (j : Job) (a b : Holding Words) (r : Reply) → StillWorks j a r b → IsTurnOf a.far b.far
+abbrev StillCounts : FarState → FarState → Type 0
+StillCounts far new = (new.first ≡ far.first) × (new.counts.turns ≡ far.counts.turns)
+
+works_turn : (j : Job) (a b : Holding Words) (r : Reply) → StillWorks j a r b → StillCounts a.far b.far
 works_turn j a b r works = elim (works_left j a b r works) [
-  | inl e ↦ record { first = λ i. (e i).0.2; turns = λ i. (e i).0.3 }
-  | inr (inl e) ↦ record { first = λ i. (e.1 i).2; turns = λ i. (e.1 i).3 }
+  | inl e ↦ ((λ i. (e i).0.2), (λ i. (e i).0.3))
+  | inr (inl e) ↦ ((λ i. (e.1 i).2), (λ i. (e.1 i).3))
   | inr (inr e) ↦ let none = (far_job j).none a.far b.far e.0 e.2 in
-      record { first = none.first; turns = none.turns }
+      ((λ i. (none i).0), (λ i. (none i).2))
 ]
 
 pub turn_first : (j : Job) (w new : WorldState) (r : Reply) → IsSoundWorld w
     → w.far.counts.turns < 2 ^ 40 → TurnStep j w r new → new.far.first ≡ w.far.first
 turn_first j w new r before few step =
-    (works_turn j (held_at w j) (held_then new) r (is_done j w new r few step)).first
+    (works_turn j (held_at w j) (held_then new) r (is_done j w new r few step)).0
 
 pub turn_turns : (j : Job) (w new : WorldState) (r : Reply) → IsSoundWorld w
     → w.far.counts.turns < 2 ^ 40 → TurnStep j w r new
     → new.far.counts.turns ≡ w.far.counts.turns + 1
 turn_turns j w new r before few step =
-    (works_turn j (held_at w j) (held_then new) r (is_done j w new r few step)).turns
+    (works_turn j (held_at w j) (held_then new) r (is_done j w new r few step)).1

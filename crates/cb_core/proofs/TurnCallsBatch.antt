@@ -13,9 +13,9 @@ use Rattle.cb_evict.specs.BeginStep.{IsBeginStep, is_leaving, few_spans, few_nod
 use Rattle.cb_evict.specs.CommitStep.{IsCommitStep, no_batch as none_to_commit, short, committed}
 use Rattle.cb_evict.specs.ShipRule.{ShipsRow}
 use Rattle.cb_evict.specs.ShipStep.{IsShipStep}
+use Rattle.cb_evict.proofs.Laws.{abort_keeps, begin_keeps, commit_keeps, ship_keeps}
 use Rattle.cb_core.specs.Parts.{Holding}
 use Rattle.cb_core.specs.Step.{StillBegin, StillShip, StillCommit, StillAbort}
-use Rattle.cb_core.proofs.StillBatches.{begin_keeps, ship_keeps, commit_keeps, abort_keeps}
 use Rattle.cb_core.proofs.TurnCallsKept.{HasKept, kept_step}
 
 -- ---- what each keeps
