@@ -27,7 +27,7 @@ use Rattle.cb_compact.specs.CompactStep.{AreStepped, CompactStep, GoesThrough, P
 use Rattle.cb_compact.specs.PairStep.{PairStep, set_numbered}
 use Rattle.cb_compact.specs.PartStep.{IsFreshPair, PartStep}
 use Rattle.cb_compact.specs.PatchStep.{IsOneStep, PatchStep, TakesStep, shard_beside}
-use Rattle.cb_compact.proofs.FarLaws.{AreFarLaws, LeavesLocal}
+use Rattle.cb_compact.proofs.FarLaws.{AreFarLaws, LeavesLocal, leaves_local, local_of}
 use Rattle.cb_compact.proofs.FarTurns.{begin_laws, merge_laws, part_laws, patch_laws}
 use Rattle.cb_compact.proofs.CompactKeeps.{JoinKeeps, dropped_given, keeps_both}
 use Rattle.cb_compact.proofs.NowGone.{stepped_keeps_all}
@@ -471,15 +471,7 @@ leaves_both far mid new x y = record {
 }
 
 steps_leave : (far new : FarState) (done : List ℕ) → AreStepped far done new → LeavesLocal far new
-steps_leave far new [] steps = subst (LeavesLocal far) (sym steps) (record {
-  first = refl;
-  made = refl;
-  frames = refl;
-  spans = refl;
-  members = refl;
-  leaving = refl;
-  turns = refl;
-})
+steps_leave far new [] steps = leaves_local far new (ap local_of steps)
 steps_leave far new (p ∷ done) steps =
     leaves_both far steps.0 new (patch_laws.leaves far steps.0 (answer.Stepped p) steps.1)
     (steps_leave steps.0 new done steps.2)
