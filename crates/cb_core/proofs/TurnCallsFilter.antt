@@ -33,7 +33,7 @@ use Rattle.cb_core.proofs.TurnCallsMap.{IsSameMap, map_stays, call_carried}
 use Rattle.cb_core.proofs.TurnCallsWhere.{kept_map, within}
 
 -- ---- what it keeps
-pub kept_filter : (a b : Holding Words) (h : ℕ) (r : Reply) (s : Shown) → IsKnown a.desk a.far s
+kept_filter : (a b : Holding Words) (h : ℕ) (r : Reply) (s : Shown) → IsKnown a.desk a.far s
     → StillFilter h a r b → HasKept a b s
 kept_filter a b h r s k (step, hold) =
     kept_step a b s k hold (filter_keeps a.desk b.desk a.far b.far h r step)

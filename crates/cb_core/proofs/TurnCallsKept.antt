@@ -17,7 +17,7 @@ use Rattle.cb_evict.specs.declared.eviction.Eviction.{Eviction}
 use Rattle.cb_evict.specs.declared.eviction.Eviction.TheVariants.{Refused, Set}
 use Rattle.cb_evict.specs.Eviction.{reply_of}
 use Rattle.cb_core.specs.Parts.{Holding, at_once, no_room, won}
-use Rattle.cb_core.specs.Step.{HoldOn, StillEvict, StillRoom, StillSwap, StillBring, StillFar}
+use Rattle.cb_core.specs.Step.{HoldOn, StillRoom, StillSwap, StillBring, StillFar}
 use Rattle.cb_core.specs.Turned.{counted}
 use Rattle.cb_core.proofs.NodesStay.{MakesNone}
 
@@ -84,20 +84,15 @@ kept_far step a b r s k none (same, done, hold) = let then = hold s k in record 
   words = subst (KeepsPins a.desk) (sym same) (pins_same a.desk);
 }
 
-pub kept_evict : (a b : Holding Words) (r : Reply) (s : Shown) → IsKnown a.desk a.far s
-    → StillEvict a r b → HasKept a b s
-kept_evict a b r s k (step, hold) =
-    kept_step a b s k hold (evict_keeps a.desk b.desk a.far b.far r step)
-
 pub kept_swap : (a b : Holding Words) (h : ℕ) (r : Reply) (s : Shown) → IsKnown a.desk a.far s
     → StillSwap h a r b → HasKept a b s
 kept_swap a b h r s k (home, at, step, hold) =
     kept_step a b s k hold (swap_keeps a.desk b.desk a.far b.far home.set home.position r s k step)
 
--- so does one that tells both counts
 pub kept_room : (a b : Holding Words) (e : Eviction) (s : Shown) → IsKnown a.desk a.far s
     → StillRoom a e b → HasKept a b s
-kept_room a b e s k (step, hold) = kept_evict a b (reply_of e) s k (step.step, hold)
+kept_room a b e s k (step, hold) =
+    kept_step a b s k hold (evict_keeps a.desk b.desk a.far b.far (reply_of e) step.step)
 
 -- what is done with room won keeps what its parts keep
 pub kept_bring : (a b : Holding Words) (h : ℕ) (r : Reply) (s : Shown) → IsKnown a.desk a.far s
