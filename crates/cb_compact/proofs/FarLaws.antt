@@ -1,8 +1,6 @@
 -- What a turn rests on where it does a step on the far state alone: one record of laws, whichever
 -- step it is.
-use Rattle.std.proofs.Common.{◌≡◌, ℕ, Bool, List, Option}
-use Rattle.cb_member.specs.Membership.{Membership}
-use Rattle.cb_span.specs.Contents.{Contents}
+use Rattle.std.proofs.Common.{◌≡◌, ℕ}
 use Rattle.cb_types.specs.declared.config.Config.{Config}
 use Rattle.cb_types.specs.declared.reply.Reply.{Reply}
 use Rattle.cb_types.specs.declared.reply.Reply.TheVariants as answer
@@ -10,40 +8,9 @@ use Rattle.cb_types.specs.declared.request.Request.{Request}
 use Rattle.cb_types.specs.Table.{IsReplyOf}
 use Rattle.cb_world.specs.declared.shown.Shown.{Shown}
 use Rattle.cb_world.specs.FarState.{FarState}
-use Rattle.cb_world.specs.Leaving.{LeavingState}
 use Rattle.cb_world.specs.Sound.{Sound}
 use Rattle.cb_world.proofs.Laws.{StaysIfBy}
-use Rattle.cb_compact.proofs.CompactKeeps.{JoinKeeps}
-
--- the handles that were made, local memory, the members, the batch that is leaving and the count of
--- turns stay
-pub record LeavesLocal (far new : FarState) : Type 0 where
-  pub first : new.first ≡ far.first
-  pub made : new.made ≡ far.made
-  pub frames : new.frames ≡ far.frames
-  pub spans : new.spans ≡ far.spans
-  pub members : new.members ≡ far.members
-  pub leaving : new.leaving ≡ far.leaving
-  pub turns : new.counts.turns ≡ far.counts.turns
-
-abbrev Local : Type 0
-Local = ℕ × ℕ × List Bool × List (Option Contents) × Membership × Option LeavingState × ℕ
-
--- all of these
-abbrev pub local_of : FarState → Local
-local_of far =
-    (far.first, far.made, far.frames, far.spans, far.members, far.leaving, far.counts.turns)
-
-pub leaves_local : (far new : FarState) → local_of new ≡ local_of far → LeavesLocal far new
-leaves_local far new e = record {
-  first = λ i. (e i).0;
-  made = λ i. (e i).1;
-  frames = λ i. (e i).2;
-  spans = λ i. (e i).3;
-  members = λ i. (e i).4;
-  leaving = λ i. (e i).5;
-  turns = λ i. (e i).6;
-}
+use Rattle.cb_compact.proofs.CompactKeeps.{JoinKeeps, LeavesLocal}
 
 -- Of a step whose numbers rise by at most so many, which does so to what is noted of a search for a
 -- pair, and which such a line does. What is configured stays; the world stays sound, and `now` of every handle is as before; local memory stays; a sound

@@ -13,9 +13,9 @@ use Rattle.cb_compact.specs.PartStep.{PartStep}
 use Rattle.cb_compact.specs.PatchStep.{PatchStep, TakesStep}
 use Rattle.cb_compact.proofs.PairSound.{begun_keeps}
 use Rattle.cb_compact.proofs.MergeSound.{merge_keeps}
-use Rattle.cb_compact.proofs.FarLaws.{AreFarLaws, LeavesLocal, leaves_local, local_of}
+use Rattle.cb_compact.proofs.FarLaws.{AreFarLaws}
 use Rattle.cb_compact.proofs.CompactFixed.{begin_fixes, merge_fixes, part_fixes, patch_fixes}
-use Rattle.cb_compact.proofs.CompactKeeps.{JoinKeeps, keeps_all, parted_keeps}
+use Rattle.cb_compact.proofs.CompactKeeps.{JoinKeeps, LeavesLocal, keeps_all, leaves_local, local_of, parted_keeps}
 use Rattle.cb_compact.proofs.PatchSound.{patch_keeps}
 use Rattle.cb_compact.proofs.CompactStays.{begin_stays, merge_stays, part_stays, patch_stays}
 use Rattle.cb_compact.proofs.TableExists.{table_exists}

@@ -27,9 +27,9 @@ use Rattle.cb_compact.specs.CompactStep.{AreStepped, CompactStep, GoesThrough, P
 use Rattle.cb_compact.specs.PairStep.{PairStep, set_numbered}
 use Rattle.cb_compact.specs.PartStep.{IsFreshPair, PartStep}
 use Rattle.cb_compact.specs.PatchStep.{IsOneStep, PatchStep, TakesStep, shard_beside}
-use Rattle.cb_compact.proofs.FarLaws.{AreFarLaws, LeavesLocal, leaves_local, local_of}
+use Rattle.cb_compact.proofs.FarLaws.{AreFarLaws}
 use Rattle.cb_compact.proofs.FarTurns.{begin_laws, merge_laws, part_laws, patch_laws}
-use Rattle.cb_compact.proofs.CompactKeeps.{JoinKeeps, dropped_given, keeps_both}
+use Rattle.cb_compact.proofs.CompactKeeps.{JoinKeeps, LeavesLocal, dropped_given, keeps_both, leaves_local, local_of}
 use Rattle.cb_compact.proofs.NowGone.{stepped_keeps_all}
 use Rattle.cb_compact.proofs.CompactSound.{at_pair, from_keep, has_begun}
 use Rattle.cb_compact.proofs.PatchSound.{few_steps, step_is_none}
