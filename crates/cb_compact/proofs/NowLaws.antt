@@ -458,7 +458,7 @@ now_stays c s far new r sound (inr (inl x)) is = more_stays c far new
 now_stays c s far new r sound (inr (inr x)) is = through_stays c s far new r sound x is
 
 -- ---- local memory
-leaves_both : (far mid new : FarState) → LeavesLocal far mid → LeavesLocal mid new
+pub leaves_both : (far mid new : FarState) → LeavesLocal far mid → LeavesLocal mid new
     → LeavesLocal far new
 leaves_both far mid new x y = record {
   first = y.first ∙ x.first;
