@@ -124,7 +124,8 @@ by_laws job most asked few laws stay idle answered lacking = record {
 abbrev all_left : FarState → (ℕ × ℕ × ℕ) × MembersBatchPair
 all_left far = (tally far, standing far)
 
-rebuild_leaves : (far new : FarState) (r : Reply) → RebuildStep far new r → all_left new ≡ all_left far
+rebuild_leaves : (far new : FarState) (r : Reply) → RebuildStep far new r
+    → all_left new ≡ all_left far
 rebuild_leaves far new r (inl none) = ap all_left none.state
 rebuild_leaves far new r (inr z) = elim z.restores [
   | inl stuck ↦ ap all_left stuck.same

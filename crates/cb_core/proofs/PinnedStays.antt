@@ -239,7 +239,8 @@ where_fixed call look h k q part fixes a b s t r ka kb below p (brought m n o f 
     (part.looks m n None l ∙ part.nothing a m c) bring in
     let kept = kept_bring a o h (answer.Swapped f) s ka came in
     let lt : h < length o.desk.words = (let old = ka.sized.words in let new = kept.known.sized.words in
-    let same = ap (λ (c : Config). c.handles) kept.words.settings in omega (arith, old, new, same, below)) in
+    let same = ap (λ (c : Config). c.handles) kept.words.settings in
+    omega (arith, old, new, same, below)) in
     fixed_then a o b s kept.shown t k (kept_fixed a o s kept.shown k kept kept.known p)
     (fixes o b kept.shown t r kept.known kb lt (still_held a o s k ka kept p) again)
 

@@ -302,7 +302,8 @@ evict_lack c seats a b good (same, p) =
 pub swap_lack : (c : Config) (seats : List SeatState) (h : ℕ)
     → CarriesLack c seats 16 (SwapLacks Ran h) (StillSwapLacks h)
 swap_lack c seats h a b good (ran, (home, set, n, at, there, few, state)) =
-    let same : b ≡ record { desk = a.desk; far = far_given a.far n } = same_holding _ b ran.0 state in
+    let same : b ≡ record { desk = a.desk; far = far_given a.far n } =
+    same_holding _ b ran.0 state in
     let stays = given_stays c good.shown a.far home.set n set good.known.sound there few good.configured in
     record {
       is = (ran.0, (home, set, n, at, there, few, state));

@@ -281,7 +281,8 @@ crash_turn w new node r before after few below step =
 abbrev StillCounts : FarState → FarState → Type 0
 StillCounts far new = (new.first ≡ far.first) × (new.counts.turns ≡ far.counts.turns)
 
-works_turn : (j : Job) (a b : Holding Words) (r : Reply) → StillWorks j a r b → StillCounts a.far b.far
+works_turn : (j : Job) (a b : Holding Words) (r : Reply) → StillWorks j a r b
+    → StillCounts a.far b.far
 works_turn j a b r works = elim (works_left j a b r works) [
   | inl e ↦ ((λ i. (e i).0.2), (λ i. (e i).0.3))
   | inr (inl e) ↦ ((λ i. (e.1 i).2), (λ i. (e.1 i).3))

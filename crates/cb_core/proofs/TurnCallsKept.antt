@@ -75,7 +75,8 @@ kept_step a b s k hold keeps = let then = hold s k in record {
 
 -- so does a change of the far state alone in which no object was made and no turn counted
 pub kept_far : (step : FarState → FarState → Reply → Type 0) (a b : Holding Words) (r : Reply)
-    (s : Shown) → IsKnown a.desk a.far s → MakesNone a.far b.far → StillFar step a r b → HasKept a b s
+    (s : Shown) → IsKnown a.desk a.far s → MakesNone a.far b.far → StillFar step a r b
+    → HasKept a b s
 kept_far step a b r s k none (same, done, hold) = let then = hold s k in record {
   shown = then.0;
   known = then.1;

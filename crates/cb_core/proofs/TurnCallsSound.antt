@@ -53,7 +53,8 @@ pub swap_sound : (w new : WorldState) (h : ℕ) (r : Reply) → IsSoundWorld w
 swap_sound w new h r sound (worn end is same) = subst IsSoundWorld (sym same) sound
 swap_sound w new h r sound (done few works seats) =
     let j = job.Swap (record { n = h }) in let a = once_counted (held w) j in let b = held new in
-    let z = swap_arrives w.desk.settings w.seats sound.config h a b r (counted_good w j sound) works in
+    let z = swap_arrives w.desk.settings w.seats sound.config h a b r (counted_good w j sound)
+    works in
     subst IsSoundWorld (sym (λ i. record { desk = new.desk; far = new.far; seats = seats i }))
     (arrived_sound w j b _ sound few
     (arrives_more w.desk.settings w.seats 57 64 a b _ (Unit {0}) (omega arith) z tt))
