@@ -1,9 +1,10 @@
 -- What the steps of a pair keep: the world is sound, last complete contents stay, and no row is
 -- given.
-use Rattle.std.proofs.Common.{◌≡◌, ℕ, ◌≤◌, List, [], ◌∷◌, Option, Some, None, refl, sym, ap, ◌∙◌, arith}
+use Rattle.std.proofs.Common.{◌≡◌, ℕ, ◌≤◌, Bool, List, [], ◌∷◌, Option, Some, None, refl, sym, ap, ◌∙◌, arith}
 use Rattle.std.specs.List.{slice_get}
 use Rattle.std.specs.FinMap as map
 use Rattle.cb_member.specs.declared.names.Shard.{Shard}
+use Rattle.cb_member.specs.Membership.{Membership}
 use Rattle.cb_node.specs.NodesState.{NodesState, with_dropped}
 use Rattle.cb_set.specs.SetState.{SetState}
 use Rattle.cb_world.specs.declared.shown.Shown.{Shown}
@@ -37,13 +38,39 @@ keeps_both s far mid new x y = record {
   same_now = λ h. y.same_now h ∙ x.same_now h;
 }
 
--- local memory and the batch that is leaving stay
-pub record KeepsLocal (far new : FarState) : Type 0 where
+-- the handles that were made, local memory, the members, the batch that is leaving and the count of
+-- turns stay
+pub record LeavesLocal (far new : FarState) : Type 0 where
   pub first : new.first ≡ far.first
   pub made : new.made ≡ far.made
   pub frames : new.frames ≡ far.frames
   pub spans : new.spans ≡ far.spans
+  pub members : new.members ≡ far.members
   pub leaving : new.leaving ≡ far.leaving
+  pub turns : new.counts.turns ≡ far.counts.turns
+
+abbrev Local : Type 0
+Local = ℕ × ℕ × List Bool × List (Option Contents) × Membership × Option LeavingState × ℕ
+
+-- all of these
+abbrev pub local_of : FarState → Local
+local_of far =
+    (far.first, far.made, far.frames, far.spans, far.members, far.leaving, far.counts.turns)
+
+pub leaves_local : (far new : FarState) → local_of new ≡ local_of far → LeavesLocal far new
+leaves_local far new e = record {
+  first = λ i. (e i).0;
+  made = λ i. (e i).1;
+  frames = λ i. (e i).2;
+  spans = λ i. (e i).3;
+  members = λ i. (e i).4;
+  leaving = λ i. (e i).5;
+  turns = λ i. (e i).6;
+}
+
+-- so, and the set that is kept for the batch that is leaving
+pub record KeepsLocal (far new : FarState) : Type 0 where
+  pub local : LeavesLocal far new
   pub drawn : far.counts.sets ≤ new.counts.sets
   pub kept : (batch : LeavingState) → far.leaving ≡ Some batch → IsReserved far batch
       → map.get new.sets batch.set ≡ map.get far.sets batch.set
@@ -52,16 +79,16 @@ pub record KeepsLocal (far new : FarState) : Type 0 where
 
 pub local_sound : (s : Shown) (far new : FarState) → Sound s far → KeepsLocal far new
     → FarSound s new → Sound s new
-local_sound s far new sound x away = record {
-  here = local_stays s far new x.first x.made x.frames x.spans sound.here;
-  noted = λ batch at. let was = sym x.leaving ∙ at in let n = sound.noted batch was in
+local_sound s far new sound x away = let l = x.local in record {
+  here = local_stays s far new l.first l.made l.frames l.spans sound.here;
+  noted = λ batch at. let was = sym l.leaving ∙ at in let n = sound.noted batch was in
       noted_by s s far new batch (record {
-        spans = λ f leaves. ap (λ (l : List (Option Contents)). span_in l f) x.spans;
+        spans = λ f leaves. ap (λ (c : List (Option Contents)). span_in c f) l.spans;
         sets = x.kept batch was n.reserved;
         drawn = x.drawn;
         unpaired = λ apart. x.unpaired batch was n.reserved;
       }) (λ f slot h span leaves there named m. m) n;
-  claimed = claimed_stay s far new x.spans x.leaving sound.claimed;
+  claimed = claimed_stay s far new l.spans l.leaving sound.claimed;
   away = away;
 }
 
@@ -124,11 +151,7 @@ parted_keeps s far pair sound there =
     let x = parted_is s far pair sound there in
     record {
       sound = local_sound s far (with_parted far pair) sound (record {
-        first = refl;
-        made = refl;
-        frames = refl;
-        spans = refl;
-        leaving = refl;
+        local = leaves_local far (with_parted far pair) refl;
         drawn = omega arith;
         kept = λ batch at r. refl;
         unpaired = λ batch at r q e. absurd (no_pair q e);

@@ -10,18 +10,7 @@ use Rattle.cb_world.specs.declared.shown.Shown.{Shown}
 use Rattle.cb_world.specs.FarState.{FarState}
 use Rattle.cb_world.specs.Sound.{Sound}
 use Rattle.cb_world.proofs.Laws.{StaysIfBy}
-use Rattle.cb_compact.proofs.CompactKeeps.{JoinKeeps}
-
--- the handles that were made, local memory, the members, the batch that is leaving and the count of
--- turns stay
-pub record LeavesLocal (far new : FarState) : Type 0 where
-  pub first : new.first ≡ far.first
-  pub made : new.made ≡ far.made
-  pub frames : new.frames ≡ far.frames
-  pub spans : new.spans ≡ far.spans
-  pub members : new.members ≡ far.members
-  pub leaving : new.leaving ≡ far.leaving
-  pub turns : new.counts.turns ≡ far.counts.turns
+use Rattle.cb_compact.proofs.CompactKeeps.{JoinKeeps, LeavesLocal}
 
 -- Of a step whose numbers rise by at most so many, which does so to what is noted of a search for a
 -- pair, and which such a line does. What is configured stays; the world stays sound, and `now` of every handle is as before; local memory stays; a sound

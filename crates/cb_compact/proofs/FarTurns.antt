@@ -1,5 +1,5 @@
 -- What a turn of compaction rests on: the laws of each step of a pair.
-use Rattle.std.proofs.Common.{◌≡◌, refl, sym, subst, inl, inr}
+use Rattle.std.proofs.Common.{refl, sym, ap, subst, inl, inr}
 use Rattle.cb_types.specs.declared.reply.Reply.{Reply}
 use Rattle.cb_types.specs.declared.request.Request.TheVariants as line
 use Rattle.cb_types.specs.Table.{IsReplyOf}
@@ -13,9 +13,9 @@ use Rattle.cb_compact.specs.PartStep.{PartStep}
 use Rattle.cb_compact.specs.PatchStep.{PatchStep, TakesStep}
 use Rattle.cb_compact.proofs.PairSound.{begun_keeps}
 use Rattle.cb_compact.proofs.MergeSound.{merge_keeps}
-use Rattle.cb_compact.proofs.FarLaws.{AreFarLaws, LeavesLocal}
+use Rattle.cb_compact.proofs.FarLaws.{AreFarLaws}
 use Rattle.cb_compact.proofs.CompactFixed.{begin_fixes, merge_fixes, part_fixes, patch_fixes}
-use Rattle.cb_compact.proofs.CompactKeeps.{JoinKeeps, keeps_all, parted_keeps}
+use Rattle.cb_compact.proofs.CompactKeeps.{JoinKeeps, LeavesLocal, keeps_all, leaves_local, local_of, parted_keeps}
 use Rattle.cb_compact.proofs.PatchSound.{patch_keeps}
 use Rattle.cb_compact.proofs.CompactStays.{begin_stays, merge_stays, part_stays, patch_stays}
 use Rattle.cb_compact.proofs.TableExists.{table_exists}
@@ -40,104 +40,31 @@ part_keeps s far new r sound (inr x) =
     subst (JoinKeeps s far) (sym x.state) (parted_keeps s far x.pair sound x.there)
 
 -- ---- local memory
-leaves_all : (far : FarState) → LeavesLocal far far
-leaves_all far = record {
-  first = refl;
-  made = refl;
-  frames = refl;
-  spans = refl;
-  members = refl;
-  leaving = refl;
-  turns = refl;
-}
-
--- a far state that has all of these as before
-leaves : (far new other : FarState) → new ≡ other → LeavesLocal far other → LeavesLocal far new
-leaves far new other e x = subst (LeavesLocal far) (sym e) x
-
 begin_leaves : (far new : FarState) (r : Reply) → PairStep far new r → LeavesLocal far new
-begin_leaves far new r (inl x) = leaves far new _ x.state (leaves_all far)
-begin_leaves far new r (inr (inl x)) = leaves far new _ x.state (record {
-  first = refl;
-  made = refl;
-  frames = refl;
-  spans = refl;
-  members = refl;
-  leaving = refl;
-  turns = refl;
-})
-begin_leaves far new r (inr (inr x)) = leaves far new _ x.state (record {
-  first = refl;
-  made = refl;
-  frames = refl;
-  spans = refl;
-  members = refl;
-  leaving = refl;
-  turns = refl;
-})
+begin_leaves far new r (inl x) = leaves_local far new (ap local_of x.state)
+begin_leaves far new r (inr (inl x)) = leaves_local far new (ap local_of x.state)
+begin_leaves far new r (inr (inr x)) = leaves_local far new (ap local_of x.state)
 
 patch_leaves : (far new : FarState) (r : Reply) → PatchStep far new r → LeavesLocal far new
-patch_leaves far new r (inl x) = leaves far new _ x.state (leaves_all far)
-patch_leaves far new r (inr (inl x)) = leaves far new _ x.state (record {
-  first = refl;
-  made = refl;
-  frames = refl;
-  spans = refl;
-  members = refl;
-  leaving = refl;
-  turns = refl;
-})
-patch_leaves far new r (inr (inr x)) = by x.takes
-  where
-    by : TakesStep far x.pair x.a x.b new r → LeavesLocal far new
-    by (inl y) = leaves far new _ y.state (leaves_all far)
-    by (inr (inl y)) = leaves far new _ y.state (leaves_all far)
-    by (inr (inr y)) = leaves far new _ y.state (record {
-      first = refl;
-      made = refl;
-      frames = refl;
-      spans = refl;
-      members = refl;
-      leaving = refl;
-      turns = refl;
-    })
+patch_leaves far new r (inl x) = leaves_local far new (ap local_of x.state)
+patch_leaves far new r (inr (inl x)) = leaves_local far new (ap local_of x.state)
+patch_leaves far new r (inr (inr x)) = elim x.takes [
+  | inl y ↦ leaves_local far new (ap local_of y.state)
+  | inr (inl y) ↦ leaves_local far new (ap local_of y.state)
+  | inr (inr y) ↦ leaves_local far new (ap local_of y.state)
+]
 
 merge_leaves : (far new : FarState) (r : Reply) → MergeStep far new r → LeavesLocal far new
-merge_leaves far new r (inl x) = leaves far new _ x.state (leaves_all far)
-merge_leaves far new r (inr (inl x)) = leaves far new _ x.state (record {
-  first = refl;
-  made = refl;
-  frames = refl;
-  spans = refl;
-  members = refl;
-  leaving = refl;
-  turns = refl;
-})
-merge_leaves far new r (inr (inr x)) = by x.merges
-  where
-    by : Merges far x.pair x.a x.b new r → LeavesLocal far new
-    by (inl y) = leaves far new _ y.state (leaves_all far)
-    by (inr y) = leaves far new _ y.state (record {
-      first = refl;
-      made = refl;
-      frames = refl;
-      spans = refl;
-      members = refl;
-      leaving = refl;
-      turns = refl;
-    })
+merge_leaves far new r (inl x) = leaves_local far new (ap local_of x.state)
+merge_leaves far new r (inr (inl x)) = leaves_local far new (ap local_of x.state)
+merge_leaves far new r (inr (inr x)) = elim x.merges [
+  | inl y ↦ leaves_local far new (ap local_of y.state)
+  | inr y ↦ leaves_local far new (ap local_of y.state)
+]
 
 part_leaves : (far new : FarState) (r : Reply) → PartStep far new r → LeavesLocal far new
-part_leaves far new r (inl x) = leaves far new _ x.state (leaves_all far)
-part_leaves far new r (inr x) = leaves far new _ x.state (record {
-  first = refl;
-  made = refl;
-  frames = refl;
-  spans = refl;
-  members = refl;
-  leaving = refl;
-  turns = refl;
-})
+part_leaves far new r (inl x) = leaves_local far new (ap local_of x.state)
+part_leaves far new r (inr x) = leaves_local far new (ap local_of x.state)
 
 -- ---- replies
 begin_answers : (far new : FarState) (r : Reply) → PairStep far new r → IsReplyOf line.Pair r

@@ -31,7 +31,7 @@ use Rattle.cb_compact.specs.Merging.{IsReadyToMerge}
 use Rattle.cb_compact.specs.Rehoming.{AreRehomed}
 use Rattle.cb_compact.specs.PartStep.{IsFreshPair}
 use Rattle.cb_compact.proofs.Committing.{home_a, home_b, is_merged_set, ready_data, ready_fit, ready_join, ready_whole, rows_a, rows_b, tables_a, tables_b}
-use Rattle.cb_compact.proofs.CompactKeeps.{JoinKeeps, dropped_given, keeps_all, local_sound, parted_keeps}
+use Rattle.cb_compact.proofs.CompactKeeps.{JoinKeeps, dropped_given, keeps_all, leaves_local, local_sound, parted_keeps}
 use Rattle.cb_compact.proofs.Merged.{chosen_a, chosen_b, named_from}
 
 none_some : {X : Type 0} (o : Option X) (x : X) → o ≡ None → o ≡ Some x → ⊥
@@ -268,11 +268,7 @@ module _ (s : Shown) (far : FarState) (pair : JoiningState) (a b : SetState)
     pub committed_keeps : Sound s far → JoinKeeps s far after
     committed_keeps sound = record {
       sound = local_sound s far after sound (record {
-        first = refl;
-        made = refl;
-        frames = refl;
-        spans = refl;
-        leaving = refl;
+        local = leaves_local far after refl;
         drawn = omega arith;
         kept = λ batch at r.
             let d = r.drawn in let u = r.unpaired pair x.fresh.was in

@@ -27,9 +27,9 @@ use Rattle.cb_compact.specs.CompactStep.{AreStepped, CompactStep, GoesThrough, P
 use Rattle.cb_compact.specs.PairStep.{PairStep, set_numbered}
 use Rattle.cb_compact.specs.PartStep.{IsFreshPair, PartStep}
 use Rattle.cb_compact.specs.PatchStep.{IsOneStep, PatchStep, TakesStep, shard_beside}
-use Rattle.cb_compact.proofs.FarLaws.{AreFarLaws, LeavesLocal}
+use Rattle.cb_compact.proofs.FarLaws.{AreFarLaws}
 use Rattle.cb_compact.proofs.FarTurns.{begin_laws, merge_laws, part_laws, patch_laws}
-use Rattle.cb_compact.proofs.CompactKeeps.{JoinKeeps, dropped_given, keeps_both}
+use Rattle.cb_compact.proofs.CompactKeeps.{JoinKeeps, LeavesLocal, dropped_given, keeps_both, leaves_local, local_of}
 use Rattle.cb_compact.proofs.NowGone.{stepped_keeps_all}
 use Rattle.cb_compact.proofs.CompactSound.{at_pair, from_keep, has_begun}
 use Rattle.cb_compact.proofs.PatchSound.{few_steps, step_is_none}
@@ -458,7 +458,7 @@ now_stays c s far new r sound (inr (inl x)) is = more_stays c far new
 now_stays c s far new r sound (inr (inr x)) is = through_stays c s far new r sound x is
 
 -- ---- local memory
-leaves_both : (far mid new : FarState) → LeavesLocal far mid → LeavesLocal mid new
+pub leaves_both : (far mid new : FarState) → LeavesLocal far mid → LeavesLocal mid new
     → LeavesLocal far new
 leaves_both far mid new x y = record {
   first = y.first ∙ x.first;
@@ -471,15 +471,7 @@ leaves_both far mid new x y = record {
 }
 
 steps_leave : (far new : FarState) (done : List ℕ) → AreStepped far done new → LeavesLocal far new
-steps_leave far new [] steps = subst (LeavesLocal far) (sym steps) (record {
-  first = refl;
-  made = refl;
-  frames = refl;
-  spans = refl;
-  members = refl;
-  leaving = refl;
-  turns = refl;
-})
+steps_leave far new [] steps = leaves_local far new (ap local_of steps)
 steps_leave far new (p ∷ done) steps =
     leaves_both far steps.0 new (patch_laws.leaves far steps.0 (answer.Stepped p) steps.1)
     (steps_leave steps.0 new done steps.2)

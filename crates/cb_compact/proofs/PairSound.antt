@@ -18,7 +18,7 @@ use Rattle.cb_world.proofs.Laws.{begun_whole, pair_now, reserved_is_other}
 use Rattle.cb_types.specs.declared.reply.Reply.{Reply}
 use Rattle.cb_compact.specs.PairStep.{IsFirstPair, PairStep, begun_pair, live_positions, with_pair}
 use Rattle.cb_compact.proofs.Finding.{passing, passing_in, passing_more, passing_out}
-use Rattle.cb_compact.proofs.CompactKeeps.{JoinKeeps, local_sound}
+use Rattle.cb_compact.proofs.CompactKeeps.{JoinKeeps, leaves_local, local_sound}
 
 -- ---- the positions that pass a test
 takes_append : (xs ys : List ℕ) (p : ℕ) → takes (xs ++ ys) p ≡ cond (takes xs p) true (takes ys p)
@@ -192,11 +192,7 @@ begun_keeps s far x y a b table sound none first coeffs =
     let is = begun_is s far x y a b sound none first in
     record {
       sound = local_sound s far new sound (record {
-        first = refl;
-        made = refl;
-        frames = refl;
-        spans = refl;
-        leaving = refl;
+        local = leaves_local far new refl;
         drawn = omega arith;
         kept = λ batch at r. refl;
         unpaired = λ batch at r q e. let same = pair_same (begun_pair x y a b) q e in (

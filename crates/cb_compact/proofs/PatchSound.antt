@@ -23,7 +23,7 @@ use Rattle.cb_world.proofs.Laws.{join_is_merged, pair_now, room_put, stepped_who
 use Rattle.cb_types.specs.declared.reply.Reply.{Reply}
 use Rattle.cb_compact.specs.PartStep.{IsFreshPair}
 use Rattle.cb_compact.specs.PatchStep.{IsMergedRow, IsNext, PatchStep, TakesStep, has_step, shard_beside, with_stepped}
-use Rattle.cb_compact.proofs.CompactKeeps.{JoinKeeps, dropped_given, fresh_is, keeps_all, local_sound, parted_keeps}
+use Rattle.cb_compact.proofs.CompactKeeps.{JoinKeeps, dropped_given, fresh_is, keeps_all, leaves_local, local_sound, parted_keeps}
 
 -- ---- a position whose step is to be done
 both_true : (a b : Bool) → (a && b) ≡ true → (a ≡ true) × (b ≡ true)
@@ -167,11 +167,7 @@ module _ (s : Shown) (far : FarState) (pair : JoiningState) (a b : SetState) (p 
     pub stepped_keeps : JoinKeeps s far after
     stepped_keeps = record {
       sound = local_sound s far after sound (record {
-        first = refl;
-        made = refl;
-        frames = refl;
-        spans = refl;
-        leaving = refl;
+        local = leaves_local far after refl;
         drawn = omega arith;
         kept = λ batch there r. refl;
         unpaired = λ batch there r q e. let same = pair_same q e in let u = r.unpaired pair

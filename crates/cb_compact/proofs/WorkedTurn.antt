@@ -1,5 +1,5 @@
 -- A worked turn that joins two sets: the pair begins, both of its steps are taken, and it is one set.
-use Rattle.std.proofs.Common.{◌≡◌, ℕ, zero, suc, ◌<◌, false, List, [], ◌∷◌, refl, sym, ap, ◌∙◌, arith, inl, inr, lit<, lit≤}
+use Rattle.std.proofs.Common.{◌≡◌, ℕ, zero, suc, ◌<◌, false, List, [], ◌∷◌, refl, sym, ap, ◌∙◌, arith, inr, lit<, lit≤}
 use Rattle.std.proofs.lemmas.Option.{same_Some}
 use Rattle.std.specs.FinMap as map
 use Rattle.cb_gf256.specs.InRange.{IsInRange}
@@ -13,7 +13,6 @@ use Rattle.cb_world.proofs.Laws.{node, row, rows, same_data}
 use Rattle.cb_compact.specs.MergeStep.{MergeStep, with_merged}
 use Rattle.cb_compact.specs.CompactStep.{AreStepped, CompactStep, GoesThrough}
 use Rattle.cb_compact.specs.PairStep.{set_numbered}
-use Rattle.cb_compact.specs.PartStep.{IsFreshPair}
 use Rattle.cb_compact.specs.PatchStep.{IsMergedRow, IsNext, IsOneStep, PatchStep, is_undone, shard_beside, with_stepped}
 use Rattle.cb_compact.proofs.WorkedCommit.{is_merged}
 use Rattle.cb_compact.proofs.WorkedGround.{first_of, ground, has_row, homes_in, merged_word, second_of}

@@ -23,11 +23,11 @@ use Rattle.cb_compact.specs.declared.looking.Look.TheVariants as look
 use Rattle.cb_compact.specs.Looking.{Looks}
 use Rattle.cb_compact.specs.MergeStep.{Merges, MergesOn}
 use Rattle.cb_compact.specs.Merging.{IsReadyToMerge}
-use Rattle.cb_compact.specs.PairStep.{CanJoin, FindsNoPair, IsFirstPair, IsJoining, IsPaired, NoneCanJoin, PairStep, begun_pair, live_positions, set_numbered, with_pair}
+use Rattle.cb_compact.specs.PairStep.{CanJoin, FindsNoPair, IsJoining, IsPaired, NoneCanJoin, PairStep, begun_pair, live_positions, set_numbered, with_pair}
 use Rattle.cb_compact.specs.PartStep.{HasChanged, HasNoPair, IsChangedSet, IsFreshPair, IsPairGivenUp, IsPartedPair, with_parted}
 use Rattle.cb_compact.specs.PatchStep.{AreDone, StepsOn, TakesStep, shard_beside, with_stepped}
 use Rattle.cb_compact.proofs.Ready.{same_fresh}
-use Rattle.cb_compact.proofs.WorkedBegin.{a_or_b, first_pair}
+use Rattle.cb_compact.proofs.WorkedBegin.{a_or_b}
 use Rattle.cb_compact.proofs.WorkedGround.{all_up, far, first_of, ground, one_down, second_of, two}
 use Rattle.cb_compact.proofs.WorkedMerge.{all_done}
 use Rattle.cb_compact.proofs.WorkedPair.{begun, on_node, set_a, set_b}

@@ -1,12 +1,11 @@
 -- Which two sets begin to join, and the far state then.
 use Rattle.std.specs.Prelude.{◌≡◌, ◌⊎◌, ℕ, ◌<◌, ◌≤◌, List, None, Some, length, filter, replicate}
 use Rattle.std.specs.List.{range_with_len}
-use Rattle.cb_set.specs.SetState.{SetState, live_at, parities}
+use Rattle.cb_set.specs.SetState.{SetState, live_at}
 use Rattle.cb_types.specs.declared.handle.SetId.{SetId}
 use Rattle.cb_types.specs.declared.reply.Reply.{Reply}
 use Rattle.cb_types.specs.declared.reply.Reply.TheVariants as answer
 use Rattle.cb_world.specs.Joining.{JoiningState}
-use Rattle.cb_world.specs.Sets.{set_in}
 use Rattle.cb_world.specs.FarState.{FarState}
 pub use Rattle.cb_world.specs.Pairs.{CanJoin, NoneCanJoin}
 use Rattle.cb_world.specs.Pairs.{with_no_pair}

@@ -1,7 +1,6 @@
 -- What is owed by a job that works at the far state alone, and that each of these jobs pays it.
-use Rattle.std.proofs.Common.{◌≡◌, ℕ, ◌+◌, ◌≤◌, refl, sym, subst, arith, inl, inr}
+use Rattle.std.proofs.Common.{◌≡◌, ℕ, ◌+◌, ◌≤◌, sym, ap, subst, arith, inl, inr}
 use Rattle.cb_member.specs.Membership.{Membership}
-use Rattle.cb_set.specs.SetState.{SetState}
 use Rattle.cb_types.specs.declared.config.Config.{Config}
 use Rattle.cb_types.specs.declared.job.Job.{Job}
 use Rattle.cb_types.specs.declared.job.Job.TheVariants.{Pair, Patch, Merge, Part, Compact, Rebuild, Crash, Join}
@@ -17,12 +16,12 @@ use Rattle.cb_world.specs.Sound.{Sound}
 use Rattle.cb_world.specs.World.{IsConfigured}
 use Rattle.cb_world.proofs.Laws.{KeepsHolding, KeepsNote, recounted_sound, rises_more, StaysBy, StaysIfBy, stays_noted, stays_same}
 use Rattle.cb_compact.proofs.Laws.{AreFarLaws, begin_laws, merge_laws, now_laws, part_laws, patch_laws}
-use Rattle.cb_rebuild.specs.RebuildStep.{RebuildStep, Restores, surveyed}
+use Rattle.cb_rebuild.specs.RebuildStep.{RebuildStep, surveyed}
 use Rattle.cb_rebuild.proofs.Laws.{failed_stays, keeps_first, keeps_step, rebuild_stays, rebuild_step_fixes}
 use Rattle.cb_core.specs.FarJobs.{FarLacks, FarStep, IsWeakGiven}
 use Rattle.cb_core.specs.Jobs.{IsJob}
 use Rattle.cb_core.proofs.CompactIdle.{now_idle}
-use Rattle.cb_core.proofs.NodesStay.{IsWholeJob, MakesNone, MembersAfter, MembersStand, crash_fixed, crash_line, crash_none, crash_sound, crash_stands, crash_stays, join_fixed, join_line, join_none, join_now, join_sound, join_stands, join_stays, member_of, standing, stands_same}
+use Rattle.cb_core.proofs.NodesStay.{IsWholeJob, MakesNone, MembersAfter, MembersBatchPair, MembersStand, crash_fixed, crash_line, crash_none, crash_sound, crash_stands, crash_stays, join_fixed, join_line, join_none, join_now, join_sound, join_stands, join_stays, member_of, standing, stands_same, tally}
 use Rattle.cb_core.proofs.RowsHeld.{IsIdle}
 
 -- the replies of the job are those of its line
@@ -107,11 +106,8 @@ by_laws : (job : Job) (most : ℕ) (asked : Request) → most ≤ 64
     → FarLacks job far new → StaysSound (note_of job) c s far new)
     → IsFarJob job
 by_laws job most asked few laws stay idle answered lacking = record {
-  none = λ far new r step. let z = laws.leaves far new r step in record {
-    first = z.first;
-    made = z.made;
-    turns = z.turns;
-  };
+  none = λ far new r step. let z = laws.leaves far new r step in
+      (λ i. (z.first i, z.made i, z.turns i));
   stands = λ far new r step. record {
     members = stay far.members new.members (laws.leaves far new r step).members;
     idle = λ whole none. idle whole far new r step none;
@@ -125,21 +121,16 @@ by_laws job most asked few laws stay idle answered lacking = record {
 }
 
 -- ---- a rebuild
-restored_none : (far new : FarState) (id : ℕ) (set : SetState) (r : Reply)
-    → Restores (surveyed far id) id set new r → MakesNone far new × (standing new ≡ standing far)
-restored_none far new id set r (inl stuck) =
-    subst (λ (f : FarState). MakesNone far f × (standing f ≡ standing far)) (sym stuck.same)
-    (record { first = refl; made = refl; turns = refl }, refl)
-restored_none far new id set r (inr z) =
-    subst (λ (f : FarState). MakesNone far f × (standing f ≡ standing far)) (sym z.state)
-    (record { first = refl; made = refl; turns = refl }, refl)
+abbrev all_left : FarState → (ℕ × ℕ × ℕ) × MembersBatchPair
+all_left far = (tally far, standing far)
 
-rebuild_none : (far new : FarState) (r : Reply) → RebuildStep far new r
-    → MakesNone far new × (standing new ≡ standing far)
-rebuild_none far new r (inl none) =
-    subst (λ (f : FarState). MakesNone far f × (standing f ≡ standing far)) (sym none.state)
-    (record { first = refl; made = refl; turns = refl }, refl)
-rebuild_none far new r (inr z) = restored_none far new z.id z.set r z.restores
+rebuild_leaves : (far new : FarState) (r : Reply) → RebuildStep far new r
+    → all_left new ≡ all_left far
+rebuild_leaves far new r (inl none) = ap all_left none.state
+rebuild_leaves far new r (inr z) = elim z.restores [
+  | inl stuck ↦ ap all_left stuck.same
+  | inr rebuilt ↦ ap all_left rebuilt.state
+]
 
 rebuild_line : (far new : FarState) (r : Reply) → RebuildStep far new r → IsReplyOf line.Rebuild r
 rebuild_line far new r (inl none) = subst (IsReplyOf line.Rebuild) (sym none.reply) tt
@@ -159,9 +150,9 @@ rebuild_lacks c s far new is sound (id, set, n, first, few, state) =
 
 rebuild_owes : IsFarJob Rebuild
 rebuild_owes = record {
-  none = λ far new r step. (rebuild_none far new r step).0;
+  none = λ far new r step i. (rebuild_leaves far new r step i).0;
   stands = λ far new r step. stands_same Rebuild (λ old later e. e) far new
-      (rebuild_none far new r step).1;
+      (λ i. (rebuild_leaves far new r step i).1);
   answers = rebuild_line;
   keeps = λ c s far new r ok is sound step. stays_sound c 16 s far new (omega arith) is
       (rebuild_stays c s far new r sound step) (keeps_step s far new r sound step).sound;

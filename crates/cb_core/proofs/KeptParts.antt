@@ -116,13 +116,14 @@ arrives_stays c seats n a b t Z good stays known settings pinned ongoing z =
       rises = x.rises;
     }
 
--- a part that keeps the pins
-pub arrives_kept : (c : Config) (seats : List SeatState) (n : ℕ) (a b : Holding Words) (t : Shown)
-    (Z : Type 0) → IsGood c seats a → StaysIf c n a.far b.far → IsKnown b.desk b.far t
-    → KeepsPins a.desk b.desk → AreOpen b.desk b.far seats → Z → Arrives c seats n a b Z
-arrives_kept c seats n a b t Z good stays known keeps =
-    arrives_stays c seats n a b t Z good stays known keeps.settings
-    (keeps_pinned a.desk b.desk seats keeps good.pinned)
+-- a part that is a step of an operation, which keeps the pins
+pub arrives_held : (c : Config) (seats : List SeatState) (n : ℕ) (a b : Holding Words) (S : Type 0)
+    → IsGood c seats a → StaysIf c n a.far b.far → (S → KeepsPins a.desk b.desk) → S × HoldOn a b
+    → Arrives c seats n a b (S × HoldOn a b)
+arrives_held c seats n a b S good stays keeps (step, hold) =
+    let then = hold good.shown good.known in let pins = keeps step in
+    arrives_stays c seats n a b then.0 (S × HoldOn a b) good stays then.1 pins.settings
+    (keeps_pinned a.desk b.desk seats pins good.pinned) (then.3 seats good.ongoing) (step, hold)
 
 -- who knows all before knows all after, and open writes stay
 pub holds_on : {rules : List Event → Type 0} {does : List Event → Shown → Shown → Type 0}
@@ -134,6 +135,17 @@ holds_on {rules} {does} a b p after s k = let z = after s k in (
   z.same_now,
   λ others ongoing. open_kept a.desk b.desk a.far b.far rules does s others k p ongoing,
 )
+
+-- so is an operation over the still desk, by its step
+pub arrives_step : {rules : List Event → Type 0} {does : List Event → Shown → Shown → Type 0}
+    (c : Config) (seats : List SeatState) (n : ℕ) (a b : Holding Words) (S : Type 0)
+    → IsGood c seats a → StaysIf c n a.far b.far
+    → PerformsStill a.desk b.desk a.far b.far rules does
+    → ((s : Shown) → IsKnown a.desk a.far s → S × IsStepKnown b.desk a.far b.far s)
+    → (S → KeepsPins a.desk b.desk) → Arrives c seats n a b (S × HoldOn a b)
+arrives_step c seats n a b S good stays p step keeps =
+    arrives_held c seats n a b S good stays keeps
+    ((step good.shown good.known).0, holds_on a b p (λ s k. (step s k).1))
 
 -- what was counted, after a turn in which the numbers rose by little
 pub counted_rises : {N : FarState → FarState → Type 0} (far mid new : FarState) (kind : ℕ)

@@ -23,15 +23,13 @@ use Rattle.cb_world.proofs.Laws.{crash_note, codes_stay, IsLike, StaysIf, stays_
 use Rattle.cb_core.specs.Membership.{CrashTurn, crashed, is_down, JoinTurn, joined, is_up}
 use Rattle.cb_core.proofs.RowsHeld.{IsIdle}
 
--- no object was made and no turn was counted
-pub record MakesNone (far new : FarState) : Type 0 where
-  pub first : new.first ≡ far.first
-  pub made : new.made ≡ far.made
-  pub turns : new.counts.turns ≡ far.counts.turns
+-- the first version, how many objects were made, and how many turns were counted
+abbrev pub tally : FarState → ℕ × ℕ × ℕ
+tally far = (far.first, far.made, far.counts.turns)
 
-pub makes_none_same : (far new : FarState) → new ≡ far → MakesNone far new
-makes_none_same far new same =
-    subst (MakesNone far) (sym same) (record { first = refl; made = refl; turns = refl })
+-- no object was made and no turn was counted
+abbrev pub MakesNone : FarState → FarState → Type 0
+MakesNone far new = tally new ≡ tally far
 
 pub crash_stays : (c : Config) (node : NodeId) (far new : FarState) (r : Reply)
     → CrashTurn node far r new → StaysIf c 1 far new
@@ -159,15 +157,13 @@ join_stands far new node r (is_up up reply state) = record {
 
 pub crash_none : (far new : FarState) (node : NodeId) (r : Reply) → CrashTurn node far r new
     → MakesNone far new
-crash_none far new node r (crashed up reply state) =
-    subst (MakesNone far) (sym state) (record { first = refl; made = refl; turns = refl })
-crash_none far new node r (is_down down reply state) = makes_none_same far new state
+crash_none far new node r (crashed up reply state) = ap tally state
+crash_none far new node r (is_down down reply state) = ap tally state
 
 pub join_none : (far new : FarState) (node : NodeId) (r : Reply) → JoinTurn node far r new
     → MakesNone far new
-join_none far new node r (joined down reply state) =
-    subst (MakesNone far) (sym state) (record { first = refl; made = refl; turns = refl })
-join_none far new node r (is_up up reply state) = makes_none_same far new state
+join_none far new node r (joined down reply state) = ap tally state
+join_none far new node r (is_up up reply state) = ap tally state
 
 pub crash_line : (far new : FarState) (node : NodeId) (r : Reply) → CrashTurn node far r new
     → IsReplyOf (line.Crash node) r

@@ -15,15 +15,15 @@ use Rattle.cb_world.specs.Joining.{JoiningState}
 use Rattle.cb_world.specs.Leaving.{LeavingState}
 use Rattle.cb_world.specs.Plain.{Words}
 use Rattle.cb_world.specs.World.{word_at}
+use Rattle.cb_world.proofs.Laws.{KeepsFar}
 use Rattle.cb_mutate.specs.FreeRule.{LeavesPlace}
 use Rattle.cb_mutate.specs.MakeStep.{IsMakeStep}
 use Rattle.cb_evict.specs.AbortStep.{no_batch as none_to_abort, given_up}
-use Rattle.cb_evict.specs.BeginStep.{is_leaving, few_spans, few_nodes, begins}
 use Rattle.cb_evict.specs.CommitStep.{no_batch as none_to_commit, short, committed}
 use Rattle.cb_evict.specs.declared.eviction.Eviction.{Eviction}
 use Rattle.cb_evict.specs.Eviction.{reply_of}
 use Rattle.cb_evict.specs.EvictStep.{IsEvictStep}
-use Rattle.cb_evict.proofs.Laws.{evict_keeps, evict_settings}
+use Rattle.cb_evict.proofs.Laws.{begin_keeps, evict_keeps, evict_leaving, ship_keeps}
 use Rattle.cb_filter.specs.FilterStep.{refused as refuses, cools, without_slot, moves}
 use Rattle.cb_swapin.proofs.Laws.{keeps_far, leaving_stays, settings_stay}
 use Rattle.cb_core.specs.FarJobs.{FarStep}
@@ -123,19 +123,24 @@ free_lasts h a b r step = elim (free_leaves a.desk b.desk a.far b.far h r step) 
     place state.Empty same z = absurd z
     place state.Moving same z = absurd z
 
+-- by what the far state keeps
+keeps_steady : (a b : Holding Words) → b.desk.settings ≡ a.desk.settings → KeepsFar a.far b.far
+    → steady b ≡ steady a
+keeps_steady a b settings keeps = λ i. (settings i, keeps.members i, keeps.first i, keeps.turns i)
+
 evicted : (a b : Holding Words) (r : Reply) → IsEvictStep a.desk b.desk a.far b.far r
     → lasting b ≡ lasting a
 evicted a b r step =
-    let settings = evict_settings a.desk b.desk a.far b.far r step in
     let keeps = evict_keeps a.desk b.desk a.far b.far r step in
-    λ i. ((settings i, keeps.members i, keeps.first i, keeps.turns i), keeps.leaving i, keeps.joining i)
+    let leaving = evict_leaving a.desk b.desk a.far b.far r step in
+    λ i. (keeps_steady a b keeps.words.settings keeps.far i, leaving i, keeps.far.joining i)
 
 swap_lasts : (h : ℕ) → LeavesSame lasting (StillSwap h)
 swap_lasts h a b r (home, at, step, hold) =
     let settings = settings_stay a.desk b.desk a.far b.far home.set home.position r step in
     let leaving = leaving_stays a.desk b.desk a.far b.far home.set home.position r step in
-    let keeps = keeps_far a.desk b.desk a.far b.far home.set home.position r step in λ i.
-    ((settings i, keeps.members i, keeps.first i, keeps.turns i), leaving i, keeps.joining i)
+    let keeps = keeps_far a.desk b.desk a.far b.far home.set home.position r step in
+    λ i. (keeps_steady a b settings keeps i, leaving i, keeps.joining i)
 
 filter_lasts : (h : ℕ) → LeavesSame lasting (StillFilter h)
 filter_lasts h a b r (refuses why same state, hold) = ends b a.desk a.far same state
@@ -145,18 +150,12 @@ filter_lasts h a b r (moves seat slot is gets same, hold) = ends b _ _ same gets
 
 -- the steps of a batch
 begin_stays : LeavesSame steady StillBegin
-begin_stays a b r (is_leaving batch there reply state same, hold) = settled b a.desk a.far same state
-begin_stays a b r (few_spans none few same, hold) = settled b a.desk a.far same few.state
-begin_stays a b r (few_nodes none few same, hold) = settled b a.desk a.far same few.state
-begin_stays a b r (begins m, hold) = begun b a.desk _ m.begun.held.settings m.begun.state
+begin_stays a b r (step, hold) = let keeps = begin_keeps a.desk b.desk a.far b.far r step in
+    keeps_steady a b keeps.words.settings keeps.far
 
 ship_stays : LeavesSame steady StillShip
-ship_stays a b r (step, hold) = elim step.ships [
-  | inl z ↦ settled b a.desk a.far step.words z.state
-  | inr (inl z) ↦ settled b a.desk a.far step.words z.state
-  | inr (inr (inl z)) ↦ settled b a.desk a.far step.words z.state
-  | inr (inr (inr z)) ↦ settled b a.desk _ step.words z.state
-]
+ship_stays a b r (step, hold) = let keeps = ship_keeps a.desk b.desk a.far b.far r step in
+    keeps_steady a b keeps.words.settings keeps.far
 
 commit_stays : LeavesSame steady StillCommit
 commit_stays a b r (none_to_commit n same, hold) = settled b a.desk a.far same n.state

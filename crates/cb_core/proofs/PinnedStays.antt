@@ -24,10 +24,13 @@ use Rattle.cb_world.specs.Pinned.{with_word}
 use Rattle.cb_world.specs.Plain.{Words}
 use Rattle.cb_world.specs.StillWords.{stamp_at, contents_at, with_hot}
 use Rattle.cb_world.specs.World.{WorldState, IsKnown, IsSoundWorld, word_at}
+use Rattle.cb_world.proofs.Laws.{StepKeeps}
 use Rattle.cb_mutate.specs.CallStep.{with_seen}
 use Rattle.cb_mutate.specs.MapCalls.{IsCallOn, IsRefusedMake}
 use Rattle.cb_mutate.proofs.Laws.{near_held, here_near, free_call, make_call}
 use Rattle.cb_evict.specs.declared.eviction.Eviction.TheVariants.{Refused, Set}
+use Rattle.cb_evict.proofs.Laws.{abort_keeps, begin_keeps, commit_keeps, evict_keeps, ship_keeps}
+use Rattle.cb_filter.proofs.Laws.{filter_keeps}
 use Rattle.cb_core.specs.declared.event.Atomic.{Atomic}
 use Rattle.cb_core.specs.declared.event.Atomic.TheVariants.{Load, Pin, Unpin, Claim, Store, Settle, Take, Give}
 use Rattle.cb_core.specs.declared.event.Event.{Event}
@@ -38,7 +41,7 @@ use Rattle.cb_core.specs.Jobs.{IsJob}
 use Rattle.cb_core.specs.Parts.{Holding, NeverDeclined, WithRoom, at_once, no_room, won, WhereItIs, near, declined, stays_far, brought, not_far, was_far}
 use Rattle.cb_core.specs.Pinning.{scope_full, refused as pin_refused, taken, not_pinned, given}
 use Rattle.cb_core.specs.Run.{LeadsSoundly}
-use Rattle.cb_core.specs.Step.{Step, StillMake, StillRead, StillWrite, StillFree, StillDecline, StillRoom, StillBring, StillWorks, AtomicStep, TurnStep, worn, done, held as other_holds, free as alone}
+use Rattle.cb_core.specs.Step.{HoldOn, Step, StillMake, StillRead, StillWrite, StillFree, StillDecline, StillRoom, StillBring, StillWorks, AtomicStep, TurnStep, worn, done, held as other_holds, free as alone}
 use Rattle.cb_core.specs.Unmoved.{IsUnmoved, HasPin, KeepsPinned, LeadsPinned, StaysPinned}
 use Rattle.cb_core.proofs.OpenKeptSteps.{with_stored}
 use Rattle.cb_core.proofs.HoldingFixed.{give_leaves, take_leaves}
@@ -47,9 +50,7 @@ use Rattle.cb_core.proofs.Changes.{read_leaves, write_leaves, free_leaves}
 use Rattle.cb_core.proofs.Settings.{step_settings}
 use Rattle.cb_core.proofs.StillParts.{next_free}
 use Rattle.cb_core.proofs.TurnCalls.{held_at, held_then}
-use Rattle.cb_core.proofs.TurnCallsBatch.{kept_begin, kept_ship, kept_commit, kept_abort}
-use Rattle.cb_core.proofs.TurnCallsFilter.{kept_filter}
-use Rattle.cb_core.proofs.TurnCallsKept.{HasKept, kept_evict, kept_room, kept_bring, once_known, same_holding}
+use Rattle.cb_core.proofs.TurnCallsKept.{HasKept, kept_room, kept_bring, kept_step, once_known, same_holding}
 use Rattle.cb_core.proofs.TurnCallsMake.{make_crammed}
 use Rattle.cb_core.proofs.TurnCallsParts.{read_part, write_part}
 use Rattle.cb_core.proofs.TurnCallsWhere.{IsCallWithLook, kept_map, within}
@@ -86,16 +87,22 @@ same_desk a b s t k ka kb p same = (
 -- where what every object holds was kept
 kept_fixed : (a b : Holding Words) (s t : Shown) (k : ℕ) → HasKept a b s → IsKnown b.desk b.far t
     → IsHeldHere a.desk k → Fixed a b s t k
-kept_fixed a b s t k kept kb p = (kept.pinned k p.some, (kept_map a b s t kept kb).now k)
+kept_fixed a b s t k kept kb p = (kept.words.pinned k p.some, (kept_map a b s t kept kb).now k)
+
+-- so in a step that keeps the pins
+step_fixed : (a b : Holding Words) (s t : Shown) (k : ℕ) → IsKnown a.desk a.far s
+    → IsKnown b.desk b.far t → IsHeldHere a.desk k → HoldOn a b
+    → StepKeeps a.desk b.desk a.far b.far → Fixed a b s t k
+step_fixed a b s t k ka kb p hold keeps = kept_fixed a b s t k (kept_step a b s ka hold keeps) kb p
 
 still_held : (a b : Holding Words) (s : Shown) (k : ℕ) → IsKnown a.desk a.far s → (kept : HasKept a b s)
     → IsHeldHere a.desk k → IsHeldHere b.desk k
 still_held a b s k ka kept p = record {
   below = let old = ka.sized.words in let new = kept.known.sized.words in
-      let same = ap (λ (c : Config). c.handles) kept.settings in let lt = p.below in
+      let same = ap (λ (c : Config). c.handles) kept.words.settings in let lt = p.below in
       omega (arith, old, new, same, lt);
-  here = ap state_of (kept.pinned k p.some) ∙ p.here;
-  some = subst (λ (n : ℕ). 1 ≤ n) (sym (kept.pins k)) p.some;
+  here = ap state_of (kept.words.pinned k p.some) ∙ p.here;
+  some = subst (λ (n : ℕ). 1 ≤ n) (sym (kept.words.pins k)) p.some;
 }
 
 -- ---- an object that is brought in beside it
@@ -232,7 +239,8 @@ where_fixed call look h k q part fixes a b s t r ka kb below p (brought m n o f 
     (part.looks m n None l ∙ part.nothing a m c) bring in
     let kept = kept_bring a o h (answer.Swapped f) s ka came in
     let lt : h < length o.desk.words = (let old = ka.sized.words in let new = kept.known.sized.words in
-    let same = ap (λ (c : Config). c.handles) kept.settings in omega (arith, old, new, same, below)) in
+    let same = ap (λ (c : Config). c.handles) kept.words.settings in
+    omega (arith, old, new, same, below)) in
     fixed_then a o b s kept.shown t k (kept_fixed a o s kept.shown k kept kept.known p)
     (fixes o b kept.shown t r kept.known kb lt (still_held a o s k ka kept p) again)
 
@@ -257,17 +265,17 @@ works_fixed (Swap handle) k a b s t r ok ka kb p (was_far m c bring) =
     bring_fixed a b s t handle.n k r ka kb p
     (subst (λ (x : Holding Words). StillBring handle.n x r b) c.1 bring)
 works_fixed (Filter handle) k a b s t r ok ka kb p works =
-    kept_fixed a b s t k (kept_filter a b handle.n r s ka works) kb p
-works_fixed Evict k a b s t r ok ka kb p works =
-    kept_fixed a b s t k (kept_evict a b r s ka works) kb p
-works_fixed Begin k a b s t r ok ka kb p works =
-    kept_fixed a b s t k (kept_begin a b r s ka works) kb p
-works_fixed Ship k a b s t r ok ka kb p works =
-    kept_fixed a b s t k (kept_ship a b r s ka works) kb p
-works_fixed Commit k a b s t r ok ka kb p works =
-    kept_fixed a b s t k (kept_commit a b r s ka works) kb p
-works_fixed Abort k a b s t r ok ka kb p works =
-    kept_fixed a b s t k (kept_abort a b r s ka works) kb p
+    step_fixed a b s t k ka kb p works.1 (filter_keeps a.desk b.desk a.far b.far handle.n r works.0)
+works_fixed Evict k a b s t r ok ka kb p (step, hold) =
+    step_fixed a b s t k ka kb p hold (evict_keeps a.desk b.desk a.far b.far r step)
+works_fixed Begin k a b s t r ok ka kb p (step, hold) =
+    step_fixed a b s t k ka kb p hold (begin_keeps a.desk b.desk a.far b.far r step)
+works_fixed Ship k a b s t r ok ka kb p (step, hold) =
+    step_fixed a b s t k ka kb p hold (ship_keeps a.desk b.desk a.far b.far r step)
+works_fixed Commit k a b s t r ok ka kb p (step, hold) =
+    step_fixed a b s t k ka kb p hold (commit_keeps a.desk b.desk a.far b.far r s ka step)
+works_fixed Abort k a b s t r ok ka kb p (step, hold) =
+    step_fixed a b s t k ka kb p hold (abort_keeps a.desk b.desk a.far b.far r s ka step)
 works_fixed j k a b s t r ok ka kb p works = same_desk a b s t k ka kb p works.0
 
 -- ---- every event

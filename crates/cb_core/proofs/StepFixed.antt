@@ -36,10 +36,7 @@ use Rattle.cb_core.proofs.FarJobs.{far_job}
 use Rattle.cb_core.proofs.HoldingFixed.{give_fixed, one_holder, take_fixed}
 use Rattle.cb_core.proofs.OpenFixed.{claim_fixed, store_fixed, settle_fixed}
 use Rattle.cb_core.proofs.PartsFixed.{AreOne, IsFixed, PartLeavesAll, brings_in_fixed, where_it_is_fixed, with_room_fixed}
-
--- where the words and the far state stay, all does
-both_same : (a b : Holding Words) → b.desk ≡ a.desk → b.far ≡ a.far → b ≡ a
-both_same a b words far = λ i. record { desk = words i; far = far i }
+use Rattle.cb_core.proofs.TurnCallsKept.{same_holding}
 
 -- the ends of an operation, as those of a part
 both : (r q : Reply) (b c : Holding Words) → IsOneEnd r q b.desk c.desk b.far c.far → AreOne r q b c
@@ -54,9 +51,9 @@ not_made : (h : Handle) (v : ℕ) → answer.NoFrame ≡ answer.Made h v → ⊥
 not_made h v e = cc
 
 make_refuses : (bytes : List ℕ) → PartLeavesAll (StillMake bytes) answer.NoFrame
-make_refuses bytes a b (inl x) = both_same a b x.2 x.3
+make_refuses bytes a b (inl x) = same_holding a b x.2 x.3
 make_refuses bytes a b (inr x) = elim x.1 [
-  | inl y ↦ both_same a b y.2 y.3
+  | inl y ↦ same_holding a b y.2 y.3
   | inr y ↦ absurd (not_made (record { n = a.far.made }) a.far.first y.0)
 ]
 
@@ -65,14 +62,14 @@ read_fixed h a r q b c x y = both r q b c
     (read_step_fixes a.desk b.desk c.desk a.far b.far c.far h r q x.0 x.1 y.0 y.1)
 
 read_refuses : (h : ℕ) → PartLeavesAll (StillRead h) answer.NotHere
-read_refuses h a b x = both_same a b x.0.change x.1
+read_refuses h a b x = same_holding a b x.0.change x.1
 
 write_fixed : (h at : ℕ) (bytes : List ℕ) (a : Holding Words) → IsFixed (StillWrite h at bytes) a
 write_fixed h at bytes a r q b c x y = both r q b c
     (write_step_fixes a.desk b.desk c.desk a.far b.far c.far h at bytes r q x.0 x.1 y.0 y.1)
 
 write_refuses : (h at : ℕ) (bytes : List ℕ) → PartLeavesAll (StillWrite h at bytes) answer.NotHere
-write_refuses h at bytes a b x = both_same a b x.0.change x.1
+write_refuses h at bytes a b x = same_holding a b x.0.change x.1
 
 find_fixed : (h : ℕ) (a : Holding Words) → IsFixed (StillFind h) a
 find_fixed h a r q b c x y = (x.0 ∙ sym y.0, x.1 ∙ sym y.1)
@@ -101,7 +98,7 @@ swap_fixed h a r q b c x y =
     y.2)
 
 pub swap_refuses : (h : ℕ) → PartLeavesAll (StillSwap h) answer.NoFrame
-swap_refuses h a b x = both_same a b x.2.change.0 x.2.change.1
+swap_refuses h a b x = same_holding a b x.2.change.0 x.2.change.1
 
 room_fixed : (a : Holding Words) → IsAccepted a.desk.settings → IsFixed StillRoom a
 room_fixed a ok e f b c x y =

@@ -9,17 +9,18 @@ use Rattle.cb_world.specs.Looks.{NoLook, IsFound, IsTaken, LooksFirst}
 use Rattle.cb_world.specs.Plain.{Words, Plain}
 use Rattle.cb_world.specs.Seats.{SeatState}
 use Rattle.cb_world.specs.World.{word_at}
-use Rattle.cb_world.proofs.Laws.{found_exact, open_kept, PerformsStill}
+use Rattle.cb_world.proofs.Laws.{found_exact, PerformsStill}
 use Rattle.cb_filter.specs.FilterEffect.{FilterEffect}
 use Rattle.cb_filter.specs.FilterRule.{FilterRule}
-use Rattle.cb_filter.specs.FilterStep.{IsFreeIn, temp_of}
+use Rattle.cb_filter.specs.FilterStep.{IsFilterStep, IsFreeIn, temp_of}
 use Rattle.cb_filter.specs.Plans.{Wants}
 use Rattle.cb_filter.specs.Seats.{temp_for}
 use Rattle.cb_filter.proofs.Laws.{filter_keeps, filter_step, filter_stopped, filter_stays}
 use Rattle.cb_core.specs.Step.{StillFilter, StillFilterLacks}
 use Rattle.cb_core.specs.Turned.{Filters, FilterLacks}
-use Rattle.cb_core.proofs.KeptParts.{Carries, CarriesLack, arrives_kept, arrives_same, holds_on}
-use Rattle.cb_core.proofs.StillParts.{Ran, SaysAll, both_same}
+use Rattle.cb_core.proofs.KeptParts.{Carries, CarriesLack, arrives_same, arrives_step}
+use Rattle.cb_core.proofs.StillParts.{Ran, SaysAll}
+use Rattle.cb_core.proofs.TurnCallsKept.{same_holding}
 
 pub filter_part : (c : Config) (seats : List SeatState) (h : ℕ)
     → Carries c seats 1 (Filters Ran SaysAll c h) (StillFilter h)
@@ -27,12 +28,9 @@ filter_part c seats h a b r good p =
     let x = a.desk in let y = b.desk in let far = a.far in let new = b.far in
     let q = subst (λ (d : Config). PerformsStill x y far new (FilterRule d.frames h far new r)
     (FilterEffect h far new r)) (sym good.settings) p in
-    let z = filter_step x y far new good.shown h r good.known q in
-    arrives_kept c seats 1 a b z.1.shown (StillFilter h a r b) good
-    (filter_stays c c.frames h far new r p.events p.rule) z.1.known
-    (filter_keeps x y far new h r z.0).words
-    (open_kept x y far new _ _ good.shown seats good.known q good.ongoing)
-    (z.0, holds_on a b q (λ s k. (filter_step x y far new s h r k q).1))
+    arrives_step c seats 1 a b (IsFilterStep x y far new h r) good
+    (filter_stays c c.frames h far new r p.events p.rule) q
+    (λ s k. filter_step x y far new s h r k q) (λ z. (filter_keeps x y far new h r z).words)
 
 -- ---- want of memory
 -- an object that was claimed was found free
@@ -67,7 +65,7 @@ pub filter_lack : (c : Config) (seats : List SeatState) (h : ℕ)
     → CarriesLack c seats 1 (FilterLacks Ran SaysAll h) (StillFilterLacks h)
 filter_lack c seats h a b good p =
     let e = filter_stopped a.desk b.desk a.far b.far good.shown h good.known p in
-    let same = both_same a b e.0 e.1 in
+    let same = same_holding a b e.0 e.1 in
     arrives_same c seats 1 a b (StillFilterLacks h a b) good same (same, (p.rule.seat, is, wants))
   where
     free : IsFree (word_at a.desk h)

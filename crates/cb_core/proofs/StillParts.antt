@@ -30,17 +30,20 @@ use Rattle.cb_mutate.proofs.Laws.{free_step, make_step, free_stays, make_stays, 
 use Rattle.cb_evict.specs.Evicting.{TouchesSpans}
 use Rattle.cb_evict.specs.EvictEffect.{EvictEffect}
 use Rattle.cb_evict.specs.EvictRule.{EvictRule}
+use Rattle.cb_evict.specs.EvictStep.{IsEvictStep}
 use Rattle.cb_evict.specs.Eviction.{CountsRule, reply_of}
-use Rattle.cb_evict.proofs.Laws.{evict_settings, evict_seats, rule_weaker, counted_step, evict_step, evict_stopped, evict_stays}
+use Rattle.cb_evict.proofs.Laws.{evict_keeps, rule_weaker, counted_step, evict_step, evict_stopped, evict_stays}
 use Rattle.cb_swapin.specs.Fetching.{far_given}
+use Rattle.cb_swapin.specs.SwapStep.{IsSwapStep}
 use Rattle.cb_swapin.proofs.Laws.{given_known, given_stays, swap_keeps, swap_stays, swap_step}
 use Rattle.cb_core.specs.Declining.{write_refusal}
 use Rattle.cb_core.specs.Parts.{Holding, NeverDeclined}
 use Rattle.cb_core.specs.Step.{StillMake, StillRead, StillWrite, StillFree, StillFind, StillDecline, StillEvict, StillRoom, StillSwap, StillMakeLacks, StillReadLacks, StillEvictLacks, StillSwapLacks}
 use Rattle.cb_core.specs.Turned.{Makes, Reads, WritesObject, Frees, FindsWhere, Declines, Evicts, WinsRoom, Swaps, MakeLacks, ReadLacks, EvictLacks, SwapLacks, IsDeclined}
 use Rattle.cb_core.proofs.Changes.{MayGo, read_leaves, write_leaves, free_leaves}
-use Rattle.cb_core.proofs.KeptParts.{IsGood, Rises, Arrives, Carries, CarriesLack, arrives_kept, arrives_same, arrives_stays, holds_on}
+use Rattle.cb_core.proofs.KeptParts.{IsGood, Rises, Arrives, Carries, CarriesLack, arrives_more, arrives_same, arrives_stays, arrives_step}
 use Rattle.cb_core.proofs.KeptPins.{seen_pinned, written_pinned, freed_pinned, new_pinned, no_pins}
+use Rattle.cb_core.proofs.TurnCallsKept.{same_holding}
 
 -- what the still desk runs and shows
 abbrev pub Ran : Words → List Event → Words → Type 0
@@ -48,10 +51,6 @@ Ran x es y = Plain x es y × (IsSized x → IsSized y)
 
 abbrev pub SaysAll : Words → Shown → Type 0
 SaysAll x s = IsSized x × Shows x s
-
--- both the words and the far state stay
-pub both_same : (a b : Holding Words) → b.desk ≡ a.desk → b.far ≡ a.far → b ≡ a
-both_same a b words far = λ i. record { desk = words i; far = far i }
 
 -- an operation that leaves the far state
 without_far : (x y : Words) (far new : FarState) (rules : List Event → Type 0)
@@ -134,7 +133,7 @@ free_part c seats h a b r good p =
         × ((n : ℕ) × IsTakenOut a.desk b.desk a.far b.far h n))
         → Arrives c seats 1 a b (StillFree h a r b)
     go t step known (inl (e, same)) =
-        arrives_same c seats 1 a b (StillFree h a r b) good (both_same a b e same) step
+        arrives_same c seats 1 a b (StillFree h a r b) good (same_holding a b e same) step
     go t step known (inr (may, (n, o))) =
         arrives_stays c seats 1 a b t (StillFree h a r b) good
         (free_stays c h a.far b.far r p.events p.rule) known (ap (λ (x : Words). x.settings) o.left)
@@ -167,9 +166,9 @@ make_part c seats bytes a b r good p =
     go : AreOpen b.desk b.far seats → (t : Shown) → StillMake bytes a r b → IsKnown b.desk b.far t
         → IsMakeStep a.desk b.desk a.far b.far bytes r → Arrives c seats 1 a b (StillMake bytes a r b)
     go ongoing t step known (inl (made, reply, e, same)) =
-        arrives_same c seats 1 a b (StillMake bytes a r b) good (both_same a b e same) step
+        arrives_same c seats 1 a b (StillMake bytes a r b) good (same_holding a b e same) step
     go ongoing t step known (inr (more, inl (crammed, reply, e, same))) =
-        arrives_same c seats 1 a b (StillMake bytes a r b) good (both_same a b e same) step
+        arrives_same c seats 1 a b (StillMake bytes a r b) good (same_holding a b e same) step
     go ongoing t step known (inr (more, inr (reply, z))) =
         arrives_stays c seats 1 a b t (StillMake bytes a r b) good
         (make_stays c c.handles bytes a.far b.far r p.events p.rule) known (ap (λ (x : Words). x.settings) z.left)
@@ -197,7 +196,7 @@ find_part c seats h a b r good p =
     runs = runs_still a.desk b.desk a.far b.far rules IsStill good.shown good.known q
 
     same : b ≡ a
-    same = both_same a b (stays_still a.desk b.desk a.far good.shown q.events runs
+    same = same_holding a b (stays_still a.desk b.desk a.far good.shown q.events runs
         (q.effect good.shown ((good.known.sized, good.known.shows), good.known.sound))) p.rule.0
 
     reply : r ≡ reply_as (state_of (word_at a.desk h)) (stamp_at a.desk h) answer.Stays
@@ -226,7 +225,7 @@ decline_part c seats h at count a b r good (far_same, p) =
     arrives_same c seats 1 a b (StillDecline h at count a r b) good same (by p.rule, same)
   where
     same : b ≡ a
-    same = both_same a b (stays_still a.desk b.desk a.far good.shown p.events
+    same = same_holding a b (stays_still a.desk b.desk a.far good.shown p.events
         (runs_still a.desk b.desk a.far b.far _ IsStill good.shown good.known p)
         (p.effect good.shown ((good.known.sized, good.known.shows), good.known.sound))) far_same
 
@@ -246,19 +245,9 @@ evict_part c seats accepted a b r good p =
     let x = a.desk in let y = b.desk in let far = a.far in let new = b.far in
     let q = subst (λ (d : Config). PerformsStill x y far new (EvictRule d far new r)
     (EvictEffect far new r)) (sym good.settings) p in
-    let z = evict_step x y far new r good.shown q good.known in
-    let stays = evict_stays c far new r p.events accepted p.rule good.configured in record {
-      is = (z.0, holds_on a b q (λ s k. (evict_step x y far new r s q k).1));
-      good = record {
-        settings = evict_settings x y far new r z.0 ∙ good.settings;
-        configured = stays.configured;
-        shown = z.1.shown;
-        known = z.1.known;
-        pinned = evict_seats x y far new r seats z.0 good.pinned;
-        ongoing = open_kept x y far new _ _ good.shown seats good.known q good.ongoing;
-      };
-      rises = stays.rises;
-    }
+    arrives_step c seats 24 a b (IsEvictStep x y far new r) good
+    (evict_stays c far new r p.events accepted p.rule) q (λ s k. evict_step x y far new r s q k)
+    (λ z. (evict_keeps x y far new r z).words)
 
 -- so is one that tells both counts
 pub room_part : (c : Config) (seats : List SeatState) → IsAccepted c
@@ -279,22 +268,19 @@ pub swap_part : (c : Config) (seats : List SeatState) (h : ℕ)
     → Carries c seats 16 (Swaps Ran SaysAll h) (StillSwap h)
 swap_part c seats h a b r good (home, at, p) =
     let x = a.desk in let y = b.desk in let far = a.far in let new = b.far in
-    let z = swap_step x y far new home.set home.position r good.shown p good.known in
-    arrives_kept c seats 16 a b z.1.shown (StillSwap h a r b) good
-    (swap_stays c home.set home.position good.shown far new r p.events good.known.sound p.rule) z.1.known
-    (swap_keeps x y far new home.set home.position r good.shown good.known z.0).words
-    (open_kept x y far new _ _ good.shown seats good.known p good.ongoing) (
-      home,
-      at,
-      z.0,
-      holds_on a b p (λ s k. (swap_step x y far new home.set home.position r s p k).1),
-    )
+    let id = home.set in let place = home.position in
+    let z = arrives_step c seats 16 a b (IsSwapStep x y far new id place r) good
+    (swap_stays c id place good.shown far new r p.events good.known.sound p.rule) p
+    (λ s k. swap_step x y far new id place r s p k)
+    (λ z. (swap_keeps x y far new id place r good.shown good.known z).words) in
+    arrives_more c seats 16 16 a b _ (StillSwap h a r b) (omega arith) z
+    (home, at, z.is.0, z.is.1)
 
 -- ---- want of memory
 pub make_lack : (c : Config) (seats : List SeatState) (bytes : List ℕ)
     → CarriesLack c seats 1 (MakeLacks Ran c bytes) (StillMakeLacks bytes)
 make_lack c seats bytes a b good p =
-    let same = both_same a b p.0.0 p.1 in
+    let same = same_holding a b p.0.0 p.1 in
     arrives_same c seats 1 a b (StillMakeLacks bytes a b) good same
     (same, subst (λ (d : Config). NeedsNewSpan d.handles (length bytes) a.far) (sym good.settings) p.2)
 
@@ -302,7 +288,7 @@ pub read_lack : (c : Config) (seats : List SeatState) (h : ℕ)
     → CarriesLack c seats 1 (ReadLacks Ran SaysAll h) (StillReadLacks h)
 read_lack c seats h a b good (same, p) =
     let z = failed_step a.desk b.desk a.far b.far good.shown h good.known p in
-    let e = both_same a b z.1 same in
+    let e = same_holding a b z.1 same in
     arrives_same c seats 1 a b (StillReadLacks h a b) good e (e, z.0)
 
 pub evict_lack : (c : Config) (seats : List SeatState)
@@ -310,13 +296,14 @@ pub evict_lack : (c : Config) (seats : List SeatState)
 evict_lack c seats a b good (same, p) =
     let q = subst (λ (f : FarState). PerformsStill a.desk b.desk a.far f (TouchesSpans a.far) IsStill)
     same p in
-    let e = both_same a b (evict_stopped a.desk b.desk a.far good.shown q good.known) same in
+    let e = same_holding a b (evict_stopped a.desk b.desk a.far good.shown q good.known) same in
     arrives_same c seats 24 a b (StillEvictLacks a b) good e e
 
 pub swap_lack : (c : Config) (seats : List SeatState) (h : ℕ)
     → CarriesLack c seats 16 (SwapLacks Ran h) (StillSwapLacks h)
 swap_lack c seats h a b good (ran, (home, set, n, at, there, few, state)) =
-    let same : b ≡ record { desk = a.desk; far = far_given a.far n } = both_same _ b ran.0 state in
+    let same : b ≡ record { desk = a.desk; far = far_given a.far n } =
+    same_holding _ b ran.0 state in
     let stays = given_stays c good.shown a.far home.set n set good.known.sound there few good.configured in
     record {
       is = (ran.0, (home, set, n, at, there, few, state));

@@ -12,17 +12,24 @@ use Rattle.cb_world.specs.FarState.{FarState}
 use Rattle.cb_world.specs.Plain.{Words}
 use Rattle.cb_world.specs.StillWords.{stamp_at}
 use Rattle.cb_world.specs.World.{WorldState, IsKnown, IsSoundWorld, word_at}
+use Rattle.cb_world.proofs.Laws.{StepKeeps}
 use Rattle.cb_mutate.proofs.Laws.{free_call}
+use Rattle.cb_evict.specs.AbortStep.{IsAbortStep}
+use Rattle.cb_evict.specs.BeginStep.{IsBeginStep}
+use Rattle.cb_evict.specs.CommitStep.{IsCommitStep}
+use Rattle.cb_evict.specs.EvictStep.{IsEvictStep}
+use Rattle.cb_evict.specs.ShipStep.{IsShipStep}
+use Rattle.cb_evict.proofs.Laws.{abort_keeps, begin_keeps, commit_keeps, evict_keeps, ship_keeps}
 use Rattle.cb_core.specs.FarJobs.{FarStep}
 use Rattle.cb_core.specs.Parts.{Holding, NeverDeclined}
-use Rattle.cb_core.specs.Step.{StillFar, StillRead, StillWrite, StillDecline, StillWorks, TurnStep, worn, done}
+use Rattle.cb_core.specs.Step.{HoldOn, StillFar, StillRead, StillWrite, StillDecline, StillWorks, TurnStep, worn, done}
 use Rattle.cb_core.specs.Turned.{counted}
 use Rattle.cb_core.proofs.FarJobs.{AnswersLine, far_job}
 use Rattle.cb_core.proofs.NodesStay.{crash_line, member_of}
 use Rattle.cb_core.proofs.PartsStay.{works_left}
-use Rattle.cb_core.proofs.TurnCallsKept.{HasKept, once_known, kept_evict}
-use Rattle.cb_core.proofs.TurnCallsBatch.{kept_begin, kept_ship, kept_commit, kept_abort, begin_line, ship_line, commit_line, abort_line}
-use Rattle.cb_core.proofs.TurnCallsFilter.{IsFilterAs, filter_line, filter_answered, kept_far}
+use Rattle.cb_core.proofs.TurnCallsKept.{kept_far, kept_step, once_known}
+use Rattle.cb_core.proofs.TurnCallsBatch.{begin_line, ship_line, commit_line, abort_line}
+use Rattle.cb_core.proofs.TurnCallsFilter.{IsFilterAs, filter_line, filter_answered}
 use Rattle.cb_core.proofs.TurnCallsMake.{IsMakeAnswered, make_answered, evict_line}
 use Rattle.cb_core.proofs.TurnCallsMap.{IsSameMap, map_stays, map_then, counted_map, call_carried, make_carried}
 use Rattle.cb_core.proofs.TurnCallsNodes.{IsMapLost, crash_map}
@@ -126,19 +133,22 @@ IsQuietJob j line = (w new : WorldState) (r : Reply) → (before : IsSoundWorld 
     → (after : IsSoundWorld new) → w.far.counts.turns < 2 ^ 40 → TurnStep j w r new
     → IsSameMap before.shown after.shown w.far new.far × IsReplyOf line r
 
--- by what each of its steps keeps, and how each is answered
-quiet_turn : (j : Job) (line : Request)
-    → ((a b : Holding Words) (q : Reply) (s : Shown) → IsKnown a.desk a.far s → StillWorks j a q b
-    → HasKept a b s)
-    → ((a b : Holding Words) (q : Reply) → StillWorks j a q b → IsReplyOf line q)
+-- by the step that it is, what that keeps, and how it is answered
+step_turn : (j : Job) (line : Request)
+    (S : Words → Words → FarState → FarState → Reply → Type 0)
+    → ((a b : Holding Words) (q : Reply) → StillWorks j a q b
+    → S a.desk b.desk a.far b.far q × HoldOn a b)
+    → ((x y : Words) (far new : FarState) (q : Reply) (s : Shown) → IsKnown x far s
+    → S x y far new q → StepKeeps x y far new)
+    → ((x y : Words) (far new : FarState) (q : Reply) → S x y far new q → IsReplyOf line q)
     → IsQuietJob j line
-quiet_turn j line keeps answered w new r before after few step =
-    let d = is_done j w new r few step in
-    let kept = keeps (held_at w j) (held_then new) r before.shown (known_at w j before) d in (
-      map_then before.shown before.shown after.shown w.far (counted w.far j) new.far
-          (counted_map before.shown w.far j)
-          (kept_map (held_at w j) (held_then new) before.shown after.shown kept after.known),
-      answered (held_at w j) (held_then new) r d,
+step_turn j line S works keeps answered w new r before after few step =
+    let a = held_at w j in let b = held_then new in let s = before.shown in
+    let known = known_at w j before in let d = works a b r (is_done j w new r few step) in
+    let kept = kept_step a b s known d.1 (keeps a.desk b.desk a.far b.far r s known d.0) in (
+      map_then s s after.shown w.far (counted w.far j) new.far (counted_map s w.far j)
+          (kept_map a b s after.shown kept after.known),
+      answered a.desk b.desk a.far b.far r d.0,
     )
 
 -- A swap leaves the map as it is, and answers as a pin of the object may be refused, or that the object
@@ -183,24 +193,22 @@ filter_turn w new h r before after few below step =
 
 -- An eviction and the steps of a batch leave the map as it is.
 pub evict_turn : IsQuietJob job.Evict Evict
-evict_turn = quiet_turn job.Evict Evict kept_evict
-    (λ a b q x. evict_line a.desk b.desk a.far b.far q x.0)
+evict_turn = step_turn job.Evict Evict IsEvictStep (λ a b q x. x)
+    (λ x y far new q s k. evict_keeps x y far new q) evict_line
 
 pub begin_turn : IsQuietJob job.Begin Begin
-begin_turn = quiet_turn job.Begin Begin kept_begin
-    (λ a b q x. begin_line a.desk b.desk a.far b.far q x.0)
+begin_turn = step_turn job.Begin Begin IsBeginStep (λ a b q x. x)
+    (λ x y far new q s k. begin_keeps x y far new q) begin_line
 
 pub ship_turn : IsQuietJob job.Ship Ship
-ship_turn = quiet_turn job.Ship Ship kept_ship
-    (λ a b q x. ship_line a.desk b.desk a.far b.far q x.0)
+ship_turn = step_turn job.Ship Ship IsShipStep (λ a b q x. x)
+    (λ x y far new q s k. ship_keeps x y far new q) ship_line
 
 pub commit_turn : IsQuietJob job.Commit Commit
-commit_turn = quiet_turn job.Commit Commit kept_commit
-    (λ a b q x. commit_line a.desk b.desk a.far b.far q x.0)
+commit_turn = step_turn job.Commit Commit IsCommitStep (λ a b q x. x) commit_keeps commit_line
 
 pub abort_turn : IsQuietJob job.Abort Abort
-abort_turn = quiet_turn job.Abort Abort kept_abort
-    (λ a b q x. abort_line a.desk b.desk a.far b.far q x.0)
+abort_turn = step_turn job.Abort Abort IsAbortStep (λ a b q x. x) abort_keeps abort_line
 
 -- So do the jobs at the far state alone, but for a crash.
 pub far_map : (j : Job) (w new : WorldState) (r : Reply) → (before : IsSoundWorld w)
@@ -269,26 +277,26 @@ crash_turn w new node r before after few below step =
     )
 
 -- ---- every turn
-pub record IsTurnOf (far new : FarState) : Type 0 where
-  pub first : new.first ≡ far.first
-  pub turns : new.counts.turns ≡ far.counts.turns
-
 -- no job changes the first version or the count of turns
-works_turn : (j : Job) (a b : Holding Words) (r : Reply) → StillWorks j a r b → IsTurnOf a.far b.far
+abbrev StillCounts : FarState → FarState → Type 0
+StillCounts far new = (new.first ≡ far.first) × (new.counts.turns ≡ far.counts.turns)
+
+works_turn : (j : Job) (a b : Holding Words) (r : Reply) → StillWorks j a r b
+    → StillCounts a.far b.far
 works_turn j a b r works = elim (works_left j a b r works) [
-  | inl e ↦ record { first = λ i. (e i).0.2; turns = λ i. (e i).0.3 }
-  | inr (inl e) ↦ record { first = λ i. (e.1 i).2; turns = λ i. (e.1 i).3 }
+  | inl e ↦ ((λ i. (e i).0.2), (λ i. (e i).0.3))
+  | inr (inl e) ↦ ((λ i. (e.1 i).2), (λ i. (e.1 i).3))
   | inr (inr e) ↦ let none = (far_job j).none a.far b.far e.0 e.2 in
-      record { first = none.first; turns = none.turns }
+      ((λ i. (none i).0), (λ i. (none i).2))
 ]
 
 pub turn_first : (j : Job) (w new : WorldState) (r : Reply) → IsSoundWorld w
     → w.far.counts.turns < 2 ^ 40 → TurnStep j w r new → new.far.first ≡ w.far.first
 turn_first j w new r before few step =
-    (works_turn j (held_at w j) (held_then new) r (is_done j w new r few step)).first
+    (works_turn j (held_at w j) (held_then new) r (is_done j w new r few step)).0
 
 pub turn_turns : (j : Job) (w new : WorldState) (r : Reply) → IsSoundWorld w
     → w.far.counts.turns < 2 ^ 40 → TurnStep j w r new
     → new.far.counts.turns ≡ w.far.counts.turns + 1
 turn_turns j w new r before few step =
-    (works_turn j (held_at w j) (held_then new) r (is_done j w new r few step)).turns
+    (works_turn j (held_at w j) (held_then new) r (is_done j w new r few step)).1

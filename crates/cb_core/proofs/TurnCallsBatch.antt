@@ -1,45 +1,17 @@
--- The steps of a batch, as parts of a turn: what each keeps, and how each is answered.
+-- How each step of a batch is answered.
 use Rattle.std.proofs.Common.{ℕ, List, sym, subst, inl, inr}
 use Rattle.cb_types.specs.declared.request.Request.TheVariants.{Begin, Ship, Commit, Abort}
 use Rattle.cb_types.specs.declared.reply.Reply.{Reply}
 use Rattle.cb_types.specs.Table.{IsReplyOf}
-use Rattle.cb_world.specs.declared.shown.Shown.{Shown}
 use Rattle.cb_world.specs.FarState.{FarState}
 use Rattle.cb_world.specs.Leaving.{LeavingState}
 use Rattle.cb_world.specs.Plain.{Words}
-use Rattle.cb_world.specs.World.{IsKnown}
 use Rattle.cb_evict.specs.AbortStep.{IsAbortStep, no_batch as none_to_abort, given_up}
 use Rattle.cb_evict.specs.BeginStep.{IsBeginStep, is_leaving, few_spans, few_nodes, begins}
 use Rattle.cb_evict.specs.CommitStep.{IsCommitStep, no_batch as none_to_commit, short, committed}
 use Rattle.cb_evict.specs.ShipRule.{ShipsRow}
 use Rattle.cb_evict.specs.ShipStep.{IsShipStep}
-use Rattle.cb_core.specs.Parts.{Holding}
-use Rattle.cb_core.specs.Step.{StillBegin, StillShip, StillCommit, StillAbort}
-use Rattle.cb_core.proofs.StillBatches.{begin_keeps, ship_keeps, commit_keeps, abort_keeps}
-use Rattle.cb_core.proofs.TurnCallsKept.{HasKept, kept_step}
 
--- ---- what each keeps
-pub kept_begin : (a b : Holding Words) (r : Reply) (s : Shown) → IsKnown a.desk a.far s
-    → StillBegin a r b → HasKept a b s
-kept_begin a b r s k (step, hold) =
-    kept_step a b s k hold (begin_keeps a.desk b.desk a.far b.far r step)
-
-pub kept_ship : (a b : Holding Words) (r : Reply) (s : Shown) → IsKnown a.desk a.far s
-    → StillShip a r b → HasKept a b s
-kept_ship a b r s k (step, hold) =
-    kept_step a b s k hold (ship_keeps a.desk b.desk a.far b.far r step)
-
-pub kept_commit : (a b : Holding Words) (r : Reply) (s : Shown) → IsKnown a.desk a.far s
-    → StillCommit a r b → HasKept a b s
-kept_commit a b r s k (step, hold) =
-    kept_step a b s k hold (commit_keeps a.desk b.desk a.far b.far r s k step)
-
-pub kept_abort : (a b : Holding Words) (r : Reply) (s : Shown) → IsKnown a.desk a.far s
-    → StillAbort a r b → HasKept a b s
-kept_abort a b r s k (step, hold) =
-    kept_step a b s k hold (abort_keeps a.desk b.desk a.far b.far r s k step)
-
--- ---- how each is answered
 pub begin_line : (x y : Words) (far new : FarState) (r : Reply) → IsBeginStep x y far new r
     → IsReplyOf Begin r
 begin_line x y far new r (is_leaving batch there reply state same) =

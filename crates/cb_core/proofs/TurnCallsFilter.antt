@@ -1,5 +1,4 @@
--- A filter as a part of a turn, and a change of the far state alone: what each keeps, and how a filter
--- is answered.
+-- A filter as a part of a turn: what it keeps, and how it is answered.
 use Rattle.std.proofs.Common.{◌≡◌, ◌⊎◌, ℕ, zero, suc, ◌%◌, ◌<◌, ◌≤◌, arith, List, length, Option, Some, None, refl, sym, ap, ◌∙◌, subst, inl, inr}
 use Rattle.cb_ptr.specs.declared.word.State.{State}
 use Rattle.cb_ptr.specs.declared.word.State.TheVariants as state
@@ -28,32 +27,16 @@ use Rattle.cb_filter.specs.FilterRule.{EmptyToFilter}
 use Rattle.cb_filter.specs.FilterStep.{IsFilterStep, refused, cools, without_slot, moves, RefusesAs}
 use Rattle.cb_filter.proofs.Laws.{filter_keeps}
 use Rattle.cb_core.specs.Parts.{Holding}
-use Rattle.cb_core.specs.Step.{StillFar, StillFilter}
-use Rattle.cb_core.proofs.NodesStay.{MakesNone}
+use Rattle.cb_core.specs.Step.{StillFilter}
 use Rattle.cb_core.proofs.TurnCallsKept.{HasKept, kept_step}
 use Rattle.cb_core.proofs.TurnCallsMap.{IsSameMap, map_stays, call_carried}
 use Rattle.cb_core.proofs.TurnCallsWhere.{kept_map, within}
 
--- ---- what each keeps
-pub kept_filter : (a b : Holding Words) (h : ℕ) (r : Reply) (s : Shown) → IsKnown a.desk a.far s
+-- ---- what it keeps
+kept_filter : (a b : Holding Words) (h : ℕ) (r : Reply) (s : Shown) → IsKnown a.desk a.far s
     → StillFilter h a r b → HasKept a b s
 kept_filter a b h r s k (step, hold) =
     kept_step a b s k hold (filter_keeps a.desk b.desk a.far b.far h r step)
-
--- so does a change of the far state alone in which no object was made and no turn counted
-pub kept_far : (step : FarState → FarState → Reply → Type 0) (a b : Holding Words) (r : Reply)
-    (s : Shown) → IsKnown a.desk a.far s → MakesNone a.far b.far → StillFar step a r b → HasKept a b s
-kept_far step a b r s k none (same, done, hold) = let then = hold s k in record {
-  shown = then.0;
-  known = then.1;
-  same_now = then.2;
-  first = none.first;
-  made = none.made;
-  turns = none.turns;
-  settings = ap (λ (x : Words). x.settings) same;
-  pins = λ h. ap (λ (x : Words). pins_of (word_at x h)) same;
-  pinned = λ h some. ap (λ (x : Words). word_at x h) same;
-}
 
 -- ---- how it is answered
 empty_line : (name : List ℕ) (v : ℕ) (r : Reply) → EmptyToFilter v r → IsReplyOf (Filter name) r

@@ -1,6 +1,5 @@
--- What an eviction and a swap-in within a turn keep: what every object holds.
+-- What a step within a turn keeps: what every object holds, with its pins.
 use Rattle.std.proofs.Common.{◌≡◌, ℕ, ◌≤◌, refl, sym, ◌∙◌, subst}
-use Rattle.cb_ptr.specs.Word.{pins_of}
 use Rattle.cb_types.specs.declared.job.Job.{Job}
 use Rattle.cb_types.specs.declared.reply.Reply.{Reply}
 use Rattle.cb_types.specs.declared.reply.Reply.TheVariants as answer
@@ -10,16 +9,17 @@ use Rattle.cb_world.specs.Counts.{with_turn}
 use Rattle.cb_world.specs.FarState.{FarState}
 use Rattle.cb_world.specs.Now.{now}
 use Rattle.cb_world.specs.Plain.{Words}
-use Rattle.cb_world.specs.World.{WorldState, IsKnown, word_at}
-use Rattle.cb_world.proofs.Laws.{StepKeeps, recounted_sound, now_same}
-use Rattle.cb_evict.proofs.Laws.{evict_keeps, evict_pinned, evict_pins, evict_settings}
+use Rattle.cb_world.specs.World.{WorldState, IsKnown}
+use Rattle.cb_world.proofs.Laws.{KeepsPins, StepKeeps, now_same, pins_same, recounted_sound}
+use Rattle.cb_evict.proofs.Laws.{evict_keeps}
 use Rattle.cb_swapin.proofs.Laws.{swap_keeps}
 use Rattle.cb_evict.specs.declared.eviction.Eviction.{Eviction}
 use Rattle.cb_evict.specs.declared.eviction.Eviction.TheVariants.{Refused, Set}
 use Rattle.cb_evict.specs.Eviction.{reply_of}
 use Rattle.cb_core.specs.Parts.{Holding, at_once, no_room, won}
-use Rattle.cb_core.specs.Step.{HoldOn, StillEvict, StillRoom, StillSwap, StillBring}
+use Rattle.cb_core.specs.Step.{HoldOn, StillRoom, StillSwap, StillBring, StillFar}
 use Rattle.cb_core.specs.Turned.{counted}
+use Rattle.cb_core.proofs.NodesStay.{MakesNone}
 
 -- All is known after, each object holds what it held, with its pins, and with pins it has its word; no
 -- object was made, and no turn was counted.
@@ -27,12 +27,8 @@ pub record HasKept (a b : Holding Words) (s : Shown) : Type 0 where
   pub shown : Shown
   pub known : IsKnown b.desk b.far shown
   pub same_now : (h : ℕ) → now shown b.far h ≡ now s a.far h
-  pub first : b.far.first ≡ a.far.first
-  pub made : b.far.made ≡ a.far.made
-  pub turns : b.far.counts.turns ≡ a.far.counts.turns
-  pub settings : b.desk.settings ≡ a.desk.settings
-  pub pins : (h : ℕ) → pins_of (word_at b.desk h) ≡ pins_of (word_at a.desk h)
-  pub pinned : (h : ℕ) → 1 ≤ pins_of (word_at a.desk h) → word_at b.desk h ≡ word_at a.desk h
+  pub made : MakesNone a.far b.far
+  pub words : KeepsPins a.desk b.desk
 
 -- two holdings are the same where the desks and the far states are
 pub same_holding : (a b : Holding Words) → b.desk ≡ a.desk → b.far ≡ a.far → b ≡ a
@@ -43,12 +39,17 @@ kept_all a s k = record {
   shown = s;
   known = k;
   same_now = λ h. refl;
-  first = refl;
   made = refl;
-  turns = refl;
-  settings = refl;
-  pins = λ h. refl;
-  pinned = λ h some. refl;
+  words = pins_same a.desk;
+}
+
+pins_then : (x y z : Words) → KeepsPins x y → KeepsPins y z → KeepsPins x z
+pins_then x y z p q = record {
+  settings = q.settings ∙ p.settings;
+  count = q.count ∙ p.count;
+  versions = q.versions ∙ p.versions;
+  pins = λ h. q.pins h ∙ p.pins h;
+  pinned = λ h some. q.pinned h (subst (λ (n : ℕ). 1 ≤ n) (sym (p.pins h)) some) ∙ p.pinned h some;
 }
 
 pub kept_then : (a b c : Holding Words) (s : Shown) → (k : HasKept a b s) → HasKept b c k.shown
@@ -57,55 +58,42 @@ kept_then a b c s k l = record {
   shown = l.shown;
   known = l.known;
   same_now = λ h. l.same_now h ∙ k.same_now h;
-  first = l.first ∙ k.first;
   made = l.made ∙ k.made;
-  turns = l.turns ∙ k.turns;
-  settings = l.settings ∙ k.settings;
-  pins = λ h. l.pins h ∙ k.pins h;
-  pinned = λ h some. l.pinned h (subst (λ (n : ℕ). 1 ≤ n) (sym (k.pins h)) some) ∙ k.pinned h some;
+  words = pins_then a.desk b.desk c.desk k.words l.words;
 }
 
 -- what a step keeps, after which all is known
 pub kept_step : (a b : Holding Words) (s : Shown) → IsKnown a.desk a.far s → HoldOn a b
     → StepKeeps a.desk b.desk a.far b.far → HasKept a b s
-kept_step a b s k hold keeps =
-    let then = hold s k in record {
-      shown = then.0;
-      known = then.1;
-      same_now = then.2;
-      first = keeps.far.first;
-      made = keeps.far.made;
-      turns = keeps.far.turns;
-      settings = keeps.words.settings;
-      pins = keeps.words.pins;
-      pinned = keeps.words.pinned;
-    }
+kept_step a b s k hold keeps = let then = hold s k in record {
+  shown = then.0;
+  known = then.1;
+  same_now = then.2;
+  made = λ i. (keeps.far.first i, keeps.far.made i, keeps.far.turns i);
+  words = keeps.words;
+}
 
-pub kept_evict : (a b : Holding Words) (r : Reply) (s : Shown) → IsKnown a.desk a.far s
-    → StillEvict a r b → HasKept a b s
-kept_evict a b r s k (step, hold) =
-    let keeps = evict_keeps a.desk b.desk a.far b.far r step in
-    let then = hold s k in record {
-      shown = then.0;
-      known = then.1;
-      same_now = then.2;
-      first = keeps.first;
-      made = keeps.made;
-      turns = keeps.turns;
-      settings = evict_settings a.desk b.desk a.far b.far r step;
-      pins = λ h. evict_pins a.desk b.desk a.far b.far r h step;
-      pinned = λ h. evict_pinned a.desk b.desk a.far b.far r h step;
-    }
+-- so does a change of the far state alone in which no object was made and no turn counted
+pub kept_far : (step : FarState → FarState → Reply → Type 0) (a b : Holding Words) (r : Reply)
+    (s : Shown) → IsKnown a.desk a.far s → MakesNone a.far b.far → StillFar step a r b
+    → HasKept a b s
+kept_far step a b r s k none (same, done, hold) = let then = hold s k in record {
+  shown = then.0;
+  known = then.1;
+  same_now = then.2;
+  made = none;
+  words = subst (KeepsPins a.desk) (sym same) (pins_same a.desk);
+}
 
 pub kept_swap : (a b : Holding Words) (h : ℕ) (r : Reply) (s : Shown) → IsKnown a.desk a.far s
     → StillSwap h a r b → HasKept a b s
 kept_swap a b h r s k (home, at, step, hold) =
     kept_step a b s k hold (swap_keeps a.desk b.desk a.far b.far home.set home.position r s k step)
 
--- so does one that tells both counts
 pub kept_room : (a b : Holding Words) (e : Eviction) (s : Shown) → IsKnown a.desk a.far s
     → StillRoom a e b → HasKept a b s
-kept_room a b e s k (step, hold) = kept_evict a b (reply_of e) s k (step.step, hold)
+kept_room a b e s k (step, hold) =
+    kept_step a b s k hold (evict_keeps a.desk b.desk a.far b.far (reply_of e) step.step)
 
 -- what is done with room won keeps what its parts keep
 pub kept_bring : (a b : Holding Words) (h : ℕ) (r : Reply) (s : Shown) → IsKnown a.desk a.far s

@@ -81,8 +81,9 @@ make_answered a b s t bytes name r before after (won m n id c evict again never)
     record {
       call = make_carried a.desk.settings.handles s kept.shown t t a.far n.far b.far b.far
           (Make name bytes) r
-          (record { now = kept.same_now; first = kept.first; made = kept.made }) (map_stays t b.far)
-          (subst (λ c. IsMakeCall c.handles kept.shown t n.far b.far (Make name bytes) r) kept.settings
+          (kept_map a n s kept.shown kept kept.known) (map_stays t b.far)
+          (subst (λ c. IsMakeCall c.handles kept.shown t n.far b.far (Make name bytes) r)
+          kept.words.settings
           (make_call n.desk b.desk n.far b.far kept.shown t bytes name r
           (record { before = kept.known; afterwards = after }) again));
       line = make_line n.desk b.desk n.far b.far bytes name r again never;

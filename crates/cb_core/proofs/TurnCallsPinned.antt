@@ -117,7 +117,7 @@ where_pinned a b s h at bytes count k (brought m n o f c l bring again) =
     (subst (λ (x : Holding Words). StillBring h x (answer.Swapped f) o) back bring) in
     let z = write_pinned (word_at o.desk h) (stamp_at o.desk h) at (length bytes) count
     (sym again.0.reply) in
-    record { is = z.is ∙ kept.pins h; some = z.some }
+    record { is = z.is ∙ kept.words.pins h; some = z.some }
 
 -- a write
 pub write_counts : (w new : WorldState) (h at : ℕ) (bytes : List ℕ) (count : ℕ) → (before : IsSoundWorld w)

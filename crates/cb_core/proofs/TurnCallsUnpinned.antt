@@ -192,7 +192,8 @@ module _ (a b : Holding Words) (s : Shown) (h at : ℕ) (bytes : List ℕ)
       let back = part.looks m n None l ∙ part.nothing a m c in
       let kept = kept_bring a o h (answer.Swapped f) s known
       (subst (λ (x : Holding Words). StillBring h x (answer.Swapped f) o) back bring) in
-      sym (kept.pins h) ∙ written_unpinned (word_at o.desk h) (stamp_at o.desk h) at (length bytes)
+      sym (kept.words.pins h)
+      ∙ written_unpinned (word_at o.desk h) (stamp_at o.desk h) at (length bytes)
       version (sym again.0.reply)
 
   -- one that is answered Pinned: the object is here, or it was far and has pins

@@ -66,8 +66,8 @@ pub kept_map : (a b : Holding Words) (s t : Shown) → HasKept a b s → IsKnown
     → IsSameMap s t a.far b.far
 kept_map a b s t k then = record {
   now = λ h. known_same b.desk b.far k.shown t h k.known then ∙ k.same_now h;
-  first = k.first;
-  made = k.made;
+  first = λ i. (k.made i).0;
+  made = λ i. (k.made i).1;
 }
 
 pub within : (a : Holding Words) (s : Shown) (h : ℕ) → IsKnown a.desk a.far s
@@ -156,11 +156,12 @@ module _ (call : Holding Words → Reply → Holding Words → Type 0)
       let kept = kept_bring a o h (answer.Swapped f) s before came_in in
       let here = (came_here a o s f before came_in).0 in
       let line = part.line o b r again (part.here o b r again here) in
-      let below_o : h < o.desk.settings.handles = subst (λ c. h < c.handles) (sym kept.settings) below in
+      let settings = kept.words.settings in
+      let below_o : h < o.desk.settings.handles = subst (λ c. h < c.handles) (sym settings) below in
       let one = part.is o b kept.shown t r kept.known then (within o kept.shown h kept.known below_o) again in
       record {
         call = call_carried a.desk.settings.handles s kept.shown t t a.far o.far b.far b.far q r
-            (record { now = kept.same_now; first = kept.first; made = kept.made }) (map_stays t b.far) h
-            (subst (λ c. IsCallOn c.handles kept.shown t o.far b.far h q r) kept.settings one);
+            (kept_map a o s kept.shown kept kept.known) (map_stays t b.far) h
+            (subst (λ c. IsCallOn c.handles kept.shown t o.far b.far h q r) settings one);
         line = line;
       }

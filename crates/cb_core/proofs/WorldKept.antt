@@ -6,11 +6,10 @@ use Rattle.cb_types.specs.declared.job.Job.TheVariants.{Make, Read, Write, Free,
 use Rattle.cb_types.specs.declared.reply.Reply.{Reply}
 use Rattle.cb_types.specs.Config.{IsAccepted}
 use Rattle.cb_types.specs.Jobs.{job_index}
-use Rattle.cb_world.specs.declared.shown.Shown.{Shown}
 use Rattle.cb_world.specs.FarState.{FarState}
 use Rattle.cb_world.specs.Plain.{Words}
 use Rattle.cb_world.specs.Seats.{SeatState}
-use Rattle.cb_world.specs.World.{WorldState, IsKnown, IsConfigured, IsSoundWorld}
+use Rattle.cb_world.specs.World.{WorldState, IsConfigured, IsSoundWorld}
 use Rattle.cb_world.proofs.Laws.{open_same, recounted}
 use Rattle.cb_core.specs.Jobs.{IsJob}
 use Rattle.cb_core.specs.OnceHere.{OnceHere, OnceHereStops}
@@ -18,15 +17,16 @@ use Rattle.cb_core.specs.Parts.{Holding, WhereItIs, NeverDeclined, CallStops}
 use Rattle.cb_core.specs.Step.{StillAlone, StillBring, StillBringLacks, StillLacksAlone, StillRead, StillReadLacks, StillWorks, StillStops, still_lacks, still_parts, TurnStep, worn, done, TurnStops}
 use Rattle.cb_core.specs.Turned.{Does, DoesAlone, LacksAlone, Turned, worn as was_worn, done as was_done, Stopped, counted, once_counted, Reads, ReadLacks, Stops as StopsOver, ComesIn, ComeLacks, desk_lacks, desk_parts}
 use Rattle.cb_core.proofs.Carried.{AreAlong, IsMany, LackAlong, come_stops, comes_in, does, itself, once_here, once_here_stops, stops}
-use Rattle.cb_core.proofs.Counting.{counted_sound, job_below}
-use Rattle.cb_core.proofs.KeptParts.{IsGood, Arrives, Carries, CarriesLack, rises_more, arrives_then, arrives_more, counted_rises, good_along, ArrivesBy}
+use Rattle.cb_core.proofs.Counting.{job_below}
+use Rattle.cb_core.proofs.KeptParts.{IsGood, Arrives, Carries, CarriesLack, rises_more, arrives_more, counted_rises, good_along, ArrivesBy}
 use Rattle.cb_core.proofs.StillParts.{Ran, SaysAll, make_part, read_part, write_part, free_part, find_part, decline_part, evict_part, room_part, swap_part, make_lack, read_lack, evict_lack, swap_lack}
 use Rattle.cb_core.proofs.FarJobs.{note_of}
 use Rattle.cb_core.proofs.Noted.{noted_after}
 use Rattle.cb_core.proofs.StillBatches.{begin_part, ship_part, ship_lack, commit_part, abort_part}
 use Rattle.cb_core.proofs.StillFilters.{filter_part, filter_lack}
-use Rattle.cb_core.proofs.StillFarJobs.{far_arrives, far_lack, far_part, known_far}
+use Rattle.cb_core.proofs.StillFarJobs.{far_arrives, far_lack, far_part}
 use Rattle.cb_core.proofs.StillReads.{StillComes, StillComeLacks, reads_where, read_stops_where}
+use Rattle.cb_core.proofs.TurnCallsKept.{once_known}
 
 -- ---- jobs
 module _ (c : Config) (seats : List SeatState) (accepted : IsAccepted c) where
@@ -141,21 +141,16 @@ with_job w y new = record { desk = y; far = new; seats = w.seats }
 abbrev pub held : WorldState → Holding Words
 held w = record { desk = w.desk; far = w.far }
 
-pub known_counted : (w : WorldState) (job : Job) (s : Shown) → IsKnown w.desk w.far s
-    → IsKnown w.desk (counted w.far job) s
-known_counted w job s k = known_far w.desk w.far (counted w.far job) s k
-    (counted_sound s w.far (counted w.far job) job refl k.sound)
-
 abbrev pub counted_good : (w : WorldState) (job : Job) → IsSoundWorld w
     → IsGood w.desk.settings w.seats (once_counted (held w) job)
 counted_good w job sound = record {
   settings = refl;
   configured = recounted w.desk.settings w.far (counted w.far job).counts sound.configured;
   shown = sound.shown;
-  known = known_counted w job sound.shown sound.known;
+  known = once_known w job sound.shown sound.known;
   pinned = sound.pinned;
   ongoing = open_same w.desk w.far (counted w.far job) sound.shown w.seats sound.known
-      (known_counted w job sound.shown sound.known) sound.ongoing;
+      (once_known w job sound.shown sound.known) sound.ongoing;
 }
 
 pub arrived_sound : (w : WorldState) (job : Job) (b : Holding Words) (Z : Type 0) → IsSoundWorld w

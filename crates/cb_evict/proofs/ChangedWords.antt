@@ -1,7 +1,8 @@
 -- Words of some objects change, and all others stay.
-use Rattle.std.proofs.Common.{◌≡◌, ◌⊎◌, ℕ, List, length, sym, ◌∙◌, arith, inl, inr}
+use Rattle.std.proofs.Common.{◌≡◌, ◌⊎◌, ℕ, List, length, sym, ap, ◌∙◌, arith, inl, inr}
 use Rattle.std.proofs.lemmas.Bool.{cases_lt}
 use Rattle.std.proofs.lemmas.List.{ext_get_or, get_or_past}
+use Rattle.cb_ptr.specs.Word.{pins_of}
 use Rattle.cb_world.specs.declared.event.Event.{Event}
 use Rattle.cb_world.specs.declared.shown.Shown.{Shown}
 use Rattle.cb_world.specs.Shown.{hot_at, object_at}
@@ -10,7 +11,7 @@ use Rattle.cb_world.specs.Plain.{Words, Shows}
 use Rattle.cb_world.specs.Played.{played}
 use Rattle.cb_world.specs.StillDesk.{plain_follows, plain_stays}
 use Rattle.cb_world.specs.World.{word_at}
-use Rattle.cb_world.proofs.Laws.{RunsStill, word_back}
+use Rattle.cb_world.proofs.Laws.{KeepsPins, RunsStill, word_back}
 use Rattle.cb_evict.specs.ChangesWords.{ChangesWords}
 
 -- what is known of other objects is as it was, and so are the versions and the words
@@ -66,3 +67,21 @@ changes_fixed x y z so si other a b same =
       versions = (a.versions ∙ sym b.versions) i;
       memory = (a.memory ∙ sym b.memory) i;
     }
+
+-- where those that change had no pins, and have none, pins stay
+pub changes_keep : (x y : Words) (so : Type 0) (other : ℕ → Type 0) → ChangesWords x y so other
+    → ((h : ℕ) → other h ⊎ ((pins_of (word_at x h) ≡ 0) × (pins_of (word_at y h) ≡ 0)))
+    → KeepsPins x y
+changes_keep x y so other c each = record {
+  settings = c.settings;
+  count = c.count;
+  versions = c.versions;
+  pins = λ h. elim (each h) [
+    | inl out ↦ ap pins_of (c.others h out)
+    | inr none ↦ none.1 ∙ sym none.0
+  ];
+  pinned = λ h some. elim (each h) [
+    | inl out ↦ c.others h out
+    | inr none ↦ absurd (let zero = none.0 in omega (arith, zero, some))
+  ];
+}

@@ -1,5 +1,5 @@
--- What an eviction leaves as it was, from the step alone.
-use Rattle.std.proofs.Common.{◌≡◌, ◌⊎◌, ℕ, zero, suc, true, ◌≤◌, List, [], ◌∷◌, length, get_or, take, Option, Some, None, refl, sym, ap, ◌∙◌, subst, arith, inl, inr}
+-- What an eviction keeps, from the step alone.
+use Rattle.std.proofs.Common.{◌≡◌, ◌⊎◌, ℕ, zero, suc, true, List, [], ◌∷◌, get_or, take, Option, Some, None, sym, ap, ◌∙◌, arith, inl, inr}
 use Rattle.std.specs.List.{Contains}
 use Rattle.std.proofs.lemmas.Bool.{cases_eq}
 use Rattle.std.proofs.lemmas.List.Elements.{All-contains, filter_passes}
@@ -11,28 +11,20 @@ use Rattle.cb_types.specs.declared.reply.Reply.TheVariants as answer
 use Rattle.cb_world.specs.FarState.{FarState, span_in, handle_in}
 use Rattle.cb_world.specs.Grasped.{IsFree}
 use Rattle.cb_world.specs.Plain.{Words}
-use Rattle.cb_world.specs.Seats.{SeatState}
-use Rattle.cb_world.specs.World.{word_at, ArePinned}
-use Rattle.cb_world.proofs.Laws.{pinned_still}
+use Rattle.cb_world.specs.World.{word_at}
+use Rattle.cb_world.proofs.Laws.{KeepsPins, StepKeeps, keeps_same}
 use Rattle.cb_evict.specs.Candidates.{candidates}
+use Rattle.cb_evict.specs.ChangesWords.{ChangesWords}
 use Rattle.cb_evict.specs.EvictStep.{is_loose, loose_frames, IsSetMade, IsEvictStep, few_spans, few_nodes, made}
 use Rattle.cb_evict.specs.Looking.{IsIn}
+use Rattle.cb_evict.proofs.ChangedWords.{changes_keep}
 use Rattle.cb_evict.proofs.Composed.{few_spans as not_few_spans, few_nodes as not_few_nodes}
+use Rattle.cb_evict.proofs.FarRest.{rest_kept, rest_of}
 use Rattle.cb_evict.proofs.Loose.{names_has, contains_head, contains_tail}
 use Rattle.cb_evict.proofs.LooseSpans.{loose_free}
 use Rattle.cb_evict.proofs.Standing.{names_span}
 use Rattle.cb_evict.proofs.Trying.{taken_of}
 use Rattle.cb_evict.proofs.Options.{none_some, some_same}
-
--- ---- the steps
--- what a step that makes no set leaves holds of it, and what the others leave
-by_step : (P : Words → FarState → Type 0) (x y : Words) (far new : FarState) (r : Reply)
-    → IsEvictStep x y far new r → P x far → (IsSetMade x y far new r → P y new) → P y new
-by_step P x y far new r (few_spans a e) same go =
-    subst (λ (f : FarState). P y f) (sym a.state) (subst (λ (u : Words). P u far) (sym e) same)
-by_step P x y far new r (few_nodes a e) same go =
-    subst (λ (f : FarState). P y f) (sym a.state) (subst (λ (u : Words). P u far) (sym e) same)
-by_step P x y far new r (made m) same go = go m
 
 -- a set was made where one is answered
 pub evict_made : (x y : Words) (far new : FarState) (r : Reply) (id : SetId)
@@ -40,22 +32,6 @@ pub evict_made : (x y : Words) (far new : FarState) (r : Reply) (id : SetId)
 evict_made x y far new r id (few_spans a e) set = absurd (not_few_spans _ r id a.reply set)
 evict_made x y far new r id (few_nodes a e) set = absurd (not_few_nodes _ r id a.reply set)
 evict_made x y far new r id (made m) set = m
-
--- ---- the words
-pub evict_settings : (x y : Words) (far new : FarState) (r : Reply) → IsEvictStep x y far new r
-    → y.settings ≡ x.settings
-evict_settings x y far new r step = by_step (λ u f. u.settings ≡ x.settings) x y far new r step refl
-    (λ m. m.evicted.sent.settings)
-
-pub evict_count : (x y : Words) (far new : FarState) (r : Reply) → IsEvictStep x y far new r
-    → length y.words ≡ length x.words
-evict_count x y far new r step = by_step (λ u f. length u.words ≡ length x.words) x y far new r step
-    refl (λ m. m.evicted.sent.count)
-
-pub evict_versions : (x y : Words) (far new : FarState) (r : Reply) → IsEvictStep x y far new r
-    → y.versions ≡ x.versions
-evict_versions x y far new r step = by_step (λ u f. u.versions ≡ x.versions) x y far new r step refl
-    (λ m. m.evicted.sent.versions)
 
 -- ---- the objects that leave
 option_is : (o : Option ℕ) (h : ℕ) → (o ≡ Some h) ⊎ (o ≡ Some h → ⊥)
@@ -125,64 +101,31 @@ leaves_free x far k h (f, c, named) =
     loose_free x span.0 h (sym (ap (is_loose x) span.1) ∙ frame_loose x far k f c)
     (names_has far.spans f h span.0 span.1 named)
 
--- so each word with pins is as it was, and pins stay
-pub evict_pinned : (x y : Words) (far new : FarState) (r : Reply) (h : ℕ)
-    → IsEvictStep x y far new r → 1 ≤ pins_of (word_at x h) → word_at y h ≡ word_at x h
-evict_pinned x y far new r h step some =
-    by_step (λ u f. word_at u h ≡ word_at x h) x y far new r step refl
-    (λ m. m.evicted.sent.others h (λ i. let free = leaves_free x far x.settings.k h i in
-    omega (arith, free.1, some)))
-
-pub evict_pins : (x y : Words) (far new : FarState) (r : Reply) (h : ℕ)
-    → IsEvictStep x y far new r → pins_of (word_at y h) ≡ pins_of (word_at x h)
-evict_pins x y far new r h step =
-    by_step (λ u f. pins_of (word_at u h) ≡ pins_of (word_at x h)) x y far new r step refl
-    (λ m. elim (in_or_not far.spans (take x.settings.k (loose_frames x far)) h) [
-      | inl i ↦ (m.evicted.sent.changed h i).pins ∙ sym (leaves_free x far x.settings.k h i).1
-      | inr out ↦ ap pins_of (m.evicted.sent.others h out)
+-- so pins stay where those that leave have none afterwards, and other words stay
+pub taken_keep : (x y : Words) (far : FarState) (k : ℕ) (so : Type 0)
+    → ChangesWords x y so (λ h. ¬ (IsIn far.spans (take k (loose_frames x far)) h))
+    → ((h : ℕ) → IsIn far.spans (take k (loose_frames x far)) h → pins_of (word_at y h) ≡ 0)
+    → KeepsPins x y
+taken_keep x y far k so change none = changes_keep x y so _ change
+    (λ h. elim (in_or_not far.spans (take k (loose_frames x far)) h) [
+      | inl leaves ↦ inr ((leaves_free x far k h leaves).1, none h leaves)
+      | inr out ↦ inl out
     ])
 
--- the pins of the seats stay as they are
-pub evict_seats : (x y : Words) (far new : FarState) (r : Reply) (seats : List SeatState)
-    → IsEvictStep x y far new r → ArePinned x seats → ArePinned y seats
-evict_seats x y far new r seats step p =
-    pinned_still x y seats p (evict_count x y far new r step)
-    (λ h below some. (
-      evict_pinned x y far new r h step some,
-      ap (λ (l : List ℕ). get_or l h 0) (evict_versions x y far new r step),
-    ))
-    (λ h below none. evict_pins x y far new r h step ∙ none)
-
--- ---- the parts of the far state
--- what an eviction never changes
-pub record KeepsRest (far new : FarState) : Type 0 where
-  pub first : new.first ≡ far.first
-  pub made : new.made ≡ far.made
-  pub members : new.members ≡ far.members
-  pub leaving : new.leaving ≡ far.leaving
-  pub joining : new.joining ≡ far.joining
-  pub turns : new.counts.turns ≡ far.counts.turns
-  pub by_job : new.counts.by_job ≡ far.counts.by_job
-
+-- ---- the step
 pub evict_keeps : (x y : Words) (far new : FarState) (r : Reply) → IsEvictStep x y far new r
-    → KeepsRest far new
-evict_keeps x y far new r step =
-    by_step (λ u f. KeepsRest far f) x y far new r step
-    (record {
-      first = refl;
-      made = refl;
-      members = refl;
-      leaving = refl;
-      joining = refl;
-      turns = refl;
-      by_job = refl;
-    })
-    (λ m. record {
-      first = ap (λ (f : FarState). f.first) m.evicted.state;
-      made = ap (λ (f : FarState). f.made) m.evicted.state;
-      members = ap (λ (f : FarState). f.members) m.evicted.state;
-      leaving = ap (λ (f : FarState). f.leaving) m.evicted.state;
-      joining = ap (λ (f : FarState). f.joining) m.evicted.state;
-      turns = ap (λ (f : FarState). f.counts.turns) m.evicted.state;
-      by_job = ap (λ (f : FarState). f.counts.by_job) m.evicted.state;
-    })
+    → StepKeeps x y far new
+evict_keeps x y far new r (few_spans few same) = keeps_same x y far new same few.state
+evict_keeps x y far new r (few_nodes few same) = keeps_same x y far new same few.state
+evict_keeps x y far new r (made m) = record {
+  far = rest_kept far new (ap rest_of m.evicted.state);
+  words = taken_keep x y far x.settings.k _ m.evicted.sent
+      (λ h i. (m.evicted.sent.changed h i).pins);
+}
+
+-- the batch that is leaving stays
+pub evict_leaving : (x y : Words) (far new : FarState) (r : Reply) → IsEvictStep x y far new r
+    → new.leaving ≡ far.leaving
+evict_leaving x y far new r (few_spans few same) = ap (λ (f : FarState). f.leaving) few.state
+evict_leaving x y far new r (few_nodes few same) = ap (λ (f : FarState). f.leaving) few.state
+evict_leaving x y far new r (made m) = ap (λ (f : FarState). f.leaving) m.evicted.state

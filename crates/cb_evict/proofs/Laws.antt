@@ -1,12 +1,13 @@
 -- The lemmas of this crate that other crates cite.
 pub use Rattle.cb_evict.proofs.AbortFixed.{abort_step_fixes}
+pub use Rattle.cb_evict.proofs.AbortKeeps.{abort_keeps}
 pub use Rattle.cb_evict.proofs.AbortStep.{abort_step}
-pub use Rattle.cb_evict.proofs.BeginKeeps.{begin_count, begin_keeps, begin_pinned, begin_pins, begin_settings, begin_versions}
-pub use Rattle.cb_evict.proofs.EvictKeeps.{evict_keeps, evict_made, evict_pinned, evict_pins, evict_seats, evict_settings}
+pub use Rattle.cb_evict.proofs.BeginKeeps.{begin_keeps}
+pub use Rattle.cb_evict.proofs.EvictKeeps.{evict_keeps, evict_leaving, evict_made}
 pub use Rattle.cb_evict.proofs.BeginFixed.{begin_step_fixes}
 pub use Rattle.cb_evict.proofs.BeginStep.{begin_step}
-pub use Rattle.cb_evict.proofs.Claims.{among, no_former}
 pub use Rattle.cb_evict.proofs.CommitFixed.{commit_step_fixes}
+pub use Rattle.cb_evict.proofs.CommitKeeps.{commit_keeps}
 pub use Rattle.cb_evict.proofs.CommitStep.{commit_step}
 pub use Rattle.cb_evict.proofs.Composed.{few_nodes, few_spans, rule_weaker}
 pub use Rattle.cb_evict.proofs.EvictFixed.{evict_step_fixes}
@@ -14,9 +15,9 @@ pub use Rattle.cb_evict.proofs.EvictStep.{counted_step, evict_step, evict_stoppe
 pub use Rattle.cb_evict.proofs.EvictionFixed.{counted_step_fixes}
 pub use Rattle.cb_evict.proofs.Gone.{given_in}
 pub use Rattle.cb_evict.proofs.Loose.{loose_among}
-pub use Rattle.cb_evict.proofs.Noted.{claimed_all}
 pub use Rattle.cb_evict.proofs.ShipFixed.{ship_step_fixes}
-pub use Rattle.cb_evict.proofs.ShipStep.{ship_step, ship_stopped, ships_leaves}
+pub use Rattle.cb_evict.proofs.ShipKeeps.{ship_keeps}
+pub use Rattle.cb_evict.proofs.ShipStep.{ship_step, ship_stopped}
 pub use Rattle.cb_evict.proofs.Standing.{named_at, names_span, ready_frame}
 pub use Rattle.cb_evict.proofs.EvictStays.{abort_stays, begin_stays, commit_stays, evict_stays, evict_step_stays, ship_stays}
 pub use Rattle.cb_evict.proofs.Trying.{taken_of}

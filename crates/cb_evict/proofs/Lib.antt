@@ -30,6 +30,7 @@ pub mod Composed
 mod LooseSpans
 pub mod FrameRows
 pub mod EvictStep
+mod FarRest
 pub mod EvictKeeps
 mod SmallWorlds
 mod WorkedLoose
@@ -40,15 +41,18 @@ mod WorkedSetMade
 mod WorkedShip
 mod Restores
 pub mod Noted
+mod BatchPins
 mod AbortSound
 mod SmallWords
 mod NamesShards
 mod CommitSound
 pub mod AbortStep
+pub mod AbortKeeps
 pub mod WhichWait
 mod BatchReady
 mod Commits
 pub mod CommitStep
+pub mod CommitKeeps
 pub mod EvictStays
 pub mod EvictUnwritten
 mod WorkedEnds
@@ -70,5 +74,6 @@ pub mod PutShards
 pub mod ShipSound
 pub mod ShipParts
 pub mod ShipStep
+pub mod ShipKeeps
 pub mod ShipFixed
 pub mod Laws

@@ -1,5 +1,5 @@
--- Over a still desk a ship is a step, which leaves all but the row, the shard and a key.
-use Rattle.std.proofs.Common.{◌≡◌, ℕ, ◌+◌, ◌*◌, ◌≤◌, ◌++◌, List, length, map, refl, sym, ap, ◌∙◌, subst, arith, inl, inr, length-set}
+-- Over a still desk a ship is a step.
+use Rattle.std.proofs.Common.{◌≡◌, ℕ, ◌*◌, ◌++◌, List, map, ap, ◌∙◌, subst, inl, inr}
 use Rattle.cb_gf256.specs.Rows.{row_at}
 use Rattle.cb_types.specs.declared.reply.Reply.{Reply}
 use Rattle.cb_world.specs.declared.shown.Shown.{Shown}
@@ -19,68 +19,6 @@ use Rattle.cb_evict.specs.Loading.{LiesInOne}
 use Rattle.cb_evict.specs.ShipRule.{ReadsLeaving, ShipEffect, ShipRule, ShipsRow}
 use Rattle.cb_evict.specs.ShipStep.{IsShipStep}
 use Rattle.cb_evict.proofs.Events.{are_reads}
-
--- ---- what a ship leaves
--- local memory, all sets, homes and nodes' lives stay, and the pair that is joining; no set number
--- is drawn and at most one key, and no row is given out
-pub record ShipLeaves (far new : FarState) : Type 0 where
-  pub first : new.first ≡ far.first
-  pub made : new.made ≡ far.made
-  pub frames : new.frames ≡ far.frames
-  pub spans : new.spans ≡ far.spans
-  pub sets : new.sets ≡ far.sets
-  pub homes : new.homes ≡ far.homes
-  pub members : new.members ≡ far.members
-  pub joining : new.joining ≡ far.joining
-  pub nodes : length new.nodes.nodes ≡ length far.nodes.nodes
-  pub room : new.nodes.room ≡ far.nodes.room
-  pub given : new.nodes.given ≡ far.nodes.given
-  pub turns : new.counts.turns ≡ far.counts.turns
-  pub by_job : new.counts.by_job ≡ far.counts.by_job
-  pub set_numbers : new.counts.sets ≡ far.counts.sets
-  pub keys : new.counts.keys ≤ far.counts.keys + 1
-
-leaves_all : (far : FarState) → ShipLeaves far far
-leaves_all far = record {
-  first = refl;
-  made = refl;
-  frames = refl;
-  spans = refl;
-  sets = refl;
-  homes = refl;
-  members = refl;
-  joining = refl;
-  nodes = refl;
-  room = refl;
-  given = refl;
-  turns = refl;
-  by_job = refl;
-  set_numbers = refl;
-  keys = omega arith;
-}
-
-pub ships_leaves : (far new : FarState) (r : Reply) (row : LeavingState → ℕ → List ℕ)
-    → ShipsRow far new r row → ShipLeaves far new
-ships_leaves far new r row (inl x) = subst (ShipLeaves far) (sym x.state) (leaves_all far)
-ships_leaves far new r row (inr (inl x)) = subst (ShipLeaves far) (sym x.state) (leaves_all far)
-ships_leaves far new r row (inr (inr (inl x))) = subst (ShipLeaves far) (sym x.state) (leaves_all far)
-ships_leaves far new r row (inr (inr (inr x))) = subst (ShipLeaves far) (sym x.state) (record {
-  first = refl;
-  made = refl;
-  frames = refl;
-  spans = refl;
-  sets = refl;
-  homes = refl;
-  members = refl;
-  joining = refl;
-  nodes = length-set far.nodes.nodes x.shard.node.n _;
-  room = refl;
-  given = refl;
-  turns = refl;
-  by_job = refl;
-  set_numbers = refl;
-  keys = omega arith;
-})
 
 -- what every object has stays
 pub ships_now : (s : Shown) (far new : FarState) (r : Reply) (row : LeavingState → ℕ → List ℕ)

@@ -8,7 +8,6 @@ use Rattle.cb_class.specs.Class.{bytes_of, words_of}
 use Rattle.cb_evict.proofs.Options.{none_some, some_same}
 use Rattle.cb_evict.specs.Candidates.{SpanNames}
 use Rattle.cb_evict.specs.Closing.{HaveHomes}
-use Rattle.cb_evict.specs.EvictStep.{made}
 use Rattle.cb_evict.specs.Looking.{IsIn}
 use Rattle.cb_gf256.proofs.PublicLaws.{product_with_zero, sum_over_zeros}
 use Rattle.cb_gf256.specs.Power.{power}

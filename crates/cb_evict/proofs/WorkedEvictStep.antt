@@ -20,7 +20,7 @@ use Rattle.cb_world.specs.World.{word_at}
 use Rattle.cb_evict.specs.EvictStep.{is_slot_loose, is_loose, loose_frames, AreSentOff, HaveContents, IsEvictStep, few_spans, few_nodes, made}
 use Rattle.cb_evict.specs.Looking.{IsIn}
 use Rattle.cb_evict.proofs.Options.{none_some, some_same}
-use Rattle.cb_evict.proofs.SmallWorlds.{after, away, before, busy, calm, desk, far_with, first_object, further, heads, lone, moving, one_node, only_object, pair, pinned, row, settings, shards, span_with}
+use Rattle.cb_evict.proofs.SmallWorlds.{after, away, before, busy, calm, desk, far_with, first_object, further, heads, lone, moving, one_node, only_object, pair, pinned, row, settings, span_with}
 
 -- a hot span, two cold ones with a free frame between them, and one more
 abbrev spans : List (Option Contents)

@@ -14,7 +14,7 @@ use Rattle.cb_world.proofs.Laws.{KeepsHolding, StaysBy, StaysIfBy, rises_more, s
 use Rattle.cb_compact.specs.NowGoing.{with_keys}
 use Rattle.cb_compact.specs.CompactStep.{CompactStep, PairEnds}
 use Rattle.cb_compact.specs.PairStep.{live_positions}
-use Rattle.cb_compact.proofs.Laws.{AreFarLaws, LeavesLocal, begin_laws, first_fixed, now_given, now_laws}
+use Rattle.cb_compact.proofs.Laws.{AreFarLaws, LeavesLocal, begin_laws, first_fixed, leaves_both, leaves_local, local_of, now_given, now_laws}
 use Rattle.cb_local.specs.Fetching.{far_given, rows_given}
 use Rattle.cb_local.specs.LocalStep.{IsBesideNodes, IsMergedHere, IsNotMerged, LocalStep}
 use Rattle.cb_local.proofs.Finishing.{rows_few}
@@ -115,30 +115,14 @@ local_stays c s far new r sound x is = by x.beside
 
 -- ---- local memory
 local_leaves : (far new : FarState) (r : Reply) → LocalStep far new r → LeavesLocal far new
-local_leaves far new r x = by x.beside
+local_leaves far new r x = elim x.beside [
+  | inl y ↦ as_mid (ap local_of y.state)
+  | inr y ↦ as_mid (ap local_of y.state)
+]
   where
-    z : LeavesLocal far x.mid
-    z = now_laws.leaves far x.mid r x.same
-
-    by : IsBesideNodes far x.mid new r → LeavesLocal far new
-    by (inl y) = subst (LeavesLocal far) (sym y.state) (record {
-      first = z.first;
-      made = z.made;
-      frames = z.frames;
-      spans = z.spans;
-      members = z.members;
-      leaving = z.leaving;
-      turns = z.turns;
-    })
-    by (inr y) = subst (LeavesLocal far) (sym y.state) (record {
-      first = z.first;
-      made = z.made;
-      frames = z.frames;
-      spans = z.spans;
-      members = z.members;
-      leaving = z.leaving;
-      turns = z.turns;
-    })
+    as_mid : local_of new ≡ local_of x.mid → LeavesLocal far new
+    as_mid e = leaves_both far x.mid new (now_laws.leaves far x.mid r x.same)
+        (leaves_local x.mid new e)
 
 -- ---- one reply and one far state
 -- beside one far state stands one, by the reply

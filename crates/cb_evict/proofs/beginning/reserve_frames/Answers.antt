@@ -1,10 +1,8 @@
 use Rattle.std.proofs.lemmas.Result.{IfOk-from_err}
-use Rattle.std.proofs.Common.{◌≡◌, ◌+◌, ◌-◌, ℕ, List, [], length, replicate, Option, None, sym, refl, ap, ◌∙◌, subst, arith}
-use Rattle.cb_gf256.specs.InRange.{IsInRange}
+use Rattle.std.proofs.Common.{◌≡◌, ◌+◌, ℕ, List, [], length, sym, refl, ap, ◌∙◌, subst, arith}
 use Rattle.cb_member.specs.declared.names.Shard.{Shard}
 use Rattle.cb_types.specs.declared.config.Config.{Config}
 use Rattle.cb_types.specs.declared.config.Field.TheVariants.{K, R}
-use Rattle.cb_world.specs.FarState.{FarState}
 use Rattle.cb_evict.specs.BeginRule.{blank_shards}
 use Rattle.cb_evict.specs.Beginning.{AreParities, with_reserved}
 use Rattle.cb_evict.proofs.BeginEnd.{blank_count}

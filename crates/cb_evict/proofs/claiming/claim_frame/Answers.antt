@@ -4,7 +4,6 @@ use Rattle.cb_span.specs.Contents.{Contents}
 use Rattle.cb_world.specs.declared.leaving.Former.{Former}
 use Rattle.cb_world.specs.Reserved.{table_of}
 use Rattle.cb_evict.specs.Candidates.{SpanNames}
-use Rattle.cb_evict.specs.Looking.{SpanHas}
 use Rattle.cb_evict.specs.Order.{objects_in}
 use Rattle.cb_evict.proofs.CallParts.{part_more}
 use Rattle.cb_evict.proofs.Filling.{got_span}

@@ -1,5 +1,5 @@
 use Rattle.std.proofs.lemmas.Result.{IfOk-from_err}
-use Rattle.std.proofs.Common.{◌≡◌, ◌+◌, ◌-◌, ◌^◌, ◌<◌, ℕ, List, [], length, All, Some, sym, refl, ap, ◌∙◌, subst, arith}
+use Rattle.std.proofs.Common.{◌≡◌, ◌+◌, ◌^◌, ◌<◌, List, [], length, All, Some, sym, refl, ap, ◌∙◌, subst, arith}
 use Rattle.cb_member.specs.declared.names.Shard.{Shard}
 use Rattle.cb_span.specs.Contents.{Contents}
 use Rattle.cb_types.specs.declared.config.Config.{Config}

@@ -1,6 +1,5 @@
 use Rattle.std.proofs.Common.{refl, rules, inl, inr}
 use Rattle.cb_evict.specs.Candidates.{SpanNames}
-use Rattle.cb_evict.specs.Looking.{SpanHas}
 use Rattle.cb_evict.proofs.CallParts.{part_more}
 use Rattle.cb_evict.proofs.Filling.{got_span}
 use Rattle.cb_evict.proofs.Loose.{has_names, names_has, span_below, span_once}
