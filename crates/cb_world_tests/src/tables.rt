@@ -7,7 +7,7 @@ use crate::making::{Way, make};
 use crate::pinned::{join, look_at, pin, split};
 use crate::told::Told;
 use cb_shared::{Pass, PinAnswer, Shared};
-use cb_types::{Handle, NoMemory, Reply};
+use cb_types::{Handle, NoMemory};
 use std::alloc::Global;
 use std::sync::Wait;
 
@@ -212,18 +212,6 @@ pub(crate) fn two_passes<R: Wait>(
     Ok(is_made && is_right)
 }
 
-/// Whether the configuration is the one that was given, with too few frames to try again.
-fn is_small(shared: &Shared, first: &Pass) -> bool {
-    let config = shared.config();
-    let reply = Reply::NoRoom {
-        frames: 8,
-        loose: 0,
-        nodes: 6,
-    };
-    let again = shared.is_to_try_again(&reply) || first.again();
-    config.k == 2 && config.frames == 8 && config.handles == 16 && !again
-}
-
 /// Each call that tries again.
 pub(crate) fn calls<R: Wait>(
     rt: &R,
@@ -237,7 +225,7 @@ pub(crate) fn calls<R: Wait>(
 {
     let is_made = make(rt, alloc, shared, objects, first, Way::Call, &[1u8, 2], 1)?;
     let is_right = are_answered(rt, alloc, shared, objects.as_slice(), first, &CALLS)?;
-    Ok(is_made && is_right && is_small(shared, first))
+    Ok(is_made && is_right)
 }
 
 /// What is read back of two objects behind two crashes.
