@@ -1,7 +1,7 @@
 use Rattle.std.proofs.Common.{ℕ, subst, arith}
 use Rattle.cb_shared.specs.Recalls.{Recalls}
 use Rattle.cb_shared.proofs.Recalled.{recalls_at}
-use Rattle.cb_shared.proofs.recalling.recall_as.Goals as goal
+use Rattle.cb_shared.proofs.recalling.recall_at.Goals as goal
 
 pub load-requires : goal.load-requires
 load-requires g c = let o = c.requires.of in (

@@ -1,7 +1,7 @@
 use Rattle.std.proofs.Common.{arith}
 use Rattle.cb_shared.specs.Turning.{answer_of}
 use Rattle.cb_shared.proofs.LockAlone.{gives_far, gives_lock_at}
-use Rattle.cb_shared.proofs.locking.give_lock_as.Goals as goal
+use Rattle.cb_shared.proofs.locking.give_lock.Goals as goal
 
 pub store-requires : goal.store-requires
 store-requires g c = let o = c.requires.of in let t = c.requires.ends in (

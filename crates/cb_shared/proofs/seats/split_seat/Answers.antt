@@ -2,7 +2,7 @@ use Rattle.std.proofs.Common.{ℕ, [], ap, ◌∙◌, arith}
 use Rattle.cb_rule.specs.Slot.{Sat}
 use Rattle.cb_rule.specs.Steps.{left_of, right_of}
 use Rattle.cb_shared.proofs.SeatsAlone.{splits_at}
-use Rattle.cb_shared.proofs.seats.split_as.Goals as goal
+use Rattle.cb_shared.proofs.seats.split_seat.Goals as goal
 
 pub split_seat-requires : goal.split_seat-requires
 split_seat-requires g c = (

@@ -1,6 +1,6 @@
 use Rattle.std.proofs.Common.{arith}
 use Rattle.cb_shared.proofs.SeatsAlone.{joins_at}
-use Rattle.cb_shared.proofs.seats.join_as.Goals as goal
+use Rattle.cb_shared.proofs.seats.join_seats.Goals as goal
 
 pub join_seat-requires : goal.join_seat-requires
 join_seat-requires g c = let o = c.requires.other in (

@@ -1,6 +1,6 @@
 use Rattle.std.proofs.Common.{refl, lit<}
 use Rattle.cb_shared.specs.Sealing.{sealed}
-use Rattle.cb_shared.proofs.seal.put_as.Goals as goal
+use Rattle.cb_shared.proofs.seal.put.Goals as goal
 
 pub swap-requires : goal.swap-requires
 swap-requires g c = (

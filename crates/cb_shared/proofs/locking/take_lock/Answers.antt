@@ -2,7 +2,7 @@ use Rattle.std.proofs.Common.{◌∙◌, ℕ, sym, subst, arith, eqb-true, eq-eq
 use Rattle.std.proofs.lemmas.Bool.{false≢true}
 use Rattle.cb_rule.specs.LockSteps.{HasTaken}
 use Rattle.cb_shared.proofs.LockAlone.{takes_lock_at}
-use Rattle.cb_shared.proofs.locking.take_lock_as.Goals as goal
+use Rattle.cb_shared.proofs.locking.take_lock.Goals as goal
 
 pub compare_exchange-requires : goal.compare_exchange-requires
 compare_exchange-requires g c = let o = c.requires.of in (
