@@ -6,10 +6,10 @@ ghost use Rattle.cb_world_tests.specs.Callers.{IsCaller};
 use crate::closed::{Ended, close};
 use crate::crew::run_crew;
 use crate::crowd::crowds;
-use crate::making::begun;
+use crate::making::{Way, begun};
 use crate::notes::Note;
 use crate::rounds::Work;
-use crate::tables::{calls, crashes, two_passes, wears};
+use crate::tables::{CALLS, WEARS, crashes, made_and_answered, two_passes};
 use cb_shared::{Pass, Shared};
 use cb_types::{Handle, NoMemory};
 use std::alloc::Global;
@@ -44,9 +44,15 @@ fn done<R: Threads + Wait + Sync>(
 {
     match body {
         Body::TwoPasses => two_passes(rt, alloc, shared, objects, first),
-        Body::Calls => calls(rt, alloc, shared, objects, first),
+        Body::Calls => {
+            let way = Way::Call;
+            made_and_answered(rt, alloc, shared, objects, first, way, &[1u8, 2], 1, &CALLS)
+        }
         Body::Crashes => crashes(rt, alloc, shared, objects, first),
-        Body::Wears => wears(rt, alloc, shared, objects, first),
+        Body::Wears => {
+            let (way, last) = (Way::Turn, u64::MAX - 1);
+            made_and_answered(rt, alloc, shared, objects, first, way, &[1u8], last, &WEARS)
+        }
         Body::Crowds => crowds(rt, alloc, shared, objects, first),
         Body::Crew(work) => run_crew(rt, alloc, shared, objects, first, work, notes),
     }
@@ -103,46 +109,40 @@ fn holds<R: Threads + Wait + Sync>(rt: &R, alloc: Global, body: Body) -> Result<
     held(rt, alloc, shared, first, body)
 }
 
+/// Whether no answer was wrong of any of these.
+fn all_hold<R: Threads + Wait + Sync>(
+    rt: &R,
+    alloc: Global,
+    bodies: &[Body],
+) -> Result<bool, NoMemory> {
+    let mut all = true;
+    for body in bodies {
+        all &= holds(rt, alloc, *body)?;
+    }
+    Ok(all)
+}
+
+/// Two passes by the table; each call that tries again; turns that read back what two crashes left;
+/// the end of the versions; and 64 passes that crowd an object and keep the runtime open.
+const ON_ONE_THREAD: [Body; 5] = [
+    Body::TwoPasses,
+    Body::Calls,
+    Body::Crashes,
+    Body::Wears,
+    Body::Crowds,
+];
+
 #[test]
-fn two_passes_on_one_thread_are_answered_by_the_table(rt: HostRuntime) -> Result<(), Fail> {
-    assert!(rt; matches!(holds(&rt, rt.alloc(), Body::TwoPasses), Ok(true)));
+fn calls_on_one_thread_are_answered_by_the_tables(rt: HostRuntime) -> Result<(), Fail> {
+    assert!(rt; matches!(all_hold(&rt, rt.alloc(), &ON_ONE_THREAD), Ok(true)));
     Ok(())
 }
 
-#[test]
-fn calls_that_try_again_are_answered(rt: HostRuntime) -> Result<(), Fail> {
-    assert!(rt; matches!(holds(&rt, rt.alloc(), Body::Calls), Ok(true)));
-    Ok(())
-}
+/// Pins and writes in place, and calls beside turns that move objects.
+const ON_FOUR_THREADS: [Body; 2] = [Body::Crew(Work::Here), Body::Crew(Work::Far)];
 
 #[test]
-fn turns_read_back_what_two_crashes_left(rt: HostRuntime) -> Result<(), Fail> {
-    assert!(rt; matches!(holds(&rt, rt.alloc(), Body::Crashes), Ok(true)));
-    Ok(())
-}
-
-#[test]
-fn the_last_version_is_worn(rt: HostRuntime) -> Result<(), Fail> {
-    assert!(rt; matches!(holds(&rt, rt.alloc(), Body::Wears), Ok(true)));
-    Ok(())
-}
-
-#[test]
-fn sixty_four_passes_crowd_an_object_and_keep_the_runtime_open(
-    rt: HostRuntime,
-) -> Result<(), Fail> {
-    assert!(rt; matches!(holds(&rt, rt.alloc(), Body::Crowds), Ok(true)));
-    Ok(())
-}
-
-#[test]
-fn four_threads_pin_and_write_one_history(rt: HostRuntime) -> Result<(), Fail> {
-    assert!(rt; matches!(holds(&rt, rt.alloc(), Body::Crew(Work::Here)), Ok(true)));
-    Ok(())
-}
-
-#[test]
-fn four_threads_beside_turns_write_one_history(rt: HostRuntime) -> Result<(), Fail> {
-    assert!(rt; matches!(holds(&rt, rt.alloc(), Body::Crew(Work::Far)), Ok(true)));
+fn four_threads_write_one_history(rt: HostRuntime) -> Result<(), Fail> {
+    assert!(rt; matches!(all_hold(&rt, rt.alloc(), &ON_FOUR_THREADS), Ok(true)));
     Ok(())
 }

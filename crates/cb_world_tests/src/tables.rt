@@ -1,5 +1,5 @@
 //! What is done on one thread: tables of calls and of what they tell.
-ghost use Rattle.std.specs.Prelude.{OnOk};
+ghost use Rattle.std.specs.Prelude.{◌≤◌, length, OnOk};
 ghost use Rattle.cb_world_tests.specs.Callers.{IsCaller};
 
 use crate::asking::{Call, Deed, ask};
@@ -12,7 +12,7 @@ use std::alloc::Global;
 use std::sync::Wait;
 
 /// The number of an object, a call on it, one byte for a write, and what the call is to tell.
-type Line = (usize, Call, u8, Told);
+pub(crate) type Line = (usize, Call, u8, Told);
 
 /// What the second pass sees by its first pin.
 const KEPT: Told = Told::Bytes {
@@ -43,7 +43,7 @@ const AGAIN: [Line; 1] = [(
 )];
 
 /// Calls that try again.
-const CALLS: [Line; 7] = [
+pub(crate) const CALLS: [Line; 7] = [
     (
         0,
         Call::Read,
@@ -100,7 +100,7 @@ const CRASHES: [Line; 6] = [
 ];
 
 /// The end of the versions.
-const WEARS: [Line; 3] = [
+pub(crate) const WEARS: [Line; 3] = [
     (0, Call::WriteHere, 2, Told::Version(u64::MAX)),
     (0, Call::WriteHere, 3, Told::Worn),
     (0, Call::Free, 0, Told::Worn),
@@ -212,19 +212,24 @@ pub(crate) fn two_passes<R: Wait>(
     Ok(is_made && is_right)
 }
 
-/// Each call that tries again.
-pub(crate) fn calls<R: Wait>(
+/// Makes an object; whether it was made at this version, and each line is answered so.
+pub(crate) fn made_and_answered<R: Wait>(
     rt: &R,
     alloc: Global,
     shared: &Shared,
     objects: &mut Vec<Handle>,
     first: &mut Pass,
+    way: Way,
+    bytes: &[u8],
+    wanted: u64,
+    rows: &[Line],
 ) -> Result<bool, NoMemory>
     requires caller { IsCaller shared.now objects.old.items first.old }
+    requires size { (1 ≤ length bytes.now) × (length bytes.now ≤ 1024) }
     ensures caller { OnOk result (IsCaller shared.now objects.new.items first.new) }
 {
-    let is_made = make(rt, alloc, shared, objects, first, Way::Call, &[1u8, 2], 1)?;
-    let is_right = are_answered(rt, alloc, shared, objects.as_slice(), first, &CALLS)?;
+    let is_made = make(rt, alloc, shared, objects, first, way, bytes, wanted)?;
+    let is_right = are_answered(rt, alloc, shared, objects.as_slice(), first, rows)?;
     Ok(is_made && is_right)
 }
 
@@ -240,24 +245,8 @@ pub(crate) fn crashes<R: Wait>(
     ensures caller { OnOk result (IsCaller shared.now objects.new.items first.new) }
 {
     let is_one = make(rt, alloc, shared, objects, first, Way::Turn, &[10u8, 11], 1)?;
-    let is_other = make(rt, alloc, shared, objects, first, Way::Turn, &[12u8], 1)?;
-    let is_right = are_answered(rt, alloc, shared, objects.as_slice(), first, &CRASHES)?;
-    Ok(is_one && is_other && is_right)
-}
-
-/// What the end of the versions is answered.
-pub(crate) fn wears<R: Wait>(
-    rt: &R,
-    alloc: Global,
-    shared: &Shared,
-    objects: &mut Vec<Handle>,
-    first: &mut Pass,
-) -> Result<bool, NoMemory>
-    requires caller { IsCaller shared.now objects.old.items first.old }
-    ensures caller { OnOk result (IsCaller shared.now objects.new.items first.new) }
-{
-    let last = u64::MAX - 1;
-    let is_made = make(rt, alloc, shared, objects, first, Way::Turn, &[1u8], last)?;
-    let is_right = are_answered(rt, alloc, shared, objects.as_slice(), first, &WEARS)?;
-    Ok(is_made && is_right)
+    let bytes = [12u8];
+    let way = Way::Turn;
+    let is_other = made_and_answered(rt, alloc, shared, objects, first, way, &bytes, 1, &CRASHES)?;
+    Ok(is_one && is_other)
 }
