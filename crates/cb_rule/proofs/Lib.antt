@@ -1,55 +1,55 @@
-pub mod Counts
-pub mod Members
-pub mod Growing
-pub mod Histories
-pub mod Keeping
-pub mod Owning
-pub mod Binding
-pub mod Lifting
-pub mod Looking
-pub mod Newest
-pub mod Calm
-pub mod Pinning
+mod Counts
+mod Members
+mod Growing
+mod Histories
+mod Keeping
+mod Owning
+mod Binding
+mod Lifting
+mod Looking
+mod Newest
+mod Calm
+mod Pinning
 mod PinsTold
-pub mod Glancing
-pub mod Peeking
-pub mod Seating
-pub mod Flagging
-pub mod Locking
-pub mod Opening
-pub mod Claiming
-pub mod Storing
-pub mod Settling
-pub mod Settled
-pub mod Acting
-pub mod Others
-pub mod Own
-pub mod Allowing
-pub mod Taking
-pub mod Giving
-pub mod Promising
-pub mod OwnStanding
-pub mod Turns
-pub mod Told
-pub mod Showing
-pub mod Lone
-pub mod ClosedWorld
-pub mod ShownWorld
-pub mod Closing
+mod Glancing
+mod Peeking
+mod Seating
+mod Flagging
+mod Locking
+mod Opening
+mod Claiming
+mod Storing
+mod Settling
+mod Settled
+mod Acting
+mod Others
+mod Own
+mod Allowing
+mod Taking
+mod Giving
+mod Promising
+mod OwnStanding
+mod Turns
+mod Told
+mod Showing
+mod Lone
+mod ClosedWorld
+mod ShownWorld
+mod Closing
 pub mod Laws
-pub mod WorkedHistory
-pub mod WorkedViews
-pub mod WorkedStands
-pub mod WorkedClaims
-pub mod WorkedPromise
-pub mod WorkedLocking
-pub mod WorkedTurns
-pub mod WorkedTold
-pub mod WorkedOwn
-pub mod WorkedOwnStands
-pub mod WorkedClosing
-pub mod WorkedShown
-pub mod WorkedLast
-pub mod WorkedRecords
-pub mod WorkedSteps
-pub mod WorkedRule
+mod WorkedHistory
+mod WorkedViews
+mod WorkedStands
+mod WorkedClaims
+mod WorkedPromise
+mod WorkedLocking
+mod WorkedTurns
+mod WorkedTold
+mod WorkedOwn
+mod WorkedOwnStands
+mod WorkedClosing
+mod WorkedShown
+mod WorkedLast
+mod WorkedRecords
+mod WorkedSteps
+mod WorkedRule

@@ -1,55 +1,55 @@
-pub mod Alone
-pub mod Rows
-pub mod Resting
-pub mod Unpinned
-pub mod PinsAlone
-pub mod SeatsAlone
-pub mod OwnAlone
-pub mod Only
-pub mod Parting
-pub mod Begun
-pub mod WriteSteps
-pub mod WholeWord
-pub mod ReadBytes
-pub mod ReadSteps
-pub mod Tallying
-pub mod FirstPin
-pub mod MadeFirst
-pub mod Recalled
-pub mod Rights
-pub mod AfterTurn
-pub mod Mapped
-pub mod Turns
-pub mod LockAlone
-pub mod ReadParts
-pub mod Bringing
-pub mod PinsCounted
-pub mod ReadTurns
-pub mod TurnEnds
-pub mod ReadKept
-pub mod CallSteps
-pub mod WriteParts
-pub mod WorkedGround
-pub mod WorkedRights
-pub mod WorkedPins
-pub mod WorkedWrites
-pub mod WorkedSteps
-pub mod WorkedPasses
-pub mod Filled
-pub mod Closes
-pub mod WorkedClosing
-pub mod WorkedTurns
-pub mod WorkedUnder
-pub mod WorkedSeat
-pub mod WorkedWork
-pub mod WorkedTurned
-pub mod WorkedBrought
-pub mod WorkedReads
-pub mod WorkedFinds
-pub mod WorkedCalls
-pub mod WorkedTries
-pub mod WorkedMaking
-pub mod WorkedReplies
-pub mod WorkedAdds
-pub mod WorkedRecalls
+mod Alone
+mod Rows
+mod Resting
+mod Unpinned
+mod PinsAlone
+mod SeatsAlone
+mod OwnAlone
+mod Only
+mod Parting
+mod Begun
+mod WriteSteps
+mod WholeWord
+mod ReadBytes
+mod ReadSteps
+mod Tallying
+mod FirstPin
+mod MadeFirst
+mod Recalled
+mod Rights
+mod AfterTurn
+mod Mapped
+mod Turns
+mod LockAlone
+mod ReadParts
+mod Bringing
+mod PinsCounted
+mod ReadTurns
+mod TurnEnds
+mod ReadKept
+mod CallSteps
+mod WriteParts
+mod WorkedGround
+mod WorkedRights
+mod WorkedPins
+mod WorkedWrites
+mod WorkedSteps
+mod WorkedPasses
+mod Filled
+mod Closes
+mod WorkedClosing
+mod WorkedTurns
+mod WorkedUnder
+mod WorkedSeat
+mod WorkedWork
+mod WorkedTurned
+mod WorkedBrought
+mod WorkedReads
+mod WorkedFinds
+mod WorkedCalls
+mod WorkedTries
+mod WorkedMaking
+mod WorkedReplies
+mod WorkedAdds
+mod WorkedRecalls
 pub mod Laws

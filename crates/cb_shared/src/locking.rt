@@ -10,9 +10,9 @@ use crate::board::{Place, Top};
 use crate::plays::{Deed, GiveLock, Opening, TakeLock};
 use cb_types::{Config, Job, NoMemory, Reply};
 use cb_world::Far;
-use std::hint;
 use std::marker::Brand;
 use std::sync::Wait;
+use std::{hint, mem};
 
 /// How often a pass looks at the lock before it sleeps until the lock is given back. A short turn
 /// is over by then; a pass that waits for a long one leaves its processor to the others.
@@ -88,24 +88,14 @@ fn take_far(top: &Top, seat: &mut Place, config: &Config, word: u64) -> Option<F
         → seat.new.me.0.known.first ≡ top.now.key.first }
     ensures lost { result ≡ None → Moves seat.old seat.new seat.old.me.0 }
 {
-    if !take_lock(top, seat, config, word) {
+    if !take_lock::<Brand>(top, seat, config, word) {
         return None;
     }
     Some(take_out(top, seat))
 }
 
 /// Takes the lock if its word is this one.
-fn take_lock(top: &Top, seat: &mut Place, config: &Config, word: u64) -> bool
-    requires of { IsOf top.now.table_id top.now.key config.now seat.old }
-    requires even { word % 2 ≡ 0 }
-    ensures won { result ≡ true → TakesLock word seat.old seat.new }
-    ensures first { result ≡ true → seat.new.me.0.known.first ≡ top.now.key.first }
-    ensures lost { result ≡ false → Moves seat.old seat.new seat.old.me.0 }
-{
-    take_lock_as::<Brand>(top, seat, config, word)
-}
-
-fn take_lock_as<W: Opening>(top: &Top, seat: &mut Place, config: &Config, word: u64) -> bool
+fn take_lock<W: Opening>(top: &Top, seat: &mut Place, config: &Config, word: u64) -> bool
     requires of { IsOf top.now.table_id top.now.key config.now seat.old }
     requires picks { W.first ≡ top.now.key.first }
     requires even { word % 2 ≡ 0 }
@@ -155,31 +145,14 @@ pub(crate) fn give_far(
     ensures { GivesFar config.now job.now (answer_of reply.now) far seat.old seat.new }
 {
     let word = 2 * turns_of(&far);
-    top.exchange(seat, 0, Some(far));
-    give_lock(top, seat, config, job, reply, word);
+    // The slot was empty, so that there is nothing to drop.
+    mem::forget(top.exchange(seat, 0, Some(far)));
+    give_lock::<Brand>(top, seat, config, job, reply, word);
     top.wake_one(0);
 }
 
 /// Gives the lock back.
-fn give_lock(
-    top: &Top,
-    seat: &mut Place,
-    config: &Config,
-    job: &Job,
-    reply: &Result<Reply, NoMemory>,
-    word: u64,
-)
-    requires of { IsOf top.now.table_id top.now.key config.now seat.old }
-    requires ends { (far : FarState) × (seat.old.me.1 ≡ (0, Some far) ∷ [])
-        × IsEnding config.now job.now (answer_of reply.now) far seat.old.me.0
-        × (word ≡ 2 * far.counts.turns) }
-    ensures { (far : FarState) → seat.old.me.1 ≡ (0, Some far) ∷ []
-        → GivesFar config.now job.now (answer_of reply.now) far seat.old seat.new }
-{
-    give_lock_as::<Brand>(top, seat, config, job, reply, word);
-}
-
-fn give_lock_as<W: Deed>(
+fn give_lock<W: Deed>(
     top: &Top,
     seat: &mut Place,
     config: &Config,

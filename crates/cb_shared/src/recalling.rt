@@ -21,20 +21,12 @@ impl Shared {
         ensures same { record_of pass.new ≡ record_of pass.old }
         ensures own { Recalls (first_version_of self.now) (record_of pass.new) }
     {
-        recall_at(&self.board.shared, &mut pass.seat, &self.config);
+        recall_at::<Brand>(&self.board.shared, &mut pass.seat, &self.config);
     }
 }
 
 /// A look that tells what the record has of its own objects.
-fn recall_at(top: &Top, seat: &mut Place, config: &Config)
-    requires of { IsOf top.now.table_id top.now.key config.now seat.old }
-    ensures same { Moves seat.old seat.new seat.old.me.0 }
-    ensures own { Recalls top.now.key.first seat.old.me.0 }
-{
-    recall_as::<Brand>(top, seat, config);
-}
-
-fn recall_as<W: Opening>(top: &Top, seat: &mut Place, config: &Config)
+fn recall_at<W: Opening>(top: &Top, seat: &mut Place, config: &Config)
     requires of { IsOf top.now.table_id top.now.key config.now seat.old }
     requires picks { W.first ≡ top.now.key.first }
     ensures same { Moves seat.old seat.new seat.old.me.0 }

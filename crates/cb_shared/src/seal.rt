@@ -72,7 +72,7 @@ impl Draft {
     {
         let (bench, mark) = Bench::new(seat, 0);
         let mut draft = Draft { bench, mark };
-        put_view(&mut draft, seat);
+        put::<Brand, Place>(&mut draft, seat);
         draft
     }
 
@@ -81,28 +81,16 @@ impl Draft {
         ensures { result.mark.view ≡ sealed world.now self.mark.view.view }
     {
         let mut draft = self;
-        put_world(&mut draft, world);
+        put::<Brand, World>(&mut draft, world);
         let Draft { bench: _, mark } = draft;
         Seal { mark }
     }
 }
 
 /// Puts what the call picked under the seal, by something that it was told.
-fn put_as<W: UnderSeal, T>(draft: &mut Draft, told: &T)
+fn put<W: UnderSeal, T>(draft: &mut Draft, told: &T)
     ensures { draft.new.mark.view ≡ sealed W.world W.view }
 {
     let _told = told;
     draft.bench.swap::<Puts<W>>(&mut draft.mark, 0);
-}
-
-fn put_view(draft: &mut Draft, seat: &Place)
-    ensures { draft.new.mark.view ≡ sealed draft.old.mark.view.world seat.now.me.0 }
-{
-    put_as::<Brand, Place>(draft, seat)
-}
-
-fn put_world(draft: &mut Draft, world: &World)
-    ensures { draft.new.mark.view ≡ sealed world.now draft.old.mark.view.view }
-{
-    put_as::<Brand, World>(draft, world)
 }

@@ -65,12 +65,12 @@ fn split_off(top: &Top, pass: &mut Pass, config: &Config, share: u32) -> Place
     ensures right { (result.table_id ≡ pass.old.seat.table_id)
         × (result.me ≡ (right_of share pass.old.seat.me.0, [])) }
 {
-    let seat = split_seat(top, &mut pass.seat, config, share);
+    let seat = split_seat::<Brand>(top, &mut pass.seat, config, share);
     pass.share -= share;
     seat
 }
 
-fn split_as<W: Given>(top: &Top, seat: &mut Place, config: &Config, share: u32) -> Place
+fn split_seat<W: Given>(top: &Top, seat: &mut Place, config: &Config, share: u32) -> Place
     requires of { IsOf top.now.table_id top.now.key config.now seat.old }
     requires picks { W.share ≡ share }
     requires share { (1 ≤ share) × (share < seat.old.me.0.share) }
@@ -82,17 +82,6 @@ fn split_as<W: Given>(top: &Top, seat: &mut Place, config: &Config, share: u32) 
     let _share = share;
     let _config = config;
     top.split_seat::<Cut<W>>(seat)
-}
-
-fn split_seat(top: &Top, seat: &mut Place, config: &Config, share: u32) -> Place
-    requires of { IsOf top.now.table_id top.now.key config.now seat.old }
-    requires share { (1 ≤ share) × (share < seat.old.me.0.share) }
-    requires fresh { seat.old.me.0.fresh ≡ [] }
-    ensures left { Moves seat.old seat.new (left_of share seat.old.me.0) }
-    ensures right { (result.table_id ≡ seat.old.table_id)
-        × (result.me ≡ (right_of share seat.old.me.0, [])) }
-{
-    split_as::<Brand>(top, seat, config, share)
 }
 
 /// Gives all pins of a pass back.
@@ -140,7 +129,7 @@ fn join_in(
         (joined pass.old.seat.me.0 other.me.0) }
     ensures most { pass.new.seat.me.0.share ≤ 64 }
 {
-    join_seats(top, &mut pass.seat, other, config);
+    join_seats::<Brand>(top, &mut pass.seat, other, config);
     pass.share += share;
     pass.tries = tries.or(pass.tries);
     tally(top, &mut pass.seat, config);
@@ -156,7 +145,7 @@ fn tally(top: &Top, seat: &mut Place, config: &Config)
     top.load::<Tally>(seat, 0);
 }
 
-fn join_as<W: Keyed>(top: &Top, seat: &mut Place, other: Place, config: &Config)
+fn join_seats<W: Keyed>(top: &Top, seat: &mut Place, other: Place, config: &Config)
     requires of { IsOf top.now.table_id top.now.key config.now seat.old }
     requires picks { W.key ≡ config.now }
     requires other { IsSpare top.now.table_id other }
@@ -165,13 +154,4 @@ fn join_as<W: Keyed>(top: &Top, seat: &mut Place, other: Place, config: &Config)
 {
     let _config = config;
     top.join_seat::<Glue<W>>(seat, other)
-}
-
-fn join_seats(top: &Top, seat: &mut Place, other: Place, config: &Config)
-    requires of { IsOf top.now.table_id top.now.key config.now seat.old }
-    requires other { IsSpare top.now.table_id other }
-    requires fresh { seat.old.me.0.fresh ≡ [] }
-    ensures { Moves seat.old seat.new (joined seat.old.me.0 other.me.0) }
-{
-    join_as::<Brand>(top, seat, other, config)
 }

@@ -1,2 +1,0 @@
-pub mod ScrubbedWorld
-mod WorkedShards

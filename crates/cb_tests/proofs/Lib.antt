@@ -1,2 +1,0 @@
-pub mod AllEvents
-mod WorkedSmall

@@ -1,0 +1,178 @@
+ghost use Rattle.std.specs.Prelude.{◌≡◌, ◌+◌, ◌*◌, ◌^◌, ◌<◌, ◌≤◌, IfOk, IfSome, IsTrue};
+ghost use Rattle.cb_world.specs.Sound.{Sound};
+ghost use Rattle.cb_world.specs.World.{IsSoundWorld};
+ghost use Rattle.cb_world.specs.declared.shown.Shown.{Shown};
+ghost use Rattle.cb_scrub_world.specs.Scrub.{MayScrub};
+ghost use Rattle.cb_scrub_world.specs.Spoilt.{IsSoundAgain, IsSpoilt};
+ghost use Rattle.cb_scrub_world.specs.Standing.{RowStands};
+ghost use Rattle.cb_world_tests.specs.Shards.{IsFirstSets};
+
+use crate::objects::shows;
+use cb_core::{Event, step};
+use cb_lanes::{Side, run_lines};
+use cb_member::Shard;
+use cb_script::{Mode, read_script};
+use cb_scrub::Found;
+use cb_scrub_world::{Scrubbed, scrub_next};
+use cb_set::is_lost;
+use cb_types::{Handle, Job};
+use cb_world::{Desk, Far, World};
+use std::alloc::Global;
+use std::test::Fail;
+
+/// Two objects, of two bytes and of 17, leave as the data positions 0 and 1 of a set.
+const SCRIPT: &[u8] = b"carbink 1 k=2 r=2 nodes=6 frames=8 room=64 handles=2 turns=0\n\
+    1 make a 0a0b\n1 make b 0c0c0c0c0c0c0c0c0c0c0c0c0c0c0c0c0c\n1 evict\n";
+
+/// The world that the lines of a script lead to.
+pub(crate) fn world_of(alloc: Global, text: &[u8]) -> Result<World, Fail>
+    ensures { IfOk result IsSoundWorld }
+{
+    let Ok(script) = read_script(alloc, text, Mode::Seq) else {
+        return Err(Fail::from("no script"));
+    };
+    let end = run_lines(alloc, &script, Side::Nodes)?;
+    Ok(end.world)
+}
+
+/// The shard of a position of the first set, where the set has two parities or more and the shard
+/// is not lost.
+fn kept_shard(far: &Far, position: u32) -> Option<Shard>
+    requires { MayScrub far.now }
+    ensures stands { IfSome result (RowStands far.now.nodes) }
+    ensures shard { IfSome result (IsFirstSets far.now position) }
+{
+    let set = far.sets.committed(0)?;
+    if set.r() < 2 || position >= set.k() + set.r() {
+        return None;
+    }
+    let shard = set.shard(position);
+    if is_lost(&far.members, shard) {
+        return None;
+    }
+    Some(shard)
+}
+
+/// Adds 5 to the first byte of the row of a position of the first set.
+fn spoil(far: &mut Far, position: u32) -> bool
+    requires { MayScrub far.old }
+    ensures may { MayScrub far.new }
+    ensures given { far.new.nodes.given ≡ far.old.nodes.given }
+    ensures spoilt { IsTrue result → IsSpoilt far.old 0 far.new }
+{
+    let Some(shard) = kept_shard(far, position) else {
+        return false;
+    };
+    far.nodes.spoil(shard.node, shard.key, 0, 5);
+    true
+}
+
+/// Whether this is what a scrub of the set whose row is spoilt answers.
+fn tells_the_row(scrubbed: Scrubbed) -> bool
+    ensures { IsTrue result → scrubbed ≡ Scrubbed.Set (record { n = 0 }) (Found.One 1) }
+{
+    match scrubbed {
+        Scrubbed::Set {
+            set,
+            found: Found::One { position },
+        } => set.n == 0 && position == 1,
+        _ => false,
+    }
+}
+
+/// Spoils the row of position 1 of the first set, and scrubs the set.
+fn spoil_and_scrub(alloc: Global, far: &mut Far) -> Result<(), Fail>
+    requires may { MayScrub far.old }
+    requires given { far.old.nodes.given < 2 ^ 61 }
+    ensures may { MayScrub far.new }
+    ensures given { far.new.nodes.given ≤ far.old.nodes.given + 20 }
+    ensures sound { IfOk result (λ _. (s : Shown) → Sound s far.old → IsSoundAgain s far.old far.new) }
+{
+    if !spoil(far, 1) {
+        return Err(Fail::from("no row"));
+    }
+    let scrubbed = scrub_next(alloc, far, None)?;
+    if !tells_the_row(scrubbed) {
+        return Err(Fail::from("another finding"));
+    }
+    Ok(())
+}
+
+/// Whether few rows were given out for the turns that were counted.
+fn few_were_given(far: &Far) -> bool
+    ensures { IsTrue result
+        → (far.now.nodes.given + 40 ≤ 2 ^ 20) × (1 ≤ far.now.counts.turns) }
+{
+    far.nodes.given() <= 1_000_000 && far.counts.turns >= 1
+}
+
+/// Spoils the row, and scrubs the set twice; whether it is clean at last.
+fn scrub_twice(alloc: Global, far: &mut Far) -> Result<bool, Fail>
+    requires may { MayScrub far.old }
+    ensures given { IfOk result (λ _. far.new.nodes.given ≤ 2 ^ 20 * far.old.counts.turns) }
+    ensures sound { IfOk result (λ _. (s : Shown) → Sound s far.old → IsSoundAgain s far.old far.new) }
+{
+    if !few_were_given(far) {
+        return Err(Fail::from("too many rows were given out"));
+    }
+    spoil_and_scrub(alloc, far)?;
+    let scrubbed = scrub_next(alloc, far, None)?;
+    Ok(matches!(
+        scrubbed,
+        Scrubbed::Set {
+            found: Found::Clean,
+            ..
+        }
+    ))
+}
+
+/// The same in a world, which is sound again.
+fn scrub_world(alloc: Global, world: &mut World) -> Result<bool, Fail>
+    requires { IsSoundWorld world.old }
+    ensures { IfOk result (λ _. IsSoundWorld world.new) }
+{
+    scrub_twice(alloc, &mut world.far)
+}
+
+/// Whether the core's read of an object, which brings it in where it is far, shows these bytes.
+fn reads(alloc: Global, world: &mut World, handle: Handle, wanted: &[u8]) -> Result<bool, Fail>
+    requires { IsSoundWorld world.old }
+    ensures { IsSoundWorld world.new }
+{
+    if handle.n >= world.desk.config().handles {
+        return Ok(false);
+    }
+    let job = Job::Read { handle };
+    let reply = step(alloc, world, &Event::Turn { seat: 0, job })?;
+    Ok(shows(&reply, wanted))
+}
+
+/// Whether both objects have their bytes.
+fn both_read(alloc: Global, world: &mut World) -> Result<bool, Fail>
+    requires { IsSoundWorld world.old }
+{
+    let first = reads(alloc, world, Handle { n: 0 }, &[0x0a, 0x0b])?;
+    let second = reads(alloc, world, Handle { n: 1 }, &[0x0c; 17])?;
+    Ok(first && second)
+}
+
+/// Whether the set is clean and both objects have their bytes, once a row was spoilt and scrubbed.
+fn reads_as_before(alloc: Global, world: &mut World) -> Result<bool, Fail>
+    requires { IsSoundWorld world.old }
+{
+    let clean = scrub_world(alloc, world)?;
+    let read = both_read(alloc, world)?;
+    Ok(clean && read)
+}
+
+/// The same in the world of the script.
+fn holds(alloc: Global) -> Result<bool, Fail> {
+    let mut world = world_of(alloc, SCRIPT)?;
+    reads_as_before(alloc, &mut world)
+}
+
+#[test]
+fn a_spoilt_row_is_made_right_and_the_core_reads_both_objects(rt: HostRuntime) -> Result<(), Fail> {
+    assert!(rt; holds(rt.alloc())?);
+    Ok(())
+}
