@@ -3,8 +3,6 @@ pub mod Recounting
 pub mod LineKeeps
 pub mod Lone
 pub mod LooseSpans
-pub mod RowsBeside
-pub mod RoomBeside
 pub mod EasyLines
 pub mod CalmLines
 pub mod Stamps
