@@ -182,7 +182,7 @@ module _ (h at : ℕ) (bytes : List ℕ) (r : Reply) (of_word : IsOfWord r) wher
   where_in c a b (stays_far m n x look bring never) = absurd (bring_none c n b bring)
   where_in c a b (brought m n o f x look bring y) = write_in o b y
 
-  turned_in : (c : Config) (a b : Hold)
+  pub turned_in : (c : Config) (a b : Hold)
       → Turned slate_run slate_shows ReadsByPin c (job.Write (the_handle h) at bytes) a r b
       → FoundIn b.desk.acts
   turned_in c a b (worn end e same ran) = absurd (not_so answer.Worn e (λ z. z))
