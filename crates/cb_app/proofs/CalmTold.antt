@@ -27,7 +27,7 @@ use Rattle.cb_script.specs.Form.{AreLines}
 use Rattle.cb_script.specs.Roomy.{IsRoomy}
 use Rattle.cb_world.specs.Choices.{room_count}
 use Rattle.cb_world.specs.FarState.{FarState}
-use Rattle.cb_core.proofs.Laws.{CrashedAmong}
+use Rattle.cb_core.proofs.Laws.{CrashedAmong, enough_beside}
 use Rattle.cb_rule.specs.declared.turn.Turn.{Turn}
 use Rattle.cb_rule.specs.declared.view.View.{View}
 use Rattle.cb_rule.specs.Lists.{Has}
@@ -44,7 +44,7 @@ use Rattle.cb_lanes.specs.AloneUntil.{is_lack}
 use Rattle.cb_lanes.specs.Asked.{HasLineReply, asked}
 use Rattle.cb_lanes.specs.LastTries.{HasLastTry, IsLastTry}
 use Rattle.cb_lanes.specs.Lost.{losses_of}
-use Rattle.cb_lanes.proofs.Laws.{crashed_count, crashed_nodes, enough_beside}
+use Rattle.cb_lanes.proofs.Laws.{crashed_count, crashed_nodes}
 use Rattle.cb_app.specs.ByLane.{by_lane}
 use Rattle.cb_app.specs.Calm.{IsCalmTo, MayFindMoving}
 use Rattle.cb_app.specs.Crew.{part_of}

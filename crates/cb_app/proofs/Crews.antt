@@ -1,11 +1,10 @@
 -- What lanes and workers leave, one after the other.
 use Rattle.std.proofs.Common.{◌≡◌, ℕ, suc, Bool, true, false, ◌+◌, ◌-◌, ◌<◌, ◌≤◌, List, [], ◌∷◌, ◌++◌, length, map, inl, inr, refl, sym, ap, ◌∙◌, subst, append_assoc, arith}
-use Rattle.std.specs.Prelude.{All, IfOk, nat_eq, slice_index_or}
+use Rattle.std.specs.Prelude.{All, nat_eq, slice_index_or}
 use Rattle.std.specs.List.{AllByRecursion}
 use Rattle.std.proofs.lemmas.Bool.{cases_Bool}
 use Rattle.std.proofs.lemmas.List.{append-nil, map-append}
 use Rattle.std.proofs.lemmas.List.Elements.{All-head, All-nil, All-push, All-tail}
-use Rattle.std.proofs.lemmas.Result.{IfOk-weaker}
 use Rattle.cb_types.specs.declared.answer.Answer.{Answer}
 use Rattle.cb_types.specs.declared.handle.Lane.{Lane as Lane'}
 use Rattle.cb_script.specs.declared.script.Line.{Line}
@@ -438,11 +437,6 @@ pub others_ended : (s : Shared) (lines : List Line) (given : List Answer) (left 
     → All (IsEnded s lines given) later
 others_ended s lines given left e later all is =
     All-tail (IsEnded s lines given) e later (subst (All (IsEnded s lines given)) is all)
-
-pub ended_pass : (s : Shared) (lines : List Line) (given : List Answer) (e : Ended) → IsEnded s lines given e
-    → IfOk e.left (λ told. IsPassOf s told.end.pass)
-ended_pass s lines given e ended =
-    IfOk-weaker e.left (λ t. IsLaneTold s given (lines_left lines e) t.end) (λ t. IsPassOf s t.end.pass) (λ t told. told.of) ended
 
 pub first_apart : (s : Shared) (lines : List Line) (given : List Answer) (all left : List Ended) (e : Ended)
     (later : List Ended) (first : LaneEnd) → (t : IsTaking s lines given all left first) → left ≡ e ∷ later

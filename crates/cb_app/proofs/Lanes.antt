@@ -1,10 +1,9 @@
 -- The lines of a lane, and that a name that one lane made and uses was made by no other.
-use Rattle.std.proofs.Common.{◌≡◌, ℕ, zero, suc, ◌+◌, ◌<◌, ◌≤◌, Bool, cond, List, [], ◌∷◌, ◌++◌, length, get_or, take, ◌⊎◌, inl, inr, true, sym, ap, ◌∙◌, subst, append_assoc, arith}
+use Rattle.std.proofs.Common.{◌≡◌, ℕ, zero, suc, ◌+◌, ◌≤◌, Bool, cond, List, [], ◌∷◌, ◌++◌, ◌⊎◌, inl, inr, true, sym, ap, ◌∙◌, subst, append_assoc, arith}
 use Rattle.std.specs.Prelude.{nat_eq}
 use Rattle.std.specs.List.{AllByRecursion}
 use Rattle.std.proofs.lemmas.Bool.{cases_Bool}
 use Rattle.std.proofs.lemmas.List.{append-nil}
-use Rattle.std.proofs.lemmas.List.Elements.{filter_more}
 use Rattle.cb_types.specs.declared.request.Request.{Request}
 use Rattle.cb_types.specs.declared.request.Request.TheVariants.{Make, Read, Write, Free, Pin, Peek, Unpin, Filter}
 use Rattle.cb_script.specs.declared.script.Line.{Line}
@@ -29,14 +28,6 @@ made_in_front (x ∷ xs) ys lane name (inl here) = inl here
 made_in_front (x ∷ xs) ys lane name (inr later) = inr (made_in_front xs ys lane name later)
 
 -- ---- one lane
-
--- one more line adds itself, where it is of the lane
-pub of_lane_more : (n : ℕ) (lines : List Line) (i : ℕ) (l d : Line) → i < length lines
-    → l ≡ get_or lines i d
-    → of_lane n (take (i + 1) lines)
-    ≡ of_lane n (take i lines) ++ cond (nat_eq l.lane.n n) (l ∷ []) []
-of_lane_more n lines i l d within is = filter_more (λ x. nat_eq x.lane.n n) lines i d within
-    ∙ ap (λ (b : Line). of_lane n (take i lines) ++ cond (nat_eq b.lane.n n) (b ∷ []) []) (sym is)
 
 one_lane : (lane : ℕ) (l : Line) → nat_eq l.lane.n lane ≡ true → l.lane.n ≡ lane
 one_lane lane l is = grind (arith, is)

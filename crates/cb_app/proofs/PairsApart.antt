@@ -7,13 +7,13 @@ use Rattle.cb_types.specs.Config.{IsAccepted}
 use Rattle.cb_world.specs.Empty.{empty_far}
 use Rattle.cb_world.specs.FarState.{FarState}
 use Rattle.cb_world.specs.Joining.{JoiningState}
+use Rattle.cb_core.proofs.Laws.{JoinsApart}
 use Rattle.cb_rule.specs.declared.turn.Turn.{Turn}
 use Rattle.cb_rule.specs.declared.view.View.{View}
 use Rattle.cb_rule.specs.Lists.{Has}
 use Rattle.cb_rule.specs.Locking.{turn_number}
 use Rattle.cb_rule.specs.OneHistory.{IsOneHistory}
 use Rattle.cb_shared.specs.Turning.{Did}
-use Rattle.cb_lanes.proofs.Laws.{JoinsApart}
 use Rattle.cb_app.proofs.PairGoes.{AreSetsApart, PairGoes}
 use Rattle.cb_app.proofs.TurnHistory.{at_turn, each_goes, fine_of}
 

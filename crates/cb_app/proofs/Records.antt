@@ -2,8 +2,7 @@
 use Rattle.std.proofs.Common.{◌≡◌, ℕ, ◌+◌, ◌<◌, Bool, true, false, if◌then◌else◌, List, [], ◌∷◌, ◌++◌, length, get_or, take, map, Option, Some, None, inl, inr, refl, sym, ap, ◌∙◌, subst}
 use Rattle.std.specs.List.{AllByRecursion, cons_option, flat_map}
 use Rattle.std.specs.Str.{bytes_eq}
-use Rattle.std.proofs.lemmas.Grind.{flat_map-append}
-use Rattle.std.proofs.lemmas.List.{append-nil, take_more}
+use Rattle.std.proofs.lemmas.List.{take_more}
 use Rattle.std.proofs.lemmas.List.Elements.{filter_map-append}
 use Rattle.cb_types.specs.declared.answer.Answer.{Answer}
 use Rattle.cb_types.specs.declared.config.Config.{Config}
@@ -262,16 +261,7 @@ names_are [] name = refl
 names_are (a ∷ later) name =
     names_of_one a.request a.reply (names_in later) later name (names_are later name)
 
--- one more answer adds the name that it made, and the loss that it tells
-pub names_more : (answers : List Answer) (i : ℕ) (a d : Answer) → i < length answers
-    → a ≡ get_or answers i d
-    → names_in (take i answers) ++ name_made a.request a.reply ≡ names_in (take (i + 1) answers)
-names_more answers i a d within is =
-    let made = λ (b : Answer). name_made b.request b.reply in
-    let longer = take_more answers i d within ∙ ap (λ (b : Answer). take i answers ++ b ∷ []) (sym is) in
-    sym (ap names_in longer ∙ flat_map-append made (take i answers) (a ∷ [])
-    ∙ ap (λ (l : List Named). names_in (take i answers) ++ l) (append-nil (made a)))
-
+-- one more answer adds the loss that it tells
 pub losses_more : (answers : List Answer) (i : ℕ) (a d : Answer) → i < length answers
     → a ≡ get_or answers i d
     → losses_of (take i answers) ++ cons_option (loss_of a.request a.reply) []

@@ -106,10 +106,3 @@ tolds_apart given others after apart =
     ap (λ (bs : List Answer). tolds (given ++ bs) after) (sym (append-nil others))
     ∙ tolds_beside given others [] after apart
     ∙ ap (λ (bs : List Answer). tolds bs after) (append-nil given)
-
-pub tolds-append : (before xs ys : List Answer)
-    → tolds before (xs ++ ys) ≡ tolds before xs ++ tolds (before ++ xs) ys
-tolds-append before [] ys = ap (λ (bs : List Answer). tolds bs ys) (sym (append-nil before))
-tolds-append before (x ∷ xs) ys =
-    ap (λ (ts : List Told). told before x ∷ ts) (tolds-append (before ++ x ∷ []) xs ys
-    ∙ ap (λ (bs : List Answer). tolds (before ++ x ∷ []) xs ++ tolds bs ys) (append_assoc before (x ∷ []) xs))

@@ -53,13 +53,6 @@ any_at p (y ∷ xs) zero x none below at = ap p at ∙ (or_false (p y) (list_any
 any_at p (y ∷ xs) (suc i) x none below at =
     any_at p xs i x (or_false (p y) (list_any p xs) none).1 (omega (arith, below)) at
 
-any_more : {X : Type 0} (p : X → Bool) (xs : List X) (i : ℕ) → list_any p (take i xs) ≡ true
-    → list_any p xs ≡ true
-any_more p xs i some = elim (cases_Bool (list_any p xs)) [
-  | inl e ↦ e
-  | inr e ↦ absurd (true≢false (sym some ∙ any_front p xs i e))
-]
-
 -- ---- who makes a name
 
 makes_it : (name : List ℕ) (request : Request) → MakesName request name → makes_named name request ≡ true

@@ -17,11 +17,11 @@ use Rattle.cb_world.specs.World.{WorldState, empty_world}
 use Rattle.cb_world.proofs.Laws.{seat_beside}
 use Rattle.cb_core.specs.Pinning.{PinStep, UnpinStep, given, not_pinned, refused, scope_full, taken}
 use Rattle.cb_core.proofs.Laws.{CrashedAmong, IsIdle, IsWholeJob, NamesAmong, none_crashed, pin_far, turn_crashed, turn_idle, unpin_far}
-use Rattle.cb_lanes.specs.GivingBack.{GivesAll, Rests}
+use Rattle.cb_lanes.specs.GivingBack.{Rests}
 use Rattle.cb_lanes.specs.LineGoes.{job_of}
 use Rattle.cb_lanes.specs.LineStep.{LineStep}
 use Rattle.cb_lanes.specs.declared.side.Side.{Side}
-use Rattle.cb_lanes.proofs.LineKeeps.{IsKeptByTurns, IsObjectJob, MayBe, all_kept, line_kept, rests_kept}
+use Rattle.cb_lanes.proofs.LineKeeps.{IsKeptByTurns, IsObjectJob, MayBe, line_kept, rests_kept}
 use Rattle.cb_lanes.proofs.Lone.{turn_seats}
 use Rattle.cb_lanes.proofs.LooseSpans.{NoClaims}
 
@@ -148,10 +148,6 @@ line_at_rest nodes side seat handle request w new r easy =
 pub rests_at_rest : (nodes : List ℕ) (left seat : ℕ) (w new : WorldState) → Rests left seat w new
     → IsIdleAmong nodes w → IsIdleAmong nodes new
 rests_at_rest nodes = rests_kept (IsIdleAmong nodes) (IsEasyJob nodes) (rest_kept nodes)
-
-pub all_at_rest : (nodes : List ℕ) (seat : ℕ) (w new : WorldState) → GivesAll seat w new
-    → IsIdleAmong nodes w → IsIdleAmong nodes new
-all_at_rest nodes = all_kept (IsIdleAmong nodes) (IsEasyJob nodes) (rest_kept nodes)
 
 -- so it is at first
 pub empty_at_rest : (nodes : List ℕ) (c : Config) → IsIdleAmong nodes (empty_world c)

@@ -1,12 +1,11 @@
 -- The names that are kept.
-use Rattle.std.proofs.Common.{◌≡◌, ℕ, ◌<◌, Bool, true, false, cond, List, Option, Some, None, refl, sym, ap, ◌∙◌, subst}
+use Rattle.std.proofs.Common.{◌≡◌, ℕ, ◌<◌, Bool, true, false, cond, List, Option, Some, None, sym, ap, ◌∙◌, subst}
 use Rattle.std.specs.Option.{option_map}
 use Rattle.std.specs.HashMap.{UpdatesBy}
 use Rattle.std.specs.Str.{bytes_eq}
 use Rattle.std.proofs.lemmas.Map.Text.{hash_map_updates_str}
 use Rattle.cb_types.specs.declared.handle.Handle.{Handle}
 use Rattle.cb_types.specs.declared.request.Request.TheVariants.{Make}
-use Rattle.cb_types.specs.declared.reply.Reply.{Reply}
 use Rattle.cb_types.specs.declared.reply.Reply.TheVariants as reply
 use Rattle.cb_lanes.specs.Names.{Names, kept_handle, kept_number, handle_at, AreKept, AreNamed}
 use Rattle.cb_lanes.specs.MayAsk.{StayNamed}
@@ -28,13 +27,6 @@ made_names names kept name bytes text handle version same updates q =
     rw same at (mapped (bytes_eq text q) (Some handle) (kept_handle names q) (kept_handle kept q)
     (hash_map_updates_str text names kept (Some handle) updates q))
 
--- a make that was refused leaves them
-pub refused_names : (names : Names) (name bytes : List ℕ) (r : Reply)
-    → ((handle : Handle) (version : ℕ) → r ≡ reply.Made handle version → ⊥)
-    → AreKept names (Make name bytes) r names
-refused_names names name bytes (reply.Made handle version) never = absurd (never handle version refl)
-refused_names names name bytes r never = λ q. refl
-
 -- the handle of a name is within the bound of all
 pub name_within : (names : Names) (made : ℕ) (name : Option (List ℕ)) (h : ℕ)
     → ((q : List ℕ) (k : ℕ) → kept_number names q ≡ Some k → k < made)
@@ -54,8 +46,3 @@ made_ready named after names kept name bytes handle version ready stay own are q
     decide : (test : Bool) → cond test (Some handle.n) (kept_number names q) ≡ Some h → after h
     decide true is = let same : handle.n ≡ h = cc in subst after same own
     decide false is = stay h (ready q h is)
-
--- the same names
-pub still_ready : (named after : ℕ → Type 0) (names : Names) → AreNamed named names
-    → StayNamed named after → AreNamed after names
-still_ready named after names ready stay q h e = stay h (ready q h e)

@@ -4,7 +4,7 @@ use Rattle.std.specs.Str.{bytes_eq}
 use native.Mathlib.Decide.{ℕ_discrete}
 use Rattle.std.proofs.lemmas.Bool.{cases_lt}
 use Rattle.std.proofs.lemmas.List.{append-nil, map_push, drop_more, get_or_past, length-replicate, length-set, get_or-set_same, get_or-set_other, get_or-replicate}
-use Rattle.std.proofs.lemmas.List.Sums.{fold_push, sum_by-cons, sum_by_push}
+use Rattle.std.proofs.lemmas.List.Sums.{fold_push, sum_by-cons}
 use Rattle.cb_types.specs.declared.answer.Answer.{Answer}
 use Rattle.cb_types.specs.declared.request.Request.{Request}
 use Rattle.cb_types.specs.declared.request.Request.TheVariants.{Make}
@@ -356,33 +356,6 @@ lines_lanes nodes before (x ∷ lines) all =
     (let low = all.0.lane.low in omega (arith, low), lines_lanes nodes (before ++ x ∷ []) lines all.1)
 
 -- ---- the counts of lines that are left
-
--- one line more of a lane
-pub left_more : (lanes left : List ℕ) (lane n : ℕ) → lane < 16 → n ≡ get_or left lane 0 + 1
-    → AreLeft lanes left
-    → AreLeft (lanes ++ lane ∷ []) (set left lane n)
-left_more lanes left lane n lt is are = record {
-  sized = length-set left lane n ∙ are.sized;
-  counts = λ k below. by k below (ℕ_discrete k lane);
-}
-  where
-    pushed : (k : ℕ) → lines_by k (lanes ++ lane ∷ []) ≡ lines_by k lanes + one_if (nat_eq k lane)
-    pushed k = sum_by_push (λ (x : ℕ). one_if (nat_eq k x)) lanes lane
-
-    by : (k : ℕ) → k < 16 → Dec (k ≡ lane) → get_or (set left lane n) k 0 ≡ lines_by k (lanes ++ lane ∷ [])
-    by k below (yes e) =
-        let one : one_if (nat_eq k lane) ≡ 1 = ap one_if (eq-eqb k lane e) in
-        let new : get_or (set left lane n) k 0 ≡ n = ap (λ (j : ℕ). get_or (set left lane n) j 0) e
-        ∙ get_or-set_same left lane n 0 (omega (arith, lt, are.sized)) in
-        let old : get_or left lane 0 ≡ lines_by k lanes =
-        are.counts lane lt ∙ ap (λ (j : ℕ). lines_by j lanes) (sym e) in
-        let p = pushed k in
-        omega (arith, one, new, old, p, is)
-    by k below (no off) =
-        let none : one_if (nat_eq k lane) ≡ 0 = ap one_if (ne_eqb k lane off) in
-        let new = get_or-set_other left lane k n 0 off in
-        let old = are.counts k below in let p = pushed k in
-        omega (arith, none, new, old, p)
 
 -- and one less
 pub left_less : (later left : List ℕ) (lane n : ℕ) → lane < 16 → n + 1 ≡ get_or left lane 0
