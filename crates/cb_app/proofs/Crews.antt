@@ -18,6 +18,7 @@ use Rattle.cb_record.specs.Told.{Told, tolds}
 use Rattle.cb_text.specs.Line.{answer_line, text_of}
 use Rattle.std.proofs.lemmas.Grind.{flat_map-append}
 use Rattle.cb_record.specs.Rises.{HasAllOf}
+use Rattle.cb_record.specs.Upheld.{as_part}
 use Rattle.cb_record.proofs.Laws.{backs_sum, has_left, has_right, tolds-append}
 use Rattle.cb_shared.specs.declared.pass.Pass.{Pass}
 use Rattle.cb_shared.specs.declared.runtime.Shared.{Shared}
@@ -33,7 +34,7 @@ use Rattle.cb_lanes.specs.Suits.{AreSuited}
 use Rattle.cb_lanes.proofs.Laws.{are_suited_both, are_suited_more, has_split}
 use Rattle.cb_workers.specs.declared.worker.Worker.{Worker as Worker'}
 use Rattle.cb_app.specs.ByLane.{AreLanesApart, AreOfOthers, IsApart, by_lane, flat, has_lines, lanes_up_to, of_lane}
-use Rattle.cb_app.specs.Crew.{AllMade, AreFirst, AreMade, BodyIsReady, HasText, IsDealt, IsFreshRecord, IsDealtOne, IsEnded, IsTaskReady, IsLaneTold, RiseWith, TakesIn, lines_due, lines_in, lines_left, part_of, turns_due, work_in}
+use Rattle.cb_app.specs.Crew.{AllMade, AreFirst, AreMade, BodyIsReady, HasText, IsDealt, IsFreshRecord, IsDealtOne, IsEnded, IsTaskReady, IsLaneTold, RiseWith, TakesIn, lines_due, lines_in, lines_left, turns_due, work_in}
 use Rattle.cb_app.specs.OwnLines.{KeepAloneWith}
 use Rattle.cb_app.specs.declared.crew.Body.{Body}
 use Rattle.cb_app.specs.declared.crew.Body.TheVariants.{Lane, Worker}
@@ -95,9 +96,9 @@ taken_in s given others lines a e b are told ended apart none first of pass answ
             (all_both HasLineReply a.answers e.answers told.replies ended.replies);
         last = subst (AllByRecursion (HasLastTry s.config)) (sym answers)
             (all_both (HasLastTry s.config) a.answers e.answers told.last ended.last);
-        backs = subst (λ (v : View). Backs (part_of v) (tolds [] b.answers)) (sym pass)
-            (subst (Backs (part_of (joined (record_of a.pass) (unpinned_all (record_of e.pass))))) all
-            (backs_sum (part_of (record_of a.pass)) (part_of (record_of e.pass)) (tolds [] a.answers)
+        backs = subst (λ (v : View). Backs (as_part v) (tolds [] b.answers)) (sym pass)
+            (subst (Backs (as_part (joined (record_of a.pass) (unpinned_all (record_of e.pass))))) all
+            (backs_sum (as_part (record_of a.pass)) (as_part (record_of e.pass)) (tolds [] a.answers)
             (tolds given e.answers) told.backs ended.backs));
         suits = subst (λ (v : View). AreSuited v.seen (tolds [] b.answers)) (sym pass)
             (subst (AreSuited (joined (record_of a.pass) (unpinned_all (record_of e.pass))).seen) all
@@ -390,8 +391,8 @@ told_left s given lines a b share own told same of left = record {
   lines_are = ap (map asked) same ∙ told.lines_are;
   replies = subst (AllByRecursion HasLineReply) (sym same) told.replies;
   last = subst (AllByRecursion (HasLastTry s.config)) (sym same) told.last;
-  backs = subst (λ (v : View). Backs (part_of v) (tolds given b.answers)) (sym left)
-      (subst (λ (xs : List Answer). Backs (part_of (record_of a.pass)) (tolds given xs)) (sym same) told.backs);
+  backs = subst (λ (v : View). Backs (as_part v) (tolds given b.answers)) (sym left)
+      (subst (λ (xs : List Answer). Backs (as_part (record_of a.pass)) (tolds given xs)) (sym same) told.backs);
   suits = subst (λ (v : View). AreSuited v.seen (tolds given b.answers)) (sym left)
       (subst (λ (xs : List Answer). AreSuited (record_of a.pass).seen (tolds given xs)) (sym same) told.suits);
   rises = subst (λ (v : View). RiseWith v given b.answers) (sym left)

@@ -113,12 +113,12 @@ makes_name name (Make made bytes) r h is = by (cases_Bool (bytes_eq made name)) 
 makes_name name q r h is = absurd cc
 
 -- the answer that made a name
-record IsMaker (xs : List Answer) (name : List ℕ) : Type 0 where
+record HasMaker (xs : List Answer) (name : List ℕ) : Type 0 where
   answer : Answer
   there : Has answer xs
   makes : MakesName answer.request name
 
-maker_in : (xs : List Answer) (name : List ℕ) (h : ℕ) → IsMadeAs xs name h → IsMaker xs name
+maker_in : (xs : List Answer) (name : List ℕ) (h : ℕ) → IsMadeAs xs name h → HasMaker xs name
 maker_in [] name h made = absurd made
 maker_in (x ∷ xs) name h (inl here) =
     record { answer = x; there = inl refl; makes = makes_name name x.request x.reply h here }

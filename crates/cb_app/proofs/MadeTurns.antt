@@ -69,21 +69,21 @@ below_less (t ∷ ts) n =
 module _ (first : ℕ) (c : Config) (v : View) (count : ℕ) (last : FarState)
     (one : IsOneHistory Did first c (v ∷ []) count last) where
   -- as many handles are made as the turns so far made, of those that there are
-  abbrev Counts : ℕ → FarState → Type 0
-  Counts n far = (far.made ≡ total (below turn_number made_in n) v.turns) × (far.made ≤ c.handles)
+  abbrev CountsMade : ℕ → FarState → Type 0
+  CountsMade n far = (far.made ≡ total (below turn_number made_in n) v.turns) × (far.made ≤ c.handles)
 
   adds : (t : Turn) → Has t v.turns → CountsMakes c t.job t.took t.gave t.reply
   adds t there = did_adds c t.job t.reply t.start t.acts t.took t.gave (one.did t (v, (0, refl), there))
 
-  step : (t : Turn) → Has t v.turns → turn_number t < count → Counts (turn_number t) t.took
-      → Counts (suc (turn_number t)) t.gave
+  step : (t : Turn) → Has t v.turns → turn_number t < count → CountsMade (turn_number t) t.took
+      → CountsMade (suc (turn_number t)) t.gave
   step t there low before =
       let more = counts_more turn_number made_in (turn_number t) v.turns t
       (lone first c v count last one (turn_number t) low) there refl in
       let a = before.0 in let b = (adds t there).more in
       (omega (arith, more, a, b), (adds t there).few before.1)
 
-  start : Counts 0 (empty_far first c)
+  start : CountsMade 0 (empty_far first c)
   start = let a = counts_none turn_number made_in v.turns in (omega (arith, a), omega arith)
 
   counted_or_none : (t : Turn) → Has t v.turns → (turn_number t < count) ⊎ (made_in t ≡ 0)
@@ -97,20 +97,20 @@ module _ (first : ℕ) (c : Config) (v : View) (count : ℕ) (last : FarState)
   -- no more are made in all than there are handles
   pub few_made : total made_in v.turns ≤ c.handles
   few_made =
-      let z = at_last first c v count last one Counts start step in
+      let z = at_last first c v count last one CountsMade start step in
       let a = z.0 in let b = z.1 in
       let all = counts_all turn_number made_in count v.turns counted_or_none in omega (arith, a, b, all)
 
   -- nor behind any turn before
   pub few_found : (t : Turn) → Has t v.turns → t.took.made ≤ c.handles
-  few_found t there = (at_turn first c v count last one Counts start step t there).1
+  few_found t there = (at_turn first c v count last one CountsMade start step t there).1
 
   -- and at least as many as were made behind a turn
   pub made_before : (t : Turn) → Has t v.turns → t.gave.made ≤ total made_in v.turns
   made_before t there = by (number_of first c v count last one t there)
     where
-      z : Counts (turn_number t) t.took
-      z = at_turn first c v count last one Counts start step t there
+      z : CountsMade (turn_number t) t.took
+      z = at_turn first c v count last one CountsMade start step t there
 
       by : HasTurnNumber count t → t.gave.made ≤ total made_in v.turns
       by (inl low) =

@@ -25,11 +25,12 @@ use Rattle.cb_record.specs.Backs.{Backs, Enters, WroteLines}
 use Rattle.cb_record.specs.Deeds.{Deed, deed, happened, happening}
 use Rattle.cb_record.specs.Parts.{Part, grown}
 use Rattle.cb_record.specs.Told.{Told, tolds}
+use Rattle.cb_record.specs.Upheld.{as_part}
 use Rattle.cb_record.proofs.Laws.{backs_sum, idle_backs}
 use Rattle.cb_lanes.specs.declared.body.Named.{Named}
 use Rattle.cb_lanes.specs.Bodies.{AddsBacked, AreLinesOf, AreNamesOf, KnowsHandle, KnowsNames, LaneGoes, handle_among}
 use Rattle.cb_lanes.specs.AloneUntil.{LaneKeepsAlone}
-use Rattle.cb_lanes.specs.Lost.{loss_of, losses_of}
+use Rattle.cb_lanes.specs.Lost.{told_loss, losses_of}
 use Rattle.cb_lanes.specs.Rising.{LaneRises}
 use Rattle.cb_lanes.specs.Scoped.{LaneScoped}
 use Rattle.cb_lanes.specs.Scopes.{scope_of}
@@ -48,7 +49,7 @@ use Rattle.cb_script.specs.declared.script.Line.{Line}
 use Rattle.cb_lanes.specs.declared.body.LaneEnd.{LaneEnd}
 use Rattle.cb_lanes.specs.Asked.{HasLineReply, asked}
 use Rattle.cb_lanes.specs.LastTries.{HasLastTry}
-use Rattle.cb_app.specs.Crew.{AreKnownTo, IsFreshRecord, IsLaneTold, name_made, names_in, part_of}
+use Rattle.cb_app.specs.Crew.{AreKnownTo, IsFreshRecord, IsLaneTold, name_made, names_in}
 use Rattle.cb_app.proofs.AnswersRise.{lane_rise, none_rise}
 use Rattle.cb_app.proofs.LanesAlone.{lane_alone_with, none_alone}
 use Rattle.cb_app.proofs.ScopesTold.{none_scoped}
@@ -102,15 +103,15 @@ opener_fresh c = record { pins = refl; written = refl; turns = refl; own = refl 
 
 -- ---- a record that grew backs what its new part backs
 
-pub fresh_idle : (v : View) → IsFreshRecord v → Backs (part_of v) []
-fresh_idle v fresh = idle_backs (part_of v) fresh.written
+pub fresh_idle : (v : View) → IsFreshRecord v → Backs (as_part v) []
+fresh_idle v fresh = idle_backs (as_part v) fresh.written
     (ap (λ (ts : List Turn). flat_map (λ turn. happened (deed turn)) ts) fresh.turns)
 
 pub fresh_backs : (v w : View) (d : Part) (own : List ℕ) (ts : List Told) → IsFreshRecord v
-    → w ≡ record (grown d v) { own = own } → Backs d ts → Backs (part_of w) ts
+    → w ≡ record (grown d v) { own = own } → Backs d ts → Backs (as_part w) ts
 fresh_backs v w d own ts fresh grows backs =
-    subst (λ (u : View). Backs (part_of u) ts) (sym grows)
-    (backs_sum (part_of v) d [] ts (fresh_idle v fresh) backs)
+    subst (λ (u : View). Backs (as_part u) ts) (sym grows)
+    (backs_sum (as_part v) d [] ts (fresh_idle v fresh) backs)
 
 -- ---- the turns of a worker make nothing
 
@@ -138,7 +139,7 @@ pub worker_told : (s : Shared) (w : Worker) (turns : ℕ) (p q : Pass) (given an
     → IsLaneTold s given [] (record { answers = answers; pass = q })
 worker_told s w turns p q given answers fresh works none =
     let d = works.1.0 in
-    let backs : Backs (part_of (record_of q)) [] =
+    let backs : Backs (as_part (record_of q)) [] =
     fresh_backs (record_of p) (record_of q) d (record_of p).own [] fresh works.1.2
     (worked_backs s.config.handles turns w d works.1.1) in
     record {
@@ -146,7 +147,7 @@ worker_told s w turns p q given answers fresh works none =
       lines_are = ap (map asked) none;
       replies = subst (AllByRecursion HasLineReply) (sym none) tt;
       last = subst (AllByRecursion (HasLastTry s.config)) (sym none) tt;
-      backs = subst (λ (xs : List Answer). Backs (part_of (record_of q)) (tolds given xs)) (sym none) backs;
+      backs = subst (λ (xs : List Answer). Backs (as_part (record_of q)) (tolds given xs)) (sym none) backs;
       suits = subst (λ (xs : List Answer). AreSuited (record_of q).seen (tolds given xs)) (sym none) tt;
       rises = none_rise (record_of q) given answers none;
       scopes = none_scoped given answers none;
@@ -228,7 +229,7 @@ lane_told s lane names v lines e fresh names_known of are replies last adds goes
           known.3;
     }
   where
-    backs : Backs (part_of (record_of e.pass)) (tolds given e.answers)
+    backs : Backs (as_part (record_of e.pass)) (tolds given e.answers)
     backs = fresh_backs v (record_of e.pass) adds.part adds.own (tolds given e.answers) fresh adds.grows
         (adds.backs given named)
 
@@ -264,9 +265,9 @@ names_are (a ∷ later) name =
 -- one more answer adds the loss that it tells
 pub losses_more : (answers : List Answer) (i : ℕ) (a d : Answer) → i < length answers
     → a ≡ get_or answers i d
-    → losses_of (take i answers) ++ cons_option (loss_of a.request a.reply) []
+    → losses_of (take i answers) ++ cons_option (told_loss a.request a.reply) []
     ≡ losses_of (take (i + 1) answers)
 losses_more answers i a d within is =
     let longer = take_more answers i d within ∙ ap (λ (b : Answer). take i answers ++ b ∷ []) (sym is) in
     sym (ap losses_of longer
-    ∙ filter_map-append (λ (b : Answer). loss_of b.request b.reply) (take i answers) (a ∷ []))
+    ∙ filter_map-append (λ (b : Answer). told_loss b.request b.reply) (take i answers) (a ∷ []))

@@ -16,7 +16,7 @@ use Rattle.cb_script.specs.Roomy.{has_crash, is_crash, is_make, makes_in}
 use Rattle.cb_model.specs.Called.{calls_behind, made_by, makes}
 use Rattle.cb_model.specs.Event.{event_of}
 use Rattle.cb_lanes.specs.Asked.{asked}
-use Rattle.cb_lanes.specs.Lost.{loss_of, losses_of}
+use Rattle.cb_lanes.specs.Lost.{told_loss, losses_of}
 use Rattle.cb_lanes.proofs.Laws.{crash_below, crash_named, crashed_nodes}
 use Rattle.cb_app.specs.ByLane.{by_lane, lanes_up_to, of_lane}
 use Rattle.cb_app.proofs.Lanes.{by_lane_all}
@@ -192,7 +192,7 @@ AreOfNodes nodes losses = AllByRecursion (λ (l : Loss). Contains nodes l.node.n
 
 line_loss : (s : Script) (q : Request) (r : Reply) (rest : List Loss) → NamesCrashed s q
     → AreOfNodes (crashed_nodes s) rest
-    → AreOfNodes (crashed_nodes s) (cons_option (loss_of q r) rest)
+    → AreOfNodes (crashed_nodes s) (cons_option (told_loss q r) rest)
 line_loss s (line.Crash node) (answer.EpochAt epoch) rest named later =
     (named node.n (eq-eqb node.n node.n refl), later)
 line_loss s (line.Crash node) r rest named later = later

@@ -31,8 +31,8 @@ handle_of-append name (x ∷ xs) ys =
     ∙ first_of-first_of (handle_of ys name) (handle_of xs name) (handle_made name x.request x.reply)
 
 -- no lane makes the name
-abbrev MakesNone : List Answer → List ℕ → Type 0
-MakesNone answers name = (lane : ℕ) → IsNameMade (map asked answers) lane name → ⊥
+abbrev IsMadeByNone : List Answer → List ℕ → Type 0
+IsMadeByNone answers name = (lane : ℕ) → IsNameMade (map asked answers) lane name → ⊥
 
 not_this : (made name : List ℕ) → (made ≡ name → ⊥) → bytes_eq made name ≡ false
 not_this made name other = elim (cases_Bool (bytes_eq made name)) [
@@ -45,7 +45,7 @@ makes_no (Make made bytes) (Made handle version) name other =
     ap (λ (b : Bool). if b then Some handle.n else None) (not_this made name other)
 makes_no request reply name other = refl
 
-none_made : (answers : List Answer) (name : List ℕ) → MakesNone answers name
+none_made : (answers : List Answer) (name : List ℕ) → IsMadeByNone answers name
     → handle_of answers name ≡ None
 none_made [] name none = refl
 none_made (a ∷ later) name none =
@@ -54,7 +54,7 @@ none_made (a ∷ later) name none =
     ∙ makes_no a.request a.reply name (λ makes. none a.lane.n (inl (refl, makes)))
 
 -- answers that make none of a name stay unseen between others
-pub unseen : (name : List ℕ) (xs ys zs : List Answer) → MakesNone ys name
+pub unseen : (name : List ℕ) (xs ys zs : List Answer) → IsMadeByNone ys name
     → handle_of (xs ++ (ys ++ zs)) name ≡ handle_of (xs ++ zs) name
 unseen name xs ys zs none =
     let left : handle_of (xs ++ (ys ++ zs)) name ≡ first_of (handle_of (ys ++ zs) name) (handle_of xs name) =
@@ -67,7 +67,7 @@ unseen name xs ys zs none =
 
 -- what a line is about behind answers of other lanes
 about : (r : Request) (reply : Reply) (xs ys zs : List Answer)
-    → ((name : List ℕ) → Uses r name → MakesNone ys name)
+    → ((name : List ℕ) → Uses r name → IsMadeByNone ys name)
     → handle_for (xs ++ (ys ++ zs)) r reply ≡ handle_for (xs ++ zs) r reply
 about (Make made bytes) (Made handle version) xs ys zs none = refl
 about (Make made bytes) reply xs ys zs none = refl

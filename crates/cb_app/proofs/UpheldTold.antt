@@ -45,13 +45,13 @@ module _ (first : ℕ) (c : Config) (v : View) (w : WorldState) (closed : IsClos
   calls = calls_of answers
 
   -- what is upheld of an answer beside what suits the handle and what was read
-  abbrev Counts : Event → Option ℕ → Type 0
-  Counts (FindsFull number) handle = (makes calls ≡ c.handles) × (number ≡ c.handles)
-  Counts (Makes bytes version) (Some h) = (h < c.handles) × (version ≡ first)
-  Counts (FindsEnd at bytes len) (Some h) = IsLong v.written h len × (len < at + length bytes)
-  Counts event handle = Unit {0}
+  abbrev UpheldBeside : Event → Option ℕ → Type 0
+  UpheldBeside (FindsFull number) handle = (makes calls ≡ c.handles) × (number ≡ c.handles)
+  UpheldBeside (Makes bytes version) (Some h) = (h < c.handles) × (version ≡ first)
+  UpheldBeside (FindsEnd at bytes len) (Some h) = IsLong v.written h len × (len < at + length bytes)
+  UpheldBeside event handle = Unit {0}
 
-  both : (handle : Option ℕ) (e : Event) → Suits v.seen handle e → Counts e handle
+  both : (handle : Option ℕ) (e : Event) → Suits v.seen handle e → UpheldBeside e handle
       → IsUpheld first c.handles calls v handle e
   both handle (FindsFull number) s x = x
   both handle (Refused NewObject) s x = tt
@@ -80,7 +80,7 @@ module _ (first : ℕ) (c : Config) (v : View) (w : WorldState) (closed : IsClos
   both (Some h) Wrong s x = absurd s
 
   -- ---- by the line and its reply
-  refused : (o : Option ℕ) (s : Subject) (r : Reply) → Counts (refusal s r) o
+  refused : (o : Option ℕ) (s : Subject) (r : Reply) → UpheldBeside (refusal s r) o
   refused o NewObject answer.Freed = tt
   refused o Contents answer.Freed = tt
   refused o Other answer.Freed = tt
@@ -111,14 +111,14 @@ module _ (first : ℕ) (c : Config) (v : View) (w : WorldState) (closed : IsClos
   make_counts : (before : List Answer) (name bytes : List ℕ) (r : Reply)
       → Meets (as_part v) (need_of (handle_for before (line.Make name bytes) r) (line.Make name bytes) r)
       → MakesTold (line.Make name bytes) r
-      → Counts (event_of (line.Make name bytes) r) (handle_for before (line.Make name bytes) r)
+      → UpheldBeside (event_of (line.Make name bytes) r) (handle_for before (line.Make name bytes) r)
   make_counts before name bytes (answer.Made h n) m made = made name bytes h n refl refl
   make_counts before name bytes (answer.Full n) m made = full name bytes n m
   make_counts before name bytes r m made = tt
 
   write_counts : (o : Option ℕ) (name : List ℕ) (at : ℕ) (bytes : List ℕ) (r : Reply)
       → Meets (as_part v) (need_of o (line.Write name at bytes) r)
-      → Counts (event_of (line.Write name at bytes) r) o
+      → UpheldBeside (event_of (line.Write name at bytes) r) o
   write_counts None name at bytes (answer.Range len) m = tt
   write_counts (Some h) name at bytes (answer.Range len) m =
       end_long first v closed.entries closed.calm (Some (job.Write (the_object h) at bytes)) h at
@@ -128,25 +128,25 @@ module _ (first : ℕ) (c : Config) (v : View) (w : WorldState) (closed : IsClos
   write_counts o name at bytes (answer.Version version) m = tt
   write_counts o name at bytes r m = tt
 
-  read_counts : (o : Option ℕ) (name : List ℕ) (r : Reply) → Counts (event_of (line.Read name) r) o
+  read_counts : (o : Option ℕ) (name : List ℕ) (r : Reply) → UpheldBeside (event_of (line.Read name) r) o
   read_counts o name (answer.Bytes version bytes) = tt
   read_counts o name r = tt
 
-  peek_counts : (o : Option ℕ) (name : List ℕ) (r : Reply) → Counts (event_of (line.Peek name) r) o
+  peek_counts : (o : Option ℕ) (name : List ℕ) (r : Reply) → UpheldBeside (event_of (line.Peek name) r) o
   peek_counts o name (answer.Bytes version bytes) = tt
   peek_counts o name r = tt
 
-  pin_counts : (o : Option ℕ) (name : List ℕ) (r : Reply) → Counts (event_of (line.Pin name) r) o
+  pin_counts : (o : Option ℕ) (name : List ℕ) (r : Reply) → UpheldBeside (event_of (line.Pin name) r) o
   pin_counts o name (answer.Version version) = tt
   pin_counts o name r = tt
 
-  free_counts : (o : Option ℕ) (name : List ℕ) (r : Reply) → Counts (event_of (line.Free name) r) o
+  free_counts : (o : Option ℕ) (name : List ℕ) (r : Reply) → UpheldBeside (event_of (line.Free name) r) o
   free_counts o name (answer.Version version) = tt
   free_counts o name r = tt
 
   line_counts : (before : List Answer) (q : Request) (r : Reply)
       → Meets (as_part v) (need_of (handle_for before q r) q r) → MakesTold q r
-      → Counts (event_of q r) (handle_for before q r)
+      → UpheldBeside (event_of q r) (handle_for before q r)
   line_counts before (line.Make name bytes) r m made = make_counts before name bytes r m made
   line_counts before (line.Read name) r m made = read_counts (handle_named before (Some name)) name r
   line_counts before (line.Write name at bytes) r m made =

@@ -38,16 +38,16 @@ use Rattle.cb_record.specs.Lists.{HasOne}
 use Rattle.cb_record.specs.Needs.{IsJobFor, IsLastOf, IsOwnTurn, IsTurnFor, Meets, need_of, own_job, the_object}
 use Rattle.cb_record.specs.Needs.Need.{AWorn}
 use Rattle.cb_record.specs.Told.{Told, tolds}
+use Rattle.cb_record.specs.Upheld.{as_part}
 use Rattle.cb_shared.specs.Turning.{Did, DidAs, ReadsByPin, slate_run, slate_shows}
 use Rattle.cb_lanes.specs.Asked.{HasLineReply, asked}
 use Rattle.cb_app.specs.ByLane.{by_lane, lanes_up_to, of_lane}
-use Rattle.cb_app.specs.Crew.{part_of}
 use Rattle.cb_app.specs.Telling.{TellsWorn}
 use Rattle.cb_app.proofs.AnswersTold.{InThreads, RunsIn, find_for}
 use Rattle.cb_app.proofs.NeverWorn.{WritesNone, worn_last}
 use Rattle.cb_app.proofs.RangeTold.{written}
 use Rattle.cb_app.proofs.TurnHistory.{number_of}
-use Rattle.cb_app.proofs.WornLast.{ClaimHere, HadLast, by_pin, free_last, write_last}
+use Rattle.cb_app.proofs.WornLast.{ClaimsFoundHere, HadLast, by_pin, free_last, write_last}
 
 -- ---- one turn
 turn_worn : (c : Config) (t : Turn) → Did c t → WritesNone t.job → t.reply ≡ Some answer.Worn
@@ -254,7 +254,7 @@ module _ (c : Config) (v : View) (w : WorldState) (closed : IsClosed Did 1 c v w
     made : Made (v ∷ []) t
     made = (v, (0, refl), there)
 
-    claims : ClaimHere t.acts
+    claims : ClaimsFoundHere t.acts
     claims h x n words has =
         (claimed_written 1 (omega arith) c (v ∷ []) closed.told t made h x n words has).0
 
@@ -294,7 +294,7 @@ module _ (c : Config) (v : View) (w : WorldState) (closed : IsClosed Did 1 c v w
 
   -- a write found it in place, or by a turn of its own
   write_line : (h at : ℕ) (bytes : List ℕ)
-      → Meets (part_of v) (AWorn (Some (job.Write (the_object h) at bytes)) h) → 2 ^ 40 ≤ count
+      → Meets (as_part v) (AWorn (Some (job.Write (the_object h) at bytes)) h) → 2 ^ 40 ≤ count
   write_line h at bytes (inl x) = let z = one_there (IsLastOf h) v.seen x in
       absurd (unread h z.0 z.1 z.2)
   write_line h at bytes (inr x) =
@@ -314,7 +314,7 @@ module _ (c : Config) (v : View) (w : WorldState) (closed : IsClosed Did 1 c v w
       by (inr swap) = unwriting z.0 z.1 (subst WritesNone (sym swap) tt) z.2.0
 
   worn_line : (h : Option ℕ) (q : Request) → RunsIn q → IsReplyOf q answer.Worn
-      → Meets (part_of v) (need_of h q answer.Worn) → 2 ^ 40 ≤ count
+      → Meets (as_part v) (need_of h q answer.Worn) → 2 ^ 40 ≤ count
   worn_line (Some h) (line.Write name at bytes) runs may x = write_line h at bytes x
   worn_line (Some h) (line.Free name) runs may x = free_line h x
   worn_line h (line.Peek name) runs may x = absurd may
@@ -332,12 +332,12 @@ module _ (c : Config) (v : View) (w : WorldState) (closed : IsClosed Did 1 c v w
   worn_line (Some h) q runs may x = by_turn (own_job (Some h) q) (Some h) tt x
 
   worn_reply : (h : Option ℕ) (q : Request) (r : Reply) → RunsIn q → IsReplyOf q r
-      → Meets (part_of v) (need_of h q r) → TellsWorn count r
+      → Meets (as_part v) (need_of h q r) → TellsWorn count r
   worn_reply h q answer.Worn runs may x = worn_line h q runs may x
   worn_reply h q r runs may x = tt
 
   worns : (before after : List Answer) → AllByRecursion HasLineReply after
-      → AllByRecursion InThreads after → AllByRecursion (Tells (part_of v)) (tolds before after)
+      → AllByRecursion InThreads after → AllByRecursion (Tells (as_part v)) (tolds before after)
       → AllByRecursion (λ a. TellsWorn count a.reply) after
   worns before [] replies runs each = tt
   worns before (a ∷ after) replies runs each = (
@@ -348,7 +348,7 @@ module _ (c : Config) (v : View) (w : WorldState) (closed : IsClosed Did 1 c v w
 -- so of the answers of a script, which are not so many
 pub answers_worn : (c : Config) (v : View) (w : WorldState) → IsClosed Did 1 c v w
     → (answers : List Answer) → AllByRecursion HasLineReply answers → AllByRecursion InThreads answers
-    → Backs (part_of v) (tolds [] answers) → length answers ≤ 320000
+    → Backs (as_part v) (tolds [] answers) → length answers ≤ 320000
     → AllByRecursion (λ a. TellsWorn w.far.counts.turns a.reply) answers
 answers_worn c v w closed answers replies runs backs few =
     let wrote = wrote_few v.written (tolds [] answers) backs.wrote in

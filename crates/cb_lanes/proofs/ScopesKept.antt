@@ -25,7 +25,7 @@ use Rattle.cb_lanes.specs.LineStep.{LineStep, LinesLead}
 use Rattle.cb_lanes.specs.LinesSoundly.{LinesLeadSoundly}
 use Rattle.cb_lanes.specs.declared.side.Side.{Side}
 use Rattle.cb_lanes.specs.LinesLeft.{AreLanes, AreLeft, lanes_of}
-use Rattle.cb_lanes.specs.Names.{Names, kept_number, number_after}
+use Rattle.cb_lanes.specs.Names.{KeptNames, kept_number, number_after}
 use Rattle.cb_lanes.specs.Scopes.{Scope, scope_after, scope_more, scope_of, ScopeSays, KeepScopes}
 use Rattle.cb_lanes.proofs.GivingBack.{StandsWithout, stands_same, gives_all}
 use Rattle.cb_lanes.proofs.PinLists.{AreHandlesApart, ArePinsOf, name_cases, pins_kept}
@@ -261,7 +261,7 @@ IsFreshName number (Make name bytes) = number name ≡ None
 IsFreshName number request = Unit {0}
 
 -- names keep their handles
-pub grown : (names : Names) (request : Request) (reply : Reply) (q : List ℕ) (h : ℕ)
+pub grown : (names : KeptNames) (request : Request) (reply : Reply) (q : List ℕ) (h : ℕ)
     → IsFreshName (kept_number names) request → kept_number names q ≡ Some h
     → number_after names request reply q ≡ Some h
 grown names (Make name bytes) (Made handle version) q h fresh e = by (name_cases name q)
@@ -274,7 +274,7 @@ grown names (Make name bytes) reply q h fresh e = e
 grown names request reply q h fresh e = e
 
 -- no two names have one handle: a make gets one that no name had
-pub apart_after : (names : Names) (answers : List Answer) (first handles made : ℕ) (now : MapNow)
+pub apart_after : (names : KeptNames) (answers : List Answer) (first handles made : ℕ) (now : MapNow)
     (request : Request) (reply : Reply) → AreHandlesApart (kept_number names)
     → ((q : List ℕ) (k : ℕ) → kept_number names q ≡ Some k → k < made)
     → MapReplies first handles made (handle_for answers request reply) now (event_of request reply)

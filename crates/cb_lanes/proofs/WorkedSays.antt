@@ -9,7 +9,7 @@ use Rattle.cb_model.specs.declared.object.Object.TheVariants as has
 use Rattle.cb_model.specs.Now.{MapNow}
 use Rattle.cb_script.specs.declared.script.Line.{Line}
 use Rattle.cb_lanes.specs.Alone.{LaneState, NamedNow, alone_more, change_alone, free_alone, is_leave, is_maker, is_maker_of, makes_named, named_objects_after, now_after, own_name, peek_alone, pin_alone, pin_object, pins_shared, read_alone, unpin_alone, write_alone}
-use Rattle.cb_lanes.specs.Bodies.{KnowsHandle, number_of}
+use Rattle.cb_lanes.specs.Bodies.{KnowsHandle, handle_number}
 use Rattle.cb_lanes.specs.LinesLeft.{lanes_of}
 use Rattle.cb_lanes.specs.Names.{IsOnObject}
 use Rattle.cb_lanes.specs.Passing.{mark_in, mark_of, marks_of}
@@ -250,7 +250,7 @@ other_mark : mark_of (kept newer) ≡ mark_in older → ⊥
 other_mark e = eqb-false 1 0 refl (ap (λ m. m.handle) e)
 
 -- ---- handles that are known to a record
-numbers : (number_of (Some (record { n = 3 })) ≡ Some 3) × (number_of None ≡ None)
+numbers : (handle_number (Some (record { n = 3 })) ≡ Some 3) × (handle_number None ≡ None)
 numbers = (refl, refl)
 
 knows_none : KnowsHandle part None
