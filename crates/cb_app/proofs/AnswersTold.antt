@@ -3,6 +3,7 @@
 use Rattle.std.proofs.Common.{◌≡◌, ◌⊎◌, ℕ, suc, List, [], ◌∷◌, ◌++◌, ◌+◌, ◌<◌, Option, None, Some, refl, sym, ap, subst, inl, inr, arith, map}
 use Rattle.std.specs.List.{AllByRecursion, Contains, cons_option, flat_map}
 use Rattle.std.proofs.lemmas.List.Sorted.{Contains-permutation}
+use Rattle.std.proofs.lemmas.Option.{same_Some}
 use Rattle.cb_member.specs.declared.names.Epoch.{Epoch}
 use Rattle.cb_member.specs.declared.names.Loss.{Loss}
 use Rattle.cb_member.specs.declared.names.NodeId.{NodeId}
@@ -117,10 +118,7 @@ has_more : (o : Option Loss) (l : Loss) (ls : List Loss) → (o ≡ Some l) ⊎ 
     → Has l (cons_option o ls)
 has_more None l ls (inl e) = absurd (let f = e in cc)
 has_more None l ls (inr there) = there
-has_more (Some x) l ls (inl e) = inl (same x l e)
-  where
-    same : (a b : Loss) → Some a ≡ Some b → a ≡ b
-    same a b f = cc
+has_more (Some x) l ls (inl e) = inl (same_Some x l e)
 has_more (Some x) l ls (inr there) = inr there
 
 found_loss : (before after : List Answer) (node : NodeId) (epoch : Epoch)

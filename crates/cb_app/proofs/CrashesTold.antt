@@ -5,6 +5,7 @@ use Rattle.std.specs.List.{AllByRecursion, cons_option}
 use Rattle.std.specs.Option.{option_map}
 use Rattle.std.proofs.lemmas.Bool.{cases_eq, cases_lt}
 use Rattle.std.proofs.lemmas.List.{get_or_past}
+use Rattle.std.proofs.lemmas.Option.{same_Some}
 use Rattle.cb_member.specs.declared.names.Epoch.{Epoch}
 use Rattle.cb_member.specs.declared.names.Loss.{Loss}
 use Rattle.cb_member.specs.declared.names.NodeId.{NodeId}
@@ -56,10 +57,7 @@ by_node m node q s = elim (cases_eq q.n node.n) [
 -- an element of a list with one more is one of the list, or that one
 at_last_one : {A : Type 0} (xs : List A) (x y : A) (i : ℕ) → slice_get (xs ++ x ∷ []) i ≡ Some y
     → (slice_get xs i ≡ Some y) ⊎ (x ≡ y)
-at_last_one [] x y zero e = inr (same x y e)
-  where
-    same : {A : Type 0} (a b : A) → Some a ≡ Some b → a ≡ b
-    same a b f = cc
+at_last_one [] x y zero e = inr (same_Some x y e)
 at_last_one [] x y (suc i) e = absurd (let f = e in cc)
 at_last_one (z ∷ xs) x y zero e = inl e
 at_last_one (z ∷ xs) x y (suc i) e = at_last_one xs x y i e

@@ -31,7 +31,7 @@ use Rattle.cb_lanes.specs.LastTries.{HasLastTry}
 use Rattle.cb_lanes.specs.Bodies.{AreLinesOf, KnowsNames}
 use Rattle.cb_lanes.specs.Scoped.{AreScoped}
 use Rattle.cb_lanes.specs.Suits.{AreSuited}
-use Rattle.cb_lanes.proofs.Laws.{are_suited_both, are_suited_more, has_split}
+use Rattle.cb_lanes.proofs.Laws.{are_suited_both, are_suited_more, has_split, all_both}
 use Rattle.cb_workers.specs.declared.worker.Worker.{Worker as Worker'}
 use Rattle.cb_app.specs.ByLane.{AreLanesApart, AreOfOthers, IsApart, by_lane, flat, has_lines, lanes_up_to, of_lane}
 use Rattle.cb_app.specs.Crew.{AllMade, AreFirst, AreMade, BodyIsReady, HasText, IsDealt, IsFreshRecord, IsDealtOne, IsEnded, IsTaskReady, IsLaneTold, RiseWith, TakesIn, lines_due, lines_in, lines_left, turns_due, work_in}
@@ -49,11 +49,6 @@ use Rattle.cb_app.proofs.ToldApart.{tolds_apart}
 use Rattle.cb_app.proofs.WorkDone.{AreOwed, owed_from, owed_more, owed_none}
 
 -- ---- what one thread left is taken in
-
-all_both : (P : Answer → Type 0) (xs ys : List Answer) → AllByRecursion P xs → AllByRecursion P ys
-    → AllByRecursion P (xs ++ ys)
-all_both P [] ys a b = b
-all_both P (x ∷ xs) ys a b = (a.0, all_both P xs ys a.1 b)
 
 -- what suits the one record or the other suits both together
 both_suit : (xs ys : List Seen) (ts us : List Told) → AreSuited xs ts → AreSuited ys us

@@ -11,6 +11,7 @@ use Rattle.cb_script.specs.Form.{AreLines, IsNameKnown, IsNameMade, IsNameNew, K
 use Rattle.cb_script.proofs.PublicLaws.{made_cases}
 use Rattle.cb_model.specs.Legal.{WasTold}
 use Rattle.cb_app.specs.ByLane.{AreLanesApart, AreOfOthers, IsApart, IsUsed, Uses, by_lane, flat, lanes_up_to, of_lane}
+use Rattle.cb_lanes.proofs.Laws.{all_both, all_map}
 
 -- ---- lists of lines, one behind the other
 
@@ -152,16 +153,6 @@ no_lines_apart before name used lane made = absurd used
 
 -- ---- nor was the lane told what those lanes were answered
 
-all_lines : (P Q : Line → Type 0) (lines : List Line) → ((l : Line) → P l → Q l)
-    → AllByRecursion P lines → AllByRecursion Q lines
-all_lines P Q [] f all = tt
-all_lines P Q (l ∷ lines) f all = (f l all.0, all_lines P Q lines f all.1)
-
-lines_both : (P : Line → Type 0) (xs ys : List Line) → AllByRecursion P xs → AllByRecursion P ys
-    → AllByRecursion P (xs ++ ys)
-lines_both P [] ys a b = b
-lines_both P (x ∷ xs) ys a b = (a.0, lines_both P xs ys a.1 b)
-
 abbrev pub IsOfLane : ℕ → Line → Type 0
 IsOfLane n l = l.lane.n ≡ n
 
@@ -183,9 +174,9 @@ up_to_more n l is = let below = is.1 in (is.0, omega (arith, below))
 
 lanes_low : (n : ℕ) (lines : List Line) → AllByRecursion (IsUpTo n) (lanes_up_to n lines)
 lanes_low zero lines = tt
-lanes_low (suc n) lines = lines_both (IsUpTo (suc n)) (lanes_up_to n lines) (of_lane (suc n) lines)
-    (all_lines (IsUpTo n) (IsUpTo (suc n)) (lanes_up_to n lines) (up_to_more n) (lanes_low n lines))
-    (all_lines (IsOfLane (suc n)) (IsUpTo (suc n)) (of_lane (suc n) lines) (own_up_to n)
+lanes_low (suc n) lines = all_both (IsUpTo (suc n)) (lanes_up_to n lines) (of_lane (suc n) lines)
+    (all_map (IsUpTo n) (IsUpTo (suc n)) (lanes_up_to n lines) (up_to_more n) (lanes_low n lines))
+    (all_map (IsOfLane (suc n)) (IsUpTo (suc n)) (of_lane (suc n) lines) (own_up_to n)
     (of_lane_own (suc n) lines))
 
 not_told : (n : ℕ) (b l : Line) → IsUpTo n b → IsOfLane (suc n) l → WasTold b.lane.n l.lane.n → ⊥
@@ -194,10 +185,10 @@ not_told n b l low own (inr first) = let above = low.0 in omega (arith, above, f
 
 pub lane_is_of_others : (n : ℕ) (lines : List Line)
     → AreOfOthers (lanes_up_to n lines) (of_lane (suc n) lines)
-lane_is_of_others n lines = all_lines (IsUpTo n)
+lane_is_of_others n lines = all_map (IsUpTo n)
     (λ b. AllByRecursion (λ (l : Line). WasTold b.lane.n l.lane.n → ⊥) (of_lane (suc n) lines))
     (lanes_up_to n lines)
-    (λ b low. all_lines (IsOfLane (suc n)) (λ l. WasTold b.lane.n l.lane.n
+    (λ b low. all_map (IsOfLane (suc n)) (λ l. WasTold b.lane.n l.lane.n
     → ⊥) (of_lane (suc n) lines)
     (λ l own. not_told n b l low own) (of_lane_own (suc n) lines)) (lanes_low n lines)
 
@@ -218,12 +209,12 @@ of_lane_all P n (l ∷ lines) all = elim (cases_Bool (nat_eq l.lane.n n)) [
 lanes_all : (P : Line → Type 0) (n : ℕ) (lines : List Line) → AllByRecursion P lines
     → AllByRecursion P (lanes_up_to n lines)
 lanes_all P zero lines all = tt
-lanes_all P (suc n) lines all = lines_both P (lanes_up_to n lines) (of_lane (suc n) lines)
+lanes_all P (suc n) lines all = all_both P (lanes_up_to n lines) (of_lane (suc n) lines)
     (lanes_all P n lines all) (of_lane_all P (suc n) lines all)
 
 pub by_lane_all : (P : Line → Type 0) (lines : List Line) → AllByRecursion P lines
     → AllByRecursion P (by_lane lines)
-by_lane_all P lines all = lines_both P (of_lane 0 lines) (lanes_up_to 15 lines)
+by_lane_all P lines all = all_both P (of_lane 0 lines) (lanes_up_to 15 lines)
     (of_lane_all P 0 lines all) (lanes_all P 15 lines all)
 
 -- ---- one list of lines more

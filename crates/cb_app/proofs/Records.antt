@@ -16,7 +16,6 @@ use Rattle.cb_types.specs.declared.request.Request.TheVariants.{Make}
 use Rattle.cb_world.specs.declared.entry.Entry.{Entry}
 use Rattle.cb_model.specs.Called.{first_of, handle_for, handle_made, handle_of}
 use Rattle.cb_rule.specs.declared.turn.Turn.{Turn}
-use Rattle.cb_rule.specs.declared.view.Seen.{Seen}
 use Rattle.cb_rule.specs.declared.view.View.{View}
 use Rattle.cb_rule.specs.Lists.{Has}
 use Rattle.cb_rule.specs.Records.{seen_of}
@@ -26,7 +25,7 @@ use Rattle.cb_record.specs.Deeds.{Deed, deed, happened, happening}
 use Rattle.cb_record.specs.Parts.{Part, grown}
 use Rattle.cb_record.specs.Told.{Told, tolds}
 use Rattle.cb_record.specs.Upheld.{as_part}
-use Rattle.cb_record.proofs.Laws.{backs_sum, idle_backs}
+use Rattle.cb_record.proofs.Laws.{backs_sum, idle_backs, has_left, has_right}
 use Rattle.cb_lanes.specs.declared.body.Named.{Named}
 use Rattle.cb_lanes.specs.Bodies.{AddsBacked, AreLinesOf, AreNamesOf, KnowsHandle, KnowsNames, LaneGoes, handle_among}
 use Rattle.cb_lanes.specs.AloneUntil.{LaneKeepsAlone}
@@ -56,33 +55,20 @@ use Rattle.cb_app.proofs.ScopesTold.{none_scoped}
 
 -- ---- a pass that was split off
 
-has_seen_front : (s : Seen) (xs ys : List Seen) → Has s xs → Has s (xs ++ ys)
-has_seen_front s [] ys h = absurd h
-has_seen_front s (x ∷ xs) ys (inl here) = inl here
-has_seen_front s (x ∷ xs) ys (inr later) = inr (has_seen_front s xs ys later)
-
-has_seen_behind : (s : Seen) (xs ys : List Seen) → Has s ys → Has s (xs ++ ys)
-has_seen_behind s [] ys h = h
-has_seen_behind s (x ∷ xs) ys h = inr (has_seen_behind s xs ys h)
-
 has_as_seen : (e : Entry) (es : List Entry) → Has e es → Has (seen_of e) (map seen_of es)
 has_as_seen e [] h = absurd h
 has_as_seen e (x ∷ es) (inl here) = inl (ap seen_of here)
 has_as_seen e (x ∷ es) (inr later) = inr (has_as_seen e es later)
 
-has_behind : (e : Entry) (xs ys : List Entry) → Has e ys → Has e (xs ++ ys)
-has_behind e [] ys h = h
-has_behind e (x ∷ xs) ys h = inr (has_behind e xs ys h)
-
 right_knows : (h given : ℕ) (v : View) → Knows h v → Knows h (right_of given v)
 right_knows h given v (inl (e, has, is)) = inr (
   seen_of e,
-  has_seen_front (seen_of e) (map seen_of (v.fresh ++ v.written)) v.seen
-      (has_as_seen e (v.fresh ++ v.written) (has_behind e v.fresh v.written has)),
+  has_left (seen_of e) (map seen_of (v.fresh ++ v.written)) v.seen
+      (has_as_seen e (v.fresh ++ v.written) (has_right e v.fresh v.written has)),
   is,
 )
 right_knows h given v (inr (s, has, is)) =
-    inr (s, has_seen_behind s (map seen_of (v.fresh ++ v.written)) v.seen has, is)
+    inr (s, has_right s (map seen_of (v.fresh ++ v.written)) v.seen has, is)
 
 right_knows_handle : (o : Option Handle) (given : ℕ) (v : View) → KnowsHandle v o
     → KnowsHandle (right_of given v) o
@@ -189,20 +175,15 @@ known_both : (v : View) (xs ys : List Named) → KnowsNames v xs → KnowsNames 
 known_both v [] ys a b = b
 known_both v (x ∷ xs) ys a b = (a.0, known_both v xs ys a.1 b)
 
-has_front : (e : Entry) (xs ys : List Entry) → Has e xs → Has e (xs ++ ys)
-has_front e [] ys h = absurd h
-has_front e (x ∷ xs) ys (inl here) = inl here
-has_front e (x ∷ xs) ys (inr later) = inr (has_front e xs ys later)
-
 pub told_known : (written : List Entry) (before answers : List Answer) (v : View)
     → WroteLines written (tolds before answers) → HasAll written v → KnowsNames v (names_in answers)
 told_known written before [] v wrote all = tt
 told_known written before (a ∷ after) v (own, rest, is, enters, later) all =
     known_both v (name_made a.request a.reply) (names_in after)
     (entered_known a.request a.reply own v before enters
-    (λ e has. all e (subst (Has e) (sym is) (has_behind e rest own has))))
+    (λ e has. all e (subst (Has e) (sym is) (has_right e rest own has))))
     (told_known rest (before ++ a ∷ []) after v later
-    (λ e has. all e (subst (Has e) (sym is) (has_front e rest own has))))
+    (λ e has. all e (subst (Has e) (sym is) (has_left e rest own has))))
 
 -- what a lane leaves that began with a new pass
 pub lane_told : (s : Shared) (lane : ℕ) (names : List Named) (v : View) (lines : List Line) (e : LaneEnd)
@@ -243,7 +224,7 @@ pub first_known : (names : List Named) (answers : List Answer) (v w : View)
 first_known names answers v w adds named =
     told_known adds.part.written [] answers w (adds.backs [] named).wrote
     (subst (λ (u : View). HasAll adds.part.written u) (sym adds.grows)
-    (λ e has. has_front e adds.part.written v.written has))
+    (λ e has. has_left e adds.part.written v.written has))
 
 -- the names are those of the answers
 names_of_one : (r : Request) (reply : Reply) (names : List Named) (later : List Answer) (name : List ℕ)

@@ -1,6 +1,7 @@
 -- What a script's lines make and crash, as answers to its lines by lane tell it.
 use Rattle.std.proofs.Common.{◌≡◌, ℕ, zero, suc, ◌+◌, ◌<◌, ◌≤◌, Bool, true, false, ◌||◌, cond, nat_eq, List, [], ◌∷◌, ◌++◌, map, Contains, Some, refl, sym, ap, ◌∙◌, subst, inl, inr, arith, eq-eqb, eqb-true}
 use Rattle.std.specs.List.{AllByRecursion, cons_option}
+use Rattle.std.proofs.Math.Bool.{or-true}
 use Rattle.std.proofs.lemmas.Bool.{cases_Bool}
 use Rattle.std.proofs.lemmas.List.Sums.{sum_by-append, sum_by-cons}
 use Rattle.cb_member.specs.declared.names.Loss.{Loss}
@@ -142,9 +143,6 @@ few_makes s answers are =
     let all = by_lane_makes s.lines in omega (arith, each, same, all)
 
 -- ---- the nodes of crashes
-or_true : (b : Bool) → (b || true) ≡ true
-or_true true = refl
-or_true false = refl
 
 -- a line that crashes the node is one of the lines
 crash_lines : (lines : List Line)
@@ -162,7 +160,7 @@ crash_lines (l ∷ lines) = (
     later [] each = tt
     later (m ∷ ls) each = (
       λ n is. ap (λ (b : Bool). is_crash n l.request || b) (each.0 n is)
-          ∙ or_true (is_crash n l.request),
+          ∙ or-true (is_crash n l.request),
       later ls each.1,
     )
 

@@ -6,6 +6,7 @@ use Rattle.std.specs.List.{AllByRecursion}
 use Rattle.std.proofs.lemmas.Bool.{cases_lt}
 use Rattle.std.proofs.lemmas.Bool.Decides.{nat_tests}
 use Rattle.std.proofs.lemmas.List.{length-map}
+use Rattle.std.proofs.lemmas.Option.{same_Some}
 use Rattle.cb_types.specs.declared.answer.Answer.{Answer}
 use Rattle.cb_types.specs.declared.config.Config.{Config}
 use Rattle.cb_types.specs.declared.handle.Handle.{Handle}
@@ -60,12 +61,9 @@ abbrev IsNoWrite : Option Job → Type 0
 IsNoWrite None = Unit {0}
 IsNoWrite (Some j) = WritesNone j
 
-same_job : (j k : Job) → Some j ≡ Some k → j ≡ k
-same_job j k e = cc
-
 own_turn : (own : Option Job) (j : Job) → IsNoWrite own → own ≡ Some j → WritesNone j
 own_turn None j none is = absurd (let e : None ≡ Some j = is in cc)
-own_turn (Some k) j none is = subst WritesNone (same_job k j is) none
+own_turn (Some k) j none is = subst WritesNone (same_Some k j is) none
 
 for_it : (own : Option Job) (h : Option ℕ) (j : Job) → IsNoWrite own → IsJobFor own h j → WritesNone j
 for_it own None j none is = own_turn own j none is
@@ -299,7 +297,7 @@ module _ (c : Config) (v : View) (w : WorldState) (closed : IsClosed Did 1 c v w
       absurd (unread h z.0 z.1 z.2)
   write_line h at bytes (inr x) =
       let z = one_there (IsOwnTurn (Some (job.Write (the_object h) at bytes)) answer.Worn) v.turns x in
-      wrote_worn z.0 z.1 h at bytes (sym (same_job _ _ z.2.1)) z.2.0
+      wrote_worn z.0 z.1 h at bytes (sym (same_Some _ _ z.2.1)) z.2.0
 
   free_line : (h : ℕ)
       → HasOne (IsTurnFor (Some (job.Free (the_object h))) (Some h) answer.Worn) v.turns
@@ -310,7 +308,7 @@ module _ (c : Config) (v : View) (w : WorldState) (closed : IsClosed Did 1 c v w
       z = find_for (Some (job.Free (the_object h))) (Some h) answer.Worn v.turns x
 
       by : IsJobFor (Some (job.Free (the_object h))) (Some h) z.0.job → 2 ^ 40 ≤ count
-      by (inl own) = freed_worn z.0 z.1 h (sym (same_job _ _ own)) z.2.0
+      by (inl own) = freed_worn z.0 z.1 h (sym (same_Some _ _ own)) z.2.0
       by (inr swap) = unwriting z.0 z.1 (subst WritesNone (sym swap) tt) z.2.0
 
   worn_line : (h : Option ℕ) (q : Request) → RunsIn q → IsReplyOf q answer.Worn

@@ -50,6 +50,7 @@ use Rattle.cb_lanes.proofs.ByAsk.{by_ask}
 use Rattle.cb_lanes.proofs.CompactGoes.{compact_goes}
 use Rattle.cb_lanes.proofs.GivingBack.{unpin_stands, gives_all}
 use Rattle.cb_lanes.proofs.LineGoes.{read_goes, write_goes, free_goes, filter_goes, make_goes}
+use Rattle.cb_lanes.proofs.Lists.{all_push}
 use Rattle.cb_lanes.proofs.Lone.{empty_lone, line_lone, rests_lone, turn_alone}
 use Rattle.cb_lanes.proofs.NamesKept.{name_within}
 use Rattle.cb_lanes.proofs.Pinning.{pin_goes, pin_settings, peek_goes, unpin_goes, leave_goes}
@@ -253,11 +254,6 @@ within_after names answers first handles made next now request reply name h with
 
 -- ---- one more line
 
-all_push : (answers : List Answer) (a : Answer) → AllByRecursion HasLineReply answers
-    → HasLineReply a → AllByRecursion HasLineReply (answers ++ a ∷ [])
-all_push [] a all is = (is, tt)
-all_push (b ∷ answers) a all is = (all.0, all_push answers a all.1 is)
-
 -- no line changes the configuration
 pub line_settings : (side : Side) (seat : ℕ) (handle : Option ℕ) (request : Request)
     (w new : WorldState) (r : Reply) → IsSoundWorld w → seat < 64 → ((h : ℕ) → handle ≡ Some h → h < w.desk.settings.handles)
@@ -295,7 +291,7 @@ along_push side c later answers l request r w new rested names kept along few lt
       leads = leads_push side later [] answers (empty_world c) w new rested a along.leads step_by_answers rest
           behind.stands.sound;
       follow = rw more (Follow-push 1 c.handles [] (calls_of answers) (called answers a) along.follow reply);
-      answered = all_push answers a along.answered goes.reply;
+      answered = all_push HasLineReply answers a along.answered goes.reply;
       kept = λ name. handle_of-push name answers a
           ∙ named_after names request r name (handle_of answers name) (along.kept name)
           ∙ sym (names_after name);

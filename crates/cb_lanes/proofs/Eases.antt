@@ -36,6 +36,7 @@ use Rattle.cb_lanes.proofs.Along.{Along, along_ready, line_form}
 use Rattle.cb_lanes.proofs.CalmLines.{line_calm}
 use Rattle.cb_lanes.proofs.EasyLines.{IsIdleAmong, empty_at_rest, line_at_rest, rests_at_rest}
 use Rattle.cb_lanes.proofs.EasyWorlds.{crashed_nodes, easy_line, easy_world, few_answers, few_made}
+use Rattle.cb_lanes.proofs.Lists.{all_last, all_push}
 use Rattle.cb_lanes.proofs.OwnPins.{line_tells}
 use Rattle.cb_lanes.proofs.ScopesKept.{lines_own}
 use Rattle.cb_lanes.proofs.Turning.{Turning}
@@ -68,16 +69,6 @@ keep_last before [] a keep = subst (λ (xs : List Answer).
 keep_last before (b ∷ after) a keep = subst (λ (xs : List Answer).
     ScopeSays (handle_named xs (name_of a.request)) (scope_of a.lane.n xs) a.request a.reply)
     (append_assoc before (b ∷ []) after) (keep_last (before ++ b ∷ []) after a keep.1)
-
-all_last : (P : Answer → Type 0) (answers : List Answer) (a : Answer) → AllByRecursion P (answers ++ a ∷ [])
-    → P a
-all_last P [] a all = all.0
-all_last P (b ∷ answers) a all = all_last P answers a all.1
-
-all_push : (P : Answer → Type 0) (answers : List Answer) (a : Answer) → AllByRecursion P answers → P a
-    → AllByRecursion P (answers ++ a ∷ [])
-all_push P [] a all is = (is, tt)
-all_push P (b ∷ answers) a all is = (all.0, all_push P answers a all.1 is)
 
 -- ---- calm
 

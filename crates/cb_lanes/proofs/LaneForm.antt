@@ -1,8 +1,8 @@
 -- The lines of a lane of a script are such as are known of a lane's lines.
-use Rattle.std.proofs.Common.{◌≡◌, ◌⊎◌, ℕ, ◌≤◌, Bool, true, false, ◌&&◌, ◌||◌, List, [], ◌∷◌, ◌++◌, map, Option, None, Some, inl, inr, sym, refl, ap, ◌∙◌, subst, eq-eqb, nat_eq, append_assoc, arith, if◌then◌else◌}
+use Rattle.std.proofs.Common.{◌≡◌, ◌⊎◌, ℕ, ◌≤◌, Bool, true, false, ◌&&◌, List, [], ◌∷◌, ◌++◌, map, Option, None, Some, inl, inr, sym, refl, ap, ◌∙◌, subst, eq-eqb, nat_eq, append_assoc, arith, if◌then◌else◌}
 use Rattle.std.specs.List.{AllByRecursion, list_any}
 use Rattle.std.specs.Str.{bytes_eq}
-use Rattle.std.proofs.lemmas.Bool.{cases_Bool, eqb-true, true≢false}
+use Rattle.std.proofs.lemmas.Bool.{cases_Bool, eqb-true, true≢false, or_parts}
 use Rattle.std.proofs.lemmas.List.{append-nil, map_push}
 use Rattle.std.proofs.lemmas.List.Elements.{filter-append}
 use Rattle.std.proofs.lemmas.Slice.Eq.{bytes_eq-Decides}
@@ -27,6 +27,7 @@ use Rattle.cb_lanes.specs.Passing.{goes_in}
 use Rattle.cb_lanes.proofs.AloneLines.{maker_of, one_maker}
 use Rattle.cb_lanes.proofs.ByAsk.{line_less}
 use Rattle.cb_lanes.proofs.LaneAlone.{AreLaneLines, LaneGoesOwn, lane_alone_until}
+use Rattle.cb_lanes.proofs.Lists.{all_push}
 use Rattle.cb_lanes.proofs.OwnLines.{IsLaneLine}
 use Rattle.cb_lanes.proofs.OwnSays.{goes_own}
 use Rattle.cb_lanes.proofs.OwnTold.{ask_tells}
@@ -104,20 +105,11 @@ made_among lane (l ∷ front) k p made = by (cases_Bool (nat_eq l.lane.n lane)) 
     ]
     by (inr e) rest = inr (rest (subst (λ (ls : List Line). IsNameMade ls k p) (line_past lane l front e) made))
 
-either : (a b : Bool) → (a || b) ≡ false → (a ≡ false) × (b ≡ false)
-either true b e = absurd (true≢false e)
-either false b e = (refl, e)
-
 any_off : (t : Line → Bool) (front back : List Line) (l : Line) → list_any t (front ++ l ∷ back) ≡ false
     → t l ≡ false
-any_off t [] back l none = (either (t l) (list_any t back) none).0
+any_off t [] back l none = (or_parts (t l) (list_any t back) none).0
 any_off t (k ∷ front) back l none =
-    any_off t front back l (either (t k) (list_any t (front ++ l ∷ back)) none).1
-
-all_more : (P : Answer → Type 0) (xs : List Answer) (x : Answer) → AllByRecursion P xs → P x
-    → AllByRecursion P (xs ++ x ∷ [])
-all_more P [] x all one = (one, tt)
-all_more P (y ∷ xs) x all one = (all.0, all_more P xs x all.1 one)
+    any_off t front back l (or_parts (t k) (list_any t (front ++ l ∷ back)) none).1
 
 module _ (nodes : ℕ) (all : List Line) (lane : ℕ) (names : List Named) (has : HasOwnLines all lane)
     (apart : (p : List ℕ) → is_maker all lane p ≡ true → handle_among names p ≡ None) where
@@ -192,7 +184,7 @@ module _ (nodes : ℕ) (all : List Line) (lane : ℕ) (names : List Named) (has 
                 (map_push asked before a ∙ (λ i. were i ++ z.0 i ∷ [])
                 ∙ sym (filter-append (λ k. nat_eq k.lane.n lane) front (l ∷ [])
                 ∙ ap (λ (ls : List Line). of_lane lane front ++ ls) (line_hit lane l [] e)))
-                z.1 (all_more (λ (b : Answer). b.lane.n ≡ lane) before a of same) line.1,
+                z.1 (all_push (λ (b : Answer). b.lane.n ≡ lane) before a of same) line.1,
           )
 
       by : (nat_eq l.lane.n lane ≡ true) ⊎ (nat_eq l.lane.n lane ≡ false) → Rest

@@ -7,6 +7,7 @@ pub use Rattle.cb_lanes.proofs.LaneRises.{AreOfLane, answers_of, has_joined, has
 pub use Rattle.cb_lanes.proofs.LaneScopes.{handle_is_made, made_as_left, made_as_right}
 pub use Rattle.cb_lanes.proofs.LinesRise.{lane_on_record}
 pub use Rattle.cb_lanes.proofs.LinesSuit.{are_suited_both, are_suited_more, lane_suits}
+pub use Rattle.cb_lanes.proofs.Lists.{all_both, all_map, found_one}
 pub use Rattle.cb_lanes.proofs.OwnEnds.{FoundIn, turned_in}
 pub use Rattle.cb_lanes.proofs.UntilLack.{NoneOfLane, calm_lacks_none, keep_alone, none_lacks}
 pub use Rattle.cb_lanes.proofs.UntilLack.{none_until, until_before, until_behind}

@@ -1,3 +1,4 @@
+pub mod Lists
 pub mod NamesKept
 pub mod Recounting
 pub mod LineKeeps

@@ -2,6 +2,7 @@
 use Rattle.std.proofs.Common.{◌≡◌, ℕ, Bool, true, false, cond, List, [], ◌∷◌, ◌++◌, length, Option, None, Some, ◌⊎◌, inl, inr, ⊎_elim, sym, refl, ap, ◌∙◌, subst, append_assoc}
 use Rattle.std.specs.Str.{bytes_eq}
 use Rattle.std.proofs.lemmas.List.{append-nil}
+use Rattle.std.proofs.lemmas.Option.{same_Some}
 use Rattle.cb_types.specs.declared.answer.Answer.{Answer}
 use Rattle.cb_types.specs.declared.config.Config.{Config}
 use Rattle.cb_types.specs.declared.handle.Handle.{Handle}
@@ -185,10 +186,6 @@ record IsMakeLine (q : Request) (r : Reply) (k : ℕ) : Type 0 where
   pub reply : r ≡ answer.Made handle version
   pub number : handle.n ≡ k
 
-abbrev number_or : Option ℕ → ℕ
-number_or (Some k) = k
-number_or None = 0
-
 number_case : (kept : KeptNames) (q : Request) (r : Reply) (name : List ℕ) (k : ℕ)
     → number_after kept q r name ≡ Some k → (kept_number kept name ≡ Some k) ⊎ IsMakeLine q r k
 number_case kept (Make made bytes) (answer.Made handle version) name k is = by (bytes_eq made name) is
@@ -203,7 +200,7 @@ number_case kept (Make made bytes) (answer.Made handle version) name k is = by (
       version = version;
       request = refl;
       reply = refl;
-      number = ap number_or same;
+      number = same_Some handle.n k same;
     })
     by false same = inl same
 number_case kept (Make made bytes) r name k is = inl is

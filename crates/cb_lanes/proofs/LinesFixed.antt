@@ -1,6 +1,7 @@
 -- The lines of a script are answered in one way, and lead to one world.
 use Rattle.std.proofs.Common.{◌≡◌, ℕ, zero, suc, List, [], ◌∷◌, ◌++◌, length, map, reverse, Option, None, Some, refl, sym, ap, ◌∙◌, subst, arith}
 use Rattle.std.specs.List.{slice_get}
+use Rattle.std.proofs.lemmas.Option.{same_Some}
 use Rattle.cb_ptr.specs.Word.{len_of}
 use Rattle.cb_types.specs.declared.answer.Answer.{Answer}
 use Rattle.cb_types.specs.declared.job.Job.{Job}
@@ -17,7 +18,6 @@ use Rattle.cb_world.specs.Memory.{bytes_in}
 use Rattle.cb_world.specs.Seats.{pins_of_seat}
 use Rattle.cb_world.specs.StillWords.{contents_at}
 use Rattle.cb_world.specs.World.{WorldState, IsSoundWorld, word_at}
-use Rattle.cb_world.proofs.Laws.{some_same}
 use Rattle.cb_core.specs.declared.event.Event.TheVariants.{Turn}
 use Rattle.cb_core.specs.Step.{Leads, Step}
 use Rattle.cb_core.specs.Turned.{counted}
@@ -68,7 +68,7 @@ peek_fixed seat h w a b r q (shown at x e s) (not_pinned n f t) =
     absurd (n at x.pin x.there x.on)
 peek_fixed seat h w a b r q (shown at x e s) (shown to y f t) =
     let pins = pins_of_seat w.seats seat in
-    let same : x.pin ≡ y.pin = some_same x.pin y.pin
+    let same : x.pin ≡ y.pin = same_Some x.pin y.pin
     (sym x.there ∙ ap (λ (i : ℕ). slice_get pins i) (newest_fixed pins h at to x y) ∙ y.there) in (
       e
           ∙ ap (λ (pin : Held). answer.Bytes pin.version

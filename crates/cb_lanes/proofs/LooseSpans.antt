@@ -1,7 +1,7 @@
 -- Where no frame is free, every span that is not loose has an object that a seat has pinned.
 use Rattle.std.proofs.Common.{◌≡◌, ◌≢◌, ◌⊎◌, ℕ, suc, ◌+◌, ◌<◌, ◌≤◌, Bool, true, false, ◌&&◌, ◌||◌, List, [], ◌∷◌, ◌++◌, length, get_or, Option, None, Some, refl, sym, ap, ◌∙◌, subst, arith, inl, inr, nat_eq, not, eq-eqb, ne_eqb, if◌then◌else◌}
 use Rattle.std.specs.List.{filter, list_all, list_any, range_with_len, slice_index_or, sum_by}
-use Rattle.std.proofs.lemmas.Bool.{cases_Bool, cases_eq, cases_lt, true≢false}
+use Rattle.std.proofs.lemmas.Bool.{cases_Bool, cases_eq, cases_lt, true≢false, or_left, or_right}
 use Rattle.std.proofs.lemmas.List.{get_or_past, length-append}
 use Rattle.std.proofs.lemmas.List.Folds.{list_any-append, list_any_at}
 use Rattle.std.proofs.lemmas.List.FromFn.{get_or-range_with_len, length-range_with_len}
@@ -99,13 +99,6 @@ frame_of s far sound h = by (object_at s h) refl
         placed n p (subst (λ (q : Object). LiesAt q n p) (sym e) (refl, refl))
 
 -- ---- the frames of all pins
-
-or_right : (a b : Bool) → b ≡ true → (a || b) ≡ true
-or_right true b e = refl
-or_right false b e = e
-
-or_left : (a b : Bool) → a ≡ true → (a || b) ≡ true
-or_left a b e = ap (λ (c : Bool). c || b) e
 
 abbrev number_if : Bool → ℕ
 number_if b = if b then 1 else 0

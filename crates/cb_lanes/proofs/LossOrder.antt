@@ -2,6 +2,7 @@
 -- took place began a new one.
 use Rattle.std.proofs.Common.{◌≡◌, ℕ, zero, suc, ◌+◌, ◌<◌, ◌≤◌, List, [], ◌∷◌, ◌++◌, map, Option, None, Some, refl, sym, ap, ◌∙◌, arith}
 use Rattle.std.specs.List.{AllByRecursion, cons_option}
+use Rattle.std.proofs.lemmas.Option.{none-some}
 use Rattle.cb_member.specs.declared.names.Loss.{Loss}
 use Rattle.cb_member.specs.declared.names.NodeId.{NodeId}
 use Rattle.cb_types.specs.declared.answer.Answer.{Answer}
@@ -92,8 +93,6 @@ line_rises side seat handle request w new r x =
     other_rises side seat handle request (job_of request) w new r x
 
 -- ---- a crash that took place
-none_some : {A : Type 0} (x : A) → None ≡ Some x → ⊥
-none_some x e = cc
 
 abbrev epoch_in : Option Loss → ℕ
 epoch_in (Some loss) = loss.epoch.n
@@ -107,9 +106,9 @@ record IsNew (loss : Loss) (w new : WorldState) : Type 0 where
 crash_new : (node : NodeId) (w new : WorldState) (r : Reply) (loss : Loss)
     → TurnStep (job.Crash node) w r new → told_loss (Crash node) r ≡ Some loss → IsNew loss w new
 crash_new node w new r loss (worn end reply same) e =
-    absurd (none_some loss (sym (ap (told_loss (Crash node)) reply) ∙ e))
+    absurd (none-some loss (sym (ap (told_loss (Crash node)) reply) ∙ e))
 crash_new node w new r loss (done few (words, is_down down reply state) seats) e =
-    absurd (none_some loss (sym (ap (told_loss (Crash node)) reply) ∙ e))
+    absurd (none-some loss (sym (ap (told_loss (Crash node)) reply) ∙ e))
 crash_new node w new r loss (done few (words, crashed up reply state) seats) e =
     let at : w.far.members.epoch + 1 ≡ loss.epoch.n =
     ap epoch_in (sym (ap (told_loss (Crash node)) reply) ∙ e) in
@@ -121,10 +120,10 @@ line_new : (side : Side) (seat : ℕ) (handle : Option ℕ) (request : Request) 
     (r : Reply) (loss : Loss) → LineStep side seat handle request w r new → told_loss request r ≡ Some loss
     → IsNew loss w new
 line_new side seat handle (Crash node) w new r loss (other_holds holder off holds is same) e =
-    absurd (none_some loss (sym (ap (told_loss (Crash node)) is) ∙ e))
+    absurd (none-some loss (sym (ap (told_loss (Crash node)) is) ∙ e))
 line_new side seat handle (Crash node) w new r loss (free none step) e =
     crash_new node w new r loss step e
-line_new side seat handle request w new r loss x e = absurd (none_some loss e)
+line_new side seat handle request w new r loss x e = absurd (none-some loss e)
 
 -- ---- the lines one after another
 -- all have a later epoch

@@ -2,6 +2,7 @@
 use Rattle.std.proofs.Common.{◌≡◌, ℕ, ◌+◌, ◌<◌, ◌≤◌, Bool, true, false, cond, List, [], ◌∷◌, ◌++◌, length, take, get_or, Option, None, Some, refl, sym, ap, ◌∙◌, subst}
 use Rattle.std.specs.Str.{bytes_eq}
 use Rattle.std.proofs.lemmas.List.{take_all, take_more}
+use Rattle.std.proofs.lemmas.Option.{same_Some}
 use Rattle.cb_types.specs.declared.handle.Handle.{Handle}
 use Rattle.cb_model.specs.Called.{first_of}
 use Rattle.cb_rule.specs.declared.view.View.{View}
@@ -78,13 +79,9 @@ first_is : (a b : Option ℕ) (k : ℕ) (P : Type 0) → first_of a b ≡ Some k
 first_is (Some x) b k P is one two = one is
 first_is None b k P is one two = two is
 
-abbrev number_or : Option ℕ → ℕ
-number_or (Some k) = k
-number_or None = 0
-
 given_known : (o : Option Handle) (b : Bool) (v : View) (k : ℕ) → KnowsHandle v o
     → cond b (handle_number o) None ≡ Some k → Knows k v
-given_known (Some h) true v k knows is = subst (λ (n : ℕ). Knows n v) (ap number_or is) knows
+given_known (Some h) true v k knows is = subst (λ (n : ℕ). Knows n v) (same_Some h.n k is) knows
 given_known None true v k knows is = absurd cc
 given_known o false v k knows is = absurd cc
 

@@ -37,7 +37,8 @@ use Rattle.cb_lanes.proofs.OwnMade.{made_first, made_fresh}
 use Rattle.cb_lanes.proofs.OwnObjects.{last_hit, last_past}
 use Rattle.cb_lanes.proofs.OwnSays.{goes_own}
 use Rattle.cb_lanes.proofs.OwnStands.{LanePinsStand, LaneStands, ObjectStands, none_shared}
-use Rattle.cb_lanes.proofs.OwnSteps.{Grew, call_pins, name_test, pins_still, stands_made, stands_still}
+use Rattle.cb_lanes.proofs.OwnSteps.{Grew, call_pins, pins_still, stands_made, stands_still}
+use Rattle.cb_lanes.proofs.PinLists.{name_cases}
 use Rattle.cb_lanes.proofs.TellingNew.{ask_new}
 
 -- the request neither makes an object nor changes the scope
@@ -148,7 +149,7 @@ module _ (c : Config) (lines : List Line) (lane : ℕ) (named : Option (List ℕ
   own_make p bytes (answer.Made hd version) ((d, y, is), tells) adds line room none more = (
     (hd, ap (answer.Made hd) first),
     stands_made lines lane handle later state (alone_after state (Make p bytes) (answer.Made hd version)) v m p hd.n e
-        (Some (Held version bytes)) grew (λ q off. more q ∙ other q off (name_test p q)) (more p ∙ made (name_test p p))
+        (Some (Held version bytes)) grew (λ q off. more q ∙ other q off (name_cases p q)) (more p ∙ made (name_cases p p))
         refl none fresh wrote refl (call_pins c (job.Make bytes) (answer.Made hd version) v m (d, y, is)) (record {
           own = subst (λ (k : View). Has hd.n k.own) (sym is) (inl refl);
           last = e;

@@ -16,7 +16,7 @@ use Rattle.cb_lanes.specs.Passing.{mark_in, mark_of, marks_of}
 use Rattle.cb_lanes.specs.Scopes.{CallSays, KeepScopes, PeekSays, ScopeSays, UnmadeSays, UnpinSays, scope_more}
 use Rattle.cb_lanes.proofs.WorkedBodies.{knows_no_other, knows_one, part}
 use Rattle.cb_lanes.proofs.WorkedPassing.{kept, newer, older}
-use Rattle.cb_lanes.proofs.WorkedPins.{a, b, by, c, full, on, run, three}
+use Rattle.cb_lanes.proofs.WorkedPins.{a, b, by, c, full, on, three}
 
 -- ---- a lane's scope after one more answer
 own_answers_count : scope_more 1 three (by 1 (Unpin b) Done) ≡ on a 2 ∷ on a 1 ∷ []
@@ -119,21 +119,6 @@ handle_is_full : ScopeSays (Some 0) full (Pin a) (Version 3) → ⊥
 handle_is_full says = absurd (let e : Version 3 ≡ ScopeFull = says.1 refl in cc)
 
 -- ---- answers, one after the other
-run_keeps_pins : KeepScopes [] (run 1)
-run_keeps_pins = (
-  tt,
-  (
-    (
-      λ e. absurd (let f : Version 1 ≡ ScopeFull = e in cc),
-      λ e. absurd (let f : ◌≡◌ {A = ℕ} 0 16 = e in omega (arith, f)),
-    ),
-    ((7 ∷ [], refl), (refl, tt)),
-  ),
-)
-
-run_keeps_a_pin_less : KeepScopes [] (run 2) → ⊥
-run_keeps_a_pin_less keep = absurd (let e : Left 2 ≡ Left 1 = keep.1.1.1.0 in cc)
-
 -- behind a pin a write tells no pin
 calls_are_kept_too : KeepScopes (by 1 (Make a (7 ∷ [])) (Made (record { n = 0 }) 1)
     ∷ by 1 (Pin a) (Version 1) ∷ []) (by 1 (Write a 0 []) (Pinned 0) ∷ []) → ⊥

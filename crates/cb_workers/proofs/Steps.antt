@@ -2,6 +2,7 @@
 use Rattle.std.proofs.Common.{◌≡◌, ℕ, ◌+◌, ◌<◌, List, [], ◌∷◌, ◌++◌, length, Option, None, Some, Result, Ok, Err, IsOk, OnErr, refl, sym, ap, ◌∙◌, subst, arith}
 use Rattle.std.proofs.lemmas.Bool.{false≢true}
 use Rattle.std.proofs.lemmas.List.{map-append}
+use Rattle.std.proofs.lemmas.Option.{none-some}
 use Rattle.cb_member.specs.declared.no_memory.NoMemory.{NoMemory}
 use Rattle.cb_types.specs.declared.config.Field.TheVariants.{Handles}
 use Rattle.cb_types.specs.declared.job.Job.{Job}
@@ -141,10 +142,6 @@ one_ended due last reply v u some adds = (
 )
 
 -- a job that ends something is an abort or a parting
-abbrev IsSomeNot : Option Job → Type 0
-IsSomeNot (Some last) = ⊥
-IsSomeNot None = Unit {0}
-
 abbrev IsSomeEnd : Option Job → Type 0
 IsSomeEnd (Some last) = IsEnd last
 IsSomeEnd None = ⊥
@@ -156,7 +153,7 @@ is_end job.Abort last e = subst IsSomeEnd e tt
 is_end job.Patch last e = subst IsSomeEnd e tt
 is_end job.Merge last e = subst IsSomeEnd e tt
 is_end job.Part last e = subst IsSomeEnd e tt
-is_end due last e = absurd (subst IsSomeNot e tt)
+is_end due last e = absurd (none-some last e)
 
 pub end_answered : (due last : Job) → (r : Result Reply NoMemory) → (v u : View)
     → end_of due ≡ Some last → (IsEnd last → IsOk r)
