@@ -46,15 +46,9 @@ use Rattle.cb_lanes.specs.Lost.{told_loss, losses_of}
 use Rattle.cb_app.specs.Telling.{TellsLost, TellsRoom}
 use Rattle.cb_app.specs.Threaded.{AreLosses}
 use Rattle.cb_app.proofs.CrashesTold.{IsLoss, lost_told, room_told}
+use Rattle.cb_app.proofs.OfLane.{has_either}
 
 -- ---- elements of lists
-has_cases : {A : Type 0} (x : A) (xs ys : List A) → Has x (xs ++ ys) → Has x xs ⊎ Has x ys
-has_cases x [] ys there = inr there
-has_cases x (y ∷ xs) ys (inl e) = inl (inl e)
-has_cases x (y ∷ xs) ys (inr later) = elim (has_cases x xs ys later) [
-  | inl front ↦ inl (inr front)
-  | inr back ↦ inr back
-]
 
 has_flat : {A B : Type 0} (f : A → List B) (a : A) (b : B) (xs : List A) → Has a xs → Has b (f a)
     → Has b (flat_map f xs)
@@ -126,7 +120,7 @@ found_loss : (before after : List Answer) (node : NodeId) (epoch : Epoch)
     → Has (let l : Loss = record { node = node; epoch = epoch } in l) (losses_of after)
 found_loss before [] node epoch there = absurd there
 found_loss before (a ∷ after) node epoch there =
-    elim (has_cases (crashing node epoch)
+    elim (has_either (crashing node epoch)
     (newest_first happened_for (tolds (before ++ a ∷ []) after)) (happened_at a.request a.reply) there) [
       | inl later ↦ has_more (told_loss a.request a.reply) _ (losses_of after)
           (inr (found_loss (before ++ a ∷ []) after node epoch later))

@@ -11,7 +11,7 @@ use Rattle.cb_script.specs.Form.{AreLines, IsNameKnown, IsNameMade, IsNameNew, K
 use Rattle.cb_script.proofs.PublicLaws.{made_cases}
 use Rattle.cb_model.specs.Legal.{WasTold}
 use Rattle.cb_app.specs.ByLane.{AreLanesApart, AreOfOthers, IsApart, IsUsed, Uses, by_lane, flat, lanes_up_to, of_lane}
-use Rattle.cb_lanes.proofs.Laws.{all_both, all_map}
+use Rattle.cb_lanes.proofs.Laws.{all_both, all_map, made_in_front}
 
 -- ---- lists of lines, one behind the other
 
@@ -21,12 +21,6 @@ made_in_both [] ys lane name is = inr is
 made_in_both (x ∷ xs) ys lane name (inl here) = inl (inl here)
 made_in_both (x ∷ xs) ys lane name (inr later) =
     elim (made_in_both xs ys lane name later) [ inl p ↦ inl (inr p) | inr q ↦ inr q ]
-
-pub made_in_front : (xs ys : List Line) (lane : ℕ) (name : List ℕ) → IsNameMade xs lane name
-    → IsNameMade (xs ++ ys) lane name
-made_in_front [] ys lane name is = absurd is
-made_in_front (x ∷ xs) ys lane name (inl here) = inl here
-made_in_front (x ∷ xs) ys lane name (inr later) = inr (made_in_front xs ys lane name later)
 
 -- ---- one lane
 

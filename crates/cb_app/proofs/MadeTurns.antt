@@ -16,7 +16,6 @@ use Rattle.cb_world.specs.declared.shown.Shown.{Shown}
 use Rattle.cb_world.specs.Empty.{empty_far}
 use Rattle.cb_world.specs.FarState.{FarState}
 use Rattle.cb_world.specs.Played.{played}
-use Rattle.cb_core.specs.Parts.{Holding}
 use Rattle.cb_rule.specs.declared.turn.Turn.{Turn}
 use Rattle.cb_rule.specs.declared.view.View.{View}
 use Rattle.cb_rule.specs.Lists.{Has, total}
@@ -31,25 +30,20 @@ use Rattle.cb_record.specs.Deeds.{Deed, deed, happened, happening}
 use Rattle.cb_record.specs.Lists.{newest_first}
 use Rattle.cb_record.specs.Told.{tolds}
 use Rattle.cb_record.specs.Upheld.{as_part}
-use Rattle.cb_shared.specs.Turning.{Did, DidAs, PinLacks, ReadsByPin, Slate, held_by, slate_run, slate_shows}
+use Rattle.cb_shared.specs.Turning.{Did, DidAs, PinLacks, ReadsByPin, held_by, slate_run, slate_shows}
 use Rattle.cb_app.proofs.CountedTurns.{below, counts_all, counts_more, counts_none}
 use Rattle.cb_app.proofs.MadeStays.{CountsMakes, made_by, stops_adds, turned_adds}
-use Rattle.cb_app.proofs.TurnHistory.{at_last, at_turn, lone, number_of}
+use Rattle.cb_app.proofs.TurnHistory.{at_last, at_turn, lone, number_of, lacks_same, pins_same}
 
 -- ---- one turn
-read_same : (h : ℕ) (a b : Holding Slate) (r : Reply) → ReadsByPin h a r b → b.far ≡ a.far
-read_same h a b r x = ap (λ (z : Holding Slate). z.far) x.0
-
-lacks_same : (h : ℕ) (a b : Holding Slate) → PinLacks h a b → b.far ≡ a.far
-lacks_same h a b x = ap (λ (z : Holding Slate). z.far) x
 
 did_adds : (c : Config) (j : Job) (reply : Option Reply) (start : Shown) (es : List Event)
     (took gave : FarState) → DidAs c j reply start es took gave → CountsMakes c j took gave reply
 did_adds c j (Some r) start es took gave did =
-    turned_adds slate_run slate_shows ReadsByPin read_same PinLacks lacks_same c j
+    turned_adds slate_run slate_shows ReadsByPin pins_same PinLacks lacks_same c j
     (held_by start [] took) (held_by (played es start) es gave) r did
 did_adds c j None start es took gave did =
-    stops_adds slate_run slate_shows ReadsByPin read_same PinLacks lacks_same c j
+    stops_adds slate_run slate_shows ReadsByPin pins_same PinLacks lacks_same c j
     (held_by start [] took) (held_by (played es start) es gave) did.stops
 
 -- how many objects a turn made

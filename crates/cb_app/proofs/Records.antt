@@ -34,7 +34,7 @@ use Rattle.cb_lanes.specs.Rising.{LaneRises}
 use Rattle.cb_lanes.specs.Scoped.{LaneScoped}
 use Rattle.cb_lanes.specs.Scopes.{scope_of}
 use Rattle.cb_lanes.specs.Suits.{AreSuited}
-use Rattle.cb_lanes.proofs.Laws.{answers_of, lane_suits}
+use Rattle.cb_lanes.proofs.Laws.{answers_of, lane_suits, has_seen, first_none}
 use Rattle.cb_workers.specs.Bodies.{IsWorked, WorkerWorks}
 use Rattle.cb_workers.specs.Rules.{owner}
 use Rattle.cb_workers.specs.Work.{AreJobsOf}
@@ -55,16 +55,11 @@ use Rattle.cb_app.proofs.ScopesTold.{none_scoped}
 
 -- ---- a pass that was split off
 
-has_as_seen : (e : Entry) (es : List Entry) → Has e es → Has (seen_of e) (map seen_of es)
-has_as_seen e [] h = absurd h
-has_as_seen e (x ∷ es) (inl here) = inl (ap seen_of here)
-has_as_seen e (x ∷ es) (inr later) = inr (has_as_seen e es later)
-
 right_knows : (h given : ℕ) (v : View) → Knows h v → Knows h (right_of given v)
 right_knows h given v (inl (e, has, is)) = inr (
   seen_of e,
   has_left (seen_of e) (map seen_of (v.fresh ++ v.written)) v.seen
-      (has_as_seen e (v.fresh ++ v.written) (has_right e v.fresh v.written has)),
+      (has_seen e (v.fresh ++ v.written) (has_right e v.fresh v.written has)),
   is,
 )
 right_knows h given v (inr (s, has, is)) =
@@ -144,10 +139,6 @@ worker_told s w turns p q given answers fresh works none =
 
 abbrev HasAll : List Entry → View → Type 0
 HasAll es v = (e : Entry) → Has e es → Has e v.written
-
-first_none : (a : Option ℕ) → first_of a None ≡ a
-first_none None = refl
-first_none (Some h) = refl
 
 abbrev no_number : Option ℕ
 no_number = None
@@ -236,7 +227,7 @@ names_of_one (Make made bytes) (Made handle version) names later name is =
 names_of_one (Make made bytes) reply names later name is =
     ap (λ (h : Option ℕ). first_of h None) is
     ∙ ap (λ (o : Option ℕ). first_of (handle_among names name) o) (sym (either_none (bytes_eq made name)))
-names_of_one r reply names later name is = first_none (handle_of later name) ∙ is
+names_of_one r reply names later name is = sym (first_none (handle_of later name)) ∙ is
 
 pub names_are : (answers : List Answer) → AreNamesOf (names_in answers) answers
 names_are [] name = refl

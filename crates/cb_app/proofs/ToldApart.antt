@@ -14,21 +14,7 @@ use Rattle.cb_script.specs.Form.{IsNameMade, MakesName}
 use Rattle.cb_record.specs.Told.{Told, told, tolds}
 use Rattle.cb_lanes.specs.Asked.{asked}
 use Rattle.cb_app.specs.ByLane.{IsApart, Uses}
-
-first_of-first_of : (a b c : Option ℕ) → first_of (first_of a b) c ≡ first_of a (first_of b c)
-first_of-first_of None b c = refl
-first_of-first_of (Some h) b c = refl
-
-first_of-none : (a : Option ℕ) → a ≡ first_of a None
-first_of-none None = refl
-first_of-none (Some h) = refl
-
-handle_of-append : (name : List ℕ) (xs ys : List Answer)
-    → handle_of (xs ++ ys) name ≡ first_of (handle_of ys name) (handle_of xs name)
-handle_of-append name [] ys = first_of-none (handle_of ys name)
-handle_of-append name (x ∷ xs) ys =
-    ap (λ (h : Option ℕ). first_of h (handle_made name x.request x.reply)) (handle_of-append name xs ys)
-    ∙ first_of-first_of (handle_of ys name) (handle_of xs name) (handle_made name x.request x.reply)
+use Rattle.cb_lanes.proofs.Laws.{first_none, handle_append}
 
 -- no lane makes the name
 abbrev IsMadeByNone : List Answer → List ℕ → Type 0
@@ -58,12 +44,12 @@ pub unseen : (name : List ℕ) (xs ys zs : List Answer) → IsMadeByNone ys name
     → handle_of (xs ++ (ys ++ zs)) name ≡ handle_of (xs ++ zs) name
 unseen name xs ys zs none =
     let left : handle_of (xs ++ (ys ++ zs)) name ≡ first_of (handle_of (ys ++ zs) name) (handle_of xs name) =
-    handle_of-append name xs (ys ++ zs) in
+    handle_append xs (ys ++ zs) name in
     let mid : handle_of (ys ++ zs) name ≡ handle_of zs name =
-    handle_of-append name ys zs
+    handle_append ys zs name
     ∙ ap (λ (h : Option ℕ). first_of (handle_of zs name) h) (none_made ys name none)
-    ∙ sym (first_of-none (handle_of zs name)) in
-    left ∙ ap (λ (h : Option ℕ). first_of h (handle_of xs name)) mid ∙ sym (handle_of-append name xs zs)
+    ∙ sym (first_none (handle_of zs name)) in
+    left ∙ ap (λ (h : Option ℕ). first_of h (handle_of xs name)) mid ∙ sym (handle_append xs zs name)
 
 -- what a line is about behind answers of other lanes
 about : (r : Request) (reply : Reply) (xs ys zs : List Answer)

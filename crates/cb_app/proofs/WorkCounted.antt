@@ -16,28 +16,22 @@ use Rattle.cb_world.specs.FarState.{FarState}
 use Rattle.cb_world.specs.Played.{played}
 use Rattle.cb_world.specs.Sound.{Sound}
 use Rattle.cb_world.specs.World.{IsConfigured}
-use Rattle.cb_core.specs.Parts.{Holding}
 use Rattle.cb_rule.specs.declared.turn.Turn.{Turn}
 use Rattle.cb_rule.specs.declared.view.View.{View}
 use Rattle.cb_rule.specs.Lists.{Has, times, total}
 use Rattle.cb_rule.specs.Locking.{turn_number}
 use Rattle.cb_rule.specs.OneHistory.{HasTurnNumber, IsOneHistory}
 use Rattle.cb_rule.proofs.Laws.{by_case}
-use Rattle.cb_shared.specs.Turning.{Did, DidAs, PinLacks, ReadsByPin, Slate, held_by, slate_run, slate_shows}
+use Rattle.cb_shared.specs.Turning.{Did, DidAs, PinLacks, ReadsByPin, held_by, slate_run, slate_shows}
 use Rattle.cb_workers.specs.declared.worker.Worker.{Worker}
 use Rattle.cb_app.specs.Crew.{turns_as, work_in}
 use Rattle.cb_app.specs.Telling.{CountsWorkers, counted_as, turns_by}
 use Rattle.cb_app.proofs.CountedTurns.{below, counts_all, counts_more, counts_none}
-use Rattle.cb_app.proofs.TurnHistory.{at_last, lone, number_of}
+use Rattle.cb_app.proofs.TurnHistory.{at_last, lone, number_of, lacks_same, pins_same}
 use Rattle.cb_app.proofs.TurnKinds.{CountsKind, kinds, stopped_counts, turned_counts}
 use Rattle.cb_app.proofs.WorkDone.{turns_same}
 
 -- ---- one turn
-pins_same : (h : ℕ) (a b : Holding Slate) (r : Reply) → ReadsByPin h a r b → b.far ≡ a.far
-pins_same h a b r x = ap (λ (z : Holding Slate). z.far) x.0
-
-lacks_same : (h : ℕ) (a b : Holding Slate) → PinLacks h a b → b.far ≡ a.far
-lacks_same h a b x = ap (λ (z : Holding Slate). z.far) x
 
 did_counts : (c : Config) → IsAccepted c → (j : Job) (reply : Option Reply) (start : Shown)
     (es : List Event) (took gave : FarState) → IsConfigured c took → (s : Shown) → Sound s took

@@ -22,6 +22,7 @@ use Rattle.cb_lanes.specs.Asked.{asked}
 use Rattle.cb_lanes.specs.Alone.{is_maker, makes_named}
 use Rattle.cb_lanes.specs.Scopes.{NamedPin, Scope, named_on, newest_on, scope_after, scope_more, scope_of}
 use Rattle.cb_lanes.proofs.AloneGoes.{others_after}
+use Rattle.cb_lanes.proofs.Lists.{one_if}
 
 -- a front of lines has no more than all of them
 pub any_front : {X : Type 0} (p : X → Bool) (xs : List X) (i : ℕ) → list_any p xs ≡ false
@@ -260,9 +261,6 @@ scope_off_from lane name scope (a ∷ answers) none all =
     by (inr e) = ap (λ (b : Bool). newest_on name (if b then scope_after scope a.request a.reply else scope)) e
         ∙ none
 
-abbrev number_if : Bool → ℕ
-number_if b = if b then 1 else 0
-
 none_named : (name : List ℕ) (scope : Scope) → newest_on name scope ≡ None → named_on name scope ≡ 0
 none_named name [] none = refl
 none_named name (pin ∷ older) none = by (none_named name older) (cases_Bool (bytes_eq pin.name name))
@@ -275,8 +273,8 @@ none_named name (pin ∷ older) none = by (none_named name older) (cases_Bool (b
     by later (inr e) =
         let rest = later (sym (ap (λ (b : Bool). if b then Some pin.version else newest_on name older) e)
         ∙ none) in
-        let here : number_if (bytes_eq pin.name name) ≡ 0 = ap number_if e in
-        let all = sum_by-cons (λ (p : NamedPin). number_if (bytes_eq p.name name)) pin older in
+        let here : one_if (bytes_eq pin.name name) ≡ 0 = ap one_if e in
+        let all = sum_by-cons (λ (p : NamedPin). one_if (bytes_eq p.name name)) pin older in
         omega (arith, rest, here, all)
 
 pins_not : (lines : List Line) (own lane : ℕ) (name : List ℕ)
@@ -323,7 +321,7 @@ none_made : (request : Request) (r : Reply) (n : ℕ) → event_of request r ≡
 none_made request r n e =
     let z = ap made_by e ∙ refusal_makes (subject_of request) r in omega (arith, z)
 
-made_few : (request : Request) (r : Reply) → made_by (event_of request r) ≤ number_if (is_make request)
+made_few : (request : Request) (r : Reply) → made_by (event_of request r) ≤ one_if (is_make request)
 made_few (Make name bytes) (answer.Made handle version) = omega arith
 made_few (Make name bytes) (answer.Full handles) = omega arith
 made_few (Make name bytes) r = none_made (Make name bytes) r 1 refl
@@ -346,7 +344,7 @@ pub makes_few : (before answers : List Answer)
 makes_few before [] = omega arith
 makes_few before (a ∷ answers) =
     let one = made_few a.request a.reply in let more = makes_few (before ++ a ∷ []) answers in
-    let all = sum_by-cons (λ (l : Line). number_if (is_make l.request)) (asked a) (map asked answers) in
+    let all = sum_by-cons (λ (l : Line). one_if (is_make l.request)) (asked a) (map asked answers) in
     omega (arith, one, more, all)
 
 pub count_front : (p : Line → Bool) (xs : List Line) (i : ℕ) → count_by p (take i xs) ≤ count_by p xs
@@ -354,6 +352,6 @@ count_front p xs zero = omega arith
 count_front p [] (suc i) = omega arith
 count_front p (x ∷ xs) (suc i) =
     let rest = count_front p xs i in
-    let a = sum_by-cons (λ (y : Line). number_if (p y)) x (take i xs) in
-    let b = sum_by-cons (λ (y : Line). number_if (p y)) x xs in
+    let a = sum_by-cons (λ (y : Line). one_if (p y)) x (take i xs) in
+    let b = sum_by-cons (λ (y : Line). one_if (p y)) x xs in
     omega (arith, rest, a, b)

@@ -50,7 +50,7 @@ lane_alone c names nodes lane lines answers v w none (m, goes, left) are is all 
     }
 
 -- ---- seats that are split and joined
-has_seen : (e : Entry) (es : List Entry) → Has e es → Has (seen_of e) (map seen_of es)
+pub has_seen : (e : Entry) (es : List Entry) → Has e es → Has (seen_of e) (map seen_of es)
 has_seen e [] has = absurd has
 has_seen e (x ∷ es) (inl is) = inl (ap seen_of is)
 has_seen e (x ∷ es) (inr has) = inr (has_seen e es has)

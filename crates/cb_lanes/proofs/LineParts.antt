@@ -658,7 +658,7 @@ pin_line c h name answer.ScopeFull v w x = (
 pin_line c h name r v w x = pin_at_last c h name r v w x.1
 
 -- ---- a peek
-newest_handle : (h : ℕ) (p : Stand) (ps : List Stand) → IsNewestPin h p ps → p.handle ≡ h
+pub newest_handle : (h : ℕ) (p : Stand) (ps : List Stand) → IsNewestPin h p ps → p.handle ≡ h
 newest_handle h p [] x = absurd x
 newest_handle h p (q ∷ ps) (inl x) = ap (λ (z : Stand). z.handle) (sym x.1) ∙ x.0
 newest_handle h p (q ∷ ps) (inr x) = newest_handle h p ps x.1

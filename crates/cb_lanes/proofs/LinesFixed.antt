@@ -33,6 +33,7 @@ use Rattle.cb_lanes.specs.CompactsHere.{CompactsHere}
 use Rattle.cb_lanes.specs.declared.side.Side.{Side}
 use Rattle.cb_lanes.specs.declared.side.Side.TheVariants as parities
 use Rattle.cb_lanes.proofs.FarPins.{far_not_here}
+use Rattle.cb_lanes.proofs.Lists.{heads_same}
 
 -- two replies and two worlds are one
 abbrev AreOneEnd : Reply → Reply → WorldState → WorldState → Type 0
@@ -175,17 +176,6 @@ lanes_asked [] = refl
 lanes_asked (a ∷ answers) = ap (λ (l : List ℕ). a.lane.n ∷ l) (lanes_asked answers)
 
 -- what remains once both lists begin with one answer
-heads_same : (l m : Line) (ls ms : List Line) → l ∷ ls ≡ m ∷ ms → (l ≡ m) × (ls ≡ ms)
-heads_same l m ls ms e = (ap (λ (xs : List Line). first xs) e, ap (λ (xs : List Line). later xs) e)
-  where
-    first : List Line → Line
-    first [] = l
-    first (x ∷ xs) = x
-
-    later : List Line → List Line
-    later [] = []
-    later (x ∷ xs) = xs
-
 pub lines_fix : (side : Side) (before : List Answer) (w a b : WorldState) (xs ys : List Answer)
     → IsSoundWorld w → LinesLeadSoundly side before w xs a → LinesLead side before w ys b → map asked xs ≡ map asked ys
     → (xs ≡ ys) × (a ≡ b)

@@ -1,8 +1,12 @@
 -- What holds of each element of a list, and of one.
-use Rattle.std.proofs.Common.{List, [], ◌∷◌, ◌++◌, refl, inl, inr}
+use Rattle.std.proofs.Common.{◌≡◌, ℕ, Bool, cond, List, [], ◌∷◌, ◌++◌, refl, ap, inl, inr}
 use Rattle.std.specs.List.{AllByRecursion}
 use Rattle.cb_rule.specs.Lists.{Has}
 use Rattle.cb_record.specs.Lists.{HasOne}
+
+-- one, where it is so
+abbrev pub one_if : Bool → ℕ
+one_if b = cond b 1 0
 
 module _ {A : Type 0} where
   pub all_push : (P : A → Type 0) (xs : List A) (x : A) → AllByRecursion P xs → P x
@@ -28,3 +32,14 @@ module _ {A : Type 0} where
   found_one P [] one = absurd one
   found_one P (x ∷ xs) (inl is) = (x, inl refl, is)
   found_one P (x ∷ xs) (inr one) = let z = found_one P xs one in (z.0, inr z.1, z.2)
+
+  pub heads_same : (x y : A) (xs ys : List A) → x ∷ xs ≡ y ∷ ys → (x ≡ y) × (xs ≡ ys)
+  heads_same x y xs ys e = (ap (λ (zs : List A). first zs) e, ap (λ (zs : List A). later zs) e)
+    where
+      first : List A → A
+      first [] = x
+      first (z ∷ zs) = z
+
+      later : List A → List A
+      later [] = []
+      later (z ∷ zs) = zs

@@ -12,10 +12,7 @@ use Rattle.cb_rule.specs.Steps.{IsNewest}
 use Rattle.cb_rule.proofs.Laws.{each_has}
 use Rattle.cb_record.proofs.Laws.{has_right}
 use Rattle.cb_lanes.specs.KeepsOwn.{AreEntriesInOrder, AreRead, ComesBehind, EntryComesNext, last_in}
-
--- one, where it is so
-abbrev pub one_if : Bool → ℕ
-one_if b = cond b 1 0
+use Rattle.cb_lanes.proofs.Lists.{one_if}
 
 -- ---- the last entry
 pub last_hit : (e : Entry) (es : List Entry) (h : ℕ) → e.handle ≡ h → last_in (e ∷ es) h ≡ Some e

@@ -21,7 +21,7 @@ use Rattle.cb_lanes.specs.Alone.{LaneState, is_maker, now_named}
 use Rattle.cb_lanes.specs.KeepsOwn.{last_in}
 use Rattle.cb_lanes.specs.Passing.{HasNoPin, IsNewestPin}
 use Rattle.cb_lanes.specs.Scopes.{NamedPin, Scope, named_on, newest_on, without_newest}
-use Rattle.cb_lanes.proofs.OwnObjects.{one_if}
+use Rattle.cb_lanes.proofs.Lists.{one_if}
 
 -- what the entry left of its object
 abbrev pub object_of : Entry → Object

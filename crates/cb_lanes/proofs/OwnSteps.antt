@@ -27,7 +27,8 @@ use Rattle.cb_lanes.specs.Passing.{CallGives, PinEnds, PinGoes, PinsAtLast, goes
 use Rattle.cb_lanes.specs.Scopes.{Scope}
 use Rattle.cb_lanes.proofs.ByAsk.{by_ask}
 use Rattle.cb_lanes.proofs.LineParts.{Adds, adds_knows}
-use Rattle.cb_lanes.proofs.OwnObjects.{last_past, one_if}
+use Rattle.cb_lanes.proofs.Lists.{one_if}
+use Rattle.cb_lanes.proofs.OwnObjects.{last_past}
 use Rattle.cb_lanes.proofs.OwnStands.{IsObject, LanePinsStand, LaneStands, ObjectStands, none_on, pin_still, pins_map}
 use Rattle.cb_lanes.proofs.PinLists.{name_cases}
 

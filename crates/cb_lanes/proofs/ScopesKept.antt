@@ -1,5 +1,5 @@
 -- The scopes of all lanes, line after line, and the lanes that have come to their end.
-use Rattle.std.proofs.Common.{◌≡◌, ◌≢◌, ◌⊎◌, ℕ, zero, suc, ◌+◌, ◌<◌, ◌≤◌, Bool, true, false, cond, List, [], ◌∷◌, ◌++◌, length, map, get_or, set, take, drop, replicate, Option, None, Some, refl, sym, ap, ◌∙◌, subst, arith, inl, inr, eq-eqb, ne_eqb, if◌then◌else◌, nat_eq, append_assoc}
+use Rattle.std.proofs.Common.{◌≡◌, ◌≢◌, ◌⊎◌, ℕ, zero, suc, ◌+◌, ◌<◌, ◌≤◌, Bool, true, false, List, [], ◌∷◌, ◌++◌, length, map, get_or, set, take, drop, replicate, Option, None, Some, refl, sym, ap, ◌∙◌, subst, arith, inl, inr, eq-eqb, ne_eqb, if◌then◌else◌, nat_eq, append_assoc}
 use Rattle.std.specs.Str.{bytes_eq}
 use native.Mathlib.Decide.{ℕ_discrete}
 use Rattle.std.proofs.lemmas.Bool.{cases_lt}
@@ -28,13 +28,11 @@ use Rattle.cb_lanes.specs.LinesLeft.{AreLanes, AreLeft, lanes_of}
 use Rattle.cb_lanes.specs.Names.{KeptNames, kept_number, number_after}
 use Rattle.cb_lanes.specs.Scopes.{Scope, scope_after, scope_more, scope_of, ScopeSays, KeepScopes}
 use Rattle.cb_lanes.proofs.GivingBack.{StandsWithout, stands_same, gives_all}
+use Rattle.cb_lanes.proofs.Lists.{one_if}
 use Rattle.cb_lanes.proofs.PinLists.{AreHandlesApart, ArePinsOf, name_cases, pins_kept}
 use Rattle.cb_lanes.proofs.Scoping.{Scoped}
 
 -- ---- counts of lines
-
-abbrev one_if : Bool → ℕ
-one_if b = cond b 1 0
 
 pub lines_own : (lane : ℕ) (later : List ℕ) → lines_by lane (lane ∷ later) ≡ 1 + lines_by lane later
 lines_own lane later = sum_by-cons (λ (x : ℕ). one_if (nat_eq lane x)) lane later
