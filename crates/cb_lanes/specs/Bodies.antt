@@ -43,7 +43,8 @@ handle_number (Some h) = Some h.n
 abbrev pub handle_among : List Named → List ℕ → Option ℕ
 handle_among [] name = None
 handle_among (n ∷ later) name =
-    first_of (handle_among later name) (if bytes_eq n.name name then handle_number n.handle else None)
+    first_of (handle_among later name)
+    (if bytes_eq n.name name then handle_number n.handle else None)
 
 -- the names are those of these answers
 abbrev pub AreNamesOf : List Named → List Answer → Type 0
@@ -99,8 +100,8 @@ LaneGoes c names v answers w = (between : View)
     × LinesGo (goes_in c) names [] v answers between × (w ≡ unpinned_all between)
 
 -- one line with these handles kept, and the handles and the answers behind it
-pub record AnswersOne (c : Config) (line : Line) (kept later : KeptNames) (answers all : List Answer)
-    (v w : View) : Type 0 where
+pub record AnswersOne (c : Config) (line : Line) (kept later : KeptNames)
+    (answers all : List Answer) (v w : View) : Type 0 where
   pub reply : Reply
   pub goes : LineGoes (goes_in c) (request_handle kept line.request) line.request v reply w
   pub keeps : AreKept kept line.request reply later
