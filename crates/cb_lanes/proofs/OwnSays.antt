@@ -32,7 +32,7 @@ use Rattle.cb_record.specs.Parts.{Part}
 use Rattle.cb_record.proofs.Laws.{has_left, has_right}
 use Rattle.cb_shared.specs.declared.answers.WriteAnswer.{WriteAnswer}
 use Rattle.cb_shared.specs.declared.answers.WriteAnswer.TheVariants as place
-use Rattle.cb_shared.specs.Calls.{ReadGives, SaysAs, TurnGives, WriteAnswers, the_handle}
+use Rattle.cb_shared.specs.Calls.{ReadGives, SaysAs, TurnGives, WriteAnswers, the_handle, IsAnswerTo}
 use Rattle.cb_lanes.specs.Alone.{change_alone, free_alone, peek_alone, pin_alone, pin_object, read_alone, unpin_alone, write_alone}
 use Rattle.cb_lanes.specs.AloneUntil.{is_lack}
 use Rattle.cb_lanes.specs.KeepsOwn.{AreEntriesInOrder, AreLong, AreRead, ComesBehind, EntryComesNext, last_in}
@@ -182,36 +182,29 @@ module _ (mine : ℕ → Type 0) (h : ℕ) (x : Entry) (v m all : View) (at_ : O
   read_reply c name r (d, y, is) adds room = absurd y.ends_so.turned.0
 
   -- ---- a write
-  unmade_says : (a : WriteAnswer) → SaysAs a answer.Unmade → ⊥
-  unmade_says (place.Ok version) says = absurd cc
-  unmade_says place.Freed says = absurd cc
-  unmade_says (place.Range len) says = absurd cc
-  unmade_says (place.Pinned count) says = absurd cc
-  unmade_says place.Worn says = absurd cc
-  unmade_says a says = says
+  -- no write is answered so
+  abbrev IsOdd : Reply → Type 0
+  IsOdd answer.Unmade = Unit {0}
+  IsOdd answer.Moving = Unit {0}
+  IsOdd r = ⊥
 
-  moving_says : (a : WriteAnswer) → SaysAs a answer.Moving → ⊥
-  moving_says (place.Ok version) says = absurd cc
-  moving_says place.Freed says = absurd cc
-  moving_says (place.Range len) says = absurd cc
-  moving_says (place.Pinned count) says = absurd cc
-  moving_says place.Worn says = absurd cc
-  moving_says a says = says
+  odd_says : (a : WriteAnswer) (r : Reply) → IsOdd r → SaysAs a r → ⊥
+  odd_says (place.Ok version) r odd says = subst IsOdd says odd
+  odd_says place.Freed r odd says = subst IsOdd says odd
+  odd_says (place.Range len) r odd says = subst IsOdd says odd
+  odd_says (place.Pinned count) r odd says = subst IsOdd says odd
+  odd_says place.Worn r odd says = subst IsOdd says odd
+  odd_says a r odd says = says
 
   neither : ⊥ ⊎ ⊥ → ⊥
   neither (inl e) = e
   neither (inr e) = e
 
-  unmade_write : (c : Config) (at : ℕ) (bytes : List ℕ) → WriteAnswers c h at bytes answer.Unmade v m → ⊥
-  unmade_write c at bytes (d, y, is) = elim y.ends_so [
-    | inl z ↦ unmade_says z.0 z.1
-    | inr z ↦ neither z.turned.0
-  ]
-
-  moving_write : (c : Config) (at : ℕ) (bytes : List ℕ) → WriteAnswers c h at bytes answer.Moving v m → ⊥
-  moving_write c at bytes (d, y, is) = elim y.ends_so [
-    | inl z ↦ moving_says z.0 z.1
-    | inr z ↦ neither z.turned.0
+  odd_write : (c : Config) (at : ℕ) (bytes : List ℕ) (r : Reply) → IsOdd r
+      → (IsAnswerTo c (job.Write (the_handle h) at bytes) r → ⊥) → WriteAnswers c h at bytes r v m → ⊥
+  odd_write c at bytes r odd never (d, y, is) = elim y.ends_so [
+    | inl z ↦ odd_says z.0 r odd z.1
+    | inr z ↦ never z.turned.0
   ]
 
   -- one is written behind the object's last entry
@@ -291,8 +284,10 @@ module _ (mine : ℕ → Type 0) (h : ℕ) (x : Entry) (v m all : View) (at_ : O
   write_reply c name bytes at answer.Freed y tells adds line pinned room =
       sym (freed_alone x (λ (o : MapNow). write_alone o (pins_on h v) at (length bytes))
       (freed_here (freed_write c h at bytes v m y)))
-  write_reply c name bytes at answer.Unmade y tells adds line pinned room = absurd (unmade_write c at bytes y)
-  write_reply c name bytes at answer.Moving y tells adds line pinned room = absurd (moving_write c at bytes y)
+  write_reply c name bytes at answer.Unmade y tells adds line pinned room =
+      absurd (odd_write c at bytes answer.Unmade tt neither y)
+  write_reply c name bytes at answer.Moving y tells adds line pinned room =
+      absurd (odd_write c at bytes answer.Moving tt neither y)
   write_reply c name bytes at (answer.NoRoom f l n) y tells adds line pinned room = absurd (true≢false room)
   write_reply c name bytes at (answer.Unavailable s l) y tells adds line pinned room = absurd (true≢false room)
   write_reply c name bytes at answer.Worn y tells adds line pinned room = absurd (true≢false room)
