@@ -17,22 +17,12 @@ use Rattle.cb_lanes.specs.declared.body.Named.{Named}
 use Rattle.cb_lanes.specs.Asked.{asked}
 use Rattle.cb_lanes.specs.Bodies.{AreNamesOf}
 use Rattle.cb_lanes.specs.Rising.{LaneRises}
-use Rattle.cb_lanes.proofs.Laws.{has_joined, has_taken_in}
+use Rattle.cb_lanes.proofs.Laws.{has_joined, has_taken_in, all_both, all_map}
 use Rattle.cb_app.specs.ByLane.{AreOfOthers, IsApart}
 use Rattle.cb_app.specs.Crew.{AreKnownTo, NeverFall, RiseWith}
 use Rattle.cb_app.proofs.ToldApart.{tolds_apart}
 
 -- ---- lists
-
-all_map : {A : Type 0} (P Q : A → Type 0) (xs : List A) → ((x : A) → P x → Q x)
-    → AllByRecursion P xs → AllByRecursion Q xs
-all_map P Q [] f all = tt
-all_map P Q (x ∷ xs) f all = (f x all.0, all_map P Q xs f all.1)
-
-all_both : {A : Type 0} (P : A → Type 0) (xs ys : List A) → AllByRecursion P xs
-    → AllByRecursion P ys → AllByRecursion P (xs ++ ys)
-all_both P [] ys a b = b
-all_both P (x ∷ xs) ys a b = (a.0, all_both P xs ys a.1 b)
 
 -- no call of the first falls to one of the second
 abbrev FallsToNone : List Called → List Called → Type 0

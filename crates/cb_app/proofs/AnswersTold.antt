@@ -3,6 +3,7 @@
 use Rattle.std.proofs.Common.{◌≡◌, ◌⊎◌, ℕ, suc, List, [], ◌∷◌, ◌++◌, ◌+◌, ◌<◌, Option, None, Some, refl, sym, ap, subst, inl, inr, arith, map}
 use Rattle.std.specs.List.{AllByRecursion, Contains, cons_option, flat_map}
 use Rattle.std.proofs.lemmas.List.Sorted.{Contains-permutation}
+use Rattle.std.proofs.lemmas.Option.{same_Some}
 use Rattle.cb_member.specs.declared.names.Epoch.{Epoch}
 use Rattle.cb_member.specs.declared.names.Loss.{Loss}
 use Rattle.cb_member.specs.declared.names.NodeId.{NodeId}
@@ -37,23 +38,17 @@ use Rattle.cb_record.specs.Lists.{HasOne, IsSublist, beside, both, ended, newest
 use Rattle.cb_record.specs.Needs.{IsTurnFor, Meets, need_of}
 use Rattle.cb_record.specs.Parts.{Part}
 use Rattle.cb_record.specs.Told.{tolds}
+use Rattle.cb_record.specs.Upheld.{as_part}
 use Rattle.cb_record.proofs.Laws.{has_left, has_right}
 use Rattle.cb_shared.specs.Turning.{Did, DidAs, ReadsByPin, Slate, held_by, slate_run, slate_shows}
 use Rattle.cb_lanes.specs.Asked.{HasLineReply}
-use Rattle.cb_lanes.specs.Lost.{loss_of, losses_of}
-use Rattle.cb_app.specs.Crew.{part_of}
+use Rattle.cb_lanes.specs.Lost.{told_loss, losses_of}
 use Rattle.cb_app.specs.Telling.{TellsLost, TellsRoom}
 use Rattle.cb_app.specs.Threaded.{AreLosses}
 use Rattle.cb_app.proofs.CrashesTold.{IsLoss, lost_told, room_told}
+use Rattle.cb_app.proofs.OfLane.{has_either}
 
 -- ---- elements of lists
-has_cases : {A : Type 0} (x : A) (xs ys : List A) → Has x (xs ++ ys) → Has x xs ⊎ Has x ys
-has_cases x [] ys there = inr there
-has_cases x (y ∷ xs) ys (inl e) = inl (inl e)
-has_cases x (y ∷ xs) ys (inr later) = elim (has_cases x xs ys later) [
-  | inl front ↦ inl (inr front)
-  | inr back ↦ inr back
-]
 
 has_flat : {A B : Type 0} (f : A → List B) (a : A) (b : B) (xs : List A) → Has a xs → Has b (f a)
     → Has b (flat_map f xs)
@@ -83,7 +78,7 @@ epoch_in other r = other
 
 crash_found : (n : NodeId) (r : Reply) (node : NodeId) (epoch : Epoch)
     → Has (crashing node epoch) (happening (job.Crash n) (Some r))
-    → loss_of (line.Crash n) r ≡ Some (record { node = node; epoch = epoch })
+    → told_loss (line.Crash n) r ≡ Some (record { node = node; epoch = epoch })
 crash_found n (answer.EpochAt e) node epoch (inl same) = λ i. Some (record {
   node = node_in n (ap (λ (d : Deed). d.job) same i);
   epoch = epoch_in e (ap (λ (d : Deed). d.reply) same i);
@@ -107,7 +102,7 @@ no_join n r node epoch there = there
 
 line_found : (q : Request) (r : Reply) (node : NodeId) (epoch : Epoch)
     → Has (crashing node epoch) (happened_at q r)
-    → loss_of q r ≡ Some (record { node = node; epoch = epoch })
+    → told_loss q r ≡ Some (record { node = node; epoch = epoch })
 line_found (line.Make name bytes) r node epoch there = absurd (no_make bytes r node epoch there)
 line_found (line.Crash n) r node epoch there = crash_found n r node epoch there
 line_found (line.Join n) r node epoch there = absurd (no_join n r node epoch there)
@@ -117,10 +112,7 @@ has_more : (o : Option Loss) (l : Loss) (ls : List Loss) → (o ≡ Some l) ⊎ 
     → Has l (cons_option o ls)
 has_more None l ls (inl e) = absurd (let f = e in cc)
 has_more None l ls (inr there) = there
-has_more (Some x) l ls (inl e) = inl (same x l e)
-  where
-    same : (a b : Loss) → Some a ≡ Some b → a ≡ b
-    same a b f = cc
+has_more (Some x) l ls (inl e) = inl (same_Some x l e)
 has_more (Some x) l ls (inr there) = inr there
 
 found_loss : (before after : List Answer) (node : NodeId) (epoch : Epoch)
@@ -128,15 +120,15 @@ found_loss : (before after : List Answer) (node : NodeId) (epoch : Epoch)
     → Has (let l : Loss = record { node = node; epoch = epoch } in l) (losses_of after)
 found_loss before [] node epoch there = absurd there
 found_loss before (a ∷ after) node epoch there =
-    elim (has_cases (crashing node epoch)
+    elim (has_either (crashing node epoch)
     (newest_first happened_for (tolds (before ++ a ∷ []) after)) (happened_at a.request a.reply) there) [
-      | inl later ↦ has_more (loss_of a.request a.reply) _ (losses_of after)
+      | inl later ↦ has_more (told_loss a.request a.reply) _ (losses_of after)
           (inr (found_loss (before ++ a ∷ []) after node epoch later))
-      | inr own ↦ has_more (loss_of a.request a.reply) _ (losses_of after)
+      | inr own ↦ has_more (told_loss a.request a.reply) _ (losses_of after)
           (inl (line_found a.request a.reply node epoch own))
     ]
 
-module _ (v : View) (answers : List Answer) (losses : List Loss) (backs : Backs (part_of v) (tolds [] answers))
+module _ (v : View) (answers : List Answer) (losses : List Loss) (backs : Backs (as_part v) (tolds [] answers))
     (are : AreLosses losses answers) where
   pub is_loss : (loss : Loss) → IsLoss v.turns loss → Contains losses loss
   is_loss loss crash =
@@ -204,19 +196,19 @@ turned_few c a b r (worn end e same ran) = subst (TellsRoom c) (sym e) tt
 turned_few c a b r (done few x) = evict_few c (counted a.far job.Evict) b.far r x.events x.rule
 
 -- a turn that evicts tells so of room
-abbrev Evicts : Config → Deed → Type 0
-Evicts c d = (r : Reply) → d.job ≡ job.Evict → d.reply ≡ Some r → TellsRoom c r
+abbrev TellsEviction : Config → Deed → Type 0
+TellsEviction c d = (r : Reply) → d.job ≡ job.Evict → d.reply ≡ Some r → TellsRoom c r
 
-turn_evicts : (c : Config) (t : Turn) → Did c t → Evicts c (deed t)
+turn_evicts : (c : Config) (t : Turn) → Did c t → TellsEviction c (deed t)
 turn_evicts c t did r at is = turned_few c (held_by t.start [] t.took)
     (held_by (played t.acts t.start) t.acts t.gave) r
     (subst (λ (o : Option Reply). DidAs c job.Evict o t.start t.acts t.took t.gave) is
     (subst (λ (j : Job). DidAs c j t.reply t.start t.acts t.took t.gave) at did))
 
-all_evict : (c : Config) (ts : List Turn) → ((t : Turn) → Has t ts → Evicts c (deed t)) → (d : Deed)
-    → Has d (map deed ts) → Evicts c d
+all_evict : (c : Config) (ts : List Turn) → ((t : Turn) → Has t ts → TellsEviction c (deed t)) → (d : Deed)
+    → Has d (map deed ts) → TellsEviction c d
 all_evict c [] each d there = absurd there
-all_evict c (t ∷ ts) each d (inl is) = subst (Evicts c) is (each t (inl refl))
+all_evict c (t ∷ ts) each d (inl is) = subst (TellsEviction c) is (each t (inl refl))
 all_evict c (t ∷ ts) each d (inr later) =
     all_evict c ts (λ u there. each u (inr there)) d later
 
@@ -236,7 +228,7 @@ InThreads a = RunsIn a.request
 -- what an evict line tells, its turn tells; a begin is no such line
 spans_line : (c : Config) (h : Option ℕ) (q : Request) (n : ℕ) → RunsIn q
     → IsReplyOf q (answer.NoSpans n)
-    → ((d : Deed) → Has d (turn_at h q (answer.NoSpans n)) → Evicts c d) → n < c.k
+    → ((d : Deed) → Has d (turn_at h q (answer.NoSpans n)) → TellsEviction c d) → n < c.k
 spans_line c None line.Evict n runs may tells = tells (record {
   job = job.Evict;
   reply = Some (answer.NoSpans n);
@@ -250,7 +242,7 @@ spans_line c h q n runs may tells = absurd may
 
 nodes_line : (c : Config) (h : Option ℕ) (q : Request) (n : ℕ) → RunsIn q
     → IsReplyOf q (answer.NoNodes n)
-    → ((d : Deed) → Has d (turn_at h q (answer.NoNodes n)) → Evicts c d) → n < c.k + c.r
+    → ((d : Deed) → Has d (turn_at h q (answer.NoNodes n)) → TellsEviction c d) → n < c.k + c.r
 nodes_line c None line.Evict n runs may tells = tells (record {
   job = job.Evict;
   reply = Some (answer.NoNodes n);
@@ -265,27 +257,27 @@ nodes_line c h q n runs may tells = absurd may
 -- ---- all answers of a closed record
 module _ (first : ℕ) (c : Config) (ok : IsAccepted c) (v : View) (count : ℕ) (last : FarState)
     (one : IsOneHistory Did first c (v ∷ []) count last) (answers : List Answer)
-    (backs : Backs (part_of v) (tolds [] answers)) where
+    (backs : Backs (as_part v) (tolds [] answers)) where
   lost_reply : (losses : List Loss) → AreLosses losses answers → (h : Option ℕ) (q : Request) (r : Reply)
-      → Meets (part_of v) (need_of h q r) → TellsLost c losses r
+      → Meets (as_part v) (need_of h q r) → TellsLost c losses r
   lost_reply losses are h q (answer.Unavailable id ls) x =
-      let z = lost_turn (part_of v) h q id ls x in
+      let z = lost_turn (as_part v) h q id ls x in
       let t = lost_told first c ok v count last one z.0 id ls z.1 z.2 in
       record { many = t.0; apart = t.1; among = all_losses v answers losses backs are ls t.2 }
   lost_reply losses are h q r x = tt
 
   room_reply : (h : Option ℕ) (q : Request) (r : Reply) → RunsIn q → IsReplyOf q r
-      → ((d : Deed) → Has d (turn_at h q r) → Evicts c d) → Meets (part_of v) (need_of h q r)
+      → ((d : Deed) → Has d (turn_at h q r) → TellsEviction c d) → Meets (as_part v) (need_of h q r)
       → TellsRoom c r
   room_reply h q (answer.NoSpans n) runs may tells x = spans_line c h q n runs may tells
   room_reply h q (answer.NoNodes n) runs may tells x = nodes_line c h q n runs may tells
   room_reply h q (answer.NoRoom f l n) runs may tells x =
-      let z = room_turn (part_of v) h q f l n x in
+      let z = room_turn (as_part v) h q f l n x in
       let t = room_told first c ok v count last one z.0 f l n z.1 z.2 in (t.frames_are, t.few)
   room_reply h q r runs may tells x = tt
 
   losts : (losses : List Loss) → AreLosses losses answers → (before after : List Answer)
-      → AllByRecursion (Tells (part_of v)) (tolds before after)
+      → AllByRecursion (Tells (as_part v)) (tolds before after)
       → AllByRecursion (λ a. TellsLost c losses a.reply) after
   losts losses are before [] each = tt
   losts losses are before (a ∷ after) each = (
@@ -295,8 +287,8 @@ module _ (first : ℕ) (c : Config) (ok : IsAccepted c) (v : View) (count : ℕ)
 
   rooms : (before after : List Answer) → AllByRecursion HasLineReply after
       → AllByRecursion InThreads after
-      → ((d : Deed) → Has d (newest_first turn_needed (tolds before after)) → Evicts c d)
-      → AllByRecursion (Tells (part_of v)) (tolds before after)
+      → ((d : Deed) → Has d (newest_first turn_needed (tolds before after)) → TellsEviction c d)
+      → AllByRecursion (Tells (as_part v)) (tolds before after)
       → AllByRecursion (λ a. TellsRoom c a.reply) after
   rooms before [] replies runs tells each = tt
   rooms before (a ∷ after) replies runs tells each =

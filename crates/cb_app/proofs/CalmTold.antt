@@ -27,7 +27,7 @@ use Rattle.cb_script.specs.Form.{AreLines}
 use Rattle.cb_script.specs.Roomy.{IsRoomy}
 use Rattle.cb_world.specs.Choices.{room_count}
 use Rattle.cb_world.specs.FarState.{FarState}
-use Rattle.cb_core.proofs.Laws.{CrashedAmong}
+use Rattle.cb_core.proofs.Laws.{CrashedAmong, enough_beside}
 use Rattle.cb_rule.specs.declared.turn.Turn.{Turn}
 use Rattle.cb_rule.specs.declared.view.View.{View}
 use Rattle.cb_rule.specs.Lists.{Has}
@@ -37,17 +37,16 @@ use Rattle.cb_model.specs.Event.{event_of}
 use Rattle.cb_record.specs.Backs.{Backs, Tells}
 use Rattle.cb_record.specs.Needs.{Meets, need_of}
 use Rattle.cb_record.specs.Told.{tolds}
-use Rattle.cb_record.specs.Upheld.{IsUpheld, Upholds}
+use Rattle.cb_record.specs.Upheld.{IsUpheld, Upholds, as_part}
 use Rattle.cb_shared.specs.Turning.{Did}
 use Rattle.cb_shared.specs.Calls.{may_come_loose}
 use Rattle.cb_lanes.specs.AloneUntil.{is_lack}
 use Rattle.cb_lanes.specs.Asked.{HasLineReply, asked}
 use Rattle.cb_lanes.specs.LastTries.{HasLastTry, IsLastTry}
 use Rattle.cb_lanes.specs.Lost.{losses_of}
-use Rattle.cb_lanes.proofs.Laws.{crashed_count, crashed_nodes, enough_beside}
+use Rattle.cb_lanes.proofs.Laws.{crashed_count, crashed_nodes}
 use Rattle.cb_app.specs.ByLane.{by_lane}
 use Rattle.cb_app.specs.Calm.{IsCalmTo, MayFindMoving}
-use Rattle.cb_app.specs.Crew.{part_of}
 use Rattle.cb_app.specs.Telling.{AreOfOtherNodes, TellsLost, TellsWorn}
 use Rattle.cb_app.specs.Threaded.{AreLosses}
 use Rattle.cb_app.proofs.AnswersTold.{is_loss, room_turn}
@@ -119,7 +118,7 @@ more_come c loose few enough = ap (λ (b : Bool). b && leb (2 * c.k + 360) c.fra
 -- ---- all answers of a closed record
 module _ (first : ℕ) (s : Script) (ok : IsAccepted s.config) (v : View) (count : ℕ)
     (last : FarState) (one : IsOneHistory Did first s.config (v ∷ []) count last) (answers : List Answer)
-    (backs : Backs (part_of v) (tolds [] answers)) (losses : List Loss)
+    (backs : Backs (as_part v) (tolds [] answers)) (losses : List Loss)
     (are_losses : AreLosses losses answers) (are : AreLines s.config.nodes [] s.lines)
     (by : map asked answers ≡ by_lane s.lines) (roomy : IsRoomy s) (few : count < 2 ^ 40) where
   abbrev c : Config
@@ -169,9 +168,9 @@ module _ (first : ℕ) (s : Script) (ok : IsAccepted s.config) (v : View) (count
   no_room : (h : Option ℕ) (q : Request) (frames loose roomy_nodes : ℕ)
       → IsReplyOf q (answer.NoRoom frames loose roomy_nodes)
       → IsLastTry c q (answer.NoRoom frames loose roomy_nodes)
-      → Meets (part_of v) (need_of h q (answer.NoRoom frames loose roomy_nodes)) → ⊥
+      → Meets (as_part v) (need_of h q (answer.NoRoom frames loose roomy_nodes)) → ⊥
   no_room h q frames loose roomy_nodes may tried meets =
-      let z = room_turn (part_of v) h q frames loose roomy_nodes meets in
+      let z = room_turn (as_part v) h q frames loose roomy_nodes meets in
       let told = room_told first c ok v count last one z.0 frames loose roomy_nodes z.1 z.2 in
       elim told.few [
         | inl spans ↦ false≢true (sym (last_loose c q frames loose roomy_nodes may tried)
@@ -193,7 +192,7 @@ module _ (first : ℕ) (s : Script) (ok : IsAccepted s.config) (v : View) (count
   calm_reply : (h : Option ℕ) (q : Request) (r : Reply) → IsReplyOf q r → IsLastTry c q r
       → TellsWorn count r → TellsLost c losses r
       → IsUpheld first c.handles (calls_of answers) v h (event_of q r)
-      → Meets (part_of v) (need_of h q r) → is_full q r ≤ fulls answers → IsCalmTo q r
+      → Meets (as_part v) (need_of h q r) → is_full q r ≤ fulls answers → IsCalmTo q r
   calm_reply h q (answer.NoRoom frames loose nodes) may tried worn lost upheld meets among =
       absurd (no_room h q frames loose nodes may tried meets)
   calm_reply h q (answer.Unavailable id ls) may tried worn lost upheld meets among =
@@ -209,7 +208,7 @@ module _ (first : ℕ) (s : Script) (ok : IsAccepted s.config) (v : View) (count
       → AllByRecursion (λ a. TellsWorn count a.reply) after
       → AllByRecursion (λ a. TellsLost c losses a.reply) after
       → AllByRecursion (Upholds first c.handles (calls_of answers) v) (calls_behind before after)
-      → AllByRecursion (Tells (part_of v)) (tolds before after) → fulls after ≤ fulls answers
+      → AllByRecursion (Tells (as_part v)) (tolds before after) → fulls after ≤ fulls answers
       → AllByRecursion (λ a. IsCalmTo a.request a.reply) after
   go before [] replies tried worn lost upheld tells among = tt
   go before (a ∷ after) replies tried worn lost upheld tells among = (

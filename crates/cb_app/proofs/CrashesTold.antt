@@ -5,6 +5,7 @@ use Rattle.std.specs.List.{AllByRecursion, cons_option}
 use Rattle.std.specs.Option.{option_map}
 use Rattle.std.proofs.lemmas.Bool.{cases_eq, cases_lt}
 use Rattle.std.proofs.lemmas.List.{get_or_past}
+use Rattle.std.proofs.lemmas.Option.{same_Some}
 use Rattle.cb_member.specs.declared.names.Epoch.{Epoch}
 use Rattle.cb_member.specs.declared.names.Loss.{Loss}
 use Rattle.cb_member.specs.declared.names.NodeId.{NodeId}
@@ -30,7 +31,7 @@ use Rattle.cb_rule.specs.Locking.{turn_number}
 use Rattle.cb_rule.specs.OneHistory.{IsOneHistory}
 use Rattle.cb_shared.specs.Turning.{Did}
 use Rattle.cb_app.specs.Telling.{AreOfOtherNodes}
-use Rattle.cb_app.proofs.TurnGoes.{IsCrammed, MembersGoOn}
+use Rattle.cb_app.proofs.TurnGoes.{IsShortOfRoom, MembersGoOn}
 use Rattle.cb_app.proofs.TurnHistory.{TellsIf, TurnGoes, at_turn, each_goes}
 
 -- ---- the members, where one node has a new state
@@ -56,10 +57,7 @@ by_node m node q s = elim (cases_eq q.n node.n) [
 -- an element of a list with one more is one of the list, or that one
 at_last_one : {A : Type 0} (xs : List A) (x y : A) (i : ℕ) → slice_get (xs ++ x ∷ []) i ≡ Some y
     → (slice_get xs i ≡ Some y) ⊎ (x ≡ y)
-at_last_one [] x y zero e = inr (same x y e)
-  where
-    same : {A : Type 0} (a b : A) → Some a ≡ Some b → a ≡ b
-    same a b f = cc
+at_last_one [] x y zero e = inr (same_Some x y e)
 at_last_one [] x y (suc i) e = absurd (let f = e in cc)
 at_last_one (z ∷ xs) x y zero e = inl e
 at_last_one (z ∷ xs) x y (suc i) e = at_last_one xs x y i e
@@ -218,23 +216,23 @@ crashes_after ts t there j old new r at tells x are = crashes_same ts old new x 
 
 module _ (first : ℕ) (c : Config) (ok : IsAccepted c) (v : View) (count : ℕ) (last : FarState)
     (one : IsOneHistory Did first c (v ∷ []) count last) where
-  abbrev Known : ℕ → FarState → Type 0
-  Known n far = AreCrashes v.turns far.members
+  abbrev KnowsCrashes : ℕ → FarState → Type 0
+  KnowsCrashes n far = AreCrashes v.turns far.members
 
   goes : (t : Turn) → Has t v.turns → TurnGoes c t
   goes t there = each_goes first c v count last one ok t there
 
-  start : Known 0 (empty_far first c)
+  start : KnowsCrashes 0 (empty_far first c)
   start node which epoch e =
       absurd (let none = none_crashed_at_first c.nodes node which in let f = sym none ∙ e in cc)
 
-  step : (t : Turn) → Has t v.turns → turn_number t < count → Known (turn_number t) t.took
-      → Known (suc (turn_number t)) t.gave
+  step : (t : Turn) → Has t v.turns → turn_number t < count → KnowsCrashes (turn_number t) t.took
+      → KnowsCrashes (suc (turn_number t)) t.gave
   step t there low before = crashes_after v.turns t there t.job t.took.members t.gave.members t.reply refl
       refl (goes t there).goes before
 
   pub found_crashes : (t : Turn) → Has t v.turns → AreCrashes v.turns t.took.members
-  found_crashes t there = at_turn first c v count last one Known start step t there
+  found_crashes t there = at_turn first c v count last one KnowsCrashes start step t there
 
   -- what a turn that was answered Unavailable tells
   pub lost_told : (t : Turn) (id : SetId) (losses : List Loss) → Has t v.turns
@@ -252,5 +250,5 @@ module _ (first : ℕ) (c : Config) (ok : IsAccepted c) (v : View) (count : ℕ)
   -- and one that was answered NoRoom
   pub room_told : (t : Turn) (frames loose nodes : ℕ) → Has t v.turns
       → t.reply ≡ Some (answer.NoRoom frames loose nodes)
-      → IsCrammed c (room_count t.took.nodes t.took.members) frames loose nodes
+      → IsShortOfRoom c (room_count t.took.nodes t.took.members) frames loose nodes
   room_told t frames loose nodes there is = subst (TellsIf c t.took) is (goes t there).tells

@@ -1,11 +1,10 @@
 -- What lanes and workers leave, one after the other.
 use Rattle.std.proofs.Common.{◌≡◌, ℕ, suc, Bool, true, false, ◌+◌, ◌-◌, ◌<◌, ◌≤◌, List, [], ◌∷◌, ◌++◌, length, map, inl, inr, refl, sym, ap, ◌∙◌, subst, append_assoc, arith}
-use Rattle.std.specs.Prelude.{All, IfOk, nat_eq, slice_index_or}
+use Rattle.std.specs.Prelude.{All, nat_eq, slice_index_or}
 use Rattle.std.specs.List.{AllByRecursion}
 use Rattle.std.proofs.lemmas.Bool.{cases_Bool}
 use Rattle.std.proofs.lemmas.List.{append-nil, map-append}
 use Rattle.std.proofs.lemmas.List.Elements.{All-head, All-nil, All-push, All-tail}
-use Rattle.std.proofs.lemmas.Result.{IfOk-weaker}
 use Rattle.cb_types.specs.declared.answer.Answer.{Answer}
 use Rattle.cb_types.specs.declared.handle.Lane.{Lane as Lane'}
 use Rattle.cb_script.specs.declared.script.Line.{Line}
@@ -19,6 +18,7 @@ use Rattle.cb_record.specs.Told.{Told, tolds}
 use Rattle.cb_text.specs.Line.{answer_line, text_of}
 use Rattle.std.proofs.lemmas.Grind.{flat_map-append}
 use Rattle.cb_record.specs.Rises.{HasAllOf}
+use Rattle.cb_record.specs.Upheld.{as_part}
 use Rattle.cb_record.proofs.Laws.{backs_sum, has_left, has_right, tolds-append}
 use Rattle.cb_shared.specs.declared.pass.Pass.{Pass}
 use Rattle.cb_shared.specs.declared.runtime.Shared.{Shared}
@@ -31,10 +31,10 @@ use Rattle.cb_lanes.specs.LastTries.{HasLastTry}
 use Rattle.cb_lanes.specs.Bodies.{AreLinesOf, KnowsNames}
 use Rattle.cb_lanes.specs.Scoped.{AreScoped}
 use Rattle.cb_lanes.specs.Suits.{AreSuited}
-use Rattle.cb_lanes.proofs.Laws.{are_suited_both, are_suited_more, has_split}
+use Rattle.cb_lanes.proofs.Laws.{are_suited_both, are_suited_more, has_split, all_both}
 use Rattle.cb_workers.specs.declared.worker.Worker.{Worker as Worker'}
 use Rattle.cb_app.specs.ByLane.{AreLanesApart, AreOfOthers, IsApart, by_lane, flat, has_lines, lanes_up_to, of_lane}
-use Rattle.cb_app.specs.Crew.{AllMade, AreFirst, AreMade, BodyIsReady, HasText, IsDealt, IsFreshRecord, IsDealtOne, IsEnded, IsTaskReady, IsLaneTold, RiseWith, TakesIn, lines_due, lines_in, lines_left, part_of, turns_due, work_in}
+use Rattle.cb_app.specs.Crew.{AllMade, AreFirst, AreMade, BodyIsReady, HasText, IsDealt, IsFreshRecord, IsDealtOne, IsEnded, IsTaskReady, IsLaneTold, RiseWith, TakesIn, lines_due, lines_in, lines_left, turns_due, work_in}
 use Rattle.cb_app.specs.OwnLines.{KeepAloneWith}
 use Rattle.cb_app.specs.declared.crew.Body.{Body}
 use Rattle.cb_app.specs.declared.crew.Body.TheVariants.{Lane, Worker}
@@ -49,11 +49,6 @@ use Rattle.cb_app.proofs.ToldApart.{tolds_apart}
 use Rattle.cb_app.proofs.WorkDone.{AreOwed, owed_from, owed_more, owed_none}
 
 -- ---- what one thread left is taken in
-
-all_both : (P : Answer → Type 0) (xs ys : List Answer) → AllByRecursion P xs → AllByRecursion P ys
-    → AllByRecursion P (xs ++ ys)
-all_both P [] ys a b = b
-all_both P (x ∷ xs) ys a b = (a.0, all_both P xs ys a.1 b)
 
 -- what suits the one record or the other suits both together
 both_suit : (xs ys : List Seen) (ts us : List Told) → AreSuited xs ts → AreSuited ys us
@@ -96,9 +91,9 @@ taken_in s given others lines a e b are told ended apart none first of pass answ
             (all_both HasLineReply a.answers e.answers told.replies ended.replies);
         last = subst (AllByRecursion (HasLastTry s.config)) (sym answers)
             (all_both (HasLastTry s.config) a.answers e.answers told.last ended.last);
-        backs = subst (λ (v : View). Backs (part_of v) (tolds [] b.answers)) (sym pass)
-            (subst (Backs (part_of (joined (record_of a.pass) (unpinned_all (record_of e.pass))))) all
-            (backs_sum (part_of (record_of a.pass)) (part_of (record_of e.pass)) (tolds [] a.answers)
+        backs = subst (λ (v : View). Backs (as_part v) (tolds [] b.answers)) (sym pass)
+            (subst (Backs (as_part (joined (record_of a.pass) (unpinned_all (record_of e.pass))))) all
+            (backs_sum (as_part (record_of a.pass)) (as_part (record_of e.pass)) (tolds [] a.answers)
             (tolds given e.answers) told.backs ended.backs));
         suits = subst (λ (v : View). AreSuited v.seen (tolds [] b.answers)) (sym pass)
             (subst (AreSuited (joined (record_of a.pass) (unpinned_all (record_of e.pass))).seen) all
@@ -391,8 +386,8 @@ told_left s given lines a b share own told same of left = record {
   lines_are = ap (map asked) same ∙ told.lines_are;
   replies = subst (AllByRecursion HasLineReply) (sym same) told.replies;
   last = subst (AllByRecursion (HasLastTry s.config)) (sym same) told.last;
-  backs = subst (λ (v : View). Backs (part_of v) (tolds given b.answers)) (sym left)
-      (subst (λ (xs : List Answer). Backs (part_of (record_of a.pass)) (tolds given xs)) (sym same) told.backs);
+  backs = subst (λ (v : View). Backs (as_part v) (tolds given b.answers)) (sym left)
+      (subst (λ (xs : List Answer). Backs (as_part (record_of a.pass)) (tolds given xs)) (sym same) told.backs);
   suits = subst (λ (v : View). AreSuited v.seen (tolds given b.answers)) (sym left)
       (subst (λ (xs : List Answer). AreSuited (record_of a.pass).seen (tolds given xs)) (sym same) told.suits);
   rises = subst (λ (v : View). RiseWith v given b.answers) (sym left)
@@ -438,11 +433,6 @@ pub others_ended : (s : Shared) (lines : List Line) (given : List Answer) (left 
     → All (IsEnded s lines given) later
 others_ended s lines given left e later all is =
     All-tail (IsEnded s lines given) e later (subst (All (IsEnded s lines given)) is all)
-
-pub ended_pass : (s : Shared) (lines : List Line) (given : List Answer) (e : Ended) → IsEnded s lines given e
-    → IfOk e.left (λ told. IsPassOf s told.end.pass)
-ended_pass s lines given e ended =
-    IfOk-weaker e.left (λ t. IsLaneTold s given (lines_left lines e) t.end) (λ t. IsPassOf s t.end.pass) (λ t told. told.of) ended
 
 pub first_apart : (s : Shared) (lines : List Line) (given : List Answer) (all left : List Ended) (e : Ended)
     (later : List Ended) (first : LaneEnd) → (t : IsTaking s lines given all left first) → left ≡ e ∷ later

@@ -27,9 +27,9 @@ use Rattle.cb_record.specs.Backs.{Backs, happened_at, happened_for}
 use Rattle.cb_record.specs.Deeds.{Deed, deed, happened, happening}
 use Rattle.cb_record.specs.Lists.{newest_first}
 use Rattle.cb_record.specs.Told.{tolds}
+use Rattle.cb_record.specs.Upheld.{as_part}
 use Rattle.cb_shared.specs.Turning.{Did}
 use Rattle.cb_lanes.specs.Asked.{HasLineReply}
-use Rattle.cb_app.specs.Crew.{part_of}
 use Rattle.cb_app.specs.Telling.{AreEpochs, epoch_of, epochs_of}
 use Rattle.cb_app.proofs.CountedTurns.{below, counts_all, counts_more, counts_none, counts_permute, is, stands, times_range}
 use Rattle.cb_app.proofs.TurnGoes.{MembersGoOn, epochs_in}
@@ -44,12 +44,12 @@ tells e t = times (is e) (turn_epochs t)
 
 -- ---- the turns
 -- the epoch after a turn, and what it told
-data Begins (old new : ℕ) (told : List ℕ) : Type 0 where
-  none : new ≡ old → told ≡ [] → Begins old new told
-  next : new ≡ old + 1 → told ≡ (old + 1) ∷ [] → Begins old new told
+data BeginsEpoch (old new : ℕ) (told : List ℕ) : Type 0 where
+  none : new ≡ old → told ≡ [] → BeginsEpoch old new told
+  next : new ≡ old + 1 → told ≡ (old + 1) ∷ [] → BeginsEpoch old new told
 
 by_goes : (j : Job) (old new : Membership) (r : Option Reply) → MembersGoOn j old new r
-    → Begins old.epoch new.epoch (epochs_in j r)
+    → BeginsEpoch old.epoch new.epoch (epochs_in j r)
 by_goes (job.Crash node) old new r (inl x) = none (ap (λ (m : Membership). m.epoch) x.0) x.1
 by_goes (job.Crash node) old new r (inr x) =
     next (ap (λ (m : Membership). m.epoch) x.0) (ap (epochs_in (job.Crash node)) x.1)
@@ -59,7 +59,7 @@ by_goes (job.Join node) old new r (inr x) =
 by_goes j old new r x = none (ap (λ (m : Membership). m.epoch) x) refl
 
 -- one epoch more stands in the range
-counted_next : (old new e : ℕ) (told : List ℕ) → Begins old new told
+counted_next : (old new e : ℕ) (told : List ℕ) → BeginsEpoch old new told
     → stands 1 old e + times (is e) told ≡ stands 1 new e
 counted_next old new e told (none same nothing) =
     let a = ap (times (is e)) nothing in omega (arith, a, same)
@@ -74,18 +74,18 @@ counted_next old new e told (next more one) =
 module _ (first : ℕ) (c : Config) (ok : IsAccepted c) (v : View) (count : ℕ) (last : FarState)
     (one : IsOneHistory Did first c (v ∷ []) count last) where
   -- how often the turns with a number below n tell an epoch: once, where the epoch was reached
-  abbrev Heard : ℕ → FarState → Type 0
-  Heard n far = (e : ℕ) → total (below turn_number (tells e) n) v.turns ≡ stands 1 far.members.epoch e
+  abbrev TellsEpochs : ℕ → FarState → Type 0
+  TellsEpochs n far = (e : ℕ) → total (below turn_number (tells e) n) v.turns ≡ stands 1 far.members.epoch e
 
   goes : (t : Turn) → Has t v.turns → TurnGoes c t
   goes t there = each_goes first c v count last one ok t there
 
   begins : (t : Turn) → Has t v.turns
-      → Begins t.took.members.epoch t.gave.members.epoch (turn_epochs t)
+      → BeginsEpoch t.took.members.epoch t.gave.members.epoch (turn_epochs t)
   begins t there = by_goes t.job t.took.members t.gave.members t.reply (goes t there).goes
 
-  step : (t : Turn) → Has t v.turns → turn_number t < count → Heard (turn_number t) t.took
-      → Heard (suc (turn_number t)) t.gave
+  step : (t : Turn) → Has t v.turns → turn_number t < count → TellsEpochs (turn_number t) t.took
+      → TellsEpochs (suc (turn_number t)) t.gave
   step t there low before e =
       let more = counts_more turn_number (tells e) (turn_number t) v.turns t
       (lone first c v count last one (turn_number t) low) there refl in
@@ -93,15 +93,15 @@ module _ (first : ℕ) (c : Config) (ok : IsAccepted c) (v : View) (count : ℕ)
       let b = counted_next t.took.members.epoch t.gave.members.epoch e (turn_epochs t) (begins t there) in
       omega (arith, more, a, b)
 
-  start : Heard 0 (empty_far first c)
+  start : TellsEpochs 0 (empty_far first c)
   start e = let a = counts_none turn_number (tells e) v.turns in omega (arith, a)
 
-  at_end : Heard count last
-  at_end = at_last first c v count last one Heard start step
+  at_end : TellsEpochs count last
+  at_end = at_last first c v count last one TellsEpochs start step
 
   -- a turn that gave what it took tells none
   quiet : (t : Turn) → t.gave ≡ t.took
-      → Begins t.took.members.epoch t.gave.members.epoch (turn_epochs t) → (e : ℕ) → tells e t ≡ 0
+      → BeginsEpoch t.took.members.epoch t.gave.members.epoch (turn_epochs t) → (e : ℕ) → tells e t ≡ 0
   quiet t same (none stays nothing) e = ap (times (is e)) nothing
   quiet t same (next more told) e =
       absurd (let z = ap (λ (f : FarState). f.members.epoch) same in omega (arith, more, z))
@@ -207,7 +207,7 @@ lines_tell e before (a ∷ after) replies =
 -- ---- all answers of a closed record
 pub are_epochs : (first : ℕ) (c : Config) → IsAccepted c → (v : View) (count : ℕ) (last : FarState)
     → IsOneHistory Did first c (v ∷ []) count last → (answers : List Answer)
-    → AllByRecursion HasLineReply answers → Backs (part_of v) (tolds [] answers)
+    → AllByRecursion HasLineReply answers → Backs (as_part v) (tolds [] answers)
     → AreEpochs last.members.epoch answers
 are_epochs first c ok v count last one answers replies backs =
     counts_permute (epochs_of answers) (range_with_len 1 last.members.epoch) (λ e.

@@ -1,10 +1,9 @@
 -- The lines of a lane, and that a name that one lane made and uses was made by no other.
-use Rattle.std.proofs.Common.{◌≡◌, ℕ, zero, suc, ◌+◌, ◌<◌, ◌≤◌, Bool, cond, List, [], ◌∷◌, ◌++◌, length, get_or, take, ◌⊎◌, inl, inr, true, sym, ap, ◌∙◌, subst, append_assoc, arith}
+use Rattle.std.proofs.Common.{◌≡◌, ℕ, zero, suc, ◌+◌, ◌≤◌, Bool, cond, List, [], ◌∷◌, ◌++◌, ◌⊎◌, inl, inr, true, sym, ap, ◌∙◌, subst, append_assoc, arith}
 use Rattle.std.specs.Prelude.{nat_eq}
 use Rattle.std.specs.List.{AllByRecursion}
 use Rattle.std.proofs.lemmas.Bool.{cases_Bool}
 use Rattle.std.proofs.lemmas.List.{append-nil}
-use Rattle.std.proofs.lemmas.List.Elements.{filter_more}
 use Rattle.cb_types.specs.declared.request.Request.{Request}
 use Rattle.cb_types.specs.declared.request.Request.TheVariants.{Make, Read, Write, Free, Pin, Peek, Unpin, Filter}
 use Rattle.cb_script.specs.declared.script.Line.{Line}
@@ -12,6 +11,7 @@ use Rattle.cb_script.specs.Form.{AreLines, IsNameKnown, IsNameMade, IsNameNew, K
 use Rattle.cb_script.proofs.PublicLaws.{made_cases}
 use Rattle.cb_model.specs.Legal.{WasTold}
 use Rattle.cb_app.specs.ByLane.{AreLanesApart, AreOfOthers, IsApart, IsUsed, Uses, by_lane, flat, lanes_up_to, of_lane}
+use Rattle.cb_lanes.proofs.Laws.{all_both, all_map, made_in_front}
 
 -- ---- lists of lines, one behind the other
 
@@ -22,21 +22,7 @@ made_in_both (x ∷ xs) ys lane name (inl here) = inl (inl here)
 made_in_both (x ∷ xs) ys lane name (inr later) =
     elim (made_in_both xs ys lane name later) [ inl p ↦ inl (inr p) | inr q ↦ inr q ]
 
-pub made_in_front : (xs ys : List Line) (lane : ℕ) (name : List ℕ) → IsNameMade xs lane name
-    → IsNameMade (xs ++ ys) lane name
-made_in_front [] ys lane name is = absurd is
-made_in_front (x ∷ xs) ys lane name (inl here) = inl here
-made_in_front (x ∷ xs) ys lane name (inr later) = inr (made_in_front xs ys lane name later)
-
 -- ---- one lane
-
--- one more line adds itself, where it is of the lane
-pub of_lane_more : (n : ℕ) (lines : List Line) (i : ℕ) (l d : Line) → i < length lines
-    → l ≡ get_or lines i d
-    → of_lane n (take (i + 1) lines)
-    ≡ of_lane n (take i lines) ++ cond (nat_eq l.lane.n n) (l ∷ []) []
-of_lane_more n lines i l d within is = filter_more (λ x. nat_eq x.lane.n n) lines i d within
-    ∙ ap (λ (b : Line). of_lane n (take i lines) ++ cond (nat_eq b.lane.n n) (b ∷ []) []) (sym is)
 
 one_lane : (lane : ℕ) (l : Line) → nat_eq l.lane.n lane ≡ true → l.lane.n ≡ lane
 one_lane lane l is = grind (arith, is)
@@ -161,16 +147,6 @@ no_lines_apart before name used lane made = absurd used
 
 -- ---- nor was the lane told what those lanes were answered
 
-all_lines : (P Q : Line → Type 0) (lines : List Line) → ((l : Line) → P l → Q l)
-    → AllByRecursion P lines → AllByRecursion Q lines
-all_lines P Q [] f all = tt
-all_lines P Q (l ∷ lines) f all = (f l all.0, all_lines P Q lines f all.1)
-
-lines_both : (P : Line → Type 0) (xs ys : List Line) → AllByRecursion P xs → AllByRecursion P ys
-    → AllByRecursion P (xs ++ ys)
-lines_both P [] ys a b = b
-lines_both P (x ∷ xs) ys a b = (a.0, lines_both P xs ys a.1 b)
-
 abbrev pub IsOfLane : ℕ → Line → Type 0
 IsOfLane n l = l.lane.n ≡ n
 
@@ -192,9 +168,9 @@ up_to_more n l is = let below = is.1 in (is.0, omega (arith, below))
 
 lanes_low : (n : ℕ) (lines : List Line) → AllByRecursion (IsUpTo n) (lanes_up_to n lines)
 lanes_low zero lines = tt
-lanes_low (suc n) lines = lines_both (IsUpTo (suc n)) (lanes_up_to n lines) (of_lane (suc n) lines)
-    (all_lines (IsUpTo n) (IsUpTo (suc n)) (lanes_up_to n lines) (up_to_more n) (lanes_low n lines))
-    (all_lines (IsOfLane (suc n)) (IsUpTo (suc n)) (of_lane (suc n) lines) (own_up_to n)
+lanes_low (suc n) lines = all_both (IsUpTo (suc n)) (lanes_up_to n lines) (of_lane (suc n) lines)
+    (all_map (IsUpTo n) (IsUpTo (suc n)) (lanes_up_to n lines) (up_to_more n) (lanes_low n lines))
+    (all_map (IsOfLane (suc n)) (IsUpTo (suc n)) (of_lane (suc n) lines) (own_up_to n)
     (of_lane_own (suc n) lines))
 
 not_told : (n : ℕ) (b l : Line) → IsUpTo n b → IsOfLane (suc n) l → WasTold b.lane.n l.lane.n → ⊥
@@ -203,10 +179,10 @@ not_told n b l low own (inr first) = let above = low.0 in omega (arith, above, f
 
 pub lane_is_of_others : (n : ℕ) (lines : List Line)
     → AreOfOthers (lanes_up_to n lines) (of_lane (suc n) lines)
-lane_is_of_others n lines = all_lines (IsUpTo n)
+lane_is_of_others n lines = all_map (IsUpTo n)
     (λ b. AllByRecursion (λ (l : Line). WasTold b.lane.n l.lane.n → ⊥) (of_lane (suc n) lines))
     (lanes_up_to n lines)
-    (λ b low. all_lines (IsOfLane (suc n)) (λ l. WasTold b.lane.n l.lane.n
+    (λ b low. all_map (IsOfLane (suc n)) (λ l. WasTold b.lane.n l.lane.n
     → ⊥) (of_lane (suc n) lines)
     (λ l own. not_told n b l low own) (of_lane_own (suc n) lines)) (lanes_low n lines)
 
@@ -227,12 +203,12 @@ of_lane_all P n (l ∷ lines) all = elim (cases_Bool (nat_eq l.lane.n n)) [
 lanes_all : (P : Line → Type 0) (n : ℕ) (lines : List Line) → AllByRecursion P lines
     → AllByRecursion P (lanes_up_to n lines)
 lanes_all P zero lines all = tt
-lanes_all P (suc n) lines all = lines_both P (lanes_up_to n lines) (of_lane (suc n) lines)
+lanes_all P (suc n) lines all = all_both P (lanes_up_to n lines) (of_lane (suc n) lines)
     (lanes_all P n lines all) (of_lane_all P (suc n) lines all)
 
 pub by_lane_all : (P : Line → Type 0) (lines : List Line) → AllByRecursion P lines
     → AllByRecursion P (by_lane lines)
-by_lane_all P lines all = lines_both P (of_lane 0 lines) (lanes_up_to 15 lines)
+by_lane_all P lines all = all_both P (of_lane 0 lines) (lanes_up_to 15 lines)
     (of_lane_all P 0 lines all) (lanes_all P 15 lines all)
 
 -- ---- one list of lines more

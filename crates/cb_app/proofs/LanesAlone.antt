@@ -1,22 +1,14 @@
 -- The own lines of lanes are answered as if each lane were alone, once all answers of the script are
 -- known.
-use Rattle.std.proofs.Common.{◌≡◌, ◌⊎◌, ℕ, ◌≤◌, Bool, true, false, List, [], ◌∷◌, ◌++◌, map, None, Some, inl, inr, refl, sym, ap, ◌∙◌, subst, arith, if◌then◌else◌}
+use Rattle.std.proofs.Common.{◌≡◌, ◌⊎◌, ℕ, ◌≤◌, List, [], ◌∷◌, ◌++◌, map, inl, inr, refl, sym, ap, ◌∙◌, subst, arith}
 use Rattle.std.specs.List.{AllByRecursion}
-use Rattle.std.specs.Str.{bytes_eq}
-use Rattle.std.proofs.lemmas.Bool.{cases_Bool}
 use Rattle.std.proofs.lemmas.List.{append-nil}
 use Rattle.std.proofs.lemmas.List.Elements.{filter-append}
-use Rattle.std.proofs.lemmas.Slice.Eq.{bytes_eq-Decides}
 use Rattle.cb_types.specs.declared.answer.Answer.{Answer}
 use Rattle.cb_types.specs.declared.config.Config.{Config}
-use Rattle.cb_types.specs.declared.reply.Reply.{Reply}
-use Rattle.cb_types.specs.declared.reply.Reply.TheVariants.{Made}
-use Rattle.cb_types.specs.declared.request.Request.{Request}
-use Rattle.cb_types.specs.declared.request.Request.TheVariants.{Make}
 use Rattle.cb_script.specs.declared.script.Line.{Line}
 use Rattle.cb_script.specs.Form.{IsNameMade, MakesName}
 use Rattle.cb_rule.specs.Lists.{Has}
-use Rattle.cb_model.specs.Called.{handle_made}
 use Rattle.cb_model.specs.Legal.{WasTold}
 use Rattle.cb_record.proofs.Laws.{has_left, has_right}
 use Rattle.cb_lanes.specs.declared.body.Named.{Named}
@@ -25,7 +17,7 @@ use Rattle.cb_lanes.specs.AloneUntil.{AreShared, KeepAloneUntil, LaneKeepsAlone}
 use Rattle.cb_lanes.specs.Asked.{asked}
 use Rattle.cb_lanes.specs.Bodies.{AreNamesOf}
 use Rattle.cb_lanes.specs.Scoped.{IsMadeAs}
-use Rattle.cb_lanes.proofs.Laws.{AreOfLane, NoneOfLane, handle_is_made, maker_of, none_until, until_before, until_behind}
+use Rattle.cb_lanes.proofs.Laws.{AreOfLane, NoneOfLane, handle_is_made, maker_of, none_until, until_before, until_behind, made_request}
 use Rattle.cb_app.specs.ByLane.{AreOfOthers, by_lane, of_lane}
 use Rattle.cb_app.specs.Crew.{AreFirst}
 use Rattle.cb_app.specs.OwnLines.{AreAllOf, AreAmong, KeepAloneWith, to_lane}
@@ -100,28 +92,16 @@ none_alone nodes given answers none =
     subst (KeepAloneWith nodes given) (sym none) (λ lines all whole among lane own same. tt)
 
 -- ---- a lane
-makes_name : (name : List ℕ) (q : Request) (r : Reply) (h : ℕ) → handle_made name q r ≡ Some h
-    → MakesName q name
-makes_name name (Make made bytes) r h is = by (cases_Bool (bytes_eq made name)) r is
-  where
-    by : (bytes_eq made name ≡ true) ⊎ (bytes_eq made name ≡ false) → (q : Reply)
-        → handle_made name (Make made bytes) q ≡ Some h → made ≡ name
-    by (inl same) q e = (bytes_eq-Decides made name).0 same
-    by (inr off) (Made handle version) e = absurd (let z : None ≡ Some h =
-        sym (ap (λ (b : Bool). if b then Some handle.n else None) off) ∙ e in cc)
-    by (inr off) q e = absurd cc
-makes_name name q r h is = absurd cc
-
 -- the answer that made a name
-record IsMaker (xs : List Answer) (name : List ℕ) : Type 0 where
+record HasMaker (xs : List Answer) (name : List ℕ) : Type 0 where
   answer : Answer
   there : Has answer xs
   makes : MakesName answer.request name
 
-maker_in : (xs : List Answer) (name : List ℕ) (h : ℕ) → IsMadeAs xs name h → IsMaker xs name
+maker_in : (xs : List Answer) (name : List ℕ) (h : ℕ) → IsMadeAs xs name h → HasMaker xs name
 maker_in [] name h made = absurd made
 maker_in (x ∷ xs) name h (inl here) =
-    record { answer = x; there = inl refl; makes = makes_name name x.request x.reply h here }
+    record { answer = x; there = inl refl; makes = made_request name x.request x.reply h here }
 maker_in (x ∷ xs) name h (inr later) =
     let z = maker_in xs name h later in
     record { answer = z.answer; there = inr z.there; makes = z.makes }

@@ -177,43 +177,43 @@ module _ {D : Type 0} (run : D → List Event → D → Type 0) (shows : D → S
   abbrev Hold : Type 0
   Hold = Holding D
 
-  abbrev Kept : Hold → Hold → Type 0
-  Kept a b = SameMade a.far b.far
+  abbrev KeepsMade : Hold → Hold → Type 0
+  KeepsMade a b = SameMade a.far b.far
 
-  kept : (a b : Hold) → b.far ≡ a.far → Kept a b
+  kept : (a b : Hold) → b.far ≡ a.far → KeepsMade a b
   kept a b e = same a.far b.far e
 
-  swapped : (h : ℕ) (a b : Hold) (r : Reply) → Swaps run shows h a r b → Kept a b
+  swapped : (h : ℕ) (a b : Hold) (r : Reply) → Swaps run shows h a r b → KeepsMade a b
   swapped h a b r (home, at, x) =
       swap_same a.far b.far home.set home.position x.rule.set x.events r x.rule.state
 
-  room_won : (m n : Hold) (id : SetId) → WinsRoom run shows c m (Set id) n → Kept m n
+  room_won : (m n : Hold) (id : SetId) → WinsRoom run shows c m (Set id) n → KeepsMade m n
   room_won m n id x = evict_same c m.far n.far (answer.Set id) x.events x.rule.rule
 
   room_lost : (m n : Hold) (why : Lack) (loose nodes : ℕ)
-      → WinsRoom run shows c m (Refused why loose nodes) n → Kept m n
+      → WinsRoom run shows c m (Refused why loose nodes) n → KeepsMade m n
   room_lost m n why loose nodes x = evict_same c m.far n.far _ x.events x.rule.rule
 
-  bring_kept : (h : ℕ) (a b : Hold) (r : Reply) → Brings run shows c h a r b → Kept a b
+  bring_kept : (h : ℕ) (a b : Hold) (r : Reply) → Brings run shows c h a r b → KeepsMade a b
   bring_kept h a b r (at_once x never) = swapped h a b r x
   bring_kept h a b r (no_room m why loose nodes x evict e) =
       room_lost m b why loose nodes evict ∙ swapped h a m answer.NoFrame x
   bring_kept h a b r (won m n id x evict y never) =
       swapped h n b r y ∙ room_won m n id evict ∙ swapped h a m answer.NoFrame x
 
-  come_kept : (h : ℕ) (a b : Hold) (r : Reply) → ComesIn run shows c h a r b → Kept a b
+  come_kept : (h : ℕ) (a b : Hold) (r : Reply) → ComesIn run shows c h a r b → KeepsMade a b
   come_kept h a b r (not_far x never) = kept a b x.rule.0
   come_kept h a b r (was_far m x bring) = bring_kept h m b r bring ∙ kept a m x.rule.0
 
   once_kept : (h : ℕ) (a b : Hold) (r : Reply) → OnceHere (ComesIn run shows c h) (reads h) a r b
-      → Kept a b
+      → KeepsMade a b
   once_kept h a b r (away come off) = come_kept h a b r come
   once_kept h a b r (here m place come there call) =
       kept m b (read h m b r call) ∙ come_kept h a m place come
 
   write_kept : (h at : ℕ) (bytes : List ℕ) (a b : Hold) (r : Reply)
       → WhereItIs (WritesObject run shows h at bytes) (Declines run shows h at (length bytes))
-      (Brings run shows c h) a r b → Kept a b
+      (Brings run shows c h) a r b → KeepsMade a b
   write_kept h at bytes a b r (near x never) = kept a b x.rule.0
   write_kept h at bytes a b r (declined m x look) = kept m b look.0 ∙ kept a m x.rule.0
   write_kept h at bytes a b r (stays_far m n x look bring never) =
@@ -222,7 +222,7 @@ module _ {D : Type 0} (run : D → List Event → D → Type 0) (shows : D → S
       kept o b y.rule.0 ∙ bring_kept h n o (answer.Swapped f) bring ∙ kept m n look.0 ∙ kept a m x.rule.0
 
   -- what is so of a turn is so of one that began as this one
-  adds_from : (j : Job) (a n b : Hold) (r : Option Reply) → Kept a n → CountsMakes c j n.far b.far r
+  adds_from : (j : Job) (a n b : Hold) (r : Option Reply) → KeepsMade a n → CountsMakes c j n.far b.far r
       → CountsMakes c j a.far b.far r
   adds_from j a n b r e x = record {
     more = let more = x.more in omega (arith, more, e);
@@ -298,38 +298,38 @@ module _ {D : Type 0} (run : D → List Event → D → Type 0) (shows : D → S
   -- ---- want of memory
   make_stops : (bytes : List ℕ) (a b : Hold)
       → RoomStops (Makes run shows c bytes) (MakeLacks run c bytes) (WinsRoom run shows c)
-      (EvictLacks run shows) a b → Kept a b
+      (EvictLacks run shows) a b → KeepsMade a b
   make_stops bytes a b (lacks_at_once x) = kept a b x.1
   make_stops bytes a b (evicting m x y) = kept m b y.0 ∙ kept a m x.rule.2.0
   make_stops bytes a b (after m n id x y z) = kept n b z.1 ∙ room_won m n id y ∙ kept a m x.rule.2.0
 
-  given : (h : ℕ) (a b : Hold) → SwapLacks run h a b → Kept a b
+  given : (h : ℕ) (a b : Hold) → SwapLacks run h a b → KeepsMade a b
   given h a b (ran, (home, set, n, at, there, few, state)) = ap (λ (f : FarState). f.made) state
 
-  bring_stops : (h : ℕ) (a b : Hold) → BringLacks run shows c h a b → Kept a b
+  bring_stops : (h : ℕ) (a b : Hold) → BringLacks run shows c h a b → KeepsMade a b
   bring_stops h a b (lacks_at_once x) = given h a b x
   bring_stops h a b (evicting m x y) = kept m b y.0 ∙ swapped h a m answer.NoFrame x
   bring_stops h a b (after m n id x y z) =
       given h n b z ∙ room_won m n id y ∙ swapped h a m answer.NoFrame x
 
-  come_stops : (h : ℕ) (a b : Hold) → ComeLacks run shows c h a b → Kept a b
+  come_stops : (h : ℕ) (a b : Hold) → ComeLacks run shows c h a b → KeepsMade a b
   come_stops h a b (m, find, x) = bring_stops h m b x ∙ kept a m find.rule.0
 
   once_stops : (h : ℕ) (a b : Hold)
-      → OnceHereStops (ComesIn run shows c h) (ComeLacks run shows c h) (lacks h) a b → Kept a b
+      → OnceHereStops (ComesIn run shows c h) (ComeLacks run shows c h) (lacks h) a b → KeepsMade a b
   once_stops h a b (bringing_stops x) = come_stops h a b x
   once_stops h a b (call_stops m place come there x) = kept m b (lack h m b x) ∙ come_kept h a m place come
 
   write_stops : (h at : ℕ) (bytes : List ℕ) (a b : Hold)
       → CallStops (WritesObject run shows h at bytes) NeverLacks
       (Declines run shows h at (length bytes))
-      (Brings run shows c h) (BringLacks run shows c h) a b → Kept a b
+      (Brings run shows c h) (BringLacks run shows c h) a b → KeepsMade a b
   write_stops h at bytes a b (call_near x) = absurd x
   write_stops h at bytes a b (call_far m n x look y) =
       bring_stops h n b y ∙ kept m n look.0 ∙ kept a m x.rule.0
   write_stops h at bytes a b (call_after m n o f x look bring y) = absurd y
 
-  stops_kept : (j : Job) (a b : Hold) → Stops run shows lacks c j a b → Kept a b
+  stops_kept : (j : Job) (a b : Hold) → Stops run shows lacks c j a b → KeepsMade a b
   stops_kept (job.Make bytes) a b x = make_stops bytes a b x
   stops_kept (job.Read handle) a b x = once_stops handle.n a b x
   stops_kept (job.Write handle at bytes) a b x = write_stops handle.n at bytes a b x

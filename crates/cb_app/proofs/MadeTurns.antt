@@ -16,7 +16,6 @@ use Rattle.cb_world.specs.declared.shown.Shown.{Shown}
 use Rattle.cb_world.specs.Empty.{empty_far}
 use Rattle.cb_world.specs.FarState.{FarState}
 use Rattle.cb_world.specs.Played.{played}
-use Rattle.cb_core.specs.Parts.{Holding}
 use Rattle.cb_rule.specs.declared.turn.Turn.{Turn}
 use Rattle.cb_rule.specs.declared.view.View.{View}
 use Rattle.cb_rule.specs.Lists.{Has, total}
@@ -31,25 +30,20 @@ use Rattle.cb_record.specs.Deeds.{Deed, deed, happened, happening}
 use Rattle.cb_record.specs.Lists.{newest_first}
 use Rattle.cb_record.specs.Told.{tolds}
 use Rattle.cb_record.specs.Upheld.{as_part}
-use Rattle.cb_shared.specs.Turning.{Did, DidAs, PinLacks, ReadsByPin, Slate, held_by, slate_run, slate_shows}
+use Rattle.cb_shared.specs.Turning.{Did, DidAs, PinLacks, ReadsByPin, held_by, slate_run, slate_shows}
 use Rattle.cb_app.proofs.CountedTurns.{below, counts_all, counts_more, counts_none}
 use Rattle.cb_app.proofs.MadeStays.{CountsMakes, made_by, stops_adds, turned_adds}
-use Rattle.cb_app.proofs.TurnHistory.{at_last, at_turn, lone, number_of}
+use Rattle.cb_app.proofs.TurnHistory.{at_last, at_turn, lone, number_of, lacks_same, pins_same}
 
 -- ---- one turn
-read_same : (h : ℕ) (a b : Holding Slate) (r : Reply) → ReadsByPin h a r b → b.far ≡ a.far
-read_same h a b r x = ap (λ (z : Holding Slate). z.far) x.0
-
-lacks_same : (h : ℕ) (a b : Holding Slate) → PinLacks h a b → b.far ≡ a.far
-lacks_same h a b x = ap (λ (z : Holding Slate). z.far) x
 
 did_adds : (c : Config) (j : Job) (reply : Option Reply) (start : Shown) (es : List Event)
     (took gave : FarState) → DidAs c j reply start es took gave → CountsMakes c j took gave reply
 did_adds c j (Some r) start es took gave did =
-    turned_adds slate_run slate_shows ReadsByPin read_same PinLacks lacks_same c j
+    turned_adds slate_run slate_shows ReadsByPin pins_same PinLacks lacks_same c j
     (held_by start [] took) (held_by (played es start) es gave) r did
 did_adds c j None start es took gave did =
-    stops_adds slate_run slate_shows ReadsByPin read_same PinLacks lacks_same c j
+    stops_adds slate_run slate_shows ReadsByPin pins_same PinLacks lacks_same c j
     (held_by start [] took) (held_by (played es start) es gave) did.stops
 
 -- how many objects a turn made
@@ -69,21 +63,21 @@ below_less (t ∷ ts) n =
 module _ (first : ℕ) (c : Config) (v : View) (count : ℕ) (last : FarState)
     (one : IsOneHistory Did first c (v ∷ []) count last) where
   -- as many handles are made as the turns so far made, of those that there are
-  abbrev Counts : ℕ → FarState → Type 0
-  Counts n far = (far.made ≡ total (below turn_number made_in n) v.turns) × (far.made ≤ c.handles)
+  abbrev CountsMade : ℕ → FarState → Type 0
+  CountsMade n far = (far.made ≡ total (below turn_number made_in n) v.turns) × (far.made ≤ c.handles)
 
   adds : (t : Turn) → Has t v.turns → CountsMakes c t.job t.took t.gave t.reply
   adds t there = did_adds c t.job t.reply t.start t.acts t.took t.gave (one.did t (v, (0, refl), there))
 
-  step : (t : Turn) → Has t v.turns → turn_number t < count → Counts (turn_number t) t.took
-      → Counts (suc (turn_number t)) t.gave
+  step : (t : Turn) → Has t v.turns → turn_number t < count → CountsMade (turn_number t) t.took
+      → CountsMade (suc (turn_number t)) t.gave
   step t there low before =
       let more = counts_more turn_number made_in (turn_number t) v.turns t
       (lone first c v count last one (turn_number t) low) there refl in
       let a = before.0 in let b = (adds t there).more in
       (omega (arith, more, a, b), (adds t there).few before.1)
 
-  start : Counts 0 (empty_far first c)
+  start : CountsMade 0 (empty_far first c)
   start = let a = counts_none turn_number made_in v.turns in (omega (arith, a), omega arith)
 
   counted_or_none : (t : Turn) → Has t v.turns → (turn_number t < count) ⊎ (made_in t ≡ 0)
@@ -97,20 +91,20 @@ module _ (first : ℕ) (c : Config) (v : View) (count : ℕ) (last : FarState)
   -- no more are made in all than there are handles
   pub few_made : total made_in v.turns ≤ c.handles
   few_made =
-      let z = at_last first c v count last one Counts start step in
+      let z = at_last first c v count last one CountsMade start step in
       let a = z.0 in let b = z.1 in
       let all = counts_all turn_number made_in count v.turns counted_or_none in omega (arith, a, b, all)
 
   -- nor behind any turn before
   pub few_found : (t : Turn) → Has t v.turns → t.took.made ≤ c.handles
-  few_found t there = (at_turn first c v count last one Counts start step t there).1
+  few_found t there = (at_turn first c v count last one CountsMade start step t there).1
 
   -- and at least as many as were made behind a turn
   pub made_before : (t : Turn) → Has t v.turns → t.gave.made ≤ total made_in v.turns
   made_before t there = by (number_of first c v count last one t there)
     where
-      z : Counts (turn_number t) t.took
-      z = at_turn first c v count last one Counts start step t there
+      z : CountsMade (turn_number t) t.took
+      z = at_turn first c v count last one CountsMade start step t there
 
       by : HasTurnNumber count t → t.gave.made ≤ total made_in v.turns
       by (inl low) =

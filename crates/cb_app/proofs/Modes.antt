@@ -22,7 +22,7 @@ use Rattle.cb_scrub_text.specs.Verdicts as scrubs
 use Rattle.cb_scrub_text.proofs.Laws.{accepted_not_refused as rows_not_refused}
 use Rattle.cb_app.specs.declared.ending.Ending.{Ending}
 use Rattle.cb_app.specs.Modes.{Accepts, Refuses, IsVerdict, YieldsAnswers, command_of}
-use Rattle.cb_app.specs.Scripts.{IsAnswered, TellsFault, told_text}
+use Rattle.cb_app.specs.Scripts.{IsAnswered, TellsFault, ending_text}
 use Rattle.cb_app.specs.Threaded.{IsRun, IsThreaded}
 use Rattle.cb_app.specs.declared.threads.ThreadsEnd.{ThreadsEnd}
 
@@ -77,10 +77,10 @@ thread_fault_verdict bytes end fault is verdict (line, reason, bad, told) =
 -- the ending that is left of a script that was answered, and of one that threads answered, and the
 -- text that tells it
 pub answered_told : (side : Side) (script : Script) (made left : Ending) → IsAnswered side script made
-    → (text : List ℕ) → (left ≡ made) × (text ≡ told_text side made)
-    → IsAnswered side script left × (text ≡ told_text side left)
+    → (text : List ℕ) → (left ≡ made) × (text ≡ ending_text side made)
+    → IsAnswered side script left × (text ≡ ending_text side left)
 answered_told side script made left answered text (left_is, text_is) =
-    subst (λ (e : Ending). IsAnswered side script e × (text ≡ told_text side e)) (sym left_is) (answered, text_is)
+    subst (λ (e : Ending). IsAnswered side script e × (text ≡ ending_text side e)) (sym left_is) (answered, text_is)
 
 pub threaded_told : (script : Script) (told : ThreadsEnd) (made left : Ending)
     → made ≡ record {

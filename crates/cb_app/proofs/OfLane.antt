@@ -9,13 +9,13 @@ use Rattle.cb_types.specs.declared.answer.Answer.{Answer}
 use Rattle.cb_types.specs.declared.request.Request.{Request}
 use Rattle.cb_types.specs.Requests.{name_of}
 use Rattle.cb_script.specs.declared.script.Line.{Line}
-use Rattle.cb_script.specs.Form.{AreLines, IsNameMade, KnowsName, MakesName}
+use Rattle.cb_script.specs.Form.{AreLines, IsNameMade, MakesName}
 use Rattle.cb_rule.specs.Lists.{Has}
 use Rattle.cb_lanes.specs.Asked.{asked}
 use Rattle.cb_lanes.proofs.Laws.{AreOfLane, NoneOfLane}
-use Rattle.cb_app.specs.ByLane.{IsUsed, Uses, by_lane, lanes_up_to, of_lane}
+use Rattle.cb_app.specs.ByLane.{by_lane, lanes_up_to, of_lane}
 use Rattle.cb_app.specs.OwnLines.{AreAmong, to_lane}
-use Rattle.cb_app.proofs.Lanes.{IsOfLane, lanes_made, made_in_both, of_lane_made, of_lane_own, used_known}
+use Rattle.cb_app.proofs.Lanes.{IsOfLane, lanes_made, made_in_both, of_lane_made, of_lane_own}
 
 -- ---- answers
 pub has_either : {A : Type 0} (x : A) (xs ys : List A) → Has x (xs ++ ys) → Has x xs ⊎ Has x ys
@@ -69,34 +69,6 @@ some_or_none lane (a ∷ xs) = by (lane_cases a.lane.n lane) (some_or_none lane 
     by (inr off) (inl some) =
         inl (record { answer = some.answer; there = inr some.there; own = some.own })
     by (inr off) (inr none) = inr (off, none)
-
-pub has_to_lane : (lane : ℕ) (a : Answer) (xs : List Answer) → Has a xs → a.lane.n ≡ lane
-    → Has a (to_lane lane xs)
-has_to_lane lane a [] has own = absurd has
-has_to_lane lane a (x ∷ xs) has own =
-    by (λ later. has_to_lane lane a xs later own) (lane_cases x.lane.n lane) has
-  where
-    by : (Has a xs → Has a (to_lane lane xs)) → (x.lane.n ≡ lane) ⊎ (x.lane.n ≡ lane → ⊥)
-        → (x ≡ a) ⊎ Has a xs → Has a (to_lane lane (x ∷ xs))
-    by rest (inl same) (inl is) = subst (Has a) (sym (answer_hit lane x xs same)) (inl is)
-    by rest (inl same) (inr later) =
-        subst (Has a) (sym (answer_hit lane x xs same)) (inr (rest later))
-    by rest (inr off) (inl is) = absurd (off (ap (λ (z : Answer). z.lane.n) is ∙ own))
-    by rest (inr off) (inr later) = subst (Has a) (sym (answer_past lane x xs off)) (rest later)
-
-pub to_lane_has : (lane : ℕ) (a : Answer) (xs : List Answer) → Has a (to_lane lane xs) → Has a xs
-to_lane_has lane a [] has = absurd has
-to_lane_has lane a (x ∷ xs) has =
-    by (λ later. to_lane_has lane a xs later) (lane_cases x.lane.n lane)
-  where
-    hit : (Has a (to_lane lane xs) → Has a xs) → (x ≡ a) ⊎ Has a (to_lane lane xs) → Has a (x ∷ xs)
-    hit rest (inl is) = inl is
-    hit rest (inr later) = inr (rest later)
-
-    by : (Has a (to_lane lane xs) → Has a xs) → (x.lane.n ≡ lane) ⊎ (x.lane.n ≡ lane → ⊥)
-        → Has a (x ∷ xs)
-    by rest (inl same) = hit rest (subst (Has a) (answer_hit lane x xs same) has)
-    by rest (inr off) = inr (rest (subst (Has a) (answer_past lane x xs off) has))
 
 pub of_each : (P : Answer → Type 0) (xs : List Answer) (a : Answer) → AllByRecursion P xs → Has a xs
     → P a
@@ -207,13 +179,6 @@ made_here (k ∷ ls) l name (inl is) makes =
     )
 made_here (k ∷ ls) l name (inr later) makes = inr (made_here ls l name later makes)
 
-pub used_here : (ls : List Line) (l : Line) (name : List ℕ) → Has l ls → Uses l.request name
-    → IsUsed ls name
-used_here [] l name has uses = absurd has
-used_here (k ∷ ls) l name (inl is) uses =
-    inl (subst (λ (z : Line). Uses z.request name) (sym is) uses)
-used_here (k ∷ ls) l name (inr later) uses = inr (used_here ls l name later uses)
-
 -- a lane that makes a name by lane makes it in the script
 pub made_in_script : (ls : List Line) (lane : ℕ) (name : List ℕ) → IsNameMade (by_lane ls) lane name
     → IsNameMade ls lane name
@@ -222,37 +187,6 @@ made_in_script ls lane name made = by (made_in_both (of_lane 0 ls) (lanes_up_to 
     by : IsNameMade (of_lane 0 ls) lane name ⊎ IsNameMade (lanes_up_to 15 ls) lane name → IsNameMade ls lane name
     by (inl first) = (of_lane_made 0 ls lane name first).0
     by (inr other) = (lanes_made 15 ls lane name other).0
-
-line_of : (P : Line → Type 0) (ls : List Line) (l : Line) → AllByRecursion P ls → Has l ls → P l
-line_of P [] l all has = absurd has
-line_of P (k ∷ ls) l all (inl is) = subst P is all.0
-line_of P (k ∷ ls) l all (inr later) = line_of P ls l all.1 later
-
-in_its_lane : (n : ℕ) (ls : List Line) (l : Line) → Has l (of_lane n ls) → Has l (of_lane l.lane.n ls)
-in_its_lane n ls l has = subst (λ (m : ℕ). Has l (of_lane m ls))
-    (sym (line_of (IsOfLane n) (of_lane n ls) l (of_lane_own n ls) has)) has
-
-in_some_lane : (n : ℕ) (ls : List Line) (l : Line) → Has l (lanes_up_to n ls)
-    → Has l (of_lane l.lane.n ls)
-in_some_lane zero ls l has = absurd has
-in_some_lane (suc n) ls l has = by (λ before. in_some_lane n ls l before)
-    (has_either l (lanes_up_to n ls) (of_lane (suc n) ls) has)
-  where
-    by : (Has l (lanes_up_to n ls) → Has l (of_lane l.lane.n ls))
-        → Has l (lanes_up_to n ls) ⊎ Has l (of_lane (suc n) ls) → Has l (of_lane l.lane.n ls)
-    by rest (inl before) = rest before
-    by rest (inr here) = in_its_lane (suc n) ls l here
-
--- and the name that a line is about is known to its lane
-pub known_in_script : (nodes : ℕ) (ls : List Line) (l : Line) (name : List ℕ) → AreLines nodes [] ls
-    → Has l (by_lane ls) → Uses l.request name → KnowsName ls l.lane.n name
-known_in_script nodes ls l name are has uses =
-    used_known nodes l.lane.n [] ls name are (used_here (of_lane l.lane.n ls) l name
-    (by (has_either l (of_lane 0 ls) (lanes_up_to 15 ls) has)) uses)
-  where
-    by : Has l (of_lane 0 ls) ⊎ Has l (lanes_up_to 15 ls) → Has l (of_lane l.lane.n ls)
-    by (inl first) = in_its_lane 0 ls l first
-    by (inr other) = in_some_lane 15 ls l other
 
 pub has_asked : (xs : List Answer) (a : Answer) → Has a xs → Has (asked a) (map asked xs)
 has_asked [] a has = absurd has

@@ -22,7 +22,8 @@ use Rattle.cb_model.specs.Now.Change.{Create, Overwrite, Remove}
 use Rattle.cb_lanes.specs.Asked.{asked}
 use Rattle.cb_lanes.specs.Scoped.{AreOneToOne, IsMadeAs}
 use Rattle.cb_app.specs.ByLane.{by_lane, lanes_up_to, of_lane}
-use Rattle.cb_app.proofs.Lanes.{lanes_made, made_in_both, made_in_front, new_name, of_lane_made, one_maker}
+use Rattle.cb_app.proofs.Lanes.{lanes_made, made_in_both, new_name, of_lane_made, one_maker}
+use Rattle.cb_lanes.proofs.Laws.{made_in_front}
 
 -- ---- how many makes gave a handle
 abbrev made_one : ℕ → Request → Reply → ℕ

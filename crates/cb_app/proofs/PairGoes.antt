@@ -8,7 +8,7 @@ use Rattle.std.proofs.lemmas.Bool.{cases_eq, eq-eqb, false≢true}
 use Rattle.std.proofs.lemmas.Bool.Decides.{nat_tests}
 use Rattle.std.proofs.lemmas.List.{get_or-take, length-take-le}
 use Rattle.std.proofs.lemmas.List.Folds.{list_any_at}
-use Rattle.std.proofs.lemmas.Option.{slice_get-get_or}
+use Rattle.std.proofs.lemmas.Option.{slice_get-get_or, none-some, same_Some}
 use Rattle.cb_member.specs.declared.names.Shard.{Shard}
 use Rattle.cb_set.specs.Nodes.{OnDistinctNodes}
 use Rattle.cb_set.specs.SetState.{SetState}
@@ -20,7 +20,6 @@ use Rattle.cb_world.specs.declared.event.Event.{Event}
 use Rattle.cb_world.specs.FarState.{FarState}
 use Rattle.cb_world.specs.Joining.{JoiningState}
 use Rattle.cb_world.specs.Sets.{Kept, SetMap, if_committed, set_in}
-use Rattle.cb_world.proofs.Laws.{some_same}
 use Rattle.cb_evict.specs.EvictRule.{EvictRule, HasBoth, HasFewNodes, HasFewSpans}
 use Rattle.cb_evict.specs.Storing.{AreShards, set_for}
 use Rattle.cb_compact.specs.MergeStep.{MergeStep, Merges}
@@ -52,11 +51,8 @@ pub pair_stays : (far new : FarState) → new.joining ≡ far.joining → PairGo
 pair_stays far new same pair there =
     inl (record { old = pair; there = sym same ∙ there; same = refl })
 
-no_pair : (pair : JoiningState) → None ≡ Some pair → ⊥
-no_pair pair e = cc
-
 pair_gone : (far new : FarState) → new.joining ≡ None → PairGoes far new
-pair_gone far new none pair there = absurd (no_pair pair (sym none ∙ there))
+pair_gone far new none pair there = absurd (none-some pair (sym none ∙ there))
 
 stays : (far new : FarState) → new ≡ far → PairGoes far new
 stays far new same = pair_stays far new (ap (λ (f : FarState). f.joining) same)
@@ -69,7 +65,7 @@ becomes : (far new : FarState) (now : JoiningState) → new.joining ≡ Some now
     → WasPair far.joining now.shards_a ⊎ AreOfSet far.sets now.shards_a → PairGoes far new
 becomes far new now is from pair there =
     subst (λ (p : JoiningState). WasPair far.joining p.shards_a ⊎ AreOfSet far.sets p.shards_a)
-    (some_same now pair (sym is ∙ there)) from
+    (same_Some now pair (sym is ∙ there)) from
 
 pub begin_pair : (far new : FarState) (r : Reply) → PairStep far new r → PairGoes far new
 begin_pair far new r (inl x) = stays far new x.state
@@ -155,7 +151,7 @@ added_set : (sets : SetMap) (n id : ℕ) (new set : SetState)
     → set_in (map.insert sets n (record { set = new; committed = true })) id ≡ Some set
     → (new ≡ set) ⊎ (set_in sets id ≡ Some set)
 added_set sets n id new set there = elim (cases_eq id n) [
-  | inl same ↦ inl (some_same new set (sym (at true (key_same id n same)) ∙ there))
+  | inl same ↦ inl (same_Some new set (sym (at true (key_same id n same)) ∙ there))
   | inr off ↦ inr (sym (at false (key_other id n off)) ∙ there)
 ]
   where

@@ -1,19 +1,19 @@
 -- A pair that a turn of a closed record finds joining began with the shards of a set, so these
 -- stand on different nodes.
-use Rattle.std.proofs.Common.{◌≡◌, ℕ, suc, ◌<◌, [], ◌∷◌, None, Some, refl, sym, subst, inl, inr}
+use Rattle.std.proofs.Common.{ℕ, suc, ◌<◌, [], ◌∷◌, refl, sym, subst, inl, inr}
+use Rattle.std.proofs.lemmas.Option.{none-some}
 use Rattle.cb_set.specs.Nodes.{OnDistinctNodes}
 use Rattle.cb_types.specs.declared.config.Config.{Config}
 use Rattle.cb_types.specs.Config.{IsAccepted}
 use Rattle.cb_world.specs.Empty.{empty_far}
 use Rattle.cb_world.specs.FarState.{FarState}
-use Rattle.cb_world.specs.Joining.{JoiningState}
+use Rattle.cb_core.proofs.Laws.{JoinsApart}
 use Rattle.cb_rule.specs.declared.turn.Turn.{Turn}
 use Rattle.cb_rule.specs.declared.view.View.{View}
 use Rattle.cb_rule.specs.Lists.{Has}
 use Rattle.cb_rule.specs.Locking.{turn_number}
 use Rattle.cb_rule.specs.OneHistory.{IsOneHistory}
 use Rattle.cb_shared.specs.Turning.{Did}
-use Rattle.cb_lanes.proofs.Laws.{JoinsApart}
 use Rattle.cb_app.proofs.PairGoes.{AreSetsApart, PairGoes}
 use Rattle.cb_app.proofs.TurnHistory.{at_turn, each_goes, fine_of}
 
@@ -24,16 +24,13 @@ joins_after far new goes sets before pair there = elim (goes pair there) [
   | inr begins ↦ subst OnDistinctNodes (sym begins.same) (sets begins.id begins.set begins.there)
 ]
 
-no_pair : (pair : JoiningState) → None ≡ Some pair → ⊥
-no_pair pair e = cc
-
 module _ (first : ℕ) (c : Config) (ok : IsAccepted c) (v : View) (count : ℕ) (last : FarState)
     (one : IsOneHistory Did first c (v ∷ []) count last) where
   abbrev Joins : ℕ → FarState → Type 0
   Joins n far = JoinsApart far
 
   start : Joins 0 (empty_far first c)
-  start pair there = absurd (no_pair pair there)
+  start pair there = absurd (none-some pair there)
 
   step : (t : Turn) → Has t v.turns → turn_number t < count → Joins (turn_number t) t.took
       → Joins (suc (turn_number t)) t.gave

@@ -1,7 +1,8 @@
 -- Which operations tell neither of a lost set nor of want of room, and that each leaves the members
 -- and the pair that is joining.
 -- It is of the rules alone, and would fit cb_core beside its NoFrames.
-use Rattle.std.proofs.Common.{◌≡◌, ◌⊎◌, ℕ, zero, suc, ◌+◌, ◌-◌, ◌^◌, ◌==◌, nat_lt, if◌then◌else◌, Bool, true, false, List, Option, None, Some, refl, ap, ◌∙◌, inl, inr}
+use Rattle.std.proofs.Common.{◌≡◌, ◌⊎◌, ℕ, zero, suc, ◌+◌, ◌-◌, ◌^◌, ◌==◌, nat_lt, if◌then◌else◌, Bool, true, false, List, Option, None, Some, refl, sym, ap, ◌∙◌, inl, inr}
+use Rattle.std.proofs.lemmas.Option.{same_Some, none-some}
 use Rattle.cb_member.specs.Membership.{Membership}
 use Rattle.cb_ptr.specs.declared.word.State.{State}
 use Rattle.cb_ptr.specs.declared.word.State.TheVariants as word
@@ -221,20 +222,15 @@ abort_plain far new r es a = by a.answered
     by (inr x) = comes far new _ r _ refl x.reply x.state refl
 
 -- ---- a write that is declined
-some_none : (r : Reply) → Some r ≡ None → ⊥
-some_none r e = cc
-
-some_same : (a b : Reply) → Some a ≡ Some b → a ≡ b
-some_same a b e = cc
 
 pub declined_plain : (h at count : ℕ) (far : FarState) (r : Reply) (es : List Event)
     → IsDeclined h at count far (Some r) es → TellsNoLack r
-declined_plain h at count far r es (inl (gone, none, nothing)) = absurd (some_none r none)
+declined_plain h at count far r es (inl (gone, none, nothing)) = absurd (none-some r (sym none))
 declined_plain h at count far r es (inr (stays, (w, v, found, far_word, told, last, is))) =
     by (nat_lt (len_of w) (at + count)) (v == 2 ^ 64 - 1) is
   where
     by : (past worn : Bool) → Some r ≡ (if past then Some (answer.Range (len_of w))
         else if worn then Some answer.Worn else None) → TellsNoLack r
-    by true worn e = off r (answer.Range (len_of w)) refl (some_same _ _ e)
-    by false true e = off r answer.Worn refl (some_same _ _ e)
-    by false false e = absurd (some_none r e)
+    by true worn e = off r (answer.Range (len_of w)) refl (same_Some _ _ e)
+    by false true e = off r answer.Worn refl (same_Some _ _ e)
+    by false false e = absurd (none-some r (sym e))

@@ -17,6 +17,7 @@ use Rattle.cb_rule.specs.Closing.{IsClosed}
 use Rattle.cb_model.specs.Legal.{IsLegal}
 use Rattle.cb_record.specs.Backs.{Backs}
 use Rattle.cb_record.specs.Told.{tolds}
+use Rattle.cb_record.specs.Upheld.{as_part}
 use Rattle.cb_record.proofs.Laws.{has_last, legal_of_backed}
 use Rattle.cb_shared.specs.declared.pass.Pass.{Pass}
 use Rattle.cb_shared.specs.declared.runtime.Shared.{Shared}
@@ -36,7 +37,7 @@ use Rattle.cb_lanes.proofs.Laws.{freed_last, keep_alone, none_lacks}
 use Rattle.cb_app.specs.ByLane.{by_lane}
 use Rattle.cb_app.specs.Calm.{IsCalmTo}
 use Rattle.cb_workers.specs.declared.worker.Worker.{Worker}
-use Rattle.cb_app.specs.Crew.{IsLaneTold, RiseWith, part_of, work_in}
+use Rattle.cb_app.specs.Crew.{IsLaneTold, RiseWith, work_in}
 use Rattle.cb_app.specs.OwnLines.{AreAllOf, KeepAloneWith}
 use Rattle.cb_app.specs.Threaded.{AreLosses, IsRun}
 use Rattle.cb_app.specs.declared.threads.ThreadsEnd.{ThreadsEnd}
@@ -61,7 +62,7 @@ pub is_run : (script : Script) (end : ThreadsEnd) → AreInMode modes.Threads sc
     → map asked end.answers ≡ by_lane script.lines → AllByRecursion HasLineReply end.answers
     → AllByRecursion (HasLastTry script.config) end.answers → sealed_world end.seal ≡ end.world
     → IsClosed Did 1 script.config (sealed_record end.seal) end.world
-    → Backs (part_of (sealed_record end.seal)) (tolds [] end.answers)
+    → Backs (as_part (sealed_record end.seal)) (tolds [] end.answers)
     → AreSuited (sealed_record end.seal).seen (tolds [] end.answers)
     → RiseWith (sealed_record end.seal) [] end.answers → AreScoped [] end.answers
     → KeepAloneWith script.config.nodes [] end.answers
@@ -145,8 +146,8 @@ module _ (script : Script) (mode : AreInMode modes.Threads script.lines) (shared
       closed.world
       (subst (λ (v : View). IsClosed Did 1 script.config v end.world) (sym same)
       (configured end.world closed.closed))
-      (subst (λ (l : List Answer). Backs (part_of (sealed_record end.seal)) (tolds [] l)) (sym answers)
-      (subst (λ (v : View). Backs (part_of v) (tolds [] told.answers)) (sym same) is_told.backs))
+      (subst (λ (l : List Answer). Backs (as_part (sealed_record end.seal)) (tolds [] l)) (sym answers)
+      (subst (λ (v : View). Backs (as_part v) (tolds [] told.answers)) (sym same) is_told.backs))
       (subst (λ (l : List Answer). AreSuited (sealed_record end.seal).seen (tolds [] l)) (sym answers)
       (subst (λ (v : View). AreSuited v.seen (tolds [] told.answers)) (sym same) is_told.suits))
       (subst (RiseWith (sealed_record end.seal) []) (sym answers)

@@ -2,8 +2,7 @@
 use Rattle.std.proofs.Common.{◌≡◌, ℕ, ◌+◌, ◌<◌, Bool, true, false, if◌then◌else◌, List, [], ◌∷◌, ◌++◌, length, get_or, take, map, Option, Some, None, inl, inr, refl, sym, ap, ◌∙◌, subst}
 use Rattle.std.specs.List.{AllByRecursion, cons_option, flat_map}
 use Rattle.std.specs.Str.{bytes_eq}
-use Rattle.std.proofs.lemmas.Grind.{flat_map-append}
-use Rattle.std.proofs.lemmas.List.{append-nil, take_more}
+use Rattle.std.proofs.lemmas.List.{take_more}
 use Rattle.std.proofs.lemmas.List.Elements.{filter_map-append}
 use Rattle.cb_types.specs.declared.answer.Answer.{Answer}
 use Rattle.cb_types.specs.declared.config.Config.{Config}
@@ -17,7 +16,6 @@ use Rattle.cb_types.specs.declared.request.Request.TheVariants.{Make}
 use Rattle.cb_world.specs.declared.entry.Entry.{Entry}
 use Rattle.cb_model.specs.Called.{first_of, handle_for, handle_made, handle_of}
 use Rattle.cb_rule.specs.declared.turn.Turn.{Turn}
-use Rattle.cb_rule.specs.declared.view.Seen.{Seen}
 use Rattle.cb_rule.specs.declared.view.View.{View}
 use Rattle.cb_rule.specs.Lists.{Has}
 use Rattle.cb_rule.specs.Records.{seen_of}
@@ -26,16 +24,17 @@ use Rattle.cb_record.specs.Backs.{Backs, Enters, WroteLines}
 use Rattle.cb_record.specs.Deeds.{Deed, deed, happened, happening}
 use Rattle.cb_record.specs.Parts.{Part, grown}
 use Rattle.cb_record.specs.Told.{Told, tolds}
-use Rattle.cb_record.proofs.Laws.{backs_sum, idle_backs}
+use Rattle.cb_record.specs.Upheld.{as_part}
+use Rattle.cb_record.proofs.Laws.{backs_sum, idle_backs, has_left, has_right}
 use Rattle.cb_lanes.specs.declared.body.Named.{Named}
 use Rattle.cb_lanes.specs.Bodies.{AddsBacked, AreLinesOf, AreNamesOf, KnowsHandle, KnowsNames, LaneGoes, handle_among}
 use Rattle.cb_lanes.specs.AloneUntil.{LaneKeepsAlone}
-use Rattle.cb_lanes.specs.Lost.{loss_of, losses_of}
+use Rattle.cb_lanes.specs.Lost.{told_loss, losses_of}
 use Rattle.cb_lanes.specs.Rising.{LaneRises}
 use Rattle.cb_lanes.specs.Scoped.{LaneScoped}
 use Rattle.cb_lanes.specs.Scopes.{scope_of}
 use Rattle.cb_lanes.specs.Suits.{AreSuited}
-use Rattle.cb_lanes.proofs.Laws.{answers_of, lane_suits}
+use Rattle.cb_lanes.proofs.Laws.{answers_of, lane_suits, has_seen, first_none}
 use Rattle.cb_workers.specs.Bodies.{IsWorked, WorkerWorks}
 use Rattle.cb_workers.specs.Rules.{owner}
 use Rattle.cb_workers.specs.Work.{AreJobsOf}
@@ -49,40 +48,22 @@ use Rattle.cb_script.specs.declared.script.Line.{Line}
 use Rattle.cb_lanes.specs.declared.body.LaneEnd.{LaneEnd}
 use Rattle.cb_lanes.specs.Asked.{HasLineReply, asked}
 use Rattle.cb_lanes.specs.LastTries.{HasLastTry}
-use Rattle.cb_app.specs.Crew.{AreKnownTo, IsFreshRecord, IsLaneTold, name_made, names_in, part_of}
+use Rattle.cb_app.specs.Crew.{AreKnownTo, IsFreshRecord, IsLaneTold, name_made, names_in}
 use Rattle.cb_app.proofs.AnswersRise.{lane_rise, none_rise}
 use Rattle.cb_app.proofs.LanesAlone.{lane_alone_with, none_alone}
 use Rattle.cb_app.proofs.ScopesTold.{none_scoped}
 
 -- ---- a pass that was split off
 
-has_seen_front : (s : Seen) (xs ys : List Seen) → Has s xs → Has s (xs ++ ys)
-has_seen_front s [] ys h = absurd h
-has_seen_front s (x ∷ xs) ys (inl here) = inl here
-has_seen_front s (x ∷ xs) ys (inr later) = inr (has_seen_front s xs ys later)
-
-has_seen_behind : (s : Seen) (xs ys : List Seen) → Has s ys → Has s (xs ++ ys)
-has_seen_behind s [] ys h = h
-has_seen_behind s (x ∷ xs) ys h = inr (has_seen_behind s xs ys h)
-
-has_as_seen : (e : Entry) (es : List Entry) → Has e es → Has (seen_of e) (map seen_of es)
-has_as_seen e [] h = absurd h
-has_as_seen e (x ∷ es) (inl here) = inl (ap seen_of here)
-has_as_seen e (x ∷ es) (inr later) = inr (has_as_seen e es later)
-
-has_behind : (e : Entry) (xs ys : List Entry) → Has e ys → Has e (xs ++ ys)
-has_behind e [] ys h = h
-has_behind e (x ∷ xs) ys h = inr (has_behind e xs ys h)
-
 right_knows : (h given : ℕ) (v : View) → Knows h v → Knows h (right_of given v)
 right_knows h given v (inl (e, has, is)) = inr (
   seen_of e,
-  has_seen_front (seen_of e) (map seen_of (v.fresh ++ v.written)) v.seen
-      (has_as_seen e (v.fresh ++ v.written) (has_behind e v.fresh v.written has)),
+  has_left (seen_of e) (map seen_of (v.fresh ++ v.written)) v.seen
+      (has_seen e (v.fresh ++ v.written) (has_right e v.fresh v.written has)),
   is,
 )
 right_knows h given v (inr (s, has, is)) =
-    inr (s, has_seen_behind s (map seen_of (v.fresh ++ v.written)) v.seen has, is)
+    inr (s, has_right s (map seen_of (v.fresh ++ v.written)) v.seen has, is)
 
 right_knows_handle : (o : Option Handle) (given : ℕ) (v : View) → KnowsHandle v o
     → KnowsHandle (right_of given v) o
@@ -103,15 +84,15 @@ opener_fresh c = record { pins = refl; written = refl; turns = refl; own = refl 
 
 -- ---- a record that grew backs what its new part backs
 
-pub fresh_idle : (v : View) → IsFreshRecord v → Backs (part_of v) []
-fresh_idle v fresh = idle_backs (part_of v) fresh.written
+pub fresh_idle : (v : View) → IsFreshRecord v → Backs (as_part v) []
+fresh_idle v fresh = idle_backs (as_part v) fresh.written
     (ap (λ (ts : List Turn). flat_map (λ turn. happened (deed turn)) ts) fresh.turns)
 
 pub fresh_backs : (v w : View) (d : Part) (own : List ℕ) (ts : List Told) → IsFreshRecord v
-    → w ≡ record (grown d v) { own = own } → Backs d ts → Backs (part_of w) ts
+    → w ≡ record (grown d v) { own = own } → Backs d ts → Backs (as_part w) ts
 fresh_backs v w d own ts fresh grows backs =
-    subst (λ (u : View). Backs (part_of u) ts) (sym grows)
-    (backs_sum (part_of v) d [] ts (fresh_idle v fresh) backs)
+    subst (λ (u : View). Backs (as_part u) ts) (sym grows)
+    (backs_sum (as_part v) d [] ts (fresh_idle v fresh) backs)
 
 -- ---- the turns of a worker make nothing
 
@@ -139,7 +120,7 @@ pub worker_told : (s : Shared) (w : Worker) (turns : ℕ) (p q : Pass) (given an
     → IsLaneTold s given [] (record { answers = answers; pass = q })
 worker_told s w turns p q given answers fresh works none =
     let d = works.1.0 in
-    let backs : Backs (part_of (record_of q)) [] =
+    let backs : Backs (as_part (record_of q)) [] =
     fresh_backs (record_of p) (record_of q) d (record_of p).own [] fresh works.1.2
     (worked_backs s.config.handles turns w d works.1.1) in
     record {
@@ -147,7 +128,7 @@ worker_told s w turns p q given answers fresh works none =
       lines_are = ap (map asked) none;
       replies = subst (AllByRecursion HasLineReply) (sym none) tt;
       last = subst (AllByRecursion (HasLastTry s.config)) (sym none) tt;
-      backs = subst (λ (xs : List Answer). Backs (part_of (record_of q)) (tolds given xs)) (sym none) backs;
+      backs = subst (λ (xs : List Answer). Backs (as_part (record_of q)) (tolds given xs)) (sym none) backs;
       suits = subst (λ (xs : List Answer). AreSuited (record_of q).seen (tolds given xs)) (sym none) tt;
       rises = none_rise (record_of q) given answers none;
       scopes = none_scoped given answers none;
@@ -158,10 +139,6 @@ worker_told s w turns p q given answers fresh works none =
 
 abbrev HasAll : List Entry → View → Type 0
 HasAll es v = (e : Entry) → Has e es → Has e v.written
-
-first_none : (a : Option ℕ) → first_of a None ≡ a
-first_none None = refl
-first_none (Some h) = refl
 
 abbrev no_number : Option ℕ
 no_number = None
@@ -189,20 +166,15 @@ known_both : (v : View) (xs ys : List Named) → KnowsNames v xs → KnowsNames 
 known_both v [] ys a b = b
 known_both v (x ∷ xs) ys a b = (a.0, known_both v xs ys a.1 b)
 
-has_front : (e : Entry) (xs ys : List Entry) → Has e xs → Has e (xs ++ ys)
-has_front e [] ys h = absurd h
-has_front e (x ∷ xs) ys (inl here) = inl here
-has_front e (x ∷ xs) ys (inr later) = inr (has_front e xs ys later)
-
 pub told_known : (written : List Entry) (before answers : List Answer) (v : View)
     → WroteLines written (tolds before answers) → HasAll written v → KnowsNames v (names_in answers)
 told_known written before [] v wrote all = tt
 told_known written before (a ∷ after) v (own, rest, is, enters, later) all =
     known_both v (name_made a.request a.reply) (names_in after)
     (entered_known a.request a.reply own v before enters
-    (λ e has. all e (subst (Has e) (sym is) (has_behind e rest own has))))
+    (λ e has. all e (subst (Has e) (sym is) (has_right e rest own has))))
     (told_known rest (before ++ a ∷ []) after v later
-    (λ e has. all e (subst (Has e) (sym is) (has_front e rest own has))))
+    (λ e has. all e (subst (Has e) (sym is) (has_left e rest own has))))
 
 -- what a lane leaves that began with a new pass
 pub lane_told : (s : Shared) (lane : ℕ) (names : List Named) (v : View) (lines : List Line) (e : LaneEnd)
@@ -229,7 +201,7 @@ lane_told s lane names v lines e fresh names_known of are replies last adds goes
           known.3;
     }
   where
-    backs : Backs (part_of (record_of e.pass)) (tolds given e.answers)
+    backs : Backs (as_part (record_of e.pass)) (tolds given e.answers)
     backs = fresh_backs v (record_of e.pass) adds.part adds.own (tolds given e.answers) fresh adds.grows
         (adds.backs given named)
 
@@ -243,7 +215,7 @@ pub first_known : (names : List Named) (answers : List Answer) (v w : View)
 first_known names answers v w adds named =
     told_known adds.part.written [] answers w (adds.backs [] named).wrote
     (subst (λ (u : View). HasAll adds.part.written u) (sym adds.grows)
-    (λ e has. has_front e adds.part.written v.written has))
+    (λ e has. has_left e adds.part.written v.written has))
 
 -- the names are those of the answers
 names_of_one : (r : Request) (reply : Reply) (names : List Named) (later : List Answer) (name : List ℕ)
@@ -255,28 +227,19 @@ names_of_one (Make made bytes) (Made handle version) names later name is =
 names_of_one (Make made bytes) reply names later name is =
     ap (λ (h : Option ℕ). first_of h None) is
     ∙ ap (λ (o : Option ℕ). first_of (handle_among names name) o) (sym (either_none (bytes_eq made name)))
-names_of_one r reply names later name is = first_none (handle_of later name) ∙ is
+names_of_one r reply names later name is = sym (first_none (handle_of later name)) ∙ is
 
 pub names_are : (answers : List Answer) → AreNamesOf (names_in answers) answers
 names_are [] name = refl
 names_are (a ∷ later) name =
     names_of_one a.request a.reply (names_in later) later name (names_are later name)
 
--- one more answer adds the name that it made, and the loss that it tells
-pub names_more : (answers : List Answer) (i : ℕ) (a d : Answer) → i < length answers
-    → a ≡ get_or answers i d
-    → names_in (take i answers) ++ name_made a.request a.reply ≡ names_in (take (i + 1) answers)
-names_more answers i a d within is =
-    let made = λ (b : Answer). name_made b.request b.reply in
-    let longer = take_more answers i d within ∙ ap (λ (b : Answer). take i answers ++ b ∷ []) (sym is) in
-    sym (ap names_in longer ∙ flat_map-append made (take i answers) (a ∷ [])
-    ∙ ap (λ (l : List Named). names_in (take i answers) ++ l) (append-nil (made a)))
-
+-- one more answer adds the loss that it tells
 pub losses_more : (answers : List Answer) (i : ℕ) (a d : Answer) → i < length answers
     → a ≡ get_or answers i d
-    → losses_of (take i answers) ++ cons_option (loss_of a.request a.reply) []
+    → losses_of (take i answers) ++ cons_option (told_loss a.request a.reply) []
     ≡ losses_of (take (i + 1) answers)
 losses_more answers i a d within is =
     let longer = take_more answers i d within ∙ ap (λ (b : Answer). take i answers ++ b ∷ []) (sym is) in
     sym (ap losses_of longer
-    ∙ filter_map-append (λ (b : Answer). loss_of b.request b.reply) (take i answers) (a ∷ []))
+    ∙ filter_map-append (λ (b : Answer). told_loss b.request b.reply) (take i answers) (a ∷ []))

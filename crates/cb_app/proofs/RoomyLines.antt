@@ -1,6 +1,7 @@
 -- What a script's lines make and crash, as answers to its lines by lane tell it.
 use Rattle.std.proofs.Common.{◌≡◌, ℕ, zero, suc, ◌+◌, ◌<◌, ◌≤◌, Bool, true, false, ◌||◌, cond, nat_eq, List, [], ◌∷◌, ◌++◌, map, Contains, Some, refl, sym, ap, ◌∙◌, subst, inl, inr, arith, eq-eqb, eqb-true}
 use Rattle.std.specs.List.{AllByRecursion, cons_option}
+use Rattle.std.proofs.Math.Bool.{or-true}
 use Rattle.std.proofs.lemmas.Bool.{cases_Bool}
 use Rattle.std.proofs.lemmas.List.Sums.{sum_by-append, sum_by-cons}
 use Rattle.cb_member.specs.declared.names.Loss.{Loss}
@@ -16,7 +17,7 @@ use Rattle.cb_script.specs.Roomy.{has_crash, is_crash, is_make, makes_in}
 use Rattle.cb_model.specs.Called.{calls_behind, made_by, makes}
 use Rattle.cb_model.specs.Event.{event_of}
 use Rattle.cb_lanes.specs.Asked.{asked}
-use Rattle.cb_lanes.specs.Lost.{loss_of, losses_of}
+use Rattle.cb_lanes.specs.Lost.{told_loss, losses_of}
 use Rattle.cb_lanes.proofs.Laws.{crash_below, crash_named, crashed_nodes}
 use Rattle.cb_app.specs.ByLane.{by_lane, lanes_up_to, of_lane}
 use Rattle.cb_app.proofs.Lanes.{by_lane_all}
@@ -142,9 +143,6 @@ few_makes s answers are =
     let all = by_lane_makes s.lines in omega (arith, each, same, all)
 
 -- ---- the nodes of crashes
-or_true : (b : Bool) → (b || true) ≡ true
-or_true true = refl
-or_true false = refl
 
 -- a line that crashes the node is one of the lines
 crash_lines : (lines : List Line)
@@ -162,7 +160,7 @@ crash_lines (l ∷ lines) = (
     later [] each = tt
     later (m ∷ ls) each = (
       λ n is. ap (λ (b : Bool). is_crash n l.request || b) (each.0 n is)
-          ∙ or_true (is_crash n l.request),
+          ∙ or-true (is_crash n l.request),
       later ls each.1,
     )
 
@@ -192,7 +190,7 @@ AreOfNodes nodes losses = AllByRecursion (λ (l : Loss). Contains nodes l.node.n
 
 line_loss : (s : Script) (q : Request) (r : Reply) (rest : List Loss) → NamesCrashed s q
     → AreOfNodes (crashed_nodes s) rest
-    → AreOfNodes (crashed_nodes s) (cons_option (loss_of q r) rest)
+    → AreOfNodes (crashed_nodes s) (cons_option (told_loss q r) rest)
 line_loss s (line.Crash node) (answer.EpochAt epoch) rest named later =
     (named node.n (eq-eqb node.n node.n refl), later)
 line_loss s (line.Crash node) r rest named later = later

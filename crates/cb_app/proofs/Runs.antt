@@ -119,12 +119,6 @@ pub drawn_decided : (words : List (String Global)) (plan : Plan) (before : Optio
 drawn_decided words plan before outcome asks command named =
     absurd (no_command_draws words plan command asks named)
 
--- a run that fails decides nothing
-pub decided_failed : (command : Command) (before : Option (List ℕ)) (failure : Failure)
-    → IsDecided command before (Err failure)
-decided_failed command before failure =
-    record { accepted = λ all told accepts. inr refl; refused = λ all text told refuses. inr refl }
-
 -- the words are refused, and the text that tells it is put, or cut short
 pub words_cut : (words : List (String Global)) (before held holds : Option (List ℕ)) (end : Ending)
     → NameNone words → GetsFront held holds words_refused

@@ -13,24 +13,21 @@ use Rattle.cb_script.specs.declared.script.Line.{Line}
 use Rattle.cb_lanes.specs.Asked.{asked}
 use Rattle.cb_lanes.specs.Scoped.{AreOneToOne, AreScoped, IsMadeAs}
 use Rattle.cb_lanes.specs.Scopes.{KeepScopes, ScopeSays, Scope, scope_after, scope_more, scope_of}
-use Rattle.cb_lanes.proofs.Laws.{made_as_left, made_as_right}
+use Rattle.cb_lanes.proofs.Laws.{made_as_left, made_as_right, NoneOfLane}
 use Rattle.cb_app.specs.ByLane.{AreOfOthers, IsApart, Uses, of_lane}
 use Rattle.cb_app.specs.Crew.{AreFirst}
 use Rattle.cb_app.proofs.Lanes.{IsOfLane, of_lane_own}
 use Rattle.cb_app.proofs.ToldApart.{unseen}
 
 -- ---- the scope of a lane behind answers of others
-abbrev NoneOf : ℕ → List Answer → Type 0
-NoneOf lane answers = AllByRecursion (λ (a : Answer). a.lane.n ≡ lane → ⊥) answers
-
-scope_unseen : (lane : ℕ) (scope : Scope) (others : List Answer) → NoneOf lane others
+scope_unseen : (lane : ℕ) (scope : Scope) (others : List Answer) → NoneOfLane lane others
     → fold (scope_more lane) scope others ≡ scope
 scope_unseen lane scope [] none = refl
 scope_unseen lane scope (o ∷ others) none =
     ap (λ (b : Bool). fold (scope_more lane) (if b then scope_after scope o.request o.reply else scope)
     others) (ne_eqb o.lane.n lane none.0) ∙ scope_unseen lane scope others none.1
 
-scope_beside : (lane : ℕ) (xs ys zs : List Answer) → NoneOf lane ys
+scope_beside : (lane : ℕ) (xs ys zs : List Answer) → NoneOfLane lane ys
     → scope_of lane (xs ++ (ys ++ zs)) ≡ scope_of lane (xs ++ zs)
 scope_beside lane xs ys zs none = fold-append (scope_more lane) [] xs (ys ++ zs)
     ∙ fold-append (scope_more lane) (scope_of lane xs) ys zs
@@ -64,11 +61,11 @@ same_says (Filter name) r scope bs cs same says =
 same_says q r scope bs cs same says = says
 
 -- ---- answers behind those of other lanes
-first_none : (a : Answer) (after others : List Answer)
-    → AreOfOthers (map asked others) (map asked (a ∷ after)) → NoneOf a.lane.n others
-first_none a after [] none = tt
-first_none a after (o ∷ others) none =
-    (λ same. none.0.0 (inl same), first_none a after others none.1)
+others_unseen : (a : Answer) (after others : List Answer)
+    → AreOfOthers (map asked others) (map asked (a ∷ after)) → NoneOfLane a.lane.n others
+others_unseen a after [] none = tt
+others_unseen a after (o ∷ others) none =
+    (λ same. none.0.0 (inl same), others_unseen a after others none.1)
 
 later_none : (a : Answer) (after others : List Answer)
     → AreOfOthers (map asked others) (map asked (a ∷ after))
@@ -85,7 +82,7 @@ keep_beside xs ys zs (a ∷ after) apart none keep =
     append_assoc xs (ys ++ zs) (a ∷ [])
     ∙ ap (λ (bs : List Answer). xs ++ bs) (append_assoc ys zs (a ∷ [])) in (
       subst (λ (s : Scope). ScopeSays (handle_named (xs ++ (ys ++ zs)) (name_of a.request)) s
-          a.request a.reply) (sym (scope_beside a.lane.n xs ys zs (first_none a after ys none)))
+          a.request a.reply) (sym (scope_beside a.lane.n xs ys zs (others_unseen a after ys none)))
           (same_says a.request a.reply (scope_of a.lane.n (xs ++ zs)) (xs ++ (ys ++ zs)) (xs ++ zs)
           (λ name uses. unseen name xs ys zs (apart name (inl uses))) keep.0),
       subst (λ (bs : List Answer). KeepScopes bs after) (sym more)
@@ -152,7 +149,7 @@ pub none_scoped : (given answers : List Answer) → answers ≡ [] → AreScoped
 none_scoped given answers none = subst (AreScoped given) (sym none) (λ one. tt)
 
 -- by the answers of lane 0 another lane has no pin
-first_are_others : (lane : ℕ) (answers : List Answer) → AreFirst answers → 1 ≤ lane → NoneOf lane answers
+first_are_others : (lane : ℕ) (answers : List Answer) → AreFirst answers → 1 ≤ lane → NoneOfLane lane answers
 first_are_others lane [] are other = tt
 first_are_others lane (a ∷ later) are other = (
   λ same. let zero = are.0 in absurd (omega (arith, zero, same, other)),

@@ -14,25 +14,11 @@ use Rattle.cb_script.specs.Form.{IsNameMade, MakesName}
 use Rattle.cb_record.specs.Told.{Told, told, tolds}
 use Rattle.cb_lanes.specs.Asked.{asked}
 use Rattle.cb_app.specs.ByLane.{IsApart, Uses}
-
-first_of-first_of : (a b c : Option ℕ) → first_of (first_of a b) c ≡ first_of a (first_of b c)
-first_of-first_of None b c = refl
-first_of-first_of (Some h) b c = refl
-
-first_of-none : (a : Option ℕ) → a ≡ first_of a None
-first_of-none None = refl
-first_of-none (Some h) = refl
-
-handle_of-append : (name : List ℕ) (xs ys : List Answer)
-    → handle_of (xs ++ ys) name ≡ first_of (handle_of ys name) (handle_of xs name)
-handle_of-append name [] ys = first_of-none (handle_of ys name)
-handle_of-append name (x ∷ xs) ys =
-    ap (λ (h : Option ℕ). first_of h (handle_made name x.request x.reply)) (handle_of-append name xs ys)
-    ∙ first_of-first_of (handle_of ys name) (handle_of xs name) (handle_made name x.request x.reply)
+use Rattle.cb_lanes.proofs.Laws.{first_none, handle_append}
 
 -- no lane makes the name
-abbrev MakesNone : List Answer → List ℕ → Type 0
-MakesNone answers name = (lane : ℕ) → IsNameMade (map asked answers) lane name → ⊥
+abbrev IsMadeByNone : List Answer → List ℕ → Type 0
+IsMadeByNone answers name = (lane : ℕ) → IsNameMade (map asked answers) lane name → ⊥
 
 not_this : (made name : List ℕ) → (made ≡ name → ⊥) → bytes_eq made name ≡ false
 not_this made name other = elim (cases_Bool (bytes_eq made name)) [
@@ -45,7 +31,7 @@ makes_no (Make made bytes) (Made handle version) name other =
     ap (λ (b : Bool). if b then Some handle.n else None) (not_this made name other)
 makes_no request reply name other = refl
 
-none_made : (answers : List Answer) (name : List ℕ) → MakesNone answers name
+none_made : (answers : List Answer) (name : List ℕ) → IsMadeByNone answers name
     → handle_of answers name ≡ None
 none_made [] name none = refl
 none_made (a ∷ later) name none =
@@ -54,20 +40,20 @@ none_made (a ∷ later) name none =
     ∙ makes_no a.request a.reply name (λ makes. none a.lane.n (inl (refl, makes)))
 
 -- answers that make none of a name stay unseen between others
-pub unseen : (name : List ℕ) (xs ys zs : List Answer) → MakesNone ys name
+pub unseen : (name : List ℕ) (xs ys zs : List Answer) → IsMadeByNone ys name
     → handle_of (xs ++ (ys ++ zs)) name ≡ handle_of (xs ++ zs) name
 unseen name xs ys zs none =
     let left : handle_of (xs ++ (ys ++ zs)) name ≡ first_of (handle_of (ys ++ zs) name) (handle_of xs name) =
-    handle_of-append name xs (ys ++ zs) in
+    handle_append xs (ys ++ zs) name in
     let mid : handle_of (ys ++ zs) name ≡ handle_of zs name =
-    handle_of-append name ys zs
+    handle_append ys zs name
     ∙ ap (λ (h : Option ℕ). first_of (handle_of zs name) h) (none_made ys name none)
-    ∙ sym (first_of-none (handle_of zs name)) in
-    left ∙ ap (λ (h : Option ℕ). first_of h (handle_of xs name)) mid ∙ sym (handle_of-append name xs zs)
+    ∙ sym (first_none (handle_of zs name)) in
+    left ∙ ap (λ (h : Option ℕ). first_of h (handle_of xs name)) mid ∙ sym (handle_append xs zs name)
 
 -- what a line is about behind answers of other lanes
 about : (r : Request) (reply : Reply) (xs ys zs : List Answer)
-    → ((name : List ℕ) → Uses r name → MakesNone ys name)
+    → ((name : List ℕ) → Uses r name → IsMadeByNone ys name)
     → handle_for (xs ++ (ys ++ zs)) r reply ≡ handle_for (xs ++ zs) r reply
 about (Make made bytes) (Made handle version) xs ys zs none = refl
 about (Make made bytes) reply xs ys zs none = refl
@@ -106,10 +92,3 @@ tolds_apart given others after apart =
     ap (λ (bs : List Answer). tolds (given ++ bs) after) (sym (append-nil others))
     ∙ tolds_beside given others [] after apart
     ∙ ap (λ (bs : List Answer). tolds bs after) (append-nil given)
-
-pub tolds-append : (before xs ys : List Answer)
-    → tolds before (xs ++ ys) ≡ tolds before xs ++ tolds (before ++ xs) ys
-tolds-append before [] ys = ap (λ (bs : List Answer). tolds bs ys) (sym (append-nil before))
-tolds-append before (x ∷ xs) ys =
-    ap (λ (ts : List Told). told before x ∷ ts) (tolds-append (before ++ x ∷ []) xs ys
-    ∙ ap (λ (bs : List Answer). tolds (before ++ x ∷ []) xs ++ tolds bs ys) (append_assoc before (x ∷ []) xs))

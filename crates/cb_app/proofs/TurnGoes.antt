@@ -53,7 +53,7 @@ pub record AreManyLost (c : Config) (m : Membership) (losses : List Loss) : Type
   pub apart : OnDistinctNodes shards
 
 -- the frames, and that too few spans are loose or too few nodes have room, which are counted
-pub record IsCrammed (c : Config) (roomy frames loose nodes : ℕ) : Type 0 where
+pub record IsShortOfRoom (c : Config) (roomy frames loose nodes : ℕ) : Type 0 where
   pub frames_are : frames ≡ c.frames
   pub few : (loose < c.k) ⊎ (nodes < c.k + c.r)
   pub counted : nodes ≡ roomy
@@ -62,7 +62,7 @@ pub record IsCrammed (c : Config) (roomy frames loose nodes : ℕ) : Type 0 wher
 abbrev pub TellsWant : Config → FarState → Reply → Type 0
 TellsWant c far (answer.Unavailable set losses) = AreManyLost c far.members losses
 TellsWant c far (answer.NoRoom frames loose nodes) =
-    IsCrammed c (room_count far.nodes far.members) frames loose nodes
+    IsShortOfRoom c (room_count far.nodes far.members) frames loose nodes
 TellsWant c far r = Unit {0}
 
 plain_tells : (c : Config) (far : FarState) (r : Reply) → TellsNoLack r → TellsWant c far r

@@ -19,7 +19,7 @@ use Rattle.cb_rule.specs.Lists.{Has, times}
 use Rattle.cb_rule.specs.Locking.{Stood, is_turn, turn_number}
 use Rattle.cb_rule.specs.OneHistory.{HasTurnNumber, IsOneHistory, Made}
 use Rattle.cb_rule.proofs.Laws.{by_case}
-use Rattle.cb_shared.specs.Turning.{Did, DidAs, IsReadReply, PinLacks, ReadsByPin, Slate, held_by, slate_run, slate_shows}
+use Rattle.cb_shared.specs.Turning.{Did, DidAs, held_by, IsReadReply, PinLacks, ReadsByPin, Slate, slate_run, slate_shows}
 use Rattle.cb_app.proofs.PairGoes.{PairGoes, pair_stays}
 use Rattle.cb_app.proofs.PlainReplies.{StandsAs, TellsNoLack, joining_of, members_of}
 use Rattle.cb_app.proofs.TurnGoes.{IsFine, MembersGoOn, TellsWant, fine_counted, none_told, stays_on, turned_goes}
@@ -45,7 +45,10 @@ read_plain r x = refl
 pins_plain : (h : ℕ) (a b : Holding Slate) (r : Reply) → ReadsByPin h a r b → (b.far ≡ a.far) × TellsNoLack r
 pins_plain h a b r x = (ap (λ (z : Holding Slate). z.far) x.0, read_plain r x.1)
 
-lacks_same : (h : ℕ) (a b : Holding Slate) → PinLacks h a b → b.far ≡ a.far
+pub pins_same : (h : ℕ) (a b : Holding Slate) (r : Reply) → ReadsByPin h a r b → b.far ≡ a.far
+pins_same h a b r x = ap (λ (z : Holding Slate). z.far) x.0
+
+pub lacks_same : (h : ℕ) (a b : Holding Slate) → PinLacks h a b → b.far ≡ a.far
 lacks_same h a b x = ap (λ (z : Holding Slate). z.far) x
 
 did_goes : (c : Config) → IsAccepted c → (j : Job) (reply : Option Reply) (start : Shown)

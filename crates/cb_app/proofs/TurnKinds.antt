@@ -50,8 +50,8 @@ swap_same far new id p set es (answer.Swapped f) x = ap kinds x.0.rest
 swap_same far new id p set es r x = same far new x.0
 
 -- one turn more of the job's kind was counted; or 2^40 turns were, and nothing changed
-abbrev pub Counts : Job → FarState → FarState → Type 0
-Counts j far new = ((far.counts.turns < 2 ^ 40) × (kinds new ≡ kinds (counted far j)))
+abbrev pub CountsKind : Job → FarState → FarState → Type 0
+CountsKind j far new = ((far.counts.turns < 2 ^ 40) × (kinds new ≡ kinds (counted far j)))
     ⊎ ((far.counts.turns ≡ 2 ^ 40) × (new ≡ far))
 
 -- ---- by parts, over any desk, however an object is read that is here
@@ -61,15 +61,15 @@ module _ {D : Type 0} (run : D → List Event → D → Type 0) (shows : D → S
   Hold = Holding D
 
   -- a part leaves them
-  abbrev Keeps : (Hold → Reply → Hold → Type 0) → Type 0
-  Keeps P = (a b : Hold) (r : Reply) → IsConfigured c a.far → P a r b → SameKinds a.far b.far
+  abbrev KeepsKinds : (Hold → Reply → Hold → Type 0) → Type 0
+  KeepsKinds P = (a b : Hold) (r : Reply) → IsConfigured c a.far → P a r b → SameKinds a.far b.far
 
   abbrev KeepsLack : (Hold → Hold → Type 0) → Type 0
   KeepsLack L = (a b : Hold) → IsConfigured c a.far → L a b → SameKinds a.far b.far
 
   -- and leaves all where it finds no frame
-  abbrev IsNone : (Hold → Reply → Hold → Type 0) → Type 0
-  IsNone P = (a b : Hold) → P a answer.NoFrame b → b.far ≡ a.far
+  abbrev StaysFrameless : (Hold → Reply → Hold → Type 0) → Type 0
+  StaysFrameless P = (a b : Hold) → P a answer.NoFrame b → b.far ≡ a.far
 
   room : (m n : Hold) (e : Eviction) → IsConfigured c m.far → WinsRoom run shows c m e n
       → IsConfigured c n.far × SameKinds m.far n.far
@@ -77,8 +77,8 @@ module _ {D : Type 0} (run : D → List Event → D → Type 0) (shows : D → S
       let z = evict_stays c m.far n.far (reply_of e) x.events accepted x.rule.rule is in
       (z.configured, z.rises.by_job)
 
-  with_room : (P : Hold → Reply → Hold → Type 0) → Keeps P → IsNone P
-      → Keeps (WithRoom c.frames P (WinsRoom run shows c))
+  with_room : (P : Hold → Reply → Hold → Type 0) → KeepsKinds P → StaysFrameless P
+      → KeepsKinds (WithRoom c.frames P (WinsRoom run shows c))
   with_room P part none a b r is (at_once x never) = part a b r is x
   with_room P part none a b r is (no_room m why loose nodes x evict e) =
       let stays : m.far ≡ a.far = none a m x in
@@ -89,7 +89,7 @@ module _ {D : Type 0} (run : D → List Event → D → Type 0) (shows : D → S
       let w = room m n (Set id) (subst (IsConfigured c) (sym stays) is) evict in
       part n b r w.0 y ∙ w.1 ∙ same a.far m.far stays
 
-  room_stops : (P : Hold → Reply → Hold → Type 0) (L : Hold → Hold → Type 0) → IsNone P → KeepsLack L
+  room_stops : (P : Hold → Reply → Hold → Type 0) (L : Hold → Hold → Type 0) → StaysFrameless P → KeepsLack L
       → KeepsLack (RoomStops P L (WinsRoom run shows c) (EvictLacks run shows))
   room_stops P L none lack a b is (lacks_now x) = lack a b is x
   room_stops P L none lack a b is (evicting m x y) = same m.far b.far y.0 ∙ same a.far m.far (none a m x)
@@ -99,32 +99,32 @@ module _ {D : Type 0} (run : D → List Event → D → Type 0) (shows : D → S
       lack n b w.0 z ∙ w.1 ∙ same a.far m.far stays
 
   -- ---- calls on objects
-  make : (bytes : List ℕ) → Keeps (Makes run shows c bytes)
+  make : (bytes : List ℕ) → KeepsKinds (Makes run shows c bytes)
   make bytes a b r is x = (make_stays c c.handles bytes a.far b.far r x.events x.rule is).rises.by_job
 
-  make_none : (bytes : List ℕ) → IsNone (Makes run shows c bytes)
+  make_none : (bytes : List ℕ) → StaysFrameless (Makes run shows c bytes)
   make_none bytes a b x = x.rule.2.0
 
   make_lacks : (bytes : List ℕ) → KeepsLack (MakeLacks run c bytes)
   make_lacks bytes a b is x = same a.far b.far x.1
 
-  swap : (h : ℕ) → Keeps (Swaps run shows h)
+  swap : (h : ℕ) → KeepsKinds (Swaps run shows h)
   swap h a b r is (home, at, x) =
       swap_same a.far b.far home.set home.position x.rule.set x.events r x.rule.state
 
-  swap_none : (h : ℕ) → IsNone (Swaps run shows h)
+  swap_none : (h : ℕ) → StaysFrameless (Swaps run shows h)
   swap_none h a b (home, at, x) = x.rule.state.0
 
   swap_lacks : (h : ℕ) → KeepsLack (SwapLacks run h)
   swap_lacks h a b is (ran, (home, set, n, at, there, few, state)) = ap kinds state
 
-  bring : (h : ℕ) → Keeps (Brings run shows c h)
+  bring : (h : ℕ) → KeepsKinds (Brings run shows c h)
   bring h = with_room (Swaps run shows h) (swap h) (swap_none h)
 
   bring_lacks : (h : ℕ) → KeepsLack (BringLacks run shows c h)
   bring_lacks h = room_stops (Swaps run shows h) (SwapLacks run h) (swap_none h) (swap_lacks h)
 
-  come : (h : ℕ) → Keeps (ComesIn run shows c h)
+  come : (h : ℕ) → KeepsKinds (ComesIn run shows c h)
   come h a b r is (not_far x never) = same a.far b.far x.rule.0
   come h a b r is (was_far m x brings) =
       bring h m b r (subst (IsConfigured c) (sym x.rule.0) is) brings ∙ same a.far m.far x.rule.0
@@ -133,7 +133,7 @@ module _ {D : Type 0} (run : D → List Event → D → Type 0) (shows : D → S
   come_lacks h a b is (m, find, x) =
       bring_lacks h m b (subst (IsConfigured c) (sym find.rule.0) is) x ∙ same a.far m.far find.rule.0
 
-  write : (h at : ℕ) (bytes : List ℕ) → Keeps (WhereItIs (WritesObject run shows h at bytes)
+  write : (h at : ℕ) (bytes : List ℕ) → KeepsKinds (WhereItIs (WritesObject run shows h at bytes)
       (Declines run shows h at (length bytes)) (Brings run shows c h))
   write h at bytes a b r is (near x never) = same a.far b.far x.rule.0
   write h at bytes a b r is (declined m x look) = same m.far b.far look.0 ∙ same a.far m.far x.rule.0
@@ -224,7 +224,7 @@ module _ {D : Type 0} (run : D → List Event → D → Type 0) (shows : D → S
         (with_turn far.counts (job_index j)).by_job far.nodes.given sound
 
     pub turned_counts : (j : Job) (a b : Hold) (r : Reply) → IsConfigured c a.far → Sound s a.far
-        → Turned run shows reads c j a r b → Counts j a.far b.far
+        → Turned run shows reads c j a r b → CountsKind j a.far b.far
     turned_counts j a b r is sound (worn end reply stays ran) = inr (end, stays)
     turned_counts j a b r is sound (done few x) = inl (
       few,
@@ -233,7 +233,7 @@ module _ {D : Type 0} (run : D → List Event → D → Type 0) (shows : D → S
     )
 
     pub stopped_counts : (j : Job) (a b : Hold) → IsConfigured c a.far
-        → Stopped run shows lacks c j a b → Counts j a.far b.far
+        → Stopped run shows lacks c j a b → CountsKind j a.far b.far
     stopped_counts j a b is x = inl (
       x.few,
       stops j (record { desk = a.desk; far = counted a.far j }) b

@@ -1,10 +1,10 @@
 -- What is upheld of the answers that a closed record backs, and that suit what it has read.
-use Rattle.std.proofs.Common.{◌≡◌, ℕ, ◌+◌, ◌<◌, List, [], ◌∷◌, ◌++◌, length, Option, None, Some, refl, inl, inr, arith}
+use Rattle.std.proofs.Common.{◌≡◌, ℕ, ◌+◌, ◌<◌, List, [], ◌∷◌, ◌++◌, length, Option, None, Some, refl, sym, inl, inr, arith}
 use Rattle.std.specs.List.{AllByRecursion}
+use Rattle.std.proofs.lemmas.Option.{same_Some}
 use Rattle.cb_types.specs.declared.answer.Answer.{Answer}
 use Rattle.cb_types.specs.declared.config.Config.{Config}
 use Rattle.cb_types.specs.declared.handle.Handle.{Handle}
-use Rattle.cb_types.specs.declared.job.Job.{Job}
 use Rattle.cb_types.specs.declared.job.Job.TheVariants as job
 use Rattle.cb_types.specs.declared.reply.Reply.{Reply}
 use Rattle.cb_types.specs.declared.reply.Reply.TheVariants as answer
@@ -20,7 +20,6 @@ use Rattle.cb_model.specs.Event.{Event, Subject, event_of, refusal}
 use Rattle.cb_model.specs.Event.Subject.{NewObject, Contents, Other, Nothing}
 use Rattle.cb_model.specs.Event.Event.{Makes, Shows, Pins, Writes, Frees, FindsFull, FindsUnmade, FindsFreed, FindsEnd, Refused, Wrong}
 use Rattle.cb_record.specs.Backs.{Backs, Tells}
-use Rattle.cb_record.specs.Lists.{HasOne}
 use Rattle.cb_record.specs.Needs.{IsTurnFor, Meets, need_of, the_object}
 use Rattle.cb_record.specs.Told.{Told, told, tolds}
 use Rattle.cb_record.specs.Upheld.{IsLong, IsUpheld, Upholds, as_part}
@@ -30,14 +29,7 @@ use Rattle.cb_shared.proofs.Laws.{makes_backed, makes_full}
 use Rattle.cb_lanes.specs.Suits.{AreSuited, Suits}
 use Rattle.cb_app.proofs.MadeTurns.{answered_makes, few_made, made_before}
 use Rattle.cb_app.proofs.RangeTold.{range_told}
-
-same_job : (j k : Job) → Some j ≡ Some k → k ≡ j
-same_job j k e = cc
-
-find : {A : Type 0} (P : A → Type 0) (xs : List A) → HasOne P xs → (x : A) × Has x xs × P x
-find P [] one = absurd one
-find P (x ∷ xs) (inl p) = (x, inl refl, p)
-find P (x ∷ xs) (inr one) = let z = find P xs one in (z.0, inr z.1, z.2)
+use Rattle.cb_lanes.proofs.Laws.{found_one}
 
 module _ (first : ℕ) (c : Config) (v : View) (w : WorldState) (closed : IsClosed Did first c v w)
     (answers : List Answer) (backs : Backs (as_part v) (tolds [] answers)) where
@@ -45,13 +37,13 @@ module _ (first : ℕ) (c : Config) (v : View) (w : WorldState) (closed : IsClos
   calls = calls_of answers
 
   -- what is upheld of an answer beside what suits the handle and what was read
-  abbrev Counts : Event → Option ℕ → Type 0
-  Counts (FindsFull number) handle = (makes calls ≡ c.handles) × (number ≡ c.handles)
-  Counts (Makes bytes version) (Some h) = (h < c.handles) × (version ≡ first)
-  Counts (FindsEnd at bytes len) (Some h) = IsLong v.written h len × (len < at + length bytes)
-  Counts event handle = Unit {0}
+  abbrev UpheldBeside : Event → Option ℕ → Type 0
+  UpheldBeside (FindsFull number) handle = (makes calls ≡ c.handles) × (number ≡ c.handles)
+  UpheldBeside (Makes bytes version) (Some h) = (h < c.handles) × (version ≡ first)
+  UpheldBeside (FindsEnd at bytes len) (Some h) = IsLong v.written h len × (len < at + length bytes)
+  UpheldBeside event handle = Unit {0}
 
-  both : (handle : Option ℕ) (e : Event) → Suits v.seen handle e → Counts e handle
+  both : (handle : Option ℕ) (e : Event) → Suits v.seen handle e → UpheldBeside e handle
       → IsUpheld first c.handles calls v handle e
   both handle (FindsFull number) s x = x
   both handle (Refused NewObject) s x = tt
@@ -80,7 +72,7 @@ module _ (first : ℕ) (c : Config) (v : View) (w : WorldState) (closed : IsClos
   both (Some h) Wrong s x = absurd s
 
   -- ---- by the line and its reply
-  refused : (o : Option ℕ) (s : Subject) (r : Reply) → Counts (refusal s r) o
+  refused : (o : Option ℕ) (s : Subject) (r : Reply) → UpheldBeside (refusal s r) o
   refused o NewObject answer.Freed = tt
   refused o Contents answer.Freed = tt
   refused o Other answer.Freed = tt
@@ -95,9 +87,9 @@ module _ (first : ℕ) (c : Config) (v : View) (w : WorldState) (closed : IsClos
       → Meets (as_part v) (need_of None (line.Make name bytes) (answer.Full number))
       → (makes calls ≡ c.handles) × (number ≡ c.handles)
   full name bytes number m =
-      let z = find (IsTurnFor (Some (job.Make bytes)) None (answer.Full number)) v.turns m in
+      let z = found_one (IsTurnFor (Some (job.Make bytes)) None (answer.Full number)) v.turns m in
       let told = makes_full first c v w closed z.0 z.1 bytes number
-      (same_job (job.Make bytes) z.0.job z.2.1) z.2.0 in
+      (sym (same_Some (job.Make bytes) z.0.job z.2.1)) z.2.0 in
       let low = made_before first c v w.far.counts.turns w.far closed.turns z.0 z.1 in
       let high = few_made first c v w.far.counts.turns w.far closed.turns in
       let all = answered_makes v answers backs in
@@ -111,42 +103,42 @@ module _ (first : ℕ) (c : Config) (v : View) (w : WorldState) (closed : IsClos
   make_counts : (before : List Answer) (name bytes : List ℕ) (r : Reply)
       → Meets (as_part v) (need_of (handle_for before (line.Make name bytes) r) (line.Make name bytes) r)
       → MakesTold (line.Make name bytes) r
-      → Counts (event_of (line.Make name bytes) r) (handle_for before (line.Make name bytes) r)
+      → UpheldBeside (event_of (line.Make name bytes) r) (handle_for before (line.Make name bytes) r)
   make_counts before name bytes (answer.Made h n) m made = made name bytes h n refl refl
   make_counts before name bytes (answer.Full n) m made = full name bytes n m
   make_counts before name bytes r m made = tt
 
   write_counts : (o : Option ℕ) (name : List ℕ) (at : ℕ) (bytes : List ℕ) (r : Reply)
       → Meets (as_part v) (need_of o (line.Write name at bytes) r)
-      → Counts (event_of (line.Write name at bytes) r) o
+      → UpheldBeside (event_of (line.Write name at bytes) r) o
   write_counts None name at bytes (answer.Range len) m = tt
   write_counts (Some h) name at bytes (answer.Range len) m =
       end_long first v closed.entries closed.calm (Some (job.Write (the_object h) at bytes)) h at
       (length bytes) len
       (λ t there own. range_told first c v w closed t there h at bytes len
-      (same_job (job.Write (the_object h) at bytes) t.job own.1) own.0) m
+      (sym (same_Some (job.Write (the_object h) at bytes) t.job own.1)) own.0) m
   write_counts o name at bytes (answer.Version version) m = tt
   write_counts o name at bytes r m = tt
 
-  read_counts : (o : Option ℕ) (name : List ℕ) (r : Reply) → Counts (event_of (line.Read name) r) o
+  read_counts : (o : Option ℕ) (name : List ℕ) (r : Reply) → UpheldBeside (event_of (line.Read name) r) o
   read_counts o name (answer.Bytes version bytes) = tt
   read_counts o name r = tt
 
-  peek_counts : (o : Option ℕ) (name : List ℕ) (r : Reply) → Counts (event_of (line.Peek name) r) o
+  peek_counts : (o : Option ℕ) (name : List ℕ) (r : Reply) → UpheldBeside (event_of (line.Peek name) r) o
   peek_counts o name (answer.Bytes version bytes) = tt
   peek_counts o name r = tt
 
-  pin_counts : (o : Option ℕ) (name : List ℕ) (r : Reply) → Counts (event_of (line.Pin name) r) o
+  pin_counts : (o : Option ℕ) (name : List ℕ) (r : Reply) → UpheldBeside (event_of (line.Pin name) r) o
   pin_counts o name (answer.Version version) = tt
   pin_counts o name r = tt
 
-  free_counts : (o : Option ℕ) (name : List ℕ) (r : Reply) → Counts (event_of (line.Free name) r) o
+  free_counts : (o : Option ℕ) (name : List ℕ) (r : Reply) → UpheldBeside (event_of (line.Free name) r) o
   free_counts o name (answer.Version version) = tt
   free_counts o name r = tt
 
   line_counts : (before : List Answer) (q : Request) (r : Reply)
       → Meets (as_part v) (need_of (handle_for before q r) q r) → MakesTold q r
-      → Counts (event_of q r) (handle_for before q r)
+      → UpheldBeside (event_of q r) (handle_for before q r)
   line_counts before (line.Make name bytes) r m made = make_counts before name bytes r m made
   line_counts before (line.Read name) r m made = read_counts (handle_named before (Some name)) name r
   line_counts before (line.Write name at bytes) r m made =

@@ -16,32 +16,26 @@ use Rattle.cb_world.specs.FarState.{FarState}
 use Rattle.cb_world.specs.Played.{played}
 use Rattle.cb_world.specs.Sound.{Sound}
 use Rattle.cb_world.specs.World.{IsConfigured}
-use Rattle.cb_core.specs.Parts.{Holding}
 use Rattle.cb_rule.specs.declared.turn.Turn.{Turn}
 use Rattle.cb_rule.specs.declared.view.View.{View}
 use Rattle.cb_rule.specs.Lists.{Has, times, total}
 use Rattle.cb_rule.specs.Locking.{turn_number}
 use Rattle.cb_rule.specs.OneHistory.{HasTurnNumber, IsOneHistory}
 use Rattle.cb_rule.proofs.Laws.{by_case}
-use Rattle.cb_shared.specs.Turning.{Did, DidAs, PinLacks, ReadsByPin, Slate, held_by, slate_run, slate_shows}
+use Rattle.cb_shared.specs.Turning.{Did, DidAs, PinLacks, ReadsByPin, held_by, slate_run, slate_shows}
 use Rattle.cb_workers.specs.declared.worker.Worker.{Worker}
 use Rattle.cb_app.specs.Crew.{turns_as, work_in}
 use Rattle.cb_app.specs.Telling.{CountsWorkers, counted_as, turns_by}
 use Rattle.cb_app.proofs.CountedTurns.{below, counts_all, counts_more, counts_none}
-use Rattle.cb_app.proofs.TurnHistory.{at_last, lone, number_of}
-use Rattle.cb_app.proofs.TurnKinds.{Counts, kinds, stopped_counts, turned_counts}
+use Rattle.cb_app.proofs.TurnHistory.{at_last, lone, number_of, lacks_same, pins_same}
+use Rattle.cb_app.proofs.TurnKinds.{CountsKind, kinds, stopped_counts, turned_counts}
 use Rattle.cb_app.proofs.WorkDone.{turns_same}
 
 -- ---- one turn
-pins_same : (h : ℕ) (a b : Holding Slate) (r : Reply) → ReadsByPin h a r b → b.far ≡ a.far
-pins_same h a b r x = ap (λ (z : Holding Slate). z.far) x.0
-
-lacks_same : (h : ℕ) (a b : Holding Slate) → PinLacks h a b → b.far ≡ a.far
-lacks_same h a b x = ap (λ (z : Holding Slate). z.far) x
 
 did_counts : (c : Config) → IsAccepted c → (j : Job) (reply : Option Reply) (start : Shown)
     (es : List Event) (took gave : FarState) → IsConfigured c took → (s : Shown) → Sound s took
-    → DidAs c j reply start es took gave → Counts j took gave
+    → DidAs c j reply start es took gave → CountsKind j took gave
 did_counts c ok j (Some r) start es took gave is s sound did =
     turned_counts slate_run slate_shows c ok s ReadsByPin pins_same PinLacks lacks_same j
     (held_by start [] took) (held_by (played es start) es gave) r is sound did
@@ -84,7 +78,7 @@ module _ (first : ℕ) (c : Config) (ok : IsAccepted c) (v : View) (count : ℕ)
   start : Counted 0 (empty_far first c)
   start k low = get_or-replicate 19 k 0 0 low ∙ sym (counts_none turn_number (weight k) v.turns)
 
-  counts : (t : Turn) → Has t v.turns → Counts t.job t.took t.gave
+  counts : (t : Turn) → Has t v.turns → CountsKind t.job t.took t.gave
   counts t there = let z = one.sound t (v, (0, refl), there) in
       did_counts c ok t.job t.reply t.start t.acts t.took t.gave z.configured t.start z.sound
       (one.did t (v, (0, refl), there))
@@ -96,7 +90,7 @@ module _ (first : ℕ) (c : Config) (ok : IsAccepted c) (v : View) (count : ℕ)
       sized : length (kinds t.took) ≡ 19
       sized = (one.sound t (v, (0, refl), there)).counted.kinds
 
-      by : Counts t.job t.took t.gave
+      by : CountsKind t.job t.took t.gave
           → slice_index (kinds t.gave) k ≡ total (below turn_number (weight k) (suc (turn_number t))) v.turns
       by (inl (lt, same)) =
           let now = ap (λ (xs : List ℕ). slice_index xs k) same in

@@ -28,7 +28,7 @@ use Rattle.cb_app.specs.Telling.{turns_by}
 use Rattle.cb_app.specs.declared.crew.Body.{Body}
 use Rattle.cb_app.specs.declared.crew.Ended.{Ended}
 use Rattle.cb_app.specs.declared.crew.Task.{Task}
-use Rattle.cb_app.specs.declared.crew.Told.{Told}
+use Rattle.cb_app.specs.declared.crew.ToldEnd.{ToldEnd}
 
 -- ---- numbers by job
 
@@ -61,11 +61,11 @@ abbrev one_of : Job → Job → ℕ
 one_of j k = cond (eqb (job_index j) (job_index k)) 1 0
 
 -- a worker's job is counted for that worker
-abbrev IsOne : Job → Option Worker → Type 0
-IsOne j None = Unit {0}
-IsOne j (Some w) = 1 ≤ turns_by w (one_of j)
+abbrev CountsForWorker : Job → Option Worker → Type 0
+CountsForWorker j None = Unit {0}
+CountsForWorker j (Some w) = 1 ≤ turns_by w (one_of j)
 
-is_one : (j : Job) → IsOne j (owner j)
+is_one : (j : Job) → CountsForWorker j (owner j)
 is_one (job.Filter handle) = omega arith
 is_one job.Begin = omega arith
 is_one job.Ship = omega arith
@@ -87,7 +87,7 @@ work_of w ts = turns_by w (number_of ts)
 work_of_turns : (w : Worker) (ts : List Turn) → AreJobsOf w (map deed ts) → length ts ≤ work_of w ts
 work_of_turns w [] of = omega arith
 work_of_turns w (t ∷ ts) of =
-    let one : 1 ≤ turns_by w (one_of t.job) = subst (IsOne t.job) of.0 (is_one t.job) in
+    let one : 1 ≤ turns_by w (one_of t.job) = subst (CountsForWorker t.job) of.0 (is_one t.job) in
     let rest = work_of_turns w ts of.1 in
     let parts : work_of w (t ∷ ts) ≡ turns_by w (one_of t.job) + work_of w ts =
     turns_sum w (number_of (t ∷ ts)) (one_of t.job) (number_of ts) (λ j. refl) in
@@ -164,12 +164,12 @@ work_joined w v u t is = turns_sum w (turns_as t) (turns_as v) (turns_as u) each
         let parts = times-append (λ (x : Turn). eqb (job_index x.job) (job_index j)) u.turns v.turns in
         omega (arith, both, parts)
 
-pub work_taken : (w : Worker) (t : Task) (e : Ended) (told : Told) (old new : ℕ)
+pub work_taken : (w : Worker) (t : Task) (e : Ended) (told : ToldEnd) (old new : ℕ)
     → e.left ≡ Ok told → AreMade w t e → new ≡ old + work_in w (record_of told.end.pass)
     → old + turns_due w t ≤ new
 work_taken w t e told old new is made sum =
     let due : turns_due w t ≤ work_in w (record_of told.end.pass) =
-    subst (λ (left : Result Told NoMemory). IfOk left (λ z. turns_due w t ≤ work_in w (record_of z.end.pass)))
+    subst (λ (left : Result ToldEnd NoMemory). IfOk left (λ z. turns_due w t ≤ work_in w (record_of z.end.pass)))
     is made in omega (arith, due, sum)
 
 -- ---- one thread after the other

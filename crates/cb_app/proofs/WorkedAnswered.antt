@@ -35,7 +35,7 @@ use Rattle.cb_cli.specs.declared.words.Command.TheVariants.{Seq, Threads, Local,
 use Rattle.cb_cli.proofs.Laws.{local_named, seq_named, no_word}
 use Rattle.cb_app.specs.Modes.{Yields}
 use Rattle.cb_app.specs.Outcome.{IsDone, TellsScript}
-use Rattle.cb_app.specs.Scripts.{IsAnswered, rows_given, told_text}
+use Rattle.cb_app.specs.Scripts.{IsAnswered, given_by_nodes, ending_text}
 
 -- ---- the answers
 
@@ -198,7 +198,7 @@ unfolding digits
 none_given = refl
 
 local_text_is : (world : WorldState) → world.far.nodes.given ≡ 0
-    → told_text Compute (ending_of world answers) ≡ local_text
+    → ending_text Compute (ending_of world answers) ≡ local_text
 local_text_is world none =
     ap (λ (told : List ℕ). told ++ given_line world.far.nodes.given) text_is
     ∙ ap (λ (given : ℕ). text ++ given_line given) none
@@ -224,7 +224,7 @@ a_count_of_seq : (old : Ending) (world : WorldState)
     → Yields Seq input old (ending_of world answers) local_text → ⊥
 a_count_of_seq old world is = differ local_text text (is.3 ∙ text_is) refl
 
-no_rows_without_a_world : rows_given None ≡ 0
+no_rows_without_a_world : given_by_nodes None ≡ 0
 no_rows_without_a_world = refl
 
 all_taken : AreBytesTaken (Some input) (Some []) input

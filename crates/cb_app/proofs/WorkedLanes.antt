@@ -25,8 +25,8 @@ b = 97 ∷ 98 ∷ []
 abbrev line : ℕ → ℕ → Request → Line
 line lane number request = record { lane = record { n = lane }; line = number; request = request }
 
-abbrev told : Request → Reply → Answer
-told request reply = record { lane = record { n = 0 }; line = 2; request = request; reply = reply }
+abbrev answer : Request → Reply → Answer
+answer request reply = record { lane = record { n = 0 }; line = 2; request = request; reply = reply }
 
 abbrev made_a : Line
 made_a = line 0 2 (Make a (1 ∷ []))
@@ -147,8 +147,8 @@ a_refused_make_has_a_name = refl
 a_read_makes_no_name : name_made (Read a) Freed ≡ []
 a_read_makes_no_name = refl
 
-in_the_order_of_the_makes : names_in (told (Make b (1 ∷ [])) (Made (record { n = 0 }) 1) ∷ told (Read b) Freed
-    ∷ told (Make a (1 ∷ [])) (Full 1) ∷ [])
+in_the_order_of_the_makes : names_in (answer (Make b (1 ∷ [])) (Made (record { n = 0 }) 1) ∷ answer (Read b) Freed
+    ∷ answer (Make a (1 ∷ [])) (Full 1) ∷ [])
     ≡ record { name = b; handle = Some (record { n = 0 }) } ∷ record { name = a; handle = None } ∷ []
 in_the_order_of_the_makes = refl
 
@@ -158,11 +158,11 @@ abbrev loss : ℕ → ℕ → Loss
 loss node epoch = record { node = record { n = node }; epoch = record { n = epoch } }
 
 abbrev crash : ℕ → ℕ → Answer
-crash node epoch = told (Crash (record { n = node })) (EpochAt (record { n = epoch }))
+crash node epoch = answer (Crash (record { n = node })) (EpochAt (record { n = epoch }))
 
 -- the crash of epoch 4 was answered before that of epoch 3
 abbrev answers : List Answer
-answers = crash 0 4 ∷ told (Read a) Freed ∷ crash 1 3 ∷ []
+answers = crash 0 4 ∷ answer (Read a) Freed ∷ crash 1 3 ∷ []
 
 in_order : IsNonDecreasingBy (λ (l : Loss). l.epoch.n) (loss 1 3 ∷ loss 0 4 ∷ [])
 in_order zero zero d le low = lit≤ tt
@@ -203,5 +203,5 @@ on_no_name false is = false≢true is
 pub none_from_none : (xs : List Loss) → IsPermutation [] xs → xs ≡ []
 none_from_none xs moved = none_moved xs moved.moves moved.below moved.is
 
-a_loss_of_no_crash : AreLosses (loss 0 4 ∷ []) (told (Read a) Freed ∷ []) → ⊥
+a_loss_of_no_crash : AreLosses (loss 0 4 ∷ []) (answer (Read a) Freed ∷ []) → ⊥
 a_loss_of_no_crash are = absurd (let none : loss 0 4 ∷ [] ≡ [] = none_from_none (loss 0 4 ∷ []) are.are in cc)

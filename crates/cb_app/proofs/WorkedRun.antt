@@ -17,12 +17,13 @@ use Rattle.cb_world.specs.declared.entry.Entry.{Entry}
 use Rattle.cb_rule.specs.Closing.{IsClosed}
 use Rattle.cb_record.specs.Backs.{Backs}
 use Rattle.cb_record.specs.Told.{tolds}
+use Rattle.cb_record.specs.Upheld.{as_part}
 use Rattle.cb_shared.specs.declared.seal.Seal.{Seal}
 use Rattle.cb_shared.specs.Sealing.{sealed_record, sealed_world}
 use Rattle.cb_shared.specs.Turning.{Did}
 use Rattle.cb_lanes.specs.Asked.{asked}
 use Rattle.cb_lanes.specs.Lost.{losses_of}
-use Rattle.cb_app.specs.Crew.{IsFreshRecord, part_of}
+use Rattle.cb_app.specs.Crew.{IsFreshRecord}
 use Rattle.cb_app.specs.Threaded.{AreLosses, IsRun, IsThreaded}
 use Rattle.cb_text.specs.Line.{text_of}
 use Rattle.cb_app.specs.declared.ending.Ending.{Ending}
@@ -67,10 +68,10 @@ module _ (c : Config) (seal : Seal) (closed : IsClosed Did 1 c (sealed_record se
     in_order = λ i j d le low. absurd (omega (arith, low));
   }
 
-  idle : Backs (part_of (sealed_record seal)) []
+  idle : Backs (as_part (sealed_record seal)) []
   idle = fresh_idle (sealed_record seal) fresh
 
-  backs : Backs (part_of (sealed_record seal)) (tolds [] (answer (Left 0) ∷ []))
+  backs : Backs (as_part (sealed_record seal)) (tolds [] (answer (Left 0) ∷ []))
   backs = record {
     wrote = ([], [], fresh.written, refl, refl);
     tells = (tt, tt);
@@ -163,7 +164,7 @@ module _ (c : Config) (seal : Seal) (closed : IsClosed Did 1 c (sealed_record se
 pub an_entry_of_no_line : (c : Config) (lines : List Line) (end : ThreadsEnd) (e : Entry) (es : List Entry)
     → (sealed_record end.seal).written ≡ e ∷ es → end.answers ≡ [] → IsRun (script c lines) end → ⊥
 an_entry_of_no_line c lines end e es written none run = absurd (
-    let wrote = subst (λ (xs : List Answer). Backs (part_of (sealed_record end.seal)) (tolds [] xs)) none run.backs in
+    let wrote = subst (λ (xs : List Answer). Backs (as_part (sealed_record end.seal)) (tolds [] xs)) none run.backs in
     let is : (sealed_record end.seal).written ≡ [] = wrote.wrote in
     let e' = sym written ∙ is in cc
     )

@@ -33,8 +33,8 @@ crashed = answer 2 2 (Crash (record { n = 0 })) (at 1)
 abbrev refused : Answer
 refused = answer 2 3 (Crash (record { n = 0 })) (Down (record { n = 0 }))
 
-told : epochs_of (joined ∷ crashed ∷ refused ∷ []) ≡ 2 ∷ 1 ∷ []
-told = refl
+two_epochs_told : epochs_of (joined ∷ crashed ∷ refused ∷ []) ≡ 2 ∷ 1 ∷ []
+two_epochs_told = refl
 
 both : AreEpochs 2 (joined ∷ crashed ∷ refused ∷ [])
 both = record { moves = (0, 1) ∷ []; below = (omega arith, omega arith, tt); is = refl }

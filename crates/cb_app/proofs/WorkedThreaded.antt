@@ -41,6 +41,7 @@ use Rattle.cb_record.specs.Left.{now_left}
 use Rattle.cb_record.specs.Lists.{IsSublist}
 use Rattle.cb_record.specs.Lists.IsSublist.{ended, both}
 use Rattle.cb_record.specs.Told.{tolds}
+use Rattle.cb_record.specs.Upheld.{as_part}
 use Rattle.cb_shared.specs.Sealing.{sealed, sealed_record, sealed_world}
 use Rattle.cb_shared.specs.Turning.{Did}
 use Rattle.cb_shared.specs.declared.seal.Seal.{Seal}
@@ -51,7 +52,6 @@ use Rattle.cb_workers.specs.declared.worker.Worker.TheVariants as worker
 use Rattle.cb_cli.specs.declared.words.Command.TheVariants.{Threads}
 use Rattle.cb_cli.proofs.Laws.{lane_line}
 use Rattle.cb_lanes.specs.Alone.{HasOwnLines}
-use Rattle.cb_app.specs.Crew.{part_of}
 use Rattle.cb_app.specs.Modes.{Yields}
 use Rattle.cb_app.specs.Outcome.{IsDone}
 use Rattle.cb_app.specs.Telling.{counted_as}
@@ -177,7 +177,7 @@ record IsLeft (t : Turn) (world : WorldState) (seal : Seal) : Type 0 where
   closed : IsClosed Did 1 small (view_of (evicting t ∷ [])) world
 
 module _ (t : Turn) (world : WorldState) (seal : Seal) where
-  backs : Backs (part_of (view_of (evicting t ∷ []))) (tolds [] answers)
+  backs : Backs (as_part (view_of (evicting t ∷ []))) (tolds [] answers)
   backs = record {
     wrote = ([], [], refl, refl, ([], [], refl, refl, refl));
     tells = (tt, (tt, tt));
@@ -204,7 +204,7 @@ module _ (t : Turn) (world : WorldState) (seal : Seal) where
       (tt, (tt, tt)) (refl, (refl, tt))
       (ap (λ (x : Sealed). x.world) there.under)
       (subst (λ (v : View). IsClosed Did 1 small v world) (sym record_is) there.closed)
-      (subst (λ (v : View). Backs (part_of v) (tolds [] answers)) (sym record_is) backs)
+      (subst (λ (v : View). Backs (as_part v) (tolds [] answers)) (sym record_is) backs)
       (tt, (tt, tt)) (λ all more last. (tt, never_falls)) (λ one. (tt, (refl, tt)))
       (λ lines all whole among n own same room. (
         λ mine. absurd (on_no_name (nat_eq 1 n) mine),
@@ -240,7 +240,7 @@ module _ (t : Turn) (world : WorldState) (seal : Seal) where
   -- the eviction was no turn
   no_turn : sealed_record seal ≡ view_of [] → IsRun script (told_of world seal answers []) → ⊥
   no_turn e is =
-      let b = subst (λ (v : View). Backs (part_of v) (tolds [] answers)) e is.backs in
+      let b = subst (λ (v : View). Backs (as_part v) (tolds [] answers)) e is.backs in
       let n : 1 ≡ 0 = among_none _ b.turned in omega (arith, n)
 
   -- a make is told that there are 3 handles, of 16

@@ -23,6 +23,7 @@ use Rattle.cb_rule.proofs.Laws.{by_case}
 use Rattle.cb_record.specs.Backs.{Backs}
 use Rattle.cb_record.specs.Parts.{nothing_more}
 use Rattle.cb_record.specs.Told.{tolds}
+use Rattle.cb_record.specs.Upheld.{as_part}
 use Rattle.cb_text.specs.Line.{text_of}
 use Rattle.cb_shared.specs.declared.pass.Pass.{Pass}
 use Rattle.cb_shared.specs.declared.runtime.Shared.{Shared}
@@ -34,11 +35,11 @@ use Rattle.cb_lanes.specs.Scoped.{AreOneToOne}
 use Rattle.cb_workers.specs.Rules.{lane_of, visit}
 use Rattle.cb_workers.specs.declared.worker.Worker.{Worker as Worker'}
 use Rattle.cb_workers.specs.declared.worker.Worker.TheVariants as worker
-use Rattle.cb_app.specs.Crew.{AllMade, AreKnownTo, AreMade, BodyIsReady, HasText, IsDealt, IsDealtOne, IsEnded, IsFreshRecord, IsLaneTold, IsTaskReady, TakesIn, TaskRuns, if_same, lines_in, part_of, turns_for, work_in}
+use Rattle.cb_app.specs.Crew.{AllMade, AreKnownTo, AreMade, BodyIsReady, HasText, IsDealt, IsDealtOne, IsEnded, IsFreshRecord, IsLaneTold, IsTaskReady, TakesIn, TaskRuns, if_same, lines_in, turns_for, work_in}
 use Rattle.cb_app.specs.declared.crew.Body.{Body}
 use Rattle.cb_app.specs.declared.crew.Body.TheVariants.{Lane, Worker}
 use Rattle.cb_app.specs.declared.crew.Task.{Task}
-use Rattle.cb_app.specs.declared.crew.Told.{Told}
+use Rattle.cb_app.specs.declared.crew.ToldEnd.{ToldEnd}
 use Rattle.cb_app.proofs.AnswersRise.{none_known, none_rise}
 use Rattle.cb_app.proofs.Crews.{dealt_none}
 use Rattle.cb_app.proofs.LanesAlone.{none_alone}
@@ -85,7 +86,7 @@ an_own_handle_is_not_fresh v fresh = absurd (let e = fresh.own in cc)
 
 -- ---- what the record of a new pass has
 
-nothing_yet : (c : Config) → part_of (opener c) ≡ nothing_more
+nothing_yet : (c : Config) → as_part (opener c) ≡ nothing_more
 nothing_yet c = refl
 
 -- ---- lines of bodies
@@ -201,14 +202,14 @@ module _ (s : Shared) (p : Pass) (of : IsPassOf s p) (fresh : IsFreshRecord (rec
   abbrev end : List Answer → LaneEnd
   end answers = record { answers = answers; pass = p }
 
-  abbrev told : List Answer → Told
-  told answers = record { end = end answers; text = text_of answers }
+  abbrev told_end : List Answer → ToldEnd
+  told_end answers = record { end = end answers; text = text_of answers }
 
-  idle : Backs (part_of (record_of p)) []
+  idle : Backs (as_part (record_of p)) []
   idle = fresh_idle (record_of p) fresh
 
   -- a line that needs nothing of the record
-  left_backed : Backs (part_of (record_of p)) (tolds [] (answer 2 Leave (Left 0) ∷ []))
+  left_backed : Backs (as_part (record_of p)) (tolds [] (answer 2 Leave (Left 0) ∷ []))
   left_backed = record {
     wrote = ([], [], fresh.written, refl, refl);
     tells = (tt, tt);
@@ -243,7 +244,7 @@ module _ (s : Shared) (p : Pass) (of : IsPassOf s p) (fresh : IsFreshRecord (rec
       absurd (omega (arith, e))
 
   -- the record backs it as well, but no leave has this reply
-  freed_backed : Backs (part_of (record_of p)) (tolds [] (answer 2 Leave Freed ∷ []))
+  freed_backed : Backs (as_part (record_of p)) (tolds [] (answer 2 Leave Freed ∷ []))
   freed_backed = record {
     wrote = ([], [], fresh.written, refl, refl);
     tells = (tt, tt);
@@ -296,26 +297,26 @@ module _ (s : Shared) (p : Pass) (of : IsPassOf s p) (fresh : IsFreshRecord (rec
   without_memory : (want : NoMemory) → IsEnded s leaves [] (record { body = lane 2; left = Err want })
   without_memory want = tt
 
-  with_answers : IsEnded s leaves [] (record { body = lane 2; left = Ok (told (answer 2 Leave (Left 0) ∷ [])) })
+  with_answers : IsEnded s leaves [] (record { body = lane 2; left = Ok (told_end (answer 2 Leave (Left 0) ∷ [])) })
   with_answers = is_told
 
-  with_none : IsEnded s leaves [] (record { body = lane 2; left = Ok (told []) }) → ⊥
+  with_none : IsEnded s leaves [] (record { body = lane 2; left = Ok (told_end []) }) → ⊥
   with_none ended = absurd (let e = ended.lines_are in cc)
 
-  runs : (w : Worker') → TaskRuns s leaves none (task (Worker w 0)) (record { body = Worker w 0; left = Ok (told []) })
+  runs : (w : Worker') → TaskRuns s leaves none (task (Worker w 0)) (record { body = Worker w 0; left = Ok (told_end []) })
   runs w = (refl, λ given named known. none_told given, λ other. none_due other w, refl)
 
   ran_another_body : (w : Worker')
-      → TaskRuns s leaves none (task (lane 2)) (record { body = Worker w 0; left = Ok (told []) })
+      → TaskRuns s leaves none (task (lane 2)) (record { body = Worker w 0; left = Ok (told_end []) })
       → ⊥
   ran_another_body w r = let e : Worker w 0 ≡ lane 2 = r.0 in absurd cc
 
-  did_not_answer : TaskRuns s leaves none (task (lane 2)) (record { body = lane 2; left = Ok (told []) }) → ⊥
+  did_not_answer : TaskRuns s leaves none (task (lane 2)) (record { body = lane 2; left = Ok (told_end []) }) → ⊥
   did_not_answer r = with_none (r.1 [] (λ name. refl) (none_known (record_of p)))
 
   -- a worker that has made no turn
   made_none : TaskRuns s leaves none (task (Worker worker.Filter 3))
-      (record { body = Worker worker.Filter 3; left = Ok (told []) }) → ⊥
+      (record { body = Worker worker.Filter 3; left = Ok (told_end []) }) → ⊥
   made_none r =
       let made : 3 ≤ work_in worker.Filter (record_of p) = r.2 worker.Filter in
       let nothing : work_in worker.Filter (record_of p) ≡ 0 =
@@ -328,7 +329,7 @@ module _ (s : Shared) (p : Pass) (of : IsPassOf s p) (fresh : IsFreshRecord (rec
   }) → ⊥
   wrote_more w r = let e : length a ≡ 0 = ap length r.3 in absurd (omega (arith, e))
 
-  writes : (HasText (record { body = lane 2; left = Ok (told (answer 2 Leave (Left 0) ∷ [])) }))
+  writes : (HasText (record { body = lane 2; left = Ok (told_end (answer 2 Leave (Left 0) ∷ [])) }))
       × ((want : NoMemory) → HasText (record { body = lane 2; left = Err want }))
   writes = (refl, λ want. tt)
 
@@ -337,7 +338,7 @@ module _ (s : Shared) (p : Pass) (of : IsPassOf s p) (fresh : IsFreshRecord (rec
   made_without_memory w want = tt
 
   each_made : (w : Worker')
-      → AllMade w (task (lane 2) ∷ []) (record { body = lane 2; left = Ok (told []) } ∷ [])
+      → AllMade w (task (lane 2) ∷ []) (record { body = lane 2; left = Ok (told_end []) } ∷ [])
   each_made w = (omega arith, tt)
 
   one_is_missing : (w : Worker') → AllMade w (task (Worker w 3) ∷ []) [] → ⊥

@@ -63,15 +63,15 @@ no_tell h n (Stamped k v ∷ es) none told = no_tell h n es none told
 no_tell h n (Settled k w ∷ es) none told = no_tell h n es none told
 
 -- each claim found a word that is Here
-abbrev pub ClaimHere : List Event → Type 0
-ClaimHere es = (h w v : ℕ) (words : List ℕ) → Has (Claimed h w v words) es → state_of w ≡ state.Here
+abbrev pub ClaimsFoundHere : List Event → Type 0
+ClaimsFoundHere es = (h w v : ℕ) (words : List ℕ) → Has (Claimed h w v words) es → state_of w ≡ state.Here
 
-claims_behind : (e : Event) (es : List Event) → ClaimHere (e ∷ es) → ClaimHere es
+claims_behind : (e : Event) (es : List Event) → ClaimsFoundHere (e ∷ es) → ClaimsFoundHere es
 claims_behind e es here h w v words has = here h w v words (inr has)
 
 -- the object is far, with this version
-abbrev IsFarAt : Shown → ℕ → Type 0
-IsFarAt s h = (len v : ℕ) × (words : List ℕ) × (object_at s h ≡ is.Far len v words)
+abbrev IsAwayAt : Shown → ℕ → Type 0
+IsAwayAt s h = (len v : ℕ) × (words : List ℕ) × (object_at s h ≡ is.Far len v words)
 
 state_off : (a b : State) → (f : State → Bool) → f a ≡ true → f b ≡ false → a ≡ b → ⊥
 state_off a b f yes_a no_b e = true≢false (sym yes_a ∙ ap f e ∙ no_b)
@@ -95,16 +95,16 @@ fits_far (is.Claimed len place v words) w f far =
 
 -- another object than the one that was claimed or settled is as it was
 else_far : (s : Shown) (e : Event) (h : ℕ) → object_at (after e s) h ≡ object_at s h
-    → IsFarAt (after e s) h → IsFarAt s h
+    → IsAwayAt (after e s) h → IsAwayAt s h
 else_far s e h same far = (far.0, far.1, far.2, sym same ∙ far.3)
 
 still_far : (s : Shown) (e : Event) (h : ℕ) → object_at (after e s) h ≡ object_at s h
-    → IsFarAt s h → IsFarAt (after e s) h
+    → IsAwayAt s h → IsAwayAt (after e s) h
 still_far s e h same far = (far.0, far.1, far.2, same ∙ far.3)
 
 -- an object whose word was found to be that of a far one was far before
-far_found : (s : Shown) (es : List Event) (h w : ℕ) → Agree s es → LooksFirst es → ClaimHere es
-    → IsFound h w es → state_of w ≡ state.Far → IsFarAt s h
+far_found : (s : Shown) (es : List Event) (h w : ℕ) → Agree s es → LooksFirst es → ClaimsFoundHere es
+    → IsFound h w es → state_of w ≡ state.Far → IsAwayAt s h
 far_found s [] h w agree first here found far = absurd found
 far_found s (Looked k x ∷ es) h w agree first here (inl later) far =
     far_found (after (Looked k x) s) es h w agree.1 first (claims_behind _ es here) later far
@@ -144,7 +144,7 @@ far_here : (len v place n : ℕ) (words : List ℕ) → is.Far len v words ≡ i
 far_here len v place n words e = absurd cc
 
 -- the version word that was told of it was known
-told_far : (s : Shown) (es : List Event) (h n : ℕ) → Agree s es → SettlesLast es → IsFarAt s h
+told_far : (s : Shown) (es : List Event) (h n : ℕ) → Agree s es → SettlesLast es → IsAwayAt s h
     → IsTold h n es → n ≡ version_at s h
 told_far s [] h n agree last far told = absurd told
 told_far s (Looked k x ∷ es) h n agree last far told =
@@ -229,7 +229,7 @@ write_worn h at bytes start a b x = by (state_of z.word) z.answer
     by state.Moving y = absurd (not_absent state.Moving h x.events y)
 
 -- the version of a far object is its last complete one
-far_last : (s : Shown) (far : FarState) (h n : ℕ) → Sound s far → (x : IsFarAt s h)
+far_last : (s : Shown) (far : FarState) (h n : ℕ) → Sound s far → (x : IsAwayAt s h)
     → n ≡ version_at s h → n ≡ 2 ^ 64 - 1
     → (len : ℕ) × (words : List ℕ) × (object_at s h ≡ is.Far len (2 ^ 64 - 1) words)
 far_last s far h n sound x told last =
@@ -259,12 +259,12 @@ refusal_worn len n at count = by (nat_lt len (at + count)) (n == 2 ^ 64 - 1) ref
 
 declined_worn : (h at : ℕ) (bytes : List ℕ) (count : ℕ) (a m b : Hold)
     → Sound a.desk.known a.far → WritesObject slate_run slate_shows h at bytes a answer.NotHere m
-    → ClaimHere b.desk.acts
+    → ClaimsFoundHere b.desk.acts
     → Declines slate_run slate_shows h at count m (Some answer.Worn) b
     → HadLast h a.desk.known b.desk.acts
 declined_worn h at bytes count a m b sound x here d = by d.1.rule
   where
-    claims : ClaimHere d.1.events
+    claims : ClaimsFoundHere d.1.events
     claims k w v words has = here k w v words (subst (Has (Claimed k w v words))
         (sym (ap (λ (s : Slate). s.acts) d.1.ran.0))
         (has_right _ m.desk.acts d.1.events has))
@@ -293,7 +293,7 @@ declined_worn h at bytes count a m b sound x here d = by d.1.rule
         inr (z.0, z.1, sym (same h) ∙ z.2)
 
 where_worn : (c : Config) (h at : ℕ) (bytes : List ℕ) (a b : Hold) → Sound a.desk.known a.far
-    → ClaimHere b.desk.acts
+    → ClaimsFoundHere b.desk.acts
     → WhereItIs (WritesObject slate_run slate_shows h at bytes)
     (Declines slate_run slate_shows h at (length bytes)) (Brings slate_run slate_shows c h) a
     answer.Worn b → HadLast h a.desk.known b.desk.acts
@@ -307,11 +307,11 @@ where_worn c h at bytes a b sound here (brought m n o f x d bring y) =
     write_worn h at bytes a.desk.known o b y
 
 -- ---- a free
-free_worn : (h : ℕ) (a b : Hold) → Sound a.desk.known a.far → ClaimHere b.desk.acts
+free_worn : (h : ℕ) (a b : Hold) → Sound a.desk.known a.far → ClaimsFoundHere b.desk.acts
     → Frees slate_run slate_shows h a answer.Worn b → HadLast h a.desk.known b.desk.acts
 free_worn h a b sound here x = by (state_of x.rule.reply.word) refl x.rule.reply.answer
   where
-    claims : ClaimHere x.events
+    claims : ClaimsFoundHere x.events
     claims k w v words has = here k w v words (subst (Has (Claimed k w v words))
         (sym (ap (λ (s : Slate). s.acts) x.ran.0)) (has_right _ a.desk.acts x.events has))
 
@@ -333,7 +333,7 @@ free_worn h a b sound here x = by (state_of x.rule.reply.word) refl x.rule.reply
 
 -- ---- the turn
 module _ (c : Config) (start : Shown) (es : List Event) (took gave : FarState)
-    (sound : Sound start took) (here : ClaimHere es) where
+    (sound : Sound start took) (here : ClaimsFoundHere es) where
   counted_sound : (j : Job) → Sound start (counted took j)
   counted_sound j = let far : FarState = counted took j in
       recounted_sound start took far.counts.turns far.counts.by_job took.nodes.given sound

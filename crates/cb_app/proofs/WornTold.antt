@@ -6,6 +6,7 @@ use Rattle.std.specs.List.{AllByRecursion}
 use Rattle.std.proofs.lemmas.Bool.{cases_lt}
 use Rattle.std.proofs.lemmas.Bool.Decides.{nat_tests}
 use Rattle.std.proofs.lemmas.List.{length-map}
+use Rattle.std.proofs.lemmas.Option.{same_Some}
 use Rattle.cb_types.specs.declared.answer.Answer.{Answer}
 use Rattle.cb_types.specs.declared.config.Config.{Config}
 use Rattle.cb_types.specs.declared.handle.Handle.{Handle}
@@ -38,16 +39,16 @@ use Rattle.cb_record.specs.Lists.{HasOne}
 use Rattle.cb_record.specs.Needs.{IsJobFor, IsLastOf, IsOwnTurn, IsTurnFor, Meets, need_of, own_job, the_object}
 use Rattle.cb_record.specs.Needs.Need.{AWorn}
 use Rattle.cb_record.specs.Told.{Told, tolds}
+use Rattle.cb_record.specs.Upheld.{as_part}
 use Rattle.cb_shared.specs.Turning.{Did, DidAs, ReadsByPin, slate_run, slate_shows}
 use Rattle.cb_lanes.specs.Asked.{HasLineReply, asked}
 use Rattle.cb_app.specs.ByLane.{by_lane, lanes_up_to, of_lane}
-use Rattle.cb_app.specs.Crew.{part_of}
 use Rattle.cb_app.specs.Telling.{TellsWorn}
 use Rattle.cb_app.proofs.AnswersTold.{InThreads, RunsIn, find_for}
 use Rattle.cb_app.proofs.NeverWorn.{WritesNone, worn_last}
 use Rattle.cb_app.proofs.RangeTold.{written}
 use Rattle.cb_app.proofs.TurnHistory.{number_of}
-use Rattle.cb_app.proofs.WornLast.{ClaimHere, HadLast, by_pin, free_last, write_last}
+use Rattle.cb_app.proofs.WornLast.{ClaimsFoundHere, HadLast, by_pin, free_last, write_last}
 
 -- ---- one turn
 turn_worn : (c : Config) (t : Turn) → Did c t → WritesNone t.job → t.reply ≡ Some answer.Worn
@@ -60,12 +61,9 @@ abbrev IsNoWrite : Option Job → Type 0
 IsNoWrite None = Unit {0}
 IsNoWrite (Some j) = WritesNone j
 
-same_job : (j k : Job) → Some j ≡ Some k → j ≡ k
-same_job j k e = cc
-
 own_turn : (own : Option Job) (j : Job) → IsNoWrite own → own ≡ Some j → WritesNone j
 own_turn None j none is = absurd (let e : None ≡ Some j = is in cc)
-own_turn (Some k) j none is = subst WritesNone (same_job k j is) none
+own_turn (Some k) j none is = subst WritesNone (same_Some k j is) none
 
 for_it : (own : Option Job) (h : Option ℕ) (j : Job) → IsNoWrite own → IsJobFor own h j → WritesNone j
 for_it own None j none is = own_turn own j none is
@@ -254,7 +252,7 @@ module _ (c : Config) (v : View) (w : WorldState) (closed : IsClosed Did 1 c v w
     made : Made (v ∷ []) t
     made = (v, (0, refl), there)
 
-    claims : ClaimHere t.acts
+    claims : ClaimsFoundHere t.acts
     claims h x n words has =
         (claimed_written 1 (omega arith) c (v ∷ []) closed.told t made h x n words has).0
 
@@ -294,12 +292,12 @@ module _ (c : Config) (v : View) (w : WorldState) (closed : IsClosed Did 1 c v w
 
   -- a write found it in place, or by a turn of its own
   write_line : (h at : ℕ) (bytes : List ℕ)
-      → Meets (part_of v) (AWorn (Some (job.Write (the_object h) at bytes)) h) → 2 ^ 40 ≤ count
+      → Meets (as_part v) (AWorn (Some (job.Write (the_object h) at bytes)) h) → 2 ^ 40 ≤ count
   write_line h at bytes (inl x) = let z = one_there (IsLastOf h) v.seen x in
       absurd (unread h z.0 z.1 z.2)
   write_line h at bytes (inr x) =
       let z = one_there (IsOwnTurn (Some (job.Write (the_object h) at bytes)) answer.Worn) v.turns x in
-      wrote_worn z.0 z.1 h at bytes (sym (same_job _ _ z.2.1)) z.2.0
+      wrote_worn z.0 z.1 h at bytes (sym (same_Some _ _ z.2.1)) z.2.0
 
   free_line : (h : ℕ)
       → HasOne (IsTurnFor (Some (job.Free (the_object h))) (Some h) answer.Worn) v.turns
@@ -310,11 +308,11 @@ module _ (c : Config) (v : View) (w : WorldState) (closed : IsClosed Did 1 c v w
       z = find_for (Some (job.Free (the_object h))) (Some h) answer.Worn v.turns x
 
       by : IsJobFor (Some (job.Free (the_object h))) (Some h) z.0.job → 2 ^ 40 ≤ count
-      by (inl own) = freed_worn z.0 z.1 h (sym (same_job _ _ own)) z.2.0
+      by (inl own) = freed_worn z.0 z.1 h (sym (same_Some _ _ own)) z.2.0
       by (inr swap) = unwriting z.0 z.1 (subst WritesNone (sym swap) tt) z.2.0
 
   worn_line : (h : Option ℕ) (q : Request) → RunsIn q → IsReplyOf q answer.Worn
-      → Meets (part_of v) (need_of h q answer.Worn) → 2 ^ 40 ≤ count
+      → Meets (as_part v) (need_of h q answer.Worn) → 2 ^ 40 ≤ count
   worn_line (Some h) (line.Write name at bytes) runs may x = write_line h at bytes x
   worn_line (Some h) (line.Free name) runs may x = free_line h x
   worn_line h (line.Peek name) runs may x = absurd may
@@ -332,12 +330,12 @@ module _ (c : Config) (v : View) (w : WorldState) (closed : IsClosed Did 1 c v w
   worn_line (Some h) q runs may x = by_turn (own_job (Some h) q) (Some h) tt x
 
   worn_reply : (h : Option ℕ) (q : Request) (r : Reply) → RunsIn q → IsReplyOf q r
-      → Meets (part_of v) (need_of h q r) → TellsWorn count r
+      → Meets (as_part v) (need_of h q r) → TellsWorn count r
   worn_reply h q answer.Worn runs may x = worn_line h q runs may x
   worn_reply h q r runs may x = tt
 
   worns : (before after : List Answer) → AllByRecursion HasLineReply after
-      → AllByRecursion InThreads after → AllByRecursion (Tells (part_of v)) (tolds before after)
+      → AllByRecursion InThreads after → AllByRecursion (Tells (as_part v)) (tolds before after)
       → AllByRecursion (λ a. TellsWorn count a.reply) after
   worns before [] replies runs each = tt
   worns before (a ∷ after) replies runs each = (
@@ -348,7 +346,7 @@ module _ (c : Config) (v : View) (w : WorldState) (closed : IsClosed Did 1 c v w
 -- so of the answers of a script, which are not so many
 pub answers_worn : (c : Config) (v : View) (w : WorldState) → IsClosed Did 1 c v w
     → (answers : List Answer) → AllByRecursion HasLineReply answers → AllByRecursion InThreads answers
-    → Backs (part_of v) (tolds [] answers) → length answers ≤ 320000
+    → Backs (as_part v) (tolds [] answers) → length answers ≤ 320000
     → AllByRecursion (λ a. TellsWorn w.far.counts.turns a.reply) answers
 answers_worn c v w closed answers replies runs backs few =
     let wrote = wrote_few v.written (tolds [] answers) backs.wrote in

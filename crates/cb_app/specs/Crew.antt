@@ -17,9 +17,9 @@ use Rattle.cb_rule.specs.Steps.{right_of}
 use Rattle.cb_model.specs.Called.{calls_behind, calls_of}
 use Rattle.cb_model.specs.Legal.{NeverFalls, Rising}
 use Rattle.cb_record.specs.Backs.{Backs}
-use Rattle.cb_record.specs.Parts.{Part}
 use Rattle.cb_record.specs.Rises.{HasAllOf, IsOnRecord}
 use Rattle.cb_record.specs.Told.{tolds}
+use Rattle.cb_record.specs.Upheld.{as_part}
 use Rattle.cb_text.specs.Line.{text_of}
 use Rattle.cb_shared.specs.declared.pass.Pass.{Pass}
 use Rattle.cb_shared.specs.declared.runtime.Shared.{Shared}
@@ -41,19 +41,8 @@ use Rattle.cb_app.specs.declared.crew.Body.{Body}
 use Rattle.cb_app.specs.declared.crew.Body.TheVariants.{Lane, Worker}
 use Rattle.cb_app.specs.declared.crew.Ended.{Ended}
 use Rattle.cb_app.specs.declared.crew.Task.{Task}
-use Rattle.cb_app.specs.declared.crew.Told.{Told}
+use Rattle.cb_app.specs.declared.crew.ToldEnd.{ToldEnd}
 use Rattle.cb_app.specs.Telling.{turns_by}
-
--- all that a record has, as a part
-abbrev pub part_of : View → Part
-part_of v = record {
-  written = v.written;
-  seen = v.seen;
-  peeked = v.peeked;
-  ever = v.ever;
-  looks = v.looks;
-  turns = v.turns;
-}
 
 -- the handle that a make was answered, unless it was refused
 abbrev pub handle_told : Reply → Option Handle
@@ -70,7 +59,7 @@ abbrev pub names_in : List Answer → List Named
 names_in answers = flat_map (λ a. name_made a.request a.reply) answers
 
 -- the text of what was told tells its answers
-abbrev pub IsTextWritten : Told → Type 0
+abbrev pub IsTextWritten : ToldEnd → Type 0
 IsTextWritten t = t.text ≡ text_of t.end.answers
 
 -- so of what a thread left, unless memory was wanting
@@ -173,7 +162,7 @@ pub record IsLaneTold (s : Shared) (given : List Answer) (lines : List Line) (e 
     pub lines_are : map asked e.answers ≡ lines
     pub replies : AllByRecursion HasLineReply e.answers
     pub last : AllByRecursion (HasLastTry s.config) e.answers
-    pub backs : Backs (part_of (record_of e.pass)) (tolds given e.answers)
+    pub backs : Backs (as_part (record_of e.pass)) (tolds given e.answers)
     pub suits : AreSuited (record_of e.pass).seen (tolds given e.answers)
     pub rises : RiseWith (record_of e.pass) given e.answers
     pub scopes : AreScoped given e.answers

@@ -16,7 +16,7 @@ use Rattle.cb_rma_text.specs.Verdicts as schedules
 use Rattle.cb_scrub_text.specs.Verdicts as scrubs
 use Rattle.cb_app.specs.declared.ending.Ending.{Ending}
 use Rattle.cb_text.specs.Line.{text_of}
-use Rattle.cb_app.specs.Scripts.{IsAnswered, IsChecked, TellsFault, told_text}
+use Rattle.cb_app.specs.Scripts.{IsAnswered, IsChecked, TellsFault, ending_text}
 use Rattle.cb_app.specs.Threaded.{IsThreaded}
 
 -- the command that answers a script where this side makes the parities of a compaction
@@ -29,7 +29,7 @@ command_of Compute = Local
 abbrev pub YieldsAnswers : Side → List ℕ → (new : Ending) → List ℕ → Type 0
 YieldsAnswers side bytes new text =
     (script : Script) × Spells bytes scripts.Seq script
-    × IsAnswered side script new × (text ≡ told_text side new)
+    × IsAnswered side script new × (text ≡ ending_text side new)
 
 -- the ending and the text that a command yields for bytes
 abbrev pub Yields : Command → List ℕ → (old new : Ending) → List ℕ → Type 0

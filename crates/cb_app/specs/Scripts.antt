@@ -53,15 +53,15 @@ pub record IsAnswered (side : Side) (script : Script) (end : Ending) : Type 0 wh
       → KeepAlone script.lines lane fresh_lane end.answers
 
 -- how many rows the nodes of a world gave out, where there is one
-abbrev pub rows_given : Option WorldState → ℕ
-rows_given None = 0
-rows_given (Some world) = world.far.nodes.given
+abbrev pub given_by_nodes : Option WorldState → ℕ
+given_by_nodes None = 0
+given_by_nodes (Some world) = world.far.nodes.given
 
 -- The text that tells an ending: the answers. Where the compute side makes the parities, one line
 -- more tells how many rows the nodes gave out.
-abbrev pub told_text : Side → Ending → List ℕ
-told_text Nodes end = text_of end.answers
-told_text Compute end = text_of end.answers ++ given_line (rows_given end.world)
+abbrev pub ending_text : Side → Ending → List ℕ
+ending_text Nodes end = text_of end.answers
+ending_text Compute end = text_of end.answers ++ given_line (given_by_nodes end.world)
 
 -- The ending of a script that was checked: its configuration, and nothing else.
 pub record IsChecked (script : Script) (end : Ending) : Type 0 where

@@ -12,7 +12,7 @@ use Rattle.cb_model.specs.Legal.{IsLegal}
 use Rattle.cb_record.specs.Backs.{Backs}
 use Rattle.cb_record.specs.Left.{HasHistoryEnds}
 use Rattle.cb_record.specs.Told.{tolds}
-use Rattle.cb_record.specs.Upheld.{Upholds}
+use Rattle.cb_record.specs.Upheld.{Upholds, as_part}
 use Rattle.cb_shared.specs.Sealing.{sealed_record, sealed_world}
 use Rattle.cb_shared.specs.Turning.{Did}
 use Rattle.cb_lanes.specs.Alone.{HasOwnLines, KeepAlone, fresh_lane}
@@ -22,7 +22,6 @@ use Rattle.cb_lanes.specs.Lost.{losses_of}
 use Rattle.cb_lanes.specs.Scopes.{KeepScopes}
 use Rattle.cb_app.specs.ByLane.{by_lane}
 use Rattle.cb_app.specs.Calm.{IsCalmTo}
-use Rattle.cb_app.specs.Crew.{part_of}
 use Rattle.cb_app.specs.Telling.{AreEpochs, CountsWorkers, TellsLost, TellsRoom, TellsWorn}
 use Rattle.cb_app.specs.declared.ending.Ending.{Ending}
 use Rattle.cb_app.specs.declared.threads.ThreadsEnd.{ThreadsEnd}
@@ -43,7 +42,7 @@ pub record IsRun (script : Script) (end : ThreadsEnd) : Type 0 where
   pub seal : sealed_world end.seal ≡ end.world
   pub closed : IsClosed Did 1 script.config (sealed_record end.seal) end.world
   -- the answers are those of calls that stand in the record
-  pub backs : Backs (part_of (sealed_record end.seal)) (tolds [] end.answers)
+  pub backs : Backs (as_part (sealed_record end.seal)) (tolds [] end.answers)
   -- and what they say beside the record is so: of the handles that there are, of lengths, of names
   pub upheld : AllByRecursion (Upholds 1 script.config.handles (calls_of end.answers)
       (sealed_record end.seal)) (calls_of end.answers)

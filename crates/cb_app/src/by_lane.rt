@@ -64,14 +64,14 @@ fn add_name(alloc: Global, names: &mut Names, answer: &Answer) -> Result<(), NoM
     if let Request::Make { name, .. } = &answer.request {
         names.push(Named {
             name: name.copy(alloc)?,
-            handle: handle_of(&answer.reply),
+            handle: handle_told(&answer.reply),
         })?;
     }
     Ok(())
 }
 
 /// The handle that a make was answered, unless it was refused.
-fn handle_of(reply: &Reply) -> Option<Handle>
+fn handle_told(reply: &Reply) -> Option<Handle>
     ensures { result ≡ handle_told reply.now }
 {
     match reply {

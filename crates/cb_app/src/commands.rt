@@ -7,7 +7,7 @@ ghost use Rattle.cb_cli.specs.declared.words.Command.TheVariants as commands;
 ghost use Rattle.cb_types.specs.Table.{IsReplyOf};
 ghost use Rattle.std.specs.List.{AllByRecursion};
 ghost use Rattle.cb_app.specs.Modes.{IsVerdict, command_of};
-ghost use Rattle.cb_app.specs.Scripts.{IsAnswered, IsChecked, told_text};
+ghost use Rattle.cb_app.specs.Scripts.{IsAnswered, IsChecked, ending_text};
 ghost use Rattle.cb_app.specs.Threaded.{IsThreaded};
 ghost use Rattle.cb_text.specs.Line.{text_of};
 
@@ -77,7 +77,7 @@ fn answer_script(
 ) -> Result<Bytes, NoMemory>
     requires script { IsScript script }
     ensures answered { IfOk result (λ text. IsAnswered side script end.new
-        × (text ≡ told_text side end.new)) }
+        × (text ≡ ending_text side end.new)) }
     ensures kept { OnErr result (end.new ≡ end.old) }
 {
     let ended = answer(alloc, side, &script)?;
@@ -94,10 +94,10 @@ fn leave_ending(
     end: &mut Ending,
 ) -> Result<Bytes, NoMemory>
     requires { AllByRecursion (λ a. IsReplyOf a.request a.reply) ended.answers }
-    ensures told { IfOk result (λ text. (end.new ≡ ended) × (text ≡ told_text side ended)) }
+    ensures told { IfOk result (λ text. (end.new ≡ ended) × (text ≡ ending_text side ended)) }
     ensures kept { OnErr result (end.new ≡ end.old) }
 {
-    let text = told_text(alloc, side, &ended)?;
+    let text = ending_text(alloc, side, &ended)?;
     end.set(ended);
     Ok(text)
 }
@@ -114,14 +114,14 @@ pub(crate) fn answer(alloc: Global, side: Side, script: &Script) -> Result<Endin
 
 /// The text that tells an ending: its answers, and, where the compute side makes the parities, how
 /// many rows the nodes gave out. Each reply is one that its line may have.
-fn told_text(alloc: Global, side: Side, end: &Ending) -> Result<Bytes, NoMemory>
+fn ending_text(alloc: Global, side: Side, end: &Ending) -> Result<Bytes, NoMemory>
     requires { AllByRecursion (λ a. IsReplyOf a.request a.reply) end.now.answers }
-    ensures { IfOk result (λ text. text ≡ told_text side end.now) }
+    ensures { IfOk result (λ text. text ≡ ending_text side end.now) }
 {
     let text = answers_text(alloc, &end.answers)?;
     match side {
         Side::Nodes => Ok(text),
-        Side::Compute => with_given(alloc, text, end.rows_given()),
+        Side::Compute => with_given(alloc, text, end.given_by_nodes()),
     }
 }
 

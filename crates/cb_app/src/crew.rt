@@ -70,7 +70,7 @@ pub(crate) struct Task {
 
 /// Answers, with the pass by whose calls they were given and with the text that tells them.
 #[derive(Drop)]
-pub(crate) struct Told {
+pub(crate) struct ToldEnd {
     pub(crate) end: LaneEnd,
     pub(crate) text: Pieces,
 }
@@ -79,7 +79,7 @@ pub(crate) struct Told {
 #[derive(Drop)]
 pub(crate) struct Ended {
     pub(crate) body: Body,
-    pub(crate) left: Result<Told, NoMemory>,
+    pub(crate) left: Result<ToldEnd, NoMemory>,
 }
 
 /// Runs lanes 1 to 15 of these lines beside the four workers, each in a thread of its own where
@@ -335,7 +335,7 @@ fn answer_lane<R: Wait, G: Gate>(
     lines: &[Line],
     names: &Names,
     gate: &G,
-) -> Result<Told, NoMemory>
+) -> Result<ToldEnd, NoMemory>
     requires of { IsPassOf shared.now pass }
     requires fresh { IsFreshRecord (record_of pass) }
     requires lines { AreLinesOf shared.now.config.nodes lane.n (of_lane lane.n lines.now) }
@@ -379,7 +379,7 @@ fn run_worker<R: Wait, G: Gate>(
     match worker_body(rt, alloc, shared, pass, worker, turns, gate) {
         Ok(pass) => Ended {
             body,
-            left: Ok(Told {
+            left: Ok(ToldEnd {
                 end: LaneEnd { answers, pass },
                 text,
             }),
@@ -392,14 +392,14 @@ fn run_worker<R: Wait, G: Gate>(
 }
 
 /// Answers with their text. Each is a reply that its line may have.
-pub(crate) fn with_text(alloc: Global, end: LaneEnd) -> Result<Told, NoMemory>
+pub(crate) fn with_text(alloc: Global, end: LaneEnd) -> Result<ToldEnd, NoMemory>
     requires { AllByRecursion HasLineReply end.answers }
     ensures end { IfOk result (λ told. told.end ≡ end) }
     ensures text { IfOk result IsTextWritten }
 {
     let text = answers_text(alloc, &end.answers)?;
     let text = Pieces::one(alloc, text);
-    Ok(Told { end, text })
+    Ok(ToldEnd { end, text })
 }
 
 /// Takes the passes in, and puts the answers and their texts behind those that there are, thread by
@@ -463,7 +463,7 @@ fn take_told(
     shared: &Shared,
     first: &mut LaneEnd,
     text: &mut Pieces,
-    told: Told,
+    told: ToldEnd,
 ) -> Result<(), NoMemory>
     requires of { IsPassOf shared.now first.old.pass }
     requires end { IsPassOf shared.now told.end.pass }
@@ -478,7 +478,7 @@ fn take_told(
     ensures text { text.old ≡ text_of first.old.answers → IsTextWritten told
         → IfOk result (λ _. text.new ≡ text_of first.new.answers) }
 {
-    let Told { end, text: more } = told;
+    let ToldEnd { end, text: more } = told;
     text.append(more)?;
     take_end(shared, first, end)
 }

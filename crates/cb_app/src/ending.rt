@@ -1,5 +1,5 @@
 ghost use Rattle.std.specs.Prelude.{◌≡◌, [], None, Some};
-ghost use Rattle.cb_app.specs.Scripts.{rows_given};
+ghost use Rattle.cb_app.specs.Scripts.{given_by_nodes};
 
 use crate::threads::ThreadsEnd;
 use cb_cli::Pieces;
@@ -112,8 +112,8 @@ impl Ending {
     }
 
     /// How many rows the nodes of the world that is left gave out; 0 where none is left.
-    pub(crate) fn rows_given(&self) -> u64
-        ensures { result ≡ rows_given self.now.world }
+    pub(crate) fn given_by_nodes(&self) -> u64
+        ensures { result ≡ given_by_nodes self.now.world }
     {
         match &self.world {
             Some(world) => world.far.nodes.given(),

@@ -24,16 +24,16 @@ const MOST_LOOKS: u64 = 1_000_000_000;
 
 /// Holds lane 1 behind line 3 until lane 2 was answered line 6.
 #[derive(Drop)]
-struct Holding {
+struct HoldingGate {
     /// 1 behind that answer.
     answered: AtomicU64,
     /// 1 where the hold ended by it.
     ended: AtomicU64,
 }
 
-impl Holding {
-    fn new() -> Holding {
-        Holding {
+impl HoldingGate {
+    fn new() -> HoldingGate {
+        HoldingGate {
             answered: AtomicU64::new(0),
             ended: AtomicU64::new(0),
         }
@@ -49,7 +49,7 @@ impl Holding {
     }
 }
 
-impl Gate for Holding {
+impl Gate for HoldingGate {
     fn after(&self, lane: Lane, line: u32) {
         match (lane.n, line) {
             (1, 3) => self.hold(),
@@ -70,13 +70,13 @@ const NOTES: [u64; 20] = [
 
 /// Notes each line of each lane and each turn of each worker, in the order in which it is told.
 #[derive(Drop)]
-struct Noting {
+struct NotingGate {
     notes: [AtomicU64; 20],
 }
 
-impl Noting {
-    fn new() -> Noting {
-        Noting {
+impl NotingGate {
+    fn new() -> NotingGate {
+        NotingGate {
             notes: array::from_fn(|_| AtomicU64::new(1)),
         }
     }
@@ -90,7 +90,7 @@ impl Noting {
     }
 }
 
-impl Gate for Noting {
+impl Gate for NotingGate {
     fn after(&self, lane: Lane, line: u32) {
         if let Some(notes) = self.notes.get(lane.n as usize) {
             let before = notes.load(Ordering::SeqCst);
@@ -100,7 +100,7 @@ impl Gate for Noting {
 }
 
 /// The text of what threads answer to a script beside a gate.
-fn told<R: Threads + Wait + Sync, G: Gate>(
+fn threads_text<R: Threads + Wait + Sync, G: Gate>(
     rt: &R,
     alloc: Global,
     script: &[u8],
@@ -117,15 +117,15 @@ fn told<R: Threads + Wait + Sync, G: Gate>(
 
 /// Whether a lane that is held goes on by the answer of another, and tells what it pinned.
 fn goes_on<R: Threads + Wait + Sync>(rt: &R, alloc: Global) -> Result<bool, NoMemory> {
-    let gate = Holding::new();
-    let text = told(rt, alloc, HELD, &gate)?;
+    let gate = HoldingGate::new();
+    let text = threads_text(rt, alloc, HELD, &gate)?;
     Ok(gate.ended.load(Ordering::SeqCst) == 1 && text.as_slice().starts_with(HELD_TEXT))
 }
 
 /// Whether each line and each turn is told to the gate, once and in order.
 fn is_noted<R: Threads + Wait + Sync>(rt: &R, alloc: Global) -> Result<bool, NoMemory> {
-    let gate = Noting::new();
-    let _text = told(rt, alloc, NOTED, &gate)?;
+    let gate = NotingGate::new();
+    let _text = threads_text(rt, alloc, NOTED, &gate)?;
     Ok(gate.are(&NOTES))
 }
 

@@ -22,7 +22,7 @@ use std::{env, io, mem};
 use top::carbink_run;
 
 /// The words after the program's name.
-fn words_of<R: Env + AllocGlobal>(rt: &R) -> io::Result<Vec<String>> {
+fn argument_words<R: Env + AllocGlobal>(rt: &R) -> io::Result<Vec<String>> {
     let mut words = Vec::new(rt.alloc());
     for word in env::args(rt)?.skip(1) {
         words.push(word)?;
@@ -33,7 +33,7 @@ fn words_of<R: Env + AllocGlobal>(rt: &R) -> io::Result<Vec<String>> {
 /// The words after the program's name, or the exit status where there is no memory for them.
 /// A word that is not UTF-8 makes the words be of no form, as an empty list is.
 fn words_or_status<R: Env + AllocGlobal>(rt: &R) -> Result<Vec<String>, u8> {
-    match words_of(rt) {
+    match argument_words(rt) {
         Ok(words) => Ok(words),
         Err(error) if error.kind() == ErrorKind::OutOfMemory => Err(5),
         Err(_) => Ok(Vec::new(rt.alloc())),

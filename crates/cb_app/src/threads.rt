@@ -13,7 +13,7 @@ ghost use Rattle.cb_text.specs.Line.{text_of};
 ghost use Rattle.cb_workers.specs.declared.worker.Worker.{Worker};
 
 use crate::by_lane::{names_of, of_lane};
-use crate::crew::{Told, run_crew};
+use crate::crew::{ToldEnd, run_crew};
 use cb_cli::{Pieces, answers_text};
 use cb_lanes::{LaneEnd, Names, lane_body, note_loss};
 use cb_script::Script;
@@ -68,7 +68,7 @@ fn run_all<R: Threads + Wait + Sync, G: Gate>(
     pass: Pass,
     s: &Script,
     gate: &G,
-) -> Result<Told, NoMemory>
+) -> Result<ToldEnd, NoMemory>
     requires begun { IsRuntimeBegun 1 s.now.config shared.now pass }
     requires lines { AreLines s.now.config.nodes [] s.now.lines }
     ensures told { IfOk result (λ told. IsLaneTold shared.now [] (by_lane s.now.lines) told.end) }
@@ -89,7 +89,7 @@ fn run_all<R: Threads + Wait + Sync, G: Gate>(
         &names,
         gate,
     )?;
-    Ok(Told { end, text })
+    Ok(ToldEnd { end, text })
 }
 
 /// The lines of lane 0, which come before all others.
@@ -128,7 +128,7 @@ fn run_first<R: Wait, G: Gate>(
 }
 
 /// Closes the runtime.
-fn end(alloc: Global, shared: Shared, told: Told) -> Result<ThreadsEnd, NoMemory>
+fn end(alloc: Global, shared: Shared, told: ToldEnd) -> Result<ThreadsEnd, NoMemory>
     requires of { IsPassOf shared told.end.pass }
     requires text { IsTextWritten told }
     ensures answers { IfOk result (λ end. end.answers ≡ told.end.answers) }
@@ -136,7 +136,7 @@ fn end(alloc: Global, shared: Shared, told: Told) -> Result<ThreadsEnd, NoMemory
     ensures losses { IfOk result (λ end. AreLosses end.losses told.end.answers) }
     ensures text { IfOk result (λ end. end.text ≡ text_of end.answers) }
 {
-    let Told { end, text } = told;
+    let ToldEnd { end, text } = told;
     let LaneEnd { answers, pass } = end;
     let losses = losses_of(alloc, &answers)?;
     match shared.close(alloc, pass) {

@@ -1,7 +1,7 @@
 -- What a lane has by itself goes along with the answers, one by one.
 use Rattle.std.proofs.Common.{◌≡◌, ◌≢◌, ◌⊎◌, ℕ, ◌<◌, ◌≤◌, Bool, true, false, ◌&&◌, ◌||◌, List, [], ◌∷◌, ◌++◌, length, fold, Option, None, Some, refl, sym, ap, ◌∙◌, subst, arith, inl, inr, eq-eqb, ne_eqb, nat_eq, if◌then◌else◌}
 use Rattle.std.specs.Str.{bytes_eq}
-use Rattle.std.proofs.lemmas.Bool.{cases_Bool, eqb-true, true≢false, false≢true}
+use Rattle.std.proofs.lemmas.Bool.{cases_Bool, eqb-true, true≢false, false≢true, and_parts}
 use Rattle.std.proofs.lemmas.List.Sums.{fold_push}
 use Rattle.cb_types.specs.declared.answer.Answer.{Answer}
 use Rattle.cb_types.specs.declared.handle.Handle.{Handle}
@@ -52,11 +52,6 @@ pub record Telling (lines : List Line) (handles : ℕ) (before : List Answer) (a
   pub maker : (name : List ℕ) → name_of request ≡ Some name
       → (is_maker lines asker name ≡ true) ⊎ (is_maker lines 0 name ≡ true)
   pub shared : HasOwnLines lines asker → pins_shared lines request ≡ false
-
-both : (a b : Bool) → (a && b) ≡ true → (a ≡ true) × (b ≡ true)
-both true true e = (refl, refl)
-both true false e = absurd (false≢true e)
-both false b e = absurd (false≢true e)
 
 -- ---- the reply
 
@@ -503,12 +498,12 @@ module _ (lines : List Line) (handles : ℕ) (before : List Answer) (a : Answer)
           → (leaves lane a ≡ true) ⊎ (leaves lane a ≡ false)
           → StandsAlone lines lane (before ++ a ∷ []) (alone_more lines lane state a)
       by (inl own) leaving = moved (ap (λ (b : Bool). b || leaves lane a) own)
-          (let z = both (nat_eq a.lane.n lane) (is_maker_of lines lane (own_name a.request)) own in
+          (let z = and_parts (nat_eq a.lane.n lane) (is_maker_of lines lane (own_name a.request)) own in
           let named = has_name lines lane a.request z.1 in
           stands_own named.0 (eqb-true a.lane.n lane z.0) (own_named a.request named.1)
           (sym (ap (is_maker_of lines lane) named.1) ∙ z.1))
       by (inr not) (inl leaving) = moved (λ i. (not i) || (leaving i))
-          (let z = both (nat_eq a.lane.n lane) (is_leave a.request) leaving in
+          (let z = and_parts (nat_eq a.lane.n lane) (is_leave a.request) leaving in
           stands_leave (leave_of a.request z.1) (eqb-true a.lane.n lane z.0))
       by (inr not) (inr off) = subst (λ (b : Bool). StandsAlone lines lane (before ++ a ∷ [])
           (if b then alone_after state a.request a.reply else state)) (sym (λ i. (not i) || (off i)))
@@ -545,7 +540,7 @@ pub alone_push : (lines : List Line) (handles lane : ℕ) (answers : List Answer
     → GoesAlone lines lane answers → GoesAlone lines lane (answers ++ a ∷ [])
 alone_push lines handles lane answers a t has goes = record {
   kept = keep_push lines lane fresh_lane answers a goes.kept
-      (λ own. let z = both (nat_eq a.lane.n lane) (is_maker_of lines lane (own_name a.request)) own in
+      (λ own. let z = and_parts (nat_eq a.lane.n lane) (is_maker_of lines lane (own_name a.request)) own in
       alone_says lines handles answers a.lane.n lane (alone_state lines lane answers) a.request a.reply t
       goes.stands has.from_one (eqb-true a.lane.n lane z.0) z.1);
   stands = subst (StandsAlone lines lane (answers ++ a ∷ []))

@@ -2,8 +2,9 @@
 use Rattle.std.proofs.Common.{◌≡◌, ◌≢◌, ◌⊎◌, ℕ, zero, suc, ◌<◌, ◌≤◌, Bool, true, false, ◌&&◌, ◌||◌, List, [], ◌∷◌, ◌++◌, length, map, take, get_or, fold, None, Some, refl, sym, ap, ◌∙◌, subst, arith, inl, inr, eq-eqb, nat_eq, if◌then◌else◌}
 use Rattle.std.specs.List.{AllByRecursion, count_by, list_any}
 use Rattle.std.specs.Str.{bytes_eq}
-use Rattle.std.proofs.lemmas.Bool.{cases_Bool, eqb-true, true≢false, false≢true}
+use Rattle.std.proofs.lemmas.Bool.{cases_Bool, eqb-true, true≢false, false≢true, or_left, or_right, or_parts, and_parts}
 use Rattle.std.proofs.lemmas.List.Sums.{sum_by-cons}
+use Rattle.std.proofs.lemmas.Option.{same_Some}
 use Rattle.std.proofs.lemmas.Slice.Eq.{bytes_eq-Decides}
 use Rattle.cb_types.specs.declared.answer.Answer.{Answer}
 use Rattle.cb_types.specs.declared.request.Request.{Request}
@@ -21,44 +22,22 @@ use Rattle.cb_lanes.specs.Asked.{asked}
 use Rattle.cb_lanes.specs.Alone.{is_maker, makes_named}
 use Rattle.cb_lanes.specs.Scopes.{NamedPin, Scope, named_on, newest_on, scope_after, scope_more, scope_of}
 use Rattle.cb_lanes.proofs.AloneGoes.{others_after}
-
-or_left : (a b : Bool) → a ≡ true → (a || b) ≡ true
-or_left a b e = ap (λ (c : Bool). c || b) e
-
-or_right : (a b : Bool) → b ≡ true → (a || b) ≡ true
-or_right true b e = refl
-or_right false b e = e
-
-or_false : (a b : Bool) → (a || b) ≡ false → (a ≡ false) × (b ≡ false)
-or_false true b e = absurd (true≢false e)
-or_false false b e = (refl, e)
-
-both : (a b : Bool) → (a && b) ≡ true → (a ≡ true) × (b ≡ true)
-both true true e = (refl, refl)
-both true false e = absurd (false≢true e)
-both false b e = absurd (false≢true e)
+use Rattle.cb_lanes.proofs.Lists.{one_if}
 
 -- a front of lines has no more than all of them
 pub any_front : {X : Type 0} (p : X → Bool) (xs : List X) (i : ℕ) → list_any p xs ≡ false
     → list_any p (take i xs) ≡ false
 any_front p xs zero none = refl
 any_front p [] (suc i) none = refl
-any_front p (x ∷ xs) (suc i) none = let z = or_false (p x) (list_any p xs) none in
+any_front p (x ∷ xs) (suc i) none = let z = or_parts (p x) (list_any p xs) none in
     (λ j. z.0 j || any_front p xs i z.1 j)
 
 pub any_at : {X : Type 0} (p : X → Bool) (xs : List X) (i : ℕ) (x : X) → list_any p xs ≡ false
     → i < length xs → x ≡ get_or xs i x → p x ≡ false
 any_at p [] i x none below at = absurd (omega (arith, below))
-any_at p (y ∷ xs) zero x none below at = ap p at ∙ (or_false (p y) (list_any p xs) none).0
+any_at p (y ∷ xs) zero x none below at = ap p at ∙ (or_parts (p y) (list_any p xs) none).0
 any_at p (y ∷ xs) (suc i) x none below at =
-    any_at p xs i x (or_false (p y) (list_any p xs) none).1 (omega (arith, below)) at
-
-any_more : {X : Type 0} (p : X → Bool) (xs : List X) (i : ℕ) → list_any p (take i xs) ≡ true
-    → list_any p xs ≡ true
-any_more p xs i some = elim (cases_Bool (list_any p xs)) [
-  | inl e ↦ e
-  | inr e ↦ absurd (true≢false (sym some ∙ any_front p xs i e))
-]
+    any_at p xs i x (or_parts (p y) (list_any p xs) none).1 (omega (arith, below)) at
 
 -- ---- who makes a name
 
@@ -108,7 +87,7 @@ made_once nodes before (l ∷ lines) k m name all was again =
   where
     by : (is_maker lines m name ≡ true → ⊥) → ((nat_eq l.lane.n m && makes_named name l.request) ≡ true)
         ⊎ ((nat_eq l.lane.n m && makes_named name l.request) ≡ false) → ⊥
-    by later (inl e) = let z = both (nat_eq l.lane.n m) (makes_named name l.request) e in
+    by later (inl e) = let z = and_parts (nat_eq l.lane.n m) (makes_named name l.request) e in
         new_name before l.lane.n name l.request (made_name name l.request z.1) all.0.known k was
     by later (inr e) = later (sym (ap (λ (b : Bool). b || is_maker lines m name) e) ∙ again)
 
@@ -127,7 +106,7 @@ one_maker nodes before (l ∷ lines) k m name all a b =
     rest lane e off = sym (ap (λ (b : Bool). b || is_maker lines lane name) off) ∙ e
 
     here : (lane : ℕ) → head lane ≡ true → (l.lane.n ≡ lane) × MakesName l.request name
-    here lane e = let z = both (nat_eq l.lane.n lane) (makes_named name l.request) e in
+    here lane e = let z = and_parts (nat_eq l.lane.n lane) (makes_named name l.request) e in
         (eqb-true l.lane.n lane z.0, made_name name l.request z.1)
 
     by : (is_maker lines k name ≡ true → is_maker lines m name ≡ true → k ≡ m)
@@ -146,9 +125,6 @@ abbrev pub IsOwnName : List Line → Line → Type 0
 IsOwnName lines l = (name : List ℕ) → name_of l.request ≡ Some name
     → (is_maker lines l.lane.n name ≡ true) ⊎ (is_maker lines 0 name ≡ true)
 
-same_name : (a b : List ℕ) → Some a ≡ Some b → a ≡ b
-same_name a b e = cc
-
 known_maker : (lines before : List Line) (lane : ℕ)
     → ((k : ℕ) (name : List ℕ) → IsNameMade before k name → is_maker lines k name ≡ true)
     → (name : List ℕ) → KnowsName before lane name
@@ -163,21 +139,21 @@ line_named : (lines before : List Line) (l : Line) (request : Request)
     → name_of request ≡ Some name
     → (is_maker lines l.lane.n name ≡ true) ⊎ (is_maker lines 0 name ≡ true)
 line_named lines before l (Make made bytes) among own known name e =
-    inl (own name (same_name made name e))
+    inl (own name (same_Some made name e))
 line_named lines before l (Read made) among own known name e =
-    known_maker lines before l.lane.n among name (subst (KnowsName before l.lane.n) (same_name made name e) known)
+    known_maker lines before l.lane.n among name (subst (KnowsName before l.lane.n) (same_Some made name e) known)
 line_named lines before l (Write made at bytes) among own known name e =
-    known_maker lines before l.lane.n among name (subst (KnowsName before l.lane.n) (same_name made name e) known)
+    known_maker lines before l.lane.n among name (subst (KnowsName before l.lane.n) (same_Some made name e) known)
 line_named lines before l (Free made) among own known name e =
-    known_maker lines before l.lane.n among name (subst (KnowsName before l.lane.n) (same_name made name e) known)
+    known_maker lines before l.lane.n among name (subst (KnowsName before l.lane.n) (same_Some made name e) known)
 line_named lines before l (Pin made) among own known name e =
-    known_maker lines before l.lane.n among name (subst (KnowsName before l.lane.n) (same_name made name e) known)
+    known_maker lines before l.lane.n among name (subst (KnowsName before l.lane.n) (same_Some made name e) known)
 line_named lines before l (Peek made) among own known name e =
-    known_maker lines before l.lane.n among name (subst (KnowsName before l.lane.n) (same_name made name e) known)
+    known_maker lines before l.lane.n among name (subst (KnowsName before l.lane.n) (same_Some made name e) known)
 line_named lines before l (Unpin made) among own known name e =
-    known_maker lines before l.lane.n among name (subst (KnowsName before l.lane.n) (same_name made name e) known)
+    known_maker lines before l.lane.n among name (subst (KnowsName before l.lane.n) (same_Some made name e) known)
 line_named lines before l (Filter made) among own known name e =
-    known_maker lines before l.lane.n among name (subst (KnowsName before l.lane.n) (same_name made name e) known)
+    known_maker lines before l.lane.n among name (subst (KnowsName before l.lane.n) (same_Some made name e) known)
 line_named lines before l request among own known name e = absurd (let z : None ≡ Some name = e in cc)
 
 -- those behind these lines, of all lines
@@ -252,7 +228,7 @@ scope_none_from lane scope (a ∷ answers) none off =
     scope_none_from lane (scope_more lane scope a) answers (by (cases_Bool (nat_eq a.lane.n lane))) z.1
   where
     z : ((nat_eq lane a.lane.n && is_pin a.request) ≡ false) × (has_pin (map asked answers) lane ≡ false)
-    z = or_false (nat_eq lane a.lane.n && is_pin a.request) (has_pin (map asked answers) lane) off
+    z = or_parts (nat_eq lane a.lane.n && is_pin a.request) (has_pin (map asked answers) lane) off
 
     by : (nat_eq a.lane.n lane ≡ true) ⊎ (nat_eq a.lane.n lane ≡ false) → scope_more lane scope a ≡ []
     by (inl e) = ap (λ (b : Bool). if b then scope_after scope a.request a.reply else scope) e
@@ -285,9 +261,6 @@ scope_off_from lane name scope (a ∷ answers) none all =
     by (inr e) = ap (λ (b : Bool). newest_on name (if b then scope_after scope a.request a.reply else scope)) e
         ∙ none
 
-abbrev number_if : Bool → ℕ
-number_if b = if b then 1 else 0
-
 none_named : (name : List ℕ) (scope : Scope) → newest_on name scope ≡ None → named_on name scope ≡ 0
 none_named name [] none = refl
 none_named name (pin ∷ older) none = by (none_named name older) (cases_Bool (bytes_eq pin.name name))
@@ -300,8 +273,8 @@ none_named name (pin ∷ older) none = by (none_named name older) (cases_Bool (b
     by later (inr e) =
         let rest = later (sym (ap (λ (b : Bool). if b then Some pin.version else newest_on name older) e)
         ∙ none) in
-        let here : number_if (bytes_eq pin.name name) ≡ 0 = ap number_if e in
-        let all = sum_by-cons (λ (p : NamedPin). number_if (bytes_eq p.name name)) pin older in
+        let here : one_if (bytes_eq pin.name name) ≡ 0 = ap one_if e in
+        let all = sum_by-cons (λ (p : NamedPin). one_if (bytes_eq p.name name)) pin older in
         omega (arith, rest, here, all)
 
 pins_not : (lines : List Line) (own lane : ℕ) (name : List ℕ)
@@ -348,7 +321,7 @@ none_made : (request : Request) (r : Reply) (n : ℕ) → event_of request r ≡
 none_made request r n e =
     let z = ap made_by e ∙ refusal_makes (subject_of request) r in omega (arith, z)
 
-made_few : (request : Request) (r : Reply) → made_by (event_of request r) ≤ number_if (is_make request)
+made_few : (request : Request) (r : Reply) → made_by (event_of request r) ≤ one_if (is_make request)
 made_few (Make name bytes) (answer.Made handle version) = omega arith
 made_few (Make name bytes) (answer.Full handles) = omega arith
 made_few (Make name bytes) r = none_made (Make name bytes) r 1 refl
@@ -371,7 +344,7 @@ pub makes_few : (before answers : List Answer)
 makes_few before [] = omega arith
 makes_few before (a ∷ answers) =
     let one = made_few a.request a.reply in let more = makes_few (before ++ a ∷ []) answers in
-    let all = sum_by-cons (λ (l : Line). number_if (is_make l.request)) (asked a) (map asked answers) in
+    let all = sum_by-cons (λ (l : Line). one_if (is_make l.request)) (asked a) (map asked answers) in
     omega (arith, one, more, all)
 
 pub count_front : (p : Line → Bool) (xs : List Line) (i : ℕ) → count_by p (take i xs) ≤ count_by p xs
@@ -379,6 +352,6 @@ count_front p xs zero = omega arith
 count_front p [] (suc i) = omega arith
 count_front p (x ∷ xs) (suc i) =
     let rest = count_front p xs i in
-    let a = sum_by-cons (λ (y : Line). number_if (p y)) x (take i xs) in
-    let b = sum_by-cons (λ (y : Line). number_if (p y)) x xs in
+    let a = sum_by-cons (λ (y : Line). one_if (p y)) x (take i xs) in
+    let b = sum_by-cons (λ (y : Line). one_if (p y)) x xs in
     omega (arith, rest, a, b)

@@ -43,13 +43,14 @@ use Rattle.cb_lanes.specs.LineAnswered.{LineAnswered}
 use Rattle.cb_lanes.specs.LineStep.{LineStep, goes_at}
 use Rattle.cb_lanes.specs.declared.side.Side.{Side}
 use Rattle.cb_lanes.specs.LinesLeft.{AreLanes}
-use Rattle.cb_lanes.specs.Lost.{loss_of, losses_of}
-use Rattle.cb_lanes.specs.Names.{Names, kept_number, handle_at, request_handle, number_after, AreKept, AreReady}
+use Rattle.cb_lanes.specs.Lost.{told_loss, losses_of}
+use Rattle.cb_lanes.specs.Names.{KeptNames, kept_number, kept_for, request_handle, number_after, AreKept, AreReady}
 use Rattle.cb_lanes.specs.Scopes.{KeepScopes, ScopeSays, scope_of}
 use Rattle.cb_lanes.proofs.ByAsk.{by_ask}
 use Rattle.cb_lanes.proofs.CompactGoes.{compact_goes}
 use Rattle.cb_lanes.proofs.GivingBack.{unpin_stands, gives_all}
 use Rattle.cb_lanes.proofs.LineGoes.{read_goes, write_goes, free_goes, filter_goes, make_goes}
+use Rattle.cb_lanes.proofs.Lists.{all_push}
 use Rattle.cb_lanes.proofs.Lone.{empty_lone, line_lone, rests_lone, turn_alone}
 use Rattle.cb_lanes.proofs.NamesKept.{name_within}
 use Rattle.cb_lanes.proofs.Pinning.{pin_goes, pin_settings, peek_goes, unpin_goes, leave_goes}
@@ -63,7 +64,7 @@ use Rattle.cb_lanes.proofs.Turning.{Turning, around, LineGives}
 -- The answers so far are the map's, the map is beside the world that they led to, in which no seat
 -- holds the far lock, the names are what these answers made of them, and each lane that has lines to
 -- come has the pins of its scope.
-pub record Along (side : Side) (c : Config) (later : List ℕ) (answers : List Answer) (w : WorldState) (names : Names) : Type 0
+pub record Along (side : Side) (c : Config) (later : List ℕ) (answers : List Answer) (w : WorldState) (names : KeptNames) : Type 0
   where
     pub sound : IsSoundWorld w
     pub beside : IsMapBeside (calls_of answers) sound.shown w.far
@@ -167,9 +168,9 @@ line_goes side answers l (Unpin name) r w new (Some h) c is named ready lt made 
 
 -- ---- the handle that an answer is about
 
-pub same_name : (answers : List Answer) (names : Names) (name : Option (List ℕ))
+pub same_name : (answers : List Answer) (names : KeptNames) (name : Option (List ℕ))
     → ((q : List ℕ) → handle_of answers q ≡ kept_number names q)
-    → handle_named answers name ≡ handle_at names name
+    → handle_named answers name ≡ kept_for names name
 same_name answers names None kept = refl
 same_name answers names (Some q) kept = kept q
 
@@ -223,7 +224,7 @@ chosen false n found kept e = found_first found ∙ e where
   found_first None = refl
   found_first (Some h) = refl
 
-named_after : (names : Names) (request : Request) (reply : Reply) (name : List ℕ) (found : Option ℕ)
+named_after : (names : KeptNames) (request : Request) (reply : Reply) (name : List ℕ) (found : Option ℕ)
     → found ≡ kept_number names name
     → first_of (handle_made name request reply) found ≡ number_after names request reply name
 named_after names (Make made bytes) (answer.Made handle version) name found e =
@@ -232,7 +233,7 @@ named_after names (Make made bytes) reply name found e = e
 named_after names request reply name found e = e
 
 -- each name's handle was made
-within_after : (names : Names) (answers : List Answer) (first handles made next : ℕ) (now : MapNow)
+within_after : (names : KeptNames) (answers : List Answer) (first handles made next : ℕ) (now : MapNow)
     (request : Request) (reply : Reply) (name : List ℕ) (h : ℕ)
     → ((q : List ℕ) (k : ℕ) → kept_number names q ≡ Some k → k < made)
     → MapReplies first handles made (handle_for answers request reply) now (event_of request reply)
@@ -253,11 +254,6 @@ within_after names answers first handles made next now request reply name h with
 
 -- ---- one more line
 
-all_push : (answers : List Answer) (a : Answer) → AllByRecursion HasLineReply answers
-    → HasLineReply a → AllByRecursion HasLineReply (answers ++ a ∷ [])
-all_push [] a all is = (is, tt)
-all_push (b ∷ answers) a all is = (all.0, all_push answers a all.1 is)
-
 -- no line changes the configuration
 pub line_settings : (side : Side) (seat : ℕ) (handle : Option ℕ) (request : Request)
     (w new : WorldState) (r : Reply) → IsSoundWorld w → seat < 64 → ((h : ℕ) → handle ≡ Some h → h < w.desk.settings.handles)
@@ -269,7 +265,7 @@ line_settings side seat handle request w new r sound lt ready step =
 
 -- what the lines after this one need
 along_push : (side : Side) (c : Config) (later : List ℕ) (answers : List Answer) (l : Line)
-    (request : Request) (r : Reply) (w new rested : WorldState) (names kept : Names) → Along side c (l.lane.n ∷ later) answers w names
+    (request : Request) (r : Reply) (w new rested : WorldState) (names kept : KeptNames) → Along side c (l.lane.n ∷ later) answers w names
     → length answers < 20000 → l.lane.n < 64 → IsSoundWorld new → IsRequest c.nodes request
     → IsFreshName (kept_number names) request
     → LineStep side l.lane.n (request_handle names request) request w r new → AreKept names request r kept
@@ -295,7 +291,7 @@ along_push side c later answers l request r w new rested names kept along few lt
       leads = leads_push side later [] answers (empty_world c) w new rested a along.leads step_by_answers rest
           behind.stands.sound;
       follow = rw more (Follow-push 1 c.handles [] (calls_of answers) (called answers a) along.follow reply);
-      answered = all_push answers a along.answered goes.reply;
+      answered = all_push HasLineReply answers a along.answered goes.reply;
       kept = λ name. handle_of-push name answers a
           ∙ named_after names request r name (handle_of answers name) (along.kept name)
           ∙ sym (names_after name);
@@ -353,7 +349,7 @@ along_push side c later answers l request r w new rested names kept along few lt
     scoped = line_scoped side answers request r w new (request_handle names request)
         (kept_number names)
         (scope_of l.lane.n answers) l.lane.n turning lt along.scopes.apart
-        (λ name e. ap (handle_at names) (sym e)) ready
+        (λ name e. ap (kept_for names) (sym e)) ready
         (along.scopes.are l.lane.n (let own = lines_own l.lane.n later in omega (arith, own))) step
 
     reply : IsMapReply 1 c.handles (calls_of answers) (called answers a)
@@ -376,7 +372,7 @@ along_push side c later answers l request r w new rested names kept along few lt
         ∙ ap (λ (n : ℕ). n + made_by (event_of request r)) along.beside.made
 
 pub along_answered : (side : Side) (c : Config) (later : List ℕ) (answers all : List Answer) (l : Line) (w rested : WorldState)
-    (names kept : Names) → Along side c (l.lane.n ∷ later) answers w names → length answers < 20000
+    (names kept : KeptNames) → Along side c (l.lane.n ∷ later) answers w names → length answers < 20000
     → l.lane.n < 64 → IsRequest c.nodes l.request
     → IsFreshName (kept_number names) l.request
     → LineAnswered side l later w names answers rested kept all → Along side c later all rested kept
@@ -386,7 +382,7 @@ along_answered side c later answers all l w rested names kept along few lt is fr
     is fresh done.step done.holds done.rests)
 
 -- the names of the next request have handles
-pub along_ready : (side : Side) (c : Config) (later : List ℕ) (answers : List Answer) (w : WorldState) (names : Names)
+pub along_ready : (side : Side) (c : Config) (later : List ℕ) (answers : List Answer) (w : WorldState) (names : KeptNames)
     → Along side c later answers w names → AreReady w.desk.settings.handles names
 along_ready side c later answers w names along = λ name h e.
     let lt = along.within name h e in
@@ -403,7 +399,7 @@ empty_map c ok sound =
     (empty_sound 1 c (lit≤ tt) (let n = (ok Nodes).1 in omega (arith, n))) sound.known.shows sound.known.sound)
 
 -- nothing was answered yet
-pub along_none : (side : Side) (c : Config) (later : List ℕ) (w : WorldState) (names : Names) → IsAccepted c
+pub along_none : (side : Side) (c : Config) (later : List ℕ) (w : WorldState) (names : KeptNames) → IsAccepted c
     → w ≡ empty_world c → AreLanes later → ((name : List ℕ) → kept_number names name ≡ None)
     → Along side c later [] w names
 along_none side c later w names accepted is lanes none =
@@ -425,7 +421,7 @@ along_none side c later w names accepted is lanes none =
     })
 
 -- what the world holds
-pub along_holds : (side : Side) (c : Config) (later : List ℕ) (answers : List Answer) (w : WorldState) (names : Names)
+pub along_holds : (side : Side) (c : Config) (later : List ℕ) (answers : List Answer) (w : WorldState) (names : KeptNames)
     → Along side c later answers w names → HoldsAnswers w answers
 along_holds side c later answers w names along = record {
   shown = along.sound.shown;
@@ -445,12 +441,12 @@ lines_push lines i answers all l r lt at so_far one =
 
 -- the losses of one more answer
 pub losses_push : (answers all : List Answer) (a : Answer) (losses more : List Loss)
-    → losses ≡ losses_of answers → more ≡ losses ++ cons_option (loss_of a.request a.reply) []
+    → losses ≡ losses_of answers → more ≡ losses ++ cons_option (told_loss a.request a.reply) []
     → all ≡ answers ++ a ∷ [] → more ≡ losses_of all
 losses_push answers all a losses more so_far added one =
-    added ∙ ap (λ (xs : List Loss). xs ++ cons_option (loss_of a.request a.reply) []) so_far
+    added ∙ ap (λ (xs : List Loss). xs ++ cons_option (told_loss a.request a.reply) []) so_far
     ∙ sym (ap losses_of one
-    ∙ filter_map-append (λ (b : Answer). loss_of b.request b.reply) answers (a ∷ []))
+    ∙ filter_map-append (λ (b : Answer). told_loss b.request b.reply) answers (a ∷ []))
 
 -- every line has a lane and a request of their forms
 pub line_form : (nodes : ℕ) (before lines : List Line) (i : ℕ) (l : Line) → AreLines nodes before lines

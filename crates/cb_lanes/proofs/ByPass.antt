@@ -22,11 +22,11 @@ use Rattle.cb_lanes.proofs.LineParts.{adds_knows, line_adds}
 use Rattle.cb_lanes.proofs.LinesBack.{made_known}
 
 -- the handles that the record knows
-abbrev pub Known : View → ℕ → Type 0
-Known v h = Knows h v
+abbrev pub KnownTo : View → ℕ → Type 0
+KnownTo v h = Knows h v
 
 -- ---- a job that may be called
-pub job_within : (c : Config) (j : Job) (v : View) → IsAtRest c v → MayCall c.nodes (Known v) j
+pub job_within : (c : Config) (j : Job) (v : View) → IsAtRest c v → MayCall c.nodes (KnownTo v) j
     → IsJob c j
 job_within c (job.Make bytes) v rest may = may
 job_within c (job.Read handle) v rest may = known_below c handle.n v rest may
@@ -38,7 +38,7 @@ job_within c (job.Crash node) v rest may = may
 job_within c (job.Join node) v rest may = may
 job_within c j v rest may = tt
 
-pub job_knows : (nodes : ℕ) (j : Job) (v : View) → MayCall nodes (Known v) j → KnowsOf j v
+pub job_knows : (nodes : ℕ) (j : Job) (v : View) → MayCall nodes (KnownTo v) j → KnowsOf j v
 job_knows nodes (job.Read handle) v may = may
 job_knows nodes (job.Write handle at bytes) v may = may
 job_knows nodes (job.Free handle) v may = may
@@ -46,16 +46,16 @@ job_knows nodes j v may = tt
 
 -- ---- what is known stays known
 line_knows : (c : Config) (h : Option ℕ) (q : Request) (r : Reply) (v w : View)
-    → LineGoes (goes_in c) h q v r w → StayNamed (Known v) (Known w)
+    → LineGoes (goes_in c) h q v r w → StayNamed (KnownTo v) (KnownTo w)
 line_knows c h q r v w goes k knows =
     let one = line_adds c h q r v w goes in adds_knows k v w one.0 one.1 knows
 
 swap_knows : (c : Config) (j : Job) (r : Reply) (v w : View) → TurnBy c j (Ok r) v w
-    → StayNamed (Known v) (Known w)
+    → StayNamed (KnownTo v) (KnownTo w)
 swap_knows c j r v w (d, x, is) k knows = subst (Knows k) (sym is) (known_grown k d v knows)
 
 call_knows : (c : Config) (j : Job) (r : Reply) (v w : View) → CallGives c j v r w
-    → StayNamed (Known v) (Known w)
+    → StayNamed (KnownTo v) (KnownTo w)
 call_knows c (job.Make bytes) r v w x = line_knows c None (line.Make [] bytes) r v w x
 call_knows c (job.Read handle) r v w x = line_knows c (Some handle.n) (line.Read []) r v w x
 call_knows c (job.Write handle at bytes) r v w x =
@@ -68,7 +68,7 @@ call_knows c (job.Join node) r v w x = swap_knows c (job.Join node) r v w x
 call_knows c j r v w x = swap_knows c j r v w x
 
 pub ask_knows : (c : Config) (ask : Ask) (r : Reply) (v w : View) → goes_in c ask v r w
-    → StayNamed (Known v) (Known w)
+    → StayNamed (KnownTo v) (KnownTo w)
 ask_knows c (Calls j) r v w x = call_knows c j r v w x
 ask_knows c (Pins h) r v w x = line_knows c (Some h) (line.Pin []) r v w x
 ask_knows c (Peeks h) r v w x = line_knows c (Some h) (line.Peek []) r v w x
@@ -76,13 +76,13 @@ ask_knows c (Unpins h) r v w x = line_knows c (Some h) (line.Unpin []) r v w x
 ask_knows c Leaves r v w x = line_knows c None line.Leave r v w x
 
 pub stays_known : (c : Config) (ask : Ask) (result : Result Reply NoMemory) (v w : View)
-    → IfOk result (λ r. goes_in c ask v r w) → IfOk result (λ r. StayNamed (Known v) (Known w))
+    → IfOk result (λ r. goes_in c ask v r w) → IfOk result (λ r. StayNamed (KnownTo v) (KnownTo w))
 stays_known c ask result v w goes =
     IfOk-weaker result _ _ (λ r x. ask_knows c ask r v w x) goes
 
 pub is_made : (c : Config) (j : Job) (result : Result Reply NoMemory) (v w : View)
     → IfOk result (λ r. goes_in c (Calls j) v r w)
-    → IfOk result (λ r. IsNamedIfMade (Known w) j r)
+    → IfOk result (λ r. IsNamedIfMade (KnownTo w) j r)
 is_made c j result v w goes = IfOk-weaker result _ _ (λ r x bytes h version is made.
     made_known c bytes h version v w (subst (λ (q : Reply). CallGives c (job.Make bytes) v q w) made
     (subst (λ (i : Job). CallGives c i v r w) is x))) goes

@@ -28,7 +28,7 @@ use Rattle.cb_lanes.specs.Asked.{HasLineReply, answer_to, asked}
 use Rattle.cb_lanes.specs.GivingBack.{Rests, lines_by}
 use Rattle.cb_lanes.specs.LineAnswered.{LineAnswered}
 use Rattle.cb_lanes.specs.LineStep.{LineStep}
-use Rattle.cb_lanes.specs.Names.{Names, handle_at, kept_number, request_handle}
+use Rattle.cb_lanes.specs.Names.{KeptNames, kept_for, kept_number, request_handle}
 use Rattle.cb_lanes.specs.Scopes.{KeepScopes, ScopeSays, scope_of}
 use Rattle.cb_lanes.proofs.AloneGoes.{GoesAlone, Telling, alone_none, alone_push}
 use Rattle.cb_lanes.proofs.AloneLines.{IsOwnName, any_at, count_front, each_at, names_known, one_maker}
@@ -36,6 +36,7 @@ use Rattle.cb_lanes.proofs.Along.{Along, along_ready, line_form}
 use Rattle.cb_lanes.proofs.CalmLines.{line_calm}
 use Rattle.cb_lanes.proofs.EasyLines.{IsIdleAmong, empty_at_rest, line_at_rest, rests_at_rest}
 use Rattle.cb_lanes.proofs.EasyWorlds.{crashed_nodes, easy_line, easy_world, few_answers, few_made}
+use Rattle.cb_lanes.proofs.Lists.{all_last, all_push}
 use Rattle.cb_lanes.proofs.OwnPins.{line_tells}
 use Rattle.cb_lanes.proofs.ScopesKept.{lines_own}
 use Rattle.cb_lanes.proofs.Turning.{Turning}
@@ -69,16 +70,6 @@ keep_last before (b ∷ after) a keep = subst (λ (xs : List Answer).
     ScopeSays (handle_named xs (name_of a.request)) (scope_of a.lane.n xs) a.request a.reply)
     (append_assoc before (b ∷ []) after) (keep_last (before ++ b ∷ []) after a keep.1)
 
-all_last : (P : Answer → Type 0) (answers : List Answer) (a : Answer) → AllByRecursion P (answers ++ a ∷ [])
-    → P a
-all_last P [] a all = all.0
-all_last P (b ∷ answers) a all = all_last P answers a all.1
-
-all_push : (P : Answer → Type 0) (answers : List Answer) (a : Answer) → AllByRecursion P answers → P a
-    → AllByRecursion P (answers ++ a ∷ [])
-all_push P [] a all is = (is, tt)
-all_push P (b ∷ answers) a all is = (all.0, all_push P answers a all.1 is)
-
 -- ---- calm
 
 calm_by : (r : Reply) → IsEased r → ((n : ℕ) → r ≡ answer.Full n → ⊥) → IsCalmReply r
@@ -105,24 +96,24 @@ never_full handles before answers lane request n line more m = line
 -- ---- one line more
 
 module _ (side : Side) (s : Script) (i : ℕ) (later : List ℕ) (answers : List Answer) (l : Line) (r : Reply)
-    (w between rested : WorldState) (names kept : Names)
+    (w between rested : WorldState) (names kept : KeptNames)
     (script : IsScript s) (ease : IsAtEase s) (lt : i < length s.lines) (at : l ≡ get_or s.lines i l)
     (so_far : map asked answers ≡ take i s.lines)
     (along : Along side s.config (l.lane.n ∷ later) answers w names)
     (then : Along side s.config later (answers ++ answer_to l l.request r ∷ []) rested kept)
     (eases : Eases s answers w) where
-  abbrev pub told : Answer
-  told = answer_to l l.request r
+  abbrev pub next_answer : Answer
+  next_answer = answer_to l l.request r
 
   form : IsRequest s.config.nodes l.request × (l.lane.n ≤ 15)
   form = line_form s.config.nodes [] s.lines i l script.lines lt at
 
-  by_map : IsMapReply 1 s.config.handles (calls_of answers) (called answers told)
-  by_map = follow_last 1 s.config.handles [] (calls_of answers) (called answers told)
-      (subst (Follow 1 s.config.handles []) (calls_of-push answers told) then.follow)
+  by_map : IsMapReply 1 s.config.handles (calls_of answers) (called answers next_answer)
+  by_map = follow_last 1 s.config.handles [] (calls_of answers) (called answers next_answer)
+      (subst (Follow 1 s.config.handles []) (calls_of-push answers next_answer) then.follow)
 
   is_line : IsReplyOf l.request r
-  is_line = all_last HasLineReply answers told then.answered
+  is_line = all_last HasLineReply answers next_answer then.answered
 
   easy : MakesEasy w.desk w.far
   easy = easy_world side s i (l.lane.n ∷ later) answers w names script ease along so_far eases.rest eases.young
@@ -138,7 +129,7 @@ module _ (side : Side) (s : Script) (i : ℕ) (later : List ℕ) (answers : List
   handle_ready : (h : ℕ) → request_handle names l.request ≡ Some h → h < w.desk.settings.handles
   handle_ready h e = by (name_of l.request) e
     where
-      by : (o : Option (List ℕ)) → handle_at names o ≡ Some h → h < w.desk.settings.handles
+      by : (o : Option (List ℕ)) → kept_for names o ≡ Some h → h < w.desk.settings.handles
       by None e = absurd (let z : None ≡ Some h = e in cc)
       by (Some name) e = ready name h e
 
@@ -170,14 +161,14 @@ module _ (side : Side) (s : Script) (i : ℕ) (later : List ℕ) (answers : List
   telling turning step calm = record {
     map = by_map.reply;
     right = by_map.unmade;
-    says = keep_last [] answers told then.keep;
+    says = keep_last [] answers next_answer then.keep;
     line = is_line;
     calm = calm;
     pins = λ name named maker some.
         let low = form.1 in let own = lines_own l.lane.n later in
         line_tells side s.config.nodes i s.lines answers w between (kept_number names) (l.lane.n ∷ later) l.lane.n
         script.lines so_far along.scopes turning some (omega (arith, low)) (omega (arith, own)) along.kept ready
-        l.request r (request_handle names l.request) (λ q e. ap (handle_at names) (sym e)) step name named maker;
+        l.request r (request_handle names l.request) (λ q e. ap (kept_for names) (sym e)) step name named maker;
     apart = λ p q h x y. along.scopes.apart p q h (sym (along.kept p) ∙ x) (sym (along.kept q) ∙ y);
     within = λ q h e. let n = along.within q h (sym (along.kept q) ∙ e) in
         let made = along.beside.made in omega (arith, n, made);
@@ -193,18 +184,18 @@ module _ (side : Side) (s : Script) (i : ℕ) (later : List ℕ) (answers : List
       r between)
       → (sound : IsSoundWorld between)
       → Rests (lines_by l.lane.n later) l.lane.n between rested
-      → Eases s (answers ++ told ∷ []) rested
+      → Eases s (answers ++ next_answer ∷ []) rested
   eases_more step sound rests = record {
     rest = rests_at_rest (crashed_nodes s) (lines_by l.lane.n later) l.lane.n between rested rests
         (line_at_rest (crashed_nodes s) side l.lane.n (request_handle names l.request) l.request w between r
         (easy_line s i l ease lt at form.0) step eases.rest);
     young = λ h.
-        let z = version_more s.config.handles (calls_of answers) (called answers told) h (length answers) by_map
+        let z = version_more s.config.handles (calls_of answers) (called answers next_answer) h (length answers) by_map
         (eases.young h) in
-        let same = ap (λ (cs : List Called). version_had (value cs h)) (calls_of-push answers told) in
-        omega (arith, z, same, length_push answers told);
-    calm = all_push (λ (a : Answer). IsCalmReply a.reply) answers told eases.calm calm;
-    alone = λ lane has. alone_push s.lines s.config.handles lane answers told
+        let same = ap (λ (cs : List Called). version_had (value cs h)) (calls_of-push answers next_answer) in
+        omega (arith, z, same, length_push answers next_answer);
+    calm = all_push (λ (a : Answer). IsCalmReply a.reply) answers next_answer eases.calm calm;
+    alone = λ lane has. alone_push s.lines s.config.handles lane answers next_answer
         (telling turning step calm) has (eases.alone lane has);
   }
     where
@@ -222,7 +213,7 @@ module _ (side : Side) (s : Script) (i : ℕ) (later : List ℕ) (answers : List
           along.sound few_turns along.lone easy (easy_line s i l ease lt at form.0) handle_ready step)
 
 pub eases_answered : (side : Side) (s : Script) (i : ℕ) (later : List ℕ) (answers all : List Answer) (l : Line)
-    (w rested : WorldState) (names kept : Names) → IsScript s → IsAtEase s → i < length s.lines
+    (w rested : WorldState) (names kept : KeptNames) → IsScript s → IsAtEase s → i < length s.lines
     → l ≡ get_or s.lines i l → map asked answers ≡ take i s.lines
     → Along side s.config (l.lane.n ∷ later) answers w names → Along side s.config later all rested kept
     → LineAnswered side l later w names answers rested kept all → Eases s answers w → Eases s all rested

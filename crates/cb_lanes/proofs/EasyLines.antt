@@ -1,8 +1,9 @@
 -- What a script at ease keeps from line to line: no batch is leaving and no pair is joining, no
 -- node has crashed but those that its lines name, and no seat has an open write.
-use Rattle.std.proofs.Common.{◌≡◌, ℕ, true, false, List, replicate, Contains, Option, None, Some, refl, sym, ap, ◌∙◌, subst, inl, inr, eq-eqb}
+use Rattle.std.proofs.Common.{◌≡◌, ℕ, true, false, List, replicate, Contains, Option, Some, refl, sym, ap, ◌∙◌, subst, inl, inr, eq-eqb}
 use Rattle.std.proofs.lemmas.Bool.{cases_lt, false≢true}
 use Rattle.std.proofs.lemmas.List.{get_or-replicate, get_or_past}
+use Rattle.std.proofs.lemmas.Option.{same_Some, none-some}
 use Rattle.cb_types.specs.declared.config.Config.{Config}
 use Rattle.cb_types.specs.declared.job.Job.{Job}
 use Rattle.cb_types.specs.declared.job.Job.TheVariants as job
@@ -17,11 +18,11 @@ use Rattle.cb_world.specs.World.{WorldState, empty_world}
 use Rattle.cb_world.proofs.Laws.{seat_beside}
 use Rattle.cb_core.specs.Pinning.{PinStep, UnpinStep, given, not_pinned, refused, scope_full, taken}
 use Rattle.cb_core.proofs.Laws.{CrashedAmong, IsIdle, IsWholeJob, NamesAmong, none_crashed, pin_far, turn_crashed, turn_idle, unpin_far}
-use Rattle.cb_lanes.specs.GivingBack.{GivesAll, Rests}
+use Rattle.cb_lanes.specs.GivingBack.{Rests}
 use Rattle.cb_lanes.specs.LineGoes.{job_of}
 use Rattle.cb_lanes.specs.LineStep.{LineStep}
 use Rattle.cb_lanes.specs.declared.side.Side.{Side}
-use Rattle.cb_lanes.proofs.LineKeeps.{IsKeptByTurns, IsObjectJob, MayBe, all_kept, line_kept, rests_kept}
+use Rattle.cb_lanes.proofs.LineKeeps.{IsKeptByTurns, IsObjectJob, MayBe, line_kept, rests_kept}
 use Rattle.cb_lanes.proofs.Lone.{turn_seats}
 use Rattle.cb_lanes.proofs.LooseSpans.{NoClaims}
 
@@ -105,14 +106,8 @@ job_easy : (nodes : List ℕ) (request : Request) → IsEasyLine nodes request
     → MayBe (IsEasyJob nodes) request
 job_easy nodes request easy = by request easy.step easy.crash
   where
-    no_job : (j : Job) → None ≡ Some j → ⊥
-    no_job j e = cc
-
-    same_job : (i j : Job) → Some i ≡ Some j → i ≡ j
-    same_job i j e = cc
-
     is : (i j : Job) → IsEasyJob nodes i → Some i ≡ Some j → IsEasyJob nodes j
-    is i j x e = subst (IsEasyJob nodes) (same_job i j e) x
+    is i j x e = subst (IsEasyJob nodes) (same_Some i j e) x
 
     by : (q : Request) → is_step q ≡ false → ((n : ℕ) → is_crash n q ≡ true → Contains nodes n)
         → (j : Job) → job_of q ≡ Some j → IsEasyJob nodes j
@@ -130,7 +125,7 @@ job_easy nodes request easy = by request easy.step easy.crash
     by Patch step crash j e = absurd (false≢true (sym step))
     by Merge step crash j e = absurd (false≢true (sym step))
     by Part step crash j e = absurd (false≢true (sym step))
-    by q step crash j e = absurd (no_job j e)
+    by q step crash j e = absurd (none-some j e)
 
 pub job_whole : (nodes : List ℕ) (request : Request) → IsEasyLine nodes request
     → MayBe IsWholeJob request
@@ -148,10 +143,6 @@ line_at_rest nodes side seat handle request w new r easy =
 pub rests_at_rest : (nodes : List ℕ) (left seat : ℕ) (w new : WorldState) → Rests left seat w new
     → IsIdleAmong nodes w → IsIdleAmong nodes new
 rests_at_rest nodes = rests_kept (IsIdleAmong nodes) (IsEasyJob nodes) (rest_kept nodes)
-
-pub all_at_rest : (nodes : List ℕ) (seat : ℕ) (w new : WorldState) → GivesAll seat w new
-    → IsIdleAmong nodes w → IsIdleAmong nodes new
-all_at_rest nodes = all_kept (IsIdleAmong nodes) (IsEasyJob nodes) (rest_kept nodes)
 
 -- so it is at first
 pub empty_at_rest : (nodes : List ℕ) (c : Config) → IsIdleAmong nodes (empty_world c)

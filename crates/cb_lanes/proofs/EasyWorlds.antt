@@ -22,7 +22,7 @@ use Rattle.cb_core.proofs.Laws.{MakesEasy, enough_roomy, never_gone}
 use Rattle.cb_lanes.specs.declared.side.Side.{Side}
 use Rattle.cb_lanes.specs.Asked.{asked}
 use Rattle.cb_lanes.specs.GivingBack.{lines_by}
-use Rattle.cb_lanes.specs.Names.{Names, kept_number}
+use Rattle.cb_lanes.specs.Names.{KeptNames, kept_number}
 use Rattle.cb_lanes.specs.Scopes.{Scope}
 use Rattle.cb_lanes.proofs.AloneLines.{any_at, count_front, makes_few, scope_none}
 use Rattle.cb_lanes.proofs.Along.{Along}
@@ -80,7 +80,7 @@ easy_line s i l ease lt at is = record {
 
 -- ---- and so are the worlds between lines
 
-module _ (side : Side) (s : Script) (i : ℕ) (later : List ℕ) (answers : List Answer) (w : WorldState) (names : Names)
+module _ (side : Side) (s : Script) (i : ℕ) (later : List ℕ) (answers : List Answer) (w : WorldState) (names : KeptNames)
     (script : IsScript s) (ease : IsAtEase s) (along : Along side s.config later answers w names)
     (so_far : map asked answers ≡ take i s.lines) where
   -- a lane without a pin line has no pins

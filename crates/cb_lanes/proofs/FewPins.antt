@@ -1,21 +1,19 @@
 -- How many pins the seats have, by the lanes that pin.
-use Rattle.std.proofs.Common.{◌≡◌, ◌≢◌, ℕ, zero, suc, ◌+◌, ◌*◌, ◌<◌, ◌≤◌, Bool, List, [], ◌∷◌, length, get_or, refl, ap, arith, if◌then◌else◌}
+use Rattle.std.proofs.Common.{◌≡◌, ◌≢◌, ℕ, zero, suc, ◌+◌, ◌*◌, ◌<◌, ◌≤◌, Bool, List, [], ◌∷◌, length, get_or, refl, ap, arith}
 use native.Mathlib.Numerals.{unary_clauses}
 use Rattle.std.specs.List.{count_by, range_with_len, sum_by}
 use Rattle.std.proofs.lemmas.List.Sums.{sum_by-cons}
 use Rattle.cb_world.specs.Seats.{SeatState}
+use Rattle.cb_lanes.proofs.Lists.{one_if}
 
-abbrev number_if : Bool → ℕ
-number_if b = if b then 1 else 0
-
-abbrev pins_in : SeatState → ℕ
+abbrev pub pins_in : SeatState → ℕ
 pins_in seat = length seat.pins
 
 -- Of so many seats each has as many pins as it may where it pins, and none else; the seats behind
 -- them have none.
 pub record AreFew (n from : ℕ) (pins : ℕ → Bool) (seats : List SeatState) (idle : SeatState) : Type 0 where
   pub few : (k : ℕ) → k < n → k < length seats
-      → length (get_or seats k idle).pins ≤ 16 * number_if (pins (from + k))
+      → length (get_or seats k idle).pins ≤ 16 * one_if (pins (from + k))
   pub none : (k : ℕ) → n ≤ k → k < length seats → length (get_or seats k idle).pins ≡ 0
 
 pub pins_few : (n from : ℕ) (pins : ℕ → Bool) (seats : List SeatState) (idle : SeatState)
@@ -33,16 +31,16 @@ pins_few zero from pins (seat ∷ seats) idle are =
 pins_few (suc n) from pins (seat ∷ seats) idle are =
     let here = are.few 0 (omega arith) (omega arith) in
     let at : from + 0 ≡ from = omega arith in
-    let one : number_if (pins (from + 0)) ≡ number_if (pins from) = ap (λ (k : ℕ). number_if (pins k)) at in
+    let one : one_if (pins (from + 0)) ≡ one_if (pins from) = ap (λ (k : ℕ). one_if (pins k)) at in
     let rest = pins_few n (from + 1) pins seats idle (record {
       few = λ k low below.
           let f = are.few (suc k) (omega (arith, low)) (omega (arith, below)) in
           let e : from + suc k ≡ from + 1 + k = omega arith in
-          let same = ap (λ (j : ℕ). number_if (pins j)) e in omega (arith, f, same);
+          let same = ap (λ (j : ℕ). one_if (pins j)) e in omega (arith, f, same);
       none = λ k high below. are.none (suc k) (omega (arith, high)) (omega (arith, below));
     }) in
     let all = sum_by-cons pins_in seat seats in
-    let more = sum_by-cons (λ (k : ℕ). number_if (pins k)) from (range_with_len (from + 1) n) in
+    let more = sum_by-cons (λ (k : ℕ). one_if (pins k)) from (range_with_len (from + 1) n) in
     let range : range_with_len from (suc n) ≡ from ∷ range_with_len (from + 1) n = simp unary_clauses refl in
     let count = ap (count_by pins) range in
     omega (arith, here, one, rest, all, more, count)

@@ -5,13 +5,9 @@ use Rattle.cb_world.specs.declared.entry.Entry.{Entry}
 use Rattle.cb_rule.specs.declared.view.Seen.{Seen}
 use Rattle.cb_rule.specs.declared.view.View.{View}
 use Rattle.cb_rule.specs.Promised.{EntriesStand, Wrote}
-use Rattle.cb_record.specs.Rises.{HasAllOf, HasVersion}
+use Rattle.cb_record.specs.Rises.{HasVersion}
 use Rattle.cb_record.proofs.Laws.{has_right}
 use Rattle.cb_lanes.specs.Rising.{FreedIsLast}
-
-pub freed_less : (v w : View) → HasAllOf v w → FreedIsLast w → FreedIsLast v
-freed_less v w all freed_last h last n freed gone has =
-    freed_last h last n freed (all h last true gone) (all h n freed has)
 
 true_false : true ≡ false → ⊥
 true_false e = cc

@@ -21,7 +21,7 @@ use Rattle.cb_core.specs.declared.event.Event.{Event}
 use Rattle.cb_core.specs.Pinning.{PinStep, scope_full, refused, taken, UnpinStep, not_pinned, given, IsPinGiven}
 use Rattle.cb_core.specs.Step.{Leads}
 use Rattle.cb_core.proofs.Laws.{pin_step_sound, unpin_step_sound, known_same}
-use Rattle.cb_lanes.specs.GivingBack.{end_of, GivesAll}
+use Rattle.cb_lanes.specs.GivingBack.{unpin_event, GivesAll}
 use Rattle.cb_lanes.proofs.PinLists.{newest_last, none_last, remove_last}
 
 -- ---- what stays
@@ -135,7 +135,7 @@ pub record Gave (seat count : ℕ) (w new : WorldState) : Type 0 where
   pub fewer : length (pins_of_seat new.seats seat) + count ≡ length (pins_of_seat w.seats seat)
 
 gave_by : (seat : ℕ) (pins : List Pin) (w new : WorldState) → IsSoundWorld w → seat < 64
-    → Leads w (map (end_of seat) pins) (replicate (length pins) answer.Done) new
+    → Leads w (map (unpin_event seat) pins) (replicate (length pins) answer.Done) new
     → Gave seat (length pins) w new
 gave_by seat [] w new sound lt leads = record {
   stands = stands_same seat w new sound leads;
@@ -169,7 +169,7 @@ pub gives_all : (seat : ℕ) (w new : WorldState) → IsSoundWorld w → seat < 
 gives_all seat w new sound lt leads =
     let pins = pins_of_seat w.seats seat in
     let gave = gave_by seat (reverse pins) w new sound lt
-    (subst (λ (n : ℕ). Leads w (map (end_of seat) (reverse pins)) (replicate n answer.Done) new)
+    (subst (λ (n : ℕ). Leads w (map (unpin_event seat) (reverse pins)) (replicate n answer.Done) new)
     (sym (length-reverse pins)) leads) in
     let fewer = gave.fewer in let same = length-reverse pins in
     (gave.stands, nil_from_length (pins_of_seat new.seats seat) (omega (arith, fewer, same)))
@@ -189,14 +189,14 @@ gave_last seat w new front pin r sound lt e (not_pinned none is same) =
     (subst (λ (ps : List Pin). NoneOn ps pin.handle) e none)).1 refl)
 gave_last seat w new front pin r sound lt e (given is t) = record {
   goes = λ end leads. subst (λ (ps : List Pin).
-      Leads w (map (end_of seat) (reverse ps)) (replicate (length ps) answer.Done) end) (sym e)
+      Leads w (map (unpin_event seat) (reverse ps)) (replicate (length ps) answer.Done) end) (sym e)
       (subst (λ (es : List Event). Leads w es (replicate (length (front ++ pin ∷ [])) answer.Done) end)
-      (sym (ap (map (end_of seat)) (reverse-append front (pin ∷ []))))
-      (subst (λ (n : ℕ). Leads w (end_of seat pin ∷ map (end_of seat) (reverse front))
+      (sym (ap (map (unpin_event seat)) (reverse-append front (pin ∷ []))))
+      (subst (λ (n : ℕ). Leads w (unpin_event seat pin ∷ map (unpin_event seat) (reverse front))
       (replicate n answer.Done) end) (sym long) (
         new,
         subst (λ (q : Reply). UnpinStep seat pin.handle w q new) is (given is t),
-        subst (λ (ps : List Pin). Leads new (map (end_of seat) (reverse ps))
+        subst (λ (ps : List Pin). Leads new (map (unpin_event seat) (reverse ps))
             (replicate (length ps) answer.Done) end) own leads,
       )));
   fewer = ap length e ∙ length_push front pin ∙ sym (ap (λ (ps : List Pin). length ps + 1) own);

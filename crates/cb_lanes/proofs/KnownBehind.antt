@@ -1,5 +1,5 @@
 -- The record of a lane's pass knows the objects of the names that its lines have handles of.
-use Rattle.std.proofs.Common.{◌≡◌, ℕ, Bool, true, false, if◌then◌else◌, List, [], ◌∷◌, ◌++◌, Option, None, Some, sym, ap, ◌∙◌, subst}
+use Rattle.std.proofs.Common.{◌≡◌, ℕ, Bool, true, false, if◌then◌else◌, List, [], ◌∷◌, ◌++◌, Option, None, Some, sym, ◌∙◌, subst}
 use Rattle.std.specs.Str.{bytes_eq}
 use Rattle.cb_types.specs.declared.answer.Answer.{Answer}
 use Rattle.cb_types.specs.declared.config.Config.{Config}
@@ -19,6 +19,7 @@ use Rattle.cb_lanes.proofs.LaneScopes.{number_more}
 use Rattle.cb_lanes.proofs.LineParts.{adds_knows, line_adds}
 use Rattle.cb_lanes.proofs.LinesBack.{made_known}
 use Rattle.cb_lanes.proofs.NamesAmong.{among_known}
+use Rattle.std.proofs.lemmas.Option.{same_Some}
 
 -- each name that has a handle behind these answers is of an object that the record knows
 abbrev pub KnowsBehind : List Named → List Answer → View → Type 0
@@ -33,10 +34,6 @@ pub knows_named : (names : List Named) (before : List Answer) (v : View) (o : Op
 knows_named names before v (Some name) h knows is = knows name h is
 knows_named names before v None h knows is = absurd cc
 
-abbrev number_in : Option ℕ → ℕ
-number_in (Some k) = k
-number_in None = 0
-
 module _ (c : Config) where
   made_here : (o : Option ℕ) (q : Request) (r : Reply) (name : List ℕ) (k : ℕ) (v m : View)
       → LineGoes (goes_in c) o q v r m → handle_made name q r ≡ Some k → Knows k m
@@ -44,7 +41,7 @@ module _ (c : Config) where
       by (bytes_eq made name) is
     where
       by : (b : Bool) → (if b then Some handle.n else None) ≡ Some k → Knows k m
-      by true e = subst (λ (n : ℕ). Knows n m) (ap number_in e)
+      by true e = subst (λ (n : ℕ). Knows n m) (same_Some handle.n k e)
           (made_known c bytes handle version v m goes)
       by false e = absurd cc
   made_here o (Make made bytes) r name k v m goes is = absurd cc

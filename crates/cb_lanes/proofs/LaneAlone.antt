@@ -2,6 +2,7 @@
 -- that lacks something.
 use Rattle.std.proofs.Common.{◌≡◌, ◌⊎◌, ℕ, Bool, true, false, ◌&&◌, ◌||◌, List, [], ◌∷◌, ◌++◌, Option, None, Some, inl, inr, sym, refl, ap, ◌∙◌, subst, eq-eqb, if◌then◌else◌}
 use Rattle.std.proofs.lemmas.Bool.{cases_Bool}
+use Rattle.std.proofs.lemmas.Option.{none-some}
 use Rattle.cb_types.specs.declared.answer.Answer.{Answer}
 use Rattle.cb_types.specs.declared.config.Config.{Config}
 use Rattle.cb_types.specs.Requests.{name_of}
@@ -25,7 +26,6 @@ use Rattle.cb_lanes.proofs.LinesBack.{first_assoc, lines_add}
 use Rattle.cb_lanes.proofs.NamesAmong.{among_known}
 use Rattle.cb_lanes.proofs.OwnLine.{LeadsTo}
 use Rattle.cb_lanes.proofs.OwnLines.{IsLaneLine, LineStepsOn, line_steps}
-use Rattle.cb_lanes.proofs.OwnObjects.{none_some_of}
 use Rattle.cb_lanes.proofs.OwnSays.{goes_own}
 use Rattle.cb_lanes.proofs.OwnStands.{LanePinsStand, LaneStands, ObjectStands}
 use Rattle.cb_lanes.proofs.OwnSteps.{Grew, OwnMore, grew_by, line_own}
@@ -164,7 +164,7 @@ module _ (c : Config) (lines : List Line) (lane : ℕ) (names : List Named) wher
   begins v none fresh knows own = record {
     fresh = fresh;
     knows = λ p h is. among_known names v p h knows is;
-    apart = λ p q h mine at there. absurd (none_some_of h (sym (own p mine) ∙ at));
+    apart = λ p q h mine at there. absurd (none-some h (sym (own p mine) ∙ at));
     objects = λ p mine. subst (λ (o : Option ℕ). ObjectStands o v None) (sym (own p mine)) refl;
     pins = subst (LanePinsStand lines lane (λ p. handle_behind names [] (Some p)) v.written [])
         (sym none) tt;

@@ -1,8 +1,8 @@
 -- The lines of a lane of a script are such as are known of a lane's lines.
-use Rattle.std.proofs.Common.{◌≡◌, ◌⊎◌, ℕ, ◌≤◌, Bool, true, false, ◌&&◌, ◌||◌, List, [], ◌∷◌, ◌++◌, map, Option, None, Some, inl, inr, sym, refl, ap, ◌∙◌, subst, eq-eqb, nat_eq, append_assoc, arith, if◌then◌else◌}
+use Rattle.std.proofs.Common.{◌≡◌, ◌⊎◌, ℕ, ◌≤◌, Bool, true, false, ◌&&◌, List, [], ◌∷◌, ◌++◌, map, Option, None, Some, inl, inr, sym, refl, ap, ◌∙◌, subst, eq-eqb, nat_eq, append_assoc, arith, if◌then◌else◌}
 use Rattle.std.specs.List.{AllByRecursion, list_any}
 use Rattle.std.specs.Str.{bytes_eq}
-use Rattle.std.proofs.lemmas.Bool.{cases_Bool, eqb-true, true≢false}
+use Rattle.std.proofs.lemmas.Bool.{cases_Bool, eqb-true, true≢false, or_parts}
 use Rattle.std.proofs.lemmas.List.{append-nil, map_push}
 use Rattle.std.proofs.lemmas.List.Elements.{filter-append}
 use Rattle.std.proofs.lemmas.Slice.Eq.{bytes_eq-Decides}
@@ -27,29 +27,19 @@ use Rattle.cb_lanes.specs.Passing.{goes_in}
 use Rattle.cb_lanes.proofs.AloneLines.{maker_of, one_maker}
 use Rattle.cb_lanes.proofs.ByAsk.{line_less}
 use Rattle.cb_lanes.proofs.LaneAlone.{AreLaneLines, LaneGoesOwn, lane_alone_until}
+use Rattle.cb_lanes.proofs.Lists.{all_push, heads_same}
 use Rattle.cb_lanes.proofs.OwnLines.{IsLaneLine}
 use Rattle.cb_lanes.proofs.OwnSays.{goes_own}
 use Rattle.cb_lanes.proofs.OwnTold.{ask_tells}
-
-first_line : (l k : Line) (xs ys : List Line) → l ∷ xs ≡ k ∷ ys → (l ≡ k) × (xs ≡ ys)
-first_line l k xs ys e = (ap (λ (z : List Line). head_or l z) e, ap (λ (z : List Line). rest_of z) e)
-  where
-    head_or : Line → List Line → Line
-    head_or x [] = x
-    head_or x (y ∷ ys) = y
-
-    rest_of : List Line → List Line
-    rest_of [] = []
-    rest_of (y ∷ ys) = ys
 
 no_line : (l : Line) (xs : List Line) → l ∷ xs ≡ [] → ⊥
 no_line l xs e = absurd cc
 
 -- ---- names that are made
-made_left : (front back : List Line) (k : ℕ) (p : List ℕ) → IsNameMade front k p → IsNameMade (front ++ back) k p
-made_left [] back k p made = absurd made
-made_left (l ∷ front) back k p (inl x) = inl x
-made_left (l ∷ front) back k p (inr x) = inr (made_left front back k p x)
+pub made_in_front : (front back : List Line) (k : ℕ) (p : List ℕ) → IsNameMade front k p → IsNameMade (front ++ back) k p
+made_in_front [] back k p made = absurd made
+made_in_front (l ∷ front) back k p (inl x) = inl x
+made_in_front (l ∷ front) back k p (inr x) = inr (made_in_front front back k p x)
 
 made_at : (front back : List Line) (l : Line) (p : List ℕ) → MakesName l.request p
     → IsNameMade (front ++ l ∷ back) l.lane.n p
@@ -104,20 +94,11 @@ made_among lane (l ∷ front) k p made = by (cases_Bool (nat_eq l.lane.n lane)) 
     ]
     by (inr e) rest = inr (rest (subst (λ (ls : List Line). IsNameMade ls k p) (line_past lane l front e) made))
 
-either : (a b : Bool) → (a || b) ≡ false → (a ≡ false) × (b ≡ false)
-either true b e = absurd (true≢false e)
-either false b e = (refl, e)
-
 any_off : (t : Line → Bool) (front back : List Line) (l : Line) → list_any t (front ++ l ∷ back) ≡ false
     → t l ≡ false
-any_off t [] back l none = (either (t l) (list_any t back) none).0
+any_off t [] back l none = (or_parts (t l) (list_any t back) none).0
 any_off t (k ∷ front) back l none =
-    any_off t front back l (either (t k) (list_any t (front ++ l ∷ back)) none).1
-
-all_more : (P : Answer → Type 0) (xs : List Answer) (x : Answer) → AllByRecursion P xs → P x
-    → AllByRecursion P (xs ++ x ∷ [])
-all_more P [] x all one = (one, tt)
-all_more P (y ∷ xs) x all one = (all.0, all_more P xs x all.1 one)
+    any_off t front back l (or_parts (t k) (list_any t (front ++ l ∷ back)) none).1
 
 module _ (nodes : ℕ) (all : List Line) (lane : ℕ) (names : List Named) (has : HasOwnLines all lane)
     (apart : (p : List ℕ) → is_maker all lane p ≡ true → handle_among names p ≡ None) where
@@ -148,7 +129,7 @@ module _ (nodes : ℕ) (all : List Line) (lane : ℕ) (names : List Named) (has 
 
       pinned : (p : List ℕ) → a.request ≡ Pin p → KnowsName front lane p → is_maker all lane p ≡ true
       pinned p e (inl made) = maker_of all lane p (subst (λ (ls : List Line). IsNameMade ls lane p) (sym split)
-          (made_left front (asked a ∷ back) lane p made))
+          (made_in_front front (asked a ∷ back) lane p made))
       pinned p e (inr made) = absurd (true≢false
           (sym (λ i. (eq-eqb a.lane.n lane same i) && (shared i))
           ∙ any_off (λ l. nat_eq l.lane.n lane && pins_shared all l.request) front back (asked a)
@@ -157,7 +138,7 @@ module _ (nodes : ℕ) (all : List Line) (lane : ℕ) (names : List Named) (has 
         where
           shared : pins_shared all a.request ≡ true
           shared = ap (pins_shared all) e ∙ maker_of all 0 p (subst (λ (ls : List Line). IsNameMade ls 0 p) (sym split)
-              (made_left front (asked a ∷ back) 0 p made))
+              (made_in_front front (asked a ∷ back) 0 p made))
 
   ends : (before after : List Answer) → map asked after ≡ [] → AreLaneLines all lane names before after
   ends before [] none = tt
@@ -182,7 +163,7 @@ module _ (nodes : ℕ) (all : List Line) (lane : ℕ) (names : List Named) (has 
           → AllByRecursion HasLineReply after → Rest → AreLaneLines all lane names before after
       one [] is e line rest = absurd (no_line l (of_lane lane back) (sym is))
       one (a ∷ after) is e line rest =
-          let z = first_line (asked a) l (map asked after) (of_lane lane back) is in
+          let z = heads_same (asked a) l (map asked after) (of_lane lane back) is in
           let same : a.lane.n ≡ lane = ap (λ (k : Line). k.lane.n) z.0 ∙ eqb-true l.lane.n lane e in (
             same,
             one_line front back before a (split ∙ ap (λ (k : Line). front ++ k ∷ back) (sym z.0))
@@ -192,7 +173,7 @@ module _ (nodes : ℕ) (all : List Line) (lane : ℕ) (names : List Named) (has 
                 (map_push asked before a ∙ (λ i. were i ++ z.0 i ∷ [])
                 ∙ sym (filter-append (λ k. nat_eq k.lane.n lane) front (l ∷ [])
                 ∙ ap (λ (ls : List Line). of_lane lane front ++ ls) (line_hit lane l [] e)))
-                z.1 (all_more (λ (b : Answer). b.lane.n ≡ lane) before a of same) line.1,
+                z.1 (all_push (λ (b : Answer). b.lane.n ≡ lane) before a of same) line.1,
           )
 
       by : (nat_eq l.lane.n lane ≡ true) ⊎ (nat_eq l.lane.n lane ≡ false) → Rest

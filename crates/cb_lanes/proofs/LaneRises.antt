@@ -8,7 +8,7 @@ use Rattle.cb_world.specs.declared.entry.Entry.{Entry}
 use Rattle.cb_rule.specs.declared.view.View.{View}
 use Rattle.cb_rule.specs.Lists.{Has}
 use Rattle.cb_rule.specs.Records.{seen_of}
-use Rattle.cb_rule.specs.Steps.{joined, left_of, right_of}
+use Rattle.cb_rule.specs.Steps.{joined, right_of}
 use Rattle.cb_model.specs.Called.{Called, calls_behind}
 use Rattle.cb_record.specs.Rises.{HasAllOf}
 use Rattle.cb_record.proofs.Laws.{has_left, has_right}
@@ -50,13 +50,10 @@ lane_alone c names nodes lane lines answers v w none (m, goes, left) are is all 
     }
 
 -- ---- seats that are split and joined
-has_seen : (e : Entry) (es : List Entry) → Has e es → Has (seen_of e) (map seen_of es)
+pub has_seen : (e : Entry) (es : List Entry) → Has e es → Has (seen_of e) (map seen_of es)
 has_seen e [] has = absurd has
 has_seen e (x ∷ es) (inl is) = inl (ap seen_of is)
 has_seen e (x ∷ es) (inr has) = inr (has_seen e es has)
-
-pub has_kept : (given : ℕ) (v : View) → HasAllOf v (left_of given v)
-has_kept given v h n freed has = has
 
 pub has_split : (given : ℕ) (v : View) → HasAllOf v (right_of given v)
 has_split given v h n freed (inl x) = inr (

@@ -8,7 +8,6 @@ use Rattle.std.proofs.lemmas.List.Sums.{fold_push, sum_by-cons}
 use Rattle.std.proofs.lemmas.Slice.Eq.{bytes_eq-Decides}
 use Rattle.cb_types.specs.declared.answer.Answer.{Answer}
 use Rattle.cb_types.specs.declared.config.Config.{Config}
-use Rattle.cb_types.specs.declared.job.Job.{Job}
 use Rattle.cb_types.specs.declared.job.Job.TheVariants as job
 use Rattle.cb_types.specs.declared.request.Request.{Request}
 use Rattle.cb_types.specs.declared.request.Request.TheVariants.{Make, Read, Write, Free, Pin, Peek, Unpin, Filter, Leave}
@@ -37,13 +36,9 @@ use Rattle.cb_lanes.specs.Scopes.{CallSays, KeepScopes, NamedPin, PeekSays, Pinn
 use Rattle.cb_lanes.specs.Scoped.{AreOneToOne, IsMadeAs, LaneScoped}
 use Rattle.cb_lanes.proofs.LaneRises.{answers_of}
 use Rattle.cb_lanes.proofs.LinesBack.{first_assoc, handle_append, named_behind}
+use Rattle.cb_lanes.proofs.Lists.{one_if}
+use Rattle.cb_lanes.proofs.OwnSteps.{call_pins}
 use Rattle.cb_lanes.proofs.PinLists.{AreHandlesApart, name_cases}
-
-abbrev one_if : Bool → ℕ
-one_if b = cond b 1 0
-
-abbrev if_one : Bool → ℕ
-if_one b = if b then 1 else 0
 
 -- ---- the pins of a record beside the scope of its lane
 -- a pin is on this name, at this version
@@ -126,15 +121,15 @@ module _ (number : List ℕ → Option ℕ) (apart : AreHandlesApart number) (na
   named_count (named ∷ older) [] are = absurd are
   named_count (named ∷ older) (p ∷ pins) (is, are) = let rest = named_count older pins are in
       let one : named_on name (named ∷ older)
-      ≡ if_one (bytes_eq named.name name) + named_on name older =
-      sum_by-cons (λ (pin : NamedPin). if_one (bytes_eq pin.name name)) named older in
+      ≡ one_if (bytes_eq named.name name) + named_on name older =
+      sum_by-cons (λ (pin : NamedPin). one_if (bytes_eq pin.name name)) named older in
       elim (ℕ_discrete p.handle h) [
         | yes on ↦
-            let a : if_one (bytes_eq named.name name) ≡ 1 = ap if_one (same_name named p is on) in
+            let a : one_if (bytes_eq named.name name) ≡ 1 = ap one_if (same_name named p is on) in
             let b : one_if (pins_it h p) ≡ 1 = ap one_if (eq-eqb p.handle h on) in
             omega (arith, rest, one, a, b)
         | no off ↦
-            let a : if_one (bytes_eq named.name name) ≡ 0 = ap if_one (other_name named p is off) in
+            let a : one_if (bytes_eq named.name name) ≡ 0 = ap one_if (other_name named p is off) in
             let b : one_if (pins_it h p) ≡ 0 = ap one_if (ne_eqb p.handle h off) in
             omega (arith, rest, one, a, b)
       ]
@@ -227,13 +222,6 @@ tells_full r = 0
 
 module _ (c : Config) where
   -- a call takes and gives no pin that stays
-  call_same : (j : Job) (r : Reply) (v w : View) → CallGives c j v r w → w.pins ≡ v.pins
-  call_same (job.Make bytes) r v w (d, x, is) = pins_of_same _ w is
-  call_same (job.Read handle) r v w (d, x, is) = pins_of_same _ w is
-  call_same (job.Write handle at bytes) r v w (d, x, is) = pins_of_same _ w is
-  call_same (job.Free handle) r v w (d, x, is) = pins_of_same _ w is
-  call_same j r v w (d, x, is) = pins_of_same _ w is
-
   -- ---- pins that hold a write, a free or a filter up
   told_pinned : (h : ℕ) (r : Reply) (v : View) → PinsTold h r v → PinnedSays (pins_on h v) r
   told_pinned h r v told count is =
@@ -365,32 +353,32 @@ module _ (c : Config) where
       → IsScoped number handle scope q r w
   line_scoped number apart handle scope (Make name bytes) r v w named are goes =
       quiet number handle scope (Make name bytes) r v w are
-      (call_same (job.Make bytes) r v w goes) refl tt (λ h. tt)
+      (call_pins c (job.Make bytes) r v w goes) refl tt (λ h. tt)
   line_scoped number apart handle scope Leave r v w named are goes =
       leave_scoped number handle scope r v w are goes.0 (pins_of_same _ w goes.1)
   line_scoped number apart None scope (Read name) r v w named are goes =
       still number None scope (Read name) r v w are (pins_of_same v w goes.1) refl tt
   line_scoped number apart (Some h) scope (Read name) r v w named are goes =
       still number (Some h) scope (Read name) r v w are
-      (call_same (job.Read (record { n = h })) r v w goes) refl tt
+      (call_pins c (job.Read (record { n = h })) r v w goes) refl tt
   line_scoped number apart None scope (Write name at bytes) r v w named are goes =
       still number None scope (Write name at bytes) r v w are (pins_of_same v w goes.1) refl tt
   line_scoped number apart (Some h) scope (Write name at bytes) r v w named are goes =
       still number (Some h) scope (Write name at bytes) r v w are
-      (call_same (job.Write (record { n = h }) at bytes) r v w goes) refl
+      (call_pins c (job.Write (record { n = h }) at bytes) r v w goes) refl
       (held_says number apart scope name h (named name refl) v w are r
       (write_pinned h at bytes r v w goes))
   line_scoped number apart None scope (Free name) r v w named are goes =
       still number None scope (Free name) r v w are (pins_of_same v w goes.1) refl tt
   line_scoped number apart (Some h) scope (Free name) r v w named are goes =
       still number (Some h) scope (Free name) r v w are
-      (call_same (job.Free (record { n = h })) r v w goes) refl
+      (call_pins c (job.Free (record { n = h })) r v w goes) refl
       (held_says number apart scope name h (named name refl) v w are r (free_pinned h r v w goes))
   line_scoped number apart None scope (Filter name) r v w named are goes =
       still number None scope (Filter name) r v w are (pins_of_same v w goes.1) refl tt
   line_scoped number apart (Some h) scope (Filter name) r v w named are goes =
       still number (Some h) scope (Filter name) r v w are
-      (call_same (job.Filter (record { n = h })) r v w goes) refl
+      (call_pins c (job.Filter (record { n = h })) r v w goes) refl
       (held_says number apart scope name h (named name refl) v w are r (filter_pinned h r v w goes))
   line_scoped number apart None scope (Pin name) r v w named are goes =
       still number None scope (Pin name) r v w are (pins_of_same v w goes.1)
@@ -407,32 +395,32 @@ module _ (c : Config) where
   line_scoped number apart (Some h) scope (Unpin name) r v w named are goes =
       unpin_scoped number apart scope name h (named name refl) v w are r goes
   line_scoped number apart handle scope line.Evict r v w named are goes =
-      quiet number handle scope line.Evict r v w are (call_same job.Evict r v w goes) refl tt (λ h. tt)
+      quiet number handle scope line.Evict r v w are (call_pins c job.Evict r v w goes) refl tt (λ h. tt)
   line_scoped number apart handle scope line.Begin r v w named are goes =
-      quiet number handle scope line.Begin r v w are (call_same job.Begin r v w goes) refl tt (λ h. tt)
+      quiet number handle scope line.Begin r v w are (call_pins c job.Begin r v w goes) refl tt (λ h. tt)
   line_scoped number apart handle scope line.Ship r v w named are goes =
-      quiet number handle scope line.Ship r v w are (call_same job.Ship r v w goes) refl tt (λ h. tt)
+      quiet number handle scope line.Ship r v w are (call_pins c job.Ship r v w goes) refl tt (λ h. tt)
   line_scoped number apart handle scope line.Commit r v w named are goes =
-      quiet number handle scope line.Commit r v w are (call_same job.Commit r v w goes) refl tt (λ h. tt)
+      quiet number handle scope line.Commit r v w are (call_pins c job.Commit r v w goes) refl tt (λ h. tt)
   line_scoped number apart handle scope line.Abort r v w named are goes =
-      quiet number handle scope line.Abort r v w are (call_same job.Abort r v w goes) refl tt (λ h. tt)
+      quiet number handle scope line.Abort r v w are (call_pins c job.Abort r v w goes) refl tt (λ h. tt)
   line_scoped number apart handle scope line.Pair r v w named are goes =
-      quiet number handle scope line.Pair r v w are (call_same job.Pair r v w goes) refl tt (λ h. tt)
+      quiet number handle scope line.Pair r v w are (call_pins c job.Pair r v w goes) refl tt (λ h. tt)
   line_scoped number apart handle scope line.Patch r v w named are goes =
-      quiet number handle scope line.Patch r v w are (call_same job.Patch r v w goes) refl tt (λ h. tt)
+      quiet number handle scope line.Patch r v w are (call_pins c job.Patch r v w goes) refl tt (λ h. tt)
   line_scoped number apart handle scope line.Merge r v w named are goes =
-      quiet number handle scope line.Merge r v w are (call_same job.Merge r v w goes) refl tt (λ h. tt)
+      quiet number handle scope line.Merge r v w are (call_pins c job.Merge r v w goes) refl tt (λ h. tt)
   line_scoped number apart handle scope line.Part r v w named are goes =
-      quiet number handle scope line.Part r v w are (call_same job.Part r v w goes) refl tt (λ h. tt)
+      quiet number handle scope line.Part r v w are (call_pins c job.Part r v w goes) refl tt (λ h. tt)
   line_scoped number apart handle scope line.Compact r v w named are goes =
-      quiet number handle scope line.Compact r v w are (call_same job.Compact r v w goes) refl tt (λ h. tt)
+      quiet number handle scope line.Compact r v w are (call_pins c job.Compact r v w goes) refl tt (λ h. tt)
   line_scoped number apart handle scope line.Rebuild r v w named are goes =
-      quiet number handle scope line.Rebuild r v w are (call_same job.Rebuild r v w goes) refl tt (λ h. tt)
+      quiet number handle scope line.Rebuild r v w are (call_pins c job.Rebuild r v w goes) refl tt (λ h. tt)
   line_scoped number apart handle scope (line.Crash node) r v w named are goes =
-      quiet number handle scope (line.Crash node) r v w are (call_same (job.Crash node) r v w goes) refl tt
+      quiet number handle scope (line.Crash node) r v w are (call_pins c (job.Crash node) r v w goes) refl tt
       (λ h. tt)
   line_scoped number apart handle scope (line.Join node) r v w named are goes =
-      quiet number handle scope (line.Join node) r v w are (call_same (job.Join node) r v w goes) refl tt
+      quiet number handle scope (line.Join node) r v w are (call_pins c (job.Join node) r v w goes) refl tt
       (λ h. tt)
 
 -- ---- the handles of names behind the lines

@@ -1,10 +1,9 @@
+pub mod Lists
 pub mod NamesKept
 pub mod Recounting
 pub mod LineKeeps
 pub mod Lone
 pub mod LooseSpans
-pub mod RowsBeside
-pub mod RoomBeside
 pub mod EasyLines
 pub mod CalmLines
 pub mod Stamps

@@ -10,7 +10,7 @@ use Rattle.cb_world.specs.World.{WorldState}
 use Rattle.cb_core.specs.declared.event.Event.TheVariants.{Turn}
 use Rattle.cb_core.specs.Pinning.{PinStep, UnpinStep}
 use Rattle.cb_core.specs.Step.{Leads, Step, TurnStep, held as other_holds, free}
-use Rattle.cb_lanes.specs.GivingBack.{end_of, GivesAll, Rests}
+use Rattle.cb_lanes.specs.GivingBack.{unpin_event, GivesAll, Rests}
 use Rattle.cb_lanes.specs.LineGoes.{job_of}
 use Rattle.cb_lanes.specs.LineStep.{LineStep, ObjectStep, OtherStep, TurnAt, PeekStep, not_pinned, shown, PinLine, at_once, stays_far, swapped_in}
 use Rattle.cb_lanes.specs.declared.side.Side.{Side}
@@ -93,7 +93,7 @@ module _ (P : WorldState → Type 0) (May : Job → Type 0) (k : IsKeptByTurns P
       object_kept side seat handle request w new r x p
 
   gives_kept : (seat : ℕ) (pins : List SeatPin) (replies : List Reply) (w new : WorldState)
-      → Leads w (map (end_of seat) pins) replies new → P w → P new
+      → Leads w (map (unpin_event seat) pins) replies new → P w → P new
   gives_kept seat [] [] w new leads p = same_kept w new leads p
   gives_kept seat [] (r ∷ replies) w new leads p = absurd leads
   gives_kept seat (pin ∷ pins) [] w new leads p = absurd leads

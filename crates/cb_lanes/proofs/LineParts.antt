@@ -366,11 +366,6 @@ swap_backs c h q r v d by x = look_behind h x.word x.later d (told_as (Some h) q
       happens = sym (by.happens r);
     }) (by.needs c r x.turned.0 _ x.later x.turned.1))
 
-swap_needs : (c : Config) (own : Option Job) (h : ℕ) (r : Reply) (v : View) (d : Part)
-    → (x : TurnAdds c (job.Swap (the_handle h)) (Ok r) v d)
-    → HasOne (IsTurnFor own (Some h) r) (turn_part x.turn x.more x.within x.later).turns
-swap_needs c own h r v d x = its_swap c own h r v d x
-
 read_by_swap : (h : ℕ) (name : List ℕ) → IsBySwap h (Read name)
 read_by_swap h name = record {
   enters = λ r. refl;
@@ -663,7 +658,7 @@ pin_line c h name answer.ScopeFull v w x = (
 pin_line c h name r v w x = pin_at_last c h name r v w x.1
 
 -- ---- a peek
-newest_handle : (h : ℕ) (p : Stand) (ps : List Stand) → IsNewestPin h p ps → p.handle ≡ h
+pub newest_handle : (h : ℕ) (p : Stand) (ps : List Stand) → IsNewestPin h p ps → p.handle ≡ h
 newest_handle h p [] x = absurd x
 newest_handle h p (q ∷ ps) (inl x) = ap (λ (z : Stand). z.handle) (sym x.1) ∙ x.0
 newest_handle h p (q ∷ ps) (inr x) = newest_handle h p ps x.1

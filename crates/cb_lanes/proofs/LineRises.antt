@@ -1,5 +1,6 @@
 -- What a line was answered is as behind all that the record of its pass had before it.
 use Rattle.std.proofs.Common.{◌≡◌, ℕ, Bool, List, Option, Some, sym, subst, arith}
+use Rattle.std.proofs.lemmas.Option.{same_Some}
 use Rattle.cb_types.specs.declared.config.Config.{Config}
 use Rattle.cb_types.specs.declared.job.Job.TheVariants as job
 use Rattle.cb_types.specs.declared.reply.Reply.{Reply}
@@ -17,7 +18,7 @@ use Rattle.cb_shared.specs.Reading.{IsReadHere}
 use Rattle.cb_lanes.specs.LineGoes.{CallGoes, Calls, LineGoes, Peeks}
 use Rattle.cb_lanes.specs.Passing.{IsPinnedOnce, PinGoes, goes_in}
 use Rattle.cb_lanes.proofs.LineParts.{about, make_handle}
-use Rattle.cb_lanes.proofs.LineVersions.{by_line, one_number}
+use Rattle.cb_lanes.proofs.LineVersions.{by_line}
 use Rattle.cb_lanes.proofs.PinsRead.{has_grown}
 use Rattle.cb_lanes.proofs.TellingNew.{TellsNew, ask_new, newest_above}
 
@@ -29,7 +30,7 @@ make_higher : (name bytes : List ℕ) (r : Reply) (v : View) → TellsNew (Calls
     → (h : ℕ) → make_handle r ≡ Some h → IsHigher v h (event_of (Make name bytes) r)
 make_higher name bytes (answer.Made handle version) v new h is n freed has =
     let less = new n freed (subst (λ (k : ℕ). HasVersion v k n freed)
-    (sym (one_number handle.n h is)) has) in omega (arith, less)
+    (sym (same_Some handle.n h is)) has) in omega (arith, less)
 make_higher name bytes answer.Freed v new h is n freed has = tt
 make_higher name bytes r v new h is n freed has = tt
 

@@ -1,5 +1,6 @@
 -- The versions that a line was answered stand in the record of its pass behind it.
 use Rattle.std.proofs.Common.{◌≡◌, ℕ, true, false, List, [], ◌∷◌, ◌++◌, Option, None, Some, inl, inr, sym, refl, ap, subst}
+use Rattle.std.proofs.lemmas.Option.{same_Some, none-some}
 use Rattle.cb_types.specs.declared.config.Config.{Config}
 use Rattle.cb_types.specs.declared.job.Job.TheVariants as job
 use Rattle.cb_types.specs.declared.reply.Reply.{Reply}
@@ -24,13 +25,8 @@ use Rattle.cb_record.proofs.Laws.{has_left, has_right}
 use Rattle.cb_lanes.specs.LineGoes.{CallGoes, Calls, Goes, LineGoes}
 use Rattle.cb_lanes.specs.Passing.{IsNewestPin, PeekGoes, goes_in}
 use Rattle.cb_lanes.proofs.LineParts.{Adds, LineAdds, about, line_adds, make_handle, told_as}
+use Rattle.cb_lanes.proofs.Lists.{found_one}
 use Rattle.cb_lanes.proofs.PinsRead.{ArePinsRead, PinsRead, WasRead, adds_all, was_read}
-
-pub none_some : (n : ℕ) → ◌≡◌ {A = Option ℕ} None (Some n) → ⊥
-none_some n e = cc
-
-pub one_number : (n m : ℕ) → Some n ≡ Some m → n ≡ m
-one_number n m e = cc
 
 -- ---- what an event told of an object stands in a record
 abbrev pub StandsInRecord : View → ℕ → Event → Type 0
@@ -53,11 +49,6 @@ stands_more v w h FindsFreed all x = (x.0, all h x.0 true x.1)
 stands_more v w h other all x = tt
 
 -- ---- what a part has that backs an answer
-module _ {A : Type 0} where
-  find : (P : A → Type 0) (xs : List A) → HasOne P xs → (x : A) × Has x xs × P x
-  find P [] one = absurd one
-  find P (x ∷ xs) (inl p) = (x, inl refl, p)
-  find P (x ∷ xs) (inr one) = let z = find P xs one in (z.0, inr z.1, z.2)
 
 module _ (v w : View) (d : Part) (x : Adds v d w) where
   wrote_in : (own rest : List Entry) (e : Entry) → d.written ≡ rest ++ own → own ≡ e ∷ []
@@ -71,7 +62,7 @@ module _ (v w : View) (d : Part) (x : Adds v d w) where
 
   freed_in : (h : ℕ) → HasOne (IsFreedAs h) d.seen
       → (version : ℕ) × HasVersion w h version true
-  freed_in h one = let z = find (IsFreedAs h) d.seen one in
+  freed_in h one = let z = found_one (IsFreedAs h) d.seen one in
       (z.0.version, inr (z.0, read_in z.0 z.1, z.2.0, refl, z.2.1))
 
   backed_make : (h : ℕ) (name bytes : List ℕ) (r : Reply)
@@ -80,7 +71,7 @@ module _ (v w : View) (d : Part) (x : Adds v d w) where
   backed_make h name bytes (answer.Made handle version) b is = inl (
     entry handle.n version _ [] b.wrote.3.0,
     wrote_in b.wrote.0 b.wrote.1 _ b.wrote.2 b.wrote.3.2,
-    one_number handle.n h is,
+    same_Some handle.n h is,
     refl,
     refl,
   )
@@ -90,7 +81,7 @@ module _ (v w : View) (d : Part) (x : Adds v d w) where
   backed_read : (h : ℕ) (name : List ℕ) (r : Reply) → Backs d (told_as (Some h) (Read name) r ∷ [])
       → StandsInRecord w h (event_of (Read name) r)
   backed_read h name (answer.Bytes version bytes) b =
-      let z = find (IsReadAs h version bytes) d.seen b.tells.0 in
+      let z = found_one (IsReadAs h version bytes) d.seen b.tells.0 in
       inr (z.0, read_in z.0 z.1, z.2.0, z.2.1, z.2.2)
   backed_read h name answer.Freed b = freed_in h b.tells.0.0
   backed_read h name r b = tt
@@ -98,7 +89,7 @@ module _ (v w : View) (d : Part) (x : Adds v d w) where
   backed_pin : (h : ℕ) (name : List ℕ) (r : Reply) → Backs d (told_as (Some h) (Pin name) r ∷ [])
       → StandsInRecord w h (event_of (Pin name) r)
   backed_pin h name (answer.Version version) b =
-      let z = find (IsPinnedAs h version) d.seen b.tells.0 in
+      let z = found_one (IsPinnedAs h version) d.seen b.tells.0 in
       inr (z.0, read_in z.0 z.1, z.2.0, z.2.1, z.2.2)
   backed_pin h name answer.Freed b = freed_in h b.tells.0.0
   backed_pin h name r b = tt
@@ -169,23 +160,23 @@ module _ (goes : Goes View) (v w : View) (r : Reply) (T : ℕ → Event → Type
   pub by_line : (o : Option ℕ) (q : Request) → LineGoes goes o q v r w → (h : ℕ)
       → about o q r ≡ Some h → T h (event_of q r)
   by_line o (Make name bytes) x h is = makes name bytes x h is
-  by_line o Leave x h is = absurd (none_some h is)
-  by_line o line.Evict x h is = absurd (none_some h is)
-  by_line o line.Begin x h is = absurd (none_some h is)
-  by_line o line.Ship x h is = absurd (none_some h is)
-  by_line o line.Commit x h is = absurd (none_some h is)
-  by_line o line.Abort x h is = absurd (none_some h is)
-  by_line o line.Pair x h is = absurd (none_some h is)
-  by_line o line.Patch x h is = absurd (none_some h is)
-  by_line o line.Merge x h is = absurd (none_some h is)
-  by_line o line.Part x h is = absurd (none_some h is)
-  by_line o line.Compact x h is = absurd (none_some h is)
-  by_line o line.Rebuild x h is = absurd (none_some h is)
-  by_line o (line.Crash node) x h is = absurd (none_some h is)
-  by_line o (line.Join node) x h is = absurd (none_some h is)
-  by_line None q x h is = absurd (none_some h is)
+  by_line o Leave x h is = absurd (none-some h is)
+  by_line o line.Evict x h is = absurd (none-some h is)
+  by_line o line.Begin x h is = absurd (none-some h is)
+  by_line o line.Ship x h is = absurd (none-some h is)
+  by_line o line.Commit x h is = absurd (none-some h is)
+  by_line o line.Abort x h is = absurd (none-some h is)
+  by_line o line.Pair x h is = absurd (none-some h is)
+  by_line o line.Patch x h is = absurd (none-some h is)
+  by_line o line.Merge x h is = absurd (none-some h is)
+  by_line o line.Part x h is = absurd (none-some h is)
+  by_line o line.Compact x h is = absurd (none-some h is)
+  by_line o line.Rebuild x h is = absurd (none-some h is)
+  by_line o (line.Crash node) x h is = absurd (none-some h is)
+  by_line o (line.Join node) x h is = absurd (none-some h is)
+  by_line None q x h is = absurd (none-some h is)
   by_line (Some k) q x h is =
-      subst (λ (n : ℕ). T n (event_of q r)) (one_number k h is) (on k q x)
+      subst (λ (n : ℕ). T n (event_of q r)) (same_Some k h is) (on k q x)
 
 module _ (c : Config) (v w : View) (r : Reply) where
   make_stands : (name bytes : List ℕ) → goes_in c (Calls (job.Make bytes)) v r w → (h : ℕ)

@@ -2,6 +2,7 @@
 use Rattle.std.proofs.Common.{◌≡◌, ℕ, Bool, true, false, cond, List, [], ◌∷◌, ◌++◌, length, Option, None, Some, ◌⊎◌, inl, inr, ⊎_elim, sym, refl, ap, ◌∙◌, subst, append_assoc}
 use Rattle.std.specs.Str.{bytes_eq}
 use Rattle.std.proofs.lemmas.List.{append-nil}
+use Rattle.std.proofs.lemmas.Option.{same_Some}
 use Rattle.cb_types.specs.declared.answer.Answer.{Answer}
 use Rattle.cb_types.specs.declared.config.Config.{Config}
 use Rattle.cb_types.specs.declared.handle.Handle.{Handle}
@@ -29,7 +30,7 @@ use Rattle.cb_lanes.specs.declared.body.Named.{Named}
 use Rattle.cb_lanes.specs.Asked.{answer_to}
 use Rattle.cb_lanes.specs.Bodies.{AddsBacked, AnswersOne, AreNamesOf, KeepHandles, KnowsKept, LaneGoes, LinesGo, handle_among, handle_behind}
 use Rattle.cb_lanes.specs.LineGoes.{Goes, LineGoes}
-use Rattle.cb_lanes.specs.Names.{AreKept, Names, handle_at, kept_number, number_after, request_handle}
+use Rattle.cb_lanes.specs.Names.{AreKept, KeptNames, kept_for, kept_number, number_after, request_handle}
 use Rattle.cb_lanes.specs.Passing.{goes_in}
 use Rattle.cb_lanes.proofs.LineParts.{Adds, about, adds_knows, adds_none, adds_sum, line_adds, told_as}
 
@@ -132,7 +133,7 @@ lines_push goes names before (y ∷ xs) x a m b (k, first, rest) one = (
 )
 
 -- ---- the handles that are kept
-number_made : (kept : Names) (q : Request) (r : Reply) (name : List ℕ)
+number_made : (kept : KeptNames) (q : Request) (r : Reply) (name : List ℕ)
     → number_after kept q r name ≡ first_of (handle_made name q r) (kept_number kept name)
 number_made kept (Make made bytes) (answer.Made handle version) name = by (bytes_eq made name)
   where
@@ -143,7 +144,7 @@ number_made kept (Make made bytes) (answer.Made handle version) name = by (bytes
 number_made kept (Make made bytes) r name = refl
 number_made kept q r name = refl
 
-pub handles_push : (names : List Named) (kept later : Names) (answers : List Answer) (a : Answer)
+pub handles_push : (names : List Named) (kept later : KeptNames) (answers : List Answer) (a : Answer)
     → KeepHandles kept names answers → AreKept kept a.request a.reply later
     → KeepHandles later names (answers ++ a ∷ [])
 handles_push names kept later answers a keep are name = are name
@@ -154,8 +155,8 @@ handles_push names kept later answers a keep are name = are name
     ∙ ap (λ (o : Option ℕ). first_of o (handle_among names name))
     (sym (handle_append answers (a ∷ []) name))
 
-pub handle_kept : (names : List Named) (kept : Names) (answers : List Answer) (o : Option (List ℕ))
-    → KeepHandles kept names answers → handle_at kept o ≡ handle_behind names answers o
+pub handle_kept : (names : List Named) (kept : KeptNames) (answers : List Answer) (o : Option (List ℕ))
+    → KeepHandles kept names answers → kept_for kept o ≡ handle_behind names answers o
 handle_kept names kept answers None keep = refl
 handle_kept names kept answers (Some name) keep = keep name
 
@@ -176,7 +177,7 @@ made_known c bytes handle version v w (d, x, is) =
     e = entry handle.n version (length bytes) [] x.ends_so.1.wrote.0
 
 -- the line made the object of this handle
-record IsMadeAs (q : Request) (r : Reply) (k : ℕ) : Type 0 where
+record IsMakeLine (q : Request) (r : Reply) (k : ℕ) : Type 0 where
   pub name : List ℕ
   pub bytes : List ℕ
   pub handle : Handle
@@ -185,17 +186,13 @@ record IsMadeAs (q : Request) (r : Reply) (k : ℕ) : Type 0 where
   pub reply : r ≡ answer.Made handle version
   pub number : handle.n ≡ k
 
-abbrev number_or : Option ℕ → ℕ
-number_or (Some k) = k
-number_or None = 0
-
-number_case : (kept : Names) (q : Request) (r : Reply) (name : List ℕ) (k : ℕ)
-    → number_after kept q r name ≡ Some k → (kept_number kept name ≡ Some k) ⊎ IsMadeAs q r k
+number_case : (kept : KeptNames) (q : Request) (r : Reply) (name : List ℕ) (k : ℕ)
+    → number_after kept q r name ≡ Some k → (kept_number kept name ≡ Some k) ⊎ IsMakeLine q r k
 number_case kept (Make made bytes) (answer.Made handle version) name k is = by (bytes_eq made name) is
   where
     by : (b : Bool) → cond b (Some handle.n) (kept_number kept name) ≡ Some k
         → (kept_number kept name ≡ Some k)
-        ⊎ IsMadeAs (Make made bytes) (answer.Made handle version) k
+        ⊎ IsMakeLine (Make made bytes) (answer.Made handle version) k
     by true same = inr (record {
       name = made;
       bytes = bytes;
@@ -203,25 +200,25 @@ number_case kept (Make made bytes) (answer.Made handle version) name k is = by (
       version = version;
       request = refl;
       reply = refl;
-      number = ap number_or same;
+      number = same_Some handle.n k same;
     })
     by false same = inl same
 number_case kept (Make made bytes) r name k is = inl is
 number_case kept q r name k is = inl is
 
 made_knows : (c : Config) (h : Option ℕ) (q : Request) (r : Reply) (v w : View) (k : ℕ)
-    → LineGoes (goes_in c) h q v r w → IsMadeAs q r k → Knows k w
+    → LineGoes (goes_in c) h q v r w → IsMakeLine q r k → Knows k w
 made_knows c h q r v w k goes x = subst (λ (n : ℕ). Knows n w) x.number
     (made_known c x.bytes x.handle x.version v w
     (subst (λ (z : Reply). LineGoes (goes_in c) h (Make x.name x.bytes) v z w) x.reply
     (subst (λ (z : Request). LineGoes (goes_in c) h z v r w) x.request goes)))
 
-pub kept_known : (c : Config) (line : Line) (kept later : Names) (answers all : List Answer)
+pub kept_known : (c : Config) (line : Line) (kept later : KeptNames) (answers all : List Answer)
     (v w : View) → KnowsKept kept v → AnswersOne c line kept later answers all v w
     → KnowsKept later w
 kept_known c line kept later answers all v w knows x name k is = ⊎_elim
     (λ (same : kept_number kept name ≡ Some k). adds_knows k v w one.0 one.1 (knows name k same))
-    (λ (made : IsMadeAs line.request x.reply k).
+    (λ (made : IsMakeLine line.request x.reply k).
     made_knows c (request_handle kept line.request) line.request x.reply v w k x.goes made)
     (number_case kept line.request x.reply name k (sym (x.keeps name) ∙ is))
   where

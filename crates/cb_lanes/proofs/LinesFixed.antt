@@ -1,6 +1,7 @@
 -- The lines of a script are answered in one way, and lead to one world.
 use Rattle.std.proofs.Common.{◌≡◌, ℕ, zero, suc, List, [], ◌∷◌, ◌++◌, length, map, reverse, Option, None, Some, refl, sym, ap, ◌∙◌, subst, arith}
 use Rattle.std.specs.List.{slice_get}
+use Rattle.std.proofs.lemmas.Option.{same_Some}
 use Rattle.cb_ptr.specs.Word.{len_of}
 use Rattle.cb_types.specs.declared.answer.Answer.{Answer}
 use Rattle.cb_types.specs.declared.job.Job.{Job}
@@ -17,7 +18,6 @@ use Rattle.cb_world.specs.Memory.{bytes_in}
 use Rattle.cb_world.specs.Seats.{pins_of_seat}
 use Rattle.cb_world.specs.StillWords.{contents_at}
 use Rattle.cb_world.specs.World.{WorldState, IsSoundWorld, word_at}
-use Rattle.cb_world.proofs.Laws.{some_same}
 use Rattle.cb_core.specs.declared.event.Event.TheVariants.{Turn}
 use Rattle.cb_core.specs.Step.{Leads, Step}
 use Rattle.cb_core.specs.Turned.{counted}
@@ -25,7 +25,7 @@ use Rattle.cb_core.proofs.Laws.{newest_fixed, step_fixes, unpin_fixed}
 use Rattle.cb_core.proofs.Laws as core
 use Rattle.cb_local.proofs.Laws.{beside_fixed}
 use Rattle.cb_lanes.specs.Asked.{asked}
-use Rattle.cb_lanes.specs.GivingBack.{GivesAll, Rests, end_of, lines_by}
+use Rattle.cb_lanes.specs.GivingBack.{GivesAll, Rests, unpin_event, lines_by}
 use Rattle.cb_lanes.specs.LineGoes.{job_of}
 use Rattle.cb_lanes.specs.LineStep.{IsInReply, LinesLead, LineStep, ObjectStep, OtherStep, TurnAt, PeekStep, not_pinned, shown, PinEvent, PinLine, at_once, stays_far, swapped_in, SwapEvent}
 use Rattle.cb_lanes.specs.LinesSoundly.{LinesLeadSoundly}
@@ -33,14 +33,15 @@ use Rattle.cb_lanes.specs.CompactsHere.{CompactsHere}
 use Rattle.cb_lanes.specs.declared.side.Side.{Side}
 use Rattle.cb_lanes.specs.declared.side.Side.TheVariants as parities
 use Rattle.cb_lanes.proofs.FarPins.{far_not_here}
+use Rattle.cb_lanes.proofs.Lists.{heads_same}
 
 -- two replies and two worlds are one
-abbrev AreOne : Reply → Reply → WorldState → WorldState → Type 0
-AreOne r q a b = (r ≡ q) × (a ≡ b)
+abbrev AreOneEnd : Reply → Reply → WorldState → WorldState → Type 0
+AreOneEnd r q a b = (r ≡ q) × (a ≡ b)
 
 -- ---- pins that are given back
 ends_fixed : (seat : ℕ) (pins : List Held) (rs qs : List Reply) (w a b : WorldState)
-    → Leads w (map (end_of seat) pins) rs a → Leads w (map (end_of seat) pins) qs b → a ≡ b
+    → Leads w (map (unpin_event seat) pins) rs a → Leads w (map (unpin_event seat) pins) qs b → a ≡ b
 ends_fixed seat [] [] [] w a b x y = x ∙ sym y
 ends_fixed seat [] [] (q ∷ qs) w a b x y = absurd y
 ends_fixed seat [] (r ∷ rs) qs w a b x y = absurd x
@@ -49,7 +50,7 @@ ends_fixed seat (pin ∷ pins) (r ∷ rs) [] w a b x y = absurd y
 ends_fixed seat (pin ∷ pins) (r ∷ rs) (q ∷ qs) w a b x y =
     let same = unpin_fixed seat pin.handle w x.0 y.0 r q x.1 y.1 in
     ends_fixed seat pins rs qs y.0 a b
-    (subst (λ (v : WorldState). Leads v (map (end_of seat) pins) rs a) same.1 x.2) y.2
+    (subst (λ (v : WorldState). Leads v (map (unpin_event seat) pins) rs a) same.1 x.2) y.2
 
 all_fixed : (seat : ℕ) (w a b : WorldState) → GivesAll seat w a → GivesAll seat w b → a ≡ b
 all_fixed seat w a b x y = ends_fixed seat (reverse (pins_of_seat w.seats seat)) _ _ w a b x y
@@ -60,7 +61,7 @@ rests_fixed (suc left) seat w a b x y = x ∙ sym y
 
 -- ---- a line on an object
 peek_fixed : (seat h : ℕ) (w a b : WorldState) (r q : Reply) → PeekStep seat h w r a
-    → PeekStep seat h w q b → AreOne r q a b
+    → PeekStep seat h w q b → AreOneEnd r q a b
 peek_fixed seat h w a b r q (not_pinned n e s) (not_pinned m f t) = (e ∙ sym f, s ∙ sym t)
 peek_fixed seat h w a b r q (not_pinned n e s) (shown at x f t) =
     absurd (n at x.pin x.there x.on)
@@ -68,7 +69,7 @@ peek_fixed seat h w a b r q (shown at x e s) (not_pinned n f t) =
     absurd (n at x.pin x.there x.on)
 peek_fixed seat h w a b r q (shown at x e s) (shown to y f t) =
     let pins = pins_of_seat w.seats seat in
-    let same : x.pin ≡ y.pin = some_same x.pin y.pin
+    let same : x.pin ≡ y.pin = same_Some x.pin y.pin
     (sym x.there ∙ ap (λ (i : ℕ). slice_get pins i) (newest_fixed pins h at to x y) ∙ y.there) in (
       e
           ∙ ap (λ (pin : Held). answer.Bytes pin.version
@@ -78,15 +79,15 @@ peek_fixed seat h w a b r q (shown at x e s) (shown to y f t) =
     )
 
 pin_event : (seat h : ℕ) (w a b : WorldState) (r q : Reply) → PinEvent seat h w r a
-    → PinEvent seat h w q b → AreOne r q a b
+    → PinEvent seat h w q b → AreOneEnd r q a b
 pin_event seat h w a b r q x y = core.pin_fixed seat h w a b r q x y
 
 module _ (seat h : ℕ) (w a b : WorldState) (r q : Reply) (sound : IsSoundWorld w) where
   swap_event : (m n : WorldState) (p o : Reply) → SwapEvent seat h w p m → SwapEvent seat h w o n
-      → AreOne p o m n
+      → AreOneEnd p o m n
   swap_event m n p o x y = step_fixes w m n (Turn seat (job.Swap (record { n = h }))) p o sound x y
 
-  pin_fixed : PinLine seat h w r a → PinLine seat h w q b → AreOne r q a b
+  pin_fixed : PinLine seat h w r a → PinLine seat h w q b → AreOneEnd r q a b
   pin_fixed (at_once e off) (at_once f on) = pin_event seat h w a b r q e f
   pin_fixed (at_once e off) (stays_far away y on) = absurd (off (far_not_here seat h w a r away e))
   pin_fixed (at_once e off) (swapped_in n o away y is z) =
@@ -103,12 +104,12 @@ module _ (seat h : ℕ) (w a b : WorldState) (r q : Reply) (sound : IsSoundWorld
       let same = swap_event m n p o x y in
       pin_event seat h n a b r q (subst (λ (v : WorldState). PinEvent seat h v r a) same.1 u) z
 
-  turn_fixed : (j : Job) → Step w (Turn seat j) r a → Step w (Turn seat j) q b → AreOne r q a b
+  turn_fixed : (j : Job) → Step w (Turn seat j) r a → Step w (Turn seat j) q b → AreOneEnd r q a b
   turn_fixed j x y = step_fixes w a b (Turn seat j) r q sound x y
 
 object_fixed : (side : Side) (seat : ℕ) (handle : Option ℕ) (request : Request) (w a b : WorldState) (r q : Reply)
     → IsSoundWorld w → ObjectStep side seat handle request w r a → ObjectStep side seat handle request w q b
-    → AreOne r q a b
+    → AreOneEnd r q a b
 object_fixed side seat None request w a b r q sound x y = (x.0 ∙ sym y.0, x.1 ∙ sym y.1)
 object_fixed side seat (Some h) (Pin name) w a b r q sound x y = pin_fixed seat h w a b r q sound x y
 object_fixed side seat (Some h) (Peek name) w a b r q sound x y = peek_fixed seat h w a b r q x y
@@ -125,7 +126,7 @@ object_fixed side seat (Some h) (Filter name) w a b r q sound x y =
 object_fixed side seat (Some h) request w a b r q sound x y = absurd x
 
 here_fixed : (seat : ℕ) (w a b : WorldState) (r q : Reply) → IsSoundWorld w
-    → CompactsHere seat w r a → CompactsHere seat w q b → AreOne r q a b
+    → CompactsHere seat w r a → CompactsHere seat w q b → AreOneEnd r q a b
 here_fixed seat w a b r q sound x y =
     let one = step_fixes w x.mid y.mid (Turn seat job.Compact) r q sound x.there y.there in
     let far = beside_fixed (counted w.far job.Compact) x.mid.far y.mid.far a.far b.far r q one.0
@@ -135,7 +136,7 @@ here_fixed seat w a b r q sound x y =
     (one.0, λ i. record { desk = desk i; far = far i; seats = seats i })
 
 turn_at_fixed : (j : Job) (side : Side) (seat : ℕ) (w a b : WorldState) (r q : Reply)
-    → IsSoundWorld w → TurnAt j side seat w r a → TurnAt j side seat w q b → AreOne r q a b
+    → IsSoundWorld w → TurnAt j side seat w r a → TurnAt j side seat w q b → AreOneEnd r q a b
 turn_at_fixed job.Compact parities.Nodes seat w a b r q sound x y =
     step_fixes w a b (Turn seat job.Compact) r q sound x y
 turn_at_fixed job.Compact parities.Compute seat w a b r q sound x y =
@@ -145,7 +146,7 @@ turn_at_fixed j side seat w a b r q sound x y = step_fixes w a b (Turn seat j) r
 other_fixed : (side : Side) (seat : ℕ) (handle : Option ℕ) (request : Request) (o : Option Job)
     (w a b : WorldState) (r q : Reply) → IsSoundWorld w
     → OtherStep side seat handle request o w r a → OtherStep side seat handle request o w q b
-    → AreOne r q a b
+    → AreOneEnd r q a b
 other_fixed side seat handle request (Some j) w a b r q sound x y =
     turn_at_fixed j side seat w a b r q sound x y
 other_fixed side seat handle request None w a b r q sound x y =
@@ -155,7 +156,7 @@ other_fixed side seat handle request None w a b r q sound x y =
 -- A line has one reply, and leads from a sound world to one world.
 pub line_fixes : (side : Side) (seat : ℕ) (handle : Option ℕ) (request : Request)
     (w a b : WorldState) (r q : Reply) → IsSoundWorld w → LineStep side seat handle request w r a
-    → LineStep side seat handle request w q b → AreOne r q a b
+    → LineStep side seat handle request w q b → AreOneEnd r q a b
 line_fixes side seat handle (Make name bytes) w a b r q sound x y =
     step_fixes w a b (Turn seat (job.Make bytes)) r q sound x y
 line_fixes side seat handle Leave w a b r q sound x y =
@@ -175,17 +176,6 @@ lanes_asked [] = refl
 lanes_asked (a ∷ answers) = ap (λ (l : List ℕ). a.lane.n ∷ l) (lanes_asked answers)
 
 -- what remains once both lists begin with one answer
-heads_same : (l m : Line) (ls ms : List Line) → l ∷ ls ≡ m ∷ ms → (l ≡ m) × (ls ≡ ms)
-heads_same l m ls ms e = (ap (λ (xs : List Line). first xs) e, ap (λ (xs : List Line). later xs) e)
-  where
-    first : List Line → Line
-    first [] = l
-    first (x ∷ xs) = x
-
-    later : List Line → List Line
-    later [] = []
-    later (x ∷ xs) = xs
-
 pub lines_fix : (side : Side) (before : List Answer) (w a b : WorldState) (xs ys : List Answer)
     → IsSoundWorld w → LinesLeadSoundly side before w xs a → LinesLead side before w ys b → map asked xs ≡ map asked ys
     → (xs ≡ ys) × (a ≡ b)

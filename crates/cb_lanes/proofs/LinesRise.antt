@@ -2,6 +2,7 @@
 use Rattle.std.proofs.Common.{◌≡◌, ℕ, ◌≤◌, Bool, true, false, List, [], ◌∷◌, ◌++◌, Option, None, Some, sym, refl, ap, ◌∙◌, subst, append_assoc, arith}
 use Rattle.std.specs.List.{AllByRecursion}
 use Rattle.std.proofs.lemmas.List.{append-nil}
+use Rattle.std.proofs.lemmas.Option.{same_Some, none-some}
 use Rattle.cb_types.specs.declared.answer.Answer.{Answer}
 use Rattle.cb_types.specs.declared.config.Config.{Config}
 use Rattle.cb_types.specs.Requests.{name_of}
@@ -19,27 +20,28 @@ use Rattle.cb_lanes.specs.Rising.{FreedIsLast}
 use Rattle.cb_lanes.proofs.LineParts.{about, line_adds}
 use Rattle.cb_lanes.proofs.LineRises.{IsHigher, line_higher}
 use Rattle.cb_lanes.proofs.LinesBack.{about_for, lines_add, named_behind}
-use Rattle.cb_lanes.proofs.LineVersions.{StandsInRecord, line_stands, none_some, one_number, stands_more}
+use Rattle.cb_lanes.proofs.LineVersions.{StandsInRecord, line_stands, stands_more}
+use Rattle.cb_lanes.proofs.Lists.{all_map}
 use Rattle.cb_lanes.proofs.PinsRead.{PinsRead, adds_all, has_both, has_same, line_pins, pins_none}
 
 -- ---- what stands in a record is known to it
 stands_known : (v : View) (h : ℕ) (e : Event) → StandsInRecord v h e → IsKnownTo v h e
 stands_known v h (Makes bytes version) x = λ n is.
-    (false, subst (λ (k : ℕ). HasVersion v h k false) (one_number version n is) x)
+    (false, subst (λ (k : ℕ). HasVersion v h k false) (same_Some version n is) x)
 stands_known v h (Shows version bytes) x = λ n is.
-    (false, subst (λ (k : ℕ). HasVersion v h k false) (one_number version n is) x)
+    (false, subst (λ (k : ℕ). HasVersion v h k false) (same_Some version n is) x)
 stands_known v h (Pins version) x = λ n is.
-    (false, subst (λ (k : ℕ). HasVersion v h k false) (one_number version n is) x)
+    (false, subst (λ (k : ℕ). HasVersion v h k false) (same_Some version n is) x)
 stands_known v h (Writes at bytes version) x = λ n is.
-    (false, subst (λ (k : ℕ). HasVersion v h k false) (one_number version n is) x)
+    (false, subst (λ (k : ℕ). HasVersion v h k false) (same_Some version n is) x)
 stands_known v h (Frees version) x = λ n is.
-    (true, subst (λ (k : ℕ). HasVersion v h k true) (one_number version n is) x)
+    (true, subst (λ (k : ℕ). HasVersion v h k true) (same_Some version n is) x)
 stands_known v h FindsFreed x = x
-stands_known v h (FindsFull handles) x = λ n is. absurd (none_some n is)
-stands_known v h FindsUnmade x = λ n is. absurd (none_some n is)
-stands_known v h (FindsEnd at bytes len) x = λ n is. absurd (none_some n is)
-stands_known v h (Refused subject) x = λ n is. absurd (none_some n is)
-stands_known v h Wrong x = λ n is. absurd (none_some n is)
+stands_known v h (FindsFull handles) x = λ n is. absurd (none-some n is)
+stands_known v h FindsUnmade x = λ n is. absurd (none-some n is)
+stands_known v h (FindsEnd at bytes len) x = λ n is. absurd (none-some n is)
+stands_known v h (Refused subject) x = λ n is. absurd (none-some n is)
+stands_known v h Wrong x = λ n is. absurd (none-some n is)
 
 -- ---- an event that is not below what the record has may follow it
 -- a version that stands behind the freed one
@@ -76,11 +78,11 @@ may_follow v all h Wrong more is_last higher stands n true has = refl
 
 -- ---- and what stands in the record before may be followed by it
 unbound : (version : ℕ) (e : Event) → version_of e ≡ None → IsNotBelow version e
-unbound version (Makes bytes later) none = absurd (none_some later (sym none))
-unbound version (Shows later bytes) none = absurd (none_some later (sym none))
-unbound version (Pins later) none = absurd (none_some later (sym none))
-unbound version (Writes at bytes later) none = absurd (none_some later (sym none))
-unbound version (Frees later) none = absurd (none_some later (sym none))
+unbound version (Makes bytes later) none = absurd (none-some later (sym none))
+unbound version (Shows later bytes) none = absurd (none-some later (sym none))
+unbound version (Pins later) none = absurd (none-some later (sym none))
+unbound version (Writes at bytes later) none = absurd (none-some later (sym none))
+unbound version (Frees later) none = absurd (none-some later (sym none))
 unbound version (FindsFull number) none = tt
 unbound version FindsUnmade none = tt
 unbound version FindsFreed none = tt
@@ -92,7 +94,7 @@ module _ (v : View) (h : ℕ) (later : Event)
     (behind : (n : ℕ) (freed : Bool) → HasVersion v h n freed → MayFollowVersion n freed later) where
   follows_at : (version n : ℕ) → HasVersion v h version false → Some version ≡ Some n
       → IsNotBelow n later
-  follows_at version n x is = subst (λ (k : ℕ). IsNotBelow k later) (one_number version n is)
+  follows_at version n x is = subst (λ (k : ℕ). IsNotBelow k later) (same_Some version n is)
       (behind version false x)
 
   follows : (e : Event) → StandsInRecord v h e → MayComeLater e later
@@ -102,17 +104,13 @@ module _ (v : View) (h : ℕ) (later : Event)
   follows (Writes at bytes version) x = λ n is. follows_at version n x is
   follows (Frees version) x = λ n is. unbound n later (behind version true x)
   follows FindsFreed x = behind x.0 true x.1
-  follows (FindsFull handles) x = λ n is. absurd (none_some n is)
-  follows FindsUnmade x = λ n is. absurd (none_some n is)
-  follows (FindsEnd at bytes len) x = λ n is. absurd (none_some n is)
-  follows (Refused subject) x = λ n is. absurd (none_some n is)
-  follows Wrong x = λ n is. absurd (none_some n is)
+  follows (FindsFull handles) x = λ n is. absurd (none-some n is)
+  follows FindsUnmade x = λ n is. absurd (none-some n is)
+  follows (FindsEnd at bytes len) x = λ n is. absurd (none-some n is)
+  follows (Refused subject) x = λ n is. absurd (none-some n is)
+  follows Wrong x = λ n is. absurd (none-some n is)
 
 -- ---- lists of calls
-all_map : {A : Type 0} (P Q : A → Type 0) (xs : List A) → ((x : A) → P x → Q x)
-    → AllByRecursion P xs → AllByRecursion Q xs
-all_map P Q [] f all = tt
-all_map P Q (x ∷ xs) f all = (f x all.0, all_map P Q xs f all.1)
 
 -- what the call was answered stands in the record
 abbrev StandsOn : View → Called → Type 0

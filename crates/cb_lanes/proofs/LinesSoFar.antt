@@ -12,7 +12,7 @@ use Rattle.cb_lanes.specs.declared.body.Named.{Named}
 use Rattle.cb_lanes.specs.Asked.{answer_to, asked}
 use Rattle.cb_lanes.specs.Bodies.{AnswersOne, AreLinesOf, IsFront, IsLineOf, KeepHandles, KnowsKept, KnowsNames, LinesGo}
 use Rattle.cb_lanes.specs.LineGoes.{LineGoes}
-use Rattle.cb_lanes.specs.Names.{Names}
+use Rattle.cb_lanes.specs.Names.{KeptNames}
 use Rattle.cb_lanes.specs.Passing.{AreHeld, goes_in, mark_in, marks_of}
 use Rattle.cb_lanes.proofs.LinesBack.{handle_kept, handles_push, kept_known, lines_push}
 use Rattle.cb_lanes.proofs.NamesAmong.{names_known}
@@ -20,13 +20,13 @@ use Rattle.cb_lanes.proofs.NamesAmong.{names_known}
 -- the first lines of a lane were answered, and the handles of all names up to here are kept and
 -- known
 pub record LinesSoFar (c : Config) (names : List Named) (lines : List Line) (first : View) (i : ℕ)
-    (kept : Names) (answers : List Answer) (v : View) : Type 0 where
+    (kept : KeptNames) (answers : List Answer) (v : View) : Type 0 where
   pub keep : KeepHandles kept names answers
   pub knows : KnowsKept kept v
   pub goes : LinesGo (goes_in c) names [] first answers v
   pub front : map asked answers ≡ take i lines
 
-pub none_so_far : (c : Config) (names given : List Named) (lines : List Line) (kept : Names)
+pub none_so_far : (c : Config) (names given : List Named) (lines : List Line) (kept : KeptNames)
     (answers : List Answer) (v : View) → KnowsNames v names → given ≡ names
     → KeepHandles kept given [] → answers ≡ [] → LinesSoFar c names lines v 0 kept answers v
 none_so_far c names given lines kept answers v knows is keep none =
@@ -41,7 +41,7 @@ none_so_far c names given lines kept answers v knows is keep none =
     keeps = subst (λ (l : List Named). KeepHandles kept l []) is keep
 
 pub one_more : (c : Config) (names : List Named) (lines : List Line) (first : View) (i : ℕ)
-    (l : Line) (kept later : Names) (answers all : List Answer) (v w : View)
+    (l : Line) (kept later : KeptNames) (answers all : List Answer) (v w : View)
     → i < length lines → l ≡ get_or lines i l → LinesSoFar c names lines first i kept answers v
     → AnswersOne c l kept later answers all v w
     → LinesSoFar c names lines first (i + 1) later all w

@@ -1,7 +1,7 @@
 -- Where no frame is free, every span that is not loose has an object that a seat has pinned.
 use Rattle.std.proofs.Common.{◌≡◌, ◌≢◌, ◌⊎◌, ℕ, suc, ◌+◌, ◌<◌, ◌≤◌, Bool, true, false, ◌&&◌, ◌||◌, List, [], ◌∷◌, ◌++◌, length, get_or, Option, None, Some, refl, sym, ap, ◌∙◌, subst, arith, inl, inr, nat_eq, not, eq-eqb, ne_eqb, if◌then◌else◌}
 use Rattle.std.specs.List.{filter, list_all, list_any, range_with_len, slice_index_or, sum_by}
-use Rattle.std.proofs.lemmas.Bool.{cases_Bool, cases_eq, cases_lt, true≢false}
+use Rattle.std.proofs.lemmas.Bool.{cases_Bool, cases_eq, cases_lt, true≢false, or_left, or_right}
 use Rattle.std.proofs.lemmas.List.{get_or_past, length-append}
 use Rattle.std.proofs.lemmas.List.Folds.{list_any-append, list_any_at}
 use Rattle.std.proofs.lemmas.List.FromFn.{get_or-range_with_len, length-range_with_len}
@@ -33,6 +33,8 @@ use Rattle.cb_world.proofs.Laws.{one_slot}
 use Rattle.cb_evict.specs.Candidates.{candidates, has_temp, is_among, may_leave, frames_with, same_temp}
 use Rattle.cb_evict.specs.EvictStep.{is_here, is_loose, is_slot_loose, loose_frames}
 use Rattle.cb_evict.proofs.Laws.{named_at, names_span}
+use Rattle.cb_lanes.proofs.FewPins.{pins_in}
+use Rattle.cb_lanes.proofs.Lists.{one_if}
 
 -- ---- no word is Moving
 
@@ -100,19 +102,6 @@ frame_of s far sound h = by (object_at s h) refl
 
 -- ---- the frames of all pins
 
-or_right : (a b : Bool) → b ≡ true → (a || b) ≡ true
-or_right true b e = refl
-or_right false b e = e
-
-or_left : (a b : Bool) → a ≡ true → (a || b) ≡ true
-or_left a b e = ap (λ (c : Bool). c || b) e
-
-abbrev number_if : Bool → ℕ
-number_if b = if b then 1 else 0
-
-abbrev seat_length : SeatState → ℕ
-seat_length seat = length seat.pins
-
 module _ (s : Shown) (far : FarState) (frame : (h : ℕ) → HasFrame far h) where
   abbrev pub pin_frames : List Pin → List ℕ
   pin_frames [] = []
@@ -132,7 +121,7 @@ module _ (s : Shown) (far : FarState) (frame : (h : ℕ) → HasFrame far h) whe
   seat_count (seat ∷ seats) =
       let both = length-append (pin_frames seat.pins) (seat_frames seats) in
       let one = pin_count seat.pins in let more = seat_count seats in
-      let all = sum_by-cons seat_length seat seats in
+      let all = sum_by-cons pins_in seat seats in
       omega (arith, both, one, more, all)
 
   pin_there : (f slot h : ℕ) (pins : List Pin) → resident far.spans f slot ≡ Some h
@@ -150,8 +139,8 @@ module _ (s : Shown) (far : FarState) (frame : (h : ℕ) → HasFrame far h) whe
       by later (inl e) = or_left (here (frame pin.handle).0) (list_any (nat_eq f) (pin_frames pins))
           (eq-eqb f (frame pin.handle).0 ((frame pin.handle).1 f slot (r ∙ ap Some (sym e))))
       by later (inr off) = or_right (here (frame pin.handle).0) (list_any (nat_eq f) (pin_frames pins))
-          (later (let all = sum_by-cons (λ (p : Pin). number_if (nat_eq p.handle h)) pin pins in
-          let none : number_if (nat_eq pin.handle h) ≡ 0 = ap number_if (ne_eqb pin.handle h off) in
+          (later (let all = sum_by-cons (λ (p : Pin). one_if (nat_eq p.handle h)) pin pins in
+          let none : one_if (nat_eq pin.handle h) ≡ 0 = ap one_if (ne_eqb pin.handle h off) in
           omega (arith, all, none, some)))
 
   seat_there : (f slot h : ℕ) (seats : List SeatState) → resident far.spans f slot ≡ Some h

@@ -2,6 +2,7 @@
 -- took place began a new one.
 use Rattle.std.proofs.Common.{◌≡◌, ℕ, zero, suc, ◌+◌, ◌<◌, ◌≤◌, List, [], ◌∷◌, ◌++◌, map, Option, None, Some, refl, sym, ap, ◌∙◌, arith}
 use Rattle.std.specs.List.{AllByRecursion, cons_option}
+use Rattle.std.proofs.lemmas.Option.{none-some}
 use Rattle.cb_member.specs.declared.names.Loss.{Loss}
 use Rattle.cb_member.specs.declared.names.NodeId.{NodeId}
 use Rattle.cb_types.specs.declared.answer.Answer.{Answer}
@@ -24,7 +25,7 @@ use Rattle.cb_lanes.specs.GivingBack.{GivesAll, Rests, lines_by}
 use Rattle.cb_lanes.specs.LineGoes.{job_of}
 use Rattle.cb_lanes.specs.LineStep.{LinesLead, LineStep, ObjectStep, OtherStep, PeekStep, not_pinned, shown, PinLine, at_once, stays_far, swapped_in}
 use Rattle.cb_lanes.specs.declared.side.Side.{Side}
-use Rattle.cb_lanes.specs.Lost.{AreInOrder, loss_of, losses_of}
+use Rattle.cb_lanes.specs.Lost.{AreInOrder, told_loss, losses_of}
 use Rattle.cb_lanes.proofs.Recounting.{turn_beside}
 
 abbrev EpochRises : WorldState → WorldState → Type 0
@@ -92,8 +93,6 @@ line_rises side seat handle request w new r x =
     other_rises side seat handle request (job_of request) w new r x
 
 -- ---- a crash that took place
-none_some : {A : Type 0} (x : A) → None ≡ Some x → ⊥
-none_some x e = cc
 
 abbrev epoch_in : Option Loss → ℕ
 epoch_in (Some loss) = loss.epoch.n
@@ -105,26 +104,26 @@ record IsNew (loss : Loss) (w new : WorldState) : Type 0 where
   reached : loss.epoch.n ≤ new.far.members.epoch
 
 crash_new : (node : NodeId) (w new : WorldState) (r : Reply) (loss : Loss)
-    → TurnStep (job.Crash node) w r new → loss_of (Crash node) r ≡ Some loss → IsNew loss w new
+    → TurnStep (job.Crash node) w r new → told_loss (Crash node) r ≡ Some loss → IsNew loss w new
 crash_new node w new r loss (worn end reply same) e =
-    absurd (none_some loss (sym (ap (loss_of (Crash node)) reply) ∙ e))
+    absurd (none-some loss (sym (ap (told_loss (Crash node)) reply) ∙ e))
 crash_new node w new r loss (done few (words, is_down down reply state) seats) e =
-    absurd (none_some loss (sym (ap (loss_of (Crash node)) reply) ∙ e))
+    absurd (none-some loss (sym (ap (told_loss (Crash node)) reply) ∙ e))
 crash_new node w new r loss (done few (words, crashed up reply state) seats) e =
     let at : w.far.members.epoch + 1 ≡ loss.epoch.n =
-    ap epoch_in (sym (ap (loss_of (Crash node)) reply) ∙ e) in
+    ap epoch_in (sym (ap (told_loss (Crash node)) reply) ∙ e) in
     let now : new.far.members.epoch ≡ w.far.members.epoch + 1 =
     ap (λ (f : FarState). f.members.epoch) state in
     record { later = omega (arith, at); reached = omega (arith, at, now) }
 
 line_new : (side : Side) (seat : ℕ) (handle : Option ℕ) (request : Request) (w new : WorldState)
-    (r : Reply) (loss : Loss) → LineStep side seat handle request w r new → loss_of request r ≡ Some loss
+    (r : Reply) (loss : Loss) → LineStep side seat handle request w r new → told_loss request r ≡ Some loss
     → IsNew loss w new
 line_new side seat handle (Crash node) w new r loss (other_holds holder off holds is same) e =
-    absurd (none_some loss (sym (ap (loss_of (Crash node)) is) ∙ e))
+    absurd (none-some loss (sym (ap (told_loss (Crash node)) is) ∙ e))
 line_new side seat handle (Crash node) w new r loss (free none step) e =
     crash_new node w new r loss step e
-line_new side seat handle request w new r loss x e = absurd (none_some loss e)
+line_new side seat handle request w new r loss x e = absurd (none-some loss e)
 
 -- ---- the lines one after another
 -- all have a later epoch
@@ -156,7 +155,7 @@ losses_ascend side before (a ∷ after) w new (between, rested, step, rests, res
     let back = rests_rise (lines_by a.lane.n (map (λ (later : Answer). later.lane.n) after)) a.lane.n
     between rested rests in
     let more = losses_ascend side (before ++ a ∷ []) after rested new rest in
-    one_more w.far.members.epoch rested.far.members.epoch (loss_of a.request a.reply) (losses_of after)
+    one_more w.far.members.epoch rested.far.members.epoch (told_loss a.request a.reply) (losses_of after)
     (omega (arith, line, back))
     (λ loss e. let z = line_new side a.lane.n named a.request w between a.reply loss step e in
     let reached = z.reached in (z.later, omega (arith, reached, back))) more.0 more.1

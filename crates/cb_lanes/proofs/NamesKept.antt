@@ -1,14 +1,13 @@
 -- The names that are kept.
-use Rattle.std.proofs.Common.{◌≡◌, ℕ, ◌<◌, Bool, true, false, cond, List, Option, Some, None, refl, sym, ap, ◌∙◌, subst}
+use Rattle.std.proofs.Common.{◌≡◌, ℕ, ◌<◌, Bool, true, false, cond, List, Option, Some, None, sym, ap, ◌∙◌, subst}
 use Rattle.std.specs.Option.{option_map}
 use Rattle.std.specs.HashMap.{UpdatesBy}
 use Rattle.std.specs.Str.{bytes_eq}
 use Rattle.std.proofs.lemmas.Map.Text.{hash_map_updates_str}
 use Rattle.cb_types.specs.declared.handle.Handle.{Handle}
 use Rattle.cb_types.specs.declared.request.Request.TheVariants.{Make}
-use Rattle.cb_types.specs.declared.reply.Reply.{Reply}
 use Rattle.cb_types.specs.declared.reply.Reply.TheVariants as reply
-use Rattle.cb_lanes.specs.Names.{Names, kept_handle, kept_number, handle_at, AreKept, AreNamed}
+use Rattle.cb_lanes.specs.Names.{KeptNames, kept_handle, kept_number, kept_for, AreKept, AreNamed}
 use Rattle.cb_lanes.specs.MayAsk.{StayNamed}
 
 mapped : (test : Bool) (here other : Option Handle) (found : Option Handle)
@@ -19,7 +18,7 @@ mapped true here other found e = ap (option_map (λ (h : Handle). h.n)) e
 mapped false here other found e = ap (option_map (λ (h : Handle). h.n)) e
 
 -- a make that was given a handle has it kept under its name
-pub made_names : (names kept : Names) (name bytes text : List ℕ) (handle : Handle) (version : ℕ)
+pub made_names : (names kept : KeptNames) (name bytes text : List ℕ) (handle : Handle) (version : ℕ)
     → text ≡ name
     → UpdatesBy (λ x y. bytes_eq x.now y.now) (λ k. bytes_eq text k.now) names kept
     (Some handle)
@@ -28,24 +27,17 @@ made_names names kept name bytes text handle version same updates q =
     rw same at (mapped (bytes_eq text q) (Some handle) (kept_handle names q) (kept_handle kept q)
     (hash_map_updates_str text names kept (Some handle) updates q))
 
--- a make that was refused leaves them
-pub refused_names : (names : Names) (name bytes : List ℕ) (r : Reply)
-    → ((handle : Handle) (version : ℕ) → r ≡ reply.Made handle version → ⊥)
-    → AreKept names (Make name bytes) r names
-refused_names names name bytes (reply.Made handle version) never = absurd (never handle version refl)
-refused_names names name bytes r never = λ q. refl
-
 -- the handle of a name is within the bound of all
-pub name_within : (names : Names) (made : ℕ) (name : Option (List ℕ)) (h : ℕ)
+pub name_within : (names : KeptNames) (made : ℕ) (name : Option (List ℕ)) (h : ℕ)
     → ((q : List ℕ) (k : ℕ) → kept_number names q ≡ Some k → k < made)
-    → handle_at names name ≡ Some h → h < made
+    → kept_for names name ≡ Some h → h < made
 name_within names made None h within e = absurd cc
 name_within names made (Some q) h within e = within q h e
 
 -- ---- the handles that may be named
 
 -- one more name, whose handle may be named
-pub made_ready : (named after : ℕ → Type 0) (names kept : Names) (name bytes : List ℕ) (handle : Handle)
+pub made_ready : (named after : ℕ → Type 0) (names kept : KeptNames) (name bytes : List ℕ) (handle : Handle)
     (version : ℕ) → AreNamed named names → StayNamed named after → after handle.n
     → AreKept names (Make name bytes) (reply.Made handle version) kept → AreNamed after kept
 made_ready named after names kept name bytes handle version ready stay own are q h e =
@@ -54,8 +46,3 @@ made_ready named after names kept name bytes handle version ready stay own are q
     decide : (test : Bool) → cond test (Some handle.n) (kept_number names q) ≡ Some h → after h
     decide true is = let same : handle.n ≡ h = cc in subst after same own
     decide false is = stay h (ready q h is)
-
--- the same names
-pub still_ready : (named after : ℕ → Type 0) (names : Names) → AreNamed named names
-    → StayNamed named after → AreNamed after names
-still_ready named after names ready stay q h e = stay h (ready q h e)

@@ -1,6 +1,7 @@
 -- A write that is refused by the word of its object found that word, by a look or in its turn.
 use Rattle.std.proofs.Common.{◌≡◌, ◌≢◌, ℕ, zero, suc, ◌+◌, ◌-◌, ◌^◌, ◌==◌, ◌<◌, ◌≤◌, nat_lt, if◌then◌else◌, Bool, true, false, List, [], ◌∷◌, ◌++◌, length, Ok, Option, None, Some, refl, sym, ap, ◌∙◌, subst, inl, inr}
 use Rattle.std.proofs.lemmas.Bool.{ltb-true}
+use Rattle.std.proofs.lemmas.Option.{same_Some, none-some}
 use Rattle.cb_ptr.specs.declared.word.State.{State}
 use Rattle.cb_ptr.specs.declared.word.State.TheVariants as state
 use Rattle.cb_ptr.specs.Word.{len_of, pins_of, state_of}
@@ -58,12 +59,6 @@ here_some e = absurd cc
 
 far_some : state.Far ≡ state.Empty → ⊥
 far_some e = absurd cc
-
-same_reply : (a b : Reply) → Some a ≡ Some b → a ≡ b
-same_reply a b e = cc
-
-none_some : (a : Reply) → Some a ≡ None → ⊥
-none_some a e = cc
 
 module _ (h at : ℕ) (bytes : List ℕ) (r : Reply) (of_word : IsOfWord r) where
   abbrev Says : ℕ → Type 0
@@ -146,7 +141,7 @@ module _ (h at : ℕ) (bytes : List ℕ) (r : Reply) (of_word : IsOfWord r) wher
   -- ---- a write that is declined
   declined_in : (far : FarState) (es : List Event) → IsDeclined h at (length bytes) far (Some r) es
       → FoundIn es
-  declined_in far es (inl (gone, none, nothing)) = absurd (none_some _ none)
+  declined_in far es (inl (gone, none, nothing)) = absurd (none-some _ (sym none))
   declined_in far es (inr (stays, (w, v, found, is_far, told, last, is))) =
       by (nat_lt (len_of w) (at + length bytes)) refl (v == 2 ^ 64 - 1) is
     where
@@ -154,10 +149,10 @@ module _ (h at : ℕ) (bytes : List ℕ) (r : Reply) (of_word : IsOfWord r) wher
           → Some r ≡ (if past then Some (answer.Range (len_of w))
           else if last_one then Some answer.Worn else None) → FoundIn es
       by true is_so last_one e = found_in w es found (λ x. far_some (sym is_far ∙ x))
-          (so (answer.Range (len_of w)) (same_reply _ _ e) w
+          (so (answer.Range (len_of w)) (same_Some _ _ e) w
           (refl, ltb-true (len_of w) (at + length bytes) is_so))
-      by false is_so true e = absurd (not_so answer.Worn (same_reply _ _ e) (λ z. z))
-      by false is_so false e = absurd (none_some _ e)
+      by false is_so true e = absurd (not_so answer.Worn (same_Some _ _ e) (λ z. z))
+      by false is_so false e = absurd (none-some _ (sym e))
 
   -- ---- no bringing in is answered so
   swap_none : (id p : ℕ) (far new : FarState) (es : List Event) → SwapRule id p far new r es → ⊥
@@ -182,7 +177,7 @@ module _ (h at : ℕ) (bytes : List ℕ) (r : Reply) (of_word : IsOfWord r) wher
   where_in c a b (stays_far m n x look bring never) = absurd (bring_none c n b bring)
   where_in c a b (brought m n o f x look bring y) = write_in o b y
 
-  turned_in : (c : Config) (a b : Hold)
+  pub turned_in : (c : Config) (a b : Hold)
       → Turned slate_run slate_shows ReadsByPin c (job.Write (the_handle h) at bytes) a r b
       → FoundIn b.desk.acts
   turned_in c a b (worn end e same ran) = absurd (not_so answer.Worn e (λ z. z))

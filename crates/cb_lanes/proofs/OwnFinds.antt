@@ -1,21 +1,24 @@
 -- What a line found of an object: its newest version, or that it was freed.
 use Rattle.std.proofs.Common.{◌≡◌, ℕ, ◌<◌, List, [], ◌∷◌, ◌++◌, length, Ok, inl, inr, sym, refl, ap, ◌∙◌, subst}
 use Rattle.cb_types.specs.declared.config.Config.{Config}
+use Rattle.cb_types.specs.declared.job.Job.{Job}
 use Rattle.cb_types.specs.declared.job.Job.TheVariants as job
 use Rattle.cb_types.specs.declared.reply.Reply.TheVariants as answer
-use Rattle.cb_rule.specs.declared.view.Seen.{Seen}
+use Rattle.cb_world.specs.declared.entry.Entry.{Entry}
+use Rattle.cb_rule.specs.declared.turn.Turn.{Turn}
 use Rattle.cb_rule.specs.declared.view.Stand.{Stand}
 use Rattle.cb_rule.specs.declared.view.View.{View}
 use Rattle.cb_rule.specs.Lists.{Has}
 use Rattle.cb_rule.specs.Steps.{IsNewest, freed_seen, stand, version_seen, with_look}
 use Rattle.cb_ptr.specs.Word.{len_of, place_of}
-use Rattle.cb_record.specs.Parts.{Part, grown, sum}
-use Rattle.cb_record.proofs.Laws.{has_left}
+use Rattle.cb_record.specs.Parts.{Part, grown, nothing_more, sum}
+use Rattle.cb_record.proofs.Laws.{has_left, has_right}
 use Rattle.cb_shared.specs.declared.answers.WriteAnswer.{WriteAnswer}
 use Rattle.cb_shared.specs.declared.answers.WriteAnswer.TheVariants as place
+use Rattle.cb_shared.specs.declared.reading.ReadAnswer.TheVariants as found
 use Rattle.cb_shared.specs.Calls.{AtNone, AtThis, IsInVain, ReadGives, SaysAs, TurnGives, WriteAnswers, WriteCallEnds, WriteFinds, the_handle}
 use Rattle.cb_shared.specs.Reading.{FindsGone, IsReadHere, looked}
-use Rattle.cb_shared.specs.Turning.{TurnAdds, turn_part, with_own}
+use Rattle.cb_shared.specs.Turning.{FindsAtLast, turn_part, with_own}
 use Rattle.cb_lanes.specs.Passing.{IsPinnedOnce, PinGoes}
 
 -- a state of the record with these entries and own handles, by which the version was the newest
@@ -52,74 +55,61 @@ saw_before h version u v written fresh own saw = record {
   newest = saw.newest;
 }
 
-vain_written : (on : ℕ → Type 0) (j : _) (d : Part) → IsInVain on j d → d.written ≡ []
+-- so it was where the record grew by what wrote nothing
+saw_grown : (h version : ℕ) (v u : View) (before : Part) → before.written ≡ [] → u ≡ grown before v
+    → IsNewest h version u → SawNewest h version v
+saw_grown h version v u before none grew newest = record {
+  at = u;
+  written = ap (λ (z : View). z.written) grew ∙ ap (λ (l : List _). l ++ v.written) none;
+  fresh = ap (λ (z : View). z.fresh) grew;
+  own = λ k has. subst (λ (z : View). Has k z.own) (sym grew) has;
+  newest = newest;
+}
+
+vain_written : (on : ℕ → Type 0) (j : Job) (d : Part) → IsInVain on j d → d.written ≡ []
 vain_written on j d x = ap (λ (z : Part). z.written) x.part
 
-seen_last : (s : Seen) (v : View) (d before last : Part) → d ≡ sum before last → Has s last.seen
-    → Has s (d.seen ++ v.seen)
-seen_last s v d before last is has = subst (λ (z : Part). Has s (z.seen ++ v.seen)) (sym is)
-    (has_left s (last.seen ++ before.seen) v.seen (has_left s last.seen before.seen has))
+-- ---- a part in which it was found freed
+abbrev SawGone : ℕ → View → Part → Type 0
+SawGone h v d = (version : ℕ) × SawNewest h version v × Has (freed_seen h version) d.seen
 
--- ---- a look that found it freed
+-- by a look
 gone_saw : (h : ℕ) (v : View) (before last : Part) → before.written ≡ []
-    → FindsGone h (grown before v) last
-    → (version : ℕ) × SawNewest h version v × Has (freed_seen h version) last.seen
+    → FindsGone h (grown before v) last → SawGone h v last
 gone_saw h v before last none (word, version, empty, newest, is) = (
   version,
-  record {
-    at = grown before v;
-    written = ap (λ (l : List _). l ++ v.written) none;
-    fresh = refl;
-    own = λ k has. has;
-    newest = newest;
-  },
+  saw_grown h version v (grown before v) before none refl newest,
   subst (λ (z : Part). Has (freed_seen h version) z.seen) (sym is) (inl refl),
 )
 
--- a turn of a write or a free that was answered so
-write_gone : (c : Config) (h at : ℕ) (bytes : List ℕ) (v : View) (d : Part)
-    → TurnAdds c (job.Write (the_handle h) at bytes) (Ok answer.Freed) v d
-    → (version : ℕ) × SawNewest h version v × Has (freed_seen h version) d.seen
-write_gone c h at bytes v d x = (
-  z.0,
-  saw_before h z.0 (with_own [] (grown (turn_part x.turn x.more x.within nothing_later) v)) v
-      (ap (λ (l : List _). l ++ v.written) x.wrote) refl (λ k has. has) z.1,
-  subst (λ (y : Part). Has (freed_seen h z.0) y.seen) (sym x.part)
-      (has_left (freed_seen h z.0) x.later.seen x.within.seen
-      (subst (λ (y : Part). Has (freed_seen h z.0) y.seen) (sym x.finds.part)
-      (has_left (freed_seen h z.0) x.finds.last.seen x.finds.before.seen z.2))),
-)
-  where
-    nothing_later : Part
-    nothing_later = record { written = []; seen = []; peeked = []; ever = 0; looks = []; turns = [] }
+-- by a turn that was answered so, which wrote nothing
+turn_gone : (h : ℕ) (v : View) (d : Part) (t : Turn) (made : List ℕ) (more : List Entry)
+    (within later : Part) → more ≡ []
+    → FindsAtLast h found.Freed (with_own made (grown (turn_part t more within nothing_more) v)) later
+    → d ≡ turn_part t more within later → SawGone h v d
+turn_gone h v d t made more within later none x part =
+    let u = with_own made (grown (turn_part t more within nothing_more) v) in
+    let z = gone_saw h u x.before x.last (ap (λ (y : Part). y.written) x.lost.part) x.finds in (
+      z.0,
+      saw_before h z.0 u v (ap (λ (l : List _). l ++ v.written) none) refl
+          (λ k has. has_right k made v.own has) z.1,
+      subst (λ (y : Part). Has (freed_seen h z.0) y.seen) (sym part)
+          (has_left (freed_seen h z.0) later.seen within.seen
+          (subst (λ (y : Part). Has (freed_seen h z.0) y.seen) (sym x.part)
+          (has_left (freed_seen h z.0) x.last.seen x.before.seen z.2))),
+    )
 
-    z : (version : ℕ) × SawNewest h version
-        (with_own [] (grown (turn_part x.turn x.more x.within nothing_later) v))
-        × Has (freed_seen h version) x.finds.last.seen
-    z = gone_saw h (with_own [] (grown (turn_part x.turn x.more x.within nothing_later) v))
-        x.finds.before x.finds.last (ap (λ (y : Part). y.written) x.finds.lost.part) x.finds.finds
-
-free_gone : (c : Config) (h : ℕ) (v : View) (d : Part)
-    → TurnAdds c (job.Free (the_handle h)) (Ok answer.Freed) v d
-    → (version : ℕ) × SawNewest h version v × Has (freed_seen h version) d.seen
-free_gone c h v d x = (
-  z.0,
-  saw_before h z.0 (with_own [] (grown (turn_part x.turn x.more x.within nothing_later) v)) v
-      (ap (λ (l : List _). l ++ v.written) x.wrote) refl (λ k has. has) z.1,
-  subst (λ (y : Part). Has (freed_seen h z.0) y.seen) (sym x.part)
-      (has_left (freed_seen h z.0) x.later.seen x.within.seen
-      (subst (λ (y : Part). Has (freed_seen h z.0) y.seen) (sym x.finds.part)
-      (has_left (freed_seen h z.0) x.finds.last.seen x.finds.before.seen z.2))),
-)
-  where
-    nothing_later : Part
-    nothing_later = record { written = []; seen = []; peeked = []; ever = 0; looks = []; turns = [] }
-
-    z : (version : ℕ) × SawNewest h version
-        (with_own [] (grown (turn_part x.turn x.more x.within nothing_later) v))
-        × Has (freed_seen h version) x.finds.last.seen
-    z = gone_saw h (with_own [] (grown (turn_part x.turn x.more x.within nothing_later) v))
-        x.finds.before x.finds.last (ap (λ (y : Part). y.written) x.finds.lost.part) x.finds.finds
+-- the last part of a call, behind one that wrote nothing
+call_freed : (h : ℕ) (v w : View) (d before last : Part) → d ≡ sum before last
+    → w.seen ≡ d.seen ++ v.seen → SawGone h v last → SawFreed h v w
+call_freed h v w d before last part seen z = record {
+  version = z.0;
+  saw = z.1;
+  read = subst (Has (freed_seen h z.0)) (sym seen)
+      (subst (λ (y : Part). Has (freed_seen h z.0) (y.seen ++ v.seen)) (sym part)
+      (has_left (freed_seen h z.0) (last.seen ++ before.seen) v.seen
+      (has_left (freed_seen h z.0) last.seen before.seen z.2)));
+}
 
 -- ---- a read
 pub saw_read : (c : Config) (h version : ℕ) (bytes : List ℕ) (v w : View)
@@ -134,13 +124,9 @@ saw_read c h version bytes v w (d, x, is) =
     }
 
 pub freed_read : (c : Config) (h : ℕ) (v w : View) → ReadGives c h answer.Freed v w → SawFreed h v w
-freed_read c h v w (d, x, is) =
-    let z = gone_saw h v x.before x.last (vain_written (AtThis h) _ x.before x.in_vain) x.ends_so in record {
-      version = z.0;
-      saw = z.1;
-      read = subst (λ (y : View). Has (freed_seen h z.0) y.seen) (sym is)
-          (seen_last (freed_seen h z.0) v d x.before x.last x.part z.2);
-    }
+freed_read c h v w (d, x, is) = call_freed h v w d x.before x.last x.part
+    (ap (λ (z : View). z.seen) is)
+    (gone_saw h v x.before x.last (vain_written (AtThis h) _ x.before x.in_vain) x.ends_so)
 
 -- ---- a write
 place_gone : (h at : ℕ) (bytes : List ℕ) (v : View) (d : Part) (a : WriteAnswer)
@@ -154,76 +140,65 @@ place_gone h at bytes v d a says x = absurd says
 
 write_ends : (c : Config) (h at : ℕ) (bytes : List ℕ) (v : View) (before last : Part)
     → before.written ≡ [] → WriteCallEnds c h at bytes answer.Freed (grown before v) last
-    → (version : ℕ) × SawNewest h version v × Has (freed_seen h version) last.seen
+    → SawGone h v last
 write_ends c h at bytes v before last none (inl x) =
     gone_saw h v before last none (place_gone h at bytes (grown before v) last x.0 x.1 x.2)
 write_ends c h at bytes v before last none (inr x) =
-    let z = write_gone c h at bytes (grown (looked h x.word) (grown before v)) x.later x.turned.1 in (
+    let t = x.turned.1 in
+    let u = grown (looked h x.word) (grown before v) in
+    let z = turn_gone h u x.later t.turn [] t.more t.within t.later t.wrote t.finds t.part in (
       z.0,
-      saw_before h z.0 (grown (looked h x.word) (grown before v)) v
-          (ap (λ (l : List _). l ++ v.written) none) refl (λ k has. has) z.1,
+      saw_before h z.0 u v (ap (λ (l : List _). l ++ v.written) none) refl (λ k has. has) z.1,
       subst (λ (y : Part). Has (freed_seen h z.0) y.seen) (sym x.part)
           (has_left (freed_seen h z.0) x.later.seen [] z.2),
     )
 
 pub freed_write : (c : Config) (h at : ℕ) (bytes : List ℕ) (v w : View)
     → WriteAnswers c h at bytes answer.Freed v w → SawFreed h v w
-freed_write c h at bytes v w (d, x, is) =
-    let z = write_ends c h at bytes v x.before x.last (vain_written (AtThis h) _ x.before x.in_vain) x.ends_so in
-    record {
-      version = z.0;
-      saw = z.1;
-      read = subst (λ (y : View). Has (freed_seen h z.0) y.seen) (sym is)
-          (seen_last (freed_seen h z.0) v d x.before x.last x.part z.2);
-    }
+freed_write c h at bytes v w (d, x, is) = call_freed h v w d x.before x.last x.part
+    (ap (λ (z : View). z.seen) is) (write_ends c h at bytes v x.before x.last
+    (vain_written (AtThis h) _ x.before x.in_vain) x.ends_so)
 
 -- ---- a free
 pub freed_free : (c : Config) (h : ℕ) (v w : View)
     → TurnGives c (job.Free (the_handle h)) answer.Freed v w → SawFreed h v w
 freed_free c h v w (d, x, is) =
-    let z = free_gone c h (grown x.before v) x.last x.ends_so.1 in record {
-      version = z.0;
-      saw = saw_before h z.0 (grown x.before v) v
-          (ap (λ (l : List _). l ++ v.written) (vain_written AtNone _ x.before x.in_vain)) refl (λ k has. has) z.1;
-      read = subst (λ (y : View). Has (freed_seen h z.0) y.seen) (sym is)
-          (seen_last (freed_seen h z.0) v d x.before x.last x.part z.2);
-    }
+    let t = x.ends_so.1 in
+    let z = turn_gone h (grown x.before v) x.last t.turn [] t.more t.within t.later t.wrote t.finds
+    t.part in
+    call_freed h v w d x.before x.last x.part (ap (λ (z : View). z.seen) is) (
+      z.0,
+      saw_before h z.0 (grown x.before v) v
+          (ap (λ (l : List _). l ++ v.written) (vain_written AtNone _ x.before x.in_vain)) refl
+          (λ k has. has) z.1,
+      z.2,
+    )
 
 -- ---- a pin
 pub saw_pin : (c : Config) (h version : ℕ) (v w : View) → PinGoes c h v (answer.Version version) w
     → SawPinned h version v w
 saw_pin c h version v w (room, x) =
     let once : IsPinnedOnce h version x.between w = x.ends_so in
-    let grew : x.between ≡ grown x.in_vain.0 v = x.in_vain.2 in record {
+    let before = x.in_vain.0 in
+    let grew : x.between ≡ grown before v = x.in_vain.2 in
+    let pin = stand h (len_of once.word) (place_of once.word) version once.words in record {
       room = room;
-      saw = record {
-        at = x.between;
-        written = ap (λ (z : View). z.written) grew
-            ∙ ap (λ (l : List _). l ++ v.written) (vain_written (AtThis h) _ x.in_vain.0 x.in_vain.1);
-        fresh = ap (λ (z : View). z.fresh) grew;
-        own = λ k has. subst (λ (z : View). Has k z.own) (sym grew) has;
-        newest = once.newest;
-      };
-      pin = stand h (len_of once.word) (place_of once.word) version once.words;
+      saw = saw_grown h version v x.between before (vain_written (AtThis h) _ before x.in_vain.1) grew
+          once.newest;
+      pin = pin;
       handle = refl;
       number = refl;
-      pins = ap (λ (z : View). z.pins) once.left
-          ∙ ap (λ (z : View). stand h (len_of once.word) (place_of once.word) version once.words ∷ z.pins) grew;
+      pins = ap (λ (z : View). z.pins) once.left ∙ ap (λ (z : View). pin ∷ z.pins) grew;
       read = subst (λ (z : View). Has (version_seen h version (len_of once.word) once.words) z.seen)
           (sym once.left) (inl refl);
     }
 
 pub freed_pin : (c : Config) (h : ℕ) (v w : View) → PinGoes c h v answer.Freed w → SawFreed h v w
 freed_pin c h v w (room, x) =
-    let grew : x.between ≡ grown x.in_vain.0 v = x.in_vain.2 in record {
-      version = x.ends_so.1;
-      saw = record {
-        at = x.between;
-        written = ap (λ (z : View). z.written) grew
-            ∙ ap (λ (l : List _). l ++ v.written) (vain_written (AtThis h) _ x.in_vain.0 x.in_vain.1);
-        fresh = ap (λ (z : View). z.fresh) grew;
-        own = λ k has. subst (λ (z : View). Has k z.own) (sym grew) has;
-        newest = x.ends_so.3;
-      };
-      read = subst (λ (z : View). Has (freed_seen h x.ends_so.1) z.seen) (sym x.ends_so.4) (inl refl);
+    let before = x.in_vain.0 in
+    let version = x.ends_so.1 in record {
+      version = version;
+      saw = saw_grown h version v x.between before (vain_written (AtThis h) _ before x.in_vain.1)
+          x.in_vain.2 x.ends_so.3;
+      read = subst (λ (z : View). Has (freed_seen h version) z.seen) (sym x.ends_so.4) (inl refl);
     }

@@ -1,6 +1,7 @@
 -- A record has the entries of its own objects in order: versions rise in it, and each entry goes on
 -- from one that the record has.
 use Rattle.std.proofs.Common.{◌≡◌, ◌≢◌, ◌⊎◌, ℕ, zero, suc, ◌+◌, ◌<◌, ◌≤◌, false, List, [], ◌∷◌, ◌++◌, Option, None, Some, inl, inr, sym, refl, ap, ◌∙◌, subst, append_assoc, arith}
+use Rattle.std.proofs.lemmas.Option.{same_Some}
 use mathlib.Core.Option.{some, some-injective, some-ne-none}
 use lib.ListN.{get_elem?}
 use Rattle.cb_world.specs.declared.entry.Entry.{Entry}
@@ -13,7 +14,7 @@ use Rattle.cb_rule.specs.Promised.{EntryGoesOn}
 use Rattle.cb_record.proofs.Laws.{has_right}
 use Rattle.cb_shared.specs.Recalls.{Recalls}
 use Rattle.cb_lanes.specs.KeepsOwn.{AreEntriesInOrder, AreLong, AreRead, ComesBehind, KeepsOwn, last_in}
-use Rattle.cb_lanes.proofs.OwnObjects.{handle_cases, last_has, last_hit, last_past, none_has, some_same}
+use Rattle.cb_lanes.proofs.OwnObjects.{handle_cases, last_has, last_hit, last_past, none_has}
 
 -- versions of these objects rise
 abbrev pub AreRising : (ℕ → Type 0) → List Entry → Type 0
@@ -68,11 +69,11 @@ module _ (w : View) (told : Recalls 1 w) (calm : w.fresh ≡ []) where
       by : (e.handle ≡ h) ⊎ (e.handle ≢ h) → (e ≡ x) ⊎ Has x es
           → ((z : Entry) → last_in es h ≡ Some z → Has x es → x.version ≤ z.version) → x.version ≤ y.version
       by (inl at) (inl one) rest = let v : x.version ≡ y.version = ap (λ (z : Entry). z.version)
-          (sym one ∙ some_same e y (sym (last_hit e es h at) ∙ is)) in omega (arith, v)
+          (sym one ∙ same_Some e y (sym (last_hit e es h at) ∙ is)) in omega (arith, v)
       by (inl at) (inr behind) rest =
           let less = rising.0 (subst Mine (sym at) mine) x behind (same ∙ sym at) in
           let v : e.version ≡ y.version = ap (λ (z : Entry). z.version)
-          (some_same e y (sym (last_hit e es h at) ∙ is)) in omega (arith, less, v)
+          (same_Some e y (sym (last_hit e es h at) ∙ is)) in omega (arith, less, v)
       by (inr off) (inl one) rest = absurd (off (ap (λ (z : Entry). z.handle) one ∙ same))
       by (inr off) (inr behind) rest = rest y (sym (last_past e es h off) ∙ is) behind
 

@@ -36,7 +36,8 @@ use Rattle.cb_lanes.proofs.LineParts.{LineAdds, told_as}
 use Rattle.cb_lanes.proofs.OwnObjects.{last_hit}
 use Rattle.cb_lanes.proofs.OwnSays.{OwnAt, comes_next, free_one, free_reply, goes_own, peek_reply, pin_reply, pin_shows, read_reply, unpin_reply, write_one, write_reply}
 use Rattle.cb_lanes.proofs.OwnStands.{IsObject, LanePinsStand, LaneStands, ShowsLast, given_back, named_pins, newest_none, newest_some, scope_long}
-use Rattle.cb_lanes.proofs.OwnSteps.{Grew, OwnMore, call_pins, name_test, pinned_held, pins_still, stands_changed, stands_still}
+use Rattle.cb_lanes.proofs.OwnSteps.{Grew, OwnMore, call_pins, pinned_held, pins_still, stands_changed, stands_still}
+use Rattle.cb_lanes.proofs.PinLists.{name_cases}
 
 -- The record in the end: it has all that the record m has, and keeps what it has of its own objects.
 pub record LeadsTo (m all : View) : Type 0 where
@@ -63,7 +64,7 @@ no_entry v m t y none = let b = y.2.wrote in ap (λ (z : View). z.written) y.1
 -- ---- names
 nows_same : (p : List ℕ) (objects : List NamedNow) (now : MapNow) → now ≡ now_named p objects → (q : List ℕ)
     → now_named q (record { name = p; now = now } ∷ objects) ≡ now_named q objects
-nows_same p objects now same q = by (name_test p q)
+nows_same p objects now same q = by (name_cases p q)
   where
     by : ((bytes_eq p q ≡ true) × (p ≡ q)) ⊎ ((bytes_eq p q ≡ false) × (p ≢ q))
         → (if bytes_eq p q then now else now_named q objects) ≡ now_named q objects

@@ -37,7 +37,8 @@ use Rattle.cb_lanes.proofs.OwnMade.{made_first, made_fresh}
 use Rattle.cb_lanes.proofs.OwnObjects.{last_hit, last_past}
 use Rattle.cb_lanes.proofs.OwnSays.{goes_own}
 use Rattle.cb_lanes.proofs.OwnStands.{LanePinsStand, LaneStands, ObjectStands, none_shared}
-use Rattle.cb_lanes.proofs.OwnSteps.{Grew, call_pins, name_test, pins_still, stands_made, stands_still}
+use Rattle.cb_lanes.proofs.OwnSteps.{Grew, call_pins, pins_still, stands_made, stands_still}
+use Rattle.cb_lanes.proofs.PinLists.{name_cases}
 use Rattle.cb_lanes.proofs.TellingNew.{ask_new}
 
 -- the request neither makes an object nor changes the scope
@@ -49,30 +50,30 @@ KeepsScope Leave = ⊥
 KeepsScope q = Unit {0}
 
 -- one entry, of the object of this handle
-abbrev IsOneOf : Option ℕ → List Entry → Type 0
-IsOneOf o es = (g : ℕ) × (o ≡ Some g) × (e : Entry) × (es ≡ e ∷ []) × (e.handle ≡ g)
+abbrev IsOneEntryOf : Option ℕ → List Entry → Type 0
+IsOneEntryOf o es = (g : ℕ) × (o ≡ Some g) × (e : Entry) × (es ≡ e ∷ []) × (e.handle ≡ g)
 
 write_enters : (o : Option ℕ) (p : List ℕ) (at : ℕ) (bytes : List ℕ) (r : Reply) (es : List Entry)
-    → EntersAt o (Write p at bytes) r es → (es ≡ []) ⊎ IsOneOf o es
+    → EntersAt o (Write p at bytes) r es → (es ≡ []) ⊎ IsOneEntryOf o es
 write_enters None p at bytes r es x = inl x
 write_enters (Some g) p at bytes (answer.Version n) es x =
     inr (g, refl, entry g n x.0 x.1 x.2, x.5, refl)
 write_enters (Some g) p at bytes r es x = inl x
 
 free_enters : (o : Option ℕ) (p : List ℕ) (r : Reply) (es : List Entry)
-    → EntersAt o (Free p) r es → (es ≡ []) ⊎ IsOneOf o es
+    → EntersAt o (Free p) r es → (es ≡ []) ⊎ IsOneEntryOf o es
 free_enters None p r es x = inl x
 free_enters (Some g) p (answer.Version n) es x = inr (g, refl, gone g n x.0, x.1, refl)
 free_enters (Some g) p r es x = inl x
 
 -- the request neither makes, writes nor frees an object
-abbrev IsIdle : Request → Type 0
-IsIdle (Make name bytes) = ⊥
-IsIdle (Write name at bytes) = ⊥
-IsIdle (Free name) = ⊥
-IsIdle q = Unit {0}
+abbrev ChangesNone : Request → Type 0
+ChangesNone (Make name bytes) = ⊥
+ChangesNone (Write name at bytes) = ⊥
+ChangesNone (Free name) = ⊥
+ChangesNone q = Unit {0}
 
-pub enters_none : (o : Option ℕ) (q : Request) (r : Reply) (es : List Entry) → IsIdle q → EntersAt o q r es
+pub enters_none : (o : Option ℕ) (q : Request) (r : Reply) (es : List Entry) → ChangesNone q → EntersAt o q r es
     → es ≡ []
 enters_none o (Make p bytes) r es idle x = absurd idle
 enters_none o (Write p at bytes) r es idle x = absurd idle
@@ -148,7 +149,7 @@ module _ (c : Config) (lines : List Line) (lane : ℕ) (named : Option (List ℕ
   own_make p bytes (answer.Made hd version) ((d, y, is), tells) adds line room none more = (
     (hd, ap (answer.Made hd) first),
     stands_made lines lane handle later state (alone_after state (Make p bytes) (answer.Made hd version)) v m p hd.n e
-        (Some (Held version bytes)) grew (λ q off. more q ∙ other q off (name_test p q)) (more p ∙ made (name_test p p))
+        (Some (Held version bytes)) grew (λ q off. more q ∙ other q off (name_cases p q)) (more p ∙ made (name_cases p p))
         refl none fresh wrote refl (call_pins c (job.Make bytes) (answer.Made hd version) v m (d, y, is)) (record {
           own = subst (λ (k : View). Has hd.n k.own) (sym is) (inl refl);
           last = e;
@@ -266,7 +267,7 @@ module _ (c : Config) (lines : List Line) (lane : ℕ) (named : Option (List ℕ
 
   -- ---- a line that is not the lane's own
   -- what it enters is of no own object
-  last_other : (o : Option ℕ) (es : List Entry) → m.written ≡ es ++ v.written → (es ≡ []) ⊎ IsOneOf o es
+  last_other : (o : Option ℕ) (es : List Entry) → m.written ≡ es ++ v.written → (es ≡ []) ⊎ IsOneEntryOf o es
       → ((q : List ℕ) (g : ℕ) → is_maker lines lane q ≡ true → handle q ≡ Some g → o ≡ Some g → ⊥)
       → (q : List ℕ) (k : ℕ) → is_maker lines lane q ≡ true → handle q ≡ Some k
       → last_in m.written k ≡ last_in v.written k

@@ -1,6 +1,7 @@
 -- The entries of objects that one record alone writes, in order, and what was read of them.
-use Rattle.std.proofs.Common.{◌≡◌, ◌≢◌, ◌⊎◌, ℕ, ◌+◌, ◌<◌, ◌≤◌, Bool, true, false, ◌&&◌, cond, eqb, List, [], ◌∷◌, ◌++◌, Option, None, Some, inl, inr, sym, refl, ap, ◌∙◌, subst, eq-eqb, ne_eqb, true≢false, arith}
-use Rattle.std.proofs.lemmas.Bool.{cases_Bool, eqb-true, false≢true}
+use Rattle.std.proofs.Common.{◌≡◌, ◌≢◌, ◌⊎◌, ℕ, ◌+◌, ◌<◌, ◌≤◌, Bool, true, false, cond, eqb, List, [], ◌∷◌, ◌++◌, Option, None, Some, inl, inr, sym, refl, ap, ◌∙◌, subst, eq-eqb, ne_eqb, true≢false, arith}
+use Rattle.std.proofs.lemmas.Bool.{cases_Bool, eqb-true, and_parts}
+use Rattle.std.proofs.lemmas.Option.{same_Some, none-some}
 use Rattle.cb_world.specs.declared.entry.Entry.{Entry}
 use Rattle.cb_rule.specs.declared.view.Seen.{Seen}
 use Rattle.cb_rule.specs.declared.view.View.{View}
@@ -11,16 +12,7 @@ use Rattle.cb_rule.specs.Steps.{IsNewest}
 use Rattle.cb_rule.proofs.Laws.{each_has}
 use Rattle.cb_record.proofs.Laws.{has_right}
 use Rattle.cb_lanes.specs.KeepsOwn.{AreEntriesInOrder, AreRead, ComesBehind, EntryComesNext, last_in}
-
--- one, where it is so
-abbrev pub one_if : Bool → ℕ
-one_if b = cond b 1 0
-
-pub some_same : {A : Type 0} (x y : A) → Some x ≡ Some y → x ≡ y
-some_same x y e = cc
-
-pub none_some_of : {A : Type 0} (x : A) → ◌≡◌ {A = Option A} None (Some x) → ⊥
-none_some_of x e = cc
+use Rattle.cb_lanes.proofs.Lists.{one_if}
 
 -- ---- the last entry
 pub last_hit : (e : Entry) (es : List Entry) (h : ℕ) → e.handle ≡ h → last_in (e ∷ es) h ≡ Some e
@@ -41,12 +33,12 @@ handle_cases e h = by (cases_Bool (eqb e.handle h))
 
 pub last_has : (es : List Entry) (h : ℕ) (x : Entry) → last_in es h ≡ Some x
     → Has x es × (x.handle ≡ h)
-last_has [] h x is = absurd (none_some_of x is)
+last_has [] h x is = absurd (none-some x is)
 last_has (e ∷ es) h x is = by (last_has es h x) (handle_cases e h)
   where
     by : (last_in es h ≡ Some x → Has x es × (x.handle ≡ h)) → (e.handle ≡ h) ⊎ (e.handle ≢ h)
         → Has x (e ∷ es) × (x.handle ≡ h)
-    by later (inl same) = let one : e ≡ x = some_same e x (sym (last_hit e es h same) ∙ is) in
+    by later (inl same) = let one : e ≡ x = same_Some e x (sym (last_hit e es h same) ∙ is) in
         (inl one, ap (λ (z : Entry). z.handle) (sym one) ∙ same)
     by later (inr off) = let z = later (sym (last_past e es h off) ∙ is) in (inr z.0, z.1)
 
@@ -56,7 +48,7 @@ none_has (y ∷ es) h e none has same = by (none_has es h e) (handle_cases y h) 
   where
     by : (last_in es h ≡ None → Has e es → e.handle ≡ h → ⊥) → (y.handle ≡ h) ⊎ (y.handle ≢ h)
         → (y ≡ e) ⊎ Has e es → ⊥
-    by later (inl at) z = none_some_of y (sym none ∙ last_hit y es h at)
+    by later (inl at) z = none-some y (sym none ∙ last_hit y es h at)
     by later (inr off) (inl one) = off (ap (λ (z : Entry). z.handle) one ∙ same)
     by later (inr off) (inr rest) = later (sym (last_past y es h off) ∙ none) rest same
 
@@ -94,9 +86,9 @@ module _ (mine : ℕ → Type 0) (h : ℕ) (own : mine h) where
 
       by : ((z : Entry) → last_in es h ≡ Some z → Has e es → e.handle ≡ h → (e ≡ z) ⊎ (e.version < z.version))
           → (y.handle ≡ h) ⊎ (y.handle ≢ h) → (y ≡ e) ⊎ Has e es → (e ≡ x) ⊎ (e.version < x.version)
-      by later (inl at) (inl one) = inl (sym one ∙ some_same y x (sym (last_hit y es h at) ∙ is))
+      by later (inl at) (inl one) = inl (sym one ∙ same_Some y x (sym (last_hit y es h at) ∙ is))
       by later (inl at) (inr rest) = inr (subst (λ (z : Entry). e.version < z.version)
-          (some_same y x (sym (last_hit y es h at) ∙ is)) (behind (last_in es h) refl at rest later))
+          (same_Some y x (sym (last_hit y es h at) ∙ is)) (behind (last_in es h) refl at rest later))
       by later (inr off) (inl one) = absurd (off (ap (λ (z : Entry). z.handle) one ∙ same))
       by later (inr off) (inr rest) = later x (sym (last_past y es h off) ∙ is) rest same
 
@@ -208,13 +200,8 @@ module _ (mine : ℕ → Type 0) (h : ℕ) (own : mine h) where
               omega (arith, some_one, n)) in (z.0, inr z.1, z.2)
 
       parts : (e : Entry) → is_version h version e ≡ true → (e.handle ≡ h) × (e.version ≡ version)
-      parts e is = let z = both (eqb e.handle h) (eqb e.version version) is in
+      parts e is = let z = and_parts (eqb e.handle h) (eqb e.version version) is in
           (eqb-true e.handle h z.0, eqb-true e.version version z.1)
-        where
-          both : (a b : Bool) → (a && b) ≡ true → (a ≡ true) × (b ≡ true)
-          both true true e = (refl, refl)
-          both true false e = absurd (false≢true e)
-          both false b e = absurd (false≢true e)
 
       up : (e : Entry) → x.version ≤ version → (e.handle ≡ h) × (e.version ≡ version)
           → (e ≡ x) ⊎ (e.version < x.version) → version ≡ x.version

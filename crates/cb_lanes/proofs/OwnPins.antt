@@ -1,6 +1,7 @@
 -- The pins on an object of a lane are the lane's own.
 use Rattle.std.proofs.Common.{◌≡◌, ◌≢◌, ◌⊎◌, ℕ, ◌<◌, ◌≤◌, true, List, [], length, map, take, Option, None, Some, refl, sym, ap, ◌∙◌, subst, arith, inl, inr}
 use Rattle.std.proofs.lemmas.Bool.{cases_lt}
+use Rattle.std.proofs.lemmas.Option.{same_Some}
 use Rattle.cb_ptr.specs.declared.word.State.TheVariants as state
 use Rattle.cb_ptr.specs.Word.{len_of, pins_of}
 use Rattle.cb_types.specs.declared.answer.Answer.{Answer}
@@ -150,21 +151,18 @@ module _ (side : Side) (nodes i : ℕ) (lines : List Line) (answers : List Answe
       free_tells nodes i lines answers w new number later own name h are so_far scopes c some low comes maker e
       (ready name h e) r (turn_alone own (job.Free (record { n = h })) w new r c.lone step)
 
-  same_name : (a b : List ℕ) → Some a ≡ Some b → a ≡ b
-  same_name a b e = cc
-
   pub line_tells : (request : Request) (r : Reply) (handle : Option ℕ)
       → ((name : List ℕ) → name_of request ≡ Some name → number name ≡ handle)
       → LineStep side own handle request w r new → (name : List ℕ) → name_of request ≡ Some name
       → is_maker lines own name ≡ true
       → PinsTell (value_named answers name) (named_on name (scope_of own answers)) request r
   line_tells (Write written at bytes) r handle at_name step name e maker =
-      let is : written ≡ name = same_name written name e in
+      let is : written ≡ name = same_Some written name e in
       subst (λ (q : List ℕ). PinsTell (value_named answers q) (named_on q (scope_of own answers))
       (Write written at bytes) r) is
       (write_by written at bytes r (ap (is_maker lines own) is ∙ maker) handle (at_name written refl) step)
   line_tells (Free freed) r handle at_name step name e maker =
-      let is : freed ≡ name = same_name freed name e in
+      let is : freed ≡ name = same_Some freed name e in
       subst (λ (q : List ℕ). ChangeTells (named_on q (scope_of own answers)) r) is
       (free_by freed r (ap (is_maker lines own) is ∙ maker) handle (at_name freed refl) step)
   line_tells request r handle at_name step name e maker = tt

@@ -1,6 +1,7 @@
 -- Each line on an object that its pass made is answered by what the object's last entry left, and by
 -- the pass's own pins.
 use Rattle.std.proofs.Common.{◌≡◌, ◌⊎◌, ℕ, ◌+◌, ◌<◌, ◌≤◌, Bool, true, false, cond, List, [], ◌∷◌, ◌++◌, length, Option, None, Some, inl, inr, sym, refl, ap, ◌∙◌, subst, true≢false, append_assoc, arith}
+use Rattle.std.proofs.lemmas.Option.{same_Some}
 use Rattle.cb_types.specs.declared.config.Config.{Config}
 use Rattle.cb_types.specs.declared.job.Job.TheVariants as job
 use Rattle.cb_types.specs.declared.reply.Reply.{Reply}
@@ -31,7 +32,7 @@ use Rattle.cb_record.specs.Parts.{Part}
 use Rattle.cb_record.proofs.Laws.{has_left, has_right}
 use Rattle.cb_shared.specs.declared.answers.WriteAnswer.{WriteAnswer}
 use Rattle.cb_shared.specs.declared.answers.WriteAnswer.TheVariants as place
-use Rattle.cb_shared.specs.Calls.{ReadGives, SaysAs, TurnGives, WriteAnswers, the_handle}
+use Rattle.cb_shared.specs.Calls.{ReadGives, SaysAs, TurnGives, WriteAnswers, the_handle, IsAnswerTo}
 use Rattle.cb_lanes.specs.Alone.{change_alone, free_alone, peek_alone, pin_alone, pin_object, read_alone, unpin_alone, write_alone}
 use Rattle.cb_lanes.specs.AloneUntil.{is_lack}
 use Rattle.cb_lanes.specs.KeepsOwn.{AreEntriesInOrder, AreLong, AreRead, ComesBehind, EntryComesNext, last_in}
@@ -39,9 +40,10 @@ use Rattle.cb_lanes.specs.LineGoes.{Ask, Calls, Goes}
 use Rattle.cb_lanes.specs.Passing.{HasNoPin, IsNewestPin, PeekGoes, PinGoes, UnpinGoes, goes_in}
 use Rattle.cb_lanes.proofs.AloneReplies.{changed_alone, full_pin, past_alone, pinned_alone, room_pin, within_alone}
 use Rattle.cb_lanes.proofs.LineParts.{LineAdds, told_as}
+use Rattle.cb_lanes.proofs.Lists.{found_one}
 use Rattle.cb_lanes.proofs.OwnEnds.{IsOfWord, SawWord, saw_write}
 use Rattle.cb_lanes.proofs.OwnFinds.{SawFreed, SawNewest, SawPinned, freed_free, freed_pin, freed_read, freed_write, saw_pin, saw_read}
-use Rattle.cb_lanes.proofs.OwnObjects.{last_has, newest_is, older, one_length, order_front, read_is, some_same}
+use Rattle.cb_lanes.proofs.OwnObjects.{last_has, newest_is, older, one_length, order_front, read_is}
 use Rattle.cb_lanes.proofs.OwnStands.{ShowsLast, object_of}
 
 -- What a change of an object that is the pass's own tells: one that is done found no pin, and one
@@ -82,11 +84,6 @@ pub record OwnAt (mine : ℕ → Type 0) (h : ℕ) (x : Entry) (v m all : View) 
   pub seen : (s : Seen) → Has s m.seen → Has s all.seen
   pub long : AreLong mine all
   pub found : (l : Look) → FoundBy l m → FoundBy l all
-
-one_of : {A : Type 0} (P : A → Type 0) (xs : List A) → HasOne P xs → (x : A) × Has x xs × P x
-one_of P [] has = absurd has
-one_of P (x ∷ xs) (inl is) = (x, inl refl, is)
-one_of P (x ∷ xs) (inr has) = let z = one_of P xs has in (z.0, inr z.1, z.2)
 
 -- one entry was written, of this object
 pub record WritesOne (h version : ℕ) (v m : View) : Type 0 where
@@ -162,7 +159,7 @@ module _ (mine : ℕ → Type 0) (h : ℕ) (x : Entry) (v m all : View) (at_ : O
       → version ≡ x.version → HasOne (IsReadAs h version bytes) d.seen
       → answer.Bytes version bytes ≡ read_alone (Some (object_of x))
   bytes_read version bytes d more same has =
-      let z = one_of (IsReadAs h version bytes) d.seen has in
+      let z = found_one (IsReadAs h version bytes) d.seen has in
       let e = seen_is z.0 (more z.0 z.1) z.2.0 (z.2.1 ∙ same) in
       let held : x.freed ≡ false = sym (ap (λ (s : Seen). s.freed) e) ∙ z.2.2 in
       let is : bytes ≡ bytes_in x.after x.len = z.2.3 ∙ ap (λ (s : Seen). bytes_in s.words s.len) e in
@@ -185,36 +182,29 @@ module _ (mine : ℕ → Type 0) (h : ℕ) (x : Entry) (v m all : View) (at_ : O
   read_reply c name r (d, y, is) adds room = absurd y.ends_so.turned.0
 
   -- ---- a write
-  unmade_says : (a : WriteAnswer) → SaysAs a answer.Unmade → ⊥
-  unmade_says (place.Ok version) says = absurd cc
-  unmade_says place.Freed says = absurd cc
-  unmade_says (place.Range len) says = absurd cc
-  unmade_says (place.Pinned count) says = absurd cc
-  unmade_says place.Worn says = absurd cc
-  unmade_says a says = says
+  -- no write is answered so
+  abbrev IsOdd : Reply → Type 0
+  IsOdd answer.Unmade = Unit {0}
+  IsOdd answer.Moving = Unit {0}
+  IsOdd r = ⊥
 
-  moving_says : (a : WriteAnswer) → SaysAs a answer.Moving → ⊥
-  moving_says (place.Ok version) says = absurd cc
-  moving_says place.Freed says = absurd cc
-  moving_says (place.Range len) says = absurd cc
-  moving_says (place.Pinned count) says = absurd cc
-  moving_says place.Worn says = absurd cc
-  moving_says a says = says
+  odd_says : (a : WriteAnswer) (r : Reply) → IsOdd r → SaysAs a r → ⊥
+  odd_says (place.Ok version) r odd says = subst IsOdd says odd
+  odd_says place.Freed r odd says = subst IsOdd says odd
+  odd_says (place.Range len) r odd says = subst IsOdd says odd
+  odd_says (place.Pinned count) r odd says = subst IsOdd says odd
+  odd_says place.Worn r odd says = subst IsOdd says odd
+  odd_says a r odd says = says
 
   neither : ⊥ ⊎ ⊥ → ⊥
   neither (inl e) = e
   neither (inr e) = e
 
-  unmade_write : (c : Config) (at : ℕ) (bytes : List ℕ) → WriteAnswers c h at bytes answer.Unmade v m → ⊥
-  unmade_write c at bytes (d, y, is) = elim y.ends_so [
-    | inl z ↦ unmade_says z.0 z.1
-    | inr z ↦ neither z.turned.0
-  ]
-
-  moving_write : (c : Config) (at : ℕ) (bytes : List ℕ) → WriteAnswers c h at bytes answer.Moving v m → ⊥
-  moving_write c at bytes (d, y, is) = elim y.ends_so [
-    | inl z ↦ moving_says z.0 z.1
-    | inr z ↦ neither z.turned.0
+  odd_write : (c : Config) (at : ℕ) (bytes : List ℕ) (r : Reply) → IsOdd r
+      → (IsAnswerTo c (job.Write (the_handle h) at bytes) r → ⊥) → WriteAnswers c h at bytes r v m → ⊥
+  odd_write c at bytes r odd never (d, y, is) = elim y.ends_so [
+    | inl z ↦ odd_says z.0 r odd z.1
+    | inr z ↦ never z.turned.0
   ]
 
   -- one is written behind the object's last entry
@@ -294,8 +284,10 @@ module _ (mine : ℕ → Type 0) (h : ℕ) (x : Entry) (v m all : View) (at_ : O
   write_reply c name bytes at answer.Freed y tells adds line pinned room =
       sym (freed_alone x (λ (o : MapNow). write_alone o (pins_on h v) at (length bytes))
       (freed_here (freed_write c h at bytes v m y)))
-  write_reply c name bytes at answer.Unmade y tells adds line pinned room = absurd (unmade_write c at bytes y)
-  write_reply c name bytes at answer.Moving y tells adds line pinned room = absurd (moving_write c at bytes y)
+  write_reply c name bytes at answer.Unmade y tells adds line pinned room =
+      absurd (odd_write c at bytes answer.Unmade tt neither y)
+  write_reply c name bytes at answer.Moving y tells adds line pinned room =
+      absurd (odd_write c at bytes answer.Moving tt neither y)
   write_reply c name bytes at (answer.NoRoom f l n) y tells adds line pinned room = absurd (true≢false room)
   write_reply c name bytes at (answer.Unavailable s l) y tells adds line pinned room = absurd (true≢false room)
   write_reply c name bytes at answer.Worn y tells adds line pinned room = absurd (true≢false room)
@@ -347,7 +339,7 @@ module _ (mine : ℕ → Type 0) (h : ℕ) (x : Entry) (v m all : View) (at_ : O
 
   held_by : (version : ℕ) (y : SawPinned h version v m) → ShowsLast h version v.written y.pin → x.freed ≡ false
   held_by version y shows = sym (ap (λ (e : Entry). e.freed)
-      (some_same shows.last x (sym shows.is_last ∙ at_.last))) ∙ shows.held
+      (same_Some shows.last x (sym shows.is_last ∙ at_.last))) ∙ shows.held
 
   pub pin_reply : (c : Config) (r : Reply) → PinGoes c h v r m → is_lack r ≡ false
       → r ≡ pin_alone (Some (object_of x)) (length v.pins)
@@ -381,7 +373,7 @@ peek_reply h x v m newest r last none some_one (inl y) = y.told ∙ sym (peek_no
     ∙ ap (peek_alone (Some (object_of x))) (sym (none y.no_pin))
 peek_reply h x v m newest r last none some_one (inr y) =
     let z = some_one y.pin y.newest in
-    let same : z.1.last ≡ x = some_same z.1.last x (sym z.1.is_last ∙ last) in
+    let same : z.1.last ≡ x = same_Some z.1.last x (sym z.1.is_last ∙ last) in
     let held : x.freed ≡ false = sym (ap (λ (e : Entry). e.freed) same) ∙ z.1.held in
     y.peeks.told ∙ ap (answer.Bytes y.pin.version) (z.1.bytes ∙ ap (λ (e : Entry). bytes_in e.after e.len) same)
     ∙ sym (held_alone x (λ (o : MapNow). peek_alone o (Some y.pin.version)) held)

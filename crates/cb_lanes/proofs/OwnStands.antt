@@ -3,6 +3,7 @@ use Rattle.std.proofs.Common.{◌≡◌, ◌≢◌, ◌⊎◌, ℕ, ◌+◌, ◌
 use Rattle.std.specs.Str.{bytes_eq}
 use Rattle.std.proofs.lemmas.Bool.{cases_Bool}
 use Rattle.std.proofs.lemmas.List.Sums.{sum_by-cons}
+use Rattle.std.proofs.lemmas.Option.{same_Some}
 use Rattle.std.proofs.lemmas.Slice.Eq.{bytes_eq-Decides}
 use Rattle.cb_model.specs.declared.object.Object.{Object}
 use Rattle.cb_model.specs.declared.object.Object.TheVariants.{Held, Freed}
@@ -20,7 +21,7 @@ use Rattle.cb_lanes.specs.Alone.{LaneState, is_maker, now_named}
 use Rattle.cb_lanes.specs.KeepsOwn.{last_in}
 use Rattle.cb_lanes.specs.Passing.{HasNoPin, IsNewestPin}
 use Rattle.cb_lanes.specs.Scopes.{NamedPin, Scope, named_on, newest_on, without_newest}
-use Rattle.cb_lanes.proofs.OwnObjects.{one_if, some_same}
+use Rattle.cb_lanes.proofs.Lists.{one_if}
 
 -- what the entry left of its object
 abbrev pub object_of : Entry → Object
@@ -122,7 +123,7 @@ module _ (lines : List Line) (lane : ℕ) where
             → ((bytes_eq n.name p ≡ true) × (q.handle ≡ h)) ⊎ ((bytes_eq n.name p ≡ false) × (q.handle ≢ h))
         by (inl is) = inl (
           is,
-          some_same q.handle h
+          same_Some q.handle h
               (sym z.handle_is ∙ ap handle ((bytes_eq-Decides n.name p).0 is) ∙ at),
         )
         by (inr is) = inr (

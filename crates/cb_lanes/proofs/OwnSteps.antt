@@ -1,8 +1,8 @@
 -- What a lane has by itself stays what the record of its pass has, line by line.
 use Rattle.std.proofs.Common.{◌≡◌, ◌≢◌, ◌⊎◌, ℕ, ◌≤◌, Bool, true, false, List, [], ◌∷◌, Option, None, Some, inl, inr, sym, refl, ap, ◌∙◌, subst, arith, if◌then◌else◌}
 use Rattle.std.specs.Str.{bytes_eq}
-use Rattle.std.proofs.lemmas.Bool.{cases_Bool, eqb-true, true≢false}
-use Rattle.std.proofs.lemmas.Slice.Eq.{bytes_eq-Decides}
+use Rattle.std.proofs.lemmas.Bool.{cases_Bool, eqb-true}
+use Rattle.std.proofs.lemmas.Option.{same_Some, none-some}
 use Rattle.cb_types.specs.declared.config.Config.{Config}
 use Rattle.cb_types.specs.declared.job.Job.{Job}
 use Rattle.cb_types.specs.declared.job.Job.TheVariants as job
@@ -27,8 +27,10 @@ use Rattle.cb_lanes.specs.Passing.{CallGives, PinEnds, PinGoes, PinsAtLast, goes
 use Rattle.cb_lanes.specs.Scopes.{Scope}
 use Rattle.cb_lanes.proofs.ByAsk.{by_ask}
 use Rattle.cb_lanes.proofs.LineParts.{Adds, adds_knows}
-use Rattle.cb_lanes.proofs.OwnObjects.{last_past, none_some_of, one_if, some_same}
+use Rattle.cb_lanes.proofs.Lists.{one_if}
+use Rattle.cb_lanes.proofs.OwnObjects.{last_past}
 use Rattle.cb_lanes.proofs.OwnStands.{IsObject, LanePinsStand, LaneStands, ObjectStands, none_on, pin_still, pins_map}
+use Rattle.cb_lanes.proofs.PinLists.{name_cases}
 
 -- ---- own handles stay own, and a call leaves the pins
 abbrev pub OwnMore : View → View → Type 0
@@ -98,14 +100,6 @@ grew_by v m d adds own = record {
   own = own;
 }
 
-pub name_test : (a b : List ℕ) → ((bytes_eq a b ≡ true) × (a ≡ b)) ⊎ ((bytes_eq a b ≡ false) × (a ≢ b))
-name_test a b = by (cases_Bool (bytes_eq a b))
-  where
-    by : (bytes_eq a b ≡ true) ⊎ (bytes_eq a b ≡ false)
-        → ((bytes_eq a b ≡ true) × (a ≡ b)) ⊎ ((bytes_eq a b ≡ false) × (a ≢ b))
-    by (inl e) = inl (e, (bytes_eq-Decides a b).0 e)
-    by (inr e) = inr (e, λ same. true≢false (sym ((bytes_eq-Decides a b).1 same) ∙ e))
-
 -- an object whose last entry stays
 object_still : (v m : View) (now : MapNow) → Grew v m → (o : Option ℕ)
     → ((k : ℕ) → o ≡ Some k → last_in m.written k ≡ last_in v.written k)
@@ -163,7 +157,7 @@ module _ (lines : List Line) (lane : ℕ) where
         fresh = grew.fresh ∙ z.fresh;
         knows = λ q k named. grew.knows k (z.knows q k (sym (same q) ∙ named));
         apart = λ a b k mine x y. z.apart a b k mine (sym (same a) ∙ x) (sym (same b) ∙ y);
-        objects = λ q mine. by q mine (name_test p q);
+        objects = λ q mine. by q mine (name_cases p q);
         pins = subst (LanePinsStand lines lane later m.written state.scope) (sym pins)
             (pins_map lines lane handle later v.written m.written state.scope v.pins
             (λ n k has y. pin_still lines lane handle later v.written m.written n k (same n.name)
@@ -197,13 +191,13 @@ module _ (lines : List Line) (lane : ℕ) where
   stands_made handle later state new v m p h e now grew same made is none fresh wrote on pins object z = subst
       (λ (s : LaneState). LaneStands lines lane later s m) (sym is) record {
         fresh = grew.fresh ∙ z.fresh;
-        knows = λ q k named. known q k named (name_test p q);
-        apart = λ a b k mine x y. alone a b k mine x y (name_test p a) (name_test p b);
-        objects = λ q mine. by q mine (name_test p q);
+        knows = λ q k named. known q k named (name_cases p q);
+        apart = λ a b k mine x y. alone a b k mine x y (name_cases p a) (name_cases p b);
+        objects = λ q mine. by q mine (name_cases p q);
         pins = subst (LanePinsStand lines lane later m.written state.scope) (sym pins)
             (pins_map lines lane handle later v.written m.written state.scope v.pins
             (λ n k has y. pin_still lines lane handle later v.written m.written n k
-            (same n.name (λ eq. none_some_of k.handle (sym none ∙ ap handle eq ∙ y.handle_is)))
+            (same n.name (λ eq. none-some k.handle (sym none ∙ ap handle eq ∙ y.handle_is)))
             (past k.handle (λ eq. fresh (subst (λ (i : ℕ). Knows i v) eq (z.knows n.name k.handle y.handle_is)))) y)
             z.pins);
       }
@@ -217,7 +211,7 @@ module _ (lines : List Line) (lane : ℕ) where
       known q k named (inl x) = inl (
         e,
         subst (Has e) (sym wrote) (inl refl),
-        on ∙ some_same h k (sym made ∙ ap later x.1 ∙ named),
+        on ∙ same_Some h k (sym made ∙ ap later x.1 ∙ named),
       )
       known q k named (inr x) = grew.knows k (z.knows q k (sym (same q x.1) ∙ named))
 
@@ -231,9 +225,9 @@ module _ (lines : List Line) (lane : ℕ) where
           → ((bytes_eq p b ≡ true) × (p ≡ b)) ⊎ ((bytes_eq p b ≡ false) × (p ≢ b)) → a ≡ b
       alone a b k mine x y (inl u) (inl w) = sym u.1 ∙ w.1
       alone a b k mine x y (inl u) (inr w) =
-          absurd (other b k w.1 y (some_same k h (sym x ∙ ap later (sym u.1) ∙ made)))
+          absurd (other b k w.1 y (same_Some k h (sym x ∙ ap later (sym u.1) ∙ made)))
       alone a b k mine x y (inr u) (inl w) =
-          absurd (other a k u.1 x (some_same k h (sym y ∙ ap later (sym w.1) ∙ made)))
+          absurd (other a k u.1 x (same_Some k h (sym y ∙ ap later (sym w.1) ∙ made)))
       alone a b k mine x y (inr u) (inr w) =
           z.apart a b k mine (sym (same a u.1) ∙ x) (sym (same b w.1) ∙ y)
 
@@ -263,6 +257,6 @@ module _ (lines : List Line) (lane : ℕ) where
       by : (pins_it h p ≡ true) ⊎ (pins_it h p ≡ false) → (1 ≤ times (pins_it h) ps → x.freed ≡ false)
           → x.freed ≡ false
       by (inl is) rest = let y = z.0.shows in
-          let same : y.last ≡ x = some_same y.last x (sym y.is_last ∙ ap (last_in es) (is_handle p h is) ∙ last) in
+          let same : y.last ≡ x = same_Some y.last x (sym y.is_last ∙ ap (last_in es) (is_handle p h is) ∙ last) in
           sym (ap (λ (e : Entry). e.freed) same) ∙ y.held
       by (inr is) rest = rest (let off : one_if (pins_it h p) ≡ 0 = ap one_if is in omega (arith, some_one, off))

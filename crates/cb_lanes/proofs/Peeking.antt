@@ -1,5 +1,5 @@
 -- The words of a pin are peeked one after another, and put into the room for its bytes.
-use Rattle.std.proofs.Common.{◌≡◌, ℕ, zero, suc, ◌+◌, ◌<◌, List, [], ◌∷◌, ◌++◌, length, slice_index, get_or, Option, Some, IfSome, Result, Ok, Err, inl, inr, refl, sym, ap, ◌∙◌, subst, arith}
+use Rattle.std.proofs.Common.{◌≡◌, ℕ, zero, suc, ◌+◌, ◌<◌, List, [], ◌∷◌, ◌++◌, length, slice_index, get_or, Option, Some, IfSome, Result, Ok, Err, inr, refl, sym, ap, ◌∙◌, subst, arith}
 use Rattle.std.specs.Result.{IfOk}
 use Rattle.cb_member.specs.declared.no_memory.NoMemory.{NoMemory}
 use Rattle.cb_types.specs.declared.reply.Reply.{Reply}
@@ -12,7 +12,8 @@ use Rattle.cb_rule.specs.Steps.{IsNewest, with_peek}
 use Rattle.cb_shared.specs.declared.pass.Pin.{Pin}
 use Rattle.cb_shared.specs.Passes.{IsPinOf, stand_of}
 use Rattle.cb_shared.proofs.Laws.{AreBytesFilled, IsPutInto, filled_all, filled_more}
-use Rattle.cb_lanes.specs.Passing.{AreHeld, IsNewestAt, IsNewestPin, PeekGoes, PeeksAll, marks_of, peeks_of}
+use Rattle.cb_lanes.specs.Passing.{AreHeld, IsNewestAt, PeekGoes, PeeksAll, marks_of, peeks_of}
+use Rattle.cb_lanes.proofs.LineParts.{newest_handle}
 use Rattle.cb_lanes.proofs.PinsHeld.{IsPinThere, found_at, newest_below, pin_there}
 
 -- the first words of a pin were peeked, and stand in the room
@@ -70,11 +71,6 @@ same_there at [] d e low = absurd (omega (arith, low))
 same_there zero (q ∷ ps) d e low = refl
 same_there (suc at) (q ∷ ps) d e low = same_there at ps d e (omega (arith, low))
 
-newest_on : (h : ℕ) (p : Stand) (ps : List Stand) → IsNewestPin h p ps → p.handle ≡ h
-newest_on h p [] x = absurd x
-newest_on h p (q ∷ ps) (inl x) = sym (ap (λ (s : Stand). s.handle) x.1) ∙ x.0
-newest_on h p (q ∷ ps) (inr x) = newest_on h p ps x.1
-
 module _ (h at : ℕ) (d : Pin) (xs ps : List Pin) (o : Option ℕ) (v : View) (held : AreHeld ps v)
     (is : o ≡ Some at) (same : xs ≡ ps)
     (some : IfSome o (λ k. IsNewestAt h (marks_of xs) k)) where
@@ -99,7 +95,7 @@ module _ (h at : ℕ) (d : Pin) (xs ps : List Pin) (o : Option ℕ) (v : View) (
     pin = stand_of (get_or xs at d) there.words;
     newest = there.newest;
     above = subst (λ (n : ℕ). IsNewest n (get_or xs at d).version v)
-        (newest_on h (stand_of (get_or xs at d) there.words) v.pins there.newest) above;
+        (newest_handle h (stand_of (get_or xs at d) there.words) v.pins there.newest) above;
     peeks = all there.words there.has;
   })
 

@@ -1,10 +1,10 @@
 -- The scopes of all lanes, line after line, and the lanes that have come to their end.
-use Rattle.std.proofs.Common.{◌≡◌, ◌≢◌, ◌⊎◌, ℕ, zero, suc, ◌+◌, ◌<◌, ◌≤◌, Bool, true, false, cond, List, [], ◌∷◌, ◌++◌, length, map, get_or, set, take, drop, replicate, Option, None, Some, refl, sym, ap, ◌∙◌, subst, arith, inl, inr, eq-eqb, ne_eqb, if◌then◌else◌, nat_eq, append_assoc}
+use Rattle.std.proofs.Common.{◌≡◌, ◌≢◌, ◌⊎◌, ℕ, zero, suc, ◌+◌, ◌<◌, ◌≤◌, Bool, true, false, List, [], ◌∷◌, ◌++◌, length, map, get_or, set, take, drop, replicate, Option, None, Some, refl, sym, ap, ◌∙◌, subst, arith, inl, inr, eq-eqb, ne_eqb, if◌then◌else◌, nat_eq, append_assoc}
 use Rattle.std.specs.Str.{bytes_eq}
 use native.Mathlib.Decide.{ℕ_discrete}
 use Rattle.std.proofs.lemmas.Bool.{cases_lt}
 use Rattle.std.proofs.lemmas.List.{append-nil, map_push, drop_more, get_or_past, length-replicate, length-set, get_or-set_same, get_or-set_other, get_or-replicate}
-use Rattle.std.proofs.lemmas.List.Sums.{fold_push, sum_by-cons, sum_by_push}
+use Rattle.std.proofs.lemmas.List.Sums.{fold_push, sum_by-cons}
 use Rattle.cb_types.specs.declared.answer.Answer.{Answer}
 use Rattle.cb_types.specs.declared.request.Request.{Request}
 use Rattle.cb_types.specs.declared.request.Request.TheVariants.{Make}
@@ -25,16 +25,14 @@ use Rattle.cb_lanes.specs.LineStep.{LineStep, LinesLead}
 use Rattle.cb_lanes.specs.LinesSoundly.{LinesLeadSoundly}
 use Rattle.cb_lanes.specs.declared.side.Side.{Side}
 use Rattle.cb_lanes.specs.LinesLeft.{AreLanes, AreLeft, lanes_of}
-use Rattle.cb_lanes.specs.Names.{Names, kept_number, number_after}
+use Rattle.cb_lanes.specs.Names.{KeptNames, kept_number, number_after}
 use Rattle.cb_lanes.specs.Scopes.{Scope, scope_after, scope_more, scope_of, ScopeSays, KeepScopes}
 use Rattle.cb_lanes.proofs.GivingBack.{StandsWithout, stands_same, gives_all}
+use Rattle.cb_lanes.proofs.Lists.{one_if}
 use Rattle.cb_lanes.proofs.PinLists.{AreHandlesApart, ArePinsOf, name_cases, pins_kept}
 use Rattle.cb_lanes.proofs.Scoping.{Scoped}
 
 -- ---- counts of lines
-
-abbrev one_if : Bool → ℕ
-one_if b = cond b 1 0
 
 pub lines_own : (lane : ℕ) (later : List ℕ) → lines_by lane (lane ∷ later) ≡ 1 + lines_by lane later
 lines_own lane later = sum_by-cons (λ (x : ℕ). one_if (nat_eq lane x)) lane later
@@ -261,7 +259,7 @@ IsFreshName number (Make name bytes) = number name ≡ None
 IsFreshName number request = Unit {0}
 
 -- names keep their handles
-pub grown : (names : Names) (request : Request) (reply : Reply) (q : List ℕ) (h : ℕ)
+pub grown : (names : KeptNames) (request : Request) (reply : Reply) (q : List ℕ) (h : ℕ)
     → IsFreshName (kept_number names) request → kept_number names q ≡ Some h
     → number_after names request reply q ≡ Some h
 grown names (Make name bytes) (Made handle version) q h fresh e = by (name_cases name q)
@@ -274,7 +272,7 @@ grown names (Make name bytes) reply q h fresh e = e
 grown names request reply q h fresh e = e
 
 -- no two names have one handle: a make gets one that no name had
-pub apart_after : (names : Names) (answers : List Answer) (first handles made : ℕ) (now : MapNow)
+pub apart_after : (names : KeptNames) (answers : List Answer) (first handles made : ℕ) (now : MapNow)
     (request : Request) (reply : Reply) → AreHandlesApart (kept_number names)
     → ((q : List ℕ) (k : ℕ) → kept_number names q ≡ Some k → k < made)
     → MapReplies first handles made (handle_for answers request reply) now (event_of request reply)
@@ -356,33 +354,6 @@ lines_lanes nodes before (x ∷ lines) all =
     (let low = all.0.lane.low in omega (arith, low), lines_lanes nodes (before ++ x ∷ []) lines all.1)
 
 -- ---- the counts of lines that are left
-
--- one line more of a lane
-pub left_more : (lanes left : List ℕ) (lane n : ℕ) → lane < 16 → n ≡ get_or left lane 0 + 1
-    → AreLeft lanes left
-    → AreLeft (lanes ++ lane ∷ []) (set left lane n)
-left_more lanes left lane n lt is are = record {
-  sized = length-set left lane n ∙ are.sized;
-  counts = λ k below. by k below (ℕ_discrete k lane);
-}
-  where
-    pushed : (k : ℕ) → lines_by k (lanes ++ lane ∷ []) ≡ lines_by k lanes + one_if (nat_eq k lane)
-    pushed k = sum_by_push (λ (x : ℕ). one_if (nat_eq k x)) lanes lane
-
-    by : (k : ℕ) → k < 16 → Dec (k ≡ lane) → get_or (set left lane n) k 0 ≡ lines_by k (lanes ++ lane ∷ [])
-    by k below (yes e) =
-        let one : one_if (nat_eq k lane) ≡ 1 = ap one_if (eq-eqb k lane e) in
-        let new : get_or (set left lane n) k 0 ≡ n = ap (λ (j : ℕ). get_or (set left lane n) j 0) e
-        ∙ get_or-set_same left lane n 0 (omega (arith, lt, are.sized)) in
-        let old : get_or left lane 0 ≡ lines_by k lanes =
-        are.counts lane lt ∙ ap (λ (j : ℕ). lines_by j lanes) (sym e) in
-        let p = pushed k in
-        omega (arith, one, new, old, p, is)
-    by k below (no off) =
-        let none : one_if (nat_eq k lane) ≡ 0 = ap one_if (ne_eqb k lane off) in
-        let new = get_or-set_other left lane k n 0 off in
-        let old = are.counts k below in let p = pushed k in
-        omega (arith, none, new, old, p)
 
 -- and one less
 pub left_less : (later left : List ℕ) (lane n : ℕ) → lane < 16 → n + 1 ≡ get_or left lane 0

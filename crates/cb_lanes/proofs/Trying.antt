@@ -40,11 +40,6 @@ pub was_pinned : (h : ℕ) (a : PinAnswer) (p : Pin) (v w : View) → a ≡ foun
     → PinGives h a v w → IsPinnedHere h p v w
 was_pinned h a p v w is x = subst (λ (z : PinAnswer). PinGives h z v w) is x
 
-pub was_full : (h : ℕ) (a : PinAnswer) (v w : View) → a ≡ found.ScopeFull
-    → PinGives h a v w → length v.pins ≡ 16
-was_full h a v w is x =
-    let y : PinGives h found.ScopeFull v w = subst (λ (z : PinAnswer). PinGives h z v w) is x in y.0
-
 pub was_freed : (h : ℕ) (a : PinAnswer) (v w : View) → a ≡ found.Freed → PinGives h a v w
     → FindsFreed h v w
 was_freed h a v w is x = subst (λ (z : PinAnswer). PinGives h z v w) is x

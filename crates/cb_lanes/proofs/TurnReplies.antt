@@ -1,5 +1,6 @@
 -- A turn is answered a reply that a line of its job may have, over whatever desk.
 use Rattle.std.proofs.Common.{◌≡◌, ◌⊎◌, ℕ, zero, suc, ◌+◌, ◌-◌, ◌^◌, ◌==◌, nat_lt, if◌then◌else◌, Bool, true, false, List, length, None, Some, inl, inr, refl, sym, subst}
+use Rattle.std.proofs.lemmas.Option.{same_Some}
 use Rattle.cb_ptr.specs.declared.word.State.{State}
 use Rattle.cb_ptr.specs.declared.word.State.TheVariants as state
 use Rattle.cb_ptr.specs.Word.{len_of, state_of}
@@ -193,13 +194,10 @@ module _ {D : Type 0} (run : D → List Event → D → Type 0) (shows : D → S
   declined_so name bytes h at far r es (inr (stays, (w, v, found, far_word, told, last, is))) =
       by (nat_lt (len_of w) (at + length bytes)) (v == 2 ^ 64 - 1) is
     where
-      same : (x y : Reply) → Some x ≡ Some y → x ≡ y
-      same x y e = cc
-
       by : (past last : Bool) → Some r ≡ (if past then Some (answer.Range (len_of w))
           else if last then Some answer.Worn else None) → IsReplyOf (Write name at bytes) r
-      by true last e = so (Write name at bytes) r (answer.Range (len_of w)) tt (same _ _ e)
-      by false true e = so (Write name at bytes) r answer.Worn tt (same _ _ e)
+      by true last e = so (Write name at bytes) r (answer.Range (len_of w)) tt (same_Some _ _ e)
+      by false true e = so (Write name at bytes) r answer.Worn tt (same_Some _ _ e)
       by false false e = absurd cc
 
   pub write_where : (name bytes : List ℕ) (h at : ℕ) (a b : Holding D) (r : Reply)

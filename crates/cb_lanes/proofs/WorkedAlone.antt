@@ -23,8 +23,8 @@ c = 99 ∷ []
 abbrev by : ℕ → Request → Line
 by lane request = record { lane = record { n = lane }; line = 2; request = request }
 
-abbrev told : ℕ → Request → Reply → Answer
-told lane request reply = record { lane = record { n = lane }; line = 2; request = request; reply = reply }
+abbrev lane_answer : ℕ → Request → Reply → Answer
+lane_answer lane request reply = record { lane = record { n = lane }; line = 2; request = request; reply = reply }
 
 abbrev made : ℕ → Reply
 made h = Made (record { n = h }) 1
@@ -36,22 +36,22 @@ abbrev lines : List Line
 lines = by 0 (Make a (1 ∷ [])) ∷ by 1 (Make b (2 ∷ [])) ∷ by 2 (Make c (3 ∷ [])) ∷ by 2 (Pin a) ∷ by 1 (Pin b)
     ∷ by 2 (Pin c) ∷ []
 
-a_make_is_own : is_own lines 1 (told 1 (Make b (2 ∷ [])) (made 1)) ≡ true
+a_make_is_own : is_own lines 1 (lane_answer 1 (Make b (2 ∷ [])) (made 1)) ≡ true
 a_make_is_own = refl
 
-a_read_is_own : is_own lines 1 (told 1 (Read b) Freed) ≡ true
+a_read_is_own : is_own lines 1 (lane_answer 1 (Read b) Freed) ≡ true
 a_read_is_own = refl
 
-a_shared_name_is_not : is_own lines 1 (told 1 (Read a) Freed) ≡ false
+a_shared_name_is_not : is_own lines 1 (lane_answer 1 (Read a) Freed) ≡ false
 a_shared_name_is_not = refl
 
-another_lane_s_line_is_not : is_own lines 1 (told 2 (Read b) Freed) ≡ false
+another_lane_s_line_is_not : is_own lines 1 (lane_answer 2 (Read b) Freed) ≡ false
 another_lane_s_line_is_not = refl
 
-a_filter_is_not : is_own lines 1 (told 1 (Filter b) Same) ≡ false
+a_filter_is_not : is_own lines 1 (lane_answer 1 (Filter b) Same) ≡ false
 a_filter_is_not = refl
 
-a_leave_is_not : is_own lines 1 (told 1 Leave (Left 0)) ≡ false
+a_leave_is_not : is_own lines 1 (lane_answer 1 Leave (Left 0)) ≡ false
 a_leave_is_not = refl
 
 lane_1_has_own_lines : HasOwnLines lines 1
@@ -63,13 +63,13 @@ lane_0_has_none is = let n = is.from_one in omega (arith, n)
 who_pins_a_shared_name_has_none : HasOwnLines lines 2 → ⊥
 who_pins_a_shared_name_has_none is = absurd (let e = is.pins in cc)
 
-a_leave_is_the_lane_s : leaves 1 (told 1 Leave (Left 0)) ≡ true
+a_leave_is_the_lane_s : leaves 1 (lane_answer 1 Leave (Left 0)) ≡ true
 a_leave_is_the_lane_s = refl
 
-another_lane_leaves : leaves 1 (told 2 Leave (Left 0)) ≡ false
+another_lane_leaves : leaves 1 (lane_answer 2 Leave (Left 0)) ≡ false
 another_lane_leaves = refl
 
-a_pin_leaves_nothing : leaves 1 (told 1 (Pin b) (Version 1)) ≡ false
+a_pin_leaves_nothing : leaves 1 (lane_answer 1 (Pin b) (Version 1)) ≡ false
 a_pin_leaves_nothing = refl
 
 -- ---- what a lane has
@@ -216,9 +216,9 @@ a_leave_gives_all_back = refl
 
 -- lane 1 makes b, lane 2 writes a, lane 1 pins b, is refused a write, reads a, leaves, writes b
 abbrev answers : List Answer
-answers = told 1 (Make b (2 ∷ [])) (made 1) ∷ told 2 (Write a 0 (5 ∷ [])) (Version 2) ∷ told 1 (Pin b) (Version 1)
-    ∷ told 1 (Write b 0 (4 ∷ [])) (Pinned 1) ∷ told 1 (Read a) (Bytes 2 (5 ∷ [])) ∷ told 1 Leave (Left 1)
-    ∷ told 1 (Write b 0 (4 ∷ [])) (Version 2) ∷ []
+answers = lane_answer 1 (Make b (2 ∷ [])) (made 1) ∷ lane_answer 2 (Write a 0 (5 ∷ [])) (Version 2) ∷ lane_answer 1 (Pin b) (Version 1)
+    ∷ lane_answer 1 (Write b 0 (4 ∷ [])) (Pinned 1) ∷ lane_answer 1 (Read a) (Bytes 2 (5 ∷ [])) ∷ lane_answer 1 Leave (Left 1)
+    ∷ lane_answer 1 (Write b 0 (4 ∷ [])) (Version 2) ∷ []
 
 kept : KeepAlone lines 1 fresh_lane answers
 kept = (
@@ -242,13 +242,13 @@ kept = (
 )
 
 -- a write behind a leave that is still answered pinned
-a_scope_that_keeps_what_was_given_back : KeepAlone lines 1 fresh_lane (told 1 (Make b (2 ∷ [])) (made 1)
-    ∷ told 1 (Pin b) (Version 1) ∷ told 1 Leave (Left 1) ∷ told 1 (Write b 0 (4 ∷ [])) (Pinned 1) ∷ []) → ⊥
+a_scope_that_keeps_what_was_given_back : KeepAlone lines 1 fresh_lane (lane_answer 1 (Make b (2 ∷ [])) (made 1)
+    ∷ lane_answer 1 (Pin b) (Version 1) ∷ lane_answer 1 Leave (Left 1) ∷ lane_answer 1 (Write b 0 (4 ∷ [])) (Pinned 1) ∷ []) → ⊥
 a_scope_that_keeps_what_was_given_back are = absurd (let e = are.1.1.1.0 refl in cc)
 
 -- a read that shows what another lane wrote
-another_lane_has_a_part : KeepAlone lines 1 fresh_lane (told 1 (Make b (2 ∷ [])) (made 1)
-    ∷ told 2 (Write b 0 (4 ∷ [])) (Version 2) ∷ told 1 (Read b) (Bytes 2 (4 ∷ [])) ∷ []) → ⊥
+another_lane_has_a_part : KeepAlone lines 1 fresh_lane (lane_answer 1 (Make b (2 ∷ [])) (made 1)
+    ∷ lane_answer 2 (Write b 0 (4 ∷ [])) (Version 2) ∷ lane_answer 1 (Read b) (Bytes 2 (4 ∷ [])) ∷ []) → ⊥
 another_lane_has_a_part are = absurd (let e = are.1.1.0 refl in cc)
 
 -- ---- calm replies

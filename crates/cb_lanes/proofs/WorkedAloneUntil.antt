@@ -18,8 +18,8 @@ b = 98 ∷ []
 abbrev by : ℕ → Request → Line
 by lane request = record { lane = record { n = lane }; line = 2; request = request }
 
-abbrev told : ℕ → Request → Reply → Answer
-told lane request reply = record { lane = record { n = lane }; line = 2; request = request; reply = reply }
+abbrev lane_answer : ℕ → Request → Reply → Answer
+lane_answer lane request reply = record { lane = record { n = lane }; line = 2; request = request; reply = reply }
 
 abbrev made : ℕ → Reply
 made h = Made (record { n = h }) 1
@@ -59,22 +59,22 @@ unmade_is_none = refl
 freed_is_none : is_lack Freed ≡ false
 freed_is_none = refl
 
-an_own_line_lacks : lacks lines 1 (told 1 (Read b) (NoRoom 8 1 2)) ≡ true
+an_own_line_lacks : lacks lines 1 (lane_answer 1 (Read b) (NoRoom 8 1 2)) ≡ true
 an_own_line_lacks = refl
 
-a_line_on_a_shared_name_does_not : lacks lines 1 (told 1 (Read a) (NoRoom 8 1 2)) ≡ false
+a_line_on_a_shared_name_does_not : lacks lines 1 (lane_answer 1 (Read a) (NoRoom 8 1 2)) ≡ false
 a_line_on_a_shared_name_does_not = refl
 
-an_answered_line_does_not : lacks lines 1 (told 1 (Read b) Freed) ≡ false
+an_answered_line_does_not : lacks lines 1 (lane_answer 1 (Read b) Freed) ≡ false
 an_answered_line_does_not = refl
 
 -- ---- the answers to a lane's own lines
 
 -- lane 1 makes b, reads a in vain, reads b, is refused a write of it for want of room, and reads what
 -- no one wrote
-kept : KeepAloneUntil lines 1 fresh_lane (told 1 (Make b (2 ∷ [])) (made 1)
-    ∷ told 1 (Read a) (NoRoom 8 1 2) ∷ told 1 (Read b) (Bytes 1 (2 ∷ []))
-    ∷ told 1 (Write b 0 (4 ∷ [])) (NoRoom 8 1 2) ∷ told 1 (Read b) (Bytes 9 (7 ∷ [])) ∷ [])
+kept : KeepAloneUntil lines 1 fresh_lane (lane_answer 1 (Make b (2 ∷ [])) (made 1)
+    ∷ lane_answer 1 (Read a) (NoRoom 8 1 2) ∷ lane_answer 1 (Read b) (Bytes 1 (2 ∷ []))
+    ∷ lane_answer 1 (Write b 0 (4 ∷ [])) (NoRoom 8 1 2) ∷ lane_answer 1 (Read b) (Bytes 9 (7 ∷ [])) ∷ [])
 kept _ = (
   λ e. (record { n = 1 }, refl),
   λ _. (
@@ -84,11 +84,11 @@ kept _ = (
 )
 
 -- before a lack a read shows what the lane wrote
-wrong_before_the_lack : KeepAloneUntil lines 1 fresh_lane (told 1 (Make b (2 ∷ [])) (made 1)
-    ∷ told 1 (Read b) (Bytes 9 (7 ∷ [])) ∷ told 1 (Write b 0 (4 ∷ [])) (NoRoom 8 1 2) ∷ []) → ⊥
+wrong_before_the_lack : KeepAloneUntil lines 1 fresh_lane (lane_answer 1 (Make b (2 ∷ [])) (made 1)
+    ∷ lane_answer 1 (Read b) (Bytes 9 (7 ∷ [])) ∷ lane_answer 1 (Write b 0 (4 ∷ [])) (NoRoom 8 1 2) ∷ []) → ⊥
 wrong_before_the_lack are = absurd (let e = ((are refl).1 refl).0 refl in cc)
 
 -- what lacks on a shared name ends nothing
-wrong_behind_a_shared_lack : KeepAloneUntil lines 1 fresh_lane (told 1 (Make b (2 ∷ [])) (made 1)
-    ∷ told 1 (Read a) (NoRoom 8 1 2) ∷ told 1 (Read b) (Bytes 9 (7 ∷ [])) ∷ []) → ⊥
+wrong_behind_a_shared_lack : KeepAloneUntil lines 1 fresh_lane (lane_answer 1 (Make b (2 ∷ [])) (made 1)
+    ∷ lane_answer 1 (Read a) (NoRoom 8 1 2) ∷ lane_answer 1 (Read b) (Bytes 9 (7 ∷ [])) ∷ []) → ⊥
 wrong_behind_a_shared_lack are = absurd (let e = (((are refl).1 refl).1 refl).0 refl in cc)

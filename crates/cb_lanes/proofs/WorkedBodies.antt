@@ -20,7 +20,7 @@ use Rattle.cb_record.specs.Told.{Told}
 use Rattle.cb_lanes.specs.declared.body.Named.{Named}
 use Rattle.cb_lanes.specs.Bodies.{AddsBacked, AnswersOne, AreLinesOf, AreNamesOf, IsFront, IsLineOf, KeepHandles, KnowsKept, KnowsNames, LaneGoes, LinesGo, handle_among, handle_behind}
 use Rattle.cb_lanes.specs.LineGoes.{Ask, Calls, Goes, LineGoes}
-use Rattle.cb_lanes.specs.Names.{Names, kept_number}
+use Rattle.cb_lanes.specs.Names.{KeptNames, kept_number}
 use Rattle.cb_lanes.specs.Passing.{PeekGoes, goes_in}
 use Rattle.cb_lanes.proofs.WorkedPassing.{pinning, two}
 
@@ -36,8 +36,8 @@ of h = record { n = h }
 abbrev by : ℕ → Request → Line
 by lane request = record { lane = record { n = lane }; line = 2; request = request }
 
-abbrev told : Request → Reply → Answer
-told request reply = record { lane = record { n = 1 }; line = 2; request = request; reply = reply }
+abbrev own_answer : Request → Reply → Answer
+own_answer request reply = record { lane = record { n = 1 }; line = 2; request = request; reply = reply }
 
 some_none : {h : ℕ} → ◌≢◌ {A = Option ℕ} (Some h) None
 some_none e = cc
@@ -85,7 +85,7 @@ another_name_gives_none = refl
 
 -- ---- and the answers that gave them
 abbrev made : ℕ → Answer
-made h = told (Make a []) (answer.Made (of h) 1)
+made h = own_answer (Make a []) (answer.Made (of h) 1)
 
 are_names : AreNamesOf (named a 4 ∷ []) (made 4 ∷ [])
 are_names name = refl
@@ -123,7 +123,7 @@ unfolding bytes_in
 no_bytes = refl
 
 abbrev read : Answer
-read = told (Read a) (answer.Bytes 1 [])
+read = own_answer (Read a) (answer.Bytes 1 [])
 
 abbrev read_part : Part
 read_part = record nothing_more {
@@ -211,7 +211,7 @@ go_further : LinesGo noted [] [] [] [] (a_make ∷ []) → ⊥
 go_further e = eqb-false 1 0 refl (ap length e)
 
 -- ---- handles that are kept
-module _ (kept : Names) where
+module _ (kept : KeptNames) where
   keep : ((name : List ℕ) → kept_number kept name ≡ handle_among (named a 4 ∷ []) name)
       → KeepHandles kept (named a 4 ∷ []) []
   keep is name = is name
@@ -243,10 +243,10 @@ no_front (rest, e) = eqb-false 1 2 refl (ap head e)
     head (x ∷ xs) = x
 
 -- ---- the lines of a lane, and the end of its pins
-lane_goes : LaneGoes two [] pinning (told (Read a) answer.Unmade ∷ []) (record pinning { pins = [] })
+lane_goes : LaneGoes two [] pinning (own_answer (Read a) answer.Unmade ∷ []) (record pinning { pins = [] })
 lane_goes = (pinning, (pinning, (refl, refl), refl), refl)
 
-lane_keeps_pins : LaneGoes two [] pinning (told (Read a) answer.Unmade ∷ []) pinning → ⊥
+lane_keeps_pins : LaneGoes two [] pinning (own_answer (Read a) answer.Unmade ∷ []) pinning → ⊥
 lane_keeps_pins (v, lines, e) = eqb-false 2 0 refl (ap (λ (w : View). length w.pins) e)
 
 -- a look that no line asked for
@@ -263,12 +263,12 @@ unpeeked : (r : Reply) (w : View) → answer.Unmade ≡ r → PeekGoes 1 pinning
 unpeeked r w e (inl x) = absurd (let f = e ∙ x.told in cc)
 unpeeked r w e (inr x) = absurd (let f = e ∙ x.peeks.told in cc)
 
-module _ (kept : Names) where
-  abbrev Answers : Names → List Answer → View → Type 0
+module _ (kept : KeptNames) where
+  abbrev Answers : KeptNames → List Answer → View → Type 0
   Answers later all w = AnswersOne two (by 1 Leave) kept later (made 5 ∷ []) all pinning w
 
   abbrev left_two : List Answer
-  left_two = made 5 ∷ told Leave (answer.Left 2) ∷ []
+  left_two = made 5 ∷ own_answer Leave (answer.Left 2) ∷ []
 
   answers : Answers kept left_two (record pinning { pins = [] })
   answers = record {
@@ -284,12 +284,12 @@ module _ (kept : Names) where
   answers_unsaid : Answers kept (made 5 ∷ []) (record pinning { pins = [] }) → ⊥
   answers_unsaid x = eqb-false 1 2 refl (ap length x.answer)
 
-  forgets_a_name : (later : Names) (h : ℕ) → kept_number kept a ≡ Some h → kept_number later a ≡ None
+  forgets_a_name : (later : KeptNames) (h : ℕ) → kept_number kept a ≡ Some h → kept_number later a ≡ None
       → Answers later left_two (record pinning { pins = [] }) → ⊥
   forgets_a_name later h there gone x = some_none (sym there ∙ sym (x.keeps a) ∙ gone)
 
   -- a name that has a handle is not unmade
-  peeks_unmade : (later : Names) (w : View) → kept_number kept a ≡ Some 1
-      → AnswersOne two (by 1 (Peek a)) kept later [] (told (Peek a) answer.Unmade ∷ []) pinning w → ⊥
+  peeks_unmade : (later : KeptNames) (w : View) → kept_number kept a ≡ Some 1
+      → AnswersOne two (by 1 (Peek a)) kept later [] (own_answer (Peek a) answer.Unmade ∷ []) pinning w → ⊥
   peeks_unmade later w one x = unpeeked x.reply w (ap first_reply x.answer)
       (subst (λ (o : Option ℕ). LineGoes (goes_in two) o (Peek a) pinning x.reply w) one x.goes)

@@ -12,7 +12,7 @@ use Rattle.cb_lanes.specs.Asked.{answer_to}
 use Rattle.cb_lanes.specs.AnsweredBy.{AnsweredBy}
 use Rattle.cb_lanes.specs.LineGoes.{Ask, Goes, Calls, Pins, Peeks, Unpins, Leaves, LineGoes}
 use Rattle.cb_lanes.specs.MayAsk.{IsNamedIfMade, MayCall, StayNamed}
-use Rattle.cb_lanes.specs.Names.{Names, kept_number}
+use Rattle.cb_lanes.specs.Names.{KeptNames, kept_number}
 
 -- a caller that notes what it was asked, the newest first, and answers anything
 abbrev noted : Goes (List Ask)
@@ -142,22 +142,22 @@ made_high named = omega (arith, named a (on 2) 1 refl refl)
 abbrev leaving : Line
 leaving = record { lane = record { n = 1 }; line = 2; request = Leave }
 
-abbrev told : Reply → List Answer
-told r = answer_to leaving Leave r ∷ []
+abbrev left_answers : Reply → List Answer
+left_answers r = answer_to leaving Leave r ∷ []
 
-module _ (names : Names) where
-  is_answered : AnsweredBy noted leaving [] names [] (Leaves ∷ []) names (told (answer.Left 0))
+module _ (names : KeptNames) where
+  is_answered : AnsweredBy noted leaving [] names [] (Leaves ∷ []) names (left_answers (answer.Left 0))
   is_answered = record { reply = answer.Left 0; line_goes = refl; holds = λ q. refl; answer = refl }
 
   -- a line that asked for nothing, one whose answer was not added, and one that forgot a name
-  not_asked : (b : List Ask) (kept : Names) (all : List Answer)
+  not_asked : (b : List Ask) (kept : KeptNames) (all : List Answer)
       → AnsweredBy noted leaving [] names [] b kept all → b ≡ [] → ⊥
   not_asked b kept all x none = omega (arith, ap kind (sym none ∙ x.line_goes))
 
-  not_added : (b : List Ask) (kept : Names) → AnsweredBy noted leaving [] names [] b kept [] → ⊥
+  not_added : (b : List Ask) (kept : KeptNames) → AnsweredBy noted leaving [] names [] b kept [] → ⊥
   not_added b kept x = omega (arith, ap length x.answer)
 
-  forgotten : (b : List Ask) (kept : Names) (all : List Answer) (h : ℕ)
+  forgotten : (b : List Ask) (kept : KeptNames) (all : List Answer) (h : ℕ)
       → AnsweredBy noted leaving [] names [] b kept all → kept_number names a ≡ Some h
       → kept_number kept a ≡ None → ⊥
   forgotten b kept all h x there gone = absurd (let e = sym gone ∙ x.holds a ∙ there in cc)

@@ -30,8 +30,8 @@ b = 98 ∷ []
 abbrev by : ℕ → ℕ → Request → Line
 by lane line request = record { lane = record { n = lane }; line = line; request = request }
 
-abbrev told : ℕ → ℕ → Request → Reply → Answer
-told lane line request reply =
+abbrev lane_answer : ℕ → ℕ → Request → Reply → Answer
+lane_answer lane line request reply =
     record { lane = record { n = lane }; line = line; request = request; reply = reply }
 
 -- lane 0 makes a, lane 1 makes b and reads it
@@ -151,10 +151,10 @@ numbered nodes before (l ∷ ls) are =
 
 -- ---- what the lane promises
 abbrev made : Answer
-made = told 1 3 (Make b (2 ∷ [])) (Made (record { n = 1 }) 1)
+made = lane_answer 1 3 (Make b (2 ∷ [])) (Made (record { n = 1 }) 1)
 
 abbrev answers : ℕ → List Answer
-answers n = made ∷ told 1 4 (Read b) (Bytes 1 (n ∷ [])) ∷ []
+answers n = made ∷ lane_answer 1 4 (Read b) (Bytes 1 (n ∷ [])) ∷ []
 
 maker_is : (all : List Line) → own ≡ of_lane 1 all → is_maker all 1 b ≡ true
 maker_is all is = maker_of all 1 b

@@ -21,8 +21,8 @@ use Rattle.cb_lanes.specs.LineStep.{LineStep, LinesLead, ObjectStep, OtherStep}
 use Rattle.cb_lanes.specs.declared.side.Side.TheVariants.{Nodes}
 use Rattle.cb_lanes.specs.LinesSoundly.{LinesLeadSoundly}
 use Rattle.cb_lanes.specs.LineAnswered.{LineAnswered}
-use Rattle.cb_lanes.specs.Lost.{AreInOrder, loss_of, losses_of}
-use Rattle.cb_lanes.specs.Names.{Names, kept_number}
+use Rattle.cb_lanes.specs.Lost.{AreInOrder, told_loss, losses_of}
+use Rattle.cb_lanes.specs.Names.{KeptNames, kept_number}
 use Rattle.cb_lanes.proofs.Lone.{empty_lone, lone_other}
 
 abbrev answer : Request → Reply → Answer
@@ -59,7 +59,7 @@ twice is = let e = is.0.0 in omega (arith, e)
 falling_last : AreInOrder (loss 1 ∷ loss 3 ∷ loss 2 ∷ []) → ⊥
 falling_last is = let e = is.1.0.0 in omega (arith, e)
 
-a_join_loses_nothing : loss_of (Join (record { n = 3 })) (epoch 2) ≡ None
+a_join_loses_nothing : told_loss (Join (record { n = 3 })) (epoch 2) ≡ None
 a_join_loses_nothing = refl
 
 -- ---- replies of lines
@@ -209,8 +209,8 @@ first_reply [] = Unmade
 first_reply (x ∷ xs) = x.reply
 
 -- a name that has no handle, in a lane that has one more line
-module _ (w : WorldState) (names : Names) (none : kept_number names (97 ∷ []) ≡ None) where
-  is_unmade : (new : WorldState) (other : Names) (all : List Answer)
+module _ (w : WorldState) (names : KeptNames) (none : kept_number names (97 ∷ []) ≡ None) where
+  is_unmade : (new : WorldState) (other : KeptNames) (all : List Answer)
       → (line : LineAnswered Nodes reading (1 ∷ []) w names [] new other all)
       → (line.reply ≡ Unmade) × (new ≡ w) × (line.between ≡ w)
   is_unmade new other all line =
@@ -246,7 +246,7 @@ module _ (w : WorldState) (names : Names) (none : kept_number names (97 ∷ []) 
       let same = (is_unmade new names (read_as Unmade) line).1 in
       omega (arith, more, ap (λ (v : WorldState). v.far.made) same)
 
-  with_another_name : (other : Names) → kept_number other (97 ∷ []) ≡ Some 4
+  with_another_name : (other : KeptNames) → kept_number other (97 ∷ []) ≡ Some 4
       → LineAnswered Nodes reading (1 ∷ []) w names [] w other (read_as Unmade) → ⊥
   with_another_name other four line = absurd (let kept = line.holds (97 ∷ []) in
       let both : Some 4 ≡ None = sym four ∙ kept ∙ none in cc)

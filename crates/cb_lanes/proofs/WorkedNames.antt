@@ -28,7 +28,7 @@ use Rattle.cb_lanes.specs.LineGoes.{CallGoes, Goes, JobGoes, ObjectGoes, OtherGo
 use Rattle.cb_lanes.specs.LineGoes.Ask.{Calls, Pins, Peeks, Unpins}
 use Rattle.cb_lanes.specs.LineStep.{CompactsAt, PeekStep, PinLine, TurnAt, goes_at}
 use Rattle.cb_lanes.specs.MayAsk.{MayCall}
-use Rattle.cb_lanes.specs.Names.{AreKept, AreNamed, AreReady, Names, handle_at, kept_handle, kept_number, number_after, request_handle}
+use Rattle.cb_lanes.specs.Names.{AreKept, AreNamed, AreReady, KeptNames, kept_for, kept_handle, kept_number, number_after, request_handle}
 use Rattle.cb_lanes.specs.Passing.{UnpinGoes}
 use Rattle.cb_lanes.specs.Suits.{AreSuited, Suits}
 use Rattle.cb_lanes.proofs.WorkedPassing.{pinning}
@@ -43,14 +43,14 @@ abbrev made : ℕ → Reply
 made h = answer.Made (record { n = h }) 1
 
 -- ---- handles that are kept, whatever else is
-module _ (names : Names) where
+module _ (names : KeptNames) where
   kept_of : (h : Handle) → kept_handle names a ≡ Some h → kept_number names a ≡ Some h.n
   kept_of h is = ap (option_map (λ (x : Handle). x.n)) is
 
   kept_of_none : kept_handle names a ≡ None → kept_number names a ≡ None
   kept_of_none is = ap (option_map (λ (x : Handle). x.n)) is
 
-  at_names : (handle_at names (Some a) ≡ kept_number names a) × (handle_at names None ≡ None)
+  at_names : (kept_for names (Some a) ≡ kept_number names a) × (kept_for names None ≡ None)
       × (request_handle names (Read a) ≡ kept_number names a)
       × (request_handle names (Unpin b) ≡ kept_number names b)
       × (request_handle names Evict ≡ None) × (request_handle names Leave ≡ None)
@@ -66,15 +66,15 @@ module _ (names : Names) where
   keeps_all : AreKept names (Free a) (answer.Version 2) names
   keeps_all name = refl
 
-  keeps_no_make : (kept : Names) → kept_number kept a ≡ None
+  keeps_no_make : (kept : KeptNames) → kept_number kept a ≡ None
       → AreKept names (Make a []) (made 4) kept → ⊥
   keeps_no_make kept none are = absurd (let e : None ≡ Some 4 = sym none ∙ are a in cc)
 
-  keeps_another_handle : (kept : Names) → kept_number kept a ≡ Some 5
+  keeps_another_handle : (kept : KeptNames) → kept_number kept a ≡ Some 5
       → AreKept names (Make a []) (made 4) kept → ⊥
   keeps_another_handle kept five are = absurd (let e : Some 5 ≡ Some 4 = sym five ∙ are a in cc)
 
-  keeps_what_was_not : (kept : Names) → kept_number names b ≡ None → kept_number kept b ≡ Some 4
+  keeps_what_was_not : (kept : KeptNames) → kept_number names b ≡ None → kept_number kept b ≡ Some 4
       → AreKept names (Make a []) (made 4) kept → ⊥
   keeps_what_was_not kept none four are =
       absurd (let e : Some 4 ≡ None = sym four ∙ are b ∙ none in cc)

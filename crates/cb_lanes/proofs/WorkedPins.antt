@@ -18,7 +18,7 @@ use Rattle.cb_world.specs.World.{WorldState, empty_world, word_at}
 use Rattle.cb_core.specs.declared.event.Atomic.TheVariants as atomic
 use Rattle.cb_core.specs.declared.event.Event.TheVariants as event
 use Rattle.cb_core.specs.Pinning.{not_pinned as unpin_refused, given}
-use Rattle.cb_lanes.specs.GivingBack.{end_of, GivesAll, lines_by, Rests}
+use Rattle.cb_lanes.specs.GivingBack.{unpin_event, GivesAll, lines_by, Rests}
 use Rattle.cb_lanes.specs.declared.side.Side.TheVariants.{Nodes}
 use Rattle.cb_lanes.specs.LineStep.{not_pinned, shown, CallStep, LineStep, IsInReply, PinEvent, SwapEvent, IsFarToPin, PinLine, at_once, stays_far, swapped_in}
 use Rattle.cb_lanes.specs.LinesLeft.{AreLanes, AreLeft}
@@ -214,7 +214,7 @@ pin = record { handle = 0; version = 7 }
 abbrev held : WorldState
 held = record (empty_world small) { seats = with_pins (empty_world small).seats 1 (pin ∷ []) }
 
-the_end_of_a_pin : end_of 1 pin ≡ event.Step 1 (atomic.Unpin (record { n = 0 }))
+the_end_of_a_pin : unpin_event 1 pin ≡ event.Step 1 (atomic.Unpin (record { n = 0 }))
 the_end_of_a_pin = refl
 
 a_lane_without_pins_gives_none : GivesAll 2 held held

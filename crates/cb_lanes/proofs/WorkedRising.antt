@@ -41,8 +41,8 @@ a = 97 ∷ []
 abbrev of : ℕ → Handle
 of h = record { n = h }
 
-abbrev told : Request → Reply → Answer
-told request reply = record { lane = record { n = 1 }; line = 2; request = request; reply = reply }
+abbrev own_answer : Request → Reply → Answer
+own_answer request reply = record { lane = record { n = 1 }; line = 2; request = request; reply = reply }
 
 -- the pointer word of an object of 8 bytes at place 5, Here; made at version 3, by a pass with a part
 -- of the share
@@ -175,7 +175,7 @@ abbrev names : List Named
 names = record { name = a; handle = Some (of 1) } ∷ []
 
 abbrev lines : List Answer
-lines = told (Pin a) (answer.Version 3) ∷ told (Peek a) (answer.Bytes 3 (bytes_in (2826 ∷ []) 8)) ∷ []
+lines = own_answer (Pin a) (answer.Version 3) ∷ own_answer (Peek a) (answer.Bytes 3 (bytes_in (2826 ∷ []) 8)) ∷ []
 
 abbrev at_end : View
 at_end = unpinned_all then_peeked
@@ -190,7 +190,7 @@ rising all more is_last given called = record {
 -- ---- and what would not rise: lines of another lane, a version below one that the record had, and one
 -- below one that was told before
 abbrev made_it : List Answer
-made_it = told (Make a []) (answer.Made (of 1) 3) ∷ []
+made_it = own_answer (Make a []) (answer.Made (of 1) 3) ∷ []
 
 is_made : AreNamesOf names made_it
 is_made name = by (bytes_eq a name)
@@ -212,14 +212,14 @@ of_another_lane : LaneRises 2 names lines part (blank two) → ⊥
 of_another_lane x = let e = (falls_alone 2 lines part x).own.0 in omega (arith, e)
 
 abbrev less : List Answer
-less = told (Pin a) (answer.Version 2) ∷ []
+less = own_answer (Pin a) (answer.Version 2) ∷ []
 
 below_the_record : LaneRises 1 names less part (blank two) → ⊥
 below_the_record x = let low = (falls_alone 1 less part x).rises.behind.0 1 3 false refl has_third in
     omega (arith, low)
 
 abbrev falling : List Answer
-falling = told (Pin a) (answer.Version 4) ∷ told (Pin a) (answer.Version 3) ∷ []
+falling = own_answer (Pin a) (answer.Version 4) ∷ own_answer (Pin a) (answer.Version 3) ∷ []
 
 below_the_last : LaneRises 1 names falling (blank two) (blank two) → ⊥
 below_the_last x = let low = (falls_alone 1 falling (blank two) x).rises.rising.0.0 1 (inl refl) refl refl 4 refl in

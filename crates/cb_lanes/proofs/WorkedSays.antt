@@ -9,14 +9,14 @@ use Rattle.cb_model.specs.declared.object.Object.TheVariants as has
 use Rattle.cb_model.specs.Now.{MapNow}
 use Rattle.cb_script.specs.declared.script.Line.{Line}
 use Rattle.cb_lanes.specs.Alone.{LaneState, NamedNow, alone_more, change_alone, free_alone, is_leave, is_maker, is_maker_of, makes_named, named_objects_after, now_after, own_name, peek_alone, pin_alone, pin_object, pins_shared, read_alone, unpin_alone, write_alone}
-use Rattle.cb_lanes.specs.Bodies.{KnowsHandle, number_of}
+use Rattle.cb_lanes.specs.Bodies.{KnowsHandle, handle_number}
 use Rattle.cb_lanes.specs.LinesLeft.{lanes_of}
 use Rattle.cb_lanes.specs.Names.{IsOnObject}
 use Rattle.cb_lanes.specs.Passing.{mark_in, mark_of, marks_of}
 use Rattle.cb_lanes.specs.Scopes.{CallSays, KeepScopes, PeekSays, ScopeSays, UnmadeSays, UnpinSays, scope_more}
 use Rattle.cb_lanes.proofs.WorkedBodies.{knows_no_other, knows_one, part}
 use Rattle.cb_lanes.proofs.WorkedPassing.{kept, newer, older}
-use Rattle.cb_lanes.proofs.WorkedPins.{a, b, by, c, full, on, run, three}
+use Rattle.cb_lanes.proofs.WorkedPins.{a, b, by, c, full, on, three}
 
 -- ---- a lane's scope after one more answer
 own_answers_count : scope_more 1 three (by 1 (Unpin b) Done) ≡ on a 2 ∷ on a 1 ∷ []
@@ -119,21 +119,6 @@ handle_is_full : ScopeSays (Some 0) full (Pin a) (Version 3) → ⊥
 handle_is_full says = absurd (let e : Version 3 ≡ ScopeFull = says.1 refl in cc)
 
 -- ---- answers, one after the other
-run_keeps_pins : KeepScopes [] (run 1)
-run_keeps_pins = (
-  tt,
-  (
-    (
-      λ e. absurd (let f : Version 1 ≡ ScopeFull = e in cc),
-      λ e. absurd (let f : ◌≡◌ {A = ℕ} 0 16 = e in omega (arith, f)),
-    ),
-    ((7 ∷ [], refl), (refl, tt)),
-  ),
-)
-
-run_keeps_a_pin_less : KeepScopes [] (run 2) → ⊥
-run_keeps_a_pin_less keep = absurd (let e : Left 2 ≡ Left 1 = keep.1.1.1.0 in cc)
-
 -- behind a pin a write tells no pin
 calls_are_kept_too : KeepScopes (by 1 (Make a (7 ∷ [])) (Made (record { n = 0 }) 1)
     ∷ by 1 (Pin a) (Version 1) ∷ []) (by 1 (Write a 0 []) (Pinned 0) ∷ []) → ⊥
@@ -250,7 +235,7 @@ other_mark : mark_of (kept newer) ≡ mark_in older → ⊥
 other_mark e = eqb-false 1 0 refl (ap (λ m. m.handle) e)
 
 -- ---- handles that are known to a record
-numbers : (number_of (Some (record { n = 3 })) ≡ Some 3) × (number_of None ≡ None)
+numbers : (handle_number (Some (record { n = 3 })) ≡ Some 3) × (handle_number None ≡ None)
 numbers = (refl, refl)
 
 knows_none : KnowsHandle part None

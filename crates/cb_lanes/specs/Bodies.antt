@@ -21,7 +21,7 @@ use Rattle.cb_shared.specs.Joining.{unpinned_all}
 use Rattle.cb_lanes.specs.declared.body.Named.{Named}
 use Rattle.cb_lanes.specs.LineGoes.{Goes, LineGoes}
 use Rattle.cb_lanes.specs.Asked.{answer_to}
-use Rattle.cb_lanes.specs.Names.{AreKept, Names, kept_number, request_handle}
+use Rattle.cb_lanes.specs.Names.{AreKept, KeptNames, kept_number, request_handle}
 use Rattle.cb_lanes.specs.Passing.{goes_in}
 
 -- the lines of this lane, in order
@@ -35,15 +35,16 @@ IsLineOf nodes lane l = (l.lane.n ≡ lane) × IsRequest nodes l.request
 abbrev pub AreLinesOf : ℕ → ℕ → List Line → Type 0
 AreLinesOf nodes lane lines = AllByRecursion (IsLineOf nodes lane) lines
 
-abbrev pub number_of : Option Handle → Option ℕ
-number_of None = None
-number_of (Some h) = Some h.n
+abbrev pub handle_number : Option Handle → Option ℕ
+handle_number None = None
+handle_number (Some h) = Some h.n
 
 -- the handle of a name among these, by its last make
 abbrev pub handle_among : List Named → List ℕ → Option ℕ
 handle_among [] name = None
 handle_among (n ∷ later) name =
-    first_of (handle_among later name) (if bytes_eq n.name name then number_of n.handle else None)
+    first_of (handle_among later name)
+    (if bytes_eq n.name name then handle_number n.handle else None)
 
 -- the names are those of these answers
 abbrev pub AreNamesOf : List Named → List Answer → Type 0
@@ -81,12 +82,12 @@ LinesGo {A = A} goes names before a (x ∷ after) b = (between : A)
     × LinesGo goes names (before ++ x ∷ []) between after b
 
 -- the handles that are kept are those of the names
-abbrev pub KeepHandles : Names → List Named → List Answer → Type 0
+abbrev pub KeepHandles : KeptNames → List Named → List Answer → Type 0
 KeepHandles kept names before =
     (name : List ℕ) → kept_number kept name ≡ handle_behind names before (Some name)
 
 -- and each of them has an entry in the record
-abbrev pub KnowsKept : Names → View → Type 0
+abbrev pub KnowsKept : KeptNames → View → Type 0
 KnowsKept kept v = (name : List ℕ) (h : ℕ) → kept_number kept name ≡ Some h → Knows h v
 
 -- the one list stands at the front of the other
@@ -99,8 +100,8 @@ LaneGoes c names v answers w = (between : View)
     × LinesGo (goes_in c) names [] v answers between × (w ≡ unpinned_all between)
 
 -- one line with these handles kept, and the handles and the answers behind it
-pub record AnswersOne (c : Config) (line : Line) (kept later : Names) (answers all : List Answer)
-    (v w : View) : Type 0 where
+pub record AnswersOne (c : Config) (line : Line) (kept later : KeptNames)
+    (answers all : List Answer) (v w : View) : Type 0 where
   pub reply : Reply
   pub goes : LineGoes (goes_in c) (request_handle kept line.request) line.request v reply w
   pub keeps : AreKept kept line.request reply later

@@ -11,12 +11,12 @@ use Rattle.cb_core.specs.declared.event.Event.TheVariants as event
 use Rattle.cb_core.specs.Step.{Leads}
 
 -- the event by which a seat gives a pin back
-abbrev pub end_of : ℕ → Pin → Event
-end_of seat pin = event.Step seat (Unpin (record { n = pin.handle }))
+abbrev pub unpin_event : ℕ → Pin → Event
+unpin_event seat pin = event.Step seat (Unpin (record { n = pin.handle }))
 
 -- the pins of the seat are given back, the newest first, and each of these events is answered done
 abbrev pub GivesAll : ℕ → WorldState → WorldState → Type 0
-GivesAll seat w new = Leads w (map (end_of seat) (reverse (pins_of_seat w.seats seat)))
+GivesAll seat w new = Leads w (map (unpin_event seat) (reverse (pins_of_seat w.seats seat)))
     (replicate (length (pins_of_seat w.seats seat)) answer.Done) new
 
 -- how many of these lines are of the lane

@@ -8,13 +8,13 @@ use Rattle.cb_lanes.specs.Asked.{answer_to}
 use Rattle.cb_lanes.specs.declared.side.Side.{Side}
 use Rattle.cb_lanes.specs.GivingBack.{Rests, lines_by}
 use Rattle.cb_lanes.specs.LineStep.{LineStep}
-use Rattle.cb_lanes.specs.Names.{Names, AreKept, request_handle}
+use Rattle.cb_lanes.specs.Names.{KeptNames, AreKept, request_handle}
 
 -- A line was answered in a world with these names and answers, where these lanes have the lines
 -- behind it: the line leads to a sound world, with the reply of its answer; its lane rests from
 -- there; the handle of a make is kept, and the answer stands behind those before.
 pub record LineAnswered (side : Side) (line : Line) (later : List ℕ) (w : WorldState)
-    (names : Names) (answers : List Answer) (rested : WorldState) (kept : Names)
+    (names : KeptNames) (answers : List Answer) (rested : WorldState) (kept : KeptNames)
     (all : List Answer) : Type 0 where
   pub reply : Reply
   pub between : WorldState

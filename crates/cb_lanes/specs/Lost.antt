@@ -9,13 +9,13 @@ use Rattle.cb_types.specs.declared.reply.Reply.{Reply}
 use Rattle.cb_types.specs.declared.reply.Reply.TheVariants.{EpochAt}
 
 -- the node of a crash that took place, with its epoch
-abbrev pub loss_of : Request → Reply → Option Loss
-loss_of (Crash node) (EpochAt epoch) = Some (record { node = node; epoch = epoch })
-loss_of request reply = None
+abbrev pub told_loss : Request → Reply → Option Loss
+told_loss (Crash node) (EpochAt epoch) = Some (record { node = node; epoch = epoch })
+told_loss request reply = None
 
 -- the crashes that took place, in the order of the answers
 abbrev pub losses_of : List Answer → List Loss
-losses_of answers = filter_map (λ a. loss_of a.request a.reply) answers
+losses_of answers = filter_map (λ a. told_loss a.request a.reply) answers
 
 -- each loss has an earlier epoch than all behind it
 abbrev pub AreInOrder : List Loss → Type 0

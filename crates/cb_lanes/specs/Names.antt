@@ -15,42 +15,42 @@ use Rattle.cb_types.specs.declared.reply.Reply.TheVariants.{Made}
 use Rattle.cb_types.specs.Requests.{name_of}
 
 -- names and their handles, as they are kept
-abbrev pub Names : Type 0
-Names = HashMap (Bor (List ℕ)) Handle (BuildHasherDefault FoldHasher)
+abbrev pub KeptNames : Type 0
+KeptNames = HashMap (Bor (List ℕ)) Handle (BuildHasherDefault FoldHasher)
 
 -- the handle that is kept for a name
-abbrev pub kept_handle : Names → List ℕ → Option Handle
+abbrev pub kept_handle : KeptNames → List ℕ → Option Handle
 kept_handle names name = get_by (λ k. bytes_eq name k.now) names
 
 -- its number
-abbrev pub kept_number : Names → List ℕ → Option ℕ
+abbrev pub kept_number : KeptNames → List ℕ → Option ℕ
 kept_number names name = option_map (λ handle. handle.n) (kept_handle names name)
 
 -- the handle that is kept for a request's name
-abbrev pub handle_at : Names → Option (List ℕ) → Option ℕ
-handle_at names None = None
-handle_at names (Some name) = kept_number names name
+abbrev pub kept_for : KeptNames → Option (List ℕ) → Option ℕ
+kept_for names None = None
+kept_for names (Some name) = kept_number names name
 
-abbrev pub request_handle : Names → Request → Option ℕ
-request_handle names request = handle_at names (name_of request)
+abbrev pub request_handle : KeptNames → Request → Option ℕ
+request_handle names request = kept_for names (name_of request)
 
 -- the names after an answer: a make that was given a handle has it kept under its name
-abbrev pub number_after : Names → Request → Reply → List ℕ → Option ℕ
+abbrev pub number_after : KeptNames → Request → Reply → List ℕ → Option ℕ
 number_after names (Make name bytes) (Made handle version) other =
     if bytes_eq name other then Some handle.n else kept_number names other
 number_after names request reply other = kept_number names other
 
 -- the names after an answer
-abbrev pub AreKept : Names → Request → Reply → Names → Type 0
+abbrev pub AreKept : KeptNames → Request → Reply → KeptNames → Type 0
 AreKept names request reply kept =
     (name : List ℕ) → kept_number kept name ≡ number_after names request reply name
 
 -- the handle of each name may be named
-abbrev pub AreNamed : (ℕ → Type 0) → Names → Type 0
+abbrev pub AreNamed : (ℕ → Type 0) → KeptNames → Type 0
 AreNamed named names = (name : List ℕ) (h : ℕ) → kept_number names name ≡ Some h → named h
 
 -- each name's handle is one of so many
-abbrev pub AreReady : ℕ → Names → Type 0
+abbrev pub AreReady : ℕ → KeptNames → Type 0
 AreReady handles names = AreNamed (λ h. h < handles) names
 
 -- the request is about an object that was to be made before

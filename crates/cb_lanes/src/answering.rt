@@ -109,14 +109,14 @@ fn call_named<'a, C: Caller>(
         StayNamed (C.may_name caller.now lane.old) (C.may_name caller.now lane.new)) }
     ensures well { C.well caller.now lane.new }
 {
-    match handle_of(names, request) {
+    match request_handle(names, request) {
         None => Ok(Reply::Unmade),
         Some(handle) => call_object(alloc, caller, lane, handle, request),
     }
 }
 
 /// The handle that is kept for the request's name.
-fn handle_of<'a>(names: &HashMap<&'a [u8], Handle>, request: &'a Request) -> Option<Handle>
+fn request_handle<'a>(names: &HashMap<&'a [u8], Handle>, request: &'a Request) -> Option<Handle>
     ensures { option_map (λ handle. handle.n) result ≡ request_handle names.now request.now }
 {
     let name = request.name()?;

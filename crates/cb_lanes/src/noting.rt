@@ -3,7 +3,7 @@ ghost use Rattle.std.specs.List.{cons_option};
 ghost use Rattle.cb_script.specs.Form.{IsRequest};
 ghost use Rattle.cb_lanes.specs.Asked.{answer_to};
 ghost use Rattle.cb_lanes.specs.AnsweredBy.{AnsweredBy};
-ghost use Rattle.cb_lanes.specs.Lost.{loss_of, losses_of};
+ghost use Rattle.cb_lanes.specs.Lost.{told_loss, losses_of};
 ghost use Rattle.cb_lanes.specs.Names.{AreNamed};
 
 use crate::answering::reply_to;
@@ -67,17 +67,17 @@ fn note_answer(
 /// that took place, with its epoch.
 pub fn note_loss(losses: &mut Vec<Loss>, request: &Request, reply: &Reply) -> Result<(), NoMemory>
     ensures noted { IfOk result (λ done.
-        losses.new.items ≡ losses.old.items ++ cons_option (loss_of request.now reply.now) []) }
+        losses.new.items ≡ losses.old.items ++ cons_option (told_loss request.now reply.now) []) }
 {
-    if let Some(loss) = loss_of(request, reply) {
+    if let Some(loss) = told_loss(request, reply) {
         losses.push(loss)?;
     }
     Ok(())
 }
 
 /// The loss of an answered line: the node of a crash that took place, with its epoch.
-fn loss_of(request: &Request, reply: &Reply) -> Option<Loss>
-    ensures { result ≡ loss_of request.now reply.now }
+fn told_loss(request: &Request, reply: &Reply) -> Option<Loss>
+    ensures { result ≡ told_loss request.now reply.now }
 {
     match (request, reply) {
         (Request::Crash { node }, Reply::EpochAt { epoch }) => Some(Loss {

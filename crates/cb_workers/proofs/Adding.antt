@@ -1,5 +1,5 @@
 -- Turns that are added to a record, one behind the other.
-use Rattle.std.proofs.Common.{◌≡◌, ℕ, ◌+◌, List, [], ◌++◌, refl, sym, ap, ◌∙◌, append_assoc, arith}
+use Rattle.std.proofs.Common.{◌≡◌, ℕ, ◌+◌, List, ◌++◌, sym, ap, ◌∙◌, append_assoc, arith}
 use Rattle.std.proofs.lemmas.List.{map-append}
 use Rattle.cb_rule.specs.declared.turn.Turn.{Turn}
 use Rattle.cb_rule.specs.declared.view.View.{View}
@@ -16,14 +16,6 @@ grown_twice : (v : View) → (earlier later : List Turn)
 grown_twice v earlier later = λ i. record (grown (turns_alone earlier) v) {
   ever = sym (no_pin (v.ever + 0)) i;
   turns = sym (append_assoc later earlier v.turns) i;
-}
-
--- no turns
-pub none_added : (v : View) → AddsTurns [] v v
-none_added v = record {
-  turns = [];
-  are = refl;
-  grows = λ i. record v { ever = no_pin v.ever i };
 }
 
 -- some, and some behind them

@@ -2,6 +2,7 @@
 -- least as many turns as it owes.
 use Rattle.std.proofs.Common.{◌≡◌, ℕ, ◌+◌, ◌≤◌, List, [], ◌∷◌, ◌++◌, length, Option, None, Some, refl, sym, ap, ◌∙◌, subst, arith}
 use Rattle.std.proofs.lemmas.List.{length-append, length-map, map-append}
+use Rattle.std.proofs.lemmas.Option.{none-some}
 use Rattle.cb_types.specs.declared.job.Job.{Job}
 use Rattle.cb_types.specs.declared.job.Job.TheVariants as job
 use Rattle.cb_types.specs.declared.reply.Reply.{Reply}
@@ -53,10 +54,6 @@ done_of handles w (a ∷ earlier) are =
     (ap (λ j. owner j) (are.0) ∙ behind_of handles w earlier, done_of handles w earlier are.1)
 
 -- what ends the work of a worker is that worker's
-abbrev IsSomeNot : Option Job → Type 0
-IsSomeNot (Some last) = ⊥
-IsSomeNot None = Unit {0}
-
 abbrev HasOwner : Option Worker → Option Job → Type 0
 HasOwner w (Some last) = owner last ≡ w
 HasOwner w None = Unit {0}
@@ -68,7 +65,7 @@ end_same job.Abort last e = subst (HasOwner (Some worker.Evict)) e refl
 end_same job.Patch last e = subst (HasOwner (Some worker.Compact)) e refl
 end_same job.Merge last e = subst (HasOwner (Some worker.Compact)) e refl
 end_same job.Part last e = subst (HasOwner (Some worker.Compact)) e refl
-end_same due last e = absurd (subst IsSomeNot e tt)
+end_same due last e = absurd (none-some last e)
 
 ending_of : (w : Worker) → (due : Job) → (ending : List AnsweredTurn) → (end : Option Job)
     → end_of due ≡ end → owner due ≡ Some w → IsOnly end ending → AreJobsOf w (deeds_of ending)

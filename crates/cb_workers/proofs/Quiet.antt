@@ -17,14 +17,14 @@ use Rattle.cb_workers.specs.Bodies.{AddsTurns, IsEnd, IsOwed, one_deed, turns_al
 
 -- what a worker's job leaves alone: it reads no object under a pin, is about no object that a pass
 -- knows, makes none, and writes no version
-record IsQuiet (work : Job) : Type 0 where
+record IsQuietWork (work : Job) : Type 0 where
   pub reads : (r : Result Reply NoMemory) → (v : View) → (d : Part) → JobReads work r v d
       → d ≡ nothing_more
   pub object : object_of work ≡ None
   pub made : (r : Option Reply) → made_by_turn work r ≡ []
   pub writes : (r : Reply) → (more : List Entry) → TurnWrites work r more → more ≡ []
 
-quiet : (handles : ℕ) → (work : Job) → IsOwed handles work → IsQuiet work
+quiet : (handles : ℕ) → (work : Job) → IsOwed handles work → IsQuietWork work
 quiet handles (job.Make bytes) owed = absurd owed
 quiet handles (job.Read handle) owed = absurd owed
 quiet handles (job.Write handle at bytes) owed = absurd owed
@@ -36,7 +36,7 @@ quiet handles work owed = record {
   writes = λ r more is. is;
 }
 
-writes_none : (work : Job) → IsQuiet work → (r : Result Reply NoMemory) → (more : List Entry)
+writes_none : (work : Job) → IsQuietWork work → (r : Result Reply NoMemory) → (more : List Entry)
     → OutcomeWrites work r more → more ≡ []
 writes_none work q (Ok r) more is = q.writes r more is
 writes_none work q (Err e) more is = is
@@ -55,7 +55,7 @@ adds_turn c work r v w owed (d, adds, grows) = record {
       ∙ ap (λ part. grown part v) alone;
 }
   where
-    q : IsQuiet work
+    q : IsQuietWork work
     q = quiet c.handles work owed
 
     within : adds.within ≡ nothing_more

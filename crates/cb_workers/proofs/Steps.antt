@@ -2,6 +2,7 @@
 use Rattle.std.proofs.Common.{◌≡◌, ℕ, ◌+◌, ◌<◌, List, [], ◌∷◌, ◌++◌, length, Option, None, Some, Result, Ok, Err, IsOk, OnErr, refl, sym, ap, ◌∙◌, subst, arith}
 use Rattle.std.proofs.lemmas.Bool.{false≢true}
 use Rattle.std.proofs.lemmas.List.{map-append}
+use Rattle.std.proofs.lemmas.Option.{none-some}
 use Rattle.cb_member.specs.declared.no_memory.NoMemory.{NoMemory}
 use Rattle.cb_types.specs.declared.config.Field.TheVariants.{Handles}
 use Rattle.cb_types.specs.declared.job.Job.{Job}
@@ -20,7 +21,7 @@ use Rattle.cb_workers.specs.Bodies.{AddsTurns, Cuts, EndsBegun, HasMade, IsOwed,
 use Rattle.cb_workers.specs.declared.worker.Worker.{Worker}
 use Rattle.cb_workers.specs.declared.worker.Worker.TheVariants as worker
 use Rattle.cb_workers.proofs.Visits.{next_visit_below}
-use Rattle.cb_workers.proofs.Adding.{both_added, none_added}
+use Rattle.cb_workers.proofs.Adding.{both_added}
 
 -- ---- the jobs that are due are a worker's
 batch_owed : (handles : ℕ) → (r : Reply) → IsOwed handles (after_batch r)
@@ -63,15 +64,6 @@ due_owed handles w n due v u some made =
     subst (λ j. IsOwed handles j) (sym made.due_is) (behind_owed handles w made.done some)
 
 -- ---- a loop over the turns
-pub none_made : (handles : ℕ) → (w : Worker) → (due : Job) → (v : View) → due ≡ first_job w
-    → HasMade handles w 0 due v v
-none_made handles w due v first = record {
-  done = [];
-  number = refl;
-  are_due = tt;
-  due_is = first;
-  adds = none_added v;
-}
 
 pub one_made : (handles : ℕ) → (w : Worker) → (n : ℕ) → (due new : Job) → (v u t : View)
     → HasMade handles w n due v u → Steps handles w due new u t → HasMade handles w (n + 1) new v t
@@ -140,9 +132,6 @@ all_stopped handles w turns due v u t cut (ending, only, adds) = (
     all = both_added (lacked due ∷ deeds_of cut.done) (deeds_of ending) v u t cut.adds adds
 
 -- ---- one end
--- the end of nothing
-pub none_ended : (due : Job) → (v : View) → end_of due ≡ None → EndsBegun due v v
-none_ended due v none = ([], subst (λ o. IsOnly o []) (sym none) refl, none_added v)
 
 pub one_ended : (due last : Job) → (reply : Reply) → (v u : View) → end_of due ≡ Some last
     → AddsTurns (one_deed last (Some reply)) v u → EndsBegun due v u
@@ -153,10 +142,6 @@ one_ended due last reply v u some adds = (
 )
 
 -- a job that ends something is an abort or a parting
-abbrev IsSomeNot : Option Job → Type 0
-IsSomeNot (Some last) = ⊥
-IsSomeNot None = Unit {0}
-
 abbrev IsSomeEnd : Option Job → Type 0
 IsSomeEnd (Some last) = IsEnd last
 IsSomeEnd None = ⊥
@@ -168,7 +153,7 @@ is_end job.Abort last e = subst IsSomeEnd e tt
 is_end job.Patch last e = subst IsSomeEnd e tt
 is_end job.Merge last e = subst IsSomeEnd e tt
 is_end job.Part last e = subst IsSomeEnd e tt
-is_end due last e = absurd (subst IsSomeNot e tt)
+is_end due last e = absurd (none-some last e)
 
 pub end_answered : (due last : Job) → (r : Result Reply NoMemory) → (v u : View)
     → end_of due ≡ Some last → (IsEnd last → IsOk r)

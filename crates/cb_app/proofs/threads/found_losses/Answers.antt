@@ -1,7 +1,7 @@
 use Rattle.std.proofs.Common.{List, ◌++◌, [], ap, ◌∙◌, rules}
 use Rattle.std.specs.List.{cons_option}
 use Rattle.cb_member.specs.declared.names.Loss.{Loss}
-use Rattle.cb_lanes.specs.Lost.{loss_of}
+use Rattle.cb_lanes.specs.Lost.{told_loss}
 use Rattle.cb_app.proofs.Records.{losses_more}
 use Rattle.cb_app.proofs.threads.found_losses.Goals as goal
 
@@ -11,4 +11,4 @@ loop-answer-preserved c =
     let a = c.answer-item.result in
     let more = rw c.as_slice-answer-items.ensures.items at (losses_more answers c.loop-answer.answer-index a a (search rules) c.answer-item.is) in
     c.in_ok-note_loss.ensures.noted
-    ∙ ap (λ (l : List Loss). l ++ cons_option (loss_of a.request a.reply) []) c.loop-answer.invariant ∙ more
+    ∙ ap (λ (l : List Loss). l ++ cons_option (told_loss a.request a.reply) []) c.loop-answer.invariant ∙ more
