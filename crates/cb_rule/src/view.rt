@@ -1,6 +1,21 @@
-use crate::turn::Turn;
-use cb_types::Config;
-use cb_world::{Entry, Event, Far, Shown};
+ghost use Rattle.std.specs.Prelude.{ℕ, Bool, List};
+ghost use Rattle.std.specs.Borrow.{ftrue};
+ghost use Rattle.std.specs.Coded.{codes};
+ghost use Rattle.cb_types.specs.declared.config.Config.{Config};
+ghost use Rattle.cb_world.specs.declared.entry.Entry.{Entry};
+ghost use Rattle.cb_world.specs.declared.event.Event.{Event};
+ghost use Rattle.cb_world.specs.declared.shown.Shown.{Shown};
+ghost use Rattle.cb_world.specs.contracts.far.Far as far;
+ghost use Rattle.cb_world.specs.FarState.{FarState};
+ghost use Rattle.cb_rule.specs.contracts.turn.Turn as turn;
+ghost use Rattle.cb_rule.specs.declared.turn.Turn.{Turn};
+ghost use Rattle.cb_rule.specs.declared.view.Held.{Held};
+ghost use Rattle.cb_rule.specs.declared.view.Look.{Look};
+ghost use Rattle.cb_rule.specs.declared.view.Peeked.{Peeked};
+ghost use Rattle.cb_rule.specs.declared.view.Seen.{Seen};
+ghost use Rattle.cb_rule.specs.declared.view.Stand.{Stand};
+
+use std::marker::Model;
 
 /// A pin: the version that it keeps, its length in bytes, its words and the index of the memory
 /// word at which they begin.
@@ -48,37 +63,42 @@ pub struct Look {
     pub word: u64,
 }
 
-/// What a seat knows: the record of a pass. No value of it is made; contracts read its arrays as
-/// lists of any length, the newest first, but for the events.
+/// What a seat knows: the record of a pass. No value of it is made. Its parts are lists and records
+/// of contracts, and no types of the code: a function that names a seat then names none of those.
 pub struct View {
     /// That of the table.
-    pub config: Config,
+    pub ghost config: { Config },
     /// Its part of 64; a view without any is spent.
-    pub share: u32,
-    pub pins: [Stand; 0],
+    pub ghost share: { ℕ },
+    /// The newest first, as all lists but that of the events.
+    pub ghost pins: { List Stand },
     /// How many pins it ever took.
-    pub ever: u64,
+    pub ghost ever: { ℕ },
     /// Outside of a turn.
-    pub claims: [Held; 0],
-    pub written: [Entry; 0],
+    pub ghost claims: { List Held },
+    pub ghost written: { List Entry },
     /// Those written in the running turn.
-    pub fresh: [Entry; 0],
-    pub seen: [Seen; 0],
-    pub peeked: [Peeked; 0],
+    pub ghost fresh: { List Entry },
+    pub ghost seen: { List Seen },
+    pub ghost peeked: { List Peeked },
     /// Outside of a turn; those of a turn are its events.
-    pub looks: [Look; 0],
+    pub ghost looks: { List Look },
     /// The handles that it made, and that no other pass knows.
-    pub own: [u32; 0],
+    pub ghost own: { List ℕ },
     /// Whether it holds the far lock.
-    pub holds: bool,
+    pub ghost holds: { Bool },
     /// What it knew when the running turn began, and how many entries the history had then.
-    pub start: Shown,
-    pub since: u64,
+    pub ghost start: { Shown },
+    pub ghost since: { ℕ },
     /// The events of the running turn, the first one first.
-    pub acts: [Event; 0],
+    pub ghost acts: { List Event },
     /// What it knows while it holds the lock.
-    pub known: Shown,
+    pub ghost known: { Shown },
     /// The far state that it took with the lock.
-    pub took: Far,
-    pub turns: [Turn; 0],
+    pub ghost took: { FarState } by { Prim.hlevel (codes, far.the_row.coded) },
+    pub ghost turns: { List Turn } by { Prim.hlevel (codes, turn.the_row.coded) },
+}
+
+impl Model for View {
+    ghost also_owns = { λ _. ftrue };
 }
