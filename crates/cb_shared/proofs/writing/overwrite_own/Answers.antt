@@ -1,12 +1,26 @@
-use Rattle.std.proofs.Common.{◌∙◌, ◌<◌, ◌+◌, ◌*◌, ℕ, set, refl, sym, ap, arith}
+use Rattle.std.proofs.Common.{◌∙◌, ◌<◌, ◌+◌, ◌*◌, ℕ, List, set, refl, sym, ap, arith}
 use Rattle.cb_world.specs.Memory.{words_for}
-use Rattle.cb_mutate.proofs.Laws.{write_all, write_more}
+use Rattle.cb_mutate.proofs.Laws.{write_all, write_more, write_none}
 use Rattle.cb_rule.specs.declared.view.Held.{Held}
 use Rattle.cb_rule.specs.Slot.{Sat}
 use Rattle.cb_shared.specs.Claims.{with_memory, with_only}
 use Rattle.cb_rule.specs.Steps.{with_claim_word}
 use Rattle.cb_shared.proofs.WriteSteps.{of_moves}
 use Rattle.cb_shared.proofs.writing.overwrite_own.Goals as goal
+
+pub loop-i-init : goal.loop-i-init
+loop-i-init c = (
+  c.requires.of,
+  λ x ho w. (
+    x.memory,
+    write_none x.memory c.args.at c.args.bytes.now,
+    (
+      refl,
+      refl,
+      ap (λ (l : List Held). let z : Sat = (record c.args.seat.now.me.0 { claims = l }, c.args.seat.now.me.1) in z) ho.0,
+    ),
+  ),
+)
 
 pub store_own-requires-clause-held : goal.store_own-requires-clause-held
 store_own-requires-clause-held c = let h = c.requires.claim in let x = h.0 in let w = h.2 in

@@ -3,6 +3,19 @@ use Rattle.cb_rule.specs.Slot.{Sat}
 use Rattle.cb_shared.proofs.WriteSteps.{written_at}
 use Rattle.cb_shared.proofs.writing.write_at.Goals as goal
 
+pub write_claimed-requires-clause-claim : goal.write_claimed-requires-clause-claim
+write_claimed-requires-clause-claim c =
+    let y = c.claim_here-found.ensures.won c.if-found-saw.false in (
+      y.0,
+      y.1,
+      record {
+        only = ap (λ (m : Sat). m.0.claims) y.6.2;
+        lies = y.3;
+        below = y.4;
+        whole = y.5;
+      },
+    )
+
 pub returns-clause-table : goal.returns-clause-table
 returns-clause-table c =
     let y = c.claim_here-found.ensures.won c.if-found-saw.false in
