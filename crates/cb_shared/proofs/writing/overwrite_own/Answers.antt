@@ -17,7 +17,9 @@ loop-i-init c = (
     (
       refl,
       refl,
-      ap (λ (l : List Held). let z : Sat = (record c.args.seat.now.me.0 { claims = l }, c.args.seat.now.me.1) in z) ho.0,
+      ap (λ (l : List Held). let p = c.args.seat.now in
+          let z : Sat = (record p.me.0 { claims = l }, p.me.1) in
+          z) ho.0,
     ),
   ),
 )
