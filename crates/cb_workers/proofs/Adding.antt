@@ -1,5 +1,5 @@
 -- Turns that are added to a record, one behind the other.
-use Rattle.std.proofs.Common.{◌≡◌, ℕ, ◌+◌, List, ◌++◌, sym, ap, ◌∙◌, append_assoc, arith}
+use Rattle.std.proofs.Common.{◌≡◌, ℕ, ◌+◌, List, [], ◌++◌, refl, sym, ap, ◌∙◌, append_assoc, arith}
 use Rattle.std.proofs.lemmas.List.{map-append}
 use Rattle.cb_rule.specs.declared.turn.Turn.{Turn}
 use Rattle.cb_rule.specs.declared.view.View.{View}
@@ -26,4 +26,12 @@ both_added ds es v w u d e = record {
   are = map-append deed e.turns d.turns ∙ (λ i. e.are i ++ d.are i);
   grows = e.grows ∙ ap (λ x. grown (turns_alone e.turns) x) d.grows
       ∙ grown_twice v d.turns e.turns;
+}
+
+-- no turn
+pub none_added : (v : View) → AddsTurns [] v v
+none_added v = record {
+  turns = [];
+  are = refl;
+  grows = λ i. record v { ever = no_pin v.ever i };
 }

@@ -21,7 +21,7 @@ use Rattle.cb_workers.specs.Bodies.{AddsTurns, Cuts, EndsBegun, HasMade, IsOwed,
 use Rattle.cb_workers.specs.declared.worker.Worker.{Worker}
 use Rattle.cb_workers.specs.declared.worker.Worker.TheVariants as worker
 use Rattle.cb_workers.proofs.Visits.{next_visit_below}
-use Rattle.cb_workers.proofs.Adding.{both_added}
+use Rattle.cb_workers.proofs.Adding.{both_added, none_added}
 
 -- ---- the jobs that are due are a worker's
 batch_owed : (handles : ℕ) → (r : Reply) → IsOwed handles (after_batch r)
@@ -64,6 +64,17 @@ due_owed handles w n due v u some made =
     subst (λ j. IsOwed handles j) (sym made.due_is) (behind_owed handles w made.done some)
 
 -- ---- a loop over the turns
+
+-- no turn was made yet
+pub none_made : (handles : ℕ) → (w : Worker) → (due : Job) → (v : View) → due ≡ first_job w
+    → HasMade handles w 0 due v v
+none_made handles w due v first = record {
+  done = [];
+  number = refl;
+  are_due = tt;
+  due_is = first;
+  adds = none_added v;
+}
 
 pub one_made : (handles : ℕ) → (w : Worker) → (n : ℕ) → (due new : Job) → (v u t : View)
     → HasMade handles w n due v u → Steps handles w due new u t → HasMade handles w (n + 1) new v t
@@ -139,6 +150,13 @@ one_ended due last reply v u some adds = (
   record { job = last; reply = reply } ∷ [],
   subst (λ o. IsOnly o (record { job = last; reply = reply } ∷ [])) (sym some) (reply, refl),
   adds,
+)
+
+pub none_ended : (due : Job) → (v : View) → end_of due ≡ None → EndsBegun due v v
+none_ended due v none = (
+  [],
+  subst (λ o. IsOnly o []) (sym none) refl,
+  none_added v,
 )
 
 -- a job that ends something is an abort or a parting

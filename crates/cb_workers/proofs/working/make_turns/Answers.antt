@@ -1,4 +1,4 @@
-use Rattle.cb_workers.proofs.Steps.{any_err, due_owed, one_lacked, one_made, some_handles}
+use Rattle.cb_workers.proofs.Steps.{any_err, due_owed, none_made, one_lacked, one_made, some_handles}
 use Rattle.cb_workers.proofs.working.make_turns.Goals as goal
 
 pub step-requires-clause-owed : goal.step-requires-clause-owed
@@ -11,6 +11,12 @@ returns-in_err-step-clause-cut g c = any_err c.from_residual.result _ (one_lacke
     c.args.shared.now.config.handles c.args.worker c.loop-number.number c.args.turns
     c.loop-number.due c.step.new.due _ _ _ c.loop-number-test.true c.loop-number.invariant.1
     c.in_err-step.ensures.lacks)
+
+pub loop-number-init : goal.loop-number-init
+loop-number-init g c = (
+  c.requires.of,
+  none_made c.args.shared.now.config.handles c.args.worker c.args.due.now _ c.requires.first,
+)
 
 pub loop-number-preserved : goal.loop-number-preserved
 loop-number-preserved g c = (
