@@ -45,7 +45,7 @@ use Rattle.cb_record.specs.Upheld.{as_part}
 use Rattle.cb_shared.specs.Sealing.{sealed, sealed_record, sealed_world}
 use Rattle.cb_shared.specs.Turning.{Did}
 use Rattle.cb_shared.specs.declared.seal.Seal.{Seal}
-use Rattle.cb_shared.specs.declared.seal.Sealed.{Sealed}
+use Rattle.cb_shared.specs.declared.sealed.Sealed.{Sealed}
 use Rattle.cb_lanes.specs.Asked.{asked}
 use Rattle.cb_workers.specs.Rules.{visit}
 use Rattle.cb_workers.specs.declared.worker.Worker.TheVariants as worker

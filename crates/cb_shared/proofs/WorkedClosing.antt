@@ -12,7 +12,7 @@ use Rattle.cb_shared.specs.declared.pass.Pass.{Pass}
 use Rattle.cb_shared.specs.declared.refused.CloseRefused.TheVariants.{Out, NoMemory}
 use Rattle.cb_shared.specs.declared.runtime.Shared.{Shared}
 use Rattle.cb_shared.specs.declared.seal.Seal.{Seal}
-use Rattle.cb_shared.specs.declared.seal.Sealed.{Sealed}
+use Rattle.cb_shared.specs.declared.sealed.Sealed.{Sealed}
 use Rattle.cb_shared.specs.Closing.{IsClosedBy, RefusesToClose}
 use Rattle.cb_shared.specs.Joining.{unpinned_all}
 use Rattle.cb_shared.specs.Passes.{record_of}

@@ -5,7 +5,7 @@ use Rattle.cb_world.specs.World.{WorldState, empty_world}
 use Rattle.cb_rule.specs.declared.view.View.{View}
 use Rattle.cb_rule.specs.Steps.{blank}
 use Rattle.cb_shared.specs.declared.seal.Seal.{Seal}
-use Rattle.cb_shared.specs.declared.seal.Sealed.{Sealed}
+use Rattle.cb_shared.specs.declared.sealed.Sealed.{Sealed}
 
 -- a world and a record
 abbrev pub sealed : WorldState → View → Sealed

@@ -22,6 +22,7 @@ mod recalling;
 pub mod refused;
 pub mod runtime;
 pub mod seal;
+pub mod sealed;
 mod seat_desk;
 mod seats;
 mod setup;

@@ -5,16 +5,11 @@ ghost use Rattle.cb_rule.specs.declared.view.View.{View};
 ghost use Rattle.cb_shared.specs.Sealing.{AnyWord, no_view, no_world, sealed, unsealed};
 
 use crate::board::Place;
+use crate::sealed::Sealed;
 use atomic_table::{Mark, PerchPlay, PerchRule, RuledPerch};
 use cb_rule::View;
 use cb_world::{Far, World};
 use std::marker::{Brand, PhantomData};
-
-/// What stands under a seal. No value of it is made.
-pub struct Sealed {
-    pub world: World,
-    pub view: View,
-}
 
 /// What is put under a seal. Each call picks it.
 pub trait UnderSeal {

@@ -2,7 +2,7 @@ use Rattle.std.proofs.Common.{◌∙◌, ◌*◌, get_or, ap}
 use Rattle.cb_world.specs.Plain.{Words}
 use Rattle.std.specs.Slots.{slots_items}
 use Rattle.cb_rule.specs.Slot.{Sat}
-use Rattle.cb_shared.specs.declared.seal.Sealed.{Sealed}
+use Rattle.cb_shared.specs.declared.sealed.Sealed.{Sealed}
 use Rattle.cb_shared.specs.Joining.{unpinned_all}
 use Rattle.cb_shared.proofs.Closes.{ends_in, is_closed}
 use Rattle.cb_shared.proofs.Filled.{all_blank}
