@@ -10,13 +10,14 @@ ghost use Rattle.cb_world.specs.Plain.{IsSized};
 ghost use Rattle.cb_rule.specs.Closing.{desk_of};
 ghost use Rattle.cb_rule.specs.Words.{base, stamps};
 
+use crate::boxed_far::BoxedFar;
 use atomic_table::Closed;
 use cb_types::{Config, Handle};
 use cb_world::{Far, PlainDesk};
 use std::alloc::Global;
 
 /// The table of the words, which no seat shares any more.
-pub(crate) type Rows = Closed<Option<Far>, Global>;
+pub(crate) type Rows = Closed<Option<BoxedFar>, Global>;
 
 /// The word with this index.
 fn word(rows: &Rows, i: usize) -> u64
@@ -118,7 +119,7 @@ pub(crate) fn take_far(rows: Rows) -> Far
     let slot = rows.take(0);
     rows.free();
     match slot {
-        Some(far) => far,
+        Some(boxed) => boxed.into_far(),
         None => unreachable!(),
     }
 }

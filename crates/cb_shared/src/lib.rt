@@ -4,6 +4,7 @@
 
 pub mod answers;
 mod board;
+mod boxed_far;
 pub mod calling;
 mod closing;
 mod crossing;

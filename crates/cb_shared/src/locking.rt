@@ -7,9 +7,9 @@ ghost use Rattle.cb_shared.specs.Turning.{answer_of};
 ghost use Rattle.cb_shared.specs.UnderLock.{GivesFar, IsEnding, TakesFar, TakesLock};
 
 use crate::board::{Place, Top};
+use crate::boxed_far::BoxedFar;
 use crate::plays::{Deed, GiveLock, Opening, TakeLock};
 use cb_types::{Config, Job, NoMemory, Reply};
-use cb_world::Far;
 use std::marker::Brand;
 use std::sync::Wait;
 use std::{hint, mem};
@@ -19,7 +19,7 @@ use std::{hint, mem};
 const SPINS: u32 = 100;
 
 /// Waits until the far lock is free, and takes it with the far state.
-pub(crate) fn lock_far<R: Wait>(rt: &R, top: &Top, seat: &mut Place, config: &Config) -> Far
+pub(crate) fn lock_far<R: Wait>(rt: &R, top: &Top, seat: &mut Place, config: &Config) -> BoxedFar
     requires of { IsOf top.now.table_id top.now.key config.now seat.old }
     ensures took { TakesFar config.now result seat.old seat.new }
     ensures first { seat.new.me.0.known.first ≡ top.now.key.first }
@@ -65,7 +65,7 @@ fn pause<R: Wait>(rt: &R, top: &Top, spins: u32) -> u32
 }
 
 /// Takes the far lock with the far state, unless the lock is held.
-fn try_far(top: &Top, seat: &mut Place, config: &Config) -> Option<Far>
+fn try_far(top: &Top, seat: &mut Place, config: &Config) -> Option<BoxedFar>
     requires of { IsOf top.now.table_id top.now.key config.now seat.old }
     ensures took { (far : FarState) → result ≡ Some far → TakesFar config.now far seat.old seat.new }
     ensures first { (far : FarState) → result ≡ Some far
@@ -80,7 +80,7 @@ fn try_far(top: &Top, seat: &mut Place, config: &Config) -> Option<Far>
 }
 
 /// Takes the lock if its word is this one, and the far state out of its slot.
-fn take_far(top: &Top, seat: &mut Place, config: &Config, word: u64) -> Option<Far>
+fn take_far(top: &Top, seat: &mut Place, config: &Config, word: u64) -> Option<BoxedFar>
     requires of { IsOf top.now.table_id top.now.key config.now seat.old }
     requires even { word % 2 ≡ 0 }
     ensures took { (far : FarState) → result ≡ Some far → TakesFar config.now far seat.old seat.new }
@@ -108,7 +108,7 @@ fn take_lock<W: Opening>(top: &Top, seat: &mut Place, config: &Config, word: u64
 }
 
 /// The far state, out of the slot that the seat has in hand.
-fn take_out(top: &Top, seat: &mut Place) -> Far
+fn take_out(top: &Top, seat: &mut Place) -> BoxedFar
     requires table { seat.old.table_id ≡ top.now.table_id }
     requires slot { (far : FarState) × (seat.old.me.1 ≡ (0, Some far) ∷ rest seat.old.me.1) }
     ensures same { (seat.new.table_id ≡ seat.old.table_id) × (seat.new.id ≡ seat.old.id)
@@ -122,10 +122,10 @@ fn take_out(top: &Top, seat: &mut Place) -> Far
 }
 
 /// How many turns were counted.
-fn turns_of(far: &Far) -> u64
+fn turns_of(far: &BoxedFar) -> u64
     ensures { result ≡ far.now.counts.turns }
 {
-    far.counts.turns
+    far.state.counts.turns
 }
 
 /// Puts the far state into its slot, gives the lock back, and wakes one who waits for it. The lock's
@@ -136,7 +136,7 @@ pub(crate) fn give_far(
     config: &Config,
     job: &Job,
     reply: &Result<Reply, NoMemory>,
-    far: Far,
+    far: BoxedFar,
 )
     requires of { IsOf top.now.table_id top.now.key config.now seat.old }
     requires slot { seat.old.me.1 ≡ (0, None) ∷ [] }

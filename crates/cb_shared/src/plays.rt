@@ -12,9 +12,9 @@ ghost use Rattle.cb_shared.specs.Recalls.{recalled};
 ghost use Rattle.cb_shared.specs.Tallies.{tallied};
 ghost use Rattle.cb_shared.specs.Turning.{made_by_turn};
 
+use crate::boxed_far::BoxedFar;
 use atomic_table::{Join, Play, Split};
 use cb_rule::View;
-use cb_world::Far;
 use std::marker::{Brand, PhantomData};
 
 // The holder of the far lock, within a turn.
@@ -22,49 +22,49 @@ use std::marker::{Brand, PhantomData};
 /// A load of a pointer word.
 pub struct Look;
 
-impl Play<Option<Far>, View> for Look {
+impl Play<Option<BoxedFar>, View> for Look {
     ghost then = { looked };
 }
 
 /// A load of a version word.
 pub struct Tell;
 
-impl Play<Option<Far>, View> for Tell {
+impl Play<Option<BoxedFar>, View> for Tell {
     ghost then = { told };
 }
 
 /// A load of a memory word.
 pub struct Load;
 
-impl Play<Option<Far>, View> for Load {
+impl Play<Option<BoxedFar>, View> for Load {
     ghost then = { loaded };
 }
 
 /// An exchange of a pointer word that claims its object, or finds another word.
 pub struct TakeClaim;
 
-impl Play<Option<Far>, View> for TakeClaim {
+impl Play<Option<BoxedFar>, View> for TakeClaim {
     ghost then = { claimed };
 }
 
 /// A store of a memory word.
 pub struct Store;
 
-impl Play<Option<Far>, View> for Store {
+impl Play<Option<BoxedFar>, View> for Store {
     ghost then = { stored };
 }
 
 /// A store of a version word.
 pub struct Stamp;
 
-impl Play<Option<Far>, View> for Stamp {
+impl Play<Option<BoxedFar>, View> for Stamp {
     ghost then = { stamped };
 }
 
 /// A store of a pointer word.
 pub struct Settle;
 
-impl Play<Option<Far>, View> for Settle {
+impl Play<Option<BoxedFar>, View> for Settle {
     ghost then = { settled };
 }
 
@@ -83,7 +83,7 @@ pub struct TakeLock<W> {
     opening: PhantomData<W>,
 }
 
-impl<W: Opening> Play<Option<Far>, View> for TakeLock<W> {
+impl<W: Opening> Play<Option<BoxedFar>, View> for TakeLock<W> {
     ghost then = { took_first W.first };
 }
 
@@ -105,7 +105,7 @@ pub struct GiveLock<W> {
     deed: PhantomData<W>,
 }
 
-impl<W: Deed> Play<Option<Far>, View> for GiveLock<W> {
+impl<W: Deed> Play<Option<BoxedFar>, View> for GiveLock<W> {
     ghost then = { gave W.job W.reply [] (made_by_turn W.job W.reply) };
 }
 
@@ -114,91 +114,91 @@ impl<W: Deed> Play<Option<Far>, View> for GiveLock<W> {
 /// A look at the pointer word of an object that the seat knows.
 pub struct Glance;
 
-impl Play<Option<Far>, View> for Glance {
+impl Play<Option<BoxedFar>, View> for Glance {
     ghost then = { glanced };
 }
 
 /// An exchange of a pointer word that takes a pin, or finds another word.
 pub struct TakePin;
 
-impl Play<Option<Far>, View> for TakePin {
+impl Play<Option<BoxedFar>, View> for TakePin {
     ghost then = { pinned };
 }
 
 /// A subtraction from a pointer word that gives a pin back.
 pub struct GivePin;
 
-impl Play<Option<Far>, View> for GivePin {
+impl Play<Option<BoxedFar>, View> for GivePin {
     ghost then = { unpinned };
 }
 
 /// A load of a memory word of an object that the seat has pinned.
 pub struct Peek;
 
-impl Play<Option<Far>, View> for Peek {
+impl Play<Option<BoxedFar>, View> for Peek {
     ghost then = { peeked };
 }
 
 /// A load of such a word that adds nothing to the record.
 pub struct ReadPin;
 
-impl Play<Option<Far>, View> for ReadPin {
+impl Play<Option<BoxedFar>, View> for ReadPin {
     ghost then = { read_pin };
 }
 
 /// A look at a version word that does not change while the seat has a pin or a claim.
 pub struct Date;
 
-impl Play<Option<Far>, View> for Date {
+impl Play<Option<BoxedFar>, View> for Date {
     ghost then = { dated };
 }
 
 /// An exchange of a pointer word that claims its object outside of a turn, or finds another word.
 pub struct ClaimHere;
 
-impl Play<Option<Far>, View> for ClaimHere {
+impl Play<Option<BoxedFar>, View> for ClaimHere {
     ghost then = { claimed_here };
 }
 
 /// A load of a memory word of an object that the seat claims.
 pub struct ReadHeld;
 
-impl Play<Option<Far>, View> for ReadHeld {
+impl Play<Option<BoxedFar>, View> for ReadHeld {
     ghost then = { read_held };
 }
 
 /// A store of a memory word of an object that the seat claims.
 pub struct StoreHere;
 
-impl Play<Option<Far>, View> for StoreHere {
+impl Play<Option<BoxedFar>, View> for StoreHere {
     ghost then = { stored_here };
 }
 
 /// A store of the version word of an object that the seat claims.
 pub struct StampHere;
 
-impl Play<Option<Far>, View> for StampHere {
+impl Play<Option<BoxedFar>, View> for StampHere {
     ghost then = { stamped_here };
 }
 
 /// A store of the pointer word of a claimed object that has its next version.
 pub struct SettleHere;
 
-impl Play<Option<Far>, View> for SettleHere {
+impl Play<Option<BoxedFar>, View> for SettleHere {
     ghost then = { settled_here };
 }
 
 /// A store of the pointer word of a claimed object that is as it was.
 pub struct PutBack;
 
-impl Play<Option<Far>, View> for PutBack {
+impl Play<Option<BoxedFar>, View> for PutBack {
     ghost then = { put_back };
 }
 
 /// A look at how large the share may be.
 pub struct Tally;
 
-impl Play<Option<Far>, View> for Tally {
+impl Play<Option<BoxedFar>, View> for Tally {
     ghost then = { tallied };
 }
 
@@ -207,7 +207,7 @@ pub struct Recall<W> {
     opening: PhantomData<W>,
 }
 
-impl<W: Opening> Play<Option<Far>, View> for Recall<W> {
+impl<W: Opening> Play<Option<BoxedFar>, View> for Recall<W> {
     ghost then = { recalled W.first };
 }
 

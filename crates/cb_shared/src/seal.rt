@@ -5,10 +5,11 @@ ghost use Rattle.cb_rule.specs.declared.view.View.{View};
 ghost use Rattle.cb_shared.specs.Sealing.{AnyWord, no_view, no_world, sealed, unsealed};
 
 use crate::board::Place;
+use crate::boxed_far::BoxedFar;
 use crate::sealed::Sealed;
 use atomic_table::{Mark, PerchPlay, PerchRule, RuledPerch};
 use cb_rule::View;
-use cb_world::{Far, World};
+use cb_world::World;
 use std::marker::{Brand, PhantomData};
 
 /// What is put under a seal. Each call picks it.
@@ -43,7 +44,7 @@ impl PerchRule<Sealed> for Blank {
 }
 
 /// A word at which a seal is made, which is no word of the table.
-type Bench = RuledPerch<Option<Far>, View, Sealed, Blank>;
+type Bench = RuledPerch<Option<BoxedFar>, View, Sealed, Blank>;
 
 /// Shows that a runtime was closed: contracts see in it the world that `close` answered and the
 /// record of the pass that closed. It has no bytes, `close` alone makes it, and it can't be copied.

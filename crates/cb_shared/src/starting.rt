@@ -6,6 +6,7 @@ ghost use Rattle.cb_rule.specs.Words.{base};
 ghost use Rattle.cb_shared.specs.Passes.{IsRuntimeBegun};
 
 use crate::board::{Board, Place};
+use crate::boxed_far::BoxedFar;
 use crate::handles::no_pins;
 use crate::pass::Pass;
 use crate::runtime::Shared;
@@ -79,13 +80,14 @@ fn open_board(alloc: Global, words: &[u64], about: &Setup) -> Result<(Board, Pla
 }
 
 /// One slot, with the far state of no objects.
-fn first_slots(alloc: Global, about: &Setup) -> Result<Vec<Option<Far>>, NoMemory>
+fn first_slots(alloc: Global, about: &Setup) -> Result<Vec<Option<BoxedFar>>, NoMemory>
     requires accepted { IsAccepted about.now.config }
     requires first { 1 ≤ about.now.first }
     ensures { IfOk result (λ slots. slots.items
         ≡ Some (empty_far about.now.first about.now.config) ∷ []) }
 {
     let mut slots = Vec::with_capacity(alloc, 1)?;
-    slots.push(Some(Far::new(alloc, about.first, about.config)?))?;
+    let far = Far::new(alloc, about.first, about.config)?;
+    slots.push(Some(BoxedFar::new(alloc, far)?))?;
     Ok(slots)
 }

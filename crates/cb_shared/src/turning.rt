@@ -11,6 +11,7 @@ ghost use Rattle.cb_shared.specs.Turning.{KnowsOf, TurnBy};
 ghost use Rattle.cb_shared.specs.UnderLock.{IsBeginning, TurnWith, TurnedBy};
 
 use crate::board::{Place, Top};
+use crate::boxed_far::BoxedFar;
 use crate::calling::is_to_try_again;
 use crate::freed::{find_freed, freed_of};
 use crate::handles::count_pins;
@@ -19,7 +20,6 @@ use crate::pass::Pass;
 use crate::runtime::Shared;
 use crate::working::work;
 use cb_types::{Config, Job, NoMemory, Reply};
-use cb_world::Far;
 use std::alloc::Global;
 use std::sync::Wait;
 
@@ -91,7 +91,7 @@ fn turn_with<R: Wait>(
     config: &Config,
     alloc: Global,
     job: &Job,
-    mut far: Far,
+    mut far: BoxedFar,
 ) -> Result<Reply, NoMemory>
     requires of { IsOf top.now.table_id top.now.key config.now seat.old }
     requires slots { seat.old.me.1 ≡ (0, None) ∷ [] }
@@ -104,7 +104,7 @@ fn turn_with<R: Wait>(
     ensures no_frame { IfOk result (λ reply. reply ≡ answer.NoFrame → ⊥) }
     ensures unavailable { IfOk result (λ reply. TurnTells job.now far reply) }
 {
-    let reply = work(rt, top, seat, config, &mut far, alloc, job);
+    let reply = work(rt, top, seat, config, &mut *far.state, alloc, job);
     give_far(top, seat, config, job, &reply, far);
     reply
 }

@@ -1,4 +1,4 @@
-use Rattle.std.proofs.Common.{◌≡◌, ◌∙◌, ℕ, false, get_or, set, ap, sym, lit≤, arith, get_or-set_same}
+use Rattle.std.proofs.Common.{◌≡◌, ◌∙◌, ℕ, Some, false, get_or, set, ap, sym, lit≤, arith, get_or-set_same}
 use Rattle.std.specs.Slots.{slots_counts, slots_filled}
 use mathlib.Core.Option.{some, some-injective}
 use Rattle.cb_shared.proofs.Filled.{not_none}
@@ -21,4 +21,4 @@ unreachable-requires c = not_none c.requires.home.0
     (some-injective _ _ (sym c.requires.home.1 ∙ c.take-slot.ensures.value) ∙ c.in-None.is)
 
 pub returns : goal.returns
-returns c = c.take-slot.ensures.value ∙ ap some c.in-Some.is
+returns c = c.take-slot.ensures.value ∙ ap some (c.in-Some.is ∙ ap Some (sym c.into_far.ensures))
