@@ -52,4 +52,5 @@ mod WorkedMaking
 mod WorkedReplies
 mod WorkedAdds
 mod WorkedRecalls
+mod Known
 pub mod Laws

@@ -1,4 +1,4 @@
-use Rattle.cb_shared_bench.proofs.Known.{unpin_keeps}
+use Rattle.cb_shared.proofs.Laws.{unpin_keeps}
 use Rattle.cb_shared_bench.proofs.calls.give.Goals as goal
 
 pub returns : goal.returns

@@ -1,4 +1,4 @@
-use Rattle.cb_shared_bench.proofs.Known.{peek_has, peek_keeps}
+use Rattle.cb_shared.proofs.Laws.{peek_has, peek_keeps}
 use Rattle.cb_shared_bench.proofs.calls.peek.Goals as goal
 
 pub returns : goal.returns

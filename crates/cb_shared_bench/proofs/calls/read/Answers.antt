@@ -1,6 +1,6 @@
 use Rattle.cb_shared.specs.Calls.{AtThis, the_handle}
 use Rattle.cb_types.specs.declared.job.Job.TheVariants.{Swap}
-use Rattle.cb_shared_bench.proofs.Known.{read_keeps}
+use Rattle.cb_shared.proofs.Laws.{read_keeps}
 use Rattle.cb_shared_bench.proofs.calls.read.Goals as goal
 
 pub returns : goal.returns

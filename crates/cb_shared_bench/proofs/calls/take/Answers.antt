@@ -1,4 +1,4 @@
-use Rattle.cb_shared_bench.proofs.Known.{pin_keeps, pinned_is}
+use Rattle.cb_shared.proofs.Laws.{pin_keeps, pinned_is}
 use Rattle.cb_shared_bench.proofs.calls.take.Goals as goal
 
 pub returns : goal.returns

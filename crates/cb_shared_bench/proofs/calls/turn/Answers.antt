@@ -1,4 +1,4 @@
-use Rattle.cb_shared_bench.proofs.Known.{turn_keeps}
+use Rattle.cb_shared.proofs.Laws.{turn_keeps}
 use Rattle.cb_shared_bench.proofs.calls.turn.Goals as goal
 
 pub returns : goal.returns

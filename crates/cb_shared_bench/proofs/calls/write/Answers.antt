@@ -1,4 +1,4 @@
-use Rattle.cb_shared_bench.proofs.Known.{write_keeps}
+use Rattle.cb_shared.proofs.Laws.{write_keeps}
 use Rattle.cb_shared_bench.proofs.calls.write.Goals as goal
 
 pub returns : goal.returns

@@ -1,5 +1,5 @@
 use Rattle.std.proofs.Common.{arith}
-use Rattle.cb_shared_bench.proofs.Known.{right_keeps}
+use Rattle.cb_shared.proofs.Laws.{right_keeps}
 use Rattle.cb_shared_bench.proofs.crew.split.Goals as goal
 
 pub split-requires-clause-share : goal.split-requires-clause-share

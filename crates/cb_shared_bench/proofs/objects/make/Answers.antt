@@ -1,4 +1,4 @@
-use Rattle.cb_shared_bench.proofs.Known.{call_makes}
+use Rattle.cb_shared_bench.proofs.Makes.{call_makes}
 use Rattle.cb_shared_bench.proofs.objects.make.Goals as goal
 
 pub returns : goal.returns

@@ -1,6 +1,6 @@
--- Each call of a pass leaves it one that knows the object.
-use Rattle.std.proofs.Common.{◌≡◌, ℕ, Result, Ok, Err, Option, None, Some, length, List, [], ◌∷◌, ◌++◌, map, refl, sym, ap, ◌∙◌, subst, inl, inr, ⊎_elim}
-use Rattle.std.specs.Prelude.{IfOk, OnErr, IfSome}
+-- Each call of a pass leaves its record knowing what it knew.
+use Rattle.std.proofs.Common.{◌≡◌, ℕ, Result, Ok, Err, length, List, [], ◌∷◌, ◌++◌, map, refl, sym, ap, ◌∙◌, subst, inl, inr, ⊎_elim}
+use Rattle.std.specs.Prelude.{IfOk, OnErr}
 use Rattle.cb_member.specs.declared.no_memory.NoMemory.{NoMemory}
 use Rattle.cb_types.specs.declared.config.Config.{Config}
 use Rattle.cb_types.specs.declared.handle.Handle.{Handle}
@@ -14,21 +14,18 @@ use Rattle.cb_rule.specs.declared.view.Seen.{Seen}
 use Rattle.cb_rule.specs.declared.view.View.{View}
 use Rattle.cb_rule.specs.Lists.{Has}
 use Rattle.cb_rule.specs.Records.{seen_of}
-use Rattle.cb_rule.specs.Steps.{Knows, right_of, with_peek, without_pin}
+use Rattle.cb_rule.specs.Steps.{Knows, joined, left_of, right_of, with_peek, without_pin}
 use Rattle.cb_record.specs.Parts.{Part, Grows, grown}
 use Rattle.cb_shared.specs.declared.answers.PinAnswer.{PinAnswer}
 use Rattle.cb_shared.specs.declared.answers.PinAnswer.TheVariants as pins
 use Rattle.cb_shared.specs.declared.answers.WriteAnswer.{WriteAnswer}
 use Rattle.cb_shared.specs.declared.answers.WriteAnswer.TheVariants as writes
-use Rattle.cb_shared.specs.declared.pass.Pass.{Pass}
 use Rattle.cb_shared.specs.declared.pass.Pin.{Pin}
-use Rattle.cb_shared.specs.declared.runtime.Shared.{Shared}
-use Rattle.cb_shared.specs.Calls.{ReadGives, StopsInVain, TurnGives}
-use Rattle.cb_shared.specs.Passes.{IsPassOf, IsPinOf, stand_of}
-use Rattle.cb_shared.specs.Pinning.{IsPinnedHere, PinGives}
+use Rattle.cb_shared.specs.Calls.{ReadGives, StopsInVain, TurnGives, WriteAnswers}
+use Rattle.cb_shared.specs.Passes.{IsPinOf, stand_of}
+use Rattle.cb_shared.specs.Pinning.{IfPinned, IsPinnedHere, PinGives}
 use Rattle.cb_shared.specs.Turning.{TurnAdds, TurnBy, with_own}
 use Rattle.cb_shared.specs.Writing.{WriteGives}
-use Rattle.cb_shared_bench.specs.Callers.{IfPinned, IsCaller, IsToldMade}
 
 -- what the record v knew the record w knows
 abbrev pub Keeps : View → View → Type 0
@@ -138,7 +135,7 @@ peek_keeps h n j x v w e = looks_more v w (written_is w _ e) (seen_is w _ e)
 pub unpin_keeps : (h : ℕ) (v w : View) → w ≡ without_pin h v → Keeps v w
 unpin_keeps h v w e = looks_more v w (written_is w _ e) (seen_is w _ e)
 
--- ---- a pass that is split off
+-- ---- passes that are split and joined
 right_knows : (given : ℕ) (v : View) → Keeps v (right_of given v)
 right_knows given v h (inl (e, at, is)) = inr (
   seen_of e,
@@ -149,8 +146,15 @@ right_knows given v h (inl (e, at, is)) = inr (
 right_knows given v h (inr (s, at, is)) =
     inr (s, has_behind s (map seen_of (v.fresh ++ v.written)) v.seen at, is)
 
+pub left_keeps : (given : ℕ) (v w : View) → w ≡ left_of given v → Keeps v w
+left_keeps given v w e = looks_more v w (written_is w _ e) (seen_is w _ e)
+
 pub right_keeps : (given : ℕ) (v w : View) → w ≡ right_of given v → Keeps v w
 right_keeps given v w e = subst (Keeps v) (sym e) (right_knows given v)
+
+pub join_keeps : (v u w : View) → w ≡ joined v u → Keeps v w
+join_keeps v u w e = subst (Keeps v) (sym e) (more_knows v (joined v u)
+    (λ x at. has_behind x u.written v.written at) (λ s at. has_behind s u.seen v.seen at))
 
 -- ---- calls that add a part
 part_keeps : (d : Part) (v : View) → Keeps v (grown d v)
@@ -160,14 +164,29 @@ part_keeps d v = more_knows v (grown d v)
 grows_keeps : (d : Part) (v w : View) → Grows v d w → Keeps v w
 grows_keeps d v w g = subst (Keeps v) (sym g) (part_keeps d v)
 
+owns_keeps : (made : List ℕ) (d : Part) (v w : View) → w ≡ with_own made (grown d v) → Keeps v w
+owns_keeps made d v w g = subst (Keeps v) (sym g) (λ h x. part_keeps d v h x)
+
 pub turn_keeps : (c : Config) (job : Job) (r : Result Reply NoMemory) (v w : View)
     → TurnBy c job r v w → Keeps v w
-turn_keeps c job r v w t = subst (Keeps v) (sym t.2) (λ h x. part_keeps t.0 v h x)
+turn_keeps c job r v w t = owns_keeps _ t.0 v w t.2
 
 pub read_keeps : (c : Config) (h : ℕ) (on : ℕ → Type 0) (job : Job) (r : Result Reply NoMemory)
     (v w : View) → IfOk r (λ x. ReadGives c h x v w) → OnErr r (StopsInVain on job v w) → Keeps v w
 read_keeps c h on job (Ok x) v w a b = grows_keeps a.0 v w a.2
 read_keeps c h on job (Err e) v w a b = grows_keeps b.0 v w b.2
+
+pub call_keeps : (c : Config) (h at : ℕ) (bytes : List ℕ) (on : ℕ → Type 0) (job : Job)
+    (r : Result Reply NoMemory) (v w : View)
+    → IfOk r (λ x. WriteAnswers c h at bytes x v w) → OnErr r (StopsInVain on job v w) → Keeps v w
+call_keeps c h at bytes on job (Ok x) v w a b = grows_keeps a.0 v w a.2
+call_keeps c h at bytes on job (Err e) v w a b = grows_keeps b.0 v w b.2
+
+pub turns_keep : (c : Config) (on : ℕ → Type 0) (job : Job) (r : Result Reply NoMemory)
+    (v w : View) → IfOk r (λ x. TurnGives c job x v w) → OnErr r (StopsInVain on job v w)
+    → Keeps v w
+turns_keep c on job (Ok x) v w a b = owns_keeps _ a.0 v w a.2
+turns_keep c on job (Err e) v w a b = grows_keeps b.0 v w b.2
 
 -- ---- an object that was made
 makes_known : (h : ℕ) (made : List ℕ) (d : Part) (e : Entry) (v w : View) → Has e d.written
@@ -186,25 +205,16 @@ made_entry c bytes h n v d t =
       refl,
     )
 
-call_made : (c : Config) (bytes : List ℕ) (r : Result Reply NoMemory) (h : Handle)
-    (v w : View) → IfOk r (λ x. TurnGives c (jobs.Make bytes) x v w) → IsToldMade r h → Knows h.n w
-call_made c bytes r h v w given is = makes (subst (λ (x : Result Reply NoMemory).
-    IfOk x (λ y. TurnGives c (jobs.Make bytes) y v w)) is.1 given)
-  where
-    makes : TurnGives c (jobs.Make bytes) (reply.Made h is.0) v w → Knows h.n w
-    makes t = let last = t.1.last in
-        let e = made_entry c bytes h is.0 (grown t.1.before v) last t.1.ends_so.1 in
-        makes_known h.n (h.n ∷ []) t.0 e.0 v w
-        (subst (Has e.0) (sym (ap (λ (y : Part). y.written) t.1.part))
-        (has_front e.0 last.written t.1.before.written e.1))
-        e.2 t.2
+pub turn_made : (c : Config) (bytes : List ℕ) (h : Handle) (n : ℕ) (v w : View)
+    → TurnBy c (jobs.Make bytes) (Ok (reply.Made h n)) v w → Knows h.n w
+turn_made c bytes h n v w t = let e = made_entry c bytes h n v t.0 t.1 in
+    makes_known h.n (h.n ∷ []) t.0 e.0 v w e.1 e.2 t.2
 
-pub call_makes : (s : Shared) (bytes : List ℕ) (r : Result Reply NoMemory) (o : Option Handle)
-    (p q : Pass) → IsPassOf s q
-    → IfOk r (λ x. TurnGives s.config (jobs.Make bytes) x p.seat.me.0 q.seat.me.0)
-    → IfSome o (IsToldMade r) → IfSome o (λ h. IsCaller s h q)
-call_makes s bytes r None p q of given is = tt
-call_makes s bytes r (Some h) p q of given is = record {
-  of = of;
-  knows = call_made s.config bytes r h p.seat.me.0 q.seat.me.0 given is;
-}
+pub call_made : (c : Config) (bytes : List ℕ) (h : Handle) (n : ℕ) (v w : View)
+    → TurnGives c (jobs.Make bytes) (reply.Made h n) v w → Knows h.n w
+call_made c bytes h n v w t = let last = t.1.last in
+    let e = made_entry c bytes h n (grown t.1.before v) last t.1.ends_so.1 in
+    makes_known h.n (h.n ∷ []) t.0 e.0 v w
+    (subst (Has e.0) (sym (ap (λ (y : Part). y.written) t.1.part))
+    (has_front e.0 last.written t.1.before.written e.1))
+    e.2 t.2
