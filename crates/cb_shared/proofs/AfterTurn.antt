@@ -118,6 +118,11 @@ pub knows_taken : (c : Config) (far : FarState) (job : Job) (p q : Place) → Kn
 knows_taken c far job p q knows t = knows_take c far p q t (object_of job) knows
 
 -- ---- the work of a turn, and its end
+-- what was taken is what the box has that was lent
+pub took_as : (c : Config) (lent far : FarState) (p q : Place) → lent ≡ far → TakesFar c far p q
+    → TakesFar c lent p q
+took_as c lent far p q e t = subst (λ (f : FarState). TakesFar c f p q) (sym e) t
+
 pub ends_work : (c : Config) (job : Job) (r : Result Reply NoMemory) (took gave : FarState)
     (p q : Place) → IsBeginning c took p.me.0 → WorkBy c job r took gave p q
     → IsEnding c job (answer_of r) gave q.me.0

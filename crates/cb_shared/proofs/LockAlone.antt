@@ -13,7 +13,7 @@ use Rattle.cb_world.specs.declared.shown.Shown.{Shown}
 use Rattle.cb_rule.specs.declared.view.View.{View}
 use Rattle.cb_rule.specs.Lists.{Each}
 use Rattle.cb_rule.specs.Locking.{Locked, Stood}
-use Rattle.cb_rule.specs.LockSteps.{HasGiven, MayGive, gave, gave_lock, took, took_lock}
+use Rattle.cb_rule.specs.LockSteps.{HasGiven, HasTaken, MayGive, gave, gave_lock, took, took_lock}
 use Rattle.cb_rule.specs.Rule.{AreSized}
 use Rattle.cb_rule.specs.Ruled.{Ruled}
 use Rattle.cb_rule.specs.Slot.{LockSlot, Sat, Table}
@@ -108,8 +108,12 @@ abbrev far_in : FarState → LockSlot → FarState
 far_in d None = d
 far_in d (Some f) = f
 
-pub some_far : (f g : FarState) → Some f ≡ Some g → f ≡ g
-some_far f g e = ap (far_in f) e
+-- who took the lock did not find its slot empty
+pub none_taken : (m : Sat) (n : ℕ) (m' : Sat) → HasTaken m n m' → m'.1 ≡ (0, None) ∷ rest m'.1 → ⊥
+none_taken m n m' t slot = no_far (ap (slot_in None) (sym (ap (λ (x : Sat). x.1) t.taken) ∙ slot))
+  where
+    no_far : Some t.far ≡ None → ⊥
+    no_far e = cc
 
 -- the seat took the far state that was in the slot
 pub takes_far : (c : Config) (word : ℕ) (far : FarState) (p m q : Place) → p.me.0.config ≡ c

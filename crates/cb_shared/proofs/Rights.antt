@@ -8,6 +8,8 @@ use Rattle.cb_types.specs.declared.job.Job.TheVariants.{Make, Write, Free}
 use Rattle.cb_ptr.specs.declared.word.State.{State}
 use Rattle.cb_ptr.specs.declared.word.State.TheVariants as word
 use Rattle.cb_ptr.specs.Word.{state_of, len_of, place_of}
+use Rattle.cb_world.specs.declared.desk.Claim.{Claim}
+use Rattle.cb_world.specs.declared.desk.Claim.TheVariants as answer
 use Rattle.cb_world.specs.declared.event.Event.{Event}
 use Rattle.cb_world.specs.declared.event.Event.TheVariants as ev
 use Rattle.cb_world.specs.declared.object.Object.{Object}
@@ -23,10 +25,11 @@ use Rattle.cb_world.specs.Written.{adds, adds_as}
 use Rattle.cb_rule.specs.declared.view.View.{View}
 use Rattle.cb_rule.specs.Own.{MayWrite, entries_on, writes_it}
 use Rattle.cb_rule.specs.Slot.{Sat}
-use Rattle.cb_rule.specs.Steps.{act, acted}
+use Rattle.cb_rule.specs.Steps.{HasEvent, act, acted}
 use Rattle.cb_rule.proofs.Laws.{entries_acted, hit, known_entries, times-append}
 use Rattle.cb_shared.specs.declared.setup.Setup.{Setup}
 use Rattle.cb_shared.specs.Places.{Acts, HoldsLock, Moves, Place}
+use Rattle.cb_shared.specs.SeatLaws.{holds_still}
 use Rattle.cb_shared.specs.Rights.{rights, unmade, writes_of}
 use Rattle.cb_shared.specs.Turning.{KnowsOf}
 
@@ -200,6 +203,37 @@ rights_claimed allowed h saw w p q won lost r = elim (ℕ_discrete w saw) [
   | yes e ↦ let x = won e in rights_moved allowed (ev.Claimed h saw x.0 x.1) p q x.2 tt r
   | no ne ↦ rights_moved allowed (ev.Looked h w) p q (lost ne) tt r
 ]
+
+-- what the exchange of a claim tells the seat, where it found the word
+pub claim_won : (h saw w : ℕ) (p q : Place) → q.table_id ≡ p.table_id → q.id ≡ p.id
+    → (w ≡ saw → (n : ℕ) × (words : List ℕ) × HasEvent p.me (ev.Claimed h w n words) q.me) → w ≡ saw
+    → (n : ℕ) × (words : List ℕ) × Acts p (ev.Claimed h saw n words) q
+claim_won h saw w p q table id won e = let z = won e in (
+  z.0,
+  z.1,
+  subst (λ (n : ℕ). Acts p (ev.Claimed h n z.0 z.1) q) e ((table, id, z.2.0), z.2.1),
+)
+
+-- and where it found another one
+pub claim_lost : (h saw w : ℕ) (p q : Place) → q.table_id ≡ p.table_id → q.id ≡ p.id
+    → (w ≢ saw → HasEvent p.me (ev.Looked h w) q.me) → w ≢ saw → Acts p (ev.Looked h w) q
+claim_lost h saw w p q table id lost ne = let z = lost ne in ((table, id, z.0), z.1)
+
+-- the seat holds the lock as before
+pub claim_holds : (z : TableId) (k : Setup) (c : Config) (h saw w : ℕ) (p q : Place)
+    → (w ≡ saw → (n : ℕ) × (words : List ℕ) × Acts p (ev.Claimed h saw n words) q)
+    → (w ≢ saw → Acts p (ev.Looked h w) q) → HoldsLock z k c p → HoldsLock z k c q
+claim_holds z k c h saw w p q won lost holds = elim (ℕ_discrete w saw) [
+  | yes e ↦ let x = won e in holds_still z k c p q (ev.Claimed h saw x.0 x.1) holds x.2
+  | no ne ↦ holds_still z k c p q (ev.Looked h w) holds (lost ne)
+]
+
+abbrev found_in : Claim → ℕ
+found_in answer.Claimed = 0
+found_in (answer.Raced n) = n
+
+pub raced_is : (m n : ℕ) → answer.Raced m ≡ answer.Raced n → m ≡ n
+raced_is m n e = ap found_in e
 
 -- the turn may write this object
 pub rights_within : (allowed : Option ℕ) (h : ℕ) (known : Shown) (v : View) → allowed ≡ Some h

@@ -1,34 +1,20 @@
 //! The words of a frame, one atomic step each.
 ghost use Rattle.std.specs.Prelude.{◌≡◌, ℕ, ◌+◌, ◌*◌, ◌^◌, ◌<◌, List, length, All};
-ghost use Rattle.cb_world.specs.FrameWords.{OwnsWords, ReadsFrame, loads_from, stores_from};
+ghost use Rattle.cb_world.specs.FrameWords.{OwnsWords, loads_from, stores_from};
 ghost use Rattle.cb_world.specs.RowWords.{words_in};
 ghost use Rattle.cb_shared.specs.Places.{HoldsLock};
 ghost use Rattle.cb_shared.specs.SeatLaws.{Runs};
 
 use crate::board::{Place, Top};
-use crate::steps::{load, store};
+use crate::plays::{Load, Store};
 use byteorder::{ByteOrder, LittleEndian};
 use cb_types::Config;
 
 /// How many words of memory a frame has.
-const FRAME_WORDS: usize = 512;
-
-/// Loads the words of a frame, in order, into a row of 4,096 bytes: eight bytes a word, the first
-/// one lowest.
-pub(crate) fn load_row(top: &Top, seat: &mut Place, config: &Config, frame: u32, row: &mut [u8])
-    requires holds { HoldsLock top.now.table_id top.now.key config.now seat.old }
-    requires frame { frame < config.now.frames }
-    requires row { length row.old ≡ 4096 }
-    ensures reads { ReadsFrame (λ es. Runs seat.old es seat.new) frame row.new }
-    ensures still { HoldsLock top.now.table_id top.now.key config.now seat.new }
-{
-    let mut words = [0u64; FRAME_WORDS];
-    load_words(top, seat, config, frame, &mut words);
-    LittleEndian::write_u64_into(&words, row);
-}
+pub(crate) const FRAME_WORDS: usize = 512;
 
 /// Loads the words of a frame, in order.
-fn load_words(
+pub(crate) fn load_words(
     top: &Top,
     seat: &mut Place,
     config: &Config,
@@ -42,9 +28,10 @@ fn load_words(
     ensures len { length words.new ≡ 512 }
     ensures small { All (λ w. w < 2 ^ 64) words.new }
 {
+    let handles = config.handles as usize;
     let first = FRAME_WORDS * frame as usize;
     for i in 0..FRAME_WORDS {
-        words[i] = load(top, seat, config, first + i);
+        words[i] = top.load::<Load>(seat, 1 + handles + handles + (first + i));
     }
 }
 
@@ -59,8 +46,9 @@ pub(crate) fn store_row(top: &Top, seat: &mut Place, config: &Config, frame: u32
 {
     let mut words = [0u64; FRAME_WORDS];
     LittleEndian::read_u64_into(row, &mut words);
+    let handles = config.handles as usize;
     let first = FRAME_WORDS * frame as usize;
     for i in 0..FRAME_WORDS {
-        store(top, seat, config, first + i, words[i]);
+        top.store::<Store>(seat, 1 + handles + handles + (first + i), words[i]);
     }
 }

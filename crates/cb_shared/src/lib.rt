@@ -28,7 +28,6 @@ mod seat_desk;
 mod seats;
 mod setup;
 mod starting;
-mod steps;
 pub mod turning;
 mod working;
 mod writing;

@@ -2,8 +2,9 @@ ghost use Rattle.std.specs.Prelude.{◌≡◌, ℕ, true, ◌+◌, ◌*◌, ◌�
 ghost use Rattle.cb_shared.specs.Rights.{rights};
 
 use crate::board::{Place, Top};
-use crate::frames::{load_row, store_row};
-use crate::steps::{load, look, put_stamp, settle, store, take_claim, tell};
+use crate::frames::{FRAME_WORDS, load_words, store_row};
+use crate::plays::{Load, Look, Settle, Stamp, Store, TakeClaim, Tell};
+use byteorder::{ByteOrder, LittleEndian};
 use cb_types::{Config, Handle};
 use cb_world::{Claim, Desk};
 use std::sync::Wait;
@@ -48,23 +49,28 @@ impl<'a, R: Wait> Desk for SeatDesk<'a, R> {
     }
 
     fn word(&mut self, h: Handle) -> u64 {
-        look(self.top, self.seat, &self.config, h.n)
+        self.top.load::<Look>(self.seat, 1 + h.n as usize)
     }
 
     fn version(&mut self, h: Handle) -> u64 {
-        tell(self.top, self.seat, &self.config, h.n)
+        let handles = self.config.handles as usize;
+        self.top.load::<Tell>(self.seat, 1 + handles + h.n as usize)
     }
 
     fn load(&mut self, place: u32) -> u64 {
-        load(self.top, self.seat, &self.config, place as usize)
+        let handles = self.config.handles as usize;
+        self.top.load::<Load>(self.seat, 1 + handles + handles + place as usize)
     }
 
     fn load_frame(&mut self, frame: u32, row: &mut [u8]) {
-        load_row(self.top, self.seat, &self.config, frame, row);
+        let mut words = [0u64; FRAME_WORDS];
+        load_words(self.top, self.seat, &self.config, frame, &mut words);
+        LittleEndian::write_u64_into(&words, row);
     }
 
     fn claim(&mut self, h: Handle, saw: u64) -> Claim {
-        let found = take_claim(self.top, self.seat, &self.config, h.n, saw);
+        let claimed = cb_ptr::claimed(saw);
+        let found = self.top.compare_exchange::<TakeClaim>(self.seat, 1 + h.n as usize, saw, claimed);
         if found == saw {
             Claim::Claimed
         } else {
@@ -73,7 +79,8 @@ impl<'a, R: Wait> Desk for SeatDesk<'a, R> {
     }
 
     fn store(&mut self, place: u32, word: u64) {
-        store(self.top, self.seat, &self.config, place as usize, word);
+        let handles = self.config.handles as usize;
+        self.top.store::<Store>(self.seat, 1 + handles + handles + place as usize, word);
     }
 
     fn store_frame(&mut self, frame: u32, row: &[u8]) {
@@ -82,11 +89,12 @@ impl<'a, R: Wait> Desk for SeatDesk<'a, R> {
 
     fn store_version(&mut self, h: Handle, version: u64) {
         stay_within(self.rt, self.allowed, h.n);
-        put_stamp(self.top, self.seat, &self.config, h.n, version);
+        let handles = self.config.handles as usize;
+        self.top.store::<Stamp>(self.seat, 1 + handles + h.n as usize, version);
     }
 
     fn settle(&mut self, h: Handle, word: u64) {
-        settle(self.top, self.seat, &self.config, h.n, word);
+        self.top.store::<Settle>(self.seat, 1 + h.n as usize, word);
     }
 
     ghost none = { λ d. (((refl, refl, refl), tt, tt, tt), refl, refl, refl) };

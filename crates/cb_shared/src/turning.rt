@@ -11,7 +11,6 @@ ghost use Rattle.cb_shared.specs.Turning.{KnowsOf, TurnBy};
 ghost use Rattle.cb_shared.specs.UnderLock.{IsBeginning, TurnWith, TurnedBy};
 
 use crate::board::{Place, Top};
-use crate::boxed_far::BoxedFar;
 use crate::calling::is_to_try_again;
 use crate::freed::{find_freed, freed_of};
 use crate::handles::count_pins;
@@ -21,6 +20,7 @@ use crate::runtime::Shared;
 use crate::working::work;
 use cb_types::{Config, Job, NoMemory, Reply};
 use std::alloc::Global;
+use std::marker::Brand;
 use std::sync::Wait;
 
 impl Shared {
@@ -79,32 +79,8 @@ fn locked_turn<R: Wait>(
     ensures new { IfOk result (λ reply. MakesNew top.now.key.first job.now reply seat.old.me.0) }
     ensures no_frame { IfOk result (λ reply. reply ≡ answer.NoFrame → ⊥) }
 {
-    let far = lock_far(rt, top, seat, config);
-    turn_with(rt, top, seat, config, alloc, job, far)
-}
-
-/// The turn of a seat that took the far state, and its end.
-fn turn_with<R: Wait>(
-    rt: &R,
-    top: &Top,
-    seat: &mut Place,
-    config: &Config,
-    alloc: Global,
-    job: &Job,
-    mut far: BoxedFar,
-) -> Result<Reply, NoMemory>
-    requires of { IsOf top.now.table_id top.now.key config.now seat.old }
-    requires slots { seat.old.me.1 ≡ (0, None) ∷ [] }
-    requires few { length seat.old.me.0.pins ≤ 16 }
-    requires config { IsAccepted config.now }
-    requires job { IsJob config.now job.now }
-    requires knows { KnowsOf job.now seat.old.me.0 }
-    requires begins { IsBeginning config.now far seat.old.me.0 }
-    ensures turn { TurnWith config.now job.now result far seat.old seat.new }
-    ensures no_frame { IfOk result (λ reply. reply ≡ answer.NoFrame → ⊥) }
-    ensures unavailable { IfOk result (λ reply. TurnTells job.now far reply) }
-{
+    let mut far = lock_far(rt, top, seat, config);
     let reply = work(rt, top, seat, config, &mut *far.state, alloc, job);
-    give_far(top, seat, config, job, &reply, far);
+    give_far::<Brand>(top, seat, config, job, &reply, far);
     reply
 }

@@ -6,22 +6,21 @@ use Rattle.cb_shared.proofs.locking.lock_far.Goals as goal
 pub loop-init : goal.loop-init
 loop-init g c = (refl, refl, refl)
 
-pub try_far-requires : goal.try_far-requires
-try_far-requires g c = record {
-  of = of_moves c.args.top.now.table_id c.args.top.now.key c.args.config.now c.args.seat.now
-      c.loop.seat c.args.seat.now.me.0 c.requires.of c.loop.invariant refl refl;
-}
+pub take_far-requires-clause-of : goal.take_far-requires-clause-of
+take_far-requires-clause-of g c = of_moves c.args.top.now.table_id c.args.top.now.key
+    c.args.config.now c.args.seat.now c.loop.seat c.args.seat.now.me.0 c.requires.of c.loop.invariant
+    refl refl
 
-pub returns-in-Some-try_far-clause-took : goal.returns-in-Some-try_far-clause-took
-returns-in-Some-try_far-clause-took g c = takes_from c.args.config.now c.in-Some-try_far.far c.args.seat.now c.loop.seat
-    c.try_far.new.seat c.loop.invariant (c.try_far.ensures.took c.in-Some-try_far.far c.in-Some-try_far.is)
+pub returns-in-Some-take_far-clause-took : goal.returns-in-Some-take_far-clause-took
+returns-in-Some-take_far-clause-took g c = takes_from c.args.config.now c.in-Some-take_far.far c.args.seat.now c.loop.seat
+    c.take_far.new.seat c.loop.invariant (c.take_far.ensures.took c.in-Some-take_far.far c.in-Some-take_far.is)
 
-pub returns-in-Some-try_far-clause-first : goal.returns-in-Some-try_far-clause-first
-returns-in-Some-try_far-clause-first g c =
-    c.try_far.ensures.first c.in-Some-try_far.far c.in-Some-try_far.is
+pub returns-in-Some-take_far-clause-first : goal.returns-in-Some-take_far-clause-first
+returns-in-Some-take_far-clause-first g c =
+    c.take_far.ensures.first c.in-Some-take_far.far c.in-Some-take_far.is
 
 pub loop-preserved : goal.loop-preserved
-loop-preserved g c = let i = c.loop.invariant in let m = c.try_far.ensures.held c.in-None-try_far.is in (
+loop-preserved g c = let i = c.loop.invariant in let m = c.take_far.ensures.lost c.in-None-take_far.is in (
   m.0 ∙ i.0,
   m.1 ∙ i.1,
   m.2 ∙ i.2,
