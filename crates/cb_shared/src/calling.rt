@@ -258,35 +258,14 @@ impl Shared {
     {
         let answer = self.write_here(pass, h, at, bytes);
         if is_away(answer) {
-            return self.write_away(rt, alloc, pass, h, at, bytes);
+            let job = Job::Write {
+                handle: h,
+                at,
+                bytes: Bytes::copy_of(alloc, bytes)?,
+            };
+            return self.try_turn(rt, alloc, pass, &job);
         }
         Ok(reply_of(answer))
-    }
-
-    /// A turn that writes over a part of an object.
-    fn write_away<R: Wait>(
-        &self,
-        rt: &R,
-        alloc: Global,
-        pass: &mut Pass,
-        h: Handle,
-        at: u32,
-        bytes: &[u8],
-    ) -> Result<Option<Reply>, NoMemory>
-        requires of { IsPassOf self.now pass.old }
-        requires knows { Knows h.n pass.old.seat.me.0 }
-        ensures of { IsPassOf self.now pass.new }
-        ensures turn { IfOk result (λ o. TurnTries self.now.config
-            (jobs.Write (the_handle h.n) at bytes.now) o pass.old.seat.me.0 pass.new.seat.me.0) }
-        ensures error { OnErr result (StopsInVain AtNone (jobs.Write (the_handle h.n) at bytes.now)
-            pass.old.seat.me.0 pass.new.seat.me.0) }
-    {
-        let job = Job::Write {
-            handle: h,
-            at,
-            bytes: Bytes::copy_of(alloc, bytes)?,
-        };
-        self.try_turn(rt, alloc, pass, &job)
     }
 
     /// One read under a pin beside those of the pass.

@@ -1,11 +1,10 @@
 //! The freed entry of an object, after a turn that was answered Freed.
-ghost use Rattle.std.specs.Prelude.{◌≡◌, ◌≢◌, ℕ, ◌<◌, true, false, Option, None, Some};
+ghost use Rattle.std.specs.Prelude.{◌≡◌, ◌≢◌, true, false};
 ghost use Rattle.cb_ptr.specs.declared.word.State.TheVariants as state;
 ghost use Rattle.cb_ptr.specs.Word.{state_of};
-ghost use Rattle.cb_rule.specs.Steps.{Knows};
 ghost use Rattle.cb_shared.specs.Places.{IsOf};
 ghost use Rattle.cb_shared.specs.Turning.{KnowsIt, freed_of, object_of};
-ghost use Rattle.cb_shared.specs.UnderLock.{FreedMoves, IsBelow, LooksFor};
+ghost use Rattle.cb_shared.specs.UnderLock.{FreedMoves, IsBelow};
 
 use crate::board::{Place, Top};
 use crate::pins::glance;
@@ -33,7 +32,8 @@ fn object_of(job: &Job) -> Option<u32>
     }
 }
 
-/// Reads the freed entry of the object, if there is one.
+/// Reads the freed entry of the object, if there is one: looks at it until a look finds it freed. A
+/// freed object stays so, and the first look finds it.
 pub(crate) fn find_freed<R: Wait>(
     rt: &R,
     top: &Top,
@@ -46,20 +46,9 @@ pub(crate) fn find_freed<R: Wait>(
     requires knows { KnowsIt freed seat.old.me.0 }
     ensures { FreedMoves config.now freed seat.old seat.new }
 {
-    match freed {
-        Some(h) => look_freed(rt, top, seat, config, h),
-        None => {}
-    }
-}
-
-/// Looks at an object until a look finds it freed, and reads its freed entry. A freed object stays
-/// so, and the first look finds it.
-fn look_freed<R: Wait>(rt: &R, top: &Top, seat: &mut Place, config: &Config, h: u32)
-    requires of { IsOf top.now.table_id top.now.key config.now seat.old }
-    requires handle { h < config.now.handles }
-    requires knows { Knows h seat.old.me.0 }
-    ensures { LooksFor config.now h seat.old seat.new }
-{
+    let Some(h) = freed else {
+        return;
+    };
     for _ in rt.forever() {
         let word = glance(top, seat, config, h);
         if is_empty(word) {

@@ -59,7 +59,8 @@ impl<'a, R: Wait> Desk for SeatDesk<'a, R> {
 
     fn load(&mut self, place: u32) -> u64 {
         let handles = self.config.handles as usize;
-        self.top.load::<Load>(self.seat, 1 + handles + handles + place as usize)
+        self.top
+            .load::<Load>(self.seat, 1 + handles + handles + place as usize)
     }
 
     fn load_frame(&mut self, frame: u32, row: &mut [u8]) {
@@ -70,7 +71,9 @@ impl<'a, R: Wait> Desk for SeatDesk<'a, R> {
 
     fn claim(&mut self, h: Handle, saw: u64) -> Claim {
         let claimed = cb_ptr::claimed(saw);
-        let found = self.top.compare_exchange::<TakeClaim>(self.seat, 1 + h.n as usize, saw, claimed);
+        let found = self
+            .top
+            .compare_exchange::<TakeClaim>(self.seat, 1 + h.n as usize, saw, claimed);
         if found == saw {
             Claim::Claimed
         } else {
@@ -80,7 +83,8 @@ impl<'a, R: Wait> Desk for SeatDesk<'a, R> {
 
     fn store(&mut self, place: u32, word: u64) {
         let handles = self.config.handles as usize;
-        self.top.store::<Store>(self.seat, 1 + handles + handles + place as usize, word);
+        self.top
+            .store::<Store>(self.seat, 1 + handles + handles + place as usize, word);
     }
 
     fn store_frame(&mut self, frame: u32, row: &[u8]) {
@@ -90,7 +94,8 @@ impl<'a, R: Wait> Desk for SeatDesk<'a, R> {
     fn store_version(&mut self, h: Handle, version: u64) {
         stay_within(self.rt, self.allowed, h.n);
         let handles = self.config.handles as usize;
-        self.top.store::<Stamp>(self.seat, 1 + handles + h.n as usize, version);
+        self.top
+            .store::<Stamp>(self.seat, 1 + handles + h.n as usize, version);
     }
 
     fn settle(&mut self, h: Handle, word: u64) {

@@ -92,7 +92,7 @@ fn turn_by_seat<R: Wait>(
         seat,
         allowed,
     };
-    let reply = turn_at_desk(&mut desk, far, alloc, job);
+    let reply = turn(alloc, &mut desk, far, job);
     let SeatDesk {
         rt: _,
         config: _,
@@ -109,39 +109,11 @@ fn object_written(job: &Job, far: &Far) -> Option<u32>
     ensures { result ≡ writes_of job.now far.now }
 {
     match job {
-        Job::Make { .. } => Some(next_handle(far)),
+        Job::Make { .. } => Some(far.made),
         Job::Write { handle, .. } => Some(handle.n),
         Job::Free { handle } => Some(handle.n),
         _ => None,
     }
-}
-
-/// The handle that a make gives.
-fn next_handle(far: &Far) -> u32
-    ensures { result ≡ far.now.made }
-{
-    far.made
-}
-
-fn turn_at_desk<'a, R: Wait>(
-    desk: &mut SeatDesk<'a, R>,
-    far: &mut Far,
-    alloc: Global,
-    job: &Job,
-) -> Result<Reply, NoMemory>
-    requires config { IsAccepted desk.old.config }
-    requires job { IsJob desk.old.config job.now }
-    requires other { IsNoRead job.now }
-    requires stood { Stood desk.old.config desk.old.seat.now.me.0.known far.old }
-    requires idle { desk.old.seat.now.me.0.acts ≡ [] }
-    requires fresh { desk.old.seat.now.me.0.fresh ≡ [] }
-    ensures same { desk.new.seat.ghost_name ≡ desk.old.seat.ghost_name }
-    ensures turn { TurnAtSeat desk.old.config job.now result far.old far.new desk.old.seat.now
-        desk.new.seat.now }
-    ensures no_frame { IfOk result (λ reply. reply ≡ answer.NoFrame → ⊥) }
-    ensures unavailable { IfOk result (λ reply. TurnTells job.now far.old reply) }
-{
-    turn(alloc, desk, far, job)
 }
 
 /// A read: the object is brought in at the desk over the seat, and read under a pin.
@@ -208,7 +180,7 @@ fn bring_by_seat<R: Wait>(
         seat,
         allowed: None,
     };
-    let reply = bring_at_desk(&mut desk, far, h);
+    let reply = bring_to_read(&mut desk, far, h);
     let SeatDesk {
         rt: _,
         config: _,
@@ -217,24 +189,6 @@ fn bring_by_seat<R: Wait>(
         allowed: _,
     } = desk;
     reply
-}
-
-fn bring_at_desk<'a, R: Wait>(
-    desk: &mut SeatDesk<'a, R>,
-    far: &mut Far,
-    h: Handle,
-) -> Result<Reply, NoMemory>
-    requires config { IsAccepted desk.old.config }
-    requires handle { h.n < desk.old.config.handles }
-    requires stood { Stood desk.old.config desk.old.seat.now.me.0.known far.old }
-    requires idle { desk.old.seat.now.me.0.acts ≡ [] }
-    requires fresh { desk.old.seat.now.me.0.fresh ≡ [] }
-    ensures same { desk.new.seat.ghost_name ≡ desk.old.seat.ghost_name }
-    ensures bring { BringAt desk.old.config h result far.old far.new desk.old.seat.now
-        desk.new.seat.now }
-    ensures no_frame { IfOk result (λ reply. reply ≡ answer.NoFrame → ⊥) }
-{
-    bring_to_read(desk, far, h)
 }
 
 /// Reads an object that was brought in, under a pin. It tries again where the exchange found

@@ -1,16 +1,61 @@
-use Rattle.std.proofs.Common.{ℕ, refl, sym, subst}
-use Rattle.std.specs.Prelude.{Option}
-use Rattle.cb_record.specs.Parts.{nothing_more}
-use Rattle.cb_shared.specs.Turning.{FindsFreedAfter}
-use Rattle.cb_shared.proofs.ReadParts.{not_moved}
+use Rattle.std.proofs.Common.{◌≡◌, ℕ, Option, None, Some, refl, sym, subst}
+use Rattle.cb_rule.specs.Steps.{with_look}
+use Rattle.cb_shared.specs.declared.reading.ReadAnswer.TheVariants as found
+use Rattle.cb_record.specs.Parts.{grown, nothing_more, sum}
+use Rattle.cb_shared.specs.Reading.{looked}
+use Rattle.cb_shared.specs.Turning.{FindsFreedAfter, KnowsIt}
+use Rattle.cb_shared.specs.UnderLock.{FreedMoves, IsBelow}
+use Rattle.cb_shared.proofs.ReadParts.{grown_moves, here_look, look_found, looks_know, more_looks, no_looks, not_moved, of_grown}
+use Rattle.cb_shared.proofs.ReadSteps.{look_part, moves_as, refused_moves}
 use Rattle.cb_shared.proofs.freed.find_freed.Goals as goal
 
-pub returns-in-None : goal.returns-in-None
-returns-in-None g c = (
+none_is : (o : Option ℕ) → ((h : ℕ) → o ≡ Some h → ⊥) → o ≡ None
+none_is None not = refl
+none_is (Some h) not = absurd (not h refl)
+
+pub returns-in_default : goal.returns-in_default
+returns-in_default g c = (
   nothing_more,
   not_moved c.args.seat.now,
   (refl, refl),
   tt,
-  subst (λ (o : Option ℕ). FindsFreedAfter o c.args.seat.now.me.0 nothing_more) (sym c.in-None.is)
-      refl,
+  subst (λ (o : Option ℕ). FindsFreedAfter o c.args.seat.now.me.0 nothing_more)
+      (sym (none_is c.args.freed c.in_default.not-Some)) refl,
 )
+
+pub loop-init : goal.loop-init
+loop-init g c = (nothing_more, no_looks c.in-Some.h, not_moved c.args.seat.now)
+
+pub glance-word-requires-clause-of : goal.glance-word-requires-clause-of
+glance-word-requires-clause-of g c = let i = c.loop.invariant in of_grown c.args.top.now.table_id
+    c.args.top.now.key c.args.config.now c.args.seat.now c.loop.seat i.0 c.requires.of i.2
+
+pub glance-word-requires-clause-handle : goal.glance-word-requires-clause-handle
+glance-word-requires-clause-handle g c =
+    subst (λ (o : Option ℕ). IsBelow c.args.config.now o) c.in-Some.is c.requires.handle
+
+pub glance-word-requires-clause-knows : goal.glance-word-requires-clause-knows
+glance-word-requires-clause-knows g c = let i = c.loop.invariant in
+    looks_know c.in-Some.h c.args.seat.now c.loop.seat i.0 i.1 i.2
+    (subst (λ (o : Option ℕ). KnowsIt o c.args.seat.now.me.0) c.in-Some.is c.requires.knows)
+
+pub returns-then-is_empty : goal.returns-then-is_empty
+returns-then-is_empty g c = let i = c.loop.invariant in let h = c.in-Some.h in
+    subst (λ (o : Option ℕ). FreedMoves c.args.config.now o c.args.seat.now c.glance-word.new.seat)
+    (sym c.in-Some.is)
+    (look_found c.args.config.now h c.args.seat.now c.loop.seat c.glance-word.new.seat i.0
+    (subst (λ (o : Option ℕ). IsBelow c.args.config.now o) c.in-Some.is c.requires.handle) i.1 i.2
+    (refused_moves h c.glance-word.result found.Freed c.loop.seat c.glance-word.new.seat
+    c.glance-word.ensures (c.is_empty.ensures.yes c.if-is_empty.true)))
+
+pub loop-preserved : goal.loop-preserved
+loop-preserved g c = let i = c.loop.invariant in let h = c.in-Some.h in
+    let word = c.glance-word.result in let p = c.args.seat.now in let q = c.loop.seat in
+    let r = c.glance-word.new.seat in (
+      sum i.0 (looked h word),
+      more_looks h i.0 (looked h word) i.1 (here_look h word),
+      grown_moves p q r i.0 (looked h word) i.2 (moves_as q r (with_look h word q.me.0)
+          (grown (looked h word) q.me.0)
+          (c.glance-word.ensures.other (c.is_empty.ensures.other c.if-is_empty.false))
+          (look_part h word q.me.0)),
+    )

@@ -35,9 +35,13 @@ returns-then-found-word-clause-lost g c none = let x = c.compare_exchange-found.
 pub returns-clause-took : goal.returns-clause-took
 returns-clause-took g c far is = let x = c.compare_exchange-found.ensures in let y = c.exchange.ensures in
     takes_far c.args.config.now c.args.word far c.args.seat.now c.compare_exchange-found.new.seat
-    c.exchange.new.seat c.requires.of.config (x.0, x.1, subst (λ (n : ℕ).
-    HasTaken c.args.seat.now.me n c.compare_exchange-found.new.seat.me) c.if-found-word.false
-    (x.2.0.0 c.if-found-word.false)) (y.0, y.1, y.3)
+    c.exchange.new.seat c.requires.of.config (
+      x.0,
+      x.1,
+      subst (λ (n : ℕ).
+          HasTaken c.args.seat.now.me n c.compare_exchange-found.new.seat.me) c.if-found-word.false
+          (x.2.0.0 c.if-found-word.false),
+    ) (y.0, y.1, y.3)
     (y.2 ∙ ap (λ (s : LockSlot). let k : List (ℕ × LockSlot) =
     (0, s) ∷ rest c.compare_exchange-found.new.seat.me.1 in k) is)
 

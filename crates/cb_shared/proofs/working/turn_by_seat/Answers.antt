@@ -1,5 +1,7 @@
-use Rattle.std.proofs.Common.{ℕ, ◌≤◌, Option, sym, subst}
+use Rattle.std.proofs.Common.{rules, ℕ, ◌≡◌, ◌≤◌, Option, refl, sym, subst}
 use Rattle.cb_shared.specs.Rights.{rights}
+use Rattle.cb_shared.specs.UnderLock.{TurnAtSeat}
+use Rattle.cb_shared.proofs.Turns.{turn_at, turn_ran}
 use Rattle.cb_shared.proofs.Rights.{begins_with}
 use Rattle.cb_shared.proofs.working.turn_by_seat.Goals as goal
 
@@ -18,3 +20,30 @@ invariant_of-desk g c = let h = c.requires.holds in let v = c.args.seat.now.me.0
   versions = h.sized.versions;
   memory = h.sized.memory;
 }
+
+pub turn-reply-requires : goal.turn-reply-requires
+turn-reply-requires g c = record {
+  config = c.requires.config;
+  configured = c.requires.stood.configured;
+  job = c.requires.job;
+  counted = c.requires.stood.counted;
+  sound = (c.args.seat.now.me.0.known, refl, c.requires.stood.sound);
+}
+
+pub returns-clause-turn : goal.returns-clause-turn
+returns-clause-turn g c =
+    let same = turn_ran (λ d. d.seat.now) _ _ (λ d e es x. x.0) (λ d s x. x) c.args.config.now
+    (record { desk = _; far = c.args.far.now })
+    (record { desk = c.turn-reply.new.desk; far = c.turn-reply.new.far })
+    c.requires.idle c.requires.fresh c.requires.stood
+    (λ d. d.seat.ghost_name ≡ _) (λ d es x. x.3) _
+    c.turn-reply.ensures.leaves in
+    let turned : TurnAtSeat c.args.config.now c.args.job.now c.turn-reply.result c.args.far.now
+    c.turn-reply.new.far c.args.seat.now c.turn-reply.new.desk.seat.now =
+    turn_at (λ d. d.seat.now) _ _ (λ d e es x. x.0) (λ d s x. x) c.args.config.now
+    (record { desk = _; far = c.args.far.now })
+    (record { desk = c.turn-reply.new.desk; far = c.turn-reply.new.far })
+    c.requires.idle c.requires.fresh c.requires.stood c.args.job.now c.requires.other
+    c.turn-reply.result c.turn-reply.ensures.turned c.turn-reply.ensures.error
+    c.turn-reply.ensures.leaves in
+    search (rules, same, turned)
