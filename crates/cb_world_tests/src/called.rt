@@ -154,7 +154,16 @@ fn called_by_two<R: Wait>(
     let mut second = shared.split(first, 1);
     let is_apart = first.share() + 1 == whole && second.share() == 1;
     let told = second_called(
-        rt, alloc, shared, objects, first, &mut second, h, by, call, bytes,
+        rt,
+        alloc,
+        shared,
+        objects,
+        first,
+        &mut second,
+        h,
+        by,
+        call,
+        bytes,
     );
     shared.join_pass(first, second);
     if is_apart && first.share() == whole {

@@ -54,11 +54,15 @@ fn take_last(
     ensures ends { All (λ r. IfOk r (λ e. IsCaller shared.now objects.now e.pass)) ends.new.items }
 {
     match ends.pop() {
-        Some(Ok(End {
-            pass,
-            notes: more,
-            is_right,
-        })) => {
+        Some(
+            Ok(
+                End {
+                    pass,
+                    notes: more,
+                    is_right,
+                },
+            ),
+        ) => {
             shared.join_pass(first, pass);
             notes.extend_from_slice(more.as_slice())?;
             Ok(is_right)

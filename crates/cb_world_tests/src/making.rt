@@ -3,7 +3,7 @@ ghost use Rattle.std.specs.Prelude.{◌≤◌, [], length, IfOk, IfSome, OnOk};
 ghost use Rattle.cb_rule.specs.Steps.{Knows};
 ghost use Rattle.cb_world_tests.specs.Callers.{IsCaller, TellsMade};
 
-use crate::bodies::{Body, MOST, bytes_of, count_of, len_of, way_of, wanted_of};
+use crate::bodies::{Body, MOST, bytes_of, count_of, len_of, wanted_of, way_of};
 use crate::worlds::SMALL;
 use cb_shared::{Pass, Shared};
 use cb_types::{Bytes, Handle, Job, NoMemory, Reply};

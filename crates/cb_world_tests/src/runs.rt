@@ -123,7 +123,7 @@ fn all_hold<R: Threads + Wait + Sync>(
 }
 
 /// Two passes by the table; each call that tries again; turns that read back what two crashes left;
-/// the end of the versions; and a pass that takes all its pins beside one that keeps the runtime open.
+/// the end of the versions; and a pass that takes all its pins beside one that is left out.
 const ON_ONE_THREAD: [Body; 5] = [
     Body::TwoPasses,
     Body::Calls,

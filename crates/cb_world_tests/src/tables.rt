@@ -40,8 +40,8 @@ pub(crate) const TWO_PASSES: [Line; 5] = [
 /// Calls that try again.
 pub(crate) const CALLS: [Line; 7] = [
     (
-        0, 
-        By::Itself, 
+        0,
+        By::Itself,
         Call::Read,
         0,
         Told::Bytes {
@@ -52,8 +52,8 @@ pub(crate) const CALLS: [Line; 7] = [
     ),
     (0, By::Itself, Call::Write, 3, Told::Version(2)),
     (
-        0, 
-        By::Itself, 
+        0,
+        By::Itself,
         Call::Read,
         0,
         Told::Bytes {
@@ -75,8 +75,8 @@ pub(crate) const CRASHES: [Line; 6] = [
     (0, By::Itself, Call::Turn(Deed::Crash(0)), 0, Told::Epoch(1)),
     (0, By::Itself, Call::Turn(Deed::Crash(1)), 0, Told::Epoch(2)),
     (
-        0, 
-        By::Itself, 
+        0,
+        By::Itself,
         Call::Turn(Deed::Read),
         0,
         Told::Bytes {
@@ -86,8 +86,8 @@ pub(crate) const CRASHES: [Line; 6] = [
         },
     ),
     (
-        1, 
-        By::Itself, 
+        1,
+        By::Itself,
         Call::Turn(Deed::Read),
         0,
         Told::Bytes {
@@ -117,7 +117,9 @@ const PIN: Line = (
         word: 1,
     },
 );
+
 pub(crate) const PINS: [Line; 16] = [PIN; 16];
+
 pub(crate) const FILLS: [Line; 2] = [
     (0, By::Itself, Call::Hold, 0, Told::Full),
     (0, By::Itself, Call::Leave, 0, Told::Left),

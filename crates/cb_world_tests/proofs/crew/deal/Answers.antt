@@ -13,8 +13,7 @@ returns-in_err-push-clause-caller c = caller_keeps c.args.shared.now c.args.obje
 
 pub loop-thread-preserved : goal.loop-thread-preserved
 loop-thread-preserved c =
-    let P = λ (x : Part). IsCaller c.args.shared.now c.args.objects.now x.pass in
-    (
+    let P = λ (x : Part). IsCaller c.args.shared.now c.args.objects.now x.pass in (
       caller_keeps c.args.shared.now c.args.objects.now c.loop-thread.first c.split-pass.new.pass
           c.loop-thread.invariant.0 c.split-pass.ensures.of
           (left_keeps 8 c.loop-thread.first.seat.me.0 c.split-pass.new.pass.seat.me.0
