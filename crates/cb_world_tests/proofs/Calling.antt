@@ -1,7 +1,6 @@
 -- A caller goes on being one.
 use Rattle.std.proofs.Common.{◌≡◌, ℕ, ◌<◌, List, [], ◌∷◌, ◌++◌, sym, subst, arith, inl, inr}
 use Rattle.std.proofs.lemmas.List.Elements.{All-push}
-use Rattle.cb_rule.specs.declared.view.View.{View}
 use Rattle.cb_types.specs.declared.handle.Handle.{Handle}
 use Rattle.cb_world.specs.declared.entry.Entry.{Entry}
 use Rattle.cb_rule.specs.declared.view.Seen.{Seen}
