@@ -1,7 +1,6 @@
 -- A caller goes on being one.
-use Rattle.std.proofs.Common.{◌≡◌, ℕ, ◌<◌, List, [], ◌∷◌, ◌++◌, length, get_or, sym, subst, arith, inl, inr}
+use Rattle.std.proofs.Common.{◌≡◌, ℕ, ◌<◌, List, [], ◌∷◌, ◌++◌, sym, subst, arith, inl, inr}
 use Rattle.std.proofs.lemmas.List.Elements.{All-push}
-use Rattle.cb_rule.specs.declared.view.View.{View}
 use Rattle.cb_types.specs.declared.handle.Handle.{Handle}
 use Rattle.cb_world.specs.declared.entry.Entry.{Entry}
 use Rattle.cb_rule.specs.declared.view.Seen.{Seen}
@@ -23,12 +22,6 @@ caller_keeps s objects p q c of more = record {
 -- at first it knows none
 pub first_caller : (s : Shared) (p : Pass) → IsPassOf s p → IsCaller s [] p
 first_caller s p of = record { of = of; knows = λ i d below. absurd (omega (arith, below)) }
-
--- one of the objects
-pub got_known : (objects : List Handle) (v : View) (i : ℕ) (h : Handle) → i < length objects
-    → h ≡ get_or objects i h → KnowsAll objects v → Knows h.n v
-got_known objects v i h below is all =
-    subst (λ (x : Handle). Knows x.n v) (sym is) (all i h below)
 
 -- ---- an object that a pass knows is one of the runtime
 pub known_in_range : (s : Shared) (p : Pass) (h : ℕ) → IsPassOf s p → Knows h p.seat.me.0

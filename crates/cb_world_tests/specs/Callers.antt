@@ -1,4 +1,5 @@
 -- Passes that the tests work with.
+use Rattle.std.proofs.Common.{subst}
 use Rattle.std.specs.Prelude.{◌≡◌, ℕ, List, All, Result, Ok}
 use Rattle.cb_member.specs.declared.no_memory.NoMemory.{NoMemory}
 use Rattle.cb_types.specs.declared.handle.Handle.{Handle}
@@ -34,3 +35,9 @@ IfPinned other P = Unit {0}
 -- the reply tells that this object was made
 abbrev pub TellsMade : Result Reply NoMemory → Handle → Type 0
 TellsMade r h = (n : ℕ) × (r ≡ Ok (Made h n))
+
+-- by a runtime and objects that are the same
+pub caller_at : (s t : Shared) (objects others : List Handle) (p : Pass) → s ≡ t
+    → objects ≡ others → IsCaller s objects p → IsCaller t others p
+caller_at s t objects others p is same c = subst (λ (x : Shared). IsCaller x others p) is
+    (subst (λ (all : List Handle). IsCaller s all p) same c)

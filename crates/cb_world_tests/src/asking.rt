@@ -1,18 +1,6 @@
-//! What the tests ask of a pass that knows objects.
-ghost use Rattle.std.specs.Prelude.{◌<◌, IfSome};
-ghost use Rattle.cb_core.specs.Jobs.{IsJob};
-ghost use Rattle.cb_rule.specs.declared.view.View.{View};
-ghost use Rattle.cb_rule.specs.Steps.{Knows};
-ghost use Rattle.cb_shared.specs.Turning.{KnowsOf};
-ghost use Rattle.cb_world_tests.specs.Callers.{IsCaller, IsKnownAmong};
-
-use crate::pinned::{look, look_beside};
-use crate::told::{Told, told_by, told_of_write};
-use cb_member::NodeId;
-use cb_shared::{Pass, Shared};
-use cb_types::{Config, Handle, Job, NoMemory};
-use std::alloc::Global;
-use std::sync::Wait;
+//! What the tests ask of a pass, and of a second one that is split off it.
+use crate::told::Told;
+use cb_types::NoMemory;
 
 /// What a turn does.
 #[derive(Clone, Copy)]
@@ -32,174 +20,40 @@ pub(crate) enum Call {
     Hold,
     /// A pin, a look at all words, and the pin given back.
     Look,
-    /// The same by a second pass, which is split off and taken in.
-    LookBeside,
     WriteHere,
     Read,
     Write,
     Free,
     Turn(Deed),
+    /// A pass with the share 1 is split off, and left out.
+    Leave,
 }
 
-/// The job that does it to an object; None for a node that there is not.
-fn job_of(config: Config, h: Handle, deed: Deed) -> Option<Job>
-    requires { h.n < config.handles }
-    ensures job { IfSome result (λ job. IsJob config job) }
-    ensures object { IfSome result (λ job. (v : View) → Knows h.n v → KnowsOf job v) }
-{
-    match deed {
-        Deed::Read => Some(Job::Read { handle: h }),
-        Deed::Filter => Some(Job::Filter { handle: h }),
-        Deed::Evict => Some(Job::Evict),
-        Deed::Rebuild => Some(Job::Rebuild),
-        Deed::Crash(node) if u32::from(node) < config.nodes => Some(Job::Crash {
-            node: NodeId { n: node },
-        }),
-        Deed::Join(node) if u32::from(node) < config.nodes => Some(Job::Join {
-            node: NodeId { n: node },
-        }),
-        _ => None,
-    }
+/// Who makes a call.
+#[derive(Clone, Copy)]
+pub(crate) enum By {
+    /// The pass itself.
+    Itself,
+    /// A second pass, which is split off with the share 1 and taken in.
+    Second,
+    /// The pass itself, while a second one has the object pinned.
+    Beside,
 }
 
-/// A turn of a job.
-fn turn<R: Wait>(
-    rt: &R,
-    alloc: Global,
-    shared: &Shared,
-    objects: &[Handle],
-    pass: &mut Pass,
-    job: &Job,
-) -> Result<Told, NoMemory>
-    requires caller { IsCaller shared.now objects.now pass.old }
-    requires job { IsJob shared.now.config job.now }
-    requires knows { KnowsOf job.now pass.old.seat.me.0 }
-    ensures caller { IsCaller shared.now objects.now pass.new }
-{
-    told_by(shared.turn(rt, alloc, pass, job))
-}
+/// A pass that knows objects. The tables walk over any such, so that their proofs do not reach the
+/// types of a runtime.
+pub(crate) trait Asks {
+    // What follows is the same caller, which may ask.
+    ghost keeps: { Self → Self → Type 0 };
 
-/// A turn that does this to an object.
-fn turn_on<R: Wait>(
-    rt: &R,
-    alloc: Global,
-    shared: &Shared,
-    objects: &[Handle],
-    pass: &mut Pass,
-    h: Handle,
-    deed: Deed,
-) -> Result<Told, NoMemory>
-    requires caller { IsCaller shared.now objects.now pass.old }
-    requires among { IsKnownAmong h objects.now }
-    ensures caller { IsCaller shared.now objects.now pass.new }
-{
-    match job_of(shared.config(), h, deed) {
-        Some(job) => turn(rt, alloc, shared, objects, pass, &job),
-        None => Ok(Told::Other),
-    }
-}
+    /// A call on the object with this number; Other where there is none.
+    fn ask(&mut self, i: usize, by: By, call: Call, bytes: &[u8]) -> Result<Told, NoMemory>
+        requires { keeps self.old self.old }
+        ensures { keeps self.old self.new };
 
-/// A write in place, from the first byte on.
-fn write_here(shared: &Shared, objects: &[Handle], pass: &mut Pass, h: Handle, bytes: &[u8]) -> Told
-    requires caller { IsCaller shared.now objects.now pass.old }
-    requires among { IsKnownAmong h objects.now }
-    ensures caller { IsCaller shared.now objects.now pass.new }
-{
-    told_of_write(shared.write_here(pass, h, 0, bytes))
-}
+    // It may ask again.
+    ghost again: { (a b : Self) → keeps a b → keeps b b };
 
-/// A read that tries again.
-fn read<R: Wait>(
-    rt: &R,
-    alloc: Global,
-    shared: &Shared,
-    objects: &[Handle],
-    pass: &mut Pass,
-    h: Handle,
-) -> Result<Told, NoMemory>
-    requires caller { IsCaller shared.now objects.now pass.old }
-    requires among { IsKnownAmong h objects.now }
-    ensures caller { IsCaller shared.now objects.now pass.new }
-{
-    told_by(shared.read(rt, alloc, pass, h))
-}
-
-/// A write that tries again, from the first byte on.
-fn write<R: Wait>(
-    rt: &R,
-    alloc: Global,
-    shared: &Shared,
-    objects: &[Handle],
-    pass: &mut Pass,
-    h: Handle,
-    bytes: &[u8],
-) -> Result<Told, NoMemory>
-    requires caller { IsCaller shared.now objects.now pass.old }
-    requires among { IsKnownAmong h objects.now }
-    ensures caller { IsCaller shared.now objects.now pass.new }
-{
-    told_by(shared.write(rt, alloc, pass, h, 0, bytes))
-}
-
-/// A free that tries again.
-fn free<R: Wait>(
-    rt: &R,
-    alloc: Global,
-    shared: &Shared,
-    objects: &[Handle],
-    pass: &mut Pass,
-    h: Handle,
-) -> Result<Told, NoMemory>
-    requires caller { IsCaller shared.now objects.now pass.old }
-    requires among { IsKnownAmong h objects.now }
-    ensures caller { IsCaller shared.now objects.now pass.new }
-{
-    told_by(shared.free(rt, alloc, pass, h))
-}
-
-/// A call on one of the objects.
-fn called<R: Wait>(
-    rt: &R,
-    alloc: Global,
-    shared: &Shared,
-    objects: &[Handle],
-    pass: &mut Pass,
-    h: Handle,
-    call: Call,
-    bytes: &[u8],
-) -> Result<Told, NoMemory>
-    requires caller { IsCaller shared.now objects.now pass.old }
-    requires among { IsKnownAmong h objects.now }
-    ensures caller { IsCaller shared.now objects.now pass.new }
-{
-    match call {
-        Call::Hold => Ok(look(shared, objects, pass, h, true)),
-        Call::Look => Ok(look(shared, objects, pass, h, false)),
-        Call::LookBeside => Ok(look_beside(shared, objects, pass, h)),
-        Call::WriteHere => Ok(write_here(shared, objects, pass, h, bytes)),
-        Call::Read => read(rt, alloc, shared, objects, pass, h),
-        Call::Write => write(rt, alloc, shared, objects, pass, h, bytes),
-        Call::Free => free(rt, alloc, shared, objects, pass, h),
-        Call::Turn(deed) => turn_on(rt, alloc, shared, objects, pass, h, deed),
-    }
-}
-
-/// A call on the object with this number; Other where there is none.
-pub(crate) fn ask<R: Wait>(
-    rt: &R,
-    alloc: Global,
-    shared: &Shared,
-    objects: &[Handle],
-    pass: &mut Pass,
-    i: usize,
-    call: Call,
-    bytes: &[u8],
-) -> Result<Told, NoMemory>
-    requires caller { IsCaller shared.now objects.now pass.old }
-    ensures caller { IsCaller shared.now objects.now pass.new }
-{
-    if i >= objects.len() {
-        return Ok(Told::Other);
-    }
-    called(rt, alloc, shared, objects, pass, objects[i], call, bytes)
+    // It is the same after more calls.
+    ghost more: { (a b c : Self) → keeps a b → keeps b c → keeps a c };
 }

@@ -3,8 +3,8 @@ ghost use Rattle.std.specs.Prelude.{◌≡◌, ◌<◌, length, IfOk};
 ghost use Rattle.cb_world.specs.World.{IsSoundWorld};
 ghost use Rattle.cb_shared.specs.Passes.{IsPassOf};
 
+use crate::bodies::len_shared;
 use crate::notes::{FREED, Note, last, last_word};
-use crate::rounds::len_of;
 use crate::told::{Told, told_of};
 use cb_core::{Event, step};
 use cb_shared::{CloseRefused, Pass, Shared};
@@ -47,7 +47,7 @@ fn wanted(notes: &[Note], object: usize) -> Told {
         Some(FREED) => Told::Freed,
         Some(word) => Told::Bytes {
             version: last(notes, object),
-            len: len_of(object),
+            len: len_shared(object),
             word,
         },
         None => Told::Other,
@@ -111,11 +111,11 @@ fn is_world(alloc: Global, world: World, config: Config, ended: &Ended) -> Resul
     is_right
 }
 
-/// Whether no answer was wrong, and a close is refused as it is where passes are out and the first
-/// one has the share 1.
+/// Whether no answer was wrong, and a close is refused as it is where a pass with the share 1 is
+/// out.
 fn is_out(refused: &CloseRefused, ended: &Ended) -> bool {
     match refused {
-        CloseRefused::Out { share, .. } => ended.is_right && ended.is_out && *share == 1,
+        CloseRefused::Out { share, .. } => ended.is_right && ended.is_out && *share == 63,
         CloseRefused::NoMemory { .. } => false,
     }
 }

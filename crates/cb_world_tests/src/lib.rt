@@ -8,11 +8,13 @@
 #[cfg(test)]
 mod asking;
 #[cfg(test)]
+mod bodies;
+#[cfg(test)]
+mod called;
+#[cfg(test)]
 mod closed;
 #[cfg(test)]
 mod crew;
-#[cfg(test)]
-mod crowd;
 #[cfg(test)]
 mod joins;
 #[cfg(test)]

@@ -3,14 +3,12 @@ ghost use Rattle.std.specs.Prelude.{◌≤◌, [], length, IfOk, IfSome, OnOk};
 ghost use Rattle.cb_rule.specs.Steps.{Knows};
 ghost use Rattle.cb_world_tests.specs.Callers.{IsCaller, TellsMade};
 
+use crate::bodies::{Body, MOST, bytes_of, count_of, len_of, wanted_of, way_of};
 use crate::worlds::SMALL;
 use cb_shared::{Pass, Shared};
 use cb_types::{Bytes, Handle, Job, NoMemory, Reply};
 use std::alloc::Global;
 use std::sync::Wait;
-
-/// The most bytes of an object.
-pub(crate) const MOST: usize = 1024;
 
 /// A runtime in which nothing was made, and its first pass. A make gives the version 1, or the last
 /// but one.
@@ -47,44 +45,7 @@ pub(crate) enum Way {
     Call,
 }
 
-/// Makes an object by one turn.
-fn make_by_turn<R: Wait>(
-    rt: &R,
-    alloc: Global,
-    shared: &Shared,
-    objects: &[Handle],
-    pass: &mut Pass,
-    bytes: Bytes,
-    wanted: u64,
-) -> Result<Option<Handle>, NoMemory>
-    requires caller { IsCaller shared.now objects.now pass.old }
-    requires size { (1 ≤ length bytes) × (length bytes ≤ 1024) }
-    ensures caller { IsCaller shared.now objects.now pass.new }
-    ensures knows { IfOk result (λ r. IfSome r (λ h. Knows h.n pass.new.seat.me.0)) }
-{
-    let job = Job::Make { bytes };
-    made(shared.turn(rt, alloc, pass, &job), wanted)
-}
-
-/// Makes an object by the call that tries again.
-fn make_by_call<R: Wait>(
-    rt: &R,
-    alloc: Global,
-    shared: &Shared,
-    objects: &[Handle],
-    pass: &mut Pass,
-    bytes: &[u8],
-    wanted: u64,
-) -> Result<Option<Handle>, NoMemory>
-    requires caller { IsCaller shared.now objects.now pass.old }
-    requires size { (1 ≤ length bytes.now) × (length bytes.now ≤ 1024) }
-    ensures caller { IsCaller shared.now objects.now pass.new }
-    ensures knows { IfOk result (λ r. IfSome r (λ h. Knows h.n pass.new.seat.me.0)) }
-{
-    made(shared.make(rt, alloc, pass, bytes), wanted)
-}
-
-/// Makes an object of these bytes.
+/// Makes an object of these bytes; None where it was not made at this version.
 fn make_one<R: Wait>(
     rt: &R,
     alloc: Global,
@@ -103,33 +64,34 @@ fn make_one<R: Wait>(
     match way {
         Way::Turn => {
             let bytes = Bytes::copy_of(alloc, bytes)?;
-            make_by_turn(rt, alloc, shared, objects, pass, bytes, wanted)
+            let job = Job::Make { bytes };
+            made(shared.turn(rt, alloc, pass, &job), wanted)
         }
-        Way::Call => make_by_call(rt, alloc, shared, objects, pass, bytes, wanted),
+        Way::Call => made(shared.make(rt, alloc, pass, bytes), wanted),
     }
 }
 
-/// Makes one more object of these bytes. The answer is whether it was made at this version.
-pub(crate) fn make<R: Wait>(
+/// Makes the objects of a test. The answer is whether each was made at its version.
+pub(crate) fn make_all<R: Wait>(
     rt: &R,
     alloc: Global,
     shared: &Shared,
     objects: &mut Vec<Handle>,
     pass: &mut Pass,
-    way: Way,
-    bytes: &[u8],
-    wanted: u64,
+    body: Body,
 ) -> Result<bool, NoMemory>
     requires caller { IsCaller shared.now objects.old.items pass.old }
-    requires size { (1 ≤ length bytes.now) × (length bytes.now ≤ 1024) }
     ensures caller { OnOk result (IsCaller shared.now objects.new.items pass.new) }
 {
-    let known = objects.as_slice();
-    match make_one(rt, alloc, shared, known, pass, way, bytes, wanted)? {
-        Some(h) => {
-            objects.push(h)?;
-            Ok(true)
-        }
-        None => Ok(false),
+    let (way, wanted) = (way_of(body), wanted_of(body));
+    for i in 0..count_of(body) {
+        let all = bytes_of(body, i);
+        let bytes = &all[..len_of(body, i)];
+        let known = objects.as_slice();
+        let Some(h) = make_one(rt, alloc, shared, known, pass, way, bytes, wanted)? else {
+            return Ok(false);
+        };
+        objects.push(h)?;
     }
+    Ok(true)
 }

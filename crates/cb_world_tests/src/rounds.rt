@@ -1,9 +1,10 @@
 //! What one thread does: calls on objects in rounds, and notes of what they told.
-ghost use Rattle.std.specs.Prelude.{◌≤◌, IfOk};
+ghost use Rattle.std.specs.Prelude.{IfOk};
 ghost use Rattle.cb_world_tests.specs.Callers.{IsCaller};
 
-use crate::asking::{Call, Deed, ask};
-use crate::making::MOST;
+use crate::asking::{Asks, By, Call, Deed};
+use crate::bodies::{MOST, Work, len_shared};
+use crate::called::Caller;
 use crate::notes::{FREED, MORTAL, Note, take_note};
 use byteorder::{ByteOrder, LittleEndian};
 use cb_shared::{Pass, Shared};
@@ -16,18 +17,6 @@ pub(crate) const THREADS: u64 = 4;
 
 /// How many rounds each makes.
 const ROUNDS: u64 = 200;
-
-/// How many objects there are.
-pub(crate) const OBJECTS: usize = 4;
-
-/// What the threads do.
-#[derive(Clone, Copy)]
-pub(crate) enum Work {
-    /// Pins and writes of objects that are here.
-    Here,
-    /// Reads, writes and frees beside turns that move objects.
-    Far,
-}
 
 /// What a thread is given.
 #[derive(Drop)]
@@ -43,18 +32,6 @@ pub(crate) struct End {
     pub(crate) pass: Pass,
     pub(crate) notes: Vec<Note>,
     pub(crate) is_right: bool,
-}
-
-/// The length of an object: each one lies in a span of its own.
-pub(crate) fn len_of(i: usize) -> usize
-    ensures { (1 ≤ result) × (result ≤ 1024) }
-{
-    match i {
-        0 => 1024,
-        1 => 512,
-        2 => 96,
-        _ => 8,
-    }
 }
 
 /// The bytes of the longest object, all of whose words are alike.
@@ -85,10 +62,10 @@ fn deed_of(thread: u64, turn: u64) -> Deed {
 }
 
 /// The call of a thread in a round, where objects are pinned and written.
-fn call_here(round: u64) -> Call {
+fn call_here(round: u64) -> (By, Call) {
     match round % 2 {
-        0 => Call::LookBeside,
-        _ => Call::WriteHere,
+        0 => (By::Second, Call::Look),
+        _ => (By::Itself, Call::WriteHere),
     }
 }
 
@@ -104,10 +81,10 @@ fn call_far(thread: u64, round: u64) -> Call {
 }
 
 /// The call of a thread in a round.
-fn call_of(work: Work, thread: u64, round: u64) -> Call {
+fn call_of(work: Work, thread: u64, round: u64) -> (By, Call) {
     match work {
         Work::Here => call_here(round),
-        Work::Far => call_far(thread, round),
+        Work::Far => (By::Itself, call_far(thread, round)),
     }
 }
 
@@ -128,46 +105,39 @@ fn word_of(call: Call, word: u64) -> u64 {
 }
 
 /// A call that is noted; whether its answer was not wrong.
-pub(crate) fn noted_call<R: Wait>(
-    rt: &R,
-    alloc: Global,
-    shared: &Shared,
-    objects: &[Handle],
-    pass: &mut Pass,
+pub(crate) fn noted_call<A: Asks>(
+    asked: &mut A,
     i: usize,
+    by: By,
     call: Call,
     word: u64,
     notes: &mut Vec<Note>,
 ) -> Result<bool, NoMemory>
-    requires caller { IsCaller shared.now objects.now pass.old }
-    ensures caller { IsCaller shared.now objects.now pass.new }
+    requires { A.keeps asked.old asked.old }
+    ensures { A.keeps asked.old asked.new }
 {
     let bytes = alike(word);
-    let bytes = bytes.get(..len_of(i)).unwrap_or(&bytes);
-    let told = ask(rt, alloc, shared, objects, pass, i, call, bytes)?;
+    let bytes = bytes.get(..len_shared(i)).unwrap_or(&bytes);
+    let told = asked.ask(i, by, call, bytes)?;
     take_note(notes, i, word_of(call, word), told)
 }
 
 /// The rounds of a thread, each with a word that no other one writes.
-fn all_rounds<R: Wait>(
-    rt: &R,
-    alloc: Global,
-    shared: &Shared,
-    objects: &[Handle],
-    pass: &mut Pass,
+fn all_rounds<A: Asks>(
+    asked: &mut A,
     thread: u64,
     work: Work,
     notes: &mut Vec<Note>,
 ) -> Result<bool, NoMemory>
-    requires caller { IsCaller shared.now objects.now pass.old }
-    ensures caller { IsCaller shared.now objects.now pass.new }
+    requires { A.keeps asked.old asked.old }
+    ensures { A.keeps asked.old asked.new }
 {
     let mut is_right = true;
     for round in 0..ROUNDS {
-        let call = call_of(work, thread, round);
+        let (by, call) = call_of(work, thread, round);
         let i = object_of(call, thread, round);
         let word = 1 + round * THREADS + thread % THREADS;
-        is_right &= noted_call(rt, alloc, shared, objects, pass, i, call, word, notes)?;
+        is_right &= noted_call(asked, i, by, call, word, notes)?;
     }
     Ok(is_right)
 }
@@ -189,9 +159,22 @@ pub(crate) fn work_through<R: Wait>(
         work,
     } = part;
     let mut notes = Vec::new(alloc);
-    let is_right = all_rounds(
-        rt, alloc, shared, objects, &mut pass, thread, work, &mut notes,
-    )?;
+    let mut caller = Caller {
+        rt,
+        alloc,
+        shared,
+        objects,
+        pass: &mut pass,
+    };
+    let is_right = all_rounds(&mut caller, thread, work, &mut notes);
+    let Caller {
+        rt: _,
+        alloc: _,
+        shared: _,
+        objects: _,
+        pass: _,
+    } = caller;
+    let is_right = is_right?;
     Ok(End {
         pass,
         notes,

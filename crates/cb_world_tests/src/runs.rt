@@ -3,13 +3,14 @@ ghost use Rattle.std.specs.Prelude.{[], OnOk};
 ghost use Rattle.cb_shared.specs.Passes.{IsPassOf};
 ghost use Rattle.cb_world_tests.specs.Callers.{IsCaller};
 
+use crate::asking::Asks;
+use crate::bodies::{Body, Work, share_of};
+use crate::called::Caller;
 use crate::closed::{Ended, close};
-use crate::crew::run_crew;
-use crate::crowd::crowds;
-use crate::making::{Way, begun};
+use crate::crew::{are_settled, run_crew};
+use crate::making::{begun, make_all};
 use crate::notes::Note;
-use crate::rounds::Work;
-use crate::tables::{CALLS, WEARS, crashes, made_and_answered, two_passes};
+use crate::tables::{CALLS, CRASHES, TWO_PASSES, WEARS, are_answered, are_filled};
 use cb_shared::{Pass, Shared};
 use cb_types::{Handle, NoMemory};
 use std::alloc::Global;
@@ -18,44 +19,55 @@ use std::sync::Wait;
 use std::test::Fail;
 use std::thread::Threads;
 
-/// What is done with a runtime in which nothing was made.
-#[derive(Clone, Copy)]
-enum Body {
-    TwoPasses,
-    Calls,
-    Crashes,
-    Wears,
-    Crowds,
-    Crew(Work),
+/// What the first pass does, or does behind the threads; whether no answer was wrong.
+fn asked_through<A: Asks>(
+    asked: &mut A,
+    body: Body,
+    notes: &mut Vec<Note>,
+) -> Result<bool, NoMemory>
+    requires { A.keeps asked.old asked.old }
+    ensures { A.keeps asked.old asked.new }
+{
+    match body {
+        Body::TwoPasses => are_answered(asked, &TWO_PASSES),
+        Body::Calls => are_answered(asked, &CALLS),
+        Body::Crashes => are_answered(asked, &CRASHES),
+        Body::Wears => are_answered(asked, &WEARS),
+        Body::Fills => are_filled(asked),
+        Body::Crew(work) => are_settled(asked, work, notes),
+    }
 }
 
-/// What is done, and whether no answer was wrong.
+/// What is done with the objects; whether no answer was wrong.
 fn done<R: Threads + Wait + Sync>(
     rt: &R,
     alloc: Global,
     shared: &Shared,
-    objects: &mut Vec<Handle>,
+    objects: &[Handle],
     first: &mut Pass,
     notes: &mut Vec<Note>,
     body: Body,
 ) -> Result<bool, NoMemory>
-    requires caller { IsCaller shared.now objects.old.items first.old }
-    ensures caller { OnOk result (IsCaller shared.now objects.new.items first.new) }
+    requires caller { IsCaller shared.now objects.now first.old }
+    ensures of { OnOk result (IsPassOf shared.now first.new) }
 {
-    match body {
-        Body::TwoPasses => two_passes(rt, alloc, shared, objects, first),
-        Body::Calls => {
-            let way = Way::Call;
-            made_and_answered(rt, alloc, shared, objects, first, way, &[1u8, 2], 1, &CALLS)
-        }
-        Body::Crashes => crashes(rt, alloc, shared, objects, first),
-        Body::Wears => {
-            let (way, last) = (Way::Turn, u64::MAX - 1);
-            made_and_answered(rt, alloc, shared, objects, first, way, &[1u8], last, &WEARS)
-        }
-        Body::Crowds => crowds(rt, alloc, shared, objects, first),
-        Body::Crew(work) => run_crew(rt, alloc, shared, objects, first, work, notes),
-    }
+    let is_run = run_crew(rt, alloc, shared, objects, first, body, notes)?;
+    let mut caller = Caller {
+        rt,
+        alloc,
+        shared,
+        objects,
+        pass: first,
+    };
+    let is_right = asked_through(&mut caller, body, notes);
+    let Caller {
+        rt: _,
+        alloc: _,
+        shared: _,
+        objects: _,
+        pass: _,
+    } = caller;
+    Ok(is_run && is_right? && first.share() == share_of(body))
 }
 
 /// What was done with a runtime, before it is closed. Only of threads the objects are noted.
@@ -71,29 +83,23 @@ fn ended<R: Threads + Wait + Sync>(
 {
     let mut objects = Vec::new(alloc);
     let mut notes = Vec::new(alloc);
-    let is_right = done(rt, alloc, shared, &mut objects, first, &mut notes, body)?;
+    let is_made = make_all(rt, alloc, shared, &mut objects, first, body)?;
+    let known = objects.as_slice();
+    let is_right = done(rt, alloc, shared, known, first, &mut notes, body)?;
     if notes.is_empty() {
         objects.clear();
     }
     Ok(Ended {
-        is_right,
-        is_out: matches!(body, Body::Crowds),
+        is_right: is_made && is_right,
+        is_out: matches!(body, Body::Fills),
         objects,
         notes,
     })
 }
 
-/// What is done with a runtime, which is then closed.
-fn held<R: Threads + Wait + Sync>(
-    rt: &R,
-    alloc: Global,
-    shared: Shared,
-    first: Pass,
-    body: Body,
-) -> Result<bool, NoMemory>
-    requires caller { IsCaller shared [] first }
-{
-    let mut first = first;
+/// Whether no answer was wrong of what is done with a runtime, nor that of its close.
+fn holds<R: Threads + Wait + Sync>(rt: &R, alloc: Global, body: Body) -> Result<bool, NoMemory> {
+    let (shared, mut first) = begun(alloc, matches!(body, Body::Wears))?;
     match ended(rt, alloc, &shared, &mut first, body) {
         Ok(ended) => close(alloc, shared, first, &ended),
         Err(e) => {
@@ -101,12 +107,6 @@ fn held<R: Threads + Wait + Sync>(
             Err(e)
         }
     }
-}
-
-/// Whether no answer was wrong of what is done with a runtime, nor that of its close.
-fn holds<R: Threads + Wait + Sync>(rt: &R, alloc: Global, body: Body) -> Result<bool, NoMemory> {
-    let (shared, first) = begun(alloc, matches!(body, Body::Wears))?;
-    held(rt, alloc, shared, first, body)
 }
 
 /// Whether no answer was wrong of any of these.
@@ -123,13 +123,13 @@ fn all_hold<R: Threads + Wait + Sync>(
 }
 
 /// Two passes by the table; each call that tries again; turns that read back what two crashes left;
-/// the end of the versions; and 64 passes that crowd an object and keep the runtime open.
+/// the end of the versions; and a pass that takes all its pins beside one that is left out.
 const ON_ONE_THREAD: [Body; 5] = [
     Body::TwoPasses,
     Body::Calls,
     Body::Crashes,
     Body::Wears,
-    Body::Crowds,
+    Body::Fills,
 ];
 
 #[test]

@@ -22,6 +22,10 @@ pub(crate) enum Told {
     Epoch(u64),
     /// A row was made again, or none was lost.
     Whole,
+    /// The pass has as many pins as it may have.
+    Full,
+    /// A pass was left out.
+    Left,
     /// What other threads do is in the way.
     Later,
     /// Anything else.
@@ -89,4 +93,16 @@ pub(crate) fn told_of_write(answer: WriteAnswer) -> Told {
         WriteAnswer::Moving | WriteAnswer::Raced { .. } => Told::Later,
         WriteAnswer::NotHere | WriteAnswer::Range { .. } => Told::Other,
     }
+}
+
+/// What a call told, where the words under another pass's pin were one version before it and behind.
+pub(crate) fn told_while(
+    before: Told,
+    told: Result<Told, NoMemory>,
+    behind: Told,
+) -> Result<Told, NoMemory> {
+    if before == Told::Torn || before != behind {
+        return Ok(Told::Torn);
+    }
+    told
 }

@@ -1,6 +1,5 @@
-use Rattle.cb_world_tests.specs.Callers.{IsCaller}
 use Rattle.cb_world_tests.proofs.tables.are_answered.Given as goal
 
--- the pass is still one that knows the objects
+-- it is still the same caller, which may ask
 abbrev pub invariant-loop-row : goal.invariant-loop-row
-invariant-loop-row g l = IsCaller l.shared l.objects l.pass
+invariant-loop-row g l = g.A.Asks.keeps l.fn.asked l.asked

@@ -1,0 +1,105 @@
+//! What each test makes and does.
+ghost use Rattle.std.specs.Prelude.{◌≤◌};
+
+use crate::making::Way;
+
+/// The most bytes of an object.
+pub(crate) const MOST: usize = 1024;
+
+/// How many objects the threads share.
+pub(crate) const OBJECTS: usize = 4;
+
+/// What the threads do.
+#[derive(Clone, Copy)]
+pub(crate) enum Work {
+    /// Pins and writes of objects that are here.
+    Here,
+    /// Reads, writes and frees beside turns that move objects.
+    Far,
+}
+
+/// What is done with a runtime in which nothing was made.
+#[derive(Clone, Copy)]
+pub(crate) enum Body {
+    TwoPasses,
+    Calls,
+    Crashes,
+    Wears,
+    /// A pass takes all the pins that it may have, and another one is left out.
+    Fills,
+    Crew(Work),
+}
+
+/// How its objects are made.
+pub(crate) fn way_of(body: Body) -> Way {
+    match body {
+        Body::Calls | Body::Crew(_) => Way::Call,
+        _ => Way::Turn,
+    }
+}
+
+/// The version at which they are made.
+pub(crate) fn wanted_of(body: Body) -> u64 {
+    match body {
+        Body::Wears => u64::MAX - 1,
+        _ => 1,
+    }
+}
+
+/// How many there are.
+pub(crate) fn count_of(body: Body) -> usize {
+    match body {
+        Body::Crew(_) => OBJECTS,
+        Body::Crashes => 2,
+        _ => 1,
+    }
+}
+
+/// The length of an object that threads share: each one lies in a span of its own.
+pub(crate) fn len_shared(i: usize) -> usize
+    ensures { (1 ≤ result) × (result ≤ 1024) }
+{
+    match i {
+        0 => 1024,
+        1 => 512,
+        2 => 96,
+        _ => 8,
+    }
+}
+
+/// The length of an object.
+pub(crate) fn len_of(body: Body, i: usize) -> usize
+    ensures { (1 ≤ result) × (result ≤ 1024) }
+{
+    match body {
+        Body::Crew(_) => len_shared(i),
+        Body::Calls => 2,
+        Body::Crashes if i == 0 => 2,
+        _ => 1,
+    }
+}
+
+/// The first two bytes of an object, behind which there are zeros.
+fn front_of(body: Body, i: usize) -> (u8, u8) {
+    match body {
+        Body::Crew(_) => (0, 0),
+        Body::Crashes if i == 0 => (10, 11),
+        Body::Crashes => (12, 0),
+        _ => (1, 2),
+    }
+}
+
+/// The bytes of an object, up to the most.
+pub(crate) fn bytes_of(body: Body, i: usize) -> [u8; MOST] {
+    let mut bytes = [0u8; MOST];
+    (bytes[0], bytes[1]) = front_of(body, i);
+    bytes
+}
+
+/// The share of the first pass at the end.
+pub(crate) fn share_of(body: Body) -> u32 {
+    match body {
+        Body::Fills => 63,
+        _ => 64,
+    }
+}
