@@ -23,7 +23,7 @@ use Rattle.cb_shared.specs.declared.answers.WriteAnswer.TheVariants as writes
 use Rattle.cb_shared.specs.declared.pass.Pin.{Pin}
 use Rattle.cb_shared.specs.Calls.{ReadGives, StopsInVain, TurnGives, WriteAnswers}
 use Rattle.cb_shared.specs.Passes.{IsPinOf, stand_of}
-use Rattle.cb_shared.specs.Pinning.{IfPinned, IsPinnedHere, PinGives}
+use Rattle.cb_shared.specs.Pinning.{PinGives}
 use Rattle.cb_shared.specs.Turning.{TurnAdds, TurnBy, with_own}
 use Rattle.cb_shared.specs.Writing.{WriteGives}
 
@@ -104,27 +104,7 @@ write_keeps h at bytes writes.Worn v w g =
 write_keeps h at bytes (writes.Raced saw found) v w g =
     looks_more v w (written_is w _ g.1) (seen_is w _ g.1)
 
--- ---- a pin that was taken is one of the pass, also behind a peek
-pin_is_of : (h : ℕ) (p : Pin) (v w : View) → IsPinnedHere h p v w → IsPinOf p w
-pin_is_of h p v w g = (
-  g.words,
-  subst (λ (x : View). Has (stand_of p g.words) x.pins) (sym g.left) (inl (λ i. stand_of record p {
-    handle = record { n = sym g.handle i };
-    len = sym g.len i;
-    place = sym g.place i;
-  } g.words)),
-)
-
-pub pinned_is : (h : ℕ) (a : PinAnswer) (v w : View) → PinGives h a v w
-    → IfPinned a (λ p. IsPinOf p w)
-pinned_is h (pins.Pinned p) v w g = pin_is_of h p v w g
-pinned_is h pins.ScopeFull v w g = tt
-pinned_is h pins.Freed v w g = tt
-pinned_is h pins.NotHere v w g = tt
-pinned_is h pins.Moving v w g = tt
-pinned_is h pins.Crowded v w g = tt
-pinned_is h (pins.Raced saw found) v w g = tt
-
+-- ---- a pin of the pass behind a peek, and what a peek and an unpin leave
 pub peek_has : (p : Pin) (h n j x : ℕ) (v w : View) → w ≡ with_peek h n j x v → IsPinOf p v
     → IsPinOf p w
 peek_has p h n j x v w e of = subst (IsPinOf p) (sym e) of

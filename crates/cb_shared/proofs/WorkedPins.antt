@@ -7,10 +7,9 @@ use Rattle.cb_rule.specs.declared.view.Seen.{Seen}
 use Rattle.cb_rule.specs.declared.view.Stand.{Stand}
 use Rattle.cb_rule.specs.declared.view.View.{View}
 use Rattle.cb_rule.specs.Steps.{IsNewest, with_freed_seen, with_look, with_pin}
-use Rattle.cb_shared.specs.declared.pass.Pin.{Pin}
 use Rattle.cb_shared.specs.declared.answers.PinAnswer.TheVariants.{Pinned, ScopeFull, Freed, NotHere, Moving, Crowded, Raced}
 use Rattle.cb_shared.specs.Passes.{IsPinOf}
-use Rattle.cb_shared.specs.Pinning.{FindsFreed, IfPinned, IsPinnedHere, LooksOnce, LoosesRace, PinGives}
+use Rattle.cb_shared.specs.Pinning.{FindsFreed, IsPinnedHere, LooksOnce, LoosesRace, PinGives}
 use Rattle.cb_shared.proofs.WorkedGround.{a_pin, a_stand, away, calm, full, last_look, last_state, moving, newest_later, newest_made, not_foreign, not_second, part, part_pinned, pinned, whole}
 
 abbrev looks_of : View → ℕ
@@ -166,13 +165,3 @@ other_length (words, inr n) = absurd n
 other_place : IsPinOf (a_pin 1 3 8 6) part_pinned → ⊥
 other_place (words, inl e) = eqb-false 5 6 refl (ap (λ (s : Stand). s.place) e)
 other_place (words, inr n) = absurd n
-
--- ---- what holds of the pin of an answer
-holds_of_the_pin : IfPinned (Pinned (a_pin 1 3 8 5)) (λ (p : Pin). p.version ≡ 3)
-holds_of_the_pin = refl
-
-another_pin : IfPinned (Pinned (a_pin 1 3 8 5)) (λ (p : Pin). p.version ≡ 4) → ⊥
-another_pin e = eqb-false 3 4 refl e
-
-of_no_pin : IfPinned Crowded (λ (p : Pin). ⊥)
-of_no_pin = tt

@@ -64,8 +64,3 @@ PinAt h saw (Pinned p) v w = (words : List ℕ) × IsPinnedAt h saw words p v w
 PinAt h saw (Raced seen found) v w =
     (seen ≡ saw) × (found ≢ saw) × (w ≡ with_look h found v)
 PinAt h saw _ v w = ⊥
-
--- of the pin, where there is one
-abbrev pub IfPinned : PinAnswer → (Pin → Type 0) → Type 0
-IfPinned (Pinned p) P = P p
-IfPinned other P = Unit {0}

@@ -9,7 +9,10 @@ use Rattle.cb_types.specs.declared.reply.Reply.{Reply}
 use Rattle.cb_types.specs.declared.reply.Reply.TheVariants.{Made}
 use Rattle.cb_world.specs.World.{WorldState, IsSoundWorld}
 use Rattle.cb_rule.specs.Steps.{Knows}
+use Rattle.cb_shared.specs.declared.answers.PinAnswer.{PinAnswer}
+use Rattle.cb_shared.specs.declared.answers.PinAnswer.TheVariants.{Pinned}
 use Rattle.cb_shared.specs.declared.pass.Pass.{Pass}
+use Rattle.cb_shared.specs.declared.pass.Pin.{Pin}
 use Rattle.cb_shared.specs.declared.runtime.Shared.{Shared}
 use Rattle.cb_shared.specs.Passes.{IsPassOf}
 
@@ -17,6 +20,11 @@ use Rattle.cb_shared.specs.Passes.{IsPassOf}
 pub record IsCaller (s : Shared) (h : Handle) (p : Pass) : Type 0 where
   pub of : IsPassOf s p
   pub knows : Knows h.n p.seat.me.0
+
+-- of the pin, where there is one
+abbrev pub IfPinned : PinAnswer → (Pin → Type 0) → Type 0
+IfPinned (Pinned p) P = P p
+IfPinned other P = Unit {0}
 
 -- the reply tells of this handle as made
 abbrev pub IsToldMade : Result Reply NoMemory → Handle → Type 0

@@ -3,8 +3,7 @@
 ghost use Rattle.std.specs.Prelude.{◌<◌};
 ghost use Rattle.cb_world.specs.Memory.{words_for};
 ghost use Rattle.cb_shared.specs.Passes.{IsPinOf};
-ghost use Rattle.cb_shared.specs.Pinning.{IfPinned};
-ghost use Rattle.cb_shared_bench.specs.Callers.{IsCaller, IsPlain};
+ghost use Rattle.cb_shared_bench.specs.Callers.{IfPinned, IsCaller, IsPlain};
 
 use crate::deeds::{Deed, calls_of};
 use crate::objects::{BYTES, WORDS};

@@ -10,7 +10,7 @@ use Rattle.cb_shared.specs.declared.pass.Pass.{Pass}
 use Rattle.cb_shared.specs.declared.runtime.Shared.{Shared}
 use Rattle.cb_shared.specs.Passes.{IsPassOf}
 use Rattle.cb_world_tests.specs.Callers.{IsCaller, KnowsAll}
-use Rattle.cb_world_tests.proofs.Known.{Keeps}
+use Rattle.cb_shared.proofs.Laws.{Keeps}
 
 pub caller_keeps : (s : Shared) (objects : List Handle) (p q : Pass) → IsCaller s objects p
     → IsPassOf s q → Keeps p.seat.me.0 q.seat.me.0 → IsCaller s objects q

@@ -1,6 +1,6 @@
 pub mod AllEvents
 pub mod Calling
-pub mod Known
+pub mod Makes
 pub mod ScrubbedWorld
 mod WorkedShards
 mod WorkedSmall

@@ -7,10 +7,7 @@ use Rattle.cb_types.specs.declared.reply.Reply.{Reply}
 use Rattle.cb_types.specs.declared.reply.Reply.TheVariants.{Made}
 use Rattle.cb_rule.specs.declared.view.View.{View}
 use Rattle.cb_rule.specs.Steps.{Knows}
-use Rattle.cb_shared.specs.declared.answers.PinAnswer.{PinAnswer}
-use Rattle.cb_shared.specs.declared.answers.PinAnswer.TheVariants.{Pinned}
 use Rattle.cb_shared.specs.declared.pass.Pass.{Pass}
-use Rattle.cb_shared.specs.declared.pass.Pin.{Pin}
 use Rattle.cb_shared.specs.declared.runtime.Shared.{Shared}
 use Rattle.cb_shared.specs.Passes.{IsPassOf}
 
@@ -26,11 +23,6 @@ IsKnownAmong h objects = (v : View) → KnowsAll objects v → Knows h.n v
 pub record IsCaller (s : Shared) (objects : List Handle) (p : Pass) : Type 0 where
   pub of : IsPassOf s p
   pub knows : KnowsAll objects p.seat.me.0
-
--- of the pin, where there is one
-abbrev pub IfPinned : PinAnswer → (Pin → Type 0) → Type 0
-IfPinned (Pinned p) P = P p
-IfPinned other P = Unit {0}
 
 -- the reply tells that this object was made
 abbrev pub TellsMade : Result Reply NoMemory → Handle → Type 0

@@ -1,4 +1,5 @@
-use Rattle.cb_shared.proofs.Laws.{pin_keeps, pinned_is}
+use Rattle.cb_shared.proofs.Laws.{pin_keeps}
+use Rattle.cb_shared_bench.proofs.Taken.{pinned_is}
 use Rattle.cb_shared_bench.proofs.calls.take.Goals as goal
 
 pub returns : goal.returns

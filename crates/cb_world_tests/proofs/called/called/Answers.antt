@@ -1,7 +1,7 @@
 use Rattle.cb_types.specs.declared.job.Job.TheVariants as jobs
 use Rattle.cb_shared.specs.Calls.{AtNone, AtThis, the_handle}
 use Rattle.cb_world_tests.proofs.Calling.{caller_keeps}
-use Rattle.cb_world_tests.proofs.Known.{call_keeps, read_keeps, turns_keep, write_keeps}
+use Rattle.cb_shared.proofs.Laws.{call_keeps, read_keeps, turns_keep, write_keeps}
 use Rattle.cb_world_tests.proofs.called.called.Goals as goal
 
 pub write_here-requires-clause-knows : goal.write_here-requires-clause-knows

@@ -1,6 +1,6 @@
 use Rattle.cb_shared.specs.Joining.{unpinned_all}
 use Rattle.cb_world_tests.proofs.Calling.{caller_keeps}
-use Rattle.cb_world_tests.proofs.Known.{join_keeps, left_keeps, right_keeps}
+use Rattle.cb_shared.proofs.Laws.{join_keeps, left_keeps, right_keeps}
 use Rattle.cb_world_tests.proofs.called.called_by_two.Goals as goal
 
 pub second_called-told-requires-clause-caller : goal.second_called-told-requires-clause-caller

@@ -1,5 +1,5 @@
 use Rattle.cb_world_tests.proofs.Calling.{caller_keeps}
-use Rattle.cb_world_tests.proofs.Known.{left_keeps}
+use Rattle.cb_shared.proofs.Laws.{left_keeps}
 use Rattle.cb_world_tests.proofs.called.leave.Goals as goal
 
 pub returns : goal.returns

@@ -1,5 +1,5 @@
 use Rattle.cb_world_tests.proofs.Calling.{caller_keeps}
-use Rattle.cb_world_tests.proofs.Known.{pin_keeps, unpin_keeps}
+use Rattle.cb_shared.proofs.Laws.{pin_keeps, unpin_keeps}
 use Rattle.cb_world_tests.proofs.called.second_called.Goals as goal
 
 pub words_under-before-requires-clause-caller : goal.words_under-before-requires-clause-caller

@@ -2,7 +2,7 @@ use Rattle.std.proofs.Common.{◌<◌, sym, subst}
 use Rattle.cb_types.specs.declared.config.Config.{Config}
 use Rattle.cb_core.specs.Jobs.{IsJob}
 use Rattle.cb_world_tests.proofs.Calling.{caller_keeps, known_in_range}
-use Rattle.cb_world_tests.proofs.Known.{turn_keeps}
+use Rattle.cb_shared.proofs.Laws.{turn_keeps}
 use Rattle.cb_world_tests.proofs.called.turn_on.Goals as goal
 
 pub job_of-requires : goal.job_of-requires

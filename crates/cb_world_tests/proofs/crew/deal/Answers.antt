@@ -2,7 +2,7 @@ use Rattle.std.proofs.lemmas.List.Elements.{All-push, All-same}
 use Rattle.cb_world_tests.specs.Callers.{IsCaller}
 use Rattle.cb_world_tests.specs.declared.rounds.Part.{Part}
 use Rattle.cb_world_tests.proofs.Calling.{caller_keeps}
-use Rattle.cb_world_tests.proofs.Known.{left_keeps, right_keeps}
+use Rattle.cb_shared.proofs.Laws.{left_keeps, right_keeps}
 use Rattle.cb_world_tests.proofs.crew.deal.Goals as goal
 
 pub returns-in_err-push-clause-caller : goal.returns-in_err-push-clause-caller

@@ -1,6 +1,6 @@
 use Rattle.cb_shared.specs.Joining.{unpinned_all}
 use Rattle.cb_world_tests.proofs.Calling.{caller_keeps}
-use Rattle.cb_world_tests.proofs.Known.{join_keeps}
+use Rattle.cb_shared.proofs.Laws.{join_keeps}
 use Rattle.cb_world_tests.proofs.crew.take_last.Goals as goal
 
 pub returns-in_err-extend_from_slice-in-Some-Ok-clause-caller :

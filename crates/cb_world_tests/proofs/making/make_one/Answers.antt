@@ -1,7 +1,8 @@
 use Rattle.cb_types.specs.declared.job.Job.TheVariants as jobs
 use Rattle.cb_shared.specs.Calls.{AtNone}
 use Rattle.cb_world_tests.proofs.Calling.{caller_keeps}
-use Rattle.cb_world_tests.proofs.Known.{call_makes, turn_keeps, turn_makes, turns_keep}
+use Rattle.cb_shared.proofs.Laws.{turn_keeps, turns_keep}
+use Rattle.cb_world_tests.proofs.Makes.{call_makes, turn_makes}
 use Rattle.cb_world_tests.proofs.making.make_one.Goals as goal
 
 pub returns-in_ok-bytes-in-Turn : goal.returns-in_ok-bytes-in-Turn

@@ -1,6 +1,6 @@
 use Rattle.std.proofs.Common.{arith}
 use Rattle.cb_world_tests.proofs.Calling.{caller_keeps}
-use Rattle.cb_world_tests.proofs.Known.{peek_has, peek_keeps}
+use Rattle.cb_shared.proofs.Laws.{peek_has, peek_keeps}
 use Rattle.cb_world_tests.proofs.pinned.words_under.Goals as goal
 
 pub peek-word-requires-clause-index : goal.peek-word-requires-clause-index
