@@ -46,10 +46,10 @@ give_far-requires-clause-ends g c = ends_work c.args.config.now c.args.job.now c
 
 pub returns-clause-same : goal.returns-clause-same
 returns-clause-same g c = let t = c.lock_far-far.ensures.took in
-    let w = c.work-reply.ensures.work.moves in let e = c.give_far.ensures.at in (
-      e.0 ∙ w.0 ∙ t.at.0,
-      e.1 ∙ w.1 ∙ t.at.1,
-      ap (λ (m : Sat). m.1) e.2,
+    let w = c.work-reply.ensures.work.moves in (
+      c.give_far.ensures.at.0 ∙ w.0 ∙ t.at.0,
+      c.give_far.ensures.at.1 ∙ w.1 ∙ t.at.1,
+      ap (λ (m : Sat). m.1) c.give_far.ensures.at.2,
     )
 
 pub returns-clause-turn : goal.returns-clause-turn
