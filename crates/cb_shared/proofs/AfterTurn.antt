@@ -195,6 +195,17 @@ turn_with c job r took gave p m q w g =
       pins = w.pins;
     }
 
+-- the seat that took the lock and gave it back is the same one, with no slot in hand
+pub at_end : (c : Config) (job : Job) (r : Result Reply NoMemory) (took gave : FarState)
+    (p l m q : Place) → TakesFar c took p l → WorkBy c job r took gave l m
+    → GivesFar c job (answer_of r) gave m q
+    → (q.table_id ≡ p.table_id) × (q.id ≡ p.id) × (q.me.1 ≡ [])
+at_end c job r took gave p l m q t w g = (
+  g.at.0 ∙ w.moves.0 ∙ t.at.0,
+  g.at.1 ∙ w.moves.1 ∙ t.at.1,
+  ap (λ (x : Sat). x.1) g.at.2,
+)
+
 -- the turn as it stands then
 abbrev pub turn_told : Job → Result Reply NoMemory → Shown → ℕ → ℕ → List Event → FarState → FarState
     → Turn

@@ -139,6 +139,10 @@ takes_far c word far p m q key (table, id, t) out slot =
       made = λ h knows. subst (λ (f : FarState). h < f.made) same (t.made h knows);
     }
 
+-- a seat that is not moved, twice
+pub not_moved_twice : (p m q : Place) → Moves p m p.me.0 → Moves m q m.me.0 → Moves p q p.me.0
+not_moved_twice p m q a b = (b.0 ∙ a.0, b.1 ∙ a.1, b.2 ∙ a.2)
+
 -- so where it was not moved before
 pub takes_from : (c : Config) (far : FarState) (p m q : Place) → Moves p m p.me.0
     → TakesFar c far m q → TakesFar c far p q

@@ -1,5 +1,5 @@
 //! The words of a frame, one atomic step each.
-ghost use Rattle.std.specs.Prelude.{◌≡◌, ℕ, ◌+◌, ◌*◌, ◌^◌, ◌<◌, List, length, All};
+ghost use Rattle.std.specs.Prelude.{◌≡◌, ◌+◌, ◌*◌, ◌^◌, ◌<◌, length, All};
 ghost use Rattle.cb_world.specs.FrameWords.{OwnsWords, loads_from, stores_from};
 ghost use Rattle.cb_world.specs.RowWords.{words_in};
 ghost use Rattle.cb_shared.specs.Places.{HoldsLock};

@@ -3,7 +3,7 @@ ghost use Rattle.std.specs.Prelude.{◌≡◌, ◌≢◌, true, false};
 ghost use Rattle.cb_ptr.specs.declared.word.State.TheVariants as state;
 ghost use Rattle.cb_ptr.specs.Word.{state_of};
 ghost use Rattle.cb_shared.specs.Places.{IsOf};
-ghost use Rattle.cb_shared.specs.Turning.{KnowsIt, freed_of, object_of};
+ghost use Rattle.cb_shared.specs.Turning.{KnowsIt, freed_of};
 ghost use Rattle.cb_shared.specs.UnderLock.{FreedMoves, IsBelow};
 
 use crate::board::{Place, Top};
@@ -17,17 +17,12 @@ pub(crate) fn freed_of(job: &Job, reply: &Result<Reply, NoMemory>) -> Option<u32
     ensures { result ≡ freed_of job.now reply.now }
 {
     match reply {
-        Ok(Reply::Freed) => object_of(job),
-        _ => None,
-    }
-}
-
-/// The object that a job reads, writes or frees.
-fn object_of(job: &Job) -> Option<u32>
-    ensures { result ≡ object_of job.now }
-{
-    match job {
-        Job::Read { handle } | Job::Write { handle, .. } | Job::Free { handle } => Some(handle.n),
+        Ok(Reply::Freed) => match job {
+            Job::Read { handle } | Job::Write { handle, .. } | Job::Free { handle } => {
+                Some(handle.n)
+            }
+            _ => None,
+        },
         _ => None,
     }
 }

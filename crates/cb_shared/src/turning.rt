@@ -1,14 +1,13 @@
 //! Turns under the far lock.
-ghost use Rattle.std.specs.Prelude.{◌≡◌, ◌≤◌, ◌^◌, ◌<◌, [], ◌∷◌, length, IfOk, None};
+ghost use Rattle.std.specs.Prelude.{◌≡◌, ◌≤◌, [], length, IfOk};
 ghost use Rattle.cb_types.specs.Config.{IsAccepted};
 ghost use Rattle.cb_types.specs.declared.reply.Reply.TheVariants as answer;
 ghost use Rattle.cb_core.specs.Jobs.{IsJob};
-ghost use Rattle.cb_core.specs.Unavailable.{TurnTells};
 ghost use Rattle.cb_shared.specs.Making.{MakesNew};
 ghost use Rattle.cb_shared.specs.Passes.{IsAtRest, IsPassOf};
 ghost use Rattle.cb_shared.specs.Places.{IsOf};
 ghost use Rattle.cb_shared.specs.Turning.{KnowsOf, TurnBy};
-ghost use Rattle.cb_shared.specs.UnderLock.{IsBeginning, TurnWith, TurnedBy};
+ghost use Rattle.cb_shared.specs.UnderLock.{TurnedBy};
 
 use crate::board::{Place, Top};
 use crate::calling::is_to_try_again;

@@ -45,20 +45,9 @@ pub(crate) fn work<R: Wait>(
     ensures no_frame { IfOk result (λ reply. reply ≡ answer.NoFrame → ⊥) }
     ensures unavailable { IfOk result (λ reply. TurnTells job.now far.old reply) }
 {
-    match read_of(job) {
-        Some(h) => read_by_seat(rt, top, seat, config, far, alloc, h),
-        None => turn_by_seat(rt, top, seat, config, far, alloc, job),
-    }
-}
-
-/// The object that a job reads, None where the job is another one.
-fn read_of(job: &Job) -> Option<Handle>
-    ensures read { (h : Handle) → result ≡ Some h → job.now ≡ jobs.Read h }
-    ensures other { result ≡ None → IsNoRead job.now }
-{
     match job {
-        Job::Read { handle } => Some(*handle),
-        _ => None,
+        Job::Read { handle } => read_by_seat(rt, top, seat, config, far, alloc, *handle),
+        _ => turn_by_seat(rt, top, seat, config, far, alloc, job),
     }
 }
 

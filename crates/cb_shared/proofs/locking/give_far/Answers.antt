@@ -1,4 +1,4 @@
-use Rattle.std.proofs.Common.{◌≡◌, ◌≤◌, ◌∙◌, ◌*◌, ℕ, List, [], ◌∷◌, None, Some, ap, sym, subst, arith}
+use Rattle.std.proofs.Common.{◌≤◌, ◌∙◌, ◌*◌, ℕ, List, ◌∷◌, None, Some, ap, sym, subst, arith}
 use Rattle.atomic_table.specs.Table.{rest}
 use Rattle.cb_rule.specs.declared.view.View.{View}
 use Rattle.cb_rule.specs.Slot.{LockSlot, Sat}

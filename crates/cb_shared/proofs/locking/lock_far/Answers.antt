@@ -1,5 +1,5 @@
-use Rattle.std.proofs.Common.{◌∙◌, refl}
-use Rattle.cb_shared.proofs.LockAlone.{takes_from}
+use Rattle.std.proofs.Common.{refl}
+use Rattle.cb_shared.proofs.LockAlone.{not_moved_twice, takes_from}
 use Rattle.cb_shared.proofs.WriteSteps.{of_moves}
 use Rattle.cb_shared.proofs.locking.lock_far.Goals as goal
 
@@ -20,8 +20,5 @@ returns-in-Some-take_far-clause-first g c =
     c.take_far.ensures.first c.in-Some-take_far.far c.in-Some-take_far.is
 
 pub loop-preserved : goal.loop-preserved
-loop-preserved g c = let i = c.loop.invariant in let m = c.take_far.ensures.lost c.in-None-take_far.is in (
-  m.0 ∙ i.0,
-  m.1 ∙ i.1,
-  m.2 ∙ i.2,
-)
+loop-preserved g c = not_moved_twice c.args.seat.now c.loop.seat c.take_far.new.seat c.loop.invariant
+    (c.take_far.ensures.lost c.in-None-take_far.is)

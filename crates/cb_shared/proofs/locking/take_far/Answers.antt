@@ -1,9 +1,7 @@
-use Rattle.std.proofs.Common.{◌≡◌, ◌∙◌, ℕ, List, ◌∷◌, Some, ap, sym, subst, arith}
+use Rattle.std.proofs.Common.{◌∙◌, ℕ, List, ◌∷◌, Some, ap, sym, subst, arith}
 use Rattle.atomic_table.specs.Table.{rest}
-use Rattle.cb_world.specs.FarState.{FarState}
 use Rattle.cb_rule.specs.LockSteps.{HasTaken}
 use Rattle.cb_rule.specs.Slot.{LockSlot, Sat}
-use Rattle.cb_shared.specs.UnderLock.{TakesFar}
 use Rattle.cb_shared.proofs.LockAlone.{none_taken, takes_far, takes_lock_at}
 use Rattle.cb_shared.proofs.locking.take_far.Goals as goal
 

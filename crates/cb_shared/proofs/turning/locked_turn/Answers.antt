@@ -1,6 +1,6 @@
 use Rattle.std.proofs.Common.{◌∙◌, ap, sym, arith}
 use Rattle.cb_rule.specs.Slot.{Sat}
-use Rattle.cb_shared.proofs.AfterTurn.{begins_taken, ends_work, knows_taken, of_taken, of_work, pins_taken, slots_taken, took_as, turn_with, turned_by}
+use Rattle.cb_shared.proofs.AfterTurn.{at_end, begins_taken, ends_work, knows_taken, of_taken, of_work, pins_taken, slots_taken, took_as, turn_with, turned_by}
 use Rattle.cb_shared.proofs.MadeFirst.{makes_new}
 use Rattle.cb_shared.proofs.turning.locked_turn.Goals as goal
 
@@ -51,12 +51,13 @@ give_far-requires-clause-ends g c = ends_work c.args.config.now c.args.job.now c
     c.lock_far-far.ensures.took)) c.work-reply.ensures.work
 
 pub returns-clause-same : goal.returns-clause-same
-returns-clause-same g c = let t = c.lock_far-far.ensures.took in
-    let w = c.work-reply.ensures.work.moves in let e = c.give_far.ensures.at in (
-      e.0 ∙ w.0 ∙ t.at.0,
-      e.1 ∙ w.1 ∙ t.at.1,
-      ap (λ (m : Sat). m.1) e.2,
-    )
+returns-clause-same g c = at_end c.args.config.now c.args.job.now c.work-reply.result
+    c.deref_mut.result.now c.work-reply.new.far c.args.seat.now c.lock_far-far.new.seat
+    c.work-reply.new.seat c.give_far.new.seat
+    (took_as c.args.config.now c.deref_mut.result.now c.lock_far-far.result
+    c.args.seat.now c.lock_far-far.new.seat (c.deref_mut.ensures.value ∙ c.far.view_is)
+    c.lock_far-far.ensures.took)
+    c.work-reply.ensures.work c.give_far.ensures
 
 pub returns-clause-turn : goal.returns-clause-turn
 returns-clause-turn g c = turned_by c.args.config.now c.args.job.now c.work-reply.result

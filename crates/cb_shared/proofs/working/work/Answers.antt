@@ -1,39 +1,58 @@
-use Rattle.std.proofs.Common.{sym, subst}
+use Rattle.std.proofs.Common.{◌≡◌, refl, sym, subst}
 use Rattle.std.specs.Prelude.{IfOk}
+use Rattle.cb_types.specs.declared.handle.Handle.{Handle}
 use Rattle.cb_types.specs.declared.job.Job.{Job}
+use Rattle.cb_types.specs.declared.job.Job.TheVariants as jobs
 use Rattle.cb_core.specs.Jobs.{IsJob}
 use Rattle.cb_core.specs.Unavailable.{TurnTells}
 use Rattle.cb_shared.specs.Turning.{KnowsOf}
-use Rattle.cb_shared.specs.UnderLock.{WorkBy}
+use Rattle.cb_shared.specs.UnderLock.{IsNoRead, WorkBy}
 use Rattle.cb_shared.proofs.AfterTurn.{holds_begun}
 use Rattle.cb_shared.proofs.ReadTurns.{work_done}
 use Rattle.cb_shared.proofs.working.work.Goals as goal
 
+no_read : (job : Job) → ((h : Handle) → job ≡ jobs.Read h → ⊥) → IsNoRead job
+no_read (jobs.Read h) not = not h refl
+no_read job not = tt
+
 pub read_by_seat-requires-clause-handle : goal.read_by_seat-requires-clause-handle
 read_by_seat-requires-clause-handle g c = subst (IsJob c.args.config.now)
-    (c.read_of.ensures.read c.in-Some.h c.in-Some.is) c.requires.job
+    c.in-Read.is c.requires.job
 
 pub read_by_seat-requires-clause-knows : goal.read_by_seat-requires-clause-knows
 read_by_seat-requires-clause-knows g c = subst (λ (j : Job). KnowsOf j c.args.seat.now.me.0)
-    (c.read_of.ensures.read c.in-Some.h c.in-Some.is) c.requires.knows
+    c.in-Read.is c.requires.knows
 
-pub turn_by_seat-requires-clause-holds : goal.turn_by_seat-requires-clause-holds
-turn_by_seat-requires-clause-holds g c = holds_begun c.args.top.now.table_id
-    c.args.top.now.key c.args.config.now c.args.far.now c.args.seat.now c.requires.of
-    c.requires.begins
+pub turn_by_seat-requires : goal.turn_by_seat-requires
+turn_by_seat-requires g c = record {
+  holds = holds_begun c.args.top.now.table_id c.args.top.now.key c.args.config.now c.args.far.now
+      c.args.seat.now c.requires.of c.requires.begins;
+  config = c.requires.config;
+  job = c.requires.job;
+  other = no_read c.args.job.now c.in_default.not-Read;
+  knows = c.requires.knows;
+  stood = c.requires.begins.stood;
+  idle = c.requires.begins.idle;
+  fresh = c.requires.begins.fresh;
+}
 
-pub returns-in-Some-clause-work : goal.returns-in-Some-clause-work
-returns-in-Some-clause-work g c = subst (λ (j : Job). WorkBy c.args.config.now j
+pub returns-in-Read-clause-work : goal.returns-in-Read-clause-work
+returns-in-Read-clause-work g c = subst (λ (j : Job). WorkBy c.args.config.now j
     c.read_by_seat.result c.args.far.now c.read_by_seat.new.far c.args.seat.now
-    c.read_by_seat.new.seat) (sym (c.read_of.ensures.read c.in-Some.h c.in-Some.is))
+    c.read_by_seat.new.seat) (sym c.in-Read.is)
     c.read_by_seat.ensures.work
 
-pub returns-in-Some-clause-unavailable : goal.returns-in-Some-clause-unavailable
-returns-in-Some-clause-unavailable g c = subst (λ (j : Job).
+pub returns-in-Read-clause-unavailable : goal.returns-in-Read-clause-unavailable
+returns-in-Read-clause-unavailable g c = subst (λ (j : Job).
     IfOk c.read_by_seat.result (λ reply. TurnTells j c.args.far.now reply))
-    (sym (c.read_of.ensures.read c.in-Some.h c.in-Some.is)) c.read_by_seat.ensures.unavailable
+    (sym c.in-Read.is) c.read_by_seat.ensures.unavailable
 
-pub returns-in-None-clause-work : goal.returns-in-None-clause-work
-returns-in-None-clause-work g c = work_done c.args.config.now c.args.job.now c.turn_by_seat.result
-    c.args.far.now c.turn_by_seat.new.far c.args.seat.now c.turn_by_seat.new.seat
-    (c.read_of.ensures.other c.in-None.is) c.requires.begins.fresh c.turn_by_seat.ensures.turn
+pub returns-in_default : goal.returns-in_default
+returns-in_default g c = record {
+  work = work_done c.args.config.now c.args.job.now c.turn_by_seat.result c.args.far.now
+      c.turn_by_seat.new.far c.args.seat.now c.turn_by_seat.new.seat
+      (no_read c.args.job.now c.in_default.not-Read) c.requires.begins.fresh
+      c.turn_by_seat.ensures.turn;
+  no_frame = c.turn_by_seat.ensures.no_frame;
+  unavailable = c.turn_by_seat.ensures.unavailable;
+}
