@@ -14,9 +14,9 @@ ghost use Rattle.cb_shared.specs.Writing.{IsRoomFor, IsWriteRefusal, WriteAt, Wr
 
 use crate::answers::WriteAnswer;
 use crate::board::{Place, Top};
-use crate::own::{claim_here, load_own, put_back, settle_own, stamp_own, store_own, version_own};
 use crate::pass::Pass;
 use crate::pins::glance;
+use crate::plays::{ClaimHere, Date, PutBack, ReadHeld, SettleHere, StampHere, StoreHere};
 use crate::runtime::Shared;
 use byteorder::{ByteOrder, LittleEndian};
 use cb_mutate::merged;
@@ -111,7 +111,7 @@ fn write_at(
     ensures rest { IsAtRest config.now seat.new.me.0 }
     ensures write { WriteAt h saw at bytes.now result seat.old.me.0 seat.new.me.0 }
 {
-    let found = claim_here(top, seat, config, h, saw);
+    let found = top.compare_exchange::<ClaimHere>(seat, 1 + h as usize, saw, claimed(saw));
     if found != saw {
         return WriteAnswer::Raced { saw, found };
     }
@@ -136,15 +136,17 @@ fn write_claimed(
     ensures { (v : ℕ) (words : List ℕ) → IsFreshClaim config.now h word v words seat.old
         → WriteClaimed h word at bytes.now v words result seat.old seat.new }
 {
-    let version = version_own(top, seat, config, h);
+    let stamp = 1 + config.handles as usize + h as usize;
+    let version = top.load::<Date>(seat, stamp);
     if version == u64::MAX {
-        put_back(top, seat, config, h, word);
+        top.store::<PutBack>(seat, 1 + h as usize, word);
         return WriteAnswer::Worn;
     }
     let place = unpack(word).place;
     overwrite_own(top, seat, config, place, at, bytes);
-    stamp_own(top, seat, config, h, version + 1);
-    settle_own(top, seat, config, h, settled(claimed(word), place, true));
+    top.store::<StampHere>(seat, stamp, version + 1);
+    let next = settled(claimed(word), place, true);
+    top.store::<SettleHere>(seat, 1 + h as usize, next);
     WriteAnswer::Ok {
         version: version + 1,
     }
@@ -163,15 +165,16 @@ fn overwrite_own(top: &Top, seat: &mut Place, config: &Config, place: u32, at: u
         × Moves seat.old seat.new (with_only (with_memory new x) seat.old.me.0) }
 {
     let end = at + bytes.len() as u32;
+    let handles = config.handles as usize;
     let first = place as usize;
     for i in at / 8..end.div_ceil(8) {
         let word = merged_own(top, seat, config, first + i as usize, 8 * i, at, bytes);
-        store_own(top, seat, config, first + i as usize, word);
+        top.store::<StoreHere>(seat, 1 + handles + handles + first + i as usize, word);
     }
 }
 
 /// The word of a claimed object whose first byte is the object's byte `first`, with these bytes. It
-/// is loaded where a part of it stays.
+/// is loaded where a part of it stays; where the bytes cover all of it, eight of them are loaded at once.
 fn merged_own(
     top: &Top,
     seat: &mut Place,
@@ -191,19 +194,11 @@ fn merged_own(
 {
     let end = at + bytes.len() as u32;
     if at <= first && first + 8 <= end {
-        return whole_word(first, at, bytes);
+        let from = (first - at) as usize;
+        return LittleEndian::read_u64(&bytes[from..from + 8]);
     }
-    let old = load_own(top, seat, config, place);
+    let config = *config;
+    let handles = config.handles as usize;
+    let old = top.load::<ReadHeld>(seat, 1 + handles + handles + place);
     merged(old, first, at, bytes)
-}
-
-/// The word whose first byte is the object's byte `first`, where these bytes cover all of it: one
-/// load of eight of them, and no part of the old word stays.
-fn whole_word(first: u32, at: u32, bytes: &[u8]) -> u64
-    requires from { at ≤ first }
-    requires end { first + 8 ≤ at + length bytes.now }
-    ensures { (old : ℕ) → IsWordMerged old first at bytes.now result }
-{
-    let from = (first - at) as usize;
-    LittleEndian::read_u64(&bytes[from..from + 8])
 }
