@@ -15,9 +15,10 @@ ghost use Rattle.cb_shared.specs.Places.{IsOf, Moves};
 
 use crate::answers::PinAnswer;
 use crate::board::{Place, Top};
-use crate::handles::{MOST_PINS, Pins, add_pin, newest, remove_pin};
+use crate::handles::{MOST_PINS, Pins, newest};
 use crate::pass::{Pass, Pin};
-use crate::pins::{give_pin, glance, peek_word, take_pin, tell_version};
+use crate::pins::{give_pin, glance, take_pin, tell_version};
+use crate::plays::Peek;
 use crate::runtime::Shared;
 use cb_ptr::{State, unpack};
 use cb_types::{Config, Handle};
@@ -59,7 +60,11 @@ impl Shared {
         ensures peeked { pass.new.seat.me.0 ≡ with_peek pin.now.handle.n pin.now.version index result
             pass.old.seat.me.0 }
     {
-        peek_word(&self.board.shared, &mut pass.seat, &self.config, pin, index)
+        let handles = self.config.handles as usize;
+        self.board.shared.load::<Peek>(
+            &mut pass.seat,
+            1 + handles + handles + pin.place as usize + index as usize,
+        )
     }
 
     /// The version of a pinned object: one load of its version word. No one writes an object while it
@@ -160,7 +165,7 @@ fn pin_at(
     if found != saw {
         return PinAnswer::Raced { saw, found };
     }
-    add_pin(pins, h.n);
+    pins.insert(0, h.n);
     let version = tell_version(top, seat, config, h.n);
     let fields = unpack(saw);
     PinAnswer::Pinned(Pin {
@@ -181,6 +186,6 @@ pub(crate) fn unpin_one(top: &Top, seat: &mut Place, pins: &mut Pins, config: &C
     ensures pins { (padded_value pins.new).items ≡ handles_of seat.new.me.0.pins }
 {
     let at = newest(pins.as_slice(), h);
-    remove_pin(pins, at);
+    pins.remove(at);
     give_pin(top, seat, config, h);
 }

@@ -13,7 +13,8 @@ ghost use Rattle.cb_shared.specs.Places.{IsOf, Moves};
 ghost use Rattle.cb_shared.specs.Reading.{IsReadRefusal, IsUnderPin, ReadAt, ReadMoves, looked};
 
 use crate::board::{Place, Top};
-use crate::pins::{give_pin, glance, read_word, take_pin, tell_version};
+use crate::pins::{give_pin, glance, take_pin, tell_version};
+use crate::plays::ReadPin;
 use cb_ptr::{State, unpack};
 use cb_types::{Bytes, Config, NoMemory};
 use std::alloc::Global;
@@ -132,9 +133,11 @@ fn load_into(top: &Top, seat: &mut Place, config: &Config, place: u32, room: &mu
     ensures bytes { (p : Stand) → IsUnderPin p place (length room.old) seat.old
         → room.new ≡ bytes_in p.words (length room.old) }
 {
-    let first = place as usize;
+    let config = *config;
+    let handles = config.handles as usize;
+    let first = 1 + handles + handles + place as usize;
     for i in 0..room.len().div_ceil(8) {
-        let word = read_word(top, seat, config, first + i);
+        let word = top.load::<ReadPin>(seat, first + i);
         put_word(room, i, word);
     }
 }

@@ -28,7 +28,8 @@ impl Shared {
         ensures left { pass.new.seat.me.0 ≡ left_of share pass.old.seat.me.0 }
         ensures right { result.seat.me.0 ≡ right_of share pass.old.seat.me.0 }
     {
-        let seat = split_off(&self.board.shared, pass, &self.config, share);
+        let seat = split_seat::<Brand>(&self.board.shared, &mut pass.seat, &self.config, share);
+        pass.share -= share;
         Pass {
             seat,
             share,
@@ -56,20 +57,7 @@ impl Shared {
     }
 }
 
-/// A new seat with so much of the share of a pass.
-fn split_off(top: &Top, pass: &mut Pass, config: &Config, share: u32) -> Place
-    requires of { IsOf top.now.table_id top.now.key config.now pass.old.seat }
-    requires share { (1 ≤ share) × (share < pass.old.seat.me.0.share) }
-    requires fresh { pass.old.seat.me.0.fresh ≡ [] }
-    ensures left { Moves pass.old.seat pass.new.seat (left_of share pass.old.seat.me.0) }
-    ensures right { (result.table_id ≡ pass.old.seat.table_id)
-        × (result.me ≡ (right_of share pass.old.seat.me.0, [])) }
-{
-    let seat = split_seat::<Brand>(top, &mut pass.seat, config, share);
-    pass.share -= share;
-    seat
-}
-
+/// A new seat with so much of the share of this one.
 fn split_seat<W: Given>(top: &Top, seat: &mut Place, config: &Config, share: u32) -> Place
     requires of { IsOf top.now.table_id top.now.key config.now seat.old }
     requires picks { W.share ≡ share }
@@ -91,26 +79,12 @@ pub(crate) fn give_back(top: &Top, pass: &mut Pass, config: &Config)
     ensures { Moves pass.old.seat pass.new.seat (unpinned_all pass.old.seat.me.0) }
 {
     while let Some(h) = first_handle(&pass.pins) {
-        give_first(top, pass, config, h);
+        unpin_one(top, &mut pass.seat, &mut pass.pins, config, h);
     }
 }
 
-/// Gives the newest pin of a pass back, which is on this object.
-fn give_first(top: &Top, pass: &mut Pass, config: &Config, h: u32)
-    requires of { IsOf top.now.table_id top.now.key config.now pass.old.seat }
-    requires pins { Each (PinFits config.now) pass.old.seat.me.0.pins }
-    requires first { (rest : List ℕ) × ((padded_value pass.old.pins).items ≡ h ∷ rest) }
-    ensures of { IsOf top.now.table_id top.now.key config.now pass.new.seat }
-    ensures pins { Each (PinFits config.now) pass.new.seat.me.0.pins }
-    ensures moved { Moves pass.old.seat pass.new.seat
-        (record pass.old.seat.me.0 { pins = pass.new.seat.me.0.pins }) }
-    ensures shorter { length (padded_value pass.new.pins).items
-        < length (padded_value pass.old.pins).items }
-{
-    unpin_one(top, &mut pass.seat, &mut pass.pins, config, h);
-}
-
-/// A pass takes in a seat that has this share, and whose newest turn is made again or not.
+/// A pass takes in a seat that has this share, and whose newest turn is made again or not. A look
+/// tells how large the share may be.
 fn join_in(
     top: &Top,
     pass: &mut Pass,
@@ -132,19 +106,10 @@ fn join_in(
     join_seats::<Brand>(top, &mut pass.seat, other, config);
     pass.share += share;
     pass.tries = tries.or(pass.tries);
-    tally(top, &mut pass.seat, config);
+    top.load::<Tally>(&mut pass.seat, 0);
 }
 
-/// A look that tells how large the share may be.
-fn tally(top: &Top, seat: &mut Place, config: &Config)
-    requires of { IsOf top.now.table_id top.now.key config.now seat.old }
-    ensures same { Moves seat.old seat.new seat.old.me.0 }
-    ensures most { seat.old.me.0.share ≤ 64 }
-{
-    let _config = *config;
-    top.load::<Tally>(seat, 0);
-}
-
+/// A seat takes another in.
 fn join_seats<W: Keyed>(top: &Top, seat: &mut Place, other: Place, config: &Config)
     requires of { IsOf top.now.table_id top.now.key config.now seat.old }
     requires picks { W.key ≡ config.now }
