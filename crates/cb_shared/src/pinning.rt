@@ -39,13 +39,18 @@ impl Shared {
         if pass.pins.len() == MOST_PINS {
             return PinAnswer::ScopeFull;
         }
-        pin_looked(
-            &self.board.shared,
-            &mut pass.seat,
-            &mut pass.pins,
-            &self.config,
-            h,
-        )
+        let saw = glance(&self.board.shared, &mut pass.seat, &self.config, h.n);
+        match refuse_pin(saw) {
+            Some(answer) => answer,
+            None => pin_at(
+                &self.board.shared,
+                &mut pass.seat,
+                &mut pass.pins,
+                &self.config,
+                h,
+                saw,
+            ),
+        }
     }
 
     /// The word of a pinned object with this index, below the number of words that hold its bytes:
@@ -115,26 +120,6 @@ fn refuse_pin(word: u64) -> Option<PinAnswer>
         State::Moving => Some(PinAnswer::Moving),
         State::Here if fields.pins == MOST_COUNTED => Some(PinAnswer::Crowded),
         State::Here => None,
-    }
-}
-
-/// The look at the word, and the pin where it is one that can be pinned.
-fn pin_looked(top: &Top, seat: &mut Place, pins: &mut Pins, config: &Config, h: Handle) -> PinAnswer
-    requires of { IsOf top.now.table_id top.now.key config.now seat.old }
-    requires rest { IsAtRest config.now seat.old.me.0 }
-    requires knows { Knows h.n seat.old.me.0 }
-    requires pins { (padded_value pins.old).items ≡ handles_of seat.old.me.0.pins }
-    requires room { length seat.old.me.0.pins < 16 }
-    ensures table { (seat.new.table_id ≡ seat.old.table_id) × (seat.new.me.1 ≡ seat.old.me.1) }
-    ensures share { seat.new.me.0.share ≡ seat.old.me.0.share }
-    ensures rest { IsAtRest config.now seat.new.me.0 }
-    ensures pins { (padded_value pins.new).items ≡ handles_of seat.new.me.0.pins }
-    ensures pin { PinGives h.n result seat.old.me.0 seat.new.me.0 }
-{
-    let saw = glance(top, seat, config, h.n);
-    match refuse_pin(saw) {
-        Some(answer) => answer,
-        None => pin_at(top, seat, pins, config, h, saw),
     }
 }
 

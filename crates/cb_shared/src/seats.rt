@@ -50,10 +50,12 @@ impl Shared {
     {
         let mut other = other;
         give_back(&self.board.shared, &mut other, &self.config);
-        let share = other.share;
-        let tries = other.tries;
+        pass.share += other.share;
+        pass.tries = other.tries.or(pass.tries);
         let Pass { seat, .. } = other;
-        join_in(&self.board.shared, pass, seat, share, tries, &self.config);
+        join_seats::<Brand>(&self.board.shared, &mut pass.seat, seat, &self.config);
+        // a look tells how large the share may be
+        self.board.shared.load::<Tally>(&mut pass.seat, 0);
     }
 }
 
@@ -81,32 +83,6 @@ pub(crate) fn give_back(top: &Top, pass: &mut Pass, config: &Config)
     while let Some(h) = first_handle(&pass.pins) {
         unpin_one(top, &mut pass.seat, &mut pass.pins, config, h);
     }
-}
-
-/// A pass takes in a seat that has this share, and whose newest turn is made again or not. A look
-/// tells how large the share may be.
-fn join_in(
-    top: &Top,
-    pass: &mut Pass,
-    other: Place,
-    share: u32,
-    tries: Option<bool>,
-    config: &Config,
-)
-    requires of { IsOf top.now.table_id top.now.key config.now pass.old.seat }
-    requires other { IsSpare top.now.table_id other }
-    requires share { share ≡ other.me.0.share }
-    requires tries { tries ≡ newest_tries config.now other.me.0.turns }
-    requires few { (pass.old.seat.me.0.share ≤ 64) × (share ≤ 64) }
-    requires fresh { pass.old.seat.me.0.fresh ≡ [] }
-    ensures joined { Moves pass.old.seat pass.new.seat
-        (joined pass.old.seat.me.0 other.me.0) }
-    ensures most { pass.new.seat.me.0.share ≤ 64 }
-{
-    join_seats::<Brand>(top, &mut pass.seat, other, config);
-    pass.share += share;
-    pass.tries = tries.or(pass.tries);
-    top.load::<Tally>(&mut pass.seat, 0);
 }
 
 /// A seat takes another in.

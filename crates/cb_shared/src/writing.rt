@@ -34,14 +34,12 @@ impl Shared {
         ensures of { IsPassOf self.now pass.new }
         ensures write { WriteGives h.n at bytes.now result pass.old.seat.me.0 pass.new.seat.me.0 }
     {
-        write_looked(
-            &self.board.shared,
-            &mut pass.seat,
-            &self.config,
-            h.n,
-            at,
-            bytes,
-        )
+        let top = &self.board.shared;
+        let saw = glance(top, &mut pass.seat, &self.config, h.n);
+        match refuse_write(saw, at, bytes.len()) {
+            Some(answer) => answer,
+            None => write_at(top, &mut pass.seat, &self.config, h.n, saw, at, bytes),
+        }
     }
 }
 
@@ -61,31 +59,6 @@ fn refuse_write(word: u64, at: u32, count: usize) -> Option<WriteAnswer>
         }
         State::Here if fields.pins > 0 => Some(WriteAnswer::Pinned { count: fields.pins }),
         State::Here => None,
-    }
-}
-
-/// The look at the word, and the write where it is one that can be claimed.
-fn write_looked(
-    top: &Top,
-    seat: &mut Place,
-    config: &Config,
-    h: u32,
-    at: u32,
-    bytes: &[u8],
-) -> WriteAnswer
-    requires of { IsOf top.now.table_id top.now.key config.now seat.old }
-    requires rest { IsAtRest config.now seat.old.me.0 }
-    requires knows { Knows h seat.old.me.0 }
-    ensures table { (seat.new.table_id ≡ seat.old.table_id) × (seat.new.me.1 ≡ seat.old.me.1) }
-    ensures share { seat.new.me.0.share ≡ seat.old.me.0.share }
-    ensures pins { seat.new.me.0.pins ≡ seat.old.me.0.pins }
-    ensures rest { IsAtRest config.now seat.new.me.0 }
-    ensures write { WriteGives h at bytes.now result seat.old.me.0 seat.new.me.0 }
-{
-    let saw = glance(top, seat, config, h);
-    match refuse_write(saw, at, bytes.len()) {
-        Some(answer) => answer,
-        None => write_at(top, seat, config, h, saw, at, bytes),
     }
 }
 

@@ -5,6 +5,7 @@ use Rattle.cb_rule.specs.declared.view.View.{View}
 use Rattle.cb_rule.specs.Lists.{Has}
 use Rattle.cb_rule.specs.Slot.{Sat}
 use Rattle.cb_rule.specs.Words.{base}
+use Rattle.cb_shared.specs.Places.{Moves}
 use Rattle.cb_shared.proofs.PinsAlone.{reads_pin_at}
 use Rattle.cb_shared.proofs.ReadBytes.{filled_all, filled_more}
 use Rattle.cb_shared.proofs.ReadSteps.{moves_then}
@@ -35,7 +36,7 @@ put_word-requires c =
 pub loop-i-preserved : goal.loop-i-preserved
 loop-i-preserved c = let inv = c.loop-i.invariant in let i = c.loop-i.i in
     let e = c.load-word.ensures in
-    let same = (e.0, e.1, e.2.0) in let put = c.put_word.ensures in (
+    let same : Moves c.loop-i.seat c.load-word.new.seat c.loop-i.seat.me.0 = (e.0, e.1, e.2.0) in let put = c.put_word.ensures in (
       of_moves c.args.top.now.table_id c.args.top.now.key c.args.config.now c.loop-i.seat
           c.load-word.new.seat c.loop-i.seat.me.0 inv.0 same refl refl,
       moves_then c.args.seat.now c.loop-i.seat c.load-word.new.seat (λ (x : View). x)
