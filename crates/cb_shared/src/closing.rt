@@ -1,15 +1,8 @@
 //! A runtime is closed.
-ghost use Rattle.std.specs.Prelude.{◌≡◌, ◌<◌, ◌≤◌, ◌+◌, ◌*◌, ℕ, true, false, Some, replicate, slice_index, IfOk, IfErr};
-ghost use Rattle.std.specs.Slots.{IsFull, slots_items, slots_len};
-ghost use mathlib.Core.Option.{some};
-ghost use lib.ListN.{get_elem?};
+ghost use Rattle.std.specs.Prelude.{◌≡◌, ◌<◌, ◌≤◌, true, false, replicate, IfOk, IfErr};
 ghost use Rattle.cb_types.specs.Config.{IsAccepted};
 ghost use Rattle.cb_world.specs.Empty.{empty_words};
-ghost use Rattle.cb_world.specs.FarState.{FarState};
-ghost use Rattle.cb_world.specs.Plain.{IsSized};
 ghost use Rattle.cb_world.specs.Seats.{idle_seat};
-ghost use Rattle.cb_rule.specs.Closing.{desk_of};
-ghost use Rattle.cb_rule.specs.Words.{base};
 ghost use Rattle.cb_shared.specs.Closing.{IsClosedBy, RefusesToClose};
 ghost use Rattle.cb_shared.specs.Passes.{IsPassOf};
 

@@ -1,12 +1,10 @@
 //! Passes that are split and joined.
-ghost use Rattle.std.specs.Prelude.{◌≡◌, ℕ, ◌<◌, ◌≤◌, List, [], ◌∷◌, false, length};
-ghost use Rattle.crossbeam_utils.specs.Padded.{padded_value};
+ghost use Rattle.std.specs.Prelude.{◌≡◌, ◌<◌, ◌≤◌, [], false};
 ghost use Rattle.cb_rule.specs.Lists.{Each};
 ghost use Rattle.cb_rule.specs.Steps.{joined, left_of, right_of};
 ghost use Rattle.cb_shared.specs.Passes.{IsPassOf, PinFits};
 ghost use Rattle.cb_shared.specs.Joining.{IsSpare, unpinned_all};
 ghost use Rattle.cb_shared.specs.Places.{IsOf, Moves};
-ghost use Rattle.cb_shared.specs.Trying.{newest_tries};
 
 use crate::board::{Place, Top};
 use crate::handles::{first_handle, no_pins};

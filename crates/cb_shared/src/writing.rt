@@ -1,6 +1,5 @@
-ghost use Rattle.std.specs.Prelude.{◌≡◌, ◌≢◌, ℕ, ◌+◌, ◌*◌, ◌^◌, ◌<◌, ◌≤◌, List, [], ◌∷◌, length, slice_index, Option, None, Some};
-ghost use Rattle.cb_ptr.specs.declared.word.State.TheVariants as state;
-ghost use Rattle.cb_ptr.specs.Word.{len_of, pins_of, place_of, state_of};
+ghost use Rattle.std.specs.Prelude.{◌≡◌, ℕ, ◌+◌, ◌*◌, ◌^◌, ◌<◌, List, length, slice_index, Option, None, Some};
+ghost use Rattle.cb_ptr.specs.Word.{pins_of};
 ghost use Rattle.cb_world.specs.Memory.{words_for};
 ghost use Rattle.cb_world.specs.Write.{IsWrite};
 ghost use Rattle.cb_mutate.specs.Merged.{IsWordMerged};
