@@ -67,7 +67,8 @@ fn still_world(alloc: Global, config: Config) -> Result<Still, NoMemory>
     Ok(Still { desk, seats })
 }
 
-/// Closes the runtime with the pass that has the whole share, and gives the memory of the table back.
+/// Closes the runtime with the pass that has the whole share, and gives the memory of the table
+/// back.
 fn close_whole(shared: Shared, pass: Pass, still: Still) -> (World, Seal)
     requires of { IsPassOf shared pass }
     requires whole { pass.seat.me.0.share ≡ 64 }

@@ -146,7 +146,8 @@ fn overwrite_own(top: &Top, seat: &mut Place, config: &Config, place: u32, at: u
 }
 
 /// The word of a claimed object whose first byte is the object's byte `first`, with these bytes. It
-/// is loaded where a part of it stays; where the bytes cover all of it, eight of them are loaded at once.
+/// is loaded where a part of it stays; where the bytes cover all of it there is one load of eight
+/// of them.
 fn merged_own(
     top: &Top,
     seat: &mut Place,

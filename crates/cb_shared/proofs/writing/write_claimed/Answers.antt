@@ -105,21 +105,21 @@ returns-then-version c v words f =
     let last = sym (found _ _ _ _ _ _ _ l c.args.word v words f) ∙ c.if-version.true in (
       last,
       (
-      b.0 ∙ l.same.0,
-      b.1 ∙ l.same.1,
-      b.2 ∙ ap (λ (m : Sat).
-          let z : Sat = (back_only (held_at c.args.h c.args.word v words) m.0, m.1) in
-          z) l.same.2
-          ∙ ap (λ (n : ℕ).
-          let z : Sat = (
-            record c.args.seat.now.me.0 {
-              claims = [];
-              seen = version_seen c.args.h n (len_of c.args.word) words
-                  ∷ c.args.seat.now.me.0.seen;
-            },
-            c.args.seat.now.me.1,
-          ) in
-          z) last,
+        b.0 ∙ l.same.0,
+        b.1 ∙ l.same.1,
+        b.2 ∙ ap (λ (m : Sat).
+            let z : Sat = (back_only (held_at c.args.h c.args.word v words) m.0, m.1) in
+            z) l.same.2
+            ∙ ap (λ (n : ℕ).
+            let z : Sat = (
+              record c.args.seat.now.me.0 {
+                claims = [];
+                seen = version_seen c.args.h n (len_of c.args.word) words
+                    ∷ c.args.seat.now.me.0.seen;
+              },
+              c.args.seat.now.me.1,
+            ) in
+            z) last,
       ),
     )
 
@@ -162,16 +162,16 @@ store-requires-3 c = let r = c.requires.claim in let at = goal.at.store-requires
       may_settle c.args.top.now.table_id c.args.top.now.key c.args.config.now c.store-2.new.seat o
           (with_stamp n y) c.args.h (ap (λ (m : Sat). m.0.claims) s.2, refl) c.settled-next.result
           (record {
-        below = c.settled-next.ensures.below;
-        here = c.settled-next.ensures.state;
-        bare = c.settled-next.ensures.pins ∙ c.claimed.ensures.pins;
-        hot = c.settled-next.ensures.hot;
-        len = c.settled-next.ensures.len ∙ c.claimed.ensures.len;
-        place = c.settled-next.ensures.place
-            ∙ ap (λ (f : PtrWord). f.place) c.unpack-place.ensures.fields;
-        next = ap (λ (q : ℕ). q + 1) (found _ _ _ _ _ _ _ l c.args.word r.0 r.1 r.2);
-        write = (c.args.at, c.args.bytes.now, c.requires.room.1, w.1);
-      }),
+            below = c.settled-next.ensures.below;
+            here = c.settled-next.ensures.state;
+            bare = c.settled-next.ensures.pins ∙ c.claimed.ensures.pins;
+            hot = c.settled-next.ensures.hot;
+            len = c.settled-next.ensures.len ∙ c.claimed.ensures.len;
+            place = c.settled-next.ensures.place
+                ∙ ap (λ (f : PtrWord). f.place) c.unpack-place.ensures.fields;
+            next = ap (λ (q : ℕ). q + 1) (found _ _ _ _ _ _ _ l c.args.word r.0 r.1 r.2);
+            write = (c.args.at, c.args.bytes.now, c.requires.room.1, w.1);
+          }),
     )
 
 pub returns : goal.returns

@@ -1,4 +1,4 @@
-use Rattle.std.proofs.Common.{◌≡◌, ◌∙◌, ◌+◌, ℕ, List, sym, ap, subst, arith}
+use Rattle.std.proofs.Common.{◌∙◌, ◌+◌, sym, ap, subst, arith}
 use Rattle.cb_types.specs.declared.config.Config.{Config}
 use Rattle.cb_rule.specs.Slot.{Sat}
 use Rattle.cb_rule.specs.Steps.{with_peek}
@@ -27,11 +27,13 @@ load-requires c = let s = c.args.self.now in let p = c.requires.pin in (
 moved : (c : After-load) → Moves c.args.pass.now.seat c.load.new.seat
     (with_peek c.args.pin.now.handle.n c.args.pin.now.version c.args.index c.load.result
     c.args.pass.now.seat.me.0)
-moved c = let p = c.requires.pin in
-    (c.load.ensures.0, c.load.ensures.1,
-    (c.load.ensures.2 (stand_of c.args.pin.now p.0) c.args.index p.1 c.requires.index
-    (ap (λ (x : Config). base x + c.args.pin.now.place + c.args.index)
-    (sym c.requires.of.rest.config))).1)
+moved c = let p = c.requires.pin in (
+  c.load.ensures.0,
+  c.load.ensures.1,
+  (c.load.ensures.2 (stand_of c.args.pin.now p.0) c.args.index p.1 c.requires.index
+      (ap (λ (x : Config). base x + c.args.pin.now.place + c.args.index)
+      (sym c.requires.of.rest.config))).1,
+)
 
 pub invariant_of-pass : goal.invariant_of-pass
 invariant_of-pass c = let z = (moved c).2 in let p = c.args.pass.now in record {
