@@ -5,6 +5,7 @@ mod Unpinned
 mod PinsAlone
 mod SeatsAlone
 mod OwnAlone
+mod OwnSteps
 mod Only
 mod Parting
 mod Begun

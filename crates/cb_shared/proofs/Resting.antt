@@ -143,6 +143,10 @@ rest_glance c h w p q g below rest = ⊎_elim
     (λ (ne : state_of w ≢ state.Empty).
     rest_moved c p q (with_look h w p.me.0) (g.other ne) (rest_look c h w p.me.0 rest)) (by_state w)
 
+pub table_glance : (h w : ℕ) (p q : Place) → Glances h w p q → q.table_id ≡ p.table_id
+table_glance h w p q g = ⊎_elim (λ (e : state_of w ≡ state.Empty). (g.freed e).2.0)
+    (λ (ne : state_of w ≢ state.Empty). (g.other ne).0) (by_state w)
+
 pub view_of : (p q : Place) (w : View) → Moves p q w → q.me.0 ≡ w
 view_of p q w m = ap (λ (x : Sat). x.0) m.2
 

@@ -1,19 +1,12 @@
 //! A runtime is closed.
-ghost use Rattle.std.specs.Prelude.{◌≡◌, ◌<◌, ◌≤◌, ◌+◌, ◌*◌, ℕ, true, false, Some, replicate, slice_index, IfOk, IfErr};
-ghost use Rattle.std.specs.Slots.{IsFull, slots_items, slots_len};
-ghost use mathlib.Core.Option.{some};
-ghost use lib.ListN.{get_elem?};
+ghost use Rattle.std.specs.Prelude.{◌≡◌, ◌<◌, ◌≤◌, true, false, replicate, IfOk, IfErr};
 ghost use Rattle.cb_types.specs.Config.{IsAccepted};
 ghost use Rattle.cb_world.specs.Empty.{empty_words};
-ghost use Rattle.cb_world.specs.FarState.{FarState};
-ghost use Rattle.cb_world.specs.Plain.{IsSized};
 ghost use Rattle.cb_world.specs.Seats.{idle_seat};
-ghost use Rattle.cb_rule.specs.Closing.{desk_of};
-ghost use Rattle.cb_rule.specs.Words.{base};
 ghost use Rattle.cb_shared.specs.Closing.{IsClosedBy, RefusesToClose};
 ghost use Rattle.cb_shared.specs.Passes.{IsPassOf};
 
-use crate::filling::{Rows, fill, take_far};
+use crate::filling::{fill, take_far};
 use crate::pass::Pass;
 use crate::refused::CloseRefused;
 use crate::runtime::Shared;
@@ -74,7 +67,8 @@ fn still_world(alloc: Global, config: Config) -> Result<Still, NoMemory>
     Ok(Still { desk, seats })
 }
 
-/// Closes the runtime with the pass that has the whole share.
+/// Closes the runtime with the pass that has the whole share, and gives the memory of the table
+/// back.
 fn close_whole(shared: Shared, pass: Pass, still: Still) -> (World, Seal)
     requires of { IsPassOf shared pass }
     requires whole { pass.seat.me.0.share ≡ 64 }
@@ -87,28 +81,12 @@ fn close_whole(shared: Shared, pass: Pass, still: Still) -> (World, Seal)
     give_back(&board.shared, &mut pass, &config);
     let Pass { seat, .. } = pass;
     let draft = Draft::of(&seat);
-    let world = world_of(board.close_with(seat), still, &config);
-    let seal = draft.seal(&world);
-    (world, seal)
-}
-
-/// The world of a table that is closed, and gives the memory of the table back.
-fn world_of(rows: Rows, still: Still, config: &Config) -> World
-    requires accepted { IsAccepted config.now }
-    requires words { IsFull rows.words }
-    requires slots { IsFull rows.slots }
-    requires count { slots_len rows.words ≡ base config.now + 512 * config.now.frames }
-    requires one { slots_len rows.slots ≡ 1 }
-    requires home { (far : FarState) × (get_elem? (slots_items rows.slots) 0 ≡ some (Some far)) }
-    requires desk { (still.desk.settings ≡ config.now) × IsSized still.desk }
-    requires blank { (i : ℕ) → slice_index still.desk.memory i ≡ 0 }
-    ensures desk { result.desk ≡ desk_of config.now (slots_items rows.words) }
-    ensures far { get_elem? (slots_items rows.slots) 0 ≡ some (Some result.far) }
-    ensures seats { result.seats ≡ still.seats }
-{
+    let rows = board.close_with(seat);
     let Still { desk, seats } = still;
     let mut desk = desk;
-    fill(&rows, &mut desk, config);
+    fill(&rows, &mut desk, &config);
     let far = take_far(rows);
-    World { desk, far, seats }
+    let world = World { desk, far, seats };
+    let seal = draft.seal(&world);
+    (world, seal)
 }

@@ -19,15 +19,6 @@ use std::alloc::Global;
 /// The table of the words, which no seat shares any more.
 pub(crate) type Rows = Closed<Option<BoxedFar>, Global>;
 
-/// The word with this index.
-fn word(rows: &Rows, i: usize) -> u64
-    requires full { IsFull rows.now.words }
-    requires index { i < slots_len rows.now.words }
-    ensures { result ≡ slice_index (slots_items rows.now.words) i }
-{
-    rows.word(i)
-}
-
 /// Puts the pointer words of all objects.
 fn fill_words(rows: &Rows, desk: &mut PlainDesk, config: &Config)
     requires full { IsFull rows.now.words }
@@ -39,7 +30,7 @@ fn fill_words(rows: &Rows, desk: &mut PlainDesk, config: &Config)
     } }
 {
     for h in 0..config.handles {
-        let found = word(rows, 1 + h as usize);
+        let found = rows.word(1 + h as usize);
         desk.put_word(Handle { n: h }, found);
     }
 }
@@ -56,7 +47,7 @@ fn fill_versions(rows: &Rows, desk: &mut PlainDesk, config: &Config)
 {
     let first = 1 + config.handles as usize;
     for h in 0..config.handles {
-        let found = word(rows, first + h as usize);
+        let found = rows.word(first + h as usize);
         desk.stamp(Handle { n: h }, found);
     }
 }
@@ -88,7 +79,7 @@ fn fill_memory(rows: &Rows, desk: &mut PlainDesk, config: &Config)
 {
     let first = 1 + 2 * config.handles as usize;
     for place in 0..512 * config.frames {
-        let found = word(rows, first + place as usize);
+        let found = rows.word(first + place as usize);
         put_memory(desk, place, found);
     }
 }

@@ -1,6 +1,5 @@
 //! The handles that a pass has pinned.
 ghost use Rattle.std.specs.Prelude.{◌≡◌, ◌<◌, ◌≤◌, ℕ, List, [], ◌∷◌, length, IfSome, IfNone};
-ghost use Rattle.std.specs.List.{remove};
 ghost use Rattle.crossbeam_utils.specs.Padded.{padded_value};
 ghost use Rattle.cb_shared.specs.Handles.{IsFirstAt};
 
@@ -26,22 +25,6 @@ pub(crate) fn count_pins(pins: &Pins) -> usize
     ensures few { length (padded_value pins.now).items ≤ 16 }
 {
     pins.len()
-}
-
-/// Puts the newest pin before the others.
-pub(crate) fn add_pin(pins: &mut Pins, h: u32)
-    requires { length (padded_value pins.old).items < 16 }
-    ensures { (padded_value pins.new).items ≡ h ∷ (padded_value pins.old).items }
-{
-    pins.insert(0, h);
-}
-
-/// Takes out the pin at this place.
-pub(crate) fn remove_pin(pins: &mut Pins, at: usize)
-    requires { at < length (padded_value pins.old).items }
-    ensures { (padded_value pins.new).items ≡ remove (padded_value pins.old).items at }
-{
-    pins.remove(at);
 }
 
 /// The place of the newest pin on an object.

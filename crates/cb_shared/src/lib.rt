@@ -13,7 +13,6 @@ mod frames;
 mod freed;
 mod handles;
 mod locking;
-mod own;
 pub mod pass;
 mod pinning;
 mod pins;

@@ -1,4 +1,4 @@
-ghost use Rattle.std.specs.Prelude.{◌≡◌, ◌≢◌, ℕ, ◌<◌, List, ◌∷◌, length, slice_index, Option, None, Some};
+ghost use Rattle.std.specs.Prelude.{◌≡◌, ℕ, ◌<◌, List, length, slice_index, Option, None, Some};
 ghost use Rattle.crossbeam_utils.specs.Padded.{padded_value};
 ghost use Rattle.cb_ptr.specs.declared.word.State.TheVariants as state;
 ghost use Rattle.cb_ptr.specs.Word.{pins_of, state_of};
@@ -15,9 +15,10 @@ ghost use Rattle.cb_shared.specs.Places.{IsOf, Moves};
 
 use crate::answers::PinAnswer;
 use crate::board::{Place, Top};
-use crate::handles::{MOST_PINS, Pins, add_pin, newest, remove_pin};
+use crate::handles::{MOST_PINS, Pins, newest};
 use crate::pass::{Pass, Pin};
-use crate::pins::{give_pin, glance, peek_word, take_pin, tell_version};
+use crate::pins::{give_pin, glance, take_pin, tell_version};
+use crate::plays::Peek;
 use crate::runtime::Shared;
 use cb_ptr::{State, unpack};
 use cb_types::{Config, Handle};
@@ -38,13 +39,18 @@ impl Shared {
         if pass.pins.len() == MOST_PINS {
             return PinAnswer::ScopeFull;
         }
-        pin_looked(
-            &self.board.shared,
-            &mut pass.seat,
-            &mut pass.pins,
-            &self.config,
-            h,
-        )
+        let saw = glance(&self.board.shared, &mut pass.seat, &self.config, h.n);
+        match refuse_pin(saw) {
+            Some(answer) => answer,
+            None => pin_at(
+                &self.board.shared,
+                &mut pass.seat,
+                &mut pass.pins,
+                &self.config,
+                h,
+                saw,
+            ),
+        }
     }
 
     /// The word of a pinned object with this index, below the number of words that hold its bytes:
@@ -59,7 +65,11 @@ impl Shared {
         ensures peeked { pass.new.seat.me.0 ≡ with_peek pin.now.handle.n pin.now.version index result
             pass.old.seat.me.0 }
     {
-        peek_word(&self.board.shared, &mut pass.seat, &self.config, pin, index)
+        let handles = self.config.handles as usize;
+        self.board.shared.load::<Peek>(
+            &mut pass.seat,
+            1 + handles + handles + pin.place as usize + index as usize,
+        )
     }
 
     /// The version of a pinned object: one load of its version word. No one writes an object while it
@@ -113,26 +123,6 @@ fn refuse_pin(word: u64) -> Option<PinAnswer>
     }
 }
 
-/// The look at the word, and the pin where it is one that can be pinned.
-fn pin_looked(top: &Top, seat: &mut Place, pins: &mut Pins, config: &Config, h: Handle) -> PinAnswer
-    requires of { IsOf top.now.table_id top.now.key config.now seat.old }
-    requires rest { IsAtRest config.now seat.old.me.0 }
-    requires knows { Knows h.n seat.old.me.0 }
-    requires pins { (padded_value pins.old).items ≡ handles_of seat.old.me.0.pins }
-    requires room { length seat.old.me.0.pins < 16 }
-    ensures table { (seat.new.table_id ≡ seat.old.table_id) × (seat.new.me.1 ≡ seat.old.me.1) }
-    ensures share { seat.new.me.0.share ≡ seat.old.me.0.share }
-    ensures rest { IsAtRest config.now seat.new.me.0 }
-    ensures pins { (padded_value pins.new).items ≡ handles_of seat.new.me.0.pins }
-    ensures pin { PinGives h.n result seat.old.me.0 seat.new.me.0 }
-{
-    let saw = glance(top, seat, config, h.n);
-    match refuse_pin(saw) {
-        Some(answer) => answer,
-        None => pin_at(top, seat, pins, config, h, saw),
-    }
-}
-
 /// The pin of an object at the word that was seen.
 fn pin_at(
     top: &Top,
@@ -160,7 +150,7 @@ fn pin_at(
     if found != saw {
         return PinAnswer::Raced { saw, found };
     }
-    add_pin(pins, h.n);
+    pins.insert(0, h.n);
     let version = tell_version(top, seat, config, h.n);
     let fields = unpack(saw);
     PinAnswer::Pinned(Pin {
@@ -181,6 +171,6 @@ pub(crate) fn unpin_one(top: &Top, seat: &mut Place, pins: &mut Pins, config: &C
     ensures pins { (padded_value pins.new).items ≡ handles_of seat.new.me.0.pins }
 {
     let at = newest(pins.as_slice(), h);
-    remove_pin(pins, at);
+    pins.remove(at);
     give_pin(top, seat, config, h);
 }

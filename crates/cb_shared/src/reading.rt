@@ -1,11 +1,10 @@
 //! Reads under a pin of their own, which stands beside those of the scope.
-ghost use Rattle.std.specs.Prelude.{◌≡◌, ◌≢◌, ◌⊎◌, ℕ, ◌+◌, ◌*◌, ◌<◌, ◌≤◌, length, slice_index, None, Some, IfOk, OnErr};
+ghost use Rattle.std.specs.Prelude.{◌≡◌, ◌⊎◌, ℕ, ◌+◌, ◌*◌, ◌<◌, ◌≤◌, length, slice_index, None, Some, IfOk, OnErr};
 ghost use Rattle.std.specs.Int.{to_le_bytes, w64};
 ghost use Rattle.cb_ptr.specs.declared.word.State.TheVariants as state;
-ghost use Rattle.cb_ptr.specs.Word.{len_of, pins_of, place_of, state_of};
+ghost use Rattle.cb_ptr.specs.Word.{len_of, pins_of, state_of};
 ghost use Rattle.cb_world.specs.Memory.{bytes_in, words_for};
 ghost use Rattle.cb_rule.specs.declared.view.Stand.{Stand};
-ghost use Rattle.cb_rule.specs.Lists.{Has};
 ghost use Rattle.cb_rule.specs.Steps.{Knows};
 ghost use Rattle.cb_shared.specs.declared.reading.ReadAnswer.{ReadAnswer};
 ghost use Rattle.cb_record.specs.Parts.{grown};
@@ -13,7 +12,8 @@ ghost use Rattle.cb_shared.specs.Places.{IsOf, Moves};
 ghost use Rattle.cb_shared.specs.Reading.{IsReadRefusal, IsUnderPin, ReadAt, ReadMoves, looked};
 
 use crate::board::{Place, Top};
-use crate::pins::{give_pin, glance, read_word, take_pin, tell_version};
+use crate::pins::{give_pin, glance, take_pin, tell_version};
+use crate::plays::ReadPin;
 use cb_ptr::{State, unpack};
 use cb_types::{Bytes, Config, NoMemory};
 use std::alloc::Global;
@@ -61,7 +61,8 @@ pub(crate) fn read_pinned(
     match refuse_read(saw) {
         Some(answer) => Ok(answer),
         None => {
-            let room = room_for(alloc, saw)?;
+            let len = unpack(saw).len as usize;
+            let room = Bytes::from(vec![in alloc; 0; len]?);
             Ok(read_at(top, seat, config, h, saw, room))
         }
     }
@@ -80,14 +81,6 @@ fn refuse_read(word: u64) -> Option<ReadAnswer>
         State::Here if fields.pins == MOST_COUNTED => Some(ReadAnswer::Crowded),
         State::Here => None,
     }
-}
-
-/// Room for the bytes of an object at this word.
-fn room_for(alloc: Global, word: u64) -> Result<Bytes, NoMemory>
-    ensures room { IfOk result (λ room. length room ≡ len_of word) }
-{
-    let len = unpack(word).len as usize;
-    Ok(Bytes::from(vec![in alloc; 0; len]?))
 }
 
 /// The read of an object at the word that was seen, with room for its bytes.
@@ -132,9 +125,11 @@ fn load_into(top: &Top, seat: &mut Place, config: &Config, place: u32, room: &mu
     ensures bytes { (p : Stand) → IsUnderPin p place (length room.old) seat.old
         → room.new ≡ bytes_in p.words (length room.old) }
 {
-    let first = place as usize;
+    let config = *config;
+    let handles = config.handles as usize;
+    let first = 1 + handles + handles + place as usize;
     for i in 0..room.len().div_ceil(8) {
-        let word = read_word(top, seat, config, first + i);
+        let word = top.load::<ReadPin>(seat, first + i);
         put_word(room, i, word);
     }
 }

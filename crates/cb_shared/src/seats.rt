@@ -1,12 +1,10 @@
 //! Passes that are split and joined.
-ghost use Rattle.std.specs.Prelude.{◌≡◌, ℕ, ◌<◌, ◌≤◌, List, [], ◌∷◌, false, length};
-ghost use Rattle.crossbeam_utils.specs.Padded.{padded_value};
+ghost use Rattle.std.specs.Prelude.{◌≡◌, ◌<◌, ◌≤◌, [], false};
 ghost use Rattle.cb_rule.specs.Lists.{Each};
 ghost use Rattle.cb_rule.specs.Steps.{joined, left_of, right_of};
 ghost use Rattle.cb_shared.specs.Passes.{IsPassOf, PinFits};
 ghost use Rattle.cb_shared.specs.Joining.{IsSpare, unpinned_all};
 ghost use Rattle.cb_shared.specs.Places.{IsOf, Moves};
-ghost use Rattle.cb_shared.specs.Trying.{newest_tries};
 
 use crate::board::{Place, Top};
 use crate::handles::{first_handle, no_pins};
@@ -28,7 +26,8 @@ impl Shared {
         ensures left { pass.new.seat.me.0 ≡ left_of share pass.old.seat.me.0 }
         ensures right { result.seat.me.0 ≡ right_of share pass.old.seat.me.0 }
     {
-        let seat = split_off(&self.board.shared, pass, &self.config, share);
+        let seat = split_seat::<Brand>(&self.board.shared, &mut pass.seat, &self.config, share);
+        pass.share -= share;
         Pass {
             seat,
             share,
@@ -49,27 +48,16 @@ impl Shared {
     {
         let mut other = other;
         give_back(&self.board.shared, &mut other, &self.config);
-        let share = other.share;
-        let tries = other.tries;
+        pass.share += other.share;
+        pass.tries = other.tries.or(pass.tries);
         let Pass { seat, .. } = other;
-        join_in(&self.board.shared, pass, seat, share, tries, &self.config);
+        join_seats::<Brand>(&self.board.shared, &mut pass.seat, seat, &self.config);
+        // a look tells how large the share may be
+        self.board.shared.load::<Tally>(&mut pass.seat, 0);
     }
 }
 
-/// A new seat with so much of the share of a pass.
-fn split_off(top: &Top, pass: &mut Pass, config: &Config, share: u32) -> Place
-    requires of { IsOf top.now.table_id top.now.key config.now pass.old.seat }
-    requires share { (1 ≤ share) × (share < pass.old.seat.me.0.share) }
-    requires fresh { pass.old.seat.me.0.fresh ≡ [] }
-    ensures left { Moves pass.old.seat pass.new.seat (left_of share pass.old.seat.me.0) }
-    ensures right { (result.table_id ≡ pass.old.seat.table_id)
-        × (result.me ≡ (right_of share pass.old.seat.me.0, [])) }
-{
-    let seat = split_seat::<Brand>(top, &mut pass.seat, config, share);
-    pass.share -= share;
-    seat
-}
-
+/// A new seat with so much of the share of this one.
 fn split_seat<W: Given>(top: &Top, seat: &mut Place, config: &Config, share: u32) -> Place
     requires of { IsOf top.now.table_id top.now.key config.now seat.old }
     requires picks { W.share ≡ share }
@@ -91,60 +79,11 @@ pub(crate) fn give_back(top: &Top, pass: &mut Pass, config: &Config)
     ensures { Moves pass.old.seat pass.new.seat (unpinned_all pass.old.seat.me.0) }
 {
     while let Some(h) = first_handle(&pass.pins) {
-        give_first(top, pass, config, h);
+        unpin_one(top, &mut pass.seat, &mut pass.pins, config, h);
     }
 }
 
-/// Gives the newest pin of a pass back, which is on this object.
-fn give_first(top: &Top, pass: &mut Pass, config: &Config, h: u32)
-    requires of { IsOf top.now.table_id top.now.key config.now pass.old.seat }
-    requires pins { Each (PinFits config.now) pass.old.seat.me.0.pins }
-    requires first { (rest : List ℕ) × ((padded_value pass.old.pins).items ≡ h ∷ rest) }
-    ensures of { IsOf top.now.table_id top.now.key config.now pass.new.seat }
-    ensures pins { Each (PinFits config.now) pass.new.seat.me.0.pins }
-    ensures moved { Moves pass.old.seat pass.new.seat
-        (record pass.old.seat.me.0 { pins = pass.new.seat.me.0.pins }) }
-    ensures shorter { length (padded_value pass.new.pins).items
-        < length (padded_value pass.old.pins).items }
-{
-    unpin_one(top, &mut pass.seat, &mut pass.pins, config, h);
-}
-
-/// A pass takes in a seat that has this share, and whose newest turn is made again or not.
-fn join_in(
-    top: &Top,
-    pass: &mut Pass,
-    other: Place,
-    share: u32,
-    tries: Option<bool>,
-    config: &Config,
-)
-    requires of { IsOf top.now.table_id top.now.key config.now pass.old.seat }
-    requires other { IsSpare top.now.table_id other }
-    requires share { share ≡ other.me.0.share }
-    requires tries { tries ≡ newest_tries config.now other.me.0.turns }
-    requires few { (pass.old.seat.me.0.share ≤ 64) × (share ≤ 64) }
-    requires fresh { pass.old.seat.me.0.fresh ≡ [] }
-    ensures joined { Moves pass.old.seat pass.new.seat
-        (joined pass.old.seat.me.0 other.me.0) }
-    ensures most { pass.new.seat.me.0.share ≤ 64 }
-{
-    join_seats::<Brand>(top, &mut pass.seat, other, config);
-    pass.share += share;
-    pass.tries = tries.or(pass.tries);
-    tally(top, &mut pass.seat, config);
-}
-
-/// A look that tells how large the share may be.
-fn tally(top: &Top, seat: &mut Place, config: &Config)
-    requires of { IsOf top.now.table_id top.now.key config.now seat.old }
-    ensures same { Moves seat.old seat.new seat.old.me.0 }
-    ensures most { seat.old.me.0.share ≤ 64 }
-{
-    let _config = *config;
-    top.load::<Tally>(seat, 0);
-}
-
+/// A seat takes another in.
 fn join_seats<W: Keyed>(top: &Top, seat: &mut Place, other: Place, config: &Config)
     requires of { IsOf top.now.table_id top.now.key config.now seat.old }
     requires picks { W.key ≡ config.now }

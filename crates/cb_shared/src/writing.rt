@@ -1,6 +1,5 @@
-ghost use Rattle.std.specs.Prelude.{◌≡◌, ◌≢◌, ℕ, ◌+◌, ◌*◌, ◌^◌, ◌<◌, ◌≤◌, List, [], ◌∷◌, length, slice_index, Option, None, Some};
-ghost use Rattle.cb_ptr.specs.declared.word.State.TheVariants as state;
-ghost use Rattle.cb_ptr.specs.Word.{len_of, pins_of, place_of, state_of};
+ghost use Rattle.std.specs.Prelude.{◌≡◌, ℕ, ◌+◌, ◌*◌, ◌^◌, ◌<◌, List, length, slice_index, Option, None, Some};
+ghost use Rattle.cb_ptr.specs.Word.{pins_of};
 ghost use Rattle.cb_world.specs.Memory.{words_for};
 ghost use Rattle.cb_world.specs.Write.{IsWrite};
 ghost use Rattle.cb_mutate.specs.Merged.{IsWordMerged};
@@ -14,9 +13,9 @@ ghost use Rattle.cb_shared.specs.Writing.{IsRoomFor, IsWriteRefusal, WriteAt, Wr
 
 use crate::answers::WriteAnswer;
 use crate::board::{Place, Top};
-use crate::own::{claim_here, load_own, put_back, settle_own, stamp_own, store_own, version_own};
 use crate::pass::Pass;
 use crate::pins::glance;
+use crate::plays::{ClaimHere, Date, PutBack, ReadHeld, SettleHere, StampHere, StoreHere};
 use crate::runtime::Shared;
 use byteorder::{ByteOrder, LittleEndian};
 use cb_mutate::merged;
@@ -34,14 +33,12 @@ impl Shared {
         ensures of { IsPassOf self.now pass.new }
         ensures write { WriteGives h.n at bytes.now result pass.old.seat.me.0 pass.new.seat.me.0 }
     {
-        write_looked(
-            &self.board.shared,
-            &mut pass.seat,
-            &self.config,
-            h.n,
-            at,
-            bytes,
-        )
+        let top = &self.board.shared;
+        let saw = glance(top, &mut pass.seat, &self.config, h.n);
+        match refuse_write(saw, at, bytes.len()) {
+            Some(answer) => answer,
+            None => write_at(top, &mut pass.seat, &self.config, h.n, saw, at, bytes),
+        }
     }
 }
 
@@ -61,31 +58,6 @@ fn refuse_write(word: u64, at: u32, count: usize) -> Option<WriteAnswer>
         }
         State::Here if fields.pins > 0 => Some(WriteAnswer::Pinned { count: fields.pins }),
         State::Here => None,
-    }
-}
-
-/// The look at the word, and the write where it is one that can be claimed.
-fn write_looked(
-    top: &Top,
-    seat: &mut Place,
-    config: &Config,
-    h: u32,
-    at: u32,
-    bytes: &[u8],
-) -> WriteAnswer
-    requires of { IsOf top.now.table_id top.now.key config.now seat.old }
-    requires rest { IsAtRest config.now seat.old.me.0 }
-    requires knows { Knows h seat.old.me.0 }
-    ensures table { (seat.new.table_id ≡ seat.old.table_id) × (seat.new.me.1 ≡ seat.old.me.1) }
-    ensures share { seat.new.me.0.share ≡ seat.old.me.0.share }
-    ensures pins { seat.new.me.0.pins ≡ seat.old.me.0.pins }
-    ensures rest { IsAtRest config.now seat.new.me.0 }
-    ensures write { WriteGives h at bytes.now result seat.old.me.0 seat.new.me.0 }
-{
-    let saw = glance(top, seat, config, h);
-    match refuse_write(saw, at, bytes.len()) {
-        Some(answer) => answer,
-        None => write_at(top, seat, config, h, saw, at, bytes),
     }
 }
 
@@ -111,7 +83,7 @@ fn write_at(
     ensures rest { IsAtRest config.now seat.new.me.0 }
     ensures write { WriteAt h saw at bytes.now result seat.old.me.0 seat.new.me.0 }
 {
-    let found = claim_here(top, seat, config, h, saw);
+    let found = top.compare_exchange::<ClaimHere>(seat, 1 + h as usize, saw, claimed(saw));
     if found != saw {
         return WriteAnswer::Raced { saw, found };
     }
@@ -136,15 +108,17 @@ fn write_claimed(
     ensures { (v : ℕ) (words : List ℕ) → IsFreshClaim config.now h word v words seat.old
         → WriteClaimed h word at bytes.now v words result seat.old seat.new }
 {
-    let version = version_own(top, seat, config, h);
+    let stamp = 1 + config.handles as usize + h as usize;
+    let version = top.load::<Date>(seat, stamp);
     if version == u64::MAX {
-        put_back(top, seat, config, h, word);
+        top.store::<PutBack>(seat, 1 + h as usize, word);
         return WriteAnswer::Worn;
     }
     let place = unpack(word).place;
     overwrite_own(top, seat, config, place, at, bytes);
-    stamp_own(top, seat, config, h, version + 1);
-    settle_own(top, seat, config, h, settled(claimed(word), place, true));
+    top.store::<StampHere>(seat, stamp, version + 1);
+    let next = settled(claimed(word), place, true);
+    top.store::<SettleHere>(seat, 1 + h as usize, next);
     WriteAnswer::Ok {
         version: version + 1,
     }
@@ -163,15 +137,17 @@ fn overwrite_own(top: &Top, seat: &mut Place, config: &Config, place: u32, at: u
         × Moves seat.old seat.new (with_only (with_memory new x) seat.old.me.0) }
 {
     let end = at + bytes.len() as u32;
+    let handles = config.handles as usize;
     let first = place as usize;
     for i in at / 8..end.div_ceil(8) {
         let word = merged_own(top, seat, config, first + i as usize, 8 * i, at, bytes);
-        store_own(top, seat, config, first + i as usize, word);
+        top.store::<StoreHere>(seat, 1 + handles + handles + first + i as usize, word);
     }
 }
 
 /// The word of a claimed object whose first byte is the object's byte `first`, with these bytes. It
-/// is loaded where a part of it stays.
+/// is loaded where a part of it stays; where the bytes cover all of it there is one load of eight
+/// of them.
 fn merged_own(
     top: &Top,
     seat: &mut Place,
@@ -191,19 +167,11 @@ fn merged_own(
 {
     let end = at + bytes.len() as u32;
     if at <= first && first + 8 <= end {
-        return whole_word(first, at, bytes);
+        let from = (first - at) as usize;
+        return LittleEndian::read_u64(&bytes[from..from + 8]);
     }
-    let old = load_own(top, seat, config, place);
+    let config = *config;
+    let handles = config.handles as usize;
+    let old = top.load::<ReadHeld>(seat, 1 + handles + handles + place);
     merged(old, first, at, bytes)
-}
-
-/// The word whose first byte is the object's byte `first`, where these bytes cover all of it: one
-/// load of eight of them, and no part of the old word stays.
-fn whole_word(first: u32, at: u32, bytes: &[u8]) -> u64
-    requires from { at ≤ first }
-    requires end { first + 8 ≤ at + length bytes.now }
-    ensures { (old : ℕ) → IsWordMerged old first at bytes.now result }
-{
-    let from = (first - at) as usize;
-    LittleEndian::read_u64(&bytes[from..from + 8])
 }

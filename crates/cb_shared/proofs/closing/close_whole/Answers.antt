@@ -8,29 +8,29 @@ use Rattle.cb_shared.proofs.Closes.{ends_in, is_closed}
 use Rattle.cb_shared.proofs.Filled.{all_blank}
 use Rattle.cb_shared.proofs.closing.close_whole.Goals as goal
 
-pub world_of-world-requires-clause-home : goal.world_of-world-requires-clause-home
-world_of-world-requires-clause-home c = let s = c.args.shared in
+pub take_far-far-requires-clause-home : goal.take_far-far-requires-clause-home
+take_far-far-requires-clause-home c = let s = c.args.shared in
     let e = ends_in s.board.shared.key s.config s.key c.requires.of.accepted
     c.args.pass.seat.me.0 c.give_back.new.pass.seat.me.0 c.requires.of.rest c.requires.whole
     (ap (λ (m : Sat). m.0) c.give_back.ensures.2) c.give_back.new.pass.seat.id _ _
-    c.close_with.ensures.values.2 in (e.far, e.there)
+    c.close_with-rows.ensures.values.2 in (e.far, e.there)
 
-pub world_of-world-requires-clause-blank : goal.world_of-world-requires-clause-blank
-world_of-world-requires-clause-blank c i =
+pub fill-requires-clause-blank : goal.fill-requires-clause-blank
+fill-requires-clause-blank c i =
     ap (λ (d : Words). get_or d.memory i 0) c.requires.desk ∙ all_blank (512 * c.args.shared.config.frames) i
 
 pub returns : goal.returns
 returns c = let s = c.args.shared in let v = c.args.pass.seat.me.0 in
-    let w = c.world_of-world.ensures in let under = c.seal-seal.ensures in
+    let under = c.seal-seal.ensures in
     let back = ap (λ (m : Sat). m.0) c.give_back.ensures.2 in
-    let ws = slots_items c.close_with.result.words in
-    let slots = slots_items c.close_with.result.slots in record {
+    let ws = slots_items c.close_with-rows.result.words in
+    let slots = slots_items c.close_with-rows.result.slots in record {
       whole = c.requires.whole;
       view = ap (λ (x : Sealed). x.view) under ∙ c.of-draft.ensures ∙ back;
       world = ap (λ (x : Sealed). x.world) under;
       closed = is_closed s.board.shared.key.first s.config (unpinned_all v) ws slots
           (ends_in s.board.shared.key s.config s.key c.requires.of.accepted v
           c.give_back.new.pass.seat.me.0 c.requires.of.rest c.requires.whole back
-          c.give_back.new.pass.seat.id ws slots c.close_with.ensures.values.2)
-          c.world_of-world.result w.desk w.far (w.seats ∙ c.requires.seats);
+          c.give_back.new.pass.seat.id ws slots c.close_with-rows.ensures.values.2)
+          _ c.fill.ensures c.take_far-far.ensures c.requires.seats;
     }

@@ -4,15 +4,11 @@ use Rattle.cb_types.specs.declared.config.Config.{Config}
 use Rattle.cb_types.specs.declared.config.Field.TheVariants.{Frames}
 use Rattle.cb_rule.specs.Words.{base}
 use Rattle.cb_world.specs.Plain.{Words}
-use Rattle.cb_shared.proofs.Filled.{all_filled, more_filled, none_filled}
+use Rattle.cb_shared.proofs.Filled.{all_filled, more_filled, none_filled, read_at}
 use Rattle.cb_shared.proofs.filling.fill_memory.Goals as goal
 
 pub loop-place-init : goal.loop-place-init
 loop-place-init c = (c.args.desk.now.memory, refl, none_filled _ (base c.args.config.now) _)
-
-pub word-found-requires-clause-index : goal.word-found-requires-clause-index
-word-found-requires-clause-index c = let all = c.requires.words in let l = c.loop-place-test.true in
-    omega (arith, all, l)
 
 pub put_memory-requires-clause-place : goal.put_memory-requires-clause-place
 put_memory-requires-clause-place c = let inv = c.loop-place.invariant in let f = inv.2.len in
@@ -36,7 +32,7 @@ loop-place-preserved c = let inv = c.loop-place.invariant in let p = c.loop-plac
         memory = set d.memory p c.word-found.result;
       } in e) inv.1,
       more_filled ws (base c.args.config.now) p c.word-found.result old inv.0 within
-          (c.word-found.ensures ∙ ap (λ (i : ℕ). get_or ws i 0) at) inv.2,
+          ((read_at ws (1 + 2 * c.args.config.now.handles + p) c.word-found.result c.word-found.ensures) ∙ ap (λ (i : ℕ). get_or ws i 0) at) inv.2,
     )
 
 pub returns : goal.returns

@@ -1,17 +1,13 @@
-use Rattle.std.proofs.Common.{◌∙◌, ◌<◌, ℕ, List, set, refl, ap, sym, subst, arith}
+use Rattle.std.proofs.Common.{◌∙◌, ◌+◌, ◌<◌, ℕ, List, set, refl, ap, sym, subst, arith}
 use Rattle.std.specs.Slots.{slots_items}
 use Rattle.cb_types.specs.declared.config.Config.{Config}
 use Rattle.cb_rule.specs.Words.{stamps}
 use Rattle.cb_world.specs.Plain.{Words}
-use Rattle.cb_shared.proofs.Filled.{all_filled, more_filled, none_filled}
+use Rattle.cb_shared.proofs.Filled.{all_filled, more_filled, none_filled, read_at}
 use Rattle.cb_shared.proofs.filling.fill_versions.Goals as goal
 
 pub loop-h-init : goal.loop-h-init
 loop-h-init c = (c.args.desk.now.versions, refl, none_filled _ (stamps c.args.config.now) _)
-
-pub word-found-requires-clause-index : goal.word-found-requires-clause-index
-word-found-requires-clause-index c = let all = c.requires.words in let l = c.loop-h-test.true in
-    omega (arith, all, l)
 
 pub stamp-requires : goal.stamp-requires
 stamp-requires c = let inv = c.loop-h.invariant in
@@ -28,7 +24,7 @@ loop-h-preserved c = let inv = c.loop-h.invariant in let h = c.loop-h.h in
         versions = set d.versions h c.word-found.result;
       } in e) inv.1,
       more_filled (slots_items c.args.rows.now.words) (stamps c.args.config.now) h
-          c.word-found.result old inv.0 within c.word-found.ensures inv.2,
+          c.word-found.result old inv.0 within (read_at (slots_items c.args.rows.now.words) (stamps c.args.config.now + h) c.word-found.result c.word-found.ensures) inv.2,
     )
 
 pub returns : goal.returns

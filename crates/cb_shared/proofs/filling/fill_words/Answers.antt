@@ -1,16 +1,12 @@
-use Rattle.std.proofs.Common.{◌∙◌, ◌<◌, ℕ, List, set, refl, ap, sym, subst, arith}
+use Rattle.std.proofs.Common.{◌∙◌, ◌+◌, ◌<◌, ℕ, List, set, refl, ap, sym, subst, arith}
 use Rattle.std.specs.Slots.{slots_items}
 use Rattle.cb_types.specs.declared.config.Config.{Config}
 use Rattle.cb_world.specs.Plain.{Words}
-use Rattle.cb_shared.proofs.Filled.{all_filled, more_filled, none_filled}
+use Rattle.cb_shared.proofs.Filled.{all_filled, more_filled, none_filled, read_at}
 use Rattle.cb_shared.proofs.filling.fill_words.Goals as goal
 
 pub loop-h-init : goal.loop-h-init
 loop-h-init c = (c.args.desk.now.words, refl, none_filled _ 1 _)
-
-pub word-found-requires-clause-index : goal.word-found-requires-clause-index
-word-found-requires-clause-index c = let all = c.requires.words in let l = c.loop-h-test.true in
-    omega (arith, all, l)
 
 pub put_word-requires : goal.put_word-requires
 put_word-requires c = let inv = c.loop-h.invariant in
@@ -27,7 +23,7 @@ loop-h-preserved c = let inv = c.loop-h.invariant in let h = c.loop-h.h in
         words = set d.words h c.word-found.result;
       } in e) inv.1,
       more_filled (slots_items c.args.rows.now.words) 1 h c.word-found.result old inv.0 within
-          c.word-found.ensures inv.2,
+          (read_at (slots_items c.args.rows.now.words) (1 + h) c.word-found.result c.word-found.ensures) inv.2,
     )
 
 pub returns : goal.returns

@@ -15,7 +15,8 @@ pub returns-clause-pins : goal.returns-clause-pins
 returns-clause-pins c =
     let is = c.as_slice.ensures.value ∙ ap (λ v. v.items) c.deref.ensures ∙ c.requires.pins in
     let at = c.newest-at.result in let ps = c.args.seat.now.me.0.pins in
-    c.remove_pin.ensures ∙ ap (λ (l : List ℕ). remove l at) c.requires.pins
+    c.remove.ensures.items ∙ ap (λ v. remove v.items at) c.deref_mut.ensures.value
+    ∙ ap (λ (l : List ℕ). remove l at) c.requires.pins
     ∙ sym (handles_removed ps c.args.h at
     (subst (λ (l : List ℕ). IsFirstAt l c.args.h at) is c.newest-at.ensures))
     ∙ ap (λ (m : Sat). handles_of m.0.pins) (sym c.give_pin.ensures.2)

@@ -1,8 +1,12 @@
 use Rattle.std.proofs.Common.{◌+◌, ◌<◌, ◌∙◌, ℕ, length, refl, sym, ap, subst, arith}
+use Rattle.cb_types.specs.declared.config.Config.{Config}
 use Rattle.cb_world.specs.Memory.{words_for}
 use Rattle.cb_rule.specs.declared.view.View.{View}
 use Rattle.cb_rule.specs.Lists.{Has}
 use Rattle.cb_rule.specs.Slot.{Sat}
+use Rattle.cb_rule.specs.Words.{base}
+use Rattle.cb_shared.specs.Places.{Moves}
+use Rattle.cb_shared.proofs.PinsAlone.{reads_pin_at}
 use Rattle.cb_shared.proofs.ReadBytes.{filled_all, filled_more}
 use Rattle.cb_shared.proofs.ReadSteps.{moves_then}
 use Rattle.cb_shared.proofs.WriteSteps.{of_moves}
@@ -16,21 +20,14 @@ loop-i-init c = (
   λ p u k low within. absurd (omega (arith, low)),
 )
 
-pub overflow_add-first : goal.overflow_add-first
-overflow_add-first c = omega (
-  arith,
-  c.loop-i-test.true,
-  c.div_ceil-i-end.ensures,
-  c.len.type_inv,
-  c.ranges.place.fits,
+pub load-word-requires : goal.load-word-requires
+load-word-requires c = let o = c.loop-i.invariant.0 in (
+  o.table,
+  (let z = o.words in let l = c.requires.inside c.loop-i.i
+      (omega (arith, c.loop-i-test.true, c.div_ceil-i-end.ensures, c.len.ensures)) in
+      omega arith),
+  reads_pin_at c.args.top.now.key.first c.args.config.now _ o.key _ _ _ o.live o.config _,
 )
-
-pub read_word-word-requires-clause-of : goal.read_word-word-requires-clause-of
-read_word-word-requires-clause-of c = c.loop-i.invariant.0
-
-pub read_word-word-requires-clause-place : goal.read_word-word-requires-clause-place
-read_word-word-requires-clause-place c = c.requires.inside c.loop-i.i
-    (omega (arith, c.loop-i-test.true, c.div_ceil-i-end.ensures, c.len.ensures))
 
 pub put_word-requires : goal.put_word-requires
 put_word-requires c =
@@ -38,10 +35,11 @@ put_word-requires c =
 
 pub loop-i-preserved : goal.loop-i-preserved
 loop-i-preserved c = let inv = c.loop-i.invariant in let i = c.loop-i.i in
-    let same = c.read_word-word.ensures.same in let put = c.put_word.ensures in (
+    let e = c.load-word.ensures in
+    let same : Moves c.loop-i.seat c.load-word.new.seat c.loop-i.seat.me.0 = (e.0, e.1, e.2.0) in let put = c.put_word.ensures in (
       of_moves c.args.top.now.table_id c.args.top.now.key c.args.config.now c.loop-i.seat
-          c.read_word-word.new.seat c.loop-i.seat.me.0 inv.0 same refl refl,
-      moves_then c.args.seat.now c.loop-i.seat c.read_word-word.new.seat (λ (x : View). x)
+          c.load-word.new.seat c.loop-i.seat.me.0 inv.0 same refl refl,
+      moves_then c.args.seat.now c.loop-i.seat c.load-word.new.seat (λ (x : View). x)
           c.args.seat.now.me.0 inv.1 same,
       put.sized ∙ inv.2,
       λ p u.
@@ -54,8 +52,9 @@ loop-i-preserved c = let inv = c.loop-i.invariant in let i = c.loop-i.i in
             c.len.ensures,
             u.2,
           ) in
-          filled_more p.words c.loop-i.room c.put_word.new.room i c.read_word-word.result
-          (c.read_word-word.ensures.word p i has lt (ap (λ (n : ℕ). n + i) (sym u.1)))
+          filled_more p.words c.loop-i.room c.put_word.new.room i c.load-word.result
+          (e.2.1 p i has lt (ap (λ (n : ℕ). base c.args.config.now + n + i) (sym u.1)
+          ∙ ap (λ (q : Config). base q + p.place + i) (sym inv.0.config)))
           (record { inside = put.inside; outside = put.outside; sized = put.sized })
           (inv.3 p u),
     )

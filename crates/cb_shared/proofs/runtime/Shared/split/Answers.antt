@@ -6,7 +6,7 @@ use Rattle.cb_shared.proofs.Parting.{rest_right}
 use Rattle.cb_shared.proofs.runtime.Shared.split.Goals as goal
 
 pub returns-clause-new : goal.returns-clause-new
-returns-clause-new c = let r = c.split_off-seat.ensures.right in record {
+returns-clause-new c = let r = c.split_seat-seat.ensures.right in record {
   accepted = c.requires.of.accepted;
   table = r.0 ∙ c.requires.of.table;
   rest = subst (λ (m : Sat). IsAtRest c.args.self.now.config m.0) (sym r.1)

@@ -1,4 +1,4 @@
-use Rattle.cb_shared.proofs.seats.join_in.Given as goal
+use Rattle.cb_shared.proofs.runtime.Shared.join_pass.Given as goal
 
 abbrev pub ghosts-join_seats : goal.ghosts-join_seats
 ghosts-join_seats a = record { key = a.config.now }

@@ -1,4 +1,4 @@
-use Rattle.cb_shared.proofs.seats.split_off.Given as goal
+use Rattle.cb_shared.proofs.runtime.Shared.split.Given as goal
 
 abbrev pub ghosts-split_seat : goal.ghosts-split_seat
 ghosts-split_seat a = record { share = a.share }
