@@ -4,11 +4,11 @@ use cb_member::NoMemory;
 use cb_world::Far;
 use std::alloc::Global;
 use std::marker::Model;
+use std::mem;
 
 /// The far state in a block of its own, as it lies in the table's slot: to contracts it is the far
 /// state. What takes it out of the slot and puts it back moves one pointer, and a function that
 /// names the table names none of the far state's types.
-#[derive(Drop)]
 pub struct BoxedFar {
     pub(crate) state: Box<Far>,
 }
@@ -40,5 +40,14 @@ impl BoxedFar {
     {
         let BoxedFar { state } = self;
         Box::into_inner(state)
+    }
+}
+
+/// Written out, so that who drops a table, in whatever crate, does not drop the far state's parts
+/// one by one.
+impl Drop for BoxedFar {
+    fn drop(self) {
+        let BoxedFar { state } = self;
+        mem::drop(state);
     }
 }
