@@ -1,10 +1,20 @@
-use Rattle.std.proofs.Common.{◌∙◌, ◌<◌, ◌+◌, ◌*◌, ℕ, length, length-set, sym, ap, arith}
-use Rattle.std.proofs.lemmas.List.{length-take-le}
+use Rattle.std.proofs.Common.{◌∙◌, ◌<◌, ◌+◌, ◌*◌, ℕ, List, length, length-set, sym, ap, subst, arith}
+use Rattle.std.proofs.lemmas.List.{length-take-le, take_all}
 use Rattle.cb_world.specs.declared.event.Event.TheVariants.{Loaded}
-use Rattle.cb_shared.specs.SeatLaws.{holds_still}
+use Rattle.cb_world.specs.FrameWords.{loads_from}
+use Rattle.cb_shared.specs.SeatLaws.{Runs, holds_still}
 use Rattle.cb_shared.proofs.Alone.{loads_at}
 use Rattle.cb_shared.proofs.Rows.{load_more, small_set}
 use Rattle.cb_shared.proofs.frames.load_words.Goals as goal
+
+pub overflow_mul-first : goal.overflow_mul-first
+overflow_mul-first c = omega (arith, c.ranges.frame.fits)
+
+pub overflow_add-first : goal.overflow_add-first
+overflow_add-first c = omega (arith, c.ranges.frame.fits, c.loop-i-test.true)
+
+pub overflow_add-handles-in-loop-i-2 : goal.overflow_add-handles-in-loop-i-2
+overflow_add-handles-in-loop-i-2 c = omega (arith, c.ranges.frame.fits, c.loop-i-test.true)
 
 pub load-requires : goal.load-requires
 load-requires c = let h = c.loop-i.invariant.0 in (
@@ -29,3 +39,9 @@ loop-i-preserved c = let inv = c.loop-i.invariant in
       length-set words i c.load.result ∙ inv.2,
       small_set words i c.load.result inv.3 c.load.type_inv,
     )
+
+pub returns-clause-ran : goal.returns-clause-ran
+returns-clause-ran c = let inv = c.loop-i.invariant in
+    subst (λ (l : List ℕ).
+    Runs c.args.seat.now (loads_from (512 * c.args.frame) l) c.loop-i.seat)
+    (take_all c.loop-i.i c.loop-i.words (omega (arith, inv.2, c.loop-i-test.false))) inv.1
