@@ -1,5 +1,5 @@
 use Rattle.std.proofs.Common.{List, ℕ, subst}
-use Rattle.std.proofs.lemmas.Result.{IfOk-weaker, on_err_weaker}
+use Rattle.std.proofs.lemmas.Result.{IfOk-from_err, IfOk-weaker, on_err_weaker}
 use Rattle.cb_types.specs.declared.job.Job.TheVariants as jobs
 use Rattle.cb_shared.specs.Calls.{AtNone, StopsInVain, TurnTries, the_handle}
 use Rattle.cb_shared.proofs.CallSteps.{err_always, so_far}
@@ -43,3 +43,24 @@ returns-clause-write g c = write_tried c.args.self.now.config c.args.h.n c.args.
     c.write_here-answer.result c.reply_of.result c.args.pass.now.seat.me.0
     c.write_here-answer.new.pass.seat.me.0 c.reply_of.ensures.some c.reply_of.ensures.none
     (c.is_away.ensures.no c.if-is_away.false) c.write_here-answer.ensures.write
+
+pub write_here-answer-requires-clause-of : goal.write_here-answer-requires-clause-of
+write_here-answer-requires-clause-of g c = c.requires.of
+
+pub write_here-answer-requires-clause-knows : goal.write_here-answer-requires-clause-knows
+write_here-answer-requires-clause-knows g c = c.requires.knows
+
+pub returns-in_err-copy_of-clause-of : goal.returns-in_err-copy_of-clause-of
+returns-in_err-copy_of-clause-of g c = c.write_here-answer.ensures.of
+
+pub returns-in_err-copy_of-clause-write : goal.returns-in_err-copy_of-clause-write
+returns-in_err-copy_of-clause-write g c = IfOk-from_err _ _ c.from_residual.ensures.0
+
+pub try_turn-requires-clause-of : goal.try_turn-requires-clause-of
+try_turn-requires-clause-of g c = c.write_here-answer.ensures.of
+
+pub returns-then-is_away-clause-of : goal.returns-then-is_away-clause-of
+returns-then-is_away-clause-of g c = c.try_turn.ensures.of
+
+pub returns-clause-of : goal.returns-clause-of
+returns-clause-of g c = c.write_here-answer.ensures.of

@@ -1,3 +1,4 @@
+use Rattle.std.proofs.lemmas.Result.{IfOk-from_err}
 use Rattle.cb_shared.specs.Calls.{AtNone}
 use Rattle.cb_shared.specs.Turning.{object_of}
 use Rattle.cb_shared.proofs.CallSteps.{err_always, known_still, new_at_last, so_far, stops_then, turn_again, turn_at_last}
@@ -36,3 +37,21 @@ pub returns-in-Some-2-clause-new : goal.returns-in-Some-2-clause-new
 returns-in-Some-2-clause-new g c = new_at_last c.args.self.now.board.shared.key.first
     c.args.job.now c.in_ok-reply.field-0 c.in-Some-2.reply c.args.pass.now.seat.me.0
     c.loop.pass.seat.me.0 c.in-Some-2.is c.loop.invariant.1 c.in_ok-reply.ensures.new
+
+pub try_turn-requires-clause-job : goal.try_turn-requires-clause-job
+try_turn-requires-clause-job g c = c.requires.job
+
+pub try_turn-requires-clause-called : goal.try_turn-requires-clause-called
+try_turn-requires-clause-called g c = c.requires.called
+
+pub returns-in_err-reply-clause-of : goal.returns-in_err-reply-clause-of
+returns-in_err-reply-clause-of g c = c.in_err-reply.ensures.of
+
+pub returns-in_err-reply-clause-turn : goal.returns-in_err-reply-clause-turn
+returns-in_err-reply-clause-turn g c = IfOk-from_err _ _ c.from_residual.ensures.0
+
+pub returns-in_err-reply-clause-new : goal.returns-in_err-reply-clause-new
+returns-in_err-reply-clause-new g c = IfOk-from_err _ _ c.from_residual.ensures.0
+
+pub returns-in-Some-2-clause-of : goal.returns-in-Some-2-clause-of
+returns-in-Some-2-clause-of g c = c.in_ok-reply.ensures.of
