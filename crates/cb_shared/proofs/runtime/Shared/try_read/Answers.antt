@@ -1,4 +1,4 @@
-use Rattle.std.proofs.lemmas.Result.{IfOk-weaker, on_err_weaker}
+use Rattle.std.proofs.lemmas.Result.{IfOk-from_err, IfOk-weaker, on_err_weaker}
 use Rattle.cb_shared.proofs.CallSteps.{away_stops, away_tries, err_always, found_bytes, found_crowded, found_freed, found_moving, found_raced, lacks_room}
 use Rattle.cb_shared.proofs.Resting.{known_below}
 use Rattle.cb_shared.proofs.runtime.Shared.try_read.Goals as goal
@@ -54,3 +54,30 @@ pub returns-in-Raced-clause-read : goal.returns-in-Raced-clause-read
 returns-in-Raced-clause-read g c = found_raced c.args.h.n _ _
     c.in_ok-version.field-0 c.args.pass.now.seat.me.0 c.read_beside.new.pass.seat.me.0 c.in-Raced.is
     c.in_ok-version.ensures.read
+
+pub returns-in_err-version-clause-of : goal.returns-in_err-version-clause-of
+returns-in_err-version-clause-of g c = c.in_err-version.ensures.of
+
+pub returns-in_err-version-clause-read : goal.returns-in_err-version-clause-read
+returns-in_err-version-clause-read g c = IfOk-from_err _ _ c.from_residual.ensures.0
+
+pub try_turn-requires-clause-of : goal.try_turn-requires-clause-of
+try_turn-requires-clause-of g c = c.in_ok-version.ensures.of
+
+pub returns-in-Bytes-clause-of : goal.returns-in-Bytes-clause-of
+returns-in-Bytes-clause-of g c = c.in_ok-version.ensures.of
+
+pub returns-in-Freed-clause-of : goal.returns-in-Freed-clause-of
+returns-in-Freed-clause-of g c = c.in_ok-version.ensures.of
+
+pub returns-in-Moving-clause-of : goal.returns-in-Moving-clause-of
+returns-in-Moving-clause-of g c = c.in_ok-version.ensures.of
+
+pub returns-in-Crowded-clause-of : goal.returns-in-Crowded-clause-of
+returns-in-Crowded-clause-of g c = c.in_ok-version.ensures.of
+
+pub returns-in-Raced-clause-of : goal.returns-in-Raced-clause-of
+returns-in-Raced-clause-of g c = c.in_ok-version.ensures.of
+
+pub returns-in-NotHere-clause-of : goal.returns-in-NotHere-clause-of
+returns-in-NotHere-clause-of g c = c.try_turn.ensures.of

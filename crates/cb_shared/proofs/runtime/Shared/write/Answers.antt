@@ -1,4 +1,5 @@
 use Rattle.std.proofs.Common.{Some}
+use Rattle.std.proofs.lemmas.Result.{IfOk-from_err}
 use Rattle.cb_types.specs.declared.job.Job.TheVariants as jobs
 use Rattle.cb_shared.specs.Calls.{AtThis, the_handle}
 use Rattle.cb_shared.proofs.CallSteps.{err_always, known_still, so_far, stops_then}
@@ -40,3 +41,12 @@ loop-preserved g c = (
       c.args.pass.now.seat.me.0 c.loop.pass.seat.me.0 c.try_write.new.pass.seat.me.0
       c.in_default.is c.loop.invariant.1 c.in_ok-reply.ensures.write,
 )
+
+pub returns-in_err-reply-clause-of : goal.returns-in_err-reply-clause-of
+returns-in_err-reply-clause-of g c = c.in_err-reply.ensures.of
+
+pub returns-in_err-reply-clause-write : goal.returns-in_err-reply-clause-write
+returns-in_err-reply-clause-write g c = IfOk-from_err _ _ c.from_residual.ensures.0
+
+pub returns-in-Some-2-clause-of : goal.returns-in-Some-2-clause-of
+returns-in-Some-2-clause-of g c = c.in_ok-reply.ensures.of
