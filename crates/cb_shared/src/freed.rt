@@ -1,7 +1,5 @@
 //! The freed entry of an object, after a turn that was answered Freed.
-ghost use Rattle.std.specs.Prelude.{◌≡◌, ◌≢◌, true, false};
-ghost use Rattle.cb_ptr.specs.declared.word.State.TheVariants as state;
-ghost use Rattle.cb_ptr.specs.Word.{state_of};
+ghost use Rattle.std.specs.Prelude.{◌≡◌};
 ghost use Rattle.cb_shared.specs.Places.{IsOf};
 ghost use Rattle.cb_shared.specs.Turning.{KnowsIt, freed_of};
 ghost use Rattle.cb_shared.specs.UnderLock.{FreedMoves, IsBelow};
@@ -46,20 +44,10 @@ pub(crate) fn find_freed<R: Wait>(
     };
     for _ in rt.forever() {
         let word = glance(top, seat, config, h);
-        if is_empty(word) {
-            return;
+        match unpack(word).state {
+            State::Empty => return,
+            _ => {}
         }
     }
     unreachable!()
-}
-
-/// Whether a word is that of an object that is empty.
-fn is_empty(word: u64) -> bool
-    ensures yes { result ≡ true → state_of word ≡ state.Empty }
-    ensures other { result ≡ false → state_of word ≢ state.Empty }
-{
-    match unpack(word).state {
-        State::Empty => true,
-        _ => false,
-    }
 }

@@ -1,4 +1,5 @@
-use Rattle.std.proofs.Common.{◌≡◌, ℕ, Option, None, Some, refl, sym, subst}
+use Rattle.std.proofs.Common.{◌≡◌, ◌∙◌, ℕ, Option, None, Some, refl, sym, ap, subst}
+use Rattle.cb_ptr.specs.declared.word.PtrWord.{PtrWord}
 use Rattle.cb_rule.specs.Steps.{with_look}
 use Rattle.cb_shared.specs.declared.reading.ReadAnswer.TheVariants as found
 use Rattle.cb_record.specs.Parts.{grown, nothing_more, sum}
@@ -39,14 +40,14 @@ glance-word-requires-clause-knows g c = let i = c.loop.invariant in
     looks_know c.in-Some.h c.args.seat.now c.loop.seat i.0 i.1 i.2
     (subst (λ (o : Option ℕ). KnowsIt o c.args.seat.now.me.0) c.in-Some.is c.requires.knows)
 
-pub returns-then-is_empty : goal.returns-then-is_empty
-returns-then-is_empty g c = let i = c.loop.invariant in let h = c.in-Some.h in
+pub returns-in-Empty : goal.returns-in-Empty
+returns-in-Empty g c = let i = c.loop.invariant in let h = c.in-Some.h in
     subst (λ (o : Option ℕ). FreedMoves c.args.config.now o c.args.seat.now c.glance-word.new.seat)
     (sym c.in-Some.is)
     (look_found c.args.config.now h c.args.seat.now c.loop.seat c.glance-word.new.seat i.0
     (subst (λ (o : Option ℕ). IsBelow c.args.config.now o) c.in-Some.is c.requires.handle) i.1 i.2
     (refused_moves h c.glance-word.result found.Freed c.loop.seat c.glance-word.new.seat
-    c.glance-word.ensures (c.is_empty.ensures.yes c.if-is_empty.true)))
+    c.glance-word.ensures (sym (ap (λ (w : PtrWord). w.state) c.unpack.ensures.fields) ∙ c.in-Empty.is)))
 
 pub loop-preserved : goal.loop-preserved
 loop-preserved g c = let i = c.loop.invariant in let h = c.in-Some.h in
@@ -56,6 +57,7 @@ loop-preserved g c = let i = c.loop.invariant in let h = c.in-Some.h in
       more_looks h i.0 (looked h word) i.1 (here_look h word),
       grown_moves p q r i.0 (looked h word) i.2 (moves_as q r (with_look h word q.me.0)
           (grown (looked h word) q.me.0)
-          (c.glance-word.ensures.other (c.is_empty.ensures.other c.if-is_empty.false))
+          (c.glance-word.ensures.other (λ e. c.in_default-state.not-Empty
+          (ap (λ (w : PtrWord). w.state) c.unpack.ensures.fields ∙ e)))
           (look_part h word q.me.0)),
     )
