@@ -1,9 +1,11 @@
 -- Lists that are filled one by one from a part of another list.
 use Rattle.std.proofs.Common.{◌≡◌, ℕ, zero, suc, ◌+◌, ◌*◌, ◌<◌, ◌≤◌, List, [], ◌∷◌, length, get_or, set, sym, refl, ap, ◌∙◌, arith, true≢false, Bool, true, false, Some, None, length-set, get_or-set_other, get_or-set_same, replicate}
+use Rattle.std.proofs.lemmas.List.{length-replicate}
 use native.Mathlib.Decide.{ℕ_discrete}
 use mathlib.Core.Option.{some, some-injective, some-ne-none}
 use lib.ListN.{get_elem?}
 use Rattle.cb_types.specs.declared.config.Config.{Config}
+use Rattle.cb_world.specs.Empty.{empty_words}
 use Rattle.cb_world.specs.FarState.{FarState}
 use Rattle.cb_world.specs.Memory.{window}
 use Rattle.cb_world.specs.Plain.{IsSized, Words}
@@ -70,40 +72,42 @@ all_filled ws p n m old new e more f = let z = f.len in let w = window_length ws
     (λ i l. let below : i < n = omega (arith, l, z, e) in
     f.below i (omega (arith, below, more)) ∙ sym (window_at ws p n i below))
 
-module _ (c : Config) (ws : List ℕ) (d : Words) (settings : d.settings ≡ c) (sized : IsSized d)
-  where
-    -- a desk with words put in is as large as before
-    pub words_sized : IsSized record d { words = window ws 1 c.handles }
-    words_sized = record {
-      words = window_length ws 1 c.handles ∙ sym (ap (λ (k : Config). k.handles) settings);
-      versions = sized.versions;
-      memory = sized.memory;
-    }
+module _ (c : Config) (ws : List ℕ) (d : Words) (settings : d.settings ≡ c) where
+  abbrev with_objects : Words
+  with_objects = record d {
+    words = window ws 1 c.handles;
+    versions = window ws (stamps c) c.handles;
+  }
 
-    pub versions_sized : IsSized record d { versions = window ws (stamps c) c.handles }
-    versions_sized = record {
-      words = sized.words;
-      versions =
-          window_length ws (stamps c) c.handles ∙ sym (ap (λ (k : Config). k.handles) settings);
-      memory = sized.memory;
-    }
+  -- a desk with the words of the objects put in is as large as before
+  pub objects_sized : IsSized d → IsSized with_objects
+  objects_sized sized = record {
+    words = window_length ws 1 c.handles ∙ sym (ap (λ (k : Config). k.handles) settings);
+    versions = window_length ws (stamps c) c.handles ∙ sym (ap (λ (k : Config). k.handles) settings);
+    memory = sized.memory;
+  }
 
-    -- with all of them put in it is the desk of the words
-    pub all_put : (x y z : Words) → x ≡ record d { words = window ws 1 c.handles }
-        → y ≡ record x { versions = window ws (stamps c) c.handles }
-        → z ≡ record y { memory = window ws (base c) (512 * c.frames) } → z ≡ desk_of c ws
-    all_put x y z a b e = e
-        ∙ ap (λ (q : Words). let r : Words = record q {
-          memory = window ws (base c) (512 * c.frames);
-        } in r) (b ∙ ap (λ (q : Words). let r : Words = record q {
-          versions = window ws (stamps c) c.handles;
-        } in r) a)
-        ∙ ap (λ (k : Config). let r : Words = record {
-          settings = k;
-          words = window ws 1 c.handles;
-          versions = window ws (stamps c) c.handles;
-          memory = window ws (base c) (512 * c.frames);
-        } in r) settings
+  -- with those of the frames put in too it is the desk of the words
+  pub all_put : (x z : Words) → x ≡ with_objects
+      → z ≡ record x { memory = window ws (base c) (512 * c.frames) } → z ≡ desk_of c ws
+  all_put x z a e = e
+      ∙ ap (λ (q : Words). let r : Words = record q {
+        memory = window ws (base c) (512 * c.frames);
+      } in r) a
+      ∙ ap (λ (k : Config). let r : Words = record {
+        settings = k;
+        words = window ws 1 c.handles;
+        versions = window ws (stamps c) c.handles;
+        memory = window ws (base c) (512 * c.frames);
+      } in r) settings
+
+-- the desk of no objects is as large as its configuration says
+pub empty_sized : (c : Config) → IsSized (empty_words c)
+empty_sized c = record {
+  words = length-replicate c.handles 0;
+  versions = length-replicate c.handles 0;
+  memory = length-replicate (512 * c.frames) 0;
+}
 
 -- a far state that stands in a slot is there
 abbrev is_there : LockSlot → Bool

@@ -28,6 +28,7 @@ mod PinsCounted
 mod ReadTurns
 mod TurnEnds
 mod ReadKept
+mod Glanced
 mod CallSteps
 mod WriteParts
 mod WorkedGround

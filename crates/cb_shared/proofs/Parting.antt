@@ -1,15 +1,18 @@
 -- What stands of a record that was split off, and of one that took another in.
-use Rattle.std.proofs.Common.{ℕ, ◌+◌, ◌<◌, ◌≤◌, List, [], ◌∷◌, ◌++◌, map, sym, refl, ap, ◌∙◌, subst, arith}
+use Rattle.std.proofs.Common.{◌≡◌, ℕ, ◌+◌, ◌<◌, ◌≤◌, List, [], ◌∷◌, ◌++◌, Some, map, sym, refl, ap, ◌∙◌, subst, arith}
+use Rattle.std.specs.Option.{option_or}
 use Rattle.cb_types.specs.declared.config.Config.{Config}
 use Rattle.cb_world.specs.declared.entry.Entry.{Entry}
 use Rattle.cb_world.specs.Empty.{empty_far}
 use Rattle.cb_rule.specs.declared.view.Seen.{Seen}
+use Rattle.cb_rule.specs.declared.turn.Turn.{Turn}
 use Rattle.cb_rule.specs.declared.view.View.{View}
 use Rattle.cb_rule.specs.Lists.{Each}
 use Rattle.cb_rule.specs.Records.{seen_of}
 use Rattle.cb_rule.specs.Steps.{joined, right_of}
 use Rattle.cb_shared.specs.Joining.{unpinned_all}
 use Rattle.cb_shared.specs.Passes.{IsAtRest}
+use Rattle.cb_shared.specs.Trying.{is_to_try_again, newest_tries, tries_of}
 
 each_both : {A : Type 0} (P : A → Type 0) (xs ys : List A) → Each P xs → Each P ys
     → Each P (xs ++ ys)
@@ -51,3 +54,13 @@ rest_joined c v w a b most = record {
   seen = each_both (λ (s : Seen). s.handle < c.handles) w.seen v.seen b.seen a.seen;
   pins = a.pins;
 }
+
+-- the newest turn is the other one's, if that had any
+pub tries_joined : (v w : View) → w.config ≡ v.config
+    → option_or (tries_of w) (tries_of v) ≡ tries_of (joined v (unpinned_all w))
+tries_joined v w same = go w.turns
+  where
+    go : (ts : List Turn) → option_or (newest_tries w.config ts) (tries_of v)
+        ≡ newest_tries v.config (ts ++ v.turns)
+    go [] = refl
+    go (t ∷ ts) = ap (λ (k : Config). Some (is_to_try_again k t.reply)) same

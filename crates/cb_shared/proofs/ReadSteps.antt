@@ -146,7 +146,7 @@ module _ (c : Config) (h saw v version : ℕ) (words bytes : List ℕ) (p s t : 
     refl,
   )
 
-  version_told : version ≡ v
+  pub version_told : version ≡ v
   version_told =
       let each : Each (λ (x : Stand). x.handle ≡ h → version ≡ x.version)
       (with_pin h saw v words p.me.0).pins =

@@ -122,7 +122,7 @@ rest_unpin c h v rest = record {
 }
 
 -- so after a look
-by_state : (w : ℕ) → (state_of w ≡ state.Empty) ⊎ (state_of w ≢ state.Empty)
+pub by_state : (w : ℕ) → (state_of w ≡ state.Empty) ⊎ (state_of w ≢ state.Empty)
 by_state w = go (state_of w) refl
   where
     go : (z : State) → state_of w ≡ z → (state_of w ≡ state.Empty) ⊎ (state_of w ≢ state.Empty)
@@ -134,18 +134,6 @@ by_state w = go (state_of w) refl
 pub rest_moved : (c : Config) (p q : Place) (w : View) → Moves p q w → IsAtRest c w
     → IsAtRest c q.me.0
 rest_moved c p q w m rest = subst (λ (x : Sat). IsAtRest c x.0) (sym m.2) rest
-
-pub rest_glance : (c : Config) (h w : ℕ) (p q : Place) → Glances h w p q → h < c.handles
-    → IsAtRest c p.me.0 → IsAtRest c q.me.0
-rest_glance c h w p q g below rest = ⊎_elim
-    (λ (e : state_of w ≡ state.Empty). let f = g.freed e in
-    rest_moved c p q (with_freed_seen h f.0 w p.me.0) f.2 (rest_freed c h f.0 w p.me.0 rest below))
-    (λ (ne : state_of w ≢ state.Empty).
-    rest_moved c p q (with_look h w p.me.0) (g.other ne) (rest_look c h w p.me.0 rest)) (by_state w)
-
-pub table_glance : (h w : ℕ) (p q : Place) → Glances h w p q → q.table_id ≡ p.table_id
-table_glance h w p q g = ⊎_elim (λ (e : state_of w ≡ state.Empty). (g.freed e).2.0)
-    (λ (ne : state_of w ≢ state.Empty). (g.other ne).0) (by_state w)
 
 pub view_of : (p q : Place) (w : View) → Moves p q w → q.me.0 ≡ w
 view_of p q w m = ap (λ (x : Sat). x.0) m.2

@@ -6,7 +6,7 @@ ghost use Rattle.cb_world.specs.Seats.{idle_seat};
 ghost use Rattle.cb_shared.specs.Closing.{IsClosedBy, RefusesToClose};
 ghost use Rattle.cb_shared.specs.Passes.{IsPassOf};
 
-use crate::filling::{fill, take_far};
+use crate::filling::{fill_memory, fill_objects, take_far};
 use crate::pass::Pass;
 use crate::refused::CloseRefused;
 use crate::runtime::Shared;
@@ -84,7 +84,8 @@ fn close_whole(shared: Shared, pass: Pass, still: Still) -> (World, Seal)
     let rows = board.close_with(seat);
     let Still { desk, seats } = still;
     let mut desk = desk;
-    fill(&rows, &mut desk, &config);
+    fill_objects(&rows, &mut desk, &config);
+    fill_memory(&rows, &mut desk, &config);
     let far = take_far(rows);
     let world = World { desk, far, seats };
     let seal = draft.seal(&world);

@@ -7,7 +7,6 @@ ghost use Rattle.cb_types.specs.Config.{IsAccepted};
 ghost use Rattle.cb_world.specs.FarState.{FarState};
 ghost use Rattle.cb_world.specs.Memory.{window};
 ghost use Rattle.cb_world.specs.Plain.{IsSized};
-ghost use Rattle.cb_rule.specs.Closing.{desk_of};
 ghost use Rattle.cb_rule.specs.Words.{base, stamps};
 
 use crate::boxed_far::BoxedFar;
@@ -19,36 +18,23 @@ use std::alloc::Global;
 /// The table of the words, which no seat shares any more.
 pub(crate) type Rows = Closed<Option<BoxedFar>, Global>;
 
-/// Puts the pointer words of all objects.
-fn fill_words(rows: &Rows, desk: &mut PlainDesk, config: &Config)
+/// Puts the pointer words and the version words of all objects.
+pub(crate) fn fill_objects(rows: &Rows, desk: &mut PlainDesk, config: &Config)
     requires full { IsFull rows.now.words }
     requires words { slots_len rows.now.words ≡ base config.now + 512 * config.now.frames }
     requires settings { desk.old.settings ≡ config.now }
     requires sized { IsSized desk.old }
     ensures { desk.new ≡ record desk.old {
       words = window (slots_items rows.now.words) 1 config.now.handles;
-    } }
-{
-    for h in 0..config.handles {
-        let found = rows.word(1 + h as usize);
-        desk.put_word(Handle { n: h }, found);
-    }
-}
-
-/// Puts the version words of all objects.
-fn fill_versions(rows: &Rows, desk: &mut PlainDesk, config: &Config)
-    requires full { IsFull rows.now.words }
-    requires words { slots_len rows.now.words ≡ base config.now + 512 * config.now.frames }
-    requires settings { desk.old.settings ≡ config.now }
-    requires sized { IsSized desk.old }
-    ensures { desk.new ≡ record desk.old {
       versions = window (slots_items rows.now.words) (stamps config.now) config.now.handles;
     } }
 {
     let first = 1 + config.handles as usize;
     for h in 0..config.handles {
-        let found = rows.word(first + h as usize);
-        desk.stamp(Handle { n: h }, found);
+        let word = rows.word(1 + h as usize);
+        desk.put_word(Handle { n: h }, word);
+        let version = rows.word(first + h as usize);
+        desk.stamp(Handle { n: h }, version);
     }
 }
 
@@ -66,7 +52,7 @@ fn put_memory(desk: &mut PlainDesk, place: u32, found: u64)
 }
 
 /// Puts the memory words of all frames where 0 stands.
-fn fill_memory(rows: &Rows, desk: &mut PlainDesk, config: &Config)
+pub(crate) fn fill_memory(rows: &Rows, desk: &mut PlainDesk, config: &Config)
     requires accepted { IsAccepted config.now }
     requires full { IsFull rows.now.words }
     requires words { slots_len rows.now.words ≡ base config.now + 512 * config.now.frames }
@@ -82,21 +68,6 @@ fn fill_memory(rows: &Rows, desk: &mut PlainDesk, config: &Config)
         let found = rows.word(first + place as usize);
         put_memory(desk, place, found);
     }
-}
-
-/// Puts all words of the table into a desk of the same configuration, whose memory is all 0.
-pub(crate) fn fill(rows: &Rows, desk: &mut PlainDesk, config: &Config)
-    requires accepted { IsAccepted config.now }
-    requires full { IsFull rows.now.words }
-    requires words { slots_len rows.now.words ≡ base config.now + 512 * config.now.frames }
-    requires settings { desk.old.settings ≡ config.now }
-    requires sized { IsSized desk.old }
-    requires blank { (i : ℕ) → slice_index desk.old.memory i ≡ 0 }
-    ensures { desk.new ≡ desk_of config.now (slots_items rows.now.words) }
-{
-    fill_words(rows, desk, config);
-    fill_versions(rows, desk, config);
-    fill_memory(rows, desk, config);
 }
 
 /// Takes the far state out of its slot, and gives the memory of the table back.

@@ -1,0 +1,115 @@
+-- What a look at a pointer word leaves of a pass, and a pin or a write behind it.
+use Rattle.std.proofs.Common.{◌≡◌, ◌≢◌, ℕ, ◌<◌, List, sym, refl, ap, ◌∙◌, subst, arith, ⊎_elim}
+use Rattle.atomic_table.specs.Seated.{TableId}
+use Rattle.cb_types.specs.declared.config.Config.{Config}
+use Rattle.cb_ptr.specs.declared.word.State.TheVariants as state
+use Rattle.cb_ptr.specs.Word.{state_of}
+use Rattle.cb_rule.specs.declared.view.View.{View}
+use Rattle.cb_rule.specs.Slot.{Sat}
+use Rattle.cb_rule.specs.Steps.{IsNewest, with_freed_seen, with_look, with_pin}
+use Rattle.cb_shared.specs.declared.answers.PinAnswer.{PinAnswer}
+use Rattle.cb_shared.specs.declared.answers.PinAnswer.TheVariants as pins
+use Rattle.cb_shared.specs.declared.answers.WriteAnswer.{WriteAnswer}
+use Rattle.cb_shared.specs.declared.answers.WriteAnswer.TheVariants as writes
+use Rattle.cb_shared.specs.declared.pass.Pass.{Pass}
+use Rattle.cb_shared.specs.declared.runtime.Shared.{Shared}
+use Rattle.cb_shared.specs.declared.setup.Setup.{Setup}
+use Rattle.cb_shared.specs.Glances.{Glances}
+use Rattle.cb_shared.specs.Passes.{IsAtRest, IsPassOf}
+use Rattle.cb_shared.specs.Pinning.{PinAt, PinGives}
+use Rattle.cb_shared.specs.Places.{IsOf, Moves, Place}
+use Rattle.cb_shared.specs.Trying.{tries_of}
+use Rattle.cb_shared.specs.Writing.{WriteAt}
+use Rattle.cb_shared.proofs.ReadKept.{IsSeatKept}
+use Rattle.cb_shared.proofs.Resting.{by_state, here_empty, rest_freed, rest_look, rest_moved, view_of}
+
+-- the seat of a pass is of its runtime's table
+pub of_pass : (s : Shared) (p : Pass) → IsPassOf s p
+    → IsOf s.board.shared.table_id s.board.shared.key s.config p.seat
+of_pass s p o = record {
+  table = o.table;
+  words = (let z = s.counts in omega (arith, z));
+  key = s.key;
+  config = o.rest.config;
+  live = o.rest.live;
+}
+
+-- and stays of it
+pub of_kept : (z : TableId) (k : Setup) (c : Config) (p q : Place) → IsOf z k c p
+    → IsSeatKept c p q → IsOf z k c q
+of_kept z k c p q o x = record {
+  table = x.table ∙ o.table;
+  words = o.words;
+  key = o.key;
+  config = x.rest.config;
+  live = x.rest.live;
+}
+
+kept_moves : (c : Config) (p q : Place) (w : View) → Moves p q w → w.share ≡ p.me.0.share
+    → w.pins ≡ p.me.0.pins → tries_of w ≡ tries_of p.me.0 → IsAtRest c w → IsSeatKept c p q
+kept_moves c p q w m share pins tries rest = record {
+  table = m.0;
+  share = ap (λ (s : Sat). s.0.share) m.2 ∙ share;
+  carries = ap (λ (s : Sat). s.1) m.2;
+  pins = ap (λ (s : Sat). s.0.pins) m.2 ∙ pins;
+  tries = ap (λ (s : Sat). tries_of s.0) m.2 ∙ tries;
+  rest = rest_moved c p q w m rest;
+}
+
+pub kept_glance : (c : Config) (h w : ℕ) (p q : Place) → Glances h w p q → h < c.handles
+    → IsAtRest c p.me.0 → IsSeatKept c p q
+kept_glance c h w p q g below rest = ⊎_elim
+    (λ (e : state_of w ≡ state.Empty). let f = g.freed e in
+    kept_moves c p q (with_freed_seen h f.0 w p.me.0) f.2 refl refl refl
+    (rest_freed c h f.0 w p.me.0 rest below))
+    (λ (ne : state_of w ≢ state.Empty).
+    kept_moves c p q (with_look h w p.me.0) (g.other ne) refl refl refl
+    (rest_look c h w p.me.0 rest)) (by_state w)
+
+-- a pin at the word that was found is answered
+pub pinned_gives : (h w : ℕ) (a : PinAnswer) (p m q : Place) → Glances h w p m
+    → state_of w ≡ state.Here → PinAt h w a m.me.0 q.me.0 → PinGives h a p.me.0 q.me.0
+pinned_gives h w (pins.Pinned x) p m q g here at =
+    let saw = view_of p m (with_look h w p.me.0) (g.other (λ e. here_empty (sym here ∙ e))) in
+    let y = subst (IsNewest h x.version) saw at.1.newest in record {
+      word = w;
+      words = at.0;
+      here = here;
+      handle = at.1.handle;
+      len = at.1.len;
+      place = at.1.place;
+      newest = record { written = y.written; seen = y.seen; lone = y.lone };
+      left = at.1.left ∙ ap (with_pin h w x.version at.0) saw;
+    }
+pinned_gives h w (pins.Raced seen found) p m q g here at =
+    let saw = view_of p m (with_look h w p.me.0) (g.other (λ e. here_empty (sym here ∙ e))) in (
+      (λ e. at.1 (e ∙ at.0)),
+      at.2 ∙ ap (with_look h found) saw
+          ∙ ap (λ (n : ℕ). with_look h found (with_look h n p.me.0)) (sym at.0),
+    )
+pinned_gives h w pins.ScopeFull p m q g here at = absurd at
+pinned_gives h w pins.Freed p m q g here at = absurd at
+pinned_gives h w pins.NotHere p m q g here at = absurd at
+pinned_gives h w pins.Moving p m q g here at = absurd at
+pinned_gives h w pins.Crowded p m q g here at = absurd at
+
+-- neither a pin nor a write at a word changes whether the newest turn is made again
+pub pin_tries : (h w : ℕ) (a : PinAnswer) (u v : View) → PinAt h w a u v → tries_of v ≡ tries_of u
+pin_tries h w (pins.Pinned x) u v at = ap tries_of at.1.left
+pin_tries h w (pins.Raced seen found) u v at = ap tries_of at.2
+pin_tries h w pins.ScopeFull u v at = absurd at
+pin_tries h w pins.Freed u v at = absurd at
+pin_tries h w pins.NotHere u v at = absurd at
+pin_tries h w pins.Moving u v at = absurd at
+pin_tries h w pins.Crowded u v at = absurd at
+
+pub write_tries : (h w at : ℕ) (bytes : List ℕ) (a : WriteAnswer) (u v : View)
+    → WriteAt h w at bytes a u v → tries_of v ≡ tries_of u
+write_tries h w at bytes (writes.Ok version) u v x = ap tries_of x.left
+write_tries h w at bytes writes.Worn u v x = ap tries_of x.left
+write_tries h w at bytes (writes.Raced seen found) u v x = ap tries_of x.2
+write_tries h w at bytes writes.Freed u v x = absurd x
+write_tries h w at bytes writes.NotHere u v x = absurd x
+write_tries h w at bytes writes.Moving u v x = absurd x
+write_tries h w at bytes (writes.Range len) u v x = absurd x
+write_tries h w at bytes (writes.Pinned count) u v x = absurd x

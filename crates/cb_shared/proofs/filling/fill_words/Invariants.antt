@@ -1,8 +1,0 @@
-use Rattle.std.proofs.Common.{◌≡◌, List, ℕ}
-use Rattle.std.specs.Slots.{slots_items}
-use Rattle.cb_shared.proofs.Filled.{AreWordsFilled}
-use Rattle.cb_shared.proofs.filling.fill_words.Given as goal
-
-abbrev pub invariant-loop-h : goal.invariant-loop-h
-invariant-loop-h l = (xs : List ℕ) × (l.desk ≡ record l.fn.desk { words = xs })
-    × AreWordsFilled (slots_items l.rows.words) 1 l.h l.fn.desk.words xs
