@@ -22,7 +22,7 @@ use Rattle.cb_shared.specs.declared.answers.WriteAnswer.{WriteAnswer}
 use Rattle.cb_shared.specs.declared.answers.WriteAnswer.TheVariants as writes
 use Rattle.cb_shared.specs.declared.pass.Pin.{Pin}
 use Rattle.cb_shared.specs.Calls.{ReadGives, StopsInVain, TurnGives, WriteAnswers}
-use Rattle.cb_shared.specs.Passes.{IsPinOf, stand_of}
+use Rattle.cb_shared.specs.Passes.{IsPinOf}
 use Rattle.cb_shared.specs.Pinning.{PinGives}
 use Rattle.cb_shared.specs.Turning.{TurnAdds, TurnBy, with_own}
 use Rattle.cb_shared.specs.Writing.{WriteGives}

@@ -1,6 +1,6 @@
 -- Worked looks at what a record has of its own objects: what meets each definition, and what breaks
 -- one of its parts alone.
-use Rattle.std.proofs.Common.{◌≡◌, ℕ, zero, suc, List, [], ◌∷◌, ◌++◌, Some, inl, refl, sym, ap, ◌∙◌, subst, ⊎_elim}
+use Rattle.std.proofs.Common.{◌≡◌, ℕ, zero, suc, [], ◌∷◌, ◌++◌, Some, inl, refl, sym, ap, ◌∙◌, subst, ⊎_elim}
 use Rattle.std.proofs.lemmas.Bool.{eqb-false}
 use mathlib.Core.Option.{some, some-injective, some-ne-none}
 use lib.ListN.{get_elem?}
@@ -13,7 +13,7 @@ use Rattle.cb_world.specs.declared.entry.Entry.{Entry}
 use Rattle.cb_rule.specs.declared.turn.Turn.{Turn}
 use Rattle.cb_rule.specs.declared.view.View.{View}
 use Rattle.cb_rule.specs.Lists.{Has}
-use Rattle.cb_rule.specs.OwnStands.{OwnStands, WroteItself}
+use Rattle.cb_rule.specs.OwnStands.{WroteItself}
 use Rattle.cb_rule.specs.Slot.{LockSlot, Sat}
 use Rattle.cb_rule.specs.Steps.{blank, freed_seen}
 use Rattle.cb_shared.specs.Recalls.{MakesFirst, Recalls, recalled}

@@ -49,9 +49,10 @@ load-requires c = let s = c.args.self.now in (
 )
 
 -- what the look leaves
-left : (c : After-load) → c.load.new.seat.me ≡ (let z : Sat =
-    (joined c.args.pass.now.seat.me.0 (unpinned_all c.args.other.seat.me.0),
-    c.args.pass.now.seat.me.1) in z)
+left : (c : After-load) → c.load.new.seat.me ≡ (let z : Sat = (
+  joined c.args.pass.now.seat.me.0 (unpinned_all c.args.other.seat.me.0),
+  c.args.pass.now.seat.me.1,
+) in z)
 left c = let p = c.args.pass.now.seat.me in
     c.load.ensures.2.0 ∙ c.join_seats.ensures.2
     ∙ ap (λ (m : Sat). let z : Sat = (joined p.0 m.0, p.1) in z) c.give_back.ensures.2
