@@ -15,6 +15,7 @@ use Rattle.cb_record.specs.Parts.{Part, grown}
 use Rattle.cb_shared.specs.Calls.{IsAnswer, IsLack, ReadCallEnds, ReadGives, SaysAs, TellsOfIt, TurnGives, WriteAnswers, WriteCallEnds, the_handle}
 use Rattle.cb_shared.specs.declared.answers.WriteAnswer.{WriteAnswer}
 use Rattle.cb_shared.specs.declared.answers.WriteAnswer.TheVariants as place
+use Rattle.cb_shared.proofs.Laws.{read_lacks}
 use Rattle.cb_lanes.specs.declared.body.Named.{Named}
 use Rattle.cb_lanes.specs.Asked.{HasLineReply}
 use Rattle.cb_lanes.specs.Bodies.{LinesGo, handle_behind}
@@ -49,7 +50,7 @@ module _ (c : Config) where
   read_ends : (h : ℕ) (r : Reply) (v : View) (d : Part) → ReadCallEnds c h r v d → EndsTries c r
   read_ends h (answer.Bytes version bytes) v d x = refl
   read_ends h answer.Freed v d x = refl
-  read_ends h r v d x = lack_ends r x.turned.0
+  read_ends h r v d x = lack_ends r (read_lacks c h r v d (λ t. t) x)
 
   said_ends : (a : WriteAnswer) (r : Reply) → SaysAs a r → EndsTries c r
   said_ends (place.Ok version) r is = as_is r (answer.Version version) refl is

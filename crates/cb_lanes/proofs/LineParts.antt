@@ -39,12 +39,12 @@ use Rattle.cb_record.specs.Needs.{FindsEmpty, IsFreedAs, IsJobFor, IsTurnFor, Me
 use Rattle.cb_record.specs.Parts.{Grows, Part, grown, nothing_more, sum}
 use Rattle.cb_record.specs.Told.{Told}
 use Rattle.cb_record.proofs.Laws.{backs_sum, grown-nothing_more, grown-sum, has_one_left, idle_backs}
-use Rattle.cb_shared.specs.Calls.{AsksFor, AtThis, EndsAtLast, IsInVain, IsLack, ReadCallEnds, ReadGives, TurnGives, WriteAnswers, WriteCallEnds, WriteFinds, SaysAs, the_handle, worn_once, written_once}
+use Rattle.cb_shared.specs.Calls.{AsksFor, AtThis, EndsAtLast, IsAnswerTo, IsInVain, IsLack, ReadCallEnds, ReadGives, ReadsInPlace, TurnGives, WriteAnswers, WriteCallEnds, WriteFinds, SaysAs, the_handle, worn_once, written_once}
 use Rattle.cb_shared.specs.declared.answers.WriteAnswer.{WriteAnswer}
 use Rattle.cb_shared.specs.declared.answers.WriteAnswer.TheVariants as place
 use Rattle.cb_shared.specs.declared.reading.ReadAnswer.TheVariants as found
-use Rattle.cb_shared.specs.Reading.{FindsGone, looked, looked_freed, read_once}
-use Rattle.cb_shared.specs.Turning.{DidAs, FindsAtLast, TurnAdds, TurnBy, made_by_turn, turn_part}
+use Rattle.cb_shared.specs.Reading.{FindsGone, IsReadHere, looked, looked_freed, read_once}
+use Rattle.cb_shared.specs.Turning.{DidAs, FindsAtLast, JobReads, TurnAdds, TurnBy, made_by_turn, turn_part}
 use Rattle.cb_shared.proofs.Laws.{freed_part, known_grown}
 use Rattle.cb_lanes.specs.Names.{IsOnObject}
 use Rattle.cb_lanes.specs.LineGoes.{CallGoes, LineGoes, job_of}
@@ -98,7 +98,7 @@ idle_turns (t ∷ ts) idle =
     ap (λ (l : List Deed). l ++ flat_map (λ (u : Turn). happened (deed u)) ts) idle.0
     ∙ idle_turns ts idle.1
 
-vain_backs : (on : ℕ → Type 0) (j : Job) (d : Part) → IsInVain on j d → Backs d []
+vain_backs : (on : ℕ → Type 0) (j : Turn → Type 0) (d : Part) → IsInVain on j d → Backs d []
 vain_backs on j d x = idle_backs d (ap (λ (z : Part). z.written) x.part)
     (ap (λ (z : Part). flat_map (λ (u : Turn). happened (deed u)) z.turns) x.part
     ∙ idle_turns x.turns x.idle)
@@ -109,7 +109,7 @@ behind_vain : (before last d : Part) (t : Told) → d ≡ sum before last → Ba
 behind_vain before last d t is vain b =
     subst (λ (z : Part). Backs z (t ∷ [])) (sym is) (backs_sum before last [] (t ∷ []) vain b)
 
-ends_back : (on : ℕ → Type 0) (j : Job) (P : View → Part → Type 0) (v : View) (d : Part) (t : Told)
+ends_back : (on : ℕ → Type 0) (j : Turn → Type 0) (P : View → Part → Type 0) (v : View) (d : Part) (t : Told)
     → (x : EndsAtLast on j P v d) → Backs x.last (t ∷ []) → Backs d (t ∷ [])
 ends_back on j P v d t x b = behind_vain x.before x.last d t x.part (vain_backs on j x.before x.in_vain) b
 
@@ -420,27 +420,6 @@ freed_backs h q version word enters needs empty no_pin turned happens =
     (needs (inl (refl, refl), inl (refl, empty))) (omega (arith, no_pin))
     (subst (λ (l : List Deed). IsSublist l []) (sym turned) ended) (sym happens)
 
--- ---- a read
-read_ends : (c : Config) (h : ℕ) (name : List ℕ) (r : Reply) (v : View) (d : Part)
-    → ReadCallEnds c h r v d → Backs d (told_as (Some h) (Read name) r ∷ [])
-read_ends c h name (answer.Bytes version bytes) v d x =
-    subst (λ (z : Part). Backs z (told_as (Some h) (Read name) (answer.Bytes version bytes) ∷ []))
-    (sym x.part)
-    (one_backs (read_once h x.word version x.words) _ refl (inl (refl, refl, refl, x.bytes_are))
-    (omega arith) ended refl)
-read_ends c h name answer.Freed v d (word, version, empty, newest, is) =
-    subst (λ (z : Part). Backs z (told_as (Some h) (Read name) answer.Freed ∷ [])) (sym is)
-    (freed_backs h (Read name) version word refl (λ m. m) empty refl refl refl)
-read_ends c h name r v d x = swap_backs c h (Read name) r v d (read_by_swap h name) x
-
-read_line : (c : Config) (h : ℕ) (name : List ℕ) (r : Reply) (v w : View) → ReadGives c h r v w
-    → LineAdds v w (told_as (Some h) (Read name) r)
-read_line c h name r v w (d, x, grew) = (
-  d,
-  adds_grown v w d grew,
-  ends_back _ _ _ v d _ x (read_ends c h name r (grown x.before v) x.last x.ends_so),
-)
-
 -- ---- the freed entry that is read behind a turn
 freed_last : (h : ℕ) (v : View) (d : Part) → FindsAtLast h found.Freed v d → Meets d (AFreed h)
 freed_last h v d x = subst (λ (z : Part). Meets z (AFreed h))
@@ -455,6 +434,96 @@ freed_turn : (h : ℕ) (t : Turn) (more : List Entry) (within later : Part) → 
 freed_turn h t more within later m = (
   has_one_left (IsFreedAs h) later.seen within.seen m.0,
   has_one_left (FindsEmpty h) later.looks within.looks m.1,
+)
+
+-- ---- a read
+in_place_backs : (h : ℕ) (name : List ℕ) (r : Reply) (v : View) (d : Part) → ReadsInPlace h r v d
+    → Backs d (told_as (Some h) (Read name) r ∷ [])
+in_place_backs h name (answer.Bytes version bytes) v d x =
+    subst (λ (z : Part). Backs z (told_as (Some h) (Read name) (answer.Bytes version bytes) ∷ []))
+    (sym x.part)
+    (one_backs (read_once h x.word version x.words) _ refl (inl (refl, refl, refl, x.bytes_are))
+    (omega arith) ended refl)
+in_place_backs h name answer.Freed v d (word, version, empty, newest, is) =
+    subst (λ (z : Part). Backs z (told_as (Some h) (Read name) answer.Freed ∷ [])) (sym is)
+    (freed_backs h (Read name) version word refl (λ m. m) empty refl refl refl)
+in_place_backs h name r v d x = absurd x
+
+-- what the pin of a turn Read read
+module _ (c : Config) (h version : ℕ) (bytes : List ℕ) (v : View) (within : Part)
+    (x : JobReads (job.Read (the_handle h)) (Ok (answer.Bytes version bytes)) v within) where
+  pinned_part : FindsAtLast h (found.Bytes version bytes) v within
+  pinned_part = by x
+    where
+      by : JobReads (job.Read (the_handle h)) (Ok (answer.Bytes version bytes)) v within
+          → FindsAtLast h (found.Bytes version bytes) v within
+      by (inl y) = absurd y.1
+      by (inr y) = y
+
+  pinned_read : IsReadHere h version bytes (grown pinned_part.before v) pinned_part.last
+  pinned_read = pinned_part.finds
+
+  pinned_seen : HasOne (IsReadAs h version bytes) within.seen
+  pinned_seen = subst (λ (z : Part). HasOne (IsReadAs h version bytes) z.seen)
+      (sym (pinned_part.part ∙ ap (sum pinned_part.before) pinned_read.part))
+      (inl (refl, refl, refl, pinned_read.bytes_are))
+
+  pinned_ever : 1 ≤ within.ever
+  pinned_ever =
+      let e : within.ever ≡ pinned_part.before.ever + pinned_part.last.ever =
+      ap (λ (z : Part). z.ever) pinned_part.part in
+      let one : pinned_part.last.ever ≡ 1 = ap (λ (z : Part). z.ever) pinned_read.part in
+      omega (arith, e, one)
+
+-- a turn of its own job, which stands there as told
+read_turned : (c : Config) (h : ℕ) (name : List ℕ) (r : Reply) (v : View) (d : Part)
+    → (x : TurnAdds c (job.Read (the_handle h)) (Ok r) v d)
+    → Meets (turn_part x.turn x.more x.within x.later) (need_of (Some h) (Read name) r)
+    → pins_at (Read name) r ≤ x.within.ever + x.later.ever
+    → Backs d (told_as (Some h) (Read name) r ∷ [])
+read_turned c h name r v d x meets pins =
+    subst (λ (z : Part). Backs z (told_as (Some h) (Read name) r ∷ [])) (sym x.part)
+    (one_backs (turn_part x.turn x.more x.within x.later) (told_as (Some h) (Read name) r)
+    (subst (EntersAt (Some h) (Read name) r) (sym x.wrote) refl) meets pins
+    (beside [] _ [] ended)
+    (append-nil (happened (deed x.turn))
+    ∙ ap happened (λ i. record { job = x.job_is i; reply = x.reply_is i })))
+
+read_turn : (c : Config) (h : ℕ) (name : List ℕ) (r : Reply) (v : View) (d : Part)
+    → IsAnswerTo c (job.Read (the_handle h)) r → TurnAdds c (job.Read (the_handle h)) (Ok r) v d
+    → Backs d (told_as (Some h) (Read name) r ∷ [])
+read_turn c h name (answer.Bytes version bytes) v d a x =
+    let ever = pinned_ever c h version bytes v x.within x.reads in
+    read_turned c h name (answer.Bytes version bytes) v d x
+    (has_one_left (IsReadAs h version bytes) x.later.seen x.within.seen
+    (pinned_seen c h version bytes v x.within x.reads)) (omega (arith, ever))
+read_turn c h name answer.Freed v d a x = read_turned c h name answer.Freed v d x
+    (freed_turn h x.turn x.more x.within x.later (freed_last h _ x.later x.finds)) (omega arith)
+read_turn c h name (answer.Unavailable set lost) v d a x = read_turned c h name _ v d x
+    (its_turn c _ (Some h) _ _ v d refl x) (omega arith)
+read_turn c h name (answer.NoRoom frames loose nodes) v d a x = read_turned c h name _ v d x
+    (its_turn c _ (Some h) _ _ v d refl x) (omega arith)
+read_turn c h name answer.Worn v d a x = read_turned c h name answer.Worn v d x
+    (its_turn c _ (Some h) _ _ v d refl x) (omega arith)
+read_turn c h name r v d (inl a) x = absurd a
+read_turn c h name r v d (inr a) x = absurd a
+
+read_ends : (c : Config) (h : ℕ) (name : List ℕ) (r : Reply) (v : View) (d : Part)
+    → ReadCallEnds c h r v d → Backs d (told_as (Some h) (Read name) r ∷ [])
+read_ends c h name r v d (inl x) = in_place_backs h name r v d x
+read_ends c h name r v d (inr (j, inl is, x)) = swap_backs c h (Read name) r v d
+    (read_by_swap h name) (subst (λ (k : Job). AsksFor c k r h v d) is x)
+read_ends c h name r v d (inr (j, inr is, x)) =
+    let y = subst (λ (k : Job). AsksFor c k r h v d) is x in
+    look_behind h y.word y.later d (told_as (Some h) (Read name) r) y.part
+    (read_turn c h name r _ y.later y.turned.0 y.turned.1)
+
+read_line : (c : Config) (h : ℕ) (name : List ℕ) (r : Reply) (v w : View) → ReadGives c h r v w
+    → LineAdds v w (told_as (Some h) (Read name) r)
+read_line c h name r v w (d, x, grew) = (
+  d,
+  adds_grown v w d grew,
+  ends_back _ _ _ v d _ x (read_ends c h name r (grown x.before v) x.last x.ends_so),
 )
 
 -- ---- a write
@@ -636,7 +705,7 @@ pin_at_last c h name r v w x = (
   sum before last,
   adds_sum v x.between w before last (adds_grown v x.between before x.in_vain.2) ends.1,
   backs_sum before last [] (told_as (Some h) (Pin name) r ∷ [])
-      (vain_backs (AtThis h) (job.Swap (the_handle h)) before x.in_vain.1) ends.2,
+      (vain_backs (AtThis h) _ before x.in_vain.1) ends.2,
 )
   where
     ends : LineAdds x.between w (told_as (Some h) (Pin name) r)

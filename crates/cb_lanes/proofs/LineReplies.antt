@@ -22,6 +22,7 @@ use Rattle.cb_shared.specs.Calls.{IsAnswer, IsLack, ReadCallEnds, ReadGives, Say
 use Rattle.cb_shared.specs.declared.answers.WriteAnswer.{WriteAnswer}
 use Rattle.cb_shared.specs.declared.answers.WriteAnswer.TheVariants as place
 use Rattle.cb_shared.specs.Turning.{DidAs, ReadsByPin, Slate, TurnAdds, TurnBy, slate_run, slate_shows}
+use Rattle.cb_shared.proofs.Laws.{read_lacks}
 use Rattle.cb_lanes.specs.declared.body.Named.{Named}
 use Rattle.cb_lanes.specs.Asked.{HasLineReply}
 use Rattle.cb_lanes.specs.Bodies.{LinesGo, handle_behind}
@@ -76,7 +77,7 @@ module _ (c : Config) where
       → IsReplyOf (Read name) r
   read_ends h name (answer.Bytes version bytes) v d x = tt
   read_ends h name answer.Freed v d x = tt
-  read_ends h name r v d x = lack_read name r x.turned.0
+  read_ends h name r v d x = lack_read name r (read_lacks c h r v d (λ t. t) x)
 
   read_reply : (h : ℕ) (name : List ℕ) (r : Reply) (v w : View) → ReadGives c h r v w
       → IsReplyOf (Read name) r

@@ -1,7 +1,8 @@
 -- What a line was answered is as behind all that the record of its pass had before it.
-use Rattle.std.proofs.Common.{◌≡◌, ℕ, Bool, List, Option, Some, sym, subst, arith}
+use Rattle.std.proofs.Common.{◌≡◌, ℕ, Bool, List, Option, Some, Ok, inl, inr, sym, subst, arith}
 use Rattle.std.proofs.lemmas.Option.{same_Some}
 use Rattle.cb_types.specs.declared.config.Config.{Config}
+use Rattle.cb_types.specs.declared.job.Job.{Job}
 use Rattle.cb_types.specs.declared.job.Job.TheVariants as job
 use Rattle.cb_types.specs.declared.reply.Reply.{Reply}
 use Rattle.cb_types.specs.declared.reply.Reply.TheVariants as answer
@@ -11,16 +12,17 @@ use Rattle.cb_rule.specs.declared.view.View.{View}
 use Rattle.cb_rule.specs.Steps.{with_look}
 use Rattle.cb_model.specs.Event.{Event, event_of}
 use Rattle.cb_model.specs.Legal.{IsNotBelow}
-use Rattle.cb_record.specs.Parts.{grown}
+use Rattle.cb_record.specs.Parts.{Part, grown}
 use Rattle.cb_record.specs.Rises.{HasVersion}
-use Rattle.cb_shared.specs.Calls.{ReadGives}
-use Rattle.cb_shared.specs.Reading.{IsReadHere}
+use Rattle.cb_shared.specs.Calls.{AsksFor, ReadCallEnds, ReadGives, the_handle}
+use Rattle.cb_shared.specs.Reading.{IsReadHere, looked}
+use Rattle.cb_shared.specs.Turning.{JobReads}
 use Rattle.cb_lanes.specs.LineGoes.{CallGoes, Calls, LineGoes, Peeks}
 use Rattle.cb_lanes.specs.Passing.{IsPinnedOnce, PinGoes, goes_in}
 use Rattle.cb_lanes.proofs.LineParts.{about, make_handle}
 use Rattle.cb_lanes.proofs.LineVersions.{by_line}
 use Rattle.cb_lanes.proofs.PinsRead.{has_grown}
-use Rattle.cb_lanes.proofs.TellingNew.{TellsNew, ask_new, newest_above}
+use Rattle.cb_lanes.proofs.TellingNew.{IsAtLeast, TellsNew, ask_new, newest_above}
 
 -- ---- an event is not below what the record has
 abbrev pub IsHigher : View → ℕ → Event → Type 0
@@ -34,11 +36,34 @@ make_higher name bytes (answer.Made handle version) v new h is n freed has =
 make_higher name bytes answer.Freed v new h is n freed has = tt
 make_higher name bytes r v new h is n freed has = tt
 
+-- what a read under a pin found is not below what the record had, nor what it had before looks
+here_least : (h version : ℕ) (bytes : List ℕ) (u : View) (d : Part) → IsReadHere h version bytes u d
+    → IsAtLeast u h version
+here_least h version bytes u d here = newest_above h version (with_look h here.word u) here.newest
+
+read_least : (c : Config) (h version : ℕ) (bytes : List ℕ) (u : View) (d : Part)
+    → ReadCallEnds c h (answer.Bytes version bytes) u d → IsAtLeast u h version
+read_least c h version bytes u d (inl here) = here_least h version bytes u d here
+read_least c h version bytes u d (inr (j, inl is, x)) =
+    absurd (subst (λ (k : Job). AsksFor c k (answer.Bytes version bytes) h u d) is x).turned.0
+read_least c h version bytes u d (inr (j, inr is, x)) = by y.turned.1.reads
+  where
+    y : AsksFor c (job.Read (the_handle h)) (answer.Bytes version bytes) h u d
+    y = subst (λ (k : Job). AsksFor c k (answer.Bytes version bytes) h u d) is x
+
+    m : View
+    m = grown (looked h y.word) u
+
+    by : JobReads (job.Read (the_handle h)) (Ok (answer.Bytes version bytes)) m y.turned.1.within
+        → IsAtLeast u h version
+    by (inl z) = absurd z.1
+    by (inr z) = λ n freed has. here_least h version bytes (grown z.before m) z.last z.finds n freed
+        (has_grown z.before m h n freed (has_grown (looked h y.word) u h n freed has))
+
 read_higher : (c : Config) (h : ℕ) (name : List ℕ) (r : Reply) (v w : View) → ReadGives c h r v w
     → IsHigher v h (event_of (Read name) r)
 read_higher c h name (answer.Bytes version bytes) v w (d, x, is) n freed has =
-    let here : IsReadHere h version bytes (grown x.before v) x.last = x.ends_so in
-    newest_above h version (with_look h here.word (grown x.before v)) here.newest n freed
+    read_least c h version bytes (grown x.before v) x.last x.ends_so n freed
     (has_grown x.before v h n freed has)
 read_higher c h name answer.Freed v w x n freed has = tt
 read_higher c h name r v w x n freed has = tt

@@ -29,6 +29,7 @@ use Rattle.cb_record.proofs.Laws.{has_left}
 use Rattle.cb_shared.specs.Calls.{IsAnswer, IsLack, ReadCallEnds, ReadGives, SaysAs, WriteCallEnds}
 use Rattle.cb_shared.specs.declared.answers.WriteAnswer.{WriteAnswer}
 use Rattle.cb_shared.specs.declared.answers.WriteAnswer.TheVariants as place
+use Rattle.cb_shared.proofs.Laws.{read_lacks}
 use Rattle.cb_lanes.specs.declared.body.Named.{Named}
 use Rattle.cb_lanes.specs.Asked.{HasLineReply}
 use Rattle.cb_lanes.specs.Bodies.{AreNamesOf, KnowsNames, LaneGoes, LinesGo, handle_behind}
@@ -228,7 +229,7 @@ not_read : (c : Config) (h : ℕ) (r : Reply) (v : View) (d : Part) → ReadCall
     → r ≢ answer.Unmade
 not_read c h (answer.Bytes version bytes) v d x is = absurd cc
 not_read c h answer.Freed v d x is = absurd cc
-not_read c h r v d x is = not_lack c r x.turned.0 is
+not_read c h r v d x is = not_lack c r (read_lacks c h r v d (λ t. t) x) is
 
 not_written : (c : Config) (h at : ℕ) (bytes : List ℕ) (r : Reply) (v : View) (d : Part)
     → WriteCallEnds c h at bytes r v d → r ≢ answer.Unmade

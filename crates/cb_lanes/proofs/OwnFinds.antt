@@ -1,5 +1,5 @@
 -- What a line found of an object: its newest version, or that it was freed.
-use Rattle.std.proofs.Common.{◌≡◌, ℕ, ◌<◌, List, [], ◌∷◌, ◌++◌, length, Ok, inl, inr, sym, refl, ap, ◌∙◌, subst}
+use Rattle.std.proofs.Common.{◌≡◌, ℕ, ◌<◌, List, [], ◌∷◌, ◌++◌, length, None, Some, Option, Ok, inl, inr, sym, refl, ap, ◌∙◌, subst}
 use Rattle.cb_types.specs.declared.config.Config.{Config}
 use Rattle.cb_types.specs.declared.job.Job.{Job}
 use Rattle.cb_types.specs.declared.job.Job.TheVariants as job
@@ -16,9 +16,9 @@ use Rattle.cb_record.proofs.Laws.{has_left, has_right}
 use Rattle.cb_shared.specs.declared.answers.WriteAnswer.{WriteAnswer}
 use Rattle.cb_shared.specs.declared.answers.WriteAnswer.TheVariants as place
 use Rattle.cb_shared.specs.declared.reading.ReadAnswer.TheVariants as found
-use Rattle.cb_shared.specs.Calls.{AtNone, AtThis, IsInVain, ReadGives, SaysAs, TurnGives, WriteAnswers, WriteCallEnds, WriteFinds, the_handle}
+use Rattle.cb_shared.specs.Calls.{AsksFor, AtNone, AtThis, IsInVain, ReadCallEnds, ReadGives, SaysAs, TurnGives, WriteAnswers, WriteCallEnds, WriteFinds, the_handle}
 use Rattle.cb_shared.specs.Reading.{FindsGone, IsReadHere, looked}
-use Rattle.cb_shared.specs.Turning.{FindsAtLast, turn_part, with_own}
+use Rattle.cb_shared.specs.Turning.{FindsAtLast, FindsFreedAfter, JobReads, made_by_turn, object_of, turn_part, with_own}
 use Rattle.cb_lanes.specs.Passing.{IsPinnedOnce, PinGoes}
 
 -- a state of the record with these entries and own handles, by which the version was the newest
@@ -66,7 +66,7 @@ saw_grown h version v u before none grew newest = record {
   newest = newest;
 }
 
-vain_written : (on : ℕ → Type 0) (j : Job) (d : Part) → IsInVain on j d → d.written ≡ []
+vain_written : (on : ℕ → Type 0) (j : Turn → Type 0) (d : Part) → IsInVain on j d → d.written ≡ []
 vain_written on j d x = ap (λ (z : Part). z.written) x.part
 
 -- ---- a part in which it was found freed
@@ -112,21 +112,76 @@ call_freed h v w d before last part seen z = record {
 }
 
 -- ---- a read
+-- a turn of a look behind, whose freed entry was read
+asks_gone : (c : Config) (j : Job) (h : ℕ) (v : View) (before last : Part) → before.written ≡ []
+    → object_of j ≡ Some h → (x : AsksFor c j answer.Freed h (grown before v) last)
+    → x.turned.1.more ≡ [] → SawGone h v last
+asks_gone c j h v before last none on x wrote =
+    let t = x.turned.1 in
+    let u = grown (looked h x.word) (grown before v) in
+    let finds = subst (λ (o : Option ℕ). FindsFreedAfter o (with_own (made_by_turn j (Some answer.Freed))
+    (grown (turn_part t.turn t.more t.within nothing_more) u)) t.later) on t.finds in
+    let z = turn_gone h u x.later t.turn (made_by_turn j (Some answer.Freed)) t.more t.within t.later
+    wrote finds t.part in (
+      z.0,
+      saw_before h z.0 u v (ap (λ (l : List _). l ++ v.written) none) refl (λ k has. has) z.1,
+      subst (λ (y : Part). Has (freed_seen h z.0) y.seen) (sym x.part)
+          (has_left (freed_seen h z.0) x.later.seen [] z.2),
+    )
+
+-- the version that a read under a pin found, behind parts that wrote nothing
+here_saw : (h version : ℕ) (bytes : List ℕ) (v u : View) (d : Part)
+    → u.written ≡ v.written → u.fresh ≡ v.fresh → ((k : ℕ) → Has k v.own → Has k u.own)
+    → IsReadHere h version bytes u d → SawNewest h version v
+here_saw h version bytes v u d written fresh own here = record {
+  at = with_look h here.word u;
+  written = written;
+  fresh = fresh;
+  own = own;
+  newest = here.newest;
+}
+
+read_saw : (c : Config) (h version : ℕ) (bytes : List ℕ) (v : View) (before last : Part)
+    → before.written ≡ [] → ReadCallEnds c h (answer.Bytes version bytes) (grown before v) last
+    → SawNewest h version v
+read_saw c h version bytes v before last none (inl here) =
+    here_saw h version bytes v (grown before v) last (ap (λ (l : List _). l ++ v.written) none) refl
+    (λ k has. has) here
+read_saw c h version bytes v before last none (inr (j, inl is, x)) =
+    absurd (subst (λ (k : Job). AsksFor c k (answer.Bytes version bytes) h (grown before v) last) is x).turned.0
+read_saw c h version bytes v before last none (inr (j, inr is, x)) = by y.turned.1.reads
+  where
+    y : AsksFor c (job.Read (the_handle h)) (answer.Bytes version bytes) h (grown before v) last
+    y = subst (λ (k : Job). AsksFor c k (answer.Bytes version bytes) h (grown before v) last) is x
+
+    u : View
+    u = grown (looked h y.word) (grown before v)
+
+    by : JobReads (job.Read (the_handle h)) (Ok (answer.Bytes version bytes)) u y.turned.1.within
+        → SawNewest h version v
+    by (inl z) = absurd z.1
+    by (inr z) = here_saw h version bytes v (grown z.before u) z.last
+        (ap (λ (q : Part). q.written ++ u.written) z.lost.part
+        ∙ ap (λ (l : List _). l ++ v.written) none) refl (λ k has. has) z.finds
+
 pub saw_read : (c : Config) (h version : ℕ) (bytes : List ℕ) (v w : View)
     → ReadGives c h (answer.Bytes version bytes) v w → SawNewest h version v
-saw_read c h version bytes v w (d, x, is) =
-    let here : IsReadHere h version bytes (grown x.before v) x.last = x.ends_so in record {
-      at = with_look h here.word (grown x.before v);
-      written = ap (λ (l : List _). l ++ v.written) (vain_written (AtThis h) _ x.before x.in_vain);
-      fresh = refl;
-      own = λ k has. has;
-      newest = here.newest;
-    }
+saw_read c h version bytes v w (d, x, is) = read_saw c h version bytes v x.before x.last
+    (vain_written (AtThis h) _ x.before x.in_vain) x.ends_so
+
+read_gone : (c : Config) (h : ℕ) (v : View) (before last : Part) → before.written ≡ []
+    → ReadCallEnds c h answer.Freed (grown before v) last → SawGone h v last
+read_gone c h v before last none (inl x) = gone_saw h v before last none x
+read_gone c h v before last none (inr (j, inl is, x)) =
+    absurd (subst (λ (k : Job). AsksFor c k answer.Freed h (grown before v) last) is x).turned.0
+read_gone c h v before last none (inr (j, inr is, x)) =
+    let y = subst (λ (k : Job). AsksFor c k answer.Freed h (grown before v) last) is x in
+    asks_gone c (job.Read (the_handle h)) h v before last none refl y y.turned.1.wrote
 
 pub freed_read : (c : Config) (h : ℕ) (v w : View) → ReadGives c h answer.Freed v w → SawFreed h v w
 freed_read c h v w (d, x, is) = call_freed h v w d x.before x.last x.part
-    (ap (λ (z : View). z.seen) is)
-    (gone_saw h v x.before x.last (vain_written (AtThis h) _ x.before x.in_vain) x.ends_so)
+    (ap (λ (z : View). z.seen) is) (read_gone c h v x.before x.last
+    (vain_written (AtThis h) _ x.before x.in_vain) x.ends_so)
 
 -- ---- a write
 place_gone : (h at : ℕ) (bytes : List ℕ) (v : View) (d : Part) (a : WriteAnswer)
@@ -143,15 +198,8 @@ write_ends : (c : Config) (h at : ℕ) (bytes : List ℕ) (v : View) (before las
     → SawGone h v last
 write_ends c h at bytes v before last none (inl x) =
     gone_saw h v before last none (place_gone h at bytes (grown before v) last x.0 x.1 x.2)
-write_ends c h at bytes v before last none (inr x) =
-    let t = x.turned.1 in
-    let u = grown (looked h x.word) (grown before v) in
-    let z = turn_gone h u x.later t.turn [] t.more t.within t.later t.wrote t.finds t.part in (
-      z.0,
-      saw_before h z.0 u v (ap (λ (l : List _). l ++ v.written) none) refl (λ k has. has) z.1,
-      subst (λ (y : Part). Has (freed_seen h z.0) y.seen) (sym x.part)
-          (has_left (freed_seen h z.0) x.later.seen [] z.2),
-    )
+write_ends c h at bytes v before last none (inr x) = asks_gone c
+    (job.Write (the_handle h) at bytes) h v before last none refl x x.turned.1.wrote
 
 pub freed_write : (c : Config) (h at : ℕ) (bytes : List ℕ) (v w : View)
     → WriteAnswers c h at bytes answer.Freed v w → SawFreed h v w

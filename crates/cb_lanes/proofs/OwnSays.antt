@@ -33,6 +33,7 @@ use Rattle.cb_record.proofs.Laws.{has_left, has_right}
 use Rattle.cb_shared.specs.declared.answers.WriteAnswer.{WriteAnswer}
 use Rattle.cb_shared.specs.declared.answers.WriteAnswer.TheVariants as place
 use Rattle.cb_shared.specs.Calls.{ReadGives, SaysAs, TurnGives, WriteAnswers, the_handle, IsAnswerTo}
+use Rattle.cb_shared.proofs.Laws.{read_lacks}
 use Rattle.cb_lanes.specs.Alone.{change_alone, free_alone, peek_alone, pin_alone, pin_object, read_alone, unpin_alone, write_alone}
 use Rattle.cb_lanes.specs.AloneUntil.{is_lack}
 use Rattle.cb_lanes.specs.KeepsOwn.{AreEntriesInOrder, AreLong, AreRead, ComesBehind, EntryComesNext, last_in}
@@ -179,7 +180,7 @@ module _ (mine : ℕ → Type 0) (h : ℕ) (x : Entry) (v m all : View) (at_ : O
   read_reply c name (answer.NoRoom f l n) y adds room = absurd (true≢false room)
   read_reply c name (answer.Unavailable s l) y adds room = absurd (true≢false room)
   read_reply c name answer.Worn y adds room = absurd (true≢false room)
-  read_reply c name r (d, y, is) adds room = absurd y.ends_so.turned.0
+  read_reply c name r (d, y, is) adds room = absurd (read_lacks c h r _ y.last (λ t. t) y.ends_so)
 
   -- ---- a write
   -- no write is answered so

@@ -45,7 +45,7 @@ still (Calls (job.Free handle)) (answer.Pinned count) v looks turns x = x
 still (Calls (job.Free handle)) r v looks turns x = λ own. tt
 still ask r v looks turns x = tt
 
-in_vain : (on : ℕ → Type 0) (j : Job) (ask : Ask) (r : Reply) (v : View) (before : Part)
+in_vain : (on : ℕ → Type 0) (j : Turn → Type 0) (ask : Ask) (r : Reply) (v : View) (before : Part)
     → IsInVain on j before → TellsOwn ask (grown before v) r → TellsOwn ask v r
 in_vain on j ask r v before x tells = still ask r v x.looks x.turns
     (subst (λ (d : Part). TellsOwn ask (grown d v) r) x.part tells)

@@ -10,21 +10,22 @@ use Rattle.cb_types.specs.declared.reply.Reply.{Reply}
 use Rattle.cb_types.specs.declared.reply.Reply.TheVariants as answer
 use Rattle.cb_ptr.specs.declared.word.State.TheVariants as state
 use Rattle.cb_ptr.specs.Word.{pins_of, state_of}
+use Rattle.cb_rule.specs.declared.turn.Turn.{Turn}
 use Rattle.cb_rule.specs.declared.view.View.{View}
 use Rattle.cb_rule.specs.Steps.{look_at}
 use Rattle.cb_record.specs.Parts.{Grows, Part}
 use Rattle.cb_shared.specs.declared.answers.PinAnswer.{PinAnswer}
 use Rattle.cb_shared.specs.declared.answers.PinAnswer.TheVariants as found
 use Rattle.cb_shared.specs.declared.pass.Pin.{Pin}
-use Rattle.cb_shared.specs.Calls.{AsksFor, AtThis, StopsInVain, TurnTries, the_handle}
+use Rattle.cb_shared.specs.Calls.{AsksFor, AtNone, AtThis, IsUnanswered, StopsInVain, TurnTries, the_handle}
 use Rattle.cb_shared.specs.Pinning.{FindsFreed, IsPinnedHere, LooksOnce, PinGives}
 use Rattle.cb_shared.specs.Reading.{looked, looked_twice}
 use Rattle.cb_shared.specs.Turning.{TurnBy}
-use Rattle.cb_shared.proofs.Laws.{look_asks, look_part, look_stops, stops_then, twice_part, vain_look}
-use Rattle.cb_lanes.specs.Passing.{CallGives, IsPinnedOnce, PinEnds, PinGoes, PinTries, PinsAtLast}
+use Rattle.cb_shared.proofs.Laws.{look_asks, look_part, look_tries, tries_then, tries_wider, twice_part, vain_look}
+use Rattle.cb_lanes.specs.Passing.{CallGives, IsPinnedOnce, PinEnds, PinGoes, PinTries, PinsAtLast, PinsInVain}
 
-abbrev Vain : ℕ → View → View → Type 0
-Vain h v w = StopsInVain (AtThis h) (job.Swap (the_handle h)) v w
+abbrev vain : Config → ℕ → Turn → Type 0
+vain c h t = IsUnanswered c (job.Swap (the_handle h)) t
 
 pub pinned_once : (h : ℕ) (p : Pin) (version : ℕ) (v w : View) → version ≡ p.version
     → IsPinnedHere h p v w → IsPinnedOnce h version v w
@@ -48,37 +49,39 @@ pub was_far : (h : ℕ) (a : PinAnswer) (v w : View) → a ≡ found.NotHere →
     → LooksOnce h v w (λ n. state_of n ≡ state.Far)
 was_far h a v w is x = subst (λ (z : PinAnswer). PinGives h z v w) is x
 
-looked_once : (h : ℕ) (P : ℕ → Type 0) (v w : View) → LooksOnce h v w P → Vain h v w
-looked_once h P v w (n, is, left) =
-    (looked h n, vain_look h n (job.Swap (the_handle h)), left ∙ look_part h n v)
+-- others stand in the way of a pin
+pub IsHindered : PinAnswer → Type 0
+IsHindered found.Moving = Unit {0}
+IsHindered found.Crowded = Unit {0}
+IsHindered (found.Raced saw other) = Unit {0}
+IsHindered a = ⊥
 
-pub was_moving : (h : ℕ) (a : PinAnswer) (v w : View) → a ≡ found.Moving → PinGives h a v w
-    → Vain h v w
-was_moving h a v w is x = looked_once h (λ n. state_of n ≡ state.Moving) v w
-    (subst (λ (z : PinAnswer). PinGives h z v w) is x)
+looked_once : (c : Config) (h : ℕ) (P : ℕ → Type 0) (v w : View) → LooksOnce h v w P
+    → PinsInVain c h v w
+looked_once c h P v w (n, is, left) =
+    (looked h n, vain_look h n (vain c h), left ∙ look_part h n v)
 
-pub was_crowded : (h : ℕ) (a : PinAnswer) (v w : View) → a ≡ found.Crowded → PinGives h a v w
-    → Vain h v w
-was_crowded h a v w is x =
-    looked_once h (λ n. (state_of n ≡ state.Here) × (pins_of n ≡ 1023)) v w
-    (subst (λ (z : PinAnswer). PinGives h z v w) is x)
-
-pub was_raced : (h saw other : ℕ) (a : PinAnswer) (v w : View) → a ≡ found.Raced saw other
-    → PinGives h a v w → Vain h v w
-was_raced h saw other a v w is x =
-    let y : PinGives h (found.Raced saw other) v w =
-    subst (λ (z : PinAnswer). PinGives h z v w) is x in (
-      looked_twice h saw other,
-      record {
-        looks = look_at h other ∷ look_at h saw ∷ [];
-        turns = [];
-        at = (refl, (refl, tt));
-        of = tt;
-        idle = tt;
-        part = refl;
-      },
-      y.1 ∙ twice_part h saw other v,
-    )
+pub was_hindered : (c : Config) (h : ℕ) (a : PinAnswer) (v w : View) → IsHindered a
+    → PinGives h a v w → PinsInVain c h v w
+was_hindered c h (found.Pinned pin) v w is x = absurd is
+was_hindered c h found.ScopeFull v w is x = absurd is
+was_hindered c h found.Freed v w is x = absurd is
+was_hindered c h found.NotHere v w is x = absurd is
+was_hindered c h found.Moving v w is x = looked_once c h (λ n. state_of n ≡ state.Moving) v w x
+was_hindered c h found.Crowded v w is x =
+    looked_once c h (λ n. (state_of n ≡ state.Here) × (pins_of n ≡ 1023)) v w x
+was_hindered c h (found.Raced saw other) v w is x = (
+  looked_twice h saw other,
+  record {
+    looks = look_at h other ∷ look_at h saw ∷ [];
+    turns = [];
+    at = (refl, (refl, tt));
+    of = tt;
+    idle = tt;
+    part = refl;
+  },
+  x.1 ∙ twice_part h saw other v,
+)
 
 asked_pin : (c : Config) (h : ℕ) (r : Reply) (v w : View) (d : Part)
     → AsksFor c (job.Swap (the_handle h)) r h v d → Grows v d w → PinEnds c h r v w
@@ -91,28 +94,29 @@ asked_pin c h r v w d x grew = (d, x, grew)
 pub brought : (c : Config) (h : ℕ) (o : Option Reply) (v m w : View)
     → LooksOnce h v m (λ n. state_of n ≡ state.Far) → TurnTries c (job.Swap (the_handle h)) o m w
     → PinTries c h o v w
-brought c h None v m w (n, far, left) x = look_stops h n (job.Swap (the_handle h)) v m w
-    (looked h n) refl (left ∙ look_part h n v) x
+brought c h None v m w (n, far, left) x = look_tries h n (vain c h) v m w (looked h n) refl
+    (left ∙ look_part h n v)
+    (tries_wider AtNone (AtThis h) (vain c h) (vain c h) (λ k none. absurd none) (λ t z. z) m w x)
 brought c h (Some r) v m w (n, far, left) (e, ends, next) =
     let z = look_asks c h n (job.Swap (the_handle h)) r v m w (looked h n) e refl far
     (left ∙ look_part h n v) ends refl next in asked_pin c h r v w z.0 z.1 z.2
 
 -- ---- the loop round the tries
-pub pin_again : (c : Config) (h : ℕ) (o : Option Reply) (v m w : View) → o ≡ None → Vain h v m
-    → PinTries c h o m w → Vain h v w
-pin_again c h o v m w is x y = stops_then (AtThis h) (job.Swap (the_handle h)) v m w x
+pub pin_again : (c : Config) (h : ℕ) (o : Option Reply) (v m w : View) → o ≡ None
+    → PinsInVain c h v m → PinTries c h o m w → PinsInVain c h v w
+pin_again c h o v m w is x y = tries_then (AtThis h) (vain c h) v m w x
     (subst (λ (z : Option Reply). PinTries c h z m w) is y)
 
 pub pinned_at_last : (c : Config) (h : ℕ) (o : Option Reply) (r : Reply) (v m w : View)
-    → o ≡ Some r → Vain h v m → PinTries c h o m w → PinsAtLast c h r v w
+    → o ≡ Some r → PinsInVain c h v m → PinTries c h o m w → PinsAtLast c h r v w
 pinned_at_last c h o r v m w is x y = record {
   between = m;
   in_vain = x;
   ends_so = subst (λ (z : Option Reply). PinTries c h z m w) is y;
 }
 
-pub vain_pins : (h : ℕ) (v w : View) → Vain h v w → w.pins ≡ v.pins
-vain_pins h v w x = ap (λ (z : View). z.pins) x.2
+pub vain_pins : (c : Config) (h : ℕ) (v w : View) → PinsInVain c h v w → w.pins ≡ v.pins
+vain_pins c h v w x = ap (λ (z : View). z.pins) x.2
 
 pub pin_goes : (c : Config) (h : ℕ) (r : Reply) (v w : View) → length v.pins < 16
     → PinsAtLast c h r v w → PinGoes c h v r w
@@ -134,11 +138,12 @@ pins_left c (job.Write h at bytes) r v w x = ap (λ (z : View). z.pins) x.2
 pins_left c (job.Free h) r v w x = ap (λ (z : View). z.pins) x.2
 pins_left c j r v w x = ap (λ (z : View). z.pins) x.2
 
-pub call_leaves : (c : Config) (j k : Job) (on : ℕ → Type 0) (v w : View)
+pub call_leaves : (c : Config) (j : Job) (on : ℕ → Type 0) (idle want : Turn → Type 0) (v w : View)
     (result : Result Reply NoMemory) → IfOk result (λ r. CallGives c j v r w)
-    → OnErr result (StopsInVain on k v w) → w.pins ≡ v.pins
-call_leaves c j k on v w (Ok r) x y = pins_left c j r v w x
-call_leaves c j k on v w (Err e) x y = ap (λ (z : View). z.pins) y.2
+    → OnErr result (StopsInVain on idle want v w) → w.pins ≡ v.pins
+call_leaves c j on idle want v w (Ok r) x y = pins_left c j r v w x
+call_leaves c j on idle want v w (Err e) x y =
+    ap (λ (z : View). z.pins) y.left ∙ ap (λ (z : View). z.pins) y.tries.2
 
 pub turn_leaves : (c : Config) (j : Job) (v w : View) (result : Result Reply NoMemory)
     → TurnBy c j result v w → w.pins ≡ v.pins

@@ -8,6 +8,7 @@ use Rattle.cb_types.specs.declared.reply.Reply.TheVariants as answer
 use Rattle.cb_ptr.specs.Word.{state_number, state_of}
 use Rattle.cb_world.specs.declared.entry.Entry.{Entry}
 use Rattle.cb_world.specs.Written.{entry}
+use Rattle.cb_rule.specs.declared.turn.Turn.{Turn}
 use Rattle.cb_rule.specs.declared.view.Look.{Look}
 use Rattle.cb_rule.specs.declared.view.View.{View}
 use Rattle.cb_rule.specs.Lists.{Each}
@@ -63,7 +64,7 @@ abbrev last_state : View → ℕ
 last_state v = state_number (state_of (word_in v.looks))
 
 -- ---- calls: each job adds what its own call adds
-no_tries : (on : ℕ → Type 0) (j : Job) → IsInVain on j nothing_more
+no_tries : (on : ℕ → Type 0) (j : Turn → Type 0) → IsInVain on j nothing_more
 no_tries on j = record { looks = []; turns = []; at = tt; of = tt; idle = tt; part = refl }
 
 -- a read that found the object freed, with no turn

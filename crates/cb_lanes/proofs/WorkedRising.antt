@@ -15,6 +15,7 @@ use Rattle.cb_ptr.specs.Word.{len_of}
 use Rattle.cb_world.specs.Memory.{bytes_in}
 use Rattle.cb_world.specs.declared.entry.Entry.{Entry}
 use Rattle.cb_world.specs.Written.{entry, gone}
+use Rattle.cb_rule.specs.declared.turn.Turn.{Turn}
 use Rattle.cb_rule.specs.declared.view.Stand.{Stand}
 use Rattle.cb_rule.specs.declared.view.View.{View}
 use Rattle.cb_rule.specs.Own.{IsAlone}
@@ -114,7 +115,7 @@ freed_and_held x =
 abbrev first_pin : View
 first_pin = with_pin 1 calm 3 (2826 ∷ []) (with_look 1 calm part)
 
-no_tries : (h : ℕ) (j : Job) → IsInVain (λ k. k ≡ h) j nothing_more
+no_tries : (h : ℕ) (j : Turn → Type 0) → IsInVain (λ k. k ≡ h) j nothing_more
 no_tries h j = record { looks = []; turns = []; at = tt; of = tt; idle = tt; part = refl }
 
 shared : IsAlone 1 part → ⊥

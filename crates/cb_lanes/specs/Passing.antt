@@ -18,8 +18,8 @@ use Rattle.cb_rule.specs.Seats.{pins_on}
 use Rattle.cb_rule.specs.Steps.{IsNewest, with_look, with_pin, without_pin}
 use Rattle.cb_record.specs.Parts.{Grows, Part}
 use Rattle.cb_shared.specs.declared.pass.Pin.{Pin}
-use Rattle.cb_shared.specs.Calls.{AsksFor, AtThis, ReadGives, StopsInVain, TurnGives, WriteAnswers}
-use Rattle.cb_shared.specs.Calls.{the_handle}
+use Rattle.cb_shared.specs.Calls.{AsksFor, AtThis, IsUnanswered, ReadGives, TriesInVain, TurnGives}
+use Rattle.cb_shared.specs.Calls.{WriteAnswers, the_handle}
 use Rattle.cb_shared.specs.Joining.{unpinned_all}
 use Rattle.cb_shared.specs.Pinning.{FindsFreed}
 use Rattle.cb_shared.specs.Turning.{TurnBy}
@@ -50,10 +50,14 @@ PinEnds c h answer.Freed v w = FindsFreed h v w
 PinEnds c h answer.ScopeFull v w = ⊥
 PinEnds c h r v w = (d : Part) × AsksFor c (job.Swap (the_handle h)) r h v d × Grows v d w
 
+-- tries of a pin that came to nothing: turns that bring the object in, and looks at it
+abbrev pub PinsInVain : Config → ℕ → View → View → Type 0
+PinsInVain c h v w = TriesInVain (AtThis h) (IsUnanswered c (job.Swap (the_handle h))) v w
+
 -- tries that came to nothing, and then one that ends so
 pub record PinsAtLast (c : Config) (h : ℕ) (r : Reply) (v w : View) : Type 0 where
   pub between : View
-  pub in_vain : StopsInVain (AtThis h) (job.Swap (the_handle h)) v between
+  pub in_vain : PinsInVain c h v between
   pub ends_so : PinEnds c h r between w
 
 -- A pin: a pass that has as many pins as it may have is told so, and nothing changes.
@@ -125,7 +129,7 @@ goes_in c Leaves v r w = LeaveGoes v r w
 -- ---- one try of a pin
 abbrev pub PinTries : Config → ℕ → Option Reply → View → View → Type 0
 PinTries c h (Some r) v w = PinEnds c h r v w
-PinTries c h None v w = StopsInVain (AtThis h) (job.Swap (the_handle h)) v w
+PinTries c h None v w = PinsInVain c h v w
 
 -- ---- the pins that a lane keeps beside its pass
 -- a pin without the words that stand in the record alone

@@ -13,11 +13,10 @@ ghost use Rattle.cb_lanes.specs.Passing.{AreHeld, CallGives, PeekGoes, PeeksAll,
 ghost use Rattle.cb_lanes.specs.Passing.{PinsAtLast, UnpinGoes};
 
 use crate::kept_pins::{KeptPins, MOST_PINS, keep_pin, newest_pin};
-use cb_shared::{Pass, Pin, PinAnswer, Shared, put_word};
+use cb_shared::{Pass, Patience, Pin, PinAnswer, Shared, put_word};
 use cb_types::{Bytes, Handle, Job, NoMemory, Reply};
 use std::alloc::Global;
 use std::sync::Wait;
-use std::thread;
 
 /// A call with a job: a read, a write, a make and a free try again until they are answered, and
 /// every other job is one turn. Waits.
@@ -93,16 +92,17 @@ fn pin_at_last<R: Wait>(
     ensures pin { IfOk result (λ reply. PinsAtLast shared.now.config h.n reply
         (record_of pass.old) (record_of pass.new)) }
 {
+    let mut patience = Patience::new();
     for _ in rt.forever() {
-        if let Some(reply) = try_pin(rt, alloc, shared, pass, pins, h)? {
+        if let Some(reply) = try_pin(rt, alloc, shared, pass, pins, h, &mut patience)? {
             return Ok(reply);
         }
-        thread::yield_now();
     }
     unreachable!()
 }
 
-/// One pin, or a turn that brings the object in; None where neither answers the line.
+/// One pin, or a turn that brings the object in; None where neither answers the line, after a wait
+/// where others stand in its way.
 fn try_pin<R: Wait>(
     rt: &R,
     alloc: Global,
@@ -110,6 +110,7 @@ fn try_pin<R: Wait>(
     pass: &mut Pass,
     pins: &mut KeptPins,
     h: Handle,
+    patience: &mut Patience,
 ) -> Result<Option<Reply>, NoMemory>
     requires of { IsPassOf shared.now pass.old }
     requires knows { Knows h.n (record_of pass.old) }
@@ -128,20 +129,23 @@ fn try_pin<R: Wait>(
         }
         PinAnswer::ScopeFull => unreachable!(),
         PinAnswer::Freed => Ok(Some(Reply::Freed)),
-        PinAnswer::NotHere => bring_in(rt, alloc, shared, pass, h),
-        PinAnswer::Moving => Ok(None),
-        PinAnswer::Crowded => Ok(None),
-        PinAnswer::Raced { .. } => Ok(None),
+        PinAnswer::NotHere => bring_in(rt, alloc, shared, pass, h, patience),
+        PinAnswer::Moving | PinAnswer::Crowded | PinAnswer::Raced { .. } => {
+            shared.wait(rt, patience);
+            Ok(None)
+        }
     }
 }
 
-/// A turn that brings an object in; its reply where it tells why that can't be.
+/// A turn that brings an object in; its reply where it tells why that can't be. It waits where others
+/// stand in its way, and not where the object is here now.
 fn bring_in<R: Wait>(
     rt: &R,
     alloc: Global,
     shared: &Shared,
     pass: &mut Pass,
     h: Handle,
+    patience: &mut Patience,
 ) -> Result<Option<Reply>, NoMemory>
     requires of { IsPassOf shared.now pass.old }
     requires handle { h.n < shared.now.config.handles }
@@ -154,6 +158,7 @@ fn bring_in<R: Wait>(
     if is_lack(shared, &reply) {
         Ok(Some(reply))
     } else {
+        shared.wait_behind(rt, &reply, patience);
         Ok(None)
     }
 }

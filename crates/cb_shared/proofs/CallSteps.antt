@@ -1,5 +1,5 @@
 -- Tries of a call, one after another.
-use Rattle.std.proofs.Common.{◌≡◌, ℕ, List, [], ◌∷◌, ◌++◌, None, Some, Option, Result, Ok, Err, sym, refl, ap, ◌∙◌, subst, inl, inr}
+use Rattle.std.proofs.Common.{◌≡◌, ◌<◌, ◌≤◌, ℕ, length, lit≤, List, [], ◌∷◌, ◌++◌, None, Some, Option, Result, Ok, Err, sym, refl, ap, ◌∙◌, ◌⊎◌, ⊎_elim, subst, inl, inr}
 use Rattle.std.specs.Result.{OnErr}
 use Rattle.cb_member.specs.declared.no_memory.NoMemory.{NoMemory}
 use Rattle.cb_types.specs.declared.config.Config.{Config}
@@ -11,19 +11,21 @@ use Rattle.cb_types.specs.declared.reply.Reply.TheVariants as answer
 use Rattle.cb_ptr.specs.declared.word.State.TheVariants as state
 use Rattle.cb_ptr.specs.Word.{pins_of, state_of}
 use Rattle.cb_world.specs.declared.entry.Entry.{Entry}
+use Rattle.cb_core.specs.Jobs.{IsJob}
 use Rattle.cb_mutate.specs.JobWrites.{FreeWrites, MakeWrites, WriteWrites}
+use Rattle.cb_rule.specs.declared.turn.Turn.{Turn}
 use Rattle.cb_rule.specs.declared.view.Look.{Look}
 use Rattle.cb_rule.specs.declared.view.View.{View}
 use Rattle.cb_rule.specs.Lists.{Each, Has}
 use Rattle.cb_rule.specs.Steps.{Knows, look_at}
-use Rattle.cb_shared.specs.Calls.{AsksFor, AtNone, AtThis, EndsAtLast, IsAnswer, IsAnswerTo, IsCalled, IsInVain, ReadCallEnds, ReadGives, ReadTries, StopsInVain, TurnEnds, TurnGives, TurnTries, the_handle}
+use Rattle.cb_shared.specs.Calls.{AsksFor, AtNone, AtThis, EndsAtLast, IsAnswer, IsAnswerTo, IsCalled, IsFetch, IsFetchForWant, IsForWant, IsInVain, IsLack, IsUnanswered, IsUnfetched, LooksOf, ReadCallEnds, ReadGives, ReadStops, ReadTries, ReadsInPlace, StopsInVain, TellsWhatIs, TriesInVain, TurnEnds, TurnGives, TurnStops, TurnTries}
 use Rattle.cb_record.specs.Deeds.{happening}
 use Rattle.cb_record.specs.Parts.{Part, Grows, grown, nothing_more, sum}
 use Rattle.cb_shared.specs.declared.reading.ReadAnswer.{ReadAnswer}
 use Rattle.cb_shared.specs.declared.reading.ReadAnswer.TheVariants as found
 use Rattle.cb_shared.specs.Making.{MakesNew, TriesNew}
 use Rattle.cb_shared.specs.Reading.{FindsOther, FindsWord, ReadFinds, looked}
-use Rattle.cb_shared.specs.Turning.{FindsFreedAfter, KnowsIt, TurnAdds, TurnBy, answer_of, freed_of, made_by_turn, made_in, object_of, turn_part, with_own}
+use Rattle.cb_shared.specs.Turning.{FindsAtLast, FindsFreedAfter, JobReads, KnowsIt, KnowsOf, TurnAdds, TurnBy, answer_of, freed_of, made_by_turn, made_in, object_of, turn_part, with_own}
 use Rattle.cb_shared.proofs.ReadParts.{grown_nothing, grown_sum}
 
 each_both : {A : Type 0} (P : A → Type 0) (xs ys : List A) → Each P xs → Each P ys
@@ -35,30 +37,36 @@ each_never : {A : Type 0} (P : A → Type 0) (xs : List A) → Each (λ _. ⊥) 
 each_never P [] none = tt
 each_never P (x ∷ xs) none = absurd none.0
 
-module _ (on : ℕ → Type 0) (job : Job) where
-  pub vain_none : IsInVain on job nothing_more
+each_map : {A : Type 0} (P Q : A → Type 0) → ((x : A) → P x → Q x) → (xs : List A) → Each P xs
+    → Each Q xs
+each_map P Q f [] all = tt
+each_map P Q f (x ∷ xs) all = (f x all.0, each_map P Q f xs all.1)
+
+module _ (on : ℕ → Type 0) (vain : Turn → Type 0) where
+  pub vain_none : IsInVain on vain nothing_more
   vain_none = record { looks = []; turns = []; at = tt; of = tt; idle = tt; part = refl }
 
-  pub vain_sum : (d e : Part) → IsInVain on job d → IsInVain on job e → IsInVain on job (sum d e)
+  pub vain_sum : (d e : Part) → IsInVain on vain d → IsInVain on vain e
+      → IsInVain on vain (sum d e)
   vain_sum d e x y = record {
     looks = y.looks ++ x.looks;
     turns = y.turns ++ x.turns;
     at = each_both (λ (l : Look). on l.handle) y.looks x.looks y.at x.at;
-    of = each_both _ y.turns x.turns y.of x.of;
+    of = each_both vain y.turns x.turns y.of x.of;
     idle = each_both _ y.turns x.turns y.idle x.idle;
     part = λ i. sum (x.part i) (y.part i);
   }
 
   -- one try more that came to nothing
-  pub stops_after : (v w u : View) (d : Part) → IsInVain on job d → Grows v d w
-      → StopsInVain on job w u → StopsInVain on job v u
-  stops_after v w u d x is (e, y, next) =
+  pub tries_after : (v w u : View) (d : Part) → IsInVain on vain d → Grows v d w
+      → TriesInVain on vain w u → TriesInVain on vain v u
+  tries_after v w u d x is (e, y, next) =
       (sum d e, vain_sum d e x y, next ∙ ap (grown e) is ∙ grown_sum d e v)
 
   -- or one that ends the call
   pub ends_after : (P : View → Part → Type 0) (f : View → View) (v w u : View) (d e : Part)
-      → IsInVain on job d → Grows v d w → P w e → u ≡ f (grown e w)
-      → (x : Part) × EndsAtLast on job P v x × (u ≡ f (grown x v))
+      → IsInVain on vain d → Grows v d w → P w e → u ≡ f (grown e w)
+      → (x : Part) × EndsAtLast on vain P v x × (u ≡ f (grown x v))
   ends_after P f v w u d e x is last next = (
     sum d e,
     record {
@@ -71,19 +79,76 @@ module _ (on : ℕ → Type 0) (job : Job) where
     next ∙ ap f (ap (grown e) is ∙ grown_sum d e v),
   )
 
--- tries that look at no object are tries at any
-pub vain_any : (on : ℕ → Type 0) (job : Job) (d : Part) → IsInVain AtNone job d → IsInVain on job d
-vain_any on job d x = record {
+  -- no try yet
+  pub so_far : (v : View) → TriesInVain on vain v v
+  so_far v = (nothing_more, vain_none, grown_nothing v)
+
+  pub tries_then : (v w u : View) → TriesInVain on vain v w → TriesInVain on vain w u
+      → TriesInVain on vain v u
+  tries_then v w u (d, x, grew) y = tries_after v w u d x grew y
+
+  -- or one that found no memory
+  pub stops_then : (want : Turn → Type 0) (v w u : View) → TriesInVain on vain v w
+      → StopsInVain on vain want w u → StopsInVain on vain want v u
+  stops_then want v w u x y = record {
+    between = y.between;
+    last = y.last;
+    tries = tries_then v w y.between x y.tries;
+    lacks = y.lacks;
+    one = y.one;
+    left = y.left;
+  }
+
+  -- the first try found none
+  pub stops_first : (want : Turn → Type 0) (v w : View) (d : Part) → IsInVain on want d
+      → length d.turns ≤ 1 → Grows v d w → StopsInVain on vain want v w
+  stops_first want v w d x one grew = record {
+    between = v;
+    last = d;
+    tries = so_far v;
+    lacks = x;
+    one = one;
+    left = grew;
+  }
+
+  pub stops_at_once : (want : Turn → Type 0) (v : View) → StopsInVain on vain want v v
+  stops_at_once want v = stops_first want v v nothing_more
+      (record { looks = []; turns = []; at = tt; of = tt; idle = tt; part = refl }) (lit≤ tt)
+      (grown_nothing v)
+
+-- tries of one kind are tries of a wider one
+pub vain_wider : (on all : ℕ → Type 0) (vain wide : Turn → Type 0) → ((h : ℕ) → on h → all h)
+    → ((t : Turn) → vain t → wide t) → (d : Part) → IsInVain on vain d → IsInVain all wide d
+vain_wider on all vain wide looks turns d x = record {
   looks = x.looks;
   turns = x.turns;
-  at = each_never (λ (l : Look). on l.handle) x.looks x.at;
-  of = x.of;
+  at = each_map (λ (l : Look). on l.handle) (λ (l : Look). all l.handle) (λ l. looks l.handle)
+      x.looks x.at;
+  of = each_map vain wide turns x.turns x.of;
   idle = x.idle;
   part = x.part;
 }
 
-pub vain_look : (h word : ℕ) (job : Job) → IsInVain (AtThis h) job (looked h word)
-vain_look h word job = record {
+pub tries_wider : (on all : ℕ → Type 0) (vain wide : Turn → Type 0) → ((h : ℕ) → on h → all h)
+    → ((t : Turn) → vain t → wide t) → (v w : View) → TriesInVain on vain v w
+    → TriesInVain all wide v w
+tries_wider on all vain wide looks turns v w (d, x, grew) =
+    (d, vain_wider on all vain wide looks turns d x, grew)
+
+pub stops_wider : (on all : ℕ → Type 0) (vain wide want lack : Turn → Type 0)
+    → ((h : ℕ) → on h → all h) → ((t : Turn) → vain t → wide t) → ((t : Turn) → want t → lack t)
+    → (v w : View) → StopsInVain on vain want v w → StopsInVain all wide lack v w
+stops_wider on all vain wide want lack looks turns lacks v w x = record {
+  between = x.between;
+  last = x.last;
+  tries = tries_wider on all vain wide looks turns v x.between x.tries;
+  lacks = vain_wider on all want lack looks lacks x.last x.lacks;
+  one = x.one;
+  left = x.left;
+}
+
+pub vain_look : (h word : ℕ) (vain : Turn → Type 0) → IsInVain (AtThis h) vain (looked h word)
+vain_look h word vain = record {
   looks = look_at h word ∷ [];
   turns = [];
   at = (refl, tt);
@@ -124,66 +189,135 @@ made_none : (r : Reply) → ((h : Handle) (v : ℕ) → r ≡ answer.Made h v �
 made_none (answer.Made h v) off = absurd (off h v refl)
 made_none r off = refl
 
-vain_turn : (c : Config) (job : Job) (r : Result Reply NoMemory) (v : View) (d : Part)
-    → (x : TurnAdds c job r v d) → x.more ≡ [] → x.within ≡ nothing_more
-    → x.later ≡ nothing_more → happening job (answer_of r) ≡ [] → IsInVain AtNone job d
-vain_turn c job r v d x more within later idle = record {
-  looks = [];
-  turns = x.turn ∷ [];
-  at = tt;
-  of = (x.job_is, tt);
-  idle = ((λ i. happening (x.job_is i) (x.reply_is i)) ∙ idle, tt);
-  part = x.part ∙ (λ i. turn_part x.turn (more i) (within i) (later i));
-}
+-- looks at such objects, and nothing else
+abbrev LooksAlone : (ℕ → Type 0) → Part → Type 0
+LooksAlone on d = (looks : List Look) × Each (λ (l : Look). on l.handle) looks
+    × (d ≡ record nothing_more { looks = looks })
+
+no_looks : (on : ℕ → Type 0) (d : Part) → d ≡ nothing_more → LooksAlone on d
+no_looks on d is = ([], tt, is)
+
+-- a turn that wrote, read and made nothing
+module _ (c : Config) (job : Job) (vain : Turn → Type 0) (r : Result Reply NoMemory) (v : View)
+    (d : Part) (x : TurnAdds c job r v d) where
+  vain_turn : x.more ≡ [] → LooksAlone (LooksOf job) x.within → x.later ≡ nothing_more
+      → happening job (answer_of r) ≡ [] → vain x.turn → IsInVain (LooksOf job) vain d
+  vain_turn more within later idle is = record {
+    looks = within.0;
+    turns = x.turn ∷ [];
+    at = within.1;
+    of = (is, tt);
+    idle = ((λ i. happening (x.job_is i) (x.reply_is i)) ∙ idle, tt);
+    part = x.part ∙ (λ i. turn_part x.turn (more i) (within.2 i) (later i));
+  }
+
+-- the looks of tries under a pin, the last of which left looks alone
+last_looks : (h : ℕ) (a : ReadAnswer) (v : View) (d : Part) → FindsAtLast h a v d
+    → ((w : View) (e : Part) → ReadFinds h a w e → LooksAlone (AtThis h) e)
+    → LooksAlone (AtThis h) d
+last_looks h a v d x f = let y = f (grown x.before v) x.last x.finds in (
+  y.0 ++ x.lost.looks,
+  each_both (λ (l : Look). AtThis h l.handle) y.0 x.lost.looks y.1 x.lost.on,
+  x.part ∙ (λ i. sum (x.lost.part i) (y.2 i)),
+)
+
+-- what is looked at in a turn Read that answers nothing
+read_looks : (c : Config) (handle : Handle) (r : Reply) (v : View) (d : Part)
+    → (IsAnswerTo c (jobs.Read handle) r → ⊥) → JobReads (jobs.Read handle) (Ok r) v d
+    → LooksAlone (AtThis handle.n) d
+read_looks c handle r v d off (inl x) = no_looks (AtThis handle.n) d x.0
+read_looks c handle (answer.Bytes version bytes) v d off (inr x) = absurd (off (inl tt))
+read_looks c handle answer.Freed v d off (inr x) = absurd (off (inl tt))
+read_looks c handle answer.Moving v d off (inr x) = last_looks handle.n found.Moving v d x
+    (λ w e f. (look_at handle.n f.0 ∷ [], (refl, tt), f.2))
+read_looks c handle answer.Crowded v d off (inr x) = last_looks handle.n found.Crowded v d x
+    (λ w e f. (look_at handle.n f.0 ∷ [], (refl, tt), f.2))
+read_looks c handle other v d off (inr x) = absurd x
 
 -- a turn that does not answer its call
 pub turn_vain : (c : Config) (job : Job) (r : Reply) (v : View) (d : Part) → IsCalled job
     → (IsAnswerTo c job r → ⊥) → TurnAdds c job (Ok r) v d
-    → IsInVain AtNone job d × (made_by_turn job (Some r) ≡ [])
+    → IsInVain (LooksOf job) (IsUnanswered c job) d × (made_by_turn job (Some r) ≡ [])
 turn_vain c (jobs.Make bytes) r v d called off x =
     let other : (h : Handle) (w : ℕ) → r ≡ answer.Made h w → ⊥ =
     λ h w e. off (subst (IsAnswerTo c (jobs.Make bytes)) (sym e) (inl tt)) in (
-      vain_turn c (jobs.Make bytes) (Ok r) v d x (make_none bytes r x.more other x.wrote) x.reads
-          (later_none (jobs.Make bytes) r _ x.later (λ _. refl) x.finds) (make_idle bytes r other),
+      vain_turn c (jobs.Make bytes) _ (Ok r) v d x (make_none bytes r x.more other x.wrote)
+          (no_looks AtNone _ x.reads)
+          (later_none (jobs.Make bytes) r _ x.later (λ _. refl) x.finds) (make_idle bytes r other)
+          (x.job_is, (r, x.reply_is, off)),
       made_none r other,
     )
 turn_vain c (jobs.Write handle at bytes) r v d called off x = (
-  vain_turn c (jobs.Write handle at bytes) (Ok r) v d x
+  vain_turn c (jobs.Write handle at bytes) _ (Ok r) v d x
       (write_none handle.n at bytes r x.more
       (λ w e. off (subst (IsAnswerTo c (jobs.Write handle at bytes)) (sym e) (inl tt))) x.wrote)
-      x.reads
+      (no_looks AtNone _ x.reads)
       (later_none (jobs.Write handle at bytes) r _ x.later
       (λ e. absurd (off (subst (IsAnswerTo c (jobs.Write handle at bytes)) (sym e) (inl tt))))
-      x.finds) refl,
+      x.finds) refl (x.job_is, (r, x.reply_is, off)),
   refl,
 )
 turn_vain c (jobs.Free handle) r v d called off x = (
-  vain_turn c (jobs.Free handle) (Ok r) v d x
+  vain_turn c (jobs.Free handle) _ (Ok r) v d x
       (free_none handle.n r x.more
-      (λ w e. off (subst (IsAnswerTo c (jobs.Free handle)) (sym e) (inl tt))) x.wrote) x.reads
+      (λ w e. off (subst (IsAnswerTo c (jobs.Free handle)) (sym e) (inl tt))) x.wrote)
+      (no_looks AtNone _ x.reads)
       (later_none (jobs.Free handle) r _ x.later
-      (λ e. absurd (off (subst (IsAnswerTo c (jobs.Free handle)) (sym e) (inl tt)))) x.finds) refl,
+      (λ e. absurd (off (subst (IsAnswerTo c (jobs.Free handle)) (sym e) (inl tt)))) x.finds) refl
+      (x.job_is, (r, x.reply_is, off)),
   refl,
 )
 turn_vain c (jobs.Swap handle) r v d called off x = (
-  vain_turn c (jobs.Swap handle) (Ok r) v d x x.wrote x.reads
-      (later_none (jobs.Swap handle) r _ x.later (λ _. refl) x.finds) refl,
+  vain_turn c (jobs.Swap handle) _ (Ok r) v d x x.wrote (no_looks AtNone _ x.reads)
+      (later_none (jobs.Swap handle) r _ x.later (λ _. refl) x.finds) refl
+      (x.job_is, (r, x.reply_is, off)),
+  refl,
+)
+turn_vain c (jobs.Read handle) r v d called off x = (
+  vain_turn c (jobs.Read handle) _ (Ok r) v d x x.wrote
+      (read_looks c handle r v x.within off x.reads)
+      (later_none (jobs.Read handle) r _ x.later
+      (λ e. absurd (off (subst (IsAnswerTo c (jobs.Read handle)) (sym e) (inl tt)))) x.finds) refl
+      (x.job_is, (r, x.reply_is, off)),
   refl,
 )
 turn_vain c job r v d called off x = absurd called
 
 -- nor does one that found no memory
-pub turn_stops : (c : Config) (job : Job) (e : NoMemory) (v : View) (d : Part) → IsCalled job
-    → TurnAdds c job (Err e) v d → IsInVain AtNone job d × (made_by_turn job None ≡ [])
-turn_stops c (jobs.Make bytes) e v d called x =
-    (vain_turn c (jobs.Make bytes) (Err e) v d x x.wrote x.reads x.finds refl, refl)
-turn_stops c (jobs.Write handle at bytes) e v d called x =
-    (vain_turn c (jobs.Write handle at bytes) (Err e) v d x x.wrote x.reads x.finds refl, refl)
-turn_stops c (jobs.Free handle) e v d called x =
-    (vain_turn c (jobs.Free handle) (Err e) v d x x.wrote x.reads x.finds refl, refl)
-turn_stops c (jobs.Swap handle) e v d called x =
-    (vain_turn c (jobs.Swap handle) (Err e) v d x x.wrote x.reads x.finds refl, refl)
-turn_stops c job e v d called x = absurd called
+pub turn_lacks : (c : Config) (job : Job) (e : NoMemory) (v : View) (d : Part) → IsCalled job
+    → TurnAdds c job (Err e) v d
+    → IsInVain (LooksOf job) (IsForWant job) d × (made_by_turn job None ≡ [])
+turn_lacks c (jobs.Make bytes) e v d called x = (
+  vain_turn c (jobs.Make bytes) _ (Err e) v d x x.wrote (no_looks AtNone _ x.reads) x.finds refl
+      (x.job_is, x.reply_is),
+  refl,
+)
+turn_lacks c (jobs.Write handle at bytes) e v d called x = (
+  vain_turn c (jobs.Write handle at bytes) _ (Err e) v d x x.wrote (no_looks AtNone _ x.reads)
+      x.finds refl (x.job_is, x.reply_is),
+  refl,
+)
+turn_lacks c (jobs.Free handle) e v d called x = (
+  vain_turn c (jobs.Free handle) _ (Err e) v d x x.wrote (no_looks AtNone _ x.reads) x.finds refl
+      (x.job_is, x.reply_is),
+  refl,
+)
+turn_lacks c (jobs.Swap handle) e v d called x = (
+  vain_turn c (jobs.Swap handle) _ (Err e) v d x x.wrote (no_looks AtNone _ x.reads) x.finds refl
+      (x.job_is, x.reply_is),
+  refl,
+)
+turn_lacks c (jobs.Read handle) e v d called x = (
+  vain_turn c (jobs.Read handle) _ (Err e) v d x x.wrote (lacking_looks x.reads) x.finds refl
+      (x.job_is, x.reply_is),
+  refl,
+)
+  where
+    lacking_looks : JobReads (jobs.Read handle) (Err e) v x.within
+        → LooksAlone (AtThis handle.n) x.within
+    lacking_looks (inl y) = no_looks (AtThis handle.n) x.within y.0
+    lacking_looks (inr y) = (y.looks, y.on, y.part)
+turn_lacks c job e v d called x = absurd called
 
 grows_own : (made : List ℕ) (v w : View) (d : Part) → made ≡ [] → w ≡ with_own made (grown d v)
     → Grows v d w
@@ -195,21 +329,28 @@ pub turn_ends : (c : Config) (job : Job) (r : Reply) (v w : View) → IsAnswerTo
 turn_ends c job r v w ends (d, x, is) = (d, (ends, x), is)
 
 pub turn_in_vain : (c : Config) (job : Job) (r : Reply) (v w : View) → IsCalled job
-    → (IsAnswerTo c job r → ⊥) → TurnBy c job (Ok r) v w → StopsInVain AtNone job v w
+    → (IsAnswerTo c job r → ⊥) → TurnBy c job (Ok r) v w → TurnTries c job None v w
 turn_in_vain c job r v w called off (d, x, is) = let z = turn_vain c job r v d called off x in
     (d, z.0, grows_own (made_by_turn job (Some r)) v w d z.1 is)
 
 pub turn_without : (c : Config) (job : Job) (e : NoMemory) (v w : View) → IsCalled job
-    → TurnBy c job (Err e) v w → StopsInVain AtNone job v w
-turn_without c job e v w called (d, x, is) = let z = turn_stops c job e v d called x in
-    (d, z.0, grows_own (made_by_turn job None) v w d z.1 is)
+    → TurnBy c job (Err e) v w → TurnStops c job v w
+turn_without c job e v w called (d, x, is) = let z = turn_lacks c job e v d called x in
+    stops_first (LooksOf job) (IsUnanswered c job) (IsForWant job) v w d z.0
+    (subst (λ (l : List Turn). length l ≤ 1) (sym (ap (λ (q : Part). q.turns) x.part)) (lit≤ tt))
+    (grows_own (made_by_turn job None) v w d z.1 is)
 
 -- ---- a look that found the object far, and then a turn
-pub look_stops : (h word : ℕ) (job : Job) (v w u : View) (d : Part) → d ≡ looked h word
-    → Grows v d w → StopsInVain AtNone job w u → StopsInVain (AtThis h) job v u
-look_stops h word job v w u d is grew (e, x, next) =
-    stops_after (AtThis h) job v w u (looked h word) (vain_look h word job)
-    (grew ∙ ap (λ (z : Part). grown z v) is) (e, vain_any (AtThis h) job e x, next)
+pub look_tries : (h word : ℕ) (vain : Turn → Type 0) (v w u : View) (d : Part) → d ≡ looked h word
+    → Grows v d w → TriesInVain (AtThis h) vain w u → TriesInVain (AtThis h) vain v u
+look_tries h word vain v w u d is grew x = tries_after (AtThis h) vain v w u (looked h word)
+    (vain_look h word vain) (grew ∙ ap (λ (z : Part). grown z v) is) x
+
+pub look_stops : (h word : ℕ) (vain want : Turn → Type 0) (v w u : View) (d : Part)
+    → d ≡ looked h word → Grows v d w → StopsInVain (AtThis h) vain want w u
+    → StopsInVain (AtThis h) vain want v u
+look_stops h word vain want v w u d is grew x = stops_then (AtThis h) vain want v w u
+    (looked h word, vain_look h word vain, grew ∙ ap (λ (z : Part). grown z v) is) x
 
 pub look_asks : (c : Config) (h word : ℕ) (job : Job) (r : Reply) (v w u : View) (d e : Part)
     → d ≡ looked h word → state_of word ≡ state.Far → Grows v d w → TurnEnds c job r w e
@@ -229,25 +370,21 @@ look_asks c h word job r v w u d e is far grew ends none next =
           ∙ grown_sum (looked h word) e v,
     )
 
-pub ends_asked : (c : Config) (h : ℕ) (r : Reply) (v : View) (d : Part)
-    → AsksFor c (jobs.Swap (the_handle h)) r h v d → ReadCallEnds c h r v d
-ends_asked c h (answer.Bytes version bytes) v d x = absurd x.turned.0
-ends_asked c h answer.Freed v d x = absurd x.turned.0
-ends_asked c h r v d x = x
-
 pub err_always : {T E : Type 0} (r : Result T E) (P : Type 0) → P → OnErr r P
 err_always (Ok x) P p = tt
 err_always (Err e) P p = p
 
 pub answers_yes : (c : Config) (job : Job) (r : Reply) → ((h : Handle) → job ≡ jobs.Swap h → ⊥)
-    → IsAnswer c r → IsAnswerTo c job r
-answers_yes c (jobs.Swap h) r off x = absurd (off h refl)
-answers_yes c job r off x = x
+    → ((h : Handle) → job ≡ jobs.Read h → ⊥) → IsAnswer c r → IsAnswerTo c job r
+answers_yes c (jobs.Swap h) r off other x = absurd (off h refl)
+answers_yes c (jobs.Read h) r off other x = absurd (other h refl)
+answers_yes c job r off other x = x
 
 pub answers_no : (c : Config) (job : Job) (r : Reply) → ((h : Handle) → job ≡ jobs.Swap h → ⊥)
-    → IsAnswerTo c job r → IsAnswer c r
-answers_no c (jobs.Swap h) r off x = absurd (off h refl)
-answers_no c job r off x = x
+    → ((h : Handle) → job ≡ jobs.Read h → ⊥) → IsAnswerTo c job r → IsAnswer c r
+answers_no c (jobs.Swap h) r off other x = absurd (off h refl)
+answers_no c (jobs.Read h) r off other x = absurd (other h refl)
+answers_no c job r off other x = x
 
 -- ---- what a read under a pin found
 abbrev Found : ℕ → ReadAnswer → View → View → Type 0
@@ -257,77 +394,100 @@ pub found_bytes : (c : Config) (h version : ℕ) (bytes : List ℕ) (a : ReadAns
     → a ≡ found.Bytes version bytes → Found h a v w
     → ReadTries c h (Some (answer.Bytes version bytes)) v w
 found_bytes c h version bytes a v w is (d, grew, f) =
-    (d, subst (λ (z : ReadAnswer). ReadFinds h z v d) is f, grew)
+    (d, inl (subst (λ (z : ReadAnswer). ReadFinds h z v d) is f), grew)
 
 pub found_freed : (c : Config) (h : ℕ) (a : ReadAnswer) (v w : View) → a ≡ found.Freed
     → Found h a v w → ReadTries c h (Some answer.Freed) v w
 found_freed c h a v w is (d, grew, f) =
-    (d, subst (λ (z : ReadAnswer). ReadFinds h z v d) is f, grew)
+    (d, inl (subst (λ (z : ReadAnswer). ReadFinds h z v d) is f), grew)
 
-one_look : (h word : ℕ) (v w : View) (d : Part) → Grows v d w → d ≡ looked h word
-    → StopsInVain (AtThis h) (jobs.Swap (the_handle h)) v w
-one_look h word v w d grew is = (
+one_look : (h word : ℕ) (vain : Turn → Type 0) (v w : View) (d : Part) → Grows v d w
+    → d ≡ looked h word → TriesInVain (AtThis h) vain v w
+one_look h word vain v w d grew is =
+    (d, subst (IsInVain (AtThis h) vain) (sym is) (vain_look h word vain), grew)
+
+-- others stand in the way of a read
+abbrev pub IsHindered : ReadAnswer → Type 0
+IsHindered found.Moving = Unit {0}
+IsHindered found.Crowded = Unit {0}
+IsHindered (found.Raced saw other) = Unit {0}
+IsHindered a = ⊥
+
+pub is_hindered : (a : ReadAnswer) → (a ≡ found.Moving) ⊎ ((a ≡ found.Crowded)
+    ⊎ ((saw : ℕ) × (other : ℕ) × (a ≡ found.Raced saw other))) → IsHindered a
+is_hindered a (inl is) = subst IsHindered (sym is) tt
+is_hindered a (inr (inl is)) = subst IsHindered (sym is) tt
+is_hindered a (inr (inr (saw, other, is))) = subst IsHindered (sym is) tt
+
+pub found_hindered : (h : ℕ) (vain : Turn → Type 0) (a : ReadAnswer) (v w : View) → IsHindered a
+    → Found h a v w → TriesInVain (AtThis h) vain v w
+found_hindered h vain (found.Bytes version bytes) v w is x = absurd is
+found_hindered h vain found.Freed v w is x = absurd is
+found_hindered h vain found.NotHere v w is x = absurd is
+found_hindered h vain found.Moving v w is (d, grew, f) = one_look h f.0 vain v w d grew f.2
+found_hindered h vain found.Crowded v w is (d, grew, f) = one_look h f.0 vain v w d grew f.2
+found_hindered h vain (found.Raced saw other) v w is (d, grew, f) = (
   d,
-  subst (IsInVain (AtThis h) (jobs.Swap (the_handle h))) (sym is)
-      (vain_look h word (jobs.Swap (the_handle h))),
+  record {
+    looks = look_at h other ∷ look_at h saw ∷ [];
+    turns = [];
+    at = (refl, (refl, tt));
+    of = tt;
+    idle = tt;
+    part = f.1;
+  },
   grew,
 )
 
-pub found_moving : (h : ℕ) (a : ReadAnswer) (v w : View) → a ≡ found.Moving → Found h a v w
-    → StopsInVain (AtThis h) (jobs.Swap (the_handle h)) v w
-found_moving h a v w is (d, grew, f) =
-    let x : FindsWord h (λ word. state_of word ≡ state.Moving) d =
-    subst (λ (z : ReadAnswer). ReadFinds h z v d) is f in one_look h x.0 v w d grew x.2
+pub lacks_room : (c : Config) (h : ℕ) (v w : View)
+    → (word : ℕ) × (state_of word ≡ state.Here) × Grows v (looked h word) w → ReadStops c h v w
+lacks_room c h v w (word, here, grew) = stops_first (AtThis h) (IsUnfetched c h) (IsFetchForWant h)
+    v w (looked h word) (vain_look h word (IsFetchForWant h)) (lit≤ tt) grew
 
-pub found_crowded : (h : ℕ) (a : ReadAnswer) (v w : View) → a ≡ found.Crowded → Found h a v w
-    → StopsInVain (AtThis h) (jobs.Swap (the_handle h)) v w
-found_crowded h a v w is (d, grew, f) =
-    let x : FindsWord h (λ word. (state_of word ≡ state.Here) × (pins_of word ≡ 1023)) d =
-    subst (λ (z : ReadAnswer). ReadFinds h z v d) is f in one_look h x.0 v w d grew x.2
+-- ---- the turns of a read
+fetch_looks : (h : ℕ) (job : Job) → IsFetch h job → (k : ℕ) → LooksOf job k → AtThis h k
+fetch_looks h job (inl is) k x = absurd (subst (λ (j : Job). LooksOf j k) is x)
+fetch_looks h job (inr is) k x = subst (λ (j : Job). LooksOf j k) is x
 
-pub found_raced : (h saw other : ℕ) (a : ReadAnswer) (v w : View) → a ≡ found.Raced saw other
-    → Found h a v w → StopsInVain (AtThis h) (jobs.Swap (the_handle h)) v w
-found_raced h saw other a v w is (d, grew, f) =
-    let x : FindsOther h saw other d = subst (λ (z : ReadAnswer). ReadFinds h z v d) is f in (
-      d,
-      record {
-        looks = look_at h other ∷ look_at h saw ∷ [];
-        turns = [];
-        at = (refl, (refl, tt));
-        of = tt;
-        idle = tt;
-        part = x.1;
-      },
-      grew,
-    )
+pub fetch_called : (h : ℕ) (job : Job) → IsFetch h job → IsCalled job
+fetch_called h job (inl is) = subst IsCalled (sym is) tt
+fetch_called h job (inr is) = subst IsCalled (sym is) tt
 
-pub lacks_room : (h : ℕ) (v w : View)
-    → (word : ℕ) × (state_of word ≡ state.Here) × Grows v (looked h word) w
-    → StopsInVain (AtThis h) (jobs.Swap (the_handle h)) v w
-lacks_room h v w (word, here, grew) =
-    (looked h word, vain_look h word (jobs.Swap (the_handle h)), grew)
+pub fetch_knows : (h : ℕ) (job : Job) (v : View) → IsFetch h job → Knows h v → KnowsOf job v
+fetch_knows h job v (inl is) knows = subst (λ (j : Job). KnowsOf j v) (sym is) tt
+fetch_knows h job v (inr is) knows = subst (λ (j : Job). KnowsOf j v) (sym is) knows
 
-pub away_stops : (h : ℕ) (a : ReadAnswer) (v w u : View) → a ≡ found.NotHere → Found h a v w
-    → StopsInVain AtNone (jobs.Swap (the_handle h)) w u
-    → StopsInVain (AtThis h) (jobs.Swap (the_handle h)) v u
-away_stops h a v w u is (d, grew, f) x =
-    let y : FindsWord h (λ word. state_of word ≡ state.Far) d =
-    subst (λ (z : ReadAnswer). ReadFinds h z v d) is f in
-    look_stops h y.0 (jobs.Swap (the_handle h)) v w u d y.2 grew x
+pub fetch_job : (c : Config) (h : ℕ) (job : Job) → IsFetch h job → h < c.handles → IsJob c job
+fetch_job c h job (inl is) below = subst (IsJob c) (sym is) below
+fetch_job c h job (inr is) below = subst (IsJob c) (sym is) below
 
-pub away_tries : (c : Config) (h : ℕ) (a : ReadAnswer) (o : Option Reply) (v w u : View)
-    → a ≡ found.NotHere → Found h a v w → TurnTries c (jobs.Swap (the_handle h)) o w u
+fetch_makes : (h : ℕ) (job : Job) (r : Reply) → IsFetch h job → made_by_turn job (Some r) ≡ []
+fetch_makes h job r (inl is) = ap (λ (j : Job). made_by_turn j (Some r)) is
+fetch_makes h job r (inr is) = ap (λ (j : Job). made_by_turn j (Some r)) is
+
+far_look : (h : ℕ) (a : ReadAnswer) (v : View) (d : Part) → a ≡ found.NotHere → ReadFinds h a v d
+    → FindsWord h (λ word. state_of word ≡ state.Far) d
+far_look h a v d is f = subst (λ (z : ReadAnswer). ReadFinds h z v d) is f
+
+pub away_stops : (c : Config) (h : ℕ) (job : Job) (a : ReadAnswer) (v w u : View) → IsFetch h job
+    → a ≡ found.NotHere → Found h a v w → TurnStops c job w u → ReadStops c h v u
+away_stops c h job a v w u fetch is (d, grew, f) x = let y = far_look h a v d is f in
+    look_stops h y.0 (IsUnfetched c h) (IsFetchForWant h) v w u d y.2 grew
+    (stops_wider (LooksOf job) (AtThis h) (IsUnanswered c job) (IsUnfetched c h) (IsForWant job)
+    (IsFetchForWant h) (fetch_looks h job fetch) (λ t z. (job, fetch, z)) (λ t z. (job, fetch, z))
+    w u x)
+
+pub away_tries : (c : Config) (h : ℕ) (job : Job) (a : ReadAnswer) (o : Option Reply)
+    (v w u : View) → IsFetch h job → a ≡ found.NotHere → Found h a v w → TurnTries c job o w u
     → ReadTries c h o v u
-away_tries c h a None v w u is x y = away_stops h a v w u is x y
-away_tries c h a (Some r) v w u is (d, grew, f) (e, ends, next) =
-    let y : FindsWord h (λ word. state_of word ≡ state.Far) d =
-    subst (λ (z : ReadAnswer). ReadFinds h z v d) is f in
-    let z = look_asks c h y.0 (jobs.Swap (the_handle h)) r v w u d e y.2 y.1 grew ends refl next in
-    (z.0, ends_asked c h r v z.0 z.1, z.2)
-
--- ---- the loops round the tries
-pub so_far : (on : ℕ → Type 0) (job : Job) (v : View) → StopsInVain on job v v
-so_far on job v = (nothing_more, vain_none on job, grown_nothing v)
+away_tries c h job a None v w u fetch is (d, grew, f) x = let y = far_look h a v d is f in
+    look_tries h y.0 (IsUnfetched c h) v w u d y.2 grew
+    (tries_wider (LooksOf job) (AtThis h) (IsUnanswered c job) (IsUnfetched c h)
+    (fetch_looks h job fetch) (λ t z. (job, fetch, z)) w u x)
+away_tries c h job a (Some r) v w u fetch is (d, grew, f) (e, ends, next) =
+    let y = far_look h a v d is f in
+    let z = look_asks c h y.0 job r v w u d e y.2 y.1 grew ends (fetch_makes h job r fetch) next in
+    (z.0, inr (job, fetch, z.1), z.2)
 
 has_behind : {A : Type 0} (x : A) (xs ys : List A) → Has x ys → Has x (xs ++ ys)
 has_behind x [] ys has = has
@@ -337,56 +497,75 @@ pub known_grown : (h : ℕ) (d : Part) (v : View) → Knows h v → Knows h (gro
 known_grown h d v (inl (e, has, is)) = inl (e, has_behind e d.written v.written has, is)
 known_grown h d v (inr (s, has, is)) = inr (s, has_behind s d.seen v.seen has, is)
 
+pub found_knows : (h : ℕ) (a : ReadAnswer) (v w : View) → Knows h v → Found h a v w → Knows h w
+found_knows h a v w knows (d, grew, f) = subst (Knows h) (sym grew) (known_grown h d v knows)
+
+-- ---- what a read is answered
+in_place_tells : (h : ℕ) (r : Reply) (v : View) (d : Part) → ReadsInPlace h r v d → TellsWhatIs r
+in_place_tells h (answer.Bytes version bytes) v d x = tt
+in_place_tells h answer.Freed v d x = tt
+in_place_tells h r v d x = absurd x
+
+read_tells : (c : Config) (h : ℕ) (r : Reply) (v : View) (d : Part) → ReadCallEnds c h r v d
+    → TellsWhatIs r ⊎ IsLack c r
+read_tells c h r v d (inl x) = inl (in_place_tells h r v d x)
+read_tells c h r v d (inr (job, inl is, x)) =
+    inr (subst (λ (j : Job). AsksFor c j r h v d) is x).turned.0
+read_tells c h r v d (inr (job, inr is, x)) =
+    (subst (λ (j : Job). AsksFor c j r h v d) is x).turned.0
+
+-- where that tells nothing of its object, it tells why it can't be brought in
+pub read_lacks : (c : Config) (h : ℕ) (r : Reply) (v : View) (d : Part) → (TellsWhatIs r → ⊥)
+    → ReadCallEnds c h r v d → IsLack c r
+read_lacks c h r v d off x = ⊎_elim (λ (t : TellsWhatIs r). absurd (off t))
+    (λ (l : IsLack c r). l) (read_tells c h r v d x)
+
+-- ---- the loops round the tries
 know_grown : (o : Option ℕ) (d : Part) (v : View) → KnowsIt o v → KnowsIt o (grown d v)
 know_grown None d v knows = tt
 know_grown (Some h) d v knows = known_grown h d v knows
 
-pub known_still : (on : ℕ → Type 0) (job : Job) (o : Option ℕ) (v w : View)
-    → KnowsIt o v → StopsInVain on job v w → KnowsIt o w
-known_still on job o v w knows (d, x, grew) =
+pub known_still : (on : ℕ → Type 0) (vain : Turn → Type 0) (o : Option ℕ) (v w : View)
+    → KnowsIt o v → TriesInVain on vain v w → KnowsIt o w
+known_still on vain o v w knows (d, x, grew) =
     subst (KnowsIt o) (sym grew) (know_grown o d v knows)
 
 -- a make behind such tries
-new_before : (first : ℕ) (job : Job) (r : Reply) (v w : View) → StopsInVain AtNone job v w
-    → MakesNew first job r w → MakesNew first job r v
-new_before first (jobs.Make bytes) (answer.Made h n) v w x new =
-    (new.0, λ knows. new.1 (known_still AtNone (jobs.Make bytes) (Some h.n) v w knows x))
-new_before first (jobs.Make bytes) r v w x new = tt
-new_before first job r v w x new = tt
+new_before : (first : ℕ) (on : ℕ → Type 0) (vain : Turn → Type 0) (job : Job) (r : Reply)
+    (v w : View) → TriesInVain on vain v w → MakesNew first job r w → MakesNew first job r v
+new_before first on vain (jobs.Make bytes) (answer.Made h n) v w x new =
+    (new.0, λ knows. new.1 (known_still on vain (Some h.n) v w knows x))
+new_before first on vain (jobs.Make bytes) r v w x new = tt
+new_before first on vain job r v w x new = tt
 
-pub new_at_last : (first : ℕ) (job : Job) (o : Option Reply) (r : Reply) (v w : View) → o ≡ Some r
-    → StopsInVain AtNone job v w → TriesNew first job o w → MakesNew first job r v
-new_at_last first job o r v w is x new = new_before first job r v w x
+pub new_at_last : (first : ℕ) (on : ℕ → Type 0) (vain : Turn → Type 0) (job : Job)
+    (o : Option Reply) (r : Reply) (v w : View) → o ≡ Some r → TriesInVain on vain v w
+    → TriesNew first job o w → MakesNew first job r v
+new_at_last first on vain job o r v w is x new = new_before first on vain job r v w x
     (subst (λ (z : Option Reply). TriesNew first job z w) is new)
 
-pub stops_then : (on : ℕ → Type 0) (job : Job) (v w u : View) → StopsInVain on job v w
-    → StopsInVain on job w u → StopsInVain on job v u
-stops_then on job v w u (d, x, grew) y = stops_after on job v w u d x grew y
-
 pub read_again : (c : Config) (h : ℕ) (o : Option Reply) (v w u : View) → o ≡ None
-    → StopsInVain (AtThis h) (jobs.Swap (the_handle h)) v w → ReadTries c h o w u
-    → StopsInVain (AtThis h) (jobs.Swap (the_handle h)) v u
-read_again c h o v w u is x y = stops_then (AtThis h) (jobs.Swap (the_handle h)) v w u x
+    → TriesInVain (AtThis h) (IsUnfetched c h) v w → ReadTries c h o w u
+    → TriesInVain (AtThis h) (IsUnfetched c h) v u
+read_again c h o v w u is x y = tries_then (AtThis h) (IsUnfetched c h) v w u x
     (subst (λ (z : Option Reply). ReadTries c h z w u) is y)
 
 pub read_at_last : (c : Config) (h : ℕ) (o : Option Reply) (r : Reply) (v w u : View) → o ≡ Some r
-    → StopsInVain (AtThis h) (jobs.Swap (the_handle h)) v w → ReadTries c h o w u
-    → ReadGives c h r v u
+    → TriesInVain (AtThis h) (IsUnfetched c h) v w → ReadTries c h o w u → ReadGives c h r v u
 read_at_last c h o r v w u is (d, x, grew) y =
     let z : ReadTries c h (Some r) w u = subst (λ (q : Option Reply). ReadTries c h q w u) is y in
-    ends_after (AtThis h) (jobs.Swap (the_handle h)) (ReadCallEnds c h r) (λ (q : View). q) v w u d
-    z.0
+    ends_after (AtThis h) (IsUnfetched c h) (ReadCallEnds c h r) (λ (q : View). q) v w u d z.0
     x grew z.1 z.2
 
 pub turn_again : (c : Config) (job : Job) (o : Option Reply) (v w u : View) → o ≡ None
-    → StopsInVain AtNone job v w → TurnTries c job o w u → StopsInVain AtNone job v u
-turn_again c job o v w u is x y = stops_then AtNone job v w u x
+    → TurnTries c job None v w → TurnTries c job o w u → TurnTries c job None v u
+turn_again c job o v w u is x y = tries_then (LooksOf job) (IsUnanswered c job) v w u x
     (subst (λ (z : Option Reply). TurnTries c job z w u) is y)
 
 pub turn_at_last : (c : Config) (job : Job) (o : Option Reply) (r : Reply) (v w u : View)
-    → o ≡ Some r → StopsInVain AtNone job v w → TurnTries c job o w u → TurnGives c job r v u
+    → o ≡ Some r → TurnTries c job None v w → TurnTries c job o w u → TurnGives c job r v u
 turn_at_last c job o r v w u is (d, x, grew) y =
     let z : TurnTries c job (Some r) w u =
     subst (λ (q : Option Reply). TurnTries c job q w u) is y in
-    ends_after AtNone job (TurnEnds c job r) (with_own (made_by_turn job (Some r))) v w u d z.0
-    x grew z.1 z.2
+    ends_after (LooksOf job) (IsUnanswered c job) (TurnEnds c job r)
+    (with_own (made_by_turn job (Some r))) v w u d z.0 x grew z.1 z.2

@@ -10,6 +10,7 @@ use Rattle.cb_types.specs.declared.reply.Reply.{Reply}
 use Rattle.cb_types.specs.declared.reply.Reply.TheVariants as reply
 use Rattle.cb_world.specs.declared.entry.Entry.{Entry}
 use Rattle.cb_world.specs.Written.{entry}
+use Rattle.cb_rule.specs.declared.turn.Turn.{Turn}
 use Rattle.cb_rule.specs.declared.view.Seen.{Seen}
 use Rattle.cb_rule.specs.declared.view.View.{View}
 use Rattle.cb_rule.specs.Lists.{Has}
@@ -21,7 +22,7 @@ use Rattle.cb_shared.specs.declared.answers.PinAnswer.TheVariants as pins
 use Rattle.cb_shared.specs.declared.answers.WriteAnswer.{WriteAnswer}
 use Rattle.cb_shared.specs.declared.answers.WriteAnswer.TheVariants as writes
 use Rattle.cb_shared.specs.declared.pass.Pin.{Pin}
-use Rattle.cb_shared.specs.Calls.{ReadGives, StopsInVain, TurnGives, WriteAnswers}
+use Rattle.cb_shared.specs.Calls.{AtThis, LooksOf, ReadGives, ReadStops, StopsInVain, TurnGives, TurnStops, WriteAnswers, WriteStops}
 use Rattle.cb_shared.specs.Passes.{IsPinOf}
 use Rattle.cb_shared.specs.Pinning.{PinGives}
 use Rattle.cb_shared.specs.Turning.{TurnAdds, TurnBy, with_own}
@@ -147,26 +148,31 @@ grows_keeps d v w g = subst (Keeps v) (sym g) (part_keeps d v)
 owns_keeps : (made : List ℕ) (d : Part) (v w : View) → w ≡ with_own made (grown d v) → Keeps v w
 owns_keeps made d v w g = subst (Keeps v) (sym g) (λ h x. part_keeps d v h x)
 
+-- nor where there was no memory
+stops_keep : (on : ℕ → Type 0) (vain want : Turn → Type 0) (v w : View)
+    → StopsInVain on vain want v w → Keeps v w
+stops_keep on vain want v w x h known = grows_keeps x.last x.between w x.left h
+    (grows_keeps x.tries.0 v x.between x.tries.2 h known)
+
 pub turn_keeps : (c : Config) (job : Job) (r : Result Reply NoMemory) (v w : View)
     → TurnBy c job r v w → Keeps v w
 turn_keeps c job r v w t = owns_keeps _ t.0 v w t.2
 
-pub read_keeps : (c : Config) (h : ℕ) (on : ℕ → Type 0) (job : Job) (r : Result Reply NoMemory)
-    (v w : View) → IfOk r (λ x. ReadGives c h x v w) → OnErr r (StopsInVain on job v w) → Keeps v w
-read_keeps c h on job (Ok x) v w a b = grows_keeps a.0 v w a.2
-read_keeps c h on job (Err e) v w a b = grows_keeps b.0 v w b.2
+pub read_keeps : (c : Config) (h : ℕ) (r : Result Reply NoMemory) (v w : View)
+    → IfOk r (λ x. ReadGives c h x v w) → OnErr r (ReadStops c h v w) → Keeps v w
+read_keeps c h (Ok x) v w a b = grows_keeps a.0 v w a.2
+read_keeps c h (Err e) v w a b = stops_keep (AtThis h) _ _ v w b
 
-pub call_keeps : (c : Config) (h at : ℕ) (bytes : List ℕ) (on : ℕ → Type 0) (job : Job)
-    (r : Result Reply NoMemory) (v w : View)
-    → IfOk r (λ x. WriteAnswers c h at bytes x v w) → OnErr r (StopsInVain on job v w) → Keeps v w
-call_keeps c h at bytes on job (Ok x) v w a b = grows_keeps a.0 v w a.2
-call_keeps c h at bytes on job (Err e) v w a b = grows_keeps b.0 v w b.2
-
-pub turns_keep : (c : Config) (on : ℕ → Type 0) (job : Job) (r : Result Reply NoMemory)
-    (v w : View) → IfOk r (λ x. TurnGives c job x v w) → OnErr r (StopsInVain on job v w)
+pub call_keeps : (c : Config) (h at : ℕ) (bytes : List ℕ) (r : Result Reply NoMemory) (v w : View)
+    → IfOk r (λ x. WriteAnswers c h at bytes x v w) → OnErr r (WriteStops c h at bytes v w)
     → Keeps v w
-turns_keep c on job (Ok x) v w a b = owns_keeps _ a.0 v w a.2
-turns_keep c on job (Err e) v w a b = grows_keeps b.0 v w b.2
+call_keeps c h at bytes (Ok x) v w a b = grows_keeps a.0 v w a.2
+call_keeps c h at bytes (Err e) v w a b = stops_keep (AtThis h) _ _ v w b
+
+pub turns_keep : (c : Config) (job : Job) (r : Result Reply NoMemory) (v w : View)
+    → IfOk r (λ x. TurnGives c job x v w) → OnErr r (TurnStops c job v w) → Keeps v w
+turns_keep c job (Ok x) v w a b = owns_keeps _ a.0 v w a.2
+turns_keep c job (Err e) v w a b = stops_keep (LooksOf job) _ _ v w b
 
 -- ---- an object that was made
 makes_known : (h : ℕ) (made : List ℕ) (d : Part) (e : Entry) (v w : View) → Has e d.written

@@ -1,5 +1,5 @@
 -- The lemmas of this crate that other crates cite.
-pub use Rattle.cb_shared.proofs.CallSteps.{known_grown, known_still, look_asks, look_stops, so_far, stops_then, turn_ends, turn_in_vain, vain_look}
+pub use Rattle.cb_shared.proofs.CallSteps.{known_grown, known_still, look_asks, look_stops, look_tries, read_lacks, so_far, stops_then, stops_wider, tries_then, tries_wider, turn_ends, turn_in_vain, turn_without, vain_look}
 pub use Rattle.cb_shared.proofs.Known.{Keeps, call_keeps, call_made, join_keeps, left_keeps, peek_has, peek_keeps, pin_keeps, read_keeps, right_keeps, turn_keeps, turn_made, turns_keep, unpin_keeps, write_keeps}
 pub use Rattle.cb_shared.proofs.MadeFirst.{makes_backed, makes_first, makes_full}
 pub use Rattle.cb_shared.proofs.ReadBytes.{AreBytesFilled, IsPutInto, filled_all, filled_more}

@@ -50,6 +50,7 @@ mod WorkedReads
 mod WorkedFinds
 mod WorkedCalls
 mod WorkedTries
+mod WorkedVain
 mod WorkedMaking
 mod WorkedReplies
 mod WorkedAdds

@@ -42,15 +42,15 @@ use Rattle.cb_shared.proofs.WorkedUnder.{beginner, far, known, last}
 
 -- ---- tries in vain make turns of their job alone
 turned_in_vain : (t : Turn) → t.job ≡ jobs.Evict
-    → IsInVain AtNone (jobs.Make []) (record nothing_more { turns = t ∷ [] }) → ⊥
+    → IsInVain AtNone (IsUnanswered two (jobs.Make [])) (record nothing_more { turns = t ∷ [] }) → ⊥
 turned_in_vain t work x = absurd (let e = sym work
-    ∙ (subst (Each (λ (u : Turn). u.job ≡ jobs.Make [])) (sym (ap (λ (d : Part). d.turns) x.part))
-    x.of).0 in cc)
+    ∙ (subst (Each (IsUnanswered two (jobs.Make []))) (sym (ap (λ (d : Part). d.turns) x.part))
+    x.of).0.0 in cc)
 
 -- ---- a read that found the object freed at last: with an entry of no try, or with a pin beside it
 abbrev ReadsFreed : Part → Type 0
 ReadsFreed d =
-    EndsAtLast (AtThis 1) (jobs.Swap (the_handle 1)) (ReadCallEnds two 1 answer.Freed) part d
+    EndsAtLast (AtThis 1) (IsUnfetched two 1) (ReadCallEnds two 1 answer.Freed) part d
 
 reads_and_writes : ReadsFreed record (looked_freed 1 3 0) { written = made ∷ [] } → ⊥
 reads_and_writes x =

@@ -11,7 +11,7 @@ use Rattle.cb_rule.specs.declared.view.View.{View}
 use Rattle.cb_rule.specs.Lists.{Each}
 use Rattle.cb_rule.specs.Steps.{IsNewest, look_at}
 use Rattle.cb_shared.specs.declared.answers.WriteAnswer.TheVariants as place
-use Rattle.cb_shared.specs.Calls.{AsksFor, AtNone, AtThis, EndsAtLast, IsAnswer, IsAnswerTo, IsInVain, IsLack, IsWrittenOnce, ReadCallEnds, SaysAs, TurnGives, WriteAnswers, is_to_try_again, newest_tries, the_handle, written_once}
+use Rattle.cb_shared.specs.Calls.{AsksFor, AtNone, AtThis, EndsAtLast, IsAnswer, IsAnswerTo, IsInVain, IsLack, IsUnanswered, IsUnfetched, IsWrittenOnce, ReadCallEnds, SaysAs, TurnGives, WriteAnswers, is_to_try_again, newest_tries, the_handle, written_once}
 use Rattle.cb_record.specs.Deeds.{Deed, deed, happened, happening}
 use Rattle.cb_record.specs.Parts.{Part, grown, nothing_more, sum}
 use Rattle.cb_shared.specs.Reading.{looked, looked_freed}
@@ -67,7 +67,7 @@ swap_tells_nothing : IsAnswerTo wide (jobs.Swap (the_handle 1)) answer.Freed →
 swap_tells_nothing x = x
 
 -- ---- tries that came to nothing
-in_vain : IsInVain (AtThis 1) (jobs.Swap (the_handle 1)) (looked 1 moving)
+in_vain : IsInVain (AtThis 1) (IsUnfetched wide 1) (looked 1 moving)
 in_vain = record {
   looks = look_at 1 moving ∷ [];
   turns = [];
@@ -77,21 +77,22 @@ in_vain = record {
   part = refl;
 }
 
-at_another : IsInVain (AtThis 1) (jobs.Swap (the_handle 1)) (looked 0 moving) → ⊥
+at_another : IsInVain (AtThis 1) (IsUnfetched wide 1) (looked 0 moving) → ⊥
 at_another x = eqb-false 0 1 refl (subst (Each (λ (l : Look). AtThis 1 l.handle))
     (sym (ap (λ (d : Part). d.looks) x.part)) x.at).0
 
-wrote_in_vain : IsInVain (AtThis 1) (jobs.Swap (the_handle 1))
+wrote_in_vain : IsInVain (AtThis 1) (IsUnfetched wide 1)
     (record (looked 1 moving) { written = made ∷ [] }) → ⊥
 wrote_in_vain x = eqb-false 1 0 refl (ap (λ (d : Part). length d.written) x.part)
 
-pinned_in_vain : IsInVain (AtThis 1) (jobs.Swap (the_handle 1))
+pinned_in_vain : IsInVain (AtThis 1) (IsUnfetched wide 1)
     (record (looked 1 moving) { ever = 1 }) → ⊥
 pinned_in_vain x = eqb-false 1 0 refl (ap (λ (d : Part). d.ever) x.part)
 
 made_in_vain : (t : Turn) → t.job ≡ jobs.Make (7 ∷ [])
     → t.reply ≡ Some (answer.Made (the_handle 0) 1)
-    → IsInVain AtNone (jobs.Make (7 ∷ [])) (record nothing_more { turns = t ∷ [] }) → ⊥
+    → IsInVain AtNone (IsUnanswered wide (jobs.Make (7 ∷ [])))
+    (record nothing_more { turns = t ∷ [] }) → ⊥
 made_in_vain t work reply x =
     let idle = subst (Each (λ (u : Turn). happened (deed u) ≡ []))
     (sym (ap (λ (d : Part). d.turns) x.part)) x.idle in
@@ -144,14 +145,14 @@ says_nothing_of_a_race : SaysAs (place.Raced calm pinned) answer.Moving → ⊥
 says_nothing_of_a_race x = x
 
 -- ---- the last try
-reads_freed_at_last : EndsAtLast (AtThis 1) (jobs.Swap (the_handle 1))
+reads_freed_at_last : EndsAtLast (AtThis 1) (IsUnfetched wide 1)
     (ReadCallEnds two 1 answer.Freed)
     part (sum (looked 1 moving) (looked_freed 1 3 0))
 reads_freed_at_last = record {
   before = looked 1 moving;
   last = looked_freed 1 3 0;
   in_vain = in_vain;
-  ends_so = (
+  ends_so = inl (
     0,
     3,
     refl,
@@ -161,9 +162,9 @@ reads_freed_at_last = record {
   part = refl;
 }
 
-answers_moving : EndsAtLast (AtThis 1) (jobs.Swap (the_handle 1)) (ReadCallEnds two 1 answer.Moving)
+answers_moving : EndsAtLast (AtThis 1) (IsUnfetched two 1) (ReadCallEnds two 1 answer.Moving)
     part (looked 1 moving) → ⊥
-answers_moving x = x.ends_so.turned.0
+answers_moving x = ends_moving _ _ x.ends_so
 
 -- ---- a make that was refused for the count of turns
 abbrev make_one : Part

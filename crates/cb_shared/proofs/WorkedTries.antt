@@ -10,7 +10,7 @@ use Rattle.cb_rule.specs.Lists.{Each}
 use Rattle.cb_rule.specs.Steps.{IsNewest, look_at, with_look}
 use Rattle.cb_record.specs.Parts.{Part, grown, nothing_more, sum}
 use Rattle.cb_shared.specs.declared.answers.WriteAnswer.TheVariants as place
-use Rattle.cb_shared.specs.Calls.{AtNone, AtThis, IsCalled, IsNoReply, IsWornOut, ReadGives, ReadTries, StopsInVain, TurnEnds, TurnTries, WriteCallEnds, WriteFinds, WriteTries, the_handle, worn_once}
+use Rattle.cb_shared.specs.Calls.{AtNone, AtThis, IsCalled, IsNoReply, IsUnanswered, IsUnfetched, IsWornOut, ReadGives, ReadTries, TriesInVain, TurnEnds, TurnTries, WriteCallEnds, WriteFinds, WriteTries, the_handle, worn_once}
 use Rattle.cb_shared.specs.Reading.{looked, looked_freed, looked_twice}
 use Rattle.cb_shared.specs.Writing.{last_seen}
 use Rattle.cb_shared.proofs.WorkedGround.{a_stand, away, calm, freed_last, has_last, knows_made, last_is_freed, moving, newest_made, part, pinned, shared_part, two, whole, word_in}
@@ -149,7 +149,7 @@ an_eviction_is_not : IsCalled jobs.Evict → ⊥
 an_eviction_is_not x = x
 
 -- ---- tries that came to nothing
-tried : StopsInVain (AtThis 1) (jobs.Swap (the_handle 1)) part (with_look 1 moving part)
+tried : TriesInVain (AtThis 1) (IsUnfetched two 1) part (with_look 1 moving part)
 tried = (
   looked 1 moving,
   record {
@@ -163,7 +163,8 @@ tried = (
   refl,
 )
 
-tried_and_pinned : StopsInVain (AtThis 1) (jobs.Swap (the_handle 1)) part (record part { pins = a_stand ∷ [] }) → ⊥
+tried_and_pinned : TriesInVain (AtThis 1) (IsUnfetched two 1) part
+    (record part { pins = a_stand ∷ [] }) → ⊥
 tried_and_pinned (d, x, is) = eqb-false 1 0 refl (ap (λ (v : View). length v.pins) is)
 
 -- a make looks at no object
@@ -171,7 +172,8 @@ no_look : (ls : List Look) → Each (λ (l : Look). ⊥) ls → length (ls ++ []
 no_look [] each = refl
 no_look (l ∷ ls) each = absurd (each.0)
 
-made_and_looked : StopsInVain AtNone (jobs.Make (10 ∷ [])) part (with_look 1 calm part) → ⊥
+made_and_looked : TriesInVain AtNone (IsUnanswered two (jobs.Make (10 ∷ []))) part
+    (with_look 1 calm part) → ⊥
 made_and_looked (d, x, is) = eqb-false 1 0 refl (ap (λ (v : View). length v.looks) is
     ∙ ap (λ (e : Part). length (e.looks ++ [])) x.part ∙ no_look x.looks x.at)
 
@@ -183,7 +185,7 @@ reads_freed = (
     before = nothing_more;
     last = looked_freed 1 3 0;
     in_vain = record { looks = []; turns = []; at = tt; of = tt; idle = tt; part = refl };
-    ends_so = (0, 3, refl, newest_made, refl);
+    ends_so = inl (0, 3, refl, newest_made, refl);
     part = refl;
   },
   refl,
@@ -199,7 +201,7 @@ reads_unread (d, x, is) =
     omega (arith, none, seen, one, all, both)
 
 tries_a_read : ReadTries two 1 (Some answer.Freed) part (grown (looked_freed 1 3 0) part)
-tries_a_read = (looked_freed 1 3 0, (0, 3, refl, newest_made, refl), refl)
+tries_a_read = (looked_freed 1 3 0, inl (0, 3, refl, newest_made, refl), refl)
 
 tries_a_read_in_vain : ReadTries two 1 None part (with_look 1 moving part)
 tries_a_read_in_vain = tried

@@ -1,20 +1,20 @@
 -- The parts of writes in place, and of writes that try again.
 use Rattle.std.proofs.Common.{◌≡◌, ℕ, ◌+◌, List, [], ◌∷◌, Option, None, Some, refl, ap, ◌∙◌, subst, arith, inl, inr}
 use Rattle.cb_types.specs.declared.config.Config.{Config}
-use Rattle.cb_types.specs.declared.job.Job.{Job}
 use Rattle.cb_types.specs.declared.job.Job.TheVariants as jobs
 use Rattle.cb_types.specs.declared.reply.Reply.{Reply}
 use Rattle.cb_ptr.specs.Word.{len_of}
 use Rattle.cb_world.specs.Written.{entry}
+use Rattle.cb_rule.specs.declared.turn.Turn.{Turn}
 use Rattle.cb_rule.specs.declared.view.View.{View}
 use Rattle.cb_rule.specs.Steps.{look_at, with_look}
 use Rattle.cb_shared.specs.declared.answers.WriteAnswer.{WriteAnswer}
 use Rattle.cb_shared.specs.declared.answers.WriteAnswer.TheVariants as place
-use Rattle.cb_shared.specs.Calls.{AtNone, AtThis, IsNoReply, SaysAs, StopsInVain, TurnTries, WriteAnswers, WriteCallEnds, WriteFinds, WriteTries, the_handle, worn_once, written_once}
+use Rattle.cb_shared.specs.Calls.{AtNone, AtThis, IsForWant, IsNoReply, IsUnanswered, SaysAs, TriesInVain, TurnStops, TurnTries, WriteAnswers, WriteCallEnds, WriteFinds, WriteStops, WriteTries, the_handle, worn_once, written_once}
 use Rattle.cb_record.specs.Parts.{Part, Grows, grown}
 use Rattle.cb_shared.specs.Reading.{looked, looked_freed, looked_twice}
 use Rattle.cb_shared.specs.Writing.{WriteGives, last_seen}
-use Rattle.cb_shared.proofs.CallSteps.{ends_after, look_asks, look_stops, stops_then, vain_look}
+use Rattle.cb_shared.proofs.CallSteps.{ends_after, look_asks, look_stops, look_tries, stops_wider, tries_then, tries_wider, vain_look}
 use Rattle.cb_shared.proofs.ReadSteps.{freed_part, look_part, twice_part}
 
 written_part : (h word version : ℕ) (old new : List ℕ) (v : View)
@@ -88,18 +88,18 @@ pub write_says : (c : Config) (h at : ℕ) (bytes : List ℕ) (a : WriteAnswer) 
 write_says c h at bytes a r v w says x = let z = write_finds h at bytes a v w x in
     (z.0, inl (a, says, z.2), z.1)
 
-pub write_vain : (h at : ℕ) (bytes : List ℕ) (job : Job) (a : WriteAnswer) (v w : View)
+pub write_vain : (h at : ℕ) (bytes : List ℕ) (vain : Turn → Type 0) (a : WriteAnswer) (v w : View)
     → IsNoReply a → (a ≡ place.NotHere → ⊥) → WriteGives h at bytes a v w
-    → StopsInVain (AtThis h) job v w
-write_vain h at bytes job (place.Ok version) v w none here x = absurd none
-write_vain h at bytes job place.Freed v w none here x = absurd none
-write_vain h at bytes job place.NotHere v w none here x = absurd (here refl)
-write_vain h at bytes job place.Moving v w none here (n, is, left) =
-    (looked h n, vain_look h n job, left ∙ look_part h n v)
-write_vain h at bytes job (place.Range len) v w none here x = absurd none
-write_vain h at bytes job (place.Pinned count) v w none here x = absurd none
-write_vain h at bytes job place.Worn v w none here x = absurd none
-write_vain h at bytes job (place.Raced saw found) v w none here (other, left) = (
+    → TriesInVain (AtThis h) vain v w
+write_vain h at bytes vain (place.Ok version) v w none here x = absurd none
+write_vain h at bytes vain place.Freed v w none here x = absurd none
+write_vain h at bytes vain place.NotHere v w none here x = absurd (here refl)
+write_vain h at bytes vain place.Moving v w none here (n, is, left) =
+    (looked h n, vain_look h n vain, left ∙ look_part h n v)
+write_vain h at bytes vain (place.Range len) v w none here x = absurd none
+write_vain h at bytes vain (place.Pinned count) v w none here x = absurd none
+write_vain h at bytes vain place.Worn v w none here x = absurd none
+write_vain h at bytes vain (place.Raced saw found) v w none here (other, left) = (
   looked_twice h saw found,
   record {
     looks = look_at h found ∷ look_at h saw ∷ [];
@@ -116,24 +116,30 @@ write_vain h at bytes job (place.Raced saw found) v w none here (other, left) = 
 pub write_tried : (c : Config) (h at : ℕ) (bytes : List ℕ) (a : WriteAnswer) (o : Option Reply)
     (v w : View) → ((r : Reply) → o ≡ Some r → SaysAs a r) → (o ≡ None → IsNoReply a)
     → (a ≡ place.NotHere → ⊥) → WriteGives h at bytes a v w → WriteTries c h at bytes o v w
-write_tried c h at bytes a None v w says none here x =
-    write_vain h at bytes (jobs.Write (the_handle h) at bytes) a v w (none refl) here x
+write_tried c h at bytes a None v w says none here x = write_vain h at bytes
+    (IsUnanswered c (jobs.Write (the_handle h) at bytes)) a v w (none refl) here x
 write_tried c h at bytes a (Some r) v w says none here x =
     write_says c h at bytes a r v w (says r refl) x
 
-pub away_write_stops : (h at : ℕ) (bytes : List ℕ) (a : WriteAnswer) (v w u : View)
+pub away_write_stops : (c : Config) (h at : ℕ) (bytes : List ℕ) (a : WriteAnswer) (v w u : View)
     → a ≡ place.NotHere → WriteGives h at bytes a v w
-    → StopsInVain AtNone (jobs.Write (the_handle h) at bytes) w u
-    → StopsInVain (AtThis h) (jobs.Write (the_handle h) at bytes) v u
-away_write_stops h at bytes a v w u is x stops =
+    → TurnStops c (jobs.Write (the_handle h) at bytes) w u → WriteStops c h at bytes v u
+away_write_stops c h at bytes a v w u is x stops =
     let y = subst (λ (z : WriteAnswer). WriteGives h at bytes z v w) is x in
-    look_stops h y.0 (jobs.Write (the_handle h) at bytes) v w u (looked h y.0) refl
-    (y.2 ∙ look_part h y.0 v) stops
+    let job = jobs.Write (the_handle h) at bytes in
+    look_stops h y.0 (IsUnanswered c job) (IsForWant job) v w u (looked h y.0) refl
+    (y.2 ∙ look_part h y.0 v)
+    (stops_wider AtNone (AtThis h) (IsUnanswered c job) (IsUnanswered c job) (IsForWant job)
+    (IsForWant job) (λ k none. absurd none) (λ t z. z) (λ t z. z) w u stops)
 
 pub away_write_tries : (c : Config) (h at : ℕ) (bytes : List ℕ) (a : WriteAnswer) (o : Option Reply)
     (v w u : View) → a ≡ place.NotHere → WriteGives h at bytes a v w
     → TurnTries c (jobs.Write (the_handle h) at bytes) o w u → WriteTries c h at bytes o v u
-away_write_tries c h at bytes a None v w u is x y = away_write_stops h at bytes a v w u is x y
+away_write_tries c h at bytes a None v w u is x y =
+    let z = subst (λ (q : WriteAnswer). WriteGives h at bytes q v w) is x in
+    let vain = IsUnanswered c (jobs.Write (the_handle h) at bytes) in
+    look_tries h z.0 vain v w u (looked h z.0) refl (z.2 ∙ look_part h z.0 v)
+    (tries_wider AtNone (AtThis h) vain vain (λ k none. absurd none) (λ t q. q) w u y)
 away_write_tries c h at bytes a (Some r) v w u is x (e, ends, next) =
     let y = subst (λ (z : WriteAnswer). WriteGives h at bytes z v w) is x in
     let z = look_asks c h y.0 (jobs.Write (the_handle h) at bytes) r v w u (looked h y.0) e refl y.1
@@ -141,18 +147,17 @@ away_write_tries c h at bytes a (Some r) v w u is x (e, ends, next) =
 
 -- ---- the loop round the tries
 pub write_again : (c : Config) (h at : ℕ) (bytes : List ℕ) (o : Option Reply) (v w u : View)
-    → o ≡ None → StopsInVain (AtThis h) (jobs.Write (the_handle h) at bytes) v w
-    → WriteTries c h at bytes o w u
-    → StopsInVain (AtThis h) (jobs.Write (the_handle h) at bytes) v u
+    → o ≡ None → WriteTries c h at bytes None v w → WriteTries c h at bytes o w u
+    → WriteTries c h at bytes None v u
 write_again c h at bytes o v w u is x y =
-    stops_then (AtThis h) (jobs.Write (the_handle h) at bytes) v w u x
+    tries_then (AtThis h) (IsUnanswered c (jobs.Write (the_handle h) at bytes)) v w u x
     (subst (λ (z : Option Reply). WriteTries c h at bytes z w u) is y)
 
 pub write_at_last : (c : Config) (h at : ℕ) (bytes : List ℕ) (o : Option Reply) (r : Reply)
-    (v w u : View) → o ≡ Some r → StopsInVain (AtThis h) (jobs.Write (the_handle h) at bytes) v w
+    (v w u : View) → o ≡ Some r → WriteTries c h at bytes None v w
     → WriteTries c h at bytes o w u → WriteAnswers c h at bytes r v u
 write_at_last c h at bytes o r v w u is (d, x, grew) y =
     let z : WriteTries c h at bytes (Some r) w u =
     subst (λ (q : Option Reply). WriteTries c h at bytes q w u) is y in
-    ends_after (AtThis h) (jobs.Write (the_handle h) at bytes) (WriteCallEnds c h at bytes r)
-    (λ (q : View). q) v w u d z.0 x grew z.1 z.2
+    ends_after (AtThis h) (IsUnanswered c (jobs.Write (the_handle h) at bytes))
+    (WriteCallEnds c h at bytes r) (λ (q : View). q) v w u d z.0 x grew z.1 z.2

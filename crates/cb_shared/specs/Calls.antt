@@ -1,5 +1,5 @@
 -- What the calls that try again until they are answered add to the record of their pass.
-use Rattle.std.specs.Prelude.{◌≡◌, ◌⊎◌, ℕ, ◌+◌, ◌-◌, ◌^◌, false, List, [], ◌∷◌, length, Option, None, Some, Ok}
+use Rattle.std.specs.Prelude.{◌≡◌, ◌⊎◌, ℕ, ◌+◌, ◌-◌, ◌^◌, ◌≤◌, false, List, [], ◌∷◌, length, Option, None, Some, Ok}
 use Rattle.cb_types.specs.declared.config.Config.{Config}
 use Rattle.cb_types.specs.declared.handle.Handle.{Handle}
 use Rattle.cb_types.specs.declared.job.Job.{Job}
@@ -43,6 +43,12 @@ TellsOfIt (answer.Range len) = Unit {0}
 TellsOfIt (answer.Pinned count) = Unit {0}
 TellsOfIt other = ⊥
 
+-- what the reply of a read says of its object
+abbrev pub TellsWhatIs : Reply → Type 0
+TellsWhatIs (answer.Bytes version bytes) = Unit {0}
+TellsWhatIs answer.Freed = Unit {0}
+TellsWhatIs other = ⊥
+
 -- a turn so answered is not made again
 abbrev pub IsAnswer : Config → Reply → Type 0
 IsAnswer c r = TellsOfIt r ⊎ IsLack c r
@@ -50,11 +56,13 @@ IsAnswer c r = TellsOfIt r ⊎ IsLack c r
 -- nor is one of this job; a swap tells nothing of its object
 abbrev pub IsAnswerTo : Config → Job → Reply → Type 0
 IsAnswerTo c (jobs.Swap handle) r = IsLack c r
+IsAnswerTo c (jobs.Read handle) r = TellsWhatIs r ⊎ IsLack c r
 IsAnswerTo c other r = IsAnswer c r
 
 -- the jobs that the calls make turns of
 abbrev pub IsCalled : Job → Type 0
 IsCalled (jobs.Make bytes) = Unit {0}
+IsCalled (jobs.Read handle) = Unit {0}
 IsCalled (jobs.Write handle at bytes) = Unit {0}
 IsCalled (jobs.Free handle) = Unit {0}
 IsCalled (jobs.Swap handle) = Unit {0}
@@ -63,13 +71,34 @@ IsCalled other = ⊥
 abbrev pub the_handle : ℕ → Handle
 the_handle h = record { n = h }
 
--- Tries that came to nothing: looks at such objects and turns of this job, which wrote, read and
--- pinned nothing, and by which nothing was made.
-pub record IsInVain (on : ℕ → Type 0) (job : Job) (d : Part) : Type 0 where
+-- the jobs of a read: its object is brought in, and in the second one it is read as well
+abbrev pub IsFetch : ℕ → Job → Type 0
+IsFetch h job = (job ≡ jobs.Swap (the_handle h)) ⊎ (job ≡ jobs.Read (the_handle h))
+
+-- a turn of this job that was told no answer to its call
+abbrev pub IsUnanswered : Config → Job → Turn → Type 0
+IsUnanswered c job t =
+    (t.job ≡ job) × ((r : Reply) × (t.reply ≡ Some r) × (IsAnswerTo c job r → ⊥))
+
+-- so one of a read
+abbrev pub IsUnfetched : Config → ℕ → Turn → Type 0
+IsUnfetched c h t = (job : Job) × IsFetch h job × IsUnanswered c job t
+
+-- a turn of this job that found no memory
+abbrev pub IsForWant : Job → Turn → Type 0
+IsForWant job t = (t.job ≡ job) × (t.reply ≡ None)
+
+-- so one of a read
+abbrev pub IsFetchForWant : ℕ → Turn → Type 0
+IsFetchForWant h t = (job : Job) × IsFetch h job × IsForWant job t
+
+-- Tries that came to nothing: looks at such objects and such turns, which wrote, read and pinned
+-- nothing, and by which nothing was made.
+pub record IsInVain (on : ℕ → Type 0) (vain : Turn → Type 0) (d : Part) : Type 0 where
   pub looks : List Look
   pub turns : List Turn
   pub at : Each (λ (l : Look). on l.handle) looks
-  pub of : Each (λ (t : Turn). t.job ≡ job) turns
+  pub of : Each vain turns
   pub idle : Each (λ (t : Turn). happened (deed t) ≡ []) turns
   pub part : d ≡ record nothing_more { looks = looks; turns = turns }
 
@@ -80,16 +109,31 @@ AtThis h k = k ≡ h
 abbrev pub AtNone : ℕ → Type 0
 AtNone h = ⊥
 
--- there was no memory: the record grew by such tries alone
-abbrev pub StopsInVain : (ℕ → Type 0) → Job → View → View → Type 0
-StopsInVain on job v w = (d : Part) × IsInVain on job d × Grows v d w
+-- the looks of a turn of this job that stand in the record: a read looks before it pins
+abbrev pub LooksOf : Job → ℕ → Type 0
+LooksOf (jobs.Read handle) = AtThis handle.n
+LooksOf other = AtNone
+
+-- the record grew by such tries alone
+abbrev pub TriesInVain : (ℕ → Type 0) → (Turn → Type 0) → View → View → Type 0
+TriesInVain on vain v w = (d : Part) × IsInVain on vain d × Grows v d w
+
+-- There was no memory: the record grew by tries that came to nothing, and by the one that found none,
+-- which is looks and one such turn at the most.
+pub record StopsInVain (on : ℕ → Type 0) (vain want : Turn → Type 0) (v w : View) : Type 0 where
+  pub between : View
+  pub last : Part
+  pub tries : TriesInVain on vain v between
+  pub lacks : IsInVain on want last
+  pub one : length last.turns ≤ 1
+  pub left : Grows between last w
 
 -- tries that came to nothing, and then one that ends so
-pub record EndsAtLast (on : ℕ → Type 0) (job : Job) (ends : View → Part → Type 0) (v : View)
-    (d : Part) : Type 0 where
+pub record EndsAtLast (on : ℕ → Type 0) (vain : Turn → Type 0) (ends : View → Part → Type 0)
+    (v : View) (d : Part) : Type 0 where
   pub before : Part
   pub last : Part
-  pub in_vain : IsInVain on job before
+  pub in_vain : IsInVain on vain before
   pub ends_so : ends (grown before v) last
   pub part : d ≡ sum before last
 
@@ -105,12 +149,17 @@ pub record AsksFor (c : Config) (job : Job) (r : Reply) (h : ℕ) (v : View) (d 
   pub turned : TurnEnds c job r (grown (looked h word) v) later
   pub part : d ≡ sum (looked h word) later
 
--- The last try of a read: under a pin of its own, or a look that finds the object freed, or a turn
--- that can't bring it in.
+-- a read under a pin of its own, or a look that finds the object freed
+abbrev pub ReadsInPlace : ℕ → Reply → View → Part → Type 0
+ReadsInPlace h (answer.Bytes version bytes) v d = IsReadHere h version bytes v d
+ReadsInPlace h answer.Freed v d = FindsGone h v d
+ReadsInPlace h r v d = ⊥
+
+-- The last try of a read: in place, or by a turn where a look found the object far: one that can't
+-- bring it in, or one of the read's own job.
 abbrev pub ReadCallEnds : Config → ℕ → Reply → View → Part → Type 0
-ReadCallEnds c h (answer.Bytes version bytes) v d = IsReadHere h version bytes v d
-ReadCallEnds c h answer.Freed v d = FindsGone h v d
-ReadCallEnds c h r v d = AsksFor c (jobs.Swap (the_handle h)) r h v d
+ReadCallEnds c h r v d =
+    ReadsInPlace h r v d ⊎ ((job : Job) × IsFetch h job × AsksFor c job r h v d)
 
 -- a look and an exchange that claimed the object at this word, and the entry that was written
 abbrev pub written_once : ℕ → ℕ → ℕ → List ℕ → List ℕ → Part
@@ -188,28 +237,41 @@ WriteCallEnds c h at bytes r v d =
 -- the record after a read, a write, and a make or a free by turns
 abbrev pub ReadGives : Config → ℕ → Reply → View → View → Type 0
 ReadGives c h r v w = (d : Part)
-    × EndsAtLast (AtThis h) (jobs.Swap (the_handle h)) (ReadCallEnds c h r) v d × Grows v d w
+    × EndsAtLast (AtThis h) (IsUnfetched c h) (ReadCallEnds c h r) v d × Grows v d w
 
 abbrev pub WriteAnswers : Config → ℕ → ℕ → List ℕ → Reply → View → View → Type 0
 WriteAnswers c h at bytes r v w = (d : Part)
-    × EndsAtLast (AtThis h) (jobs.Write (the_handle h) at bytes) (WriteCallEnds c h at bytes r) v d
-    × Grows v d w
+    × EndsAtLast (AtThis h) (IsUnanswered c (jobs.Write (the_handle h) at bytes))
+    (WriteCallEnds c h at bytes r) v d × Grows v d w
 
 -- a handle that was made is the pass's own
 abbrev pub TurnGives : Config → Job → Reply → View → View → Type 0
-TurnGives c job r v w = (d : Part) × EndsAtLast AtNone job (TurnEnds c job r) v d
+TurnGives c job r v w = (d : Part)
+    × EndsAtLast (LooksOf job) (IsUnanswered c job) (TurnEnds c job r) v d
     × (w ≡ with_own (made_by_turn job (Some r)) (grown d v))
+
+-- what is left of each where there was no memory
+abbrev pub ReadStops : Config → ℕ → View → View → Type 0
+ReadStops c h v w = StopsInVain (AtThis h) (IsUnfetched c h) (IsFetchForWant h) v w
+
+abbrev pub WriteStops : Config → ℕ → ℕ → List ℕ → View → View → Type 0
+WriteStops c h at bytes v w = let job = jobs.Write (the_handle h) at bytes in
+    StopsInVain (AtThis h) (IsUnanswered c job) (IsForWant job) v w
+
+abbrev pub TurnStops : Config → Job → View → View → Type 0
+TurnStops c job v w = StopsInVain (LooksOf job) (IsUnanswered c job) (IsForWant job) v w
 
 -- what one try comes to: it ends so, or came to nothing
 abbrev pub TurnTries : Config → Job → Option Reply → View → View → Type 0
 TurnTries c job (Some r) v w =
     (d : Part) × TurnEnds c job r v d × (w ≡ with_own (made_by_turn job (Some r)) (grown d v))
-TurnTries c job None v w = StopsInVain AtNone job v w
+TurnTries c job None v w = TriesInVain (LooksOf job) (IsUnanswered c job) v w
 
 abbrev pub ReadTries : Config → ℕ → Option Reply → View → View → Type 0
 ReadTries c h (Some r) v w = (d : Part) × ReadCallEnds c h r v d × Grows v d w
-ReadTries c h None v w = StopsInVain (AtThis h) (jobs.Swap (the_handle h)) v w
+ReadTries c h None v w = TriesInVain (AtThis h) (IsUnfetched c h) v w
 
 abbrev pub WriteTries : Config → ℕ → ℕ → List ℕ → Option Reply → View → View → Type 0
 WriteTries c h at bytes (Some r) v w = (d : Part) × WriteCallEnds c h at bytes r v d × Grows v d w
-WriteTries c h at bytes None v w = StopsInVain (AtThis h) (jobs.Write (the_handle h) at bytes) v w
+WriteTries c h at bytes None v w =
+    TriesInVain (AtThis h) (IsUnanswered c (jobs.Write (the_handle h) at bytes)) v w

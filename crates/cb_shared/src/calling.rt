@@ -1,12 +1,12 @@
 //! Reads, writes, makes and frees that try again until they are answered. Each try is a step or a
-//! turn of its own; the loops round them wait, and nothing else does but the turns.
+//! turn of its own, and waits where others stand in its way; nothing else waits but the turns.
 ghost use Rattle.std.specs.Prelude.{◌≡◌, ◌≤◌, ℕ, true, false, length, None, Some, IfOk, OnErr};
 ghost use Rattle.cb_types.specs.declared.job.Job.TheVariants as jobs;
 ghost use Rattle.cb_types.specs.declared.reply.Reply.{Reply};
 ghost use Rattle.cb_shared.specs.declared.answers.WriteAnswer.TheVariants as places;
 ghost use Rattle.cb_core.specs.Jobs.{IsJob};
 ghost use Rattle.cb_rule.specs.Steps.{Knows};
-ghost use Rattle.cb_shared.specs.Calls.{AtNone, AtThis, IsAnswerTo, IsCalled, IsLack, IsNoReply, ReadGives, ReadTries, SaysAs, StopsInVain, TellsOfIt, TurnGives, TurnTries, WriteAnswers, WriteTries, is_to_try_again, may_come_loose, the_handle};
+ghost use Rattle.cb_shared.specs.Calls.{IsAnswerTo, IsCalled, IsFetch, IsLack, IsNoReply, ReadGives, ReadStops, ReadTries, SaysAs, TellsOfIt, TellsWhatIs, TurnGives, TurnStops, TurnTries, WriteAnswers, WriteStops, WriteTries, is_to_try_again, may_come_loose};
 ghost use Rattle.cb_record.specs.Parts.{Part, Grows};
 ghost use Rattle.cb_shared.specs.Making.{MakesNew, TriesNew};
 ghost use Rattle.cb_shared.specs.Passes.{IsPassOf};
@@ -20,10 +20,10 @@ use crate::handles::count_pins;
 use crate::pass::Pass;
 use crate::reading::{ReadAnswer, read_pinned};
 use crate::runtime::Shared;
+use crate::waiting::Patience;
 use cb_types::{Bytes, Config, Handle, Job, NoMemory, Reply};
 use std::alloc::Global;
 use std::sync::Wait;
-use std::thread;
 
 /// The most spans that passes keep from being loose at one moment: 20 passes with 16 pins, one read
 /// and one write each.
@@ -32,10 +32,11 @@ const MOST_HELD: u32 = 360;
 impl Shared {
     /// The version and the bytes of an object that the pass knows, under a pin of its own beside
     /// those of the scope; Freed where it was freed. A far object is brought in by a turn of the
-    /// job Swap; where that can't be, the answer is why: Unavailable, NoRoom, or Worn by the count
-    /// of turns. Tries again where the object is being moved or written, has as many pins as its word
-    /// can count, or another pass came first, and where too few spans were loose but there are so
-    /// many frames that more may come. Waits.
+    /// job Swap, and looked at again at once; where it has left again by then, by a turn of the job
+    /// Read, which reads it too. Where that can't be, the answer is why: Unavailable, NoRoom, or Worn
+    /// by the count of turns. Tries again where the object is being moved or written, has as many pins
+    /// as its word can count, or another pass came first, and where too few spans were loose but there
+    /// are so many frames that more may come. Waits.
     pub fn read<R: Wait>(
         &self,
         rt: &R,
@@ -48,14 +49,14 @@ impl Shared {
         ensures of { IsPassOf self.now pass.new }
         ensures read { IfOk result (λ reply. ReadGives self.now.config h.n reply
             pass.old.seat.me.0 pass.new.seat.me.0) }
-        ensures error { OnErr result (StopsInVain (AtThis h.n) (jobs.Swap (the_handle h.n))
-            pass.old.seat.me.0 pass.new.seat.me.0) }
+        ensures error { OnErr result (ReadStops self.now.config h.n pass.old.seat.me.0
+            pass.new.seat.me.0) }
     {
+        let mut patience = Patience::new();
         for _ in rt.forever() {
-            if let Some(reply) = self.try_read(rt, alloc, pass, h)? {
+            if let Some(reply) = self.try_read(rt, alloc, pass, h, &mut patience)? {
                 return Ok(reply);
             }
-            thread::yield_now();
         }
         unreachable!()
     }
@@ -81,14 +82,14 @@ impl Shared {
         ensures of { IsPassOf self.now pass.new }
         ensures write { IfOk result (λ reply. WriteAnswers self.now.config h.n at bytes.now reply
             pass.old.seat.me.0 pass.new.seat.me.0) }
-        ensures error { OnErr result (StopsInVain (AtThis h.n)
-            (jobs.Write (the_handle h.n) at bytes.now) pass.old.seat.me.0 pass.new.seat.me.0) }
+        ensures error { OnErr result (WriteStops self.now.config h.n at bytes.now
+            pass.old.seat.me.0 pass.new.seat.me.0) }
     {
+        let mut patience = Patience::new();
         for _ in rt.forever() {
-            if let Some(reply) = self.try_write(rt, alloc, pass, h, at, bytes)? {
+            if let Some(reply) = self.try_write(rt, alloc, pass, h, at, bytes, &mut patience)? {
                 return Ok(reply);
             }
-            thread::yield_now();
         }
         unreachable!()
     }
@@ -111,7 +112,7 @@ impl Shared {
             pass.old.seat.me.0 pass.new.seat.me.0) }
         ensures new { IfOk result (λ reply. MakesNew self.now.board.shared.key.first
             (jobs.Make bytes.now) reply pass.old.seat.me.0) }
-        ensures error { OnErr result (StopsInVain AtNone (jobs.Make bytes.now) pass.old.seat.me.0
+        ensures error { OnErr result (TurnStops self.now.config (jobs.Make bytes.now) pass.old.seat.me.0
             pass.new.seat.me.0) }
     {
         let job = Job::Make {
@@ -136,7 +137,7 @@ impl Shared {
         ensures of { IsPassOf self.now pass.new }
         ensures free { IfOk result (λ reply. TurnGives self.now.config (jobs.Free h) reply
             pass.old.seat.me.0 pass.new.seat.me.0) }
-        ensures error { OnErr result (StopsInVain AtNone (jobs.Free h) pass.old.seat.me.0
+        ensures error { OnErr result (TurnStops self.now.config (jobs.Free h) pass.old.seat.me.0
             pass.new.seat.me.0) }
     {
         self.turn_until(rt, alloc, pass, &Job::Free { handle: h })
@@ -171,25 +172,27 @@ impl Shared {
             pass.old.seat.me.0 pass.new.seat.me.0) }
         ensures new { IfOk result (λ reply. MakesNew self.now.board.shared.key.first job.now reply
             pass.old.seat.me.0) }
-        ensures error { OnErr result (StopsInVain AtNone job.now pass.old.seat.me.0
+        ensures error { OnErr result (TurnStops self.now.config job.now pass.old.seat.me.0
             pass.new.seat.me.0) }
     {
+        let mut patience = Patience::new();
         for _ in rt.forever() {
-            if let Some(reply) = self.try_turn(rt, alloc, pass, job)? {
+            if let Some(reply) = self.try_turn(rt, alloc, pass, job, &mut patience)? {
                 return Ok(reply);
             }
-            thread::yield_now();
         }
         unreachable!()
     }
 
-    /// A turn of a job; None where it does not answer the call.
+    /// A turn of a job; None where it does not answer the call, after a wait where others stand in its
+    /// way.
     fn try_turn<R: Wait>(
         &self,
         rt: &R,
         alloc: Global,
         pass: &mut Pass,
         job: &Job,
+        patience: &mut Patience,
     ) -> Result<Option<Reply>, NoMemory>
         requires of { IsPassOf self.now pass.old }
         requires job { IsJob self.now.config job.now }
@@ -200,45 +203,52 @@ impl Shared {
             pass.new.seat.me.0) }
         ensures new { IfOk result (λ o. TriesNew self.now.board.shared.key.first job.now o
             pass.old.seat.me.0) }
-        ensures error { OnErr result (StopsInVain AtNone job.now pass.old.seat.me.0
+        ensures error { OnErr result (TurnStops self.now.config job.now pass.old.seat.me.0
             pass.new.seat.me.0) }
     {
         let reply = self.turn(rt, alloc, pass, job)?;
         if is_answer(&self.config, job, &reply) {
             Ok(Some(reply))
         } else {
+            self.wait_behind(rt, &reply, patience);
             Ok(None)
         }
     }
 
-    /// One read under a pin of its own, or a turn that brings the object in; None where neither
-    /// answers the call.
+    /// One read under a pin of its own, or a turn where the object is far; None where neither answers
+    /// the call, after a wait where others stand in its way.
     fn try_read<R: Wait>(
         &self,
         rt: &R,
         alloc: Global,
         pass: &mut Pass,
         h: Handle,
+        patience: &mut Patience,
     ) -> Result<Option<Reply>, NoMemory>
         requires of { IsPassOf self.now pass.old }
         requires knows { Knows h.n pass.old.seat.me.0 }
         ensures of { IsPassOf self.now pass.new }
         ensures read { IfOk result (λ o. ReadTries self.now.config h.n o pass.old.seat.me.0
             pass.new.seat.me.0) }
-        ensures error { OnErr result (StopsInVain (AtThis h.n) (jobs.Swap (the_handle h.n))
-            pass.old.seat.me.0 pass.new.seat.me.0) }
+        ensures error { OnErr result (ReadStops self.now.config h.n pass.old.seat.me.0
+            pass.new.seat.me.0) }
     {
         match self.read_beside(alloc, pass, h)? {
             ReadAnswer::Bytes { version, bytes } => Ok(Some(Reply::Bytes { version, bytes })),
             ReadAnswer::Freed => Ok(Some(Reply::Freed)),
-            ReadAnswer::NotHere => self.try_turn(rt, alloc, pass, &Job::Swap { handle: h }),
-            ReadAnswer::Moving => Ok(None),
-            ReadAnswer::Crowded => Ok(None),
-            ReadAnswer::Raced { .. } => Ok(None),
+            ReadAnswer::NotHere => {
+                let job = fetch_job(h, patience);
+                self.try_turn(rt, alloc, pass, &job, patience)
+            }
+            ReadAnswer::Moving | ReadAnswer::Crowded | ReadAnswer::Raced { .. } => {
+                self.wait(rt, patience);
+                Ok(None)
+            }
         }
     }
 
-    /// One write in place, or a turn where the object is far; None where neither answers the call.
+    /// One write in place, or a turn where the object is far; None where neither answers the call,
+    /// after a wait where others stand in its way.
     fn try_write<R: Wait>(
         &self,
         rt: &R,
@@ -247,14 +257,15 @@ impl Shared {
         h: Handle,
         at: u32,
         bytes: &[u8],
+        patience: &mut Patience,
     ) -> Result<Option<Reply>, NoMemory>
         requires of { IsPassOf self.now pass.old }
         requires knows { Knows h.n pass.old.seat.me.0 }
         ensures of { IsPassOf self.now pass.new }
         ensures write { IfOk result (λ o. WriteTries self.now.config h.n at bytes.now o
             pass.old.seat.me.0 pass.new.seat.me.0) }
-        ensures error { OnErr result (StopsInVain (AtThis h.n)
-            (jobs.Write (the_handle h.n) at bytes.now) pass.old.seat.me.0 pass.new.seat.me.0) }
+        ensures error { OnErr result (WriteStops self.now.config h.n at bytes.now
+            pass.old.seat.me.0 pass.new.seat.me.0) }
     {
         let answer = self.write_here(pass, h, at, bytes);
         if is_away(answer) {
@@ -263,9 +274,13 @@ impl Shared {
                 at,
                 bytes: Bytes::copy_of(alloc, bytes)?,
             };
-            return self.try_turn(rt, alloc, pass, &job);
+            return self.try_turn(rt, alloc, pass, &job, patience);
         }
-        Ok(reply_of(answer))
+        let reply = reply_of(answer);
+        if reply.is_none() {
+            self.wait(rt, patience);
+        }
+        Ok(reply)
     }
 
     /// One read under a pin beside those of the pass.
@@ -284,6 +299,18 @@ impl Shared {
     }
 }
 
+/// The job of a read whose object is far: Swap, and Read where it was brought in before and has left
+/// again. Nobody can take the object away between the two parts of a turn Read.
+fn fetch_job(h: Handle, patience: &Patience) -> Job
+    ensures { IsFetch h.n result }
+{
+    if patience.has_brought() {
+        Job::Read { handle: h }
+    } else {
+        Job::Swap { handle: h }
+    }
+}
+
 /// Whether a turn of this job with this reply answers its call.
 fn is_answer(config: &Config, job: &Job, reply: &Reply) -> bool
     ensures yes { result ≡ true → IsAnswerTo config.now job.now reply.now }
@@ -291,7 +318,19 @@ fn is_answer(config: &Config, job: &Job, reply: &Reply) -> bool
 {
     match job {
         Job::Swap { .. } => is_lack(config, reply),
+        Job::Read { .. } => tells_what_is(reply) || is_lack(config, reply),
         _ => tells_of_it(reply) || is_lack(config, reply),
+    }
+}
+
+/// Whether the reply of a read tells of its object.
+fn tells_what_is(reply: &Reply) -> bool
+    ensures yes { result ≡ true → TellsWhatIs reply.now }
+    ensures no { result ≡ false → TellsWhatIs reply.now → ⊥ }
+{
+    match reply {
+        Reply::Bytes { .. } | Reply::Freed => true,
+        _ => false,
     }
 }
 

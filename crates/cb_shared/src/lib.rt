@@ -28,6 +28,7 @@ mod seats;
 mod setup;
 mod starting;
 pub mod turning;
+pub mod waiting;
 mod working;
 mod writing;
 
@@ -37,3 +38,4 @@ pub use reading::put_word;
 pub use refused::CloseRefused;
 pub use runtime::Shared;
 pub use seal::Seal;
+pub use waiting::Patience;

@@ -1,7 +1,7 @@
 use Rattle.std.proofs.Common.{◌<◌, List, length, Some, sym, subst}
 use Rattle.cb_types.specs.declared.job.Job.TheVariants as jobs
 use Rattle.cb_rule.specs.declared.view.Stand.{Stand}
-use Rattle.cb_shared.specs.Calls.{AtThis, the_handle}
+use Rattle.cb_shared.specs.Calls.{AtThis, IsUnanswered, the_handle}
 use Rattle.cb_shared.proofs.Laws.{known_still, so_far}
 use Rattle.cb_lanes.proofs.Trying.{pin_again, pinned_at_last, vain_pins}
 use Rattle.cb_lanes.proofs.asks.pin_at_last.Goals as goal
@@ -10,7 +10,9 @@ pub loop-init : goal.loop-init
 loop-init g c = (
   c.requires.of,
   c.requires.held,
-  so_far (AtThis c.args.h.n) (jobs.Swap (the_handle c.args.h.n)) c.args.pass.now.seat.me.0,
+  so_far (AtThis c.args.h.n)
+      (IsUnanswered c.args.shared.now.config (jobs.Swap (the_handle c.args.h.n)))
+      c.args.pass.now.seat.me.0,
 )
 
 pub try_pin-requires-clause-of : goal.try_pin-requires-clause-of
@@ -21,12 +23,13 @@ try_pin-requires-clause-held g c = c.loop.invariant.1
 
 pub try_pin-requires-clause-knows : goal.try_pin-requires-clause-knows
 try_pin-requires-clause-knows g c = known_still (AtThis c.args.h.n)
-    (jobs.Swap (the_handle c.args.h.n)) (Some c.args.h.n) c.args.pass.now.seat.me.0
+    (IsUnanswered c.args.shared.now.config (jobs.Swap (the_handle c.args.h.n))) (Some c.args.h.n)
+    c.args.pass.now.seat.me.0
     c.loop.pass.seat.me.0 c.requires.knows c.loop.invariant.2
 
 pub try_pin-requires-clause-room : goal.try_pin-requires-clause-room
 try_pin-requires-clause-room g c = subst (λ (l : List Stand). length l < 16)
-    (sym (vain_pins c.args.h.n _ _ c.loop.invariant.2)) c.requires.room
+    (sym (vain_pins c.args.shared.now.config c.args.h.n _ _ c.loop.invariant.2)) c.requires.room
 
 pub returns-in-Some-2-clause-pin : goal.returns-in-Some-2-clause-pin
 returns-in-Some-2-clause-pin g c = pinned_at_last c.args.shared.now.config c.args.h.n

@@ -2,7 +2,7 @@ use Rattle.std.proofs.Common.{arith}
 use Rattle.std.proofs.lemmas.Result.{IfOk-weaker}
 use Rattle.cb_shared.proofs.Laws.{known_below}
 use Rattle.cb_lanes.proofs.PinsHeld.{held_count, held_more}
-use Rattle.cb_lanes.proofs.Trying.{brought, pinned_once, was_crowded, was_far, was_freed, was_moving, was_pinned, was_raced}
+use Rattle.cb_lanes.proofs.Trying.{brought, pinned_once, was_far, was_freed, was_hindered, was_pinned}
 use Rattle.cb_lanes.proofs.asks.try_pin.Goals as goal
 
 pub keep_pin-requires : goal.keep_pin-requires
@@ -35,15 +35,3 @@ returns-in-NotHere-clause-pin g c = IfOk-weaker c.bring_in.result _ _
 pub returns-in-Freed-clause-pin : goal.returns-in-Freed-clause-pin
 returns-in-Freed-clause-pin g c =
     was_freed c.args.h.n c.pin.result _ _ c.in-Freed.is c.pin.ensures.pin
-
-pub returns-in-Moving-clause-pin : goal.returns-in-Moving-clause-pin
-returns-in-Moving-clause-pin g c =
-    was_moving c.args.h.n c.pin.result _ _ c.in-Moving.is c.pin.ensures.pin
-
-pub returns-in-Crowded-clause-pin : goal.returns-in-Crowded-clause-pin
-returns-in-Crowded-clause-pin g c =
-    was_crowded c.args.h.n c.pin.result _ _ c.in-Crowded.is c.pin.ensures.pin
-
-pub returns-in-Raced-clause-pin : goal.returns-in-Raced-clause-pin
-returns-in-Raced-clause-pin g c =
-    was_raced c.args.h.n _ _ c.pin.result _ _ c.in-Raced.is c.pin.ensures.pin

@@ -1,5 +1,3 @@
-use Rattle.cb_shared.specs.Calls.{AtThis, the_handle}
-use Rattle.cb_types.specs.declared.job.Job.TheVariants.{Swap}
 use Rattle.cb_shared.proofs.Laws.{read_keeps}
 use Rattle.cb_shared_bench.proofs.calls.read.Goals as goal
 
@@ -7,8 +5,7 @@ pub returns : goal.returns
 returns g c = let h = c.args.h.n in record {
   caller = record {
     of = c.read-reply.ensures.of;
-    knows = read_keeps c.args.shared.now.config h (AtThis h) (Swap (the_handle h))
-        c.read-reply.result _ _ c.read-reply.ensures.read c.read-reply.ensures.error h
-        c.requires.caller.knows;
+    knows = read_keeps c.args.shared.now.config h c.read-reply.result _ _
+        c.read-reply.ensures.read c.read-reply.ensures.error h c.requires.caller.knows;
   };
 }

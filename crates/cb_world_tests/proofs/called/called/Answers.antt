@@ -1,5 +1,4 @@
 use Rattle.cb_types.specs.declared.job.Job.TheVariants as jobs
-use Rattle.cb_shared.specs.Calls.{AtNone, AtThis, the_handle}
 use Rattle.cb_world_tests.proofs.Calling.{caller_keeps}
 use Rattle.cb_shared.proofs.Laws.{call_keeps, read_keeps, turns_keep, write_keeps}
 use Rattle.cb_world_tests.proofs.called.called.Goals as goal
@@ -27,16 +26,14 @@ pub returns-in-Read : goal.returns-in-Read
 returns-in-Read g c = record {
   caller = caller_keeps c.args.shared.now c.args.objects.now c.args.pass.now c.read.new.pass
       c.requires.caller c.read.ensures.of
-      (read_keeps c.args.shared.now.config c.args.h.n (AtThis c.args.h.n) (jobs.Swap (the_handle c.args.h.n))
-      c.read.result _ _ c.read.ensures.read c.read.ensures.error);
+      (read_keeps c.args.shared.now.config c.args.h.n c.read.result _ _ c.read.ensures.read c.read.ensures.error);
 }
 
 pub returns-in-Write : goal.returns-in-Write
 returns-in-Write g c = record {
   caller = caller_keeps c.args.shared.now c.args.objects.now c.args.pass.now c.write.new.pass
       c.requires.caller c.write.ensures.of
-      (call_keeps c.args.shared.now.config c.args.h.n 0 c.args.bytes.now (AtThis c.args.h.n)
-      (jobs.Write (the_handle c.args.h.n) 0 c.args.bytes.now) c.write.result _ _
+      (call_keeps c.args.shared.now.config c.args.h.n 0 c.args.bytes.now c.write.result _ _
       c.write.ensures.write c.write.ensures.error);
 }
 
@@ -44,6 +41,6 @@ pub returns-in-Free : goal.returns-in-Free
 returns-in-Free g c = record {
   caller = caller_keeps c.args.shared.now c.args.objects.now c.args.pass.now c.free.new.pass
       c.requires.caller c.free.ensures.of
-      (turns_keep c.args.shared.now.config AtNone (jobs.Free c.args.h) c.free.result _ _ c.free.ensures.free
+      (turns_keep c.args.shared.now.config (jobs.Free c.args.h) c.free.result _ _ c.free.ensures.free
       c.free.ensures.error);
 }

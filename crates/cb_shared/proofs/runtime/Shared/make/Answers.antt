@@ -1,14 +1,15 @@
 use Rattle.std.proofs.Common.{◌≤◌, List, ℕ, length, sym, subst}
 use Rattle.std.specs.Result.{IfOk, OnErr}
 use Rattle.cb_types.specs.declared.job.Job.TheVariants as jobs
-use Rattle.cb_shared.specs.Calls.{AtNone, StopsInVain, TurnGives}
+use Rattle.cb_shared.specs.Calls.{AtNone, IsForWant, IsUnanswered, TurnGives, TurnStops}
 use Rattle.cb_shared.specs.Making.{MakesNew}
-use Rattle.cb_shared.proofs.CallSteps.{err_always, so_far}
+use Rattle.cb_shared.proofs.CallSteps.{err_always, stops_at_once}
 use Rattle.cb_shared.proofs.runtime.Shared.make.Goals as goal
 
 pub returns-in_err-copy_of-clause-error : goal.returns-in_err-copy_of-clause-error
 returns-in_err-copy_of-clause-error g c = err_always c.from_residual.result _
-    (so_far AtNone (jobs.Make c.args.bytes.now) c.args.pass.now.seat.me.0)
+    (stops_at_once AtNone (IsUnanswered c.args.self.now.config (jobs.Make c.args.bytes.now))
+    (IsForWant (jobs.Make c.args.bytes.now)) c.args.pass.now.seat.me.0)
 
 pub turn_until-requires-clause-job : goal.turn_until-requires-clause-job
 turn_until-requires-clause-job g c =
@@ -27,5 +28,6 @@ returns-clause-new g c = subst (λ (l : List ℕ). IfOk c.turn_until.result (λ 
 
 pub returns-clause-error : goal.returns-clause-error
 returns-clause-error g c = subst (λ (l : List ℕ). OnErr c.turn_until.result
-    (StopsInVain AtNone (jobs.Make l) c.args.pass.now.seat.me.0 c.turn_until.new.pass.seat.me.0))
+    (TurnStops c.args.self.now.config (jobs.Make l) c.args.pass.now.seat.me.0
+    c.turn_until.new.pass.seat.me.0))
     c.in_ok-copy_of.ensures.items c.turn_until.ensures.error

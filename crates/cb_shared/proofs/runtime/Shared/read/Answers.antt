@@ -1,14 +1,14 @@
 use Rattle.std.proofs.Common.{Some}
 use Rattle.std.proofs.lemmas.Result.{IfOk-from_err}
-use Rattle.cb_types.specs.declared.job.Job.TheVariants as jobs
-use Rattle.cb_shared.specs.Calls.{AtThis, the_handle}
+use Rattle.cb_shared.specs.Calls.{AtThis, IsFetchForWant, IsUnfetched}
 use Rattle.cb_shared.proofs.CallSteps.{err_always, known_still, read_again, read_at_last, so_far, stops_then}
 use Rattle.cb_shared.proofs.runtime.Shared.read.Goals as goal
 
 pub loop-init : goal.loop-init
 loop-init g c = (
   c.requires.of,
-  so_far (AtThis c.args.h.n) (jobs.Swap (the_handle c.args.h.n)) c.args.pass.now.seat.me.0,
+  so_far (AtThis c.args.h.n) (IsUnfetched c.args.self.now.config c.args.h.n)
+      c.args.pass.now.seat.me.0,
 )
 
 pub try_read-requires-clause-of : goal.try_read-requires-clause-of
@@ -16,13 +16,13 @@ try_read-requires-clause-of g c = c.loop.invariant.0
 
 pub try_read-requires-clause-knows : goal.try_read-requires-clause-knows
 try_read-requires-clause-knows g c = known_still (AtThis c.args.h.n)
-    (jobs.Swap (the_handle c.args.h.n)) (Some c.args.h.n) c.args.pass.now.seat.me.0
+    (IsUnfetched c.args.self.now.config c.args.h.n) (Some c.args.h.n) c.args.pass.now.seat.me.0
     c.loop.pass.seat.me.0 c.requires.knows c.loop.invariant.1
 
 pub returns-in_err-reply-clause-error : goal.returns-in_err-reply-clause-error
 returns-in_err-reply-clause-error g c = err_always c.from_residual.result _
-    (stops_then (AtThis c.args.h.n) (jobs.Swap (the_handle c.args.h.n)) c.args.pass.now.seat.me.0
-    c.loop.pass.seat.me.0 c.try_read.new.pass.seat.me.0 c.loop.invariant.1
+    (stops_then (AtThis c.args.h.n) (IsUnfetched c.args.self.now.config c.args.h.n)
+    (IsFetchForWant c.args.h.n) c.args.pass.now.seat.me.0 c.loop.pass.seat.me.0 c.try_read.new.pass.seat.me.0 c.loop.invariant.1
     c.in_err-reply.ensures.error)
 
 pub returns-in-Some-2-clause-read : goal.returns-in-Some-2-clause-read

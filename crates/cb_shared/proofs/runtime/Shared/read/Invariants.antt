@@ -1,8 +1,8 @@
-use Rattle.cb_types.specs.declared.job.Job.TheVariants as jobs
-use Rattle.cb_shared.specs.Calls.{AtThis, StopsInVain, the_handle}
+use Rattle.std.specs.Prelude.{None}
+use Rattle.cb_shared.specs.Calls.{ReadTries}
 use Rattle.cb_shared.specs.Passes.{IsPassOf}
 use Rattle.cb_shared.proofs.runtime.Shared.read.Given as goal
 
 abbrev pub invariant-loop : goal.invariant-loop
 invariant-loop g l = IsPassOf l.self l.pass
-    × StopsInVain (AtThis l.h.n) (jobs.Swap (the_handle l.h.n)) l.fn.pass.seat.me.0 l.pass.seat.me.0
+    × ReadTries l.self.config l.h.n None l.fn.pass.seat.me.0 l.pass.seat.me.0

@@ -1,23 +1,28 @@
 use Rattle.std.proofs.lemmas.Result.{IfOk-from_err}
-use Rattle.cb_shared.specs.Calls.{AtNone}
+use Rattle.cb_shared.specs.Calls.{IsForWant, IsUnanswered, LooksOf}
 use Rattle.cb_shared.specs.Turning.{object_of}
 use Rattle.cb_shared.proofs.CallSteps.{err_always, known_still, new_at_last, so_far, stops_then, turn_again, turn_at_last}
 use Rattle.cb_shared.proofs.runtime.Shared.turn_until.Goals as goal
 
 pub loop-init : goal.loop-init
-loop-init g c = (c.requires.of, so_far AtNone c.args.job.now c.args.pass.now.seat.me.0)
+loop-init g c = (
+  c.requires.of,
+  so_far (LooksOf c.args.job.now) (IsUnanswered c.args.self.now.config c.args.job.now)
+      c.args.pass.now.seat.me.0,
+)
 
 pub try_turn-requires-clause-of : goal.try_turn-requires-clause-of
 try_turn-requires-clause-of g c = c.loop.invariant.0
 
 pub try_turn-requires-clause-knows : goal.try_turn-requires-clause-knows
-try_turn-requires-clause-knows g c = known_still AtNone c.args.job.now (object_of c.args.job.now)
-    c.args.pass.now.seat.me.0 c.loop.pass.seat.me.0 c.requires.knows
+try_turn-requires-clause-knows g c = known_still (LooksOf c.args.job.now)
+    (IsUnanswered c.args.self.now.config c.args.job.now) (object_of c.args.job.now) c.args.pass.now.seat.me.0 c.loop.pass.seat.me.0 c.requires.knows
     c.loop.invariant.1
 
 pub returns-in_err-reply-clause-error : goal.returns-in_err-reply-clause-error
 returns-in_err-reply-clause-error g c = err_always c.from_residual.result _
-    (stops_then AtNone c.args.job.now c.args.pass.now.seat.me.0 c.loop.pass.seat.me.0
+    (stops_then (LooksOf c.args.job.now) (IsUnanswered c.args.self.now.config c.args.job.now)
+    (IsForWant c.args.job.now) c.args.pass.now.seat.me.0 c.loop.pass.seat.me.0
     c.try_turn.new.pass.seat.me.0 c.loop.invariant.1 c.in_err-reply.ensures.error)
 
 pub returns-in-Some-2-clause-turn : goal.returns-in-Some-2-clause-turn
@@ -35,7 +40,7 @@ loop-preserved g c = (
 
 pub returns-in-Some-2-clause-new : goal.returns-in-Some-2-clause-new
 returns-in-Some-2-clause-new g c = new_at_last c.args.self.now.board.shared.key.first
-    c.args.job.now c.in_ok-reply.field-0 c.in-Some-2.reply c.args.pass.now.seat.me.0
+    (LooksOf c.args.job.now) (IsUnanswered c.args.self.now.config c.args.job.now) c.args.job.now c.in_ok-reply.field-0 c.in-Some-2.reply c.args.pass.now.seat.me.0
     c.loop.pass.seat.me.0 c.in-Some-2.is c.loop.invariant.1 c.in_ok-reply.ensures.new
 
 pub try_turn-requires-clause-job : goal.try_turn-requires-clause-job

@@ -1,7 +1,8 @@
-use Rattle.cb_shared.specs.Calls.{AtNone, StopsInVain}
+use Rattle.std.specs.Prelude.{None}
+use Rattle.cb_shared.specs.Calls.{TurnTries}
 use Rattle.cb_shared.specs.Passes.{IsPassOf}
 use Rattle.cb_shared.proofs.runtime.Shared.turn_until.Given as goal
 
 abbrev pub invariant-loop : goal.invariant-loop
 invariant-loop g l = IsPassOf l.self l.pass
-    × StopsInVain AtNone l.job l.fn.pass.seat.me.0 l.pass.seat.me.0
+    × TurnTries l.self.config l.job None l.fn.pass.seat.me.0 l.pass.seat.me.0

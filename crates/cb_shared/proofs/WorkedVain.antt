@@ -1,0 +1,227 @@
+-- Worked tries in vain, and reads by turns: what meets each definition, and what breaks one of its
+-- parts alone.
+use Rattle.std.proofs.Common.{◌≡◌, ℕ, ◌≤◌, List, [], ◌∷◌, ◌++◌, length, length-append, None, Some, Option, refl, sym, ap, ◌∙◌, subst, inl, inr, lit≤, arith}
+use Rattle.std.proofs.lemmas.Bool.{eqb-false}
+use Rattle.std.proofs.lemmas.Option.{none-some, same_Some}
+use Rattle.cb_types.specs.declared.handle.Handle.{Handle}
+use Rattle.cb_types.specs.declared.job.Job.{Job}
+use Rattle.cb_types.specs.declared.job.Job.TheVariants as jobs
+use Rattle.cb_types.specs.declared.reply.Reply.{Reply}
+use Rattle.cb_types.specs.declared.reply.Reply.TheVariants as answer
+use Rattle.cb_rule.specs.declared.turn.Turn.{Turn}
+use Rattle.cb_rule.specs.declared.view.View.{View}
+use Rattle.cb_rule.specs.Lists.{Each}
+use Rattle.cb_rule.specs.Steps.{look_at}
+use Rattle.cb_record.specs.Parts.{Part, grown, nothing_more, sum}
+use Rattle.cb_shared.specs.Calls.{AsksFor, AtNone, AtThis, IsAnswerTo, IsFetch, IsFetchForWant, IsForWant, IsInVain, IsUnanswered, IsUnfetched, LooksOf, ReadCallEnds, ReadStops, ReadsInPlace, StopsInVain, TellsWhatIs, TurnStops, the_handle}
+use Rattle.cb_shared.specs.Reading.{looked, looked_freed}
+use Rattle.cb_shared.proofs.WorkedGround.{away, calm, knows_made, moving, newest_made, part, two}
+use Rattle.cb_shared.proofs.WorkedTurns.{adds_worn, worn_part, worn_turn}
+
+abbrev swap : Job
+swap = jobs.Swap (the_handle 1)
+
+abbrev read : Job
+read = jobs.Read (the_handle 1)
+
+abbrev told : Job → Option Reply → Turn
+told j r = record (worn_turn j) { reply = r }
+
+abbrev turned : Turn → Part
+turned t = record nothing_more { turns = t ∷ [] }
+
+-- ---- what a read tells of its object
+bytes_tell : TellsWhatIs (answer.Bytes 3 (10 ∷ []))
+bytes_tell = tt
+
+a_version_tells_nothing : TellsWhatIs (answer.Version 3) → ⊥
+a_version_tells_nothing x = x
+
+a_read_is_answered : IsAnswerTo two read (answer.Bytes 3 (10 ∷ []))
+a_read_is_answered = inl tt
+
+crowded_is_no_answer : IsAnswerTo two read answer.Crowded → ⊥
+crowded_is_no_answer (inl x) = x
+crowded_is_no_answer (inr x) = x
+
+-- ---- the jobs of a read
+a_swap_fetches : IsFetch 1 swap
+a_swap_fetches = inl refl
+
+a_read_fetches : IsFetch 1 read
+a_read_fetches = inr refl
+
+abbrev number : Job → ℕ
+number (jobs.Swap handle) = handle.n
+number (jobs.Read handle) = handle.n
+number j = 2
+
+another_object : IsFetch 1 (jobs.Read (the_handle 0)) → ⊥
+another_object (inl e) = eqb-false 0 1 refl (ap number e)
+another_object (inr e) = eqb-false 0 1 refl (ap number e)
+
+another_job : IsFetch 1 jobs.Evict → ⊥
+another_job (inl e) = eqb-false 2 1 refl (ap number e)
+another_job (inr e) = eqb-false 2 1 refl (ap number e)
+
+-- a read looks at its object
+looks_at_it : LooksOf read 1
+looks_at_it = refl
+
+looks_at_another : LooksOf read 0 → ⊥
+looks_at_another e = eqb-false 0 1 refl e
+
+a_swap_looks_at_none : LooksOf swap 1 → ⊥
+a_swap_looks_at_none x = x
+
+-- ---- a turn that was told no answer, and one that was
+swapped : IsUnanswered two swap (told swap (Some (answer.Swapped 0)))
+swapped = (refl, (answer.Swapped 0, refl, λ x. x))
+
+of_another_job : IsUnanswered two swap (told jobs.Evict (Some (answer.Swapped 0))) → ⊥
+of_another_job (e, x) = eqb-false 2 1 refl (ap number e)
+
+abbrev is_worn : Reply → ℕ
+is_worn answer.Worn = 1
+is_worn r = 0
+
+-- worn is an answer, and so it is the one reply that this turn may not have
+worn_answers : IsUnanswered two swap (worn_turn swap) → ⊥
+worn_answers (e, (r, is, off)) =
+    off (subst (IsAnswerTo two swap) (same_Some _ _ is) tt)
+
+without_memory : IsUnanswered two swap (told swap None) → ⊥
+without_memory (e, (r, is, off)) = none-some r is
+
+pinned_waits : IsUnanswered two (jobs.Free (the_handle 1))
+    (told (jobs.Free (the_handle 1)) (Some (answer.Pinned 1))) → ⊥
+pinned_waits (e, (r, is, off)) =
+    off (subst (IsAnswerTo two (jobs.Free (the_handle 1))) (same_Some _ _ is) (inl tt))
+
+read_moving : IsUnfetched two 1 (told read (Some answer.Moving))
+read_moving = (read, inr refl, (refl, (answer.Moving, refl, λ x. no_answer x)))
+  where
+    no_answer : IsAnswerTo two read answer.Moving → ⊥
+    no_answer (inl x) = x
+    no_answer (inr x) = x
+
+read_of_another : IsUnfetched two 1 (told (jobs.Read (the_handle 0)) (Some answer.Moving)) → ⊥
+read_of_another (j, fetch, (e, x)) = another_object (subst (IsFetch 1) (sym e) fetch)
+
+-- ---- a turn that found no memory
+found_none : IsForWant swap (told swap None)
+found_none = (refl, refl)
+
+found_some : IsForWant swap (worn_turn swap) → ⊥
+found_some (e, is) = none-some _ (sym is)
+
+for_another : IsForWant swap (told jobs.Evict None) → ⊥
+for_another (e, is) = eqb-false 2 1 refl (ap number e)
+
+a_read_found_none : IsFetchForWant 1 (told read None)
+a_read_found_none = (read, inr refl, (refl, refl))
+
+a_read_of_another_found_none : IsFetchForWant 1 (told (jobs.Read (the_handle 0)) None) → ⊥
+a_read_of_another_found_none (j, fetch, (e, is)) =
+    another_object (subst (IsFetch 1) (sym e) fetch)
+
+-- ---- a read that stopped for want of memory: a look that found the object moving, then a turn Swap
+-- that found none
+in_vain : IsInVain (AtThis 1) (IsUnfetched two 1) (looked 1 moving)
+in_vain = record {
+  looks = look_at 1 moving ∷ [];
+  turns = [];
+  at = (refl, tt);
+  of = tt;
+  idle = tt;
+  part = refl;
+}
+
+wants : IsInVain (AtThis 1) (IsFetchForWant 1) (turned (told swap None))
+wants = record {
+  looks = [];
+  turns = told swap None ∷ [];
+  at = tt;
+  of = ((swap, inl refl, (refl, refl)), tt);
+  idle = (refl, tt);
+  part = refl;
+}
+
+stops : ReadStops two 1 part (grown (turned (told swap None)) (grown (looked 1 moving) part))
+stops = record {
+  between = grown (looked 1 moving) part;
+  last = turned (told swap None);
+  tries = (looked 1 moving, in_vain, refl);
+  lacks = wants;
+  one = lit≤ tt;
+  left = refl;
+}
+
+-- two turns that found none; one that was answered; and an entry that was written
+abbrev turns_more : View → ℕ
+turns_more v = length v.turns
+
+stops_twice : (x : StopsInVain (AtThis 1) (IsUnfetched two 1) (IsFetchForWant 1) part
+    (grown (turned (told swap None)) (grown (turned (told swap None)) part)))
+    → x.between ≡ part → ⊥
+stops_twice x is = let one = x.one in
+    let e : 2 ≡ length (x.last.turns ++ []) =
+    ap (λ (v : View). length v.turns) x.left
+    ∙ ap (λ (v : View). length (x.last.turns ++ v.turns)) is in
+    omega (arith, one, e, length-append x.last.turns [])
+
+abbrev newest_reply : List Turn → Option Reply
+newest_reply [] = None
+newest_reply (t ∷ ts) = t.reply
+
+-- ---- a read in place
+reads_freed : ReadsInPlace 1 answer.Freed part (looked_freed 1 3 0)
+reads_freed = (0, 3, refl, newest_made, refl)
+
+reads_worn : ReadsInPlace 1 answer.Worn part (looked 1 away) → ⊥
+reads_worn x = x
+
+-- ---- the last try of a read: in place, by a turn that can't bring its object in, and by one of its own job
+ends_in_place : ReadCallEnds two 1 answer.Freed part (looked_freed 1 3 0)
+ends_in_place = inl reads_freed
+
+abbrev asks : Job → Part
+asks j = sum (looked 1 away) (worn_part j)
+
+ends_by_swap : ReadCallEnds two 1 answer.Worn part (asks swap)
+ends_by_swap = inr (
+  swap,
+  inl refl,
+  record {
+    word = away;
+    later = worn_part swap;
+    away = refl;
+    turned = (tt, adds_worn swap (grown (looked 1 away) part) refl refl knows_made);
+    part = refl;
+  },
+)
+
+ends_by_read : ReadCallEnds two 1 answer.Worn part (asks read)
+ends_by_read = inr (
+  read,
+  inr refl,
+  record {
+    word = away;
+    later = worn_part read;
+    away = refl;
+    turned = (inr tt, adds_worn read (grown (looked 1 away) part) refl (inl (refl, tt)) knows_made);
+    part = refl;
+  },
+)
+
+-- a reply that is no answer of a read
+ends_swapped : (d : Part) → ReadCallEnds two 1 (answer.Swapped 0) part d → ⊥
+ends_swapped d (inl x) = x
+ends_swapped d (inr (j, inl is, x)) =
+    (subst (λ (k : Job). AsksFor two k (answer.Swapped 0) 1 part d) is x).turned.0
+ends_swapped d (inr (j, inr is, x)) =
+    no_answer (subst (λ (k : Job). AsksFor two k (answer.Swapped 0) 1 part d) is x).turned.0
+  where
+    no_answer : IsAnswerTo two read (answer.Swapped 0) → ⊥
+    no_answer (inl y) = y
+    no_answer (inr y) = y
