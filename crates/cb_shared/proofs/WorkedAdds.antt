@@ -27,17 +27,18 @@ use Rattle.cb_record.specs.Parts.{Part, grown, nothing_more, sum}
 use Rattle.cb_shared.specs.declared.answers.WriteAnswer.TheVariants as place
 use Rattle.cb_shared.specs.declared.pass.Pass.{Pass}
 use Rattle.cb_shared.specs.declared.runtime.Shared.{Shared}
-use Rattle.cb_shared.specs.Calls.{AsksFor, AtNone, AtThis, EndsAtLast, IsAnswer, IsInVain, IsWrittenOnce, ReadCallEnds, ReadTries, TurnGives, WriteAnswers, WriteCallEnds, the_handle, written_once}
+use Rattle.cb_shared.specs.Calls.{AsksFor, AtNone, AtThis, EndsAtLast, IsAnswer, IsInVain, IsUnanswered, IsUnfetched, IsWrittenOnce, ReadCallEnds, ReadTries, TurnGives, WriteAnswers, WriteCallEnds, the_handle, written_once}
 use Rattle.cb_shared.specs.Joining.{IsSpare}
 use Rattle.cb_shared.specs.Passes.{IsPassOf}
 use Rattle.cb_shared.specs.Places.{Place}
-use Rattle.cb_shared.specs.Reading.{IsReadHere, looked, looked_freed, read_once}
+use Rattle.cb_shared.specs.Reading.{FindsGone, IsReadHere, looked, looked_freed, read_once}
 use Rattle.cb_shared.specs.Turning.{Did, JobReads, Tries, TurnAdds, TurnBy, turn_part}
 use Rattle.cb_shared.specs.UnderLock.{HasSame, IsEnding, IsQuiet, ReadsBelow}
 use Rattle.cb_shared.proofs.WorkedGround.{a_stand, away, calm, made, moving, newest_made, owner, part, pinned, two, whole, word_in, words_in}
 use Rattle.cb_shared.proofs.WorkedReads.{eight_bytes}
 use Rattle.cb_shared.proofs.WorkedSeat.{tells}
 use Rattle.cb_shared.proofs.WorkedTurns.{worn_turn}
+use Rattle.cb_shared.proofs.WorkedVain.{asks_turns}
 use Rattle.cb_shared.proofs.WorkedUnder.{beginner, far, known, last}
 
 -- ---- tries in vain make turns of their job alone
@@ -52,25 +53,40 @@ abbrev ReadsFreed : Part → Type 0
 ReadsFreed d =
     EndsAtLast (AtThis 1) (IsUnfetched two 1) (ReadCallEnds two 1 answer.Freed) part d
 
+-- it was a look, where the part has no turn
+in_place : (d : Part) (x : ReadsFreed d) → length d.turns ≡ 0
+    → FindsGone 1 (grown x.before part) x.last
+in_place d x none = by x.ends_so
+  where
+    by : ReadCallEnds two 1 answer.Freed (grown x.before part) x.last
+        → FindsGone 1 (grown x.before part) x.last
+    by (inl gone) = gone
+    by (inr (j, fetch, a)) =
+        let turns : length d.turns ≡ length (x.last.turns ++ x.before.turns) =
+        ap (λ (e : Part). length e.turns) x.part in
+        let one = asks_turns two j answer.Freed 1 _ x.last a in
+        absurd (omega (arith, none, turns, one, length-append x.last.turns x.before.turns))
+
 reads_and_writes : ReadsFreed record (looked_freed 1 3 0) { written = made ∷ [] } → ⊥
 reads_and_writes x =
     let all : 1 ≡ length (x.last.written ++ x.before.written) =
     ap (λ (d : Part). length d.written) x.part in
     let first : length x.before.written ≡ 0 = ap (λ (d : Part). length d.written) x.in_vain.part in
-    let behind : length x.last.written ≡ 0 = ap (λ (d : Part). length d.written) x.ends_so.4 in
-    omega (arith, all, first, behind, length-append x.last.written x.before.written)
+    let behind : length x.last.written ≡ 0 = ap (λ (d : Part). length d.written) (in_place _ x refl).4
+    in omega (arith, all, first, behind, length-append x.last.written x.before.written)
 
 reads_and_pins : ReadsFreed record (looked_freed 1 3 0) { ever = 1 } → ⊥
 reads_and_pins x =
     let all : 1 ≡ x.before.ever + x.last.ever = ap (λ (d : Part). d.ever) x.part in
     let first : x.before.ever ≡ 0 = ap (λ (d : Part). d.ever) x.in_vain.part in
-    let behind : x.last.ever ≡ 0 = ap (λ (d : Part). d.ever) x.ends_so.4 in
+    let behind : x.last.ever ≡ 0 = ap (λ (d : Part). d.ever) (in_place _ x refl).4 in
     omega (arith, all, first, behind)
 
 -- a refusal is that of a turn
 reads_worn_without_a_turn : ReadCallEnds two 1 answer.Worn part (looked 1 calm) → ⊥
-reads_worn_without_a_turn a = eqb-false 0 1 refl (ap (λ (d : Part). length d.turns)
-    (a.part ∙ ap (sum (looked 1 a.word)) a.turned.1.part))
+reads_worn_without_a_turn (inl x) = x
+reads_worn_without_a_turn (inr (j, fetch, a)) =
+    eqb-false 0 1 refl (asks_turns two j answer.Worn 1 part (looked 1 calm) a)
 
 asks_and_moves : (d : Part) → AsksFor two (jobs.Swap (the_handle 1)) answer.Moving 1 part d → ⊥
 asks_and_moves d a = a.turned.0
@@ -334,8 +350,12 @@ writes_moving : (v w : View) → WriteAnswers two 1 1 (12 ∷ []) answer.Moving 
 writes_moving v w (d, x, is) = ends_writing_moving (grown x.before v) x.last x.ends_so
 
 reads_unread : ReadTries two 1 (Some answer.Freed) part (with_look 1 0 part) → ⊥
-reads_unread (d, x, is) = eqb-false 0 1 refl (ap (λ (v : View). length v.seen) is
+reads_unread (d, inl x, is) = eqb-false 0 1 refl (ap (λ (v : View). length v.seen) is
     ∙ ap (λ (e : Part). length (e.seen ++ [])) x.4)
+reads_unread (d, inr (j, fetch, a), is) =
+    let none : 0 ≡ length (d.turns ++ []) = ap (λ (v : View). length v.turns) is in
+    let one = asks_turns two j answer.Freed 1 part d a in
+    let all = length-append d.turns [] in absurd (omega (arith, none, one, all))
 
 -- ---- a job reads under a pin where it is a read, and nothing else does
 reads_nothing : JobReads (jobs.Read (the_handle 1)) (Ok answer.Worn) part nothing_more

@@ -15,6 +15,7 @@ use Rattle.cb_shared.specs.Calls.{AsksFor, AtNone, AtThis, EndsAtLast, IsAnswer,
 use Rattle.cb_record.specs.Deeds.{Deed, deed, happened, happening}
 use Rattle.cb_record.specs.Parts.{Part, grown, nothing_more, sum}
 use Rattle.cb_shared.specs.Reading.{looked, looked_freed}
+use Rattle.cb_shared.proofs.CallSteps.{read_lacks}
 use Rattle.cb_shared.proofs.WorkedGround.{a_stand, away, calm, knows_made, made, moving, newest_made, not_second, part, pinned, two, version_in}
 use Rattle.cb_shared.proofs.WorkedTurns.{adds_worn, worn_part}
 use Rattle.cb_shared.proofs.WorkedWrites.{write_it}
@@ -164,7 +165,7 @@ reads_freed_at_last = record {
 
 answers_moving : EndsAtLast (AtThis 1) (IsUnfetched two 1) (ReadCallEnds two 1 answer.Moving)
     part (looked 1 moving) → ⊥
-answers_moving x = ends_moving _ _ x.ends_so
+answers_moving x = read_lacks two 1 answer.Moving _ x.last (λ t. t) x.ends_so
 
 -- ---- a make that was refused for the count of turns
 abbrev make_one : Part

@@ -10,11 +10,12 @@ use Rattle.cb_rule.specs.Lists.{Each}
 use Rattle.cb_rule.specs.Steps.{IsNewest, look_at, with_look}
 use Rattle.cb_record.specs.Parts.{Part, grown, nothing_more, sum}
 use Rattle.cb_shared.specs.declared.answers.WriteAnswer.TheVariants as place
-use Rattle.cb_shared.specs.Calls.{AtNone, AtThis, IsCalled, IsNoReply, IsUnanswered, IsUnfetched, IsWornOut, ReadGives, ReadTries, TriesInVain, TurnEnds, TurnTries, WriteCallEnds, WriteFinds, WriteTries, the_handle, worn_once}
+use Rattle.cb_shared.specs.Calls.{AtNone, AtThis, IsCalled, IsNoReply, IsUnanswered, IsUnfetched, IsWornOut, ReadCallEnds, ReadGives, ReadTries, TriesInVain, TurnEnds, TurnTries, WriteCallEnds, WriteFinds, WriteTries, the_handle, worn_once}
 use Rattle.cb_shared.specs.Reading.{looked, looked_freed, looked_twice}
 use Rattle.cb_shared.specs.Writing.{last_seen}
 use Rattle.cb_shared.proofs.WorkedGround.{a_stand, away, calm, freed_last, has_last, knows_made, last_is_freed, moving, newest_made, part, pinned, shared_part, two, whole, word_in}
 use Rattle.cb_shared.proofs.WorkedTurns.{adds_worn, worn_part}
+use Rattle.cb_shared.proofs.WorkedVain.{asks_turns}
 
 abbrev state_found : Part → ℕ
 state_found d = state_number (state_of (word_in d.looks))
@@ -192,13 +193,25 @@ reads_freed = (
 )
 
 reads_unread : ReadGives two 1 answer.Freed part (with_look 1 0 part) → ⊥
-reads_unread (d, x, is) =
-    let none : 0 ≡ length (d.seen ++ []) = ap (λ (v : View). length v.seen) is in
-    let seen : length d.seen ≡ length (x.last.seen ++ x.before.seen) = ap (λ (e : Part). length e.seen) x.part in
-    let one : length x.last.seen ≡ 1 = ap (λ (e : Part). length e.seen) x.ends_so.4 in
-    let all = length-append d.seen [] in
-    let both = length-append x.last.seen x.before.seen in
-    omega (arith, none, seen, one, all, both)
+reads_unread (d, x, is) = by x.ends_so
+  where
+    by : ReadCallEnds two 1 answer.Freed (grown x.before part) x.last → ⊥
+    by (inl gone) =
+        let none : 0 ≡ length (d.seen ++ []) = ap (λ (v : View). length v.seen) is in
+        let seen : length d.seen ≡ length (x.last.seen ++ x.before.seen) =
+        ap (λ (e : Part). length e.seen) x.part in
+        let one : length x.last.seen ≡ 1 = ap (λ (e : Part). length e.seen) gone.4 in
+        let all = length-append d.seen [] in
+        let both = length-append x.last.seen x.before.seen in
+        omega (arith, none, seen, one, all, both)
+    by (inr (j, fetch, a)) =
+        let none : 0 ≡ length (d.turns ++ []) = ap (λ (v : View). length v.turns) is in
+        let turns : length d.turns ≡ length (x.last.turns ++ x.before.turns) =
+        ap (λ (e : Part). length e.turns) x.part in
+        let one = asks_turns two j answer.Freed 1 _ x.last a in
+        let all = length-append d.turns [] in
+        let both = length-append x.last.turns x.before.turns in
+        omega (arith, none, turns, one, all, both)
 
 tries_a_read : ReadTries two 1 (Some answer.Freed) part (grown (looked_freed 1 3 0) part)
 tries_a_read = (looked_freed 1 3 0, inl (0, 3, refl, newest_made, refl), refl)

@@ -3,7 +3,7 @@
 use Rattle.std.proofs.Common.{◌≡◌, ℕ, ◌≤◌, List, [], ◌∷◌, ◌++◌, length, length-append, None, Some, Option, refl, sym, ap, ◌∙◌, subst, inl, inr, lit≤, arith}
 use Rattle.std.proofs.lemmas.Bool.{eqb-false}
 use Rattle.std.proofs.lemmas.Option.{none-some, same_Some}
-use Rattle.cb_types.specs.declared.handle.Handle.{Handle}
+use Rattle.cb_types.specs.declared.config.Config.{Config}
 use Rattle.cb_types.specs.declared.job.Job.{Job}
 use Rattle.cb_types.specs.declared.job.Job.TheVariants as jobs
 use Rattle.cb_types.specs.declared.reply.Reply.{Reply}
@@ -29,6 +29,12 @@ told j r = record (worn_turn j) { reply = r }
 
 abbrev turned : Turn → Part
 turned t = record nothing_more { turns = t ∷ [] }
+
+-- a turn that was asked for stands in the part
+pub asks_turns : (c : Config) (j : Job) (r : Reply) (h : ℕ) (v : View) (d : Part)
+    → AsksFor c j r h v d → length d.turns ≡ 1
+asks_turns c j r h v d a =
+    ap (λ (e : Part). length e.turns) (a.part ∙ ap (sum (looked h a.word)) a.turned.1.part)
 
 -- ---- what a read tells of its object
 bytes_tell : TellsWhatIs (answer.Bytes 3 (10 ∷ []))

@@ -1,9 +1,3 @@
-use Rattle.cb_shared.proofs.WorkedVain as w1
-use Rattle.cb_shared.proofs.WorkedTries as w2
-use Rattle.cb_shared.proofs.WorkedCalls as w3
-use Rattle.cb_shared.proofs.WorkedAdds as w4
-use Rattle.cb_shared.proofs.Known as w5
-use Rattle.cb_shared.proofs.WorkedMaking as w6
 use Rattle.std.proofs.lemmas.Result.{IfOk-from_err, IfOk-weaker, on_err_weaker}
 use Rattle.cb_shared.proofs.CallSteps.{away_stops, away_tries, err_always, fetch_called, fetch_job, fetch_knows, found_bytes, found_freed, found_hindered, found_knows, is_hindered, lacks_room}
 use Rattle.cb_shared.specs.Calls.{IsUnfetched}
