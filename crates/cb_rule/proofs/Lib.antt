@@ -33,6 +33,7 @@ mod Turns
 mod Told
 mod Showing
 mod Lone
+mod RecordStanding
 mod ClosedWorld
 mod ShownWorld
 mod Closing
@@ -47,6 +48,7 @@ mod WorkedTurns
 mod WorkedTold
 mod WorkedOwn
 mod WorkedOwnStands
+mod WorkedRecordStands
 mod WorkedClosing
 mod WorkedShown
 mod WorkedLast
