@@ -30,6 +30,7 @@ mod Giving
 mod Promising
 mod OwnStanding
 mod Turns
+mod Timing
 mod Told
 mod Showing
 mod Lone
