@@ -51,7 +51,7 @@ module _ (first : ℕ) (v : View) (entries : EntriesStand first (v ∷ [])) wher
       → e.freed ≡ true → x.version ≤ e.version + k → e.version < x.version → ⊥
   none_above zero e x we wx handle gone near above = absurd (omega (arith, near, above))
   none_above (suc k) e x we wx handle gone near above = ⊎_elim
-      (λ (begins : (x.version ≡ first) × (x.before ≡ [])). let born = entries.born e we in
+      (λ (begins : (x.version ≡ first) × (x.before ≡ []) × (x.freed ≡ false)). let born = entries.born e we in
       let is = begins.0 in absurd (omega (arith, born, is, above)))
       (λ (goes : (y : Entry) × Wrote (v ∷ []) y × (y.handle ≡ x.handle) × (y.version + 1 ≡ x.version)
       × (y.after ≡ x.before) × (y.freed ≡ false) × (x.freed ≡ false → x.len ≡ y.len)). let next = goes.3 in ⊎_elim

@@ -450,12 +450,12 @@ in_place_backs h name answer.Freed v d (word, version, empty, newest, is) =
 in_place_backs h name r v d x = absurd x
 
 -- what the pin of a turn Read read
-module _ (c : Config) (h version : ℕ) (bytes : List ℕ) (v : View) (within : Part)
-    (x : JobReads (job.Read (the_handle h)) (Ok (answer.Bytes version bytes)) v within) where
+module _ (c : Config) (h version : ℕ) (bytes : List ℕ) (es : List Event) (v : View) (within : Part)
+    (x : JobReads (job.Read (the_handle h)) es (Ok (answer.Bytes version bytes)) v within) where
   pinned_part : FindsAtLast h (found.Bytes version bytes) v within
   pinned_part = by x
     where
-      by : JobReads (job.Read (the_handle h)) (Ok (answer.Bytes version bytes)) v within
+      by : JobReads (job.Read (the_handle h)) es (Ok (answer.Bytes version bytes)) v within
           → FindsAtLast h (found.Bytes version bytes) v within
       by (inl y) = absurd y.1
       by (inr y) = y
@@ -493,10 +493,10 @@ read_turn : (c : Config) (h : ℕ) (name : List ℕ) (r : Reply) (v : View) (d :
     → IsAnswerTo c (job.Read (the_handle h)) r → TurnAdds c (job.Read (the_handle h)) (Ok r) v d
     → Backs d (told_as (Some h) (Read name) r ∷ [])
 read_turn c h name (answer.Bytes version bytes) v d a x =
-    let ever = pinned_ever c h version bytes v x.within x.reads in
+    let ever = pinned_ever c h version bytes x.turn.acts v x.within x.reads in
     read_turned c h name (answer.Bytes version bytes) v d x
     (has_one_left (IsReadAs h version bytes) x.later.seen x.within.seen
-    (pinned_seen c h version bytes v x.within x.reads)) (omega (arith, ever))
+    (pinned_seen c h version bytes x.turn.acts v x.within x.reads)) (omega (arith, ever))
 read_turn c h name answer.Freed v d a x = read_turned c h name answer.Freed v d x
     (freed_turn h x.turn x.more x.within x.later (freed_last h _ x.later x.finds)) (omega arith)
 read_turn c h name (answer.Unavailable set lost) v d a x = read_turned c h name _ v d x

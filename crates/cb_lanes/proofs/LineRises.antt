@@ -54,7 +54,8 @@ read_least c h version bytes u d (inr (j, inr is, x)) = by y.turned.1.reads
     m : View
     m = grown (looked h y.word) u
 
-    by : JobReads (job.Read (the_handle h)) (Ok (answer.Bytes version bytes)) m y.turned.1.within
+    by : JobReads (job.Read (the_handle h)) y.turned.1.turn.acts
+        (Ok (answer.Bytes version bytes)) m y.turned.1.within
         → IsAtLeast u h version
     by (inl z) = absurd z.1
     by (inr z) = λ n freed has. here_least h version bytes (grown z.before m) z.last z.finds n freed

@@ -157,7 +157,8 @@ read_saw c h version bytes v before last none (inr (j, inr is, x)) = by y.turned
     u : View
     u = grown (looked h y.word) (grown before v)
 
-    by : JobReads (job.Read (the_handle h)) (Ok (answer.Bytes version bytes)) u y.turned.1.within
+    by : JobReads (job.Read (the_handle h)) y.turned.1.turn.acts
+        (Ok (answer.Bytes version bytes)) u y.turned.1.within
         → SawNewest h version v
     by (inl z) = absurd z.1
     by (inr z) = here_saw h version bytes v (grown z.before u) z.last

@@ -111,11 +111,11 @@ module _ (first : ℕ) (v : View) (entries : EntriesStand first (v ∷ [])) (qui
       → (x : Entry) × Has x v.written × (x.handle ≡ e.handle) × (x.version ≡ first)
       × (e.len ≡ x.len)
   made_long zero e he low kept = ⊎_elim
-      (λ (z : (e.version ≡ first) × (e.before ≡ [])). (e, he, refl, z.0, refl))
+      (λ (z : (e.version ≡ first) × (e.before ≡ []) × (e.freed ≡ false)). (e, he, refl, z.0, refl))
       (λ (z : _). absurd (let next = z.3 in omega (arith, next, low)))
       (entries.goes_on e (wrote e he))
   made_long (suc n) e he low kept = ⊎_elim
-      (λ (z : (e.version ≡ first) × (e.before ≡ [])). (e, he, refl, z.0, refl))
+      (λ (z : (e.version ≡ first) × (e.before ≡ []) × (e.freed ≡ false)). (e, he, refl, z.0, refl))
       (λ (z : _).
       let x = made_long n z.0 (written z.0 z.1) (let next = z.3 in omega (arith, next, low)) z.5 in
       (x.0, x.1, x.2 ∙ z.2, x.3, z.6 kept ∙ x.4)) (entries.goes_on e (wrote e he))
@@ -132,7 +132,7 @@ module _ (first : ℕ) (v : View) (entries : EntriesStand first (v ∷ [])) (qui
   linked = record {
     same = λ e x he hx on at. entries.same e x (wrote e he) (wrote x hx) on at;
     born = λ e he. entries.born e (wrote e he);
-    goes_on = λ e he. ⊎_elim (λ (z : (e.version ≡ first) × (e.before ≡ [])). inl z.0)
+    goes_on = λ e he. ⊎_elim (λ (z : (e.version ≡ first) × (e.before ≡ []) × (e.freed ≡ false)). inl z.0)
         (λ (z : _). inr (z.0, written z.0 z.1, z.2, z.3, z.4, z.5)) (entries.goes_on e (wrote e he));
     long = one_length;
   }

@@ -1,11 +1,12 @@
 -- Where no seat holds the lock, the words of the table with the far state are a sound world, which
 -- holds its newest entry of each object that no view claims.
-use Rattle.std.proofs.Common.{◌≡◌, ℕ, zero, suc, ◌+◌, ◌*◌, ◌<◌, ◌≤◌, Bool, true, false, cond, List, [], ◌∷◌, Option, None, Some, length, get_or, replicate, sym, refl, ap, ◌∙◌, subst, inr, ⊎_elim, arith, true≢false}
+use Rattle.std.proofs.Common.{◌≡◌, ℕ, zero, suc, ◌+◌, ◌*◌, ◌<◌, ◌≤◌, Bool, true, false, cond, List, [], ◌∷◌, Option, None, Some, length, get_or, replicate, sym, refl, ap, ◌∙◌, subst, inl, inr, ⊎_elim, arith, true≢false}
 use Rattle.std.specs.List.{All}
 use Rattle.std.specs.Prelude.{slice_get}
 use Rattle.std.proofs.lemmas.List.{get_or-map, length-map, length-replicate}
 use Rattle.std.proofs.lemmas.List.Elements.{All-replicate}
 use Rattle.std.proofs.lemmas.List.Folds.{sum_by-replicate}
+use mathlib.Core.Option.{Option as Maybe}
 use Rattle.cb_types.specs.declared.config.Config.{Config}
 use Rattle.cb_types.specs.Config.{IsAccepted}
 use Rattle.cb_ptr.specs.declared.word.State.TheVariants as word
@@ -36,12 +37,15 @@ use Rattle.cb_rule.specs.Closing.{desk_of}
 use Rattle.cb_rule.specs.History.{Value, holding_words, newest, top}
 use Rattle.cb_rule.specs.Lists.{total}
 use Rattle.cb_rule.specs.Locking.{Stood}
+use Rattle.cb_rule.specs.Promised.{HolderClaims}
 use Rattle.cb_rule.specs.Rule.{RuleKept}
 use Rattle.cb_rule.specs.Seats.{claims_on, pins_on}
+use Rattle.cb_rule.specs.ShownWorld.{IsMovedByOne}
+use Rattle.cb_rule.specs.Slot.{LockSlot}
 use Rattle.cb_rule.specs.Stands.{IsCalm, IsClaimedBySeat, Stands}
 use Rattle.cb_rule.specs.Words.{base, pointer, stamps}
 use Rattle.cb_rule.proofs.Opening.{same_each}
-use Rattle.cb_rule.proofs.Promising.{pins_stand}
+use Rattle.cb_rule.proofs.Promising.{claims_stand, moving_stands, pins_stand}
 use Rattle.cb_rule.proofs.Showing.{shown_sound}
 
 -- a window of a window
@@ -202,6 +206,38 @@ module _ (c : Config) (ws : List ℕ) (views : List View) (known : Shown) (es : 
           (λ (m : IsClaimedBySeat ws h (total (pins_on h) views) (total (claims_on h) views)).
           absurd (let one = m.one_claim in omega (arith, one, unclaimed))) k.word
 
+  -- what is claimed in what is known stands in the leaving batch, and the reverse
+  leaving_now : (h : ℕ) → HolderClaims views known h → IsLeavingNow far h
+  leaving_now h o = let x = stood.sound.claimed h o.len o.place o.version o.words o.claimed in (
+    x.batch,
+    x.there,
+    (
+      x.slot.frame,
+      x.slot.slot,
+      x.leaves,
+      ap (λ o. handle_in o x.slot.slot) x.slot.there ∙ x.slot.named,
+    ),
+  )
+
+  claimed_now : (h : ℕ) → IsLeavingNow far h → (len place v : ℕ) × (words : List ℕ)
+      × (object_at known h ≡ is.Claimed len place v words)
+  claimed_now h (batch, there, (f, slot, leaves, named)) =
+      let noted = stood.sound.noted batch there in let span = noted.held f leaves in
+      let at = sym (ap (λ o. handle_in o slot) span.1) ∙ named in
+      let n = noted.each f slot h span.0 leaves span.1 at in
+      (_, _, n.version, n.words, n.claimed)
+
+  -- so a word is Moving for one reason
+  pub moved_by_one : (homes : List (Maybe LockSlot)) (h : ℕ) → h < c.handles
+      → IsMovedByOne record { words = ws; homes = homes; views = views } far h
+  moved_by_one homes h l = let m = moving_stands c ws views known es r h l in record {
+    moves = λ moving. ⊎_elim (λ (one : total (claims_on h) views ≡ 1). inl one)
+        (λ (o : HolderClaims views known h). inr (leaving_now h o)) (m.moves moving);
+    claimed = (claims_stand c ws views known es r h l).moving;
+    leaves = λ leaving. let x = claimed_now h leaving in let y = m.claimed x.0 x.1 x.2 x.3 x.4 in
+        (y.0, y.1);
+  }
+
   -- where no view has a pin or a claim
   module _ (unpinned : (h : ℕ) → total (pins_on h) views ≡ 0)
       (unclaimed : (h : ℕ) → total (claims_on h) views ≡ 0) where
@@ -226,37 +262,10 @@ module _ (c : Config) (ws : List ℕ) (views : List View) (known : Shown) (es : 
 
     -- a word that is Moving is that of an object that is leaving
     leaves : (h : ℕ) → h < c.handles → state_of (pointer ws h) ≡ word.Moving → IsLeavingNow far h
-    leaves h l moving = go (object_at known h) refl (r.stand h l) (r.fit h l)
-      where
-        of : (len place : ℕ) (words : List ℕ) → IsLeaving known far h len place words
-            → IsLeavingNow far h
-        of len place words x = (
-          x.batch,
-          x.there,
-          (
-            x.slot.frame,
-            x.slot.slot,
-            x.leaves,
-            ap (λ o. handle_in o x.slot.slot) x.slot.there ∙ x.slot.named,
-          ),
-        )
-
-        go : (o : Object) → object_at known h ≡ o
-            → Stands c known.first ws h (total (pins_on h) views) (total (claims_on h) views)
-            (top es h) (newest es h) (version_at known h) o
-            → Fits o (pointer ws h) → IsLeavingNow far h
-        go (is.Empty v) q k f = absurd (let b = bits_moving (pointer ws h) moving in
-            omega (arith, b, f))
-        go (is.Far len v words) q k f = absurd (let b = bits_moving (pointer ws h) moving in
-            let g = f.0 in omega (arith, b, g))
-        go (is.Claimed len place v words) q k f =
-            of len place words (stood.sound.claimed h len place v words q)
-        go (is.Here len place) q k f = absurd (⊎_elim
-            (λ (m : IsCalm c ws h (total (pins_on h) views) (total (claims_on h) views) (top es h)
-            (newest es h) len place). let b = bits_moving (pointer ws h) moving in
-            let g = bits_here (pointer ws h) m.state in omega (arith, b, g))
-            (λ (m : IsClaimedBySeat ws h (total (pins_on h) views) (total (claims_on h) views)).
-            let one = m.one_claim in let none = unclaimed h in omega (arith, one, none)) k.word)
+    leaves h l moving = ⊎_elim
+        (λ (one : total (claims_on h) views ≡ 1).
+        absurd (let none = unclaimed h in omega (arith, one, none)))
+        (λ (x : IsLeavingNow far h). x) ((moved_by_one [] h l).moves moving)
 
     ongoing : AreOpen (desk_of c ws) far (replicate 64 idle_seat)
     ongoing = record {

@@ -108,7 +108,7 @@ module _ (deeds : Deeds) (first : ℕ) (c : Config) (accepted : IsAccepted c) (s
           (lone_entries c s.views id v at spent r.known.first
           (entries_stand c s.words s.views r.known es k));
       told = lone_told c s.views id v at spent first
-          (are_told (Locked deeds) first c s r);
+          (are_told deeds first c s r);
       holds = holds (world_shown deeds first c s r nobody);
       turns = subst (λ (n : ℕ). IsOneHistory deeds first c (v ∷ []) n far) (sym r.far.reached)
           (lone_turns c s.views id v at spent deeds first r.far.count far

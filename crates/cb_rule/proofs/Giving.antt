@@ -1,5 +1,5 @@
 -- The holder gives the lock back, and the far state to its slot: the history has its turn more.
-use Rattle.std.proofs.Common.{◌≡◌, ◌≢◌, ℕ, suc, ◌+◌, ◌*◌, ◌^◌, ◌<◌, ◌≤◌, Bool, true, cond, eqb, List, [], ◌∷◌, ◌++◌, length, set, Option, Some, None, sym, refl, ap, ◌∙◌, subst, inl, inr, ⊎_elim, arith, eq-eqb, ne_eqb, length-set, get_or-set_same, true≢false}
+use Rattle.std.proofs.Common.{◌≡◌, ◌≢◌, ℕ, zero, suc, ◌+◌, ◌*◌, ◌^◌, ◌<◌, ◌≤◌, Bool, true, cond, eqb, List, [], ◌∷◌, ◌++◌, length, set, Option, Some, None, sym, refl, ap, ◌∙◌, subst, inl, inr, ⊎_elim, arith, eq-eqb, ne_eqb, length-set, get_or-set_same, true≢false}
 use mathlib.Core.Option.{some, none}
 use lib.ListN.{get_elem?}
 use native.Mathlib.Decide.{ℕ_discrete}
@@ -12,15 +12,16 @@ use Rattle.cb_types.specs.declared.reply.Reply.{Reply}
 use Rattle.cb_world.specs.declared.entry.Entry.{Entry}
 use Rattle.cb_world.specs.declared.shown.Shown.{Shown}
 use Rattle.cb_world.specs.FarState.{FarState}
+use Rattle.cb_world.specs.Memory.{bytes_in}
 use Rattle.cb_world.specs.Shown.{object_at}
 use Rattle.cb_rule.specs.declared.turn.Turn.{Turn}
 use Rattle.cb_rule.specs.declared.view.Seen.{Seen}
 use Rattle.cb_rule.specs.declared.view.View.{View}
 use Rattle.cb_rule.specs.History.{is_version}
 use Rattle.cb_rule.specs.Lists.{times, total, Each, Has}
-use Rattle.cb_rule.specs.Locking.{Deeds, IsUnlocked, Locked, Stood, TurnStands, is_turn, turn_number, turns_on}
+use Rattle.cb_rule.specs.Locking.{Deeds, IsTimed, IsUnlocked, Locked, Stood, TurnStands, is_turn, turn_number, turns_on, when_ended}
 use Rattle.cb_rule.specs.LockSteps.{HasGiven, IsFoundFreed, MayGive, gave, gave_lock, turn_of}
-use Rattle.cb_rule.specs.Records.{SeenOk}
+use Rattle.cb_rule.specs.Records.{ReadOk, SeenOk}
 use Rattle.cb_rule.specs.Own.{AreOwn, Make, reads_it, traces, writes_it}
 use Rattle.cb_rule.specs.Rule.{RuleKept}
 use Rattle.cb_rule.specs.Ruled.{Ruled}
@@ -46,6 +47,22 @@ chain_at chain n g = ap (λ (b : Bool). cond b g (chain n)) (eq-eqb n n refl)
 chain_else : (chain : ℕ → FarState) (n k : ℕ) (g : FarState) → k ≢ n
     → chain_with chain n g k ≡ chain k
 chain_else chain n k g ne = ap (λ (b : Bool). cond b g (chain k)) (ne_eqb k n ne)
+
+-- and how long the history was at their ends
+abbrev ends_with : (ℕ → ℕ) → ℕ → ℕ → ℕ → ℕ
+ends_with ends n end k = cond (eqb k n) end (ends k)
+
+end_at : (ends : ℕ → ℕ) (n end : ℕ) → ends_with ends n end n ≡ end
+end_at ends n end = ap (λ (b : Bool). cond b end (ends n)) (eq-eqb n n refl)
+
+end_else : (ends : ℕ → ℕ) (n k end : ℕ) → k ≢ n → ends_with ends n end k ≡ ends k
+end_else ends n k end ne = ap (λ (b : Bool). cond b end (ends k)) (ne_eqb k n ne)
+
+-- with one turn more those before it ended as they did
+ended_else : (ends : ℕ → ℕ) (n k end : ℕ) → k ≤ n
+    → when_ended (ends_with ends n end) k ≡ when_ended ends k
+ended_else ends n zero end le = refl
+ended_else ends n (suc k) end le = end_else ends n k end (λ e. omega (arith, e, le))
 
 module _ (deeds : Deeds) (c : Config) (count : ℕ) (chain : ℕ → FarState)
     (few : count < 2 ^ 40) where
@@ -141,6 +158,27 @@ module _ (deeds : Deeds) (first : ℕ) (c : Config) (s : Table) (id : ℕ) (v : 
       (ap (λ (k : Shown). object_at k o.handle) (sym ((ok.seats id v at).knows may.holds))
       ∙ o.empty))) may.found
 
+  -- what a job Read told stands in the history
+  read_ok : ReadOk r.history job reply
+  read_ok handle version bytes asked told = let x = may.reads handle version bytes asked told in
+      let o = each_has (SeenOk r.history) x.0 v.seen (r.kept.seats id v at).lasting.seen x.1 in (
+        o.0,
+        o.1,
+        sym (ap (λ (y : Seen). y.handle) o.2) ∙ x.2,
+        sym (ap (λ (y : Seen). y.version) o.2) ∙ x.3,
+        sym (ap (λ (y : Seen). y.freed) o.2) ∙ x.4,
+        x.5 ∙ ap (λ (y : Seen). bytes_in y.words y.len) o.2,
+      )
+
+  -- no turn ended before this one began
+  in_time : when_ended lock.ends lock.count ≤ v.since
+  in_time = lock.runs id v at may.holds
+
+  no_runner : (moment j : ℕ) (u : View) → get_elem? views j ≡ some u → u.holds ≡ true
+      → moment ≤ u.since
+  no_runner moment j u there his = absurd (let le = total-at holding views j u there in
+      let one = hit u.holds his in omega (arith, le, one, nobody))
+
   wrote_all : Each (λ e. Has e r.history) (v.fresh ++ v.written)
   wrote_all = let k = (r.kept.seats id v at).lasting in
       each_append (λ e. Has e r.history) v.fresh v.written k.fresh k.written
@@ -164,7 +202,13 @@ module _ (deeds : Deeds) (first : ℕ) (c : Config) (s : Table) (id : ℕ) (v : 
           reached = omega arith;
           told = tt;
           began = λ h l. never_now r.history h;
-          past = (record { told = k.told; began = k.began }, k.past);
+          past = (record {
+            lasted = k.reached;
+            reached = omega arith;
+            read = read_ok;
+            told = k.told;
+            began = k.began;
+          }, k.past);
         };
       } (omega (arith, nobody))
 
@@ -215,6 +259,15 @@ module _ (deeds : Deeds) (first : ℕ) (c : Config) (s : Table) (id : ℕ) (v : 
             let off = miss (is_turn k t)
             (ne_eqb (turn_number t) k (λ e. omega (arith, e, number, l))) in
             let before = lock.once k l in omega (arith, sum, off, before);
+        ends = lock.ends;
+        timed = seats_stay (λ _ u. Each (IsTimed lock.count lock.ends) u.turns) s.views id w (
+          record {
+            began = subst (λ (k : ℕ). when_ended lock.ends k ≤ v.since) (sym number) in_time;
+            ended = λ less. absurd (omega (arith, less, number));
+          },
+          lock.timed id v at,
+        ) (λ j u ne there. lock.timed j u there);
+        runs = no_runner (when_ended lock.ends lock.count);
       }
 
   -- this one is counted
@@ -247,6 +300,11 @@ module _ (deeds : Deeds) (first : ℕ) (c : Config) (s : Table) (id : ℕ) (v : 
           let off = miss (is_turn k t) (ne_eqb (turn_number t) k (λ e. ne (sym e ∙ number))) in
           let before = lock.once k (omega (arith, l, ne)) in omega (arith, sum, off, before)
     ];
+    ends = ends;
+    timed = seats_stay (λ _ u. Each (IsTimed (lock.count + 1) ends) u.turns) s.views id w
+        (mine_timed, longer_timed v.turns (lock.turns id v at) (lock.timed id v at))
+        (λ j u ne there. longer_timed u.turns (lock.turns j u there) (lock.timed j u there));
+    runs = no_runner (when_ended ends (lock.count + 1));
   }
     where
       few : lock.count < 2 ^ 40
@@ -274,6 +332,36 @@ module _ (deeds : Deeds) (first : ℕ) (c : Config) (s : Table) (id : ℕ) (v : 
         | no ne ↦ ap (λ (f : FarState). f.first)
             (chain_else lock.chain (lock.count + 1) i far ne) ∙ lock.starts i (omega (arith, le, ne))
       ]
+
+      ends : ℕ → ℕ
+      ends = ends_with lock.ends lock.count (length r.history)
+
+      still_timed : (x : Turn) → turn_number x < lock.count → IsTimed lock.count lock.ends x
+          → IsTimed (lock.count + 1) ends x
+      still_timed x less o = record {
+        began = let low = o.began in
+            let e = ended_else lock.ends lock.count (turn_number x) (length r.history)
+            (omega (arith, less)) in omega (arith, low, e);
+        ended = λ _. o.ended less ∙ sym (end_else lock.ends lock.count (turn_number x)
+            (length r.history) (λ e. omega (arith, e, less)));
+      }
+
+      longer_timed : (ts : List Turn) → Each (TurnStands deeds c lock.count lock.chain) ts
+          → Each (IsTimed lock.count lock.ends) ts → Each (IsTimed (lock.count + 1) ends) ts
+      longer_timed [] ok timed = tt
+      longer_timed (x ∷ ts) ok timed = (
+        still_timed x (counted deeds c lock.count lock.chain few x ok.0).0 timed.0,
+        longer_timed ts ok.1 timed.1,
+      )
+
+      mine_timed : IsTimed (lock.count + 1) ends t
+      mine_timed = record {
+        began = let e : when_ended ends (turn_number t) ≡ when_ended lock.ends lock.count =
+            ap (when_ended ends) number
+            ∙ ended_else lock.ends lock.count lock.count (length r.history) (omega arith) in
+            let low = in_time in omega (arith, e, low);
+        ended = λ _. sym (ap ends number ∙ end_at lock.ends lock.count (length r.history));
+      }
 
       mine : TurnStands deeds c (lock.count + 1) chain t
       mine = record {

@@ -67,6 +67,10 @@ module _ (more es : List Entry) where
   pub turn_more : (c : Config) (first : ℕ) (t : Turn)
       → TurnOk c first es t → TurnOk c first (more ++ es) t
   turn_more c first t ok = record {
+    lasted = ok.lasted;
+    reached = let a = ok.reached in let b = longer more es in omega (arith, a, b);
+    read = λ handle version bytes asked told. let z = ok.read handle version bytes asked told in
+        (z.0, has_more z.0 more es z.1, z.2, z.3, z.4, z.5);
     told = each_map (TellsOk first es t.since t.until) (TellsOk first (more ++ es) t.since t.until)
         t.acts (λ e o. tells_more first t.since t.until t.until e (omega arith) o) ok.told;
     began = λ h l. old_more first t.since h (object_at t.start h) (ok.began h l);

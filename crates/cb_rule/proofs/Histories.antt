@@ -126,22 +126,22 @@ module _ (first : ℕ) (pos : 1 ≤ first) where
 
   -- the contents before it are those of the entry one version lower; the first has none
   pub entry_before : (e : Entry) (es : List Entry) → IsEntryHistory first es → Has e es
-      → ((e.version ≡ first) × (e.before ≡ []))
+      → ((e.version ≡ first) × (e.before ≡ []) × (e.freed ≡ false))
       ⊎ ((x : Entry) × Has x es × (x.handle ≡ e.handle) × (x.version + 1 ≡ e.version)
       × (x.after ≡ e.before) × (x.freed ≡ false) × (e.freed ≡ false → e.len ≡ x.len))
   entry_before e [] k h = absurd h
   entry_before e (y ∷ es) k h = ⊎_elim (λ (is : y ≡ e). subst (λ (z : Entry). Before z) is head)
-      (λ (more : Has e es). ⊎_elim (λ (a : (e.version ≡ first) × (e.before ≡ [])). inl a)
+      (λ (more : Has e es). ⊎_elim (λ (a : (e.version ≡ first) × (e.before ≡ []) × (e.freed ≡ false)). inl a)
       (λ (a : _). inr (a.0, inr a.1, a.2, a.3, a.4, a.5, a.6)) (entry_before e es k.1 more)) h
     where
       Before : Entry → Type 0
-      Before z = ((z.version ≡ first) × (z.before ≡ []))
+      Before z = ((z.version ≡ first) × (z.before ≡ []) × (z.freed ≡ false))
           ⊎ ((x : Entry) × Has x (y ∷ es) × (x.handle ≡ z.handle) × (x.version + 1 ≡ z.version)
           × (x.after ≡ z.before) × (x.freed ≡ false) × (z.freed ≡ false → z.len ≡ x.len))
 
       head : Before y
       head = ⊎_elim
-          (λ (m : IsMadeEntry first (top es y.handle) y). inl (m.number, m.nothing))
+          (λ (m : IsMadeEntry first (top es y.handle) y). inl (m.number, m.nothing, m.kept))
           (λ (m : IsChanged (top es y.handle) (newest es y.handle) y). ⊎_elim
           (λ (none : (top es y.handle ≡ 0) × (newest es y.handle ≡ no_value)).
           absurd (true≢false (ap (λ (v : Value). v.freed) (sym none.1) ∙ m.there)))

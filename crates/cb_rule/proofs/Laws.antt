@@ -16,6 +16,7 @@ pub use Rattle.cb_rule.proofs.Owning.{known_entries}
 pub use Rattle.cb_rule.proofs.Peeking.{peeks}
 pub use Rattle.cb_rule.proofs.Pinning.{gives_pins, takes_pin}
 pub use Rattle.cb_rule.proofs.Promising.{promises}
+pub use Rattle.cb_rule.proofs.RecordStanding.{stands_by_itself, whole_history}
 pub use Rattle.cb_rule.proofs.Seating.{joins, splits}
 pub use Rattle.cb_rule.proofs.ShownWorld.{world_shown}
 pub use Rattle.cb_rule.proofs.Showing.{is_shown, shown_sound}

@@ -30,9 +30,11 @@ mod Giving
 mod Promising
 mod OwnStanding
 mod Turns
+mod Timing
 mod Told
 mod Showing
 mod Lone
+mod RecordStanding
 mod ClosedWorld
 mod ShownWorld
 mod Closing
@@ -47,6 +49,7 @@ mod WorkedTurns
 mod WorkedTold
 mod WorkedOwn
 mod WorkedOwnStands
+mod WorkedRecordStands
 mod WorkedClosing
 mod WorkedShown
 mod WorkedLast

@@ -1,6 +1,6 @@
 -- The lock, the far state and the turns stay under steps on other words, and where seats are split
 -- and joined.
-use Rattle.std.proofs.Common.{◌≡◌, ◌≢◌, ◌⊎◌, ℕ, ◌+◌, Bool, true, false, cond, List, [], ◌∷◌, ◌++◌, get_or, set, sym, refl, ap, ◌∙◌, subst, ⊎_elim, arith, true≢false}
+use Rattle.std.proofs.Common.{◌≡◌, ◌≢◌, ◌⊎◌, ℕ, ◌+◌, ◌≤◌, Bool, true, false, cond, List, [], ◌∷◌, ◌++◌, get_or, set, sym, refl, ap, ◌∙◌, subst, ⊎_elim, arith, true≢false}
 use mathlib.Core.Option.{some}
 use lib.ListN.{get_elem?}
 use Rattle.cb_types.specs.declared.config.Config.{Config}
@@ -8,7 +8,7 @@ use Rattle.cb_world.specs.declared.shown.Shown.{Shown}
 use Rattle.cb_world.specs.Empty.{empty_far}
 use Rattle.cb_rule.specs.declared.view.View.{View}
 use Rattle.cb_rule.specs.Lists.{times, total, Each}
-use Rattle.cb_rule.specs.Locking.{Deeds, IsUnlocked, Locked, Stood, TurnStands, is_turn, turns_on}
+use Rattle.cb_rule.specs.Locking.{Deeds, IsTimed, IsUnlocked, Locked, Stood, TurnStands, is_turn, turns_on, when_ended}
 use Rattle.cb_rule.specs.Ruled.{IsAlike, IsSteady}
 use Rattle.cb_rule.specs.Seats.{holding}
 use Rattle.cb_rule.specs.Slot.{Table}
@@ -30,6 +30,17 @@ module _ (deeds : Deeds) (c : Config) (s : Table) (known : Shown) (r : Locked de
   still_begins j v w alike b h =
       subst (λ (k : Shown). Stood c k w.took) (sym alike.start)
       (subst (Stood c v.start) (sym alike.took) (b (sym alike.holds ∙ h)))
+
+  abbrev Runs : ℕ → View → Type 0
+  Runs j u = u.holds ≡ true → when_ended r.ends r.count ≤ u.since
+
+  abbrev Timed : ℕ → View → Type 0
+  Timed j u = Each (IsTimed r.count r.ends) u.turns
+
+  -- when it began stays too
+  still_runs : (j : ℕ) (v w : View) → IsAlike v w → Runs j v → Runs j w
+  still_runs j v w alike b h = let low = b (sym alike.holds ∙ h) in let same = alike.since in
+      omega (arith, low, same)
 
   abbrev Turned : ℕ → View → Type 0
   Turned j u = Each (TurnStands deeds c r.count r.chain) u.turns
@@ -76,6 +87,12 @@ module _ (deeds : Deeds) (c : Config) (s : Table) (known : Shown) (r : Locked de
           (λ j u ne there. r.turns j u there);
       once = λ k l. total-same (turns_on k) s.views id v w at
           (ap (times (λ t. is_turn k t)) alike.turns) ∙ r.once k l;
+      ends = r.ends;
+      timed = seats_stay Timed s.views id w
+          (subst (Each (IsTimed r.count r.ends)) (sym alike.turns) (r.timed id v at))
+          (λ j u ne there. r.timed j u there);
+      runs = seats_stay Runs s.views id w (still_runs id v w alike (r.runs id v at))
+          (λ j u ne there. r.runs j u there);
     }
       where
         same : total holding (set s.views id w) ≡ total holding s.views
@@ -120,6 +137,20 @@ module _ (deeds : Deeds) (c : Config) (s : Table) (known : Shown) (r : Locked de
       once = λ k l. total_split (turns_on k) s.views id v left right at
           (ap (times (λ t. is_turn k t)) alike.turns) (ap (times (λ t. is_turn k t)) none)
           ∙ r.once k l;
+      ends = r.ends;
+      timed = λ j u there. ⊎_elim
+          (λ (t : get_elem? (set s.views id left) j ≡ some u). seats_stay Timed s.views id left
+          (subst (Each (IsTimed r.count r.ends)) (sym alike.turns) (r.timed id v at))
+          (λ i x _ e. r.timed i x e) j u t)
+          (λ (t : right ≡ u). subst (Each (IsTimed r.count r.ends))
+          (sym none ∙ ap (λ (x : View). x.turns) t) tt)
+          (at_snoc (set s.views id left) right u j there);
+      runs = λ j u there. ⊎_elim
+          (λ (t : get_elem? (set s.views id left) j ≡ some u). seats_stay Runs s.views id left
+          (still_runs id v left alike (r.runs id v at)) (λ i x _ e. r.runs i x e) j u t)
+          (λ (t : right ≡ u). subst (λ (x : View). Runs j x) t
+          (λ h. absurd (true≢false (sym h ∙ quiet))))
+          (at_snoc (set s.views id left) right u j there);
     }
       where
         more : List View
@@ -161,6 +192,16 @@ module _ (deeds : Deeds) (c : Config) (s : Table) (known : Shown) (r : Locked de
       once = λ k l. total_joined (turns_on k) s.views id other v w both (blank c) at there
           (let e = times-append (is_turn k) w.turns v.turns in omega (arith, e)) refl
           ∙ r.once k l;
+      ends = r.ends;
+      timed = seats_stay Timed (set s.views id both) other (blank c) tt
+          (λ j u _. seats_stay Timed s.views id both
+          (each_append (IsTimed r.count r.ends) w.turns v.turns
+          (r.timed other w (sym (set_else s.views id other both ne) ∙ there)) (r.timed id v at))
+          (λ i x _ e. r.timed i x e) j u);
+      runs = seats_stay Runs (set s.views id both) other (blank c)
+          (λ h. absurd (true≢false (sym h)))
+          (λ j u _. seats_stay Runs s.views id both (r.runs id v at)
+          (λ i x _ e. r.runs i x e) j u);
     }
       where
         both : View

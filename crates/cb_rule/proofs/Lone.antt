@@ -94,6 +94,7 @@ module _ (c : Config) (views : List View) (id : ℕ) (v : View) (at : get_elem? 
     written = λ e has. wrote e (r.written e has);
     whole = λ e w. r.whole e (unwrote e w);
     told = λ t m. r.told t (unmade t m);
+    order = λ t u m n less. r.order t u (unmade t m) (unmade u n) less;
   }
 
   pub lone_turns : (deeds : Deeds) (first count : ℕ) (last : FarState)

@@ -18,7 +18,7 @@ use Rattle.cb_world.proofs.Laws.{empty_sound, empty_world_sound}
 use Rattle.cb_rule.specs.declared.view.View.{View}
 use Rattle.cb_rule.specs.History.{Value, WasNow, newest, no_value, top}
 use Rattle.cb_rule.specs.Lists.{total, Each}
-use Rattle.cb_rule.specs.Locking.{Deeds, Locked, Stood, TurnStands}
+use Rattle.cb_rule.specs.Locking.{Deeds, IsTimed, Locked, Stood, TurnStands}
 use Rattle.cb_rule.specs.Records.{OldOk, SeatOk}
 use Rattle.cb_rule.specs.Rule.{RuleKept}
 use Rattle.cb_rule.specs.Ruled.{Ruled}
@@ -158,6 +158,9 @@ module _ (first : ℕ) (pos : 1 ≤ first) (c : Config) (ws : List ℕ) (wide : 
           (λ his. absurd (true≢false (sym his)));
       turns = one_view (λ u. Each (TurnStands deeds c 0 (λ _. far)) u.turns) tt;
       once = λ k l. absurd (omega (arith, l));
+      ends = λ _. 0;
+      timed = one_view (λ u. Each (IsTimed 0 (λ _. 0)) u.turns) tt;
+      runs = one_view (λ u. u.holds ≡ true → 0 ≤ u.since) (λ his. omega arith);
     }
 
     pub opens : Ruled (Locked deeds) first c start

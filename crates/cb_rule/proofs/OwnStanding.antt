@@ -21,12 +21,14 @@ pub itself : (u w : View) (j : ℕ) → get_elem? (u ∷ []) j ≡ some w → u 
 itself u w zero is = some-injective u w is
 itself u w (suc j) is = absurd (some-ne-none w (sym is))
 
+-- what a view wrote itself was written
+pub wrote_there : (views : List View) (id : ℕ) (u : View) → get_elem? views id ≡ some u
+    → (e : Entry) → WroteItself u e → Wrote views e
+wrote_there views id u at e (w, (j, is), has) =
+    (u, (id, at), subst (λ (z : View). Has e (z.fresh ++ z.written)) (sym (itself u w j is)) has)
+
 module _ (first : ℕ) (views : List View) (stand : EntriesStand first views) (own : AreOwn first views)
     (id : ℕ) (u : View) (at : get_elem? views id ≡ some u) where
-  wrote_there : (e : Entry) → WroteItself u e → Wrote views e
-  wrote_there e (w, (j, is), has) =
-      (u, (id, at), subst (λ (z : View). Has e (z.fresh ++ z.written)) (sym (itself u w j is)) has)
-
   -- a view that wrote an entry has something of the object
   leaves_trace : (e : Entry) (w : View) → Has e (w.fresh ++ w.written) → traces e.handle w ≡ 0 → ⊥
   leaves_trace e w has none =
@@ -55,9 +57,10 @@ module _ (first : ℕ) (views : List View) (stand : EntriesStand first views) (o
       z.3,
       z.4,
     );
-    born = λ e wrote. stand.born e (wrote_there e wrote);
-    same = λ e x a b. stand.same e x (wrote_there e a) (wrote_there x b);
-    goes_on = λ e wrote mine. here e mine (stand.goes_on e (wrote_there e wrote));
+    born = λ e wrote. stand.born e (wrote_there views id u at e wrote);
+    same = λ e x a b.
+        stand.same e x (wrote_there views id u at e a) (wrote_there views id u at x b);
+    goes_on = λ e wrote mine. here e mine (stand.goes_on e (wrote_there views id u at e wrote));
   }
     where
       here : (e : Entry) → Has e.handle u.own → EntryGoesOn first views e

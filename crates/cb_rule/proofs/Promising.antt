@@ -1,5 +1,5 @@
 -- The rule says what stands of the words and the views alone.
-use Rattle.std.proofs.Common.{◌≡◌, ℕ, ◌+◌, ◌*◌, ◌/◌, ◌%◌, ◌<◌, ◌&&◌, ◌≤◌, Bool, true, false, eqb, List, [], ◌++◌, sym, refl, ap, ◌∙◌, subst, inl, inr, ⊎_elim, arith, eq-eqb, eqb-true}
+use Rattle.std.proofs.Common.{◌≡◌, ◌⊎◌, ℕ, ◌+◌, ◌*◌, ◌/◌, ◌%◌, ◌<◌, ◌&&◌, ◌≤◌, Bool, true, false, eqb, List, [], ◌++◌, sym, refl, ap, ◌∙◌, subst, inl, inr, ⊎_elim, arith, eq-eqb, eqb-true}
 use mathlib.Core.Option.{some}
 use lib.ListN.{get_elem?}
 use Rattle.cb_types.specs.declared.config.Config.{Config}
@@ -18,19 +18,21 @@ use Rattle.cb_world.specs.StillDesk.{bits_here, bits_moving}
 use Rattle.cb_rule.specs.declared.turn.Turn.{Turn}
 use Rattle.cb_rule.specs.declared.view.Held.{Held}
 use Rattle.cb_rule.specs.declared.view.Look.{Look}
+use Rattle.cb_rule.specs.declared.view.Stand.{Stand}
 use Rattle.cb_rule.specs.declared.view.View.{View}
 use Rattle.cb_rule.specs.History.{Value, WasNow, holding_words, is_version, newest, top, value_of}
 use Rattle.cb_rule.specs.Lists.{total, Each, Has}
-use Rattle.cb_rule.specs.Promised.{ClaimsStand, EntriesStand, HeldStands, HereStands, Is, IsLast, NamesPlace, PinsStand, WordsStand, Wrote}
-use Rattle.cb_rule.specs.Records.{HeldOk, LookOk, PeekedOk, SeenOk, TellsOk, TurnOk}
+use Rattle.cb_rule.specs.Promised.{ClaimsStand, EntriesStand, HeldStands, HereStands, HolderClaims, Is, IsLast, MovingStands, NamesPlace, PinStands, PinsStand, WordsStand, Wrote}
+use Rattle.cb_rule.specs.Own.{AreOwn}
+use Rattle.cb_rule.specs.Records.{HeldOk, LookOk, PeekedOk, PinOk, SeenOk, TellsOk, TurnOk}
 use Rattle.cb_rule.specs.Rule.{RuleKept}
-use Rattle.cb_rule.specs.Ruled.{Beside, Ruled}
-use Rattle.cb_rule.specs.Seats.{pins_on, claims_on, written_on}
+use Rattle.cb_rule.specs.Ruled.{AreShares, Beside, Ruled}
+use Rattle.cb_rule.specs.Seats.{pins_it, pins_on, claims_on, written_on}
 use Rattle.cb_rule.specs.Slot.{Table}
 use Rattle.cb_rule.specs.Stands.{IsCalm, IsClaimedBySeat, Stands}
 use Rattle.cb_rule.specs.Words.{pointer, words_at}
 use Rattle.cb_rule.proofs.Calm.{lies}
-use Rattle.cb_rule.proofs.Counts.{each_append, times-append}
+use Rattle.cb_rule.proofs.Counts.{each_append, times-append, total-at}
 use Rattle.cb_rule.proofs.Growing.{has_more}
 use Rattle.cb_rule.proofs.Members.{each_has, has_times, times_has, total_some}
 use Rattle.cb_rule.proofs.Owning.{both_true}
@@ -127,7 +129,7 @@ module _ (c : Config) (ws : List ℕ) (views : List View) (known : Shown) (es : 
       all : pins_of (pointer ws h) ≡ total (pins_on h) views
       all = go (object_at known h) (r.stand h l) (r.fit h l)
 
-  claims_stand : (h : ℕ) → h < c.handles → ClaimsStand ws views h
+  pub claims_stand : (h : ℕ) → h < c.handles → ClaimsStand ws views h
   claims_stand h l = go (object_at known h) (r.stand h l)
     where
       none_claims : total (claims_on h) views ≡ 0 → ClaimsStand ws views h
@@ -186,6 +188,25 @@ module _ (c : Config) (ws : List ℕ) (views : List View) (known : Shown) (es : 
             ∙ ap (λ (x : Value). x.words) (sym n.has);
       }
 
+  pin_stands : (u : View) (p : Stand) → Is views u → Has p u.pins → PinStands ws views p
+  pin_stands u p at there = let ok = each_has (PinOk c known es) p u.pins
+      (r.seats at.0 u at.1).pins there in
+      let some_pin = times_has (pins_it p.handle) p u.pins there (eq-eqb p.handle p.handle refl) in
+      let all = total-at (pins_on p.handle) views at.0 u at.1 in
+      let o = lies c ws views known es r p.handle ok.below (inr (omega (arith, some_pin, all))) in
+      let f = subst (λ (z : Object). Fits z (pointer ws p.handle)) ok.there (r.fit p.handle ok.below) in
+      let b = o.born in let from = r.begins in
+      let n = newest_entry es p.handle (omega (arith, b, from)) in record {
+        here = o.calm.state;
+        place = sym f.2;
+        len = sym f.1;
+        last = n.entry;
+        is_last = newest_last p.handle n;
+        handle = n.handle;
+        version = n.version ∙ sym ok.number;
+        words = ap (λ (y : Value). y.words) (n.has ∙ ok.contents);
+      }
+
   held_stands : (u : View) (x : Held) → Is views u → Has x u.claims → HeldStands views x
   held_stands u x at there = let ok = each_has (HeldOk c ws known es) x u.claims
       (r.seats at.0 u at.1).claims there in
@@ -202,6 +223,57 @@ module _ (c : Config) (ws : List ℕ) (views : List View) (known : Shown) (es : 
         len = ap (λ (y : Value). y.len) has;
         words = ap (λ (y : Value). y.words) has;
       }
+
+  -- what the holder has claimed has its last entry
+  holder_claims : (h len place v : ℕ) (words : List ℕ) → h < c.handles
+      → object_at known h ≡ is.Claimed len place v words → HolderClaims views known h
+  holder_claims h len place v words l claimed = let k = subst (λ (o : Object). Stands c known.first ws h
+      (total (pins_on h) views) (total (claims_on h) views) (top es h) (newest es h)
+      (version_at known h) o) claimed (r.stand h l) in
+      let born = k.born in let at = k.kept.at in let b = r.begins in
+      let n = newest_entry es h (omega (arith, born, at, b)) in
+      let has = n.has ∙ k.kept.has in record {
+        len = len;
+        place = place;
+        version = v;
+        words = words;
+        claimed = claimed;
+        last = n.entry;
+        is_last = newest_last h n;
+        handle = n.handle;
+        number = n.version ∙ at;
+        long = ap (λ (y : Value). y.len) has;
+        has = ap (λ (y : Value). y.words) has;
+      }
+
+  pub moving_stands : (h : ℕ) → h < c.handles → MovingStands ws views known h
+  moving_stands h l = record {
+    moves = go (object_at known h) refl (r.stand h l) (r.fit h l);
+    claimed = λ len place v words claimed. (
+      (subst (λ (o : Object). Fits o (pointer ws h)) claimed (r.fit h l)).4,
+      (subst (λ (o : Object). Stands c known.first ws h (total (pins_on h) views)
+          (total (claims_on h) views) (top es h) (newest es h) (version_at known h) o)
+          claimed (r.stand h l)).kept.no_claims,
+      holder_claims h len place v words l claimed,
+    );
+  }
+    where
+      go : (o : Object) → object_at known h ≡ o
+          → Stands c known.first ws h (total (pins_on h) views) (total (claims_on h) views)
+          (top es h) (newest es h) (version_at known h) o
+          → Fits o (pointer ws h) → state_of (pointer ws h) ≡ word.Moving
+          → (total (claims_on h) views ≡ 1) ⊎ HolderClaims views known h
+      go (is.Empty v) q k f moving = absurd (let b = bits_moving (pointer ws h) moving in
+          omega (arith, b, f))
+      go (is.Far len v words) q k f moving = absurd (let b = bits_moving (pointer ws h) moving in
+          let g = f.0 in omega (arith, b, g))
+      go (is.Claimed len place v words) q k f moving = inr (holder_claims h len place v words l q)
+      go (is.Here len place) q k f moving = ⊎_elim
+          (λ (m : IsCalm c ws h (total (pins_on h) views) (total (claims_on h) views) (top es h)
+          (newest es h) len place). absurd (let b = bits_moving (pointer ws h) moving in
+          let g = bits_here (pointer ws h) m.state in omega (arith, b, g)))
+          (λ (m : IsClaimedBySeat ws h (total (pins_on h) views) (total (claims_on h) views)).
+          inl m.one_claim) k.word
 
   -- a claim of a turn tells the length of an entry too
   claimed_in : (h w v since until : ℕ) (words : List ℕ) → known.first ≤ v
@@ -257,13 +329,15 @@ module _ (c : Config) (ws : List ℕ) (views : List View) (known : Shown) (es : 
         ∙ (let t = last_top e last in let one : stands known.first k (top es e.handle) ≡ 1 =
         omega (arith, t, low, high) in one);
     goes_on = λ e a. ⊎_elim
-        (λ (z : (e.version ≡ known.first) × (e.before ≡ [])). inl z)
+        (λ (z : (e.version ≡ known.first) × (e.before ≡ []) × (e.freed ≡ false)). inl z)
         (λ (z : _). inr (z.0, has_wrote z.0 z.1, z.2, z.3, z.4, z.5, z.6))
         (entry_before known.first r.begins e es r.history (wrote_has e a));
   }
 
-  pub words_stand : WordsStand known.first c ws views
-  words_stand = record {
+  words_stand : AreShares c views → AreOwn known.first views → WordsStand known.first c ws views
+  words_stand shares own = record {
+    shares = shares;
+    own = own;
     pins = pins_stand;
     few = λ u at. (r.seats at.0 u at.1).few;
     claims = claims_stand;
@@ -272,7 +346,10 @@ module _ (c : Config) (ws : List ℕ) (views : List View) (known : Shown) (es : 
         (len_of (pointer ws k)) (place_of (pointer ws k)) p (named_lies h lh a) (named_lies k lk b)
         ne ca cb;
     here = here_stands;
+    pinned = pin_stands;
     held = held_stands;
+    moving = λ u at holds h l. subst (λ (s : Shown). MovingStands ws views s h)
+        (sym ((r.seats at.0 u at.1).knows holds)) (moving_stands h l);
     entries = entries_stand;
   }
 
@@ -280,4 +357,5 @@ module _ (c : Config) (ws : List ℕ) (views : List View) (known : Shown) (es : 
 pub promises : (beside : Beside) (first : ℕ) (c : Config) (s : Table) → Ruled beside first c s
     → WordsStand first c s.words s.views
 promises beside first c s r = subst (λ (n : ℕ). WordsStand n c s.words s.views) r.starts
-    (words_stand c s.words s.views r.known r.history r.kept)
+    (words_stand c s.words s.views r.known r.history r.kept r.shares
+    (subst (λ (n : ℕ). AreOwn n s.views) (sym r.starts) r.own))

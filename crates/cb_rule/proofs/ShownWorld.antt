@@ -22,7 +22,7 @@ use Rattle.cb_rule.specs.Seats.{claims_on, holding, pins_on}
 use Rattle.cb_rule.specs.ShownWorld.{ShowsWorld}
 use Rattle.cb_rule.specs.Slot.{Table}
 use Rattle.cb_rule.specs.Stands.{Stands}
-use Rattle.cb_rule.proofs.ClosedWorld.{now_shown, shown_known, value_now}
+use Rattle.cb_rule.proofs.ClosedWorld.{moved_by_one, now_shown, shown_known, value_now}
 use Rattle.cb_rule.proofs.Histories.{begun, entry_within, newest_entry}
 use Rattle.cb_rule.proofs.Members.{each_has}
 use Rattle.cb_rule.proofs.Promising.{has_wrote, last_newest, last_top, wrote_has}
@@ -58,6 +58,7 @@ module _ (deeds : Deeds) (first : ℕ) (c : Config) (s : Table)
     counted = free.stood.counted;
     shown = as_shown c s.words r.known;
     known = shown_known c s.words s.views r.known es k far free.stood;
+    moved = λ h l. moved_by_one c s.words s.views r.known es k far free.stood s.homes h l;
     last = λ e last unclaimed.
         let there = wrote_has c s.words s.views r.known es k e last.0 in
         let low = (entry_within r.known.first k.begins e es k.history there).0 in

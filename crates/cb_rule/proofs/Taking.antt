@@ -15,7 +15,7 @@ use Rattle.cb_world.specs.Shown.{never, object_at, version_at}
 use Rattle.cb_rule.specs.declared.view.View.{View}
 use Rattle.cb_rule.specs.History.{newest, top}
 use Rattle.cb_rule.specs.Lists.{total, Each}
-use Rattle.cb_rule.specs.Locking.{Deeds, Locked, Stood, TurnStands, turns_on}
+use Rattle.cb_rule.specs.Locking.{Deeds, IsTimed, Locked, Stood, TurnStands, turns_on, when_ended}
 use Rattle.cb_rule.specs.LockSteps.{HasTaken, took, took_lock}
 use Rattle.cb_rule.specs.Own.{AreOwn, held_on}
 use Rattle.cb_rule.specs.Rule.{AreSized, RuleKept}
@@ -31,6 +31,7 @@ use Rattle.cb_rule.proofs.Keeping.{seats_stay}
 use Rattle.cb_rule.proofs.Lifting.{same_words, set_same, shares_stay}
 use Rattle.cb_rule.proofs.Newest.{known_below, known_made}
 use Rattle.cb_rule.proofs.Opening.{old_now}
+use Rattle.cb_rule.proofs.Timing.{last_end}
 use Rattle.cb_rule.proofs.Owning.{own_stays}
 
 none_of : (n : ℕ) → (0 < n → ⊥) → n ≡ 0
@@ -106,6 +107,11 @@ module _ (deeds : Deeds) (first : ℕ) (c : Config) (s : Table) (id : ℕ) (me :
     turns = seats_stay (λ _ u. Each (TurnStands deeds c lock.count lock.chain) u.turns) s.views id
         taken (lock.turns id me.0 at) (λ j u ne there. lock.turns j u there);
     once = λ k l. total-same (turns_on k) s.views id me.0 taken at refl ∙ lock.once k l;
+    ends = lock.ends;
+    timed = seats_stay (λ _ u. Each (IsTimed lock.count lock.ends) u.turns) s.views id taken
+        (lock.timed id me.0 at) (λ j u ne there. lock.timed j u there);
+    runs = seats_stay (λ _ u. u.holds ≡ true → when_ended lock.ends lock.count ≤ u.since) s.views id taken
+        (λ _. last_end deeds first c s r) (λ j u ne there. lock.runs j u there);
   }
 
   own_taken : AreOwn first views

@@ -12,26 +12,29 @@ use Rattle.cb_rule.specs.declared.turn.Turn.{Turn}
 use Rattle.cb_rule.specs.declared.view.View.{View}
 use Rattle.cb_rule.specs.History.{Value, WasNow}
 use Rattle.cb_rule.specs.Lists.{Has}
+use Rattle.cb_rule.specs.Locking.{Deeds, Locked}
 use Rattle.cb_rule.specs.OneHistory.{Made}
 use Rattle.cb_rule.specs.Promised.{Wrote}
 use Rattle.cb_rule.specs.Records.{OldOk, TellsOk, TurnOk}
-use Rattle.cb_rule.specs.Ruled.{Beside, Ruled}
+use Rattle.cb_rule.specs.Ruled.{Ruled}
 use Rattle.cb_rule.specs.Slot.{Table}
 use Rattle.cb_rule.specs.Told.{AreTold}
 use Rattle.cb_rule.proofs.Growing.{has_more}
 use Rattle.cb_rule.proofs.Histories.{newest_entry}
 use Rattle.cb_rule.proofs.Members.{each_has}
 use Rattle.cb_rule.proofs.Promising.{has_wrote, wrote_has}
+use Rattle.cb_rule.proofs.Timing.{in_order}
 
-pub are_told : (beside : Beside) (first : ℕ) (c : Config) (s : Table) → Ruled beside first c s
-    → AreTold first c s.views
-are_told beside first c s r = subst (λ (n : ℕ). AreTold n c s.views) r.starts record {
+pub are_told : (deeds : Deeds) (first : ℕ) (c : Config) (s : Table)
+    → Ruled (Locked deeds) first c s → AreTold first c s.views
+are_told deeds first c s r = subst (λ (n : ℕ). AreTold n c s.views) r.starts record {
   history = r.history;
   ordered = r.kept.history;
   written = has_wrote c s.words s.views r.known r.history r.kept;
   whole = wrote_has c s.words s.views r.known r.history r.kept;
   told = λ t m. each_has (TurnOk c r.known.first r.history) t m.0.turns
       (r.kept.seats m.1.0 m.0 m.1.1).lasting.past m.2;
+  order = in_order deeds first c s r;
 }
 
 -- what was the newest at some time was written

@@ -28,7 +28,7 @@ module _ (deeds : Deeds) (first : ℕ) (c : Config) (s : Table)
       (λ (a : (turn_number t ≡ 2 ^ 40) × (lock.count ≡ 2 ^ 40) × (t.gave ≡ t.took)). inr a)
       (turn_stands t m).gave
 
-  not_past : (t : Turn) → Made s.views t → turn_number t ≤ lock.count
+  pub not_past : (t : Turn) → Made s.views t → turn_number t ≤ lock.count
   not_past t m = ⊎_elim (λ (less : turn_number t < lock.count). omega (arith, less))
       (λ (a : (turn_number t ≡ 2 ^ 40) × (lock.count ≡ 2 ^ 40) × (t.gave ≡ t.took)).
       let e = a.0 in let f = a.1 in omega (arith, e, f)) (has_number t m)

@@ -110,7 +110,7 @@ stands = record {
       let top : e.version ≡ 3 = ap (λ (y : Entry). y.version) is in
       let at : k ≡ 3 = omega (arith, top, low, high) in
       (λ i. total (written_on (is i).handle (at i)) (maker ∷ []));
-  goes_on = λ e w. subst (EntryGoesOn 3 (maker ∷ [])) (sym (is_made e w)) (inl (refl, refl));
+  goes_on = λ e w. subst (EntryGoesOn 3 (maker ∷ [])) (sym (is_made e w)) (inl (refl, refl, refl));
 }
 
 abbrev pub here : (v : View) → Is (v ∷ []) v
@@ -210,6 +210,16 @@ a_free_goes_on = inr (
   refl,
   λ kept. absurd (true≢false kept),
 )
+
+-- a make that leaves nothing
+abbrev made_freed : Entry
+made_freed = record made { freed = true }
+
+made_as_freed : EntryGoesOn 3 (record_with (made_freed ∷ []) ∷ []) made_freed → ⊥
+made_as_freed (inl z) = true≢false z.2
+made_as_freed (inr z) = let e : z.0.version ≡ 3 = ap (λ (x : Entry). x.version)
+    (the_one z.0 made_freed (wrote_in (record_with (made_freed ∷ [])) z.0 z.1)) in
+    let n = z.3 in omega (arith, e, n)
 
 goes_on_shorter : EntryGoesOn 3 (record_with (shorter ∷ made ∷ []) ∷ []) shorter → ⊥
 goes_on_shorter (inl z) = let e = z.0 in omega (arith, e)

@@ -1,15 +1,20 @@
 -- Worked examples of what views found and wrote last, and of the words that stand for it: what
 -- meets each definition, and what breaks one part alone.
-use Rattle.std.proofs.Common.{◌≡◌, ℕ, ◌≤◌, true, false, List, [], ◌∷◌, length, get_or, sym, refl, ap, ◌∙◌, subst, inl, inr, true≢false, arith}
+use Rattle.std.proofs.Common.{◌≡◌, ℕ, ◌+◌, ◌≤◌, true, false, List, [], ◌∷◌, length, get_or, sym, refl, ap, ◌∙◌, subst, inl, inr, ⊎_elim, true≢false, arith}
+use Rattle.cb_ptr.specs.Word.{state_number}
 use Rattle.cb_world.specs.declared.shown.Shown.{Shown}
 use Rattle.cb_world.specs.declared.entry.Entry.{Entry}
+use Rattle.cb_world.specs.declared.object.Object.{Object}
+use Rattle.cb_world.specs.declared.object.Object.TheVariants as is
 use Rattle.cb_world.specs.Memory.{window}
+use Rattle.cb_world.specs.Shown.{never}
 use Rattle.cb_rule.specs.declared.turn.Turn.{Turn}
 use Rattle.cb_rule.specs.declared.view.Held.{Held}
+use Rattle.cb_rule.specs.declared.view.Stand.{Stand}
 use Rattle.cb_rule.specs.declared.view.View.{View}
 use Rattle.cb_rule.specs.Lists.{Has}
 use Rattle.cb_rule.specs.Own.{entries_on, held_on, reads_it, writes_it}
-use Rattle.cb_rule.specs.Promised.{FoundBy, HeldStands, HereStands, IsLast, Looked}
+use Rattle.cb_rule.specs.Promised.{FoundBy, HeldStands, HereStands, HolderClaims, IsLast, Looked, MovingStands, PinStands}
 use Rattle.cb_rule.specs.Ruled.{IsAlike}
 use Rattle.cb_rule.specs.Seats.{claims_on, pins_it, share_of}
 use Rattle.cb_rule.specs.Steps.{blank, freed_seen, look_at, nothing, opener, stand}
@@ -155,6 +160,53 @@ unfolding window
 here_other_words h = let e : 8 ≡ 7 = ap (λ (xs : List ℕ). get_or xs 0 0)
     (h.words ∙ ap (λ (x : Entry). x.after) (is_made h.last h.is_last.0)) in omega (arith, e)
 
+-- ---- a pin on it
+abbrev pin : Stand
+pin = stand 1 8 0 3 (7 ∷ [])
+
+abbrev Pinned : ℕ → View → Stand → Type 0
+Pinned w v p = PinStands (0 ∷ 0 ∷ w ∷ []) (v ∷ []) p
+
+pin_stands : Pinned here maker pin
+pin_stands = record {
+  here = refl;
+  place = refl;
+  len = refl;
+  last = made;
+  is_last = is_last;
+  handle = refl;
+  version = refl;
+  words = refl;
+}
+
+pinned_moving : Pinned (here + 1) maker pin → ⊥
+pinned_moving p = let e : 3 ≡ 2 = ap state_number p.here in omega (arith, e)
+
+pinned_elsewhere : Pinned here maker (stand 1 8 1 3 (7 ∷ [])) → ⊥
+pinned_elsewhere p = let e : 1 ≡ 0 = p.place in omega (arith, e)
+
+pinned_shorter : Pinned here maker (stand 1 7 0 3 (7 ∷ [])) → ⊥
+pinned_shorter p = let e : 7 ≡ 8 = p.len in omega (arith, e)
+
+pinned_unwritten : Pinned here (opener pair_of) pin → ⊥
+pinned_unwritten p = wrote_in (opener pair_of) p.last p.is_last.0
+
+-- object 0 has the word, and was never made
+pinned_of_another : PinStands (0 ∷ here ∷ []) (maker ∷ []) (stand 0 8 0 3 (7 ∷ [])) → ⊥
+pinned_of_another p = let e : 1 ≡ 0 =
+    ap (λ (x : Entry). x.handle) (sym (is_made p.last p.is_last.0)) ∙ p.handle in
+    omega (arith, e)
+
+pinned_later : Pinned here maker (stand 1 8 0 4 (7 ∷ [])) → ⊥
+pinned_later p = let e : 3 ≡ 4 =
+    ap (λ (x : Entry). x.version) (sym (is_made p.last p.is_last.0)) ∙ p.version in
+    omega (arith, e)
+
+pinned_other_words : Pinned here maker (stand 1 8 0 3 (8 ∷ [])) → ⊥
+pinned_other_words p = let e : 7 ≡ 8 = ap (λ (xs : List ℕ). get_or xs 0 0)
+    (ap (λ (x : Entry). x.after) (sym (is_made p.last p.is_last.0)) ∙ p.words) in
+    omega (arith, e)
+
 -- ---- a claim of it
 held_stands : HeldStands (maker ∷ []) claim
 held_stands = record {
@@ -188,9 +240,97 @@ held_other_words h = let e : 7 ≡ 8 = ap (λ (xs : List ℕ). get_or xs 0 0)
     (ap (λ (x : Entry). x.after) (sym (is_made h.last h.is_last.0)) ∙ h.words) in
     omega (arith, e)
 
+-- ---- what the holder of the lock has claimed of it
+abbrev claims_it : ℕ → List ℕ → Shown
+claims_it version words = record nothing {
+  objects = never ∷ is.Claimed 8 0 version words ∷ [];
+}
+
+abbrev len_in : Object → ℕ
+len_in (is.Claimed len place version words) = len
+len_in o = 0
+
+abbrev version_in : Object → ℕ
+version_in (is.Claimed len place version words) = version
+version_in o = 0
+
+abbrev words_in : Object → List ℕ
+words_in (is.Claimed len place version words) = words
+words_in o = []
+
+holder_claims : (len place version : ℕ) (words : List ℕ)
+    → is.Claimed 8 0 3 (7 ∷ []) ≡ is.Claimed len place version words
+    → HolderClaims (maker ∷ []) (claims_it 3 (7 ∷ [])) 1
+holder_claims len place version words e = record {
+  len = len;
+  place = place;
+  version = version;
+  words = words;
+  claimed = e;
+  last = made;
+  is_last = is_last;
+  handle = refl;
+  number = ap version_in e;
+  long = ap len_in e;
+  has = ap words_in e;
+}
+
+claims_nothing : HolderClaims (maker ∷ []) nothing 1 → ⊥
+claims_nothing h = let e : 0 ≡ 1 = ap is_claimed h.claimed in omega (arith, e)
+  where
+    is_claimed : Object → ℕ
+    is_claimed (is.Claimed len place version words) = 1
+    is_claimed o = 0
+
+claims_unwritten : HolderClaims (opener pair_of ∷ []) (claims_it 3 (7 ∷ [])) 1 → ⊥
+claims_unwritten h = wrote_in (opener pair_of) h.last h.is_last.0
+
+claims_of_another : HolderClaims (maker ∷ []) record nothing {
+  objects = is.Claimed 8 0 3 (7 ∷ []) ∷ [];
+} 0 → ⊥
+claims_of_another h = let e : 1 ≡ 0 =
+    ap (λ (x : Entry). x.handle) (sym (is_made h.last h.is_last.0)) ∙ h.handle in
+    omega (arith, e)
+
+claims_later : HolderClaims (maker ∷ []) (claims_it 4 (7 ∷ [])) 1 → ⊥
+claims_later h = let e : 3 ≡ 4 =
+    ap (λ (x : Entry). x.version) (sym (is_made h.last h.is_last.0)) ∙ h.number
+    ∙ sym (ap version_in h.claimed) in omega (arith, e)
+
+claims_shorter : HolderClaims (maker ∷ []) record nothing {
+  objects = never ∷ is.Claimed 7 0 3 (7 ∷ []) ∷ [];
+} 1 → ⊥
+claims_shorter h = let e : 8 ≡ 7 =
+    ap (λ (x : Entry). x.len) (sym (is_made h.last h.is_last.0)) ∙ h.long
+    ∙ sym (ap len_in h.claimed) in omega (arith, e)
+
+claims_other_words : HolderClaims (maker ∷ []) (claims_it 3 (8 ∷ [])) 1 → ⊥
+claims_other_words h = let e : 7 ≡ 8 = ap (λ (xs : List ℕ). get_or xs 0 0)
+    (ap (λ (x : Entry). x.after) (sym (is_made h.last h.is_last.0)) ∙ h.has
+    ∙ sym (ap words_in h.claimed)) in omega (arith, e)
+
+-- ---- its word is Moving for one reason
+moving_stands : MovingStands (0 ∷ 0 ∷ (here + 1) ∷ []) (maker ∷ []) (claims_it 3 (7 ∷ [])) 1
+moving_stands = record {
+  moves = λ _. inr (holder_claims 8 0 3 (7 ∷ []) refl);
+  claimed = λ len place version words e. (refl, refl, holder_claims len place version words e);
+}
+
+moving_for_none : MovingStands (0 ∷ 0 ∷ (here + 1) ∷ []) (maker ∷ []) nothing 1 → ⊥
+moving_for_none m = ⊎_elim (λ (one : 0 ≡ 1). omega (arith, one))
+    (λ (h : HolderClaims (maker ∷ []) nothing 1). claims_nothing h) (m.moves refl)
+
+claimed_and_here : MovingStands (0 ∷ 0 ∷ here ∷ []) (maker ∷ []) (claims_it 3 (7 ∷ [])) 1 → ⊥
+claimed_and_here m = let e : 2 ≡ 3 = ap state_number (m.claimed 8 0 3 (7 ∷ []) refl).0 in
+    omega (arith, e)
+
+claimed_by_two : MovingStands (0 ∷ 0 ∷ (here + 1) ∷ [])
+    (record maker { claims = claim ∷ [] } ∷ []) (claims_it 3 (7 ∷ [])) 1 → ⊥
+claimed_by_two m = let e : 1 ≡ 0 = (m.claimed 8 0 3 (7 ∷ []) refl).1 in omega (arith, e)
+
 -- ---- two views with the same lock and turns
 alike : IsAlike maker (record maker { share = 40; written = [] })
-alike = record { holds = refl; start = refl; took = refl; turns = refl }
+alike = record { holds = refl; start = refl; since = refl; took = refl; turns = refl }
 
 unlike_in_the_lock : IsAlike maker holder → ⊥
 unlike_in_the_lock a = true≢false a.holds
@@ -204,3 +344,6 @@ unlike_in_what_it_took a = let e : 1 ≡ 0 = ap (λ f. f.counts.turns) a.took in
 
 unlike_in_turns : IsAlike maker claiming → ⊥
 unlike_in_turns a = let e : 1 ≡ 0 = ap (λ (ts : List Turn). length ts) a.turns in omega (arith, e)
+
+unlike_in_when_it_began : IsAlike maker (record maker { since = 1 }) → ⊥
+unlike_in_when_it_began a = let e : 1 ≡ 0 = a.since in omega (arith, e)

@@ -14,7 +14,7 @@ use Rattle.cb_world.proofs.Laws.{recounted_sound}
 use Rattle.cb_rule.specs.declared.turn.Turn.{Turn}
 use Rattle.cb_rule.specs.declared.view.View.{View}
 use Rattle.cb_rule.specs.Lists.{total, Each}
-use Rattle.cb_rule.specs.Locking.{Deeds, Locked, Stood, TurnStands, turns_on}
+use Rattle.cb_rule.specs.Locking.{Deeds, IsTimed, Locked, Stood, TurnStands, turns_on, when_ended}
 use Rattle.cb_rule.specs.Seats.{holding}
 use Rattle.cb_rule.specs.Slot.{LockSlot, Table}
 use Rattle.cb_rule.specs.Steps.{blank}
@@ -166,6 +166,17 @@ one_view P v ok (suc j) u e = absurd (some-ne-none u (sym e))
 pub below_one : (k : ℕ) → k < 1 → k ≡ 0
 below_one k l = omega (arith, l)
 
+-- a turn that began and ended when the history had no entry
+first_timed : IsTimed 1 (λ _. 0) (turn (far 0) (far 1))
+first_timed = record { began = lit≤ tt; ended = λ _. refl }
+
+-- the one before it ended later than it began; it ended at another time
+began_too_early : IsTimed 2 (λ _. 1) (turn (far 1) (far 2)) → ⊥
+began_too_early t = let e : 1 ≤ 0 = t.began in omega (arith, e)
+
+ended_another_time : IsTimed 1 (λ _. 1) (turn (far 0) (far 1)) → ⊥
+ended_another_time t = let e : 0 ≡ 1 = t.ended (lit< tt) in omega (arith, e)
+
 -- free, after one turn
 pub free : Lock (table 2 (home 1) (seat one_turn))
 free = record {
@@ -183,6 +194,9 @@ free = record {
   turns = one_view (λ u. Each (LockStands 1) u.turns) (seat one_turn) (first_turn, tt);
   once = λ k l. ap (λ (n : ℕ). total (λ u. turns_on n u)
       (seat one_turn ∷ [])) (below_one k l);
+  ends = λ _. 0;
+  timed = one_view (λ u. Each (IsTimed 1 (λ _. 0)) u.turns) (seat one_turn) (first_timed, tt);
+  runs = one_view (λ u. u.holds ≡ true → 0 ≤ u.since) (seat one_turn) (λ e. lit≤ tt);
 }
 
 -- the seat has it, and the far state is in its hand
@@ -205,6 +219,9 @@ held = record {
   turns = one_view (λ u. Each (LockStands 1) u.turns) (holder one_turn) (first_turn, tt);
   once = λ k l. ap (λ (n : ℕ). total (λ u. turns_on n u)
       (holder one_turn ∷ [])) (below_one k l);
+  ends = λ _. 0;
+  timed = one_view (λ u. Each (IsTimed 1 (λ _. 0)) u.turns) (holder one_turn) (first_timed, tt);
+  runs = one_view (λ u. u.holds ≡ true → 0 ≤ u.since) (holder one_turn) (λ e. lit≤ tt);
 }
 
 -- the far state at home has as many turns as the lock's word counts
@@ -298,6 +315,22 @@ took_an_old_one l = let n : 0 ≡ (l.chain l.count).counts.turns =
     (λ (a : (0 < l.count) × (far 1 ≡ l.chain 1)). let k = a.0 in omega (arith, n, r, k))
     (λ (a : (0 ≡ 2 ^ 40) × (l.count ≡ 2 ^ 40) × (far 1 ≡ far 0)).
     let e = a.0 in omega (arith, e)) (l.turns 0 _ refl).0.gave
+
+-- a turn, or that of the holder, that began before the last one ended
+abbrev long_turn : List Turn
+long_turn = record (turn (far 0) (far 1)) { until = 5 } ∷ []
+
+overlapping : Lock (table 4 (home 2) (seat (turn (far 1) (far 2) ∷ long_turn))) → ⊥
+overlapping l = let n = (at_home 2 4 _ refl l).1 in let ts = l.timed 0 _ refl in
+    let e : 5 ≡ l.ends 0 = ts.1.0.ended (omega (arith, n)) in
+    let b : l.ends 0 ≤ 0 = ts.0.began in omega (arith, e, b)
+
+took_too_early : Lock (table 1 none (holder long_turn)) → ⊥
+took_too_early l = let one : 1 ≡ l.count =
+    ap (λ (f : FarState). f.counts.turns) (l.takers 0 _ refl refl) ∙ l.reached in
+    let e : 5 ≡ l.ends 0 = (l.timed 0 _ refl).0.ended (omega (arith, one)) in
+    let b : l.ends 0 ≤ 0 = subst (λ (n : ℕ). when_ended l.ends n ≤ 0) (sym one)
+    (l.runs 0 _ refl refl) in omega (arith, e, b)
 
 -- a table without slots
 no_slot : Lock record { words = 1 ∷ []; homes = []; views = holder one_turn ∷ [] } → ⊥

@@ -23,12 +23,12 @@ kept = record (blank pair_of) {
   looks = look_at 1 65538 ∷ [];
 }
 
-each_of : (u : View) (es : List Entry) → u.fresh ++ u.written ≡ es → (e : Entry) → WroteItself u e
+pub each_of : (u : View) (es : List Entry) → u.fresh ++ u.written ≡ es → (e : Entry) → WroteItself u e
     → Has e es
 each_of u es are e (w, (j, is), has) = subst (Has e) are
     (subst (λ (z : View). Has e (z.fresh ++ z.written)) (sym (itself u w j is)) has)
 
-either_of : (P : Entry → Type 0) → P written → P made → (e : Entry)
+pub either_of : (P : Entry → Type 0) → P written → P made → (e : Entry)
     → Has e (written ∷ made ∷ []) → P e
 either_of P p q e (inl is) = subst P is p
 either_of P p q e (inr (inl is)) = subst P is q
@@ -57,7 +57,7 @@ stands = record {
       (of_both (λ z. 1 ≡ z.handle → 3 ≡ z.version → made ≡ z) (λ h v. absurd (omega (arith, v)))
       (λ h v. refl) x b) e a;
   goes_on = λ e wrote own. of_both (EntryGoesOn 3 (kept ∷ []))
-      (inr (made, wrote_made, refl, refl, refl, refl, λ _. refl)) (inl (refl, refl)) e wrote;
+      (inr (made, wrote_made, refl, refl, refl, refl, λ _. refl)) (inl (refl, refl, refl)) e wrote;
 }
 
 -- it read what it did not write

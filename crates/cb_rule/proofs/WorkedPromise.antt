@@ -1,5 +1,5 @@
 -- Worked words and views: what meets the rule and its promise, and what breaks one part alone.
-use Rattle.std.proofs.Common.{◌≡◌, ℕ, List, [], ◌∷◌, replicate, sym, refl, ap, true≢false, arith}
+use Rattle.std.proofs.Common.{◌≡◌, ℕ, ◌+◌, ◌<◌, List, [], ◌∷◌, replicate, sym, refl, ap, inl, true≢false, arith}
 use Rattle.cb_ptr.specs.Word.{state_number}
 use Rattle.cb_world.specs.declared.object.Object.{Object}
 use Rattle.cb_world.specs.declared.object.Object.TheVariants as is
@@ -21,6 +21,15 @@ use Rattle.cb_rule.proofs.WorkedViews.{pair_of}
 at_start : WordsStand 3 pair_of (replicate 517 0) (opener pair_of ∷ [])
 at_start = promises (Locked quiet) 3 pair_of _
     (opens 3 (omega arith) pair_of (replicate 517 0) refl (same_each 517 0) quiet accepted)
+
+-- a share was lost, or a view has as its own what it did not make
+a_share_lost : WordsStand 3 pair_of (replicate 517 0) (record (opener pair_of) { share = 63 } ∷ [])
+    → ⊥
+a_share_lost w = let e : 63 + 0 ≡ 64 = w.shares.whole in omega (arith, e)
+
+own_unmade : WordsStand 3 pair_of (replicate 517 0)
+    (record (opener pair_of) { own = 1 ∷ [] } ∷ []) → ⊥
+own_unmade w = let e : 0 < 0 = w.own.made 0 _ refl 1 (inl refl) in omega (arith, e)
 
 -- ---- a pin on object 1, which lies at place 0 and was written
 abbrev pub lying : Shown
@@ -77,7 +86,7 @@ pinned_and_cold : PinsStand (0 ∷ 65546 ∷ []) (one_pin ∷ []) 0 → ⊥
 pinned_and_cold p = true≢false (sym (p.warm (omega arith)))
 
 -- ---- a claim of object 0, whose word is Moving, and Here
-abbrev one_claim : View
+abbrev pub one_claim : View
 one_claim = record (blank pair_of) {
   claims = record {
     handle = 0;

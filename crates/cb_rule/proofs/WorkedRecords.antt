@@ -158,7 +158,7 @@ steady = record {
 }
 
 alike : (v : View) → IsAlike v v
-alike v = record { holds = refl; start = refl; took = refl; turns = refl }
+alike v = record { holds = refl; start = refl; since = refl; took = refl; turns = refl }
 
 -- a fact of another word than the lock
 abbrev word_is_zero : Beside

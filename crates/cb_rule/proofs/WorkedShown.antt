@@ -1,6 +1,6 @@
 -- Worked examples of the world that a table shows: what meets the definition, and what breaks one
 -- part alone.
-use Rattle.std.proofs.Common.{◌≡◌, ℕ, ◌<◌, ◌++◌, true, false, Bool, List, [], ◌∷◌, Some, length, replicate, subst, sym, refl, ap, ◌∙◌, inl, ⊎_elim, true≢false, lit<, arith}
+use Rattle.std.proofs.Common.{◌≡◌, ℕ, ◌<◌, ◌++◌, true, false, Bool, List, [], ◌∷◌, Some, length, replicate, subst, sym, refl, ap, ◌∙◌, inl, ⊎_elim, true≢false, lit<, lit≤, arith}
 use mathlib.Core.Option.{Option as Maybe, some, none, some-injective, some-ne-none}
 use Rattle.cb_ptr.specs.declared.word.State.TheVariants as word
 use Rattle.cb_ptr.specs.Word.{state_number, state_of}
@@ -11,6 +11,7 @@ use Rattle.cb_world.specs.Empty.{empty_far}
 use Rattle.cb_world.specs.FarState.{FarState}
 use Rattle.cb_world.specs.Now.{Now}
 use Rattle.cb_world.specs.Now.Now.{freed as ended}
+use Rattle.cb_world.specs.OpenWrites.{IsLeavingNow}
 use Rattle.cb_world.specs.Plain.{stamp_at, word_at}
 use Rattle.cb_world.specs.Shown.{Fits, object_at}
 use Rattle.cb_world.specs.StillDesk.{window_length}
@@ -19,7 +20,7 @@ use Rattle.cb_rule.specs.declared.view.View.{View}
 use Rattle.cb_rule.specs.Closing.{desk_of}
 use Rattle.cb_rule.specs.Lists.{Has}
 use Rattle.cb_rule.specs.Promised.{Wrote}
-use Rattle.cb_rule.specs.ShownWorld.{ShowsWorld}
+use Rattle.cb_rule.specs.ShownWorld.{IsMovedByOne, ShowsWorld}
 use Rattle.cb_rule.specs.Slot.{LockSlot, Table}
 use Rattle.cb_rule.specs.Steps.{opener}
 use Rattle.cb_rule.proofs.Opening.{opens, same_each}
@@ -27,6 +28,7 @@ use Rattle.cb_rule.proofs.ShownWorld.{world_shown}
 use Rattle.cb_rule.proofs.WorkedClosing.{far_in, here, is_held, is_made, maker, not_held}
 use Rattle.cb_rule.proofs.WorkedHistory.{made}
 use Rattle.cb_rule.proofs.WorkedLocking.{accepted, one_view, quiet}
+use Rattle.cb_rule.proofs.WorkedPromise.{one_claim}
 use Rattle.cb_rule.proofs.WorkedViews.{pair_of}
 
 abbrev zeros : List ℕ
@@ -82,6 +84,32 @@ not_known : ShowsWorld pair_of (table no_word (home empty) (opener pair_of)) emp
 not_known x = fits_none (object_at x.shown 0)
     (subst (Fits (object_at x.shown 0)) (window_at no_word 1 2 0 (lit< tt))
     (x.known.shows.fit 0 (subst (λ (n : ℕ). 0 < n) (sym (window_length no_word 1 2)) (lit< tt))))
+
+-- ---- the word of object 0 is Moving: a view claims it
+abbrev Moved : ℕ → View → FarState → Type 0
+Moved w v f = IsMovedByOne (table (0 ∷ w ∷ []) (home f) v) f 0
+
+moved_well : Moved 65539 one_claim empty
+moved_well = record {
+  moves = λ _. inl refl;
+  claimed = λ _. refl;
+  leaves = λ leaving. absurd (let e = leaving.1 in cc);
+}
+
+moved_for_none : Moved 65539 (opener pair_of) empty → ⊥
+moved_for_none m = ⊎_elim (λ (one : 0 ≡ 1). omega (arith, one))
+    (λ (leaving : IsLeavingNow empty 0). absurd (let e = leaving.1 in cc)) (m.moves refl)
+
+claimed_and_here : Moved 65538 one_claim empty → ⊥
+claimed_and_here m = let e : 2 ≡ 3 = ap state_number (m.claimed (lit≤ tt)) in omega (arith, e)
+
+-- it is leaving too, or leaving and not Moving
+claimed_and_leaving : (f : FarState) → IsLeavingNow f 0 → Moved 65539 one_claim f → ⊥
+claimed_and_leaving f leaving m = let e : 1 ≡ 0 = (m.leaves leaving).1 in omega (arith, e)
+
+leaving_and_here : (f : FarState) → IsLeavingNow f 0 → Moved 65538 (opener pair_of) f → ⊥
+leaving_and_here f leaving m = let e : 2 ≡ 3 = ap state_number (m.leaves leaving).0 in
+    omega (arith, e)
 
 -- ---- an object with an entry whose word is Empty
 without_its_object : ShowsWorld pair_of (table zeros (home empty) maker) empty → ⊥

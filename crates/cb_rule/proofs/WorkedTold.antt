@@ -1,18 +1,23 @@
 -- Worked examples of what turns were told: what meets the definition, and what breaks one part.
-use Rattle.std.proofs.Common.{◌≡◌, ℕ, zero, suc, ◌<◌, List, [], ◌∷◌, ◌++◌, None, get_or, sym, refl, ap, inl, inr, ⊎_elim, lit≤, arith}
-use Rattle.cb_types.specs.declared.job.Job.TheVariants.{Evict}
+use Rattle.std.proofs.Common.{◌≡◌, ℕ, zero, suc, ◌<◌, ◌≤◌, false, List, [], ◌∷◌, ◌++◌, Option, None, Some, get_or, sym, refl, ap, inl, inr, ⊎_elim, lit<, lit≤, arith}
+use Rattle.cb_types.specs.declared.job.Job.{Job}
+use Rattle.cb_types.specs.declared.job.Job.TheVariants.{Evict, Read}
+use Rattle.cb_types.specs.declared.reply.Reply.{Reply}
+use Rattle.cb_types.specs.declared.reply.Reply.TheVariants.{Bytes}
 use Rattle.cb_world.specs.declared.entry.Entry.{Entry}
 use Rattle.cb_world.specs.declared.event.Event.{Event}
 use Rattle.cb_world.specs.declared.event.Event.TheVariants.{Claimed}
 use Rattle.cb_world.specs.declared.object.Object.TheVariants as is
+use Rattle.cb_world.specs.Memory.{bytes_in}
 use Rattle.cb_world.specs.Shown.{object_at}
 use Rattle.cb_world.specs.Written.{entry}
 use Rattle.cb_rule.specs.declared.turn.Turn.{Turn}
 use Rattle.cb_rule.specs.declared.view.View.{View}
 use Rattle.cb_rule.specs.Lists.{Each, Has}
+use Rattle.cb_rule.specs.Locking.{turn_number}
 use Rattle.cb_rule.specs.OneHistory.{Made}
 use Rattle.cb_rule.specs.Promised.{Wrote}
-use Rattle.cb_rule.specs.Records.{OldOk, TurnOk}
+use Rattle.cb_rule.specs.Records.{OldOk, ReadOk, TurnOk}
 use Rattle.cb_rule.specs.Steps.{blank}
 use Rattle.cb_rule.specs.Told.{AreTold}
 use Rattle.cb_rule.proofs.Histories.{entry_before, same_entry}
@@ -36,6 +41,18 @@ turn e = record {
   gave = far 1;
 }
 
+abbrev pub handle_in : Job → ℕ
+handle_in (Read handle) = handle.n
+handle_in job = 0
+
+abbrev pub version_in : Option Reply → ℕ
+version_in (Some (Bytes version bytes)) = version
+version_in reply = 0
+
+abbrev pub bytes_of : Option Reply → List ℕ
+bytes_of (Some (Bytes version bytes)) = bytes
+bytes_of reply = []
+
 abbrev good : Turn
 good = turn (Claimed 1 here 4 (9 ∷ []))
 
@@ -50,6 +67,9 @@ wrote es t e there = (seat es t, (0, refl), there)
 
 good_ok : TurnOk pair_of 3 some_entries good
 good_ok = record {
+  lasted = lit≤ tt;
+  reached = lit≤ tt;
+  read = λ handle version bytes asked told. absurd (cc);
   told = (
     (
       lit≤ tt,
@@ -83,11 +103,59 @@ told = record {
   told = λ t m. each_has (TurnOk pair_of 3 some_entries) t m.0.turns
       (one_view (λ u. Each (TurnOk pair_of 3 some_entries) u.turns) (seat some_entries good)
       (good_ok, tt) m.1.0 m.0 m.1.1) m.2;
+  order = λ t u mt mu less.
+      absurd (let a = number_is t mt in let b = number_is u mu in omega (arith, a, b, less));
 }
   where
+    number_is : (t : Turn) → Made (seat some_entries good ∷ []) t → turn_number t ≡ 0
+    number_is t m = each_has (λ x. turn_number x ≡ 0) t m.0.turns
+        (one_view (λ u. Each (λ x. turn_number x ≡ 0) u.turns) (seat some_entries good)
+        (refl, tt) m.1.0 m.0 m.1.1) m.2
+
     each_has_of : (e : Entry) → Wrote (seat some_entries good ∷ []) e → Has e some_entries
     each_has_of e w = one_view (λ u. Has e (u.fresh ++ u.written) → Has e some_entries)
         (seat some_entries good) (λ has. has) w.1.0 w.0 w.1.1 w.2
+
+-- it ended before it began, or when the history had more entries than it ever had
+ended_too_early : TurnOk pair_of 3 some_entries record good { since = 4 } → ⊥
+ended_too_early t = let e = t.lasted in omega (arith, e)
+
+ended_too_late : TurnOk pair_of 3 some_entries record good { until = 4 } → ⊥
+ended_too_late t = let e = t.reached in omega (arith, e)
+
+-- a job Read that told a version which no entry has
+abbrev reader : ℕ → Turn
+reader version = record good {
+  job = Read (record { n = 1 });
+  reply = Some (Bytes version (bytes_in (9 ∷ []) 8));
+}
+
+read_well : ReadOk some_entries (reader 4).job (reader 4).reply
+read_well handle version bytes asked told = (
+  written,
+  inl refl,
+  ap handle_in asked,
+  ap version_in told,
+  refl,
+  sym (ap bytes_of told),
+)
+
+read_unwritten : TurnOk pair_of 3 some_entries (reader 6) → ⊥
+read_unwritten t = let z = t.read (record { n = 1 }) 6 (bytes_in (9 ∷ []) 8) refl refl in
+    let low = each_has (λ (e : Entry). e.version ≤ 4) z.0 some_entries
+    (lit≤ tt, (lit≤ tt, (lit≤ tt, tt))) z.1 in let v = z.3 in omega (arith, low, v)
+
+-- a turn of the next number that began before this one ended
+abbrev overlapping : View
+overlapping = record (blank pair_of) {
+  written = some_entries;
+  turns = record good { took = far 1; gave = far 2 } ∷ good ∷ [];
+}
+
+began_too_early : AreTold 3 pair_of (overlapping ∷ []) → ⊥
+began_too_early k = let e : 3 ≤ 2 = k.order good record good { took = far 1; gave = far 2 }
+    (overlapping, (0, refl), inr (inl refl)) (overlapping, (0, refl), inl refl) (lit< tt) in
+    omega (arith, e)
 
 -- a claim that told of a version below the first
 abbrev too_low : Turn
@@ -105,7 +173,7 @@ lone e w = one_view (λ u. Has e (u.fresh ++ u.written) → e ≡ written) (seat
 
 without_the_first : Told (written ∷ []) good → ⊥
 without_the_first k = ⊎_elim
-    (λ (z : (4 ≡ 3) × (7 ∷ [] ≡ [])). let e = z.0 in omega (arith, e))
+    (λ (z : (4 ≡ 3) × (7 ∷ [] ≡ []) × (false ≡ false)). let e = z.0 in omega (arith, e))
     (λ (z : _). let n : z.0.version ≡ 4 =
     ap (λ (x : Entry). x.version) (lone z.0 (k.written z.0 z.1)) in
     let m = z.3 in omega (arith, n, m))

@@ -3,13 +3,15 @@
 use Rattle.std.proofs.Common.{◌≡◌, ℕ, zero, suc, ◌+◌, ◌^◌, ◌<◌, ◌≤◌, false, List, [], ◌∷◌, length, Some, None, sym, refl, ap, inl, inr, ⊎_elim, lit<, lit≤, arith, true≢false}
 use mathlib.Core.Option.{none}
 use Rattle.atomic_table.specs.Table.{Step, step}
-use Rattle.cb_types.specs.declared.job.Job.TheVariants.{Evict}
+use Rattle.cb_types.specs.declared.job.Job.TheVariants.{Evict, Read}
+use Rattle.cb_types.specs.declared.reply.Reply.TheVariants.{Bytes}
 use Rattle.cb_world.specs.declared.entry.Entry.{Entry}
 use Rattle.cb_world.specs.declared.event.Event.TheVariants.{Looked}
 use Rattle.cb_world.specs.declared.object.Object.TheVariants as is
 use Rattle.cb_world.specs.declared.shown.Shown.{Shown}
 use Rattle.cb_world.specs.Empty.{empty_far}
 use Rattle.cb_world.specs.FarState.{FarState}
+use Rattle.cb_world.specs.Memory.{bytes_in}
 use Rattle.cb_world.specs.Shown.{never}
 use Rattle.cb_world.specs.Written.{entry}
 use Rattle.cb_rule.specs.declared.turn.Turn.{Turn}
@@ -17,13 +19,14 @@ use Rattle.cb_rule.specs.declared.view.Seen.{Seen}
 use Rattle.cb_rule.specs.declared.view.View.{View}
 use Rattle.cb_rule.specs.Lists.{total, Each, Has}
 use Rattle.cb_rule.specs.Locking.{Stood, turn_number, turns_on}
-use Rattle.cb_rule.specs.LockSteps.{AddsTurn, HasGiven, HasTaken, IsFoundFreed, MayGive, gave_lock, took, took_lock}
+use Rattle.cb_rule.specs.LockSteps.{AddsTurn, HasGiven, HasTaken, IsFoundFreed, MayGive, ReadsTold, gave_lock, took, took_lock}
 use Rattle.cb_rule.specs.OneHistory.{HasTurnNumber, IsOneHistory, Made, TurnsStand}
 use Rattle.cb_rule.specs.Slot.{LockSlot, Sat}
 use Rattle.cb_rule.specs.Steps.{Knows, freed_seen, version_seen}
 use Rattle.cb_rule.proofs.Members.{each_has}
 use Rattle.cb_rule.proofs.WorkedHistory.{made}
 use Rattle.cb_rule.proofs.WorkedLocking.{far, from_four, home, no_frames, one_turn, one_view, quiet, seat, seen, stood, table, turn}
+use Rattle.cb_rule.proofs.WorkedTold.{bytes_of, handle_in, version_in}
 use Rattle.cb_rule.proofs.WorkedViews.{pair_of}
 
 -- ---- the lock is taken after one turn
@@ -161,6 +164,7 @@ may_give = record {
   stood = stood 2 (lit≤ tt);
   adds = inl (lit< tt, refl);
   did = λ n. refl;
+  reads = λ handle version bytes asked told. absurd (cc);
   found = tt;
   makes = (lit< tt, tt);
 }
@@ -213,6 +217,25 @@ found = record {
 not_known : IsFoundFreed record finder { seen = [] } (freed_seen 1 5) → ⊥
 not_known f = ⊎_elim (λ (k : (e : _) × Has e [] × (e.handle ≡ f.handle)). k.1)
     (λ (k : (s : Seen) × Has s [] × (s.handle ≡ f.handle)). k.1) f.knows
+
+-- ---- a job Read tells what the record has as read, and nothing else
+abbrev reads_at : ℕ → List ℕ → View → Type 0
+reads_at version bytes v =
+    ReadsTold (Read (record { n = 1 })) (Some (Bytes version bytes)) v
+
+told_as_read : reads_at 4 (bytes_in (9 ∷ []) 8) finder
+told_as_read handle version bytes asked told = (
+  version_seen 1 4 8 (9 ∷ []),
+  inl refl,
+  ap handle_in asked,
+  ap version_in told,
+  refl,
+  sym (ap bytes_of told),
+)
+
+told_unread : MayGive quiet pair_of (Read (record { n = 1 })) (Some (Bytes 4 [])) (far 2) [] []
+    record at_work { fresh = [] } → ⊥
+told_unread m = (m.reads (record { n = 1 }) 4 [] refl refl).1
 
 -- ---- two turns are one history
 abbrev two_turns : List Turn

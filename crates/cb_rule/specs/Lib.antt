@@ -13,6 +13,7 @@ pub mod Locking
 pub mod LockSteps
 pub mod Promised
 pub mod OwnStands
+pub mod RecordStands
 pub mod OneHistory
 pub mod Told
 pub mod AsShown

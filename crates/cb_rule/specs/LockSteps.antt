@@ -2,18 +2,22 @@
 use Rattle.std.specs.Prelude.{◌≡◌, ◌≢◌, ◌⊎◌, ℕ, ◌+◌, ◌*◌, ◌^◌, ◌<◌, true, false, List, [], ◌∷◌, ◌++◌, Option, Some}
 use Rattle.atomic_table.specs.Table.{Step}
 use Rattle.cb_types.specs.declared.config.Config.{Config}
+use Rattle.cb_types.specs.declared.handle.Handle.{Handle}
 use Rattle.cb_types.specs.declared.job.Job.{Job}
+use Rattle.cb_types.specs.declared.job.Job.TheVariants.{Read}
 use Rattle.cb_types.specs.declared.reply.Reply.{Reply}
+use Rattle.cb_types.specs.declared.reply.Reply.TheVariants.{Bytes}
 use Rattle.cb_world.specs.declared.entry.Entry.{Entry}
 use Rattle.cb_world.specs.declared.object.Object.TheVariants as is
 use Rattle.cb_world.specs.declared.shown.Shown.{Shown}
 use Rattle.cb_world.specs.Empty.{empty_far}
 use Rattle.cb_world.specs.FarState.{FarState}
+use Rattle.cb_world.specs.Memory.{bytes_in}
 use Rattle.cb_world.specs.Shown.{object_at}
 use Rattle.cb_rule.specs.declared.turn.Turn.{Turn}
 use Rattle.cb_rule.specs.declared.view.Seen.{Seen}
 use Rattle.cb_rule.specs.declared.view.View.{View}
-use Rattle.cb_rule.specs.Lists.{Each}
+use Rattle.cb_rule.specs.Lists.{Each, Has}
 use Rattle.cb_rule.specs.Locking.{Deeds, Stood}
 use Rattle.cb_rule.specs.Own.{Make}
 use Rattle.cb_rule.specs.Rule.{AreSized}
@@ -93,14 +97,21 @@ abbrev pub AddsTurn : FarState → FarState → Type 0
 AddsTurn far new = ((far.counts.turns < 2 ^ 40) × (new.counts.turns ≡ far.counts.turns + 1))
     ⊎ ((far.counts.turns ≡ 2 ^ 40) × (new ≡ far))
 
+-- the bytes that a job Read is answered are those of an entry that the record has as read
+abbrev pub ReadsTold : Job → Option Reply → View → Type 0
+ReadsTold job reply v = (handle : Handle) (version : ℕ) (bytes : List ℕ) → job ≡ Read handle
+    → reply ≡ Some (Bytes version bytes) → (s : Seen) × Has s v.seen × (s.handle ≡ handle.n)
+    × (s.version ≡ version) × (s.freed ≡ false) × (bytes ≡ bytes_in s.words s.len)
+
 -- The holder may give the lock back with this far state: what it knows is sound for it, and the turn
--- did what its job says, and made what is said to be its own.
+-- did what its job says, told what was read, and made what is said to be its own.
 pub record MayGive (deeds : Deeds) (c : Config) (job : Job) (reply : Option Reply) (far : FarState)
     (freed : List Seen) (made : List ℕ) (v : View) : Type 0 where
   pub holds : v.holds ≡ true
   pub stood : Stood c v.known far
   pub adds : AddsTurn v.took far
   pub did : (n : ℕ) → deeds c (turn_of job reply far n v)
+  pub reads : ReadsTold job reply v
   pub found : Each (IsFoundFreed v) freed
   pub makes : Each (λ h. Make v.known.first h v.fresh) made
 

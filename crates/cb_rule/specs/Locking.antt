@@ -1,5 +1,5 @@
 -- The far lock, the far state in its slot, and the one history of all turns.
-use Rattle.std.specs.Prelude.{◌≡◌, ◌⊎◌, ℕ, ◌+◌, ◌*◌, ◌^◌, ◌<◌, ◌≤◌, Bool, true, eqb, Some, length, slice_index}
+use Rattle.std.specs.Prelude.{◌≡◌, ◌⊎◌, ℕ, zero, suc, ◌+◌, ◌*◌, ◌^◌, ◌<◌, ◌≤◌, Bool, true, eqb, Some, length, slice_index}
 use mathlib.Core.Option.{some}
 use lib.ListN.{get_elem?}
 use Rattle.cb_types.specs.declared.config.Config.{Config}
@@ -46,6 +46,17 @@ pub record TurnStands (deeds : Deeds) (c : Config) (count : ℕ) (chain : ℕ �
       ⊎ ((turn_number t ≡ 2 ^ 40) × (count ≡ 2 ^ 40) × (t.gave ≡ t.took))
   pub did : deeds c t
 
+-- how many entries the history had when so many turns had ended, by how many it had at the end of
+-- the turn of each number
+abbrev pub when_ended : (ℕ → ℕ) → ℕ → ℕ
+when_ended ends zero = 0
+when_ended ends (suc n) = ends n
+
+-- The turn began when the one before it had ended, and ended as is said of its number.
+pub record IsTimed (count : ℕ) (ends : ℕ → ℕ) (t : Turn) : Type 0 where
+  pub began : when_ended ends (turn_number t) ≤ t.since
+  pub ended : turn_number t < count → t.until ≡ ends (turn_number t)
+
 -- No seat holds the lock: its word is twice the count of turns, the far state is in its slot, and
 -- what would be known if it were taken now is sound for it.
 pub record IsUnlocked (c : Config) (s : Table) (known : Shown) (count : ℕ) (far : FarState)
@@ -74,3 +85,8 @@ pub record Locked (deeds : Deeds) (c : Config) (s : Table) (known : Shown) : Typ
       → Each (TurnStands deeds c count chain) u.turns
   -- each counted turn stands in one view, once
   pub once : (k : ℕ) → k < count → total (turns_on k) s.views ≡ 1
+  -- a turn had ended when the next one began, and all had when that of the holder began
+  pub ends : ℕ → ℕ
+  pub timed : (j : ℕ) (u : View) → get_elem? s.views j ≡ some u → Each (IsTimed count ends) u.turns
+  pub runs : (j : ℕ) (u : View) → get_elem? s.views j ≡ some u → u.holds ≡ true
+      → when_ended ends count ≤ u.since

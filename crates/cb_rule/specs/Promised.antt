@@ -8,15 +8,20 @@ use Rattle.cb_ptr.specs.Word.{state_of, hot_of, pins_of, len_of, place_of}
 use Rattle.cb_world.specs.declared.entry.Entry.{Entry}
 use Rattle.cb_world.specs.declared.event.Event.{Event}
 use Rattle.cb_world.specs.Looks.{IsLook}
-use Rattle.cb_world.specs.Shown.{Covers}
+use Rattle.cb_world.specs.declared.object.Object.TheVariants as is
+use Rattle.cb_world.specs.declared.shown.Shown.{Shown}
+use Rattle.cb_world.specs.Shown.{Covers, object_at}
 use Rattle.cb_rule.specs.declared.turn.Turn.{Turn}
 use Rattle.cb_rule.specs.declared.view.Held.{Held}
 use Rattle.cb_rule.specs.declared.view.Look.{Look}
 use Rattle.cb_rule.specs.declared.view.Peeked.{Peeked}
 use Rattle.cb_rule.specs.declared.view.Seen.{Seen}
+use Rattle.cb_rule.specs.declared.view.Stand.{Stand}
 use Rattle.cb_rule.specs.declared.view.View.{View}
 use Rattle.cb_rule.specs.Lists.{total, Has}
+use Rattle.cb_rule.specs.Own.{AreOwn}
 use Rattle.cb_rule.specs.Records.{IsPeekedOf, seen_of}
+use Rattle.cb_rule.specs.Ruled.{AreShares}
 use Rattle.cb_rule.specs.Seats.{pins_on, claims_on, written_on}
 use Rattle.cb_rule.specs.Words.{pointer, stamp, words_at}
 
@@ -74,6 +79,18 @@ pub record HereStands (c : Config) (ws : List ℕ) (views : List View) (h : ℕ)
   pub version : stamp c ws h ≡ last.version
   pub words : words_at c ws (place_of (pointer ws h)) (len_of (pointer ws h)) ≡ last.after
 
+-- A pin is of an object that is Here, at the place and with the length of its word, and it has the
+-- object's last entry.
+pub record PinStands (ws : List ℕ) (views : List View) (p : Stand) : Type 0 where
+  pub here : state_of (pointer ws p.handle) ≡ word.Here
+  pub place : p.place ≡ place_of (pointer ws p.handle)
+  pub len : p.len ≡ len_of (pointer ws p.handle)
+  pub last : Entry
+  pub is_last : IsLast views last
+  pub handle : last.handle ≡ p.handle
+  pub version : last.version ≡ p.version
+  pub words : last.after ≡ p.words
+
 -- The record of a claim has its last entry.
 pub record HeldStands (views : List View) (x : Held) : Type 0 where
   pub last : Entry
@@ -83,10 +100,35 @@ pub record HeldStands (views : List View) (x : Held) : Type 0 where
   pub len : last.len ≡ x.len
   pub words : last.after ≡ x.old
 
+-- What the holder of the lock knows of an object that it has claimed, in its turn or in a batch: its
+-- last entry.
+pub record HolderClaims (views : List View) (known : Shown) (h : ℕ) : Type 0 where
+  pub len : ℕ
+  pub place : ℕ
+  pub version : ℕ
+  pub words : List ℕ
+  pub claimed : object_at known h ≡ is.Claimed len place version words
+  pub last : Entry
+  pub is_last : IsLast views last
+  pub handle : last.handle ≡ h
+  pub number : last.version ≡ version
+  pub long : last.len ≡ len
+  pub has : last.after ≡ words
+
+-- By what the holder knows, a word is Moving exactly where a view claims the object or the holder
+-- has it claimed, and one of these alone does.
+pub record MovingStands (ws : List ℕ) (views : List View) (known : Shown) (h : ℕ) : Type 0 where
+  pub moves : state_of (pointer ws h) ≡ word.Moving
+      → (total (claims_on h) views ≡ 1) ⊎ HolderClaims views known h
+  pub claimed : (len place version : ℕ) (words : List ℕ)
+      → object_at known h ≡ is.Claimed len place version words
+      → (state_of (pointer ws h) ≡ word.Moving) × (total (claims_on h) views ≡ 0)
+      × HolderClaims views known h
+
 -- An entry that was written goes on from the one before it, whose length it has unless it is the
--- freed one, and a make from none.
+-- freed one. A make goes on from none, and is not the freed one.
 abbrev pub EntryGoesOn : ℕ → List View → Entry → Type 0
-EntryGoesOn first views e = ((e.version ≡ first) × (e.before ≡ []))
+EntryGoesOn first views e = ((e.version ≡ first) × (e.before ≡ []) × (e.freed ≡ false))
     ⊎ ((x : Entry) × Wrote views x × (x.handle ≡ e.handle) × (x.version + 1 ≡ e.version)
     × (x.after ≡ e.before) × (x.freed ≡ false) × (e.freed ≡ false → e.len ≡ x.len))
 
@@ -108,7 +150,11 @@ pub record EntriesStand (first : ℕ) (views : List View) : Type 0 where
       → total (written_on e.handle k) views ≡ 1
   pub goes_on : (e : Entry) → Wrote views e → EntryGoesOn first views e
 
+-- The words, the pins and claims of all views, and their entries. The shares of all views sum to 64,
+-- and what a view made as its own no other one knows.
 pub record WordsStand (first : ℕ) (c : Config) (ws : List ℕ) (views : List View) : Type 0 where
+  pub shares : AreShares c views
+  pub own : AreOwn first views
   pub pins : (h : ℕ) → h < c.handles → PinsStand ws views h
   pub few : (u : View) → Is views u → length u.pins ≤ 17
   pub claims : (h : ℕ) → h < c.handles → ClaimsStand ws views h
@@ -119,5 +165,8 @@ pub record WordsStand (first : ℕ) (c : Config) (ws : List ℕ) (views : List V
       → Covers (place_of (pointer ws k)) (len_of (pointer ws k)) p → ⊥
   pub here : (h : ℕ) → h < c.handles → state_of (pointer ws h) ≡ word.Here
       → HereStands c ws views h
+  pub pinned : (u : View) (p : Stand) → Is views u → Has p u.pins → PinStands ws views p
   pub held : (u : View) (x : Held) → Is views u → Has x u.claims → HeldStands views x
+  pub moving : (u : View) → Is views u → u.holds ≡ true → (h : ℕ) → h < c.handles
+      → MovingStands ws views u.known h
   pub entries : EntriesStand first views

@@ -1,6 +1,11 @@
 -- What a view says is true: of its pins and claims now, of its entries and its turns for good.
-use Rattle.std.specs.Prelude.{◌≡◌, ◌≢◌, ℕ, ◌+◌, ◌≤◌, ◌<◌, true, false, List, length, slice_index}
+use Rattle.std.specs.Prelude.{◌≡◌, ◌≢◌, ℕ, ◌+◌, ◌≤◌, ◌<◌, true, false, List, length, Option, Some, slice_index}
 use Rattle.cb_types.specs.declared.config.Config.{Config}
+use Rattle.cb_types.specs.declared.handle.Handle.{Handle}
+use Rattle.cb_types.specs.declared.job.Job.{Job}
+use Rattle.cb_types.specs.declared.job.Job.TheVariants.{Read}
+use Rattle.cb_types.specs.declared.reply.Reply.{Reply}
+use Rattle.cb_types.specs.declared.reply.Reply.TheVariants.{Bytes}
 use Rattle.cb_ptr.specs.declared.word.State.TheVariants as word
 use Rattle.cb_ptr.specs.Word.{len_of, state_of}
 use Rattle.cb_world.specs.declared.entry.Entry.{Entry}
@@ -9,7 +14,7 @@ use Rattle.cb_world.specs.declared.event.Event.TheVariants.{Claimed, Looked}
 use Rattle.cb_world.specs.declared.object.Object.{Object}
 use Rattle.cb_world.specs.declared.object.Object.TheVariants as is
 use Rattle.cb_world.specs.declared.shown.Shown.{Shown}
-use Rattle.cb_world.specs.Memory.{words_for}
+use Rattle.cb_world.specs.Memory.{bytes_in, words_for}
 use Rattle.cb_world.specs.Shown.{object_at}
 use Rattle.cb_rule.specs.declared.turn.Turn.{Turn}
 use Rattle.cb_rule.specs.declared.view.Held.{Held}
@@ -88,8 +93,17 @@ OldOk first es since h (is.Here len place) = Unit {0}
 OldOk first es since h (is.Claimed len place v words) =
     (first ≤ v) × WasNow es since since h v (holding_words len words)
 
--- a turn that ended
+-- the bytes that a job Read told are those of an entry of its object, at the version that it told
+abbrev pub ReadOk : List Entry → Job → Option Reply → Type 0
+ReadOk es job reply = (handle : Handle) (version : ℕ) (bytes : List ℕ) → job ≡ Read handle
+    → reply ≡ Some (Bytes version bytes) → (e : Entry) × Has e es × (e.handle ≡ handle.n)
+    × (e.version ≡ version) × (e.freed ≡ false) × (bytes ≡ bytes_in e.after e.len)
+
+-- a turn that ended, in this history
 pub record TurnOk (c : Config) (first : ℕ) (es : List Entry) (t : Turn) : Type 0 where
+  pub lasted : t.since ≤ t.until
+  pub reached : t.until ≤ length es
+  pub read : ReadOk es t.job t.reply
   pub told : Each (TellsOk first es t.since t.until) t.acts
   pub began : (h : ℕ) → h < c.handles → OldOk first es t.since h (object_at t.start h)
 

@@ -27,6 +27,7 @@ Beside = Config → Table → Shown → Type 0
 pub record IsAlike (v w : View) : Type 0 where
   pub holds : w.holds ≡ v.holds
   pub start : w.start ≡ v.start
+  pub since : w.since ≡ v.since
   pub took : w.took ≡ v.took
   pub turns : w.turns ≡ v.turns
 

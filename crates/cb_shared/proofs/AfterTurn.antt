@@ -1,35 +1,40 @@
 -- What a turn leaves of the record of its pass.
-use Rattle.std.proofs.Common.{◌≡◌, ℕ, ◌+◌, ◌<◌, ◌≤◌, List, [], ◌∷◌, ◌++◌, length, Option, None, Some, Result, Ok, Err, refl, sym, ap, ◌∙◌, subst, arith}
+use Rattle.std.proofs.Common.{◌≡◌, ℕ, ◌+◌, ◌<◌, ◌≤◌, List, [], ◌∷◌, ◌++◌, length, Option, None, Some, Result, Ok, Err, false, refl, sym, ap, ◌∙◌, subst, inl, inr, arith}
+use Rattle.std.proofs.lemmas.Option.{same_Some}
 use Rattle.std.specs.Prelude.{IfOk}
 use Rattle.atomic_table.specs.Seated.{TableId}
 use Rattle.cb_member.specs.declared.no_memory.NoMemory.{NoMemory}
+use Rattle.cb_ptr.specs.Word.{len_of}
 use Rattle.cb_types.specs.declared.config.Config.{Config}
 use Rattle.cb_types.specs.declared.job.Job.{Job}
-use Rattle.cb_types.specs.declared.job.Job.TheVariants.{Filter, Write, Free}
+use Rattle.cb_types.specs.declared.handle.Handle.{Handle}
+use Rattle.cb_types.specs.declared.job.Job.TheVariants.{Filter, Read, Write, Free}
 use Rattle.cb_types.specs.declared.reply.Reply.{Reply}
 use Rattle.cb_types.specs.declared.reply.Reply.TheVariants as answer
 use Rattle.cb_world.specs.declared.entry.Entry.{Entry}
 use Rattle.cb_world.specs.declared.event.Event.{Event}
 use Rattle.cb_world.specs.declared.shown.Shown.{Shown}
 use Rattle.cb_world.specs.FarState.{FarState}
+use Rattle.cb_world.specs.Memory.{bytes_in}
 use Rattle.cb_world.specs.Played.{after, played}
 use Rattle.cb_world.specs.Written.{written_by}
 use Rattle.cb_core.specs.Unavailable.{TurnTells}
 use Rattle.cb_rule.specs.declared.turn.Turn.{Turn}
+use Rattle.cb_rule.specs.declared.view.Seen.{Seen}
 use Rattle.cb_rule.specs.declared.view.View.{View}
-use Rattle.cb_rule.specs.Lists.{Each}
+use Rattle.cb_rule.specs.Lists.{Each, Has}
 use Rattle.cb_rule.specs.Locking.{Stood}
-use Rattle.cb_rule.specs.LockSteps.{AddsTurn, gave_lock, took_lock, turn_of}
+use Rattle.cb_rule.specs.LockSteps.{AddsTurn, ReadsTold, gave_lock, took_lock, turn_of}
 use Rattle.cb_rule.specs.Own.{Make}
 use Rattle.cb_rule.specs.Rule.{AreSized}
 use Rattle.cb_rule.specs.Slot.{LockSlot, Sat}
-use Rattle.cb_rule.specs.Steps.{AreNew, Knows, acted}
+use Rattle.cb_rule.specs.Steps.{AreNew, Knows, acted, version_seen}
 use Rattle.cb_shared.specs.declared.setup.Setup.{Setup}
 use Rattle.cb_record.specs.Parts.{Part, grown, nothing_more}
 use Rattle.cb_shared.specs.Passes.{IsAtRest}
 use Rattle.cb_shared.specs.Places.{HoldsLock, IsOf, Place}
 use Rattle.cb_shared.specs.SeatLaws.{Runs, acted_is, acted_known, after_events, sized_after}
-use Rattle.cb_shared.specs.Turning.{CountsPins, Did, DidAs, KnowsIt, KnowsOf, PinsTold, answer_of, made_by_turn, object_of, turn_part, with_own}
+use Rattle.cb_shared.specs.Turning.{CountsPins, Did, DidAs, JobReads, KnowsIt, KnowsOf, PinsTold, answer_of, made_by_turn, object_of, turn_part, with_own}
 use Rattle.cb_shared.specs.UnderLock.{GivesFar, IsBeginning, IsEnding, IsQuiet, TakesFar, TurnWith, TurnedBy, WorkBy}
 use Rattle.cb_shared.proofs.MadeFirst.{makes_own}
 
@@ -123,6 +128,47 @@ pub took_as : (c : Config) (lent far : FarState) (p q : Place) → lent ≡ far 
     → TakesFar c lent p q
 took_as c lent far p q e t = subst (λ (f : FarState). TakesFar c f p q) (sym e) t
 
+-- ---- the bytes that a job Read told stand as read
+has_left : {A : Type 0} (x : A) (xs ys : List A) → Has x xs → Has x (xs ++ ys)
+has_left x [] ys has = absurd has
+has_left x (y ∷ xs) ys (inl is) = inl is
+has_left x (y ∷ xs) ys (inr has) = inr (has_left x xs ys has)
+
+-- an entry as read, of this object, at this version and with these bytes
+abbrev TellsOf : ℕ → ℕ → List ℕ → Seen → Type 0
+TellsOf h version bytes s = (s.handle ≡ h) × (s.version ≡ version) × (s.freed ≡ false)
+    × (bytes ≡ bytes_in s.words s.len)
+
+read_bytes : (handle : Handle) (es : List Event) (version : ℕ) (bytes : List ℕ) (v : View) (d : Part)
+    → JobReads (Read handle) es (Ok (answer.Bytes version bytes)) v d
+    → (s : Seen) × Has s d.seen × TellsOf handle.n version bytes s
+read_bytes handle es version bytes v d (inl x) = absurd x.1
+read_bytes handle es version bytes v d (inr x) = let f = x.finds in
+    let s = version_seen handle.n version (len_of f.word) f.words in (
+      s,
+      subst (λ (e : Part). Has s e.seen) (sym x.part)
+          (subst (λ (e : Part). Has s (e.seen ++ x.before.seen)) (sym f.part) (inl refl)),
+      refl,
+      refl,
+      refl,
+      f.bytes_are,
+    )
+
+told_read : (job : Job) (es : List Event) (r : Result Reply NoMemory) (v : View) (d : Part)
+    (w : View) → JobReads job es r v d → w.seen ≡ d.seen ++ v.seen → ReadsTold job (answer_of r) w
+told_read job es (Err e) v d w reads more handle version bytes asked told = absurd (cc)
+told_read job es (Ok reply) v d w reads more handle version bytes asked told =
+    let x = read_bytes handle es version bytes v d
+    (subst (λ (z : Reply). JobReads (Read handle) es (Ok z) v d) (same_Some told)
+    (subst (λ (j : Job). JobReads j es (Ok reply) v d) asked reads)) in (
+      x.0,
+      subst (Has x.0) (sym more) (has_left x.0 d.seen v.seen x.1),
+      x.2,
+      x.3,
+      x.4,
+      x.5,
+    )
+
 pub ends_work : (c : Config) (job : Job) (r : Result Reply NoMemory) (took gave : FarState)
     (p q : Place) → IsBeginning c took p.me.0 → WorkBy c job r took gave p q
     → IsEnding c job (answer_of r) gave q.me.0
@@ -138,6 +184,8 @@ ends_work c job r took gave p q b w =
           (subst (λ (s : Shown). DidAs c job reply s (v.acts ++ es) v.took gave) (sym b.start)
           (subst (λ (l : List Event). DidAs c job reply v.known (l ++ es) v.took gave) (sym b.idle)
           (subst (λ (f : FarState). DidAs c job reply v.known es f gave) (sym b.took) w.did)));
+      reads = told_read job es r v w.within q.me.0 (w.reads v (refl, refl, refl, refl, refl))
+          (ap (λ (x : View). x.seen) m);
       makes = subst (λ (x : View). Each (λ h. Make x.known.first h x.fresh)
           (made_by_turn job reply))
           (sym (ap (λ (x : Sat). x.0) w.moves.2))

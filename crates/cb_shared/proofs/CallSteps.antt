@@ -11,6 +11,7 @@ use Rattle.cb_types.specs.declared.reply.Reply.TheVariants as answer
 use Rattle.cb_ptr.specs.declared.word.State.TheVariants as state
 use Rattle.cb_ptr.specs.Word.{pins_of, state_of}
 use Rattle.cb_world.specs.declared.entry.Entry.{Entry}
+use Rattle.cb_world.specs.declared.event.Event.{Event}
 use Rattle.cb_core.specs.Jobs.{IsJob}
 use Rattle.cb_mutate.specs.JobWrites.{FreeWrites, MakeWrites, WriteWrites}
 use Rattle.cb_rule.specs.declared.turn.Turn.{Turn}
@@ -222,17 +223,17 @@ last_looks h a v d x f = let y = f (grown x.before v) x.last x.finds in (
 )
 
 -- what is looked at in a turn Read that answers nothing
-read_looks : (c : Config) (handle : Handle) (r : Reply) (v : View) (d : Part)
-    → (IsAnswerTo c (jobs.Read handle) r → ⊥) → JobReads (jobs.Read handle) (Ok r) v d
+read_looks : (c : Config) (handle : Handle) (es : List Event) (r : Reply) (v : View) (d : Part)
+    → (IsAnswerTo c (jobs.Read handle) r → ⊥) → JobReads (jobs.Read handle) es (Ok r) v d
     → LooksAlone (AtThis handle.n) d
-read_looks c handle r v d off (inl x) = no_looks (AtThis handle.n) d x.0
-read_looks c handle (answer.Bytes version bytes) v d off (inr x) = absurd (off (inl tt))
-read_looks c handle answer.Freed v d off (inr x) = absurd (off (inl tt))
-read_looks c handle answer.Moving v d off (inr x) = last_looks handle.n found.Moving v d x
+read_looks c handle es r v d off (inl x) = no_looks (AtThis handle.n) d x.0
+read_looks c handle es (answer.Bytes version bytes) v d off (inr x) = absurd (off (inl tt))
+read_looks c handle es answer.Freed v d off (inr x) = absurd (off (inl tt))
+read_looks c handle es answer.Moving v d off (inr x) = last_looks handle.n found.Moving v d x
     (λ w e f. (look_at handle.n f.0 ∷ [], (refl, tt), f.2))
-read_looks c handle answer.Crowded v d off (inr x) = last_looks handle.n found.Crowded v d x
+read_looks c handle es answer.Crowded v d off (inr x) = last_looks handle.n found.Crowded v d x
     (λ w e f. (look_at handle.n f.0 ∷ [], (refl, tt), f.2))
-read_looks c handle other v d off (inr x) = absurd x
+read_looks c handle es other v d off (inr x) = absurd x
 
 -- a turn that does not answer its call
 pub turn_vain : (c : Config) (job : Job) (r : Reply) (v : View) (d : Part) → IsCalled job
@@ -275,7 +276,7 @@ turn_vain c (jobs.Swap handle) r v d called off x = (
 )
 turn_vain c (jobs.Read handle) r v d called off x = (
   vain_turn c (jobs.Read handle) _ (Ok r) v d x x.wrote
-      (read_looks c handle r v x.within off x.reads)
+      (read_looks c handle x.turn.acts r v x.within off x.reads)
       (later_none (jobs.Read handle) r _ x.later
       (λ e. absurd (off (subst (IsAnswerTo c (jobs.Read handle)) (sym e) (inl tt)))) x.finds) refl
       (x.job_is, (r, x.reply_is, off)),
@@ -313,7 +314,7 @@ turn_lacks c (jobs.Read handle) e v d called x = (
   refl,
 )
   where
-    lacking_looks : JobReads (jobs.Read handle) (Err e) v x.within
+    lacking_looks : JobReads (jobs.Read handle) x.turn.acts (Err e) v x.within
         → LooksAlone (AtThis handle.n) x.within
     lacking_looks (inl y) = no_looks (AtThis handle.n) x.within y.0
     lacking_looks (inr y) = (y.looks, y.on, y.part)

@@ -86,6 +86,7 @@ pinned_gives h w (pins.Raced seen found) p m q g here at =
       (λ e. at.1 (e ∙ at.0)),
       at.2 ∙ ap (with_look h found) saw
           ∙ ap (λ (n : ℕ). with_look h found (with_look h n p.me.0)) (sym at.0),
+      ap state_of at.0 ∙ here,
     )
 pinned_gives h w pins.ScopeFull p m q g here at = absurd at
 pinned_gives h w pins.Freed p m q g here at = absurd at

@@ -63,6 +63,7 @@ may_give c job reply me far e = record {
   stood = e.stood;
   adds = e.adds;
   did = e.did;
+  reads = e.reads;
   found = tt;
   makes = e.makes;
 }

@@ -15,6 +15,7 @@ use Rattle.cb_world.specs.declared.entry.Entry.{Entry}
 use Rattle.cb_world.specs.declared.event.Event.{Event}
 use Rattle.cb_world.specs.declared.shown.Shown.{Shown}
 use Rattle.cb_world.specs.FarState.{FarState}
+use Rattle.cb_world.specs.Looks.{IsFound}
 use Rattle.cb_world.specs.Played.{Agree, played}
 use Rattle.cb_mutate.specs.Answered.{AnsweredAs}
 use Rattle.cb_core.specs.OnceHere.{IsThere}
@@ -42,28 +43,38 @@ use Rattle.cb_shared.proofs.Bringing.{bring_gives}
 use Rattle.cb_shared.proofs.PinsCounted.{counts_pins}
 use Rattle.cb_shared.proofs.ReadParts.{grown_nothing}
 
--- ---- the first part tells neither of bytes nor of many pins
-absent_plain : (r : Reply) (q : State) (w h : ℕ) (es : List Event)
-    → AnsweredAs q (λ v. r ≡ answer.Stays) w h es r → TellsNoPin (Ok r)
-absent_plain r state.Empty w h es (zero, told, is) = subst (λ (x : Reply). TellsNoPin (Ok x)) (sym is) tt
-absent_plain r state.Empty w h es (suc v, told, is) =
-    subst (λ (x : Reply). TellsNoPin (Ok x)) (sym is) tt
-absent_plain r state.Far w h es is = subst (λ (x : Reply). TellsNoPin (Ok x)) (sym is) tt
-absent_plain r state.Here w h es is = subst (λ (x : Reply). TellsNoPin (Ok x)) (sym is) tt
-absent_plain r state.Moving w h es is = subst (λ (x : Reply). TellsNoPin (Ok x)) (sym is) tt
+-- ---- The first part tells neither of bytes nor of many pins, and of a word that is Moving where it
+-- found it so.
+absent_plain : (r : Reply) (q : State) (w h : ℕ) (es acts : List Event) → acts ≡ es
+    → IsFound h w es → state_of w ≡ q → AnsweredAs q (λ v. r ≡ answer.Stays) w h es r
+    → TellsNoPin h acts (Ok r)
+absent_plain r state.Empty w h es acts same found at (zero, told, is) =
+    subst (λ (x : Reply). TellsNoPin h acts (Ok x)) (sym is) tt
+absent_plain r state.Empty w h es acts same found at (suc v, told, is) =
+    subst (λ (x : Reply). TellsNoPin h acts (Ok x)) (sym is) tt
+absent_plain r state.Far w h es acts same found at is =
+    subst (λ (x : Reply). TellsNoPin h acts (Ok x)) (sym is) tt
+absent_plain r state.Here w h es acts same found at is =
+    subst (λ (x : Reply). TellsNoPin h acts (Ok x)) (sym is) tt
+absent_plain r state.Moving w h es acts same found at is =
+    subst (λ (x : Reply). TellsNoPin h acts (Ok x)) (sym is)
+    (w, subst (IsFound h w) (sym same) found, at)
 
-come_plain : (c : Config) (h : ℕ) (a b : Holding Slate) (r : Reply)
-    → ComesIn slate_run slate_shows c h a r b → TellsNoPin (Ok r)
-come_plain c h a b r (not_far x off) = let z = x.rule.1 in
-    absent_plain r (state_of z.word) z.word h x.events z.answer
-come_plain c h a b r (was_far m x bring) = bring_gives (λ (q : Reply). TellsNoPin (Ok q))
+come_plain : (c : Config) (h : ℕ) (a b : Holding Slate) (r : Reply) → a.desk.acts ≡ []
+    → ComesIn slate_run slate_shows c h a r b → TellsNoPin h b.desk.acts (Ok r)
+come_plain c h a b r idle (not_far x off) = let z = x.rule.1 in
+    absent_plain r (state_of z.word) z.word h x.events b.desk.acts
+    (ap (λ (d : Slate). d.acts) x.ran.0 ∙ ap (λ (es : List Event). es ++ x.events) idle)
+    z.found refl z.answer
+come_plain c h a b r idle (was_far m x bring) =
+    bring_gives (λ (q : Reply). TellsNoPin h b.desk.acts (Ok q))
     (λ id losses. tt) tt (λ f. tt) (λ frames loose nodes. tt) c h m b r bring
 
-first_plain : (c : Config) (handle : Handle) (a b : Holding Slate) (r : Reply)
-    → BroughtToRead slate_run slate_shows c handle a r b → TellsNoPin (Ok r)
-first_plain c handle a b r (first_worn end is same ran) =
-    subst (λ (q : Reply). TellsNoPin (Ok q)) (sym is) tt
-first_plain c handle a b r (first_done few come) = come_plain c handle.n _ b r come
+first_plain : (c : Config) (handle : Handle) (a b : Holding Slate) (r : Reply) → a.desk.acts ≡ []
+    → BroughtToRead slate_run slate_shows c handle a r b → TellsNoPin handle.n b.desk.acts (Ok r)
+first_plain c handle a b r idle (first_worn end is same ran) =
+    subst (λ (q : Reply). TellsNoPin handle.n b.desk.acts (Ok q)) (sym is) tt
+first_plain c handle a b r idle (first_done few come) = come_plain c handle.n _ b r idle come
 
 -- ---- what the turn did
 no_worn_there : (r : Reply) → r ≡ answer.Worn → IsThere r → ⊥
@@ -134,7 +145,7 @@ module _ (c : Config) (handle : Handle) (took gave : FarState) (p m : Place) (pl
     );
     quiet = (refl, refl);
     range = tt;
-    reads = λ u same. inl (refl, first_plain c handle _ _ place b.brought);
+    reads = λ u same. inl (refl, first_plain c handle _ _ place refl b.brought);
     did = did_away c handle place p.me.0.known b.events took gave b.brought off;
     next = b.next;
     wrote = refl;
@@ -313,6 +324,6 @@ work_done c job r took gave p q other none t =
     }
   where
     reads_none : (job : Job) → IsNoRead job → (r : Result Reply NoMemory) (u : View)
-        → JobReads job r u nothing_more
+        → JobReads job t.events r u nothing_more
     reads_none (Read handle) never r u = absurd never
     reads_none job never r u = refl

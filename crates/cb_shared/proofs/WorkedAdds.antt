@@ -281,6 +281,10 @@ ends_as_done e = no_end (e.did 0)
     no_end (worn end is same ran) = absurd cc
     no_end (done few does) = omega (arith, few)
 
+ends_with_bytes_unread : IsEnding two (jobs.Read (the_handle 1)) (Some (answer.Bytes 3 [])) (far last)
+    (record (beginner (far last) known) { seen = [] }) → ⊥
+ends_with_bytes_unread e = (e.reads (the_handle 1) 3 [] refl refl).1
+
 ends_without_its_make : IsEnding two (jobs.Make []) (Some (answer.Made (the_handle 1) 3)) (far last)
     (beginner (far last) known) → ⊥
 ends_without_its_make e = let n : 0 < 0 = e.makes.0 in omega (arith, n)
@@ -358,16 +362,16 @@ reads_unread (d, inr (j, fetch, a), is) =
     let all = length-append d.turns [] in absurd (omega (arith, none, one, all))
 
 -- ---- a job reads under a pin where it is a read, and nothing else does
-reads_nothing : JobReads (jobs.Read (the_handle 1)) (Ok answer.Worn) part nothing_more
+reads_nothing : JobReads (jobs.Read (the_handle 1)) [] (Ok answer.Worn) part nothing_more
 reads_nothing = inl (refl, tt)
 
 reads_no_bytes : (bytes : List ℕ)
-    → JobReads (jobs.Read (the_handle 1)) (Ok (answer.Bytes 3 bytes)) part nothing_more → ⊥
+    → JobReads (jobs.Read (the_handle 1)) [] (Ok (answer.Bytes 3 bytes)) part nothing_more → ⊥
 reads_no_bytes bytes (inl (none, tells)) = tells
 reads_no_bytes bytes (inr x) = let all : 0 ≡ x.before.ever + x.last.ever =
     ap (λ (d : Part). d.ever) x.part in
     let one : x.last.ever ≡ 1 = ap (λ (d : Part). d.ever) x.finds.part in
     omega (arith, all, one)
 
-evicts_under_a_pin : JobReads jobs.Evict (Ok answer.Worn) part record nothing_more { ever = 1 } → ⊥
+evicts_under_a_pin : JobReads jobs.Evict [] (Ok answer.Worn) part record nothing_more { ever = 1 } → ⊥
 evicts_under_a_pin r = eqb-false 1 0 refl (ap (λ (d : Part). d.ever) r)

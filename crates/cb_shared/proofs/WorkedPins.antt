@@ -102,7 +102,7 @@ by_freed : PinGives 1 Freed part (with_freed_seen 1 4 0 part)
 by_freed = (0, 4, refl, newest_later, refl)
 
 by_race : PinGives 1 (Raced calm moving) part (with_look 1 moving (with_look 1 calm part))
-by_race = ((λ e. eqb-false moving calm refl e), refl)
+by_race = ((λ e. eqb-false moving calm refl e), refl, refl)
 
 -- ---- no look, and two
 no_look : LooksOnce 1 part part (λ n. state_of n ≡ state.Far) → ⊥
@@ -139,6 +139,9 @@ no_race g = g.0 refl
 
 other_order : LoosesRace 1 calm moving part (with_look 1 calm (with_look 1 moving part)) → ⊥
 other_order g = eqb-false calm moving refl (ap last_look g.1)
+
+saw_it_moving : LoosesRace 1 moving calm part (with_look 1 calm (with_look 1 moving part)) → ⊥
+saw_it_moving g = eqb-false 3 2 refl (ap state_number g.2)
 
 one_look : LoosesRace 1 calm moving part (with_look 1 moving part) → ⊥
 one_look g = eqb-false 1 2 refl (ap looks_of g.1)

@@ -1,6 +1,6 @@
--- Worked looks at what a record has of its own objects: what meets each definition, and what breaks
+-- Worked looks at what a record has of objects: what meets each definition, and what breaks
 -- one of its parts alone.
-use Rattle.std.proofs.Common.{◌≡◌, ℕ, zero, suc, [], ◌∷◌, ◌++◌, Some, inl, refl, sym, ap, ◌∙◌, subst, ⊎_elim}
+use Rattle.std.proofs.Common.{◌≡◌, ℕ, zero, suc, ◌+◌, ◌^◌, ◌<◌, cond, eqb, [], ◌∷◌, ◌++◌, Some, inl, refl, sym, ap, ◌∙◌, subst, ⊎_elim, arith}
 use Rattle.std.proofs.lemmas.Bool.{eqb-false}
 use mathlib.Core.Option.{some, some-injective, some-ne-none}
 use lib.ListN.{get_elem?}
@@ -10,12 +10,15 @@ use Rattle.cb_types.specs.declared.handle.Handle.{Handle}
 use Rattle.cb_types.specs.declared.job.Job.TheVariants.{Make}
 use Rattle.cb_types.specs.declared.reply.Reply.TheVariants.{Made}
 use Rattle.cb_world.specs.declared.entry.Entry.{Entry}
+use Rattle.cb_world.specs.Written.{entry}
 use Rattle.cb_rule.specs.declared.turn.Turn.{Turn}
+use Rattle.cb_rule.specs.declared.view.Seen.{Seen}
 use Rattle.cb_rule.specs.declared.view.View.{View}
 use Rattle.cb_rule.specs.Lists.{Has}
+use Rattle.cb_rule.specs.Locking.{turn_number}
 use Rattle.cb_rule.specs.OwnStands.{WroteItself}
 use Rattle.cb_rule.specs.Slot.{LockSlot, Sat}
-use Rattle.cb_rule.specs.Steps.{blank, freed_seen}
+use Rattle.cb_rule.specs.Steps.{blank, freed_seen, version_seen}
 use Rattle.cb_shared.specs.Recalls.{MakesFirst, Recalls, recalled}
 
 -- a view that wrote nothing
@@ -58,7 +61,37 @@ module _ (c : Config) (t : Turn) where
       goes_on = λ e wrote. absurd (wrote_none kept refl e wrote);
     };
     makes = makes_first;
+    stands = record {
+      read = λ s e has. absurd has;
+      same = λ e x wrote. absurd (wrote_none kept refl e wrote);
+      goes_on = λ e x wrote. absurd (wrote_none kept refl e wrote);
+    };
+    whole = λ share. absurd (eqb-false 0 64 refl share);
   }
+
+  -- it read other words than it wrote
+  recalls_other_words : Recalls 3 record kept {
+    written = entry 1 3 8 [] (7 ∷ []) ∷ [];
+    seen = version_seen 1 3 8 (8 ∷ []) ∷ [];
+  } → ⊥
+  recalls_other_words x = let u : View = record kept {
+    written = entry 1 3 8 [] (7 ∷ []) ∷ [];
+    seen = version_seen 1 3 8 (8 ∷ []) ∷ [];
+  } in
+      let same = x.stands.read (version_seen 1 3 8 (8 ∷ [])) (entry 1 3 8 [] (7 ∷ [])) (inl refl)
+      (u, (0, refl), inl refl) refl refl in
+      absurd (let w : 8 ∷ [] ≡ 7 ∷ [] = ap (λ (s : Seen). s.words) same in cc)
+
+  -- with the whole share its one turn is the second
+  recalls_no_first_turn : turn_number t ≡ 1 → Recalls 3 record kept { share = 64 } → ⊥
+  recalls_no_first_turn second x = let w = x.whole refl refl in let h = w.2 in
+      let u : View = record kept { share = 64 } in ⊎_elim
+      (λ (low : turn_number t < w.0). let one = h.once 0 (omega (arith, low)) in
+      let none : cond (eqb (turn_number t) 0) 1 0 + 0 + 0 ≡ 0 =
+      ap (λ (n : ℕ). cond (eqb n 0) 1 0 + 0 + 0) second in omega (arith, one, none))
+      (λ (z : (turn_number t ≡ 2 ^ 40) × (w.0 ≡ 2 ^ 40) × (t.gave ≡ t.took)).
+      let worn = z.0 in omega (arith, second, worn))
+      (h.numbers (makes 3) (u, (0, refl), inl refl))
 
   recalls_what_it_did_not_write : Recalls 3 record kept { own = 1 ∷ []; seen = freed_seen 1 3 ∷ [] } → ⊥
   recalls_what_it_did_not_write x =

@@ -179,7 +179,8 @@ module _ (e : NoMemory) where
   stands_as : (answer_of (Ok answer.Worn) ≡ Some answer.Worn) × (answer_of (Err e) ≡ None)
   stands_as = (refl, refl)
 
-  tells_no_pin : TellsNoPin (Ok answer.Freed) × TellsNoPin (Ok answer.Worn) × TellsNoPin (Err e)
+  tells_no_pin : TellsNoPin 1 [] (Ok answer.Freed) × TellsNoPin 1 [] (Ok answer.Worn)
+      × TellsNoPin 1 [] (Err e)
   tells_no_pin = (tt, tt, tt)
 
   freed_by : (freed_of (job.Read (the_handle 1)) (Ok answer.Freed) ≡ Some 1)

@@ -1,6 +1,7 @@
 -- Worked turns: what meets each definition, and what breaks one of its parts alone.
 use Rattle.std.proofs.Common.{◌≡◌, ℕ, ◌+◌, ◌^◌, ◌≤◌, true, false, List, [], ◌∷◌, ◌++◌, length, replicate, Option, None, Some, Ok, refl, sym, ap, ◌∙◌, subst, inl, inr, lit≤, arith}
 use Rattle.std.proofs.lemmas.Bool.{eqb-false}
+use Rattle.cb_ptr.specs.Word.{state_number, state_of}
 use Rattle.cb_types.specs.declared.config.Config.{Config}
 use Rattle.cb_types.specs.declared.handle.Handle.{Handle}
 use Rattle.cb_types.specs.declared.job.Job.{Job}
@@ -152,14 +153,24 @@ and_a_pin : AreLooksAt 1 record nothing_more { ever = 1 } → ⊥
 and_a_pin a = eqb-false 1 0 refl (ap (λ (d : Part). d.ever) a.part)
 
 -- ---- what tells of a pin
-bytes_tell : TellsNoPin (Ok (answer.Bytes 3 [])) → ⊥
+bytes_tell : TellsNoPin 1 [] (Ok (answer.Bytes 3 [])) → ⊥
 bytes_tell t = t
 
-many_tell : TellsNoPin (Ok answer.Crowded) → ⊥
+many_tell : TellsNoPin 1 [] (Ok answer.Crowded) → ⊥
 many_tell t = t
 
-moving_tells_none : TellsNoPin (Ok answer.Moving)
-moving_tells_none = tt
+-- a word that was Moving at the last look; none was looked at; it was so at the look before
+moving_tells_none : TellsNoPin 1 (Looked 1 7 ∷ []) (Ok answer.Moving)
+moving_tells_none = (7, inr ((refl, refl), tt), refl)
+
+moving_unlooked : TellsNoPin 1 [] (Ok answer.Moving) → ⊥
+moving_unlooked t = t.1
+
+moving_before : TellsNoPin 1 (Looked 1 7 ∷ Looked 1 6 ∷ []) (Ok answer.Moving) → ⊥
+moving_before (w, inl (inl never), moving) = never
+moving_before (w, inl (inr (at, last)), moving) =
+    eqb-false 2 3 refl (ap state_number (ap state_of at.1 ∙ moving))
+moving_before (w, inr (at, last), moving) = last.0 6 (refl, refl)
 
 -- ---- what a reply tells of object 1, by its pins and its length
 abbrev twice_pinned : View
@@ -362,7 +373,7 @@ abbrev pub worn_part : Job → Part
 worn_part j = turn_part (worn_turn j) [] nothing_more nothing_more
 
 pub adds_worn : (j : Job) (v : View) → OutcomeWrites j (Ok answer.Worn) []
-    → JobReads j (Ok answer.Worn) v nothing_more → ((h : ℕ) → Knows h v → 1 ≡ h)
+    → JobReads j [] (Ok answer.Worn) v nothing_more → ((h : ℕ) → Knows h v → 1 ≡ h)
     → TurnAdds two j (Ok answer.Worn) v (worn_part j)
 adds_worn j v wrote reads knows = record {
   turn = worn_turn j;

@@ -117,6 +117,7 @@ ends = record {
   stood = stood last (lit≤ tt);
   adds = inr (refl, refl);
   did = λ n. worn refl refl refl (refl, tt);
+  reads = λ handle version bytes asked told. absurd (cc);
   makes = tt;
 }
 

@@ -299,4 +299,4 @@ by_wear = is_worn
 
 by_race : WriteGives 1 1 (12 ∷ []) (Raced calm moving) part
     (with_look 1 moving (with_look 1 calm part))
-by_race = ((λ e. eqb-false moving calm refl e), refl)
+by_race = ((λ e. eqb-false moving calm refl e), refl, refl)

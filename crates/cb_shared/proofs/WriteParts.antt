@@ -79,7 +79,7 @@ write_finds h at bytes place.Worn v w x = (
     part = refl;
   },
 )
-write_finds h at bytes (place.Raced saw found) v w (other, left) =
+write_finds h at bytes (place.Raced saw found) v w (other, left, here) =
     (looked_twice h saw found, left ∙ twice_part h saw found v, (other, refl))
 
 -- ---- one try of a write
@@ -99,7 +99,7 @@ write_vain h at bytes vain place.Moving v w none here (n, is, left) =
 write_vain h at bytes vain (place.Range len) v w none here x = absurd none
 write_vain h at bytes vain (place.Pinned count) v w none here x = absurd none
 write_vain h at bytes vain place.Worn v w none here x = absurd none
-write_vain h at bytes vain (place.Raced saw found) v w none here (other, left) = (
+write_vain h at bytes vain (place.Raced saw found) v w none here (other, left, was) = (
   looked_twice h saw found,
   record {
     looks = look_at h found ∷ look_at h saw ∷ [];

@@ -196,6 +196,7 @@ module _ (h w at : ℕ) (bytes : List ℕ) (p m q : Place) (g : Glances h w p m)
   claimed_writes (Raced seen found) x = (
     (λ e. x.1 (e ∙ x.0)),
     x.2 ∙ ap (with_look h found) saw ∙ ap (λ (n : ℕ). with_look h found (with_look h n p.me.0)) (sym x.0),
+    ap state_of x.0 ∙ room.0,
   )
   claimed_writes Freed x = absurd x
   claimed_writes NotHere x = absurd x

@@ -17,9 +17,10 @@ abbrev pub FindsFreed : ℕ → View → View → Type 0
 FindsFreed h v w = (n : ℕ) × (version : ℕ) × (state_of n ≡ state.Empty) × IsNewest h version v
     × (w ≡ with_freed_seen h version n v)
 
--- it looked, and its exchange found another word
+-- it looked and found the object here, and its exchange found another word
 abbrev pub LoosesRace : ℕ → ℕ → ℕ → View → View → Type 0
 LoosesRace h saw found v w = (found ≢ saw) × (w ≡ with_look h found (with_look h saw v))
+    × (state_of saw ≡ state.Here)
 
 -- the object was pinned where it is: the pin has its newest version, which is read
 pub record IsPinnedHere (h : ℕ) (p : Pin) (v w : View) : Type 0 where

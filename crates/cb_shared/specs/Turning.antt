@@ -1,6 +1,8 @@
 -- What a turn under the far lock did, and what it leaves of the record of its pass.
 use Rattle.std.specs.Prelude.{◌≡◌, ◌⊎◌, ℕ, ◌≤◌, List, [], ◌∷◌, ◌++◌, Option, None, Some, Result, Ok, Err, IfOk}
 use Rattle.cb_member.specs.declared.no_memory.NoMemory.{NoMemory}
+use Rattle.cb_ptr.specs.declared.word.State.TheVariants as state
+use Rattle.cb_ptr.specs.Word.{state_of}
 use Rattle.cb_types.specs.declared.config.Config.{Config}
 use Rattle.cb_types.specs.declared.job.Job.{Job}
 use Rattle.cb_types.specs.declared.job.Job.TheVariants.{Filter, Make, Read, Write, Free}
@@ -10,6 +12,7 @@ use Rattle.cb_world.specs.declared.entry.Entry.{Entry}
 use Rattle.cb_world.specs.declared.event.Event.{Event}
 use Rattle.cb_world.specs.declared.shown.Shown.{Shown}
 use Rattle.cb_world.specs.FarState.{FarState}
+use Rattle.cb_world.specs.Looks.{IsFound}
 use Rattle.cb_world.specs.Played.{Agree, played}
 use Rattle.cb_world.specs.Shown.{version_at}
 use Rattle.cb_core.specs.Parts.{Holding}
@@ -136,17 +139,20 @@ Tries h (Ok answer.Crowded) v d = FindsAtLast h found.Crowded v d
 Tries h (Ok other) v d = ⊥
 Tries h (Err e) v d = AreLooksAt h d
 
--- the reply tells neither of bytes nor of many pins
-abbrev pub TellsNoPin : Result Reply NoMemory → Type 0
-TellsNoPin (Ok (answer.Bytes version bytes)) = ⊥
-TellsNoPin (Ok answer.Crowded) = ⊥
-TellsNoPin r = Unit {0}
+-- The reply of a read that took no pin, after these events: it tells neither of bytes nor of many
+-- pins, and of a word that is Moving only where the last look found it so.
+abbrev pub TellsNoPin : ℕ → List Event → Result Reply NoMemory → Type 0
+TellsNoPin h es (Ok (answer.Bytes version bytes)) = ⊥
+TellsNoPin h es (Ok answer.Crowded) = ⊥
+TellsNoPin h es (Ok answer.Moving) = (w : ℕ) × IsFound h w es × (state_of w ≡ state.Moving)
+TellsNoPin h es r = Unit {0}
 
--- A job Read reads under a pin of the pass, where the object is here or could be brought in. No
--- other job does.
-abbrev pub JobReads : Job → Result Reply NoMemory → View → Part → Type 0
-JobReads (Read handle) r v d = ((d ≡ nothing_more) × TellsNoPin r) ⊎ Tries handle.n r v d
-JobReads job r v d = d ≡ nothing_more
+-- A job Read reads under a pin of the pass, where the object is here or could be brought in by these
+-- events. No other job does.
+abbrev pub JobReads : Job → List Event → Result Reply NoMemory → View → Part → Type 0
+JobReads (Read handle) es r v d =
+    ((d ≡ nothing_more) × TellsNoPin handle.n es r) ⊎ Tries handle.n r v d
+JobReads job es r v d = d ≡ nothing_more
 
 -- the object of a read, a write or a free that was answered Freed
 abbrev pub freed_of : Job → Result Reply NoMemory → Option ℕ
@@ -207,7 +213,7 @@ pub record TurnAdds (c : Config) (job : Job) (r : Result Reply NoMemory) (v : Vi
   pub pins : CountsPins job r v
   pub made : (h : ℕ) → Knows h v → 1 ≤ version_at turn.start h
   pub tells : IfOk r (λ reply. TurnTells job turn.took reply)
-  pub reads : JobReads job r v within
+  pub reads : JobReads job turn.acts r v within
   pub finds : FindsFreedAfter (freed_of job r) (with_own (made_by_turn job (answer_of r))
       (grown (turn_part turn more within nothing_more) v)) later
   pub part : d ≡ turn_part turn more within later

@@ -22,7 +22,7 @@ use Rattle.cb_rule.specs.declared.view.Seen.{Seen}
 use Rattle.cb_rule.specs.declared.view.View.{View}
 use Rattle.cb_rule.specs.Lists.{Each}
 use Rattle.cb_rule.specs.Locking.{Stood}
-use Rattle.cb_rule.specs.LockSteps.{AddsTurn, HasTaken, gave_lock, took_lock, turn_of}
+use Rattle.cb_rule.specs.LockSteps.{AddsTurn, HasTaken, ReadsTold, gave_lock, took_lock, turn_of}
 use Rattle.cb_rule.specs.Own.{Make}
 use Rattle.cb_rule.specs.Rule.{AreSized}
 use Rattle.cb_rule.specs.Slot.{LockSlot}
@@ -118,7 +118,7 @@ pub record WorkBy (c : Config) (job : Job) (r : Result Reply NoMemory) (took gav
   pub moves : Moves p q (grown within (acted events p.me.0))
   pub quiet : IsQuiet within
   pub range : ReadsBelow c within
-  pub reads : (u : View) → HasSame u p.me.0 → JobReads job r u within
+  pub reads : (u : View) → HasSame u p.me.0 → JobReads job events r u within
   pub did : DidAs c job (answer_of r) p.me.0.known events took gave
   pub next : IsOneTurnOn took gave
   pub wrote : OutcomeWrites job r more
@@ -171,14 +171,15 @@ abbrev pub FreedMoves : Config → Option ℕ → Place → Place → Type 0
 FreedMoves c freed p q = (d : Part) × Moves p q (grown d p.me.0) × IsQuiet d × ReadsBelow c d
     × FindsFreedAfter freed p.me.0 d
 
--- The seat may give the lock back with this far state, whose turn had this job and this reply. What it
--- made has the first version.
+-- The seat may give the lock back with this far state, whose turn had this job and this reply. The
+-- bytes that it told were read, and what it made has the first version.
 pub record IsEnding (c : Config) (job : Job) (r : Option Reply) (far : FarState) (v : View) : Type 0
   where
     pub holds : v.holds ≡ true
     pub stood : Stood c v.known far
     pub adds : AddsTurn v.took far
     pub did : (n : ℕ) → Did c (turn_of job r far n v)
+    pub reads : ReadsTold job r v
     pub makes : Each (λ h. Make v.known.first h v.fresh) (made_by_turn job r)
 
 -- the seat gave the lock back, with the far state in its slot
@@ -202,7 +203,7 @@ pub record TurnWith (c : Config) (job : Job) (r : Result Reply NoMemory) (took :
   pub below : Each (λ (e : Entry). e.handle < c.handles) (more ++ p.me.0.written)
   pub quiet : IsQuiet within
   pub range : ReadsBelow c within
-  pub reads : (u : View) → HasSame u p.me.0 → JobReads job r u within
+  pub reads : (u : View) → HasSame u p.me.0 → JobReads job events r u within
   pub did : DidAs c job (answer_of r) p.me.0.known events took gave
   pub next : IsOneTurnOn took gave
   pub wrote : OutcomeWrites job r more
@@ -226,7 +227,7 @@ pub record TurnedBy (c : Config) (job : Job) (r : Result Reply NoMemory) (v w : 
   pub made : (h : ℕ) → Knows h v → 1 ≤ version_at turn.start h
   pub below : Each (λ (e : Entry). e.handle < c.handles) (more ++ v.written)
   pub range : ReadsBelow c within
-  pub reads : JobReads job r v within
+  pub reads : JobReads job turn.acts r v within
   pub tells : IfOk r (λ reply. TurnTells job turn.took reply)
   pub left : w ≡ with_own (made_by_turn job (answer_of r))
       (grown (turn_part turn more within nothing_more) v)

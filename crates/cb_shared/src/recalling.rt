@@ -1,4 +1,4 @@
-//! What a pass has of its own objects.
+//! What the record of a pass has of objects.
 ghost use Rattle.std.specs.Prelude.{◌≡◌};
 ghost use Rattle.cb_shared.specs.Passes.{IsPassOf, record_of};
 ghost use Rattle.cb_shared.specs.Places.{IsOf, Moves};
@@ -13,8 +13,10 @@ use std::marker::Brand;
 
 impl Shared {
     /// Tells what the pass has of its own objects, which it made and no other pass knows: what it
-    /// read and found of them is what it wrote itself. One load; the record stays as it is. Takes
-    /// no memory and waits for nobody.
+    /// read and found of them is what it wrote itself. And of any object: what it read at a version
+    /// that it wrote is that entry, and one entry goes on from the one before it. With the whole
+    /// share all turns of the record are one history. One load; the record stays as it is. Takes no
+    /// memory and waits for nobody.
     pub fn recall(&self, pass: &mut Pass)
         requires of { IsPassOf self.now pass.old }
         ensures of { IsPassOf self.now pass.new }

@@ -7,6 +7,7 @@ use Rattle.cb_types.specs.declared.job.Job.TheVariants as job
 use Rattle.cb_types.specs.declared.reply.Reply.{Reply}
 use Rattle.cb_types.specs.declared.reply.Reply.TheVariants as answer
 use Rattle.cb_world.specs.declared.entry.Entry.{Entry}
+use Rattle.cb_world.specs.declared.event.Event.{Event}
 use Rattle.cb_mutate.specs.JobWrites.{TurnWrites}
 use Rattle.cb_core.specs.TurnLeaves.{OutcomeWrites}
 use Rattle.cb_rule.specs.declared.turn.Turn.{Turn}
@@ -18,7 +19,8 @@ use Rattle.cb_workers.specs.Bodies.{AddsTurns, IsEnd, IsOwed, one_deed, turns_al
 -- what a worker's job leaves alone: it reads no object under a pin, is about no object that a pass
 -- knows, makes none, and writes no version
 record IsQuietWork (work : Job) : Type 0 where
-  pub reads : (r : Result Reply NoMemory) → (v : View) → (d : Part) → JobReads work r v d
+  pub reads : (es : List Event) → (r : Result Reply NoMemory) → (v : View) → (d : Part)
+      → JobReads work es r v d
       → d ≡ nothing_more
   pub object : object_of work ≡ None
   pub made : (r : Option Reply) → made_by_turn work r ≡ []
@@ -30,7 +32,7 @@ quiet handles (job.Read handle) owed = absurd owed
 quiet handles (job.Write handle at bytes) owed = absurd owed
 quiet handles (job.Free handle) owed = absurd owed
 quiet handles work owed = record {
-  reads = λ r v d is. is;
+  reads = λ es r v d is. is;
   object = refl;
   made = λ r. refl;
   writes = λ r more is. is;
@@ -59,7 +61,7 @@ adds_turn c work r v w owed (d, adds, grows) = record {
     q = quiet c.handles work owed
 
     within : adds.within ≡ nothing_more
-    within = q.reads r v adds.within adds.reads
+    within = q.reads adds.turn.acts r v adds.within adds.reads
 
     later : adds.later ≡ nothing_more
     later = subst (λ h. FindsFreedAfter h (with_own (made_by_turn work (answer_of r))

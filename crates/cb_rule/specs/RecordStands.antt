@@ -1,0 +1,19 @@
+-- What the record of one view has of any object, without a look at any other view.
+use Rattle.std.specs.Prelude.{◌≡◌, ℕ, ◌+◌, false}
+use Rattle.cb_world.specs.declared.entry.Entry.{Entry}
+use Rattle.cb_rule.specs.declared.view.Seen.{Seen}
+use Rattle.cb_rule.specs.declared.view.View.{View}
+use Rattle.cb_rule.specs.Lists.{Has}
+use Rattle.cb_rule.specs.OwnStands.{WroteItself}
+use Rattle.cb_rule.specs.Records.{seen_of}
+
+-- What was read at a version that the view wrote is that entry, and two entries of one version are
+-- the same. An entry goes on from the one before it, where the view wrote both.
+pub record RecordStands (u : View) : Type 0 where
+  pub read : (s : Seen) (e : Entry) → Has s u.seen → WroteItself u e → s.handle ≡ e.handle
+      → s.version ≡ e.version → s ≡ seen_of e
+  pub same : (e x : Entry) → WroteItself u e → WroteItself u x → e.handle ≡ x.handle
+      → e.version ≡ x.version → e ≡ x
+  pub goes_on : (e x : Entry) → WroteItself u e → WroteItself u x → e.handle ≡ x.handle
+      → e.version ≡ x.version + 1
+      → (x.after ≡ e.before) × (x.freed ≡ false) × (e.freed ≡ false → e.len ≡ x.len)
