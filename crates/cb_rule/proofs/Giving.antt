@@ -225,14 +225,17 @@ module _ (deeds : Deeds) (first : ℕ) (c : Config) (s : Table) (id : ℕ) (v : 
           reached = omega arith;
           told = tt;
           began = λ h l. never_now r.history h;
-          past = (record {
-            lasted = k.reached;
-            reached = omega arith;
-            read = read_ok;
-            wrote = wrote_ok;
-            told = k.told;
-            began = k.began;
-          }, k.past);
+          past = (
+            record {
+              lasted = k.reached;
+              reached = omega arith;
+              read = read_ok;
+              wrote = wrote_ok;
+              told = k.told;
+              began = k.began;
+            },
+            k.past,
+          );
         };
       } (omega (arith, nobody))
 
