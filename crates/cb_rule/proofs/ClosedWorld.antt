@@ -27,8 +27,8 @@ use Rattle.cb_world.specs.OpenWrites.{AreOpen, IsLeavingNow}
 use Rattle.cb_world.specs.Plain.{Shows, word_at}
 use Rattle.cb_world.specs.Seats.{SeatState, OpenWriteState, Holds, IsClaimAt, idle_seat, pins_among}
 use Rattle.cb_world.specs.Shown.{Fits, object_at, version_at}
-use Rattle.cb_world.specs.Sound.{Sound, IsLeaving}
-use Rattle.cb_world.specs.StillDesk.{bits_here, bits_moving, window_length}
+use Rattle.cb_world.specs.Sound.{Sound}
+use Rattle.cb_world.specs.StillDesk.{window_length}
 use Rattle.cb_world.specs.World.{ArePinned, IsKnown, IsSoundWorld, WorldState}
 use Rattle.cb_world.proofs.Laws.{empty_value, window_at}
 use Rattle.cb_rule.specs.declared.view.View.{View}

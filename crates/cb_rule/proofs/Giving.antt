@@ -1,5 +1,5 @@
 -- The holder gives the lock back, and the far state to its slot: the history has its turn more.
-use Rattle.std.proofs.Common.{◌≡◌, ◌≢◌, ℕ, zero, suc, ◌+◌, ◌*◌, ◌^◌, ◌<◌, ◌≤◌, Bool, true, cond, eqb, List, [], ◌∷◌, ◌++◌, length, set, Option, Some, None, sym, refl, ap, ◌∙◌, subst, inl, inr, ⊎_elim, arith, eq-eqb, ne_eqb, length-set, get_or-set_same, true≢false}
+use Rattle.std.proofs.Common.{◌≡◌, ◌≢◌, ℕ, zero, suc, ◌+◌, ◌*◌, ◌^◌, ◌<◌, ◌≤◌, Bool, true, cond, eqb, List, [], ◌∷◌, ◌++◌, length, set, Option, Some, None, sym, refl, ap, ◌∙◌, subst, inl, inr, ⊎_elim, arith, eq-eqb, eqb-true, ne_eqb, length-set, get_or-set_same, true≢false}
 use mathlib.Core.Option.{some, none}
 use lib.ListN.{get_elem?}
 use native.Mathlib.Decide.{ℕ_discrete}
@@ -21,7 +21,7 @@ use Rattle.cb_rule.specs.History.{is_version}
 use Rattle.cb_rule.specs.Lists.{times, total, Each, Has}
 use Rattle.cb_rule.specs.Locking.{Deeds, IsTimed, IsUnlocked, Locked, Stood, TurnStands, is_turn, turn_number, turns_on, when_ended}
 use Rattle.cb_rule.specs.LockSteps.{HasGiven, IsFoundFreed, MayGive, gave, gave_lock, turn_of}
-use Rattle.cb_rule.specs.Records.{ReadOk, SeenOk}
+use Rattle.cb_rule.specs.Records.{IsSettledBy, ReadOk, SeenOk, WroteOk}
 use Rattle.cb_rule.specs.Own.{AreOwn, Make, reads_it, traces, writes_it}
 use Rattle.cb_rule.specs.Rule.{RuleKept}
 use Rattle.cb_rule.specs.Ruled.{Ruled}
@@ -32,9 +32,9 @@ use Rattle.cb_rule.proofs.Flagging.{flagged, lock_word}
 use Rattle.cb_rule.proofs.Glancing.{freed_at}
 use Rattle.cb_rule.proofs.Keeping.{seats_stay}
 use Rattle.cb_rule.proofs.Lifting.{shares_stay}
-use Rattle.cb_rule.proofs.Members.{each_has}
+use Rattle.cb_rule.proofs.Members.{each_has, has_times}
 use Rattle.cb_rule.proofs.Newest.{known_below, known_made}
-use Rattle.cb_rule.proofs.Owning.{known_traces, not_it, own_given}
+use Rattle.cb_rule.proofs.Owning.{both_true, known_traces, not_it, own_given}
 use Rattle.cb_rule.proofs.Seating.{never_now}
 
 -- ---- far states by how many turns were counted, and one more
@@ -158,16 +158,43 @@ module _ (deeds : Deeds) (first : ℕ) (c : Config) (s : Table) (id : ℕ) (v : 
       (ap (λ (k : Shown). object_at k o.handle) (sym ((ok.seats id v at).knows may.holds))
       ∙ o.empty))) may.found
 
-  -- what a job Read told stands in the history
-  read_ok : ReadOk r.history job reply
+  wrote_all : Each (λ e. Has e r.history) (v.fresh ++ v.written)
+  wrote_all = let k = (r.kept.seats id v at).lasting in
+      each_append (λ e. Has e r.history) v.fresh v.written k.fresh k.written
+
+  -- what stands in the history now was settled before this turn ends
+  settled_now : (e : Entry) → Has e r.history → IsSettledBy r.history (length r.history) e
+  settled_now e there = record {
+    newer = [];
+    older = r.history;
+    parts = refl;
+    short = omega arith;
+    there = there;
+  }
+
+  -- so is what a job Read told
+  read_ok : ReadOk r.history (length r.history) job reply
   read_ok handle version bytes asked told = let x = may.reads handle version bytes asked told in
       let o = each_has (SeenOk r.history) x.0 v.seen (r.kept.seats id v at).lasting.seen x.1 in (
         o.0,
-        o.1,
+        settled_now o.0 o.1,
         sym (ap (λ (y : Seen). y.handle) o.2) ∙ x.2,
         sym (ap (λ (y : Seen). y.version) o.2) ∙ x.3,
         sym (ap (λ (y : Seen). y.freed) o.2) ∙ x.4,
         x.5 ∙ ap (λ (y : Seen). bytes_in y.words y.len) o.2,
+      )
+
+  -- and what a job told as written
+  wrote_ok : WroteOk r.history (length r.history) job reply
+  wrote_ok h n told = let pos = may.writes h n told in
+      let parts = times-append (is_version h n) v.fresh v.written in
+      let found = has_times (is_version h n) (v.fresh ++ v.written) (omega (arith, pos, parts)) in
+      let named = both_true (eqb found.0.handle h) (eqb found.0.version n) found.2 in (
+        found.0,
+        settled_now found.0
+            (each_has (λ e. Has e r.history) found.0 (v.fresh ++ v.written) wrote_all found.1),
+        eqb-true found.0.handle h named.0,
+        eqb-true found.0.version n named.1,
       )
 
   -- no turn ended before this one began
@@ -178,10 +205,6 @@ module _ (deeds : Deeds) (first : ℕ) (c : Config) (s : Table) (id : ℕ) (v : 
       → moment ≤ u.since
   no_runner moment j u there his = absurd (let le = total-at holding views j u there in
       let one = hit u.holds his in omega (arith, le, one, nobody))
-
-  wrote_all : Each (λ e. Has e r.history) (v.fresh ++ v.written)
-  wrote_all = let k = (r.kept.seats id v at).lasting in
-      each_append (λ e. Has e r.history) v.fresh v.written k.fresh k.written
 
   kept_given : (n : ℕ) → RuleKept c (set s.words 0 n) views r.known r.history
   kept_given n = let k = (r.kept.seats id v at).lasting in
@@ -202,13 +225,17 @@ module _ (deeds : Deeds) (first : ℕ) (c : Config) (s : Table) (id : ℕ) (v : 
           reached = omega arith;
           told = tt;
           began = λ h l. never_now r.history h;
-          past = (record {
-            lasted = k.reached;
-            reached = omega arith;
-            read = read_ok;
-            told = k.told;
-            began = k.began;
-          }, k.past);
+          past = (
+            record {
+              lasted = k.reached;
+              reached = omega arith;
+              read = read_ok;
+              wrote = wrote_ok;
+              told = k.told;
+              began = k.began;
+            },
+            k.past,
+          );
         };
       } (omega (arith, nobody))
 

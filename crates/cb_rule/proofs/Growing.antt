@@ -13,7 +13,7 @@ use Rattle.cb_rule.specs.declared.view.Look.{Look}
 use Rattle.cb_rule.specs.declared.view.View.{View}
 use Rattle.cb_rule.specs.History.{Value, WasNow}
 use Rattle.cb_rule.specs.Lists.{Has}
-use Rattle.cb_rule.specs.Records.{LookOk, SeenOk, PeekedOk, TellsOk, OldOk, TurnOk, RecordOk}
+use Rattle.cb_rule.specs.Records.{IsSettledBy, LookOk, SeenOk, PeekedOk, TellsOk, OldOk, TurnOk, RecordOk}
 use Rattle.cb_rule.proofs.Counts.{each_map}
 
 pub has_more : {A : Type 0} (x : A) (more xs : List A) → Has x xs → Has x (more ++ xs)
@@ -64,13 +64,23 @@ module _ (more es : List Entry) where
   old_more first since h (is.Claimed len place v words) ok =
       (ok.0, now_more since since since h v _ (omega arith) ok.1)
 
+  settled_more : (until : ℕ) (e : Entry) → IsSettledBy es until e → IsSettledBy (more ++ es) until e
+  settled_more until e s = record {
+    newer = more ++ s.newer;
+    older = s.older;
+    parts = ap (λ (ys : List Entry). more ++ ys) s.parts ∙ sym (append_assoc more s.newer s.older);
+    short = s.short;
+    there = s.there;
+  }
+
   pub turn_more : (c : Config) (first : ℕ) (t : Turn)
       → TurnOk c first es t → TurnOk c first (more ++ es) t
   turn_more c first t ok = record {
     lasted = ok.lasted;
     reached = let a = ok.reached in let b = longer more es in omega (arith, a, b);
     read = λ handle version bytes asked told. let z = ok.read handle version bytes asked told in
-        (z.0, has_more z.0 more es z.1, z.2, z.3, z.4, z.5);
+        (z.0, settled_more t.until z.0 z.1, z.2, z.3, z.4, z.5);
+    wrote = λ h n told. let z = ok.wrote h n told in (z.0, settled_more t.until z.0 z.1, z.2, z.3);
     told = each_map (TellsOk first es t.since t.until) (TellsOk first (more ++ es) t.since t.until)
         t.acts (λ e o. tells_more first t.since t.until t.until e (omega arith) o) ok.told;
     began = λ h l. old_more first t.since h (object_at t.start h) (ok.began h l);

@@ -21,5 +21,5 @@ pub use Rattle.cb_rule.proofs.Seating.{joins, splits}
 pub use Rattle.cb_rule.proofs.ShownWorld.{world_shown}
 pub use Rattle.cb_rule.proofs.Showing.{is_shown, shown_sound}
 pub use Rattle.cb_rule.proofs.Taking.{takes_lock}
-pub use Rattle.cb_rule.proofs.Told.{are_told, claimed_written, far_written}
+pub use Rattle.cb_rule.proofs.Told.{are_told, claimed_written, far_written, never_overtaken}
 pub use Rattle.cb_rule.proofs.Turns.{one_history, turns_stand}

@@ -1,6 +1,6 @@
 -- The rule says what the turns of all views were told of objects, so the versions that they were
 -- told were written.
-use Rattle.std.proofs.Common.{◌≡◌, ℕ, ◌<◌, ◌≤◌, List, sym, ◌∙◌, subst, arith}
+use Rattle.std.proofs.Common.{◌≡◌, ℕ, suc, ◌<◌, ◌≤◌, List, [], ◌∷◌, ◌++◌, length, sym, ap, ◌∙◌, subst, arith}
 use Rattle.cb_ptr.specs.declared.word.State.TheVariants as word
 use Rattle.cb_ptr.specs.Word.{state_of}
 use Rattle.cb_types.specs.declared.config.Config.{Config}
@@ -10,17 +10,17 @@ use Rattle.cb_world.specs.declared.object.Object.TheVariants as is
 use Rattle.cb_world.specs.Shown.{object_at}
 use Rattle.cb_rule.specs.declared.turn.Turn.{Turn}
 use Rattle.cb_rule.specs.declared.view.View.{View}
-use Rattle.cb_rule.specs.History.{Value, WasNow}
+use Rattle.cb_rule.specs.History.{IsEntryHistory, Value, WasNow, top}
 use Rattle.cb_rule.specs.Lists.{Has}
-use Rattle.cb_rule.specs.Locking.{Deeds, Locked}
+use Rattle.cb_rule.specs.Locking.{Deeds, Locked, turn_number}
 use Rattle.cb_rule.specs.OneHistory.{Made}
 use Rattle.cb_rule.specs.Promised.{Wrote}
-use Rattle.cb_rule.specs.Records.{OldOk, TellsOk, TurnOk}
+use Rattle.cb_rule.specs.Records.{OldOk, TellsOk, TellsWritten, TurnOk}
 use Rattle.cb_rule.specs.Ruled.{Ruled}
 use Rattle.cb_rule.specs.Slot.{Table}
 use Rattle.cb_rule.specs.Told.{AreTold}
-use Rattle.cb_rule.proofs.Growing.{has_more}
-use Rattle.cb_rule.proofs.Histories.{newest_entry}
+use Rattle.cb_rule.proofs.Growing.{has_more, longer}
+use Rattle.cb_rule.proofs.Histories.{entry_within, newest_entry}
 use Rattle.cb_rule.proofs.Members.{each_has}
 use Rattle.cb_rule.proofs.Promising.{has_wrote, wrote_has}
 use Rattle.cb_rule.proofs.Timing.{in_order}
@@ -36,6 +36,26 @@ are_told deeds first c s r = subst (λ (n : ℕ). AreTold n c s.views) r.starts 
       (r.kept.seats m.1.0 m.0 m.1.1).lasting.past m.2;
   order = in_order deeds first c s r;
 }
+
+-- what stands in the older part of a history stands in a longer one too, and that is a history
+in_longer : (e : Entry) (n1 o1 n2 o2 : List Entry) → n1 ++ o1 ≡ n2 ++ o2 → length o1 ≤ length o2
+    → Has e o1 → Has e o2
+in_longer e n1 o1 [] o2 same le there = subst (Has e) same (has_more e n1 o1 there)
+in_longer e [] o1 (y ∷ n2) o2 same le there =
+    absurd (let long : length o1 ≡ suc (length (n2 ++ o2)) =
+    ap (λ (es : List Entry). length es) same in let more = longer n2 o2 in
+    omega (arith, long, more, le))
+in_longer e (x ∷ n1) o1 (y ∷ n2) o2 same le there =
+    in_longer e n1 o1 n2 o2 (ap rest_of same) le there
+  where
+    rest_of : List Entry → List Entry
+    rest_of [] = []
+    rest_of (z ∷ zs) = zs
+
+of_older : (first : ℕ) (newer older : List Entry) → IsEntryHistory first (newer ++ older)
+    → IsEntryHistory first older
+of_older first [] older h = h
+of_older first (x ∷ newer) older h = of_older first newer older h.1
 
 -- what was the newest at some time was written
 was_written : (es : List Entry) (since until h v : ℕ) (value : Value) → 0 < v
@@ -61,6 +81,24 @@ module _ (first : ℕ) (pos : 1 ≤ first) (c : Config) (views : List View)
       let low = k.0 in
       let e = was_written r.history t.since t.until h v _ (omega (arith, low, pos)) k.1 in
       (k.2, (e.0, r.written e.0 e.1, e.2, e.3))
+
+  -- What a claim told was not overtaken by an entry that an earlier turn wrote.
+  pub never_overtaken : (u : Turn) → Made views u → turn_number u < turn_number t → (h n : ℕ)
+      → TellsWritten u.job u.reply h n → (w v : ℕ) (words : List ℕ)
+      → Has (Claimed h w v words) t.acts → n ≤ v
+  never_overtaken u mu less h n wrote w v words has =
+      let x = (r.told u mu).wrote h n wrote in
+      let k = each_has (TellsOk first r.history t.since t.until) (Claimed h w v words) t.acts
+      (r.told t m).told has in
+      let now = k.1 in let short = x.1.short in let order = r.order u t mu m less in
+      let from = now.low in
+      let there = in_longer x.0 x.1.newer x.1.older now.newer now.older
+      (sym x.1.parts ∙ now.parts) (omega (arith, short, order, from)) x.1.there in
+      let ordered = of_older first now.newer now.older
+      (subst (IsEntryHistory first) now.parts r.ordered) in
+      let high = (entry_within first pos x.0 now.older ordered there).1 in
+      let top_is : top now.older x.0.handle ≡ v = ap (top now.older) x.2 ∙ now.last in
+      let version = x.3 in omega (arith, high, top_is, version)
 
   -- So is that of an object that was far when the turn began.
   pub far_written : (h len v : ℕ) (words : List ℕ) → h < c.handles

@@ -1,10 +1,9 @@
 -- Worked examples: what a view has of any object by itself, and what breaks one part alone.
-use Rattle.std.proofs.Common.{◌≡◌, ◌⊎◌, ℕ, ◌+◌, [], ◌∷◌, false, refl, ap, subst, sym, inl, inr, ⊎_elim, arith}
+use Rattle.std.proofs.Common.{◌≡◌, ◌+◌, [], ◌∷◌, false, refl, ap, subst, inl, inr, ⊎_elim, arith}
 use Rattle.cb_world.specs.declared.entry.Entry.{Entry}
 use Rattle.cb_world.specs.Written.{entry}
 use Rattle.cb_rule.specs.declared.view.Seen.{Seen}
 use Rattle.cb_rule.specs.declared.view.View.{View}
-use Rattle.cb_rule.specs.Lists.{Has}
 use Rattle.cb_rule.specs.OwnStands.{WroteItself}
 use Rattle.cb_rule.specs.Records.{seen_of}
 use Rattle.cb_rule.specs.RecordStands.{RecordStands}

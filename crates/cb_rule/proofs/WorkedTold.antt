@@ -1,9 +1,9 @@
 -- Worked examples of what turns were told: what meets the definition, and what breaks one part.
-use Rattle.std.proofs.Common.{◌≡◌, ℕ, zero, suc, ◌<◌, ◌≤◌, false, List, [], ◌∷◌, ◌++◌, Option, None, Some, get_or, sym, refl, ap, inl, inr, ⊎_elim, lit<, lit≤, arith}
+use Rattle.std.proofs.Common.{◌≡◌, ℕ, zero, suc, ◌<◌, ◌≤◌, false, List, [], ◌∷◌, ◌++◌, Option, None, Some, length, get_or, sym, refl, ap, subst, inl, inr, ⊎_elim, lit<, lit≤, arith}
 use Rattle.cb_types.specs.declared.job.Job.{Job}
-use Rattle.cb_types.specs.declared.job.Job.TheVariants.{Evict, Read}
+use Rattle.cb_types.specs.declared.job.Job.TheVariants.{Evict, Read, Write}
 use Rattle.cb_types.specs.declared.reply.Reply.{Reply}
-use Rattle.cb_types.specs.declared.reply.Reply.TheVariants.{Bytes}
+use Rattle.cb_types.specs.declared.reply.Reply.TheVariants.{Bytes, Version}
 use Rattle.cb_world.specs.declared.entry.Entry.{Entry}
 use Rattle.cb_world.specs.declared.event.Event.{Event}
 use Rattle.cb_world.specs.declared.event.Event.TheVariants.{Claimed}
@@ -17,12 +17,13 @@ use Rattle.cb_rule.specs.Lists.{Each, Has}
 use Rattle.cb_rule.specs.Locking.{turn_number}
 use Rattle.cb_rule.specs.OneHistory.{Made}
 use Rattle.cb_rule.specs.Promised.{Wrote}
-use Rattle.cb_rule.specs.Records.{OldOk, ReadOk, TurnOk}
+use Rattle.cb_rule.specs.Records.{IsSettledBy, OldOk, ReadOk, TellsWritten, TurnOk}
 use Rattle.cb_rule.specs.Steps.{blank}
 use Rattle.cb_rule.specs.Told.{AreTold}
+use Rattle.cb_rule.proofs.Growing.{has_more}
 use Rattle.cb_rule.proofs.Histories.{entry_before, same_entry}
 use Rattle.cb_rule.proofs.Members.{each_has}
-use Rattle.cb_rule.proofs.WorkedHistory.{history as in_order, made, some_entries, written}
+use Rattle.cb_rule.proofs.WorkedHistory.{history as in_order, made, other, some_entries, written}
 use Rattle.cb_rule.proofs.WorkedLocking.{far, one_view, seen}
 use Rattle.cb_rule.proofs.WorkedStands.{here}
 use Rattle.cb_rule.proofs.WorkedViews.{pair_of}
@@ -65,11 +66,17 @@ Told es t = AreTold 3 pair_of (seat es t ∷ [])
 wrote : (es : List Entry) (t : Turn) (e : Entry) → Has e es → Wrote (seat es t ∷ []) e
 wrote es t e there = (seat es t, (0, refl), there)
 
+pub no_write : (h n : ℕ) → TellsWritten Evict None h n → ⊥
+no_write h n (inl x) = absurd (let e = x.2 in cc)
+no_write h n (inr (inl x)) = absurd (let e = x.3 in cc)
+no_write h n (inr (inr x)) = absurd (let e = x.1 in cc)
+
 good_ok : TurnOk pair_of 3 some_entries good
 good_ok = record {
   lasted = lit≤ tt;
   reached = lit≤ tt;
   read = λ handle version bytes asked told. absurd (cc);
+  wrote = λ h n told. absurd (no_write h n told);
   told = (
     (
       lit≤ tt,
@@ -123,6 +130,32 @@ ended_too_early t = let e = t.lasted in omega (arith, e)
 ended_too_late : TurnOk pair_of 3 some_entries record good { until = 4 } → ⊥
 ended_too_late t = let e = t.reached in omega (arith, e)
 
+-- ---- the newest of three entries was settled when there were three
+settled_last : IsSettledBy some_entries 3 written
+settled_last = record {
+  newer = [];
+  older = some_entries;
+  parts = refl;
+  short = lit≤ tt;
+  there = inl refl;
+}
+
+-- the last of three entries is not among the first two
+not_among_two : (newer older : List Entry) (e : Entry) → some_entries ≡ newer ++ older
+    → length older ≤ 2 → Has e older → e.handle ≡ 1 → e.version ≡ 4 → ⊥
+not_among_two [] older e parts short there handle version = let n : 3 ≡ length older =
+    ap (λ (es : List Entry). length es) parts in omega (arith, n, short)
+not_among_two (x ∷ newer) older e parts short there handle version = none_else
+    (subst (Has e) (sym (ap tail parts)) (has_more e newer older there))
+  where
+    tail : List Entry → List Entry
+    tail [] = []
+    tail (y ∷ ys) = ys
+
+    none_else : Has e (other ∷ made ∷ []) → ⊥
+    none_else has = let low = each_has (λ (y : Entry). y.version ≤ 3) e (other ∷ made ∷ [])
+        (lit≤ tt, (lit≤ tt, tt)) has in omega (arith, low, version)
+
 -- a job Read that told a version which no entry has
 abbrev reader : ℕ → Turn
 reader version = record good {
@@ -130,10 +163,10 @@ reader version = record good {
   reply = Some (Bytes version (bytes_in (9 ∷ []) 8));
 }
 
-read_well : ReadOk some_entries (reader 4).job (reader 4).reply
+read_well : ReadOk some_entries 3 (reader 4).job (reader 4).reply
 read_well handle version bytes asked told = (
   written,
-  inl refl,
+  settled_last,
   ap handle_in asked,
   ap version_in told,
   refl,
@@ -143,7 +176,30 @@ read_well handle version bytes asked told = (
 read_unwritten : TurnOk pair_of 3 some_entries (reader 6) → ⊥
 read_unwritten t = let z = t.read (record { n = 1 }) 6 (bytes_in (9 ∷ []) 8) refl refl in
     let low = each_has (λ (e : Entry). e.version ≤ 4) z.0 some_entries
-    (lit≤ tt, (lit≤ tt, (lit≤ tt, tt))) z.1 in let v = z.3 in omega (arith, low, v)
+    (lit≤ tt, (lit≤ tt, (lit≤ tt, tt)))
+    (subst (Has z.0) (sym z.1.parts) (has_more z.0 z.1.newer z.1.older z.1.there)) in
+    let v = z.3 in omega (arith, low, v)
+
+-- or one that was settled later
+read_too_early : TurnOk pair_of 3 some_entries record (reader 4) { until = 2 } → ⊥
+read_too_early t = let z = t.read (record { n = 1 }) 4 (bytes_in (9 ∷ []) 8) refl refl in
+    not_among_two z.1.newer z.1.older z.0 z.1.parts z.1.short z.1.there z.2 z.3
+
+-- a write that told version 4, which was settled when the history had three entries
+abbrev writer : ℕ → Turn
+writer until = record good {
+  job = Write (record { n = 1 }) 0 [];
+  reply = Some (Version 4);
+  until = until;
+}
+
+settled_later : IsSettledBy some_entries 2 written → ⊥
+settled_later s = not_among_two s.newer s.older written s.parts s.short s.there refl refl
+
+ended_before_its_write : TurnOk pair_of 3 some_entries (writer 2) → ⊥
+ended_before_its_write t =
+    let z = t.wrote 1 4 (inr (inl (record { n = 1 }, 0, [], refl, refl, refl))) in
+    not_among_two z.1.newer z.1.older z.0 z.1.parts z.1.short z.1.there z.2 z.3
 
 -- a turn of the next number that began before this one ended
 abbrev overlapping : View

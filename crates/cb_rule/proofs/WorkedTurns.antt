@@ -3,8 +3,8 @@
 use Rattle.std.proofs.Common.{◌≡◌, ℕ, zero, suc, ◌+◌, ◌^◌, ◌<◌, ◌≤◌, false, List, [], ◌∷◌, length, Some, None, sym, refl, ap, inl, inr, ⊎_elim, lit<, lit≤, arith, true≢false}
 use mathlib.Core.Option.{none}
 use Rattle.atomic_table.specs.Table.{Step, step}
-use Rattle.cb_types.specs.declared.job.Job.TheVariants.{Evict, Read}
-use Rattle.cb_types.specs.declared.reply.Reply.TheVariants.{Bytes}
+use Rattle.cb_types.specs.declared.job.Job.TheVariants.{Evict, Read, Free}
+use Rattle.cb_types.specs.declared.reply.Reply.TheVariants.{Bytes, Version}
 use Rattle.cb_world.specs.declared.entry.Entry.{Entry}
 use Rattle.cb_world.specs.declared.event.Event.TheVariants.{Looked}
 use Rattle.cb_world.specs.declared.object.Object.TheVariants as is
@@ -26,7 +26,7 @@ use Rattle.cb_rule.specs.Steps.{Knows, freed_seen, version_seen}
 use Rattle.cb_rule.proofs.Members.{each_has}
 use Rattle.cb_rule.proofs.WorkedHistory.{made}
 use Rattle.cb_rule.proofs.WorkedLocking.{far, from_four, home, no_frames, one_turn, one_view, quiet, seat, seen, stood, table, turn}
-use Rattle.cb_rule.proofs.WorkedTold.{bytes_of, handle_in, version_in}
+use Rattle.cb_rule.proofs.WorkedTold.{bytes_of, handle_in, no_write, version_in}
 use Rattle.cb_rule.proofs.WorkedViews.{pair_of}
 
 -- ---- the lock is taken after one turn
@@ -165,6 +165,7 @@ may_give = record {
   adds = inl (lit< tt, refl);
   did = λ n. refl;
   reads = λ handle version bytes asked told. absurd (cc);
+  writes = λ h n told. absurd (no_write h n told);
   found = tt;
   makes = (lit< tt, tt);
 }
@@ -236,6 +237,12 @@ told_as_read handle version bytes asked told = (
 told_unread : MayGive quiet pair_of (Read (record { n = 1 })) (Some (Bytes 4 [])) (far 2) [] []
     record at_work { fresh = [] } → ⊥
 told_unread m = (m.reads (record { n = 1 }) 4 [] refl refl).1
+
+-- a free that tells a version which the record has not as written
+told_unwritten : MayGive quiet pair_of (Free (record { n = 1 })) (Some (Version 5)) (far 2) [] []
+    record at_work { fresh = [] } → ⊥
+told_unwritten m = let e : 0 < 0 =
+    m.writes 1 5 (inr (inr (record { n = 1 }, refl, refl, refl))) in omega (arith, e)
 
 -- ---- two turns are one history
 abbrev two_turns : List Turn

@@ -20,7 +20,9 @@ use Rattle.cb_rule.specs.declared.view.View.{View}
 use Rattle.cb_rule.specs.Lists.{Each, Has}
 use Rattle.cb_rule.specs.Locking.{Deeds, Stood}
 use Rattle.cb_rule.specs.Own.{Make}
+use Rattle.cb_rule.specs.Records.{TellsWritten}
 use Rattle.cb_rule.specs.Rule.{AreSized}
+use Rattle.cb_rule.specs.Seats.{written_on}
 use Rattle.cb_rule.specs.Slot.{LockSlot, Sat}
 use Rattle.cb_rule.specs.Steps.{Knows, freed_seen, nothing}
 
@@ -103,8 +105,12 @@ ReadsTold job reply v = (handle : Handle) (version : ℕ) (bytes : List ℕ) →
     → reply ≡ Some (Bytes version bytes) → (s : Seen) × Has s v.seen × (s.handle ≡ handle.n)
     × (s.version ≡ version) × (s.freed ≡ false) × (bytes ≡ bytes_in s.words s.len)
 
+-- the version that a job is answered to have written stands in the record
+abbrev pub WritesTold : Job → Option Reply → View → Type 0
+WritesTold job reply v = (h n : ℕ) → TellsWritten job reply h n → 0 < written_on h n v
+
 -- The holder may give the lock back with this far state: what it knows is sound for it, and the turn
--- did what its job says, told what was read, and made what is said to be its own.
+-- did what its job says, told what was read and written, and made what is said to be its own.
 pub record MayGive (deeds : Deeds) (c : Config) (job : Job) (reply : Option Reply) (far : FarState)
     (freed : List Seen) (made : List ℕ) (v : View) : Type 0 where
   pub holds : v.holds ≡ true
@@ -112,6 +118,7 @@ pub record MayGive (deeds : Deeds) (c : Config) (job : Job) (reply : Option Repl
   pub adds : AddsTurn v.took far
   pub did : (n : ℕ) → deeds c (turn_of job reply far n v)
   pub reads : ReadsTold job reply v
+  pub writes : WritesTold job reply v
   pub found : Each (IsFoundFreed v) freed
   pub makes : Each (λ h. Make v.known.first h v.fresh) made
 

@@ -1,11 +1,11 @@
 -- What a view says is true: of its pins and claims now, of its entries and its turns for good.
-use Rattle.std.specs.Prelude.{◌≡◌, ◌≢◌, ℕ, ◌+◌, ◌≤◌, ◌<◌, true, false, List, length, Option, Some, slice_index}
+use Rattle.std.specs.Prelude.{◌≡◌, ◌≢◌, ◌⊎◌, ℕ, ◌+◌, ◌≤◌, ◌<◌, true, false, List, ◌++◌, length, Option, Some, slice_index}
 use Rattle.cb_types.specs.declared.config.Config.{Config}
 use Rattle.cb_types.specs.declared.handle.Handle.{Handle}
 use Rattle.cb_types.specs.declared.job.Job.{Job}
-use Rattle.cb_types.specs.declared.job.Job.TheVariants.{Read}
+use Rattle.cb_types.specs.declared.job.Job.TheVariants.{Make, Read, Write, Free}
 use Rattle.cb_types.specs.declared.reply.Reply.{Reply}
-use Rattle.cb_types.specs.declared.reply.Reply.TheVariants.{Bytes}
+use Rattle.cb_types.specs.declared.reply.Reply.TheVariants.{Bytes, Made, Version}
 use Rattle.cb_ptr.specs.declared.word.State.TheVariants as word
 use Rattle.cb_ptr.specs.Word.{len_of, state_of}
 use Rattle.cb_world.specs.declared.entry.Entry.{Entry}
@@ -93,17 +93,42 @@ OldOk first es since h (is.Here len place) = Unit {0}
 OldOk first es since h (is.Claimed len place v words) =
     (first ≤ v) × WasNow es since since h v (holding_words len words)
 
--- the bytes that a job Read told are those of an entry of its object, at the version that it told
-abbrev pub ReadOk : List Entry → Job → Option Reply → Type 0
-ReadOk es job reply = (handle : Handle) (version : ℕ) (bytes : List ℕ) → job ≡ Read handle
-    → reply ≡ Some (Bytes version bytes) → (e : Entry) × Has e es × (e.handle ≡ handle.n)
-    × (e.version ≡ version) × (e.freed ≡ false) × (bytes ≡ bytes_in e.after e.len)
+-- the entry was settled when the history had at most so many entries
+pub record IsSettledBy (es : List Entry) (until : ℕ) (e : Entry) : Type 0 where
+  pub newer : List Entry
+  pub older : List Entry
+  pub parts : es ≡ newer ++ older
+  pub short : length older ≤ until
+  pub there : Has e older
+
+-- the bytes that a job Read told are those of an entry of its object, at the version that it told,
+-- which was settled before it ended
+abbrev pub ReadOk : List Entry → ℕ → Job → Option Reply → Type 0
+ReadOk es until job reply = (handle : Handle) (version : ℕ) (bytes : List ℕ) → job ≡ Read handle
+    → reply ≡ Some (Bytes version bytes) → (e : Entry) × IsSettledBy es until e
+    × (e.handle ≡ handle.n) × (e.version ≡ version) × (e.freed ≡ false)
+    × (bytes ≡ bytes_in e.after e.len)
+
+-- a job so answered wrote this version of the object: a make, a write or a free
+abbrev pub TellsWritten : Job → Option Reply → ℕ → ℕ → Type 0
+TellsWritten job reply h n =
+    ((bytes : List ℕ) × (handle : Handle) × (job ≡ Make bytes) × (reply ≡ Some (Made handle n))
+    × (handle.n ≡ h))
+    ⊎ (((handle : Handle) × (at : ℕ) × (bytes : List ℕ) × (job ≡ Write handle at bytes)
+    × (reply ≡ Some (Version n)) × (handle.n ≡ h))
+    ⊎ ((handle : Handle) × (job ≡ Free handle) × (reply ≡ Some (Version n)) × (handle.n ≡ h)))
+
+-- the entry that it wrote was settled before it ended
+abbrev pub WroteOk : List Entry → ℕ → Job → Option Reply → Type 0
+WroteOk es until job reply = (h n : ℕ) → TellsWritten job reply h n → (e : Entry)
+    × IsSettledBy es until e × (e.handle ≡ h) × (e.version ≡ n)
 
 -- a turn that ended, in this history
 pub record TurnOk (c : Config) (first : ℕ) (es : List Entry) (t : Turn) : Type 0 where
   pub lasted : t.since ≤ t.until
   pub reached : t.until ≤ length es
-  pub read : ReadOk es t.job t.reply
+  pub read : ReadOk es t.until t.job t.reply
+  pub wrote : WroteOk es t.until t.job t.reply
   pub told : Each (TellsOk first es t.since t.until) t.acts
   pub began : (h : ℕ) → h < c.handles → OldOk first es t.since h (object_at t.start h)
 

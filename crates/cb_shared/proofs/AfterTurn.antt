@@ -1,5 +1,5 @@
 -- What a turn leaves of the record of its pass.
-use Rattle.std.proofs.Common.{◌≡◌, ℕ, ◌+◌, ◌<◌, ◌≤◌, List, [], ◌∷◌, ◌++◌, length, Option, None, Some, Result, Ok, Err, false, refl, sym, ap, ◌∙◌, subst, inl, inr, arith}
+use Rattle.std.proofs.Common.{◌≡◌, ℕ, ◌+◌, ◌<◌, ◌≤◌, List, [], ◌∷◌, ◌++◌, ◌&&◌, Bool, length, Option, None, Some, Result, Ok, Err, false, refl, sym, ap, ◌∙◌, subst, inl, inr, arith, eqb, eq-eqb}
 use Rattle.std.proofs.lemmas.Option.{same_Some}
 use Rattle.std.specs.Prelude.{IfOk}
 use Rattle.atomic_table.specs.Seated.{TableId}
@@ -8,7 +8,7 @@ use Rattle.cb_ptr.specs.Word.{len_of}
 use Rattle.cb_types.specs.declared.config.Config.{Config}
 use Rattle.cb_types.specs.declared.job.Job.{Job}
 use Rattle.cb_types.specs.declared.handle.Handle.{Handle}
-use Rattle.cb_types.specs.declared.job.Job.TheVariants.{Filter, Read, Write, Free}
+use Rattle.cb_types.specs.declared.job.Job.TheVariants.{Filter, Make, Read, Write, Free}
 use Rattle.cb_types.specs.declared.reply.Reply.{Reply}
 use Rattle.cb_types.specs.declared.reply.Reply.TheVariants as answer
 use Rattle.cb_world.specs.declared.entry.Entry.{Entry}
@@ -18,14 +18,18 @@ use Rattle.cb_world.specs.FarState.{FarState}
 use Rattle.cb_world.specs.Memory.{bytes_in}
 use Rattle.cb_world.specs.Played.{after, played}
 use Rattle.cb_world.specs.Written.{written_by}
+use Rattle.cb_mutate.specs.JobWrites.{FreeWrites, MakeWrites, TurnWrites, WriteWrites}
+use Rattle.cb_core.specs.TurnLeaves.{OutcomeWrites}
 use Rattle.cb_core.specs.Unavailable.{TurnTells}
 use Rattle.cb_rule.specs.declared.turn.Turn.{Turn}
 use Rattle.cb_rule.specs.declared.view.Seen.{Seen}
 use Rattle.cb_rule.specs.declared.view.View.{View}
-use Rattle.cb_rule.specs.Lists.{Each, Has}
+use Rattle.cb_rule.specs.History.{is_version}
+use Rattle.cb_rule.specs.Lists.{times, Each, Has}
 use Rattle.cb_rule.specs.Locking.{Stood}
-use Rattle.cb_rule.specs.LockSteps.{AddsTurn, ReadsTold, gave_lock, took_lock, turn_of}
-use Rattle.cb_rule.specs.Own.{Make}
+use Rattle.cb_rule.specs.LockSteps.{AddsTurn, ReadsTold, WritesTold, gave_lock, took_lock, turn_of}
+use Rattle.cb_rule.specs.Own.{Make as IsMake}
+use Rattle.cb_rule.specs.Records.{TellsWritten}
 use Rattle.cb_rule.specs.Rule.{AreSized}
 use Rattle.cb_rule.specs.Slot.{LockSlot, Sat}
 use Rattle.cb_rule.specs.Steps.{AreNew, Knows, acted, version_seen}
@@ -36,6 +40,7 @@ use Rattle.cb_shared.specs.Places.{HoldsLock, IsOf, Place}
 use Rattle.cb_shared.specs.SeatLaws.{Runs, acted_is, acted_known, after_events, sized_after}
 use Rattle.cb_shared.specs.Turning.{CountsPins, Did, DidAs, JobReads, KnowsIt, KnowsOf, PinsTold, answer_of, made_by_turn, object_of, turn_part, with_own}
 use Rattle.cb_shared.specs.UnderLock.{GivesFar, IsBeginning, IsEnding, IsQuiet, TakesFar, TurnWith, TurnedBy, WorkBy}
+use Rattle.cb_rule.proofs.Laws.{hit}
 use Rattle.cb_shared.proofs.MadeFirst.{makes_own}
 
 pub sized_played : (c : Config) (es : List Event) (s : Shown) → AreSized c s
@@ -148,10 +153,7 @@ read_bytes handle es version bytes v d (inr x) = let f = x.finds in
       s,
       subst (λ (e : Part). Has s e.seen) (sym x.part)
           (subst (λ (e : Part). Has s (e.seen ++ x.before.seen)) (sym f.part) (inl refl)),
-      refl,
-      refl,
-      refl,
-      f.bytes_are,
+      (refl, refl, refl, f.bytes_are),
     )
 
 told_read : (job : Job) (es : List Event) (r : Result Reply NoMemory) (v : View) (d : Part)
@@ -163,11 +165,46 @@ told_read job es (Ok reply) v d w reads more handle version bytes asked told =
     (subst (λ (j : Job). JobReads j es (Ok reply) v d) asked reads)) in (
       x.0,
       subst (Has x.0) (sym more) (has_left x.0 d.seen v.seen x.1),
-      x.2,
-      x.3,
-      x.4,
-      x.5,
+      x.2.0,
+      x.2.1,
+      x.2.2,
+      x.2.3,
     )
+
+-- ---- and the version that it told stands as written
+version_hit : (h n : ℕ) (e : Entry) (more rest : List Entry) → more ≡ e ∷ rest → e.handle ≡ h
+    → e.version ≡ n → 0 < times (is_version h n) more
+version_hit h n e more rest are handle version =
+    let one = hit (is_version h n e) ((λ i. eqb (handle i) h && eqb (version i) n)
+    ∙ ap (λ (b : Bool). b && eqb n n) (eq-eqb h h refl) ∙ eq-eqb n n refl) in
+    let all = ap (times (is_version h n)) are in omega (arith, one, all)
+
+wrote_it : (job : Job) (reply : Reply) (more : List Entry) (h n : ℕ) → TurnWrites job reply more
+    → TellsWritten job (Some reply) h n → 0 < times (is_version h n) more
+wrote_it job reply more h n wrote (inl (bytes, handle, asked, told, is)) =
+    let x : MakeWrites bytes (answer.Made handle n) more =
+    subst (λ (z : Reply). TurnWrites (Make bytes) z more) (same_Some told)
+    (subst (λ (j : Job). TurnWrites j reply more) asked wrote) in
+    version_hit h n _ more [] x.2 is refl
+wrote_it job reply more h n wrote (inr (inl (handle, at, bytes, asked, told, is))) =
+    let x : WriteWrites handle.n at bytes (answer.Version n) more =
+    subst (λ (z : Reply). TurnWrites (Write handle at bytes) z more) (same_Some told)
+    (subst (λ (j : Job). TurnWrites j reply more) asked wrote) in
+    version_hit h n _ more [] x.5 is refl
+wrote_it job reply more h n wrote (inr (inr (handle, asked, told, is))) =
+    let x : FreeWrites handle.n (answer.Version n) more =
+    subst (λ (z : Reply). TurnWrites (Free handle) z more) (same_Some told)
+    (subst (λ (j : Job). TurnWrites j reply more) asked wrote) in
+    version_hit h n _ more [] x.1 is refl
+
+told_written : (job : Job) (r : Result Reply NoMemory) (more : List Entry) (w : View)
+    → OutcomeWrites job r more → w.fresh ≡ more → WritesTold job (answer_of r) w
+told_written job (Ok reply) more w wrote fresh h n told =
+    let some_one = wrote_it job reply more h n wrote told in
+    let same = ap (times (is_version h n)) fresh in omega (arith, some_one, same)
+told_written job (Err e) more w wrote fresh h n (inl x) = absurd (let told = x.3 in cc)
+told_written job (Err e) more w wrote fresh h n (inr (inl x)) = absurd (let told = x.4 in cc)
+told_written job (Err e) more w wrote fresh h n (inr (inr x)) = absurd (let told = x.2 in cc)
 
 pub ends_work : (c : Config) (job : Job) (r : Result Reply NoMemory) (took gave : FarState)
     (p q : Place) → IsBeginning c took p.me.0 → WorkBy c job r took gave p q
@@ -186,13 +223,15 @@ ends_work c job r took gave p q b w =
           (subst (λ (f : FarState). DidAs c job reply v.known es f gave) (sym b.took) w.did)));
       reads = told_read job es r v w.within q.me.0 (w.reads v (refl, refl, refl, refl, refl))
           (ap (λ (x : View). x.seen) m);
-      makes = subst (λ (x : View). Each (λ h. Make x.known.first h x.fresh)
+      writes = told_written job r w.more q.me.0 w.wrote
+          (ap (λ (x : View). x.fresh) (ap (λ (x : Sat). x.0) w.moves.2) ∙ w.fresh);
+      makes = subst (λ (x : View). Each (λ h. IsMake x.known.first h x.fresh)
           (made_by_turn job reply))
           (sym (ap (λ (x : Sat). x.0) w.moves.2))
-          (subst (λ (s : Shown). Each (λ h. Make s.first h (acted es v).fresh)
+          (subst (λ (s : Shown). Each (λ h. IsMake s.first h (acted es v).fresh)
           (made_by_turn job reply))
           (sym (acted_known es v))
-          (subst (λ (l : List Entry). Each (λ h. Make (played es v.known).first h l)
+          (subst (λ (l : List Entry). Each (λ h. IsMake (played es v.known).first h l)
           (made_by_turn job reply)) (sym w.fresh)
           (makes_own c job r v.known (played es v.known) es took gave w.more w.did w.wrote
           w.stood.sound.here.known.first)));

@@ -64,6 +64,7 @@ may_give c job reply me far e = record {
   adds = e.adds;
   did = e.did;
   reads = e.reads;
+  writes = e.writes;
   found = tt;
   makes = e.makes;
 }

@@ -285,6 +285,11 @@ ends_with_bytes_unread : IsEnding two (jobs.Read (the_handle 1)) (Some (answer.B
     (record (beginner (far last) known) { seen = [] }) → ⊥
 ends_with_bytes_unread e = (e.reads (the_handle 1) 3 [] refl refl).1
 
+ends_with_a_version_unwritten : IsEnding two (jobs.Free (the_handle 1)) (Some (answer.Version 9))
+    (far last) (beginner (far last) known) → ⊥
+ends_with_a_version_unwritten e =
+    let n : 0 < 0 = e.writes 1 9 (inr (inr (the_handle 1, refl, refl, refl))) in omega (arith, n)
+
 ends_without_its_make : IsEnding two (jobs.Make []) (Some (answer.Made (the_handle 1) 3)) (far last)
     (beginner (far last) known) → ⊥
 ends_without_its_make e = let n : 0 < 0 = e.makes.0 in omega (arith, n)

@@ -15,6 +15,7 @@ use Rattle.cb_core.specs.Turned.{worn}
 use Rattle.cb_rule.specs.declared.view.View.{View}
 use Rattle.cb_rule.specs.Locking.{Stood}
 use Rattle.cb_rule.specs.LockSteps.{HasTaken, took_lock}
+use Rattle.cb_rule.specs.Records.{TellsWritten}
 use Rattle.cb_rule.specs.Slot.{Sat}
 use Rattle.cb_rule.specs.Steps.{Knows}
 use Rattle.cb_rule.proofs.Laws.{stood_empty}
@@ -111,6 +112,11 @@ last = 2 ^ 40
 abbrev Ends : View → Type 0
 Ends v = IsEnding two job.Evict (Some answer.Worn) (far last) v
 
+no_write : (h n : ℕ) → TellsWritten job.Evict (Some answer.Worn) h n → ⊥
+no_write h n (inl x) = absurd (let e = x.2 in cc)
+no_write h n (inr (inl x)) = absurd (let e = x.3 in cc)
+no_write h n (inr (inr x)) = absurd (let e = x.1 in cc)
+
 ends : Ends (beginner (far last) known)
 ends = record {
   holds = refl;
@@ -118,6 +124,7 @@ ends = record {
   adds = inr (refl, refl);
   did = λ n. worn refl refl refl (refl, tt);
   reads = λ handle version bytes asked told. absurd (cc);
+  writes = λ h n told. absurd (no_write h n told);
   makes = tt;
 }
 

@@ -22,7 +22,7 @@ use Rattle.cb_rule.specs.declared.view.Seen.{Seen}
 use Rattle.cb_rule.specs.declared.view.View.{View}
 use Rattle.cb_rule.specs.Lists.{Each}
 use Rattle.cb_rule.specs.Locking.{Stood}
-use Rattle.cb_rule.specs.LockSteps.{AddsTurn, HasTaken, ReadsTold, gave_lock, took_lock, turn_of}
+use Rattle.cb_rule.specs.LockSteps.{AddsTurn, HasTaken, ReadsTold, WritesTold, gave_lock, took_lock, turn_of}
 use Rattle.cb_rule.specs.Own.{Make}
 use Rattle.cb_rule.specs.Rule.{AreSized}
 use Rattle.cb_rule.specs.Slot.{LockSlot}
@@ -172,7 +172,8 @@ FreedMoves c freed p q = (d : Part) × Moves p q (grown d p.me.0) × IsQuiet d �
     × FindsFreedAfter freed p.me.0 d
 
 -- The seat may give the lock back with this far state, whose turn had this job and this reply. The
--- bytes that it told were read, and what it made has the first version.
+-- bytes that it told were read, the version that it told was written, and what it made has the first
+-- version.
 pub record IsEnding (c : Config) (job : Job) (r : Option Reply) (far : FarState) (v : View) : Type 0
   where
     pub holds : v.holds ≡ true
@@ -180,6 +181,7 @@ pub record IsEnding (c : Config) (job : Job) (r : Option Reply) (far : FarState)
     pub adds : AddsTurn v.took far
     pub did : (n : ℕ) → Did c (turn_of job r far n v)
     pub reads : ReadsTold job r v
+    pub writes : WritesTold job r v
     pub makes : Each (λ h. Make v.known.first h v.fresh) (made_by_turn job r)
 
 -- the seat gave the lock back, with the far state in its slot
