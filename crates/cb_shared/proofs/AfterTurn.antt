@@ -161,7 +161,7 @@ told_read : (job : Job) (es : List Event) (r : Result Reply NoMemory) (v : View)
 told_read job es (Err e) v d w reads more handle version bytes asked told = absurd (cc)
 told_read job es (Ok reply) v d w reads more handle version bytes asked told =
     let x = read_bytes handle es version bytes v d
-    (subst (λ (z : Reply). JobReads (Read handle) es (Ok z) v d) (same_Some told)
+    (subst (λ (z : Reply). JobReads (Read handle) es (Ok z) v d) (same_Some reply (answer.Bytes version bytes) told)
     (subst (λ (j : Job). JobReads j es (Ok reply) v d) asked reads)) in (
       x.0,
       subst (Has x.0) (sym more) (has_left x.0 d.seen v.seen x.1),
@@ -183,17 +183,20 @@ wrote_it : (job : Job) (reply : Reply) (more : List Entry) (h n : ℕ) → TurnW
     → TellsWritten job (Some reply) h n → 0 < times (is_version h n) more
 wrote_it job reply more h n wrote (inl (bytes, handle, asked, told, is)) =
     let x : MakeWrites bytes (answer.Made handle n) more =
-    subst (λ (z : Reply). TurnWrites (Make bytes) z more) (same_Some told)
+    subst (λ (z : Reply). TurnWrites (Make bytes) z more)
+    (same_Some reply (answer.Made handle n) told)
     (subst (λ (j : Job). TurnWrites j reply more) asked wrote) in
     version_hit h n _ more [] x.2 is refl
 wrote_it job reply more h n wrote (inr (inl (handle, at, bytes, asked, told, is))) =
     let x : WriteWrites handle.n at bytes (answer.Version n) more =
-    subst (λ (z : Reply). TurnWrites (Write handle at bytes) z more) (same_Some told)
+    subst (λ (z : Reply). TurnWrites (Write handle at bytes) z more)
+    (same_Some reply (answer.Version n) told)
     (subst (λ (j : Job). TurnWrites j reply more) asked wrote) in
     version_hit h n _ more [] x.5 is refl
 wrote_it job reply more h n wrote (inr (inr (handle, asked, told, is))) =
     let x : FreeWrites handle.n (answer.Version n) more =
-    subst (λ (z : Reply). TurnWrites (Free handle) z more) (same_Some told)
+    subst (λ (z : Reply). TurnWrites (Free handle) z more)
+    (same_Some reply (answer.Version n) told)
     (subst (λ (j : Job). TurnWrites j reply more) asked wrote) in
     version_hit h n _ more [] x.1 is refl
 
