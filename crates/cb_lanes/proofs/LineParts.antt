@@ -1,5 +1,5 @@
 -- What a line adds to the record of its pass, and that it backs the line's answer.
-use Rattle.std.proofs.Common.{◌≡◌, ◌⊎◌, ℕ, zero, suc, ◌<◌, ◌≤◌, List, [], ◌∷◌, ◌++◌, length, map, Option, None, Some, Ok, inl, inr, sym, refl, ap, ◌∙◌, subst, arith}
+use Rattle.std.proofs.Common.{◌≡◌, ◌⊎◌, ℕ, zero, suc, ◌<◌, ◌≤◌, List, [], ◌∷◌, ◌++◌, length, map, Option, None, Some, Ok, inl, inr, sym, refl, ap, ◌∙◌, subst, arith, ◌+◌}
 use Rattle.std.specs.Prelude.{MatchOption}
 use Rattle.std.specs.List.{flat_map, sum_by}
 use Rattle.std.proofs.lemmas.Bool.{cases_lt}
@@ -35,10 +35,10 @@ use Rattle.cb_record.specs.Backs.{Backs, Enters, EntersAt, Tells, happened_at, h
 use Rattle.cb_record.specs.Deeds.{Deed, deed, happened, happening}
 use Rattle.cb_record.specs.Lists.{HasOne, IsSublist, beside, both, ended}
 use Rattle.cb_record.specs.Needs.Need.{AFreed}
-use Rattle.cb_record.specs.Needs.{FindsEmpty, IsFreedAs, IsJobFor, IsTurnFor, Meets, need_of, own_job, peek_at}
+use Rattle.cb_record.specs.Needs.{FindsEmpty, IsFreedAs, IsJobFor, IsTurnFor, Meets, need_of, own_job, peek_at, IsReadAs}
 use Rattle.cb_record.specs.Parts.{Grows, Part, grown, nothing_more, sum}
 use Rattle.cb_record.specs.Told.{Told}
-use Rattle.cb_record.proofs.Laws.{backs_sum, grown-nothing_more, grown-sum, has_one_left, idle_backs}
+use Rattle.cb_record.proofs.Laws.{backs_sum, grown-nothing_more, grown-sum, has_one_left, has_one_right, idle_backs}
 use Rattle.cb_shared.specs.Calls.{AsksFor, AtThis, EndsAtLast, IsAnswerTo, IsInVain, IsLack, ReadCallEnds, ReadGives, ReadsInPlace, TurnGives, WriteAnswers, WriteCallEnds, WriteFinds, SaysAs, the_handle, worn_once, written_once}
 use Rattle.cb_shared.specs.declared.answers.WriteAnswer.{WriteAnswer}
 use Rattle.cb_shared.specs.declared.answers.WriteAnswer.TheVariants as place
@@ -495,7 +495,7 @@ read_turn : (c : Config) (h : ℕ) (name : List ℕ) (r : Reply) (v : View) (d :
 read_turn c h name (answer.Bytes version bytes) v d a x =
     let ever = pinned_ever c h version bytes x.turn.acts v x.within x.reads in
     read_turned c h name (answer.Bytes version bytes) v d x
-    (has_one_left (IsReadAs h version bytes) x.later.seen x.within.seen
+    (has_one_right (IsReadAs h version bytes) x.later.seen x.within.seen
     (pinned_seen c h version bytes x.turn.acts v x.within x.reads)) (omega (arith, ever))
 read_turn c h name answer.Freed v d a x = read_turned c h name answer.Freed v d x
     (freed_turn h x.turn x.more x.within x.later (freed_last h _ x.later x.finds)) (omega arith)

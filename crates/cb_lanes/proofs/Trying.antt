@@ -1,5 +1,5 @@
 -- The tries of a pin, one after another.
-use Rattle.std.proofs.Common.{◌≡◌, ℕ, ◌<◌, List, [], ◌∷◌, length, Option, None, Some, Result, Ok, Err, sym, refl, ap, ◌∙◌, subst}
+use Rattle.std.proofs.Common.{◌≡◌, ℕ, ◌<◌, List, [], ◌∷◌, length, Option, None, Some, Result, Ok, Err, inl, inr, sym, refl, ap, ◌∙◌, ◌⊎◌, subst}
 use Rattle.std.specs.Result.{IfOk, OnErr}
 use Rattle.cb_member.specs.declared.no_memory.NoMemory.{NoMemory}
 use Rattle.cb_types.specs.declared.config.Config.{Config}
@@ -50,11 +50,17 @@ pub was_far : (h : ℕ) (a : PinAnswer) (v w : View) → a ≡ found.NotHere →
 was_far h a v w is x = subst (λ (z : PinAnswer). PinGives h z v w) is x
 
 -- others stand in the way of a pin
-pub IsHindered : PinAnswer → Type 0
+abbrev pub IsHindered : PinAnswer → Type 0
 IsHindered found.Moving = Unit {0}
 IsHindered found.Crowded = Unit {0}
 IsHindered (found.Raced saw other) = Unit {0}
 IsHindered a = ⊥
+
+pub is_hindered : (a : PinAnswer) → (a ≡ found.Moving) ⊎ ((a ≡ found.Crowded)
+    ⊎ ((saw : ℕ) × (other : ℕ) × (a ≡ found.Raced saw other))) → IsHindered a
+is_hindered a (inl is) = subst IsHindered (sym is) tt
+is_hindered a (inr (inl is)) = subst IsHindered (sym is) tt
+is_hindered a (inr (inr (saw, other, is))) = subst IsHindered (sym is) tt
 
 looked_once : (c : Config) (h : ℕ) (P : ℕ → Type 0) (v w : View) → LooksOnce h v w P
     → PinsInVain c h v w

@@ -19,6 +19,7 @@ use Rattle.cb_shared.specs.declared.answers.WriteAnswer.TheVariants as place
 use Rattle.cb_shared.specs.Calls.{IsInVain}
 use Rattle.cb_shared.specs.Reading.{looked, looked_freed}
 use Rattle.cb_shared.specs.Turning.{TurnAdds, with_own}
+use Rattle.cb_shared.proofs.Laws.{read_lacks}
 use Rattle.cb_lanes.specs.LineGoes.{Calls, Pins}
 use Rattle.cb_lanes.specs.Passing.{CallGives, IsPinnedOnce, PinEnds, PinGoes, PinTries, PinsAtLast, goes_in}
 use Rattle.cb_lanes.proofs.WorkedPassing.{two}
@@ -75,14 +76,14 @@ reads = (
     before = nothing_more;
     last = looked_freed 1 3 0;
     in_vain = no_tries _ _;
-    ends_so = (0, 3, refl, newest_made, refl);
+    ends_so = inl (0, 3, refl, newest_made, refl);
     part = refl;
   },
   refl,
 )
 
 reads_moving : (v w : View) → CallGives two (job.Read one) v answer.Moving w → ⊥
-reads_moving v w (d, x, is) = x.ends_so.turned.0
+reads_moving v w (d, x, is) = read_lacks two 1 answer.Moving _ x.last (λ t. t) x.ends_so
 
 -- a write of one byte behind the last one
 writes : CallGives two (job.Write one 8 (12 ∷ [])) part (answer.Range 8)

@@ -2,7 +2,7 @@ use Rattle.std.proofs.Common.{arith}
 use Rattle.std.proofs.lemmas.Result.{IfOk-weaker}
 use Rattle.cb_shared.proofs.Laws.{known_below}
 use Rattle.cb_lanes.proofs.PinsHeld.{held_count, held_more}
-use Rattle.cb_lanes.proofs.Trying.{brought, pinned_once, was_far, was_freed, was_hindered, was_pinned}
+use Rattle.cb_lanes.proofs.Trying.{brought, is_hindered, pinned_once, was_far, was_freed, was_hindered, was_pinned}
 use Rattle.cb_lanes.proofs.asks.try_pin.Goals as goal
 
 pub keep_pin-requires : goal.keep_pin-requires
@@ -35,3 +35,8 @@ returns-in-NotHere-clause-pin g c = IfOk-weaker c.bring_in.result _ _
 pub returns-in-Freed-clause-pin : goal.returns-in-Freed-clause-pin
 returns-in-Freed-clause-pin g c =
     was_freed c.args.h.n c.pin.result _ _ c.in-Freed.is c.pin.ensures.pin
+
+pub returns-in-Moving-clause-pin : goal.returns-in-Moving-clause-pin
+returns-in-Moving-clause-pin g c = was_hindered c.args.shared.now.config c.args.h.n c.pin.result
+    c.args.pass.now.seat.me.0 c.pin.new.pass.seat.me.0 (is_hindered c.pin.result c.in-Moving.is)
+    c.pin.ensures.pin
