@@ -25,11 +25,11 @@ use Rattle.cb_lanes.specs.Passing.{goes_in}
 use Rattle.cb_lanes.specs.Stopping.{LineStops, stops_in}
 use Rattle.cb_lanes.proofs.LaneForm.{lane_keeps_alone}
 use Rattle.cb_lanes.proofs.LaneRises.{lane_alone}
-use Rattle.cb_lanes.proofs.LaneScopes.{lane_scoped}
 use Rattle.cb_lanes.proofs.LastTries.{lines_last}
 use Rattle.cb_lanes.proofs.LineReplies.{lines_reply}
 use Rattle.cb_lanes.proofs.LinesBack.{handle_kept, lane_adds}
 use Rattle.cb_lanes.proofs.LinesSoFar.{LinesSoFar}
+use Rattle.cb_lanes.proofs.MadeApart.{lane_scoped, leads_idly}
 use Rattle.cb_lanes.proofs.OwnKept.{AreRising, keeps_own}
 use Rattle.cb_lanes.proofs.OwnRising.{lines_rising}
 use Rattle.cb_lanes.proofs.Stopping.{idle_next, idle_unpinned}
@@ -150,7 +150,8 @@ module _ (first : ℕ) (c : Config) (lane : ℕ) (names : List Named) (lines : L
     left = left;
     part = lane_adds c names answers v ended none goes;
     rises = lane_alone c names c.nodes lane (map asked answers) answers v ended none goes are_front refl;
-    scoped = lane_scoped c names c.nodes lane (map asked answers) answers v ended none goes are_front refl;
+    scoped = lane_scoped c names c.nodes lane (map asked answers) answers first v ended w none knows goes
+        own (leads_idly ended w adds) are_front refl;
     alone = λ one unwritten. lane_keeps_alone c c.nodes lane names (map asked answers) answers v ended none
         fresh knows goes refl replies (keeps one unwritten);
     adds = adds;

@@ -72,6 +72,7 @@ pub mod LaneAlone
 pub mod LaneForm
 pub mod OwnKept
 pub mod OwnRising
+pub mod MadeApart
 pub mod Stopping
 pub mod LaneStopping
 pub mod UntilLack

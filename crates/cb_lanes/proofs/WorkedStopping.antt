@@ -178,16 +178,17 @@ hands_no_answer_back x =
     an_entry (subst (λ (v : View). AddsIdly (unpinned_all v) part) x.lines_stop.goes x.adds)
 
 -- no make told a handle
-none_made : (lane n : ℕ) → AreOneToOne (told lane Leave (answer.Left n) ∷ [])
-none_made lane n p q g h is_p is_q = absurd (none is_p)
-  where
-    none : IsMadeAs (told lane Leave (answer.Left n) ∷ []) p g → ⊥
-    none (inl e) = absurd (let z : ◌≡◌ {A = Option ℕ} None (Some g) = e in cc)
-    none (inr x) = absurd x
+none_made : (lane n : ℕ) (p : List ℕ) (g : ℕ) → IsMadeAs (told lane Leave (answer.Left n) ∷ []) p g → ⊥
+none_made lane n p g (inl e) = absurd (let z : ◌≡◌ {A = Option ℕ} None (Some g) = e in cc)
+none_made lane n p g (inr x) = absurd x
 
 told_of_a_pin : (w : View) → Stops (told 1 Leave (answer.Left 1) ∷ []) w → ⊥
 told_of_a_pin w x = absurd (let e : ◌≡◌ {A = Reply} (answer.Left 1) (answer.Left 0) =
-    (x.scoped [] (λ name. refl) refl (none_made 1 1)).0 in cc)
+    (x.scoped [] (λ name. refl) refl none_given
+    (λ p g h is_p is_q. absurd (none_made 1 1 p g is_p))).0 in cc)
+  where
+    none_given : AreOneToOne []
+    none_given p q g h is_p is_q = absurd is_p
 
 -- its record has no version
 none_freed : FreedIsLast (blank two)

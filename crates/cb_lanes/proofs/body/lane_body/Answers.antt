@@ -8,12 +8,12 @@ use Rattle.cb_lanes.specs.LaneStops.{LaneStops}
 use Rattle.cb_lanes.specs.Passing.{goes_in}
 use Rattle.cb_lanes.proofs.LaneForm.{lane_keeps_alone}
 use Rattle.cb_lanes.proofs.LaneRises.{lane_alone}
-use Rattle.cb_lanes.proofs.LaneScopes.{lane_scoped}
 use Rattle.cb_lanes.proofs.LaneStopping.{lane_stops}
 use Rattle.cb_lanes.proofs.LastTries.{lines_last}
 use Rattle.cb_lanes.proofs.LineReplies.{lines_reply}
 use Rattle.cb_lanes.proofs.LinesBack.{lane_adds}
 use Rattle.cb_lanes.proofs.LinesSoFar.{held_none}
+use Rattle.cb_lanes.proofs.MadeApart.{lane_scoped, leads_same}
 use Rattle.cb_lanes.proofs.OwnRising.{lane_keeps_own}
 use Rattle.cb_lanes.proofs.body.lane_body.Goals as goal
 
@@ -70,8 +70,10 @@ returns-in-Ok-clause-rises g c = lane_alone c.args.shared.now.config c.args.name
 pub returns-in-Ok-clause-scoped : goal.returns-in-Ok-clause-scoped
 returns-in-Ok-clause-scoped g c = lane_scoped c.args.shared.now.config c.args.names.now
     c.args.shared.now.config.nodes c.args.lane.n c.args.lines.now c.from-answers.result
-    c.args.pass.seat.me.0 c.leave_at_end.new.pass.seat.me.0 c.requires.pins
-    (returns-in-Ok-clause-goes g c) c.requires.lines (returns-in-Ok-clause-lines g c)
+    (first_version_of c.args.shared.now) c.args.pass.seat.me.0 c.leave_at_end.new.pass.seat.me.0
+    c.leave_at_end.new.pass.seat.me.0 c.requires.pins c.requires.names (returns-in-Ok-clause-goes g c)
+    c.leave_at_end.ensures.own (leads_same c.leave_at_end.new.pass.seat.me.0) c.requires.lines
+    (returns-in-Ok-clause-lines g c)
 
 pub returns-in-Ok-clause-alone : goal.returns-in-Ok-clause-alone
 returns-in-Ok-clause-alone g c = λ first unwritten.
