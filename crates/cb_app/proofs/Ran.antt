@@ -95,6 +95,7 @@ is_run script end mode few are lines replies last seal closed backs suits rises 
     record {
       lines = lines;
       replies = replies;
+      last = last;
       seal = seal;
       closed = closed;
       backs = backs;

@@ -34,7 +34,7 @@ use Rattle.cb_lanes.specs.Rising.{LaneRises}
 use Rattle.cb_lanes.specs.Scoped.{LaneScoped}
 use Rattle.cb_lanes.specs.Scopes.{scope_of}
 use Rattle.cb_lanes.specs.Suits.{AreSuited}
-use Rattle.cb_lanes.proofs.Laws.{answers_of, lane_suits, has_seen, first_none}
+use Rattle.cb_lanes.proofs.Laws.{answers_of, lane_suits, has_seen, first_none, scoped_behind}
 use Rattle.cb_workers.specs.Bodies.{IsWorked, WorkerWorks}
 use Rattle.cb_workers.specs.Rules.{owner}
 use Rattle.cb_workers.specs.Work.{AreJobsOf}
@@ -195,7 +195,7 @@ lane_told s lane names v lines e fresh names_known of are replies last adds goes
       backs = backs;
       suits = suits;
       rises = lane_rise lane names given e.answers v (record_of e.pass) rises named known;
-      scopes = scoped given named no_pin;
+      scopes = scoped_behind lane names e.answers scoped given named no_pin;
       alone = λ one. lane_alone_with s.config lane names given e.answers lines
           (answers_of s.config.nodes lane lines e.answers form are) are (alone one fresh.written) named
           known.3;

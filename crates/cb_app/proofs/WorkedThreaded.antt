@@ -2,8 +2,9 @@
 -- breaks it.
 use Rattle.std.proofs.Common.{◌≡◌, ℕ, ◌<◌, ◌≤◌, Bool, false, true, List, [], ◌∷◌, length, map, Some, None, refl, sym, ap, ◌∙◌, subst, arith, inl, inr, String, Global, lit≤}
 use Rattle.std.specs.Prelude.{nat_eq, codes, string_bytes}
-use Rattle.std.specs.List.{range_with_len}
+use Rattle.std.specs.List.{AllByRecursion, range_with_len}
 use Rattle.std.specs.Fmt.{digits}
+use Rattle.std.proofs.lemmas.Bool.{true≢false}
 use Rattle.std.proofs.lemmas.List.Sorted.{IsPermutation-refl, length_permutation}
 use Rattle.cb_member.specs.declared.names.Loss.{Loss}
 use Rattle.cb_types.specs.Config.{IsAccepted}
@@ -46,7 +47,7 @@ use Rattle.cb_shared.specs.Sealing.{sealed, sealed_record, sealed_world}
 use Rattle.cb_shared.specs.Turning.{Did}
 use Rattle.cb_shared.specs.declared.seal.Seal.{Seal}
 use Rattle.cb_shared.specs.declared.sealed.Sealed.{Sealed}
-use Rattle.cb_lanes.specs.Asked.{asked}
+use Rattle.cb_lanes.specs.Asked.{HasLineReply, asked}
 use Rattle.cb_workers.specs.Rules.{visit}
 use Rattle.cb_workers.specs.declared.worker.Worker.TheVariants as worker
 use Rattle.cb_cli.specs.declared.words.Command.TheVariants.{Threads}
@@ -223,6 +224,28 @@ module _ (t : Turn) (world : WorldState) (seal : Seal) where
   -- an eviction is answered as a leave is
   another_reply : IsRun script (told_of world seal (answer 1 3 Evict (replies.Left 0) ∷ left ∷ []) []) → ⊥
   another_reply is = is.replies.0
+
+  -- a read of a lane, or of lane 0, is told that its object is being moved
+  told_of_a_move : (s : Script) (lane : ℕ) → IsRun s (told_of world seal (answer lane 2 (Read a) replies.Moving
+      ∷ []) []) → ⊥
+  told_of_a_move s lane is = is.last.0
+
+  -- nothing else is amiss with it: such a line may have that reply, and needs nothing in the record
+  a_move_may_be_told : AllByRecursion HasLineReply (answer 1 2 (Read a) replies.Moving ∷ [])
+  a_move_may_be_told = (tt, tt)
+
+  a_move_is_backed : Backs (as_part (view_of [])) (tolds [] (answer 1 2 (Read a) replies.Moving ∷ []))
+  a_move_is_backed = record {
+    wrote = ([], [], refl, refl, refl);
+    tells = (tt, tt);
+    pins = omega arith;
+    turned = ended;
+    happens = refl;
+  }
+
+  -- or that too few spans are loose, where there are so many frames that more may come loose
+  told_too_early : IsRun wide (told_of world seal (answer 1 2 (Read a) (replies.NoRoom 364 1 6) ∷ []) []) → ⊥
+  told_too_early is = true≢false is.last.0
 
   -- the seal is that of another world
   another_world : sealed_world seal ≡ world → (other : WorldState) → world.far.first ≡ 1

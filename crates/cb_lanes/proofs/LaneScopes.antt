@@ -33,7 +33,7 @@ use Rattle.cb_lanes.specs.Bodies.{AreLinesOf, AreNamesOf, LaneGoes, LinesGo, han
 use Rattle.cb_lanes.specs.LineGoes.{LineGoes}
 use Rattle.cb_lanes.specs.Passing.{CallGives, HasNoPin, IsNewestPin, PeekGoes, PinEnds, PinGoes, PinsAtLast, UnpinGoes, goes_in}
 use Rattle.cb_lanes.specs.Scopes.{CallSays, KeepScopes, NamedPin, PeekSays, PinnedSays, Scope, ScopeSays, UnpinSays, named_on, newest_on, scope_after, scope_more, scope_of, without_newest}
-use Rattle.cb_lanes.specs.Scoped.{AreOneToOne, IsMadeAs, LaneScoped}
+use Rattle.cb_lanes.specs.Scoped.{AreOneToOne, AreScoped, IsMadeAs, LaneScoped}
 use Rattle.cb_lanes.proofs.LaneRises.{answers_of}
 use Rattle.cb_lanes.proofs.LinesBack.{first_assoc, handle_append, named_behind}
 use Rattle.cb_lanes.proofs.Lists.{one_if}
@@ -542,12 +542,20 @@ module _ (c : Config) (names : List Named) (lane : ℕ) (given : List Answer)
           (λ name e. ap (handle_behind names before) (sym e)) are goes
 
 -- the lines of a lane that began without a pin
-pub lane_scoped : (c : Config) (names : List Named) (nodes lane : ℕ) (lines : List Line)
+pub keeps_scopes : (c : Config) (names : List Named) (nodes lane : ℕ) (lines : List Line)
     (answers : List Answer) (v w : View) → v.pins ≡ [] → LaneGoes c names v answers w
-    → AreLinesOf nodes lane lines → map asked answers ≡ lines → LaneScoped lane names answers
-lane_scoped c names nodes lane lines answers v w none (m, goes, left) of is given named scope one =
+    → AreLinesOf nodes lane lines → map asked answers ≡ lines → (given : List Answer)
+    → AreNamesOf names given → scope_of lane given ≡ [] → AreScoped given answers
+keeps_scopes c names nodes lane lines answers v w none (m, goes, left) of is given named scope one =
     subst (λ (xs : List Answer). KeepScopes xs answers) (append-nil given)
     (lines_scoped c names lane given named [] answers v m (answers_of nodes lane lines answers of is) one
     (subst (λ (s : Scope). AreNamedPins (number_behind names []) s v.pins)
     (sym (ap (scope_of lane) (append-nil given) ∙ scope))
     (subst (AreNamedPins (number_behind names []) []) (sym none) tt)) goes)
+
+-- ---- once no name has two handles and no handle two names
+pub scoped_behind : (lane : ℕ) (names : List Named) (answers : List Answer) → LaneScoped lane names answers
+    → (given : List Answer) → AreNamesOf names given → scope_of lane given ≡ []
+    → AreScoped given answers
+scoped_behind lane names answers scoped given named scope one = scoped given named scope
+    (one_to_one_front given answers one) (λ a g h p q. (one a a g h p q).0 refl)

@@ -72,6 +72,9 @@ pub mod LaneAlone
 pub mod LaneForm
 pub mod OwnKept
 pub mod OwnRising
+pub mod MadeApart
+pub mod Stopping
+pub mod LaneStopping
 pub mod UntilLack
 pub mod WorkedPassing
 pub mod WorkedAsking
@@ -89,4 +92,5 @@ pub mod WorkedAloneUntil
 pub mod WorkedLaneKeeps
 pub mod WorkedOwn
 pub mod WorkedNames
+pub mod WorkedStopping
 pub mod Laws

@@ -1,6 +1,6 @@
 -- Worked answers of lanes beside others: names that are one to one with handles, and what is told of
 -- pins.
-use Rattle.std.proofs.Common.{◌≡◌, ℕ, List, [], ◌∷◌, length, replicate, Option, Some, None, ◌⊎◌, inl, inr, refl, sym, ap, ◌∙◌, arith}
+use Rattle.std.proofs.Common.{◌≡◌, ℕ, List, [], ◌∷◌, ◌++◌, length, replicate, Option, Some, None, ◌⊎◌, inl, inr, refl, sym, ap, ◌∙◌, arith}
 use Rattle.std.specs.Prelude.{if◌then◌else◌}
 use Rattle.std.proofs.lemmas.Bool.{eqb-false}
 use Rattle.cb_types.specs.declared.answer.Answer.{Answer}
@@ -10,8 +10,9 @@ use Rattle.cb_types.specs.declared.reply.Reply.{Reply}
 use Rattle.cb_types.specs.declared.reply.Reply.TheVariants.{Made, Version, Bytes, Done, Left, Unmade, Full, Pinned, ScopeFull, NotPinned}
 use Rattle.cb_model.specs.Called.{handle_made}
 use Rattle.cb_lanes.specs.declared.body.Named.{Named}
-use Rattle.cb_lanes.specs.Scoped.{AreOneToOne, AreScoped, IsMadeAs, LaneScoped}
+use Rattle.cb_lanes.specs.Scoped.{AreOneToOne, AreScoped, HaveOneHandle, IsMadeAs, LaneScoped}
 use Rattle.cb_lanes.specs.Scopes.{KeepScopes, scope_of}
+use Rattle.cb_lanes.proofs.LaneScopes.{made_as_left, made_as_right}
 use Rattle.cb_lanes.proofs.PinLists.{name_cases}
 
 abbrev a : List ℕ
@@ -165,10 +166,14 @@ abbrev name_a : List Named
 name_a = record { name = a; handle = Some (record { n = 5 }) } ∷ []
 
 lane_scoped : LaneScoped 1 name_a (by 1 Leave (Left 0) ∷ [])
-lane_scoped given are none one = (ap (λ scope. Left (length scope)) (sym none), tt)
+lane_scoped given are none one each = (ap (λ scope. Left (length scope)) (sym none), tt)
 
 lane_tells_of_no_pin : LaneScoped 1 [] (by 1 Leave (Left 1) ∷ []) → ⊥
-lane_tells_of_no_pin is = tells_of_no_pin (is [] (λ name. refl) refl)
+lane_tells_of_no_pin is = tells_of_no_pin (λ one. is [] (λ name. refl) refl none_given
+    (λ p g h is_p is_q. (one p p g h is_p is_q).0 refl))
+  where
+    none_given : AreOneToOne []
+    none_given p q g h is_p is_q = absurd is_p
 
 peeked : AreOneToOne (made a 5 ∷ by 1 (Peek a) Unmade ∷ [])
 peeked x y g h p q = each (only x g p) (only y h q)
@@ -185,7 +190,26 @@ peeked x y g h p q = each (only x g p) (only y h q)
 -- a name that it was given has a handle
 lane_hides_a_name : LaneScoped 1 name_a (by 1 (Peek a) Unmade ∷ []) → ⊥
 lane_hides_a_name is =
-    absurd (let e : Unmade ≡ NotPinned = (is (made a 5 ∷ []) (λ name. refl) refl peeked).0 in cc)
+    absurd (let e : Unmade ≡ NotPinned = (is (made a 5 ∷ []) (λ name. refl) refl
+    (λ x y g h p q. peeked x y g h (first_made x g p) (first_made y h q))
+    (λ x g h p q. (peeked x x g h p q).0 refl)).0 in cc)
+  where
+    first_made : (x : List ℕ) (g : ℕ) → IsMadeAs (made a 5 ∷ []) x g
+        → IsMadeAs (made a 5 ∷ by 1 (Peek a) Unmade ∷ []) x g
+    first_made x g (inl is) = inl is
+    first_made x g (inr none) = absurd none
+
+-- nothing is said where a name is given a second handle
+abbrev made_again : List Answer
+made_again = by 1 (Make a (7 ∷ [])) (Made (record { n = 6 }) 1) ∷ by 1 (Peek a) Unmade ∷ []
+
+a_name_made_again : (given : List Answer) → IsMadeAs given a 5 → HaveOneHandle (given ++ made_again)
+    → ⊥
+a_name_made_again given made_a each = eqb-false 5 6 refl (each a 5 6
+    (made_as_left given made_again a 5 made_a) (made_as_right given made_again a 6 (inl refl)))
+
+one_handle : HaveOneHandle (made a 5 ∷ made b 6 ∷ [])
+one_handle name g h p q = (are_one_to_one name name g h p q).0 refl
 
 -- of a lane that has a pin by the answers before nothing is said
 a_lane_with_a_pin : scope_of 1 (made a 5 ∷ one_pin ∷ []) ≡ [] → ⊥

@@ -21,3 +21,5 @@ pub mod Lost
 pub mod Alone
 pub mod KeepsOwn
 pub mod AloneUntil
+pub mod Stopping
+pub mod LaneStops

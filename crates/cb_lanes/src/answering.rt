@@ -1,9 +1,10 @@
-ghost use Rattle.std.specs.Prelude.{◌≡◌, ◌<◌, ◌≤◌, ℕ, List, Some, IfOk, length};
+ghost use Rattle.std.specs.Prelude.{◌≡◌, ◌<◌, ◌≤◌, ℕ, List, Some, IfOk, OnErr, length};
 ghost use Rattle.std.specs.Option.{option_map};
 ghost use Rattle.cb_script.specs.Form.{IsRequest};
 ghost use Rattle.cb_lanes.specs.LineGoes.{Calls, LineGoes, ObjectGoes, job_of};
 ghost use Rattle.cb_lanes.specs.MayAsk.{StayNamed};
 ghost use Rattle.cb_lanes.specs.Names.{AreKept, AreNamed, IsOnObject, request_handle};
+ghost use Rattle.cb_lanes.specs.Stopping.{AskStops, LineStops, ObjectStops};
 
 use crate::caller::Caller;
 use cb_types::{Bytes, Handle, Job, Name, NoMemory, Reply, Request};
@@ -26,6 +27,8 @@ pub(crate) fn reply_to<'a, C: Caller>(
         (request_handle names.old request.now) request.now lane.old reply lane.new) }
     ensures names { IfOk result (λ reply. AreKept names.old request.now reply names.new) }
     ensures ready { IfOk result (λ reply. AreNamed (C.may_name caller.now lane.new) names.new) }
+    ensures error { OnErr result (LineStops (C.stops caller.now)
+        (request_handle names.old request.now) request.now lane.old lane.new) }
     ensures well { C.well caller.now lane.new }
 {
     match request {
@@ -60,7 +63,8 @@ fn job_of(request: &Request) -> Option<Job>
     }
 }
 
-/// Makes an object, and keeps its handle under the name.
+/// Makes an object, and keeps its handle under the name. Room for that is made before, so that no
+/// object is made whose line finds no memory.
 fn make_named<'a, C: Caller>(
     alloc: Global,
     caller: &C,
@@ -78,8 +82,11 @@ fn make_named<'a, C: Caller>(
     ensures names { IfOk result (λ reply.
         AreKept names.old (Request.Make name.now bytes.now) reply names.new) }
     ensures ready { IfOk result (λ reply. AreNamed (C.may_name caller.now lane.new) names.new) }
+    ensures error { OnErr result
+        (AskStops (C.stops caller.now) (Calls (Job.Make bytes.now)) lane.old lane.new) }
     ensures well { C.well caller.now lane.new }
 {
+    names.reserve(1)?;
     let job = Job::Make {
         bytes: bytes.copy(alloc)?,
     };
@@ -107,6 +114,8 @@ fn call_named<'a, C: Caller>(
         (request_handle names.now request.now) request.now lane.old reply lane.new) }
     ensures stays { IfOk result (λ reply.
         StayNamed (C.may_name caller.now lane.old) (C.may_name caller.now lane.new)) }
+    ensures error { OnErr result (ObjectStops (C.stops caller.now)
+        (request_handle names.now request.now) request.now lane.old lane.new) }
     ensures well { C.well caller.now lane.new }
 {
     match request_handle(names, request) {
@@ -138,6 +147,8 @@ fn call_object<C: Caller>(
         lane.old reply lane.new) }
     ensures stays { IfOk result (λ reply.
         StayNamed (C.may_name caller.now lane.old) (C.may_name caller.now lane.new)) }
+    ensures error { OnErr result (ObjectStops (C.stops caller.now) (Some handle.n) request.now
+        lane.old lane.new) }
     ensures well { C.well caller.now lane.new }
 {
     match request {

@@ -1,6 +1,6 @@
 //! What a lane answers that runs beside others, in a thread of its own.
-ghost use Rattle.std.specs.Prelude.{◌≡◌, ℕ, List, [], ◌∷◌, ◌++◌, map, IfOk, IfErr, None, OnOk};
-ghost use Rattle.std.specs.Prelude.{OnErr};
+ghost use Rattle.std.specs.Prelude.{◌≡◌, ◌⊎◌, ℕ, List, [], ◌∷◌, ◌++◌, map, IfOk, IfErr, None};
+ghost use Rattle.std.specs.Prelude.{OnErr, OnOk};
 ghost use Rattle.std.specs.List.{AllByRecursion};
 ghost use Rattle.cb_script.specs.Form.{IsRequest};
 ghost use Rattle.cb_shared.specs.Joining.{unpinned_all};
@@ -10,11 +10,13 @@ ghost use Rattle.cb_lanes.specs.AloneUntil.{LaneKeepsAlone};
 ghost use Rattle.cb_lanes.specs.Asked.{asked, HasLineReply};
 ghost use Rattle.cb_lanes.specs.Bodies.{AddsBacked, AnswersOne, AreLinesOf, IsFront, KeepHandles};
 ghost use Rattle.cb_lanes.specs.Bodies.{KnowsKept, KnowsNames, LaneGoes, LinesGo};
+ghost use Rattle.cb_lanes.specs.LaneStops.{LaneStops, LinesStop};
 ghost use Rattle.cb_lanes.specs.LastTries.{HasLastTry};
-ghost use Rattle.cb_lanes.specs.Names.{kept_number};
+ghost use Rattle.cb_lanes.specs.Names.{kept_number, request_handle};
 ghost use Rattle.cb_lanes.specs.Passing.{AreHeld, goes_in};
 ghost use Rattle.cb_lanes.specs.Rising.{LaneRises};
 ghost use Rattle.cb_lanes.specs.Scoped.{LaneScoped};
+ghost use Rattle.cb_lanes.specs.Stopping.{LineStops, stops_in};
 
 use crate::answering::reply_to;
 use crate::asks::leave;
@@ -94,7 +96,8 @@ impl Names {
 /// Answers the lines of one lane in order, in whatever thread it is called. The names are those
 /// that were made before, with their handles. Behind each line the gate is told of it, and behind
 /// the last one all pins are given back. Where there is no memory for a line, the answers before it
-/// and the pass come back. Waits.
+/// and the pass come back, without a pin. They are answers as of a lane that ends with these lines,
+/// and the line that found none added no more than looks and turns to the record. Waits.
 pub fn lane_body<R: Wait, G: Gate>(
     rt: &R,
     alloc: Global,
@@ -126,13 +129,15 @@ pub fn lane_body<R: Wait, G: Gate>(
         → (record_of pass).written ≡ []
         → LaneKeepsAlone shared.now.config.nodes lane.n names.now lines.now end.answers) }
     ensures stopped { IfErr result (λ s. IsPassOf shared.now s.pass
-        × ((record_of s.pass).pins ≡ []) × IsFront (map asked s.answers) lines.now) }
+        × ((record_of s.pass).pins ≡ [])
+        × LaneStops (first_version_of shared.now) shared.now.config lane.n names.now lines.now
+        (record_of pass) s.answers (record_of s.pass)) }
 {
     let mut passing = Passing {
         pass,
         pins: KeptPins::new(),
     };
-    let mut answers = Answers::new(alloc);
+    let mut answers = Vec::new(alloc);
     let done = answer_all(
         rt,
         alloc,
@@ -145,15 +150,11 @@ pub fn lane_body<R: Wait, G: Gate>(
         gate,
     );
     leave_at_end(shared, &mut passing.pass, &mut passing.pins);
+    let Passing { pass, pins: _none } = passing;
+    let answers = Answers::from(answers);
     match done {
-        Ok(()) => Ok(LaneEnd {
-            answers,
-            pass: passing.pass,
-        }),
-        Err(_) => Err(Stopped {
-            pass: passing.pass,
-            answers,
-        }),
+        Ok(()) => Ok(LaneEnd { answers, pass }),
+        Err(_) => Err(Stopped { pass, answers }),
     }
 }
 
@@ -178,20 +179,22 @@ fn answer_all<'a, R: Wait, G: Gate>(
     lane: Lane,
     lines: &'a [Line],
     names: &'a Names,
-    answers: &mut Answers,
+    answers: &mut Vec<Answer>,
     gate: &G,
 ) -> Result<(), NoMemory>
     requires of { IsPassOf shared.now passing.old.pass }
     requires held { AreHeld passing.old.pins.items (record_of passing.old.pass) }
     requires lines { AreLinesOf shared.now.config.nodes lane.n lines.now }
     requires names { KnowsNames (record_of passing.old.pass) names.now }
-    requires none { answers.old ≡ [] }
+    requires none { answers.old.items ≡ [] }
     ensures of { IsPassOf shared.now passing.new.pass }
     ensures held { AreHeld passing.new.pins.items (record_of passing.new.pass) }
-    ensures front { IsFront (map asked answers.new) lines.now }
-    ensures lines { IfOk result (λ _. map asked answers.new ≡ lines.now) }
+    ensures front { IsFront (map asked answers.new.items) lines.now }
+    ensures lines { IfOk result (λ _. map asked answers.new.items ≡ lines.now) }
     ensures goes { IfOk result (λ _. LinesGo (goes_in shared.now.config) names.now []
-        (record_of passing.old.pass) answers.new (record_of passing.new.pass)) }
+        (record_of passing.old.pass) answers.new.items (record_of passing.new.pass)) }
+    ensures stops { OnErr result (LinesStop shared.now.config names.now lines.now
+        (record_of passing.old.pass) answers.new.items (record_of passing.new.pass)) }
 {
     let mut kept = HashMap::new(alloc);
     keep_names(&mut kept, names.as_slice())?;
@@ -215,14 +218,15 @@ fn keep_names<'a>(kept: &mut HashMap<&'a [u8], Handle>, names: &'a [Named]) -> R
     Ok(())
 }
 
-/// Answers a line, and adds its answer.
+/// Answers a line, and adds its answer. What that takes is made ready before, so that a line which
+/// finds no memory is not made.
 fn answer_one<'a, R: Wait>(
     rt: &R,
     alloc: Global,
     shared: &Shared,
     passing: &mut Passing,
     kept: &mut HashMap<&'a [u8], Handle>,
-    answers: &mut Answers,
+    answers: &mut Vec<Answer>,
     line: &'a Line,
 ) -> Result<(), NoMemory>
     requires of { IsPassOf shared.now passing.old.pass }
@@ -232,15 +236,22 @@ fn answer_one<'a, R: Wait>(
     ensures of { IsPassOf shared.now passing.new.pass }
     ensures held { AreHeld passing.new.pins.items (record_of passing.new.pass) }
     ensures line { IfOk result (λ _. AnswersOne shared.now.config line.now kept.old kept.new
-        answers.old answers.new (record_of passing.old.pass) (record_of passing.new.pass)) }
-    ensures same { OnErr result (answers.new ≡ answers.old) }
+        answers.old.items answers.new.items (record_of passing.old.pass)
+        (record_of passing.new.pass)) }
+    ensures same { OnErr result (answers.new.items ≡ answers.old.items) }
+    ensures stops { OnErr result ((record_of passing.new.pass ≡ record_of passing.old.pass)
+        ⊎ LineStops (stops_in shared.now.config) (request_handle kept.old line.now.request)
+        line.now.request (record_of passing.old.pass) (record_of passing.new.pass)) }
 {
+    answers.reserve(1)?;
+    let request = line.request.copy(alloc)?;
     let caller = PassCaller { rt, shared };
     let reply = reply_to(alloc, &caller, passing, kept, &line.request)?;
     answers.push(Answer {
         lane: line.lane,
         line: line.line,
-        request: line.request.copy(alloc)?,
+        request,
         reply,
-    })
+    })?;
+    Ok(())
 }

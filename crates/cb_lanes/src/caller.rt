@@ -1,6 +1,7 @@
-ghost use Rattle.std.specs.Prelude.{ℕ, IfOk};
+ghost use Rattle.std.specs.Prelude.{ℕ, IfOk, OnErr};
 ghost use Rattle.cb_lanes.specs.LineGoes.{Goes, Calls, Pins, Peeks, Unpins, Leaves};
 ghost use Rattle.cb_lanes.specs.MayAsk.{IsNamedIfMade, MayCall, StayNamed};
+ghost use Rattle.cb_lanes.specs.Stopping.{AskStops, Stops};
 
 use cb_types::{Handle, Job, NoMemory, Reply};
 use std::alloc::Global;
@@ -14,6 +15,9 @@ pub(crate) trait Caller {
 
     // What is asked leads from one state to another, with this reply.
     ghost goes: { Self → Goes Self.State };
+
+    // What is asked, and finds no memory, leads from one state to another.
+    ghost stops: { Self → Stops Self.State };
 
     // The state is one in which lines may come.
     ghost well: { Self → Self.State → Type 0 };
@@ -33,6 +37,7 @@ pub(crate) trait Caller {
             StayNamed (may_name self.now lane.old) (may_name self.now lane.new)) }
         ensures made { IfOk result (λ reply.
             IsNamedIfMade (may_name self.now lane.new) job reply) }
+        ensures error { OnErr result (AskStops (stops self.now) (Calls job) lane.old lane.new) }
         ensures well { well self.now lane.new };
 
     /// A pin of an object, until the lane gives it back.
@@ -43,6 +48,7 @@ pub(crate) trait Caller {
             goes self.now (Pins handle.n) lane.old reply lane.new) }
         ensures stays { IfOk result (λ reply.
             StayNamed (may_name self.now lane.old) (may_name self.now lane.new)) }
+        ensures error { OnErr result (AskStops (stops self.now) (Pins handle.n) lane.old lane.new) }
         ensures well { well self.now lane.new };
 
     /// A look at an object under the lane's newest pin on it.
@@ -53,6 +59,7 @@ pub(crate) trait Caller {
             goes self.now (Peeks handle.n) lane.old reply lane.new) }
         ensures stays { IfOk result (λ reply.
             StayNamed (may_name self.now lane.old) (may_name self.now lane.new)) }
+        ensures error { OnErr result (AskStops (stops self.now) (Peeks handle.n) lane.old lane.new) }
         ensures well { well self.now lane.new };
 
     /// The end of the lane's newest pin on an object.
@@ -68,6 +75,7 @@ pub(crate) trait Caller {
             goes self.now (Unpins handle.n) lane.old reply lane.new) }
         ensures stays { IfOk result (λ reply.
             StayNamed (may_name self.now lane.old) (may_name self.now lane.new)) }
+        ensures error { OnErr result (AskStops (stops self.now) (Unpins handle.n) lane.old lane.new) }
         ensures well { well self.now lane.new };
 
     /// The end of all pins of the lane.
@@ -76,5 +84,6 @@ pub(crate) trait Caller {
         ensures goes { IfOk result (λ reply. goes self.now Leaves lane.old reply lane.new) }
         ensures stays { IfOk result (λ reply.
             StayNamed (may_name self.now lane.old) (may_name self.now lane.new)) }
+        ensures error { OnErr result (AskStops (stops self.now) Leaves lane.old lane.new) }
         ensures well { well self.now lane.new };
 }

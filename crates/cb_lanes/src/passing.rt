@@ -2,6 +2,7 @@
 ghost use Rattle.cb_rule.specs.Steps.{Knows};
 ghost use Rattle.cb_shared.specs.Passes.{IsPassOf, record_of};
 ghost use Rattle.cb_lanes.specs.Passing.{AreHeld, goes_in};
+ghost use Rattle.cb_lanes.specs.Stopping.{stops_in};
 
 use crate::asks::{call, leave, peek, pin, unpin};
 use crate::caller::Caller;
@@ -30,6 +31,9 @@ impl<'a, R: Wait> Caller for PassCaller<'a, R> {
 
     ghost goes = { λ c ask a r b.
         goes_in c.shared.now.config ask (record_of a.pass) r (record_of b.pass) };
+
+    ghost stops = { λ c ask a b.
+        stops_in c.shared.now.config ask (record_of a.pass) (record_of b.pass) };
 
     ghost well = { λ c a.
         IsPassOf c.shared.now a.pass × AreHeld a.pins.items (record_of a.pass) };

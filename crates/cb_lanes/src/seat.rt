@@ -30,6 +30,8 @@ impl Caller for SeatCaller {
 
     ghost goes = { λ c. goes_at c.side c.seat };
 
+    ghost stops = { λ c ask a b. Unit {0} };
+
     ghost well = { λ c w. (c.seat < 64) × IsSoundWorld w };
 
     ghost nodes = { λ c w. w.desk.settings.nodes };

@@ -10,5 +10,5 @@ invariant-loop-line g l =
       of : IsPassOf l.shared l.passing.pass;
       held : AreHeld l.passing.pins.items l.passing.pass.seat.me.0;
       far : LinesSoFar l.shared.config l.names l.lines l.fn.passing.pass.seat.me.0 l.line-index l.kept
-          l.answers l.passing.pass.seat.me.0;
+          l.answers.items l.passing.pass.seat.me.0;
     }

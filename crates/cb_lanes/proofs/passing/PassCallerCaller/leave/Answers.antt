@@ -16,5 +16,6 @@ returns g c = record {
   stays = ask_knows c.args.self.now.shared.now.config Leaves (answer.Left c.leave-pins.result)
       c.args.lane.now.pass.seat.me.0 c.leave-pins.new.pass.seat.me.0
       (ap (λ (n : ℕ). answer.Left n) c.leave-pins.ensures.count, c.leave-pins.ensures.left);
+  error = tt;
   well = (c.leave-pins.ensures.of, c.leave-pins.ensures.held);
 }

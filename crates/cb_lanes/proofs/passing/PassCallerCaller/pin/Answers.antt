@@ -1,5 +1,7 @@
+use Rattle.std.proofs.Common.{inr}
 use Rattle.cb_lanes.specs.LineGoes.{Pins}
 use Rattle.cb_lanes.proofs.ByPass.{stays_known}
+use Rattle.cb_lanes.proofs.Stopping.{err_then}
 use Rattle.cb_lanes.proofs.passing.PassCallerCaller.pin.Goals as goal
 
 pub pin-requires-clause-of : goal.pin-requires-clause-of
@@ -16,5 +18,6 @@ returns g c = record {
   goes = c.pin.ensures.pin;
   stays = stays_known c.args.self.now.shared.now.config (Pins c.args.handle.n) c.pin.result
       c.args.lane.now.pass.seat.me.0 c.pin.new.pass.seat.me.0 c.pin.ensures.pin;
+  error = err_then c.pin.result _ _ inr c.pin.ensures.error;
   well = (c.pin.ensures.of, c.pin.ensures.held);
 }

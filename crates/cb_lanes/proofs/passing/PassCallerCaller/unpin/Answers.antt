@@ -13,5 +13,6 @@ returns g c = record {
   goes = c.unpin.ensures.unpin;
   stays = ask_knows c.args.self.now.shared.now.config (Unpins c.args.handle.n) c.unpin.result
       c.args.lane.now.pass.seat.me.0 c.unpin.new.pass.seat.me.0 c.unpin.ensures.unpin;
+  error = tt;
   well = (c.unpin.ensures.of, c.unpin.ensures.held);
 }

@@ -8,5 +8,6 @@ returns c = record {
   goes = (ap (λ (n : ℕ). answer.Left n) c.in_ok-pins.ensures.pins, c.in_ok-pins.ensures.gives);
   stays = seat_left c.args.self.now.seat c.args.world.now c.give_back.new.world c.requires.well.1
       c.requires.well.0 c.in_ok-pins.ensures.gives;
+  error = tt;
   well = (c.requires.well.0, c.give_back.ensures.sound);
 }

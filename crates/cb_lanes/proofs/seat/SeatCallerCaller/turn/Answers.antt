@@ -1,5 +1,7 @@
+use Rattle.std.proofs.Common.{inr}
 use Rattle.cb_lanes.specs.LineGoes.{Calls}
 use Rattle.cb_lanes.proofs.SeatGoes.{may_ask, seat_made, seat_stays}
+use Rattle.cb_lanes.proofs.Stopping.{err_always}
 use Rattle.cb_lanes.proofs.seat.SeatCallerCaller.turn.Goals as goal
 
 pub turn_at-requires-clause-job : goal.turn_at-requires-clause-job
@@ -12,5 +14,6 @@ returns c = record {
       c.turn_at.new.world c.turn_at.result c.requires.well.1 c.requires.well.0 c.turn_at.ensures.step;
   made = seat_made c.args.self.now.side c.args.self.now.seat c.args.job c.args.world.now
       c.turn_at.new.world c.turn_at.result c.requires.well.1 c.turn_at.ensures.sound c.turn_at.ensures.step;
+  error = err_always c.turn_at.result _ (inr tt);
   well = (c.requires.well.0, c.turn_at.ensures.sound);
 }

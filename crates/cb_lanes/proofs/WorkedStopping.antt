@@ -1,0 +1,208 @@
+-- Worked lanes that found no memory: what meets each definition, and what breaks one of its parts
+-- alone.
+use Rattle.std.proofs.Common.{◌≡◌, ◌≢◌, ℕ, true, List, [], ◌∷◌, ◌++◌, length, Option, None, Some, inl, inr, refl, sym, ap, ◌∙◌, subst}
+use Rattle.std.proofs.lemmas.Bool.{eqb-false}
+use Rattle.std.proofs.lemmas.List.{append-nil}
+use Rattle.cb_types.specs.declared.answer.Answer.{Answer}
+use Rattle.cb_types.specs.declared.request.Request.{Request}
+use Rattle.cb_types.specs.declared.request.Request.TheVariants.{Evict, Leave, Peek, Read}
+use Rattle.cb_types.specs.declared.reply.Reply.{Reply}
+use Rattle.cb_types.specs.declared.reply.Reply.TheVariants as answer
+use Rattle.cb_script.specs.declared.script.Line.{Line}
+use Rattle.cb_rule.specs.declared.turn.Turn.{Turn}
+use Rattle.cb_rule.specs.declared.view.View.{View}
+use Rattle.cb_rule.specs.Lists.{Each}
+use Rattle.cb_rule.specs.Steps.{blank, with_look}
+use Rattle.cb_record.specs.Deeds.{Deed, deed, happened}
+use Rattle.cb_record.specs.Rises.{HasVersion}
+use Rattle.cb_shared.specs.Joining.{unpinned_all}
+use Rattle.cb_shared.specs.Recalls.{Recalls}
+use Rattle.cb_lanes.specs.LaneStops.{AddsIdly, LaneStops, LinesStop}
+use Rattle.cb_lanes.specs.LineGoes.{Leaves, Peeks}
+use Rattle.cb_lanes.specs.Rising.{FreedIsLast}
+use Rattle.cb_lanes.specs.Scoped.{AreOneToOne, IsMadeAs}
+use Rattle.cb_lanes.specs.Stopping.{AskStops, LineStops, stops_in}
+use Rattle.cb_lanes.proofs.LaneStopping.{lane_stops}
+use Rattle.cb_lanes.proofs.Stopping.{idle_next}
+use Rattle.cb_lanes.proofs.WorkedBodies.{part}
+use Rattle.cb_lanes.proofs.WorkedPassing.{pinning, two}
+
+abbrev a : List ℕ
+a = 97 ∷ []
+
+abbrev by : ℕ → Request → Line
+by lane request = record { lane = record { n = lane }; line = 2; request = request }
+
+abbrev told : ℕ → Request → Reply → Answer
+told lane request reply = record { lane = record { n = lane }; line = 2; request = request; reply = reply }
+
+abbrev pins_in : View → ℕ
+pins_in v = length v.pins
+
+abbrev looks_in : View → ℕ
+looks_in v = length v.looks
+
+abbrev entries_in : View → ℕ
+entries_in v = length v.written
+
+one_zero : ◌≢◌ {A = ℕ} 1 0
+one_zero = eqb-false 1 0 refl
+
+two_zero : ◌≢◌ {A = ℕ} 2 0
+two_zero = eqb-false 2 0 refl
+
+-- ---- what is asked of a pass
+not_asked : AskStops (stops_in two) Leaves pinning pinning
+not_asked = inl refl
+
+gives_its_pins_back : AskStops (stops_in two) Leaves pinning (record pinning { pins = [] }) → ⊥
+gives_its_pins_back (inl e) = two_zero (sym (ap pins_in e))
+gives_its_pins_back (inr x) = x
+
+peeks_at_nothing : stops_in two (Peeks 1) pinning pinning
+peeks_at_nothing = refl
+
+looks_while_it_peeks : stops_in two (Peeks 1) pinning (with_look 1 6 pinning) → ⊥
+looks_while_it_peeks e = one_zero (ap looks_in e)
+
+-- ---- a line on a name that has no handle
+asks_for_nothing : LineStops (stops_in two) None (Peek a) pinning pinning
+asks_for_nothing = (refl, refl)
+
+asks_for_a_look : LineStops (stops_in two) None (Peek a) pinning (with_look 1 6 pinning) → ⊥
+asks_for_a_look x = one_zero (ap looks_in x.1)
+
+-- ---- looks and turns alone
+one_look : AddsIdly (blank two) (with_look 1 6 (blank two))
+one_look = record {
+  looks = record { handle = 1; word = 6 } ∷ [];
+  turns = [];
+  idle = tt;
+  grows = refl;
+}
+
+an_entry : AddsIdly (blank two) part → ⊥
+an_entry x = one_zero (ap entries_in x.grows)
+
+a_pin : AddsIdly (blank two) pinning → ⊥
+a_pin x = two_zero (ap pins_in x.grows)
+
+a_share : AddsIdly (blank two) (record (blank two) { share = 1 }) → ⊥
+a_share x = one_zero (ap (λ (v : View). v.share) x.grows)
+
+some_deed : (d : Deed) (ds : List Deed) → d ∷ ds ≡ [] → ⊥
+some_deed d ds e = one_zero (ap first e)
+  where
+    first : List Deed → ℕ
+    first [] = 0
+    first (d ∷ ds) = 1
+
+-- one of the turns made an object, or a node crashed or joined
+a_turn_of_them : (t : Turn) (ts us : List Turn) → t ∷ us ≡ ts
+    → Each (λ (u : Turn). happened (deed u) ≡ []) ts → happened (deed t) ≡ []
+a_turn_of_them t ts us is each =
+    (subst (Each (λ (u : Turn). happened (deed u) ≡ [])) (sym is) each).0
+
+an_object : (t : Turn) (d : Deed) → happened (deed t) ≡ d ∷ []
+    → AddsIdly (blank two) (record (blank two) { turns = t ∷ [] }) → ⊥
+an_object t d made x = some_deed d [] (sym made ∙ a_turn_of_them t x.turns []
+    (ap (λ (v : View). v.turns) x.grows ∙ append-nil x.turns) x.idle)
+
+-- ---- the line behind those that were answered
+abbrev lines : List Line
+lines = by 1 Leave ∷ by 1 (Peek a) ∷ []
+
+abbrev left : Answer
+left = told 1 Leave (answer.Left 0)
+
+at_the_second : LinesStop two [] lines (blank two) (left ∷ []) (blank two)
+at_the_second = record {
+  behind = blank two;
+  goes = (blank two, (refl, refl), refl);
+  stops = inr (by 1 (Peek a), [], refl, (refl, refl));
+}
+
+at_none : LinesStop two [] lines (blank two) [] (blank two)
+at_none = record { behind = blank two; goes = refl; stops = inl refl }
+
+no_line : (l : Line) (ls : List Line) → [] ≡ l ∷ ls → ⊥
+no_line l ls e = one_zero (sym (ap first e))
+  where
+    first : List Line → ℕ
+    first [] = 0
+    first (l ∷ ls) = 1
+
+-- a look of no line
+behind_the_last : LinesStop two [] [] (blank two) [] (with_look 1 6 (blank two)) → ⊥
+behind_the_last x = elim x.stops [
+  | inl e ↦ one_zero (ap looks_in (e ∙ x.goes))
+  | inr y ↦ no_line y.0 y.1 y.2
+]
+
+-- an answer was not handed back: what its line wrote stands there
+an_answer_kept_back : LinesStop two [] lines (blank two) [] part → ⊥
+an_answer_kept_back x = an_entry (subst (λ (v : View). AddsIdly v part) x.goes
+    (idle_next two [] lines [] x.behind part x.stops))
+
+-- ---- a lane
+abbrev own_lines : List Line
+own_lines = by 1 Leave ∷ by 1 Evict ∷ []
+
+abbrev Stops : List Answer → View → Type 0
+Stops answers w = LaneStops 1 two 1 [] own_lines (blank two) answers w
+
+stopped : Recalls 1 (blank two) → Stops (left ∷ []) (blank two)
+stopped own = lane_stops 1 two 1 [] own_lines (left ∷ []) (blank two) (blank two) (blank two) refl refl tt
+    ((refl, tt), ((refl, tt), tt)) (by 1 Evict ∷ [], refl)
+    (record { behind = blank two; goes = (blank two, (refl, refl), refl); stops = inl refl }) refl own refl
+
+abbrev first_request : List Line → Request
+first_request [] = Evict
+first_request (l ∷ ls) = l.request
+
+of_another_line : (w : View) → Stops (told 1 Evict answer.Worn ∷ []) w → ⊥
+of_another_line w x = absurd (let e : ◌≡◌ {A = Request} Leave Evict = ap first_request x.front.1 in cc)
+
+no_reply_of_its_line : (w : View) → Stops (told 1 Leave answer.Freed ∷ []) w → ⊥
+no_reply_of_its_line w x = x.answered.0
+
+told_of_a_move : (ls : List Line) (v w : View)
+    → LaneStops 1 two 1 [] ls v (told 1 (Read a) answer.Moving ∷ []) w → ⊥
+told_of_a_move ls v w x = x.last.0
+
+keeps_its_pins : (answers : List Answer) → Stops answers pinning → ⊥
+keeps_its_pins answers x = two_zero (ap pins_in x.left)
+
+hands_no_answer_back : Stops [] part → ⊥
+hands_no_answer_back x =
+    an_entry (subst (λ (v : View). AddsIdly (unpinned_all v) part) x.lines_stop.goes x.adds)
+
+-- no make told a handle
+none_made : (lane n : ℕ) (p : List ℕ) (g : ℕ) → IsMadeAs (told lane Leave (answer.Left n) ∷ []) p g → ⊥
+none_made lane n p g (inl e) = absurd (let z : ◌≡◌ {A = Option ℕ} None (Some g) = e in cc)
+none_made lane n p g (inr x) = absurd x
+
+told_of_a_pin : (w : View) → Stops (told 1 Leave (answer.Left 1) ∷ []) w → ⊥
+told_of_a_pin w x = absurd (let e : ◌≡◌ {A = Reply} (answer.Left 1) (answer.Left 0) =
+    (x.scoped [] (λ name. refl) refl none_given
+    (λ p g h is_p is_q. absurd (none_made 1 1 p g is_p))).0 in cc)
+  where
+    none_given : AreOneToOne []
+    none_given p q g h is_p is_q = absurd is_p
+
+-- its record has no version
+none_freed : FreedIsLast (blank two)
+none_freed h last n freed has there = absurd (none has)
+  where
+    none : HasVersion (blank two) h last true → ⊥
+    none (inl x) = absurd x.1
+    none (inr x) = absurd x.1
+
+answers_of_another_lane : (ls : List Line) (w : View)
+    → LaneStops 1 two 1 [] ls (blank two) (told 2 Leave (answer.Left 0) ∷ []) w → ⊥
+answers_of_another_lane ls w x = eqb-false 2 1 refl (x.rises (blank two)
+    (λ h n freed has. subst (λ (v : View). HasVersion (unpinned_all v) h n freed) same has) none_freed []
+    (λ name. refl)).own.0
+  where
+    same : x.lines_stop.behind ≡ blank two
+    same = x.lines_stop.goes.2 ∙ x.lines_stop.goes.1.1

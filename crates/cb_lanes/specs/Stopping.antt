@@ -1,0 +1,81 @@
+-- What a line of a lane beside others leaves that found no memory.
+use Rattle.std.specs.Prelude.{◌≡◌, ◌⊎◌, ℕ, List, Option, Err}
+use Rattle.cb_member.specs.declared.no_memory.NoMemory.{NoMemory}
+use Rattle.cb_ptr.specs.declared.word.State.TheVariants as state
+use Rattle.cb_ptr.specs.Word.{state_of}
+use Rattle.cb_types.specs.declared.config.Config.{Config}
+use Rattle.cb_types.specs.declared.job.Job.{Job}
+use Rattle.cb_types.specs.declared.job.Job.TheVariants as job
+use Rattle.cb_types.specs.declared.reply.Reply.TheVariants as answer
+use Rattle.cb_types.specs.declared.request.Request.{Request}
+use Rattle.cb_rule.specs.declared.view.View.{View}
+use Rattle.cb_rule.specs.Steps.{with_look}
+use Rattle.cb_shared.specs.Calls.{AtNone, AtThis, StopsInVain, the_handle}
+use Rattle.cb_shared.specs.Turning.{TurnBy}
+use Rattle.cb_lanes.specs.LineGoes.{Ask, Calls, Goes, Leaves, LineGoes, ObjectGoes, Peeks, Pins, Unpins}
+
+-- a read, a write, and a make or a free that found no memory: tries that came to nothing
+abbrev pub ReadStops : Config → ℕ → View → View → Type 0
+ReadStops c h v w = StopsInVain (AtThis h) (job.Swap (the_handle h)) v w
+
+abbrev pub WriteStops : Config → ℕ → ℕ → List ℕ → View → View → Type 0
+WriteStops c h at bytes v w = StopsInVain (AtThis h) (job.Write (the_handle h) at bytes) v w
+
+abbrev pub TurnStops : Config → Job → View → View → Type 0
+TurnStops c j v w = StopsInVain AtNone j v w
+
+-- a turn that found no memory, and nothing else
+abbrev pub TurnLacks : Config → Job → View → View → Type 0
+TurnLacks c j v w = (e : NoMemory) × TurnBy c j (Err e) v w
+
+-- a look that found the object far, and a turn that was to bring it in and found no memory
+pub record BringsNot (c : Config) (h : ℕ) (v w : View) : Type 0 where
+  pub word : ℕ
+  pub away : state_of word ≡ state.Far
+  pub lacks : TurnLacks c (job.Swap (the_handle h)) (with_look h word v) w
+
+-- a pin: tries that came to nothing, and then one that ends so
+pub record PinStops (c : Config) (h : ℕ) (v w : View) : Type 0 where
+  pub between : View
+  pub in_vain : StopsInVain (AtThis h) (job.Swap (the_handle h)) v between
+  pub lacks : BringsNot c h between w
+
+-- a call that found no memory: every job but those of the calls above is one turn
+abbrev pub CallStops : Config → Job → View → View → Type 0
+CallStops c (job.Make bytes) v w = TurnStops c (job.Make bytes) v w
+CallStops c (job.Read handle) v w = ReadStops c handle.n v w
+CallStops c (job.Write handle at bytes) v w = WriteStops c handle.n at bytes v w
+CallStops c (job.Free handle) v w = TurnStops c (job.Free handle) v w
+CallStops c j v w = TurnLacks c j v w
+
+-- what is asked of whatever answers, and found no memory, leads from one state to another
+abbrev pub Stops : Type 0 → Type 1
+Stops A = Ask → A → A → Type 0
+
+-- what is asked of a pass: a peek changes nothing, and the end of a pin takes no memory
+abbrev pub stops_in : Config → Stops View
+stops_in c (Calls j) v w = CallStops c j v w
+stops_in c (Pins h) v w = PinStops c h v w
+stops_in c (Peeks h) v w = w ≡ v
+stops_in c (Unpins h) v w = ⊥
+stops_in c Leaves v w = ⊥
+
+module _ {A : Type 0} where
+  -- there was no memory to ask it, or it was asked and stopped so
+  abbrev pub AskStops : Stops A → Ask → A → A → Type 0
+  AskStops stops ask a b = (b ≡ a) ⊎ stops ask a b
+
+  -- what it comes to, without a reply
+  abbrev pub asked_or_not : Stops A → Goes A
+  asked_or_not stops ask a r b = AskStops stops ask a b
+
+  -- A line on an object that found no memory: one whose name has no handle asks for nothing, and
+  -- changes nothing.
+  abbrev pub ObjectStops : Stops A → Option ℕ → Request → A → A → Type 0
+  ObjectStops stops handle request a b =
+      ObjectGoes (asked_or_not stops) handle request a answer.Unmade b
+
+  -- and any line
+  abbrev pub LineStops : Stops A → Option ℕ → Request → A → A → Type 0
+  LineStops stops handle request a b =
+      LineGoes (asked_or_not stops) handle request a answer.Unmade b
