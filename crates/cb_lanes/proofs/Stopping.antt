@@ -11,14 +11,15 @@ use Rattle.cb_types.specs.declared.reply.Reply.TheVariants as answer
 use Rattle.cb_types.specs.declared.request.Request.{Request}
 use Rattle.cb_ptr.specs.declared.word.State.TheVariants as state
 use Rattle.cb_ptr.specs.Word.{state_of}
+use Rattle.cb_world.specs.declared.event.Event.{Event}
 use Rattle.cb_rule.specs.declared.turn.Turn.{Turn}
 use Rattle.cb_rule.specs.declared.view.Look.{Look}
 use Rattle.cb_rule.specs.declared.view.View.{View}
 use Rattle.cb_rule.specs.Lists.{Each}
 use Rattle.cb_rule.specs.Steps.{look_at, with_look}
 use Rattle.cb_record.specs.Deeds.{deed, happened, happening}
-use Rattle.cb_record.specs.Parts.{Part, grown, nothing_more}
-use Rattle.cb_shared.specs.Calls.{AtNone, AtThis, StopsInVain, the_handle}
+use Rattle.cb_record.specs.Parts.{Grows, Part, grown, nothing_more}
+use Rattle.cb_shared.specs.Calls.{AtNone, AtThis, IsInVain, StopsInVain, the_handle}
 use Rattle.cb_shared.specs.Joining.{unpinned_all}
 use Rattle.cb_shared.specs.Pinning.{LooksOnce}
 use Rattle.cb_shared.specs.Turning.{JobReads, TurnAdds, TurnBy, made_by_turn, turn_part, with_own}
@@ -112,13 +113,20 @@ idle_both v m w x y = record {
       ∙ grown_sum (idle_part x.looks x.turns) (idle_part y.looks y.turns) v;
 }
 
-idle_vain : (on : ℕ → Type 0) (j : Job) (v w : View) → StopsInVain on j v w → AddsIdly v w
-idle_vain on j v w (d, x, grew) = record {
+idle_vain : (on : ℕ → Type 0) (vain : Turn → Type 0) (d : Part) (v w : View) → IsInVain on vain d
+    → Grows v d w → AddsIdly v w
+idle_vain on vain d v w x grew = record {
   looks = x.looks;
   turns = x.turns;
   idle = x.idle;
   grows = grew ∙ ap (λ (e : Part). grown e v) x.part;
 }
+
+idle_stops : (on : ℕ → Type 0) (vain want : Turn → Type 0) (v w : View)
+    → StopsInVain on vain want v w → AddsIdly v w
+idle_stops on vain want v w x = idle_both v x.between w
+    (idle_vain on vain x.tries.0 v x.between x.tries.1 x.tries.2)
+    (idle_vain on want x.last x.between w x.lacks x.left)
 
 -- ---- a turn that found no memory
 none_happened : (j : Job) → happening j None ≡ []
@@ -132,15 +140,15 @@ none_made (job.Make bytes) = refl
 none_made j = refl
 
 -- a read that is part of one leaves looks
-within_looks : (j : Job) (e : NoMemory) (v : View) (d : Part) → JobReads j (Err e) v d
-    → (looks : List Look) × (d ≡ record nothing_more { looks = looks })
-within_looks (job.Read h) e v d (inl x) = ([], x.0)
-within_looks (job.Read h) e v d (inr x) = (x.looks, x.part)
-within_looks j e v d x = ([], x)
+within_looks : (j : Job) (es : List Event) (e : NoMemory) (v : View) (d : Part)
+    → JobReads j es (Err e) v d → (looks : List Look) × (d ≡ record nothing_more { looks = looks })
+within_looks (job.Read h) es e v d (inl x) = ([], x.0)
+within_looks (job.Read h) es e v d (inr x) = (x.looks, x.part)
+within_looks j es e v d x = ([], x)
 
 lacks_idly : (c : Config) (j : Job) (e : NoMemory) (v : View) (d : Part) → (x : TurnAdds c j (Err e) v d)
     → (looks : List Look) × (d ≡ idle_part looks (x.turn ∷ []))
-lacks_idly c j e v d x = let z = within_looks j e v x.within x.reads in (
+lacks_idly c j e v d x = let z = within_looks j x.turn.acts e v x.within x.reads in (
   z.0,
   x.part ∙ (λ i. turn_part x.turn (x.wrote i) (z.1 i) (x.finds i)),
 )
@@ -156,11 +164,10 @@ idle_turn c j v w (e, (d, x, is)) = let z = lacks_idly c j e v d x in record {
 
 -- ---- what is asked of a pass
 idle_call : (c : Config) (j : Job) (v w : View) → CallStops c j v w → AddsIdly v w
-idle_call c (job.Make bytes) v w x = idle_vain AtNone (job.Make bytes) v w x
-idle_call c (job.Read h) v w x = idle_vain (AtThis h.n) (job.Swap (the_handle h.n)) v w x
-idle_call c (job.Write h at bytes) v w x =
-    idle_vain (AtThis h.n) (job.Write (the_handle h.n) at bytes) v w x
-idle_call c (job.Free h) v w x = idle_vain AtNone (job.Free h) v w x
+idle_call c (job.Make bytes) v w x = idle_stops AtNone _ _ v w x
+idle_call c (job.Read h) v w x = idle_stops (AtThis h.n) _ _ v w x
+idle_call c (job.Write h at bytes) v w x = idle_stops (AtThis h.n) _ _ v w x
+idle_call c (job.Free h) v w x = idle_stops AtNone _ _ v w x
 idle_call c j v w x = idle_turn c j v w x
 
 idle_look : (h word : ℕ) (v : View) → AddsIdly v (with_look h word v)
@@ -173,7 +180,7 @@ idle_look h word v = record {
 
 idle_pin : (c : Config) (h : ℕ) (v w : View) → PinStops c h v w → AddsIdly v w
 idle_pin c h v w x = idle_both v x.between w
-    (idle_vain (AtThis h) (job.Swap (the_handle h)) v x.between x.in_vain)
+    (idle_vain (AtThis h) _ x.in_vain.0 v x.between x.in_vain.1 x.in_vain.2)
     (idle_both x.between (with_look h x.lacks.word x.between) w (idle_look h x.lacks.word x.between)
     (idle_turn c (job.Swap (the_handle h)) (with_look h x.lacks.word x.between) w x.lacks.lacks))
 

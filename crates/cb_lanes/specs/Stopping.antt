@@ -1,5 +1,5 @@
 -- What a line of a lane beside others leaves that found no memory.
-use Rattle.std.specs.Prelude.{◌≡◌, ◌⊎◌, ℕ, List, Option, Err}
+use Rattle.std.specs.Prelude.{◌≡◌, ◌⊎◌, ℕ, Option, Err}
 use Rattle.cb_member.specs.declared.no_memory.NoMemory.{NoMemory}
 use Rattle.cb_ptr.specs.declared.word.State.TheVariants as state
 use Rattle.cb_ptr.specs.Word.{state_of}
@@ -10,19 +10,10 @@ use Rattle.cb_types.specs.declared.reply.Reply.TheVariants as answer
 use Rattle.cb_types.specs.declared.request.Request.{Request}
 use Rattle.cb_rule.specs.declared.view.View.{View}
 use Rattle.cb_rule.specs.Steps.{with_look}
-use Rattle.cb_shared.specs.Calls.{AtNone, AtThis, StopsInVain, the_handle}
+use Rattle.cb_shared.specs.Calls.{ReadStops, TurnStops, WriteStops, the_handle}
 use Rattle.cb_shared.specs.Turning.{TurnBy}
 use Rattle.cb_lanes.specs.LineGoes.{Ask, Calls, Goes, Leaves, LineGoes, ObjectGoes, Peeks, Pins, Unpins}
-
--- a read, a write, and a make or a free that found no memory: tries that came to nothing
-abbrev pub ReadStops : Config → ℕ → View → View → Type 0
-ReadStops c h v w = StopsInVain (AtThis h) (job.Swap (the_handle h)) v w
-
-abbrev pub WriteStops : Config → ℕ → ℕ → List ℕ → View → View → Type 0
-WriteStops c h at bytes v w = StopsInVain (AtThis h) (job.Write (the_handle h) at bytes) v w
-
-abbrev pub TurnStops : Config → Job → View → View → Type 0
-TurnStops c j v w = StopsInVain AtNone j v w
+use Rattle.cb_lanes.specs.Passing.{PinsInVain}
 
 -- a turn that found no memory, and nothing else
 abbrev pub TurnLacks : Config → Job → View → View → Type 0
@@ -37,7 +28,7 @@ pub record BringsNot (c : Config) (h : ℕ) (v w : View) : Type 0 where
 -- a pin: tries that came to nothing, and then one that ends so
 pub record PinStops (c : Config) (h : ℕ) (v w : View) : Type 0 where
   pub between : View
-  pub in_vain : StopsInVain (AtThis h) (job.Swap (the_handle h)) v between
+  pub in_vain : PinsInVain c h v between
   pub lacks : BringsNot c h between w
 
 -- a call that found no memory: every job but those of the calls above is one turn

@@ -11,6 +11,7 @@ ghost use Rattle.cb_shared.specs.Passes.{IsPassOf, IsPinOf, record_of, stand_of}
 ghost use Rattle.cb_shared.specs.Turning.{KnowsOf};
 ghost use Rattle.cb_lanes.specs.Passing.{AreHeld, CallGives, PeekGoes, PeeksAll, PinGoes, PinTries};
 ghost use Rattle.cb_lanes.specs.Passing.{PinsAtLast, UnpinGoes};
+ghost use Rattle.cb_lanes.specs.Stopping.{BringsNot, CallStops, PinStops, TurnLacks};
 
 use crate::kept_pins::{KeptPins, MOST_PINS, keep_pin, newest_pin};
 use cb_shared::{Pass, Patience, Pin, PinAnswer, Shared, put_word};
@@ -34,6 +35,8 @@ pub(crate) fn call<R: Wait>(
     ensures pins { (record_of pass.new).pins ≡ (record_of pass.old).pins }
     ensures call { IfOk result (λ reply. CallGives shared.now.config job.now (record_of pass.old)
         reply (record_of pass.new)) }
+    ensures error { OnErr result (CallStops shared.now.config job.now (record_of pass.old)
+        (record_of pass.new)) }
 {
     match job {
         Job::Make { bytes } => shared.make(rt, alloc, pass, bytes.as_slice()),
@@ -67,6 +70,8 @@ pub(crate) fn pin<R: Wait>(
     ensures held { AreHeld pins.new.items (record_of pass.new) }
     ensures pin { IfOk result (λ reply. PinGoes shared.now.config h.n (record_of pass.old) reply
         (record_of pass.new)) }
+    ensures error { OnErr result (PinStops shared.now.config h.n (record_of pass.old)
+        (record_of pass.new)) }
 {
     if pins.len() == MOST_PINS {
         return Ok(Reply::ScopeFull);
@@ -91,6 +96,8 @@ fn pin_at_last<R: Wait>(
     ensures held { AreHeld pins.new.items (record_of pass.new) }
     ensures pin { IfOk result (λ reply. PinsAtLast shared.now.config h.n reply
         (record_of pass.old) (record_of pass.new)) }
+    ensures error { OnErr result (PinStops shared.now.config h.n (record_of pass.old)
+        (record_of pass.new)) }
 {
     let mut patience = Patience::new();
     for _ in rt.forever() {
@@ -119,6 +126,8 @@ fn try_pin<R: Wait>(
     ensures of { IsPassOf shared.now pass.new }
     ensures held { AreHeld pins.new.items (record_of pass.new) }
     ensures pin { IfOk result (λ o. PinTries shared.now.config h.n o (record_of pass.old)
+        (record_of pass.new)) }
+    ensures error { OnErr result (BringsNot shared.now.config h.n (record_of pass.old)
         (record_of pass.new)) }
 {
     match shared.pin(pass, h) {
@@ -153,6 +162,8 @@ fn bring_in<R: Wait>(
     ensures pins { (record_of pass.new).pins ≡ (record_of pass.old).pins }
     ensures turn { IfOk result (λ o. TurnTries shared.now.config (jobs.Swap h) o
         (record_of pass.old) (record_of pass.new)) }
+    ensures error { OnErr result (TurnLacks shared.now.config (jobs.Swap h) (record_of pass.old)
+        (record_of pass.new)) }
 {
     let reply = shared.turn(rt, alloc, pass, &Job::Swap { handle: h })?;
     if is_lack(shared, &reply) {

@@ -2,6 +2,7 @@ use Rattle.std.proofs.Common.{ap}
 use Rattle.cb_types.specs.declared.job.Job.TheVariants as jobs
 use Rattle.cb_rule.specs.declared.view.View.{View}
 use Rattle.cb_shared.proofs.Laws.{turn_ends, turn_in_vain}
+use Rattle.cb_lanes.proofs.Stopping.{err_always}
 use Rattle.cb_lanes.proofs.asks.bring_in.Goals as goal
 
 pub returns-then-is_lack-clause-turn : goal.returns-then-is_lack-clause-turn
@@ -22,3 +23,7 @@ returns-else-is_lack-clause-pins g c = ap (λ (z : View). z.pins) c.in_ok-reply.
 
 pub returns-in_err-reply-clause-pins : goal.returns-in_err-reply-clause-pins
 returns-in_err-reply-clause-pins g c = ap (λ (z : View). z.pins) c.in_err-reply.ensures.turn.2
+
+pub returns-in_err-reply-clause-error : goal.returns-in_err-reply-clause-error
+returns-in_err-reply-clause-error g c =
+    err_always c.from_residual.result _ (_, c.in_err-reply.ensures.turn)

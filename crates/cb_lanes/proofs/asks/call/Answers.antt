@@ -4,6 +4,7 @@ use Rattle.cb_types.specs.declared.job.Job.TheVariants as jobs
 use Rattle.cb_core.specs.Jobs.{IsJob}
 use Rattle.cb_shared.specs.Calls.{AtNone, AtThis, IsFetchForWant, IsForWant, IsUnanswered, IsUnfetched, the_handle}
 use Rattle.cb_shared.specs.Turning.{KnowsOf}
+use Rattle.cb_lanes.proofs.Stopping.{call_stops, other_stops}
 use Rattle.cb_lanes.proofs.Trying.{call_is, call_leaves, other_call, turn_leaves}
 use Rattle.cb_lanes.proofs.asks.call.Goals as goal
 
@@ -35,6 +36,28 @@ returns-in-Make-clause-pins g c = call_leaves c.args.shared.now.config
     (IsForWant (jobs.Make c.as_slice.result.now))
     c.args.pass.now.seat.me.0 c.make.new.pass.seat.me.0 c.make.result c.make.ensures.make
     c.make.ensures.error
+
+pub returns-in-Make-clause-error : goal.returns-in-Make-clause-error
+returns-in-Make-clause-error g c = call_stops c.args.shared.now.config c.args.job.now
+    (jobs.Make c.as_slice.result.now) c.args.pass.now.seat.me.0 c.make.new.pass.seat.me.0
+    c.make.result (c.in-Make.is ∙ ap jobs.Make (sym c.as_slice.ensures.items)) c.make.ensures.error
+
+pub returns-in-Read-clause-error : goal.returns-in-Read-clause-error
+returns-in-Read-clause-error g c = call_stops c.args.shared.now.config c.args.job.now
+    (jobs.Read c.in-Read.handle) c.args.pass.now.seat.me.0 c.read.new.pass.seat.me.0
+    c.read.result c.in-Read.is c.read.ensures.error
+
+pub returns-in-Write-clause-error : goal.returns-in-Write-clause-error
+returns-in-Write-clause-error g c = call_stops c.args.shared.now.config c.args.job.now
+    (jobs.Write c.in-Write.handle c.in-Write.at c.as_slice-in-Write.result.now)
+    c.args.pass.now.seat.me.0 c.write.new.pass.seat.me.0 c.write.result
+    (c.in-Write.is ∙ ap (λ (l : List ℕ). jobs.Write c.in-Write.handle c.in-Write.at l)
+    (sym c.as_slice-in-Write.ensures.items)) c.write.ensures.error
+
+pub returns-in-Free-clause-error : goal.returns-in-Free-clause-error
+returns-in-Free-clause-error g c = call_stops c.args.shared.now.config c.args.job.now
+    (jobs.Free c.in-Free.handle) c.args.pass.now.seat.me.0 c.free.new.pass.seat.me.0
+    c.free.result c.in-Free.is c.free.ensures.error
 
 pub returns-in-Read-clause-call : goal.returns-in-Read-clause-call
 returns-in-Read-clause-call g c = call_is c.args.shared.now.config c.args.job.now
@@ -115,6 +138,9 @@ returns-in_default g c = record {
   pins = turn_leaves c.args.shared.now.config c.args.job.now c.args.pass.now.seat.me.0
       c.turn.new.pass.seat.me.0 c.turn.result c.turn.ensures.turn;
   call = other_call c.args.shared.now.config c.args.job.now c.args.pass.now.seat.me.0
+      c.turn.new.pass.seat.me.0 c.turn.result c.in_default.not-Make c.in_default.not-Read
+      c.in_default.not-Write c.in_default.not-Free c.turn.ensures.turn;
+  error = other_stops c.args.shared.now.config c.args.job.now c.args.pass.now.seat.me.0
       c.turn.new.pass.seat.me.0 c.turn.result c.in_default.not-Make c.in_default.not-Read
       c.in_default.not-Write c.in_default.not-Free c.turn.ensures.turn;
 }

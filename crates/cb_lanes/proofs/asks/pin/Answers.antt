@@ -23,3 +23,6 @@ returns-clause-pin g c = let e = held_count c.args.pins.now.items
     IfOk-weaker c.pin_at_last.result _ _ (λ r x. pin_goes c.args.shared.now.config c.args.h.n r
     c.args.pass.now.seat.me.0 c.pin_at_last.new.pass.seat.me.0 (omega (arith, e, n, f, d)) x)
     c.pin_at_last.ensures.pin
+
+pub returns-clause-error : goal.returns-clause-error
+returns-clause-error g c = c.pin_at_last.ensures.error

@@ -3,6 +3,7 @@ use Rattle.cb_types.specs.declared.job.Job.TheVariants as jobs
 use Rattle.cb_rule.specs.declared.view.Stand.{Stand}
 use Rattle.cb_shared.specs.Calls.{AtThis, IsUnanswered, the_handle}
 use Rattle.cb_shared.proofs.Laws.{known_still, so_far}
+use Rattle.cb_lanes.proofs.Stopping.{err_always}
 use Rattle.cb_lanes.proofs.Trying.{pin_again, pinned_at_last, vain_pins}
 use Rattle.cb_lanes.proofs.asks.pin_at_last.Goals as goal
 
@@ -44,3 +45,11 @@ loop-preserved g c = (
       c.loop.pass.seat.me.0 c.try_pin.new.pass.seat.me.0 c.in_default.is c.loop.invariant.2
       c.in_ok-reply.ensures.pin,
 )
+
+pub returns-in_err-reply-clause-error : goal.returns-in_err-reply-clause-error
+returns-in_err-reply-clause-error g c =
+    err_always c.from_residual.result _ (record {
+      between = c.loop.pass.seat.me.0;
+      in_vain = c.loop.invariant.2;
+      lacks = c.in_err-reply.ensures.error;
+    })

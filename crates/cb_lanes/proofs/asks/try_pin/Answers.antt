@@ -2,6 +2,7 @@ use Rattle.std.proofs.Common.{arith}
 use Rattle.std.proofs.lemmas.Result.{IfOk-weaker}
 use Rattle.cb_shared.proofs.Laws.{known_below}
 use Rattle.cb_lanes.proofs.PinsHeld.{held_count, held_more}
+use Rattle.cb_lanes.proofs.Stopping.{brings_not}
 use Rattle.cb_lanes.proofs.Trying.{brought, is_hindered, pinned_once, was_far, was_freed, was_hindered, was_pinned}
 use Rattle.cb_lanes.proofs.asks.try_pin.Goals as goal
 
@@ -40,3 +41,9 @@ pub returns-in-Moving-clause-pin : goal.returns-in-Moving-clause-pin
 returns-in-Moving-clause-pin g c = was_hindered c.args.shared.now.config c.args.h.n c.pin.result
     c.args.pass.now.seat.me.0 c.pin.new.pass.seat.me.0 (is_hindered c.pin.result c.in-Moving.is)
     c.pin.ensures.pin
+
+pub returns-in-NotHere-clause-error : goal.returns-in-NotHere-clause-error
+returns-in-NotHere-clause-error g c = brings_not c.args.shared.now.config c.args.h.n
+    c.args.pass.now.seat.me.0 c.pin.new.pass.seat.me.0 c.bring_in.new.pass.seat.me.0
+    c.bring_in.result (was_far c.args.h.n c.pin.result _ _ c.in-NotHere.is c.pin.ensures.pin)
+    c.bring_in.ensures.error
