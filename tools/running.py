@@ -93,21 +93,25 @@ def read_input(path, most=None):
         raise Ending(f"{name} can't be read: {error.strerror}", NO_INPUT) from None
 
 
+def say(text):
+    """Says a line on standard error, where there is one."""
+    try:
+        if sys.stderr:
+            print(f"{os.path.basename(sys.argv[0])}: {text}", file=sys.stderr, flush=True)
+    except OSError:
+        pass
+
+
 def end_of(main):
     """Runs a tool, says what there is to say of its end, and gives its status."""
-    name = os.path.basename(sys.argv[0])
     try:
         return main(sys.argv[1:]) or 0
     except Ending as end:
-        said, status = end.said, end.status
+        if end.said:
+            say(end.said)
+        return end.status
     except KeyboardInterrupt:
-        said, status = "", 130
-    try:
-        if said:
-            print(f"{name}: {said}", file=sys.stderr)
-    except (OSError, AttributeError):
-        pass
-    return status
+        return 130
 
 
 def printable(text):
