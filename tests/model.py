@@ -460,13 +460,13 @@ class World:
         return "whole %d" % sum(self.is_broken(s) for s in self.sets.values())
 
 
-def run(text, watch=None, local=False):
+def run(text, watch=None, local=False, world=World):
     """The answers of a script, and the world at its end. After each line watch(line number, words, reply, world, names)
     is called, where it is given, with the handles by their names. With local the compute side does the compact lines, and
-    a last line tells how many rows the nodes gave out."""
+    a last line tells how many rows the nodes gave out. world is the class of the world, for one that counts."""
     lines = text.rstrip("\n").split("\n")
     head = dict(w.split("=") for w in lines[0].split()[2:])
-    w = World(*(int(head[f]) for f in ("k", "r", "nodes", "frames", "room", "handles")), local)
+    w = world(*(int(head[f]) for f in ("k", "r", "nodes", "frames", "room", "handles")), local)
     names, scopes = {}, {}
     last = {l.split()[0]: i for i, l in enumerate(lines[1:])}
     out = []
