@@ -7,7 +7,7 @@ program=$here/build/carbink
 trial=$here/build/trial
 # Beside each of the two stands what it was built from: in .sources a sum of the sources and the toolchain's name, in
 # .times the sizes and times of both. Where the times stand no text is read. Beside the proved program stands the
-# processor that it was built for.
+# processor that it was built for, and beside the trial build, in .itself, its own size and time.
 processor=$program.processor
 # The folder in which git keeps the state of this checkout, where there is one. In a worktree .git is a file that
 # names it.
@@ -146,6 +146,12 @@ is_of_these() {
 
 # Whether the proved program is built from the sources as they stand, for this processor.
 is_current() { is_of_these "$program" && fits_here; }
+
+# Whether a trial build of the sources as they stand is kept, as it was put there: one that lost its text would answer
+# nothing, with status 0.
+is_kept() { is_of_these "$trial" && [ "$(size_of "$trial")" = "$(<"$trial.itself")" ]; } 2>/dev/null
+
+size_of() { stat -c '%s %.9Y' "$1"; }
 
 # Writes $1 to the file $2, whole or not at all.
 keep() { printf '%s\n' "$1" >"$2.new" && mv "$2.new" "$2"; }
