@@ -1,14 +1,28 @@
-# What the launcher and ./prove share: where the proved program lies, and whether it is current. The folder of the
-# repository is $here.
+# What the launcher and ./prove share: where the proved program and the kept trial build lie, and whether they are
+# current. The folder of the repository is $here.
 
+version=0.5
 program=$here/build/carbink
-# What the program was built from: a sum of the sources and the toolchain's name, and the sizes and
-# times of both. Where the times stand no text is read. Beside them the processor it was built for.
-text=$here/build/carbink.sources
-times=$here/build/carbink.times
-processor=$here/build/carbink.processor
+# A trial build that the launcher kept. It is compiled with checks, and not proved.
+trial=$here/build/trial
+# Beside each of the two stands what it was built from: in .sources a sum of the sources and the toolchain's name, in
+# .times the sizes and times of both. Where the times stand no text is read. Beside the proved program stands the
+# processor that it was built for, and beside the trial build, in .itself, its own size and time.
+processor=$program.processor
+# The folder in which git keeps the state of this checkout, where there is one. In a worktree .git is a file that
+# names it.
+git_folder=$here/.git
+if [ -f "$git_folder" ]; then
+    read -r _ git_folder <"$here/.git"
+    [[ $git_folder = /* ]] || git_folder=$here/$git_folder
+fi
+# What times_now and text_now gave, where this call has asked.
+now_times=
+now_text=
 
 say() { printf 'carbink: %s\n' "$*" >&2; }
+
+has_toolchain() { command -v rt >/dev/null; }
 
 # The crates of this repository that crate $1 stands on, itself included, each behind its level: one
 # above the highest of those below it.
@@ -26,30 +40,47 @@ levels_of() {
         END { level(top) }' "$here/crates.txt"
 }
 
-# Each file of the toolchain's folder (where rt is not here, of the one that the program was built
-# with), crates.txt, and each file and folder of the sources, with sizes and times. A change of a
-# file changes its line, also one that sets the time of its text back.
+# Each file of the toolchain's folder, where rt is here, then crates.txt and each file and folder of the sources, with
+# sizes and times. A change of a file changes its line, also one that sets the time of its text back.
 times_now() {
-    local tools
-    if tools=$(command -v rt); then
-        tools=$(readlink -f -- "$tools")
+    local tools=()
+    if has_toolchain; then
+        tools=$(readlink -f -- "$(command -v rt)")
         tools=("${tools%/*}/"r[at]*)
-    else
-        tools=()
-        if [ -f "$times" ]; then
-            tools=$(<"$times")
-            printf '%s\n' "${tools%%$'\n'crates.txt *}"
-            tools=()
-        fi
     fi
     cd "$here" && find ${tools[@]+"${tools[@]}"} "${sources[@]}" -printf '%p %s %T@ %C@\n'
 }
 
-# A sum of the sources' text, and the name of the toolchain (where it is not here, of the one that
-# the program was built with).
+# A sum of the sources' text, and behind it the name of the toolchain, where rt is here.
 text_now() {
     (cd "$here" && find "${sources[@]}" -type f -print0 | LC_ALL=C sort -z | xargs -0 sha256sum) | sha256sum
-    if command -v rt >/dev/null; then rt version; else sed 1d "$text" 2>/dev/null; fi
+    ! has_toolchain || rt version
+}
+
+# Looks at times once a call, and at texts where they are needed: a text is that of a build whose times stand.
+see_times() { [ -n "$now_times" ] || now_times=$(times_now); }
+
+see_text() {
+    local made
+    [ -z "$now_text" ] || return 0
+    for made in "$program" "$trial"; do
+        [ ! -f "$made.sources" ] || ! has_these_times "$made" || now_text=$(<"$made.sources")
+    done
+    [ -n "$now_text" ] || now_text=$(text_now)
+}
+
+see_anew() {
+    now_times=
+    now_text=
+}
+
+# Says where the toolchain is another one than the sources were proved with.
+compare_toolchain() {
+    local name wanted
+    read -r wanted <"$here/tools/toolchain" || return
+    name=$(rt version 2>/dev/null)
+    [[ $name = *"$wanted" ]] ||
+        say "the toolchain here is '$name', and these sources were proved with one whose name ends with '$wanted': this one may refuse them"
 }
 
 # The processor to build for: x86-64-v3 where this one has all that this level asks for, else the
@@ -77,28 +108,71 @@ fits_here() {
     [ "$built_for" = "$(processor_here)" ] && { keep "$built_for $boot" "$processor"; true; }
 } 2>/dev/null
 
-has_these_times() { [ -x "$program" ] && [ -f "$times" ] && [ "$(times_now)" = "$(<"$times")" ] && fits_here; }
-
-has_this_text() { [ -x "$program" ] && [ -f "$text" ] && [ "$1" = "$(<"$text")" ] && fits_here; }
-
-# Whether the program is built from the sources as they stand. The same text under other times is the
-# same: where those can't be kept, the text is read each time.
-is_current() {
-    has_these_times && return
-    [ -f "$text" ] || return
-    local now
-    now=$(times_now)
-    has_this_text "$(text_now)" && { keep "$now" "$times" 2>/dev/null; true; }
+# Whether the build $1 has the sources' times, and the toolchain's where rt is here.
+has_these_times() {
+    [ -x "$1" ] && [ -f "$1.times" ] || return
+    see_times
+    if has_toolchain; then
+        [ "$now_times" = "$(<"$1.times")" ]
+    else
+        [ "$now_times" = "$(sed -n '/^crates\.txt /,$p' "$1.times")" ]
+    fi
 }
+
+has_this_text() {
+    [ -x "$1" ] && [ -f "$1.sources" ] || return
+    see_times
+    see_text
+    if has_toolchain; then
+        [ "$now_text" = "$(<"$1.sources")" ]
+    else
+        [ "${now_text%%$'\n'*}" = "$(head -n 1 "$1.sources")" ]
+    fi
+}
+
+# Keeps the times beside the build $1. Where rt is not here those of the toolchain stay.
+keep_times() {
+    local tools=
+    has_toolchain || [ ! -f "$1.times" ] || tools=$(sed '/^crates\.txt /,$d' "$1.times")
+    keep "${tools:+$tools$'\n'}$now_times" "$1.times"
+}
+
+# Whether the build $1 is of the sources as they stand. The same text under other times is the same: where those can't
+# be kept, the text is read each time.
+is_of_these() {
+    has_these_times "$1" && return
+    has_this_text "$1" && { keep_times "$1" 2>/dev/null; true; }
+}
+
+# Whether the proved program is built from the sources as they stand, for this processor.
+is_current() { is_of_these "$program" && fits_here; }
+
+# Whether a trial build of the sources as they stand is kept, as it was put there: one that lost its text would answer
+# nothing, with status 0.
+is_kept() { is_of_these "$trial" && [ "$(size_of "$trial")" = "$(<"$trial.itself")" ]; } 2>/dev/null
+
+size_of() { stat -c '%s %.9Y' "$1"; }
 
 # Writes $1 to the file $2, whole or not at all.
 keep() { printf '%s\n' "$1" >"$2.new" && mv "$2.new" "$2"; }
+
+# Puts the file $1 in the place of the build $2, which is of the sources as this call has seen them. No sum and no times
+# stand beside a build of other sources, wherever this is cut off.
+put_build() {
+    rm -f "$2.sources" "$2.times" && mv -f "$1" "$2" && keep "$now_text" "$2.sources" && keep "$now_times" "$2.times"
+}
+
+# Puts what lies in crates/cb_app/out in the place of the proved program, as built for the processor $1.
+put_program() {
+    cp "$here/crates/cb_app/out/cb_app" "$program.new" && rm -f "$program.sources" "$program.times" &&
+        keep "$1" "$processor" && put_build "$program.new" "$program"
+}
 
 # Whether rt ci left a program of these sources. Its run makes each crate's out/ anew before it reads
 # the crate; if nothing of the sources and the toolchain changed since the run began, what lies there
 # is of them. It runs the program last, once all is proved, and keeps what it wrote.
 left_by_gate() {
-    local began=$here/.git/rt-ci.lock out=$here/crates/cb_app/out start newer born
+    local began=$git_folder/rt-ci.lock out=$here/crates/cb_app/out start newer born
     [ -f "$began" ] && [ -x "$out/cb_app" ] && [ ! -e "$out/cb_app.stamp" ] || return
     [ "$out/stdout" -nt "$out/cb_app" ] && cmp -s "$out/stdout" "$here/crates/cb_app/stdout" || return
     newer=$(cd "$here" && find "${sources[@]}" "$(dirname "$(readlink -f -- "$(command -v rt)")")" \

@@ -1,7 +1,7 @@
 # What the launcher says on standard error of a status but 0: which line is bad and what is wrong with it, what
 # failed, how the program is called. It is read in where a call ends so, by `finish`, with the status and the words;
 # $printed is what was printed at status 2, $why is why reading or writing failed, where that is known, and
-# `input_again` gives the input.
+# `input_again` gives the input, where it can be had again.
 
 # So many bytes of a text are quoted, whatever is in it.
 quoted_bytes=80
@@ -28,8 +28,11 @@ printable() {
     printf '%s' "$shown"
 }
 
-# The line $1 of the input, without its line feed; of a long one, its begin. Bytes 0 are told as bytes 1.
-line_of() { input_again | LC_ALL=C sed -n "$1{p;q}" | head -c 4096 | tr '\000' '\001'; }
+# The line $1 of the input with its line feed; of a long one, its begin.
+line_of() { input_again | LC_ALL=C sed -n "$1{p;q}" | head -c 4096; }
+
+# The begin of a word, quoted.
+quoted() { printf "'%s'" "$(printf '%s' "$1" | head -c 20 | printable)"; }
 
 # What a verb is followed by; nothing where there is no such verb.
 form_of() {
@@ -64,6 +67,10 @@ stray_bytes() {
     esac
 }
 
+# Whether words are set apart by other than one space each.
+badly_spaced() { [[ $1 = ' '* || $1 = *' ' || $1 = *'  '* ]]; }
+spacing="words have exactly one space between them, and none stands before the first or behind the last"
+
 is_number() { [[ $1 =~ ^(0|[1-9][0-9]{0,8})$ ]]; }
 
 setting_out_of_range() {
@@ -93,15 +100,31 @@ setting_out_of_range() {
     echo "a setting is out of its range"
 }
 
+# The first word of a header that is not what stands there.
+wrong_word() {
+    local word wanted place=0 words
+    IFS=' ' read -r -a words <<<"$1"
+    for wanted in carbink 1 k=N r=N nodes=N frames=N room=N handles=N turns=N; do
+        word=${words[place]-}
+        place=$((place + 1))
+        [ "$word" != "$wanted" ] || [[ $wanted = *N ]] || continue
+        [[ $wanted != *N || $word != "${wanted%N}"* ]] || ! is_number "${word#*=}" || continue
+        if [ -n "$word" ]; then echo "word $place is $wanted, and not $(quoted "$word")"; else echo "word $place, $wanted, is missing"; fi
+        return
+    done
+    [ -z "${words[place]-}" ] || echo "nothing stands behind turns=N, and $(quoted "${words[place]}") does"
+}
+
 wrong_header() {
-    local form="line 1 is carbink 1 k=N r=N nodes=N frames=N room=N handles=N turns=N"
+    local stray form="line 1 is carbink 1 k=N r=N nodes=N frames=N room=N handles=N turns=N"
     if [ -z "$1" ]; then
         echo "the header is missing: $form"
-    else
-        local stray
-        stray=$(stray_bytes "$1")
-        echo "${stray:+$stray; }$form, each N a number without leading zeros"
+        return
     fi
+    stray=$(stray_bytes "$1")
+    [ -n "$stray" ] || ! badly_spaced "$1" || stray=$spacing
+    [ -n "$stray" ] || stray=$(wrong_word "$1")
+    echo "${stray:+$stray; }$form, each N a number without leading zeros"
 }
 
 wrong_shape() {
@@ -112,12 +135,14 @@ wrong_shape() {
         echo "the line is blank: each line behind the header is a request"
     elif [ -n "$stray" ]; then
         echo "$stray"
-    elif [[ $1 = ' '* || $1 = *' ' || $1 = *'  '* ]]; then
-        echo "words have exactly one space between them, and none stands before the first or behind the last"
+    elif badly_spaced "$1"; then
+        echo "$spacing"
+    elif [ -n "$(form_of "$lane")" ]; then
+        echo "the lane is missing: before $lane stands a number 0 to 15"
     elif [ -z "$verb" ]; then
         echo "a line is a lane, a verb, and what the verb is about"
     elif form=$(form_of "$verb") && [ -z "$form" ]; then
-        echo "'$(printf '%s' "$verb" | head -c 20 | printable)' is no verb; docs/FORMATS.md lists them"
+        echo "$(quoted "$verb") is no verb; docs/FORMATS.md lists them"
     else
         echo "behind $verb stands $form, and no more"
     fi
@@ -168,7 +193,7 @@ event_text() {
     elif [ -n "$stray" ]; then
         echo "$stray"
     elif form=$(event_form_of "$verb") && [ -z "$form" ]; then
-        echo "'$(printf '%s' "$verb" | head -c 20 | printable)' is no verb; docs/FORMATS.md lists them"
+        echo "$(quoted "$verb") is no verb; docs/FORMATS.md lists them"
     else
         echo "behind $verb stands $form, with one space between words: a number has at most nine digits, C two lower-case hexadecimal digits, and HEX two for each of 1 to 4,096 bytes"
     fi
@@ -201,21 +226,55 @@ hint_at_2() {
         line=${BASH_REMATCH[1]}
         wrong=(row_text "$line")
     else
+        say "the input is refused at the line that standard output tells, which could not be read a second time; docs/FORMATS.md has the forms and the reasons"
         return
     fi
     if [ "$line" = 0 ]; then
         say "$("${wrong[@]}" '')"
         return
     fi
-    text=$(line_of "$line"; echo .)
+    # A variable holds no byte 0; what is wrong with a line is the same for a byte 1.
+    text=$(line_of "$line" | tr '\000' '\001'; echo .)
     text=${text%.}
     text=${text%$'\n'}
-    say "line $line, '$(printf '%s' "$text" | printable)': $("${wrong[@]}" "$text")"
+    say "line $line, '$(line_of "$line" | tr -d '\n' | printable)': $("${wrong[@]}" "$text")"
+}
+
+# What is wrong with the options of a drawn script, where one is out of its range.
+wrong_option() {
+    local name='' word low high
+    for word; do
+        case $word in
+        --seed=* | --lines=* | --lanes=*)
+            name=${word%%=*}
+            word=${word#*=}
+            ;;
+        --seed | --lines | --lanes)
+            name=$word
+            continue
+            ;;
+        esac
+        case $name in
+        --seed) low=0 high=999999999 ;;
+        --lines) low=1 high=4000 ;;
+        --lanes) low=1 high=15 ;;
+        *) continue ;;
+        esac
+        if ! is_number "$word" || [ "$word" -lt "$low" ] || [ "$word" -gt "$high" ]; then
+            say "$name is a number $low to $high without leading zeros, and not $(quoted "$word")"
+            return
+        fi
+        name=
+    done
 }
 
 hint_at_1() {
     if [ $# = 2 ] && takes_input "$1" && [ -f "$2" ]; then
         say "the script is taken from standard input: carbink $1 < $(printf '%s' "$2" | printable)"
+    elif [ $# = 1 ] && [ -f "$1" ]; then
+        say "a command is missing, and the script is taken from standard input: carbink seq < $(printf '%s' "$1" | printable)"
+    elif may_draw "$@"; then
+        wrong_option "$@"
     fi
     usage
 }
