@@ -1,6 +1,6 @@
 """Scripts that are drawn for threads (tests/legal.py), with no steps, which threads refuse. Of the kind `mixed`: small worlds
-and roomy ones, shared names and own ones, many crashes and many worker turns. Of the kind `storm`: few frames, more lanes
-than these, and shared objects in many more spans, which the lanes read and pin all the time."""
+and roomy ones, shared names and own ones, many crashes and many worker turns. Of the kind `storm`: 2 to 12 frames for 3 to
+10 lanes, and shared objects in many more spans than that, which the lanes read and pin all the time."""
 import random
 
 WEIGHTS = {"make": 5, "read": 9, "write": 8, "free": 2, "pin": 3, "unpin": 3, "peek": 3, "leave": 1, "filter": 5,
@@ -72,8 +72,8 @@ def mixed(draw, count=None):
 
 
 class Storm:
-    """The lines of a storm, as they come. Half of them read or pin a shared object; the most pins that a lane holds are
-    few, since what is pinned can't leave, and a storm wants spans that come and go."""
+    """The lines of a storm, as they come. Half of those that end no pin read or pin a shared object, some objects more than
+    others; a lane holds few pins, since what is pinned can't leave, and a storm wants spans that come and go."""
     WEIGHTS = {"read": 33, "pin": 17, "write": 12, "filter": 10, "evict": 9, "peek": 5, "make": 4, "leave": 3, "compact": 3,
                "rebuild": 3, "free": 1}
     LENGTHS = (1024, 1024, 768, 700, 500, 384, 256, 200, 128, 97, 64, 40, 17, 8)
@@ -123,14 +123,20 @@ class Storm:
         self.lines.insert(at[0], f"{lane} crash {node}")
 
 
+def storm_lines(draw, frames, lanes, count):
+    """So many lines of these lanes, behind the makes of lane 0."""
+    drawing = Storm(draw, frames * draw.randint(2, 10), draw.choice((2, frames, 2 * frames)), draw.choice((1, 1, 2, 4)))
+    for _ in range(count):
+        drawing.line(draw.randint(1, lanes))
+    return drawing
+
+
 def storm(draw, count=None):
     """Lanes that want the same few frames: reads and pins of shared far objects beside evictions, filters and workers."""
     k, r = draw.choice((1, 2)), draw.randint(1, 3)
     nodes, frames = k + r + draw.randint(0, 3), draw.randint(2, 12)
     lanes, turns = draw.randint(3, 10), draw.choice((0, 0, 3, 40, 200, 1000, 2500))
-    drawing = Storm(draw, frames * draw.randint(2, 10), draw.choice((2, frames, 2 * frames)), draw.choice((1, 1, 2, 4)))
-    for _ in range(count or 5000):
-        drawing.line(draw.randint(1, lanes))
+    drawing = storm_lines(draw, frames, lanes, count or 5000)
     for node in draw.sample(range(nodes), draw.choice((0, 0, 1, r))):
         drawing.crash(node, draw.randint(1, lanes), draw.random() < 0.7)
     handles = max(1, len(drawing.lengths) - draw.choice((0, 0, 0, 5)))

@@ -130,7 +130,7 @@ def read(name):
 
 def try_judge():
     """The right outputs of tests/judged break no rule, and each wrong one the rules that are written beside it and no
-    other; what one thread answers is legal for each drawn script."""
+    other; what one thread answers is legal for each drawn script of either kind."""
     tried, failed, seen = 0, 0, set()
 
     def check(name, breaches, wanted):
@@ -149,10 +149,11 @@ def try_judge():
             for at, (rules, edits) in enumerate(blocks(read(base + ".wrong"))):
                 seen |= rules
                 check(f"{base}, wrong output {at + 1}", judge(script, edited(right, edits)), rules)
-    for seed in range(300):
-        text = drawn_script(seed)
-        script = Script(text)
-        check(f"drawn script {seed}", judge(script, by_lane(script, run(text)[0])), set())
+    for kind, seeds, count in (("mixed", 300, None), ("storm", 60, 500)):
+        for seed in range(seeds):
+            text = drawn_script(seed, kind, count)
+            script = Script(text)
+            check(f"drawn script {seed}, {kind}", judge(script, by_lane(script, run(text)[0])), set())
     print(f"{tried} outputs judged, {failed} otherwise than they should; {len(seen)} rules broken")
     return 1 if failed else 0
 
