@@ -72,11 +72,12 @@ def mixed(draw, count=None):
 
 
 class Storm:
-    """The lines of a storm, as they come. Half of those that end no pin read or pin a shared object, some objects more than
-    others; a lane holds few pins, since what is pinned can't leave, and a storm wants spans that come and go."""
-    WEIGHTS = {"read": 33, "pin": 17, "write": 12, "filter": 10, "evict": 9, "peek": 5, "make": 4, "leave": 3, "compact": 3,
+    """The lines of a storm, as they come. Half of them read or pin a shared object, some objects more than others. Most objects
+    are large, so that few stand in one span, and a lane holds few pins, since what is pinned can't leave: a storm wants
+    spans that come and go."""
+    WEIGHTS = {"read": 38, "pin": 20, "write": 10, "filter": 8, "evict": 8, "peek": 4, "make": 4, "leave": 2, "compact": 2,
                "rebuild": 3, "free": 1}
-    LENGTHS = (1024, 1024, 768, 700, 500, 384, 256, 200, 128, 97, 64, 40, 17, 8)
+    LENGTHS = (1024,) * 8 + (768,) * 4 + (512,) * 3 + (384, 200, 128, 97, 64, 40, 17, 8)
 
     def __init__(self, draw, shared, hot, held):
         self.draw, self.held = draw, held
@@ -125,7 +126,7 @@ class Storm:
 
 def storm_lines(draw, frames, lanes, count):
     """So many lines of these lanes, behind the makes of lane 0."""
-    drawing = Storm(draw, frames * draw.randint(2, 10), draw.choice((2, frames, 2 * frames)), draw.choice((1, 1, 2, 4)))
+    drawing = Storm(draw, frames * draw.randint(6, 12), draw.choice((2, frames, 2 * frames)), draw.choice((1, 1, 2, 4)))
     for _ in range(count):
         drawing.line(draw.randint(1, lanes))
     return drawing
