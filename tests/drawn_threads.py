@@ -1,5 +1,6 @@
-"""Scripts that are drawn for threads (tests/legal.py): small worlds and roomy ones, shared names and own ones, many
-crashes and many worker turns, and no steps, which threads refuse."""
+"""Scripts that are drawn for threads (tests/legal.py), with no steps, which threads refuse. Of the kind `mixed`: small worlds
+and roomy ones, shared names and own ones, many crashes and many worker turns. Of the kind `storm`: 2 to 12 frames for 3 to
+10 lanes, and shared objects in many more spans than that, which the lanes read and pin all the time."""
 import random
 
 WEIGHTS = {"make": 5, "read": 9, "write": 8, "free": 2, "pin": 3, "unpin": 3, "peek": 3, "leave": 1, "filter": 5,
@@ -48,11 +49,10 @@ class Drawing:
         self.lines.append(f"{lane} make {name} {self.draw.randbytes(length).hex()}")
 
 
-def drawn_script(seed):
-    """The script of a seed."""
-    draw = random.Random(seed)
+def mixed(draw, count=None):
+    """Lines of all verbs, in a world of any size."""
     k, r = draw.choice((1, 2, 2, 3, 4, 4, 6)), draw.randint(1, 4)
-    lanes, count = draw.choice((1, 2, 3, 4, 4, 6, 10, 15)), draw.choice((20, 60, 150, 400, 800))
+    lanes, drawn = draw.choice((1, 2, 3, 4, 4, 6, 10, 15)), draw.choice((20, 60, 150, 400, 800))
     roomy, turns = draw.random() < 0.3, draw.choice((0, 0, 3, 40, 200, 1000, 2500))
     if roomy:
         nodes, frames = k + 2 * r + draw.randint(0, 3), 2 * k + 360
@@ -62,10 +62,92 @@ def drawn_script(seed):
     drawing = Drawing(draw, nodes, crashing, lanes, roomy or draw.random() < 0.5)
     for _ in range(draw.choice((0, 3, 10, 40))):
         drawing.line(0)
-    for _ in range(count):
+    for _ in range(count or drawn):
         drawing.line(draw.randint(1, lanes))
     handles = drawing.made + draw.randint(0, 5) if roomy else draw.choice((3, 40, 200, 2000, 2000))
     handles = max(1, handles)
     room = handles + 4 + draw.randint(0, 3) if roomy else draw.choice((2, 3, 5, 10, 60))
     header = f"carbink 1 k={k} r={r} nodes={nodes} frames={frames} room={room} handles={handles} turns={turns}"
     return "\n".join([header] + drawing.lines) + "\n"
+
+
+class Storm:
+    """The lines of a storm, as they come. Half of them read or pin a shared object, some objects more than others. Most objects
+    are large, so that few stand in one span, and a lane holds few pins, since what is pinned can't leave: a storm wants
+    spans that come and go."""
+    WEIGHTS = {"read": 38, "pin": 20, "write": 10, "filter": 8, "evict": 8, "peek": 4, "make": 4, "leave": 2, "compact": 2,
+               "rebuild": 3, "free": 1}
+    LENGTHS = (1024,) * 8 + (768,) * 4 + (512,) * 3 + (384, 200, 128, 97, 64, 40, 17, 8)
+
+    def __init__(self, draw, shared, hot, held):
+        self.draw, self.held = draw, held
+        self.lines, self.lengths, self.pins = [], {}, {}
+        for _ in range(shared):
+            self.make(0, "s")
+        self.shared = list(self.lengths)
+        self.hot = draw.sample(self.shared, min(hot, shared))
+
+    def make(self, lane, front):
+        length = self.draw.choice(self.LENGTHS)
+        name = f"{front}{len(self.lengths)}"
+        self.lengths[name] = length
+        self.lines.append(f"{lane} make {name} {self.draw.randbytes(length).hex()}")
+
+    def line(self, lane):
+        draw, pins = self.draw, self.pins.setdefault(lane, [])
+        if pins and (len(pins) >= self.held or draw.random() < 0.4):
+            self.lines.append(f"{lane} unpin {pins.pop()}")
+            return
+        verb = draw.choices(list(self.WEIGHTS), list(self.WEIGHTS.values()))[0]
+        name = draw.choice(self.hot if draw.random() < 0.6 else self.shared)
+        if verb == "make":
+            self.make(lane, f"n{lane}x")
+        elif verb in ("evict", "compact", "rebuild"):
+            self.lines.append(f"{lane} {verb}")
+        elif verb == "leave":
+            self.lines.append(f"{lane} leave")
+            pins.clear()
+        elif verb == "write":
+            at = draw.randrange(self.lengths[name])
+            count = draw.randint(1, min(8, self.lengths[name] - at))
+            self.lines.append(f"{lane} write {name} {at} {draw.randbytes(count).hex()}")
+        elif verb != "free" or name not in self.hot:
+            self.lines.append(f"{lane} {verb} {name}")
+            if verb == "pin":
+                pins.append(name)
+
+    def crash(self, node, lane, again):
+        """A node crashes somewhere behind the lines of lane 0; it may join again behind that."""
+        at = sorted(self.draw.randint(len(self.shared), len(self.lines)) for _ in range(2))
+        if again:
+            self.lines.insert(at[1], f"{lane} join {node}")
+        self.lines.insert(at[0], f"{lane} crash {node}")
+
+
+def storm_lines(draw, frames, lanes, count):
+    """So many lines of these lanes, behind the makes of lane 0."""
+    drawing = Storm(draw, frames * draw.randint(6, 12), draw.choice((2, frames, 2 * frames)), draw.choice((1, 1, 2, 4)))
+    for _ in range(count):
+        drawing.line(draw.randint(1, lanes))
+    return drawing
+
+
+def storm(draw, count=None):
+    """Lanes that want the same few frames: reads and pins of shared far objects beside evictions, filters and workers."""
+    k, r = draw.choice((1, 2)), draw.randint(1, 3)
+    nodes, frames = k + r + draw.randint(0, 3), draw.randint(2, 12)
+    lanes, turns = draw.randint(3, 10), draw.choice((0, 0, 3, 40, 200, 1000, 2500))
+    drawing = storm_lines(draw, frames, lanes, count or 5000)
+    for node in draw.sample(range(nodes), draw.choice((0, 0, 1, r))):
+        drawing.crash(node, draw.randint(1, lanes), draw.random() < 0.7)
+    handles = max(1, len(drawing.lengths) - draw.choice((0, 0, 0, 5)))
+    header = f"carbink 1 k={k} r={r} nodes={nodes} frames={frames} room=400 handles={handles} turns={turns}"
+    return "\n".join([header] + drawing.lines) + "\n"
+
+
+KINDS = {"mixed": mixed, "storm": storm}
+
+
+def drawn_script(seed, kind="mixed", count=None):
+    """The script of a seed; so many lines of the lanes from 1 on, where that is said."""
+    return KINDS[kind](random.Random(seed), count)

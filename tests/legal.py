@@ -7,20 +7,31 @@ each rule of docs/FORMATS.md and docs/DEFINITIONS.md that holds of every run is 
     legal.py --count N [SEED [WORD [PROGRAM]]]     runs N drawn scripts, from the seed 0, by the word threads, on ./carbink
 
 Each breach is printed with the line of the output and the name of its rule, and the status is 1 then. With the word `seq`
-the answers are put in the order by lane first: one thread is a run that threads may have. It is no part of the gate."""
+the answers are put in the order by lane first: one thread is a run that threads may have. Behind the words of --count may
+stand what else is asked of the runs:
+
+    --kind KIND         the scripts' kind in tests/drawn_threads.py, mixed or storm; mixed
+    --lines N           so many lines of the lanes from 1 on in each script, where it is not as the kind has it
+    --processors N      each run has N processors, and so many runs stand side by side as there are processors for; else
+                        a run has them all
+    --seconds N         a run that takes longer stands still; 120
+
+tests/threads has some runs of storms in the gate."""
+import multiprocessing
 import os
 import subprocess
 import sys
 import tempfile
-from concurrent.futures import ThreadPoolExecutor
+import time
+from concurrent.futures import ProcessPoolExecutor
+from functools import partial
 
 HERE = os.path.dirname(os.path.realpath(__file__))
 sys.path.insert(0, HERE)
 from judge import Script, judge, output_of_lines  # noqa: E402
-from drawn_threads import drawn_script  # noqa: E402
+from drawn_threads import KINDS, drawn_script  # noqa: E402
 from model import run  # noqa: E402
 
-SECONDS = 120
 FOLDER = os.path.join(HERE, "judged")
 
 
@@ -31,20 +42,20 @@ def by_lane(script, text):
     return output_of_lines(told[at] for at in order)
 
 
-def breaches_of(program, word, text):
-    """What is wrong with what the program prints for this script, and what it printed."""
-    script = Script(text)
+def breaches_of(program, word, text, seconds):
+    """What is wrong with what the program prints for this script, what it printed, and how many seconds it ran."""
+    script, started = Script(text), time.monotonic()
     try:
         ran = subprocess.run([program, word], input=text.encode(), stdout=subprocess.PIPE,
-                             stderr=subprocess.PIPE, timeout=SECONDS, check=False)
+                             stderr=subprocess.PIPE, timeout=seconds, check=False)
     except subprocess.TimeoutExpired:
-        return [f"hangs: no end within {SECONDS} seconds"], ""
-    told = ran.stdout.decode(errors="replace")
+        return [f"hangs: no end within {seconds} seconds"], "", seconds
+    took, told = time.monotonic() - started, ran.stdout.decode(errors="replace")
     if ran.returncode != 0:
-        return [f"status: {ran.returncode}"], told
+        return [f"status: {ran.returncode}"], told, took
     if word == "seq":
         told = by_lane(script, told)
-    return judge(script, told), told
+    return judge(script, told), told, took
 
 
 def show(text, told, breaches):
@@ -56,20 +67,43 @@ def show(text, told, breaches):
     print(*breaches, f"the script and the output are in {folder}", sep="\n")
 
 
-def run_drawn(count, seed, word, program):
-    def try_one(number):
-        text = drawn_script(number)
-        return number, text, *reversed(breaches_of(program, word, text))
+def places_of(processors, each):
+    """The processors of each of the runs that stand side by side."""
+    if each > len(processors):
+        raise ValueError(f"there are {len(processors)} processors")
+    if each == 0:
+        # A run has up to twenty threads of its own, so few of them stand side by side.
+        return [processors] * max(1, len(processors) // 2)
+    return [processors[at:at + each] for at in range(0, len(processors) - each + 1, each)]
 
-    # A run has up to twenty threads of its own, so few of them stand side by side.
-    with ThreadPoolExecutor(max(1, os.cpu_count() // 2)) as pool:
-        for number, text, told, breaches in pool.map(try_one, range(seed, seed + count)):
+
+def take_place(places):
+    """This process makes its runs on processors that no other one has; a program that it starts has the same."""
+    os.sched_setaffinity(0, places.get())
+
+
+def try_one(asked, seed):
+    """The breaches of the run of a seed, with its script, what it printed and how long it took."""
+    text = drawn_script(seed, asked["kind"], asked["lines"] or None)
+    return seed, text, *breaches_of(asked["program"], asked["word"], text, asked["seconds"])
+
+
+def run_drawn(count, seed, asked):
+    places = places_of(sorted(os.sched_getaffinity(0)), asked["processors"])
+    free = multiprocessing.SimpleQueue()
+    for place in places:
+        free.put(place)
+    bad, longest = 0, (0, None)
+    with ProcessPoolExecutor(len(places), initializer=take_place, initargs=(free,)) as pool:
+        for number, text, breaches, told, took in pool.map(partial(try_one, asked), range(seed, seed + count)):
+            longest = max(longest, (took, number))
             if breaches:
+                bad += 1
                 print(f"seed {number}")
                 show(text, told, breaches)
-                return 1
-    print(f"{count} runs from the seed {seed} on, each legal")
-    return 0
+    print(f"{count} runs from the seed {seed} on, " + (f"{bad} not legal" if bad else "each legal")
+          + f"; the longest took {longest[0]:.2f} seconds (seed {longest[1]})")
+    return 1 if bad else 0
 
 
 def blocks(text):
@@ -96,7 +130,7 @@ def read(name):
 
 def try_judge():
     """The right outputs of tests/judged break no rule, and each wrong one the rules that are written beside it and no
-    other; what one thread answers is legal for each drawn script."""
+    other; what one thread answers is legal for each drawn script of either kind."""
     tried, failed, seen = 0, 0, set()
 
     def check(name, breaches, wanted):
@@ -115,12 +149,27 @@ def try_judge():
             for at, (rules, edits) in enumerate(blocks(read(base + ".wrong"))):
                 seen |= rules
                 check(f"{base}, wrong output {at + 1}", judge(script, edited(right, edits)), rules)
-    for seed in range(300):
-        text = drawn_script(seed)
-        script = Script(text)
-        check(f"drawn script {seed}", judge(script, by_lane(script, run(text)[0])), set())
+    for kind, seeds, count in (("mixed", 300, None), ("storm", 60, 500)):
+        for seed in range(seeds):
+            text = drawn_script(seed, kind, count)
+            script = Script(text)
+            check(f"drawn script {seed}, {kind}", judge(script, by_lane(script, run(text)[0])), set())
     print(f"{tried} outputs judged, {failed} otherwise than they should; {len(seen)} rules broken")
     return 1 if failed else 0
+
+
+def asked_of(words):
+    """What is asked of drawn runs: how many, from which seed on, and how each is made."""
+    asked = {"kind": "mixed", "lines": 0, "processors": 0, "seconds": 120}
+    while len(words) > 2 and words[-2][:2] == "--" and words[-2][2:] in asked:
+        name, value = words[-2][2:], words[-1]
+        asked[name] = value if name == "kind" else int(value)
+        words = words[:-2]
+    if asked["kind"] not in KINDS or not 1 <= len(words) <= 4:
+        raise ValueError(f"the kinds are {', '.join(KINDS)}")
+    usual = ["1", "0", "threads", os.path.join(HERE, "..", "carbink")]
+    count, seed, asked["word"], asked["program"] = words + usual[len(words):]
+    return int(count), int(seed), asked
 
 
 def main():
@@ -128,9 +177,8 @@ def main():
     try:
         if words == ["--self"]:
             return try_judge()
-        if words and words[0] == "--count" and 2 <= len(words) <= 5:
-            count, seed, word, program = words[1:] + ["0", "threads", os.path.join(HERE, "..", "carbink")][len(words) - 2:]
-            return run_drawn(int(count), int(seed), word, program)
+        if words[:1] == ["--count"]:
+            return run_drawn(*asked_of(words[1:]))
         script, told = (open(name, encoding="utf-8").read() for name in words)
         script = Script(script)
     except ValueError as error:
