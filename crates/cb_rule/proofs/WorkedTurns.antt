@@ -1,10 +1,11 @@
 -- Worked examples of the steps on the far lock and of the one history of turns: what meets each
 -- definition, and what breaks one part alone.
-use Rattle.std.proofs.Common.{◌≡◌, ℕ, zero, suc, ◌+◌, ◌^◌, ◌<◌, ◌≤◌, false, List, [], ◌∷◌, length, Some, None, sym, refl, ap, inl, inr, ⊎_elim, lit<, lit≤, arith, true≢false}
+use Rattle.std.proofs.Common.{◌≡◌, ℕ, zero, suc, ◌+◌, ◌^◌, ◌<◌, ◌≤◌, false, List, [], ◌∷◌, length, Option, Some, None, sym, refl, ap, ◌∙◌, subst, inl, inr, ⊎_elim, lit<, lit≤, arith, true≢false}
 use mathlib.Core.Option.{none}
 use Rattle.atomic_table.specs.Table.{Step, step}
-use Rattle.cb_types.specs.declared.job.Job.TheVariants.{Evict, Read, Free}
-use Rattle.cb_types.specs.declared.reply.Reply.TheVariants.{Bytes, Version}
+use Rattle.cb_types.specs.declared.job.Job.TheVariants.{Evict, Make, Read, Free}
+use Rattle.cb_types.specs.declared.reply.Reply.{Reply}
+use Rattle.cb_types.specs.declared.reply.Reply.TheVariants.{Bytes, Made as MadeOf, Version}
 use Rattle.cb_world.specs.declared.entry.Entry.{Entry}
 use Rattle.cb_world.specs.declared.event.Event.TheVariants.{Looked}
 use Rattle.cb_world.specs.declared.object.Object.TheVariants as is
@@ -19,8 +20,9 @@ use Rattle.cb_rule.specs.declared.view.Seen.{Seen}
 use Rattle.cb_rule.specs.declared.view.View.{View}
 use Rattle.cb_rule.specs.Lists.{total, Each, Has}
 use Rattle.cb_rule.specs.Locking.{Stood, turn_number, turns_on}
-use Rattle.cb_rule.specs.LockSteps.{AddsTurn, HasGiven, HasTaken, IsFoundFreed, MayGive, ReadsTold, gave_lock, took, took_lock}
+use Rattle.cb_rule.specs.LockSteps.{AddsTurn, HasGiven, HasTaken, IsFoundFreed, MayGive, ReadsTold, WritesTold, gave_lock, took, took_lock}
 use Rattle.cb_rule.specs.OneHistory.{HasTurnNumber, IsOneHistory, Made, TurnsStand}
+use Rattle.cb_rule.specs.Seats.{written_on}
 use Rattle.cb_rule.specs.Slot.{LockSlot, Sat}
 use Rattle.cb_rule.specs.Steps.{Knows, freed_seen, version_seen}
 use Rattle.cb_rule.proofs.Members.{each_has}
@@ -237,6 +239,22 @@ told_as_read handle version bytes asked told = (
 told_unread : MayGive quiet pair_of (Read (record { n = 1 })) (Some (Bytes 4 [])) (far 2) [] []
     record at_work { fresh = [] } → ⊥
 told_unread m = (m.reads (record { n = 1 }) 4 [] refl refl).1
+
+-- a make tells the first version, which it wrote
+abbrev version_made : Option Reply → ℕ
+version_made (Some (MadeOf handle version)) = version
+version_made reply = 0
+
+abbrev handle_made : Option Reply → ℕ
+handle_made (Some (MadeOf handle version)) = handle.n
+handle_made reply = 0
+
+told_as_written : WritesTold (Make (9 ∷ [])) (Some (MadeOf (record { n = 1 }) 3)) at_work
+told_as_written h n (inl (bytes, handle, asked, told, is)) =
+    subst (λ (k : ℕ). 0 < written_on k n at_work) (ap handle_made told ∙ is)
+    (subst (λ (m : ℕ). 0 < written_on 1 m at_work) (ap version_made told) (lit< tt))
+told_as_written h n (inr (inl x)) = absurd (let e = x.3 in cc)
+told_as_written h n (inr (inr x)) = absurd (let e = x.1 in cc)
 
 -- a free that tells a version which the record has not as written
 told_unwritten : MayGive quiet pair_of (Free (record { n = 1 })) (Some (Version 5)) (far 2) [] []
