@@ -3,6 +3,9 @@ use Rattle.std.proofs.Common.{◌≡◌, ℕ, ◌+◌, ◌<◌, ◌≤◌, ◌�
 use Rattle.std.specs.List.{AllByRecursion}
 use Rattle.std.proofs.lemmas.List.{append-nil, nil_from_length, length_push, map_push}
 use Rattle.cb_script.specs.Spelling.{lines_of, header_line}
+use Rattle.cb_script.specs.Reading.{HeaderFault}
+use Rattle.cb_script.specs.declared.fault.Reason.{Reason}
+use Rattle.cb_script.proofs.PublicLaws.{header_refused}
 use Rattle.cb_types.specs.Config.{IsAccepted}
 use Rattle.cb_types.specs.declared.config.Config.{Config}
 use Rattle.cb_map_text.specs.declared.command.FarCommand.{FarCommand}
@@ -79,6 +82,9 @@ module _ (bytes header : List ℕ) (others : List (List ℕ)) (short : length by
   header_first none = NoHeader refl short (λ c has.
       let both : header ∷ others ≡ header_line c ∷ has.others = sym cut ∙ has.text in
       let same : header ≡ header_line c = cc in none c (has.accepted, same))
+
+  pub header_refuses : (reason : Reason) → HeaderFault header reason → First bytes 1
+  header_refuses reason fault = header_first (λ c is. header_refused header reason fault c is.0 is.1)
 
   module _ (c : Config) (is : IsAccepted c) (spelled : header ≡ header_line c) where
     lines_are : lines_of bytes ≡ header_line c ∷ others

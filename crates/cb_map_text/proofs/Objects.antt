@@ -1,14 +1,28 @@
--- A command makes one object exactly where it needs one.
-use Rattle.std.proofs.Common.{◌≡◌, ℕ, ◌+◌, ◌-◌, ◌*◌, ◌%◌, ◌<◌, ◌≤◌, max, ◌⊎◌, Bool, true, false, cond, not, ◌&&◌, List, [], ◌∷◌, ◌++◌, length, get_or, take, replicate, eqb, inl, inr, refl, sym, ap, ◌∙◌, arith}
+-- What is told of a key, and that a command makes one object exactly where it needs one.
+use Rattle.std.proofs.Common.{◌≡◌, ℕ, ◌+◌, ◌-◌, ◌*◌, ◌%◌, ◌<◌, ◌≤◌, max, ◌⊎◌, Bool, true, false, cond, not, ◌&&◌, List, [], ◌∷◌, ◌++◌, length, take, Some, inl, inr, refl, sym, ap, ◌∙◌, arith}
 use Rattle.std.specs.Prelude.{slice_index, slice_set, sum_by, if◌then◌else◌, ◌==◌}
 use Rattle.std.specs.FinMap as map
 use Rattle.std.specs.Ordering.{nat_cmp}
 use Rattle.std.proofs.lemmas.Bool.{cases_lt, eq-eqb, ne_eqb}
 use Rattle.std.proofs.lemmas.List.{get_or-replicate, get_or-set_other, get_or-set_same, length-set, length-take, length_push, sum_by-replicate, sum_by-set}
-use Rattle.cb_map_text.specs.Plain.{Plain, bucket_of, count_at, fresh, has_key, most_at, needs_object, objects, objects_for, plain_after, with_list, with_pairs}
+use Rattle.cb_map_text.specs.Plain.{Plain, bucket_of, count_at, found_said, fresh, has_key, most_at, needs_object, objects, objects_for, plain_after, plain_said, with_list, with_pairs}
 use Rattle.cb_map_text.specs.Tallied.{IsTallied}
+use Rattle.cb_map_text.specs.declared.command.FarAnswer.TheVariants.{Number}
 use Rattle.cb_map_text.specs.declared.command.FarCommand.{FarCommand}
 use Rattle.cb_map_text.specs.declared.command.FarCommand.TheVariants.{Push, Set, Get, Pop, Put, Look, Drop}
+
+-- ---- what is told
+
+found_put : (pairs : map.FinMap nat_cmp ℕ) (key x : ℕ) → map.get (map.insert pairs key x) key ≡ Some x
+found_put pairs key x = grind (arith, map.gets)
+
+pub look_tells_the_put : (s : Plain) (key x : ℕ) → plain_said (plain_after s (Put key x)) (Look key) ≡ Number x
+look_tells_the_put s key x = ap found_said (found_put s.pairs key x)
+
+pub put_tells_the_old : (s : Plain) (key x : ℕ) → plain_said s (Put key x) ≡ plain_said s (Look key)
+put_tells_the_old s key x = refl
+
+-- ---- objects
 
 -- 1 where it is so
 abbrev pub one_if : Bool → ℕ

@@ -15,6 +15,8 @@ use Rattle.cb_map_text.specs.First.First.{TooLong, NoHeader, AtLine}
 use Rattle.cb_map_text.specs.Form.{IsInForm, Spells}
 use Rattle.cb_map_text.specs.Spelling.{command_line}
 use Rattle.cb_map_text.specs.Reading.{FaultIs}
+use Rattle.cb_map_text.specs.Texts.{refusal_text}
+use Rattle.cb_map_text.specs.Verdicts.{Accepts, Refuses}
 use Rattle.cb_script.proofs.PublicLaws.{header_unique}
 use Rattle.cb_map_text.proofs.Commands.{command_unique}
 
@@ -70,6 +72,11 @@ spells_no_fault bytes c line commands spells (NoHeader at short none) =
     none c (record { accepted = spells.accepted; others = map command_line commands; text = spells.text })
 spells_no_fault bytes c line commands spells (AtLine short bad) =
     spells_not_bad bytes c line commands spells bad
+
+-- what is accepted is not refused
+pub accepted_not_refused : (bytes text : List ℕ) → Accepts bytes → Refuses bytes text → ⊥
+accepted_not_refused bytes text accepted refused =
+    spells_no_fault bytes accepted.config refused.line accepted.commands accepted.spelled refused.first
 
 -- ---- one fault
 
@@ -131,6 +138,11 @@ text_unique bytes c d commands others a b =
       header_unique c d a.accepted b.accepted (heads_same (header_line c) (header_line d) (map command_line commands) (map command_line others) texts),
       commands_unique commands others a.form b.form (tails_same (header_line c) (header_line d) (map command_line commands) (map command_line others) texts),
     )
+
+-- the same bytes are refused by one text
+pub refusal_unique : (bytes text other : List ℕ) → Refuses bytes text → Refuses bytes other → text ≡ other
+refusal_unique bytes text other a b =
+    a.text_is ∙ ap refusal_text (first_unique bytes a.line b.line a.first b.first) ∙ sym b.text_is
 
 -- ---- what is answered is the only answer
 

@@ -15,11 +15,12 @@ use Rattle.cb_map_text.specs.First.First.{TooLong, NoHeader, AtLine}
 use Rattle.cb_map_text.specs.Form.{IsInForm, Spells}
 use Rattle.cb_map_text.specs.Spelling.{command_line, command_words}
 use Rattle.cb_map_text.specs.Texts.{said_line, said_text, refusal_text}
+use Rattle.cb_map_text.specs.Verdicts.{Accepts, Refuses}
 use Rattle.cb_map_text.specs.declared.command.FarAnswer.TheVariants.{Done, Number, Nothing, Outside, Refused}
 use Rattle.cb_map_text.specs.declared.command.FarCommand.{FarCommand}
 use Rattle.cb_map_text.specs.declared.command.FarCommand.TheVariants.{Push, Set, Get, Pop, Put, Look, Drop}
 use Rattle.cb_map_text.proofs.Commands.{command_splits}
-use Rattle.cb_map_text.proofs.OneReading.{spells_no_fault}
+use Rattle.cb_map_text.proofs.OneReading.{refusal_unique, spells_no_fault}
 
 -- ---- numbers
 
@@ -194,3 +195,24 @@ worn_printed = refl
 refusal_printed : refusal_text 3 ≡ codes "map line 3 refused\n"
 unfolding digits
 refusal_printed = refl
+
+-- ---- taken or refused
+
+is_accepted : Accepts input
+is_accepted = record { config = small; commands = commands; spelled = spelled }
+
+is_not_accepted : Accepts bad_input → ⊥
+is_not_accepted taken = spells_no_fault bad_input taken.config 3 taken.commands taken.spelled at_line_3
+
+is_refused : Refuses bad_input (codes "map line 3 refused\n")
+unfolding digits
+is_refused = record { line = 3; first = at_line_3; text_is = refl }
+
+is_not_refused : (text : List ℕ) → Refuses input text → ⊥
+is_not_refused text refused = spelled_has_no_fault refused.line refused.first
+
+-- another line is not told
+another_line : Refuses bad_input (codes "map line 4 refused\n") → ⊥
+another_line refused =
+    differ (codes "map line 3 refused\n") (codes "map line 4 refused\n")
+    (refusal_unique bad_input (codes "map line 3 refused\n") (codes "map line 4 refused\n") is_refused refused) refl

@@ -6,3 +6,4 @@ pub mod Verbs
 pub mod Reading
 pub mod Plain
 pub mod Tallied
+pub mod Verdicts

@@ -2,7 +2,7 @@ ghost use Rattle.std.specs.Prelude.{◌≡◌, ◌+◌, ℕ, List, if◌then◌e
 ghost use Rattle.cb_types.specs.declared.config.Config.{Config};
 ghost use Rattle.cb_map_text.specs.First.{First};
 ghost use Rattle.cb_map_text.specs.Form.{Spells};
-ghost use Rattle.cb_map_text.specs.Plain.{Plain, fresh, needs_object, objects, plain_after};
+ghost use Rattle.cb_map_text.specs.Plain.{Plain, fresh, needs_object, objects, plain_after, plain_said};
 ghost use Rattle.cb_map_text.specs.Tallied.{IsTallied};
 ghost use Rattle.cb_map_text.specs.declared.command.FarCommand.{FarCommand};
 
@@ -17,9 +17,14 @@ pub fn text_laws()
         → Spells bytes c commands → First bytes line → ⊥ }
 {}
 
-/// The objects of the plain list and map are counted right: each command makes one exactly where it
-/// needs one.
+/// A look tells what was put under its key last, and a put what a look would have told. The objects
+/// are counted right: each command makes one exactly where it needs one.
 pub fn plain_laws()
+    ensures look_tells_the_put { (s : Plain) (key x : ℕ)
+        → plain_said (plain_after s (FarCommand.Put key x)) (FarCommand.Look key)
+        ≡ FarAnswer.Number x }
+    ensures put_tells_the_old { (s : Plain) (key x : ℕ)
+        → plain_said s (FarCommand.Put key x) ≡ plain_said s (FarCommand.Look key) }
     ensures none_made { objects fresh ≡ 0 }
     ensures one_where_needed { (s : Plain) (command : FarCommand) → IsTallied s
         → objects (plain_after s command)

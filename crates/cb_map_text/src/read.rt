@@ -73,11 +73,13 @@ fn text_of(alloc: Global, bytes: &[u8]) -> Result<FarText, TextFault>
         return Err(TextFault::Line { line: 1 });
     }
     let (header, text) = first_line(bytes);
-    let Ok(config) = header_of(header) else {
-        return Err(TextFault::Line { line: 1 });
-    };
-    let commands = commands_of(alloc, text)?;
-    Ok(FarText { config, commands })
+    match header_of(header) {
+        Ok(config) => {
+            let commands = commands_of(alloc, text)?;
+            Ok(FarText { config, commands })
+        }
+        Err(_) => Err(TextFault::Line { line: 1 }),
+    }
 }
 
 /// The commands of a text behind a header, or the first line that is none, or is one too many.

@@ -1,5 +1,11 @@
-use Rattle.cb_map_text.proofs.Objects.{fresh_tallied, none_made, one_where_needed, stays_tallied}
+use Rattle.cb_map_text.proofs.Objects.{fresh_tallied, look_tells_the_put, none_made, one_where_needed, put_tells_the_old, stays_tallied}
 use Rattle.cb_map_text.proofs.laws.plain_laws.Goals as goal
+
+pub returns-clause-look_tells_the_put : goal.returns-clause-look_tells_the_put
+returns-clause-look_tells_the_put c = look_tells_the_put
+
+pub returns-clause-put_tells_the_old : goal.returns-clause-put_tells_the_old
+returns-clause-put_tells_the_old c = put_tells_the_old
 
 pub returns-clause-none_made : goal.returns-clause-none_made
 returns-clause-none_made c = none_made
