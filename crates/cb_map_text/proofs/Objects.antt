@@ -4,7 +4,8 @@ use Rattle.std.specs.Prelude.{slice_index, slice_set, sum_by, if◌then◌else�
 use Rattle.std.specs.FinMap as map
 use Rattle.std.specs.Ordering.{nat_cmp}
 use Rattle.std.proofs.lemmas.Bool.{cases_lt, eq-eqb, ne_eqb}
-use Rattle.std.proofs.lemmas.List.{get_or-replicate, get_or-set_other, get_or-set_same, length-set, length-take, length_push, sum_by-replicate, sum_by-set}
+use Rattle.std.proofs.lemmas.List.{get_or-replicate, get_or-set_other, get_or-set_same, length-set, length-take, length_push}
+use Rattle.std.proofs.lemmas.List.Sums.{sum_by-set}
 use Rattle.cb_map_text.specs.Plain.{Plain, bucket_of, count_at, found_said, fresh, has_key, most_at, needs_object, objects, objects_for, plain_after, plain_said, with_list, with_pairs}
 use Rattle.cb_map_text.specs.Tallied.{IsTallied}
 use Rattle.cb_map_text.specs.declared.command.FarAnswer.TheVariants.{Number}

@@ -1,6 +1,6 @@
 -- Worked examples: what the plain list and the plain map answer, and how many objects they need.
 use Rattle.std.proofs.Common.{◌≡◌, ℕ, zero, suc, ◌+◌, ◌*◌, ◌%◌, ◌<◌, ◌≤◌, max, Bool, true, false, cond, not, ◌&&◌, List, [], ◌∷◌, ◌++◌, length, replicate, Option, Some, None, is_some, refl, sym, ap, ◌∙◌, arith}
-use Rattle.std.specs.Prelude.{slice_index, slice_set, if◌then◌else◌, ◌==◌}
+use Rattle.std.specs.Prelude.{slice_index, slice_set, sum_by, if◌then◌else◌, ◌==◌}
 use Rattle.std.specs.Cmp.{nat_cmp_total}
 use Rattle.std.specs.FinMap as map
 use Rattle.std.specs.Ordering.{nat_cmp, eq_by_cmp, is_eq}
@@ -180,7 +180,7 @@ push_all_is (suc n) =
 objects_pushed : (n : ℕ) → objects (push_all n) ≡ objects_for n 128 + 0
 objects_pushed n =
     let is = push_all_is n in
-    (λ i. objects_for (is.most i) 128 + objects (record fresh { fullest = is.buckets i }))
+    λ i. objects_for (is.most i) 128 + sum_by (λ most. objects_for most 64) (is.buckets i)
 
 of_128_pushes : objects (push_all 128) ≡ 1
 of_128_pushes = objects_pushed 128
@@ -297,16 +297,16 @@ put_again = needs_by map.empty 0 64 1 None (map.get-empty nat_cmp (64 * 1))
 full_again : needs_object (in_first (pairs_of 64) 64 64) (Put (64 * 65) 1) ≡ true
 full_again = needs_by (pairs_of 64) 64 64 65 None (absent 64 65 (omega arith))
 
--- one pair put, dropped and put again
-drop_in : Plain
-drop_in = plain_after (in_first (pairs_of 1) 1 1) (Drop 0)
+-- a pair is dropped, by whether the map had it; the most stays told
+abbrev drop_first : Bool → Plain
+drop_first known = record fresh {
+  pairs = map.remove (pairs_of 1) 0;
+  counts = (if known then 0 else 1) ∷ replicate 63 0;
+  fullest = max 1 (if known then 0 else 1) ∷ replicate 63 0;
+}
 
-dropped : drop_in ≡ in_first (map.remove (pairs_of 1) 0) 0 1
-unfolding drop_in
-dropped = λ i. after (is_some (present 0 i))
-  where
-    after : Bool → Plain
-    after known = in_first (map.remove (pairs_of 1) 0) (if known then 0 else 1) 1
+dropped : plain_after (in_first (pairs_of 1) 1 1) (Drop 0) ≡ in_first (map.remove (pairs_of 1) 0) 0 1
+dropped = λ i. drop_first (is_some (present 0 i))
 
 -- ---- which commands call the runtime
 

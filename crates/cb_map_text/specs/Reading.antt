@@ -9,8 +9,9 @@ use Rattle.cb_map_text.specs.declared.read.TextFault.{TextFault}
 use Rattle.cb_map_text.specs.declared.read.TextFault.TheVariants.{Line, NoMemory}
 
 -- the command has this text
-abbrev pub IsCommandText : List ℕ → FarCommand → Type 0
-IsCommandText text command = IsInForm command × (text ≡ command_line command)
+pub record IsCommandText (text : List ℕ) (command : FarCommand) : Type 0 where
+  pub form : IsInForm command
+  pub spelled : text ≡ command_line command
 
 -- a command of this text is added, or there is none
 abbrev pub IsPushed : List FarCommand → List FarCommand → List ℕ → Bool → Type 0

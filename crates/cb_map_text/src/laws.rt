@@ -4,7 +4,9 @@ ghost use Rattle.cb_map_text.specs.First.{First};
 ghost use Rattle.cb_map_text.specs.Form.{Spells};
 ghost use Rattle.cb_map_text.specs.Plain.{Plain, fresh, needs_object, objects, plain_after, plain_said};
 ghost use Rattle.cb_map_text.specs.Tallied.{IsTallied};
+ghost use Rattle.cb_map_text.specs.declared.command.FarAnswer.TheVariants.{Number};
 ghost use Rattle.cb_map_text.specs.declared.command.FarCommand.{FarCommand};
+ghost use Rattle.cb_map_text.specs.declared.command.FarCommand.TheVariants.{Put, Look};
 
 /// The same bytes spell one list of commands at the most, have one first line outside the form at
 /// the most, and never both.
@@ -21,10 +23,9 @@ pub fn text_laws()
 /// are counted right: each command makes one exactly where it needs one.
 pub fn plain_laws()
     ensures look_tells_the_put { (s : Plain) (key x : ℕ)
-        → plain_said (plain_after s (FarCommand.Put key x)) (FarCommand.Look key)
-        ≡ FarAnswer.Number x }
+        → plain_said (plain_after s (Put key x)) (Look key) ≡ Number x }
     ensures put_tells_the_old { (s : Plain) (key x : ℕ)
-        → plain_said s (FarCommand.Put key x) ≡ plain_said s (FarCommand.Look key) }
+        → plain_said s (Put key x) ≡ plain_said s (Look key) }
     ensures none_made { objects fresh ≡ 0 }
     ensures one_where_needed { (s : Plain) (command : FarCommand) → IsTallied s
         → objects (plain_after s command)
