@@ -1,5 +1,5 @@
 -- What is read of a text so far.
-use Rattle.std.proofs.Common.{◌≡◌, ℕ, ◌+◌, ◌<◌, ◌≤◌, ◌⊎◌, List, [], ◌∷◌, ◌++◌, length, map, append_assoc, inl, inr, refl, sym, ap, ◌∙◌, arith}
+use Rattle.std.proofs.Common.{◌≡◌, ℕ, ◌+◌, ◌<◌, ◌≤◌, ◌⊎◌, List, [], ◌∷◌, ◌++◌, length, map, append_assoc, refl, sym, ap, ◌∙◌, arith}
 use Rattle.std.specs.List.{AllByRecursion}
 use Rattle.std.proofs.lemmas.List.{append-nil, nil_from_length, length_push, map_push}
 use Rattle.cb_script.specs.Spelling.{lines_of, header_line}
@@ -9,7 +9,7 @@ use Rattle.cb_script.proofs.PublicLaws.{header_refused}
 use Rattle.cb_types.specs.Config.{IsAccepted}
 use Rattle.cb_types.specs.declared.config.Config.{Config}
 use Rattle.cb_map_text.specs.declared.command.FarCommand.{FarCommand}
-use Rattle.cb_map_text.specs.First.{First, HasAcceptedHeader, IsBadLine, IsNoCommand}
+use Rattle.cb_map_text.specs.First.{First, IsNoCommand}
 use Rattle.cb_map_text.specs.First.First.{NoHeader, AtLine}
 use Rattle.cb_map_text.specs.Form.{IsInForm, Spells}
 use Rattle.cb_map_text.specs.Reading.{AreTheCommands, FaultIs, HasBadLine, IsCommandText}

@@ -1,10 +1,10 @@
 -- What is told of a key, and that a command makes one object exactly where it needs one.
-use Rattle.std.proofs.Common.{◌≡◌, ℕ, ◌+◌, ◌-◌, ◌*◌, ◌%◌, ◌<◌, ◌≤◌, max, ◌⊎◌, Bool, true, false, cond, not, ◌&&◌, List, [], ◌∷◌, ◌++◌, length, take, Some, inl, inr, refl, sym, ap, ◌∙◌, arith}
+use Rattle.std.proofs.Common.{◌≡◌, ℕ, ◌+◌, ◌-◌, ◌*◌, ◌<◌, ◌≤◌, max, Bool, true, false, not, ◌&&◌, List, [], ◌∷◌, ◌++◌, length, take, Some, inl, inr, refl, sym, ap, ◌∙◌, arith}
 use Rattle.std.specs.Prelude.{slice_index, slice_set, sum_by, if◌then◌else◌, ◌==◌}
 use Rattle.std.specs.FinMap as map
 use Rattle.std.specs.Ordering.{nat_cmp}
 use Rattle.std.proofs.lemmas.Bool.{cases_lt, eq-eqb, ne_eqb}
-use Rattle.std.proofs.lemmas.List.{get_or-replicate, get_or-set_other, get_or-set_same, length-set, length-take, length_push}
+use Rattle.std.proofs.lemmas.List.{get_or-set_other, get_or-set_same, length-set, length-take, length_push}
 use Rattle.std.proofs.lemmas.List.Sums.{sum_by-set}
 use Rattle.cb_map_text.specs.Plain.{Plain, bucket_of, count_at, found_said, fresh, has_key, most_at, needs_object, objects, objects_for, plain_after, plain_said, with_list, with_pairs}
 use Rattle.cb_map_text.specs.Tallied.{IsTallied}
@@ -35,29 +35,29 @@ one_if b = if b then 1 else 0
 list_grows : (len most : ℕ) → len ≤ most
     → objects_for (max most (len + 1)) 128 ≡ objects_for most 128 + one_if (len == 128 * objects_for most 128)
 list_grows len most below = elim (cases_lt len (128 * objects_for most 128)) [
-    | inl less ↦
+  | inl less ↦
       let none : objects_for (max most (len + 1)) 128 ≡ objects_for most 128 + 0 = omega (arith, less, below) in
       none ∙ ap (λ (b : Bool). objects_for most 128 + one_if b)
       (sym (ne_eqb len (128 * objects_for most 128) (λ e. omega (arith, less, e))))
-    | inr more ↦
+  | inr more ↦
       let one : objects_for (max most (len + 1)) 128 ≡ objects_for most 128 + 1 = omega (arith, more, below) in
       one ∙ ap (λ (b : Bool). objects_for most 128 + one_if b)
       (sym (eq-eqb len (128 * objects_for most 128) (omega (arith, more, below))))
-  ]
+]
 
 -- a bucket fills its objects, or there is room for one pair more
 bucket_grows : (count most : ℕ) → count ≤ most
     → objects_for (max most (count + 1)) 64 ≡ objects_for most 64 + one_if (count == 64 * objects_for most 64)
 bucket_grows count most below = elim (cases_lt count (64 * objects_for most 64)) [
-    | inl less ↦
+  | inl less ↦
       let none : objects_for (max most (count + 1)) 64 ≡ objects_for most 64 + 0 = omega (arith, less, below) in
       none ∙ ap (λ (b : Bool). objects_for most 64 + one_if b)
       (sym (ne_eqb count (64 * objects_for most 64) (λ e. omega (arith, less, e))))
-    | inr more ↦
+  | inr more ↦
       let one : objects_for (max most (count + 1)) 64 ≡ objects_for most 64 + 1 = omega (arith, more, below) in
       one ∙ ap (λ (b : Bool). objects_for most 64 + one_if b)
       (sym (eq-eqb count (64 * objects_for most 64) (omega (arith, more, below))))
-  ]
+]
 
 max_is : (most count : ℕ) → count ≤ most → max most count ≡ most
 max_is most count below = omega (arith, below)
@@ -194,12 +194,12 @@ with_pairs_tallied s key count pairs t = record {
         → slice_index (slice_set s.counts (bucket_of key) count) bucket
         ≤ slice_index (slice_set s.fullest (bucket_of key) (max (most_at s key) count)) bucket
     each_bucket bucket = elim (cases_lt bucket (bucket_of key)) [
+      | inl less ↦ other bucket (λ e. omega (arith, less, e))
+      | inr more ↦ elim (cases_lt (bucket_of key) bucket) [
         | inl less ↦ other bucket (λ e. omega (arith, less, e))
-        | inr more ↦ elim (cases_lt (bucket_of key) bucket) [
-          | inl less ↦ other bucket (λ e. omega (arith, less, e))
-          | inr same ↦ here bucket (omega (arith, more, same))
-        ]
+        | inr same ↦ here bucket (omega (arith, more, same))
       ]
+    ]
 
 -- each command leaves the numbers right
 pub stays_tallied : (s : Plain) (command : FarCommand) → IsTallied s → IsTallied (plain_after s command)

@@ -1,4 +1,4 @@
-use Rattle.std.proofs.Common.{◌≡◌, List, ℕ, length, ap, ◌∙◌, arith}
+use Rattle.std.proofs.Common.{◌≡◌, length, ap, ◌∙◌, arith}
 use Rattle.cb_script.specs.Spelling.{words_of}
 use Rattle.cb_map_text.specs.Spelling.{command_words}
 use Rattle.cb_map_text.proofs.Commands.{command_splits, few_words, read_of_words}
