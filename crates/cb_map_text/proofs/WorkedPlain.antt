@@ -8,7 +8,7 @@ use Rattle.std.specs.declared.cmp.Ordering.{Ordering}
 use Rattle.std.specs.declared.cmp.Ordering.TheVariants as order
 use Rattle.std.proofs.lemmas.List.{length_push}
 use Rattle.cb_types.specs.declared.reply.Reply.TheVariants.{Full}
-use Rattle.cb_map_text.specs.Plain.{Plain, after_all, after_said, calls_something, found_said, fresh, needs_object, objects, objects_for, plain_after, plain_said}
+use Rattle.cb_map_text.specs.Plain.{Plain, after_all, after_said, calls_something, found_said, fresh, needs_object, objects, objects_for, plain_after, plain_said, bucket_of}
 use Rattle.cb_map_text.specs.Tallied.{IsTallied}
 use Rattle.cb_map_text.specs.declared.command.FarAnswer.{FarAnswer}
 use Rattle.cb_map_text.specs.declared.command.FarAnswer.TheVariants.{Done, Number, Nothing, Outside, Refused}
@@ -149,6 +149,18 @@ gone_on : after_all (listed (7 ∷ [])) (Push 8 ∷ Push 9 ∷ Pop ∷ []) (Refu
 gone_on = refl
 
 -- ---- the objects of the list
+
+objects_for_none : objects_for 0 128 ≡ 0
+objects_for_none = refl
+
+objects_for_one : objects_for 1 128 ≡ 1
+objects_for_one = refl
+
+objects_for_128 : objects_for 128 128 ≡ 1
+objects_for_128 = refl
+
+objects_for_129 : objects_for 129 128 ≡ 2
+objects_for_129 = refl
 
 first_push_needs_one : needs_object fresh (Push 7) ≡ true
 first_push_needs_one = refl
@@ -296,6 +308,34 @@ put_again = needs_by map.empty 0 64 1 None (map.get-empty nat_cmp (64 * 1))
 
 full_again : needs_object (in_first (pairs_of 64) 64 64) (Put (64 * 65) 1) ≡ true
 full_again = needs_by (pairs_of 64) 64 64 65 None (absent 64 65 (omega arith))
+
+-- keys of one bucket and of others
+same_bucket : bucket_of 64 ≡ bucket_of 0
+same_bucket = refl
+
+last_bucket : bucket_of 63 ≡ 63
+last_bucket = refl
+
+-- a key that is known is not counted again, and one that is not there is not counted off
+abbrev put_first : Bool → Plain
+put_first known = record fresh {
+  pairs = map.insert (pairs_of 1) 0 9;
+  counts = (if known then 1 else 2) ∷ replicate 63 0;
+  fullest = max 1 (if known then 1 else 2) ∷ replicate 63 0;
+}
+
+put_known : plain_after (in_first (pairs_of 1) 1 1) (Put 0 9) ≡ in_first (map.insert (pairs_of 1) 0 9) 1 1
+put_known = λ i. put_first (is_some (present 0 i))
+
+abbrev drop_other : Bool → Plain
+drop_other known = record fresh {
+  pairs = map.remove (pairs_of 1) 64;
+  counts = (if known then 0 else 1) ∷ replicate 63 0;
+  fullest = max 1 (if known then 0 else 1) ∷ replicate 63 0;
+}
+
+dropped_unknown : plain_after (in_first (pairs_of 1) 1 1) (Drop 64) ≡ in_first (map.remove (pairs_of 1) 64) 1 1
+dropped_unknown = λ i. drop_other (is_some (absent 1 1 (omega arith) i))
 
 -- a pair is dropped, by whether the map had it; the most stays told
 abbrev drop_first : Bool → Plain

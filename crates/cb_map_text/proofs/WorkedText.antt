@@ -8,9 +8,11 @@ use Rattle.cb_types.specs.Config.{IsAccepted}
 use Rattle.cb_types.specs.declared.config.Config.{Config}
 use Rattle.cb_types.specs.declared.config.Field.TheVariants as field
 use Rattle.cb_types.specs.declared.reply.Reply.TheVariants.{Full, NoRoom, Worn}
+use Rattle.cb_script.specs.Numbers.{AreNumbers}
+use Rattle.cb_script.specs.declared.fault.Reason.TheVariants as reason
 use Rattle.cb_script.specs.Spelling.{header_line, lines_of, words_of}
-use Rattle.cb_script.proofs.PublicLaws.{differ}
-use Rattle.cb_map_text.specs.First.{First, IsBadLine, IsNoCommand}
+use Rattle.cb_script.proofs.PublicLaws.{differ, header_refused}
+use Rattle.cb_map_text.specs.First.{First, HasAcceptedHeader, IsBadLine, IsNoCommand}
 use Rattle.cb_map_text.specs.First.First.{TooLong, NoHeader, AtLine}
 use Rattle.cb_map_text.specs.Form.{IsInForm, Spells}
 use Rattle.cb_map_text.specs.Spelling.{command_line, command_words}
@@ -20,7 +22,7 @@ use Rattle.cb_map_text.specs.declared.command.FarAnswer.TheVariants.{Done, Numbe
 use Rattle.cb_map_text.specs.declared.command.FarCommand.{FarCommand}
 use Rattle.cb_map_text.specs.declared.command.FarCommand.TheVariants.{Push, Set, Get, Pop, Put, Look, Drop}
 use Rattle.cb_map_text.proofs.Commands.{command_splits}
-use Rattle.cb_map_text.proofs.OneReading.{refusal_unique, spells_no_fault}
+use Rattle.cb_map_text.proofs.OneReading.{first_unique, refusal_unique, spells_no_fault}
 
 -- ---- numbers
 
@@ -120,6 +122,33 @@ longest bytes long over = omega (arith, long, over)
 no_bytes : First [] 1
 no_bytes = NoHeader refl (omega arith) (λ c has. cc (has.text))
 
+-- a header with no frame is none, though it is spelled as one
+no_frame : List ℕ
+no_frame = codes "carbink 1 k=2 r=2 nodes=6 frames=0 room=64 handles=16 turns=0\npop\n"
+
+numbers : AreNumbers (framed 0)
+numbers = record { k = omega arith; r = omega arith; nodes = omega arith; frames = omega arith; room = omega arith; handles = omega arith; turns = omega arith }
+
+not_accepted : IsAccepted (framed 0) → ⊥
+not_accepted accepted = let frames = accepted field.Frames in omega (arith, frames.0)
+
+header_not_accepted : First no_frame 1
+unfolding no_frame header_line digits
+header_not_accepted = NoHeader refl (lit≤ tt) (λ c has.
+    header_refused (header_line (framed 0)) reason.Config (framed 0, numbers, refl, not_accepted) c has.accepted
+    (ap (λ (lines : List (List ℕ)). get_or lines 0 []) has.text))
+
+has_header : HasAcceptedHeader input small
+unfolding header_line digits
+has_header = record { accepted = accepted; others = map command_line commands; text = spelled.text }
+
+has_no_other_header : HasAcceptedHeader input (framed 9) → ⊥
+unfolding header_line digits
+has_no_other_header has =
+    differ (codes "carbink 1 k=2 r=2 nodes=6 frames=8 room=64 handles=16 turns=0")
+    (codes "carbink 1 k=2 r=2 nodes=6 frames=9 room=64 handles=16 turns=0")
+    (ap (λ (lines : List (List ℕ)). get_or lines 0 []) has.text) refl
+
 -- `look` of no key is no command's line
 one_word : (command : FarCommand) → codes "look" ∷ [] ≡ command_words command → ⊥
 one_word (Push x) is = omega (arith, ap length is)
@@ -175,6 +204,10 @@ one_too_many bytes before after many form lines = record {
   number = omega (arith, many);
   bad = inl many;
 }
+
+-- no other line is the first one
+not_at_line_2 : First bad_input 2 → ⊥
+not_at_line_2 first = let same = first_unique bad_input 2 3 first at_line_3 in omega (arith, same)
 
 spelled_has_no_fault : (line : ℕ) → First input line → ⊥
 spelled_has_no_fault line first = spells_no_fault input small line commands spelled first
