@@ -1,5 +1,5 @@
 -- What is read of a text so far.
-use Rattle.std.proofs.Common.{◌≡◌, ℕ, ◌+◌, ◌<◌, ◌≤◌, ◌⊎◌, List, [], ◌∷◌, ◌++◌, length, map, append_assoc, refl, sym, ap, ◌∙◌, arith}
+use Rattle.std.proofs.Common.{◌≡◌, ℕ, ◌+◌, ◌<◌, ◌≤◌, ◌⊎◌, List, [], ◌∷◌, ◌++◌, length, map, append_assoc, refl, sym, ap, ◌∙◌, subst, true, arith}
 use Rattle.std.specs.List.{AllByRecursion}
 use Rattle.std.proofs.lemmas.List.{append-nil, nil_from_length, length_push, map_push}
 use Rattle.cb_script.specs.Spelling.{lines_of, header_line}
@@ -12,7 +12,7 @@ use Rattle.cb_map_text.specs.declared.command.FarCommand.{FarCommand}
 use Rattle.cb_map_text.specs.First.{First, IsNoCommand}
 use Rattle.cb_map_text.specs.First.First.{NoHeader, AtLine}
 use Rattle.cb_map_text.specs.Form.{IsInForm, Spells}
-use Rattle.cb_map_text.specs.Reading.{AreTheCommands, FaultIs, HasBadLine, IsCommandText}
+use Rattle.cb_map_text.specs.Reading.{AreTheCommands, FaultIs, HasBadLine, IsCommandText, IsPushed}
 use Rattle.cb_map_text.specs.Spelling.{command_line}
 use Rattle.cb_map_text.specs.declared.read.TextFault.{TextFault}
 use Rattle.cb_map_text.specs.declared.read.TextFault.TheVariants.{Line, NoMemory}
@@ -46,6 +46,13 @@ module _ (text : List ℕ) (commands : List FarCommand) (rest : List ℕ) (front
         ∙ sym (append_assoc (map command_line commands) (command_line command ∷ []) (lines_of behind))
         ∙ ap (λ (ts : List (List ℕ)). ts ++ lines_of behind) (sym (map_push command_line commands command));
   }
+
+  -- the line's command is added
+  pub front_pushed : (line behind : List ℕ) (new : List FarCommand) → lines_of rest ≡ line ∷ lines_of behind
+      → length commands < 20000 → IsPushed commands new line true → FrontIsRead text new behind
+  front_pushed line behind new cut few pushed =
+      subst (λ (cs : List FarCommand). FrontIsRead text cs behind) (sym pushed.2)
+      (front_more line behind pushed.0 cut few pushed.1)
 
   pub bad_line : (line behind : List ℕ) → lines_of rest ≡ line ∷ lines_of behind
       → (length commands ≡ 20000) ⊎ IsNoCommand line → HasBadLine (lines_of text) (length commands + 2)
