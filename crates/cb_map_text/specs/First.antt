@@ -31,8 +31,8 @@ pub record IsBadLine (bytes : List ℕ) (line : ℕ) : Type 0 where
   pub number : line ≡ length before + 2
   pub bad : (length before ≡ 20000) ⊎ IsNoCommand text
 
--- The first line outside the form: 0 where there are too many bytes, then 1 where it is no header of
--- an accepted configuration, and then the first line behind it that is one too many or no command's.
+-- The first line outside the form: 0 where there are too many bytes, then 1 where it is no header
+-- of an accepted configuration, and then the first one that is one too many or no command's.
 pub data First (bytes : List ℕ) (line : ℕ) : Type 0 where
   TooLong : line ≡ 0 → 1048576 < length bytes → First bytes line
   NoHeader : line ≡ 1 → length bytes ≤ 1048576 → ((c : Config) → HasAcceptedHeader bytes c → ⊥)

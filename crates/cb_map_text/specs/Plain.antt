@@ -8,7 +8,7 @@ use Rattle.cb_map_text.specs.declared.command.FarCommand.{FarCommand}
 use Rattle.cb_map_text.specs.declared.command.FarCommand.TheVariants.{Push, Set, Get, Pop, Put, Look, Drop}
 
 -- A list and a map, and for each of 64 buckets how many pairs of the map have a key that belongs
--- there; beside them the greatest length that the list had so far, and the greatest of these counts.
+-- there; beside them the greatest length of the list so far, and the greatest count of each bucket.
 pub record Plain : Type 0 where
   pub list : List ℕ
   pub pairs : map.FinMap nat_cmp ℕ
@@ -108,8 +108,8 @@ after_all s commands saids = s
 abbrev pub objects_for : ℕ → ℕ → ℕ
 objects_for n room = (n + room - 1) / room
 
--- How many objects were made: of 128 numbers each for the longest list so far, and for each bucket of
--- 64 pairs each for the most that it had.
+-- How many objects were made: of 128 numbers each for the longest list so far, and for each
+-- bucket of 64 pairs each for the most that it had.
 abbrev pub objects : Plain → ℕ
 objects s = objects_for s.longest 128 + sum_by (λ most. objects_for most 64) s.fullest
 
