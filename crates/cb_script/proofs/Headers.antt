@@ -1,5 +1,5 @@
 -- The header: its text has one reading, and which configurations are accepted.
-use Rattle.std.proofs.Common.{◌≡◌, ◌==◌, ℕ, ◌^◌, ◌<◌, List, [], ◌∷◌, get_or, sym, ap, ◌∙◌, arith}
+use Rattle.std.proofs.Common.{◌≡◌, ◌==◌, ℕ, ◌^◌, ◌<◌, List, [], ◌∷◌, get_or, sym, ap, ◌∙◌, subst, arith}
 use Rattle.std.specs.Prelude.{codes}
 use Rattle.std.specs.Fmt.{decimal}
 use Rattle.std.specs.List.{join_with_byte, slice_split}
@@ -9,8 +9,11 @@ use Rattle.std.proofs.lemmas.List.Splits.{join_with_byte-slice_split}
 use Rattle.cb_types.specs.Config.{IsAccepted}
 use Rattle.cb_types.specs.declared.config.Config.{Config}
 use Rattle.cb_types.specs.declared.config.Field.TheVariants.{K, R, Nodes, Frames, Room, Handles, Turns}
+use Rattle.cb_script.specs.declared.fault.Reason.{Reason}
+use Rattle.cb_script.specs.declared.fault.Reason.TheVariants as reasons
 use Rattle.cb_script.specs.Spelling.{header_line, setting, header_words}
 use Rattle.cb_script.specs.Numbers.{AreNumbers}
+use Rattle.cb_script.specs.Reading.{HeaderFault}
 use Rattle.cb_script.proofs.Words.{LacksByte, header_is_words, words_split, lacks_feed}
 
 pub header_splits : (c : Config) → AreNumbers c → slice_split (λ b. b == 32) (header_line c) ≡ header_words c
@@ -71,3 +74,11 @@ config_of_line c d nc nd e =
 -- two accepted configurations with one text are one configuration
 pub header_unique : (c d : Config) → IsAccepted c → IsAccepted d → header_line c ≡ header_line d → c ≡ d
 header_unique c d hc hd e = config_of_line c d (AreNumbers-from_accepted c hc) (AreNumbers-from_accepted d hd) e
+
+-- where a header is refused, its text is that of no accepted configuration
+pub header_refused : (text : List ℕ) (reason : Reason) → HeaderFault text reason → (c : Config) → IsAccepted c → text ≡ header_line c → ⊥
+header_refused text reasons.Header fault c accepted is = fault c (AreNumbers-from_accepted c accepted) is
+header_refused text reasons.Config fault c accepted is =
+    let same : fault.0 ≡ c = config_of_line fault.0 c fault.1 (AreNumbers-from_accepted c accepted) (sym fault.2 ∙ is) in
+    fault.3 (subst IsAccepted (sym same) accepted)
+header_refused text _ fault c accepted is = absurd fault

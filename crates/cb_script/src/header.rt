@@ -15,7 +15,7 @@ use cb_types::Config;
 const HEADER_WORDS: usize = 9;
 
 /// The configuration that a header of this text sets, where it is accepted.
-pub(crate) fn header_of(text: &[u8]) -> Result<Config, Reason>
+pub fn header_of(text: &[u8]) -> Result<Config, Reason>
     ensures { MatchResult result
         (λ c. IsAccepted c × (text.now ≡ header_line c))
         (HeaderFault text.now) }

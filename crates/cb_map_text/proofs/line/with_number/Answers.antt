@@ -1,0 +1,8 @@
+use Rattle.cb_map_text.proofs.Commands.{of_two_words}
+use Rattle.cb_map_text.proofs.line.with_number.Goals as goal
+
+pub returns-in_err-verb : goal.returns-in_err-verb
+returns-in_err-verb c =
+    rw c.from_residual.ensures (λ command is.
+    let words = of_two_words c.args.verb.now c.args.number.now command is in
+    (rw c.in_err-verb.was at c.verb_of.ensures) words.0 words.2)

@@ -1,0 +1,10 @@
+use Rattle.std.proofs.Common.{◌∙◌, ap, rules}
+use Rattle.std.proofs.lemmas.List.{take_all}
+use Rattle.cb_map_text.specs.Texts.{said_text}
+use Rattle.cb_map_text.proofs.said.saids_text.Goals as goal
+
+pub returns : goal.returns
+returns c = record {
+  text = c.from.ensures ∙ c.loop-said.invariant
+      ∙ ap said_text (take_all c.loop-said.said-index c.args.saids.now (search rules));
+}
