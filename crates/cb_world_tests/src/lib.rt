@@ -16,6 +16,8 @@ mod closed;
 #[cfg(test)]
 mod crew;
 #[cfg(test)]
+mod far_core;
+#[cfg(test)]
 mod joins;
 #[cfg(test)]
 mod making;

@@ -3,6 +3,7 @@ ghost use Rattle.cb_core.specs.Jobs.{IsJob};
 ghost use Rattle.cb_world.specs.World.{IsSoundWorld};
 ghost use Rattle.cb_world_tests.specs.Worlds.{IsSmallWorld};
 
+use crate::far_core::is_read;
 use crate::objects::{second_of_length_is_at, words_are_of_nine_bytes};
 use crate::turns::replies_in_order;
 use crate::writes::{rows_are_answered, run_is_answered};
@@ -57,6 +58,8 @@ pub(crate) enum Look {
     Writes,
     /// The replies of a run of these.
     WritesInARun,
+    /// An object that is read behind a crash.
+    Crash,
 }
 
 fn is_seen(alloc: Global, world: &mut World, look: Look) -> Result<bool, Fail>
@@ -68,6 +71,7 @@ fn is_seen(alloc: Global, world: &mut World, look: Look) -> Result<bool, Fail>
         Look::Run => replies_in_order(alloc, world),
         Look::Writes => rows_are_answered(alloc, world),
         Look::WritesInARun => run_is_answered(alloc, world),
+        Look::Crash => is_read(alloc, world),
     }
 }
 
