@@ -1,16 +1,16 @@
 -- Rows one after another in a block, and the rows cut out of it.
-use Rattle.std.proofs.Common.{◌≡◌, ℕ, Bool, true, false, zero, suc, ◌+◌, ◌-◌, ◌*◌, ◌<◌, ◌≤◌, List, [], ◌∷◌, ◌++◌, length, take, drop, replicate, set, refl, sym, ap, ap₂, ◌∙◌, subst, arith}
+use Rattle.std.proofs.Common.{◌≡◌, ℕ, Bool, true, false, zero, suc, ◌+◌, ◌-◌, ◌*◌, ◌^◌, ◌<◌, ◌≤◌, List, [], ◌∷◌, ◌++◌, length, take, drop, get_or, replicate, set, All, refl, sym, ap, ap₂, ◌∙◌, subst, arith}
 use Rattle.std.specs.List.{concat}
-use Rattle.std.proofs.Math.Nat.{suc-mul, zero-mul, add_comm, mul-le-mul_right}
-use Rattle.std.proofs.lemmas.List.{length-take-le, length-drop, drop-drop, take_at, drop_at, append-nil, length-set, length-replicate, take_all, take_more, take_more_set}
+use Rattle.std.proofs.Math.Nat.{add-mul, suc-mul, zero-add, zero-mul, add_comm, mul-le-mul_right}
+use Rattle.std.proofs.lemmas.List.{length-take-le, length-drop, drop-drop, drop-take, get_or_default, take-take, take_at, drop_at, append-nil, length-set, length-replicate, take_all, take_more, take_more_set}
 use Rattle.std.proofs.lemmas.List.Folds.{concat-append}
-use Rattle.std.proofs.lemmas.List.Elements.{All-replicate, All-set}
+use Rattle.std.proofs.lemmas.List.Elements.{All-cons, All-drop, All-replicate, All-set, All-take}
 use Rattle.std.proofs.lemmas.Slice.{take-put_mid}
 use Rattle.std.proofs.lemmas.Slice.Eq.{bytes_eq-Decides}
 use Rattle.std.proofs.Math.Bool.{not}
 use Rattle.std.specs.Str.{bytes_eq}
 use borrow.Rule.Slice.PartMut.{put_mid}
-use Rattle.cb_gf256.specs.Rows.{row_at, HaveLength}
+use Rattle.cb_gf256.specs.Rows.{row_at, HaveLength, HoldBytes}
 use Rattle.cb_gf256.specs.Block.{cut_rows, with_row}
 use Rattle.cb_gf256.proofs.PublicLaws.{written_row}
 
@@ -27,6 +27,38 @@ cut_row (suc n) len block (suc i) h =
     cut_row n len (drop len block) i (omega arith)
     ∙ ap (take len) (drop-drop (i * len) len block ∙ ap (λ k. drop k block) (add_comm len (i * len) ∙ sym (suc-mul i len)))
 
+-- the rows of a block are those of its front and those behind them
+pub cut_split : (k r len : ℕ) (block : List ℕ) → cut_rows (k + r) len block ≡ cut_rows k len (take (k * len) block) ++ cut_rows r len (drop (k * len) block)
+cut_split zero r len block =
+    ap (λ n. cut_rows n len block) (zero-add r) ∙ ap (λ n. cut_rows r len (drop n block)) (sym (zero-mul len))
+cut_split (suc k) r len block =
+    let more : suc k + r ≡ suc (k + r) = omega arith in
+    let width : suc k * len ≡ len + k * len = suc-mul k len ∙ add_comm (k * len) len in
+    let short : len ≤ suc k * len = omega (arith, width) in
+    ap (λ n. cut_rows n len block) more
+    ∙ ap (λ xs. take len block ∷ xs) (cut_split k r len (drop len block))
+    ∙ ap₂ (λ x xs. x ∷ (cut_rows k len xs ++ cut_rows r len (drop (k * len) (drop len block))))
+    (sym (take-take len (suc k * len) block short))
+    (sym (ap (λ n. drop len (take n block)) width ∙ drop-take len (k * len) block))
+    ∙ ap (λ xs. cut_rows (suc k) len (take (suc k * len) block) ++ cut_rows r len xs) (drop-drop (k * len) len block ∙ ap (λ n. drop n block) (sym width))
+
+pub cut_bytes : (n len : ℕ) (block : List ℕ) → All (λ x. x < 2 ^ 8) block → HoldBytes (cut_rows n len block)
+cut_bytes zero len block bytes = λ k d h. absurd (omega (arith, h))
+cut_bytes (suc n) len block bytes =
+    All-cons (All (λ x. x < 2 ^ 8)) (take len block) (cut_rows n len (drop len block)) (All-take (λ x. x < 2 ^ 8) len block bytes)
+    (cut_bytes n len (drop len block) (All-drop (λ x. x < 2 ^ 8) len block bytes))
+
+-- a buffer of k + r rows has k rows in front and r behind them
+pub front_sized : (k r len : ℕ) (block : List ℕ) → length block ≡ (k + r) * len → length (take (k * len) block) ≡ k * len
+front_sized k r len block sized = length-take-le (k * len) block (omega (arith, sized, add-mul k r len))
+
+pub behind_sized : (k r len : ℕ) (block : List ℕ) → length block ≡ (k + r) * len → length (drop (k * len) block) ≡ r * len
+behind_sized k r len block sized = length-drop (k * len) block ∙ omega (arith, sized, add-mul k r len)
+
+-- what a slice of bytes is known to hold
+pub are_bytes : (block : List ℕ) → ((i : ℕ) → get_or block i 0 < 2 ^ 8) → All (λ x. x < 2 ^ 8) block
+are_bytes block bytes i d h = subst (λ x. x < 2 ^ 8) (get_or_default block i 0 d h) (bytes i)
+
 -- row i ends within the block
 pub row_inside : (n len i : ℕ) → i < n → i * len + len ≤ n * len
 row_inside n len i h = omega (arith, suc-mul i len, mul-le-mul_right len h)
@@ -35,6 +67,11 @@ row_inside n len i h = omega (arith, suc-mul i len, mul-le-mul_right len h)
 pub cut_long : (n len : ℕ) (block : List ℕ) (i : ℕ) → i < n → length block ≡ n * len → length (row_at (cut_rows n len block) i) ≡ len
 cut_long n len block i h sized =
     ap length (cut_row n len block i h) ∙ length-take-le len (drop (i * len) block) (omega (arith, length-drop (i * len) block, row_inside n len i h, sized))
+
+pub cut_lengths : (n len : ℕ) (block : List ℕ) → length block ≡ n * len → HaveLength len (cut_rows n len block)
+cut_lengths n len block sized k d h =
+    let within : k < n = omega (arith, h, cut_count n len block) in
+    ap length (get_or_default (cut_rows n len block) k d [] h) ∙ cut_long n len block k within sized
 
 pub cut_joined : (len : ℕ) (rows : List (List ℕ)) → HaveLength len rows → cut_rows (length rows) len (concat rows) ≡ rows
 cut_joined len [] h = refl

@@ -1,7 +1,7 @@
 //! Rows in a buffer of the caller, one after another.
 ghost use Rattle.std.specs.Prelude.{◌≡◌, ◌*◌, ◌↔◌, length, IfOk, IsTrue};
 ghost use Rattle.cb_gf256.specs.Block.{cut_rows};
-ghost use Rattle.cb_gf256.specs.Rows.{HaveLength};
+ghost use Rattle.cb_gf256.specs.Rows.{HaveLength, HoldBytes};
 
 use cb_gf256::{NoMemory, Rows};
 use std::alloc::Global;
@@ -21,7 +21,8 @@ pub(crate) fn rows_of(
     buffer: &[u8],
 ) -> Result<Rows, NoMemory>
     requires { length buffer.now ≡ count * len }
-    ensures { IfOk result (λ rows. rows ≡ cut_rows count len buffer.now) }
+    ensures value { IfOk result (λ rows. rows ≡ cut_rows count len buffer.now) }
+    ensures bytes { IfOk result HoldBytes }
 {
     let mut rows = Rows::new(alloc, count, len)?;
     let len = len as usize;
