@@ -1,4 +1,5 @@
-ghost use Rattle.std.specs.Prelude.{◌≡◌, ◌+◌, ◌*◌, ◌<◌, ◌≤◌, ◌↔◌, length, OnOk, OnErr, IsTrue};
+ghost use Rattle.std.specs.Prelude.{◌≡◌, ◌+◌, ◌*◌, ◌<◌, ◌≤◌, ◌↔◌, length, All, OnOk, OnErr, IsTrue};
+ghost use Rattle.std.specs.List.Sorted.{IsStrictlyIncreasing};
 ghost use Rattle.cb_gf256.specs.Block.{cut_rows};
 ghost use Rattle.cb_gf256.specs.InRange.{IsInRange};
 ghost use Rattle.cb_gf256.specs.Positions.{ArePositions};
@@ -65,15 +66,29 @@ fn solved(
 fn are_positions(n: u32, k: u32, positions: &[u8]) -> bool
     ensures { IsTrue result ↔ ArePositions n k positions.now }
 {
-    if positions.len() != k as usize {
-        return false;
-    }
-    let mut least = 0;
-    for position in positions {
-        if u32::from(*position) < least || u32::from(*position) >= n {
+    positions.len() == k as usize && ascend(positions) && are_below(n, positions)
+}
+
+/// Whether each number is below the next.
+fn ascend(numbers: &[u8]) -> bool
+    ensures { IsTrue result ↔ IsStrictlyIncreasing numbers.now }
+{
+    for i in 1..numbers.len() {
+        if numbers[i - 1] >= numbers[i] {
             return false;
         }
-        least = u32::from(*position) + 1;
+    }
+    true
+}
+
+/// Whether all numbers are below `n`.
+fn are_below(n: u32, numbers: &[u8]) -> bool
+    ensures { IsTrue result ↔ All (λ x. x < n) numbers.now }
+{
+    for number in numbers {
+        if u32::from(*number) >= n {
+            return false;
+        }
     }
     true
 }
