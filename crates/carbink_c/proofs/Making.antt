@@ -77,8 +77,7 @@ word_told k r len rows table given made behind same done word only is bytes told
     let parities = made_parities k r len (take (k * len) rows) table given made done word only in
     let cut : cut_rows (k + r) len rows ≡ given ++ cut_rows (length made) len behind =
     cut_split k r len rows ∙ ap₂ (λ xs ys. xs ++ ys) (sym done.are) (ap (cut_rows r len) (sym is) ∙ ap (λ n. cut_rows n len behind) (sym count)) in
-    let held : HoldBytes (cut_rows (length made) len behind) = cut_bytes (length made) len behind (subst (All (λ x. x < 2 ^ 8)) (sym is) (All-drop (λ x. x < 2 ^ 8) (k * len) rows bytes)) in
-    (
+    let held : HoldBytes (cut_rows (length made) len behind) = cut_bytes (length made) len behind (subst (All (λ x. x < 2 ^ 8)) (sym is) (All-drop (λ x. x < 2 ^ 8) (k * len) rows bytes)) in (
       λ yes_same. subst (IsCodeWord k r) (sym (cut ∙ ap (λ xs. given ++ xs) (told.0 yes_same))) parities.word,
       λ whole. told.1 (parities.only (cut_rows (length made) len behind) held (subst (IsCodeWord k r) cut whole)),
     )

@@ -14,12 +14,7 @@ pub(crate) fn size_of_rows(count: u32, len: u32) -> usize
 }
 
 /// A copy of the rows of a buffer. The only error is want of memory.
-pub(crate) fn rows_of(
-    alloc: Global,
-    count: u32,
-    len: u32,
-    buffer: &[u8],
-) -> Result<Rows, NoMemory>
+pub(crate) fn rows_of(alloc: Global, count: u32, len: u32, buffer: &[u8]) -> Result<Rows, NoMemory>
     requires { length buffer.now ≡ count * len }
     ensures value { IfOk result (λ rows. rows ≡ cut_rows count len buffer.now) }
     ensures bytes { IfOk result HoldBytes }
@@ -39,8 +34,9 @@ pub(crate) fn put_rows(rows: &Rows, len: u32, buffer: &mut [u8])
     requires size { length buffer.old ≡ length rows.now * len }
     ensures { cut_rows (length rows.now) len buffer.new ≡ rows.now }
 {
+    let written = rows.count();
     let len = len as usize;
-    for i in 0..rows.count() {
+    for i in 0..written {
         let start = i as usize * len;
         buffer[start..start + len].copy_from_slice(rows.row(i));
     }
@@ -52,8 +48,9 @@ pub(crate) fn same_rows(rows: &Rows, len: u32, buffer: &[u8]) -> bool
     requires size { length buffer.now ≡ length rows.now * len }
     ensures { IsTrue result ↔ cut_rows (length rows.now) len buffer.now ≡ rows.now }
 {
+    let height = rows.count();
     let len = len as usize;
-    for i in 0..rows.count() {
+    for i in 0..height {
         let start = i as usize * len;
         if rows.row(i) != &buffer[start..start + len] {
             return false;

@@ -30,14 +30,7 @@ pub extern "C" fn carbink_encode(
     encoded(alloc, k, r, len, given, parities).number()
 }
 
-fn encoded(
-    alloc: Global,
-    k: u32,
-    r: u32,
-    len: u32,
-    given: &[u8],
-    parities: &mut [u8],
-) -> Status
+fn encoded(alloc: Global, k: u32, r: u32, len: u32, given: &[u8], parities: &mut [u8]) -> Status
     ensures { Ends k r len
         ((length given.now ≡ k * len) × (length parities.old ≡ r * len)) Unit
         (parities.new ≡ parities.old)

@@ -34,14 +34,7 @@ pub extern "C" fn carbink_solve(
     solved(alloc, k, r, len, rows, present).number()
 }
 
-fn solved(
-    alloc: Global,
-    k: u32,
-    r: u32,
-    len: u32,
-    rows: &mut [u8],
-    present: &[u8],
-) -> Status
+fn solved(alloc: Global, k: u32, r: u32, len: u32, rows: &mut [u8], present: &[u8]) -> Status
     ensures { Ends k r len (length rows.old ≡ (k + r) * len)
         (ArePositions (k + r) k present.now) (rows.new ≡ rows.old)
         (IsOnlySolution k r present.now (rows_at (cut_rows (k + r) len rows.old) present.now)
