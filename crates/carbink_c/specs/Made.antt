@@ -2,7 +2,7 @@
 use Rattle.std.specs.Prelude.{◌≡◌, ℕ, ◌⊎◌, List, ◌++◌}
 use Rattle.cb_gf256.specs.CodeWord.{IsCodeWord}
 use Rattle.cb_gf256.specs.Combination.{AreCombinations}
-use Rattle.cb_gf256.specs.Rows.{rows_at, HoldBytes}
+use Rattle.cb_gf256.specs.Rows.{HoldBytes}
 use Rattle.cb_code.specs.Coefficients.{AreCoefficients}
 use Rattle.cb_erase.specs.Weights.{IsSolution}
 use Rattle.cb_scrub.specs.Wrong.{IsOneWrong, IsWordBut}

@@ -1,5 +1,5 @@
 use Rattle.std.proofs.Common.{◌≡◌, ◌∙◌, ◌*◌, length, ap, sym}
-use Rattle.carbink_c.proofs.Making.{Encoded, table_wide, made_lengths, parities_made}
+use Rattle.carbink_c.proofs.Making.{table_wide, made_lengths, parities_made}
 use Rattle.carbink_c.proofs.encoding.put_parities.Goals as goal
 
 pub encode-requires : goal.encode-requires

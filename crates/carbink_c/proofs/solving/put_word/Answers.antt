@@ -1,4 +1,4 @@
-use Rattle.std.proofs.Common.{◌≡◌, ◌+◌, ◌*◌, length, ap, sym, ◌∙◌}
+use Rattle.std.proofs.Common.{◌+◌, ◌*◌, length, ap, sym, ◌∙◌}
 use Rattle.carbink_c.proofs.Cutting.{cut_count}
 use Rattle.carbink_c.proofs.Making.{word_lengths, solution_made}
 use Rattle.carbink_c.proofs.solving.put_word.Goals as goal

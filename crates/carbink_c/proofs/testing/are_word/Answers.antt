@@ -1,7 +1,7 @@
 use Rattle.std.proofs.Common.{◌≡◌, ◌*◌, length, take, drop, sym, ap, ◌∙◌}
 use Rattle.cb_gf256.specs.Block.{cut_rows}
 use Rattle.carbink_c.proofs.Cutting.{are_bytes, front_sized, behind_sized}
-use Rattle.carbink_c.proofs.Making.{Encoded, table_wide, made_lengths, word_told}
+use Rattle.carbink_c.proofs.Making.{table_wide, made_lengths, word_told}
 use Rattle.carbink_c.proofs.testing.are_word.Goals as goal
 
 pub encode-requires : goal.encode-requires
