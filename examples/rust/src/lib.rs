@@ -1,0 +1,96 @@
+//! A safe wrapper over `include/carbink.h`. Rows lie in a slice one after another, `len` bytes each.
+
+mod raw {
+    use super::Found;
+
+    extern "C" {
+        pub fn carbink_version() -> u32;
+        pub fn carbink_encode(k: u32, r: u32, len: u32, data: *const u8, data_size: usize, parities: *mut u8, parities_size: usize) -> u32;
+        pub fn carbink_is_word(k: u32, r: u32, len: u32, rows: *const u8, rows_size: usize, is_word: *mut u32) -> u32;
+        pub fn carbink_solve(k: u32, r: u32, len: u32, rows: *mut u8, rows_size: usize, present: *const u8, present_size: usize) -> u32;
+        pub fn carbink_examine(k: u32, r: u32, len: u32, rows: *const u8, rows_size: usize, found: *mut Found) -> u32;
+        pub fn carbink_mend(k: u32, r: u32, len: u32, rows: *mut u8, rows_size: usize, position: u32) -> u32;
+    }
+}
+
+/// What an examination found; what is not told of its kind is 0.
+#[repr(C)]
+#[derive(Clone, Copy, Debug, Default, PartialEq, Eq)]
+pub struct Found {
+    /// 0: a code word. 1: the row at `position` alone is wrong. 2: neither.
+    pub kind: u32,
+    pub position: u32,
+    pub power: u32,
+    pub column: u32,
+    pub sum: u32,
+}
+
+/// Why a call did nothing.
+#[derive(Clone, Copy, Debug, PartialEq, Eq)]
+pub enum Refused {
+    BadCode,
+    BadLength,
+    BadBuffer,
+    BadPositions,
+    NoMemory,
+}
+
+/// A code: `k` data rows and `r` parities of `len` bytes each.
+#[derive(Clone, Copy, Debug)]
+pub struct Code {
+    pub k: u32,
+    pub r: u32,
+    pub len: u32,
+}
+
+fn answer(status: u32) -> Result<(), Refused> {
+    match status {
+        0 => Ok(()),
+        1 => Err(Refused::BadCode),
+        2 => Err(Refused::BadLength),
+        3 => Err(Refused::BadBuffer),
+        4 => Err(Refused::BadPositions),
+        _ => Err(Refused::NoMemory),
+    }
+}
+
+/// The version of the library: 1,000,000 times the first number, 1,000 times the second, and the third.
+pub fn version() -> u32 {
+    unsafe { raw::carbink_version() }
+}
+
+impl Code {
+    /// Makes the parities of the data rows.
+    pub fn encode(&self, data: &[u8], parities: &mut [u8]) -> Result<(), Refused> {
+        // A slice is a pointer and its length, and one that is written is nobody else's.
+        answer(unsafe {
+            raw::carbink_encode(self.k, self.r, self.len, data.as_ptr(), data.len(), parities.as_mut_ptr(), parities.len())
+        })
+    }
+
+    /// Whether the rows, data and then parities, are a code word.
+    pub fn is_word(&self, rows: &[u8]) -> Result<bool, Refused> {
+        let mut told = 0;
+        answer(unsafe { raw::carbink_is_word(self.k, self.r, self.len, rows.as_ptr(), rows.len(), &mut told) })?;
+        Ok(told == 1)
+    }
+
+    /// Makes the rows again that do not stand at the `k` positions `present`.
+    pub fn solve(&self, rows: &mut [u8], present: &[u8]) -> Result<(), Refused> {
+        answer(unsafe {
+            raw::carbink_solve(self.k, self.r, self.len, rows.as_mut_ptr(), rows.len(), present.as_ptr(), present.len())
+        })
+    }
+
+    /// What the rows are.
+    pub fn examine(&self, rows: &[u8]) -> Result<Found, Refused> {
+        let mut found = Found::default();
+        answer(unsafe { raw::carbink_examine(self.k, self.r, self.len, rows.as_ptr(), rows.len(), &mut found) })?;
+        Ok(found)
+    }
+
+    /// Replaces the row at the position by the sum of all others.
+    pub fn mend(&self, rows: &mut [u8], position: u32) -> Result<(), Refused> {
+        answer(unsafe { raw::carbink_mend(self.k, self.r, self.len, rows.as_mut_ptr(), rows.len(), position) })
+    }
+}
