@@ -35,6 +35,7 @@ pub mod Eases
 pub mod LinesFixed
 pub mod LossOrder
 pub mod WorkedGoes
+mod Backing
 pub mod LineParts
 pub mod LinesBack
 pub mod PinsRead

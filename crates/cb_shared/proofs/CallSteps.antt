@@ -9,7 +9,7 @@ use Rattle.cb_types.specs.declared.job.Job.TheVariants as jobs
 use Rattle.cb_types.specs.declared.reply.Reply.{Reply}
 use Rattle.cb_types.specs.declared.reply.Reply.TheVariants as answer
 use Rattle.cb_ptr.specs.declared.word.State.TheVariants as state
-use Rattle.cb_ptr.specs.Word.{pins_of, state_of}
+use Rattle.cb_ptr.specs.Word.{state_of}
 use Rattle.cb_world.specs.declared.entry.Entry.{Entry}
 use Rattle.cb_world.specs.declared.event.Event.{Event}
 use Rattle.cb_core.specs.Jobs.{IsJob}
@@ -25,7 +25,7 @@ use Rattle.cb_record.specs.Parts.{Part, Grows, grown, nothing_more, sum}
 use Rattle.cb_shared.specs.declared.reading.ReadAnswer.{ReadAnswer}
 use Rattle.cb_shared.specs.declared.reading.ReadAnswer.TheVariants as found
 use Rattle.cb_shared.specs.Making.{MakesNew, TriesNew}
-use Rattle.cb_shared.specs.Reading.{FindsOther, FindsWord, ReadFinds, looked}
+use Rattle.cb_shared.specs.Reading.{FindsWord, ReadFinds, looked}
 use Rattle.cb_shared.specs.Turning.{FindsAtLast, FindsFreedAfter, JobReads, KnowsIt, KnowsOf, TurnAdds, TurnBy, answer_of, freed_of, made_by_turn, made_in, object_of, turn_part, with_own}
 use Rattle.cb_shared.proofs.ReadParts.{grown_nothing, grown_sum}
 

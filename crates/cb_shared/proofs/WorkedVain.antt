@@ -1,6 +1,6 @@
 -- Worked tries in vain, and reads by turns: what meets each definition, and what breaks one of its
 -- parts alone.
-use Rattle.std.proofs.Common.{◌≡◌, ℕ, ◌≤◌, List, [], ◌∷◌, ◌++◌, length, length-append, None, Some, Option, refl, sym, ap, ◌∙◌, subst, inl, inr, lit≤, arith}
+use Rattle.std.proofs.Common.{◌≡◌, ℕ, List, [], ◌∷◌, ◌++◌, length, length-append, None, Some, Option, refl, sym, ap, ◌∙◌, subst, inl, inr, lit≤, arith}
 use Rattle.std.proofs.lemmas.Bool.{eqb-false}
 use Rattle.std.proofs.lemmas.Option.{none-some, same_Some}
 use Rattle.cb_types.specs.declared.config.Config.{Config}
@@ -10,12 +10,11 @@ use Rattle.cb_types.specs.declared.reply.Reply.{Reply}
 use Rattle.cb_types.specs.declared.reply.Reply.TheVariants as answer
 use Rattle.cb_rule.specs.declared.turn.Turn.{Turn}
 use Rattle.cb_rule.specs.declared.view.View.{View}
-use Rattle.cb_rule.specs.Lists.{Each}
 use Rattle.cb_rule.specs.Steps.{look_at}
 use Rattle.cb_record.specs.Parts.{Part, grown, nothing_more, sum}
-use Rattle.cb_shared.specs.Calls.{AsksFor, AtNone, AtThis, IsAnswerTo, IsFetch, IsFetchForWant, IsForWant, IsInVain, IsUnanswered, IsUnfetched, LooksOf, ReadCallEnds, ReadStops, ReadsInPlace, StopsInVain, TellsWhatIs, TurnStops, the_handle}
+use Rattle.cb_shared.specs.Calls.{AsksFor, AtThis, IsAnswerTo, IsFetch, IsFetchForWant, IsForWant, IsInVain, IsUnanswered, IsUnfetched, LooksOf, ReadCallEnds, ReadStops, ReadsInPlace, StopsInVain, TellsWhatIs, the_handle}
 use Rattle.cb_shared.specs.Reading.{looked, looked_freed}
-use Rattle.cb_shared.proofs.WorkedGround.{away, calm, knows_made, moving, newest_made, part, two}
+use Rattle.cb_shared.proofs.WorkedGround.{away, knows_made, moving, newest_made, part, two}
 use Rattle.cb_shared.proofs.WorkedTurns.{adds_worn, worn_part, worn_turn}
 
 abbrev swap : Job

@@ -1,0 +1,173 @@
+-- What a part of a record backs of one answer.
+use Rattle.std.proofs.Common.{◌≡◌, ◌⊎◌, ℕ, zero, suc, ◌<◌, ◌≤◌, List, [], ◌∷◌, ◌++◌, length, map, Option, None, Some, Ok, inl, inr, sym, refl, ap, ◌∙◌, subst, arith, ◌+◌}
+use Rattle.std.specs.Prelude.{MatchOption}
+use Rattle.std.specs.List.{flat_map, sum_by}
+use Rattle.std.proofs.lemmas.Bool.{cases_lt}
+use Rattle.std.proofs.lemmas.List.{append-nil}
+use Rattle.std.proofs.lemmas.List.FromFn.{length-map-range_with_len}
+use Rattle.std.proofs.lemmas.List.Sums.{sum_by-cons}
+use Rattle.cb_ptr.specs.declared.word.State.{State}
+use Rattle.cb_ptr.specs.declared.word.State.TheVariants as state
+use Rattle.cb_ptr.specs.Word.{len_of, place_of, state_of}
+use Rattle.cb_types.specs.declared.config.Config.{Config}
+use Rattle.cb_types.specs.declared.job.Job.{Job}
+use Rattle.cb_types.specs.declared.job.Job.TheVariants as job
+use Rattle.cb_types.specs.declared.reply.Reply.{Reply}
+use Rattle.cb_types.specs.declared.reply.Reply.TheVariants as answer
+use Rattle.cb_types.specs.declared.request.Request.{Request}
+use Rattle.cb_types.specs.declared.request.Request.TheVariants.{Make, Read, Write, Free, Pin, Peek, Unpin, Filter, Leave}
+use Rattle.cb_types.specs.declared.request.Request.TheVariants as line
+use Rattle.cb_types.specs.Requests.{name_of}
+use Rattle.cb_world.specs.declared.entry.Entry.{Entry}
+use Rattle.cb_world.specs.declared.event.Event.{Event}
+use Rattle.cb_world.specs.declared.shown.Shown.{Shown}
+use Rattle.cb_world.specs.FarState.{FarState}
+use Rattle.cb_world.specs.Memory.{bytes_in, memory_byte, words_for}
+use Rattle.cb_filter.specs.FilterRule.{FilterAs}
+use Rattle.cb_core.specs.Turned.{done, worn}
+use Rattle.cb_mutate.specs.JobWrites.{TurnWrites}
+use Rattle.cb_rule.specs.declared.turn.Turn.{Turn}
+use Rattle.cb_rule.specs.declared.view.Stand.{Stand}
+use Rattle.cb_rule.specs.declared.view.View.{View}
+use Rattle.cb_rule.specs.Lists.{Each, Has}
+use Rattle.cb_rule.specs.Steps.{Knows, stand}
+use Rattle.cb_record.specs.Backs.{Backs, Enters, EntersAt, Tells, happened_at, happened_for, pins_at, pins_for, turn_at, turn_needed}
+use Rattle.cb_record.specs.Deeds.{Deed, deed, happened, happening}
+use Rattle.cb_record.specs.Lists.{HasOne, IsSublist, beside, both, ended}
+use Rattle.cb_record.specs.Needs.Need.{AFreed}
+use Rattle.cb_record.specs.Needs.{FindsEmpty, IsFreedAs, IsJobFor, IsTurnFor, Meets, need_of, own_job, peek_at, IsReadAs}
+use Rattle.cb_record.specs.Parts.{Grows, Part, grown, nothing_more, sum}
+use Rattle.cb_record.specs.Told.{Told}
+use Rattle.cb_record.proofs.Laws.{backs_sum, grown-nothing_more, grown-sum, has_one_left, has_one_right, idle_backs}
+use Rattle.cb_shared.specs.Calls.{AsksFor, AtThis, EndsAtLast, IsAnswerTo, IsInVain, IsLack, ReadCallEnds, ReadGives, ReadsInPlace, TurnGives, WriteAnswers, WriteCallEnds, WriteFinds, SaysAs, the_handle, worn_once, written_once}
+use Rattle.cb_shared.specs.declared.answers.WriteAnswer.{WriteAnswer}
+use Rattle.cb_shared.specs.declared.answers.WriteAnswer.TheVariants as place
+use Rattle.cb_shared.specs.declared.reading.ReadAnswer.TheVariants as found
+use Rattle.cb_shared.specs.Reading.{FindsGone, IsReadHere, looked, looked_freed, read_once}
+use Rattle.cb_shared.specs.Turning.{DidAs, FindsAtLast, JobReads, TurnAdds, TurnBy, made_by_turn, turn_part}
+use Rattle.cb_shared.proofs.Laws.{freed_part, known_grown}
+use Rattle.cb_lanes.specs.Names.{IsOnObject}
+use Rattle.cb_lanes.specs.LineGoes.{CallGoes, LineGoes, job_of}
+use Rattle.cb_lanes.specs.Passing.{CallGives, IsNewestPin, IsNotPinned, LeaveGoes, PeekGoes, PinEnds, PinGoes, PinsAtLast, UnpinGoes, goes_in, peeks_of}
+
+-- the record grew by this part, but for its pins and the handles that are its own
+abbrev pub Adds : View → Part → View → Type 0
+Adds v d w = w ≡ record (grown d v) { own = w.own; pins = w.pins }
+
+pub adds_by : (v w : View) (d : Part) (own : List ℕ) (pins : List Stand)
+    → w ≡ record (grown d v) { own = own; pins = pins } → Adds v d w
+adds_by v w d own pins is =
+    is ∙ (λ i. record (grown d v) { own = (sym is i).own; pins = (sym is i).pins })
+
+pub adds_grown : (v w : View) (d : Part) → Grows v d w → Adds v d w
+adds_grown v w d is = adds_by v w d v.own v.pins is
+
+pub adds_pins : (v w : View) (pins : List Stand) → w ≡ record v { pins = pins }
+    → Adds v nothing_more w
+adds_pins v w pins is = adds_by v w nothing_more v.own pins
+    (is ∙ ap (λ (z : View). let y : View = record z { pins = pins } in y) (sym (grown-nothing_more v)))
+
+pub adds_none : (v w : View) → w ≡ v → Adds v nothing_more w
+adds_none v w is = adds_grown v w nothing_more (is ∙ sym (grown-nothing_more v))
+
+pub adds_sum : (v m w : View) (d e : Part) → Adds v d m → Adds m e w → Adds v (sum d e) w
+adds_sum v m w d e x y = y ∙ (λ i. record (grown e (x i)) { own = w.own; pins = w.pins })
+    ∙ ap (λ (z : View). let u : View = record z { own = w.own; pins = w.pins } in u)
+    (sym (grown-sum d e v))
+
+pub adds_knows : (h : ℕ) (v w : View) (d : Part) → Adds v d w → Knows h v → Knows h w
+adds_knows h v w d x knows = subst (Knows h) (sym x) (known_grown h d v knows)
+
+-- ---- one answer
+pub one_backs : (d : Part) (t : Told) → Enters t d.written → Tells d t → pins_for t ≤ d.ever
+    → IsSublist (turn_needed t) (map deed d.turns)
+    → flat_map (λ (u : Turn). happened (deed u)) d.turns ≡ happened_for t → Backs d (t ∷ [])
+one_backs d t enters tells pins turned happens = record {
+  wrote = (d.written, [], refl, enters, refl);
+  tells = (tells, tt);
+  pins = let e = sum_by-cons pins_for t [] in let z : sum_by pins_for [] ≡ 0 = refl in
+      omega (arith, e, z, pins);
+  turned = turned;
+  happens = happens;
+}
+
+pub idle_turns : (ts : List Turn) → Each (λ (u : Turn). happened (deed u) ≡ []) ts
+    → flat_map (λ (u : Turn). happened (deed u)) ts ≡ []
+idle_turns [] idle = refl
+idle_turns (t ∷ ts) idle =
+    ap (λ (l : List Deed). l ++ flat_map (λ (u : Turn). happened (deed u)) ts) idle.0
+    ∙ idle_turns ts idle.1
+
+pub vain_backs : (on : ℕ → Type 0) (j : Turn → Type 0) (d : Part) → IsInVain on j d → Backs d []
+vain_backs on j d x = idle_backs d (ap (λ (z : Part). z.written) x.part)
+    (ap (λ (z : Part). flat_map (λ (u : Turn). happened (deed u)) z.turns) x.part
+    ∙ idle_turns x.turns x.idle)
+
+-- tries that came to nothing stand before what answers the line
+pub behind_vain : (before last d : Part) (t : Told) → d ≡ sum before last → Backs before []
+    → Backs last (t ∷ []) → Backs d (t ∷ [])
+behind_vain before last d t is vain b =
+    subst (λ (z : Part). Backs z (t ∷ [])) (sym is) (backs_sum before last [] (t ∷ []) vain b)
+
+pub ends_back : (on : ℕ → Type 0) (j : Turn → Type 0) (P : View → Part → Type 0) (v : View) (d : Part) (t : Told)
+    → (x : EndsAtLast on j P v d) → Backs x.last (t ∷ []) → Backs d (t ∷ [])
+ends_back on j P v d t x b = behind_vain x.before x.last d t x.part (vain_backs on j x.before x.in_vain) b
+
+pub look_idle : (h word : ℕ) → Backs (looked h word) []
+look_idle h word = idle_backs (looked h word) refl refl
+
+-- ---- an answer by a turn
+-- what a line needs to know of the turns of a job that answer it
+pub record IsByTurn (j : Job) (h : Option ℕ) (q : Request) (r : Reply) : Type 0 where
+  pub enters : (es : List Entry) → TurnWrites j r es → EntersAt h q r es
+  pub no_pin : pins_at q r ≡ 0
+  pub turned : IsSublist (turn_at h q r) (record { job = j; reply = Some r } ∷ [])
+  pub happens : happening j (Some r) ≡ happened_at q r
+
+pub turn_backs : (c : Config) (j : Job) (h : Option ℕ) (q : Request) (r : Reply) (v : View) (d : Part)
+    → (x : TurnAdds c j (Ok r) v d) → IsByTurn j h q r
+    → Meets (turn_part x.turn x.more x.within x.later) (need_of h q r)
+    → Backs d (record { handle = h; request = q; reply = r } ∷ [])
+turn_backs c j h q r v d x by meets = subst (λ (z : Part). Backs z (t ∷ [])) (sym x.part)
+    (one_backs e t (by.enters x.more x.wrote) meets
+    (let z = by.no_pin in omega (arith, z))
+    (subst (λ (u : Deed). IsSublist (turn_at h q r) (u ∷ [])) (sym same) by.turned)
+    (append-nil (happened (deed x.turn)) ∙ ap happened same ∙ by.happens))
+  where
+    t : Told
+    t = record { handle = h; request = q; reply = r }
+
+    e : Part
+    e = turn_part x.turn x.more x.within x.later
+
+    same : deed x.turn ≡ record { job = j; reply = Some r }
+    same = λ i. record { job = x.job_is i; reply = x.reply_is i }
+
+pub job_for : (own : Option Job) (h : Option ℕ) (j k : Job) → own ≡ Some j → k ≡ j → IsJobFor own h k
+job_for own (Some h) j k is same = inl (is ∙ ap (λ (z : Job). Some z) (sym same))
+job_for own None j k is same = is ∙ ap (λ (z : Job). Some z) (sym same)
+
+-- the turn itself is what the line needs
+pub its_turn : (c : Config) (own : Option Job) (h : Option ℕ) (j : Job) (r : Reply) (v : View) (d : Part)
+    → own ≡ Some j → (x : TurnAdds c j (Ok r) v d) → HasOne (IsTurnFor own h r) (x.turn ∷ [])
+its_turn c own h j r v d is x = inl (x.reply_is, job_for own h j x.turn.job is x.job_is)
+
+pub its_swap : (c : Config) (own : Option Job) (h : ℕ) (r : Reply) (v : View) (d : Part)
+    → (x : TurnAdds c (job.Swap (the_handle h)) (Ok r) v d)
+    → HasOne (IsTurnFor own (Some h) r) (x.turn ∷ [])
+its_swap c own h r v d x = inl (x.reply_is, inr x.job_is)
+
+-- ---- what a line adds that was answered so
+abbrev pub told_as : Option ℕ → Request → Reply → Told
+told_as h q r = record { handle = h; request = q; reply = r }
+
+abbrev pub LineAdds : View → View → Told → Type 0
+LineAdds v w t = (d : Part) × Adds v d w × Backs d (t ∷ [])
+
+-- nothing: no call was made
+pub still_backs : (h : Option ℕ) (q : Request) (r : Reply) → EntersAt h q r [] → Meets nothing_more (need_of h q r)
+    → pins_at q r ≡ 0 → turn_at h q r ≡ [] → happened_at q r ≡ []
+    → Backs nothing_more (told_as h q r ∷ [])
+still_backs h q r enters meets pins turned happens =
+    one_backs nothing_more (told_as h q r) enters meets (omega (arith, pins))
+    (subst (λ (l : List Deed). IsSublist l []) (sym turned) ended) (sym happens)
