@@ -100,8 +100,8 @@ pub record HeldStands (views : List View) (x : Held) : Type 0 where
   pub len : last.len ≡ x.len
   pub words : last.after ≡ x.old
 
--- What the holder of the lock knows of an object that it has claimed, in its turn or in a batch: its
--- last entry.
+-- What the holder of the lock knows of an object that it has claimed, in its turn or in a batch:
+-- its last entry.
 pub record HolderClaims (views : List View) (known : Shown) (h : ℕ) : Type 0 where
   pub len : ℕ
   pub place : ℕ
@@ -150,8 +150,8 @@ pub record EntriesStand (first : ℕ) (views : List View) : Type 0 where
       → total (written_on e.handle k) views ≡ 1
   pub goes_on : (e : Entry) → Wrote views e → EntryGoesOn first views e
 
--- The words, the pins and claims of all views, and their entries. The shares of all views sum to 64,
--- and what a view made as its own no other one knows.
+-- The words, the pins and claims of all views, and their entries. The shares of all views sum to
+-- 64, and what a view made as its own no other one knows.
 pub record WordsStand (first : ℕ) (c : Config) (ws : List ℕ) (views : List View) : Type 0 where
   pub shares : AreShares c views
   pub own : AreOwn first views

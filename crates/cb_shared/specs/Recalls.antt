@@ -24,8 +24,8 @@ abbrev pub MakesFirst : ℕ → List Turn → Type 0
 MakesFirst first turns = (t : Turn) → Has t turns → (bytes : List ℕ) (handle : Handle) (version : ℕ)
     → t.job ≡ Make bytes → t.reply ≡ Some (Made handle version) → version ≡ first
 
--- What a record has of its own objects, and what its makes told; what it has of any object; and that
--- all turns are one history, where it has the whole share and no turn is under way.
+-- What a record has of its own objects, and what its makes told; what it has of any object; and
+-- that all turns are one history, where it has the whole share and no turn is under way.
 pub record Recalls (first : ℕ) (v : View) : Type 0 where
   pub own : OwnStands first v
   pub makes : MakesFirst first v.turns

@@ -147,8 +147,8 @@ TellsNoPin h es (Ok answer.Crowded) = ⊥
 TellsNoPin h es (Ok answer.Moving) = (w : ℕ) × IsFound h w es × (state_of w ≡ state.Moving)
 TellsNoPin h es r = Unit {0}
 
--- A job Read reads under a pin of the pass, where the object is here or could be brought in by these
--- events. No other job does.
+-- A job Read reads under a pin of the pass, where the object is here or could be brought in by
+-- these events. No other job does.
 abbrev pub JobReads : Job → List Event → Result Reply NoMemory → View → Part → Type 0
 JobReads (Read handle) es r v d =
     ((d ≡ nothing_more) × TellsNoPin handle.n es r) ⊎ Tries handle.n r v d

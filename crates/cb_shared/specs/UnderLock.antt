@@ -172,8 +172,8 @@ FreedMoves c freed p q = (d : Part) × Moves p q (grown d p.me.0) × IsQuiet d �
     × FindsFreedAfter freed p.me.0 d
 
 -- The seat may give the lock back with this far state, whose turn had this job and this reply. The
--- bytes that it told were read, the version that it told was written, and what it made has the first
--- version.
+-- bytes that it told were read, the version that it told was written, and what it made has the
+-- first version.
 pub record IsEnding (c : Config) (job : Job) (r : Option Reply) (far : FarState) (v : View) : Type 0
   where
     pub holds : v.holds ≡ true
