@@ -38,9 +38,9 @@ pub record IsRun (script : Script) (end : ThreadsEnd) : Type 0 where
   pub lines : map asked end.answers ≡ by_lane script.lines
   -- each of them is one that its line may have
   pub replies : AllByRecursion HasLineReply end.answers
-  -- and is that of the last try of the line's calls: none but to a filter line tells that the object
-  -- is being moved, and none that too few spans were loose where there are so many frames that more
-  -- may come loose
+  -- and is that of the last try of the line's calls: none but to a filter line tells that the
+  -- object is being moved, and none that too few spans were loose where there are so many frames
+  -- that more may come loose
   pub last : AllByRecursion (HasLastTry script.config) end.answers
   -- the seal is that of the world and of a record that closed such a runtime, so the world is sound
   -- and holds the last entry of each object, and all turns are one history

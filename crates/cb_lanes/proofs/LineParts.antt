@@ -51,6 +51,7 @@ use Rattle.cb_lanes.specs.LineGoes.{CallGoes, LineGoes, job_of}
 use Rattle.cb_lanes.specs.Passing.{CallGives, IsNewestPin, IsNotPinned, LeaveGoes, PeekGoes, PinEnds, PinGoes, PinsAtLast, UnpinGoes, goes_in, peeks_of}
 use Rattle.cb_lanes.proofs.Backing.{idle_turns, vain_backs, behind_vain, ends_back, look_idle, IsByTurn, turn_backs, job_for, its_turn, its_swap, still_backs}
 pub use Rattle.cb_lanes.proofs.Backing.{Adds, adds_by, adds_grown, adds_pins, adds_none, adds_sum, adds_knows, one_backs, told_as, LineAdds}
+
 -- ---- a make
 abbrev pub make_handle : Reply → Option ℕ
 make_handle (answer.Made handle version) = Some handle.n

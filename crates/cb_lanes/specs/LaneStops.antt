@@ -57,5 +57,6 @@ pub record LaneStops (first : ℕ) (c : Config) (lane : ℕ) (names : List Named
   pub part : AddsBacked names answers v (unpinned_all lines_stop.behind)
   pub rises : LaneRises lane names answers v (unpinned_all lines_stop.behind)
   pub scoped : LaneScoped lane names answers
-  pub alone : first ≡ 1 → v.written ≡ [] → LaneKeepsAlone c.nodes lane names (map asked answers) answers
+  pub alone : first ≡ 1 → v.written ≡ []
+      → LaneKeepsAlone c.nodes lane names (map asked answers) answers
   pub adds : AddsIdly (unpinned_all lines_stop.behind) w

@@ -26,9 +26,9 @@ AreScoped given answers = AreOneToOne (given ++ answers) → KeepScopes given an
 abbrev pub HaveOneHandle : List Answer → Type 0
 HaveOneHandle answers = (a : List ℕ) (g h : ℕ) → IsMadeAs answers a g → IsMadeAs answers a h → g ≡ h
 
--- So are the answers of a lane, whatever answers gave the names before, where these gave a handle to
--- one name each and the lane has no pin by them, once no name is given two handles. The objects that
--- the lane made have handles of their own.
+-- So are the answers of a lane, whatever answers gave the names before, where these gave a handle
+-- to one name each and the lane has no pin by them, once no name is given two handles. The objects
+-- that the lane made have handles of their own.
 abbrev pub LaneScoped : ℕ → List Named → List Answer → Type 0
 LaneScoped lane names answers = (given : List Answer) → AreNamesOf names given
     → scope_of lane given ≡ [] → AreOneToOne given → HaveOneHandle (given ++ answers)

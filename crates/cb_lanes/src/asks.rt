@@ -146,8 +146,8 @@ fn try_pin<R: Wait>(
     }
 }
 
-/// A turn that brings an object in; its reply where it tells why that can't be. It waits where others
-/// stand in its way, and not where the object is here now.
+/// A turn that brings an object in; its reply where it tells why that can't be. It waits where
+/// others stand in its way, and not where the object is here now.
 fn bring_in<R: Wait>(
     rt: &R,
     alloc: Global,

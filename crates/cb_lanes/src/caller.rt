@@ -59,7 +59,8 @@ pub(crate) trait Caller {
             goes self.now (Peeks handle.n) lane.old reply lane.new) }
         ensures stays { IfOk result (λ reply.
             StayNamed (may_name self.now lane.old) (may_name self.now lane.new)) }
-        ensures error { OnErr result (AskStops (stops self.now) (Peeks handle.n) lane.old lane.new) }
+        ensures error { OnErr result
+            (AskStops (stops self.now) (Peeks handle.n) lane.old lane.new) }
         ensures well { well self.now lane.new };
 
     /// The end of the lane's newest pin on an object.
@@ -75,7 +76,8 @@ pub(crate) trait Caller {
             goes self.now (Unpins handle.n) lane.old reply lane.new) }
         ensures stays { IfOk result (λ reply.
             StayNamed (may_name self.now lane.old) (may_name self.now lane.new)) }
-        ensures error { OnErr result (AskStops (stops self.now) (Unpins handle.n) lane.old lane.new) }
+        ensures error { OnErr result
+            (AskStops (stops self.now) (Unpins handle.n) lane.old lane.new) }
         ensures well { well self.now lane.new };
 
     /// The end of all pins of the lane.

@@ -118,8 +118,8 @@ LooksOf other = AtNone
 abbrev pub TriesInVain : (ℕ → Type 0) → (Turn → Type 0) → View → View → Type 0
 TriesInVain on vain v w = (d : Part) × IsInVain on vain d × Grows v d w
 
--- There was no memory: the record grew by tries that came to nothing, and by the one that found none,
--- which is looks and one such turn at the most.
+-- There was no memory: the record grew by tries that came to nothing, and by the one that found
+-- none, which is looks and one such turn at the most.
 pub record StopsInVain (on : ℕ → Type 0) (vain want : Turn → Type 0) (v w : View) : Type 0 where
   pub between : View
   pub last : Part

@@ -33,10 +33,10 @@ impl Shared {
     /// The version and the bytes of an object that the pass knows, under a pin of its own beside
     /// those of the scope; Freed where it was freed. A far object is brought in by a turn of the
     /// job Swap, and looked at again at once; where it has left again by then, by a turn of the job
-    /// Read, which reads it too. Where that can't be, the answer is why: Unavailable, NoRoom, or Worn
-    /// by the count of turns. Tries again where the object is being moved or written, has as many pins
-    /// as its word can count, or another pass came first, and where too few spans were loose but there
-    /// are so many frames that more may come. Waits.
+    /// Read, which reads it too. Where that can't be, the answer is why: Unavailable, NoRoom, or
+    /// Worn by the count of turns. Tries again where the object is being moved or written, has as
+    /// many pins as its word can count, or another pass came first, and where too few spans were
+    /// loose but there are so many frames that more may come. Waits.
     pub fn read<R: Wait>(
         &self,
         rt: &R,
@@ -112,8 +112,8 @@ impl Shared {
             pass.old.seat.me.0 pass.new.seat.me.0) }
         ensures new { IfOk result (λ reply. MakesNew self.now.board.shared.key.first
             (jobs.Make bytes.now) reply pass.old.seat.me.0) }
-        ensures error { OnErr result (TurnStops self.now.config (jobs.Make bytes.now) pass.old.seat.me.0
-            pass.new.seat.me.0) }
+        ensures error { OnErr result (TurnStops self.now.config (jobs.Make bytes.now)
+            pass.old.seat.me.0 pass.new.seat.me.0) }
     {
         let job = Job::Make {
             bytes: Bytes::copy_of(alloc, bytes)?,
@@ -184,8 +184,8 @@ impl Shared {
         unreachable!()
     }
 
-    /// A turn of a job; None where it does not answer the call, after a wait where others stand in its
-    /// way.
+    /// A turn of a job; None where it does not answer the call, after a wait where others stand in
+    /// its way.
     fn try_turn<R: Wait>(
         &self,
         rt: &R,
@@ -215,8 +215,8 @@ impl Shared {
         }
     }
 
-    /// One read under a pin of its own, or a turn where the object is far; None where neither answers
-    /// the call, after a wait where others stand in its way.
+    /// One read under a pin of its own, or a turn where the object is far; None where neither
+    /// answers the call, after a wait where others stand in its way.
     fn try_read<R: Wait>(
         &self,
         rt: &R,
@@ -299,8 +299,8 @@ impl Shared {
     }
 }
 
-/// The job of a read whose object is far: Swap, and Read where it was brought in before and has left
-/// again. Nobody can take the object away between the two parts of a turn Read.
+/// The job of a read whose object is far: Swap, and Read where it was brought in before and has
+/// left again. Nobody can take the object away between the two parts of a turn Read.
 fn fetch_job(h: Handle, patience: &Patience) -> Job
     ensures { IsFetch h.n result }
 {

@@ -60,8 +60,8 @@ impl Shared {
         }
     }
 
-    /// Waits after a turn that did not answer its call, unless it brought the object in, or found it
-    /// there: then the next look comes at once.
+    /// Waits after a turn that did not answer its call, unless it brought the object in, or found
+    /// it there: then the next look comes at once.
     pub fn wait_behind<R: Wait>(&self, rt: &R, reply: &Reply, patience: &mut Patience) {
         match reply {
             Reply::Stays | Reply::Swapped { .. } => patience.brought = true,
