@@ -1,5 +1,5 @@
-//! Turns of the core, as docs/EMBEDDING.md shows them: two objects leave, a node crashes, and one of
-//! them is read.
+//! Turns of the core, as docs/EMBEDDING.md shows them: two objects leave, a node crashes, and one
+//! of them is read.
 ghost use Rattle.std.specs.Prelude.{OnOk};
 ghost use Rattle.cb_core.specs.Jobs.{IsJob};
 ghost use Rattle.cb_world_tests.specs.Worlds.{IsSmallWorld, small};
