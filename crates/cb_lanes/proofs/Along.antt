@@ -9,7 +9,6 @@ use Rattle.cb_types.specs.declared.answer.Answer.{Answer}
 use Rattle.cb_types.specs.declared.config.Config.{Config}
 use Rattle.cb_types.specs.Config.{IsAccepted}
 use Rattle.cb_types.specs.declared.config.Field.TheVariants.{Nodes}
-use Rattle.cb_types.specs.declared.job.Job.{Job}
 use Rattle.cb_types.specs.declared.job.Job.TheVariants as job
 use Rattle.cb_types.specs.declared.request.Request.{Request}
 use Rattle.cb_types.specs.declared.request.Request.TheVariants.{Make, Read, Write, Free, Pin, Peek, Unpin, Filter, Evict, Begin, Ship, Commit, Abort, Pair, Patch, Merge, Part, Compact, Rebuild, Crash, Join, Leave}
@@ -27,13 +26,11 @@ use Rattle.cb_script.specs.declared.script.Line.{Line}
 use Rattle.cb_script.specs.Form.{IsRequest, AreLines}
 use Rattle.cb_world.specs.FarState.{FarState}
 use Rattle.cb_world.specs.OpenSteps.{NoneHolds}
-use Rattle.cb_world.specs.Plain.{Words}
 use Rattle.cb_world.specs.Seats.{pins_of_seat}
 use Rattle.cb_world.specs.World.{WorldState, IsSoundWorld, empty_world}
 use Rattle.cb_mutate.specs.MapBeside.{IsMapBeside}
 use Rattle.cb_mutate.proofs.Laws.{is_map_reply, is_map_make, beside_kept, empty_beside}
-use Rattle.cb_core.specs.declared.event.Event.TheVariants.{Turn}
-use Rattle.cb_core.proofs.Laws.{are_gone, step_settings, evict_turn, begin_turn, ship_turn, commit_turn, abort_turn, pair_turn, patch_turn, merge_turn, part_turn, rebuild_turn}
+use Rattle.cb_core.proofs.Laws.{are_gone, evict_turn, begin_turn, ship_turn, commit_turn, abort_turn, pair_turn, patch_turn, merge_turn, part_turn, rebuild_turn}
 use Rattle.cb_world.specs.Empty.{empty_words, empty_far, empty_shown}
 use Rattle.cb_world.proofs.Laws.{empty_shows, empty_sound, now_same, empty_world_sound}
 use Rattle.cb_lanes.specs.Asked.{answer_to, asked, HasLineReply}
@@ -48,13 +45,11 @@ use Rattle.cb_lanes.specs.Names.{KeptNames, kept_number, kept_for, request_handl
 use Rattle.cb_lanes.specs.Scopes.{KeepScopes, ScopeSays, scope_of}
 use Rattle.cb_lanes.proofs.ByAsk.{by_ask}
 use Rattle.cb_lanes.proofs.CompactGoes.{compact_goes}
-use Rattle.cb_lanes.proofs.GivingBack.{unpin_stands, gives_all}
 use Rattle.cb_lanes.proofs.LineGoes.{read_goes, write_goes, free_goes, filter_goes, make_goes}
 use Rattle.cb_lanes.proofs.Lists.{all_push}
 use Rattle.cb_lanes.proofs.Lone.{empty_lone, line_lone, rests_lone, turn_alone}
 use Rattle.cb_lanes.proofs.NamesKept.{name_within}
-use Rattle.cb_lanes.proofs.Pinning.{pin_goes, pin_settings, peek_goes, unpin_goes, leave_goes}
-use Rattle.cb_lanes.proofs.Recounting.{turn_beside}
+use Rattle.cb_lanes.proofs.Pinning.{pin_goes, peek_goes, unpin_goes, leave_goes}
 use Rattle.cb_lanes.proofs.Scoping.{Scoped, line_scoped}
 use Rattle.cb_lanes.proofs.SeatGoes.{ask_settings}
 use Rattle.cb_lanes.proofs.ScopesKept.{AreScopes, scopes_none, scopes_push, keep_push, Rested, rests, LeadsOn, leads_push, IsFreshName, grown, apart_after, lines_own}

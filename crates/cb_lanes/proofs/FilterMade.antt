@@ -1,5 +1,5 @@
 -- A filter of an object that the record knows is not told that it was never made.
-use Rattle.std.proofs.Common.{◌≡◌, ◌≢◌, ◌⊎◌, ℕ, zero, suc, ◌≤◌, List, [], ◌∷◌, Ok, Some, Option, inl, inr, refl, sym, ap, ◌∙◌, subst, arith}
+use Rattle.std.proofs.Common.{◌≡◌, ◌≢◌, ℕ, zero, suc, List, [], ◌∷◌, Ok, Some, Option, inl, inr, refl, sym, ap, ◌∙◌, subst, arith}
 use Rattle.cb_ptr.specs.declared.word.State.{State}
 use Rattle.cb_ptr.specs.declared.word.State.TheVariants as state
 use Rattle.cb_ptr.specs.Word.{pins_of, state_of}
@@ -10,7 +10,7 @@ use Rattle.cb_types.specs.declared.job.Job.TheVariants as job
 use Rattle.cb_types.specs.declared.reply.Reply.{Reply}
 use Rattle.cb_types.specs.declared.reply.Reply.TheVariants as answer
 use Rattle.cb_world.specs.declared.event.Event.{Event}
-use Rattle.cb_world.specs.declared.event.Event.TheVariants.{Looked, Claimed, Told, Loaded}
+use Rattle.cb_world.specs.declared.event.Event.TheVariants.{Looked, Told, Loaded}
 use Rattle.cb_world.specs.declared.object.Object.{Object}
 use Rattle.cb_world.specs.declared.object.Object.TheVariants as is
 use Rattle.cb_world.specs.declared.shown.Shown.{Shown}
@@ -18,9 +18,9 @@ use Rattle.cb_world.specs.FarState.{FarState}
 use Rattle.cb_world.specs.Looks.{IsFound, IsTaken, IsTold}
 use Rattle.cb_world.specs.Played.{Agree, after}
 use Rattle.cb_world.specs.Shown.{Fits, IsHeld, object_at, version_at}
-use Rattle.cb_filter.specs.FilterRule.{AbsentToFilter, EmptyToFilter, FilterAs, FilterRule, OnlyTell}
+use Rattle.cb_filter.specs.FilterRule.{EmptyToFilter, FilterAs, FilterRule, OnlyTell}
 use Rattle.cb_core.specs.Parts.{Holding}
-use Rattle.cb_core.specs.Turned.{Does, Turned, done, worn}
+use Rattle.cb_core.specs.Turned.{Turned, done, worn}
 use Rattle.cb_rule.specs.declared.view.View.{View}
 use Rattle.cb_rule.specs.Steps.{Knows}
 use Rattle.cb_record.specs.Parts.{Part}

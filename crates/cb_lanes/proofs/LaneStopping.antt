@@ -5,7 +5,6 @@ use Rattle.std.proofs.lemmas.List.{take_more}
 use Rattle.cb_types.specs.declared.answer.Answer.{Answer}
 use Rattle.cb_types.specs.declared.config.Config.{Config}
 use Rattle.cb_types.specs.Requests.{name_of}
-use Rattle.cb_world.specs.declared.entry.Entry.{Entry}
 use Rattle.cb_script.specs.declared.script.Line.{Line}
 use Rattle.cb_rule.specs.declared.view.Look.{Look}
 use Rattle.cb_rule.specs.declared.view.View.{View}
@@ -17,11 +16,10 @@ use Rattle.cb_shared.specs.Joining.{unpinned_all}
 use Rattle.cb_shared.specs.Recalls.{Recalls}
 use Rattle.cb_lanes.specs.declared.body.Named.{Named}
 use Rattle.cb_lanes.specs.Asked.{HasLineReply, asked}
-use Rattle.cb_lanes.specs.Bodies.{AreLinesOf, IsFront, IsLineOf, KnowsNames, LaneGoes, LinesGo}
+use Rattle.cb_lanes.specs.Bodies.{AreLinesOf, IsFront, KnowsNames, LaneGoes}
 use Rattle.cb_lanes.specs.KeepsOwn.{KeepsOwn}
 use Rattle.cb_lanes.specs.LaneStops.{AddsIdly, LaneStops, LinesStop}
 use Rattle.cb_lanes.specs.Names.{KeptNames, request_handle}
-use Rattle.cb_lanes.specs.Passing.{goes_in}
 use Rattle.cb_lanes.specs.Stopping.{LineStops, stops_in}
 use Rattle.cb_lanes.proofs.LaneForm.{lane_keeps_alone}
 use Rattle.cb_lanes.proofs.LaneRises.{lane_alone}

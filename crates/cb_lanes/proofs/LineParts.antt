@@ -1,11 +1,9 @@
 -- What a line adds to the record of its pass, and that it backs the line's answer.
-use Rattle.std.proofs.Common.{◌≡◌, ◌⊎◌, ℕ, zero, suc, ◌<◌, ◌≤◌, List, [], ◌∷◌, ◌++◌, length, map, Option, None, Some, Ok, inl, inr, sym, refl, ap, ◌∙◌, subst, arith, ◌+◌}
+use Rattle.std.proofs.Common.{◌≡◌, ◌⊎◌, ℕ, zero, suc, ◌<◌, ◌≤◌, List, [], ◌∷◌, ◌++◌, length, Option, None, Some, Ok, inl, inr, sym, refl, ap, ◌∙◌, subst, arith, ◌+◌}
 use Rattle.std.specs.Prelude.{MatchOption}
-use Rattle.std.specs.List.{flat_map, sum_by}
 use Rattle.std.proofs.lemmas.Bool.{cases_lt}
 use Rattle.std.proofs.lemmas.List.{append-nil}
 use Rattle.std.proofs.lemmas.List.FromFn.{length-map-range_with_len}
-use Rattle.std.proofs.lemmas.List.Sums.{sum_by-cons}
 use Rattle.cb_ptr.specs.declared.word.State.{State}
 use Rattle.cb_ptr.specs.declared.word.State.TheVariants as state
 use Rattle.cb_ptr.specs.Word.{len_of, place_of, state_of}
@@ -29,27 +27,27 @@ use Rattle.cb_mutate.specs.JobWrites.{TurnWrites}
 use Rattle.cb_rule.specs.declared.turn.Turn.{Turn}
 use Rattle.cb_rule.specs.declared.view.Stand.{Stand}
 use Rattle.cb_rule.specs.declared.view.View.{View}
-use Rattle.cb_rule.specs.Lists.{Each, Has}
-use Rattle.cb_rule.specs.Steps.{Knows, stand}
-use Rattle.cb_record.specs.Backs.{Backs, Enters, EntersAt, Tells, happened_at, happened_for, pins_at, pins_for, turn_at, turn_needed}
+use Rattle.cb_rule.specs.Lists.{Has}
+use Rattle.cb_rule.specs.Steps.{stand}
+use Rattle.cb_record.specs.Backs.{Backs, EntersAt, happened_at, pins_at, turn_at}
 use Rattle.cb_record.specs.Deeds.{Deed, deed, happened, happening}
 use Rattle.cb_record.specs.Lists.{HasOne, IsSublist, beside, both, ended}
 use Rattle.cb_record.specs.Needs.Need.{AFreed}
-use Rattle.cb_record.specs.Needs.{FindsEmpty, IsFreedAs, IsJobFor, IsTurnFor, Meets, need_of, own_job, peek_at, IsReadAs}
-use Rattle.cb_record.specs.Parts.{Grows, Part, grown, nothing_more, sum}
+use Rattle.cb_record.specs.Needs.{FindsEmpty, IsFreedAs, Meets, need_of, own_job, peek_at, IsReadAs}
+use Rattle.cb_record.specs.Parts.{Part, grown, nothing_more, sum}
 use Rattle.cb_record.specs.Told.{Told}
-use Rattle.cb_record.proofs.Laws.{backs_sum, grown-nothing_more, grown-sum, has_one_left, has_one_right, idle_backs}
-use Rattle.cb_shared.specs.Calls.{AsksFor, AtThis, EndsAtLast, IsAnswerTo, IsInVain, IsLack, ReadCallEnds, ReadGives, ReadsInPlace, TurnGives, WriteAnswers, WriteCallEnds, WriteFinds, SaysAs, the_handle, worn_once, written_once}
+use Rattle.cb_record.proofs.Laws.{backs_sum, grown-nothing_more, has_one_left, has_one_right}
+use Rattle.cb_shared.specs.Calls.{AsksFor, AtThis, IsAnswerTo, IsLack, ReadCallEnds, ReadGives, ReadsInPlace, TurnGives, WriteAnswers, WriteCallEnds, WriteFinds, SaysAs, the_handle, worn_once, written_once}
 use Rattle.cb_shared.specs.declared.answers.WriteAnswer.{WriteAnswer}
 use Rattle.cb_shared.specs.declared.answers.WriteAnswer.TheVariants as place
 use Rattle.cb_shared.specs.declared.reading.ReadAnswer.TheVariants as found
 use Rattle.cb_shared.specs.Reading.{FindsGone, IsReadHere, looked, looked_freed, read_once}
 use Rattle.cb_shared.specs.Turning.{DidAs, FindsAtLast, JobReads, TurnAdds, TurnBy, made_by_turn, turn_part}
-use Rattle.cb_shared.proofs.Laws.{freed_part, known_grown}
+use Rattle.cb_shared.proofs.Laws.{freed_part}
 use Rattle.cb_lanes.specs.Names.{IsOnObject}
 use Rattle.cb_lanes.specs.LineGoes.{CallGoes, LineGoes, job_of}
 use Rattle.cb_lanes.specs.Passing.{CallGives, IsNewestPin, IsNotPinned, LeaveGoes, PeekGoes, PinEnds, PinGoes, PinsAtLast, UnpinGoes, goes_in, peeks_of}
-use Rattle.cb_lanes.proofs.Backing.{idle_turns, vain_backs, behind_vain, ends_back, look_idle, IsByTurn, turn_backs, job_for, its_turn, its_swap, still_backs}
+use Rattle.cb_lanes.proofs.Backing.{vain_backs, behind_vain, ends_back, look_idle, IsByTurn, turn_backs, its_turn, its_swap, still_backs}
 pub use Rattle.cb_lanes.proofs.Backing.{Adds, adds_by, adds_grown, adds_pins, adds_none, adds_sum, adds_knows, one_backs, told_as, LineAdds}
 
 -- ---- a make

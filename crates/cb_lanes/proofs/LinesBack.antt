@@ -20,14 +20,12 @@ use Rattle.cb_rule.specs.Lists.{Has}
 use Rattle.cb_rule.specs.Steps.{Knows}
 use Rattle.cb_record.specs.Backs.{Backs}
 use Rattle.cb_record.specs.Parts.{Part, grown, nothing_more, sum}
-use Rattle.cb_record.specs.Told.{Told, told, tolds}
+use Rattle.cb_record.specs.Told.{told, tolds}
 use Rattle.cb_record.proofs.Laws.{backs_sum, idle_backs}
 use Rattle.cb_shared.specs.Calls.{TurnGives}
 use Rattle.cb_shared.specs.Joining.{unpinned_all}
-use Rattle.cb_shared.specs.Turning.{made_by_turn, with_own}
 use Rattle.cb_script.specs.declared.script.Line.{Line}
 use Rattle.cb_lanes.specs.declared.body.Named.{Named}
-use Rattle.cb_lanes.specs.Asked.{answer_to}
 use Rattle.cb_lanes.specs.Bodies.{AddsBacked, AnswersOne, AreNamesOf, KeepHandles, KnowsKept, LaneGoes, LinesGo, handle_among, handle_behind}
 use Rattle.cb_lanes.specs.LineGoes.{Goes, LineGoes}
 use Rattle.cb_lanes.specs.Names.{AreKept, KeptNames, kept_for, kept_number, number_after, request_handle}

@@ -1,5 +1,5 @@
 -- The answers of a lane's lines suit the handles of their names, and what its pass has read.
-use Rattle.std.proofs.Common.{◌≡◌, ◌≢◌, ℕ, false, List, [], ◌∷◌, ◌++◌, length, Option, None, Some, inl, inr, refl, sym, ap, ◌∙◌, append_assoc, subst}
+use Rattle.std.proofs.Common.{◌≡◌, ◌≢◌, ℕ, List, [], ◌∷◌, ◌++◌, length, Option, None, Some, inl, inr, refl, sym, ap, ◌∙◌, append_assoc, subst}
 use Rattle.std.specs.List.{AllByRecursion}
 use Rattle.std.proofs.lemmas.List.{append-nil}
 use Rattle.cb_types.specs.declared.answer.Answer.{Answer}
@@ -35,7 +35,7 @@ use Rattle.cb_lanes.specs.Asked.{HasLineReply}
 use Rattle.cb_lanes.specs.Bodies.{AreNamesOf, KnowsNames, LaneGoes, LinesGo, handle_behind}
 use Rattle.cb_lanes.specs.LineGoes.{CallGoes, LineGoes}
 use Rattle.cb_lanes.specs.Passing.{PeekGoes, PinEnds, PinGoes, UnpinGoes, goes_in}
-use Rattle.cb_lanes.specs.Suits.{AreSuited, IsSuited, Suits}
+use Rattle.cb_lanes.specs.Suits.{AreSuited, Suits}
 use Rattle.cb_lanes.proofs.FilterMade.{filter_made}
 use Rattle.cb_lanes.proofs.KnownBehind.{KnowsBehind, knows_first, knows_named, knows_next}
 use Rattle.cb_lanes.proofs.LineParts.{Adds, LineAdds, about, line_adds, make_handle, told_as}

@@ -10,9 +10,6 @@ use Rattle.cb_types.specs.declared.reply.Reply.{Reply}
 use Rattle.cb_types.specs.declared.reply.Reply.TheVariants as answer
 use Rattle.cb_model.specs.declared.object.Object.TheVariants.{Held, Freed}
 use Rattle.cb_model.specs.Now.{MapNow}
-use Rattle.cb_model.specs.Event.{Event}
-use Rattle.cb_model.specs.Event.Event.{Makes}
-use Rattle.cb_model.specs.Replies.{MapReplies}
 use Rattle.cb_mutate.specs.MapCalls.{IsMakeCall, IsValue}
 use Rattle.cb_world.specs.Now.{Now, now}
 use Rattle.cb_world.specs.Now.Now.{never, freed, held, gone}
@@ -22,7 +19,7 @@ use Rattle.cb_core.specs.declared.event.Atomic.TheVariants as atomic
 use Rattle.cb_core.specs.declared.event.Event.TheVariants as event
 use Rattle.cb_core.specs.declared.event.Event.TheVariants.{Turn}
 use Rattle.cb_core.specs.Jobs.{IsJob}
-use Rattle.cb_core.specs.Step.{Step, TurnStep, worn, done, held as other_holds, free}
+use Rattle.cb_core.specs.Step.{Step, worn, done, held as other_holds, free}
 use Rattle.cb_core.proofs.Laws.{make_turn, step_settings}
 use Rattle.cb_lanes.specs.declared.side.Side.{Side}
 use Rattle.cb_lanes.specs.GivingBack.{GivesAll}

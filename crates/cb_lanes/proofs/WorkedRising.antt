@@ -3,12 +3,10 @@ use Rattle.std.proofs.Common.{◌≡◌, ℕ, ◌≤◌, Bool, true, false, List
 use Rattle.std.specs.Prelude.{if◌then◌else◌}
 use Rattle.std.specs.Str.{bytes_eq}
 use Rattle.cb_types.specs.declared.answer.Answer.{Answer}
-use Rattle.cb_types.specs.declared.config.Config.{Config}
 use Rattle.cb_types.specs.declared.handle.Handle.{Handle}
-use Rattle.cb_types.specs.declared.job.Job.{Job}
 use Rattle.cb_types.specs.declared.job.Job.TheVariants as job
 use Rattle.cb_types.specs.declared.request.Request.{Request}
-use Rattle.cb_types.specs.declared.request.Request.TheVariants.{Make, Read, Pin, Peek}
+use Rattle.cb_types.specs.declared.request.Request.TheVariants.{Make, Pin, Peek}
 use Rattle.cb_types.specs.declared.reply.Reply.{Reply}
 use Rattle.cb_types.specs.declared.reply.Reply.TheVariants as answer
 use Rattle.cb_ptr.specs.Word.{len_of}
@@ -21,7 +19,7 @@ use Rattle.cb_rule.specs.declared.view.View.{View}
 use Rattle.cb_rule.specs.Own.{IsAlone}
 use Rattle.cb_rule.specs.Steps.{blank, stand, with_look, with_pin}
 use Rattle.cb_model.specs.Called.{calls_behind, first_of}
-use Rattle.cb_record.specs.Parts.{Part, grown, nothing_more, sum}
+use Rattle.cb_record.specs.Parts.{grown, nothing_more, sum}
 use Rattle.cb_record.specs.Rises.{HasVersion, RisesAlone}
 use Rattle.cb_shared.specs.Calls.{IsInVain}
 use Rattle.cb_shared.specs.Joining.{unpinned_all}

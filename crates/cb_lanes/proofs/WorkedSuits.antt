@@ -1,5 +1,5 @@
 -- Worked answers that suit the handle of their name and what was read, and what breaks that.
-use Rattle.std.proofs.Common.{◌≡◌, ℕ, false, [], ◌∷◌, None, Some, inl, refl, ⊎_elim, arith}
+use Rattle.std.proofs.Common.{◌≡◌, false, [], ◌∷◌, None, Some, inl, refl, ⊎_elim, arith}
 use Rattle.std.specs.Prelude.{codes}
 use Rattle.cb_types.specs.declared.reply.Reply.TheVariants.{Bytes, Freed, Full, NotPinned, Unmade}
 use Rattle.cb_types.specs.declared.request.Request.TheVariants.{Evict, Make, Peek, Read}
