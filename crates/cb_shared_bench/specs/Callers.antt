@@ -4,7 +4,7 @@ use Rattle.cb_member.specs.declared.no_memory.NoMemory.{NoMemory}
 use Rattle.cb_types.specs.declared.config.Config.{Config}
 use Rattle.cb_types.specs.declared.handle.Handle.{Handle}
 use Rattle.cb_types.specs.declared.job.Job.{Job}
-use Rattle.cb_types.specs.declared.job.Job.TheVariants.{Evict, Rebuild}
+use Rattle.cb_types.specs.declared.job.Job.TheVariants.{Abort, Begin, Evict, Rebuild}
 use Rattle.cb_types.specs.declared.reply.Reply.{Reply}
 use Rattle.cb_types.specs.declared.reply.Reply.TheVariants.{Made}
 use Rattle.cb_world.specs.World.{WorldState, IsSoundWorld}
@@ -32,6 +32,8 @@ IsToldMade r h = (version : ℕ) × (r ≡ Ok (Made h version))
 
 -- the job is about no object
 abbrev pub IsPlain : Job → Type 0
+IsPlain Abort = Unit {0}
+IsPlain Begin = Unit {0}
 IsPlain Evict = Unit {0}
 IsPlain Rebuild = Unit {0}
 IsPlain other = ⊥

@@ -8,7 +8,7 @@ ghost use Rattle.cb_shared_bench.specs.Callers.{IfPinned, IsCaller, IsPlain};
 use crate::deeds::{Deed, calls_of};
 use crate::objects::{BYTES, WORDS};
 use crate::replies::is_right;
-use crate::timing::{now, since};
+use crate::timing::{hold, now, since};
 use cb_shared::{Pass, Pin, PinAnswer, Shared, WriteAnswer};
 use cb_types::{Handle, Job};
 use std::alloc::Global;
@@ -99,7 +99,7 @@ fn read<R: Wait>(rt: &R, alloc: Global, shared: &Shared, pass: &mut Pass, h: Han
 }
 
 /// A turn that is about no object.
-fn turn<R: Wait>(
+pub(crate) fn turn<R: Wait>(
     rt: &R,
     alloc: Global,
     shared: &Shared,
@@ -134,7 +134,7 @@ fn call<R: Wait>(
         Deed::Look => look(shared, pass, h, 1),
         Deed::WriteShort => write(shared, pass, h, bytes.get(..8).unwrap_or(bytes)),
         Deed::WriteLong => write(shared, pass, h, bytes),
-        Deed::Read => read(rt, alloc, shared, pass, h),
+        Deed::Read | Deed::Await => read(rt, alloc, shared, pass, h),
         _ => turn(rt, alloc, shared, pass, h, &Job::Rebuild),
     }
 }
@@ -226,6 +226,24 @@ fn time_far_reads<R: Clock + Wait>(
     Some(sum)
 }
 
+/// Holds the batch for a while and gives it up; the time of both.
+fn time_hold<R: Clock + Wait>(
+    rt: &R,
+    alloc: Global,
+    shared: &Shared,
+    pass: &mut Pass,
+    h: Handle,
+) -> Option<u64>
+    requires caller { IsCaller shared.now h pass.old }
+{
+    let start = now(rt)?;
+    hold(rt);
+    if !turn(rt, alloc, shared, pass, h, &Job::Abort) {
+        return None;
+    }
+    since(rt, start)
+}
+
 /// The time of a slice's calls in nanoseconds.
 pub(crate) fn time<R: Clock + Wait>(
     rt: &R,
@@ -241,6 +259,7 @@ pub(crate) fn time<R: Clock + Wait>(
     match deed {
         Deed::Peek => time_peeks(rt, shared, pass, h),
         Deed::ReadFar => time_far_reads(rt, alloc, shared, pass, h),
+        Deed::Hold => time_hold(rt, alloc, shared, pass, h),
         _ => time_calls(rt, alloc, shared, pass, h, deed, &[seed; BYTES]),
     }
 }

@@ -1,13 +1,14 @@
-//! Threads that make the calls of a slice at once, each on an object of its own.
+//! Threads that make the calls of a slice at once, each on an object of its own, or that wait for
+//! one object of a batch that is leaving.
 ghost use Rattle.std.specs.Prelude.{◌<◌, All, IfSome};
 ghost use Rattle.cb_shared.specs.Passes.{IsPassOf};
 ghost use Rattle.cb_shared_bench.specs.Callers.{IsCaller};
 
-use crate::calls::time;
+use crate::calls::{time, turn};
 use crate::deeds::Deed;
 use crate::objects::{begun, object};
 use cb_shared::{Pass, Shared};
-use cb_types::Handle;
+use cb_types::{Handle, Job};
 use std::alloc::Global;
 use std::sync::Wait;
 use std::thread;
@@ -28,6 +29,7 @@ fn split(shared: &Shared, first: &mut Pass, h: Handle) -> Pass
     requires caller { IsCaller shared.now h first.old }
     requires share { 1 < first.old.seat.me.0.share }
     ensures of { IsPassOf shared.now first.new }
+    ensures left { IsCaller shared.now h first.new }
     ensures caller { IsCaller shared.now h result }
 {
     let _h = h;
@@ -109,6 +111,113 @@ fn deal<R: Wait>(
     Some(parts)
 }
 
+/// What one more thread is given on an object that the others have too.
+fn part_on(shared: &Shared, first: &mut Pass, h: Handle, deed: Deed) -> Option<Part>
+    requires caller { IsCaller shared.now h first.old }
+    ensures left { IsCaller shared.now h first.new }
+    ensures caller { IfSome result (λ x. IsCaller shared.now x.handle x.pass) }
+{
+    if first.share() > 1 {
+        Some(Part {
+            pass: split(shared, first, h),
+            handle: h,
+            deed,
+            seed: 1,
+        })
+    } else {
+        None
+    }
+}
+
+/// What one more thread is given on an object that the others have too; false where there is
+/// nothing to give.
+fn deal_same(
+    shared: &Shared,
+    first: &mut Pass,
+    h: Handle,
+    deed: Deed,
+    parts: &mut Vec<Part>,
+) -> bool
+    requires caller { IsCaller shared.now h first.old }
+    requires callers { All (λ x. IsCaller shared.now x.handle x.pass) parts.old.items }
+    ensures left { IsCaller shared.now h first.new }
+    ensures callers { All (λ x. IsCaller shared.now x.handle x.pass) parts.new.items }
+{
+    match part_on(shared, first, h, deed) {
+        Some(part) => parts.push(part).is_ok(),
+        None => false,
+    }
+}
+
+/// What so many threads are given on one object: the first holds its batch, and the others wait.
+fn deal_on(
+    alloc: Global,
+    shared: &Shared,
+    first: &mut Pass,
+    h: Handle,
+    threads: u32,
+) -> Option<Vec<Part>>
+    requires caller { IsCaller shared.now h first.old }
+    ensures callers { IfSome result (λ v.
+        All (λ x. IsCaller shared.now x.handle x.pass) v.items) }
+{
+    let mut parts = Vec::new(alloc);
+    for thread in 0..threads {
+        let deed = match thread {
+            0 => Deed::Hold,
+            _ => Deed::Await,
+        };
+        if !deal_same(shared, first, h, deed, &mut parts) {
+            return None;
+        }
+    }
+    Some(parts)
+}
+
+/// What each thread is given where a batch is leaving: one holds it, and so many wait for its
+/// object.
+fn deal_waiting<R: Wait>(
+    rt: &R,
+    alloc: Global,
+    shared: &Shared,
+    first: &mut Pass,
+    threads: u32,
+) -> Option<Vec<Part>>
+    requires of { IsPassOf shared.now first.old }
+    ensures callers { IfSome result (λ v.
+        All (λ x. IsCaller shared.now x.handle x.pass) v.items) }
+{
+    match object(rt, alloc, shared, first, Deed::Await) {
+        Some(h) => {
+            if turn(rt, alloc, shared, first, h, &Job::Begin) {
+                deal_on(alloc, shared, first, h, threads.saturating_add(1))
+            } else {
+                None
+            }
+        }
+        None => None,
+    }
+}
+
+/// What each thread is given for a deed.
+fn deal_for<R: Wait>(
+    rt: &R,
+    alloc: Global,
+    shared: &Shared,
+    first: &mut Pass,
+    deed: Deed,
+    threads: u32,
+) -> Option<Vec<Part>>
+    requires of { IsPassOf shared.now first.old }
+    ensures callers { IfSome result (λ v.
+        All (λ x. IsCaller shared.now x.handle x.pass) v.items) }
+{
+    match deed {
+        Deed::Await => deal_waiting(rt, alloc, shared, first, threads),
+        _ => deal(rt, alloc, shared, first, deed, threads),
+    }
+}
+
 /// The calls of one thread.
 fn work<R: Clock + Wait>(rt: &R, alloc: Global, shared: &Shared, part: Part) -> Option<u64>
     requires { IsCaller shared.now part.handle part.pass }
@@ -161,7 +270,7 @@ fn run<R: Clock + Threads + Wait + Sync>(
 ) -> Option<u64>
     requires of { IsPassOf shared.now first.old }
 {
-    let parts = deal(rt, alloc, shared, first, deed, threads)?;
+    let parts = deal_for(rt, alloc, shared, first, deed, threads)?;
     let times = scatter(rt, alloc, shared, parts)?;
     longest(times.as_slice())
 }

@@ -19,6 +19,10 @@ pub(crate) enum Deed {
     ReadFar,
     /// A turn that finds nothing to do.
     Turn,
+    /// A read of an object whose batch is leaving, until that is given up.
+    Await,
+    /// The batch, which is held for a while and then given up.
+    Hold,
     /// A read in a still world of an object that is here.
     StepRead,
     /// A read in a still world of an object that is far.
@@ -36,6 +40,7 @@ pub(crate) fn deed_of(word: &str) -> Option<Deed> {
         "read" => Some(Deed::Read),
         "far" => Some(Deed::ReadFar),
         "turn" => Some(Deed::Turn),
+        "waiting" => Some(Deed::Await),
         "stepread" => Some(Deed::StepRead),
         "stepfar" => Some(Deed::StepFar),
         _ => None,
@@ -51,5 +56,6 @@ pub(crate) fn calls_of(deed: Deed) -> u32 {
         Deed::WriteLong => 10_000,
         Deed::Read | Deed::StepRead | Deed::Turn => 40_000,
         Deed::ReadFar | Deed::StepFar => 500,
+        Deed::Await | Deed::Hold => 1,
     }
 }

@@ -1,7 +1,9 @@
 //! Times calls of the shared runtime for `bench/pins`. The words are what is timed (`pin`, `look`,
-//! `peek`, `write8`, `write1024`, `read`, `far`, `turn`, and `stepread` and `stepfar` for the same reads in a
-//! still world), how many threads make these calls, and how many slices are timed. It prints the
-//! least time of a call in picoseconds, over that many slices, or 0 where no slice is asked for.
+//! `peek`, `write8`, `write1024`, `read`, `far`, `turn`, `stepread` and `stepfar` for the same
+//! reads in a still world, and for `bench/waiting` `waiting`, reads of an object whose batch is
+//! leaving, and is given up only after 100 milliseconds), how many threads make these calls, and
+//! how many slices are timed. It prints the least time of a call in picoseconds, over that many
+//! slices, or 0 where no slice is asked for.
 #![tactic(auto)]
 
 mod calls;

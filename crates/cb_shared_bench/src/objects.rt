@@ -81,7 +81,7 @@ pub(crate) fn object<R: Wait>(
 {
     let bytes = [1u8; BYTES];
     let apart = match deed {
-        Deed::ReadFar => 0,
+        Deed::ReadFar | Deed::Await => 0,
         _ => APART,
     };
     for _ in 0..apart {

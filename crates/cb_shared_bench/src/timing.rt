@@ -1,5 +1,14 @@
 //! The clock. None is answered where there is none.
-use std::time::{Clock, Instant};
+use std::thread;
+use std::time::{Clock, Duration, Instant};
+
+/// How long a batch is held, in milliseconds.
+const HELD: u64 = 100;
+
+/// Sleeps as long as a batch is held.
+pub(crate) fn hold<R: Clock>(rt: &R) {
+    thread::sleep(rt, Duration::from_millis(HELD));
+}
 
 pub(crate) fn now<R: Clock>(rt: &R) -> Option<Instant> {
     Instant::now(rt).ok()
