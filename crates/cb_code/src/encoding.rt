@@ -4,11 +4,24 @@ ghost use Rattle.cb_gf256.specs.CodeWord.{IsCodeWord};
 ghost use Rattle.cb_gf256.specs.Combination.{AreCombinations};
 
 use crate::Coeffs;
-use cb_gf256::{NoMemory, Rows};
+use cb_gf256::{NoMemory, Rows, RowsRef};
 use std::alloc::Global;
 
 /// The parities of these data rows, as many as the code has. The only error is want of memory.
 pub fn encode(alloc: Global, c: &Coeffs, rows: &Rows) -> Result<Rows, NoMemory>
+    requires { HaveLength (length rows.now) c.now }
+    ensures sums { IfOk result (λ parities. AreCombinations c.now rows.now parities) }
+    ensures word { IfOk result (λ parities. IsCodeWord (length rows.now) (length c.now)
+        (rows.now ++ parities)) }
+    ensures only { IfOk result (λ parities. (others : List (List ℕ)) → HoldBytes others
+        → IsCodeWord (length rows.now) (length c.now) (rows.now ++ others) → others ≡ parities) }
+{
+    let borrowed = rows.borrowed();
+    encode_borrowed(alloc, c, &borrowed)
+}
+
+/// The same of data rows that somebody else has.
+pub fn encode_borrowed(alloc: Global, c: &Coeffs, rows: &RowsRef<'_>) -> Result<Rows, NoMemory>
     requires { HaveLength (length rows.now) c.now }
     ensures sums { IfOk result (λ parities. AreCombinations c.now rows.now parities) }
     ensures word { IfOk result (λ parities. IsCodeWord (length rows.now) (length c.now)

@@ -10,6 +10,6 @@ mod table;
 mod weighing;
 
 pub use laws::weight_laws;
-pub use solving::solve;
+pub use solving::{solve, solve_borrowed};
 pub use table::Weights;
 pub use weighing::weights;

@@ -16,7 +16,7 @@ ghost use Rattle.cb_erase.specs.TwoBlocks.{HasBytes};
 ghost use Rattle.cb_erase.specs.Closing.{sum_by, plain_sum, Closes};
 
 use crate::pair::{PAIR, Pair};
-use cb_gf256::{Factors, Products, Rows};
+use cb_gf256::{Factors, Products, Rows, RowsRef};
 
 /// Up to three sums of rows, each times its factor, and the plain sum of those rows, all of one
 /// pair of blocks.
@@ -59,7 +59,7 @@ fn with_pair<const M: usize>(
 fn kept_sums<const M: usize>(
     out: &mut Rows,
     products: &[[Products; 16]; 3],
-    rows: &Rows,
+    rows: &RowsRef<'_>,
     sources: &[u8],
     at: usize,
     len: usize,
@@ -140,7 +140,7 @@ fn restore_pairs<const M: usize>(
     out: &mut Rows,
     targets: &[u8],
     products: &[[Products; 16]; 3],
-    rows: &Rows,
+    rows: &RowsRef<'_>,
     sources: &[u8],
     len: usize,
 )
@@ -184,7 +184,7 @@ fn restore_whole(
     out: &mut Rows,
     targets: &[u8],
     table: &[[u8; 16]; 4],
-    rows: &Rows,
+    rows: &RowsRef<'_>,
     sources: &[u8],
     len: usize,
 )
@@ -223,7 +223,7 @@ pub(crate) fn restore(
     out: &mut Rows,
     targets: &[u8],
     table: &[[u8; 16]; 4],
-    rows: &Rows,
+    rows: &RowsRef<'_>,
     sources: &[u8],
 )
     requires in_range { IsInRange (length sources.now) (length targets.now) }

@@ -9,12 +9,32 @@ ghost use Rattle.cb_erase.specs.Weights.{IsSolution};
 use crate::lost::lost_positions;
 use crate::restoring::restore;
 use crate::weighing::factor_row;
-use cb_gf256::{NoMemory, Rows};
+use cb_gf256::{NoMemory, Rows, RowsRef};
 use std::alloc::Global;
 
 /// The code word that agrees with the rows at the `k` positions `present`; what the other rows
 /// hold does not matter. The only error is want of memory.
 pub fn solve(alloc: Global, k: u32, r: u32, rows: &Rows, present: &[u8]) -> Result<Rows, NoMemory>
+    requires in_range { IsInRange k r }
+    requires positions { ArePositions (k + r) k present.now }
+    requires count { length rows.now ≡ k + r }
+    ensures solution { IfOk result (λ word. IsSolution k r present.now
+        (rows_at rows.now present.now) word) }
+    ensures only { IfOk result (λ word. (other : List (List ℕ)) → HoldBytes other
+        → IsSolution k r present.now (rows_at rows.now present.now) other → other ≡ word) }
+{
+    let borrowed = rows.borrowed();
+    solve_borrowed(alloc, k, r, &borrowed, present)
+}
+
+/// The same of rows that somebody else has.
+pub fn solve_borrowed(
+    alloc: Global,
+    k: u32,
+    r: u32,
+    rows: &RowsRef<'_>,
+    present: &[u8],
+) -> Result<Rows, NoMemory>
     requires in_range { IsInRange k r }
     requires positions { ArePositions (k + r) k present.now }
     requires count { length rows.now ≡ k + r }

@@ -25,5 +25,5 @@ pub use laws::{field_laws, power_laws, powers_of_two, row_laws, sum_laws};
 pub use no_memory::NoMemory;
 pub use products::Products;
 pub use row::{axpy_row, xor_row};
-pub use rows::Rows;
+pub use rows::{Rows, RowsRef};
 pub use tables::logarithm;

@@ -9,7 +9,7 @@ ghost use Rattle.cb_gf256.specs.Placing.{Placed, Restored, AreDisjoint};
 
 use crate::factors::Factors;
 use crate::lanes::{BLOCK, block_at, put_block};
-use crate::rows::Rows;
+use crate::rows::{Rows, RowsRef};
 use crate::sums::{put_sums, set_column, with_products};
 use std::simd::prelude::*;
 
@@ -19,7 +19,7 @@ use std::simd::prelude::*;
 fn kept_block_sums<const R: usize>(
     out: &mut Rows,
     factors: &Factors,
-    rows: &Rows,
+    rows: &RowsRef<'_>,
     sources: &[u8],
     at: usize,
     len: usize,
@@ -54,7 +54,7 @@ fn restore_blocks<const R: usize>(
     out: &mut Rows,
     targets: &[u8],
     factors: &Factors,
-    rows: &Rows,
+    rows: &RowsRef<'_>,
     sources: &[u8],
     len: usize,
 )
@@ -83,7 +83,7 @@ fn restore_whole_blocks(
     out: &mut Rows,
     targets: &[u8],
     factors: &Factors,
-    rows: &Rows,
+    rows: &RowsRef<'_>,
     sources: &[u8],
     len: usize,
 )
@@ -110,7 +110,7 @@ fn restore_whole_blocks(
 }
 
 /// Copies one column of the rows at the sources.
-fn copy_column(out: &mut Rows, rows: &Rows, sources: &[u8], column: usize, len: usize)
+fn copy_column(out: &mut Rows, rows: &RowsRef<'_>, sources: &[u8], column: usize, len: usize)
     requires ascending { IsStrictlyIncreasing sources.now }
     requires sources { All (λ p. p < length rows.now) sources.now }
     requires below { All (λ p. p < length out.old) sources.now }
@@ -132,7 +132,7 @@ fn restore_rest(
     out: &mut Rows,
     targets: &[u8],
     factors: &Factors,
-    rows: &Rows,
+    rows: &RowsRef<'_>,
     sources: &[u8],
     from: usize,
     len: usize,
@@ -163,7 +163,7 @@ impl Rows {
     /// Makes the rows at `sources` copies of those of `rows`, and the rows at `targets` sums of
     /// them: row j of the factors has the factor of each source in the row at target j. All other
     /// rows stay.
-    pub fn restore(&mut self, targets: &[u8], factors: &Factors, rows: &Rows, sources: &[u8])
+    pub fn restore(&mut self, targets: &[u8], factors: &Factors, rows: &RowsRef<'_>, sources: &[u8])
         requires some { 0 < length sources.now }
         requires few { length sources.now ≤ 16 }
         requires height { length targets.now ≡ length factors.now }

@@ -11,7 +11,7 @@ ghost use Rattle.cb_gf256.specs.Placing.{Placed, Combined};
 
 use crate::factors::Factors;
 use crate::lanes::{BLOCK, add_blocks, block_at, put_block};
-use crate::rows::Rows;
+use crate::rows::{Rows, RowsRef};
 use std::simd::prelude::*;
 
 /// Adds to each of the sums a block, times its factor for place `i`.
@@ -41,7 +41,7 @@ pub(crate) fn with_products<const R: usize>(
 #[inline(always)]
 fn block_sums<const R: usize>(
     factors: &Factors,
-    rows: &Rows,
+    rows: &RowsRef<'_>,
     sources: &[u8],
     at: usize,
     len: usize,
@@ -91,7 +91,7 @@ fn set_blocks<const R: usize>(
     out: &mut Rows,
     targets: &[u8],
     factors: &Factors,
-    rows: &Rows,
+    rows: &RowsRef<'_>,
     sources: &[u8],
     len: usize,
 )
@@ -120,7 +120,7 @@ fn set_whole_blocks(
     out: &mut Rows,
     targets: &[u8],
     factors: &Factors,
-    rows: &Rows,
+    rows: &RowsRef<'_>,
     sources: &[u8],
     len: usize,
 )
@@ -145,7 +145,7 @@ fn set_whole_blocks(
 }
 
 /// The byte at a column of sum `j`.
-fn sum_at(factors: &Factors, j: usize, rows: &Rows, sources: &[u8], column: usize) -> u8
+fn sum_at(factors: &Factors, j: usize, rows: &RowsRef<'_>, sources: &[u8], column: usize) -> u8
     requires few { (j < 4) × (length sources.now ≤ 16) }
     requires height { j < length factors.now }
     requires width { HaveLength (length sources.now) factors.now }
@@ -167,7 +167,7 @@ pub(crate) fn set_column(
     out: &mut Rows,
     targets: &[u8],
     factors: &Factors,
-    rows: &Rows,
+    rows: &RowsRef<'_>,
     sources: &[u8],
     column: usize,
     len: usize,
@@ -195,7 +195,7 @@ fn set_rest(
     out: &mut Rows,
     targets: &[u8],
     factors: &Factors,
-    rows: &Rows,
+    rows: &RowsRef<'_>,
     sources: &[u8],
     from: usize,
     len: usize,
@@ -220,7 +220,13 @@ fn set_rest(
 impl Rows {
     /// Makes the rows at `targets` sums of the rows of `rows` at `sources`: row j of the factors
     /// has the factor of each source in the row at target j. All other rows stay.
-    pub fn set_sums(&mut self, targets: &[u8], factors: &Factors, rows: &Rows, sources: &[u8])
+    pub fn set_sums(
+        &mut self,
+        targets: &[u8],
+        factors: &Factors,
+        rows: &RowsRef<'_>,
+        sources: &[u8],
+    )
         requires some { 0 < length sources.now }
         requires few { length sources.now ≤ 16 }
         requires height { length targets.now ≡ length factors.now }

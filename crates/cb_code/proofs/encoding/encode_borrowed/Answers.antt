@@ -1,7 +1,7 @@
 use Rattle.std.proofs.Common.{◌≡◌, length, replicate, ap, sym, refl, ◌∙◌, arith}
 use Rattle.std.proofs.lemmas.List.{length-replicate}
 use Rattle.cb_code.proofs.Tables.{fits, only_coded, combinations_of_all}
-use Rattle.cb_code.proofs.encoding.encode.Goals as goal
+use Rattle.cb_code.proofs.encoding.encode_borrowed.Goals as goal
 
 pub returns-clause-sums : goal.returns-clause-sums
 returns-clause-sums c =

@@ -9,7 +9,7 @@ use Rattle.cb_gf256.specs.Split.{Splits}
 use Rattle.cb_gf256.specs.InRange.{IsInRange}
 use Rattle.cb_gf256.proofs.PublicLaws.{split_of_same, corner_count, corner_byte, corner_lengths}
 use Rattle.cb_erase.proofs.Words.{IsWordSolved, made_solution, only_solution}
-use Rattle.cb_erase.proofs.solving.solve.Goals as goal
+use Rattle.cb_erase.proofs.solving.solve_borrowed.Goals as goal
 
 lost_count : (r : ℕ) (positions : List ℕ) → length positions ≡ 4 → r ≤ 4 → length (take r positions) ≡ r
 lost_count r positions size few = length-take-le r positions (omega arith)
