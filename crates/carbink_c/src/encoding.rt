@@ -4,10 +4,10 @@ ghost use Rattle.cb_gf256.specs.InRange.{IsInRange};
 ghost use Rattle.carbink_c.specs.Status.{Ends, IsNumberOf};
 ghost use Rattle.carbink_c.specs.Made.{AreParities};
 
-use crate::buffers::{put_rows, rows_of, size_of_rows};
+use crate::buffers::{put_rows, size_of_rows};
 use crate::status::{Status, refused_shape};
-use cb_code::{coefficients, encode};
-use cb_gf256::NoMemory;
+use cb_code::{coefficients, encode_borrowed};
+use cb_gf256::{NoMemory, RowsRef};
 use std::alloc::Global;
 
 /// Makes the `r` parities of `k` data rows of `len` bytes each: `given` has the data rows one after
@@ -65,8 +65,8 @@ fn put_parities(
         (AreParities k r (cut_rows k len given.now) (cut_rows r len parities.new)) }
     ensures error { OnErr result (parities.new ≡ parities.old) }
 {
-    let rows = rows_of(alloc, k, len, given)?;
-    let made = encode(alloc, &coefficients(k, r), &rows)?;
+    let rows = RowsRef::of(k, len, given);
+    let made = encode_borrowed(alloc, &coefficients(k, r), &rows)?;
     put_rows(&made, len, parities);
     Ok(())
 }

@@ -7,10 +7,10 @@ ghost use Rattle.cb_gf256.specs.Rows.{rows_at};
 ghost use Rattle.carbink_c.specs.Status.{Ends, IsNumberOf};
 ghost use Rattle.carbink_c.specs.Made.{IsOnlySolution};
 
-use crate::buffers::{put_rows, rows_of, size_of_rows};
+use crate::buffers::{put_rows, size_of_rows};
 use crate::status::{Status, refused_shape};
-use cb_erase::solve;
-use cb_gf256::NoMemory;
+use cb_erase::solve_borrowed;
+use cb_gf256::{NoMemory, RowsRef};
 use std::alloc::Global;
 
 /// Makes the rows again that are lost: `rows` has `k + r` rows of `len` bytes, of which those at
@@ -104,8 +104,8 @@ fn put_word(
         (rows_at (cut_rows (k + r) len rows.old) present.now) (cut_rows (k + r) len rows.new)) }
     ensures error { OnErr result (rows.new ≡ rows.old) }
 {
-    let shown = rows_of(alloc, k + r, len, rows)?;
-    let word = solve(alloc, k, r, &shown, present)?;
+    let shown = RowsRef::of(k + r, len, rows);
+    let word = solve_borrowed(alloc, k, r, &shown, present)?;
     put_rows(&word, len, rows);
     Ok(())
 }

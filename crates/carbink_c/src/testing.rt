@@ -5,10 +5,10 @@ ghost use Rattle.cb_gf256.specs.InRange.{IsInRange};
 ghost use Rattle.carbink_c.specs.Status.{Ends, IsNumberOf};
 ghost use Rattle.carbink_c.specs.Made.{TellsWord};
 
-use crate::buffers::{rows_of, same_rows, size_of_rows};
+use crate::buffers::{same_rows, size_of_rows};
 use crate::status::{Status, refused_shape};
-use cb_code::{coefficients, encode};
-use cb_gf256::NoMemory;
+use cb_code::{coefficients, encode_borrowed};
+use cb_gf256::{NoMemory, RowsRef};
 use std::alloc::Global;
 
 /// Tells whether `k + r` rows of `len` bytes, data rows and then parities, are a code word: sets
@@ -65,7 +65,7 @@ pub(crate) fn are_word(
     ensures { IfOk result (λ are. IsTrue are ↔ IsCodeWord k r (cut_rows (k + r) len rows.now)) }
 {
     let (front, behind) = rows.split_at(size_of_rows(k, len));
-    let given = rows_of(alloc, k, len, front)?;
-    let parities = encode(alloc, &coefficients(k, r), &given)?;
+    let given = RowsRef::of(k, len, front);
+    let parities = encode_borrowed(alloc, &coefficients(k, r), &given)?;
     Ok(same_rows(&parities, len, behind))
 }
