@@ -5,7 +5,7 @@ ghost use Rattle.cb_gf256.specs.Lagrange.{IsLagrangeFactor};
 ghost use Rattle.cb_gf256.specs.InRange.{IsInRange};
 ghost use Rattle.cb_code.specs.Coefficients.{AreCoefficients};
 
-use cb_gf256::{Factors, lagrange_factor};
+use cb_gf256::{Factors, factor_by, own_inverse};
 use std::marker::Model;
 
 /// The coefficients of a code: parity j is the sum over the data positions i of `at(j, i)` times
@@ -66,9 +66,10 @@ fn coefficient_row(k: u32, lost: &[u8], j: usize) -> [u8; 16]
         → IsLagrangeFactor (length lost.now) (λ m. slice_index lost.now m) j i
         (slice_index result i) }
 {
+    let inverse = own_inverse(lost, j);
     let mut row = [0; 16];
     for i in 0..k {
-        row[i as usize] = lagrange_factor(lost, j, i as u8);
+        row[i as usize] = factor_by(lost, j, inverse, i as u8);
     }
     row
 }

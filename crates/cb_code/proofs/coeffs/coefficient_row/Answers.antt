@@ -8,6 +8,6 @@ pub loop-i-preserved : goal.loop-i-preserved
 loop-i-preserved c =
     let lost = c.args.lost.now in
     let i = c.loop-i.i in (
-      length-set c.loop-i.row i c.lagrange_factor.result ∙ c.loop-i.invariant.0,
-      below_more_set (λ m x. IsLagrangeFactor (length lost) (λ e. get_or lost e 0) c.args.j m x) c.loop-i.row i c.lagrange_factor.result 0 (omega arith) c.loop-i.invariant.1 c.lagrange_factor.ensures,
+      length-set c.loop-i.row i c.factor_by.result ∙ c.loop-i.invariant.0,
+      below_more_set (λ m x. IsLagrangeFactor (length lost) (λ e. get_or lost e 0) c.args.j m x) c.loop-i.row i c.factor_by.result 0 (omega arith) c.loop-i.invariant.1 c.factor_by.ensures,
     )
