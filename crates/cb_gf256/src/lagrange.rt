@@ -8,19 +8,6 @@ ghost use Rattle.cb_gf256.specs.Lagrange.{differences, points, IsLagrangeFactor}
 use crate::field::{add, inv, mul};
 use crate::tables::power_of_two;
 
-/// The factor of the row at position `p` in the row at `lost[e]`, where the rows at the positions
-/// `lost` are restored from all others.
-/// It is Lagrange's: the product, over the other lost positions m, of (2^p - 2^m) / (2^lost[e] -
-/// 2^m).
-pub fn lagrange_factor(lost: &[u8], e: usize, p: u8) -> u8
-    requires ascending { IsStrictlyIncreasing lost.now }
-    requires below { All (λ m. m < 255) lost.now }
-    requires within { e < length lost.now }
-    ensures { IsLagrangeFactor (length lost.now) (λ m. slice_index lost.now m) e p result }
-{
-    factor_by(lost, e, own_inverse(lost, e), p)
-}
-
 /// The inverse of what each factor in the row at `lost[e]` is divided by: of the product, over the
 /// other lost positions m, of 2^lost[e] - 2^m.
 pub fn own_inverse(lost: &[u8], e: usize) -> u8
@@ -33,8 +20,10 @@ pub fn own_inverse(lost: &[u8], e: usize) -> u8
     inv(product_of_differences(lost, e, power_of_two(usize::from(lost[e]))))
 }
 
-/// The same factor as `lagrange_factor`, by the inverse that all factors in the row at `lost[e]`
-/// share.
+/// The factor of the row at position `p` in the row at `lost[e]`, where the rows at the positions
+/// `lost` are restored from all others, by the inverse that all factors in that row share.
+/// It is Lagrange's: the product, over the other lost positions m, of (2^p - 2^m) / (2^lost[e] -
+/// 2^m).
 pub fn factor_by(lost: &[u8], e: usize, own_inverse: u8, p: u8) -> u8
     requires inverse { differences (length lost.now) (points (λ m. slice_index lost.now m)) e
         (power 2 (slice_index lost.now e)) ⊗ own_inverse ≡ 1 }

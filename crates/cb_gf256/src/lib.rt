@@ -19,7 +19,7 @@ mod tables;
 pub use erasures::{code_laws, corner_laws, polynomial_laws, restoring_laws, split_laws};
 pub use factors::Factors;
 pub use field::{add, inv, mul, pow};
-pub use lagrange::{factor_by, lagrange_factor, own_inverse};
+pub use lagrange::{factor_by, own_inverse};
 pub use lanes::{BLOCK, add_blocks, block_at, is_zero_block, put_block};
 pub use laws::{field_laws, power_laws, powers_of_two, row_laws, sum_laws};
 pub use no_memory::NoMemory;
