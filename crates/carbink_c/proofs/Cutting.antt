@@ -2,10 +2,10 @@
 use Rattle.std.proofs.Common.{◌≡◌, ℕ, Bool, true, false, zero, suc, ◌+◌, ◌-◌, ◌*◌, ◌^◌, ◌<◌, ◌≤◌, List, [], ◌∷◌, ◌++◌, length, take, drop, get_or, replicate, set, All, refl, sym, ap, ap₂, ◌∙◌, subst, arith}
 use Rattle.std.specs.List.{concat}
 use Rattle.std.proofs.Math.Nat.{add-mul, suc-mul, zero-add, zero-mul, add_comm, mul-le-mul_right}
-use Rattle.std.proofs.lemmas.List.{length-take-le, length-drop, drop-drop, drop-take, get_or_default, take-take, take_at, drop_at, append-nil, length-set, length-replicate, take_all, take_more, take_more_set}
+use Rattle.std.proofs.lemmas.List.{length-take-le, length-drop, drop-drop, drop-take, get_or_default, take-take, take-append-drop, take_at, drop_at, append-nil, length-set, length-replicate, take_all, take_more, take_more_set}
 use Rattle.std.proofs.lemmas.List.Folds.{concat-append}
 use Rattle.std.proofs.lemmas.List.Elements.{All-cons, All-drop, All-replicate, All-set, All-take}
-use Rattle.std.proofs.lemmas.Slice.{take-put_mid}
+use Rattle.std.proofs.lemmas.Slice.{take-put_mid, drop-put_mid}
 use Rattle.std.proofs.lemmas.Slice.Eq.{bytes_eq-Decides}
 use Rattle.std.proofs.Math.Bool.{not}
 use Rattle.std.specs.Str.{bytes_eq}
@@ -101,6 +101,33 @@ filled_all len i rows block all lengths sized front =
     let whole : take (length rows * len) block ≡ concat (take (length rows) rows) = subst (λ (n : ℕ). take (n * len) block ≡ concat (take n rows)) all front in
     let is : block ≡ concat rows = sym (take_all (length rows * len) block (omega (arith, sized))) ∙ whole ∙ ap concat (take_all (length rows) rows (omega arith)) in
     ap (cut_rows (length rows) len) is ∙ cut_joined len rows lengths
+
+-- row i stands in the block already
+pub filled_kept : (len i : ℕ) (rows : List (List ℕ)) (old block : List ℕ) → i < length rows → row_at (cut_rows (length rows) len old) i ≡ row_at rows i
+    → take (i * len) block ≡ concat (take i rows) → drop (i * len) block ≡ drop (i * len) old → take ((i + 1) * len) block ≡ concat (take (i + 1) rows)
+filled_kept len i rows old block within stands front behind =
+    let next : (i + 1) * len ≡ i * len + len = ap (λ n. n * len) (omega arith) ∙ suc-mul i len in
+    let part : take len (drop (i * len) block) ≡ row_at rows i = ap (take len) behind ∙ sym (cut_row (length rows) len old i within) ∙ stands in
+    ap (λ n. take n block) next
+    ∙ sym (take-append-drop (i * len) (take (i * len + len) block))
+    ∙ ap₂ ◌++◌ (take-take (i * len) (i * len + len) block (omega arith) ∙ front) (drop-take (i * len) len block ∙ part)
+    ∙ sym (concat_more (take i rows) (row_at rows i)) ∙ ap concat (sym (take_more rows i [] within))
+
+-- what lies behind row i is as it was
+pub behind_more : (len i : ℕ) (old block : List ℕ) → drop (i * len) block ≡ drop (i * len) old → drop ((i + 1) * len) block ≡ drop ((i + 1) * len) old
+behind_more len i old block behind =
+    let next : (i + 1) * len ≡ i * len + len = ap (λ n. n * len) (omega arith) ∙ suc-mul i len in
+    ap (λ n. drop n block) next ∙ sym (drop-drop len (i * len) block) ∙ ap (drop len) behind ∙ drop-drop len (i * len) old ∙ ap (λ n. drop n old) (sym next)
+
+pub behind_put : (len i k : ℕ) (rows : List (List ℕ)) (old block row : List ℕ) → i < length rows → HaveLength len rows → length block ≡ length rows * len → row ≡ row_at rows i
+    → k ≡ i * len + len - i * len → drop (i * len) block ≡ drop (i * len) old → drop ((i + 1) * len) (put_mid (i * len) k block row) ≡ drop ((i + 1) * len) old
+behind_put len i k rows old block row within lengths sized is wide behind =
+    let long : length row ≡ len = ap length is ∙ lengths i [] within in
+    let width : k ≡ len = wide ∙ omega arith in
+    let inside : i * len + len ≤ length block = omega (arith, row_inside (length rows) len i within, sized) in
+    let next : (i + 1) * len ≡ i * len + len = ap (λ n. n * len) (omega arith) ∙ suc-mul i len in
+    drop-put_mid (i * len) k block row ((i + 1) * len) (omega (arith, next, width)) (omega (arith, inside)) (long ∙ sym width)
+    ∙ behind_more len i old block behind
 
 -- ---- rows that are filled from a block
 

@@ -1,6 +1,7 @@
 -- What the calls make of the rows of a buffer.
-use Rattle.std.proofs.Common.{◌≡◌, ℕ, ◌+◌, ◌-◌, ◌*◌, ◌^◌, ◌<◌, ◌≤◌, Bool, List, [], ◌++◌, length, take, drop, get_or, All, sym, ap, ap₂, ◌∙◌, subst, arith}
+use Rattle.std.proofs.Common.{◌≡◌, ℕ, ◌+◌, ◌-◌, ◌*◌, ◌^◌, ◌<◌, ◌≤◌, Bool, List, [], ◌++◌, length, take, drop, get_or, All, Contains, sym, ap, ap₂, ◌∙◌, subst, arith}
 use Rattle.std.specs.Bool.{IsTrue}
+use Rattle.std.proofs.lemmas.List.{get_or_default}
 use Rattle.std.proofs.lemmas.List.Elements.{All-drop, All-set}
 use Rattle.cb_gf256.specs.Rows.{row_at, rows_at, HaveLength, HoldBytes, AreRows}
 use Rattle.cb_gf256.specs.Block.{cut_rows}
@@ -130,6 +131,13 @@ module _ (k r len : ℕ) (old present : List ℕ) (shown word : List (List ℕ))
       let long : length (row_at word first) ≡ len = ap length at ∙ ap (λ xs. length (row_at xs first)) are ∙ cut_long (k + r) len old first below sized in
       let same : length (row_at word first) ≡ length (row_at word 0) = lens first [] (omega (arith, solution.is_word.count, below)) in
       subst (λ n. HaveLength n word) (sym same ∙ long) lens
+
+  -- a row at a present position is the one that was given
+  pub present_stands : (i : ℕ) → i < length word → Contains present i → row_at (cut_rows (length word) len old) i ≡ row_at word i
+  present_stands i below (m, within, at) =
+      let is : get_or present m 0 ≡ i = get_or_default present m 0 i within ∙ at in
+      ap (λ n. row_at (cut_rows n len old) i) solution.is_word.count ∙ ap (λ xs. row_at xs i) (sym are) ∙ ap (row_at shown) (sym is)
+      ∙ sym (row_at_positions shown present m within) ∙ ap (λ xs. row_at xs m) (sym solution.agrees) ∙ row_at_positions word present m within ∙ ap (row_at word) is
 
   pub solution_made : (now : List ℕ) → cut_rows (length word) len now ≡ word → ((other : List (List ℕ)) → HoldBytes other → IsSolution k r present (rows_at shown present) other → other ≡ word)
       → IsOnlySolution k r present (rows_at (cut_rows (k + r) len old) present) (cut_rows (k + r) len now)

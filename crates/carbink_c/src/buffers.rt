@@ -1,7 +1,7 @@
 //! Rows in a buffer of the caller, one after another.
-ghost use Rattle.std.specs.Prelude.{◌≡◌, ◌*◌, ◌↔◌, length, IfOk, IsTrue};
+ghost use Rattle.std.specs.Prelude.{◌≡◌, ℕ, ◌*◌, ◌<◌, ◌≤◌, ◌↔◌, length, Contains, IfOk, IsTrue};
 ghost use Rattle.cb_gf256.specs.Block.{cut_rows};
-ghost use Rattle.cb_gf256.specs.Rows.{HaveLength, HoldBytes};
+ghost use Rattle.cb_gf256.specs.Rows.{row_at, HaveLength, HoldBytes};
 
 use cb_gf256::{NoMemory, Rows};
 use std::alloc::Global;
@@ -39,6 +39,25 @@ pub(crate) fn put_rows(rows: &Rows, len: u32, buffer: &mut [u8])
     for i in 0..written {
         let start = i as usize * len;
         buffer[start..start + len].copy_from_slice(rows.row(i));
+    }
+}
+
+/// Writes those rows over a buffer that are at none of these positions; the others stand in it.
+pub(crate) fn put_others(rows: &Rows, len: u32, positions: &[u8], buffer: &mut [u8])
+    requires few { length rows.now ≤ 255 }
+    requires lengths { HaveLength len rows.now }
+    requires size { length buffer.old ≡ length rows.now * len }
+    requires stand { (i : ℕ) → i < length rows.now → Contains positions.now i
+        → row_at (cut_rows (length rows.now) len buffer.old) i ≡ row_at rows.now i }
+    ensures { cut_rows (length rows.now) len buffer.new ≡ rows.now }
+{
+    let count = rows.count();
+    let len = len as usize;
+    for i in 0..count {
+        let start = i as usize * len;
+        if !positions.contains(&(i as u8)) {
+            buffer[start..start + len].copy_from_slice(rows.row(i));
+        }
     }
 }
 

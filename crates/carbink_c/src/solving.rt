@@ -7,7 +7,7 @@ ghost use Rattle.cb_gf256.specs.Rows.{rows_at};
 ghost use Rattle.carbink_c.specs.Status.{Ends, IsNumberOf};
 ghost use Rattle.carbink_c.specs.Made.{IsOnlySolution};
 
-use crate::buffers::{put_rows, size_of_rows};
+use crate::buffers::{put_others, size_of_rows};
 use crate::status::{Status, refused_shape};
 use cb_erase::solve_borrowed;
 use cb_gf256::{NoMemory, RowsRef};
@@ -106,6 +106,6 @@ fn put_word(
 {
     let shown = RowsRef::of(k + r, len, rows);
     let word = solve_borrowed(alloc, k, r, &shown, present)?;
-    put_rows(&word, len, rows);
+    put_others(&word, len, present, rows);
     Ok(())
 }
