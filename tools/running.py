@@ -60,10 +60,10 @@ class Words(argparse.ArgumentParser):
         self.add_argument("-h", "--help", action="store_true")
 
     def read(self, words):
-        """The words' values; None where they ask for the page, which is put then."""
+        """The words' values. Where they ask for the page it is put, and the tool ends."""
         if "-h" in words or "--help" in words:
             put(self.page)
-            return None
+            raise Ending("", 0)
         return self.parse_args(words)
 
     def error(self, message):
