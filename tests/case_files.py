@@ -10,9 +10,13 @@ PACKED_FROM = 20000
 
 
 def write_case(path, data, told, called=(), status=0, packed_from=PACKED_FROM):
-    """The case of this path: its input, what is printed, the words but for `seq`, and the status but for 0."""
-    packed = len(data) > packed_from
-    parts = {".in.gz" if packed else ".in": gzip.compress(data, mtime=0) if packed else data, ".out": told.encode()}
+    """The case of this path: its input, what is printed, the words but for `seq`, and the status but
+    for 0."""
+    parts = {".out": told.encode()}
+    if len(data) > packed_from:
+        parts[".in.gz"] = gzip.compress(data, mtime=0)
+    else:
+        parts[".in"] = data
     if called:
         parts[".words"] = "".join(word + "\n" for word in called).encode()
     if status:
@@ -24,8 +28,8 @@ def write_case(path, data, told, called=(), status=0, packed_from=PACKED_FROM):
 
 
 def run_model(page, command, answer, cases, packed_from=PACKED_FROM):
-    """What a model does by its words: without any it answers standard input and ends as the program would, and with
-    `make DIR` it writes its cases, a name and an input each."""
+    """What a model does by its words: without any it answers standard input and ends as the program
+    would, and with `make DIR` it writes its cases, a name and an input each."""
     reader = usage.reader(page)
     reader.add_argument("make", nargs="?", choices=["make"])
     reader.add_argument("folder", metavar="DIR", nargs="?")

@@ -1,5 +1,8 @@
-"""The words of the scripts of tests/ and bench/, and the programs that they run. --help prints a script's page and ends it
-with 0; words that it does not take end it with its usage, what is wrong with them, and 2."""
+"""The words of the scripts of tests/ and bench/, and the programs that they run.
+
+--help prints a script's page and ends it with 0; words that it does not take end it with its usage,
+what is wrong with them, and 2.
+"""
 import argparse
 import os
 import shutil
@@ -12,7 +15,8 @@ BUILT = os.path.join(TOP, "build", "carbink")
 
 def reader(page):
     """A reader of words, to which a script adds what it takes."""
-    return argparse.ArgumentParser(description=page, allow_abbrev=False, formatter_class=argparse.RawDescriptionHelpFormatter)
+    return argparse.ArgumentParser(description=page, allow_abbrev=False,
+                                   formatter_class=argparse.RawDescriptionHelpFormatter)
 
 
 def read_none(page):
@@ -53,18 +57,21 @@ def text(reader, path):
 
 
 def proved():
-    """The proved program, which ./prove builds where it is not built from the sources as they stand."""
-    if subprocess.run([os.path.join(TOP, "prove")], stdin=subprocess.DEVNULL, check=False).returncode != 0:
+    """The proved program, which ./prove builds where it is not that of the sources."""
+    ran = subprocess.run([os.path.join(TOP, "prove")], stdin=subprocess.DEVNULL, check=False)
+    if ran.returncode != 0:
         sys.exit("the program was not built")
     return BUILT
 
 
 def crates_program(crate, place, *words, target=()):
-    """A copy in this place of the program of a crate, which is proved and built for the target where it is not built from
-    the sources as they stand, and run once with these words."""
-    folder, quiet = os.path.join(TOP, "crates", crate), dict.fromkeys(("stdin", "stdout", "stderr"), subprocess.DEVNULL)
+    """A copy in this place of the program of a crate, which is proved and built for the target where
+    it is not built from the sources as they stand, and run once with these words."""
+    folder = os.path.join(TOP, "crates", crate)
+    quiet = dict.fromkeys(("stdin", "stdout", "stderr"), subprocess.DEVNULL)
     if not shutil.which("rt"):
-        sys.exit("the command rt, of the Rattle toolchain, is not on the PATH: it proves and builds the program")
-    if subprocess.run(["rt", "run", *target, "--", *words], cwd=folder, check=False, **quiet).returncode != 0:
+        sys.exit("the command rt, of the Rattle toolchain, is not on the PATH: it builds the program")
+    ran = subprocess.run(["rt", "run", *target, "--", *words], cwd=folder, check=False, **quiet)
+    if ran.returncode != 0:
         sys.exit(f"the program of {crate} was not built: rt run in crates/{crate} tells why")
     return shutil.copy(os.path.join(folder, "out", crate), place)
