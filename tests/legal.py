@@ -19,6 +19,7 @@ stand what else is asked of the runs:
 tests/threads has some runs of storms in the gate."""
 import multiprocessing
 import os
+import shutil
 import subprocess
 import sys
 import tempfile
@@ -28,6 +29,7 @@ from functools import partial
 
 HERE = os.path.dirname(os.path.realpath(__file__))
 sys.path.insert(0, HERE)
+import usage  # noqa: E402
 from judge import Script, judge, output_of_lines  # noqa: E402
 from drawn_threads import KINDS, drawn_script  # noqa: E402
 from model import run  # noqa: E402
@@ -69,8 +71,6 @@ def show(text, told, breaches):
 
 def places_of(processors, each):
     """The processors of each of the runs that stand side by side."""
-    if each > len(processors):
-        raise ValueError(f"there are {len(processors)} processors")
     if each == 0:
         # A run has up to twenty threads of its own, so few of them stand side by side.
         return [processors] * max(1, len(processors) // 2)
@@ -158,35 +158,47 @@ def try_judge():
     return 1 if failed else 0
 
 
-def asked_of(words):
-    """What is asked of drawn runs: how many, from which seed on, and how each is made."""
-    asked = {"kind": "mixed", "lines": 0, "processors": 0, "seconds": 120}
-    while len(words) > 2 and words[-2][:2] == "--" and words[-2][2:] in asked:
-        name, value = words[-2][2:], words[-1]
-        asked[name] = value if name == "kind" else int(value)
-        words = words[:-2]
-    if asked["kind"] not in KINDS or not 1 <= len(words) <= 4:
-        raise ValueError(f"the kinds are {', '.join(KINDS)}")
-    usual = ["1", "0", "threads", os.path.join(HERE, "..", "carbink")]
-    count, seed, asked["word"], asked["program"] = words + usual[len(words):]
-    return int(count), int(seed), asked
-
-
-def main():
-    words = sys.argv[1:]
+def judge_files(reader, script, output):
+    """Judges one output."""
+    script, told = (usage.text(reader, name) for name in (script, output))
     try:
-        if words == ["--self"]:
-            return try_judge()
-        if words[:1] == ["--count"]:
-            return run_drawn(*asked_of(words[1:]))
-        script, told = (open(name, encoding="utf-8").read() for name in words)
         script = Script(script)
-    except ValueError as error:
-        print(__doc__, error, sep="\n", file=sys.stderr)
-        return 64
+    except (IndexError, KeyError, ValueError):
+        reader.error("the first file is no script that threads run")
     breaches = judge(script, told)
     print(*(breaches or ["legal"]), sep="\n")
     return 1 if breaches else 0
+
+
+def drawn(reader, words, asked):
+    """Runs drawn scripts: from which seed on, by which word, on which program, where these are said."""
+    seed, word, program, *more = words + ["0", "threads", os.path.join(HERE, "..", "carbink")][len(words):]
+    processors = len(os.sched_getaffinity(0))
+    if more or not seed.isdigit() or word not in ("threads", "seq") or not shutil.which(program):
+        reader.error("behind --count N stand a seed, threads or seq, and a program")
+    if asked.processors > processors:
+        reader.error(f"there are {processors} processors")
+    how = {"kind": asked.kind, "lines": asked.lines, "processors": asked.processors, "seconds": asked.seconds}
+    return run_drawn(asked.count, int(seed), {**how, "word": word, "program": program})
+
+
+def main():
+    reader = usage.reader(__doc__)
+    what = reader.add_mutually_exclusive_group()
+    what.add_argument("--self", action="store_true")
+    what.add_argument("--count", metavar="N", type=usage.number)
+    reader.add_argument("--kind", choices=list(KINDS), default="mixed")
+    for name, usual in (("lines", 0), ("processors", 0), ("seconds", 120)):
+        reader.add_argument("--" + name, metavar="N", type=usage.number, default=usual)
+    reader.add_argument("words", metavar="WORD", nargs="*")
+    asked = reader.parse_args()
+    if asked.count is not None:
+        return drawn(reader, asked.words, asked)
+    if asked.self and not asked.words:
+        return try_judge()
+    if asked.self or len(asked.words) != 2:
+        reader.error("one output is judged by two files, SCRIPT and OUTPUT")
+    return judge_files(reader, *asked.words)
 
 
 if __name__ == "__main__":

@@ -9,6 +9,8 @@ What it answers follows from the rules alone, so it shares no code and no idea w
 """
 import sys
 
+import usage
+
 SIZES = [16, 32, 48, 64, 96, 128, 192, 256, 384, 512, 768, 1024]
 
 
@@ -534,5 +536,14 @@ def run(text, watch=None, local=False, world=World):
     return "".join(line + "\n" for line in out), w
 
 
+def main():
+    reader = usage.reader(__doc__)
+    reader.add_argument("--local", action="store_true")
+    reader.add_argument("case", metavar="CASE.in", type=usage.file)
+    asked = reader.parse_args()
+    with open(asked.case, encoding="ascii") as file:
+        sys.stdout.write(run(file.read(), local=asked.local)[0])
+
+
 if __name__ == "__main__":
-    sys.stdout.write(run(open(sys.argv[-1]).read(), local="--local" in sys.argv)[0])
+    main()

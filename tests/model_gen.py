@@ -1,14 +1,17 @@
 #!/usr/bin/env python3
 """What `carbink gen` prints, by its rule and by model.py: a model that shares no code with the product.
 
-`model_gen.py script SEED LINES LANES` prints the script that is drawn; `model_gen.py answer WORD..` prints what these
-words are answered, and ends with the product's status; `model_gen.py cases FOLDER` writes the cases of tests/rows/gen.
+    model_gen.py script SEED LINES LANES    prints the script that is drawn
+    model_gen.py answer WORD..              prints what these words are answered, and exits with the program's status
+    model_gen.py make DIR                   writes the cases of tests/rows/gen
 """
 import os
 import re
 import sys
 
 import model
+import usage
+from case_files import write_case
 
 MULTIPLIER, INCREMENT = 6364136223846793005, 1442695040888963407
 HEADER = "carbink 1 k=4 r=2 nodes=8 frames=12 room=4096 handles=65536 turns=0"
@@ -183,25 +186,30 @@ MORE = {
 }
 
 
-def cases(folder):
-    os.makedirs(folder, exist_ok=True)
+def make(folder):
     for name, words in [(name, text.split(" ")) for name, text in CASES.items()] + list(MORE.items()):
         told, status = answer(words)
-        parts = {"in": "", "words": "".join(word + "\n" for word in words), "out": told}
-        if status:
-            parts["status"] = f"{status}\n"
-        for part, text in parts.items():
-            with open(os.path.join(folder, f"{name}.{part}"), "w") as file:
-                file.write(text)
+        write_case(os.path.join(folder, name), b"", told, words, status)
+
+
+def main():
+    # Any words may be asked about.
+    if sys.argv[1:2] == ["answer"]:
+        told, status = answer(sys.argv[2:])
+        sys.stdout.write(told)
+        return status
+    reader = usage.reader(__doc__)
+    reader.add_argument("what", choices=["script", "answer", "make"])
+    reader.add_argument("rest", metavar="WORD", nargs="+")
+    words = reader.parse_args()
+    if words.what == "make" and len(words.rest) == 1:
+        make(words.rest[0])
+    elif words.what == "script" and len(words.rest) == 3 and all(map(str.isdigit, words.rest)):
+        sys.stdout.write(script(*map(int, words.rest)))
+    else:
+        reader.error("behind script stand SEED LINES LANES, and behind make a folder")
+    return 0
 
 
 if __name__ == "__main__":
-    what, *rest = sys.argv[1:]
-    if what == "script":
-        sys.stdout.write(script(*map(int, rest)))
-    elif what == "cases":
-        cases(rest[0])
-    else:
-        told, status = answer(rest)
-        sys.stdout.write(told)
-        sys.exit(status)
+    sys.exit(main())

@@ -8,11 +8,9 @@ It is written from the rules of the mode alone, over the world of model.py, whic
 room. Each number is read from the bytes of the object where it lies, and looked up beside in a plain list and a plain
 dictionary, which have to say the same."""
 
-import gzip
-import os
 import re
-import sys
 
+from case_files import run_model
 from model import World
 
 NUMBER = re.compile(rb"(0|[1-9][0-9]{0,8})\Z")
@@ -365,28 +363,10 @@ def check_worked():
         assert answer(text(commands, **fields)) == (0, "".join(line + "\n" for line in said))
 
 
-def make(directory):
+def every_case():
     check_worked()
-    os.makedirs(directory, exist_ok=True)
-
-    def write(name, suffix, data):
-        with open(os.path.join(directory, name + suffix), "wb") as out:
-            out.write(data)
-
-    for name, data in list(cases().items()) + list(long_cases().items()):
-        status, told = answer(data)
-        packed = len(data) > 20000
-        write(name, ".in.gz" if packed else ".in", gzip.compress(data, mtime=0) if packed else data)
-        write(name, ".out", told.encode())
-        write(name, ".words", b"map\n")
-        if status:
-            write(name, ".status", b"%d\n" % status)
+    return {**cases(), **long_cases()}.items()
 
 
 if __name__ == "__main__":
-    if sys.argv[1:2] == ["make"]:
-        make(sys.argv[2])
-    else:
-        status, told = answer(sys.stdin.buffer.read())
-        sys.stdout.write(told)
-        sys.exit(status)
+    run_model(__doc__, "map", answer, every_case)

@@ -6,10 +6,9 @@
 
 It is written from the rules of the mode alone, and shares nothing with the product."""
 
-import gzip
-import os
 import re
-import sys
+
+from case_files import run_model
 
 NUMBER = re.compile(rb"(0|[1-9][0-9]{0,8})\Z")
 HEADER = re.compile(rb"rma 1 window=(0|[1-9][0-9]{0,8})\Z")
@@ -312,28 +311,10 @@ def check_worked():
     assert answer((header + FIRST[0] + SECOND[0]).encode()) == (0, FIRST[1] + SECOND[1])
 
 
-def make(directory):
+def every_case():
     check_worked()
-    os.makedirs(directory, exist_ok=True)
-
-    def write(name, suffix, data):
-        with open(os.path.join(directory, name + suffix), "wb") as out:
-            out.write(data)
-
-    for name, data in list(cases().items()) + list(long_cases().items()):
-        status, text = answer(data)
-        packed = len(data) > 20000
-        write(name, ".in.gz" if packed else ".in", gzip.compress(data, mtime=0) if packed else data)
-        write(name, ".out", text.encode())
-        write(name, ".words", b"rma\n")
-        if status:
-            write(name, ".status", b"%d\n" % status)
+    return {**cases(), **long_cases()}.items()
 
 
 if __name__ == "__main__":
-    if sys.argv[1:2] == ["make"]:
-        make(sys.argv[2])
-    else:
-        status, text = answer(sys.stdin.buffer.read())
-        sys.stdout.write(text)
-        sys.exit(status)
+    run_model(__doc__, "rma", answer, every_case)

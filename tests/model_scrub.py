@@ -1,15 +1,16 @@
 #!/usr/bin/env python3
 """What `carbink scrub` prints, by the definitions and by trial: a model that shares no code with the product.
 
-`model_scrub.py answer` reads an input and prints its answer; the exit status is that of the product.
-`model_scrub.py cases FOLDER` writes the cases of tests/rows/scrub. A code word has k + r rows whose sums over i of
-2^(i*j) times row i are 0 for each j below r, over the bytes with the polynomial x^8+x^4+x^3+x^2+1.
+    model_scrub.py < NAME.in > NAME.out     exits with the status that the program owes (0 or 2)
+    model_scrub.py make DIR                 writes the cases of tests/rows/scrub
+
+A code word has k + r rows whose sums over i of 2^(i*j) times row i are 0 for each j below r, over the bytes with the
+polynomial x^8+x^4+x^3+x^2+1.
 """
-import gzip
-import os
 import random
 import re
-import sys
+
+from case_files import run_model
 
 POLYNOMIAL = 0x11D
 LIMIT = 1048576
@@ -104,12 +105,13 @@ def read(data):
 
 
 def answer(data):
+    """(status, text)"""
     got = read(data)
     if isinstance(got, int):
-        return f"scrub line {got} refused\n", 2
+        return 2, f"scrub line {got} refused\n"
     r, rows = got
     words, printed = examined(rows, r)
-    return "".join(line + "\n" for line in [words] + [row.hex() for row in printed]), 0
+    return 0, "".join(line + "\n" for line in [words] + [row.hex() for row in printed])
 
 
 def parities(data, k, r):
@@ -230,37 +232,5 @@ def cases():
         yield f"form_{name}", data
 
 
-def write_cases(folder):
-    os.makedirs(folder, exist_ok=True)
-    for name, data in cases():
-        path = os.path.join(folder, name)
-        text, status = answer(data)
-        if len(data) > 4096:
-            with open(path + ".in.gz", "wb") as out:
-                out.write(gzip.compress(data, 9, mtime=0))
-        else:
-            with open(path + ".in", "wb") as out:
-                out.write(data)
-        with open(path + ".out", "w") as out:
-            out.write(text)
-        with open(path + ".words", "w") as out:
-            out.write("scrub\n")
-        if status:
-            with open(path + ".status", "w") as out:
-                out.write(f"{status}\n")
-
-
-def main(words):
-    if words == ["answer"]:
-        text, status = answer(sys.stdin.buffer.read(LIMIT + 1))
-        sys.stdout.write(text)
-        return status
-    if len(words) == 2 and words[0] == "cases":
-        write_cases(words[1])
-        return 0
-    print(__doc__)
-    return 1
-
-
 if __name__ == "__main__":
-    sys.exit(main(sys.argv[1:]))
+    run_model(__doc__, "scrub", answer, cases, packed_from=4096)

@@ -26,6 +26,8 @@ FORMS = {"make": "NAME HEX", "write": "NAME AT HEX", "crash": "NODE", "join": "N
          **dict.fromkeys("read free pin peek unpin filter".split(), "NAME"),
          **dict.fromkeys("leave evict begin ship commit abort compact pair patch merge part rebuild"
                          .split(), "")}
+# The parts of an eviction and of a join of sets, which threads take none of.
+STEPS = frozenset("begin ship commit abort pair patch merge part".split())
 # The replies that tell that the request was done, a version among them as v; every other is a refusal.
 DONE = frozenset("v ok left moved same set batch shipped allshipped pair stepped allstepped rebuilt "
                  "epoch".split())
@@ -58,10 +60,10 @@ class Words(argparse.ArgumentParser):
         self.add_argument("-h", "--help", action="store_true")
 
     def read(self, words):
-        """The words' values; None where they ask for the page, which is put then."""
+        """The words' values. Where they ask for the page it is put, and the tool ends."""
         if "-h" in words or "--help" in words:
             put(self.page)
-            return None
+            raise Ending("", 0)
         return self.parse_args(words)
 
     def error(self, message):
@@ -249,7 +251,7 @@ def fault_of_words(place, words):
 
 
 def fault_of_mode(place, words):
-    if place.threads and words[1] in "begin ship commit abort pair patch merge part".split():
+    if place.threads and words[1] in STEPS:
         return 12, "steps are for scripts whose lanes take turns on one thread"
     return None
 
