@@ -9,7 +9,7 @@ use Rattle.cb_world.specs.Write.{IsWriteBelow}
 use Rattle.cb_world.proofs.Laws.{pinned_still}
 use Rattle.cb_mutate.specs.Merged.{IsWordMerged}
 use Rattle.cb_core.proofs.OpenChanges.{goes_on}
-use Rattle.cb_core.proofs.OpenSteps.{claims_hold, claims_pinned, not_zero}
+use Rattle.cb_core.proofs.OpenSteps.{claims_hold, claims_keep, claims_pinned, not_zero}
 use Rattle.cb_core.proofs.OpenStores.{desk, i, p, t, stored_known, stored_contents, others_stay}
 
 module _ (w : WorldState) (seat place m : ℕ) (c : OpenWriteState) (sound : IsSoundWorld w)
