@@ -1,5 +1,5 @@
 -- What the steps of a pair leave of the configured sizes and codes, and of what is counted.
-use Rattle.std.proofs.Common.{ℕ, true, List, Option, refl, sym, ◌∙◌, subst, arith, inl, inr, length-set}
+use Rattle.std.proofs.Common.{◌≡◌, ℕ, true, List, Option, None, Some, refl, sym, ◌∙◌, subst, arith, inl, inr, length-set}
 use Rattle.std.specs.FinMap as map
 use Rattle.cb_member.specs.declared.names.Shard.{Shard}
 use Rattle.cb_node.specs.NodesState.{NodesState}
@@ -14,7 +14,9 @@ use Rattle.cb_world.specs.Reserved.{put_shards}
 use Rattle.cb_world.specs.Sets.{Kept}
 use Rattle.cb_world.specs.Sound.{Sound}
 use Rattle.cb_world.specs.Stored.{all_dropped}
-use Rattle.cb_world.proofs.Laws.{HasCode, code_as, codes_put, codes_removed, codes_stay, drop_count, drop_room, KeepsHolding, KeepsNote, no_pair_configured, noted_holds, StaysBy, StaysIf, StaysIfBy, stays_like, stays_noted, stays_same}
+use Rattle.cb_world.specs.Codes.{HaveCodes, IsPairOfCode}
+use Rattle.cb_world.specs.JoinSteps.{with_step}
+use Rattle.cb_world.proofs.Laws.{HasCode, code_as, codes_paired, codes_parted, codes_put, codes_removed, drop_count, drop_room, own_put, own_removed, KeepsHolding, KeepsNote, no_pair_configured, noted_holds, StaysBy, StaysIf, StaysIfBy, stays_like, stays_noted, stays_same}
 use Rattle.cb_compact.specs.MergeStep.{MergeStep, Merges, merged_set, replaced_shards, with_merged}
 use Rattle.cb_compact.specs.Merging.{IsReadyToMerge}
 use Rattle.cb_compact.specs.PairStep.{IsFirstPair, PairStep, with_pair}
@@ -23,17 +25,19 @@ use Rattle.cb_compact.specs.PartStep.{PartStep, with_parted}
 use Rattle.cb_compact.specs.PatchStep.{PatchStep, TakesStep, with_stepped}
 use Rattle.cb_compact.proofs.Committing.{ready_data, ready_shards, ready_steps}
 use Rattle.cb_compact.proofs.CompactKeeps.{dropped_given}
+use Rattle.cb_compact.proofs.PairCodes.{begun_code, stepped_code}
 use Rattle.cb_compact.proofs.Merged.{length_merged, length_shards}
 
 -- ---- each change
 begun_stays : (c : Config) (far : FarState) (pair : JoiningState)
+    → ((d : Config) → HaveCodes d far → IsPairOfCode d.k d.r pair)
     → StaysIf c 1 far (with_pair far pair)
-begun_stays c far pair = stays_like c 1 far (with_pair far pair) (omega arith) (record {
+begun_stays c far pair of_code = stays_like c 1 far (with_pair far pair) (omega arith) (record {
   spans = refl;
   homes = refl;
   nodes = refl;
   room = refl;
-  codes = codes_stay far (with_pair far pair) refl refl;
+  codes = codes_paired far (with_pair far pair) pair refl refl refl of_code;
   counts = refl;
   note = λ n e. e;
   epoch = omega arith;
@@ -47,7 +51,7 @@ parted_stays c far pair = stays_like c 1 far (with_parted far pair) (omega arith
   homes = refl;
   nodes = drop_count far.nodes (put_shards pair.steps);
   room = drop_room far.nodes (put_shards pair.steps);
-  codes = codes_stay far (with_parted far pair) refl refl;
+  codes = codes_parted far (with_parted far pair) refl refl refl;
   counts = refl;
   note = λ n e. e;
   epoch = omega arith;
@@ -55,14 +59,16 @@ parted_stays c far pair = stays_like c 1 far (with_parted far pair) (omega arith
 })
 
 stepped_stays : (c : Config) (far : FarState) (pair : JoiningState) (p : ℕ) (shard : Shard)
-    (row : List ℕ) → StaysIf c 1 far (with_stepped far pair p shard row)
-stepped_stays c far pair p shard row is = record {
+    (row : List ℕ) → ((d : Config) → HaveCodes d far → IsPairOfCode d.k d.r (with_step pair p shard))
+    → StaysIf c 1 far (with_stepped far pair p shard row)
+stepped_stays c far pair p shard row of_code is = record {
   configured = record {
     frames = is.frames;
     homes = is.homes;
     nodes = length-set far.nodes.nodes shard.node.n _ ∙ is.nodes;
     room = is.room;
-    codes = codes_stay far (with_stepped far pair p shard row) refl refl c is.codes;
+    codes = codes_paired far (with_stepped far pair p shard row) (with_step pair p shard) refl refl
+        refl of_code c is.codes;
   };
   rises = record {
     turns = refl;
@@ -97,6 +103,9 @@ module _ (c : Config) (s : Shown) (far : FarState) (pair : JoiningState) (a b : 
       (length_shards pair.steps pair.shards_a (ready_steps s far pair a b x)
       ∙ sym (ready_shards s far pair a b x))
 
+  no_pair : (p : JoiningState) → None ≡ Some p → ⊥
+  no_pair p e = cc
+
   merged_stays : StaysIf c 1 far (with_merged far pair a b homes)
   merged_stays is = record {
     configured = record {
@@ -111,6 +120,10 @@ module _ (c : Config) (s : Shown) (far : FarState) (pair : JoiningState) (a b : 
             (λ committed. one_code (is.codes.sets pair.a a x.fresh.a_stands.there))
             is.codes.sets));
         batch = is.codes.batch;
+        pair = λ p at. absurd (no_pair p at);
+        own = own_removed (map.remove (map.insert far.sets id kept) pair.a) pair.b
+            (own_removed (map.insert far.sets id kept) pair.a
+            (own_put far.sets id kept (λ committed. refl) is.codes.own));
       };
     };
     rises = record {
@@ -154,7 +167,9 @@ begin_stays c s far new r sound (inr (inl x)) is =
 begin_stays c s far new r sound (inr (inr x)) is =
     subst (StaysBy KeepsHolding c 1 far) (sym x.state)
     (stays_noted KeepsNote KeepsHolding c 1 far _
-    (paired_holds far x.x x.y x.a x.b _ x.first) (begun_stays c far _ is))
+    (paired_holds far x.x x.y x.a x.b _ x.first)
+    (begun_stays c far _ (begun_code far x.x x.y x.a x.b x.first
+    (sound.away.sound.sets.shaped x.x x.a x.first.can.a_there).data_first) is))
 
 pub patch_stays : (c : Config) (s : Shown) (far new : FarState) (r : Reply) → Sound s far
     → PatchStep far new r → StaysIf c 1 far new
@@ -167,7 +182,8 @@ patch_stays c s far new r sound (inr (inr x)) = by x.takes
     by (inl y) = stays_same c 1 far new (omega arith) y.state
     by (inr (inl y)) = stays_same c 1 far new (omega arith) y.state
     by (inr (inr y)) =
-        subst (StaysIf c 1 far) (sym y.state) (stepped_stays c far x.pair y.position _ y.row)
+        subst (StaysIf c 1 far) (sym y.state) (stepped_stays c far x.pair y.position _ y.row
+        (stepped_code far x.pair x.a x.b y.position _ x.fresh y.next))
 
 pub merge_stays : (c : Config) (s : Shown) (far new : FarState) (r : Reply) → Sound s far
     → MergeStep far new r → StaysIf c 1 far new

@@ -23,6 +23,7 @@ mod Ready
 mod Taken
 mod TableExists
 pub mod FarLaws
+mod PairCodes
 mod CompactStays
 mod CompactFixed
 pub mod FarTurns

@@ -125,7 +125,7 @@ passing_taken k f (suc n) l = step (f n) refl (passing_taken k f n (omega (arith
         before
 
 -- ---- the begin
-no_step : (n p : ℕ) (shard : Shard) → slice_get (replicate n None) p ≡ Some (Some shard) → ⊥
+pub no_step : (n p : ℕ) (shard : Shard) → slice_get (replicate n None) p ≡ Some (Some shard) → ⊥
 no_step zero p shard at = absurd (none_some shard at)
   where
     none_some : (x : Shard) → None ≡ Some (Some x) → ⊥

@@ -7,7 +7,7 @@ use Rattle.cb_world.specs.OpenWrites.{IsClaimedNow, IsLeavingNow, AreOpen}
 use Rattle.cb_world.specs.Plain.{Words}
 use Rattle.cb_world.specs.Seats.{SeatState, OpenWriteState, AtMostOneHolds, Holds, IsClaimAt, idle_seat, seat_at, claims_of_seat, with_holds}
 use Rattle.cb_world.specs.World.{WorldState, IsSoundWorld}
-use Rattle.cb_world.proofs.Laws.{seat_beside}
+use Rattle.cb_world.proofs.Laws.{orders_kept, seat_beside}
 use Rattle.cb_core.specs.Holding.{TakeStep, held, taken, GiveStep, not_held, given}
 use Rattle.cb_core.proofs.OpenSteps.{kept_pinned}
 
@@ -58,6 +58,7 @@ module _ (w : WorldState) (seat : ℕ) (holds : Bool) (sound : IsSoundWorld w) (
     ongoing = open_seats w.desk w.far w.seats next
         (seat_beside (λ (x : SeatState). x.claims) w.seats seat new refl) sound.ongoing;
     one = one;
+    orders = orders_kept w.seats seat new refl sound.orders;
     counted = sound.counted;
   }
 

@@ -7,6 +7,7 @@ pub use Rattle.cb_core.proofs.Epochs.{lead_rises, pin_far, step_rises, unpin_far
 pub use Rattle.cb_core.proofs.FewLost.{CrashedAmong, never_broken, never_gone}
 pub use Rattle.cb_core.proofs.NodesStay.{IsWholeJob}
 pub use Rattle.cb_core.proofs.NowIn.{are_gone}
+pub use Rattle.cb_core.proofs.PinnedStays.{step_pinned, touched, unmoved_same}
 pub use Rattle.cb_core.proofs.PinsKept.{pin_step_sound, unpin_step_sound}
 pub use Rattle.cb_core.proofs.RoomyNodes.{enough_beside, enough_roomy}
 pub use Rattle.cb_core.proofs.RowsHeld.{IsIdle, JoinsApart}
@@ -20,4 +21,5 @@ pub use Rattle.cb_core.proofs.TurnCallsPinned.{IsPinCount, free_counts, write_co
 pub use Rattle.cb_core.proofs.TurnCallsSound.{swap_sound}
 pub use Rattle.cb_core.proofs.TurnCallsSwap.{IsSwapRefusal, SwapEnds, refusal_line, refused, stays, swapped}
 pub use Rattle.cb_core.proofs.TurnCallsUnpinned.{free_unpinned, write_fits, write_unpinned}
+pub use Rattle.cb_core.proofs.Unavailables.{step_tells}
 pub use Rattle.cb_core.proofs.TurnUnavailable.{IsNever, brought_tells, there_tells}

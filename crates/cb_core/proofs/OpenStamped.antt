@@ -11,9 +11,9 @@ use Rattle.cb_world.specs.Shown.{object_at}
 use Rattle.cb_world.specs.StillWords.{contents_at}
 use Rattle.cb_world.specs.World.{WorldState, IsKnown, IsSoundWorld, word_at}
 use Rattle.cb_world.specs.Write.{IsWriteBelow}
-use Rattle.cb_world.proofs.Laws.{open_here, pinned_still, sound_beside}
+use Rattle.cb_world.proofs.Laws.{open_here, pinned_still, same_memory, sound_beside}
 use Rattle.cb_core.proofs.OpenChanges.{goes_on}
-use Rattle.cb_core.proofs.OpenSteps.{claims_hold, claims_pinned, not_zero}
+use Rattle.cb_core.proofs.OpenSteps.{claims_hold, claims_keep, claims_pinned, not_zero}
 
 pub is_zero : (n a b : ℕ) → n ≡ 0 → (if nat_eq n 0 then a else b) ≡ a
 is_zero n a b e = ap (λ (c : Bool). if c then a else b) (eq-eqb n 0 e)
@@ -92,6 +92,9 @@ module _ (w : WorldState) (seat place : ℕ) (c : OpenWriteState) (sound : IsSou
         sound.known.sound here refl refl refl
         (λ k off. get_or-set_other sound.shown.versions h k (c.version + 1) 0 off) rises
         (λ q side. refl);
+    packed = λ k below. same_memory sound.shown t (word_at w.desk k) (object_at sound.shown k) refl
+        (sound.known.packed k below);
+    freed = sound.known.freed;
   }
 
   mine : IsOpen y next
@@ -110,6 +113,7 @@ module _ (w : WorldState) (seat place : ℕ) (c : OpenWriteState) (sound : IsSou
         (λ i below. let z = lies_in c.at (length c.bytes) i below in
         let all : c.stored ≡ touched c.at (length c.bytes) = omega (arith, last) in omega (arith, z, all))
         o.contents;
+    packed = o.packed;
   }
 
   others : (other at : ℕ) (d : OpenWriteState) → IsClaimAt w.seats other at d → d.handle ≢ h → IsOpen y d
@@ -123,6 +127,7 @@ module _ (w : WorldState) (seat place : ℕ) (c : OpenWriteState) (sound : IsSou
     few = q.few;
     stamp = get_or-set_other w.desk.versions h d.handle (c.version + 1) 0 off ∙ q.stamp;
     contents = q.contents;
+    packed = q.packed;
   }
 
   in_range : seat < length w.seats
@@ -149,5 +154,6 @@ module _ (w : WorldState) (seat place : ℕ) (c : OpenWriteState) (sound : IsSou
     ongoing = goes_on w.desk y w.far w.seats seat place c sound.ongoing in_range there others next refl
         mine refl;
     one = claims_hold w.seats seat (set (claims_of_seat w.seats seat) place next) sound.one;
+    orders = claims_keep w.seats seat (set (claims_of_seat w.seats seat) place next) sound.orders;
     counted = sound.counted;
   }

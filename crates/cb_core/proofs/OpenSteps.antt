@@ -13,17 +13,18 @@ use Rattle.cb_world.specs.declared.object.Object.TheVariants as is
 use Rattle.cb_world.specs.declared.seats.Pin.{Pin}
 use Rattle.cb_world.specs.declared.shown.Shown.{Shown}
 use Rattle.cb_world.specs.Grasped.{IsFree}
-use Rattle.cb_world.specs.Memory.{window, words_for}
+use Rattle.cb_world.specs.Memory.{IsPacked, window, words_for}
 use Rattle.cb_world.specs.OpenWrites.{IsOpen, IsLeavingNow, IsClaimedNow, AreOpen, touched}
+use Rattle.cb_world.specs.Packed.{IsPackedAs}
 use Rattle.cb_world.specs.Pinned.{with_word}
 use Rattle.cb_world.specs.Plain.{Words}
-use Rattle.cb_world.specs.Seats.{SeatState, OpenWriteState, AtMostOneHolds, IsClaimAt, idle_seat, seat_at, claims_of_seat, with_claims, pins_among}
+use Rattle.cb_world.specs.Seats.{SeatState, OpenWriteState, AtMostOneHolds, KeepNoOrder, IsClaimAt, idle_seat, seat_at, claims_of_seat, with_claims, pins_among}
 use Rattle.cb_world.specs.Shown.{Fits, object_at}
 use Rattle.cb_world.specs.StillDesk.{here_is, below_here}
 use Rattle.cb_world.specs.StillWords.{stamp_at, contents_at}
 use Rattle.cb_world.specs.World.{WorldState, ArePinned, IsSoundWorld, word_at}
 use Rattle.cb_world.specs.Write.{IsWriteBelow}
-use Rattle.cb_world.proofs.Laws.{known_word, leaving_claimed, pinned_still, seat_beside}
+use Rattle.cb_world.proofs.Laws.{known_word, leaving_claimed, orders_kept, pinned_still, seat_beside}
 use Rattle.cb_core.specs.Claiming.{opened}
 
 -- ---- the pins of the seats
@@ -69,6 +70,11 @@ claims_hold seats seat cs one a b held other =
     same : (k : ℕ) → (seat_at (with_claims seats seat cs) k).holds ≡ (seat_at seats k).holds
     same k = seat_beside (λ (x : SeatState). x.holds) seats seat
         (record (seat_at seats seat) { claims = cs }) refl k
+
+-- and that no seat keeps an order
+pub claims_keep : (seats : List SeatState) (seat : ℕ) (cs : List OpenWriteState)
+    → KeepNoOrder seats → KeepNoOrder (with_claims seats seat cs)
+claims_keep seats seat cs = orders_kept seats seat (record (seat_at seats seat) { claims = cs }) refl
 
 -- ---- lists
 none_is : (y : OpenWriteState) (p : ℕ) → slice_get [] p ≡ Some y → ⊥
@@ -192,6 +198,7 @@ module _ (w : WorldState) (seat h at v : ℕ) (bytes : List ℕ) (sound : IsSoun
     stamp = o.stamp;
     contents = subst (λ n. IsWriteBelow (8 * (c.at / 8 + c.stored)) c.words c.at c.bytes
         (window w.desk.memory (place_of n) (words_for (len_of n)))) (sym z) o.contents;
+    packed = o.packed;
   }
 
   fresh : IsOpen desk mine
@@ -210,6 +217,9 @@ module _ (w : WorldState) (seat h at v : ℕ) (bytes : List ℕ) (sound : IsSoun
         (subst (IsWriteBelow (8 * (at / 8 + 0)) (contents_at w.desk h) at bytes)
         (λ i. window w.desk.memory (sym claims.place i) (words_for (sym claims.len i)))
         (none_written (contents_at w.desk h) at bytes));
+    packed = subst (λ (ms : List ℕ). IsPacked (len_of old) (window ms (place_of old)
+        (words_for (len_of old)))) sound.known.shows.memory
+        (subst (IsPackedAs s old) here (sound.known.packed h within) free.0);
   }
 
   ongoing : AreOpen desk w.far seats
@@ -270,7 +280,8 @@ module _ (w : WorldState) (seat h at v : ℕ) (bytes : List ℕ) (sound : IsSoun
     config = sound.config;
     configured = sound.configured;
     shown = _;
-    known = known_word w.desk w.far s h v sound.known within fits;
+    known = known_word w.desk w.far s h v sound.known within fits
+        (subst (IsPackedAs s v) (sym here) (λ calm. absurd (moved calm)));
     pinned = claims_pinned desk w.seats seat (cs ++ mine ∷ []) in_range
         (pinned_still w.desk desk w.seats sound.pinned (length-set w.desk.words h v)
         (λ k below some. let off : k ≢ h = λ e. pinned_free (subst (λ i. 1 ≤ pins_of (word_at w.desk i)) e some) in
@@ -278,9 +289,13 @@ module _ (w : WorldState) (seat h at v : ℕ) (bytes : List ℕ) (sound : IsSoun
         (λ k below none. none_then k none (ℕ_discrete k h)));
     ongoing = ongoing;
     one = claims_hold w.seats seat (cs ++ mine ∷ []) sound.one;
+    orders = claims_keep w.seats seat (cs ++ mine ∷ []) sound.orders;
     counted = sound.counted;
   }
     where
+      moved : state_of v ≡ state.Here → ⊥
+      moved calm = let e = sym calm ∙ claims.state in cc
+
       pinned_free : 1 ≤ pins_of old → ⊥
       pinned_free some = let e = free.1 in omega (arith, e, some)
 

@@ -9,7 +9,7 @@ use Rattle.cb_world.specs.Write.{IsWriteBelow}
 use Rattle.cb_world.proofs.Laws.{pinned_still}
 use Rattle.cb_mutate.specs.Merged.{IsWordMerged}
 use Rattle.cb_core.proofs.OpenChanges.{goes_on}
-use Rattle.cb_core.proofs.OpenSteps.{claims_hold, claims_pinned, not_zero}
+use Rattle.cb_core.proofs.OpenSteps.{claims_hold, claims_keep, claims_pinned, not_zero}
 use Rattle.cb_core.proofs.OpenStores.{desk, i, p, t, stored_known, stored_contents, others_stay}
 
 module _ (w : WorldState) (seat place m : ℕ) (c : OpenWriteState) (sound : IsSoundWorld w)
@@ -45,6 +45,7 @@ module _ (w : WorldState) (seat place m : ℕ) (c : OpenWriteState) (sound : IsS
     contents = subst (λ n. IsWriteBelow (8 * n) c.words c.at c.bytes (contents_at y c.handle))
         (let e : c.at / 8 + c.stored + 1 ≡ c.at / 8 + (c.stored + 1) = omega arith in e)
         (stored_contents w seat place m c sound there less merged);
+    packed = o.packed;
   }
 
   others : (other at : ℕ) (d : OpenWriteState) → IsClaimAt w.seats other at d → d.handle ≢ c.handle
@@ -60,6 +61,7 @@ module _ (w : WorldState) (seat place m : ℕ) (c : OpenWriteState) (sound : IsS
     stamp = q.stamp;
     contents = subst (IsWriteBelow (8 * (d.at / 8 + d.stored)) d.words d.at d.bytes)
         (sym (others_stay w seat place m c sound there less other at d is off)) q.contents;
+    packed = q.packed;
   }
 
   in_range : seat < length w.seats
@@ -81,5 +83,6 @@ module _ (w : WorldState) (seat place m : ℕ) (c : OpenWriteState) (sound : IsS
     ongoing = goes_on w.desk y w.far w.seats seat place c sound.ongoing in_range there others next refl
         mine refl;
     one = claims_hold w.seats seat (set (claims_of_seat w.seats seat) place next) sound.one;
+    orders = claims_keep w.seats seat (set (claims_of_seat w.seats seat) place next) sound.orders;
     counted = sound.counted;
   }

@@ -2,13 +2,15 @@
 use Rattle.std.proofs.Common.{◌≡◌, ◌≢◌, ℕ, zero, suc, ◌+◌, ◌*◌, ◌/◌, ◌<◌, ◌≤◌, List, length, get_or, set, sym, refl, ap, ◌∙◌, subst, arith, inl, inr, length-set, get_or-set_other}
 use Rattle.cb_ptr.specs.declared.word.State.TheVariants as state
 use Rattle.cb_ptr.specs.Word.{state_of, len_of, place_of}
+use Rattle.cb_world.specs.declared.object.Object.{Object}
 use Rattle.cb_world.specs.declared.object.Object.TheVariants as is
 use Rattle.cb_world.specs.declared.shown.Shown.{Shown}
-use Rattle.cb_world.specs.Memory.{window, put, words_for}
+use Rattle.cb_world.specs.Memory.{IsPacked, window, put, words_for}
 use Rattle.cb_world.specs.OpenWrites.{IsOpen, touched}
+use Rattle.cb_world.specs.Packed.{IsPackedAs}
 use Rattle.cb_world.specs.Plain.{Words}
 use Rattle.cb_world.specs.Seats.{OpenWriteState, IsClaimAt}
-use Rattle.cb_world.specs.Shown.{object_at}
+use Rattle.cb_world.specs.Shown.{Fits, object_at}
 use Rattle.cb_world.specs.StillDesk.{here_is, put_window, window_length}
 use Rattle.cb_world.specs.StillWords.{contents_at}
 use Rattle.cb_world.specs.World.{WorldState, IsKnown, IsSoundWorld, word_at}
@@ -98,7 +100,25 @@ module _ (w : WorldState) (seat place m : ℕ) (c : OpenWriteState) (sound : IsS
     hots = sound.known.hots;
     sound = sound_beside w.far s t h (len_of old) (place_of old) sound.known.sound here refl refl
         (length-set s.memory p m) (λ k off. refl) (omega arith) beside;
+    packed = λ k below. packs k below (object_at s k) refl (sound.known.packed k below);
+    freed = sound.known.freed;
   }
+    where
+      -- an object whose word is Here is another one, and lies beside it
+      packs : (k : ℕ) → k < length w.desk.words → (o : Object) → object_at s k ≡ o
+          → IsPackedAs s (word_at w.desk k) o → IsPackedAs t (word_at w.desk k) o
+      packs k below (is.Empty v) e x = tt
+      packs k below (is.Far len v words) e x = x
+      packs k below (is.Claimed len at v words) e x = x
+      packs k below (is.Here len at) e x = λ calm.
+          let fit = subst (λ (o : Object). Fits o (word_at w.desk k)) e
+          (sound.known.shows.fit k below) in
+          subst (IsPacked len) (sym (window_same (set s.memory p m) s.memory at (words_for len)
+          (λ q low high. get_or-set_other s.memory p q m 0 (λ same.
+          apart w.far s k len at h (len_of old) (place_of old) q sound.known.sound.here
+          (lies s k len at e) (lies s h (len_of old) (place_of old) here)
+          (λ one. let f = sym calm ∙ ap (λ (i : ℕ). state_of (word_at w.desk i)) one ∙ o.moving in cc)
+          (low, high) (omega (arith, same), omega (arith, same, inside)))))) (x calm)
 
   -- the object's words have one more of the write
   pub stored_contents : IsWordMerged (get_or w.desk.memory p 0) (8 * i) c.at c.bytes m

@@ -279,7 +279,7 @@ works_fixed Abort k a b s t r ok ka kb p (step, hold) =
 works_fixed j k a b s t r ok ka kb p works = same_desk a b s t k ka kb p works.0
 
 -- ---- every event
-unmoved_same : (x y : Words) (k : ℕ) → y ≡ x → IsUnmoved k x y
+pub unmoved_same : (x y : Words) (k : ℕ) → y ≡ x → IsUnmoved k x y
 unmoved_same x y k same = subst (IsUnmoved k x) (sym same)
     (record { place = refl; len = refl; version = refl; bytes = refl })
 
@@ -317,7 +317,7 @@ turn_pinned j w new r sound after ok (done few works seats) k some behind =
     }
 
 -- a word that keeps its place and its length
-touched : (x y : Words) (h v k : ℕ) → h < length x.words → y ≡ with_word x h v
+pub touched : (x y : Words) (h v k : ℕ) → h < length x.words → y ≡ with_word x h v
     → place_of v ≡ place_of (word_at x h) → len_of v ≡ len_of (word_at x h) → IsUnmoved k x y
 touched x y h v k below left place len = subst (IsUnmoved k x) (sym left) (by (ℕ_discrete k h))
   where

@@ -13,7 +13,7 @@ use Rattle.cb_world.specs.FarState.{span_in}
 use Rattle.cb_world.specs.LocalSound.{LiesAt, NamesObject}
 use Rattle.cb_world.specs.StillWords.{stamp_at}
 use Rattle.cb_world.specs.World.{WorldState, IsSoundWorld, IsKnown}
-use Rattle.cb_world.proofs.Laws.{open_word, pins_hold, pins_leave, pin_sound, unpin_sound, pin_counts}
+use Rattle.cb_world.proofs.Laws.{open_word, orders_kept, pins_hold, pins_leave, pin_sound, unpin_sound, pin_counts}
 use Rattle.cb_core.specs.Pinning.{PinStep, scope_full, refused, taken, UnpinStep, not_pinned, given}
 
 -- a handle that has an object in local memory is one of those that there are
@@ -73,6 +73,7 @@ pin_step_sound w new seat h r sound within below (taken room may reply t) =
       ongoing = open_word w.desk w.far w.seats _ h t.word.word may.here (t.word.takes.state ∙ may.here)
           lt (pins_leave w.seats seat _) sound.ongoing;
       one = pins_hold w.seats seat _ sound.one;
+      orders = orders_kept w.seats seat _ refl sound.orders;
       counted = sound.counted;
     })
 
@@ -97,5 +98,6 @@ unpin_step_sound w new seat h r sound within below (given reply t) =
       ongoing = open_word w.desk w.far w.seats _ h t.word.word here (t.word.gives.state ∙ here) lt
           (pins_leave w.seats seat _) sound.ongoing;
       one = pins_hold w.seats seat _ sound.one;
+      orders = orders_kept w.seats seat _ refl sound.orders;
       counted = sound.counted;
     })

@@ -28,7 +28,7 @@ use Rattle.cb_core.specs.declared.event.Event.{Event}
 use Rattle.cb_core.specs.declared.event.Event.TheVariants as event
 use Rattle.cb_core.specs.Parts.{Holding, NeverDeclined}
 use Rattle.cb_core.specs.Pinning.{IsPinGiven, IsPinTaken, PinStep, scope_full, refused, taken, UnpinStep, not_pinned, given}
-use Rattle.cb_core.specs.Run.{LeadsSoundly}
+use Rattle.cb_core.specs.Run.{IsOnlyRun, IsOnlyStep, LeadsSoundly}
 use Rattle.cb_core.specs.Step.{AtomicStep, Leads, SeatTurn, held, free, Step, StillBring, StillDecline, StillFind, StillMake, StillRead, StillRoom, StillSwap, StillWorks, StillWrite, TurnStep, worn, done}
 use Rattle.cb_core.specs.Turned.{counted}
 use Rattle.cb_core.proofs.Counting.{counted_sound}
@@ -260,6 +260,10 @@ step_fixes w a b (event.Step seat atomic) r q sound x y =
     atomic_fixed seat atomic w a b r q sound x y
 step_fixes w a b (event.Turn seat job) r q sound x y = seat_fixed seat job w a b r q sound x y
 
+pub only_step : (w new : WorldState) (e : Event) (r : Reply) → IsSoundWorld w → Step w e r new
+    → IsOnlyStep w e r new
+only_step w new e r sound x q v y = let z = step_fixes w new v e r q sound x y in (sym z.0, sym z.1)
+
 -- ---- events one after another
 -- Where a run is sound all along, whatever leads by its events has its replies and ends in its world.
 pub run_fixes : (w a b : WorldState) (events : List Event) (rs qs : List Reply) → IsSoundWorld w
@@ -274,3 +278,8 @@ run_fixes w a b (e ∷ es) (r ∷ rs) (q ∷ qs) sound x y =
     let rest = run_fixes x.0 a b es rs qs x.2 x.3
     (subst (λ (v : WorldState). Leads v es qs b) (sym same.1) y.2) in
     ((λ i. same.0 i ∷ rest.0 i), rest.1)
+
+pub only_run : (w new : WorldState) (events : List Event) (rs : List Reply) → IsSoundWorld w
+    → LeadsSoundly w events rs new → IsOnlyRun w events rs new
+only_run w new events rs sound x qs v y =
+    let z = run_fixes w new v events rs qs sound x y in (sym z.0, sym z.1)

@@ -28,6 +28,8 @@ known_far x far new s k sound = record {
   shows = k.shows;
   hots = k.hots;
   sound = sound;
+  packed = k.packed;
+  freed = k.freed;
 }
 
 pub known_after : (a b : Holding Words) (s : Shown) → b.desk ≡ a.desk → IsKnown a.desk a.far s

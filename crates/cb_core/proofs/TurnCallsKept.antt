@@ -122,4 +122,6 @@ once_known w job s k = record {
   hots = k.hots;
   sound = recounted_sound s w.far (with_turn w.far.counts (job_index job)).turns
       (with_turn w.far.counts (job_index job)).by_job w.far.nodes.given k.sound;
+  packed = k.packed;
+  freed = k.freed;
 }

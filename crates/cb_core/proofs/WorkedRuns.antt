@@ -1,5 +1,5 @@
 -- Worked examples of runs: what meets each definition, and what breaks one part.
-use Rattle.std.proofs.Common.{◌≡◌, ℕ, [], ◌∷◌, refl, ap, ◌∙◌, subst, inl}
+use Rattle.std.proofs.Common.{◌≡◌, ℕ, List, [], ◌∷◌, refl, ap, ◌∙◌, subst, arith, inl}
 use Rattle.cb_types.specs.Config.{IsAccepted}
 use Rattle.cb_types.specs.declared.config.Config.{Config}
 use Rattle.cb_types.specs.declared.reply.Reply.{Reply}
@@ -9,7 +9,7 @@ use Rattle.cb_world.proofs.Laws.{empty_world_sound}
 use Rattle.cb_core.specs.declared.event.Atomic.TheVariants.{Load}
 use Rattle.cb_core.specs.declared.event.Event.{Event}
 use Rattle.cb_core.specs.declared.event.Event.TheVariants as event
-use Rattle.cb_core.specs.Run.{LeadsSoundly, RunStops}
+use Rattle.cb_core.specs.Run.{IsOnlyRun, IsOnlyStep, LeadsSoundly, RunStops}
 use Rattle.cb_core.specs.Step.{EventStops}
 
 abbrev c : Config
@@ -50,6 +50,33 @@ ends_elsewhere other not leads = not (leads.3 ∙ leads.1.1)
 -- a world that is not sound is not come by
 unsound : (v : WorldState) (r : Reply) → (IsSoundWorld v → ⊥) → LeadsSoundly v (look ∷ []) (r ∷ []) v → ⊥
 unsound v r not leads = not (subst IsSoundWorld leads.1.1 leads.2)
+
+-- ---- one reply and one world
+looks_one_way : IsOnlyStep w look (word 0) w
+looks_one_way q v step = (step.0, step.1)
+
+looks_with_another_word : IsOnlyStep w look (word 1) w → ⊥
+looks_with_another_word only =
+    let e : 0 ≡ 1 = ap number_of (only (word 0) w (refl, refl)).0 in omega (arith, e)
+
+looks_into_another_world : (v : WorldState) → (w ≡ v → ⊥) → IsOnlyStep w look (word 0) v → ⊥
+looks_into_another_world v off only = off (only (word 0) w (refl, refl)).1
+
+runs_nowhere : IsOnlyRun w [] [] w
+runs_nowhere [] v leads = (refl, leads)
+runs_nowhere (q ∷ qs) v leads = absurd leads
+
+abbrev first_of : List Reply → ℕ
+first_of [] = 8
+first_of (q ∷ qs) = number_of q
+
+runs_with_another_word : IsOnlyRun w (look ∷ []) (word 1 ∷ []) w → ⊥
+runs_with_another_word only =
+    let e : 0 ≡ 1 = ap first_of (only (word 0 ∷ []) w (w, (refl, refl), refl)).0 in omega (arith, e)
+
+runs_into_another_world : (v : WorldState) → (w ≡ v → ⊥)
+    → IsOnlyRun w (look ∷ []) (word 0 ∷ []) v → ⊥
+runs_into_another_world v off only = off (only (word 0 ∷ []) w (w, (refl, refl), refl)).1
 
 -- ---- a run that found no memory
 stops_behind_one : RunStops w (look ∷ look ∷ []) w

@@ -165,6 +165,7 @@ arrived_sound w job b Z sound few z = record {
   pinned = z.good.pinned;
   ongoing = z.good.ongoing;
   one = sound.one;
+  orders = sound.orders;
   counted = counted_rises w.far (counted w.far job) b.far (job_index job) sound.counted few
       (job_below job) refl (rises_more 64 (2 ^ 20) (counted w.far job) b.far (omega arith) z.rises)
       (noted_after job 64 w.far b.far sound.counted z.rises);

@@ -23,6 +23,15 @@ LeadsSoundly w (e ∷ es) (r ∷ rs) new = (between : WorldState) × Step w e r 
     × IsSoundWorld between × LeadsSoundly between es rs new
 LeadsSoundly w es rs new = ⊥
 
+-- The event has no other reply from that world, and leads to no other one.
+abbrev pub IsOnlyStep : WorldState → Event → Reply → WorldState → Type 0
+IsOnlyStep w e r new = (q : Reply) (v : WorldState) → Step w e q v → (q ≡ r) × (v ≡ new)
+
+-- Nor do the events one after another.
+abbrev pub IsOnlyRun : WorldState → List Event → List Reply → WorldState → Type 0
+IsOnlyRun w events replies new = (qs : List Reply) (v : WorldState) → Leads w events qs v
+    → (qs ≡ replies) × (v ≡ new)
+
 -- What a run that found no memory left: some first events took place, and nothing else, or the next
 -- event stopped.
 pub record RunStops (w : WorldState) (events : List Event) (new : WorldState) : Type 0 where

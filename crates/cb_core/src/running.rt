@@ -5,7 +5,7 @@ ghost use Rattle.cb_model.specs.Legal.{Follow, AreLegal};
 ghost use Rattle.cb_world.specs.World.{IsSoundWorld, empty_world};
 ghost use Rattle.cb_core.specs.Called.{ClaimCall, calls_by, claims_by, StandsBeside};
 ghost use Rattle.cb_core.specs.Events.{IsEvent};
-ghost use Rattle.cb_core.specs.Run.{LeadsSoundly, LeavesPrefix, RunStops};
+ghost use Rattle.cb_core.specs.Run.{IsOnlyRun, LeadsSoundly, LeavesPrefix, RunStops};
 ghost use Rattle.cb_core.specs.Step.{Leads};
 ghost use Rattle.cb_core.specs.Unavailable.{LeadsTelling};
 ghost use Rattle.cb_core.specs.Unmoved.{LeadsPinned, LeadsUnmoved};
@@ -17,7 +17,8 @@ use cb_types::NoMemory;
 use cb_world::World;
 use std::alloc::Global;
 
-/// Events one after another, with the reply to each. The world is sound after each of them.
+/// Events one after another, with the reply to each. The world is sound after each of them. The
+/// events have no other replies from that world, and lead to no other world.
 ///
 /// Where there is no memory, the world is left to which some first events led, or that world once
 /// room was made for the next event, by an eviction or by the swap-in of its object; the counts of
@@ -45,6 +46,7 @@ pub fn run(alloc: Global, world: &mut World, events: &[Event]) -> Result<Replies
     requires events { AllByRecursion (IsEvent world.old.desk.settings) events.now }
     ensures leads { IfOk result (λ replies. Leads world.old events.now replies world.new) }
     ensures along { IfOk result (λ replies. LeadsSoundly world.old events.now replies world.new) }
+    ensures fixes { IfOk result (λ replies. IsOnlyRun world.old events.now replies world.new) }
     ensures legal { IfOk result (λ replies. (before : List Called) (claims : List ClaimCall)
         → StandsBeside before claims world.old
         → Follow world.old.far.first world.old.desk.settings.handles before

@@ -2,7 +2,7 @@ ghost use Rattle.std.specs.Prelude.{◌≡◌, ◌<◌, IfOk, OnErr};
 ghost use Rattle.cb_world.specs.World.{IsSoundWorld};
 ghost use Rattle.cb_core.specs.Events.{IsAtomic, IsEvent};
 ghost use Rattle.cb_core.specs.Jobs.{IsJob};
-ghost use Rattle.cb_core.specs.Run.{LeavesAsBefore};
+ghost use Rattle.cb_core.specs.Run.{IsOnlyStep, LeavesAsBefore};
 ghost use Rattle.cb_core.specs.Step.{AtomicStep, AtomicStops, EventStops, SeatTurn, Step, TurnStep, TurnStops};
 ghost use Rattle.cb_core.specs.Unavailable.{TellsUnavailable};
 
@@ -21,12 +21,16 @@ use std::alloc::Global;
 /// have left or come in, and each object holds what it held. Between events a batch may be leaving,
 /// whose objects are Moving until it is committed or given up.
 ///
+/// The event has no other reply from that world, and leads to no other world: every word, every row
+/// at the nodes and all counts are fixed.
+///
 /// Unavailable is answered exactly where a turn is to bring in a far object whose set has lost more
 /// shards than it has parities, and tells the set and all that it lost.
 pub fn step(alloc: Global, world: &mut World, event: &Event) -> Result<Reply, NoMemory>
     requires sound { IsSoundWorld world.old }
     requires event { IsEvent world.old.desk.settings event.now }
     ensures step { IfOk result (λ reply. Step world.old event.now reply world.new) }
+    ensures fixes { IfOk result (λ reply. IsOnlyStep world.old event.now reply world.new) }
     ensures unavailable { IfOk result (λ reply. TellsUnavailable world.old event.now reply) }
     ensures sound { IsSoundWorld world.new }
     ensures error { OnErr result (EventStops world.old event.now world.new) }

@@ -18,7 +18,7 @@ use Rattle.cb_world.specs.Plain.{Words}
 use Rattle.cb_world.specs.Reserved.{position_for, put_shards, set_from}
 use Rattle.cb_world.specs.Sound.{Sound}
 use Rattle.cb_world.specs.Stored.{all_dropped, all_put}
-use Rattle.cb_world.proofs.Laws.{HasCode, codes_put, codes_removed, drop_count, drop_room, IsLike, Rises, StaysIf, stays_like, stays_same}
+use Rattle.cb_world.proofs.Laws.{HasCode, codes_put, codes_removed, drop_count, drop_room, IsLike, Rises, StaysIf, own_put, own_removed, stays_like, stays_same}
 use Rattle.cb_evict.specs.AbortRule.{AbortRule, HasGivenUp}
 use Rattle.cb_evict.specs.BeginRule.{BeginRule, new_batch, with_batch}
 use Rattle.cb_evict.specs.Closing.{with_homes}
@@ -74,6 +74,9 @@ made_stays c far new frames shards rows accepted k count homes state is =
           sets = codes_put c far.sets far.counts.sets (record { set = set; committed = true })
               (λ committed. code_of c far.counts.sets shards far frames k count) is.codes.sets;
           batch = is.codes.batch;
+          pair = is.codes.pair;
+          own = own_put far.sets far.counts.sets (record { set = set; committed = true })
+              (λ committed. refl) is.codes.own;
         });
       };
       rises = record {
@@ -118,6 +121,9 @@ batch_stays c far new frames words parities k r state is =
               is.codes.sets;
           batch = λ b at. let same = some_same (new_batch c far frames words parities) b at in
               subst (λ (l : LeavingState). IsConfiguredCode c (length l.frames) (length l.parities)) same (k, r);
+          pair = is.codes.pair;
+          own = own_put far.sets far.counts.sets _ (λ committed. absurd (false_true committed))
+              is.codes.own;
         });
       };
       rises = record {
@@ -166,6 +172,8 @@ shipped_stays c far new r row z is =
               subst (λ (l : LeavingState). IsConfiguredCode c (length l.frames) (length l.parities))
               same
               (is.codes.batch z.batch z.there);
+          pair = is.codes.pair;
+          own = is.codes.own;
         });
       };
       rises = record {
@@ -210,6 +218,9 @@ committed_stays c s far new r sound z is =
               (λ committed. code_of c batch.set (put_shards batch.shards) far batch.frames code.0
               (omega (arith, shards, places, code.0, code.1))) is.codes.sets;
           batch = λ b at. absurd (none_some b at);
+          pair = is.codes.pair;
+          own = own_put far.sets batch.set (record { set = set; committed = true })
+              (λ committed. refl) is.codes.own;
         });
       };
       rises = subst (Rises 1 far) (sym e) (record {
@@ -248,6 +259,8 @@ given_up_stays c far new r z =
       codes = λ d x. record {
         sets = codes_removed d far.sets z.batch.set x.sets;
         batch = λ b at. absurd (none_some b at);
+        pair = x.pair;
+        own = own_removed far.sets z.batch.set x.own;
       };
       counts = refl;
       note = λ n e. e;

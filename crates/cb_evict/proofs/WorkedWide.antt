@@ -38,6 +38,8 @@ use Rattle.cb_world.specs.SetWord.{IsSpanWord}
 use Rattle.cb_world.specs.Shown.{Fits, object_at, version_at, never}
 use Rattle.cb_world.specs.Sound.{Sound}
 use Rattle.cb_world.specs.Survey.{no_survey}
+use Rattle.cb_world.specs.Packed.{ArePacked, AreFreedLater}
+use Rattle.cb_world.specs.StillDesk.{window_length}
 use Rattle.cb_world.specs.World.{IsKnown, word_at}
 use Rattle.cb_world.proofs.Laws.{some_same, room_empty, unsurveyed}
 use Rattle.cb_evict.specs.BeginRule.{with_batch, new_batch}
@@ -265,8 +267,20 @@ all_known = record {
   };
   hots = hots;
   sound = sound;
+  packed = packed;
+  freed = freed;
 }
   where
+    -- the object fills its words, so no byte lies behind it
+    packed : ArePacked (desk calm) known
+    packed zero below = λ here p past inside.
+        let n = window_length known.memory 0 128 in absurd (omega (arith, past, inside, n))
+    packed (suc h) below = absurd (omega (arith, below))
+
+    freed : AreFreedLater known
+    freed zero = tt
+    freed (suc h) = tt
+
     false_true : false ≡ true → ⊥
     false_true e = cc
 

@@ -54,6 +54,8 @@ same_map w new r before then d =
       shows = known.shows;
       hots = known.hots;
       sound = keeps.sound;
+      packed = known.packed;
+      freed = known.freed;
     }) in
     record {
       now = λ h. known_same new.desk new.far before.shown then.shown h still then.known

@@ -61,7 +61,12 @@ given_stays c far mid rows few same z =
         homes = z.configured.homes;
         nodes = z.configured.nodes;
         room = z.configured.room;
-        codes = record { sets = z.configured.codes.sets; batch = z.configured.codes.batch };
+        codes = record {
+          sets = z.configured.codes.sets;
+          batch = z.configured.codes.batch;
+          pair = z.configured.codes.pair;
+          own = z.configured.codes.own;
+        };
       };
       rises = record {
         turns = r.turns;

@@ -7,7 +7,7 @@ use Rattle.cb_world.specs.declared.shown.Shown.{Shown}
 use Rattle.cb_world.specs.FarState.{FarState}
 use Rattle.cb_world.specs.Sets.{set_in}
 use Rattle.cb_world.specs.Sound.{Sound}
-use Rattle.cb_world.proofs.Laws.{code_as, codes_put, Stays, StaysIf, stays_given}
+use Rattle.cb_world.proofs.Laws.{code_as, codes_put, own_put, Stays, StaysIf, stays_given}
 use Rattle.cb_rebuild.specs.RebuildStep.{IsRebuilt, RebuildStep, Restores, far_given, surveyed}
 
 -- nothing is noted of a search for a pair
@@ -45,6 +45,10 @@ rebuilt_stays c s far new id set r sound there z is =
               (λ committed. code_as c set (with_shard set z.position z.shard) refl
               (length-set set.shards z.position z.shard) (is.codes.sets id set there)) is.codes.sets;
           batch = is.codes.batch;
+          pair = is.codes.pair;
+          own = own_put far.sets id
+              (record { set = with_shard set z.position z.shard; committed = true })
+              (λ committed. is.codes.own id set there) is.codes.own;
         };
       };
       rises = record {

@@ -3,7 +3,8 @@
 use Rattle.std.proofs.Common.{◌≡◌, ℕ, zero, suc, ◌+◌, ◌*◌, ◌<◌, ◌≤◌, Bool, true, false, cond, List, [], ◌∷◌, Option, None, Some, length, get_or, replicate, sym, refl, ap, ◌∙◌, subst, inl, inr, ⊎_elim, arith, true≢false}
 use Rattle.std.specs.List.{All}
 use Rattle.std.specs.Prelude.{slice_get}
-use Rattle.std.proofs.lemmas.List.{get_or-map, length-map, length-replicate}
+use Rattle.std.proofs.lemmas.Bool.{cases_lt}
+use Rattle.std.proofs.lemmas.List.{get_or-map, get_or_past, length-map, length-replicate}
 use Rattle.std.proofs.lemmas.List.Elements.{All-replicate}
 use Rattle.std.proofs.lemmas.List.Folds.{sum_by-replicate}
 use mathlib.Core.Option.{Option as Maybe}
@@ -20,13 +21,14 @@ use Rattle.cb_world.specs.declared.shown.Shown.{Shown}
 use Rattle.cb_world.specs.FarState.{FarState, handle_in}
 use Rattle.cb_world.specs.Homes.{home_at}
 use Rattle.cb_world.specs.LocalSound.{LiesAt}
-use Rattle.cb_world.specs.Memory.{bytes_in, window, words_for}
+use Rattle.cb_world.specs.Memory.{IsPacked, bytes_in, window, words_for}
 use Rattle.cb_world.specs.Now.{Now, broken_home, is_gone, now, now_as}
 use Rattle.cb_world.specs.Now.Now.{held, gone}
 use Rattle.cb_world.specs.OpenWrites.{AreOpen, IsLeavingNow}
+use Rattle.cb_world.specs.Packed.{IsFreedLater, IsPackedAs}
 use Rattle.cb_world.specs.Plain.{Shows, word_at}
 use Rattle.cb_world.specs.Seats.{SeatState, OpenWriteState, Holds, IsClaimAt, idle_seat, pins_among}
-use Rattle.cb_world.specs.Shown.{Fits, object_at, version_at}
+use Rattle.cb_world.specs.Shown.{Fits, never, object_at, version_at}
 use Rattle.cb_world.specs.Sound.{Sound}
 use Rattle.cb_world.specs.StillDesk.{window_length}
 use Rattle.cb_world.specs.World.{ArePinned, IsKnown, IsSoundWorld, WorldState}
@@ -44,6 +46,7 @@ use Rattle.cb_rule.specs.ShownWorld.{IsMovedByOne}
 use Rattle.cb_rule.specs.Slot.{LockSlot}
 use Rattle.cb_rule.specs.Stands.{IsCalm, IsClaimedBySeat, Stands}
 use Rattle.cb_rule.specs.Words.{base, pointer, stamps}
+use Rattle.cb_rule.proofs.FreedLater.{freed_later}
 use Rattle.cb_rule.proofs.Opening.{same_each}
 use Rattle.cb_rule.proofs.Promising.{claims_stand, moving_stands, pins_stand}
 use Rattle.cb_rule.proofs.Showing.{shown_sound}
@@ -145,6 +148,43 @@ module _ (c : Config) (ws : List ℕ) (views : List View) (known : Shown) (es : 
         subst (Fits (object_at known h)) (sym (pointer_at h l)) (r.fit h l);
   }
 
+  -- the words of an object that lies there and that no one claims are those of its newest entry
+  calm_words : (h len place : ℕ) → object_at known h ≡ is.Here len place
+      → IsCalm c ws h (total (pins_on h) views) (total (claims_on h) views) (top es h)
+      (newest es h) len place
+      → window t.memory place (words_for len) ≡ (newest es h).words
+  calm_words h len place q m = window_in ws (base c) (512 * c.frames) place (words_for len)
+      (λ p low high. r.inside h len place p
+      (subst (λ (o : Object). LiesAt o len place) (sym q) (refl, refl)) (low, high)) ∙ m.words
+
+  packed_as : (h : ℕ) (o : Object) → object_at known h ≡ o
+      → Stands c known.first ws h (total (pins_on h) views) (total (claims_on h) views)
+      (top es h) (newest es h) (version_at known h) o
+      → IsPackedAs t (pointer ws h) o
+  packed_as h (is.Empty v) q k = tt
+  packed_as h (is.Far len v words) q k = k.packed
+  packed_as h (is.Claimed len place v words) q k = k.packed
+  packed_as h (is.Here len place) q k = λ calm. ⊎_elim
+      (λ (m : IsCalm c ws h (total (pins_on h) views) (total (claims_on h) views) (top es h)
+      (newest es h) len place). subst (IsPacked len) (sym (calm_words h len place q m)) k.packed)
+      (λ (m : IsClaimedBySeat ws h (total (pins_on h) views) (total (claims_on h) views)).
+      absurd (let e = sym calm ∙ m.state in cc)) k.word
+
+  freed_as : (h : ℕ) (o : Object)
+      → Stands c known.first ws h (total (pins_on h) views) (total (claims_on h) views)
+      (top es h) (newest es h) (version_at known h) o
+      → IsFreedLater known.first o
+  freed_as h (is.Empty v) k = freed_later known.first es h v r.history k.at k.has
+  freed_as h (is.Far len v words) k = tt
+  freed_as h (is.Here len place) k = tt
+  freed_as h (is.Claimed len place v words) k = tt
+
+  freed : (h : ℕ) → IsFreedLater known.first (object_at known h)
+  freed h = ⊎_elim (λ (l : h < c.handles). freed_as h (object_at known h) (r.stand h l))
+      (λ (past : c.handles ≤ h). subst (IsFreedLater known.first)
+      (sym (get_or_past known.objects h never
+      (let n = r.sized.objects in omega (arith, n, past)))) tt) (cases_lt h c.handles)
+
   pub shown_known : IsKnown (desk_of c ws) far t
   shown_known = record {
     sized = record {
@@ -155,6 +195,10 @@ module _ (c : Config) (ws : List ℕ) (views : List View) (known : Shown) (es : 
     shows = shows;
     hots = hot_same;
     sound = sound;
+    packed = λ h below. let l = subst (λ (n : ℕ). h < n) wide below in
+        subst (λ (n : ℕ). IsPackedAs t n (object_at known h)) (sym (pointer_at h l))
+        (packed_as h (object_at known h) refl (r.stand h l));
+    freed = freed;
   }
 
   whole : (h : ℕ) (o : Object) → object_at known h ≡ o → is_far o ≡ false
@@ -174,10 +218,7 @@ module _ (c : Config) (ws : List ℕ) (views : List View) (known : Shown) (es : 
       here len place q has m =
           let version : version_at t h ≡ top es h =
           window_at ws (stamps c) c.handles h l ∙ m.stamped in
-          let words : window t.memory place (words_for len) ≡ (newest es h).words =
-          window_in ws (base c) (512 * c.frames) place (words_for len) (λ p low high.
-          r.inside h len place p (subst (λ (o : Object). LiesAt o len place) (sym q) (refl, refl))
-          (low, high)) ∙ m.words in
+          let words = calm_words h len place q m in
           ap (now_as t h (is_gone far h)) q
           ∙ (λ i. held (version i) (bytes_in (words i) len))
           ∙ ap (λ (b : Bool). cond b (gone (top es h)) (held (top es h)
@@ -285,5 +326,6 @@ module _ (c : Config) (ws : List ℕ) (views : List View) (known : Shown) (es : 
       pinned = pinned;
       ongoing = ongoing;
       one = λ a b there. absurd (none_holds a there);
+      orders = λ seat. ap (λ (x : SeatState). x.order) (same_each 64 idle_seat seat);
       counted = stood.counted;
     }

@@ -35,6 +35,7 @@ mod Told
 mod Showing
 mod Lone
 mod RecordStanding
+mod FreedLater
 mod ClosedWorld
 mod ShownWorld
 mod Closing

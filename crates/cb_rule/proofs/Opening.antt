@@ -50,7 +50,12 @@ stood_empty first c pos accepted = let world = empty_world_sound c accepted in
         homes = f.homes;
         nodes = f.nodes;
         room = f.room;
-        codes = record { sets = f.codes.sets; batch = f.codes.batch };
+        codes = record {
+          sets = f.codes.sets;
+          batch = f.codes.batch;
+          pair = f.codes.pair;
+          own = f.codes.own;
+        };
       };
       counted = record {
         kinds = n.kinds;

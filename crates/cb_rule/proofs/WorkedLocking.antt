@@ -48,7 +48,12 @@ stood n few = let e = stood_empty 3 pair_of (lit≤ tt) accepted in
         homes = f.homes;
         nodes = f.nodes;
         room = f.room;
-        codes = record { sets = f.codes.sets; batch = f.codes.batch };
+        codes = record {
+          sets = f.codes.sets;
+          batch = f.codes.batch;
+          pair = f.codes.pair;
+          own = f.codes.own;
+        };
       };
       counted = record {
         kinds = refl;

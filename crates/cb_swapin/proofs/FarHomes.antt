@@ -28,6 +28,8 @@ given_known x far s n k = record {
   shows = k.shows;
   hots = k.hots;
   sound = recounted_sound s far far.counts.turns far.counts.by_job (far.nodes.given + n) k.sound;
+  packed = k.packed;
+  freed = k.freed;
 }
 
 -- at most as many as the set has data positions, which are 16 at the most

@@ -15,7 +15,7 @@ use Rattle.cb_world.specs.Fetched.{rows_needed, with_rows_given}
 use Rattle.cb_world.specs.Plain.{Words}
 use Rattle.cb_world.specs.Sets.{set_in}
 use Rattle.cb_world.specs.Sound.{Sound}
-use Rattle.cb_world.proofs.Laws.{SetCodes, codes_left, left_count, left_given, left_room, StaysIf, stays_given, stays_same}
+use Rattle.cb_world.proofs.Laws.{AreOwn, SetCodes, codes_left, own_left, left_count, left_given, left_room, StaysIf, stays_given, stays_same}
 use Rattle.cb_swapin.specs.Fetching.{far_given}
 use Rattle.cb_swapin.specs.SwapRule.{IsSwappedTo, SwapFar, SwapRule}
 use Rattle.cb_swapin.specs.SwapStep.{IsSwapStep}
@@ -60,6 +60,8 @@ swapped_stays c s far new id p set f sound there z is =
           sets = subst (SetCodes c) (sym z.sets)
               (codes_left c far.sets id p set dead_position there is.codes.sets);
           batch = λ b at. is.codes.batch b (sym (ap (λ (q : FarState). q.leaving) z.rest) ∙ at);
+          pair = λ b at. is.codes.pair b (sym (ap (λ (q : FarState). q.joining) z.rest) ∙ at);
+          own = subst AreOwn (sym z.sets) (own_left far.sets id p set dead_position there is.codes.own);
         };
       };
       rises = record {

@@ -16,6 +16,7 @@ use Rattle.cb_world.specs.declared.event.Event.TheVariants.{Looked, Claimed, Tol
 use Rattle.cb_world.specs.declared.shown.Shown.{Shown}
 use Rattle.cb_world.specs.Memory.{put, words_for}
 use Rattle.cb_world.specs.Shown.{object_at, hot_at, version_at, never}
+use Rattle.cb_world.specs.Allowed.{Allowed}
 use Rattle.cb_world.specs.Played.{after, played, settled_by}
 use Rattle.cb_world.specs.Plain.{Words, Plain, IsSized, IsSettledAs}
 use Rattle.cb_world.specs.Looks.{NoLook, NoClaim, LooksFirst, told_by}
@@ -23,6 +24,7 @@ use Rattle.cb_world.specs.FarState.{FarState}
 use Rattle.cb_world.specs.Sound.{Sound}
 use Rattle.cb_world.specs.World.{IsKnown}
 use Rattle.cb_world.specs.StillDesk.{plain_follows, put_window}
+use Rattle.cb_world.proofs.Packing.{both_then}
 
 -- two lists go together, and so they do where both are changed at one place
 pair_set : {A : Type 0} (P : A → ℕ → Type 0) (none : A) (xs : List A) (ws : List ℕ) (h w : ℕ)
@@ -158,14 +160,17 @@ seen_known x far s k = record {
 
 -- what is known after a call, where the world is sound then
 pub known_after : (x y : Words) (far new : FarState) (s : Shown) (es : List Event) → IsKnown x far s
-    → Plain x es y → (IsSized x → IsSized y) → Sound (played es s) new
+    → Plain x es y → Allowed s es → (IsSized x → IsSized y) → Sound (played es s) new
     → IsKnown y new (played es s)
-known_after x y far new s es k run sized sound = let seen =
-    seen_after es x y s run (seen_known x far s k) in record {
+known_after x y far new s es k run allowed sized sound = let seen =
+    seen_after es x y s run (seen_known x far s k) in let both = both_then x y far s es k run allowed in
+    record {
       sized = sized k.sized;
       shows = (plain_follows es x y s run k.shows).1;
       hots = seen.hot;
       sound = sound;
+      packed = both.packed;
+      freed = both.freed;
     }
 
 -- what the events can tell of is known: hot bits of words that are looked at, and the words of

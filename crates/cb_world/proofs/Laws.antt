@@ -10,7 +10,7 @@ pub use Rattle.cb_world.proofs.Beside.{IsOutside, KeepsBeside, put_beside, put_t
 pub use Rattle.cb_world.proofs.Bridge.{put_only}
 pub use Rattle.cb_world.proofs.Choices.{few_pass, number, range_more}
 pub use Rattle.cb_world.proofs.Claimed.{avoids, back_written, held, is_claimed_at, lies, may_put_back, settled_here}
-pub use Rattle.cb_world.proofs.Codes.{HasCode, SetCodes, code_as, codes_left, codes_put, codes_removed, codes_stay}
+pub use Rattle.cb_world.proofs.Codes.{AreOwn, HasCode, SetCodes, code_as, codes_left, codes_paired, codes_parted, codes_put, codes_removed, codes_stay, own_left, own_put, own_removed}
 pub use Rattle.cb_world.proofs.Counting.{count_next}
 pub use Rattle.cb_world.proofs.CrashNow.{BecomesGone, crash_now}
 pub use Rattle.cb_world.proofs.Dropping.{put_drops_more, node_there}
@@ -35,8 +35,9 @@ pub use Rattle.cb_world.proofs.NodeJoin.{claimed_stay, local_stays, node_crash_s
 pub use Rattle.cb_world.proofs.NowKept.{brought_now, now_kept, put_away_now}
 pub use Rattle.cb_world.proofs.NowOthers.{contents_beside, near_lies}
 pub use Rattle.cb_world.proofs.NowSame.{bits, empty_now, empty_value, far_object, near_now, near_object, now_by_words, now_same}
-pub use Rattle.cb_world.proofs.OpenKept.{leaving_claimed, open_here, open_kept, open_same, open_word, pins_hold, pins_leave, seat_beside}
+pub use Rattle.cb_world.proofs.OpenKept.{leaving_claimed, open_here, open_kept, open_same, open_word, orders_kept, pins_hold, pins_leave, seat_beside}
 pub use Rattle.cb_world.proofs.Packed.{contents_packed, packed_write}
+pub use Rattle.cb_world.proofs.Packing.{below_packed, same_memory}
 pub use Rattle.cb_world.proofs.Patching.{join_is_merged, parity_step, patched_more}
 pub use Rattle.cb_world.proofs.PinNow.{pinned_now, unpinned_now}
 pub use Rattle.cb_world.proofs.Pins.{known_word, pin_counts, pin_sound, pinned_still, unpin_sound}

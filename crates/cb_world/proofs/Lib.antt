@@ -56,6 +56,7 @@ pub mod Claimed
 pub mod AfterClaim
 pub mod AfterLook
 pub mod Touching
+mod Packing
 pub mod Known
 pub mod StillWords
 pub mod StillPerforms

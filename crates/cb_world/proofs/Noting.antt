@@ -171,5 +171,10 @@ no_pair_configured c far is = record {
   homes = is.homes;
   nodes = is.nodes;
   room = is.room;
-  codes = record { sets = is.codes.sets; batch = is.codes.batch };
+  codes = record {
+    sets = is.codes.sets;
+    batch = is.codes.batch;
+    pair = is.codes.pair;
+    own = is.codes.own;
+  };
 }

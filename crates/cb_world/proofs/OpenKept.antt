@@ -17,7 +17,7 @@ use Rattle.cb_world.specs.Plain.{Words, Plain}
 use Rattle.cb_world.specs.Played.{after, played}
 use Rattle.cb_world.specs.declared.seats.Pin.{Pin}
 use Rattle.cb_world.specs.Pinned.{with_word}
-use Rattle.cb_world.specs.Seats.{SeatState, OpenWriteState, IsClaimAt, AtMostOneHolds, idle_seat, seat_at, claims_of_seat, with_pins}
+use Rattle.cb_world.specs.Seats.{SeatState, OpenWriteState, IsClaimAt, AtMostOneHolds, KeepNoOrder, idle_seat, seat_at, claims_of_seat, with_pins}
 use Rattle.cb_world.specs.Shown.{Fits, object_at, never}
 use Rattle.cb_world.specs.Sound.{Sound, IsLeaving}
 use Rattle.cb_world.specs.StillWords.{contents_at}
@@ -113,6 +113,7 @@ open_stays es x y s c run ok count o here =
       few = o.few;
       stamp = z.version ∙ o.stamp;
       contents = subst (IsWriteBelow (8 * (c.at / 8 + c.stored)) c.words c.at c.bytes) (sym same) o.contents;
+      packed = o.packed;
     }
 
 -- a word that is Moving is that of an object that is here or is leaving
@@ -272,6 +273,7 @@ open_word desk far seats next h w was here within same ongoing = record {
           stamp = o.stamp;
           contents = subst (λ n. IsWriteBelow (8 * (c.at / 8 + c.stored)) c.words c.at c.bytes
               (window desk.memory (place_of n) (words_for (len_of n)))) (sym z) o.contents;
+          packed = o.packed;
         }
 
     by : (k : ℕ) → k < length (set desk.words h w) → state_of (word_at (with_word desk h w) k) ≡ word.Moving
@@ -319,6 +321,12 @@ pins_hold seats seat pins one a b held other = one a b (sym (same a) ∙ held) (
     same : (k : ℕ) → (seat_at (with_pins seats seat pins) k).holds ≡ (seat_at seats k).holds
     same k = seat_beside (λ (x : SeatState). x.holds) seats seat
         (record (seat_at seats seat) { pins = pins }) refl k
+
+-- a seat that is changed elsewhere keeps no order
+pub orders_kept : (seats : List SeatState) (seat : ℕ) (new : SeatState)
+    → new.order ≡ (seat_at seats seat).order → KeepNoOrder seats → KeepNoOrder (set seats seat new)
+orders_kept seats seat new same none k =
+    seat_beside (λ (x : SeatState). x.order) seats seat new same k ∙ none k
 
 -- where no seat has an open write and no word is Moving
 pub none_open : (desk : Words) (far : FarState) (seats : List SeatState)

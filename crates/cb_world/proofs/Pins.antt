@@ -14,6 +14,7 @@ use Rattle.cb_ptr.specs.Word.{state_of, hot_of, len_of, place_of, pins_of}
 use Rattle.cb_ptr.specs.Steps.{TakesPin, GivesPin}
 use Rattle.cb_world.specs.declared.event.Event.TheVariants.{Looked}
 use Rattle.cb_world.specs.declared.object.Object.{Object}
+use Rattle.cb_world.specs.declared.object.Object.TheVariants as is
 use Rattle.cb_world.specs.declared.seats.Pin.{Pin}
 use Rattle.cb_world.specs.declared.shown.Shown.{Shown}
 use Rattle.cb_world.specs.Shown.{Fits, object_at, never}
@@ -24,13 +25,16 @@ use Rattle.cb_world.specs.FarState.{FarState}
 use Rattle.cb_world.specs.Pinned.{with_word}
 use Rattle.cb_world.specs.Seats.{IsNewestOf, SeatState, idle_seat, seat_at, pins_of_seat, with_pins, pins_among, all_pins_on}
 use Rattle.cb_world.specs.World.{IsKnown, ArePinned, word_at}
+use Rattle.cb_world.specs.Packed.{IsPackedAs}
 use Rattle.cb_world.proofs.AfterLook.{look_sound}
+use Rattle.cb_world.proofs.Packing.{same_memory}
 
--- the pointer word of an object is changed to another that it may have
+-- the pointer word of an object is changed to another that it may have; where that is Here, its words
+-- are packed
 pub known_word : (desk : Words) (far : FarState) (s : Shown) (h w : ℕ) → IsKnown desk far s
-    → h < length desk.words → Fits (object_at s h) w
+    → h < length desk.words → Fits (object_at s h) w → IsPackedAs s w (object_at s h)
     → IsKnown (with_word desk h w) far (after (Looked h w) s)
-known_word desk far s h w k within fit = record {
+known_word desk far s h w k within fit packed = record {
   sized = record {
     words = length-set desk.words h w ∙ k.sized.words;
     versions = k.sized.versions;
@@ -50,8 +54,21 @@ known_word desk far s h w k within fit = record {
   };
   hots = λ j below. hots j below (ℕ_discrete j h);
   sound = look_sound far s [] [] h w k.sound tt tt;
+  packed = λ j below. same_memory s (after (Looked h w) s) (get_or (set desk.words h w) j 0)
+      (object_at s j) refl (packs j below (ℕ_discrete j h));
+  freed = k.freed;
 }
   where
+    packs : (j : ℕ) → j < length (set desk.words h w) → Dec (j ≡ h)
+        → IsPackedAs s (get_or (set desk.words h w) j 0) (object_at s j)
+    packs j below (yes e) =
+        subst (λ (i : ℕ). IsPackedAs s (get_or (set desk.words h w) i 0) (object_at s i)) (sym e)
+        (subst (λ (n : ℕ). IsPackedAs s n (object_at s h))
+        (sym (get_or-set_same desk.words h w 0 within)) packed)
+    packs j below (no n) = subst (λ (i : ℕ). IsPackedAs s i (object_at s j))
+        (sym (get_or-set_other desk.words h j w 0 n))
+        (k.packed j (let l = length-set desk.words h w in omega (arith, l, below)))
+
     hots : (j : ℕ) → j < length (set desk.words h w) → Dec (j ≡ h)
         → get_or (set s.hots h (hot_of w)) j false ≡ hot_of (get_or (set desk.words h w) j 0)
     hots j below (yes e) =
@@ -69,6 +86,14 @@ other_fits : (o : Object) (v w : ℕ) → Fits o v → state_of v ≡ word.Here 
     → len_of w ≡ len_of v → place_of w ≡ place_of v → state_of w ≡ word.Here → Fits o w
 other_fits o v w fit here below len place still =
     subst (λ (p : Object). Fits p w) (sym (here_is o v fit here)) (below, len, place, inl still)
+
+-- and its words are packed as they were
+still_packed : (s : Shown) (v w : ℕ) (o : Object) → state_of v ≡ word.Here → IsPackedAs s v o
+    → IsPackedAs s w o
+still_packed s v w (is.Empty n) here m = tt
+still_packed s v w (is.Far len n words) here m = m
+still_packed s v w (is.Here len place) here m = λ e. m here
+still_packed s v w (is.Claimed len place n words) here m = m
 
 -- ---- the seats with other pins at one of them
 abbrev one_pin : ℕ → Pin → ℕ
@@ -185,7 +210,8 @@ pub pin_sound : (desk : Words) (far : FarState) (seats : List SeatState) (s : Sh
 pin_sound desk far seats s seat h v w known p within below here room few told takes = (
   known_word desk far s h w known below
       (other_fits (object_at s h) (word_at desk h) w (known.shows.fit h below) here wide takes.len
-      takes.place (takes.state ∙ here)),
+      takes.place (takes.state ∙ here))
+      (still_packed s (word_at desk h) w (object_at s h) here (known.packed h below)),
   pinned_word desk seats seat h w (pins ++ pin ∷ []) p (omega (arith, within, p.count)) below
       (takes.state ∙ here) (λ some. takes.hot) (let n = length_push pins pin in omega (arith, n, few))
       (λ k lt. counts k lt (ℕ_discrete k h))
@@ -243,7 +269,8 @@ unpin_sound desk far seats s seat at h w pin known p within there on below here 
       (other_fits (object_at s h) (word_at desk h) w (known.shows.fit h below) here (let old =
       below_here (object_at s h) (word_at desk h) (known.shows.fit h below) here in
       let number = gives.number in omega (arith, old, number)) gives.len
-      gives.place (gives.state ∙ here)),
+      gives.place (gives.state ∙ here))
+      (still_packed s (word_at desk h) w (object_at s h) here (known.packed h below)),
   pinned_word desk seats seat h w (remove pins at) p inside below (gives.state ∙ here) hot
       (let n = length-remove pins at lt in let few = few in omega (arith, n, few))
       (λ k below. counts k (ℕ_discrete k h))

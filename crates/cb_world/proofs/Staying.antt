@@ -140,7 +140,12 @@ recounted c far counts is = record {
   homes = is.homes;
   nodes = is.nodes;
   room = is.room;
-  codes = record { sets = is.codes.sets; batch = is.codes.batch };
+  codes = record {
+    sets = is.codes.sets;
+    batch = is.codes.batch;
+    pair = is.codes.pair;
+    own = is.codes.own;
+  };
 }
 
 -- rows were given out, and what is noted of the sets is other
@@ -153,7 +158,12 @@ stays_given c n given far survey most note is = record {
     homes = is.homes;
     nodes = is.nodes;
     room = is.room;
-    codes = record { sets = is.codes.sets; batch = is.codes.batch };
+    codes = record {
+    sets = is.codes.sets;
+    batch = is.codes.batch;
+    pair = is.codes.pair;
+    own = is.codes.own;
+  };
   };
   rises = record {
     turns = refl;

@@ -45,7 +45,8 @@ runs_still x y far new rules does s k p = record {
 pub known_then : (x y : Words) (far new : FarState) (rules : List Event → Type 0)
     (does : List Event → Shown → Shown → Type 0) (s : Shown) → IsKnown x far s
     → (p : PerformsStill x y far new rules does) → IsKnown y new (played p.events s)
-known_then x y far new rules does s k p = known_after x y far new s p.events k p.ran.0 p.ran.1
+known_then x y far new rules does s k p = known_after x y far new s p.events k p.ran.0
+    (p.allowed s ((k.sized, k.shows), k.sound)) p.ran.1
     (p.sound_after s ((k.sized, k.shows), k.sound))
 
 -- All is known of the desk after a step, and the last complete contents of each handle stay.

@@ -6,7 +6,7 @@ use Rattle.cb_ptr.specs.Word.{state_of, hot_of}
 use Rattle.cb_types.specs.declared.config.Config.{Config}
 use Rattle.cb_world.specs.FarState.{FarState}
 use Rattle.cb_world.specs.Leaving.{LeavingState}
-use Rattle.cb_world.specs.Memory.{memory_byte, window}
+use Rattle.cb_world.specs.Memory.{IsPacked, memory_byte, window}
 use Rattle.cb_world.specs.OpenSteps.{IsClaimOn, NoClaimOn, IsClaimed, IsSettled, NoneHolds, next_word}
 use Rattle.cb_world.specs.OpenWrites.{touched, stores_left, IsOpen, IsLeavingNow, IsClaimedNow, AreOpen}
 use Rattle.cb_world.specs.Plain.{Words}
@@ -111,6 +111,18 @@ write_at version stored = record {
 abbrev write : OpenWriteState
 write = write_at 3 1
 
+-- 0a 0b, and six bytes of 0 behind them
+packed : IsPacked 2 (2826 ∷ [])
+packed zero past below = absurd (omega (arith, past))
+packed (suc zero) past below = absurd (omega (arith, past))
+packed (suc (suc zero)) past below = refl
+packed (suc (suc (suc zero))) past below = refl
+packed (suc (suc (suc (suc zero)))) past below = refl
+packed (suc (suc (suc (suc (suc zero))))) past below = refl
+packed (suc (suc (suc (suc (suc (suc zero)))))) past below = refl
+packed (suc (suc (suc (suc (suc (suc (suc zero))))))) past below = refl
+packed (suc (suc (suc (suc (suc (suc (suc (suc p)))))))) past below = absurd (omega (arith, below))
+
 two_left : stores_left (write_at 3 0) ≡ 2
 two_left = refl
 
@@ -130,6 +142,7 @@ claimed = record {
   few = lit≤ tt;
   stamp = refl;
   contents = nothing_yet;
+  packed = packed;
 }
 
 half_done : IsOpen (desk moving 3 (3082 ∷ [])) write
@@ -144,6 +157,7 @@ half_done = record {
   few = lit≤ tt;
   stamp = refl;
   contents = front 8 (lit≤ tt);
+  packed = packed;
 }
 
 all_stored : IsOpen (desk moving 4 (3082 ∷ [])) (write_at 3 2)
@@ -158,6 +172,7 @@ all_stored = record {
   few = lit≤ tt;
   stamp = refl;
   contents = front 16 (lit≤ tt);
+  packed = packed;
 }
 
 no_handle : IsOpen (record (desk moving 3 (3082 ∷ [])) { words = [] }) write → ⊥
@@ -186,6 +201,16 @@ stamped_too_early o = let e : 4 ≡ 3 = o.stamp in omega (arith, e)
 
 not_stamped : IsOpen (desk moving 3 (3082 ∷ [])) (write_at 3 2) → ⊥
 not_stamped o = let e : 3 ≡ 4 = o.stamp in omega (arith, e)
+
+-- one byte long, with 0b behind it
+abbrev not_packed : OpenWriteState
+not_packed = record (write_at 3 0) { len = 1; at = 0; bytes = 10 ∷ [] }
+
+abbrev moving_one_byte : ℕ
+moving_one_byte = moving - 8192
+
+behind_its_end : IsOpen (desk moving_one_byte 3 (2826 ∷ [])) not_packed → ⊥
+behind_its_end o = let z : 11 ≡ 0 = o.packed 1 (lit≤ tt) (lit< tt) in omega (arith, z)
 
 not_stored : IsOpen (desk moving 3 (2826 ∷ [])) write → ⊥
 unfolding window

@@ -14,6 +14,7 @@ use Rattle.cb_world.specs.declared.seats.Pin.{Pin}
 use Rattle.cb_set.specs.SetState.{SetState}
 use Rattle.cb_world.specs.Codes.{HaveCodes}
 use Rattle.cb_world.specs.FarState.{FarState}
+use Rattle.cb_world.specs.Joining.{JoiningState}
 use Rattle.cb_world.specs.Leaving.{LeavingState}
 use Rattle.cb_world.specs.Pinned.{IsPinned, IsUnpinned}
 use Rattle.cb_world.specs.Plain.{Words}
@@ -280,10 +281,15 @@ is_configured = record { frames = refl; homes = refl; nodes = refl; room = refl;
     none_batch : (x : LeavingState) → None ≡ Some x → ⊥
     none_batch x e = cc
 
+    none_pair : (x : JoiningState) → None ≡ Some x → ⊥
+    none_pair x e = cc
+
     no_sets : HaveCodes settings far
     no_sets = record {
       sets = λ id x e. absurd (none_set x (sym (nothing id) ∙ e));
       batch = λ b e. absurd (none_batch b e);
+      pair = λ p e. absurd (none_pair p e);
+      own = λ id x e. absurd (none_set x (sym (nothing id) ∙ e));
     }
 
 frame_too_few : IsConfigured settings (record far { spans = None ∷ [] }) → ⊥

@@ -1,5 +1,5 @@
 -- The empty world is sound.
-use Rattle.std.proofs.Common.{ap, ◌∙◌, sym, get_or, length, ◌≤◌, ◌≡◌, ℕ, ◌*◌, None, Some, ◌<◌, false, [], replicate, zero, suc, refl, arith, lit≤}
+use Rattle.std.proofs.Common.{ap, ◌∙◌, sym, get_or, length, ◌≤◌, ◌≡◌, ℕ, ◌*◌, None, Some, ◌<◌, false, [], replicate, zero, suc, refl, subst, arith, lit≤}
 use Rattle.std.specs.List.{All}
 use Rattle.std.proofs.lemmas.List.{length-replicate}
 use Rattle.std.proofs.lemmas.List.Elements.{All-replicate}
@@ -13,6 +13,8 @@ use Rattle.cb_ptr.specs.Word.{state_of, hot_of, pins_of}
 use Rattle.cb_world.proofs.OpenKept.{none_open}
 use Rattle.cb_world.specs.declared.seats.Pin.{Pin}
 use Rattle.cb_world.specs.Empty.{empty_words, empty_shown, empty_far}
+use Rattle.cb_world.specs.Packed.{IsFreedLater, IsPackedAs}
+use Rattle.cb_world.specs.Shown.{never}
 use Rattle.cb_world.specs.Seats.{SeatState, Holds, idle_seat, pins_among, all_pins_on}
 use Rattle.cb_world.specs.World.{IsKnown, ArePinned, IsSoundWorld, empty_world, word_at}
 use Rattle.cb_world.proofs.Codes.{empty_codes}
@@ -28,6 +30,9 @@ known c ok = record {
   shows = empty_shows 1 c;
   hots = λ h below. reads_one c.handles h false ∙ ap hot_of (sym (reads_one c.handles h 0));
   sound = empty_sound 1 c (lit≤ tt) (let n = (ok Nodes).1 in omega (arith, n));
+  packed = λ h below. subst (IsPackedAs (empty_shown 1 c) (word_at (empty_words c) h))
+      (sym (reads_one c.handles h never)) tt;
+  freed = λ h. subst (IsFreedLater 1) (sym (reads_one c.handles h never)) tt;
 }
 
 none_on : (h : ℕ) → all_pins_on h (replicate 64 idle_seat) ≡ 0
@@ -89,6 +94,7 @@ empty_world_sound c ok = record {
       (λ seat. ap (λ (x : SeatState). x.claims) (idle_at seat 64))
       (λ h below moved. still c h moved);
   one = λ a b held. absurd (none_holds a held);
+  orders = λ seat. ap (λ (x : SeatState). x.order) (idle_at seat 64);
   counted = record {
     kinds = length-replicate {A = ℕ} 19 0;
     jobs = sum_by-replicate (λ (n : ℕ). n) 19 0;

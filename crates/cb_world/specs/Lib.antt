@@ -8,6 +8,7 @@ pub mod Looks
 pub mod Touches
 pub mod Allowed
 pub mod Plain
+pub mod Packed
 pub mod StillDesk
 pub mod Grasped
 pub mod Written

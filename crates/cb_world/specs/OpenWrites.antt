@@ -4,6 +4,7 @@ use Rattle.cb_ptr.specs.declared.word.State.TheVariants as word
 use Rattle.cb_ptr.specs.Word.{state_of, len_of, pins_of}
 use Rattle.cb_world.specs.FarState.{FarState}
 use Rattle.cb_world.specs.Leaving.{LeavingState}
+use Rattle.cb_world.specs.Memory.{IsPacked}
 use Rattle.cb_world.specs.Plain.{Words, word_at, stamp_at, contents_at}
 use Rattle.cb_world.specs.Seats.{SeatState, OpenWriteState, IsClaimAt}
 use Rattle.cb_world.specs.Sound.{Leaves}
@@ -23,7 +24,8 @@ abbrev pub stamp_of : OpenWriteState → ℕ
 stamp_of c = if nat_eq (stores_left c) 0 then c.version + 1 else c.version
 
 -- An open write: the object is Moving, without pins; its memory words are those that it had, with
--- the front of the write that is stored; and its version has a next one.
+-- the front of the write that is stored; and its version has a next one. The bytes past its length
+-- were 0, and stay so, since the write ends within the length.
 pub record IsOpen (desk : Words) (c : OpenWriteState) : Type 0 where
   pub below : c.handle < length desk.words
   pub moving : state_of (word_at desk c.handle) ≡ word.Moving
@@ -35,6 +37,7 @@ pub record IsOpen (desk : Words) (c : OpenWriteState) : Type 0 where
   pub stamp : stamp_at desk c.handle ≡ stamp_of c
   pub contents : IsWriteBelow (8 * (c.at / 8 + c.stored)) c.words c.at c.bytes
       (contents_at desk c.handle)
+  pub packed : IsPacked c.len c.words
 
 -- the object is one of the batch that is leaving
 abbrev pub IsLeavingNow : FarState → ℕ → Type 0

@@ -56,6 +56,10 @@ Holds seats seat = (seat_at seats seat).holds ≡ true
 abbrev pub AtMostOneHolds : List SeatState → Type 0
 AtMostOneHolds seats = (a b : ℕ) → Holds seats a → Holds seats b → a ≡ b
 
+-- no seat keeps an order: no job makes one
+abbrev pub KeepNoOrder : List SeatState → Type 0
+KeepNoOrder seats = (seat : ℕ) → (seat_at seats seat).order ≡ None
+
 -- the seat has this open write at this place
 abbrev pub IsClaimAt : List SeatState → ℕ → ℕ → OpenWriteState → Type 0
 IsClaimAt seats seat at c = slice_get (claims_of_seat seats seat) at ≡ Some c

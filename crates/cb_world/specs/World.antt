@@ -13,8 +13,9 @@ pub use Rattle.cb_world.specs.Plain.{word_at}
 use Rattle.cb_world.specs.Empty.{empty_words, empty_far}
 use Rattle.cb_world.specs.Codes.{HaveCodes}
 use Rattle.cb_world.specs.FarState.{FarState}
+use Rattle.cb_world.specs.Packed.{ArePacked, AreFreedLater}
 use Rattle.cb_world.specs.Pairs.{HoldsNoPair}
-use Rattle.cb_world.specs.Seats.{SeatState, AtMostOneHolds, idle_seat, all_pins_on}
+use Rattle.cb_world.specs.Seats.{SeatState, AtMostOneHolds, KeepNoOrder, idle_seat, all_pins_on}
 use Rattle.cb_world.specs.Sound.{Sound}
 use Rattle.cb_world.specs.OpenWrites.{AreOpen}
 
@@ -33,12 +34,15 @@ empty_world c = record {
 }
 
 -- What the holder of the far lock knows of the still desk, where it knows all: the words are as it
--- says, with each hot bit, and the world is sound.
+-- says, with each hot bit, and the world is sound. The bytes past each object's length are 0, and
+-- no object is freed at the version of its make.
 pub record IsKnown (desk : Words) (far : FarState) (s : Shown) : Type 0 where
   pub sized : IsSized desk
   pub shows : Shows desk s
   pub hots : (h : ℕ) → h < length desk.words → hot_at s h ≡ hot_of (word_at desk h)
   pub sound : Sound s far
+  pub packed : ArePacked desk s
+  pub freed : AreFreedLater s
 
 -- The pins of each word are those that the seats have on it; an object with pins is here, and hot.
 pub record ArePinned (desk : Words) (seats : List SeatState) : Type 0 where
@@ -82,4 +86,5 @@ pub record IsSoundWorld (w : WorldState) : Type 0 where
   pub pinned : ArePinned w.desk w.seats
   pub ongoing : AreOpen w.desk w.far w.seats
   pub one : AtMostOneHolds w.seats
+  pub orders : KeepNoOrder w.seats
   pub counted : AreCounted w.far

@@ -52,6 +52,8 @@ module _ (w : WorldState) (new : FarState) (sound : IsSoundWorld w)
       codes = record {
         sets = sound.configured.codes.sets;
         batch = sound.configured.codes.batch;
+        pair = sound.configured.codes.pair;
+        own = sound.configured.codes.own;
       };
     };
     shown = sound.shown;
@@ -60,6 +62,8 @@ module _ (w : WorldState) (new : FarState) (sound : IsSoundWorld w)
       shows = sound.known.shows;
       hots = sound.known.hots;
       sound = subst (Sound sound.shown) far_again.as_was far_again.sound;
+      packed = sound.known.packed;
+      freed = sound.known.freed;
     };
     pinned = sound.pinned;
     ongoing = record {
@@ -69,6 +73,7 @@ module _ (w : WorldState) (new : FarState) (sound : IsSoundWorld w)
       moving = sound.ongoing.moving;
     };
     one = sound.one;
+    orders = sound.orders;
     counted = record {
       kinds = sound.counted.kinds;
       jobs = sound.counted.jobs;

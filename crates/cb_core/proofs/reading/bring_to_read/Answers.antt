@@ -1,7 +1,11 @@
-use Rattle.std.proofs.Common.{refl, subst}
+use Rattle.std.proofs.Common.{refl, sym, subst}
 use Rattle.cb_types.specs.declared.job.Job.TheVariants.{Read}
 use Rattle.cb_types.specs.declared.reply.Reply.TheVariants as answer
+use Rattle.cb_types.specs.Jobs.{job_index}
+use Rattle.cb_world.specs.Counts.{with_turn}
 use Rattle.cb_world.specs.FarState.{FarState}
+use Rattle.cb_world.specs.World.{IsConfigured}
+use Rattle.cb_world.proofs.Laws.{recounted}
 use Rattle.cb_core.specs.ReadTurn.BroughtToRead.{done, worn}
 use Rattle.cb_core.specs.Turned.{ComeLacks, ComesIn}
 use Rattle.cb_core.proofs.Composing.{err_map, holding, if_map}
@@ -15,6 +19,13 @@ swap_object-requires-clause-sound g c =
     let s = c.requires.sound in
     let is = (c.count_turn.ensures.done c.if-not-count_turn.false).1 in
     (s.0, s.1, counted_sound s.0 c.args.far.now c.count_turn.new.far (Read c.args.h) is s.2)
+
+pub swap_object-requires-clause-configured : goal.swap_object-requires-clause-configured
+swap_object-requires-clause-configured g c =
+    subst (IsConfigured (g.D.Desk.settings c.args.desk.now))
+    (sym (c.count_turn.ensures.done c.if-not-count_turn.false).1)
+    (recounted (g.D.Desk.settings c.args.desk.now) c.args.far.now
+    (with_turn c.args.far.now.counts (job_index (Read c.args.h))) c.requires.configured)
 
 pub returns-clause-brought : goal.returns-clause-brought
 returns-clause-brought g c =

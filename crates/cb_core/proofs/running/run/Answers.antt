@@ -6,6 +6,7 @@ use Rattle.cb_core.specs.Called.{StandsBeside}
 use Rattle.cb_core.proofs.PinnedStays.{leads_pinned, pinned_unmoved}
 use Rattle.cb_core.proofs.RunLegal.{run_legal, run_from_empty, empty_stands}
 use Rattle.cb_core.proofs.Runs.{going_more, going_all, going_stops, going_ends, only_leads, of_error, event_at}
+use Rattle.cb_core.proofs.StepFixed.{only_run}
 use Rattle.cb_core.proofs.Stopping.{prefix_ends, prefix_stops}
 use Rattle.cb_core.proofs.Unavailables.{leads_telling}
 use Rattle.cb_core.proofs.running.run.Goals as goal
@@ -30,6 +31,12 @@ pub returns-clause-leads : goal.returns-clause-leads
 returns-clause-leads c = only_leads c.args.world.now c.loop-event.world c.args.events.now
     c.loop-event.replies (going_all c.args.world.now c.args.events.now c.loop-event.event-index
     c.loop-event.replies c.loop-event.world c.loop-event.invariant c.loop-event-test.false)
+
+pub returns-clause-fixes : goal.returns-clause-fixes
+returns-clause-fixes c = only_run c.args.world.now c.loop-event.world c.args.events.now
+    c.loop-event.replies c.requires.sound (going_all c.args.world.now c.args.events.now
+    c.loop-event.event-index c.loop-event.replies c.loop-event.world c.loop-event.invariant
+    c.loop-event-test.false)
 
 pub returns-clause-pinned : goal.returns-clause-pinned
 returns-clause-pinned c = leads_pinned c.args.events.now c.loop-event.replies c.args.world.now

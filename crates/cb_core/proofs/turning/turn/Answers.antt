@@ -2,7 +2,9 @@ use Rattle.std.proofs.Common.{refl, sym, subst}
 use Rattle.cb_types.specs.declared.reply.Reply.TheVariants as answer
 use Rattle.cb_types.specs.Jobs.{job_index}
 use Rattle.cb_world.specs.Pairs.{HoldsNoPair}
-use Rattle.cb_world.proofs.Laws.{counted_holds}
+use Rattle.cb_world.specs.Counts.{with_turn}
+use Rattle.cb_world.specs.World.{IsConfigured}
+use Rattle.cb_world.proofs.Laws.{counted_holds, recounted}
 use Rattle.cb_core.specs.Turned.{worn, Reads, ReadLacks}
 use Rattle.cb_core.proofs.Composing.{holding, if_map}
 use Rattle.cb_core.proofs.NoFrames.{Never, does_never, reads_never}
@@ -18,6 +20,13 @@ work-requires-clause-sound g c =
     let s = c.requires.sound in
     let is = (c.count_turn.ensures.done c.if-not-count_turn.false).1 in
     (s.0, s.1, counted_sound s.0 c.args.far.now c.count_turn.new.far c.args.job.now is s.2)
+
+pub work-requires-clause-configured : goal.work-requires-clause-configured
+work-requires-clause-configured g c =
+    subst (IsConfigured (g.D.Desk.settings c.args.desk.now))
+    (sym (c.count_turn.ensures.done c.if-not-count_turn.false).1)
+    (recounted (g.D.Desk.settings c.args.desk.now) c.args.far.now
+    (with_turn c.args.far.now.counts (job_index c.args.job.now)) c.requires.configured)
 
 pub work-requires-clause-note : goal.work-requires-clause-note
 work-requires-clause-note g c =
