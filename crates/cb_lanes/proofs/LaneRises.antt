@@ -7,6 +7,7 @@ use Rattle.cb_types.specs.declared.config.Config.{Config}
 use Rattle.cb_world.specs.declared.entry.Entry.{Entry}
 use Rattle.cb_rule.specs.declared.view.View.{View}
 use Rattle.cb_rule.specs.Lists.{Has}
+use Rattle.cb_rule.specs.RecordStands.{FreedIsLast}
 use Rattle.cb_rule.specs.Records.{seen_of}
 use Rattle.cb_rule.specs.Steps.{joined, right_of}
 use Rattle.cb_model.specs.Called.{Called, calls_behind}
@@ -38,11 +39,13 @@ own_calls : (lane : ℕ) (before after : List Answer) → AreOfLane lane after
 own_calls lane before [] own = tt
 own_calls lane before (a ∷ after) own = (own.0, own_calls lane (before ++ a ∷ []) after own.1)
 
--- they rise from the record at its start
+-- they rise from the record at its start, where the record that the lane leaves is part of one in
+-- which each freed version is the last
 pub lane_alone : (c : Config) (names : List Named) (nodes lane : ℕ) (lines : List Line)
-    (answers : List Answer) (v w : View) → v.pins ≡ [] → LaneGoes c names v answers w
-    → AreLinesOf nodes lane lines → map asked answers ≡ lines → LaneRises lane names answers v w
-lane_alone c names nodes lane lines answers v w none (m, goes, left) are is all more is_last given called =
+    (answers : List Answer) (v w all : View) → v.pins ≡ [] → LaneGoes c names v answers w
+    → AreLinesOf nodes lane lines → map asked answers ≡ lines → HasAllOf w all → FreedIsLast all
+    → LaneRises lane names answers v
+lane_alone c names nodes lane lines answers v w all none (m, goes, left) are is more is_last given called =
     record {
       own = own_calls lane given answers (answers_of nodes lane lines answers are is);
       rises = lane_rises c names answers v m all none goes
