@@ -1,5 +1,5 @@
 -- A lane by itself: its calls are its own and rise from the record with which it started, which has
--- all that the record had of which it was split off, and is had by that into which it is joined.
+-- all that the record had of which it was split off.
 use Rattle.std.proofs.Common.{◌≡◌, ℕ, List, [], ◌∷◌, ◌++◌, map, inl, inr, sym, ap, subst}
 use Rattle.std.specs.List.{AllByRecursion}
 use Rattle.cb_types.specs.declared.answer.Answer.{Answer}
@@ -9,7 +9,7 @@ use Rattle.cb_rule.specs.declared.view.View.{View}
 use Rattle.cb_rule.specs.Lists.{Has}
 use Rattle.cb_rule.specs.RecordStands.{FreedIsLast}
 use Rattle.cb_rule.specs.Records.{seen_of}
-use Rattle.cb_rule.specs.Steps.{joined, right_of}
+use Rattle.cb_rule.specs.Steps.{right_of}
 use Rattle.cb_model.specs.Called.{Called, calls_behind}
 use Rattle.cb_record.specs.Rises.{HasAllOf}
 use Rattle.cb_record.proofs.Laws.{has_left, has_right}
@@ -52,7 +52,7 @@ lane_alone c names nodes lane lines answers v w all none (m, goes, left) are is 
           (subst (λ (z : View). HasAllOf z all) left more) is_last given called;
     }
 
--- ---- seats that are split and joined
+-- ---- seats that are split
 pub has_seen : (e : Entry) (es : List Entry) → Has e es → Has (seen_of e) (map seen_of es)
 has_seen e [] has = absurd has
 has_seen e (x ∷ es) (inl is) = inl (ap seen_of is)
@@ -69,13 +69,3 @@ has_split given v h n freed (inl x) = inr (
 )
 has_split given v h n freed (inr x) =
     inr (x.0, has_right x.0 (map seen_of (v.fresh ++ v.written)) v.seen x.1, x.2, x.3, x.4)
-
-pub has_joined : (v w : View) → HasAllOf v (joined v w)
-has_joined v w h n freed (inl x) =
-    inl (x.0, has_right x.0 w.written v.written x.1, x.2, x.3, x.4)
-has_joined v w h n freed (inr x) = inr (x.0, has_right x.0 w.seen v.seen x.1, x.2, x.3, x.4)
-
-pub has_taken_in : (v w : View) → HasAllOf w (joined v w)
-has_taken_in v w h n freed (inl x) =
-    inl (x.0, has_left x.0 w.written v.written x.1, x.2, x.3, x.4)
-has_taken_in v w h n freed (inr x) = inr (x.0, has_left x.0 w.seen v.seen x.1, x.2, x.3, x.4)

@@ -2,8 +2,7 @@
 pub use Rattle.cb_lanes.proofs.AloneLines.{maker_of}
 pub use Rattle.cb_lanes.proofs.EasyWorlds.{crash_below, crash_named, crashed_count, crashed_nodes}
 pub use Rattle.cb_lanes.proofs.LaneForm.{made_in_front, made_request}
-pub use Rattle.cb_lanes.proofs.LaneRises.{AreOfLane, answers_of, has_joined, has_seen, has_split}
-pub use Rattle.cb_lanes.proofs.LaneRises.{has_taken_in}
+pub use Rattle.cb_lanes.proofs.LaneRises.{AreOfLane, answers_of, has_seen, has_split}
 pub use Rattle.cb_lanes.proofs.LaneScopes.{handle_is_made, made_as_left, made_as_right}
 pub use Rattle.cb_lanes.proofs.LaneScopes.{scoped_behind}
 pub use Rattle.cb_lanes.proofs.LinesBack.{first_none, handle_append}
