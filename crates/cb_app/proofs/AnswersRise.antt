@@ -5,21 +5,19 @@ use Rattle.std.specs.List.{AllByRecursion}
 use Rattle.cb_types.specs.declared.answer.Answer.{Answer}
 use Rattle.cb_script.specs.declared.script.Line.{Line}
 use Rattle.cb_rule.specs.declared.view.View.{View}
-use Rattle.cb_rule.specs.Steps.{joined}
 use Rattle.cb_model.specs.Called.{Called, called, calls_behind, calls_of}
 use Rattle.cb_model.specs.Event.{event_of}
 use Rattle.cb_model.specs.Legal.{NeverFalls, Rising, WasTold}
 use Rattle.cb_record.specs.Rises.{HasAllOf, IsBehind, IsOnRecord, LaneCalls, RisesAlone}
 use Rattle.cb_record.specs.Told.{Told, tolds}
 use Rattle.cb_record.proofs.Laws.{calls_behind-append, rising_sum}
-use Rattle.cb_shared.specs.Joining.{unpinned_all}
 use Rattle.cb_lanes.specs.declared.body.Named.{Named}
 use Rattle.cb_lanes.specs.Asked.{asked}
 use Rattle.cb_lanes.specs.Bodies.{AreNamesOf}
 use Rattle.cb_lanes.specs.Rising.{LaneRises}
-use Rattle.cb_lanes.proofs.Laws.{has_joined, has_taken_in, all_both, all_map}
+use Rattle.cb_lanes.proofs.Laws.{all_both, all_map}
 use Rattle.cb_app.specs.ByLane.{AreOfOthers, IsApart}
-use Rattle.cb_app.specs.Crew.{AreKnownTo, NeverFall, RiseWith}
+use Rattle.cb_app.specs.Crew.{AreKnownTo, NeverFall}
 use Rattle.cb_app.proofs.ToldApart.{tolds_apart}
 
 -- ---- lists
@@ -79,7 +77,7 @@ others_untold front before (o ∷ others) after none = (
 -- ---- answers behind answers
 
 -- of answers given, of others and of these, where neither fall behind those given
-never_fall_all : (given others after answers : List Answer) → answers ≡ given ++ others
+pub never_fall_all : (given others after answers : List Answer) → answers ≡ given ++ others
     → IsApart (map asked others) (map asked after) → AreOfOthers (map asked others) (map asked after)
     → NeverFall [] answers → NeverFall given after → NeverFall [] (answers ++ after)
 never_fall_all given others after answers are apart none old new =
@@ -98,16 +96,6 @@ never_fall_all given others after answers are apart none old new =
     ap (λ (zs : List Called). calls_of answers ++ zs) (sym behind)
     ∙ sym (calls_behind-append [] answers after) in
     (tt, subst Rising is whole)
-
--- and with the records of both joined
-pub rise_joined : (v w : View) (given others after answers : List Answer) → answers ≡ given ++ others
-    → IsApart (map asked others) (map asked after) → AreOfOthers (map asked others) (map asked after)
-    → RiseWith v [] answers → RiseWith w given after
-    → RiseWith (joined v (unpinned_all w)) [] (answers ++ after)
-rise_joined v w given others after answers are apart none old new all more last =
-    never_fall_all given others after answers are apart none
-    (old all (λ h n freed has. more h n freed (has_joined v (unpinned_all w) h n freed has)) last)
-    (new all (λ h n freed has. more h n freed (has_taken_in v (unpinned_all w) h n freed has)) last)
 
 -- ---- a lane, behind the answers that its pass knew
 
@@ -129,14 +117,14 @@ behind_known lane front is known = all_map (IsOnRecord lane.start)
     (λ (c : Called). AllByRecursion (NeverFalls c) lane.calls) front
     (λ c on. (rising_sum lane (c ∷ []) (tt, tt) is (inr on, tt)).0) known
 
-pub lane_rise : (number : ℕ) (names : List Named) (given answers : List Answer) (v w : View)
-    → LaneRises number names answers v w → AreNamesOf names given → AreKnownTo v given
-    → RiseWith w given answers
-lane_rise number names given answers v w rises named (u, has, stand, first) all more last =
+pub lane_rise : (number : ℕ) (names : List Named) (given answers : List Answer) (v : View)
+    → LaneRises number names answers v → AreNamesOf names given → AreKnownTo v given
+    → NeverFall given answers
+lane_rise number names given answers v rises named (u, has, stand, first) =
     let calls = calls_behind given answers in
     let lane : LaneCalls = record { number = number; start = v; calls = calls } in
     let is : RisesAlone (record lane { start = u }) =
-    alone_from lane u has (rises all more last given named) in
+    alone_from lane u has (rises given named) in
     (behind_known (record lane { start = u }) (calls_of given) is stand, is.rises.rising)
 
 -- no answers are told before
@@ -144,6 +132,6 @@ pub none_known : (v : View) → AreKnownTo v []
 none_known v = (v, (λ h n freed has. has), tt, tt)
 
 -- a worker answers nothing
-pub none_rise : (v : View) (given answers : List Answer) → answers ≡ [] → RiseWith v given answers
-none_rise v given answers none = subst (RiseWith v given) (sym none)
-    (λ all more last. (none_after (calls_of given), tt))
+pub none_rise : (given answers : List Answer) → answers ≡ [] → NeverFall given answers
+none_rise given answers none =
+    subst (NeverFall given) (sym none) (none_after (calls_of given), tt)

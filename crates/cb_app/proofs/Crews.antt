@@ -34,13 +34,13 @@ use Rattle.cb_lanes.specs.Suits.{AreSuited}
 use Rattle.cb_lanes.proofs.Laws.{are_suited_both, are_suited_more, has_split, all_both}
 use Rattle.cb_workers.specs.declared.worker.Worker.{Worker as Worker'}
 use Rattle.cb_app.specs.ByLane.{AreLanesApart, AreOfOthers, IsApart, by_lane, flat, has_lines, lanes_up_to, of_lane}
-use Rattle.cb_app.specs.Crew.{AllMade, AreFirst, AreMade, BodyIsReady, HasText, IsDealt, IsFreshRecord, IsDealtOne, IsEnded, IsTaskReady, IsLaneTold, RiseWith, TakesIn, lines_due, lines_in, lines_left, turns_due, work_in}
+use Rattle.cb_app.specs.Crew.{AllMade, AreFirst, AreMade, BodyIsReady, HasText, IsDealt, IsFreshRecord, IsDealtOne, IsEnded, IsTaskReady, IsLaneTold, NeverFall, TakesIn, lines_due, lines_in, lines_left, turns_due, work_in}
 use Rattle.cb_app.specs.OwnLines.{KeepAloneWith}
 use Rattle.cb_app.specs.declared.crew.Body.{Body}
 use Rattle.cb_app.specs.declared.crew.Body.TheVariants.{Lane, Worker}
 use Rattle.cb_app.specs.declared.crew.Ended.{Ended}
 use Rattle.cb_app.specs.declared.crew.Task.{Task}
-use Rattle.cb_app.proofs.AnswersRise.{rise_joined}
+use Rattle.cb_app.proofs.AnswersRise.{never_fall_all}
 use Rattle.cb_app.proofs.LanesAlone.{alone_joined}
 use Rattle.cb_app.proofs.Lanes.{apart-push, flat-push, lane_is_apart, lane_is_of_others, no_lines_apart, no_lines_of_others}
 use Rattle.cb_app.proofs.Records.{right_fresh, right_knows_names}
@@ -73,9 +73,6 @@ taken_in s given others lines a e b are told ended apart none first of pass answ
     ∙ tolds_apart given others e.answers apart_so in
     let none_so : AreOfOthers (map asked others) (map asked e.answers) =
     subst (AreOfOthers (map asked others)) (sym ended.lines_are) none in
-    let both : RiseWith (joined (record_of a.pass) (unpinned_all (record_of e.pass))) [] (a.answers ++ e.answers) =
-    rise_joined (record_of a.pass) (record_of e.pass) given others e.answers a.answers are apart_so none_so
-    told.rises ended.rises in
     let all : tolds [] a.answers ++ tolds given e.answers ≡ tolds [] b.answers =
     ap (λ (ts : List Told). tolds [] a.answers ++ ts) (sym behind)
     ∙ sym (tolds-append [] a.answers e.answers)
@@ -99,8 +96,8 @@ taken_in s given others lines a e b are told ended apart none first of pass answ
             (subst (AreSuited (joined (record_of a.pass) (unpinned_all (record_of e.pass))).seen) all
             (both_suit (record_of a.pass).seen (record_of e.pass).seen (tolds [] a.answers)
             (tolds given e.answers) told.suits ended.suits));
-        rises = subst (λ (v : View). RiseWith v [] b.answers) (sym pass)
-            (subst (RiseWith (joined (record_of a.pass) (unpinned_all (record_of e.pass))) []) (sym answers) both);
+        rises = subst (NeverFall []) (sym answers) (never_fall_all given others e.answers a.answers are
+            apart_so none_so told.rises ended.rises);
         scopes = subst (AreScoped []) (sym answers)
             (scopes_joined given others e.answers a.answers are apart_so none_so told.scopes ended.scopes);
         alone = λ one. subst (KeepAloneWith s.config.nodes []) (sym answers)
@@ -390,8 +387,7 @@ told_left s given lines a b share own told same of left = record {
       (subst (λ (xs : List Answer). Backs (as_part (record_of a.pass)) (tolds given xs)) (sym same) told.backs);
   suits = subst (λ (v : View). AreSuited v.seen (tolds given b.answers)) (sym left)
       (subst (λ (xs : List Answer). AreSuited (record_of a.pass).seen (tolds given xs)) (sym same) told.suits);
-  rises = subst (λ (v : View). RiseWith v given b.answers) (sym left)
-      (subst (RiseWith (record_of a.pass) given) (sym same) told.rises);
+  rises = subst (NeverFall given) (sym same) told.rises;
   scopes = subst (AreScoped given) (sym same) told.scopes;
   alone = λ one. subst (KeepAloneWith s.config.nodes given) (sym same) (told.alone one);
 }

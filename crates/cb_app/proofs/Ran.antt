@@ -33,11 +33,11 @@ use Rattle.cb_lanes.specs.Asked.{HasLineReply, asked}
 use Rattle.cb_lanes.specs.LastTries.{HasLastTry}
 use Rattle.cb_lanes.specs.Scoped.{AreScoped}
 use Rattle.cb_lanes.specs.Suits.{AreSuited}
-use Rattle.cb_lanes.proofs.Laws.{freed_last, keep_alone, none_lacks}
+use Rattle.cb_lanes.proofs.Laws.{keep_alone, none_lacks}
 use Rattle.cb_app.specs.ByLane.{by_lane}
 use Rattle.cb_app.specs.Calm.{IsCalmTo}
 use Rattle.cb_workers.specs.declared.worker.Worker.{Worker}
-use Rattle.cb_app.specs.Crew.{IsLaneTold, RiseWith, work_in}
+use Rattle.cb_app.specs.Crew.{IsLaneTold, NeverFall, work_in}
 use Rattle.cb_app.specs.OwnLines.{AreAllOf, KeepAloneWith}
 use Rattle.cb_app.specs.Threaded.{AreLosses, IsRun}
 use Rattle.cb_app.specs.declared.threads.ThreadsEnd.{ThreadsEnd}
@@ -64,7 +64,7 @@ pub is_run : (script : Script) (end : ThreadsEnd) → AreInMode modes.Threads sc
     → IsClosed Did 1 script.config (sealed_record end.seal) end.world
     → Backs (as_part (sealed_record end.seal)) (tolds [] end.answers)
     → AreSuited (sealed_record end.seal).seen (tolds [] end.answers)
-    → RiseWith (sealed_record end.seal) [] end.answers → AreScoped [] end.answers
+    → NeverFall [] end.answers → AreScoped [] end.answers
     → KeepAloneWith script.config.nodes [] end.answers
     → AreLosses end.losses end.answers
     → ((w : Worker) → script.config.turns ≤ work_in w (sealed_record end.seal)) → IsRun script end
@@ -84,9 +84,8 @@ is_run script end mode few are lines replies last seal closed backs suits rises 
     → AllByRecursion (λ a. IsCalmTo a.request a.reply) end.answers =
     (λ roomy under. all_calm 1 script ok v far.counts.turns far closed.turns end.answers backs
     end.losses losses are lines roomy under replies last worn lost upheld) in
-    let never = rises v (λ h n freed has. has) (freed_last 1 v closed.entries) in
     let legal : IsLegal 1 c.handles end.answers =
-    legal_of_backed 1 c.handles v end.answers closed.entries closed.calm backs upheld never.1 in
+    legal_of_backed 1 c.handles v end.answers closed.entries closed.calm backs upheld rises.1 in
     let one = one_to_one 1 c.handles c.nodes script.lines end.answers legal are lines in
     let whole : AreAllOf c.nodes script.lines end.answers = record { script = are; lines_are = lines } in
     let until : (lane : ℕ) → HasOwnLines script.lines lane
@@ -151,8 +150,7 @@ module _ (script : Script) (mode : AreInMode modes.Threads script.lines) (shared
       (subst (λ (v : View). Backs (as_part v) (tolds [] told.answers)) (sym same) is_told.backs))
       (subst (λ (l : List Answer). AreSuited (sealed_record end.seal).seen (tolds [] l)) (sym answers)
       (subst (λ (v : View). AreSuited v.seen (tolds [] told.answers)) (sym same) is_told.suits))
-      (subst (RiseWith (sealed_record end.seal) []) (sym answers)
-      (subst (λ (v : View). RiseWith v [] told.answers) (sym same) is_told.rises))
+      (subst (NeverFall []) (sym answers) is_told.rises)
       (subst (AreScoped []) (sym answers) is_told.scopes)
       (subst (KeepAloneWith script.config.nodes []) (sym answers)
       (subst (λ (c : Config). KeepAloneWith c.nodes [] told.answers) begun.config

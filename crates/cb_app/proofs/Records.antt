@@ -130,7 +130,7 @@ worker_told s w turns p q given answers fresh works none =
       last = subst (AllByRecursion (HasLastTry s.config)) (sym none) tt;
       backs = subst (λ (xs : List Answer). Backs (as_part (record_of q)) (tolds given xs)) (sym none) backs;
       suits = subst (λ (xs : List Answer). AreSuited (record_of q).seen (tolds given xs)) (sym none) tt;
-      rises = none_rise (record_of q) given answers none;
+      rises = none_rise given answers none;
       scopes = none_scoped given answers none;
       alone = λ one. none_alone s.config.nodes given answers none;
     }
@@ -182,7 +182,7 @@ pub lane_told : (s : Shared) (lane : ℕ) (names : List Named) (v : View) (lines
     → AllByRecursion HasLineReply e.answers → AllByRecursion (HasLastTry s.config) e.answers
     → AddsBacked names e.answers v (record_of e.pass)
     → LaneGoes s.config names v e.answers (record_of e.pass)
-    → LaneRises lane names e.answers v (record_of e.pass) → LaneScoped lane names e.answers
+    → LaneRises lane names e.answers v → LaneScoped lane names e.answers
     → (first_version_of s ≡ 1 → v.written ≡ [] → LaneKeepsAlone s.config.nodes lane names lines e.answers)
     → AreLinesOf s.config.nodes lane lines → (given : List Answer) → AreNamesOf names given → AreKnownTo v given → scope_of lane given ≡ []
     → IsLaneTold s given lines e
@@ -194,7 +194,7 @@ lane_told s lane names v lines e fresh names_known of are replies last adds goes
       last = last;
       backs = backs;
       suits = suits;
-      rises = lane_rise lane names given e.answers v (record_of e.pass) rises named known;
+      rises = lane_rise lane names given e.answers v rises named known;
       scopes = scoped_behind lane names e.answers scoped given named no_pin;
       alone = λ one. lane_alone_with s.config lane names given e.answers lines
           (answers_of s.config.nodes lane lines e.answers form are) are (alone one fresh.written) named

@@ -19,11 +19,10 @@ use Rattle.cb_record.specs.Rises.{HasAllOf, HasVersion}
 use Rattle.cb_shared.specs.declared.pass.Pass.{Pass}
 use Rattle.cb_shared.specs.declared.runtime.Shared.{Shared}
 use Rattle.cb_shared.specs.Passes.{record_of}
-use Rattle.cb_lanes.specs.Rising.{FreedIsLast}
 use Rattle.cb_workers.specs.Rules.{visit}
 use Rattle.cb_workers.specs.declared.worker.Worker.TheVariants as worker
 use Rattle.cb_app.specs.ByLane.{has_lines}
-use Rattle.cb_app.specs.Crew.{AreFirst, IsDealt, IsLaneTold, NeverFall, RiseWith, StandIn, lines_due, lines_left, turns_as, turns_due, work_in}
+use Rattle.cb_app.specs.Crew.{AreFirst, IsDealt, IsLaneTold, NeverFall, StandIn, lines_due, lines_left, turns_as, turns_due, work_in}
 use Rattle.cb_app.specs.declared.crew.Body.TheVariants.{Lane, Worker}
 use Rattle.cb_app.specs.declared.crew.Ended.{Ended}
 use Rattle.cb_app.specs.declared.crew.Task.{Task}
@@ -143,16 +142,6 @@ none_there : (h version : ℕ) (freed : _) → HasVersion (blank small) h versio
 none_there h version freed (inl (e, off, on, at, so)) = off
 none_there h version freed (inr (s, off, on, at, so)) = off
 
-none_is_last : FreedIsLast (blank small)
-none_is_last h last n freed gone has = absurd (none_there h n freed has)
-
-rises_and_falls : RiseWith (blank small) given (reads 1) → ⊥
-rises_and_falls r =
-    falls_from_what_was_given (r (blank small) (λ h version freed has. has) none_is_last)
-
-leaves_rise : (v : View) → RiseWith v given (answer 1 Leave (Left 0) ∷ [])
-leaves_rise v all more last = leaves_fall_never
-
 stands_nowhere : StandIn (blank small) (made ∷ []) → ⊥
 stands_nowhere s = let there = s.0 0 refl 1 refl in none_there 0 1 there.0 there.1
 
@@ -166,10 +155,9 @@ of_lane_1 : AreFirst (reads 2) → ⊥
 of_lane_1 f = let e : 1 ≡ 0 = f.0 in omega (arith, e)
 
 -- ---- what a lane was told falls
-told_and_falls : (s : Shared) (lines : List Line) (p : Pass) → FreedIsLast (record_of p)
+told_and_falls : (s : Shared) (lines : List Line) (p : Pass)
     → IsLaneTold s given lines (record { answers = reads 1; pass = p }) → ⊥
-told_and_falls s lines p last t =
-    falls_from_what_was_given (t.rises (record_of p) (λ h version freed has. has) last)
+told_and_falls s lines p t = falls_from_what_was_given t.rises
 
 -- a task is dealt whose pass has not seen what the first one has
 dealt_without_it : (s : Shared) (lines : List Line) (n m : ℕ) (v : View) (t : Task) (p : Pass)

@@ -226,7 +226,7 @@ module _ (s : Shared) (p : Pass) (of : IsPassOf s p) (fresh : IsFreshRecord (rec
     last = (refl, tt);
     backs = left_backed;
     suits = (tt, tt);
-    rises = λ all more last. (tt, (tt, tt));
+    rises = (tt, (tt, tt));
     scopes = λ one. (refl, tt);
     alone = λ one lines all whole among n own same room.
         (λ mine. absurd (on_no_name (nat_eq 2 n) mine), tt);
@@ -289,7 +289,7 @@ module _ (s : Shared) (p : Pass) (of : IsPassOf s p) (fresh : IsFreshRecord (rec
     last = tt;
     backs = idle;
     suits = tt;
-    rises = none_rise (record_of p) given [] refl;
+    rises = none_rise given [] refl;
     scopes = λ one. tt;
     alone = λ one. none_alone s.config.nodes given [] refl;
   }

@@ -30,7 +30,6 @@ use Rattle.cb_lanes.specs.declared.body.Named.{Named}
 use Rattle.cb_lanes.specs.Asked.{HasLineReply, asked}
 use Rattle.cb_lanes.specs.Bodies.{AreLinesOf, AreNamesOf, KnowsNames}
 use Rattle.cb_lanes.specs.LastTries.{HasLastTry}
-use Rattle.cb_lanes.specs.Rising.{FreedIsLast}
 use Rattle.cb_lanes.specs.Scoped.{AreScoped}
 use Rattle.cb_lanes.specs.Suits.{AreSuited}
 use Rattle.cb_workers.specs.Rules.{lane_of}
@@ -134,11 +133,6 @@ NeverFall given answers =
     AllByRecursion (λ c. AllByRecursion (NeverFalls c) (calls_behind given answers)) (calls_of given)
     × Rising (calls_behind given answers)
 
--- so of answers with this record, once it is part of one where each freed version is the last
-abbrev pub RiseWith : View → List Answer → List Answer → Type 0
-RiseWith v given answers =
-    (all : View) → HasAllOf v all → FreedIsLast all → NeverFall given answers
-
 -- what the answers told of versions stands in the record
 abbrev pub StandIn : View → List Answer → Type 0
 StandIn v answers = AllByRecursion (IsOnRecord v) (calls_of answers)
@@ -164,7 +158,7 @@ pub record IsLaneTold (s : Shared) (given : List Answer) (lines : List Line) (e 
     pub last : AllByRecursion (HasLastTry s.config) e.answers
     pub backs : Backs (as_part (record_of e.pass)) (tolds given e.answers)
     pub suits : AreSuited (record_of e.pass).seen (tolds given e.answers)
-    pub rises : RiseWith (record_of e.pass) given e.answers
+    pub rises : NeverFall given e.answers
     pub scopes : AreScoped given e.answers
     pub alone : first_version_of s ≡ 1 → KeepAloneWith s.config.nodes given e.answers
 

@@ -1,12 +1,15 @@
 -- What a lane has by itself goes along with the answers, one by one.
-use Rattle.std.proofs.Common.{◌≡◌, ◌≢◌, ◌⊎◌, ℕ, ◌<◌, ◌≤◌, Bool, true, false, ◌&&◌, ◌||◌, List, [], ◌∷◌, ◌++◌, length, fold, Option, None, Some, refl, sym, ap, ◌∙◌, subst, arith, inl, inr, eq-eqb, ne_eqb, nat_eq, if◌then◌else◌}
+use Rattle.std.proofs.Common.{◌≡◌, ◌≢◌, ◌⊎◌, ℕ, ◌<◌, ◌≤◌, Bool, true, false, ◌&&◌, ◌||◌, List, []}
+use Rattle.std.proofs.Common.{◌∷◌, ◌++◌, length, fold, Option, None, Some, refl, sym, ap, ◌∙◌}
+use Rattle.std.proofs.Common.{subst, arith, inl, inr, eq-eqb, ne_eqb, nat_eq, if◌then◌else◌}
 use Rattle.std.specs.Str.{bytes_eq}
 use Rattle.std.proofs.lemmas.Bool.{cases_Bool, eqb-true, true≢false, false≢true, and_parts}
 use Rattle.std.proofs.lemmas.List.Sums.{fold_push}
 use Rattle.cb_types.specs.declared.answer.Answer.{Answer}
 use Rattle.cb_types.specs.declared.handle.Handle.{Handle}
 use Rattle.cb_types.specs.declared.request.Request.{Request}
-use Rattle.cb_types.specs.declared.request.Request.TheVariants.{Make, Read, Write, Free, Pin, Peek, Unpin, Filter, Leave}
+use Rattle.cb_types.specs.declared.request.Request.TheVariants.{Make, Read, Write, Free, Pin, Peek}
+use Rattle.cb_types.specs.declared.request.Request.TheVariants.{Unpin, Filter, Leave}
 use Rattle.cb_types.specs.declared.reply.Reply.{Reply}
 use Rattle.cb_types.specs.declared.reply.Reply.TheVariants as answer
 use Rattle.cb_types.specs.Requests.{name_of}
@@ -15,14 +18,22 @@ use Rattle.cb_model.specs.Now.{MapNow}
 use Rattle.cb_model.specs.Event.{Event, Subject, change_of, event_of, refusal}
 use Rattle.cb_model.specs.Event.Subject.{Contents, Other, Nothing}
 use Rattle.cb_model.specs.Event.Event.{Makes, Writes, Frees}
-use Rattle.cb_model.specs.Called.{calls_of, handle_for, handle_made, handle_named, handle_of, makes, value_at}
+use Rattle.cb_model.specs.Called.{calls_of, handle_for, handle_made, handle_named, handle_of, makes}
+use Rattle.cb_model.specs.Called.{value_at}
 use Rattle.cb_model.specs.Legal.{IsUnmadeRight}
 use Rattle.cb_model.specs.Replies.{MapReplies}
 use Rattle.cb_script.specs.declared.script.Line.{Line}
-use Rattle.cb_lanes.specs.Alone.{AloneSays, HasOwnLines, IsCalmReply, KeepAlone, LaneState, alone_after, alone_more, named_objects_after, fresh_lane, is_leave, is_maker, is_maker_of, is_own, leaves, now_after, now_named, own_name, peek_alone, pin_alone, pins_shared, read_alone, free_alone, unpin_alone, write_alone}
-use Rattle.cb_lanes.specs.Scopes.{PinnedSays, Scope, ScopeSays, named_on, newest_on, scope_after, scope_more, scope_of, without_newest}
-use Rattle.cb_lanes.proofs.AloneReplies.{PinsTell, free_says, make_says, peek_says, pin_says, read_says, unpin_says, write_says}
-use Rattle.cb_lanes.proofs.AloneValues.{made_value, other_value, own_value, quiet_value, value_named}
+use Rattle.cb_lanes.specs.Alone.{AloneSays, HasOwnLines, IsCalmReply, KeepAlone, LaneState}
+use Rattle.cb_lanes.specs.Alone.{alone_after, alone_more, named_objects_after, fresh_lane, is_leave}
+use Rattle.cb_lanes.specs.Alone.{is_maker, is_maker_of, is_own, leaves, now_after, now_named}
+use Rattle.cb_lanes.specs.Alone.{own_name, peek_alone, pin_alone, pins_shared, read_alone}
+use Rattle.cb_lanes.specs.Alone.{free_alone, unpin_alone, write_alone}
+use Rattle.cb_lanes.specs.Scopes.{PinnedSays, Scope, ScopeSays, named_on, newest_on, scope_after}
+use Rattle.cb_lanes.specs.Scopes.{scope_more, scope_of, without_newest}
+use Rattle.cb_lanes.proofs.AloneReplies.{PinsTell, free_says, make_says, peek_says, pin_says}
+use Rattle.cb_lanes.proofs.AloneReplies.{read_says, unpin_says, write_says}
+use Rattle.cb_lanes.proofs.AloneValues.{made_value, other_value, own_value, quiet_value}
+use Rattle.cb_lanes.proofs.AloneValues.{value_named}
 use Rattle.cb_lanes.proofs.PinLists.{name_cases}
 
 -- What a lane has by itself is what the map and the scopes have after these answers.

@@ -1,9 +1,12 @@
 -- Each reply to a lane's own line is that of the map and of the lane's scope.
-use Rattle.std.proofs.Common.{◌≡◌, ◌≢◌, ℕ, ◌+◌, ◌<◌, ◌≤◌, Bool, List, length, Option, None, Some, refl, sym, ap, ◌∙◌, subst, arith, eq-eqb, ne_eqb, if◌then◌else◌, nat_le}
+use Rattle.std.proofs.Common.{◌≡◌, ◌≢◌, ℕ, ◌+◌, ◌<◌, ◌≤◌, Bool, List, length, Option, None, Some}
+use Rattle.std.proofs.Common.{refl, sym, ap, ◌∙◌, subst, arith, eq-eqb, ne_eqb, if◌then◌else◌}
+use Rattle.std.proofs.Common.{nat_le}
 use Rattle.std.proofs.lemmas.Bool.{le-leb, lt-leb}
 use Rattle.cb_types.specs.declared.handle.Handle.{Handle}
 use Rattle.cb_types.specs.declared.request.Request.{Request}
-use Rattle.cb_types.specs.declared.request.Request.TheVariants.{Make, Read, Write, Free, Pin, Peek, Unpin}
+use Rattle.cb_types.specs.declared.request.Request.TheVariants.{Make, Read, Write, Free, Pin, Peek}
+use Rattle.cb_types.specs.declared.request.Request.TheVariants.{Unpin}
 use Rattle.cb_types.specs.declared.reply.Reply.{Reply}
 use Rattle.cb_types.specs.declared.reply.Reply.TheVariants as answer
 use Rattle.cb_types.specs.Table.{IsReplyOf}
@@ -13,7 +16,8 @@ use Rattle.cb_model.specs.Now.{MapNow}
 use Rattle.cb_model.specs.Event.{event_of}
 use Rattle.cb_model.specs.Replies.{MapReplies}
 use Rattle.cb_model.specs.Legal.{IsUnmadeRight}
-use Rattle.cb_lanes.specs.Alone.{IsCalmReply, change_alone, free_alone, peek_alone, pin_alone, pin_object, read_alone, unpin_alone, write_alone}
+use Rattle.cb_lanes.specs.Alone.{IsCalmReply, change_alone, free_alone, peek_alone, pin_alone}
+use Rattle.cb_lanes.specs.Alone.{pin_object, read_alone, unpin_alone, write_alone}
 use Rattle.cb_lanes.specs.Scopes.{PeekSays, PinnedSays, UnpinSays}
 
 -- ---- what a change tells of the pins on its object

@@ -1,5 +1,7 @@
 -- What the map has under a name, answer by answer.
-use Rattle.std.proofs.Common.{◌≡◌, ◌≢◌, ◌⊎◌, ℕ, Bool, true, false, List, [], ◌∷◌, ◌++◌, Option, None, Some, refl, sym, ap, ◌∙◌, inl, inr, eq-eqb, ne_eqb, fold, if◌then◌else◌}
+use Rattle.std.proofs.Common.{◌≡◌, ◌≢◌, ◌⊎◌, ℕ, Bool, true, false, List, [], ◌∷◌, ◌++◌, Option}
+use Rattle.std.proofs.Common.{None, Some, refl, sym, ap, ◌∙◌, inl, inr, eq-eqb, ne_eqb, fold}
+use Rattle.std.proofs.Common.{if◌then◌else◌}
 use Rattle.std.proofs.lemmas.Bool.{cases_eq}
 use Rattle.cb_types.specs.declared.answer.Answer.{Answer}
 use Rattle.cb_types.specs.declared.handle.Handle.{Handle}
@@ -7,7 +9,8 @@ use Rattle.cb_types.specs.declared.request.Request.TheVariants.{Make}
 use Rattle.cb_types.specs.declared.reply.Reply.TheVariants.{Made}
 use Rattle.cb_model.specs.Now.{MapNow, Change, changed}
 use Rattle.cb_model.specs.Event.{event_of, change_of}
-use Rattle.cb_model.specs.Called.{Called, first_of, handle_of, handle_for, handle_made, called, calls_of, change_to, is_about, value, value_at}
+use Rattle.cb_model.specs.Called.{Called, first_of, handle_of, handle_for, handle_made, called}
+use Rattle.cb_model.specs.Called.{calls_of, change_to, is_about, value, value_at}
 use Rattle.cb_model.proofs.Laws.{calls_of-push, handle_of-push, value-push}
 use Rattle.cb_lanes.specs.Alone.{now_after}
 

@@ -1,5 +1,7 @@
 -- What a run keeps while it answers the lines of a script.
-use Rattle.std.proofs.Common.{◌≡◌, ◌⊎◌, ℕ, zero, suc, ◌+◌, ◌<◌, ◌≤◌, List, [], ◌∷◌, ◌++◌, length, Bool, true, false, cond, Option, None, Some, refl, sym, ap, ◌∙◌, subst, arith, lit≤, inl, inr, get_or, take, map}
+use Rattle.std.proofs.Common.{◌≡◌, ◌⊎◌, ℕ, zero, suc, ◌+◌, ◌<◌, ◌≤◌, List, [], ◌∷◌, ◌++◌, length}
+use Rattle.std.proofs.Common.{Bool, true, false, cond, Option, None, Some, refl, sym, ap, ◌∙◌}
+use Rattle.std.proofs.Common.{subst, arith, lit≤, inl, inr, get_or, take, map}
 use Rattle.std.specs.List.{AllByRecursion, cons_option}
 use Rattle.std.specs.Str.{bytes_eq}
 use Rattle.std.proofs.lemmas.List.Elements.{filter_map-append}
@@ -11,13 +13,18 @@ use Rattle.cb_types.specs.Config.{IsAccepted}
 use Rattle.cb_types.specs.declared.config.Field.TheVariants.{Nodes}
 use Rattle.cb_types.specs.declared.job.Job.TheVariants as job
 use Rattle.cb_types.specs.declared.request.Request.{Request}
-use Rattle.cb_types.specs.declared.request.Request.TheVariants.{Make, Read, Write, Free, Pin, Peek, Unpin, Filter, Evict, Begin, Ship, Commit, Abort, Pair, Patch, Merge, Part, Compact, Rebuild, Crash, Join, Leave}
+use Rattle.cb_types.specs.declared.request.Request.TheVariants.{Make, Read, Write, Free, Pin, Peek}
+use Rattle.cb_types.specs.declared.request.Request.TheVariants.{Unpin, Filter, Evict, Begin, Ship}
+use Rattle.cb_types.specs.declared.request.Request.TheVariants.{Commit, Abort, Pair, Patch, Merge}
+use Rattle.cb_types.specs.declared.request.Request.TheVariants.{Part, Compact, Rebuild, Crash, Join}
+use Rattle.cb_types.specs.declared.request.Request.TheVariants.{Leave}
 use Rattle.cb_types.specs.declared.reply.Reply.{Reply}
 use Rattle.cb_types.specs.declared.reply.Reply.TheVariants as answer
 use Rattle.cb_types.specs.Requests.{name_of}
 use Rattle.cb_model.specs.Event.{event_of}
 use Rattle.cb_model.specs.Event.Event.{FindsUnmade}
-use Rattle.cb_model.specs.Called.{first_of, handle_of, handle_made, handle_named, handle_for, called, calls_of, makes, made_by, value_at}
+use Rattle.cb_model.specs.Called.{first_of, handle_of, handle_made, handle_named, handle_for}
+use Rattle.cb_model.specs.Called.{called, calls_of, makes, made_by, value_at}
 use Rattle.cb_model.specs.Now.{MapNow}
 use Rattle.cb_model.specs.Replies.{MapReplies}
 use Rattle.cb_model.specs.Legal.{Follow, IsMapReply}
@@ -30,7 +37,9 @@ use Rattle.cb_world.specs.Seats.{pins_of_seat}
 use Rattle.cb_world.specs.World.{WorldState, IsSoundWorld, empty_world}
 use Rattle.cb_mutate.specs.MapBeside.{IsMapBeside}
 use Rattle.cb_mutate.proofs.Laws.{is_map_reply, is_map_make, beside_kept, empty_beside}
-use Rattle.cb_core.proofs.Laws.{are_gone, evict_turn, begin_turn, ship_turn, commit_turn, abort_turn, pair_turn, patch_turn, merge_turn, part_turn, rebuild_turn}
+use Rattle.cb_core.proofs.Laws.{are_gone, evict_turn, begin_turn, ship_turn, commit_turn}
+use Rattle.cb_core.proofs.Laws.{abort_turn, pair_turn, patch_turn, merge_turn, part_turn}
+use Rattle.cb_core.proofs.Laws.{rebuild_turn}
 use Rattle.cb_world.specs.Empty.{empty_words, empty_far, empty_shown}
 use Rattle.cb_world.proofs.Laws.{empty_shows, empty_sound, now_same, empty_world_sound}
 use Rattle.cb_lanes.specs.Asked.{answer_to, asked, HasLineReply}
@@ -41,7 +50,8 @@ use Rattle.cb_lanes.specs.LineStep.{LineStep, goes_at}
 use Rattle.cb_lanes.specs.declared.side.Side.{Side}
 use Rattle.cb_lanes.specs.LinesLeft.{AreLanes}
 use Rattle.cb_lanes.specs.Lost.{told_loss, losses_of}
-use Rattle.cb_lanes.specs.Names.{KeptNames, kept_number, kept_for, request_handle, number_after, AreKept, AreReady}
+use Rattle.cb_lanes.specs.Names.{KeptNames, kept_number, kept_for, request_handle, number_after}
+use Rattle.cb_lanes.specs.Names.{AreKept, AreReady}
 use Rattle.cb_lanes.specs.Scopes.{KeepScopes, ScopeSays, scope_of}
 use Rattle.cb_lanes.proofs.ByAsk.{by_ask}
 use Rattle.cb_lanes.proofs.CompactGoes.{compact_goes}
@@ -52,7 +62,9 @@ use Rattle.cb_lanes.proofs.NamesKept.{name_within}
 use Rattle.cb_lanes.proofs.Pinning.{pin_goes, peek_goes, unpin_goes, leave_goes}
 use Rattle.cb_lanes.proofs.Scoping.{Scoped, line_scoped}
 use Rattle.cb_lanes.proofs.SeatGoes.{ask_settings}
-use Rattle.cb_lanes.proofs.ScopesKept.{AreScopes, scopes_none, scopes_push, keep_push, Rested, rests, LeadsOn, leads_push, IsFreshName, grown, apart_after, lines_own}
+use Rattle.cb_lanes.proofs.ScopesKept.{AreScopes, scopes_none, scopes_push, keep_push, Rested}
+use Rattle.cb_lanes.proofs.ScopesKept.{rests, LeadsOn, leads_push, IsFreshName, grown, apart_after}
+use Rattle.cb_lanes.proofs.ScopesKept.{lines_own}
 use Rattle.cb_lanes.proofs.Silent.{unmade_line, still_goes, crash_goes, join_goes}
 use Rattle.cb_lanes.proofs.Turning.{Turning, around, LineGives}
 

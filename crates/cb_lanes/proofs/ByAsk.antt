@@ -3,10 +3,12 @@ use Rattle.std.proofs.Common.{◌≡◌, ℕ, Option, Some, None}
 use Rattle.cb_types.specs.declared.job.Job.{Job}
 use Rattle.cb_types.specs.declared.job.Job.TheVariants as job
 use Rattle.cb_types.specs.declared.request.Request.{Request}
-use Rattle.cb_types.specs.declared.request.Request.TheVariants.{Make, Read, Write, Free, Pin, Peek, Unpin, Filter, Leave}
+use Rattle.cb_types.specs.declared.request.Request.TheVariants.{Make, Read, Write, Free, Pin, Peek}
+use Rattle.cb_types.specs.declared.request.Request.TheVariants.{Unpin, Filter, Leave}
 use Rattle.cb_types.specs.declared.reply.Reply.{Reply}
 use Rattle.cb_types.specs.declared.reply.Reply.TheVariants as answer
-use Rattle.cb_lanes.specs.LineGoes.{Ask, Goes, Calls, Pins, Peeks, Unpins, Leaves, ObjectGoes, OtherGoes, LineGoes, job_of}
+use Rattle.cb_lanes.specs.LineGoes.{Ask, Goes, Calls, Pins, Peeks, Unpins, Leaves, ObjectGoes}
+use Rattle.cb_lanes.specs.LineGoes.{OtherGoes, LineGoes, job_of}
 
 -- it holds where the line asks for something, and where the line asks for nothing
 module _ {A : Type 0} (goes : Goes A) (a b : A) (r : Reply) (T : Type 0)

@@ -15,7 +15,8 @@ use Rattle.cb_shared.specs.Passes.{IsAtRest}
 use Rattle.cb_shared.specs.Turning.{KnowsOf, TurnBy}
 use Rattle.cb_shared.proofs.Laws.{known_below, known_grown}
 use Rattle.std.specs.Prelude.{Ok}
-use Rattle.cb_lanes.specs.LineGoes.{Ask, CallGoes, Calls, Goes, Leaves, LineGoes, ObjectGoes, OtherGoes, Peeks, Pins, Unpins, job_of}
+use Rattle.cb_lanes.specs.LineGoes.{Ask, CallGoes, Calls, Goes, Leaves, LineGoes, ObjectGoes}
+use Rattle.cb_lanes.specs.LineGoes.{OtherGoes, Peeks, Pins, Unpins, job_of}
 use Rattle.cb_lanes.specs.MayAsk.{IsNamedIfMade, MayCall, StayNamed}
 use Rattle.cb_lanes.specs.Passing.{CallGives, goes_in}
 use Rattle.cb_lanes.proofs.LineParts.{adds_knows, line_adds}

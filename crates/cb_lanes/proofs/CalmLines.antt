@@ -6,18 +6,23 @@ use Rattle.cb_ptr.specs.Word.{state_of, pins_of}
 use Rattle.cb_types.specs.declared.job.Job.{Job}
 use Rattle.cb_types.specs.declared.job.Job.TheVariants as job
 use Rattle.cb_types.specs.declared.request.Request.{Request}
-use Rattle.cb_types.specs.declared.request.Request.TheVariants.{Make, Read, Write, Free, Pin, Peek, Unpin, Filter, Leave}
+use Rattle.cb_types.specs.declared.request.Request.TheVariants.{Make, Read, Write, Free, Pin, Peek}
+use Rattle.cb_types.specs.declared.request.Request.TheVariants.{Unpin, Filter, Leave}
 use Rattle.cb_types.specs.declared.reply.Reply.{Reply}
 use Rattle.cb_types.specs.declared.reply.Reply.TheVariants as answer
 use Rattle.cb_world.specs.OpenSteps.{NoneHolds}
 use Rattle.cb_world.specs.StillWords.{stamp_at}
 use Rattle.cb_world.specs.World.{WorldState, IsSoundWorld, word_at}
 use Rattle.cb_core.specs.declared.event.Event.TheVariants.{Turn}
-use Rattle.cb_core.specs.Pinning.{PinStep, UnpinStep, given, not_pinned as none_given, pin_refusal, refused, scope_full, taken}
+use Rattle.cb_core.specs.Pinning.{PinStep, UnpinStep, given, not_pinned as none_given, pin_refusal}
+use Rattle.cb_core.specs.Pinning.{refused, scope_full, taken}
 use Rattle.cb_core.specs.Step.{Step}
-use Rattle.cb_core.proofs.Laws.{IsEased, IsSwapRefusal, IsWholeJob, MakesEasy, SwapEnds, pin_calm, refused as swap_refused, stays, swap_sound, swap_turn, swapped, turn_calm}
+use Rattle.cb_core.proofs.Laws.{IsEased, IsSwapRefusal, IsWholeJob, MakesEasy, SwapEnds, pin_calm}
+use Rattle.cb_core.proofs.Laws.{refused as swap_refused, stays, swap_sound, swap_turn, swapped}
+use Rattle.cb_core.proofs.Laws.{turn_calm}
 use Rattle.cb_lanes.specs.LineGoes.{job_of}
-use Rattle.cb_lanes.specs.LineStep.{LineStep, ObjectStep, OtherStep, IsInReply, PeekStep, not_pinned, shown, PinLine, at_once, stays_far, swapped_in}
+use Rattle.cb_lanes.specs.LineStep.{LineStep, ObjectStep, OtherStep, IsInReply, PeekStep}
+use Rattle.cb_lanes.specs.LineStep.{not_pinned, shown, PinLine, at_once, stays_far, swapped_in}
 use Rattle.cb_lanes.specs.declared.side.Side.{Side}
 use Rattle.cb_lanes.proofs.EasyLines.{IsEasyLine, job_whole}
 use Rattle.cb_lanes.proofs.Lone.{turn_alone}

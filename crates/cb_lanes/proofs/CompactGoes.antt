@@ -15,7 +15,8 @@ use Rattle.cb_world.specs.OpenSteps.{NoneHolds}
 use Rattle.cb_world.specs.Plain.{Words}
 use Rattle.cb_world.specs.World.{WorldState, IsKnown, IsSoundWorld}
 use Rattle.cb_core.specs.Turned.{counted}
-use Rattle.cb_core.proofs.Laws.{IsSameMap, compact_turn, counted_map, is_done, kept_beside, known_same, once_known}
+use Rattle.cb_core.proofs.Laws.{IsSameMap, compact_turn, counted_map, is_done, kept_beside}
+use Rattle.cb_core.proofs.Laws.{known_same, once_known}
 use Rattle.cb_local.specs.LocalStep.{LocalStep}
 use Rattle.cb_local.proofs.Laws.{local_laws}
 use Rattle.cb_lanes.specs.Asked.{answer_to}

@@ -1,6 +1,8 @@
 -- What a script at ease keeps from line to line: its replies are calm, and each lane's own lines are
 -- answered as the lane is by itself.
-use Rattle.std.proofs.Common.{◌≡◌, ℕ, ◌+◌, ◌^◌, ◌<◌, ◌≤◌, Bool, true, ◌&&◌, List, [], ◌∷◌, ◌++◌, length, map, take, get_or, Option, None, Some, refl, sym, ap, ◌∙◌, subst, arith, eq-eqb, nat_eq, append_assoc}
+use Rattle.std.proofs.Common.{◌≡◌, ℕ, ◌+◌, ◌^◌, ◌<◌, ◌≤◌, Bool, true, ◌&&◌, List, [], ◌∷◌, ◌++◌}
+use Rattle.std.proofs.Common.{length, map, take, get_or, Option, None, Some, refl, sym, ap, ◌∙◌}
+use Rattle.std.proofs.Common.{subst, arith, eq-eqb, nat_eq, append_assoc}
 use Rattle.std.specs.List.{AllByRecursion}
 use Rattle.std.proofs.lemmas.List.{append-nil, length_push}
 use Rattle.std.proofs.lemmas.List.Sums.{count_by_more_yes}
@@ -11,7 +13,8 @@ use Rattle.cb_types.specs.declared.reply.Reply.{Reply}
 use Rattle.cb_types.specs.declared.reply.Reply.TheVariants as answer
 use Rattle.cb_types.specs.Requests.{name_of}
 use Rattle.cb_types.specs.Table.{IsReplyOf}
-use Rattle.cb_model.specs.Called.{Called, called, calls_of, handle_for, handle_named, makes, value, value_at}
+use Rattle.cb_model.specs.Called.{Called, called, calls_of, handle_for, handle_named, makes, value}
+use Rattle.cb_model.specs.Called.{value_at}
 use Rattle.cb_model.specs.Event.{event_of}
 use Rattle.cb_model.specs.Replies.{MapReplies}
 use Rattle.cb_model.specs.Legal.{Follow, IsMapReply}
@@ -31,7 +34,8 @@ use Rattle.cb_lanes.specs.LineStep.{LineStep}
 use Rattle.cb_lanes.specs.Names.{KeptNames, kept_for, kept_number, request_handle}
 use Rattle.cb_lanes.specs.Scopes.{KeepScopes, ScopeSays, scope_of}
 use Rattle.cb_lanes.proofs.AloneGoes.{GoesAlone, Telling, alone_none, alone_push}
-use Rattle.cb_lanes.proofs.AloneLines.{IsOwnName, any_at, count_front, each_at, names_known, one_maker}
+use Rattle.cb_lanes.proofs.AloneLines.{IsOwnName, any_at, count_front, each_at, names_known}
+use Rattle.cb_lanes.proofs.AloneLines.{one_maker}
 use Rattle.cb_lanes.proofs.Along.{Along, along_ready, line_form}
 use Rattle.cb_lanes.proofs.CalmLines.{line_calm}
 use Rattle.cb_lanes.proofs.EasyLines.{IsIdleAmong, empty_at_rest, line_at_rest, rests_at_rest}

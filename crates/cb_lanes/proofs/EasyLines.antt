@@ -1,6 +1,7 @@
 -- What a script at ease keeps from line to line: no batch is leaving and no pair is joining, no
 -- node has crashed but those that its lines name, and no seat has an open write.
-use Rattle.std.proofs.Common.{◌≡◌, ℕ, true, false, List, replicate, Contains, Option, Some, refl, sym, ap, ◌∙◌, subst, inl, inr, eq-eqb}
+use Rattle.std.proofs.Common.{◌≡◌, ℕ, true, false, List, replicate, Contains, Option, Some, refl}
+use Rattle.std.proofs.Common.{sym, ap, ◌∙◌, subst, inl, inr, eq-eqb}
 use Rattle.std.proofs.lemmas.Bool.{cases_lt, false≢true}
 use Rattle.std.proofs.lemmas.List.{get_or-replicate, get_or_past}
 use Rattle.std.proofs.lemmas.Option.{same_Some, none-some}
@@ -8,7 +9,9 @@ use Rattle.cb_types.specs.declared.config.Config.{Config}
 use Rattle.cb_types.specs.declared.job.Job.{Job}
 use Rattle.cb_types.specs.declared.job.Job.TheVariants as job
 use Rattle.cb_types.specs.declared.request.Request.{Request}
-use Rattle.cb_types.specs.declared.request.Request.TheVariants.{Evict, Begin, Ship, Commit, Abort, Pair, Patch, Merge, Part, Compact, Rebuild, Crash, Join}
+use Rattle.cb_types.specs.declared.request.Request.TheVariants.{Evict, Begin, Ship, Commit, Abort}
+use Rattle.cb_types.specs.declared.request.Request.TheVariants.{Pair, Patch, Merge, Part, Compact}
+use Rattle.cb_types.specs.declared.request.Request.TheVariants.{Rebuild, Crash, Join}
 use Rattle.cb_types.specs.declared.reply.Reply.{Reply}
 use Rattle.cb_script.specs.Roomy.{is_crash, is_step}
 use Rattle.cb_world.specs.declared.seats.Pin.{Pin as SeatPin}
@@ -17,7 +20,8 @@ use Rattle.cb_world.specs.Seats.{SeatState, idle_seat, seat_at, with_pins}
 use Rattle.cb_world.specs.World.{WorldState, empty_world}
 use Rattle.cb_world.proofs.Laws.{seat_beside}
 use Rattle.cb_core.specs.Pinning.{PinStep, UnpinStep, given, not_pinned, refused, scope_full, taken}
-use Rattle.cb_core.proofs.Laws.{CrashedAmong, IsIdle, IsWholeJob, NamesAmong, none_crashed, pin_far, turn_crashed, turn_idle, unpin_far}
+use Rattle.cb_core.proofs.Laws.{CrashedAmong, IsIdle, IsWholeJob, NamesAmong, none_crashed, pin_far}
+use Rattle.cb_core.proofs.Laws.{turn_crashed, turn_idle, unpin_far}
 use Rattle.cb_lanes.specs.GivingBack.{Rests}
 use Rattle.cb_lanes.specs.LineGoes.{job_of}
 use Rattle.cb_lanes.specs.LineStep.{LineStep}

@@ -1,5 +1,7 @@
 -- Between the lines of a script at ease every turn is easy.
-use Rattle.std.proofs.Common.{◌≡◌, ◌⊎◌, ℕ, zero, suc, ◌+◌, ◌*◌, ◌<◌, ◌≤◌, Bool, true, false, List, [], ◌∷◌, length, map, take, get_or, filter, Contains, refl, sym, ap, ◌∙◌, subst, arith, inl, inr, eqb-true, if◌then◌else◌, length-take}
+use Rattle.std.proofs.Common.{◌≡◌, ◌⊎◌, ℕ, zero, suc, ◌+◌, ◌*◌, ◌<◌, ◌≤◌, Bool, true, false, List}
+use Rattle.std.proofs.Common.{[], ◌∷◌, length, map, take, get_or, filter, Contains, refl, sym, ap}
+use Rattle.std.proofs.Common.{◌∙◌, subst, arith, inl, inr, eqb-true, if◌then◌else◌, length-take}
 use Rattle.std.specs.List.{range_with_len, sum_by}
 use Rattle.std.proofs.lemmas.Bool.{cases_Bool, cases_lt, false≢true}
 use Rattle.std.proofs.lemmas.List.{length-map}
@@ -14,7 +16,8 @@ use Rattle.cb_model.specs.Called.{calls_of, value}
 use Rattle.cb_script.specs.declared.script.Line.{Line}
 use Rattle.cb_script.specs.declared.script.Script.{Script}
 use Rattle.cb_script.specs.Form.{IsRequest, IsScript}
-use Rattle.cb_script.specs.Roomy.{IsAtEase, crashing, has_crash, has_pin, is_crash, is_make, is_step, makes_in, pinning}
+use Rattle.cb_script.specs.Roomy.{IsAtEase, crashing, has_crash, has_pin, is_crash, is_make}
+use Rattle.cb_script.specs.Roomy.{is_step, makes_in, pinning}
 use Rattle.cb_world.specs.declared.seats.Pin.{Pin}
 use Rattle.cb_world.specs.Seats.{SeatState, idle_seat, pins_of_seat}
 use Rattle.cb_world.specs.World.{WorldState}

@@ -1,7 +1,10 @@
 -- What pins and their ends leave of a world, and giving all pins of a seat back.
-use Rattle.std.proofs.Common.{◌≡◌, ◌≢◌, ℕ, suc, ◌+◌, ◌-◌, ◌<◌, ◌≤◌, List, [], ◌∷◌, ◌++◌, length, map, replicate, reverse, take, get_or, refl, sym, ap, ◌∙◌, subst, arith, get_or-set_same, get_or-set_other}
+use Rattle.std.proofs.Common.{◌≡◌, ◌≢◌, ℕ, suc, ◌+◌, ◌-◌, ◌<◌, ◌≤◌, List, [], ◌∷◌, ◌++◌, length}
+use Rattle.std.proofs.Common.{map, replicate, reverse, take, get_or, refl, sym, ap, ◌∙◌, subst}
+use Rattle.std.proofs.Common.{arith, get_or-set_same, get_or-set_other}
 use Rattle.std.specs.List.{remove}
-use Rattle.std.proofs.lemmas.List.{length_push, length-reverse, nil_from_length, reverse-append, take_more, take_all}
+use Rattle.std.proofs.lemmas.List.{length_push, length-reverse, nil_from_length, reverse-append}
+use Rattle.std.proofs.lemmas.List.{take_more, take_all}
 use Rattle.std.proofs.lemmas.List.Edits.{length-remove}
 use Rattle.std.proofs.lemmas.List.Elements.{All-get_or}
 use Rattle.std.proofs.lemmas.Option.{slice_get_within, get_or_from_slice_get}
@@ -18,7 +21,8 @@ use Rattle.cb_world.specs.Seats.{IsNewestOf, NoneOn, SeatState, idle_seat, pins_
 use Rattle.cb_world.specs.World.{WorldState, IsKnown, IsSoundWorld, word_at}
 use Rattle.cb_world.proofs.Laws.{pinned_now, unpinned_now, pin_counts}
 use Rattle.cb_core.specs.declared.event.Event.{Event}
-use Rattle.cb_core.specs.Pinning.{PinStep, scope_full, refused, taken, UnpinStep, not_pinned, given, IsPinGiven}
+use Rattle.cb_core.specs.Pinning.{PinStep, scope_full, refused, taken, UnpinStep, not_pinned, given}
+use Rattle.cb_core.specs.Pinning.{IsPinGiven}
 use Rattle.cb_core.specs.Step.{Leads}
 use Rattle.cb_core.proofs.Laws.{pin_step_sound, unpin_step_sound, known_same}
 use Rattle.cb_lanes.specs.GivingBack.{unpin_event, GivesAll}

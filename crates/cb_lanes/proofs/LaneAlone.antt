@@ -1,6 +1,8 @@
 -- A lane's own lines are answered beside other lanes as if the lane were alone, up to the first one
 -- that lacks something.
-use Rattle.std.proofs.Common.{◌≡◌, ◌⊎◌, ℕ, Bool, true, false, ◌&&◌, ◌||◌, List, [], ◌∷◌, ◌++◌, Option, None, Some, inl, inr, sym, refl, ap, ◌∙◌, subst, eq-eqb, if◌then◌else◌}
+use Rattle.std.proofs.Common.{◌≡◌, ◌⊎◌, ℕ, Bool, true, false, ◌&&◌, ◌||◌, List, [], ◌∷◌, ◌++◌}
+use Rattle.std.proofs.Common.{Option, None, Some, inl, inr, sym, refl, ap, ◌∙◌, subst, eq-eqb}
+use Rattle.std.proofs.Common.{if◌then◌else◌}
 use Rattle.std.proofs.lemmas.Bool.{cases_Bool}
 use Rattle.std.proofs.lemmas.Option.{none-some}
 use Rattle.cb_types.specs.declared.answer.Answer.{Answer}
@@ -14,7 +16,8 @@ use Rattle.cb_rule.specs.Lists.{Has}
 use Rattle.cb_record.proofs.Laws.{has_right}
 use Rattle.cb_shared.specs.Joining.{unpinned_all}
 use Rattle.cb_lanes.specs.declared.body.Named.{Named}
-use Rattle.cb_lanes.specs.Alone.{AloneSays, LaneState, alone_after, alone_more, fresh_lane, is_leave, is_maker, is_maker_of, is_own, leaves, own_name}
+use Rattle.cb_lanes.specs.Alone.{AloneSays, LaneState, alone_after, alone_more, fresh_lane}
+use Rattle.cb_lanes.specs.Alone.{is_leave, is_maker, is_maker_of, is_own, leaves, own_name}
 use Rattle.cb_lanes.specs.AloneUntil.{KeepAloneUntil, is_lack, lacks}
 use Rattle.cb_lanes.specs.Bodies.{KnowsNames, LinesGo, handle_among, handle_behind}
 use Rattle.cb_lanes.specs.KeepsOwn.{KeepsOwn}

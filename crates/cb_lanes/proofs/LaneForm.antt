@@ -1,5 +1,7 @@
 -- The lines of a lane of a script are such as are known of a lane's lines.
-use Rattle.std.proofs.Common.{◌≡◌, ◌⊎◌, ℕ, ◌≤◌, Bool, true, false, ◌&&◌, List, [], ◌∷◌, ◌++◌, map, Option, None, Some, inl, inr, sym, refl, ap, ◌∙◌, subst, eq-eqb, nat_eq, append_assoc, arith, if◌then◌else◌}
+use Rattle.std.proofs.Common.{◌≡◌, ◌⊎◌, ℕ, ◌≤◌, Bool, true, false, ◌&&◌, List, [], ◌∷◌, ◌++◌, map}
+use Rattle.std.proofs.Common.{Option, None, Some, inl, inr, sym, refl, ap, ◌∙◌, subst, eq-eqb}
+use Rattle.std.proofs.Common.{nat_eq, append_assoc, arith, if◌then◌else◌}
 use Rattle.std.specs.List.{AllByRecursion, list_any}
 use Rattle.std.specs.Str.{bytes_eq}
 use Rattle.std.proofs.lemmas.Bool.{cases_Bool, eqb-true, true≢false, or_parts}
@@ -21,7 +23,8 @@ use Rattle.cb_lanes.specs.declared.body.Named.{Named}
 use Rattle.cb_lanes.specs.Alone.{HasOwnLines, fresh_lane, is_maker, pins_shared}
 use Rattle.cb_lanes.specs.AloneUntil.{KeepAloneUntil, LaneKeepsAlone}
 use Rattle.cb_lanes.specs.Asked.{HasLineReply, asked}
-use Rattle.cb_lanes.specs.Bodies.{KnowsNames, LaneGoes, LinesGo, handle_among, handle_behind, of_lane}
+use Rattle.cb_lanes.specs.Bodies.{KnowsNames, LaneGoes, LinesGo, handle_among, handle_behind}
+use Rattle.cb_lanes.specs.Bodies.{of_lane}
 use Rattle.cb_lanes.specs.KeepsOwn.{KeepsOwn}
 use Rattle.cb_lanes.specs.Passing.{goes_in}
 use Rattle.cb_lanes.proofs.AloneLines.{maker_of, one_maker}

@@ -1,5 +1,7 @@
 -- What the lines of a lane beside others are answered: as its scope says.
-use Rattle.std.proofs.Common.{◌≡◌, ◌≢◌, ◌⊎◌, ℕ, ◌+◌, ◌<◌, ◌≤◌, Bool, true, false, cond, List, [], ◌∷◌, ◌++◌, length, map, Option, None, Some, refl, sym, ap, ◌∙◌, subst, arith, inl, inr, eq-eqb, ne_eqb, if◌then◌else◌, append_assoc}
+use Rattle.std.proofs.Common.{◌≡◌, ◌≢◌, ◌⊎◌, ℕ, ◌+◌, ◌<◌, ◌≤◌, Bool, true, false, cond, List, []}
+use Rattle.std.proofs.Common.{◌∷◌, ◌++◌, length, map, Option, None, Some, refl, sym, ap, ◌∙◌, subst}
+use Rattle.std.proofs.Common.{arith, inl, inr, eq-eqb, ne_eqb, if◌then◌else◌, append_assoc}
 use Rattle.std.specs.List.{AllByRecursion}
 use Rattle.std.specs.Str.{bytes_eq}
 use native.Mathlib.Decide.{ℕ_discrete}
@@ -10,7 +12,8 @@ use Rattle.cb_types.specs.declared.answer.Answer.{Answer}
 use Rattle.cb_types.specs.declared.config.Config.{Config}
 use Rattle.cb_types.specs.declared.job.Job.TheVariants as job
 use Rattle.cb_types.specs.declared.request.Request.{Request}
-use Rattle.cb_types.specs.declared.request.Request.TheVariants.{Make, Read, Write, Free, Pin, Peek, Unpin, Filter, Leave}
+use Rattle.cb_types.specs.declared.request.Request.TheVariants.{Make, Read, Write, Free, Pin, Peek}
+use Rattle.cb_types.specs.declared.request.Request.TheVariants.{Unpin, Filter, Leave}
 use Rattle.cb_types.specs.declared.request.Request.TheVariants as line
 use Rattle.cb_types.specs.declared.reply.Reply.{Reply}
 use Rattle.cb_types.specs.declared.reply.Reply.TheVariants as answer
@@ -29,10 +32,14 @@ use Rattle.cb_shared.specs.Reading.{looked}
 use Rattle.cb_shared.specs.Turning.{PinsTold}
 use Rattle.cb_lanes.specs.declared.body.Named.{Named}
 use Rattle.cb_lanes.specs.Asked.{asked}
-use Rattle.cb_lanes.specs.Bodies.{AreLinesOf, AreNamesOf, LaneGoes, LinesGo, handle_among, handle_behind}
+use Rattle.cb_lanes.specs.Bodies.{AreLinesOf, AreNamesOf, LaneGoes, LinesGo, handle_among}
+use Rattle.cb_lanes.specs.Bodies.{handle_behind}
 use Rattle.cb_lanes.specs.LineGoes.{LineGoes}
-use Rattle.cb_lanes.specs.Passing.{CallGives, HasNoPin, IsNewestPin, PeekGoes, PinEnds, PinGoes, PinsAtLast, UnpinGoes, goes_in}
-use Rattle.cb_lanes.specs.Scopes.{CallSays, KeepScopes, NamedPin, PeekSays, PinnedSays, Scope, ScopeSays, UnpinSays, named_on, newest_on, scope_after, scope_more, scope_of, without_newest}
+use Rattle.cb_lanes.specs.Passing.{CallGives, HasNoPin, IsNewestPin, PeekGoes, PinEnds, PinGoes}
+use Rattle.cb_lanes.specs.Passing.{PinsAtLast, UnpinGoes, goes_in}
+use Rattle.cb_lanes.specs.Scopes.{CallSays, KeepScopes, NamedPin, PeekSays, PinnedSays, Scope}
+use Rattle.cb_lanes.specs.Scopes.{ScopeSays, UnpinSays, named_on, newest_on, scope_after}
+use Rattle.cb_lanes.specs.Scopes.{scope_more, scope_of, without_newest}
 use Rattle.cb_lanes.specs.Scoped.{AreOneToOne, AreScoped, IsMadeAs, LaneScoped}
 use Rattle.cb_lanes.proofs.LaneRises.{answers_of}
 use Rattle.cb_lanes.proofs.LinesBack.{first_assoc, handle_append, named_behind}

@@ -1,5 +1,7 @@
 -- What a lane leaves that found no memory.
-use Rattle.std.proofs.Common.{◌≡◌, ◌⊎◌, ℕ, ◌+◌, ◌<◌, List, [], ◌∷◌, ◌++◌, length, take, drop, get_or, map, Option, sym, refl, ap, ◌∙◌, subst, inl, inr, append_assoc, take-append-drop}
+use Rattle.std.proofs.Common.{◌≡◌, ◌⊎◌, ℕ, ◌+◌, ◌<◌, List, [], ◌∷◌, ◌++◌, length, take, drop}
+use Rattle.std.proofs.Common.{get_or, map, Option, sym, refl, ap, ◌∙◌, subst, inl, inr}
+use Rattle.std.proofs.Common.{append_assoc, take-append-drop}
 use Rattle.std.specs.List.{AllByRecursion}
 use Rattle.std.proofs.lemmas.List.{take_more}
 use Rattle.cb_types.specs.declared.answer.Answer.{Answer}
@@ -11,6 +13,7 @@ use Rattle.cb_rule.specs.declared.view.View.{View}
 use Rattle.cb_rule.specs.Lists.{Has}
 use Rattle.cb_rule.specs.Promised.{FoundBy}
 use Rattle.cb_record.specs.Parts.{Part, grown, nothing_more}
+use Rattle.cb_record.specs.Rises.{HasAllOf}
 use Rattle.cb_record.proofs.Laws.{has_right}
 use Rattle.cb_shared.specs.Joining.{unpinned_all}
 use Rattle.cb_shared.specs.Recalls.{Recalls}
@@ -147,7 +150,8 @@ module _ (first : ℕ) (c : Config) (lane : ℕ) (names : List Named) (lines : L
     lines_stop = stops;
     left = left;
     part = lane_adds c names answers v ended none goes;
-    rises = lane_alone c names c.nodes lane (map asked answers) answers v ended none goes are_front refl;
+    rises = lane_alone c names c.nodes lane (map asked answers) answers v ended w none goes are_front
+        refl (subst (HasAllOf ended) (sym adds.grows) (λ h n freed has. has)) own.stands.ends;
     scoped = lane_scoped c names c.nodes lane (map asked answers) answers first v ended w none knows goes
         own (leads_idly ended w adds) are_front refl;
     alone = λ one unwritten. lane_keeps_alone c c.nodes lane names (map asked answers) answers v ended none

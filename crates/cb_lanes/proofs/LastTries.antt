@@ -1,5 +1,6 @@
 -- A line of a lane beside others is answered by the last try of its calls.
-use Rattle.std.proofs.Common.{◌≡◌, ℕ, List, [], ◌∷◌, ◌++◌, Option, None, Some, refl, sym, subst, inl, inr}
+use Rattle.std.proofs.Common.{◌≡◌, ℕ, List, [], ◌∷◌, ◌++◌, Option, None, Some, refl, sym, subst}
+use Rattle.std.proofs.Common.{inl, inr}
 use Rattle.std.specs.List.{AllByRecursion}
 use Rattle.cb_types.specs.declared.answer.Answer.{Answer}
 use Rattle.cb_types.specs.declared.config.Config.{Config}
@@ -12,7 +13,8 @@ use Rattle.cb_types.specs.Requests.{name_of}
 use Rattle.cb_types.specs.Table.{IsReplyOf}
 use Rattle.cb_rule.specs.declared.view.View.{View}
 use Rattle.cb_record.specs.Parts.{Part, grown}
-use Rattle.cb_shared.specs.Calls.{IsAnswer, IsLack, ReadCallEnds, ReadGives, SaysAs, TellsOfIt, TurnGives, WriteAnswers, WriteCallEnds, the_handle}
+use Rattle.cb_shared.specs.Calls.{IsAnswer, IsLack, ReadCallEnds, ReadGives, SaysAs, TellsOfIt}
+use Rattle.cb_shared.specs.Calls.{TurnGives, WriteAnswers, WriteCallEnds, the_handle}
 use Rattle.cb_shared.specs.declared.answers.WriteAnswer.{WriteAnswer}
 use Rattle.cb_shared.specs.declared.answers.WriteAnswer.TheVariants as place
 use Rattle.cb_shared.proofs.Laws.{read_lacks}

@@ -42,7 +42,6 @@ pub mod PinsRead
 pub mod LineVersions
 pub mod TellingNew
 pub mod LineRises
-pub mod FreedLast
 pub mod LinesRise
 pub mod LaneRises
 pub mod LaneScopes

@@ -1,9 +1,11 @@
 -- What turns, pins and the ends of pins keep, lines keep too.
-use Rattle.std.proofs.Common.{◌≡◌, ℕ, zero, suc, List, [], ◌∷◌, map, Option, None, Some, refl, sym, subst}
+use Rattle.std.proofs.Common.{◌≡◌, ℕ, zero, suc, List, [], ◌∷◌, map, Option, None, Some, refl, sym}
+use Rattle.std.proofs.Common.{subst}
 use Rattle.cb_types.specs.declared.job.Job.{Job}
 use Rattle.cb_types.specs.declared.job.Job.TheVariants as job
 use Rattle.cb_types.specs.declared.request.Request.{Request}
-use Rattle.cb_types.specs.declared.request.Request.TheVariants.{Make, Read, Write, Free, Pin, Peek, Unpin, Filter, Leave}
+use Rattle.cb_types.specs.declared.request.Request.TheVariants.{Make, Read, Write, Free, Pin, Peek}
+use Rattle.cb_types.specs.declared.request.Request.TheVariants.{Unpin, Filter, Leave}
 use Rattle.cb_types.specs.declared.reply.Reply.{Reply}
 use Rattle.cb_world.specs.declared.seats.Pin.{Pin as SeatPin}
 use Rattle.cb_world.specs.World.{WorldState}
@@ -12,7 +14,8 @@ use Rattle.cb_core.specs.Pinning.{PinStep, UnpinStep}
 use Rattle.cb_core.specs.Step.{Leads, Step, TurnStep, held as other_holds, free}
 use Rattle.cb_lanes.specs.GivingBack.{unpin_event, GivesAll, Rests}
 use Rattle.cb_lanes.specs.LineGoes.{job_of}
-use Rattle.cb_lanes.specs.LineStep.{LineStep, ObjectStep, OtherStep, TurnAt, PeekStep, not_pinned, shown, PinLine, at_once, stays_far, swapped_in}
+use Rattle.cb_lanes.specs.LineStep.{LineStep, ObjectStep, OtherStep, TurnAt, PeekStep, not_pinned}
+use Rattle.cb_lanes.specs.LineStep.{shown, PinLine, at_once, stays_far, swapped_in}
 use Rattle.cb_lanes.specs.declared.side.Side.{Side}
 use Rattle.cb_lanes.proofs.Recounting.{IsRecounted, turn_beside}
 

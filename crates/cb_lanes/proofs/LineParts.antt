@@ -1,5 +1,6 @@
 -- What a line adds to the record of its pass, and that it backs the line's answer.
-use Rattle.std.proofs.Common.{◌≡◌, ◌⊎◌, ℕ, zero, suc, ◌<◌, ◌≤◌, List, [], ◌∷◌, ◌++◌, length, Option, None, Some, Ok, inl, inr, sym, refl, ap, ◌∙◌, subst, arith, ◌+◌}
+use Rattle.std.proofs.Common.{◌≡◌, ◌⊎◌, ℕ, zero, suc, ◌<◌, ◌≤◌, List, [], ◌∷◌, ◌++◌, length, Option}
+use Rattle.std.proofs.Common.{None, Some, Ok, inl, inr, sym, refl, ap, ◌∙◌, subst, arith, ◌+◌}
 use Rattle.std.specs.Prelude.{MatchOption}
 use Rattle.std.proofs.lemmas.Bool.{cases_lt}
 use Rattle.std.proofs.lemmas.List.{append-nil}
@@ -13,7 +14,8 @@ use Rattle.cb_types.specs.declared.job.Job.TheVariants as job
 use Rattle.cb_types.specs.declared.reply.Reply.{Reply}
 use Rattle.cb_types.specs.declared.reply.Reply.TheVariants as answer
 use Rattle.cb_types.specs.declared.request.Request.{Request}
-use Rattle.cb_types.specs.declared.request.Request.TheVariants.{Make, Read, Write, Free, Pin, Peek, Unpin, Filter, Leave}
+use Rattle.cb_types.specs.declared.request.Request.TheVariants.{Make, Read, Write, Free, Pin, Peek}
+use Rattle.cb_types.specs.declared.request.Request.TheVariants.{Unpin, Filter, Leave}
 use Rattle.cb_types.specs.declared.request.Request.TheVariants as line
 use Rattle.cb_types.specs.Requests.{name_of}
 use Rattle.cb_world.specs.declared.entry.Entry.{Entry}
@@ -37,18 +39,24 @@ use Rattle.cb_record.specs.Needs.{FindsEmpty, IsFreedAs, Meets, need_of, own_job
 use Rattle.cb_record.specs.Parts.{Part, grown, nothing_more, sum}
 use Rattle.cb_record.specs.Told.{Told}
 use Rattle.cb_record.proofs.Laws.{backs_sum, grown-nothing_more, has_one_left, has_one_right}
-use Rattle.cb_shared.specs.Calls.{AsksFor, AtThis, IsAnswerTo, IsLack, ReadCallEnds, ReadGives, ReadsInPlace, TurnGives, WriteAnswers, WriteCallEnds, WriteFinds, SaysAs, the_handle, worn_once, written_once}
+use Rattle.cb_shared.specs.Calls.{AsksFor, AtThis, IsAnswerTo, IsLack, ReadCallEnds, ReadGives}
+use Rattle.cb_shared.specs.Calls.{ReadsInPlace, TurnGives, WriteAnswers, WriteCallEnds, WriteFinds}
+use Rattle.cb_shared.specs.Calls.{SaysAs, the_handle, worn_once, written_once}
 use Rattle.cb_shared.specs.declared.answers.WriteAnswer.{WriteAnswer}
 use Rattle.cb_shared.specs.declared.answers.WriteAnswer.TheVariants as place
 use Rattle.cb_shared.specs.declared.reading.ReadAnswer.TheVariants as found
 use Rattle.cb_shared.specs.Reading.{FindsGone, IsReadHere, looked, looked_freed, read_once}
-use Rattle.cb_shared.specs.Turning.{DidAs, FindsAtLast, JobReads, TurnAdds, TurnBy, made_by_turn, turn_part}
+use Rattle.cb_shared.specs.Turning.{DidAs, FindsAtLast, JobReads, TurnAdds, TurnBy, made_by_turn}
+use Rattle.cb_shared.specs.Turning.{turn_part}
 use Rattle.cb_shared.proofs.Laws.{freed_part}
 use Rattle.cb_lanes.specs.Names.{IsOnObject}
 use Rattle.cb_lanes.specs.LineGoes.{CallGoes, LineGoes, job_of}
-use Rattle.cb_lanes.specs.Passing.{CallGives, IsNewestPin, IsNotPinned, LeaveGoes, PeekGoes, PinEnds, PinGoes, PinsAtLast, UnpinGoes, goes_in, peeks_of}
-use Rattle.cb_lanes.proofs.Backing.{vain_backs, behind_vain, ends_back, look_idle, IsByTurn, turn_backs, its_turn, its_swap, still_backs}
-pub use Rattle.cb_lanes.proofs.Backing.{Adds, adds_by, adds_grown, adds_pins, adds_none, adds_sum, adds_knows, one_backs, told_as, LineAdds}
+use Rattle.cb_lanes.specs.Passing.{CallGives, IsNewestPin, IsNotPinned, LeaveGoes, PeekGoes}
+use Rattle.cb_lanes.specs.Passing.{PinEnds, PinGoes, PinsAtLast, UnpinGoes, goes_in, peeks_of}
+use Rattle.cb_lanes.proofs.Backing.{vain_backs, behind_vain, ends_back, look_idle, IsByTurn}
+use Rattle.cb_lanes.proofs.Backing.{turn_backs, its_turn, its_swap, still_backs}
+pub use Rattle.cb_lanes.proofs.Backing.{Adds, adds_by, adds_grown, adds_pins, adds_none, adds_sum}
+pub use Rattle.cb_lanes.proofs.Backing.{adds_knows, one_backs, told_as, LineAdds}
 
 -- ---- a make
 abbrev pub make_handle : Reply → Option ℕ

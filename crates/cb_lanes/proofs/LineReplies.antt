@@ -9,7 +9,8 @@ use Rattle.cb_types.specs.declared.job.Job.TheVariants as job
 use Rattle.cb_types.specs.declared.reply.Reply.{Reply}
 use Rattle.cb_types.specs.declared.reply.Reply.TheVariants as answer
 use Rattle.cb_types.specs.declared.request.Request.{Request}
-use Rattle.cb_types.specs.declared.request.Request.TheVariants.{Make, Read, Write, Free, Pin, Peek, Unpin, Filter, Leave}
+use Rattle.cb_types.specs.declared.request.Request.TheVariants.{Make, Read, Write, Free, Pin, Peek}
+use Rattle.cb_types.specs.declared.request.Request.TheVariants.{Unpin, Filter, Leave}
 use Rattle.cb_types.specs.declared.request.Request.TheVariants as line
 use Rattle.cb_types.specs.Requests.{name_of}
 use Rattle.cb_types.specs.Table.{IsReplyOf}
@@ -18,17 +19,21 @@ use Rattle.cb_core.specs.Parts.{Holding}
 use Rattle.cb_core.specs.Turned.{Does}
 use Rattle.cb_rule.specs.declared.view.View.{View}
 use Rattle.cb_record.specs.Parts.{Part, grown}
-use Rattle.cb_shared.specs.Calls.{IsAnswer, IsLack, ReadCallEnds, ReadGives, SaysAs, TurnGives, WriteAnswers, WriteCallEnds, the_handle}
+use Rattle.cb_shared.specs.Calls.{IsAnswer, IsLack, ReadCallEnds, ReadGives, SaysAs, TurnGives}
+use Rattle.cb_shared.specs.Calls.{WriteAnswers, WriteCallEnds, the_handle}
 use Rattle.cb_shared.specs.declared.answers.WriteAnswer.{WriteAnswer}
 use Rattle.cb_shared.specs.declared.answers.WriteAnswer.TheVariants as place
-use Rattle.cb_shared.specs.Turning.{DidAs, ReadsByPin, Slate, TurnAdds, TurnBy, slate_run, slate_shows}
+use Rattle.cb_shared.specs.Turning.{DidAs, ReadsByPin, Slate, TurnAdds, TurnBy, slate_run}
+use Rattle.cb_shared.specs.Turning.{slate_shows}
 use Rattle.cb_shared.proofs.Laws.{read_lacks}
 use Rattle.cb_lanes.specs.declared.body.Named.{Named}
 use Rattle.cb_lanes.specs.Asked.{HasLineReply}
 use Rattle.cb_lanes.specs.Bodies.{LinesGo, handle_behind}
 use Rattle.cb_lanes.specs.LineGoes.{CallGoes, LineGoes}
 use Rattle.cb_lanes.specs.Passing.{PeekGoes, PinEnds, PinGoes, UnpinGoes, goes_in}
-use Rattle.cb_lanes.proofs.TurnReplies.{so, room_for, write_where, turned_so, free_as, filter_as, evict_rule, begin_rule, ship_rule, commit_rule, abort_rule, rebuild_step, crash_turn, join_turn}
+use Rattle.cb_lanes.proofs.TurnReplies.{so, room_for, write_where, turned_so, free_as, filter_as}
+use Rattle.cb_lanes.proofs.TurnReplies.{evict_rule, begin_rule, ship_rule, commit_rule, abort_rule}
+use Rattle.cb_lanes.proofs.TurnReplies.{rebuild_step, crash_turn, join_turn}
 
 module _ (c : Config) where
   -- ---- a turn

@@ -1,5 +1,7 @@
 -- What the lines of a lane add to the record of its pass backs their answers.
-use Rattle.std.proofs.Common.{◌≡◌, ℕ, Bool, true, false, cond, List, [], ◌∷◌, ◌++◌, length, Option, None, Some, ◌⊎◌, inl, inr, ⊎_elim, sym, refl, ap, ◌∙◌, subst, append_assoc}
+use Rattle.std.proofs.Common.{◌≡◌, ℕ, Bool, true, false, cond, List, [], ◌∷◌, ◌++◌, length, Option}
+use Rattle.std.proofs.Common.{None, Some, ◌⊎◌, inl, inr, ⊎_elim, sym, refl, ap, ◌∙◌, subst}
+use Rattle.std.proofs.Common.{append_assoc}
 use Rattle.std.specs.Str.{bytes_eq}
 use Rattle.std.proofs.lemmas.List.{append-nil}
 use Rattle.std.proofs.lemmas.Option.{same_Some}
@@ -26,11 +28,14 @@ use Rattle.cb_shared.specs.Calls.{TurnGives}
 use Rattle.cb_shared.specs.Joining.{unpinned_all}
 use Rattle.cb_script.specs.declared.script.Line.{Line}
 use Rattle.cb_lanes.specs.declared.body.Named.{Named}
-use Rattle.cb_lanes.specs.Bodies.{AddsBacked, AnswersOne, AreNamesOf, KeepHandles, KnowsKept, LaneGoes, LinesGo, handle_among, handle_behind}
+use Rattle.cb_lanes.specs.Bodies.{AddsBacked, AnswersOne, AreNamesOf, KeepHandles, KnowsKept}
+use Rattle.cb_lanes.specs.Bodies.{LaneGoes, LinesGo, handle_among, handle_behind}
 use Rattle.cb_lanes.specs.LineGoes.{Goes, LineGoes}
-use Rattle.cb_lanes.specs.Names.{AreKept, KeptNames, kept_for, kept_number, number_after, request_handle}
+use Rattle.cb_lanes.specs.Names.{AreKept, KeptNames, kept_for, kept_number, number_after}
+use Rattle.cb_lanes.specs.Names.{request_handle}
 use Rattle.cb_lanes.specs.Passing.{goes_in}
-use Rattle.cb_lanes.proofs.LineParts.{Adds, about, adds_knows, adds_none, adds_sum, line_adds, told_as}
+use Rattle.cb_lanes.proofs.LineParts.{Adds, about, adds_knows, adds_none, adds_sum, line_adds}
+use Rattle.cb_lanes.proofs.LineParts.{told_as}
 
 -- ---- the handles of names
 pub first_assoc : (a b c : Option ℕ) → first_of (first_of a b) c ≡ first_of a (first_of b c)

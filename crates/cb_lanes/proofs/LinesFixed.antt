@@ -1,5 +1,6 @@
 -- The lines of a script are answered in one way, and lead to one world.
-use Rattle.std.proofs.Common.{◌≡◌, ℕ, zero, suc, List, [], ◌∷◌, ◌++◌, length, map, reverse, Option, None, Some, refl, sym, ap, ◌∙◌, subst, arith}
+use Rattle.std.proofs.Common.{◌≡◌, ℕ, zero, suc, List, [], ◌∷◌, ◌++◌, length, map, reverse, Option}
+use Rattle.std.proofs.Common.{None, Some, refl, sym, ap, ◌∙◌, subst, arith}
 use Rattle.std.specs.List.{slice_get}
 use Rattle.std.proofs.lemmas.Option.{same_Some}
 use Rattle.cb_ptr.specs.Word.{len_of}
@@ -9,7 +10,8 @@ use Rattle.cb_types.specs.declared.job.Job.TheVariants as job
 use Rattle.cb_types.specs.declared.reply.Reply.{Reply}
 use Rattle.cb_types.specs.declared.reply.Reply.TheVariants as answer
 use Rattle.cb_types.specs.declared.request.Request.{Request}
-use Rattle.cb_types.specs.declared.request.Request.TheVariants.{Make, Read, Write, Free, Pin, Peek, Unpin, Filter, Leave}
+use Rattle.cb_types.specs.declared.request.Request.TheVariants.{Make, Read, Write, Free, Pin, Peek}
+use Rattle.cb_types.specs.declared.request.Request.TheVariants.{Unpin, Filter, Leave}
 use Rattle.cb_types.specs.Requests.{name_of}
 use Rattle.cb_script.specs.declared.script.Line.{Line}
 use Rattle.cb_model.specs.Called.{handle_named}
@@ -27,7 +29,9 @@ use Rattle.cb_local.proofs.Laws.{beside_fixed}
 use Rattle.cb_lanes.specs.Asked.{asked}
 use Rattle.cb_lanes.specs.GivingBack.{GivesAll, Rests, unpin_event, lines_by}
 use Rattle.cb_lanes.specs.LineGoes.{job_of}
-use Rattle.cb_lanes.specs.LineStep.{IsInReply, LinesLead, LineStep, ObjectStep, OtherStep, TurnAt, PeekStep, not_pinned, shown, PinEvent, PinLine, at_once, stays_far, swapped_in, SwapEvent}
+use Rattle.cb_lanes.specs.LineStep.{IsInReply, LinesLead, LineStep, ObjectStep, OtherStep, TurnAt}
+use Rattle.cb_lanes.specs.LineStep.{PeekStep, not_pinned, shown, PinEvent, PinLine, at_once}
+use Rattle.cb_lanes.specs.LineStep.{stays_far, swapped_in, SwapEvent}
 use Rattle.cb_lanes.specs.LinesSoundly.{LinesLeadSoundly}
 use Rattle.cb_lanes.specs.CompactsHere.{CompactsHere}
 use Rattle.cb_lanes.specs.declared.side.Side.{Side}

@@ -1,5 +1,6 @@
 -- The lines of a lane rise from the record of its pass, and what they were answered stands in it.
-use Rattle.std.proofs.Common.{◌≡◌, ℕ, ◌≤◌, Bool, true, false, List, [], ◌∷◌, ◌++◌, Option, None, Some, sym, refl, ap, ◌∙◌, subst, append_assoc, arith}
+use Rattle.std.proofs.Common.{◌≡◌, ℕ, ◌≤◌, Bool, true, false, List, [], ◌∷◌, ◌++◌, Option, None}
+use Rattle.std.proofs.Common.{Some, sym, refl, ap, ◌∙◌, subst, append_assoc, arith}
 use Rattle.std.specs.List.{AllByRecursion}
 use Rattle.std.proofs.lemmas.List.{append-nil}
 use Rattle.std.proofs.lemmas.Option.{same_Some, none-some}
@@ -7,16 +8,18 @@ use Rattle.cb_types.specs.declared.answer.Answer.{Answer}
 use Rattle.cb_types.specs.declared.config.Config.{Config}
 use Rattle.cb_types.specs.Requests.{name_of}
 use Rattle.cb_rule.specs.declared.view.View.{View}
+use Rattle.cb_rule.specs.RecordStands.{FreedIsLast}
 use Rattle.cb_model.specs.Called.{Called, called, calls_behind, handle_for}
 use Rattle.cb_model.specs.Event.{Event, event_of, version_of}
-use Rattle.cb_model.specs.Event.Event.{Makes, Shows, Pins, Writes, Frees, FindsFull, FindsUnmade, FindsFreed, FindsEnd, Refused, Wrong}
+use Rattle.cb_model.specs.Event.Event.{Makes, Shows, Pins, Writes, Frees, FindsFull, FindsUnmade}
+use Rattle.cb_model.specs.Event.Event.{FindsFreed, FindsEnd, Refused, Wrong}
 use Rattle.cb_model.specs.Legal.{IsNotBelow, MayComeLater, NeverFalls}
-use Rattle.cb_record.specs.Rises.{HasAllOf, HasVersion, IsBehind, IsKnownTo, IsOnRecord, MayFollowVersion, RisesFrom}
+use Rattle.cb_record.specs.Rises.{HasAllOf, HasVersion, IsBehind, IsKnownTo, IsOnRecord}
+use Rattle.cb_record.specs.Rises.{MayFollowVersion, RisesFrom}
 use Rattle.cb_lanes.specs.declared.body.Named.{Named}
 use Rattle.cb_lanes.specs.Bodies.{AreNamesOf, LaneGoes, LinesGo, handle_behind}
 use Rattle.cb_lanes.specs.LineGoes.{LineGoes}
 use Rattle.cb_lanes.specs.Passing.{goes_in}
-use Rattle.cb_lanes.specs.Rising.{FreedIsLast}
 use Rattle.cb_lanes.proofs.LineParts.{about, line_adds}
 use Rattle.cb_lanes.proofs.LineRises.{IsHigher, line_higher}
 use Rattle.cb_lanes.proofs.LinesBack.{about_for, lines_add, named_behind}

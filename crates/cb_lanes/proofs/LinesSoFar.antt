@@ -1,5 +1,7 @@
 -- The lines of a lane that were answered so far.
-use Rattle.std.proofs.Common.{◌≡◌, ℕ, zero, suc, ◌+◌, ◌<◌, List, [], ◌∷◌, ◌++◌, length, take, drop, get_or, map, Option, refl, sym, ap, ◌∙◌, subst, arith, take-append-drop}
+use Rattle.std.proofs.Common.{◌≡◌, ℕ, zero, suc, ◌+◌, ◌<◌, List, [], ◌∷◌, ◌++◌, length, take, drop}
+use Rattle.std.proofs.Common.{get_or, map, Option, refl, sym, ap, ◌∙◌, subst, arith}
+use Rattle.std.proofs.Common.{take-append-drop}
 use Rattle.std.proofs.lemmas.List.{take_more, map_push}
 use Rattle.cb_types.specs.declared.answer.Answer.{Answer}
 use Rattle.cb_types.specs.declared.config.Config.{Config}
@@ -10,7 +12,8 @@ use Rattle.cb_shared.specs.declared.pass.Pin.{Pin}
 use Rattle.cb_script.specs.declared.script.Line.{Line}
 use Rattle.cb_lanes.specs.declared.body.Named.{Named}
 use Rattle.cb_lanes.specs.Asked.{answer_to, asked}
-use Rattle.cb_lanes.specs.Bodies.{AnswersOne, AreLinesOf, IsFront, IsLineOf, KeepHandles, KnowsKept, KnowsNames, LinesGo}
+use Rattle.cb_lanes.specs.Bodies.{AnswersOne, AreLinesOf, IsFront, IsLineOf, KeepHandles, KnowsKept}
+use Rattle.cb_lanes.specs.Bodies.{KnowsNames, LinesGo}
 use Rattle.cb_lanes.specs.LineGoes.{LineGoes}
 use Rattle.cb_lanes.specs.Names.{KeptNames}
 use Rattle.cb_lanes.specs.Passing.{AreHeld, goes_in, mark_in, marks_of}

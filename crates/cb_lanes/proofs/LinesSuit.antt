@@ -1,5 +1,6 @@
 -- The answers of a lane's lines suit the handles of their names, and what its pass has read.
-use Rattle.std.proofs.Common.{◌≡◌, ◌≢◌, ℕ, List, [], ◌∷◌, ◌++◌, length, Option, None, Some, inl, inr, refl, sym, ap, ◌∙◌, append_assoc, subst}
+use Rattle.std.proofs.Common.{◌≡◌, ◌≢◌, ℕ, List, [], ◌∷◌, ◌++◌, length, Option, None, Some, inl}
+use Rattle.std.proofs.Common.{inr, refl, sym, ap, ◌∙◌, append_assoc, subst}
 use Rattle.std.specs.List.{AllByRecursion}
 use Rattle.std.proofs.lemmas.List.{append-nil}
 use Rattle.cb_types.specs.declared.answer.Answer.{Answer}
@@ -7,7 +8,8 @@ use Rattle.cb_types.specs.declared.config.Config.{Config}
 use Rattle.cb_types.specs.declared.reply.Reply.{Reply}
 use Rattle.cb_types.specs.declared.reply.Reply.TheVariants as answer
 use Rattle.cb_types.specs.declared.request.Request.{Request}
-use Rattle.cb_types.specs.declared.request.Request.TheVariants.{Make, Read, Write, Free, Pin, Peek, Unpin, Filter, Leave}
+use Rattle.cb_types.specs.declared.request.Request.TheVariants.{Make, Read, Write, Free, Pin, Peek}
+use Rattle.cb_types.specs.declared.request.Request.TheVariants.{Unpin, Filter, Leave}
 use Rattle.cb_types.specs.declared.request.Request.TheVariants as line
 use Rattle.cb_types.specs.Requests.{name_of}
 use Rattle.cb_types.specs.Table.{IsReplyOf}
@@ -19,7 +21,8 @@ use Rattle.cb_rule.specs.Steps.{Knows}
 use Rattle.cb_model.specs.Called.{handle_for}
 use Rattle.cb_model.specs.Event.{Event, event_of}
 use Rattle.cb_model.specs.Event.Subject.{NewObject, Contents, Other, Nothing}
-use Rattle.cb_model.specs.Event.Event.{Makes, Shows, Pins, Writes, Frees, FindsFull, FindsUnmade, FindsFreed, FindsEnd, Refused, Wrong}
+use Rattle.cb_model.specs.Event.Event.{Makes, Shows, Pins, Writes, Frees, FindsFull, FindsUnmade}
+use Rattle.cb_model.specs.Event.Event.{FindsFreed, FindsEnd, Refused, Wrong}
 use Rattle.cb_record.specs.Lists.{HasOne}
 use Rattle.cb_record.specs.Needs.{IsReadAs, Meets, need_of}
 use Rattle.cb_record.specs.Parts.{Part, grown}

@@ -13,7 +13,8 @@ use Rattle.cb_world.specs.World.{WorldState}
 use Rattle.cb_world.proofs.Laws.{seat_beside}
 use Rattle.cb_core.specs.declared.event.Event.TheVariants.{Turn}
 use Rattle.cb_core.specs.Holding.{NoOtherHolds}
-use Rattle.cb_core.specs.Pinning.{PinStep, scope_full, refused, taken, UnpinStep, not_pinned as no_pin, given}
+use Rattle.cb_core.specs.Pinning.{PinStep, scope_full, refused, taken, UnpinStep}
+use Rattle.cb_core.specs.Pinning.{not_pinned as no_pin, given}
 use Rattle.cb_core.specs.Step.{Step, TurnStep, worn, done, held as other_holds, free}
 use Rattle.cb_lanes.specs.GivingBack.{Rests}
 use Rattle.cb_lanes.specs.LineStep.{LineStep}

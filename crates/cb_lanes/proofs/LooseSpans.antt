@@ -1,5 +1,8 @@
 -- Where no frame is free, every span that is not loose has an object that a seat has pinned.
-use Rattle.std.proofs.Common.{◌≡◌, ◌≢◌, ◌⊎◌, ℕ, suc, ◌+◌, ◌<◌, ◌≤◌, Bool, true, false, ◌&&◌, ◌||◌, List, [], ◌∷◌, ◌++◌, length, get_or, Option, None, Some, refl, sym, ap, ◌∙◌, subst, arith, inl, inr, nat_eq, not, eq-eqb, ne_eqb, if◌then◌else◌}
+use Rattle.std.proofs.Common.{◌≡◌, ◌≢◌, ◌⊎◌, ℕ, suc, ◌+◌, ◌<◌, ◌≤◌, Bool, true, false, ◌&&◌, ◌||◌}
+use Rattle.std.proofs.Common.{List, [], ◌∷◌, ◌++◌, length, get_or, Option, None, Some, refl, sym}
+use Rattle.std.proofs.Common.{ap, ◌∙◌, subst, arith, inl, inr, nat_eq, not, eq-eqb, ne_eqb}
+use Rattle.std.proofs.Common.{if◌then◌else◌}
 use Rattle.std.specs.List.{filter, list_all, list_any, range_with_len, slice_index_or, sum_by}
 use Rattle.std.proofs.lemmas.Bool.{cases_Bool, cases_eq, cases_lt, true≢false, or_left, or_right}
 use Rattle.std.proofs.lemmas.List.{get_or_past, length-append}
@@ -30,7 +33,8 @@ use Rattle.cb_world.specs.Seats.{OpenWriteState, SeatState, all_pins_on, claims_
 use Rattle.cb_world.specs.Shown.{Fits, never, object_at}
 use Rattle.cb_world.specs.World.{ArePinned, IsKnown, word_at}
 use Rattle.cb_world.proofs.Laws.{one_slot}
-use Rattle.cb_evict.specs.Candidates.{candidates, has_temp, is_among, may_leave, frames_with, same_temp}
+use Rattle.cb_evict.specs.Candidates.{candidates, has_temp, is_among, may_leave, frames_with}
+use Rattle.cb_evict.specs.Candidates.{same_temp}
 use Rattle.cb_evict.specs.EvictStep.{is_here, is_loose, is_slot_loose, loose_frames}
 use Rattle.cb_evict.proofs.Laws.{named_at, names_span}
 use Rattle.cb_lanes.proofs.FewPins.{pins_in}

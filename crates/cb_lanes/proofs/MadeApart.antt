@@ -1,5 +1,6 @@
 -- The handles of the objects that a lane makes are new to it, and each is that of one name.
-use Rattle.std.proofs.Common.{◌≡◌, ◌≢◌, ◌⊎◌, ℕ, Bool, true, false, List, [], ◌∷◌, ◌++◌, map, Option, None, Some, inl, inr, sym, refl, ap, ◌∙◌, subst, arith, if◌then◌else◌}
+use Rattle.std.proofs.Common.{◌≡◌, ◌≢◌, ◌⊎◌, ℕ, Bool, true, false, List, [], ◌∷◌, ◌++◌, map, Option}
+use Rattle.std.proofs.Common.{None, Some, inl, inr, sym, refl, ap, ◌∙◌, subst, arith, if◌then◌else◌}
 use Rattle.std.specs.Str.{bytes_eq}
 use Rattle.std.proofs.lemmas.Option.{same_Some}
 use Rattle.cb_types.specs.declared.answer.Answer.{Answer}
@@ -28,7 +29,8 @@ use Rattle.cb_lanes.specs.declared.body.Named.{Named}
 use Rattle.cb_script.specs.declared.script.Line.{Line}
 use Rattle.cb_shared.specs.Joining.{unpinned_all}
 use Rattle.cb_lanes.specs.Asked.{asked}
-use Rattle.cb_lanes.specs.Bodies.{AreLinesOf, AreNamesOf, KnowsNames, LaneGoes, LinesGo, handle_behind}
+use Rattle.cb_lanes.specs.Bodies.{AreLinesOf, AreNamesOf, KnowsNames, LaneGoes, LinesGo}
+use Rattle.cb_lanes.specs.Bodies.{handle_behind}
 use Rattle.cb_lanes.specs.LaneStops.{AddsIdly}
 use Rattle.cb_lanes.specs.LineGoes.{Calls, LineGoes}
 use Rattle.cb_lanes.specs.Passing.{goes_in}
@@ -166,6 +168,18 @@ module _ (c : Config) (names : List Named) (first : ℕ) (all : View) (told : Re
       lines_new (before ++ a ∷ []) after m w rest on name h made
       (line_keeps (handle_behind names before (name_of a.request)) a.request a.reply v m one h knows)
 
+  -- a later line makes no object of the same handle
+  made_later : (before after : List Answer) (a : Answer) (v m w : View)
+      → LineGoes (goes_in c) (handle_behind names before (name_of a.request)) a.request v a.reply m
+      → LinesGo (goes_in c) names (before ++ a ∷ []) m after w → LeadsOn w all
+      → (p q : List ℕ) (h : ℕ) → handle_made p a.request a.reply ≡ Some h → IsMadeAs after q h → ⊥
+  made_later before after a v m w one rest on p q h is made =
+      let o = handle_behind names before (name_of a.request) in
+      let behind = lines_lead (before ++ a ∷ []) after m w rest on in
+      lines_new (before ++ a ∷ []) after m w rest on q h made
+      (gave p h o a.request a.reply v m is one behind
+      (line_leads o a.request a.reply v m one behind)).1
+
   -- ---- one answer gives a handle to one name
   made_name : (p q : List ℕ) (g h : ℕ) (request : Request) (r : Reply)
       → handle_made p request r ≡ Some g → handle_made q request r ≡ Some h → p ≡ q
@@ -187,25 +201,9 @@ module _ (c : Config) (names : List Named) (first : ℕ) (all : View) (told : Re
   lines_apart before (a ∷ after) v w (m, one, rest) on p q h (inl is_p) (inl is_q) =
       made_name p q h h a.request a.reply is_p is_q
   lines_apart before (a ∷ after) v w (m, one, rest) on p q h (inl is_p) (inr made_q) =
-      absurd (behind_new p q h is_p made_q)
-    where
-      behind_new : (x y : List ℕ) (k : ℕ) → handle_made x a.request a.reply ≡ Some k
-          → IsMadeAs after y k → ⊥
-      behind_new x y k is made = let o = handle_behind names before (name_of a.request) in
-          let behind = lines_lead (before ++ a ∷ []) after m w rest on in
-          lines_new (before ++ a ∷ []) after m w rest on y k made
-          (gave x k o a.request a.reply v m is one behind
-          (line_leads o a.request a.reply v m one behind)).1
+      absurd (made_later before after a v m w one rest on p q h is_p made_q)
   lines_apart before (a ∷ after) v w (m, one, rest) on p q h (inr made_p) (inl is_q) =
-      absurd (behind_new q p h is_q made_p)
-    where
-      behind_new : (x y : List ℕ) (k : ℕ) → handle_made x a.request a.reply ≡ Some k
-          → IsMadeAs after y k → ⊥
-      behind_new x y k is made = let o = handle_behind names before (name_of a.request) in
-          let behind = lines_lead (before ++ a ∷ []) after m w rest on in
-          lines_new (before ++ a ∷ []) after m w rest on y k made
-          (gave x k o a.request a.reply v m is one behind
-          (line_leads o a.request a.reply v m one behind)).1
+      absurd (made_later before after a v m w one rest on q p h is_q made_p)
   lines_apart before (a ∷ after) v w (m, one, rest) on p q h (inr made_p) (inr made_q) =
       lines_apart (before ++ a ∷ []) after m w rest on p q h made_p made_q
 

@@ -1,5 +1,6 @@
 -- The handles that are kept for names that were given.
-use Rattle.std.proofs.Common.{◌≡◌, ℕ, ◌+◌, ◌<◌, ◌≤◌, Bool, true, false, cond, List, [], ◌∷◌, ◌++◌, length, take, get_or, Option, None, Some, refl, sym, ap, ◌∙◌, subst}
+use Rattle.std.proofs.Common.{◌≡◌, ℕ, ◌+◌, ◌<◌, ◌≤◌, Bool, true, false, cond, List, [], ◌∷◌, ◌++◌}
+use Rattle.std.proofs.Common.{length, take, get_or, Option, None, Some, refl, sym, ap, ◌∙◌, subst}
 use Rattle.std.specs.Str.{bytes_eq}
 use Rattle.std.proofs.lemmas.List.{take_all, take_more}
 use Rattle.std.proofs.lemmas.Option.{same_Some}
@@ -8,7 +9,8 @@ use Rattle.cb_model.specs.Called.{first_of}
 use Rattle.cb_rule.specs.declared.view.View.{View}
 use Rattle.cb_rule.specs.Steps.{Knows}
 use Rattle.cb_lanes.specs.declared.body.Named.{Named}
-use Rattle.cb_lanes.specs.Bodies.{KeepHandles, KnowsHandle, KnowsKept, KnowsNames, handle_among, handle_number}
+use Rattle.cb_lanes.specs.Bodies.{KeepHandles, KnowsHandle, KnowsKept, KnowsNames, handle_among}
+use Rattle.cb_lanes.specs.Bodies.{handle_number}
 use Rattle.cb_lanes.specs.Names.{KeptNames, kept_number}
 use Rattle.cb_lanes.proofs.LinesBack.{first_assoc, first_none}
 

@@ -1,5 +1,7 @@
 -- A write that is refused by the word of its object found that word, by a look or in its turn.
-use Rattle.std.proofs.Common.{◌≡◌, ◌≢◌, ℕ, zero, suc, ◌+◌, ◌-◌, ◌^◌, ◌==◌, ◌<◌, ◌≤◌, nat_lt, if◌then◌else◌, Bool, true, false, List, [], ◌∷◌, ◌++◌, length, Ok, Option, None, Some, refl, sym, ap, ◌∙◌, subst, inl, inr}
+use Rattle.std.proofs.Common.{◌≡◌, ◌≢◌, ℕ, zero, suc, ◌+◌, ◌-◌, ◌^◌, ◌==◌, ◌<◌, ◌≤◌, nat_lt}
+use Rattle.std.proofs.Common.{if◌then◌else◌, Bool, true, false, List, [], ◌∷◌, ◌++◌, length, Ok}
+use Rattle.std.proofs.Common.{Option, None, Some, refl, sym, ap, ◌∙◌, subst, inl, inr}
 use Rattle.std.proofs.lemmas.Bool.{ltb-true}
 use Rattle.std.proofs.lemmas.Option.{same_Some, none-some}
 use Rattle.cb_ptr.specs.declared.word.State.{State}
@@ -18,7 +20,8 @@ use Rattle.cb_mutate.specs.Answered.{AbsentAs, AnsweredAs, EmptyAnswer}
 use Rattle.cb_mutate.specs.WriteRule.{NextVersion, WriteHere, WriteRule}
 use Rattle.cb_swapin.specs.SwapRule.{SwapRule}
 use Rattle.cb_swapin.proofs.Laws.{by_answer}
-use Rattle.cb_core.specs.Parts.{Holding, WhereItIs, at_once, no_room, won, near, declined, stays_far, brought}
+use Rattle.cb_core.specs.Parts.{Holding, WhereItIs, at_once, no_room, won, near, declined}
+use Rattle.cb_core.specs.Parts.{stays_far, brought}
 use Rattle.cb_core.specs.Turned.{Brings, Declines, IsDeclined, Turned, WritesObject, done, worn}
 use Rattle.cb_rule.specs.declared.turn.Turn.{Turn}
 use Rattle.cb_rule.specs.declared.view.Look.{Look}
@@ -32,7 +35,8 @@ use Rattle.cb_shared.specs.declared.answers.WriteAnswer.{WriteAnswer}
 use Rattle.cb_shared.specs.declared.answers.WriteAnswer.TheVariants as place
 use Rattle.cb_shared.specs.Calls.{SaysAs, WriteAnswers, WriteCallEnds, WriteFinds, the_handle}
 use Rattle.cb_shared.specs.Reading.{looked}
-use Rattle.cb_shared.specs.Turning.{DidAs, ReadsByPin, Slate, TurnAdds, held_by, slate_run, slate_shows}
+use Rattle.cb_shared.specs.Turning.{DidAs, ReadsByPin, Slate, TurnAdds, held_by, slate_run}
+use Rattle.cb_shared.specs.Turning.{slate_shows}
 
 abbrev Hold : Type 0
 Hold = Holding Slate

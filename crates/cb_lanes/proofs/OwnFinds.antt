@@ -1,5 +1,6 @@
 -- What a line found of an object: its newest version, or that it was freed.
-use Rattle.std.proofs.Common.{◌≡◌, ℕ, ◌<◌, List, [], ◌∷◌, ◌++◌, length, Some, Option, Ok, inl, inr, sym, refl, ap, ◌∙◌, subst}
+use Rattle.std.proofs.Common.{◌≡◌, ℕ, ◌<◌, List, [], ◌∷◌, ◌++◌, length, Some, Option, Ok, inl, inr}
+use Rattle.std.proofs.Common.{sym, refl, ap, ◌∙◌, subst}
 use Rattle.cb_types.specs.declared.config.Config.{Config}
 use Rattle.cb_types.specs.declared.job.Job.{Job}
 use Rattle.cb_types.specs.declared.job.Job.TheVariants as job
@@ -16,9 +17,12 @@ use Rattle.cb_record.proofs.Laws.{has_left, has_right}
 use Rattle.cb_shared.specs.declared.answers.WriteAnswer.{WriteAnswer}
 use Rattle.cb_shared.specs.declared.answers.WriteAnswer.TheVariants as place
 use Rattle.cb_shared.specs.declared.reading.ReadAnswer.TheVariants as found
-use Rattle.cb_shared.specs.Calls.{AsksFor, AtNone, AtThis, IsInVain, ReadCallEnds, ReadGives, SaysAs, TurnGives, WriteAnswers, WriteCallEnds, WriteFinds, the_handle}
+use Rattle.cb_shared.specs.Calls.{AsksFor, AtNone, AtThis, IsInVain, ReadCallEnds, ReadGives}
+use Rattle.cb_shared.specs.Calls.{SaysAs, TurnGives, WriteAnswers, WriteCallEnds, WriteFinds}
+use Rattle.cb_shared.specs.Calls.{the_handle}
 use Rattle.cb_shared.specs.Reading.{FindsGone, IsReadHere, looked}
-use Rattle.cb_shared.specs.Turning.{FindsAtLast, FindsFreedAfter, JobReads, made_by_turn, object_of, turn_part, with_own}
+use Rattle.cb_shared.specs.Turning.{FindsAtLast, FindsFreedAfter, JobReads, made_by_turn, object_of}
+use Rattle.cb_shared.specs.Turning.{turn_part, with_own}
 use Rattle.cb_lanes.specs.Passing.{IsPinnedOnce, PinGoes}
 
 -- a state of the record with these entries and own handles, by which the version was the newest

@@ -1,6 +1,8 @@
 -- A record has the entries of its own objects in order: versions rise in it, and each entry goes on
 -- from one that the record has.
-use Rattle.std.proofs.Common.{◌≡◌, ◌≢◌, ◌⊎◌, ℕ, zero, suc, ◌+◌, ◌<◌, ◌≤◌, List, [], ◌∷◌, ◌++◌, Option, None, Some, inl, inr, sym, refl, ap, ◌∙◌, subst, append_assoc, arith}
+use Rattle.std.proofs.Common.{◌≡◌, ◌≢◌, ◌⊎◌, ℕ, zero, suc, ◌+◌, ◌<◌, ◌≤◌, List, [], ◌∷◌, ◌++◌}
+use Rattle.std.proofs.Common.{Option, None, Some, inl, inr, sym, refl, ap, ◌∙◌, subst, append_assoc}
+use Rattle.std.proofs.Common.{arith}
 use Rattle.std.proofs.lemmas.Option.{same_Some}
 use mathlib.Core.Option.{some, some-injective, some-ne-none}
 use lib.ListN.{get_elem?}
@@ -11,7 +13,8 @@ use Rattle.cb_rule.specs.OwnStands.{WroteItself}
 use Rattle.cb_rule.specs.Promised.{EntryGoesOn}
 use Rattle.cb_record.proofs.Laws.{has_right}
 use Rattle.cb_shared.specs.Recalls.{Recalls}
-use Rattle.cb_lanes.specs.KeepsOwn.{AreEntriesInOrder, AreLong, AreRead, ComesBehind, KeepsOwn, last_in}
+use Rattle.cb_lanes.specs.KeepsOwn.{AreEntriesInOrder, AreLong, AreRead, ComesBehind, KeepsOwn}
+use Rattle.cb_lanes.specs.KeepsOwn.{last_in}
 use Rattle.cb_lanes.proofs.OwnObjects.{handle_cases, last_has, last_hit, last_past, none_has}
 
 -- versions of these objects rise

@@ -1,6 +1,8 @@
 -- One line of a lane: where it is the lane's own it is answered as the lane is by itself, and what the
 -- lane has by itself stays what the record of its pass has.
-use Rattle.std.proofs.Common.{◌≡◌, ◌≢◌, ◌⊎◌, ℕ, ◌+◌, ◌*◌, ◌≤◌, Bool, true, false, List, [], ◌∷◌, ◌++◌, length, Option, None, Some, inl, inr, sym, refl, ap, ◌∙◌, subst, arith, if◌then◌else◌}
+use Rattle.std.proofs.Common.{◌≡◌, ◌≢◌, ◌⊎◌, ℕ, ◌+◌, ◌*◌, ◌≤◌, Bool, true, false, List, [], ◌∷◌}
+use Rattle.std.proofs.Common.{◌++◌, length, Option, None, Some, inl, inr, sym, refl, ap, ◌∙◌, subst}
+use Rattle.std.proofs.Common.{arith, if◌then◌else◌}
 use Rattle.std.specs.Str.{bytes_eq}
 use Rattle.std.proofs.lemmas.Bool.{true≢false}
 use Rattle.cb_types.specs.declared.config.Config.{Config}
@@ -26,7 +28,9 @@ use Rattle.cb_rule.specs.Promised.{FoundBy}
 use Rattle.cb_rule.specs.Seats.{pins_it, pins_on}
 use Rattle.cb_record.specs.Backs.{Enters}
 use Rattle.cb_record.specs.Told.{Told}
-use Rattle.cb_lanes.specs.Alone.{AloneSays, LaneState, NamedNow, alone_after, free_alone, is_maker, now_after, now_named, peek_alone, pin_alone, read_alone, unpin_alone, write_alone}
+use Rattle.cb_lanes.specs.Alone.{AloneSays, LaneState, NamedNow, alone_after, free_alone, is_maker}
+use Rattle.cb_lanes.specs.Alone.{now_after, now_named, peek_alone, pin_alone, read_alone}
+use Rattle.cb_lanes.specs.Alone.{unpin_alone, write_alone}
 use Rattle.cb_lanes.specs.AloneUntil.{is_lack}
 use Rattle.cb_lanes.specs.KeepsOwn.{KeepsOwn, last_in}
 use Rattle.cb_lanes.specs.LineGoes.{Calls}
@@ -34,9 +38,13 @@ use Rattle.cb_lanes.specs.Passing.{PeekGoes, PinGoes, UnpinGoes}
 use Rattle.cb_lanes.specs.Scopes.{named_on, newest_on, without_newest}
 use Rattle.cb_lanes.proofs.LineParts.{LineAdds, told_as}
 use Rattle.cb_lanes.proofs.OwnObjects.{last_hit}
-use Rattle.cb_lanes.proofs.OwnSays.{OwnAt, comes_next, free_one, free_reply, goes_own, peek_reply, pin_reply, pin_shows, read_reply, unpin_reply, write_one, write_reply}
-use Rattle.cb_lanes.proofs.OwnStands.{IsObject, LanePinsStand, LaneStands, ShowsLast, given_back, named_pins, newest_none, newest_some, scope_long}
-use Rattle.cb_lanes.proofs.OwnSteps.{Grew, OwnMore, call_pins, pinned_held, pins_still, stands_changed, stands_still}
+use Rattle.cb_lanes.proofs.OwnSays.{OwnAt, comes_next, free_one, free_reply, goes_own, peek_reply}
+use Rattle.cb_lanes.proofs.OwnSays.{pin_reply, pin_shows, read_reply, unpin_reply, write_one}
+use Rattle.cb_lanes.proofs.OwnSays.{write_reply}
+use Rattle.cb_lanes.proofs.OwnStands.{IsObject, LanePinsStand, LaneStands, ShowsLast, given_back}
+use Rattle.cb_lanes.proofs.OwnStands.{named_pins, newest_none, newest_some, scope_long}
+use Rattle.cb_lanes.proofs.OwnSteps.{Grew, OwnMore, call_pins, pinned_held, pins_still}
+use Rattle.cb_lanes.proofs.OwnSteps.{stands_changed, stands_still}
 use Rattle.cb_lanes.proofs.PinLists.{name_cases}
 
 -- The record in the end: it has all that the record m has, and keeps what it has of its own objects.

@@ -1,5 +1,7 @@
 -- Each line of a lane, by its request.
-use Rattle.std.proofs.Common.{◌≡◌, ◌≢◌, ◌⊎◌, ℕ, Bool, true, false, List, [], ◌∷◌, ◌++◌, length, Option, None, Some, inl, inr, sym, refl, ap, ◌∙◌, subst, arith, if◌then◌else◌}
+use Rattle.std.proofs.Common.{◌≡◌, ◌≢◌, ◌⊎◌, ℕ, Bool, true, false, List, [], ◌∷◌, ◌++◌, length}
+use Rattle.std.proofs.Common.{Option, None, Some, inl, inr, sym, refl, ap, ◌∙◌, subst, arith}
+use Rattle.std.proofs.Common.{if◌then◌else◌}
 use Rattle.std.specs.Str.{bytes_eq}
 use Rattle.std.proofs.lemmas.Bool.{true≢false, false≢true}
 use Rattle.cb_types.specs.declared.config.Config.{Config}
@@ -7,7 +9,8 @@ use Rattle.cb_types.specs.declared.job.Job.TheVariants as job
 use Rattle.cb_types.specs.declared.reply.Reply.{Reply}
 use Rattle.cb_types.specs.declared.reply.Reply.TheVariants as answer
 use Rattle.cb_types.specs.declared.request.Request.{Request}
-use Rattle.cb_types.specs.declared.request.Request.TheVariants.{Make, Read, Write, Free, Pin, Peek, Unpin, Filter, Leave}
+use Rattle.cb_types.specs.declared.request.Request.TheVariants.{Make, Read, Write, Free, Pin, Peek}
+use Rattle.cb_types.specs.declared.request.Request.TheVariants.{Unpin, Filter, Leave}
 use Rattle.cb_types.specs.declared.request.Request.TheVariants as line
 use Rattle.cb_types.specs.Requests.{name_of}
 use Rattle.cb_types.specs.Table.{IsReplyOf}
@@ -24,7 +27,9 @@ use Rattle.cb_rule.specs.Steps.{Knows}
 use Rattle.cb_record.specs.Backs.{EntersAt}
 use Rattle.cb_record.proofs.Laws.{has_right}
 use Rattle.cb_shared.specs.Joining.{unpinned_all}
-use Rattle.cb_lanes.specs.Alone.{AloneSays, LaneState, alone_after, is_leave, is_maker, is_maker_of, now_named, own_name, peek_alone, pin_alone, read_alone, free_alone, unpin_alone, write_alone}
+use Rattle.cb_lanes.specs.Alone.{AloneSays, LaneState, alone_after, is_leave, is_maker, is_maker_of}
+use Rattle.cb_lanes.specs.Alone.{now_named, own_name, peek_alone, pin_alone, read_alone, free_alone}
+use Rattle.cb_lanes.specs.Alone.{unpin_alone, write_alone}
 use Rattle.cb_lanes.specs.AloneUntil.{is_lack}
 use Rattle.cb_lanes.specs.KeepsOwn.{last_in}
 use Rattle.cb_lanes.specs.LineGoes.{Calls, LineGoes, ObjectGoes}
@@ -32,7 +37,8 @@ use Rattle.cb_lanes.specs.Passing.{PeekGoes, goes_in}
 use Rattle.cb_lanes.specs.Scopes.{named_on, newest_on}
 use Rattle.cb_lanes.proofs.ByAsk.{line_less}
 use Rattle.cb_lanes.proofs.LineParts.{LineAdds, about, make_handle, told_as}
-use Rattle.cb_lanes.proofs.OwnLine.{LeadsTo, pins_kept, quiet, quiet_own, own_free, own_peek, own_pin, own_read, own_unpin, own_write}
+use Rattle.cb_lanes.proofs.OwnLine.{LeadsTo, pins_kept, quiet, quiet_own, own_free, own_peek}
+use Rattle.cb_lanes.proofs.OwnLine.{own_pin, own_read, own_unpin, own_write}
 use Rattle.cb_lanes.proofs.OwnMade.{made_first, made_fresh}
 use Rattle.cb_lanes.proofs.OwnObjects.{last_hit, last_past}
 use Rattle.cb_lanes.proofs.OwnSays.{goes_own}

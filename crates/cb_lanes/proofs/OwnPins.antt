@@ -1,5 +1,6 @@
 -- The pins on an object of a lane are the lane's own.
-use Rattle.std.proofs.Common.{◌≡◌, ◌≢◌, ◌⊎◌, ℕ, ◌<◌, ◌≤◌, true, List, [], length, map, take, Option, None, Some, refl, sym, ap, ◌∙◌, subst, arith, inl, inr}
+use Rattle.std.proofs.Common.{◌≡◌, ◌≢◌, ◌⊎◌, ℕ, ◌<◌, ◌≤◌, true, List, [], length, map, take, Option}
+use Rattle.std.proofs.Common.{None, Some, refl, sym, ap, ◌∙◌, subst, arith, inl, inr}
 use Rattle.std.proofs.lemmas.Bool.{cases_lt}
 use Rattle.std.proofs.lemmas.Option.{same_Some}
 use Rattle.cb_ptr.specs.declared.word.State.TheVariants as state
@@ -26,7 +27,8 @@ use Rattle.cb_world.proofs.Laws.{bits, near_now}
 use Rattle.cb_mutate.specs.MapCalls.{IsValue}
 use Rattle.cb_mutate.proofs.Laws.{bytes_length}
 use Rattle.cb_core.specs.Step.{TurnStep}
-use Rattle.cb_core.proofs.Laws.{free_counts, free_unpinned, write_counts, write_fits, write_unpinned}
+use Rattle.cb_core.proofs.Laws.{free_counts, free_unpinned, write_counts, write_fits}
+use Rattle.cb_core.proofs.Laws.{write_unpinned}
 use Rattle.cb_lanes.specs.Asked.{asked}
 use Rattle.cb_lanes.specs.GivingBack.{lines_by}
 use Rattle.cb_lanes.specs.LineStep.{LineStep}

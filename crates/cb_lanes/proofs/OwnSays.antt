@@ -1,6 +1,8 @@
 -- Each line on an object that its pass made is answered by what the object's last entry left, and by
 -- the pass's own pins.
-use Rattle.std.proofs.Common.{◌≡◌, ◌⊎◌, ℕ, ◌+◌, ◌<◌, ◌≤◌, Bool, true, false, cond, List, [], ◌∷◌, ◌++◌, length, Option, None, Some, inl, inr, sym, refl, ap, ◌∙◌, subst, true≢false, append_assoc, arith}
+use Rattle.std.proofs.Common.{◌≡◌, ◌⊎◌, ℕ, ◌+◌, ◌<◌, ◌≤◌, Bool, true, false, cond, List, [], ◌∷◌}
+use Rattle.std.proofs.Common.{◌++◌, length, Option, None, Some, inl, inr, sym, refl, ap, ◌∙◌, subst}
+use Rattle.std.proofs.Common.{true≢false, append_assoc, arith}
 use Rattle.std.proofs.lemmas.Option.{same_Some}
 use Rattle.cb_types.specs.declared.config.Config.{Config}
 use Rattle.cb_types.specs.declared.job.Job.TheVariants as job
@@ -32,18 +34,23 @@ use Rattle.cb_record.specs.Parts.{Part}
 use Rattle.cb_record.proofs.Laws.{has_left, has_right}
 use Rattle.cb_shared.specs.declared.answers.WriteAnswer.{WriteAnswer}
 use Rattle.cb_shared.specs.declared.answers.WriteAnswer.TheVariants as place
-use Rattle.cb_shared.specs.Calls.{ReadGives, SaysAs, TurnGives, WriteAnswers, the_handle, IsAnswerTo}
+use Rattle.cb_shared.specs.Calls.{ReadGives, SaysAs, TurnGives, WriteAnswers, the_handle}
+use Rattle.cb_shared.specs.Calls.{IsAnswerTo}
 use Rattle.cb_shared.proofs.Laws.{read_lacks}
-use Rattle.cb_lanes.specs.Alone.{change_alone, free_alone, peek_alone, pin_alone, pin_object, read_alone, unpin_alone, write_alone}
+use Rattle.cb_lanes.specs.Alone.{change_alone, free_alone, peek_alone, pin_alone, pin_object}
+use Rattle.cb_lanes.specs.Alone.{read_alone, unpin_alone, write_alone}
 use Rattle.cb_lanes.specs.AloneUntil.{is_lack}
-use Rattle.cb_lanes.specs.KeepsOwn.{AreEntriesInOrder, AreLong, AreRead, ComesBehind, EntryComesNext, last_in}
+use Rattle.cb_lanes.specs.KeepsOwn.{AreEntriesInOrder, AreLong, AreRead, ComesBehind}
+use Rattle.cb_lanes.specs.KeepsOwn.{EntryComesNext, last_in}
 use Rattle.cb_lanes.specs.LineGoes.{Ask, Calls, Goes}
 use Rattle.cb_lanes.specs.Passing.{HasNoPin, IsNewestPin, PeekGoes, PinGoes, UnpinGoes, goes_in}
-use Rattle.cb_lanes.proofs.AloneReplies.{changed_alone, full_pin, past_alone, pinned_alone, room_pin, within_alone}
+use Rattle.cb_lanes.proofs.AloneReplies.{changed_alone, full_pin, past_alone, pinned_alone}
+use Rattle.cb_lanes.proofs.AloneReplies.{room_pin, within_alone}
 use Rattle.cb_lanes.proofs.LineParts.{LineAdds, told_as}
 use Rattle.cb_lanes.proofs.Lists.{found_one}
 use Rattle.cb_lanes.proofs.OwnEnds.{IsOfWord, SawWord, saw_write}
-use Rattle.cb_lanes.proofs.OwnFinds.{SawFreed, SawNewest, SawPinned, freed_free, freed_pin, freed_read, freed_write, saw_pin, saw_read}
+use Rattle.cb_lanes.proofs.OwnFinds.{SawFreed, SawNewest, SawPinned, freed_free, freed_pin}
+use Rattle.cb_lanes.proofs.OwnFinds.{freed_read, freed_write, saw_pin, saw_read}
 use Rattle.cb_lanes.proofs.OwnObjects.{last_has, newest_is, older, one_length, order_front, read_is}
 use Rattle.cb_lanes.proofs.OwnStands.{ShowsLast, object_of}
 

@@ -1,5 +1,6 @@
 -- What a lane has by itself stays what the record of its pass has, line by line.
-use Rattle.std.proofs.Common.{◌≡◌, ◌≢◌, ◌⊎◌, ℕ, ◌≤◌, Bool, true, false, List, [], ◌∷◌, Option, None, Some, inl, inr, sym, refl, ap, ◌∙◌, subst, arith, if◌then◌else◌}
+use Rattle.std.proofs.Common.{◌≡◌, ◌≢◌, ◌⊎◌, ℕ, ◌≤◌, Bool, true, false, List, [], ◌∷◌, Option, None}
+use Rattle.std.proofs.Common.{Some, inl, inr, sym, refl, ap, ◌∙◌, subst, arith, if◌then◌else◌}
 use Rattle.std.specs.Str.{bytes_eq}
 use Rattle.std.proofs.lemmas.Bool.{cases_Bool, eqb-true}
 use Rattle.std.proofs.lemmas.Option.{same_Some, none-some}
@@ -29,7 +30,8 @@ use Rattle.cb_lanes.proofs.ByAsk.{by_ask}
 use Rattle.cb_lanes.proofs.LineParts.{Adds, adds_knows}
 use Rattle.cb_lanes.proofs.Lists.{one_if}
 use Rattle.cb_lanes.proofs.OwnObjects.{last_past}
-use Rattle.cb_lanes.proofs.OwnStands.{IsObject, LanePinsStand, LaneStands, ObjectStands, none_on, pin_still, pins_map}
+use Rattle.cb_lanes.proofs.OwnStands.{IsObject, LanePinsStand, LaneStands, ObjectStands, none_on}
+use Rattle.cb_lanes.proofs.OwnStands.{pin_still, pins_map}
 use Rattle.cb_lanes.proofs.PinLists.{name_cases}
 
 -- ---- own handles stay own, and a call leaves the pins

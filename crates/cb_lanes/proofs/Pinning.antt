@@ -1,5 +1,6 @@
 -- A pin, a peek, an unpin and a leave are answered as the map beside the world answers them.
-use Rattle.std.proofs.Common.{◌≡◌, ℕ, zero, suc, ◌+◌, ◌^◌, ◌<◌, ◌≤◌, List, [], length, take, drop, get_or, None, Some, refl, sym, ap, ◌∙◌, subst, arith, nat_eq}
+use Rattle.std.proofs.Common.{◌≡◌, ℕ, zero, suc, ◌+◌, ◌^◌, ◌<◌, ◌≤◌, List, [], length, take, drop}
+use Rattle.std.proofs.Common.{get_or, None, Some, refl, sym, ap, ◌∙◌, subst, arith, nat_eq}
 use Rattle.std.proofs.lemmas.List.{length-take, get_or-drop, get_or-take}
 use Rattle.std.proofs.lemmas.List.Elements.{All-get_or, All-from_get_or}
 use Rattle.std.proofs.lemmas.List.Sums.{sum_by-take-drop, sum_by-le, count_by-le-length}
@@ -33,16 +34,22 @@ use Rattle.cb_world.specs.StillWords.{stamp_at, contents_at}
 use Rattle.cb_world.specs.World.{WorldState, IsSoundWorld, word_at}
 use Rattle.cb_mutate.specs.MapCalls.{IsValue, IsMapCall, IsCallOn}
 use Rattle.cb_mutate.specs.StillReplies.{reply_as}
-use Rattle.cb_mutate.proofs.Laws.{call_follows, beside_kept, was_made, IsOnContents, map_same, call_by_state, near_held, here_near}
-use Rattle.cb_core.specs.Pinning.{PinStep, scope_full, refused, taken, pin_refusal, UnpinStep, not_pinned as unpin_refused, given}
+use Rattle.cb_mutate.proofs.Laws.{call_follows, beside_kept, was_made, IsOnContents, map_same}
+use Rattle.cb_mutate.proofs.Laws.{call_by_state, near_held, here_near}
+use Rattle.cb_core.specs.Pinning.{PinStep, scope_full, refused, taken, pin_refusal, UnpinStep}
+use Rattle.cb_core.specs.Pinning.{not_pinned as unpin_refused, given}
 use Rattle.cb_core.specs.declared.event.Atomic.TheVariants as atomic
 use Rattle.cb_core.specs.declared.event.Event.TheVariants as event
 use Rattle.cb_core.specs.Step.{TurnStep}
-use Rattle.cb_core.proofs.Laws.{step_settings, turn_settings, swap_turn, turn_turns, IsSameMap, swap_sound, IsSwapRefusal, SwapEnds, refused as swap_refused, stays, swapped, refusal_line}
+use Rattle.cb_core.proofs.Laws.{step_settings, turn_settings, swap_turn, turn_turns, IsSameMap}
+use Rattle.cb_core.proofs.Laws.{swap_sound, IsSwapRefusal, SwapEnds, refused as swap_refused, stays}
+use Rattle.cb_core.proofs.Laws.{swapped, refusal_line}
 use Rattle.cb_lanes.specs.Asked.{answer_to, HasLineReply}
 use Rattle.cb_lanes.specs.GivingBack.{GivesAll}
-use Rattle.cb_lanes.specs.LineStep.{PeekStep, not_pinned, shown, IsInReply, PinLine, at_once, stays_far, swapped_in}
-use Rattle.cb_lanes.proofs.GivingBack.{StandsWithout, pin_stands, unpin_stands, stands_same, gives_all, pinned_here, pin_below}
+use Rattle.cb_lanes.specs.LineStep.{PeekStep, not_pinned, shown, IsInReply, PinLine, at_once}
+use Rattle.cb_lanes.specs.LineStep.{stays_far, swapped_in}
+use Rattle.cb_lanes.proofs.GivingBack.{StandsWithout, pin_stands, unpin_stands, stands_same}
+use Rattle.cb_lanes.proofs.GivingBack.{gives_all, pinned_here, pin_below}
 use Rattle.cb_lanes.proofs.Silent.{silent_follows}
 use Rattle.cb_lanes.proofs.Lone.{turn_alone, turn_seats}
 use Rattle.cb_lanes.proofs.Turning.{AroundLine, Turning, around, within, LineGives, call_goes}

@@ -1,5 +1,7 @@
 -- The pins that a lane keeps beside its pass are those of the record.
-use Rattle.std.proofs.Common.{◌≡◌, ◌≢◌, ℕ, zero, suc, ◌+◌, ◌<◌, ◌≤◌, Bool, cond, List, [], ◌∷◌, length, map, get_or, Option, None, Some, IfSome, IfNone, inl, inr, sym, refl, ap, ◌∙◌, subst, arith, eq-eqb, ne_eqb}
+use Rattle.std.proofs.Common.{◌≡◌, ◌≢◌, ℕ, zero, suc, ◌+◌, ◌<◌, ◌≤◌, Bool, cond, List, [], ◌∷◌}
+use Rattle.std.proofs.Common.{length, map, get_or, Option, None, Some, IfSome, IfNone, inl, inr}
+use Rattle.std.proofs.Common.{sym, refl, ap, ◌∙◌, subst, arith, eq-eqb, ne_eqb}
 use Rattle.std.specs.List.{remove}
 use Rattle.std.proofs.lemmas.List.{length-map}
 use Rattle.cb_types.specs.declared.reply.Reply.TheVariants as answer
@@ -11,7 +13,8 @@ use Rattle.cb_rule.specs.Steps.{stand}
 use Rattle.cb_shared.specs.declared.pass.Pin.{Pin}
 use Rattle.cb_shared.specs.Passes.{stand_of}
 use Rattle.cb_shared.specs.Pinning.{IsPinnedHere}
-use Rattle.cb_lanes.specs.Passing.{AreHeld, HasNoMark, HasNoPin, IsNewestAt, IsNewestPin, IsNotPinned, Mark, mark_in, mark_of, marks_of}
+use Rattle.cb_lanes.specs.Passing.{AreHeld, HasNoMark, HasNoPin, IsNewestAt, IsNewestPin}
+use Rattle.cb_lanes.specs.Passing.{IsNotPinned, Mark, mark_in, mark_of, marks_of}
 
 pub held_same : (ps : List Pin) (v w : View) → w.pins ≡ v.pins → AreHeld ps v → AreHeld ps w
 held_same ps v w same held = held ∙ ap (λ (l : List Stand). map mark_in l) (sym same)

@@ -1,5 +1,6 @@
 -- What a line leaves of the scope of its lane.
-use Rattle.std.proofs.Common.{◌≡◌, ◌≢◌, ℕ, zero, suc, ◌<◌, ◌≤◌, List, length, Option, None, Some, refl, sym, ap, ◌∙◌, subst, arith}
+use Rattle.std.proofs.Common.{◌≡◌, ◌≢◌, ℕ, zero, suc, ◌<◌, ◌≤◌, List, length, Option, None, Some}
+use Rattle.std.proofs.Common.{refl, sym, ap, ◌∙◌, subst, arith}
 use Rattle.std.proofs.lemmas.List.Sums.{get_or-le-sum_by}
 use Rattle.cb_ptr.specs.declared.word.State.{State}
 use Rattle.cb_ptr.specs.declared.word.State.TheVariants as state
@@ -8,24 +9,30 @@ use Rattle.cb_types.specs.declared.answer.Answer.{Answer}
 use Rattle.cb_types.specs.declared.job.Job.{Job}
 use Rattle.cb_types.specs.declared.job.Job.TheVariants as job
 use Rattle.cb_types.specs.declared.request.Request.{Request}
-use Rattle.cb_types.specs.declared.request.Request.TheVariants.{Make, Read, Write, Free, Pin, Peek, Unpin, Filter, Compact, Leave}
+use Rattle.cb_types.specs.declared.request.Request.TheVariants.{Make, Read, Write, Free, Pin, Peek}
+use Rattle.cb_types.specs.declared.request.Request.TheVariants.{Unpin, Filter, Compact, Leave}
 use Rattle.cb_types.specs.declared.reply.Reply.{Reply}
 use Rattle.cb_types.specs.declared.reply.Reply.TheVariants as answer
 use Rattle.cb_types.specs.Requests.{name_of}
 use Rattle.cb_world.specs.Seats.{SeatState, idle_seat, pins_among, pins_of_seat}
 use Rattle.cb_world.specs.StillWords.{stamp_at}
 use Rattle.cb_world.specs.World.{WorldState, IsSoundWorld, word_at}
-use Rattle.cb_core.specs.Pinning.{PinStep, scope_full, refused, taken, pin_refusal, UnpinStep, not_pinned as unpin_refused, given}
+use Rattle.cb_core.specs.Pinning.{PinStep, scope_full, refused, taken, pin_refusal, UnpinStep}
+use Rattle.cb_core.specs.Pinning.{not_pinned as unpin_refused, given}
 use Rattle.cb_core.specs.declared.event.Event.TheVariants.{Turn}
 use Rattle.cb_core.specs.Step.{Step, TurnStep}
-use Rattle.cb_core.proofs.Laws.{swap_turn, IsPinCount, write_counts, free_counts, swap_sound, IsSwapRefusal}
+use Rattle.cb_core.proofs.Laws.{swap_turn, IsPinCount, write_counts, free_counts, swap_sound}
+use Rattle.cb_core.proofs.Laws.{IsSwapRefusal}
 use Rattle.cb_lanes.specs.GivingBack.{GivesAll}
-use Rattle.cb_lanes.specs.LineStep.{LineStep, PeekStep, not_pinned, shown, PinLine, at_once, stays_far, swapped_in}
+use Rattle.cb_lanes.specs.LineStep.{LineStep, PeekStep, not_pinned, shown, PinLine, at_once}
+use Rattle.cb_lanes.specs.LineStep.{stays_far, swapped_in}
 use Rattle.cb_lanes.specs.declared.side.Side.{Side}
-use Rattle.cb_lanes.specs.Scopes.{Scope, without_newest, named_on, scope_after, PinnedSays, PeekSays, UnpinSays, ScopeSays}
+use Rattle.cb_lanes.specs.Scopes.{Scope, without_newest, named_on, scope_after, PinnedSays}
+use Rattle.cb_lanes.specs.Scopes.{PeekSays, UnpinSays, ScopeSays}
 use Rattle.cb_lanes.proofs.GivingBack.{gives_all, pins_own, pins_other, given_pins}
 use Rattle.cb_lanes.proofs.Filtering.{filter_counts}
-use Rattle.cb_lanes.proofs.PinLists.{AreHandlesApart, ArePinsOf, pins_length, scope_none, scope_newest, scope_without, scope_count}
+use Rattle.cb_lanes.proofs.PinLists.{AreHandlesApart, ArePinsOf, pins_length, scope_none}
+use Rattle.cb_lanes.proofs.PinLists.{scope_newest, scope_without, scope_count}
 use Rattle.cb_lanes.proofs.Lone.{event_seats, turn_alone}
 use Rattle.cb_lanes.proofs.Pinning.{in_or_refused}
 use Rattle.cb_lanes.proofs.Recounting.{turn_beside}

@@ -1,19 +1,22 @@
 -- Lines about no object: names without a handle, and turns that leave the map as it is, or lose of it.
-use Rattle.std.proofs.Common.{◌≡◌, ℕ, ◌<◌, List, [], ◌∷◌, ◌++◌, Option, None, refl, sym, ap, ◌∙◌, subst, arith, fold, if◌then◌else◌}
+use Rattle.std.proofs.Common.{◌≡◌, ℕ, ◌<◌, List, [], ◌∷◌, ◌++◌, Option, None, refl, sym, ap, ◌∙◌}
+use Rattle.std.proofs.Common.{subst, arith, fold, if◌then◌else◌}
 use Rattle.cb_member.specs.declared.names.NodeId.{NodeId}
 use Rattle.cb_types.specs.declared.answer.Answer.{Answer}
 use Rattle.cb_types.specs.declared.handle.Handle.{Handle}
 use Rattle.cb_types.specs.declared.job.Job.{Job}
 use Rattle.cb_types.specs.declared.job.Job.TheVariants as job
 use Rattle.cb_types.specs.declared.request.Request.{Request}
-use Rattle.cb_types.specs.declared.request.Request.TheVariants.{Make, Read, Write, Free, Pin, Peek, Unpin, Filter, Crash, Join}
+use Rattle.cb_types.specs.declared.request.Request.TheVariants.{Make, Read, Write, Free, Pin, Peek}
+use Rattle.cb_types.specs.declared.request.Request.TheVariants.{Unpin, Filter, Crash, Join}
 use Rattle.cb_types.specs.declared.reply.Reply.{Reply}
 use Rattle.cb_types.specs.declared.reply.Reply.TheVariants as answer
 use Rattle.cb_types.specs.Table.{IsReplyOf}
 use Rattle.cb_model.specs.Event.{event_of, change_of, refusal, subject_of}
 use Rattle.cb_model.specs.Event.Subject.{Nothing}
 use Rattle.cb_model.specs.Event.Event.{FindsUnmade, Refused}
-use Rattle.cb_model.specs.Called.{Called, handle_of, handle_for, called, calls_of, makes, made_by, value, change_to, is_about}
+use Rattle.cb_model.specs.Called.{Called, handle_of, handle_for, called, calls_of, makes, made_by}
+use Rattle.cb_model.specs.Called.{value, change_to, is_about}
 use Rattle.cb_model.specs.Now.{MapNow, Change, changed}
 use Rattle.cb_model.specs.Replies.{MapReplies}
 use Rattle.cb_model.proofs.Laws.{value-push, makes-push}
@@ -26,7 +29,8 @@ use Rattle.cb_mutate.specs.MapCalls.{IsValue}
 use Rattle.cb_mutate.specs.MapBeside.{IsMapBeside}
 use Rattle.cb_mutate.proofs.Laws.{FollowsMap, beside_kept}
 use Rattle.cb_core.specs.Step.{TurnStep}
-use Rattle.cb_core.proofs.Laws.{kept_beside, lost_beside, IsQuietJob, crash_turn, join_turn, known_same, IsSameMap}
+use Rattle.cb_core.proofs.Laws.{kept_beside, lost_beside, IsQuietJob, crash_turn, join_turn}
+use Rattle.cb_core.proofs.Laws.{known_same, IsSameMap}
 use Rattle.cb_lanes.specs.Asked.{answer_to, HasLineReply}
 use Rattle.cb_lanes.proofs.Turning.{AroundLine, Turning, LineGives, goes_by}
 

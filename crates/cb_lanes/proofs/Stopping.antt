@@ -1,5 +1,6 @@
 -- What a line leaves that found no memory: looks and turns alone.
-use Rattle.std.proofs.Common.{◌≡◌, ℕ, List, [], ◌∷◌, ◌++◌, Option, None, Result, Ok, Err, sym, refl, ap, ◌∙◌, subst, inl, inr}
+use Rattle.std.proofs.Common.{◌≡◌, ℕ, List, [], ◌∷◌, ◌++◌, Option, None, Result, Ok, Err, sym, refl}
+use Rattle.std.proofs.Common.{ap, ◌∙◌, subst, inl, inr}
 use Rattle.std.specs.Result.{OnErr}
 use Rattle.cb_member.specs.declared.no_memory.NoMemory.{NoMemory}
 use Rattle.cb_types.specs.declared.config.Config.{Config}
@@ -26,7 +27,8 @@ use Rattle.cb_shared.specs.Turning.{JobReads, TurnAdds, TurnBy, made_by_turn, tu
 use Rattle.cb_shared.proofs.Laws.{grown_nothing, grown_sum, look_part}
 use Rattle.cb_lanes.specs.LineGoes.{Ask, Calls, Leaves, Peeks, Pins, Unpins}
 use Rattle.cb_lanes.specs.LaneStops.{AddsIdly, NextStops}
-use Rattle.cb_lanes.specs.Stopping.{AskStops, BringsNot, CallStops, LineStops, PinStops, Stops, TurnLacks, asked_or_not, stops_in}
+use Rattle.cb_lanes.specs.Stopping.{AskStops, BringsNot, CallStops, LineStops, PinStops, Stops}
+use Rattle.cb_lanes.specs.Stopping.{TurnLacks, asked_or_not, stops_in}
 use Rattle.cb_lanes.specs.declared.body.Named.{Named}
 use Rattle.cb_lanes.specs.declared.passing.Passing.{Passing}
 use Rattle.cb_script.specs.declared.script.Line.{Line}

@@ -1,5 +1,6 @@
 -- The tries of a pin, one after another.
-use Rattle.std.proofs.Common.{◌≡◌, ℕ, ◌<◌, List, [], ◌∷◌, length, Option, None, Some, Result, Ok, Err, inl, inr, sym, refl, ap, ◌∙◌, ◌⊎◌, subst}
+use Rattle.std.proofs.Common.{◌≡◌, ℕ, ◌<◌, List, [], ◌∷◌, length, Option, None, Some, Result, Ok}
+use Rattle.std.proofs.Common.{Err, inl, inr, sym, refl, ap, ◌∙◌, ◌⊎◌, subst}
 use Rattle.std.specs.Result.{IfOk, OnErr}
 use Rattle.cb_member.specs.declared.no_memory.NoMemory.{NoMemory}
 use Rattle.cb_types.specs.declared.config.Config.{Config}
@@ -17,12 +18,15 @@ use Rattle.cb_record.specs.Parts.{Grows, Part}
 use Rattle.cb_shared.specs.declared.answers.PinAnswer.{PinAnswer}
 use Rattle.cb_shared.specs.declared.answers.PinAnswer.TheVariants as found
 use Rattle.cb_shared.specs.declared.pass.Pin.{Pin}
-use Rattle.cb_shared.specs.Calls.{AsksFor, AtNone, AtThis, IsUnanswered, StopsInVain, TurnTries, the_handle}
+use Rattle.cb_shared.specs.Calls.{AsksFor, AtNone, AtThis, IsUnanswered, StopsInVain, TurnTries}
+use Rattle.cb_shared.specs.Calls.{the_handle}
 use Rattle.cb_shared.specs.Pinning.{FindsFreed, IsPinnedHere, LooksOnce, PinGives}
 use Rattle.cb_shared.specs.Reading.{looked, looked_twice}
 use Rattle.cb_shared.specs.Turning.{TurnBy}
-use Rattle.cb_shared.proofs.Laws.{look_asks, look_part, look_tries, tries_then, tries_wider, twice_part, vain_look}
-use Rattle.cb_lanes.specs.Passing.{CallGives, IsPinnedOnce, PinEnds, PinGoes, PinTries, PinsAtLast, PinsInVain}
+use Rattle.cb_shared.proofs.Laws.{look_asks, look_part, look_tries, one_of_three, tries_then}
+use Rattle.cb_shared.proofs.Laws.{tries_wider, twice_part, vain_look}
+use Rattle.cb_lanes.specs.Passing.{CallGives, IsPinnedOnce, PinEnds, PinGoes, PinTries, PinsAtLast}
+use Rattle.cb_lanes.specs.Passing.{PinsInVain}
 
 abbrev vain : Config → ℕ → Turn → Type 0
 vain c h t = IsUnanswered c (job.Swap (the_handle h)) t
@@ -58,9 +62,8 @@ IsHindered a = ⊥
 
 pub is_hindered : (a : PinAnswer) → (a ≡ found.Moving) ⊎ ((a ≡ found.Crowded)
     ⊎ ((saw : ℕ) × (other : ℕ) × (a ≡ found.Raced saw other))) → IsHindered a
-is_hindered a (inl is) = subst IsHindered (sym is) tt
-is_hindered a (inr (inl is)) = subst IsHindered (sym is) tt
-is_hindered a (inr (inr (saw, other, is))) = subst IsHindered (sym is) tt
+is_hindered a =
+    one_of_three IsHindered a found.Moving found.Crowded found.Raced tt tt (λ saw other. tt)
 
 looked_once : (c : Config) (h : ℕ) (P : ℕ → Type 0) (v w : View) → LooksOnce h v w P
     → PinsInVain c h v w

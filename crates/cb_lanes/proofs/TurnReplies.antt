@@ -1,5 +1,7 @@
 -- A turn is answered a reply that a line of its job may have, over whatever desk.
-use Rattle.std.proofs.Common.{◌≡◌, ◌⊎◌, ℕ, zero, suc, ◌+◌, ◌-◌, ◌^◌, ◌==◌, nat_lt, if◌then◌else◌, Bool, true, false, List, length, None, Some, inl, inr, refl, sym, subst}
+use Rattle.std.proofs.Common.{◌≡◌, ◌⊎◌, ℕ, zero, suc, ◌+◌, ◌-◌, ◌^◌, ◌==◌, nat_lt, if◌then◌else◌}
+use Rattle.std.proofs.Common.{Bool, true, false, List, length, None, Some, inl, inr, refl, sym}
+use Rattle.std.proofs.Common.{subst}
 use Rattle.std.proofs.lemmas.Option.{same_Some}
 use Rattle.cb_ptr.specs.declared.word.State.{State}
 use Rattle.cb_ptr.specs.declared.word.State.TheVariants as state
@@ -28,8 +30,10 @@ use Rattle.cb_filter.specs.FilterRule.{FilterAs}
 use Rattle.cb_rebuild.specs.RebuildStep.{RebuildStep, Restores, surveyed}
 use Rattle.cb_swapin.proofs.Laws.{by_answer}
 use Rattle.cb_core.specs.Membership.{CrashTurn, JoinTurn, crashed, is_down, is_up, joined}
-use Rattle.cb_core.specs.Parts.{Holding, WhereItIs, WithRoom, at_once, brought, declined, near, no_room, stays_far, won}
-use Rattle.cb_core.specs.Turned.{Brings, Declines, Does, IsDeclined, Makes, Swaps, Turned, WinsRoom, WritesObject, done, once_counted, worn}
+use Rattle.cb_core.specs.Parts.{Holding, WhereItIs, WithRoom, at_once, brought, declined, near}
+use Rattle.cb_core.specs.Parts.{no_room, stays_far, won}
+use Rattle.cb_core.specs.Turned.{Brings, Declines, Does, IsDeclined, Makes, Swaps, Turned, WinsRoom}
+use Rattle.cb_core.specs.Turned.{WritesObject, done, once_counted, worn}
 use Rattle.cb_world.specs.declared.shown.Shown.{Shown}
 
 -- the reply is that one

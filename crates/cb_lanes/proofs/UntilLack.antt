@@ -1,13 +1,15 @@
 -- What a lane's own lines are answered until one lacks something: among answers of other lanes, and
 -- where none lacks anything.
-use Rattle.std.proofs.Common.{◌≡◌, ℕ, Bool, true, false, ◌&&◌, ◌||◌, List, [], ◌∷◌, ◌++◌, refl, sym, ap, ◌∙◌, subst, ne_eqb, if◌then◌else◌}
+use Rattle.std.proofs.Common.{◌≡◌, ℕ, Bool, true, false, ◌&&◌, ◌||◌, List, [], ◌∷◌, ◌++◌, refl, sym}
+use Rattle.std.proofs.Common.{ap, ◌∙◌, subst, ne_eqb, if◌then◌else◌}
 use Rattle.std.specs.List.{AllByRecursion}
 use Rattle.std.proofs.lemmas.Bool.{true≢false}
 use Rattle.cb_types.specs.declared.answer.Answer.{Answer}
 use Rattle.cb_types.specs.declared.reply.Reply.{Reply}
 use Rattle.cb_types.specs.declared.reply.Reply.TheVariants as answer
 use Rattle.cb_script.specs.declared.script.Line.{Line}
-use Rattle.cb_lanes.specs.Alone.{IsCalmReply, KeepAlone, LaneState, alone_after, alone_more, is_leave, is_maker_of, is_own, leaves, own_name}
+use Rattle.cb_lanes.specs.Alone.{IsCalmReply, KeepAlone, LaneState, alone_after, alone_more}
+use Rattle.cb_lanes.specs.Alone.{is_leave, is_maker_of, is_own, leaves, own_name}
 use Rattle.cb_lanes.specs.AloneUntil.{KeepAloneUntil, is_lack, lacks}
 
 -- none of the answers is of the lane

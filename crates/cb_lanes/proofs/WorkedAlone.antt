@@ -1,15 +1,21 @@
 -- Worked examples: what a lane's own lines are answered where it is alone.
-use Rattle.std.proofs.Common.{◌≡◌, ℕ, List, [], ◌∷◌, true, false, Some, None, replicate, refl, lit≤, arith}
+use Rattle.std.proofs.Common.{◌≡◌, ℕ, List, [], ◌∷◌, true, false, Some, None, replicate, refl, lit≤}
+use Rattle.std.proofs.Common.{arith}
 use Rattle.cb_types.specs.declared.answer.Answer.{Answer}
 use Rattle.cb_types.specs.declared.request.Request.{Request}
-use Rattle.cb_types.specs.declared.request.Request.TheVariants.{Make, Read, Write, Free, Pin, Peek, Unpin, Filter, Leave}
+use Rattle.cb_types.specs.declared.request.Request.TheVariants.{Make, Read, Write, Free, Pin, Peek}
+use Rattle.cb_types.specs.declared.request.Request.TheVariants.{Unpin, Filter, Leave}
 use Rattle.cb_types.specs.declared.reply.Reply.{Reply}
-use Rattle.cb_types.specs.declared.reply.Reply.TheVariants.{Made, Version, Bytes, Done, Left, Same, Full, NoRoom, Unmade, Freed, Moving, Unavailable, Range, Pinned, Worn, ScopeFull, NotPinned}
+use Rattle.cb_types.specs.declared.reply.Reply.TheVariants.{Made, Version, Bytes, Done, Left, Same}
+use Rattle.cb_types.specs.declared.reply.Reply.TheVariants.{Full, NoRoom, Unmade, Freed, Moving}
+use Rattle.cb_types.specs.declared.reply.Reply.TheVariants.{Unavailable, Range, Pinned, Worn}
+use Rattle.cb_types.specs.declared.reply.Reply.TheVariants.{ScopeFull, NotPinned}
 use Rattle.cb_model.specs.declared.object.Object.{Object}
 use Rattle.cb_model.specs.declared.object.Object.TheVariants as has
 use Rattle.cb_script.specs.declared.script.Line.{Line}
 use Rattle.cb_lanes.specs.Scopes.{NamedPin}
-use Rattle.cb_lanes.specs.Alone.{is_own, leaves, HasOwnLines, NamedNow, LaneState, fresh_lane, now_named, alone_after, AloneSays, KeepAlone, IsCalmReply}
+use Rattle.cb_lanes.specs.Alone.{is_own, leaves, HasOwnLines, NamedNow, LaneState, fresh_lane}
+use Rattle.cb_lanes.specs.Alone.{now_named, alone_after, AloneSays, KeepAlone, IsCalmReply}
 
 abbrev a : List ℕ
 a = 97 ∷ []

@@ -4,7 +4,9 @@ use Rattle.cb_types.specs.declared.answer.Answer.{Answer}
 use Rattle.cb_types.specs.declared.request.Request.{Request}
 use Rattle.cb_types.specs.declared.request.Request.TheVariants.{Make, Read, Write}
 use Rattle.cb_types.specs.declared.reply.Reply.{Reply}
-use Rattle.cb_types.specs.declared.reply.Reply.TheVariants.{Made, Bytes, Full, NoRoom, Freed, Unavailable, Pinned, Worn, Range, ScopeFull, NotPinned, Unmade}
+use Rattle.cb_types.specs.declared.reply.Reply.TheVariants.{Made, Bytes, Full, NoRoom, Freed}
+use Rattle.cb_types.specs.declared.reply.Reply.TheVariants.{Unavailable, Pinned, Worn, Range}
+use Rattle.cb_types.specs.declared.reply.Reply.TheVariants.{ScopeFull, NotPinned, Unmade}
 use Rattle.cb_script.specs.declared.script.Line.{Line}
 use Rattle.cb_lanes.specs.Alone.{fresh_lane}
 use Rattle.cb_lanes.specs.AloneUntil.{KeepAloneUntil, is_lack, lacks}

@@ -1,6 +1,7 @@
 -- Worked lanes in threads of their own: what meets each definition, and what breaks one of its parts
 -- alone.
-use Rattle.std.proofs.Common.{◌≡◌, ◌≢◌, ℕ, ◌+◌, false, List, [], ◌∷◌, length, Option, None, Some, inl, inr, refl, sym, ap, ◌∙◌, subst, lit<, arith}
+use Rattle.std.proofs.Common.{◌≡◌, ◌≢◌, ℕ, ◌+◌, false, List, [], ◌∷◌, length, Option, None, Some}
+use Rattle.std.proofs.Common.{inl, inr, refl, sym, ap, ◌∙◌, subst, lit<, arith}
 use Rattle.std.proofs.lemmas.Bool.{eqb-false}
 use Rattle.cb_types.specs.declared.answer.Answer.{Answer}
 use Rattle.cb_types.specs.declared.handle.Handle.{Handle}
@@ -18,7 +19,9 @@ use Rattle.cb_record.specs.Backs.{Backs}
 use Rattle.cb_record.specs.Parts.{Part, nothing_more}
 use Rattle.cb_record.specs.Told.{Told}
 use Rattle.cb_lanes.specs.declared.body.Named.{Named}
-use Rattle.cb_lanes.specs.Bodies.{AddsBacked, AnswersOne, AreLinesOf, AreNamesOf, IsFront, IsLineOf, KeepHandles, KnowsKept, KnowsNames, LaneGoes, LinesGo, handle_among, handle_behind}
+use Rattle.cb_lanes.specs.Bodies.{AddsBacked, AnswersOne, AreLinesOf, AreNamesOf, IsFront, IsLineOf}
+use Rattle.cb_lanes.specs.Bodies.{KeepHandles, KnowsKept, KnowsNames, LaneGoes, LinesGo}
+use Rattle.cb_lanes.specs.Bodies.{handle_among, handle_behind}
 use Rattle.cb_lanes.specs.LineGoes.{Ask, Calls, Goes, LineGoes}
 use Rattle.cb_lanes.specs.Names.{KeptNames, kept_number}
 use Rattle.cb_lanes.specs.Passing.{PeekGoes, goes_in}

@@ -1,6 +1,8 @@
 -- Worked examples: what a lane beside others promises of its own lines, and of which lines and names
 -- it does.
-use Rattle.std.proofs.Common.{◌≡◌, ◌⊎◌, ℕ, ◌<◌, ◌≤◌, Bool, true, false, ◌||◌, List, [], ◌∷◌, ◌++◌, get_or, None, Some, inl, inr, refl, sym, ap, ◌∙◌, subst, arith, lit≤, nat_eq, if◌then◌else◌}
+use Rattle.std.proofs.Common.{◌≡◌, ◌⊎◌, ℕ, ◌<◌, ◌≤◌, Bool, true, false, ◌||◌, List, [], ◌∷◌, ◌++◌}
+use Rattle.std.proofs.Common.{get_or, None, Some, inl, inr, refl, sym, ap, ◌∙◌, subst, arith, lit≤}
+use Rattle.std.proofs.Common.{nat_eq, if◌then◌else◌}
 use Rattle.std.specs.List.{AllByRecursion}
 use Rattle.std.specs.Str.{bytes_eq}
 use Rattle.std.proofs.lemmas.Bool.{cases_Bool, eqb-true}
@@ -15,7 +17,8 @@ use Rattle.cb_model.specs.Called.{first_of}
 use Rattle.cb_script.specs.declared.script.Line.{Line}
 use Rattle.cb_script.specs.Form.{AreLines, IsContents, IsName, IsNameByte, IsNameMade}
 use Rattle.cb_lanes.specs.declared.body.Named.{Named}
-use Rattle.cb_lanes.specs.Alone.{HasOwnLines, alone_after, fresh_lane, is_maker, now_named, read_alone}
+use Rattle.cb_lanes.specs.Alone.{HasOwnLines, alone_after, fresh_lane, is_maker, now_named}
+use Rattle.cb_lanes.specs.Alone.{read_alone}
 use Rattle.cb_lanes.specs.AloneUntil.{AreShared, LaneKeepsAlone}
 use Rattle.cb_lanes.specs.Bodies.{handle_among, of_lane}
 use Rattle.cb_lanes.proofs.AloneLines.{maker_of, one_maker}

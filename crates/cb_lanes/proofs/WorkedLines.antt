@@ -1,13 +1,18 @@
 -- Worked examples: the losses of answers, the replies that lines may have, and the steps of lines.
-use Rattle.std.proofs.Common.{◌≡◌, ℕ, ◌+◌, List, [], ◌∷◌, Option, Some, None, refl, sym, ap, ◌∙◌, subst, arith}
+use Rattle.std.proofs.Common.{◌≡◌, ℕ, ◌+◌, List, [], ◌∷◌, Option, Some, None, refl, sym, ap, ◌∙◌}
+use Rattle.std.proofs.Common.{subst, arith}
 use Rattle.cb_member.specs.declared.names.Loss.{Loss}
 use Rattle.cb_types.specs.declared.answer.Answer.{Answer}
 use Rattle.cb_types.specs.declared.config.Config.{Config}
 use Rattle.cb_types.specs.declared.job.Job.TheVariants as job
 use Rattle.cb_types.specs.declared.request.Request.{Request}
-use Rattle.cb_types.specs.declared.request.Request.TheVariants.{Read, Write, Filter, Pair, Merge, Part, Compact, Crash, Join, Evict, Begin, Ship, Commit, Abort}
+use Rattle.cb_types.specs.declared.request.Request.TheVariants.{Read, Write, Filter, Pair, Merge}
+use Rattle.cb_types.specs.declared.request.Request.TheVariants.{Part, Compact, Crash, Join, Evict}
+use Rattle.cb_types.specs.declared.request.Request.TheVariants.{Begin, Ship, Commit, Abort}
 use Rattle.cb_types.specs.declared.reply.Reply.{Reply}
-use Rattle.cb_types.specs.declared.reply.Reply.TheVariants.{Bytes, Done, Batch, Shipped, NoBatch, Short, Joining, Stepped, Merged, EpochAt, Down, Up, Range, Unmade, Freed}
+use Rattle.cb_types.specs.declared.reply.Reply.TheVariants.{Bytes, Done, Batch, Shipped, NoBatch}
+use Rattle.cb_types.specs.declared.reply.Reply.TheVariants.{Short, Joining, Stepped, Merged}
+use Rattle.cb_types.specs.declared.reply.Reply.TheVariants.{EpochAt, Down, Up, Range, Unmade, Freed}
 use Rattle.cb_script.specs.declared.script.Line.{Line}
 use Rattle.cb_world.specs.FarState.{FarState}
 use Rattle.cb_world.specs.World.{WorldState, IsSoundWorld, empty_world}

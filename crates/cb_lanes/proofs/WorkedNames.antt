@@ -1,13 +1,18 @@
 -- Worked names and their handles, what each line asks for, and what the world holds of answers: each
 -- row, and what breaks one part alone.
-use Rattle.std.proofs.Common.{◌≡◌, ℕ, ◌<◌, List, [], ◌∷◌, length, replicate, Option, Some, None, inl, inr, refl, sym, ap, ◌∙◌, arith}
+use Rattle.std.proofs.Common.{◌≡◌, ℕ, ◌<◌, List, [], ◌∷◌, length, replicate, Option, Some, None}
+use Rattle.std.proofs.Common.{inl, inr, refl, sym, ap, ◌∙◌, arith}
 use Rattle.std.specs.Option.{option_map}
 use Rattle.cb_types.specs.declared.answer.Answer.{Answer}
 use Rattle.cb_types.specs.declared.handle.Handle.{Handle}
 use Rattle.cb_types.specs.declared.job.Job.TheVariants as job
 use Rattle.cb_types.specs.declared.reply.Reply.{Reply}
 use Rattle.cb_types.specs.declared.reply.Reply.TheVariants as answer
-use Rattle.cb_types.specs.declared.request.Request.TheVariants.{Make, Read, Write, Free, Pin, Peek, Unpin, Filter, Evict, Begin, Ship, Commit, Abort, Pair, Patch, Merge, Part, Compact, Rebuild, Crash, Join, Leave}
+use Rattle.cb_types.specs.declared.request.Request.TheVariants.{Make, Read, Write, Free, Pin, Peek}
+use Rattle.cb_types.specs.declared.request.Request.TheVariants.{Unpin, Filter, Evict, Begin, Ship}
+use Rattle.cb_types.specs.declared.request.Request.TheVariants.{Commit, Abort, Pair, Patch, Merge}
+use Rattle.cb_types.specs.declared.request.Request.TheVariants.{Part, Compact, Rebuild, Crash, Join}
+use Rattle.cb_types.specs.declared.request.Request.TheVariants.{Leave}
 use Rattle.cb_core.specs.declared.event.Atomic.TheVariants as atomic
 use Rattle.cb_core.specs.declared.event.Event.TheVariants as event
 use Rattle.cb_core.specs.Step.{Step}
@@ -18,7 +23,8 @@ use Rattle.cb_rule.specs.declared.view.Seen.{Seen}
 use Rattle.cb_rule.specs.declared.view.View.{View}
 use Rattle.cb_world.specs.Now.Now.{gone, held}
 use Rattle.cb_world.specs.World.{WorldState, word_at}
-use Rattle.cb_model.specs.Event.Event.{Makes, Shows, Pins as Pinned, FindsFull, FindsFreed, Refused, Wrong}
+use Rattle.cb_model.specs.Event.Event.{Makes, Shows, Pins as Pinned, FindsFull, FindsFreed, Refused}
+use Rattle.cb_model.specs.Event.Event.{Wrong}
 use Rattle.cb_model.specs.Event.Subject.{Contents, NewObject, Other, Nothing}
 use Rattle.cb_lanes.specs.declared.side.Side.{Side}
 use Rattle.cb_lanes.specs.declared.side.Side.TheVariants.{Nodes, Compute}
@@ -28,7 +34,8 @@ use Rattle.cb_lanes.specs.LineGoes.{CallGoes, Goes, JobGoes, ObjectGoes, OtherGo
 use Rattle.cb_lanes.specs.LineGoes.Ask.{Calls, Pins, Peeks, Unpins}
 use Rattle.cb_lanes.specs.LineStep.{CompactsAt, PeekStep, PinLine, TurnAt, goes_at}
 use Rattle.cb_lanes.specs.MayAsk.{MayCall}
-use Rattle.cb_lanes.specs.Names.{AreKept, AreNamed, AreReady, KeptNames, kept_for, kept_handle, kept_number, number_after, request_handle}
+use Rattle.cb_lanes.specs.Names.{AreKept, AreNamed, AreReady, KeptNames, kept_for, kept_handle}
+use Rattle.cb_lanes.specs.Names.{kept_number, number_after, request_handle}
 use Rattle.cb_lanes.specs.Passing.{UnpinGoes}
 use Rattle.cb_lanes.specs.Suits.{AreSuited, Suits}
 use Rattle.cb_lanes.proofs.WorkedPassing.{pinning}

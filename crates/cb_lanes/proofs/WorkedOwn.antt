@@ -1,5 +1,6 @@
 -- Worked examples: entries of own objects in order, and what a call is to tell of an own object.
-use Rattle.std.proofs.Common.{◌≡◌, ℕ, ◌≤◌, true, List, [], ◌∷◌, Option, None, Some, inl, inr, sym, refl, ap, ◌∙◌, subst, true≢false, arith, lit<, lit≤, ⊎_elim}
+use Rattle.std.proofs.Common.{◌≡◌, ℕ, ◌≤◌, true, List, [], ◌∷◌, Option, None, Some, inl, inr, sym}
+use Rattle.std.proofs.Common.{refl, ap, ◌∙◌, subst, true≢false, arith, lit<, lit≤, ⊎_elim}
 use Rattle.cb_types.specs.declared.config.Config.{Config}
 use Rattle.cb_types.specs.declared.handle.Handle.{Handle}
 use Rattle.cb_types.specs.declared.job.Job.TheVariants as job
@@ -18,7 +19,8 @@ use Rattle.cb_rule.specs.declared.view.View.{View}
 use Rattle.cb_rule.specs.Lists.{Has}
 use Rattle.cb_rule.specs.Steps.{blank, look_at, stand, version_seen}
 use Rattle.cb_lanes.specs.Alone.{is_maker}
-use Rattle.cb_lanes.specs.KeepsOwn.{AreEntriesInOrder, AreRead, ComesBehind, EntryComesNext, KeepsOwn}
+use Rattle.cb_lanes.specs.KeepsOwn.{AreEntriesInOrder, AreRead, ComesBehind, EntryComesNext}
+use Rattle.cb_lanes.specs.KeepsOwn.{KeepsOwn}
 use Rattle.cb_lanes.specs.LineGoes.{Calls}
 use Rattle.cb_lanes.proofs.OwnKept.{AreRising}
 use Rattle.cb_lanes.proofs.OwnLines.{IsLaneLine}

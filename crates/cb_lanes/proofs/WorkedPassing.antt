@@ -1,11 +1,13 @@
 -- Worked lines of a lane that runs beside others: what meets each definition, and what breaks one of
 -- its parts alone.
-use Rattle.std.proofs.Common.{◌≡◌, ◌≢◌, ℕ, List, [], ◌∷◌, length, map, replicate, inl, inr, refl, sym, ap, ◌∙◌, lit<, arith}
+use Rattle.std.proofs.Common.{◌≡◌, ◌≢◌, ℕ, List, [], ◌∷◌, length, map, replicate, inl, inr, refl}
+use Rattle.std.proofs.Common.{sym, ap, ◌∙◌, lit<, arith}
 use Rattle.std.proofs.lemmas.Bool.{eqb-false}
 use Rattle.cb_types.specs.declared.config.Config.{Config}
 use Rattle.cb_types.specs.declared.reply.Reply.{Reply}
 use Rattle.cb_types.specs.declared.reply.Reply.TheVariants as answer
-use Rattle.cb_types.specs.declared.request.Request.TheVariants.{Make, Read, Write, Free, Pin as Pins_it, Peek, Filter, Leave}
+use Rattle.cb_types.specs.declared.request.Request.TheVariants.{Make, Read, Write, Free}
+use Rattle.cb_types.specs.declared.request.Request.TheVariants.{Pin as Pins_it, Peek, Filter, Leave}
 use Rattle.cb_world.specs.Memory.{bytes_in}
 use Rattle.cb_rule.specs.declared.view.Peeked.{Peeked}
 use Rattle.cb_rule.specs.declared.view.Stand.{Stand}
@@ -14,7 +16,9 @@ use Rattle.cb_rule.specs.Own.{IsAlone}
 use Rattle.cb_rule.specs.Steps.{blank, stand, version_seen, with_look}
 use Rattle.cb_shared.specs.declared.pass.Pin.{Pin}
 use Rattle.cb_lanes.specs.LineGoes.{Leaves, Peeks, Pins, Unpins}
-use Rattle.cb_lanes.specs.Passing.{AreHeld, GivesPinBack, HasNoMark, HasNoPin, IsCall, IsNewestAt, IsNewestPin, IsNotPinned, LeaveGoes, Mark, PeekGoes, PeeksAll, PinGoes, UnpinGoes, goes_in, mark_in, peeks_of}
+use Rattle.cb_lanes.specs.Passing.{AreHeld, GivesPinBack, HasNoMark, HasNoPin, IsCall, IsNewestAt}
+use Rattle.cb_lanes.specs.Passing.{IsNewestPin, IsNotPinned, LeaveGoes, Mark, PeekGoes, PeeksAll}
+use Rattle.cb_lanes.specs.Passing.{PinGoes, UnpinGoes, goes_in, mark_in, peeks_of}
 
 abbrev pub two : Config
 two = record { k = 1; r = 1; nodes = 2; frames = 1; room = 6; handles = 2; turns = 0 }

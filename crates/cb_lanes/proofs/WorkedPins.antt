@@ -1,14 +1,19 @@
 -- Worked examples: scopes of lanes, what they say of answers, and pins that are given back.
-use Rattle.std.proofs.Common.{◌≡◌, ℕ, zero, suc, List, [], ◌∷◌, length, replicate, Some, None, refl, ap, lit<, arith}
+use Rattle.std.proofs.Common.{◌≡◌, ℕ, zero, suc, List, [], ◌∷◌, length, replicate, Some, None, refl}
+use Rattle.std.proofs.Common.{ap, lit<, arith}
 use Rattle.std.specs.Prelude.{slice_get}
 use Rattle.std.proofs.lemmas.List.Edits.{length-remove}
 use Rattle.std.proofs.lemmas.Option.{slice_get_within}
 use Rattle.cb_types.specs.declared.answer.Answer.{Answer}
 use Rattle.cb_types.specs.declared.config.Config.{Config}
 use Rattle.cb_types.specs.declared.request.Request.{Request}
-use Rattle.cb_types.specs.declared.request.Request.TheVariants.{Make, Write, Free, Pin, Peek, Unpin, Filter, Leave}
+use Rattle.cb_types.specs.declared.request.Request.TheVariants.{Make, Write, Free, Pin, Peek, Unpin}
+use Rattle.cb_types.specs.declared.request.Request.TheVariants.{Filter, Leave}
 use Rattle.cb_types.specs.declared.reply.Reply.{Reply}
-use Rattle.cb_types.specs.declared.reply.Reply.TheVariants.{Made, Version, Bytes, Done, Left, Same, Unmade, Freed, Pinned, ScopeFull, NotPinned, NotHere, NoRoom, Stays, Swapped}
+use Rattle.cb_types.specs.declared.reply.Reply.TheVariants.{Made, Version, Bytes, Done, Left, Same}
+use Rattle.cb_types.specs.declared.reply.Reply.TheVariants.{Unmade, Freed, Pinned, ScopeFull}
+use Rattle.cb_types.specs.declared.reply.Reply.TheVariants.{NotPinned, NotHere, NoRoom, Stays}
+use Rattle.cb_types.specs.declared.reply.Reply.TheVariants.{Swapped}
 use Rattle.cb_ptr.specs.Word.{len_of, state_number}
 use Rattle.cb_world.specs.declared.seats.Pin.{Pin as SeatPin}
 use Rattle.cb_world.specs.Memory.{bytes_in}
@@ -20,9 +25,11 @@ use Rattle.cb_core.specs.declared.event.Event.TheVariants as event
 use Rattle.cb_core.specs.Pinning.{not_pinned as unpin_refused, given}
 use Rattle.cb_lanes.specs.GivingBack.{unpin_event, GivesAll, lines_by, Rests}
 use Rattle.cb_lanes.specs.declared.side.Side.TheVariants.{Nodes}
-use Rattle.cb_lanes.specs.LineStep.{not_pinned, shown, CallStep, LineStep, IsInReply, PinEvent, SwapEvent, IsFarToPin, PinLine, at_once, stays_far, swapped_in}
+use Rattle.cb_lanes.specs.LineStep.{not_pinned, shown, CallStep, LineStep, IsInReply, PinEvent}
+use Rattle.cb_lanes.specs.LineStep.{SwapEvent, IsFarToPin, PinLine, at_once, stays_far, swapped_in}
 use Rattle.cb_lanes.specs.LinesLeft.{AreLanes, AreLeft}
-use Rattle.cb_lanes.specs.Scopes.{NamedPin, Scope, newest_on, without_newest, named_on, scope_after, scope_of, PinnedSays, ScopeSays, KeepScopes}
+use Rattle.cb_lanes.specs.Scopes.{NamedPin, Scope, newest_on, without_newest, named_on, scope_after}
+use Rattle.cb_lanes.specs.Scopes.{scope_of, PinnedSays, ScopeSays, KeepScopes}
 
 -- ---- scopes
 

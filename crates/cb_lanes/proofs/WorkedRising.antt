@@ -1,5 +1,6 @@
 -- Worked lines that rise: what a call tells of versions, and what lines may not be answered.
-use Rattle.std.proofs.Common.{◌≡◌, ℕ, ◌≤◌, Bool, true, false, List, [], ◌∷◌, None, Some, inl, inr, refl, sym, ap, ◌∙◌, arith, lit<, ⊎_elim}
+use Rattle.std.proofs.Common.{◌≡◌, ℕ, ◌≤◌, Bool, true, false, List, [], ◌∷◌, None, Some, inl, inr}
+use Rattle.std.proofs.Common.{refl, sym, ap, ◌∙◌, arith, lit<, ⊎_elim}
 use Rattle.std.specs.Prelude.{if◌then◌else◌}
 use Rattle.std.specs.Str.{bytes_eq}
 use Rattle.cb_types.specs.declared.answer.Answer.{Answer}
@@ -12,8 +13,9 @@ use Rattle.cb_types.specs.declared.reply.Reply.TheVariants as answer
 use Rattle.cb_ptr.specs.Word.{len_of}
 use Rattle.cb_world.specs.Memory.{bytes_in}
 use Rattle.cb_world.specs.declared.entry.Entry.{Entry}
-use Rattle.cb_world.specs.Written.{entry, gone}
+use Rattle.cb_world.specs.Written.{entry}
 use Rattle.cb_rule.specs.declared.turn.Turn.{Turn}
+use Rattle.cb_rule.specs.declared.view.Seen.{Seen}
 use Rattle.cb_rule.specs.declared.view.Stand.{Stand}
 use Rattle.cb_rule.specs.declared.view.View.{View}
 use Rattle.cb_rule.specs.Own.{IsAlone}
@@ -28,7 +30,7 @@ use Rattle.cb_lanes.specs.declared.body.Named.{Named}
 use Rattle.cb_lanes.specs.Bodies.{AreNamesOf}
 use Rattle.cb_lanes.specs.LineGoes.{Calls, Peeks}
 use Rattle.cb_lanes.specs.Passing.{PeekGoes, PinGoes, peeks_of}
-use Rattle.cb_lanes.specs.Rising.{FreedIsLast, LaneRises}
+use Rattle.cb_lanes.specs.Rising.{LaneRises}
 use Rattle.cb_lanes.proofs.LinesRise.{lane_rises}
 use Rattle.cb_lanes.proofs.LineVersions.{bytes_version}
 use Rattle.cb_lanes.proofs.TellingNew.{IsAbove, TellsNew}
@@ -69,45 +71,6 @@ makes_no_new x = not_above x
 
 peeks_less : TellsNew (Peeks 1) part (answer.Bytes 2 []) → ⊥
 peeks_less x = let low = x 3 false has_third in omega (arith, low)
-
--- ---- a version behind the freed one
-abbrev ended : View
-ended = record (blank two) { written = gone 1 4 [] ∷ entry 1 3 8 [] [] ∷ [] }
-
-is_ended : FreedIsLast ended
-is_ended h last n freed gone has = (omega (arith, up gone, low has), λ same. end has (same ∙ up gone))
-  where
-    up : HasVersion ended h last true → last ≡ 4
-    up (inl (e, inl is, handle, number, held)) = sym (ap (λ (x : Entry). x.version) is ∙ number)
-    up (inl (e, inr (inl is), handle, number, held)) =
-        absurd (let z : false ≡ true = ap (λ (x : Entry). x.freed) is ∙ held in cc)
-    up (inl (e, inr (inr none), handle, number, held)) = absurd none
-    up (inr (s, none, handle, number, held)) = absurd none
-
-    low : HasVersion ended h n freed → n ≤ 4
-    low (inl (e, inl is, handle, number, held)) =
-        let z : 4 ≡ n = ap (λ (x : Entry). x.version) is ∙ number in omega (arith, z)
-    low (inl (e, inr (inl is), handle, number, held)) =
-        let z : 3 ≡ n = ap (λ (x : Entry). x.version) is ∙ number in omega (arith, z)
-    low (inl (e, inr (inr none), handle, number, held)) = absurd none
-    low (inr (s, none, handle, number, held)) = absurd none
-
-    end : HasVersion ended h n freed → n ≡ 4 → freed ≡ true
-    end (inl (e, inl is, handle, number, held)) four = sym (ap (λ (x : Entry). x.freed) is ∙ held)
-    end (inl (e, inr (inl is), handle, number, held)) four =
-        let z : 3 ≡ n = ap (λ (x : Entry). x.version) is ∙ number in absurd (omega (arith, z, four))
-    end (inl (e, inr (inr none), handle, number, held)) four = absurd none
-    end (inr (s, none, handle, number, held)) four = absurd none
-
-freed_once : FreedIsLast (record (blank two) { written = entry 1 3 8 [] [] ∷ gone 1 2 [] ∷ [] }) → ⊥
-freed_once x =
-    let low = (x 1 2 3 false (inl (gone 1 2 [], inr (inl refl), refl, refl, refl))
-    (inl (entry 1 3 8 [] [], inl refl, refl, refl, refl))).0 in omega (arith, low)
-
-freed_and_held : FreedIsLast (record (blank two) { written = entry 1 3 8 [] [] ∷ gone 1 3 [] ∷ [] }) → ⊥
-freed_and_held x =
-    let same : false ≡ true = (x 1 3 3 false (inl (gone 1 3 [], inr (inl refl), refl, refl, refl))
-    (inl (entry 1 3 8 [] [], inl refl, refl, refl, refl))).1 refl in cc
 
 -- ---- a pin at version 3, a read of version 4 under it, and a peek of version 3
 abbrev first_pin : View
@@ -179,11 +142,21 @@ lines = own_answer (Pin a) (answer.Version 3) ∷ own_answer (Peek a) (answer.By
 abbrev at_end : View
 at_end = unpinned_all then_peeked
 
-rising : LaneRises 1 names lines part at_end
-rising all more is_last given called = record {
+-- nothing is freed in its record
+none_freed : (h last : ℕ) → HasVersion then_peeked h last true → ⊥
+none_freed h last (inl (e, inl is, handle, number, held)) =
+    let z : false ≡ true = ap (λ (x : Entry). x.freed) is ∙ held in cc
+none_freed h last (inl (e, inr none, handle, number, held)) = none
+none_freed h last (inr (s, inl is, handle, number, held)) =
+    let z : false ≡ true = ap (λ (x : Seen). x.freed) is ∙ held in cc
+none_freed h last (inr (s, inr none, handle, number, held)) = none
+
+rising : LaneRises 1 names lines part
+rising given called = record {
   own = (refl, (refl, tt));
-  rises = lane_rises two names lines part then_peeked all refl
-      (first_pin, pins, (then_peeked, peeks, refl)) more is_last given called;
+  rises = lane_rises two names lines part then_peeked then_peeked refl
+      (first_pin, pins, (then_peeked, peeks, refl)) (λ h n freed has. has)
+      (λ h last n freed gone has. absurd (none_freed h last gone)) given called;
 }
 
 -- ---- and what would not rise: lines of another lane, a version below one that the record had, and one
@@ -197,29 +170,23 @@ is_made name = by (bytes_eq a name)
     by : (b : Bool) → first_of None (if b then Some 1 else None) ≡ first_of None (if b then Some 1 else None)
     by b = refl
 
-none_has : (h n : ℕ) (freed : Bool) → HasVersion (blank two) h n freed → ⊥
-none_has h n freed (inl x) = x.1
-none_has h n freed (inr x) = x.1
-
--- in a record that has nothing each freed version is the last
-falls_alone : (lane : ℕ) (answers : List Answer) (v : View) → LaneRises lane names answers v (blank two)
+falls_alone : (lane : ℕ) (answers : List Answer) (v : View) → LaneRises lane names answers v
     → RisesAlone (record { number = lane; start = v; calls = calls_behind made_it answers })
-falls_alone lane answers v rises = rises (blank two) (λ h n freed has. has)
-    (λ h last n freed gone has. absurd (none_has h last true gone)) made_it is_made
+falls_alone lane answers v rises = rises made_it is_made
 
-of_another_lane : LaneRises 2 names lines part (blank two) → ⊥
+of_another_lane : LaneRises 2 names lines part → ⊥
 of_another_lane x = let e = (falls_alone 2 lines part x).own.0 in omega (arith, e)
 
 abbrev less : List Answer
 less = own_answer (Pin a) (answer.Version 2) ∷ []
 
-below_the_record : LaneRises 1 names less part (blank two) → ⊥
+below_the_record : LaneRises 1 names less part → ⊥
 below_the_record x = let low = (falls_alone 1 less part x).rises.behind.0 1 3 false refl has_third in
     omega (arith, low)
 
 abbrev falling : List Answer
 falling = own_answer (Pin a) (answer.Version 4) ∷ own_answer (Pin a) (answer.Version 3) ∷ []
 
-below_the_last : LaneRises 1 names falling (blank two) (blank two) → ⊥
+below_the_last : LaneRises 1 names falling (blank two) → ⊥
 below_the_last x = let low = (falls_alone 1 falling (blank two) x).rises.rising.0.0 1 (inl refl) refl refl 4 refl in
     omega (arith, low)

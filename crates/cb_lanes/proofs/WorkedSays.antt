@@ -3,17 +3,24 @@
 use Rattle.std.proofs.Common.{◌≡◌, ℕ, true, false, List, [], ◌∷◌, Some, None, refl, ap, arith}
 use Rattle.std.proofs.lemmas.Bool.{eqb-false}
 use Rattle.cb_types.specs.declared.request.Request.{Request}
-use Rattle.cb_types.specs.declared.request.Request.TheVariants.{Make, Read, Write, Free, Pin, Peek, Unpin, Filter, Leave, Evict}
-use Rattle.cb_types.specs.declared.reply.Reply.TheVariants.{Made, Version, Bytes, Done, Left, Unmade, Freed, Range, Pinned, ScopeFull, NotPinned}
+use Rattle.cb_types.specs.declared.request.Request.TheVariants.{Make, Read, Write, Free, Pin, Peek}
+use Rattle.cb_types.specs.declared.request.Request.TheVariants.{Unpin, Filter, Leave, Evict}
+use Rattle.cb_types.specs.declared.reply.Reply.TheVariants.{Made, Version, Bytes, Done, Left}
+use Rattle.cb_types.specs.declared.reply.Reply.TheVariants.{Unmade, Freed, Range, Pinned, ScopeFull}
+use Rattle.cb_types.specs.declared.reply.Reply.TheVariants.{NotPinned}
 use Rattle.cb_model.specs.declared.object.Object.TheVariants as has
 use Rattle.cb_model.specs.Now.{MapNow}
 use Rattle.cb_script.specs.declared.script.Line.{Line}
-use Rattle.cb_lanes.specs.Alone.{LaneState, NamedNow, alone_more, change_alone, free_alone, is_leave, is_maker, is_maker_of, makes_named, named_objects_after, now_after, own_name, peek_alone, pin_alone, pin_object, pins_shared, read_alone, unpin_alone, write_alone}
+use Rattle.cb_lanes.specs.Alone.{LaneState, NamedNow, alone_more, change_alone, free_alone}
+use Rattle.cb_lanes.specs.Alone.{is_leave, is_maker, is_maker_of, makes_named, named_objects_after}
+use Rattle.cb_lanes.specs.Alone.{now_after, own_name, peek_alone, pin_alone, pin_object}
+use Rattle.cb_lanes.specs.Alone.{pins_shared, read_alone, unpin_alone, write_alone}
 use Rattle.cb_lanes.specs.Bodies.{KnowsHandle, handle_number}
 use Rattle.cb_lanes.specs.LinesLeft.{lanes_of}
 use Rattle.cb_lanes.specs.Names.{IsOnObject}
 use Rattle.cb_lanes.specs.Passing.{mark_in, mark_of, marks_of}
-use Rattle.cb_lanes.specs.Scopes.{CallSays, KeepScopes, PeekSays, ScopeSays, UnmadeSays, UnpinSays, scope_more}
+use Rattle.cb_lanes.specs.Scopes.{CallSays, KeepScopes, PeekSays, ScopeSays, UnmadeSays, UnpinSays}
+use Rattle.cb_lanes.specs.Scopes.{scope_more}
 use Rattle.cb_lanes.proofs.WorkedBodies.{knows_no_other, knows_one, part}
 use Rattle.cb_lanes.proofs.WorkedPassing.{kept, newer, older}
 use Rattle.cb_lanes.proofs.WorkedPins.{a, b, by, c, full, on, three}

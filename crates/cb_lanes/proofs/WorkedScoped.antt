@@ -1,13 +1,17 @@
 -- Worked answers of lanes beside others: names that are one to one with handles, and what is told of
 -- pins.
-use Rattle.std.proofs.Common.{◌≡◌, ℕ, List, [], ◌∷◌, ◌++◌, length, replicate, Option, Some, None, ◌⊎◌, inl, inr, refl, sym, ap, ◌∙◌, arith}
+use Rattle.std.proofs.Common.{◌≡◌, ℕ, List, [], ◌∷◌, ◌++◌, length, replicate, Option, Some, None}
+use Rattle.std.proofs.Common.{◌⊎◌, inl, inr, refl, sym, ap, ◌∙◌, arith}
 use Rattle.std.specs.Prelude.{if◌then◌else◌}
 use Rattle.std.proofs.lemmas.Bool.{eqb-false}
 use Rattle.cb_types.specs.declared.answer.Answer.{Answer}
 use Rattle.cb_types.specs.declared.request.Request.{Request}
-use Rattle.cb_types.specs.declared.request.Request.TheVariants.{Make, Write, Pin, Peek, Unpin, Leave}
+use Rattle.cb_types.specs.declared.request.Request.TheVariants.{Make, Write, Pin, Peek, Unpin}
+use Rattle.cb_types.specs.declared.request.Request.TheVariants.{Leave}
 use Rattle.cb_types.specs.declared.reply.Reply.{Reply}
-use Rattle.cb_types.specs.declared.reply.Reply.TheVariants.{Made, Version, Bytes, Done, Left, Unmade, Full, Pinned, ScopeFull, NotPinned}
+use Rattle.cb_types.specs.declared.reply.Reply.TheVariants.{Made, Version, Bytes, Done, Left}
+use Rattle.cb_types.specs.declared.reply.Reply.TheVariants.{Unmade, Full, Pinned, ScopeFull}
+use Rattle.cb_types.specs.declared.reply.Reply.TheVariants.{NotPinned}
 use Rattle.cb_model.specs.Called.{handle_made}
 use Rattle.cb_lanes.specs.declared.body.Named.{Named}
 use Rattle.cb_lanes.specs.Scoped.{AreOneToOne, AreScoped, HaveOneHandle, IsMadeAs, LaneScoped}

@@ -1,6 +1,7 @@
 -- Worked lanes that found no memory: what meets each definition, and what breaks one of its parts
 -- alone.
-use Rattle.std.proofs.Common.{◌≡◌, ◌≢◌, ℕ, true, List, [], ◌∷◌, length, Option, None, Some, inl, inr, refl, sym, ap, ◌∙◌, subst}
+use Rattle.std.proofs.Common.{◌≡◌, ◌≢◌, ℕ, true, List, [], ◌∷◌, length, Option, None, Some, inl}
+use Rattle.std.proofs.Common.{inr, refl, sym, ap, ◌∙◌, subst}
 use Rattle.std.proofs.lemmas.Bool.{eqb-false}
 use Rattle.std.proofs.lemmas.List.{append-nil}
 use Rattle.cb_types.specs.declared.answer.Answer.{Answer}
@@ -14,12 +15,10 @@ use Rattle.cb_rule.specs.declared.view.View.{View}
 use Rattle.cb_rule.specs.Lists.{Each}
 use Rattle.cb_rule.specs.Steps.{blank, with_look}
 use Rattle.cb_record.specs.Deeds.{Deed, deed, happened}
-use Rattle.cb_record.specs.Rises.{HasVersion}
 use Rattle.cb_shared.specs.Joining.{unpinned_all}
 use Rattle.cb_shared.specs.Recalls.{Recalls}
 use Rattle.cb_lanes.specs.LaneStops.{AddsIdly, LaneStops, LinesStop}
 use Rattle.cb_lanes.specs.LineGoes.{Leaves, Peeks}
-use Rattle.cb_lanes.specs.Rising.{FreedIsLast}
 use Rattle.cb_lanes.specs.Scoped.{AreOneToOne, IsMadeAs}
 use Rattle.cb_lanes.specs.Stopping.{AskStops, LineStops, stops_in}
 use Rattle.cb_lanes.proofs.LaneStopping.{lane_stops}
@@ -190,19 +189,6 @@ told_of_a_pin w x = absurd (let e : ◌≡◌ {A = Reply} (answer.Left 1) (answe
     none_given : AreOneToOne []
     none_given p q g h is_p is_q = absurd is_p
 
--- its record has no version
-none_freed : FreedIsLast (blank two)
-none_freed h last n freed has there = absurd (none has)
-  where
-    none : HasVersion (blank two) h last true → ⊥
-    none (inl x) = absurd x.1
-    none (inr x) = absurd x.1
-
 answers_of_another_lane : (ls : List Line) (w : View)
     → LaneStops 1 two 1 [] ls (blank two) (told 2 Leave (answer.Left 0) ∷ []) w → ⊥
-answers_of_another_lane ls w x = eqb-false 2 1 refl (x.rises (blank two)
-    (λ h n freed has. subst (λ (v : View). HasVersion (unpinned_all v) h n freed) same has) none_freed []
-    (λ name. refl)).own.0
-  where
-    same : x.lines_stop.behind ≡ blank two
-    same = x.lines_stop.goes.2 ∙ x.lines_stop.goes.1.1
+answers_of_another_lane ls w x = eqb-false 2 1 refl (x.rises [] (λ name. refl)).own.0

@@ -55,7 +55,7 @@ pub record LaneStops (first : ℕ) (c : Config) (lane : ℕ) (names : List Named
   pub lines_stop : LinesStop c names lines v answers between
   pub left : w ≡ unpinned_all between
   pub part : AddsBacked names answers v (unpinned_all lines_stop.behind)
-  pub rises : LaneRises lane names answers v (unpinned_all lines_stop.behind)
+  pub rises : LaneRises lane names answers v
   pub scoped : LaneScoped lane names answers
   pub alone : first ≡ 1 → v.written ≡ []
       → LaneKeepsAlone c.nodes lane names (map asked answers) answers

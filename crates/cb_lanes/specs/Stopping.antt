@@ -12,7 +12,8 @@ use Rattle.cb_rule.specs.declared.view.View.{View}
 use Rattle.cb_rule.specs.Steps.{with_look}
 use Rattle.cb_shared.specs.Calls.{ReadStops, TurnStops, WriteStops, the_handle}
 use Rattle.cb_shared.specs.Turning.{TurnBy}
-use Rattle.cb_lanes.specs.LineGoes.{Ask, Calls, Goes, Leaves, LineGoes, ObjectGoes, Peeks, Pins, Unpins}
+use Rattle.cb_lanes.specs.LineGoes.{Ask, Calls, Goes, Leaves, LineGoes, ObjectGoes, Peeks, Pins}
+use Rattle.cb_lanes.specs.LineGoes.{Unpins}
 use Rattle.cb_lanes.specs.Passing.{PinsInVain}
 
 -- a turn that found no memory, and nothing else

@@ -45,7 +45,7 @@ pub(crate) fn call<R: Wait>(
             shared.write(rt, alloc, pass, *handle, *at, bytes.as_slice())
         }
         Job::Free { handle } => shared.free(rt, alloc, pass, *handle),
-        _ => shared.turn(rt, alloc, pass, job),
+        _ => shared.turn_within(rt, alloc, pass, job),
     }
 }
 
@@ -165,7 +165,7 @@ fn bring_in<R: Wait>(
     ensures error { OnErr result (TurnLacks shared.now.config (jobs.Swap h) (record_of pass.old)
         (record_of pass.new)) }
 {
-    let reply = shared.turn(rt, alloc, pass, &Job::Swap { handle: h })?;
+    let reply = shared.turn_within(rt, alloc, pass, &Job::Swap { handle: h })?;
     if is_lack(shared, &reply) {
         Ok(Some(reply))
     } else {

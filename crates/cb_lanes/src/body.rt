@@ -122,8 +122,7 @@ pub fn lane_body<R: Wait, G: Gate>(
         end.answers (record_of end.pass)) }
     ensures part { IfOk result (λ end. AddsBacked names.now end.answers (record_of pass)
         (record_of end.pass)) }
-    ensures rises { IfOk result (λ end. LaneRises lane.n names.now end.answers (record_of pass)
-        (record_of end.pass)) }
+    ensures rises { IfOk result (λ end. LaneRises lane.n names.now end.answers (record_of pass)) }
     ensures scoped { IfOk result (λ end. LaneScoped lane.n names.now end.answers) }
     ensures alone { IfOk result (λ end. first_version_of shared.now ≡ 1
         → (record_of pass).written ≡ []

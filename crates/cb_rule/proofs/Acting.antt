@@ -1,5 +1,6 @@
 -- The holder of the far lock may claim, store and settle: the steps on the table.
-use Rattle.std.proofs.Common.{◌≡◌, ℕ, ◌+◌, ◌*◌, ◌<◌, ◌≤◌, true, List, set, sym, refl, ap, ◌∙◌, subst, arith, eqb, eq-eqb, ne_eqb}
+use Rattle.std.proofs.Common.{◌≡◌, ℕ, ◌+◌, ◌*◌, ◌<◌, ◌≤◌, true, List, set, sym, refl, ap, ◌∙◌}
+use Rattle.std.proofs.Common.{subst, arith, eqb, eq-eqb, ne_eqb}
 use mathlib.Core.Logic.{dite}
 use mathlib.Core.Option.{none}
 use native.Mathlib.Decide.{ℕ_discrete}
@@ -9,7 +10,8 @@ use Rattle.cb_types.specs.declared.config.Config.{Config}
 use Rattle.cb_ptr.specs.declared.word.State.TheVariants as word
 use Rattle.cb_ptr.specs.Word.{state_of, len_of, place_of, pins_of}
 use Rattle.cb_world.specs.declared.event.Event.{Event}
-use Rattle.cb_world.specs.declared.event.Event.TheVariants.{Looked, Claimed, Stored, Stamped, Settled}
+use Rattle.cb_world.specs.declared.event.Event.TheVariants.{Looked, Claimed, Stored, Stamped}
+use Rattle.cb_world.specs.declared.event.Event.TheVariants.{Settled}
 use Rattle.cb_world.specs.declared.shown.Shown.{Shown}
 use Rattle.cb_world.specs.Settling.{MaySettle}
 use Rattle.cb_world.specs.Shown.{Owns, IsHeld, object_at}
@@ -17,7 +19,8 @@ use Rattle.cb_world.specs.Written.{adds}
 use Rattle.cb_rule.specs.Own.{AreBound, MayWrite}
 use Rattle.cb_rule.specs.Ruled.{Beside, IsSteady, Ruled}
 use Rattle.cb_rule.specs.Slot.{Sat}
-use Rattle.cb_rule.specs.Steps.{AreNew, HasEvent, TellsPins, act, claimed, handle_count, settled, stamped, stored}
+use Rattle.cb_rule.specs.Steps.{AreNew, HasEvent, TellsPins, act, claimed, handle_count, settled}
+use Rattle.cb_rule.specs.Steps.{stamped, stored}
 use Rattle.cb_rule.specs.Words.{base, pointer, stamp, stamps, words_at}
 use Rattle.cb_rule.proofs.Binding.{settles_within}
 use Rattle.cb_rule.proofs.Claiming.{claim_agrees, claim_steps}

@@ -1,6 +1,8 @@
 -- Any seat may claim an object outside of a turn, store there and settle it: the steps on the
 -- table.
-use Rattle.std.proofs.Common.{◌≡◌, ℕ, ◌+◌, ◌*◌, ◌<◌, ◌≤◌, Bool, true, cond, List, [], ◌∷◌, length, get_or, set, sym, refl, ap, ◌∙◌, subst, ⊎_elim, arith, eqb, eq-eqb, ne_eqb}
+use Rattle.std.proofs.Common.{◌≡◌, ℕ, ◌+◌, ◌*◌, ◌<◌, ◌≤◌, Bool, true, cond, List, [], ◌∷◌, length}
+use Rattle.std.proofs.Common.{get_or, set, sym, refl, ap, ◌∙◌, subst, ⊎_elim, arith, eqb, eq-eqb}
+use Rattle.std.proofs.Common.{ne_eqb}
 use mathlib.Core.Logic.{dite}
 use mathlib.Core.Option.{some, none}
 use lib.ListN.{get_elem?}
@@ -23,7 +25,9 @@ use Rattle.cb_rule.specs.Records.{LookOk}
 use Rattle.cb_rule.specs.Ruled.{Beside, IsSteady, Ruled}
 use Rattle.cb_rule.specs.Seats.{claims_it}
 use Rattle.cb_rule.specs.Slot.{Sat, Table}
-use Rattle.cb_rule.specs.Steps.{FindsVersion, Knows, claimed_here, look_at, next_entry, put_back, settled_here, stamped_here, stored_here, with_claim, with_back, with_held, with_look, with_stamp, with_version, with_claim_word}
+use Rattle.cb_rule.specs.Steps.{FindsVersion, Knows, claimed_here, look_at, next_entry, put_back}
+use Rattle.cb_rule.specs.Steps.{settled_here, stamped_here, stored_here, with_claim, with_back}
+use Rattle.cb_rule.specs.Steps.{with_held, with_look, with_stamp, with_version, with_claim_word}
 use Rattle.cb_rule.specs.Words.{base, pointer, stamps}
 use Rattle.cb_rule.proofs.Calm.{look_ok, still_rule}
 use Rattle.cb_rule.proofs.Claiming.{found_below, found_calm, found_here, found_shared}
@@ -32,8 +36,10 @@ use Rattle.cb_rule.proofs.Keeping.{lies_here}
 use Rattle.cb_rule.proofs.Lifting.{any_seat, same_lock, same_words}
 use Rattle.cb_rule.proofs.Newest.{is_newest}
 use Rattle.cb_rule.proofs.Members.{times_has}
-use Rattle.cb_rule.proofs.Owning.{keeps_all, keeps_back, keeps_claim, keeps_held, keeps_version, known_traces}
-use Rattle.cb_rule.proofs.Own.{own_alone, own_claim, own_ok, own_put_back, own_settle, own_stamp, own_store, record_held}
+use Rattle.cb_rule.proofs.Owning.{keeps_all, keeps_back, keeps_claim, keeps_held, keeps_version}
+use Rattle.cb_rule.proofs.Owning.{known_traces}
+use Rattle.cb_rule.proofs.Own.{own_alone, own_claim, own_ok, own_put_back, own_settle, own_stamp}
+use Rattle.cb_rule.proofs.Own.{own_store, record_held}
 
 -- where one element at most passes the test, those that do are the same
 has_one : {A : Type 0} (t : A → Bool) (x y : A) (xs : List A) → times t xs ≤ 1 → Has x xs

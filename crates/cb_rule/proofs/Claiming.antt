@@ -1,5 +1,7 @@
 -- The holder of the far lock claims an object.
-use Rattle.std.proofs.Common.{◌≡◌, ◌≢◌, ◌⊎◌, ℕ, ◌+◌, ◌-◌, ◌*◌, ◌^◌, ◌<◌, ◌≤◌, false, List, [], length, get_or, set, sym, refl, ap, ◌∙◌, subst, inl, inr, ⊎_elim, arith, length-set, get_or-set_other, get_or-set_same}
+use Rattle.std.proofs.Common.{◌≡◌, ◌≢◌, ◌⊎◌, ℕ, ◌+◌, ◌-◌, ◌*◌, ◌^◌, ◌<◌, ◌≤◌, false, List, []}
+use Rattle.std.proofs.Common.{length, get_or, set, sym, refl, ap, ◌∙◌, subst, inl, inr, ⊎_elim}
+use Rattle.std.proofs.Common.{arith, length-set, get_or-set_other, get_or-set_same}
 use native.Mathlib.Decide.{ℕ_discrete}
 use Rattle.cb_types.specs.declared.config.Config.{Config}
 use Rattle.cb_ptr.specs.declared.word.State.TheVariants as word
@@ -24,7 +26,8 @@ use Rattle.cb_rule.specs.Rule.{RuleKept}
 use Rattle.cb_rule.specs.Seats.{pins_on, claims_on}
 use Rattle.cb_rule.specs.Stands.{IsCalm, IsClaimedBySeat, IsShared, Stands}
 use Rattle.cb_rule.specs.Words.{stamps, base, pointer, stamp, words_at}
-use Rattle.cb_rule.proofs.Keeping.{HolderSteps, lies_here, lt_or_le, words_else, stands_same, held_same}
+use Rattle.cb_rule.proofs.Keeping.{HolderSteps, lies_here, lt_or_le, words_else, stands_same}
+use Rattle.cb_rule.proofs.Keeping.{held_same}
 
 -- what is the newest one now
 is_now : (es : List Entry) (since h version : ℕ) (value : Value) → since ≤ length es

@@ -1,6 +1,7 @@
 -- A step on the lock: its word is no object's, and the view of the seat keeps its pins, its claims
 -- and what it wrote.
-use Rattle.std.proofs.Common.{◌≡◌, ℕ, ◌+◌, ◌≤◌, true, List, length, set, sym, refl, ap, ◌∙◌, subst, inl, arith, length-set, get_or-set_other}
+use Rattle.std.proofs.Common.{◌≡◌, ℕ, ◌+◌, ◌≤◌, true, List, length, set, sym, refl, ap, ◌∙◌, subst}
+use Rattle.std.proofs.Common.{inl, arith, length-set, get_or-set_other}
 use mathlib.Core.Option.{some}
 use lib.ListN.{get_elem?}
 use Rattle.cb_types.specs.declared.config.Config.{Config}

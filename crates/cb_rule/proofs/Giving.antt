@@ -1,5 +1,8 @@
 -- The holder gives the lock back, and the far state to its slot: the history has its turn more.
-use Rattle.std.proofs.Common.{◌≡◌, ◌≢◌, ℕ, zero, suc, ◌+◌, ◌*◌, ◌^◌, ◌<◌, ◌≤◌, Bool, true, cond, eqb, List, [], ◌∷◌, ◌++◌, length, set, Option, Some, None, sym, refl, ap, ◌∙◌, subst, inl, inr, ⊎_elim, arith, eq-eqb, eqb-true, ne_eqb, length-set, get_or-set_same, true≢false}
+use Rattle.std.proofs.Common.{◌≡◌, ◌≢◌, ℕ, zero, suc, ◌+◌, ◌*◌, ◌^◌, ◌<◌, ◌≤◌, Bool, true, cond}
+use Rattle.std.proofs.Common.{eqb, List, [], ◌∷◌, ◌++◌, length, set, Option, Some, None, sym, refl}
+use Rattle.std.proofs.Common.{ap, ◌∙◌, subst, inl, inr, ⊎_elim, arith, eq-eqb, eqb-true, ne_eqb}
+use Rattle.std.proofs.Common.{length-set, get_or-set_same, true≢false}
 use mathlib.Core.Option.{some, none}
 use lib.ListN.{get_elem?}
 use native.Mathlib.Decide.{ℕ_discrete}
@@ -19,15 +22,18 @@ use Rattle.cb_rule.specs.declared.view.Seen.{Seen}
 use Rattle.cb_rule.specs.declared.view.View.{View}
 use Rattle.cb_rule.specs.History.{is_version}
 use Rattle.cb_rule.specs.Lists.{times, total, Each, Has}
-use Rattle.cb_rule.specs.Locking.{Deeds, IsTimed, IsUnlocked, Locked, Stood, TurnStands, is_turn, turn_number, turns_on, when_ended}
+use Rattle.cb_rule.specs.Locking.{Deeds, IsTimed, IsUnlocked, Locked, Stood, TurnStands, is_turn}
+use Rattle.cb_rule.specs.Locking.{turn_number, turns_on, when_ended}
 use Rattle.cb_rule.specs.LockSteps.{HasGiven, IsFoundFreed, MayGive, gave, gave_lock, turn_of}
-use Rattle.cb_rule.specs.Records.{IsSettledBy, ReadOk, SeenOk, WroteOk}
+use Rattle.cb_rule.specs.Records.{ReadOk, SeenOk, WroteOk}
 use Rattle.cb_rule.specs.Own.{AreOwn, Make, reads_it, traces, writes_it}
 use Rattle.cb_rule.specs.Rule.{RuleKept}
 use Rattle.cb_rule.specs.Ruled.{Ruled}
 use Rattle.cb_rule.specs.Seats.{holding}
 use Rattle.cb_rule.specs.Slot.{LockSlot, Sat, Table}
-use Rattle.cb_rule.proofs.Counts.{each_append, each_map, hit, miss, times-append, total-at, total-set}
+use Rattle.cb_rule.proofs.Growing.{all_old, settled_now}
+use Rattle.cb_rule.proofs.Counts.{each_append, each_map, hit, miss, times-append, total-at}
+use Rattle.cb_rule.proofs.Counts.{total-set}
 use Rattle.cb_rule.proofs.Flagging.{flagged, lock_word}
 use Rattle.cb_rule.proofs.Glancing.{freed_at}
 use Rattle.cb_rule.proofs.Keeping.{seats_stay}
@@ -162,22 +168,12 @@ module _ (deeds : Deeds) (first : ℕ) (c : Config) (s : Table) (id : ℕ) (v : 
   wrote_all = let k = (r.kept.seats id v at).lasting in
       each_append (λ e. Has e r.history) v.fresh v.written k.fresh k.written
 
-  -- what stands in the history now was settled before this turn ends
-  settled_now : (e : Entry) → Has e r.history → IsSettledBy r.history (length r.history) e
-  settled_now e there = record {
-    newer = [];
-    older = r.history;
-    parts = refl;
-    short = omega arith;
-    there = there;
-  }
-
   -- so is what a job Read told
   read_ok : ReadOk r.history (length r.history) job reply
   read_ok handle version bytes asked told = let x = may.reads handle version bytes asked told in
       let o = each_has (SeenOk r.history) x.0 v.seen (r.kept.seats id v at).lasting.seen x.1 in (
         o.0,
-        settled_now o.0 o.1,
+        settled_now r.history o.0 o.1,
         sym (ap (λ (y : Seen). y.handle) o.2) ∙ x.2,
         sym (ap (λ (y : Seen). y.version) o.2) ∙ x.3,
         sym (ap (λ (y : Seen). y.freed) o.2) ∙ x.4,
@@ -191,7 +187,7 @@ module _ (deeds : Deeds) (first : ℕ) (c : Config) (s : Table) (id : ℕ) (v : 
       let found = has_times (is_version h n) (v.fresh ++ v.written) (omega (arith, pos, parts)) in
       let named = both_true (eqb found.0.handle h) (eqb found.0.version n) found.2 in (
         found.0,
-        settled_now found.0
+        settled_now r.history found.0
             (each_has (λ e. Has e r.history) found.0 (v.fresh ++ v.written) wrote_all found.1),
         eqb-true found.0.handle h named.0,
         eqb-true found.0.version n named.1,
@@ -231,11 +227,18 @@ module _ (deeds : Deeds) (first : ℕ) (c : Config) (s : Table) (id : ℕ) (v : 
               reached = omega arith;
               read = read_ok;
               wrote = wrote_ok;
+              had_by = k.order.had_by;
+              had_later = k.order.had_later;
               told = k.told;
               began = k.began;
             },
             k.past,
           );
+          order = record {
+            had_by = tt;
+            had_later = tt;
+            wrote_later = all_old r.history v.base (v.fresh ++ v.written) (length r.history);
+          };
         };
       } (omega (arith, nobody))
 

@@ -1,6 +1,7 @@
 -- Loads of any seat: of a pointer word, of a version word, and of a memory word that it pins or
 -- claims.
-use Rattle.std.proofs.Common.{◌≡◌, ◌≢◌, ◌⊎◌, ℕ, ◌+◌, ◌%◌, ◌<◌, ◌≤◌, Bool, true, false, List, get_or, set, sym, refl, ap, ◌∙◌, subst, inl, inr, ⊎_elim, arith, true≢false}
+use Rattle.std.proofs.Common.{◌≡◌, ◌≢◌, ◌⊎◌, ℕ, ◌+◌, ◌%◌, ◌<◌, ◌≤◌, Bool, true, false, List, get_or}
+use Rattle.std.proofs.Common.{set, sym, refl, ap, ◌∙◌, subst, inl, inr, ⊎_elim, arith, true≢false}
 use mathlib.Core.Option.{some, none}
 use lib.ListN.{get_elem?}
 use Rattle.atomic_table.specs.Table.{step, keeps, Allows}
@@ -27,7 +28,8 @@ use Rattle.cb_rule.specs.Ruled.{Beside, IsSteady, Ruled}
 use Rattle.cb_rule.specs.Seats.{pins_on, claims_on}
 use Rattle.cb_rule.specs.Slot.{Sat, Table}
 use Rattle.cb_rule.specs.Stands.{Stands}
-use Rattle.cb_rule.specs.Steps.{IsNewest, Knows, LoadsHeld, TellsHeld, TellsPin, TellsPins, dated, freed_seen, glanced, read_held, with_freed_seen, with_look}
+use Rattle.cb_rule.specs.Steps.{IsNewest, Knows, LoadsHeld, TellsHeld, TellsPin, TellsPins, dated}
+use Rattle.cb_rule.specs.Steps.{freed_seen, glanced, read_held, with_freed_seen, with_look}
 use Rattle.cb_rule.specs.Words.{stamps, base, pointer}
 use Rattle.cb_rule.proofs.Calm.{lies, look_ok, still_rule}
 use Rattle.cb_rule.proofs.Counts.{each_map, each_there, total-at}

@@ -1,5 +1,6 @@
 -- What holds of a history holds of it with more entries.
-use Rattle.std.proofs.Common.{◌≡◌, ℕ, ◌≤◌, List, [], ◌∷◌, ◌++◌, length, sym, ap, ◌∙◌, inl, inr, ⊎_elim, arith}
+use Rattle.std.proofs.Common.{◌≡◌, ℕ, ◌≤◌, List, [], ◌∷◌, ◌++◌, length, sym, refl, ap, ◌∙◌, inl}
+use Rattle.std.proofs.Common.{inr, ⊎_elim, arith}
 use Rattle.std.proofs.lemmas.List.{append_assoc, length-append}
 use Rattle.cb_types.specs.declared.config.Config.{Config}
 use Rattle.cb_world.specs.declared.entry.Entry.{Entry}
@@ -12,8 +13,9 @@ use Rattle.cb_rule.specs.declared.turn.Turn.{Turn}
 use Rattle.cb_rule.specs.declared.view.Look.{Look}
 use Rattle.cb_rule.specs.declared.view.View.{View}
 use Rattle.cb_rule.specs.History.{Value, WasNow}
-use Rattle.cb_rule.specs.Lists.{Has}
-use Rattle.cb_rule.specs.Records.{IsSettledBy, LookOk, SeenOk, PeekedOk, TellsOk, OldOk, TurnOk, RecordOk}
+use Rattle.cb_rule.specs.Lists.{Each, Has}
+use Rattle.cb_rule.specs.Records.{IsOldOrLater, IsSettledBy, IsSettledFrom, LookOk, SeenOk}
+use Rattle.cb_rule.specs.Records.{PeekedOk, TellsOk, OldOk, TurnOk, RecordOk, ended_by, old_by}
 use Rattle.cb_rule.proofs.Counts.{each_map}
 
 pub has_more : {A : Type 0} (x : A) (more xs : List A) → Has x xs → Has x (more ++ xs)
@@ -73,6 +75,26 @@ module _ (more es : List Entry) where
     there = s.there;
   }
 
+  from_more : (since : ℕ) (e : Entry) → IsSettledFrom es since e → IsSettledFrom (more ++ es) since e
+  from_more since e s = record {
+    newer = more ++ s.newer;
+    older = s.older;
+    parts = ap (λ (ys : List Entry). more ++ ys) s.parts
+        ∙ sym (append_assoc more s.newer (e ∷ s.older));
+    long = s.long;
+  }
+
+  all_settled : (until : ℕ) (xs : List Entry) → Each (IsSettledBy es until) xs
+      → Each (IsSettledBy (more ++ es) until) xs
+  all_settled until xs = each_map (IsSettledBy es until) (IsSettledBy (more ++ es) until) xs
+      (settled_more until)
+
+  later_more : (old : List Entry) (ended : ℕ) (xs : List Entry)
+      → Each (IsOldOrLater es old ended) xs → Each (IsOldOrLater (more ++ es) old ended) xs
+  later_more old ended xs = each_map (IsOldOrLater es old ended) (IsOldOrLater (more ++ es) old ended)
+      xs (λ e o. ⊎_elim (λ (has : Has e old). inl has)
+      (λ (s : IsSettledFrom es ended e). inr (from_more ended e s)) o)
+
   pub turn_more : (c : Config) (first : ℕ) (t : Turn)
       → TurnOk c first es t → TurnOk c first (more ++ es) t
   turn_more c first t ok = record {
@@ -81,6 +103,8 @@ module _ (more es : List Entry) where
     read = λ handle version bytes asked told. let z = ok.read handle version bytes asked told in
         (z.0, settled_more t.until z.0 z.1, z.2, z.3, z.4, z.5);
     wrote = λ h n told. let z = ok.wrote h n told in (z.0, settled_more t.until z.0 z.1, z.2, z.3);
+    had_by = all_settled t.since t.had ok.had_by;
+    had_later = later_more t.old t.ended t.had ok.had_later;
     told = each_map (TellsOk first es t.since t.until) (TellsOk first (more ++ es) t.since t.until)
         t.acts (λ e o. tells_more first t.since t.until t.until e (omega arith) o) ok.told;
     began = λ h l. old_more first t.since h (object_at t.start h) (ok.began h l);
@@ -107,4 +131,60 @@ module _ (more es : List Entry) where
     began = λ h l. old_more first u.since h (object_at u.start h) (ok.began h l);
     past = each_map (TurnOk c first es) (TurnOk c first (more ++ es)) u.turns
         (λ t o. turn_more c first t o) ok.past;
+    order = record {
+      had_by = all_settled u.since u.had ok.order.had_by;
+      had_later = later_more u.old u.ended u.had ok.order.had_later;
+      wrote_later = later_more (old_by u.base u.turns) (ended_by u.turns) u.written
+          ok.order.wrote_later;
+    };
   }
+
+-- ---- what a view wrote, by its turns
+-- what stands in the history was settled by now
+pub settled_now : (es : List Entry) (e : Entry) → Has e es → IsSettledBy es (length es) e
+settled_now es e there = record {
+  newer = [];
+  older = es;
+  parts = refl;
+  short = omega arith;
+  there = there;
+}
+
+-- no turn ended when the history had more entries
+ended_low : (c : Config) (first : ℕ) (es : List Entry) (ts : List Turn) → Each (TurnOk c first es) ts
+    → ended_by ts ≤ length es
+ended_low c first es [] past = omega arith
+ended_low c first es (t ∷ ts) past = past.0.reached
+
+-- so an entry that is settled now is settled behind all of them
+pub settled_last : (c : Config) (first : ℕ) (es : List Entry) (ts : List Turn) (e : Entry)
+    → Each (TurnOk c first es) ts → IsSettledFrom (e ∷ es) (ended_by ts) e
+settled_last c first es ts e past = record {
+  newer = [];
+  older = es;
+  parts = refl;
+  long = ended_low c first es ts past;
+}
+
+-- each of a list is among it, and among what it is put in front of
+pub all_old : (es base xs : List Entry) (n : ℕ) → Each (IsOldOrLater es (xs ++ base) n) xs
+all_old es base xs n = each_of xs (λ e has. inl (has_front e xs base has))
+  where
+    each_of : (ys : List Entry) → ((e : Entry) → Has e ys → IsOldOrLater es (xs ++ base) n e)
+        → Each (IsOldOrLater es (xs ++ base) n) ys
+    each_of [] f = tt
+    each_of (y ∷ ys) f = (f y (inl refl), each_of ys (λ e has. f e (inr has)))
+
+-- what a view has that took another in is old, whatever turns it has
+pub joined_old : (es base : List Entry) (ts : List Turn) (n : ℕ)
+    → Each (IsOldOrLater es (old_by base ts) n) base
+joined_old es base ts n = each_of base (λ e has. inl (in_base ts e has))
+  where
+    in_base : (us : List Turn) (e : Entry) → Has e base → Has e (old_by base us)
+    in_base [] e has = has
+    in_base (u ∷ us) e has = has_more e u.left base has
+
+    each_of : (ys : List Entry) → ((e : Entry) → Has e ys → IsOldOrLater es (old_by base ts) n e)
+        → Each (IsOldOrLater es (old_by base ts) n) ys
+    each_of [] f = tt
+    each_of (y ∷ ys) f = (f y (inl refl), each_of ys (λ e has. f e (inr has)))

@@ -1,8 +1,11 @@
 -- What a history has: each version once, from the first to the newest, and each with the one before
 -- it.
-use Rattle.std.proofs.Common.{◌≡◌, ◌≢◌, ◌⊎◌, ℕ, ◌+◌, ◌-◌, ◌<◌, ◌≤◌, ◌&&◌, min, Bool, false, cond, eqb, List, [], ◌∷◌, sym, refl, ap, ◌∙◌, subst, inl, inr, ⊎_elim, arith, eq-eqb, ne_eqb, eqb-true, true≢false}
+use Rattle.std.proofs.Common.{◌≡◌, ◌≢◌, ◌⊎◌, ℕ, ◌+◌, ◌-◌, ◌<◌, ◌≤◌, ◌&&◌, min, Bool, false, cond}
+use Rattle.std.proofs.Common.{eqb, List, [], ◌∷◌, sym, refl, ap, ◌∙◌, subst, inl, inr, ⊎_elim}
+use Rattle.std.proofs.Common.{arith, eq-eqb, ne_eqb, eqb-true, true≢false}
 use Rattle.cb_world.specs.declared.entry.Entry.{Entry}
-use Rattle.cb_rule.specs.History.{Value, IsMadeEntry, IsChanged, Follows, IsEntryHistory, is_version, newest, no_value, top, value_of}
+use Rattle.cb_rule.specs.History.{Value, IsMadeEntry, IsChanged, Follows, IsEntryHistory}
+use Rattle.cb_rule.specs.History.{is_version, newest, no_value, top, value_of}
 use Rattle.cb_rule.specs.Lists.{times, Has}
 use Rattle.cb_rule.proofs.Counts.{by_case}
 

@@ -1,5 +1,7 @@
 -- What a step of the holder has to show, and that it keeps the rule.
-use Rattle.std.proofs.Common.{◌≡◌, ◌≢◌, ◌⊎◌, ℕ, zero, suc, ◌+◌, ◌*◌, ◌<◌, ◌≤◌, Bool, true, cond, List, [], ◌∷◌, ◌++◌, length, get_or, set, sym, refl, ap, ◌∙◌, subst, ap₂, inl, inr, ⊎_elim, arith, length-set, get_or-set_other}
+use Rattle.std.proofs.Common.{◌≡◌, ◌≢◌, ◌⊎◌, ℕ, zero, suc, ◌+◌, ◌*◌, ◌<◌, ◌≤◌, Bool, true, cond}
+use Rattle.std.proofs.Common.{List, [], ◌∷◌, ◌++◌, length, get_or, set, sym, refl, ap, ◌∙◌, subst}
+use Rattle.std.proofs.Common.{ap₂, inl, inr, ⊎_elim, arith, length-set, get_or-set_other}
 use mathlib.Core.Option.{some}
 use lib.ListN.{get_elem?}
 use Rattle.atomic_table.proofs.Lists.{at_set}
@@ -28,7 +30,8 @@ use Rattle.cb_rule.specs.Seats.{pins_on, claims_on, written_on, holding}
 use Rattle.cb_rule.specs.Stands.{IsCalm, IsClaimedBySeat, IsKeptByHolder, IsHolding, Stands}
 use Rattle.cb_rule.specs.Steps.{act}
 use Rattle.cb_rule.specs.Words.{base, pointer, stamp, words_at}
-use Rattle.cb_rule.proofs.Counts.{total-set, total-at, total-two, total-same, times-append, each_append, each_there}
+use Rattle.cb_rule.proofs.Counts.{total-set, total-at, total-two, total-same, times-append}
+use Rattle.cb_rule.proofs.Counts.{each_append, each_there}
 use Rattle.cb_rule.proofs.Growing.{has_front, record_more}
 
 pub lt_or_le : (a b : ℕ) → (a < b) ⊎ (b ≤ a)
@@ -307,6 +310,7 @@ module _ (c : Config) (ws ws' : List ℕ) (views : List View) (id : ℕ) (v : Vi
             g.told (t.tells, tt);
         began = g.began;
         past = g.past;
+        order = g.order;
       }
     where
       front : (xs : List Entry) → ((x : Entry) → Has x xs → Has x more)

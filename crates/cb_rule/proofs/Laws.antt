@@ -1,7 +1,9 @@
 -- The lemmas of this crate that other crates cite.
 pub use Rattle.cb_rule.proofs.Acting.{settles, stamps_version, stores, takes_claim}
-pub use Rattle.cb_rule.proofs.Allowing.{claims_here, puts_back, settles_here, stamps_here, stores_here}
+pub use Rattle.cb_rule.proofs.Allowing.{claims_here, puts_back, settles_here, stamps_here}
+pub use Rattle.cb_rule.proofs.Allowing.{stores_here}
 pub use Rattle.cb_rule.proofs.Closing.{EndsIn, IsAtEnd, closes_table}
+pub use Rattle.cb_rule.proofs.AnyGlancing.{glances_any, knows_or}
 pub use Rattle.cb_rule.proofs.Binding.{entries_acted}
 pub use Rattle.cb_rule.proofs.Counts.{by_case, each_append, each_map, hit, times-append}
 pub use Rattle.cb_rule.proofs.Glancing.{dates, glances, reads_held}

@@ -12,6 +12,7 @@ mod Calm
 mod Pinning
 mod PinsTold
 mod Glancing
+mod AnyGlancing
 mod Peeking
 mod Seating
 mod Flagging
@@ -34,6 +35,7 @@ mod Timing
 mod Told
 mod Showing
 mod Lone
+mod FreedLast
 mod RecordStanding
 mod FreedLater
 mod ClosedWorld

@@ -1,6 +1,8 @@
 -- The lock, the far state and the turns stay under steps on other words, and where seats are split
 -- and joined.
-use Rattle.std.proofs.Common.{◌≡◌, ◌≢◌, ◌⊎◌, ℕ, ◌+◌, ◌≤◌, Bool, true, false, cond, List, [], ◌∷◌, ◌++◌, get_or, set, sym, refl, ap, ◌∙◌, subst, ⊎_elim, arith, true≢false}
+use Rattle.std.proofs.Common.{◌≡◌, ◌≢◌, ◌⊎◌, ℕ, ◌+◌, ◌≤◌, Bool, true, false, cond, List, [], ◌∷◌}
+use Rattle.std.proofs.Common.{◌++◌, get_or, set, sym, refl, ap, ◌∙◌, subst, ⊎_elim, arith}
+use Rattle.std.proofs.Common.{true≢false}
 use mathlib.Core.Option.{some}
 use lib.ListN.{get_elem?}
 use Rattle.cb_types.specs.declared.config.Config.{Config}
@@ -8,7 +10,8 @@ use Rattle.cb_world.specs.declared.shown.Shown.{Shown}
 use Rattle.cb_world.specs.Empty.{empty_far}
 use Rattle.cb_rule.specs.declared.view.View.{View}
 use Rattle.cb_rule.specs.Lists.{times, total, Each}
-use Rattle.cb_rule.specs.Locking.{Deeds, IsTimed, IsUnlocked, Locked, Stood, TurnStands, is_turn, turns_on, when_ended}
+use Rattle.cb_rule.specs.Locking.{Deeds, IsTimed, IsUnlocked, Locked, Stood, TurnStands, is_turn}
+use Rattle.cb_rule.specs.Locking.{turns_on, when_ended}
 use Rattle.cb_rule.specs.Ruled.{IsAlike, IsSteady}
 use Rattle.cb_rule.specs.Seats.{holding}
 use Rattle.cb_rule.specs.Slot.{Table}

@@ -1,7 +1,8 @@
 -- What a record has of an object is not newer than the newest, which it wrote where no other view has
 -- the object; and entries that come next are new to it, and one above the last where it alone has
 -- the object.
-use Rattle.std.proofs.Common.{◌≡◌, ◌≢◌, ℕ, zero, suc, ◌<◌, ◌≤◌, List, [], ◌∷◌, ◌++◌, sym, refl, ap, ◌∙◌, subst, inl, ⊎_elim, arith}
+use Rattle.std.proofs.Common.{◌≡◌, ◌≢◌, ℕ, zero, suc, ◌<◌, ◌≤◌, List, [], ◌∷◌, ◌++◌, sym, refl, ap}
+use Rattle.std.proofs.Common.{◌∙◌, subst, inl, ⊎_elim, arith}
 use mathlib.Core.Option.{some, some-injective, some-ne-none}
 use lib.ListN.{get_elem?}
 use Rattle.cb_types.specs.declared.config.Config.{Config}

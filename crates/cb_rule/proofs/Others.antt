@@ -1,5 +1,6 @@
 -- A seat changes an object that it claims outside of a turn, while another may hold the far lock.
-use Rattle.std.proofs.Common.{◌≡◌, ◌≢◌, ℕ, ◌+◌, ◌<◌, ◌≤◌, Bool, true, cond, List, ◌++◌, length, get_or, set, sym, refl, ap, ◌∙◌, subst, ⊎_elim, arith}
+use Rattle.std.proofs.Common.{◌≡◌, ◌≢◌, ℕ, ◌+◌, ◌<◌, ◌≤◌, Bool, true, cond, List, ◌++◌, length}
+use Rattle.std.proofs.Common.{get_or, set, sym, refl, ap, ◌∙◌, subst, ⊎_elim, arith}
 use Rattle.std.proofs.lemmas.Bool.{eqb-false}
 use native.Mathlib.Decide.{ℕ_discrete}
 use mathlib.Core.Option.{some}
@@ -20,7 +21,8 @@ use Rattle.cb_rule.specs.Rule.{StandsIn, RuleKept}
 use Rattle.cb_rule.specs.Seats.{claims_it, claims_on, holding, pins_it, pins_on, written_on}
 use Rattle.cb_rule.specs.Stands.{IsCalm, IsClaimedBySeat, IsShared, Stands}
 use Rattle.cb_rule.specs.Words.{base, pointer, stamp, words_at}
-use Rattle.cb_rule.proofs.Counts.{each_none, each_there, times-append, total-at, total-same, total-two, total-set, each_append}
+use Rattle.cb_rule.proofs.Counts.{each_none, each_there, times-append, total-at, total-same}
+use Rattle.cb_rule.proofs.Counts.{total-two, total-set, each_append}
 use Rattle.cb_rule.proofs.Growing.{record_more}
 use Rattle.cb_rule.proofs.Keeping.{held_same, pin_same, seats_stay, stands_same}
 

@@ -1,6 +1,9 @@
 -- The steps of a seat on an object that it claims outside of a turn: the claim, the stores of its
 -- memory words and of its version word, and the two ways to settle it.
-use Rattle.std.proofs.Common.{◌≡◌, ◌≢◌, ℕ, zero, suc, ◌+◌, ◌%◌, ◌<◌, ◌≤◌, true, List, [], ◌∷◌, ◌++◌, length, get_or, set, sym, refl, ap, ◌∙◌, subst, inl, inr, ⊎_elim, true≢false, arith, length-set, get_or-set_other, get_or-set_same, eq-eqb, ne_eqb, eqb-true, eqb}
+use Rattle.std.proofs.Common.{◌≡◌, ◌≢◌, ℕ, zero, suc, ◌+◌, ◌%◌, ◌<◌, ◌≤◌, true, List, [], ◌∷◌, ◌++◌}
+use Rattle.std.proofs.Common.{length, get_or, set, sym, refl, ap, ◌∙◌, subst, inl, inr, ⊎_elim}
+use Rattle.std.proofs.Common.{true≢false, arith, length-set, get_or-set_other, get_or-set_same}
+use Rattle.std.proofs.Common.{eq-eqb, ne_eqb, eqb-true, eqb}
 use Rattle.std.proofs.lemmas.Bool.{eqb-false}
 use mathlib.Core.Option.{some}
 use lib.ListN.{get_elem?}
@@ -21,18 +24,22 @@ use Rattle.cb_world.proofs.Laws.{packed_write, window_same}
 use Rattle.cb_rule.specs.declared.view.Held.{Held}
 use Rattle.cb_rule.specs.declared.view.Look.{Look}
 use Rattle.cb_rule.specs.declared.view.View.{View}
-use Rattle.cb_rule.specs.History.{Value, holding_words, newest, top, value_of, IsEntryHistory, is_version}
+use Rattle.cb_rule.specs.History.{Value, holding_words, newest, top, value_of, IsEntryHistory}
+use Rattle.cb_rule.specs.History.{is_version}
 use Rattle.cb_rule.specs.Lists.{times, total, Each, Has, removed}
 use Rattle.cb_rule.specs.Records.{HeldOk, LookOk, RecordOk, SeenOk}
 use Rattle.cb_rule.specs.Rule.{StandsIn, RuleKept}
 use Rattle.cb_rule.specs.Seats.{claims_it, claims_on, pins_on, written_on, pins_it}
 use Rattle.cb_rule.specs.Stands.{Stands}
-use Rattle.cb_rule.specs.Steps.{look_at, next_entry, with_claim, with_held, with_back, with_stamp, with_version, with_claim_word, version_seen}
+use Rattle.cb_rule.specs.Steps.{look_at, next_entry, with_claim, with_held, with_back, with_stamp}
+use Rattle.cb_rule.specs.Steps.{with_version, with_claim_word, version_seen}
 use Rattle.cb_rule.specs.Words.{stamps, base, pointer, stamp, words_at}
 use Rattle.cb_rule.proofs.Calm.{look_ok}
 use Rattle.cb_rule.proofs.Claiming.{found_below, found_calm, found_here, found_shared}
-use Rattle.cb_rule.proofs.Counts.{each_edited, each_removed_only, hit, miss, times-edited, times-removed, times-removed_else, total-at, total-same, total-set, each_there}
-use Rattle.cb_rule.proofs.Growing.{record_more}
+use Rattle.cb_rule.proofs.Counts.{each_edited, each_removed_only, hit, miss, times-edited}
+use Rattle.cb_rule.proofs.Counts.{times-removed, times-removed_else, total-at, total-same}
+use Rattle.cb_rule.proofs.Counts.{total-set, each_there}
+use Rattle.cb_rule.proofs.Growing.{record_more, settled_last}
 use Rattle.cb_rule.proofs.Histories.{newest_else, newest_entry, newest_same, top_else, top_same}
 use Rattle.cb_rule.proofs.Keeping.{held_same, lies_here, outside, words_else}
 use Rattle.cb_rule.proofs.Members.{each_has, times_has}
@@ -80,6 +87,7 @@ record_held c first es v claims looks l o = record {
   told = o.told;
   began = o.began;
   past = o.past;
+  order = o.order;
 }
 
 module _ (c : Config) (ws : List ℕ) (views : List View) (known : Shown) (es : List Entry)
@@ -509,6 +517,14 @@ module _ (c : Config) (ws : List ℕ) (views : List View) (known : Shown) (es : 
             told = g.told;
             began = g.began;
             past = g.past;
+            order = record {
+              had_by = g.order.had_by;
+              had_later = g.order.had_later;
+              wrote_later = (
+                inr (settled_last c known.first es v.turns e (r.seats id v at).lasting.past),
+                g.order.wrote_later,
+              );
+            };
           };
           wrote = λ a q. omega arith;
         }
@@ -559,6 +575,7 @@ module _ (c : Config) (ws : List ℕ) (views : List View) (known : Shown) (es : 
             told = g.told;
             began = g.began;
             past = g.past;
+            order = g.order;
           };
           wrote = λ a q. omega arith;
         }

@@ -1,5 +1,7 @@
 -- A step leaves each view its own objects.
-use Rattle.std.proofs.Common.{◌≡◌, ◌≢◌, ◌⊎◌, ℕ, zero, suc, ◌+◌, ◌<◌, ◌≤◌, ◌&&◌, Bool, true, false, cond, eqb, List, [], ◌∷◌, ◌++◌, map, set, sym, refl, ap, ◌∙◌, subst, inl, inr, ⊎_elim, arith, eq-eqb, eqb-true, true≢false}
+use Rattle.std.proofs.Common.{◌≡◌, ◌≢◌, ◌⊎◌, ℕ, zero, suc, ◌+◌, ◌<◌, ◌≤◌, ◌&&◌, Bool, true, false}
+use Rattle.std.proofs.Common.{cond, eqb, List, [], ◌∷◌, ◌++◌, map, set, sym, refl, ap, ◌∙◌, subst}
+use Rattle.std.proofs.Common.{inl, inr, ⊎_elim, arith, eq-eqb, eqb-true, true≢false}
 use mathlib.Core.Option.{some, some-injective, some-ne-none}
 use lib.ListN.{get_elem?}
 use Rattle.cb_types.specs.declared.config.Config.{Config}
@@ -15,14 +17,17 @@ use Rattle.cb_rule.specs.declared.view.Look.{Look}
 use Rattle.cb_rule.specs.declared.view.Peeked.{Peeked}
 use Rattle.cb_rule.specs.declared.view.Seen.{Seen}
 use Rattle.cb_rule.specs.declared.view.View.{View}
-use Rattle.cb_rule.specs.History.{IsChanged, IsEntryHistory, IsMadeEntry, is_version, newest, no_value, top}
+use Rattle.cb_rule.specs.History.{IsChanged, IsEntryHistory, IsMadeEntry, is_version, newest}
+use Rattle.cb_rule.specs.History.{no_value, top}
 use Rattle.cb_rule.specs.Lists.{times, total, removed, Each, Has}
-use Rattle.cb_rule.specs.Own.{AreOwn, IsOwn, Make, MayWrite, entries_on, reads_it, traces, writes_it}
+use Rattle.cb_rule.specs.Own.{AreOwn, IsOwn, Make, MayWrite, entries_on, reads_it, traces}
+use Rattle.cb_rule.specs.Own.{writes_it}
 use Rattle.cb_rule.specs.Records.{SeenOk, seen_of}
 use Rattle.cb_rule.specs.Rule.{RuleKept}
 use Rattle.cb_rule.specs.Seats.{claims_it, claims_on, pins_it, pins_on}
 use Rattle.cb_rule.specs.Stands.{Stands}
-use Rattle.cb_rule.specs.Steps.{Knows, act, blank, joined, left_of, right_of, with_back, with_claim, with_freed_seen, with_held, with_pin, with_version, without_pin}
+use Rattle.cb_rule.specs.Steps.{Knows, act, blank, joined, left_of, right_of, with_back, with_claim}
+use Rattle.cb_rule.specs.Steps.{with_freed_seen, with_held, with_pin, with_version, without_pin}
 use Rattle.cb_rule.proofs.Counts.{by_case, times-append, times-edited, total-at}
 use Rattle.cb_rule.proofs.Histories.{begun, entry_within, rises}
 use Rattle.cb_rule.proofs.Keeping.{lt_or_le, seats_stay}

@@ -1,5 +1,7 @@
 -- Pins of any seat, while another may hold the lock.
-use Rattle.std.proofs.Common.{◌≡◌, ℕ, suc, ◌+◌, ◌-◌, ◌*◌, ◌/◌, ◌%◌, ◌^◌, ◌<◌, ◌≤◌, Bool, false, cond, eqb, List, [], ◌∷◌, length, set, sym, refl, ap, ◌∙◌, subst, inl, inr, arith, eq-eqb, ne_eqb, eqb-true}
+use Rattle.std.proofs.Common.{◌≡◌, ℕ, suc, ◌+◌, ◌-◌, ◌*◌, ◌/◌, ◌%◌, ◌^◌, ◌<◌, ◌≤◌, Bool, false}
+use Rattle.std.proofs.Common.{cond, eqb, List, [], ◌∷◌, length, set, sym, refl, ap, ◌∙◌, subst, inl}
+use Rattle.std.proofs.Common.{inr, arith, eq-eqb, ne_eqb, eqb-true}
 use mathlib.Core.Logic.{dite}
 use native.Mathlib.Decide.{ℕ_discrete}
 use mathlib.Core.Option.{some, none}
@@ -32,10 +34,12 @@ use Rattle.cb_rule.specs.Rule.{RuleKept}
 use Rattle.cb_rule.specs.Ruled.{Beside, IsSteady, Ruled, AreShares}
 use Rattle.cb_rule.specs.Seats.{pins_it, pins_on}
 use Rattle.cb_rule.specs.Slot.{Sat}
-use Rattle.cb_rule.specs.Steps.{FindsVersion, Knows, look_at, pinned, unpinned, version_seen, with_look, with_pin, without_pin}
+use Rattle.cb_rule.specs.Steps.{FindsVersion, Knows, look_at, pinned, unpinned, version_seen}
+use Rattle.cb_rule.specs.Steps.{with_look, with_pin, without_pin}
 use Rattle.cb_rule.specs.Words.{base, pointer}
 use Rattle.cb_rule.proofs.Calm.{Lies, Quiet, calm_rule, lies, look_ok, still_rule}
-use Rattle.cb_rule.proofs.Counts.{each_removed, hit, miss, times-removed, times-removed_else, total-at, total-set}
+use Rattle.cb_rule.proofs.Counts.{each_removed, hit, miss, times-removed, times-removed_else}
+use Rattle.cb_rule.proofs.Counts.{total-at, total-set}
 use Rattle.cb_rule.proofs.Histories.{IsEntry, newest_entry}
 use Rattle.cb_rule.proofs.Keeping.{lies_here}
 use Rattle.cb_rule.proofs.Lifting.{any_seat, same_lock, same_words}
@@ -65,6 +69,7 @@ reread c first es v share ever pins claims looks seen peeked ok l s p = record {
   told = ok.told;
   began = ok.began;
   past = ok.past;
+  order = ok.order;
 }
 
 -- a look alone

@@ -1,5 +1,6 @@
 -- What the pointer word of an object tells of the pins on it, and of its last entry.
-use Rattle.std.proofs.Common.{◌≡◌, ◌≢◌, ℕ, ◌<◌, ◌++◌, List, ap, ◌∙◌, sym, subst, inl, ⊎_elim, arith, eqb, eqb-true}
+use Rattle.std.proofs.Common.{◌≡◌, ◌≢◌, ℕ, ◌<◌, ◌++◌, List, ap, ◌∙◌, sym, subst, inl, ⊎_elim, arith}
+use Rattle.std.proofs.Common.{eqb, eqb-true}
 use mathlib.Core.Option.{some}
 use lib.ListN.{get_elem?}
 use Rattle.cb_types.specs.declared.config.Config.{Config}

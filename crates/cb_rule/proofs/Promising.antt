@@ -1,5 +1,7 @@
 -- The rule says what stands of the words and the views alone.
-use Rattle.std.proofs.Common.{◌≡◌, ◌⊎◌, ℕ, ◌+◌, ◌*◌, ◌/◌, ◌%◌, ◌<◌, ◌&&◌, ◌≤◌, Bool, true, false, eqb, List, [], ◌++◌, sym, refl, ap, ◌∙◌, subst, inl, inr, ⊎_elim, arith, eq-eqb, eqb-true}
+use Rattle.std.proofs.Common.{◌≡◌, ◌⊎◌, ℕ, ◌+◌, ◌*◌, ◌/◌, ◌%◌, ◌<◌, ◌&&◌, ◌≤◌, Bool, true, false}
+use Rattle.std.proofs.Common.{eqb, List, [], ◌++◌, sym, refl, ap, ◌∙◌, subst, inl, inr, ⊎_elim}
+use Rattle.std.proofs.Common.{arith, eq-eqb, eqb-true}
 use mathlib.Core.Option.{some}
 use lib.ListN.{get_elem?}
 use Rattle.cb_types.specs.declared.config.Config.{Config}
@@ -22,7 +24,9 @@ use Rattle.cb_rule.specs.declared.view.Stand.{Stand}
 use Rattle.cb_rule.specs.declared.view.View.{View}
 use Rattle.cb_rule.specs.History.{Value, WasNow, holding_words, is_version, newest, top, value_of}
 use Rattle.cb_rule.specs.Lists.{total, Each, Has}
-use Rattle.cb_rule.specs.Promised.{ClaimsStand, EntriesStand, HeldStands, HereStands, HolderClaims, Is, IsLast, MovingStands, NamesPlace, PinStands, PinsStand, WordsStand, Wrote}
+use Rattle.cb_rule.specs.Promised.{ClaimsStand, EntriesStand, HeldStands, HereStands, HolderClaims}
+use Rattle.cb_rule.specs.Promised.{Is, IsLast, MovingStands, NamesPlace, PinStands, PinsStand}
+use Rattle.cb_rule.specs.Promised.{WordsStand, Wrote}
 use Rattle.cb_rule.specs.Own.{AreOwn}
 use Rattle.cb_rule.specs.Records.{HeldOk, LookOk, PeekedOk, PinOk, SeenOk, TellsOk, TurnOk}
 use Rattle.cb_rule.specs.Rule.{RuleKept}
@@ -36,7 +40,8 @@ use Rattle.cb_rule.proofs.Counts.{each_append, times-append, total-at}
 use Rattle.cb_rule.proofs.Growing.{has_more}
 use Rattle.cb_rule.proofs.Members.{each_has, has_times, times_has, total_some}
 use Rattle.cb_rule.proofs.Owning.{both_true}
-use Rattle.cb_rule.proofs.Histories.{IsEntry, entry_before, entry_within, newest_entry, once, same_entry, stands}
+use Rattle.cb_rule.proofs.Histories.{IsEntry, entry_before, entry_within, newest_entry, once}
+use Rattle.cb_rule.proofs.Histories.{same_entry, stands}
 
 has_same : (x e : Entry) (xs : List Entry) → x ≡ e → Has x xs → Has e xs
 has_same x e xs is h = subst (λ (y : Entry). Has y xs) is h

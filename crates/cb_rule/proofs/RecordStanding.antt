@@ -1,6 +1,7 @@
 -- The rule says of each view by itself what its record has of any object, and that its turns are
 -- one history where it has the whole share.
-use Rattle.std.proofs.Common.{◌≡◌, ℕ, ◌+◌, false, List, [], ◌∷◌, sym, ap, ◌∙◌, subst, inl, inr, arith}
+use Rattle.std.proofs.Common.{◌≡◌, ℕ, ◌+◌, false, List, [], ◌∷◌, sym, ap, ◌∙◌, subst, inl, inr}
+use Rattle.std.proofs.Common.{arith}
 use mathlib.Core.Option.{some}
 use lib.ListN.{get_elem?}
 use Rattle.cb_types.specs.declared.config.Config.{Config}
@@ -15,6 +16,7 @@ use Rattle.cb_rule.specs.Records.{seen_of}
 use Rattle.cb_rule.specs.RecordStands.{RecordStands}
 use Rattle.cb_rule.specs.Ruled.{Beside, Ruled}
 use Rattle.cb_rule.specs.Slot.{Table}
+use Rattle.cb_rule.proofs.FreedLast.{freed_last}
 use Rattle.cb_rule.proofs.Lone.{lone_turns}
 use Rattle.cb_rule.proofs.Newest.{others_spent}
 use Rattle.cb_rule.proofs.OwnStanding.{wrote_there}
@@ -48,6 +50,7 @@ module _ (first : ℕ) (views : List View) (stand : EntriesStand first views)
     same = λ e x a b. stand.same e x (wrote e a) (wrote x b);
     goes_on = λ e x a b same next. goes_on_from e x (wrote x b) same next
         (stand.goes_on e (wrote e a));
+    ends = freed_last first views stand u (id, at);
   }
 
 -- so of each view between any two steps

@@ -1,5 +1,7 @@
 -- A seat is split, and two are joined.
-use Rattle.std.proofs.Common.{◌≡◌, ◌≢◌, ℕ, zero, suc, ◌+◌, ◌<◌, ◌≤◌, Bool, false, cond, List, [], ◌∷◌, ◌++◌, length, map, set, sym, refl, ap, ◌∙◌, subst, ⊎_elim, arith, true≢false}
+use Rattle.std.proofs.Common.{◌≡◌, ◌≢◌, ℕ, zero, suc, ◌+◌, ◌<◌, ◌≤◌, Bool, false, cond, List, []}
+use Rattle.std.proofs.Common.{◌∷◌, ◌++◌, length, map, set, sym, refl, ap, ◌∙◌, subst, ⊎_elim, arith}
+use Rattle.std.proofs.Common.{true≢false}
 use Rattle.std.proofs.lemmas.List.{append-nil}
 use mathlib.Core.Option.{some}
 use lib.ListN.{get_elem?}
@@ -12,13 +14,17 @@ use Rattle.cb_rule.specs.declared.view.Stand.{Stand}
 use Rattle.cb_rule.specs.declared.view.View.{View}
 use Rattle.cb_rule.specs.History.{WasNow, is_version, newest, no_value, top}
 use Rattle.cb_rule.specs.Lists.{total, Has}
-use Rattle.cb_rule.specs.Records.{HeldOk, LookOk, PeekedOk, PinOk, RecordOk, SeatOk, SeenOk, TurnOk, seen_of}
+use Rattle.cb_rule.specs.Records.{HeldOk, LookOk, PeekedOk, PinOk, RecordOk, SeatOk, SeenOk, TurnOk}
+use Rattle.cb_rule.specs.Records.{ended_by, seen_of}
 use Rattle.cb_rule.specs.Rule.{StandsIn, RuleKept}
 use Rattle.cb_rule.specs.Ruled.{AreShares, Beside, IsSteady, Ruled}
-use Rattle.cb_rule.specs.Seats.{claims_it, claims_on, holding, pins_it, pins_on, share_of, written_on}
+use Rattle.cb_rule.specs.Seats.{claims_it, claims_on, holding, pins_it, pins_on, share_of}
+use Rattle.cb_rule.specs.Seats.{written_on}
 use Rattle.cb_rule.specs.Stands.{Stands}
 use Rattle.cb_rule.specs.Steps.{blank, joined, left_of, right_of}
-use Rattle.cb_rule.proofs.Counts.{each_append, each_map, each_mapped, times-append, total-same, total-set, total-snoc}
+use Rattle.cb_rule.proofs.Growing.{joined_old}
+use Rattle.cb_rule.proofs.Counts.{each_append, each_map, each_mapped, times-append, total-same}
+use Rattle.cb_rule.proofs.Counts.{total-set, total-snoc}
 use Rattle.cb_rule.proofs.Keeping.{seats_stay}
 use Rattle.cb_rule.proofs.Members.{at_snoc}
 use Rattle.cb_rule.proofs.Binding.{bound_joined, bound_split}
@@ -85,6 +91,7 @@ module _ (c : Config) (ws : List ℕ) (views : List View) (known : Shown) (es : 
       told = tt;
       began = λ h l. never_now es h;
       past = tt;
+      order = record { had_by = tt; had_later = tt; wrote_later = tt };
     };
   }
 
@@ -105,6 +112,7 @@ module _ (c : Config) (ws : List ℕ) (views : List View) (known : Shown) (es : 
       told = tt;
       began = λ h l. never_now es h;
       past = tt;
+      order = record { had_by = tt; had_later = tt; wrote_later = tt };
     };
   }
 
@@ -174,6 +182,7 @@ module _ (c : Config) (ws : List ℕ) (views : List View) (known : Shown) (es : 
           told = k.told;
           began = k.began;
           past = k.past;
+          order = k.order;
         };
       }
 
@@ -243,6 +252,12 @@ module _ (c : Config) (ws : List ℕ) (views : List View) (known : Shown) (es : 
           told = k.told;
           began = k.began;
           past = each_append (TurnOk c known.first es) w.turns v.turns k'.past k.past;
+          order = record {
+            had_by = k.order.had_by;
+            had_later = k.order.had_later;
+            wrote_later = joined_old es (w.written ++ v.written) (w.turns ++ v.turns)
+                (ended_by (w.turns ++ v.turns));
+          };
         };
       }
 

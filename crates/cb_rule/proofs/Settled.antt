@@ -1,5 +1,7 @@
 -- Each way in which the holder of the far lock may settle the word of an object.
-use Rattle.std.proofs.Common.{◌≡◌, ℕ, ◌+◌, ◌^◌, ◌<◌, ◌≤◌, Bool, cond, List, [], ◌∷◌, ◌++◌, length, get_or, set, sym, refl, ap, ◌∙◌, subst, inl, inr, ⊎_elim, true≢false, arith, get_or-set_other, get_or-set_same, eq-eqb, ne_eqb}
+use Rattle.std.proofs.Common.{◌≡◌, ℕ, ◌+◌, ◌^◌, ◌<◌, ◌≤◌, Bool, cond, List, [], ◌∷◌, ◌++◌, length}
+use Rattle.std.proofs.Common.{get_or, set, sym, refl, ap, ◌∙◌, subst, inl, inr, ⊎_elim, true≢false}
+use Rattle.std.proofs.Common.{arith, get_or-set_other, get_or-set_same, eq-eqb, ne_eqb}
 use Rattle.cb_types.specs.declared.config.Config.{Config}
 use Rattle.cb_ptr.specs.declared.word.State.{State}
 use Rattle.cb_ptr.specs.declared.word.State.TheVariants as word
@@ -11,7 +13,8 @@ use Rattle.cb_world.specs.declared.object.Object.TheVariants as is
 use Rattle.cb_world.specs.Memory.{window, words_for, IsPacked}
 use Rattle.cb_world.specs.Shown.{Fits, Covers, MayLie, Owns, IsHeld, object_at, version_at}
 use Rattle.cb_world.specs.Played.{settled_by}
-use Rattle.cb_world.specs.Settling.{MaySettle, MaySettleAs, MayFree, MayPutAway, MayBring, HasContents, IsPutAway, settled_words}
+use Rattle.cb_world.specs.Settling.{MaySettle, MaySettleAs, MayFree, MayPutAway, MayBring}
+use Rattle.cb_world.specs.Settling.{HasContents, IsPutAway, settled_words}
 use Rattle.cb_world.specs.Write.{IsWrite}
 use Rattle.cb_world.specs.LocalSound.{LiesAt}
 use Rattle.cb_world.specs.Written.{adds, adds_as, entry, gone, newer}

@@ -1,5 +1,7 @@
 -- The holder of the far lock settles the word of an object: what it has to show.
-use Rattle.std.proofs.Common.{◌≡◌, ◌≢◌, ◌⊎◌, ℕ, ◌+◌, ◌<◌, false, List, ◌++◌, get_or, set, sym, refl, ap, ◌∙◌, subst, inl, inr, ⊎_elim, arith, length-set, get_or-set_other, get_or-set_same}
+use Rattle.std.proofs.Common.{◌≡◌, ◌≢◌, ◌⊎◌, ℕ, ◌+◌, ◌<◌, false, List, ◌++◌, get_or, set, sym, refl}
+use Rattle.std.proofs.Common.{ap, ◌∙◌, subst, inl, inr, ⊎_elim, arith, length-set, get_or-set_other}
+use Rattle.std.proofs.Common.{get_or-set_same}
 use native.Mathlib.Decide.{ℕ_discrete}
 use Rattle.cb_types.specs.declared.config.Config.{Config}
 use Rattle.cb_ptr.specs.Word.{state_of, hot_of}
@@ -8,7 +10,8 @@ use Rattle.cb_world.specs.declared.event.Event.TheVariants.{Settled}
 use Rattle.cb_world.specs.declared.object.Object.{Object}
 use Rattle.cb_world.specs.declared.object.Object.TheVariants as is
 use Rattle.cb_world.specs.declared.shown.Shown.{Shown}
-use Rattle.cb_world.specs.Shown.{Fits, Covers, Spares, Avoids, MayLie, Owns, IsHeld, object_at, version_at, never}
+use Rattle.cb_world.specs.Shown.{Fits, Covers, Spares, Avoids, MayLie, Owns, IsHeld, object_at}
+use Rattle.cb_world.specs.Shown.{version_at, never}
 use Rattle.cb_world.specs.Played.{after, settled_by}
 use Rattle.cb_world.specs.LocalSound.{LiesAt}
 use Rattle.cb_world.specs.Written.{adds}

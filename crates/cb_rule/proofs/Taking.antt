@@ -1,5 +1,7 @@
 -- A seat takes the lock, and the far state out of its slot.
-use Rattle.std.proofs.Common.{◌≡◌, ℕ, zero, suc, ◌*◌, ◌%◌, ◌<◌, ◌≤◌, true, List, ◌∷◌, length, get_or, set, Some, sym, refl, ap, ◌∙◌, subst, ⊎_elim, arith, eqb, eq-eqb, ne_eqb, length-set, get_or-set_same, true≢false}
+use Rattle.std.proofs.Common.{◌≡◌, ℕ, zero, suc, ◌*◌, ◌%◌, ◌<◌, ◌≤◌, true, List, ◌∷◌, length}
+use Rattle.std.proofs.Common.{get_or, set, Some, sym, refl, ap, ◌∙◌, subst, ⊎_elim, arith, eqb}
+use Rattle.std.proofs.Common.{eq-eqb, ne_eqb, length-set, get_or-set_same, true≢false}
 use Rattle.std.proofs.lemmas.Bool.{cases_lt}
 use mathlib.Core.Logic.{dite}
 use mathlib.Core.Option.{some, none}
@@ -14,10 +16,11 @@ use Rattle.cb_world.specs.LocalSound.{AreKnown}
 use Rattle.cb_world.specs.Shown.{never, object_at, version_at}
 use Rattle.cb_rule.specs.declared.view.View.{View}
 use Rattle.cb_rule.specs.History.{newest, top}
-use Rattle.cb_rule.specs.Lists.{total, Each}
+use Rattle.cb_rule.specs.Lists.{total, Each, Has}
 use Rattle.cb_rule.specs.Locking.{Deeds, IsTimed, Locked, Stood, TurnStands, turns_on, when_ended}
 use Rattle.cb_rule.specs.LockSteps.{HasTaken, took, took_lock}
 use Rattle.cb_rule.specs.Own.{AreOwn, held_on}
+use Rattle.cb_rule.specs.Records.{IsSettledBy}
 use Rattle.cb_rule.specs.Rule.{AreSized, RuleKept}
 use Rattle.cb_rule.specs.Ruled.{Ruled}
 use Rattle.cb_rule.specs.Seats.{claims_on, holding, pins_on}
@@ -25,7 +28,8 @@ use Rattle.cb_rule.specs.Slot.{Sat, Table}
 use Rattle.cb_rule.specs.Stands.{Stands}
 use Rattle.cb_rule.specs.Steps.{Knows}
 use Rattle.cb_rule.proofs.Binding.{bound_by, held_at_most}
-use Rattle.cb_rule.proofs.Counts.{total-at, total-same, total-set}
+use Rattle.cb_rule.proofs.Growing.{settled_now}
+use Rattle.cb_rule.proofs.Counts.{each_map, total-at, total-same, total-set}
 use Rattle.cb_rule.proofs.Flagging.{flagged, lock_word}
 use Rattle.cb_rule.proofs.Keeping.{seats_stay}
 use Rattle.cb_rule.proofs.Lifting.{same_words, set_same, shares_stay}
@@ -87,6 +91,12 @@ module _ (deeds : Deeds) (first : ℕ) (c : Config) (s : Table) (id : ℕ) (me :
           told = tt;
           began = old_now c s.words s.views r.known r.history r.kept;
           past = k.past;
+          order = record {
+            had_by = each_map (λ e. Has e r.history) (IsSettledBy r.history (length r.history))
+                me.0.written (settled_now r.history) k.written;
+            had_later = k.order.wrote_later;
+            wrote_later = k.order.wrote_later;
+          };
         };
       } (omega (arith, one_holds))
 

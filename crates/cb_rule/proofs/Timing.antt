@@ -1,8 +1,10 @@
 -- Turns come one after another: one had ended when the next one began.
-use Rattle.std.proofs.Common.{◌≡◌, ℕ, zero, suc, ◌+◌, ◌-◌, ◌<◌, ◌≤◌, length, ap, ◌∙◌, subst, arith, eqb-true}
+use Rattle.std.proofs.Common.{◌≡◌, ℕ, zero, suc, ◌+◌, ◌-◌, ◌<◌, ◌≤◌, length, ap, ◌∙◌, subst, arith}
+use Rattle.std.proofs.Common.{eqb-true}
 use Rattle.cb_types.specs.declared.config.Config.{Config}
 use Rattle.cb_rule.specs.declared.turn.Turn.{Turn}
-use Rattle.cb_rule.specs.Locking.{Deeds, IsTimed, Locked, is_turn, turn_number, turns_on, when_ended}
+use Rattle.cb_rule.specs.Locking.{Deeds, IsTimed, Locked, is_turn, turn_number, turns_on}
+use Rattle.cb_rule.specs.Locking.{when_ended}
 use Rattle.cb_rule.specs.OneHistory.{Made}
 use Rattle.cb_rule.specs.Records.{TurnOk}
 use Rattle.cb_rule.specs.Ruled.{Ruled}

@@ -1,5 +1,6 @@
 -- Worked examples of claims: what meets each definition, and what breaks one part.
-use Rattle.std.proofs.Common.{◌≡◌, ℕ, ◌+◌, false, List, [], ◌∷◌, length, get_or, refl, ap, lit<, lit≤, arith}
+use Rattle.std.proofs.Common.{◌≡◌, ℕ, ◌+◌, false, List, [], ◌∷◌, length, get_or, refl, ap, lit<}
+use Rattle.std.proofs.Common.{lit≤, arith}
 use Rattle.std.proofs.lemmas.Bool.{eqb-false}
 use Rattle.cb_ptr.specs.declared.word.State.TheVariants as word
 use Rattle.cb_world.specs.declared.entry.Entry.{Entry}
@@ -14,7 +15,8 @@ use Rattle.cb_rule.specs.declared.view.Held.{Held}
 use Rattle.cb_rule.specs.declared.view.View.{View}
 use Rattle.cb_rule.specs.History.{Value, WasNow, holding_words}
 use Rattle.cb_rule.specs.Records.{HeldOk, OldOk, TellsOk}
-use Rattle.cb_rule.specs.Steps.{blank, version_seen, with_back, with_claim, with_claim_word, with_held, with_stamp, with_version}
+use Rattle.cb_rule.specs.Steps.{blank, version_seen, with_back, with_claim, with_claim_word}
+use Rattle.cb_rule.specs.Steps.{with_held, with_stamp, with_version}
 use Rattle.cb_rule.proofs.WorkedStands.{here, moving, table, two}
 
 -- object 1 was made with 5 and written with 7, and lies at place 0

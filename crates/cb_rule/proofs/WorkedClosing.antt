@@ -1,5 +1,7 @@
 -- Worked examples of what a pass closes: what meets each definition, and what breaks one part alone.
-use Rattle.std.proofs.Common.{◌≡◌, ℕ, zero, suc, ◌≤◌, ◌++◌, get_or, subst, true, false, Bool, List, [], ◌∷◌, Some, None, length, replicate, ◌<◌, sym, refl, ap, ◌∙◌, inl, inr, ⊎_elim, true≢false, lit<, lit≤, arith}
+use Rattle.std.proofs.Common.{◌≡◌, ℕ, zero, suc, ◌≤◌, ◌++◌, get_or, subst, true, false, Bool, List}
+use Rattle.std.proofs.Common.{[], ◌∷◌, Some, None, length, replicate, ◌<◌, sym, refl, ap, ◌∙◌, inl}
+use Rattle.std.proofs.Common.{inr, ⊎_elim, true≢false, lit<, lit≤, arith}
 use mathlib.Core.Option.{Option as Maybe, some, none, some-injective, some-ne-none}
 use Rattle.atomic_table.specs.Table.{opening}
 use Rattle.cb_types.specs.declared.config.Config.{Config}

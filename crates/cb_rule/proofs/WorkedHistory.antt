@@ -1,8 +1,10 @@
 -- Worked histories: what meets each definition, and what breaks one of its parts alone.
-use Rattle.std.proofs.Common.{◌≡◌, ℕ, ◌+◌, ◌≤◌, true, List, [], ◌∷◌, length, sym, refl, ap, ◌∙◌, inl, inr, true≢false, arith}
+use Rattle.std.proofs.Common.{◌≡◌, ℕ, ◌+◌, ◌≤◌, true, List, [], ◌∷◌, length, sym, refl, ap, ◌∙◌}
+use Rattle.std.proofs.Common.{inl, inr, true≢false, arith}
 use Rattle.cb_world.specs.declared.entry.Entry.{Entry}
 use Rattle.cb_world.specs.Written.{entry, gone}
-use Rattle.cb_rule.specs.History.{IsChanged, IsEntryHistory, IsMadeEntry, Value, WasNow, holding_words, is_version, newest, no_value, top}
+use Rattle.cb_rule.specs.History.{IsChanged, IsEntryHistory, IsMadeEntry, Value, WasNow}
+use Rattle.cb_rule.specs.History.{holding_words, is_version, newest, no_value, top}
 use Rattle.cb_rule.specs.Lists.{times}
 
 -- object 1 is made with 8 bytes, written and freed; object 0 is made between. Makes give version 3.

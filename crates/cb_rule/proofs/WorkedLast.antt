@@ -1,6 +1,7 @@
 -- Worked examples of what views found and wrote last, and of the words that stand for it: what
 -- meets each definition, and what breaks one part alone.
-use Rattle.std.proofs.Common.{◌≡◌, ℕ, ◌+◌, ◌≤◌, true, false, List, [], ◌∷◌, length, get_or, sym, refl, ap, ◌∙◌, subst, inl, inr, ⊎_elim, true≢false, arith}
+use Rattle.std.proofs.Common.{◌≡◌, ℕ, ◌+◌, ◌≤◌, true, false, List, [], ◌∷◌, length, get_or, sym}
+use Rattle.std.proofs.Common.{refl, ap, ◌∙◌, subst, inl, inr, ⊎_elim, true≢false, arith}
 use Rattle.cb_ptr.specs.Word.{state_number}
 use Rattle.cb_world.specs.declared.shown.Shown.{Shown}
 use Rattle.cb_world.specs.declared.entry.Entry.{Entry}
@@ -14,12 +15,14 @@ use Rattle.cb_rule.specs.declared.view.Stand.{Stand}
 use Rattle.cb_rule.specs.declared.view.View.{View}
 use Rattle.cb_rule.specs.Lists.{Has}
 use Rattle.cb_rule.specs.Own.{entries_on, held_on, reads_it, writes_it}
-use Rattle.cb_rule.specs.Promised.{FoundBy, HeldStands, HereStands, HolderClaims, IsLast, Looked, MovingStands, PinStands}
+use Rattle.cb_rule.specs.Promised.{FoundBy, HeldStands, HereStands, HolderClaims, IsLast, Looked}
+use Rattle.cb_rule.specs.Promised.{MovingStands, PinStands}
 use Rattle.cb_rule.specs.Ruled.{IsAlike}
 use Rattle.cb_rule.specs.Seats.{claims_on, pins_it, share_of}
 use Rattle.cb_rule.specs.Steps.{blank, freed_seen, look_at, nothing, opener, stand}
 use Rattle.cb_rule.specs.Words.{stamps, words_at}
-use Rattle.cb_rule.proofs.WorkedClosing.{claiming, here as there, is_made, maker, record_with, the_one, wrote_in}
+use Rattle.cb_rule.proofs.WorkedClosing.{claiming, here as there, is_made, maker, record_with}
+use Rattle.cb_rule.proofs.WorkedClosing.{the_one, wrote_in}
 use Rattle.cb_rule.proofs.WorkedHistory.{freed, made, written}
 use Rattle.cb_rule.proofs.WorkedLocking.{far, turn}
 use Rattle.cb_rule.proofs.WorkedStands.{here, table, two}

@@ -1,9 +1,12 @@
 -- Worked examples of the far lock and of turns in a history: what meets each definition, and what
 -- breaks one part alone.
-use Rattle.std.proofs.Common.{◌≡◌, ℕ, zero, suc, ◌*◌, ◌^◌, ◌<◌, ◌≤◌, true, List, [], ◌∷◌, length, Some, None, replicate, sym, refl, ap, ◌∙◌, subst, inl, inr, ⊎_elim, lit<, lit≤, arith}
+use Rattle.std.proofs.Common.{◌≡◌, ℕ, zero, suc, ◌*◌, ◌^◌, ◌<◌, ◌≤◌, true, List, [], ◌∷◌, length}
+use Rattle.std.proofs.Common.{Some, None, replicate, sym, refl, ap, ◌∙◌, subst, inl, inr, ⊎_elim}
+use Rattle.std.proofs.Common.{lit<, lit≤, arith}
 use mathlib.Core.Option.{Option as Maybe, some, none, some-injective, some-ne-none}
 use lib.ListN.{get_elem?}
-use Rattle.cb_types.specs.declared.config.Field.TheVariants.{K, R, Nodes, Frames, Room, Handles, Turns}
+use Rattle.cb_types.specs.declared.config.Field.TheVariants.{K, R, Nodes, Frames, Room, Handles}
+use Rattle.cb_types.specs.declared.config.Field.TheVariants.{Turns}
 use Rattle.cb_types.specs.Config.{IsAccepted}
 use Rattle.cb_types.specs.declared.job.Job.TheVariants.{Evict}
 use Rattle.cb_world.specs.declared.event.Event.TheVariants.{Looked}
@@ -91,6 +94,10 @@ turn took gave = record {
   start = seen;
   since = 0;
   until = 0;
+  had = [];
+  left = [];
+  old = [];
+  ended = 0;
   acts = [];
   took = took;
   gave = gave;

@@ -1,5 +1,6 @@
 -- Worked examples: what a view has of its own objects by itself, and what breaks one part alone.
-use Rattle.std.proofs.Common.{◌≡◌, ◌+◌, ◌≤◌, List, [], ◌∷◌, ◌++◌, sym, refl, ap, subst, inl, inr, ⊎_elim, lit≤, arith}
+use Rattle.std.proofs.Common.{◌≡◌, ◌+◌, ◌≤◌, List, [], ◌∷◌, ◌++◌, sym, refl, ap, subst, inl, inr}
+use Rattle.std.proofs.Common.{⊎_elim, lit≤, arith}
 use Rattle.cb_ptr.specs.Word.{len_of}
 use Rattle.cb_world.specs.declared.entry.Entry.{Entry}
 use Rattle.cb_world.specs.Written.{entry}

@@ -1,23 +1,25 @@
 -- Worked records of seats, and what stands beside the rule: what meets each definition, and what
 -- breaks one of its parts alone.
 use Rattle.std.proofs.Common.{◌≡◌, ◌≢◌, ℕ, ◌-◌, ◌≤◌, true, false, List, [], ◌∷◌}
-use Rattle.std.proofs.Common.{length, replicate, get_or, sym, refl, ap, inl, inr, true≢false}
+use Rattle.std.proofs.Common.{◌++◌, length, length-append, replicate, get_or, sym, refl, ap, subst}
+use Rattle.std.proofs.Common.{inl, inr, ⊎_elim, true≢false}
 use Rattle.std.proofs.Common.{lit<, lit≤, arith}
 use Rattle.cb_types.specs.declared.config.Config.{Config}
+use Rattle.cb_world.specs.declared.entry.Entry.{Entry}
 use Rattle.cb_world.specs.declared.event.Event.TheVariants.{Claimed}
 use Rattle.cb_world.specs.declared.object.Object.TheVariants as is
 use Rattle.cb_world.specs.declared.shown.Shown.{Shown}
 use Rattle.cb_world.specs.Shown.{never}
 use Rattle.cb_rule.specs.declared.view.View.{View}
 use Rattle.cb_rule.specs.History.{Follows, holding_words, no_value, value_of}
-use Rattle.cb_rule.specs.Lists.{total}
+use Rattle.cb_rule.specs.Lists.{total, Has}
 use Rattle.cb_rule.specs.Locking.{is_turn}
-use Rattle.cb_rule.specs.Records.{RecordOk, SeatOk}
+use Rattle.cb_rule.specs.Records.{IsSettledFrom, RecordOk, SeatOk}
 use Rattle.cb_rule.specs.Ruled.{Beside, IsAlike, IsSteady}
 use Rattle.cb_rule.specs.Slot.{Table}
 use Rattle.cb_rule.specs.Steps.{blank, freed_seen, look_at, nothing, opener, stand}
 use Rattle.cb_rule.proofs.Seating.{never_now}
-use Rattle.cb_rule.proofs.WorkedHistory.{freed, made, some_entries, written}
+use Rattle.cb_rule.proofs.WorkedHistory.{freed, made, other, some_entries, written}
 use Rattle.cb_rule.proofs.WorkedLocking.{far, seen, turn}
 use Rattle.cb_rule.proofs.WorkedPromise.{lying, pin_ok}
 use Rattle.cb_rule.proofs.WorkedViews.{here_full, here_word, pair_of}
@@ -57,7 +59,34 @@ record_ok = record {
   told = tt;
   began = λ h low. never_now some_entries h;
   past = tt;
+  order = record {
+    had_by = tt;
+    had_later = tt;
+    wrote_later = (
+      inr record { newer = []; older = other ∷ made ∷ []; parts = refl; long = lit≤ tt },
+      (inr record { newer = written ∷ other ∷ []; older = []; parts = refl; long = lit≤ tt }, tt),
+    );
+  };
 }
+
+-- it had these entries not yet when a turn of it ended, and they were settled before that
+wrote_before_its_turn_ended : RecordOk pair_of 3 some_entries record seat {
+  turns = record (turn (far 0) (far 1)) { until = 3 } ∷ [];
+} → ⊥
+wrote_before_its_turn_ended r = ⊎_elim (λ (none : ⊥). none)
+    (λ (s : IsSettledFrom some_entries 3 written).
+    let e : 3 ≡ length (s.newer ++ written ∷ s.older) = ap (λ (es : List Entry). length es) s.parts in
+    let n = length-append s.newer (written ∷ s.older) in let low = s.long in
+    omega (arith, e, n, low)) r.order.wrote_later.0
+
+-- of a running turn: an entry that it had when it began was settled later, or before the turn before
+had_none : RecordOk pair_of 3 some_entries record seat { had = written ∷ [] } → ⊥
+had_none r = let s = r.order.had_by.0 in
+    let none : s.older ≡ [] = none_left s.older s.short in absurd (subst (Has written) none s.there)
+  where
+    none_left : (es : List Entry) → length es ≤ 0 → es ≡ []
+    none_left [] short = refl
+    none_left (e ∷ es) short = absurd (omega (arith, short))
 
 -- records where there is no entry of all
 abbrev Alone : View → Type 0

@@ -1,5 +1,7 @@
 -- Worked tables under the rule: what meets each definition, and what breaks one of its parts alone.
-use Rattle.std.proofs.Common.{◌≡◌, ℕ, zero, suc, ◌<◌, ◌≤◌, true, false, List, [], ◌∷◌, ◌++◌, length, replicate, Some, None, get_or, sym, refl, ap, ◌∙◌, subst, inl, ⊎_elim, true≢false, lit<, lit≤, arith}
+use Rattle.std.proofs.Common.{◌≡◌, ℕ, zero, suc, ◌<◌, ◌≤◌, true, false, List, [], ◌∷◌, ◌++◌, length}
+use Rattle.std.proofs.Common.{replicate, Some, None, get_or, sym, refl, ap, ◌∙◌, subst, inl, ⊎_elim}
+use Rattle.std.proofs.Common.{true≢false, lit<, lit≤, arith}
 use Rattle.std.proofs.lemmas.List.{length-append}
 use mathlib.Core.Option.{Option as Maybe, some, none, some-injective, some-ne-none}
 use Rattle.atomic_table.specs.Table.{opening}
@@ -35,7 +37,8 @@ use Rattle.cb_rule.specs.Slot.{LockSlot}
 use Rattle.cb_rule.specs.Steps.{blank, freed_seen, held_at, opener, stand, version_seen}
 use Rattle.cb_rule.proofs.Opening.{opens, same_each}
 use Rattle.cb_rule.proofs.WorkedHistory.{made, written}
-use Rattle.cb_rule.proofs.WorkedLocking.{accepted, far, home, no_frames, one_turn, one_view, quiet, seat, seen, stood, table, turn}
+use Rattle.cb_rule.proofs.WorkedLocking.{accepted, far, home, no_frames, one_turn, one_view, quiet}
+use Rattle.cb_rule.proofs.WorkedLocking.{seat, seen, stood, table, turn}
 use Rattle.cb_rule.proofs.WorkedStands.{here, seven, two}
 use Rattle.cb_rule.proofs.WorkedViews.{here_word, pair_of}
 

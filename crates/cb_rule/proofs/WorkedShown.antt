@@ -1,6 +1,8 @@
 -- Worked examples of the world that a table shows: what meets the definition, and what breaks one
 -- part alone.
-use Rattle.std.proofs.Common.{◌≡◌, ℕ, ◌<◌, ◌++◌, true, false, Bool, List, [], ◌∷◌, Some, length, replicate, subst, sym, refl, ap, ◌∙◌, inl, ⊎_elim, true≢false, lit<, lit≤, arith}
+use Rattle.std.proofs.Common.{◌≡◌, ℕ, ◌<◌, ◌++◌, true, false, Bool, List, [], ◌∷◌, Some, length}
+use Rattle.std.proofs.Common.{replicate, subst, sym, refl, ap, ◌∙◌, inl, ⊎_elim, true≢false, lit<}
+use Rattle.std.proofs.Common.{lit≤, arith}
 use mathlib.Core.Option.{Option as Maybe, some, none, some-injective, some-ne-none}
 use Rattle.cb_ptr.specs.declared.word.State.TheVariants as word
 use Rattle.cb_ptr.specs.Word.{state_number, state_of}

@@ -1,6 +1,7 @@
 -- Worked examples of how the words of an object stand: what meets each definition, and what breaks
 -- one part.
-use Rattle.std.proofs.Common.{ℕ, true, List, [], ◌∷◌, get_or, refl, ap, sym, inr, true≢false, lit<, lit≤, arith}
+use Rattle.std.proofs.Common.{ℕ, true, List, [], ◌∷◌, get_or, refl, ap, sym, inr, true≢false, lit<}
+use Rattle.std.proofs.Common.{lit≤, arith}
 use Rattle.std.proofs.lemmas.Bool.{eqb-false}
 use Rattle.cb_types.specs.declared.config.Config.{Config}
 use Rattle.cb_ptr.specs.Word.{state_number}

@@ -1,6 +1,8 @@
 -- Worked steps of a seat on the words: what meets each definition, and what breaks one of its parts
 -- alone.
-use Rattle.std.proofs.Common.{◌≡◌, ◌≢◌, ℕ, zero, suc, ◌+◌, ◌*◌, ◌^◌, ◌<◌, ◌≤◌, false, eqb, List, [], ◌∷◌, length, get_or, slice_index, refl, ap, subst, inl, ⊎_elim, lit<, lit≤, arith}
+use Rattle.std.proofs.Common.{◌≡◌, ◌≢◌, ℕ, zero, suc, ◌+◌, ◌*◌, ◌^◌, ◌<◌, ◌≤◌, false, eqb, List, []}
+use Rattle.std.proofs.Common.{◌∷◌, length, get_or, slice_index, refl, ap, subst, inl, ⊎_elim, lit<}
+use Rattle.std.proofs.Common.{lit≤, arith}
 use Rattle.std.proofs.lemmas.Bool.{eqb-false}
 use mathlib.Core.Option.{some, none}
 use Rattle.atomic_table.specs.Table.{Step, step}
@@ -10,14 +12,23 @@ use Rattle.cb_world.specs.Memory.{words_for}
 use Rattle.cb_world.specs.Shown.{Owns, Spares, object_at}
 use Rattle.cb_rule.specs.declared.view.Held.{Held}
 use Rattle.cb_rule.specs.declared.view.Peeked.{Peeked}
+use Rattle.cb_world.specs.declared.entry.Entry.{Entry}
 use Rattle.cb_rule.specs.declared.view.Seen.{Seen}
 use Rattle.cb_rule.specs.declared.view.Stand.{Stand}
 use Rattle.cb_rule.specs.declared.view.View.{View}
 use Rattle.cb_rule.specs.Own.{IsAlone}
-use Rattle.cb_rule.specs.Lists.{edited, picked, removed}
+use Rattle.cb_rule.specs.Lists.{edited, picked, removed, Has}
 use Rattle.cb_rule.specs.Records.{seen_of}
 use Rattle.cb_rule.specs.Slot.{LockSlot, Sat}
-use Rattle.cb_rule.specs.Steps.{HasEvent, FindsVersion, IsInside, IsNewest, act, all_seen, blank, claimed_here, dated, freed_seen, glanced, held_at, joined, left_of, loaded, look_at, next_entry, nothing, peeked, pinned, put_back, read_held, right_of, settled, settled_here, stamped, stamped_here, stand, stored, stored_here, told, unpinned, version_seen, with_claim, with_freed_seen, with_held, with_look, with_peek, with_pin, with_back, with_stamp, with_version, with_claim_word, without_claim, without_pin}
+use Rattle.cb_rule.specs.Steps.{HasEvent, FindsVersion, IsInside, IsNewest, act, all_seen, blank}
+use Rattle.cb_rule.specs.AnyGlance.{glanced_any}
+use Rattle.cb_rule.specs.Steps.{claimed_here, dated, freed_seen, glanced, held_at, joined, left_of}
+use Rattle.cb_rule.specs.Steps.{loaded, look_at, next_entry, nothing, peeked, pinned, put_back}
+use Rattle.cb_rule.specs.Steps.{read_held, right_of, settled, settled_here, stamped, stamped_here}
+use Rattle.cb_rule.specs.Steps.{stand, stored, stored_here, told, unpinned, version_seen}
+use Rattle.cb_rule.specs.Steps.{with_claim, with_freed_seen, with_held, with_look, with_peek}
+use Rattle.cb_rule.specs.Steps.{with_pin, with_back, with_stamp, with_version, with_claim_word}
+use Rattle.cb_rule.specs.Steps.{without_claim, without_pin}
 use Rattle.cb_rule.proofs.WorkedHistory.{made, written}
 use Rattle.cb_rule.proofs.WorkedLocking.{far, turn}
 use Rattle.cb_rule.proofs.WorkedViews.{here_full, here_word, pair_of}
@@ -143,6 +154,31 @@ glances_below : Steps glanced 2 maker 0 (with_freed_seen 1 2 0 maker) → ⊥
 glances_below g = let z = (g 1 refl).0 refl in
     let two : 2 ≡ z.0 = ap (λ (m : Sat). version_in m.0.seen) z.1 in
     let above : 3 ≤ z.0 = z.2.written.0 refl in omega (arith, two, above)
+
+-- so a glance at the word of any object, where the record knows it; where it does not it is a look
+glances_any_unread : Steps glanced_any 2 maker 0 (with_look 1 0 maker) → ⊥
+glances_any_unread g = let z = (g 1 refl).0 refl (inl (made, inl refl, refl)) in
+    differ (λ v. length v.seen) (with_look 1 0 maker) (with_freed_seen 1 z.0 0 maker) refl z.1
+
+glances_any_below : Steps glanced_any 2 maker 0 (with_freed_seen 1 2 0 maker) → ⊥
+glances_any_below g = let z = (g 1 refl).0 refl (inl (made, inl refl, refl)) in
+    let two : 2 ≡ z.0 = ap (λ (m : Sat). version_in m.0.seen) z.1 in
+    let above : 3 ≤ z.0 = z.2.written.0 refl in omega (arith, two, above)
+
+abbrev stranger : View
+stranger = record (blank pair_of) { share = 24 }
+
+reads_unknown : Steps glanced_any 2 stranger 0 (with_freed_seen 1 5 0 stranger) → ⊥
+reads_unknown g = differ (λ v. length v.seen) (with_freed_seen 1 5 0 stranger)
+    (with_look 1 0 stranger) refl ((g 1 refl).1 (λ e knows. ⊎_elim
+    (λ (x : (e : Entry) × Has e [] × (e.handle ≡ 1)). absurd x.1)
+    (λ (x : (s : Seen) × Has s [] × (s.handle ≡ 1)). absurd x.1) knows))
+
+glances_any_unnoted : Steps glanced_any 2 stranger 0 stranger → ⊥
+glances_any_unnoted g = differ looks_in stranger (with_look 1 0 stranger) refl
+    ((g 1 refl).1 (λ e knows. ⊎_elim
+    (λ (x : (e : Entry) × Has e [] × (e.handle ≡ 1)). absurd x.1)
+    (λ (x : (s : Seen) × Has s [] × (s.handle ≡ 1)). absurd x.1) knows))
 
 read_freed : ((with_freed_seen 1 5 0 maker).looks ≡ look_at 1 0 ∷ [])
     × ((with_freed_seen 1 5 0 maker).seen ≡ freed_seen 1 5 ∷ [])
@@ -432,6 +468,7 @@ joined_has : joined whole another ≡ record whole {
   seen = freed_seen 0 5 ∷ freed_seen 0 4 ∷ [];
   peeked = its_peek ∷ its_peek ∷ [];
   looks = look_at 0 1 ∷ look_at 1 (here_word 8) ∷ [];
+  base = written ∷ made ∷ [];
   own = [];
   turns = turn (far 1) (far 2) ∷ turn (far 0) (far 1) ∷ [];
 }

@@ -1,5 +1,7 @@
 -- Worked examples of what turns were told: what meets the definition, and what breaks one part.
-use Rattle.std.proofs.Common.{◌≡◌, ℕ, zero, suc, ◌<◌, ◌≤◌, false, List, [], ◌∷◌, ◌++◌, Option, None, Some, length, get_or, sym, refl, ap, subst, inl, inr, ⊎_elim, lit<, lit≤, arith}
+use Rattle.std.proofs.Common.{◌≡◌, ℕ, zero, suc, ◌<◌, ◌≤◌, false, List, [], ◌∷◌, ◌++◌, Option, None}
+use Rattle.std.proofs.Common.{Some, length, length-append, get_or, sym, refl, ap, subst, inl, inr}
+use Rattle.std.proofs.Common.{⊎_elim, lit<, lit≤, arith}
 use Rattle.cb_types.specs.declared.job.Job.{Job}
 use Rattle.cb_types.specs.declared.job.Job.TheVariants.{Evict, Read, Write}
 use Rattle.cb_types.specs.declared.reply.Reply.{Reply}
@@ -17,7 +19,7 @@ use Rattle.cb_rule.specs.Lists.{Each, Has}
 use Rattle.cb_rule.specs.Locking.{turn_number}
 use Rattle.cb_rule.specs.OneHistory.{Made}
 use Rattle.cb_rule.specs.Promised.{Wrote}
-use Rattle.cb_rule.specs.Records.{IsSettledBy, OldOk, ReadOk, TellsWritten, TurnOk}
+use Rattle.cb_rule.specs.Records.{IsSettledBy, IsSettledFrom, OldOk, ReadOk, TellsWritten, TurnOk}
 use Rattle.cb_rule.specs.Steps.{blank}
 use Rattle.cb_rule.specs.Told.{AreTold}
 use Rattle.cb_rule.proofs.Growing.{has_more}
@@ -28,8 +30,8 @@ use Rattle.cb_rule.proofs.WorkedLocking.{far, one_view, seen}
 use Rattle.cb_rule.proofs.WorkedStands.{here}
 use Rattle.cb_rule.proofs.WorkedViews.{pair_of}
 
--- a turn that found both objects in local memory when the history had two entries, and claimed
--- object 1 when it had three
+-- a turn that found both objects in local memory when the history had two entries, of which its
+-- view wrote the first, and claimed object 1 when it had three
 abbrev turn : Event → Turn
 turn e = record {
   job = Evict;
@@ -37,6 +39,10 @@ turn e = record {
   start = record seen { objects = is.Here 8 0 ∷ is.Here 8 1 ∷ [] };
   since = 2;
   until = 3;
+  had = made ∷ [];
+  left = made ∷ [];
+  old = [];
+  ended = 0;
   acts = e ∷ [];
   took = far 0;
   gave = far 1;
@@ -77,6 +83,20 @@ good_ok = record {
   reached = lit≤ tt;
   read = λ handle version bytes asked told. absurd (cc);
   wrote = λ h n told. absurd (no_write h n told);
+  had_by = (
+    record {
+      newer = written ∷ [];
+      older = other ∷ made ∷ [];
+      parts = refl;
+      short = lit≤ tt;
+      there = inr (inl refl);
+    },
+    tt,
+  );
+  had_later = (
+    inr record { newer = written ∷ other ∷ []; older = []; parts = refl; long = lit≤ tt },
+    tt,
+  );
   told = (
     (
       lit≤ tt,
@@ -200,6 +220,39 @@ ended_before_its_write : TurnOk pair_of 3 some_entries (writer 2) → ⊥
 ended_before_its_write t =
     let z = t.wrote 1 4 (inr (inl (record { n = 1 }, 0, [], refl, refl, refl))) in
     not_among_two z.1.newer z.1.older z.0 z.1.parts z.1.short z.1.there z.2 z.3
+
+-- a turn whose view had an entry when it began that was settled later
+had_too_early : TurnOk pair_of 3 some_entries record good { had = written ∷ [] } → ⊥
+had_too_early t = settled_later t.had_by.0
+
+-- or one that was settled before its turn before ended, which it had not then
+abbrev handle_first : List Entry → ℕ
+handle_first [] = 2
+handle_first (e ∷ es) = e.handle
+
+abbrev version_first : List Entry → ℕ
+version_first [] = 0
+version_first (e ∷ es) = e.version
+
+abbrev rest_of : List Entry → List Entry
+rest_of [] = []
+rest_of (e ∷ es) = es
+
+not_second : (newer older : List Entry) → some_entries ≡ newer ++ made ∷ older
+    → 1 ≤ length older → ⊥
+not_second [] older parts long =
+    let e : 4 ≡ 3 = ap version_first parts in omega (arith, e)
+not_second (x ∷ []) older parts long =
+    let e : 0 ≡ 1 = ap (λ (es : List Entry). handle_first (rest_of es)) parts in omega (arith, e)
+not_second (x ∷ y ∷ newer) older parts long =
+    let e : 1 ≡ length (newer ++ made ∷ older) =
+    ap (λ (es : List Entry). length (rest_of (rest_of es))) parts in
+    let n = length-append newer (made ∷ older) in omega (arith, e, n, long)
+
+had_before_its_last_turn : TurnOk pair_of 3 some_entries record good { ended = 1 } → ⊥
+had_before_its_last_turn t = ⊎_elim (λ (none : ⊥). none)
+    (λ (s : IsSettledFrom some_entries 1 made). not_second s.newer s.older s.parts s.long)
+    t.had_later.0
 
 -- a turn of the next number that began before this one ended
 abbrev overlapping : View

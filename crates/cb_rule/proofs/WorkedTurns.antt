@@ -1,6 +1,8 @@
 -- Worked examples of the steps on the far lock and of the one history of turns: what meets each
 -- definition, and what breaks one part alone.
-use Rattle.std.proofs.Common.{◌≡◌, ℕ, zero, suc, ◌+◌, ◌^◌, ◌<◌, ◌≤◌, false, List, [], ◌∷◌, length, Option, Some, None, sym, refl, ap, ◌∙◌, subst, inl, inr, ⊎_elim, lit<, lit≤, arith, true≢false}
+use Rattle.std.proofs.Common.{◌≡◌, ℕ, zero, suc, ◌+◌, ◌^◌, ◌<◌, ◌≤◌, false, List, [], ◌∷◌, length}
+use Rattle.std.proofs.Common.{Option, Some, None, sym, refl, ap, ◌∙◌, subst, inl, inr, ⊎_elim, lit<}
+use Rattle.std.proofs.Common.{lit≤, arith, true≢false}
 use mathlib.Core.Option.{none}
 use Rattle.atomic_table.specs.Table.{Step, step}
 use Rattle.cb_types.specs.declared.job.Job.TheVariants.{Evict, Make, Read, Free}
@@ -20,14 +22,16 @@ use Rattle.cb_rule.specs.declared.view.Seen.{Seen}
 use Rattle.cb_rule.specs.declared.view.View.{View}
 use Rattle.cb_rule.specs.Lists.{total, Each, Has}
 use Rattle.cb_rule.specs.Locking.{Stood, turn_number, turns_on}
-use Rattle.cb_rule.specs.LockSteps.{AddsTurn, HasGiven, HasTaken, IsFoundFreed, MayGive, ReadsTold, WritesTold, gave_lock, took, took_lock}
+use Rattle.cb_rule.specs.LockSteps.{AddsTurn, HasGiven, HasTaken, IsFoundFreed, MayGive, ReadsTold}
+use Rattle.cb_rule.specs.LockSteps.{WritesTold, gave_lock, took, took_lock}
 use Rattle.cb_rule.specs.OneHistory.{HasTurnNumber, IsOneHistory, Made, TurnsStand}
 use Rattle.cb_rule.specs.Seats.{written_on}
 use Rattle.cb_rule.specs.Slot.{LockSlot, Sat}
 use Rattle.cb_rule.specs.Steps.{Knows, freed_seen, version_seen}
 use Rattle.cb_rule.proofs.Members.{each_has}
-use Rattle.cb_rule.proofs.WorkedHistory.{made}
-use Rattle.cb_rule.proofs.WorkedLocking.{far, from_four, home, no_frames, one_turn, one_view, quiet, seat, seen, stood, table, turn}
+use Rattle.cb_rule.proofs.WorkedHistory.{made, other, written}
+use Rattle.cb_rule.proofs.WorkedLocking.{far, from_four, home, no_frames, one_turn, one_view, quiet}
+use Rattle.cb_rule.proofs.WorkedLocking.{seat, seen, stood, table, turn}
 use Rattle.cb_rule.proofs.WorkedTold.{bytes_of, handle_in, no_write, version_in}
 use Rattle.cb_rule.proofs.WorkedViews.{pair_of}
 
@@ -106,17 +110,35 @@ lost_and_holds : took exchange before 1 holder → ⊥
 lost_and_holds t =
     true≢false (ap (λ (m : Sat). m.0.holds) (t.1 (λ e. omega (arith, e))))
 
+-- a turn behind one that ended when the history had four entries, with one of the two that are
+-- there now, and after another view was taken in with one more
+abbrev behind_it : View
+behind_it = took_lock seen (far 1) 6 (record (seat (record (turn (far 0) (far 1)) {
+  until = 4;
+  left = made ∷ [];
+} ∷ [])) {
+  written = written ∷ made ∷ other ∷ [];
+  base = other ∷ [];
+})
+
+notes_what_it_had : (behind_it.had ≡ written ∷ made ∷ other ∷ [])
+    × (behind_it.old ≡ made ∷ other ∷ []) × (behind_it.ended ≡ 4)
+notes_what_it_had = (refl, refl, refl)
+
 -- ---- it is given back with the next far state: the turn stands in front of the one before, and
 -- what it wrote and made in the record
 abbrev at_work : View
 at_work = record (took_lock seen (far 1) 0 (seat one_turn)) { fresh = made ∷ [] }
 
+abbrev that_made : Turn
+that_made = record (turn (far 1) (far 2)) { left = made ∷ [] }
+
 gives_back : gave_lock Evict None (far 2) 0 [] (1 ∷ []) at_work
-    ≡ record (seat (turn (far 1) (far 2) ∷ one_turn)) { written = made ∷ []; own = 1 ∷ [] }
+    ≡ record (seat (that_made ∷ one_turn)) { written = made ∷ []; own = 1 ∷ [] }
 gives_back = refl
 
 has_given : HasGiven Evict None (far 2) [] (1 ∷ []) (at_work, in_hand (far 2))
-    (record (seat (turn (far 1) (far 2) ∷ one_turn)) { written = made ∷ []; own = 1 ∷ [] }, [])
+    (record (seat (that_made ∷ one_turn)) { written = made ∷ []; own = 1 ∷ [] }, [])
 has_given = record {
   entries = 0;
   given = refl;
@@ -131,7 +153,7 @@ without_the_turn g = let e : 1 ≡ 2 = ap (λ (m : Sat). length m.0.turns) g.giv
     omega (arith, e)
 
 without_its_entry : HasGiven Evict None (far 2) [] (1 ∷ []) (at_work, in_hand (far 2))
-    (record (seat (turn (far 1) (far 2) ∷ one_turn)) { own = 1 ∷ [] }, []) → ⊥
+    (record (seat (that_made ∷ one_turn)) { own = 1 ∷ [] }, []) → ⊥
 without_its_entry g = let e : 0 ≡ 1 = ap (λ (m : Sat). length m.0.written) g.given in
     omega (arith, e)
 
@@ -140,14 +162,19 @@ abbrev stray : Entry
 stray = entry 2 3 8 [] (7 ∷ [])
 
 wrote_out_of_range : HasGiven Evict None (far 2) [] (1 ∷ [])
-    (record at_work { fresh = stray ∷ [] }, in_hand (far 2))
-    (record (seat (turn (far 1) (far 2) ∷ one_turn)) { written = stray ∷ []; own = 1 ∷ [] }, [])
+    (record at_work { fresh = stray ∷ [] }, in_hand (far 2)) (
+      record (seat (record that_made { left = stray ∷ [] } ∷ one_turn)) {
+        written = stray ∷ [];
+        own = 1 ∷ [];
+      },
+      [],
+    )
     → ⊥
 wrote_out_of_range g = let l : 2 < 2 = g.written.0 in omega (arith, l)
 
 found_out_of_range : HasGiven Evict None (far 2) (freed_seen 2 5 ∷ []) (1 ∷ [])
     (at_work, in_hand (far 2)) (
-      record (seat (turn (far 1) (far 2) ∷ one_turn)) {
+      record (seat (that_made ∷ one_turn)) {
         written = made ∷ [];
         seen = freed_seen 2 5 ∷ [];
         own = 1 ∷ [];

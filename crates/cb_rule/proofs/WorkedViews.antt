@@ -1,5 +1,7 @@
 -- Worked records of seats: what meets each definition, and what breaks one of its parts alone.
-use Rattle.std.proofs.Common.{◌≡◌, ◌≢◌, ℕ, zero, suc, ◌+◌, ◌*◌, ◌^◌, ◌<◌, ◌≤◌, false, [], ◌∷◌, length, sym, refl, ap, ◌∙◌, subst, inl, inr, ⊎_elim, true≢false, lit<, lit≤, arith}
+use Rattle.std.proofs.Common.{◌≡◌, ◌≢◌, ℕ, zero, suc, ◌+◌, ◌*◌, ◌^◌, ◌<◌, ◌≤◌, false, [], ◌∷◌}
+use Rattle.std.proofs.Common.{length, sym, refl, ap, ◌∙◌, subst, inl, inr, ⊎_elim, true≢false, lit<}
+use Rattle.std.proofs.Common.{lit≤, arith}
 use Rattle.std.proofs.lemmas.Bool.{eqb-false}
 use mathlib.Core.Option.{some, none as no_slot, some-injective, some-ne-none}
 use lib.ListN.{get_elem?}
@@ -20,7 +22,9 @@ use Rattle.cb_rule.specs.Records.{IsPeekedOf, LookOk, PeekedOk, SeenOk, seen_of}
 use Rattle.cb_rule.specs.Ruled.{AreShares}
 use Rattle.cb_rule.specs.Seats.{written_on}
 use Rattle.cb_rule.specs.Slot.{LockSlot, Sat}
-use Rattle.cb_rule.specs.Steps.{AreNew, FollowsLast, HasEvent, HasLast, IsNewVersion, IsNewest, Knows, TellsPins, act, blank, claimed, freed_seen, joined, left_of, look_at, looked, nothing, opener, right_of, stand, version_seen}
+use Rattle.cb_rule.specs.Steps.{AreNew, FollowsLast, HasEvent, HasLast, IsNewVersion, IsNewest}
+use Rattle.cb_rule.specs.Steps.{Knows, TellsPins, act, blank, claimed, freed_seen, joined, left_of}
+use Rattle.cb_rule.specs.Steps.{look_at, looked, nothing, opener, right_of, stand, version_seen}
 use Rattle.cb_rule.proofs.WorkedHistory.{all_entries, freed, made, written}
 
 abbrev pub pair_of : Config

@@ -1,6 +1,7 @@
 -- The history of all objects: one list of the entries that were written, in the order in which they
 -- were settled, the newest first.
-use Rattle.std.specs.Prelude.{◌≡◌, ◌⊎◌, ℕ, ◌+◌, ◌≤◌, ◌&&◌, Bool, true, false, cond, eqb, List, [], ◌∷◌, ◌++◌, length}
+use Rattle.std.specs.Prelude.{◌≡◌, ◌⊎◌, ℕ, ◌+◌, ◌≤◌, ◌&&◌, Bool, true, false, cond, eqb, List, []}
+use Rattle.std.specs.Prelude.{◌∷◌, ◌++◌, length}
 use Rattle.cb_world.specs.declared.entry.Entry.{Entry}
 
 -- what an object has at a version

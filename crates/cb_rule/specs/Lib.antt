@@ -19,3 +19,4 @@ pub mod Told
 pub mod AsShown
 pub mod Closing
 pub mod ShownWorld
+pub mod AnyGlance

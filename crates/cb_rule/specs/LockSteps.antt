@@ -1,5 +1,6 @@
 -- The steps on the far lock: what they do to the view of the seat that steps, and what they tell.
-use Rattle.std.specs.Prelude.{◌≡◌, ◌≢◌, ◌⊎◌, ℕ, ◌+◌, ◌*◌, ◌^◌, ◌<◌, true, false, List, [], ◌∷◌, ◌++◌, Option, Some}
+use Rattle.std.specs.Prelude.{◌≡◌, ◌≢◌, ◌⊎◌, ℕ, ◌+◌, ◌*◌, ◌^◌, ◌<◌, true, false, List, [], ◌∷◌}
+use Rattle.std.specs.Prelude.{◌++◌, Option, Some}
 use Rattle.atomic_table.specs.Table.{Step}
 use Rattle.cb_types.specs.declared.config.Config.{Config}
 use Rattle.cb_types.specs.declared.handle.Handle.{Handle}
@@ -20,7 +21,7 @@ use Rattle.cb_rule.specs.declared.view.View.{View}
 use Rattle.cb_rule.specs.Lists.{Each, Has}
 use Rattle.cb_rule.specs.Locking.{Deeds, Stood}
 use Rattle.cb_rule.specs.Own.{Make}
-use Rattle.cb_rule.specs.Records.{TellsWritten}
+use Rattle.cb_rule.specs.Records.{TellsWritten, ended_by, old_by}
 use Rattle.cb_rule.specs.Rule.{AreSized}
 use Rattle.cb_rule.specs.Seats.{written_on}
 use Rattle.cb_rule.specs.Slot.{LockSlot, Sat}
@@ -33,6 +34,9 @@ took_lock known far n v = record v {
   holds = true;
   start = known;
   since = n;
+  had = v.written;
+  old = old_by v.base v.turns;
+  ended = ended_by v.turns;
   acts = [];
   known = known;
   took = far;
@@ -63,6 +67,10 @@ turn_of job reply far n v = record {
   start = v.start;
   since = v.since;
   until = n;
+  had = v.had;
+  left = v.fresh ++ v.written;
+  old = v.old;
+  ended = v.ended;
   acts = v.acts;
   took = v.took;
   gave = far;
@@ -79,6 +87,9 @@ gave_lock job reply far n freed made v = record v {
   holds = false;
   start = nothing;
   since = 0;
+  had = [];
+  old = [];
+  ended = 0;
   acts = [];
   known = nothing;
   took = empty_far 1 v.config;

@@ -1,5 +1,6 @@
 -- What a view says is true: of its pins and claims now, of its entries and its turns for good.
-use Rattle.std.specs.Prelude.{◌≡◌, ◌≢◌, ◌⊎◌, ℕ, ◌+◌, ◌≤◌, ◌<◌, true, false, List, ◌++◌, length, Option, Some, slice_index}
+use Rattle.std.specs.Prelude.{◌≡◌, ◌≢◌, ◌⊎◌, ℕ, ◌+◌, ◌≤◌, ◌<◌, true, false, List, [], ◌∷◌, ◌++◌}
+use Rattle.std.specs.Prelude.{length, Option, Some, slice_index}
 use Rattle.cb_types.specs.declared.config.Config.{Config}
 use Rattle.cb_types.specs.declared.handle.Handle.{Handle}
 use Rattle.cb_types.specs.declared.job.Job.{Job}
@@ -123,12 +124,44 @@ abbrev pub WroteOk : List Entry → ℕ → Job → Option Reply → Type 0
 WroteOk es until job reply = (h n : ℕ) → TellsWritten job reply h n → (e : Entry)
     × IsSettledBy es until e × (e.handle ≡ h) × (e.version ≡ n)
 
+-- the entry was settled when the history had so many entries, or more
+pub record IsSettledFrom (es : List Entry) (since : ℕ) (e : Entry) : Type 0 where
+  pub newer : List Entry
+  pub older : List Entry
+  pub parts : es ≡ newer ++ e ∷ older
+  pub long : since ≤ length older
+
+-- it is one of the old ones, or was settled behind them
+abbrev pub IsOldOrLater : List Entry → List Entry → ℕ → Entry → Type 0
+IsOldOrLater es old ended e = Has e old ⊎ IsSettledFrom es ended e
+
+-- how many entries the history had when the newest of these turns ended
+abbrev pub ended_by : List Turn → ℕ
+ended_by [] = 0
+ended_by (t ∷ ts) = t.until
+
+-- the entries that the view had when it ended, and those that it had before
+abbrev pub old_by : List Entry → List Turn → List Entry
+old_by base [] = base
+old_by base (t ∷ ts) = t.left ++ base
+
+-- What a view wrote stands in order with its turns. When a turn began, each entry that the view had
+-- was settled; and each that it had not yet when its turn before ended, or when it last took another
+-- view in, was settled behind the end of that turn. So is what it wrote since its last turn.
+pub record InOrder (es : List Entry) (since : ℕ) (had old : List Entry) (ended : ℕ)
+    (base : List Entry) (turns : List Turn) (written : List Entry) : Type 0 where
+  pub had_by : Each (IsSettledBy es since) had
+  pub had_later : Each (IsOldOrLater es old ended) had
+  pub wrote_later : Each (IsOldOrLater es (old_by base turns) (ended_by turns)) written
+
 -- a turn that ended, in this history
 pub record TurnOk (c : Config) (first : ℕ) (es : List Entry) (t : Turn) : Type 0 where
   pub lasted : t.since ≤ t.until
   pub reached : t.until ≤ length es
   pub read : ReadOk es t.until t.job t.reply
   pub wrote : WroteOk es t.until t.job t.reply
+  pub had_by : Each (IsSettledBy es t.since) t.had
+  pub had_later : Each (IsOldOrLater es t.old t.ended) t.had
   pub told : Each (TellsOk first es t.since t.until) t.acts
   pub began : (h : ℕ) → h < c.handles → OldOk first es t.since h (object_at t.start h)
 
@@ -143,6 +176,7 @@ pub record RecordOk (c : Config) (first : ℕ) (es : List Entry) (u : View) : Ty
   pub told : Each (TellsOk first es u.since (length es)) u.acts
   pub began : (h : ℕ) → h < c.handles → OldOk first es u.since h (object_at u.start h)
   pub past : Each (TurnOk c first es) u.turns
+  pub order : InOrder es u.since u.had u.old u.ended u.base u.turns u.written
 
 pub record SeatOk (c : Config) (ws : List ℕ) (known : Shown) (es : List Entry)
     (u : View) : Type 0 where

@@ -1,12 +1,14 @@
 -- What each kind of step does to the view of the seat that steps, and what it tells.
-use Rattle.std.specs.Prelude.{◌≡◌, ◌≢◌, ◌⊎◌, ℕ, ◌+◌, ◌-◌, ◌*◌, ◌^◌, ◌≤◌, ◌<◌, true, false, List, [], ◌∷◌, ◌++◌, length, map, slice_index, slice_set}
+use Rattle.std.specs.Prelude.{◌≡◌, ◌≢◌, ◌⊎◌, ℕ, ◌+◌, ◌-◌, ◌*◌, ◌^◌, ◌≤◌, ◌<◌, true, false, List, []}
+use Rattle.std.specs.Prelude.{◌∷◌, ◌++◌, length, map, slice_index, slice_set}
 use Rattle.atomic_table.specs.Table.{Step}
 use Rattle.cb_types.specs.declared.config.Config.{Config}
 use Rattle.cb_ptr.specs.declared.word.State.TheVariants as word
 use Rattle.cb_ptr.specs.Word.{state_of, len_of, place_of, pins_of}
 use Rattle.cb_world.specs.declared.entry.Entry.{Entry}
 use Rattle.cb_world.specs.declared.event.Event.{Event}
-use Rattle.cb_world.specs.declared.event.Event.TheVariants.{Looked, Claimed, Told, Loaded, Stored, Stamped, Settled}
+use Rattle.cb_world.specs.declared.event.Event.TheVariants.{Looked, Claimed, Told, Loaded, Stored}
+use Rattle.cb_world.specs.declared.event.Event.TheVariants.{Stamped, Settled}
 use Rattle.cb_world.specs.declared.shown.Shown.{Shown}
 use Rattle.cb_world.specs.Empty.{empty_far}
 use Rattle.cb_world.specs.Memory.{words_for}
@@ -328,10 +330,14 @@ blank c = record {
   seen = [];
   peeked = [];
   looks = [];
+  base = [];
   own = [];
   holds = false;
   start = nothing;
   since = 0;
+  had = [];
+  old = [];
+  ended = 0;
   acts = [];
   known = nothing;
   took = empty_far 1 c;
@@ -365,6 +371,7 @@ joined v w = record v {
   seen = w.seen ++ v.seen;
   peeked = w.peeked ++ v.peeked;
   looks = w.looks ++ v.looks;
+  base = w.written ++ v.written;
   own = [];
   turns = w.turns ++ v.turns;
 }

@@ -1,5 +1,5 @@
 use cb_types::{Job, Reply};
-use cb_world::{Event, Far, Shown};
+use cb_world::{Entry, Event, Far, Shown};
 
 /// A turn under the far lock. No value of it is made; contracts read its arrays as lists of any
 /// length.
@@ -12,6 +12,13 @@ pub struct Turn {
     /// How many entries the history had when it began, and when it ended.
     pub since: u64,
     pub until: u64,
+    /// The entries that its view had as written when it began, and when it ended.
+    pub had: [Entry; 0],
+    pub left: [Entry; 0],
+    /// Those that the view had when the turn before it ended, or when it last took another view in,
+    /// and how many entries the history had when that turn ended.
+    pub old: [Entry; 0],
+    pub ended: u64,
     /// The first one first.
     pub acts: [Event; 0],
     /// The far states that it took and gave.

@@ -83,6 +83,8 @@ pub struct View {
     pub ghost peeked: { List Peeked },
     /// Outside of a turn; those of a turn are its events.
     pub ghost looks: { List Look },
+    /// The entries that it had as written when it last took another view in.
+    pub ghost base: { List Entry },
     /// The handles that it made, and that no other pass knows.
     pub ghost own: { List ℕ },
     /// Whether it holds the far lock.
@@ -90,6 +92,12 @@ pub struct View {
     /// What it knew when the running turn began, and how many entries the history had then.
     pub ghost start: { Shown },
     pub ghost since: { ℕ },
+    /// The entries that it had as written then, those of them that it had when its turn before
+    /// ended or when it last took another view in, and how many the history had when that turn
+    /// ended.
+    pub ghost had: { List Entry },
+    pub ghost old: { List Entry },
+    pub ghost ended: { ℕ },
     /// The events of the running turn, the first one first.
     pub ghost acts: { List Event },
     /// What it knows while it holds the lock.

@@ -1,5 +1,7 @@
 -- What a turn leaves of the record of its pass.
-use Rattle.std.proofs.Common.{◌≡◌, ℕ, ◌+◌, ◌<◌, ◌≤◌, List, [], ◌∷◌, ◌++◌, ◌&&◌, Bool, length, Option, None, Some, Result, Ok, Err, false, refl, sym, ap, ◌∙◌, subst, inl, inr, arith, eqb, eq-eqb}
+use Rattle.std.proofs.Common.{◌≡◌, ℕ, ◌+◌, ◌<◌, ◌≤◌, List, [], ◌∷◌, ◌++◌, ◌&&◌, Bool, length}
+use Rattle.std.proofs.Common.{Option, None, Some, Result, Ok, Err, false, refl, sym, ap, ◌∙◌, subst}
+use Rattle.std.proofs.Common.{inl, inr, arith, eqb, eq-eqb}
 use Rattle.std.proofs.lemmas.Option.{same_Some}
 use Rattle.std.specs.Prelude.{IfOk}
 use Rattle.atomic_table.specs.Seated.{TableId}
@@ -29,7 +31,7 @@ use Rattle.cb_rule.specs.Lists.{times, Each, Has}
 use Rattle.cb_rule.specs.Locking.{Stood}
 use Rattle.cb_rule.specs.LockSteps.{AddsTurn, ReadsTold, WritesTold, gave_lock, took_lock, turn_of}
 use Rattle.cb_rule.specs.Own.{Make as IsMake}
-use Rattle.cb_rule.specs.Records.{TellsWritten}
+use Rattle.cb_rule.specs.Records.{TellsWritten, ended_by, old_by}
 use Rattle.cb_rule.specs.Rule.{AreSized}
 use Rattle.cb_rule.specs.Slot.{LockSlot, Sat}
 use Rattle.cb_rule.specs.Steps.{AreNew, Knows, acted, version_seen}
@@ -38,8 +40,10 @@ use Rattle.cb_record.specs.Parts.{Part, grown, nothing_more}
 use Rattle.cb_shared.specs.Passes.{IsAtRest}
 use Rattle.cb_shared.specs.Places.{HoldsLock, IsOf, Place}
 use Rattle.cb_shared.specs.SeatLaws.{Runs, acted_is, acted_known, after_events, sized_after}
-use Rattle.cb_shared.specs.Turning.{CountsPins, Did, DidAs, JobReads, KnowsIt, KnowsOf, PinsTold, answer_of, made_by_turn, object_of, turn_part, with_own}
-use Rattle.cb_shared.specs.UnderLock.{GivesFar, IsBeginning, IsEnding, IsQuiet, TakesFar, TurnWith, TurnedBy, WorkBy}
+use Rattle.cb_shared.specs.Turning.{CountsPins, Did, DidAs, JobReads, KnowsIt, KnowsOf, PinsTold}
+use Rattle.cb_shared.specs.Turning.{answer_of, made_by_turn, object_of, turn_part, with_own}
+use Rattle.cb_shared.specs.UnderLock.{GivesFar, IsBeginning, IsEnding, IsQuiet, TakesFar, TurnWith}
+use Rattle.cb_shared.specs.UnderLock.{TurnedBy, WorkBy}
 use Rattle.cb_rule.proofs.Laws.{hit}
 use Rattle.cb_shared.proofs.MadeFirst.{makes_own}
 
@@ -297,14 +301,18 @@ at_end c job r took gave p l m q t w g = (
 )
 
 -- the turn as it stands then
-abbrev pub turn_told : Job → Result Reply NoMemory → Shown → ℕ → ℕ → List Event → FarState → FarState
-    → Turn
-turn_told job r known since until es took gave = record {
+abbrev pub turn_told : Job → Result Reply NoMemory → Shown → ℕ → ℕ → View → List Entry → List Event
+    → FarState → FarState → Turn
+turn_told job r known since until v more es took gave = record {
   job = job;
   reply = answer_of r;
   start = known;
   since = since;
   until = until;
+  had = v.written;
+  left = more ++ v.written;
+  old = old_by v.base v.turns;
+  ended = ended_by v.turns;
   acts = es;
   took = took;
   gave = gave;
@@ -355,7 +363,7 @@ turned_by c job r far p m q rest t w tells =
     let u : View = took_lock t.known far t.entries v in
     let at : m.me.0 ≡ u = ap (λ (x : Sat). x.0) t.at.2 in
     let es = w.events in let d = w.within in let z : View = after_events es u in
-    let turn : Turn = turn_told job r t.known t.entries w.entries es far w.gave in
+    let turn : Turn = turn_told job r t.known t.entries w.entries v w.more es far w.gave in
     let fresh : z.fresh ≡ w.more = ap (λ (x : View). x.fresh) (sym (acted_is es u))
     ∙ ap (λ (x : View). (acted es x).fresh) (sym at) ∙ w.fresh in
     let written : m.me.0.written ≡ v.written = ap (λ (x : View). x.written) at in
@@ -373,6 +381,7 @@ turned_by c job r far p m q rest t w tells =
       did = subst (λ (s : Shown). DidAs c job reply s es far w.gave) known w.did;
       next = w.next;
       wrote = w.wrote;
+      notes = record { had = refl; left = refl; old = refl; ended = refl };
       new = new_taken t.known far t.entries v w.more
           (subst (λ (x : View). AreNew w.more x) at w.new);
       pins = pins_counted t.known far t.entries v job r (subst (CountsPins job r) at w.pins);
@@ -401,7 +410,7 @@ turned_by c job r far p m q rest t w tells =
         → written_by es known v.fresh ≡ more → IsQuiet d
         → gave_lock job (answer_of r) gave until [] made
         (grown d (after_events es (took_lock known far since v)))
-        ≡ with_own made (grown (turn_part (turn_told job r known since until es far gave) more d
+        ≡ with_own made (grown (turn_part (turn_told job r known since until v more es far gave) more d
         nothing_more) v)
     gave_is c job r far v known since until es gave d more made rest fresh quiet =
         let o = rest.out in λ i. record v {
@@ -419,6 +428,10 @@ turned_by c job r far p m q rest t w tells =
           known = sym o.4 i;
           took = (ap (λ (k : Config). Rattle.cb_world.specs.Empty.empty_far 1 k) rest.config
               ∙ sym o.5) i;
-          turns = turn_told job r known since until es far gave
-              ∷ ap (λ (l : List Turn). l ++ v.turns) quiet.1 i;
+          turns = record (turn_told job r known since until v more es far gave) {
+            left = fresh i ++ ap (λ (l : List Entry). l ++ v.written) quiet.0 i;
+          } ∷ ap (λ (l : List Turn). l ++ v.turns) quiet.1 i;
+          had = sym o.6 i;
+          old = sym o.7 i;
+          ended = sym o.8 i;
         }

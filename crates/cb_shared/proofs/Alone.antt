@@ -12,9 +12,11 @@ use Rattle.cb_rule.specs.Locking.{Locked}
 use Rattle.cb_rule.specs.Own.{MayWrite}
 use Rattle.cb_rule.specs.Ruled.{Ruled}
 use Rattle.cb_rule.specs.Slot.{Sat}
-use Rattle.cb_rule.specs.Steps.{looked, told, loaded, claimed, stored, stamped, settled, handle_count}
+use Rattle.cb_rule.specs.Steps.{looked, told, loaded, claimed, stored, stamped, settled}
+use Rattle.cb_rule.specs.Steps.{handle_count}
 use Rattle.cb_rule.specs.Words.{base, stamps}
-use Rattle.cb_rule.proofs.Laws.{loads, locked_steady, looks, settles, stamps_version, stores, takes_claim, tells}
+use Rattle.cb_rule.proofs.Laws.{loads, locked_steady, looks, settles, stamps_version, stores}
+use Rattle.cb_rule.proofs.Laws.{takes_claim, tells}
 use Rattle.cb_shared.specs.Turning.{Did}
 
 pub at_key : (first : ℕ) (c k : Config) (slots id : ℕ) (me : Sat) (i : ℕ) (f : ℕ → ℕ)

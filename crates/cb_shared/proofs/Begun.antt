@@ -1,5 +1,6 @@
 -- The runtime at the start.
-use Rattle.std.proofs.Common.{◌≡◌, ℕ, zero, suc, ◌≤◌, List, length, get_or, replicate, refl, ap, ◌∙◌, arith}
+use Rattle.std.proofs.Common.{◌≡◌, ℕ, zero, suc, ◌≤◌, List, length, get_or, replicate, refl, ap}
+use Rattle.std.proofs.Common.{◌∙◌, arith}
 use Rattle.cb_types.specs.declared.config.Config.{Config}
 use Rattle.cb_rule.specs.Steps.{opener}
 use Rattle.cb_shared.specs.Passes.{IsAtRest}
@@ -25,7 +26,7 @@ rest_opener c = record {
   live = let z : 1 ≤ 64 = omega arith in z;
   most = let z : 64 ≤ 64 = omega arith in z;
   claims = refl;
-  out = (refl, refl, refl, refl, refl, refl);
+  out = (refl, refl, refl, refl, refl, refl, refl, refl, refl);
   fresh = refl;
   written = tt;
   seen = tt;

@@ -1,5 +1,7 @@
 -- Tries of a call, one after another.
-use Rattle.std.proofs.Common.{◌≡◌, ◌<◌, ◌≤◌, ℕ, length, lit≤, List, [], ◌∷◌, ◌++◌, None, Some, Option, Result, Ok, Err, sym, refl, ap, ◌∙◌, ◌⊎◌, ⊎_elim, subst, inl, inr}
+use Rattle.std.proofs.Common.{◌≡◌, ◌<◌, ◌≤◌, ℕ, length, lit≤, List, [], ◌∷◌, ◌++◌, None, Some}
+use Rattle.std.proofs.Common.{Option, Result, Ok, Err, sym, refl, ap, ◌∙◌, ◌⊎◌, ⊎_elim, subst, inl}
+use Rattle.std.proofs.Common.{inr}
 use Rattle.std.specs.Result.{OnErr}
 use Rattle.cb_member.specs.declared.no_memory.NoMemory.{NoMemory}
 use Rattle.cb_types.specs.declared.config.Config.{Config}
@@ -19,14 +21,20 @@ use Rattle.cb_rule.specs.declared.view.Look.{Look}
 use Rattle.cb_rule.specs.declared.view.View.{View}
 use Rattle.cb_rule.specs.Lists.{Each, Has}
 use Rattle.cb_rule.specs.Steps.{Knows, look_at}
-use Rattle.cb_shared.specs.Calls.{AsksFor, AtNone, AtThis, EndsAtLast, IsAnswer, IsAnswerTo, IsCalled, IsFetch, IsFetchForWant, IsForWant, IsInVain, IsLack, IsUnanswered, IsUnfetched, LooksOf, ReadCallEnds, ReadGives, ReadStops, ReadTries, ReadsInPlace, StopsInVain, TellsWhatIs, TriesInVain, TurnEnds, TurnGives, TurnStops, TurnTries}
+use Rattle.cb_shared.specs.Calls.{AsksFor, AtNone, AtThis, EndsAtLast, IsAnswer, IsAnswerTo}
+use Rattle.cb_shared.specs.Calls.{IsCalled, IsFetch, IsFetchForWant, IsForWant, IsInVain, IsLack}
+use Rattle.cb_shared.specs.Calls.{IsUnanswered, IsUnfetched, LooksOf, ReadCallEnds, ReadGives}
+use Rattle.cb_shared.specs.Calls.{ReadStops, ReadTries, ReadsInPlace, StopsInVain, TellsWhatIs}
+use Rattle.cb_shared.specs.Calls.{TriesInVain, TurnEnds, TurnGives, TurnStops, TurnTries}
 use Rattle.cb_record.specs.Deeds.{happening}
 use Rattle.cb_record.specs.Parts.{Part, Grows, grown, nothing_more, sum}
 use Rattle.cb_shared.specs.declared.reading.ReadAnswer.{ReadAnswer}
 use Rattle.cb_shared.specs.declared.reading.ReadAnswer.TheVariants as found
 use Rattle.cb_shared.specs.Making.{MakesNew, TriesNew}
 use Rattle.cb_shared.specs.Reading.{FindsWord, ReadFinds, looked}
-use Rattle.cb_shared.specs.Turning.{FindsAtLast, FindsFreedAfter, JobReads, KnowsIt, KnowsOf, TurnAdds, TurnBy, answer_of, freed_of, made_by_turn, made_in, object_of, turn_part, with_own}
+use Rattle.cb_shared.specs.Turning.{FindsAtLast, FindsFreedAfter, JobReads, KnowsIt, KnowsOf}
+use Rattle.cb_shared.specs.Turning.{TurnAdds, TurnBy, answer_of, freed_of, made_by_turn, made_in}
+use Rattle.cb_shared.specs.Turning.{object_of, turn_part, with_own}
 use Rattle.cb_shared.proofs.ReadParts.{grown_nothing, grown_sum}
 
 each_both : {A : Type 0} (P : A → Type 0) (xs ys : List A) → Each P xs → Each P ys
@@ -407,6 +415,14 @@ one_look : (h word : ℕ) (vain : Turn → Type 0) (v w : View) (d : Part) → G
 one_look h word vain v w d grew is =
     (d, subst (IsInVain (AtThis h) vain) (sym is) (vain_look h word vain), grew)
 
+-- one of three answers, the last one with two words, has what each of them has
+pub one_of_three : {A : Type 0} (P : A → Type 0) (a x y : A) (z : ℕ → ℕ → A) → P x → P y
+    → ((n m : ℕ) → P (z n m))
+    → (a ≡ x) ⊎ ((a ≡ y) ⊎ ((n : ℕ) × (m : ℕ) × (a ≡ z n m))) → P a
+one_of_three P a x y z p q r (inl is) = subst P (sym is) p
+one_of_three P a x y z p q r (inr (inl is)) = subst P (sym is) q
+one_of_three P a x y z p q r (inr (inr (n, m, is))) = subst P (sym is) (r n m)
+
 -- others stand in the way of a read
 abbrev pub IsHindered : ReadAnswer → Type 0
 IsHindered found.Moving = Unit {0}
@@ -416,9 +432,8 @@ IsHindered a = ⊥
 
 pub is_hindered : (a : ReadAnswer) → (a ≡ found.Moving) ⊎ ((a ≡ found.Crowded)
     ⊎ ((saw : ℕ) × (other : ℕ) × (a ≡ found.Raced saw other))) → IsHindered a
-is_hindered a (inl is) = subst IsHindered (sym is) tt
-is_hindered a (inr (inl is)) = subst IsHindered (sym is) tt
-is_hindered a (inr (inr (saw, other, is))) = subst IsHindered (sym is) tt
+is_hindered a =
+    one_of_three IsHindered a found.Moving found.Crowded found.Raced tt tt (λ saw other. tt)
 
 pub found_hindered : (h : ℕ) (vain : Turn → Type 0) (a : ReadAnswer) (v w : View) → IsHindered a
     → Found h a v w → TriesInVain (AtThis h) vain v w

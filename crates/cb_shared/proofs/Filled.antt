@@ -1,5 +1,7 @@
 -- Lists that are filled one by one from a part of another list.
-use Rattle.std.proofs.Common.{◌≡◌, ℕ, zero, suc, ◌+◌, ◌*◌, ◌<◌, ◌≤◌, List, [], ◌∷◌, length, get_or, set, sym, refl, ap, ◌∙◌, arith, true≢false, Bool, true, false, Some, None, length-set, get_or-set_other, get_or-set_same, replicate}
+use Rattle.std.proofs.Common.{◌≡◌, ℕ, zero, suc, ◌+◌, ◌*◌, ◌<◌, ◌≤◌, List, [], ◌∷◌, length, get_or}
+use Rattle.std.proofs.Common.{set, sym, refl, ap, ◌∙◌, arith, true≢false, Bool, true, false, Some}
+use Rattle.std.proofs.Common.{None, length-set, get_or-set_other, get_or-set_same, replicate}
 use Rattle.std.proofs.lemmas.List.{length-replicate}
 use native.Mathlib.Decide.{ℕ_discrete}
 use mathlib.Core.Option.{some, some-injective, some-ne-none}

@@ -21,7 +21,8 @@ use Rattle.cb_shared.specs.Places.{IsOf, Moves, Place}
 use Rattle.cb_shared.specs.Trying.{tries_of}
 use Rattle.cb_shared.specs.Writing.{WriteAt}
 use Rattle.cb_shared.proofs.ReadKept.{IsSeatKept}
-use Rattle.cb_shared.proofs.Resting.{by_state, here_empty, rest_freed, rest_look, rest_moved, view_of}
+use Rattle.cb_shared.proofs.Resting.{by_state, here_empty, rest_freed, rest_look, rest_moved}
+use Rattle.cb_shared.proofs.Resting.{view_of}
 
 -- the seat of a pass is of its runtime's table
 pub of_pass : (s : Shared) (p : Pass) → IsPassOf s p

@@ -1,5 +1,6 @@
 -- Each call of a pass leaves its record knowing what it knew.
-use Rattle.std.proofs.Common.{◌≡◌, ℕ, Result, Ok, Err, length, List, [], ◌∷◌, ◌++◌, map, refl, sym, ap, ◌∙◌, subst, inl, inr, ⊎_elim}
+use Rattle.std.proofs.Common.{◌≡◌, ℕ, Result, Ok, Err, length, List, [], ◌∷◌, ◌++◌, map, refl, sym}
+use Rattle.std.proofs.Common.{ap, ◌∙◌, subst, inl, inr, ⊎_elim}
 use Rattle.std.specs.Prelude.{IfOk, OnErr}
 use Rattle.cb_member.specs.declared.no_memory.NoMemory.{NoMemory}
 use Rattle.cb_types.specs.declared.config.Config.{Config}
@@ -22,10 +23,12 @@ use Rattle.cb_shared.specs.declared.answers.PinAnswer.TheVariants as pins
 use Rattle.cb_shared.specs.declared.answers.WriteAnswer.{WriteAnswer}
 use Rattle.cb_shared.specs.declared.answers.WriteAnswer.TheVariants as writes
 use Rattle.cb_shared.specs.declared.pass.Pin.{Pin}
-use Rattle.cb_shared.specs.Calls.{AtThis, LooksOf, ReadGives, ReadStops, StopsInVain, TurnGives, TurnStops, WriteAnswers, WriteStops}
+use Rattle.cb_shared.specs.Calls.{AtThis, LooksOf, ReadGives, ReadStops, StopsInVain, TurnGives}
+use Rattle.cb_shared.specs.Calls.{TurnStops, WriteAnswers, WriteStops}
 use Rattle.cb_shared.specs.Passes.{IsPinOf}
 use Rattle.cb_shared.specs.Pinning.{PinGives}
-use Rattle.cb_shared.specs.Turning.{TurnAdds, TurnBy, with_own}
+use Rattle.cb_shared.specs.Seeking.{TurnFinds}
+use Rattle.cb_shared.specs.Turning.{TurnAdds, with_own}
 use Rattle.cb_shared.specs.Writing.{WriteGives}
 
 -- what the record v knew the record w knows
@@ -155,8 +158,9 @@ stops_keep on vain want v w x h known = grows_keeps x.last x.between w x.left h
     (grows_keeps x.tries.0 v x.between x.tries.2 h known)
 
 pub turn_keeps : (c : Config) (job : Job) (r : Result Reply NoMemory) (v w : View)
-    → TurnBy c job r v w → Keeps v w
-turn_keeps c job r v w t = owns_keeps _ t.0 v w t.2
+    → TurnFinds c job r v w → Keeps v w
+turn_keeps c job r v w (m, t, (d, grew, finds)) h known =
+    grows_keeps d m w grew h (owns_keeps _ t.0 v m t.2 h known)
 
 pub read_keeps : (c : Config) (h : ℕ) (r : Result Reply NoMemory) (v w : View)
     → IfOk r (λ x. ReadGives c h x v w) → OnErr r (ReadStops c h v w) → Keeps v w
@@ -192,9 +196,9 @@ made_entry c bytes h n v d t =
     )
 
 pub turn_made : (c : Config) (bytes : List ℕ) (h : Handle) (n : ℕ) (v w : View)
-    → TurnBy c (jobs.Make bytes) (Ok (reply.Made h n)) v w → Knows h.n w
-turn_made c bytes h n v w t = let e = made_entry c bytes h n v t.0 t.1 in
-    makes_known h.n (h.n ∷ []) t.0 e.0 v w e.1 e.2 t.2
+    → TurnFinds c (jobs.Make bytes) (Ok (reply.Made h n)) v w → Knows h.n w
+turn_made c bytes h n v w (m, t, (d, grew, finds)) = let e = made_entry c bytes h n v t.0 t.1 in
+    grows_keeps d m w grew h.n (makes_known h.n (h.n ∷ []) t.0 e.0 v m e.1 e.2 t.2)
 
 pub call_made : (c : Config) (bytes : List ℕ) (h : Handle) (n : ℕ) (v w : View)
     → TurnGives c (jobs.Make bytes) (reply.Made h n) v w → Knows h.n w

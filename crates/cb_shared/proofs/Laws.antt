@@ -1,6 +1,11 @@
 -- The lemmas of this crate that other crates cite.
-pub use Rattle.cb_shared.proofs.CallSteps.{known_grown, known_still, look_asks, look_stops, look_tries, read_lacks, so_far, stops_then, stops_wider, tries_then, tries_wider, turn_ends, turn_in_vain, turn_without, vain_look}
-pub use Rattle.cb_shared.proofs.Known.{Keeps, call_keeps, call_made, join_keeps, left_keeps, peek_has, peek_keeps, pin_keeps, read_keeps, right_keeps, turn_keeps, turn_made, turns_keep, unpin_keeps, write_keeps}
+pub use Rattle.cb_shared.proofs.CallSteps.{known_grown, known_still, look_asks, look_stops}
+pub use Rattle.cb_shared.proofs.CallSteps.{look_tries, one_of_three, read_lacks, so_far, stops_then}
+pub use Rattle.cb_shared.proofs.CallSteps.{stops_wider, tries_then, tries_wider, turn_ends}
+pub use Rattle.cb_shared.proofs.CallSteps.{turn_in_vain, turn_without, vain_look}
+pub use Rattle.cb_shared.proofs.Known.{Keeps, call_keeps, call_made, join_keeps, left_keeps}
+pub use Rattle.cb_shared.proofs.Known.{peek_has, peek_keeps, pin_keeps, read_keeps, right_keeps}
+pub use Rattle.cb_shared.proofs.Known.{turn_keeps, turn_made, turns_keep, unpin_keeps, write_keeps}
 pub use Rattle.cb_shared.proofs.MadeFirst.{makes_backed, makes_first, makes_full}
 pub use Rattle.cb_shared.proofs.ReadBytes.{AreBytesFilled, IsPutInto, filled_all, filled_more}
 pub use Rattle.cb_shared.proofs.ReadParts.{grown_nothing, grown_sum}

@@ -29,7 +29,9 @@ mod ReadTurns
 mod TurnEnds
 mod ReadKept
 mod Glanced
+mod Seeking
 mod CallSteps
+mod Fetches
 mod WriteParts
 mod WorkedGround
 mod WorkedRights
@@ -54,6 +56,7 @@ mod WorkedVain
 mod WorkedMaking
 mod WorkedReplies
 mod WorkedAdds
+mod WorkedSeeking
 mod WorkedRecalls
 mod Known
 pub mod Laws

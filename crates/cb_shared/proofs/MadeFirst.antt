@@ -1,5 +1,6 @@
 -- What a turn makes is one of the handles, at the first version, so it is its pass's own.
-use Rattle.std.proofs.Common.{◌≡◌, ℕ, ◌<◌, ◌&&◌, Bool, List, [], Ok, Err, Result, Option, Some, refl, sym, ap, ◌∙◌, subst, eqb, eq-eqb, arith, inl, inr}
+use Rattle.std.proofs.Common.{◌≡◌, ℕ, ◌<◌, ◌&&◌, Bool, List, [], Ok, Err, Result, Option, Some}
+use Rattle.std.proofs.Common.{refl, sym, ap, ◌∙◌, subst, eqb, eq-eqb, arith, inl, inr}
 use Rattle.std.specs.Prelude.{IfOk}
 use Rattle.cb_member.specs.declared.no_memory.NoMemory.{NoMemory}
 use Rattle.cb_types.specs.declared.config.Config.{Config}
@@ -35,7 +36,8 @@ use Rattle.cb_record.specs.Upheld.{as_part}
 use Rattle.cb_record.proofs.Laws.{turn_of_make}
 use Rattle.cb_shared.specs.Making.{MakesNew}
 use Rattle.cb_shared.specs.Recalls.{MakesFirst}
-use Rattle.cb_shared.specs.Turning.{Did, DidAs, ReadsByPin, Slate, answer_of, held_by, made_by_turn, slate_run, slate_shows}
+use Rattle.cb_shared.specs.Turning.{Did, DidAs, ReadsByPin, Slate, answer_of, held_by, made_by_turn}
+use Rattle.cb_shared.specs.Turning.{slate_run, slate_shows}
 
 -- whether a reply is Made
 abbrev is_made : Reply → ℕ

@@ -3,7 +3,10 @@ use Rattle.std.proofs.Common.{ℕ, List, [], Option, None, Some}
 use Rattle.cb_types.specs.declared.config.Config.{Config}
 use Rattle.cb_types.specs.declared.handle.Handle.{Handle}
 use Rattle.cb_types.specs.declared.job.Job.{Job}
-use Rattle.cb_types.specs.declared.job.Job.TheVariants.{Make, Read, Write, Free, Swap, Filter, Evict, Begin, Ship, Commit, Abort, Pair, Patch, Merge, Part, Compact, Rebuild, Crash, Join}
+use Rattle.cb_types.specs.declared.job.Job.TheVariants.{Make, Read, Write, Free, Swap, Filter}
+use Rattle.cb_types.specs.declared.job.Job.TheVariants.{Evict, Begin, Ship, Commit, Abort, Pair}
+use Rattle.cb_types.specs.declared.job.Job.TheVariants.{Patch, Merge, Part, Compact, Rebuild, Crash}
+use Rattle.cb_types.specs.declared.job.Job.TheVariants.{Join}
 use Rattle.cb_types.specs.declared.reply.Reply.{Reply}
 use Rattle.cb_types.specs.declared.reply.Reply.TheVariants as answer
 use Rattle.cb_world.specs.declared.event.Event.{Event}
@@ -13,15 +16,19 @@ use Rattle.cb_world.specs.Performs.{Performs}
 use Rattle.cb_world.specs.Sound.{Sound}
 use Rattle.cb_evict.specs.declared.eviction.Eviction.{Eviction}
 use Rattle.cb_evict.specs.declared.eviction.Eviction.TheVariants as eviction
-use Rattle.cb_core.specs.Parts.{Holding, WithRoom, WhereItIs, BringsIn, RoomStops, CallStops, NeverLacks}
+use Rattle.cb_core.specs.Parts.{Holding, WithRoom, WhereItIs, BringsIn, RoomStops, CallStops}
+use Rattle.cb_core.specs.Parts.{NeverLacks}
 use Rattle.cb_core.specs.Parts.WithRoom.{at_once, no_room, won}
 use Rattle.cb_core.specs.Parts.WhereItIs.{near, declined, stays_far, brought}
 use Rattle.cb_core.specs.Parts.BringsIn.{not_far, was_far}
 use Rattle.cb_core.specs.Parts.RoomStops.{at_once as lacks_now, evicting, after}
-use Rattle.cb_core.specs.Parts.CallStops.{near as lacks_near, far as lacks_far, after as lacks_after}
+use Rattle.cb_core.specs.Parts.CallStops.{near as lacks_near, far as lacks_far}
+use Rattle.cb_core.specs.Parts.CallStops.{after as lacks_after}
 use Rattle.cb_core.specs.ReadTurn.{BroughtToRead, StoppedToRead}
 use Rattle.cb_core.specs.ReadTurn.BroughtToRead.{worn as first_worn, done as first_done}
-use Rattle.cb_core.specs.Turned.{BringLacks, Brings, ComeLacks, ComesIn, Declines, Does, EvictLacks, FindsWhere, Makes, MakeLacks, Stopped, Stops, SwapLacks, Swaps, Turned, WinsRoom, WritesObject, done, worn}
+use Rattle.cb_core.specs.Turned.{BringLacks, Brings, ComeLacks, ComesIn, Declines, Does, EvictLacks}
+use Rattle.cb_core.specs.Turned.{FindsWhere, Makes, MakeLacks, Stopped, Stops, SwapLacks, Swaps}
+use Rattle.cb_core.specs.Turned.{Turned, WinsRoom, WritesObject, done, worn}
 use Rattle.cb_shared.specs.UnderLock.{IsNoRead}
 
 module _ {D E : Type 0} (run : D → List Event → D → Type 0) (shows : D → Shown → Type 0)

@@ -15,9 +15,11 @@ use Rattle.cb_rule.specs.Lists.{Has}
 use Rattle.cb_rule.specs.Locking.{Locked}
 use Rattle.cb_rule.specs.Ruled.{Ruled}
 use Rattle.cb_rule.specs.Slot.{Sat}
-use Rattle.cb_rule.specs.Steps.{Knows, claimed_here, read_held, stored_here, stamped_here, settled_here, put_back}
+use Rattle.cb_rule.specs.Steps.{Knows, claimed_here, read_held, stored_here, stamped_here}
+use Rattle.cb_rule.specs.Steps.{settled_here, put_back}
 use Rattle.cb_rule.specs.Words.{base, stamps}
-use Rattle.cb_rule.proofs.Laws.{claims_here, locked_steady, puts_back, reads_held, settles_here, stamps_here, stores_here}
+use Rattle.cb_rule.proofs.Laws.{claims_here, locked_steady, puts_back, reads_held, settles_here}
+use Rattle.cb_rule.proofs.Laws.{stamps_here, stores_here}
 use Rattle.cb_shared.specs.Turning.{Did}
 use Rattle.cb_shared.proofs.Alone.{at_key}
 

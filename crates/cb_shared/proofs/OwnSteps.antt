@@ -1,5 +1,6 @@
 -- What the steps of a seat on the one object that it claims come to.
-use Rattle.std.proofs.Common.{◌≡◌, ◌+◌, ℕ, ◌^◌, ◌<◌, ◌≤◌, List, [], ◌∷◌, get_or, refl, sym, ap, subst, ◌∙◌, inl}
+use Rattle.std.proofs.Common.{◌≡◌, ◌+◌, ℕ, ◌^◌, ◌<◌, ◌≤◌, List, [], ◌∷◌, get_or, refl, sym, ap}
+use Rattle.std.proofs.Common.{subst, ◌∙◌, inl}
 use mathlib.Core.Option.{none}
 use Rattle.atomic_table.specs.Seated.{TableId}
 use Rattle.atomic_table.specs.Table.{step, Allows}
@@ -11,10 +12,14 @@ use Rattle.cb_rule.specs.Lists.{Each}
 use Rattle.cb_rule.specs.Locking.{Locked}
 use Rattle.cb_rule.specs.Ruled.{Ruled}
 use Rattle.cb_rule.specs.Slot.{Sat}
-use Rattle.cb_rule.specs.Steps.{IsInside, LoadsHeld, TellsHeld, claimed_here, dated, held_at, next_entry, put_back, read_held, settled_here, stamped_here, stored_here, version_seen, with_claim, with_claim_word, with_look, with_stamp}
+use Rattle.cb_rule.specs.Steps.{IsInside, LoadsHeld, TellsHeld, claimed_here, dated, held_at}
+use Rattle.cb_rule.specs.Steps.{next_entry, put_back, read_held, settled_here, stamped_here}
+use Rattle.cb_rule.specs.Steps.{stored_here, version_seen, with_claim, with_claim_word, with_look}
+use Rattle.cb_rule.specs.Steps.{with_stamp}
 use Rattle.cb_rule.specs.Words.{base, stamps}
 use Rattle.cb_shared.specs.declared.setup.Setup.{Setup}
-use Rattle.cb_shared.specs.Claims.{ClaimsHere, HoldsOnly, IsAsClaimed, IsNextOf, back_only, with_only, written_only}
+use Rattle.cb_shared.specs.Claims.{ClaimsHere, HoldsOnly, IsAsClaimed, IsNextOf, back_only}
+use Rattle.cb_shared.specs.Claims.{with_only, written_only}
 use Rattle.cb_shared.specs.Places.{IsOf, Moves, Place}
 use Rattle.cb_shared.specs.Turning.{Did}
 use Rattle.cb_shared.proofs.Only.{edited_only, has_only, removed_only}

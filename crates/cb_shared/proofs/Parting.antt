@@ -1,5 +1,6 @@
 -- What stands of a record that was split off, and of one that took another in.
-use Rattle.std.proofs.Common.{◌≡◌, ℕ, ◌+◌, ◌<◌, ◌≤◌, List, [], ◌∷◌, ◌++◌, Some, map, sym, refl, ap, ◌∙◌, subst, arith}
+use Rattle.std.proofs.Common.{◌≡◌, ℕ, ◌+◌, ◌<◌, ◌≤◌, List, [], ◌∷◌, ◌++◌, Some, map, sym, refl, ap}
+use Rattle.std.proofs.Common.{◌∙◌, subst, arith}
 use Rattle.std.specs.Option.{option_or}
 use Rattle.cb_types.specs.declared.config.Config.{Config}
 use Rattle.cb_world.specs.declared.entry.Entry.{Entry}
@@ -31,7 +32,17 @@ rest_right c given v rest some less = record {
   live = some;
   most = let m = rest.most in omega (arith, m, less);
   claims = refl;
-  out = (refl, refl, refl, refl, refl, ap (λ (k : Config). empty_far 1 k) rest.config);
+  out = (
+    refl,
+    refl,
+    refl,
+    refl,
+    refl,
+    ap (λ (k : Config). empty_far 1 k) rest.config,
+    refl,
+    refl,
+    refl,
+  );
   fresh = refl;
   written = tt;
   seen = each_both (λ (s : Seen). s.handle < c.handles) (map seen_of (v.fresh ++ v.written)) v.seen

@@ -1,5 +1,6 @@
 -- The steps of a pin are allowed by the rule of the table, whose key has the configuration.
-use Rattle.std.proofs.Common.{◌≡◌, ℕ, ◌+◌, ◌-◌, ◌%◌, ◌^◌, ◌<◌, ◌≤◌, get_or, length, eqb, sym, ap, ◌∙◌, subst}
+use Rattle.std.proofs.Common.{◌≡◌, ℕ, ◌+◌, ◌-◌, ◌%◌, ◌^◌, ◌<◌, ◌≤◌, get_or, length, eqb, sym, ap}
+use Rattle.std.proofs.Common.{◌∙◌, subst}
 use mathlib.Core.Option.{none}
 use prog.Atomic.{either}
 use Rattle.atomic_table.specs.Table.{step, Allows}
@@ -14,9 +15,10 @@ use Rattle.cb_rule.specs.Locking.{Locked}
 use Rattle.cb_rule.specs.Ruled.{Ruled}
 use Rattle.cb_rule.specs.Seats.{pins_on}
 use Rattle.cb_rule.specs.Slot.{Sat}
+use Rattle.cb_rule.specs.AnyGlance.{glanced_any}
 use Rattle.cb_rule.specs.Steps.{Knows, glanced, pinned, unpinned, peeked, dated}
 use Rattle.cb_rule.specs.Words.{base}
-use Rattle.cb_rule.proofs.Laws.{dates, gives_pins, glances, locked_steady, peeks, takes_pin}
+use Rattle.cb_rule.proofs.Laws.{dates, gives_pins, glances, glances_any, locked_steady, peeks, takes_pin}
 use Rattle.cb_shared.specs.Turning.{Did}
 use Rattle.cb_shared.specs.PinLoads.{read_pin}
 use Rattle.cb_shared.proofs.Alone.{at_key}
@@ -29,6 +31,13 @@ module _ (first : ℕ) (c k : Config) (key : k ≡ c) (slots id : ℕ) (me : Sat
   glances_at h l knows = at_key first c k slots id me (1 + h) (λ n. n)
       (glanced (step slots (1 + h) 0 0 none) me) key
       (glances (Locked Did) (locked_steady Did) first c slots id me live h l knows)
+
+  pub glances_any_at : (h : ℕ) → h < c.handles
+      → Allows (Ruled (Locked Did) first k) slots id me (1 + h) (λ n. n)
+      (glanced_any (step slots (1 + h) 0 0 none) me)
+  glances_any_at h l = at_key first c k slots id me (1 + h) (λ n. n)
+      (glanced_any (step slots (1 + h) 0 0 none) me) key
+      (glances_any (Locked Did) (locked_steady Did) first c slots id me live h l)
 
   pub takes_pin_at : (h old new : ℕ) → h < c.handles → Knows h me.0 → state_of old ≡ state.Here
       → pins_of old < 1023 → length me.0.pins ≤ 16 → TakesPin old new

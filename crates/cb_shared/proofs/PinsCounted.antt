@@ -1,6 +1,8 @@
 -- A write, a free or a filter by a turn tells of its object: its reply is by the word that was found
 -- last, and each word that was found tells of the pins and of the last entry.
-use Rattle.std.proofs.Common.{◌≡◌, ◌≢◌, ℕ, zero, suc, ◌+◌, ◌-◌, ◌^◌, ◌≤◌, Bool, true, false, List, [], ◌∷◌, ◌++◌, length, Option, None, Some, Result, Ok, Err, sym, ap, ◌∙◌, subst, inl, inr, arith, refl, append_assoc}
+use Rattle.std.proofs.Common.{◌≡◌, ◌≢◌, ℕ, zero, suc, ◌+◌, ◌-◌, ◌^◌, ◌≤◌, Bool, true, false, List}
+use Rattle.std.proofs.Common.{[], ◌∷◌, ◌++◌, length, Option, None, Some, Result, Ok, Err, sym, ap}
+use Rattle.std.proofs.Common.{◌∙◌, subst, inl, inr, arith, refl, append_assoc}
 use Rattle.std.specs.Prelude.{nat_lt, ◌==◌, if◌then◌else◌}
 use Rattle.cb_member.specs.declared.no_memory.NoMemory.{NoMemory}
 use Rattle.cb_ptr.specs.declared.word.State.{State}
@@ -26,12 +28,15 @@ use Rattle.cb_mutate.specs.JobWrites.{FreeWrites, WriteWrites}
 use Rattle.cb_mutate.specs.WriteRule.{NextVersion, WriteHere}
 use Rattle.cb_core.specs.Parts.{Holding, WhereItIs, near, declined, stays_far, brought}
 use Rattle.cb_core.specs.TurnLeaves.{OutcomeWrites}
-use Rattle.cb_core.specs.Turned.{Brings, Declines, Filters, Frees, IsDeclined, Turned, WritesObject, done, worn}
+use Rattle.cb_core.specs.Turned.{Brings, Declines, Filters, Frees, IsDeclined, Turned, WritesObject}
+use Rattle.cb_core.specs.Turned.{done, worn}
 use Rattle.cb_rule.specs.declared.view.View.{View}
 use Rattle.cb_rule.specs.Seats.{pins_on}
 use Rattle.cb_rule.specs.Steps.{HasLast, TellsPins, act, acted}
-use Rattle.cb_shared.specs.SeatLaws.{SayPins, SaysPins, acted_append, acted_is, after_events, say_behind, still_unwritten}
-use Rattle.cb_shared.specs.Turning.{CountsPins, DidAs, PinsTold, ReadsByPin, Slate, answer_of, held_by, slate_run, slate_shows}
+use Rattle.cb_shared.specs.SeatLaws.{SayPins, SaysPins, acted_append, acted_is, after_events}
+use Rattle.cb_shared.specs.SeatLaws.{say_behind, still_unwritten}
+use Rattle.cb_shared.specs.Turning.{CountsPins, DidAs, PinsTold, ReadsByPin, Slate, answer_of}
+use Rattle.cb_shared.specs.Turning.{held_by, slate_run, slate_shows}
 use Rattle.cb_shared.proofs.Bringing.{bring_gives}
 use Rattle.cb_shared.proofs.Resting.{far_empty, here_empty}
 

@@ -1,5 +1,6 @@
 -- What a read under a pin leaves of a pass.
-use Rattle.std.proofs.Common.{◌≡◌, ℕ, ◌<◌, List, [], ◌∷◌, ◌++◌, Result, Ok, Err, sym, refl, ap, ◌∙◌, subst}
+use Rattle.std.proofs.Common.{◌≡◌, ℕ, ◌<◌, List, [], ◌∷◌, ◌++◌, Result, Ok, Err, sym, refl, ap, ◌∙◌}
+use Rattle.std.proofs.Common.{subst}
 use Rattle.std.specs.Result.{IfOk, OnErr}
 use Rattle.cb_member.specs.declared.no_memory.NoMemory.{NoMemory}
 use Rattle.cb_types.specs.declared.config.Config.{Config}
@@ -12,7 +13,8 @@ use Rattle.cb_rule.specs.declared.view.View.{View}
 use Rattle.cb_rule.specs.Lists.{Each}
 use Rattle.cb_rule.specs.Slot.{Sat}
 use Rattle.cb_shared.specs.declared.reading.ReadAnswer.{ReadAnswer}
-use Rattle.cb_shared.specs.declared.reading.ReadAnswer.TheVariants.{Bytes, Freed, NotHere, Moving, Crowded, Raced}
+use Rattle.cb_shared.specs.declared.reading.ReadAnswer.TheVariants.{Bytes, Freed, NotHere, Moving}
+use Rattle.cb_shared.specs.declared.reading.ReadAnswer.TheVariants.{Crowded, Raced}
 use Rattle.cb_record.specs.Parts.{Part, grown}
 use Rattle.cb_shared.specs.Passes.{IsAtRest}
 use Rattle.cb_shared.specs.Places.{Moves, Place}
@@ -53,7 +55,7 @@ each_both : {A : Type 0} (P : A → Type 0) (xs ys : List A) → Each P xs → E
 each_both P [] ys a b = b
 each_both P (x ∷ xs) ys a b = (a.0, each_both P xs ys a.1 b)
 
-kept_part : (c : Config) (p q : Place) (d : Part) → IsAtRest c p.me.0
+pub kept_part : (c : Config) (p q : Place) (d : Part) → IsAtRest c p.me.0
     → Moves p q (grown d p.me.0) → IsReadPart c d → IsSeatKept c p q
 kept_part c p q d rest m x = record {
   table = m.0;

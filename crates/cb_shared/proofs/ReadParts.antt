@@ -1,5 +1,6 @@
 -- The parts of reads under a pin.
-use Rattle.std.proofs.Common.{◌≡◌, ℕ, ◌+◌, ◌<◌, ◌≤◌, List, [], ◌∷◌, ◌++◌, length, Result, Ok, Err, inl, inr, ⊎_elim, sym, refl, ap, ◌∙◌, subst, arith, append_assoc}
+use Rattle.std.proofs.Common.{◌≡◌, ℕ, ◌+◌, ◌<◌, ◌≤◌, List, [], ◌∷◌, ◌++◌, length, Result, Ok, Err}
+use Rattle.std.proofs.Common.{inl, inr, ⊎_elim, sym, refl, ap, ◌∙◌, subst, arith, append_assoc}
 use Rattle.std.specs.Prelude.{IfOk, OnErr}
 use Rattle.atomic_table.specs.Seated.{TableId}
 use Rattle.cb_ptr.specs.declared.word.State.TheVariants as state
@@ -22,7 +23,8 @@ use Rattle.cb_record.specs.Parts.{Part, grown, nothing_more, sum}
 use Rattle.cb_shared.specs.Places.{IsOf, Moves, Place}
 use Rattle.cb_shared.specs.Reading.{ReadFinds, ReadMoves, looked}
 use Rattle.cb_shared.specs.Turning.{AreLooksAt, FindsAtLast, Tries}
-use Rattle.cb_shared.specs.UnderLock.{HasSame, IsQuiet, IsReplyTo, IsTriedAgain, LooksFor, ReadsBelow, TriesOn}
+use Rattle.cb_shared.specs.UnderLock.{HasSame, IsQuiet, IsReplyTo, IsTriedAgain, LooksFor}
+use Rattle.cb_shared.specs.UnderLock.{ReadsBelow, TriesOn}
 use Rattle.cb_shared.proofs.AfterTurn.{of_moved}
 
 pub grown_nothing : (v : View) → v ≡ grown nothing_more v
@@ -68,7 +70,7 @@ finds_below c h found.Moving v d l x = subst (ReadsBelow c) (sym x.2) tt
 finds_below c h found.Crowded v d l x = subst (ReadsBelow c) (sym x.2) tt
 finds_below c h (found.Raced saw other) v d l x = subst (ReadsBelow c) (sym x.1) tt
 
-looks_below : (c : Config) (h : ℕ) (d : Part) → AreLooksAt h d → ReadsBelow c d
+pub looks_below : (c : Config) (h : ℕ) (d : Part) → AreLooksAt h d → ReadsBelow c d
 looks_below c h d x = subst (ReadsBelow c) (sym x.part) tt
 
 pub last_quiet : (h : ℕ) (a : ReadAnswer) (v : View) (d : Part) → FindsAtLast h a v d → IsQuiet d

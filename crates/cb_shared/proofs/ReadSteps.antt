@@ -1,5 +1,6 @@
 -- A read under a pin of its own, step by step.
-use Rattle.std.proofs.Common.{◌≡◌, ℕ, ◌+◌, Bool, cond, List, ◌∷◌, sym, refl, ap, ◌∙◌, subst, arith, inl, eq-eqb}
+use Rattle.std.proofs.Common.{◌≡◌, ℕ, ◌+◌, Bool, cond, List, ◌∷◌, sym, refl, ap, ◌∙◌, subst, arith}
+use Rattle.std.proofs.Common.{inl, eq-eqb}
 use Rattle.cb_types.specs.declared.config.Config.{Config}
 use Rattle.cb_ptr.specs.declared.word.State.TheVariants as state
 use Rattle.cb_ptr.specs.Word.{state_of, len_of, place_of}
@@ -11,11 +12,13 @@ use Rattle.cb_rule.specs.Seats.{pins_it}
 use Rattle.cb_rule.specs.Slot.{Sat}
 use Rattle.cb_rule.specs.Steps.{IsNewest, stand, with_freed_seen, with_look, with_pin, without_pin}
 use Rattle.cb_shared.specs.declared.reading.ReadAnswer.{ReadAnswer}
-use Rattle.cb_shared.specs.declared.reading.ReadAnswer.TheVariants.{Bytes, Freed, NotHere, Moving, Crowded, Raced}
+use Rattle.cb_shared.specs.declared.reading.ReadAnswer.TheVariants.{Bytes, Freed, NotHere, Moving}
+use Rattle.cb_shared.specs.declared.reading.ReadAnswer.TheVariants.{Crowded, Raced}
 use Rattle.cb_shared.specs.Glances.{Glances, TellsVersion}
 use Rattle.cb_record.specs.Parts.{grown}
 use Rattle.cb_shared.specs.Places.{Place, Moves}
-use Rattle.cb_shared.specs.Reading.{IsReadAt, IsReadRefusal, IsUnderPin, ReadAt, ReadMoves, looked, looked_freed, looked_twice, read_once, with_read}
+use Rattle.cb_shared.specs.Reading.{IsReadAt, IsReadRefusal, IsUnderPin, ReadAt, ReadMoves, looked}
+use Rattle.cb_shared.specs.Reading.{looked_freed, looked_twice, read_once, with_read}
 use Rattle.cb_shared.proofs.Resting.{far_empty, here_empty, moving_empty, view_of}
 
 -- what a step adds is a part of the record

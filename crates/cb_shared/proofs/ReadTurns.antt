@@ -1,5 +1,6 @@
 -- A turn of the job Read, in its two parts.
-use Rattle.std.proofs.Common.{◌≡◌, ℕ, zero, suc, ◌≤◌, length, List, [], None, Some, Result, Ok, Err, sym, refl, ap, ◌∙◌, subst, inl, inr, ◌++◌}
+use Rattle.std.proofs.Common.{◌≡◌, ℕ, zero, suc, ◌≤◌, length, List, [], None, Some, Result, Ok, Err}
+use Rattle.std.proofs.Common.{sym, refl, ap, ◌∙◌, subst, inl, inr, ◌++◌}
 use Rattle.std.specs.Prelude.{IfOk}
 use Rattle.cb_member.specs.declared.no_memory.NoMemory.{NoMemory}
 use Rattle.cb_ptr.specs.declared.word.State.{State}
@@ -36,8 +37,10 @@ use Rattle.cb_rule.specs.Steps.{AreNew, Knows, acted}
 use Rattle.cb_record.specs.Parts.{Part, grown, nothing_more}
 use Rattle.cb_shared.specs.Places.{Place}
 use Rattle.cb_shared.specs.SeatLaws.{Runs, acted_fresh, acted_is, acted_known, fresh_new}
-use Rattle.cb_shared.specs.Turning.{DidAs, IsReadReply, JobReads, Slate, TellsNoPin, Tries, answer_of, slate_run, slate_shows}
-use Rattle.cb_shared.specs.UnderLock.{BringAt, BroughtForRead, CameThere, HasSame, IsNoRead, TriesOn, TurnAtSeat, WorkBy}
+use Rattle.cb_shared.specs.Turning.{DidAs, IsReadReply, JobReads, Slate, TellsNoPin, Tries}
+use Rattle.cb_shared.specs.Turning.{answer_of, slate_run, slate_shows}
+use Rattle.cb_shared.specs.UnderLock.{BringAt, BroughtForRead, CameThere, HasSame, IsNoRead}
+use Rattle.cb_shared.specs.UnderLock.{TriesOn, TurnAtSeat, WorkBy}
 use Rattle.cb_shared.proofs.AfterTurn.{after_runs}
 use Rattle.cb_shared.proofs.Bringing.{bring_gives}
 use Rattle.cb_shared.proofs.PinsCounted.{counts_pins}

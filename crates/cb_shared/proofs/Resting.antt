@@ -1,5 +1,6 @@
 -- What stands of a record between the calls of its pass stands after each step.
-use Rattle.std.proofs.Common.{◌≡◌, ◌≢◌, ◌⊎◌, ℕ, ◌+◌, ◌<◌, Bool, cond, List, [], ◌∷◌, sym, refl, ap, ◌∙◌, subst, arith, inl, inr, ⊎_elim, eq-eqb, true, false}
+use Rattle.std.proofs.Common.{◌≡◌, ◌≢◌, ◌⊎◌, ℕ, ◌+◌, ◌<◌, Bool, cond, List, [], ◌∷◌, sym, refl, ap}
+use Rattle.std.proofs.Common.{◌∙◌, subst, arith, inl, inr, ⊎_elim, eq-eqb, true, false}
 use Rattle.cb_types.specs.declared.config.Config.{Config}
 use Rattle.cb_ptr.specs.declared.word.State.{State}
 use Rattle.cb_ptr.specs.declared.word.State.TheVariants as state
@@ -10,10 +11,12 @@ use Rattle.cb_rule.specs.declared.view.Stand.{Stand}
 use Rattle.cb_rule.specs.declared.view.View.{View}
 use Rattle.cb_rule.specs.Lists.{Each, Has, removed, times}
 use Rattle.cb_rule.specs.Seats.{pins_it}
-use Rattle.cb_rule.specs.Steps.{IsInside, Knows, with_look, with_freed_seen, with_pin, with_peek, without_pin}
+use Rattle.cb_rule.specs.Steps.{IsInside, Knows, with_look, with_freed_seen, with_pin, with_peek}
+use Rattle.cb_rule.specs.Steps.{without_pin}
 use Rattle.cb_rule.specs.Slot.{Sat}
 use Rattle.cb_shared.specs.declared.answers.PinAnswer.{PinAnswer}
-use Rattle.cb_shared.specs.declared.answers.PinAnswer.TheVariants.{Pinned, ScopeFull, Freed, NotHere, Moving, Crowded, Raced}
+use Rattle.cb_shared.specs.declared.answers.PinAnswer.TheVariants.{Pinned, ScopeFull, Freed}
+use Rattle.cb_shared.specs.declared.answers.PinAnswer.TheVariants.{NotHere, Moving, Crowded, Raced}
 use Rattle.cb_shared.specs.Glances.{Glances}
 use Rattle.cb_shared.specs.Passes.{IsAtRest, PinFits}
 use Rattle.cb_shared.specs.Pinning.{IsRefusal, PinGives}

@@ -1,5 +1,7 @@
 -- A turn as it stands in the record of its pass at its end.
-use Rattle.std.proofs.Common.{◌≡◌, ℕ, suc, ◌+◌, ◌<◌, ◌≤◌, List, [], ◌∷◌, ◌++◌, length, Option, None, Some, Result, Ok, refl, sym, ap, ◌∙◌, subst, arith, inl, inr, append_assoc}
+use Rattle.std.proofs.Common.{◌≡◌, ℕ, suc, ◌+◌, ◌<◌, ◌≤◌, List, [], ◌∷◌, ◌++◌, length, Option, None}
+use Rattle.std.proofs.Common.{Some, Result, Ok, refl, sym, ap, ◌∙◌, subst, arith, inl, inr}
+use Rattle.std.proofs.Common.{append_assoc}
 use Rattle.cb_member.specs.declared.no_memory.NoMemory.{NoMemory}
 use Rattle.cb_types.specs.declared.config.Config.{Config}
 use Rattle.cb_types.specs.declared.job.Job.{Job}
@@ -18,7 +20,8 @@ use Rattle.cb_record.specs.Parts.{Part, grown, nothing_more}
 use Rattle.cb_shared.specs.Passes.{IsAtRest}
 use Rattle.cb_shared.specs.Places.{Place}
 use Rattle.cb_shared.specs.Trying.{is_to_try_again, tries_of}
-use Rattle.cb_shared.specs.Turning.{KnowsIt, KnowsOf, TurnBy, answer_of, freed_of, made_by_turn, object_of, turn_part, with_own}
+use Rattle.cb_shared.specs.Turning.{KnowsIt, KnowsOf, TurnBy, answer_of, freed_of, made_by_turn}
+use Rattle.cb_shared.specs.Turning.{object_of, turn_part, with_own}
 use Rattle.cb_shared.specs.UnderLock.{FreedMoves, IsBelow, IsQuiet, TurnedBy}
 use Rattle.cb_shared.proofs.Resting.{known_below}
 
@@ -132,6 +135,7 @@ module _ (c : Config) (job : Job) (r : Result Reply NoMemory) (p m q : Place)
       did = t.did;
       next = t.next;
       wrote = t.wrote;
+      notes = t.notes;
       new = t.new;
       pins = t.pins;
       made = t.made;

@@ -1,5 +1,6 @@
 -- The newest pin of an object among the handles of a pass.
-use Rattle.std.proofs.Common.{◌≡◌, ◌≢◌, ℕ, zero, suc, ◌+◌, ◌<◌, Bool, cond, List, [], ◌∷◌, get_or, ap, ◌∙◌, subst, arith, ne_eqb, eq-eqb}
+use Rattle.std.proofs.Common.{◌≡◌, ◌≢◌, ℕ, zero, suc, ◌+◌, ◌<◌, Bool, cond, List, [], ◌∷◌, get_or}
+use Rattle.std.proofs.Common.{ap, ◌∙◌, subst, arith, ne_eqb, eq-eqb}
 use native.Mathlib.Decide.{ℕ_discrete}
 use Rattle.std.specs.List.{remove}
 use Rattle.cb_rule.specs.declared.view.Stand.{Stand}

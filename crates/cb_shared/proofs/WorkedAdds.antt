@@ -1,5 +1,7 @@
 -- Worked parts that tries, calls and turns add: what breaks one of their parts alone.
-use Rattle.std.proofs.Common.{◌≡◌, ℕ, ◌+◌, ◌<◌, ◌≤◌, List, [], ◌∷◌, ◌++◌, length, length-append, get_or, Some, Ok, Err, refl, sym, ap, ◌∙◌, subst, inl, inr, lit<, arith}
+use Rattle.std.proofs.Common.{◌≡◌, ℕ, ◌+◌, ◌<◌, ◌≤◌, List, [], ◌∷◌, ◌++◌, length, length-append}
+use Rattle.std.proofs.Common.{get_or, Some, Ok, Err, refl, sym, ap, ◌∙◌, subst, inl, inr, lit<}
+use Rattle.std.proofs.Common.{arith}
 use Rattle.std.proofs.lemmas.Bool.{eqb-false}
 use Rattle.cb_member.specs.declared.names.Loss.{Loss}
 use Rattle.cb_member.specs.declared.no_memory.NoMemory.{NoMemory}
@@ -27,14 +29,17 @@ use Rattle.cb_record.specs.Parts.{Part, grown, nothing_more, sum}
 use Rattle.cb_shared.specs.declared.answers.WriteAnswer.TheVariants as place
 use Rattle.cb_shared.specs.declared.pass.Pass.{Pass}
 use Rattle.cb_shared.specs.declared.runtime.Shared.{Shared}
-use Rattle.cb_shared.specs.Calls.{AsksFor, AtNone, AtThis, EndsAtLast, IsAnswer, IsInVain, IsUnanswered, IsUnfetched, IsWrittenOnce, ReadCallEnds, ReadTries, TurnGives, WriteAnswers, WriteCallEnds, the_handle, written_once}
+use Rattle.cb_shared.specs.Calls.{AsksFor, AtNone, AtThis, EndsAtLast, IsAnswer, IsInVain}
+use Rattle.cb_shared.specs.Calls.{IsUnanswered, IsUnfetched, IsWrittenOnce, ReadCallEnds, ReadTries}
+use Rattle.cb_shared.specs.Calls.{TurnGives, WriteAnswers, WriteCallEnds, the_handle, written_once}
 use Rattle.cb_shared.specs.Joining.{IsSpare}
 use Rattle.cb_shared.specs.Passes.{IsPassOf}
 use Rattle.cb_shared.specs.Places.{Place}
 use Rattle.cb_shared.specs.Reading.{FindsGone, IsReadHere, looked, looked_freed, read_once}
 use Rattle.cb_shared.specs.Turning.{Did, JobReads, Tries, TurnAdds, TurnBy, turn_part}
 use Rattle.cb_shared.specs.UnderLock.{HasSame, IsEnding, IsQuiet, ReadsBelow}
-use Rattle.cb_shared.proofs.WorkedGround.{a_stand, away, calm, made, moving, newest_made, owner, part, pinned, two, whole, word_in, words_in}
+use Rattle.cb_shared.proofs.WorkedGround.{a_stand, away, calm, made, moving, newest_made, owner}
+use Rattle.cb_shared.proofs.WorkedGround.{part, pinned, two, whole, word_in, words_in}
 use Rattle.cb_shared.proofs.WorkedReads.{eight_bytes}
 use Rattle.cb_shared.proofs.WorkedSeat.{tells}
 use Rattle.cb_shared.proofs.WorkedTurns.{worn_turn}

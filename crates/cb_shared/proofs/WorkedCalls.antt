@@ -1,5 +1,6 @@
 -- Worked calls that try again: what meets each definition, and what breaks one of its parts alone.
-use Rattle.std.proofs.Common.{◌≡◌, ℕ, true, false, List, [], ◌∷◌, ◌++◌, length, None, Some, refl, sym, ap, ◌∙◌, subst, inl, inr, arith, lit≤}
+use Rattle.std.proofs.Common.{◌≡◌, ℕ, true, false, List, [], ◌∷◌, ◌++◌, length, None, Some, refl}
+use Rattle.std.proofs.Common.{sym, ap, ◌∙◌, subst, inl, inr, arith, lit≤}
 use Rattle.std.proofs.lemmas.Bool.{eqb-false, false≢true}
 use Rattle.cb_types.specs.declared.config.Config.{Config}
 use Rattle.cb_types.specs.declared.job.Job.TheVariants as jobs
@@ -11,12 +12,16 @@ use Rattle.cb_rule.specs.declared.view.View.{View}
 use Rattle.cb_rule.specs.Lists.{Each}
 use Rattle.cb_rule.specs.Steps.{IsNewest, look_at}
 use Rattle.cb_shared.specs.declared.answers.WriteAnswer.TheVariants as place
-use Rattle.cb_shared.specs.Calls.{AsksFor, AtNone, AtThis, EndsAtLast, IsAnswer, IsAnswerTo, IsInVain, IsLack, IsUnanswered, IsUnfetched, IsWrittenOnce, ReadCallEnds, SaysAs, TurnGives, WriteAnswers, is_to_try_again, newest_tries, the_handle, written_once}
+use Rattle.cb_shared.specs.Calls.{AsksFor, AtNone, AtThis, EndsAtLast, IsAnswer, IsAnswerTo}
+use Rattle.cb_shared.specs.Calls.{IsInVain, IsLack, IsUnanswered, IsUnfetched, IsWrittenOnce}
+use Rattle.cb_shared.specs.Calls.{ReadCallEnds, SaysAs, TurnGives, WriteAnswers, is_to_try_again}
+use Rattle.cb_shared.specs.Calls.{newest_tries, the_handle, written_once}
 use Rattle.cb_record.specs.Deeds.{Deed, deed, happened, happening}
 use Rattle.cb_record.specs.Parts.{Part, grown, nothing_more, sum}
 use Rattle.cb_shared.specs.Reading.{looked, looked_freed}
 use Rattle.cb_shared.proofs.CallSteps.{read_lacks}
-use Rattle.cb_shared.proofs.WorkedGround.{a_stand, away, calm, knows_made, made, moving, newest_made, not_second, part, pinned, two, version_in}
+use Rattle.cb_shared.proofs.WorkedGround.{a_stand, away, calm, knows_made, made, moving}
+use Rattle.cb_shared.proofs.WorkedGround.{newest_made, not_second, part, pinned, two, version_in}
 use Rattle.cb_shared.proofs.WorkedTurns.{adds_worn, worn_part}
 use Rattle.cb_shared.proofs.WorkedWrites.{write_it}
 
@@ -68,8 +73,8 @@ swap_tells_nothing : IsAnswerTo wide (jobs.Swap (the_handle 1)) answer.Freed →
 swap_tells_nothing x = x
 
 -- ---- tries that came to nothing
-in_vain : IsInVain (AtThis 1) (IsUnfetched wide 1) (looked 1 moving)
-in_vain = record {
+pub in_vain : (c : Config) → IsInVain (AtThis 1) (IsUnfetched c 1) (looked 1 moving)
+in_vain c = record {
   looks = look_at 1 moving ∷ [];
   turns = [];
   at = (refl, tt);
@@ -152,7 +157,7 @@ reads_freed_at_last : EndsAtLast (AtThis 1) (IsUnfetched wide 1)
 reads_freed_at_last = record {
   before = looked 1 moving;
   last = looked_freed 1 3 0;
-  in_vain = in_vain;
+  in_vain = in_vain wide;
   ends_so = inl (
     0,
     3,
@@ -178,7 +183,11 @@ gives_worn = (
     before = nothing_more;
     last = worn_part (jobs.Make (10 ∷ []));
     in_vain = record { looks = []; turns = []; at = tt; of = tt; idle = tt; part = refl };
-    ends_so = (inr tt, adds_worn (jobs.Make (10 ∷ [])) part refl refl knows_made);
+    ends_so = (
+      inr tt,
+      adds_worn (jobs.Make (10 ∷ [])) part refl refl knows_made
+          (record { had = refl; left = refl; old = refl; ended = refl }),
+    );
     part = refl;
   },
   refl,
@@ -205,7 +214,11 @@ asks_for = record {
   word = away;
   later = worn_part (jobs.Swap (the_handle 1));
   away = refl;
-  turned = (tt, adds_worn (jobs.Swap (the_handle 1)) (grown (looked 1 away) part) refl refl knows_made);
+  turned = (
+    tt,
+    adds_worn (jobs.Swap (the_handle 1)) (grown (looked 1 away) part) refl refl
+        knows_made (record { had = refl; left = refl; old = refl; ended = refl }),
+  );
   part = refl;
 }
 

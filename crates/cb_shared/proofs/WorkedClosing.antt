@@ -1,6 +1,7 @@
 -- Worked examples of what the closing of a runtime comes to: what meets each definition, and what
 -- breaks one of its parts alone.
-use Rattle.std.proofs.Common.{◌≡◌, ◌∙◌, ℕ, [], ◌∷◌, length, replicate, refl, sym, ap, subst, lit<, arith}
+use Rattle.std.proofs.Common.{◌≡◌, ◌∙◌, ℕ, [], ◌∷◌, length, replicate, refl, sym, ap, subst, lit<}
+use Rattle.std.proofs.Common.{arith}
 use Rattle.std.proofs.lemmas.Bool.{eqb-false}
 use Rattle.cb_types.specs.declared.config.Config.{Config}
 use Rattle.cb_world.specs.Empty.{empty_far, empty_words}

@@ -1,6 +1,7 @@
 -- Worked reads of a seat, and what a pass keeps: what meets each definition, and what breaks one of
 -- its parts alone.
-use Rattle.std.proofs.Common.{◌≡◌, ℕ, zero, suc, ◌+◌, ◌<◌, true, false, List, [], ◌∷◌, length, refl, sym, ap, ◌∙◌, subst, inl, inr, lit<, arith}
+use Rattle.std.proofs.Common.{◌≡◌, ℕ, zero, suc, ◌+◌, ◌<◌, true, false, List, [], ◌∷◌, length, refl}
+use Rattle.std.proofs.Common.{sym, ap, ◌∙◌, subst, inl, inr, lit<, arith}
 use Rattle.std.proofs.lemmas.Bool.{eqb-false}
 use Rattle.std.specs.Prelude.{slice_index}
 use Rattle.atomic_table.specs.Table.{Step}
@@ -26,10 +27,13 @@ use Rattle.cb_shared.specs.Handles.{handles_of}
 use Rattle.cb_shared.specs.Passes.{IsOutOfTurn, PinFits, stand_of}
 use Rattle.cb_shared.specs.PinLoads.{read_pin}
 use Rattle.cb_shared.specs.Places.{Acts, Moves, Place}
-use Rattle.cb_shared.specs.Reading.{FindsGone, FindsOther, FindsWord, IsReadAt, IsReadRefusal, IsUnderPin, ReadAt, ReadMoves, looked, looked_freed, looked_twice, with_read}
+use Rattle.cb_shared.specs.Reading.{FindsGone, FindsOther, FindsWord, IsReadAt, IsReadRefusal}
+use Rattle.cb_shared.specs.Reading.{IsUnderPin, ReadAt, ReadMoves, looked, looked_freed}
+use Rattle.cb_shared.specs.Reading.{looked_twice, with_read}
 use Rattle.cb_shared.specs.Sealing.{AnyWord, no_view, unsealed}
 use Rattle.cb_shared.specs.Trying.{may_come_loose}
-use Rattle.cb_shared.proofs.WorkedGround.{a_pin, a_stand, away, calm, full, made, moving, newest_made, not_second, part, pinned, two, word_in}
+use Rattle.cb_shared.proofs.WorkedGround.{a_pin, a_stand, away, calm, full, made, moving}
+use Rattle.cb_shared.proofs.WorkedGround.{newest_made, not_second, part, pinned, two, word_in}
 use Rattle.cb_shared.proofs.WorkedReads.{eight, eight_bytes}
 
 abbrev looks_of : View → ℕ
@@ -237,7 +241,7 @@ handles_in_order : handles_of (stand 0 8 6 3 (7 ∷ []) ∷ a_stand ∷ []) ≡ 
 handles_in_order = refl
 
 out_of_turn : IsOutOfTurn two part
-out_of_turn = (refl, refl, refl, refl, refl, refl)
+out_of_turn = (refl, refl, refl, refl, refl, refl, refl, refl, refl)
 
 within_a_turn : IsOutOfTurn two (record part { since = 1 }) → ⊥
 within_a_turn o = eqb-false 1 0 refl o.2

@@ -1,5 +1,6 @@
 -- What the worked examples are about: an object, the words that it may have, and two records.
-use Rattle.std.proofs.Common.{◌≡◌, ℕ, ◌<◌, false, List, [], ◌∷◌, ◌++◌, refl, subst, inl, inr, ⊎_elim, arith, ap, ◌∙◌, lit<, true≢false}
+use Rattle.std.proofs.Common.{◌≡◌, ℕ, ◌<◌, false, List, [], ◌∷◌, ◌++◌, refl, subst, inl, inr}
+use Rattle.std.proofs.Common.{⊎_elim, arith, ap, ◌∙◌, lit<, true≢false}
 use Rattle.cb_types.specs.declared.config.Config.{Config}
 use Rattle.cb_ptr.specs.Word.{state_of, state_number}
 use Rattle.cb_world.specs.declared.entry.Entry.{Entry}
@@ -10,7 +11,8 @@ use Rattle.cb_rule.specs.declared.view.View.{View}
 use Rattle.cb_rule.specs.History.{is_version}
 use Rattle.cb_rule.specs.Own.{IsAlone}
 use Rattle.cb_rule.specs.Lists.{times, Each, Has}
-use Rattle.cb_rule.specs.Steps.{FollowsLast, HasLast, IsNewVersion, IsNewest, Knows, blank, opener, stand}
+use Rattle.cb_rule.specs.Steps.{FollowsLast, HasLast, IsNewVersion, IsNewest, Knows, blank, opener}
+use Rattle.cb_rule.specs.Steps.{stand}
 use Rattle.cb_shared.specs.declared.pass.Pin.{Pin}
 
 -- two objects at most

@@ -10,7 +10,8 @@ use Rattle.cb_rule.specs.Slot.{LockSlot, Sat}
 use Rattle.cb_shared.specs.Calls.{the_handle}
 use Rattle.cb_shared.specs.Making.{MakesNew, TriesNew, took_first}
 use Rattle.cb_shared.proofs.WorkedGround.{made, part}
-use Rattle.cb_shared.proofs.WorkedUnder.{before, far, has_taken, holder, known, knows_nothing, newcomer}
+use Rattle.cb_shared.proofs.WorkedUnder.{before, far, has_taken, holder, known, knows_nothing}
+use Rattle.cb_shared.proofs.WorkedUnder.{newcomer}
 
 -- ---- a make, whose version is 3, of a pass that has nothing of the object
 makes_it : MakesNew 3 (jobs.Make (10 ∷ [])) (answer.Made (the_handle 1) 3) newcomer

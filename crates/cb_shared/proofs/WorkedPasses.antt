@@ -1,5 +1,7 @@
 -- Worked passes and claims: what meets each definition, and what breaks one of its parts alone.
-use Rattle.std.proofs.Common.{◌≡◌, ℕ, zero, suc, ◌+◌, ◌^◌, ◌<◌, ◌≤◌, true, List, [], ◌∷◌, length, replicate, get_or, refl, sym, ap, ◌∙◌, subst, inr, true≢false, lit<, lit≤, arith}
+use Rattle.std.proofs.Common.{◌≡◌, ℕ, zero, suc, ◌+◌, ◌^◌, ◌<◌, ◌≤◌, true, List, [], ◌∷◌, length}
+use Rattle.std.proofs.Common.{replicate, get_or, refl, sym, ap, ◌∙◌, subst, inr, true≢false, lit<}
+use Rattle.std.proofs.Common.{lit≤, arith}
 use Rattle.std.proofs.lemmas.Bool.{eqb-false}
 use Rattle.atomic_table.specs.Seated.{TableId}
 use Rattle.atomic_table.specs.Table.{Step}
@@ -42,7 +44,7 @@ at_rest = record {
   live = lit≤ tt;
   most = lit≤ tt;
   claims = refl;
-  out = (refl, refl, refl, refl, refl, refl);
+  out = (refl, refl, refl, refl, refl, refl, refl, refl, refl);
   fresh = refl;
   written = (lit< tt, tt);
   seen = tt;
@@ -78,6 +80,15 @@ knows_the_words r = eqb-false 2 0 refl (ap (λ (s : Shown). length s.objects) r.
 
 took_a_far_state : IsAtRest two record part { took = empty_far 3 two } → ⊥
 took_a_far_state r = eqb-false 3 1 refl (ap (λ (f : FarState). f.first) r.out.5)
+
+had_an_entry : IsAtRest two record part { had = made ∷ [] } → ⊥
+had_an_entry r = eqb-false 1 0 refl (ap length r.out.6)
+
+had_an_old_entry : IsAtRest two record part { old = made ∷ [] } → ⊥
+had_an_old_entry r = eqb-false 1 0 refl (ap length r.out.7)
+
+ended_one_before : IsAtRest two record part { ended = 1 } → ⊥
+ended_one_before r = eqb-false 1 0 refl r.out.8
 
 within_a_turn : IsAtRest two record part { fresh = made ∷ [] } → ⊥
 within_a_turn r = eqb-false 1 0 refl (ap length r.fresh)

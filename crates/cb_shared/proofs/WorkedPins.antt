@@ -1,5 +1,6 @@
 -- Worked pins: what meets each definition, and what breaks one of its parts alone.
-use Rattle.std.proofs.Common.{◌≡◌, ℕ, ◌+◌, List, [], ◌∷◌, length, replicate, refl, sym, ap, ◌∙◌, subst, inl, inr}
+use Rattle.std.proofs.Common.{◌≡◌, ℕ, ◌+◌, List, [], ◌∷◌, length, replicate, refl, sym, ap, ◌∙◌}
+use Rattle.std.proofs.Common.{subst, inl, inr}
 use Rattle.std.proofs.lemmas.Bool.{eqb-false}
 use Rattle.cb_ptr.specs.Word.{len_of, place_of, pins_of, state_of, state_number}
 use Rattle.cb_ptr.specs.declared.word.State.TheVariants as state
@@ -7,10 +8,13 @@ use Rattle.cb_rule.specs.declared.view.Seen.{Seen}
 use Rattle.cb_rule.specs.declared.view.Stand.{Stand}
 use Rattle.cb_rule.specs.declared.view.View.{View}
 use Rattle.cb_rule.specs.Steps.{IsNewest, with_freed_seen, with_look, with_pin}
-use Rattle.cb_shared.specs.declared.answers.PinAnswer.TheVariants.{Pinned, ScopeFull, Freed, NotHere, Moving, Crowded, Raced}
+use Rattle.cb_shared.specs.declared.answers.PinAnswer.TheVariants.{Pinned, ScopeFull, Freed}
+use Rattle.cb_shared.specs.declared.answers.PinAnswer.TheVariants.{NotHere, Moving, Crowded, Raced}
 use Rattle.cb_shared.specs.Passes.{IsPinOf}
 use Rattle.cb_shared.specs.Pinning.{FindsFreed, IsPinnedHere, LooksOnce, LoosesRace, PinGives}
-use Rattle.cb_shared.proofs.WorkedGround.{a_pin, a_stand, away, calm, full, last_look, last_state, moving, newest_later, newest_made, not_foreign, not_second, part, part_pinned, pinned, whole}
+use Rattle.cb_shared.proofs.WorkedGround.{a_pin, a_stand, away, calm, full, last_look, last_state}
+use Rattle.cb_shared.proofs.WorkedGround.{moving, newest_later, newest_made, not_foreign}
+use Rattle.cb_shared.proofs.WorkedGround.{not_second, part, part_pinned, pinned, whole}
 
 abbrev looks_of : View → ℕ
 looks_of v = length v.looks

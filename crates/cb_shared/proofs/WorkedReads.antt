@@ -5,10 +5,13 @@ use Rattle.cb_ptr.specs.Word.{state_of, state_number}
 use Rattle.cb_world.specs.Memory.{bytes_in}
 use Rattle.cb_rule.specs.declared.view.Seen.{Seen}
 use Rattle.cb_rule.specs.Steps.{IsNewest, look_at, with_look}
-use Rattle.cb_shared.specs.declared.reading.ReadAnswer.TheVariants.{Bytes, Freed, NotHere, Moving, Crowded, Raced}
+use Rattle.cb_shared.specs.declared.reading.ReadAnswer.TheVariants.{Bytes, Freed, NotHere, Moving}
+use Rattle.cb_shared.specs.declared.reading.ReadAnswer.TheVariants.{Crowded, Raced}
 use Rattle.cb_record.specs.Parts.{Part}
-use Rattle.cb_shared.specs.Reading.{IsReadHere, ReadFinds, looked, looked_freed, looked_twice, read_once}
-use Rattle.cb_shared.proofs.WorkedGround.{away, calm, full, moving, newest_made, part, pinned, word_in}
+use Rattle.cb_shared.specs.Reading.{IsReadHere, ReadFinds, looked, looked_freed, looked_twice}
+use Rattle.cb_shared.specs.Reading.{read_once}
+use Rattle.cb_shared.proofs.WorkedGround.{away, calm, full, moving, newest_made, part, pinned}
+use Rattle.cb_shared.proofs.WorkedGround.{word_in}
 
 -- ---- an object that is here
 abbrev pub eight : List ℕ

@@ -1,6 +1,7 @@
 -- Worked looks at what a record has of objects: what meets each definition, and what breaks
 -- one of its parts alone.
-use Rattle.std.proofs.Common.{◌≡◌, ℕ, zero, suc, ◌+◌, ◌^◌, ◌<◌, cond, eqb, [], ◌∷◌, ◌++◌, Some, inl, refl, sym, ap, ◌∙◌, subst, ⊎_elim, arith}
+use Rattle.std.proofs.Common.{◌≡◌, ℕ, zero, suc, ◌+◌, ◌^◌, ◌<◌, cond, eqb, [], ◌∷◌, ◌++◌, Some, inl}
+use Rattle.std.proofs.Common.{refl, sym, ap, ◌∙◌, subst, ⊎_elim, arith}
 use Rattle.std.proofs.lemmas.Bool.{eqb-false}
 use mathlib.Core.Option.{some, some-injective, some-ne-none}
 use lib.ListN.{get_elem?}
@@ -65,6 +66,8 @@ module _ (c : Config) (t : Turn) where
       read = λ s e has. absurd has;
       same = λ e x wrote. absurd (wrote_none kept refl e wrote);
       goes_on = λ e x wrote. absurd (wrote_none kept refl e wrote);
+      ends = λ h last n freed gone has.
+          ⊎_elim (λ x. absurd (x.1)) (λ x. absurd (x.1)) gone;
     };
     whole = λ share. absurd (eqb-false 0 64 refl share);
   }

@@ -1,5 +1,6 @@
 -- Worked replies and jobs: each row of the tables that tell them apart.
-use Rattle.std.proofs.Common.{◌≡◌, ℕ, ◌+◌, ◌∙◌, ◌≤◌, List, [], ◌∷◌, None, Some, Ok, Err, refl, ap, inl, inr, lit<, lit≤, arith}
+use Rattle.std.proofs.Common.{◌≡◌, ℕ, ◌+◌, ◌∙◌, ◌≤◌, List, [], ◌∷◌, None, Some, Ok, Err, refl, ap}
+use Rattle.std.proofs.Common.{inl, inr, lit<, lit≤, arith}
 use Rattle.std.proofs.lemmas.Bool.{eqb-false}
 use Rattle.cb_member.specs.declared.names.Loss.{Loss}
 use Rattle.cb_member.specs.declared.no_memory.NoMemory.{NoMemory}
@@ -10,10 +11,13 @@ use Rattle.cb_world.specs.declared.shown.Shown.{Shown}
 use Rattle.cb_world.specs.Empty.{empty_far, empty_shown}
 use Rattle.cb_shared.specs.declared.answers.WriteAnswer.TheVariants as place
 use Rattle.cb_shared.specs.declared.reading.ReadAnswer.TheVariants as found
-use Rattle.cb_shared.specs.Calls.{IsAnswerTo, IsCalled, IsLack, IsNoReply, SaysAs, TellsOfIt, the_handle}
+use Rattle.cb_shared.specs.Calls.{IsAnswerTo, IsCalled, IsLack, IsNoReply, SaysAs, TellsOfIt}
+use Rattle.cb_shared.specs.Calls.{the_handle}
 use Rattle.cb_shared.specs.Reading.{IsReadRefusal}
 use Rattle.cb_shared.specs.Rights.{writes_of}
-use Rattle.cb_shared.specs.Turning.{IsReadReply, KnowsIt, PinLacks, Slate, TellsNoPin, answer_of, freed_of, held_by, made_by_turn, made_in, object_of, slate_shows}
+use Rattle.cb_shared.specs.Turning.{IsReadReply, KnowsIt, PinLacks, Slate, TellsNoPin, answer_of}
+use Rattle.cb_shared.specs.Turning.{freed_of, held_by, made_by_turn, made_in, object_of}
+use Rattle.cb_shared.specs.Turning.{slate_shows}
 use Rattle.cb_shared.specs.UnderLock.{CameThere, IsNoRead, IsReplyTo, IsTriedAgain}
 use Rattle.cb_shared.specs.Writing.{IsRoomFor, IsWriteRefusal}
 use Rattle.cb_shared.proofs.WorkedGround.{away, calm, full, made, moving, part, pinned, two}

@@ -1,6 +1,7 @@
 -- Worked steps: what each step of a pin and of a write comes to, and what breaks one of its parts
 -- alone.
-use Rattle.std.proofs.Common.{◌≡◌, ℕ, suc, ◌+◌, ◌-◌, ◌^◌, ◌<◌, ◌≤◌, false, List, [], ◌∷◌, length, refl, sym, ap, ◌∙◌, subst, inl, ⊎_elim, true≢false, lit<, lit≤, arith}
+use Rattle.std.proofs.Common.{◌≡◌, ℕ, suc, ◌+◌, ◌-◌, ◌^◌, ◌<◌, ◌≤◌, false, List, [], ◌∷◌, length}
+use Rattle.std.proofs.Common.{refl, sym, ap, ◌∙◌, subst, inl, ⊎_elim, true≢false, lit<, lit≤, arith}
 use Rattle.std.proofs.lemmas.Bool.{eqb-false}
 use mathlib.Core.Option.{none}
 use Rattle.atomic_table.specs.Seated.{TableId}
@@ -18,7 +19,8 @@ use Rattle.cb_rule.specs.Own.{IsAlone}
 use Rattle.cb_rule.specs.Rule.{AreSized}
 use Rattle.cb_rule.specs.Seats.{pins_on}
 use Rattle.cb_rule.specs.Slot.{LockSlot, Sat}
-use Rattle.cb_rule.specs.Steps.{HasLast, IsNewest, TellsPins, glanced as glance_of, held_at, version_seen, with_freed_seen, with_look, with_pin}
+use Rattle.cb_rule.specs.Steps.{HasLast, IsNewest, TellsPins, glanced as glance_of, held_at}
+use Rattle.cb_rule.specs.Steps.{version_seen, with_freed_seen, with_look, with_pin}
 use Rattle.cb_rule.specs.Words.{base}
 use Rattle.cb_shared.specs.declared.answers.PinAnswer.TheVariants as pins
 use Rattle.cb_shared.specs.declared.answers.WriteAnswer.TheVariants as writes
@@ -28,7 +30,10 @@ use Rattle.cb_shared.specs.Glances.{Glances, TakesPinAt, TellsVersion}
 use Rattle.cb_shared.specs.Pinning.{IsPinnedAt, IsRefusal, PinAt}
 use Rattle.cb_shared.specs.Places.{HoldsLock, IsOf, Moves, Place}
 use Rattle.cb_shared.specs.Writing.{IsWriteRefusal, IsWrittenAt, WriteAt, WriteClaimed, last_seen}
-use Rattle.cb_shared.proofs.WorkedGround.{a_pin, a_stand, away, calm, freed_last, full, has_last, last_is_freed, last_look, moving, newest_later, newest_made, not_second, part, part_pinned, pinned, shared_part, two, version_in, whole, words_in}
+use Rattle.cb_shared.proofs.WorkedGround.{a_pin, a_stand, away, calm, freed_last, full, has_last}
+use Rattle.cb_shared.proofs.WorkedGround.{last_is_freed, last_look, moving, newest_later}
+use Rattle.cb_shared.proofs.WorkedGround.{newest_made, not_second, part, part_pinned, pinned}
+use Rattle.cb_shared.proofs.WorkedGround.{shared_part, two, version_in, whole, words_in}
 use Rattle.cb_shared.proofs.WorkedWrites.{write_it}
 
 abbrev looks_of : View → ℕ

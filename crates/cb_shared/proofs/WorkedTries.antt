@@ -1,5 +1,6 @@
 -- Worked tries of the calls: what meets each definition, and what breaks one of its parts alone.
-use Rattle.std.proofs.Common.{◌≡◌, ℕ, ◌^◌, ◌-◌, List, [], ◌∷◌, ◌++◌, length, length-append, None, Some, refl, ap, ◌∙◌, inl, inr, lit≤, lit<, arith}
+use Rattle.std.proofs.Common.{◌≡◌, ℕ, ◌^◌, ◌-◌, List, [], ◌∷◌, ◌++◌, length, length-append, None}
+use Rattle.std.proofs.Common.{Some, refl, ap, ◌∙◌, inl, inr, lit≤, lit<, arith}
 use Rattle.std.proofs.lemmas.Bool.{eqb-false}
 use Rattle.cb_types.specs.declared.job.Job.TheVariants as jobs
 use Rattle.cb_types.specs.declared.reply.Reply.TheVariants as answer
@@ -10,10 +11,15 @@ use Rattle.cb_rule.specs.Lists.{Each}
 use Rattle.cb_rule.specs.Steps.{IsNewest, look_at, with_look}
 use Rattle.cb_record.specs.Parts.{Part, grown, nothing_more, sum}
 use Rattle.cb_shared.specs.declared.answers.WriteAnswer.TheVariants as place
-use Rattle.cb_shared.specs.Calls.{AtNone, AtThis, IsCalled, IsNoReply, IsUnanswered, IsUnfetched, IsWornOut, ReadCallEnds, ReadGives, ReadTries, TriesInVain, TurnEnds, TurnTries, WriteCallEnds, WriteFinds, WriteTries, the_handle, worn_once}
+use Rattle.cb_shared.specs.Calls.{AtNone, AtThis, IsCalled, IsNoReply, IsUnanswered, IsUnfetched}
+use Rattle.cb_shared.specs.Calls.{IsWornOut, ReadCallEnds, ReadGives, ReadTries, TriesInVain}
+use Rattle.cb_shared.specs.Calls.{TurnEnds, TurnTries, WriteCallEnds, WriteFinds, WriteTries}
+use Rattle.cb_shared.specs.Calls.{the_handle, worn_once}
 use Rattle.cb_shared.specs.Reading.{looked, looked_freed, looked_twice}
 use Rattle.cb_shared.specs.Writing.{last_seen}
-use Rattle.cb_shared.proofs.WorkedGround.{a_stand, away, calm, freed_last, has_last, knows_made, last_is_freed, moving, newest_made, part, pinned, shared_part, two, whole, word_in}
+use Rattle.cb_shared.proofs.WorkedGround.{a_stand, away, calm, freed_last, has_last, knows_made}
+use Rattle.cb_shared.proofs.WorkedGround.{last_is_freed, moving, newest_made, part, pinned}
+use Rattle.cb_shared.proofs.WorkedGround.{shared_part, two, whole, word_in}
 use Rattle.cb_shared.proofs.WorkedTurns.{adds_worn, worn_part}
 use Rattle.cb_shared.proofs.WorkedVain.{asks_turns}
 
@@ -229,7 +235,11 @@ tries_a_make : TurnTries two (jobs.Make (10 ∷ [])) (Some answer.Worn) part
     (grown (worn_part (jobs.Make (10 ∷ []))) part)
 tries_a_make = (
   worn_part (jobs.Make (10 ∷ [])),
-  (inr tt, adds_worn (jobs.Make (10 ∷ [])) part refl refl knows_made),
+  (
+    inr tt,
+    adds_worn (jobs.Make (10 ∷ [])) part refl refl knows_made
+        (record { had = refl; left = refl; old = refl; ended = refl }),
+  ),
   refl,
 )
 

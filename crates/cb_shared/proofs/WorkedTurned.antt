@@ -1,6 +1,7 @@
 -- Worked turns as they stand in a record before a freed entry is looked for: what meets the definition,
 -- and what breaks one of its parts alone.
-use Rattle.std.proofs.Common.{◌≡◌, ℕ, ◌+◌, ◌<◌, ◌≤◌, List, [], ◌∷◌, ◌++◌, length, Option, None, Some, Ok, refl, sym, ap, ◌∙◌, subst, inl, inr, lit<, lit≤, arith}
+use Rattle.std.proofs.Common.{◌≡◌, ℕ, ◌+◌, ◌<◌, ◌≤◌, List, [], ◌∷◌, ◌++◌, length, Option, None}
+use Rattle.std.proofs.Common.{Some, Ok, refl, sym, ap, ◌∙◌, subst, inl, inr, lit<, lit≤, arith}
 use Rattle.std.proofs.lemmas.Bool.{eqb-false}
 use Rattle.cb_member.specs.declared.names.Loss.{Loss}
 use Rattle.cb_types.specs.declared.handle.SetId.{SetId}
@@ -27,7 +28,7 @@ use Rattle.cb_shared.specs.UnderLock.{TurnedBy}
 use Rattle.cb_shared.proofs.WorkedGround.{knows_made, made, not_new, part, part_pinned}
 use Rattle.cb_shared.proofs.WorkedGround as ground
 use Rattle.cb_shared.proofs.WorkedSeat.{tells}
-use Rattle.cb_shared.proofs.WorkedTurns.{aged, worn_turn}
+use Rattle.cb_shared.proofs.WorkedTurns.{aged, noted, worn_turn}
 
 -- a turn that was refused for its number, behind what a record has
 abbrev refused : Turn
@@ -53,6 +54,7 @@ turned = record {
   did = worn refl refl refl (refl, tt);
   next = inr (refl, refl);
   wrote = refl;
+  notes = noted;
   new = tt;
   pins = tt;
   made = λ h known. subst (λ (n : ℕ). 1 ≤ version_at aged n) (knows_made h known) (lit≤ tt);

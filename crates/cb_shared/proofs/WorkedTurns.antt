@@ -1,5 +1,7 @@
 -- Worked turns: what meets each definition, and what breaks one of its parts alone.
-use Rattle.std.proofs.Common.{◌≡◌, ℕ, ◌+◌, ◌^◌, ◌≤◌, true, false, List, [], ◌∷◌, ◌++◌, length, replicate, Option, None, Some, Ok, refl, sym, ap, ◌∙◌, subst, inl, inr, lit≤, arith}
+use Rattle.std.proofs.Common.{◌≡◌, ℕ, ◌+◌, ◌^◌, ◌≤◌, true, false, List, [], ◌∷◌, ◌++◌, length}
+use Rattle.std.proofs.Common.{replicate, Option, None, Some, Ok, refl, sym, ap, ◌∙◌, subst, inl}
+use Rattle.std.proofs.Common.{inr, lit≤, arith}
 use Rattle.std.proofs.lemmas.Bool.{eqb-false}
 use Rattle.cb_ptr.specs.Word.{state_number, state_of}
 use Rattle.cb_types.specs.declared.config.Config.{Config}
@@ -24,8 +26,13 @@ use Rattle.cb_rule.specs.Lists.{Has}
 use Rattle.cb_rule.specs.Steps.{AreNew, Knows, look_at, opener}
 use Rattle.cb_record.specs.Parts.{Part, grown, nothing_more}
 use Rattle.cb_shared.specs.Trying.{newest_tries, tries_of}
-use Rattle.cb_shared.specs.Turning.{AreLooksAt, CountsPins, Did, JobReads, KnowsOf, PinsTold, ReadsByPin, Slate, TellsNoPin, TurnAdds, TurnBy, freed_of, held_by, made_by_turn, object_of, slate_run, turn_part}
-use Rattle.cb_shared.proofs.WorkedGround.{a_stand, freed_last, has_last, knows_made, last_is_freed, made, not_after, not_new, owner, part, part_pinned, shared_part, two, whole, whole_pinned}
+use Rattle.cb_shared.specs.Turning.{AreLooksAt, CountsPins, Did, JobReads, KnowsOf, NotesWritten}
+use Rattle.cb_shared.specs.Turning.{PinsTold, ReadsByPin, Slate, TellsNoPin, TurnAdds, TurnBy}
+use Rattle.cb_shared.specs.Turning.{freed_of, held_by, made_by_turn, object_of, slate_run}
+use Rattle.cb_shared.specs.Turning.{turn_part}
+use Rattle.cb_shared.proofs.WorkedGround.{a_stand, freed_last, has_last, knows_made, last_is_freed}
+use Rattle.cb_shared.proofs.WorkedGround.{made, not_after, not_new, owner, part, part_pinned}
+use Rattle.cb_shared.proofs.WorkedGround.{shared_part, two, whole, whole_pinned}
 
 abbrev one : Handle
 one = record { n = 1 }
@@ -74,6 +81,10 @@ refused = record {
   start = aged;
   since = 4;
   until = 4;
+  had = made ∷ [];
+  left = made ∷ [];
+  old = [];
+  ended = 0;
   acts = [];
   took = full;
   gave = full;
@@ -250,11 +261,34 @@ worn_counts (job.Filter h) v = tt
 worn_counts j v = tt
 
 -- ---- what a turn adds
-abbrev added : Part
+abbrev pub added : Part
 added = turn_part refused [] nothing_more nothing_more
 
 was_made : (h : ℕ) → 1 ≡ h → 1 ≤ version_at aged h
 was_made h is = subst (λ (n : ℕ). 1 ≤ version_at aged n) is (lit≤ tt)
+
+-- it notes what the record had
+pub noted : NotesWritten refused [] part
+noted = record { had = refl; left = refl; old = refl; ended = refl }
+
+notes_nothing_had : NotesWritten (record refused { had = [] }) [] part → ⊥
+notes_nothing_had n = eqb-false 0 1 refl (ap length n.had)
+
+notes_nothing_left : NotesWritten (record refused { left = [] }) [] part → ⊥
+notes_nothing_left n = eqb-false 0 1 refl (ap length n.left)
+
+-- the record has a turn behind which it wrote nothing, so that all that it has is old
+abbrev turned_before : View
+turned_before = record part { turns = refused ∷ [] }
+
+noted_old : NotesWritten (record refused { old = made ∷ []; ended = 4 }) [] turned_before
+noted_old = record { had = refl; left = refl; old = refl; ended = refl }
+
+notes_nothing_old : NotesWritten (record refused { ended = 4 }) [] turned_before → ⊥
+notes_nothing_old n = eqb-false 0 1 refl (ap length n.old)
+
+notes_no_end : NotesWritten (record refused { old = made ∷ [] }) [] turned_before → ⊥
+notes_no_end n = eqb-false 0 4 refl n.ended
 
 adds_refused : TurnAdds two job.Evict (Ok answer.Worn) part added
 adds_refused = record {
@@ -268,6 +302,7 @@ adds_refused = record {
   did = refused_did;
   next = inr (refl, refl);
   wrote = refl;
+  notes = noted;
   new = tt;
   pins = tt;
   made = λ h known. was_made h (knows_made h known);
@@ -287,7 +322,7 @@ adds_refused = record {
     no_one : {h : ℕ} → None ≡ Some h → ⊥
     no_one e = cc
 
-adds_by : TurnBy two job.Evict (Ok answer.Worn) part (grown added part)
+pub adds_by : TurnBy two job.Evict (Ok answer.Worn) part (grown added part)
 adds_by = (added, adds_refused, refl)
 
 -- of another job, or another reply
@@ -349,6 +384,19 @@ adds_to_nothing a = let low : 1 ≤ 0 = subst (λ (t : Turn). 1 ≤ version_at t
     first [] = refused
     first (t ∷ ts) = t
 
+-- a turn that notes nothing of what the record had
+abbrev unnoted : Turn
+unnoted = record refused { had = [] }
+
+adds_unnoted : TurnAdds two job.Evict (Ok answer.Worn) part (record added { turns = unnoted ∷ [] })
+    → ⊥
+adds_unnoted a = eqb-false 0 1 refl
+    (ap length (ap had_first (ap (λ (d : Part). d.turns) a.part) ∙ a.notes.had))
+  where
+    had_first : List Turn → List Entry
+    had_first [] = []
+    had_first (t ∷ ts) = t.had
+
 -- two turns
 adds_two : TurnAdds two job.Evict (Ok answer.Worn) part (record added { turns = refused ∷ refused ∷ [] })
     → ⊥
@@ -374,8 +422,8 @@ worn_part j = turn_part (worn_turn j) [] nothing_more nothing_more
 
 pub adds_worn : (j : Job) (v : View) → OutcomeWrites j (Ok answer.Worn) []
     → JobReads j [] (Ok answer.Worn) v nothing_more → ((h : ℕ) → Knows h v → 1 ≡ h)
-    → TurnAdds two j (Ok answer.Worn) v (worn_part j)
-adds_worn j v wrote reads knows = record {
+    → NotesWritten (worn_turn j) [] v → TurnAdds two j (Ok answer.Worn) v (worn_part j)
+adds_worn j v wrote reads knows notes = record {
   turn = worn_turn j;
   more = [];
   within = nothing_more;
@@ -386,6 +434,7 @@ adds_worn j v wrote reads knows = record {
   did = worn refl refl refl (refl, tt);
   next = inr (refl, refl);
   wrote = wrote;
+  notes = notes;
   new = tt;
   pins = worn_counts j v;
   made = λ h known. was_made h (knows h known);

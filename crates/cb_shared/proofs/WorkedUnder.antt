@@ -1,8 +1,10 @@
 -- Worked examples of what stands under the far lock: what meets each definition, and what breaks one
 -- of its parts alone.
-use Rattle.std.proofs.Common.{◌≡◌, ℕ, ◌^◌, ◌≤◌, false, [], ◌∷◌, length, replicate, Some, Ok, refl, sym, ap, ◌∙◌, subst, inl, inr, true≢false, lit<, lit≤, arith}
+use Rattle.std.proofs.Common.{◌≡◌, ℕ, ◌^◌, ◌≤◌, false, [], ◌∷◌, length, replicate, Some, Ok, refl}
+use Rattle.std.proofs.Common.{sym, ap, ◌∙◌, subst, inl, inr, true≢false, lit<, lit≤, arith}
 use Rattle.std.proofs.lemmas.Bool.{eqb-false}
-use Rattle.cb_types.specs.declared.config.Field.TheVariants.{K, R, Nodes, Frames, Room, Handles, Turns}
+use Rattle.cb_types.specs.declared.config.Field.TheVariants.{K, R, Nodes, Frames, Room, Handles}
+use Rattle.cb_types.specs.declared.config.Field.TheVariants.{Turns}
 use Rattle.cb_types.specs.Config.{IsAccepted}
 use Rattle.cb_types.specs.declared.job.Job.TheVariants as job
 use Rattle.cb_types.specs.declared.reply.Reply.TheVariants as answer
@@ -22,7 +24,8 @@ use Rattle.cb_rule.proofs.Laws.{stood_empty}
 use Rattle.cb_shared.specs.declared.reading.ReadAnswer.TheVariants as found
 use Rattle.cb_shared.specs.Calls.{the_handle}
 use Rattle.cb_shared.specs.Places.{Place}
-use Rattle.cb_shared.specs.UnderLock.{CameThere, IsBeginning, IsBelow, IsEnding, IsNoRead, IsReplyTo, IsTriedAgain, TakesLock}
+use Rattle.cb_shared.specs.UnderLock.{CameThere, IsBeginning, IsBelow, IsEnding, IsNoRead}
+use Rattle.cb_shared.specs.UnderLock.{IsReplyTo, IsTriedAgain, TakesLock}
 use Rattle.cb_shared.proofs.WorkedGround.{made, part, two}
 
 accepted : IsAccepted two

@@ -1,20 +1,25 @@
 -- Worked tries in vain, and reads by turns: what meets each definition, and what breaks one of its
 -- parts alone.
-use Rattle.std.proofs.Common.{◌≡◌, ℕ, List, [], ◌∷◌, ◌++◌, length, length-append, None, Some, Option, refl, sym, ap, ◌∙◌, subst, inl, inr, lit≤, arith}
+use Rattle.std.proofs.Common.{◌≡◌, ℕ, true, false, List, [], ◌∷◌, ◌++◌, length, length-append, None}
+use Rattle.std.proofs.Common.{Some, Option, refl, sym, ap, ◌∙◌, subst, inl, inr, lit≤, arith}
 use Rattle.std.proofs.lemmas.Bool.{eqb-false}
 use Rattle.std.proofs.lemmas.Option.{none-some, same_Some}
 use Rattle.cb_types.specs.declared.config.Config.{Config}
 use Rattle.cb_types.specs.declared.job.Job.{Job}
 use Rattle.cb_types.specs.declared.job.Job.TheVariants as jobs
+use Rattle.cb_types.specs.Jobs.{job_index}
 use Rattle.cb_types.specs.declared.reply.Reply.{Reply}
 use Rattle.cb_types.specs.declared.reply.Reply.TheVariants as answer
 use Rattle.cb_rule.specs.declared.turn.Turn.{Turn}
 use Rattle.cb_rule.specs.declared.view.View.{View}
-use Rattle.cb_rule.specs.Steps.{look_at}
 use Rattle.cb_record.specs.Parts.{Part, grown, nothing_more, sum}
-use Rattle.cb_shared.specs.Calls.{AsksFor, AtThis, IsAnswerTo, IsFetch, IsFetchForWant, IsForWant, IsInVain, IsUnanswered, IsUnfetched, LooksOf, ReadCallEnds, ReadStops, ReadsInPlace, StopsInVain, TellsWhatIs, the_handle}
+use Rattle.cb_shared.specs.Calls.{AsksFor, AtThis, IsAnswerTo, IsFetch, IsFetchForWant, IsForWant}
+use Rattle.cb_shared.specs.Calls.{IsInVain, IsUnanswered, IsUnfetched, LooksOf, ReadCallEnds}
+use Rattle.cb_shared.specs.Calls.{ReadStops, ReadsInPlace, StopsInVain, TellsWhatIs, the_handle}
+use Rattle.cb_shared.specs.Fetching.{AreFetches, GetsTurns, brought_in_by}
 use Rattle.cb_shared.specs.Reading.{looked, looked_freed}
 use Rattle.cb_shared.proofs.WorkedGround.{away, knows_made, moving, newest_made, part, two}
+use Rattle.cb_shared.proofs.WorkedCalls.{in_vain}
 use Rattle.cb_shared.proofs.WorkedTurns.{adds_worn, worn_part, worn_turn}
 
 abbrev swap : Job
@@ -68,6 +73,31 @@ another_object (inr e) = eqb-false 0 1 refl (ap number e)
 another_job : IsFetch 1 jobs.Evict → ⊥
 another_job (inl e) = eqb-false 2 1 refl (ap number e)
 another_job (inr e) = eqb-false 2 1 refl (ap number e)
+
+-- a turn Swap that brought the object in, and behind it a turn Read; each turn of a read has its job
+-- by those before it
+brings_it_in : brought_in_by false (told swap (Some (answer.Swapped 0)) ∷ []) ≡ true
+brings_it_in = refl
+
+was_there : brought_in_by false (told swap (Some answer.Stays) ∷ []) ≡ true
+was_there = refl
+
+brings_nothing : brought_in_by false (told swap (Some answer.Moving) ∷ told swap None ∷ []) ≡ false
+brings_nothing = refl
+
+then_reads : AreFetches 1 false
+    (told read (Some answer.Moving) ∷ told swap (Some (answer.Swapped 0)) ∷ [])
+then_reads = (refl, (refl, tt))
+
+swaps_again : AreFetches 1 false
+    (told swap None ∷ told swap (Some (answer.Swapped 0)) ∷ []) → ⊥
+swaps_again x = eqb-false 4 1 refl (ap job_index x.0)
+
+reads_at_once : AreFetches 1 false (told read (Some answer.Moving) ∷ []) → ⊥
+reads_at_once x = eqb-false 1 4 refl (ap job_index x.0)
+
+of_its_turn : GetsTurns (AreFetches 1 false) part (record part { turns = told swap None ∷ [] })
+of_its_turn = (told swap None ∷ [], refl, (refl, tt))
 
 -- a read looks at its object
 looks_at_it : LooksOf read 1
@@ -132,16 +162,6 @@ a_read_of_another_found_none (j, fetch, (e, is)) =
 
 -- ---- a read that stopped for want of memory: a look that found the object moving, then a turn Swap
 -- that found none
-in_vain : IsInVain (AtThis 1) (IsUnfetched two 1) (looked 1 moving)
-in_vain = record {
-  looks = look_at 1 moving ∷ [];
-  turns = [];
-  at = (refl, tt);
-  of = tt;
-  idle = tt;
-  part = refl;
-}
-
 wants : IsInVain (AtThis 1) (IsFetchForWant 1) (turned (told swap None))
 wants = record {
   looks = [];
@@ -156,7 +176,7 @@ stops : ReadStops two 1 part (grown (turned (told swap None)) (grown (looked 1 m
 stops = record {
   between = grown (looked 1 moving) part;
   last = turned (told swap None);
-  tries = (looked 1 moving, in_vain, refl);
+  tries = (looked 1 moving, in_vain two, refl);
   lacks = wants;
   one = lit≤ tt;
   left = refl;
@@ -201,7 +221,11 @@ ends_by_swap = inr (
     word = away;
     later = worn_part swap;
     away = refl;
-    turned = (tt, adds_worn swap (grown (looked 1 away) part) refl refl knows_made);
+    turned = (
+      tt,
+      adds_worn swap (grown (looked 1 away) part) refl refl knows_made
+          (record { had = refl; left = refl; old = refl; ended = refl }),
+    );
     part = refl;
   },
 )
@@ -214,7 +238,11 @@ ends_by_read = inr (
     word = away;
     later = worn_part read;
     away = refl;
-    turned = (inr tt, adds_worn read (grown (looked 1 away) part) refl (inl (refl, tt)) knows_made);
+    turned = (
+      inr tt,
+      adds_worn read (grown (looked 1 away) part) refl (inl (refl, tt))
+          knows_made (record { had = refl; left = refl; old = refl; ended = refl }),
+    );
     part = refl;
   },
 )

@@ -1,5 +1,6 @@
 -- Worked writes: what meets each definition, and what breaks one of its parts alone.
-use Rattle.std.proofs.Common.{◌≡◌, ◌⊎◌, ℕ, zero, suc, ◌+◌, ◌<◌, ◌≤◌, List, [], ◌∷◌, length, get_or, refl, sym, ap, ◌∙◌, subst, inl, inr, ⊎_elim, lit<, lit≤, arith}
+use Rattle.std.proofs.Common.{◌≡◌, ◌⊎◌, ℕ, zero, suc, ◌+◌, ◌<◌, ◌≤◌, List, [], ◌∷◌, length, get_or}
+use Rattle.std.proofs.Common.{refl, sym, ap, ◌∙◌, subst, inl, inr, ⊎_elim, lit<, lit≤, arith}
 use Rattle.std.proofs.lemmas.Bool.{eqb-false}
 use Rattle.cb_ptr.specs.Word.{len_of, pins_of, state_number}
 use Rattle.cb_world.specs.Memory.{memory_byte}
@@ -7,9 +8,14 @@ use Rattle.cb_world.specs.Write.{IsWrite}
 use Rattle.cb_world.specs.Written.{entry}
 use Rattle.cb_rule.specs.declared.view.View.{View}
 use Rattle.cb_rule.specs.Steps.{HasLast, IsNewest, version_seen, with_freed_seen, with_look}
-use Rattle.cb_shared.specs.declared.answers.WriteAnswer.TheVariants.{Ok, Freed, NotHere, Moving, Range, Pinned, Worn, Raced}
-use Rattle.cb_shared.specs.Writing.{IsPastEnd, IsPinnedSo, IsWorn, IsWrittenHere, WriteGives, last_seen}
-use Rattle.cb_shared.proofs.WorkedGround.{a_stand, away, calm, freed_last, has_last, last_is_freed, last_look, last_state, made, moving, newest_later, newest_made, newest_whole, not_foreign, not_second, owner, part, pinned, shared_part, version_in, whole, words_in}
+use Rattle.cb_shared.specs.declared.answers.WriteAnswer.TheVariants.{Ok, Freed, NotHere, Moving}
+use Rattle.cb_shared.specs.declared.answers.WriteAnswer.TheVariants.{Range, Pinned, Worn, Raced}
+use Rattle.cb_shared.specs.Writing.{IsPastEnd, IsPinnedSo, IsWorn, IsWrittenHere, WriteGives}
+use Rattle.cb_shared.specs.Writing.{last_seen}
+use Rattle.cb_shared.proofs.WorkedGround.{a_stand, away, calm, freed_last, has_last, last_is_freed}
+use Rattle.cb_shared.proofs.WorkedGround.{last_look, last_state, made, moving, newest_later}
+use Rattle.cb_shared.proofs.WorkedGround.{newest_made, newest_whole, not_foreign, not_second, owner}
+use Rattle.cb_shared.proofs.WorkedGround.{part, pinned, shared_part, version_in, whole, words_in}
 
 abbrev looks_of : View → ℕ
 looks_of v = length v.looks

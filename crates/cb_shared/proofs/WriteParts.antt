@@ -1,5 +1,6 @@
 -- The parts of writes in place, and of writes that try again.
-use Rattle.std.proofs.Common.{◌≡◌, ℕ, ◌+◌, List, [], ◌∷◌, Option, None, Some, refl, ap, ◌∙◌, subst, arith, inl, inr}
+use Rattle.std.proofs.Common.{◌≡◌, ℕ, ◌+◌, List, [], ◌∷◌, Option, None, Some, refl, ap, ◌∙◌, subst}
+use Rattle.std.proofs.Common.{arith, inl, inr}
 use Rattle.cb_types.specs.declared.config.Config.{Config}
 use Rattle.cb_types.specs.declared.job.Job.TheVariants as jobs
 use Rattle.cb_types.specs.declared.reply.Reply.{Reply}
@@ -10,11 +11,15 @@ use Rattle.cb_rule.specs.declared.view.View.{View}
 use Rattle.cb_rule.specs.Steps.{look_at, with_look}
 use Rattle.cb_shared.specs.declared.answers.WriteAnswer.{WriteAnswer}
 use Rattle.cb_shared.specs.declared.answers.WriteAnswer.TheVariants as place
-use Rattle.cb_shared.specs.Calls.{AtNone, AtThis, IsForWant, IsNoReply, IsUnanswered, SaysAs, TriesInVain, TurnStops, TurnTries, WriteAnswers, WriteCallEnds, WriteFinds, WriteStops, WriteTries, the_handle, worn_once, written_once}
+use Rattle.cb_shared.specs.Calls.{AtNone, AtThis, IsForWant, IsNoReply, IsUnanswered, SaysAs}
+use Rattle.cb_shared.specs.Calls.{TriesInVain, TurnStops, TurnTries, WriteAnswers, WriteCallEnds}
+use Rattle.cb_shared.specs.Calls.{WriteFinds, WriteStops, WriteTries, the_handle, worn_once}
+use Rattle.cb_shared.specs.Calls.{written_once}
 use Rattle.cb_record.specs.Parts.{Part, Grows, grown}
 use Rattle.cb_shared.specs.Reading.{looked, looked_freed, looked_twice}
 use Rattle.cb_shared.specs.Writing.{WriteGives, last_seen}
-use Rattle.cb_shared.proofs.CallSteps.{ends_after, look_asks, look_stops, look_tries, stops_wider, tries_then, tries_wider, vain_look}
+use Rattle.cb_shared.proofs.CallSteps.{ends_after, look_asks, look_stops, look_tries, stops_wider}
+use Rattle.cb_shared.proofs.CallSteps.{tries_then, tries_wider, vain_look}
 use Rattle.cb_shared.proofs.ReadSteps.{freed_part, look_part, twice_part}
 
 written_part : (h word version : ℕ) (old new : List ℕ) (v : View)

@@ -1,5 +1,6 @@
 -- What the calls that try again until they are answered add to the record of their pass.
-use Rattle.std.specs.Prelude.{◌≡◌, ◌⊎◌, ℕ, ◌+◌, ◌-◌, ◌^◌, ◌≤◌, false, List, [], ◌∷◌, length, Option, None, Some, Ok}
+use Rattle.std.specs.Prelude.{◌≡◌, ◌⊎◌, ℕ, ◌+◌, ◌-◌, ◌^◌, ◌≤◌, false, List, [], ◌∷◌, length, Option}
+use Rattle.std.specs.Prelude.{None, Some, Ok}
 use Rattle.cb_types.specs.declared.config.Config.{Config}
 use Rattle.cb_types.specs.declared.handle.Handle.{Handle}
 use Rattle.cb_types.specs.declared.job.Job.{Job}
@@ -22,7 +23,8 @@ use Rattle.cb_shared.specs.Glances.{IsLastAlone}
 use Rattle.cb_record.specs.Deeds.{deed, happened}
 use Rattle.cb_record.specs.Parts.{Part, Grows, grown, nothing_more, sum}
 pub use Rattle.cb_shared.specs.Trying.{is_to_try_again, may_come_loose, newest_tries}
-use Rattle.cb_shared.specs.Reading.{FindsGone, FindsOther, FindsWord, IsReadHere, looked, looked_twice}
+use Rattle.cb_shared.specs.Reading.{FindsGone, FindsOther, FindsWord, IsReadHere, looked}
+use Rattle.cb_shared.specs.Reading.{looked_twice}
 use Rattle.cb_shared.specs.Turning.{TurnAdds, made_by_turn, with_own}
 use Rattle.cb_shared.specs.Writing.{IsPastEnd, IsPinnedSo, IsRoomFor, last_seen}
 

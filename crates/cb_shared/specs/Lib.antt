@@ -15,7 +15,9 @@ pub mod Reading
 pub mod Turning
 pub mod Making
 pub mod UnderLock
+pub mod Seeking
 pub mod Sealing
 pub mod Closing
 pub mod Rights
 pub mod Calls
+pub mod Fetching

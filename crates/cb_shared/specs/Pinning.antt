@@ -5,7 +5,8 @@ use Rattle.cb_ptr.specs.Word.{state_of, len_of, place_of, pins_of}
 use Rattle.cb_rule.specs.declared.view.View.{View}
 use Rattle.cb_rule.specs.Steps.{IsNewest, with_freed_seen, with_look, with_pin}
 use Rattle.cb_shared.specs.declared.answers.PinAnswer.{PinAnswer}
-use Rattle.cb_shared.specs.declared.answers.PinAnswer.TheVariants.{Pinned, ScopeFull, Freed, NotHere, Moving, Crowded, Raced}
+use Rattle.cb_shared.specs.declared.answers.PinAnswer.TheVariants.{Pinned, ScopeFull, Freed}
+use Rattle.cb_shared.specs.declared.answers.PinAnswer.TheVariants.{NotHere, Moving, Crowded, Raced}
 use Rattle.cb_shared.specs.declared.pass.Pin.{Pin}
 
 -- the call looked at the word of h once, and found one that has the property

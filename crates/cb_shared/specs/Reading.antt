@@ -8,7 +8,8 @@ use Rattle.cb_rule.specs.declared.view.View.{View}
 use Rattle.cb_rule.specs.Lists.{Has}
 use Rattle.cb_rule.specs.Steps.{IsNewest, freed_seen, look_at, version_seen, with_look}
 use Rattle.cb_shared.specs.declared.reading.ReadAnswer.{ReadAnswer}
-use Rattle.cb_shared.specs.declared.reading.ReadAnswer.TheVariants.{Bytes, Freed, NotHere, Moving, Crowded, Raced}
+use Rattle.cb_shared.specs.declared.reading.ReadAnswer.TheVariants.{Bytes, Freed, NotHere, Moving}
+use Rattle.cb_shared.specs.declared.reading.ReadAnswer.TheVariants.{Crowded, Raced}
 use Rattle.cb_record.specs.Parts.{Part, grown, nothing_more}
 use Rattle.cb_shared.specs.Places.{Moves, Place}
 

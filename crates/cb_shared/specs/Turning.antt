@@ -1,5 +1,6 @@
 -- What a turn under the far lock did, and what it leaves of the record of its pass.
-use Rattle.std.specs.Prelude.{◌≡◌, ◌⊎◌, ℕ, ◌≤◌, List, [], ◌∷◌, ◌++◌, Option, None, Some, Result, Ok, Err, IfOk}
+use Rattle.std.specs.Prelude.{◌≡◌, ◌⊎◌, ℕ, ◌≤◌, List, [], ◌∷◌, ◌++◌, Option, None, Some, Result, Ok}
+use Rattle.std.specs.Prelude.{Err, IfOk}
 use Rattle.cb_member.specs.declared.no_memory.NoMemory.{NoMemory}
 use Rattle.cb_ptr.specs.declared.word.State.TheVariants as state
 use Rattle.cb_ptr.specs.Word.{state_of}
@@ -24,6 +25,7 @@ use Rattle.cb_rule.specs.declared.view.Look.{Look}
 use Rattle.cb_rule.specs.declared.view.View.{View}
 use Rattle.cb_rule.specs.Lists.{Each}
 use Rattle.cb_rule.specs.Own.{IsAlone}
+use Rattle.cb_rule.specs.Records.{ended_by, old_by}
 use Rattle.cb_rule.specs.Seats.{pins_on}
 use Rattle.cb_rule.specs.Steps.{AreNew, Knows}
 use Rattle.cb_shared.specs.declared.reading.ReadAnswer.{ReadAnswer}
@@ -191,6 +193,15 @@ turn_part t more within later =
 abbrev pub with_own : List ℕ → View → View
 with_own made v = record v { own = made ++ v.own }
 
+-- The turn notes which entries its record had as written when it began and, behind what it wrote
+-- itself, when it ended; and of those at its begin which ones the record had when its turn before
+-- ended or when it last took another in, with how many entries the history had when that turn ended.
+pub record NotesWritten (turn : Turn) (more : List Entry) (v : View) : Type 0 where
+  pub had : turn.had ≡ v.written
+  pub left : turn.left ≡ more ++ v.written
+  pub old : turn.old ≡ old_by v.base v.turns
+  pub ended : turn.ended ≡ ended_by v.turns
+
 -- What a turn adds to the record v of its pass. It stands there with its job, its reply, what was
 -- known when it began, its events, and the far states that it took and gave, which are those of one
 -- turn more. What it wrote is that of its reply, and new to the record: one above the greatest
@@ -209,6 +220,7 @@ pub record TurnAdds (c : Config) (job : Job) (r : Result Reply NoMemory) (v : Vi
   pub did : Did c turn
   pub next : IsOneTurnOn turn.took turn.gave
   pub wrote : OutcomeWrites job r more
+  pub notes : NotesWritten turn more v
   pub new : AreNew more v
   pub pins : CountsPins job r v
   pub made : (h : ℕ) → Knows h v → 1 ≤ version_at turn.start h

@@ -1,5 +1,6 @@
 -- What the parts of a turn come to, from taking the far lock to giving it back.
-use Rattle.std.specs.Prelude.{◌≡◌, ℕ, ◌<◌, ◌≤◌, true, List, [], ◌∷◌, ◌++◌, Option, None, Some, Result, Ok, Err, IfOk}
+use Rattle.std.specs.Prelude.{◌≡◌, ℕ, ◌<◌, ◌≤◌, true, List, [], ◌∷◌, ◌++◌, Option, None, Some}
+use Rattle.std.specs.Prelude.{Result, Ok, Err, IfOk}
 use Rattle.cb_member.specs.declared.no_memory.NoMemory.{NoMemory}
 use Rattle.cb_types.specs.declared.config.Config.{Config}
 use Rattle.cb_types.specs.declared.handle.Handle.{Handle}
@@ -22,7 +23,8 @@ use Rattle.cb_rule.specs.declared.view.Seen.{Seen}
 use Rattle.cb_rule.specs.declared.view.View.{View}
 use Rattle.cb_rule.specs.Lists.{Each}
 use Rattle.cb_rule.specs.Locking.{Stood}
-use Rattle.cb_rule.specs.LockSteps.{AddsTurn, HasTaken, ReadsTold, WritesTold, gave_lock, took_lock, turn_of}
+use Rattle.cb_rule.specs.LockSteps.{AddsTurn, HasTaken, ReadsTold, WritesTold, gave_lock, took_lock}
+use Rattle.cb_rule.specs.LockSteps.{turn_of}
 use Rattle.cb_rule.specs.Own.{Make}
 use Rattle.cb_rule.specs.Rule.{AreSized}
 use Rattle.cb_rule.specs.Slot.{LockSlot}
@@ -32,7 +34,9 @@ use Rattle.cb_shared.specs.declared.reading.ReadAnswer.TheVariants as found
 use Rattle.cb_record.specs.Parts.{Part, grown, nothing_more}
 use Rattle.cb_shared.specs.Places.{Moves, Place}
 use Rattle.cb_shared.specs.SeatLaws.{Runs}
-use Rattle.cb_shared.specs.Turning.{CountsPins, Did, DidAs, FindsAtLast, FindsFreedAfter, JobReads, Tries, answer_of, held_by, made_by_turn, slate_run, slate_shows, turn_part, with_own}
+use Rattle.cb_shared.specs.Turning.{CountsPins, Did, DidAs, FindsAtLast, FindsFreedAfter, JobReads}
+use Rattle.cb_shared.specs.Turning.{NotesWritten, Tries, answer_of, held_by, made_by_turn}
+use Rattle.cb_shared.specs.Turning.{slate_run, slate_shows, turn_part, with_own}
 
 -- the same seat, with this view and these slots in hand
 abbrev pub IsAt : Place → Place → View → List (ℕ × LockSlot) → Type 0
@@ -224,6 +228,7 @@ pub record TurnedBy (c : Config) (job : Job) (r : Result Reply NoMemory) (v w : 
   pub did : Did c turn
   pub next : IsOneTurnOn turn.took turn.gave
   pub wrote : OutcomeWrites job r more
+  pub notes : NotesWritten turn more v
   pub new : AreNew more v
   pub pins : CountsPins job r v
   pub made : (h : ℕ) → Knows h v → 1 ≤ version_at turn.start h

@@ -10,7 +10,8 @@ use Rattle.cb_rule.specs.Own.{IsAlone}
 use Rattle.cb_rule.specs.Seats.{pins_on}
 use Rattle.cb_rule.specs.Steps.{IsNewest, version_seen, with_look}
 use Rattle.cb_shared.specs.declared.answers.WriteAnswer.{WriteAnswer}
-use Rattle.cb_shared.specs.declared.answers.WriteAnswer.TheVariants.{Ok, Freed, NotHere, Moving, Range, Pinned, Worn, Raced}
+use Rattle.cb_shared.specs.declared.answers.WriteAnswer.TheVariants.{Ok, Freed, NotHere, Moving}
+use Rattle.cb_shared.specs.declared.answers.WriteAnswer.TheVariants.{Range, Pinned, Worn, Raced}
 use Rattle.cb_shared.specs.Glances.{IsLastAlone}
 use Rattle.cb_shared.specs.Pinning.{LooksOnce, FindsFreed, LoosesRace}
 use Rattle.cb_shared.specs.Places.{Place, Moves}

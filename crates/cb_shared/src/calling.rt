@@ -6,8 +6,13 @@ ghost use Rattle.cb_types.specs.declared.reply.Reply.{Reply};
 ghost use Rattle.cb_shared.specs.declared.answers.WriteAnswer.TheVariants as places;
 ghost use Rattle.cb_core.specs.Jobs.{IsJob};
 ghost use Rattle.cb_rule.specs.Steps.{Knows};
-ghost use Rattle.cb_shared.specs.Calls.{IsAnswerTo, IsCalled, IsFetch, IsLack, IsNoReply, ReadGives, ReadStops, ReadTries, SaysAs, TellsOfIt, TellsWhatIs, TurnGives, TurnStops, TurnTries, WriteAnswers, WriteStops, WriteTries, is_to_try_again, may_come_loose};
+ghost use Rattle.cb_shared.specs.Calls.{IsAnswerTo, IsCalled, IsLack, IsNoReply, ReadGives};
+ghost use Rattle.cb_shared.specs.Calls.{ReadStops, ReadTries, SaysAs, TellsOfIt, TellsWhatIs};
+ghost use Rattle.cb_shared.specs.Calls.{TurnGives, TurnStops, TurnTries, WriteAnswers, WriteStops};
+ghost use Rattle.cb_shared.specs.Calls.{WriteTries, is_to_try_again, may_come_loose};
 ghost use Rattle.cb_record.specs.Parts.{Part, Grows};
+ghost use Rattle.cb_shared.specs.Fetching.{AreFetches, AreFetchesTo, GetsTurns, IsOneMore, IsOneOf};
+ghost use Rattle.cb_shared.specs.Fetching.{job_to_fetch};
 ghost use Rattle.cb_shared.specs.Making.{MakesNew, TriesNew};
 ghost use Rattle.cb_shared.specs.Passes.{IsPassOf};
 ghost use Rattle.cb_shared.specs.Reading.{ReadFinds, looked};
@@ -51,6 +56,7 @@ impl Shared {
             pass.old.seat.me.0 pass.new.seat.me.0) }
         ensures error { OnErr result (ReadStops self.now.config h.n pass.old.seat.me.0
             pass.new.seat.me.0) }
+        ensures jobs { GetsTurns (AreFetches h.n false) pass.old.seat.me.0 pass.new.seat.me.0 }
     {
         let mut patience = Patience::new();
         for _ in rt.forever() {
@@ -205,8 +211,11 @@ impl Shared {
             pass.old.seat.me.0) }
         ensures error { OnErr result (TurnStops self.now.config job.now pass.old.seat.me.0
             pass.new.seat.me.0) }
+        ensures one { GetsTurns (IsOneOf job.now) pass.old.seat.me.0 pass.new.seat.me.0 }
+        ensures brought { IfOk result (λ o. o ≡ None → GetsTurns (IsOneMore job.now
+            patience.old.brought patience.new.brought) pass.old.seat.me.0 pass.new.seat.me.0) }
     {
-        let reply = self.turn(rt, alloc, pass, job)?;
+        let reply = self.turn_within(rt, alloc, pass, job)?;
         if is_answer(&self.config, job, &reply) {
             Ok(Some(reply))
         } else {
@@ -232,6 +241,10 @@ impl Shared {
             pass.new.seat.me.0) }
         ensures error { OnErr result (ReadStops self.now.config h.n pass.old.seat.me.0
             pass.new.seat.me.0) }
+        ensures jobs { GetsTurns (AreFetches h.n patience.old.brought) pass.old.seat.me.0
+            pass.new.seat.me.0 }
+        ensures brought { IfOk result (λ o. o ≡ None → GetsTurns (AreFetchesTo h.n
+            patience.old.brought patience.new.brought) pass.old.seat.me.0 pass.new.seat.me.0) }
     {
         match self.read_beside(alloc, pass, h)? {
             ReadAnswer::Bytes { version, bytes } => Ok(Some(Reply::Bytes { version, bytes })),
@@ -302,7 +315,7 @@ impl Shared {
 /// The job of a read whose object is far: Swap, and Read where it was brought in before and has
 /// left again. Nobody can take the object away between the two parts of a turn Read.
 fn fetch_job(h: Handle, patience: &Patience) -> Job
-    ensures { IsFetch h.n result }
+    ensures { result ≡ job_to_fetch h.n patience.now.brought }
 {
     if patience.has_brought() {
         Job::Read { handle: h }

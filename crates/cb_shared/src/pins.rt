@@ -6,9 +6,10 @@ ghost use Rattle.cb_rule.specs.Seats.{pins_on};
 ghost use Rattle.cb_rule.specs.Steps.{Knows, without_pin};
 ghost use Rattle.cb_shared.specs.Places.{IsOf, Moves};
 ghost use Rattle.cb_shared.specs.Glances.{Glances, TakesPinAt, TellsVersion};
+ghost use Rattle.cb_shared.specs.Seeking.{GlancesAny};
 
 use crate::board::{Place, Top};
-use crate::plays::{Date, GivePin, Glance, TakePin};
+use crate::plays::{Date, GivePin, Glance, GlanceAny, TakePin};
 use cb_types::Config;
 
 /// The pointer word of an object that the seat knows.
@@ -19,6 +20,15 @@ pub(crate) fn glance(top: &Top, seat: &mut Place, config: &Config, h: u32) -> u6
     ensures { Glances h result seat.old seat.new }
 {
     top.load::<Glance>(seat, 1 + h as usize)
+}
+
+/// The pointer word of an object, which the seat may or may not know.
+pub(crate) fn glance_any(top: &Top, seat: &mut Place, config: &Config, h: u32) -> u64
+    requires of { IsOf top.now.table_id top.now.key config.now seat.old }
+    requires handle { h < config.now.handles }
+    ensures { GlancesAny h result seat.old seat.new }
+{
+    top.load::<GlanceAny>(seat, 1 + h as usize)
 }
 
 /// Pins an object that the seat knows where its word is `saw`, which is here and has fewer than 1,023 pins, and answers

@@ -4,8 +4,12 @@ ghost use Rattle.cb_types.specs.declared.config.Config.{Config};
 ghost use Rattle.cb_types.specs.declared.job.Job.{Job};
 ghost use Rattle.cb_types.specs.declared.job.Job.TheVariants.{Evict};
 ghost use Rattle.cb_types.specs.declared.reply.Reply.{Reply};
+ghost use Rattle.cb_rule.specs.AnyGlance.{glanced_any};
 ghost use Rattle.cb_rule.specs.LockSteps.{gave};
-ghost use Rattle.cb_rule.specs.Steps.{looked, told, loaded, claimed, stored, stamped, settled, glanced, pinned, unpinned, peeked, dated, read_held, claimed_here, stored_here, stamped_here, settled_here, put_back, blank, left_of, right_of, joined};
+ghost use Rattle.cb_rule.specs.Steps.{looked, told, loaded, claimed, stored, stamped, settled};
+ghost use Rattle.cb_rule.specs.Steps.{glanced, pinned, unpinned, peeked, dated, read_held};
+ghost use Rattle.cb_rule.specs.Steps.{claimed_here, stored_here, stamped_here, settled_here};
+ghost use Rattle.cb_rule.specs.Steps.{put_back, blank, left_of, right_of, joined};
 ghost use Rattle.cb_shared.specs.Making.{took_first};
 ghost use Rattle.cb_shared.specs.PinLoads.{read_pin};
 ghost use Rattle.cb_shared.specs.Recalls.{recalled};
@@ -116,6 +120,13 @@ pub struct Glance;
 
 impl Play<Option<BoxedFar>, View> for Glance {
     ghost then = { glanced };
+}
+
+/// A look at the pointer word of an object that the seat may or may not know.
+pub struct GlanceAny;
+
+impl Play<Option<BoxedFar>, View> for GlanceAny {
+    ghost then = { glanced_any };
 }
 
 /// An exchange of a pointer word that takes a pin, or finds another word.

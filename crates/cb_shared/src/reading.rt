@@ -1,5 +1,6 @@
 //! Reads under a pin of their own, which stands beside those of the scope.
-ghost use Rattle.std.specs.Prelude.{◌≡◌, ◌⊎◌, ℕ, ◌+◌, ◌*◌, ◌<◌, ◌≤◌, length, slice_index, None, Some, IfOk, OnErr};
+ghost use Rattle.std.specs.Prelude.{◌≡◌, ◌⊎◌, ℕ, ◌+◌, ◌*◌, ◌<◌, ◌≤◌, length, slice_index, None};
+ghost use Rattle.std.specs.Prelude.{Some, IfOk, OnErr};
 ghost use Rattle.std.specs.Int.{to_le_bytes, w64};
 ghost use Rattle.cb_ptr.specs.declared.word.State.TheVariants as state;
 ghost use Rattle.cb_ptr.specs.Word.{len_of, pins_of, state_of};

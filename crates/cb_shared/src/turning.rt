@@ -6,12 +6,14 @@ ghost use Rattle.cb_core.specs.Jobs.{IsJob};
 ghost use Rattle.cb_shared.specs.Making.{MakesNew};
 ghost use Rattle.cb_shared.specs.Passes.{IsAtRest, IsPassOf};
 ghost use Rattle.cb_shared.specs.Places.{IsOf};
+ghost use Rattle.cb_record.specs.Parts.{Grows, Part};
+ghost use Rattle.cb_shared.specs.Seeking.{FindsKnown, TurnFinds};
 ghost use Rattle.cb_shared.specs.Turning.{KnowsOf, TurnBy};
-ghost use Rattle.cb_shared.specs.UnderLock.{TurnedBy};
+ghost use Rattle.cb_shared.specs.UnderLock.{IsBelow, TurnedBy};
 
 use crate::board::{Place, Top};
 use crate::calling::is_to_try_again;
-use crate::freed::{find_freed, freed_of};
+use crate::freed::{find_freed, find_known, freed_of, swapped_of};
 use crate::handles::count_pins;
 use crate::locking::{give_far, lock_far};
 use crate::pass::Pass;
@@ -27,9 +29,46 @@ impl Shared {
     /// back, while others pin, unpin, read and write. It is answered as a turn over any desk, but
     /// that a read is made under a pin beside those of the scope: it tries again where its exchange
     /// found another word, and is answered Moving or Crowded where the pin's look found a word that
-    /// is Moving or has 1,023 pins. Where there is no memory, the turn is counted and what its parts
-    /// did before stays. Waits for the lock.
+    /// is Moving or has 1,023 pins. Behind a swap-in that was answered Freed it looks at the object,
+    /// whose freed entry is read where the pass knows it. Where there is no memory, the turn is
+    /// counted and what its parts did before stays. Waits for the lock.
     pub fn turn<R: Wait>(
+        &self,
+        rt: &R,
+        alloc: Global,
+        pass: &mut Pass,
+        job: &Job,
+    ) -> Result<Reply, NoMemory>
+        requires of { IsPassOf self.now pass.old }
+        requires job { IsJob self.now.config job.now }
+        requires knows { KnowsOf job.now pass.old.seat.me.0 }
+        ensures of { IsPassOf self.now pass.new }
+        ensures turn { TurnFinds self.now.config job.now result pass.old.seat.me.0
+            pass.new.seat.me.0 }
+        ensures new { IfOk result (λ reply. MakesNew self.now.board.shared.key.first job.now reply
+            pass.old.seat.me.0) }
+        ensures no_frame { IfOk result (λ reply. reply ≡ answer.NoFrame → ⊥) }
+    {
+        let reply = self.turn_within(rt, alloc, pass, job);
+        self.find_swapped(rt, pass, swapped_of(job, &reply));
+        reply
+    }
+
+    /// Looks for the freed entry of an object, if there is one.
+    fn find_swapped<R: Wait>(&self, rt: &R, pass: &mut Pass, freed: Option<u32>)
+        requires of { IsPassOf self.now pass.old }
+        requires handle { IsBelow self.now.config freed }
+        ensures of { IsPassOf self.now pass.new }
+        ensures finds { (d : Part) × Grows pass.old.seat.me.0 d pass.new.seat.me.0
+            × FindsKnown freed pass.old.seat.me.0 d }
+    {
+        let config = self.config;
+        find_known(rt, &self.board.shared, &mut pass.seat, &config, freed);
+    }
+
+    /// A turn as a part of a call that goes on: as `turn`, but that nothing is looked for behind a
+    /// swap-in.
+    pub fn turn_within<R: Wait>(
         &self,
         rt: &R,
         alloc: Global,

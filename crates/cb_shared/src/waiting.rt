@@ -1,5 +1,6 @@
 //! How a call waits for others before it looks again.
-ghost use Rattle.std.specs.Prelude.{◌≤◌};
+ghost use Rattle.std.specs.Prelude.{◌≡◌, ◌≤◌, ◌||◌, false, Some};
+ghost use Rattle.cb_shared.specs.Fetching.{brings};
 
 use crate::runtime::Shared;
 use cb_types::Reply;
@@ -26,7 +27,9 @@ pub struct Patience {
 
 impl Patience {
     /// A call that has not waited yet.
-    pub fn new() -> Patience {
+    pub fn new() -> Patience
+        ensures { result.brought ≡ false }
+    {
         Patience {
             waits: 0,
             brought: false,
@@ -34,7 +37,9 @@ impl Patience {
     }
 
     /// Whether a turn of the call brought its object in.
-    pub(crate) fn has_brought(&self) -> bool {
+    pub(crate) fn has_brought(&self) -> bool
+        ensures { result ≡ self.now.brought }
+    {
         self.brought
     }
 }
@@ -43,7 +48,9 @@ impl Shared {
     /// Waits a little for whoever stands in the way of a call, the longer the more often it was
     /// asked: it spins, then yields, and then sleeps, up to a millisecond. So a wait that goes on
     /// costs a processor almost nothing, and a sleep holds nobody up. Waits for nothing else.
-    pub fn wait<R: Wait>(&self, rt: &R, patience: &mut Patience) {
+    pub fn wait<R: Wait>(&self, rt: &R, patience: &mut Patience)
+        ensures { patience.new.brought ≡ patience.old.brought }
+    {
         let waits = patience.waits;
         if waits < SPINS {
             patience.waits = waits + 1;
@@ -52,20 +59,20 @@ impl Shared {
             patience.waits = waits + 1;
             thread::yield_now();
         } else {
-            let doublings = waits - SPINS - YIELDS;
-            if doublings < DOUBLINGS {
-                patience.waits = waits + 1;
-            }
-            self.sleep(rt, doublings.min(DOUBLINGS));
+            patience.waits = waits.min(SPINS + YIELDS + DOUBLINGS - 1) + 1;
+            self.sleep(rt, (waits - SPINS - YIELDS).min(DOUBLINGS));
         }
     }
 
     /// Waits after a turn that did not answer its call, unless it brought the object in, or found
     /// it there: then the next look comes at once.
-    pub fn wait_behind<R: Wait>(&self, rt: &R, reply: &Reply, patience: &mut Patience) {
-        match reply {
-            Reply::Stays | Reply::Swapped { .. } => patience.brought = true,
-            _ => self.wait(rt, patience),
+    pub fn wait_behind<R: Wait>(&self, rt: &R, reply: &Reply, patience: &mut Patience)
+        ensures { patience.new.brought ≡ (brings (Some reply.now) || patience.old.brought) }
+    {
+        if brings(reply) {
+            patience.brought = true
+        } else {
+            self.wait(rt, patience)
         }
     }
 
@@ -80,5 +87,15 @@ impl Shared {
         self.board
             .shared
             .park_timeout(rt, last, (word & 0xffff_ffff) as u32, length);
+    }
+}
+
+/// Whether a turn with this reply brought its object in, or found it there.
+fn brings(reply: &Reply) -> bool
+    ensures { result ≡ brings (Some reply.now) }
+{
+    match reply {
+        Reply::Stays | Reply::Swapped { .. } => true,
+        _ => false,
     }
 }

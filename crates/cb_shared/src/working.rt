@@ -1,5 +1,6 @@
 //! The job of a turn, under the far lock.
-ghost use Rattle.std.specs.Prelude.{◌≡◌, ◌<◌, ◌≤◌, true, false, [], length, None, Some, Result, IfOk};
+ghost use Rattle.std.specs.Prelude.{◌≡◌, ◌<◌, ◌≤◌, true, false, [], length, None, Some, Result};
+ghost use Rattle.std.specs.Prelude.{IfOk};
 ghost use Rattle.cb_member.specs.declared.no_memory.NoMemory.{NoMemory};
 ghost use Rattle.cb_types.specs.Config.{IsAccepted};
 ghost use Rattle.cb_types.specs.declared.handle.Handle.{Handle};
@@ -13,7 +14,8 @@ ghost use Rattle.cb_rule.specs.Steps.{Knows};
 ghost use Rattle.cb_shared.specs.Places.{HoldsLock, IsOf};
 ghost use Rattle.cb_shared.specs.Rights.{writes_of};
 ghost use Rattle.cb_shared.specs.Turning.{KnowsOf};
-ghost use Rattle.cb_shared.specs.UnderLock.{BringAt, CameThere, IsBeginning, IsNoRead, IsReplyTo, IsTriedAgain, TriesOn, TurnAtSeat, WorkBy};
+ghost use Rattle.cb_shared.specs.UnderLock.{BringAt, CameThere, IsBeginning, IsNoRead, IsReplyTo};
+ghost use Rattle.cb_shared.specs.UnderLock.{IsTriedAgain, TriesOn, TurnAtSeat, WorkBy};
 
 use crate::board::{Place, Top};
 use crate::reading::{ReadAnswer, read_pinned};

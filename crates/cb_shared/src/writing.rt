@@ -1,4 +1,5 @@
-ghost use Rattle.std.specs.Prelude.{◌≡◌, ℕ, ◌+◌, ◌*◌, ◌^◌, ◌<◌, List, length, slice_index, Option, None, Some};
+ghost use Rattle.std.specs.Prelude.{◌≡◌, ℕ, ◌+◌, ◌*◌, ◌^◌, ◌<◌, List, length, slice_index, Option};
+ghost use Rattle.std.specs.Prelude.{None, Some};
 ghost use Rattle.cb_ptr.specs.Word.{pins_of};
 ghost use Rattle.cb_world.specs.Memory.{words_for};
 ghost use Rattle.cb_world.specs.Write.{IsWrite};
@@ -9,7 +10,8 @@ ghost use Rattle.cb_shared.specs.declared.answers.WriteAnswer.{WriteAnswer};
 ghost use Rattle.cb_shared.specs.Claims.{HoldsOnly, IsFreshClaim, IsWithin, with_memory, with_only};
 ghost use Rattle.cb_shared.specs.Passes.{IsAtRest, IsPassOf};
 ghost use Rattle.cb_shared.specs.Places.{IsOf, Moves};
-ghost use Rattle.cb_shared.specs.Writing.{IsRoomFor, IsWriteRefusal, WriteAt, WriteClaimed, WriteGives};
+ghost use Rattle.cb_shared.specs.Writing.{IsRoomFor, IsWriteRefusal, WriteAt, WriteClaimed};
+ghost use Rattle.cb_shared.specs.Writing.{WriteGives};
 
 use crate::answers::WriteAnswer;
 use crate::board::{Place, Top};

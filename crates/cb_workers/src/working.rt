@@ -125,5 +125,5 @@ fn one_turn<R: Wait>(
         pass.new.seat.me.0 }
     ensures memory { IsEnd job.now → IsOk result }
 {
-    shared.turn(rt, alloc, pass, job)
+    shared.turn_within(rt, alloc, pass, job)
 }

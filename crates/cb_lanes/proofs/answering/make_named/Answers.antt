@@ -2,7 +2,8 @@ use Rattle.std.proofs.Common.{ℕ, List, refl, arith, subst}
 use Rattle.std.proofs.lemmas.Bool.{false≢true}
 use Rattle.cb_types.specs.declared.job.Job.TheVariants as job
 use Rattle.cb_lanes.specs.LineGoes.{Calls}
-use Rattle.cb_lanes.proofs.NamesKept.{made_behind, made_names, made_ready, refused_names, refused_ready, reordered}
+use Rattle.cb_lanes.proofs.NamesKept.{made_behind, made_names, made_ready, refused_names}
+use Rattle.cb_lanes.proofs.NamesKept.{refused_ready, reordered}
 use Rattle.cb_lanes.proofs.answering.make_named.Goals as goal
 
 pub returns-in_ok-insert-in-Made-clause-names : goal.returns-in_ok-insert-in-Made-clause-names

@@ -7,12 +7,12 @@ use Rattle.cb_lanes.proofs.asks.bring_in.Goals as goal
 
 pub returns-then-is_lack-clause-turn : goal.returns-then-is_lack-clause-turn
 returns-then-is_lack-clause-turn g c = turn_ends c.args.shared.now.config (jobs.Swap c.args.h)
-    c.in_ok-reply.reply c.args.pass.now.seat.me.0 c.turn.new.pass.seat.me.0
+    c.in_ok-reply.reply c.args.pass.now.seat.me.0 c.turn_within.new.pass.seat.me.0
     (c.is_lack.ensures.yes c.if-is_lack.true) c.in_ok-reply.ensures.turn
 
 pub returns-else-is_lack-clause-turn : goal.returns-else-is_lack-clause-turn
 returns-else-is_lack-clause-turn g c = turn_in_vain c.args.shared.now.config (jobs.Swap c.args.h)
-    c.in_ok-reply.reply c.args.pass.now.seat.me.0 c.turn.new.pass.seat.me.0 tt
+    c.in_ok-reply.reply c.args.pass.now.seat.me.0 c.turn_within.new.pass.seat.me.0 tt
     (c.is_lack.ensures.no c.if-is_lack.false) c.in_ok-reply.ensures.turn
 
 pub returns-then-is_lack-clause-pins : goal.returns-then-is_lack-clause-pins

@@ -2,7 +2,8 @@ use Rattle.std.proofs.Common.{ℕ, List, sym, ap, ◌∙◌, subst}
 use Rattle.cb_types.specs.declared.job.Job.{Job}
 use Rattle.cb_types.specs.declared.job.Job.TheVariants as jobs
 use Rattle.cb_core.specs.Jobs.{IsJob}
-use Rattle.cb_shared.specs.Calls.{AtNone, AtThis, IsFetchForWant, IsForWant, IsUnanswered, IsUnfetched, the_handle}
+use Rattle.cb_shared.specs.Calls.{AtNone, AtThis, IsFetchForWant, IsForWant, IsUnanswered}
+use Rattle.cb_shared.specs.Calls.{IsUnfetched, the_handle}
 use Rattle.cb_shared.specs.Turning.{KnowsOf}
 use Rattle.cb_lanes.proofs.Stopping.{call_stops, other_stops}
 use Rattle.cb_lanes.proofs.Trying.{call_is, call_leaves, other_call, turn_leaves}
@@ -129,18 +130,18 @@ as_slice-requires g c = tt
 pub as_slice-requires-in-Write : goal.as_slice-requires-in-Write
 as_slice-requires-in-Write g c = tt
 
-pub turn-requires : goal.turn-requires
-turn-requires g c = c.requires
+pub turn_within-requires : goal.turn_within-requires
+turn_within-requires g c = c.requires
 
 pub returns-in_default : goal.returns-in_default
 returns-in_default g c = record {
-  of = c.turn.ensures.of;
+  of = c.turn_within.ensures.of;
   pins = turn_leaves c.args.shared.now.config c.args.job.now c.args.pass.now.seat.me.0
-      c.turn.new.pass.seat.me.0 c.turn.result c.turn.ensures.turn;
+      c.turn_within.new.pass.seat.me.0 c.turn_within.result c.turn_within.ensures.turn;
   call = other_call c.args.shared.now.config c.args.job.now c.args.pass.now.seat.me.0
-      c.turn.new.pass.seat.me.0 c.turn.result c.in_default.not-Make c.in_default.not-Read
-      c.in_default.not-Write c.in_default.not-Free c.turn.ensures.turn;
+      c.turn_within.new.pass.seat.me.0 c.turn_within.result c.in_default.not-Make c.in_default.not-Read
+      c.in_default.not-Write c.in_default.not-Free c.turn_within.ensures.turn;
   error = other_stops c.args.shared.now.config c.args.job.now c.args.pass.now.seat.me.0
-      c.turn.new.pass.seat.me.0 c.turn.result c.in_default.not-Make c.in_default.not-Read
-      c.in_default.not-Write c.in_default.not-Free c.turn.ensures.turn;
+      c.turn_within.new.pass.seat.me.0 c.turn_within.result c.in_default.not-Make c.in_default.not-Read
+      c.in_default.not-Write c.in_default.not-Free c.turn_within.ensures.turn;
 }

@@ -3,7 +3,8 @@ use Rattle.std.proofs.lemmas.Result.{IfOk-weaker}
 use Rattle.cb_shared.proofs.Laws.{known_below}
 use Rattle.cb_lanes.proofs.PinsHeld.{held_count, held_more}
 use Rattle.cb_lanes.proofs.Stopping.{brings_not}
-use Rattle.cb_lanes.proofs.Trying.{brought, is_hindered, pinned_once, was_far, was_freed, was_hindered, was_pinned}
+use Rattle.cb_lanes.proofs.Trying.{brought, is_hindered, pinned_once, was_far, was_freed}
+use Rattle.cb_lanes.proofs.Trying.{was_hindered, was_pinned}
 use Rattle.cb_lanes.proofs.asks.try_pin.Goals as goal
 
 pub keep_pin-requires : goal.keep_pin-requires

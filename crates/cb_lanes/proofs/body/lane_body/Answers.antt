@@ -64,8 +64,9 @@ returns-in-Ok-clause-part g c = lane_adds c.args.shared.now.config c.args.names.
 pub returns-in-Ok-clause-rises : goal.returns-in-Ok-clause-rises
 returns-in-Ok-clause-rises g c = lane_alone c.args.shared.now.config c.args.names.now
     c.args.shared.now.config.nodes c.args.lane.n c.args.lines.now c.from-answers.result
-    c.args.pass.seat.me.0 c.leave_at_end.new.pass.seat.me.0 c.requires.pins
-    (returns-in-Ok-clause-goes g c) c.requires.lines (returns-in-Ok-clause-lines g c)
+    c.args.pass.seat.me.0 c.leave_at_end.new.pass.seat.me.0 c.leave_at_end.new.pass.seat.me.0
+    c.requires.pins (returns-in-Ok-clause-goes g c) c.requires.lines (returns-in-Ok-clause-lines g c)
+    (λ h n freed has. has) c.leave_at_end.ensures.own.stands.ends
 
 pub returns-in-Ok-clause-scoped : goal.returns-in-Ok-clause-scoped
 returns-in-Ok-clause-scoped g c = lane_scoped c.args.shared.now.config c.args.names.now

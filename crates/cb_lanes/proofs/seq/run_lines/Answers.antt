@@ -1,14 +1,17 @@
-use Rattle.std.proofs.Common.{rules, sym, ap, ◌∙◌, subst, arith, ◌≡◌, ℕ, ◌+◌, ◌<◌, ◌≤◌, [], ◌∷◌, List, length, take, drop, get_or, length-take}
+use Rattle.std.proofs.Common.{rules, sym, ap, ◌∙◌, subst, arith, ◌≡◌, ℕ, ◌+◌, ◌<◌, ◌≤◌, [], ◌∷◌}
+use Rattle.std.proofs.Common.{List, length, take, drop, get_or, length-take}
 use Rattle.std.proofs.lemmas.List.{length-map, take_all, drop_all}
 use Rattle.cb_types.specs.declared.config.Config.{Config}
 use Rattle.cb_script.specs.declared.script.Line.{Line}
 use Rattle.cb_script.specs.Form.{IsRequest}
 use Rattle.cb_model.proofs.Laws.{legal_in_order}
 use Rattle.cb_lanes.specs.Asked.{asked}
-use Rattle.cb_lanes.proofs.Along.{Along, along_answered, along_ready, along_none, along_holds, lines_push, line_form}
+use Rattle.cb_lanes.proofs.Along.{Along, along_answered, along_ready, along_none, along_holds}
+use Rattle.cb_lanes.proofs.Along.{lines_push, line_form}
 use Rattle.cb_lanes.proofs.Eases.{eases_answered, eases_none}
 use Rattle.cb_lanes.specs.LinesLeft.{AreLeft, lanes_of}
-use Rattle.cb_lanes.proofs.ScopesKept.{line_known, fresh_by, lines_lanes, lines_own, leads_end, split_line, LeadsOn, soundly_end}
+use Rattle.cb_lanes.proofs.ScopesKept.{line_known, fresh_by, lines_lanes, lines_own, leads_end}
+use Rattle.cb_lanes.proofs.ScopesKept.{split_line, LeadsOn, soundly_end}
 use Rattle.cb_world.specs.World.{empty_world}
 use Rattle.cb_lanes.specs.GivingBack.{lines_by}
 use Rattle.cb_lanes.specs.Lost.{AreInOrder}

@@ -1,4 +1,5 @@
-use Rattle.std.proofs.Common.{◌≡◌, ◌∙◌, ℕ, Some, false, get_or, set, ap, sym, lit≤, arith, get_or-set_same}
+use Rattle.std.proofs.Common.{◌≡◌, ◌∙◌, ℕ, Some, false, get_or, set, ap, sym, lit≤, arith}
+use Rattle.std.proofs.Common.{get_or-set_same}
 use Rattle.std.specs.Slots.{slots_counts, slots_filled}
 use mathlib.Core.Option.{some, some-injective}
 use Rattle.cb_shared.proofs.Filled.{not_none}

@@ -6,7 +6,8 @@ use Rattle.cb_record.specs.Parts.{grown, nothing_more, sum}
 use Rattle.cb_shared.specs.Reading.{looked}
 use Rattle.cb_shared.specs.Turning.{FindsFreedAfter, KnowsIt}
 use Rattle.cb_shared.specs.UnderLock.{FreedMoves, IsBelow}
-use Rattle.cb_shared.proofs.ReadParts.{grown_moves, here_look, look_found, looks_know, more_looks, no_looks, not_moved, of_grown}
+use Rattle.cb_shared.proofs.ReadParts.{grown_moves, here_look, look_found, looks_know, more_looks}
+use Rattle.cb_shared.proofs.ReadParts.{no_looks, not_moved, of_grown}
 use Rattle.cb_shared.proofs.ReadSteps.{look_part, moves_as, refused_moves}
 use Rattle.cb_shared.proofs.freed.find_freed.Goals as goal
 

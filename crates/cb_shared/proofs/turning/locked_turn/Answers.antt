@@ -1,6 +1,8 @@
 use Rattle.std.proofs.Common.{◌∙◌, ap, sym, arith}
 use Rattle.cb_rule.specs.Slot.{Sat}
-use Rattle.cb_shared.proofs.AfterTurn.{at_end, begins_taken, ends_work, knows_taken, of_taken, of_work, pins_taken, slots_taken, took_as, turn_with, turned_by}
+use Rattle.cb_shared.proofs.AfterTurn.{at_end, begins_taken, ends_work, knows_taken, of_taken}
+use Rattle.cb_shared.proofs.AfterTurn.{of_work, pins_taken, slots_taken, took_as, turn_with}
+use Rattle.cb_shared.proofs.AfterTurn.{turned_by}
 use Rattle.cb_shared.proofs.MadeFirst.{makes_new}
 use Rattle.cb_shared.proofs.turning.locked_turn.Goals as goal
 

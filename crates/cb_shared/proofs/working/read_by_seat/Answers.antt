@@ -1,5 +1,6 @@
 use Rattle.cb_shared.proofs.AfterTurn.{holds_begun, of_runs}
-use Rattle.cb_shared.proofs.ReadTurns.{few_come, knows_come, no_frame_read, tells_away, tells_read, work_away, work_read}
+use Rattle.cb_shared.proofs.ReadTurns.{few_come, knows_come, no_frame_read, tells_away, tells_read}
+use Rattle.cb_shared.proofs.ReadTurns.{work_away, work_read}
 use Rattle.cb_shared.proofs.working.read_by_seat.Goals as goal
 
 pub bring_by_seat-place-requires-clause-holds : goal.bring_by_seat-place-requires-clause-holds

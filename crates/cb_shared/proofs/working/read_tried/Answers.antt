@@ -1,5 +1,6 @@
 use Rattle.cb_record.specs.Parts.{nothing_more}
-use Rattle.cb_shared.proofs.ReadParts.{looks_few, looks_know, no_looks, not_moved, of_grown, try_ends, try_lost}
+use Rattle.cb_shared.proofs.ReadParts.{looks_few, looks_know, no_looks, not_moved, of_grown}
+use Rattle.cb_shared.proofs.ReadParts.{try_ends, try_lost}
 use Rattle.cb_shared.proofs.working.read_tried.Goals as goal
 
 pub loop-init : goal.loop-init

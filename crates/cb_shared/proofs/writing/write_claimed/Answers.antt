@@ -11,9 +11,11 @@ use Rattle.cb_rule.specs.Slot.{Sat}
 use Rattle.cb_rule.specs.Steps.{held_at, stamped_here, version_seen, with_stamp}
 use Rattle.cb_rule.specs.Words.{stamps}
 use Rattle.cb_shared.specs.declared.setup.Setup.{Setup}
-use Rattle.cb_shared.specs.Claims.{HoldsOnly, IsFreshClaim, IsWithin, back_only, with_memory, with_only, written_only}
+use Rattle.cb_shared.specs.Claims.{HoldsOnly, IsFreshClaim, IsWithin, back_only, with_memory}
+use Rattle.cb_shared.specs.Claims.{with_only, written_only}
 use Rattle.cb_shared.specs.Places.{IsOf, Moves, Place}
-use Rattle.cb_shared.proofs.OwnSteps.{may_put_back, may_settle, may_stamp, puts_only, settles_only, stamps_only, version_held}
+use Rattle.cb_shared.proofs.OwnSteps.{may_put_back, may_settle, may_stamp, puts_only, settles_only}
+use Rattle.cb_shared.proofs.OwnSteps.{stamps_only, version_held}
 use Rattle.cb_shared.proofs.PinsAlone.{dates_at}
 use Rattle.cb_shared.proofs.WriteSteps.{of_moves}
 use Rattle.cb_shared.proofs.writing.write_claimed.Goals as goal

@@ -2,9 +2,9 @@ use Rattle.cb_workers.proofs.Quiet.{adds_turn, takes_no_memory}
 use Rattle.cb_workers.proofs.working.one_turn.Goals as goal
 
 pub returns-clause-adds : goal.returns-clause-adds
-returns-clause-adds g c = adds_turn c.args.shared.now.config c.args.job.now c.turn.result _ _
-    c.requires.owed c.turn.ensures.turn
+returns-clause-adds g c = adds_turn c.args.shared.now.config c.args.job.now c.turn_within.result _ _
+    c.requires.owed c.turn_within.ensures.turn
 
 pub returns-clause-memory : goal.returns-clause-memory
 returns-clause-memory g c = λ is. takes_no_memory c.args.shared.now.config c.args.job.now
-    c.turn.result _ _ is c.turn.ensures.turn
+    c.turn_within.result _ _ is c.turn_within.ensures.turn

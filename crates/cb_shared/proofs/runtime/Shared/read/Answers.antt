@@ -1,7 +1,9 @@
-use Rattle.std.proofs.Common.{Some}
+use Rattle.std.proofs.Common.{Some, false, refl}
 use Rattle.std.proofs.lemmas.Result.{IfOk-from_err}
 use Rattle.cb_shared.specs.Calls.{AtThis, IsFetchForWant, IsUnfetched}
-use Rattle.cb_shared.proofs.CallSteps.{err_always, known_still, read_again, read_at_last, so_far, stops_then}
+use Rattle.cb_shared.proofs.CallSteps.{err_always, known_still, read_again, read_at_last, so_far}
+use Rattle.cb_shared.proofs.CallSteps.{stops_then}
+use Rattle.cb_shared.proofs.Fetches.{fetches_none, fetches_on, fetches_then}
 use Rattle.cb_shared.proofs.runtime.Shared.read.Goals as goal
 
 pub loop-init : goal.loop-init
@@ -9,6 +11,8 @@ loop-init g c = (
   c.requires.of,
   so_far (AtThis c.args.h.n) (IsUnfetched c.args.self.now.config c.args.h.n)
       c.args.pass.now.seat.me.0,
+  fetches_none c.args.h.n false c.new-patience.result.brought c.args.pass.now.seat.me.0
+      c.args.pass.now.seat.me.0 refl c.new-patience.ensures,
 )
 
 pub try_read-requires-clause-of : goal.try_read-requires-clause-of
@@ -36,6 +40,9 @@ loop-preserved g c = (
   read_again c.args.self.now.config c.args.h.n c.in_ok-reply.field-0 c.args.pass.now.seat.me.0
       c.loop.pass.seat.me.0 c.try_read.new.pass.seat.me.0 c.in_default.is c.loop.invariant.1
       c.in_ok-reply.ensures.read,
+  fetches_on c.args.h.n false c.loop.patience.brought c.try_read.new.patience.brought
+      c.args.pass.now.seat.me.0 c.loop.pass.seat.me.0 c.try_read.new.pass.seat.me.0
+      c.loop.invariant.2 (c.in_ok-reply.ensures.brought c.in_default.is),
 )
 
 pub returns-in_err-reply-clause-of : goal.returns-in_err-reply-clause-of
@@ -46,3 +53,13 @@ returns-in_err-reply-clause-read g c = IfOk-from_err _ _ c.from_residual.ensures
 
 pub returns-in-Some-2-clause-of : goal.returns-in-Some-2-clause-of
 returns-in-Some-2-clause-of g c = c.in_ok-reply.ensures.of
+
+pub returns-in_err-reply-clause-jobs : goal.returns-in_err-reply-clause-jobs
+returns-in_err-reply-clause-jobs g c = fetches_then c.args.h.n false c.loop.patience.brought
+    c.args.pass.now.seat.me.0 c.loop.pass.seat.me.0 c.try_read.new.pass.seat.me.0
+    c.loop.invariant.2 c.in_err-reply.ensures.jobs
+
+pub returns-in-Some-2-clause-jobs : goal.returns-in-Some-2-clause-jobs
+returns-in-Some-2-clause-jobs g c = fetches_then c.args.h.n false c.loop.patience.brought
+    c.args.pass.now.seat.me.0 c.loop.pass.seat.me.0 c.try_read.new.pass.seat.me.0
+    c.loop.invariant.2 c.in_ok-reply.ensures.jobs

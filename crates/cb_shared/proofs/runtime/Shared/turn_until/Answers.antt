@@ -1,7 +1,8 @@
 use Rattle.std.proofs.lemmas.Result.{IfOk-from_err}
 use Rattle.cb_shared.specs.Calls.{IsForWant, IsUnanswered, LooksOf}
 use Rattle.cb_shared.specs.Turning.{object_of}
-use Rattle.cb_shared.proofs.CallSteps.{err_always, known_still, new_at_last, so_far, stops_then, turn_again, turn_at_last}
+use Rattle.cb_shared.proofs.CallSteps.{err_always, known_still, new_at_last, so_far, stops_then}
+use Rattle.cb_shared.proofs.CallSteps.{turn_again, turn_at_last}
 use Rattle.cb_shared.proofs.runtime.Shared.turn_until.Goals as goal
 
 pub loop-init : goal.loop-init

@@ -3,7 +3,8 @@ use Rattle.cb_world.specs.declared.event.Event.TheVariants.{Looked}
 use Rattle.cb_rule.specs.Steps.{TellsPins}
 use Rattle.cb_shared.specs.SeatLaws.{Runs}
 use Rattle.cb_shared.proofs.Alone.{takes_claim_at}
-use Rattle.cb_shared.proofs.Rights.{claim_holds, claim_lost, claim_won, holds_of, raced_is, rights_claimed}
+use Rattle.cb_shared.proofs.Rights.{claim_holds, claim_lost, claim_won, holds_of, raced_is}
+use Rattle.cb_shared.proofs.Rights.{rights_claimed}
 use Rattle.cb_shared.proofs.seat_desk.SeatDeskDesk.claim.Goals as goal
 
 pub compare_exchange-found-requires : goal.compare_exchange-found-requires

@@ -1,21 +1,22 @@
 -- Behind the freed version of an object there is none.
-use Rattle.std.proofs.Common.{◌≡◌, ℕ, zero, suc, ◌+◌, ◌<◌, ◌≤◌, Bool, true, false, [], ◌∷◌, inl, inr, ⊎_elim, sym, refl, ap, ◌∙◌, subst, arith}
+use Rattle.std.proofs.Common.{◌≡◌, ℕ, zero, suc, ◌+◌, ◌<◌, ◌≤◌, Bool, true, false, List, [], inl, inr}
+use Rattle.std.proofs.Common.{⊎_elim, sym, ap, ◌∙◌, subst, arith}
 use Rattle.std.proofs.lemmas.Bool.{cases_lt}
 use Rattle.cb_world.specs.declared.entry.Entry.{Entry}
 use Rattle.cb_rule.specs.declared.view.Seen.{Seen}
 use Rattle.cb_rule.specs.declared.view.View.{View}
-use Rattle.cb_rule.specs.Promised.{EntriesStand, Wrote}
-use Rattle.cb_record.specs.Rises.{HasVersion}
-use Rattle.cb_record.proofs.Laws.{has_right}
-use Rattle.cb_lanes.specs.Rising.{FreedIsLast}
+use Rattle.cb_rule.specs.Promised.{EntriesStand, Is, Wrote}
+use Rattle.cb_rule.specs.RecordStands.{FreedIsLast, HasVersion}
+use Rattle.cb_rule.proofs.Growing.{has_more}
 
 true_false : true ≡ false → ⊥
 true_false e = cc
 
-module _ (first : ℕ) (v : View) (entries : EntriesStand first (v ∷ [])) where
+module _ (first : ℕ) (views : List View) (entries : EntriesStand first views) (v : View)
+    (at : Is views v) where
   -- the entry of a version
   record IsEntryOf (h n : ℕ) (freed : Bool) (e : Entry) : Type 0 where
-    pub wrote : Wrote (v ∷ []) e
+    pub wrote : Wrote views e
     pub handle : e.handle ≡ h
     pub version : e.version ≡ n
     pub is_freed : e.freed ≡ freed
@@ -24,13 +25,13 @@ module _ (first : ℕ) (v : View) (entries : EntriesStand first (v ∷ [])) wher
   entry_of h n freed (inl x) = (
     x.0,
     record {
-      wrote = (v, (0, refl), has_right x.0 v.fresh v.written x.1);
+      wrote = (v, at, has_more x.0 v.fresh v.written x.1);
       handle = x.2;
       version = x.3;
       is_freed = x.4;
     },
   )
-  entry_of h n freed (inr x) = let z = entries.read x.0 (v, (0, refl), x.1) in (
+  entry_of h n freed (inr x) = let z = entries.read x.0 (v, at, x.1) in (
     z.0,
     record {
       wrote = z.1;
@@ -41,19 +42,19 @@ module _ (first : ℕ) (v : View) (entries : EntriesStand first (v ∷ [])) wher
   )
 
   -- two entries of one version are both freed or not
-  same_freed : (e x : Entry) → Wrote (v ∷ []) e → Wrote (v ∷ []) x → e.handle ≡ x.handle
+  same_freed : (e x : Entry) → Wrote views e → Wrote views x → e.handle ≡ x.handle
       → e.version ≡ x.version → e.freed ≡ x.freed
   same_freed e x we wx handle version =
       ap (λ (z : Entry). z.freed) (entries.same e x we wx handle version)
 
   -- from an entry above the freed one the entries go down to one that goes on from it
-  none_above : (k : ℕ) (e x : Entry) → Wrote (v ∷ []) e → Wrote (v ∷ []) x → e.handle ≡ x.handle
+  none_above : (k : ℕ) (e x : Entry) → Wrote views e → Wrote views x → e.handle ≡ x.handle
       → e.freed ≡ true → x.version ≤ e.version + k → e.version < x.version → ⊥
   none_above zero e x we wx handle gone near above = absurd (omega (arith, near, above))
   none_above (suc k) e x we wx handle gone near above = ⊎_elim
       (λ (begins : (x.version ≡ first) × (x.before ≡ []) × (x.freed ≡ false)). let born = entries.born e we in
-      let is = begins.0 in absurd (omega (arith, born, is, above)))
-      (λ (goes : (y : Entry) × Wrote (v ∷ []) y × (y.handle ≡ x.handle) × (y.version + 1 ≡ x.version)
+      let one = begins.0 in absurd (omega (arith, born, one, above)))
+      (λ (goes : (y : Entry) × Wrote views y × (y.handle ≡ x.handle) × (y.version + 1 ≡ x.version)
       × (y.after ≡ x.before) × (y.freed ≡ false) × (x.freed ≡ false → x.len ≡ y.len)). let next = goes.3 in ⊎_elim
       (λ (more : e.version < goes.0.version). none_above k e goes.0 we goes.1 (handle ∙ sym goes.2) gone
       (omega (arith, near, next)) more)

@@ -1,0 +1,80 @@
+-- A freed entry is looked for, of an object that the seat may or may not know.
+use Rattle.std.proofs.Common.{◌≡◌, ◌⊎◌, ⊎_elim, ℕ, ◌<◌, List, ◌++◌, Option, None, Some, Result, Ok, refl, sym, ap, ◌∙◌, subst}
+use Rattle.cb_member.specs.declared.no_memory.NoMemory.{NoMemory}
+use Rattle.cb_ptr.specs.declared.word.State.TheVariants as state
+use Rattle.cb_ptr.specs.Word.{state_of}
+use Rattle.cb_types.specs.declared.config.Config.{Config}
+use Rattle.cb_types.specs.declared.job.Job.{Job}
+use Rattle.cb_types.specs.declared.job.Job.TheVariants.{Swap}
+use Rattle.cb_types.specs.declared.reply.Reply.{Reply}
+use Rattle.cb_types.specs.declared.reply.Reply.TheVariants as answer
+use Rattle.cb_core.specs.Jobs.{IsJob}
+use Rattle.cb_rule.specs.declared.view.View.{View}
+use Rattle.cb_rule.specs.Slot.{Sat}
+use Rattle.cb_rule.specs.Steps.{Knows, with_freed_seen, with_look}
+use Rattle.cb_rule.proofs.Laws.{knows_or}
+use Rattle.cb_record.specs.Parts.{Part, grown, sum}
+use Rattle.cb_shared.specs.declared.reading.ReadAnswer.TheVariants as found
+use Rattle.cb_shared.specs.Passes.{IsAtRest}
+use Rattle.cb_shared.specs.Places.{Moves, Place}
+use Rattle.cb_shared.specs.Reading.{ReadFinds, looked, looked_freed}
+use Rattle.cb_shared.specs.Seeking.{GlancesAny, KnownMoves, swapped_of}
+use Rattle.cb_shared.specs.Turning.{AreLooksAt}
+use Rattle.cb_shared.specs.UnderLock.{IsBelow}
+use Rattle.cb_shared.proofs.ReadKept.{IsSeatKept, kept_part}
+use Rattle.cb_shared.proofs.ReadParts.{grown_moves, here_look, look_found, looks_below, looks_know, looks_quiet, more_looks}
+use Rattle.cb_shared.proofs.ReadSteps.{freed_part, look_part, moves_as}
+
+-- looks leave what the seat knows
+looks_knew : (h : ℕ) (p q : Place) (d : Part) → AreLooksAt h d → Moves p q (grown d p.me.0)
+    → Knows h q.me.0 → Knows h p.me.0
+looks_knew h p q d lost m knows = subst (λ (e : Part). Knows h (grown e p.me.0)) lost.part
+    (subst (Knows h) (ap (λ (s : Sat). s.0) m.2) knows)
+
+-- a look found another state than freed
+pub known_again : (h word : ℕ) (p q r : Place) (d : Part) → AreLooksAt h d
+    → Moves p q (grown d p.me.0) → GlancesAny h word q r
+    → (state_of word ≡ state.Empty → Knows h q.me.0 → ⊥)
+    → (e : Part) × AreLooksAt h e × Moves p r (grown e p.me.0)
+known_again h word p q r d lost m g off = (
+  sum d (looked h word),
+  more_looks h d (looked h word) lost (here_look h word),
+  grown_moves p q r d (looked h word) m (moves_as q r (with_look h word q.me.0)
+      (grown (looked h word) q.me.0) (g.other off) (look_part h word q.me.0)),
+)
+
+-- a look found the object freed
+pub known_found : (c : Config) (h word : ℕ) (p q r : Place) (d : Part) → h < c.handles
+    → AreLooksAt h d → Moves p q (grown d p.me.0) → GlancesAny h word q r
+    → state_of word ≡ state.Empty → KnownMoves c (Some h) p r
+known_found c h word p q r d l lost m g empty = ⊎_elim
+    (λ (knows : Knows h p.me.0).
+    let f = g.freed empty (looks_know h p q d lost m knows) in
+    let finds : ReadFinds h found.Freed q.me.0 (looked_freed h f.0 word) =
+    (word, f.0, empty, f.1, refl) in
+    let x = look_found c h p q r d l lost m (
+      looked_freed h f.0 word,
+      moves_as q r (with_freed_seen h f.0 word q.me.0) (grown (looked_freed h f.0 word) q.me.0) f.2
+          (freed_part h f.0 word q.me.0),
+      finds,
+    ) in (x.0, x.1, x.2, x.3, ((λ _. x.4), λ off. absurd (off knows))))
+    (λ (off : Knows h p.me.0 → ⊥).
+    let x = known_again h word p q r d lost m g (λ _ knows. off (looks_knew h p q d lost m knows)) in (
+      x.0,
+      x.2,
+      looks_quiet h x.0 x.1,
+      looks_below c h x.0 x.1,
+      ((λ knows. absurd (off knows)), λ _. x.1),
+    )) (knows_or h p.me.0)
+
+-- the object is in range
+pub swapped_below : (c : Config) (job : Job) (r : Result Reply NoMemory) → IsJob c job
+    → IsBelow c (swapped_of job r)
+swapped_below c (Swap handle) (Ok answer.Freed) is = is
+swapped_below c job r is = tt
+
+-- what stands of the seat afterwards
+pub kept_known : (c : Config) (o : Option ℕ) (p q : Place) → IsAtRest c p.me.0 → KnownMoves c o p q
+    → IsSeatKept c p q
+kept_known c o p q rest x =
+    kept_part c p q x.0 rest x.1 (record { wrote = x.2.0; turns = x.2.1; seen = x.3 })

@@ -1,0 +1,7 @@
+use Rattle.cb_record.specs.Parts.{Part, grown}
+use Rattle.cb_shared.specs.Places.{Moves}
+use Rattle.cb_shared.specs.Turning.{AreLooksAt}
+use Rattle.cb_shared.proofs.freed.find_known.Given as goal
+
+abbrev pub invariant-loop : goal.invariant-loop
+invariant-loop g l = (d : Part) × AreLooksAt l.h d × Moves l.fn.seat l.seat (grown d l.fn.seat.me.0)
