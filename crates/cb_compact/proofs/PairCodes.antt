@@ -66,4 +66,3 @@ stepped_code far pair a b p shard fresh next c codes =
             (place_back pair.steps p q (Some shard) (Some other) off e) below
       ];
     }
-

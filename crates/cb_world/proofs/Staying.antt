@@ -159,11 +159,11 @@ stays_given c n given far survey most note is = record {
     nodes = is.nodes;
     room = is.room;
     codes = record {
-    sets = is.codes.sets;
-    batch = is.codes.batch;
-    pair = is.codes.pair;
-    own = is.codes.own;
-  };
+      sets = is.codes.sets;
+      batch = is.codes.batch;
+      pair = is.codes.pair;
+      own = is.codes.own;
+    };
   };
   rises = record {
     turns = refl;
