@@ -1,4 +1,6 @@
-/* carbink.h: the Reed-Solomon code of carbink for callers in C99 and C++.
+/* carbink.h: the Reed-Solomon code of carbink and a far-memory world on one thread, for callers in C99 and C++.
+ *
+ * The code comes first, then the world.
  *
  * A code has k data rows (1 to 16) and r parities (1 to 4), each a row of `len` bytes, 1 or more.
  * Rows lie in a buffer one after another: row i begins at byte i * len. The positions 0 to k - 1 are
@@ -77,6 +79,170 @@ uint32_t carbink_examine(uint32_t k, uint32_t r, uint32_t len, const uint8_t *ro
 /* Replaces the row at `position`, below k + r, by the sum of all others. Where that row alone was wrong, the
  * rows are a code word then. rows_size is (k + r) * len. */
 uint32_t carbink_mend(uint32_t k, uint32_t r, uint32_t len, uint8_t *rows, size_t rows_size, uint32_t position);
+
+/* ---- A world on one thread
+ *
+ * A world has local memory, in frames of 4,096 bytes, and memory nodes. Objects of 1 to 1,024 bytes are made,
+ * read, written and freed by their handle; spans of objects leave local memory as rows of a code word, each on
+ * a node of its own, and come back when they are asked for, also where up to r of the nodes have crashed.
+ * docs/FORMATS.md tells what each verb does and what each reply means.
+ *
+ * A handle is a struct carbink_world, CARBINK_NO_WORLD before its first call. It holds one world or none. What
+ * the caller owes beside what is said above: only these calls change a handle, it is not copied, and it is used
+ * by one thread at a time; two handles share nothing. The proof of a call takes the world to be sound that the
+ * handle holds: each call leaves it so, and carbink_world_new makes it so.
+ */
+struct carbink_world {
+    uint8_t there; /* The library's. */
+    struct {
+        void *at;
+    } kept; /* The library's. */
+};
+
+/* A handle without a world. */
+#define CARBINK_NO_WORLD {0, {0}}
+
+/* How a call on a world ends, beside CARBINK_DONE, CARBINK_NO_MEMORY, and
+ * CARBINK_BAD_BUFFER where room_size is below CARBINK_ROOM. */
+#define CARBINK_NO_WORLD_HELD 6u /* The handle holds no world. */
+#define CARBINK_HAS_WORLD 7u     /* The handle holds a world already. */
+#define CARBINK_BAD_VERB 8u      /* There is no such verb. */
+#define CARBINK_BAD_SEAT 9u      /* The seat is not below 64. */
+#define CARBINK_BAD_ARGUMENT 10u /* The handle is not below the configured ones, or the node is not, or a make has not 1 to 1,024 bytes. */
+#define CARBINK_TOO_LONG 11u     /* The event took place; its reply has more bytes than the room, and none was written. */
+#define CARBINK_BAD_K 16u        /* A size is out of its range: the first in this order. */
+#define CARBINK_BAD_R 17u
+#define CARBINK_BAD_NODES 18u
+#define CARBINK_BAD_FRAMES 19u
+#define CARBINK_BAD_ROOM 20u
+#define CARBINK_BAD_HANDLES 21u
+
+/* The sizes of a world. */
+struct carbink_config {
+    uint32_t k;       /* Data positions of a span-set: 1 to 16. */
+    uint32_t r;       /* Parities of a span-set, and so the crashes that it survives: 1 to 4. */
+    uint32_t nodes;   /* Memory nodes: k + r to 64. */
+    uint32_t frames;  /* Frames of local memory: 1 to 4,096. */
+    uint32_t room;    /* Rows of 4,096 bytes that a node holds at the most: 1 to 4,096. */
+    uint32_t handles; /* Objects that can be made: 1 to 65,536. */
+};
+
+/* Makes the empty world of these sizes: CARBINK_HAS_WORLD where the handle holds one already, then the first size
+ * that is out of its range, then want of memory. Takes the memory of all frames and of 16 bytes a handle. */
+uint32_t carbink_world_new(struct carbink_world *world, const struct carbink_config *config);
+
+/* Gives a world's memory back. The handle holds none then; where it held none, nothing is done. */
+void carbink_world_free(struct carbink_world *world);
+
+/* Sets *given to how many rows the nodes have given out. */
+uint32_t carbink_world_given(struct carbink_world *world, uint64_t *given);
+
+/* The verbs: what they take of an event beside the seat, and what they do. */
+#define CARBINK_MAKE 0u      /* bytes: a new object with these, 1 to 1,024. */
+#define CARBINK_READ 1u      /* handle: the object's bytes. */
+#define CARBINK_WRITE 2u     /* handle, at, bytes: these in place of the object's from the byte number `at` on. */
+#define CARBINK_FREE 3u      /* handle: the end of the object. */
+#define CARBINK_SWAP 4u      /* handle: the object's span comes back into local memory. */
+#define CARBINK_FILTER 5u    /* handle: the object moves to a span of its temperature. */
+#define CARBINK_EVICT 6u     /* a batch of spans leaves local memory, whole. */
+#define CARBINK_BEGIN 7u     /* a batch of spans begins to leave. */
+#define CARBINK_SHIP 8u      /* the next row of the leaving batch is put on a node. */
+#define CARBINK_COMMIT 9u    /* the leaving batch is a span-set from here. */
+#define CARBINK_ABORT 10u    /* the leaving batch stays in local memory. */
+#define CARBINK_PAIR 11u     /* two span-sets begin to be joined. */
+#define CARBINK_PATCH 12u    /* the next row of the joining pair is made. */
+#define CARBINK_MERGE 13u    /* the joining pair is one span-set from here. */
+#define CARBINK_PART 14u     /* the joining pair stays two span-sets. */
+#define CARBINK_COMPACT 15u  /* two span-sets are joined, whole. */
+#define CARBINK_REBUILD 16u  /* a lost row is made again on another node. */
+#define CARBINK_CRASH 17u    /* node: it crashes, and its rows are lost. */
+#define CARBINK_JOIN 18u     /* node: it is up again, with no rows. */
+#define CARBINK_PIN 19u      /* handle: the seat pins the object, where it is in local memory; it stays there. */
+#define CARBINK_UNPIN 20u    /* handle: the seat's newest pin on the object is given back. */
+
+/* An event. What its verb does not take is not looked at. */
+struct carbink_event {
+    uint32_t verb;
+    uint32_t seat;   /* Who acts: below 64. */
+    uint32_t handle; /* The number that the object's make gave it. */
+    uint32_t node;
+    uint32_t at;
+};
+
+/* A reply. A refusal is a reply, and no status. Numbers that its kind does not have are 0. */
+struct carbink_reply {
+    uint32_t kind;
+    uint64_t first, second, third;
+    uint64_t count; /* How many bytes, positions (a byte each) or lost shards stand in the room. A lost shard has nine
+                       bytes: its node, and the epoch of that crash, the lowest byte first. */
+};
+
+/* As many bytes as an object has at the most, and a room has at the least. */
+#define CARBINK_ROOM 1024u
+
+/* One event: the reply goes into *reply, and its bytes to the front of `room`. Tells, in this order and with nothing
+ * changed: no world, verb, seat, argument, a room that is too short, and want of memory, where what each object holds
+ * is as it was, but a turn may have been counted and room been made for it. */
+uint32_t carbink_world_step(struct carbink_world *world, const struct carbink_event *event, const uint8_t *bytes,
+                            size_t bytes_size, struct carbink_reply *reply, uint8_t *room, size_t room_size);
+
+/* The kinds of replies, with their numbers. */
+#define CARBINK_REPLY_MADE 0u        /* handle, version: the object was made */
+#define CARBINK_REPLY_VERSION 1u     /* version: the object was written, freed or pinned */
+#define CARBINK_REPLY_BYTES 2u       /* version: the object's bytes are in the room */
+#define CARBINK_REPLY_DONE 3u        /* it is done */
+#define CARBINK_REPLY_MOVED 5u       /* the object moved to a span of its temperature */
+#define CARBINK_REPLY_SAME 6u        /* the object's span has its temperature */
+#define CARBINK_REPLY_SET 7u         /* set: it is committed */
+#define CARBINK_REPLY_BATCH 8u       /* set: the batch that will be it is leaving */
+#define CARBINK_REPLY_SHIPPED 9u     /* position: its row was put on a node */
+#define CARBINK_REPLY_ALL_SHIPPED 10u/* every row of the leaving batch is put */
+#define CARBINK_REPLY_PAIR 11u       /* set, set: they are joining */
+#define CARBINK_REPLY_STEPPED 12u    /* position: its row of the pair was put */
+#define CARBINK_REPLY_ALL_STEPPED 13u/* every row of the pair is put */
+#define CARBINK_REPLY_MERGED 14u     /* set, moved: the pair is one set */
+#define CARBINK_REPLY_REBUILT 15u    /* set, position, node: a lost row stands again */
+#define CARBINK_REPLY_EPOCH 16u      /* epoch: of the crash or the join */
+#define CARBINK_REPLY_FULL 17u       /* handles: as many objects were made */
+#define CARBINK_REPLY_NO_ROOM 18u    /* frames, loose, nodes: no room in local memory */
+#define CARBINK_REPLY_UNMADE 19u     /* the handle was never made */
+#define CARBINK_REPLY_FREED 20u      /* the object was freed */
+#define CARBINK_REPLY_MOVING 21u     /* the object is being moved */
+#define CARBINK_REPLY_UNAVAILABLE 22u/* set: it lost more shards than it has parities; they are in the room */
+#define CARBINK_REPLY_RANGE 23u      /* len: the write goes past the object's end */
+#define CARBINK_REPLY_PINNED 24u     /* count: the object has pins */
+#define CARBINK_REPLY_WORN 25u       /* a number that has to rise stands at its end */
+#define CARBINK_REPLY_SCOPE_FULL 26u /* the seat has as many pins as it may have */
+#define CARBINK_REPLY_NOT_PINNED 27u /* the seat has no pin on the object */
+#define CARBINK_REPLY_NOT_HERE 28u   /* the object is not in local memory */
+#define CARBINK_REPLY_NO_SLOT 29u    /* frames: neither a slot of the temperature nor a free frame */
+#define CARBINK_REPLY_NO_SPANS 30u   /* loose: too few spans could leave */
+#define CARBINK_REPLY_NO_NODES 31u   /* nodes: too few have room */
+#define CARBINK_REPLY_LEAVING 32u    /* set: a batch is leaving already */
+#define CARBINK_REPLY_NO_NODE 33u    /* no node can take the next row */
+#define CARBINK_REPLY_NO_BATCH 34u   /* no batch is leaving */
+#define CARBINK_REPLY_SHORT 35u      /* rows were not put; their positions are in the room */
+#define CARBINK_REPLY_NO_PAIR 36u    /* no two sets can be joined */
+#define CARBINK_REPLY_JOINING 37u    /* set, set: a pair is joining already */
+#define CARBINK_REPLY_NODE_FULL 38u  /* node: of the next row, and it has no room */
+#define CARBINK_REPLY_CHANGED 39u    /* set: it is no longer as it was; the pair is given up */
+#define CARBINK_REPLY_UNFINISHED 40u /* rows of the pair were not put; their positions are in the room */
+#define CARBINK_REPLY_NO_JOIN 41u    /* no pair is joining */
+#define CARBINK_REPLY_WHOLE 42u      /* gone: no set has a lost row that can be made again */
+#define CARBINK_REPLY_STUCK 43u      /* set: no node can take its lost row */
+#define CARBINK_REPLY_DOWN 44u       /* node: it is down */
+#define CARBINK_REPLY_UP 45u         /* node: it is up */
+#define CARBINK_REPLY_SWAPPED 48u    /* frame: the object's span is there now */
+#define CARBINK_REPLY_STAYS 49u      /* the object is not far */
+
+/* The step for a seat and a verb that takes no more than a handle, and gives no bytes that are wanted. */
+static inline uint32_t carbink_world_on(struct carbink_world *world, uint32_t verb, uint32_t seat, uint32_t handle,
+                                        struct carbink_reply *reply) {
+    const struct carbink_event event = {verb, seat, handle, 0, 0};
+    const uint8_t none = 0;
+    uint8_t room[CARBINK_ROOM];
+    return carbink_world_step(world, &event, &none, 0, reply, room, sizeof room);
+}
 
 #ifdef __cplusplus
 }

@@ -1,3 +1,7 @@
 mod Cutting
 mod Making
 mod WorkedEnds
+mod AsBox
+mod Worlds
+mod Losses
+mod WorkedWorld

@@ -1,3 +1,9 @@
 pub mod Status
 pub mod Made
 pub mod Found
+pub mod Kept
+pub mod Handle
+pub mod Outcome
+pub mod Asked
+pub mod Told
+pub mod WorldEnds

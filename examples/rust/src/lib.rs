@@ -1,4 +1,6 @@
-//! A safe wrapper over `include/carbink.h`. Rows lie in a slice one after another, `len` bytes each.
+//! A safe wrapper over `include/carbink.h`. Rows lie in a slice one after another, `len` bytes each. A world is in `world`.
+
+pub mod world;
 
 mod raw {
     use super::Found;

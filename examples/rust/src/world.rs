@@ -1,0 +1,167 @@
+//! A far-memory world on one thread.
+
+use std::os::raw::c_void;
+
+#[repr(C)]
+struct Handle {
+    there: bool,
+    at: *mut c_void,
+}
+
+extern "C" {
+    fn carbink_world_new(world: *mut Handle, config: *const Config) -> u32;
+    fn carbink_world_free(world: *mut Handle);
+    fn carbink_world_given(world: *mut Handle, given: *mut u64) -> u32;
+    fn carbink_world_step(
+        world: *mut Handle, event: *const Raw, bytes: *const u8, bytes_size: usize, reply: *mut Numbers, room: *mut u8, room_size: usize,
+    ) -> u32;
+}
+
+/// The sizes of a world, as `include/carbink.h` has them.
+#[repr(C)]
+#[derive(Clone, Copy, Debug)]
+pub struct Config {
+    pub k: u32,
+    pub r: u32,
+    pub nodes: u32,
+    pub frames: u32,
+    pub room: u32,
+    pub handles: u32,
+}
+
+/// What an event does.
+#[repr(u32)]
+#[derive(Clone, Copy, Debug, PartialEq, Eq)]
+pub enum Verb {
+    Make,
+    Read,
+    Write,
+    Free,
+    Swap,
+    Filter,
+    Evict,
+    Begin,
+    Ship,
+    Commit,
+    Abort,
+    Pair,
+    Patch,
+    Merge,
+    Part,
+    Compact,
+    Rebuild,
+    Crash,
+    Join,
+    Pin,
+    Unpin,
+}
+
+/// An event: what its verb does not take is not looked at.
+#[derive(Clone, Copy, Debug)]
+pub struct Event<'a> {
+    pub verb: Verb,
+    pub seat: u32,
+    pub handle: u32,
+    pub node: u32,
+    pub at: u32,
+    pub bytes: &'a [u8],
+}
+
+impl<'a> Event<'a> {
+    /// An event of seat 0, with numbers 0 and no bytes.
+    pub fn of(verb: Verb) -> Event<'a> {
+        Event { verb, seat: 0, handle: 0, node: 0, at: 0, bytes: &[] }
+    }
+}
+
+#[repr(C)]
+struct Raw {
+    verb: u32,
+    seat: u32,
+    handle: u32,
+    node: u32,
+    at: u32,
+}
+
+#[repr(C)]
+#[derive(Default)]
+struct Numbers {
+    kind: u32,
+    numbers: [u64; 3],
+    count: u64,
+}
+
+/// A reply: the number of its kind (`CARBINK_REPLY_` in the header), its numbers, and its bytes. A refusal is one too.
+#[derive(Clone, Debug, PartialEq, Eq)]
+pub struct Reply {
+    pub kind: u32,
+    pub numbers: [u64; 3],
+    pub bytes: Vec<u8>,
+}
+
+/// The kind of a reply with an object's bytes.
+pub const BYTES: u32 = 2;
+const UNAVAILABLE: u32 = 22;
+const ROOM: usize = 1024;
+
+/// Why a call did nothing.
+#[derive(Clone, Copy, Debug, PartialEq, Eq)]
+pub enum Refused {
+    NoMemory,
+    BadSeat,
+    BadArgument,
+    /// A size is out of its range: its place among those of `Config`.
+    BadSize(u32),
+    Other(u32),
+}
+
+fn answer(status: u32) -> Result<(), Refused> {
+    match status {
+        0 => Ok(()),
+        5 => Err(Refused::NoMemory),
+        9 => Err(Refused::BadSeat),
+        10 => Err(Refused::BadArgument),
+        16..=21 => Err(Refused::BadSize(status - 16)),
+        other => Err(Refused::Other(other)),
+    }
+}
+
+/// A world. It may not be sent to another thread, and its memory is given back when it is dropped.
+pub struct World {
+    handle: Handle,
+}
+
+impl World {
+    /// The empty world of these sizes.
+    pub fn new(config: Config) -> Result<World, Refused> {
+        let mut handle = Handle { there: false, at: std::ptr::null_mut() };
+        answer(unsafe { carbink_world_new(&mut handle, &config) })?;
+        Ok(World { handle })
+    }
+
+    /// One event.
+    pub fn step(&mut self, event: Event) -> Result<Reply, Refused> {
+        let Event { verb, seat, handle, node, at, bytes } = event;
+        let raw = Raw { verb: verb as u32, seat, handle, node, at };
+        let (mut told, mut room) = (Numbers::default(), [0; ROOM]);
+        answer(unsafe {
+            carbink_world_step(&mut self.handle, &raw, bytes.as_ptr(), bytes.len(), &mut told, room.as_mut_ptr(), ROOM)
+        })?;
+        let size = told.count as usize * if told.kind == UNAVAILABLE { 9 } else { 1 };
+        Ok(Reply { kind: told.kind, numbers: told.numbers, bytes: room[..size].to_vec() })
+    }
+
+    /// How many rows the nodes have given out.
+    pub fn given(&mut self) -> u64 {
+        let mut given = 0;
+        // A world is there, so the call does its work.
+        unsafe { carbink_world_given(&mut self.handle, &mut given) };
+        given
+    }
+}
+
+impl Drop for World {
+    fn drop(&mut self) {
+        unsafe { carbink_world_free(&mut self.handle) }
+    }
+}
