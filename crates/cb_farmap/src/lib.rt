@@ -3,7 +3,9 @@
 //! map, and the first call that finds that somebody did says so.
 #![tactic(auto)]
 
+mod array;
 pub mod kept;
 mod object;
 
+pub use array::FarArray;
 pub use kept::{Cannot, KeptObject, Stop};
