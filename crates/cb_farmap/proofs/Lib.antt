@@ -4,6 +4,11 @@ mod Numbers
 mod Objects
 mod Adds
 mod Finds
+mod Turns
+mod Calm
 mod Keeping
 mod Making
 mod Going
+mod Behind
+mod Arrays
+mod Ends
