@@ -12,3 +12,6 @@ mod Going
 mod Behind
 mod Arrays
 mod Ends
+mod WorkedObjects
+mod WorkedAsks
+mod WorkedArrays
