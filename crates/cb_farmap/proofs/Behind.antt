@@ -42,9 +42,12 @@ on_same v w is = record {
 
 pub on_then : (v u w : View) → GoesOn v u → GoesOn u w → GoesOn v w
 on_then v u w a b = record {
-  behind = (b.behind.0 ++ a.behind.0, b.behind.1
-      ∙ ap (λ (l : List Entry). b.behind.0 ++ l) a.behind.1
-      ∙ sym (append_assoc b.behind.0 a.behind.0 v.written));
+  behind = (
+    b.behind.0 ++ a.behind.0,
+    b.behind.1
+        ∙ ap (λ (l : List Entry). b.behind.0 ++ l) a.behind.1
+        ∙ sym (append_assoc b.behind.0 a.behind.0 v.written),
+  );
   pins = b.pins ∙ a.pins;
   share = b.share ∙ a.share;
 }

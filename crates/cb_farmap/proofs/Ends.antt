@@ -15,7 +15,7 @@ use Rattle.cb_farmap.specs.Calls.{Answers, Ask, AskMake, AskRead, Goes, trouble}
 use Rattle.cb_farmap.specs.Changes.{AreLoose, AreSole, GoesOn, IsCalm, IsLoose, IsSole, Makes}
 use Rattle.cb_farmap.specs.Numbers.{number_at}
 use Rattle.cb_farmap.specs.Objects.{IsObject, blank, bytes_at, numbers_at, object_at}
-use Rattle.cb_farmap.specs.Stops.{cannot_of, stop_behind}
+use Rattle.cb_farmap.specs.Stops.{cannot_of, stop_behind, stop_of}
 use Rattle.cb_farmap.proofs.Arrays.{array_on, array_popped, array_pushed, array_set, last_popped, list_on, list_popped, list_set, none_last, number_in, place_in}
 use Rattle.cb_farmap.proofs.Behind.{goes_on, make_off, on_same, reads_same, soles_more, soles_same, soles_set, write_off}
 use Rattle.cb_farmap.proofs.Lists.{all_at}
@@ -45,6 +45,17 @@ module _ (c : Config) (first : ℕ) (plan : List Ask) (v w : View) (a : FarArray
     list = list_on v w a of (on_same v w same) a.stop;
     left = sym stays_stopped;
   }
+
+-- ---- what was told and what is noted of it
+pub noted_so : {X : Type 0} (before : Option Stop) (P : Result X Cannot → Option Stop → Type 0)
+    (r q : Result X Cannot) → q ≡ r → (s : Option Stop) → s ≡ stop_behind before (trouble r)
+    → P r (stop_behind before (trouble r)) → P q s
+noted_so {X = X} before P r q same s is it = subst (λ (z : Result X Cannot). P z s) (sym same)
+    (subst (P r) (sym is) it)
+
+pub stop_is : (before : Option Stop) (e : Cannot) (s : Option Stop) → before ≡ None → s ≡ stop_of e
+    → s ≡ stop_behind before (Some e)
+stop_is before e s going is = is ∙ sym (ap (λ (o : Option Stop). option_or o (stop_of e)) going)
 
 -- where not all objects are full, one has room
 room_in : (ks : List KeptObject) (len : ℕ) → is_full ks len ≡ false → len ≤ 128 * length ks
@@ -131,9 +142,9 @@ module _ (c : Config) (first : ℕ) (v w : View) (a : FarArray) (of : IsArrayOf 
     set_stays (Ok u) goes same = tt
     set_stays (Err e) goes same = subst (λ (l : List KeptObject). Stays (Some e) v a w
         (record a { kept = l; stop = stop_behind a.stop (Some e) })) (sym same) (record {
-      list = list_on v w a of (on_write (Some e) goes) (stop_behind a.stop (Some e));
-      left = refl;
-    })
+          list = list_on v w a of (on_write (Some e) goes) (stop_behind a.stop (Some e));
+          left = refl;
+        })
 
     sole_write : (r : Result (Unit {0}) Cannot)
         → Goes c first (set_plan a.kept i x) (trouble r) v w
@@ -213,9 +224,9 @@ module _ (c : Config) (first : ℕ) (v w : View) (a : FarArray) (of : IsArrayOf 
     push_stays (Ok u) goes same = tt
     push_stays (Err e) goes same = subst (λ (l : List KeptObject). Stays (Some e) v a w
         (record { kept = l; len = a.len; stop = stop_behind a.stop (Some e) })) (sym same) (record {
-      list = list_on v w a of (on_push (Some e) goes) (stop_behind a.stop (Some e));
-      left = refl;
-    })
+          list = list_on v w a of (on_push (Some e) goes) (stop_behind a.stop (Some e));
+          left = refl;
+        })
 
     array_push : (r : Result (Unit {0}) Cannot) → Goes c first plan (trouble r) v w
         → IfOk r (λ _. puts) → OnErr r (later ≡ a.kept) → IsArrayOf w (push_to (trouble r))
@@ -331,8 +342,11 @@ module _ (c : Config) (first : ℕ) (v w : View) (a : FarArray) (of : IsArrayOf 
       calls = subst (λ (p : List Ask). Answers c first a.stop p None v w) (sym plan_none)
           (answers [] None same);
       on = on_same v w same;
-      calm = λ x. (tt, soles_same v w a.kept (ap (λ (z : View). z.written) same)
-          (ap (λ (z : View). z.share) same) x.sole);
+      calm = λ x. (
+        tt,
+        soles_same v w a.kept (ap (λ (z : View). z.written) same)
+            (ap (λ (z : View). z.share) same) x.sole,
+      );
     }
 
     pub empty_ok : IsPopped None v a w a

@@ -1,5 +1,6 @@
 -- A plan of one call goes as the call was answered.
-use Rattle.std.proofs.Common.{◌≡◌, ℕ, ◌+◌, ◌≤◌, List, [], ◌∷◌, Option, Some, None, Result, Ok, Err, IfOk, OnErr, refl, sym, ap, subst, inl, inr, arith}
+use Rattle.std.proofs.Common.{◌≡◌, ℕ, ◌+◌, ◌≤◌, List, [], ◌∷◌, Option, Some, None, Result, Ok, Err, IfOk, IsErrAnd, OnErr, refl, sym, ap, ◌∙◌, subst, inl, inr, arith}
+use Rattle.std.proofs.lemmas.Result.{err_from_is_err_and}
 use Rattle.cb_member.specs.declared.no_memory.NoMemory.{NoMemory as Want}
 use Rattle.cb_types.specs.declared.config.Config.{Config}
 use Rattle.cb_types.specs.declared.job.Job.TheVariants as jobs
@@ -11,7 +12,7 @@ use Rattle.cb_shared.specs.Making.{MakesNew}
 use Rattle.cb_record.specs.Parts.{grown, nothing_more}
 use Rattle.cb_farmap.specs.declared.kept.Cannot.{Cannot}
 use Rattle.cb_farmap.specs.declared.kept.Cannot.TheVariants as cannot
-use Rattle.cb_farmap.specs.Calls.{Ask, AskMake, CallGives, CallStops, Fails, Goes, Tells}
+use Rattle.cb_farmap.specs.Calls.{Ask, AskMake, CallGives, CallStops, Fails, Goes, Tells, trouble}
 
 module _ (c : Config) (first : ℕ) (ask : Ask) (v u w : View) (same : w ≡ u) where
   failed : (e : Cannot) → Fails c first ask e v u → Goes c first (ask ∷ []) (Some e) v w
@@ -70,3 +71,18 @@ pub no_place : (c : Config) (first : ℕ) (bytes : List ℕ) (v w : View) → w 
     → Goes c first (AskMake bytes ∷ []) (Some cannot.NoMemory) v w
 no_place c first bytes v w same =
     inl (subst (TurnStops c (jobs.Make bytes) v) (sym same) (no_try c bytes v))
+
+-- ---- what a `?` hands on
+-- there was no place
+pub no_place_told : {X : Type 0} (c : Config) (first : ℕ) (bytes : List ℕ) (v : View)
+    (r : Result X Cannot) → IsErrAnd r (λ e. e ≡ cannot.NoMemory)
+    → Goes c first (AskMake bytes ∷ []) (trouble r) v v
+no_place_told c first bytes v r is = let z = err_from_is_err_and r is in
+    subst (λ (t : Option Cannot). Goes c first (AskMake bytes ∷ []) t v v)
+    (sym (ap trouble z.1 ∙ ap (λ (e : Cannot). Some e) z.2)) (no_place c first bytes v v refl)
+
+-- the trouble of another call
+pub same_trouble : {X Y : Type 0} (q : Result X Cannot) (r : Result Y Cannot) (e : Cannot)
+    → q ≡ Err e → IsErrAnd r (λ y. y ≡ e) → trouble r ≡ trouble q
+same_trouble q r e is told = let z = err_from_is_err_and r told in
+    ap trouble z.1 ∙ ap (λ (y : Cannot). Some y) z.2 ∙ sym (ap trouble is)

@@ -12,6 +12,7 @@ mod Going
 mod Behind
 mod Arrays
 mod Ends
+mod Telling
 mod WorkedObjects
 mod WorkedAsks
 mod WorkedArrays

@@ -11,9 +11,10 @@ ghost use Rattle.cb_farmap.specs.Objects.{IsObject, bytes_at, object_at};
 ghost use Rattle.cb_farmap.specs.Stops.{stop_behind};
 
 use crate::kept::{Cannot, Objects, Stop};
-use crate::object::{make_kept, read_kept, write_kept};
+use crate::object::{keep_later, make_kept, read_kept, write_kept};
 use byteorder::{ByteOrder, LittleEndian};
 use cb_shared::{Pass, Shared};
+use cb_types::Bytes;
 use std::alloc::Global;
 use std::sync::Wait;
 
@@ -137,11 +138,16 @@ impl FarArray {
         if let Some(stop) = self.stop {
             return Err(Cannot::from(stop));
         }
-        let put = put_number(rt, alloc, shared, pass, &mut self.kept, self.len, x);
-        if put.is_ok() {
-            self.len += 1;
+        match put_number(rt, alloc, shared, pass, &mut self.kept, self.len, x) {
+            Ok(()) => {
+                self.len += 1;
+                Ok(())
+            }
+            Err(cannot) => {
+                self.stop = cannot.stop();
+                Err(cannot)
+            }
         }
-        noted(&mut self.stop, put)
     }
 
     /// Takes the last number away and gives it, by one read of its object; None without a call where
@@ -170,11 +176,16 @@ impl FarArray {
         if self.len == 0 {
             return Ok(None);
         }
-        let last = number_kept(rt, alloc, shared, pass, &self.kept, self.len - 1);
-        if last.is_ok() {
-            self.len -= 1;
+        match number_kept(rt, alloc, shared, pass, &self.kept, self.len - 1) {
+            Ok(x) => {
+                self.len -= 1;
+                Ok(Some(x))
+            }
+            Err(cannot) => {
+                self.stop = cannot.stop();
+                Err(cannot)
+            }
         }
-        noted(&mut self.stop, last.map(Some))
     }
 }
 
@@ -211,9 +222,21 @@ fn number_kept<R: Wait>(
     ensures calm { IsSole (record_of pass.old) (object_at kept.now (i / 128))
         → IsLoose (record_of pass.old) (object_at kept.now (i / 128)) → IsCalm (trouble result) }
 {
-    let object = kept.at((i / 128) as usize);
-    let bytes = read_kept(rt, alloc, shared, pass, object)?;
-    Ok(number_of(bytes.as_slice(), (i % 128) as usize))
+    let bytes = read_kept(rt, alloc, shared, pass, kept.at((i / 128) as usize));
+    number_in(bytes, (i % 128) as usize)
+}
+
+/// The number with this index among the bytes of an object that was read.
+fn number_in(bytes: Result<Bytes, Cannot>, j: usize) -> Result<u64, Cannot>
+    requires long { IfOk bytes (λ b. length b ≡ 1024) }
+    requires within { j < 128 }
+    ensures same { trouble result ≡ trouble bytes }
+    ensures number { IfOk result (λ x. IfOk bytes (λ b. x ≡ number_at b j)) }
+{
+    match bytes {
+        Ok(bytes) => Ok(number_of(bytes.as_slice(), j)),
+        Err(cannot) => Err(cannot),
+    }
 }
 
 /// Writes a number in the place of the one with this index.
@@ -241,9 +264,8 @@ fn write_number<R: Wait>(
     let mut bytes = [0u8; 8];
     LittleEndian::write_u64(&mut bytes, x);
     let o = (i / 128) as usize;
-    let later = write_kept(rt, alloc, shared, pass, kept.at(o), 8 * (i % 128), &bytes)?;
-    kept.set(o, later);
-    Ok(())
+    let later = write_kept(rt, alloc, shared, pass, kept.at(o), 8 * (i % 128), &bytes);
+    keep_later(kept, o, later)
 }
 
 /// Makes an object of this number and zeros behind the others.

@@ -1,6 +1,6 @@
 //! The calls on one object that a value keeps. All calls of the runtime stand here: above, nothing
 //! sees a reply.
-ghost use Rattle.std.specs.Prelude.{◌≡◌, ℕ, List, ◌+◌, ◌-◌, ◌≤◌, [], ◌∷◌, ◌++◌, length, slice_set, take, Ok, IfOk, OnErr};
+ghost use Rattle.std.specs.Prelude.{◌≡◌, ℕ, List, ◌+◌, ◌-◌, ◌<◌, ◌≤◌, [], ◌∷◌, ◌++◌, length, slice_set, take, Ok, IfOk, OnErr};
 ghost use Rattle.cb_types.specs.declared.reply.Reply.TheVariants as answer;
 ghost use Rattle.cb_shared.specs.Passes.{IsPassOf, record_of};
 ghost use Rattle.cb_shared.specs.Recalls.{first_version_of};
@@ -111,6 +111,26 @@ fn next_written(kept: KeptObject, wrote: Result<Reply, NoMemory>) -> Result<Kept
         }
         Ok(reply) => Err(Cannot::Refused { reply }),
         Err(_) => Err(Cannot::NoMemory),
+    }
+}
+
+/// Keeps the later version of the object with this index, where it was written.
+pub(crate) fn keep_later(
+    kept: &mut Objects,
+    o: usize,
+    later: Result<KeptObject, Cannot>,
+) -> Result<(), Cannot>
+    requires within { o < length kept.old }
+    ensures same { trouble result ≡ trouble later }
+    ensures done { IfOk later (λ k. kept.new ≡ slice_set kept.old o k) }
+    ensures undone { OnErr later (kept.new ≡ kept.old) }
+{
+    match later {
+        Ok(k) => {
+            kept.set(o, k);
+            Ok(())
+        }
+        Err(cannot) => Err(cannot),
     }
 }
 

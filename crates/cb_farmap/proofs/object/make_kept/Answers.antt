@@ -1,18 +1,18 @@
-use Rattle.std.proofs.Common.{◌≡◌, List, ◌∷◌, [], refl, sym, subst, Option}
+use Rattle.std.proofs.Common.{◌≡◌, List, ◌∷◌, [], sym, subst, Option}
 use Rattle.cb_shared.specs.Passes.{record_of}
 use Rattle.cb_shared.specs.Recalls.{first_version_of}
 use Rattle.cb_farmap.specs.declared.kept.Cannot.{Cannot}
 use Rattle.cb_farmap.specs.Calls.{AskMake, Goes, trouble}
 use Rattle.cb_farmap.specs.Changes.{IsCalm}
 use Rattle.cb_farmap.proofs.Calm.{make_calm}
-use Rattle.cb_farmap.proofs.Going.{goes_by, make_gives, no_place}
+use Rattle.cb_farmap.proofs.Going.{goes_by, make_gives, no_place_told}
 use Rattle.cb_farmap.proofs.Making.{blank_gone, made_told}
 use Rattle.cb_farmap.proofs.object.make_kept.Goals as goal
 
 pub returns-in_err-push_blank-clause-goes : goal.returns-in_err-push_blank-clause-goes
-returns-in_err-push_blank-clause-goes g c = rw c.from_residual.ensures (no_place
-    c.args.shared.now.config (first_version_of c.args.shared.now) c.args.bytes.now
-    (record_of c.args.pass.now) (record_of c.args.pass.now) refl)
+returns-in_err-push_blank-clause-goes g c = no_place_told c.args.shared.now.config
+    (first_version_of c.args.shared.now) c.args.bytes.now (record_of c.args.pass.now)
+    c.from_residual.result c.from_residual.ensures.1
 
 pub returns-clause-goes : goal.returns-clause-goes
 returns-clause-goes g c = subst
