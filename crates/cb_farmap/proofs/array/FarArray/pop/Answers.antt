@@ -1,0 +1,87 @@
+use Rattle.std.proofs.Common.{◌≡◌, ◌-◌, ◌<◌, ℕ, Option, None, Some, Result, Ok, Err, refl, sym, ap, subst, arith}
+use Rattle.cb_shared.specs.Passes.{record_of}
+use Rattle.cb_shared.specs.Recalls.{first_version_of}
+use Rattle.cb_farmap.specs.declared.array.FarArray.{FarArray}
+use Rattle.cb_farmap.specs.declared.kept.Cannot.{Cannot}
+use Rattle.cb_farmap.specs.declared.kept.Stop.{Stop}
+use Rattle.cb_farmap.specs.Arrays.{Keeps, Stays, pop_plan}
+use Rattle.cb_farmap.proofs.Arrays.{object_in, place_in}
+use Rattle.cb_farmap.proofs.Ends.{empty_keeps, empty_ok, keeps_again, pop_keeps, pop_ok, pop_stays, stays_again, stop_is}
+use Rattle.cb_farmap.proofs.array.FarArray.pop.Goals as goal
+
+abbrev with_stop : FarArray → Option Stop → FarArray
+with_stop a s = record a { stop = s }
+
+some_left : (n : ℕ) → (n ≡ 0 → ⊥) → 0 < n
+some_left n ne = omega (arith, ne)
+
+last_in : (n : ℕ) → (n ≡ 0 → ⊥) → n - 1 < n
+last_in n ne = omega (arith, ne)
+
+pub returns-in-Some-clause-stays : goal.returns-in-Some-clause-stays
+returns-in-Some-clause-stays g c = stays_again c.args.shared.now.config
+    (first_version_of c.args.shared.now) (pop_plan c.args.self.now.kept c.args.self.now.len) (record_of c.args.pass.now)
+    (record_of c.args.pass.now) c.args.self.now c.requires.array c.in-Some.stop c.in-Some.is refl
+    (Some c.from.result) (ap (λ (e : Cannot). Some e) c.from.ensures)
+
+pub returns-in-Some-clause-keeps : goal.returns-in-Some-clause-keeps
+returns-in-Some-clause-keeps g c = keeps_again c.args.shared.now.config
+    (first_version_of c.args.shared.now) (pop_plan c.args.self.now.kept c.args.self.now.len) (record_of c.args.pass.now)
+    (record_of c.args.pass.now) c.args.self.now c.requires.array c.in-Some.stop c.in-Some.is refl
+    (Some c.from.result) (ap (λ (e : Cannot). Some e) c.from.ensures)
+
+pub returns-then-self-eq0-clause-ok : goal.returns-then-self-eq0-clause-ok
+returns-then-self-eq0-clause-ok g c = empty_ok c.args.shared.now.config (first_version_of c.args.shared.now)
+    (record_of c.args.pass.now) (record_of c.args.pass.now) c.args.self.now c.requires.array
+    c.in_default.is c.if-self-eq0.true refl
+
+pub returns-then-self-eq0-clause-keeps : goal.returns-then-self-eq0-clause-keeps
+returns-then-self-eq0-clause-keeps g c = empty_keeps c.args.shared.now.config (first_version_of c.args.shared.now)
+    (record_of c.args.pass.now) (record_of c.args.pass.now) c.args.self.now c.requires.array
+    c.in_default.is c.if-self-eq0.true refl
+
+pub number_kept-requires-clause-within : goal.number_kept-requires-clause-within
+number_kept-requires-clause-within g c = place_in (record_of c.args.pass.now)
+    (record_of c.args.pass.now) c.args.self.now c.requires.array (c.args.self.now.len - 1)
+    (last_in c.args.self.now.len c.if-self-eq0.false)
+
+pub number_kept-requires-clause-object : goal.number_kept-requires-clause-object
+number_kept-requires-clause-object g c = object_in (record_of c.args.pass.now)
+    (record_of c.args.pass.now) c.args.self.now c.requires.array (c.args.self.now.len - 1)
+    (last_in c.args.self.now.len c.if-self-eq0.false)
+
+pub returns-in-Ok-clause-ok : goal.returns-in-Ok-clause-ok
+returns-in-Ok-clause-ok g c = pop_ok c.args.shared.now.config (first_version_of c.args.shared.now)
+    (record_of c.args.pass.now) (record_of c.number_kept.new.pass) c.args.self.now
+    c.requires.array c.in_default.is (some_left c.args.self.now.len c.if-self-eq0.false)
+    (Ok c.in-Ok.x) (rw c.in-Ok.is at (c.number_kept.ensures.goes))
+    (rw c.in-Ok.is at (c.number_kept.ensures.number))
+
+pub returns-in-Ok-clause-keeps : goal.returns-in-Ok-clause-keeps
+returns-in-Ok-clause-keeps g c = pop_keeps c.args.shared.now.config (first_version_of c.args.shared.now)
+    (record_of c.args.pass.now) (record_of c.number_kept.new.pass) c.args.self.now
+    c.requires.array c.in_default.is (some_left c.args.self.now.len c.if-self-eq0.false)
+    None (rw c.in-Ok.is at (c.number_kept.ensures.goes))
+    (λ sole loose. rw c.in-Ok.is at (c.number_kept.ensures.calm sole loose))
+
+pub returns-in-Err-clause-stays : goal.returns-in-Err-clause-stays
+returns-in-Err-clause-stays g c = subst (λ (s : Option Stop). Stays (Some c.in-Err.cannot)
+    (record_of c.args.pass.now) c.args.self.now (record_of c.number_kept.new.pass)
+    (with_stop c.args.self.now s))
+    (sym (stop_is c.args.self.now.stop c.in-Err.cannot c.stop-self.result c.in_default.is
+    c.stop-self.ensures)) (pop_stays c.args.shared.now.config (first_version_of c.args.shared.now)
+    (record_of c.args.pass.now) (record_of c.number_kept.new.pass) c.args.self.now
+    c.requires.array c.in_default.is (some_left c.args.self.now.len c.if-self-eq0.false)
+    (Err c.in-Err.cannot) (rw c.in-Err.is at (c.number_kept.ensures.goes)))
+
+pub returns-in-Err-clause-keeps : goal.returns-in-Err-clause-keeps
+returns-in-Err-clause-keeps g c = subst (λ (s : Option Stop). Keeps c.args.shared.now.config
+    (first_version_of c.args.shared.now) (pop_plan c.args.self.now.kept c.args.self.now.len)
+    (Some c.in-Err.cannot) (record_of c.args.pass.now) c.args.self.now
+    (record_of c.number_kept.new.pass) (with_stop c.args.self.now s))
+    (sym (stop_is c.args.self.now.stop c.in-Err.cannot c.stop-self.result c.in_default.is
+    c.stop-self.ensures)) (pop_keeps c.args.shared.now.config (first_version_of c.args.shared.now)
+    (record_of c.args.pass.now) (record_of c.number_kept.new.pass) c.args.self.now
+    c.requires.array c.in_default.is (some_left c.args.self.now.len c.if-self-eq0.false)
+    (Some c.in-Err.cannot) (rw c.in-Err.is at (c.number_kept.ensures.goes))
+    (λ sole loose. rw c.in-Err.is at (c.number_kept.ensures.calm sole loose)))
