@@ -1,6 +1,6 @@
-//! An array and a hash map of numbers whose objects may lie far away. Both stand on one pass of the
-//! shared runtime: as long as nobody else writes their objects they are a plain list and a plain
-//! map, and the first call that finds that somebody did says so.
+//! An array of numbers whose objects may lie far away. It stands on one pass of the shared runtime:
+//! as long as nobody else writes its objects it is a plain list, and the first call that finds that
+//! somebody did says so.
 #![tactic(auto)]
 
 mod array;
