@@ -3,7 +3,6 @@ use Rattle.std.specs.Prelude.{ℕ, List}
 use Rattle.cb_core.specs.declared.event.Atomic.TheVariants.{Pin, Unpin}
 use Rattle.cb_core.specs.declared.event.Event.{Event}
 use Rattle.cb_core.specs.declared.event.Event.TheVariants.{Step, Turn}
-use Rattle.cb_types.specs.declared.job.Job.{Job}
 use Rattle.cb_types.specs.declared.job.Job.TheVariants as job
 use Rattle.carbink_c.specs.declared.event.CarbinkEvent.{CarbinkEvent}
 use Rattle.carbink_c.specs.declared.event.Verb.{Verb}

@@ -20,7 +20,7 @@ use types.ByLocal.{alloc_all, pass_all, free_all, look_at, get, sets}
 use denote.Exit.{yes}
 use denote.RattleType.{Valss}
 use denote.RawPtr.{RawPtr, null_ptr, ptr_val}
-use denote.Signature.{plain, type_at}
+use denote.Signature.{plain}
 use denote.Steps.{nothing}
 use denote.Struct.Owning.{shape}
 use denote.Struct.Struct.{within}
