@@ -135,7 +135,8 @@ pub record IsPushed (x : ℕ) (v : View) (a : FarArray) (w : View) (b : FarArray
   pub full : is_full a.kept a.len ≡ true → (k : KeptObject) × (b.kept ≡ a.kept ++ k ∷ [])
 
 -- the last number, which the list has no more; none of an empty list
-pub record IsPopped (o : Option ℕ) (v : View) (a : FarArray) (w : View) (b : FarArray) : Type 0 where
-  pub number : o ≡ last_of (list_of v a)
-  pub list : list_of w b ≡ but_last (list_of v a)
-  pub left : b ≡ record a { len = a.len - 1 }
+pub record IsPopped (o : Option ℕ) (v : View) (a : FarArray) (w : View) (b : FarArray) : Type 0
+  where
+    pub number : o ≡ last_of (list_of v a)
+    pub list : list_of w b ≡ but_last (list_of v a)
+    pub left : b ≡ record a { len = a.len - 1 }

@@ -16,7 +16,8 @@ use Rattle.cb_farmap.specs.declared.kept.KeptObject.{KeptObject}
 use Rattle.cb_farmap.specs.declared.kept.Stop.{Stop}
 use Rattle.cb_farmap.specs.Stops.{cannot_of}
 
--- a read of a kept object, a write of these bytes into one from a place on, and a make of these bytes
+-- a read of a kept object, a write of these bytes into one from a place on, and a make of an object
+-- of these bytes
 pub data Ask : Type 0 where
   AskRead : KeptObject → Ask
   AskWrite : KeptObject → ℕ → List ℕ → Ask
@@ -49,8 +50,8 @@ IsRefusal (AskRead k) r = (version : ℕ) (bytes : List ℕ) → r ≡ answer.By
 IsRefusal (AskWrite k at bytes) r = (version : ℕ) → r ≡ answer.Version version → ⊥
 IsRefusal (AskMake bytes) r = (handle : Handle) (version : ℕ) → r ≡ answer.Made handle version → ⊥
 
--- a reply by which somebody else wrote the object: its bytes at another version than the kept one, or
--- another version written than the one above that; one less than this was found there
+-- A reply by which somebody else wrote the object: its bytes at another version than the kept one,
+-- or another version written than the one above that; one less than this was found there.
 abbrev pub IsForeign : Ask → ℕ → Reply → Type 0
 IsForeign (AskRead k) found r =
     (found ≢ k.version) × (bytes : List ℕ) × (r ≡ answer.Bytes found bytes)
@@ -93,8 +94,8 @@ Tells ask (Err want) t = t ≡ Some cannot.NoMemory
 
 -- ---- a plan of calls
 
--- The calls of a plan were made one after another, up to the first that did not succeed: all of them
--- where there is no trouble, and else the last one failed for this reason.
+-- The calls of a plan were made one after another, up to the first that did not succeed: all of
+-- them where there is no trouble, and else the last one failed for this reason.
 abbrev pub Goes : Config → ℕ → List Ask → Option Cannot → View → View → Type 0
 Goes c first [] None v w = w ≡ v
 Goes c first [] (Some e) v w = ⊥
