@@ -206,7 +206,7 @@ module _ (t : Turn) (world : WorldState) (seal : Seal) where
       (ap (λ (x : Sealed). x.world) there.under)
       (subst (λ (v : View). IsClosed Did 1 small v world) (sym record_is) there.closed)
       (subst (λ (v : View). Backs (as_part v) (tolds [] answers)) (sym record_is) backs)
-      (tt, (tt, tt)) (λ all more last. (tt, never_falls)) (λ one. (tt, (refl, tt)))
+      (tt, (tt, tt)) (tt, never_falls) (λ one. (tt, (refl, tt)))
       (λ lines all whole among n own same room. (
         λ mine. absurd (on_no_name (nat_eq 1 n) mine),
         λ none. (λ mine. absurd (on_no_name (nat_eq 2 n) mine), tt),
