@@ -14,7 +14,7 @@ use Rattle.cb_farmap.specs.declared.kept.Cannot.{Cannot}
 use Rattle.cb_farmap.specs.declared.kept.KeptObject.{KeptObject}
 use Rattle.cb_farmap.specs.declared.kept.Stop.{Stop}
 use Rattle.cb_farmap.specs.Arrays.{IsArrayOf, PutsNumber, WritesNumber, but_last, bytes_with, is_full, last_of, list_of, told_so, with_written}
-use Rattle.cb_farmap.specs.Changes.{GoesOn, Makes, Rewrites, with_next}
+use Rattle.cb_farmap.specs.Changes.{GoesOn, IsBehind, Makes, Rewrites, with_next}
 use Rattle.cb_farmap.specs.Numbers.{number_at, numbers}
 use Rattle.cb_farmap.specs.Objects.{AreApart, IsObject, blank, bytes_at, bytes_of, numbers_at, object_at}
 use Rattle.cb_farmap.proofs.Behind.{apart_more, apart_set, objects_behind}
@@ -266,3 +266,18 @@ none_last v a is = sym (ap (λ (n : ℕ). last_of (take n (flat_map (numbers_at 
         none : (xs : List ℕ) → take 0 xs ≡ []
         none [] = refl
         none (x ∷ xs) = refl
+
+-- ---- an array stays, with its list, where more entries come in front: when calls are made on the
+-- pass, when it is split, and when another is joined
+pub list_stays : (v w : View) (a : FarArray) → IsArrayOf v a → IsBehind v.written w.written
+    → list_of w a ≡ list_of v a
+list_stays v w a of behind = list_on v (record v { written = w.written }) a of
+    (record { behind = behind; pins = refl; share = refl }) a.stop
+
+pub array_stays : (v w : View) (a : FarArray) → IsArrayOf v a → IsBehind v.written w.written
+    → IsArrayOf w a
+array_stays v w a of behind = record {
+  objects = objects_behind v w a.kept behind of.objects;
+  apart = of.apart;
+  within = of.within;
+}
