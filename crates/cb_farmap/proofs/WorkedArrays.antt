@@ -1,8 +1,9 @@
 -- Worked examples of arrays: what meets each definition, and what breaks one part.
-use Rattle.std.proofs.Common.{◌≡◌, ◌≢◌, ℕ, ◌≤◌, true, false, true≢false, List, [], ◌∷◌, ◌++◌, length, replicate, Option, None, Some, refl, sym, ap, ◌∙◌, arith}
+use Rattle.std.proofs.Common.{◌≡◌, ◌≢◌, ℕ, ◌*◌, ◌≤◌, true, false, true≢false, List, [], ◌∷◌, ◌++◌, length, replicate, Option, None, Some, refl, sym, ap, ◌∙◌, arith}
 use Rattle.std.specs.List.{IsDistinct}
 use Rattle.cb_types.specs.declared.config.Config.{Config}
 use Rattle.cb_types.specs.declared.reply.Reply.TheVariants as answer
+use Rattle.cb_world.specs.declared.entry.Entry.{Entry}
 use Rattle.cb_world.specs.Memory.{bytes_in}
 use Rattle.cb_world.specs.Written.{entry}
 use Rattle.cb_rule.specs.declared.view.View.{View}
@@ -55,7 +56,7 @@ of_none = record { objects = tt; apart = tt; within = omega arith }
 never_made : IsArrayOf (opener two) (array 128) → ⊥
 never_made a = none_some a.objects.0.at a.objects.0.is
   where
-    none_some : (e : _) → None ≡ Some e → ⊥
+    none_some : (e : Entry) → None ≡ Some e → ⊥
     none_some e is = cc
 
 kept_twice : IsArrayOf v (record { kept = kept 5 1 ∷ kept 5 1 ∷ []; len = 1; stop = None }) → ⊥

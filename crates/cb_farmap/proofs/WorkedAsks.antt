@@ -27,13 +27,13 @@ read_well : IsSuccess read (answer.Bytes 1 (7 ∷ []))
 read_well = (7 ∷ [], refl)
 
 read_later : IsSuccess read (answer.Bytes 2 []) → ⊥
-read_later (bytes, is) = let e : 2 ≡ 1 = cc in omega (arith, e)
+read_later (bytes, is) = let e : ◌≡◌ {A = ℕ} 2 1 = cc in omega (arith, e)
 
 written_well : IsSuccess write (answer.Version 2)
 written_well = refl
 
 written_later : IsSuccess write (answer.Version 3) → ⊥
-written_later is = let e : 3 ≡ 2 = cc in omega (arith, e)
+written_later is = let e : ◌≡◌ {A = ℕ} 3 2 = cc in omega (arith, e)
 
 made_well : IsSuccess make (answer.Made (record { n = 6 }) 1)
 made_well = (record { n = 6 }, 1, refl)
@@ -79,7 +79,7 @@ this_object : IsOfObject read (record { n = 5 }) 1
 this_object = (refl, refl)
 
 other_object : IsOfObject read (record { n = 6 }) 1 → ⊥
-other_object x = let e : 6 ≡ 5 = cc in omega (arith, e)
+other_object x = let e : ◌≡◌ {A = ℕ} 6 5 = cc in omega (arith, e)
 
 -- ---- what is told
 abbrev found : Result ℕ Cannot

@@ -108,14 +108,19 @@ unfolding IsDistinct
 twice a = true≢false a.0.0
 
 last : IsLast (later ∷ early ∷ []) (kept 5 2)
-last = ((λ of. omega arith), (λ of. omega arith), tt)
+last = ((λ of. omega arith), ((λ of. omega arith), tt))
 
 other_last : IsLast (later ∷ early ∷ []) (kept 6 1)
 other_last = (
-  (λ of. let e : 5 ≡ 6 = of in absurd (omega (arith, e))),
-  (λ of. let e : 5 ≡ 6 = of in absurd (omega (arith, e))),
-  tt,
+  (λ of. absurd (another of)),
+  (
+    (λ of. absurd (another of)),
+    tt,
+  ),
 )
+  where
+    another : ◌≡◌ {A = ℕ} 5 6 → ⊥
+    another e = omega (arith, e)
 
 not_last : IsLast (later ∷ early ∷ []) (kept 5 1) → ⊥
 not_last l = let low : 2 ≤ 1 = l.0 refl in omega (arith, low)
