@@ -1,5 +1,5 @@
 -- What reads, writes and makes add to the entries that a record wrote and read.
-use Rattle.std.proofs.Common.{◌≡◌, ◌⊎◌, ℕ, ◌+◌, ◌≤◌, Bool, true, false, true≢false, List, [], ◌∷◌, ◌++◌, length, Ok, Err, refl, sym, ap, ◌∙◌, subst, inl, inr, ⊎_elim}
+use Rattle.std.proofs.Common.{◌≡◌, ℕ, Bool, true, false, true≢false, List, [], ◌∷◌, ◌++◌, Ok, refl, sym, ap, ◌∙◌, subst, inl, inr}
 use Rattle.std.proofs.lemmas.List.{append-nil}
 use Rattle.cb_types.specs.declared.config.Config.{Config}
 use Rattle.cb_types.specs.declared.job.Job.{Job}
@@ -17,13 +17,12 @@ use Rattle.cb_rule.specs.declared.view.View.{View}
 use Rattle.cb_rule.specs.Lists.{Has}
 use Rattle.cb_rule.specs.Steps.{version_seen}
 use Rattle.cb_ptr.specs.Word.{len_of}
-use Rattle.cb_record.specs.Parts.{Part, Grows, grown, sum}
+use Rattle.cb_record.specs.Parts.{Part, grown}
 use Rattle.cb_shared.specs.declared.answers.WriteAnswer.{WriteAnswer}
 use Rattle.cb_shared.specs.declared.answers.WriteAnswer.TheVariants as place
-use Rattle.cb_shared.specs.Calls.{AsksFor, AtThis, EndsAtLast, IsInVain, ReadCallEnds, ReadGives, ReadsInPlace, SaysAs, StopsInVain, WriteAnswers, WriteCallEnds, WriteFinds, the_handle}
+use Rattle.cb_shared.specs.Calls.{AsksFor, AtThis, EndsAtLast, IsInVain, ReadCallEnds, ReadGives, ReadsInPlace, SaysAs, WriteAnswers, WriteCallEnds, WriteFinds, the_handle}
 use Rattle.cb_shared.specs.Reading.{IsReadHere, looked}
-use Rattle.cb_shared.specs.Turning.{FindsAtLast, JobReads}
-use Rattle.cb_shared.specs.declared.reading.ReadAnswer.TheVariants as found
+use Rattle.cb_shared.specs.Turning.{JobReads}
 use Rattle.cb_farmap.proofs.Lists.{has_back, has_front}
 
 -- ---- tries in vain, and what a call ends with

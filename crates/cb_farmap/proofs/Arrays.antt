@@ -1,20 +1,18 @@
 -- The list of an array, of which a number is read, written, put behind or taken away.
-use Rattle.std.proofs.Common.{◌≡◌, ◌≢◌, ℕ, zero, suc, ◌+◌, ◌-◌, ◌*◌, ◌/◌, ◌%◌, ◌^◌, ◌<◌, ◌≤◌, ◌==◌, Bool, true, false, cond, eqb, eqb-true, List, [], ◌∷◌, ◌++◌, length, get_or, slice_get, slice_index, slice_set, replicate, take, Option, None, Some, Result, Ok, Err, IfOk, OnErr, refl, sym, ap, ◌∙◌, subst, arith}
+use Rattle.std.proofs.Common.{◌≡◌, ◌≢◌, ℕ, suc, ◌+◌, ◌-◌, ◌*◌, ◌/◌, ◌%◌, ◌^◌, ◌<◌, ◌≤◌, Bool, true, false, eqb-true, List, [], ◌∷◌, ◌++◌, length, get_or, slice_get, slice_set, replicate, take, Option, None, Some, refl, sym, ap, ◌∙◌, subst, arith}
 use Rattle.std.proofs.lemmas.Bool.{eqb-false}
 use Rattle.std.proofs.lemmas.Grind.{flat_map-append}
 use Rattle.std.proofs.lemmas.List.{append-nil, get_or-take, length-set, length-take-le, length-append}
 use Rattle.std.proofs.lemmas.Option.{slice_get-get_or}
 use Rattle.std.specs.List.{AllByRecursion, flat_map}
-use Rattle.byteorder.specs.Endian.{little_bytes}
 use Rattle.cb_mutate.proofs.Laws.{bytes_length}
 use Rattle.cb_world.specs.declared.entry.Entry.{Entry}
 use Rattle.cb_rule.specs.declared.view.View.{View}
 use Rattle.cb_farmap.specs.declared.array.FarArray.{FarArray}
-use Rattle.cb_farmap.specs.declared.kept.Cannot.{Cannot}
 use Rattle.cb_farmap.specs.declared.kept.KeptObject.{KeptObject}
 use Rattle.cb_farmap.specs.declared.kept.Stop.{Stop}
-use Rattle.cb_farmap.specs.Arrays.{IsArrayOf, PutsNumber, WritesNumber, but_last, bytes_with, is_full, last_of, list_of, told_so, with_written}
-use Rattle.cb_farmap.specs.Changes.{GoesOn, IsBehind, Makes, Rewrites, with_next}
+use Rattle.cb_farmap.specs.Arrays.{IsArrayOf, PutsNumber, WritesNumber, but_last, bytes_with, is_full, last_of, list_of}
+use Rattle.cb_farmap.specs.Changes.{GoesOn, IsBehind, Makes, with_next}
 use Rattle.cb_farmap.specs.Numbers.{number_at, numbers}
 use Rattle.cb_farmap.specs.Objects.{AreApart, IsObject, blank, bytes_at, bytes_of, numbers_at, object_at}
 use Rattle.cb_farmap.proofs.Behind.{apart_more, apart_set, objects_behind}

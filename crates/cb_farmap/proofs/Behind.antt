@@ -1,27 +1,23 @@
 -- What calls leave of a record, and of the objects that it has: more entries in front, and nothing
 -- else that an array or a map stands on.
-use Rattle.std.proofs.Common.{◌≡◌, ◌≢◌, ℕ, zero, suc, ◌+◌, ◌<◌, ◌≤◌, Bool, true, false, true≢false, eqb, eq-eqb, ne_eqb, List, [], ◌∷◌, ◌++◌, length, map, slice_set, Option, None, Some, refl, sym, ap, ◌∙◌, subst, inl, inr, append_assoc, arith}
+use Rattle.std.proofs.Common.{◌≡◌, ◌≢◌, ℕ, zero, suc, ◌+◌, ◌<◌, ◌≤◌, false, true≢false, eqb, eq-eqb, ne_eqb, List, [], ◌∷◌, ◌++◌, length, map, slice_set, Option, None, Some, refl, sym, ap, ◌∙◌, subst, inl, inr, append_assoc, arith}
 use Rattle.std.proofs.Math.Seq.{map-set_same}
 use Rattle.std.specs.List.{AllByRecursion, IsDistinct}
 use Rattle.cb_types.specs.declared.config.Config.{Config}
-use Rattle.cb_types.specs.declared.job.Job.TheVariants as jobs
 use Rattle.cb_types.specs.declared.reply.Reply.{Reply}
-use Rattle.cb_types.specs.declared.reply.Reply.TheVariants as answer
 use Rattle.cb_world.specs.declared.entry.Entry.{Entry}
 use Rattle.cb_rule.specs.declared.turn.Turn.{Turn}
-use Rattle.cb_rule.specs.declared.view.Stand.{Stand}
 use Rattle.cb_rule.specs.declared.view.View.{View}
-use Rattle.cb_rule.specs.Lists.{Each, Has}
+use Rattle.cb_rule.specs.Lists.{Has}
 use Rattle.cb_record.specs.Parts.{Part, grown}
-use Rattle.cb_shared.specs.Calls.{AtNone, AtThis, LooksOf, StopsInVain, TurnStops}
+use Rattle.cb_shared.specs.Calls.{StopsInVain}
 use Rattle.cb_farmap.specs.declared.kept.Cannot.{Cannot}
 use Rattle.cb_farmap.specs.declared.kept.Cannot.TheVariants as cannot
 use Rattle.cb_farmap.specs.declared.kept.KeptObject.{KeptObject}
 use Rattle.cb_farmap.specs.Calls.{Ask, AskMake, AskRead, AskWrite, CallGives, CallStops, Fails, Goes}
-use Rattle.cb_farmap.specs.Changes.{AreSole, GoesOn, IsBehind, IsCalm, IsSole, Makes, Rewrites, with_next}
+use Rattle.cb_farmap.specs.Changes.{AreSole, GoesOn, IsBehind, IsCalm, IsSole, with_next}
 use Rattle.cb_farmap.specs.Objects.{AreApart, IsLast, IsObject, blank, object_at}
 use Rattle.cb_farmap.proofs.Adds.{read_written, vain_written, write_same}
-use Rattle.cb_farmap.proofs.Lists.{all_at}
 use Rattle.cb_farmap.proofs.Making.{make_same}
 use Rattle.cb_farmap.proofs.Objects.{found_there, object_behind}
 

@@ -1,8 +1,7 @@
 -- With the whole share, where the record wrote no later version of an object than the kept one: what
 -- a read and a write of it are never answered.
-use Rattle.std.proofs.Common.{◌≡◌, ◌⊎◌, ℕ, zero, suc, ◌+◌, ◌<◌, ◌≤◌, Bool, true, false, true≢false, List, [], ◌∷◌, ◌++◌, length, Option, None, Some, Result, Ok, Err, IfOk, refl, sym, ap, ◌∙◌, subst, inl, inr, ⊎_elim, arith}
+use Rattle.std.proofs.Common.{◌≡◌, ℕ, ◌+◌, ◌<◌, ◌≤◌, true≢false, List, [], ◌∷◌, ◌++◌, length, Option, None, Some, Result, Ok, Err, IfOk, refl, sym, ap, ◌∙◌, subst, inl, inr, ⊎_elim, arith}
 use Rattle.cb_member.specs.declared.no_memory.NoMemory.{NoMemory as Want}
-use Rattle.cb_ptr.specs.Word.{pins_of}
 use Rattle.cb_types.specs.declared.config.Config.{Config}
 use Rattle.cb_types.specs.declared.job.Job.{Job}
 use Rattle.cb_types.specs.declared.job.Job.TheVariants as jobs
@@ -10,7 +9,6 @@ use Rattle.cb_types.specs.declared.reply.Reply.{Reply}
 use Rattle.cb_types.specs.declared.reply.Reply.TheVariants as answer
 use Rattle.cb_world.specs.declared.entry.Entry.{Entry}
 use Rattle.cb_world.specs.Written.{entry}
-use Rattle.cb_rule.specs.declared.turn.Turn.{Turn}
 use Rattle.cb_rule.specs.declared.view.Seen.{Seen}
 use Rattle.cb_rule.specs.declared.view.Stand.{Stand}
 use Rattle.cb_rule.specs.declared.view.View.{View}
@@ -18,12 +16,12 @@ use Rattle.cb_rule.specs.History.{is_version}
 use Rattle.cb_rule.specs.Lists.{Each, Has, times}
 use Rattle.cb_rule.specs.RecordStands.{RecordStands}
 use Rattle.cb_rule.specs.Records.{seen_of}
-use Rattle.cb_rule.specs.Seats.{pins_it, pins_on, written_on}
+use Rattle.cb_rule.specs.Seats.{pins_it, pins_on}
 use Rattle.cb_rule.specs.Steps.{AreNew, HasLast, IsNewest, freed_seen}
 use Rattle.cb_record.specs.Parts.{Part, grown}
 use Rattle.cb_shared.specs.declared.answers.WriteAnswer.{WriteAnswer}
 use Rattle.cb_shared.specs.declared.answers.WriteAnswer.TheVariants as place
-use Rattle.cb_shared.specs.Calls.{AsksFor, AtThis, IsLack, ReadCallEnds, ReadGives, ReadsInPlace, SaysAs, TellsWhatIs, TurnGives, WriteAnswers, WriteCallEnds, WriteFinds, the_handle}
+use Rattle.cb_shared.specs.Calls.{AsksFor, AtThis, IsLack, ReadCallEnds, ReadGives, ReadsInPlace, SaysAs, TellsWhatIs, TurnGives, WriteAnswers, WriteCallEnds, WriteFinds}
 use Rattle.cb_shared.specs.Glances.{IsLastAlone}
 use Rattle.cb_shared.specs.Reading.{looked}
 use Rattle.cb_farmap.specs.declared.kept.Cannot.TheVariants as cannot

@@ -1,20 +1,19 @@
 -- What each call on an array comes to, by what the call on its one object was answered.
-use Rattle.std.proofs.Common.{◌≡◌, ◌≢◌, ℕ, ◌+◌, ◌-◌, ◌*◌, ◌/◌, ◌%◌, ◌^◌, ◌<◌, ◌≤◌, ◌==◌, if◌then◌else◌, Bool, true, false, eqb, ne_eqb, eq-eqb, eqb-true, List, [], ◌∷◌, ◌++◌, length, slice_index, slice_set, take, Option, None, Some, Result, Ok, Err, IfOk, OnErr, refl, sym, ap, ◌∙◌, subst, arith}
+use Rattle.std.proofs.Common.{◌≡◌, ℕ, ◌+◌, ◌-◌, ◌*◌, ◌/◌, ◌%◌, ◌^◌, ◌<◌, ◌≤◌, if◌then◌else◌, Bool, true, false, ne_eqb, eq-eqb, List, [], ◌∷◌, ◌++◌, length, take, Option, None, Some, Result, Ok, Err, IfOk, OnErr, refl, sym, ap, ◌∙◌, subst, arith}
 use Rattle.std.proofs.lemmas.Bool.{eqb-false}
-use Rattle.std.specs.List.{AllByRecursion, flat_map}
+use Rattle.std.specs.List.{flat_map}
 use Rattle.std.specs.Option.{option_or}
 use Rattle.cb_types.specs.declared.config.Config.{Config}
-use Rattle.cb_world.specs.declared.entry.Entry.{Entry}
 use Rattle.cb_rule.specs.declared.view.View.{View}
 use Rattle.cb_farmap.specs.declared.array.FarArray.{FarArray}
 use Rattle.cb_farmap.specs.declared.kept.Cannot.{Cannot}
 use Rattle.cb_farmap.specs.declared.kept.KeptObject.{KeptObject}
 use Rattle.cb_farmap.specs.declared.kept.Stop.{Stop}
-use Rattle.cb_farmap.specs.Arrays.{IsArrayOf, IsCalmArray, IsGot, IsPopped, IsPushed, IsSet, Keeps, PutsNumber, Stays, WritesNumber, but_last, bytes_with, get_plan, is_full, last_of, list_of, make_plan, pop_plan, push_plan, set_plan, told_so, with_written}
-use Rattle.cb_farmap.specs.Calls.{Answers, Ask, AskMake, AskRead, Goes, trouble}
-use Rattle.cb_farmap.specs.Changes.{AreLoose, AreSole, GoesOn, IsCalm, IsLoose, IsSole, Makes}
+use Rattle.cb_farmap.specs.Arrays.{IsArrayOf, IsGot, IsPopped, IsPushed, IsSet, Keeps, PutsNumber, Stays, WritesNumber, but_last, bytes_with, get_plan, is_full, list_of, make_plan, pop_plan, push_plan, set_plan, told_so, with_written}
+use Rattle.cb_farmap.specs.Calls.{Answers, Ask, Goes, trouble}
+use Rattle.cb_farmap.specs.Changes.{AreLoose, AreSole, GoesOn, IsCalm, IsLoose, IsSole}
 use Rattle.cb_farmap.specs.Numbers.{number_at}
-use Rattle.cb_farmap.specs.Objects.{IsObject, blank, bytes_at, numbers_at, object_at}
+use Rattle.cb_farmap.specs.Objects.{blank, bytes_at, numbers_at, object_at}
 use Rattle.cb_farmap.specs.Stops.{cannot_of, stop_behind, stop_of}
 use Rattle.cb_farmap.proofs.Arrays.{array_on, array_popped, array_pushed, array_set, last_popped, list_on, list_popped, list_set, none_last, number_in, place_in}
 use Rattle.cb_farmap.proofs.Behind.{goes_on, make_off, on_same, reads_same, soles_more, soles_same, soles_set, write_off}

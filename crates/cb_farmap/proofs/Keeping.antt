@@ -1,11 +1,10 @@
 -- What a read and a write of the kept version leave.
-use Rattle.std.proofs.Common.{◌≡◌, ℕ, ◌+◌, ◌≤◌, List, ◌∷◌, length, refl, sym, ap, ◌∙◌, subst, inl, Result, Ok, Err, IfOk, Option, None, Some}
+use Rattle.std.proofs.Common.{◌≡◌, ℕ, ◌+◌, ◌≤◌, List, length, sym, ap, ◌∙◌, subst, inl, Result, Ok, Err, IfOk}
 use Rattle.cb_member.specs.declared.no_memory.NoMemory.{NoMemory as Want}
 use Rattle.cb_types.specs.declared.config.Config.{Config}
 use Rattle.cb_types.specs.declared.reply.Reply.{Reply}
 use Rattle.cb_types.specs.declared.reply.Reply.TheVariants as answer
 use Rattle.cb_world.specs.declared.entry.Entry.{Entry}
-use Rattle.cb_world.specs.Written.{entry}
 use Rattle.cb_rule.specs.declared.view.View.{View}
 use Rattle.cb_rule.specs.Lists.{Has}
 use Rattle.cb_rule.specs.RecordStands.{RecordStands}
@@ -13,7 +12,7 @@ use Rattle.cb_rule.specs.Steps.{Knows}
 use Rattle.cb_shared.specs.Calls.{ReadGives, WriteAnswers}
 use Rattle.cb_farmap.specs.declared.kept.Cannot.{Cannot}
 use Rattle.cb_farmap.specs.declared.kept.KeptObject.{KeptObject}
-use Rattle.cb_farmap.specs.Calls.{AskRead, AskWrite, Tells, trouble}
+use Rattle.cb_farmap.specs.Calls.{AskWrite, Tells, trouble}
 use Rattle.cb_farmap.specs.Changes.{Rewrites, with_next}
 use Rattle.cb_farmap.specs.Objects.{IsObject, bytes_at}
 use Rattle.cb_farmap.proofs.Adds.{read_seen, read_written, write_adds}

@@ -1,5 +1,5 @@
 -- What a make leaves.
-use Rattle.std.proofs.Common.{◌≡◌, ◌≢◌, ℕ, ◌+◌, ◌-◌, ◌≤◌, ◌&&◌, Bool, true, false, cond, eqb, eq-eqb, List, [], ◌∷◌, ◌++◌, length, slice_set, take, Result, Ok, Err, IfOk, OnErr, Option, Some, None, refl, sym, ap, ◌∙◌, subst, inl, inr, arith}
+use Rattle.std.proofs.Common.{◌≡◌, ℕ, ◌-◌, ◌&&◌, Bool, true, cond, eq-eqb, List, [], ◌∷◌, ◌++◌, length, slice_set, take, Result, Ok, Err, IfOk, OnErr, Option, Some, None, refl, sym, ap, ◌∙◌, subst, inl, inr}
 use Rattle.std.specs.Option.{option_or}
 use Rattle.cb_member.specs.declared.no_memory.NoMemory.{NoMemory as Want}
 use Rattle.cb_types.specs.declared.config.Config.{Config}
@@ -20,7 +20,7 @@ use Rattle.cb_shared.specs.Making.{MakesNew}
 use Rattle.cb_farmap.specs.declared.kept.Cannot.{Cannot}
 use Rattle.cb_farmap.specs.declared.kept.KeptObject.{KeptObject}
 use Rattle.cb_farmap.specs.Changes.{Makes}
-use Rattle.cb_farmap.specs.Objects.{IsObject, blank, bytes_at, bytes_of, entry_at, if_version}
+use Rattle.cb_farmap.specs.Objects.{blank, bytes_of, entry_at, if_version}
 use Rattle.cb_farmap.proofs.Adds.{last_written}
 use Rattle.cb_farmap.proofs.Lists.{set_pushed, take_pushed}
 use Rattle.cb_farmap.proofs.Objects.{found_there, wrote_itself}

@@ -1,19 +1,17 @@
 -- What the calls on an array tell, by what those on one object told.
-use Rattle.std.proofs.Common.{◌≡◌, ℕ, ◌+◌, ◌*◌, ◌/◌, ◌%◌, ◌<◌, ◌≤◌, Bool, true, false, eq-eqb, ne_eqb, if◌then◌else◌, List, [], ◌∷◌, length, slice_set, Option, Some, None, Result, Ok, Err, IfOk, OnErr, refl, sym, ap, ◌∙◌, subst, arith}
-use Rattle.std.specs.List.{AllByRecursion}
+use Rattle.std.proofs.Common.{◌≡◌, ℕ, ◌*◌, ◌/◌, ◌%◌, ◌<◌, ◌≤◌, Bool, true, false, eq-eqb, ne_eqb, if◌then◌else◌, List, length, slice_set, Option, Result, Ok, Err, IfOk, OnErr, sym, ap, ◌∙◌, subst, arith}
 use Rattle.byteorder.specs.Endian.{little_bytes}
 use Rattle.cb_types.specs.declared.config.Config.{Config}
 use Rattle.cb_world.specs.declared.entry.Entry.{Entry}
 use Rattle.cb_rule.specs.declared.view.View.{View}
 use Rattle.cb_farmap.specs.declared.kept.Cannot.{Cannot}
 use Rattle.cb_farmap.specs.declared.kept.KeptObject.{KeptObject}
-use Rattle.cb_farmap.specs.Arrays.{PutsNumber, WritesNumber, bytes_with, get_plan, is_full, make_plan, push_plan, set_plan, with_written}
-use Rattle.cb_farmap.specs.Calls.{AskRead, AskWrite, Goes, trouble}
-use Rattle.cb_farmap.specs.Changes.{AreLoose, AreSole, IsCalm, IsLoose, IsSole, Makes, Rewrites, with_next}
+use Rattle.cb_farmap.specs.Arrays.{PutsNumber, WritesNumber, bytes_with, is_full, make_plan, push_plan, set_plan}
+use Rattle.cb_farmap.specs.Calls.{Goes, trouble}
+use Rattle.cb_farmap.specs.Changes.{Makes, Rewrites}
 use Rattle.cb_farmap.specs.Numbers.{number_at}
-use Rattle.cb_farmap.specs.Objects.{IsObject, blank, bytes_at, object_at}
+use Rattle.cb_farmap.specs.Objects.{IsObject, bytes_at, object_at}
 use Rattle.cb_farmap.proofs.Arrays.{object_long}
-use Rattle.cb_farmap.proofs.Lists.{all_at}
 
 -- ---- a number that was read
 pub long_told : (es : List Entry) (k : KeptObject) → IsObject es k → (r : Result (List ℕ) Cannot)

@@ -1,5 +1,5 @@
 -- Worked examples of arrays: what meets each definition, and what breaks one part.
-use Rattle.std.proofs.Common.{◌≡◌, ◌≢◌, ℕ, ◌*◌, ◌≤◌, true, false, true≢false, List, [], ◌∷◌, ◌++◌, length, replicate, Option, None, Some, refl, sym, ap, ◌∙◌, arith}
+use Rattle.std.proofs.Common.{◌≡◌, ℕ, ◌*◌, ◌≤◌, true, false, true≢false, [], ◌∷◌, length, None, Some, refl, arith}
 use Rattle.std.specs.List.{IsDistinct}
 use Rattle.cb_types.specs.declared.config.Config.{Config}
 use Rattle.cb_types.specs.declared.reply.Reply.TheVariants as answer
@@ -11,7 +11,7 @@ use Rattle.cb_rule.specs.Steps.{opener}
 use Rattle.cb_farmap.specs.declared.array.FarArray.{FarArray}
 use Rattle.cb_farmap.specs.declared.kept.Cannot.TheVariants as cannot
 use Rattle.cb_farmap.specs.declared.kept.Stop.TheVariants as stop
-use Rattle.cb_farmap.specs.Arrays.{IsArrayOf, IsCalmArray, IsGot, IsPopped, IsSet, Stays, but_last, bytes_with, get_plan, is_full, last_of, list_of, make_plan, no_array, pop_plan, push_plan, set_plan, told_so, with_written}
+use Rattle.cb_farmap.specs.Arrays.{IsArrayOf, but_last, bytes_with, get_plan, is_full, last_of, list_of, make_plan, no_array, pop_plan, push_plan, set_plan, told_so, with_written}
 use Rattle.cb_farmap.specs.Calls.{AskRead, AskWrite}
 use Rattle.cb_farmap.proofs.WorkedObjects.{early, kept}
 

@@ -1,7 +1,8 @@
 -- Worked examples of calls and plans: what meets each definition, and what breaks one part.
-use Rattle.std.proofs.Common.{◌≡◌, ◌≢◌, ℕ, List, [], ◌∷◌, Option, None, Some, Result, Ok, Err, refl, inl, arith}
+use Rattle.std.proofs.Common.{◌≡◌, ℕ, [], ◌∷◌, None, Some, Result, Ok, Err, refl, ap, arith}
 use Rattle.cb_member.specs.declared.no_memory.NoMemory.{NoMemory as Want}
 use Rattle.cb_types.specs.declared.config.Config.{Config}
+use Rattle.cb_types.specs.declared.handle.Handle.{Handle}
 use Rattle.cb_types.specs.declared.reply.Reply.{Reply}
 use Rattle.cb_types.specs.declared.reply.Reply.TheVariants as answer
 use Rattle.cb_rule.specs.declared.view.View.{View}
@@ -79,7 +80,7 @@ this_object : IsOfObject read (record { n = 5 }) 1
 this_object = (refl, refl)
 
 other_object : IsOfObject read (record { n = 6 }) 1 → ⊥
-other_object x = let e : ◌≡◌ {A = ℕ} 6 5 = cc in omega (arith, e)
+other_object x = let e : ◌≡◌ {A = ℕ} 6 5 = ap (λ (h : Handle). h.n) x.0 in omega (arith, e)
 
 -- ---- what is told
 abbrev found : Result ℕ Cannot

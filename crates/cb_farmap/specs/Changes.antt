@@ -1,5 +1,5 @@
 -- What a write and a make leave of the objects that a value keeps, and what stays of a record.
-use Rattle.std.specs.Prelude.{◌≡◌, ◌≢◌, ℕ, ◌+◌, List, [], ◌∷◌, ◌++◌, Option, Some, None}
+use Rattle.std.specs.Prelude.{◌≡◌, ◌≢◌, ℕ, ◌+◌, List, [], ◌∷◌, ◌++◌, Option, Some}
 use Rattle.std.specs.List.{AllByRecursion}
 use Rattle.cb_model.specs.Now.{overwritten}
 use Rattle.cb_types.specs.declared.reply.Reply.TheVariants as answer

@@ -1,4 +1,4 @@
-use Rattle.std.proofs.Common.{◌≡◌, ◌*◌, ◌/◌, ◌%◌, List, ◌∷◌, [], ℕ, Option, Result, IfOk, sym, ap, ◌∙◌, subst}
+use Rattle.std.proofs.Common.{◌*◌, ◌%◌, List, ◌∷◌, [], ℕ, Option, IfOk, sym, subst}
 use Rattle.byteorder.specs.Endian.{little_bytes}
 use Rattle.cb_shared.specs.Passes.{record_of}
 use Rattle.cb_shared.specs.Recalls.{first_version_of}
@@ -7,7 +7,6 @@ use Rattle.cb_farmap.specs.declared.kept.KeptObject.{KeptObject}
 use Rattle.cb_farmap.specs.Arrays.{set_plan}
 use Rattle.cb_farmap.specs.Calls.{AskWrite, Goes, trouble}
 use Rattle.cb_farmap.specs.Changes.{IsCalm, IsLoose, IsSole, Rewrites}
-use Rattle.cb_farmap.specs.Objects.{IsObject, object_at}
 use Rattle.cb_farmap.proofs.Telling.{same_told, wrote_told}
 use Rattle.cb_farmap.proofs.array.write_number.Goals as goal
 

@@ -1,4 +1,4 @@
-use Rattle.std.proofs.Common.{◌≡◌, List, ℕ, Option, Some, Result, Ok, Err, refl, sym, ap, subst}
+use Rattle.std.proofs.Common.{List, Option, Some, Ok, Err, refl, sym, ap, subst}
 use Rattle.cb_shared.specs.Passes.{record_of}
 use Rattle.cb_shared.specs.Recalls.{first_version_of}
 use Rattle.cb_farmap.specs.declared.array.FarArray.{FarArray}
