@@ -4,3 +4,11 @@ pub mod Stops
 pub mod Calls
 pub mod Changes
 pub mod Arrays
+pub mod Pairs
+pub mod PairBytes
+pub mod Buckets
+pub mod Maps
+pub mod Plans
+pub mod BucketChanges
+pub mod Searching
+pub mod MapChanges

@@ -4,8 +4,14 @@
 #![tactic(auto)]
 
 mod array;
+pub mod bucket;
+mod buckets;
+pub mod find;
 pub mod kept;
+mod map;
 mod object;
+mod pairs;
 
 pub use array::FarArray;
 pub use kept::{Cannot, KeptObject, Stop};
+pub use map::FarMap;
