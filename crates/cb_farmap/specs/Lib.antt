@@ -1,0 +1,5 @@
+pub mod Numbers
+pub mod Objects
+pub mod Stops
+pub mod Calls
+pub mod Changes
