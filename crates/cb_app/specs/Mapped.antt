@@ -1,9 +1,7 @@
 -- What commands on one list and one map of numbers leave, and why one of them is refused.
 use Rattle.std.specs.Prelude.{◌≡◌, ◌⊎◌, ℕ, ◌+◌, ◌^◌, ◌<◌, ◌≤◌, true, List, [], ◌∷◌, Some}
 use Rattle.cb_types.specs.declared.config.Config.{Config}
-use Rattle.cb_types.specs.declared.handle.Handle.{Handle}
 use Rattle.cb_types.specs.declared.job.Job.{Job}
-use Rattle.cb_types.specs.declared.job.Job.TheVariants as job
 use Rattle.cb_types.specs.declared.reply.Reply.{Reply}
 use Rattle.cb_types.specs.declared.reply.Reply.TheVariants.{Full, NoRoom, Worn}
 use Rattle.cb_world.specs.World.{WorldState}
@@ -11,27 +9,15 @@ use Rattle.cb_rule.specs.declared.turn.Turn.{Turn}
 use Rattle.cb_rule.specs.declared.view.View.{View}
 use Rattle.cb_rule.specs.Closing.{IsClosed}
 use Rattle.cb_rule.specs.Lists.{Has}
-use Rattle.cb_rule.specs.Steps.{Knows}
 use Rattle.cb_map_text.specs.Plain.{Plain, after_all, after_said, calls_something, fresh, needs_object, objects, plain_said}
 use Rattle.cb_map_text.specs.declared.command.FarAnswer.{FarAnswer}
 use Rattle.cb_map_text.specs.declared.command.FarAnswer.TheVariants.{Refused}
 use Rattle.cb_map_text.specs.declared.command.FarCommand.{FarCommand}
+use Rattle.cb_farmap.specs.Commands.{IsMake, IsOnObject}
 use Rattle.cb_shared.specs.Sealing.{sealed_record, sealed_world}
 use Rattle.cb_shared.specs.Turning.{Did}
 use Rattle.cb_shared.specs.declared.seal.Seal.{Seal}
 use Rattle.cb_app.specs.declared.ending.Ending.{Ending}
-
--- a job that makes an object
-abbrev pub IsMake : Job → Type 0
-IsMake (job.Make bytes) = Unit {0}
-IsMake other = ⊥
-
--- a job that brings in an object of the record, and reads or writes it
-abbrev pub IsOnObject : View → Job → Type 0
-IsOnObject v (job.Swap handle) = Knows handle.n v
-IsOnObject v (job.Read handle) = Knows handle.n v
-IsOnObject v (job.Write handle at bytes) = Knows handle.n v
-IsOnObject v other = ⊥
 
 -- a turn of the record with such a job was told this reply
 pub record HasTurn (v : View) (asked : Job → Type 0) (reply : Reply) : Type 0 where

@@ -1,11 +1,11 @@
 //! Commands on one far array and one far map, on one pass of a shared runtime.
-ghost use Rattle.std.specs.Prelude.{◌≡◌, ◌≤◌, [], length, Some, IfOk, OnErr};
+ghost use Rattle.std.specs.Prelude.{◌≡◌, ℕ, ◌≤◌, List, [], length, Some, IfOk, OnErr};
 ghost use Rattle.cb_types.specs.Config.{IsAccepted};
 ghost use Rattle.cb_cli.specs.declared.words.Command.TheVariants as commands;
-ghost use Rattle.cb_map_text.specs.First.{First};
-ghost use Rattle.cb_map_text.specs.Reading.{FaultIs};
 ghost use Rattle.cb_map_text.specs.Texts.{refusal_text, said_text};
 ghost use Rattle.cb_map_text.specs.declared.command.FarAnswer.{FarAnswer};
+ghost use Rattle.cb_shared.specs.Closing.{IsClosedBy};
+ghost use Rattle.cb_shared.specs.Passes.{IsPassOf};
 ghost use Rattle.cb_app.specs.Mapped.{AreAnswered, IsMapped};
 ghost use Rattle.cb_app.specs.Modes.{IsVerdict};
 
@@ -118,7 +118,11 @@ fn close_map(
     shared: Shared,
     pass: Pass,
     saids: FarAnswers,
-) -> Result<MapEnd, NoMemory> {
+) -> Result<MapEnd, NoMemory>
+    requires of { IsPassOf shared pass }
+    ensures saids { IfOk result (λ left. left.saids ≡ saids) }
+    ensures closed { IfOk result (λ left. IsClosedBy shared pass left.world left.seal) }
+{
     match shared.close(alloc, pass) {
         Ok((world, seal)) => Ok(MapEnd { saids, world, seal }),
         Err(_refused) => Err(NoMemory),
@@ -127,6 +131,8 @@ fn close_map(
 
 /// The refusal of bytes at their first line outside the form, unless memory was wanting.
 fn map_refusal(alloc: Global, fault: TextFault) -> Result<Verdict, NoMemory>
+    ensures told { IfOk result (λ verdict. (line : ℕ) × (fault ≡ TextFault.Line line)
+        × (verdict ≡ Verdict.Refused (refusal_text line))) }
 {
     match fault {
         TextFault::Line { line } => Ok(Verdict::Refused(line_refused_text(alloc, line)?)),

@@ -3,3 +3,4 @@ pub mod Objects
 pub mod Stops
 pub mod Calls
 pub mod Changes
+pub mod Commands
