@@ -3,4 +3,5 @@ pub mod Objects
 pub mod Stops
 pub mod Calls
 pub mod Changes
+pub mod Arrays
 pub mod Commands

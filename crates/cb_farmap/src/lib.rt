@@ -3,7 +3,13 @@
 //! map, and the first call that finds that somebody did says so.
 #![tactic(auto)]
 
+mod array;
+pub mod commands;
 pub mod kept;
+mod map;
 mod object;
 
+pub use array::FarArray;
+pub use commands::{FarAnswers, run_commands};
 pub use kept::{Cannot, KeptObject, Stop};
+pub use map::FarMap;
