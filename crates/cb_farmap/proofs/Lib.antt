@@ -7,3 +7,6 @@ mod Finds
 mod Keeping
 mod Making
 mod Going
+mod PlanTurns
+mod PlanAdds
+mod Standing

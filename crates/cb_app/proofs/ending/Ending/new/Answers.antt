@@ -1,0 +1,1 @@
+use Rattle.cb_app.proofs.Mapped as w

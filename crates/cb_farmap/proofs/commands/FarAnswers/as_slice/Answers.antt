@@ -1,0 +1,1 @@
+use Rattle.cb_farmap.proofs.PlanAdds as w
