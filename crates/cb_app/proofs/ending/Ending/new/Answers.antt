@@ -1,1 +1,0 @@
-use Rattle.cb_app.proofs.Mapped as w

@@ -1,1 +1,0 @@
-use Rattle.cb_farmap.proofs.PlanAdds as w
