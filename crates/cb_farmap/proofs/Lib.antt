@@ -15,3 +15,7 @@ mod Standing
 mod Behind
 mod Arrays
 mod Ends
+mod MapOn
+mod Commanding
+mod ArrayCommands
+mod ArrayEach
