@@ -1,0 +1,7 @@
+mod Places
+mod OneBucket
+mod Mapping
+mod Overwriting
+mod PairNumbers
+mod PairPieces
+mod Seeking

@@ -3,3 +3,9 @@ pub mod Objects
 pub mod Stops
 pub mod Calls
 pub mod Changes
+pub mod Pairs
+pub mod PairBytes
+pub mod Maps
+pub mod Plans
+pub mod BucketChanges
+pub mod Searching

@@ -3,7 +3,10 @@
 //! map, and the first call that finds that somebody did says so.
 #![tactic(auto)]
 
+pub mod bucket;
+pub mod find;
 pub mod kept;
 mod object;
+mod pairs;
 
 pub use kept::{Cannot, KeptObject, Stop};
