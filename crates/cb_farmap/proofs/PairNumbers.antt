@@ -9,7 +9,7 @@ use Rattle.cb_model.specs.Now.{overwritten}
 use Rattle.cb_farmap.specs.Numbers.{number_at, pair_at, pairs}
 use Rattle.cb_farmap.specs.PairBytes.{object_bytes, pair_bytes}
 use Rattle.cb_farmap.specs.Pairs.{Pair, pair_of}
-use Rattle.cb_farmap.proofs.Overwriting.{alike, among_them, before_them, behind_them}
+use Rattle.cb_farmap.proofs.Numbers.{alike, among_them, before_them, behind_them}
 
 -- ---- the bytes of a pair
 pub long_pair : (p : Pair) → length (pair_bytes p) ≡ 16

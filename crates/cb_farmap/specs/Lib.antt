@@ -3,6 +3,7 @@ pub mod Objects
 pub mod Stops
 pub mod Calls
 pub mod Changes
+pub mod Arrays
 pub mod Pairs
 pub mod PairBytes
 pub mod Maps

@@ -1,5 +1,5 @@
 -- The answers that an array or a map gives for good.
-use Rattle.std.specs.Prelude.{◌≡◌, Option, Some, None}
+use Rattle.std.specs.Prelude.{Option, Some, None}
 use Rattle.std.specs.Option.{option_or}
 use Rattle.cb_types.specs.declared.reply.Reply.TheVariants as answer
 use Rattle.cb_farmap.specs.declared.kept.Cannot.{Cannot}
@@ -18,6 +18,7 @@ stop_of (cannot.Refused answer.Freed) = Some stop.Freed
 stop_of (cannot.Foreign handle kept found) = Some (stop.Foreign handle kept found)
 stop_of other = None
 
--- what a value stops with behind an answer
-abbrev pub stop_after : Option Stop → Cannot → Option Stop
-stop_after before c = option_or before (stop_of c)
+-- what a value stops with behind what was told
+abbrev pub stop_behind : Option Stop → Option Cannot → Option Stop
+stop_behind before None = before
+stop_behind before (Some c) = option_or before (stop_of c)

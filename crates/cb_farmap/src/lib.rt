@@ -3,10 +3,12 @@
 //! map, and the first call that finds that somebody did says so.
 #![tactic(auto)]
 
+mod array;
 pub mod bucket;
 pub mod find;
 pub mod kept;
 mod object;
 mod pairs;
 
+pub use array::FarArray;
 pub use kept::{Cannot, KeptObject, Stop};

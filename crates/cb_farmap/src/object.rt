@@ -1,12 +1,12 @@
 //! The calls on one object that a value keeps. All calls of the runtime stand here: above, nothing
 //! sees a reply.
-ghost use Rattle.std.specs.Prelude.{◌≡◌, ◌+◌, ◌-◌, ◌≤◌, [], ◌∷◌, ◌++◌, length, slice_set, take, Ok, IfOk, OnErr};
-ghost use Rattle.cb_types.specs.declared.reply.Reply.TheVariants.{Made};
+ghost use Rattle.std.specs.Prelude.{◌≡◌, ℕ, List, ◌+◌, ◌-◌, ◌≤◌, [], ◌∷◌, ◌++◌, length, slice_set, take, Ok, IfOk, OnErr};
+ghost use Rattle.cb_types.specs.declared.reply.Reply.TheVariants.{Bytes, Made};
 ghost use Rattle.cb_shared.specs.Passes.{IsPassOf, record_of};
 ghost use Rattle.cb_shared.specs.Recalls.{first_version_of};
 ghost use Rattle.cb_farmap.specs.declared.kept.KeptObject.{KeptObject};
-ghost use Rattle.cb_farmap.specs.Calls.{AskMake, AskRead, AskWrite, Goes, trouble};
-ghost use Rattle.cb_farmap.specs.Changes.{IsCalm, IsSole, Makes, Rewrites};
+ghost use Rattle.cb_farmap.specs.Calls.{AskMake, AskRead, AskWrite, Goes, Tells, trouble};
+ghost use Rattle.cb_farmap.specs.Changes.{IsCalm, IsLoose, IsSole, Makes, Rewrites, with_next};
 ghost use Rattle.cb_farmap.specs.Objects.{IsObject, bytes_at};
 
 use crate::kept::{Cannot, KeptObject, Objects};
@@ -30,12 +30,21 @@ pub(crate) fn read_kept<R: Wait>(
     ensures goes { Goes shared.now.config (first_version_of shared.now) (AskRead kept ∷ [])
         (trouble result) (record_of pass.old) (record_of pass.new) }
     ensures bytes { IfOk result (λ bytes. bytes ≡ bytes_at (record_of pass.old).written kept) }
-    ensures calm { IsSole (record_of pass.old) kept → IsCalm (trouble result) }
+    ensures calm { IsSole (record_of pass.old) kept → IsLoose (record_of pass.old) kept
+        → IsCalm (trouble result) }
 {
-    let reply = shared.read(rt, alloc, pass, kept.handle)?;
+    let read = shared.read(rt, alloc, pass, kept.handle);
     shared.recall(pass);
-    match reply {
-        Reply::Bytes { version, bytes } => {
+    bytes_read(kept, read)
+}
+
+/// The bytes that were read of an object at its kept version, or why there are none.
+fn bytes_read(kept: KeptObject, read: Result<Reply, NoMemory>) -> Result<Bytes, Cannot>
+    ensures tells { Tells (AskRead kept) read (trouble result) }
+    ensures bytes { IfOk result (λ bytes. read ≡ Ok (Bytes kept.version bytes)) }
+{
+    match read {
+        Ok(Reply::Bytes { version, bytes }) => {
             if version == kept.version {
                 Ok(bytes)
             } else {
@@ -46,7 +55,8 @@ pub(crate) fn read_kept<R: Wait>(
                 })
             }
         }
-        reply => Err(Cannot::Refused { reply }),
+        Ok(reply) => Err(Cannot::Refused { reply }),
+        Err(_) => Err(Cannot::NoMemory),
     }
 }
 
@@ -70,14 +80,23 @@ pub(crate) fn write_kept<R: Wait>(
         (record_of pass.new) }
     ensures wrote { IfOk result (λ later. Rewrites (record_of pass.old).written kept later at
         bytes.now (record_of pass.new).written) }
-    ensures calm { IsSole (record_of pass.old) kept → IsCalm (trouble result) }
+    ensures calm { IsSole (record_of pass.old) kept → IsLoose (record_of pass.old) kept
+        → IsCalm (trouble result) }
 {
-    let reply = shared.write(rt, alloc, pass, kept.handle, at, bytes)?;
+    let wrote = shared.write(rt, alloc, pass, kept.handle, at, bytes);
     shared.recall(pass);
-    match reply {
-        Reply::Version { version } => {
-            let found = version.saturating_sub(1);
-            if found == kept.version {
+    next_written(kept, wrote)
+}
+
+/// The object at the version one above the kept one, which was written, or why it was not.
+fn next_written(kept: KeptObject, wrote: Result<Reply, NoMemory>) -> Result<KeptObject, Cannot>
+    ensures tells { (at : ℕ) (bytes : List ℕ)
+        → Tells (AskWrite kept at bytes) wrote (trouble result) }
+    ensures next { IfOk result (λ later. later ≡ with_next kept) }
+{
+    match wrote {
+        Ok(Reply::Version { version }) => {
+            if version > kept.version && version - kept.version == 1 {
                 Ok(KeptObject {
                     handle: kept.handle,
                     version,
@@ -86,11 +105,12 @@ pub(crate) fn write_kept<R: Wait>(
                 Err(Cannot::Foreign {
                     handle: kept.handle,
                     kept: kept.version,
-                    found,
+                    found: version.saturating_sub(1),
                 })
             }
         }
-        reply => Err(Cannot::Refused { reply }),
+        Ok(reply) => Err(Cannot::Refused { reply }),
+        Err(_) => Err(Cannot::NoMemory),
     }
 }
 
@@ -123,7 +143,8 @@ pub(crate) fn make_kept<R: Wait>(
 
 /// What was made.
 fn made_of(made: Result<Reply, NoMemory>) -> Result<KeptObject, Cannot>
-    ensures { IfOk result (λ k. made ≡ Ok (Made k.handle k.version)) }
+    ensures tells { (bytes : List ℕ) → Tells (AskMake bytes) made (trouble result) }
+    ensures made { IfOk result (λ k. made ≡ Ok (Made k.handle k.version)) }
 {
     match made {
         Ok(Reply::Made { handle, version }) => Ok(KeptObject { handle, version }),
@@ -135,6 +156,7 @@ fn made_of(made: Result<Reply, NoMemory>) -> Result<KeptObject, Cannot>
 /// Puts what was made in the last place, or takes that away.
 fn settle(kept: &mut Objects, made: Result<KeptObject, Cannot>) -> Result<(), Cannot>
     requires some { 1 ≤ length kept.old }
+    ensures same { trouble result ≡ trouble made }
     ensures done { IfOk result (λ _. (k : KeptObject) × (made ≡ Ok k)
         × (kept.new ≡ slice_set kept.old (length kept.old - 1) k)) }
     ensures undone { OnErr result (kept.new ≡ take (length kept.old - 1) kept.old) }
