@@ -6,12 +6,13 @@ use Rattle.cb_world.specs.declared.entry.Entry.{Entry}
 use Rattle.cb_farmap.specs.declared.bucket.Bucket.{Bucket}
 use Rattle.cb_farmap.specs.declared.find.Found.{Found}
 use Rattle.cb_farmap.specs.declared.kept.KeptObject.{KeptObject}
-use Rattle.cb_farmap.specs.Maps.{IsBucket, pairs_in}
+use Rattle.cb_farmap.specs.Buckets.{IsBucket, pairs_in}
 use Rattle.cb_farmap.specs.Numbers.{pairs}
 use Rattle.cb_farmap.specs.Objects.{IsObject, blank, bytes_at, object_at, pairs_at}
 use Rattle.cb_farmap.specs.Pairs.{HasNot, IsFirst, IsSought, Pair, pair_of}
 use Rattle.cb_farmap.specs.Searching.{NoneFrom, SeeksIn}
 use Rattle.cb_farmap.proofs.Lists.{all_at}
+use Rattle.cb_farmap.proofs.Arrays.{object_long}
 use Rattle.cb_farmap.proofs.PairNumbers.{long_pairs}
 use Rattle.cb_farmap.proofs.Pieces.{IsPiece, get_piece, pieces_length}
 use Rattle.cb_farmap.proofs.Seeking.{few_long}
@@ -30,7 +31,7 @@ long_in es b is = length-take-le b.count (flat_map (pairs_at es) b.kept)
 
 pub object_is : (es : List Entry) (b : Bucket) (o : ℕ) → IsBucket es b → o < length b.kept
     → IsObject es (object_at b.kept o)
-object_is es b o is within = all_at b.kept o blank is.objects within
+object_is es b o is within = all_at (IsObject es) b.kept o blank is.objects within
 
 -- a pair of the bucket stands in its object
 pub pair_place : (es : List Entry) (b : Bucket) (o j : ℕ) → IsBucket es b → 64 * o + j < b.count → j < 64
@@ -83,3 +84,8 @@ module _ (es : List Entry) (b : Bucket) (o few key : ℕ) (bytes : List ℕ) (is
 
   pub object_there : IsObject es (object_at b.kept o)
   object_there = object_is es b o is (let w = is.within in omega (arith, w, some))
+
+pub long_bytes : (es : List Entry) (b : Bucket) (o : ℕ) → IsBucket es b → 64 * o < b.count
+    → length (bytes_at es (object_at b.kept o)) ≡ 1024
+long_bytes es b o is some =
+    object_long es (object_at b.kept o) (object_is es b o is (let w = is.within in omega (arith, w, some)))

@@ -15,4 +15,8 @@ mod FirstPairs
 mod Seeking
 mod GoingOn
 mod PlanLaws
+mod ObjectLong
 mod FindIn
+mod Searched
+mod BucketLaws
+mod Moving

@@ -6,7 +6,9 @@ pub mod Changes
 pub mod Arrays
 pub mod Pairs
 pub mod PairBytes
+pub mod Buckets
 pub mod Maps
 pub mod Plans
 pub mod BucketChanges
 pub mod Searching
+pub mod MapChanges

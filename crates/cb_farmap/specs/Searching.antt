@@ -3,7 +3,7 @@ use Rattle.std.specs.Prelude.{◌≡◌, ℕ, ◌+◌, ◌*◌, ◌<◌, ◌≤�
 use Rattle.cb_world.specs.declared.entry.Entry.{Entry}
 use Rattle.cb_farmap.specs.declared.bucket.Bucket.{Bucket}
 use Rattle.cb_farmap.specs.declared.find.Found.{Found}
-use Rattle.cb_farmap.specs.Maps.{pairs_in}
+use Rattle.cb_farmap.specs.Buckets.{pairs_in}
 use Rattle.cb_farmap.specs.Objects.{bytes_at, object_at}
 use Rattle.cb_farmap.specs.Pairs.{pair_of}
 

@@ -1,10 +1,11 @@
 //! The search of a bucket, which a look, a put and a drop of a key share.
-ghost use Rattle.std.specs.Prelude.{◌≡◌, ◌*◌, ◌+◌, ◌<◌, ◌≤◌, ◌∷◌, [], length, IfOk};
+ghost use Rattle.std.specs.Prelude.{◌≡◌, ◌*◌, ◌+◌, ◌%◌, ◌<◌, ◌≤◌, ◌∷◌, [], length, IfOk};
 ghost use Rattle.cb_shared.specs.Passes.{IsPassOf, record_of};
 ghost use Rattle.cb_shared.specs.Recalls.{first_version_of};
 ghost use Rattle.cb_farmap.specs.BucketChanges.{FindsAt};
+ghost use Rattle.cb_farmap.specs.Buckets.{IsBucket};
 ghost use Rattle.cb_farmap.specs.Calls.{AskRead, Goes, trouble};
-ghost use Rattle.cb_farmap.specs.Maps.{IsBucket};
+ghost use Rattle.cb_farmap.specs.Changes.{AreLoose, AreSole, IsCalm, IsLoose, IsSole};
 ghost use Rattle.cb_farmap.specs.Numbers.{pair_at};
 ghost use Rattle.cb_farmap.specs.Objects.{object_at};
 ghost use Rattle.cb_farmap.specs.Plans.{look_plan};
@@ -51,11 +52,12 @@ impl Bucket {
         requires of { IsPassOf shared.now pass.old }
         requires bucket { IsBucket (record_of pass.old).written self.now }
         ensures of { IsPassOf shared.now pass.new }
-        ensures written { (record_of pass.new).written ≡ (record_of pass.old).written }
         ensures found { IfOk result (FindsAt (record_of pass.old).written self.now key) }
         ensures goes { Goes shared.now.config (first_version_of shared.now)
             (look_plan (record_of pass.old).written self.now key) (trouble result)
             (record_of pass.old) (record_of pass.new) }
+        ensures calm { AreSole (record_of pass.old) self.now.kept
+            → AreLoose (record_of pass.old) self.now.kept → IsCalm (trouble result) }
     {
         for o in 0..(self.count as usize).div_ceil(64) {
             if let Some(found) = self.find_in(rt, alloc, shared, pass, o, key)? {
@@ -79,11 +81,12 @@ impl Bucket {
         requires bucket { IsBucket (record_of pass.old).written self.now }
         requires some { 64 * o < self.now.count }
         ensures of { IsPassOf shared.now pass.new }
-        ensures written { (record_of pass.new).written ≡ (record_of pass.old).written }
         ensures sought { IfOk result (SeeksIn (record_of pass.old).written self.now o key) }
         ensures goes { Goes shared.now.config (first_version_of shared.now)
             (AskRead (object_at self.now.kept o) ∷ []) (trouble result) (record_of pass.old)
             (record_of pass.new) }
+        ensures calm { IsSole (record_of pass.old) (object_at self.now.kept o)
+            → IsLoose (record_of pass.old) (object_at self.now.kept o) → IsCalm (trouble result) }
     {
         let few = (self.count as usize - 64 * o).min(64);
         let bytes = read_kept(rt, alloc, shared, pass, self.kept.at(o))?;

@@ -5,10 +5,13 @@
 
 mod array;
 pub mod bucket;
+mod buckets;
 pub mod find;
 pub mod kept;
+mod map;
 mod object;
 mod pairs;
 
 pub use array::FarArray;
 pub use kept::{Cannot, KeptObject, Stop};
+pub use map::FarMap;
