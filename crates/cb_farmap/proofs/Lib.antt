@@ -4,9 +4,14 @@ mod Numbers
 mod Objects
 mod Adds
 mod Finds
+mod Turns
+mod Calm
 mod Keeping
 mod Making
 mod Going
+mod Behind
+mod Arrays
+mod Ends
 mod Places
 mod OneBucket
 mod Mapping
@@ -15,8 +20,9 @@ mod FirstPairs
 mod Seeking
 mod GoingOn
 mod PlanLaws
-mod ObjectLong
 mod FindIn
 mod Searched
 mod BucketLaws
 mod Moving
+mod MapPairs
+mod BucketList
