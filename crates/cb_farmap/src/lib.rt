@@ -4,10 +4,14 @@
 #![tactic(auto)]
 
 mod array;
+pub mod bucket;
+mod buckets;
 pub mod commands;
+pub mod find;
 pub mod kept;
 mod map;
 mod object;
+mod pairs;
 
 pub use array::FarArray;
 pub use commands::{FarAnswers, run_commands};
