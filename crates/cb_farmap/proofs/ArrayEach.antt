@@ -12,6 +12,7 @@ use Rattle.cb_rule.specs.Lists.{Has}
 use Rattle.cb_map_text.specs.Plain.{Plain, after_said, calls_something, found_said, needs_object, objects_for, plain_after, plain_said, with_list, within_said}
 use Rattle.cb_map_text.specs.declared.command.FarAnswer.{FarAnswer}
 use Rattle.cb_map_text.specs.declared.command.FarAnswer.TheVariants.{Done, Number, Nothing, Outside, Refused}
+use Rattle.cb_map_text.specs.declared.command.FarCommand.{FarCommand}
 use Rattle.cb_map_text.specs.declared.command.FarCommand.TheVariants.{Push, Set, Get, Pop}
 use Rattle.cb_farmap.specs.declared.array.FarArray.{FarArray}
 use Rattle.cb_farmap.specs.declared.kept.Cannot.{Cannot}
@@ -25,6 +26,9 @@ use Rattle.cb_farmap.specs.Commands.{CommandGoes, HasOneHistory, refusal_in}
 use Rattle.cb_farmap.specs.Objects.{blank, object_at}
 use Rattle.cb_farmap.specs.Stands.{Says, Stands}
 use Rattle.cb_farmap.proofs.ArrayCommands.{AfterArray, KeepsMap, KeepsOther, array_said, in_range, is_object, long, next_low, one_of}
+use Rattle.cb_farmap.proofs.Behind.{on_same}
+use Rattle.cb_farmap.proofs.Commanding.{AreNow, ends_so}
+use Rattle.cb_farmap.proofs.Commanding.SaidBy.{well}
 use Rattle.cb_farmap.proofs.PlanAdds.{IsPlanFor}
 use Rattle.cb_farmap.proofs.Standing.{get_has, has_wrote}
 
@@ -358,3 +362,63 @@ module _ (c : Config) (n : ℕ) (s : Plain) (v w : View) (a b : FarArray) (m : F
           → IfOk r (λ _. AfterArray n (plain_after s Pop) v w a b)
       after (Ok o) popped = pop_after o popped
       after (Err e) popped = tt
+
+  -- ---- an index outside the list: no call is made
+  set_past : (xs : List ℕ) (i x : ℕ) → length xs ≤ i → slice_set xs i x ≡ xs
+  set_past [] i x past = refl
+  set_past (y ∷ xs) zero x past = absurd (omega (arith, past))
+  set_past (y ∷ xs) (suc i) x past = ap (λ (l : List ℕ). y ∷ l) (set_past xs i x (omega (arith, past)))
+
+  module _ (i : ℕ) (past : a.len ≤ i) (stays : w ≡ v) where
+    outside_said : (said : FarAnswer) → Outside a.len ≡ within_said s i said
+    outside_said said = ap (λ (l : ℕ). Outside l) (sym list_is)
+        ∙ sym (ap (λ (b : Bool). if b then said else Outside (length s.list)) (le-ltb i (length s.list)
+        (let e = list_is in omega (arith, e, past))))
+
+    same_past : (x : ℕ) → slice_set s.list i x ≡ s.list
+    same_past x = set_past s.list i x (let e = list_is in omega (arith, e, past))
+
+    as_it_was : AreNow (n + 1) s v a m
+    as_it_was = record {
+      array_is = st.array_is;
+      map_is = st.map_is;
+      other = st.other;
+      few = let f = st.few in omega (arith, f);
+      few_keys = let f = st.few_keys in omega (arith, f);
+    }
+
+    with_same : (x : ℕ) → with_list s (slice_set s.list i x) ≡ s
+    with_same x = λ j. record s {
+      list = same_past x j;
+      longest = longest_same j;
+    }
+      where
+        longest_same : max s.longest (length (slice_set s.list i x)) ≡ s.longest
+        longest_same = let q = length-set s.list i x in let t = st.tallied.longest in
+            omega (arith, q, t)
+
+    -- nothing is called
+    none_made : (ask : FarCommand) → (needs_object s ask ≡ false) → IsPlanFor v (n + 2) s ask []
+    none_made ask none = record {
+      short = tt;
+      of = tt;
+      makes = sym (ap {B = ℕ} (λ b. if b then 1 else 0) none);
+      calls = λ no. refl;
+    }
+
+    outside_ends : (ask : FarCommand) → needs_object s ask ≡ false → Outside a.len ≡ plain_said s ask
+        → plain_after s ask ≡ s
+        → CommandGoes c 1 s ask (Outside a.len) v w × Stands (n + 1) (after_said s ask (Outside a.len)) w a m
+    outside_ends ask none says after = ends_so c n s ask v w [] None st.record_is st.tallied small
+        (none_made ask none) stays tt (on_same v w stays) history idle (Outside a.len) a m
+        (well refl refl says) (λ at. subst (λ (z : View). AreNow (n + 1) (plain_after s ask) z a m) (sym stays)
+        (subst (λ (p : Plain). AreNow (n + 1) p v a m) (sym after) as_it_was))
+        (λ q at. absurd (let z : None ≡ Some (cannot.Refused q) = at in cc))
+
+    pub outside_set : (x : ℕ) → CommandGoes c 1 s (Set i x) (Outside a.len) v w
+        × Stands (n + 1) (after_said s (Set i x) (Outside a.len)) w a m
+    outside_set x = outside_ends (Set i x) refl (outside_said Done) (with_same x)
+
+    pub outside_get : CommandGoes c 1 s (Get i) (Outside a.len) v w
+        × Stands (n + 1) (after_said s (Get i) (Outside a.len)) w a m
+    outside_get = outside_ends (Get i) refl (outside_said (Number (slice_index s.list i))) refl

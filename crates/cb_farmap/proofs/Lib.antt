@@ -35,3 +35,4 @@ mod MapPairs
 mod BucketList
 mod MapCommands
 mod MapEach
+mod Answering

@@ -162,3 +162,117 @@ all_changed P es new ks later next fresh all (inr (inl (place, p, range, pair)))
     (all_has P ks all (object_at ks (place / 64)) (get_has ks (place / 64) blank (omega (arith, range))))))
 all_changed P es new ks later next fresh all (inr (inr (p, made))) =
     subst (AllByRecursion P) (sym made.more) (all_more P ks made.made all (fresh made.made made.fresh))
+
+-- ---- what is known of the map before a command
+pub calm_map : (n : ℕ) (s : Plain) (v : View) (a : FarArray) (m : FarMap) → Stands n s v a m
+    → IsCalmMap v m
+calm_map n s v a m st = record {
+  whole = st.record_is.whole;
+  going = st.map_is.going;
+  sole = st.map_is.sole;
+  loose = all_loose v st.record_is.loose (kept_of m.buckets);
+}
+
+-- another map, and the list as it was
+pub record KeepsList (s after : Plain) : Type 0 where
+  pub list : after.list ≡ s.list
+  pub longest : after.longest ≡ s.longest
+
+-- what a command leaves of the map
+pub record AfterMap (n : ℕ) (later : Plain) (w : View) (a : FarArray) (o : FarMap) : Type 0 where
+  pub pairs : map_of w o ≡ later.pairs
+  pub counts : map (λ (b : Bucket). b.count) o.buckets ≡ later.counts
+  pub kept : map (λ (b : Bucket). length b.kept) o.buckets
+      ≡ map (λ most. objects_for most 64) later.fullest
+  pub going : o.stop ≡ None
+  pub other : AreOther a.kept (kept_of o.buckets)
+  pub few_keys : o.len ≤ n + 1
+
+module _ (c : Config) (n : ℕ) (s : Plain) (v w : View) (a : FarArray) (m o : FarMap)
+    (st : Stands n s v a m) (small : n < 1000000000) (history : HasOneHistory c 1 w)
+    (idle : w.fresh ≡ []) (ask : FarCommand) (plan : List Ask)
+    (suits : IsPlanFor v (n + 2) s ask plan)
+    (writes : (k : KeptObject) (at : ℕ) (bytes : List ℕ) → Has (AskWrite k at bytes) plan
+    → Has k (kept_of m.buckets)) where
+  module _ (t : Option Cannot) (keeps : KeepsMap c 1 plan t v m w o) where
+    calm : IsCalm t
+    calm = (keeps.calm (calm_map n s v a m st)).0
+
+    goes : Goes c 1 plan t v w
+    goes = subst (λ (q : Option _). Answers c 1 q plan t v w) st.map_is.going keeps.calls
+
+    -- the array stays, and nobody else has its objects
+    sole_array : (t ≡ None) ⊎ ((r : Reply) × (t ≡ Some (cannot.Refused r))) → AreSole w a.kept
+    sole_array ended = let x = adds_so c 1 plan t v w suits.short goes ended in
+        others_sole c 1 plan x.0 v w x.1 a.kept st.array_is.array.objects
+        (λ k y at bytes asked there e. st.other y k there (writes k at bytes asked) (sym e))
+        st.array_is.sole
+
+    array_now : (later : Plain) → KeepsList s later → AreSole w a.kept → IsArrayNow later w a
+    array_now later same sole = record {
+      array = array_on v w a st.array_is.array keeps.on a.stop;
+      list = list_on v w a st.array_is.array keeps.on a.stop ∙ st.array_is.list ∙ sym same.list;
+      kept = st.array_is.kept ∙ ap (λ (n : ℕ). objects_for n 128) (sym same.longest);
+      going = st.array_is.going;
+      sole = sole;
+    }
+
+    now : (later : Plain) → KeepsList s later → AreSole w a.kept → AfterMap n later w a o
+        → AreNow (n + 1) later w a o
+    now later same sole after = record {
+      array_is = array_now later same sole;
+      map_is = record {
+        map_is = keeps.map;
+        pairs = after.pairs;
+        counts = after.counts;
+        kept = after.kept;
+        going = after.going;
+        sole = (keeps.calm (calm_map n s v a m st)).1;
+      };
+      other = after.other;
+      few = let f = st.few in let e = ap (λ (l : List ℕ). length l) same.list in omega (arith, f, e);
+      few_keys = after.few_keys;
+    }
+
+    refused_now : StaysMap t v m w o → (r : Reply) → t ≡ Some (cannot.Refused r)
+        → AreNow (n + 1) s w a o
+    refused_now stays r at = now s (record { list = refl; longest = refl }) (sole_array (inr (r, at)))
+        (record {
+          pairs = stays.map ∙ st.map_is.pairs;
+          counts = ap (λ (z : FarMap). map (λ (b : Bucket). b.count) z.buckets) stays.left
+              ∙ st.map_is.counts;
+          kept = ap (λ (z : FarMap). map (λ (b : Bucket). length b.kept) z.buckets) stays.left
+              ∙ st.map_is.kept;
+          going = ap (λ (z : FarMap). z.stop) stays.left
+              ∙ ap (λ (q : Option _). stop_behind q t) st.map_is.going ∙ goes_on_so t calm;
+          other = subst (λ (l : List Bucket). AreOther a.kept (kept_of l))
+              (sym (ap (λ (z : FarMap). z.buckets) stays.left)) st.other;
+          few_keys = let l = ap (λ (z : FarMap). z.len) stays.left in let f = st.few_keys in
+              omega (arith, l, f);
+        })
+
+  well_by : {X : Type 0} → (r : Result X Cannot) → (same : KeepsList s (plain_after s ask))
+      → IfOk r (λ _. AfterMap n (plain_after s ask) w a o) → KeepsMap c 1 plan (trouble r) v m w o
+      → trouble r ≡ None → AreSole w a.kept → AreNow (n + 1) (plain_after s ask) w a o
+  well_by (Ok x) same after keeps at sole = now None keeps (plain_after s ask) same sole after
+  well_by (Err e) same after keeps at sole = absurd (let z : Some e ≡ None = at in cc)
+
+  ill_by : {X : Type 0} → (r : Result X Cannot) → OnErr r (StaysMap (trouble r) v m w o) → (q : Reply)
+      → trouble r ≡ Some (cannot.Refused q) → StaysMap (trouble r) v m w o
+  ill_by (Ok x) stays q at = absurd (let z : None ≡ Some (cannot.Refused q) = at in cc)
+  ill_by (Err e) stays q at = stays
+
+  pub map_said : {X : Type 0} → (f : X → FarAnswer) → ((x : X) → refusal_in (f x) ≡ None)
+      → KeepsList s (plain_after s ask) → (r : Result X Cannot) → IfOk r (λ x. f x ≡ plain_said s ask)
+      → IfOk r (λ _. AfterMap n (plain_after s ask) w a o)
+      → OnErr r (StaysMap (trouble r) v m w o) → KeepsMap c 1 plan (trouble r) v m w o
+      → (result : Result FarAnswer Want) → IfOk result (Says f r)
+      → IfOk result (λ said. CommandGoes c 1 s ask said v w
+      × Stands (n + 1) (after_said s ask said) w a o)
+  map_said f plain same r tells after stays keeps (Err none) says = tt
+  map_said f plain same r tells after stays keeps (Ok said) says =
+      ends_so c n s ask v w plan (trouble r) st.record_is st.tallied small suits
+      (goes (trouble r) keeps) (calm (trouble r) keeps) keeps.on history idle said a o
+      (said_by f plain s ask r tells said says)
+      (λ at. well_by r same after keeps at (sole_array (trouble r) keeps (inl at)))
+      (λ q at. refused_now (trouble r) keeps (ill_by r stays q at) q at)
