@@ -26,3 +26,6 @@ mod BucketLaws
 mod Moving
 mod MapPairs
 mod BucketList
+mod Once
+mod MapEnds
+mod WorkedPairs
