@@ -36,3 +36,6 @@ mod BucketList
 mod MapCommands
 mod MapEach
 mod Answering
+mod Once
+mod MapEnds
+mod WorkedPairs

@@ -41,8 +41,10 @@ pub record IsMapOf (v : View) (a : FarMap) : Type 0 where
 abbrev pub told_map : FarMap → Option Cannot → FarMap
 told_map a t = record a { stop = stop_behind a.stop t }
 
--- nobody else has its objects, the pass has no pin on them, and it has not stopped
+-- nobody else has its objects, for the pass has the whole share and wrote each of them last; it has
+-- no pin on them, and the map has not stopped
 pub record IsCalmMap (v : View) (a : FarMap) : Type 0 where
+  pub whole : v.share ≡ 64
   pub going : a.stop ≡ None
   pub sole : AreSole v (kept_of a.buckets)
   pub loose : AreLoose v (kept_of a.buckets)
