@@ -36,6 +36,7 @@ mod BucketList
 mod MapCommands
 mod MapEach
 mod Answering
+mod Running
 mod Once
 mod MapEnds
 mod WorkedPairs

@@ -30,6 +30,7 @@ use Rattle.cb_farmap.specs.MapChanges.{IsDropped, IsLooked, IsPut, KeepsMap, Sta
 use Rattle.cb_farmap.specs.Maps.{IsCalmMap, IsMapOf, kept_of, map_of}
 use Rattle.cb_farmap.specs.Objects.{IsObject, blank, object_at}
 use Rattle.cb_farmap.specs.Pairs.{Pair, pair_of, place_of}
+use Rattle.cb_farmap.specs.PairBytes.{object_bytes}
 use Rattle.cb_farmap.specs.Plans.{add_ask, drop_asks, drop_plan, is_filled, last_asks, look_plan, move_asks, objects_to, put_ask, put_plan, reads_to, write_at}
 use Rattle.cb_farmap.specs.Stands.{AreOther, IsArrayNow, IsMapNow, Says, Stands}
 use Rattle.cb_farmap.specs.Stops.{stop_behind}
@@ -210,7 +211,7 @@ module _ (n : ℕ) (s : Plain) (v : View) (a : FarArray) (m : FarMap) (st : Stan
             ∙ (λ i. (count_is i) == (64 * sym kept_is i))
 
         by : (full : Bool) → is_filled b.kept b.count ≡ full → IsPlanFor v (n + 2) s (Put key x)
-            ((if full then AskMake _ else write_at b.kept b.count (key, x)) ∷ [])
+            ((if full then AskMake (object_bytes (key, x)) else write_at b.kept b.count (key, x)) ∷ [])
         by true full = record {
           short = refl;
           of = (tt, tt);
@@ -239,7 +240,7 @@ module _ (n : ℕ) (s : Plain) (v : View) (a : FarArray) (m : FarMap) (st : Stan
     ask_writes None is k at bytes there = by (is_filled b.kept b.count) refl there
       where
         by : (full : Bool) → is_filled b.kept b.count ≡ full
-            → Has (AskWrite k at bytes) ((if full then AskMake _ else write_at b.kept b.count (key, x)) ∷ [])
+            → Has (AskWrite k at bytes) ((if full then AskMake (object_bytes (key, x)) else write_at b.kept b.count (key, x)) ∷ [])
             → Has k b.kept
         by true full there = absurd (no_write_make _ k at bytes there)
         by false full there = subst (λ (y : KeptObject). Has y b.kept)
@@ -290,7 +291,7 @@ module _ (n : ℕ) (s : Plain) (v : View) (a : FarArray) (m : FarMap) (st : Stan
 
   pub drop_suits : IsPlanFor v (n + 2) s (Drop key) (drop_plan v.written b key)
   drop_suits = let z = asks_suit place refl in record {
-    short = reads_short _ _ z.0;
+    short = reads_short (take (objects_to b.count place) b.kept) (drop_asks v.written b place) z.0;
     of = reads_of v (n + 2) _ _ (take_objects (IsObject v.written) _ b.kept bucket_is.objects) z.1;
     makes = reads_make (take (objects_to b.count place) b.kept) (drop_asks v.written b place) ∙ z.2;
     calls = λ no. no_drop (idle_bucket no);
@@ -459,7 +460,7 @@ module _ (c : Config) (n : ℕ) (s : Plain) (v w : View) (a : FarArray) (m o : F
         where
           sides : (count_at s key < 64 * objects_for (most_at s key) 64)
               ⊎ (64 * objects_for (most_at s key) 64 ≤ count_at s key)
-              → (if needs_object s (Put key x) then 1 else 0) ≡ 0
+              → ◌≡◌ {A = ℕ} (if needs_object s (Put key x) then 1 else 0) 0
               → length mine.kept ≡ objects_for (most_at s key) 64 → count_at s key ≤ most_at s key
               → held ≡ objects_for (max (most_at s key) (count_at s key + 1)) 64
           sides (inl less) e k l = omega (arith, more, e, k, l, less)
