@@ -19,6 +19,7 @@ mod Records
 mod WorkDone
 mod Crews
 mod WorkedLanes
+mod WorkedMapped
 mod WorkedThreads
 mod WorkedRun
 mod PlainReplies
@@ -42,6 +43,12 @@ mod RoomyLines
 mod RangeTold
 mod UpheldTold
 mod CalmTold
+mod FramesTold
+mod TurnsLater
+mod Refusals
+mod Causes
+mod CommandsTold
+mod Mapped
 mod Ran
 mod WorkedTelling
 mod WorkedCalm

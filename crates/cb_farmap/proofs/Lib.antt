@@ -9,9 +9,16 @@ mod Calm
 mod Keeping
 mod Making
 mod Going
+mod PlanTurns
+mod PlanAdds
+mod Standing
 mod Behind
 mod Arrays
 mod Ends
+mod MapOn
+mod Commanding
+mod ArrayCommands
+mod ArrayEach
 mod Places
 mod OneBucket
 mod Mapping
@@ -30,6 +37,10 @@ mod BucketList
 mod Once
 mod MapEnds
 mod FreshMap
+mod MapCommands
+mod MapEach
+mod Answering
+mod Running
 mod WorkedPairs
 mod Telling
 mod WorkedObjects

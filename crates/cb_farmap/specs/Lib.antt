@@ -4,6 +4,8 @@ pub mod Stops
 pub mod Calls
 pub mod Changes
 pub mod Arrays
+pub mod Commands
+pub mod Stands
 pub mod Pairs
 pub mod PairBytes
 pub mod Buckets

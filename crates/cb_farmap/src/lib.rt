@@ -6,6 +6,7 @@
 mod array;
 pub mod bucket;
 mod buckets;
+pub mod commands;
 pub mod find;
 pub mod kept;
 mod map;
@@ -13,5 +14,6 @@ mod object;
 mod pairs;
 
 pub use array::FarArray;
+pub use commands::{FarAnswers, run_commands};
 pub use kept::{Cannot, KeptObject, Stop};
 pub use map::FarMap;

@@ -8,7 +8,7 @@ ghost use Rattle.cb_farmap.specs.BucketChanges.{added_by, removed_by};
 ghost use Rattle.cb_farmap.specs.Buckets.{bucket_in};
 ghost use Rattle.cb_farmap.specs.Calls.{trouble};
 ghost use Rattle.cb_farmap.specs.MapChanges.{IsDropped, IsLooked, IsPut, KeepsMap, StaysMap};
-ghost use Rattle.cb_farmap.specs.Maps.{IsMapOf, map_of};
+ghost use Rattle.cb_farmap.specs.Maps.{IsMapOf, map_of, no_map};
 ghost use Rattle.cb_farmap.specs.Plans.{drop_plan, look_plan, put_plan};
 
 use crate::array::noted;
@@ -38,6 +38,7 @@ impl FarMap {
     pub fn new(alloc: Global, buckets: u32) -> Result<FarMap, NoMemory>
         requires some { 1 ≤ buckets }
         requires most { buckets ≤ 4096 }
+        ensures empty { IfOk result (λ map. map ≡ no_map buckets) }
         ensures map { IfOk result (λ map. (v : View) → IsMapOf v map
             × (map_of v map ≡ finite.empty)) }
     {
