@@ -1,0 +1,69 @@
+-- A plan of one call goes as the call was answered.
+use Rattle.std.proofs.Common.{◌≡◌, ℕ, ◌≤◌, List, [], ◌∷◌, Option, Some, None, Result, Ok, Err, IfOk, OnErr, refl, sym, subst, inl, inr, arith}
+use Rattle.cb_member.specs.declared.no_memory.NoMemory.{NoMemory as Want}
+use Rattle.cb_types.specs.declared.config.Config.{Config}
+use Rattle.cb_types.specs.declared.job.Job.TheVariants as jobs
+use Rattle.cb_types.specs.declared.reply.Reply.{Reply}
+use Rattle.cb_rule.specs.declared.view.View.{View}
+use Rattle.cb_rule.specs.declared.turn.Turn.{Turn}
+use Rattle.cb_shared.specs.Calls.{AtNone, IsInVain, TurnGives, TurnStops}
+use Rattle.cb_shared.specs.Making.{MakesNew}
+use Rattle.cb_record.specs.Parts.{nothing_more}
+use Rattle.cb_shared.proofs.Laws.{grown_nothing}
+use Rattle.cb_farmap.specs.declared.kept.Cannot.{Cannot}
+use Rattle.cb_farmap.specs.declared.kept.Cannot.TheVariants as cannot
+use Rattle.cb_farmap.specs.Calls.{Ask, AskMake, CallGives, CallStops, Fails, Goes, Tells}
+
+module _ (c : Config) (first : ℕ) (ask : Ask) (v u w : View) (same : w ≡ u) where
+  failed : (e : Cannot) → Fails c first ask e v u → Goes c first (ask ∷ []) (Some e) v w
+  failed e x = inl (subst (Fails c first ask e v) (sym same) x)
+
+  lacked : (e : Cannot) → Some e ≡ Some cannot.NoMemory → CallStops c ask v u
+      → Goes c first (ask ∷ []) (Some e) v w
+  lacked cannot.NoMemory is x = failed cannot.NoMemory x
+  lacked (cannot.Refused reply) is x = absurd cc
+  lacked (cannot.Foreign handle kept found) is x = absurd cc
+
+  -- by what the call was answered, and what is told of it
+  pub goes_by : (r : Result Reply Want) (t : Option Cannot) → Tells ask r t
+      → IfOk r (λ x. CallGives c first ask x v u) → OnErr r (CallStops c ask v u)
+      → Goes c first (ask ∷ []) t v w
+  goes_by (Ok r) None tells gives stops = (u, (r, tells, gives), same)
+  goes_by (Ok r) (Some cannot.NoMemory) tells gives stops = absurd tells
+  goes_by (Ok r) (Some (cannot.Refused reply)) (is, odd) gives stops =
+      subst (λ (x : Reply). Goes c first (ask ∷ []) (Some (cannot.Refused x)) v w) (sym is)
+      (failed (cannot.Refused r) (odd, gives))
+  goes_by (Ok r) (Some (cannot.Foreign handle kept found)) (of, odd) gives stops =
+      failed (cannot.Foreign handle kept found) (of, (r, odd, gives))
+  goes_by (Err e) None tells gives stops = absurd cc
+  goes_by (Err e) (Some x) tells gives stops = lacked x tells stops
+
+-- ---- a make
+pub make_gives : (c : Config) (first : ℕ) (bytes : List ℕ) (r : Result Reply Want) (v w : View)
+    → IfOk r (λ x. TurnGives c (jobs.Make bytes) x v w)
+    → IfOk r (λ x. MakesNew first (jobs.Make bytes) x v)
+    → IfOk r (λ x. CallGives c first (AskMake bytes) x v w)
+make_gives c first bytes (Ok x) v w gives new = (gives, new)
+make_gives c first bytes (Err e) v w gives new = tt
+
+-- one for which there was no place, so that no try was made
+in_vain : (vain : Turn → Type 0) → IsInVain AtNone vain nothing_more
+in_vain vain = record { looks = []; turns = []; at = tt; of = tt; idle = tt; part = refl }
+
+no_try : (c : Config) (bytes : List ℕ) (v : View) → TurnStops c (jobs.Make bytes) v v
+no_try c bytes v = record {
+  between = v;
+  last = nothing_more;
+  tries = (nothing_more, in_vain _, grown_nothing v);
+  lacks = in_vain _;
+  one = few;
+  left = grown_nothing v;
+}
+  where
+    few : 0 ≤ 1
+    few = omega arith
+
+pub no_place : (c : Config) (first : ℕ) (bytes : List ℕ) (v w : View) → w ≡ v
+    → Goes c first (AskMake bytes ∷ []) (Some cannot.NoMemory) v w
+no_place c first bytes v w same =
+    inl (subst (TurnStops c (jobs.Make bytes) v) (sym same) (no_try c bytes v))

@@ -1,0 +1,9 @@
+mod Lists
+mod Pieces
+mod Numbers
+mod Objects
+mod Adds
+mod Finds
+mod Keeping
+mod Making
+mod Going

@@ -1,0 +1,98 @@
+-- The list of an array in a pass, and what each call on it asks.
+use Rattle.std.specs.Prelude.{ℕ, ◌+◌, ◌-◌, ◌*◌, ◌/◌, ◌%◌, ◌≤◌, ◌==◌, ◌≡◌, Bool, true, false, if◌then◌else◌, List, [], ◌∷◌, ◌++◌, length, replicate, slice_get, slice_set, take, Option, None}
+use Rattle.std.specs.List.{AllByRecursion, flat_map}
+use Rattle.byteorder.specs.Endian.{little_bytes}
+use Rattle.cb_rule.specs.declared.view.View.{View}
+use Rattle.cb_farmap.specs.declared.array.FarArray.{FarArray}
+use Rattle.cb_farmap.specs.declared.kept.Cannot.{Cannot}
+use Rattle.cb_farmap.specs.declared.kept.KeptObject.{KeptObject}
+use Rattle.cb_farmap.specs.Calls.{Ask, AskMake, AskRead, AskWrite}
+use Rattle.cb_farmap.specs.Changes.{AreLoose, AreSole, Makes, Rewrites, with_next}
+use Rattle.cb_farmap.specs.Objects.{AreApart, IsObject, numbers_at, object_at}
+use Rattle.cb_farmap.specs.Stops.{stop_behind}
+
+-- the first numbers of its objects at their kept versions, in order
+abbrev pub list_of : View → FarArray → List ℕ
+list_of v a = take a.len (flat_map (numbers_at v.written) a.kept)
+
+-- the pass has each object of the array at its kept version as written, none of them stands twice,
+-- and they have room for its numbers
+pub record IsArrayOf (v : View) (a : FarArray) : Type 0 where
+  pub objects : AllByRecursion (IsObject v.written) a.kept
+  pub apart : AreApart a.kept
+  pub within : a.len ≤ 128 * length a.kept
+
+-- an array without numbers, objects and stop
+abbrev pub no_array : FarArray
+no_array = record { kept = []; len = 0; stop = None }
+
+-- with what was told
+abbrev pub told_so : FarArray → Option Cannot → FarArray
+told_so a t = record a { stop = stop_behind a.stop t }
+
+-- ---- what a call asks
+
+-- a read of the object that has this number
+abbrev pub get_plan : List KeptObject → ℕ → List Ask
+get_plan ks i = AskRead (object_at ks (i / 128)) ∷ []
+
+-- a write into it
+abbrev pub set_plan : List KeptObject → ℕ → ℕ → List Ask
+set_plan ks i x = AskWrite (object_at ks (i / 128)) (8 * (i % 128)) (little_bytes 8 x) ∷ []
+
+-- so many numbers fill all objects
+abbrev pub is_full : List KeptObject → ℕ → Bool
+is_full ks len = len == 128 * length ks
+
+-- the bytes of an object that has this number and zeros behind it
+abbrev pub bytes_with : ℕ → List ℕ
+bytes_with x = little_bytes 8 x ++ replicate 1016 0
+
+-- a write behind the last number, or a make where all objects are full
+abbrev pub push_plan : List KeptObject → ℕ → ℕ → List Ask
+push_plan ks len x =
+    if is_full ks len then AskMake (bytes_with x) ∷ [] else set_plan ks len x
+
+-- a read of the last number's object, if there is one
+abbrev pub pop_plan : List KeptObject → ℕ → List Ask
+pop_plan ks len = if len == 0 then [] else get_plan ks (len - 1)
+
+-- ---- what a call leaves
+
+-- the objects of which the one with this number was written
+abbrev pub with_written : List KeptObject → ℕ → List KeptObject
+with_written ks i = slice_set ks (i / 128) (with_next (object_at ks (i / 128)))
+
+-- this number was written, and nothing else
+pub record WritesNumber (ks : List KeptObject) (i x : ℕ) (later : List KeptObject) (v w : View)
+    : Type 0 where
+  pub kept : later ≡ with_written ks i
+  pub wrote : Rewrites v.written (object_at ks (i / 128)) (with_next (object_at ks (i / 128)))
+      (8 * (i % 128)) (little_bytes 8 x) w.written
+
+-- a number was put behind so many: an object was made where all were full, else one was written
+abbrev pub PutsNumber : Bool → List KeptObject → ℕ → ℕ → List KeptObject → View → View → Type 0
+PutsNumber true ks len x later v w = Makes v.written ks later (bytes_with x) w.written
+PutsNumber false ks len x later v w = WritesNumber ks len x later v w
+
+-- the array has a number more: in an object more where all were full, else in a later version
+pub record IsPushed (a b : FarArray) : Type 0 where
+  pub len : b.len ≡ a.len + 1
+  pub stop : b.stop ≡ a.stop
+  pub full : is_full a.kept a.len ≡ true → (k : KeptObject) × (b.kept ≡ a.kept ++ k ∷ [])
+  pub room : is_full a.kept a.len ≡ false → b.kept ≡ with_written a.kept a.len
+
+-- the last of a list, and the list without it
+abbrev pub last_of : List ℕ → Option ℕ
+last_of xs = slice_get xs (length xs - 1)
+
+abbrev pub but_last : List ℕ → List ℕ
+but_last xs = take (length xs - 1) xs
+
+-- ---- an array that nobody else has
+
+-- nobody else has its objects, the pass has no pin on them, and it has not stopped
+pub record IsCalmArray (v : View) (a : FarArray) : Type 0 where
+  pub going : a.stop ≡ None
+  pub sole : AreSole v a.kept
+  pub loose : AreLoose v a.kept

@@ -1,0 +1,6 @@
+pub mod Numbers
+pub mod Objects
+pub mod Stops
+pub mod Calls
+pub mod Changes
+pub mod Arrays

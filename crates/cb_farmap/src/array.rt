@@ -1,0 +1,330 @@
+//! A list of numbers in objects of 128 each.
+ghost use Rattle.std.specs.Prelude.{◌≡◌, ◌+◌, ◌-◌, ◌*◌, ◌/◌, ◌%◌, ◌<◌, ◌≤◌, ◌∷◌, [], ◌++◌, length, slice_index, slice_set, IfOk, OnErr};
+ghost use Rattle.std.specs.List.{AllByRecursion};
+ghost use Rattle.cb_shared.specs.Passes.{IsPassOf, record_of};
+ghost use Rattle.cb_shared.specs.Recalls.{first_version_of};
+ghost use Rattle.cb_farmap.specs.Arrays.{IsArrayOf, IsCalmArray, IsPushed, PutsNumber, WritesNumber, but_last, bytes_with, get_plan, is_full, last_of, list_of, no_array, pop_plan, push_plan, set_plan, told_so, with_written};
+ghost use Rattle.cb_farmap.specs.Calls.{Answers, AskMake, Goes, trouble};
+ghost use Rattle.cb_farmap.specs.Changes.{AreLoose, AreSole, GoesOn, IsCalm, IsLoose, IsSole, Makes};
+ghost use Rattle.cb_farmap.specs.Numbers.{number_at};
+ghost use Rattle.cb_farmap.specs.Objects.{IsObject, bytes_at, object_at};
+ghost use Rattle.cb_farmap.specs.Stops.{stop_behind};
+
+use crate::kept::{Cannot, Objects, Stop};
+use crate::object::{make_kept, read_kept, write_kept};
+use byteorder::{ByteOrder, LittleEndian};
+use cb_shared::{Pass, Shared};
+use std::alloc::Global;
+use std::sync::Wait;
+
+/// A list of numbers in objects of 1,024 bytes, 128 numbers to an object, each of 8 bytes with the
+/// lowest first. The array keeps of each object its handle and the version at which it wrote it
+/// last. All calls of one array are made on the one pass that made its objects, which may be split
+/// and joined meanwhile. An object that gets empty is kept, and filled again before one is made;
+/// none is freed.
+#[derive(Drop)]
+pub struct FarArray {
+    kept: Objects,
+    len: u32,
+    stop: Option<Stop>,
+}
+
+impl FarArray {
+    /// An empty array; takes no memory, here and in the runtime.
+    pub fn new(alloc: Global) -> FarArray
+        ensures empty { result ≡ no_array }
+    {
+        FarArray {
+            kept: Objects::new(alloc),
+            len: 0,
+            stop: None,
+        }
+    }
+
+    /// How many numbers there are.
+    pub fn len(&self) -> u32
+        ensures { result ≡ self.now.len }
+    {
+        self.len
+    }
+
+    /// The number with this index, by one read of its object. Refused by any reply of that read but
+    /// the bytes of the kept version, Foreign where they are those of another version. The first
+    /// Foreign, and the first Refused with Freed, is given again to every later call but `len`.
+    pub fn get<R: Wait>(
+        &mut self,
+        rt: &R,
+        alloc: Global,
+        shared: &Shared,
+        pass: &mut Pass,
+        i: u32,
+    ) -> Result<u64, Cannot>
+        requires of { IsPassOf shared.now pass.old }
+        requires array { IsArrayOf (record_of pass.old) self.old }
+        requires within { i < self.old.len }
+        ensures of { IsPassOf shared.now pass.new }
+        ensures array { IsArrayOf (record_of pass.new) self.new }
+        ensures number { IfOk result (λ x. x
+            ≡ slice_index (list_of (record_of pass.old) self.old) i) }
+        ensures list { list_of (record_of pass.new) self.new
+            ≡ list_of (record_of pass.old) self.old }
+        ensures left { self.new ≡ told_so self.old (trouble result) }
+        ensures calls { Answers shared.now.config (first_version_of shared.now) self.old.stop
+            (get_plan self.old.kept i) (trouble result) (record_of pass.old) (record_of pass.new) }
+        ensures on { GoesOn (record_of pass.old) (record_of pass.new) }
+        ensures calm { IsCalmArray (record_of pass.old) self.old → IsCalm (trouble result)
+            × AreSole (record_of pass.new) self.new.kept }
+    {
+        if let Some(stop) = self.stop {
+            return Err(Cannot::from(stop));
+        }
+        let number = number_kept(rt, alloc, shared, pass, &self.kept, i);
+        noted(&mut self.stop, number)
+    }
+
+    /// Puts a number in the place of the one with this index, by one write into its object, which is
+    /// not read. Refused by any reply of that write but a version, Foreign where that is another one
+    /// than the one above the kept version; both leave the numbers as they were, and so does want of
+    /// memory.
+    pub fn set<R: Wait>(
+        &mut self,
+        rt: &R,
+        alloc: Global,
+        shared: &Shared,
+        pass: &mut Pass,
+        i: u32,
+        x: u64,
+    ) -> Result<(), Cannot>
+        requires of { IsPassOf shared.now pass.old }
+        requires array { IsArrayOf (record_of pass.old) self.old }
+        requires within { i < self.old.len }
+        ensures of { IsPassOf shared.now pass.new }
+        ensures array { IsArrayOf (record_of pass.new) self.new }
+        ensures set { IfOk result (λ _. list_of (record_of pass.new) self.new
+            ≡ slice_set (list_of (record_of pass.old) self.old) i x) }
+        ensures stays { OnErr result (list_of (record_of pass.new) self.new
+            ≡ list_of (record_of pass.old) self.old) }
+        ensures left { OnErr result (self.new ≡ told_so self.old (trouble result)) }
+        ensures kept { IfOk result (λ _. self.new ≡ record self.old {
+          kept = with_written self.old.kept i;
+        }) }
+        ensures calls { Answers shared.now.config (first_version_of shared.now) self.old.stop
+            (set_plan self.old.kept i x) (trouble result) (record_of pass.old) (record_of pass.new) }
+        ensures on { GoesOn (record_of pass.old) (record_of pass.new) }
+        ensures calm { IsCalmArray (record_of pass.old) self.old → IsCalm (trouble result)
+            × AreSole (record_of pass.new) self.new.kept }
+    {
+        if let Some(stop) = self.stop {
+            return Err(Cannot::from(stop));
+        }
+        let wrote = write_number(rt, alloc, shared, pass, &mut self.kept, i, x);
+        noted(&mut self.stop, wrote)
+    }
+
+    /// Puts a number behind the last one: by one write into its object, which is not read, or, where
+    /// all objects are full, by a make of one with this number. Takes the memory for the object's
+    /// place before the make. Refused by any other reply than the success of that call, Foreign as
+    /// in `set`; both leave the numbers as they were, and so does want of memory.
+    pub fn push<R: Wait>(
+        &mut self,
+        rt: &R,
+        alloc: Global,
+        shared: &Shared,
+        pass: &mut Pass,
+        x: u64,
+    ) -> Result<(), Cannot>
+        requires of { IsPassOf shared.now pass.old }
+        requires array { IsArrayOf (record_of pass.old) self.old }
+        requires room { self.old.len < 1000000000 }
+        ensures of { IsPassOf shared.now pass.new }
+        ensures array { IsArrayOf (record_of pass.new) self.new }
+        ensures pushed { IfOk result (λ _. list_of (record_of pass.new) self.new
+            ≡ list_of (record_of pass.old) self.old ++ x ∷ []) }
+        ensures stays { OnErr result (list_of (record_of pass.new) self.new
+            ≡ list_of (record_of pass.old) self.old) }
+        ensures left { OnErr result (self.new ≡ told_so self.old (trouble result)) }
+        ensures kept { IfOk result (λ _. IsPushed self.old self.new) }
+        ensures calls { Answers shared.now.config (first_version_of shared.now) self.old.stop
+            (push_plan self.old.kept self.old.len x) (trouble result) (record_of pass.old) (record_of pass.new) }
+        ensures on { GoesOn (record_of pass.old) (record_of pass.new) }
+        ensures calm { IsCalmArray (record_of pass.old) self.old → IsCalm (trouble result)
+            × AreSole (record_of pass.new) self.new.kept }
+    {
+        if let Some(stop) = self.stop {
+            return Err(Cannot::from(stop));
+        }
+        let put = put_number(rt, alloc, shared, pass, &mut self.kept, self.len, x);
+        if put.is_ok() {
+            self.len += 1;
+        }
+        noted(&mut self.stop, put)
+    }
+
+    /// Takes the last number away and gives it, by one read of its object; None without a call where
+    /// there is none. Refused and Foreign as in `get`, and both leave the numbers as they were.
+    pub fn pop<R: Wait>(
+        &mut self,
+        rt: &R,
+        alloc: Global,
+        shared: &Shared,
+        pass: &mut Pass,
+    ) -> Result<Option<u64>, Cannot>
+        requires of { IsPassOf shared.now pass.old }
+        requires array { IsArrayOf (record_of pass.old) self.old }
+        ensures of { IsPassOf shared.now pass.new }
+        ensures array { IsArrayOf (record_of pass.new) self.new }
+        ensures number { IfOk result (λ o. o ≡ last_of (list_of (record_of pass.old) self.old)) }
+        ensures popped { IfOk result (λ _. list_of (record_of pass.new) self.new
+            ≡ but_last (list_of (record_of pass.old) self.old)) }
+        ensures stays { OnErr result (list_of (record_of pass.new) self.new
+            ≡ list_of (record_of pass.old) self.old) }
+        ensures left { OnErr result (self.new ≡ told_so self.old (trouble result)) }
+        ensures kept { IfOk result (λ _. self.new ≡ record self.old { len = self.old.len - 1 }) }
+        ensures calls { Answers shared.now.config (first_version_of shared.now) self.old.stop
+            (pop_plan self.old.kept self.old.len) (trouble result) (record_of pass.old) (record_of pass.new) }
+        ensures on { GoesOn (record_of pass.old) (record_of pass.new) }
+        ensures calm { IsCalmArray (record_of pass.old) self.old → IsCalm (trouble result)
+            × AreSole (record_of pass.new) self.new.kept }
+    {
+        if let Some(stop) = self.stop {
+            return Err(Cannot::from(stop));
+        }
+        if self.len == 0 {
+            return Ok(None);
+        }
+        let last = number_kept(rt, alloc, shared, pass, &self.kept, self.len - 1);
+        if last.is_ok() {
+            self.len -= 1;
+        }
+        noted(&mut self.stop, last.map(Some))
+    }
+}
+
+/// The answer, which the value notes where it is to be given for good.
+pub(crate) fn noted<T>(stop: &mut Option<Stop>, answer: Result<T, Cannot>) -> Result<T, Cannot>
+    ensures same { result ≡ answer }
+    ensures stop { stop.new ≡ stop_behind stop.old (trouble answer) }
+{
+    if let Err(cannot) = &answer {
+        if stop.is_none() {
+            *stop = cannot.stop();
+        }
+    }
+    answer
+}
+
+/// The number with this index among objects of 128 each, by a read of its object.
+fn number_kept<R: Wait>(
+    rt: &R,
+    alloc: Global,
+    shared: &Shared,
+    pass: &mut Pass,
+    kept: &Objects,
+    i: u32,
+) -> Result<u64, Cannot>
+    requires of { IsPassOf shared.now pass.old }
+    requires within { i / 128 < length kept.now }
+    requires object { IsObject (record_of pass.old).written (object_at kept.now (i / 128)) }
+    ensures of { IsPassOf shared.now pass.new }
+    ensures goes { Goes shared.now.config (first_version_of shared.now)
+        (get_plan kept.now i) (trouble result) (record_of pass.old) (record_of pass.new) }
+    ensures number { IfOk result (λ x. x ≡ number_at
+        (bytes_at (record_of pass.old).written (object_at kept.now (i / 128))) (i % 128)) }
+    ensures calm { IsSole (record_of pass.old) (object_at kept.now (i / 128))
+        → IsLoose (record_of pass.old) (object_at kept.now (i / 128)) → IsCalm (trouble result) }
+{
+    let object = kept.at((i / 128) as usize);
+    let bytes = read_kept(rt, alloc, shared, pass, object)?;
+    Ok(number_of(bytes.as_slice(), (i % 128) as usize))
+}
+
+/// Writes a number in the place of the one with this index.
+fn write_number<R: Wait>(
+    rt: &R,
+    alloc: Global,
+    shared: &Shared,
+    pass: &mut Pass,
+    kept: &mut Objects,
+    i: u32,
+    x: u64,
+) -> Result<(), Cannot>
+    requires of { IsPassOf shared.now pass.old }
+    requires within { i / 128 < length kept.old }
+    requires object { IsObject (record_of pass.old).written (object_at kept.old (i / 128)) }
+    ensures of { IsPassOf shared.now pass.new }
+    ensures goes { Goes shared.now.config (first_version_of shared.now)
+        (set_plan kept.old i x) (trouble result) (record_of pass.old) (record_of pass.new) }
+    ensures wrote { IfOk result (λ _. WritesNumber kept.old i x kept.new (record_of pass.old)
+        (record_of pass.new)) }
+    ensures stays { OnErr result (kept.new ≡ kept.old) }
+    ensures calm { IsSole (record_of pass.old) (object_at kept.old (i / 128))
+        → IsLoose (record_of pass.old) (object_at kept.old (i / 128)) → IsCalm (trouble result) }
+{
+    let mut bytes = [0u8; 8];
+    LittleEndian::write_u64(&mut bytes, x);
+    let o = (i / 128) as usize;
+    let later = write_kept(rt, alloc, shared, pass, kept.at(o), 8 * (i % 128), &bytes)?;
+    kept.set(o, later);
+    Ok(())
+}
+
+/// Makes an object of this number and zeros behind the others.
+fn make_number<R: Wait>(
+    rt: &R,
+    alloc: Global,
+    shared: &Shared,
+    pass: &mut Pass,
+    kept: &mut Objects,
+    x: u64,
+) -> Result<(), Cannot>
+    requires of { IsPassOf shared.now pass.old }
+    ensures of { IsPassOf shared.now pass.new }
+    ensures goes { Goes shared.now.config (first_version_of shared.now)
+        (AskMake (bytes_with x) ∷ []) (trouble result) (record_of pass.old) (record_of pass.new) }
+    ensures made { IfOk result (λ _. Makes (record_of pass.old).written kept.old kept.new
+        (bytes_with x) (record_of pass.new).written) }
+    ensures stays { OnErr result (kept.new ≡ kept.old) }
+    ensures calm { IsCalm (trouble result) }
+{
+    let mut bytes = [0u8; 1024];
+    LittleEndian::write_u64(&mut bytes, x);
+    make_kept(rt, alloc, shared, pass, kept, &bytes)
+}
+
+/// Puts a number behind so many in objects of 128 each.
+fn put_number<R: Wait>(
+    rt: &R,
+    alloc: Global,
+    shared: &Shared,
+    pass: &mut Pass,
+    kept: &mut Objects,
+    len: u32,
+    x: u64,
+) -> Result<(), Cannot>
+    requires of { IsPassOf shared.now pass.old }
+    requires objects { AllByRecursion (IsObject (record_of pass.old).written) kept.old }
+    requires within { len ≤ 128 * length kept.old }
+    ensures of { IsPassOf shared.now pass.new }
+    ensures goes { Goes shared.now.config (first_version_of shared.now)
+        (push_plan kept.old len x) (trouble result) (record_of pass.old) (record_of pass.new) }
+    ensures put { IfOk result (λ _. PutsNumber (is_full kept.old len) kept.old len x kept.new
+        (record_of pass.old) (record_of pass.new)) }
+    ensures stays { OnErr result (kept.new ≡ kept.old) }
+    ensures calm { AreSole (record_of pass.old) kept.old → AreLoose (record_of pass.old) kept.old
+        → IsCalm (trouble result) }
+{
+    if len as usize / 128 == kept.len() {
+        make_number(rt, alloc, shared, pass, kept, x)
+    } else {
+        write_number(rt, alloc, shared, pass, kept, len, x)
+    }
+}
+
+/// The number with this index among the bytes of an object.
+pub(crate) fn number_of(bytes: &[u8], j: usize) -> u64
+    requires long { length bytes.now ≡ 1024 }
+    requires within { j < 128 }
+    ensures { result ≡ number_at bytes.now j }
+{
+    LittleEndian::read_u64(&bytes[8 * j..])
+}

@@ -1,0 +1,11 @@
+//! An array and a hash map of numbers whose objects may lie far away. Both stand on one pass of the
+//! shared runtime: as long as nobody else writes their objects they are a plain list and a plain
+//! map, and the first call that finds that somebody did says so.
+#![tactic(auto)]
+
+mod array;
+pub mod kept;
+mod object;
+
+pub use array::FarArray;
+pub use kept::{Cannot, KeptObject, Stop};
