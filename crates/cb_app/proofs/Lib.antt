@@ -42,6 +42,12 @@ mod RoomyLines
 mod RangeTold
 mod UpheldTold
 mod CalmTold
+mod FramesTold
+mod TurnsLater
+mod Refusals
+mod Causes
+mod CommandsTold
+mod Mapped
 mod Ran
 mod WorkedTelling
 mod WorkedCalm

@@ -66,7 +66,7 @@ module _ (first : ℕ) (c : Config) (v : View) (count : ℕ) (last : FarState)
   abbrev CountsMade : ℕ → FarState → Type 0
   CountsMade n far = (far.made ≡ total (below turn_number made_in n) v.turns) × (far.made ≤ c.handles)
 
-  adds : (t : Turn) → Has t v.turns → CountsMakes c t.job t.took t.gave t.reply
+  pub adds : (t : Turn) → Has t v.turns → CountsMakes c t.job t.took t.gave t.reply
   adds t there = did_adds c t.job t.reply t.start t.acts t.took t.gave (one.did t (v, (0, refl), there))
 
   step : (t : Turn) → Has t v.turns → turn_number t < count → CountsMade (turn_number t) t.took
@@ -80,7 +80,7 @@ module _ (first : ℕ) (c : Config) (v : View) (count : ℕ) (last : FarState)
   start : CountsMade 0 (empty_far first c)
   start = let a = counts_none turn_number made_in v.turns in (omega (arith, a), omega arith)
 
-  counted_or_none : (t : Turn) → Has t v.turns → (turn_number t < count) ⊎ (made_in t ≡ 0)
+  pub counted_or_none : (t : Turn) → Has t v.turns → (turn_number t < count) ⊎ (made_in t ≡ 0)
   counted_or_none t there = by (number_of first c v count last one t there)
     where
       by : HasTurnNumber count t → (turn_number t < count) ⊎ (made_in t ≡ 0)
@@ -88,12 +88,22 @@ module _ (first : ℕ) (c : Config) (v : View) (count : ℕ) (last : FarState)
       by (inr z) = inr (let e = ap (λ (f : FarState). f.made) z.2 in
           let more = (adds t there).more in omega (arith, e, more))
 
-  -- no more are made in all than there are handles
+  -- the last turn left as many as were made in all
+  pub all_made : last.made ≡ total made_in v.turns
+  all_made =
+      let a = (at_last first c v count last one CountsMade start step).0 in
+      let all = counts_all turn_number made_in count v.turns counted_or_none in omega (arith, a, all)
+
+  -- which are no more than there are handles
   pub few_made : total made_in v.turns ≤ c.handles
   few_made =
-      let z = at_last first c v count last one CountsMade start step in
-      let a = z.0 in let b = z.1 in
-      let all = counts_all turn_number made_in count v.turns counted_or_none in omega (arith, a, b, all)
+      let b = (at_last first c v count last one CountsMade start step).1 in
+      let a = all_made in omega (arith, a, b)
+
+  -- a turn found those that the turns of lower numbers made
+  pub made_found : (t : Turn) → Has t v.turns
+      → t.took.made ≡ total (below turn_number made_in (turn_number t)) v.turns
+  made_found t there = (at_turn first c v count last one CountsMade start step t there).0
 
   -- nor behind any turn before
   pub few_found : (t : Turn) → Has t v.turns → t.took.made ≤ c.handles

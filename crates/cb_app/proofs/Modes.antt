@@ -11,13 +11,14 @@ use Rattle.cb_script.proofs.PublicLaws.{spells_no_fault}
 use Rattle.cb_text.specs.Line.{text_of}
 use Rattle.cb_cli.specs.Texts.{fault_text}
 use Rattle.cb_cli.specs.declared.words.Command.{Command}
-use Rattle.cb_cli.specs.declared.words.Command.TheVariants.{Seq, Threads, Local, Check, Rma, Scrub}
+use Rattle.cb_cli.specs.declared.words.Command.TheVariants.{Seq, Threads, Local, Check, Rma, Scrub, Map}
 use Rattle.cb_cli.specs.declared.verdict.Verdict.{Verdict}
 use Rattle.cb_cli.specs.declared.verdict.Verdict.TheVariants.{Done, Refused}
 use Rattle.cb_lanes.specs.declared.side.Side.{Side}
 use Rattle.cb_lanes.specs.declared.side.Side.TheVariants.{Nodes, Compute}
 use Rattle.cb_rma_text.specs.Verdicts as schedules
 use Rattle.cb_rma_text.proofs.PublicLaws.{accepted_not_refused as schedule_not_refused}
+use Rattle.cb_map_text.proofs.PublicLaws.{accepted_not_refused as commands_not_refused}
 use Rattle.cb_scrub_text.specs.Verdicts as scrubs
 use Rattle.cb_scrub_text.proofs.Laws.{accepted_not_refused as rows_not_refused}
 use Rattle.cb_app.specs.declared.ending.Ending.{Ending}
@@ -39,6 +40,7 @@ not_both Check bytes text accepted refused =
     spells_no_fault bytes scripts.Seq accepted.0 refused.0 refused.1 accepted.1 refused.2
 not_both Rma bytes text accepted refused = schedule_not_refused bytes text accepted refused
 not_both Scrub bytes text accepted refused = rows_not_refused bytes text accepted refused
+not_both Map bytes text accepted refused = commands_not_refused bytes text accepted refused
 
 -- the verdict on a script that was answered, and on bytes that are none, with parities of each side
 pub answered_verdict : (side : Side) (bytes : List ℕ) (old new : Ending) (text : List ℕ)

@@ -31,7 +31,7 @@ use Rattle.cb_cli.specs.Taken.{AreBytesTaken}
 use Rattle.cb_cli.specs.Texts.{given_line}
 use Rattle.cb_cli.specs.declared.words.Asked.TheVariants.{Run}
 use Rattle.cb_cli.specs.declared.words.Command.{Command}
-use Rattle.cb_cli.specs.declared.words.Command.TheVariants.{Seq, Threads, Local, Check, Rma, Scrub}
+use Rattle.cb_cli.specs.declared.words.Command.TheVariants.{Seq, Threads, Local, Check, Rma, Scrub, Map}
 use Rattle.cb_cli.proofs.Laws.{local_named, seq_named, no_word}
 use Rattle.cb_app.specs.Modes.{Yields}
 use Rattle.cb_app.specs.Outcome.{IsDone, TellsScript}
@@ -281,6 +281,8 @@ not_empty old world Rma bytes due before is none =
     absurd (let e : answers ≡ [] = ap (λ (end : Ending). end.answers) is.1 ∙ before in cc)
 not_empty old world Scrub bytes due before is none =
     absurd (let e : answers ≡ [] = ap (λ (end : Ending). end.answers) is.1 ∙ before in cc)
+not_empty old world Map bytes due before is none =
+    absurd (let e : answers ≡ [] = is.4.no_answers in cc)
 
 tells_nothing : (words : List (String Global)) (old : Ending) (world : WorldState)
     → old.answers ≡ []

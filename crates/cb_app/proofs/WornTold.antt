@@ -223,7 +223,7 @@ module _ (c : Config) (v : View) (w : WorldState) (closed : IsClosed Did 1 c v w
       by (inl less) = omega (arith, less, end)
       by (inr z) = let e = z.1 in omega (arith, e)
 
-  unwriting : (t : Turn) → Has t v.turns → WritesNone t.job → t.reply ≡ Some answer.Worn
+  pub unwriting : (t : Turn) → Has t v.turns → WritesNone t.job → t.reply ≡ Some answer.Worn
       → 2 ^ 40 ≤ count
   unwriting t there none is = all_counted t there
       (turn_worn c t (one.did t (v, (0, refl), there)) none is)
@@ -280,7 +280,7 @@ module _ (c : Config) (v : View) (w : WorldState) (closed : IsClosed Did 1 c v w
         (subst (λ (o : Option Reply). DidAs c t.job o t.start t.acts t.took t.gave) told
         (one.did t made))
 
-    wrote_worn : (h at : ℕ) (bytes : List ℕ) → t.job ≡ job.Write (the_object h) at bytes
+    pub wrote_worn : (h at : ℕ) (bytes : List ℕ) → t.job ≡ job.Write (the_object h) at bytes
         → t.reply ≡ Some answer.Worn → 2 ^ 40 ≤ count
     wrote_worn h at bytes asked told = ends h (write_last c t.start t.acts t.took t.gave
         (one.sound t made).sound claims h at bytes (did _ asked told))

@@ -2,6 +2,7 @@ pub mod ByLane
 pub mod OwnLines
 pub mod Crew
 pub mod Threaded
+pub mod Mapped
 pub mod Scripts
 pub mod Modes
 pub mod Outcome

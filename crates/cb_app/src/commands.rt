@@ -12,6 +12,7 @@ ghost use Rattle.cb_app.specs.Threaded.{IsThreaded};
 ghost use Rattle.cb_text.specs.Line.{text_of};
 
 use crate::ending::Ending;
+use crate::mapping::map_bytes;
 use crate::threads::run_threads;
 use cb_cli::{
     Command, Pieces, Verdict, answers_text, script_fault_text, script_ok_text, with_given,
@@ -44,6 +45,7 @@ pub fn obey<R: Threads + Wait + Sync>(
         Command::Check => check_bytes(alloc, bytes, end),
         Command::Rma => rma_bytes(alloc, bytes),
         Command::Scrub => scrub_bytes(alloc, bytes),
+        Command::Map => map_bytes(rt, alloc, bytes, end),
     }
 }
 

@@ -12,15 +12,15 @@ use std::alloc::Global;
 /// What a run leaves beside its text.
 #[derive(Drop)]
 pub struct Ending {
-    /// The configuration of the header, where a script was run.
+    /// The configuration of the header, where a script or commands were run.
     pub config: Option<Config>,
-    /// The answers, one for each line behind the header, in order.
+    /// The answers, one for each line of a script behind the header, in order.
     pub answers: Answers,
     /// The crashes that took place.
     pub losses: Losses,
-    /// The world that the lines led to, where a script was answered.
+    /// The world that the lines led to, where a script or commands were answered.
     pub world: Option<World>,
-    /// The seal of the runtime that was closed, where threads answered a script.
+    /// The seal of the runtime that was closed, where threads or a far array and map answered.
     pub seal: Option<Seal>,
 }
 
@@ -90,6 +90,25 @@ impl Ending {
             seal: Some(seal),
         };
         (ending, text)
+    }
+
+    /// The ending of commands that were run on a runtime of this configuration. Takes no memory.
+    pub(crate) fn mapped(alloc: Global, config: Config, world: World, seal: Seal) -> Ending
+        ensures { result ≡ record {
+          config = Some config;
+          answers = [];
+          losses = [];
+          world = Some world;
+          seal = Some seal;
+        } }
+    {
+        Ending {
+            config: Some(config),
+            answers: Answers::new(alloc),
+            losses: Losses::from(Vec::new(alloc)),
+            world: Some(world),
+            seal: Some(seal),
+        }
     }
 
     /// The ending of a script of this configuration that was checked. Takes no memory.

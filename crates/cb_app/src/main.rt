@@ -1,5 +1,5 @@
 //! The program `carbink`: reads or draws a script, answers or checks it, and writes what it has to
-//! tell.
+//! tell; or answers commands on a far array and a far map.
 #![tactic(auto)]
 
 mod by_lane;
@@ -9,6 +9,7 @@ mod drawn;
 pub mod ending;
 #[cfg(test)]
 mod gates;
+mod mapping;
 pub mod run;
 pub mod threads;
 pub mod top;

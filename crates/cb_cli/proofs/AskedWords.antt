@@ -31,7 +31,7 @@ use Rattle.cb_cli.specs.Words.Setting.{Seed, Lines, Lanes}
 use Rattle.cb_cli.specs.declared.words.Asked.{Asked}
 use Rattle.cb_cli.specs.declared.words.Asked.TheVariants.{Run, Draw}
 use Rattle.cb_cli.specs.declared.words.Command.{Command}
-use Rattle.cb_cli.specs.declared.words.Command.TheVariants.{Seq, Threads, Local, Check, Rma, Scrub}
+use Rattle.cb_cli.specs.declared.words.Command.TheVariants.{Seq, Threads, Local, Check, Rma, Scrub, Map}
 use Rattle.cb_cli.specs.declared.words.Given.{Given as WordsGiven}
 use Rattle.cb_cli.specs.declared.words.Plan.{Plan}
 use Rattle.cb_cli.proofs.FlagWords.{IsNoFlag, dashes, plain_digits, plain_from}
@@ -206,6 +206,7 @@ plain_command Local = plain_from 108 (codes "ocal") refl
 plain_command Check = plain_from 99 (codes "heck") refl
 plain_command Rma = plain_from 114 (codes "ma") refl
 plain_command Scrub = plain_from 115 (codes "crub") refl
+plain_command Map = plain_from 109 (codes "ap") refl
 
 plain_number : (n : ℕ) → n < 2 ^ 64 → IsNoFlag (decimal n)
 plain_number n small =

@@ -3,12 +3,12 @@ use Rattle.std.proofs.Common.{◌≡◌, ℕ, Bool, true, false, if◌then◌els
 use Rattle.std.specs.List.{list_any}
 use Rattle.std.specs.Str.{bytes_eq}
 use Rattle.cb_cli.specs.declared.words.Command.{Command}
-use Rattle.cb_cli.specs.declared.words.Command.TheVariants.{Seq, Threads, Local, Check, Rma, Scrub}
+use Rattle.cb_cli.specs.declared.words.Command.TheVariants.{Seq, Threads, Local, Check, Rma, Scrub, Map}
 use Rattle.cb_cli.specs.Words.{command_word, Name}
 
 -- the commands
 abbrev commands : List Command
-commands = Seq ∷ Threads ∷ Local ∷ Check ∷ Rma ∷ Scrub ∷ []
+commands = Seq ∷ Threads ∷ Local ∷ Check ∷ Rma ∷ Scrub ∷ Map ∷ []
 
 -- the command of a text among these, Seq where it is the word of none
 abbrev command_among : List Command → List ℕ → Command
@@ -28,6 +28,7 @@ back Local = refl
 back Check = refl
 back Rma = refl
 back Scrub = refl
+back Map = refl
 
 its_word : (c : Command) → is_word (command_word c) ≡ true
 its_word Seq = refl
@@ -36,6 +37,7 @@ its_word Local = refl
 its_word Check = refl
 its_word Rma = refl
 its_word Scrub = refl
+its_word Map = refl
 
 -- another text is no command's word
 pub no_word_of : (text : List ℕ) → is_word text ≡ false → (c : Command) → text ≡ command_word c → ⊥

@@ -9,7 +9,7 @@ use Rattle.clap.specs.Faults.{fault_of}
 use Rattle.clap.proofs.OnLiterals.{clap_on_literals}
 use Rattle.cb_cli.specs.Reader.{reader}
 use Rattle.cb_cli.specs.declared.words.Asked.TheVariants.{Run, Draw}
-use Rattle.cb_cli.specs.declared.words.Command.TheVariants.{Seq, Threads, Local, Check, Rma, Scrub}
+use Rattle.cb_cli.specs.declared.words.Command.TheVariants.{Seq, Threads, Local, Check, Rma, Scrub, Map}
 use Rattle.cb_cli.specs.declared.words.Plan.{Plan}
 use Rattle.cb_cli.specs.Words.{command_word, AskFor, Name, NameNone, Setting, is_given, IsPlan, setting_value}
 use Rattle.cb_cli.specs.Words.CommandPart.{Word, Given}
@@ -35,6 +35,9 @@ rma_named w is = ap (λ (b : List ℕ). b ∷ []) is
 
 pub scrub_named : (w : String Global) → string_bytes w ≡ codes "scrub" → Name (w ∷ []) Scrub
 scrub_named w is = ap (λ (b : List ℕ). b ∷ []) is
+
+pub map_named : (w : String Global) → string_bytes w ≡ codes "map" → Name (w ∷ []) Map
+map_named w is = ap (λ (b : List ℕ). b ∷ []) is
 
 -- ---- no word, a second word, and a word of no command ask for nothing
 

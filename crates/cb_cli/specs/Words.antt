@@ -5,7 +5,7 @@ use Rattle.std.specs.declared.alloc.Global.{Global}
 use Rattle.cb_cli.specs.declared.words.Asked.{Asked}
 use Rattle.cb_cli.specs.declared.words.Asked.TheVariants.{Run, Draw}
 use Rattle.cb_cli.specs.declared.words.Command.{Command}
-use Rattle.cb_cli.specs.declared.words.Command.TheVariants.{Seq, Threads, Local, Check, Rma, Scrub}
+use Rattle.cb_cli.specs.declared.words.Command.TheVariants.{Seq, Threads, Local, Check, Rma, Scrub, Map}
 use Rattle.cb_cli.specs.declared.words.Plan.{Plan}
 
 -- the word of a command
@@ -16,6 +16,7 @@ command_word Local = codes "local"
 command_word Check = codes "check"
 command_word Rma = codes "rma"
 command_word Scrub = codes "scrub"
+command_word Map = codes "map"
 
 -- the words are the command's one word
 abbrev pub Name : List (String Global) → Command → Type 0

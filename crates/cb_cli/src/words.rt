@@ -37,6 +37,8 @@ pub enum Command {
     Rma,
     /// Examine the rows of a span-set, and make one wrong row right.
     Scrub,
+    /// Answer commands on one far array and one far map of numbers.
+    Map,
 }
 
 /// A script that is to be drawn: from this seed, of 1 to 4,000 lines on 1 to 15 lanes.
@@ -224,6 +226,7 @@ fn named(word: &str) -> Option<Command>
         "check" => Some(Command::Check),
         "rma" => Some(Command::Rma),
         "scrub" => Some(Command::Scrub),
+        "map" => Some(Command::Map),
         _ => None,
     }
 }

@@ -4,3 +4,4 @@ pub mod Stops
 pub mod Calls
 pub mod Changes
 pub mod Arrays
+pub mod Commands

@@ -4,8 +4,12 @@
 #![tactic(auto)]
 
 mod array;
+pub mod commands;
 pub mod kept;
+mod map;
 mod object;
 
 pub use array::FarArray;
+pub use commands::{FarAnswers, run_commands};
 pub use kept::{Cannot, KeptObject, Stop};
+pub use map::FarMap;

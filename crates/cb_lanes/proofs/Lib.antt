@@ -4,6 +4,7 @@ pub mod Recounting
 pub mod LineKeeps
 pub mod Lone
 pub mod LooseSpans
+mod FramesMade
 pub mod EasyLines
 pub mod CalmLines
 pub mod Stamps

@@ -57,7 +57,7 @@ never_moving x far seats h are none idle below moves = by (are.moving h below mo
 -- ---- the frame in which an object lies
 
 -- the frame whose span has the object, where there is one
-abbrev HasFrame : FarState → ℕ → Type 0
+abbrev pub HasFrame : FarState → ℕ → Type 0
 HasFrame far h = (f : ℕ) × ((g slot : ℕ) → resident far.spans g slot ≡ Some h → g ≡ f)
 
 -- a slot that names an object, which lies there
@@ -73,7 +73,7 @@ resident_lies s far f slot h sound r =
     let x = sound.placed.named f slot h p.0 p.1 (named_at far.spans f slot h p.0 p.1 r) in
     record { len = x.len; place = slot_place p.0.class f slot; lies = x.lies }
 
-frame_of : (s : Shown) (far : FarState) → LocalSound s far → (h : ℕ) → HasFrame far h
+pub frame_of : (s : Shown) (far : FarState) → LocalSound s far → (h : ℕ) → HasFrame far h
 frame_of s far sound h = by (object_at s h) refl
   where
     placed : (len place : ℕ) → LiesAt (object_at s h) len place → HasFrame far h

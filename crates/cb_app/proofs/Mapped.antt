@@ -1,0 +1,109 @@
+-- What commands leave, by what was said to them and by the runtime that was closed.
+use Rattle.std.proofs.Common.{◌≡◌, ℕ, ◌≤◌, List, [], length, Some, refl, sym, ap, ◌∙◌, subst}
+use Rattle.cb_types.specs.Config.{IsAccepted}
+use Rattle.cb_types.specs.declared.config.Config.{Config}
+use Rattle.cb_world.specs.World.{WorldState}
+use Rattle.cb_rule.specs.declared.view.View.{View}
+use Rattle.cb_rule.specs.Closing.{IsClosed}
+use Rattle.cb_map_text.specs.First.{First}
+use Rattle.cb_map_text.specs.Form.{Spells}
+use Rattle.cb_map_text.specs.Plain.{fresh}
+use Rattle.cb_map_text.specs.Reading.{FaultIs}
+use Rattle.cb_map_text.specs.Texts.{refusal_text, said_text}
+use Rattle.cb_map_text.specs.declared.command.FarAnswer.{FarAnswer}
+use Rattle.cb_map_text.specs.declared.command.FarCommand.{FarCommand}
+use Rattle.cb_map_text.specs.declared.read.TextFault.{TextFault}
+use Rattle.cb_map_text.specs.declared.read.TextFault.TheVariants.{Line}
+use Rattle.cb_cli.specs.declared.words.Command.TheVariants.{Map}
+use Rattle.cb_cli.specs.declared.verdict.Verdict.{Verdict}
+use Rattle.cb_cli.specs.declared.verdict.Verdict.TheVariants.{Done, Refused}
+use Rattle.cb_shared.specs.declared.pass.Pass.{Pass}
+use Rattle.cb_shared.specs.declared.runtime.Shared.{Shared}
+use Rattle.cb_shared.specs.declared.seal.Seal.{Seal}
+use Rattle.cb_shared.specs.Closing.{IsClosedBy}
+use Rattle.cb_shared.specs.Passes.{IsRuntimeBegun, record_of}
+use Rattle.cb_shared.specs.Sealing.{sealed_record}
+use Rattle.cb_shared.specs.Turning.{Did}
+use Rattle.cb_farmap.specs.Commands.{CommandsGo}
+use Rattle.cb_app.specs.declared.ending.Ending.{Ending}
+use Rattle.cb_app.specs.Mapped.{AreAnswered, IsMapped}
+use Rattle.cb_app.specs.Modes.{IsVerdict}
+use Rattle.cb_app.proofs.CommandsTold.{objects_made, told}
+
+-- commands that were run on a runtime of this configuration, which was closed behind them
+module _ (c : Config) (ok : IsAccepted c) (asks : List FarCommand) (few : length asks ≤ 20000)
+    (s : Shared) (p q : Pass) (begun : IsRuntimeBegun 1 c s p) (saids : List FarAnswer)
+    (go : CommandsGo s.config 1 fresh (record_of p) asks saids (record_of q))
+    (w : WorldState) (seal : Seal) (closed : IsClosedBy s q w seal) where
+  abbrev last : View
+  last = sealed_record seal
+
+  closed_so : IsClosed Did 1 c last w
+  closed_so = subst (λ (v : View). IsClosed Did 1 c v w) (sym closed.view)
+      (subst (λ (d : Config). IsClosed Did 1 d _ w) begun.config
+      (subst (λ (n : ℕ). IsClosed Did n s.config _ w) begun.first_is closed.closed))
+
+  go_so : CommandsGo c 1 fresh (record_of p) asks saids (record_of q)
+  go_so = subst (λ (d : Config). CommandsGo d 1 fresh (record_of p) asks saids (record_of q))
+      begun.config go
+
+  no_turns : (record_of p).turns ≡ []
+  no_turns = ap (λ (v : View). v.turns) begun.begun
+
+  no_entries : (record_of p).written ≡ []
+  no_entries = ap (λ (v : View). v.written) begun.begun
+
+  turns_are : last.turns ≡ (record_of q).turns
+  turns_are = ap (λ (v : View). v.turns) closed.view
+
+  entries_are : last.written ≡ (record_of q).written
+  entries_are = ap (λ (v : View). v.written) closed.view
+
+  pub answered : AreAnswered c asks saids w seal
+  answered = record {
+    shows = closed.world;
+    closed = closed_so;
+    told = told c ok (record_of p) (record_of q) last w asks saids few closed_so no_turns no_entries
+        go_so turns_are entries_are;
+    made = objects_made c ok (record_of p) (record_of q) last w asks saids few closed_so no_turns
+        no_entries go_so turns_are entries_are;
+  }
+
+-- the ending that has them
+pub is_mapped : (c : Config) (asks : List FarCommand) (saids : List FarAnswer) (w : WorldState)
+    (seal : Seal) → AreAnswered c asks saids w seal → (end : Ending)
+    → end ≡ record {
+      config = Some c;
+      answers = [];
+      losses = [];
+      world = Some w;
+      seal = Some seal;
+    }
+    → IsMapped c asks saids end
+is_mapped c asks saids w seal answered end is = subst (IsMapped c asks saids) (sym is) (record {
+  world = w;
+  seal = seal;
+  answered = answered;
+  config = refl;
+  no_answers = refl;
+  no_losses = refl;
+  left = refl;
+  sealed = refl;
+})
+
+-- the verdict on bytes that spell commands, and on others
+pub map_done : (bytes : List ℕ) (c : Config) (asks : List FarCommand) → Spells bytes c asks
+    → (old new : Ending) (text : List ℕ) → (saids : List FarAnswer) × IsMapped c asks saids new
+    × (text ≡ said_text saids) → IsVerdict Map bytes old new (Done text)
+map_done bytes c asks spells old new text (saids, mapped, is) = (
+  record { config = c; commands = asks; spelled = spells },
+  (c, asks, saids, spells, mapped, is),
+)
+
+pub map_refused : (bytes : List ℕ) (end : Ending) (fault : TextFault) → FaultIs fault (First bytes)
+    → (verdict : Verdict) → (line : ℕ) × (fault ≡ Line line) × (verdict ≡ Refused (refusal_text line))
+    → IsVerdict Map bytes end end verdict
+map_refused bytes end fault is verdict (line, at, told) =
+    let first : First bytes line = subst (λ (f : TextFault). FaultIs f (First bytes)) at is in
+    subst (IsVerdict Map bytes end end) (sym told)
+    (record { line = line; first = first; text_is = refl }, refl)

@@ -1,0 +1,116 @@
+-- What commands on one array and one map come to: what is said to each, and what it adds to the
+-- record of the pass.
+use Rattle.std.specs.Prelude.{◌≡◌, ◌⊎◌, ℕ, ◌+◌, ◌≤◌, true, List, [], ◌∷◌, ◌++◌, length, Option, None, Some}
+use Rattle.cb_types.specs.declared.config.Config.{Config}
+use Rattle.cb_types.specs.declared.job.Job.{Job}
+use Rattle.cb_types.specs.declared.job.Job.TheVariants as jobs
+use Rattle.cb_types.specs.declared.reply.Reply.{Reply}
+use Rattle.cb_types.specs.declared.reply.Reply.TheVariants as answer
+use Rattle.cb_world.specs.declared.entry.Entry.{Entry}
+use Rattle.cb_world.specs.FarState.{FarState}
+use Rattle.cb_rule.specs.declared.turn.Turn.{Turn}
+use Rattle.cb_rule.specs.declared.view.View.{View}
+use Rattle.cb_rule.specs.Lists.{Each, Has, total}
+use Rattle.cb_rule.specs.OneHistory.{IsOneHistory}
+use Rattle.cb_shared.specs.Calls.{IsAnswerTo}
+use Rattle.cb_shared.specs.Turning.{Did, made_by_turn}
+use Rattle.cb_map_text.specs.Plain.{Plain, after_said, calls_something, needs_object, objects, plain_said}
+use Rattle.cb_map_text.specs.declared.command.FarAnswer.{FarAnswer}
+use Rattle.cb_map_text.specs.declared.command.FarAnswer.TheVariants.{Refused}
+use Rattle.cb_map_text.specs.declared.command.FarCommand.{FarCommand}
+use Rattle.cb_farmap.specs.Calls.{Ask, Goes}
+use Rattle.cb_farmap.specs.declared.kept.Cannot.{Cannot}
+use Rattle.cb_farmap.specs.declared.kept.Cannot.TheVariants as cannot
+
+-- ---- the turns of a record
+
+-- a job that makes an object
+abbrev pub IsMake : Job → Type 0
+IsMake (jobs.Make bytes) = Unit {0}
+IsMake other = ⊥
+
+-- the record wrote the object
+abbrev pub HasWritten : View → ℕ → Type 0
+HasWritten v h = (e : Entry) × Has e v.written × (e.handle ≡ h)
+
+-- a job that brings in an object of the record, and reads or writes it
+abbrev pub IsOnObject : View → Job → Type 0
+IsOnObject v (jobs.Swap handle) = HasWritten v handle.n
+IsOnObject v (jobs.Read handle) = HasWritten v handle.n
+IsOnObject v (jobs.Write handle at bytes) = HasWritten v handle.n
+IsOnObject v other = ⊥
+
+-- how many objects a turn made, and how many these turns
+abbrev pub made_in : Turn → ℕ
+made_in t = length (made_by_turn t.job t.reply)
+
+abbrev pub made_by_all : List Turn → ℕ
+made_by_all turns = total made_in turns
+
+-- all turns of the record are one history
+abbrev pub HasOneHistory : Config → ℕ → View → Type 0
+HasOneHistory c first v = (count : ℕ) × (last : FarState) × IsOneHistory Did first c (v ∷ []) count last
+
+-- ---- one command
+
+-- why a command was refused, where it was
+abbrev pub refusal_in : FarAnswer → Option Cannot
+refusal_in (Refused reply) = Some (cannot.Refused reply)
+refusal_in said = None
+
+-- The call of a turn succeeded; or it was told of a freed object, of one that is too short, or of
+-- pins, which an object is not that nobody else wrote or pinned.
+abbrev pub IsOutOfPlace : Job → Reply → Type 0
+IsOutOfPlace (jobs.Make bytes) (answer.Made handle version) = Unit {0}
+IsOutOfPlace (jobs.Make bytes) r = ⊥
+IsOutOfPlace j (answer.Bytes version bytes) = Unit {0}
+IsOutOfPlace j (answer.Version version) = Unit {0}
+IsOutOfPlace j answer.Freed = Unit {0}
+IsOutOfPlace j (answer.Range len) = Unit {0}
+IsOutOfPlace j (answer.Pinned count) = Unit {0}
+IsOutOfPlace j r = ⊥
+
+-- The newest of the turns that a command added tells it: one that makes an object, where the command
+-- needs one, or one on an object of the record. Its reply answers the call, and is none of these.
+pub record IsToldByTurn (c : Config) (s : Plain) (a : FarCommand) (r : Reply) (w : View)
+    (more : List Turn) : Type 0 where
+  pub turn : Turn
+  pub before : List Turn
+  pub newest : more ≡ turn ∷ before
+  pub reply_is : turn.reply ≡ Some r
+  pub job_is : (IsMake turn.job × (needs_object s a ≡ true)) ⊎ IsOnObject w turn.job
+  pub answers : IsAnswerTo c turn.job r
+  pub lacks : IsOutOfPlace turn.job r → ⊥
+
+-- what is said to a command that finds the list and the map so
+abbrev pub IsSaid : Config → Plain → FarCommand → FarAnswer → View → List Turn → Type 0
+IsSaid c s a (Refused r) w more = (calls_something s a ≡ true) × IsToldByTurn c s a r w more
+IsSaid c s a said w more = said ≡ plain_said s a
+
+-- A command on the array and the map, which are this list and this map, and the record of the pass
+-- before and after it.
+pub record CommandGoes (c : Config) (first : ℕ) (s : Plain) (a : FarCommand) (said : FarAnswer)
+    (v w : View) : Type 0 where
+  -- its calls of the runtime
+  pub plan : List Ask
+  pub calls : Goes c first plan (refusal_in said) v w
+  -- it adds one entry at the most, and turns that make an object or are on one of the record
+  pub entries : List Entry
+  pub wrote : w.written ≡ entries ++ v.written
+  pub few : length entries ≤ 1
+  pub more : List Turn
+  pub turned : w.turns ≡ more ++ v.turns
+  pub jobs_are : Each (λ t. IsMake t.job ⊎ IsOnObject w t.job) more
+  -- all turns so far are one history, and made as many objects as the list and the map need at
+  -- their fullest
+  pub history : HasOneHistory c first w
+  pub made : made_by_all w.turns ≡ objects (after_said s a said)
+  -- and it is told what the list and the map say, or what a turn was told
+  pub is_said : IsSaid c s a said w more
+
+-- so commands, one after another, each with the list and the map that the ones before it left
+abbrev pub CommandsGo : Config → ℕ → Plain → View → List FarCommand → List FarAnswer → View → Type 0
+CommandsGo c first s v [] [] w = w ≡ v
+CommandsGo c first s v (a ∷ asks) (said ∷ saids) w = (u : View)
+    × CommandGoes c first s a said v u × CommandsGo c first (after_said s a said) u asks saids w
+CommandsGo c first s v asks saids w = ⊥
