@@ -342,8 +342,8 @@ def cases():
         frames=1, room=64, handles=64)
     made.update(far_cases())
     made["pairs_129_handles_2"] = text(puts(129) + looks(129) + ["put 64 1", "drop 0", "put 8256 5", "put 8320 6"], handles=2)
-    made["keys_20000_of_all_buckets"] = text(["put %d %d" % (n, n) for n in range(20000)], handles=400, frames=4,
-                                             room=400)
+    made["keys_20000_of_all_buckets"] = text(["put %d %d" % (n, n) for n in range(20000)], handles=400, frames=100,
+                                             room=64)
     made["commands_20000"] = text(["push 1", "set 0 2", "get 0", "pop", "put 5 6", "look 5", "drop 5", "look 6"] * 2500)
     made["commands_20001"] = text(["pop"] * 20001)
     made["commands_20002_and_a_bad_one_before"] = text(["pop"] * 20000 + ["pops", "pop"])
