@@ -33,7 +33,7 @@ pub record SawFreed (h : ℕ) (v w : View) : Type 0 where
   pub saw : SawNewest h version v
   pub read : Has (freed_seen h version) w.seen
 
-saw_before : (h version : ℕ) (u v : View) → u.written ≡ v.written → u.fresh ≡ v.fresh
+pub saw_before : (h version : ℕ) (u v : View) → u.written ≡ v.written → u.fresh ≡ v.fresh
     → u.share ≡ v.share → SawNewest h version u → SawNewest h version v
 saw_before h version u v written fresh share saw = record {
   at = saw.at;
@@ -44,7 +44,7 @@ saw_before h version u v written fresh share saw = record {
 }
 
 -- so it was where the record grew by what wrote nothing
-saw_grown : (h version : ℕ) (v : View) (before : Part) → before.written ≡ []
+pub saw_grown : (h version : ℕ) (v : View) (before : Part) → before.written ≡ []
     → IsNewest h version (grown before v) → SawNewest h version v
 saw_grown h version v before none newest = record {
   at = grown before v;

@@ -1,5 +1,5 @@
 -- A plan of one call goes as the call was answered.
-use Rattle.std.proofs.Common.{◌≡◌, ℕ, ◌≤◌, List, [], ◌∷◌, Option, Some, None, Result, Ok, Err, IfOk, OnErr, refl, sym, subst, inl, inr, arith}
+use Rattle.std.proofs.Common.{◌≡◌, ℕ, ◌+◌, ◌≤◌, List, [], ◌∷◌, Option, Some, None, Result, Ok, Err, IfOk, OnErr, refl, sym, ap, subst, inl, inr, arith}
 use Rattle.cb_member.specs.declared.no_memory.NoMemory.{NoMemory as Want}
 use Rattle.cb_types.specs.declared.config.Config.{Config}
 use Rattle.cb_types.specs.declared.job.Job.TheVariants as jobs
@@ -8,8 +8,7 @@ use Rattle.cb_rule.specs.declared.view.View.{View}
 use Rattle.cb_rule.specs.declared.turn.Turn.{Turn}
 use Rattle.cb_shared.specs.Calls.{AtNone, IsInVain, TurnGives, TurnStops}
 use Rattle.cb_shared.specs.Making.{MakesNew}
-use Rattle.cb_record.specs.Parts.{nothing_more}
-use Rattle.cb_shared.proofs.Laws.{grown_nothing}
+use Rattle.cb_record.specs.Parts.{grown, nothing_more}
 use Rattle.cb_farmap.specs.declared.kept.Cannot.{Cannot}
 use Rattle.cb_farmap.specs.declared.kept.Cannot.TheVariants as cannot
 use Rattle.cb_farmap.specs.Calls.{Ask, AskMake, CallGives, CallStops, Fails, Goes, Tells}
@@ -47,6 +46,10 @@ make_gives c first bytes (Ok x) v w gives new = (gives, new)
 make_gives c first bytes (Err e) v w gives new = tt
 
 -- one for which there was no place, so that no try was made
+still : (v : View) → v ≡ grown nothing_more v
+still v = let e : v.ever ≡ v.ever + 0 = omega arith in
+    ap (λ (n : ℕ). let z : View = record v { ever = n } in z) e
+
 in_vain : (vain : Turn → Type 0) → IsInVain AtNone vain nothing_more
 in_vain vain = record { looks = []; turns = []; at = tt; of = tt; idle = tt; part = refl }
 
@@ -54,10 +57,10 @@ no_try : (c : Config) (bytes : List ℕ) (v : View) → TurnStops c (jobs.Make b
 no_try c bytes v = record {
   between = v;
   last = nothing_more;
-  tries = (nothing_more, in_vain _, grown_nothing v);
+  tries = (nothing_more, in_vain _, still v);
   lacks = in_vain _;
   one = few;
-  left = grown_nothing v;
+  left = still v;
 }
   where
     few : 0 ≤ 1

@@ -4,6 +4,14 @@ mod Numbers
 mod Objects
 mod Adds
 mod Finds
+mod Turns
+mod Calm
 mod Keeping
 mod Making
 mod Going
+mod PlanTurns
+mod PlanAdds
+mod Standing
+mod Behind
+mod Arrays
+mod Ends

@@ -19,27 +19,22 @@ module _ {A : Type 0} where
   has_back x (y ∷ xs) ys has = inr (has_back x xs ys has)
 
   -- ---- one element of a list
-  pub all_at : {P : A → Type 0} (xs : List A) (i : ℕ) (d : A) → AllByRecursion P xs → i < length xs
+  pub all_at : (P : A → Type 0) (xs : List A) (i : ℕ) (d : A) → AllByRecursion P xs → i < length xs
       → P (get_or xs i d)
-  all_at [] i d all within = absurd (omega (arith, within))
-  all_at (x ∷ xs) zero d all within = all.0
-  all_at (x ∷ xs) (suc i) d all within = all_at xs i d all.1 (omega (arith, within))
+  all_at P [] i d all within = absurd (omega (arith, within))
+  all_at P (x ∷ xs) zero d all within = all.0
+  all_at P (x ∷ xs) (suc i) d all within = all_at P xs i d all.1 (omega (arith, within))
 
-  pub all_set : {P : A → Type 0} (xs : List A) (i : ℕ) (y : A) → AllByRecursion P xs → P y
+  pub all_set : (P : A → Type 0) (xs : List A) (i : ℕ) (y : A) → AllByRecursion P xs → P y
       → AllByRecursion P (slice_set xs i y)
-  all_set [] i y all it = tt
-  all_set (x ∷ xs) zero y all it = (it, all.1)
-  all_set (x ∷ xs) (suc i) y all it = (all.0, all_set xs i y all.1 it)
+  all_set P [] i y all it = tt
+  all_set P (x ∷ xs) zero y all it = (it, all.1)
+  all_set P (x ∷ xs) (suc i) y all it = (all.0, all_set P xs i y all.1 it)
 
-  pub all_more : {P : A → Type 0} (xs : List A) (y : A) → AllByRecursion P xs → P y
+  pub all_more : (P : A → Type 0) (xs : List A) (y : A) → AllByRecursion P xs → P y
       → AllByRecursion P (xs ++ y ∷ [])
-  all_more [] y all it = (it, tt)
-  all_more (x ∷ xs) y all it = (all.0, all_more xs y all.1 it)
-
-  pub all_other : {P Q : A → Type 0} (f : (x : A) → P x → Q x) (xs : List A)
-      → AllByRecursion P xs → AllByRecursion Q xs
-  all_other f [] all = tt
-  all_other f (x ∷ xs) all = (f x all.0, all_other f xs all.1)
+  all_more P [] y all it = (it, tt)
+  all_more P (x ∷ xs) y all it = (all.0, all_more P xs y all.1 it)
 
   -- ---- the last one
   pub set_last : (xs : List A) (b x : A) → slice_set (xs ++ b ∷ []) (length xs) x ≡ xs ++ x ∷ []

@@ -42,11 +42,8 @@ module _ {Y : Type 0} where
   take_back (x ∷ xs) ys = ap (λ (m : List Y). x ∷ m) (take_back xs ys)
 
   pub take_less : (l : List Y) (n m : ℕ) → m ≤ n → take m (take n l) ≡ take m l
-  take_less [] n m less = by n m
-    where
-      by : (n m : ℕ) → take m (take n []) ≡ take m []
-      by zero m = refl
-      by (suc n) m = refl
+  take_less [] zero m less = refl
+  take_less [] (suc n) m less = refl
   take_less (y ∷ l) zero zero less = refl
   take_less (y ∷ l) zero (suc m) less = absurd (omega (arith, less))
   take_less (y ∷ l) (suc n) zero less = refl

@@ -28,7 +28,7 @@ use Rattle.cb_farmap.specs.declared.kept.Cannot.TheVariants as cannot
 use Rattle.cb_farmap.specs.declared.kept.KeptObject.{KeptObject}
 use Rattle.cb_farmap.proofs.Finds.{SawNewest, saw_before}
 use Rattle.cb_farmap.proofs.Lists.{has_back}
-use Rattle.cb_farmap.proofs.PlanTurns.{CallAdds, IsAskedBy, IsInPlace, IsSaidInPlace, IsToldBy, call_adds, each_both, each_weaker, entries_of, handle_of, made_both, made_of, version_told}
+use Rattle.cb_farmap.proofs.PlanTurns.{CallAdds, IsAskedBy, IsEntryOf, IsInPlace, IsSaidInPlace, IsToldBy, call_adds, each_both, each_weaker, entries_of, handle_of, made_both, made_of, version_told}
 
 -- ---- plans
 -- reads, and behind them at the most one call of another kind
@@ -57,7 +57,7 @@ changes_in (ask ∷ plan) = change_of ask + changes_in plan
 
 short_few : (plan : List Ask) → IsShort plan → changes_in plan ≤ 1
 short_few [] short = omega arith
-short_few (AskRead k ∷ plan) short = short_few plan short
+short_few (AskRead k ∷ plan) short = let x = short_few plan short in omega (arith, x)
 short_few (AskWrite k at bytes ∷ plan) short =
     let e = ap changes_in short in omega (arith, e)
 short_few (AskMake bytes ∷ plan) short = let e = ap changes_in short in omega (arith, e)
@@ -79,26 +79,33 @@ IsOfRecord v most (AskMake bytes) = Unit {0}
 abbrev IsOfPlan : List Ask → Job → Type 0
 IsOfPlan plan j = (ask : Ask) × Has ask plan × IsAskedBy ask j
 
+-- the entry is of an object that the plan writes, or of one that the record did not know
+abbrev pub IsEntryIn : List Ask → View → Entry → Type 0
+IsEntryIn plan v e = ((k : KeptObject) × (at : ℕ) × (bytes : List ℕ)
+    × Has (AskWrite k at bytes) plan × (e.handle ≡ k.handle.n))
+    ⊎ ((bytes : List ℕ) × Has (AskMake bytes) plan × (HasWritten v e.handle → ⊥))
+
 -- ---- what its calls add
 -- a call of it was refused, which told so in place or by the newest turn
-record IsRefusedBy (c : Config) (plan : List Ask) (r : Reply) (v : View) (more : List Turn) : Type 0
+pub record IsRefusedBy (c : Config) (plan : List Ask) (r : Reply) (v : View) (more : List Turn) : Type 0
   where
-    ask : Ask
-    there : Has ask plan
-    refusal : IsRefusal ask r
-    told : IsInPlace ask r v ⊎ IsToldBy c ask r more
+    pub ask : Ask
+    pub there : Has ask plan
+    pub refusal : IsRefusal ask r
+    pub told : IsInPlace ask r v ⊎ IsToldBy c ask r more
 
-record PlanAdds (c : Config) (first : ℕ) (plan : List Ask) (made : ℕ) (v w : View) : Type 0 where
-  entries : List Entry
-  wrote : w.written ≡ entries ++ v.written
-  few : length entries ≤ changes_in plan
-  low : (most : ℕ) → first ≤ most → Each (IsOfRecord v most) plan
+pub record PlanAdds (c : Config) (first : ℕ) (plan : List Ask) (made : ℕ) (v w : View) : Type 0 where
+  pub entries : List Entry
+  pub wrote : w.written ≡ entries ++ v.written
+  pub few : length entries ≤ changes_in plan
+  pub low : (most : ℕ) → first ≤ most → Each (IsOfRecord v most) plan
       → Each (λ (e : Entry). e.version ≤ most) entries
-  same : (w.share ≡ v.share) × (w.fresh ≡ v.fresh)
-  more : List Turn
-  turned : w.turns ≡ more ++ v.turns
-  jobs_are : Each (λ (t : Turn). IsOfPlan plan t.job) more
-  made_are : made_by_all more ≡ made
+  pub entries_are : Each (IsEntryIn plan v) entries
+  pub same : (w.share ≡ v.share) × (w.fresh ≡ v.fresh)
+  pub more : List Turn
+  pub turned : w.turns ≡ more ++ v.turns
+  pub jobs_are : Each (λ (t : Turn). IsOfPlan plan t.job) more
+  pub made_are : made_by_all more ≡ made
 
 nothing_added : (c : Config) (first : ℕ) (v w : View) → w ≡ v → PlanAdds c first [] 0 v w
 nothing_added c first v w is = record {
@@ -106,6 +113,7 @@ nothing_added c first v w is = record {
   wrote = ap (λ (z : View). z.written) is;
   few = omega arith;
   low = λ most low of. tt;
+  entries_are = tt;
   same = (ap (λ (z : View). z.share) is, ap (λ (z : View). z.fresh) is);
   more = [];
   turned = ap (λ (z : View). z.turns) is;
@@ -129,6 +137,18 @@ of_later most v u entries grew plan each =
     later (AskRead k) x = wrote k.handle.n x
     later (AskWrite k at bytes) (x, le) = (wrote k.handle.n x, le)
     later (AskMake bytes) x = tt
+
+entry_in : (ask : Ask) (plan : List Ask) (v : View) (e : Entry) → IsEntryOf ask v e
+    → IsEntryIn (ask ∷ plan) v e
+entry_in (AskRead k) plan v e x = absurd x
+entry_in (AskWrite k at bytes) plan v e x = inl (k, at, bytes, inl refl, x)
+entry_in (AskMake bytes) plan v e x = inr (bytes, inl refl, x)
+
+entry_later : (ask : Ask) (plan : List Ask) (v u : View) (e : Entry)
+    → ((h : ℕ) → HasWritten v h → HasWritten u h) → IsEntryIn plan u e → IsEntryIn (ask ∷ plan) v e
+entry_later ask plan v u e all (inl (k, at, bytes, there, is)) = inl (k, at, bytes, inr there, is)
+entry_later ask plan v u e all (inr (bytes, there, off)) =
+    inr (bytes, inr there, λ has. off (all e.handle has))
 
 in_front : (ask : Ask) (plan : List Ask) (ts : List Turn)
     → Each (λ (t : Turn). IsAskedBy ask t.job) ts → Each (λ (t : Turn). IsOfPlan (ask ∷ plan) t.job) ts
@@ -170,6 +190,10 @@ module _ (c : Config) (first : ℕ) where
     a : CallAdds c ask r v u
     a = call_adds c first ask r v u gives
 
+    wrote_too : (h : ℕ) → HasWritten v h → HasWritten u h
+    wrote_too h (e, there, is) =
+        (e, written_more e a.entries v.written u.written a.wrote there, is)
+
     then_adds : PlanAdds c first (ask ∷ plan) (makes_of ask + made) v w
     then_adds = record {
       entries = b.entries ++ a.entries;
@@ -181,6 +205,11 @@ module _ (c : Config) (first : ℕ) where
           (b.low most low (of_later most v u a.entries a.wrote plan of.1))
           (lower (version_told r) most
           (success_low ask r v u v most low of.0 success gives) a.entries a.low);
+      entries_are = each_both (IsEntryIn (ask ∷ plan) v) b.entries a.entries
+          (each_weaker (IsEntryIn plan u) (IsEntryIn (ask ∷ plan) v)
+          (λ e x. entry_later ask plan v u e wrote_too x) b.entries b.entries_are)
+          (each_weaker (IsEntryOf ask v) (IsEntryIn (ask ∷ plan) v)
+          (λ e x. entry_in ask plan v e x) a.entries a.entries_are);
       same = (b.same.0 ∙ a.same.0, b.same.1 ∙ a.same.1);
       more = b.more ++ a.more;
       turned = b.turned ∙ ap (λ (l : List Turn). b.more ++ l) a.turned
@@ -220,10 +249,10 @@ module _ (c : Config) (first : ℕ) where
   read_none k r = refl
 
   -- what a refused plan adds: it makes nothing, and writes nothing
-  record RefusedAdds (plan : List Ask) (r : Reply) (v w : View) : Type 0 where
-    adds : PlanAdds c first plan 0 v w
-    none : adds.entries ≡ []
-    refused : IsRefusedBy c plan r v adds.more
+  pub record RefusedAdds (plan : List Ask) (r : Reply) (v w : View) : Type 0 where
+    pub adds : PlanAdds c first plan 0 v w
+    pub none : adds.entries ≡ []
+    pub refused : IsRefusedBy c plan r v adds.more
 
   fails_at_once : (ask : Ask) (plan : List Ask) (r : Reply) (v w : View) → IsRefusal ask r
       → CallGives c first ask r v w → RefusedAdds (ask ∷ plan) r v w
@@ -234,6 +263,7 @@ module _ (c : Config) (first : ℕ) where
       few = let n = ap (λ (es : List Entry). length es) empty in omega (arith, n);
       low = λ most low of. subst (λ (es : List Entry). Each (λ (e : Entry). e.version ≤ most) es)
           (sym empty) tt;
+      entries_are = subst (λ (es : List Entry). Each (IsEntryIn (ask ∷ plan) v) es) (sym empty) tt;
       same = a.same;
       more = a.more;
       turned = a.turned;
@@ -266,6 +296,7 @@ module _ (c : Config) (first : ℕ) where
   fails_later : (k : KeptObject) (plan : List Ask) (q r : Reply) (v u w : View)
       → IsSuccess (AskRead k) q → CallGives c first (AskRead k) q v u → RefusedAdds plan r u w
       → RefusedAdds (AskRead k ∷ plan) r v w
+  unfolding then_adds a
   fails_later k plan q r v u w success gives b = record {
     adds = all;
     none = ap (λ (l : List Entry). b.adds.entries ++ l) empty ∙ append-nil b.adds.entries ∙ b.none;

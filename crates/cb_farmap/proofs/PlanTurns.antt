@@ -15,10 +15,11 @@ use Rattle.cb_record.specs.Parts.{Part, Grows, grown, nothing_more, sum}
 use Rattle.cb_shared.specs.declared.answers.WriteAnswer.{WriteAnswer}
 use Rattle.cb_shared.specs.declared.answers.WriteAnswer.TheVariants as place
 use Rattle.cb_shared.specs.Calls.{AsksFor, EndsAtLast, IsAnswerTo, IsFetch, IsInVain, IsUnanswered, IsUnfetched, ReadCallEnds, ReadGives, ReadsInPlace, SaysAs, TurnEnds, TurnGives, WriteAnswers, WriteCallEnds, WriteFinds, AtThis, LooksOf, the_handle}
+use Rattle.cb_shared.specs.Making.{MakesNew}
 use Rattle.cb_shared.specs.Reading.{looked}
 use Rattle.cb_shared.specs.Turning.{TurnAdds, made_by_turn, turn_part, with_own}
 use Rattle.cb_farmap.specs.Calls.{Ask, AskMake, AskRead, AskWrite, CallGives, Fails, Goes, IsRefusal, IsSuccess, Succeeds}
-use Rattle.cb_farmap.specs.Commands.{made_by_all, made_in}
+use Rattle.cb_farmap.specs.Commands.{HasWritten, made_by_all, made_in}
 use Rattle.cb_farmap.specs.declared.kept.Cannot.{Cannot}
 use Rattle.cb_farmap.specs.declared.kept.Cannot.TheVariants as cannot
 use Rattle.cb_farmap.specs.declared.kept.KeptObject.{KeptObject}
@@ -55,6 +56,12 @@ abbrev pub entries_of : Ask → Reply → ℕ
 entries_of (AskWrite k at bytes) (answer.Version n) = 1
 entries_of (AskMake bytes) (answer.Made handle n) = 1
 entries_of ask r = 0
+
+-- the entry is of the object that the call writes, or of one that the record did not know
+abbrev pub IsEntryOf : Ask → View → Entry → Type 0
+IsEntryOf (AskRead k) v e = ⊥
+IsEntryOf (AskWrite k at bytes) v e = e.handle ≡ k.handle.n
+IsEntryOf (AskMake bytes) v e = HasWritten v e.handle → ⊥
 
 -- the version that a reply tells of an entry
 abbrev pub version_told : Reply → ℕ
@@ -97,6 +104,7 @@ pub record CallAdds (c : Config) (ask : Ask) (r : Reply) (v w : View) : Type 0 w
   pub wrote : w.written ≡ entries ++ v.written
   pub few : length entries ≤ entries_of ask r
   pub low : Each (λ (e : Entry). e.version ≤ version_told r) entries
+  pub entries_are : Each (IsEntryOf ask v) entries
   pub same : (w.share ≡ v.share) × (w.fresh ≡ v.fresh)
   pub more : List Turn
   pub turned : w.turns ≡ more ++ v.turns
@@ -112,7 +120,7 @@ make_none c bytes r off = refl
 
 vain_make : (c : Config) (bytes : List ℕ) (t : Turn) → IsUnanswered c (jobs.Make bytes) t
     → made_in t ≡ 0
-vain_make c bytes t (job, r, reply, off) = ap (λ (j : Job). length (made_by_turn j t.reply)) job
+vain_make c bytes t (job, (r, reply, off)) = ap (λ (j : Job). length (made_by_turn j t.reply)) job
     ∙ ap (λ (o : Option Reply). length (made_by_turn (jobs.Make bytes) o)) reply
     ∙ make_none c bytes r off
 
@@ -121,7 +129,7 @@ fetch_none h j o (inl is) = ap (λ (k : Job). length (made_by_turn k o)) is
 fetch_none h j o (inr is) = ap (λ (k : Job). length (made_by_turn k o)) is
 
 vain_fetch : (c : Config) (h : ℕ) (t : Turn) → IsUnfetched c h t → made_in t ≡ 0
-vain_fetch c h t (job, fetch, is, unanswered) =
+vain_fetch c h t (job, fetch, (is, unanswered)) =
     fetch_none h t.job t.reply (subst (IsFetch h) (sym is) fetch)
 
 vain_write : (c : Config) (h at : ℕ) (bytes : List ℕ) (t : Turn)
@@ -247,6 +255,7 @@ module _ (c : Config) (ask : Ask) (r : Reply) (v w : View) (before last : Part)
     (entries : List Entry) (wrote : w.written ≡ entries ++ v.written)
     (few : length entries ≤ entries_of ask r)
     (low : Each (λ (e : Entry). e.version ≤ version_told r) entries)
+    (entries_are : Each (IsEntryOf ask v) entries)
     (same : (w.share ≡ v.share) × (w.fresh ≡ v.fresh))
     (in_vain : Each (λ (t : Turn). IsAskedBy ask t.job) before.turns)
     (idle : made_by_all before.turns ≡ 0)
@@ -257,6 +266,7 @@ module _ (c : Config) (ask : Ask) (r : Reply) (v w : View) (before last : Part)
     wrote = wrote;
     few = few;
     low = low;
+    entries_are = entries_are;
     same = same;
     more = last.turns ++ before.turns;
     turned = turns;
@@ -302,9 +312,9 @@ read_adds : (c : Config) (k : KeptObject) (r : Reply) (v w : View) → ReadGives
     → CallAdds c (AskRead k) r v w
 read_adds c k r v w (d, x, is) = adds_in_all c (AskRead k) r v w x.before x.last
     (turns_of v w d x.before x.last x.part (ap (λ (z : View). z.turns) is)) []
-    (read_written c k.handle.n r v w (d, x, is)) (omega arith) tt (same_of v w d is)
+    (read_written c k.handle.n r v w (d, x, is)) (omega arith) tt tt (same_of v w d is)
     (vain_jobs (AtThis k.handle.n) (IsUnfetched c k.handle.n) (λ t. IsFetch k.handle.n t.job)
-    (λ t (j, fetch, same, un). subst (IsFetch k.handle.n) (sym same) fetch) x.before x.in_vain)
+    (λ t (j, fetch, (same, un)). subst (IsFetch k.handle.n) (sym same) fetch) x.before x.in_vain)
     (vain_made (AtThis k.handle.n) (IsUnfetched c k.handle.n) (vain_fetch c k.handle.n) x.before
     x.in_vain)
     (read_ends c k r v (grown x.before v) x.last x.ends_so)
@@ -320,11 +330,11 @@ module _ (c : Config) (k : KeptObject) (at : ℕ) (bytes : List ℕ) (r : Reply)
   write_all : (entries : List Entry) → w.written ≡ entries ++ v.written
       → length entries ≤ entries_of (AskWrite k at bytes) r
       → Each (λ (e : Entry). e.version ≤ version_told r) entries
-      → CallAdds c (AskWrite k at bytes) r v w
-  write_all entries wrote few low = let x = gives.1 in
+      → Each (λ (e : Entry). e.handle ≡ h) entries → CallAdds c (AskWrite k at bytes) r v w
+  write_all entries wrote few low are = let x = gives.1 in
       adds_in_all c (AskWrite k at bytes) r v w x.before x.last
       (turns_of v w gives.0 x.before x.last x.part (ap (λ (z : View). z.turns) gives.2))
-      entries wrote few low (same_of v w gives.0 gives.2)
+      entries wrote few low are (same_of v w gives.0 gives.2)
       (vain_jobs (AtThis h) (IsUnanswered c own) (λ t. t.job ≡ own) (λ t un. un.0) x.before x.in_vain)
       (vain_made (AtThis h) (IsUnanswered c own) (vain_write c h at bytes) x.before x.in_vain)
       (write_ends c k at bytes r v x.before x.last
@@ -335,9 +345,9 @@ write_one : (c : Config) (k : KeptObject) (at : ℕ) (bytes : List ℕ) (r : Rep
 write_one c k at bytes (answer.Version n) v w gives =
     let z = write_adds c k.handle.n at bytes n v w gives in
     write_all c k at bytes (answer.Version n) v w gives (_ ∷ []) z.is (omega arith)
-    (omega arith, tt)
+    (omega arith, tt) (refl, tt)
 write_one c k at bytes r v w gives = write_all c k at bytes r v w gives []
-    (write_same c k.handle.n at bytes r v w (λ n is. absurd cc) gives) (omega arith) tt
+    (write_same c k.handle.n at bytes r v w (λ n is. absurd cc) gives) (omega arith) tt tt
 
 make_alike : (bytes : List ℕ) (r : Reply)
     → length (made_by_turn (jobs.Make bytes) (Some r)) ≡ made_of (AskMake bytes) r
@@ -358,9 +368,19 @@ make_low bytes (answer.Made h n) es x = subst
 make_low bytes r es x = subst
     (λ (l : List Entry). Each (λ (e : Entry). e.version ≤ version_told r) l) (sym x) tt
 
-make_adds : (c : Config) (bytes : List ℕ) (r : Reply) (v w : View)
-    → TurnGives c (jobs.Make bytes) r v w → CallAdds c (AskMake bytes) r v w
-make_adds c bytes r v w (d, x, is) = adds_in_all c (AskMake bytes) r v w x.before x.last
+make_are : (first : ℕ) (bytes : List ℕ) (r : Reply) (v : View) (es : List Entry)
+    → MakeWrites bytes r es → MakesNew first (jobs.Make bytes) r v
+    → Each (IsEntryOf (AskMake bytes) v) es
+make_are first bytes (answer.Made h n) v es x new =
+    subst (λ (l : List Entry). Each (IsEntryOf (AskMake bytes) v) l) (sym x.2)
+    ((λ has. new.1 (inl has)), tt)
+make_are first bytes r v es x new =
+    subst (λ (l : List Entry). Each (IsEntryOf (AskMake bytes) v) l) (sym x) tt
+
+make_adds : (c : Config) (first : ℕ) (bytes : List ℕ) (r : Reply) (v w : View)
+    → TurnGives c (jobs.Make bytes) r v w → MakesNew first (jobs.Make bytes) r v
+    → CallAdds c (AskMake bytes) r v w
+make_adds c first bytes r v w (d, x, is) new = adds_in_all c (AskMake bytes) r v w x.before x.last
     (turns_of v w d x.before x.last x.part (ap (λ (z : View). z.turns) is)) x.last.written
     (ap (λ (z : View). z.written) is ∙ ap (λ (es : List Entry). es ++ v.written) wrote)
     (subst (λ (es : List Entry). length es ≤ entries_of (AskMake bytes) r)
@@ -369,6 +389,9 @@ make_adds c bytes r v w (d, x, is) = adds_in_all c (AskMake bytes) r v w x.befor
     (subst (λ (es : List Entry). Each (λ (e : Entry). e.version ≤ version_told r) es)
     (sym (ap (λ (p : Part). p.written) x.ends_so.1.part))
     (make_low bytes r x.ends_so.1.more x.ends_so.1.wrote))
+    (subst (λ (es : List Entry). Each (IsEntryOf (AskMake bytes) v) es)
+    (sym (ap (λ (p : Part). p.written) x.ends_so.1.part))
+    (make_are first bytes r v x.ends_so.1.more x.ends_so.1.wrote new))
     (ap (λ (z : View). z.share) is, ap (λ (z : View). z.fresh) is)
     (vain_jobs (LooksOf (jobs.Make bytes)) (IsUnanswered c (jobs.Make bytes))
     (λ t. t.job ≡ jobs.Make bytes) (λ t un. un.0) x.before x.in_vain)
@@ -387,4 +410,4 @@ pub call_adds : (c : Config) (first : ℕ) (ask : Ask) (r : Reply) (v w : View)
     → CallGives c first ask r v w → CallAdds c ask r v w
 call_adds c first (AskRead k) r v w x = read_adds c k r v w x
 call_adds c first (AskWrite k at bytes) r v w x = write_one c k at bytes r v w x
-call_adds c first (AskMake bytes) r v w x = make_adds c bytes r v w x.0
+call_adds c first (AskMake bytes) r v w x = make_adds c first bytes r v w x.0 x.1

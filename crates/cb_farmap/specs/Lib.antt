@@ -5,3 +5,4 @@ pub mod Calls
 pub mod Changes
 pub mod Arrays
 pub mod Commands
+pub mod Stands

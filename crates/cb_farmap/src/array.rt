@@ -1,11 +1,11 @@
 //! A list of numbers in objects of 128 each.
-ghost use Rattle.std.specs.Prelude.{◌≡◌, ◌+◌, ◌-◌, ◌*◌, ◌/◌, ◌%◌, ◌<◌, ◌≤◌, ◌∷◌, [], ◌++◌, length, slice_index, slice_set, IfOk, OnErr};
+ghost use Rattle.std.specs.Prelude.{◌≡◌, ◌*◌, ◌/◌, ◌%◌, ◌<◌, ◌≤◌, length, IfOk, OnErr};
 ghost use Rattle.std.specs.List.{AllByRecursion};
 ghost use Rattle.cb_shared.specs.Passes.{IsPassOf, record_of};
 ghost use Rattle.cb_shared.specs.Recalls.{first_version_of};
-ghost use Rattle.cb_farmap.specs.Arrays.{IsArrayOf, IsCalmArray, IsPushed, PutsNumber, WritesNumber, but_last, bytes_with, get_plan, is_full, last_of, list_of, no_array, pop_plan, push_plan, set_plan, told_so, with_written};
-ghost use Rattle.cb_farmap.specs.Calls.{Answers, AskMake, Goes, trouble};
-ghost use Rattle.cb_farmap.specs.Changes.{AreLoose, AreSole, GoesOn, IsCalm, IsLoose, IsSole, Makes};
+ghost use Rattle.cb_farmap.specs.Arrays.{IsArrayOf, IsGot, IsPopped, IsPushed, IsSet, Keeps, PutsNumber, Stays, WritesNumber, bytes_with, get_plan, is_full, make_plan, no_array, pop_plan, push_plan, set_plan};
+ghost use Rattle.cb_farmap.specs.Calls.{Goes, trouble};
+ghost use Rattle.cb_farmap.specs.Changes.{AreLoose, AreSole, IsCalm, IsLoose, IsSole, Makes};
 ghost use Rattle.cb_farmap.specs.Numbers.{number_at};
 ghost use Rattle.cb_farmap.specs.Objects.{IsObject, bytes_at, object_at};
 ghost use Rattle.cb_farmap.specs.Stops.{stop_behind};
@@ -63,17 +63,13 @@ impl FarArray {
         requires array { IsArrayOf (record_of pass.old) self.old }
         requires within { i < self.old.len }
         ensures of { IsPassOf shared.now pass.new }
-        ensures array { IsArrayOf (record_of pass.new) self.new }
-        ensures number { IfOk result (λ x. x
-            ≡ slice_index (list_of (record_of pass.old) self.old) i) }
-        ensures list { list_of (record_of pass.new) self.new
-            ≡ list_of (record_of pass.old) self.old }
-        ensures left { self.new ≡ told_so self.old (trouble result) }
-        ensures calls { Answers shared.now.config (first_version_of shared.now) self.old.stop
-            (get_plan self.old.kept i) (trouble result) (record_of pass.old) (record_of pass.new) }
-        ensures on { GoesOn (record_of pass.old) (record_of pass.new) }
-        ensures calm { IsCalmArray (record_of pass.old) self.old → IsCalm (trouble result)
-            × AreSole (record_of pass.new) self.new.kept }
+        ensures ok { IfOk result (λ x. IsGot i x (record_of pass.old) self.old
+            (record_of pass.new) self.new) }
+        ensures stays { OnErr result (Stays (trouble result) (record_of pass.old) self.old
+            (record_of pass.new) self.new) }
+        ensures keeps { Keeps shared.now.config (first_version_of shared.now)
+            (get_plan self.old.kept i) (trouble result) (record_of pass.old) self.old
+            (record_of pass.new) self.new }
     {
         if let Some(stop) = self.stop {
             return Err(Cannot::from(stop));
@@ -99,20 +95,13 @@ impl FarArray {
         requires array { IsArrayOf (record_of pass.old) self.old }
         requires within { i < self.old.len }
         ensures of { IsPassOf shared.now pass.new }
-        ensures array { IsArrayOf (record_of pass.new) self.new }
-        ensures set { IfOk result (λ _. list_of (record_of pass.new) self.new
-            ≡ slice_set (list_of (record_of pass.old) self.old) i x) }
-        ensures stays { OnErr result (list_of (record_of pass.new) self.new
-            ≡ list_of (record_of pass.old) self.old) }
-        ensures left { OnErr result (self.new ≡ told_so self.old (trouble result)) }
-        ensures kept { IfOk result (λ _. self.new ≡ record self.old {
-          kept = with_written self.old.kept i;
-        }) }
-        ensures calls { Answers shared.now.config (first_version_of shared.now) self.old.stop
-            (set_plan self.old.kept i x) (trouble result) (record_of pass.old) (record_of pass.new) }
-        ensures on { GoesOn (record_of pass.old) (record_of pass.new) }
-        ensures calm { IsCalmArray (record_of pass.old) self.old → IsCalm (trouble result)
-            × AreSole (record_of pass.new) self.new.kept }
+        ensures ok { IfOk result (λ _. IsSet i x (record_of pass.old) self.old
+            (record_of pass.new) self.new) }
+        ensures stays { OnErr result (Stays (trouble result) (record_of pass.old) self.old
+            (record_of pass.new) self.new) }
+        ensures keeps { Keeps shared.now.config (first_version_of shared.now)
+            (set_plan self.old.kept i x) (trouble result) (record_of pass.old) self.old
+            (record_of pass.new) self.new }
     {
         if let Some(stop) = self.stop {
             return Err(Cannot::from(stop));
@@ -137,18 +126,13 @@ impl FarArray {
         requires array { IsArrayOf (record_of pass.old) self.old }
         requires room { self.old.len < 1000000000 }
         ensures of { IsPassOf shared.now pass.new }
-        ensures array { IsArrayOf (record_of pass.new) self.new }
-        ensures pushed { IfOk result (λ _. list_of (record_of pass.new) self.new
-            ≡ list_of (record_of pass.old) self.old ++ x ∷ []) }
-        ensures stays { OnErr result (list_of (record_of pass.new) self.new
-            ≡ list_of (record_of pass.old) self.old) }
-        ensures left { OnErr result (self.new ≡ told_so self.old (trouble result)) }
-        ensures kept { IfOk result (λ _. IsPushed self.old self.new) }
-        ensures calls { Answers shared.now.config (first_version_of shared.now) self.old.stop
-            (push_plan self.old.kept self.old.len x) (trouble result) (record_of pass.old) (record_of pass.new) }
-        ensures on { GoesOn (record_of pass.old) (record_of pass.new) }
-        ensures calm { IsCalmArray (record_of pass.old) self.old → IsCalm (trouble result)
-            × AreSole (record_of pass.new) self.new.kept }
+        ensures ok { IfOk result (λ _. IsPushed x (record_of pass.old) self.old
+            (record_of pass.new) self.new) }
+        ensures stays { OnErr result (Stays (trouble result) (record_of pass.old) self.old
+            (record_of pass.new) self.new) }
+        ensures keeps { Keeps shared.now.config (first_version_of shared.now)
+            (push_plan self.old.kept self.old.len x) (trouble result) (record_of pass.old) self.old
+            (record_of pass.new) self.new }
     {
         if let Some(stop) = self.stop {
             return Err(Cannot::from(stop));
@@ -172,19 +156,13 @@ impl FarArray {
         requires of { IsPassOf shared.now pass.old }
         requires array { IsArrayOf (record_of pass.old) self.old }
         ensures of { IsPassOf shared.now pass.new }
-        ensures array { IsArrayOf (record_of pass.new) self.new }
-        ensures number { IfOk result (λ o. o ≡ last_of (list_of (record_of pass.old) self.old)) }
-        ensures popped { IfOk result (λ _. list_of (record_of pass.new) self.new
-            ≡ but_last (list_of (record_of pass.old) self.old)) }
-        ensures stays { OnErr result (list_of (record_of pass.new) self.new
-            ≡ list_of (record_of pass.old) self.old) }
-        ensures left { OnErr result (self.new ≡ told_so self.old (trouble result)) }
-        ensures kept { IfOk result (λ _. self.new ≡ record self.old { len = self.old.len - 1 }) }
-        ensures calls { Answers shared.now.config (first_version_of shared.now) self.old.stop
-            (pop_plan self.old.kept self.old.len) (trouble result) (record_of pass.old) (record_of pass.new) }
-        ensures on { GoesOn (record_of pass.old) (record_of pass.new) }
-        ensures calm { IsCalmArray (record_of pass.old) self.old → IsCalm (trouble result)
-            × AreSole (record_of pass.new) self.new.kept }
+        ensures ok { IfOk result (λ o. IsPopped o (record_of pass.old) self.old
+            (record_of pass.new) self.new) }
+        ensures stays { OnErr result (Stays (trouble result) (record_of pass.old) self.old
+            (record_of pass.new) self.new) }
+        ensures keeps { Keeps shared.now.config (first_version_of shared.now)
+            (pop_plan self.old.kept self.old.len) (trouble result) (record_of pass.old) self.old
+            (record_of pass.new) self.new }
     {
         if let Some(stop) = self.stop {
             return Err(Cannot::from(stop));
@@ -280,7 +258,7 @@ fn make_number<R: Wait>(
     requires of { IsPassOf shared.now pass.old }
     ensures of { IsPassOf shared.now pass.new }
     ensures goes { Goes shared.now.config (first_version_of shared.now)
-        (AskMake (bytes_with x) ∷ []) (trouble result) (record_of pass.old) (record_of pass.new) }
+        (make_plan x) (trouble result) (record_of pass.old) (record_of pass.new) }
     ensures made { IfOk result (λ _. Makes (record_of pass.old).written kept.old kept.new
         (bytes_with x) (record_of pass.new).written) }
     ensures stays { OnErr result (kept.new ≡ kept.old) }

@@ -1,7 +1,7 @@
 //! The calls on one object that a value keeps. All calls of the runtime stand here: above, nothing
 //! sees a reply.
 ghost use Rattle.std.specs.Prelude.{◌≡◌, ℕ, List, ◌+◌, ◌-◌, ◌≤◌, [], ◌∷◌, ◌++◌, length, slice_set, take, Ok, IfOk, OnErr};
-ghost use Rattle.cb_types.specs.declared.reply.Reply.TheVariants.{Bytes, Made};
+ghost use Rattle.cb_types.specs.declared.reply.Reply.TheVariants as answer;
 ghost use Rattle.cb_shared.specs.Passes.{IsPassOf, record_of};
 ghost use Rattle.cb_shared.specs.Recalls.{first_version_of};
 ghost use Rattle.cb_farmap.specs.declared.kept.KeptObject.{KeptObject};
@@ -41,7 +41,7 @@ pub(crate) fn read_kept<R: Wait>(
 /// The bytes that were read of an object at its kept version, or why there are none.
 fn bytes_read(kept: KeptObject, read: Result<Reply, NoMemory>) -> Result<Bytes, Cannot>
     ensures tells { Tells (AskRead kept) read (trouble result) }
-    ensures bytes { IfOk result (λ bytes. read ≡ Ok (Bytes kept.version bytes)) }
+    ensures bytes { IfOk result (λ bytes. read ≡ Ok (answer.Bytes kept.version bytes)) }
 {
     match read {
         Ok(Reply::Bytes { version, bytes }) => {
@@ -144,7 +144,7 @@ pub(crate) fn make_kept<R: Wait>(
 /// What was made.
 fn made_of(made: Result<Reply, NoMemory>) -> Result<KeptObject, Cannot>
     ensures tells { (bytes : List ℕ) → Tells (AskMake bytes) made (trouble result) }
-    ensures made { IfOk result (λ k. made ≡ Ok (Made k.handle k.version)) }
+    ensures made { IfOk result (λ k. made ≡ Ok (answer.Made k.handle k.version)) }
 {
     match made {
         Ok(Reply::Made { handle, version }) => Ok(KeptObject { handle, version }),
