@@ -15,3 +15,17 @@ mod Standing
 mod Behind
 mod Arrays
 mod Ends
+mod Places
+mod OneBucket
+mod Mapping
+mod PairNumbers
+mod FirstPairs
+mod Seeking
+mod GoingOn
+mod PlanLaws
+mod FindIn
+mod Searched
+mod BucketLaws
+mod Moving
+mod MapPairs
+mod BucketList

@@ -35,7 +35,7 @@ module _ (old new : List ℕ) (at : ℕ) (within : at + length new ≤ length ol
       (let z : at + length new + (k - (at + length new)) ≡ k = omega (arith, more) in z)
 
 -- eight bytes that are alike
-alike : (xs ys : List ℕ) (n m : ℕ) → ((j : ℕ) → j < 8 → get_or xs (n + j) 0 ≡ get_or ys (m + j) 0)
+pub alike : (xs ys : List ℕ) (n m : ℕ) → ((j : ℕ) → j < 8 → get_or xs (n + j) 0 ≡ get_or ys (m + j) 0)
     → little_from n 8 xs ≡ little_from m 8 ys
 alike xs ys n m same = go 8 n m same
   where

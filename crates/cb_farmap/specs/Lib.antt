@@ -6,3 +6,11 @@ pub mod Changes
 pub mod Arrays
 pub mod Commands
 pub mod Stands
+pub mod Pairs
+pub mod PairBytes
+pub mod Buckets
+pub mod Maps
+pub mod Plans
+pub mod BucketChanges
+pub mod Searching
+pub mod MapChanges

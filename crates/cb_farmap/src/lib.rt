@@ -5,9 +5,13 @@
 
 mod array;
 pub mod commands;
+pub mod bucket;
+mod buckets;
+pub mod find;
 pub mod kept;
 mod map;
 mod object;
+mod pairs;
 
 pub use array::FarArray;
 pub use commands::{FarAnswers, run_commands};

@@ -1,124 +1,196 @@
-//! A map of numbers in buckets of objects of 64 pairs each. Not proved yet: it stands here until the
-//! proved one does.
-use crate::kept::{Cannot, Objects, Stop};
-use crate::object::{make_kept, read_kept, write_kept};
-use byteorder::{ByteOrder, LittleEndian};
+//! A map of numbers in buckets of objects of 64 pairs each.
+ghost use Rattle.std.specs.Prelude.{◌≡◌, ◌+◌, ◌-◌, ◌<◌, ◌≤◌, IfOk, OnErr, OnOk};
+ghost use Rattle.std.specs.FinMap as finite;
+ghost use Rattle.cb_shared.specs.Passes.{IsPassOf, record_of};
+ghost use Rattle.cb_shared.specs.Recalls.{first_version_of};
+ghost use Rattle.cb_rule.specs.declared.view.View.{View};
+ghost use Rattle.cb_farmap.specs.BucketChanges.{added_by, removed_by};
+ghost use Rattle.cb_farmap.specs.Buckets.{bucket_in};
+ghost use Rattle.cb_farmap.specs.Calls.{Answers, trouble};
+ghost use Rattle.cb_farmap.specs.Changes.{AreSole, GoesOn, IsCalm};
+ghost use Rattle.cb_farmap.specs.MapChanges.{IsDropped, IsPut};
+ghost use Rattle.cb_farmap.specs.Maps.{IsCalmMap, IsMapOf, kept_of, map_of, told_map};
+ghost use Rattle.cb_farmap.specs.Plans.{drop_plan, look_plan, put_plan};
+
+use crate::array::noted;
+use crate::buckets::Buckets;
+use crate::kept::{Cannot, Stop};
 use cb_shared::{Pass, Shared};
-use cb_types::{Bytes, NoMemory};
+use cb_types::NoMemory;
 use std::alloc::Global;
 use std::sync::Wait;
 
-#[derive(Drop)]
-struct Bucket {
-    kept: Objects,
-    count: u32,
-}
-
+/// A map of numbers: each key belongs to one of a fixed number of buckets, the pairs of a bucket stand
+/// one behind the other in objects of 1,024 bytes, 64 pairs to an object, each the key and then its
+/// value, 8 bytes each with the lowest first. The map keeps of each object its handle and the version
+/// at which it wrote it last. All calls of one map are made on the one pass that made its objects,
+/// which may be split and joined meanwhile. An object that gets empty is kept, and filled again before
+/// one is made; none is freed. A bucket of n pairs costs up to n / 64 reads a call, so choose the
+/// number of buckets by the pairs that are expected.
 #[derive(Drop)]
 pub struct FarMap {
-    buckets: Vec<Bucket>,
+    buckets: Buckets,
     len: u32,
     stop: Option<Stop>,
 }
 
-#[derive(Drop)]
-struct Found { place: usize, bytes: Bytes }
-
-fn find<R: Wait>(rt: &R, alloc: Global, shared: &Shared, pass: &mut Pass, b: &Bucket, key: u64) -> Result<Option<Found>, Cannot> {
-    let count = b.count as usize;
-    for o in 0..count.div_ceil(64) {
-        let few = (count - 64 * o).min(64);
-        let bytes = read_kept(rt, alloc, shared, pass, b.kept.at(o))?;
-        for i in 0..few {
-            if LittleEndian::read_u64(&bytes.as_slice()[16 * i..]) == key {
-                return Ok(Some(Found { place: 64 * o + i, bytes }));
-            }
-        }
-    }
-    Ok(None)
-}
-
-fn pair_bytes(key: u64, x: u64) -> [u8; 16] {
-    let mut bytes = [0u8; 16];
-    LittleEndian::write_u64(&mut bytes[..8], key);
-    LittleEndian::write_u64(&mut bytes[8..], x);
-    bytes
-}
-
-fn write_pair<R: Wait>(rt: &R, alloc: Global, shared: &Shared, pass: &mut Pass, b: &mut Bucket, place: usize, bytes: &[u8]) -> Result<(), Cannot> {
-    let o = place / 64;
-    let later = write_kept(rt, alloc, shared, pass, b.kept.at(o), 16 * (place % 64) as u32, bytes)?;
-    b.kept.set(o, later);
-    Ok(())
-}
-
 impl FarMap {
-    pub fn new(alloc: Global, buckets: u32) -> Result<FarMap, NoMemory> {
-        let mut all = Vec::new(alloc);
-        for _ in 0..buckets {
-            all.push(Bucket { kept: Objects::new(alloc), count: 0 })?;
-        }
-        Ok(FarMap { buckets: all, len: 0, stop: None })
+    /// An empty map with so many buckets. Takes memory for the buckets alone, and none in the runtime.
+    pub fn new(alloc: Global, buckets: u32) -> Result<FarMap, NoMemory>
+        requires some { 1 ≤ buckets }
+        requires most { buckets ≤ 4096 }
+        ensures map { IfOk result (λ map. (v : View) → IsMapOf v map
+            × (map_of v map ≡ finite.empty)) }
+    {
+        let buckets = Buckets::new(alloc, buckets)?;
+        Ok(FarMap {
+            buckets,
+            len: 0,
+            stop: None,
+        })
     }
-    pub fn len(&self) -> u32 { self.len }
-    pub fn look<R: Wait>(&mut self, rt: &R, alloc: Global, shared: &Shared, pass: &mut Pass, key: u64) -> Result<Option<u64>, Cannot> {
-        let n = self.buckets.len();
-        let b = &self.buckets[(key % n as u64) as usize];
-        match find(rt, alloc, shared, pass, b, key)? {
-            Some(f) => Ok(Some(LittleEndian::read_u64(&f.bytes.as_slice()[16 * (f.place % 64) + 8..]))),
-            None => Ok(None),
-        }
+
+    /// How many keys there are.
+    pub fn len(&self) -> u32
+        ensures len { result ≡ self.now.len }
+        ensures keys { (v : View) → IsMapOf v self.now → result ≡ finite.len (map_of v self.now) }
+    {
+        self.len
     }
-    pub fn put<R: Wait>(&mut self, rt: &R, alloc: Global, shared: &Shared, pass: &mut Pass, key: u64, x: u64) -> Result<Option<u64>, Cannot> {
-        let n = self.buckets.len();
-        let b = &mut self.buckets[(key % n as u64) as usize];
-        let found = find(rt, alloc, shared, pass, b, key)?;
-        let bytes = pair_bytes(key, x);
-        match found {
-            Some(f) => {
-                write_pair(rt, alloc, shared, pass, b, f.place, &bytes)?;
-                Ok(Some(LittleEndian::read_u64(&f.bytes.as_slice()[16 * (f.place % 64) + 8..])))
-            }
-            None => {
-                if b.count as usize == 64 * b.kept.len() {
-                    let mut all = [0u8; 1024];
-                    LittleEndian::write_u64(&mut all[..8], key);
-                    LittleEndian::write_u64(&mut all[8..16], x);
-                    make_kept(rt, alloc, shared, pass, &mut b.kept, &all)?;
-                } else {
-                    let place = b.count as usize;
-                    write_pair(rt, alloc, shared, pass, b, place, &bytes)?;
-                }
-                b.count += 1;
-                self.len += 1;
-                Ok(None)
-            }
+
+    /// The value of a key, None where it has none: by reads of the objects of its bucket that hold
+    /// pairs, in order, up to the one that has the key. Refused by any reply of such a read but the
+    /// bytes of the kept version, Foreign where they are those of another version. The first Foreign,
+    /// and the first Refused with Freed, is given again to every later call but `len`.
+    pub fn look<R: Wait>(
+        &mut self,
+        rt: &R,
+        alloc: Global,
+        shared: &Shared,
+        pass: &mut Pass,
+        key: u64,
+    ) -> Result<Option<u64>, Cannot>
+        requires of { IsPassOf shared.now pass.old }
+        requires map { IsMapOf (record_of pass.old) self.old }
+        ensures of { IsPassOf shared.now pass.new }
+        ensures map { IsMapOf (record_of pass.new) self.new }
+        ensures value { IfOk result (λ o. o ≡ finite.get (map_of (record_of pass.old) self.old) key) }
+        ensures same { map_of (record_of pass.new) self.new ≡ map_of (record_of pass.old) self.old }
+        ensures left { self.new ≡ told_map self.old (trouble result) }
+        ensures calls { Answers shared.now.config (first_version_of shared.now) self.old.stop
+            (look_plan (record_of pass.old).written (bucket_in self.old.buckets key) key)
+            (trouble result) (record_of pass.old) (record_of pass.new) }
+        ensures on { GoesOn (record_of pass.old) (record_of pass.new) }
+        ensures calm { IsCalmMap (record_of pass.old) self.old → IsCalm (trouble result)
+            × AreSole (record_of pass.new) (kept_of self.new.buckets) }
+    {
+        if let Some(stop) = self.stop {
+            return Err(Cannot::from(stop));
         }
+        let value = self.buckets.look(rt, alloc, shared, pass, key);
+        noted(&mut self.stop, value)
     }
-    pub fn drop_key<R: Wait>(&mut self, rt: &R, alloc: Global, shared: &Shared, pass: &mut Pass, key: u64) -> Result<Option<u64>, Cannot> {
-        let n = self.buckets.len();
-        let b = &mut self.buckets[(key % n as u64) as usize];
-        let found = find(rt, alloc, shared, pass, b, key)?;
-        match found {
-            Some(f) => {
-                let old = LittleEndian::read_u64(&f.bytes.as_slice()[16 * (f.place % 64) + 8..]);
-                let last = b.count as usize - 1;
-                if f.place != last {
-                    let pair = if last / 64 == f.place / 64 {
-                        let at = 16 * (last % 64);
-                        pair_bytes(LittleEndian::read_u64(&f.bytes.as_slice()[at..]), LittleEndian::read_u64(&f.bytes.as_slice()[at + 8..]))
-                    } else {
-                        let bytes = read_kept(rt, alloc, shared, pass, b.kept.at(last / 64))?;
-                        let at = 16 * (last % 64);
-                        pair_bytes(LittleEndian::read_u64(&bytes.as_slice()[at..]), LittleEndian::read_u64(&bytes.as_slice()[at + 8..]))
-                    };
-                    write_pair(rt, alloc, shared, pass, b, f.place, &pair)?;
-                }
-                b.count -= 1;
-                self.len -= 1;
-                Ok(Some(old))
-            }
-            None => Ok(None),
+
+    /// Puts a value at a key and gives its old value, None where it had none: by the reads of `look`,
+    /// and then one write of the pair, in the place of the key or behind the bucket's last pair, or,
+    /// where the key is new and all objects of the bucket are full, a make of one with the pair. Takes
+    /// the memory for the object's place before the make. Refused by any other reply than the success
+    /// of such a call, Foreign by a read of another version than the kept one, or by a write that is
+    /// answered another one than the one above it; both leave the map as it was, and so does want of
+    /// memory.
+    pub fn put<R: Wait>(
+        &mut self,
+        rt: &R,
+        alloc: Global,
+        shared: &Shared,
+        pass: &mut Pass,
+        key: u64,
+        x: u64,
+    ) -> Result<Option<u64>, Cannot>
+        requires of { IsPassOf shared.now pass.old }
+        requires map { IsMapOf (record_of pass.old) self.old }
+        requires room { self.old.len < 1000000000 }
+        ensures of { IsPassOf shared.now pass.new }
+        ensures map { IsMapOf (record_of pass.new) self.new }
+        ensures value { IfOk result (λ o. o ≡ finite.get (map_of (record_of pass.old) self.old) key) }
+        ensures put { OnOk result (map_of (record_of pass.new) self.new
+            ≡ finite.insert (map_of (record_of pass.old) self.old) key x) }
+        ensures stays { OnErr result (map_of (record_of pass.new) self.new
+            ≡ map_of (record_of pass.old) self.old) }
+        ensures left { OnErr result (self.new ≡ told_map self.old (trouble result)) }
+        ensures kept { OnOk result (IsPut (record_of pass.old) self.old (key, x) self.new
+            (record_of pass.new)) }
+        ensures calls { Answers shared.now.config (first_version_of shared.now) self.old.stop
+            (put_plan (record_of pass.old).written (bucket_in self.old.buckets key) (key, x))
+            (trouble result) (record_of pass.old) (record_of pass.new) }
+        ensures on { GoesOn (record_of pass.old) (record_of pass.new) }
+        ensures calm { IsCalmMap (record_of pass.old) self.old → IsCalm (trouble result)
+            × AreSole (record_of pass.new) (kept_of self.new.buckets) }
+    {
+        if let Some(stop) = self.stop {
+            return Err(Cannot::from(stop));
         }
+        let old = self.buckets.put(rt, alloc, shared, pass, key, x);
+        self.len += added(&old);
+        noted(&mut self.stop, old)
+    }
+
+    /// Drops a key and gives its value, None where it had none: by the reads of `look`, and then,
+    /// where its pair is not the last of the bucket, one write that puts the last pair into its place,
+    /// behind a read of the last pair's object where that is another one. Refused and Foreign as in
+    /// `put`; both leave the map as it was, and so does want of memory.
+    pub fn drop_key<R: Wait>(
+        &mut self,
+        rt: &R,
+        alloc: Global,
+        shared: &Shared,
+        pass: &mut Pass,
+        key: u64,
+    ) -> Result<Option<u64>, Cannot>
+        requires of { IsPassOf shared.now pass.old }
+        requires map { IsMapOf (record_of pass.old) self.old }
+        ensures of { IsPassOf shared.now pass.new }
+        ensures map { IsMapOf (record_of pass.new) self.new }
+        ensures value { IfOk result (λ o. o ≡ finite.get (map_of (record_of pass.old) self.old) key) }
+        ensures dropped { OnOk result (map_of (record_of pass.new) self.new
+            ≡ finite.remove (map_of (record_of pass.old) self.old) key) }
+        ensures stays { OnErr result (map_of (record_of pass.new) self.new
+            ≡ map_of (record_of pass.old) self.old) }
+        ensures left { OnErr result (self.new ≡ told_map self.old (trouble result)) }
+        ensures kept { OnOk result (IsDropped (record_of pass.old) self.old key self.new
+            (record_of pass.new)) }
+        ensures calls { Answers shared.now.config (first_version_of shared.now) self.old.stop
+            (drop_plan (record_of pass.old).written (bucket_in self.old.buckets key) key)
+            (trouble result) (record_of pass.old) (record_of pass.new) }
+        ensures on { GoesOn (record_of pass.old) (record_of pass.new) }
+        ensures calm { IsCalmMap (record_of pass.old) self.old → IsCalm (trouble result)
+            × AreSole (record_of pass.new) (kept_of self.new.buckets) }
+    {
+        if let Some(stop) = self.stop {
+            return Err(Cannot::from(stop));
+        }
+        let old = self.buckets.drop_key(rt, alloc, shared, pass, key);
+        self.len -= removed(&old);
+        noted(&mut self.stop, old)
+    }
+}
+
+/// How many keys a put that was answered so added.
+fn added(put: &Result<Option<u64>, Cannot>) -> u32
+    ensures { result ≡ added_by put.now }
+{
+    match put {
+        Ok(None) => 1,
+        _ => 0,
+    }
+}
+
+/// How many keys a drop that was answered so took away.
+fn removed(dropped: &Result<Option<u64>, Cannot>) -> u32
+    ensures { result ≡ removed_by dropped.now }
+{
+    match dropped {
+        Ok(Some(_)) => 1,
+        _ => 0,
     }
 }

@@ -1,0 +1,83 @@
+-- The last pair is moved into a place.
+use Rattle.std.proofs.Common.{◌≡◌, ◌≢◌, ℕ, ◌/◌, ◌%◌, ◌*◌, ◌<◌, Bool, true, false, eqb, eq-eqb, List, [], ◌∷◌, ◌++◌, length, None, Some, Option, refl, sym, ap, ◌∙◌, subst, arith}
+use Rattle.std.proofs.lemmas.Bool.{ne_eqb}
+use Rattle.std.specs.Prelude.{if◌then◌else◌}
+use Rattle.cb_types.specs.declared.config.Config.{Config}
+use Rattle.cb_world.specs.declared.entry.Entry.{Entry}
+use Rattle.cb_rule.specs.declared.view.View.{View}
+use Rattle.cb_farmap.specs.declared.kept.Cannot.{Cannot}
+use Rattle.cb_farmap.specs.declared.kept.KeptObject.{KeptObject}
+use Rattle.cb_farmap.specs.BucketChanges.{FillsGap, WritesPair}
+use Rattle.cb_farmap.specs.Buckets.{all_pairs}
+use Rattle.cb_farmap.specs.Calls.{Ask, AskRead, Goes}
+use Rattle.cb_farmap.specs.Objects.{bytes_at, object_at}
+use Rattle.cb_farmap.specs.Numbers.{pair_at}
+use Rattle.cb_farmap.specs.Pairs.{Pair, pair_of}
+use Rattle.cb_farmap.specs.Plans.{last_asks, move_asks, write_at}
+use Rattle.cb_farmap.proofs.BucketLaws.{pair_in_object}
+use Rattle.cb_farmap.proofs.GoingOn.{goes_stop, goes_then}
+
+-- ---- the last pair
+module _ (c : Config) (n : ℕ) (ks : List KeptObject) (place last : ℕ) where
+  abbrev asks_by : Bool → List Ask
+  asks_by t = if t then [] else AskRead (object_at ks (last / 64)) ∷ []
+
+  -- of the object that was searched last
+  pub last_here : (v : View) → last / 64 ≡ place / 64 → Goes c n (last_asks ks place last) None v v
+  last_here v same = subst (λ (t : Bool). Goes c n (asks_by t) None v v)
+      (sym (eq-eqb (last / 64) (place / 64) same)) refl
+
+  -- or by a read of its own
+  pub last_read : (t : Option Cannot) (v w : View) → last / 64 ≢ place / 64
+      → Goes c n (AskRead (object_at ks (last / 64)) ∷ []) t v w → Goes c n (last_asks ks place last) t v w
+  last_read t v w off goes = subst (λ (s : Bool). Goes c n (asks_by s) t v w)
+      (sym (ne_eqb (last / 64) (place / 64) off)) goes
+
+pub pair_here : (es : List Entry) (ks : List KeptObject) (place last : ℕ) (found bytes : List ℕ) → last < 64 * length ks
+    → last / 64 ≡ place / 64 → found ≡ bytes_at es (object_at ks (place / 64)) → bytes ≡ found
+    → pair_at bytes (last % 64) ≡ pair_of (all_pairs es ks) last
+pair_here es ks place last found bytes within same is as =
+    ap (λ (l : List ℕ). pair_at l (last % 64)) (as ∙ is
+    ∙ ap (λ (o : ℕ). bytes_at es (object_at ks o)) (sym same)) ∙ sym (pair_in_object es ks last within)
+
+pub pair_read : (es : List Entry) (ks : List KeptObject) (last : ℕ) (k : KeptObject) (read bytes : List ℕ) → last < 64 * length ks
+    → k ≡ object_at ks (last / 64) → read ≡ bytes_at es k → bytes ≡ read
+    → pair_at bytes (last % 64) ≡ pair_of (all_pairs es ks) last
+pair_read es ks last k read bytes within of is as =
+    ap (λ (l : List ℕ). pair_at l (last % 64)) (as ∙ is ∙ ap (bytes_at es) of) ∙ sym (pair_in_object es ks last within)
+
+-- ---- the move
+module _ (c : Config) (n : ℕ) (es : List Entry) (ks : List KeptObject) (place last : ℕ) where
+  abbrev moves_by : Bool → List Ask
+  moves_by t = if t then []
+      else last_asks ks place last ++ write_at ks place (pair_of (all_pairs es ks) last) ∷ []
+
+  pub no_move : (v : View) → place ≡ last → Goes c n (move_asks es ks place last) None v v
+  no_move v same = subst (λ (t : Bool). Goes c n (moves_by t) None v v) (sym (eq-eqb place last same)) refl
+
+  moved : (t : Option Cannot) (v w : View) → place ≢ last → Goes c n (moves_by false) t v w
+      → Goes c n (move_asks es ks place last) t v w
+  moved t v w off goes = subst (λ (s : Bool). Goes c n (moves_by s) t v w) (sym (ne_eqb place last off)) goes
+
+  pub move_fails : (e : Cannot) (v w : View) → place ≢ last → Goes c n (last_asks ks place last) (Some e) v w
+      → Goes c n (move_asks es ks place last) (Some e) v w
+  move_fails e v w off goes = moved (Some e) v w off
+      (goes_stop c n (last_asks ks place last) (write_at ks place (pair_of (all_pairs es ks) last) ∷ []) e v w goes)
+
+  pub move_goes : (t : Option Cannot) (v u w : View) (p : Pair) → place ≢ last
+      → Goes c n (last_asks ks place last) None v u → Goes c n (write_at ks place p ∷ []) t u w
+      → p ≡ pair_of (all_pairs es ks) last → Goes c n (move_asks es ks place last) t v w
+  move_goes t v u w p off before goes is = moved t v w off
+      (goes_then c n (last_asks ks place last) (write_at ks place (pair_of (all_pairs es ks) last) ∷ []) t v u w before
+      (subst (λ (q : Pair). Goes c n (write_at ks place q ∷ []) t u w) is goes))
+
+pub fills_none : (es : List Entry) (ks : List KeptObject) (place last : ℕ) (p : Pair) → place ≡ last
+    → FillsGap (eqb place last) es ks place p ks es
+fills_none es ks place last p same =
+    subst (λ (t : Bool). FillsGap t es ks place p ks es) (sym (eq-eqb place last same)) (refl, refl)
+
+pub fills_one : (es : List Entry) (ks : List KeptObject) (place last : ℕ) (p q : Pair) (later : List KeptObject) (new : List Entry)
+    → place ≢ last → p ≡ q → WritesPair es ks place p later new → FillsGap (eqb place last) es ks place q later new
+fills_one es ks place last p q later new off is wrote =
+    subst (λ (t : Bool). FillsGap t es ks place q later new) (sym (ne_eqb place last off))
+    (subst (λ (r : Pair). WritesPair es ks place r later new) is wrote)
