@@ -148,10 +148,10 @@ module _ (c : Config) (ok : IsAccepted c) (v : View) (w : WorldState) (closed : 
     t = told.turn
 
     in_more : Has t more
-    in_more = let e = told.newest in rw e (inl refl)
+    in_more = subst (Has t) (sym told.newest) (inl refl)
 
     in_u : Has t u.turns
-    in_u = let e = grew in rw e (has_front t more old.turns in_more)
+    in_u = subst (Has t) (sym grew) (has_front t more old.turns in_more)
 
     in_v : Has t v.turns
     in_v = turns_in t in_u

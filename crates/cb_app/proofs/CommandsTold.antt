@@ -119,7 +119,7 @@ module _ (c : Config) (s : Plain) (a : FarCommand) (u : View) (tallied : IsTalli
   left_to_make : needs_object s a ≡ true → objects s < c.handles
   left_to_make needs =
       let one = one_where_needed s a tallied in
-      let more = ap (λ b. if b then 1 else 0) needs in
+      let more = ap {B = ℕ} (λ b. if b then 1 else 0) needs in
       let alike = all_alike u.turns in
       let all = few_made 1 c u history.0 history.1 history.2 in
       omega (arith, one, more, alike, all, made)

@@ -81,9 +81,9 @@ module _ (c : Config) where
   brings : (h : ℕ) (a b : Hold) (r : Reply) → Brings slate_run slate_shows c h a r b → Unless r a.far
   brings h a b r (at_once (home, at, x) never) =
       other_unless r a.far (swap_other home.set home.position a.far b.far r x.events x.rule)
-  brings h a b r (no_room m why loose nodes (home, at, x) evict e) is =
+  brings h a b r (no_room m why loose nodes (home, at, x) evict e) = λ is.
       no_frame home.set home.position a.far m.far x.events x.rule
-  brings h a b r (won m n id (home, at, x) evict more never) is =
+  brings h a b r (won m n id (home, at, x) evict more never) = λ is.
       no_frame home.set home.position a.far m.far x.events x.rule
 
   -- behind what left the far state

@@ -19,6 +19,7 @@ mod Records
 mod WorkDone
 mod Crews
 mod WorkedLanes
+mod WorkedMapped
 mod WorkedThreads
 mod WorkedRun
 mod PlainReplies

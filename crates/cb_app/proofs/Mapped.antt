@@ -21,6 +21,7 @@ use Rattle.cb_shared.specs.declared.pass.Pass.{Pass}
 use Rattle.cb_shared.specs.declared.runtime.Shared.{Shared}
 use Rattle.cb_shared.specs.declared.seal.Seal.{Seal}
 use Rattle.cb_shared.specs.Closing.{IsClosedBy}
+use Rattle.cb_shared.specs.Joining.{unpinned_all}
 use Rattle.cb_shared.specs.Passes.{IsRuntimeBegun, record_of}
 use Rattle.cb_shared.specs.Sealing.{sealed_record}
 use Rattle.cb_shared.specs.Turning.{Did}
@@ -40,8 +41,9 @@ module _ (c : Config) (ok : IsAccepted c) (asks : List FarCommand) (few : length
 
   closed_so : IsClosed Did 1 c last w
   closed_so = subst (λ (v : View). IsClosed Did 1 c v w) (sym closed.view)
-      (subst (λ (d : Config). IsClosed Did 1 d _ w) begun.config
-      (subst (λ (n : ℕ). IsClosed Did n s.config _ w) begun.first_is closed.closed))
+      (subst (λ (d : Config). IsClosed Did 1 d (unpinned_all (record_of q)) w) begun.config
+      (subst (λ (n : ℕ). IsClosed Did n s.config (unpinned_all (record_of q)) w) begun.first_is
+      closed.closed))
 
   go_so : CommandsGo c 1 fresh (record_of p) asks saids (record_of q)
   go_so = subst (λ (d : Config). CommandsGo d 1 fresh (record_of p) asks saids (record_of q))

@@ -36,8 +36,9 @@ pub fn carbink_run<R: Threads + Wait + Sync, S: Source, K: Sink>(
     // script `seq` puts the answers that the plain map gives; `local` too, where the compute side
     // makes the parities of each compaction, and how many rows the nodes gave out; `threads` the
     // answers of calls on a runtime that was closed, lane by lane; and `check` how many lines and
-    // lanes it has. Of a schedule `rma` puts what is said to each event. Or the words ask `gen` for
-    // a drawn script: its lines are answered as `seq` answers them, and what is put is the summary.
+    // lanes it has. Of a schedule `rma` puts what is said to each event, and of commands `map` what
+    // is said to each, by calls on a runtime that was closed. Or the words ask `gen` for a drawn
+    // script: its lines are answered as `seq` answers them, and what is put is the summary.
     ensures done { result ≡ 0
         → TellsScript words.now (S.left src.old) (S.left src.new)
         (K.held out.old) (K.held out.new) end.old end.new

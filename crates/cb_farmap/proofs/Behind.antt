@@ -147,7 +147,7 @@ apart_set ks o y same apart = subst (IsDistinct eqb)
     (sym (map-set_same (λ (k : KeptObject). k.handle.n) ks o y blank same)) apart
 
 -- ---- objects that nobody else has
-sole_front : (v w : View) (e : Entry) (k : KeptObject) → w.written ≡ e ∷ v.written
+pub sole_front : (v w : View) (e : Entry) (k : KeptObject) → w.written ≡ e ∷ v.written
     → w.share ≡ v.share → (e.handle ≡ k.handle.n → e.version ≤ k.version) → IsSole v k → IsSole w k
 sole_front v w e k is share low sole = record {
   whole = share ∙ sole.whole;

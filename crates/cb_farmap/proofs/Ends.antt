@@ -6,6 +6,7 @@ use Rattle.std.specs.Option.{option_or}
 use Rattle.cb_types.specs.declared.config.Config.{Config}
 use Rattle.cb_world.specs.declared.entry.Entry.{Entry}
 use Rattle.cb_rule.specs.declared.view.View.{View}
+use Rattle.cb_rule.specs.Lists.{Has}
 use Rattle.cb_farmap.specs.declared.array.FarArray.{FarArray}
 use Rattle.cb_farmap.specs.declared.kept.Cannot.{Cannot}
 use Rattle.cb_farmap.specs.declared.kept.KeptObject.{KeptObject}
@@ -189,7 +190,8 @@ module _ (c : Config) (first : ℕ) (v w : View) (a : FarArray) (of : IsArrayOf 
 
     more_full : (full : Bool) → PutsNumber full a.kept a.len x later v w → full ≡ true
         → (k : KeptObject) × (later ≡ a.kept ++ k ∷ [])
-    more_full true put is = (put.made, put.more)
+        × ((e : Entry) → Has e v.written → e.handle ≢ k.handle.n)
+    more_full true put is = (put.made, put.more, put.fresh)
     more_full false put is = absurd (let z : false ≡ true = is in cc)
 
     -- pushed where it is answered so, and else as it was

@@ -15,6 +15,10 @@ mod Standing
 mod Behind
 mod Arrays
 mod Ends
+mod MapOn
+mod Commanding
+mod ArrayCommands
+mod ArrayEach
 mod Places
 mod OneBucket
 mod Mapping
@@ -29,3 +33,10 @@ mod BucketLaws
 mod Moving
 mod MapPairs
 mod BucketList
+mod MapCommands
+mod MapEach
+mod Answering
+mod Running
+mod Once
+mod MapEnds
+mod WorkedPairs

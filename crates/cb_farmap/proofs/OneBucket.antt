@@ -19,7 +19,7 @@ pub record Takes (many at : ℕ) (key : ℕ) (value : Option ℕ) (pairs later :
   pub tells : TellsAt key value pairs later
 
 -- the key itself, and the others
-tells_by : (key : ℕ) (value : Option ℕ) (pairs later : List Pair) → value_at key later ≡ value
+pub tells_by : (key : ℕ) (value : Option ℕ) (pairs later : List Pair) → value_at key later ≡ value
     → ((q : ℕ) → (q ≡ key → ⊥) → value_at q later ≡ value_at q pairs) → TellsAt key value pairs later
 tells_by key value pairs later here others q = by (same_or_not q key)
   where

@@ -55,7 +55,7 @@ abbrev pub changes_in : List Ask → ℕ
 changes_in [] = 0
 changes_in (ask ∷ plan) = change_of ask + changes_in plan
 
-short_few : (plan : List Ask) → IsShort plan → changes_in plan ≤ 1
+pub short_few : (plan : List Ask) → IsShort plan → changes_in plan ≤ 1
 short_few [] short = omega arith
 short_few (AskRead k ∷ plan) short = let x = short_few plan short in omega (arith, x)
 short_few (AskWrite k at bytes ∷ plan) short =
@@ -101,6 +101,7 @@ pub record PlanAdds (c : Config) (first : ℕ) (plan : List Ask) (made : ℕ) (v
   pub low : (most : ℕ) → first ≤ most → Each (IsOfRecord v most) plan
       → Each (λ (e : Entry). e.version ≤ most) entries
   pub entries_are : Each (IsEntryIn plan v) entries
+  pub some : made ≤ length entries
   pub same : (w.share ≡ v.share) × (w.fresh ≡ v.fresh)
   pub more : List Turn
   pub turned : w.turns ≡ more ++ v.turns
@@ -114,6 +115,7 @@ nothing_added c first v w is = record {
   few = omega arith;
   low = λ most low of. tt;
   entries_are = tt;
+  some = omega arith;
   same = (ap (λ (z : View). z.share) is, ap (λ (z : View). z.fresh) is);
   more = [];
   turned = ap (λ (z : View). z.turns) is;
@@ -210,6 +212,8 @@ module _ (c : Config) (first : ℕ) where
           (λ e x. entry_later ask plan v u e wrote_too x) b.entries b.entries_are)
           (each_weaker (IsEntryOf ask v) (IsEntryIn (ask ∷ plan) v)
           (λ e x. entry_in ask plan v e x) a.entries a.entries_are);
+      some = let both = length-append b.entries a.entries in let x = a.some in let y = b.some in
+          let s = success_made ask r success in omega (arith, both, x, y, s);
       same = (b.same.0 ∙ a.same.0, b.same.1 ∙ a.same.1);
       more = b.more ++ a.more;
       turned = b.turned ∙ ap (λ (l : List Turn). b.more ++ l) a.turned
@@ -264,6 +268,7 @@ module _ (c : Config) (first : ℕ) where
       low = λ most low of. subst (λ (es : List Entry). Each (λ (e : Entry). e.version ≤ most) es)
           (sym empty) tt;
       entries_are = subst (λ (es : List Entry). Each (IsEntryIn (ask ∷ plan) v) es) (sym empty) tt;
+      some = omega arith;
       same = a.same;
       more = a.more;
       turned = a.turned;
@@ -368,12 +373,12 @@ asked_job w most (AskRead k) j of asked = inr (fetch_job w k.handle.n j of asked
 asked_job w most (AskWrite k at bytes) j of asked = inr (subst (IsOnObject w) (sym asked) of.0)
 asked_job w most (AskMake bytes) j of asked = inl (subst IsMake (sym asked) tt)
 
-each_has : {A : Type 0} (P : A → Type 0) (xs : List A) → Each P xs → (x : A) → Has x xs → P x
+pub each_has : {A : Type 0} (P : A → Type 0) (xs : List A) → Each P xs → (x : A) → Has x xs → P x
 each_has P [] each x there = absurd there
 each_has P (y ∷ xs) each x (inl is) = subst P is each.0
 each_has P (y ∷ xs) each x (inr there) = each_has P xs each.1 x there
 
-some_make : (plan : List Ask) (bytes : List ℕ) → Has (AskMake bytes) plan → 1 ≤ makes_in plan
+pub some_make : (plan : List Ask) (bytes : List ℕ) → Has (AskMake bytes) plan → 1 ≤ makes_in plan
 some_make [] bytes there = absurd there
 some_make (ask ∷ plan) bytes (inl is) = let e = ap makes_of is in omega (arith, e)
 some_make (ask ∷ plan) bytes (inr there) = let rest = some_make plan bytes there in
@@ -539,6 +544,9 @@ module _ (c : Config) (first most : ℕ) (low : first ≤ most) (s : Plain) (tal
   plain_one saying.Nothing is = record { goes_on = refl; after = refl; says = λ u more e. e }
   plain_one (saying.Outside len) is = record { goes_on = refl; after = refl; says = λ u more e. e }
 
+  pub after_is : (said : FarAnswer) → refusal_in said ≡ None → after_said s a said ≡ plain_after s a
+  after_is said none = (plain_one said none).after
+
   pub said_goes : (said : FarAnswer) → refusal_in said ≡ None → said ≡ plain_said s a
       → Goes c first plan None v w → CommandGoes c first s a said v w
   said_goes said none is go = record {
@@ -629,3 +637,13 @@ module _ (c : Config) (first most : ℕ) (low : first ≤ most) (s : Plain) (tal
     -- nothing was written
     pub written_same : w.written ≡ v.written
     written_same = z.wrote ∙ ap (λ (es : List Entry). es ++ v.written) y.none
+
+-- what a plan adds that went, or of which a call was refused
+pub adds_so : (c : Config) (first : ℕ) (plan : List Ask) (t : Option Cannot) (v w : View)
+    → IsShort plan → Goes c first plan t v w
+    → (t ≡ None) ⊎ ((r : Reply) × (t ≡ Some (cannot.Refused r)))
+    → (n : ℕ) × PlanAdds c first plan n v w
+adds_so c first plan t v w short goes (inl at) = (makes_in plan, all_done c first plan v w
+    (subst (λ (o : Option Cannot). Goes c first plan o v w) at goes))
+adds_so c first plan t v w short goes (inr (r, at)) = (0, (all_refused c first plan r v w short
+    (subst (λ (o : Option Cannot). Goes c first plan o v w) at goes)).adds)

@@ -105,6 +105,7 @@ pub record CallAdds (c : Config) (ask : Ask) (r : Reply) (v w : View) : Type 0 w
   pub few : length entries ≤ entries_of ask r
   pub low : Each (λ (e : Entry). e.version ≤ version_told r) entries
   pub entries_are : Each (IsEntryOf ask v) entries
+  pub some : made_of ask r ≤ length entries
   pub same : (w.share ≡ v.share) × (w.fresh ≡ v.fresh)
   pub more : List Turn
   pub turned : w.turns ≡ more ++ v.turns
@@ -255,7 +256,7 @@ module _ (c : Config) (ask : Ask) (r : Reply) (v w : View) (before last : Part)
     (entries : List Entry) (wrote : w.written ≡ entries ++ v.written)
     (few : length entries ≤ entries_of ask r)
     (low : Each (λ (e : Entry). e.version ≤ version_told r) entries)
-    (entries_are : Each (IsEntryOf ask v) entries)
+    (entries_are : Each (IsEntryOf ask v) entries) (some : made_of ask r ≤ length entries)
     (same : (w.share ≡ v.share) × (w.fresh ≡ v.fresh))
     (in_vain : Each (λ (t : Turn). IsAskedBy ask t.job) before.turns)
     (idle : made_by_all before.turns ≡ 0)
@@ -267,6 +268,7 @@ module _ (c : Config) (ask : Ask) (r : Reply) (v w : View) (before last : Part)
     few = few;
     low = low;
     entries_are = entries_are;
+    some = some;
     same = same;
     more = last.turns ++ before.turns;
     turned = turns;
@@ -312,7 +314,7 @@ read_adds : (c : Config) (k : KeptObject) (r : Reply) (v w : View) → ReadGives
     → CallAdds c (AskRead k) r v w
 read_adds c k r v w (d, x, is) = adds_in_all c (AskRead k) r v w x.before x.last
     (turns_of v w d x.before x.last x.part (ap (λ (z : View). z.turns) is)) []
-    (read_written c k.handle.n r v w (d, x, is)) (omega arith) tt tt (same_of v w d is)
+    (read_written c k.handle.n r v w (d, x, is)) (omega arith) tt tt (omega arith) (same_of v w d is)
     (vain_jobs (AtThis k.handle.n) (IsUnfetched c k.handle.n) (λ t. IsFetch k.handle.n t.job)
     (λ t (j, fetch, (same, un)). subst (IsFetch k.handle.n) (sym same) fetch) x.before x.in_vain)
     (vain_made (AtThis k.handle.n) (IsUnfetched c k.handle.n) (vain_fetch c k.handle.n) x.before
@@ -334,7 +336,7 @@ module _ (c : Config) (k : KeptObject) (at : ℕ) (bytes : List ℕ) (r : Reply)
   write_all entries wrote few low are = let x = gives.1 in
       adds_in_all c (AskWrite k at bytes) r v w x.before x.last
       (turns_of v w gives.0 x.before x.last x.part (ap (λ (z : View). z.turns) gives.2))
-      entries wrote few low are (same_of v w gives.0 gives.2)
+      entries wrote few low are (omega arith) (same_of v w gives.0 gives.2)
       (vain_jobs (AtThis h) (IsUnanswered c own) (λ t. t.job ≡ own) (λ t un. un.0) x.before x.in_vain)
       (vain_made (AtThis h) (IsUnanswered c own) (vain_write c h at bytes) x.before x.in_vain)
       (write_ends c k at bytes r v x.before x.last
@@ -377,6 +379,12 @@ make_are first bytes (answer.Made h n) v es x new =
 make_are first bytes r v es x new =
     subst (λ (l : List Entry). Each (IsEntryOf (AskMake bytes) v) l) (sym x) tt
 
+make_some : (bytes : List ℕ) (r : Reply) (es : List Entry) → MakeWrites bytes r es
+    → made_of (AskMake bytes) r ≤ length es
+make_some bytes (answer.Made h n) es x =
+    subst (λ (l : List Entry). 1 ≤ length l) (sym x.2) (omega arith)
+make_some bytes r es x = omega arith
+
 make_adds : (c : Config) (first : ℕ) (bytes : List ℕ) (r : Reply) (v w : View)
     → TurnGives c (jobs.Make bytes) r v w → MakesNew first (jobs.Make bytes) r v
     → CallAdds c (AskMake bytes) r v w
@@ -392,6 +400,9 @@ make_adds c first bytes r v w (d, x, is) new = adds_in_all c (AskMake bytes) r v
     (subst (λ (es : List Entry). Each (IsEntryOf (AskMake bytes) v) es)
     (sym (ap (λ (p : Part). p.written) x.ends_so.1.part))
     (make_are first bytes r v x.ends_so.1.more x.ends_so.1.wrote new))
+    (subst (λ (es : List Entry). made_of (AskMake bytes) r ≤ length es)
+    (sym (ap (λ (p : Part). p.written) x.ends_so.1.part))
+    (make_some bytes r x.ends_so.1.more x.ends_so.1.wrote))
     (ap (λ (z : View). z.share) is, ap (λ (z : View). z.fresh) is)
     (vain_jobs (LooksOf (jobs.Make bytes)) (IsUnanswered c (jobs.Make bytes))
     (λ t. t.job ≡ jobs.Make bytes) (λ t un. un.0) x.before x.in_vain)

@@ -1,9 +1,11 @@
 -- The list of an array in a pass, and what each call on it asks.
-use Rattle.std.specs.Prelude.{ℕ, ◌+◌, ◌-◌, ◌*◌, ◌/◌, ◌%◌, ◌≤◌, ◌==◌, ◌≡◌, Bool, true, false, if◌then◌else◌, List, [], ◌∷◌, ◌++◌, length, replicate, slice_get, slice_index, slice_set, take, Option, None}
+use Rattle.std.specs.Prelude.{ℕ, ◌+◌, ◌-◌, ◌*◌, ◌/◌, ◌%◌, ◌≤◌, ◌==◌, ◌≡◌, ◌≢◌, Bool, true, false, if◌then◌else◌, List, [], ◌∷◌, ◌++◌, length, replicate, slice_get, slice_index, slice_set, take, Option, None}
 use Rattle.std.specs.List.{AllByRecursion, flat_map}
 use Rattle.byteorder.specs.Endian.{little_bytes}
 use Rattle.cb_types.specs.declared.config.Config.{Config}
+use Rattle.cb_world.specs.declared.entry.Entry.{Entry}
 use Rattle.cb_rule.specs.declared.view.View.{View}
+use Rattle.cb_rule.specs.Lists.{Has}
 use Rattle.cb_farmap.specs.declared.array.FarArray.{FarArray}
 use Rattle.cb_farmap.specs.declared.kept.Cannot.{Cannot}
 use Rattle.cb_farmap.specs.declared.kept.KeptObject.{KeptObject}
@@ -126,13 +128,15 @@ pub record IsSet (i x : ℕ) (v : View) (a : FarArray) (w : View) (b : FarArray)
   pub list : list_of w b ≡ slice_set (list_of v a) i x
   pub left : b ≡ record a { kept = with_written a.kept i }
 
--- a number more: in a later version of an object, or in an object more where all were full
+-- a number more: in a later version of an object, or, where all were full, in an object more, of which
+-- the pass had written nothing
 pub record IsPushed (x : ℕ) (v : View) (a : FarArray) (w : View) (b : FarArray) : Type 0 where
   pub list : list_of w b ≡ list_of v a ++ x ∷ []
   pub len : b.len ≡ a.len + 1
   pub stop : b.stop ≡ a.stop
   pub room : is_full a.kept a.len ≡ false → b.kept ≡ with_written a.kept a.len
   pub full : is_full a.kept a.len ≡ true → (k : KeptObject) × (b.kept ≡ a.kept ++ k ∷ [])
+      × ((e : Entry) → Has e v.written → e.handle ≢ k.handle.n)
 
 -- the last number, which the list has no more; none of an empty list
 pub record IsPopped (o : Option ℕ) (v : View) (a : FarArray) (w : View) (b : FarArray) : Type 0 where

@@ -1,5 +1,5 @@
 -- A far map, and the map that it is in the record of a pass.
-use Rattle.std.specs.Prelude.{◌≡◌, ℕ, ◌*◌, ◌%◌, ◌≤◌, List, [], length, get_or, slice_set, map, take, Option, None, sum_by}
+use Rattle.std.specs.Prelude.{◌≡◌, ℕ, ◌*◌, ◌%◌, ◌≤◌, List, [], length, get_or, slice_set, map, replicate, take, Option, None, sum_by}
 use Rattle.std.specs.FinMap as finite
 use Rattle.std.specs.List.{AllByRecursion, flat_map}
 use Rattle.std.specs.Ordering.{nat_cmp}
@@ -9,11 +9,15 @@ use Rattle.cb_farmap.specs.declared.bucket.Bucket.{Bucket}
 use Rattle.cb_farmap.specs.declared.kept.Cannot.{Cannot}
 use Rattle.cb_farmap.specs.declared.kept.KeptObject.{KeptObject}
 use Rattle.cb_farmap.specs.declared.map.FarMap.{FarMap}
-use Rattle.cb_farmap.specs.Buckets.{IsBucket, pairs_in}
+use Rattle.cb_farmap.specs.Buckets.{IsBucket, no_bucket, pairs_in}
 use Rattle.cb_farmap.specs.Changes.{AreLoose, AreSole}
 use Rattle.cb_farmap.specs.Objects.{AreApart}
 use Rattle.cb_farmap.specs.Pairs.{AreBuckets, Pair, map_of_pairs}
 use Rattle.cb_farmap.specs.Stops.{stop_behind}
+
+-- a map with so many buckets and no pair
+abbrev pub no_map : ℕ → FarMap
+no_map n = record { buckets = replicate n no_bucket; len = 0; stop = None }
 
 -- all objects of buckets, of one after another
 abbrev pub kept_of : List Bucket → List KeptObject
@@ -41,8 +45,10 @@ pub record IsMapOf (v : View) (a : FarMap) : Type 0 where
 abbrev pub told_map : FarMap → Option Cannot → FarMap
 told_map a t = record a { stop = stop_behind a.stop t }
 
--- nobody else has its objects, the pass has no pin on them, and it has not stopped
+-- nobody else has its objects, for the pass has the whole share and wrote each of them last; it has
+-- no pin on them, and the map has not stopped
 pub record IsCalmMap (v : View) (a : FarMap) : Type 0 where
+  pub whole : v.share ≡ 64
   pub going : a.stop ≡ None
   pub sole : AreSole v (kept_of a.buckets)
   pub loose : AreLoose v (kept_of a.buckets)

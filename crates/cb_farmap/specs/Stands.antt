@@ -73,9 +73,12 @@ abbrev pub GoesSo : Config → FarCommand → View → FarArray → FarMap → F
 GoesSo c ask v a m said w b o = (n : ℕ) (s : Plain) → Stands n s v a m → n < 1000000000
     → CommandGoes c 1 s ask said v w × Stands (n + 1) (after_said s ask said) w b o
 
--- what is said of an answer: this of what it has, or why the runtime refused it
+-- what is said of why something was not answered: the reply by which the runtime refused it
+abbrev pub SaysWhy : Cannot → FarAnswer → Type 0
+SaysWhy (cannot.Refused reply) said = said ≡ Refused reply
+SaysWhy other said = ⊥
+
+-- what is said of an answer: this of what it has, or why it has nothing
 abbrev pub Says : {X : Type 0} → (X → FarAnswer) → Result X Cannot → FarAnswer → Type 0
 Says f (Ok x) said = said ≡ f x
-Says f (Err cannot.NoMemory) said = ⊥
-Says f (Err (cannot.Refused reply)) said = said ≡ Refused reply
-Says f (Err (cannot.Foreign handle kept found)) said = ⊥
+Says f (Err e) said = SaysWhy e said

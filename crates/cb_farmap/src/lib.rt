@@ -4,9 +4,9 @@
 #![tactic(auto)]
 
 mod array;
-pub mod commands;
 pub mod bucket;
 mod buckets;
+pub mod commands;
 pub mod find;
 pub mod kept;
 mod map;

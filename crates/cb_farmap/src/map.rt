@@ -1,15 +1,14 @@
 //! A map of numbers in buckets of objects of 64 pairs each.
-ghost use Rattle.std.specs.Prelude.{◌≡◌, ◌+◌, ◌-◌, ◌<◌, ◌≤◌, IfOk, OnErr, OnOk};
+ghost use Rattle.std.specs.Prelude.{◌≡◌, ◌<◌, ◌≤◌, IfOk, OnErr};
 ghost use Rattle.std.specs.FinMap as finite;
 ghost use Rattle.cb_shared.specs.Passes.{IsPassOf, record_of};
 ghost use Rattle.cb_shared.specs.Recalls.{first_version_of};
 ghost use Rattle.cb_rule.specs.declared.view.View.{View};
 ghost use Rattle.cb_farmap.specs.BucketChanges.{added_by, removed_by};
 ghost use Rattle.cb_farmap.specs.Buckets.{bucket_in};
-ghost use Rattle.cb_farmap.specs.Calls.{Answers, trouble};
-ghost use Rattle.cb_farmap.specs.Changes.{AreSole, GoesOn, IsCalm};
-ghost use Rattle.cb_farmap.specs.MapChanges.{IsDropped, IsPut};
-ghost use Rattle.cb_farmap.specs.Maps.{IsCalmMap, IsMapOf, kept_of, map_of, told_map};
+ghost use Rattle.cb_farmap.specs.Calls.{trouble};
+ghost use Rattle.cb_farmap.specs.MapChanges.{IsDropped, IsLooked, IsPut, KeepsMap, StaysMap};
+ghost use Rattle.cb_farmap.specs.Maps.{IsMapOf, map_of, no_map};
 ghost use Rattle.cb_farmap.specs.Plans.{drop_plan, look_plan, put_plan};
 
 use crate::array::noted;
@@ -39,6 +38,7 @@ impl FarMap {
     pub fn new(alloc: Global, buckets: u32) -> Result<FarMap, NoMemory>
         requires some { 1 ≤ buckets }
         requires most { buckets ≤ 4096 }
+        ensures empty { IfOk result (λ map. map ≡ no_map buckets) }
         ensures map { IfOk result (λ map. (v : View) → IsMapOf v map
             × (map_of v map ≡ finite.empty)) }
     {
@@ -73,16 +73,13 @@ impl FarMap {
         requires of { IsPassOf shared.now pass.old }
         requires map { IsMapOf (record_of pass.old) self.old }
         ensures of { IsPassOf shared.now pass.new }
-        ensures map { IsMapOf (record_of pass.new) self.new }
-        ensures value { IfOk result (λ o. o ≡ finite.get (map_of (record_of pass.old) self.old) key) }
-        ensures same { map_of (record_of pass.new) self.new ≡ map_of (record_of pass.old) self.old }
-        ensures left { self.new ≡ told_map self.old (trouble result) }
-        ensures calls { Answers shared.now.config (first_version_of shared.now) self.old.stop
+        ensures ok { IfOk result (λ o. IsLooked key o (record_of pass.old) self.old
+            (record_of pass.new) self.new) }
+        ensures stays { OnErr result (StaysMap (trouble result) (record_of pass.old) self.old
+            (record_of pass.new) self.new) }
+        ensures keeps { KeepsMap shared.now.config (first_version_of shared.now)
             (look_plan (record_of pass.old).written (bucket_in self.old.buckets key) key)
-            (trouble result) (record_of pass.old) (record_of pass.new) }
-        ensures on { GoesOn (record_of pass.old) (record_of pass.new) }
-        ensures calm { IsCalmMap (record_of pass.old) self.old → IsCalm (trouble result)
-            × AreSole (record_of pass.new) (kept_of self.new.buckets) }
+            (trouble result) (record_of pass.old) self.old (record_of pass.new) self.new }
     {
         if let Some(stop) = self.stop {
             return Err(Cannot::from(stop));
@@ -111,21 +108,13 @@ impl FarMap {
         requires map { IsMapOf (record_of pass.old) self.old }
         requires room { self.old.len < 1000000000 }
         ensures of { IsPassOf shared.now pass.new }
-        ensures map { IsMapOf (record_of pass.new) self.new }
-        ensures value { IfOk result (λ o. o ≡ finite.get (map_of (record_of pass.old) self.old) key) }
-        ensures put { OnOk result (map_of (record_of pass.new) self.new
-            ≡ finite.insert (map_of (record_of pass.old) self.old) key x) }
-        ensures stays { OnErr result (map_of (record_of pass.new) self.new
-            ≡ map_of (record_of pass.old) self.old) }
-        ensures left { OnErr result (self.new ≡ told_map self.old (trouble result)) }
-        ensures kept { OnOk result (IsPut (record_of pass.old) self.old (key, x) self.new
-            (record_of pass.new)) }
-        ensures calls { Answers shared.now.config (first_version_of shared.now) self.old.stop
+        ensures ok { IfOk result (λ o. IsPut (key, x) o (record_of pass.old) self.old
+            (record_of pass.new) self.new) }
+        ensures stays { OnErr result (StaysMap (trouble result) (record_of pass.old) self.old
+            (record_of pass.new) self.new) }
+        ensures keeps { KeepsMap shared.now.config (first_version_of shared.now)
             (put_plan (record_of pass.old).written (bucket_in self.old.buckets key) (key, x))
-            (trouble result) (record_of pass.old) (record_of pass.new) }
-        ensures on { GoesOn (record_of pass.old) (record_of pass.new) }
-        ensures calm { IsCalmMap (record_of pass.old) self.old → IsCalm (trouble result)
-            × AreSole (record_of pass.new) (kept_of self.new.buckets) }
+            (trouble result) (record_of pass.old) self.old (record_of pass.new) self.new }
     {
         if let Some(stop) = self.stop {
             return Err(Cannot::from(stop));
@@ -150,21 +139,13 @@ impl FarMap {
         requires of { IsPassOf shared.now pass.old }
         requires map { IsMapOf (record_of pass.old) self.old }
         ensures of { IsPassOf shared.now pass.new }
-        ensures map { IsMapOf (record_of pass.new) self.new }
-        ensures value { IfOk result (λ o. o ≡ finite.get (map_of (record_of pass.old) self.old) key) }
-        ensures dropped { OnOk result (map_of (record_of pass.new) self.new
-            ≡ finite.remove (map_of (record_of pass.old) self.old) key) }
-        ensures stays { OnErr result (map_of (record_of pass.new) self.new
-            ≡ map_of (record_of pass.old) self.old) }
-        ensures left { OnErr result (self.new ≡ told_map self.old (trouble result)) }
-        ensures kept { OnOk result (IsDropped (record_of pass.old) self.old key self.new
-            (record_of pass.new)) }
-        ensures calls { Answers shared.now.config (first_version_of shared.now) self.old.stop
+        ensures ok { IfOk result (λ o. IsDropped key o (record_of pass.old) self.old
+            (record_of pass.new) self.new) }
+        ensures stays { OnErr result (StaysMap (trouble result) (record_of pass.old) self.old
+            (record_of pass.new) self.new) }
+        ensures keeps { KeepsMap shared.now.config (first_version_of shared.now)
             (drop_plan (record_of pass.old).written (bucket_in self.old.buckets key) key)
-            (trouble result) (record_of pass.old) (record_of pass.new) }
-        ensures on { GoesOn (record_of pass.old) (record_of pass.new) }
-        ensures calm { IsCalmMap (record_of pass.old) self.old → IsCalm (trouble result)
-            × AreSole (record_of pass.new) (kept_of self.new.buckets) }
+            (trouble result) (record_of pass.old) self.old (record_of pass.new) self.new }
     {
         if let Some(stop) = self.stop {
             return Err(Cannot::from(stop));

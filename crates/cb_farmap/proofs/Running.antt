@@ -1,0 +1,99 @@
+-- Commands one after another: what stands behind each, and what is so of them all at the end.
+use Rattle.std.proofs.Common.{◌≡◌, ℕ, ◌+◌, ◌<◌, ◌≤◌, List, [], ◌∷◌, ◌++◌, length, drop, get_or, refl, sym, ap, ◌∙◌, subst, arith}
+use Rattle.std.proofs.lemmas.List.{append-nil, append_assoc, drop_all}
+use Rattle.std.specs.FinMap as finite
+use Rattle.cb_types.specs.declared.config.Config.{Config}
+use Rattle.cb_rule.specs.declared.view.View.{View}
+use Rattle.cb_rule.specs.Steps.{opener}
+use Rattle.cb_map_text.specs.Plain.{Plain, after_said, fresh}
+use Rattle.cb_map_text.specs.declared.command.FarAnswer.{FarAnswer}
+use Rattle.cb_map_text.specs.declared.command.FarCommand.{FarCommand}
+use Rattle.cb_map_text.proofs.PublicLaws.{fresh_tallied}
+use Rattle.cb_farmap.specs.declared.array.FarArray.{FarArray}
+use Rattle.cb_farmap.specs.declared.map.FarMap.{FarMap}
+use Rattle.cb_farmap.specs.Arrays.{no_array}
+use Rattle.cb_farmap.specs.Commands.{CommandGoes, CommandsGo}
+use Rattle.cb_farmap.specs.Maps.{IsMapOf, map_of, no_map}
+use Rattle.cb_farmap.specs.Stands.{GoesSo, Stands}
+
+-- the array and the map stand behind so many commands, and what the others will do makes them all go
+-- as they should
+pub record Run (c : Config) (asks : List FarCommand) (start : View) (i : ℕ) (saids : List FarAnswer)
+    (v : View) (a : FarArray) (m : FarMap) : Type 0 where
+  pub s : Plain
+  pub stands : Stands i s v a m
+  pub all : (more : List FarAnswer) (w : View) → CommandsGo c 1 s v (drop i asks) more w
+      → CommandsGo c 1 fresh start asks (saids ++ more) w
+
+drop_next : (asks : List FarCommand) (i : ℕ) (ask : FarCommand) → i < length asks
+    → ask ≡ get_or asks i ask → drop i asks ≡ ask ∷ drop (i + 1) asks
+drop_next [] i ask less at = absurd (omega (arith, less))
+drop_next (x ∷ asks) zero ask less at = ap (λ y. y ∷ asks) (sym at)
+drop_next (x ∷ asks) (suc i) ask less at = drop_next asks i ask (omega (arith, less)) at
+
+-- before the first one
+pub begins : (c : Config) (asks : List FarCommand) (m : FarMap) → m ≡ no_map 64
+    → ((v : View) → IsMapOf v m × (map_of v m ≡ finite.empty)) → (start : View) → start ≡ opener c
+    → (a : FarArray) → a ≡ no_array → Run c asks start 0 [] start a m
+begins c asks m empty so start is a none =
+    subst (λ (v : View). Run c asks v 0 [] v a m) (sym is)
+    (subst (λ (b : FarArray). Run c asks (opener c) 0 [] (opener c) b m) (sym none)
+    (subst (λ (o : FarMap). Run c asks (opener c) 0 [] (opener c) no_array o) (sym empty) (record {
+      s = fresh;
+      stands = record {
+        record_is = record { whole = refl; loose = refl; idle = refl; low = λ e has. absurd has; made = refl };
+        array_is = record {
+          array = record { objects = tt; apart = tt; within = arith };
+          list = refl;
+          kept = refl;
+          going = refl;
+          sole = tt;
+        };
+        map_is = record {
+          map_is = there.0;
+          pairs = there.1;
+          counts = refl;
+          kept = refl;
+          going = refl;
+          sole = tt;
+        };
+        other = λ x y has too. absurd has;
+        tallied = fresh_tallied;
+        few = arith;
+        few_keys = arith;
+      };
+      all = λ more w go. go;
+    })))
+  where
+    there : IsMapOf (opener c) (no_map 64) × (map_of (opener c) (no_map 64) ≡ finite.empty)
+    there = subst (λ (o : FarMap). IsMapOf (opener c) o × (map_of (opener c) o ≡ finite.empty)) empty
+        (so (opener c))
+
+-- one more
+pub goes_next : (c : Config) (asks : List FarCommand) (start : View) (i : ℕ) (saids : List FarAnswer)
+    (v : View) (a : FarArray) (m : FarMap) → Run c asks start i saids v a m → (ask : FarCommand)
+    → length asks ≤ 1000000000 → i < length asks → ask ≡ get_or asks i ask → (said : FarAnswer)
+    (w : View) (b : FarArray) (o : FarMap) → GoesSo c ask v a m said w b o → (all : List FarAnswer)
+    → all ≡ saids ++ said ∷ [] → Run c asks start (i + 1) all w b o
+goes_next c asks start i saids v a m run ask few less at said w b o so all is =
+    subst (λ (ss : List FarAnswer). Run c asks start (i + 1) ss w b o) (sym is) (record {
+      s = after_said run.s ask said;
+      stands = one.1;
+      all = λ more u go. subst (λ (ss : List FarAnswer). CommandsGo c 1 fresh start asks ss u)
+          (sym (append_assoc saids (said ∷ []) more))
+          (run.all (said ∷ more) u (subst (λ (rest : List FarCommand).
+          CommandsGo c 1 run.s v rest (said ∷ more) u) (sym (drop_next asks i ask less at))
+          (w, one.0, go)));
+    })
+  where
+    one : CommandGoes c 1 run.s ask said v w × Stands (i + 1) (after_said run.s ask said) w b o
+    one = so i run.s run.stands (omega (arith, few, less))
+
+-- behind the last one
+pub all_gone : (c : Config) (asks : List FarCommand) (start : View) (i : ℕ) (saids : List FarAnswer)
+    (v : View) (a : FarArray) (m : FarMap) → Run c asks start i saids v a m → length asks ≤ i
+    → CommandsGo c 1 fresh start asks saids v
+all_gone c asks start i saids v a m run past =
+    subst (λ (ss : List FarAnswer). CommandsGo c 1 fresh start asks ss v) (append-nil saids)
+    (run.all [] v (subst (λ (rest : List FarCommand). CommandsGo c 1 run.s v rest [] v)
+    (sym (drop_all i asks past)) refl))

@@ -1,0 +1,29 @@
+use Rattle.std.proofs.Common.{refl, arith}
+use Rattle.cb_shared.specs.Passes.{record_of}
+use Rattle.cb_shared.specs.Recalls.{first_version_of}
+use Rattle.cb_farmap.specs.Calls.{trouble}
+use Rattle.cb_farmap.specs.Arrays.{set_plan}
+use Rattle.cb_farmap.proofs.Answering.{outside_set_so, quiet_array, set_so}
+use Rattle.cb_farmap.proofs.commands.set.Goals as goal
+
+pub set-requires-clause-array : goal.set-requires-clause-array
+set-requires-clause-array g c = c.requires.ready.2.array_is.array
+
+pub said_done-requires : goal.said_done-requires
+said_done-requires g c = quiet_array c.args.shared.now.config
+    (first_version_of c.args.shared.now) (set_plan c.args.far.now.array.kept c.args.i c.args.x) (trouble c.set.result)
+    (record_of c.args.pass.now) (record_of c.set.new.pass) c.args.far.now.array c.set.new.self c.args.far.now.map c.requires.ready
+    c.set.ensures.keeps
+
+pub returns-clause-goes : goal.returns-clause-goes
+returns-clause-goes g c = set_so c.args.shared.now c.requires.first c.set.new.pass
+    c.recall.new.pass c.recall.ensures.of c.recall.ensures.same c.recall.ensures.own
+    (record_of c.args.pass.now) c.args.far.now.array c.set.new.self c.args.far.now.map c.args.i c.args.x (let l = c.if-i-len.false in omega (arith, l))
+    c.set.result c.set.ensures.ok c.set.ensures.stays c.set.ensures.keeps
+    c.said_done.result c.said_done.ensures
+
+pub returns-then-i-len-clause-goes : goal.returns-then-i-len-clause-goes
+returns-then-i-len-clause-goes g c = outside_set_so c.args.shared.now c.requires.first c.args.pass.now
+    c.recall.new.pass c.recall.ensures.of c.recall.ensures.same c.recall.ensures.own
+    (record_of c.args.pass.now) c.args.far.now.array c.args.far.now.map c.args.i c.args.x
+    (let l = c.if-i-len.true in omega (arith, l)) refl
