@@ -19,7 +19,6 @@ mod Records
 mod WorkDone
 mod Crews
 mod WorkedLanes
-mod WorkedMapped
 mod WorkedThreads
 mod WorkedRun
 mod PlainReplies

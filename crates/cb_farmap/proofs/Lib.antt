@@ -36,7 +36,6 @@ mod BucketList
 mod MapCommands
 mod MapEach
 mod Answering
-mod Running
 mod Once
 mod MapEnds
 mod WorkedPairs
