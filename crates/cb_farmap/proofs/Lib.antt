@@ -39,3 +39,4 @@ mod Answering
 mod Once
 mod MapEnds
 mod WorkedPairs
+pub mod Laws
