@@ -134,6 +134,7 @@ CASES = {
     "with_check": "--seed 5 --lines 20 --lanes 3 check",
     "with_one_option": "seq --seed 5",
     "with_rma": "rma --lanes=3",
+    "with_map": "map --lanes=3",
     "with_scrub": "scrub --lines=3",
     "a_word_more": "gen --seed 5 --lines 20 --lanes 3 more",
     "a_value_more": "gen --seed 5 6 --lines 20 --lanes 3",

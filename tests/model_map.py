@@ -252,6 +252,38 @@ def looks(count, step=64):
     return ["look %d" % (step * n) for n in range(count)]
 
 
+def far_cases():
+    """NAME: input, of cases in which objects are far. A frame has four objects."""
+    made = {}
+    # Two frames of four objects each leave as one set, which fills the nodes. Then the first one comes back beside the ninth
+    # object: the bucket 0 has its first object here and its second one far, and no further span can leave.
+    first = puts(64) + ["put 1 1", "put 2 2", "put 3 3"]
+    made["no_room_for_what_is_far"] = text(
+        first + puts(64, first=4096) + ["push %d" % n for n in range(128)] + ["put 4 4", "push 128", "put 5 5"]
+        + ["look 0", "look 4032", "look 4096", "look 999936", "put 0 9", "put 4096 1", "put 64000 1", "drop 8128", "drop 0", "look 0",
+           "get 0", "get 128", "get 129", "set 5 1", "set 128 1", "set 129 1", "push 7", "pop", "look 4", "put 4 1", "put 68 1",
+           "drop 4", "drop 68", "put 1 7", "look 1", "put 6 1", "look 6", "drop 6", "drop 1", "look 1", "put 65 8", "look 65", "drop 5",
+           "put 69 9", "look 69", "get 0", "look 0"], frames=2, room=1, nodes=4, handles=9)
+    made["an_empty_object_that_is_far"] = text(
+        first + ["put 4096 1", "push 1", "put 7 1", "put 8 1", "drop 4096", "drop 7", "pop", "put 9 1", "look 0", "put 4096 5", "look 4096",
+                 "put 7 1", "look 7", "drop 7", "push 3", "pop", "get 0", "put 64 2", "look 64", "drop 0", "put 4096 6", "look 4096"],
+        frames=2, room=1, nodes=4)
+    # 16 objects in two or three frames, so that what a command needs has left since another one.
+    filled = ["push %d" % n for n in range(300)] + puts(130) + ["put %d %d" % (n, n) for n in range(1, 11)]
+    turned = [line for n in range(12) for line in (
+        "get %d" % (n * 25), "look %d" % (n % 10 + 1), "set %d %d" % (290 - n * 25, n), "put %d %d" % (n % 10 + 1, n), "pop",
+        "look %d" % (64 * (n * 11 % 130)), "push %d" % n, "drop %d" % (64 * n), "get 0", "put %d %d" % (64 * (n + 200), n), "look 7")]
+    for name, fields in (("two", {}), ("three", {"frames": 3, "k": 1, "r": 1, "nodes": 2}), ("five", {"frames": 5, "k": 4, "r": 3,
+                                                                                                     "nodes": 7})):
+        made["each_verb_in_%s_frames" % name] = text(filled + turned, **{"frames": 2, "handles": 64, **fields})
+    # The same with few commands: a test has each allocation of it refused.
+    made["each_verb_on_few_objects"] = text(
+        ["put %d %d" % (n, n) for n in range(7)] + ["push 7", "put 7 7", "look 0", "put 64 1", "get 0", "look 7", "set 0 8", "drop 0",
+                                                    "look 9", "put 9 1", "pop", "push 9", "look 7", "drop 64", "get 0"],
+        frames=2, handles=12)
+    return made
+
+
 def cases():
     """NAME: input."""
     made = {"worked": text(WORKED[0]), "worked_full": text(WORKED_FULL[0], handles=1)}
@@ -306,6 +338,10 @@ def cases():
         puts(200) + ["put %d 1" % n for n in range(1, 30)] + [line for n in range(0, 200, 9) for line in
                                                              ("drop %d" % (64 * n), "put %d 3" % (64 * n + 64 * 1000))],
         frames=1, room=64, handles=64)
+    made.update(far_cases())
+    made["pairs_129_handles_2"] = text(puts(129) + looks(129) + ["put 64 1", "drop 0", "put 8256 5", "put 8320 6"], handles=2)
+    made["keys_20000_of_all_buckets"] = text(["put %d %d" % (n, n) for n in range(20000)], handles=400, frames=100,
+                                             room=64)
     made["commands_20000"] = text(["push 1", "set 0 2", "get 0", "pop", "put 5 6", "look 5", "drop 5", "look 6"] * 2500)
     made["commands_20001"] = text(["pop"] * 20001)
     made["commands_20002_and_a_bad_one_before"] = text(["pop"] * 20000 + ["pops", "pop"])
@@ -322,10 +358,15 @@ def cases():
         "drop", "drop_of_two": "drop 1 2", "leading_zero": "push 01", "ten_digits": "push 1000000000", "sign": "push +1",
         "negative": "push -1", "no_number": "push x", "index_ten_digits": "get 1000000000", "index_leading_zero": "set 00 1",
         "set_ten_digits": "set 0 1000000000", "key_ten_digits": "put 1000000000 1", "key_leading_zero": "look 05",
-        "put_no_number": "put 1 y", "drop_no_number": "drop 1x",
+        "put_no_number": "put 1 y", "drop_no_number": "drop 1x", "verb_cut_short": "pus 1", "verb_alone_of_space": " ", "minus_zero":
+        "look -0", "hexadecimal": "push 0x1", "key_without_end": "put 5 ",
     }
     for name, line in bad.items():
         made["bad_" + name] = text(["push 1", line, "pop", "pop x"])
+    made["bad_zero_byte"] = text(["push 1\0"])
+    made["bad_digits_of_another_script"] = text(["push 1"]) + "push \u0661\n".encode()
+    made["bad_command_20000"] = text(["pop"] * 19999 + ["pop 1"])
+    made["commands_20000_and_an_empty_line"] = text(["pop"] * 20000 + [""])
     made["bad_last_without_feed"] = text(["push 1", "push"], end="")
     made["bad_feed_twice_at_end"] = text(["push 1", "", ""])
     good = header()
@@ -342,6 +383,10 @@ def cases():
     }
     for name, line in headers.items():
         made["header_" + name] = (line + "\npush 1\n").encode()
+    made["header_carriage_return"] = (good + "\r\npush 1\n").encode()
+    some = ["push 1", "put 5 6", "look 5", "pop", "put 6 7", "look 6"]
+    made["header_least"] = text(some, k=1, r=1, nodes=2, frames=1, room=1, handles=1)
+    made["header_greatest"] = text(some, k=16, r=4, nodes=64, frames=4096, room=4096, handles=65536, turns=2500)
     made["no_bytes"] = b""
     made["feed_alone"] = b"\n"
     made["not_text"] = text([]) + b"\xff\xfe\n"

@@ -56,6 +56,18 @@ event_form_of() {
     esac
 }
 
+# What stands behind the verb of a command of `map`.
+command_form_of() {
+    case $1 in
+    push) echo "a number" ;;
+    set) echo "an index and a number" ;;
+    get) echo "an index" ;;
+    pop) echo "nothing" ;;
+    put) echo "a key and a number" ;;
+    look | drop) echo "a key" ;;
+    esac
+}
+
 # The bytes in a line that look like nothing and are of no script.
 stray_bytes() {
     case $1 in
@@ -214,6 +226,32 @@ row_text() {
     fi
 }
 
+# What is wrong with the line $2 of commands, which has the number $1.
+command_text() {
+    local stray verb form
+    stray=$(stray_bytes "$2")
+    read -r verb _ <<<"$2"
+    if [ "$1" = 0 ]; then
+        echo "the input has more than 1,048,576 bytes"
+    elif [ "$1" = 1 ] && [ -n "$2" ] && [ -z "$stray$(wrong_word "$2")" ] && ! badly_spaced "$2"; then
+        setting_out_of_range "$2"
+    elif [ "$1" = 1 ]; then
+        wrong_header "$2"
+    elif [ "$1" = 20002 ]; then
+        echo "there are at most 20,000 commands behind the header"
+    elif [ -z "$2" ]; then
+        echo "the line is blank: each line behind the header is a command"
+    elif [ -n "$stray" ]; then
+        echo "$stray"
+    elif badly_spaced "$2"; then
+        echo "$spacing"
+    elif form=$(command_form_of "$verb") && [ -z "$form" ]; then
+        echo "$(quoted "$verb") is no verb; docs/FORMATS.md lists them"
+    else
+        echo "behind $verb stands $form, and no more; an index, a key and a number are 0 to 999,999,999 without leading zeros"
+    fi
+}
+
 hint_at_2() {
     local line text wrong
     if [[ $printed =~ ^script\ line\ ([0-9]+)\ reason\ ([0-9]+)\ [a-z]+$ ]]; then
@@ -225,6 +263,9 @@ hint_at_2() {
     elif [[ $printed =~ ^scrub\ line\ ([0-9]+)\ refused$ ]]; then
         line=${BASH_REMATCH[1]}
         wrong=(row_text "$line")
+    elif [[ $printed =~ ^map\ line\ ([0-9]+)\ refused$ ]]; then
+        line=${BASH_REMATCH[1]}
+        wrong=(command_text "$line")
     else
         say "the input is refused at the line that standard output tells, which could not be read a second time; docs/FORMATS.md has the forms and the reasons"
         return

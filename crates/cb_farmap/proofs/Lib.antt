@@ -47,3 +47,4 @@ mod WorkedObjects
 mod WorkedAsks
 mod WorkedArrays
 mod WorkedMaps
+pub mod Laws

@@ -10,7 +10,7 @@ ghost use Rattle.cb_farmap.specs.Numbers.{number_at};
 ghost use Rattle.cb_farmap.specs.Objects.{IsObject, bytes_at, object_at};
 ghost use Rattle.cb_farmap.specs.Stops.{stop_behind};
 
-use crate::kept::{Cannot, Objects, Stop};
+use crate::kept::{Cannot, KeptObject, Objects, Stop};
 use crate::object::{keep_later, make_kept, read_kept, write_kept};
 use byteorder::{ByteOrder, LittleEndian};
 use cb_shared::{Pass, Shared};
@@ -47,6 +47,14 @@ impl FarArray {
         ensures { result ≡ self.now.len }
     {
         self.len
+    }
+
+    /// The object of the number with this index, as it was written last.
+    pub fn object_of(&self, i: u32) -> KeptObject
+        requires within { i / 128 < length self.now.kept }
+        ensures { result ≡ object_at self.now.kept (i / 128) }
+    {
+        self.kept.at((i / 128) as usize)
     }
 
     /// The number with this index, by one read of its object. Refused by any reply of that read but

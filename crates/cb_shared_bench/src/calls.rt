@@ -98,6 +98,22 @@ fn read<R: Wait>(rt: &R, alloc: Global, shared: &Shared, pass: &mut Pass, h: Han
     is_right(&reply)
 }
 
+/// Writes the object from its first byte on, by the call that tries again.
+fn write_again<R: Wait>(
+    rt: &R,
+    alloc: Global,
+    shared: &Shared,
+    pass: &mut Pass,
+    h: Handle,
+    bytes: &[u8],
+) -> bool
+    requires caller { IsCaller shared.now h pass.old }
+    ensures caller { IsCaller shared.now h pass.new }
+{
+    let reply = shared.write(rt, alloc, pass, h, 0, bytes);
+    is_right(&reply)
+}
+
 /// A turn that is about no object.
 pub(crate) fn turn<R: Wait>(
     rt: &R,
@@ -134,6 +150,10 @@ fn call<R: Wait>(
         Deed::Look => look(shared, pass, h, 1),
         Deed::WriteShort => write(shared, pass, h, bytes.get(..8).unwrap_or(bytes)),
         Deed::WriteLong => write(shared, pass, h, bytes),
+        Deed::Write => {
+            let few = bytes.get(..8).unwrap_or(bytes);
+            write_again(rt, alloc, shared, pass, h, few)
+        }
         Deed::Read | Deed::Await => read(rt, alloc, shared, pass, h),
         _ => turn(rt, alloc, shared, pass, h, &Job::Rebuild),
     }

@@ -23,6 +23,20 @@ pub(crate) enum Deed {
     Await,
     /// The batch, which is held for a while and then given up.
     Hold,
+    /// A write of eight bytes of an object that is here, by the call that tries again.
+    Write,
+    /// The number of an array at an index.
+    Get,
+    /// A number in the place of the one at an index.
+    Set,
+    /// A number behind the last one of an array, into an object that it has.
+    Push,
+    /// The last number of an array.
+    Pop,
+    /// The number of a key of a map, in a bucket of one object.
+    MapLook,
+    /// A number in the place of the one that a key has there.
+    MapPut,
     /// A read in a still world of an object that is here.
     StepRead,
     /// A read in a still world of an object that is far.
@@ -41,6 +55,13 @@ pub(crate) fn deed_of(word: &str) -> Option<Deed> {
         "far" => Some(Deed::ReadFar),
         "turn" => Some(Deed::Turn),
         "waiting" => Some(Deed::Await),
+        "write" => Some(Deed::Write),
+        "get" => Some(Deed::Get),
+        "set" => Some(Deed::Set),
+        "push" => Some(Deed::Push),
+        "pop" => Some(Deed::Pop),
+        "maplook" => Some(Deed::MapLook),
+        "mapput" => Some(Deed::MapPut),
         "stepread" => Some(Deed::StepRead),
         "stepfar" => Some(Deed::StepFar),
         _ => None,
@@ -51,7 +72,8 @@ pub(crate) fn deed_of(word: &str) -> Option<Deed> {
 /// Those of a peek are in rounds over the words of an object.
 pub(crate) fn calls_of(deed: Deed) -> u32 {
     match deed {
-        Deed::Pin | Deed::Look | Deed::WriteShort => 200_000,
+        Deed::Pin | Deed::Look | Deed::WriteShort | Deed::Write => 200_000,
+        Deed::Get | Deed::Set | Deed::Push | Deed::Pop | Deed::MapLook | Deed::MapPut => 40_960,
         Deed::Peek => 6_400_000,
         Deed::WriteLong => 10_000,
         Deed::Read | Deed::StepRead | Deed::Turn => 40_000,

@@ -1,14 +1,16 @@
 //! Times calls of the shared runtime for `bench/pins`. The words are what is timed (`pin`, `look`,
 //! `peek`, `write8`, `write1024`, `read`, `far`, `turn`, `stepread` and `stepfar` for the same
-//! reads in a still world, and for `bench/waiting` `waiting`, reads of an object whose batch is
-//! leaving, and is given up only after 100 milliseconds), how many threads make these calls, and
-//! how many slices are timed. It prints the least time of a call in picoseconds, over that many
+//! reads in a still world, for `bench/waiting` `waiting`, reads of an object whose batch is
+//! leaving, and is given up only after 100 milliseconds, and for `bench/farmap` `write`, `get`,
+//! `set`, `push`, `pop`, `maplook` and `mapput`), how many threads make these calls (of an array and
+//! of a map one), and how many slices are timed. It prints the least time of a call in picoseconds, over that many
 //! slices, or 0 where no slice is asked for.
 #![tactic(auto)]
 
 mod calls;
 mod crew;
 mod deeds;
+mod far;
 mod objects;
 mod replies;
 mod still;
@@ -36,6 +38,9 @@ fn slice<R: Clock + Threads + Wait + Sync>(
     match deed {
         Deed::StepRead => still::slice(rt, alloc, calls_of(deed), false),
         Deed::StepFar => still::slice(rt, alloc, calls_of(deed), true),
+        Deed::Get | Deed::Set | Deed::Push | Deed::Pop | Deed::MapLook | Deed::MapPut => {
+            far::slice(rt, alloc, deed)
+        }
         _ => crew::slice(rt, alloc, deed, threads),
     }
 }

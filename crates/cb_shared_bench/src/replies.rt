@@ -4,8 +4,8 @@ ghost use Rattle.cb_types.specs.declared.reply.Reply.{Reply};
 
 use cb_types::{NoMemory, Reply};
 
-/// Whether a reply is one that is waited for: an object was made or read, a set was put away, a
-/// batch was begun or given up, or no row was lost.
+/// Whether a reply is one that is waited for: an object was made, read or written, a set was put
+/// away, a batch was begun or given up, or no row was lost.
 pub(crate) fn is_right(reply: &Result<Reply, NoMemory>) -> bool
     ensures { result ≡ true → (r : Reply) × (reply.now ≡ Ok r) }
 {
@@ -14,6 +14,7 @@ pub(crate) fn is_right(reply: &Result<Reply, NoMemory>) -> bool
         Ok(
             Reply::Made { .. }
                 | Reply::Bytes { .. }
+                | Reply::Version { .. }
                 | Reply::Set { .. }
                 | Reply::Batch { .. }
                 | Reply::Done

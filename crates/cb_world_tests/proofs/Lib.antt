@@ -2,5 +2,6 @@ pub mod AllEvents
 pub mod Calling
 pub mod Makes
 pub mod ScrubbedWorld
+pub mod Values
 mod WorkedShards
 mod WorkedSmall

@@ -27,6 +27,8 @@ pub(crate) enum Body {
     Wears,
     /// A pass takes all the pins that it may have, and another one is left out.
     Fills,
+    /// A far array and a far map have objects of their own.
+    Values,
     Crew(Work),
 }
 

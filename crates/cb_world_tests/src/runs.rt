@@ -11,6 +11,7 @@ use crate::crew::{are_settled, run_crew};
 use crate::making::{begun, make_all};
 use crate::notes::Note;
 use crate::tables::{CALLS, CRASHES, TWO_PASSES, WEARS, are_answered, are_filled};
+use crate::values::are_values;
 use cb_shared::{Pass, Shared};
 use cb_types::{Handle, NoMemory};
 use std::alloc::Global;
@@ -34,6 +35,7 @@ fn asked_through<A: Asks>(
         Body::Crashes => are_answered(asked, &CRASHES),
         Body::Wears => are_answered(asked, &WEARS),
         Body::Fills => are_filled(asked),
+        Body::Values => Ok(true),
         Body::Crew(work) => are_settled(asked, work, notes),
     }
 }
@@ -81,6 +83,7 @@ fn ended<R: Threads + Wait + Sync>(
     requires caller { IsCaller shared.now [] first.old }
     ensures of { OnOk result (IsPassOf shared.now first.new) }
 {
+    let is_right_first = are_values(rt, alloc, shared, first, body);
     let mut objects = Vec::new(alloc);
     let mut notes = Vec::new(alloc);
     let is_made = make_all(rt, alloc, shared, &mut objects, first, body)?;
@@ -90,7 +93,7 @@ fn ended<R: Threads + Wait + Sync>(
         objects.clear();
     }
     Ok(Ended {
-        is_right: is_made && is_right,
+        is_right: is_right_first && is_made && is_right,
         is_out: matches!(body, Body::Fills),
         objects,
         notes,
@@ -123,13 +126,15 @@ fn all_hold<R: Threads + Wait + Sync>(
 }
 
 /// Two passes by the table; each call that tries again; turns that read back what two crashes left;
-/// the end of the versions; and a pass that takes all its pins beside one that is left out.
-const ON_ONE_THREAD: [Body; 5] = [
+/// the end of the versions; a pass that takes all its pins beside one that is left out; and a far
+/// array and a far map.
+const ON_ONE_THREAD: [Body; 6] = [
     Body::TwoPasses,
     Body::Calls,
     Body::Crashes,
     Body::Wears,
     Body::Fills,
+    Body::Values,
 ];
 
 #[test]
