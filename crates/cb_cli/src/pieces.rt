@@ -1,4 +1,4 @@
-ghost use Rattle.std.specs.Prelude.{◌≡◌, ◌++◌, OnOk};
+ghost use Rattle.std.specs.Prelude.{◌≡◌, ◌++◌, OnErr, OnOk};
 ghost use Rattle.cb_cli.specs.Pieces.{joined_pieces};
 
 use cb_types::{Bytes, NoMemory};
@@ -32,12 +32,14 @@ impl Pieces {
         }
     }
 
-    /// Adds another text at the end, of which it copies nothing.
+    /// Adds another text at the end, of which it copies nothing. Where there was no memory, the text
+    /// is as it was.
     pub fn append(&mut self, more: Pieces) -> Result<(), NoMemory>
         ensures text { OnOk result (self.new ≡ self.old ++ more) }
+        ensures stopped { OnErr result (self.new ≡ self.old) }
     {
         let Pieces { first, mut rest } = more;
-        self.rest.push(first)?;
+        rest.insert(0, first)?;
         self.rest.append(&mut rest)?;
         Ok(())
     }
