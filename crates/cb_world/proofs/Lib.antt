@@ -90,6 +90,7 @@ mod WorkedReserved
 mod WorkedOpen
 mod WorkedOpenWrites
 mod WorkedSeatWrites
+mod WorkedPacked
 mod WorkedChoices
 mod WorkedLeft
 mod WorkedPlaced
