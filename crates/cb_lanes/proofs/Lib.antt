@@ -22,6 +22,7 @@ pub mod Scoping
 pub mod ScopesKept
 pub mod ByAsk
 pub mod SeatGoes
+pub mod LineLeft
 pub mod Along
 pub mod AloneValues
 pub mod AloneReplies
@@ -83,6 +84,7 @@ pub mod WorkedRising
 pub mod WorkedSuits
 pub mod WorkedScoped
 pub mod WorkedLines
+mod WorkedTells
 pub mod WorkedHere
 pub mod WorkedPins
 pub mod WorkedSays
