@@ -147,11 +147,11 @@ stops_here = record {
   state = refl;
 }
 
-given_of : WorldState → ℕ
+abbrev given_of : WorldState → ℕ
 given_of w = w.far.nodes.given
 
 gives_too_many : StopsHere 1 (empty_world small) (stopped 37) → ⊥
-gives_too_many x = let e : 37 ≡ x.rows = ap given_of x.state in let m = x.most in omega (arith, e, m)
+gives_too_many x = let e = ap given_of x.state in let m = x.most in omega (arith, e, m)
 
 counts_nothing : StopsHere 1 (empty_world small) (empty_world small) → ⊥
 counts_nothing x = let e : 0 ≡ 1 = ap (λ (v : WorldState). v.far.counts.turns) x.state in
@@ -161,4 +161,4 @@ at_full_count : (new : WorldState) → StopsHere 1 full_count new → ⊥
 at_full_count new x = let n = x.few in omega (arith, n)
 
 beside_a_holder : (w new : WorldState) → (NoOtherHolds w.seats 1 → ⊥) → StopsHere 1 w new → ⊥
-beside_a_holder w new held x = held x.free
+beside_a_holder w new off x = off x.free
