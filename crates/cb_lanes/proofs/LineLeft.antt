@@ -1,5 +1,6 @@
 -- What a line leaves of pinned objects, and when it is answered Unavailable.
-use Rattle.std.proofs.Common.{◌≡◌, ℕ, zero, suc, ◌<◌, List, [], ◌∷◌, length, map, Option, None, Some, refl, sym, ap, ◌∙◌, subst, arith, inl, inr}
+use Rattle.std.proofs.Common.{◌≡◌, ℕ, zero, suc, ◌<◌, List, [], ◌∷◌, length, map, Option, None}
+use Rattle.std.proofs.Common.{Some, refl, sym, ap, ◌∙◌, subst, arith, inl, inr}
 use Rattle.std.proofs.lemmas.Bool.{cases_lt}
 use Rattle.std.proofs.lemmas.List.{get_or_past}
 use Rattle.cb_member.specs.declared.names.Loss.{Loss}
@@ -9,7 +10,11 @@ use Rattle.cb_types.specs.declared.handle.SetId.{SetId}
 use Rattle.cb_types.specs.declared.job.Job.{Job}
 use Rattle.cb_types.specs.declared.job.Job.TheVariants as job
 use Rattle.cb_types.specs.declared.request.Request.{Request}
-use Rattle.cb_types.specs.declared.request.Request.TheVariants.{Make, Read, Write, Free, Pin, Peek, Unpin, Filter, Leave, Evict, Begin, Ship, Commit, Abort, Pair, Patch, Merge, Part, Compact, Rebuild, Crash, Join}
+use Rattle.cb_types.specs.declared.request.Request.TheVariants.{Make, Read, Write, Free, Pin, Peek}
+use Rattle.cb_types.specs.declared.request.Request.TheVariants.{Unpin, Filter, Leave, Evict, Begin}
+use Rattle.cb_types.specs.declared.request.Request.TheVariants.{Ship, Commit, Abort, Pair, Patch}
+use Rattle.cb_types.specs.declared.request.Request.TheVariants.{Merge, Part, Compact, Rebuild}
+use Rattle.cb_types.specs.declared.request.Request.TheVariants.{Crash, Join}
 use Rattle.cb_types.specs.declared.reply.Reply.{Reply}
 use Rattle.cb_types.specs.declared.reply.Reply.TheVariants as answer
 use Rattle.cb_types.specs.Table.{IsReplyOf}
@@ -17,7 +22,7 @@ use Rattle.cb_script.specs.Form.{IsRequest}
 use Rattle.cb_world.specs.declared.seats.Pin.{Pin as SeatPin}
 use Rattle.cb_world.specs.OpenSteps.{NoneHolds}
 use Rattle.cb_world.specs.Plain.{Words}
-use Rattle.cb_world.specs.Seats.{SeatState, all_pins_on, pins_of_seat}
+use Rattle.cb_world.specs.Seats.{SeatState, all_pins_on}
 use Rattle.cb_world.specs.World.{WorldState, IsSoundWorld, word_at}
 use Rattle.cb_core.specs.declared.event.Atomic.TheVariants as atomic
 use Rattle.cb_core.specs.declared.event.Event.{Event}
@@ -28,12 +33,14 @@ use Rattle.cb_core.specs.Pinning.{UnpinStep, not_pinned as none_given, given}
 use Rattle.cb_core.specs.Step.{Leads, Step, worn, done, held as other_holds, free}
 use Rattle.cb_core.specs.Unavailable.{IsLost, TellsUnavailable, brought_by}
 use Rattle.cb_core.specs.Unmoved.{IsUnmoved, HasPin, KeepsPinned}
-use Rattle.cb_core.proofs.Laws.{step_pinned, step_settings, step_tells, swap_sound, touched, unmoved_same, unpin_step_sound}
+use Rattle.cb_core.proofs.Laws.{step_pinned, step_settings, step_tells, swap_sound, touched}
+use Rattle.cb_core.proofs.Laws.{unmoved_same, unpin_step_sound}
 use Rattle.cb_lanes.specs.declared.side.Side.{Side}
 use Rattle.cb_lanes.specs.declared.side.Side.TheVariants as parities
 use Rattle.cb_lanes.specs.GivingBack.{GivesAll, Rests, unpin_event}
 use Rattle.cb_lanes.specs.LineGoes.{job_of}
-use Rattle.cb_lanes.specs.LineStep.{LineStep, ObjectStep, OtherStep, TurnAt, PeekStep, not_pinned, shown, IsInReply, PinLine, at_once, stays_far, swapped_in}
+use Rattle.cb_lanes.specs.LineStep.{LineStep, ObjectStep, OtherStep, TurnAt, PeekStep, not_pinned}
+use Rattle.cb_lanes.specs.LineStep.{shown, IsInReply, PinLine, at_once, stays_far, swapped_in}
 use Rattle.cb_lanes.specs.LineTells.{BringsObject, LineLeaves, LineTells}
 use Rattle.cb_lanes.proofs.FarPins.{far_not_here}
 use Rattle.cb_lanes.proofs.GivingBack.{pin_below}
