@@ -22,6 +22,7 @@ use Rattle.cb_lanes.specs.declared.side.Side.TheVariants.{Nodes, Compute}
 use Rattle.cb_lanes.specs.Alone.{HasOwnLines, KeepAlone, fresh_lane, is_maker}
 use Rattle.cb_lanes.specs.Held.{HoldsAnswers}
 use Rattle.cb_lanes.specs.LineStep.{LinesLead}
+use Rattle.cb_lanes.specs.LinesSoundly.{AreOnlyAnswers, LinesLeadSoundly}
 use Rattle.cb_lanes.specs.Lost.{AreInOrder, losses_of}
 use Rattle.cb_world.specs.Seats.{pins_of_seat}
 use Rattle.cb_world.specs.World.{WorldState, IsSoundWorld, empty_world}
@@ -60,6 +61,8 @@ legal = legal_in_order 1 16 answers (
 -- the world is one that the two lines lead to
 record IsLeft (side : Side) (world : WorldState) : Type 0 where
   leads : LinesLead side [] (empty_world small) answers world
+  along : LinesLeadSoundly side [] (empty_world small) answers world
+  fixes : AreOnlyAnswers side (empty_world small) answers world
   sound : IsSoundWorld world
   holds : HoldsAnswers world answers
   idle : (seat : ℕ) → pins_of_seat world.seats seat ≡ []
@@ -106,6 +109,8 @@ answered side world there = record {
   world = world;
   left = refl;
   leads = there.leads;
+  along = there.along;
+  fixes = there.fixes;
   sound = there.sound;
   holds = there.holds;
   losses = refl;
@@ -125,6 +130,18 @@ no_turn_counted : (side : Side) (world : WorldState) → LinesLead side [] (empt
     → world.far.counts.turns ≡ 1 → ⊥
 no_turn_counted side world leads one =
     omega (arith, sym one ∙ ap (λ (w : WorldState). w.far.counts.turns) leads)
+
+-- a world on the way is not sound
+unsound_between : (world : WorldState)
+    → (LinesLeadSoundly Nodes [] (empty_world small) answers world → ⊥)
+    → (is : IsAnswered Nodes script (ending_of world answers)) → is.world ≡ world → ⊥
+unsound_between world not is same = not
+    (subst (LinesLeadSoundly Nodes [] (empty_world small) answers) same is.along)
+
+-- the same answers lead to another world too
+another_end : (world other : WorldState) → LinesLead Nodes [] (empty_world small) answers other
+    → (is : IsAnswered Nodes script (ending_of world answers)) → (other ≡ is.world → ⊥) → ⊥
+another_end world other leads is off = off (is.fixes answers other refl leads).1
 
 no_config : (world : WorldState) → IsAnswered Nodes script
     (record { config = None; answers = answers; losses = []; world = Some world; seal = None }) → ⊥

@@ -12,6 +12,7 @@ use Rattle.cb_lanes.specs.declared.side.Side.{Side}
 use Rattle.cb_lanes.specs.declared.side.Side.TheVariants.{Nodes, Compute}
 use Rattle.cb_lanes.specs.Held.{HoldsAnswers}
 use Rattle.cb_lanes.specs.LineStep.{LinesLead}
+use Rattle.cb_lanes.specs.LinesSoundly.{AreOnlyAnswers, LinesLeadSoundly}
 use Rattle.cb_lanes.specs.Lost.{AreInOrder, losses_of}
 use Rattle.cb_lanes.specs.Scopes.{KeepScopes}
 use Rattle.cb_world.specs.Seats.{pins_of_seat}
@@ -35,6 +36,9 @@ pub record IsAnswered (side : Side) (script : Script) (end : Ending) : Type 0 wh
   pub world : WorldState
   pub left : end.world ≡ Some world
   pub leads : LinesLead side [] (empty_world script.config) end.answers world
+  -- each world on that way is sound; and the lines have no other answers, and lead to no other world
+  pub along : LinesLeadSoundly side [] (empty_world script.config) end.answers world
+  pub fixes : AreOnlyAnswers side (empty_world script.config) end.answers world
   -- which is sound, and holds at each handle what the plain map has
   pub sound : IsSoundWorld world
   pub holds : HoldsAnswers world end.answers

@@ -38,6 +38,7 @@ pub fn run<R: Threads + Wait + Sync, S: Source, K: Sink>(
     ensures memory_puts { result ≡ Err Failure.NoMemory → sink.new ≡ sink.old }
     ensures refuses { NameNone words.now → (result ≡ Ok Due.WordsRefused)
         ⊎ ((result ≡ Err Failure.Write) ⊎ (result ≡ Err Failure.NoMemory)) }
+    ensures unread { NameNone words.now → source.new ≡ source.old }
     ensures most { (bytes : List ℕ) × Consumes (S.left source.old) (S.left source.new) bytes
         × (length bytes ≤ 1048577) }
     ensures decided { (command : Command) → Name words.now command

@@ -45,12 +45,14 @@ pub fn carbink_run<R: Threads + Wait + Sync, S: Source, K: Sink>(
         ⊎ TellsSummary words.now (S.left src.old) (S.left src.new)
         (K.held out.old) (K.held out.new) end.new }
 
-    // 1: the words name no command and ask for no drawn script, and nothing was taken.
+    // 1: the words name no command and ask for no drawn script, and nothing was taken. Of such
+    // words nothing is taken at any status.
     ensures words_refused { result ≡ 1
         → AreWordsRefused words.now (S.left src.old) (S.left src.new) }
     ensures words_text { result ≡ 1 → Appends (K.held out.old) (K.held out.new) words_refused }
     ensures words_end { result ≡ 1 → (src.new ≡ src.old) × (end.new ≡ end.old) }
-    ensures refuses { NameNone words.now → (result ≡ 1) ⊎ (4 ≤ result) }
+    ensures refuses { NameNone words.now
+        → (src.new ≡ src.old) × ((result ≡ 1) ⊎ (4 ≤ result)) }
 
     // 2: the command refuses the bytes taken: they spell no script or, with `rma`, no schedule;
     // what is put tells where and why.

@@ -47,6 +47,7 @@ use Rattle.cb_lanes.specs.Held.{HoldsAnswers}
 use Rattle.cb_lanes.specs.GivingBack.{Rests, lines_by}
 use Rattle.cb_lanes.specs.LineAnswered.{LineAnswered}
 use Rattle.cb_lanes.specs.LineStep.{LineStep, goes_at}
+use Rattle.cb_lanes.specs.LineTells.{LineLeaves}
 use Rattle.cb_lanes.specs.declared.side.Side.{Side}
 use Rattle.cb_lanes.specs.LinesLeft.{AreLanes}
 use Rattle.cb_lanes.specs.Lost.{told_loss, losses_of}
@@ -55,6 +56,7 @@ use Rattle.cb_lanes.specs.Names.{AreKept, AreReady}
 use Rattle.cb_lanes.specs.Scopes.{KeepScopes, ScopeSays, scope_of}
 use Rattle.cb_lanes.proofs.ByAsk.{by_ask}
 use Rattle.cb_lanes.proofs.CompactGoes.{compact_goes}
+use Rattle.cb_lanes.proofs.LineLeft.{line_leaves}
 use Rattle.cb_lanes.proofs.LineGoes.{read_goes, write_goes, free_goes, filter_goes, make_goes}
 use Rattle.cb_lanes.proofs.Lists.{all_push}
 use Rattle.cb_lanes.proofs.Lone.{empty_lone, line_lone, rests_lone, turn_alone}
@@ -296,7 +298,7 @@ along_push side c later answers l request r w new rested names kept along few lt
       lone = rests_lone (lines_by l.lane.n later) l.lane.n new rested rest
           (line_lone side l.lane.n (request_handle names request) request w new r step along.lone);
       leads = leads_push side later [] answers (empty_world c) w new rested a along.leads step_by_answers rest
-          behind.stands.sound;
+          leaves;
       follow = rw more (Follow-push 1 c.handles [] (calls_of answers) (called answers a) along.follow reply);
       answered = all_push HasLineReply answers a along.answered goes.reply;
       kept = λ name. handle_of-push name answers a
@@ -350,6 +352,12 @@ along_push side c later answers l request r w new rested names kept along few lt
 
     behind : Rested (lines_by l.lane.n later) l.lane.n new rested
     behind = rests (lines_by l.lane.n later) l.lane.n new rested then lt rest
+
+    leaves : LineLeaves l.lane.n (handle_named answers (name_of request)) request w r new rested
+    leaves = line_leaves side l.lane.n w new r along.sound then lt along.lone
+        (handle_named answers (name_of request)) request (lines_by l.lane.n later) rested
+        (subst (λ (d : Config). IsRequest d.nodes request) (sym along.settings) is)
+        (λ h e. ready h (sym named ∙ e)) goes.reply step_by_answers behind.stands.sound rest
 
     scoped : Scoped (kept_number names) (request_handle names request) (scope_of l.lane.n answers) request r l.lane.n
         w new

@@ -18,7 +18,7 @@ use Rattle.cb_core.proofs.Laws.{compact_made, compacted_sound, once_known}
 use Rattle.cb_local.specs.Fetching.{far_given}
 use Rattle.cb_local.specs.LocalStep.{LocalStep}
 use Rattle.cb_local.proofs.Laws.{lack_stays, local_laws}
-use Rattle.cb_lanes.specs.CompactsHere.{CompactsHere}
+use Rattle.cb_lanes.specs.CompactsHere.{CompactsHere, StopsHere}
 
 -- ---- a turn that is refused
 -- with a reply that is none of a merge and none of a full node
@@ -85,6 +85,16 @@ module _ (seat : ℕ) (w m new : WorldState) (sound : IsSoundWorld w)
   compacted_stays r step = sound_by (local_laws.stays w.desk.settings sound.shown
       (counted w.far Compact) new.far r (once_known w Compact sound.shown sound.known).sound
       (subst (λ (f : FarState). LocalStep f new.far r) far step))
+
+  pub lacking_is : (rows : ℕ) → rows ≤ 36 → new.far ≡ far_given m.far rows → StopsHere seat w new
+  lacking_is rows most given =
+      let there = given ∙ ap (λ (f : FarState). far_given f rows) far in record {
+        few = admitted.few;
+        free = admitted.free;
+        rows = rows;
+        most = most;
+        state = λ i. record { desk = desk_stays i; far = there i; seats = seats_stay i };
+      }
 
   pub lacking_stays : (rows : ℕ) → rows ≤ 36 → new.far ≡ far_given m.far rows
       → ((s : Shown) → Sound s m.far → Sound s new.far) → IsSoundWorld new

@@ -23,6 +23,7 @@ pub mod Scoping
 pub mod ScopesKept
 pub mod ByAsk
 pub mod SeatGoes
+pub mod LineLeft
 pub mod Along
 pub mod AloneValues
 pub mod AloneReplies
@@ -84,6 +85,7 @@ pub mod WorkedRising
 pub mod WorkedSuits
 pub mod WorkedScoped
 pub mod WorkedLines
+mod WorkedTells
 pub mod WorkedHere
 pub mod WorkedPins
 pub mod WorkedSays

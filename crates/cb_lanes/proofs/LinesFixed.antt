@@ -32,7 +32,7 @@ use Rattle.cb_lanes.specs.LineGoes.{job_of}
 use Rattle.cb_lanes.specs.LineStep.{IsInReply, LinesLead, LineStep, ObjectStep, OtherStep, TurnAt}
 use Rattle.cb_lanes.specs.LineStep.{PeekStep, not_pinned, shown, PinEvent, PinLine, at_once}
 use Rattle.cb_lanes.specs.LineStep.{stays_far, swapped_in, SwapEvent}
-use Rattle.cb_lanes.specs.LinesSoundly.{LinesLeadSoundly}
+use Rattle.cb_lanes.specs.LinesSoundly.{AreOnlyAnswers, LinesLeadSoundly}
 use Rattle.cb_lanes.specs.CompactsHere.{CompactsHere}
 use Rattle.cb_lanes.specs.declared.side.Side.{Side}
 use Rattle.cb_lanes.specs.declared.side.Side.TheVariants as parities
@@ -210,7 +210,13 @@ lines_fix side before w a b (c ∷ xs) (d ∷ ys) sound x y lines =
     (subst (λ (n : ℕ). Rests n d.lane.n x.0 x.1) left
     (subst (λ (e : Answer). Rests (lines_by c.lane.n (map (λ (f : Answer). f.lane.n) xs)) e.lane.n x.0 x.1)
     same x.3))) y.3 in
-    let rest = lines_fix side (before ++ c ∷ []) x.1 a b xs ys x.4 x.5
+    let rest = lines_fix side (before ++ c ∷ []) x.1 a b xs ys x.4.sound x.5
     (subst (λ (v : WorldState). LinesLead side (before ++ c ∷ []) v ys b) (sym rested)
     (subst (λ (e : Answer). LinesLead side (before ++ e ∷ []) y.1 ys b) (sym same) y.4)) split.1 in
     ((λ i. same i ∷ rest.0 i), rest.1)
+
+pub only_lines : (side : Side) (w new : WorldState) (answers : List Answer) → IsSoundWorld w
+    → LinesLeadSoundly side [] w answers new → AreOnlyAnswers side w answers new
+only_lines side w new answers sound along others v lines leads =
+    let z = lines_fix side [] w new v answers others sound along leads (sym lines) in
+    (sym z.0, sym z.1)

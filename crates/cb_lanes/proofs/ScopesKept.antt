@@ -27,6 +27,7 @@ use Rattle.cb_lanes.specs.Asked.{asked}
 use Rattle.cb_lanes.specs.GivingBack.{Rests, lines_by}
 use Rattle.cb_lanes.specs.LineStep.{LineStep, LinesLead}
 use Rattle.cb_lanes.specs.LinesSoundly.{LinesLeadSoundly}
+use Rattle.cb_lanes.specs.LineTells.{LineLeaves}
 use Rattle.cb_lanes.specs.declared.side.Side.{Side}
 use Rattle.cb_lanes.specs.LinesLeft.{AreLanes, AreLeft, lanes_of}
 use Rattle.cb_lanes.specs.Names.{KeptNames, kept_number, number_after}
@@ -193,15 +194,18 @@ LeadsOn side later before w [] new = new ≡ w
 LeadsOn side later before w (a ∷ after) new = (between : WorldState) × (rested : WorldState)
     × LineStep side a.lane.n (handle_named before (name_of a.request)) a.request w a.reply between
     × Rests (lines_by a.lane.n (answered_lanes after ++ later)) a.lane.n between rested
-    × IsSoundWorld rested × LeadsOn side later (before ++ a ∷ []) rested after new
+    × LineLeaves a.lane.n (handle_named before (name_of a.request)) a.request w a.reply between rested
+    × LeadsOn side later (before ++ a ∷ []) rested after new
 
 pub leads_push : (side : Side) (later : List ℕ) (before after : List Answer)
     (w mid between new : WorldState) (a : Answer)
     → LeadsOn side (a.lane.n ∷ later) before w after mid
     → LineStep side a.lane.n (handle_named (before ++ after) (name_of a.request)) a.request mid a.reply between
-    → Rests (lines_by a.lane.n later) a.lane.n between new → IsSoundWorld new
+    → Rests (lines_by a.lane.n later) a.lane.n between new
+    → LineLeaves a.lane.n (handle_named (before ++ after) (name_of a.request)) a.request mid a.reply
+    between new
     → LeadsOn side later before w (after ++ a ∷ []) new
-leads_push side later before [] w mid between new a leads step rest sound = (
+leads_push side later before [] w mid between new a leads step rest leaves = (
   between,
   new,
   subst (λ (v : WorldState).
@@ -210,10 +214,14 @@ leads_push side later before [] w mid between new a leads step rest sound = (
       LineStep side a.lane.n (handle_named xs (name_of a.request)) a.request mid a.reply between)
       (append-nil before) step),
   rest,
-  sound,
+  subst (λ (v : WorldState).
+      LineLeaves a.lane.n (handle_named before (name_of a.request)) a.request v a.reply between new) leads
+      (subst (λ (xs : List Answer).
+      LineLeaves a.lane.n (handle_named xs (name_of a.request)) a.request mid a.reply between new)
+      (append-nil before) leaves),
   refl,
 )
-leads_push side later before (b ∷ after) w mid between new a leads step rest sound = (
+leads_push side later before (b ∷ after) w mid between new a leads step rest leaves = (
   leads.0,
   leads.1,
   leads.2,
@@ -222,7 +230,10 @@ leads_push side later before (b ∷ after) w mid between new a leads step rest s
   leads_push side later (before ++ b ∷ []) after leads.1 mid between new a leads.5
       (subst (λ (xs : List Answer).
       LineStep side a.lane.n (handle_named xs (name_of a.request)) a.request mid a.reply between)
-      (sym (append_assoc before (b ∷ []) after)) step) rest sound,
+      (sym (append_assoc before (b ∷ []) after)) step) rest
+      (subst (λ (xs : List Answer).
+      LineLeaves a.lane.n (handle_named xs (name_of a.request)) a.request mid a.reply between new)
+      (sym (append_assoc before (b ∷ []) after)) leaves),
 )
   where
     moved : answered_lanes after ++ a.lane.n ∷ later ≡ answered_lanes (after ++ a ∷ []) ++ later

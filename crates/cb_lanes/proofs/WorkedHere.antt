@@ -1,5 +1,5 @@
 -- Worked examples: a compaction whose parities the compute side makes.
-use Rattle.std.proofs.Common.{◌≡◌, ◌+◌, ◌^◌, None, refl, ap, ◌∙◌, arith, inl, inr}
+use Rattle.std.proofs.Common.{◌≡◌, ℕ, ◌+◌, ◌^◌, None, refl, ap, ◌∙◌, arith, inl, inr, lit<, lit≤}
 use Rattle.cb_member.specs.declared.names.NodeId.{NodeId}
 use Rattle.cb_types.specs.declared.job.Job.TheVariants as job
 use Rattle.cb_types.specs.declared.reply.Reply.{Reply}
@@ -12,8 +12,9 @@ use Rattle.cb_core.specs.declared.event.Event.TheVariants.{Turn}
 use Rattle.cb_core.specs.Holding.{NoOtherHolds}
 use Rattle.cb_core.specs.Step.{Step, done, free, held, worn}
 use Rattle.cb_core.specs.Turned.{counted}
+use Rattle.cb_local.specs.Fetching.{far_given}
 use Rattle.cb_local.specs.LocalStep.{IsBesideNodes}
-use Rattle.cb_lanes.specs.CompactsHere.{CompactsHere}
+use Rattle.cb_lanes.specs.CompactsHere.{CompactsHere, StopsHere}
 use Rattle.cb_lanes.specs.LineStep.{LineStep}
 use Rattle.cb_lanes.specs.declared.side.Side.{Side}
 use Rattle.cb_lanes.specs.declared.side.Side.TheVariants.{Nodes, Compute}
@@ -129,3 +130,35 @@ uncounted x = by x.there x.beside
         absurd (let e : NoPair ≡ Held holder = reply in cc)
     by (free lone (worn end reply equal)) beside = absurd (let e : NoPair ≡ Worn = reply in cc)
     by (free lone (done few works seats)) beside = none (same beside) (found x.mid.far works.1)
+
+-- ---- no memory
+-- the turn is counted, and at the most the rows of the widest pair were given out
+abbrev stopped : ℕ → WorldState
+stopped rows = record (empty_world small) {
+  far = far_given (counted (empty_world small).far job.Compact) rows;
+}
+
+stops_here : StopsHere 1 (empty_world small) (stopped 36)
+stops_here = record {
+  few = lit< tt;
+  free = lone_other (empty_world small).seats 1 empty_lone;
+  rows = 36;
+  most = lit≤ tt;
+  state = refl;
+}
+
+abbrev given_of : WorldState → ℕ
+given_of w = w.far.nodes.given
+
+gives_too_many : StopsHere 1 (empty_world small) (stopped 37) → ⊥
+gives_too_many x = let e = ap given_of x.state in let m = x.most in omega (arith, e, m)
+
+counts_nothing : StopsHere 1 (empty_world small) (empty_world small) → ⊥
+counts_nothing x = let e : 0 ≡ 1 = ap (λ (v : WorldState). v.far.counts.turns) x.state in
+    omega (arith, e)
+
+at_full_count : (new : WorldState) → StopsHere 1 full_count new → ⊥
+at_full_count new x = let n = x.few in omega (arith, n)
+
+beside_a_holder : (w new : WorldState) → (NoOtherHolds w.seats 1 → ⊥) → StopsHere 1 w new → ⊥
+beside_a_holder w new off x = off x.free

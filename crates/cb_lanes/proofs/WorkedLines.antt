@@ -1,6 +1,6 @@
 -- Worked examples: the losses of answers, the replies that lines may have, and the steps of lines.
-use Rattle.std.proofs.Common.{◌≡◌, ℕ, ◌+◌, List, [], ◌∷◌, Option, Some, None, refl, sym, ap, ◌∙◌}
-use Rattle.std.proofs.Common.{subst, arith}
+use Rattle.std.proofs.Common.{◌≡◌, ℕ, suc, ◌+◌, List, [], ◌∷◌, length, map, Option, Some}
+use Rattle.std.proofs.Common.{None, refl, sym, ap, ◌∙◌, subst, arith}
 use Rattle.cb_member.specs.declared.names.Loss.{Loss}
 use Rattle.cb_types.specs.declared.answer.Answer.{Answer}
 use Rattle.cb_types.specs.declared.config.Config.{Config}
@@ -20,11 +20,11 @@ use Rattle.cb_core.specs.Membership.{JoinTurn, joined as joined_again, is_up}
 use Rattle.cb_core.specs.declared.event.Event.TheVariants.{Turn}
 use Rattle.cb_core.specs.Step.{Step, held, free, worn, done}
 use Rattle.cb_core.specs.Turned.{counted}
-use Rattle.cb_lanes.specs.Asked.{HasLineReply}
+use Rattle.cb_lanes.specs.Asked.{asked, HasLineReply}
 use Rattle.cb_lanes.specs.LineGoes.{job_of, job_on}
 use Rattle.cb_lanes.specs.LineStep.{LineStep, LinesLead, ObjectStep, OtherStep}
 use Rattle.cb_lanes.specs.declared.side.Side.TheVariants.{Nodes}
-use Rattle.cb_lanes.specs.LinesSoundly.{LinesLeadSoundly}
+use Rattle.cb_lanes.specs.LinesSoundly.{AreOnlyAnswers, LinesLeadSoundly}
 use Rattle.cb_lanes.specs.LineAnswered.{LineAnswered}
 use Rattle.cb_lanes.specs.Lost.{AreInOrder, told_loss, losses_of}
 use Rattle.cb_lanes.specs.Names.{KeptNames, kept_number}
@@ -199,7 +199,23 @@ no_line is = omega (arith, ap (λ (v : WorldState). v.far.counts.turns) is)
 -- a line behind which the world is not sound does not lead soundly
 not_through_an_unsound_world : (before : List Answer) (a : Answer) (w new : WorldState)
     → (IsSoundWorld new → ⊥) → LinesLeadSoundly Nodes before w (a ∷ []) new → ⊥
-not_through_an_unsound_world before a w new unsound x = unsound (subst IsSoundWorld (sym x.5) x.4)
+not_through_an_unsound_world before a w new unsound x = unsound (subst IsSoundWorld (sym x.5) x.4.sound)
+
+-- the lines have one answer and lead to one world
+no_lines_lead_nowhere : AreOnlyAnswers Nodes (empty_world small) [] (empty_world small)
+no_lines_lead_nowhere [] v lines leads = (refl, leads)
+no_lines_lead_nowhere (a ∷ others) v lines leads =
+    absurd (let n : suc (length (map asked others)) ≡ 0 =
+    ap (λ (l : List Line). length l) lines in omega (arith, n))
+
+not_the_only_answers : (w v new : WorldState) (answers others : List Answer)
+    → map asked others ≡ map asked answers → LinesLead Nodes [] w others v
+    → (others ≡ answers → ⊥) → AreOnlyAnswers Nodes w answers new → ⊥
+not_the_only_answers w v new answers others lines leads off only = off (only others v lines leads).0
+
+not_the_only_world : (w v new : WorldState) (answers : List Answer) → LinesLead Nodes [] w answers v
+    → (v ≡ new → ⊥) → AreOnlyAnswers Nodes w answers new → ⊥
+not_the_only_world w v new answers leads off only = off (only answers v refl leads).1
 
 -- ---- a line that was answered
 

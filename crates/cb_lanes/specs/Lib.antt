@@ -12,6 +12,7 @@ pub mod Rising
 pub mod Suits
 pub mod LastTries
 pub mod LineStep
+pub mod LineTells
 pub mod LinesSoundly
 pub mod LineAnswered
 pub mod Scopes

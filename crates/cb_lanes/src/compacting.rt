@@ -4,7 +4,7 @@ ghost use Rattle.cb_world.specs.Sound.{Sound};
 ghost use Rattle.cb_world.specs.World.{IsSoundWorld};
 ghost use Rattle.cb_local.specs.Fetching.{far_given};
 ghost use Rattle.cb_local.specs.LocalStep.{LocalStep};
-ghost use Rattle.cb_lanes.specs.CompactsHere.{CompactsHere};
+ghost use Rattle.cb_lanes.specs.CompactsHere.{CompactsHere, StopsHere};
 
 use cb_core::admit_turn;
 use cb_local::compact_local;
@@ -14,11 +14,13 @@ use std::alloc::Global;
 
 /// A turn of a seat in which two span-sets are joined, and the compute side makes the parities. It
 /// is counted as a compaction, and refused where that is: with Held, and the seat, where another
-/// one holds the far lock, and with Worn where 2^40 turns were counted.
+/// one holds the far lock, and with Worn where 2^40 turns were counted. Where there was no memory,
+/// the turn is counted and rows of a pair may have been given out; nothing else changed.
 pub(crate) fn compact_here(alloc: Global, world: &mut World, seat: u32) -> Result<Reply, NoMemory>
     requires seat { seat < 64 }
     requires sound { IsSoundWorld world.old }
     ensures step { IfOk result (λ reply. CompactsHere seat world.old reply world.new) }
+    ensures error { OnErr result (StopsHere seat world.old world.new) }
     ensures sound { IsSoundWorld world.new }
 {
     match admit_turn(world, seat, &Job::Compact) {

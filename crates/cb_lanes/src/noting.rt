@@ -64,10 +64,11 @@ fn note_answer(
 }
 
 /// Adds the loss of an answered line behind those before it, where it has one: the node of a crash
-/// that took place, with its epoch.
+/// that took place, with its epoch. Where there was no memory, the losses are as they were.
 pub fn note_loss(losses: &mut Vec<Loss>, request: &Request, reply: &Reply) -> Result<(), NoMemory>
     ensures noted { IfOk result (λ done.
         losses.new.items ≡ losses.old.items ++ cons_option (told_loss request.now reply.now) []) }
+    ensures stopped { OnErr result (losses.new.items ≡ losses.old.items) }
 {
     if let Some(loss) = told_loss(request, reply) {
         losses.push(loss)?;

@@ -10,7 +10,7 @@ ghost use Rattle.cb_lanes.specs.Asked.{asked, HasLineReply};
 ghost use Rattle.cb_lanes.specs.Held.{HoldsAnswers};
 ghost use Rattle.cb_lanes.specs.LineAnswered.{LineAnswered};
 ghost use Rattle.cb_lanes.specs.LineStep.{LinesLead};
-ghost use Rattle.cb_lanes.specs.LinesSoundly.{LinesLeadSoundly};
+ghost use Rattle.cb_lanes.specs.LinesSoundly.{AreOnlyAnswers, LinesLeadSoundly};
 ghost use Rattle.cb_lanes.specs.LinesLeft.{AreLeft};
 ghost use Rattle.cb_lanes.specs.Lost.{AreInOrder, losses_of};
 ghost use Rattle.cb_lanes.specs.Names.{AreReady};
@@ -40,7 +40,8 @@ pub struct SeqEnd {
 /// Answers the lines of a script in order, in one world, where this side makes the parities of each
 /// compaction. Behind the last line of a lane its pins are given back. A line costs a look at its
 /// name by its hash, and what its event costs. On a script at ease no line is told of a want of
-/// room or of a loss, and the own lines of each lane are answered as if it were alone.
+/// room or of a loss, and the own lines of each lane are answered as if it were alone. The lines have
+/// no other answers, and lead to no other world.
 pub fn run_lines(alloc: Global, s: &Script, side: Side) -> Result<SeqEnd, NoMemory>
     requires script { IsScript s.now }
     ensures lines { IfOk result (λ end. map asked end.answers ≡ s.now.lines) }
@@ -50,6 +51,8 @@ pub fn run_lines(alloc: Global, s: &Script, side: Side) -> Result<SeqEnd, NoMemo
         LinesLead side [] (empty_world s.now.config) end.answers end.world) }
     ensures along { IfOk result (λ end.
         LinesLeadSoundly side [] (empty_world s.now.config) end.answers end.world) }
+    ensures fixes { IfOk result (λ end.
+        AreOnlyAnswers side (empty_world s.now.config) end.answers end.world) }
     ensures sound { IfOk result (λ end. IsSoundWorld end.world) }
     ensures holds { IfOk result (λ end. HoldsAnswers end.world end.answers) }
     ensures losses { IfOk result (λ end. end.losses ≡ losses_of end.answers) }

@@ -35,8 +35,10 @@ returns-clause-words_end g c = λ is.
     )
 
 pub returns-clause-refuses : goal.returns-clause-refuses
-returns-clause-refuses g c = λ none.
-    words_status c.run.result c.status.result c.status.ensures (c.run.ensures.refuses none)
+returns-clause-refuses g c = λ none. (
+  c.run.ensures.unread none,
+  words_status c.run.result c.status.result c.status.ensures (c.run.ensures.refuses none),
+)
 
 pub returns-clause-script_refused : goal.returns-clause-script_refused
 returns-clause-script_refused g c = λ is.

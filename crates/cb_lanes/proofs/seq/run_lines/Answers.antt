@@ -13,6 +13,8 @@ use Rattle.cb_lanes.specs.LinesLeft.{AreLeft, lanes_of}
 use Rattle.cb_lanes.proofs.ScopesKept.{line_known, fresh_by, lines_lanes, lines_own, leads_end}
 use Rattle.cb_lanes.proofs.ScopesKept.{split_line, LeadsOn, soundly_end}
 use Rattle.cb_world.specs.World.{empty_world}
+use Rattle.cb_world.proofs.Laws.{empty_world_sound}
+use Rattle.cb_lanes.proofs.LinesFixed.{only_lines}
 use Rattle.cb_lanes.specs.GivingBack.{lines_by}
 use Rattle.cb_lanes.specs.Lost.{AreInOrder}
 use Rattle.cb_lanes.proofs.LossOrder.{losses_in_order}
@@ -137,6 +139,11 @@ returns-clause-along c =
     (subst (λ (ls : List Line). LeadsOn c.args.side (lanes_of ls) [] (empty_world c.args.s.now.config) c.loop-line.answers
     c.loop-line.world) (drop_all c.loop-line.line-index c.args.s.now.lines past)
     c.loop-line.invariant.along.leads)
+
+pub returns-clause-fixes : goal.returns-clause-fixes
+returns-clause-fixes c = only_lines c.args.side (empty_world c.args.s.now.config) c.loop-line.world
+    c.loop-line.answers (empty_world_sound c.args.s.now.config c.requires.script.config)
+    (returns-clause-along c)
 
 pub returns-clause-sound : goal.returns-clause-sound
 returns-clause-sound c = c.loop-line.invariant.along.sound
