@@ -47,4 +47,6 @@ mod WorkedObjects
 mod WorkedAsks
 mod WorkedArrays
 mod WorkedMaps
+mod WorkedArrayCalls
+mod WorkedMapCalls
 pub mod Laws
