@@ -45,6 +45,7 @@ mod WorkedPairs
 mod Telling
 mod WorkedObjects
 mod WorkedAsks
+mod WorkedGoes
 mod WorkedArrays
 mod WorkedMaps
 mod WorkedArrayCalls

@@ -168,17 +168,20 @@ module _ (r : View) where
   becomes_one = record {
     bucket = is_bucket;
     pairs_are = refl;
-    objects = inr (inr ((1, 6), record {
-      entry = made;
-      front = refl;
-      made = kept 5 1;
-      handle = refl;
-      version = refl;
-      fresh = λ e has. absurd has;
-      more = refl;
-      object = is_bucket.objects.0;
-      bytes_are = refl;
-    }));
+    objects = inr (inr (
+      (1, 6),
+      record {
+        entry = made;
+        front = refl;
+        made = kept 5 1;
+        handle = refl;
+        version = refl;
+        fresh = λ e has. absurd has;
+        more = refl;
+        object = is_bucket.objects.0;
+        bytes_are = refl;
+      },
+    ));
   }
 
   put_new : IsPut (1, 6) None (wrote []) (no_map 1) v (in_one 1)
