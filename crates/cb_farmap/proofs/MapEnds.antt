@@ -73,6 +73,16 @@ module _ (c : Config) (first : ℕ) (plan : List Ask) (v w : View) (a : FarMap) 
   pub map_stays_again : StaysMap t v a w a
   map_stays_again = record { map = map_stays v w a of on.behind a.stop; left = sym stays_stopped }
 
+-- ---- what was told and what is noted of it, where so many keys are counted then
+pub map_noted : {X : Type 0} (stop : Option Stop) (now : List Bucket) (P : Result X Cannot → FarMap → Type 0)
+    (r q : Result X Cannot) → q ≡ r → (s : Option Stop) → s ≡ stop_behind stop (trouble r) → (n m : ℕ) → n ≡ m
+    → P r (record { buckets = now; len = m; stop = stop_behind stop (trouble r) })
+    → P q (record { buckets = now; len = n; stop = s })
+map_noted {X = X} stop now P r q same s is n m counted it =
+    subst (λ (z : Result X Cannot). P z (record { buckets = now; len = n; stop = s })) (sym same)
+    (subst (λ (o : Option Stop). P r (record { buckets = now; len = n; stop = o })) (sym is)
+    (subst (λ (k : ℕ). P r (record { buckets = now; len = k; stop = stop_behind stop (trouble r) })) (sym counted) it))
+
 -- ---- the bucket of a key
 module _ (v : View) (a : FarMap) (of : IsMapOf v a) (key : ℕ) where
   abbrev old : Bucket
