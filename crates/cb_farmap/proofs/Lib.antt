@@ -15,7 +15,6 @@ mod Standing
 mod Behind
 mod Arrays
 mod Ends
-mod MapOn
 mod Commanding
 mod ArrayCommands
 mod ArrayEach
@@ -47,4 +46,5 @@ mod WorkedObjects
 mod WorkedAsks
 mod WorkedArrays
 mod WorkedMaps
+mod WorkedCommands
 pub mod Laws

@@ -17,6 +17,6 @@ said_found-requires g c = quiet_array c.args.shared.now.config
 pub returns-clause-goes : goal.returns-clause-goes
 returns-clause-goes g c = pop_so c.args.shared.now c.requires.first c.pop-popped.new.pass
     c.recall.new.pass c.recall.ensures.of c.recall.ensures.same c.recall.ensures.own
-    (record_of c.args.pass.now) c.args.far.now.array c.pop-popped.new.self c.args.far.now.map 
+    (record_of c.args.pass.now) c.args.far.now.array c.pop-popped.new.self c.args.far.now.map
     c.pop-popped.result c.pop-popped.ensures.ok c.pop-popped.ensures.stays c.pop-popped.ensures.keeps
     c.said_found.result c.said_found.ensures

@@ -7,9 +7,8 @@ pub loop-ask-init : goal.loop-ask-init
 loop-ask-init g c = record {
   of = c.requires.begun.of;
   run = rw c.new-saids.ensures.empty (begins c.args.shared.now.config c.args.asks.now
-      c.in_ok-far.far.map c.in_ok-far.ensures.map c.in_ok-far.ensures.map_is
-      (record_of c.args.pass.now) c.requires.begun.begun c.in_ok-far.far.array
-      c.in_ok-far.ensures.array);
+      c.in_ok-far.far.array c.in_ok-far.ensures.array c.in_ok-far.far.map c.in_ok-far.ensures.map
+      (record_of c.args.pass.now) c.requires.begun.begun);
 }
 
 pub answer_one-said-requires-clause-first : goal.answer_one-said-requires-clause-first
