@@ -231,12 +231,14 @@ module _ (n : ℕ) (s : Plain) (v : View) (a : FarArray) (m : FarMap) (st : Stan
         }
 
     pub put_suits : IsPlanFor v (n + 2) s (Put key x) (put_plan v.written b (key, x))
-    put_suits = let z = one_ask place refl in record {
-      short = reads_short _ _ z.short;
-      of = reads_of v (n + 2) _ _ (take_objects (IsObject v.written) _ b.kept bucket_is.objects) z.of;
-      makes = reads_make (take (objects_to b.count place) b.kept) (put_ask b (key, x) place ∷ []) ∙ z.makes;
-      calls = λ no. absurd (true≢false no);
-    }
+    put_suits = let front : List KeptObject = take (objects_to b.count place) b.kept in
+        let z = one_ask place refl in record {
+          short = reads_short front (put_ask b (key, x) place ∷ []) z.short;
+          of = reads_of v (n + 2) front (put_ask b (key, x) place ∷ [])
+              (take_objects (IsObject v.written) (objects_to b.count place) b.kept bucket_is.objects) z.of;
+          makes = reads_make front (put_ask b (key, x) place ∷ []) ∙ z.makes;
+          calls = λ no. absurd (true≢false no);
+        }
 
     ask_writes : (o : Option ℕ) → place ≡ o → (k : KeptObject) (at : ℕ) (bytes : List ℕ)
         → Has (AskWrite k at bytes) (put_ask b (key, x) o ∷ []) → Has k b.kept

@@ -32,6 +32,7 @@ drop_next : (asks : List FarCommand) (i : ℕ) (ask : FarCommand) → i < length
 drop_next [] i ask less at = absurd (omega (arith, less))
 drop_next (x ∷ asks) zero ask less at = ap (λ y. y ∷ asks) (sym at)
 drop_next (x ∷ asks) (suc i) ask less at = drop_next asks i ask (omega (arith, less)) at
+    ∙ ap (λ (n : ℕ). ask ∷ drop n (x ∷ asks)) (let next : suc (i + 1) ≡ suc i + 1 = omega arith in next)
 
 -- the empty array and the empty map stand at the beginning
 pub fresh_stands : (c : Config) → Stands 0 fresh (opener c) no_array (no_map 64)

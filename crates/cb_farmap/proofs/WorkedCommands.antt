@@ -1,6 +1,6 @@
 -- Worked examples of commands on an array and a map: what meets each definition, and what breaks one
 -- part alone.
-use Rattle.std.proofs.Common.{◌≡◌, ◌≢◌, ◌⊎◌, ℕ, ◌+◌, ◌<◌, ◌≤◌, Bool, true, false, List, [], ◌∷◌, ◌++◌, length, map, None, Some, Result, Ok, Err, refl, sym, ap, ◌∙◌, subst, inl, inr, arith}
+use Rattle.std.proofs.Common.{◌≡◌, ◌≢◌, ◌⊎◌, ℕ, suc, ◌+◌, ◌<◌, ◌≤◌, Bool, true, false, List, [], ◌∷◌, ◌++◌, length, map, None, Some, Result, Ok, Err, refl, sym, ap, ◌∙◌, subst, inl, inr, arith}
 use Rattle.std.proofs.lemmas.List.{length-append}
 use Rattle.cb_types.specs.declared.config.Config.{Config}
 use Rattle.cb_types.specs.declared.job.Job.{Job}
@@ -102,7 +102,7 @@ told_full t = record {
 
 -- with no turn that tells it
 no_turn : (r : Reply) → IsToldByTurn two fresh (command.Push 7) r v [] → ⊥
-no_turn r x = let z : 0 ≡ 1 + length x.before = ap (λ (l : List Turn). length l) x.newest in
+no_turn r x = let z : 0 ≡ suc (length x.before) = ap (λ (l : List Turn). length l) x.newest in
     omega (arith, z)
 
 -- where no object is needed
