@@ -27,12 +27,12 @@ pub record Run (c : Config) (asks : List FarCommand) (start : View) (i : ℕ) (s
   pub all : (more : List FarAnswer) (w : View) → CommandsGo c 1 s v (drop i asks) more w
       → CommandsGo c 1 fresh start asks (saids ++ more) w
 
-drop_next : (asks : List FarCommand) (i : ℕ) (ask : FarCommand) → i < length asks
-    → ask ≡ get_or asks i ask → drop i asks ≡ ask ∷ drop (i + 1) asks
-drop_next [] i ask less at = absurd (omega (arith, less))
-drop_next (x ∷ asks) zero ask less at = ap (λ y. y ∷ asks) (sym at)
-drop_next (x ∷ asks) (suc i) ask less at = drop_next asks i ask (omega (arith, less)) at
-    ∙ ap (λ (n : ℕ). ask ∷ drop n (x ∷ asks)) (let next : suc (i + 1) ≡ suc i + 1 = omega arith in next)
+drop_next : (asks : List FarCommand) (i : ℕ) (other : FarCommand) → i < length asks
+    → drop i asks ≡ get_or asks i other ∷ drop (i + 1) asks
+drop_next [] i other less = absurd (omega (arith, less))
+drop_next (x ∷ asks) zero other less = refl
+drop_next (x ∷ asks) (suc i) other less = drop_next asks i other (omega (arith, less))
+    ∙ ap (λ (n : ℕ). get_or asks i other ∷ drop n (x ∷ asks)) (let next : suc (i + 1) ≡ suc i + 1 = omega arith in next)
 
 -- the empty array and the empty map stand at the beginning
 pub fresh_stands : (c : Config) → Stands 0 fresh (opener c) no_array (no_map 64)
@@ -77,21 +77,24 @@ begins c asks a none m empty start is =
 
 -- one more
 pub goes_next : (c : Config) (asks : List FarCommand) (start : View) (i : ℕ) (saids : List FarAnswer)
-    (v : View) (a : FarArray) (m : FarMap) → Run c asks start i saids v a m → (ask : FarCommand)
-    → length asks ≤ 1000000000 → i < length asks → ask ≡ get_or asks i ask → (said : FarAnswer)
-    (w : View) (b : FarArray) (o : FarMap) → GoesSo c ask v a m said w b o → (all : List FarAnswer)
+    (v : View) (a : FarArray) (m : FarMap) → Run c asks start i saids v a m → (other : FarCommand)
+    → length asks ≤ 1000000000 → i < length asks → (said : FarAnswer) (w : View) (b : FarArray)
+    (o : FarMap) → GoesSo c (get_or asks i other) v a m said w b o → (all : List FarAnswer)
     → all ≡ saids ++ said ∷ [] → Run c asks start (i + 1) all w b o
-goes_next c asks start i saids v a m run ask few less at said w b o so all is =
+goes_next c asks start i saids v a m run other few less said w b o so all is =
     subst (λ (ss : List FarAnswer). Run c asks start (i + 1) ss w b o) (sym is) (record {
       s = after_said run.s ask said;
       stands = one.1;
       all = λ more u go. subst (λ (ss : List FarAnswer). CommandsGo c 1 fresh start asks ss u)
           (sym (append_assoc saids (said ∷ []) more))
           (run.all (said ∷ more) u (subst (λ (rest : List FarCommand).
-          CommandsGo c 1 run.s v rest (said ∷ more) u) (sym (drop_next asks i ask less at))
+          CommandsGo c 1 run.s v rest (said ∷ more) u) (sym (drop_next asks i other less))
           (w, one.0, go)));
     })
   where
+    ask : FarCommand
+    ask = get_or asks i other
+
     one : CommandGoes c 1 run.s ask said v w × Stands (i + 1) (after_said run.s ask said) w b o
     one = so i run.s run.stands (omega (arith, few, less))
 
