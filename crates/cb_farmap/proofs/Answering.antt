@@ -136,17 +136,21 @@ module _ (sh : Shared) (first : first_version_of sh ≡ 1) (p q : Pass) (of : Is
       (one_first v a b m (pop_plan a.kept a.len) (trouble r) keeps) result says)
 
   -- ---- an index outside, for which no call is made
-  pub outside_set_so : (v : View) (a : FarArray) (m : FarMap) (i x : ℕ) → a.len ≤ i → w ≡ v
-      → Goes_so (command.Set i x) v a m (Ok (Outside a.len)) a m
-  outside_set_so v a m i x past stays = so (command.Set i x) v a m (Ok (Outside a.len)) a m
+  pub outside_set_so : (v : View) (a : FarArray) (m : FarMap) (i x len : ℕ) → len ≡ a.len → len ≤ i
+      → w ≡ v → Goes_so (command.Set i x) v a m (Ok (Outside len)) a m
+  outside_set_so v a m i x len is past stays =
+      subst (λ (n : ℕ). Goes_so (command.Set i x) v a m (Ok (Outside n)) a m) (sym is)
+      (so (command.Set i x) v a m (Ok (Outside a.len)) a m
       (λ n s st small. outside_set c n s v w a a m st small
-      (history (ap (λ (z : View). z.share) stays ∙ st.record_is.whole)) idle i past stays x)
+      (history (ap (λ (z : View). z.share) stays ∙ st.record_is.whole)) idle i (omega (arith, is, past)) stays x))
 
-  pub outside_get_so : (v : View) (a : FarArray) (m : FarMap) (i : ℕ) → a.len ≤ i → w ≡ v
-      → Goes_so (command.Get i) v a m (Ok (Outside a.len)) a m
-  outside_get_so v a m i past stays = so (command.Get i) v a m (Ok (Outside a.len)) a m
+  pub outside_get_so : (v : View) (a : FarArray) (m : FarMap) (i len : ℕ) → len ≡ a.len → len ≤ i
+      → w ≡ v → Goes_so (command.Get i) v a m (Ok (Outside len)) a m
+  outside_get_so v a m i len is past stays =
+      subst (λ (n : ℕ). Goes_so (command.Get i) v a m (Ok (Outside n)) a m) (sym is)
+      (so (command.Get i) v a m (Ok (Outside a.len)) a m
       (λ n s st small. outside_get c n s v w a a m st small
-      (history (ap (λ (z : View). z.share) stays ∙ st.record_is.whole)) idle i past stays)
+      (history (ap (λ (z : View). z.share) stays ∙ st.record_is.whole)) idle i (omega (arith, is, past)) stays))
 
   -- ---- commands on the map
   one_map : (v : View) (m o : FarMap) (plan : List Ask) (t : Option Cannot)

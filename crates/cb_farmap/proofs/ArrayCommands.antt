@@ -32,7 +32,8 @@ use Rattle.cb_farmap.specs.Stops.{stop_behind}
 use Rattle.cb_farmap.proofs.Arrays.{all_long}
 use Rattle.cb_farmap.proofs.Commanding.{AreNow, SaidBy, ends_so, said_by}
 use Rattle.cb_farmap.proofs.Commanding.SaidBy.{ill, well}
-use Rattle.cb_farmap.proofs.MapOn.{all_map_objects, map_on, pairs_on}
+use Rattle.cb_farmap.proofs.BucketList.{all_objects}
+use Rattle.cb_farmap.proofs.MapEnds.{map_on, map_stays}
 use Rattle.cb_farmap.proofs.PlanAdds.{IsPlanFor, PlanAdds, adds_so}
 use Rattle.cb_farmap.proofs.Standing.{all_has, all_loose, get_has, goes_on_so, has_wrote, object_low, others_sole}
 
@@ -96,13 +97,13 @@ module _ (c : Config) (n : ℕ) (s : Plain) (v w : View) (a b : FarArray) (m : F
   sole_map : t ≡ None ⊎ ((r : Reply) × (t ≡ Some (cannot.Refused r))) → AreSole w (kept_of m.buckets)
   sole_map ended = let x = adds_so c 1 plan t v w suits.short goes ended in
       others_sole c 1 plan x.0 v w x.1 (kept_of m.buckets)
-      (all_map_objects v m st.map_is.map_is)
+      (all_objects v.written m.buckets st.map_is.map_is.each)
       (λ k y at bytes asked there. st.other k y (writes k at bytes asked) there) st.map_is.sole
 
   map_now : (later : Plain) → KeepsMap s later → AreSole w (kept_of m.buckets) → IsMapNow later w m
   map_now later same sole = record {
-    map_is = map_on v w m keeps.on st.map_is.map_is;
-    pairs = pairs_on v w m keeps.on st.map_is.map_is ∙ st.map_is.pairs ∙ sym same.pairs;
+    map_is = map_on v w m st.map_is.map_is keeps.on.behind m.stop;
+    pairs = map_stays v w m st.map_is.map_is keeps.on.behind m.stop ∙ st.map_is.pairs ∙ sym same.pairs;
     counts = st.map_is.counts ∙ sym same.counts;
     kept = st.map_is.kept ∙ sym (ap (λ (l : List ℕ). map (λ most. objects_for most 64) l) same.fullest);
     going = st.map_is.going;
@@ -116,7 +117,7 @@ module _ (c : Config) (n : ℕ) (s : Plain) (v w : View) (a b : FarArray) (m : F
           ⊎ ((e : Entry) → Has e v.written → e.handle ≢ x.handle.n) → ⊥
       by (inl (z, old, is)) = st.other z y old there (sym is ∙ e)
       by (inr new) = let z = has_wrote v y (all_has (IsObject v.written) (kept_of m.buckets)
-          (all_map_objects v m st.map_is.map_is) y there) in new z.0 z.1 (z.2 ∙ sym e)
+          (all_objects v.written m.buckets st.map_is.map_is.each) y there) in new z.0 z.1 (z.2 ∙ sym e)
 
   array_now : (later : Plain) → list_of w b ≡ later.list → length b.kept ≡ objects_for later.longest 128
       → b.stop ≡ None → IsArrayNow later w b

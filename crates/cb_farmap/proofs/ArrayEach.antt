@@ -64,8 +64,11 @@ set_other v ks o range y there = by (set_has ks o (with_next (object_at ks o)) y
         → ((x : KeptObject) × Has x ks × (y.handle.n ≡ x.handle.n))
         ⊎ ((e : Entry) → Has e v.written → e.handle ≢ y.handle.n)
     by (inl old) = inl (y, old, refl)
-    by (inr is) = inl (object_at ks o, get_has ks o blank range,
-        sym (ap (λ (k : KeptObject). k.handle.n) is))
+    by (inr is) = inl (
+      object_at ks o,
+      get_has ks o blank range,
+      sym (ap (λ (k : KeptObject). k.handle.n) is),
+    )
 
 pub push_other : (v : View) (ks : List KeptObject) (z : KeptObject)
     → ((e : Entry) → Has e v.written → e.handle ≢ z.handle.n) → KeepsOther v ks (ks ++ z ∷ [])

@@ -101,11 +101,13 @@ module _ (c : Config) (n : ℕ) (s : Plain) (ask : FarCommand) (v w : View) (pla
       let x = said_goes c 1 (n + 2) one_low s tallied ask plan v w suits before.made history said none
       is go in
       let after = after_is c 1 (n + 2) one_low s tallied ask plan v w suits before.made history said
-      none in
-      (x, stand (after_said s ask said) b o (record_now (after_said s ask said) x.made
-      (low_after c 1 (n + 2) one_low s tallied ask plan v w suits before.made history go old_low))
-      (subst IsTallied (sym after) (stays_tallied s ask tallied))
-      (subst (λ (p : Plain). AreNow (n + 1) p w b o) (sym after) now))
+      none in (
+        x,
+        stand (after_said s ask said) b o (record_now (after_said s ask said) x.made
+            (low_after c 1 (n + 2) one_low s tallied ask plan v w suits before.made history go old_low))
+            (subst IsTallied (sym after) (stays_tallied s ask tallied))
+            (subst (λ (p : Plain). AreNow (n + 1) p w b o) (sym after) now),
+      )
 
   went_ill : (r : Reply) (b : FarArray) (o : FarMap) → IsCalm (Some (cannot.Refused r))
       → Goes c 1 plan (Some (cannot.Refused r)) v w → AreNow (n + 1) s w b o
@@ -113,11 +115,13 @@ module _ (c : Config) (n : ℕ) (s : Plain) (ask : FarCommand) (v w : View) (pla
   went_ill r b o quiet go now =
       let top : n + 2 < 2 ^ 64 - 1 = omega (arith, small) in
       let x = refused_goes c 1 (n + 2) one_low s tallied ask plan v w suits before.made history r go
-      quiet top before.whole before.idle old_low in
-      (x, stand s b o (record_now s x.made (subst
-      (λ (es : List Entry). Each (λ (e : Entry). e.version ≤ n + 2) es)
-      (sym (written_same c 1 (n + 2) one_low s tallied ask plan v w suits before.made history r go
-      quiet top before.whole before.idle old_low)) old_low)) tallied now)
+      quiet top before.whole before.idle old_low in (
+        x,
+        stand s b o (record_now s x.made (subst
+            (λ (es : List Entry). Each (λ (e : Entry). e.version ≤ n + 2) es)
+            (sym (written_same c 1 (n + 2) one_low s tallied ask plan v w suits before.made history r go
+            quiet top before.whole before.idle old_low)) old_low)) tallied now,
+      )
 
   -- by what is said
   pub ends_so : (said : FarAnswer) (b : FarArray) (o : FarMap) → SaidBy s ask t said

@@ -2,4 +2,4 @@
 pub use Rattle.cb_farmap.proofs.Arrays.{array_on}
 pub use Rattle.cb_farmap.proofs.Behind.{objects_behind, on_then}
 pub use Rattle.cb_farmap.proofs.Keeping.{knows_it}
-pub use Rattle.cb_farmap.proofs.MapOn.{map_on}
+pub use Rattle.cb_farmap.proofs.MapEnds.{map_on}

@@ -15,7 +15,6 @@ mod Standing
 mod Behind
 mod Arrays
 mod Ends
-mod MapOn
 mod Commanding
 mod ArrayCommands
 mod ArrayEach
@@ -50,4 +49,5 @@ mod WorkedArrays
 mod WorkedMaps
 mod WorkedArrayCalls
 mod WorkedMapCalls
+mod WorkedCommands
 pub mod Laws

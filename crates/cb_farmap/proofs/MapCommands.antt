@@ -35,10 +35,10 @@ use Rattle.cb_farmap.specs.Stands.{AreOther, IsArrayNow, IsMapNow, IsRecordAfter
 use Rattle.cb_farmap.specs.Stops.{stop_behind}
 use Rattle.cb_farmap.proofs.ArrayEach.{is_write}
 use Rattle.cb_farmap.proofs.Arrays.{array_on, list_on}
-use Rattle.cb_farmap.proofs.BucketList.{all_objects, all_own}
+use Rattle.cb_farmap.proofs.BucketList.{all_both, all_left, all_right}
 use Rattle.cb_farmap.proofs.Commanding.{AreNow, SaidBy, ends_so, said_by}
-use Rattle.cb_farmap.proofs.Lists.{all_more, all_set}
-use Rattle.cb_farmap.proofs.PlanAdds.{IsEntryIn, IsOfRecord, IsPlanFor, IsShort, PlanAdds, adds_so, all_done, changes_in, each_has, makes_in, short_few, some_make}
+use Rattle.cb_farmap.proofs.Lists.{all_more, all_set, each_there}
+use Rattle.cb_farmap.proofs.PlanAdds.{IsEntryIn, IsOfRecord, IsPlanFor, IsShort, PlanAdds, adds_so, all_done, changes_in, makes_in, short_few, some_make}
 use Rattle.cb_farmap.proofs.Standing.{all_from, all_has, all_loose, get_has, get_map, goes_on_so, has_wrote, map_set, object_low, others_sole}
 
 -- ---- all objects of buckets, where one bucket is another
@@ -47,31 +47,10 @@ pub all_flat_set : (P : KeptObject → Type 0) (bs : List Bucket) (i : ℕ) (lat
     → AllByRecursion P (kept_of (slice_set bs i later))
 all_flat_set P [] i later all new = all
 all_flat_set P (b ∷ bs) zero later all new =
-    both later.kept (kept_of bs) new (right b.kept (kept_of bs) all)
-  where
-    both : (xs ys : List KeptObject) → AllByRecursion P xs → AllByRecursion P ys
-        → AllByRecursion P (xs ++ ys)
-    both [] ys a b = b
-    both (x ∷ xs) ys a b = (a.0, both xs ys a.1 b)
-
-    right : (xs ys : List KeptObject) → AllByRecursion P (xs ++ ys) → AllByRecursion P ys
-    right [] ys a = a
-    right (x ∷ xs) ys a = right xs ys a.1
-all_flat_set P (b ∷ bs) (suc i) later all new = both b.kept _ (left b.kept (kept_of bs) all)
-    (all_flat_set P bs i later (right b.kept (kept_of bs) all) new)
-  where
-    both : (xs ys : List KeptObject) → AllByRecursion P xs → AllByRecursion P ys
-        → AllByRecursion P (xs ++ ys)
-    both [] ys a b = b
-    both (x ∷ xs) ys a b = (a.0, both xs ys a.1 b)
-
-    left : (xs ys : List KeptObject) → AllByRecursion P (xs ++ ys) → AllByRecursion P xs
-    left [] ys a = tt
-    left (x ∷ xs) ys a = (a.0, left xs ys a.1)
-
-    right : (xs ys : List KeptObject) → AllByRecursion P (xs ++ ys) → AllByRecursion P ys
-    right [] ys a = a
-    right (x ∷ xs) ys a = right xs ys a.1
+    all_both P later.kept (kept_of bs) new (all_right P b.kept (kept_of bs) all)
+all_flat_set P (b ∷ bs) (suc i) later all new =
+    all_both P b.kept (kept_of (slice_set bs i later)) (all_left P b.kept (kept_of bs) all)
+    (all_flat_set P bs i later (all_right P b.kept (kept_of bs) all) new)
 
 -- ---- how many objects there are behind a plan that changed one at the most
 
@@ -131,7 +110,7 @@ module _ (c : Config) (most : ℕ) (plan : List Ask) (v w : View) (short : IsSho
       by : IsEntryIn plan v e → makes_in plan ≡ 1
       by (inr (bytes, there, off)) = let s = some_make plan bytes there in omega (arith, s, few)
       by (inl (k, at, bytes, there, is)) =
-          let z = (each_has (IsOfRecord v most) plan of (AskWrite k at bytes) there).0 in
+          let z = (each_there (IsOfRecord v most) (AskWrite k at bytes) plan of there).0 in
           absurd (fresh z.0 z.1 (z.2 ∙ sym is))
 
   pub kept_more : ChangesOne v.written ks later w.written → length later ≡ length ks + makes_in plan

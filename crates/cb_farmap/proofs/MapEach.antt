@@ -139,9 +139,14 @@ module _ (n : ℕ) (s : Plain) (v : View) (a : FarArray) (m : FarMap) (st : Stan
     object_is = all_has (IsObject v.written) b.kept bucket_is.objects (object_at b.kept (p / 64)) at_place
 
     pub write_of : (pair : Pair) → Each (IsOfRecord v (n + 2)) (write_at b.kept p pair ∷ [])
-    write_of pair = ((has_wrote v (object_at b.kept (p / 64)) object_is,
+    write_of pair = (
+      (
+        has_wrote v (object_at b.kept (p / 64)) object_is,
         let le = object_low v (object_at b.kept (p / 64)) (n + 1) object_is st.record_is.low in
-        omega (arith, le)), tt)
+            omega (arith, le),
+      ),
+      tt,
+    )
 
   place_room : (p : ℕ) → place ≡ Some p → p < 64 * length b.kept
   place_room p is = let l = place_low p is in let w = bucket_is.within in omega (arith, l, w)
@@ -226,12 +231,14 @@ module _ (n : ℕ) (s : Plain) (v : View) (a : FarArray) (m : FarMap) (st : Stan
         }
 
     pub put_suits : IsPlanFor v (n + 2) s (Put key x) (put_plan v.written b (key, x))
-    put_suits = let z = one_ask place refl in record {
-      short = reads_short _ _ z.short;
-      of = reads_of v (n + 2) _ _ (take_objects (IsObject v.written) _ b.kept bucket_is.objects) z.of;
-      makes = reads_make (take (objects_to b.count place) b.kept) (put_ask b (key, x) place ∷ []) ∙ z.makes;
-      calls = λ no. absurd (true≢false no);
-    }
+    put_suits = let front : List KeptObject = take (objects_to b.count place) b.kept in
+        let z = one_ask place refl in record {
+          short = reads_short front (put_ask b (key, x) place ∷ []) z.short;
+          of = reads_of v (n + 2) front (put_ask b (key, x) place ∷ [])
+              (take_objects (IsObject v.written) (objects_to b.count place) b.kept bucket_is.objects) z.of;
+          makes = reads_make front (put_ask b (key, x) place ∷ []) ∙ z.makes;
+          calls = λ no. absurd (true≢false no);
+        }
 
     ask_writes : (o : Option ℕ) → place ≡ o → (k : KeptObject) (at : ℕ) (bytes : List ℕ)
         → Has (AskWrite k at bytes) (put_ask b (key, x) o ∷ []) → Has k b.kept
@@ -256,7 +263,7 @@ module _ (n : ℕ) (s : Plain) (v : View) (a : FarArray) (m : FarMap) (st : Stan
   last_suits : (p last : ℕ) → last < 64 * length b.kept → (pair : Pair) → p < 64 * length b.kept
       → (same : Bool) → (plan : List Ask)
       → plan ≡ (if same then [] else AskRead (object_at b.kept (last / 64)) ∷ [])
-          ++ write_at b.kept p pair ∷ []
+      ++ write_at b.kept p pair ∷ []
       → IsShort plan × Each (IsOfRecord v (n + 2)) plan × (makes_in plan ≡ 0)
   last_suits p last low pair range true plan is = subst
       (λ (l : List Ask). IsShort l × Each (IsOfRecord v (n + 2)) l × (makes_in l ≡ 0)) (sym is)

@@ -27,7 +27,7 @@ use Rattle.cb_farmap.specs.declared.kept.Cannot.{Cannot}
 use Rattle.cb_farmap.specs.declared.kept.Cannot.TheVariants as cannot
 use Rattle.cb_farmap.specs.declared.kept.KeptObject.{KeptObject}
 use Rattle.cb_farmap.proofs.Finds.{SawNewest, saw_before}
-use Rattle.cb_farmap.proofs.Lists.{has_back}
+use Rattle.cb_farmap.proofs.Lists.{each_there, has_back}
 use Rattle.cb_farmap.proofs.PlanTurns.{CallAdds, IsAskedBy, IsEntryOf, IsInPlace, IsSaidInPlace, IsToldBy, call_adds, each_both, each_weaker, entries_of, handle_of, made_both, made_of, version_told}
 
 -- ---- plans
@@ -373,11 +373,6 @@ asked_job w most (AskRead k) j of asked = inr (fetch_job w k.handle.n j of asked
 asked_job w most (AskWrite k at bytes) j of asked = inr (subst (IsOnObject w) (sym asked) of.0)
 asked_job w most (AskMake bytes) j of asked = inl (subst IsMake (sym asked) tt)
 
-pub each_has : {A : Type 0} (P : A → Type 0) (xs : List A) → Each P xs → (x : A) → Has x xs → P x
-each_has P [] each x there = absurd there
-each_has P (y ∷ xs) each x (inl is) = subst P is each.0
-each_has P (y ∷ xs) each x (inr there) = each_has P xs each.1 x there
-
 pub some_make : (plan : List Ask) (bytes : List ℕ) → Has (AskMake bytes) plan → 1 ≤ makes_in plan
 some_make [] bytes there = absurd there
 some_make (ask ∷ plan) bytes (inl is) = let e = ap makes_of is in omega (arith, e)
@@ -519,7 +514,7 @@ module _ (c : Config) (first most : ℕ) (low : first ≤ most) (s : Plain) (tal
     for_objects = each_weaker (λ (t : Turn). IsOfPlan plan t.job)
         (λ (t : Turn). IsMake t.job ⊎ IsOnObject w t.job)
         (λ t (ask, there, asked). asked_job w most ask t.job
-        (each_has (IsOfRecord w most) plan of_now ask there) asked) x.more x.jobs_are
+        (each_there (IsOfRecord w most) ask plan of_now there) asked) x.more x.jobs_are
 
     made_now : made_by_all w.turns ≡ objects s + n
     made_now = let e = ap made_by_all x.turned in let both = made_both x.more v.turns in
@@ -605,12 +600,15 @@ module _ (c : Config) (first most : ℕ) (low : first ≤ most) (s : Plain) (tal
       where
         by : (ask : Ask) → Has ask plan → IsAskedBy ask t.turn.job
             → (IsMake t.turn.job × (needs_object s a ≡ true)) ⊎ IsOnObject w t.turn.job
-        by (AskMake bytes) there asked = inl (subst IsMake (sym asked) tt, one_needs (needs_object s a)
-            (let some = some_make plan bytes there in let k = suits.makes in omega (arith, some, k)))
+        by (AskMake bytes) there asked = inl (
+          subst IsMake (sym asked) tt,
+          one_needs (needs_object s a)
+              (let some = some_make plan bytes there in let k = suits.makes in omega (arith, some, k)),
+        )
         by (AskRead k) there asked = inr (fetch_job w k.handle.n t.turn.job
-            (each_has (IsOfRecord w most) plan (of_now 0 z) (AskRead k) there) asked)
+            (each_there (IsOfRecord w most) (AskRead k) plan (of_now 0 z) there) asked)
         by (AskWrite k at bytes) there asked = inr (subst (IsOnObject w) (sym asked)
-            (each_has (IsOfRecord w most) plan (of_now 0 z) (AskWrite k at bytes) there).0)
+            (each_there (IsOfRecord w most) (AskWrite k at bytes) plan (of_now 0 z) there).0)
 
     told : IsInPlace y.refused.ask r v ⊎ IsToldBy c y.refused.ask r z.more
         → IsToldByTurn c s a r w z.more
@@ -643,7 +641,13 @@ pub adds_so : (c : Config) (first : ℕ) (plan : List Ask) (t : Option Cannot) (
     → IsShort plan → Goes c first plan t v w
     → (t ≡ None) ⊎ ((r : Reply) × (t ≡ Some (cannot.Refused r)))
     → (n : ℕ) × PlanAdds c first plan n v w
-adds_so c first plan t v w short goes (inl at) = (makes_in plan, all_done c first plan v w
-    (subst (λ (o : Option Cannot). Goes c first plan o v w) at goes))
-adds_so c first plan t v w short goes (inr (r, at)) = (0, (all_refused c first plan r v w short
-    (subst (λ (o : Option Cannot). Goes c first plan o v w) at goes)).adds)
+adds_so c first plan t v w short goes (inl at) = (
+  makes_in plan,
+  all_done c first plan v w
+      (subst (λ (o : Option Cannot). Goes c first plan o v w) at goes),
+)
+adds_so c first plan t v w short goes (inr (r, at)) = (
+  0,
+  (all_refused c first plan r v w short
+      (subst (λ (o : Option Cannot). Goes c first plan o v w) at goes)).adds,
+)

@@ -1,7 +1,8 @@
 -- Commands one after another: what stands behind each, and what is so of them all at the end.
-use Rattle.std.proofs.Common.{◌≡◌, ℕ, ◌+◌, ◌<◌, ◌≤◌, List, [], ◌∷◌, ◌++◌, length, drop, get_or, refl, sym, ap, ◌∙◌, subst, arith}
+use Rattle.std.proofs.Common.{◌≡◌, ℕ, zero, suc, ◌+◌, ◌<◌, ◌≤◌, List, [], ◌∷◌, ◌++◌, length, drop, get_or, refl, sym, ap, ◌∙◌, subst, arith}
 use Rattle.std.proofs.lemmas.List.{append-nil, append_assoc, drop_all}
 use Rattle.std.specs.FinMap as finite
+use Rattle.std.specs.List.{IsDistinct}
 use Rattle.cb_types.specs.declared.config.Config.{Config}
 use Rattle.cb_rule.specs.declared.view.View.{View}
 use Rattle.cb_rule.specs.Steps.{opener}
@@ -15,6 +16,7 @@ use Rattle.cb_farmap.specs.Arrays.{no_array}
 use Rattle.cb_farmap.specs.Commands.{CommandGoes, CommandsGo}
 use Rattle.cb_farmap.specs.Maps.{IsMapOf, map_of, no_map}
 use Rattle.cb_farmap.specs.Stands.{GoesSo, Stands}
+use Rattle.cb_farmap.proofs.FreshMap.{fresh_map}
 
 -- the array and the map stand behind so many commands, and what the others will do makes them all go
 -- as they should
@@ -25,67 +27,74 @@ pub record Run (c : Config) (asks : List FarCommand) (start : View) (i : ℕ) (s
   pub all : (more : List FarAnswer) (w : View) → CommandsGo c 1 s v (drop i asks) more w
       → CommandsGo c 1 fresh start asks (saids ++ more) w
 
-drop_next : (asks : List FarCommand) (i : ℕ) (ask : FarCommand) → i < length asks
-    → ask ≡ get_or asks i ask → drop i asks ≡ ask ∷ drop (i + 1) asks
-drop_next [] i ask less at = absurd (omega (arith, less))
-drop_next (x ∷ asks) zero ask less at = ap (λ y. y ∷ asks) (sym at)
-drop_next (x ∷ asks) (suc i) ask less at = drop_next asks i ask (omega (arith, less)) at
+drop_next : (asks : List FarCommand) (i : ℕ) (other : FarCommand) → i < length asks
+    → drop i asks ≡ get_or asks i other ∷ drop (i + 1) asks
+drop_next [] i other less = absurd (omega (arith, less))
+drop_next (x ∷ asks) zero other less = refl
+drop_next (x ∷ asks) (suc i) other less = drop_next asks i other (omega (arith, less))
+    ∙ ap (λ (n : ℕ). get_or asks i other ∷ drop n (x ∷ asks)) (let next : suc (i + 1) ≡ suc i + 1 = omega arith in next)
+
+-- the empty array and the empty map stand at the beginning
+pub fresh_stands : (c : Config) → Stands 0 fresh (opener c) no_array (no_map 64)
+unfolding IsDistinct
+fresh_stands c = record {
+  record_is = record { whole = refl; loose = refl; idle = refl; low = tt; made = refl };
+  array_is = record {
+    array = record { objects = tt; apart = tt; within = omega arith };
+    list = refl;
+    kept = refl;
+    going = refl;
+    sole = tt;
+  };
+  map_is = record {
+    map_is = map.0;
+    pairs = map.1;
+    counts = refl;
+    kept = refl;
+    going = refl;
+    sole = tt;
+  };
+  other = λ x y here there. absurd here;
+  tallied = fresh_tallied;
+  few = omega arith;
+  few_keys = omega arith;
+}
+  where
+    map : IsMapOf (opener c) (no_map 64) × (map_of (opener c) (no_map 64) ≡ finite.empty)
+    map = fresh_map (opener c) 64 (omega arith)
 
 -- before the first one
-pub begins : (c : Config) (asks : List FarCommand) (m : FarMap) → m ≡ no_map 64
-    → ((v : View) → IsMapOf v m × (map_of v m ≡ finite.empty)) → (start : View) → start ≡ opener c
-    → (a : FarArray) → a ≡ no_array → Run c asks start 0 [] start a m
-begins c asks m empty so start is a none =
+pub begins : (c : Config) (asks : List FarCommand) (a : FarArray) → a ≡ no_array → (m : FarMap)
+    → m ≡ no_map 64 → (start : View) → start ≡ opener c → Run c asks start 0 [] start a m
+begins c asks a none m empty start is =
     subst (λ (v : View). Run c asks v 0 [] v a m) (sym is)
     (subst (λ (b : FarArray). Run c asks (opener c) 0 [] (opener c) b m) (sym none)
     (subst (λ (o : FarMap). Run c asks (opener c) 0 [] (opener c) no_array o) (sym empty) (record {
       s = fresh;
-      stands = record {
-        record_is = record { whole = refl; loose = refl; idle = refl; low = λ e has. absurd has; made = refl };
-        array_is = record {
-          array = record { objects = tt; apart = tt; within = arith };
-          list = refl;
-          kept = refl;
-          going = refl;
-          sole = tt;
-        };
-        map_is = record {
-          map_is = there.0;
-          pairs = there.1;
-          counts = refl;
-          kept = refl;
-          going = refl;
-          sole = tt;
-        };
-        other = λ x y has too. absurd has;
-        tallied = fresh_tallied;
-        few = arith;
-        few_keys = arith;
-      };
+      stands = fresh_stands c;
       all = λ more w go. go;
     })))
-  where
-    there : IsMapOf (opener c) (no_map 64) × (map_of (opener c) (no_map 64) ≡ finite.empty)
-    there = subst (λ (o : FarMap). IsMapOf (opener c) o × (map_of (opener c) o ≡ finite.empty)) empty
-        (so (opener c))
 
 -- one more
 pub goes_next : (c : Config) (asks : List FarCommand) (start : View) (i : ℕ) (saids : List FarAnswer)
-    (v : View) (a : FarArray) (m : FarMap) → Run c asks start i saids v a m → (ask : FarCommand)
-    → length asks ≤ 1000000000 → i < length asks → ask ≡ get_or asks i ask → (said : FarAnswer)
-    (w : View) (b : FarArray) (o : FarMap) → GoesSo c ask v a m said w b o → (all : List FarAnswer)
+    (v : View) (a : FarArray) (m : FarMap) → Run c asks start i saids v a m → (other : FarCommand)
+    → length asks ≤ 1000000000 → i < length asks → (said : FarAnswer) (w : View) (b : FarArray)
+    (o : FarMap) → GoesSo c (get_or asks i other) v a m said w b o → (all : List FarAnswer)
     → all ≡ saids ++ said ∷ [] → Run c asks start (i + 1) all w b o
-goes_next c asks start i saids v a m run ask few less at said w b o so all is =
+goes_next c asks start i saids v a m run other few less said w b o so all is =
     subst (λ (ss : List FarAnswer). Run c asks start (i + 1) ss w b o) (sym is) (record {
       s = after_said run.s ask said;
       stands = one.1;
       all = λ more u go. subst (λ (ss : List FarAnswer). CommandsGo c 1 fresh start asks ss u)
           (sym (append_assoc saids (said ∷ []) more))
           (run.all (said ∷ more) u (subst (λ (rest : List FarCommand).
-          CommandsGo c 1 run.s v rest (said ∷ more) u) (sym (drop_next asks i ask less at))
+          CommandsGo c 1 run.s v rest (said ∷ more) u) (sym (drop_next asks i other less))
           (w, one.0, go)));
     })
   where
+    ask : FarCommand
+    ask = get_or asks i other
+
     one : CommandGoes c 1 run.s ask said v w × Stands (i + 1) (after_said run.s ask said) w b o
     one = so i run.s run.stands (omega (arith, few, less))
 

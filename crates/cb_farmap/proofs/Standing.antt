@@ -15,6 +15,7 @@ use Rattle.cb_farmap.specs.Changes.{AreLoose, AreSole, IsCalm, IsLoose, IsSole}
 use Rattle.cb_farmap.specs.Commands.{HasWritten}
 use Rattle.cb_farmap.specs.Objects.{IsLast, IsObject}
 use Rattle.cb_farmap.specs.Stops.{stop_behind}
+use Rattle.cb_farmap.proofs.Lists.{each_there}
 use Rattle.cb_farmap.proofs.Objects.{found_there}
 use Rattle.cb_farmap.proofs.PlanAdds.{IsEntryIn, PlanAdds}
 use Rattle.cb_farmap.proofs.PlanTurns.{each_both, each_weaker}
@@ -59,13 +60,8 @@ has_wrote v k o = let z = object_wrote v.written k o in (z.0, z.1, z.2)
 pub object_low : (v : View) (k : KeptObject) (most : ℕ) → IsObject v.written k
     → Each (λ (e : Entry). e.version ≤ most) v.written → k.version ≤ most
 object_low v k most o low = let z = object_wrote v.written k o in
-    let le = at v.written low z.0 z.1 in let same = z.3 in omega (arith, le, same)
-  where
-    at : (es : List Entry) → Each (λ (e : Entry). e.version ≤ most) es → (e : Entry) → Has e es
-        → e.version ≤ most
-    at [] each e there = absurd there
-    at (x ∷ es) each e (inl is) = subst (λ (y : Entry). y.version ≤ most) is each.0
-    at (x ∷ es) each e (inr there) = at es each.1 e there
+    let le = each_there (λ (e : Entry). e.version ≤ most) z.0 v.written low z.1 in
+    let same = z.3 in omega (arith, le, same)
 
 -- without pins every object is loose
 pub all_loose : (v : View) → v.pins ≡ [] → (ks : List KeptObject) → AreLoose v ks

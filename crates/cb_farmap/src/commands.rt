@@ -1,7 +1,5 @@
 //! Commands on one array and one map, which one pass keeps.
 ghost use Rattle.std.specs.Prelude.{◌≡◌, ◌≤◌, ◌<◌, ◌∷◌, ◌++◌, [], length, replicate, IfOk, OnErr, OnOk};
-ghost use Rattle.std.specs.FinMap as finite;
-ghost use Rattle.cb_rule.specs.declared.view.View.{View};
 ghost use Rattle.cb_shared.specs.Passes.{IsPassOf, IsRuntimeBegun, record_of};
 ghost use Rattle.cb_shared.specs.Recalls.{first_version_of};
 ghost use Rattle.cb_map_text.specs.Plain.{found_said, fresh};
@@ -11,7 +9,7 @@ ghost use Rattle.cb_farmap.specs.Arrays.{no_array};
 ghost use Rattle.cb_farmap.specs.Calls.{trouble};
 ghost use Rattle.cb_farmap.specs.Changes.{IsCalm};
 ghost use Rattle.cb_farmap.specs.Commands.{CommandsGo};
-ghost use Rattle.cb_farmap.specs.Maps.{IsMapOf, map_of, no_map};
+ghost use Rattle.cb_farmap.specs.Maps.{no_map};
 ghost use Rattle.cb_farmap.specs.Stands.{AreReady, GoesSo, Says, SaysWhy, Stands};
 
 use crate::array::FarArray;
@@ -106,8 +104,6 @@ impl FarPair {
     fn new(alloc: Global) -> Result<FarPair, NoMemory>
         ensures array { IfOk result (λ far. far.array ≡ no_array) }
         ensures map { IfOk result (λ far. far.map ≡ no_map 64) }
-        ensures map_is { IfOk result (λ far. (v : View) → IsMapOf v far.map
-            × (map_of v far.map ≡ finite.empty)) }
     {
         let map = FarMap::new(alloc, BUCKETS)?;
         let array = FarArray::new(alloc);

@@ -10,10 +10,12 @@ pub drop_key-dropped-requires-clause-map : goal.drop_key-dropped-requires-clause
 drop_key-dropped-requires-clause-map g c = c.requires.ready.2.map_is.map_is
 
 pub said_found-requires : goal.said_found-requires
-said_found-requires g c = quiet_map c.args.shared.now.config
-    (first_version_of c.args.shared.now) (drop_plan (record_of c.args.pass.now).written (bucket_in c.args.far.now.map.buckets c.args.key) c.args.key) (trouble c.drop_key-dropped.result)
-    (record_of c.args.pass.now) (record_of c.drop_key-dropped.new.pass) c.args.far.now.array c.args.far.now.map c.drop_key-dropped.new.self c.requires.ready
-    c.drop_key-dropped.ensures.keeps
+said_found-requires g c = record {
+  calm = quiet_map c.args.shared.now.config
+      (first_version_of c.args.shared.now) (drop_plan (record_of c.args.pass.now).written (bucket_in c.args.far.now.map.buckets c.args.key) c.args.key) (trouble c.drop_key-dropped.result)
+      (record_of c.args.pass.now) (record_of c.drop_key-dropped.new.pass) c.args.far.now.array c.args.far.now.map c.drop_key-dropped.new.self c.requires.ready
+      c.drop_key-dropped.ensures.keeps;
+}
 
 pub returns-clause-goes : goal.returns-clause-goes
 returns-clause-goes g c = drop_so c.args.shared.now c.requires.first c.drop_key-dropped.new.pass

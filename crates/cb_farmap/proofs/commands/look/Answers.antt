@@ -10,10 +10,12 @@ pub look-found-requires-clause-map : goal.look-found-requires-clause-map
 look-found-requires-clause-map g c = c.requires.ready.2.map_is.map_is
 
 pub said_found-requires : goal.said_found-requires
-said_found-requires g c = quiet_map c.args.shared.now.config
-    (first_version_of c.args.shared.now) (look_plan (record_of c.args.pass.now).written (bucket_in c.args.far.now.map.buckets c.args.key) c.args.key) (trouble c.look-found.result)
-    (record_of c.args.pass.now) (record_of c.look-found.new.pass) c.args.far.now.array c.args.far.now.map c.look-found.new.self c.requires.ready
-    c.look-found.ensures.keeps
+said_found-requires g c = record {
+  calm = quiet_map c.args.shared.now.config
+      (first_version_of c.args.shared.now) (look_plan (record_of c.args.pass.now).written (bucket_in c.args.far.now.map.buckets c.args.key) c.args.key) (trouble c.look-found.result)
+      (record_of c.args.pass.now) (record_of c.look-found.new.pass) c.args.far.now.array c.args.far.now.map c.look-found.new.self c.requires.ready
+      c.look-found.ensures.keeps;
+}
 
 pub returns-clause-goes : goal.returns-clause-goes
 returns-clause-goes g c = look_so c.args.shared.now c.requires.first c.look-found.new.pass

@@ -13,10 +13,12 @@ push-pushed-requires-clause-room g c =
     few_numbers (record_of c.args.pass.now) c.args.far.now.array c.args.far.now.map c.requires.ready
 
 pub said_done-requires : goal.said_done-requires
-said_done-requires g c = quiet_array c.args.shared.now.config
-    (first_version_of c.args.shared.now) (push_plan c.args.far.now.array.kept c.args.far.now.array.len c.args.x) (trouble c.push-pushed.result)
-    (record_of c.args.pass.now) (record_of c.push-pushed.new.pass) c.args.far.now.array c.push-pushed.new.self c.args.far.now.map c.requires.ready
-    c.push-pushed.ensures.keeps
+said_done-requires g c = record {
+  calm = quiet_array c.args.shared.now.config
+      (first_version_of c.args.shared.now) (push_plan c.args.far.now.array.kept c.args.far.now.array.len c.args.x) (trouble c.push-pushed.result)
+      (record_of c.args.pass.now) (record_of c.push-pushed.new.pass) c.args.far.now.array c.push-pushed.new.self c.args.far.now.map c.requires.ready
+      c.push-pushed.ensures.keeps;
+}
 
 pub returns-clause-goes : goal.returns-clause-goes
 returns-clause-goes g c = push_so c.args.shared.now c.requires.first c.push-pushed.new.pass

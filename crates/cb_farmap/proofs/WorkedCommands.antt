@@ -1,0 +1,261 @@
+-- Worked examples of commands on an array and a map: what meets each definition, and what breaks one
+-- part alone.
+use Rattle.std.proofs.Common.{◌≡◌, ◌≢◌, ◌⊎◌, ℕ, suc, ◌+◌, ◌<◌, ◌≤◌, Bool, true, false, List, [], ◌∷◌, ◌++◌, length, map, None, Some, Result, Ok, Err, refl, sym, ap, ◌∙◌, subst, inl, inr, arith}
+use Rattle.std.proofs.lemmas.List.{length-append}
+use Rattle.cb_types.specs.declared.config.Config.{Config}
+use Rattle.cb_types.specs.declared.job.Job.{Job}
+use Rattle.cb_types.specs.declared.job.Job.TheVariants as jobs
+use Rattle.cb_types.specs.declared.reply.Reply.{Reply}
+use Rattle.cb_types.specs.declared.reply.Reply.TheVariants as answer
+use Rattle.cb_world.specs.declared.entry.Entry.{Entry}
+use Rattle.cb_rule.specs.declared.turn.Turn.{Turn}
+use Rattle.cb_rule.specs.declared.view.Stand.{Stand}
+use Rattle.cb_rule.specs.declared.view.View.{View}
+use Rattle.cb_rule.specs.Steps.{opener}
+use Rattle.cb_map_text.specs.Plain.{Plain, fresh}
+use Rattle.cb_map_text.specs.declared.command.FarAnswer.{FarAnswer}
+use Rattle.cb_map_text.specs.declared.command.FarAnswer.TheVariants.{Done, Number, Nothing, Outside, Refused}
+use Rattle.cb_map_text.specs.declared.command.FarCommand.TheVariants as command
+use Rattle.cb_farmap.specs.Arrays.{no_array}
+use Rattle.cb_farmap.specs.Commands.{CommandGoes, CommandsGo, HasOneHistory, HasWritten, IsMake, IsOnObject, IsOutOfPlace, IsSaid, IsToldByTurn, made_by_all, made_in, refusal_in}
+use Rattle.cb_farmap.specs.Maps.{no_map}
+use Rattle.cb_farmap.specs.Stands.{AreOther, AreReady, GoesSo, IsArrayNow, IsMapNow, IsRecordAfter, Says, SaysWhy, Stands}
+use Rattle.cb_farmap.specs.declared.array.FarArray.{FarArray}
+use Rattle.cb_farmap.specs.declared.kept.Cannot.{Cannot}
+use Rattle.cb_farmap.specs.declared.kept.Cannot.TheVariants as cannot
+use Rattle.cb_farmap.specs.declared.kept.Stop.TheVariants as stop
+use Rattle.cb_farmap.specs.declared.map.FarMap.{FarMap}
+use Rattle.cb_farmap.proofs.Running.{fresh_stands}
+use Rattle.cb_farmap.proofs.WorkedObjects.{early, kept, later}
+
+abbrev two : Config
+two = record { k = 1; r = 1; nodes = 2; frames = 1; room = 6; handles = 2; turns = 0 }
+
+-- the record of a pass that just began, and of one that wrote object 5
+abbrev v : View
+v = opener two
+
+abbrev wrote : View
+wrote = record (opener two) { written = early ∷ [] }
+
+-- ---- jobs
+made : IsMake (jobs.Make [])
+made = tt
+
+none_made : IsMake (jobs.Swap (record { n = 5 })) → ⊥
+none_made is = is
+
+has_five : HasWritten wrote 5
+has_five = (early, inl refl, refl)
+
+has_not_six : HasWritten wrote 6 → ⊥
+has_not_six (e, inl is, of) = let z : 5 ≡ 6 = ap (λ (e : Entry). e.handle) is ∙ of in omega (arith, z)
+has_not_six (e, inr there, of) = there
+
+on_five : IsOnObject wrote (jobs.Write (record { n = 5 }) 8 (7 ∷ []))
+on_five = has_five
+
+not_on_six : IsOnObject wrote (jobs.Read (record { n = 6 })) → ⊥
+not_on_six on = has_not_six on
+
+not_a_make : IsOnObject wrote (jobs.Make []) → ⊥
+not_a_make on = on
+
+-- ---- objects that turns made
+abbrev making : Turn → Reply → Turn
+making t r = record t { job = jobs.Make []; reply = Some r }
+
+abbrev one : Reply
+one = answer.Made (record { n = 6 }) 1
+
+two_made : (t : Turn) → made_by_all (making t one ∷ making t (answer.Full 2) ∷ making t one ∷ []) ≡ 2
+two_made t = refl
+
+none_by_full : (t : Turn) → made_in (making t (answer.Full 2)) ≡ 0
+none_by_full t = refl
+
+-- ---- what is told of a command
+refused_so : refusal_in (Refused (answer.Full 2)) ≡ Some (cannot.Refused (answer.Full 2))
+refused_so = refl
+
+not_refused : refusal_in (Outside 3) ≡ None
+not_refused = refl
+
+freed_misplaced : IsOutOfPlace (jobs.Swap (record { n = 5 })) answer.Freed
+freed_misplaced = tt
+
+full_in_place : IsOutOfPlace (jobs.Make []) (answer.Full 2) → ⊥
+full_in_place is = is
+
+-- a push of the first number, where all handles are made
+told_full : (t : Turn) → IsToldByTurn two fresh (command.Push 7) (answer.Full 2) v
+    (making t (answer.Full 2) ∷ [])
+told_full t = record {
+  turn = making t (answer.Full 2);
+  before = [];
+  newest = refl;
+  reply_is = refl;
+  job_is = inl (tt, refl);
+  answers = inl tt;
+  lacks = λ x. x;
+}
+
+-- with no turn that tells it
+no_turn : (r : Reply) → IsToldByTurn two fresh (command.Push 7) r v [] → ⊥
+no_turn r x = let z : 0 ≡ suc (length x.before) = ap (λ (l : List Turn). length l) x.newest in
+    omega (arith, z)
+
+-- where no object is needed
+makes_needless : (t : Turn) (r : Reply) → IsToldByTurn two fresh (command.Get 0) r v (making t r ∷ []) → ⊥
+makes_needless t r x = by x.job_is
+  where
+    by : (IsMake x.turn.job × (false ≡ true)) ⊎ IsOnObject v x.turn.job → ⊥
+    by (inl z) = let e = z.1 in cc
+    by (inr z) = off (jobs.Make []) (subst (IsOnObject v) (sym same) z)
+      where
+        same : jobs.Make [] ≡ x.turn.job
+        same = let e = x.newest in let h : making t r ≡ x.turn = cc in ap (λ (t : Turn). t.job) h
+
+        off : (j : Job) → IsOnObject v (jobs.Make []) → ⊥
+        off j on = on
+
+full_said : (t : Turn) → IsSaid two fresh (command.Push 7) (Refused (answer.Full 2)) v
+    (making t (answer.Full 2) ∷ [])
+full_said t = (refl, told_full t)
+
+done_said : IsSaid two fresh (command.Push 7) Done v []
+done_said = refl
+
+not_said : IsSaid two fresh (command.Push 7) Nothing v [] → ⊥
+not_said is = let z : Nothing ≡ Done = is in cc
+
+-- nothing is refused that calls nothing
+pop_not_refused : (r : Reply) (more : List Turn) → IsSaid two fresh command.Pop (Refused r) v more → ⊥
+pop_not_refused r more said = let z : false ≡ true = said.0 in cc
+
+-- ---- a command
+pops_nothing : HasOneHistory two 1 v → CommandGoes two 1 fresh command.Pop Nothing v v
+pops_nothing history = record {
+  plan = [];
+  calls = refl;
+  entries = [];
+  wrote = refl;
+  few = omega arith;
+  more = [];
+  turned = refl;
+  jobs_are = tt;
+  history = history;
+  made = refl;
+  is_said = refl;
+}
+
+-- of which something else is said
+pops_seven : CommandGoes two 1 fresh command.Pop (Number 7) v v → ⊥
+pops_seven go = let z : Number 7 ≡ Nothing = go.is_said in cc
+
+-- which wrote two entries
+writes_two : (s : Plain) (said : FarAnswer) → CommandGoes two 1 s command.Pop said v
+    (record (opener two) { written = later ∷ early ∷ [] }) → ⊥
+writes_two s said go = let z : 2 ≡ length (go.entries ++ []) =
+    ap (λ (l : List Entry). length l) go.wrote in
+    let l = length-append go.entries [] in let f = go.few in omega (arith, z, l, f)
+
+-- behind which more objects were made than the list and the map need
+makes_more : (t : Turn) → CommandGoes two 1 fresh command.Pop Nothing v
+    (record (opener two) { turns = making t one ∷ [] }) → ⊥
+makes_more t go = let z : 1 ≡ 0 = go.made in omega (arith, z)
+
+-- ---- commands
+all_gone : CommandsGo two 1 fresh v [] [] v
+all_gone = refl
+
+one_gone : HasOneHistory two 1 v → CommandsGo two 1 fresh v (command.Pop ∷ []) (Nothing ∷ []) v
+one_gone history = (v, pops_nothing history, refl)
+
+said_too_little : CommandsGo two 1 fresh v (command.Pop ∷ []) [] v → ⊥
+said_too_little go = go
+
+said_too_much : CommandsGo two 1 fresh v [] (Nothing ∷ []) v → ⊥
+said_too_much go = go
+
+-- ---- the record between commands
+record_well : IsRecordAfter 0 fresh v
+record_well = (fresh_stands two).record_is
+
+not_whole : (n : ℕ) (s : Plain) → IsRecordAfter n s (record (opener two) { share = 63 }) → ⊥
+not_whole n s x = let z : 63 ≡ 64 = x.whole in omega (arith, z)
+
+pinned : (n : ℕ) (s : Plain) (p : Stand) → IsRecordAfter n s (record (opener two) { pins = p ∷ [] }) → ⊥
+pinned n s p x = let z : 1 ≡ 0 = ap (λ (l : List Stand). length l) x.loose in omega (arith, z)
+
+under_way : (n : ℕ) (s : Plain) → IsRecordAfter n s (record (opener two) { fresh = early ∷ [] }) → ⊥
+under_way n s x = let z : 1 ≡ 0 = ap (λ (l : List Entry). length l) x.idle in omega (arith, z)
+
+-- an object at its second version before the first command
+too_often : (s : Plain) → IsRecordAfter 0 s (record (opener two) { written = later ∷ early ∷ [] }) → ⊥
+too_often s x = let z : 2 ≤ 0 + 1 = x.low.0 in omega (arith, z)
+
+-- an object that nobody needs
+one_more : (n : ℕ) (t : Turn)
+    → IsRecordAfter n fresh (record (opener two) { turns = making t one ∷ [] }) → ⊥
+one_more n t x = let z : 1 ≡ 0 = x.made in omega (arith, z)
+
+-- ---- the array and the map between commands
+array_well : IsArrayNow fresh v no_array
+array_well = (fresh_stands two).array_is
+
+other_list : IsArrayNow (record fresh { list = 7 ∷ [] }) v no_array → ⊥
+other_list x = let z : 0 ≡ 1 = ap (λ (l : List ℕ). length l) x.list in omega (arith, z)
+
+-- one that once had 129 numbers has two objects
+few_objects : IsArrayNow (record fresh { longest = 129 }) v no_array → ⊥
+few_objects x = let z : 0 ≡ 2 = x.kept in omega (arith, z)
+
+stopped : IsArrayNow fresh v (record { kept = []; len = 0; stop = Some stop.Freed }) → ⊥
+stopped x = let z : Some stop.Freed ≡ None = x.going in cc
+
+map_well : IsMapNow fresh v (no_map 64)
+map_well = (fresh_stands two).map_is
+
+other_buckets : IsMapNow fresh v (no_map 63) → ⊥
+other_buckets x = let z : 63 ≡ 64 = ap (λ (l : List ℕ). length l) x.counts in omega (arith, z)
+
+map_stopped : IsMapNow fresh v (record (no_map 64) { stop = Some stop.Freed }) → ⊥
+map_stopped x = let z : Some stop.Freed ≡ None = x.going in cc
+
+others : AreOther (kept 5 1 ∷ []) (kept 6 1 ∷ [])
+others x y (inl here) (inl there) same =
+    let z : ◌≡◌ {A = ℕ} 5 6 = ap (λ k. k.handle.n) here ∙ same ∙ sym (ap (λ k. k.handle.n) there) in
+    omega (arith, z)
+others x y (inr here) there same = here
+others x y (inl here) (inr there) same = there
+
+shared_object : AreOther (kept 5 1 ∷ []) (kept 6 1 ∷ kept 5 2 ∷ []) → ⊥
+shared_object x = x (kept 5 1) (kept 5 2) (inl refl) (inr (inl refl)) refl
+
+-- ---- both
+ready : AreReady v no_array (no_map 64)
+ready = (0, fresh, fresh_stands two, omega arith)
+
+-- more numbers than there were commands
+too_long : (v : View) (a : FarArray) (m : FarMap) → Stands 0 (record fresh { list = 7 ∷ [] }) v a m → ⊥
+too_long v a m x = let z : 1 ≤ 0 = x.few in omega (arith, z)
+
+-- a list that is longer than it ever was
+never_so_long : (v : View) (a : FarArray) (m : FarMap)
+    → Stands 5 (record fresh { list = 7 ∷ [] }) v a m → ⊥
+never_so_long v a m x = let z : 1 ≤ 0 = x.tallied.longest in omega (arith, z)
+
+-- ---- what is said of an answer
+says_seven : Says (λ n. Number n) (Ok 7) (Number 7)
+says_seven = refl
+
+says_full : Says {X = ℕ} (λ n. Number n) (Err (cannot.Refused (answer.Full 2))) (Refused (answer.Full 2))
+says_full = refl
+
+says_other : SaysWhy (cannot.Refused (answer.Full 2)) Nothing → ⊥
+says_other is = let z : Nothing ≡ Refused (answer.Full 2) = is in cc
+
+-- where memory was wanting there is nothing to say
+says_nothing : (said : FarAnswer) → SaysWhy cannot.NoMemory said → ⊥
+says_nothing said is = is
