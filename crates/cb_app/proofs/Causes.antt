@@ -246,12 +246,16 @@ module _ (c : Config) (ok : IsAccepted c) (v : View) (w : WorldState) (closed : 
             let less = (make_lacks c t.start t.acts t.took t.gave frames loose nodes m.0 d).0 in
             let low = make_counted c t.start t.acts t.took t.gave frames loose nodes m.0 d in
             let all = took_all low in
-            inr (needs x, omega (arith, less, all), record {
-              turn = t;
-              there = in_v;
-              job_is = x;
-              told = reply;
-            })
+            inr (
+              needs x,
+              omega (arith, less, all),
+              record {
+                turn = t;
+                there = in_v;
+                job_is = x;
+                told = reply;
+              },
+            )
 
     cause_worn : r ≡ answer.Worn → IsCause c v w s a answer.Worn
     cause_worn e = (all_counted t in_v reply, by for_object)

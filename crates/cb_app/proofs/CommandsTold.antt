@@ -138,8 +138,11 @@ module _ (c : Config) (ok : IsAccepted c) (last : View) (w : WorldState)
 
       by : (q : FarAnswer) → made_by_all u.turns ≡ objects (after_said s a q)
           → IsSaid c s a q u goes.more → IsTold c last w s a q
-      by (Refused r) now x = (x.0, refused_so c ok last w closed few jobs_are s a r v u goes.more
-          goes.turned goes.history before made now inside.turns inside.wrote x.1)
+      by (Refused r) now x = (
+        x.0,
+        refused_so c ok last w closed few jobs_are s a r v u goes.more
+            goes.turned goes.history before made now inside.turns inside.wrote x.1,
+      )
       by Done now x = plain now Done x
       by (Number n) now x = plain now (Number n) x
       by Nothing now x = plain now Nothing x

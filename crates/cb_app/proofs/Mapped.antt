@@ -1,5 +1,6 @@
 -- What commands leave, by what was said to them and by the runtime that was closed.
-use Rattle.std.proofs.Common.{◌≡◌, ℕ, ◌≤◌, List, [], length, Some, refl, sym, ap, ◌∙◌, subst}
+use Rattle.std.proofs.Common.{◌≡◌, ℕ, ◌≤◌, List, [], length, Some, Result, Ok, Err, IfOk, refl, sym, ap, ◌∙◌, subst}
+use Rattle.cb_member.specs.declared.no_memory.NoMemory.{NoMemory}
 use Rattle.cb_types.specs.Config.{IsAccepted}
 use Rattle.cb_types.specs.declared.config.Config.{Config}
 use Rattle.cb_world.specs.World.{WorldState}
@@ -27,6 +28,7 @@ use Rattle.cb_shared.specs.Sealing.{sealed_record}
 use Rattle.cb_shared.specs.Turning.{Did}
 use Rattle.cb_farmap.specs.Commands.{CommandsGo}
 use Rattle.cb_app.specs.declared.ending.Ending.{Ending}
+use Rattle.cb_app.specs.declared.mapping.MapEnd.{MapEnd}
 use Rattle.cb_app.specs.Mapped.{AreAnswered, IsMapped}
 use Rattle.cb_app.specs.Modes.{IsVerdict}
 use Rattle.cb_app.proofs.CommandsTold.{objects_made, told}
@@ -71,6 +73,18 @@ module _ (c : Config) (ok : IsAccepted c) (asks : List FarCommand) (few : length
         no_entries go_so turns_are entries_are;
   }
 
+-- so behind the call that closed it, unless there was no memory
+pub if_answered : (c : Config) → IsAccepted c → (asks : List FarCommand) → length asks ≤ 20000
+    → (s : Shared) (p q : Pass) → IsRuntimeBegun 1 c s p → (saids : List FarAnswer)
+    → CommandsGo s.config 1 fresh (record_of p) asks saids (record_of q)
+    → (r : Result MapEnd NoMemory) → IfOk r (λ left. left.saids ≡ saids)
+    → IfOk r (λ left. IsClosedBy s q left.world left.seal)
+    → IfOk r (λ left. AreAnswered c asks left.saids left.world left.seal)
+if_answered c ok asks few s p q begun saids go (Ok left) same closed =
+    subst (λ (l : List FarAnswer). AreAnswered c asks l left.world left.seal) (sym same)
+    (answered c ok asks few s p q begun saids go left.world left.seal closed)
+if_answered c ok asks few s p q begun saids go (Err e) same closed = tt
+
 -- the ending that has them
 pub is_mapped : (c : Config) (asks : List FarCommand) (saids : List FarAnswer) (w : WorldState)
     (seal : Seal) → AreAnswered c asks saids w seal → (end : Ending)
@@ -92,6 +106,22 @@ is_mapped c asks saids w seal answered end is = subst (IsMapped c asks saids) (s
   left = refl;
   sealed = refl;
 })
+
+-- so behind the call that leaves it, unless there was no memory
+pub if_mapped : (c : Config) (asks : List FarCommand) (left : MapEnd)
+    → AreAnswered c asks left.saids left.world left.seal → (end : Ending)
+    → (r : Result (List ℕ) NoMemory) → IfOk r (λ said. said ≡ said_text left.saids)
+    → IfOk r (λ _. end ≡ record {
+      config = Some c;
+      answers = [];
+      losses = [];
+      world = Some left.world;
+      seal = Some left.seal;
+    })
+    → IfOk r (λ said. (saids : List FarAnswer) × IsMapped c asks saids end × (said ≡ said_text saids))
+if_mapped c asks left answered end (Ok said) is left_so =
+    (left.saids, is_mapped c asks left.saids left.world left.seal answered end left_so, is)
+if_mapped c asks left answered end (Err e) is left_so = tt
 
 -- the verdict on bytes that spell commands, and on others
 pub map_done : (bytes : List ℕ) (c : Config) (asks : List FarCommand) → Spells bytes c asks

@@ -12,9 +12,7 @@ ghost use Rattle.cb_app.specs.Modes.{IsVerdict};
 use crate::ending::Ending;
 use cb_cli::{Pieces, Verdict};
 use cb_farmap::{FarAnswers, run_commands};
-use cb_map_text::{
-    FarCommand, FarText, TextFault, line_refused_text, read_commands, saids_text,
-};
+use cb_map_text::{FarCommand, FarText, TextFault, line_refused_text, read_commands, saids_text};
 use cb_shared::{Pass, Seal, Shared};
 use cb_types::{Bytes, Config, NoMemory};
 use cb_world::World;
