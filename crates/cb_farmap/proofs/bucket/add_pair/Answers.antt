@@ -1,7 +1,6 @@
-use Rattle.std.proofs.Common.{◌≡◌, sym, ◌∙◌}
+use Rattle.std.proofs.Common.{sym, ◌∙◌}
 use Rattle.cb_shared.specs.Passes.{record_of}
 use Rattle.cb_shared.specs.Recalls.{first_version_of}
-use Rattle.cb_farmap.proofs.PairNumbers.{long_object}
 use Rattle.cb_farmap.proofs.PutEnds.{add_goes_full, add_goes_room, adds_full, adds_room, room_now}
 use Rattle.cb_farmap.proofs.bucket.add_pair.Goals as goal
 

@@ -1,10 +1,10 @@
-use Rattle.std.proofs.Common.{◌≡◌, [], ◌∷◌, length, None, ap, ◌∙◌, subst}
+use Rattle.std.proofs.Common.{◌∷◌, [], None, length, ap, ◌∙◌, subst}
 use Rattle.cb_shared.specs.Passes.{record_of}
 use Rattle.cb_shared.specs.Recalls.{first_version_of}
 use Rattle.cb_farmap.specs.declared.kept.KeptObject.{KeptObject}
 use Rattle.cb_farmap.specs.Calls.{AskRead, Goes}
 use Rattle.cb_farmap.specs.Objects.{bytes_at}
-use Rattle.cb_farmap.proofs.FindIn.{long_bytes, object_there, seeks_none, seeks_some}
+use Rattle.cb_farmap.proofs.FindIn.{long_bytes, seeks_none, seeks_some}
 use Rattle.cb_farmap.proofs.bucket.Bucket.find_in.Goals as goal
 
 pub seek-requires-clause-long : goal.seek-requires-clause-long
