@@ -32,7 +32,8 @@ module _ (es : List Entry) (bs : List Bucket) (key : ℕ) (some : 1 ≤ length b
   pub bucket_there : AllByRecursion (IsBucket es) bs → IsBucket es (bucket_in bs key)
   bucket_there all = all_at (IsBucket es) bs i no_bucket all within
 
-  pairs_get : (l : List Bucket) (n : ℕ) → n < length l → get_or (map (pairs_in es) l) n [] ≡ pairs_in es (get_or l n no_bucket)
+  pairs_get : (l : List Bucket) (n : ℕ) → n < length l → get_or (map (pairs_in es) l) n []
+      ≡ pairs_in es (get_or l n no_bucket)
   pairs_get [] n low = absurd (omega (arith, low))
   pairs_get (b ∷ l) zero low = refl
   pairs_get (b ∷ l) (suc n) low = pairs_get l n (omega (arith, low))
@@ -90,7 +91,8 @@ kept_set : (bs : List Bucket) (i : ℕ) (later : Bucket) → i < length bs
     → kept_of (slice_set bs i later) ≡ front_of bs i ++ (later.kept ++ back_of bs i)
 kept_set [] i later within = absurd (omega (arith, within))
 kept_set (b ∷ bs) zero later within = refl
-kept_set (b ∷ bs) (suc i) later within = ap (λ (l : List KeptObject). b.kept ++ l) (kept_set bs i later (omega (arith, within)))
+kept_set (b ∷ bs) (suc i) later within =
+    ap (λ (l : List KeptObject). b.kept ++ l) (kept_set bs i later (omega (arith, within)))
     ∙ sym (append_assoc b.kept (front_of bs i) (later.kept ++ back_of bs i))
 
 pub all_left : {A : Type 0} (P : A → Type 0) (xs ys : List A) → AllByRecursion P (xs ++ ys) → AllByRecursion P xs

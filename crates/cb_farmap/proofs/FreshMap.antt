@@ -58,7 +58,10 @@ fresh_map v n some = (
     some = (let l = length-replicate {A = Bucket} n no_bucket in omega (arith, l, some));
     each = each_fresh v.written n;
     apart = subst AreApart (sym (no_objects n)) apart_none;
-    keys = record { home = at_home v.written (length (pairs_of v.written (none n))) 0 n; single = all_single v.written n };
+    keys = record {
+      home = at_home v.written (length (pairs_of v.written (none n))) 0 n;
+      single = all_single v.written n;
+    };
     counts = sym (no_count n 0);
     len_is = sym (ap finite.len (no_pairs v.written n) ∙ finite.len-empty nat_cmp ℕ);
   },

@@ -284,16 +284,19 @@ module _ (c : Config) (first : ℕ) (v w : View) (a : FarMap) (of : IsMapOf v a)
       puts = put_plan v.written b (key, x)
 
       put_there : Becomes v.written b later (put_in v.written b (key, x)) w.written
-          → Takes (length a.buckets) (key % length a.buckets) key (Some x) (pairs_in v.written b) (put_in v.written b (key, x))
+          → Takes (length a.buckets) (key % length a.buckets) key (Some x) (pairs_in v.written b)
+          (put_in v.written b (key, x))
       put_there becomes = put_takes (length a.buckets) (key % length a.buckets) (pairs_in v.written b) key
           (home v a of key) (single v a of key) x refl
 
-      put_map : (becomes : Becomes v.written b later (put_in v.written b (key, x)) w.written) (len : ℕ) (stop : Option Stop)
+      put_map : (becomes : Becomes v.written b later (put_in v.written b (key, x)) w.written) (len : ℕ)
+          (stop : Option Stop)
           → map_of w (record { buckets = with_bucket a.buckets key later; len = len; stop = stop })
           ≡ finite.insert (map_of v a) key x
       put_map becomes len stop = ap map_of_pairs (pairs_now v a of key w (Some x) later
           (put_in v.written b (key, x)) (put_there becomes) becomes)
-          ∙ map_inserted (pairs_of v.written a.buckets) of.keys (some_all v a of key) key x (put_in v.written b (key, x))
+          ∙ map_inserted (pairs_of v.written a.buckets) of.keys (some_all v a of key) key x
+          (put_in v.written b (key, x))
           (takes_all v a of key w (Some x) later (put_in v.written b (key, x)) (put_there becomes) becomes)
 
       put_count : Becomes v.written b later (put_in v.written b (key, x)) w.written
@@ -308,7 +311,8 @@ module _ (c : Config) (first : ℕ) (v w : View) (a : FarMap) (of : IsMapOf v a)
       put_is : (o : Option ℕ) → o ≡ value_of v.written b key
           → Becomes v.written b later (put_in v.written b (key, x)) w.written
           → IsMapOf w (set_to (a.len + added_by (Ok o)))
-      put_is o is becomes = map_now v a of key w (Some x) later (put_in v.written b (key, x)) (put_there becomes) becomes
+      put_is o is becomes = map_now v a of key w (Some x) later (put_in v.written b (key, x))
+          (put_there becomes) becomes
           (a.len + added_by (Ok o)) a.stop
           (ap (λ (q : Option ℕ). a.len + added_by (Ok q) + b.count) is ∙ put_count becomes)
           ((λ i. of.len_is i + added_by (Ok ((is ∙ value_got v a of key) i)))
@@ -332,7 +336,8 @@ module _ (c : Config) (first : ℕ) (v w : View) (a : FarMap) (of : IsMapOf v a)
       pub put_stays : (r : Result (Option ℕ) Cannot) → OnErr r (now ≡ a.buckets) → Goes c first puts (trouble r) v w
           → OnErr r (StaysMap (trouble r) v a w (left_with (a.len + added_by r) (trouble r)))
       put_stays (Ok o) kept goes = tt
-      put_stays (Err e) kept goes = err_stays puts e (a.len + 0) (let z : a.len + 0 ≡ a.len = omega arith in z) kept goes
+      put_stays (Err e) kept goes = err_stays puts e (a.len + 0)
+          (let z : a.len + 0 ≡ a.len = omega arith in z) kept goes
 
       pub put_keeps : (r : Result (Option ℕ) Cannot) → IfOk r (λ o. o ≡ value_of v.written b key)
           → OnOk r (Becomes v.written b later (put_in v.written b (key, x)) w.written)
@@ -356,9 +361,11 @@ module _ (c : Config) (first : ℕ) (v w : View) (a : FarMap) (of : IsMapOf v a)
         (home v a of key) (single v a of key)
 
     removed_all : (becomes : Becomes v.written b later (dropped_in v.written b key) w.written)
-        → map_of_pairs (slice_set (pairs_of v.written a.buckets) (key % length (pairs_of v.written a.buckets)) (dropped_in v.written b key))
+        → map_of_pairs (slice_set (pairs_of v.written a.buckets) (key % length (pairs_of v.written a.buckets))
+        (dropped_in v.written b key))
         ≡ finite.remove (map_of v a) key
-    removed_all becomes = map_removed (pairs_of v.written a.buckets) of.keys (some_all v a of key) key (dropped_in v.written b key)
+    removed_all becomes = map_removed (pairs_of v.written a.buckets) of.keys (some_all v a of key) key
+        (dropped_in v.written b key)
         (takes_all v a of key w None later (dropped_in v.written b key) (drop_there becomes) becomes)
 
     drop_count : Becomes v.written b later (dropped_in v.written b key) w.written
@@ -400,7 +407,8 @@ module _ (c : Config) (first : ℕ) (v w : View) (a : FarMap) (of : IsMapOf v a)
         → IfOk r (λ o. IsDropped key o v a w (left_with (a.len - removed_by r) (trouble r)))
     drop_ok (Ok o) is becomes = subst (IsDropped key o v a w) (sym (done (a.len - removed_by (Ok o)))) (record {
       value = is ∙ value_got v a of key;
-      map = ap map_of_pairs (pairs_now v a of key w None later (dropped_in v.written b key) (drop_there becomes) becomes)
+      map = ap map_of_pairs (pairs_now v a of key w None later (dropped_in v.written b key)
+          (drop_there becomes) becomes)
           ∙ removed_all becomes;
       bucket = later;
       becomes = becomes;
@@ -411,7 +419,8 @@ module _ (c : Config) (first : ℕ) (v w : View) (a : FarMap) (of : IsMapOf v a)
     pub drop_stays : (r : Result (Option ℕ) Cannot) → OnErr r (now ≡ a.buckets) → Goes c first drops (trouble r) v w
         → OnErr r (StaysMap (trouble r) v a w (left_with (a.len - removed_by r) (trouble r)))
     drop_stays (Ok o) kept goes = tt
-    drop_stays (Err e) kept goes = err_stays drops e (a.len - 0) (let z : a.len - 0 ≡ a.len = omega arith in z) kept goes
+    drop_stays (Err e) kept goes = err_stays drops e (a.len - 0)
+        (let z : a.len - 0 ≡ a.len = omega arith in z) kept goes
 
     pub drop_keeps : (r : Result (Option ℕ) Cannot) → IfOk r (λ o. o ≡ value_of v.written b key)
         → OnOk r (Becomes v.written b later (dropped_in v.written b key) w.written)

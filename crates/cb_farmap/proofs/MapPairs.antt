@@ -62,14 +62,16 @@ module _ (many at : ℕ) (pairs : List Pair) (key : ℕ) (home : BelongTo many a
 abbrev FarPairs : Type 0
 FarPairs = finite.FinMap nat_cmp ℕ
 
-pub put_len : (m : FarPairs) (key x : ℕ) → finite.len (finite.insert m key x) ≡ finite.len m + added_by (Ok (finite.get m key))
+pub put_len : (m : FarPairs) (key x : ℕ) → finite.len (finite.insert m key x)
+    ≡ finite.len m + added_by (Ok (finite.get m key))
 put_len m key x = by (finite.get m key) refl
   where
     by : (o : Option ℕ) → finite.get m key ≡ o → finite.len (finite.insert m key x) ≡ finite.len m + added_by (Ok o)
     by None is = len_new m key x is
     by (Some old) is = len_old m key x old is ∙ (let z : finite.len m ≡ finite.len m + 0 = omega arith in z)
 
-pub drop_len : (m : FarPairs) (key : ℕ) → finite.len (finite.remove m key) + removed_by (Ok (finite.get m key)) ≡ finite.len m
+pub drop_len : (m : FarPairs) (key : ℕ) → finite.len (finite.remove m key) + removed_by (Ok (finite.get m key))
+    ≡ finite.len m
 drop_len m key = by (finite.get m key) refl
   where
     by : (o : Option ℕ) → finite.get m key ≡ o → finite.len (finite.remove m key) + removed_by (Ok o) ≡ finite.len m

@@ -44,7 +44,7 @@ foreign h found = cannot.Foreign (record { n = h }) 1 found
 module _ (c : Config) (r : View) where
   -- a pass of a part of the share, so that others may write the object
   abbrev v : View
-  v = record r { share = 40; fresh = []; written = made ∷ []; seen = []; own = [] }
+  v = record r { share = 40; ever = 0; fresh = []; written = made ∷ []; seen = []; own = [] }
 
   others : IsAlone 5 v → ⊥
   others alone = ⊎_elim (λ (e : 40 ≡ 64). omega (arith, e)) (λ (n : ⊥). n) alone
