@@ -1,11 +1,9 @@
 -- What is said to each command, by what the call on its value was answered and what the look behind it
 -- told of the record.
-use Rattle.std.proofs.Common.{◌≡◌, ◌⊎◌, ℕ, ◌+◌, ◌<◌, ◌≤◌, false, List, [], ◌∷◌, Option, None, Some, Result, Ok, Err, IfOk, OnErr, refl, sym, ap, ◌∙◌, subst, inl, inr, arith}
-use Rattle.std.specs.FinMap as finite
+use Rattle.std.proofs.Common.{◌≡◌, ℕ, ◌+◌, ◌<◌, ◌≤◌, List, [], Option, Result, Ok, Err, IfOk, OnErr, sym, ap, ◌∙◌, subst, arith}
 use Rattle.cb_member.specs.declared.no_memory.NoMemory.{NoMemory as Want}
 use Rattle.cb_types.specs.declared.config.Config.{Config}
 use Rattle.cb_rule.specs.declared.view.View.{View}
-use Rattle.cb_rule.specs.Lists.{Has}
 use Rattle.cb_shared.specs.declared.pass.Pass.{Pass}
 use Rattle.cb_shared.specs.declared.runtime.Shared.{Shared}
 use Rattle.cb_shared.specs.Passes.{IsPassOf, record_of}
@@ -20,8 +18,8 @@ use Rattle.cb_farmap.specs.declared.kept.Cannot.{Cannot}
 use Rattle.cb_farmap.specs.declared.map.FarMap.{FarMap}
 use Rattle.cb_farmap.specs.Arrays.{IsGot, IsPopped, IsPushed, IsSet, Keeps, Stays, get_plan, pop_plan, push_plan, set_plan}
 use Rattle.cb_farmap.specs.Buckets.{bucket_in}
-use Rattle.cb_farmap.specs.Calls.{Ask, Goes, trouble}
-use Rattle.cb_farmap.specs.Changes.{GoesOn, IsCalm}
+use Rattle.cb_farmap.specs.Calls.{Ask, trouble}
+use Rattle.cb_farmap.specs.Changes.{IsCalm}
 use Rattle.cb_farmap.specs.Commands.{CommandGoes, HasOneHistory}
 use Rattle.cb_farmap.specs.MapChanges.{IsDropped, IsLooked, IsPut, KeepsMap, StaysMap}
 use Rattle.cb_farmap.specs.Plans.{drop_plan, look_plan, put_plan}

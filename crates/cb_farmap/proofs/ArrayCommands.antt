@@ -1,40 +1,35 @@
 -- What a command on the array comes to: what is said of it, and what stands behind it.
-use Rattle.std.proofs.Common.{◌≡◌, ◌≢◌, ◌⊎◌, ℕ, zero, suc, ◌+◌, ◌-◌, ◌*◌, ◌/◌, ◌%◌, ◌^◌, ◌<◌, ◌≤◌, max, Bool, true, false, if◌then◌else◌, List, [], ◌∷◌, ◌++◌, length, map, take, slice_set, slice_index, Option, None, Some, Result, Ok, Err, IfOk, OnErr, refl, sym, ap, ◌∙◌, subst, inl, inr, arith}
-use Rattle.std.specs.Prelude.{nat_lt, ◌==◌, slice_get}
-use Rattle.std.specs.List.{AllByRecursion, flat_map}
-use Rattle.std.proofs.lemmas.Bool.{lt-ltb, le-ltb, eq-eqb, ne_eqb}
-use Rattle.std.proofs.lemmas.List.{length-set, length-take, length_push}
+use Rattle.std.proofs.Common.{◌≡◌, ◌≢◌, ◌⊎◌, ℕ, ◌+◌, ◌-◌, ◌/◌, ◌<◌, ◌≤◌, List, [], length, map, Option, None, Some, Result, Ok, Err, IfOk, OnErr, refl, sym, ap, ◌∙◌, subst, inl, inr, arith}
+use Rattle.std.specs.List.{flat_map}
+use Rattle.std.proofs.lemmas.List.{length-take}
 use Rattle.cb_member.specs.declared.no_memory.NoMemory.{NoMemory as Want}
 use Rattle.cb_types.specs.declared.config.Config.{Config}
 use Rattle.cb_types.specs.declared.reply.Reply.{Reply}
 use Rattle.cb_world.specs.declared.entry.Entry.{Entry}
 use Rattle.cb_rule.specs.declared.view.View.{View}
-use Rattle.cb_rule.specs.Lists.{Each, Has}
-use Rattle.cb_map_text.specs.Plain.{Plain, after_said, calls_something, found_said, needs_object, objects_for, plain_after, plain_said}
-use Rattle.cb_map_text.specs.Tallied.{IsTallied}
+use Rattle.cb_rule.specs.Lists.{Has}
+use Rattle.cb_map_text.specs.Plain.{Plain, after_said, objects_for, plain_after, plain_said}
 use Rattle.cb_map_text.specs.declared.command.FarAnswer.{FarAnswer}
-use Rattle.cb_map_text.specs.declared.command.FarAnswer.TheVariants.{Done, Number, Nothing, Outside, Refused}
+use Rattle.cb_map_text.specs.declared.command.FarAnswer.TheVariants.{Refused}
 use Rattle.cb_map_text.specs.declared.command.FarCommand.{FarCommand}
-use Rattle.cb_map_text.specs.declared.command.FarCommand.TheVariants.{Push, Set, Get, Pop}
 use Rattle.cb_farmap.specs.declared.array.FarArray.{FarArray}
 use Rattle.cb_farmap.specs.declared.kept.Cannot.{Cannot}
 use Rattle.cb_farmap.specs.declared.kept.Cannot.TheVariants as cannot
 use Rattle.cb_farmap.specs.declared.kept.KeptObject.{KeptObject}
 use Rattle.cb_farmap.specs.declared.map.FarMap.{FarMap}
-use Rattle.cb_farmap.specs.Arrays.{IsArrayOf, IsCalmArray, IsGot, IsPopped, IsPushed, IsSet, Keeps, Stays, but_last, get_plan, is_full, last_of, list_of, make_plan, pop_plan, push_plan, set_plan, told_so, with_written}
-use Rattle.cb_farmap.specs.Calls.{Answers, Ask, AskMake, AskRead, AskWrite, Goes, trouble}
-use Rattle.cb_farmap.specs.Changes.{AreSole, GoesOn, IsCalm, with_next}
+use Rattle.cb_farmap.specs.Arrays.{IsCalmArray, Keeps, Stays, list_of}
+use Rattle.cb_farmap.specs.Calls.{Answers, Ask, AskWrite, Goes, trouble}
+use Rattle.cb_farmap.specs.Changes.{AreSole, IsCalm}
 use Rattle.cb_farmap.specs.Commands.{CommandGoes, HasOneHistory, refusal_in}
-use Rattle.cb_farmap.specs.Maps.{IsMapOf, kept_of, map_of}
+use Rattle.cb_farmap.specs.Maps.{kept_of}
 use Rattle.cb_farmap.specs.Objects.{IsObject, blank, numbers_at, object_at}
-use Rattle.cb_farmap.specs.Stands.{AreOther, IsArrayNow, IsMapNow, IsRecordAfter, Says, Stands}
+use Rattle.cb_farmap.specs.Stands.{AreOther, IsArrayNow, IsMapNow, Says, Stands}
 use Rattle.cb_farmap.specs.Stops.{stop_behind}
 use Rattle.cb_farmap.proofs.Arrays.{all_long}
-use Rattle.cb_farmap.proofs.Commanding.{AreNow, SaidBy, ends_so, said_by}
-use Rattle.cb_farmap.proofs.Commanding.SaidBy.{ill, well}
+use Rattle.cb_farmap.proofs.Commanding.{AreNow, ends_so, said_by}
 use Rattle.cb_farmap.proofs.BucketList.{all_objects}
 use Rattle.cb_farmap.proofs.MapEnds.{map_on, map_stays}
-use Rattle.cb_farmap.proofs.PlanAdds.{IsPlanFor, PlanAdds, adds_so}
+use Rattle.cb_farmap.proofs.PlanAdds.{IsPlanFor, adds_so}
 use Rattle.cb_farmap.proofs.Standing.{all_has, all_loose, get_has, goes_on_so, has_wrote, object_low, others_sole}
 
 -- another list, and the map as it was

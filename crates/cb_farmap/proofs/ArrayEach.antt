@@ -1,17 +1,16 @@
 -- What each command on the array comes to.
-use Rattle.std.proofs.Common.{◌≡◌, ◌≢◌, ◌⊎◌, ℕ, zero, suc, ◌+◌, ◌-◌, ◌*◌, ◌/◌, ◌%◌, ◌<◌, ◌≤◌, max, Bool, true, false, true≢false, if◌then◌else◌, List, [], ◌∷◌, ◌++◌, length, get_or, take, slice_set, slice_index, Option, None, Some, Result, Ok, Err, IfOk, OnErr, refl, sym, ap, ◌∙◌, subst, inl, inr, arith}
+use Rattle.std.proofs.Common.{◌≡◌, ◌≢◌, ◌⊎◌, ℕ, zero, suc, ◌+◌, ◌-◌, ◌*◌, ◌/◌, ◌<◌, ◌≤◌, max, Bool, true, false, true≢false, if◌then◌else◌, List, [], ◌∷◌, ◌++◌, length, take, slice_set, slice_index, Option, None, Some, Result, Ok, Err, IfOk, OnErr, refl, sym, ap, ◌∙◌, subst, inl, inr, arith}
 use Rattle.std.specs.Prelude.{nat_lt, ◌==◌, slice_get}
-use Rattle.std.proofs.lemmas.Bool.{cases_lt, eq-eqb, eqb-true, le-ltb, lt-ltb, ltb-false, ltb-true}
+use Rattle.std.proofs.lemmas.Bool.{cases_lt, eq-eqb, eqb-true, le-ltb, lt-ltb}
 use Rattle.std.proofs.lemmas.List.{length-set, length-take, length_push}
 use Rattle.cb_member.specs.declared.no_memory.NoMemory.{NoMemory as Want}
 use Rattle.cb_types.specs.declared.config.Config.{Config}
-use Rattle.cb_types.specs.declared.reply.Reply.{Reply}
 use Rattle.cb_world.specs.declared.entry.Entry.{Entry}
 use Rattle.cb_rule.specs.declared.view.View.{View}
 use Rattle.cb_rule.specs.Lists.{Has}
-use Rattle.cb_map_text.specs.Plain.{Plain, after_said, calls_something, found_said, needs_object, objects_for, plain_after, plain_said, with_list, within_said}
+use Rattle.cb_map_text.specs.Plain.{Plain, after_said, found_said, needs_object, objects_for, plain_after, plain_said, with_list, within_said}
 use Rattle.cb_map_text.specs.declared.command.FarAnswer.{FarAnswer}
-use Rattle.cb_map_text.specs.declared.command.FarAnswer.TheVariants.{Done, Number, Nothing, Outside, Refused}
+use Rattle.cb_map_text.specs.declared.command.FarAnswer.TheVariants.{Done, Number, Outside, Refused}
 use Rattle.cb_map_text.specs.declared.command.FarCommand.{FarCommand}
 use Rattle.cb_map_text.specs.declared.command.FarCommand.TheVariants.{Push, Set, Get, Pop}
 use Rattle.cb_farmap.specs.declared.array.FarArray.{FarArray}
@@ -19,7 +18,7 @@ use Rattle.cb_farmap.specs.declared.kept.Cannot.{Cannot}
 use Rattle.cb_farmap.specs.declared.kept.Cannot.TheVariants as cannot
 use Rattle.cb_farmap.specs.declared.kept.KeptObject.{KeptObject}
 use Rattle.cb_farmap.specs.declared.map.FarMap.{FarMap}
-use Rattle.cb_farmap.specs.Arrays.{IsGot, IsPopped, IsPushed, IsSet, Keeps, Stays, bytes_with, get_plan, is_full, make_plan, pop_plan, push_plan, set_plan, with_written}
+use Rattle.cb_farmap.specs.Arrays.{IsGot, IsPopped, IsPushed, IsSet, Keeps, Stays, bytes_with, get_plan, is_full, make_plan, pop_plan, push_plan, set_plan}
 use Rattle.cb_farmap.specs.Calls.{Ask, AskMake, AskRead, AskWrite, trouble}
 use Rattle.cb_farmap.specs.Changes.{with_next}
 use Rattle.cb_farmap.specs.Commands.{CommandGoes, HasOneHistory, refusal_in}

@@ -1,11 +1,10 @@
 -- What a command comes to whose calls went as was told, on whichever value.
-use Rattle.std.proofs.Common.{◌≡◌, ◌⊎◌, ℕ, ◌+◌, ◌-◌, ◌^◌, ◌<◌, ◌≤◌, List, [], ◌∷◌, ◌++◌, length, Option, None, Some, Result, Ok, Err, IfOk, refl, sym, ap, ◌∙◌, subst, inl, inr, arith}
-use Rattle.cb_member.specs.declared.no_memory.NoMemory.{NoMemory as Want}
+use Rattle.std.proofs.Common.{◌≡◌, ℕ, ◌+◌, ◌-◌, ◌^◌, ◌<◌, ◌≤◌, List, [], ◌∷◌, length, Option, None, Some, Result, Ok, Err, IfOk, refl, sym, ap, ◌∙◌, subst, arith}
 use Rattle.cb_types.specs.declared.config.Config.{Config}
 use Rattle.cb_types.specs.declared.reply.Reply.{Reply}
 use Rattle.cb_world.specs.declared.entry.Entry.{Entry}
 use Rattle.cb_rule.specs.declared.view.View.{View}
-use Rattle.cb_rule.specs.Lists.{Each, Has}
+use Rattle.cb_rule.specs.Lists.{Each}
 use Rattle.cb_map_text.specs.Plain.{Plain, after_said, objects, plain_after, plain_said}
 use Rattle.cb_map_text.specs.Tallied.{IsTallied}
 use Rattle.cb_map_text.proofs.PublicLaws.{stays_tallied}
@@ -15,15 +14,13 @@ use Rattle.cb_map_text.specs.declared.command.FarCommand.{FarCommand}
 use Rattle.cb_farmap.specs.declared.array.FarArray.{FarArray}
 use Rattle.cb_farmap.specs.declared.kept.Cannot.{Cannot}
 use Rattle.cb_farmap.specs.declared.kept.Cannot.TheVariants as cannot
-use Rattle.cb_farmap.specs.declared.kept.KeptObject.{KeptObject}
 use Rattle.cb_farmap.specs.declared.map.FarMap.{FarMap}
-use Rattle.cb_farmap.specs.Calls.{Ask, AskWrite, Goes, trouble}
-use Rattle.cb_farmap.specs.Changes.{AreSole, GoesOn, IsCalm}
+use Rattle.cb_farmap.specs.Calls.{Ask, Goes, trouble}
+use Rattle.cb_farmap.specs.Changes.{GoesOn, IsCalm}
 use Rattle.cb_farmap.specs.Commands.{CommandGoes, HasOneHistory, made_by_all, refusal_in}
 use Rattle.cb_farmap.specs.Maps.{kept_of}
-use Rattle.cb_farmap.specs.Objects.{IsObject}
 use Rattle.cb_farmap.specs.Stands.{AreOther, IsArrayNow, IsMapNow, IsRecordAfter, Says, Stands}
-use Rattle.cb_farmap.proofs.PlanAdds.{IsPlanFor, after_is, low_after, all_done, all_refused, refused_goes, said_goes, written_same}
+use Rattle.cb_farmap.proofs.PlanAdds.{IsPlanFor, after_is, low_after, refused_goes, said_goes, written_same}
 
 -- what is said of the calls of a command: what the list and the map say, or why one was refused
 pub data SaidBy (s : Plain) (ask : FarCommand) (t : Option Cannot) (said : FarAnswer) : Type 0 where

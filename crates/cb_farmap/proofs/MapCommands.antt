@@ -1,45 +1,39 @@
 -- What a command on the map comes to: what is said of it, and what stands behind it.
-use Rattle.std.proofs.Common.{◌≡◌, ◌≢◌, ◌⊎◌, ℕ, zero, suc, ◌+◌, ◌-◌, ◌*◌, ◌/◌, ◌%◌, ◌<◌, ◌≤◌, max, Bool, true, false, true≢false, not, ◌&&◌, if◌then◌else◌, List, [], ◌∷◌, ◌++◌, length, get_or, map, take, slice_set, slice_index, Option, None, Some, Result, Ok, Err, IfOk, OnErr, refl, sym, ap, ◌∙◌, subst, inl, inr, arith}
-use Rattle.std.specs.Prelude.{is_some, nat_lt, ◌==◌}
-use Rattle.std.specs.List.{AllByRecursion, flat_map}
-use Rattle.std.specs.FinMap as finite
-use Rattle.std.proofs.lemmas.Bool.{cases_lt, eq-eqb, eqb-true, lt-ltb}
-use Rattle.std.proofs.lemmas.List.{length-append, length-map, length-set}
+use Rattle.std.proofs.Common.{◌≡◌, ◌≢◌, ◌⊎◌, ℕ, zero, suc, ◌+◌, ◌-◌, ◌/◌, ◌<◌, ◌≤◌, true, false, true≢false, List, [], ◌∷◌, ◌++◌, length, map, slice_set, Option, None, Some, Result, Ok, Err, IfOk, OnErr, refl, sym, ap, ◌∙◌, subst, inl, inr, arith}
+use Rattle.std.specs.List.{AllByRecursion}
+use Rattle.std.proofs.lemmas.Bool.{cases_lt}
+use Rattle.std.proofs.lemmas.List.{length-append, length-set}
 use Rattle.cb_member.specs.declared.no_memory.NoMemory.{NoMemory as Want}
 use Rattle.cb_types.specs.declared.config.Config.{Config}
 use Rattle.cb_types.specs.declared.reply.Reply.{Reply}
 use Rattle.cb_world.specs.declared.entry.Entry.{Entry}
 use Rattle.cb_rule.specs.declared.view.View.{View}
 use Rattle.cb_rule.specs.Lists.{Each, Has}
-use Rattle.cb_map_text.specs.Plain.{Plain, after_said, bucket_of, calls_something, count_at, found_said, has_key, most_at, needs_object, objects_for, plain_after, plain_said, with_pairs}
+use Rattle.cb_map_text.specs.Plain.{Plain, after_said, objects_for, plain_after, plain_said}
 use Rattle.cb_map_text.specs.declared.command.FarAnswer.{FarAnswer}
 use Rattle.cb_map_text.specs.declared.command.FarCommand.{FarCommand}
-use Rattle.cb_map_text.specs.declared.command.FarCommand.TheVariants.{Put, Look, Drop}
 use Rattle.cb_farmap.specs.declared.array.FarArray.{FarArray}
 use Rattle.cb_farmap.specs.declared.bucket.Bucket.{Bucket}
 use Rattle.cb_farmap.specs.declared.kept.Cannot.{Cannot}
 use Rattle.cb_farmap.specs.declared.kept.Cannot.TheVariants as cannot
 use Rattle.cb_farmap.specs.declared.kept.KeptObject.{KeptObject}
 use Rattle.cb_farmap.specs.declared.map.FarMap.{FarMap}
-use Rattle.cb_farmap.specs.Arrays.{IsArrayOf, list_of}
-use Rattle.cb_farmap.specs.BucketChanges.{Becomes, ChangesOne, WritesPair, dropped_in, put_in}
-use Rattle.cb_farmap.specs.Buckets.{IsBucket, bucket_in, no_bucket, pairs_in, with_bucket}
+use Rattle.cb_farmap.specs.BucketChanges.{ChangesOne}
 use Rattle.cb_farmap.specs.Calls.{Answers, Ask, AskMake, AskRead, AskWrite, Goes, trouble}
-use Rattle.cb_farmap.specs.Changes.{AreSole, GoesOn, IsCalm, Makes, with_next}
+use Rattle.cb_farmap.specs.Changes.{AreSole, IsCalm, with_next}
 use Rattle.cb_farmap.specs.Commands.{CommandGoes, HasOneHistory, HasWritten, refusal_in}
-use Rattle.cb_farmap.specs.MapChanges.{IsDropped, IsLooked, IsPut, KeepsMap, StaysMap}
-use Rattle.cb_farmap.specs.Maps.{IsCalmMap, IsMapOf, kept_of, map_of}
+use Rattle.cb_farmap.specs.MapChanges.{KeepsMap, StaysMap}
+use Rattle.cb_farmap.specs.Maps.{IsCalmMap, kept_of, map_of}
 use Rattle.cb_farmap.specs.Objects.{IsObject, blank, object_at}
-use Rattle.cb_farmap.specs.Pairs.{Pair, place_of}
-use Rattle.cb_farmap.specs.Stands.{AreOther, IsArrayNow, IsMapNow, IsRecordAfter, Says, Stands}
+use Rattle.cb_farmap.specs.Stands.{AreOther, IsArrayNow, Says, Stands}
 use Rattle.cb_farmap.specs.Stops.{stop_behind}
 use Rattle.cb_farmap.proofs.ArrayEach.{is_write}
 use Rattle.cb_farmap.proofs.Arrays.{array_on, list_on}
 use Rattle.cb_farmap.proofs.BucketList.{all_both, all_left, all_right}
-use Rattle.cb_farmap.proofs.Commanding.{AreNow, SaidBy, ends_so, said_by}
+use Rattle.cb_farmap.proofs.Commanding.{AreNow, ends_so, said_by}
 use Rattle.cb_farmap.proofs.Lists.{all_more, all_set, each_there}
-use Rattle.cb_farmap.proofs.PlanAdds.{IsEntryIn, IsOfRecord, IsPlanFor, IsShort, PlanAdds, adds_so, all_done, changes_in, makes_in, short_few, some_make}
-use Rattle.cb_farmap.proofs.Standing.{all_from, all_has, all_loose, get_has, get_map, goes_on_so, has_wrote, map_set, object_low, others_sole}
+use Rattle.cb_farmap.proofs.PlanAdds.{IsEntryIn, IsOfRecord, IsPlanFor, IsShort, PlanAdds, adds_so, makes_in, short_few, some_make}
+use Rattle.cb_farmap.proofs.Standing.{all_has, all_loose, get_has, goes_on_so, has_wrote, others_sole}
 
 -- ---- all objects of buckets, where one bucket is another
 pub all_flat_set : (P : KeptObject → Type 0) (bs : List Bucket) (i : ℕ) (later : Bucket)

@@ -1,5 +1,5 @@
 -- What each command on the map comes to.
-use Rattle.std.proofs.Common.{◌≡◌, ◌≢◌, ◌⊎◌, ℕ, zero, suc, ◌+◌, ◌-◌, ◌*◌, ◌/◌, ◌%◌, ◌<◌, ◌≤◌, max, Bool, true, false, true≢false, not, ◌&&◌, if◌then◌else◌, List, [], ◌∷◌, ◌++◌, length, get_or, map, take, slice_set, slice_index, Option, None, Some, Result, Ok, Err, IfOk, OnErr, refl, sym, ap, ◌∙◌, subst, inl, inr, arith}
+use Rattle.std.proofs.Common.{◌≡◌, ◌≢◌, ◌⊎◌, ℕ, zero, suc, ◌+◌, ◌-◌, ◌*◌, ◌/◌, ◌%◌, ◌<◌, ◌≤◌, max, Bool, true, false, true≢false, not, ◌&&◌, if◌then◌else◌, List, [], ◌∷◌, ◌++◌, length, get_or, map, take, slice_set, Option, None, Some, Result, Ok, Err, IfOk, OnErr, refl, sym, ap, ◌∙◌, subst, inl, inr, arith}
 use Rattle.std.specs.Prelude.{is_some, nat_lt, ◌==◌}
 use Rattle.std.specs.List.{AllByRecursion}
 use Rattle.std.specs.FinMap as finite
@@ -7,43 +7,36 @@ use Rattle.std.proofs.lemmas.Bool.{cases_lt, eq-eqb, eqb-true, lt-ltb}
 use Rattle.std.proofs.lemmas.List.{append-nil, length-map, length-set, length-take, length_push}
 use Rattle.cb_member.specs.declared.no_memory.NoMemory.{NoMemory as Want}
 use Rattle.cb_types.specs.declared.config.Config.{Config}
-use Rattle.cb_types.specs.declared.reply.Reply.{Reply}
-use Rattle.cb_world.specs.declared.entry.Entry.{Entry}
 use Rattle.cb_rule.specs.declared.view.View.{View}
 use Rattle.cb_rule.specs.Lists.{Each, Has}
-use Rattle.cb_map_text.specs.Plain.{Plain, after_said, bucket_of as bucket_number, calls_something, count_at, found_said, has_key, most_at, needs_object, objects_for, plain_after, plain_said, with_pairs}
+use Rattle.cb_map_text.specs.Plain.{Plain, after_said, bucket_of as bucket_number, count_at, found_said, has_key, most_at, needs_object, objects_for, plain_after, plain_said}
 use Rattle.cb_map_text.specs.declared.command.FarAnswer.{FarAnswer}
 use Rattle.cb_map_text.specs.declared.command.FarCommand.{FarCommand}
 use Rattle.cb_map_text.specs.declared.command.FarCommand.TheVariants.{Put, Look, Drop}
 use Rattle.cb_farmap.specs.declared.array.FarArray.{FarArray}
 use Rattle.cb_farmap.specs.declared.bucket.Bucket.{Bucket}
 use Rattle.cb_farmap.specs.declared.kept.Cannot.{Cannot}
-use Rattle.cb_farmap.specs.declared.kept.Cannot.TheVariants as cannot
 use Rattle.cb_farmap.specs.declared.kept.KeptObject.{KeptObject}
 use Rattle.cb_farmap.specs.declared.map.FarMap.{FarMap}
-use Rattle.cb_farmap.specs.BucketChanges.{Becomes, dropped_at, dropped_in, put_at, put_in, value_in, value_of}
+use Rattle.cb_farmap.specs.BucketChanges.{Becomes, dropped_at, dropped_in, put_at, put_in, value_in}
 use Rattle.cb_farmap.specs.Buckets.{IsBucket, all_pairs, bucket_in, no_bucket, pairs_in, with_bucket}
 use Rattle.cb_farmap.specs.Calls.{Answers, Ask, AskMake, AskRead, AskWrite, Goes, trouble}
-use Rattle.cb_farmap.specs.Changes.{AreSole, IsCalm, with_next}
-use Rattle.cb_farmap.specs.Commands.{CommandGoes, HasOneHistory, HasWritten, refusal_in}
+use Rattle.cb_farmap.specs.Commands.{CommandGoes, HasOneHistory, refusal_in}
 use Rattle.cb_farmap.specs.MapChanges.{IsDropped, IsLooked, IsPut, KeepsMap, StaysMap}
-use Rattle.cb_farmap.specs.Maps.{IsCalmMap, IsMapOf, kept_of, map_of}
+use Rattle.cb_farmap.specs.Maps.{kept_of, map_of}
 use Rattle.cb_farmap.specs.Objects.{IsObject, blank, object_at}
 use Rattle.cb_farmap.specs.Pairs.{Pair, pair_of, place_of}
 use Rattle.cb_farmap.specs.PairBytes.{object_bytes}
-use Rattle.cb_farmap.specs.Plans.{add_ask, drop_asks, drop_plan, is_filled, last_asks, look_plan, move_asks, objects_to, put_ask, put_plan, reads_to, write_at}
-use Rattle.cb_farmap.specs.Stands.{AreOther, IsArrayNow, IsMapNow, Says, Stands}
-use Rattle.cb_farmap.specs.Stops.{stop_behind}
-use Rattle.cb_farmap.proofs.ArrayEach.{is_write, no_write_make, no_write_read, one_write}
-use Rattle.cb_farmap.proofs.Arrays.{array_on, list_on}
+use Rattle.cb_farmap.specs.Plans.{drop_asks, drop_plan, is_filled, last_asks, look_plan, move_asks, objects_to, put_ask, put_plan, reads_to, write_at}
+use Rattle.cb_farmap.specs.Stands.{AreOther, Says, Stands}
+use Rattle.cb_farmap.proofs.ArrayEach.{is_write, no_write_make, one_write}
 use Rattle.cb_farmap.proofs.FindIn.{long_in}
-use Rattle.cb_farmap.proofs.BucketList.{all_objects, all_own}
-use Rattle.cb_farmap.proofs.Commanding.{AreNow, SaidBy, ends_so, said_by}
+use Rattle.cb_farmap.proofs.BucketList.{all_own}
 use Rattle.cb_farmap.proofs.MapCommands.{AfterMap, all_changed, all_flat_set, kept_more, map_said}
 use Rattle.cb_farmap.proofs.MapEnds.{bucket_of, value_got}
 use Rattle.cb_farmap.proofs.Places.{first_at}
-use Rattle.cb_farmap.proofs.PlanAdds.{IsOfRecord, IsPlanFor, IsShort, PlanAdds, adds_so, all_done, makes_in}
-use Rattle.cb_farmap.proofs.Standing.{all_from, all_has, all_loose, get_has, get_map, goes_on_so, has_wrote, map_set, object_low, others_sole}
+use Rattle.cb_farmap.proofs.PlanAdds.{IsOfRecord, IsPlanFor, IsShort, all_done, makes_in}
+use Rattle.cb_farmap.proofs.Standing.{all_from, all_has, get_has, get_map, has_wrote, map_set, object_low}
 
 -- ---- plans that begin with reads
 abbrev pub reads : List KeptObject → List Ask

@@ -1,6 +1,6 @@
 -- What the calls of a plan add to the turns and the entries of a record.
-use Rattle.std.proofs.Common.{◌≡◌, ◌⊎◌, ℕ, ◌+◌, ◌-◌, ◌^◌, ◌≤◌, List, [], ◌∷◌, ◌++◌, length, Option, None, Some, Ok, refl, sym, ap, ◌∙◌, subst, inl, inr, arith}
-use Rattle.std.proofs.lemmas.List.{append-nil, append_assoc, length-append}
+use Rattle.std.proofs.Common.{◌≡◌, ◌⊎◌, ℕ, ◌+◌, ◌-◌, ◌^◌, ◌≤◌, List, [], ◌∷◌, ◌++◌, length, Option, Some, Ok, refl, sym, ap, ◌∙◌, subst, inl, inr, arith}
+use Rattle.std.proofs.lemmas.List.{append-nil}
 use Rattle.cb_types.specs.declared.config.Config.{Config}
 use Rattle.cb_types.specs.declared.job.Job.{Job}
 use Rattle.cb_types.specs.declared.job.Job.TheVariants as jobs
@@ -10,18 +10,16 @@ use Rattle.cb_mutate.specs.JobWrites.{MakeWrites}
 use Rattle.cb_world.specs.declared.entry.Entry.{Entry}
 use Rattle.cb_rule.specs.declared.turn.Turn.{Turn}
 use Rattle.cb_rule.specs.declared.view.View.{View}
-use Rattle.cb_rule.specs.Lists.{Each, Has, total}
-use Rattle.cb_record.specs.Parts.{Part, Grows, grown, nothing_more, sum}
+use Rattle.cb_rule.specs.Lists.{Each}
+use Rattle.cb_record.specs.Parts.{Part, Grows, grown, sum}
 use Rattle.cb_shared.specs.declared.answers.WriteAnswer.{WriteAnswer}
 use Rattle.cb_shared.specs.declared.answers.WriteAnswer.TheVariants as place
-use Rattle.cb_shared.specs.Calls.{AsksFor, EndsAtLast, IsAnswerTo, IsFetch, IsInVain, IsUnanswered, IsUnfetched, ReadCallEnds, ReadGives, ReadsInPlace, SaysAs, TurnEnds, TurnGives, WriteAnswers, WriteCallEnds, WriteFinds, AtThis, LooksOf, the_handle}
+use Rattle.cb_shared.specs.Calls.{AsksFor, IsAnswerTo, IsFetch, IsInVain, IsUnanswered, IsUnfetched, ReadCallEnds, ReadGives, ReadsInPlace, SaysAs, TurnGives, WriteAnswers, WriteCallEnds, WriteFinds, AtThis, LooksOf, the_handle}
 use Rattle.cb_shared.specs.Making.{MakesNew}
 use Rattle.cb_shared.specs.Reading.{looked}
-use Rattle.cb_shared.specs.Turning.{TurnAdds, made_by_turn, turn_part, with_own}
-use Rattle.cb_farmap.specs.Calls.{Ask, AskMake, AskRead, AskWrite, CallGives, Fails, Goes, IsRefusal, IsSuccess, Succeeds}
+use Rattle.cb_shared.specs.Turning.{TurnAdds, made_by_turn}
+use Rattle.cb_farmap.specs.Calls.{Ask, AskMake, AskRead, AskWrite, CallGives}
 use Rattle.cb_farmap.specs.Commands.{HasWritten, made_by_all, made_in}
-use Rattle.cb_farmap.specs.declared.kept.Cannot.{Cannot}
-use Rattle.cb_farmap.specs.declared.kept.Cannot.TheVariants as cannot
 use Rattle.cb_farmap.specs.declared.kept.KeptObject.{KeptObject}
 use Rattle.cb_farmap.proofs.Adds.{read_written, vain_written, write_adds, write_same}
 use Rattle.cb_farmap.proofs.Finds.{SawNewest, saw_grown}

@@ -1,6 +1,6 @@
 -- Worked examples of commands on an array and a map: what meets each definition, and what breaks one
 -- part alone.
-use Rattle.std.proofs.Common.{◌≡◌, ◌≢◌, ◌⊎◌, ℕ, suc, ◌+◌, ◌<◌, ◌≤◌, Bool, true, false, List, [], ◌∷◌, ◌++◌, length, map, None, Some, Result, Ok, Err, refl, sym, ap, ◌∙◌, subst, inl, inr, arith}
+use Rattle.std.proofs.Common.{◌≡◌, ◌⊎◌, ℕ, suc, ◌+◌, ◌≤◌, true, false, List, [], ◌∷◌, ◌++◌, length, None, Some, Ok, Err, refl, sym, ap, ◌∙◌, subst, inl, inr, arith}
 use Rattle.std.proofs.lemmas.List.{length-append}
 use Rattle.cb_types.specs.declared.config.Config.{Config}
 use Rattle.cb_types.specs.declared.job.Job.{Job}
@@ -19,9 +19,8 @@ use Rattle.cb_map_text.specs.declared.command.FarCommand.TheVariants as command
 use Rattle.cb_farmap.specs.Arrays.{no_array}
 use Rattle.cb_farmap.specs.Commands.{CommandGoes, CommandsGo, HasOneHistory, HasWritten, IsMake, IsOnObject, IsOutOfPlace, IsSaid, IsToldByTurn, made_by_all, made_in, refusal_in}
 use Rattle.cb_farmap.specs.Maps.{no_map}
-use Rattle.cb_farmap.specs.Stands.{AreOther, AreReady, GoesSo, IsArrayNow, IsMapNow, IsRecordAfter, Says, SaysWhy, Stands}
+use Rattle.cb_farmap.specs.Stands.{AreOther, AreReady, IsArrayNow, IsMapNow, IsRecordAfter, Says, SaysWhy, Stands}
 use Rattle.cb_farmap.specs.declared.array.FarArray.{FarArray}
-use Rattle.cb_farmap.specs.declared.kept.Cannot.{Cannot}
 use Rattle.cb_farmap.specs.declared.kept.Cannot.TheVariants as cannot
 use Rattle.cb_farmap.specs.declared.kept.Stop.TheVariants as stop
 use Rattle.cb_farmap.specs.declared.map.FarMap.{FarMap}

@@ -1,4 +1,4 @@
-use Rattle.std.proofs.Common.{rules, refl, sym, ap, ◌∙◌, arith}
+use Rattle.std.proofs.Common.{rules, arith}
 use Rattle.cb_shared.specs.Passes.{record_of}
 use Rattle.cb_farmap.proofs.Running.{all_gone, begins, goes_next}
 use Rattle.cb_farmap.proofs.commands.run_commands.Goals as goal

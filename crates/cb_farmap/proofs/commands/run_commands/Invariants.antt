@@ -1,4 +1,3 @@
-use Rattle.std.proofs.Common.{◌≡◌}
 use Rattle.cb_shared.specs.Passes.{IsPassOf, record_of}
 use Rattle.cb_farmap.proofs.Running.{Run}
 use Rattle.cb_farmap.proofs.commands.run_commands.Given as goal
