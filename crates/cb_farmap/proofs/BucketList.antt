@@ -1,5 +1,5 @@
 -- Buckets of which one is changed.
-use Rattle.std.proofs.Common.{◌≡◌, ◌≢◌, ◌⊎◌, ℕ, zero, suc, ◌+◌, ◌*◌, ◌/◌, ◌%◌, ◌<◌, ◌≤◌, Bool, true, false, eqb, ne_eqb, List, [], ◌∷◌, ◌++◌, length, get_or, slice_set, map, take, drop, refl, sym, ap, ◌∙◌, subst, inl, inr, append_assoc, arith}
+use Rattle.std.proofs.Common.{◌≡◌, ◌≢◌, ℕ, zero, suc, ◌+◌, ◌/◌, ◌%◌, ◌<◌, ◌≤◌, false, eqb, ne_eqb, List, [], ◌∷◌, ◌++◌, length, get_or, slice_set, map, take, drop, refl, sym, ap, ◌∙◌, subst, inl, inr, append_assoc, arith}
 use Rattle.std.specs.Prelude.{sum_by}
 use Rattle.std.proofs.lemmas.List.{get_or-append-add, get_or_append_left, length-append, length-map, map-set, set-append_left}
 use Rattle.std.proofs.lemmas.List.Sums.{sum_by-set}
@@ -15,7 +15,7 @@ use Rattle.cb_farmap.specs.Changes.{AreSole, IsBehind, IsSole, with_next}
 use Rattle.cb_farmap.specs.Maps.{kept_of, pairs_of}
 use Rattle.cb_farmap.specs.Objects.{AreApart, IsObject, blank, object_at}
 use Rattle.cb_farmap.specs.Pairs.{Pair}
-use Rattle.cb_farmap.proofs.Behind.{apart_set, sole_front, soles_more, soles_same, soles_set}
+use Rattle.cb_farmap.proofs.Behind.{apart_set, soles_more, soles_same, soles_set}
 use Rattle.cb_farmap.proofs.BucketLaws.{bucket_on, pairs_in_on}
 use Rattle.cb_farmap.proofs.Lists.{all_at, all_set}
 use Rattle.cb_farmap.proofs.Objects.{found_there}

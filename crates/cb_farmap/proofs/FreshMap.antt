@@ -1,6 +1,5 @@
 -- A map without objects is one of every pass, and empty.
-use Rattle.std.proofs.Common.{◌≡◌, ℕ, zero, suc, ◌+◌, ◌≤◌, List, [], ◌∷◌, length, replicate, None, refl, sym, ap, ◌∙◌, subst, arith}
-use Rattle.std.specs.Prelude.{sum_by}
+use Rattle.std.proofs.Common.{◌≡◌, ℕ, zero, suc, ◌+◌, ◌≤◌, List, [], length, replicate, None, refl, sym, ap, ◌∙◌, subst, arith}
 use Rattle.std.proofs.lemmas.List.{length-replicate}
 use Rattle.std.specs.FinMap as finite
 use Rattle.std.specs.List.{AllByRecursion, IsDistinct, fold}
@@ -8,12 +7,11 @@ use Rattle.std.specs.Ordering.{nat_cmp}
 use Rattle.cb_world.specs.declared.entry.Entry.{Entry}
 use Rattle.cb_rule.specs.declared.view.View.{View}
 use Rattle.cb_farmap.specs.declared.bucket.Bucket.{Bucket}
-use Rattle.cb_farmap.specs.declared.kept.KeptObject.{KeptObject}
 use Rattle.cb_farmap.specs.declared.map.FarMap.{FarMap}
 use Rattle.cb_farmap.specs.Buckets.{IsBucket, no_bucket}
 use Rattle.cb_farmap.specs.Maps.{IsMapOf, kept_of, map_of, pairs_of}
 use Rattle.cb_farmap.specs.Objects.{AreApart}
-use Rattle.cb_farmap.specs.Pairs.{AreAtHome, AreBuckets, NoKeyTwice, Pair, map_of_pairs}
+use Rattle.cb_farmap.specs.Pairs.{AreAtHome, NoKeyTwice, map_of_pairs}
 
 abbrev none : ℕ → List Bucket
 none n = replicate n no_bucket

@@ -1,25 +1,21 @@
 -- What each call on a map comes to, by what the call on its bucket was answered.
-use Rattle.std.proofs.Common.{◌≡◌, ℕ, ◌+◌, ◌-◌, ◌%◌, ◌^◌, ◌<◌, ◌≤◌, List, [], ◌∷◌, ◌++◌, length, get_or, slice_set, Option, None, Some, Result, Ok, Err, IfOk, OnErr, OnOk, refl, sym, ap, ◌∙◌, subst, arith}
-use Rattle.std.specs.Prelude.{if◌then◌else◌, is_some, sum_by}
+use Rattle.std.proofs.Common.{◌≡◌, ℕ, ◌+◌, ◌-◌, ◌%◌, ◌<◌, ◌≤◌, List, [], length, get_or, slice_set, Option, None, Some, Result, Ok, Err, IfOk, OnErr, OnOk, refl, sym, ap, ◌∙◌, subst, arith}
 use Rattle.std.specs.FinMap as finite
-use Rattle.std.specs.List.{AllByRecursion}
 use Rattle.std.proofs.lemmas.List.{length-set}
 use Rattle.cb_types.specs.declared.config.Config.{Config}
-use Rattle.cb_world.specs.declared.entry.Entry.{Entry}
 use Rattle.cb_rule.specs.declared.view.View.{View}
 use Rattle.cb_farmap.specs.declared.bucket.Bucket.{Bucket}
 use Rattle.cb_farmap.specs.declared.kept.Cannot.{Cannot}
-use Rattle.cb_farmap.specs.declared.kept.KeptObject.{KeptObject}
 use Rattle.cb_farmap.specs.declared.kept.Stop.{Stop}
 use Rattle.cb_farmap.specs.declared.map.FarMap.{FarMap}
 use Rattle.cb_farmap.specs.BucketChanges.{Becomes, added_by, dropped_in, put_in, removed_by, value_of}
 use Rattle.cb_farmap.specs.Buckets.{IsBucket, bucket_in, pairs_in, with_bucket}
-use Rattle.cb_farmap.specs.Calls.{Answers, Ask, AskRead, Goes, trouble}
+use Rattle.cb_farmap.specs.Calls.{Answers, Ask, Goes, trouble}
 use Rattle.cb_farmap.specs.Changes.{AreLoose, AreSole, GoesOn, IsBehind, IsCalm, IsLoose, IsSole}
 use Rattle.cb_farmap.specs.MapChanges.{IsDropped, IsLooked, IsPut, KeepsMap, StaysMap, reads_of}
 use Rattle.cb_farmap.specs.Maps.{IsCalmMap, IsMapOf, kept_of, map_of, pairs_of, told_map}
 use Rattle.cb_farmap.specs.Objects.{AreApart}
-use Rattle.cb_farmap.specs.Pairs.{AreBuckets, BelongTo, NoKeyTwice, Pair, map_of_pairs, place_of}
+use Rattle.cb_farmap.specs.Pairs.{AreBuckets, BelongTo, NoKeyTwice, Pair, map_of_pairs}
 use Rattle.cb_farmap.specs.Plans.{drop_plan, look_plan, put_plan}
 use Rattle.cb_farmap.specs.Stops.{cannot_of, stop_behind}
 use Rattle.cb_farmap.proofs.Behind.{goes_on, on_same, soles_same}
@@ -30,7 +26,7 @@ use Rattle.cb_farmap.proofs.MapPairs.{added_if, drop_len, drop_long, drop_takes,
 use Rattle.cb_farmap.proofs.Once.{apart_own, drop_once, look_once, put_once}
 use Rattle.cb_farmap.proofs.OneBucket.{Takes}
 use Rattle.cb_farmap.proofs.Places.{value_at}
-use Rattle.cb_farmap.proofs.PlanLaws.{WritesLast, are_reads, calm_same, drop_last, look_last, look_read, put_last}
+use Rattle.cb_farmap.proofs.PlanLaws.{WritesLast, calm_same, drop_last, look_last, look_read, put_last}
 
 -- ---- a map of a record that went on
 module _ (v w : View) (a : FarMap) (of : IsMapOf v a) (on : IsBehind v.written w.written) where

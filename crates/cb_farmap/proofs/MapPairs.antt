@@ -1,11 +1,11 @@
 -- What a put and a drop make of the pairs of a bucket, by the place of the key.
-use Rattle.std.proofs.Common.{◌≡◌, ℕ, ◌+◌, ◌-◌, ◌%◌, ◌<◌, ◌≤◌, Bool, true, false, List, [], ◌∷◌, ◌++◌, length, slice_set, take, Option, Some, None, Ok, refl, sym, ap, ◌∙◌, subst, arith}
+use Rattle.std.proofs.Common.{◌≡◌, ℕ, ◌+◌, ◌-◌, ◌%◌, List, length, Option, Some, None, Ok, refl, sym, ap, ◌∙◌, arith}
 use Rattle.std.specs.Prelude.{if◌then◌else◌, is_some}
-use Rattle.std.proofs.lemmas.List.{length-set, length-take-le, length_push}
+use Rattle.std.proofs.lemmas.List.{length-set, length_push}
 use Rattle.std.specs.FinMap as finite
 use Rattle.std.specs.Ordering.{nat_cmp}
 use Rattle.cb_farmap.specs.BucketChanges.{added_by, dropped_at, put_at, removed_by, value_in}
-use Rattle.cb_farmap.specs.Pairs.{BelongTo, NoKeyTwice, Pair, dropped, pair_of, place_of}
+use Rattle.cb_farmap.specs.Pairs.{BelongTo, NoKeyTwice, Pair, place_of}
 use Rattle.cb_farmap.proofs.Mapping.{len_less, len_new, len_old, remove_none}
 use Rattle.cb_farmap.proofs.OneBucket.{Takes, adds_pair, drops_pair, one_less, tells_by, writes_pair}
 use Rattle.cb_farmap.proofs.Places.{first_at, no_value, none_there, value_at, value_there}

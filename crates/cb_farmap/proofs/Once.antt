@@ -11,10 +11,10 @@ use Rattle.cb_farmap.specs.Buckets.{IsBucket, all_pairs, bucket_in, no_bucket, p
 use Rattle.cb_farmap.specs.Calls.{Ask, AskMake, AskRead, AskWrite}
 use Rattle.cb_farmap.specs.MapChanges.{reads_of}
 use Rattle.cb_farmap.specs.Maps.{kept_of}
-use Rattle.cb_farmap.specs.Objects.{AreApart, blank, object_at}
+use Rattle.cb_farmap.specs.Objects.{AreApart, object_at}
 use Rattle.cb_farmap.specs.PairBytes.{object_bytes}
 use Rattle.cb_farmap.specs.Pairs.{Pair, pair_of, place_of}
-use Rattle.cb_farmap.specs.Plans.{add_ask, drop_asks, drop_plan, is_filled, last_asks, look_plan, move_asks, objects_to, put_ask, put_plan, write_at}
+use Rattle.cb_farmap.specs.Plans.{drop_asks, drop_plan, is_filled, look_plan, move_asks, objects_to, put_ask, put_plan, write_at}
 use Rattle.cb_farmap.proofs.FindIn.{long_in}
 use Rattle.cb_farmap.proofs.Places.{first_at}
 

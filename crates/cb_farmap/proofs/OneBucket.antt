@@ -1,11 +1,11 @@
 -- A bucket of which one pair is written, put behind the others, or dropped.
-use Rattle.std.proofs.Common.{◌≡◌, ◌≢◌, ◌⊎◌, ℕ, zero, suc, ◌+◌, ◌-◌, ◌%◌, ◌<◌, ◌≤◌, Bool, true, false, cond, List, [], ◌∷◌, ◌++◌, length, get_or, slice_set, take, Option, Some, None, refl, sym, ap, ◌∙◌, subst, inl, inr, arith}
+use Rattle.std.proofs.Common.{◌≡◌, ◌≢◌, ◌⊎◌, ℕ, zero, suc, ◌+◌, ◌-◌, ◌%◌, ◌<◌, ◌≤◌, Bool, cond, List, [], ◌∷◌, ◌++◌, length, slice_set, take, Option, Some, None, refl, sym, ap, ◌∙◌, inl, inr, arith}
 use Rattle.std.proofs.lemmas.Bool.{cases_lt}
 use Rattle.std.proofs.lemmas.List.{get_or-set_same, get_or-set_other, get_or-take, get_or_append_left, get_or-append_right, length-set, length-take-le, length_push}
 use Rattle.std.specs.List.{AllByRecursion}
 use Rattle.std.specs.Ordering.{nat_cmp, eq_by_cmp}
 use Rattle.cb_farmap.specs.Pairs.{Pair, BelongTo, HasNot, IsFirst, NoKeyTwice, dropped, pair_of, place_of}
-use Rattle.cb_farmap.proofs.Places.{absent, first_at, is_same, no_value, none_there, not_same, same_or_not, sought, value_at, value_there}
+use Rattle.cb_farmap.proofs.Places.{first_at, is_same, no_value, none_there, not_same, same_or_not, sought, value_at, value_there}
 
 -- a value at a key, or none, and all else as it was
 abbrev pub TellsAt : ℕ → Option ℕ → List Pair → List Pair → Type 0

@@ -1,6 +1,6 @@
 -- Worked examples of what a call on an array comes to: what meets each definition, and what breaks
 -- one part.
-use Rattle.std.proofs.Common.{◌≡◌, ◌≢◌, ℕ, ◌+◌, ◌*◌, ◌≤◌, Bool, true, false, true≢false, List, [], ◌∷◌, ◌++◌, length, slice_index, Option, None, Some, refl, sym, ap, ◌∙◌, inl, arith}
+use Rattle.std.proofs.Common.{◌≡◌, ℕ, ◌+◌, ◌*◌, ◌≤◌, true≢false, List, [], ◌∷◌, ◌++◌, length, slice_index, None, Some, refl, sym, ap, ◌∙◌, inl, arith}
 use Rattle.std.proofs.lemmas.Option.{none-some, same_Some}
 use Rattle.std.specs.List.{IsDistinct}
 use Rattle.cb_types.specs.declared.config.Config.{Config}
@@ -11,10 +11,8 @@ use Rattle.cb_world.specs.Written.{entry}
 use Rattle.cb_rule.specs.declared.view.Stand.{Stand}
 use Rattle.cb_rule.specs.declared.view.View.{View}
 use Rattle.cb_farmap.specs.declared.array.FarArray.{FarArray}
-use Rattle.cb_farmap.specs.declared.kept.Cannot.{Cannot}
 use Rattle.cb_farmap.specs.declared.kept.Cannot.TheVariants as cannot
 use Rattle.cb_farmap.specs.declared.kept.KeptObject.{KeptObject}
-use Rattle.cb_farmap.specs.declared.kept.Stop.{Stop}
 use Rattle.cb_farmap.specs.declared.kept.Stop.TheVariants as stop
 use Rattle.cb_farmap.specs.Arrays.{IsCalmArray, IsGot, IsPopped, IsPushed, IsSet, Keeps, Stays, list_of, no_array}
 use Rattle.cb_farmap.specs.Changes.{GoesOn}

@@ -1,6 +1,6 @@
 -- Worked examples of what a call on a map comes to: what meets each definition, and what breaks one
 -- part.
-use Rattle.std.proofs.Common.{◌≡◌, ℕ, ◌+◌, ◌*◌, ◌/◌, ◌≤◌, ◌<◌, Bool, true, false, true≢false, cond, List, [], ◌∷◌, ◌++◌, length, replicate, slice_set, Option, None, Some, refl, sym, ap, ◌∙◌, inl, inr, arith}
+use Rattle.std.proofs.Common.{◌≡◌, ℕ, ◌*◌, ◌/◌, ◌≤◌, ◌<◌, Bool, true, false, true≢false, cond, List, [], ◌∷◌, length, replicate, slice_set, Option, None, Some, refl, sym, ap, ◌∙◌, inl, inr, arith}
 use Rattle.std.proofs.lemmas.Option.{none-some, same_Some}
 use Rattle.std.specs.Cmp.{nat_cmp_total}
 use Rattle.std.specs.FinMap as finite
@@ -17,18 +17,15 @@ use Rattle.cb_farmap.specs.declared.kept.Cannot.TheVariants as cannot
 use Rattle.cb_farmap.specs.declared.kept.KeptObject.{KeptObject}
 use Rattle.cb_farmap.specs.declared.kept.Stop.TheVariants as stop
 use Rattle.cb_farmap.specs.declared.map.FarMap.{FarMap}
-use Rattle.cb_farmap.specs.BucketChanges.{Becomes, ChangesOne, dropped_in, put_in}
-use Rattle.cb_farmap.specs.Buckets.{IsBucket, bucket_in, no_bucket}
+use Rattle.cb_farmap.specs.BucketChanges.{Becomes, ChangesOne, put_in}
+use Rattle.cb_farmap.specs.Buckets.{IsBucket, no_bucket}
 use Rattle.cb_farmap.specs.Calls.{AskRead}
 use Rattle.cb_farmap.specs.Changes.{with_next}
 use Rattle.cb_farmap.specs.MapChanges.{IsDropped, IsLooked, IsPut, KeepsMap, StaysMap}
 use Rattle.cb_farmap.specs.Maps.{IsCalmMap, map_of, no_map}
 use Rattle.cb_farmap.specs.Objects.{object_at}
-use Rattle.cb_farmap.specs.Pairs.{Pair}
 use Rattle.cb_farmap.proofs.Behind.{on_same}
 use Rattle.cb_farmap.proofs.FreshMap.{fresh_map}
-use Rattle.cb_farmap.proofs.Mapping.{map_inserted, map_removed}
-use Rattle.cb_farmap.proofs.MapPairs.{drop_takes, put_takes}
 use Rattle.cb_farmap.proofs.WorkedObjects.{early, kept, later}
 
 -- object 5, of the pair of 1 and 6 alone

@@ -1,4 +1,4 @@
-use Rattle.std.proofs.Common.{◌≡◌, ℕ, ◌+◌, Option, Some, Result, IfOk, OnErr, refl, ap, arith}
+use Rattle.std.proofs.Common.{ℕ, ◌+◌, Option, Some, Result, IfOk, OnErr, refl, ap, arith}
 use Rattle.cb_shared.specs.Passes.{record_of}
 use Rattle.cb_shared.specs.Recalls.{first_version_of}
 use Rattle.cb_farmap.specs.declared.kept.Cannot.{Cannot}
