@@ -1,15 +1,14 @@
 -- The pairs of one object of a bucket, among those of the bucket.
-use Rattle.std.proofs.Common.{◌≡◌, ◌⊎◌, ℕ, min, ◌+◌, ◌-◌, ◌*◌, ◌/◌, ◌%◌, ◌<◌, ◌≤◌, List, [], ◌∷◌, length, take, get_or, Option, Some, None, refl, sym, ap, ◌∙◌, subst, arith}
+use Rattle.std.proofs.Common.{◌≡◌, ℕ, min, ◌+◌, ◌-◌, ◌*◌, ◌<◌, ◌≤◌, List, [], ◌∷◌, length, take, Some, None, refl, sym, ap, ◌∙◌, arith}
 use Rattle.std.proofs.lemmas.List.{get_or-take, length-take-le}
 use Rattle.std.specs.List.{AllByRecursion, flat_map}
 use Rattle.cb_world.specs.declared.entry.Entry.{Entry}
 use Rattle.cb_farmap.specs.declared.bucket.Bucket.{Bucket}
-use Rattle.cb_farmap.specs.declared.find.Found.{Found}
 use Rattle.cb_farmap.specs.declared.kept.KeptObject.{KeptObject}
 use Rattle.cb_farmap.specs.Buckets.{IsBucket, pairs_in}
 use Rattle.cb_farmap.specs.Numbers.{pairs}
 use Rattle.cb_farmap.specs.Objects.{IsObject, blank, bytes_at, object_at, pairs_at}
-use Rattle.cb_farmap.specs.Pairs.{HasNot, IsFirst, IsSought, Pair, pair_of}
+use Rattle.cb_farmap.specs.Pairs.{HasNot, IsFirst, Pair, pair_of}
 use Rattle.cb_farmap.specs.Searching.{NoneFrom, SeeksIn}
 use Rattle.cb_farmap.proofs.Lists.{all_at}
 use Rattle.cb_farmap.proofs.Arrays.{object_long}

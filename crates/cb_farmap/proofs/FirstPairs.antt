@@ -1,5 +1,5 @@
 -- The first so many of all pairs of a bucket, of which one is written, added or dropped.
-use Rattle.std.proofs.Common.{◌≡◌, ℕ, zero, suc, ◌+◌, ◌-◌, ◌<◌, ◌≤◌, List, [], ◌∷◌, ◌++◌, length, get_or, slice_set, take, refl, sym, ap, ◌∙◌, arith}
+use Rattle.std.proofs.Common.{◌≡◌, ℕ, suc, ◌+◌, ◌-◌, ◌<◌, ◌≤◌, List, [], ◌∷◌, ◌++◌, length, slice_set, take, refl, sym, ap, ◌∙◌, arith}
 use Rattle.std.proofs.lemmas.List.{get_or-take, length-take-le, set-get_or, take-take, take_all}
 use Rattle.cb_farmap.specs.Pairs.{Pair, dropped, pair_of}
 use Rattle.cb_farmap.proofs.Pieces.{take_more, take_set}

@@ -1,5 +1,5 @@
 -- A plan of calls goes on.
-use Rattle.std.proofs.Common.{◌≡◌, ℕ, zero, suc, ◌+◌, ◌<◌, ◌≤◌, List, [], ◌∷◌, ◌++◌, length, get_or, map, take, Option, Some, None, refl, sym, ap, ◌∙◌, subst, inl, inr, arith}
+use Rattle.std.proofs.Common.{◌≡◌, ℕ, zero, suc, ◌+◌, ◌<◌, List, [], ◌∷◌, ◌++◌, length, get_or, map, take, Option, Some, None, refl, sym, ap, ◌∙◌, subst, inl, inr, arith}
 use Rattle.cb_types.specs.declared.config.Config.{Config}
 use Rattle.cb_rule.specs.declared.view.View.{View}
 use Rattle.cb_farmap.specs.declared.kept.Cannot.{Cannot}

@@ -44,7 +44,10 @@ mod WorkedPairs
 mod Telling
 mod WorkedObjects
 mod WorkedAsks
+mod WorkedGoes
 mod WorkedArrays
 mod WorkedMaps
 mod WorkedCommands
+mod WorkedArrayCalls
+mod WorkedMapCalls
 pub mod Laws

@@ -1,7 +1,7 @@
 -- Pairs of an object of which one is written, and that of a new object.
-use Rattle.std.proofs.Common.{◌≡◌, ◌⊎◌, ℕ, zero, suc, ◌+◌, ◌-◌, ◌*◌, ◌^◌, ◌<◌, ◌≤◌, List, ◌++◌, length, get_or, slice_set, map, replicate, refl, sym, ap, subst, ◌∙◌, [], arith, inl, inr}
+use Rattle.std.proofs.Common.{◌≡◌, ◌⊎◌, ℕ, ◌+◌, ◌*◌, ◌^◌, ◌<◌, ◌≤◌, List, length, get_or, slice_set, replicate, sym, ap, subst, ◌∙◌, [], arith, inl, inr}
 use Rattle.std.proofs.lemmas.Bool.{cases_lt}
-use Rattle.std.proofs.lemmas.List.{append-nil, append_assoc, ext_get_or, get_or_append_left, get_or-append-add, get_or-append_right, get_or-set_other, get_or-set_same, length-append, length-replicate, length-set}
+use Rattle.std.proofs.lemmas.List.{append-nil, ext_get_or, get_or_append_left, get_or-append-add, get_or-set_other, get_or-set_same, length-append, length-replicate, length-set}
 use Rattle.std.proofs.lemmas.List.FromFn.{get_or-map-range_with_len, length-map-range_with_len}
 use Rattle.byteorder.specs.Endian.{little_bytes, little_from}
 use Rattle.byteorder.specs.Numbers.{little_number-reads_back, length-bytes_low_first}

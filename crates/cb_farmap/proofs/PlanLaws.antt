@@ -1,5 +1,5 @@
 -- What reads leave of the record, and what a plan does whose calls but the last are reads.
-use Rattle.std.proofs.Common.{◌≡◌, ℕ, ◌-◌, ◌/◌, Bool, true, false, eqb, List, [], ◌∷◌, ◌++◌, map, take, Option, Some, None, refl, sym, ap, ◌∙◌, subst, inl, inr}
+use Rattle.std.proofs.Common.{◌≡◌, ℕ, ◌-◌, ◌/◌, Bool, true, false, eqb, List, [], ◌∷◌, ◌++◌, map, take, Option, Some, None, refl, ap, ◌∙◌, subst, inl, inr}
 use Rattle.std.specs.Prelude.{if◌then◌else◌}
 use Rattle.cb_types.specs.declared.config.Config.{Config}
 use Rattle.cb_world.specs.declared.entry.Entry.{Entry}
@@ -11,7 +11,7 @@ use Rattle.cb_farmap.specs.declared.bucket.Bucket.{Bucket}
 use Rattle.cb_farmap.specs.declared.kept.Cannot.{Cannot}
 use Rattle.cb_farmap.specs.declared.kept.KeptObject.{KeptObject}
 use Rattle.cb_farmap.specs.Buckets.{all_pairs, pairs_in}
-use Rattle.cb_farmap.specs.Calls.{Ask, AskMake, AskRead, AskWrite, Fails, Goes}
+use Rattle.cb_farmap.specs.Calls.{Ask, AskMake, AskRead, AskWrite, Goes}
 use Rattle.cb_farmap.specs.Changes.{AreLoose, AreSole, GoesOn, IsCalm}
 use Rattle.cb_farmap.specs.Objects.{object_at}
 use Rattle.cb_farmap.specs.PairBytes.{object_bytes}

@@ -1,11 +1,10 @@
 -- What a put and a drop in a bucket come to, by the search and by what was done behind it.
-use Rattle.std.proofs.Common.{◌≡◌, ◌≢◌, ℕ, ◌+◌, ◌-◌, ◌*◌, ◌/◌, ◌%◌, ◌^◌, ◌<◌, ◌≤◌, Bool, true, false, eqb, eq-eqb, List, [], ◌∷◌, ◌++◌, length, slice_set, Option, None, Some, Result, Ok, Err, IfOk, OnErr, OnOk, refl, sym, ap, ◌∙◌, subst, inl, arith}
+use Rattle.std.proofs.Common.{◌≡◌, ◌≢◌, ℕ, ◌-◌, ◌*◌, ◌/◌, ◌%◌, ◌^◌, ◌<◌, ◌≤◌, Bool, true, false, eq-eqb, List, [], ◌∷◌, length, slice_set, Option, None, Some, Result, Ok, Err, IfOk, OnErr, OnOk, refl, sym, ap, ◌∙◌, subst, inl, arith}
 use Rattle.std.specs.Prelude.{if◌then◌else◌}
 use Rattle.std.proofs.lemmas.Bool.{ne_eqb}
-use Rattle.std.proofs.lemmas.List.{append-nil, get_or-take}
+use Rattle.std.proofs.lemmas.List.{get_or-take}
 use Rattle.std.specs.List.{AllByRecursion}
 use Rattle.cb_types.specs.declared.config.Config.{Config}
-use Rattle.cb_model.specs.Now.{overwritten}
 use Rattle.cb_world.specs.declared.entry.Entry.{Entry}
 use Rattle.cb_rule.specs.declared.view.View.{View}
 use Rattle.cb_farmap.specs.declared.bucket.Bucket.{Bucket}
@@ -14,12 +13,12 @@ use Rattle.cb_farmap.specs.declared.kept.Cannot.{Cannot}
 use Rattle.cb_farmap.specs.declared.kept.KeptObject.{KeptObject}
 use Rattle.cb_farmap.specs.BucketChanges.{AddsPair, Becomes, FindsAt, IsFound, WritesPair, dropped_at, dropped_in, put_at, put_in, value_in, value_of}
 use Rattle.cb_farmap.specs.Buckets.{IsBucket, all_pairs, pairs_in}
-use Rattle.cb_farmap.specs.Calls.{Ask, AskMake, AskRead, AskWrite, Goes, trouble}
-use Rattle.cb_farmap.specs.Changes.{AreLoose, AreSole, IsCalm, IsLoose, IsSole, Makes, Rewrites, with_next}
+use Rattle.cb_farmap.specs.Calls.{Ask, AskMake, AskWrite, Goes, trouble}
+use Rattle.cb_farmap.specs.Changes.{AreLoose, AreSole, IsCalm, IsLoose, IsSole, Makes, Rewrites}
 use Rattle.cb_farmap.specs.Numbers.{pair_at}
-use Rattle.cb_farmap.specs.Objects.{IsObject, blank, bytes_at, object_at}
+use Rattle.cb_farmap.specs.Objects.{IsObject, blank, object_at}
 use Rattle.cb_farmap.specs.PairBytes.{object_bytes, pair_bytes}
-use Rattle.cb_farmap.specs.Pairs.{Pair, dropped, pair_of, place_of}
+use Rattle.cb_farmap.specs.Pairs.{Pair, dropped, place_of}
 use Rattle.cb_farmap.specs.Plans.{add_ask, drop_asks, drop_plan, is_filled, look_plan, move_asks, put_ask, put_plan, write_at}
 use Rattle.cb_farmap.proofs.Arrays.{object_long}
 use Rattle.cb_farmap.proofs.BucketLaws.{pair_in_object}

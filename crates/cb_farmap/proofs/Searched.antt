@@ -1,5 +1,5 @@
 -- A bucket that was searched object by object.
-use Rattle.std.proofs.Common.{◌≡◌, ◌⊎◌, ℕ, suc, min, ◌+◌, ◌-◌, ◌*◌, ◌/◌, ◌%◌, ◌<◌, ◌≤◌, List, [], ◌∷◌, length, map, take, Option, Some, None, refl, sym, ap, ◌∙◌, subst, inl, inr, arith}
+use Rattle.std.proofs.Common.{◌≡◌, ◌⊎◌, ℕ, ◌+◌, ◌*◌, ◌/◌, ◌<◌, ◌≤◌, List, [], ◌∷◌, length, map, take, Option, Some, None, refl, sym, ap, ◌∙◌, subst, inl, inr, arith}
 use Rattle.std.proofs.lemmas.Bool.{cases_lt}
 use Rattle.std.specs.Int.{div_ceil}
 use Rattle.cb_types.specs.declared.config.Config.{Config}
@@ -9,10 +9,9 @@ use Rattle.cb_rule.specs.declared.view.View.{View}
 use Rattle.cb_farmap.specs.declared.bucket.Bucket.{Bucket}
 use Rattle.cb_farmap.specs.declared.find.Found.{Found}
 use Rattle.cb_farmap.specs.declared.kept.Cannot.{Cannot}
-use Rattle.cb_farmap.specs.declared.kept.KeptObject.{KeptObject}
 use Rattle.cb_farmap.specs.BucketChanges.{FindsAt, IsFound}
 use Rattle.cb_farmap.specs.Buckets.{IsBucket, pairs_in}
-use Rattle.cb_farmap.specs.Calls.{Ask, AskRead, Goes, trouble}
+use Rattle.cb_farmap.specs.Calls.{AskRead, Goes}
 use Rattle.cb_farmap.specs.Changes.{AreLoose, AreSole, IsLoose, IsSole}
 use Rattle.cb_farmap.specs.Objects.{blank, bytes_at, object_at}
 use Rattle.cb_farmap.specs.Pairs.{pair_of, place_of}

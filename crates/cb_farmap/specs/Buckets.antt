@@ -1,5 +1,5 @@
 -- A bucket of a far map in the record of a pass.
-use Rattle.std.specs.Prelude.{◌≡◌, ℕ, ◌*◌, ◌%◌, ◌≤◌, List, [], length, get_or, slice_set, take}
+use Rattle.std.specs.Prelude.{ℕ, ◌*◌, ◌%◌, ◌≤◌, List, [], length, get_or, slice_set, take}
 use Rattle.std.specs.List.{AllByRecursion, flat_map}
 use Rattle.cb_world.specs.declared.entry.Entry.{Entry}
 use Rattle.cb_farmap.specs.declared.bucket.Bucket.{Bucket}

@@ -1,5 +1,5 @@
 -- Which calls the calls on a map make, in order.
-use Rattle.std.specs.Prelude.{ℕ, ◌+◌, ◌-◌, ◌*◌, ◌/◌, ◌%◌, ◌==◌, Bool, true, false, if◌then◌else◌, List, [], ◌∷◌, ◌++◌, length, map, take, Option, Some, None}
+use Rattle.std.specs.Prelude.{ℕ, ◌+◌, ◌-◌, ◌*◌, ◌/◌, ◌%◌, ◌==◌, Bool, if◌then◌else◌, List, [], ◌∷◌, ◌++◌, length, map, take, Option, Some, None}
 use Rattle.cb_map_text.specs.Plain.{objects_for}
 use Rattle.cb_world.specs.declared.entry.Entry.{Entry}
 use Rattle.cb_farmap.specs.declared.bucket.Bucket.{Bucket}

@@ -1,4 +1,4 @@
-use Rattle.std.proofs.Common.{◌≡◌, ◌<◌, refl, sym, ap, ◌∙◌, subst, arith}
+use Rattle.std.proofs.Common.{arith}
 use Rattle.std.proofs.lemmas.Result.{err_from_is_err_and}
 use Rattle.cb_shared.specs.Passes.{record_of}
 use Rattle.cb_shared.specs.Recalls.{first_version_of}
@@ -19,7 +19,7 @@ returns-in_err-pair-clause-goes g c =
     let p = err_from_is_err_and c.from_residual.result c.from_residual.ensures.1 in rw (p.1, p.2)
     (move_fails c.args.shared.now.config (first_version_of c.args.shared.now) (record_of c.args.pass.now).written
     c.args.kept.now c.args.found.now.place c.args.last c.in_err-pair.field-0.0 (record_of c.args.pass.now)
-    (record_of c.last_pair-pair.new.pass) c.if-found-last.false c.in_err-pair.ensures.goes)
+    (record_of c.last_pair.new.pass) c.if-found-last.false c.in_err-pair.ensures.goes)
 
 pub returns-in_err-pair-clause-calm : goal.returns-in_err-pair-clause-calm
 returns-in_err-pair-clause-calm g c soles loose =
@@ -31,12 +31,12 @@ write_pair-requires-clause-within g c = omega arith
 
 pub write_pair-requires-clause-objects : goal.write_pair-requires-clause-objects
 write_pair-requires-clause-objects g c = objects_last c.args.shared.now.config (first_version_of c.args.shared.now)
-    c.args.kept.now c.args.found.now.place c.args.last (record_of c.args.pass.now) (record_of c.last_pair-pair.new.pass)
+    c.args.kept.now c.args.found.now.place c.args.last (record_of c.args.pass.now) (record_of c.last_pair.new.pass)
     c.in_ok-pair.ensures.goes c.requires.objects
 
 pub returns-clause-filled : goal.returns-clause-filled
 returns-clause-filled g c = fills_last c.args.shared.now.config (first_version_of c.args.shared.now)
-    c.args.kept.now c.args.found.now.place c.args.last (record_of c.args.pass.now) (record_of c.last_pair-pair.new.pass)
+    c.args.kept.now c.args.found.now.place c.args.last (record_of c.args.pass.now) (record_of c.last_pair.new.pass)
     c.in_ok-pair.ensures.goes _ _ c.write_pair.new.kept (record_of c.write_pair.new.pass).written c.write_pair.result
     c.if-found-last.false c.in_ok-pair.ensures.pair c.write_pair.ensures.wrote
 
@@ -46,10 +46,10 @@ returns-clause-stays g c = c.write_pair.ensures.stays
 pub returns-clause-goes : goal.returns-clause-goes
 returns-clause-goes g c = move_behind c.args.shared.now.config (first_version_of c.args.shared.now)
     (record_of c.args.pass.now).written c.args.kept.now c.args.found.now.place c.args.last _ (record_of c.args.pass.now)
-    (record_of c.last_pair-pair.new.pass) (record_of c.write_pair.new.pass) _ c.if-found-last.false
+    (record_of c.last_pair.new.pass) (record_of c.write_pair.new.pass) _ c.if-found-last.false
     c.in_ok-pair.ensures.goes c.write_pair.ensures.goes c.in_ok-pair.ensures.pair
 
 pub returns-clause-calm : goal.returns-clause-calm
 returns-clause-calm g c soles loose = calm_last c.args.shared.now.config (first_version_of c.args.shared.now)
-    c.args.kept.now c.args.found.now.place c.args.last (record_of c.args.pass.now) (record_of c.last_pair-pair.new.pass)
+    c.args.kept.now c.args.found.now.place c.args.last (record_of c.args.pass.now) (record_of c.last_pair.new.pass)
     c.in_ok-pair.ensures.goes _ c.write_pair.ensures.calm soles loose

@@ -1,4 +1,4 @@
-use Rattle.std.proofs.Common.{◌≡◌, refl, sym, subst}
+use Rattle.std.proofs.Common.{refl, sym, subst}
 use Rattle.cb_shared.specs.Passes.{record_of}
 use Rattle.cb_shared.specs.Recalls.{first_version_of}
 use Rattle.cb_farmap.specs.Changes.{IsCalm}
@@ -6,7 +6,7 @@ use Rattle.cb_farmap.proofs.PutEnds.{loose_there, object_there, pair_goes, pair_
 use Rattle.cb_farmap.proofs.bucket.write_pair.Goals as goal
 
 pub at-requires : goal.at-requires
-at-requires g c = place_there c.args.kept.now c.args.place c.requires.within
+at-requires g c = record { within = place_there c.args.kept.now c.args.place c.requires.within }
 
 pub write_kept-later-requires-clause-object : goal.write_kept-later-requires-clause-object
 write_kept-later-requires-clause-object g c = object_there c.args.kept.now c.args.place c.requires.within

@@ -1,4 +1,4 @@
-use Rattle.std.proofs.Common.{◌≡◌, ℕ, ◌<◌, sym, ◌∙◌, arith}
+use Rattle.std.proofs.Common.{sym, ◌∙◌, arith}
 use Rattle.cb_farmap.proofs.Seeking.{found_first, found_none}
 use Rattle.cb_farmap.proofs.pairs.seek.Goals as goal
 

@@ -1,7 +1,5 @@
-use Rattle.std.proofs.Common.{◌≡◌, ap, arith}
-use Rattle.std.proofs.lemmas.Result.{err_from_is_err_and}
+use Rattle.std.proofs.Common.{arith}
 use Rattle.cb_shared.specs.Passes.{record_of}
-use Rattle.cb_shared.specs.Recalls.{first_version_of}
 use Rattle.cb_farmap.proofs.BucketLaws.{less_becomes}
 use Rattle.cb_farmap.proofs.PutEnds.{found_long, found_value}
 use Rattle.cb_farmap.proofs.bucket.Bucket.drop_found.Goals as goal
@@ -19,9 +17,11 @@ fill_gap-requires-clause-objects g c = c.requires.bucket.objects
 pub fill_gap-requires-clause-bytes : goal.fill_gap-requires-clause-bytes
 fill_gap-requires-clause-bytes g c = c.requires.found.bytes_are
 
-pub value-requires-clause-long : goal.value-requires-clause-long
-value-requires-clause-long g c = found_long (record_of c.args.pass.now).written c.args.self.now c.args.found.now
-    c.requires.bucket c.requires.found
+pub value-requires : goal.value-requires
+value-requires g c = record {
+  long = found_long (record_of c.args.pass.now).written c.args.self.now c.args.found.now
+      c.requires.bucket c.requires.found;
+}
 
 pub returns-clause-value : goal.returns-clause-value
 returns-clause-value g c = found_value (record_of c.args.pass.now).written c.args.self.now c.args.found.now

@@ -1,9 +1,8 @@
-use Rattle.std.proofs.Common.{◌≡◌, ℕ, ◌*◌, Option, None, map, take}
+use Rattle.std.proofs.Common.{◌*◌, None, map, take}
 use Rattle.cb_shared.specs.Passes.{IsPassOf, record_of}
 use Rattle.cb_shared.specs.Recalls.{first_version_of}
 use Rattle.cb_farmap.specs.Calls.{AskRead, Goes}
 use Rattle.cb_farmap.specs.Searching.{NoneFrom}
-use Rattle.cb_farmap.proofs.PlanLaws.{IsRead}
 use Rattle.cb_farmap.proofs.bucket.Bucket.find.Given as goal
 
 abbrev pub invariant-loop-o : goal.invariant-loop-o

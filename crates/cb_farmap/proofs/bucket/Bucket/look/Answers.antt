@@ -1,12 +1,12 @@
-use Rattle.std.proofs.Common.{◌≡◌, sym, ap, ◌∙◌}
 use Rattle.cb_shared.specs.Passes.{record_of}
-use Rattle.cb_shared.specs.Recalls.{first_version_of}
 use Rattle.cb_farmap.proofs.PutEnds.{found_long_at, found_value_at, none_looked}
 use Rattle.cb_farmap.proofs.bucket.Bucket.look.Goals as goal
 
-pub value-requires-clause-long : goal.value-requires-clause-long
-value-requires-clause-long g c = found_long_at (record_of c.args.pass.now).written c.args.self.now c.args.key
-    c.in_ok-found.found c.in-Some.found c.in-Some.is c.requires.bucket c.in_ok-found.ensures.found
+pub value-requires : goal.value-requires
+value-requires g c = record {
+  long = found_long_at (record_of c.args.pass.now).written c.args.self.now c.args.key
+      c.in_ok-found.found c.in-Some.found c.in-Some.is c.requires.bucket c.in_ok-found.ensures.found;
+}
 
 pub returns-in-Some-clause-value : goal.returns-in-Some-clause-value
 returns-in-Some-clause-value g c = found_value_at (record_of c.args.pass.now).written c.args.self.now c.args.key

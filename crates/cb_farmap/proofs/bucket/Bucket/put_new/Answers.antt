@@ -1,7 +1,4 @@
-use Rattle.std.proofs.Common.{◌≡◌, ap, arith}
-use Rattle.std.proofs.lemmas.Result.{err_from_is_err_and}
 use Rattle.cb_shared.specs.Passes.{record_of}
-use Rattle.cb_shared.specs.Recalls.{first_version_of}
 use Rattle.cb_farmap.proofs.BucketLaws.{new_becomes}
 use Rattle.cb_farmap.proofs.bucket.Bucket.put_new.Goals as goal
 

@@ -1,14 +1,13 @@
-use Rattle.std.proofs.Common.{◌≡◌, ap, arith}
-use Rattle.std.proofs.lemmas.Result.{err_from_is_err_and}
 use Rattle.cb_shared.specs.Passes.{record_of}
-use Rattle.cb_shared.specs.Recalls.{first_version_of}
 use Rattle.cb_farmap.proofs.BucketLaws.{over_becomes}
 use Rattle.cb_farmap.proofs.PutEnds.{found_long, found_value, inside}
 use Rattle.cb_farmap.proofs.bucket.Bucket.put_over.Goals as goal
 
-pub value-old-requires-clause-long : goal.value-old-requires-clause-long
-value-old-requires-clause-long g c = found_long (record_of c.args.pass.now).written c.args.self.now c.args.found.now
-    c.requires.bucket c.requires.found
+pub value-old-requires : goal.value-old-requires
+value-old-requires g c = record {
+  long = found_long (record_of c.args.pass.now).written c.args.self.now
+      c.args.found.now c.requires.bucket c.requires.found;
+}
 
 pub write_pair-requires-clause-within : goal.write_pair-requires-clause-within
 write_pair-requires-clause-within g c = inside (record_of c.args.pass.now).written c.args.self.now c.args.found.now
