@@ -1,5 +1,5 @@
 -- Buckets of which one is changed.
-use Rattle.std.proofs.Common.{◌≡◌, ◌≢◌, ◌⊎◌, ℕ, zero, suc, ◌+◌, ◌*◌, ◌/◌, ◌%◌, ◌<◌, ◌≤◌, Bool, true, false, eqb, ne_eqb, List, [], ◌∷◌, ◌++◌, length, get_or, slice_set, map, take, drop, refl, sym, ap, ◌∙◌, subst, inl, inr, append_assoc, arith}
+use Rattle.std.proofs.Common.{◌≡◌, ◌≢◌, ℕ, zero, suc, ◌+◌, ◌/◌, ◌%◌, ◌<◌, ◌≤◌, false, eqb, ne_eqb, List, [], ◌∷◌, ◌++◌, length, get_or, slice_set, map, take, drop, refl, sym, ap, ◌∙◌, subst, inl, inr, append_assoc, arith}
 use Rattle.std.specs.Prelude.{sum_by}
 use Rattle.std.proofs.lemmas.List.{get_or-append-add, get_or_append_left, length-append, length-map, map-set, set-append_left}
 use Rattle.std.proofs.lemmas.List.Sums.{sum_by-set}
@@ -15,7 +15,7 @@ use Rattle.cb_farmap.specs.Changes.{AreSole, IsBehind, IsSole, with_next}
 use Rattle.cb_farmap.specs.Maps.{kept_of, pairs_of}
 use Rattle.cb_farmap.specs.Objects.{AreApart, IsObject, blank, object_at}
 use Rattle.cb_farmap.specs.Pairs.{Pair}
-use Rattle.cb_farmap.proofs.Behind.{apart_set, sole_front, soles_more, soles_same, soles_set}
+use Rattle.cb_farmap.proofs.Behind.{apart_set, soles_more, soles_same, soles_set}
 use Rattle.cb_farmap.proofs.BucketLaws.{bucket_on, pairs_in_on}
 use Rattle.cb_farmap.proofs.Lists.{all_at, all_set}
 use Rattle.cb_farmap.proofs.Objects.{found_there}
@@ -32,7 +32,8 @@ module _ (es : List Entry) (bs : List Bucket) (key : ℕ) (some : 1 ≤ length b
   pub bucket_there : AllByRecursion (IsBucket es) bs → IsBucket es (bucket_in bs key)
   bucket_there all = all_at (IsBucket es) bs i no_bucket all within
 
-  pairs_get : (l : List Bucket) (n : ℕ) → n < length l → get_or (map (pairs_in es) l) n [] ≡ pairs_in es (get_or l n no_bucket)
+  pairs_get : (l : List Bucket) (n : ℕ) → n < length l → get_or (map (pairs_in es) l) n []
+      ≡ pairs_in es (get_or l n no_bucket)
   pairs_get [] n low = absurd (omega (arith, low))
   pairs_get (b ∷ l) zero low = refl
   pairs_get (b ∷ l) (suc n) low = pairs_get l n (omega (arith, low))
@@ -90,7 +91,8 @@ kept_set : (bs : List Bucket) (i : ℕ) (later : Bucket) → i < length bs
     → kept_of (slice_set bs i later) ≡ front_of bs i ++ (later.kept ++ back_of bs i)
 kept_set [] i later within = absurd (omega (arith, within))
 kept_set (b ∷ bs) zero later within = refl
-kept_set (b ∷ bs) (suc i) later within = ap (λ (l : List KeptObject). b.kept ++ l) (kept_set bs i later (omega (arith, within)))
+kept_set (b ∷ bs) (suc i) later within =
+    ap (λ (l : List KeptObject). b.kept ++ l) (kept_set bs i later (omega (arith, within)))
     ∙ sym (append_assoc b.kept (front_of bs i) (later.kept ++ back_of bs i))
 
 all_left : {A : Type 0} (P : A → Type 0) (xs ys : List A) → AllByRecursion P (xs ++ ys) → AllByRecursion P xs

@@ -1,6 +1,5 @@
 -- A map without objects is one of every pass, and empty.
-use Rattle.std.proofs.Common.{◌≡◌, ℕ, zero, suc, ◌+◌, ◌≤◌, List, [], ◌∷◌, length, replicate, None, refl, sym, ap, ◌∙◌, subst, arith}
-use Rattle.std.specs.Prelude.{sum_by}
+use Rattle.std.proofs.Common.{◌≡◌, ℕ, zero, suc, ◌+◌, ◌≤◌, List, [], length, replicate, None, refl, sym, ap, ◌∙◌, subst, arith}
 use Rattle.std.proofs.lemmas.List.{length-replicate}
 use Rattle.std.specs.FinMap as finite
 use Rattle.std.specs.List.{AllByRecursion, IsDistinct, fold}
@@ -8,12 +7,11 @@ use Rattle.std.specs.Ordering.{nat_cmp}
 use Rattle.cb_world.specs.declared.entry.Entry.{Entry}
 use Rattle.cb_rule.specs.declared.view.View.{View}
 use Rattle.cb_farmap.specs.declared.bucket.Bucket.{Bucket}
-use Rattle.cb_farmap.specs.declared.kept.KeptObject.{KeptObject}
 use Rattle.cb_farmap.specs.declared.map.FarMap.{FarMap}
 use Rattle.cb_farmap.specs.Buckets.{IsBucket, no_bucket}
 use Rattle.cb_farmap.specs.Maps.{IsMapOf, kept_of, map_of, pairs_of}
 use Rattle.cb_farmap.specs.Objects.{AreApart}
-use Rattle.cb_farmap.specs.Pairs.{AreAtHome, AreBuckets, NoKeyTwice, Pair, map_of_pairs}
+use Rattle.cb_farmap.specs.Pairs.{AreAtHome, NoKeyTwice, map_of_pairs}
 
 abbrev none : ℕ → List Bucket
 none n = replicate n no_bucket
@@ -58,7 +56,10 @@ fresh_map v n some = (
     some = (let l = length-replicate {A = Bucket} n no_bucket in omega (arith, l, some));
     each = each_fresh v.written n;
     apart = subst AreApart (sym (no_objects n)) apart_none;
-    keys = record { home = at_home v.written (length (pairs_of v.written (none n))) 0 n; single = all_single v.written n };
+    keys = record {
+      home = at_home v.written (length (pairs_of v.written (none n))) 0 n;
+      single = all_single v.written n;
+    };
     counts = sym (no_count n 0);
     len_is = sym (ap finite.len (no_pairs v.written n) ∙ finite.len-empty nat_cmp ℕ);
   },

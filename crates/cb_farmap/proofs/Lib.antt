@@ -45,6 +45,9 @@ mod WorkedPairs
 mod Telling
 mod WorkedObjects
 mod WorkedAsks
+mod WorkedGoes
 mod WorkedArrays
 mod WorkedMaps
+mod WorkedArrayCalls
+mod WorkedMapCalls
 pub mod Laws

@@ -1,25 +1,21 @@
 -- What each call on a map comes to, by what the call on its bucket was answered.
-use Rattle.std.proofs.Common.{◌≡◌, ℕ, ◌+◌, ◌-◌, ◌%◌, ◌^◌, ◌<◌, ◌≤◌, List, [], ◌∷◌, ◌++◌, length, get_or, slice_set, Option, None, Some, Result, Ok, Err, IfOk, OnErr, OnOk, refl, sym, ap, ◌∙◌, subst, arith}
-use Rattle.std.specs.Prelude.{if◌then◌else◌, is_some, sum_by}
+use Rattle.std.proofs.Common.{◌≡◌, ℕ, ◌+◌, ◌-◌, ◌%◌, ◌<◌, ◌≤◌, List, [], length, get_or, slice_set, Option, None, Some, Result, Ok, Err, IfOk, OnErr, OnOk, refl, sym, ap, ◌∙◌, subst, arith}
 use Rattle.std.specs.FinMap as finite
-use Rattle.std.specs.List.{AllByRecursion}
 use Rattle.std.proofs.lemmas.List.{length-set}
 use Rattle.cb_types.specs.declared.config.Config.{Config}
-use Rattle.cb_world.specs.declared.entry.Entry.{Entry}
 use Rattle.cb_rule.specs.declared.view.View.{View}
 use Rattle.cb_farmap.specs.declared.bucket.Bucket.{Bucket}
 use Rattle.cb_farmap.specs.declared.kept.Cannot.{Cannot}
-use Rattle.cb_farmap.specs.declared.kept.KeptObject.{KeptObject}
 use Rattle.cb_farmap.specs.declared.kept.Stop.{Stop}
 use Rattle.cb_farmap.specs.declared.map.FarMap.{FarMap}
 use Rattle.cb_farmap.specs.BucketChanges.{Becomes, added_by, dropped_in, put_in, removed_by, value_of}
 use Rattle.cb_farmap.specs.Buckets.{IsBucket, bucket_in, pairs_in, with_bucket}
-use Rattle.cb_farmap.specs.Calls.{Answers, Ask, AskRead, Goes, trouble}
+use Rattle.cb_farmap.specs.Calls.{Answers, Ask, Goes, trouble}
 use Rattle.cb_farmap.specs.Changes.{AreLoose, AreSole, GoesOn, IsBehind, IsCalm, IsLoose, IsSole}
 use Rattle.cb_farmap.specs.MapChanges.{IsDropped, IsLooked, IsPut, KeepsMap, StaysMap, reads_of}
 use Rattle.cb_farmap.specs.Maps.{IsCalmMap, IsMapOf, kept_of, map_of, pairs_of, told_map}
 use Rattle.cb_farmap.specs.Objects.{AreApart}
-use Rattle.cb_farmap.specs.Pairs.{AreBuckets, BelongTo, NoKeyTwice, Pair, map_of_pairs, place_of}
+use Rattle.cb_farmap.specs.Pairs.{AreBuckets, BelongTo, NoKeyTwice, Pair, map_of_pairs}
 use Rattle.cb_farmap.specs.Plans.{drop_plan, look_plan, put_plan}
 use Rattle.cb_farmap.specs.Stops.{cannot_of, stop_behind}
 use Rattle.cb_farmap.proofs.Behind.{goes_on, on_same, soles_same}
@@ -30,7 +26,7 @@ use Rattle.cb_farmap.proofs.MapPairs.{added_if, drop_len, drop_long, drop_takes,
 use Rattle.cb_farmap.proofs.Once.{apart_own, drop_once, look_once, put_once}
 use Rattle.cb_farmap.proofs.OneBucket.{Takes}
 use Rattle.cb_farmap.proofs.Places.{value_at}
-use Rattle.cb_farmap.proofs.PlanLaws.{WritesLast, are_reads, calm_same, drop_last, look_last, look_read, put_last}
+use Rattle.cb_farmap.proofs.PlanLaws.{WritesLast, calm_same, drop_last, look_last, look_read, put_last}
 
 -- ---- a map of a record that went on
 module _ (v w : View) (a : FarMap) (of : IsMapOf v a) (on : IsBehind v.written w.written) where
@@ -72,6 +68,16 @@ module _ (c : Config) (first : ℕ) (plan : List Ask) (v w : View) (a : FarMap) 
 
   pub map_stays_again : StaysMap t v a w a
   map_stays_again = record { map = map_stays v w a of on.behind a.stop; left = sym stays_stopped }
+
+-- ---- what was told and what is noted of it, where so many keys are counted then
+pub map_noted : {X : Type 0} (stop : Option Stop) (now : List Bucket) (P : Result X Cannot → FarMap → Type 0)
+    (r q : Result X Cannot) → q ≡ r → (s : Option Stop) → s ≡ stop_behind stop (trouble r) → (n m : ℕ) → n ≡ m
+    → P r (record { buckets = now; len = m; stop = stop_behind stop (trouble r) })
+    → P q (record { buckets = now; len = n; stop = s })
+map_noted {X = X} stop now P r q same s is n m counted it =
+    subst (λ (z : Result X Cannot). P z (record { buckets = now; len = n; stop = s })) (sym same)
+    (subst (λ (o : Option Stop). P r (record { buckets = now; len = n; stop = o })) (sym is)
+    (subst (λ (k : ℕ). P r (record { buckets = now; len = k; stop = stop_behind stop (trouble r) })) (sym counted) it))
 
 -- ---- the bucket of a key
 module _ (v : View) (a : FarMap) (of : IsMapOf v a) (key : ℕ) where
@@ -274,16 +280,19 @@ module _ (c : Config) (first : ℕ) (v w : View) (a : FarMap) (of : IsMapOf v a)
       puts = put_plan v.written b (key, x)
 
       put_there : Becomes v.written b later (put_in v.written b (key, x)) w.written
-          → Takes (length a.buckets) (key % length a.buckets) key (Some x) (pairs_in v.written b) (put_in v.written b (key, x))
+          → Takes (length a.buckets) (key % length a.buckets) key (Some x) (pairs_in v.written b)
+          (put_in v.written b (key, x))
       put_there becomes = put_takes (length a.buckets) (key % length a.buckets) (pairs_in v.written b) key
           (home v a of key) (single v a of key) x refl
 
-      put_map : (becomes : Becomes v.written b later (put_in v.written b (key, x)) w.written) (len : ℕ) (stop : Option Stop)
+      put_map : (becomes : Becomes v.written b later (put_in v.written b (key, x)) w.written) (len : ℕ)
+          (stop : Option Stop)
           → map_of w (record { buckets = with_bucket a.buckets key later; len = len; stop = stop })
           ≡ finite.insert (map_of v a) key x
       put_map becomes len stop = ap map_of_pairs (pairs_now v a of key w (Some x) later
           (put_in v.written b (key, x)) (put_there becomes) becomes)
-          ∙ map_inserted (pairs_of v.written a.buckets) of.keys (some_all v a of key) key x (put_in v.written b (key, x))
+          ∙ map_inserted (pairs_of v.written a.buckets) of.keys (some_all v a of key) key x
+          (put_in v.written b (key, x))
           (takes_all v a of key w (Some x) later (put_in v.written b (key, x)) (put_there becomes) becomes)
 
       put_count : Becomes v.written b later (put_in v.written b (key, x)) w.written
@@ -298,7 +307,8 @@ module _ (c : Config) (first : ℕ) (v w : View) (a : FarMap) (of : IsMapOf v a)
       put_is : (o : Option ℕ) → o ≡ value_of v.written b key
           → Becomes v.written b later (put_in v.written b (key, x)) w.written
           → IsMapOf w (set_to (a.len + added_by (Ok o)))
-      put_is o is becomes = map_now v a of key w (Some x) later (put_in v.written b (key, x)) (put_there becomes) becomes
+      put_is o is becomes = map_now v a of key w (Some x) later (put_in v.written b (key, x))
+          (put_there becomes) becomes
           (a.len + added_by (Ok o)) a.stop
           (ap (λ (q : Option ℕ). a.len + added_by (Ok q) + b.count) is ∙ put_count becomes)
           ((λ i. of.len_is i + added_by (Ok ((is ∙ value_got v a of key) i)))
@@ -322,7 +332,8 @@ module _ (c : Config) (first : ℕ) (v w : View) (a : FarMap) (of : IsMapOf v a)
       pub put_stays : (r : Result (Option ℕ) Cannot) → OnErr r (now ≡ a.buckets) → Goes c first puts (trouble r) v w
           → OnErr r (StaysMap (trouble r) v a w (left_with (a.len + added_by r) (trouble r)))
       put_stays (Ok o) kept goes = tt
-      put_stays (Err e) kept goes = err_stays puts e (a.len + 0) (let z : a.len + 0 ≡ a.len = omega arith in z) kept goes
+      put_stays (Err e) kept goes = err_stays puts e (a.len + 0)
+          (let z : a.len + 0 ≡ a.len = omega arith in z) kept goes
 
       pub put_keeps : (r : Result (Option ℕ) Cannot) → IfOk r (λ o. o ≡ value_of v.written b key)
           → OnOk r (Becomes v.written b later (put_in v.written b (key, x)) w.written)
@@ -346,9 +357,11 @@ module _ (c : Config) (first : ℕ) (v w : View) (a : FarMap) (of : IsMapOf v a)
         (home v a of key) (single v a of key)
 
     removed_all : (becomes : Becomes v.written b later (dropped_in v.written b key) w.written)
-        → map_of_pairs (slice_set (pairs_of v.written a.buckets) (key % length (pairs_of v.written a.buckets)) (dropped_in v.written b key))
+        → map_of_pairs (slice_set (pairs_of v.written a.buckets) (key % length (pairs_of v.written a.buckets))
+        (dropped_in v.written b key))
         ≡ finite.remove (map_of v a) key
-    removed_all becomes = map_removed (pairs_of v.written a.buckets) of.keys (some_all v a of key) key (dropped_in v.written b key)
+    removed_all becomes = map_removed (pairs_of v.written a.buckets) of.keys (some_all v a of key) key
+        (dropped_in v.written b key)
         (takes_all v a of key w None later (dropped_in v.written b key) (drop_there becomes) becomes)
 
     drop_count : Becomes v.written b later (dropped_in v.written b key) w.written
@@ -390,7 +403,8 @@ module _ (c : Config) (first : ℕ) (v w : View) (a : FarMap) (of : IsMapOf v a)
         → IfOk r (λ o. IsDropped key o v a w (left_with (a.len - removed_by r) (trouble r)))
     drop_ok (Ok o) is becomes = subst (IsDropped key o v a w) (sym (done (a.len - removed_by (Ok o)))) (record {
       value = is ∙ value_got v a of key;
-      map = ap map_of_pairs (pairs_now v a of key w None later (dropped_in v.written b key) (drop_there becomes) becomes)
+      map = ap map_of_pairs (pairs_now v a of key w None later (dropped_in v.written b key)
+          (drop_there becomes) becomes)
           ∙ removed_all becomes;
       bucket = later;
       becomes = becomes;
@@ -401,7 +415,8 @@ module _ (c : Config) (first : ℕ) (v w : View) (a : FarMap) (of : IsMapOf v a)
     pub drop_stays : (r : Result (Option ℕ) Cannot) → OnErr r (now ≡ a.buckets) → Goes c first drops (trouble r) v w
         → OnErr r (StaysMap (trouble r) v a w (left_with (a.len - removed_by r) (trouble r)))
     drop_stays (Ok o) kept goes = tt
-    drop_stays (Err e) kept goes = err_stays drops e (a.len - 0) (let z : a.len - 0 ≡ a.len = omega arith in z) kept goes
+    drop_stays (Err e) kept goes = err_stays drops e (a.len - 0)
+        (let z : a.len - 0 ≡ a.len = omega arith in z) kept goes
 
     pub drop_keeps : (r : Result (Option ℕ) Cannot) → IfOk r (λ o. o ≡ value_of v.written b key)
         → OnOk r (Becomes v.written b later (dropped_in v.written b key) w.written)

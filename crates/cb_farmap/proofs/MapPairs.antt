@@ -1,11 +1,11 @@
 -- What a put and a drop make of the pairs of a bucket, by the place of the key.
-use Rattle.std.proofs.Common.{◌≡◌, ℕ, ◌+◌, ◌-◌, ◌%◌, ◌<◌, ◌≤◌, Bool, true, false, List, [], ◌∷◌, ◌++◌, length, slice_set, take, Option, Some, None, Ok, refl, sym, ap, ◌∙◌, subst, arith}
+use Rattle.std.proofs.Common.{◌≡◌, ℕ, ◌+◌, ◌-◌, ◌%◌, List, length, Option, Some, None, Ok, refl, sym, ap, ◌∙◌, arith}
 use Rattle.std.specs.Prelude.{if◌then◌else◌, is_some}
-use Rattle.std.proofs.lemmas.List.{length-set, length-take-le, length_push}
+use Rattle.std.proofs.lemmas.List.{length-set, length_push}
 use Rattle.std.specs.FinMap as finite
 use Rattle.std.specs.Ordering.{nat_cmp}
 use Rattle.cb_farmap.specs.BucketChanges.{added_by, dropped_at, put_at, removed_by, value_in}
-use Rattle.cb_farmap.specs.Pairs.{BelongTo, NoKeyTwice, Pair, dropped, pair_of, place_of}
+use Rattle.cb_farmap.specs.Pairs.{BelongTo, NoKeyTwice, Pair, place_of}
 use Rattle.cb_farmap.proofs.Mapping.{len_less, len_new, len_old, remove_none}
 use Rattle.cb_farmap.proofs.OneBucket.{Takes, adds_pair, drops_pair, one_less, tells_by, writes_pair}
 use Rattle.cb_farmap.proofs.Places.{first_at, no_value, none_there, value_at, value_there}
@@ -62,14 +62,16 @@ module _ (many at : ℕ) (pairs : List Pair) (key : ℕ) (home : BelongTo many a
 abbrev FarPairs : Type 0
 FarPairs = finite.FinMap nat_cmp ℕ
 
-pub put_len : (m : FarPairs) (key x : ℕ) → finite.len (finite.insert m key x) ≡ finite.len m + added_by (Ok (finite.get m key))
+pub put_len : (m : FarPairs) (key x : ℕ) → finite.len (finite.insert m key x)
+    ≡ finite.len m + added_by (Ok (finite.get m key))
 put_len m key x = by (finite.get m key) refl
   where
     by : (o : Option ℕ) → finite.get m key ≡ o → finite.len (finite.insert m key x) ≡ finite.len m + added_by (Ok o)
     by None is = len_new m key x is
     by (Some old) is = len_old m key x old is ∙ (let z : finite.len m ≡ finite.len m + 0 = omega arith in z)
 
-pub drop_len : (m : FarPairs) (key : ℕ) → finite.len (finite.remove m key) + removed_by (Ok (finite.get m key)) ≡ finite.len m
+pub drop_len : (m : FarPairs) (key : ℕ) → finite.len (finite.remove m key) + removed_by (Ok (finite.get m key))
+    ≡ finite.len m
 drop_len m key = by (finite.get m key) refl
   where
     by : (o : Option ℕ) → finite.get m key ≡ o → finite.len (finite.remove m key) + removed_by (Ok o) ≡ finite.len m

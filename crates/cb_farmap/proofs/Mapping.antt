@@ -1,12 +1,12 @@
 -- The map of buckets, of which one is changed at a key.
-use Rattle.std.proofs.Common.{◌≡◌, ◌⊎◌, ℕ, zero, suc, ◌+◌, ◌-◌, ◌%◌, ◌<◌, ◌≤◌, Bool, true, false, cond, List, [], ◌∷◌, ◌++◌, length, get_or, slice_set, Option, Some, None, is_some, refl, sym, ap, ◌∙◌, subst, inl, inr, arith}
+use Rattle.std.proofs.Common.{◌≡◌, ◌⊎◌, ℕ, zero, suc, ◌+◌, ◌%◌, ◌<◌, Bool, true, false, cond, List, [], ◌∷◌, ◌++◌, length, get_or, slice_set, Option, Some, None, is_some, refl, sym, ap, ◌∙◌, subst, inl, inr, arith}
 use Rattle.std.proofs.lemmas.List.{get_or-set_same, get_or-set_other, length-set}
 use Rattle.std.specs.List.{AllByRecursion, flat_map}
 use Rattle.std.specs.Ordering.{nat_cmp, eq_by_cmp}
 use Rattle.std.specs.Cmp.{nat_cmp_total}
 use Rattle.std.specs.FinMap as map
 use Rattle.cb_farmap.specs.Pairs.{Pair, AreAtHome, AreBuckets, BelongTo, NoKeyTwice, map_of_pairs}
-use Rattle.cb_farmap.proofs.OneBucket.{Takes, TellsAt}
+use Rattle.cb_farmap.proofs.OneBucket.{Takes}
 use Rattle.cb_farmap.proofs.Places.{is_same, not_same, same_or_not, value_at}
 
 abbrev or_else : Option ℕ → Option ℕ → Option ℕ

@@ -11,10 +11,10 @@ use Rattle.cb_farmap.specs.Buckets.{IsBucket, all_pairs, bucket_in, no_bucket, p
 use Rattle.cb_farmap.specs.Calls.{Ask, AskMake, AskRead, AskWrite}
 use Rattle.cb_farmap.specs.MapChanges.{reads_of}
 use Rattle.cb_farmap.specs.Maps.{kept_of}
-use Rattle.cb_farmap.specs.Objects.{AreApart, blank, object_at}
+use Rattle.cb_farmap.specs.Objects.{AreApart, object_at}
 use Rattle.cb_farmap.specs.PairBytes.{object_bytes}
 use Rattle.cb_farmap.specs.Pairs.{Pair, pair_of, place_of}
-use Rattle.cb_farmap.specs.Plans.{add_ask, drop_asks, drop_plan, is_filled, last_asks, look_plan, move_asks, objects_to, put_ask, put_plan, write_at}
+use Rattle.cb_farmap.specs.Plans.{drop_asks, drop_plan, is_filled, look_plan, move_asks, objects_to, put_ask, put_plan, write_at}
 use Rattle.cb_farmap.proofs.FindIn.{long_in}
 use Rattle.cb_farmap.proofs.Places.{first_at}
 
@@ -24,7 +24,8 @@ handles ks = map (λ (k : KeptObject). k.handle.n) ks
 abbrev off : ℕ → ℕ → Type 0
 off n m = eqb n m ≡ false
 
-off_take : (n m : ℕ) (ks : List KeptObject) → AllByRecursion (off n) (handles ks) → AllByRecursion (off n) (handles (take m ks))
+off_take : (n m : ℕ) (ks : List KeptObject) → AllByRecursion (off n) (handles ks)
+    → AllByRecursion (off n) (handles (take m ks))
 off_take n zero ks all = tt
 off_take n (suc m) [] all = tt
 off_take n (suc m) (k ∷ ks) all = (all.0, off_take n m ks all.1)
@@ -117,7 +118,8 @@ module _ (es : List Entry) (b : Bucket) (apart : AreApart b.kept) where
       place = place_of p.0 (pairs_in es b)
 
   -- the last pair's object, where it is another one than that of the key's place
-  moves : (n place last : ℕ) (s t : Bool) → (eqb place last ≡ s) → (eqb (last / 64) (place / 64) ≡ t) → n ≡ place / 64 + 1
+  moves : (n place last : ℕ) (s t : Bool) → (eqb place last ≡ s) → (eqb (last / 64) (place / 64) ≡ t)
+      → n ≡ place / 64 + 1
       → place ≤ last → last < 64 * length b.kept
       → AreApart (take n b.kept ++ reads_of (if s then [] else
       (if t then [] else AskRead (object_at b.kept (last / 64)) ∷ [])
@@ -129,8 +131,10 @@ module _ (es : List Entry) (b : Bucket) (apart : AreApart b.kept) where
   moves n place last false false same other is most within = apart_and n (last / 64) b.kept
       (ahead n place last is most other) (omega (arith, within)) apart
     where
-      ahead : (n place last : ℕ) → n ≡ place / 64 + 1 → place ≤ last → eqb (last / 64) (place / 64) ≡ false → n ≤ last / 64
-      ahead n place last is most other = let ne = eqb-false (last / 64) (place / 64) other in omega (arith, is, most, ne)
+      ahead : (n place last : ℕ) → n ≡ place / 64 + 1 → place ≤ last → eqb (last / 64) (place / 64) ≡ false
+          → n ≤ last / 64
+      ahead n place last is most other = let ne = eqb-false (last / 64) (place / 64) other in
+          omega (arith, is, most, ne)
 
   pub drop_once : IsBucket es b → (key : ℕ) → AreApart (reads_of (drop_plan es b key))
   drop_once is key = by (place_of key (pairs_in es b)) refl
@@ -141,7 +145,8 @@ module _ (es : List Entry) (b : Bucket) (apart : AreApart b.kept) where
           ∙ append-nil (reads_of (map AskRead (take (objects_to b.count None) b.kept)))
           ∙ reads_are (take (objects_to b.count None) b.kept)))
           (apart_take (objects_to b.count None) b.kept apart)
-      by (Some p) at = let low = (first_at key (pairs_in es b) p at).0 in let n = long_in es b is in let w = is.within in
+      by (Some p) at = let low = (first_at key (pairs_in es b) p at).0 in let n = long_in es b is in
+          let w = is.within in
           subst AreApart (sym (reads_both (map AskRead (take (p / 64 + 1) b.kept)) (move_asks es b.kept p (b.count - 1))
           ∙ ap (λ (l : List KeptObject). l ++ reads_of (move_asks es b.kept p (b.count - 1)))
           (reads_are (take (p / 64 + 1) b.kept))))

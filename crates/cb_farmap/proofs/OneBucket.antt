@@ -1,11 +1,11 @@
 -- A bucket of which one pair is written, put behind the others, or dropped.
-use Rattle.std.proofs.Common.{◌≡◌, ◌≢◌, ◌⊎◌, ℕ, zero, suc, ◌+◌, ◌-◌, ◌%◌, ◌<◌, ◌≤◌, Bool, true, false, cond, List, [], ◌∷◌, ◌++◌, length, get_or, slice_set, take, Option, Some, None, refl, sym, ap, ◌∙◌, subst, inl, inr, arith}
+use Rattle.std.proofs.Common.{◌≡◌, ◌≢◌, ◌⊎◌, ℕ, zero, suc, ◌+◌, ◌-◌, ◌%◌, ◌<◌, ◌≤◌, Bool, cond, List, [], ◌∷◌, ◌++◌, length, slice_set, take, Option, Some, None, refl, sym, ap, ◌∙◌, inl, inr, arith}
 use Rattle.std.proofs.lemmas.Bool.{cases_lt}
 use Rattle.std.proofs.lemmas.List.{get_or-set_same, get_or-set_other, get_or-take, get_or_append_left, get_or-append_right, length-set, length-take-le, length_push}
 use Rattle.std.specs.List.{AllByRecursion}
 use Rattle.std.specs.Ordering.{nat_cmp, eq_by_cmp}
 use Rattle.cb_farmap.specs.Pairs.{Pair, BelongTo, HasNot, IsFirst, NoKeyTwice, dropped, pair_of, place_of}
-use Rattle.cb_farmap.proofs.Places.{absent, first_at, is_same, no_value, none_there, not_same, same_or_not, sought, value_at, value_there}
+use Rattle.cb_farmap.proofs.Places.{first_at, is_same, no_value, none_there, not_same, same_or_not, sought, value_at, value_there}
 
 -- a value at a key, or none, and all else as it was
 abbrev pub TellsAt : ℕ → Option ℕ → List Pair → List Pair → Type 0
@@ -44,7 +44,8 @@ same_values q pairs later one two there back = by (sought q pairs)
     by (inr none) = no_value q later (λ i less is. let z = back i less is in
         none z.0 z.1 (ap (λ (p : Pair). p.0) z.2 ∙ is)) ∙ sym (no_value q pairs none)
 
-all_at : (P : Pair → Type 0) (pairs : List Pair) (i : ℕ) → AllByRecursion P pairs → i < length pairs → P (pair_of pairs i)
+all_at : (P : Pair → Type 0) (pairs : List Pair) (i : ℕ) → AllByRecursion P pairs → i < length pairs
+    → P (pair_of pairs i)
 all_at P [] i all less = absurd (omega (arith, less))
 all_at P (p ∷ pairs) zero all less = all.0
 all_at P (p ∷ pairs) (suc i) all less = all_at P pairs i all.1 (omega (arith, less))
@@ -243,7 +244,8 @@ module _ (many at : ℕ) (pairs : List Pair) (p key : ℕ) (home : BelongTo many
       by li lj (inr u) (inr v) e = sym u.0 ∙ e ∙ v.0
 
   -- where a pair of before stands now
-  to : (i : ℕ) → i < length pairs → (i ≡ p → ⊥) → (j : ℕ) × (j < length less_one) × (pair_of less_one j ≡ pair_of pairs i)
+  to : (i : ℕ) → i < length pairs → (i ≡ p → ⊥) → (j : ℕ) × (j < length less_one) × (pair_of less_one j
+      ≡ pair_of pairs i)
   to i low ne = by (cases_lt i last)
     where
       by : (i < last) ⊎ (last ≤ i) → (j : ℕ) × (j < length less_one) × (pair_of less_one j ≡ pair_of pairs i)

@@ -1,15 +1,12 @@
 -- Far maps in a pass as worked examples: what meets the definition, and what breaks a part alone.
-use Rattle.std.proofs.Common.{◌≡◌, ℕ, ◌+◌, ◌*◌, ◌≤◌, Bool, true, false, List, [], ◌∷◌, length, None, Some, Option, refl, arith}
-use Rattle.std.specs.Prelude.{sum_by}
-use Rattle.std.specs.FinMap as finite
-use Rattle.std.specs.List.{AllByRecursion, IsDistinct}
+use Rattle.std.proofs.Common.{◌≡◌, true, false, List, [], ◌∷◌, None, Some, refl, arith}
+use Rattle.std.specs.List.{IsDistinct}
 use Rattle.cb_world.specs.declared.entry.Entry.{Entry}
 use Rattle.cb_rule.specs.declared.view.View.{View}
 use Rattle.cb_farmap.specs.declared.bucket.Bucket.{Bucket}
 use Rattle.cb_farmap.specs.declared.kept.KeptObject.{KeptObject}
-use Rattle.cb_farmap.specs.declared.map.FarMap.{FarMap}
 use Rattle.cb_farmap.specs.Buckets.{IsBucket, bucket_in, no_bucket, with_bucket}
-use Rattle.cb_farmap.specs.Calls.{Ask, AskMake, AskRead}
+use Rattle.cb_farmap.specs.Calls.{AskMake, AskRead}
 use Rattle.cb_farmap.specs.Maps.{IsMapOf, kept_of}
 use Rattle.cb_farmap.specs.Objects.{AreApart}
 use Rattle.cb_farmap.specs.PairBytes.{object_bytes, pair_bytes}

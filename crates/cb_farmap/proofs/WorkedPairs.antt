@@ -1,6 +1,8 @@
 -- Pairs of buckets as worked examples: what meets the definitions, and what breaks a part alone.
-use Rattle.std.proofs.Common.{◌≡◌, ℕ, zero, suc, ◌+◌, ◌<◌, Bool, true, false, List, [], ◌∷◌, length, replicate, Option, Some, None, refl, sym, ap, inl, inr, arith}
+use Rattle.std.proofs.Common.{◌≡◌, ℕ, zero, suc, List, [], ◌∷◌, length, Some, None, refl, arith}
 use Rattle.std.specs.FinMap as finite
+use Rattle.std.specs.Cmp.{nat_cmp_total}
+use Rattle.std.specs.List.{flat_map}
 use Rattle.std.specs.Ordering.{nat_cmp}
 use Rattle.cb_farmap.specs.BucketChanges.{dropped_at, put_at, value_in}
 use Rattle.cb_farmap.specs.Pairs.{AreAtHome, AreBuckets, NoKeyTwice, Pair, dropped, map_of_pairs, place_of}
@@ -105,11 +107,14 @@ double_not_single : NoKeyTwice ((2, 1) ∷ (2, 3) ∷ []) → ⊥
 double_not_single single = let z : 0 ≡ 1 = single 0 1 (omega arith) (omega arith) refl in omega (arith, z)
 
 -- ---- and their map
+told : (key : ℕ) → finite.get (map_of_pairs two) key ≡ finite.find nat_cmp key (flat_map (λ pairs. pairs) two)
+told key = finite.get-from_entries nat_cmp_total (flat_map (λ pairs. pairs) two) key
+
 one_told : finite.get (map_of_pairs two) 1 ≡ Some 5
-one_told = refl
+one_told = told 1
 
 four_told : finite.get (map_of_pairs two) 4 ≡ Some 3
-four_told = refl
+four_told = told 4
 
 none_told : finite.get (map_of_pairs two) 3 ≡ None
-none_told = refl
+none_told = told 3

@@ -1,4 +1,4 @@
-use Rattle.std.proofs.Common.{◌≡◌, ℕ, List, [], ◌∷◌, ◌++◌, replicate, sym, ap, ◌∙◌, arith}
+use Rattle.std.proofs.Common.{◌≡◌, ℕ, List, [], ◌∷◌, ◌++◌, replicate, ap, ◌∙◌, arith}
 use Rattle.std.proofs.lemmas.List.{replicate_more}
 use Rattle.cb_farmap.specs.declared.bucket.Bucket.{Bucket}
 use Rattle.cb_farmap.specs.Buckets.{no_bucket}
@@ -11,5 +11,7 @@ loop-preserved c = c.in_ok-push.ensures.items
     ∙ replicate_more c.loop.counter no_bucket
 
 pub returns : goal.returns
-returns c = c.loop.invariant ∙ ap (λ (n : ℕ). replicate n no_bucket)
-    (let all : c.loop.counter ≡ c.args.many = omega (arith, c.loop.auto.counter-end, c.loop-test.false) in all)
+returns c = record {
+  empty = c.loop.invariant ∙ ap (λ (n : ℕ). replicate n no_bucket)
+      (let all : c.loop.counter ≡ c.args.many = omega (arith, c.loop.auto.counter-end, c.loop-test.false) in all);
+}
