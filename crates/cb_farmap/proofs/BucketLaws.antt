@@ -60,7 +60,8 @@ pair_in_object es ks place within =
 
 -- ---- a pair is written
 module _ (es : List Entry) (ks : List KeptObject) (place : ℕ) (p : Pair) (later : List KeptObject) (new : List Entry)
-    (all : AllByRecursion (IsObject es) ks) (within : place < 64 * length ks) (wrote : WritesPair es ks place p later new) where
+    (all : AllByRecursion (IsObject es) ks) (within : place < 64 * length ks)
+    (wrote : WritesPair es ks place p later new) where
   abbrev o : ℕ
   o = place / 64
 
@@ -177,7 +178,8 @@ module _ (es new : List Entry) (b : Bucket) (later : List KeptObject) (is : IsBu
       within = (let n = ap length kept in let w = is.within in omega (arith, n, w));
     };
     pairs_are = (λ i. take (b.count - 1) (all_pairs (same i) (kept i)))
-        ∙ take_last (all_pairs es b.kept) b.count place low (let n = long_all es b.kept in let w = is.within in omega (arith, n, w))
+        ∙ take_last (all_pairs es b.kept) b.count place low
+        (let n = long_all es b.kept in let w = is.within in omega (arith, n, w))
         (eqb-true place (b.count - 1) last);
     objects = inl (kept, same);
   }

@@ -35,8 +35,8 @@ module _ (c : Config) (n : ℕ) (ks : List KeptObject) (place last : ℕ) where
   -- or by a read of its own
   pub last_read : (t s : Option Cannot) (v w : View) (k : KeptObject) → k ≡ object_at ks (last / 64) → s ≡ t
       → last / 64 ≢ place / 64 → Goes c n (AskRead k ∷ []) t v w → Goes c n (last_asks ks place last) s v w
-  last_read t s v w k of same off goes = subst (λ (z : Option Cannot). Goes c n (last_asks ks place last) z v w) (sym same)
-      (subst (λ (z : Bool). Goes c n (asks_by z) t v w) (sym (ne_eqb (last / 64) (place / 64) off))
+  last_read t s v w k of same off goes = subst (λ (z : Option Cannot). Goes c n (last_asks ks place last) z v w)
+      (sym same) (subst (λ (z : Bool). Goes c n (asks_by z) t v w) (sym (ne_eqb (last / 64) (place / 64) off))
       (subst (λ (z : KeptObject). Goes c n (AskRead z ∷ []) t v w) of goes))
 
 pub pair_here : (es : List Entry) (ks : List KeptObject) (place last : ℕ) (found bytes : List ℕ) → last < 64 * length ks
@@ -50,7 +50,8 @@ pub found_bytes : (es : List Entry) (ks : List KeptObject) (place last : ℕ) (f
     → last / 64 ≡ place / 64 → AllByRecursion (IsObject es) ks → found ≡ bytes_at es (object_at ks (place / 64))
     → length found ≡ 1024
 found_bytes es ks place last found within same all is = ap length is
-    ∙ object_long es (object_at ks (place / 64)) (all_at (IsObject es) ks (place / 64) blank all (omega (arith, within, same)))
+    ∙ object_long es (object_at ks (place / 64))
+    (all_at (IsObject es) ks (place / 64) blank all (omega (arith, within, same)))
 
 pub last_told : (es : List Entry) (k : KeptObject) → IsObject es k → (r : Result (List ℕ) Cannot)
     → IfOk r (λ bytes. bytes ≡ bytes_at es k) → IfOk r (λ bytes. length bytes ≡ 1024)
@@ -97,8 +98,8 @@ pub fills_none : (es : List Entry) (ks : List KeptObject) (place last : ℕ) (p 
 fills_none es ks place last p same =
     subst (λ (t : Bool). FillsGap t es ks place p ks es) (sym (eq-eqb place last same)) (refl, refl)
 
-pub fills_one : (es : List Entry) (ks : List KeptObject) (place last : ℕ) (p q : Pair) (later : List KeptObject) (new : List Entry)
-    → place ≢ last → p ≡ q → WritesPair es ks place p later new → FillsGap (eqb place last) es ks place q later new
+pub fills_one : (es : List Entry) (ks : List KeptObject) (place last : ℕ) (p q : Pair) (later : List KeptObject)
+    (new : List Entry) → place ≢ last → p ≡ q → WritesPair es ks place p later new → FillsGap (eqb place last) es ks place q later new
 fills_one es ks place last p q later new off is wrote =
     subst (λ (t : Bool). FillsGap t es ks place q later new) (sym (ne_eqb place last off))
     (subst (λ (r : Pair). WritesPair es ks place r later new) is wrote)
@@ -123,5 +124,6 @@ module _ (c : Config) (n : ℕ) (ks : List KeptObject) (place last : ℕ) (v u :
       (subst (λ (l : List Entry). WritesPair l ks place p later new) is_read.written wrote)
   fills_last p q later new (Err e) off is wrote = tt
 
-  pub calm_last : (t : Option Cannot) → (AreSole u ks → AreLoose u ks → IsCalm t) → AreSole v ks → AreLoose v ks → IsCalm t
+  pub calm_last : (t : Option Cannot) → (AreSole u ks → AreLoose u ks → IsCalm t) → AreSole v ks → AreLoose v ks
+      → IsCalm t
   calm_last t calm sole loose = calm (sole_read v u ks is_read sole) (loose_read v u ks is_read loose)

@@ -85,7 +85,8 @@ module _ (c : Config) (n : ℕ) (v u : View) (b : Bucket) (key : ℕ)
 
   -- a drop of a pair that was found
   pub drop_after : (place : ℕ) → place_of key (pairs_in v.written b) ≡ Some place → (later : Bucket) (w : View)
-      (r : Result (Option ℕ) Cannot) → OnOk r (Becomes u.written b later (dropped (pairs_in u.written b) place) w.written)
+      (r : Result (Option ℕ) Cannot)
+      → OnOk r (Becomes u.written b later (dropped (pairs_in u.written b) place) w.written)
       → OnOk r (Becomes v.written b later (dropped_in v.written b key) w.written)
   drop_after place at later w (Ok o) becomes = subst (λ (p : Option ℕ). Becomes v.written b later
       (dropped_at (pairs_in v.written b) p) w.written) (sym at)
@@ -144,7 +145,8 @@ module _ (ks : List KeptObject) (place : ℕ) (within : place < 64 * length ks) 
 -- what was told of the write, and what was kept
 pub pair_goes : (c : Config) (n : ℕ) (ks : List KeptObject) (place : ℕ) (p : Pair) (k : KeptObject) (at : ℕ)
     (bytes : List ℕ) (t s : Option Cannot) (v w : View) → k ≡ object_at ks (place / 64) → at ≡ 16 * (place % 64)
-    → bytes ≡ pair_bytes p → s ≡ t → Goes c n (AskWrite k at bytes ∷ []) t v w → Goes c n (write_at ks place p ∷ []) s v w
+    → bytes ≡ pair_bytes p → s ≡ t → Goes c n (AskWrite k at bytes ∷ []) t v w
+    → Goes c n (write_at ks place p ∷ []) s v w
 pair_goes c n ks place p k at bytes t s v w of spot are same goes =
     subst (λ (z : Option Cannot). Goes c n (write_at ks place p ∷ []) z v w) (sym same)
     (subst (λ (l : List ℕ). Goes c n (AskWrite (object_at ks (place / 64)) (16 * (place % 64)) l ∷ []) t v w) are
@@ -164,7 +166,8 @@ pair_wrote es new ks later place p k at bytes (Ok z) (Ok u) key_low value_low of
       key_fits = key_low;
       value_fits = value_low;
       kept = kept ∙ ap (slice_set ks (place / 64)) r.next;
-      wrote = subst (λ (y : KeptObject). Rewrites es (object_at ks (place / 64)) y (16 * (place % 64)) (pair_bytes p) new) r.next r;
+      wrote = subst (λ (y : KeptObject). Rewrites es (object_at ks (place / 64)) y (16 * (place % 64))
+          (pair_bytes p) new) r.next r;
     }
 pair_wrote es new ks later place p k at bytes (Err e) (Ok u) key_low value_low of spot are same wrote kept = absurd cc
 pair_wrote es new ks later place p k at bytes r (Err e) key_low value_low of spot are same wrote kept = tt
@@ -230,7 +233,8 @@ module _ (es : List Entry) (b : Bucket) (key : ℕ) (f : Option Found) where
   pub none_looked : f ≡ None → FindsAt es b key f → None ≡ value_of es b key
   none_looked at finds = ap (value_in (pairs_in es b)) (sym (subst (FindsAt es b key) at finds))
 
-  pub place_found : (found : Found) → f ≡ Some found → FindsAt es b key f → place_of key (pairs_in es b) ≡ Some found.place
+  pub place_found : (found : Found) → f ≡ Some found → FindsAt es b key f
+      → place_of key (pairs_in es b) ≡ Some found.place
   place_found found at finds = (subst (FindsAt es b key) at finds).0
 
   pub place_none : f ≡ None → FindsAt es b key f → place_of key (pairs_in es b) ≡ None

@@ -114,8 +114,8 @@ impl Bucket {
         ensures value { IfOk result (λ o. o
             ≡ value_in (pairs_in (record_of pass.old).written self.old) (Some found.now.place)) }
         ensures put { OnOk result (Becomes (record_of pass.old).written self.old self.new
-            (put_at (pairs_in (record_of pass.old).written self.old) (key, x) (Some found.now.place))
-            (record_of pass.new).written) }
+            (put_at (pairs_in (record_of pass.old).written self.old) (key, x)
+            (Some found.now.place)) (record_of pass.new).written) }
         ensures stays { OnErr result (self.new ≡ self.old) }
         ensures goes { Goes shared.now.config (first_version_of shared.now)
             (put_ask self.old (key, x) (Some found.now.place) ∷ []) (trouble result)
@@ -250,7 +250,8 @@ fn write_pair<R: Wait>(
     keep_later(kept, o, later)
 }
 
-/// Puts a pair behind so many: writes it into the next place, or makes an object where all are full.
+/// Puts a pair behind so many: writes it into the next place, or makes an object where all are
+/// full.
 fn add_pair<R: Wait>(
     rt: &R,
     alloc: Global,

@@ -12,8 +12,10 @@ pair_of-requires-clause-long g c = ap length c.as_slice.ensures.items ∙ found_
     c.requires.within c.if-last-found.true c.requires.objects c.requires.bytes
 
 pub returns-then-last-found-clause-pair : goal.returns-then-last-found-clause-pair
-returns-then-last-found-clause-pair g c = c.pair_of.ensures ∙ pair_here (record_of c.args.pass.now).written c.args.kept.now
-    c.args.found.now.place c.args.last c.args.found.now.bytes c.as_slice.result.now c.requires.within c.if-last-found.true
+returns-then-last-found-clause-pair g c = c.pair_of.ensures ∙ pair_here (record_of c.args.pass.now).written
+    c.args.kept.now
+    c.args.found.now.place c.args.last c.args.found.now.bytes c.as_slice.result.now c.requires.within
+    c.if-last-found.true
     c.requires.bytes c.as_slice.ensures.items
 
 pub returns-then-last-found-clause-goes : goal.returns-then-last-found-clause-goes
@@ -44,5 +46,7 @@ returns-clause-goes g c = last_read c.args.shared.now.config (first_version_of c
 
 pub returns-clause-calm : goal.returns-clause-calm
 returns-clause-calm g c soles loose = subst IsCalm (sym c.pair_in.ensures.same) (c.read_kept-bytes.ensures.calm
-    (sole_there c.args.kept.now c.args.last c.requires.within (record_of c.args.pass.now) c.at.result c.at.ensures soles)
-    (loose_there c.args.kept.now c.args.last c.requires.within (record_of c.args.pass.now) c.at.result c.at.ensures loose))
+    (sole_there c.args.kept.now c.args.last c.requires.within (record_of c.args.pass.now) c.at.result
+    c.at.ensures soles)
+    (loose_there c.args.kept.now c.args.last c.requires.within (record_of c.args.pass.now) c.at.result
+    c.at.ensures loose))

@@ -13,7 +13,8 @@ write_kept-later-requires-clause-object g c = object_there c.args.kept.now c.arg
     (record_of c.args.pass.now).written c.at.result c.at.ensures c.requires.objects
 
 pub returns-clause-wrote : goal.returns-clause-wrote
-returns-clause-wrote g c = pair_wrote (record_of c.args.pass.now).written (record_of c.write_kept-later.new.pass).written
+returns-clause-wrote g c = pair_wrote (record_of c.args.pass.now).written
+    (record_of c.write_kept-later.new.pass).written
     c.args.kept.now c.keep_later.new.kept c.args.place (c.args.key, c.args.x) c.at.result _ c.pair_bytes-bytes.result
     c.write_kept-later.result c.keep_later.result c.ranges.key.fits c.ranges.x.fits c.at.ensures refl
     c.pair_bytes-bytes.ensures c.keep_later.ensures.same c.write_kept-later.ensures.wrote c.keep_later.ensures.done
@@ -30,5 +31,7 @@ returns-clause-goes g c = pair_goes c.args.shared.now.config (first_version_of c
 
 pub returns-clause-calm : goal.returns-clause-calm
 returns-clause-calm g c soles loose = subst IsCalm (sym c.keep_later.ensures.same) (c.write_kept-later.ensures.calm
-    (sole_there c.args.kept.now c.args.place c.requires.within (record_of c.args.pass.now) c.at.result c.at.ensures soles)
-    (loose_there c.args.kept.now c.args.place c.requires.within (record_of c.args.pass.now) c.at.result c.at.ensures loose))
+    (sole_there c.args.kept.now c.args.place c.requires.within (record_of c.args.pass.now) c.at.result
+    c.at.ensures soles)
+    (loose_there c.args.kept.now c.args.place c.requires.within (record_of c.args.pass.now) c.at.result
+    c.at.ensures loose))

@@ -21,7 +21,8 @@ returns-in_err-found-clause-goes g c =
 pub returns-in_err-found-clause-calm : goal.returns-in_err-found-clause-calm
 returns-in_err-found-clause-calm g c sole loose =
     let p = err_from_is_err_and c.from_residual.result c.from_residual.ensures.1 in
-    let some = some_left c.loop-o.o c.args.self.now.count c.div_ceil-o-end.result c.loop-o-test.true c.div_ceil-o-end.ensures in
+    let some = some_left c.loop-o.o c.args.self.now.count c.div_ceil-o-end.result c.loop-o-test.true
+    c.div_ceil-o-end.ensures in
     rw (p.1, p.2) (c.in_err-found.ensures.calm
     (sole_at c.args.shared.now.config (first_version_of c.args.shared.now) (record_of c.args.pass.now)
     (record_of c.loop-o.pass) c.args.self.now c.loop-o.o c.loop-o.invariant.goes c.requires.bucket some sole)
