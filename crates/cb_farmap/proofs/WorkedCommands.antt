@@ -1,7 +1,7 @@
 -- Worked examples of commands on an array and a map: what meets each definition, and what breaks one
 -- part alone.
-use Rattle.std.proofs.Common.{◌≡◌, ◌⊎◌, ℕ, suc, ◌+◌, ◌≤◌, true, false, List, [], ◌∷◌, ◌++◌, length, None, Some, Ok, Err, refl, sym, ap, ◌∙◌, subst, inl, inr, arith}
-use Rattle.std.proofs.lemmas.List.{length-append}
+use Rattle.std.proofs.Common.{◌≡◌, ◌⊎◌, ℕ, suc, ◌+◌, ◌≤◌, true, false, List, [], ◌∷◌, ◌++◌, length, replicate, get_or, Option, None, Some, Ok, Err, refl, sym, ap, ◌∙◌, subst, inl, inr, arith}
+use Rattle.std.proofs.lemmas.List.{append-nil, length-append}
 use Rattle.cb_types.specs.declared.config.Config.{Config}
 use Rattle.cb_types.specs.declared.job.Job.{Job}
 use Rattle.cb_types.specs.declared.job.Job.TheVariants as jobs
@@ -11,7 +11,9 @@ use Rattle.cb_world.specs.declared.entry.Entry.{Entry}
 use Rattle.cb_rule.specs.declared.turn.Turn.{Turn}
 use Rattle.cb_rule.specs.declared.view.Stand.{Stand}
 use Rattle.cb_rule.specs.declared.view.View.{View}
+use Rattle.cb_rule.specs.Lists.{Each}
 use Rattle.cb_rule.specs.Steps.{opener}
+use Rattle.cb_shared.specs.Calls.{IsAnswerTo}
 use Rattle.cb_map_text.specs.Plain.{Plain, fresh}
 use Rattle.cb_map_text.specs.declared.command.FarAnswer.{FarAnswer}
 use Rattle.cb_map_text.specs.declared.command.FarAnswer.TheVariants.{Done, Number, Nothing, Outside, Refused}
@@ -118,6 +120,36 @@ makes_needless t r x = by x.job_is
         off : (j : Job) → IsOnObject v (jobs.Make []) → ⊥
         off j on = on
 
+-- the one turn that there is
+the_turn : (t : Turn) (r q : Reply) → (x : IsToldByTurn two fresh (command.Push 7) r v (making t q ∷ []))
+    → making t q ≡ x.turn
+the_turn t r q x = let e = x.newest in cc
+
+abbrev handles_in : Option Reply → ℕ
+handles_in (Some (answer.Full n)) = n
+handles_in o = 0
+
+-- it was told something else
+other_reply : (t : Turn)
+    → IsToldByTurn two fresh (command.Push 7) (answer.Full 2) v (making t (answer.Full 3) ∷ []) → ⊥
+other_reply t x = let z : 3 ≡ 2 = ap handles_in (ap (λ (t : Turn). t.reply)
+    (the_turn t (answer.Full 2) (answer.Full 3) x) ∙ x.reply_is) in omega (arith, z)
+
+-- or what does not answer the call
+no_answer : (t : Turn)
+    → IsToldByTurn two fresh (command.Push 7) answer.Moving v (making t answer.Moving ∷ []) → ⊥
+no_answer t x = by (subst (λ (j : Job). IsAnswerTo two j answer.Moving)
+    (sym (ap (λ (t : Turn). t.job) (the_turn t answer.Moving answer.Moving x))) x.answers)
+  where
+    by : IsAnswerTo two (jobs.Make []) answer.Moving → ⊥
+    by (inl z) = z
+    by (inr z) = z
+
+-- or that the object was made
+told_made : (t : Turn) → IsToldByTurn two fresh (command.Push 7) one v (making t one ∷ []) → ⊥
+told_made t x = x.lacks (subst (λ (j : Job). IsOutOfPlace j one)
+    (ap (λ (t : Turn). t.job) (the_turn t one one x)) tt)
+
 full_said : (t : Turn) → IsSaid two fresh (command.Push 7) (Refused (answer.Full 2)) v
     (making t (answer.Full 2) ∷ [])
 full_said t = (refl, told_full t)
@@ -151,6 +183,38 @@ pops_nothing history = record {
 -- of which something else is said
 pops_seven : CommandGoes two 1 fresh command.Pop (Number 7) v v → ⊥
 pops_seven go = let z : Number 7 ≡ Nothing = go.is_said in cc
+
+-- which lost an entry, or a turn
+forgets : (s : Plain) (said : FarAnswer) → CommandGoes two 1 s command.Pop said wrote v → ⊥
+forgets s said go = let z : 0 ≡ length (go.entries ++ early ∷ []) =
+    ap (λ (l : List Entry). length l) go.wrote in
+    let l = length-append go.entries (early ∷ []) in omega (arith, z, l)
+
+forgets_turn : (s : Plain) (said : FarAnswer) (t : Turn)
+    → CommandGoes two 1 s command.Pop said (record (opener two) { turns = t ∷ [] }) v → ⊥
+forgets_turn s said t go = let z : 0 ≡ length (go.more ++ t ∷ []) =
+    ap (λ (l : List Turn). length l) go.turned in
+    let l = length-append go.more (t ∷ []) in omega (arith, z, l)
+
+-- which freed an object
+abbrev freeing : Turn → Turn
+freeing t = record t { job = jobs.Free (record { n = 5 }) }
+
+abbrev freed_by : Turn → View
+freed_by t = record (opener two) { turns = freeing t ∷ [] }
+
+frees : (s : Plain) (said : FarAnswer) (t : Turn) → CommandGoes two 1 s command.Pop said v (freed_by t) → ⊥
+frees s said t go = by (subst
+    (Each (λ (t : Turn). IsMake t.job ⊎ IsOnObject (record (opener two) { turns = [] }) t.job))
+    (sym (go.turned ∙ append-nil go.more)) (each_on go.more go.jobs_are)).0
+  where
+    each_on : (ts : List Turn) → Each (λ (u : Turn). IsMake u.job ⊎ IsOnObject (freed_by t) u.job) ts
+        → Each (λ (u : Turn). IsMake u.job ⊎ IsOnObject (record (opener two) { turns = [] }) u.job) ts
+    each_on ts each = each
+
+    by : IsMake (freeing t).job ⊎ IsOnObject (record (opener two) { turns = [] }) (freeing t).job → ⊥
+    by (inl z) = z
+    by (inr z) = z
 
 -- which wrote two entries
 writes_two : (s : Plain) (said : FarAnswer) → CommandGoes two 1 s command.Pop said v
@@ -210,6 +274,21 @@ other_list x = let z : 0 ≡ 1 = ap (λ (l : List ℕ). length l) x.list in omeg
 few_objects : IsArrayNow (record fresh { longest = 129 }) v no_array → ⊥
 few_objects x = let z : 0 ≡ 2 = x.kept in omega (arith, z)
 
+-- one whose object was never made
+abbrev array_of_five : FarArray
+array_of_five = record { kept = kept 5 1 ∷ []; len = 0; stop = None }
+
+never_made : IsArrayNow (record fresh { longest = 1 }) v array_of_five → ⊥
+never_made x = none_some x.array.objects.0.at x.array.objects.0.is
+  where
+    none_some : (e : Entry) → None ≡ Some e → ⊥
+    none_some e is = cc
+
+-- one whose object was written since
+written_since : IsArrayNow (record fresh { longest = 1 })
+    (record (opener two) { written = later ∷ early ∷ [] }) array_of_five → ⊥
+written_since x = let z : 2 ≤ 1 = x.sole.0.last.0 refl in omega (arith, z)
+
 stopped : IsArrayNow fresh v (record { kept = []; len = 0; stop = Some stop.Freed }) → ⊥
 stopped x = let z : Some stop.Freed ≡ None = x.going in cc
 
@@ -218,6 +297,13 @@ map_well = (fresh_stands two).map_is
 
 other_buckets : IsMapNow fresh v (no_map 63) → ⊥
 other_buckets x = let z : 63 ≡ 64 = ap (λ (l : List ℕ). length l) x.counts in omega (arith, z)
+
+-- a bucket that has a pair less, and one that has an object less
+fewer_pairs : IsMapNow (record fresh { counts = 1 ∷ replicate 63 0 }) v (no_map 64) → ⊥
+fewer_pairs x = let z : 0 ≡ 1 = ap (λ (l : List ℕ). get_or l 0 0) x.counts in omega (arith, z)
+
+fewer_objects : IsMapNow (record fresh { fullest = 1 ∷ replicate 63 0 }) v (no_map 64) → ⊥
+fewer_objects x = let z : 0 ≡ 1 = ap (λ (l : List ℕ). get_or l 0 0) x.kept in omega (arith, z)
 
 map_stopped : IsMapNow fresh v (record (no_map 64) { stop = Some stop.Freed }) → ⊥
 map_stopped x = let z : Some stop.Freed ≡ None = x.going in cc
@@ -239,6 +325,9 @@ ready = (0, fresh, fresh_stands two, omega arith)
 -- more numbers than there were commands
 too_long : (v : View) (a : FarArray) (m : FarMap) → Stands 0 (record fresh { list = 7 ∷ [] }) v a m → ⊥
 too_long v a m x = let z : 1 ≤ 0 = x.few in omega (arith, z)
+
+too_many : (s : Plain) (v : View) (a : FarArray) (m : FarMap) → Stands 0 s v a (record m { len = 1 }) → ⊥
+too_many s v a m x = let z : 1 ≤ 0 = x.few_keys in omega (arith, z)
 
 -- a list that is longer than it ever was
 never_so_long : (v : View) (a : FarArray) (m : FarMap)
