@@ -1,6 +1,6 @@
 -- Worked examples of what a call on an array comes to: what meets each definition, and what breaks
 -- one part.
-use Rattle.std.proofs.Common.{◌≡◌, ℕ, ◌+◌, ◌*◌, ◌≤◌, true≢false, List, [], ◌∷◌, ◌++◌, length, slice_index, None, Some, refl, sym, ap, ◌∙◌, inl, arith}
+use Rattle.std.proofs.Common.{◌≡◌, ℕ, ◌+◌, ◌*◌, ◌≤◌, true≢false, List, [], ◌∷◌, ◌++◌, length, replicate, slice_index, None, Some, refl, sym, ap, ◌∙◌, inl, arith}
 use Rattle.std.proofs.lemmas.Option.{none-some, same_Some}
 use Rattle.std.specs.List.{IsDistinct}
 use Rattle.cb_types.specs.declared.config.Config.{Config}
@@ -25,6 +25,10 @@ first = entry 5 1 16 [] (7 ∷ 9 ∷ [])
 
 abbrev second : Entry
 second = entry 5 2 16 (7 ∷ 9 ∷ []) (7 ∷ 8 ∷ [])
+
+-- an object of 128 times 7, which was written with one of them
+abbrev again : Entry
+again = entry 5 2 1024 (replicate 128 7) (replicate 128 7)
 
 -- with another first number
 abbrev strange : Entry
@@ -122,7 +126,7 @@ module _ (r : View) where
   pushed_other x = let e : 8 ≡ 3 = ap (λ (xs : List ℕ). slice_index xs 1) x.list in omega (arith, e)
 
   -- an object has 128 numbers, so the list is that of 128
-  pushed_longer : IsPushed 7 (wrote (early ∷ [])) (array 1 127) (wrote (later ∷ early ∷ [])) (array 2 129) → ⊥
+  pushed_longer : IsPushed 7 (wrote (early ∷ [])) (array 1 127) (wrote (again ∷ early ∷ [])) (array 2 129) → ⊥
   pushed_longer x = let e : 129 ≡ 127 + 1 = x.len in omega (arith, e)
 
   pushed_and_stopped : IsPushed 8 v (array 1 1) w (stopped (array 2 2)) → ⊥

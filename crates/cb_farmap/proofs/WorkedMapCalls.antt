@@ -11,6 +11,7 @@ use Rattle.cb_types.specs.declared.reply.Reply.TheVariants as answer
 use Rattle.cb_world.specs.declared.entry.Entry.{Entry}
 use Rattle.cb_world.specs.Memory.{bytes_in}
 use Rattle.cb_world.specs.Written.{entry}
+use Rattle.cb_rule.specs.declared.view.Stand.{Stand}
 use Rattle.cb_rule.specs.declared.view.View.{View}
 use Rattle.cb_farmap.specs.declared.bucket.Bucket.{Bucket}
 use Rattle.cb_farmap.specs.declared.kept.Cannot.TheVariants as cannot
@@ -38,6 +39,10 @@ strange = entry 5 1 1024 [] (1 ∷ 7 ∷ replicate 126 0)
 
 abbrev with_pair : ℕ → Bucket
 with_pair count = record { kept = kept 5 1 ∷ []; count = count }
+
+-- its next version, with another value
+abbrev again : Entry
+again = entry 5 2 1024 (1 ∷ 6 ∷ replicate 126 0) (1 ∷ 7 ∷ replicate 126 0)
 
 -- twice that pair
 abbrev double : Entry
@@ -97,6 +102,17 @@ one_in = finite.same_map nat_cmp_total finite.nat_cmp-IsAntisymmetric (pair_map 
     (λ q. finite.get-from_entries nat_cmp_total ((1, 6) ∷ []) q
     ∙ sym (finite.get-insert nat_cmp_total empty_map 1 6 q
     ∙ ap (cond (eq_by_cmp nat_cmp q 1) (Some 6)) (finite.get-from_entries nat_cmp_total [] q)))
+
+one_over : pair_map 7 ≡ finite.insert (pair_map 6) 1 7
+one_over = finite.same_map nat_cmp_total finite.nat_cmp-IsAntisymmetric (pair_map 7) (finite.insert (pair_map 6) 1 7)
+    (λ q. finite.get-from_entries nat_cmp_total ((1, 7) ∷ []) q
+    ∙ sym (finite.get-insert nat_cmp_total (pair_map 6) 1 7 q
+    ∙ ap (cond (eq_by_cmp nat_cmp q 1) (Some 7)) (finite.get-from_entries nat_cmp_total ((1, 6) ∷ []) q)
+    ∙ twice (eq_by_cmp nat_cmp q 1)))
+  where
+    twice : (b : Bool) → cond {A = Option ℕ} b (Some 7) (cond b (Some 6) None) ≡ cond b (Some 7) None
+    twice true = refl
+    twice false = refl
 
 one_out : empty_map ≡ finite.remove (pair_map 6) 1
 one_out = finite.same_map nat_cmp_total finite.nat_cmp-IsAntisymmetric empty_map (finite.remove (pair_map 6) 1)
@@ -190,17 +206,65 @@ module _ (r : View) where
     left = refl;
   }
 
-  put_over_some : IsPut (1, 6) (Some 3) (wrote []) (no_map 1) v (in_one 0) → ⊥
-  put_over_some x = none-some 3 (sym (x.value ∙ none_at_all))
+  -- ---- a put of a known key: its object is written
+  abbrev over : Bucket
+  over = record { kept = kept 5 2 ∷ []; count = 1 }
 
-  -- an entry that is not of the object that was made
-  put_beside : IsPut (1, 6) None (wrote []) (no_map 1) (wrote (made ∷ later ∷ [])) (in_one 1) → ⊥
+  becomes_over : Becomes (made ∷ []) (with_pair 1) over (put_in (made ∷ []) (with_pair 1) (1, 7)) (again ∷ made ∷ [])
+  unfolding bytes_in
+  becomes_over = record {
+    bucket = record {
+      objects = (record { at = again; is = refl; held = refl; long = refl; wide = refl }, tt);
+      within = omega arith;
+    };
+    pairs_are = refl;
+    objects = inr (inl (
+      0,
+      (1, 7),
+      omega arith,
+      record {
+        key_fits = omega arith;
+        value_fits = omega arith;
+        kept = refl;
+        wrote = record {
+          entry = again;
+          front = refl;
+          handle = refl;
+          version = refl;
+          next = refl;
+          object = record { at = again; is = refl; held = refl; long = refl; wide = refl };
+          bytes_are = refl;
+        };
+      },
+    ));
+  }
+
+  over_is : map_of (wrote (again ∷ made ∷ [])) (record { buckets = over ∷ []; len = 1; stop = None }) ≡ pair_map 7
+  unfolding bytes_in
+  over_is = refl
+
+  put_over : IsPut (1, 7) (Some 6) v (in_one 1) (wrote (again ∷ made ∷ []))
+      (record { buckets = over ∷ []; len = 1; stop = None })
+  put_over = record {
+    value = sym (ap (λ (m : finite.FinMap nat_cmp ℕ). finite.get m 1) map_is ∙ value_in 6);
+    map = over_is ∙ one_over ∙ ap (λ (m : finite.FinMap nat_cmp ℕ). finite.insert m 1 7) (sym map_is);
+    bucket = over;
+    becomes = becomes_over;
+    left = refl;
+  }
+
+  -- ---- what is no put
+  put_over_none : IsPut (1, 6) (Some 3) (wrote []) (no_map 1) v (record (in_one 1) { len = 0 }) → ⊥
+  put_over_none x = none-some 3 (sym (x.value ∙ none_at_all))
+
+  -- an entry of another object came too
+  put_beside : IsPut (1, 6) None (wrote []) (no_map 1) (wrote (made ∷ far ∷ [])) (in_one 1) → ⊥
   put_beside x = by x.becomes.objects
     where
       its : x.bucket.kept ≡ kept 5 1 ∷ []
       its = ap (λ (z : FarMap). first_kept z.buckets) (sym x.left)
 
-      by : ChangesOne [] [] x.bucket.kept (made ∷ later ∷ []) → ⊥
+      by : ChangesOne [] [] x.bucket.kept (made ∷ far ∷ []) → ⊥
       by (inl (same, front)) = let e : 0 ≡ 1 = ap (λ (ks : List KeptObject). length ks) (sym same ∙ its) in
           omega (arith, e)
       by (inr (inl (place, p, low, put_in))) = let e : place < 64 * 0 = low in omega (arith, e)
@@ -237,7 +301,7 @@ module _ (r : View) where
     left = refl;
   }
 
-  dropped_none : IsDropped 1 None v (in_one 1) v (in_one 1) → ⊥
+  dropped_none : IsDropped 1 None v (in_one 1) v (record (in_one 0) { len = 1 }) → ⊥
   dropped_none x = none-some 6 (x.value
       ∙ ap (λ (m : finite.FinMap nat_cmp ℕ). finite.get m 1) map_is ∙ value_in 6)
 
@@ -258,7 +322,7 @@ module _ (r : View) where
 
   -- where the key stands twice in its bucket, the map has it still
   dropped_once : IsDropped 1 (Some 6) (wrote (double ∷ [])) (in_one 2)
-      (wrote (made ∷ double ∷ [])) (in_one 1) → ⊥
+      (wrote (double ∷ [])) (in_one 1) → ⊥
   unfolding bytes_in
   dropped_once x = none-some 6 (sym (sym (value_in 6)
       ∙ ap (λ (m : finite.FinMap nat_cmp ℕ). finite.get m 1) x.map
@@ -298,6 +362,12 @@ module _ (r : View) where
 
   written_since : IsCalmMap (wrote (later ∷ early ∷ [])) (in_one 1) → ⊥
   written_since x = let low : 2 ≤ 1 = x.sole.0.last.0 refl in omega (arith, low)
+
+  abbrev a_pin : Stand
+  a_pin = record { handle = 5; len = 1024; place = 0; version = 1; words = [] }
+
+  with_a_pin : IsCalmMap (record v { pins = a_pin ∷ [] }) (in_one 1) → ⊥
+  with_a_pin x = let e : 1 ≡ 0 = x.loose.0 in omega (arith, e)
 
   -- ---- what each call keeps to. No call is made of a look in an empty bucket.
   module _ (c : Config) where
