@@ -4,14 +4,14 @@ use Rattle.std.proofs.lemmas.Bool.{eqb-false}
 use Rattle.std.proofs.lemmas.Grind.{flat_map-append}
 use Rattle.std.proofs.lemmas.List.{append-nil, get_or-take, length-set, length-take-le, length-append}
 use Rattle.std.proofs.lemmas.Option.{slice_get-get_or}
-use Rattle.std.specs.List.{AllByRecursion, flat_map}
+use Rattle.std.specs.List.{AllByRecursion, IsDistinct, flat_map}
 use Rattle.cb_mutate.proofs.Laws.{bytes_length}
 use Rattle.cb_world.specs.declared.entry.Entry.{Entry}
 use Rattle.cb_rule.specs.declared.view.View.{View}
 use Rattle.cb_farmap.specs.declared.array.FarArray.{FarArray}
 use Rattle.cb_farmap.specs.declared.kept.KeptObject.{KeptObject}
 use Rattle.cb_farmap.specs.declared.kept.Stop.{Stop}
-use Rattle.cb_farmap.specs.Arrays.{IsArrayOf, PutsNumber, WritesNumber, but_last, bytes_with, is_full, last_of, list_of}
+use Rattle.cb_farmap.specs.Arrays.{IsArrayOf, PutsNumber, WritesNumber, but_last, bytes_with, is_full, last_of, list_of, no_array}
 use Rattle.cb_farmap.specs.Changes.{GoesOn, IsBehind, Makes, with_next}
 use Rattle.cb_farmap.specs.Numbers.{number_at, numbers}
 use Rattle.cb_farmap.specs.Objects.{AreApart, IsObject, blank, bytes_at, bytes_of, numbers_at, object_at}
@@ -264,6 +264,17 @@ none_last v a is = sym (ap (λ (n : ℕ). last_of (take n (flat_map (numbers_at 
         none : (xs : List ℕ) → take 0 xs ≡ []
         none [] = refl
         none (x ∷ xs) = refl
+
+-- it is an array of any pass, and its list is empty
+abbrev without_numbers : List KeptObject → FarArray
+without_numbers ks = record { kept = ks; len = 0; stop = None }
+
+pub fresh_array : (v : View) (ks : List KeptObject) → ks ≡ []
+    → IsArrayOf v (without_numbers ks) × (list_of v (without_numbers ks) ≡ [])
+unfolding IsDistinct
+fresh_array v ks is = subst
+    (λ (l : List KeptObject). IsArrayOf v (without_numbers l) × (list_of v (without_numbers l) ≡ []))
+    (sym is) (record { objects = tt; apart = tt; within = omega arith }, refl)
 
 -- ---- an array stays, with its list, where more entries come in front: when calls are made on the
 -- pass, when it is split, and when another is joined

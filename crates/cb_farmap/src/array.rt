@@ -1,9 +1,10 @@
 //! A list of numbers in objects of 128 each.
-ghost use Rattle.std.specs.Prelude.{◌≡◌, ◌*◌, ◌/◌, ◌%◌, ◌<◌, ◌≤◌, length, IfOk, OnErr};
+ghost use Rattle.std.specs.Prelude.{◌≡◌, ◌*◌, ◌/◌, ◌%◌, ◌<◌, ◌≤◌, [], length, IfOk, OnErr};
 ghost use Rattle.std.specs.List.{AllByRecursion};
+ghost use Rattle.cb_rule.specs.declared.view.View.{View};
 ghost use Rattle.cb_shared.specs.Passes.{IsPassOf, record_of};
 ghost use Rattle.cb_shared.specs.Recalls.{first_version_of};
-ghost use Rattle.cb_farmap.specs.Arrays.{IsArrayOf, IsGot, IsPopped, IsPushed, IsSet, Keeps, PutsNumber, Stays, WritesNumber, bytes_with, get_plan, is_full, make_plan, no_array, pop_plan, push_plan, set_plan};
+ghost use Rattle.cb_farmap.specs.Arrays.{IsArrayOf, IsGot, IsPopped, IsPushed, IsSet, Keeps, PutsNumber, Stays, WritesNumber, bytes_with, get_plan, is_full, list_of, make_plan, no_array, pop_plan, push_plan, set_plan};
 ghost use Rattle.cb_farmap.specs.Calls.{Goes, trouble};
 ghost use Rattle.cb_farmap.specs.Changes.{AreLoose, AreSole, IsCalm, IsLoose, IsSole, Makes};
 ghost use Rattle.cb_farmap.specs.Numbers.{number_at};
@@ -31,9 +32,10 @@ pub struct FarArray {
 }
 
 impl FarArray {
-    /// An empty array; takes no memory, here and in the runtime.
+    /// An empty array, which is one of every pass; takes no memory, here and in the runtime.
     pub fn new(alloc: Global) -> FarArray
         ensures empty { result ≡ no_array }
+        ensures array { (v : View) → IsArrayOf v result × (list_of v result ≡ []) }
     {
         FarArray {
             kept: Objects::new(alloc),
