@@ -2,6 +2,8 @@ mod Cutting
 mod Making
 mod WorkedEnds
 mod AsBox
+mod AsEncoder
+mod Tabling
 mod Worlds
 mod Losses
 mod WorkedWorld
