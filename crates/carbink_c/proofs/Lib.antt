@@ -6,4 +6,6 @@ mod AsEncoder
 mod Tabling
 mod Worlds
 mod Losses
+mod FewBytes
+mod StepFew
 mod WorkedWorld

@@ -71,17 +71,22 @@ pub(crate) fn event_of(
         Verb::Compact => Job::Compact,
         Verb::Rebuild => Job::Rebuild,
         Verb::Crash => Job::Crash {
-            node: NodeId {
-                n: asked.node as u8,
-            },
+            node: node_of(asked),
         },
         Verb::Join => Job::Join {
-            node: NodeId {
-                n: asked.node as u8,
-            },
+            node: node_of(asked),
         },
     };
     Ok(Event::Turn { seat, job })
+}
+
+fn node_of(asked: &CarbinkEvent) -> NodeId
+    requires { asked.now.node < 256 }
+    ensures { result.n ≡ asked.now.node }
+{
+    NodeId {
+        n: asked.node as u8,
+    }
 }
 
 fn pin(seat: u32, handle: Handle) -> Event
