@@ -9,3 +9,4 @@ mod Losses
 mod FewBytes
 mod StepFew
 mod WorkedWorld
+mod WorkedCalls

@@ -1,5 +1,5 @@
 //! A code with its table, and room for the parities that it makes.
-ghost use Rattle.std.specs.Prelude.{◌≡◌, ℕ, ◌*◌, ◌<◌, ◌≤◌, List, length, slice_index};
+ghost use Rattle.std.specs.Prelude.{◌≡◌, ℕ, ◌<◌, ◌≤◌, length, slice_index};
 ghost use Rattle.cb_gf256.specs.Rows.{row_at, byte_at, HaveLength};
 ghost use Rattle.cb_gf256.specs.InRange.{IsInRange};
 

@@ -1,5 +1,5 @@
-//! A world, or an encoder, behind a plain pointer: C may hold a pointer to bytes, and none to a type
-//! with a `Vec` inside.
+//! A world, or an encoder, behind a plain pointer: C may hold a pointer to bytes, and none to a
+//! type with a `Vec` inside.
 ghost use Rattle.std.specs.Prelude.{◌≡◌, Option, Some, None, IsSome};
 ghost use Rattle.carbink_c.specs.declared.encoder.Encoder.{Encoder};
 ghost use Rattle.carbink_c.specs.declared.held.Held.{Held};

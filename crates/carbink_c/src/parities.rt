@@ -1,5 +1,5 @@
 //! The parities of data rows, made in room that is there already.
-ghost use Rattle.std.specs.Prelude.{◌≡◌, ℕ, ◌*◌, ◌<◌, ◌≤◌, List, ◌++◌, length, slice_index, IfOk, OnOk};
+ghost use Rattle.std.specs.Prelude.{◌≡◌, ℕ, ◌<◌, ◌≤◌, List, ◌++◌, length, slice_index, IfOk};
 ghost use Rattle.cb_gf256.specs.Block.{cut_rows};
 ghost use Rattle.cb_gf256.specs.Rows.{row_at, HaveLength, HoldBytes};
 ghost use Rattle.cb_gf256.specs.CodeWord.{IsCodeWord};

@@ -1,6 +1,7 @@
 ghost use Rattle.std.specs.Prelude.{◌≡◌, ◌<◌, ◌↔◌, None, Some, IfOk, IsTrue};
 ghost use Rattle.cb_gf256.specs.InRange.{IsInRange};
-ghost use Rattle.carbink_c.specs.Encoder.{shape_in, shape_of, AreSized, BeginsEncoder, MakesParities};
+ghost use Rattle.carbink_c.specs.Encoder.{shape_in, shape_of, AreSized};
+ghost use Rattle.carbink_c.specs.Encoder.{BeginsEncoder, MakesParities};
 ghost use Rattle.carbink_c.specs.Status.{IsNumberOf};
 
 use crate::buffers::size_of_rows;
@@ -102,7 +103,8 @@ fn encoded(alloc: Global, handle: &mut CarbinkEncoder, given: &[u8], parities: &
 }
 
 fn encoded_by(e: &mut Encoder, given: &[u8], parities: &mut [u8]) -> Status
-    ensures ends { MakesParities (Some (shape_of e.old)) given.now parities.old parities.new result }
+    ensures ends { MakesParities (Some (shape_of e.old)) given.now parities.old parities.new
+        result }
     ensures same { shape_of e.new ≡ shape_of e.old }
 {
     if !are_sized(e, given, parities) {

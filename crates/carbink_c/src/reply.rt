@@ -1,5 +1,6 @@
 ghost use Rattle.std.specs.Prelude.{◌≡◌, ◌≤◌};
-ghost use Rattle.carbink_c.specs.Told.{kind_of, first_of, second_of, third_of, count_of, told_reply};
+ghost use Rattle.carbink_c.specs.Told.{kind_of, first_of, second_of, third_of};
+ghost use Rattle.carbink_c.specs.Told.{count_of, told_reply};
 
 use cb_types::Reply;
 

@@ -22,8 +22,8 @@ const BUFFER_BYTES: usize = 1024;
 
 /// One event on the world: what it is answered, with its bytes at the front of `room`.
 ///
-/// Where the answer is NoMemory, what each object holds is as it was, and so are `reply` and `room`;
-/// where it is neither this nor Done, nothing is changed.
+/// Where the answer is NoMemory, what each object holds is as it was, and so are `reply` and
+/// `room`; where it is neither this nor Done, nothing is changed.
 #[unsafe(no_mangle)]
 pub extern "C" fn carbink_world_step(
     alloc: Global,
