@@ -1,6 +1,6 @@
 -- No step of a sound world has a reply of more than 1,024 bytes.
-use Rattle.std.proofs.Common.{◌≡◌, ◌⊎◌, ℕ, zero, suc, ◌+◌, ◌<◌, ◌≤◌, ◌==◌, List, length, refl, sym, ap, subst, ⊎_elim, ◌∙◌, arith, inl, inr}
-use Rattle.std.specs.Prelude.{Option, None, Some, if◌then◌else◌}
+use Rattle.std.proofs.Common.{◌≡◌, ℕ, zero, suc, ◌≤◌, ◌==◌, List, length, refl, sym, ap, subst, ◌∙◌, arith, inl, inr}
+use Rattle.std.specs.Prelude.{None, Some, if◌then◌else◌}
 use Rattle.std.proofs.lemmas.Bool.{cases_lt}
 use Rattle.std.proofs.lemmas.List.{get_or_past}
 use Rattle.cb_frame.specs.FreeFrames.{least_free}
@@ -26,7 +26,6 @@ use Rattle.cb_world.specs.Shown.{object_at}
 use Rattle.cb_world.specs.StillWords.{contents_at, stamp_at, with_hot}
 use Rattle.cb_world.specs.World.{IsSoundWorld, WorldState, word_at}
 use Rattle.cb_world.proofs.Laws.{lies_within, near_lies, near_object}
-use Rattle.cb_mutate.specs.CallStep.{with_seen}
 use Rattle.cb_compact.specs.CompactStep.{CompactStep}
 use Rattle.cb_compact.specs.MergeStep.{MergeStep}
 use Rattle.cb_compact.specs.PairStep.{PairStep}

@@ -1,5 +1,5 @@
 -- A table of coefficients with its products, and the parities that it makes.
-use Rattle.std.proofs.Common.{◌≡◌, ℕ, ◌+◌, ◌*◌, ◌^◌, ◌<◌, ◌≤◌, List, [], ◌++◌, length, get_or, set, All, refl, sym, ap, subst, ext_get_or, ◌∙◌, arith}
+use Rattle.std.proofs.Common.{◌≡◌, ℕ, ◌+◌, ◌^◌, ◌<◌, ◌≤◌, List, [], ◌++◌, length, get_or, set, All, refl, sym, subst, ext_get_or, ◌∙◌, arith}
 use Rattle.std.proofs.lemmas.List.{get_or_append_left, append_cancel_left, length-set}
 use Rattle.std.proofs.lemmas.List.Elements.{All-append, All-set}
 use Rattle.cb_gf256.specs.Rows.{row_at, rows_at, byte_at, HaveLength, HoldBytes, AreRows}

@@ -1,4 +1,4 @@
-use Rattle.std.proofs.Common.{◌≡◌, length, arith, ◌∙◌}
+use Rattle.std.proofs.Common.{◌≡◌, arith, ◌∙◌}
 use Rattle.std.proofs.lemmas.List.{length-set}
 use Rattle.cb_gf256.specs.Rows.{byte_at}
 use Rattle.cb_gf256.proofs.PublicLaws.{below_more_set}

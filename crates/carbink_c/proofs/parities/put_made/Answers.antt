@@ -3,7 +3,6 @@ use Rattle.cb_gf256.specs.Block.{cut_rows}
 use Rattle.cb_gf256.specs.Rows.{row_at, HaveLength}
 use Rattle.cb_gf256.specs.InRange.{IsInRange}
 use Rattle.cb_code.specs.Coefficients.{AreCoefficients}
-use Rattle.carbink_c.specs.Encoder.{Shape, shape_of}
 use Rattle.carbink_c.specs.declared.encoder.Encoder.{Encoder}
 use Rattle.carbink_c.proofs.Making.{Prepared, wide_enough, as_long, left_lengths, left_long, parities_put}
 use Rattle.carbink_c.proofs.parities.put_made.Goals as goal
