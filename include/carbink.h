@@ -46,9 +46,9 @@ uint32_t carbink_encode(uint32_t k, uint32_t r, uint32_t len, const uint8_t *dat
                         uint8_t *parities, size_t parities_size);
 
 /* An encoder: the table of a code, and room for parities of rows of one length, made once and used many times. For
- * short rows, and wherever rows of one length are encoded again and again, it saves most of what a call costs beside
- * its sums. A struct carbink_encoder is CARBINK_NO_ENCODER_YET before its first call. It holds one encoder or none; only
- * these calls change it, it is not copied, and it is used by one thread at a time. */
+ * short rows, and wherever rows of one length are encoded again and again, it saves most of what a call costs
+ * beside its sums. A struct carbink_encoder is CARBINK_NO_ENCODER_YET before its first call. It holds one encoder
+ * or none; only these calls change it, it is not copied, and it is used by one thread at a time. */
 struct carbink_encoder {
     uint8_t there; /* The library's. */
     struct {
@@ -66,8 +66,8 @@ struct carbink_encoder {
  * already, then no such code, len 0, and want of memory. Takes 4,096 bytes and those of r rows. */
 uint32_t carbink_encoder_new(struct carbink_encoder *encoder, uint32_t k, uint32_t r, uint32_t len);
 
-/* Does what carbink_encode does, with the encoder's k, r and len; it takes no memory. CARBINK_NO_ENCODER where the handle
- * holds none, then CARBINK_BAD_BUFFER. */
+/* Does what carbink_encode does, with the encoder's k, r and len; it takes no memory. CARBINK_NO_ENCODER where the
+ * handle holds none, then CARBINK_BAD_BUFFER. */
 uint32_t carbink_encoder_encode(struct carbink_encoder *encoder, const uint8_t *data, size_t data_size,
                                 uint8_t *parities, size_t parities_size);
 
@@ -265,9 +265,10 @@ uint32_t carbink_world_step(struct carbink_world *world, const struct carbink_ev
 
 /* ---- Each verb by its name
  *
- * What these answer is the status of carbink_world_step; what the verb does stands beside its number. Their room is their
- * own, so what a reply has of bytes, positions or lost shards is counted and not kept: call carbink_world_step for these.
- * carbink_read alone takes a room. An object that the seat has pinned is read as it stands, and its temperature stays.
+ * What these answer is the status of carbink_world_step; what the verb does stands beside its number. Their room is
+ * their own, so what a reply has of bytes, positions or lost shards is counted and not kept: call carbink_world_step
+ * for these. carbink_read alone takes a room. An object that the seat has pinned is read as it stands, and its
+ * temperature stays.
  */
 static inline uint32_t carbink_world_do(struct carbink_world *world, struct carbink_event event, const uint8_t *bytes,
                                         size_t bytes_size, struct carbink_reply *reply) {
