@@ -59,20 +59,20 @@ fn kind(reply: &Reply) -> u32
         Reply::Freed => 20,
         Reply::Moving => 21,
         Reply::Unavailable { .. } => 22,
-        _ => later_kind(reply),
-    }
-}
-
-/// The same of a kind from 23 on.
-fn later_kind(reply: &Reply) -> u32
-    requires later { 23 ≤ kind_of reply.now }
-    ensures { result ≡ kind_of reply.now }
-{
-    match reply {
         Reply::Range { .. } => 23,
         Reply::Pinned { .. } => 24,
         Reply::Worn => 25,
         Reply::ScopeFull => 26,
+        _ => later_kind(reply),
+    }
+}
+
+/// The same of a kind from 27 on.
+fn later_kind(reply: &Reply) -> u32
+    requires later { 27 ≤ kind_of reply.now }
+    ensures { result ≡ kind_of reply.now }
+{
+    match reply {
         Reply::NotPinned => 27,
         Reply::NotHere => 28,
         Reply::NoSlot { .. } => 29,
