@@ -1,6 +1,6 @@
 /* The library's calls, and ISA-L's encoder by its own dispatch where WITH_ISAL is set, timed by bench/lib. The words
  * are k, r, the bytes of a row and how many slices are timed. It prints the least time of a call in nanoseconds, over
- * slices of as many calls as have some 64 KB of data: encode, solve with r data rows lost, is_word and examine of a
+ * slices of as many calls as have some 64 KB of data: encode, encode by an encoder, solve with r data rows lost, is_word and examine of a
  * code word, ISA-L's encode (0 without it) and a copy of the data. */
 #include <carbink.h>
 #include <stdio.h>
@@ -11,10 +11,11 @@
 #include <isa-l/erasure_code.h>
 #endif
 
-enum { ENCODE, SOLVE, IS_WORD, EXAMINE, ISAL, COPY, KINDS };
+enum { ENCODE, PREPARED, SOLVE, IS_WORD, EXAMINE, ISAL, COPY, KINDS };
 
 static uint32_t k, r, len;
 static uint8_t *word, *lost, *copy, present[16];
+static struct carbink_encoder encoder = CARBINK_NO_ENCODER_YET;
 #ifdef WITH_ISAL
 static unsigned char tables[32 * 16 * 4], *data_rows[16], *parity_rows[4];
 #endif
@@ -31,6 +32,7 @@ static void call(int kind) {
     uint32_t told, status = CARBINK_DONE;
     switch (kind) {
     case ENCODE: status = carbink_encode(k, r, len, word, data, word + data, behind); break;
+    case PREPARED: status = carbink_encoder_encode(&encoder, word, data, word + data, behind); break;
     case SOLVE: status = carbink_solve(k, r, len, lost, data + behind, present, k); break;
     case IS_WORD: status = carbink_is_word(k, r, len, word, data + behind, &told); break;
     case EXAMINE: status = carbink_examine(k, r, len, word, data + behind, &found); break;
@@ -53,6 +55,7 @@ int main(int argc, char **argv) {
     if (k < 1 || k > 16 || r < 1 || r > 4 || len < 1) return 1;
     word = malloc(whole), lost = malloc(whole), copy = malloc(whole);
     if (!word || !lost || !copy) return 1;
+    if (carbink_encoder_new(&encoder, k, r, len) != CARBINK_DONE) return 1;
     for (size_t i = 0; i < data; i++) {
         seed ^= seed << 13, seed ^= seed >> 7, seed ^= seed << 17;
         word[i] = (uint8_t)(seed >> 56);

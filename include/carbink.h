@@ -45,6 +45,35 @@ uint32_t carbink_version(void);
 uint32_t carbink_encode(uint32_t k, uint32_t r, uint32_t len, const uint8_t *data, size_t data_size,
                         uint8_t *parities, size_t parities_size);
 
+/* An encoder: the table of a code, and room for parities of rows of one length, made once and used many times. For
+ * short rows, and wherever rows of one length are encoded again and again, it saves most of what a call costs
+ * beside its sums. A struct carbink_encoder is CARBINK_NO_ENCODER_YET before its first call. It holds one encoder
+ * or none; only these calls change it, it is not copied, and it is used by one thread at a time. */
+struct carbink_encoder {
+    uint8_t there; /* The library's. */
+    struct {
+        void *at;
+    } kept; /* The library's. */
+};
+
+/* A handle without an encoder. */
+#define CARBINK_NO_ENCODER_YET {0, {0}}
+
+#define CARBINK_NO_ENCODER 12u  /* The handle holds no encoder. */
+#define CARBINK_HAS_ENCODER 13u /* The handle holds an encoder already. */
+
+/* Makes an encoder for the code of k and r and rows of `len` bytes: CARBINK_HAS_ENCODER where the handle holds one
+ * already, then no such code, len 0, and want of memory. Takes 4,096 bytes and those of r rows. */
+uint32_t carbink_encoder_new(struct carbink_encoder *encoder, uint32_t k, uint32_t r, uint32_t len);
+
+/* Does what carbink_encode does, with the encoder's k, r and len; it takes no memory. CARBINK_NO_ENCODER where the
+ * handle holds none, then CARBINK_BAD_BUFFER. */
+uint32_t carbink_encoder_encode(struct carbink_encoder *encoder, const uint8_t *data, size_t data_size,
+                                uint8_t *parities, size_t parities_size);
+
+/* Gives an encoder's memory back. The handle holds none then; where it held none, nothing is done. */
+void carbink_encoder_free(struct carbink_encoder *encoder);
+
 /* Tells whether k + r rows are a code word: sets *is_word to 1 where they are, else to 0. rows_size is
  * (k + r) * len. */
 uint32_t carbink_is_word(uint32_t k, uint32_t r, uint32_t len, const uint8_t *rows, size_t rows_size,
@@ -109,7 +138,6 @@ struct carbink_world {
 #define CARBINK_BAD_VERB 8u      /* There is no such verb. */
 #define CARBINK_BAD_SEAT 9u      /* The seat is not below 64. */
 #define CARBINK_BAD_ARGUMENT 10u /* The handle is not below the configured ones, or the node is not, or a make has not 1 to 1,024 bytes. */
-#define CARBINK_TOO_LONG 11u     /* The event took place; its reply has more bytes than the room, and none was written. */
 #define CARBINK_BAD_K 16u        /* A size is out of its range: the first in this order. */
 #define CARBINK_BAD_R 17u
 #define CARBINK_BAD_NODES 18u
@@ -235,13 +263,129 @@ uint32_t carbink_world_step(struct carbink_world *world, const struct carbink_ev
 #define CARBINK_REPLY_SWAPPED 48u    /* frame: the object's span is there now */
 #define CARBINK_REPLY_STAYS 49u      /* the object is not far */
 
-/* The step for a seat and a verb that takes no more than a handle, and gives no bytes that are wanted. */
+/* ---- Each verb by its name
+ *
+ * What these answer is the status of carbink_world_step; what the verb does stands beside its number. Their room is
+ * their own, so what a reply has of bytes, positions or lost shards is counted and not kept: call carbink_world_step
+ * for these. carbink_read alone takes a room. An object that the seat has pinned is read as it stands, and its
+ * temperature stays.
+ */
+static inline uint32_t carbink_world_do(struct carbink_world *world, struct carbink_event event, const uint8_t *bytes,
+                                        size_t bytes_size, struct carbink_reply *reply) {
+    uint8_t room[CARBINK_ROOM];
+    return carbink_world_step(world, &event, bytes, bytes_size, reply, room, sizeof room);
+}
+
+/* A verb that takes no bytes. */
+static inline uint32_t carbink_world_bare(struct carbink_world *world, uint32_t verb, uint32_t seat, uint32_t handle,
+                                          uint32_t node, struct carbink_reply *reply) {
+    const struct carbink_event event = {verb, seat, handle, node, 0};
+    const uint8_t none = 0;
+    return carbink_world_do(world, event, &none, 0, reply);
+}
+
+/* A verb that takes no more than a handle. */
 static inline uint32_t carbink_world_on(struct carbink_world *world, uint32_t verb, uint32_t seat, uint32_t handle,
                                         struct carbink_reply *reply) {
-    const struct carbink_event event = {verb, seat, handle, 0, 0};
+    return carbink_world_bare(world, verb, seat, handle, 0, reply);
+}
+
+static inline uint32_t carbink_make(struct carbink_world *world, uint32_t seat, const uint8_t *bytes, size_t bytes_size,
+                                    struct carbink_reply *reply) {
+    const struct carbink_event event = {CARBINK_MAKE, seat, 0, 0, 0};
+    return carbink_world_do(world, event, bytes, bytes_size, reply);
+}
+
+static inline uint32_t carbink_read(struct carbink_world *world, uint32_t seat, uint32_t handle,
+                                    struct carbink_reply *reply, uint8_t *room, size_t room_size) {
+    const struct carbink_event event = {CARBINK_READ, seat, handle, 0, 0};
     const uint8_t none = 0;
-    uint8_t room[CARBINK_ROOM];
-    return carbink_world_step(world, &event, &none, 0, reply, room, sizeof room);
+    return carbink_world_step(world, &event, &none, 0, reply, room, room_size);
+}
+
+static inline uint32_t carbink_write(struct carbink_world *world, uint32_t seat, uint32_t handle, uint32_t at,
+                                     const uint8_t *bytes, size_t bytes_size, struct carbink_reply *reply) {
+    const struct carbink_event event = {CARBINK_WRITE, seat, handle, 0, at};
+    return carbink_world_do(world, event, bytes, bytes_size, reply);
+}
+
+static inline uint32_t carbink_free(struct carbink_world *world, uint32_t seat, uint32_t handle,
+                                    struct carbink_reply *reply) {
+    return carbink_world_bare(world, CARBINK_FREE, seat, handle, 0, reply);
+}
+
+static inline uint32_t carbink_swap(struct carbink_world *world, uint32_t seat, uint32_t handle,
+                                    struct carbink_reply *reply) {
+    return carbink_world_bare(world, CARBINK_SWAP, seat, handle, 0, reply);
+}
+
+static inline uint32_t carbink_filter(struct carbink_world *world, uint32_t seat, uint32_t handle,
+                                      struct carbink_reply *reply) {
+    return carbink_world_bare(world, CARBINK_FILTER, seat, handle, 0, reply);
+}
+
+static inline uint32_t carbink_pin(struct carbink_world *world, uint32_t seat, uint32_t handle,
+                                   struct carbink_reply *reply) {
+    return carbink_world_bare(world, CARBINK_PIN, seat, handle, 0, reply);
+}
+
+static inline uint32_t carbink_unpin(struct carbink_world *world, uint32_t seat, uint32_t handle,
+                                     struct carbink_reply *reply) {
+    return carbink_world_bare(world, CARBINK_UNPIN, seat, handle, 0, reply);
+}
+
+static inline uint32_t carbink_evict(struct carbink_world *world, uint32_t seat, struct carbink_reply *reply) {
+    return carbink_world_bare(world, CARBINK_EVICT, seat, 0, 0, reply);
+}
+
+static inline uint32_t carbink_begin(struct carbink_world *world, uint32_t seat, struct carbink_reply *reply) {
+    return carbink_world_bare(world, CARBINK_BEGIN, seat, 0, 0, reply);
+}
+
+static inline uint32_t carbink_ship(struct carbink_world *world, uint32_t seat, struct carbink_reply *reply) {
+    return carbink_world_bare(world, CARBINK_SHIP, seat, 0, 0, reply);
+}
+
+static inline uint32_t carbink_commit(struct carbink_world *world, uint32_t seat, struct carbink_reply *reply) {
+    return carbink_world_bare(world, CARBINK_COMMIT, seat, 0, 0, reply);
+}
+
+static inline uint32_t carbink_abort(struct carbink_world *world, uint32_t seat, struct carbink_reply *reply) {
+    return carbink_world_bare(world, CARBINK_ABORT, seat, 0, 0, reply);
+}
+
+static inline uint32_t carbink_pair(struct carbink_world *world, uint32_t seat, struct carbink_reply *reply) {
+    return carbink_world_bare(world, CARBINK_PAIR, seat, 0, 0, reply);
+}
+
+static inline uint32_t carbink_patch(struct carbink_world *world, uint32_t seat, struct carbink_reply *reply) {
+    return carbink_world_bare(world, CARBINK_PATCH, seat, 0, 0, reply);
+}
+
+static inline uint32_t carbink_merge(struct carbink_world *world, uint32_t seat, struct carbink_reply *reply) {
+    return carbink_world_bare(world, CARBINK_MERGE, seat, 0, 0, reply);
+}
+
+static inline uint32_t carbink_part(struct carbink_world *world, uint32_t seat, struct carbink_reply *reply) {
+    return carbink_world_bare(world, CARBINK_PART, seat, 0, 0, reply);
+}
+
+static inline uint32_t carbink_compact(struct carbink_world *world, uint32_t seat, struct carbink_reply *reply) {
+    return carbink_world_bare(world, CARBINK_COMPACT, seat, 0, 0, reply);
+}
+
+static inline uint32_t carbink_rebuild(struct carbink_world *world, uint32_t seat, struct carbink_reply *reply) {
+    return carbink_world_bare(world, CARBINK_REBUILD, seat, 0, 0, reply);
+}
+
+static inline uint32_t carbink_crash(struct carbink_world *world, uint32_t seat, uint32_t node,
+                                     struct carbink_reply *reply) {
+    return carbink_world_bare(world, CARBINK_CRASH, seat, 0, node, reply);
+}
+
+static inline uint32_t carbink_join(struct carbink_world *world, uint32_t seat, uint32_t node,
+                                    struct carbink_reply *reply) {
+    return carbink_world_bare(world, CARBINK_JOIN, seat, 0, node, reply);
 }
 
 #ifdef __cplusplus

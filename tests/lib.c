@@ -19,6 +19,30 @@ static uint8_t *bytes(size_t size) {
     return block;
 }
 
+/* An encoder makes the same parities, however often it is asked, and answers each wrong call. */
+static void prepared(uint32_t k, uint32_t r, uint32_t len, const uint8_t *data, size_t given, const uint8_t *wanted, size_t behind) {
+    struct carbink_encoder encoder = CARBINK_NO_ENCODER_YET;
+    uint8_t *made = bytes(behind);
+    memset(made, 0xEE, behind);
+    check(carbink_encoder_encode(&encoder, data, given, made, behind) == CARBINK_NO_ENCODER, "no encoder", k, r, len);
+    check(carbink_encoder_new(&encoder, 17, r, 0) == CARBINK_BAD_CODE, "an encoder of no code", k, r, len);
+    check(carbink_encoder_new(&encoder, k, r, 0) == CARBINK_BAD_LENGTH, "an encoder of no bytes", k, r, len);
+    check(carbink_encoder_new(&encoder, k, r, len) == CARBINK_DONE, "an encoder", k, r, len);
+    check(carbink_encoder_new(&encoder, 17, r, 0) == CARBINK_HAS_ENCODER, "a second encoder", k, r, len);
+    check(carbink_encoder_encode(&encoder, data, given - 1, made, behind) == CARBINK_BAD_BUFFER, "short rows", k, r, len);
+    check(carbink_encoder_encode(&encoder, data, given, made, behind - 1) == CARBINK_BAD_BUFFER, "short parities", k, r, len);
+    check(made[0] == 0xEE && made[behind - 1] == 0xEE, "nothing is written", k, r, len);
+    for (int time = 0; time < 2; time++) {
+        memset(made, 0xEE, behind);
+        check(carbink_encoder_encode(&encoder, data, given, made, behind) == CARBINK_DONE, "encode prepared", k, r, len);
+        check(memcmp(made, wanted, behind) == 0, "what the encoder made", k, r, len);
+    }
+    carbink_encoder_free(&encoder);
+    carbink_encoder_free(&encoder);
+    check(carbink_encoder_encode(&encoder, data, given, made, behind) == CARBINK_NO_ENCODER, "behind its end", k, r, len);
+    free(made);
+}
+
 static void one_code(uint32_t k, uint32_t r, uint32_t len) {
     size_t row = len, given = k * row, behind = r * row, whole = given + behind;
     uint8_t *data = bytes(given), *parities = bytes(behind), *word = bytes(whole), *lost = bytes(whole), *present = bytes(k);
@@ -44,6 +68,7 @@ static void one_code(uint32_t k, uint32_t r, uint32_t len) {
     check(carbink_mend(k, r, len, lost, whole, position) == CARBINK_DONE, "mend", k, r, len);
     check(memcmp(lost, word, whole) == 0, "what mend made", k, r, len);
     check(carbink_encode(k, r, len, data, given - 1, parities, behind) == CARBINK_BAD_BUFFER, "a short buffer", k, r, len);
+    prepared(k, r, len, data, given, word + given, behind);
     free(data), free(parities), free(word), free(lost), free(present);
 }
 

@@ -9,11 +9,10 @@ enum { PAGES = 64, SIZE = 1000 };
 static struct carbink_world world = CARBINK_NO_WORLD;
 static uint8_t room[CARBINK_ROOM];
 
-static struct carbink_reply step(struct carbink_event event, const uint8_t *bytes, size_t size) {
-    struct carbink_reply reply = {CARBINK_REPLY_WORN, 0, 0, 0, 0};
-    uint32_t status = carbink_world_step(&world, &event, bytes, size, &reply, room, sizeof room);
-    if (status != CARBINK_DONE) printf("a step answered %u\n", (unsigned)status);
-    return reply;
+static struct carbink_reply reply;
+
+static void done(uint32_t status) {
+    if (status != CARBINK_DONE) printf("a call answered %u\n", (unsigned)status);
 }
 
 static void fill(uint8_t *page, uint32_t number) {
@@ -24,8 +23,7 @@ static uint32_t whole_pages(const uint32_t *handles) {
     uint8_t page[SIZE];
     uint32_t whole = 0;
     for (uint32_t i = 0; i < PAGES; i++) {
-        struct carbink_event event = {CARBINK_READ, 0, handles[i], 0, 0};
-        struct carbink_reply reply = step(event, page, 0);
+        done(carbink_read(&world, 0, handles[i], &reply, room, sizeof room));
         fill(page, i);
         whole += reply.kind == CARBINK_REPLY_BYTES && reply.count == SIZE && memcmp(room, page, SIZE) == 0;
     }
@@ -39,16 +37,15 @@ int main(void) {
     uint64_t given = 0;
     if (carbink_world_new(&world, &config) != CARBINK_DONE) return 1;
     for (uint32_t i = 0; i < PAGES; i++) {
-        struct carbink_event event = {CARBINK_MAKE, 0, 0, 0, 0};
         fill(page, i);
-        handles[i] = (uint32_t)step(event, page, SIZE).first;
+        done(carbink_make(&world, 0, page, SIZE, &reply));
+        handles[i] = (uint32_t)reply.first;
     }
     printf("%d pages of %d bytes in 4 frames: %u are whole\n", PAGES, SIZE, (unsigned)whole_pages(handles));
     for (uint32_t node = 1; node <= 3; node += 2) {
-        struct carbink_event event = {CARBINK_CRASH, 0, 0, node, 0};
-        struct carbink_reply reply = step(event, page, 0);
-        printf("node %u crashed, epoch %u: %u are whole\n", (unsigned)node, (unsigned)reply.first,
-               (unsigned)whole_pages(handles));
+        done(carbink_crash(&world, 0, node, &reply));
+        unsigned epoch = (unsigned)reply.first;
+        printf("node %u crashed, epoch %u: %u are whole\n", (unsigned)node, epoch, (unsigned)whole_pages(handles));
     }
     carbink_world_given(&world, &given);
     printf("rows were given out: %s\n", given > 0 ? "yes" : "no");

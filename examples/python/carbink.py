@@ -10,7 +10,7 @@ import os
 DONE, BAD_CODE, BAD_LENGTH, BAD_BUFFER, BAD_POSITIONS, NO_MEMORY = range(6)
 NAMES = {DONE: "done", BAD_CODE: "no such code", BAD_LENGTH: "rows of no bytes", BAD_BUFFER: "a buffer of another size",
          BAD_POSITIONS: "other positions", NO_MEMORY: "no memory", 6: "no world", 7: "a world already", 8: "no such verb",
-         9: "no such seat", 10: "no such handle, node or size", 11: "a reply that is too long", 16: "k out of range",
+         9: "no such seat", 10: "no such handle, node or size", 12: "no encoder", 13: "an encoder already", 16: "k out of range",
          17: "r out of range", 18: "nodes out of range", 19: "frames out of range", 20: "room out of range",
          21: "handles out of range"}
 VERBS = "make read write free swap filter evict begin ship commit abort pair patch merge part compact rebuild crash join pin unpin".split()
@@ -57,6 +57,10 @@ class _Reply(ctypes.Structure):
     _fields_ = [("kind", ctypes.c_uint32)] + [(name, ctypes.c_uint64) for name in ("first", "second", "third", "count")]
 
 
+_encoder = ctypes.POINTER(_World)  # The two handles look alike.
+for _name, _args in [("new", [_encoder] + _shape), ("encode", [_encoder] + _read + _written), ("free", [_encoder])]:
+    _call = getattr(_lib, "carbink_encoder_" + _name)
+    _call.argtypes, _call.restype = _args, None if _name == "free" else ctypes.c_uint32
 _world = ctypes.POINTER(_World)
 for _name, _args in [("new", [_world, ctypes.POINTER(_Config)]), ("free", [_world]),
                      ("given", [_world, ctypes.POINTER(ctypes.c_uint64)]),
@@ -136,6 +140,31 @@ def mend(rows, r, position):
     buffer = _buffer(block)
     _must(_lib.carbink_mend(max(len(rows) - r, 0), r, _length(rows), buffer, len(block), position))
     return _rows(buffer, len(block), _length(rows))
+
+
+class Encoder:
+    """The table of a code, and room for parities of rows of one length, made once and used many times."""
+
+    def __init__(self, k, r, length):
+        self._held, self._length = _World(), length
+        _must(_lib.carbink_encoder_new(self._held, k, r, length))
+        self._parities = (ctypes.c_ubyte * (r * length))()
+
+    def encode(self, data):
+        """The parities of these data rows."""
+        block, size = b"".join(data), len(self._parities)
+        _must(_lib.carbink_encoder_encode(self._held, block, len(block), self._parities, size))
+        return _rows(self._parities, size, self._length)
+
+    def close(self):
+        """Gives the memory back; the encoder is gone then."""
+        _lib.carbink_encoder_free(self._held)
+
+    def __enter__(self):
+        return self
+
+    def __exit__(self, *_):
+        self.close()
 
 
 class Reply:

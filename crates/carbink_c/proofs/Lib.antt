@@ -2,6 +2,11 @@ mod Cutting
 mod Making
 mod WorkedEnds
 mod AsBox
+mod AsEncoder
+mod Tabling
 mod Worlds
 mod Losses
+mod FewBytes
+mod StepFew
 mod WorkedWorld
+mod WorkedCalls

@@ -1,5 +1,5 @@
 -- Lost shards in a buffer, nine bytes each.
-use Rattle.std.proofs.Common.{◌≡◌, ℕ, ◌+◌, ◌*◌, ◌/◌, ◌<◌, ◌≤◌, List, [], ◌∷◌, ◌++◌, length, take, drop, get_or, refl, sym, ap, ap₂, ◌∙◌, arith}
+use Rattle.std.proofs.Common.{◌≡◌, ℕ, ◌+◌, ◌*◌, ◌<◌, ◌≤◌, List, [], ◌∷◌, ◌++◌, length, take, drop, get_or, refl, sym, ap, ap₂, ◌∙◌, arith}
 use Rattle.std.proofs.lemmas.List.{append_assoc, append-nil, drop-drop, length-append, length-drop, length-take-le, take-append-drop, take_all, take_more}
 use Rattle.std.proofs.lemmas.Slice.{drop-put_mid, take-put_mid}
 use borrow.Rule.Slice.PartMut.{put_mid, same_len_mid}
@@ -46,6 +46,3 @@ put_all i lost old now all put =
     let whole : take i lost ≡ lost = take_all i lost (omega (arith, all)) in
     let long : 9 * i ≡ length (loss_rows lost) = omega (arith, all, rows_long lost) in
     sym (take-append-drop (9 * i) now) ∙ ap₂ ◌++◌ (put.front ∙ ap loss_rows whole) (put.behind ∙ ap (λ n. drop n old) long)
-
-pub short_told : (lost : List Loss) (room : List ℕ) → length room / 9 < length lost → length room < length (loss_rows lost)
-short_told lost room short = omega (arith, short, rows_long lost)

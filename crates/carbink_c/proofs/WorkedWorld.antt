@@ -13,7 +13,7 @@ use Rattle.carbink_c.specs.Asked.{event_by}
 use Rattle.carbink_c.specs.Handle.{IsSoundIn}
 use Rattle.carbink_c.specs.Outcome.{IsOutcomeOf}
 use Rattle.carbink_c.specs.Told.{bytes_of, told_reply}
-use Rattle.carbink_c.specs.WorldEnds.{GivenEnds, IsAsked, Place, StepEnds, TellsReply, TellsShort}
+use Rattle.carbink_c.specs.WorldEnds.{GivenEnds, IsAsked, Place, StepEnds, TellsReply}
 
 -- ---- what is asked for
 
@@ -68,9 +68,6 @@ behind_changed x = absurd (omega (arith, ap (λ (xs : List ℕ). get_or xs 2 0) 
 
 other_kind : TellsReply (answer.Short (4 ∷ 6 ∷ [])) before (record told { reply = blank }) → ⊥
 other_kind x = absurd (omega (arith, ap (λ (r : CarbinkReply). r.kind) x.0))
-
-cut : TellsShort (answer.Short (4 ∷ 6 ∷ [])) before told → ⊥
-cut x = absurd (omega (arith, x.2))
 
 -- ---- how calls end
 

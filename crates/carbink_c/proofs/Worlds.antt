@@ -14,7 +14,7 @@ use Rattle.carbink_c.specs.declared.event.Verb.{Verb}
 use Rattle.carbink_c.specs.declared.event.Verb.TheVariants.{Crash, Join}
 use Rattle.carbink_c.specs.declared.held.Held.{Held}
 use Rattle.carbink_c.specs.declared.outcome.Outcome.{Outcome}
-use Rattle.carbink_c.specs.declared.outcome.Outcome.TheVariants.{Done, BadBuffer, NoMemory, NoWorld, HasWorld, BadVerb, BadSeat, BadArgument, TooLong, BadSize}
+use Rattle.carbink_c.specs.declared.outcome.Outcome.TheVariants.{Done, BadBuffer, NoMemory, NoWorld, HasWorld, BadVerb, BadSeat, BadArgument, BadSize}
 use Rattle.carbink_c.specs.Asked.{event_by}
 use Rattle.carbink_c.specs.Handle.{IsSoundIn}
 use Rattle.carbink_c.specs.WorldEnds.{AnswerEnds, EventEnds, GivenEnds, IsAsked, Place, StepEnds}
@@ -60,7 +60,6 @@ event_ended verb a bytes w v old new e outcome c is ends = by outcome (subst (λ
   where
     by : (o : Outcome) → AnswerEnds (event_by verb a bytes) w v old new o → EventEnds a bytes w v old new o
     by Done x = (verb, c.asked, c.may, c.large, x)
-    by TooLong x = (verb, c.asked, c.may, c.large, x)
     by NoMemory x = (verb, c.asked, c.may, c.large, inr x)
     by BadBuffer x = absurd x
     by NoWorld x = absurd x
@@ -83,7 +82,6 @@ step_ended a bytes kept left held after old new outcome was is ends = by outcome
     by : (o : Outcome) → EventEnds a bytes w v old new o → StepEnds a bytes (in_kept kept) (in_kept left) old new o
     by NoWorld x = absurd x.4
     by Done x = (w, v, ap in_kept was, ap in_kept is, x)
-    by TooLong x = (w, v, ap in_kept was, ap in_kept is, x)
     by NoMemory x = (w, v, ap in_kept was, ap in_kept is, x)
     by BadBuffer x = (w, v, ap in_kept was, ap in_kept is, x)
     by HasWorld x = (w, v, ap in_kept was, ap in_kept is, x)

@@ -2,6 +2,8 @@ pub mod Status
 pub mod Made
 pub mod Found
 pub mod Kept
+pub mod KeptEncoder
+pub mod Encoder
 pub mod Handle
 pub mod Outcome
 pub mod Asked

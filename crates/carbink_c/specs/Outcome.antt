@@ -2,7 +2,7 @@
 use Rattle.std.specs.Prelude.{◌≡◌, ℕ, ◌+◌}
 use Rattle.cb_types.specs.Config.{place}
 use Rattle.carbink_c.specs.declared.outcome.Outcome.{Outcome}
-use Rattle.carbink_c.specs.declared.outcome.Outcome.TheVariants.{Done, BadBuffer, NoMemory, NoWorld, HasWorld, BadVerb, BadSeat, BadArgument, TooLong, BadSize}
+use Rattle.carbink_c.specs.declared.outcome.Outcome.TheVariants.{Done, BadBuffer, NoMemory, NoWorld, HasWorld, BadVerb, BadSeat, BadArgument, BadSize}
 
 -- the number by which C knows it
 abbrev pub outcome_number : Outcome → ℕ
@@ -14,7 +14,6 @@ outcome_number HasWorld = 7
 outcome_number BadVerb = 8
 outcome_number BadSeat = 9
 outcome_number BadArgument = 10
-outcome_number TooLong = 11
 outcome_number (BadSize field) = 16 + place field
 
 -- the number is that of an outcome with which a call may end

@@ -2,7 +2,7 @@
 use Rattle.std.specs.Prelude.{◌≡◌, ℕ, ◌<◌}
 use Rattle.cb_gf256.specs.InRange.{IsInRange}
 use Rattle.carbink_c.specs.declared.status.Status.{Status}
-use Rattle.carbink_c.specs.declared.status.Status.TheVariants.{Done, BadCode, BadLength, BadBuffer, BadPositions, NoMemory}
+use Rattle.carbink_c.specs.declared.status.Status.TheVariants.{Done, BadCode, BadLength, BadBuffer, BadPositions, NoMemory, NoEncoder, HasEncoder}
 
 -- the number by which C knows it
 abbrev pub status_number : Status → ℕ
@@ -12,6 +12,8 @@ status_number BadLength = 2
 status_number BadBuffer = 3
 status_number BadPositions = 4
 status_number NoMemory = 5
+status_number NoEncoder = 12
+status_number HasEncoder = 13
 
 -- there are no rows of so many bytes of a code of this k and r
 abbrev pub IsRefusedShape : ℕ → ℕ → ℕ → Status → Type 0
@@ -21,6 +23,8 @@ IsRefusedShape k r len Done = ⊥
 IsRefusedShape k r len BadBuffer = ⊥
 IsRefusedShape k r len BadPositions = ⊥
 IsRefusedShape k r len NoMemory = ⊥
+IsRefusedShape k r len NoEncoder = ⊥
+IsRefusedShape k r len HasEncoder = ⊥
 
 -- A call on rows of `len` bytes of the code of k and r ends so: the first that is wrong, of the
 -- code, the length, the sizes of the buffers and the positions, is told, and so is want of memory,
@@ -36,6 +40,8 @@ Ends k r len sized placed stays made BadPositions =
     IsInRange k r × (0 < len) × sized × ¬ placed × stays
 Ends k r len sized placed stays made NoMemory =
     IsInRange k r × (0 < len) × sized × placed × stays
+Ends k r len sized placed stays made NoEncoder = ⊥
+Ends k r len sized placed stays made HasEncoder = ⊥
 
 -- the number is that of a status with which a call may end
 abbrev pub IsNumberOf : (Status → Type 0) → ℕ → Type 0

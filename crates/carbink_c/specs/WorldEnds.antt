@@ -13,7 +13,7 @@ use Rattle.carbink_c.specs.declared.beginning.CarbinkConfig.{CarbinkConfig}
 use Rattle.carbink_c.specs.declared.event.CarbinkEvent.{CarbinkEvent}
 use Rattle.carbink_c.specs.declared.event.Verb.{Verb}
 use Rattle.carbink_c.specs.declared.outcome.Outcome.{Outcome}
-use Rattle.carbink_c.specs.declared.outcome.Outcome.TheVariants.{Done, BadBuffer, NoMemory, NoWorld, HasWorld, BadVerb, BadSeat, BadArgument, TooLong, BadSize}
+use Rattle.carbink_c.specs.declared.outcome.Outcome.TheVariants.{Done, BadBuffer, NoMemory, NoWorld, HasWorld, BadVerb, BadSeat, BadArgument, BadSize}
 use Rattle.carbink_c.specs.declared.reply.CarbinkReply.{CarbinkReply}
 use Rattle.carbink_c.specs.Asked.{verb_number, event_by}
 use Rattle.carbink_c.specs.Told.{bytes_of, told_reply}
@@ -55,11 +55,6 @@ abbrev pub TellsReply : Reply → Place → Place → Type 0
 TellsReply r old new = (new.reply ≡ told_reply r)
     × (new.room ≡ bytes_of r ++ drop (length (bytes_of r)) old.room)
 
--- the reply is told but for its bytes, which are more than the room has
-abbrev pub TellsShort : Reply → Place → Place → Type 0
-TellsShort r old new = (new.reply ≡ told_reply r) × (new.room ≡ old.room)
-    × (length old.room < length (bytes_of r))
-
 -- the event takes place, with this reply, which tells exactly where an object is lost
 pub record TakesPlace (w : WorldState) (e : Event) (r : Reply) (v : WorldState) : Type 0 where
   pub step : Step w e r v
@@ -69,7 +64,6 @@ pub record TakesPlace (w : WorldState) (e : Event) (r : Reply) (v : WorldState) 
 -- holds is as before, and nothing is told.
 abbrev pub AnswerEnds : Event → WorldState → WorldState → Place → Place → Outcome → Type 0
 AnswerEnds e w v old new Done = (r : Reply) × TakesPlace w e r v × TellsReply r old new
-AnswerEnds e w v old new TooLong = (r : Reply) × TakesPlace w e r v × TellsShort r old new
 AnswerEnds e w v old new NoMemory = EventStops w e v × LeavesAsBefore w e v × (new ≡ old)
 AnswerEnds e w v old new outcome = ⊥
 

@@ -70,18 +70,28 @@ pub(crate) fn event_of(
         Verb::Part => Job::Part,
         Verb::Compact => Job::Compact,
         Verb::Rebuild => Job::Rebuild,
-        Verb::Crash => Job::Crash {
-            node: NodeId {
-                n: asked.node as u8,
-            },
-        },
-        Verb::Join => Job::Join {
-            node: NodeId {
-                n: asked.node as u8,
-            },
-        },
+        Verb::Crash => crash(asked),
+        Verb::Join => join(asked),
     };
     Ok(Event::Turn { seat, job })
+}
+
+fn crash(asked: &CarbinkEvent) -> Job
+    requires { asked.now.node < 256 }
+    ensures { result ≡ Job.Crash (record { n = asked.now.node }) }
+{
+    let n = asked.node as u8;
+    let node = NodeId { n };
+    Job::Crash { node }
+}
+
+fn join(asked: &CarbinkEvent) -> Job
+    requires { asked.now.node < 256 }
+    ensures { result ≡ Job.Join (record { n = asked.now.node }) }
+{
+    let n = asked.node as u8;
+    let node = NodeId { n };
+    Job::Join { node }
 }
 
 fn pin(seat: u32, handle: Handle) -> Event

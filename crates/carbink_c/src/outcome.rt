@@ -23,8 +23,6 @@ pub enum Outcome {
     BadSeat,
     /// The handle, the node or the number of bytes is none that the verb takes.
     BadArgument,
-    /// The event took place, and its reply has more bytes than the buffer.
-    TooLong,
     /// A size of the world is out of its range; which is the first.
     BadSize(Field),
 }
@@ -43,7 +41,6 @@ impl Outcome {
             Outcome::BadVerb => 8,
             Outcome::BadSeat => 9,
             Outcome::BadArgument => 10,
-            Outcome::TooLong => 11,
             Outcome::BadSize(field) => 16 + place_of(field),
         }
     }

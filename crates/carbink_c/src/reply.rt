@@ -1,5 +1,6 @@
-ghost use Rattle.std.specs.Prelude.{◌≡◌};
-ghost use Rattle.carbink_c.specs.Told.{kind_of, first_of, second_of, third_of, count_of, told_reply};
+ghost use Rattle.std.specs.Prelude.{◌≡◌, ◌≤◌};
+ghost use Rattle.carbink_c.specs.Told.{kind_of, first_of, second_of, third_of};
+ghost use Rattle.carbink_c.specs.Told.{count_of, told_reply};
 
 use cb_types::Reply;
 
@@ -62,6 +63,16 @@ fn kind(reply: &Reply) -> u32
         Reply::Pinned { .. } => 24,
         Reply::Worn => 25,
         Reply::ScopeFull => 26,
+        _ => later_kind(reply),
+    }
+}
+
+/// The same of a kind from 27 on.
+fn later_kind(reply: &Reply) -> u32
+    requires later { 27 ≤ kind_of reply.now }
+    ensures { result ≡ kind_of reply.now }
+{
+    match reply {
         Reply::NotPinned => 27,
         Reply::NotHere => 28,
         Reply::NoSlot { .. } => 29,
@@ -91,7 +102,7 @@ fn kind(reply: &Reply) -> u32
         Reply::NotClaimed => 53,
         Reply::NotStored { .. } => 54,
         Reply::Held { .. } => 55,
-        Reply::NotHeld => 56,
+        _ => 56,
     }
 }
 
@@ -103,6 +114,7 @@ fn first(reply: &Reply) -> u64
         Reply::Made { handle, .. } => u64::from(handle.n),
         Reply::Version { version } => *version,
         Reply::Bytes { version, .. } => *version,
+        Reply::Done | Reply::Moved | Reply::Same | Reply::AllShipped | Reply::AllStepped => 0,
         Reply::Left { pins } => u64::from(*pins),
         Reply::Set { set } => set.n,
         Reply::Batch { set } => set.n,
@@ -112,6 +124,16 @@ fn first(reply: &Reply) -> u64
         Reply::Merged { set, .. } => set.n,
         Reply::Rebuilt { set, .. } => set.n,
         Reply::EpochAt { epoch } => epoch.n,
+        _ => later_first(reply),
+    }
+}
+
+/// The same of a kind from 17 on.
+fn later_first(reply: &Reply) -> u64
+    requires later { 17 ≤ kind_of reply.now }
+    ensures { result ≡ first_of reply.now }
+{
+    match reply {
         Reply::Full { handles } => u64::from(*handles),
         Reply::NoRoom { frames, .. } => u64::from(*frames),
         Reply::Unavailable { set, .. } => set.n,

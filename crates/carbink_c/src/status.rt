@@ -17,6 +17,10 @@ pub enum Status {
     BadPositions,
     /// There was no memory.
     NoMemory,
+    /// The handle holds no encoder.
+    NoEncoder,
+    /// The handle holds an encoder already.
+    HasEncoder,
 }
 
 impl Status {
@@ -31,6 +35,8 @@ impl Status {
             Status::BadBuffer => 3,
             Status::BadPositions => 4,
             Status::NoMemory => 5,
+            Status::NoEncoder => 12,
+            Status::HasEncoder => 13,
         }
     }
 }

@@ -22,8 +22,8 @@ const BUFFER_BYTES: usize = 1024;
 
 /// One event on the world: what it is answered, with its bytes at the front of `room`.
 ///
-/// Where the answer is NoMemory, what each object holds is as it was, and so are `reply` and `room`;
-/// where it is neither this nor Done nor TooLong, nothing is changed.
+/// Where the answer is NoMemory, what each object holds is as it was, and so are `reply` and
+/// `room`; where it is neither this nor Done, nothing is changed.
 #[unsafe(no_mangle)]
 pub extern "C" fn carbink_world_step(
     alloc: Global,
@@ -141,6 +141,7 @@ fn answered(
 ) -> Outcome
     requires sound { IsSoundWorld world.old }
     requires event { IsEvent world.old.desk.settings event.now }
+    requires large { 1024 ≤ length room.old }
     ensures ends { AnswerEnds event.now world.old world.new
         (record { reply = reply.old; room = room.old })
         (record { reply = reply.new; room = room.new }) result }
@@ -149,11 +150,8 @@ fn answered(
     match step(alloc, world, event) {
         Ok(answer) => {
             *reply = told(&answer);
-            if put_bytes(&answer, room) {
-                Outcome::Done
-            } else {
-                Outcome::TooLong
-            }
+            put_bytes(&answer, room);
+            Outcome::Done
         }
         Err(NoMemory) => Outcome::NoMemory,
     }

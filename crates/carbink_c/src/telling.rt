@@ -1,6 +1,5 @@
 //! The bytes of a reply, in the caller's buffer.
-ghost use Rattle.std.specs.Prelude.{◌≡◌, ◌+◌, ◌*◌, ◌<◌, ◌++◌, drop, length};
-ghost use Rattle.std.specs.Bool.{MatchBool};
+ghost use Rattle.std.specs.Prelude.{◌≡◌, ◌+◌, ◌*◌, ◌≤◌, ◌++◌, drop, length};
 ghost use Rattle.carbink_c.specs.Told.{bytes_of, loss_row, loss_rows};
 
 use cb_member::Loss;
@@ -9,47 +8,35 @@ use cb_types::Reply;
 /// How many bytes tell a lost shard.
 const LOSS_BYTES: usize = 9;
 
-/// Puts the bytes of a reply at the front of a buffer, where they have room there; else nothing is
-/// written. Answers whether they had.
-pub(crate) fn put_bytes(reply: &Reply, room: &mut [u8]) -> bool
-    ensures { MatchBool result
-        (room.new ≡ bytes_of reply.now ++ drop (length (bytes_of reply.now)) room.old)
-        ((room.new ≡ room.old) × (length room.old < length (bytes_of reply.now))) }
+/// Puts the bytes of a reply at the front of a buffer that has room for them.
+pub(crate) fn put_bytes(reply: &Reply, room: &mut [u8])
+    requires fits { length (bytes_of reply.now) ≤ length room.old }
+    ensures { room.new ≡ bytes_of reply.now ++ drop (length (bytes_of reply.now)) room.old }
 {
     match reply {
         Reply::Bytes { bytes, .. } => put_front(bytes.as_slice(), room),
         Reply::Unavailable { lost, .. } => put_losses(lost.as_slice(), room),
         Reply::Short { positions } => put_front(positions.as_slice(), room),
         Reply::Unfinished { positions } => put_front(positions.as_slice(), room),
-        _ => true,
+        _ => {}
     }
 }
 
-fn put_front(bytes: &[u8], room: &mut [u8]) -> bool
-    ensures { MatchBool result
-        (room.new ≡ bytes.now ++ drop (length bytes.now) room.old)
-        ((room.new ≡ room.old) × (length room.old < length bytes.now)) }
+fn put_front(bytes: &[u8], room: &mut [u8])
+    requires fits { length bytes.now ≤ length room.old }
+    ensures { room.new ≡ bytes.now ++ drop (length bytes.now) room.old }
 {
-    if room.len() < bytes.len() {
-        return false;
-    }
     room[..bytes.len()].copy_from_slice(bytes);
-    true
 }
 
-fn put_losses(lost: &[Loss], room: &mut [u8]) -> bool
-    ensures { MatchBool result
-        (room.new ≡ loss_rows lost.now ++ drop (length (loss_rows lost.now)) room.old)
-        ((room.new ≡ room.old) × (length room.old < length (loss_rows lost.now))) }
+fn put_losses(lost: &[Loss], room: &mut [u8])
+    requires fits { length (loss_rows lost.now) ≤ length room.old }
+    ensures { room.new ≡ loss_rows lost.now ++ drop (length (loss_rows lost.now)) room.old }
 {
-    if room.len() / LOSS_BYTES < lost.len() {
-        return false;
-    }
     for i in 0..lost.len() {
         let at = LOSS_BYTES * i;
         put_loss(lost[i], &mut room[at..at + LOSS_BYTES]);
     }
-    true
 }
 
 fn put_loss(loss: Loss, row: &mut [u8])

@@ -4,8 +4,21 @@ pub mod world;
 
 mod raw {
     use super::Found;
+    use std::os::raw::c_void;
+
+    /// An encoder, or none: all bytes 0.
+    #[repr(C)]
+    pub struct Handle {
+        pub there: bool,
+        pub at: *mut c_void,
+    }
 
     extern "C" {
+        pub fn carbink_encoder_new(encoder: *mut Handle, k: u32, r: u32, len: u32) -> u32;
+        pub fn carbink_encoder_encode(
+            encoder: *mut Handle, data: *const u8, data_size: usize, parities: *mut u8, parities_size: usize,
+        ) -> u32;
+        pub fn carbink_encoder_free(encoder: *mut Handle);
         pub fn carbink_version() -> u32;
         pub fn carbink_encode(k: u32, r: u32, len: u32, data: *const u8, data_size: usize, parities: *mut u8, parities_size: usize) -> u32;
         pub fn carbink_is_word(k: u32, r: u32, len: u32, rows: *const u8, rows_size: usize, is_word: *mut u32) -> u32;
@@ -94,5 +107,32 @@ impl Code {
     /// Replaces the row at the position by the sum of all others.
     pub fn mend(&self, rows: &mut [u8], position: u32) -> Result<(), Refused> {
         answer(unsafe { raw::carbink_mend(self.k, self.r, self.len, rows.as_mut_ptr(), rows.len(), position) })
+    }
+}
+
+/// The table of a code, and room for the parities of rows of one length, made once and used many times.
+pub struct Encoder {
+    handle: raw::Handle,
+}
+
+impl Encoder {
+    /// An encoder of this code.
+    pub fn new(code: Code) -> Result<Encoder, Refused> {
+        let mut handle = raw::Handle { there: false, at: std::ptr::null_mut() };
+        answer(unsafe { raw::carbink_encoder_new(&mut handle, code.k, code.r, code.len) })?;
+        Ok(Encoder { handle })
+    }
+
+    /// Makes the parities of the data rows, as `Code::encode` does.
+    pub fn encode(&mut self, data: &[u8], parities: &mut [u8]) -> Result<(), Refused> {
+        answer(unsafe {
+            raw::carbink_encoder_encode(&mut self.handle, data.as_ptr(), data.len(), parities.as_mut_ptr(), parities.len())
+        })
+    }
+}
+
+impl Drop for Encoder {
+    fn drop(&mut self) {
+        unsafe { raw::carbink_encoder_free(&mut self.handle) }
     }
 }

@@ -151,6 +151,31 @@ impl World {
         Ok(Reply { kind: told.kind, numbers: told.numbers, bytes: room[..size].to_vec() })
     }
 
+    /// A new object with these bytes, made by seat 0, as each method below is of seat 0.
+    pub fn make(&mut self, bytes: &[u8]) -> Result<Reply, Refused> {
+        self.step(Event { bytes, ..Event::of(Verb::Make) })
+    }
+
+    /// These bytes in place of the object's from byte `at` on.
+    pub fn write(&mut self, handle: u32, at: u32, bytes: &[u8]) -> Result<Reply, Refused> {
+        self.step(Event { handle, at, bytes, ..Event::of(Verb::Write) })
+    }
+
+    /// A verb on an object: Read, Free, Swap, Filter, Pin or Unpin.
+    pub fn on(&mut self, verb: Verb, handle: u32) -> Result<Reply, Refused> {
+        self.step(Event { handle, ..Event::of(verb) })
+    }
+
+    /// A verb on a node: Crash or Join.
+    pub fn at_node(&mut self, verb: Verb, node: u32) -> Result<Reply, Refused> {
+        self.step(Event { node, ..Event::of(verb) })
+    }
+
+    /// Any other verb.
+    pub fn turn(&mut self, verb: Verb) -> Result<Reply, Refused> {
+        self.step(Event::of(verb))
+    }
+
     /// How many rows the nodes have given out.
     pub fn given(&mut self) -> u64 {
         let mut given = 0;
