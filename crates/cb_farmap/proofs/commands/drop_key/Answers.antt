@@ -14,5 +14,6 @@ pub returns-clause-goes : goal.returns-clause-goes
 returns-clause-goes g c = drop_so c.args.shared.now c.requires.first c.drop_key-dropped.new.pass
     c.recall.new.pass c.recall.ensures.of c.recall.ensures.same c.recall.ensures.own
     (record_of c.args.pass.now) c.args.far.now.array c.args.far.now.map c.drop_key-dropped.new.self c.args.key
-    c.drop_key-dropped.result c.drop_key-dropped.ensures.ok c.drop_key-dropped.ensures.stays c.drop_key-dropped.ensures.keeps
+    c.drop_key-dropped.result c.drop_key-dropped.ensures.ok c.drop_key-dropped.ensures.stays
+    c.drop_key-dropped.ensures.keeps
     c.said_found.result c.said_found.ensures
