@@ -39,14 +39,14 @@ pub few_keys : (v : View) (a : FarArray) (m : FarMap) → AreReady v a m → m.l
 few_keys v a m ready = let f = ready.2.few_keys in let n = ready.3 in omega (arith, f, n)
 
 -- nothing else is told than why the runtime refused
-pub quiet_array : (c : Config) (first : ℕ) (plan : List Ask) (t : Option Cannot) (v w : View)
-    (a b : FarArray) (m : FarMap) → AreReady v a m → Keeps c first plan t v a w b → IsCalm t
-quiet_array c first plan t v w a b m ready keeps =
+pub quiet_array : {c : Config} {first : ℕ} {plan : List Ask} {t : Option Cannot} {v w : View}
+    {a b : FarArray} {m : FarMap} → AreReady v a m → Keeps c first plan t v a w b → IsCalm t
+quiet_array {v = v} {a = a} {m = m} ready keeps =
     (keeps.calm (calm_array ready.0 ready.1 v a m ready.2)).0
 
-pub quiet_map : (c : Config) (first : ℕ) (plan : List Ask) (t : Option Cannot) (v w : View)
-    (a : FarArray) (m o : FarMap) → AreReady v a m → KeepsMap c first plan t v m w o → IsCalm t
-quiet_map c first plan t v w a m o ready keeps =
+pub quiet_map : {c : Config} {first : ℕ} {plan : List Ask} {t : Option Cannot} {v w : View}
+    {a : FarArray} {m o : FarMap} → AreReady v a m → KeepsMap c first plan t v m w o → IsCalm t
+quiet_map {v = v} {a = a} {m = m} ready keeps =
     (keeps.calm (calm_map ready.0 ready.1 v a m ready.2)).0
 
 -- ---- behind one

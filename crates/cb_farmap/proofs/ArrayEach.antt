@@ -10,7 +10,7 @@ use Rattle.cb_rule.specs.declared.view.View.{View}
 use Rattle.cb_rule.specs.Lists.{Has}
 use Rattle.cb_map_text.specs.Plain.{Plain, after_said, found_said, needs_object, objects_for, plain_after, plain_said, with_list, within_said}
 use Rattle.cb_map_text.specs.declared.command.FarAnswer.{FarAnswer}
-use Rattle.cb_map_text.specs.declared.command.FarAnswer.TheVariants.{Done, Number, Outside, Refused}
+use Rattle.cb_map_text.specs.declared.command.FarAnswer.TheVariants.{Done, Number, Outside}
 use Rattle.cb_map_text.specs.declared.command.FarCommand.{FarCommand}
 use Rattle.cb_map_text.specs.declared.command.FarCommand.TheVariants.{Push, Set, Get, Pop}
 use Rattle.cb_farmap.specs.declared.array.FarArray.{FarArray}

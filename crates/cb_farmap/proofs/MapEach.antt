@@ -240,7 +240,8 @@ module _ (n : ℕ) (s : Plain) (v : View) (a : FarArray) (m : FarMap) (st : Stan
     ask_writes None is k at bytes there = by (is_filled b.kept b.count) refl there
       where
         by : (full : Bool) → is_filled b.kept b.count ≡ full
-            → Has (AskWrite k at bytes) ((if full then AskMake (object_bytes (key, x)) else write_at b.kept b.count (key, x)) ∷ [])
+            → Has (AskWrite k at bytes)
+            ((if full then AskMake (object_bytes (key, x)) else write_at b.kept b.count (key, x)) ∷ [])
             → Has k b.kept
         by true full there = absurd (no_write_make _ k at bytes there)
         by false full there = subst (λ (y : KeptObject). Has y b.kept)

@@ -151,8 +151,9 @@ fn push<R: Wait>(
     requires first { first_version_of shared.now ≡ 1 }
     requires ready { AreReady (record_of pass.old) far.old.array far.old.map }
     ensures of { IsPassOf shared.now pass.new }
-    ensures goes { IfOk result (λ said. GoesSo shared.now.config (command.Push x) (record_of pass.old)
-        far.old.array far.old.map said (record_of pass.new) far.new.array far.new.map) }
+    ensures goes { IfOk result (λ said. GoesSo shared.now.config (command.Push x)
+        (record_of pass.old) far.old.array far.old.map said
+        (record_of pass.new) far.new.array far.new.map) }
 {
     let pushed = far.array.push(rt, alloc, shared, pass, x);
     shared.recall(pass);
@@ -173,8 +174,9 @@ fn set<R: Wait>(
     requires first { first_version_of shared.now ≡ 1 }
     requires ready { AreReady (record_of pass.old) far.old.array far.old.map }
     ensures of { IsPassOf shared.now pass.new }
-    ensures goes { IfOk result (λ said. GoesSo shared.now.config (command.Set i x) (record_of pass.old)
-        far.old.array far.old.map said (record_of pass.new) far.new.array far.new.map) }
+    ensures goes { IfOk result (λ said. GoesSo shared.now.config (command.Set i x)
+        (record_of pass.old) far.old.array far.old.map said
+        (record_of pass.new) far.new.array far.new.map) }
 {
     let len = far.array.len();
     if i >= len {
@@ -199,8 +201,9 @@ fn get<R: Wait>(
     requires first { first_version_of shared.now ≡ 1 }
     requires ready { AreReady (record_of pass.old) far.old.array far.old.map }
     ensures of { IsPassOf shared.now pass.new }
-    ensures goes { IfOk result (λ said. GoesSo shared.now.config (command.Get i) (record_of pass.old)
-        far.old.array far.old.map said (record_of pass.new) far.new.array far.new.map) }
+    ensures goes { IfOk result (λ said. GoesSo shared.now.config (command.Get i)
+        (record_of pass.old) far.old.array far.old.map said
+        (record_of pass.new) far.new.array far.new.map) }
 {
     let len = far.array.len();
     if i >= len {
@@ -224,8 +227,9 @@ fn pop<R: Wait>(
     requires first { first_version_of shared.now ≡ 1 }
     requires ready { AreReady (record_of pass.old) far.old.array far.old.map }
     ensures of { IsPassOf shared.now pass.new }
-    ensures goes { IfOk result (λ said. GoesSo shared.now.config command.Pop (record_of pass.old)
-        far.old.array far.old.map said (record_of pass.new) far.new.array far.new.map) }
+    ensures goes { IfOk result (λ said. GoesSo shared.now.config command.Pop
+        (record_of pass.old) far.old.array far.old.map said
+        (record_of pass.new) far.new.array far.new.map) }
 {
     let popped = far.array.pop(rt, alloc, shared, pass);
     shared.recall(pass);
@@ -246,8 +250,9 @@ fn put<R: Wait>(
     requires first { first_version_of shared.now ≡ 1 }
     requires ready { AreReady (record_of pass.old) far.old.array far.old.map }
     ensures of { IsPassOf shared.now pass.new }
-    ensures goes { IfOk result (λ said. GoesSo shared.now.config (command.Put key x) (record_of pass.old)
-        far.old.array far.old.map said (record_of pass.new) far.new.array far.new.map) }
+    ensures goes { IfOk result (λ said. GoesSo shared.now.config (command.Put key x)
+        (record_of pass.old) far.old.array far.old.map said
+        (record_of pass.new) far.new.array far.new.map) }
 {
     let put = far.map.put(rt, alloc, shared, pass, key, x);
     shared.recall(pass);
@@ -267,8 +272,9 @@ fn look<R: Wait>(
     requires first { first_version_of shared.now ≡ 1 }
     requires ready { AreReady (record_of pass.old) far.old.array far.old.map }
     ensures of { IsPassOf shared.now pass.new }
-    ensures goes { IfOk result (λ said. GoesSo shared.now.config (command.Look key) (record_of pass.old)
-        far.old.array far.old.map said (record_of pass.new) far.new.array far.new.map) }
+    ensures goes { IfOk result (λ said. GoesSo shared.now.config (command.Look key)
+        (record_of pass.old) far.old.array far.old.map said
+        (record_of pass.new) far.new.array far.new.map) }
 {
     let found = far.map.look(rt, alloc, shared, pass, key);
     shared.recall(pass);
@@ -288,8 +294,9 @@ fn drop_key<R: Wait>(
     requires first { first_version_of shared.now ≡ 1 }
     requires ready { AreReady (record_of pass.old) far.old.array far.old.map }
     ensures of { IsPassOf shared.now pass.new }
-    ensures goes { IfOk result (λ said. GoesSo shared.now.config (command.Drop key) (record_of pass.old)
-        far.old.array far.old.map said (record_of pass.new) far.new.array far.new.map) }
+    ensures goes { IfOk result (λ said. GoesSo shared.now.config (command.Drop key)
+        (record_of pass.old) far.old.array far.old.map said
+        (record_of pass.new) far.new.array far.new.map) }
 {
     let dropped = far.map.drop_key(rt, alloc, shared, pass, key);
     shared.recall(pass);

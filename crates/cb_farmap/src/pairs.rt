@@ -1,9 +1,10 @@
 //! The pairs of an object, and the bytes of a pair.
 ghost use Rattle.std.specs.Prelude.{◌≡◌, ◌<◌, ◌≤◌, ◌++◌, length, take, drop};
-ghost use Rattle.cb_farmap.specs.Numbers.{number_at, pair_at, pairs};
+ghost use Rattle.cb_farmap.specs.Numbers.{pair_at, pairs};
 ghost use Rattle.cb_farmap.specs.PairBytes.{object_bytes, pair_bytes};
 ghost use Rattle.cb_farmap.specs.Pairs.{IsSought};
 
+use crate::array::number_of;
 use byteorder::{ByteOrder, LittleEndian};
 
 /// The pair with this index, its key and its value, among the bytes of an object.
@@ -13,15 +14,6 @@ pub(crate) fn pair_of(bytes: &[u8], i: usize) -> (u64, u64)
     ensures { result ≡ pair_at bytes.now i }
 {
     (number_of(bytes, 2 * i), number_of(bytes, 2 * i + 1))
-}
-
-/// The number with this index among the bytes of an object.
-fn number_of(bytes: &[u8], i: usize) -> u64
-    requires long { length bytes.now ≡ 1024 }
-    requires within { i < 128 }
-    ensures { result ≡ number_at bytes.now i }
-{
-    LittleEndian::read_u64(&bytes[8 * i..])
 }
 
 /// The bytes of a pair.

@@ -1,8 +1,4 @@
 use Rattle.cb_shared.specs.Passes.{record_of}
-use Rattle.cb_shared.specs.Recalls.{first_version_of}
-use Rattle.cb_farmap.specs.Calls.{trouble}
-use Rattle.cb_farmap.specs.Buckets.{bucket_in}
-use Rattle.cb_farmap.specs.Plans.{look_plan}
 use Rattle.cb_farmap.proofs.Answering.{look_so, quiet_map}
 use Rattle.cb_farmap.proofs.commands.look.Goals as goal
 
@@ -11,10 +7,7 @@ look-found-requires-clause-map g c = c.requires.ready.2.map_is.map_is
 
 pub said_found-requires : goal.said_found-requires
 said_found-requires g c = record {
-  calm = quiet_map c.args.shared.now.config
-      (first_version_of c.args.shared.now) (look_plan (record_of c.args.pass.now).written (bucket_in c.args.far.now.map.buckets c.args.key) c.args.key) (trouble c.look-found.result)
-      (record_of c.args.pass.now) (record_of c.look-found.new.pass) c.args.far.now.array c.args.far.now.map c.look-found.new.self c.requires.ready
-      c.look-found.ensures.keeps;
+  calm = quiet_map c.requires.ready c.look-found.ensures.keeps;
 }
 
 pub returns-clause-goes : goal.returns-clause-goes

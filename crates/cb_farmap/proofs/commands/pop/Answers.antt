@@ -1,7 +1,4 @@
 use Rattle.cb_shared.specs.Passes.{record_of}
-use Rattle.cb_shared.specs.Recalls.{first_version_of}
-use Rattle.cb_farmap.specs.Calls.{trouble}
-use Rattle.cb_farmap.specs.Arrays.{pop_plan}
 use Rattle.cb_farmap.proofs.Answering.{pop_so, quiet_array}
 use Rattle.cb_farmap.proofs.commands.pop.Goals as goal
 
@@ -10,10 +7,7 @@ pop-popped-requires-clause-array g c = c.requires.ready.2.array_is.array
 
 pub said_found-requires : goal.said_found-requires
 said_found-requires g c = record {
-  calm = quiet_array c.args.shared.now.config
-      (first_version_of c.args.shared.now) (pop_plan c.args.far.now.array.kept c.args.far.now.array.len) (trouble c.pop-popped.result)
-      (record_of c.args.pass.now) (record_of c.pop-popped.new.pass) c.args.far.now.array c.pop-popped.new.self c.args.far.now.map c.requires.ready
-      c.pop-popped.ensures.keeps;
+  calm = quiet_array c.requires.ready c.pop-popped.ensures.keeps;
 }
 
 pub returns-clause-goes : goal.returns-clause-goes

@@ -1,7 +1,4 @@
 use Rattle.cb_shared.specs.Passes.{record_of}
-use Rattle.cb_shared.specs.Recalls.{first_version_of}
-use Rattle.cb_farmap.specs.Calls.{trouble}
-use Rattle.cb_farmap.specs.Arrays.{push_plan}
 use Rattle.cb_farmap.proofs.Answering.{few_numbers, push_so, quiet_array}
 use Rattle.cb_farmap.proofs.commands.push.Goals as goal
 
@@ -14,10 +11,7 @@ push-pushed-requires-clause-room g c =
 
 pub said_done-requires : goal.said_done-requires
 said_done-requires g c = record {
-  calm = quiet_array c.args.shared.now.config
-      (first_version_of c.args.shared.now) (push_plan c.args.far.now.array.kept c.args.far.now.array.len c.args.x) (trouble c.push-pushed.result)
-      (record_of c.args.pass.now) (record_of c.push-pushed.new.pass) c.args.far.now.array c.push-pushed.new.self c.args.far.now.map c.requires.ready
-      c.push-pushed.ensures.keeps;
+  calm = quiet_array c.requires.ready c.push-pushed.ensures.keeps;
 }
 
 pub returns-clause-goes : goal.returns-clause-goes

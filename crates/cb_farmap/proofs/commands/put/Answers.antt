@@ -1,8 +1,4 @@
 use Rattle.cb_shared.specs.Passes.{record_of}
-use Rattle.cb_shared.specs.Recalls.{first_version_of}
-use Rattle.cb_farmap.specs.Calls.{trouble}
-use Rattle.cb_farmap.specs.Buckets.{bucket_in}
-use Rattle.cb_farmap.specs.Plans.{put_plan}
 use Rattle.cb_farmap.proofs.Answering.{few_keys, put_so, quiet_map}
 use Rattle.cb_farmap.proofs.commands.put.Goals as goal
 
@@ -15,10 +11,7 @@ put-put-requires-clause-room g c =
 
 pub said_found-requires : goal.said_found-requires
 said_found-requires g c = record {
-  calm = quiet_map c.args.shared.now.config
-      (first_version_of c.args.shared.now) (put_plan (record_of c.args.pass.now).written (bucket_in c.args.far.now.map.buckets c.args.key) (c.args.key, c.args.x)) (trouble c.put-put.result)
-      (record_of c.args.pass.now) (record_of c.put-put.new.pass) c.args.far.now.array c.args.far.now.map c.put-put.new.self c.requires.ready
-      c.put-put.ensures.keeps;
+  calm = quiet_map c.requires.ready c.put-put.ensures.keeps;
 }
 
 pub returns-clause-goes : goal.returns-clause-goes
