@@ -40,8 +40,8 @@ pub struct SeqEnd {
 /// Answers the lines of a script in order, in one world, where this side makes the parities of each
 /// compaction. Behind the last line of a lane its pins are given back. A line costs a look at its
 /// name by its hash, and what its event costs. On a script at ease no line is told of a want of
-/// room or of a loss, and the own lines of each lane are answered as if it were alone. The lines have
-/// no other answers, and lead to no other world.
+/// room or of a loss, and the own lines of each lane are answered as if it were alone. The lines
+/// have no other answers, and lead to no other world.
 pub fn run_lines(alloc: Global, s: &Script, side: Side) -> Result<SeqEnd, NoMemory>
     requires script { IsScript s.now }
     ensures lines { IfOk result (λ end. map asked end.answers ≡ s.now.lines) }
