@@ -11,7 +11,9 @@ run_commands-requires-clause-begun g c =
     (sym begun.config) begun
 
 pub returns : goal.returns
-returns g c = if_answered c.args.config c.requires.accepted c.args.asks.now
-    c.requires.few c.in_ok-shared.shared c.in_ok-shared.pass c.run_commands.new.pass
-    c.in_ok-shared.ensures.begun c.in_ok-saids.saids c.in_ok-saids.ensures.go c.close_map.result
-    c.close_map.ensures.saids c.close_map.ensures.closed
+returns g c = record {
+  answered = if_answered c.args.config c.requires.accepted c.args.asks.now c.requires.few
+      c.in_ok-shared.shared c.in_ok-shared.pass c.run_commands.new.pass c.in_ok-shared.ensures.begun
+      c.in_ok-saids.saids c.in_ok-saids.ensures.go c.close_map.result c.close_map.ensures.saids
+      c.close_map.ensures.closed;
+}
