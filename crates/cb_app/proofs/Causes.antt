@@ -1,5 +1,5 @@
 -- Why a command is refused: what the turn that told it found, among the turns of a closed record.
-use Rattle.std.proofs.Common.{◌≡◌, ◌⊎◌, ℕ, suc, ◌+◌, ◌^◌, ◌<◌, ◌≤◌, true, List, [], ◌∷◌, ◌++◌, length, Option, None, Some, refl, sym, ap, ◌∙◌, subst, inl, inr, arith}
+use Rattle.std.proofs.Common.{◌≡◌, ◌⊎◌, ℕ, ◌^◌, ◌<◌, ◌≤◌, true, List, [], ◌∷◌, ◌++◌, length, Option, None, Some, refl, sym, ap, ◌∙◌, subst, inl, inr, arith}
 use Rattle.std.specs.List.{AllByRecursion}
 use Rattle.cb_member.specs.declared.names.Loss.{Loss}
 use Rattle.cb_member.specs.declared.names.NodeId.{NodeId}
@@ -13,18 +13,17 @@ use Rattle.cb_types.specs.declared.reply.Reply.{Reply}
 use Rattle.cb_types.specs.declared.reply.Reply.TheVariants as answer
 use Rattle.cb_world.specs.declared.entry.Entry.{Entry}
 use Rattle.cb_world.specs.World.{WorldState}
-use Rattle.cb_world.specs.FarState.{FarState}
 use Rattle.cb_rule.specs.declared.turn.Turn.{Turn}
 use Rattle.cb_rule.specs.declared.view.View.{View}
 use Rattle.cb_rule.specs.Closing.{IsClosed}
 use Rattle.cb_rule.specs.Lists.{Has, total}
 use Rattle.cb_rule.specs.Locking.{Stood}
 use Rattle.cb_rule.specs.OneHistory.{IsOneHistory}
-use Rattle.cb_map_text.specs.Plain.{Plain, calls_something, needs_object, objects}
+use Rattle.cb_map_text.specs.Plain.{Plain, needs_object, objects}
 use Rattle.cb_map_text.specs.declared.command.FarCommand.{FarCommand}
 use Rattle.cb_shared.specs.Turning.{Did, DidAs, made_by_turn}
 use Rattle.cb_shared.proofs.Laws.{makes_full}
-use Rattle.cb_farmap.specs.Commands.{HasOneHistory, HasWritten, IsMake, IsOnObject, IsToldByTurn, made_by_all}
+use Rattle.cb_farmap.specs.Commands.{HasOneHistory, IsMake, IsOnObject, IsToldByTurn, made_by_all}
 use Rattle.cb_app.specs.Mapped.{HasTurn, IsCause}
 use Rattle.cb_app.specs.Telling.{AreOfOtherNodes}
 use Rattle.cb_app.proofs.CrashesTold.{IsLoss, lost_told, room_told}

@@ -1,14 +1,13 @@
 -- What commands on one array and one map were told, once their runtime is closed.
-use Rattle.std.proofs.Common.{◌≡◌, ◌⊎◌, ℕ, suc, ◌+◌, ◌<◌, ◌≤◌, true, false, if◌then◌else◌, List, [], ◌∷◌, ◌++◌, length, length-append, Some, refl, sym, ap, ◌∙◌, subst, inl, inr, arith}
+use Rattle.std.proofs.Common.{◌≡◌, ◌⊎◌, ℕ, ◌+◌, ◌<◌, ◌≤◌, true, if◌then◌else◌, List, [], ◌∷◌, ◌++◌, length, length-append, sym, ap, ◌∙◌, subst, inl, inr, arith}
 use Rattle.cb_types.specs.Config.{IsAccepted}
 use Rattle.cb_types.specs.declared.config.Config.{Config}
-use Rattle.cb_types.specs.declared.reply.Reply.{Reply}
 use Rattle.cb_world.specs.declared.entry.Entry.{Entry}
 use Rattle.cb_world.specs.World.{WorldState}
 use Rattle.cb_rule.specs.declared.turn.Turn.{Turn}
 use Rattle.cb_rule.specs.declared.view.View.{View}
 use Rattle.cb_rule.specs.Closing.{IsClosed}
-use Rattle.cb_rule.specs.Lists.{Each, Has, total}
+use Rattle.cb_rule.specs.Lists.{Each, Has}
 use Rattle.cb_map_text.specs.Plain.{Plain, after_all, after_said, fresh, needs_object, objects, plain_after, plain_said}
 use Rattle.cb_map_text.specs.Tallied.{IsTallied}
 use Rattle.cb_map_text.proofs.PublicLaws.{fresh_tallied, none_made, one_where_needed, stays_tallied}
@@ -19,7 +18,7 @@ use Rattle.cb_shared.specs.Turning.{Did}
 use Rattle.cb_farmap.specs.Commands.{CommandGoes, CommandsGo, HasOneHistory, IsSaid, made_by_all}
 use Rattle.cb_app.specs.Mapped.{AreTold, IsTold}
 use Rattle.cb_app.proofs.Causes.{IsForObject, WroteAll, all_alike, for_more, refused_so}
-use Rattle.cb_app.proofs.MadeTurns.{all_made, few_made, made_in}
+use Rattle.cb_app.proofs.MadeTurns.{all_made, few_made}
 use Rattle.cb_app.proofs.TurnsLater.{has_behind}
 
 -- ---- what a record keeps of the one before

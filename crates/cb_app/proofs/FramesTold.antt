@@ -1,10 +1,9 @@
 -- A turn that was told that there is no room found no free frame, and so as many objects as frames;
 -- and a make that was told so found fewer objects than there are handles.
-use Rattle.std.proofs.Common.{◌≡◌, ℕ, ◌+◌, ◌^◌, ◌<◌, ◌≤◌, Bool, true, false, List, length, Option, None, Some, refl, sym, ap, ◌∙◌, subst, arith}
+use Rattle.std.proofs.Common.{◌≡◌, ℕ, ◌^◌, ◌<◌, ◌≤◌, Bool, true, false, List, length, None, Some, refl, sym, ap, ◌∙◌, subst, arith}
 use Rattle.std.proofs.lemmas.Bool.{false≢true, true≢false}
 use Rattle.cb_frame.specs.FreeFrames.{least_free}
 use Rattle.cb_ptr.specs.Word.{state_of}
-use Rattle.cb_set.specs.SetState.{SetState}
 use Rattle.cb_types.specs.declared.config.Config.{Config}
 use Rattle.cb_types.specs.declared.handle.Handle.{Handle}
 use Rattle.cb_types.specs.declared.job.Job.{Job}
@@ -14,13 +13,12 @@ use Rattle.cb_types.specs.declared.reply.Reply.TheVariants as answer
 use Rattle.cb_world.specs.declared.event.Event.{Event}
 use Rattle.cb_world.specs.declared.shown.Shown.{Shown}
 use Rattle.cb_world.specs.FarState.{FarState}
-use Rattle.cb_world.specs.Played.{played}
-use Rattle.cb_mutate.specs.MakeRule.{HasNoPlace, MakeRule}
-use Rattle.cb_swapin.specs.SwapRule.{SwapRule, swap_answer}
+use Rattle.cb_mutate.specs.MakeRule.{MakeRule}
+use Rattle.cb_swapin.specs.SwapRule.{SwapRule}
 use Rattle.cb_swapin.proofs.Laws.{by_answer}
 use Rattle.cb_core.specs.OnceHere.{OnceHere, away, here}
 use Rattle.cb_core.specs.Parts.{Holding, WithRoom, WhereItIs, at_once, no_room, won, near, declined, stays_far, brought, not_far, was_far}
-use Rattle.cb_core.specs.Turned.{Brings, ComesIn, Declines, Makes, Swaps, Turned, WinsRoom, WritesObject, done, worn}
+use Rattle.cb_core.specs.Turned.{Brings, ComesIn, Declines, Makes, WinsRoom, WritesObject, done, worn}
 use Rattle.cb_rule.specs.Locking.{Stood}
 use Rattle.cb_shared.specs.Turning.{DidAs, IsReadReply, ReadsByPin, Slate, slate_run, slate_shows}
 use Rattle.cb_lanes.proofs.Laws.{frames_made}

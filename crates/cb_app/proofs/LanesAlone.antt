@@ -18,7 +18,7 @@ use Rattle.cb_lanes.specs.Asked.{asked}
 use Rattle.cb_lanes.specs.Bodies.{AreNamesOf}
 use Rattle.cb_lanes.specs.Scoped.{IsMadeAs}
 use Rattle.cb_lanes.proofs.Laws.{AreOfLane, NoneOfLane, handle_is_made, maker_of, none_until, until_before, until_behind, made_request}
-use Rattle.cb_app.specs.ByLane.{AreOfOthers, by_lane, of_lane}
+use Rattle.cb_app.specs.ByLane.{AreOfOthers, of_lane}
 use Rattle.cb_app.specs.Crew.{AreFirst}
 use Rattle.cb_app.specs.OwnLines.{AreAllOf, AreAmong, KeepAloneWith, to_lane}
 use Rattle.cb_app.proofs.OfLane.{HasLaneAnswer, all_to_lane, asked_to_lane, has_asked, has_either, lane_by_lane, lane_cases, made_here, made_in_script, none_to_lane, of_each, some_or_none}

@@ -1,5 +1,5 @@
 -- What commands leave, by what was said to them and by the runtime that was closed.
-use Rattle.std.proofs.Common.{◌≡◌, ℕ, ◌≤◌, List, [], length, Some, Result, Ok, Err, IfOk, refl, sym, ap, ◌∙◌, subst}
+use Rattle.std.proofs.Common.{◌≡◌, ℕ, ◌≤◌, List, [], length, Some, Result, Ok, Err, IfOk, refl, sym, ap, subst}
 use Rattle.cb_member.specs.declared.no_memory.NoMemory.{NoMemory}
 use Rattle.cb_types.specs.Config.{IsAccepted}
 use Rattle.cb_types.specs.declared.config.Config.{Config}
@@ -119,9 +119,9 @@ pub if_mapped : (c : Config) (asks : List FarCommand) (left : MapEnd)
       seal = Some left.seal;
     })
     → IfOk r (λ said. (saids : List FarAnswer) × IsMapped c asks saids end × (said ≡ said_text saids))
-if_mapped c asks left answered end (Ok said) is left_so =
-    (left.saids, is_mapped c asks left.saids left.world left.seal answered end left_so, is)
-if_mapped c asks left answered end (Err e) is left_so = tt
+if_mapped c asks left so end (Ok said) is left_so =
+    (left.saids, is_mapped c asks left.saids left.world left.seal so end left_so, is)
+if_mapped c asks left so end (Err e) is left_so = tt
 
 -- the verdict on bytes that spell commands, and on others
 pub map_done : (bytes : List ℕ) (c : Config) (asks : List FarCommand) → Spells bytes c asks

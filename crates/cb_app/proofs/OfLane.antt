@@ -1,20 +1,18 @@
 -- The lines and the answers of one lane among all of them.
-use Rattle.std.proofs.Common.{◌≡◌, ◌⊎◌, ℕ, zero, suc, ◌<◌, ◌≤◌, Bool, true, false, List, [], ◌∷◌, ◌++◌, map, Some, inl, inr, refl, sym, ap, ◌∙◌, subst, append_assoc, arith, eq-eqb, ne_eqb, if◌then◌else◌}
+use Rattle.std.proofs.Common.{◌≡◌, ◌⊎◌, ℕ, zero, suc, ◌<◌, ◌≤◌, Bool, true, false, List, [], ◌∷◌, ◌++◌, map, inl, inr, refl, sym, ap, ◌∙◌, subst, arith, eq-eqb, ne_eqb, if◌then◌else◌}
 use Rattle.std.specs.Prelude.{nat_eq}
 use Rattle.std.specs.List.{AllByRecursion}
 use Rattle.std.proofs.lemmas.Bool.{cases_Bool, cases_lt, eqb-true}
 use Rattle.std.proofs.lemmas.List.{append-nil}
 use Rattle.std.proofs.lemmas.List.Elements.{filter-append}
 use Rattle.cb_types.specs.declared.answer.Answer.{Answer}
-use Rattle.cb_types.specs.declared.request.Request.{Request}
-use Rattle.cb_types.specs.Requests.{name_of}
 use Rattle.cb_script.specs.declared.script.Line.{Line}
 use Rattle.cb_script.specs.Form.{AreLines, IsNameMade, MakesName}
 use Rattle.cb_rule.specs.Lists.{Has}
 use Rattle.cb_lanes.specs.Asked.{asked}
 use Rattle.cb_lanes.proofs.Laws.{AreOfLane, NoneOfLane}
 use Rattle.cb_app.specs.ByLane.{by_lane, lanes_up_to, of_lane}
-use Rattle.cb_app.specs.OwnLines.{AreAmong, to_lane}
+use Rattle.cb_app.specs.OwnLines.{to_lane}
 use Rattle.cb_app.proofs.Lanes.{IsOfLane, lanes_made, made_in_both, of_lane_made, of_lane_own}
 
 -- ---- answers

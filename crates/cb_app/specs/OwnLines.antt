@@ -1,6 +1,6 @@
 -- What the own lines of lanes are answered beside other lanes, once all answers of the script are
 -- known.
-use Rattle.std.specs.Prelude.{◌≡◌, ℕ, nat_eq, List, [], ◌∷◌, ◌++◌, map}
+use Rattle.std.specs.Prelude.{◌≡◌, ℕ, nat_eq, List, [], ◌++◌, map}
 use Rattle.std.specs.List.{filter}
 use Rattle.cb_types.specs.declared.answer.Answer.{Answer}
 use Rattle.cb_script.specs.declared.script.Line.{Line}
