@@ -1,6 +1,6 @@
 use Rattle.cb_shared.specs.Joining.{unpinned_all}
 use Rattle.cb_shared.proofs.Laws.{right_keeps}
-use Rattle.cb_world_tests.proofs.Values.{array_joined, array_known, array_left, has_object}
+use Rattle.cb_world_tests.proofs.SplitArrays.{array_joined, array_known, array_left, has_object}
 use Rattle.cb_world_tests.proofs.values.foul_first.Goals as goal
 
 pub object_of-object-requires-clause-within : goal.object_of-object-requires-clause-within
