@@ -2,6 +2,6 @@ pub mod AllEvents
 pub mod Calling
 pub mod Makes
 pub mod ScrubbedWorld
-pub mod Values
+pub mod SplitArrays
 mod WorkedShards
 mod WorkedSmall
