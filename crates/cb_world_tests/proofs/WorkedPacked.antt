@@ -236,10 +236,6 @@ same_away free span = record {
   survey = refl;
 }
 
-first_and_others : {P : ℕ → Type 0} → P 0 → ((h : ℕ) → P (suc h)) → (h : ℕ) → P h
-first_and_others first others zero = first
-first_and_others first others (suc h) = others h
-
 never_hot : (h : ℕ) → get_or (false ∷ []) h false ≡ true → ⊥
 never_hot zero e = cc
 never_hot (suc h) e = cc
@@ -369,7 +365,7 @@ known_if_packed memory sized packed = record {
   sound = sound_near (empty_shown 1 one) (here memory) (empty_far 1 one) far empty
       (record { known = known_of memory; frames = are_frames; placed = placed_in memory sized })
       (same_away false (Some span))
-      (first_and_others (inr (record { before = tt; after = tt })) (λ h. inl refl))
+      (elim [ zero ↦ inr (record { before = tt; after = tt }) | suc h ↦ inl refl ])
       (λ batch there. absurd (none_some batch there));
   packed = packed;
   freed = freed;
@@ -549,7 +545,7 @@ sound_if_later v some later = sound_with 0 v zeros true None None (freed_at v) r
       sound = sound_near (empty_shown 1 one) (freed_at v) (empty_far 1 one) no_span empty
           (record { known = freed_known v some; frames = no_frames; placed = none_placed v })
           (same_away true None)
-          (first_and_others (inr (record { before = tt; after = tt })) (λ h. inl refl))
+          (elim [ zero ↦ inr (record { before = tt; after = tt }) | suc h ↦ inl refl ])
           (λ batch there. absurd (none_some batch there));
       packed = packed;
       freed = later;
