@@ -3,5 +3,6 @@ pub mod Calling
 pub mod Makes
 pub mod ScrubbedWorld
 pub mod SplitArrays
+mod WorkedPacked
 mod WorkedShards
 mod WorkedSmall
