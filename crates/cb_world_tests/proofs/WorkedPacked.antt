@@ -1,6 +1,7 @@
 -- Worked examples of packed words, of freed versions and of orders: what meets each definition, and
--- worlds of one handle that are sound but for one of these alone.
-use Rattle.std.proofs.Common.{◌≡◌, ◌↔◌, ℕ, zero, suc, ◌<◌, ◌≤◌, Bool, true, false, List, [], ◌∷◌, ◌++◌, Option, None, Some, All, get_or, length, replicate, refl, sym, ap, ◌∙◌, subst, lit<, lit≤, arith, inl, inr}
+-- worlds of one handle that are sound but for one of these alone. Of each such world one lemma says
+-- that it is sound if it has that part, and another one that it is not sound.
+use Rattle.std.proofs.Common.{◌≡◌, ◌↔◌, ℕ, zero, suc, ◌*◌, ◌^◌, ◌<◌, ◌≤◌, Bool, true, false, List, [], ◌∷◌, ◌++◌, Option, None, Some, All, get_or, length, replicate, refl, sym, ap, ◌∙◌, subst, lit<, lit≤, arith, inl, inr}
 use Rattle.std.specs.List.{slice_get}
 use Rattle.std.proofs.lemmas.Bool.{agree_below_at, ltb-true}
 use Rattle.std.proofs.lemmas.List.{length-replicate}
@@ -390,8 +391,8 @@ here_world last order = world calm 1 (memory_with last) false (Some span) order
 sound_if_packed : (last : ℕ) (order : Option Kept)
     → ArePacked (desk calm 1 (memory_with last)) (here (memory_with last)) → KeepNoOrder (seats order)
     → IsSoundWorld (here_world last order)
-sound_if_packed last order packed unordered = sound_with calm 1 (memory_with last) false (Some span) order
-    (here (memory_with last)) refl (λ moved. let e : word.Here ≡ word.Moving = moved in cc)
+sound_if_packed last order packed unordered =
+    sound_with calm 1 (memory_with last) false (Some span) order (here (memory_with last)) refl (λ moved. let e : word.Here ≡ word.Moving = moved in cc)
     (known_if_packed (memory_with last) refl packed) unordered
 
 -- it is with a zero behind the object
@@ -419,14 +420,17 @@ zero_behind : IsSoundWorld (here_world 0 None)
 zero_behind = sound_if_packed 0 None zero_packed none_kept
 
 -- and it is not with the byte 0b behind it, which is in the highest byte of that word
+abbrev eleven : ℕ
+eleven = 11 * 2 ^ 56
+
 abbrev spoilt : List ℕ
-spoilt = memory_with 792633534417207296
+spoilt = memory_with eleven
 
 spoilt_not : IsPacked 1023 (window spoilt 0 128) → ⊥
 unfolding window
 spoilt_not p = let e : 11 ≡ 0 = p 1023 (lit≤ tt) (lit< tt) in omega (arith, e)
 
-byte_behind : IsSoundWorld (here_world 792633534417207296 None) → ⊥
+byte_behind : IsSoundWorld (here_world eleven None) → ⊥
 byte_behind x = refused (object_at x.shown 0) (x.known.shows.fit 0 (lit< tt))
     (x.known.packed 0 (lit< tt))
   where
