@@ -11,10 +11,10 @@ returns-in_err-put-clause-on g c = on_then _ _ _ c.look.ensures.keeps.on c.put.e
 
 pub returns-clause-on : goal.returns-clause-on
 returns-clause-on g c = elim c.if-len-lt-MOST.branch [
-  then-len-lt-MOST+in_ok-put w ↦
-    subst (λ (p : Pass). GoesOn (record_of c.args.pass.now) (record_of p)) (sym w.pass-is)
-    (on_then _ _ _ c.look.ensures.keeps.on w.put.ensures.keeps.on)
+  | then-len-lt-MOST+in_ok-put w ↦
+      subst (λ (p : Pass). GoesOn (record_of c.args.pass.now) (record_of p)) (sym w.pass-is)
+      (on_then _ _ _ c.look.ensures.keeps.on w.put.ensures.keeps.on)
   | else-len-lt-MOST w ↦
-    subst (λ (p : Pass). GoesOn (record_of c.args.pass.now) (record_of p)) (sym w.pass-is)
-    c.look.ensures.keeps.on
+      subst (λ (p : Pass). GoesOn (record_of c.args.pass.now) (record_of p)) (sym w.pass-is)
+      c.look.ensures.keeps.on
 ]

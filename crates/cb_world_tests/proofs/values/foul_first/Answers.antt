@@ -4,8 +4,9 @@ use Rattle.cb_world_tests.proofs.SplitArrays.{array_joined, array_known, array_l
 use Rattle.cb_world_tests.proofs.values.foul_first.Goals as goal
 
 pub object_of-object-requires : goal.object_of-object-requires
-object_of-object-requires g c = has_object c.args.first.now.seat.me.0
-    c.args.array.now c.requires.array c.requires.some
+object_of-object-requires g c = record {
+  within = has_object c.args.first.now.seat.me.0 c.args.array.now c.requires.array c.requires.some;
+}
 
 pub foul_by-is_done-requires-clause-knows : goal.foul_by-is_done-requires-clause-knows
 foul_by-is_done-requires-clause-knows g c = right_keeps 1 c.args.first.now.seat.me.0
