@@ -3,9 +3,10 @@ use Rattle.cb_shared.proofs.Laws.{right_keeps}
 use Rattle.cb_world_tests.proofs.SplitArrays.{array_joined, array_known, array_left, has_object}
 use Rattle.cb_world_tests.proofs.values.foul_first.Goals as goal
 
-pub object_of-object-requires-clause-within : goal.object_of-object-requires-clause-within
-object_of-object-requires-clause-within g c = has_object c.args.first.now.seat.me.0
-    c.args.array.now c.requires.array c.requires.some
+pub object_of-object-requires : goal.object_of-object-requires
+object_of-object-requires g c = record {
+  within = has_object c.args.first.now.seat.me.0 c.args.array.now c.requires.array c.requires.some;
+}
 
 pub foul_by-is_done-requires-clause-knows : goal.foul_by-is_done-requires-clause-knows
 foul_by-is_done-requires-clause-knows g c = right_keeps 1 c.args.first.now.seat.me.0
