@@ -4,7 +4,8 @@ use Rattle.cb_farmap.proofs.Laws.{array_stays, map_on}
 use Rattle.cb_world_tests.proofs.values.count_all.Goals as goal
 
 pub returns-in_err-x-clause-map : goal.returns-in_err-x-clause-map
-returns-in_err-x-clause-map g c = map_on _ _ _ c.get.ensures.keeps.on c.loop-i.invariant.2
+returns-in_err-x-clause-map g c =
+    map_on _ _ _ c.loop-i.invariant.2 c.get.ensures.keeps.on.behind c.loop-i.counts.stop
 
 pub returns-in_err-count_one-clause-array : goal.returns-in_err-count_one-clause-array
 returns-in_err-count_one-clause-array g c = array_stays _ _ _ c.get.ensures.keeps.array
