@@ -86,7 +86,7 @@ abbrev low_bits : List ℕ
 low_bits = 61 ∷ []
 
 least_of_four : IsLeastRun low_bits 4 2
-least_of_four = record { set = refl; before = λ k below. by k below; }
+least_of_four = record { set = refl; before = λ k below. by k below }
   where
     by : (k : ℕ) → k < 2 → run_in low_bits k 4 ≡ false
     by zero below = refl

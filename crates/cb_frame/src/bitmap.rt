@@ -101,11 +101,7 @@ pub fn clear(words: &mut [u64], n: usize)
 fn word_or_zero(words: &[u64], i: usize) -> u64
     ensures { slice_index words.now i ≡ result }
 {
-    if i < words.len() {
-        words[i]
-    } else {
-        0
-    }
+    if i < words.len() { words[i] } else { 0 }
 }
 
 /// A word and the next one, which stands above it; 0 behind the last word.
