@@ -70,16 +70,17 @@ slots_at_least c h =
     le-div 4 (4096 * pages_of c) (bytes_of c) (omega (arith, at_least_16 c.index h))
     (omega (arith, four_fit c.index h))
 
+-- 256 slots fill no less than a span's pages
+room_for_256 : (c : Class) → IsClass c → 16 * pages_of c ≤ bytes_of c
+unfolding pages_of bytes_of
+room_for_256 c h = slots_are_few c.index h
+
 pub slots_at_most : (c : Class) → IsClass c → slots_of c ≤ 256
 slots_at_most c h =
-    let room : 16 * pages_of c ≤ bytes_of c = by_table c h in
+    let room : 16 * pages_of c ≤ bytes_of c = room_for_256 c h in
     let fewer = mul-le-mul_left (slots_of c) room in
     at_most (slots_of c) (pages_of c) (pages_known c h) (omega (arith, fewer, slots_fit c))
   where
-    by_table : (c : Class) → IsClass c → 16 * pages_of c ≤ bytes_of c
-    unfolding pages_of bytes_of
-    by_table c h = slots_are_few c.index h
-
     at_most : (n p : ℕ) → (p ≡ 1) ⊎ ((p ≡ 2) ⊎ (p ≡ 4)) → n * (16 * p) ≤ 4096 * p → n ≤ 256
     at_most n p (inl e) h = omega (arith, (subst (λ q. n * (16 * q) ≤ 4096 * q) e h))
     at_most n p (inr (inl e)) h = omega (arith, (subst (λ q. n * (16 * q) ≤ 4096 * q) e h))

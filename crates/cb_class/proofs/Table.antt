@@ -97,7 +97,7 @@ abbrev pub count_at : ℕ → ℕ
 count_at i = 4096 * page_at i / size_at i
 
 -- at two places the pages or the counts of slots differ
-tells : ℕ → ℕ → Bool
+abbrev tells : ℕ → ℕ → Bool
 tells i j = eqb i j || not (eqb (page_at i) (page_at j) && eqb (count_at i) (count_at j))
 
 pub places_told : (i j : ℕ) → i < 12 → j < 12 → page_at i ≡ page_at j → count_at i ≡ count_at j → i ≡ j

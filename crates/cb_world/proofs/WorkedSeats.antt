@@ -12,7 +12,7 @@ use Rattle.cb_types.specs.declared.order.Kept.{Kept}
 use Rattle.cb_types.specs.declared.order.Kept.TheVariants as kept
 use Rattle.cb_world.specs.declared.seats.Pin.{Pin}
 use Rattle.cb_set.specs.SetState.{SetState}
-use Rattle.cb_world.specs.Codes.{HaveCodes}
+use Rattle.cb_world.specs.Codes.{HaveCodes, IsConfiguredCode}
 use Rattle.cb_world.specs.FarState.{FarState}
 use Rattle.cb_world.specs.Joining.{JoiningState}
 use Rattle.cb_world.specs.Leaving.{LeavingState}
@@ -284,8 +284,9 @@ is_configured = record { frames = refl; homes = refl; nodes = refl; room = refl;
     none_pair : (x : JoiningState) → None ≡ Some x → ⊥
     none_pair x e = cc
 
-    no_sets : HaveCodes settings far
+    no_sets : HaveCodes (IsConfiguredCode settings) far
     no_sets = record {
+      force = (refl, refl);
       sets = λ id x e. absurd (none_set x (sym (nothing id) ∙ e));
       batch = λ b e. absurd (none_batch b e);
       pair = λ p e. absurd (none_pair p e);
@@ -310,3 +311,7 @@ wide = record { set = 0; frames = 0 ∷ 1 ∷ []; words = []; parities = [] ∷ 
 
 code_of_another_k : IsConfigured settings (record far { leaving = Some wide }) → ⊥
 code_of_another_k c = let e : 2 ≡ 1 = (c.codes.batch wide refl).0 in omega (arith, e)
+
+-- a code is in force that is not the configured one
+another_code_in_force : IsConfigured settings (record far { code = record { k = 2; r = 1 } }) → ⊥
+another_code_in_force c = let e : 2 ≡ 1 = c.codes.force.0 in omega (arith, e)

@@ -56,6 +56,7 @@ far = record {
   homes = None ∷ None ∷ None ∷ [];
   nodes = empty_nodes 1 1;
   members = fresh_members 1;
+  code = record { k = 1; r = 1 };
   leaving = None;
   joining = None;
   counts = record { turns = 0; by_job = []; sets = 0; keys = 0 };
