@@ -180,12 +180,12 @@ room_turn d (Some h) (line.Free name) f l n x = find_turn _ (Some h) _ d.turns x
 room_turn d (Some h) q f l n x = find_turn _ (Some h) _ d.turns x
 
 -- ---- the turn of an eviction
-evict_few : (c : Config) (far new : FarState) (r : Reply) (es : List Event) → EvictRule c far new r es
+evict_few : (c : Config) (far new : FarState) (r : Reply) (es : List Event) → EvictRule far new r es
     → TellsRoom c r
 evict_few c far new r es a = by a.answered
   where
-    by : HasFewSpans c far new r a.loose ⊎ (HasFewNodes c far new r a.loose
-        ⊎ HasBoth c far new r a.loose es) → TellsRoom c r
+    by : HasFewSpans far new r a.loose ⊎ (HasFewNodes far new r a.loose
+        ⊎ HasBoth far new r a.loose es) → TellsRoom c r
     by (inl x) = subst (TellsRoom c) (sym x.reply) x.few
     by (inr (inl x)) = subst (TellsRoom c) (sym x.reply) x.few
     by (inr (inr x)) = subst (TellsRoom c) (sym x.reply) tt

@@ -164,12 +164,12 @@ added_set sets n id new set there = elim (cases_eq id n) [
         ∙ ap (λ (x : Bool). cond x (Some kept) (map.get sets id)) is)
 
 pub evicted_apart : (c : Config) (far new : FarState) (id : SetId) (es : List Event)
-    → EvictRule c far new (answer.Set id) es → AreSetsApart far → AreSetsApart new
+    → EvictRule far new (answer.Set id) es → AreSetsApart far → AreSetsApart new
 evicted_apart c far new id es a apart = by a.answered
   where
-    by : HasFewSpans c far new (answer.Set id) a.loose
-        ⊎ (HasFewNodes c far new (answer.Set id) a.loose
-        ⊎ HasBoth c far new (answer.Set id) a.loose es) → AreSetsApart new
+    by : HasFewSpans far new (answer.Set id) a.loose
+        ⊎ (HasFewNodes far new (answer.Set id) a.loose
+        ⊎ HasBoth far new (answer.Set id) a.loose es) → AreSetsApart new
     by (inl x) = subst AreSetsApart (sym x.state) apart
     by (inr (inl x)) = subst AreSetsApart (sym x.state) apart
     by (inr (inr x)) = λ n set there. elim (added_set far.sets far.counts.sets n

@@ -83,7 +83,7 @@ fine_counted c far j fine = record {
 
 -- an eviction leaves it so
 fine_evicted : (c : Config) (far new : FarState) (id : SetId) (es : List Event) → IsAccepted c
-    → EvictRule c far new (answer.Set id) es → IsFine c far → IsFine c new
+    → EvictRule far new (answer.Set id) es → IsFine c far → IsFine c new
 fine_evicted c far new id es accepted rule fine = record {
   configured = (evict_stays c far new (answer.Set id) es accepted rule fine.configured).configured;
   apart = evicted_apart c far new id es rule fine.apart;
@@ -182,21 +182,21 @@ swap_keeps c id p first far new r es fine same x = record {
 
 -- a refusal of an eviction tells which of the two there was too little of
 too_few : (c : Config) (far new : FarState) (why : Lack) (loose nodes : ℕ) (es : List Event)
-    → CountsRule c far new (Refused why loose nodes) es → (loose < c.k) ⊎ (nodes < c.k + c.r)
+    → CountsRule far new (Refused why loose nodes) es → (loose < c.k) ⊎ (nodes < c.k + c.r)
 too_few c far new lack.Spans loose nodes es x = by x.rule.answered
   where
-    by : HasFewSpans c far new (answer.NoSpans loose) x.rule.loose
-        ⊎ (HasFewNodes c far new (answer.NoSpans loose) x.rule.loose
-        ⊎ HasBoth c far new (answer.NoSpans loose) x.rule.loose es)
+    by : HasFewSpans far new (answer.NoSpans loose) x.rule.loose
+        ⊎ (HasFewNodes far new (answer.NoSpans loose) x.rule.loose
+        ⊎ HasBoth far new (answer.NoSpans loose) x.rule.loose es)
         → (loose < c.k) ⊎ (nodes < c.k + c.r)
     by (inl few) = inl (let n = x.counts.0 in let f = few.few in omega (arith, n, f))
     by (inr (inl few)) = absurd (let e = few.reply in cc)
     by (inr (inr both)) = absurd (let e = both.reply in cc)
 too_few c far new lack.Nodes loose nodes es x = by x.rule.answered
   where
-    by : HasFewSpans c far new (answer.NoNodes nodes) x.rule.loose
-        ⊎ (HasFewNodes c far new (answer.NoNodes nodes) x.rule.loose
-        ⊎ HasBoth c far new (answer.NoNodes nodes) x.rule.loose es)
+    by : HasFewSpans far new (answer.NoNodes nodes) x.rule.loose
+        ⊎ (HasFewNodes far new (answer.NoNodes nodes) x.rule.loose
+        ⊎ HasBoth far new (answer.NoNodes nodes) x.rule.loose es)
         → (loose < c.k) ⊎ (nodes < c.k + c.r)
     by (inl few) = absurd (let e = few.reply in cc)
     by (inr (inl few)) = inr (let n = x.counts.1 in let f = few.few in omega (arith, n, f))

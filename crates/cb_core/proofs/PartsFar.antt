@@ -77,12 +77,12 @@ not_resident s far h f home sound at (slot, named) =
 -- the frames of the spans that left: as many as a set has data positions, among those that may leave
 pub record HasSent (c : Config) (far new : FarState) (es : List Event) : Type 0 where
   pub frames : List ℕ
-  pub evicted : HasEvicted c far new frames es
+  pub evicted : HasEvicted far new frames es
   pub among : (f : ℕ) → Contains frames f → Contains (candidates far) f
   pub count : length frames ≡ c.k
 
 pub has_sent : (c : Config) (far new : FarState) (r : Reply) (id : SetId) (es : List Event)
-    → EvictRule c far new r es → r ≡ answer.Set id → HasSent c far new es
+    → EvictRule far new r es → r ≡ answer.Set id → HasSent c far new es
 has_sent c far new r id es rule set = elim rule.answered [
   | inl few ↦ absurd (few_spans _ r id few.reply set)
   | inr (inl few) ↦ absurd (few_nodes _ r id few.reply set)
@@ -111,7 +111,7 @@ pub record HasWon (c : Config) (far new : FarState) : Type 0 where
       → home_at new.homes h ≡ Some home
 
 pub has_won : (c : Config) (s : Shown) (far new : FarState) (r : Reply) (id : SetId)
-    (es : List Event) → IsAccepted c → IsConfigured c far → Sound s far → EvictRule c far new r es
+    (es : List Event) → IsAccepted c → IsConfigured c far → Sound s far → EvictRule far new r es
     → r ≡ answer.Set id → HasWon c far new
 has_won c s far new r id es accepted configured sound rule set =
     let x = has_sent c far new r id es rule set in let e = x.evicted in

@@ -301,7 +301,7 @@ abbrev former : Former
 former = record { handle = 0; word = calm }
 
 abbrev pub after : FarState
-after = with_batch (desk calm).settings far (0 ∷ []) (former ∷ []) (row ∷ [])
+after = with_batch far (0 ∷ []) (former ∷ []) (row ∷ [])
 
 -- the frame's bytes are zeros
 zeros : row_of (window memory 0 512) ≡ row_of (window [] 0 512)
@@ -378,7 +378,7 @@ first_word ws e small = let l = subst (λ (l : List ℕ). All (λ w. w < 2 ^ 64)
 
 pub none_known : (t : Shown) → IsKnown (desk (calm + 1)) after t → ⊥
 none_known t k =
-    let noted = (k.sound.noted (new_batch (desk calm).settings far (0 ∷ []) (former ∷ []) (row ∷ []))
+    let noted = (k.sound.noted (new_batch far (0 ∷ []) (former ∷ []) (row ∷ []))
     refl).each 0 0 0 span (0, lit< tt, refl) refl refl in
     let leaves = k.sound.claimed 0 (len_of noted.former.word) (place_of noted.former.word)
     noted.version noted.words noted.claimed in

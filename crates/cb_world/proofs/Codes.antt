@@ -1,13 +1,16 @@
 -- What changes of the sets leave of their codes.
-use Rattle.std.proofs.Common.{◌≡◌, ℕ, ◌-◌, Bool, true, false, cond, if◌then◌else◌, length, Option, Some, None, refl, ap, sym, subst, ◌∙◌, arith, inl, inr, length-set}
+use Rattle.std.proofs.Common.{◌≡◌, ℕ, ◌-◌, ◌≤◌, Bool, true, false, cond, if◌then◌else◌, length, Option, Some, None, refl, ap, sym, subst, ◌∙◌, arith, inl, inr, length-set}
 use Rattle.std.specs.Cmp.{nat_cmp_total}
 use Rattle.std.specs.Ordering.{nat_cmp, eq_by_cmp}
 use Rattle.std.specs.FinMap as map
 use Rattle.std.proofs.lemmas.Bool.{cases_eq}
 use Rattle.std.proofs.lemmas.Bool.Decides.{nat_tests}
+use Rattle.cb_gf256.specs.InRange.{IsInRange}
 use Rattle.cb_member.specs.declared.names.Code.{Code}
 use Rattle.cb_set.specs.SetState.{PositionState, SetState, code_of, is_live, with_position}
 use Rattle.cb_types.specs.declared.config.Config.{Config}
+use Rattle.cb_types.specs.declared.config.Field.TheVariants.{K, R}
+use Rattle.cb_types.specs.Config.{IsAccepted}
 use Rattle.cb_world.specs.Codes.{HaveCodes, IsConfiguredCode, IsPairOfCode, code_of_batch}
 use Rattle.cb_world.specs.Empty.{empty_far}
 use Rattle.cb_world.specs.FarState.{FarState}
@@ -81,6 +84,18 @@ have_codes P far new k x = record {
   pair = λ p there. pair_has P far x p (k.pair p there);
   own = k.own x.own;
 }
+
+-- the configured code is one of those that are built
+pub configured_range : (c : Config) (far : FarState) → IsAccepted c
+    → HaveCodes (IsConfiguredCode c) far → IsInRange far.code.k far.code.r
+configured_range c far ok codes =
+    let k = codes.force.0 in let r = codes.force.1 in
+    let first = ok K in let second = ok R in record {
+      data_least = omega (arith, k, first.0);
+      data_most = omega (arith, k, first.1);
+      parities_least = omega (arith, r, second.0);
+      parities_most = omega (arith, r, second.1);
+    }
 
 -- one change after another
 pub codes_then : (far mid new : FarState) → KeepCodes far mid → KeepCodes mid new

@@ -103,4 +103,11 @@ impl Far {
             survey: Survey::new(),
         })
     }
+
+    /// The code in force: that of the next set.
+    pub fn in_force(&self) -> Code
+        ensures { result ≡ self.now.code }
+    {
+        self.code
+    }
 }
