@@ -134,7 +134,7 @@ module _ (side : Side) (s : Script) (i : ℕ) (later : List ℕ) (answers : List
         let all = loose_or_pinned w.desk w.far along.sound.shown w.seats along.sound.known along.sound.pinned
         along.sound.ongoing rest.claims rest.idle.0 full in
         let frames = along.sound.configured.frames in let pins = few_pins in let enough = ease.frames in
-        let k = ap (λ (c : Config). c.k) along.settings in
+        let k = along.sound.configured.codes.force.0 ∙ ap (λ (c : Config). c.k) along.settings in
         let same = ap (λ (c : Config). c.frames) along.settings in
         omega (arith, all, frames, pins, enough, k, same);
     nodes = enough_roomy w.desk.settings along.sound.shown w.far (crashed_nodes s) along.sound.known.sound
@@ -142,8 +142,10 @@ module _ (side : Side) (s : Script) (i : ℕ) (later : List ℕ) (answers : List
         (let few = few_made in let front = count_front (λ (l : Line). is_make l.request) s.lines i in
         let room = ease.room in let same = ap (λ (c : Config). c.room) along.settings in
         omega (arith, few, front, room, same))
-        (let enough = ease.nodes in
-        let k = ap (λ (c : Config). c.k) along.settings in let r = ap (λ (c : Config). c.r) along.settings in
+        (w.far.code.k + w.far.code.r)
+        (let enough = ease.nodes in let code = along.sound.configured.codes.force in
+        let k = code.0 ∙ ap (λ (c : Config). c.k) along.settings in
+        let r = code.1 ∙ ap (λ (c : Config). c.r) along.settings in
         let n = ap (λ (c : Config). c.nodes) along.settings in
         omega (arith, crashed_count s, enough, k, r, n));
     stamps = λ h.
