@@ -12,7 +12,6 @@ use Rattle.cb_set.specs.SetState.{SetState}
 use Rattle.cb_span.specs.declared.temp.Temp.TheVariants.{Cold}
 use Rattle.cb_ptr.specs.Word.{len_of}
 use Rattle.cb_span.specs.Contents.{Contents, span_of}
-use Rattle.cb_types.specs.declared.config.Config.{Config}
 use Rattle.cb_types.specs.declared.reply.Reply.{Reply}
 use Rattle.cb_types.specs.declared.reply.Reply.TheVariants as answer
 use Rattle.cb_world.specs.declared.event.Event.{Event}
@@ -44,15 +43,12 @@ far = record {
   homes = None ∷ None ∷ None ∷ [];
   nodes = empty_nodes 1 1;
   members = fresh_members 1;
+  code = record { k = 2; r = 1 };
   leaving = None;
   joining = None;
   counts = record { turns = 0; by_job = []; sets = 0; keys = 0 };
   survey = no_survey;
 }
-
--- two data rows and a parity
-abbrev config : Config
-config = record { k = 2; r = 1; nodes = 3; frames = 4; room = 2; handles = 3; turns = 0 }
 
 -- ---- too few spans
 one_span : HasFewSpans far far (answer.NoSpans 1) (1 ∷ [])
@@ -87,7 +83,8 @@ not_nodes_first : HasFewNodes far far (answer.NoNodes 1) (1 ∷ []) → ⊥
 not_nodes_first a = let l = a.enough in absurd (omega (arith, l))
 
 -- one data row and one parity where one node has room
-not_enough_nodes : HasFewNodes far far (answer.NoNodes 1) [] → ⊥
+not_enough_nodes : HasFewNodes (record far { code = record { k = 0; r = 1 } })
+    (record far { code = record { k = 0; r = 1 } }) (answer.NoNodes 1) [] → ⊥
 not_enough_nodes a = let l = a.few in absurd (omega (arith, l, one_node))
 
 -- no set is made where a node is missing

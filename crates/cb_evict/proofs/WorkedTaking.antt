@@ -87,11 +87,15 @@ not_enough runs n a = let l = a.enough in absurd (omega (arith, l))
 not_with_room : (runs : List Event → Type 0) (n : ℕ) → FindsLoose runs lone (0 ∷ []) n → ⊥
 not_with_room runs n a = let l = a.room in absurd (omega (arith, l, one_node))
 
-few : (shows : Shown → Type 0) → TakesFew (λ es. es ≡ looks) shows pair
-    (AreLooseNow pair) (Refused Spans 1 2)
+-- the same where sets of two data positions are in force
+abbrev paired : FarState
+paired = record pair { code = record { k = 2; r = 1 } }
+
+few : (shows : Shown → Type 0) → TakesFew (λ es. es ≡ looks) shows paired (AreLooseNow paired)
+    (Refused Spans 1 2)
 few shows = record {
   loose = 0 ∷ [];
-  tries = looks_tried pair (0 ∷ []) over_both;
+  tries = looks_tried paired (0 ∷ []) over_both;
   few = inl (record { few = lit< tt; reply = refl; state = refl });
   counts = (refl, sym two_nodes);
 }
@@ -115,8 +119,7 @@ not_its_count runs shows a = by a.few
 
 -- and the other one beside it, as it is and not another
 not_other_count : (runs : List Event → Type 0) (shows : Shown → Type 0)
-    → TakesFew runs shows pair (AreLooseNow pair)
-    (Refused Spans 1 1) → ⊥
+    → TakesFew runs shows paired (AreLooseNow paired) (Refused Spans 1 1) → ⊥
 not_other_count runs shows a = let e = a.counts.1 in absurd (omega (arith, e, two_nodes))
 
 -- ---- looks, and the claim of the first span

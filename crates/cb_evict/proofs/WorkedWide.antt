@@ -89,6 +89,7 @@ far = record {
   homes = None ∷ [];
   nodes = empty_nodes 2 2;
   members = fresh_members 2;
+  code = record { k = 1; r = 1 };
   leaving = None;
   joining = None;
   counts = record { turns = 0; by_job = []; sets = 0; keys = 0 };

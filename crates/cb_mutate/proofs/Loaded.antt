@@ -6,6 +6,7 @@ use Rattle.std.proofs.lemmas.List.FromFn.{get_or-map-range_with_len, length-map-
 use Rattle.std.proofs.Math.Seq.{get_or-append_seam}
 use Rattle.std.specs.Int.{to_le_bytes, w64}
 use Rattle.std.specs.List.{range_with_len}
+use Rattle.cb_types.specs.Config.{most_bytes}
 use Rattle.cb_world.specs.declared.event.Event.{Event}
 use Rattle.cb_world.specs.declared.event.Event.TheVariants.{Loaded}
 use Rattle.cb_world.specs.declared.shown.Shown.{Shown}
@@ -29,7 +30,7 @@ pub record LoadsBelow (runs : List Event → Type 0) (owns : Shown → Type 0) (
   pub words : List ℕ
   pub count : length words ≡ i
   pub loaded : AreLoaded place words events
-  pub sized : length into ≡ 1024
+  pub sized : length into ≡ most_bytes
   pub bytes : (p : ℕ) → p < 8 * i → get_or into p 0 ≡ memory_byte words p
   pub contents : (s : Shown) → owns s → (k : ℕ) → k < i
       → get_or words k 0 ≡ get_or s.memory (place + k) 0
@@ -71,7 +72,7 @@ pub record IsPutWord (old new : List ℕ) (i x : ℕ) : Type 0 where
   pub sized : length new ≡ length old
 
 pub loads_none : (runs : List Event → Type 0) (owns : Shown → Type 0) (place len : ℕ)
-    (into : List ℕ) → runs [] → length into ≡ 1024 → LoadsBelow runs owns place len 0 into
+    (into : List ℕ) → runs [] → length into ≡ most_bytes → LoadsBelow runs owns place len 0 into
 loads_none runs owns place len into ran sized = record {
   events = [];
   ran = ran;
@@ -149,7 +150,7 @@ loads_one runs more owns place len i x old new l covers ran put told = record {
 
 -- all words of the object were read
 pub loads_all : (runs : List Event → Type 0) (owns : Shown → Type 0) (place len i : ℕ)
-    (into : List ℕ) → i ≡ words_for len → len ≤ 1024 → LoadsBelow runs owns place len i into
+    (into : List ℕ) → i ≡ words_for len → len ≤ most_bytes → LoadsBelow runs owns place len i into
     → Loads runs owns place len into
 unfolding bytes_in
 loads_all runs owns place len i into same short l = record {

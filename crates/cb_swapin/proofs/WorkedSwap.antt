@@ -62,6 +62,7 @@ far frames set = record {
   homes = Some (home 0 1) ∷ Some (home 1 0) ∷ [];
   nodes = empty_nodes 4 1;
   members = members;
+  code = record { k = 2; r = 1 };
   leaving = None;
   joining = None;
   counts = record { turns = 0; by_job = []; sets = 6; keys = 10 };

@@ -6,8 +6,8 @@ pub returns-then-pages-eq1 : goal.returns-then-pages-eq1
 returns-then-pages-eq1 c =
     one_found c.args.words.now c.args.pages _ c.if-pages-eq1.true c.least_set.ensures
 
-pub starts-requires-clause-pages : goal.starts-requires-clause-pages
-starts-requires-clause-pages c = more_than_one c.args.pages c.requires.pages c.if-pages-eq1.false
+pub starts-found-requires-clause-pages : goal.starts-found-requires-clause-pages
+starts-found-requires-clause-pages c = more_than_one c.args.pages c.requires.pages c.if-pages-eq1.false
 
 pub returns-then-found-ne0 : goal.returns-then-found-ne0
 returns-then-found-ne0 c =
