@@ -46,6 +46,7 @@ use Rattle.cb_lanes.specs.Asked.{HasLineReply}
 use Rattle.cb_lanes.specs.Lost.{told_loss, losses_of}
 use Rattle.cb_app.specs.Telling.{TellsLost, TellsRoom}
 use Rattle.cb_app.specs.Threaded.{AreLosses}
+use Rattle.cb_app.proofs.TurnHistory.{found_codes}
 use Rattle.cb_app.proofs.CrashesTold.{IsLoss, lost_told, room_told}
 use Rattle.cb_app.proofs.OfLane.{has_either}
 
@@ -314,7 +315,7 @@ module _ (first : ℕ) (c : Config) (ok : IsAccepted c) (v : View) (count : ℕ)
   pub answers_room : AllByRecursion HasLineReply answers → AllByRecursion InThreads answers
       → AllByRecursion (λ a. TellsRoom c a.reply) answers
   answers_room replies runs = rooms [] answers replies runs (λ d there. all_evict c v.turns
-      (λ t in_it. turn_evicts c t (one.sound t (v, (0, refl), in_it)).configured.codes.force
+      (λ t in_it. turn_evicts c t (found_codes first c v count last one ok t in_it).force
       (one.did t (v, (0, refl), in_it))) d
       (has_among (newest_first turn_needed (tolds [] answers)) (map deed v.turns) d backs.turned
       there))

@@ -26,9 +26,9 @@ use Rattle.cb_world.specs.declared.shown.Shown.{Shown}
 use Rattle.cb_world.specs.Choices.{room_count}
 use Rattle.cb_world.specs.FarState.{FarState}
 use Rattle.cb_world.specs.SetWord.{is_broken}
-use Rattle.cb_world.specs.Codes.{IsConfiguredCode}
+use Rattle.cb_world.specs.Codes.{HaveCodes, IsConfiguredCode}
 use Rattle.cb_world.specs.World.{IsConfigured}
-use Rattle.cb_world.proofs.Laws.{recounted}
+use Rattle.cb_world.proofs.Laws.{codes_stay, have_codes, recounted}
 use Rattle.cb_evict.specs.declared.eviction.Eviction.TheVariants.{Refused, Set}
 use Rattle.cb_evict.specs.declared.eviction.Lack.{Lack}
 use Rattle.cb_evict.specs.declared.eviction.Lack.TheVariants as lack
@@ -71,24 +71,30 @@ plain_tells c far (answer.Unavailable set losses) plain = absurd (false≢true (
 plain_tells c far (answer.NoRoom frames loose nodes) plain = absurd (false≢true (sym plain))
 plain_tells c far r plain = tt
 
--- a far state as it is configured, whose sets stand on different nodes
+-- a far state as it is configured, all of whose codes are the configured one, and whose sets stand on
+-- different nodes
 pub record IsFine (c : Config) (far : FarState) : Type 0 where
   pub configured : IsConfigured c far
+  pub codes : HaveCodes (IsConfiguredCode c) far
   pub apart : AreSetsApart far
 
 pub fine_counted : (c : Config) (far : FarState) (j : Job) → IsFine c far → IsFine c (counted far j)
 fine_counted c far j fine = record {
   configured = recounted c far (counted far j).counts fine.configured;
+  codes = have_codes (IsConfiguredCode c) far (counted far j)
+      (codes_stay far (counted far j) refl refl refl refl) fine.codes;
   apart = fine.apart;
 }
 
 -- an eviction leaves it so
 fine_evicted : (c : Config) (far new : FarState) (id : SetId) (es : List Event) → IsAccepted c
     → EvictRule far new (answer.Set id) es → IsFine c far → IsFine c new
-fine_evicted c far new id es accepted rule fine = record {
-  configured = (evict_stays c far new (answer.Set id) es accepted rule fine.configured).configured;
-  apart = evicted_apart c far new id es rule fine.apart;
-}
+fine_evicted c far new id es accepted rule fine =
+    let z = evict_stays c far new (answer.Set id) es accepted rule fine.configured in record {
+      configured = z.configured;
+      codes = have_codes (IsConfiguredCode c) far new z.codes fine.codes;
+      apart = evicted_apart c far new id es rule fine.apart;
+    }
 
 -- the epoch that a turn of this job tells, where its node crashed or joined
 abbrev pub epochs_in : Job → Option Reply → List ℕ
@@ -179,7 +185,7 @@ swap_keeps c id p first far new r es fine same x = record {
     many : is_broken far.members x.set ≡ true → c.r < length (lost far.members x.set.shards)
     many broken =
         let more = ltb-true (parities x.set) (length (lost far.members x.set.shards)) broken in
-        let code = (fine.configured.codes.sets id x.set x.there).1 in omega (arith, more, code)
+        let code = (fine.codes.sets id x.set x.there).1 in omega (arith, more, code)
 
 -- a refusal of an eviction tells which of the two there was too little of
 too_few : (c : Config) (far new : FarState) (why : Lack) (loose nodes : ℕ) (es : List Event)
@@ -292,7 +298,7 @@ module _ {D : Type 0} (run : D → List Event → D → Type 0) (shows : D → S
     tells = subst (TellsWant c m.far) (sym is) (record {
       frames_are = refl;
       few = too_few c m.far b.far why loose nodes x.events
-          (subst (λ (f : FarState). IsConfiguredCode c f.code) (sym same) fine.configured.codes.force)
+          (subst (λ (f : FarState). IsConfiguredCode c f.code) (sym same) fine.codes.force)
           x.rule;
       counted = x.rule.counts.1;
     });

@@ -14,9 +14,9 @@ use Rattle.cb_world.specs.Reserved.{put_shards}
 use Rattle.cb_world.specs.Sets.{Kept}
 use Rattle.cb_world.specs.Sound.{Sound}
 use Rattle.cb_world.specs.Stored.{all_dropped}
-use Rattle.cb_world.specs.Codes.{IsConfiguredCode}
+use Rattle.cb_world.specs.Codes.{IsCodeOf}
 use Rattle.cb_world.specs.JoinSteps.{with_step}
-use Rattle.cb_world.proofs.Laws.{IsCodeIn, KeepCodes, PairHasCode, batch_has, code_as, codes_kept, codes_paired, codes_parted, codes_put, codes_removed, codes_stay, drop_count, drop_room, have_codes, no_pair_has, of_set, own_put, own_removed, sets_have, KeepsHolding, KeepsNote, no_pair_configured, noted_holds, StaysBy, StaysIf, StaysIfBy, stays_like, stays_noted, stays_same}
+use Rattle.cb_world.proofs.Laws.{IsCodeIn, KeepCodes, PairHasCode, batch_has, code_as, codes_kept, codes_paired, codes_parted, codes_put, codes_removed, codes_stay, drop_count, drop_room, have_codes, no_pair_has, of_a_set, own_put, own_removed, sets_have, KeepsHolding, KeepsNote, no_pair_configured, noted_holds, StaysBy, StaysIf, StaysIfBy, stays_like, stays_noted, stays_same}
 use Rattle.cb_compact.specs.MergeStep.{MergeStep, Merges, merged_set, replaced_shards, with_merged}
 use Rattle.cb_compact.specs.Merging.{IsReadyToMerge}
 use Rattle.cb_compact.specs.PairStep.{IsFirstPair, PairStep, with_pair}
@@ -65,7 +65,7 @@ stepped_stays c far pair p shard row of_code is = record {
     homes = is.homes;
     nodes = length-set far.nodes.nodes shard.node.n _ ∙ is.nodes;
     room = is.room;
-    codes = have_codes (IsConfiguredCode c) far new keep is.codes;
+    codes = have_codes (IsCodeOf c) far new keep is.codes;
   };
   codes = keep;
   rises = record {
@@ -105,7 +105,7 @@ module _ (c : Config) (s : Shown) (far : FarState) (pair : JoiningState) (a b : 
   one_code = code_as far a (merged_set id pair a b)
       (length_merged a.positions b.positions (ready_data s far pair a b x))
       (length_shards pair.steps pair.shards_a (ready_steps s far pair a b x)
-      ∙ sym (ready_shards s far pair a b x)) (of_set pair.a a x.fresh.a_stands.there refl)
+      ∙ sym (ready_shards s far pair a b x)) (of_a_set pair.a a x.fresh.a_stands.there refl)
 
   keep : KeepCodes far (with_merged far pair a b homes)
   keep = codes_kept far (with_merged far pair a b homes) refl
@@ -124,7 +124,7 @@ module _ (c : Config) (s : Shown) (far : FarState) (pair : JoiningState) (a b : 
       homes = at.count ∙ is.homes;
       nodes = drop_count without_b gone ∙ drop_count far.nodes pair.shards_b ∙ is.nodes;
       room = drop_room without_b gone ∙ drop_room far.nodes pair.shards_b ∙ is.room;
-      codes = have_codes (IsConfiguredCode c) far (with_merged far pair a b homes) keep is.codes;
+      codes = have_codes (IsCodeOf c) far (with_merged far pair a b homes) keep is.codes;
     };
     codes = keep;
     rises = record {

@@ -13,7 +13,7 @@ use Rattle.cb_world.specs.Joining.{JoiningState}
 use Rattle.cb_world.specs.JoinSteps.{with_step}
 use Rattle.cb_world.specs.Join.{IsJoin}
 use Rattle.cb_world.specs.Merged.{AreTaken, takes}
-use Rattle.cb_world.proofs.Laws.{PairHasCode, from_before, of_code, of_set, place_back}
+use Rattle.cb_world.proofs.Laws.{PairHasCode, from_before, of_code, of_a_set, place_back}
 use Rattle.cb_compact.specs.PairStep.{IsFirstPair, begun_pair}
 use Rattle.cb_compact.specs.PartStep.{IsFreshPair}
 use Rattle.cb_compact.specs.PatchStep.{IsNext}
@@ -35,7 +35,7 @@ pub begun_code : (far : FarState) (x y : ℕ) (a b : SetState) → IsFirstPair f
     → length a.positions ≤ length a.shards → PairHasCode far (begun_pair x y a b)
 begun_code far x y a b first data_first =
     let m = first.can.data_count in
-    of_code (code_of a) (of_set x a first.can.a_there refl) (record {
+    of_code (code_of a) (of_a_set x a first.can.a_there refl) (record {
       steps = length-replicate (length a.shards) None ∙ whole;
       taken = λ i d below. let e = All-filter (live_at b) (λ p. p < length b.positions)
           (range_with_len 0 (length b.positions)) (ranged (length b.positions)) i d below in
@@ -59,7 +59,7 @@ pub stepped_code : (far : FarState) (pair : JoiningState) (a b : SetState) (p : 
     → PairHasCode far (with_step pair p shard)
 stepped_code far pair a b p shard fresh j next =
     let of = counted far pair a b j fresh in let k = of.k in let r = of.r in let n = j.count in
-    from_before pair (code_of a) fresh.was (of_set pair.a a fresh.a_stands.there refl)
+    from_before pair (code_of a) fresh.was (of_a_set pair.a a fresh.a_stands.there refl)
     (λ i l was. record {
       steps = length-set pair.steps p (Some shard) ∙ omega (arith, n, k, r);
       taken = subst (λ (m : ℕ). All (λ p. p < m) pair.taken) (sym k)

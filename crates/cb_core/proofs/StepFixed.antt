@@ -16,7 +16,7 @@ use Rattle.cb_world.specs.Plain.{Words}
 use Rattle.cb_world.specs.Seats.{IsNewestOf, pins_of_seat, with_pins}
 use Rattle.cb_world.specs.Sound.{Sound}
 use Rattle.cb_world.specs.World.{WorldState, IsSoundWorld}
-use Rattle.cb_world.proofs.Laws.{IsOneEnd, configured_range, home_same}
+use Rattle.cb_world.proofs.Laws.{IsOneEnd, home_same}
 use Rattle.cb_mutate.proofs.Laws.{free_step_fixes, make_step_fixes, read_step_fixes, write_step_fixes}
 use Rattle.cb_evict.proofs.Laws.{abort_step_fixes, begin_step_fixes, commit_step_fixes, evict_step_fixes, counted_step_fixes, ship_step_fixes}
 use Rattle.cb_filter.proofs.Laws.{filter_step_fixes}
@@ -161,7 +161,7 @@ turned a b desks fars seats = λ i. record { desk = desks i; far = fars i; seats
 turn_ready : (w : WorldState) (job : Job) → IsSoundWorld w
     → IsReadyToWork (record { desk = w.desk; far = counted w.far job })
 turn_ready w job sound = record {
-  range = configured_range w.desk.settings w.far sound.config sound.configured.codes;
+  range = sound.configured.codes.force.range;
   shown = sound.shown;
   sound = counted_sound sound.shown w.far (counted w.far job) job refl sound.known.sound;
 }

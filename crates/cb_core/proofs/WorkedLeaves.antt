@@ -128,6 +128,7 @@ module _ (c : Config) (accepted : IsAccepted c) where
     events = [];
     ran = refl;
     configured = recounted c far then_.counts w.configured;
+    codes = codes_stay far then_ refl refl refl refl;
     counted = counted_rises {N = KeepsNote} far then_ then_ (job_index Evict) w.counted (lit< tt)
         (lit< tt) refl (record {
           turns = refl;

@@ -9,7 +9,7 @@ use Rattle.cb_set.specs.SetState.{code_of, parities}
 use Rattle.cb_types.specs.declared.config.Config.{Config}
 use Rattle.cb_types.specs.Config.{IsAccepted}
 use Rattle.cb_types.specs.declared.reply.Reply.{Reply}
-use Rattle.cb_world.specs.Codes.{IsConfiguredCode, code_of_batch}
+use Rattle.cb_world.specs.Codes.{IsCodeOf, code_of_batch}
 use Rattle.cb_world.specs.declared.event.Event.{Event}
 use Rattle.cb_world.specs.declared.leaving.Former.{Former}
 use Rattle.cb_world.specs.declared.shown.Shown.{Shown}
@@ -20,7 +20,7 @@ use Rattle.cb_world.specs.Reserved.{position_for, put_shards, set_from}
 use Rattle.cb_world.specs.Sets.{Kept}
 use Rattle.cb_world.specs.Sound.{Sound}
 use Rattle.cb_world.specs.Stored.{all_dropped, all_put}
-use Rattle.cb_world.proofs.Laws.{IsCodeIn, KeepCodes, batch_has, codes_kept, codes_put, codes_removed, configured_range, drop_count, drop_room, IsLike, Rises, StaysIf, have_codes, in_force, of_batch, own_put, own_removed, pair_stays, sets_have, stays_like, stays_same}
+use Rattle.cb_world.proofs.Laws.{IsCodeIn, KeepCodes, batch_has, codes_kept, codes_put, codes_removed, drop_count, drop_room, IsLike, Rises, StaysIf, have_codes, in_force, of_the_batch, own_put, own_removed, pair_stays, sets_have, stays_like, stays_same}
 use Rattle.cb_evict.specs.AbortRule.{AbortRule, HasGivenUp}
 use Rattle.cb_evict.specs.BeginRule.{BeginRule, new_batch, with_batch}
 use Rattle.cb_evict.specs.Closing.{with_homes}
@@ -54,7 +54,7 @@ put_given nodes (shard ∷ shards) (row ∷ rows) =
     put_given (with_row nodes shard.node shard.key row) shards rows
 
 -- a set was made of the spans in some frames: it has the code in force
-made_codes : (far new : FarState) (frames : List ℕ) (shards : List Shard) (rows : List (List ℕ))
+pub made_codes : (far new : FarState) (frames : List ℕ) (shards : List Shard) (rows : List (List ℕ))
     → length frames ≡ far.code.k → length shards ≡ far.code.k + far.code.r
     → new ≡ with_homes (with_set far shards frames rows) frames new.homes → KeepCodes far new
 made_codes far new frames shards rows k count state =
@@ -71,7 +71,7 @@ pub made_stays : (c : Config) (far new : FarState) (frames : List ℕ) (shards :
     → length shards ≡ far.code.k + far.code.r → length new.homes ≡ length far.homes
     → new ≡ with_homes (with_set far shards frames rows) frames new.homes → StaysIf c 24 far new
 made_stays c far new frames shards rows accepted k count homes state is =
-    let range = configured_range c far accepted is.codes in
+    let range = is.codes.force.range in
     let most = range.data_most in let few = range.parities_most in
     let keep = made_codes far new frames shards rows k count state in
     let sets : new.counts.sets ≡ far.counts.sets + 1 = ap (λ (f : FarState). f.counts.sets) state in
@@ -87,7 +87,7 @@ made_stays c far new frames shards rows accepted k count homes state is =
         nodes = ap (λ (f : FarState). length f.nodes.nodes) state ∙ put_count far.nodes shards rows
             ∙ is.nodes;
         room = ap (λ (f : FarState). f.nodes.room) state ∙ put_room far.nodes shards rows ∙ is.room;
-        codes = have_codes (IsConfiguredCode c) far new keep is.codes;
+        codes = have_codes (IsCodeOf c) far new keep is.codes;
       };
       codes = keep;
       rises = record {
@@ -113,7 +113,7 @@ evict_stays c far new r es accepted x = elim x.answered [
 
 -- ---- a begin
 -- the spans in some frames are leaving: they will be a set of the code in force
-batch_codes : (far new : FarState) (frames : List ℕ) (words : List Former)
+pub batch_codes : (far new : FarState) (frames : List ℕ) (words : List Former)
     (parities : List (List ℕ)) → length frames ≡ far.code.k → length parities ≡ far.code.r
     → new ≡ with_batch far frames words parities → KeepCodes far new
 batch_codes far new frames words parities k r state =
@@ -142,7 +142,7 @@ batch_stays c far new frames words parities k r state is =
         homes = ap (λ (f : FarState). length f.homes) state ∙ is.homes;
         nodes = ap (λ (f : FarState). length f.nodes.nodes) state ∙ is.nodes;
         room = ap (λ (f : FarState). f.nodes.room) state ∙ is.room;
-        codes = have_codes (IsConfiguredCode c) far new keep is.codes;
+        codes = have_codes (IsCodeOf c) far new keep is.codes;
       };
       codes = keep;
       rises = record {
@@ -170,12 +170,12 @@ begin_stays c far new r es (inr x) = elim x.answered [
 
 -- ---- a ship
 -- the batch keeps its frames and parities
-shipped_codes : (far new : FarState) (r : Reply) (row : LeavingState → ℕ → List ℕ)
+pub shipped_codes : (far new : FarState) (r : Reply) (row : LeavingState → ℕ → List ℕ)
     → HasShipped far new r row → KeepCodes far new
 shipped_codes far new r row z =
     subst (KeepCodes far) (sym z.state) (codes_kept far _ refl (sets_have far)
     (λ b at. subst (λ (l : LeavingState). IsCodeIn far (code_of_batch l))
-    (some_same (with_shard_at z.batch z.position z.shard) b at) (of_batch z.batch z.there refl))
+    (some_same (with_shard_at z.batch z.position z.shard) b at) (of_the_batch z.batch z.there refl))
     (pair_stays far far.joining refl) (λ own. own))
 
 shipped_stays : (c : Config) (far new : FarState) (r : Reply) (row : LeavingState → ℕ → List ℕ)
@@ -193,7 +193,7 @@ shipped_stays c far new r row z is =
         nodes = ap (λ (f : FarState). length f.nodes.nodes) e
             ∙ length-set far.nodes.nodes z.shard.node.n _ ∙ is.nodes;
         room = ap (λ (f : FarState). f.nodes.room) e ∙ is.room;
-        codes = have_codes (IsConfiguredCode c) far new keep is.codes;
+        codes = have_codes (IsCodeOf c) far new keep is.codes;
       };
       codes = keep;
       rises = record {
@@ -219,7 +219,7 @@ pub ship_stays : (c : Config) (far new : FarState) (r : Reply) (es : List Event)
 ship_stays c far new r es x = ships_stays c far new r x.row x.ships
 
 -- ---- a commit: the set has the code that its batch had
-committed_codes : (s : Shown) (far new : FarState) (r : Reply) → Sound s far
+pub committed_codes : (s : Shown) (far new : FarState) (r : Reply) → Sound s far
     → HasCommitted far new r → KeepCodes far new
 committed_codes s far new r sound z =
     let batch = z.batch in
@@ -232,7 +232,7 @@ committed_codes s far new r sound z =
     let is = code_is (code_of_batch batch) batch.set (put_shards batch.shards) far batch.frames refl
     (omega (arith, shards, places)) in
     subst (KeepCodes far) (sym z.state) (codes_kept far _ refl
-    (codes_put far far.sets batch.set kept (λ committed. of_batch batch z.there is) (sets_have far))
+    (codes_put far far.sets batch.set kept (λ committed. of_the_batch batch z.there is) (sets_have far))
     (λ b at. absurd (none_some b at)) (pair_stays far far.joining refl)
     (λ own. own_put far.sets batch.set kept (λ committed. refl) own))
 
@@ -247,7 +247,7 @@ committed_stays c s far new r sound z is =
         homes = z.homes.count ∙ is.homes;
         nodes = ap (λ (f : FarState). length f.nodes.nodes) e ∙ is.nodes;
         room = ap (λ (f : FarState). f.nodes.room) e ∙ is.room;
-        codes = have_codes (IsConfiguredCode c) far new keep is.codes;
+        codes = have_codes (IsCodeOf c) far new keep is.codes;
       };
       codes = keep;
       rises = subst (Rises 1 far) (sym e) (record {
@@ -275,6 +275,14 @@ dropped_given : (nodes : NodesState) (shards : List Shard)
 dropped_given nodes [] = refl
 dropped_given nodes (x ∷ xs) = dropped_given (with_dropped nodes x.node x.key) xs
 
+-- the batch is gone, and the set that it would have been
+pub given_up_codes : (far new : FarState) (r : Reply) → HasGivenUp far new r → KeepCodes far new
+given_up_codes far new r z =
+    subst (KeepCodes far) (sym z.state) (codes_kept far _ refl
+    (codes_removed far far.sets z.batch.set (sets_have far))
+    (λ b at. absurd (none_some b at)) (pair_stays far far.joining refl)
+    (own_removed far.sets z.batch.set))
+
 given_up_stays : (c : Config) (far new : FarState) (r : Reply) → HasGivenUp far new r
     → StaysIf c 1 far new
 given_up_stays c far new r z =
@@ -283,9 +291,7 @@ given_up_stays c far new r z =
       homes = refl;
       nodes = drop_count far.nodes (put_shards z.batch.shards);
       room = drop_room far.nodes (put_shards z.batch.shards);
-      codes = codes_kept far _ refl (codes_removed far far.sets z.batch.set (sets_have far))
-          (λ b at. absurd (none_some b at)) (pair_stays far far.joining refl)
-          (own_removed far.sets z.batch.set);
+      codes = subst (KeepCodes far) z.state (given_up_codes far new r z);
       counts = refl;
       note = λ n e. e;
       epoch = omega arith;

@@ -7,7 +7,7 @@ use Rattle.cb_types.specs.declared.reply.Reply.{Reply}
 use Rattle.cb_types.specs.declared.reply.Reply.TheVariants as answer
 use Rattle.cb_types.specs.declared.request.Request.TheVariants as line
 use Rattle.cb_world.specs.declared.shown.Shown.{Shown}
-use Rattle.cb_world.specs.Codes.{IsConfiguredCode}
+use Rattle.cb_world.specs.Codes.{IsCodeOf}
 use Rattle.cb_world.specs.FarState.{FarState}
 use Rattle.cb_world.specs.Pairs.{HoldsNoPair}
 use Rattle.cb_world.specs.Sound.{Sound}
@@ -63,7 +63,7 @@ given_stays c far mid rows few same z =
         homes = z.configured.homes;
         nodes = z.configured.nodes;
         room = z.configured.room;
-        codes = have_codes (IsConfiguredCode c) mid (far_given mid rows) given z.configured.codes;
+        codes = have_codes (IsCodeOf c) mid (far_given mid rows) given z.configured.codes;
       };
       codes = codes_then far mid (far_given mid rows) z.codes given;
       rises = record {

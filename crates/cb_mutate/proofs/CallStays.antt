@@ -10,7 +10,7 @@ use Rattle.cb_types.specs.declared.reply.Reply.TheVariants as answer
 use Rattle.cb_world.specs.declared.event.Event.{Event}
 use Rattle.cb_world.specs.FarState.{FarState}
 use Rattle.cb_world.specs.LeftOver.{set_without}
-use Rattle.cb_world.proofs.Laws.{batch_has, codes_kept, codes_left, codes_stay, own_left, pair_stays, sets_have, left_count, left_given, left_note, left_room, IsLike, StaysIf, stays_like, stays_same}
+use Rattle.cb_world.proofs.Laws.{KeepCodes, batch_has, codes_kept, codes_left, codes_stay, own_left, pair_stays, sets_have, left_count, left_given, left_note, left_room, IsLike, StaysIf, stays_like, stays_same}
 use Rattle.cb_mutate.specs.FreeRule.{FreeFar, FreeRule, IsReleased, IsRemoved, LeavesPlace}
 use Rattle.cb_mutate.specs.MakeRule.{MakeRule, with_made}
 
@@ -71,6 +71,11 @@ leaves state.Here far new h z = released far new h z
 leaves state.Far far new h z = removed far new h z
 leaves state.Empty far new h z = absurd z
 leaves state.Moving far new h z = absurd z
+
+-- a freed object's place: no other code comes up
+pub place_codes : (q : State) (far new : FarState) (h : ℕ) → LeavesPlace q far new h
+    → KeepCodes far new
+place_codes q far new h z = (leaves q far new h z).codes
 
 pub free_stays : (c : Config) (h : ℕ) (far new : FarState) (r : Reply) (es : List Event)
     → FreeRule h far new r es → StaysIf c 1 far new

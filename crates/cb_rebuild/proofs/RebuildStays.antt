@@ -4,12 +4,12 @@ use Rattle.cb_set.specs.SetState.{SetState, with_shard}
 use Rattle.cb_types.specs.declared.config.Config.{Config}
 use Rattle.cb_types.specs.declared.reply.Reply.{Reply}
 use Rattle.cb_world.specs.declared.shown.Shown.{Shown}
-use Rattle.cb_world.specs.Codes.{IsConfiguredCode}
+use Rattle.cb_world.specs.Codes.{IsCodeOf}
 use Rattle.cb_world.specs.FarState.{FarState}
 use Rattle.cb_world.specs.Sets.{Kept}
 use Rattle.cb_world.specs.Sets.{set_in}
 use Rattle.cb_world.specs.Sound.{Sound}
-use Rattle.cb_world.proofs.Laws.{KeepCodes, batch_has, code_as, codes_kept, codes_put, have_codes, of_set, own_put, pair_stays, sets_have, Stays, StaysIf, stays_given}
+use Rattle.cb_world.proofs.Laws.{KeepCodes, batch_has, code_as, codes_kept, codes_put, have_codes, of_a_set, own_put, pair_stays, sets_have, Stays, StaysIf, stays_given}
 use Rattle.cb_rebuild.specs.RebuildStep.{IsRebuilt, RebuildStep, Restores, far_given, surveyed}
 
 -- nothing is noted of a search for a pair
@@ -36,7 +36,7 @@ rebuilt_codes far new id set r there z =
     let kept : Kept = record { set = with_shard set z.position z.shard; committed = true } in
     subst (KeepCodes far) (sym z.state) (codes_kept far _ refl
     (codes_put far far.sets id kept (λ committed. code_as far set (with_shard set z.position z.shard)
-    refl (length-set set.shards z.position z.shard) (of_set id set there refl)) (sets_have far))
+    refl (length-set set.shards z.position z.shard) (of_a_set id set there refl)) (sets_have far))
     (batch_has far far.leaving refl) (pair_stays far far.joining refl)
     (λ own. own_put far.sets id kept (λ committed. own id set there) own))
 
@@ -53,7 +53,7 @@ rebuilt_stays c s far new id set r sound there z is =
         homes = is.homes;
         nodes = length-set far.nodes.nodes z.shard.node.n _ ∙ is.nodes;
         room = is.room;
-        codes = have_codes (IsConfiguredCode c) far _ keep is.codes;
+        codes = have_codes (IsCodeOf c) far _ keep is.codes;
       };
       codes = keep;
       rises = record {

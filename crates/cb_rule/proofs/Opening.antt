@@ -12,7 +12,7 @@ use Rattle.cb_world.specs.declared.entry.Entry.{Entry}
 use Rattle.cb_world.specs.declared.object.Object.{Object}
 use Rattle.cb_world.specs.declared.object.Object.TheVariants as is
 use Rattle.cb_world.specs.declared.shown.Shown.{Shown}
-use Rattle.cb_world.specs.Codes.{IsConfiguredCode}
+use Rattle.cb_world.specs.Codes.{IsCodeOf}
 use Rattle.cb_world.specs.Empty.{empty_far, empty_shown}
 use Rattle.cb_world.specs.FarState.{FarState}
 use Rattle.cb_world.specs.LocalSound.{LiesAt}
@@ -53,7 +53,7 @@ stood_empty first c pos accepted = let world = empty_world_sound c accepted in
         homes = f.homes;
         nodes = f.nodes;
         room = f.room;
-        codes = have_codes (IsConfiguredCode c) (empty_far 1 c) (empty_far first c)
+        codes = have_codes (IsCodeOf c) (empty_far 1 c) (empty_far first c)
             (codes_stay (empty_far 1 c) (empty_far first c) refl refl refl refl) f.codes;
       };
       counted = record {

@@ -11,7 +11,7 @@ use Rattle.cb_types.specs.Config.{IsAccepted}
 use Rattle.cb_types.specs.declared.job.Job.TheVariants.{Evict}
 use Rattle.cb_world.specs.declared.event.Event.TheVariants.{Looked}
 use Rattle.cb_world.specs.declared.shown.Shown.{Shown}
-use Rattle.cb_world.specs.Codes.{IsConfiguredCode}
+use Rattle.cb_world.specs.Codes.{IsCodeOf}
 use Rattle.cb_world.specs.Empty.{empty_far, empty_shown}
 use Rattle.cb_world.specs.FarState.{FarState}
 use Rattle.cb_world.proofs.Laws.{codes_stay, have_codes, recounted_sound}
@@ -52,7 +52,7 @@ stood n few = let e = stood_empty 3 pair_of (lit≤ tt) accepted in
         homes = f.homes;
         nodes = f.nodes;
         room = f.room;
-        codes = have_codes (IsConfiguredCode pair_of) (empty_far 3 pair_of) (far n)
+        codes = have_codes (IsCodeOf pair_of) (empty_far 3 pair_of) (far n)
             (codes_stay (empty_far 3 pair_of) (far n) refl refl refl refl) f.codes;
       };
       counted = record {

@@ -10,7 +10,7 @@ use Rattle.cb_types.specs.declared.job.Job.TheVariants as job
 use Rattle.cb_types.specs.declared.reply.Reply.TheVariants as answer
 use Rattle.cb_world.specs.declared.event.Event.TheVariants.{Looked}
 use Rattle.cb_world.specs.declared.shown.Shown.{Shown}
-use Rattle.cb_world.specs.Codes.{IsConfiguredCode}
+use Rattle.cb_world.specs.Codes.{IsCodeOf}
 use Rattle.cb_world.specs.Empty.{empty_far, empty_shown}
 use Rattle.cb_world.specs.FarState.{FarState}
 use Rattle.cb_world.proofs.Laws.{codes_stay, have_codes, recounted_sound}
@@ -56,7 +56,7 @@ stood n few = let e = stood_empty 3 two (lit≤ tt) accepted in
         homes = f.homes;
         nodes = f.nodes;
         room = f.room;
-        codes = have_codes (IsConfiguredCode two) (empty_far 3 two) (far n)
+        codes = have_codes (IsCodeOf two) (empty_far 3 two) (far n)
             (codes_stay (empty_far 3 two) (far n) refl refl refl refl) f.codes;
       };
       counted = record {

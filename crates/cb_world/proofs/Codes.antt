@@ -5,65 +5,32 @@ use Rattle.std.specs.Ordering.{nat_cmp, eq_by_cmp}
 use Rattle.std.specs.FinMap as map
 use Rattle.std.proofs.lemmas.Bool.{cases_eq}
 use Rattle.std.proofs.lemmas.Bool.Decides.{nat_tests}
-use Rattle.cb_gf256.specs.InRange.{IsInRange}
 use Rattle.cb_member.specs.declared.names.Code.{Code}
 use Rattle.cb_set.specs.SetState.{PositionState, SetState, code_of, is_live, with_position}
 use Rattle.cb_types.specs.declared.config.Config.{Config}
-use Rattle.cb_types.specs.declared.config.Field.TheVariants.{K, R}
+use Rattle.cb_types.specs.declared.config.Field.TheVariants.{K, Nodes, R}
 use Rattle.cb_types.specs.Config.{IsAccepted}
-use Rattle.cb_world.specs.Codes.{HaveCodes, IsConfiguredCode, IsPairOfCode, code_of_batch}
+use Rattle.cb_world.specs.Codes.{HaveCodes, IsCodeOf, IsPairOfCode, code_of_batch}
 use Rattle.cb_world.specs.Empty.{empty_far}
 use Rattle.cb_world.specs.FarState.{FarState}
 use Rattle.cb_world.specs.Joining.{JoiningState}
+use Rattle.cb_world.specs.KeepCodes.{AreOwn, EachSet, HasNumber, IsCodeIn, KeepCodes, PairHasCode, as_before, from_before, in_force, of_the_batch, of_code, of_a_set}
 use Rattle.cb_world.specs.Leaving.{LeavingState}
 use Rattle.cb_world.specs.LeftOver.{sets_left}
 use Rattle.cb_world.specs.Sets.{Kept, SetMap, set_in, if_committed}
 use Rattle.cb_world.proofs.Empty.{no_set}
 use Rattle.cb_world.proofs.SetChanging.{is_kept, kept_same}
 
--- a code of the far state: the one in force, that of a committed set, or that of the batch
-pub data IsCodeIn (far : FarState) (code : Code) : Type 0 where
-  in_force : code ≡ far.code → IsCodeIn far code
-  of_set : (id : ℕ) (set : SetState) → set_in far.sets id ≡ Some set → code ≡ code_of set
-      → IsCodeIn far code
-  of_batch : (b : LeavingState) → far.leaving ≡ Some b → code ≡ code_of_batch b → IsCodeIn far code
-
--- the code of a pair: that of the pair which was joining, or one of the far state, by what is known of
--- the pair before or without it
-pub data PairHasCode (far : FarState) (p : JoiningState) : Type 0 where
-  as_before : (q : JoiningState) → far.joining ≡ Some q
-      → ((k r : ℕ) → IsPairOfCode k r q → IsPairOfCode k r p) → PairHasCode far p
-  from_before : (q : JoiningState) (code : Code) → far.joining ≡ Some q → IsCodeIn far code
-      → ((k r : ℕ) → IsPairOfCode k r q → IsPairOfCode code.k code.r p) → PairHasCode far p
-  of_code : (code : Code) → IsCodeIn far code → IsPairOfCode code.k code.r p → PairHasCode far p
-
--- what holds of each committed set, by its number
-abbrev pub EachSet : (ℕ → SetState → Type 0) → SetMap → Type 0
-EachSet P sets = (id : ℕ) (set : SetState) → set_in sets id ≡ Some set → P id set
-
 -- each committed set has a code of the far state
 abbrev pub SetCodes : FarState → SetMap → Type 0
 SetCodes far = EachSet (λ id set. IsCodeIn far (code_of set))
-
--- each committed set has its own number
-abbrev pub HasNumber : ℕ → SetState → Type 0
-HasNumber id set = set.id ≡ id
-
-abbrev pub AreOwn : SetMap → Type 0
-AreOwn = EachSet HasNumber
-
--- no other code comes up by a change, and each committed set keeps its own number
-pub record KeepCodes (far new : FarState) : Type 0 where
-  pub codes : (code : Code) → IsCodeIn new code → IsCodeIn far code
-  pub pair : (p : JoiningState) → new.joining ≡ Some p → PairHasCode far p
-  pub own : AreOwn far.sets → AreOwn new.sets
 
 -- what all codes have, they have afterwards
 has_code : (P : Code → Type 0) (far : FarState) → HaveCodes P far → (code : Code)
     → IsCodeIn far code → P code
 has_code P far x code (in_force e) = subst P (sym e) x.force
-has_code P far x code (of_set id set there e) = subst P (sym e) (x.sets id set there)
-has_code P far x code (of_batch b there e) = subst P (sym e) (x.batch b there)
+has_code P far x code (of_a_set id set there e) = subst P (sym e) (x.sets id set there)
+has_code P far x code (of_the_batch b there e) = subst P (sym e) (x.batch b there)
 
 pair_has : (P : Code → Type 0) (far : FarState) → HaveCodes P far → (p : JoiningState)
     → PairHasCode far p → (code : Code) × P code × IsPairOfCode code.k code.r p
@@ -78,23 +45,24 @@ pub have_codes : (P : Code → Type 0) (far new : FarState) → KeepCodes far ne
 have_codes P far new k x = record {
   force = has_code P far x new.code (k.codes new.code (in_force refl));
   sets = λ id set there. has_code P far x (code_of set) (k.codes (code_of set)
-      (of_set id set there refl));
+      (of_a_set id set there refl));
   batch = λ b there. has_code P far x (code_of_batch b) (k.codes (code_of_batch b)
-      (of_batch b there refl));
+      (of_the_batch b there refl));
   pair = λ p there. pair_has P far x p (k.pair p there);
   own = k.own x.own;
 }
 
--- the configured code is one of those that are built
-pub configured_range : (c : Config) (far : FarState) → IsAccepted c
-    → HaveCodes (IsConfiguredCode c) far → IsInRange far.code.k far.code.r
-configured_range c far ok codes =
-    let k = codes.force.0 in let r = codes.force.1 in
-    let first = ok K in let second = ok R in record {
-      data_least = omega (arith, k, first.0);
-      data_most = omega (arith, k, first.1);
-      parities_least = omega (arith, r, second.0);
-      parities_most = omega (arith, r, second.1);
+-- the configured code is one of those that the configuration allows
+pub accepted_code : (c : Config) → IsAccepted c → IsCodeOf c (record { k = c.k; r = c.r })
+accepted_code c ok =
+    let k = ok K in let r = ok R in let n = ok Nodes in record {
+      range = record {
+        data_least = k.0;
+        data_most = k.1;
+        parities_least = r.0;
+        parities_most = r.1;
+      };
+      places = n.0;
     }
 
 -- one change after another
@@ -137,16 +105,16 @@ codes_kept far new force sets batch pair own = record { codes = by; pair = pair;
   where
     by : (code : Code) → IsCodeIn new code → IsCodeIn far code
     by code (in_force e) = in_force (e ∙ force)
-    by code (of_set id set there e) = subst (IsCodeIn far) (sym e) (sets id set there)
-    by code (of_batch b there e) = subst (IsCodeIn far) (sym e) (batch b there)
+    by code (of_a_set id set there e) = subst (IsCodeIn far) (sym e) (sets id set there)
+    by code (of_the_batch b there e) = subst (IsCodeIn far) (sym e) (batch b there)
 
 -- the sets, the batch and the pair have codes of the far state
 pub sets_have : (far : FarState) → SetCodes far far.sets
-sets_have far id set there = of_set id set there refl
+sets_have far id set there = of_a_set id set there refl
 
 pub batch_has : (far : FarState) (o : Option LeavingState) → o ≡ far.leaving → (b : LeavingState)
     → o ≡ Some b → IsCodeIn far (code_of_batch b)
-batch_has far o same b there = of_batch b (sym same ∙ there) refl
+batch_has far o same b there = of_the_batch b (sym same ∙ there) refl
 
 pub pair_stays : (far : FarState) (o : Option JoiningState) → o ≡ far.joining → (p : JoiningState)
     → o ≡ Some p → PairHasCode far p
@@ -158,6 +126,11 @@ pub codes_stay : (far new : FarState) → new.sets ≡ far.sets → new.leaving 
 codes_stay far new sets leaving joining force = codes_kept far new force
     (subst (SetCodes far) (sym sets) (sets_have far)) (batch_has far new.leaving leaving)
     (pair_stays far new.joining joining) (λ own. subst AreOwn (sym sets) own)
+
+-- nothing changed
+pub codes_same : (far new : FarState) → new ≡ far → KeepCodes far new
+codes_same far new same =
+    subst (KeepCodes far) (sym same) (codes_stay far far refl refl refl refl)
 
 -- or where another pair joins that has a code of the far state, or that of the pair before
 pub codes_paired : (far new : FarState) (pair : JoiningState) → new.sets ≡ far.sets
@@ -279,9 +252,10 @@ pub own_left : (sets : SetMap) (id p : ℕ) (set : SetState) (left : PositionSta
 own_left sets id p set left there all = each_left HasNumber sets id p set left (all id set there) all
 
 -- no set was committed yet
-pub empty_codes : (first : ℕ) (c : Config) → HaveCodes (IsConfiguredCode c) (empty_far first c)
-empty_codes first c = record {
-  force = (refl, refl);
+pub empty_codes : (P : Code → Type 0) (first : ℕ) (c : Config) → P (record { k = c.k; r = c.r })
+    → HaveCodes P (empty_far first c)
+empty_codes P first c holds = record {
+  force = holds;
   sets = λ id set at. absurd (none_some set (sym (no_set first c id) ∙ at));
   batch = λ b at. absurd (no_batch b at);
   pair = λ p at. absurd (no_pair p at);

@@ -8,7 +8,7 @@ use Rattle.cb_member.specs.Membership.{Membership}
 use Rattle.cb_set.specs.SetState.{SetState, is_live}
 use Rattle.cb_set.specs.Matched.{IsMatched}
 use Rattle.cb_types.specs.declared.config.Config.{Config}
-use Rattle.cb_world.specs.Codes.{IsConfiguredCode}
+use Rattle.cb_world.specs.Codes.{IsCodeOf}
 use Rattle.cb_world.specs.declared.shown.Shown.{Shown}
 use Rattle.cb_world.specs.Counts.{CountsState, with_turn}
 use Rattle.cb_world.specs.FarState.{FarState}
@@ -173,6 +173,6 @@ no_pair_configured c far is = record {
   homes = is.homes;
   nodes = is.nodes;
   room = is.room;
-  codes = have_codes (IsConfiguredCode c) far (with_no_pair far)
+  codes = have_codes (IsCodeOf c) far (with_no_pair far)
       (codes_stay far (with_no_pair far) refl refl refl refl) is.codes;
 }

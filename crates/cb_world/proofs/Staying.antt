@@ -10,8 +10,9 @@ use Rattle.cb_world.specs.Pairs.{HoldsNoPair}
 use Rattle.cb_world.specs.Plain.{Words}
 use Rattle.cb_world.specs.Seats.{SeatState}
 use Rattle.cb_world.specs.World.{ArePinned, IsConfigured, word_at}
-use Rattle.cb_world.specs.Codes.{IsConfiguredCode}
-use Rattle.cb_world.proofs.Codes.{KeepCodes, codes_stay, have_codes}
+use Rattle.cb_world.specs.Codes.{IsCodeOf}
+use Rattle.cb_world.specs.KeepCodes.{KeepCodes}
+use Rattle.cb_world.proofs.Codes.{codes_stay, have_codes}
 use Rattle.cb_world.proofs.Pins.{pinned_still}
 
 -- what is noted of a search for a pair was noted before
@@ -117,7 +118,7 @@ stays_like c n far new some like is =
         homes = like.homes ∙ is.homes;
         nodes = like.nodes ∙ is.nodes;
         room = like.room ∙ is.room;
-        codes = have_codes (IsConfiguredCode c) far new like.codes is.codes;
+        codes = have_codes (IsCodeOf c) far new like.codes is.codes;
       };
       codes = like.codes;
       rises = record {
@@ -144,7 +145,7 @@ recounted c far counts is = record {
   homes = is.homes;
   nodes = is.nodes;
   room = is.room;
-  codes = have_codes (IsConfiguredCode c) far (record far { counts = counts })
+  codes = have_codes (IsCodeOf c) far (record far { counts = counts })
       (codes_stay far (record far { counts = counts }) refl refl refl refl) is.codes;
 }
 
@@ -158,7 +159,7 @@ stays_given c n given far survey most note is = record {
     homes = is.homes;
     nodes = is.nodes;
     room = is.room;
-    codes = have_codes (IsConfiguredCode c) far new keep is.codes;
+    codes = have_codes (IsCodeOf c) far new keep is.codes;
   };
   codes = keep;
   rises = record {

@@ -1,6 +1,7 @@
 -- The code of each set, and its number.
-use Rattle.std.specs.Prelude.{◌≡◌, ℕ, ◌+◌, ◌<◌, true, All, Some, length, slice_get}
+use Rattle.std.specs.Prelude.{◌≡◌, ℕ, ◌+◌, ◌<◌, ◌≤◌, true, All, Some, length, slice_get}
 use Rattle.std.specs.List.{AllPairs}
+use Rattle.cb_gf256.specs.InRange.{IsInRange}
 use Rattle.cb_member.specs.declared.names.Code.{Code}
 use Rattle.cb_member.specs.declared.names.Shard.{Shard}
 use Rattle.cb_set.specs.SetState.{SetState, code_of}
@@ -10,6 +11,11 @@ use Rattle.cb_world.specs.Joining.{JoiningState}
 use Rattle.cb_world.specs.Leaving.{LeavingState}
 use Rattle.cb_world.specs.Merged.{takes}
 use Rattle.cb_world.specs.Sets.{set_in}
+
+-- the configuration allows the code: it is built, and has no more positions than there are nodes
+pub record IsCodeOf (c : Config) (code : Code) : Type 0 where
+  pub range : IsInRange code.k code.r
+  pub places : code.k + code.r ≤ c.nodes
 
 -- the code is the configured one
 abbrev pub IsConfiguredCode : Config → Code → Type 0

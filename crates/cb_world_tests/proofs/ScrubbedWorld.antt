@@ -3,7 +3,7 @@ use Rattle.std.proofs.Common.{ℕ, ◌*◌, ◌^◌, ◌<◌, ◌≤◌, Result,
 use Rattle.std.specs.Prelude.{IfOk}
 use Rattle.cb_member.specs.declared.names.Shard.{Shard}
 use Rattle.cb_node.specs.NodesState.{with_spoiled}
-use Rattle.cb_world.specs.Codes.{IsConfiguredCode}
+use Rattle.cb_world.specs.Codes.{IsCodeOf}
 use Rattle.cb_world.specs.FarState.{FarState}
 use Rattle.cb_world.specs.Sound.{Sound}
 use Rattle.cb_world.specs.World.{WorldState, IsSoundWorld}
@@ -50,7 +50,7 @@ module _ (w : WorldState) (new : FarState) (sound : IsSoundWorld w)
       homes = sound.configured.homes;
       nodes = sound.configured.nodes;
       room = sound.configured.room;
-      codes = have_codes (IsConfiguredCode w.desk.settings) w.far was
+      codes = have_codes (IsCodeOf w.desk.settings) w.far was
           (codes_stay w.far was refl refl refl refl) sound.configured.codes;
     };
     shown = sound.shown;

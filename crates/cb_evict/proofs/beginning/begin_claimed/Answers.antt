@@ -7,7 +7,6 @@ use Rattle.cb_world.specs.declared.leaving.Former.{Former}
 use Rattle.cb_world.specs.declared.shown.Shown.{Shown}
 use Rattle.cb_world.specs.Played.{played}
 use Rattle.cb_world.specs.FarState.{FarState, span_in}
-use Rattle.cb_world.proofs.Laws.{configured_range}
 use Rattle.cb_evict.specs.Claiming.{GivesBack}
 use Rattle.cb_evict.specs.Claims.{AreApart, IsHeldAt}
 use Rattle.cb_evict.specs.Loading.{LiesInOne}
@@ -23,7 +22,7 @@ reserve_frames-requires-clause-config g c = c.requires.config
 
 pub reserve_frames-requires-clause-range : goal.reserve_frames-requires-clause-range
 reserve_frames-requires-clause-range g c =
-    configured_range _ c.args.far.now c.requires.config c.requires.configured.codes
+    c.requires.configured.codes.force.range
 
 pub reserve_frames-requires-clause-count : goal.reserve_frames-requires-clause-count
 reserve_frames-requires-clause-count g c =
@@ -108,7 +107,7 @@ returns-in-Ok-clause-begun g c =
             let all = starts far c.note_batch-set.new.far frames formers
             c.in-Ok.reserved.parities before x.events s
             (are_read far frames formers y.rows c.in-Ok.reserved.parities shows before s
-            (configured_range _ far c.requires.config c.requires.configured.codes) r c.requires.taken y.made y.count x.made).0
+            c.requires.configured.codes.force.range r c.requires.taken y.made y.count x.made).0
             c.requires.none reads is r.steady r.touches in record {
               allowed = (reads.steady (played before s)).allowed;
               rule = all.begun;

@@ -4,7 +4,6 @@ use Rattle.cb_types.specs.declared.config.Config.{Config}
 use Rattle.cb_world.specs.declared.shown.Shown.{Shown}
 use Rattle.cb_world.specs.Played.{played}
 use Rattle.cb_world.specs.FarState.{FarState, span_in}
-use Rattle.cb_world.proofs.Laws.{configured_range}
 use Rattle.cb_evict.specs.Candidates.{AreUnique}
 use Rattle.cb_evict.specs.Loading.{LiesInOne}
 use Rattle.cb_evict.proofs.Events.{are_reads}
@@ -133,7 +132,7 @@ close_spans-requires-clause-busy g c =
 
 pub close_spans-requires-clause-few : goal.close_spans-requires-clause-few
 close_spans-requires-clause-few g c =
-    let range = configured_range _ c.args.far.now c.requires.config c.requires.configured.codes in
+    let range = c.requires.configured.codes.force.range in
     let most = range.data_most in omega (arith, most, c.requires.taken.count)
 
 pub returns-in-Ok-clause-evict : goal.returns-in-Ok-clause-evict
@@ -155,7 +154,7 @@ returns-in-Ok-clause-evict g c =
     let z = y.done.1 (played before s) shown told in
     let read = are_read far frames formers stored.rows kept.parities
     (λ t. g.D.Desk.shows c.args.desk.now t) before s
-    (configured_range _ far c.requires.config c.requires.configured.codes) r c.requires.taken
+    c.requires.configured.codes.force.range r c.requires.taken
     (kept_parities shards frames _ stored.rows stored.chosen.count kept) stored.count x.made in
     let all = ended far c.close_spans.new.far frames formers shards
     stored.rows kept.parities c.close_spans.new.far.homes (LiesInOne frames) _ _ before

@@ -1,29 +1,20 @@
 use Rattle.std.proofs.lemmas.Result.{IfOk-from_err}
 use Rattle.std.proofs.Common.{◌≡◌, ◌+◌, ◌^◌, ◌<◌, List, [], length, All, Some, sym, refl, ap, ◌∙◌, subst, arith}
-use Rattle.cb_gf256.specs.InRange.{IsInRange}
 use Rattle.cb_member.specs.declared.names.Code.{Code}
 use Rattle.cb_member.specs.declared.names.Shard.{Shard}
 use Rattle.cb_span.specs.Contents.{Contents}
-use Rattle.cb_types.specs.declared.config.Config.{Config}
 use Rattle.cb_types.specs.declared.config.Field.TheVariants.{Nodes}
-use Rattle.cb_types.specs.Config.{IsAccepted}
 use Rattle.cb_world.specs.FarState.{FarState, span_in}
-use Rattle.cb_world.specs.World.{IsConfigured}
-use Rattle.cb_world.proofs.Laws.{configured_range}
 use Rattle.cb_evict.specs.Storing.{AreShards, CanPut, HasRoomFor, KeepsSet}
 use Rattle.cb_evict.proofs.Composed.{any_err, if_map, on_err, read_err}
 use Rattle.cb_evict.proofs.NewSet.{can_put, have_room}
 use Rattle.cb_evict.proofs.evicting.store_frames.Goals as goal
 
-range_of : (c : Config) (far : FarState) → IsAccepted c → IsConfigured c far
-    → IsInRange far.code.k far.code.r
-range_of c far ok is = configured_range c far ok is.codes
-
 pub overflow_add-code : goal.overflow_add-code
 overflow_add-code g c =
     let k = ap (λ (n : Code). n.k) c.in_force-code.ensures in
     let r = ap (λ (n : Code). n.r) c.in_force-code.ensures in
-    let range = range_of _ c.args.far.now c.requires.config c.requires.configured in
+    let range = c.requires.configured.codes.force.range in
     let most = range.data_most in let more = range.parities_most in omega (arith, k, r, most, more)
 
 pub choose_shards-requires-clause-counted : goal.choose_shards-requires-clause-counted
@@ -43,7 +34,7 @@ pub choose_shards-requires-clause-keys : goal.choose_shards-requires-clause-keys
 choose_shards-requires-clause-keys g c =
     let k = ap (λ (n : Code). n.k) c.in_force-code.ensures in
     let r = ap (λ (n : Code). n.r) c.in_force-code.ensures in
-    let range = range_of _ c.args.far.now c.requires.config c.requires.configured in
+    let range = c.requires.configured.codes.force.range in
     let most = range.data_most in let more = range.parities_most in let few = c.requires.counts.1 in
     omega (arith, k, r, most, more, few)
 
@@ -60,7 +51,7 @@ returns-in_err-shards-clause-unchanged g c = any_err _ _ refl
 pub spare_rows-requires : goal.spare_rows-requires
 spare_rows-requires g c =
     let k = ap (λ (n : Code). n.k) c.in_force-code.ensures in
-    let range = range_of _ c.args.far.now c.requires.config c.requires.configured in
+    let range = c.requires.configured.codes.force.range in
     let least = range.data_least in omega (arith, k, least)
 
 pub returns-in_err-rows-clause-kept : goal.returns-in_err-rows-clause-kept
@@ -79,7 +70,7 @@ load_frames-requires-clause-count g c = c.in_ok-rows.ensures.count
 
 pub load_frames-requires-clause-few : goal.load_frames-requires-clause-few
 load_frames-requires-clause-few g c =
-    let range = range_of _ c.args.far.now c.requires.config c.requires.configured in
+    let range = c.requires.configured.codes.force.range in
     let most = range.data_most in omega (arith, most, c.requires.count)
 
 pub load_frames-requires-clause-lengths : goal.load_frames-requires-clause-lengths
@@ -107,7 +98,7 @@ keep_set-kept-requires-clause-range g c =
     let many = c.in_ok-shards.ensures.shards.count in
     let k = ap (λ (n : Code). n.k) c.in_force-code.ensures in
     let r = ap (λ (n : Code). n.r) c.in_force-code.ensures in
-    let range = range_of _ c.args.far.now c.requires.config c.requires.configured in record {
+    let range = c.requires.configured.codes.force.range in record {
       data_least = omega (arith, range.data_least, c.requires.count);
       data_most = omega (arith, range.data_most, c.requires.count);
       parities_least = omega (arith, range.parities_least, c.requires.count, same, many, k, r);

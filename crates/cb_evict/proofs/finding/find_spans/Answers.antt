@@ -6,7 +6,6 @@ use Rattle.cb_types.specs.declared.config.Field.TheVariants.{Frames, Nodes}
 use Rattle.cb_types.specs.declared.reply.Reply.TheVariants as answer
 use Rattle.cb_world.specs.Choices.{room_count}
 use Rattle.cb_world.specs.FarState.{FarState, span_in}
-use Rattle.cb_world.proofs.Laws.{configured_range}
 use Rattle.cb_evict.specs.Candidates.{AreUnique, candidates}
 use Rattle.cb_evict.proofs.Composed.{any_err, looks_as, looks_tried}
 use Rattle.cb_evict.proofs.Ending.{place_in}
@@ -63,7 +62,7 @@ returns-then-len-code-clause-found g c =
 
 pub overflow_add-code : goal.overflow_add-code
 overflow_add-code g c =
-    let range = configured_range _ c.args.far.now c.requires.config c.requires.configured.codes in
+    let range = c.requires.configured.codes.force.range in
     let most = range.data_most in let more = range.parities_most in let code = c.in_force-code.ensures in
     let k = ap (λ (x : Code). x.k) code in let r = ap (λ (x : Code). x.r) code in
     omega (arith, most, more, k, r)

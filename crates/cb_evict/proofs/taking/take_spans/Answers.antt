@@ -5,7 +5,6 @@ use Rattle.std.specs.List.{Contains, AllPairs}
 use Rattle.cb_world.specs.declared.event.Event.{Event}
 use Rattle.cb_world.specs.declared.shown.Shown.{Shown}
 use Rattle.cb_world.specs.Played.{played}
-use Rattle.cb_world.proofs.Laws.{configured_range}
 use Rattle.cb_evict.specs.Candidates.{candidates}
 use Rattle.cb_evict.specs.declared.taking.Taken.TheVariants.{Few}
 use Rattle.cb_evict.specs.Finding.{FindsSpans}
@@ -46,7 +45,7 @@ returns-in-Few-clause-error g c = tt
 
 pub claim_first-requires-clause-range : goal.claim_first-requires-clause-range
 claim_first-requires-clause-range g c =
-    configured_range _ c.args.far.now c.requires.config c.requires.configured.codes
+    c.requires.configured.codes.force.range
 
 pub claim_first-requires-clause-sound : goal.claim_first-requires-clause-sound
 claim_first-requires-clause-sound g c =
