@@ -27,10 +27,7 @@ pub(crate) enum Found {
 ///
 /// Each object of each span that may leave is looked at once, and the nodes are counted behind
 /// that. Where there is no memory, nothing was looked at.
-pub(crate) fn find_spans<D: Desk>(
-    desk: &mut D,
-    far: &Far,
-) -> Result<Found, NoMemory>
+pub(crate) fn find_spans<D: Desk>(desk: &mut D, far: &Far) -> Result<Found, NoMemory>
     requires config { IsAccepted (D.settings desk.old) }
     requires configured { IsConfigured (D.settings desk.old) far.now }
     requires sound { (s : Shown) × D.shows desk.old s × Sound s far.now }
