@@ -5,7 +5,7 @@ use Rattle.std.proofs.lemmas.Bool.{agree_below_at, ltb-true}
 use Rattle.std.proofs.Math.Dec.{ltb}
 use Rattle.std.specs.FinMap as map
 use Rattle.cb_class.specs.declared.class.Class.{Class}
-use Rattle.cb_class.specs.Class.{IsClassOf, bytes_of, slots_of, words_of}
+use Rattle.cb_class.specs.Class.{IsClassOf, bytes_of, pages_of, slots_of, words_of}
 use Rattle.cb_frame.specs.FreeFrames.{IsFreeFrame}
 use Rattle.cb_member.specs.Membership.{fresh_members}
 use Rattle.cb_node.specs.NodesState.{empty_nodes}
@@ -106,7 +106,7 @@ are_known = record {
     versioned (suc (suc h)) below = absurd (omega (arith, below))
 
 is_span : IsSpan span
-unfolding slots_of bytes_of
+unfolding slots_of pages_of bytes_of
 is_span = record { in_table = lit< tt; sized = refl }
 
 are_frames : AreFrames far
@@ -213,7 +213,7 @@ taken_without_a_span x = absurd (let z = (x.free 1 (lit< tt)).1 refl in cc)
 slot_too_many : ¬ (AreFrames (record far {
   spans = Some (span_of largest Cold (None ∷ slots_with None (Some 0))) ∷ None ∷ [];
 }))
-unfolding slots_of bytes_of
+unfolding slots_of pages_of bytes_of
 slot_too_many x =
     absurd (let z : 5 ≡ 4 = (x.valid 0 _ refl).sized in omega (arith, z))
 
