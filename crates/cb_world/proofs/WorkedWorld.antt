@@ -9,6 +9,7 @@ use Rattle.cb_class.specs.Class.{IsClassOf, bytes_of, pages_of, slots_of, words_
 use Rattle.cb_frame.specs.FreeFrames.{IsFreeFrame}
 use Rattle.cb_member.specs.Membership.{fresh_members}
 use Rattle.cb_node.specs.NodesState.{empty_nodes}
+use Rattle.cb_types.specs.Config.{most_bytes}
 use Rattle.cb_span.specs.declared.temp.Temp.TheVariants.{Cold}
 use Rattle.cb_span.specs.Contents.{Contents, IsSpan, handle_at, live_count, span_of}
 use Rattle.cb_span.specs.Places.{slot_place}
@@ -77,6 +78,11 @@ class_of_1024 = record {
 second_slot : 128 ≡ slot_place largest 0 1
 unfolding words_of bytes_of
 second_slot = refl
+
+-- an object of the most bytes that one may have fills a slot of the last class
+most_fills : most_bytes ≡ bytes_of largest
+unfolding bytes_of
+most_fills = refl
 
 are_known : AreKnown known far
 are_known = record {
