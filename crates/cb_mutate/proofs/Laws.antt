@@ -2,6 +2,7 @@
 pub use Rattle.cb_mutate.proofs.Bytes.{write_all, write_more, write_none}
 pub use Rattle.cb_mutate.proofs.ChangedObject.{hot_fields, keeps_same}
 pub use Rattle.cb_mutate.proofs.FarFreed.{found_far}
+pub use Rattle.cb_mutate.proofs.Filled.{AreBytesFilled, IsPutInto, filled_all, filled_more}
 pub use Rattle.cb_mutate.proofs.FreeCall.{free_call}
 pub use Rattle.cb_mutate.proofs.FreeStep.{free_step}
 pub use Rattle.cb_mutate.proofs.MakeCall.{make_call}
