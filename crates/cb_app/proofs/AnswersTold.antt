@@ -21,6 +21,7 @@ use Rattle.cb_types.specs.Table.{IsReplyOf}
 use Rattle.cb_script.specs.Form.{FitsMode}
 use Rattle.cb_script.specs.Phrase.{phrase_of}
 use Rattle.cb_script.specs.declared.script.Mode.TheVariants as modes
+use Rattle.cb_world.specs.Codes.{IsConfiguredCode}
 use Rattle.cb_world.specs.declared.event.Event.{Event}
 use Rattle.cb_world.specs.FarState.{FarState}
 use Rattle.cb_world.specs.Played.{played}
@@ -45,6 +46,7 @@ use Rattle.cb_lanes.specs.Asked.{HasLineReply}
 use Rattle.cb_lanes.specs.Lost.{told_loss, losses_of}
 use Rattle.cb_app.specs.Telling.{TellsLost, TellsRoom}
 use Rattle.cb_app.specs.Threaded.{AreLosses}
+use Rattle.cb_app.proofs.TurnHistory.{found_codes}
 use Rattle.cb_app.proofs.CrashesTold.{IsLoss, lost_told, room_told}
 use Rattle.cb_app.proofs.OfLane.{has_either}
 
@@ -180,28 +182,32 @@ room_turn d (Some h) (line.Free name) f l n x = find_turn _ (Some h) _ d.turns x
 room_turn d (Some h) q f l n x = find_turn _ (Some h) _ d.turns x
 
 -- ---- the turn of an eviction
-evict_few : (c : Config) (far new : FarState) (r : Reply) (es : List Event) → EvictRule c far new r es
-    → TellsRoom c r
-evict_few c far new r es a = by a.answered
+evict_few : (c : Config) (far new : FarState) (r : Reply) (es : List Event)
+    → IsConfiguredCode c far.code → EvictRule far new r es → TellsRoom c r
+evict_few c far new r es code a = by a.answered
   where
-    by : HasFewSpans c far new r a.loose ⊎ (HasFewNodes c far new r a.loose
-        ⊎ HasBoth c far new r a.loose es) → TellsRoom c r
-    by (inl x) = subst (TellsRoom c) (sym x.reply) x.few
-    by (inr (inl x)) = subst (TellsRoom c) (sym x.reply) x.few
+    by : HasFewSpans far new r a.loose ⊎ (HasFewNodes far new r a.loose
+        ⊎ HasBoth far new r a.loose es) → TellsRoom c r
+    by (inl x) = subst (TellsRoom c) (sym x.reply)
+        (let n = x.few in let k = code.0 in omega (arith, n, k))
+    by (inr (inl x)) = subst (TellsRoom c) (sym x.reply)
+        (let n = x.few in let k = code.0 in let m = code.1 in omega (arith, n, k, m))
     by (inr (inr x)) = subst (TellsRoom c) (sym x.reply) tt
 
-turned_few : (c : Config) (a b : Holding Slate) (r : Reply)
+turned_few : (c : Config) (a b : Holding Slate) (r : Reply) → IsConfiguredCode c a.far.code
     → Turned slate_run slate_shows ReadsByPin c job.Evict a r b → TellsRoom c r
-turned_few c a b r (worn end e same ran) = subst (TellsRoom c) (sym e) tt
-turned_few c a b r (done few x) = evict_few c (counted a.far job.Evict) b.far r x.events x.rule
+turned_few c a b r code (worn end e same ran) = subst (TellsRoom c) (sym e) tt
+turned_few c a b r code (done few x) =
+    evict_few c (counted a.far job.Evict) b.far r x.events code x.rule
 
 -- a turn that evicts tells so of room
 abbrev TellsEviction : Config → Deed → Type 0
 TellsEviction c d = (r : Reply) → d.job ≡ job.Evict → d.reply ≡ Some r → TellsRoom c r
 
-turn_evicts : (c : Config) (t : Turn) → Did c t → TellsEviction c (deed t)
-turn_evicts c t did r at is = turned_few c (held_by t.start [] t.took)
-    (held_by (played t.acts t.start) t.acts t.gave) r
+turn_evicts : (c : Config) (t : Turn) → IsConfiguredCode c t.took.code → Did c t
+    → TellsEviction c (deed t)
+turn_evicts c t code did r at is = turned_few c (held_by t.start [] t.took)
+    (held_by (played t.acts t.start) t.acts t.gave) r code
     (subst (λ (o : Option Reply). DidAs c job.Evict o t.start t.acts t.took t.gave) is
     (subst (λ (j : Job). DidAs c j t.reply t.start t.acts t.took t.gave) at did))
 
@@ -309,7 +315,8 @@ module _ (first : ℕ) (c : Config) (ok : IsAccepted c) (v : View) (count : ℕ)
   pub answers_room : AllByRecursion HasLineReply answers → AllByRecursion InThreads answers
       → AllByRecursion (λ a. TellsRoom c a.reply) answers
   answers_room replies runs = rooms [] answers replies runs (λ d there. all_evict c v.turns
-      (λ t in_it. turn_evicts c t (one.did t (v, (0, refl), in_it))) d
+      (λ t in_it. turn_evicts c t (found_codes first c v count last one ok t in_it).force
+      (one.did t (v, (0, refl), in_it))) d
       (has_among (newest_first turn_needed (tolds [] answers)) (map deed v.turns) d backs.turned
       there))
       backs.tells

@@ -163,7 +163,7 @@ module _ (first : ℕ) (s : Script) (ok : IsAccepted s.config) (v : View) (count
       let all = roomy.nodes in
       enough_beside c t.start t.took nodes k.sound k.configured
       (found_joins first c ok v count last one t there) (crashed t there)
-      (omega (arith, made, room)) (omega (arith, least, all))
+      (omega (arith, made, room)) (c.k + c.r) (omega (arith, least, all))
 
   no_room : (h : Option ℕ) (q : Request) (frames loose roomy_nodes : ℕ)
       → IsReplyOf q (answer.NoRoom frames loose roomy_nodes)

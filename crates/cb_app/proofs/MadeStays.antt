@@ -88,22 +88,22 @@ filter_same frames h far new r es a = by (state_of a.word) a.word a.answer
     by word.Moving w (e, state) = same far new state
 
 evict_same : (c : Config) (far new : FarState) (r : Reply) (es : List Event)
-    → EvictRule c far new r es → SameMade far new
+    → EvictRule far new r es → SameMade far new
 evict_same c far new r es a = by a.answered
   where
-    by : HasFewSpans c far new r a.loose ⊎ (HasFewNodes c far new r a.loose
-        ⊎ HasBoth c far new r a.loose es) → SameMade far new
+    by : HasFewSpans far new r a.loose ⊎ (HasFewNodes far new r a.loose
+        ⊎ HasBoth far new r a.loose es) → SameMade far new
     by (inl x) = same far new x.state
     by (inr (inl x)) = same far new x.state
     by (inr (inr x)) = ap (λ (f : FarState). f.made) x.evicted.state
 
 begin_same : (c : Config) (far new : FarState) (r : Reply) (es : List Event)
-    → BeginRule c far new r es → SameMade far new
+    → BeginRule far new r es → SameMade far new
 begin_same c far new r es (inl a) = same far new a.state
 begin_same c far new r es (inr a) = by a.answered
   where
-    by : HasFewSpans c far new r a.loose ⊎ (HasFewNodes c far new r a.loose
-        ⊎ HasBatch c far new r a.loose es) → SameMade far new
+    by : HasFewSpans far new r a.loose ⊎ (HasFewNodes far new r a.loose
+        ⊎ HasBatch far new r a.loose es) → SameMade far new
     by (inl x) = same far new x.state
     by (inr (inl x)) = same far new x.state
     by (inr (inr x)) = ap (λ (f : FarState). f.made) x.begun.state

@@ -104,12 +104,12 @@ filter_rule frames h far new r es a = by (state_of a.word) a.word a.answer
     by word.Far w (e, same) = off r answer.NotHere refl e
     by word.Moving w (e, same) = off r answer.Moving refl e
 
-evict_rule : (c : Config) (far new : FarState) (r : Reply) (es : List Event) → EvictRule c far new r es
+evict_rule : (c : Config) (far new : FarState) (r : Reply) (es : List Event) → EvictRule far new r es
     → Unworn r
 evict_rule c far new r es a = by a.answered
   where
-    by : HasFewSpans c far new r a.loose ⊎ (HasFewNodes c far new r a.loose
-        ⊎ HasBoth c far new r a.loose es) → Unworn r
+    by : HasFewSpans far new r a.loose ⊎ (HasFewNodes far new r a.loose
+        ⊎ HasBoth far new r a.loose es) → Unworn r
     by (inl x) = off r _ refl x.reply
     by (inr (inl x)) = off r _ refl x.reply
     by (inr (inr x)) = off r _ refl x.reply

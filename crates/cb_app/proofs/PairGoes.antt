@@ -164,18 +164,18 @@ added_set sets n id new set there = elim (cases_eq id n) [
         ∙ ap (λ (x : Bool). cond x (Some kept) (map.get sets id)) is)
 
 pub evicted_apart : (c : Config) (far new : FarState) (id : SetId) (es : List Event)
-    → EvictRule c far new (answer.Set id) es → AreSetsApart far → AreSetsApart new
+    → EvictRule far new (answer.Set id) es → AreSetsApart far → AreSetsApart new
 evicted_apart c far new id es a apart = by a.answered
   where
-    by : HasFewSpans c far new (answer.Set id) a.loose
-        ⊎ (HasFewNodes c far new (answer.Set id) a.loose
-        ⊎ HasBoth c far new (answer.Set id) a.loose es) → AreSetsApart new
+    by : HasFewSpans far new (answer.Set id) a.loose
+        ⊎ (HasFewNodes far new (answer.Set id) a.loose
+        ⊎ HasBoth far new (answer.Set id) a.loose es) → AreSetsApart new
     by (inl x) = subst AreSetsApart (sym x.state) apart
     by (inr (inl x)) = subst AreSetsApart (sym x.state) apart
     by (inr (inr x)) = λ n set there. elim (added_set far.sets far.counts.sets n
-        (set_for far x.evicted.shards (take c.k a.loose)) set
+        (set_for far x.evicted.shards (take far.code.k a.loose)) set
         (sym (ap (λ (f : FarState). set_in f.sets n) x.evicted.state) ∙ there)) [
           | inl is ↦ subst (λ (s : SetState). OnDistinctNodes s.shards) is
-              (chosen_apart far (c.k + c.r) x.evicted.shards x.evicted.chosen)
+              (chosen_apart far (far.code.k + far.code.r) x.evicted.shards x.evicted.chosen)
           | inr before ↦ apart n set before
         ]

@@ -175,22 +175,22 @@ filter_plain frames h far new r es a = by (state_of a.word) a.word a.answer
 
 -- ---- evictions
 pub evict_plain : (c : Config) (far new : FarState) (r : Reply) (es : List Event)
-    → EvictRule c far new r es → StaysPlain far new r
+    → EvictRule far new r es → StaysPlain far new r
 evict_plain c far new r es a = by a.answered
   where
-    by : HasFewSpans c far new r a.loose ⊎ (HasFewNodes c far new r a.loose
-        ⊎ HasBoth c far new r a.loose es) → StaysPlain far new r
+    by : HasFewSpans far new r a.loose ⊎ (HasFewNodes far new r a.loose
+        ⊎ HasBoth far new r a.loose es) → StaysPlain far new r
     by (inl x) = stays far new r _ refl x.reply x.state
     by (inr (inl x)) = stays far new r _ refl x.reply x.state
     by (inr (inr x)) = comes far new _ r _ refl x.reply x.evicted.state refl
 
 pub begin_plain : (c : Config) (far new : FarState) (r : Reply) (es : List Event)
-    → BeginRule c far new r es → StaysPlain far new r
+    → BeginRule far new r es → StaysPlain far new r
 begin_plain c far new r es (inl a) = stays far new r _ refl a.reply a.state
 begin_plain c far new r es (inr a) = by a.answered
   where
-    by : HasFewSpans c far new r a.loose ⊎ (HasFewNodes c far new r a.loose
-        ⊎ HasBatch c far new r a.loose es) → StaysPlain far new r
+    by : HasFewSpans far new r a.loose ⊎ (HasFewNodes far new r a.loose
+        ⊎ HasBatch far new r a.loose es) → StaysPlain far new r
     by (inl x) = stays far new r _ refl x.reply x.state
     by (inr (inl x)) = stays far new r _ refl x.reply x.state
     by (inr (inr x)) = comes far new _ r _ refl x.reply x.begun.state refl

@@ -26,8 +26,9 @@ use Rattle.cb_world.specs.declared.shown.Shown.{Shown}
 use Rattle.cb_world.specs.Choices.{room_count}
 use Rattle.cb_world.specs.FarState.{FarState}
 use Rattle.cb_world.specs.SetWord.{is_broken}
+use Rattle.cb_world.specs.Codes.{HaveCodes, IsConfiguredCode}
 use Rattle.cb_world.specs.World.{IsConfigured}
-use Rattle.cb_world.proofs.Laws.{recounted}
+use Rattle.cb_world.proofs.Laws.{codes_stay, have_codes, recounted}
 use Rattle.cb_evict.specs.declared.eviction.Eviction.TheVariants.{Refused, Set}
 use Rattle.cb_evict.specs.declared.eviction.Lack.{Lack}
 use Rattle.cb_evict.specs.declared.eviction.Lack.TheVariants as lack
@@ -70,24 +71,30 @@ plain_tells c far (answer.Unavailable set losses) plain = absurd (false≢true (
 plain_tells c far (answer.NoRoom frames loose nodes) plain = absurd (false≢true (sym plain))
 plain_tells c far r plain = tt
 
--- a far state as it is configured, whose sets stand on different nodes
+-- a far state as it is configured, all of whose codes are the configured one, and whose sets stand on
+-- different nodes
 pub record IsFine (c : Config) (far : FarState) : Type 0 where
   pub configured : IsConfigured c far
+  pub codes : HaveCodes (IsConfiguredCode c) far
   pub apart : AreSetsApart far
 
 pub fine_counted : (c : Config) (far : FarState) (j : Job) → IsFine c far → IsFine c (counted far j)
 fine_counted c far j fine = record {
   configured = recounted c far (counted far j).counts fine.configured;
+  codes = have_codes (IsConfiguredCode c) far (counted far j)
+      (codes_stay far (counted far j) refl refl refl refl) fine.codes;
   apart = fine.apart;
 }
 
 -- an eviction leaves it so
 fine_evicted : (c : Config) (far new : FarState) (id : SetId) (es : List Event) → IsAccepted c
-    → EvictRule c far new (answer.Set id) es → IsFine c far → IsFine c new
-fine_evicted c far new id es accepted rule fine = record {
-  configured = (evict_stays c far new (answer.Set id) es accepted rule fine.configured).configured;
-  apart = evicted_apart c far new id es rule fine.apart;
-}
+    → EvictRule far new (answer.Set id) es → IsFine c far → IsFine c new
+fine_evicted c far new id es accepted rule fine =
+    let z = evict_stays c far new (answer.Set id) es accepted rule fine.configured in record {
+      configured = z.configured;
+      codes = have_codes (IsConfiguredCode c) far new z.codes fine.codes;
+      apart = evicted_apart c far new id es rule fine.apart;
+    }
 
 -- the epoch that a turn of this job tells, where its node crashed or joined
 abbrev pub epochs_in : Job → Option Reply → List ℕ
@@ -178,28 +185,29 @@ swap_keeps c id p first far new r es fine same x = record {
     many : is_broken far.members x.set ≡ true → c.r < length (lost far.members x.set.shards)
     many broken =
         let more = ltb-true (parities x.set) (length (lost far.members x.set.shards)) broken in
-        let code = (fine.configured.codes.sets id x.set x.there).1 in omega (arith, more, code)
+        let code = (fine.codes.sets id x.set x.there).1 in omega (arith, more, code)
 
 -- a refusal of an eviction tells which of the two there was too little of
 too_few : (c : Config) (far new : FarState) (why : Lack) (loose nodes : ℕ) (es : List Event)
-    → CountsRule c far new (Refused why loose nodes) es → (loose < c.k) ⊎ (nodes < c.k + c.r)
-too_few c far new lack.Spans loose nodes es x = by x.rule.answered
+    → IsConfiguredCode c far.code → CountsRule far new (Refused why loose nodes) es → (loose < c.k) ⊎ (nodes < c.k + c.r)
+too_few c far new lack.Spans loose nodes es code x = by x.rule.answered
   where
-    by : HasFewSpans c far new (answer.NoSpans loose) x.rule.loose
-        ⊎ (HasFewNodes c far new (answer.NoSpans loose) x.rule.loose
-        ⊎ HasBoth c far new (answer.NoSpans loose) x.rule.loose es)
+    by : HasFewSpans far new (answer.NoSpans loose) x.rule.loose
+        ⊎ (HasFewNodes far new (answer.NoSpans loose) x.rule.loose
+        ⊎ HasBoth far new (answer.NoSpans loose) x.rule.loose es)
         → (loose < c.k) ⊎ (nodes < c.k + c.r)
-    by (inl few) = inl (let n = x.counts.0 in let f = few.few in omega (arith, n, f))
+    by (inl few) = inl (let n = x.counts.0 in let f = few.few in let k = code.0 in omega (arith, n, f, k))
     by (inr (inl few)) = absurd (let e = few.reply in cc)
     by (inr (inr both)) = absurd (let e = both.reply in cc)
-too_few c far new lack.Nodes loose nodes es x = by x.rule.answered
+too_few c far new lack.Nodes loose nodes es code x = by x.rule.answered
   where
-    by : HasFewSpans c far new (answer.NoNodes nodes) x.rule.loose
-        ⊎ (HasFewNodes c far new (answer.NoNodes nodes) x.rule.loose
-        ⊎ HasBoth c far new (answer.NoNodes nodes) x.rule.loose es)
+    by : HasFewSpans far new (answer.NoNodes nodes) x.rule.loose
+        ⊎ (HasFewNodes far new (answer.NoNodes nodes) x.rule.loose
+        ⊎ HasBoth far new (answer.NoNodes nodes) x.rule.loose es)
         → (loose < c.k) ⊎ (nodes < c.k + c.r)
     by (inl few) = absurd (let e = few.reply in cc)
-    by (inr (inl few)) = inr (let n = x.counts.1 in let f = few.few in omega (arith, n, f))
+    by (inr (inl few)) = inr (let n = x.counts.1 in let f = few.few in
+        let k = code.0 in let r = code.1 in omega (arith, n, f, k, r))
     by (inr (inr both)) = absurd (let e = both.reply in cc)
 
 -- ---- jobs at the far state alone
@@ -282,14 +290,16 @@ module _ {D : Type 0} (run : D → List Event → D → Type 0) (shows : D → S
     (evict_plain c m.far n.far (answer.Set id) x.events x.rule.rule).stands,
   )
 
-  room_lacks : (a m b : Hold) (why : Lack) (loose nodes : ℕ) (r : Reply) → m.far ≡ a.far
-      → WinsRoom run shows c m (Refused why loose nodes) b → r ≡ answer.NoRoom c.frames loose nodes
+  room_lacks : (a m b : Hold) (why : Lack) (loose nodes : ℕ) (r : Reply) → IsFine c a.far
+      → m.far ≡ a.far → WinsRoom run shows c m (Refused why loose nodes) b → r ≡ answer.NoRoom c.frames loose nodes
       → StandsAndTells c a.far b.far r
-  room_lacks a m b why loose nodes r same x is = keeps_behind c a.far m.far b.far r same (record {
+  room_lacks a m b why loose nodes r fine same x is = keeps_behind c a.far m.far b.far r same (record {
     stands = (evict_plain c m.far b.far _ x.events x.rule.rule).stands;
     tells = subst (TellsWant c m.far) (sym is) (record {
       frames_are = refl;
-      few = too_few c m.far b.far why loose nodes x.events x.rule;
+      few = too_few c m.far b.far why loose nodes x.events
+          (subst (λ (f : FarState). IsConfiguredCode c f.code) (sym same) fine.codes.force)
+          x.rule;
       counted = x.rule.counts.1;
     });
   })
@@ -299,7 +309,7 @@ module _ {D : Type 0} (run : D → List Event → D → Type 0) (shows : D → S
   bring_keeps h a b r fine (at_once (home, at, x) never) =
       swap_keeps c home.set home.position a.far a.far b.far r x.events fine refl x.rule
   bring_keeps h a b r fine (no_room m why loose nodes (home, at, x) evict e) =
-      room_lacks a m b why loose nodes r x.rule.state.0 evict e
+      room_lacks a m b why loose nodes r fine x.rule.state.0 evict e
   bring_keeps h a b r fine (won m n id (home, at, x) evict (home', at', y) never) =
       let same : m.far ≡ a.far = x.rule.state.0 in
       let w = room_won m n id (subst (IsFine c) (sym same) fine) evict in
@@ -328,7 +338,7 @@ module _ {D : Type 0} (run : D → List Event → D → Type 0) (shows : D → S
   make_keeps bytes a b r is (at_once x never) =
       plain_keeps c a.far b.far r (make_plain c.handles bytes a.far b.far r x.events x.rule)
   make_keeps bytes a b r is (no_room m why loose nodes x evict e) =
-      room_lacks a m b why loose nodes r x.rule.2.0 evict e
+      room_lacks a m b why loose nodes r is x.rule.2.0 evict e
   make_keeps bytes a b r is (won m n id x evict y never) =
       let same : m.far ≡ a.far = x.rule.2.0 in
       let w = room_won m n id (subst (IsFine c) (sym same) is) evict in

@@ -6,11 +6,16 @@ use Rattle.cb_types.specs.Config.{IsAccepted}
 use Rattle.cb_types.specs.declared.job.Job.{Job}
 use Rattle.cb_types.specs.declared.reply.Reply.{Reply}
 use Rattle.cb_types.specs.declared.reply.Reply.TheVariants as answer
+use Rattle.cb_world.specs.Codes.{HaveCodes, IsConfiguredCode}
+use Rattle.cb_world.specs.KeepCodes.{KeepCodes}
+use Rattle.cb_world.proofs.Laws.{empty_codes, have_codes}
 use Rattle.cb_world.specs.declared.event.Event.{Event}
 use Rattle.cb_world.specs.declared.shown.Shown.{Shown}
 use Rattle.cb_world.specs.Empty.{empty_far}
 use Rattle.cb_world.specs.FarState.{FarState}
 use Rattle.cb_world.specs.Played.{played}
+use Rattle.cb_world.specs.Sound.{Sound}
+use Rattle.cb_world.specs.World.{IsConfigured}
 use Rattle.cb_core.specs.Parts.{Holding}
 use Rattle.cb_core.specs.Turned.{counted}
 use Rattle.cb_rule.specs.declared.turn.Turn.{Turn}
@@ -20,9 +25,10 @@ use Rattle.cb_rule.specs.Locking.{Stood, is_turn, turn_number}
 use Rattle.cb_rule.specs.OneHistory.{HasTurnNumber, IsOneHistory, Made}
 use Rattle.cb_rule.proofs.Laws.{by_case}
 use Rattle.cb_shared.specs.Turning.{Did, DidAs, held_by, IsReadReply, PinLacks, ReadsByPin, Slate, slate_run, slate_shows}
-use Rattle.cb_app.proofs.PairGoes.{PairGoes, pair_stays}
+use Rattle.cb_app.proofs.PairGoes.{AreSetsApart, PairGoes, pair_stays}
 use Rattle.cb_app.proofs.PlainReplies.{StandsAs, TellsNoLack, joining_of, members_of}
 use Rattle.cb_app.proofs.TurnGoes.{IsFine, MembersGoOn, TellsWant, fine_counted, none_told, stays_on, turned_goes}
+use Rattle.cb_app.proofs.TurnKinds.{stopped_codes, turned_codes}
 use Rattle.cb_app.proofs.TurnStops.{stops_same}
 
 -- ---- one turn
@@ -67,11 +73,29 @@ did_goes c ok j None start es took gave is did =
       tt,
     )
 
--- a far state that a turn took is sound
-pub fine_of : (c : Config) (k : Shown) (far : FarState) → Stood c k far → IsFine c far
-fine_of c k far stood = record {
+-- it makes no other code
+did_codes : (c : Config) → IsAccepted c → (j : Job) (reply : Option Reply) (start : Shown)
+    (es : List Event) (took gave : FarState) → IsConfigured c took → Sound start took
+    → DidAs c j reply start es took gave → KeepCodes took gave
+did_codes c ok j (Some r) start es took gave is sound did =
+    turned_codes slate_run slate_shows c ok start ReadsByPin pins_same PinLacks lacks_same j
+    (held_by start [] took) (held_by (played es start) es gave) r is sound did
+did_codes c ok j None start es took gave is sound did =
+    stopped_codes slate_run slate_shows c ok start ReadsByPin pins_same PinLacks lacks_same j
+    (held_by start [] took) (held_by (played es start) es gave) is did
+
+-- the sets of a sound far state stand on different nodes
+pub sets_apart : (c : Config) (k : Shown) (far : FarState) → Stood c k far → AreSetsApart far
+sets_apart c k far stood id set there =
+    (stood.sound.away.sound.sets.shaped id set there).distinct
+
+-- a far state that a turn took is sound, and where all codes are the configured one it is fine
+pub fine_of : (c : Config) (k : Shown) (far : FarState) → Stood c k far
+    → HaveCodes (IsConfiguredCode c) far → IsFine c far
+fine_of c k far stood codes = record {
   configured = stood.configured;
-  apart = λ id set there. (stood.sound.away.sound.sets.shaped id set there).distinct;
+  codes = codes;
+  apart = sets_apart c k far stood;
 }
 
 pub turn_goes : (c : Config) → IsAccepted c → (t : Turn) → IsFine c t.took → Did c t → TurnGoes c t
@@ -104,11 +128,6 @@ module _ (first : ℕ) (c : Config) (v : View) (count : ℕ) (last : FarState)
       let e = lone k below in
       let z = has_times (is_turn k) v.turns (omega (arith, e)) in
       (z.0, z.1, eqb-true (turn_number z.0) k z.2)
-
-  pub each_goes : IsAccepted c → (t : Turn) → Has t v.turns → TurnGoes c t
-  each_goes ok t there =
-      turn_goes c ok t (fine_of c t.start t.took (one.sound t (made t there)))
-      (one.did t (made t there))
 
   pub number_of : (t : Turn) → Has t v.turns → HasTurnNumber count t
   number_of t there = one.numbers t (made t there)
@@ -158,3 +177,27 @@ module _ (first : ℕ) (c : Config) (v : View) (count : ℕ) (last : FarState)
 
     pub at_last : P count last
     at_last = let z = reached count (omega arith) in subst (P count) (z.end refl) z.holds
+
+  -- all codes are the configured one
+  abbrev Codes : ℕ → FarState → Type 0
+  Codes n far = HaveCodes (IsConfiguredCode c) far
+
+  codes_start : Codes 0 (empty_far first c)
+  codes_start = empty_codes (IsConfiguredCode c) first c (refl, refl)
+
+  codes_step : IsAccepted c → (t : Turn) → Has t v.turns → turn_number t < count
+      → Codes (turn_number t) t.took → Codes (suc (turn_number t)) t.gave
+  codes_step ok t there low before =
+      let stood = one.sound t (made t there) in
+      have_codes (IsConfiguredCode c) t.took t.gave
+      (did_codes c ok t.job t.reply t.start t.acts t.took t.gave stood.configured stood.sound
+      (one.did t (made t there))) before
+
+  pub found_codes : IsAccepted c → (t : Turn) → Has t v.turns
+      → HaveCodes (IsConfiguredCode c) t.took
+  found_codes ok t there = at_turn Codes codes_start (codes_step ok) t there
+
+  pub each_goes : IsAccepted c → (t : Turn) → Has t v.turns → TurnGoes c t
+  each_goes ok t there =
+      turn_goes c ok t (fine_of c t.start t.took (one.sound t (made t there)) (found_codes ok t there))
+      (one.did t (made t there))

@@ -1,18 +1,19 @@
 -- The laws of the table that the crates above cite.
-use Rattle.std.proofs.Common.{◌≡◌, ℕ, ◌+◌, ◌*◌, ◌/◌, ◌<◌, ◌≤◌, ap, arith, inl, inr, mul-le-mul_left}
-use Rattle.std.proofs.lemmas.Bool.{cases_order}
+use Rattle.std.proofs.Common.{◌≡◌, ◌⊎◌, ℕ, ◌+◌, ◌*◌, ◌/◌, ◌<◌, ◌≤◌, true, eqb, eqb-true, ap, sym, subst, ◌∙◌, refl, arith, inl, inr, mul-le-mul_left}
+use Rattle.std.proofs.Math.Nat.{div-mul-le_self}
+use Rattle.std.proofs.lemmas.Bool.{agree_below, agree_below_at, cases_order}
 use Rattle.std.proofs.lemmas.Nat.{le-div, row_fits}
 use Rattle.cb_class.specs.declared.class.Class.{Class}
-use Rattle.cb_class.specs.Class.{IsClass, IsClassOf, bytes_of, slots_of, words_of}
-use Rattle.cb_class.proofs.Table.{at_least_16, at_most_1024, whole_words, sizes_grow, counts_shrink}
+use Rattle.cb_class.specs.Class.{IsClass, IsClassOf, bytes_of, largest, pages_of, slots_of, words_of}
+use Rattle.cb_class.proofs.Table.{at_least_16, at_most_largest, few_pages, four_fit, page_at, places_told, sizes_grow, slots_are_few, whole_words}
 
 pub bytes_at_least : (c : Class) → IsClass c → 16 ≤ bytes_of c
 unfolding bytes_of
 bytes_at_least c h = at_least_16 c.index h
 
-pub bytes_at_most : (c : Class) → IsClass c → bytes_of c ≤ 1024
+pub bytes_at_most : (c : Class) → IsClass c → bytes_of c ≤ largest
 unfolding bytes_of
-bytes_at_most c h = at_most_1024 c.index h
+bytes_at_most c h = at_most_largest c.index h
 
 -- a class of greater index has greater slots
 pub bytes_grow : (a b : Class) → a.index < b.index → IsClass b → bytes_of a < bytes_of b
@@ -28,56 +29,86 @@ words_fill c h = omega (arith, whole_words c.index h)
 pub words_at_least : (c : Class) → IsClass c → 2 ≤ words_of c
 words_at_least c h = omega (arith, words_fill c h, bytes_at_least c h)
 
--- the slots of a span lie within its bytes
-pub slots_fit : (c : Class) → slots_of c * bytes_of c ≤ 4096
+-- the pages of a span are 1, 2 or 4
+pub pages_known : (c : Class) → IsClass c → (pages_of c ≡ 1) ⊎ ((pages_of c ≡ 2) ⊎ (pages_of c ≡ 4))
+unfolding pages_of
+pages_known c h = few_pages c.index h
+
+pub pages_some : (c : Class) → IsClass c → 1 ≤ pages_of c
+pages_some c h = some (pages_known c h)
+  where
+    some : {n : ℕ} → (n ≡ 1) ⊎ ((n ≡ 2) ⊎ (n ≡ 4)) → 1 ≤ n
+    some (inl e) = omega (arith, e)
+    some (inr (inl e)) = omega (arith, e)
+    some (inr (inr e)) = omega (arith, e)
+
+pub pages_few : (c : Class) → IsClass c → pages_of c ≤ 4
+pages_few c h = few (pages_known c h)
+  where
+    few : {n : ℕ} → (n ≡ 1) ⊎ ((n ≡ 2) ⊎ (n ≡ 4)) → n ≤ 4
+    few (inl e) = omega (arith, e)
+    few (inr (inl e)) = omega (arith, e)
+    few (inr (inr e)) = omega (arith, e)
+
+-- the slots of a span lie within the bytes of its pages
+pub slots_fit : (c : Class) → slots_of c * bytes_of c ≤ 4096 * pages_of c
 unfolding slots_of
-slots_fit c = omega arith
+slots_fit c = div-mul-le_self (4096 * pages_of c) (bytes_of c)
 
 -- one slot more would not
-pub slots_fill : (c : Class) → IsClass c → 4096 < slots_of c * bytes_of c + bytes_of c
+pub slots_fill : (c : Class) → IsClass c
+    → 4096 * pages_of c < slots_of c * bytes_of c + bytes_of c
 unfolding slots_of
-slots_fill c h = omega (arith, bytes_at_least c h)
+slots_fill c h = behind (4096 * pages_of c) (bytes_of c) (omega (arith, bytes_at_least c h))
+  where
+    behind : (n d : ℕ) → 1 ≤ d → n < n / d * d + d
+    behind n d some = omega (arith, some)
 
 pub slots_at_least : (c : Class) → IsClass c → 4 ≤ slots_of c
-unfolding slots_of
+unfolding slots_of pages_of bytes_of
 slots_at_least c h =
-    le-div 4 4096 (bytes_of c) (omega (arith, bytes_at_least c h))
-    (omega (arith, bytes_at_most c h))
+    le-div 4 (4096 * pages_of c) (bytes_of c) (omega (arith, at_least_16 c.index h))
+    (omega (arith, four_fit c.index h))
+
+-- 256 slots fill no less than a span's pages
+room_for_256 : (c : Class) → IsClass c → 16 * pages_of c ≤ bytes_of c
+unfolding pages_of bytes_of
+room_for_256 c h = slots_are_few c.index h
 
 pub slots_at_most : (c : Class) → IsClass c → slots_of c ≤ 256
 slots_at_most c h =
-    let fewer = mul-le-mul_left (slots_of c) (bytes_at_least c h) in
-    omega (arith, fewer, slots_fit c)
+    let room : 16 * pages_of c ≤ bytes_of c = room_for_256 c h in
+    let fewer = mul-le-mul_left (slots_of c) room in
+    at_most (slots_of c) (pages_of c) (pages_known c h) (omega (arith, fewer, slots_fit c))
+  where
+    at_most : (n p : ℕ) → (p ≡ 1) ⊎ ((p ≡ 2) ⊎ (p ≡ 4)) → n * (16 * p) ≤ 4096 * p → n ≤ 256
+    at_most n p (inl e) h = omega (arith, (subst (λ q. n * (16 * q) ≤ 4096 * q) e h))
+    at_most n p (inr (inl e)) h = omega (arith, (subst (λ q. n * (16 * q) ≤ 4096 * q) e h))
+    at_most n p (inr (inr e)) h = omega (arith, (subst (λ q. n * (16 * q) ≤ 4096 * q) e h))
 
--- a class of greater index has fewer slots
-pub slots_shrink : (a b : Class) → a.index < b.index → IsClass b → slots_of b < slots_of a
-unfolding slots_of bytes_of
-slots_shrink a b h known = counts_shrink a.index b.index h known
+-- classes of as many pages and as many slots are one, so a span's pages and the length of its slot
+-- table tell its class
+pub pages_and_slots_tell_class : (a b : Class) → IsClass a → IsClass b → pages_of a ≡ pages_of b
+    → slots_of a ≡ slots_of b → a ≡ b
+unfolding slots_of pages_of bytes_of
+pages_and_slots_tell_class a b in_a in_b pages counts =
+    ap (λ (i : ℕ). let c : Class = record { index = i } in c)
+    (places_told a.index b.index in_a in_b pages counts)
 
--- classes with as many slots are one, so a slot table's length tells its class
-pub slots_tell_class : (a b : Class) → IsClass a → IsClass b → slots_of a ≡ slots_of b → a ≡ b
-slots_tell_class a b in_a in_b same =
-    elim (cases_order a.index b.index) [
-      | inl equal ↦ ap (λ (i : ℕ). let c : Class = record { index = i } in c) equal
-      | inr apart ↦ elim apart [
-        | inl less ↦ absurd (omega (arith, slots_shrink a b less in_b, same))
-        | inr more ↦ absurd (omega (arith, slots_shrink b a more in_a, same))
-      ]
-    ]
+-- the words of all slots lie within the 512 words of each of a span's pages
+pub slots_in_run : (c : Class) → IsClass c → slots_of c * words_of c ≤ 512 * pages_of c
+slots_in_run c h =
+    let bytes : slots_of c * (words_of c * 8) ≤ 4096 * pages_of c =
+    rw (words_fill c h) (slots_fit c) in
+    omega (arith, bytes)
 
--- the words of all slots lie within the 512 words of a frame
-pub slot_words_fit : (c : Class) → IsClass c → slots_of c * words_of c ≤ 512
-slot_words_fit c h =
-    let bytes : slots_of c * (words_of c * 8) ≤ 4096 = rw (words_fill c h) (slots_fit c) in
-    omega arith
-
--- a slot ends within its frame
-pub slot_within : (c : Class) (slot : ℕ) → IsClass c → slot < slots_of c
-    → slot * words_of c + words_of c ≤ 512
-slot_within c slot h within =
+-- a slot ends within the frames of its span
+pub slot_in_run : (c : Class) (slot : ℕ) → IsClass c → slot < slots_of c
+    → slot * words_of c + words_of c ≤ 512 * pages_of c
+slot_in_run c slot h within =
     let ends : slot * words_of c + words_of c ≤ slots_of c * words_of c =
     row_fits slot (words_of c) (slots_of c) (words_of c) within (omega arith) in
-    omega (arith, slot_words_fit c h)
+    omega (arith, slots_in_run c h, ends)
 
 -- slots of one span do not overlap
 pub slots_apart : (c : Class) (s t : ℕ) → s < t
@@ -98,3 +129,22 @@ IsClassOf-unique len a b p q =
         | inr more ↦ absurd (omega (arith, p.least b more, q.holds))
       ]
     ]
+
+-- ---- Every span has one page today. Who places spans by these laws has to go over to those above
+-- before a class of more pages can stand in the table.
+one_page : (c : Class) → IsClass c → pages_of c ≡ 1
+unfolding pages_of
+one_page c h =
+    let test = λ (k : ℕ). eqb (page_at k) 1 in
+    let all : agree_below test (λ _. true) 12 ≡ true = refl in
+    eqb-true _ _ (agree_below_at test (λ _. true) 12 c.index all h)
+
+-- classes with as many slots are one
+pub slots_tell_class : (a b : Class) → IsClass a → IsClass b → slots_of a ≡ slots_of b → a ≡ b
+slots_tell_class a b in_a in_b same =
+    pages_and_slots_tell_class a b in_a in_b (one_page a in_a ∙ sym (one_page b in_b)) same
+
+-- a slot ends within its frame
+pub slot_within : (c : Class) (slot : ℕ) → IsClass c → slot < slots_of c
+    → slot * words_of c + words_of c ≤ 512
+slot_within c slot h within = omega (arith, slot_in_run c slot h within, one_page c h)

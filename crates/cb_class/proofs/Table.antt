@@ -1,9 +1,9 @@
--- Facts of the table of sizes by index: each is computed over its twelve places.
-use Rattle.std.proofs.Common.{◌≡◌, ℕ, zero, suc, inl, inr, ◌*◌, ◌/◌, ◌<◌, ◌≤◌, Bool, true, ltb, leb, eqb, get_or, refl, arith}
+-- Facts of the tables of sizes and of pages by index: each is computed over its twelve places.
+use Rattle.std.proofs.Common.{◌≡◌, ℕ, zero, suc, inl, inr, ◌⊎◌, ◌*◌, ◌/◌, ◌<◌, ◌≤◌, ◌||◌, ◌&&◌, not, Bool, true, false, ltb, leb, eqb, get_or, refl, ap, sym, ◌∙◌, arith}
 use Rattle.std.specs.List.Sorted.{IsNonDecreasingBy}
-use Rattle.std.proofs.lemmas.Bool.{agree_below, agree_below_at, cases_lt, ltb-true, leb-true, eqb-true}
+use Rattle.std.proofs.lemmas.Bool.{agree_below, agree_below_at, cases_eq, cases_lt, eq-eqb, false≢true, ltb-true, leb-true, eqb-true, ne_eqb}
 use Rattle.std.proofs.lemmas.List.{get_or_default}
-use Rattle.cb_class.specs.Class.{sizes}
+use Rattle.cb_class.specs.Class.{largest, page_counts, sizes}
 
 -- the size at an index
 abbrev pub size_at : ℕ → ℕ
@@ -19,9 +19,9 @@ at_least_16 i h =
     let all : Passes test 12 = refl in
     leb-true _ _ (agree_below_at test (λ _. true) 12 i all h)
 
-pub at_most_1024 : (i : ℕ) → i < 12 → size_at i ≤ 1024
-at_most_1024 i h =
-    let test = λ (k : ℕ). leb (size_at k) 1024 in
+pub at_most_largest : (i : ℕ) → i < 12 → size_at i ≤ largest
+at_most_largest i h =
+    let test = λ (k : ℕ). leb (size_at k) largest in
     let all : Passes test 12 = refl in
     leb-true _ _ (agree_below_at test (λ _. true) 12 i all h)
 
@@ -55,20 +55,62 @@ sizes_ascend i j d low high =
       | inr h ↦ let same : i ≡ j = omega arith in rw same (omega arith)
     ])
 
-step_shrinks : (i : ℕ) → i < 11 → 4096 / size_at (suc i) < 4096 / size_at i
-step_shrinks i h =
-    let test = λ (k : ℕ). ltb (4096 / size_at (suc k)) (4096 / size_at k) in
-    let all : Passes test 11 = refl in
-    ltb-true _ _ (agree_below_at test (λ _. true) 11 i all h)
+-- the pages at an index
+abbrev pub page_at : ℕ → ℕ
+page_at i = get_or page_counts i 0
 
--- of a greater size fewer fit
-pub counts_shrink : (i j : ℕ) → i < j → j < 12 → 4096 / size_at j < 4096 / size_at i
-counts_shrink i zero low high = absurd (omega arith)
-counts_shrink i (suc j) low high =
-    let step : 4096 / size_at (suc j) < 4096 / size_at j = step_shrinks j (omega arith) in
-    elim (cases_lt i j) [
-      | inl h ↦
-          let before : 4096 / size_at j < 4096 / size_at i = counts_shrink i j h (omega arith) in
-          omega (arith, step, before)
-      | inr h ↦ let same : i ≡ j = omega arith in rw same step
+known_pages : (n : ℕ) → (eqb n 1 || (eqb n 2 || eqb n 4)) ≡ true
+    → (n ≡ 1) ⊎ ((n ≡ 2) ⊎ (n ≡ 4))
+known_pages n e = elim (cases_eq n 1) [
+  | inl one ↦ inl one
+  | inr no_one ↦ inr (elim (cases_eq n 2) [
+    | inl two ↦ inl two
+    | inr no_two ↦ inr (eqb-true n 4 (sym (
+        ap (λ b. b || (eqb n 2 || eqb n 4)) (ne_eqb n 1 no_one)
+        ∙ ap (λ b. false || (b || eqb n 4)) (ne_eqb n 2 no_two)) ∙ e))
+  ])
+]
+
+-- a span has 1, 2 or 4 pages
+pub few_pages : (i : ℕ) → i < 12 → (page_at i ≡ 1) ⊎ ((page_at i ≡ 2) ⊎ (page_at i ≡ 4))
+few_pages i h =
+    let test = λ (k : ℕ). (eqb (page_at k) 1 || (eqb (page_at k) 2 || eqb (page_at k) 4)) in
+    let all : Passes test 12 = refl in
+    known_pages (page_at i) (agree_below_at test (λ _. true) 12 i all h)
+
+-- four slots fill no more than a span's pages
+pub four_fit : (i : ℕ) → i < 12 → size_at i ≤ 1024 * page_at i
+four_fit i h =
+    let test = λ (k : ℕ). leb (size_at k) (1024 * page_at k) in
+    let all : Passes test 12 = refl in
+    leb-true _ _ (agree_below_at test (λ _. true) 12 i all h)
+
+-- and 256 slots no less
+pub slots_are_few : (i : ℕ) → i < 12 → 16 * page_at i ≤ size_at i
+slots_are_few i h =
+    let test = λ (k : ℕ). leb (16 * page_at k) (size_at k) in
+    let all : Passes test 12 = refl in
+    leb-true _ _ (agree_below_at test (λ _. true) 12 i all h)
+
+-- the slots of a span at an index
+abbrev pub count_at : ℕ → ℕ
+count_at i = 4096 * page_at i / size_at i
+
+-- at two places the pages or the counts of slots differ
+abbrev tells : ℕ → ℕ → Bool
+tells i j = eqb i j || not (eqb (page_at i) (page_at j) && eqb (count_at i) (count_at j))
+
+pub places_told : (i j : ℕ) → i < 12 → j < 12 → page_at i ≡ page_at j → count_at i ≡ count_at j → i ≡ j
+places_told i j low high pages counts =
+    let row = λ (k : ℕ). agree_below (tells k) (λ _. true) 12 in
+    let all : Passes row 12 = refl in
+    let told : tells i j ≡ true =
+    agree_below_at (tells i) (λ _. true) 12 j (agree_below_at row (λ _. true) 12 i all low) high in
+    elim (cases_eq i j) [
+      | inl same ↦ same
+      | inr apart ↦ absurd (false≢true (sym (
+          ap (λ b. b || not (eqb (page_at i) (page_at j) && eqb (count_at i) (count_at j)))
+          (ne_eqb i j apart)
+          ∙ ap (λ b. false || not (b && eqb (count_at i) (count_at j))) (eq-eqb _ _ pages)
+          ∙ ap (λ b. false || not (true && b)) (eq-eqb _ _ counts)) ∙ told))
     ]

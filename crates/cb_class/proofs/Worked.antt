@@ -1,7 +1,7 @@
 -- Worked classes: what meets each definition, and what breaks one of its parts alone.
 use Rattle.std.proofs.Common.{◌≡◌, ℕ, List, [], ◌∷◌, map, refl, arith}
 use Rattle.cb_class.specs.declared.class.Class.{Class}
-use Rattle.cb_class.specs.Class.{IsClass, IsClassOf, bytes_of, slots_of, words_of}
+use Rattle.cb_class.specs.Class.{IsClass, IsClassOf, IsClassOfSpan, bytes_of, largest, pages_of, slots_of, words_of}
 
 abbrev at : ℕ → Class
 at i = record { index = i }
@@ -16,13 +16,36 @@ bytes = refl
 
 slot_counts : map (λ i. slots_of (at i)) indices
     ≡ 256 ∷ 128 ∷ 85 ∷ 64 ∷ 42 ∷ 32 ∷ 21 ∷ 16 ∷ 10 ∷ 8 ∷ 5 ∷ 4 ∷ []
-unfolding slots_of bytes_of
+unfolding slots_of pages_of bytes_of
 slot_counts = refl
 
 word_counts : map (λ i. words_of (at i)) indices
     ≡ 2 ∷ 4 ∷ 6 ∷ 8 ∷ 12 ∷ 16 ∷ 24 ∷ 32 ∷ 48 ∷ 64 ∷ 96 ∷ 128 ∷ []
 unfolding words_of bytes_of
 word_counts = refl
+
+page_counts : map (λ i. pages_of (at i)) indices
+    ≡ 1 ∷ 1 ∷ 1 ∷ 1 ∷ 1 ∷ 1 ∷ 1 ∷ 1 ∷ 1 ∷ 1 ∷ 1 ∷ 1 ∷ []
+unfolding pages_of
+page_counts = refl
+
+-- the last class has the largest slots
+largest_slots : bytes_of (at 11) ≡ largest
+unfolding bytes_of
+largest_slots = refl
+
+-- five slots in one page: the class of 768 bytes
+class_of_five : IsClassOfSpan 1 5 (at 10)
+unfolding slots_of pages_of bytes_of
+class_of_five = record { in_table = omega arith; paged = refl; counted = refl }
+
+other_slots : ¬ (IsClassOfSpan 1 5 (at 11))
+unfolding slots_of pages_of bytes_of
+other_slots h = absurd (omega (arith, h.counted))
+
+other_pages : ¬ (IsClassOfSpan 2 5 (at 10))
+unfolding slots_of pages_of bytes_of
+other_pages h = absurd (omega (arith, h.paged))
 
 last_class : IsClass (at 11)
 last_class = omega arith

@@ -1,15 +1,15 @@
-ghost use Rattle.std.specs.Prelude.{◌≡◌, ◌≢◌, ◌*◌, ◌<◌, ◌≤◌, IfNone, IfSome};
+ghost use Rattle.std.specs.Prelude.{◌≡◌, ◌≢◌, ◌*◌, ◌<◌, ◌≤◌, ◌⊎◌, IfNone, IfSome};
 ghost use Rattle.cb_class.specs.declared.class.Class.{Class};
-ghost use Rattle.cb_class.specs.Class.{IsClass, IsClassOf, bytes_of, slots_of, words_of};
+ghost use Rattle.cb_class.specs.Class.{IsClass, IsClassOf, IsClassOfSpan, bytes_of, largest, pages_of, slots_of, words_of};
 
-/// The bytes of a span: one page.
-pub const SPAN_BYTES: u32 = 4096;
+/// The bytes of a page, as many as a frame holds.
+pub const PAGE_BYTES: u32 = 4096;
 
 /// The bytes of a word of memory.
 pub const WORD_BYTES: u32 = 8;
 
-/// The words of memory of a frame, which holds one span.
-pub const FRAME_WORDS: u32 = SPAN_BYTES / WORD_BYTES;
+/// The words of memory of a frame, which holds one page.
+pub const FRAME_WORDS: u32 = PAGE_BYTES / WORD_BYTES;
 
 /// The number of size classes.
 pub const CLASSES: usize = 12;
@@ -17,16 +17,22 @@ pub const CLASSES: usize = 12;
 /// The bytes of a slot of each class, by the class's index.
 pub const CLASS_BYTES: [u32; CLASSES] = [16, 32, 48, 64, 96, 128, 192, 256, 384, 512, 768, 1024];
 
+/// The pages of a span of each class, by the class's index.
+pub const CLASS_PAGES: [u32; CLASSES] = [1, 1, 1, 1, 1, 1, 1, 1, 1, 1, 1, 1];
+
+/// The bytes of a slot of the last class, and so the most bytes of an object.
+pub const LARGEST: u32 = 1024;
+
 /// A size class, named by its index in the table of sizes: a greater index has greater slots.
 #[derive(Clone, Copy, Debug, PartialEq, Eq, PartialOrd, Ord, Hash)]
 pub struct Class {
     pub index: u32,
 }
 
-/// The class of an object of `len` bytes, 1 to 1,024: the least class whose slots hold it.
+/// The class of an object of `len` bytes, 1 to `LARGEST`: the least class whose slots hold it.
 pub fn class_of(len: u32) -> Class
     requires some_byte { 1 ≤ len }
-    requires fits_largest { len ≤ 1024 }
+    requires fits_largest { len ≤ largest }
     ensures { IsClassOf len result }
 {
     let index = CLASS_BYTES.partition_point(|bytes| *bytes < len);
@@ -35,26 +41,50 @@ pub fn class_of(len: u32) -> Class
     }
 }
 
-/// The bytes of a slot of the class, 16 to 1,024 and a multiple of 16.
+/// The bytes of a slot of the class, 16 to `LARGEST` and a multiple of 16.
 pub fn class_bytes(c: Class) -> u32
     requires { IsClass c }
     ensures bytes { result ≡ bytes_of c }
     ensures at_least { 16 ≤ result }
-    ensures at_most { result ≤ 1024 }
+    ensures at_most { result ≤ largest }
 {
     CLASS_BYTES[c.index as usize]
 }
 
-/// The slots of a span of the class, 4 to 256: as many as lie whole in the span's bytes. Slot s
-/// starts at byte s times the class's bytes.
+/// The pages of a span of the class: 1, 2 or 4 adjacent frames hold them.
+pub fn pages(c: Class) -> u32
+    requires { IsClass c }
+    ensures pages { result ≡ pages_of c }
+    ensures known { (result ≡ 1) ⊎ ((result ≡ 2) ⊎ (result ≡ 4)) }
+{
+    CLASS_PAGES[c.index as usize]
+}
+
+/// The slots of a span of the class, 4 to 256: as many as lie whole in the bytes of its pages. Slot
+/// s starts at byte s times the class's bytes.
 pub fn slots(c: Class) -> u32
     requires { IsClass c }
     ensures slots { result ≡ slots_of c }
     ensures at_least { 4 ≤ result }
     ensures at_most { result ≤ 256 }
-    ensures fit { result * bytes_of c ≤ SPAN_BYTES }
+    ensures fit { result * bytes_of c ≤ PAGE_BYTES * pages_of c }
 {
-    SPAN_BYTES / class_bytes(c)
+    PAGE_BYTES * pages(c) / class_bytes(c)
+}
+
+/// The class whose spans have so many pages and so many slots, and None where there is none: no two
+/// classes have the same pages and the same count of slots. A walk over the table of classes.
+pub fn class_of_span(page_count: u32, slot_count: u32) -> Option<Class>
+    ensures class { IfSome result (IsClassOfSpan page_count slot_count) }
+    ensures none { IfNone result ((c : Class) → IsClassOfSpan page_count slot_count c → ⊥) }
+{
+    for index in 0..CLASSES as u32 {
+        let class = Class { index };
+        if pages(class) == page_count && slots(class) == slot_count {
+            return Some(class);
+        }
+    }
+    None
 }
 
 /// The class of which a span has so many slots, and None where there is none: no two classes have
@@ -73,12 +103,12 @@ pub fn class_with_slots(count: u32) -> Option<Class>
     None
 }
 
-/// The words of eight bytes of a slot of the class, 2 to 128.
+/// The words of eight bytes of a slot of the class, 2 to `LARGEST / WORD_BYTES`.
 pub fn slot_words(c: Class) -> u32
     requires { IsClass c }
     ensures words { result ≡ words_of c }
     ensures at_least { 2 ≤ result }
-    ensures at_most { result ≤ 128 }
+    ensures at_most { result * WORD_BYTES ≤ largest }
     ensures fill { result * WORD_BYTES ≡ bytes_of c }
 {
     class_bytes(c) / WORD_BYTES

@@ -1,9 +1,9 @@
 -- What the steps of a pair leave of the configured sizes and codes, and of what is counted.
-use Rattle.std.proofs.Common.{◌≡◌, ℕ, true, List, Option, None, Some, refl, sym, ◌∙◌, subst, arith, inl, inr, length-set}
+use Rattle.std.proofs.Common.{ℕ, true, List, Option, None, refl, sym, ◌∙◌, subst, arith, inl, inr, length-set}
 use Rattle.std.specs.FinMap as map
 use Rattle.cb_member.specs.declared.names.Shard.{Shard}
 use Rattle.cb_node.specs.NodesState.{NodesState}
-use Rattle.cb_set.specs.SetState.{SetState}
+use Rattle.cb_set.specs.SetState.{SetState, code_of}
 use Rattle.cb_types.specs.declared.config.Config.{Config}
 use Rattle.cb_types.specs.declared.reply.Reply.{Reply}
 use Rattle.cb_world.specs.declared.homes.Home.{Home}
@@ -14,9 +14,9 @@ use Rattle.cb_world.specs.Reserved.{put_shards}
 use Rattle.cb_world.specs.Sets.{Kept}
 use Rattle.cb_world.specs.Sound.{Sound}
 use Rattle.cb_world.specs.Stored.{all_dropped}
-use Rattle.cb_world.specs.Codes.{HaveCodes, IsPairOfCode}
+use Rattle.cb_world.specs.Codes.{IsCodeOf}
 use Rattle.cb_world.specs.JoinSteps.{with_step}
-use Rattle.cb_world.proofs.Laws.{HasCode, code_as, codes_paired, codes_parted, codes_put, codes_removed, drop_count, drop_room, own_put, own_removed, KeepsHolding, KeepsNote, no_pair_configured, noted_holds, StaysBy, StaysIf, StaysIfBy, stays_like, stays_noted, stays_same}
+use Rattle.cb_world.proofs.Laws.{IsCodeIn, KeepCodes, PairHasCode, batch_has, code_as, codes_kept, codes_paired, codes_parted, codes_put, codes_removed, codes_stay, drop_count, drop_room, have_codes, no_pair_has, of_a_set, own_put, own_removed, sets_have, KeepsHolding, KeepsNote, no_pair_configured, noted_holds, StaysBy, StaysIf, StaysIfBy, stays_like, stays_noted, stays_same}
 use Rattle.cb_compact.specs.MergeStep.{MergeStep, Merges, merged_set, replaced_shards, with_merged}
 use Rattle.cb_compact.specs.Merging.{IsReadyToMerge}
 use Rattle.cb_compact.specs.PairStep.{IsFirstPair, PairStep, with_pair}
@@ -30,14 +30,13 @@ use Rattle.cb_compact.proofs.Merged.{length_merged, length_shards}
 
 -- ---- each change
 begun_stays : (c : Config) (far : FarState) (pair : JoiningState)
-    → ((d : Config) → HaveCodes d far → IsPairOfCode d.k d.r pair)
-    → StaysIf c 1 far (with_pair far pair)
+    → PairHasCode far pair → StaysIf c 1 far (with_pair far pair)
 begun_stays c far pair of_code = stays_like c 1 far (with_pair far pair) (omega arith) (record {
   spans = refl;
   homes = refl;
   nodes = refl;
   room = refl;
-  codes = codes_paired far (with_pair far pair) pair refl refl refl of_code;
+  codes = codes_paired far (with_pair far pair) pair refl refl refl refl of_code;
   counts = refl;
   note = λ n e. e;
   epoch = omega arith;
@@ -51,7 +50,7 @@ parted_stays c far pair = stays_like c 1 far (with_parted far pair) (omega arith
   homes = refl;
   nodes = drop_count far.nodes (put_shards pair.steps);
   room = drop_room far.nodes (put_shards pair.steps);
-  codes = codes_parted far (with_parted far pair) refl refl refl;
+  codes = codes_parted far (with_parted far pair) refl refl refl refl;
   counts = refl;
   note = λ n e. e;
   epoch = omega arith;
@@ -59,17 +58,16 @@ parted_stays c far pair = stays_like c 1 far (with_parted far pair) (omega arith
 })
 
 stepped_stays : (c : Config) (far : FarState) (pair : JoiningState) (p : ℕ) (shard : Shard)
-    (row : List ℕ) → ((d : Config) → HaveCodes d far → IsPairOfCode d.k d.r (with_step pair p shard))
-    → StaysIf c 1 far (with_stepped far pair p shard row)
+    (row : List ℕ) → PairHasCode far (with_step pair p shard) → StaysIf c 1 far (with_stepped far pair p shard row)
 stepped_stays c far pair p shard row of_code is = record {
   configured = record {
     frames = is.frames;
     homes = is.homes;
     nodes = length-set far.nodes.nodes shard.node.n _ ∙ is.nodes;
     room = is.room;
-    codes = codes_paired far (with_stepped far pair p shard row) (with_step pair p shard) refl refl
-        refl of_code c is.codes;
+    codes = have_codes (IsCodeOf c) far new keep is.codes;
   };
+  codes = keep;
   rises = record {
     turns = refl;
     by_job = refl;
@@ -80,6 +78,12 @@ stepped_stays c far pair p shard row of_code is = record {
     note = λ n e. e;
   };
 }
+  where
+    new : FarState
+    new = with_stepped far pair p shard row
+
+    keep : KeepCodes far new
+    keep = codes_paired far new (with_step pair p shard) refl refl refl refl of_code
 
 -- the merged set is of the code of both
 module _ (c : Config) (s : Shown) (far : FarState) (pair : JoiningState) (a b : SetState)
@@ -97,14 +101,21 @@ module _ (c : Config) (s : Shown) (far : FarState) (pair : JoiningState) (a b : 
   abbrev gone : List Shard
   gone = replaced_shards pair.steps pair.shards_a
 
-  one_code : HasCode c a → HasCode c (merged_set id pair a b)
-  one_code = code_as c a (merged_set id pair a b)
+  one_code : IsCodeIn far (code_of (merged_set id pair a b))
+  one_code = code_as far a (merged_set id pair a b)
       (length_merged a.positions b.positions (ready_data s far pair a b x))
       (length_shards pair.steps pair.shards_a (ready_steps s far pair a b x)
-      ∙ sym (ready_shards s far pair a b x))
+      ∙ sym (ready_shards s far pair a b x)) (of_a_set pair.a a x.fresh.a_stands.there refl)
 
-  no_pair : (p : JoiningState) → None ≡ Some p → ⊥
-  no_pair p e = cc
+  keep : KeepCodes far (with_merged far pair a b homes)
+  keep = codes_kept far (with_merged far pair a b homes) refl
+      (codes_removed far (map.remove (map.insert far.sets id kept) pair.a) pair.b
+      (codes_removed far (map.insert far.sets id kept) pair.a
+      (codes_put far far.sets id kept (λ committed. one_code) (sets_have far))))
+      (batch_has far far.leaving refl) (no_pair_has far None refl)
+      (λ own. own_removed (map.remove (map.insert far.sets id kept) pair.a) pair.b
+      (own_removed (map.insert far.sets id kept) pair.a
+      (own_put far.sets id kept (λ committed. refl) own)))
 
   merged_stays : StaysIf c 1 far (with_merged far pair a b homes)
   merged_stays is = record {
@@ -113,19 +124,9 @@ module _ (c : Config) (s : Shown) (far : FarState) (pair : JoiningState) (a b : 
       homes = at.count ∙ is.homes;
       nodes = drop_count without_b gone ∙ drop_count far.nodes pair.shards_b ∙ is.nodes;
       room = drop_room without_b gone ∙ drop_room far.nodes pair.shards_b ∙ is.room;
-      codes = record {
-        sets = codes_removed c (map.remove (map.insert far.sets id kept) pair.a) pair.b
-            (codes_removed c (map.insert far.sets id kept) pair.a
-            (codes_put c far.sets id kept
-            (λ committed. one_code (is.codes.sets pair.a a x.fresh.a_stands.there))
-            is.codes.sets));
-        batch = is.codes.batch;
-        pair = λ p at. absurd (no_pair p at);
-        own = own_removed (map.remove (map.insert far.sets id kept) pair.a) pair.b
-            (own_removed (map.insert far.sets id kept) pair.a
-            (own_put far.sets id kept (λ committed. refl) is.codes.own));
-      };
+      codes = have_codes (IsCodeOf c) far (with_merged far pair a b homes) keep is.codes;
     };
+    codes = keep;
     rises = record {
       turns = refl;
       by_job = refl;
@@ -154,6 +155,7 @@ begin_stays c s far new r sound (inl x) is = subst (StaysBy KeepsHolding c 1 far
 begin_stays c s far new r sound (inr (inl x)) is =
     subst (StaysBy KeepsHolding c 1 far) (sym x.state) (record {
       configured = no_pair_configured c far is;
+      codes = codes_stay far _ refl refl refl refl;
       rises = record {
         turns = refl;
         by_job = refl;
@@ -183,7 +185,8 @@ patch_stays c s far new r sound (inr (inr x)) = by x.takes
     by (inr (inl y)) = stays_same c 1 far new (omega arith) y.state
     by (inr (inr y)) =
         subst (StaysIf c 1 far) (sym y.state) (stepped_stays c far x.pair y.position _ y.row
-        (stepped_code far x.pair x.a x.b y.position _ x.fresh y.next))
+        (stepped_code far x.pair x.a x.b y.position _ x.fresh (sound.away.join x.pair x.fresh.was)
+        y.next))
 
 pub merge_stays : (c : Config) (s : Shown) (far new : FarState) (r : Reply) → Sound s far
     → MergeStep far new r → StaysIf c 1 far new

@@ -21,7 +21,7 @@ use Rattle.cb_world.specs.Reserved.{put_shards}
 use Rattle.cb_world.specs.Sound.{Sound}
 use Rattle.cb_world.specs.Stored.{all_dropped}
 use Rattle.cb_world.specs.World.{IsConfigured}
-use Rattle.cb_world.proofs.Laws.{KeepsHolding, KeepsNote, StaysBy, StaysIfBy, others_same, rises_more}
+use Rattle.cb_world.proofs.Laws.{KeepCodes, KeepsHolding, KeepsNote, StaysBy, StaysIfBy, codes_same, codes_then, others_same, rises_more}
 use Rattle.cb_compact.specs.MergeStep.{IsMerged, MergeStep, Merges, replaced_shards}
 use Rattle.cb_compact.specs.CompactStep.{AreStepped, CompactStep, GoesThrough, PairEnds}
 use Rattle.cb_compact.specs.PairStep.{PairStep, set_numbered}
@@ -372,6 +372,23 @@ end_configured c s far new r sound (inl x) is =
 end_configured c s far new r sound (inr x) is =
     (merge_laws.stays c s far new (answer.Merged x.set x.moved) sound x.merged is).configured
 
+-- ---- no other code comes up
+steps_codes : (c : Config) (s : Shown) (far new : FarState) (done : List ℕ) → Sound s far
+    → AreStepped far done new → IsConfigured c far → KeepCodes far new
+steps_codes c s far new [] sound steps is = codes_same far new steps
+steps_codes c s far new (p ∷ done) sound steps is =
+    let k = patch_laws.keeps s far steps.0 (answer.Stepped p) sound steps.1 in
+    let z = patch_laws.stays c s far steps.0 (answer.Stepped p) sound steps.1 is in
+    codes_then far steps.0 new z.codes
+    (steps_codes c s steps.0 new done k.sound steps.2 z.configured)
+
+end_codes : (c : Config) (s : Shown) (far new : FarState) (r : Reply) → Sound s far
+    → PairEnds far new r → IsConfigured c far → KeepCodes far new
+end_codes c s far new r sound (inl x) is =
+    (part_laws.stays c s far new answer.Done sound x.parted is).codes
+end_codes c s far new r sound (inr x) is =
+    (merge_laws.stays c s far new (answer.Merged x.set x.moved) sound x.merged is).codes
+
 -- a pair was found, so that nothing noted is of now, and no part of the turn notes anything
 steps_note : (c : Config) (s : Shown) (far new : FarState) (done : List ℕ) → Sound s far
     → AreStepped far done new → IsConfigured c far → KeepsNote far new
@@ -426,6 +443,11 @@ through_stays c s far new r sound x is =
       configured = end_configured c s x.stepped new r l.sound x.ends
           (steps_configured c s x.begun x.stepped x.done k.sound x.steps
           (begin_laws.stays c s far x.begun (answer.Pair x.a x.b) sound x.paired is).configured);
+      codes = codes_then far x.begun new
+          (begin_laws.stays c s far x.begun (answer.Pair x.a x.b) sound x.paired is).codes
+          (codes_then x.begun x.stepped new
+          (steps_codes c s x.begun x.stepped x.done k.sound x.steps begun)
+          (end_codes c s x.stepped new r l.sound x.ends stepped));
       rises = record {
         turns = all.turns ∙ ap (λ (z : CountsState). z.turns) counts;
         by_job = all.by_job ∙ ap (λ (z : CountsState). z.by_job) counts;
@@ -446,6 +468,7 @@ more_stays : (c : Config) (far new : FarState) → StaysBy KeepsHolding c 1 far 
     → StaysBy KeepsHolding c 20 far new
 more_stays c far new z = record {
   configured = z.configured;
+  codes = z.codes;
   rises = rises_more 1 20 far new (omega arith) z.rises;
 }
 

@@ -105,6 +105,7 @@ far sets members room joining = record {
   homes = homes_in 0 1;
   nodes = nodes_with room;
   members = members;
+  code = record { k = 2; r = 1 };
   leaving = None;
   joining = joining;
   counts = record { turns = 0; by_job = []; sets = 2; keys = 6 };

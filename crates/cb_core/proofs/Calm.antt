@@ -61,8 +61,8 @@ calm_as r q calm e = subst IsEased (sym e) calm
 pub record MakesEasy (x : Words) (far : FarState) : Type 0 where
   pub still : (h : ℕ) → h < length x.words → state_of (word_at x h) ≡ word.Moving → ⊥
   pub whole : (h : ℕ) → is_gone far h ≡ false
-  pub spans : least_free far.frames ≡ None → x.settings.k ≤ length (loose_frames x far)
-  pub nodes : x.settings.k + x.settings.r ≤ room_count far.nodes far.members
+  pub spans : least_free far.frames ≡ None → far.code.k ≤ length (loose_frames x far)
+  pub nodes : far.code.k + far.code.r ≤ room_count far.nodes far.members
   pub stamps : (h : ℕ) → stamp_at x h < 2 ^ 64 - 1
 
 abbrev IsEasy : Holding Words → Type 0

@@ -75,7 +75,11 @@ pub stays_sound : {N : FarState → FarState → Type 0} (c : Config) (n : ℕ) 
     (far new : FarState) → n ≤ 64 → IsConfigured c far
     → StaysIfBy N c n far new → Sound s new → StaysSound N c s far new
 stays_sound c n s far new most is stays sound = let z = stays is in record {
-  stays = record { configured = z.configured; rises = rises_more n 64 far new most z.rises };
+  stays = record {
+    configured = z.configured;
+    codes = z.codes;
+    rises = rises_more n 64 far new most z.rises;
+  };
   sound = sound;
 }
 

@@ -20,7 +20,7 @@ use Rattle.cb_set.specs.SetState.{SetState, parities}
 use Rattle.cb_types.specs.declared.config.Config.{Config}
 use Rattle.cb_world.specs.declared.homes.Home.{Home}
 use Rattle.cb_world.specs.declared.shown.Shown.{Shown}
-use Rattle.cb_world.specs.Codes.{HaveCodes}
+use Rattle.cb_world.specs.Codes.{HaveCodes, IsConfiguredCode}
 use Rattle.cb_world.specs.FarState.{FarState}
 use Rattle.cb_world.specs.Homes.{home_at}
 use Rattle.cb_world.specs.Now.{broken_home, broken_set, is_gone}
@@ -110,7 +110,7 @@ few_lost nodes m shards among distinct =
 
 -- ---- so no set is broken, and no object is gone
 module _ (c : Config) (s : Shown) (far : FarState) (nodes : List ℕ) (sound : Sound s far)
-    (codes : HaveCodes c far) (among : CrashedAmong nodes far.members) (few : length nodes ≤ c.r)
+    (codes : HaveCodes (IsConfiguredCode c) far) (among : CrashedAmong nodes far.members) (few : length nodes ≤ c.r)
   where
     pub never_broken : (id : ℕ) (set : SetState) → set_in far.sets id ≡ Some set
         → is_broken far.members set ≡ false

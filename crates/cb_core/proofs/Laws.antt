@@ -5,7 +5,8 @@ pub use Rattle.cb_core.proofs.Changes.{read_leaves}
 pub use Rattle.cb_core.proofs.CrashesKept.{NamesAmong, none_crashed, turn_crashed, turn_idle}
 pub use Rattle.cb_core.proofs.Epochs.{lead_rises, pin_far, step_rises, unpin_far}
 pub use Rattle.cb_core.proofs.FewLost.{CrashedAmong, never_broken, never_gone}
-pub use Rattle.cb_core.proofs.NodesStay.{IsWholeJob}
+pub use Rattle.cb_core.proofs.NodesStay.{IsWholeJob, crash_stays, join_stays}
+pub use Rattle.cb_core.proofs.PartsCodes.{turn_codes}
 pub use Rattle.cb_core.proofs.NowIn.{are_gone}
 pub use Rattle.cb_core.proofs.PinnedStays.{step_pinned, touched, unmoved_same}
 pub use Rattle.cb_core.proofs.PinsKept.{pin_step_sound, unpin_step_sound}

@@ -39,6 +39,7 @@ pub mod HoldingSound
 pub mod HoldingFixed
 pub mod ClaimAnswers
 pub mod PartsStay
+pub mod PartsCodes
 pub mod Settings
 pub mod Epochs
 pub mod CrashesKept

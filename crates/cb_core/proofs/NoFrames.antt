@@ -134,22 +134,22 @@ filter_plain frames h far new r es a = by (state_of a.word) a.word a.answer
 
 -- ---- evictions
 pub evict_plain : (c : Config) (far new : FarState) (r : Reply) (es : List Event)
-    → EvictRule c far new r es → SaysNoLack r
+    → EvictRule far new r es → SaysNoLack r
 evict_plain c far new r es a = by a.answered
   where
-    by : HasFewSpans c far new r a.loose ⊎ (HasFewNodes c far new r a.loose
-        ⊎ HasBoth c far new r a.loose es) → SaysNoLack r
+    by : HasFewSpans far new r a.loose ⊎ (HasFewNodes far new r a.loose
+        ⊎ HasBoth far new r a.loose es) → SaysNoLack r
     by (inl x) = off r _ refl x.reply
     by (inr (inl x)) = off r _ refl x.reply
     by (inr (inr x)) = off r _ refl x.reply
 
 pub begin_plain : (c : Config) (far new : FarState) (r : Reply) (es : List Event)
-    → BeginRule c far new r es → SaysNoLack r
+    → BeginRule far new r es → SaysNoLack r
 begin_plain c far new r es (inl a) = off r _ refl a.reply
 begin_plain c far new r es (inr a) = by a.answered
   where
-    by : HasFewSpans c far new r a.loose ⊎ (HasFewNodes c far new r a.loose
-        ⊎ HasBatch c far new r a.loose es) → SaysNoLack r
+    by : HasFewSpans far new r a.loose ⊎ (HasFewNodes far new r a.loose
+        ⊎ HasBatch far new r a.loose es) → SaysNoLack r
     by (inl x) = off r _ refl x.reply
     by (inr (inl x)) = off r _ refl x.reply
     by (inr (inr x)) = off r _ refl x.reply

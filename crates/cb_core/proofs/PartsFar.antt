@@ -75,23 +75,23 @@ not_resident s far h f home sound at (slot, named) =
 
 -- ---- an eviction that made a set
 -- the frames of the spans that left: as many as a set has data positions, among those that may leave
-pub record HasSent (c : Config) (far new : FarState) (es : List Event) : Type 0 where
+pub record HasSent (far new : FarState) (es : List Event) : Type 0 where
   pub frames : List ℕ
-  pub evicted : HasEvicted c far new frames es
+  pub evicted : HasEvicted far new frames es
   pub among : (f : ℕ) → Contains frames f → Contains (candidates far) f
-  pub count : length frames ≡ c.k
+  pub count : length frames ≡ far.code.k
 
-pub has_sent : (c : Config) (far new : FarState) (r : Reply) (id : SetId) (es : List Event)
-    → EvictRule c far new r es → r ≡ answer.Set id → HasSent c far new es
-has_sent c far new r id es rule set = elim rule.answered [
+pub has_sent : (far new : FarState) (r : Reply) (id : SetId) (es : List Event)
+    → EvictRule far new r es → r ≡ answer.Set id → HasSent far new es
+has_sent far new r id es rule set = elim rule.answered [
   | inl few ↦ absurd (few_spans _ r id few.reply set)
   | inr (inl few) ↦ absurd (few_nodes _ r id few.reply set)
   | inr (inr both) ↦ record {
-    frames = take c.k rule.loose;
+    frames = take far.code.k rule.loose;
     evicted = both.evicted;
     among = λ f in_taken. loose_among es far.spans (candidates far) rule.loose f rule.found
-        (taken_of rule.loose c.k f in_taken);
-    count = length-take-le c.k rule.loose both.enough;
+        (taken_of rule.loose far.code.k f in_taken);
+    count = length-take-le far.code.k rule.loose both.enough;
   }
 ]
 
@@ -111,10 +111,10 @@ pub record HasWon (c : Config) (far new : FarState) : Type 0 where
       → home_at new.homes h ≡ Some home
 
 pub has_won : (c : Config) (s : Shown) (far new : FarState) (r : Reply) (id : SetId)
-    (es : List Event) → IsAccepted c → IsConfigured c far → Sound s far → EvictRule c far new r es
+    (es : List Event) → IsAccepted c → IsConfigured c far → Sound s far → EvictRule far new r es
     → r ≡ answer.Set id → HasWon c far new
 has_won c s far new r id es accepted configured sound rule set =
-    let x = has_sent c far new r id es rule set in let e = x.evicted in
+    let x = has_sent far new r id es rule set in let e = x.evicted in
     let most = accepted K in
     let some : 0 < length x.frames = let n = x.count in omega (arith, n, most.0) in
     let f = get_or x.frames 0 0 in

@@ -89,8 +89,8 @@ module _ (c : Config) (s : Shown) (far : FarState) (nodes : List ℕ) (sound : S
       (sym (ap (λ (b : Bool). alive far.members (numbered n) && b) room) ∙ full)))
 
   -- all nodes but so many have room, so a set finds nodes for its rows
-  enough : c.k + c.r + length nodes ≤ c.nodes → c.k + c.r ≤ room_count far.nodes far.members
-  enough many =
+  enough : (n : ℕ) → n + length nodes ≤ c.nodes → n ≤ room_count far.nodes far.members
+  enough n many =
       let all = both_count (λ n. has_room far.nodes far.members (numbered n))
       (range_with_len 0 (length far.nodes.nodes)) in
       let count = length-range_with_len 0 (length far.nodes.nodes) in
@@ -105,7 +105,7 @@ module _ (c : Config) (s : Shown) (far : FarState) (nodes : List ℕ) (sound : S
 -- where no batch is leaving and no pair is joining
 pub enough_roomy : (c : Config) (s : Shown) (far : FarState) (nodes : List ℕ) → Sound s far
     → IsConfigured c far → IsIdle far → CrashedAmong nodes far.members → far.made < c.room
-    → c.k + c.r + length nodes ≤ c.nodes → c.k + c.r ≤ room_count far.nodes far.members
+    → (n : ℕ) → n + length nodes ≤ c.nodes → n ≤ room_count far.nodes far.members
 enough_roomy c s far nodes sound configured idle among few =
     let batch : count_of far.leaving ≡ 0 = ap (λ (o : Option LeavingState). count_of o) idle.0 in
     let pair : count_of far.joining ≡ 0 = ap (λ (o : Option JoiningState). count_of o) idle.1 in
@@ -114,7 +114,7 @@ enough_roomy c s far nodes sound configured idle among few =
 -- and at any far state
 pub enough_beside : (c : Config) (s : Shown) (far : FarState) (nodes : List ℕ) → Sound s far
     → IsConfigured c far → JoinsApart far → CrashedAmong nodes far.members → far.made + 2 < c.room
-    → c.k + c.r + length nodes ≤ c.nodes → c.k + c.r ≤ room_count far.nodes far.members
+    → (n : ℕ) → n + length nodes ≤ c.nodes → n ≤ room_count far.nodes far.members
 enough_beside c s far nodes sound configured joins among few =
     let batch = one_most far.leaving in
     let pair = one_most far.joining in

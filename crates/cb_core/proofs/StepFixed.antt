@@ -7,7 +7,7 @@ use Rattle.cb_types.specs.declared.job.Job.{Job}
 use Rattle.cb_types.specs.declared.job.Job.TheVariants.{Make, Read, Write, Free, Swap, Filter, Evict, Begin, Ship, Commit, Abort}
 use Rattle.cb_types.specs.declared.reply.Reply.{Reply}
 use Rattle.cb_types.specs.declared.reply.Reply.TheVariants as answer
-use Rattle.cb_types.specs.Config.{IsAccepted}
+use Rattle.cb_gf256.specs.InRange.{IsInRange}
 use Rattle.cb_world.specs.declared.homes.Home.{Home}
 use Rattle.cb_world.specs.declared.seats.Pin.{Pin}
 use Rattle.cb_world.specs.declared.shown.Shown.{Shown}
@@ -16,7 +16,7 @@ use Rattle.cb_world.specs.Plain.{Words}
 use Rattle.cb_world.specs.Seats.{IsNewestOf, pins_of_seat, with_pins}
 use Rattle.cb_world.specs.Sound.{Sound}
 use Rattle.cb_world.specs.World.{WorldState, IsSoundWorld}
-use Rattle.cb_world.proofs.Laws.{home_same, IsOneEnd}
+use Rattle.cb_world.proofs.Laws.{IsOneEnd, home_same}
 use Rattle.cb_mutate.proofs.Laws.{free_step_fixes, make_step_fixes, read_step_fixes, write_step_fixes}
 use Rattle.cb_evict.proofs.Laws.{abort_step_fixes, begin_step_fixes, commit_step_fixes, evict_step_fixes, counted_step_fixes, ship_step_fixes}
 use Rattle.cb_filter.proofs.Laws.{filter_step_fixes}
@@ -100,12 +100,12 @@ swap_fixed h a r q b c x y =
 pub swap_refuses : (h : ℕ) → PartLeavesAll (StillSwap h) answer.NoFrame
 swap_refuses h a b x = same_holding a b x.2.change.0 x.2.change.1
 
-room_fixed : (a : Holding Words) → IsAccepted a.desk.settings → IsFixed StillRoom a
+room_fixed : (a : Holding Words) → IsInRange a.far.code.k a.far.code.r → IsFixed StillRoom a
 room_fixed a ok e f b c x y =
     let ends = counted_step_fixes a.desk b.desk c.desk a.far b.far c.far e f ok x.0 y.0 in
     (ends.answer, λ i. record { desk = ends.words i; far = ends.far i })
 
-bring_fixed : (h : ℕ) (a : Holding Words) → IsAccepted a.desk.settings → IsFixed (StillBring h) a
+bring_fixed : (h : ℕ) (a : Holding Words) → IsInRange a.far.code.k a.far.code.r → IsFixed (StillBring h) a
 bring_fixed h a ok = with_room_fixed a.desk.settings.frames (StillSwap h) StillRoom (swap_fixed h)
     (swap_refuses h) a (room_fixed a ok)
 
@@ -116,34 +116,34 @@ still r q a b c e f same =
     both r q b c (record { reply = same.0; words = e ∙ sym f; far = same.1 })
 
 -- ---- a job
--- what its part rests on: an accepted configuration, and a sound far state
+-- what its part rests on: a code in force that is built, and a sound far state
 pub record IsReadyToWork (a : Holding Words) : Type 0 where
-  pub accepted : IsAccepted a.desk.settings
+  pub range : IsInRange a.far.code.k a.far.code.r
   pub shown : Shown
   pub sound : Sound shown a.far
 
 pub works_fixed : (job : Job) (a : Holding Words) → IsReadyToWork a → IsFixed (StillWorks job) a
 works_fixed (Make bytes) a ready r q b c x y =
     with_room_fixed a.desk.settings.frames (StillMake bytes) StillRoom (make_fixed bytes)
-    (make_refuses bytes) a (room_fixed a ready.accepted) r q b c x y
+    (make_refuses bytes) a (room_fixed a ready.range) r q b c x y
 works_fixed (Read handle) a ready r q b c x y = where_it_is_fixed (StillRead handle.n) NeverDeclined
     (StillBring handle.n) (read_fixed handle.n) (read_refuses handle.n) never_fixed never_stays a
-    (bring_fixed handle.n a ready.accepted) r q b c x y
+    (bring_fixed handle.n a ready.range) r q b c x y
 works_fixed (Write handle at bytes) a ready r q b c x y = where_it_is_fixed (StillWrite handle.n at bytes)
     (StillDecline handle.n at (length bytes)) (StillBring handle.n) (write_fixed handle.n at bytes)
     (write_refuses handle.n at bytes) (decline_fixed handle.n at (length bytes))
-    (decline_stays handle.n at (length bytes)) a (bring_fixed handle.n a ready.accepted) r q b c x y
+    (decline_stays handle.n at (length bytes)) a (bring_fixed handle.n a ready.range) r q b c x y
 works_fixed (Free handle) a ready r q b c x y = both r q b c
     (free_step_fixes ready.shown a.desk b.desk c.desk a.far b.far c.far handle.n ready.sound.here r q x y)
 works_fixed (Swap handle) a ready r q b c x y = brings_in_fixed (StillFind handle.n) (StillBring handle.n) a
-    (find_fixed handle.n a) (find_refuses handle.n) (bring_fixed handle.n a ready.accepted) r q b c x y
+    (find_fixed handle.n a) (find_refuses handle.n) (bring_fixed handle.n a ready.range) r q b c x y
 works_fixed (Filter handle) a ready r q b c x y = both r q b c
     (filter_step_fixes ready.shown a.desk b.desk c.desk a.far b.far c.far handle.n r q ready.sound.here
     x.0 y.0)
 works_fixed Evict a ready r q b c x y = both r q b c
-    (evict_step_fixes a.desk b.desk c.desk a.far b.far c.far r q ready.accepted x.0 y.0)
+    (evict_step_fixes a.desk b.desk c.desk a.far b.far c.far r q ready.range x.0 y.0)
 works_fixed Begin a ready r q b c x y = both r q b c
-    (begin_step_fixes a.desk b.desk c.desk a.far b.far c.far r q ready.accepted x.0 y.0)
+    (begin_step_fixes a.desk b.desk c.desk a.far b.far c.far r q ready.range x.0 y.0)
 works_fixed Ship a ready r q b c x y =
     both r q b c (ship_step_fixes a.desk b.desk c.desk a.far b.far c.far r q x.0 y.0)
 works_fixed Commit a ready r q b c x y =
@@ -161,7 +161,7 @@ turned a b desks fars seats = λ i. record { desk = desks i; far = fars i; seats
 turn_ready : (w : WorldState) (job : Job) → IsSoundWorld w
     → IsReadyToWork (record { desk = w.desk; far = counted w.far job })
 turn_ready w job sound = record {
-  accepted = sound.config;
+  range = sound.configured.codes.force.range;
   shown = sound.shown;
   sound = counted_sound sound.shown w.far (counted w.far job) job refl sound.known.sound;
 }

@@ -23,7 +23,7 @@ pub begin_part : (c : Config) (seats : List SeatState)
     → Carries c seats 1 (Begins Ran SaysAll c) StillBegin
 begin_part c seats a b r good p =
     let x = a.desk in let y = b.desk in let far = a.far in let new = b.far in
-    let q = subst (λ (d : Config). PerformsStill x y far new (BeginRule d far new r)
+    let q = subst (λ (d : Config). PerformsStill x y far new (BeginRule far new r)
     (BeginEffect far new r)) (sym good.settings) p in
     arrives_step c seats 1 a b (IsBeginStep x y far new r) good
     (begin_stays c far new r p.events p.rule) q (λ s k. begin_step x y far new r s q k)

@@ -243,7 +243,7 @@ pub evict_part : (c : Config) (seats : List SeatState) → IsAccepted c
     → Carries c seats 24 (Evicts Ran SaysAll c) StillEvict
 evict_part c seats accepted a b r good p =
     let x = a.desk in let y = b.desk in let far = a.far in let new = b.far in
-    let q = subst (λ (d : Config). PerformsStill x y far new (EvictRule d far new r)
+    let q = subst (λ (d : Config). PerformsStill x y far new (EvictRule far new r)
     (EvictEffect far new r)) (sym good.settings) p in
     arrives_step c seats 24 a b (IsEvictStep x y far new r) good
     (evict_stays c far new r p.events accepted p.rule) q (λ s k. evict_step x y far new r s q k)
@@ -254,10 +254,10 @@ pub room_part : (c : Config) (seats : List SeatState) → IsAccepted c
     → Carries c seats 24 (WinsRoom Ran SaysAll c) StillRoom
 room_part c seats accepted a b e good p =
     let x = a.desk in let y = b.desk in let far = a.far in let new = b.far in
-    let q = subst (λ (d : Config). PerformsStill x y far new (CountsRule d far new e)
+    let q = subst (λ (d : Config). PerformsStill x y far new (CountsRule far new e)
     (EvictEffect far new (reply_of e))) (sym good.settings) p in
-    let z = evict_part c seats accepted a b (reply_of e) good (rule_weaker _ _ _ (CountsRule c far new e)
-    (EvictRule c far new (reply_of e)) (EvictEffect far new (reply_of e)) (λ es r. r.rule) p) in
+    let z = evict_part c seats accepted a b (reply_of e) good (rule_weaker _ _ _ (CountsRule far new e)
+    (EvictRule far new (reply_of e)) (EvictEffect far new (reply_of e)) (λ es r. r.rule) p) in
     record {
       is = (counted_step x y far new e good.shown q good.known, z.is.1);
       good = z.good;

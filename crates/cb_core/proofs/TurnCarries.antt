@@ -152,12 +152,12 @@ module _ {D : Type 0} (run : D → List Event → D → Type 0) (shows : D → S
   evicts : Leads 24 Nil (Evicts run shows c)
   evicts a b r good p = comes_none run shows laws c 24 a b _ _ good
       (λ s sound. evict_stays c a.far b.far r p.events accepted p.rule) p
-      (λ s e. evict_unwritten c a.far b.far r p.events s (played p.events s) p.rule e)
+      (λ s e. evict_unwritten a.far b.far r p.events s (played p.events s) p.rule e)
 
   wins : Leads 24 Nil (WinsRoom run shows c)
   wins a b e good p = comes_none run shows laws c 24 a b _ _ good
       (λ s sound. evict_stays c a.far b.far (reply_of e) p.events accepted p.rule.rule) p
-      (λ s x. evict_unwritten c a.far b.far (reply_of e) p.events s (played p.events s) p.rule.rule x)
+      (λ s x. evict_unwritten a.far b.far (reply_of e) p.events s (played p.events s) p.rule.rule x)
 
   evict_lacks : Lacks 24 (EvictLacks run shows)
   evict_lacks a b good (same, p) = comes_none run shows laws c 24 a b _ _ good
@@ -253,7 +253,7 @@ module _ {D : Type 0} (run : D → List Event → D → Type 0) (shows : D → S
   does_comes reading read Begin a b r ok good p =
       in_job WritesNothing 1 a b (omega arith) (comes_none run shows laws c 1 a b _ _ good
       (λ s sound. begin_stays c a.far b.far r p.events p.rule) p
-      (λ s e. begin_unwritten c a.far b.far r p.events s (played p.events s) p.rule e))
+      (λ s e. begin_unwritten a.far b.far r p.events s (played p.events s) p.rule e))
   does_comes reading read Ship a b r ok good p =
       in_job WritesNothing 1 a b (omega arith) (comes_none run shows laws c 1 a b _ _ good
       (λ s sound. ship_stays c a.far b.far r p.events p.rule) p (λ s e. e.still.nothing))

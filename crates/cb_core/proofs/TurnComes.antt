@@ -12,7 +12,7 @@ use Rattle.cb_world.specs.Played.{played}
 use Rattle.cb_world.specs.Sound.{Sound}
 use Rattle.cb_world.specs.World.{IsConfigured}
 use Rattle.cb_world.specs.Written.{Writes, written_by}
-use Rattle.cb_world.proofs.Laws.{KeepsNote, RisesBy, StaysIf, StaysIfBy, rises_more, rises_then, played_append, written_append}
+use Rattle.cb_world.proofs.Laws.{KeepCodes, KeepsNote, RisesBy, StaysIf, StaysIfBy, codes_then, rises_more, rises_then, played_append, written_append}
 use Rattle.cb_evict.specs.declared.eviction.Eviction.{Eviction}
 use Rattle.cb_evict.specs.declared.eviction.Eviction.TheVariants.{Refused, Set}
 use Rattle.cb_core.specs.OnceHere.{OnceHere, away, here, OnceHereStops, bringing_stops, call_stops as lacks_here}
@@ -43,15 +43,16 @@ pub record Good {D : Type 0} (shows : D → Shown → Type 0) (c : Config) (a : 
   pub configured : IsConfigured c a.far
   pub shown : (s : Shown) × shows a.desk s × Sound s a.far
 
--- what a part comes to: events of the desk, a far state that is configured and whose numbers rose
--- by at most n, which does so to what is noted of a search for a pair, sound where it was, and these
--- versions
+-- what a part comes to: events of the desk, a far state that is configured, has no other code and
+-- whose numbers rose by at most n, which does so to what is noted of a search for a pair, sound where
+-- it was, and these versions
 pub record ComesBy (N : FarState → FarState → Type 0) {D : Type 0} (run : D → List Event → D → Type 0)
     (shows : D → Shown → Type 0) (c : Config) (n : ℕ) (W : List Entry → Type 0) (a b : Holding D)
     : Type 0 where
   pub events : List Event
   pub ran : run a.desk events b.desk
   pub configured : IsConfigured c b.far
+  pub codes : KeepCodes a.far b.far
   pub rises : RisesBy N n a.far b.far
   pub after : (s : Shown) → shows a.desk s → Sound s a.far → SoundAfter events s b.far W
 
@@ -104,6 +105,7 @@ module _ {D : Type 0} (run : D → List Event → D → Type 0) (shows : D → S
     events = p.events ++ q.events;
     ran = laws.more a.desk b.desk d.desk p.events q.events p.ran q.ran;
     configured = q.configured;
+    codes = codes_then a.far b.far d.far p.codes q.codes;
     rises = rises_then n m k a.far b.far d.far most p.rises q.rises;
     after = λ s shown sound. let x = p.after s shown sound in
         after_then V W X f p.events q.events s b.far d.far x
@@ -117,6 +119,7 @@ module _ {D : Type 0} (run : D → List Event → D → Type 0) (shows : D → S
     events = p.events;
     ran = p.ran;
     configured = p.configured;
+    codes = p.codes;
     rises = rises_more n k a.far b.far most p.rises;
     after = λ s shown sound. let x = p.after s shown sound in record {
       sound = x.sound;
@@ -157,6 +160,7 @@ module _ {D : Type 0} (run : D → List Event → D → Type 0) (shows : D → S
         events = p.events;
         ran = p.ran;
         configured = z.configured;
+        codes = z.codes;
         rises = z.rises;
         after = λ s shown sound. let w = wrote s (p.effect s (shown, sound)) in record {
           sound = p.sound_after s (shown, sound);
@@ -187,6 +191,7 @@ module _ {D : Type 0} (run : D → List Event → D → Type 0) (shows : D → S
         events = [];
         ran = ran;
         configured = z.configured;
+        codes = z.codes;
         rises = z.rises;
         after = λ s shown sound. record {
           sound = (stays s sound).1;

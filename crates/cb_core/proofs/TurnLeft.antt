@@ -16,7 +16,7 @@ use Rattle.cb_world.specs.declared.shown.Shown.{Shown}
 use Rattle.cb_world.specs.Played.{Agree, played}
 use Rattle.cb_world.specs.Sound.{Sound}
 use Rattle.cb_world.specs.World.{AreCounted, IsConfigured}
-use Rattle.cb_world.proofs.Laws.{recounted, rises_more}
+use Rattle.cb_world.proofs.Laws.{codes_same, codes_stay, codes_then, recounted, rises_more}
 use Rattle.cb_core.specs.Jobs.{IsJob}
 use Rattle.cb_core.specs.Parts.{Holding}
 use Rattle.cb_core.specs.ReadTurn.{BroughtToRead, StoppedToRead}
@@ -70,6 +70,8 @@ module _ {D : Type 0} (run : D → List Event → D → Type 0) (shows : D → S
     events = z.events;
     ran = z.ran;
     configured = z.configured;
+    codes = codes_then a.far (counted a.far job) b.far
+        (codes_stay a.far (counted a.far job) refl refl refl refl) z.codes;
     counted = counted_rises a.far (counted a.far job) b.far (job_index job) counts few (job_below job)
         refl (rises_more 64 (2 ^ 20) (counted a.far job) b.far (omega arith) z.rises)
         (noted_after job 64 a.far b.far counts z.rises);
@@ -85,6 +87,7 @@ module _ {D : Type 0} (run : D → List Event → D → Type 0) (shows : D → S
     events = [];
     ran = ran;
     configured = subst (IsConfigured c) (sym same) good.configured;
+    codes = codes_same a.far b.far same;
     counted = subst AreCounted (sym same) counts;
     next = inr (end, same);
     after = λ s shown sound. record {

@@ -48,6 +48,7 @@ far_of first second leaving members c = record {
   homes = None ∷ None ∷ [];
   nodes = empty_nodes 2 4;
   members = members;
+  code = record { k = 1; r = 1 };
   leaving = leaving;
   joining = None;
   counts = c;

@@ -207,8 +207,8 @@ no_set : (m n : Holding Words) (id : SetId) → m.desk ≡ start.desk → m.far 
     → StillRoom m (Set id) n → ⊥
 no_set m n id words state (step, hold) =
     let made = evict_made m.desk n.desk m.far n.far (answer.Set id) id step.step refl in
-    let few : 1 ≤ 0 = subst (λ (f : FarState). 1 ≤ length (loose_frames (words_are pinned pinned) f))
-    state (subst (λ (x : Words). x.settings.k ≤ length (loose_frames x m.far)) words made.enough) in
+    let few : 1 ≤ 0 = subst (λ (f : FarState). f.code.k ≤ length (loose_frames (words_are pinned pinned) f))
+    state (subst (λ (x : Words). m.far.code.k ≤ length (loose_frames x m.far)) words made.enough) in
     omega (arith, few)
 
 not_after_a_set : (m n : Holding Words) (id : SetId)

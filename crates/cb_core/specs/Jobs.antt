@@ -1,12 +1,13 @@
 -- Which jobs may be asked for.
 use Rattle.std.specs.Prelude.{◌<◌, ◌≤◌, length}
+use Rattle.cb_types.specs.Config.{most_bytes}
 use Rattle.cb_types.specs.declared.config.Config.{Config}
 use Rattle.cb_types.specs.declared.job.Job.{Job}
 use Rattle.cb_types.specs.declared.job.Job.TheVariants.{Make, Read, Write, Free, Swap, Filter, Evict, Begin, Ship, Commit, Abort, Pair, Patch, Merge, Part, Compact, Rebuild, Crash, Join}
 
--- an object has 1 to 1,024 bytes, handles and nodes are among those that there are
+-- an object has 1 to `most_bytes` bytes, handles and nodes are among those that there are
 abbrev pub IsJob : Config → Job → Type 0
-IsJob c (Make bytes) = (1 ≤ length bytes) × (length bytes ≤ 1024)
+IsJob c (Make bytes) = (1 ≤ length bytes) × (length bytes ≤ most_bytes)
 IsJob c (Read handle) = handle.n < c.handles
 IsJob c (Write handle at bytes) = handle.n < c.handles
 IsJob c (Free handle) = handle.n < c.handles

@@ -9,6 +9,7 @@ use Rattle.cb_world.specs.declared.event.Event.{Event}
 use Rattle.cb_world.specs.declared.shown.Shown.{Shown}
 use Rattle.cb_world.specs.FarState.{FarState}
 use Rattle.cb_world.specs.Played.{played}
+use Rattle.cb_world.specs.KeepCodes.{KeepCodes}
 use Rattle.cb_world.specs.Sound.{Sound}
 use Rattle.cb_world.specs.World.{AreCounted, IsConfigured}
 use Rattle.cb_world.specs.Written.{Writes}
@@ -35,13 +36,14 @@ pub record SoundAfter (es : List Event) (s : Shown) (new : FarState) (writes : L
   pub writes_them : Writes es s more
 
 -- A turn leads from one holding to another by events of its desk. The far state is as it is
--- configured and counted, and at most one turn further. And for all that the desk showed and that
+-- configured and counted, it has no other code, and is at most one turn further. And for all that the desk showed and that
 -- was sound: it is sound afterwards, and these versions are written.
 pub record TurnLeaves {D : Type 0} (run : D → List Event → D → Type 0) (shows : D → Shown → Type 0)
     (c : Config) (a b : Holding D) (writes : List Entry → Type 0) : Type 0 where
   pub events : List Event
   pub ran : run a.desk events b.desk
   pub configured : IsConfigured c b.far
+  pub codes : KeepCodes a.far b.far
   pub counted : AreCounted b.far
   pub next : IsOneTurnOn a.far b.far
   pub after : (s : Shown) → shows a.desk s → Sound s a.far → SoundAfter events s b.far writes

@@ -107,19 +107,19 @@ Declines run shows h at count a declined b = (b.far ≡ a.far) × Performs (λ e
 -- an eviction
 abbrev pub Evicts : {D : Type 0} → (D → List Event → D → Type 0) → (D → Shown → Type 0) → Config
     → Holding D → Reply → Holding D → Type 0
-Evicts run shows c = Operates run shows (λ far new r. EvictRule c far new r) (λ far new r. EvictEffect far new r)
+Evicts run shows c = Operates run shows (λ far new r. EvictRule far new r) (λ far new r. EvictEffect far new r)
 
 -- one that makes room, and tells both counts where it is refused
 abbrev pub WinsRoom : {D : Type 0} → (D → List Event → D → Type 0) → (D → Shown → Type 0) → Config
     → Holding D → Eviction → Holding D → Type 0
 WinsRoom run shows c a e b = Performs (λ es. run a.desk es b.desk) (λ s. shows a.desk s × Sound s a.far)
-    (CountsRule c a.far b.far e) (λ t. Sound t b.far) (EvictEffect a.far b.far (reply_of e))
+    (CountsRule a.far b.far e) (λ t. Sound t b.far) (EvictEffect a.far b.far (reply_of e))
 
 -- an eviction in steps: some spans begin to leave, their rows are put one by one, and the batch is
 -- committed or given up
 abbrev pub Begins : {D : Type 0} → (D → List Event → D → Type 0) → (D → Shown → Type 0) → Config
     → Holding D → Reply → Holding D → Type 0
-Begins run shows c = Operates run shows (λ far new r. BeginRule c far new r) (λ far new r. BeginEffect far new r)
+Begins run shows c = Operates run shows (λ far new r. BeginRule far new r) (λ far new r. BeginEffect far new r)
 
 abbrev pub Ships : {D : Type 0} → (D → List Event → D → Type 0) → (D → Shown → Type 0)
     → Holding D → Reply → Holding D → Type 0

@@ -1,5 +1,5 @@
 ghost use Rattle.std.specs.Prelude.{◌≡◌, ℕ, ◌^◌, ◌+◌, ◌<◌, ◌≤◌, length, true, false, Some, IfOk, OnErr};
-ghost use Rattle.cb_types.specs.Config.{IsAccepted};
+ghost use Rattle.cb_types.specs.Config.{IsAccepted, most_bytes};
 ghost use Rattle.cb_types.specs.declared.reply.Reply.TheVariants as answer;
 ghost use Rattle.cb_world.specs.declared.homes.Home.{Home};
 ghost use Rattle.cb_world.specs.declared.shown.Shown.{Shown};
@@ -26,7 +26,7 @@ pub(crate) fn make_with_room<D: Desk>(
     bytes: &[u8],
 ) -> Result<Reply, NoMemory>
     requires some_byte { 1 ≤ length bytes.now }
-    requires fits { length bytes.now ≤ 1024 }
+    requires fits { length bytes.now ≤ most_bytes }
     requires config { IsAccepted (D.settings desk.old) }
     requires configured { IsConfigured (D.settings desk.old) far.old }
     requires counts { (far.old.counts.sets < 2 ^ 62) × (far.old.counts.keys < 2 ^ 62) }

@@ -1,4 +1,5 @@
 ghost use Rattle.std.specs.Prelude.{◌≡◌, ◌≢◌, ◌+◌, ◌<◌, ◌≤◌, List, ℕ, drop, length, IfOk, MatchOption};
+ghost use Rattle.cb_types.specs.Config.{most_bytes};
 ghost use Rattle.cb_core.specs.Events.{IsAtomic, IsEvent};
 ghost use Rattle.cb_core.specs.Jobs.{IsJob};
 ghost use Rattle.cb_events.specs.Listing.{IsEventOf, IsHeadWithin, IsJobOf, IsListed, IsStepOf, NoJob, NoneListed, SaysNoStep, SaysNone};
@@ -6,14 +7,14 @@ ghost use Rattle.cb_events.specs.Listing.{event_len as len_of_event, head_in, nu
 
 use cb_core::{Atomic, Event};
 use cb_member::NodeId;
-use cb_types::{Bytes, Config, Handle, Job, NoMemory};
+use cb_types::{Bytes, Config, Handle, Job, MOST_BYTES, NoMemory};
 use std::alloc::Global;
 
 /// The bytes of an event, but for those of a write.
 const HEAD_BYTES: usize = 8;
 
-/// The most bytes of an object.
-const MOST_BYTES: usize = 1024;
+/// The most bytes of an object that is made.
+const MOST_WRITTEN: usize = MOST_BYTES as usize;
 
 /// What the first bytes of an event say.
 #[derive(Clone, Copy)]
@@ -145,11 +146,11 @@ fn job_of(
 /// The make of an object of these bytes, None where no object has so few or so many.
 fn make_of(alloc: Global, written: &[u8]) -> Result<Option<Job>, NoMemory>
     ensures { IfOk result (λ found. MatchOption found
-        (1 ≤ length written.now → length written.now ≤ 1024 → ⊥)
+        (1 ≤ length written.now → length written.now ≤ most_bytes → ⊥)
         (λ job. (job ≡ Job.Make written.now) × (1 ≤ length written.now)
-        × (length written.now ≤ 1024))) }
+        × (length written.now ≤ most_bytes))) }
 {
-    if written.is_empty() || written.len() > MOST_BYTES {
+    if written.is_empty() || written.len() > MOST_WRITTEN {
         return Ok(None);
     }
     let bytes = Bytes::copy_of(alloc, written)?;

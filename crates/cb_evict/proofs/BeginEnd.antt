@@ -2,7 +2,6 @@
 use Rattle.std.proofs.Common.{◌≡◌, ℕ, ◌+◌, List, ◌++◌, length, replicate, Option, None, Some, sym, refl, ap, ◌∙◌, subst}
 use Rattle.std.proofs.lemmas.List.{length-replicate}
 use Rattle.cb_member.specs.declared.names.Shard.{Shard}
-use Rattle.cb_types.specs.declared.config.Config.{Config}
 use Rattle.cb_world.specs.declared.entry.Entry.{Entry}
 use Rattle.cb_world.specs.declared.event.Event.{Event}
 use Rattle.cb_world.specs.declared.leaving.Former.{Former}
@@ -27,9 +26,9 @@ use Rattle.cb_evict.proofs.EvictSound.{told_before}
 use Rattle.cb_evict.proofs.TakenGroup.{AreRowsCoded}
 
 -- all that is promised of the reads
-pub record Starts (c : Config) (far new : FarState) (frames : List ℕ) (before events : List Event)
+pub record Starts (far new : FarState) (frames : List ℕ) (before events : List Event)
     (s : Shown) : Type 0 where
-  pub begun : HasBegun c far new frames (before ++ events)
+  pub begun : HasBegun far new frames (before ++ events)
   pub sound : Sound (played (before ++ events) s) new
   pub effect : IsBatchBegun far new (before ++ events) s (played (before ++ events) s)
 
@@ -40,12 +39,12 @@ reads_in far frames ls reads =
     touches_more (λ h. ⊥) (IsIn far.spans frames) (LiesInOne frames) (LiesInOne frames) ls
     (λ h x. absurd x) (λ p x. x) reads.touches
 
-pub starts : (c : Config) (far new : FarState) (frames : List ℕ) (formers : List Former)
+pub starts : (far new : FarState) (frames : List ℕ) (formers : List Former)
     (parities : List (List ℕ)) (before ls : List Event) (s : Shown)
-    → AreRowsCoded c far frames formers parities before s (played before s) → far.leaving ≡ None
-    → AreAllReads (LiesInOne frames) ls → new ≡ with_batch c far frames formers parities
-    → AreSteady before s → TouchesSpans far before → Starts c far new frames before ls s
-starts c far new frames formers parities before ls s d none reads is steady touched =
+    → AreRowsCoded far frames formers parities before s (played before s) → far.leaving ≡ None
+    → AreAllReads (LiesInOne frames) ls → new ≡ with_batch far frames formers parities
+    → AreSteady before s → TouchesSpans far before → Starts far new frames before ls s
+starts far new frames formers parities before ls s d none reads is steady touched =
     let t = played before s in
     let same : played (before ++ ls) s ≡ t = played_append before ls s ∙ reads.stays t in
     let in_spans = IsIn far.spans (candidates far) in
@@ -55,17 +54,17 @@ starts c far new frames formers parities before ls s d none reads is steady touc
     refl in
     let told = told_before (λ h. ⊥) (LiesInOne frames) before ls s reads.touches reads.quiet in
     record {
-      begun = subst (λ (x : FarState). HasBegun c far x frames (before ++ ls)) (sym is)
-          (rule_begun c far frames formers parities before s t d none ls reads.quiet);
+      begun = subst (λ (x : FarState). HasBegun far x frames (before ++ ls)) (sym is)
+          (rule_begun far frames formers parities before s t d none ls reads.quiet);
       sound = subst (λ (x : FarState). Sound (played (before ++ ls) s) x) (sym is)
-          (subst (λ (v : Shown). Sound v (with_batch c far frames formers parities)) (sym same)
-          (sound_begun c far frames formers parities before s t d none));
+          (subst (λ (v : Shown). Sound v (with_batch far frames formers parities)) (sym same)
+          (sound_begun far frames formers parities before s t d none));
       effect = subst (λ (x : FarState). IsBatchBegun far x (before ++ ls) s
           (played (before ++ ls) s))
           (sym is)
-          (subst (λ (v : Shown). IsBatchBegun far (with_batch c far frames formers parities)
+          (subst (λ (v : Shown). IsBatchBegun far (with_batch far frames formers parities)
           (before ++ ls) s v) (sym same)
-          (effect_begun c far frames formers parities before s t d none ls reads.quiet
+          (effect_begun far frames formers parities before s t d none ls reads.quiet
           (steady.hots ∙ sym (ap (λ (x : Shown). x.hots) told))
           (told_objects (before ++ ls) s).0
           (sym (ap (λ (x : Shown). x.versions) same) ∙ words.0)
@@ -90,15 +89,15 @@ noted_far far frames words parities shards = record far {
 }
 
 -- the far state in which it ends
-pub batch_then : (c : Config) (far mid new : FarState) (frames : List ℕ) (formers : List Former)
+pub batch_then : (far mid new : FarState) (frames : List ℕ) (formers : List Former)
     (parities : List (List ℕ)) (shards : List (Option Shard))
-    → mid ≡ with_reserved far (blank_shards (c.k + c.r)) frames
-    → new ≡ noted_far mid frames formers parities shards → shards ≡ replicate (c.k + c.r) None
-    → new ≡ with_batch c far frames formers parities
-batch_then c far mid new frames formers parities shards a b f =
+    → mid ≡ with_reserved far (blank_shards (far.code.k + far.code.r)) frames
+    → new ≡ noted_far mid frames formers parities shards → shards ≡ replicate (far.code.k + far.code.r) None
+    → new ≡ with_batch far frames formers parities
+batch_then far mid new frames formers parities shards a b f =
     b ∙ ap (λ (x : FarState). noted_far x frames formers parities shards) a
     ∙ ap (λ (l : List (Option Shard)). noted_far
-    (with_reserved far (blank_shards (c.k + c.r)) frames) frames formers parities l) f
+    (with_reserved far (blank_shards (far.code.k + far.code.r)) frames) frames formers parities l) f
 
 -- ---- the same, of the same lists
 pub blank_count : (blank : List Shard) (n : ℕ) → blank ≡ blank_shards n → length blank ≡ n
@@ -108,9 +107,9 @@ pub reads_as : (runs : List Event → Type 0) (gs frames : List ℕ) → gs ≡ 
     → ReadsFrames runs gs → ReadsFrames runs frames
 reads_as runs gs frames e x = subst (ReadsFrames runs) e x
 
-pub reserves_as : (runs : List Event → Type 0) (shows : Shown → Type 0) (c : Config)
+pub reserves_as : (runs : List Event → Type 0) (shows : Shown → Type 0)
     (far new : FarState) (gs frames : List ℕ) (parities : List (List ℕ)) → gs ≡ frames
-    → ReservesFrames runs shows c far new gs parities
-    → ReservesFrames runs shows c far new frames parities
-reserves_as runs shows c far new gs frames parities e x =
-    subst (λ (l : List ℕ). ReservesFrames runs shows c far new l parities) e x
+    → ReservesFrames runs shows far new gs parities
+    → ReservesFrames runs shows far new frames parities
+reserves_as runs shows far new gs frames parities e x =
+    subst (λ (l : List ℕ). ReservesFrames runs shows far new l parities) e x

@@ -4,7 +4,6 @@ use Rattle.std.proofs.lemmas.List.{append_cancel_left, get_or_append_left, lengt
 use Rattle.cb_gf256.specs.InRange.{IsInRange}
 use Rattle.cb_types.specs.declared.reply.Reply.{Reply}
 use Rattle.cb_types.specs.declared.reply.Reply.TheVariants as answer
-use Rattle.cb_types.specs.Config.{IsAccepted}
 use Rattle.cb_world.specs.declared.leaving.Former.{Former}
 use Rattle.cb_world.specs.FarState.{FarState}
 use Rattle.cb_world.specs.Leaving.{LeavingState}
@@ -20,7 +19,6 @@ use Rattle.cb_evict.specs.EvictStep.{loose_frames}
 use Rattle.cb_evict.specs.Order.{noted_of}
 use Rattle.cb_evict.proofs.EvictKeeps.{in_or_not}
 use Rattle.cb_evict.proofs.ChangedWords.{changes_fixed}
-use Rattle.cb_evict.proofs.Ending.{code_range}
 use Rattle.cb_evict.proofs.EvictFixed.{first_loose}
 use Rattle.cb_evict.proofs.Options.{none_some}
 
@@ -61,22 +59,22 @@ parities_fixed k r rows a b range count x y =
     ∙ sym (get_or_append_left rows b [] i (omega (arith, within, count)))))
 
 batch_fixed : (x y z : Words) (far new other : FarState) (frames : List ℕ)
-    → IsInRange x.settings.k x.settings.r → length frames ≡ x.settings.k
+    → IsInRange far.code.k far.code.r → length frames ≡ far.code.k
     → IsBegunTo x y far new frames → IsBegunTo x z far other frames → (y ≡ z) × (new ≡ other)
 batch_fixed x y z far new other frames range count a b =
     let words = noted_fixed x _ a.words b.words a.order b.order a.noted b.noted in
     let rows = length-map frames (λ f. row_of (window x.memory (512 * f) 512)) in
-    let parities = parities_fixed x.settings.k x.settings.r (frame_rows x frames) a.parities
+    let parities = parities_fixed far.code.k far.code.r (frame_rows x frames) a.parities
     b.parities range (rows ∙ count) a.word b.word in (
       held_fixed x y z far frames a.held b.held,
-      a.state ∙ (λ i. with_batch x.settings far frames (words i) (parities i)) ∙ sym b.state,
+      a.state ∙ (λ i. with_batch far frames (words i) (parities i)) ∙ sym b.state,
     )
 
 begun_fixed : (x y z : Words) (far new other : FarState) (r q : Reply)
-    → IsInRange x.settings.k x.settings.r → IsBatchMade x y far new r → IsBatchMade x z far other q
+    → IsInRange far.code.k far.code.r → IsBatchMade x y far new r → IsBatchMade x z far other q
     → IsOneEnd r q y z new other
 begun_fixed x y z far new other r q range a b =
-    let ends = batch_fixed x y z far new other (take x.settings.k (loose_frames x far)) range
+    let ends = batch_fixed x y z far new other (take far.code.k (loose_frames x far)) range
     (first_loose x far a.enough) a.begun b.begun in
     record { reply = a.reply ∙ sym b.reply; words = ends.0; far = ends.1 }
 
@@ -85,7 +83,7 @@ pub leaving_or_not : (far : FarState) (batch : LeavingState) → far.leaving ≡
 leaving_or_not far batch a b = none_some batch (sym b ∙ a)
 
 pub begin_step_fixes : (x y z : Words) (far new other : FarState) (r q : Reply)
-    → IsAccepted x.settings → IsBeginStep x y far new r → IsBeginStep x z far other q
+    → IsInRange far.code.k far.code.r → IsBeginStep x y far new r → IsBeginStep x z far other q
     → IsOneEnd r q y z new other
 begin_step_fixes x y z far new other r q ok (is_leaving s a e n w) (is_leaving t b f m v) =
     let same : s ≡ t = some_same s t (sym a ∙ b) in
@@ -120,4 +118,4 @@ begin_step_fixes x y z far new other r q ok (begins a) (few_spans p b f) =
 begin_step_fixes x y z far new other r q ok (begins a) (few_nodes p b f) =
     absurd (let l = b.few in let m = a.room in omega (arith, l, m))
 begin_step_fixes x y z far new other r q ok (begins a) (begins b) =
-    begun_fixed x y z far new other r q (code_range x.settings ok) a b
+    begun_fixed x y z far new other r q ok a b

@@ -2,7 +2,6 @@
 use Rattle.std.proofs.Common.{◌≡◌, ◌⊎◌, ℕ, List, [], length, replicate, Option, Some, None, sym, refl, ap, ◌∙◌, subst, inl, inr}
 use Rattle.std.specs.Option.{option_map}
 use Rattle.cb_member.specs.declared.names.Shard.{Shard}
-use Rattle.cb_types.specs.declared.config.Config.{Config}
 use Rattle.cb_types.specs.declared.handle.SetId.{SetId}
 use Rattle.cb_types.specs.declared.reply.Reply.{Reply}
 use Rattle.cb_types.specs.declared.reply.Reply.TheVariants as answer
@@ -76,9 +75,9 @@ nodes_refusal n r e = record {
   no_batch = λ id f. nodes_batch n r id e f;
 }
 
-refused_rule : (c : Config) (far : FarState) (r : Reply) (es : List Event)
-    → far.leaving ≡ None → IsFrontRefusal r → EvictRule c far far r es → BeginRule c far far r es
-refused_rule c far r es none off x = inr (record {
+refused_rule : (far : FarState) (r : Reply) (es : List Event)
+    → far.leaving ≡ None → IsFrontRefusal r → EvictRule far far r es → BeginRule far far r es
+refused_rule far r es none off x = inr (record {
   none = none;
   loose = x.loose;
   found = x.found;
@@ -86,10 +85,10 @@ refused_rule c far r es none off x = inr (record {
   touches = x.touches;
 })
   where
-    by : HasFewSpans c far far r x.loose ⊎ (HasFewNodes c far far r x.loose
-        ⊎ HasBoth c far far r x.loose es)
-        → HasFewSpans c far far r x.loose ⊎ (HasFewNodes c far far r x.loose
-        ⊎ HasBatch c far far r x.loose es)
+    by : HasFewSpans far far r x.loose ⊎ (HasFewNodes far far r x.loose
+        ⊎ HasBoth far far r x.loose es)
+        → HasFewSpans far far r x.loose ⊎ (HasFewNodes far far r x.loose
+        ⊎ HasBatch far far r x.loose es)
     by (inl a) = inl a
     by (inr (inl a)) = inr (inl a)
     by (inr (inr a)) = absurd (off.no_set (record { n = far.counts.sets }) a.reply)
@@ -101,45 +100,45 @@ refused_effect far r es s t off x = record {
   left = λ e. x.left off.no_set;
 }
 
-pub refuses : (c : Config) (far : FarState) (r : Reply) (runs : List Event → Type 0)
+pub refuses : (far : FarState) (r : Reply) (runs : List Event → Type 0)
     (knows sound : Shown → Type 0) → far.leaving ≡ None → IsFrontRefusal r
-    → Performs runs knows (EvictRule c far far r) sound (EvictEffect far far r)
-    → Performs runs knows (BeginRule c far far r) sound (BeginEffect far far r)
-refuses c far r runs knows sound none off x = record {
+    → Performs runs knows (EvictRule far far r) sound (EvictEffect far far r)
+    → Performs runs knows (BeginRule far far r) sound (BeginEffect far far r)
+refuses far r runs knows sound none off x = record {
   events = x.events;
   ran = x.ran;
   looks_first = x.looks_first;
-  rule = refused_rule c far r x.events none off x.rule;
+  rule = refused_rule far r x.events none off x.rule;
   allowed = x.allowed;
   sound_after = x.sound_after;
   effect = λ s k. refused_effect far r x.events s (played x.events s) off (x.effect s k);
 }
 
-few_refusal : (c : Config) (far : FarState) (r : Reply) (loose : List ℕ)
-    → HasFewSpans c far far r loose ⊎ HasFewNodes c far far r loose → IsFrontRefusal r
-few_refusal c far r loose (inl a) = spans_refusal (length loose) r a.reply
-few_refusal c far r loose (inr a) = nodes_refusal (room_count far.nodes far.members) r a.reply
+few_refusal : (far : FarState) (r : Reply) (loose : List ℕ)
+    → HasFewSpans far far r loose ⊎ HasFewNodes far far r loose → IsFrontRefusal r
+few_refusal far r loose (inl a) = spans_refusal (length loose) r a.reply
+few_refusal far r loose (inr a) = nodes_refusal (room_count far.nodes far.members) r a.reply
 
-pub begin_few : (c : Config) (far : FarState) (r : Reply) (e : Eviction)
+pub begin_few : (far : FarState) (r : Reply) (e : Eviction)
     (runs : List Event → Type 0) (shows : Shown → Type 0) → far.leaving ≡ None → r ≡ reply_of e
-    → TakesFew runs shows c far (AreLooseNow far) e
-    → Performs runs (λ s. shows s × Sound s far) (BeginRule c far far r) (λ t. Sound t far)
+    → TakesFew runs shows far (AreLooseNow far) e
+    → Performs runs (λ s. shows s × Sound s far) (BeginRule far far r) (λ t. Sound t far)
     (BeginEffect far far r)
-begin_few c far r e runs shows none is x =
-    refuses c far r runs (λ s. shows s × Sound s far) (λ t. Sound t far) none
-    (subst IsFrontRefusal (sym is) (few_refusal c far (reply_of e) x.loose x.few))
-    (replied c far far e r runs (λ s. shows s × Sound s far) (λ t. Sound t far) is
-    (takes_few c far e runs shows x))
+begin_few far r e runs shows none is x =
+    refuses far r runs (λ s. shows s × Sound s far) (λ t. Sound t far) none
+    (subst IsFrontRefusal (sym is) (few_refusal far (reply_of e) x.loose x.few))
+    (replied far far e r runs (λ s. shows s × Sound s far) (λ t. Sound t far) is
+    (takes_few far e runs shows x))
 
 -- ---- a batch is leaving already
-pub begins_not : (c : Config) (far : FarState) (r : Reply) (id : SetId)
+pub begins_not : (far : FarState) (r : Reply) (id : SetId)
     (runs : List Event → Type 0) (knows : Shown → Type 0)
     → option_map number_of far.leaving ≡ Some id → r ≡ answer.Leaving id → runs []
-    → Performs runs (λ s. knows s × Sound s far) (BeginRule c far far r) (λ t. Sound t far)
+    → Performs runs (λ s. knows s × Sound s far) (BeginRule far far r) (λ t. Sound t far)
     (BeginEffect far far r)
-begins_not c far r id runs knows e is ran =
+begins_not far r id runs knows e is ran =
     let b = some_leaving far.leaving id e in
-    does_nothing runs knows far far (BeginRule c far far r) (BeginEffect far far r) ran refl
+    does_nothing runs knows far far (BeginRule far far r) (BeginEffect far far r) ran refl
     (inl (record {
       batch = b.0;
       there = b.1;
@@ -154,17 +153,17 @@ begins_not c far r id runs knows e is ran =
 
 -- ---- k spans were claimed and are leaving from here
 pub takes_begin : {runsA runsB runsC : List Event → Type 0} {showsA showsB : Shown → Type 0}
-    {c : Config} {far new : FarState} {frames : List ℕ} {formers : List Former} (r : Reply)
+    {far new : FarState} {frames : List ℕ} {formers : List Former} (r : Reply)
     → Joins runsA runsB runsC showsA showsB
-    → TakesEnough runsA showsA c far (AreLooseNow far) frames formers
-    → BeginsClaimed runsB showsB c far new frames formers
+    → TakesEnough runsA showsA far (AreLooseNow far) frames formers
+    → BeginsClaimed runsB showsB far new frames formers
     → far.leaving ≡ None → r ≡ answer.Batch (record { n = far.counts.sets })
     → (s : Shown) × showsA s × Sound s far
-    → Performs runsC (λ s. showsA s × Sound s far) (BeginRule c far new r) (λ t. Sound t new)
+    → Performs runsC (λ s. showsA s × Sound s far) (BeginRule far new r) (λ t. Sound t new)
     (BeginEffect far new r)
 takes_begin {c = c} {far = far} {new = new} r j x y none is (s, knows, sound) =
     let all = all_tried j x y in
-    tried_end j x y (BeginRule c far new r) (BeginEffect far new r)
+    tried_end j x y (BeginRule far new r) (BeginEffect far new r)
     (inr (record {
       none = none;
       loose = x.loose;
@@ -173,7 +172,7 @@ takes_begin {c = c} {far = far} {new = new} r j x y none is (s, knows, sound) =
         enough = x.enough;
         room = x.room;
         reply = is;
-        begun = subst (λ (l : List ℕ). HasBegun c far new l all.events) x.first
+        begun = subst (λ (l : List ℕ). HasBegun far new l all.events) x.first
             (ended_from j x y s knows sound).rule;
       }));
       touches = all.touches;

@@ -102,13 +102,13 @@ held_words x y far new s es frames r spans leaves free z =
 
 begun_to : (x y : Words) (far new : FarState) (s : Shown) (es : List Event)
     → RunsStill x y far s es → IsKnown y new (played es s)
-    → x.settings.k ≤ length (loose_frames x far)
-    → HasBegun x.settings far new (take x.settings.k (loose_frames x far)) es
+    → far.code.k ≤ length (loose_frames x far)
+    → HasBegun far new (take far.code.k (loose_frames x far)) es
     → IsBatchBegun far new es s (played es s)
-    → IsBegunTo x y far new (take x.settings.k (loose_frames x far))
+    → IsBegunTo x y far new (take far.code.k (loose_frames x far))
 begun_to x y far new s es r l enough b z =
-    let k = x.settings.k in let frames = take k (loose_frames x far) in
-    let batch = new_batch x.settings far frames b.words b.parities in
+    let k = far.code.k in let frames = take k (loose_frames x far) in
+    let batch = new_batch far frames b.words b.parities in
     let held = held_words x y far new s es frames r
     (ap (λ (f : FarState). f.spans) b.state) (ap (λ (f : FarState). leaving_frames f.leaving)
     b.state)
@@ -124,9 +124,9 @@ begun_to x y far new s es r l enough b z =
       noted = λ i e within. let f = get_or b.words i e in
           sym (found_exact es x y f.handle f.word r.ran r.looks_first (b.found i e within));
       count = b.counts.1;
-      word = subst (λ (ms : List ℕ). IsSpanWord k x.settings.r
+      word = subst (λ (ms : List ℕ). IsSpanWord k far.code.r
           (map (λ f. row_of (window ms (512 * f) 512)) frames ++ b.parities)) memory
-          (subst (λ (n : ℕ). IsSpanWord n x.settings.r (batch_rows (played es s) batch))
+          (subst (λ (n : ℕ). IsSpanWord n far.code.r (batch_rows (played es s) batch))
           (length-take-le k (loose_frames x far) enough)
           (subst (λ (n : ℕ). IsSpanWord (length frames) n (batch_rows (played es s) batch))
           b.counts.1 word));
@@ -138,18 +138,18 @@ begun_to x y far new s es r l enough b z =
 by_looks : (x y : Words) (far new : FarState) (r : Reply) (s : Shown) (es : List Event)
     (loose : List ℕ) → RunsStill x y far s es → IsKnown y new (played es s) → far.leaving ≡ None
     → loose ≡ loose_frames x far → BeginEffect far new r es s (played es s)
-    → HasFewSpans x.settings far new r loose ⊎ (HasFewNodes x.settings far new r loose
-    ⊎ HasBatch x.settings far new r loose es)
+    → HasFewSpans far new r loose ⊎ (HasFewNodes far new r loose
+    ⊎ HasBatch far new r loose es)
     → IsBeginStep x y far new r × IsStepKnown y far new s
 by_looks x y far new r s es loose runs l none same effect (inl a) =
     refused x y far new s es runs l (effect.left
     (λ id e. spans_batch (length loose) r id a.reply e)) a.state
-    (few_spans none (subst (HasFewSpans x.settings far new r) same a))
+    (few_spans none (subst (HasFewSpans far new r) same a))
 by_looks x y far new r s es loose runs l none same effect (inr (inl a)) =
     refused x y far new s es runs l (effect.left (λ id e. nodes_batch _ r id a.reply e)) a.state
-    (few_nodes none (subst (HasFewNodes x.settings far new r) same a))
+    (few_nodes none (subst (HasFewNodes far new r) same a))
 by_looks x y far new r s es loose runs l none same effect (inr (inr a)) =
-    let b = subst (λ (frames : List ℕ). HasBatch x.settings far new r frames es) same a in
+    let b = subst (λ (frames : List ℕ). HasBatch far new r frames es) same a in
     let z = effect.begun (record { n = far.counts.sets }) a.reply in (
       begins (record {
         none = none;
@@ -167,7 +167,7 @@ by_looks x y far new r s es loose runs l none same effect (inr (inr a)) =
 
 by_rule : (x y : Words) (far new : FarState) (r : Reply) (s : Shown) (es : List Event)
     → RunsStill x y far s es → IsKnown y new (played es s)
-    → BeginEffect far new r es s (played es s) → BeginRule x.settings far new r es
+    → BeginEffect far new r es s (played es s) → BeginRule far new r es
     → IsBeginStep x y far new r × IsStepKnown y far new s
 by_rule x y far new r s es runs l effect (inl a) =
     refused x y far new s es runs l (effect.left (λ id e. leaving_batch _ id r a.reply e)) a.state
@@ -179,9 +179,9 @@ by_rule x y far new r s es runs l effect (inr a) =
 -- Over a still desk of which all is known a begin is a step, and all is known of it afterwards. A
 -- begin that found no memory changes no word, as an eviction does (`evict_stopped`).
 pub begin_step : (x y : Words) (far new : FarState) (r : Reply) (s : Shown)
-    → PerformsStill x y far new (BeginRule x.settings far new r) (BeginEffect far new r)
+    → PerformsStill x y far new (BeginRule far new r) (BeginEffect far new r)
     → IsKnown x far s → IsBeginStep x y far new r × IsStepKnown y far new s
 begin_step x y far new r s p k =
-    let rules = BeginRule x.settings far new r in let does = BeginEffect far new r in
+    let rules = BeginRule far new r in let does = BeginEffect far new r in
     by_rule x y far new r s p.events (runs_still x y far new rules does s k p)
     (known_then x y far new rules does s k p) (p.effect s ((k.sized, k.shows), k.sound)) p.rule

@@ -7,7 +7,6 @@ use Rattle.std.proofs.lemmas.List.Elements.{All-contains, All-nil}
 use Rattle.std.proofs.lemmas.List.Kept.{AllPairs-cons}
 use Rattle.cb_span.specs.Contents.{Contents}
 use Rattle.cb_gf256.specs.Rows.{HaveLength}
-use Rattle.cb_types.specs.declared.config.Config.{Config}
 use Rattle.cb_types.specs.declared.handle.SetId.{SetId}
 use Rattle.cb_types.specs.declared.reply.Reply.{Reply}
 use Rattle.cb_types.specs.declared.reply.Reply.TheVariants as answer
@@ -81,17 +80,17 @@ pub read_err : {T : Type 0} {E : Type 0} (runs : List Event → Type 0) (frames 
 read_err runs frames es r ran loads = any_err (ReadsFrames runs frames) r (es, ran, loads)
 
 -- ---- by what was found, and by what was taken
-pub found_loose : (runs : List Event → Type 0) (shows : Shown → Type 0) (c : Config)
+pub found_loose : (runs : List Event → Type 0) (shows : Shown → Type 0)
     (far : FarState) (found : Found) (frames : _) (nodes : ℕ) → found ≡ Loose frames nodes
-    → FindsSpans runs shows c far found → FindsSpans runs shows c far (Loose frames nodes)
-found_loose runs shows c far found frames nodes is x = subst (FindsSpans runs shows c far) is x
+    → FindsSpans runs shows far found → FindsSpans runs shows far (Loose frames nodes)
+found_loose runs shows far found frames nodes is x = subst (FindsSpans runs shows far) is x
 
-pub taken_enough : (runs : List Event → Type 0) (shows : Shown → Type 0) (c : Config)
+pub taken_enough : (runs : List Event → Type 0) (shows : Shown → Type 0)
     (far : FarState) (finds : List ℕ → List Event → Type 0) (taken : Taken) (frames : _)
-    (formers : _) → taken ≡ Enough frames formers → Takes runs shows c far finds taken
-    → Takes runs shows c far finds (Enough frames formers)
-taken_enough runs shows c far finds taken frames formers is x =
-    subst (Takes runs shows c far finds) is x
+    (formers : _) → taken ≡ Enough frames formers → Takes runs shows far finds taken
+    → Takes runs shows far finds (Enough frames formers)
+taken_enough runs shows far finds taken frames formers is x =
+    subst (Takes runs shows far finds) is x
 
 -- ---- the rows that are made
 pub rows_made : (rows : List (List ℕ)) (k n : ℕ) → rows ≡ replicate k (replicate 4096 0) → n ≡ k
@@ -186,14 +185,12 @@ module _ {runsA runsB runsC : List Event → Type 0} {showsA showsB : Shown → 
             (λ k d l. All-nil (λ f. f.handle ≢ (get_or formers k d).handle)),
       )
 
-  pub looked_takes : (c d : Config) (taken : Taken) → d ≡ c
-      → Takes runsB showsB d far (AreLooseStill far was) taken
-      → Takes runsC showsA c far (AreLooseNow far) taken
-  looked_takes c d taken same y =
-      subst (λ (n : Config). Takes runsC showsA n far (AreLooseNow far) taken) same (by taken y)
+  pub looked_takes : (taken : Taken) → Takes runsB showsB far (AreLooseStill far was) taken
+      → Takes runsC showsA far (AreLooseNow far) taken
+  looked_takes taken y = by taken y
     where
-      by : (taken : Taken) → Takes runsB showsB d far (AreLooseStill far was) taken
-          → Takes runsC showsA d far (AreLooseNow far) taken
+      by : (taken : Taken) → Takes runsB showsB far (AreLooseStill far was) taken
+          → Takes runsC showsA far (AreLooseNow far) taken
       by (Few lack loose nodes) y = record {
         loose = y.loose;
         tries = looked_tries y.loose [] y.tries;
@@ -250,11 +247,11 @@ looked_fails far loose {shows = shows} x on =
     }
 
 -- so it is refused
-pub takes_few : (c : Config) (far : FarState) (e : Eviction) (runs : List Event → Type 0)
-    (shows : Shown → Type 0) → TakesFew runs shows c far (AreLooseNow far) e
-    → Performs runs (λ s. shows s × Sound s far) (CountsRule c far far e) (λ t. Sound t far)
+pub takes_few : (far : FarState) (e : Eviction) (runs : List Event → Type 0)
+    (shows : Shown → Type 0) → TakesFew runs shows far (AreLooseNow far) e
+    → Performs runs (λ s. shows s × Sound s far) (CountsRule far far e) (λ t. Sound t far)
     (EvictEffect far far (reply_of e))
-takes_few c far e runs shows x = let y = x.tries in record {
+takes_few far e runs shows x = let y = x.tries in record {
   events = y.events;
   ran = y.ran;
   looks_first = y.first;
@@ -273,16 +270,16 @@ takes_few c far e runs shows x = let y = x.tries in record {
       (still_at far (AreLooseNow far x.loose) y s k).0;
 }
   where
-    answer_of : HasFewSpans c far far (reply_of e) x.loose
-        ⊎ HasFewNodes c far far (reply_of e) x.loose
-        → HasFewSpans c far far (reply_of e) x.loose
-        ⊎ (HasFewNodes c far far (reply_of e) x.loose
-        ⊎ HasBoth c far far (reply_of e) x.loose x.tries.events)
+    answer_of : HasFewSpans far far (reply_of e) x.loose
+        ⊎ HasFewNodes far far (reply_of e) x.loose
+        → HasFewSpans far far (reply_of e) x.loose
+        ⊎ (HasFewNodes far far (reply_of e) x.loose
+        ⊎ HasBoth far far (reply_of e) x.loose x.tries.events)
     answer_of (inl a) = inl a
     answer_of (inr a) = inr (inl a)
 
-    no_set : HasFewSpans c far far (reply_of e) x.loose
-        ⊎ HasFewNodes c far far (reply_of e) x.loose
+    no_set : HasFewSpans far far (reply_of e) x.loose
+        ⊎ HasFewNodes far far (reply_of e) x.loose
         → (id : SetId) → reply_of e ≡ answer.Set id → ⊥
     no_set (inl a) id is = few_spans (length x.loose) (reply_of e) id a.reply is
     no_set (inr a) id is =
@@ -304,31 +301,31 @@ rule_weaker runs knows sound rule other does f x = record {
 }
 
 -- the reply of an eviction that tells both counts
-pub replied : (c : Config) (far new : FarState) (e : Eviction) (r : Reply)
+pub replied : (far new : FarState) (e : Eviction) (r : Reply)
     (runs : List Event → Type 0) (knows sound : Shown → Type 0) → r ≡ reply_of e
-    → Performs runs knows (CountsRule c far new e) sound (EvictEffect far new (reply_of e))
-    → Performs runs knows (EvictRule c far new r) sound (EvictEffect far new r)
-replied c far new e r runs knows sound is x =
-    subst (λ (q : Reply). Performs runs knows (EvictRule c far new q) sound (EvictEffect far new q))
-    (sym is) (rule_weaker runs knows sound (CountsRule c far new e)
-    (EvictRule c far new (reply_of e))
+    → Performs runs knows (CountsRule far new e) sound (EvictEffect far new (reply_of e))
+    → Performs runs knows (EvictRule far new r) sound (EvictEffect far new r)
+replied far new e r runs knows sound is x =
+    subst (λ (q : Reply). Performs runs knows (EvictRule far new q) sound (EvictEffect far new q))
+    (sym is) (rule_weaker runs knows sound (CountsRule far new e)
+    (EvictRule far new (reply_of e))
     (EvictEffect far new (reply_of e)) (λ es y. y.rule) x)
 
 -- a set has no counts to tell
-pub set_counted : (c : Config) (far new : FarState) (id : SetId) (e : Eviction) (es : List Event)
-    → e ≡ eviction.Set id → EvictRule c far new (reply_of e) es → CountsRule c far new e es
-set_counted c far new id e es is x = record {
+pub set_counted : (far new : FarState) (id : SetId) (e : Eviction) (es : List Event)
+    → e ≡ eviction.Set id → EvictRule far new (reply_of e) es → CountsRule far new e es
+set_counted far new id e es is x = record {
   rule = x;
   counts = subst (TellsCounts far x.loose) (sym is) tt;
 }
 
 -- ---- the claims
-pub are_taken : (c : Config) (far : FarState) (loose frames : List ℕ) (formers : List Former)
+pub are_taken : (far : FarState) (loose frames : List ℕ) (formers : List Former)
     (runs : List Event → Type 0) (shows : Shown → Type 0) (k : ℕ)
     → ClaimsSpans runs shows far.spans loose k frames formers
     → All (Contains (candidates far)) loose
-    → length frames ≡ c.k → AreSpansTaken c far frames formers
-are_taken c far loose frames formers runs shows k x among count = record {
+    → length frames ≡ far.code.k → AreSpansTaken far frames formers
+are_taken far loose frames formers runs shows k x among count = record {
   count = count;
   among = λ i d l. All-contains (Contains (candidates far)) loose (get_or frames i d) among
       (x.among i d l);
@@ -338,23 +335,19 @@ are_taken c far loose frames formers runs shows k x among count = record {
   each_once = x.each_once;
 }
 
--- the same, of the same configuration and the same lists
-pub taken_as : (c d : Config) (far : FarState) (frames gs : List ℕ) (formers hs : List Former)
-    → c ≡ d → gs ≡ frames → hs ≡ formers → AreSpansTaken c far frames formers
-    → AreSpansTaken d far gs hs
-taken_as c d far frames gs formers hs e f h a =
-    subst (λ (n : Config). AreSpansTaken n far gs hs) e
-    (subst (λ (l : List Former). AreSpansTaken c far gs l) (sym h)
-    (subst (λ (l : List ℕ). AreSpansTaken c far l formers) (sym f) a))
+-- the same, of the same lists
+pub taken_as : (far : FarState) (frames gs : List ℕ) (formers hs : List Former) → gs ≡ frames → hs ≡ formers → AreSpansTaken far frames formers
+    → AreSpansTaken far gs hs
+taken_as far frames gs formers hs f h a =
+    subst (λ (l : List Former). AreSpansTaken far gs l) (sym h)
+    (subst (λ (l : List ℕ). AreSpansTaken far l formers) (sym f) a)
 
-pub evicts_as : (runs : List Event → Type 0) (shows : Shown → Type 0) (c d : Config)
-    (far new : FarState) (frames gs : List ℕ) (formers hs : List Former) → c ≡ d → gs ≡ frames
-    → hs ≡ formers → EvictsClaimed runs shows d far new gs hs
-    → EvictsClaimed runs shows c far new frames formers
-evicts_as runs shows c d far new frames gs formers hs e f h a =
-    subst (λ (n : Config). EvictsClaimed runs shows n far new frames formers) (sym e)
-    (subst (λ (l : List Former). EvictsClaimed runs shows d far new frames l) h
-    (subst (λ (l : List ℕ). EvictsClaimed runs shows d far new l hs) f a))
+pub evicts_as : (runs : List Event → Type 0) (shows : Shown → Type 0)
+    (far new : FarState) (frames gs : List ℕ) (formers hs : List Former) → gs ≡ frames → hs ≡ formers → EvictsClaimed runs shows far new gs hs
+    → EvictsClaimed runs shows far new frames formers
+evicts_as runs shows far new frames gs formers hs f h a =
+    subst (λ (l : List Former). EvictsClaimed runs shows far new frames l) h
+    (subst (λ (l : List ℕ). EvictsClaimed runs shows far new l hs) f a)
 
 pub leaves_as : (runs : List Event → Type 0) (shows : Shown → Type 0)
     (far : FarState) (frames gs : List ℕ) (formers hs : List Former) → gs ≡ frames → hs ≡ formers
@@ -452,10 +445,10 @@ tried_ready far formers finds x s shown knows sound =
     }
 
 module _ {runsA runsB runsC : List Event → Type 0} {showsA showsB : Shown → Type 0}
-    {far new : FarState} {frames : List ℕ} {formers : List Former} {c : Config}
+    {far new : FarState} {frames : List ℕ} {formers : List Former}
     {ends : List Event → Type 0} {does : List Event → Shown → Shown → Type 0}
     (j : Joins runsA runsB runsC showsA showsB)
-    (x : TakesEnough runsA showsA c far (AreLooseNow far) frames formers)
+    (x : TakesEnough runsA showsA far (AreLooseNow far) frames formers)
     (y : EndsClaimed runsB showsB far new frames formers ends does) where
   -- what is known of all events in the end
   pub ended_from : (s : Shown) → showsA s → Sound s far
@@ -490,24 +483,24 @@ module _ {runsA runsB runsC : List Event → Type 0} {showsA showsB : Shown → 
 
 -- k spans were claimed and are evicted
 pub takes_evict : {runsA runsB runsC : List Event → Type 0} {showsA showsB : Shown → Type 0}
-    {c : Config} {far new : FarState} {frames : List ℕ} {formers : List Former} (e : Eviction)
+    {far new : FarState} {frames : List ℕ} {formers : List Former} (e : Eviction)
     → Joins runsA runsB runsC showsA showsB
-    → TakesEnough runsA showsA c far (AreLooseNow far) frames formers
-    → EvictsClaimed runsB showsB c far new frames formers
+    → TakesEnough runsA showsA far (AreLooseNow far) frames formers
+    → EvictsClaimed runsB showsB far new frames formers
     → e ≡ eviction.Set (record { n = far.counts.sets }) → (s : Shown) × showsA s × Sound s far
-    → Performs runsC (λ s. showsA s × Sound s far) (CountsRule c far new e) (λ t. Sound t new)
+    → Performs runsC (λ s. showsA s × Sound s far) (CountsRule far new e) (λ t. Sound t new)
     (EvictEffect far new (reply_of e))
 takes_evict {c = c} {far = far} {new = new} e j x y is (s, knows, sound) =
     let all = all_tried j x y in let id : SetId = record { n = far.counts.sets } in
-    tried_end j x y (CountsRule c far new e) (EvictEffect far new (reply_of e))
-    (set_counted c far new id e all.events is (record {
+    tried_end j x y (CountsRule far new e) (EvictEffect far new (reply_of e))
+    (set_counted far new id e all.events is (record {
       loose = x.loose;
       found = all.done;
       answered = inr (inr (record {
         enough = x.enough;
         room = x.room;
         reply = ap reply_of is;
-        evicted = subst (λ (l : List ℕ). HasEvicted c far new l all.events) x.first
+        evicted = subst (λ (l : List ℕ). HasEvicted far new l all.events) x.first
             (ended_from j x y s knows sound).rule;
       }));
       touches = all.touches;
@@ -516,9 +509,9 @@ takes_evict {c = c} {far = far} {new = new} e j x y is (s, knows, sound) =
 
 -- k spans were claimed and are given back for want of memory
 pub takes_fail : {runsA runsB runsC : List Event → Type 0} {showsA showsB : Shown → Type 0}
-    {c : Config} {far : FarState} {frames : List ℕ} {formers : List Former}
+    {far : FarState} {frames : List ℕ} {formers : List Former}
     → Joins runsA runsB runsC showsA showsB
-    → TakesEnough runsA showsA c far (AreLooseNow far) frames formers
+    → TakesEnough runsA showsA far (AreLooseNow far) frames formers
     → LeavesClaimed runsB showsB far frames formers
     → Performs runsC (λ s. showsA s × Sound s far) (TouchesSpans far) (λ t. Sound t far) IsStill
 takes_fail {far = far} j x y =

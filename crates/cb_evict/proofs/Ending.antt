@@ -9,9 +9,6 @@ use Rattle.cb_gf256.specs.InRange.{IsInRange}
 use Rattle.cb_gf256.specs.Rows.{row_at, HoldBytes}
 use Rattle.cb_member.specs.declared.names.Shard.{Shard}
 use Rattle.cb_span.specs.Contents.{Contents}
-use Rattle.cb_types.specs.declared.config.Config.{Config}
-use Rattle.cb_types.specs.declared.config.Field.TheVariants.{K, R}
-use Rattle.cb_types.specs.Config.{IsAccepted}
 use Rattle.cb_world.specs.declared.entry.Entry.{Entry}
 use Rattle.cb_world.specs.declared.event.Event.{Event}
 use Rattle.cb_world.specs.declared.homes.Home.{Home}
@@ -45,11 +42,11 @@ use Rattle.cb_evict.proofs.Standing.{IsReadyFrame, ready_frame}
 use Rattle.cb_evict.proofs.TakenGroup.{AreRowsCoded, frame_rows, rows_read}
 
 -- ---- the frames that were taken
-pub taken_ready : (c : Config) (far : FarState) (frames : List ℕ) (formers : List Former)
+pub taken_ready : (far : FarState) (frames : List ℕ) (formers : List Former)
     (s : Shown)
-    → AreSpansTaken c far frames formers → LocalSound s far → (f : ℕ) → Contains frames f
+    → AreSpansTaken far frames formers → LocalSound s far → (f : ℕ) → Contains frames f
     → IsReadyFrame far f
-taken_ready c far frames formers s a sound f x =
+taken_ready far frames formers s a sound f x =
     ready_frame far s f sound (All-contains (Contains (candidates far)) frames f a.among x)
 
 pub place_in : (frames : List ℕ) (k d : ℕ) → k < length frames → Contains frames (get_or frames k d)
@@ -61,24 +58,15 @@ handles_all es s t formers n a count k d l =
     let h = (a.taken k d l).at.handle in omega (arith, h, count)
 
 -- the caller owns the words of the frames
-pub owns_taken : (c : Config) (far : FarState) (frames : List ℕ) (formers : List Former)
-    (before : List Event) (s t : Shown) → AreSpansTaken c far frames formers → LocalSound s far
+pub owns_taken : (far : FarState) (frames : List ℕ) (formers : List Former)
+    (before : List Event) (s t : Shown) → AreSpansTaken far frames formers → LocalSound s far
     → LocalSound t far → AreClaimed before s t formers → (f : ℕ) → Contains frames f → OwnsFrame t f
-owns_taken c far frames formers before s t a sound here claimed f x =
-    frame_owned far t f here (taken_ready c far frames formers s a sound f x).within
+owns_taken far frames formers before s t a sound here claimed f x =
+    frame_owned far t f here (taken_ready far frames formers s a sound f x).within
     (λ slot h span there named. claimed_held before s t formers claimed h
     (a.of.all h (f, x, (slot, ap (λ (o : Option Contents). handle_in o slot) there ∙ named))))
 
 -- ---- the eviction
--- the configured code
-pub code_range : (c : Config) → IsAccepted c → IsInRange c.k c.r
-code_range c ok = record {
-  data_least = (ok K).0;
-  data_most = (ok K).1;
-  parities_least = (ok R).0;
-  parities_most = (ok R).1;
-}
-
 -- the parities of a set that is kept
 pub kept_parities : {far mid : FarState} (shards : List Shard) (frames : List ℕ) (n : ℕ)
     (coded : List (List ℕ)) → length shards ≡ n → (kept : KeepsSet far mid shards frames coded)
@@ -87,17 +75,17 @@ kept_parities shards frames n coded count kept =
     record { count = sym kept.count ∙ count; word = kept.word; bytes = kept.bytes }
 
 -- what is known once the rows are read and coded
-pub are_read : (c : Config) (far : FarState) (frames : List ℕ) (formers : List Former)
+pub are_read : (far : FarState) (frames : List ℕ) (formers : List Former)
     (coded parities : List (List ℕ)) (shows : Shown → Type 0) (before : List Event) (s : Shown)
-    → IsAccepted c → IsReadyToEvict shows far formers before s → AreSpansTaken c far frames formers
-    → AreParities (length frames) (c.k + c.r) coded parities → length coded ≡ length frames
+    → IsInRange far.code.k far.code.r → IsReadyToEvict shows far formers before s → AreSpansTaken far frames formers
+    → AreParities (length frames) (far.code.k + far.code.r) coded parities → length coded ≡ length frames
     → ((p f : ℕ) → slice_get frames p ≡ Some f → IsRowOfFrame shows f (row_at coded p))
-    → AreRowsCoded c far frames formers parities before s (played before s)
+    → AreRowsCoded far frames formers parities before s (played before s)
     × (coded ≡ frame_rows (played before s) frames)
-are_read c far frames formers coded parities shows before s ok r taken a count made =
+are_read far frames formers coded parities shows before s ok r taken a count made =
     let t = played before s in
-    let owned = owns_taken c far frames formers before s t taken r.sound.here r.here r.claimed in
-    let few : length parities ≡ c.r = omega (arith, a.count, taken.count) in
+    let owned = owns_taken far frames formers before s t taken r.sound.here r.here r.claimed in
+    let few : length parities ≡ far.code.r = omega (arith, a.count, taken.count) in
     let same : coded ≡ frame_rows t frames = rows_read t frames coded count (λ p f at.
     let m = made p f at in
     m.made ∙ ap row_of (m.contents t r.shown (owned f (placed frames p f at)))) in (
@@ -106,10 +94,10 @@ are_read c far frames formers coded parities shows before s ok r taken a count m
         claimed = r.claimed;
         here = r.here;
         taken = taken;
-        range = code_range c ok;
+        range = ok;
         few = few;
-        word = subst (λ (rows : List (List ℕ)). IsCodeWord c.k c.r (rows ++ parities)) same
-            (subst (λ (n : ℕ). IsCodeWord n c.r (coded ++ parities)) taken.count
+        word = subst (λ (rows : List (List ℕ)). IsCodeWord far.code.k far.code.r (rows ++ parities)) same
+            (subst (λ (n : ℕ). IsCodeWord n far.code.r (coded ++ parities)) taken.count
             (subst (λ (n : ℕ). IsCodeWord (length frames) n (coded ++ parities)) few a.word));
         bytes = subst (λ (rows : List (List ℕ)). HoldBytes (rows ++ parities)) same a.bytes;
         small = λ f (p, within, at).
@@ -132,9 +120,9 @@ are_read c far frames formers coded parities shows before s ok r taken a count m
     )
 
 -- all that is promised of the events of the end
-pub record Ended (c : Config) (far new : FarState) (frames : List ℕ) (before events : List Event)
+pub record Ended (far new : FarState) (frames : List ℕ) (before events : List Event)
     (s : Shown) : Type 0 where
-  pub evicted : HasEvicted c far new frames (before ++ events)
+  pub evicted : HasEvicted far new frames (before ++ events)
   pub sound : Sound (played (before ++ events) s) new
   pub effect : IsEvicted far new (before ++ events) s (played (before ++ events) s)
 
@@ -169,16 +157,16 @@ pub end_played : (q : ℕ → Type 0) (formers : List Former) (before ls ss : Li
 end_played q formers before ls ss s e = played_append before (ls ++ ss) s
     ∙ played_append ls ss (played before s) ∙ ap (played ss) (e.reads.stays (played before s))
 
-pub ended : (c : Config) (far new : FarState) (frames : List ℕ) (formers : List Former)
+pub ended : (far new : FarState) (frames : List ℕ) (formers : List Former)
     (shards : List Shard) (coded parities : List (List ℕ)) (homes : List (Option Home))
     (q o p : ℕ → Type 0) (before ls ss : List Event) (s : Shown)
-    → EvictDone c far frames formers shards parities homes before s (played before s)
+    → EvictDone far frames formers shards parities homes before s (played before s)
     (played ss (played before s))
     → coded ≡ frame_rows (played before s) frames → IsEvictEnd q formers ls ss
     → new ≡ after_far far frames shards (coded ++ parities) homes → AreSteady before s
     → TouchesOnly o p (before ++ (ls ++ ss)) → Writes ss (played before s) []
-    → Ended c far new frames before (ls ++ ss) s
-ended c far new frames formers shards coded parities homes q o p before ls ss s d read e state
+    → Ended far new frames before (ls ++ ss) s
+ended far new frames formers shards coded parities homes q o p before ls ss s d read e state
     steady
     touches nothing =
     let t = played before s in let u = played ss t in
@@ -191,16 +179,16 @@ ended c far new frames formers shards coded parities homes q o p before ls ss s 
     let told = told_before (IsOne formers) q before events s (end_touches q formers ls ss e) quiet
     in
     record {
-      evicted = subst (λ (x : FarState). HasEvicted c far x frames (before ++ events)) (sym is)
-          (rule_then c far frames formers shards parities homes before s t u d events quiet);
+      evicted = subst (λ (x : FarState). HasEvicted far x frames (before ++ events)) (sym is)
+          (rule_then far frames formers shards parities homes before s t u d events quiet);
       sound = subst (λ (x : FarState). Sound (played (before ++ events) s) x) (sym is)
           (subst (λ (v : Shown). Sound v (after_far far frames shards rows homes)) (sym same)
-          (sound_then c far frames formers shards parities homes before s t u d));
+          (sound_then far frames formers shards parities homes before s t u d));
       effect = subst (λ (x : FarState). IsEvicted far x (before ++ events) s
           (played (before ++ events) s)) (sym is)
           (subst (λ (v : Shown). IsEvicted far (after_far far frames shards rows homes)
           (before ++ events) s v) (sym same)
-          (effect_then c far frames formers shards parities homes before s t u d events quiet
+          (effect_then far frames formers shards parities homes before s t u d events quiet
           (λ h none. d.sent.hots h none
           ∙ ap (λ (l : List Bool). get_or l h false)
           (steady.hots ∙ sym (ap (λ (x : Shown). x.hots) told)))
@@ -257,10 +245,10 @@ spans_touched far frames before es among touched t =
     (λ p (f, x, lies). (f, All-contains (Contains (candidates far)) frames f among x, lies)) t)
 
 -- the frames are those that there are
-pub frames_below : (c : Config) (far : FarState) (frames : List ℕ) (formers : List Former)
-    (s t : Shown) (n : ℕ) → AreSpansTaken c far frames formers → LocalSound s far → LocalSound t far
+pub frames_below : (far : FarState) (frames : List ℕ) (formers : List Former)
+    (s t : Shown) (n : ℕ) → AreSpansTaken far frames formers → LocalSound s far → LocalSound t far
     → length t.memory ≡ 512 * n → All (λ f. f < n) frames
-frames_below c far frames formers s t n a sound here count k d l =
-    let x = taken_ready c far frames formers s a sound (get_or frames k d) (place_in frames k d l)
+frames_below far frames formers s t n a sound here count k d l =
+    let x = taken_ready far frames formers s a sound (get_or frames k d) (place_in frames k d l)
     in
     let w = x.within in omega (arith, w, here.placed.memory, count)

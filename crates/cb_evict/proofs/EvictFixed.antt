@@ -8,7 +8,6 @@ use Rattle.cb_gf256.specs.Rows.{row_at}
 use Rattle.cb_member.specs.declared.names.Shard.{Shard}
 use Rattle.cb_member.specs.Membership.{incarnation}
 use Rattle.cb_types.specs.declared.reply.Reply.{Reply}
-use Rattle.cb_types.specs.Config.{IsAccepted}
 use Rattle.cb_world.specs.declared.homes.Home.{Home}
 use Rattle.cb_world.specs.Choices.{IsLeastNode}
 use Rattle.cb_world.specs.FarState.{FarState}
@@ -20,7 +19,6 @@ use Rattle.cb_evict.specs.EvictStep.{AreFrameRows, AreSentOff, IsEvictedTo, IsEv
 use Rattle.cb_evict.specs.Storing.{AreShards, with_set}
 use Rattle.cb_evict.proofs.EvictKeeps.{in_or_not}
 use Rattle.cb_evict.proofs.ChangedWords.{changes_fixed}
-use Rattle.cb_evict.proofs.Ending.{code_range}
 
 -- ---- the shards of a set
 shard_same : (far : FarState) (n : ℕ) (a b : List Shard) → AreShards far n a → AreShards far n b
@@ -80,9 +78,9 @@ sent_fixed x y z far frames a b =
 
 -- ---- a set that was made
 module _ (x y z : Words) (far new other : FarState) (frames : List ℕ)
-    (range : IsInRange x.settings.k x.settings.r) (count : length frames ≡ x.settings.k) where
+    (range : IsInRange far.code.k far.code.r) (count : length frames ≡ far.code.k) where
   data_same : (a b : List (List ℕ)) → AreFrameRows x frames a → AreFrameRows x frames b → (i : ℕ)
-      → i < x.settings.k → row_at a i ≡ row_at b i
+      → i < far.code.k → row_at a i ≡ row_at b i
   data_same a b c d i within =
       let f = get_or frames i 0 in
       let at : slice_get frames i ≡ Some f = slice_get-get_or frames i 0 (omega (arith, within, count)) in
@@ -91,8 +89,8 @@ module _ (x y z : Words) (far new other : FarState) (frames : List ℕ)
   pub evicted_fixed : IsEvictedTo x y far new frames → IsEvictedTo x z far other frames
       → (y ≡ z) × (new ≡ other)
   evicted_fixed a b =
-      let shards = shards_fixed far (x.settings.k + x.settings.r) a.shards b.shards a.chosen b.chosen in
-      let rows = same_data x.settings.k x.settings.r a.rows b.rows range a.word.is_word a.word.bytes
+      let shards = shards_fixed far (far.code.k + far.code.r) a.shards b.shards a.chosen b.chosen in
+      let rows = same_data far.code.k far.code.r a.rows b.rows range a.word.is_word a.word.bytes
       b.word.is_word b.word.bytes (data_same a.rows b.rows a.of_frames b.of_frames) in
       let homes = homes_fixed far frames far.counts.sets new.homes other.homes a.homes b.homes in (
         sent_fixed x y z far frames a.sent b.sent,
@@ -102,20 +100,20 @@ module _ (x y z : Words) (far new other : FarState) (frames : List ℕ)
       )
 
 -- k of enough spans
-pub first_loose : (x : Words) (far : FarState) → x.settings.k ≤ length (loose_frames x far)
-    → length (take x.settings.k (loose_frames x far)) ≡ x.settings.k
-first_loose x far enough = length-take-le x.settings.k (loose_frames x far) enough
+pub first_loose : (x : Words) (far : FarState) → far.code.k ≤ length (loose_frames x far)
+    → length (take far.code.k (loose_frames x far)) ≡ far.code.k
+first_loose x far enough = length-take-le far.code.k (loose_frames x far) enough
 
 set_fixed : (x y z : Words) (far new other : FarState) (r q : Reply)
-    → IsInRange x.settings.k x.settings.r → IsSetMade x y far new r → IsSetMade x z far other q
+    → IsInRange far.code.k far.code.r → IsSetMade x y far new r → IsSetMade x z far other q
     → IsOneEnd r q y z new other
 set_fixed x y z far new other r q range a b =
-    let ends = evicted_fixed x y z far new other (take x.settings.k (loose_frames x far)) range
+    let ends = evicted_fixed x y z far new other (take far.code.k (loose_frames x far)) range
     (first_loose x far a.enough) a.evicted b.evicted in
     record { reply = a.reply ∙ sym b.reply; words = ends.0; far = ends.1 }
 
 pub evict_step_fixes : (x y z : Words) (far new other : FarState) (r q : Reply)
-    → IsAccepted x.settings → IsEvictStep x y far new r → IsEvictStep x z far other q
+    → IsInRange far.code.k far.code.r → IsEvictStep x y far new r → IsEvictStep x z far other q
     → IsOneEnd r q y z new other
 evict_step_fixes x y z far new other r q ok (few_spans a e) (few_spans b f) =
     refused_alike r q _ x y z far new other a.reply b.reply e f a.state b.state
@@ -134,4 +132,4 @@ evict_step_fixes x y z far new other r q ok (made a) (few_spans b f) =
 evict_step_fixes x y z far new other r q ok (made a) (few_nodes b f) =
     absurd (let l = b.few in let m = a.room in omega (arith, l, m))
 evict_step_fixes x y z far new other r q ok (made a) (made b) =
-    set_fixed x y z far new other r q (code_range x.settings ok) a b
+    set_fixed x y z far new other r q ok a b

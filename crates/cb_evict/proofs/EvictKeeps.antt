@@ -119,7 +119,7 @@ evict_keeps x y far new r (few_spans few same) = keeps_same x y far new same few
 evict_keeps x y far new r (few_nodes few same) = keeps_same x y far new same few.state
 evict_keeps x y far new r (made m) = record {
   far = rest_kept far new (ap rest_of m.evicted.state);
-  words = taken_keep x y far x.settings.k _ m.evicted.sent
+  words = taken_keep x y far far.code.k _ m.evicted.sent
       (λ h i. (m.evicted.sent.changed h i).pins);
 }
 

@@ -6,7 +6,6 @@ use Rattle.std.proofs.lemmas.List.{get_or_default}
 use Rattle.std.proofs.lemmas.List.Elements.{All-contains}
 use Rattle.std.proofs.lemmas.Option.{slice_get-get_or, slice_get_within}
 use Rattle.cb_member.specs.declared.names.Shard.{Shard}
-use Rattle.cb_types.specs.declared.config.Config.{Config}
 use Rattle.cb_world.specs.declared.event.Event.{Event}
 use Rattle.cb_world.specs.declared.homes.Home.{Home}
 use Rattle.cb_world.specs.declared.leaving.Former.{Former}
@@ -45,12 +44,12 @@ use Rattle.cb_evict.proofs.TakenGroup.{AreRowsCoded, frame_rows, group_range, gr
 use Rattle.cb_evict.proofs.Options.{some_none}
 
 -- objects of k spans were claimed, their rows coded and put, and they were put away
-pub record EvictDone (c : Config) (far : FarState) (frames : List ℕ) (formers : List Former)
+pub record EvictDone (far : FarState) (frames : List ℕ) (formers : List Former)
     (shards : List Shard) (parities : List (List ℕ)) (homes : List (Option Home))
     (before : List Event) (s t u : Shown) : Type 0 where
-  pub read : AreRowsCoded c far frames formers parities before s t
+  pub read : AreRowsCoded far frames formers parities before s t
   pub sent : AreSent t u formers
-  pub chosen : AreShards far (c.k + c.r) shards
+  pub chosen : AreShards far (far.code.k + far.code.r) shards
   pub homed : HaveHomes far.spans frames far.counts.sets far.homes homes
 
 -- the far state then
@@ -66,23 +65,23 @@ abbrev new_counts : FarState → List Shard → CountsState
 new_counts far shards =
     record far.counts { sets = far.counts.sets + 1; keys = far.counts.keys + length shards }
 
-module _ (c : Config) (far : FarState) (frames : List ℕ) (formers : List Former)
+module _ (far : FarState) (frames : List ℕ) (formers : List Former)
     (shards : List Shard) (parities : List (List ℕ)) (homes : List (Option Home))
     (before : List Event) (s t u : Shown)
-    (d : EvictDone c far frames formers shards parities homes before s t u) where
-  put_away : IsGroupPutAway t u far (new_batch c far frames formers parities) shards
+    (d : EvictDone far frames formers shards parities homes before s t u) where
+  put_away : IsGroupPutAway t u far (new_batch far frames formers parities) shards
       (new_sets far frames shards) (all_put far.nodes shards (frame_rows t frames ++ parities))
       (new_counts far shards) homes
   put_away =
-      let r = d.read in let n = c.k + c.r in let rows = frame_rows t frames ++ parities in
+      let r = d.read in let n = far.code.k + far.code.r in let rows = frame_rows t frames ++ parities in
       let sound = r.sound.away.sound in
       let within = shards_within far n shards d.chosen in
       let count : length rows ≡ length shards = r.word.count ∙ sym d.chosen.count in record {
-        group = taken_group c far frames formers parities before s t r;
+        group = taken_group far frames formers parities before s t r;
         sent = d.sent;
         homed = d.homed;
-        range = group_range c far frames formers parities before s t r;
-        word = group_word c far frames formers parities before s t r;
+        range = group_range far frames formers parities before s t r;
+        word = group_word far frames formers parities before s t r;
         count = omega (arith, d.chosen.count, r.taken.count, r.few);
         distinct = shards_distinct far n shards d.chosen;
         current = shards_current far n shards d.chosen sound.rows;
@@ -115,21 +114,21 @@ module _ (c : Config) (far : FarState) (frames : List ℕ) (formers : List Forme
 
   -- the world is sound then
   pub sound_then : Sound u (after_far far frames shards (frame_rows t frames ++ parities) homes)
-  sound_then = sound_away t u far (new_batch c far frames formers parities) shards _ _ _ homes
+  sound_then = sound_away t u far (new_batch far frames formers parities) shards _ _ _ homes
       put_away
 
   -- ---- the rule
   pub rule_then : (events : List Event) → ((k : ℕ) → NoLook k events)
-      → HasEvicted c far (after_far far frames shards (frame_rows t frames ++ parities) homes)
+      → HasEvicted far (after_far far frames shards (frame_rows t frames ++ parities) homes)
       frames
       (before ++ events)
   rule_then events quiet = record {
     shards = shards;
     rows = frame_rows t frames ++ parities;
     chosen = d.chosen;
-    word = span_word c far frames formers parities before s t d.read;
-    contents = rows_told c far frames formers parities before s t d.read events quiet _
-        (row_at_frame c far frames formers parities before s t d.read);
+    word = span_word far frames formers parities before s t d.read;
+    contents = rows_told far frames formers parities before s t d.read events quiet _
+        (row_at_frame far frames formers parities before s t d.read);
     homes = d.homed;
     state = refl;
   }
@@ -147,7 +146,7 @@ module _ (c : Config) (far : FarState) (frames : List ℕ) (formers : List Forme
   not_left : (h : ℕ)
       → (HasLeft far (after_far far frames shards (frame_rows t frames ++ parities) homes) h → ⊥)
       → IsNone formers h
-  not_left h not = out_none t far (new_batch c far frames formers parities) put_away.group h
+  not_left h not = out_none t far (new_batch far frames formers parities) put_away.group h
       (λ (f, x, named). not (f, named, closed_in far.spans frames f x))
 
   -- the row of an object is that of the frame that it left
@@ -170,7 +169,7 @@ module _ (c : Config) (far : FarState) (frames : List ℕ) (formers : List Forme
       (λ i. slice_get (sym set_is i).shards (sym home_is i).position) ∙ is in
       put_away.put x.0 shard shard_is
       ∙ ap (λ (l : List ℕ). Some l)
-      (row_at_frame c far frames formers parities before s t d.read x.0 f place
+      (row_at_frame far frames formers parities before s t d.read x.0 f place
       ∙ ap (λ (ms : List ℕ). row_of (window ms (512 * f) 512)) (sym d.sent.memory))
 
   pub effect_then : (events : List Event) → ((k : ℕ) → NoLook k events)
@@ -183,14 +182,14 @@ module _ (c : Config) (far : FarState) (frames : List ℕ) (formers : List Forme
       (before ++ events) s u
   effect_then events quiet hots objects versions memory nothing = record {
     away = λ h (f, named, gone).
-        let g = told_one c far frames formers parities before s t d.read events quiet h
+        let g = told_one far frames formers parities before s t d.read events quiet h
         (f, in_gone h f named gone, named) in record {
           word = g.noted.former.word;
           version = g.noted.version;
           words = g.noted.words;
           found = g.found;
           told = g.told;
-          object = is_sent t u far (new_batch c far frames formers parities) shards _ _ _ homes
+          object = is_sent t u far (new_batch far frames formers parities) shards _ _ _ homes
               put_away h
               g.noted;
           cold = ap (hot_at u) (sym g.noted.handle)
@@ -206,8 +205,8 @@ module _ (c : Config) (far : FarState) (frames : List ℕ) (formers : List Forme
     rows = rows_then;
     nothing = nothing;
     same_now = λ h.
-        now_away t u far (new_batch c far frames formers parities) shards _ _ _ homes put_away h
-        ∙ now_told c far frames formers parities before s t d.read (told_by (before ++ events) s) h
+        now_away t u far (new_batch far frames formers parities) shards _ _ _ homes put_away h
+        ∙ now_told far frames formers parities before s t d.read (told_by (before ++ events) s) h
         objects (sym d.sent.versions ∙ versions) (sym d.sent.memory ∙ memory);
   }
 

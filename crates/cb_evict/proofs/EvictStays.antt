@@ -2,13 +2,14 @@
 -- counted.
 use Rattle.std.proofs.Common.{◌≡◌, ℕ, ◌+◌, true, false, List, [], ◌∷◌, length, inl, inr, refl, sym, ap, ◌∙◌, subst, arith, length-set, take}
 use Rattle.std.proofs.lemmas.List.{length-map, length-take-le}
+use Rattle.cb_member.specs.declared.names.Code.{Code}
 use Rattle.cb_member.specs.declared.names.Shard.{Shard}
 use Rattle.cb_node.specs.NodesState.{NodesState, with_dropped, with_row}
+use Rattle.cb_set.specs.SetState.{code_of, parities}
 use Rattle.cb_types.specs.declared.config.Config.{Config}
-use Rattle.cb_types.specs.declared.config.Field.TheVariants.{K, R}
 use Rattle.cb_types.specs.Config.{IsAccepted}
 use Rattle.cb_types.specs.declared.reply.Reply.{Reply}
-use Rattle.cb_world.specs.Codes.{HaveCodes, IsConfiguredCode}
+use Rattle.cb_world.specs.Codes.{IsCodeOf, code_of_batch}
 use Rattle.cb_world.specs.declared.event.Event.{Event}
 use Rattle.cb_world.specs.declared.leaving.Former.{Former}
 use Rattle.cb_world.specs.declared.shown.Shown.{Shown}
@@ -16,9 +17,10 @@ use Rattle.cb_world.specs.FarState.{FarState}
 use Rattle.cb_world.specs.Leaving.{LeavingState}
 use Rattle.cb_world.specs.Plain.{Words}
 use Rattle.cb_world.specs.Reserved.{position_for, put_shards, set_from}
+use Rattle.cb_world.specs.Sets.{Kept}
 use Rattle.cb_world.specs.Sound.{Sound}
 use Rattle.cb_world.specs.Stored.{all_dropped, all_put}
-use Rattle.cb_world.proofs.Laws.{HasCode, codes_put, codes_removed, drop_count, drop_room, IsLike, Rises, StaysIf, own_put, own_removed, stays_like, stays_same}
+use Rattle.cb_world.proofs.Laws.{IsCodeIn, KeepCodes, batch_has, codes_kept, codes_put, codes_removed, drop_count, drop_room, IsLike, Rises, StaysIf, have_codes, in_force, of_the_batch, own_put, own_removed, pair_stays, sets_have, stays_like, stays_same}
 use Rattle.cb_evict.specs.AbortRule.{AbortRule, HasGivenUp}
 use Rattle.cb_evict.specs.BeginRule.{BeginRule, new_batch, with_batch}
 use Rattle.cb_evict.specs.Closing.{with_homes}
@@ -34,12 +36,14 @@ use Rattle.cb_evict.proofs.Putting.{put_count, put_room}
 use Rattle.cb_evict.proofs.Options.{none_some, some_same}
 
 -- the set of spans in k frames, with k + r shards, has the code
-code_of : (c : Config) (id : ℕ) (shards : List Shard) (far : FarState) (frames : List ℕ)
-    → length frames ≡ c.k → length shards ≡ c.k + c.r
-    → HasCode c (set_from id shards far.spans frames)
-code_of c id shards far frames k count =
-    let n : length (set_from id shards far.spans frames).positions ≡ c.k =
-    length-map frames (position_for far.spans) ∙ k in (n, omega (arith, n, count))
+code_is : (code : Code) (id : ℕ) (shards : List Shard) (far : FarState) (frames : List ℕ)
+    → length frames ≡ code.k → length shards ≡ code.k + code.r
+    → code_of (set_from id shards far.spans frames) ≡ code
+code_is code id shards far frames k count =
+    let n : length (set_from id shards far.spans frames).positions ≡ code.k =
+    length-map frames (position_for far.spans) ∙ k in
+    let m : parities (set_from id shards far.spans frames) ≡ code.r = omega (arith, n, count) in
+    λ i. record { k = n i; r = m i }
 
 -- ---- an eviction
 put_given : (nodes : NodesState) (shards : List Shard) (rows : List (List ℕ))
@@ -49,14 +53,27 @@ put_given nodes (shard ∷ shards) [] = refl
 put_given nodes (shard ∷ shards) (row ∷ rows) =
     put_given (with_row nodes shard.node shard.key row) shards rows
 
--- a set was made of the spans in some frames
+-- a set was made of the spans in some frames: it has the code in force
+pub made_codes : (far new : FarState) (frames : List ℕ) (shards : List Shard) (rows : List (List ℕ))
+    → length frames ≡ far.code.k → length shards ≡ far.code.k + far.code.r
+    → new ≡ with_homes (with_set far shards frames rows) frames new.homes → KeepCodes far new
+made_codes far new frames shards rows k count state =
+    let kept : Kept = record { set = set_for far shards frames; committed = true } in
+    subst (KeepCodes far) (sym state) (codes_kept far _ refl
+    (codes_put far far.sets far.counts.sets kept
+    (λ committed. in_force (code_is far.code far.counts.sets shards far frames k count))
+    (sets_have far))
+    (batch_has far far.leaving refl) (pair_stays far far.joining refl)
+    (λ own. own_put far.sets far.counts.sets kept (λ committed. refl) own))
+
 pub made_stays : (c : Config) (far new : FarState) (frames : List ℕ) (shards : List Shard)
-    (rows : List (List ℕ)) → IsAccepted c → length frames ≡ c.k → length shards ≡ c.k + c.r
-    → length new.homes ≡ length far.homes
+    (rows : List (List ℕ)) → IsAccepted c → length frames ≡ far.code.k
+    → length shards ≡ far.code.k + far.code.r → length new.homes ≡ length far.homes
     → new ≡ with_homes (with_set far shards frames rows) frames new.homes → StaysIf c 24 far new
 made_stays c far new frames shards rows accepted k count homes state is =
-    let most = accepted K in let few = accepted R in
-    let set = set_for far shards frames in
+    let range = is.codes.force.range in
+    let most = range.data_most in let few = range.parities_most in
+    let keep = made_codes far new frames shards rows k count state in
     let sets : new.counts.sets ≡ far.counts.sets + 1 = ap (λ (f : FarState). f.counts.sets) state in
     let keys : new.counts.keys ≡ far.counts.keys + length shards =
     ap (λ (f : FarState). f.counts.keys) state in
@@ -70,20 +87,14 @@ made_stays c far new frames shards rows accepted k count homes state is =
         nodes = ap (λ (f : FarState). length f.nodes.nodes) state ∙ put_count far.nodes shards rows
             ∙ is.nodes;
         room = ap (λ (f : FarState). f.nodes.room) state ∙ put_room far.nodes shards rows ∙ is.room;
-        codes = subst (HaveCodes c) (sym state) (record {
-          sets = codes_put c far.sets far.counts.sets (record { set = set; committed = true })
-              (λ committed. code_of c far.counts.sets shards far frames k count) is.codes.sets;
-          batch = is.codes.batch;
-          pair = is.codes.pair;
-          own = own_put far.sets far.counts.sets (record { set = set; committed = true })
-              (λ committed. refl) is.codes.own;
-        });
+        codes = have_codes (IsCodeOf c) far new keep is.codes;
       };
+      codes = keep;
       rises = record {
         turns = ap (λ (f : FarState). f.counts.turns) state;
         by_job = ap (λ (f : FarState). f.counts.by_job) state;
         sets = omega (arith, sets);
-        keys = omega (arith, keys, count, most.1, few.1);
+        keys = omega (arith, keys, count, most, few);
         epoch = omega (arith, epoch);
         given = omega (arith, given);
         note = λ n e. sym (ap (λ (f : FarState). f.survey.no_pair) state) ∙ e;
@@ -91,41 +102,49 @@ made_stays c far new frames shards rows accepted k count homes state is =
     }
 
 pub evict_stays : (c : Config) (far new : FarState) (r : Reply) (es : List Event) → IsAccepted c
-    → EvictRule c far new r es → StaysIf c 24 far new
+    → EvictRule far new r es → StaysIf c 24 far new
 evict_stays c far new r es accepted x = elim x.answered [
   | inl few ↦ stays_same c 24 far new (omega arith) few.state
   | inr (inl few) ↦ stays_same c 24 far new (omega arith) few.state
   | inr (inr both) ↦ let e = both.evicted in
-      made_stays c far new _ e.shards e.rows accepted (length-take-le c.k x.loose both.enough)
+      made_stays c far new _ e.shards e.rows accepted (length-take-le far.code.k x.loose both.enough)
       e.chosen.count e.homes.count e.state
 ]
 
 -- ---- a begin
--- the spans in some frames are leaving
+-- the spans in some frames are leaving: they will be a set of the code in force
+pub batch_codes : (far new : FarState) (frames : List ℕ) (words : List Former)
+    (parities : List (List ℕ)) → length frames ≡ far.code.k → length parities ≡ far.code.r
+    → new ≡ with_batch far frames words parities → KeepCodes far new
+batch_codes far new frames words parities k r state =
+    subst (KeepCodes far) (sym state) (codes_kept far (with_batch far frames words parities) refl
+    (codes_put far far.sets far.counts.sets _ (λ committed. absurd (false_true committed))
+    (sets_have far))
+    (λ b at. subst (λ (l : LeavingState). IsCodeIn far (code_of_batch l))
+    (some_same (new_batch far frames words parities) b at) (in_force (λ i. record { k = k i; r = r i })))
+    (pair_stays far far.joining refl)
+    (λ own. own_put far.sets far.counts.sets _ (λ committed. absurd (false_true committed)) own))
+  where
+    false_true : false ≡ true → ⊥
+    false_true e = cc
+
 pub batch_stays : (c : Config) (far new : FarState) (frames : List ℕ) (words : List Former)
-    (parities : List (List ℕ)) → length frames ≡ c.k → length parities ≡ c.r
-    → new ≡ with_batch c far frames words parities → StaysIf c 1 far new
+    (parities : List (List ℕ)) → length frames ≡ far.code.k → length parities ≡ far.code.r
+    → new ≡ with_batch far frames words parities → StaysIf c 1 far new
 batch_stays c far new frames words parities k r state is =
     let sets : new.counts.sets ≡ far.counts.sets + 1 = ap (λ (f : FarState). f.counts.sets) state in
     let keys : new.counts.keys ≡ far.counts.keys = ap (λ (f : FarState). f.counts.keys) state in
     let epoch : new.members.epoch ≡ far.members.epoch = ap (λ (f : FarState). f.members.epoch) state in
     let given : new.nodes.given ≡ far.nodes.given = ap (λ (f : FarState). f.nodes.given) state in
-    record {
+    let keep = batch_codes far new frames words parities k r state in record {
       configured = record {
         frames = ap (λ (f : FarState). length f.spans) state ∙ is.frames;
         homes = ap (λ (f : FarState). length f.homes) state ∙ is.homes;
         nodes = ap (λ (f : FarState). length f.nodes.nodes) state ∙ is.nodes;
         room = ap (λ (f : FarState). f.nodes.room) state ∙ is.room;
-        codes = subst (HaveCodes c) (sym state) (record {
-          sets = codes_put c far.sets far.counts.sets _ (λ committed. absurd (false_true committed))
-              is.codes.sets;
-          batch = λ b at. let same = some_same (new_batch c far frames words parities) b at in
-              subst (λ (l : LeavingState). IsConfiguredCode c (length l.frames) (length l.parities)) same (k, r);
-          pair = is.codes.pair;
-          own = own_put far.sets far.counts.sets _ (λ committed. absurd (false_true committed))
-              is.codes.own;
-        });
+        codes = have_codes (IsCodeOf c) far new keep is.codes;
       };
+      codes = keep;
       rises = record {
         turns = ap (λ (f : FarState). f.counts.turns) state;
         by_job = ap (λ (f : FarState). f.counts.by_job) state;
@@ -136,22 +155,29 @@ batch_stays c far new frames words parities k r state is =
         note = λ n e. sym (ap (λ (f : FarState). f.survey.no_pair) state) ∙ e;
       };
     }
-  where
-    false_true : false ≡ true → ⊥
-    false_true e = cc
 
 pub begin_stays : (c : Config) (far new : FarState) (r : Reply) (es : List Event)
-    → BeginRule c far new r es → StaysIf c 1 far new
+    → BeginRule far new r es → StaysIf c 1 far new
 begin_stays c far new r es (inl z) = stays_same c 1 far new (omega arith) z.state
 begin_stays c far new r es (inr x) = elim x.answered [
   | inl few ↦ stays_same c 1 far new (omega arith) few.state
   | inr (inl few) ↦ stays_same c 1 far new (omega arith) few.state
   | inr (inr both) ↦ let e = both.begun in
-      batch_stays c far new _ e.words e.parities (length-take-le c.k x.loose both.enough) e.counts.1
+      batch_stays c far new _ e.words e.parities (length-take-le far.code.k x.loose both.enough)
+      e.counts.1
       e.state
 ]
 
 -- ---- a ship
+-- the batch keeps its frames and parities
+pub shipped_codes : (far new : FarState) (r : Reply) (row : LeavingState → ℕ → List ℕ)
+    → HasShipped far new r row → KeepCodes far new
+shipped_codes far new r row z =
+    subst (KeepCodes far) (sym z.state) (codes_kept far _ refl (sets_have far)
+    (λ b at. subst (λ (l : LeavingState). IsCodeIn far (code_of_batch l))
+    (some_same (with_shard_at z.batch z.position z.shard) b at) (of_the_batch z.batch z.there refl))
+    (pair_stays far far.joining refl) (λ own. own))
+
 shipped_stays : (c : Config) (far new : FarState) (r : Reply) (row : LeavingState → ℕ → List ℕ)
     → HasShipped far new r row → StaysIf c 1 far new
 shipped_stays c far new r row z is =
@@ -159,23 +185,17 @@ shipped_stays c far new r row z is =
     let sets : new.counts.sets ≡ far.counts.sets = ap (λ (f : FarState). f.counts.sets) e in
     let keys : new.counts.keys ≡ far.counts.keys + 1 = ap (λ (f : FarState). f.counts.keys) e in
     let epoch : new.members.epoch ≡ far.members.epoch = ap (λ (f : FarState). f.members.epoch) e in
-    let given : new.nodes.given ≡ far.nodes.given = ap (λ (f : FarState). f.nodes.given) e in record {
+    let given : new.nodes.given ≡ far.nodes.given = ap (λ (f : FarState). f.nodes.given) e in
+    let keep = shipped_codes far new r row z in record {
       configured = record {
         frames = ap (λ (f : FarState). length f.spans) e ∙ is.frames;
         homes = ap (λ (f : FarState). length f.homes) e ∙ is.homes;
         nodes = ap (λ (f : FarState). length f.nodes.nodes) e
             ∙ length-set far.nodes.nodes z.shard.node.n _ ∙ is.nodes;
         room = ap (λ (f : FarState). f.nodes.room) e ∙ is.room;
-        codes = subst (HaveCodes c) (sym e) (record {
-          sets = is.codes.sets;
-          batch = λ b at. let same = some_same (with_shard_at z.batch z.position z.shard) b at in
-              subst (λ (l : LeavingState). IsConfiguredCode c (length l.frames) (length l.parities))
-              same
-              (is.codes.batch z.batch z.there);
-          pair = is.codes.pair;
-          own = is.codes.own;
-        });
+        codes = have_codes (IsCodeOf c) far new keep is.codes;
       };
+      codes = keep;
       rises = record {
         turns = ap (λ (f : FarState). f.counts.turns) e;
         by_job = ap (λ (f : FarState). f.counts.by_job) e;
@@ -199,30 +219,37 @@ pub ship_stays : (c : Config) (far new : FarState) (r : Reply) (es : List Event)
 ship_stays c far new r es x = ships_stays c far new r x.row x.ships
 
 -- ---- a commit: the set has the code that its batch had
+pub committed_codes : (s : Shown) (far new : FarState) (r : Reply) → Sound s far
+    → HasCommitted far new r → KeepCodes far new
+committed_codes s far new r sound z =
+    let batch = z.batch in
+    let shards = shards_count batch.shards (all_shards_put far batch z.whole) in
+    let places = (sound.away.sound.batch batch z.there).count in
+    let kept : Kept = record {
+      set = set_from batch.set (put_shards batch.shards) far.spans batch.frames;
+      committed = true;
+    } in
+    let is = code_is (code_of_batch batch) batch.set (put_shards batch.shards) far batch.frames refl
+    (omega (arith, shards, places)) in
+    subst (KeepCodes far) (sym z.state) (codes_kept far _ refl
+    (codes_put far far.sets batch.set kept (λ committed. of_the_batch batch z.there is) (sets_have far))
+    (λ b at. absurd (none_some b at)) (pair_stays far far.joining refl)
+    (λ own. own_put far.sets batch.set kept (λ committed. refl) own))
+
 pub committed_stays : (c : Config) (s : Shown) (far new : FarState) (r : Reply) → Sound s far
     → HasCommitted far new r → StaysIf c 1 far new
 committed_stays c s far new r sound z is =
     let e = z.state in let batch = z.batch in
-    let code = is.codes.batch batch z.there in
-    let shards = shards_count batch.shards (all_shards_put far batch z.whole) in
-    let places = (sound.away.sound.batch batch z.there).count in
-    let set = set_from batch.set (put_shards batch.shards) far.spans batch.frames in record {
+    let keep = committed_codes s far new r sound z in record {
       configured = record {
         frames = ap (λ (f : FarState). length f.spans) e ∙ length_closed far.spans batch.frames
             ∙ is.frames;
         homes = z.homes.count ∙ is.homes;
         nodes = ap (λ (f : FarState). length f.nodes.nodes) e ∙ is.nodes;
         room = ap (λ (f : FarState). f.nodes.room) e ∙ is.room;
-        codes = subst (HaveCodes c) (sym e) (record {
-          sets = codes_put c far.sets batch.set (record { set = set; committed = true })
-              (λ committed. code_of c batch.set (put_shards batch.shards) far batch.frames code.0
-              (omega (arith, shards, places, code.0, code.1))) is.codes.sets;
-          batch = λ b at. absurd (none_some b at);
-          pair = is.codes.pair;
-          own = own_put far.sets batch.set (record { set = set; committed = true })
-              (λ committed. refl) is.codes.own;
-        });
+        codes = have_codes (IsCodeOf c) far new keep is.codes;
       };
+      codes = keep;
       rises = subst (Rises 1 far) (sym e) (record {
         turns = refl;
         by_job = refl;
@@ -248,6 +275,14 @@ dropped_given : (nodes : NodesState) (shards : List Shard)
 dropped_given nodes [] = refl
 dropped_given nodes (x ∷ xs) = dropped_given (with_dropped nodes x.node x.key) xs
 
+-- the batch is gone, and the set that it would have been
+pub given_up_codes : (far new : FarState) (r : Reply) → HasGivenUp far new r → KeepCodes far new
+given_up_codes far new r z =
+    subst (KeepCodes far) (sym z.state) (codes_kept far _ refl
+    (codes_removed far far.sets z.batch.set (sets_have far))
+    (λ b at. absurd (none_some b at)) (pair_stays far far.joining refl)
+    (own_removed far.sets z.batch.set))
+
 given_up_stays : (c : Config) (far new : FarState) (r : Reply) → HasGivenUp far new r
     → StaysIf c 1 far new
 given_up_stays c far new r z =
@@ -256,12 +291,7 @@ given_up_stays c far new r z =
       homes = refl;
       nodes = drop_count far.nodes (put_shards z.batch.shards);
       room = drop_room far.nodes (put_shards z.batch.shards);
-      codes = λ d x. record {
-        sets = codes_removed d far.sets z.batch.set x.sets;
-        batch = λ b at. absurd (none_some b at);
-        pair = x.pair;
-        own = own_removed far.sets z.batch.set x.own;
-      };
+      codes = subst (KeepCodes far) z.state (given_up_codes far new r z);
       counts = refl;
       note = λ n e. e;
       epoch = omega arith;
@@ -284,5 +314,5 @@ evict_step_stays x y far new r accepted (few_nodes few same) =
     stays_same x.settings 24 far new (omega arith) few.state
 evict_step_stays x y far new r accepted (made m) =
     let e = m.evicted in
-    made_stays x.settings far new (take x.settings.k (loose_frames x far)) e.shards e.rows accepted
-    (length-take-le x.settings.k (loose_frames x far) m.enough) e.chosen.count e.homes.count e.state
+    made_stays x.settings far new (take far.code.k (loose_frames x far)) e.shards e.rows accepted
+    (length-take-le far.code.k (loose_frames x far) m.enough) e.chosen.count e.homes.count e.state

@@ -126,17 +126,17 @@ loose_spans x far k f c =
     (taken_of (loose_frames x far) k f c))
 
 evicted_to : (x y : Words) (far new : FarState) (s : Shown) (es : List Event) (frames : List ℕ)
-    → RunsStill x y far s es → HasEvicted x.settings far new frames es
+    → RunsStill x y far s es → HasEvicted far new frames es
     → IsEvicted far new es s (played es s)
     → ((f : ℕ) → Contains frames f → (span : Contents) × (span_in far.spans f ≡ Some span))
-    → length frames ≤ x.settings.k + x.settings.r → IsEvictedTo x y far new frames
+    → length frames ≤ far.code.k + far.code.r → IsEvictedTo x y far new frames
 evicted_to x y far new s es frames r e z holds few = record {
   shards = e.shards;
   rows = e.rows;
   chosen = e.chosen;
   word = e.word;
   contents = have_contents x y far s es frames e.rows r e.contents;
-  of_frames = rows_of_frames x.settings far new s frames es x.memory r.known.sound.here e
+  of_frames = rows_of_frames far new s frames es x.memory r.known.sound.here e
       (subst (HaveFrameRows far new) memory z.rows) holds few;
   homes = e.homes;
   state = e.state;
@@ -171,26 +171,26 @@ refused x y far new s es runs l still state step =
 by_rule : (x y : Words) (far new : FarState) (r : Reply) (s : Shown) (es : List Event)
     (loose : List ℕ) → RunsStill x y far s es → IsKnown y new (played es s)
     → loose ≡ loose_frames x far → EvictEffect far new r es s (played es s)
-    → HasFewSpans x.settings far new r loose ⊎ (HasFewNodes x.settings far new r loose
-    ⊎ HasBoth x.settings far new r loose es)
+    → HasFewSpans far new r loose ⊎ (HasFewNodes far new r loose
+    ⊎ HasBoth far new r loose es)
     → IsEvictStep x y far new r × IsStepKnown y far new s
 by_rule x y far new r s es loose runs l same effect (inl a) =
     refused x y far new s es runs l (effect.left
     (λ id e. not_few_spans (length loose) r id a.reply e)) a.state
-    (few_spans (subst (HasFewSpans x.settings far new r) same a))
+    (few_spans (subst (HasFewSpans far new r) same a))
 by_rule x y far new r s es loose runs l same effect (inr (inl a)) =
     refused x y far new s es runs l (effect.left (λ id e. not_few_nodes _ r id a.reply e)) a.state
-    (few_nodes (subst (HasFewNodes x.settings far new r) same a))
+    (few_nodes (subst (HasFewNodes far new r) same a))
 by_rule x y far new r s es loose runs l same effect (inr (inr a)) =
-    let b = subst (λ (frames : List ℕ). HasBoth x.settings far new r frames es) same a in
+    let b = subst (λ (frames : List ℕ). HasBoth far new r frames es) same a in
     let z = effect.evicted (record { n = far.counts.sets }) a.reply in (
       made (record {
         enough = b.enough;
         room = b.room;
         reply = b.reply;
-        evicted = evicted_to x y far new s es (take x.settings.k (loose_frames x far)) runs
-            b.evicted z (loose_spans x far x.settings.k)
-            (let n = length-take-le x.settings.k (loose_frames x far) b.enough in omega (arith, n));
+        evicted = evicted_to x y far new s es (take far.code.k (loose_frames x far)) runs
+            b.evicted z (loose_spans x far far.code.k)
+            (let n = length-take-le far.code.k (loose_frames x far) b.enough in omega (arith, n));
       }),
       record {
         shown = played es s;
@@ -201,10 +201,10 @@ by_rule x y far new r s es loose runs l same effect (inr (inr a)) =
 
 -- Over a still desk of which all is known an eviction is a step, and all is known of it afterwards.
 pub evict_step : (x y : Words) (far new : FarState) (r : Reply) (s : Shown)
-    → PerformsStill x y far new (EvictRule x.settings far new r) (EvictEffect far new r)
+    → PerformsStill x y far new (EvictRule far new r) (EvictEffect far new r)
     → IsKnown x far s → IsEvictStep x y far new r × IsStepKnown y far new s
 evict_step x y far new r s p k =
-    let rules = EvictRule x.settings far new r in let does = EvictEffect far new r in
+    let rules = EvictRule far new r in let does = EvictEffect far new r in
     let runs = runs_still x y far new rules does s k p in
     by_rule x y far new r s p.events p.rule.loose runs
     (known_then x y far new rules does s k p)
@@ -213,11 +213,11 @@ evict_step x y far new r s p k =
 
 -- So is one that tells both counts, of the spans that are loose at the desk.
 pub counted_step : (x y : Words) (far new : FarState) (e : Eviction) (s : Shown)
-    → PerformsStill x y far new (CountsRule x.settings far new e) (EvictEffect far new (reply_of e))
+    → PerformsStill x y far new (CountsRule far new e) (EvictEffect far new (reply_of e))
     → IsKnown x far s → IsCountedStep x y far new e
 counted_step x y far new e s p k = record {
   step = (evict_step x y far new (reply_of e) s
-      (rule_weaker _ _ _ _ (EvictRule x.settings far new (reply_of e)) _ (λ es r. r.rule) p) k).0;
+      (rule_weaker _ _ _ _ (EvictRule far new (reply_of e)) _ (λ es r. r.rule) p) k).0;
   counts = subst (λ (l : List ℕ). TellsCounts far l e)
       (loose_exact p.events x y far p.rule.rule.loose p.ran.0 p.looks_first p.rule.rule.found)
       p.rule.counts;

@@ -1,6 +1,5 @@
 -- An eviction and the steps of a batch write no version.
 use Rattle.std.proofs.Common.{◌≡◌, ℕ, List, [], length, inl, inr}
-use Rattle.cb_types.specs.declared.config.Config.{Config}
 use Rattle.cb_types.specs.declared.handle.SetId.{SetId}
 use Rattle.cb_types.specs.declared.reply.Reply.{Reply}
 use Rattle.cb_types.specs.declared.reply.Reply.TheVariants as answer
@@ -17,9 +16,9 @@ use Rattle.cb_evict.specs.EvictEffect.{EvictEffect}
 use Rattle.cb_evict.specs.EvictRule.{EvictRule}
 use Rattle.cb_evict.proofs.Composed.{few_nodes, few_spans}
 
-pub evict_unwritten : (c : Config) (far new : FarState) (r : Reply) (es : List Event) (s t : Shown)
-    → EvictRule c far new r es → EvictEffect far new r es s t → Writes es s []
-evict_unwritten c far new r es s t rule x = elim rule.answered [
+pub evict_unwritten : (far new : FarState) (r : Reply) (es : List Event) (s t : Shown)
+    → EvictRule far new r es → EvictEffect far new r es s t → Writes es s []
+evict_unwritten far new r es s t rule x = elim rule.answered [
   | inl few ↦ (x.left (λ id e. few_spans (length rule.loose) r id few.reply e)).nothing
   | inr (inl few) ↦
       (x.left (λ id e. few_nodes (room_count far.nodes far.members) r id few.reply e)).nothing
@@ -42,11 +41,11 @@ no_batch_set b r e f = cc
 short_set : (ps : List ℕ) (b : SetId) (r : Reply) → r ≡ answer.Short ps → r ≡ answer.Set b → ⊥
 short_set ps b r e f = cc
 
-pub begin_unwritten : (c : Config) (far new : FarState) (r : Reply) (es : List Event) (s t : Shown)
-    → BeginRule c far new r es → BeginEffect far new r es s t → Writes es s []
-begin_unwritten c far new r es s t (inl z) x =
+pub begin_unwritten : (far new : FarState) (r : Reply) (es : List Event) (s t : Shown)
+    → BeginRule far new r es → BeginEffect far new r es s t → Writes es s []
+begin_unwritten far new r es s t (inl z) x =
     (x.left (λ id e. leaving_batch (record { n = z.batch.set }) id r z.reply e)).nothing
-begin_unwritten c far new r es s t (inr z) x = elim z.answered [
+begin_unwritten far new r es s t (inr z) x = elim z.answered [
   | inl few ↦ (x.left (λ id e. spans_batch (length z.loose) id r few.reply e)).nothing
   | inr (inl few) ↦
       (x.left (λ id e. nodes_batch (room_count far.nodes far.members) id r few.reply e)).nothing

@@ -3,7 +3,7 @@
 use Rattle.std.proofs.Common.{◌≡◌, ℕ, List, sym, ap, ◌∙◌}
 use Rattle.cb_types.specs.declared.handle.SetId.{SetId}
 use Rattle.cb_types.specs.declared.reply.Reply.TheVariants as answer
-use Rattle.cb_types.specs.Config.{IsAccepted}
+use Rattle.cb_gf256.specs.InRange.{IsInRange}
 use Rattle.cb_world.specs.FarState.{FarState}
 use Rattle.cb_world.specs.Plain.{Words}
 use Rattle.cb_evict.specs.declared.eviction.Eviction.{Eviction}
@@ -49,7 +49,7 @@ pub record IsOneEviction (e f : Eviction) (y z : Words) (new other : FarState) :
   pub far : new ≡ other
 
 pub counted_step_fixes : (x y z : Words) (far new other : FarState) (e f : Eviction)
-    → IsAccepted x.settings → IsCountedStep x y far new e → IsCountedStep x z far other f
+    → IsInRange far.code.k far.code.r → IsCountedStep x y far new e → IsCountedStep x z far other f
     → IsOneEviction e f y z new other
 counted_step_fixes x y z far new other e f ok a b =
     let ends = evict_step_fixes x y z far new other (reply_of e) (reply_of f) ok a.step b.step in

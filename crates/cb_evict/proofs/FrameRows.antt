@@ -7,7 +7,6 @@ use Rattle.cb_gf256.specs.Rows.{row_at}
 use Rattle.cb_member.specs.declared.names.Shard.{Shard}
 use Rattle.cb_node.specs.NodesState.{row_under}
 use Rattle.cb_span.specs.Contents.{Contents}
-use Rattle.cb_types.specs.declared.config.Config.{Config}
 use Rattle.cb_world.specs.declared.event.Event.{Event}
 use Rattle.cb_world.specs.declared.shown.Shown.{Shown}
 use Rattle.cb_world.specs.FarState.{FarState, handle_in, span_in}
@@ -40,16 +39,16 @@ names_one far s f span sound there =
     (x.1, (x.0, ap (λ (o : Option Contents). handle_in o x.0) there ∙ x.2))
 
 -- ---- so its position has its frame's row
-module _ (c : Config) (far new : FarState) (s : Shown) (frames : List ℕ) (es : List Event)
-    (memory : List ℕ) (sound : LocalSound s far) (e : HasEvicted c far new frames es)
+module _ (far new : FarState) (s : Shown) (frames : List ℕ) (es : List Event)
+    (memory : List ℕ) (sound : LocalSound s far) (e : HasEvicted far new frames es)
     (rows : HaveFrameRows far new memory)
     (holds : (f : ℕ) → Contains frames f → (span : Contents) × (span_in far.spans f ≡ Some span))
-    (few : length frames ≤ c.k + c.r) where
+    (few : length frames ≤ far.code.k + far.code.r) where
   stored : (p : ℕ) (shard : Shard) → slice_get e.shards p ≡ Some shard
       → row_under new.nodes shard.node shard.key ≡ Some (row_at e.rows p)
   stored p shard at = ap (λ (q : FarState). row_under q.nodes shard.node shard.key) e.state
-      ∙ put_there far.nodes e.shards e.rows p shard (shards_within far (c.k + c.r) e.shards e.chosen)
-      (keys_apart far (c.k + c.r) e.shards e.chosen) (e.word.is_word.count ∙ sym e.chosen.count) at
+      ∙ put_there far.nodes e.shards e.rows p shard (shards_within far (far.code.k + far.code.r) e.shards e.chosen)
+      (keys_apart far (far.code.k + far.code.r) e.shards e.chosen) (e.word.is_word.count ∙ sym e.chosen.count) at
 
   pub rows_of_frames : (p f : ℕ) → slice_get frames p ≡ Some f
       → row_at e.rows p ≡ row_of (window memory (512 * f) 512)

@@ -19,6 +19,7 @@ pub use Rattle.cb_evict.proofs.ShipFixed.{ship_step_fixes}
 pub use Rattle.cb_evict.proofs.ShipKeeps.{ship_keeps}
 pub use Rattle.cb_evict.proofs.ShipStep.{ship_step, ship_stopped}
 pub use Rattle.cb_evict.proofs.Standing.{named_at, names_span, ready_frame}
+pub use Rattle.cb_evict.proofs.StepCodes.{abort_step_codes, begin_step_codes, commit_step_codes, evict_step_codes, ship_step_codes}
 pub use Rattle.cb_evict.proofs.EvictStays.{abort_stays, begin_stays, commit_stays, evict_stays, evict_step_stays, ship_stays}
 pub use Rattle.cb_evict.proofs.Trying.{taken_of}
 pub use Rattle.cb_evict.proofs.EvictUnwritten.{abort_unwritten, begin_unwritten, commit_unwritten, evict_unwritten}

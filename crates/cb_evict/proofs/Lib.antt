@@ -54,6 +54,7 @@ mod Commits
 pub mod CommitStep
 pub mod CommitKeeps
 pub mod EvictStays
+pub mod StepCodes
 pub mod EvictUnwritten
 mod WorkedEnds
 pub mod BeginSound

@@ -74,6 +74,7 @@ far_with spans leaving nodes = record {
   homes = None ∷ None ∷ None ∷ None ∷ [];
   nodes = empty_nodes nodes 2;
   members = fresh_members nodes;
+  code = record { k = 1; r = 1 };
   leaving = leaving;
   joining = None;
   counts = record { turns = 0; by_job = []; sets = 0; keys = 0 };

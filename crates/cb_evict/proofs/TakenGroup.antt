@@ -12,7 +12,6 @@ use Rattle.cb_gf256.specs.InRange.{IsInRange}
 use Rattle.cb_gf256.specs.Rows.{row_at, HoldBytes}
 use Rattle.cb_ptr.specs.Word.{len_of, place_of}
 use Rattle.cb_span.specs.Contents.{Contents, handle_at}
-use Rattle.cb_types.specs.declared.config.Config.{Config}
 use Rattle.cb_world.specs.declared.event.Event.{Event}
 use Rattle.cb_world.specs.declared.leaving.Former.{Former}
 use Rattle.cb_world.specs.declared.object.Object.{Object}
@@ -57,15 +56,15 @@ abbrev pub frame_rows : Shown → List ℕ → List (List ℕ)
 frame_rows t frames = mapped (λ f. row_of (window t.memory (512 * f) 512)) frames
 
 -- in a sound world objects of k spans were claimed; their words were read, and the rows were coded
-pub record AreRowsCoded (c : Config) (far : FarState) (frames : List ℕ) (formers : List Former)
+pub record AreRowsCoded (far : FarState) (frames : List ℕ) (formers : List Former)
     (parities : List (List ℕ)) (before : List Event) (s t : Shown) : Type 0 where
   pub sound : Sound s far
   pub claimed : AreClaimed before s t formers
   pub here : LocalSound t far
-  pub taken : AreSpansTaken c far frames formers
-  pub range : IsInRange c.k c.r
-  pub few : length parities ≡ c.r
-  pub word : IsCodeWord c.k c.r (frame_rows t frames ++ parities)
+  pub taken : AreSpansTaken far frames formers
+  pub range : IsInRange far.code.k far.code.r
+  pub few : length parities ≡ far.code.r
+  pub word : IsCodeWord far.code.k far.code.r (frame_rows t frames ++ parities)
   pub bytes : HoldBytes (frame_rows t frames ++ parities)
   pub small : (f : ℕ) → Contains frames f → All (λ w. w < 2 ^ 64) (window t.memory (512 * f) 512)
 
@@ -112,9 +111,9 @@ claimed_same n p v m q w a b e = (ap len_in e, ap place_in e, ap words_of_it e)
     words_of_it (is.Here len place) = []
     words_of_it (is.Claimed len place v words) = words
 
-module _ (c : Config) (far : FarState) (frames : List ℕ) (formers : List Former)
+module _ (far : FarState) (frames : List ℕ) (formers : List Former)
     (parities : List (List ℕ)) (before : List Event) (s t : Shown)
-    (d : AreRowsCoded c far frames formers parities before s t) where
+    (d : AreRowsCoded far frames formers parities before s t) where
   ready : (f : ℕ) → Contains frames f → IsReadyFrame far f
   ready f x = ready_frame far s f d.sound.here
       (All-contains (Contains (candidates far)) frames f d.taken.among x)
@@ -147,7 +146,7 @@ module _ (c : Config) (far : FarState) (frames : List ℕ) (formers : List Forme
 
   pub told_one : (events : List Event) → ((k : ℕ) → NoLook k events) → (h : ℕ)
       → IsIn far.spans frames h
-      → IsToldOne (before ++ events) s t (new_batch c far frames formers parities) h
+      → IsToldOne (before ++ events) s t (new_batch far frames formers parities) h
   told_one events quiet h (f, c, named) =
       let y = d.taken.of.all h (f, c, named) in
       let g = y.0 in let x = y.1 in let same : g.handle ≡ h = y.2 in
@@ -178,7 +177,7 @@ module _ (c : Config) (far : FarState) (frames : List ℕ) (formers : List Forme
       }
 
   pub one : (h : ℕ) → IsIn far.spans frames h
-      → IsToldOne (before ++ []) s t (new_batch c far frames formers parities) h
+      → IsToldOne (before ++ []) s t (new_batch far frames formers parities) h
   one h x = told_one [] (λ k. tt) h x
 
   quiet_one : (h : ℕ) → IsNotFarBoth s t h
@@ -221,7 +220,7 @@ module _ (c : Config) (far : FarState) (frames : List ℕ) (formers : List Forme
       subst IsHeld (sym n.claimed) tt) d.claimed.keeps
 
   -- ---- the group
-  pub taken_group : IsGroup t far (new_batch c far frames formers parities)
+  pub taken_group : IsGroup t far (new_batch far frames formers parities)
   taken_group = record {
     here = d.here;
     away = quiet_away s t far quiet_one
@@ -267,26 +266,26 @@ module _ (c : Config) (far : FarState) (frames : List ℕ) (formers : List Forme
   wide_row =
       let within : 0 < length frames = omega (arith, d.taken.count, d.range.data_least) in
       let ws = window t.memory (512 * get_or frames 0 0) 512 in
-      ap length (row_is t far (new_batch c far frames formers parities) taken_group 0 within)
+      ap length (row_is t far (new_batch far frames formers parities) taken_group 0 within)
       ∙ row_length ws ∙ ap (λ (i : ℕ). i * 8) (window_length t.memory (512 * get_or frames 0 0) 512)
 
-  pub span_word : IsSpanWord c.k c.r (frame_rows t frames ++ parities)
+  pub span_word : IsSpanWord far.code.k far.code.r (frame_rows t frames ++ parities)
   span_word = record { is_word = d.word; bytes = d.bytes; wide = wide_row }
 
   pub group_word : IsSpanWord (length frames) (length parities) (frame_rows t frames ++ parities)
   group_word =
       subst (λ (n : ℕ). IsSpanWord n (length parities) (frame_rows t frames ++ parities))
       (sym d.taken.count)
-      (subst (λ (n : ℕ). IsSpanWord c.k n (frame_rows t frames ++ parities)) (sym d.few) span_word)
+      (subst (λ (n : ℕ). IsSpanWord far.code.k n (frame_rows t frames ++ parities)) (sym d.few) span_word)
 
   pub group_range : IsInRange (length frames) (length parities)
   group_range = subst (λ (n : ℕ). IsInRange n (length parities)) (sym d.taken.count)
-      (subst (λ (n : ℕ). IsInRange c.k n) (sym d.few) d.range)
+      (subst (λ (n : ℕ). IsInRange far.code.k n) (sym d.few) d.range)
 
   pub row_at_frame : (p f : ℕ) → slice_get frames p ≡ Some f
       → row_at (frame_rows t frames ++ parities) p ≡ row_of (window t.memory (512 * f) 512)
   row_at_frame p f at =
-      row_is t far (new_batch c far frames formers parities) taken_group p
+      row_is t far (new_batch far frames formers parities) taken_group p
       (slice_get_within frames p f at)
       ∙ ap (λ (g : ℕ). row_of (window t.memory (512 * g) 512))
       (get_or_from_slice_get frames p f 0 at)
@@ -306,7 +305,7 @@ module _ (c : Config) (far : FarState) (frames : List ℕ) (formers : List Forme
         words = g.noted.words;
         found = g.found;
         told = g.told;
-        contents = in_row t far (new_batch c far frames formers parities) taken_group f slot h span
+        contents = in_row t far (new_batch far frames formers parities) taken_group f slot h span
             g.noted x
             there named
             ∙ ap (λ (row : List ℕ). window (words_in row) (slot * words_of span.class)

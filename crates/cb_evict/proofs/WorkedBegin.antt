@@ -106,7 +106,7 @@ former = record { handle = 0; word = calm }
 
 -- the far state where the first span is leaving, with these words and these parities
 abbrev leaving_with : List Former → List (List ℕ) → FarState
-leaving_with words parities = with_batch settings pair (0 ∷ []) words parities
+leaving_with words parities = with_batch pair (0 ∷ []) words parities
 
 -- its frame has zeros, and so has its parity
 word_is : IsSpanWord 1 1 (frame_rows start (0 ∷ []) ++ row ∷ [])
@@ -139,8 +139,8 @@ same_batch : (words : List Former) (parities : List (List ℕ)) (y : Words)
     → (a : IsBegunTo start y pair (leaving_with words parities) (0 ∷ []))
     → (words ≡ a.words) × (parities ≡ a.parities)
 same_batch words parities y a =
-    let e = some_same (new_batch settings pair (0 ∷ []) words parities)
-    (new_batch settings pair (0 ∷ []) a.words a.parities) (ap (λ (f : FarState). f.leaving) a.state) in
+    let e = some_same (new_batch pair (0 ∷ []) words parities)
+    (new_batch pair (0 ∷ []) a.words a.parities) (ap (λ (f : FarState). f.leaving) a.state) in
     (ap (λ (b : LeavingState). b.words) e, ap (λ (b : LeavingState). b.parities) e)
 
 -- ---- the order in which objects are noted
@@ -159,11 +159,11 @@ noted_at h = record { handle = h; word = calm }
 
 -- the object of a later slot is not noted first
 not_the_other_way : (x y : Words)
-    → IsBegunTo x y two (with_batch settings two (0 ∷ []) (noted_at 1 ∷ noted_at 3 ∷ []) (row ∷ []))
+    → IsBegunTo x y two (with_batch two (0 ∷ []) (noted_at 1 ∷ noted_at 3 ∷ []) (row ∷ []))
     (0 ∷ []) → ⊥
 not_the_other_way x y a =
-    let e = some_same (new_batch settings two (0 ∷ []) (noted_at 1 ∷ noted_at 3 ∷ []) (row ∷ []))
-    (new_batch x.settings two (0 ∷ []) a.words a.parities) (ap (λ (f : FarState). f.leaving) a.state) in
+    let e = some_same (new_batch two (0 ∷ []) (noted_at 1 ∷ noted_at 3 ∷ []) (row ∷ []))
+    (new_batch two (0 ∷ []) a.words a.parities) (ap (λ (f : FarState). f.leaving) a.state) in
     let first : 1 ≡ 3 = ap (λ (l : List ℕ). get_or l 0 0)
     (ap (λ (b : LeavingState). noted_of b.words) e ∙ a.order) in
     omega (arith, first)
@@ -244,7 +244,7 @@ abbrev pub second : FarState
 second = leaving_with (former ∷ []) (row ∷ [])
 
 waits : IsBeginStep claimed claimed second second (answer.Leaving (record { n = 0 }))
-waits = is_leaving (new_batch settings pair (0 ∷ []) (former ∷ []) (row ∷ [])) refl refl refl refl
+waits = is_leaving (new_batch pair (0 ∷ []) (former ∷ []) (row ∷ [])) refl refl refl refl
 
 not_yet : (y : Words) (new : FarState) → IsBatchMade claimed y second new
     (answer.Batch (record { n = 1 })) → ⊥
@@ -278,7 +278,7 @@ not_another_number y new a =
 -- nothing is looked at where a batch is leaving
 told : IsLeavingAlready second second (answer.Leaving (record { n = 0 })) []
 told = record {
-  batch = new_batch settings pair (0 ∷ []) (former ∷ []) (row ∷ []);
+  batch = new_batch pair (0 ∷ []) (former ∷ []) (row ∷ []);
   there = refl;
   reply = refl;
   state = refl;
@@ -297,7 +297,7 @@ leaving_is a b e = cc
 
 not_other_set : IsLeavingAlready second second (answer.Leaving (record { n = 3 })) [] → ⊥
 not_other_set a =
-    let b = some_same (new_batch settings pair (0 ∷ []) (former ∷ []) (row ∷ [])) a.batch a.there in
+    let b = some_same (new_batch pair (0 ∷ []) (former ∷ []) (row ∷ [])) a.batch a.there in
     let e : 3 ≡ 0 = ap (λ (id : SetId). id.n) (leaving_is _ _ a.reply)
     ∙ sym (ap (λ (x : LeavingState). x.set) b) in absurd (omega (arith, e))
 
@@ -394,7 +394,7 @@ in_rows zero f slot h span at there named =
     by (suc (suc n)) e = absurd (none_some h e)
 in_rows (suc p) f slot h span at there named = absurd (none_some f at)
 
-pub has_begun : HasBegun settings pair second (0 ∷ []) claim_zeros
+pub has_begun : HasBegun pair second (0 ∷ []) claim_zeros
 has_begun = record {
   words = former ∷ [];
   rows = row ∷ [];
@@ -411,16 +411,16 @@ has_begun = record {
 }
 
 -- a word that no claim found is not noted
-not_without_claim : HasBegun settings pair second (0 ∷ []) [] → ⊥
+not_without_claim : HasBegun pair second (0 ∷ []) [] → ⊥
 not_without_claim a =
-    let batch = some_same (new_batch settings pair (0 ∷ []) (former ∷ []) (row ∷ []))
-    (new_batch settings pair (0 ∷ []) a.words a.parities) (ap (λ (f : FarState). f.leaving) a.state) in
+    let batch = some_same (new_batch pair (0 ∷ []) (former ∷ []) (row ∷ []))
+    (new_batch pair (0 ∷ []) a.words a.parities) (ap (λ (f : FarState). f.leaving) a.state) in
     let found = subst (λ (l : List Former). All (λ (f : Former). IsFound f.handle f.word []) l)
     (sym (ap (λ (b : LeavingState). b.words) batch)) a.found in
     found 0 former (lit< tt)
 
 -- the set that is kept is not committed
-not_committed : (set : SetState) → HasBegun settings pair (record second {
+not_committed : (set : SetState) → HasBegun pair (record second {
   sets = map.insert pair.sets 0 (record { set = set; committed = true });
 }) (0 ∷ []) claim_zeros → ⊥
 not_committed set a = some_none set (sym (set_added_in pair.sets 0 set)
@@ -552,7 +552,7 @@ not_refused a = differ (a.left (λ id e. spans_batch 0 (answer.NoSpans 0) id ref
 
 -- ---- the parts
 -- one batch by the rule: enough spans, enough nodes, and the next number
-has_batch : HasBatch settings pair second (answer.Batch (record { n = 0 })) (0 ∷ []) claim_zeros
+has_batch : HasBatch pair second (answer.Batch (record { n = 0 })) (0 ∷ []) claim_zeros
 has_batch = record {
   enough = lit≤ tt;
   room = omega (arith, two_nodes);
@@ -560,23 +560,23 @@ has_batch = record {
   begun = has_begun;
 }
 
-not_of_none : (new : FarState) (r : Reply) (es : List Event) → HasBatch settings pair new r [] es → ⊥
+not_of_none : (new : FarState) (r : Reply) (es : List Event) → HasBatch pair new r [] es → ⊥
 not_of_none new r es a = let l = a.enough in absurd (omega (arith, l))
 
 not_on_one : (new : FarState) (r : Reply) (es : List Event)
-    → HasBatch settings lone new r (0 ∷ []) es → ⊥
+    → HasBatch lone new r (0 ∷ []) es → ⊥
 not_on_one new r es a = let l = a.room in absurd (omega (arith, l, one_node))
 
 not_number : (new : FarState) (es : List Event)
-    → HasBatch settings pair new (answer.Batch (record { n = 1 })) (0 ∷ []) es → ⊥
+    → HasBatch pair new (answer.Batch (record { n = 1 })) (0 ∷ []) es → ⊥
 not_number new es a =
     let e : 1 ≡ 0 = ap (λ (id : SetId). id.n) (id_is _ _ a.reply) in absurd (omega (arith, e))
 
-by_rule : BeginRule settings second second (answer.Leaving (record { n = 0 })) []
+by_rule : BeginRule second second (answer.Leaving (record { n = 0 })) []
 by_rule = inl told
 
 -- no span is looked at while a batch is leaving
-not_meanwhile : (new : FarState) (r : Reply) (es : List Event) → HasLooked settings second new r es → ⊥
+not_meanwhile : (new : FarState) (r : Reply) (es : List Event) → HasLooked second new r es → ⊥
 not_meanwhile new r es a = none_some _ (sym a.none)
 
 -- the parities of the row of zeros

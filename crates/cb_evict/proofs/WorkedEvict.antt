@@ -12,7 +12,6 @@ use Rattle.cb_set.specs.SetState.{SetState}
 use Rattle.cb_span.specs.declared.temp.Temp.TheVariants.{Cold}
 use Rattle.cb_ptr.specs.Word.{len_of}
 use Rattle.cb_span.specs.Contents.{Contents, span_of}
-use Rattle.cb_types.specs.declared.config.Config.{Config}
 use Rattle.cb_types.specs.declared.reply.Reply.{Reply}
 use Rattle.cb_types.specs.declared.reply.Reply.TheVariants as answer
 use Rattle.cb_world.specs.declared.event.Event.{Event}
@@ -44,37 +43,34 @@ far = record {
   homes = None ∷ None ∷ None ∷ [];
   nodes = empty_nodes 1 1;
   members = fresh_members 1;
+  code = record { k = 2; r = 1 };
   leaving = None;
   joining = None;
   counts = record { turns = 0; by_job = []; sets = 0; keys = 0 };
   survey = no_survey;
 }
 
--- two data rows and a parity
-abbrev config : Config
-config = record { k = 2; r = 1; nodes = 3; frames = 4; room = 2; handles = 3; turns = 0 }
-
 -- ---- too few spans
-one_span : HasFewSpans config far far (answer.NoSpans 1) (1 ∷ [])
+one_span : HasFewSpans far far (answer.NoSpans 1) (1 ∷ [])
 one_span = record { few = lit< tt; reply = refl; state = refl }
 
-not_enough_spans : HasFewSpans config far far (answer.NoSpans 2) (1 ∷ 3 ∷ []) → ⊥
+not_enough_spans : HasFewSpans far far (answer.NoSpans 2) (1 ∷ 3 ∷ []) → ⊥
 not_enough_spans a = let l = a.few in absurd (omega (arith, l))
 
 counts : (n m : ℕ) → answer.NoSpans n ≡ answer.NoSpans m → n ≡ m
 counts n m e = cc
 
-not_another_count : HasFewSpans config far far (answer.NoSpans 0) (1 ∷ []) → ⊥
+not_another_count : HasFewSpans far far (answer.NoSpans 0) (1 ∷ []) → ⊥
 not_another_count a = let e = counts 0 1 a.reply in absurd (omega (arith, e))
 
-not_changed : HasFewSpans config far (record far { made = 3 }) (answer.NoSpans 1) (1 ∷ []) → ⊥
+not_changed : HasFewSpans far (record far { made = 3 }) (answer.NoSpans 1) (1 ∷ []) → ⊥
 not_changed a = let e : 3 ≡ 2 = ap (λ (f : FarState). f.made) a.state in absurd (omega (arith, e))
 
 -- ---- too few nodes: the one node has room
 one_node : room_count far.nodes far.members ≡ 1
 one_node = grind (arith, map.gets)
 
-few_nodes_room : HasFewNodes config far far (answer.NoNodes 1) (1 ∷ 3 ∷ [])
+few_nodes_room : HasFewNodes far far (answer.NoNodes 1) (1 ∷ 3 ∷ [])
 few_nodes_room = record {
   enough = lit≤ tt;
   few = omega (arith, one_node);
@@ -83,15 +79,16 @@ few_nodes_room = record {
 }
 
 -- too few spans are told before too few nodes
-not_nodes_first : HasFewNodes config far far (answer.NoNodes 1) (1 ∷ []) → ⊥
+not_nodes_first : HasFewNodes far far (answer.NoNodes 1) (1 ∷ []) → ⊥
 not_nodes_first a = let l = a.enough in absurd (omega (arith, l))
 
 -- one data row and one parity where one node has room
-not_enough_nodes : HasFewNodes (record config { k = 0 }) far far (answer.NoNodes 1) [] → ⊥
+not_enough_nodes : HasFewNodes (record far { code = record { k = 0; r = 1 } })
+    (record far { code = record { k = 0; r = 1 } }) (answer.NoNodes 1) [] → ⊥
 not_enough_nodes a = let l = a.few in absurd (omega (arith, l, one_node))
 
 -- no set is made where a node is missing
-not_without_room : (r : Reply) (es : List Event) → HasBoth config far far r (1 ∷ 3 ∷ []) es → ⊥
+not_without_room : (r : Reply) (es : List Event) → HasBoth far far r (1 ∷ 3 ∷ []) es → ⊥
 not_without_room r es a = let l = a.room in absurd (omega (arith, l, one_node))
 
 -- ---- an object in a row

@@ -44,7 +44,7 @@ use Rattle.cb_evict.proofs.NewSet.{set_added_in}
 use Rattle.cb_evict.proofs.WorkedBegin.{former, second}
 use Rattle.cb_evict.proofs.WorkedEnds.{are_restored, batch, both_put, claimed, hot, is_committed, is_given_up, leaving, none_of_one, noted, one_put, restored}
 use Rattle.cb_evict.proofs.Options.{none_some, some_same}
-use Rattle.cb_evict.proofs.SmallWorlds.{away, calm, far_with, first_object, heads, homes, is_word, only_first, only_object, only_second, pair, pinned, row, row_words, settings, span_with}
+use Rattle.cb_evict.proofs.SmallWorlds.{away, calm, far_with, first_object, heads, homes, is_word, only_first, only_object, only_second, pair, pinned, row, row_words, span_with}
 
 -- ---- objects of the batch alone are settled by a commit and by an abort
 of_batch : (shards : List (Option Shard)) → IsOfBatch (leaving shards) 0
@@ -196,7 +196,7 @@ of_both = Looked 0 pinned ∷ Looked 1 pinned ∷ []
 not_free : IsFree pinned → ⊥
 not_free free = let e : 1 ≡ 0 = free.1 in omega (arith, e)
 
-no_spans : EvictRule settings hot_leaves hot_leaves (answer.NoSpans 0) of_one
+no_spans : EvictRule hot_leaves hot_leaves (answer.NoSpans 0) of_one
 no_spans = record {
   loose = [];
   found = (
@@ -208,7 +208,7 @@ no_spans = record {
 }
 
 -- a word of the frame that leaves already, the first one of its 512
-loads_what_leaves : ¬ (EvictRule settings hot_leaves hot_leaves (answer.NoSpans 0)
+loads_what_leaves : ¬ (EvictRule hot_leaves hot_leaves (answer.NoSpans 0)
     (Looked 0 pinned ∷ Loaded 512 0 ∷ []))
 loads_what_leaves x = beside x.touches.1.0
   where
@@ -217,15 +217,15 @@ loads_what_leaves x = beside x.touches.1.0
         let e : 0 ≡ f = same in let l : 512 < 512 * f + 512 = lies.1 in omega (arith, e, l)
     beside (f, (suc k, less, same), lies) = let l : suc k < 1 = less in omega (arith, l)
 
-looks_at_what_leaves : ¬ (EvictRule settings hot_leaves hot_leaves (answer.NoSpans 0) of_both)
+looks_at_what_leaves : ¬ (EvictRule hot_leaves hot_leaves (answer.NoSpans 0) of_both)
 looks_at_what_leaves x = let e = only_object 1 x.touches.1.0 in absurd (omega (arith, e))
 
-settles_what_leaves : ¬ (EvictRule settings hot_leaves hot_leaves (answer.NoSpans 0)
+settles_what_leaves : ¬ (EvictRule hot_leaves hot_leaves (answer.NoSpans 0)
     (Looked 0 pinned ∷ Settled 1 away ∷ []))
 settles_what_leaves x = let e = only_object 1 x.touches.1.0 in absurd (omega (arith, e))
 
 -- a begin looks at both
-none_begins : HasLooked settings pair pair (answer.NoSpans 0) of_both
+none_begins : HasLooked pair pair (answer.NoSpans 0) of_both
 none_begins = record {
   none = refl;
   loose = [];
@@ -249,7 +249,7 @@ none_begins = record {
     one_zero n e = omega (arith, e)
 
 -- a word of the third frame, which has no span
-begin_loads_elsewhere : ¬ (HasLooked settings pair pair (answer.NoSpans 0)
+begin_loads_elsewhere : ¬ (HasLooked pair pair (answer.NoSpans 0)
     (Looked 0 pinned ∷ Looked 1 pinned ∷ Loaded 1024 0 ∷ []))
 begin_loads_elsewhere x = beside x.touches.1.1.0
   where
@@ -262,7 +262,7 @@ begin_loads_elsewhere x = beside x.touches.1.1.0
         let l : suc (suc k) < 2 = less in omega (arith, l)
 
 -- an object that lies in no span
-begin_looks_elsewhere : ¬ (HasLooked settings pair pair (answer.NoSpans 0)
+begin_looks_elsewhere : ¬ (HasLooked pair pair (answer.NoSpans 0)
     (Looked 0 pinned ∷ Looked 1 pinned ∷ Looked 2 away ∷ []))
 begin_looks_elsewhere x = nowhere x.touches.1.1.0
   where
@@ -315,10 +315,10 @@ not_sevens x = let e = heads 7 0 (told x.words x.version x.told ∙ x.contents
     found w (inr is) = is.0.1
 
 -- rows of zeros, where the claim told another word
-begins_with_other_words : ¬ (HasBegun settings pair second (0 ∷ []) claim_sevens)
+begins_with_other_words : ¬ (HasBegun pair second (0 ∷ []) claim_sevens)
 begins_with_other_words a =
-    let b = some_same (new_batch settings pair (0 ∷ []) (former ∷ []) (row ∷ []))
-    (new_batch settings pair (0 ∷ []) a.words a.parities)
+    let b = some_same (new_batch pair (0 ∷ []) (former ∷ []) (row ∷ []))
+    (new_batch pair (0 ∷ []) a.words a.parities)
     (ap (λ (f : FarState). f.leaving) a.state) in
     let parities : row ∷ [] ≡ a.parities = ap (λ (x : LeavingState). x.parities) b in
     let word : IsSpanWord 1 1 (row_at a.rows 0 ∷ row ∷ []) =

@@ -96,6 +96,7 @@ far leaving = record {
   homes = [];
   nodes = nodes;
   members = members;
+  code = record { k = 1; r = 2 };
   leaving = leaving;
   joining = None;
   counts = record { turns = 0; by_job = []; sets = 4; keys = 5 };

@@ -33,7 +33,7 @@ use Rattle.cb_evict.proofs.BeginSound.{reserved_kept}
 use Rattle.cb_evict.proofs.Composed.{looks_tried}
 use Rattle.cb_evict.proofs.Loose.{held_alone}
 use Rattle.cb_evict.proofs.Options.{none_some}
-use Rattle.cb_evict.proofs.SmallWorlds.{calm, first_object, heads, lone, one_node, only_first, only_second, pair, pinned, settings, two_nodes}
+use Rattle.cb_evict.proofs.SmallWorlds.{calm, first_object, heads, lone, one_node, only_first, only_second, pair, pinned, two_nodes}
 use Rattle.cb_evict.proofs.WorkedBegin.{former, of_first}
 
 not_one : (n : ℕ) → suc n ≡ 0 → ⊥
@@ -68,7 +68,7 @@ over_both = record {
   done = (tt, inr (first_loose, refl, (second_held, tt)));
 }
 
-finds_first : FindsLoose (λ es. es ≡ looks) settings pair (0 ∷ []) 2
+finds_first : FindsLoose (λ es. es ≡ looks) pair (0 ∷ []) 2
 finds_first = record {
   looks = over_both;
   enough = lit≤ tt;
@@ -77,28 +77,32 @@ finds_first = record {
 }
 
 -- the nodes are counted
-not_other_nodes : (runs : List Event → Type 0) → FindsLoose runs settings pair (0 ∷ []) 3 → ⊥
+not_other_nodes : (runs : List Event → Type 0) → FindsLoose runs pair (0 ∷ []) 3 → ⊥
 not_other_nodes runs a = let e = a.nodes in absurd (omega (arith, e, two_nodes))
 
 -- too few spans, and then too few nodes, are a refusal
-not_enough : (runs : List Event → Type 0) (n : ℕ) → FindsLoose runs settings pair [] n → ⊥
+not_enough : (runs : List Event → Type 0) (n : ℕ) → FindsLoose runs pair [] n → ⊥
 not_enough runs n a = let l = a.enough in absurd (omega (arith, l))
 
-not_with_room : (runs : List Event → Type 0) (n : ℕ) → FindsLoose runs settings lone (0 ∷ []) n → ⊥
+not_with_room : (runs : List Event → Type 0) (n : ℕ) → FindsLoose runs lone (0 ∷ []) n → ⊥
 not_with_room runs n a = let l = a.room in absurd (omega (arith, l, one_node))
 
-few : (shows : Shown → Type 0) → TakesFew (λ es. es ≡ looks) shows (record settings { k = 2 }) pair
-    (AreLooseNow pair) (Refused Spans 1 2)
+-- the same where sets of two data positions are in force
+abbrev paired : FarState
+paired = record pair { code = record { k = 2; r = 1 } }
+
+few : (shows : Shown → Type 0) → TakesFew (λ es. es ≡ looks) shows paired (AreLooseNow paired)
+    (Refused Spans 1 2)
 few shows = record {
   loose = 0 ∷ [];
-  tries = looks_tried pair (0 ∷ []) over_both;
+  tries = looks_tried paired (0 ∷ []) over_both;
   few = inl (record { few = lit< tt; reply = refl; state = refl });
   counts = (refl, sym two_nodes);
 }
 
 -- a refusal has its own count
 not_its_count : (runs : List Event → Type 0) (shows : Shown → Type 0)
-    → TakesFew runs shows settings pair (AreLooseNow pair) (Refused Spans 1 2) → ⊥
+    → TakesFew runs shows pair (AreLooseNow pair) (Refused Spans 1 2) → ⊥
 not_its_count runs shows a = by a.few
   where
     count_is : (n m : ℕ) → answer.NoSpans n ≡ answer.NoSpans m → n ≡ m
@@ -107,16 +111,15 @@ not_its_count runs shows a = by a.few
     spans_nodes : (n m : ℕ) → answer.NoSpans n ≡ answer.NoNodes m → ⊥
     spans_nodes n m e = cc
 
-    by : HasFewSpans settings pair pair (answer.NoSpans 1) a.loose
-        ⊎ HasFewNodes settings pair pair (answer.NoSpans 1) a.loose → ⊥
+    by : HasFewSpans pair pair (answer.NoSpans 1) a.loose
+        ⊎ HasFewNodes pair pair (answer.NoSpans 1) a.loose → ⊥
     by (inl x) = let l = x.few in let e = count_is 1 (length a.loose) x.reply in
         omega (arith, l, e)
     by (inr x) = spans_nodes 1 _ x.reply
 
 -- and the other one beside it, as it is and not another
 not_other_count : (runs : List Event → Type 0) (shows : Shown → Type 0)
-    → TakesFew runs shows (record settings { k = 2 }) pair (AreLooseNow pair)
-    (Refused Spans 1 1) → ⊥
+    → TakesFew runs shows paired (AreLooseNow paired) (Refused Spans 1 1) → ⊥
 not_other_count runs shows a = let e = a.counts.1 in absurd (omega (arith, e, two_nodes))
 
 -- ---- looks, and the claim of the first span
@@ -179,7 +182,7 @@ tries = record {
   done = (inr (still_loose, refl, (still_held, tt)), λ far s none here. absurd none);
 }
 
-taken_first : AreSpansTaken settings pair (0 ∷ []) (former ∷ [])
+taken_first : AreSpansTaken pair (0 ∷ []) (former ∷ [])
 taken_first = record {
   count = refl;
   among = All-cons (Contains (candidates pair)) 0 [] (0, lit< tt, refl)
@@ -190,7 +193,7 @@ taken_first = record {
   each_once = λ i j d less within. absurd (omega (arith, less, within));
 }
 
-enough : TakesEnough (λ es. es ≡ tried) (λ s. ⊥) settings pair (AreLooseNow pair) (0 ∷ [])
+enough : TakesEnough (λ es. es ≡ tried) (λ s. ⊥) pair (AreLooseNow pair) (0 ∷ [])
     (former ∷ [])
 enough = record {
   loose = 0 ∷ [];
@@ -242,26 +245,26 @@ not_claimed s shows finds known sound was a =
 -- none of a list is too few
 not_of_none : (runs : List Event → Type 0) (shows : Shown → Type 0) (frames : List ℕ)
     (formers : List Former)
-    → TakesEnough runs shows settings pair (λ l es. l ≡ []) frames formers → ⊥
+    → TakesEnough runs shows pair (λ l es. l ≡ []) frames formers → ⊥
 not_of_none runs shows frames formers a =
     let l = a.enough in let e = ap (λ (l : List ℕ). length l) a.tries.done.0 in omega (arith, l, e)
 
 -- the first loose span goes
 not_the_other : (runs : List Event → Type 0) (shows : Shown → Type 0) (formers : List Former)
-    → TakesEnough runs shows settings pair (λ l es. l ≡ 0 ∷ []) (1 ∷ []) formers → ⊥
+    → TakesEnough runs shows pair (λ l es. l ≡ 0 ∷ []) (1 ∷ []) formers → ⊥
 not_the_other runs shows formers a =
     not_one 0 (heads 1 0 (a.first ∙ ap (λ (l : List ℕ). take 1 l) a.tries.done.0))
 
 -- one node is too few for two rows
 not_on_one : (runs : List Event → Type 0) (shows : Shown → Type 0)
     (finds : List ℕ → List Event → Type 0) (frames : List ℕ) (formers : List Former)
-    → TakesEnough runs shows settings lone finds frames formers → ⊥
+    → TakesEnough runs shows lone finds frames formers → ⊥
 not_on_one runs shows finds frames formers a = let l = a.room in omega (arith, l, one_node)
 
 -- each object of the span is noted
 not_without : (runs : List Event → Type 0) (shows : Shown → Type 0)
     (finds : List ℕ → List Event → Type 0)
-    → TakesEnough runs shows settings pair finds (0 ∷ []) [] → ⊥
+    → TakesEnough runs shows pair finds (0 ∷ []) [] → ⊥
 not_without runs shows finds a =
     let x = a.taken.of.all 0 first_object in let l = x.1.1 in omega (arith, l)
 
@@ -275,18 +278,18 @@ not_looked_at a = subst (OnlyLoads (LiesInOne (0 ∷ []))) a.1 a.2
 
 -- a set is stored
 not_unstored : (runs : List Event → Type 0) (shows : Shown → Type 0)
-    → StoresFrames runs shows settings pair pair (0 ∷ []) → ⊥
+    → StoresFrames runs shows pair pair (0 ∷ []) → ⊥
 not_unstored runs shows a =
     let e : 0 ≡ 1 = ap (λ (far : FarState). far.counts.sets) a.kept.state in omega (arith, e)
 
 -- with a row for each frame
 not_two_rows : (runs : List Event → Type 0) (shows : Shown → Type 0) (new : FarState)
-    → (a : StoresFrames runs shows settings pair new (0 ∷ [])) → length a.rows ≡ 2 → ⊥
+    → (a : StoresFrames runs shows pair new (0 ∷ [])) → length a.rows ≡ 2 → ⊥
 not_two_rows runs shows new a two = let e = a.count in omega (arith, e, two)
 
 -- the set is kept that the spans will be
 not_unkept : (runs : List Event → Type 0) (shows : Shown → Type 0) (parities : List (List ℕ))
-    → ReservesFrames runs shows settings pair pair (0 ∷ []) parities → ⊥
+    → ReservesFrames runs shows pair pair (0 ∷ []) parities → ⊥
 not_unkept runs shows parities a =
     let none : map.get pair.sets 0 ≡ None = grind (arith, map.gets) in
     none_some _ (sym none ∙ ap (λ (far : FarState). map.get far.sets 0) a.state
@@ -294,5 +297,5 @@ not_unkept runs shows parities a =
 
 -- with as many parities as the code has
 not_unparted : (runs : List Event → Type 0) (shows : Shown → Type 0) (new : FarState)
-    → ReservesFrames runs shows settings pair new (0 ∷ []) [] → ⊥
+    → ReservesFrames runs shows pair new (0 ∷ []) [] → ⊥
 not_unparted runs shows new a = let e : 1 ≡ 2 = a.made.count in omega (arith, e)

@@ -6,7 +6,7 @@ use Rattle.std.proofs.lemmas.Bool.{agree_below_at, ltb-true}
 use Rattle.std.proofs.lemmas.List.Elements.{All-nil, All-cons}
 use Rattle.std.proofs.Math.Dec.{ltb}
 use Rattle.cb_class.specs.declared.class.Class.{Class}
-use Rattle.cb_class.specs.Class.{IsClassOf, bytes_of, slots_of, words_of}
+use Rattle.cb_class.specs.Class.{IsClassOf, bytes_of, pages_of, slots_of, words_of}
 use Rattle.cb_frame.specs.FreeFrames.{IsFreeFrame}
 use Rattle.cb_member.specs.declared.names.Shard.{Shard}
 use Rattle.cb_member.specs.Membership.{fresh_members}
@@ -89,6 +89,7 @@ far = record {
   homes = None ∷ [];
   nodes = empty_nodes 2 2;
   members = fresh_members 2;
+  code = record { k = 1; r = 1 };
   leaving = None;
   joining = None;
   counts = record { turns = 0; by_job = []; sets = 0; keys = 0 };
@@ -131,7 +132,7 @@ are_known = record {
     stamped (suc h) = refl
 
 is_span : IsSpan span
-unfolding slots_of bytes_of
+unfolding slots_of pages_of bytes_of
 is_span = record { in_table = lit< tt; sized = refl }
 
 are_frames : AreFrames far
@@ -301,7 +302,7 @@ abbrev former : Former
 former = record { handle = 0; word = calm }
 
 abbrev pub after : FarState
-after = with_batch (desk calm).settings far (0 ∷ []) (former ∷ []) (row ∷ [])
+after = with_batch far (0 ∷ []) (former ∷ []) (row ∷ [])
 
 -- the frame's bytes are zeros
 zeros : row_of (window memory 0 512) ≡ row_of (window [] 0 512)
@@ -378,7 +379,7 @@ first_word ws e small = let l = subst (λ (l : List ℕ). All (λ w. w < 2 ^ 64)
 
 pub none_known : (t : Shown) → IsKnown (desk (calm + 1)) after t → ⊥
 none_known t k =
-    let noted = (k.sound.noted (new_batch (desk calm).settings far (0 ∷ []) (former ∷ []) (row ∷ []))
+    let noted = (k.sound.noted (new_batch far (0 ∷ []) (former ∷ []) (row ∷ []))
     refl).each 0 0 0 span (0, lit< tt, refl) refl refl in
     let leaves = k.sound.claimed 0 (len_of noted.former.word) (place_of noted.former.word)
     noted.version noted.words noted.claimed in

@@ -2,7 +2,6 @@
 use Rattle.std.specs.Prelude.{◌≡◌, ◌⊎◌, ℕ, ◌+◌, ◌≤◌, ◌++◌, false, List, [], None, Some, All, length, replicate, take}
 use Rattle.std.specs.FinMap as map
 use Rattle.cb_member.specs.declared.names.Shard.{Shard}
-use Rattle.cb_types.specs.declared.config.Config.{Config}
 use Rattle.cb_types.specs.declared.reply.Reply.{Reply}
 use Rattle.cb_types.specs.declared.reply.Reply.TheVariants as answer
 use Rattle.cb_world.specs.declared.event.Event.{Event}
@@ -31,23 +30,23 @@ abbrev pub blank_shards : ℕ → List Shard
 blank_shards n = replicate n blank_shard
 
 -- the batch of the spans in some frames, of which no row was put yet
-abbrev pub new_batch : Config → FarState → List ℕ → List Former → List (List ℕ) → LeavingState
-new_batch c far frames words parities = record {
+abbrev pub new_batch : FarState → List ℕ → List Former → List (List ℕ) → LeavingState
+new_batch far frames words parities = record {
   set = far.counts.sets;
   frames = frames;
   words = words;
   parities = parities;
-  shards = replicate (c.k + c.r) None;
+  shards = replicate (far.code.k + far.code.r) None;
 }
 
 -- the far state with that batch: its number is drawn, and the set that it will be is kept under it
-abbrev pub with_batch : Config → FarState → List ℕ → List Former → List (List ℕ) → FarState
-with_batch c far frames words parities = record far {
+abbrev pub with_batch : FarState → List ℕ → List Former → List (List ℕ) → FarState
+with_batch far frames words parities = record far {
   sets = map.insert far.sets far.counts.sets (record {
-    set = set_from far.counts.sets (blank_shards (c.k + c.r)) far.spans frames;
+    set = set_from far.counts.sets (blank_shards (far.code.k + far.code.r)) far.spans frames;
     committed = false;
   });
-  leaving = Some (new_batch c far frames words parities);
+  leaving = Some (new_batch far frames words parities);
   counts = record far.counts { sets = far.counts.sets + 1 };
 }
 
@@ -55,7 +54,7 @@ with_batch c far frames words parities = record far {
 -- are noted, each once, in order of frame and slot, and the parities are those of the rows with the
 -- words of their objects.
 -- Nothing else of the far state changed.
-pub record HasBegun (c : Config) (far new : FarState) (frames : List ℕ) (es : List Event)
+pub record HasBegun (far new : FarState) (frames : List ℕ) (es : List Event)
     : Type 0 where
   pub words : List Former
   pub rows : List (List ℕ)
@@ -65,9 +64,9 @@ pub record HasBegun (c : Config) (far new : FarState) (frames : List ℕ) (es : 
   pub each_once : AreApart words
   pub found : All (λ former. IsFound former.handle former.word es) words
   pub contents : AreInRows es far frames rows
-  pub counts : (length rows ≡ c.k) × (length parities ≡ c.r)
-  pub word : IsSpanWord c.k c.r (rows ++ parities)
-  pub state : new ≡ with_batch c far frames words parities
+  pub counts : (length rows ≡ far.code.k) × (length parities ≡ far.code.r)
+  pub word : IsSpanWord far.code.k far.code.r (rows ++ parities)
+  pub state : new ≡ with_batch far frames words parities
 
 -- a batch is leaving: nothing is looked at, and nothing changes
 pub record IsLeavingAlready (far new : FarState) (r : Reply) (es : List Event) : Type 0 where
@@ -78,23 +77,23 @@ pub record IsLeavingAlready (far new : FarState) (r : Reply) (es : List Event) :
   pub nothing : es ≡ []
 
 -- enough spans are loose and enough nodes have room: the first k of the loose spans are leaving
-pub record HasBatch (c : Config) (far new : FarState) (r : Reply) (loose : List ℕ) (es : List Event)
+pub record HasBatch (far new : FarState) (r : Reply) (loose : List ℕ) (es : List Event)
     : Type 0 where
-  pub enough : c.k ≤ length loose
-  pub room : c.k + c.r ≤ room_count far.nodes far.members
+  pub enough : far.code.k ≤ length loose
+  pub room : far.code.k + far.code.r ≤ room_count far.nodes far.members
   pub reply : r ≡ answer.Batch (record { n = far.counts.sets })
-  pub begun : HasBegun c far new (take c.k loose) es
+  pub begun : HasBegun far new (take far.code.k loose) es
 
 -- No batch is leaving: the reply and the far state after it, by which spans are loose by the last
 -- looks. Only objects and words of spans that may leave are touched.
-pub record HasLooked (c : Config) (far new : FarState) (r : Reply) (es : List Event) : Type 0 where
+pub record HasLooked (far new : FarState) (r : Reply) (es : List Event) : Type 0 where
   pub none : far.leaving ≡ None
   pub loose : List ℕ
   pub found : AreLoose es far.spans (candidates far) loose
-  pub answered : HasFewSpans c far new r loose ⊎ (HasFewNodes c far new r loose
-      ⊎ HasBatch c far new r loose es)
+  pub answered : HasFewSpans far new r loose ⊎ (HasFewNodes far new r loose
+      ⊎ HasBatch far new r loose es)
   pub touches : TouchesOnly (IsIn far.spans (candidates far)) (LiesInOne (candidates far)) es
 
 -- the reply of a begin and the far state after it
-abbrev pub BeginRule : Config → FarState → FarState → Reply → List Event → Type 0
-BeginRule c far new r es = IsLeavingAlready far new r es ⊎ HasLooked c far new r es
+abbrev pub BeginRule : FarState → FarState → Reply → List Event → Type 0
+BeginRule far new r es = IsLeavingAlready far new r es ⊎ HasLooked far new r es

@@ -41,18 +41,18 @@ pub record IsBegunTo (x y : Words) (far new : FarState) (frames : List ℕ) : Ty
   pub order : noted_of words ≡ objects_of far.spans frames
   pub each_once : AreApart words
   pub noted : All (λ former. former.word ≡ word_at x former.handle) words
-  pub count : length parities ≡ x.settings.r
-  pub word : IsSpanWord x.settings.k x.settings.r (frame_rows x frames ++ parities)
-  pub state : new ≡ with_batch x.settings far frames words parities
+  pub count : length parities ≡ far.code.r
+  pub word : IsSpanWord far.code.k far.code.r (frame_rows x frames ++ parities)
+  pub state : new ≡ with_batch far frames words parities
   pub held : AreSpansClaimed x y far frames
 
 -- enough spans are loose and enough nodes have room: the first k of the loose spans are leaving
 pub record IsBatchMade (x y : Words) (far new : FarState) (r : Reply) : Type 0 where
   pub none : far.leaving ≡ None
-  pub enough : x.settings.k ≤ length (loose_frames x far)
-  pub room : x.settings.k + x.settings.r ≤ room_count far.nodes far.members
+  pub enough : far.code.k ≤ length (loose_frames x far)
+  pub room : far.code.k + far.code.r ≤ room_count far.nodes far.members
   pub reply : r ≡ answer.Batch (record { n = far.counts.sets })
-  pub begun : IsBegunTo x y far new (take x.settings.k (loose_frames x far))
+  pub begun : IsBegunTo x y far new (take far.code.k (loose_frames x far))
 
 -- A begin leads from the words x and a far state to the words y and another. It is refused where a
 -- batch is leaving, then where fewer than k spans are loose, then where fewer than k + r nodes have
@@ -61,8 +61,8 @@ pub data IsBeginStep (x y : Words) (far new : FarState) (r : Reply) : Type 0 whe
   is_leaving : (batch : LeavingState) → far.leaving ≡ Some batch
       → r ≡ answer.Leaving (record { n = batch.set }) → new ≡ far → y ≡ x
       → IsBeginStep x y far new r
-  few_spans : far.leaving ≡ None → HasFewSpans x.settings far new r (loose_frames x far) → y ≡ x
+  few_spans : far.leaving ≡ None → HasFewSpans far new r (loose_frames x far) → y ≡ x
       → IsBeginStep x y far new r
-  few_nodes : far.leaving ≡ None → HasFewNodes x.settings far new r (loose_frames x far) → y ≡ x
+  few_nodes : far.leaving ≡ None → HasFewNodes far new r (loose_frames x far) → y ≡ x
       → IsBeginStep x y far new r
   begins : IsBatchMade x y far new r → IsBeginStep x y far new r

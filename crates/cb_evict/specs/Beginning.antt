@@ -4,7 +4,6 @@ use Rattle.std.specs.FinMap as map
 use Rattle.cb_gf256.specs.CodeWord.{IsCodeWord}
 use Rattle.cb_gf256.specs.Rows.{HoldBytes}
 use Rattle.cb_member.specs.declared.names.Shard.{Shard}
-use Rattle.cb_types.specs.declared.config.Config.{Config}
 use Rattle.cb_world.specs.declared.event.Event.{Event}
 use Rattle.cb_world.specs.declared.leaving.Former.{Former}
 use Rattle.cb_world.specs.declared.shown.Shown.{Shown}
@@ -31,16 +30,16 @@ pub record AreParities (k n : ℕ) (rows parities : List (List ℕ)) : Type 0 wh
   pub bytes : HoldBytes (rows ++ parities)
 
 -- the frames are read, these are the parities of their rows, and the set is kept that they will be
-pub record ReservesFrames (runs : List Event → Type 0) (shows : Shown → Type 0) (c : Config)
+pub record ReservesFrames (runs : List Event → Type 0) (shows : Shown → Type 0)
     (far new : FarState) (frames : List ℕ) (parities : List (List ℕ)) : Type 0 where
   pub rows : List (List ℕ)
   pub loads : LoadsFrames runs shows frames rows
   pub count : length rows ≡ length frames
-  pub made : AreParities (length frames) (c.k + c.r) rows parities
-  pub state : new ≡ with_reserved far (blank_shards (c.k + c.r)) frames
+  pub made : AreParities (length frames) (far.code.k + far.code.r) rows parities
+  pub state : new ≡ with_reserved far (blank_shards (far.code.k + far.code.r)) frames
 
 -- claimed spans are leaving from here
-abbrev pub BeginsClaimed : (List Event → Type 0) → (Shown → Type 0) → Config → FarState → FarState
+abbrev pub BeginsClaimed : (List Event → Type 0) → (Shown → Type 0) → FarState → FarState
     → List ℕ → List Former → Type 0
-BeginsClaimed runs shows c far new frames formers =
-    EndsClaimed runs shows far new frames formers (HasBegun c far new frames) (IsBatchBegun far new)
+BeginsClaimed runs shows far new frames formers =
+    EndsClaimed runs shows far new frames formers (HasBegun far new frames) (IsBatchBegun far new)

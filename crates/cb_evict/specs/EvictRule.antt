@@ -5,7 +5,6 @@ use Rattle.cb_gf256.specs.Rows.{row_at}
 use Rattle.cb_member.specs.declared.names.Shard.{Shard}
 use Rattle.cb_ptr.specs.Word.{len_of}
 use Rattle.cb_span.specs.Contents.{Contents, handle_at}
-use Rattle.cb_types.specs.declared.config.Config.{Config}
 use Rattle.cb_types.specs.declared.reply.Reply.{Reply}
 use Rattle.cb_types.specs.declared.reply.Reply.TheVariants as answer
 use Rattle.cb_world.specs.declared.event.Event.{Event}
@@ -37,45 +36,45 @@ AreInRows es far frames rows = (p f slot h : ℕ) (span : Contents) → slice_ge
     → span_in far.spans f ≡ Some span → handle_at span slot ≡ Some h
     → IsInRow es span (row_at rows p) slot h
 
--- The spans in these frames left local memory as a new set: a code word whose rows have the words
+-- The spans in these frames left local memory as a new set of the code in force: a code word whose rows have the words
 -- of their objects stands at the nodes of the set's shards, the objects' homes are in the set, and
 -- the frames are free. Nothing else of the far state changed.
-pub record HasEvicted (c : Config) (far new : FarState) (frames : List ℕ) (es : List Event)
+pub record HasEvicted (far new : FarState) (frames : List ℕ) (es : List Event)
     : Type 0 where
   pub shards : List Shard
   pub rows : List (List ℕ)
-  pub chosen : AreShards far (c.k + c.r) shards
-  pub word : IsSpanWord c.k c.r rows
+  pub chosen : AreShards far (far.code.k + far.code.r) shards
+  pub word : IsSpanWord far.code.k far.code.r rows
   pub contents : AreInRows es far frames rows
   pub homes : HaveHomes far.spans frames far.counts.sets far.homes new.homes
   pub state : new ≡ with_homes (with_set far shards frames rows) frames new.homes
 
--- fewer spans are loose than a set has data positions
-pub record HasFewSpans (c : Config) (far new : FarState) (r : Reply) (loose : List ℕ) : Type 0 where
-  pub few : length loose < c.k
+-- fewer spans are loose than the code in force has data positions
+pub record HasFewSpans (far new : FarState) (r : Reply) (loose : List ℕ) : Type 0 where
+  pub few : length loose < far.code.k
   pub reply : r ≡ answer.NoSpans (length loose)
   pub state : new ≡ far
 
--- enough spans are loose, and fewer nodes have room than a set has positions
-pub record HasFewNodes (c : Config) (far new : FarState) (r : Reply) (loose : List ℕ) : Type 0 where
-  pub enough : c.k ≤ length loose
-  pub few : room_count far.nodes far.members < c.k + c.r
+-- enough spans are loose, and fewer nodes have room than the code in force has positions
+pub record HasFewNodes (far new : FarState) (r : Reply) (loose : List ℕ) : Type 0 where
+  pub enough : far.code.k ≤ length loose
+  pub few : room_count far.nodes far.members < far.code.k + far.code.r
   pub reply : r ≡ answer.NoNodes (room_count far.nodes far.members)
   pub state : new ≡ far
 
 -- enough spans are loose and enough nodes have room: the first k of the loose spans are evicted
-pub record HasBoth (c : Config) (far new : FarState) (r : Reply) (loose : List ℕ) (es : List Event)
+pub record HasBoth (far new : FarState) (r : Reply) (loose : List ℕ) (es : List Event)
     : Type 0 where
-  pub enough : c.k ≤ length loose
-  pub room : c.k + c.r ≤ room_count far.nodes far.members
+  pub enough : far.code.k ≤ length loose
+  pub room : far.code.k + far.code.r ≤ room_count far.nodes far.members
   pub reply : r ≡ answer.Set (record { n = far.counts.sets })
-  pub evicted : HasEvicted c far new (take c.k loose) es
+  pub evicted : HasEvicted far new (take far.code.k loose) es
 
 -- The reply of an eviction and the far state after it, by which spans are loose by the last looks.
 -- Only objects and words of spans that may leave are touched.
-pub record EvictRule (c : Config) (far new : FarState) (r : Reply) (es : List Event) : Type 0 where
+pub record EvictRule (far new : FarState) (r : Reply) (es : List Event) : Type 0 where
   pub loose : List ℕ
   pub found : AreLoose es far.spans (candidates far) loose
-  pub answered : HasFewSpans c far new r loose ⊎ (HasFewNodes c far new r loose
-      ⊎ HasBoth c far new r loose es)
+  pub answered : HasFewSpans far new r loose ⊎ (HasFewNodes far new r loose
+      ⊎ HasBoth far new r loose es)
   pub touches : TouchesOnly (IsIn far.spans (candidates far)) (LiesInOne (candidates far)) es

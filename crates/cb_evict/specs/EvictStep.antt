@@ -74,8 +74,8 @@ AreFrameRows x frames rows = (p f : ℕ) → slice_get frames p ≡ Some f
 pub record IsEvictedTo (x y : Words) (far new : FarState) (frames : List ℕ) : Type 0 where
   pub shards : List Shard
   pub rows : List (List ℕ)
-  pub chosen : AreShards far (x.settings.k + x.settings.r) shards
-  pub word : IsSpanWord x.settings.k x.settings.r rows
+  pub chosen : AreShards far (far.code.k + far.code.r) shards
+  pub word : IsSpanWord far.code.k far.code.r rows
   pub contents : HaveContents x far frames rows
   pub of_frames : AreFrameRows x frames rows
   pub homes : HaveHomes far.spans frames far.counts.sets far.homes new.homes
@@ -84,18 +84,18 @@ pub record IsEvictedTo (x y : Words) (far new : FarState) (frames : List ℕ) : 
 
 -- enough spans are loose and enough nodes have room: the first k of the loose spans left as a set
 pub record IsSetMade (x y : Words) (far new : FarState) (r : Reply) : Type 0 where
-  pub enough : x.settings.k ≤ length (loose_frames x far)
-  pub room : x.settings.k + x.settings.r ≤ room_count far.nodes far.members
+  pub enough : far.code.k ≤ length (loose_frames x far)
+  pub room : far.code.k + far.code.r ≤ room_count far.nodes far.members
   pub reply : r ≡ answer.Set (record { n = far.counts.sets })
-  pub evicted : IsEvictedTo x y far new (take x.settings.k (loose_frames x far))
+  pub evicted : IsEvictedTo x y far new (take far.code.k (loose_frames x far))
 
 -- An eviction leads from the words x and a far state to the words y and another. Where fewer than k
 -- spans are loose it is refused, then where fewer than k + r nodes have room; a refusal changes
 -- nothing. Else the first k loose spans leave.
 pub data IsEvictStep (x y : Words) (far new : FarState) (r : Reply) : Type 0 where
-  few_spans : HasFewSpans x.settings far new r (loose_frames x far) → y ≡ x
+  few_spans : HasFewSpans far new r (loose_frames x far) → y ≡ x
       → IsEvictStep x y far new r
-  few_nodes : HasFewNodes x.settings far new r (loose_frames x far) → y ≡ x
+  few_nodes : HasFewNodes far new r (loose_frames x far) → y ≡ x
       → IsEvictStep x y far new r
   made : IsSetMade x y far new r → IsEvictStep x y far new r
 

@@ -2,7 +2,6 @@
 use Rattle.std.specs.Prelude.{◌≡◌, ◌≢◌, ℕ, ◌+◌, ◌++◌, All, List, length}
 use Rattle.std.specs.List.{Contains, AllPairs}
 use Rattle.cb_member.specs.declared.names.Shard.{Shard}
-use Rattle.cb_types.specs.declared.config.Config.{Config}
 use Rattle.cb_world.specs.declared.event.Event.{Event}
 use Rattle.cb_world.specs.declared.leaving.Former.{Former}
 use Rattle.cb_world.specs.declared.shown.Shown.{Shown}
@@ -29,9 +28,9 @@ abbrev pub TouchesSpans : FarState → List Event → Type 0
 TouchesSpans far es = TouchesOnly (IsIn far.spans (candidates far)) (LiesInOne (candidates far)) es
 
 -- k different spans may leave, and these are their objects, in order
-pub record AreSpansTaken (c : Config) (far : FarState) (frames : List ℕ) (formers : List Former)
+pub record AreSpansTaken (far : FarState) (frames : List ℕ) (formers : List Former)
     : Type 0 where
-  pub count : length frames ≡ c.k
+  pub count : length frames ≡ far.code.k
   pub among : All (Contains (candidates far)) frames
   pub apart : AllPairs (λ f g. f ≢ g) frames
   pub of : AreOf (IsIn far.spans frames) formers
@@ -66,10 +65,10 @@ EndsClaimed runs shows far new frames formers ends does =
     → IsReadyToEvict shows far formers before s → IsEnded new before es s ends does)
 
 -- claimed spans are evicted
-abbrev pub EvictsClaimed : (List Event → Type 0) → (Shown → Type 0) → Config → FarState → FarState
+abbrev pub EvictsClaimed : (List Event → Type 0) → (Shown → Type 0) → FarState → FarState
     → List ℕ → List Former → Type 0
-EvictsClaimed runs shows c far new frames formers =
-    EndsClaimed runs shows far new frames formers (HasEvicted c far new frames) (IsEvicted far new)
+EvictsClaimed runs shows far new frames formers =
+    EndsClaimed runs shows far new frames formers (HasEvicted far new frames) (IsEvicted far new)
 
 -- claimed spans are given back
 abbrev pub LeavesClaimed : (List Event → Type 0) → (Shown → Type 0) → FarState → List ℕ
@@ -82,11 +81,11 @@ abbrev pub ReadsFrames : (List Event → Type 0) → List ℕ → Type 0
 ReadsFrames runs frames = (es : List Event) × runs es × OnlyLoads (LiesInOne frames) es
 
 -- the frames are read, and their rows are stored with their parities as the next set
-pub record StoresFrames (runs : List Event → Type 0) (shows : Shown → Type 0) (c : Config)
+pub record StoresFrames (runs : List Event → Type 0) (shows : Shown → Type 0)
     (far new : FarState) (frames : List ℕ) : Type 0 where
   pub rows : List (List ℕ)
   pub shards : List Shard
   pub loads : LoadsFrames runs shows frames rows
   pub count : length rows ≡ length frames
-  pub chosen : AreShards far (c.k + c.r) shards
+  pub chosen : AreShards far (far.code.k + far.code.r) shards
   pub kept : KeepsSet far new shards frames rows

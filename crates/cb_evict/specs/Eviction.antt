@@ -1,6 +1,5 @@
 -- An eviction that tells both counts where it is refused.
 use Rattle.std.specs.Prelude.{◌≡◌, ℕ, List, length}
-use Rattle.cb_types.specs.declared.config.Config.{Config}
 use Rattle.cb_types.specs.declared.reply.Reply.{Reply}
 use Rattle.cb_types.specs.declared.reply.Reply.TheVariants as answer
 use Rattle.cb_world.specs.declared.event.Event.{Event}
@@ -25,7 +24,7 @@ TellsCounts far loose (eviction.Refused why n m) =
 
 -- The rule of an eviction, by its reply; a refusal tells both counts, of the spans that were found
 -- loose and of the nodes as they are.
-pub record CountsRule (c : Config) (far new : FarState) (e : Eviction) (es : List Event) : Type 0
+pub record CountsRule (far new : FarState) (e : Eviction) (es : List Event) : Type 0
   where
-    pub rule : EvictRule c far new (reply_of e) es
+    pub rule : EvictRule far new (reply_of e) es
     pub counts : TellsCounts far rule.loose e

@@ -1,6 +1,5 @@
 -- The spans that can leave now.
 use Rattle.std.specs.Prelude.{◌≡◌, ℕ, ◌+◌, ◌≤◌, List, length}
-use Rattle.cb_types.specs.declared.config.Config.{Config}
 use Rattle.cb_world.specs.declared.event.Event.{Event}
 use Rattle.cb_world.specs.declared.shown.Shown.{Shown}
 use Rattle.cb_world.specs.Choices.{room_count}
@@ -13,16 +12,15 @@ use Rattle.cb_evict.specs.Looking.{LooksOver}
 use Rattle.cb_evict.specs.Taking.{AreLooseNow, TakesFew}
 
 -- by looks these spans are loose, which are enough, and so many nodes have room, which are enough
-pub record FindsLoose (runs : List Event → Type 0) (c : Config) (far : FarState) (loose : List ℕ)
+pub record FindsLoose (runs : List Event → Type 0) (far : FarState) (loose : List ℕ)
     (n : ℕ) : Type 0 where
   pub looks : LooksOver runs far.spans (candidates far) loose
-  pub enough : c.k ≤ length loose
-  pub room : c.k + c.r ≤ room_count far.nodes far.members
+  pub enough : far.code.k ≤ length loose
+  pub room : far.code.k + far.code.r ≤ room_count far.nodes far.members
   pub nodes : n ≡ room_count far.nodes far.members
 
 -- by the answer: there is too little, or the spans are loose
-abbrev pub FindsSpans : (List Event → Type 0) → (Shown → Type 0) → Config → FarState → Found
-    → Type 0
-FindsSpans runs shows c far (Few lack loose nodes) =
-    TakesFew runs shows c far (AreLooseNow far) (Refused lack loose nodes)
-FindsSpans runs shows c far (Loose frames nodes) = FindsLoose runs c far frames.items nodes
+abbrev pub FindsSpans : (List Event → Type 0) → (Shown → Type 0) → FarState → Found → Type 0
+FindsSpans runs shows far (Few lack loose nodes) =
+    TakesFew runs shows far (AreLooseNow far) (Refused lack loose nodes)
+FindsSpans runs shows far (Loose frames nodes) = FindsLoose runs far frames.items nodes

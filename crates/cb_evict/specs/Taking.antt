@@ -1,6 +1,5 @@
 -- The front of an eviction and of a begin: k spans are claimed, or it is refused.
 use Rattle.std.specs.Prelude.{◌≡◌, ◌⊎◌, ℕ, ◌+◌, ◌≤◌, ◌++◌, List, [], length, take}
-use Rattle.cb_types.specs.declared.config.Config.{Config}
 use Rattle.cb_world.specs.declared.event.Event.{Event}
 use Rattle.cb_world.specs.declared.leaving.Former.{Former}
 use Rattle.cb_world.specs.declared.shown.Shown.{Shown}
@@ -36,28 +35,28 @@ TriesSpans runs shows far finds formers = ClaimsThese runs shows (IsIn far.spans
 
 -- fewer than k spans are loose, or fewer than k + r nodes have room; this refusal tells so, and no
 -- object is claimed
-pub record TakesFew (runs : List Event → Type 0) (shows : Shown → Type 0) (c : Config)
+pub record TakesFew (runs : List Event → Type 0) (shows : Shown → Type 0)
     (far : FarState) (finds : List ℕ → List Event → Type 0) (e : Eviction) : Type 0 where
   pub loose : List ℕ
   pub tries : TriesSpans runs shows far (finds loose) []
-  pub few : HasFewSpans c far far (reply_of e) loose ⊎ HasFewNodes c far far (reply_of e) loose
+  pub few : HasFewSpans far far (reply_of e) loose ⊎ HasFewNodes far far (reply_of e) loose
   pub counts : TellsCounts far loose e
 
 -- enough spans are loose and enough nodes have room: the first k of the loose spans are claimed
-pub record TakesEnough (runs : List Event → Type 0) (shows : Shown → Type 0) (c : Config)
+pub record TakesEnough (runs : List Event → Type 0) (shows : Shown → Type 0)
     (far : FarState) (finds : List ℕ → List Event → Type 0) (frames : List ℕ)
     (formers : List Former) : Type 0 where
   pub loose : List ℕ
   pub tries : TriesSpans runs shows far (finds loose) formers
-  pub enough : c.k ≤ length loose
-  pub first : frames ≡ take c.k loose
-  pub room : c.k + c.r ≤ room_count far.nodes far.members
-  pub taken : AreSpansTaken c far frames formers
+  pub enough : far.code.k ≤ length loose
+  pub first : frames ≡ take far.code.k loose
+  pub room : far.code.k + far.code.r ≤ room_count far.nodes far.members
+  pub taken : AreSpansTaken far frames formers
 
 -- by the answer
-abbrev pub Takes : (List Event → Type 0) → (Shown → Type 0) → Config → FarState
+abbrev pub Takes : (List Event → Type 0) → (Shown → Type 0) → FarState
     → (List ℕ → List Event → Type 0) → Taken → Type 0
-Takes runs shows c far finds (Few lack loose nodes) =
-    TakesFew runs shows c far finds (Refused lack loose nodes)
-Takes runs shows c far finds (Enough frames formers) =
-    TakesEnough runs shows c far finds frames.items formers.items
+Takes runs shows far finds (Few lack loose nodes) =
+    TakesFew runs shows far finds (Refused lack loose nodes)
+Takes runs shows far finds (Enough frames formers) =
+    TakesEnough runs shows far finds frames.items formers.items

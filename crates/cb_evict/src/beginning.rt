@@ -54,7 +54,7 @@ struct Reserved {
     shards: Vec<Option<Shard>>,
 }
 
-/// Begins to evict k spans: they are leaving from here, as one batch, until a commit or an abort.
+/// Begins to evict k spans, as many as the code in force has data positions: they are leaving from here, as one batch, until a commit or an abort.
 /// Of the spans none of whose objects is pinned or claimed, the first k are taken, the cold ones
 /// before the hot ones and then by frame number. All their objects are claimed and stay in local
 /// memory, the parities of their frames are made, and the number of the set that they will be is
@@ -72,7 +72,7 @@ pub fn begin<D: Desk>(desk: &mut D, far: &mut Far) -> Result<Reply, NoMemory>
     requires sound { (s : Shown) × D.shows desk.old s × Sound s far.old }
     ensures begun { IfOk result (λ reply. Performs (λ es. D.run desk.old es desk.new)
         (λ s. D.shows desk.old s × Sound s far.old)
-        (BeginRule (D.settings desk.old) far.old far.new reply)
+        (BeginRule far.old far.new reply)
         (λ t. Sound t far.new)
         (BeginEffect far.old far.new reply)) }
     ensures error { OnErr result (Performs (λ es. D.run desk.old es desk.new)
@@ -108,7 +108,7 @@ fn begin_new<D: Desk>(desk: &mut D, far: &mut Far) -> Result<Reply, NoMemory>
     requires sound { (s : Shown) × D.shows desk.old s × Sound s far.old }
     ensures begun { IfOk result (λ reply. Performs (λ es. D.run desk.old es desk.new)
         (λ s. D.shows desk.old s × Sound s far.old)
-        (BeginRule (D.settings desk.old) far.old far.new reply)
+        (BeginRule far.old far.new reply)
         (λ t. Sound t far.new)
         (BeginEffect far.old far.new reply)) }
     ensures error { OnErr result (Performs (λ es. D.run desk.old es desk.new)
@@ -170,14 +170,13 @@ fn begin_claimed<D: Desk>(
     requires configured { IsConfigured (D.settings desk.old) far.old }
     requires counts { far.old.counts.sets < 2 ^ 62 }
     requires none { far.old.leaving ≡ None }
-    requires taken { AreSpansTaken (D.settings desk.old) far.old frames.items formers.items }
+    requires taken { AreSpansTaken far.old frames.items formers.items }
     requires ready { (before : List Event) × (s : Shown)
         × IsReadyToEvict (λ t. D.shows desk.old t) far.old formers.items before s }
     ensures reply { IfOk result (λ reply.
         reply ≡ answer.Batch (record { n = far.old.counts.sets })) }
     ensures begun { OnOk result (BeginsClaimed (λ es. D.run desk.old es desk.new)
-        (λ s. D.shows desk.old s) (D.settings desk.old) far.old far.new
-        frames.items formers.items) }
+        (λ s. D.shows desk.old s) far.old far.new frames.items formers.items) }
     ensures error { OnErr result (LeavesClaimed (λ es. D.run desk.old es desk.new)
         (λ s. D.shows desk.old s) far.old frames.items formers.items) }
     ensures unchanged { OnErr result (far.new ≡ far.old) }
@@ -203,20 +202,20 @@ fn reserve_frames<D: Desk>(
     frames: &[u32],
 ) -> Result<Reserved, NoMemory>
     requires config { IsAccepted (D.settings desk.old) }
-    requires count { length frames.now ≡ (D.settings desk.old).k }
+    requires range { IsInRange far.old.code.k far.old.code.r }
+    requires count { length frames.now ≡ far.old.code.k }
     requires there { All (λ f. (span : Contents) × (span_in far.old.spans f ≡ Some span))
         frames.now }
     requires below { All (λ f. f < (D.settings desk.old).frames) frames.now }
     ensures reserved { IfOk result (λ reserved. ReservesFrames (λ es. D.run desk.old es desk.new)
-        (λ s. D.shows desk.old s) (D.settings desk.old) far.old far.new
-        frames.now reserved.parities) }
+        (λ s. D.shows desk.old s) far.old far.new frames.now reserved.parities) }
     ensures shards { IfOk result (λ reserved. reserved.shards.items
-        ≡ replicate ((D.settings desk.old).k + (D.settings desk.old).r) None) }
+        ≡ replicate (far.old.code.k + far.old.code.r) None) }
     ensures read { OnErr result (ReadsFrames (λ es. D.run desk.old es desk.new) frames.now) }
     ensures unchanged { OnErr result (far.new ≡ far.old) }
 {
-    let config = desk.config();
-    let room = room_for(far.alloc, config.k, config.r)?;
+    let code = far.in_force();
+    let room = room_for(far.alloc, code.k, code.r)?;
     let Room {
         mut rows,
         shards,

@@ -26,7 +26,7 @@ use crate::taking::{Taken, take_spans};
 use cb_types::{NoMemory, Reply, Rows, SetId};
 use cb_world::{Desk, Far, Former};
 
-/// Evicts k spans at once. Of the spans none of whose objects is pinned or claimed, and which are
+/// Evicts k spans at once, as many as the code in force has data positions. Of the spans none of whose objects is pinned or claimed, and which are
 /// not leaving, the first k go, the cold ones before the hot ones and then by frame number: they
 /// are coded together, their rows are put at k + r nodes, and the objects are far.
 ///
@@ -41,7 +41,7 @@ pub fn evict_now<D: Desk>(desk: &mut D, far: &mut Far) -> Result<Reply, NoMemory
     requires sound { (s : Shown) × D.shows desk.old s × Sound s far.old }
     ensures evict { IfOk result (λ reply. Performs (λ es. D.run desk.old es desk.new)
         (λ s. D.shows desk.old s × Sound s far.old)
-        (EvictRule (D.settings desk.old) far.old far.new reply)
+        (EvictRule far.old far.new reply)
         (λ t. Sound t far.new)
         (EvictEffect far.old far.new reply)) }
     ensures error { OnErr result (Performs (λ es. D.run desk.old es desk.new)
@@ -67,7 +67,7 @@ pub fn evict_counted<D: Desk>(desk: &mut D, far: &mut Far) -> Result<Eviction, N
     requires sound { (s : Shown) × D.shows desk.old s × Sound s far.old }
     ensures evict { IfOk result (λ eviction. Performs (λ es. D.run desk.old es desk.new)
         (λ s. D.shows desk.old s × Sound s far.old)
-        (CountsRule (D.settings desk.old) far.old far.new eviction)
+        (CountsRule far.old far.new eviction)
         (λ t. Sound t far.new)
         (EvictEffect far.old far.new (reply_of eviction))) }
     ensures error { OnErr result (Performs (λ es. D.run desk.old es desk.new)
@@ -108,21 +108,20 @@ fn store_frames<D: Desk>(desk: &mut D, far: &mut Far, frames: &[u32]) -> Result<
     requires config { IsAccepted (D.settings desk.old) }
     requires configured { IsConfigured (D.settings desk.old) far.old }
     requires counts { (far.old.counts.sets < 2 ^ 62) × (far.old.counts.keys < 2 ^ 62) }
-    requires room { (D.settings desk.old).k + (D.settings desk.old).r
-        ≤ room_count far.old.nodes far.old.members }
-    requires count { length frames.now ≡ (D.settings desk.old).k }
+    requires room { far.old.code.k + far.old.code.r ≤ room_count far.old.nodes far.old.members }
+    requires count { length frames.now ≡ far.old.code.k }
     requires there { All (λ f. (span : Contents) × (span_in far.old.spans f ≡ Some span))
         frames.now }
     requires below { All (λ f. f < (D.settings desk.old).frames) frames.now }
     requires rows { AreShardRows far.old }
     ensures kept { OnOk result (StoresFrames (λ es. D.run desk.old es desk.new)
-        (λ s. D.shows desk.old s) (D.settings desk.old) far.old far.new frames.now) }
+        (λ s. D.shows desk.old s) far.old far.new frames.now) }
     ensures read { OnErr result (ReadsFrames (λ es. D.run desk.old es desk.new) frames.now) }
     ensures unchanged { OnErr result (far.new ≡ far.old) }
 {
-    let config = desk.config();
-    let shards = choose_shards(far, config.k + config.r)?;
-    let mut rows = spare_rows(far, config.k)?;
+    let code = far.in_force();
+    let shards = choose_shards(far, code.k + code.r)?;
+    let mut rows = spare_rows(far, code.k)?;
     load_frames(desk, frames, &mut rows);
     let kept = keep_set(far, &shards, frames, &rows);
     keep_rows(far, rows);
@@ -139,15 +138,14 @@ fn evict_claimed<D: Desk>(
     requires config { IsAccepted (D.settings desk.old) }
     requires configured { IsConfigured (D.settings desk.old) far.old }
     requires counts { (far.old.counts.sets < 2 ^ 62) × (far.old.counts.keys < 2 ^ 62) }
-    requires room { (D.settings desk.old).k + (D.settings desk.old).r
-        ≤ room_count far.old.nodes far.old.members }
-    requires taken { AreSpansTaken (D.settings desk.old) far.old frames.now formers.now }
+    requires room { far.old.code.k + far.old.code.r ≤ room_count far.old.nodes far.old.members }
+    requires taken { AreSpansTaken far.old frames.now formers.now }
     requires ready { (before : List Event) × (s : Shown)
         × IsReadyToEvict (λ t. D.shows desk.old t) far.old formers.now before s }
     ensures set { IfOk result (λ eviction.
         eviction ≡ Eviction.Set (record { n = far.old.counts.sets })) }
     ensures evict { OnOk result (EvictsClaimed (λ es. D.run desk.old es desk.new)
-        (λ s. D.shows desk.old s) (D.settings desk.old) far.old far.new frames.now formers.now) }
+        (λ s. D.shows desk.old s) far.old far.new frames.now formers.now) }
     ensures error { OnErr result (LeavesClaimed (λ es. D.run desk.old es desk.new)
         (λ s. D.shows desk.old s) far.old frames.now formers.now) }
     ensures unchanged { OnErr result (far.new ≡ far.old) }

@@ -1,4 +1,4 @@
-ghost use Rattle.std.specs.Prelude.{◌≡◌, [], IfOk, OnErr};
+ghost use Rattle.std.specs.Prelude.{[], IfOk, OnErr};
 ghost use Rattle.cb_types.specs.Config.{IsAccepted};
 ghost use Rattle.cb_world.specs.declared.shown.Shown.{Shown};
 ghost use Rattle.cb_world.specs.World.{IsConfigured};
@@ -8,14 +8,14 @@ ghost use Rattle.cb_evict.specs.Finding.{FindsSpans};
 use crate::candidates::candidates;
 use crate::eviction::Lack;
 use crate::looking::find_loose;
-use cb_types::{Config, NoMemory};
+use cb_types::NoMemory;
 use cb_world::{Desk, Far, nodes_with_room};
 
 /// What was found of the spans that may leave.
 #[derive(Drop)]
 pub(crate) enum Found {
-    /// Fewer spans are loose than a set has data positions, or fewer nodes have room than it has
-    /// positions. So many spans are loose, and so many nodes have room.
+    /// Fewer spans are loose than the code in force has data positions, or fewer nodes have room
+    /// than it has positions. So many spans are loose, and so many nodes have room.
     Few { lack: Lack, loose: u32, nodes: u32 },
     /// The spans in these frames are loose: k at least, in the order in which they are taken. So
     /// many nodes have room, which are enough.
@@ -27,31 +27,28 @@ pub(crate) enum Found {
 ///
 /// Each object of each span that may leave is looked at once, and the nodes are counted behind
 /// that. Where there is no memory, nothing was looked at.
-pub(crate) fn find_spans<D: Desk>(
-    desk: &mut D,
-    far: &Far,
-    config: Config,
-) -> Result<Found, NoMemory>
-    requires config { (IsAccepted config) × (config ≡ D.settings desk.old) }
-    requires configured { IsConfigured config far.now }
+pub(crate) fn find_spans<D: Desk>(desk: &mut D, far: &Far) -> Result<Found, NoMemory>
+    requires config { IsAccepted (D.settings desk.old) }
+    requires configured { IsConfigured (D.settings desk.old) far.now }
     requires sound { (s : Shown) × D.shows desk.old s × Sound s far.now }
     ensures found { IfOk result
         (FindsSpans (λ es. D.run desk.old es desk.new) (λ s. D.shows desk.old s)
-        config far.now) }
+        far.now) }
     ensures error { OnErr result (D.run desk.old [] desk.new) }
 {
     let frames = candidates(far)?;
     let mut loose = Vec::with_capacity(far.alloc, frames.len())?;
     find_loose(desk, &far.spans, &frames, &mut loose);
     let nodes = nodes_with_room(&far.nodes, &far.members);
-    if loose.len() < config.k as usize {
+    let code = far.in_force();
+    if loose.len() < code.k as usize {
         return Ok(Found::Few {
             lack: Lack::Spans,
             loose: loose.len() as u32,
             nodes,
         });
     }
-    if nodes < config.k + config.r {
+    if nodes < code.k + code.r {
         return Ok(Found::Few {
             lack: Lack::Nodes,
             loose: loose.len() as u32,

@@ -1,5 +1,6 @@
 ghost use Rattle.std.specs.Prelude.{◌≡◌, ◌+◌, ◌≤◌, ◌≢◌, [], All, IfOk, OnErr};
 ghost use Rattle.std.specs.List.{Contains, AllPairs};
+ghost use Rattle.cb_gf256.specs.InRange.{IsInRange};
 ghost use Rattle.cb_types.specs.Config.{IsAccepted};
 ghost use Rattle.cb_world.specs.declared.shown.Shown.{Shown};
 ghost use Rattle.cb_world.specs.Choices.{room_count};
@@ -14,7 +15,7 @@ ghost use Rattle.cb_evict.specs.Taking.{AreLooseNow, AreLooseStill, Takes};
 use crate::claiming::{claim_spans, give_back};
 use crate::eviction::Lack;
 use crate::finding::{Found, find_spans};
-use cb_types::{Config, NoMemory};
+use cb_types::NoMemory;
 use cb_world::{Desk, Far, Former};
 
 /// How many objects a span has at the most.
@@ -49,18 +50,17 @@ pub(crate) fn take_spans<D: Desk>(desk: &mut D, far: &Far) -> Result<Taken, NoMe
     requires configured { IsConfigured (D.settings desk.old) far.now }
     requires sound { (s : Shown) × D.shows desk.old s × Sound s far.now }
     ensures taken { IfOk result (Takes (λ es. D.run desk.old es desk.new) (λ s. D.shows desk.old s)
-        (D.settings desk.old) far.now (AreLooseNow far.now)) }
+        far.now (AreLooseNow far.now)) }
     ensures error { OnErr result (Performs (λ es. D.run desk.old es desk.new)
         (λ s. D.shows desk.old s × Sound s far.now)
         (TouchesSpans far.now)
         (λ t. Sound t far.now)
         IsStill) }
 {
-    let config = desk.config();
-    let found = find_spans(desk, far, config)?;
+    let found = find_spans(desk, far)?;
     match found {
         Found::Few { lack, loose, nodes } => Ok(Taken::Few { lack, loose, nodes }),
-        Found::Loose { frames, nodes } => claim_first(desk, far, config, &frames, nodes),
+        Found::Loose { frames, nodes } => claim_first(desk, far, &frames, nodes),
     }
 }
 
@@ -70,21 +70,21 @@ pub(crate) fn take_spans<D: Desk>(desk: &mut D, far: &Far) -> Result<Taken, NoMe
 fn claim_first<D: Desk>(
     desk: &mut D,
     far: &Far,
-    config: Config,
     loose: &[u32],
     nodes: u32,
 ) -> Result<Taken, NoMemory>
-    requires config { (IsAccepted config) × (config ≡ D.settings desk.old) }
+    requires range { IsInRange far.now.code.k far.now.code.r }
     requires sound { (s : Shown) × D.shows desk.old s × Sound s far.now }
     requires among { All (Contains (candidates far.now)) loose.now }
     requires apart { AllPairs (λ f g. f ≢ g) loose.now }
-    requires room { config.k + config.r ≤ room_count far.now.nodes far.now.members }
+    requires room { far.now.code.k + far.now.code.r ≤ room_count far.now.nodes far.now.members }
     requires nodes { nodes ≡ room_count far.now.nodes far.now.members }
     ensures taken { IfOk result (Takes (λ es. D.run desk.old es desk.new) (λ s. D.shows desk.old s)
-        config far.now (AreLooseStill far.now loose.now)) }
+        far.now (AreLooseStill far.now loose.now)) }
     ensures error { OnErr result (D.run desk.old [] desk.new) }
 {
-    let k = config.k as usize;
+    let code = far.in_force();
+    let k = code.k as usize;
     let mut frames = Vec::with_capacity(far.alloc, k)?;
     let mut formers = Vec::with_capacity(far.alloc, MOST_OBJECTS * k)?;
     claim_spans(desk, &far.spans, loose, k, &mut frames, &mut formers);

@@ -1,6 +1,6 @@
 -- Worked examples of what a filter does, of copied words, and of the parts of a filter.
 use Rattle.std.proofs.Common.{subst, ◌∙◌, ◌≡◌, ◌≢◌, ℕ, zero, suc, Bool, ◌+◌, ◌*◌, ◌^◌, ◌<◌, true, false, List, [], ◌∷◌, None, length, get_or, refl, ap, lit<, lit≤, arith, inl, inr}
-use Rattle.cb_class.specs.Class.{slots_of, bytes_of, words_of}
+use Rattle.cb_class.specs.Class.{slots_of, pages_of, bytes_of, words_of}
 use Rattle.cb_ptr.specs.declared.word.State.TheVariants as state
 use Rattle.cb_types.specs.declared.reply.Reply.TheVariants as answer
 use Rattle.cb_span.specs.declared.temp.Temp.TheVariants.{Hot, Cold}
@@ -230,7 +230,7 @@ vacant_where_it_lies x = x.apart 1 (lit≤ tt, lit< tt) (lit≤ tt, lit< tt)
 
 -- ---- plans
 lies : LiesAtPlace far 512 seat
-unfolding slots_of bytes_of words_of
+unfolding slots_of pages_of bytes_of words_of
 lies = record {
   there = refl;
   at = refl;

@@ -1,4 +1,6 @@
 pub mod Bits
 pub mod Laws
 pub mod Flags
+pub mod Runs
 pub mod Worked
+pub mod WorkedRuns

@@ -1,3 +1,4 @@
 pub mod Bitmap
 pub mod FrameSet
+pub mod Runs
 pub mod FreeFrames

@@ -1,5 +1,8 @@
-ghost use Rattle.std.specs.Prelude.{◌≡◌, ℕ, ◌+◌, ◌*◌, ◌-◌, ◌/◌, ◌^◌, ◌<◌, ◌≤◌, false, IfOk, length, MatchOption, min, replicate, true};
+ghost use Rattle.std.specs.Prelude.{◌≡◌, ℕ, ◌+◌, ◌*◌, ◌-◌, ◌/◌, ◌%◌, ◌^◌, ◌<◌, ◌≤◌, false, IfOk, length, MatchOption, min, nat_eq, replicate, slice_index, true};
+ghost use Rattle.std.specs.Prelude.{◌⊎◌};
+ghost use Rattle.std.specs.Int.{bit_at};
 ghost use Rattle.cb_frame.specs.Bitmap.{ChangesBit, IsFull, IsLeastSet, NoneSet, bit_in};
+ghost use Rattle.cb_frame.specs.Runs.{IsLeastRun, IsRunLength, NoRun, run_in};
 
 use std::alloc::{AllocError, Global};
 
@@ -92,4 +95,61 @@ pub fn clear(words: &mut [u64], n: usize)
     ensures { ChangesBit words.old words.new n false }
 {
     words[n / WORD_BITS] &= !(1 << (n % WORD_BITS));
+}
+
+/// The word of a number, and 0 behind the last one.
+fn word_or_zero(words: &[u64], i: usize) -> u64
+    ensures { slice_index words.now i ≡ result }
+{
+    if i < words.len() { words[i] } else { 0 }
+}
+
+/// A word and the next one, which stands above it; 0 behind the last word.
+fn two_words(words: &[u64], i: usize) -> u128
+    requires { i < length words.now }
+    ensures { (j : ℕ) → j < 128 → nat_eq (bit_at result j) 1 ≡ bit_in words.now (64 * i + j) }
+{
+    let next = word_or_zero(words, i + 1) as u128;
+    next * 18_446_744_073_709_551_616 + words[i] as u128
+}
+
+/// The lowest 64 bits.
+fn low_word(bits: u128) -> u64
+    ensures { result ≡ bits % 2 ^ 64 }
+{
+    (bits % 18_446_744_073_709_551_616) as u64
+}
+
+/// The places of a word from which so many bits, 2 or 4, are set: a bit and those above it, also in
+/// the next word.
+fn starts(words: &[u64], i: usize, pages: u32) -> u64
+    requires within { i < length words.now }
+    requires pages { (pages ≡ 2) ⊎ (pages ≡ 4) }
+    ensures { (j : ℕ) → j < 64 → nat_eq (bit_at result j) 1 ≡ run_in words.now (64 * i + j) pages }
+{
+    let bits = two_words(words, i);
+    let pairs = bits & (bits >> 1);
+    if pages == 2 {
+        return low_word(pairs);
+    }
+    low_word(pairs & (pairs >> 2))
+}
+
+/// The least place from which so many bits, 1, 2 or 4, are set, and None where there is none: word by
+/// word, 64 places at a time, also over a word's border.
+pub fn least_run(words: &[u64], pages: u32) -> Option<usize>
+    requires small { 64 * length words.now < 2 ^ 64 }
+    requires pages { IsRunLength pages }
+    ensures { MatchOption result (NoRun words.now pages) (IsLeastRun words.now pages) }
+{
+    if pages == 1 {
+        return least_set(words, 0);
+    }
+    for i in 0..words.len() {
+        let found = starts(words, i, pages);
+        if found != 0 {
+            return Some(WORD_BITS * i + found.trailing_zeros() as usize);
+        }
+    }
+    None
 }

@@ -1,4 +1,5 @@
-ghost use Rattle.std.specs.Prelude.{◌≡◌, ◌^◌, ◌<◌, IfOk, IfSome, length};
+ghost use Rattle.std.specs.Prelude.{◌≡◌, ◌+◌, ◌^◌, ◌<◌, ◌≤◌, IfOk, IfSome, length};
+ghost use Rattle.cb_frame.specs.Runs.{IsRunLength, least_run};
 ghost use Rattle.cb_frame.specs.FrameSet.{all_frames, contains, least, least_from, no_frames, with_inserted, with_removed};
 
 use crate::bitmap;
@@ -82,6 +83,17 @@ impl FrameSet {
         ensures in_range { IfSome result (λ f. f < length self.now) }
     {
         let f = bitmap::least_set(&self.words, start as usize)?;
+        Some(f as u32)
+    }
+
+    /// The least frame from which so many adjacent ones, 1, 2 or 4, are in the set, and None where
+    /// there is none. Looks at 64 frames at a time, also over the border of a word.
+    pub fn least_run(&self, pages: u32) -> Option<u32>
+        requires { IsRunLength pages }
+        ensures least { result ≡ least_run self.now pages }
+        ensures in_range { IfSome result (λ f. f + pages ≤ length self.now) }
+    {
+        let f = bitmap::least_run(&self.words, pages)?;
         Some(f as u32)
     }
 

@@ -2,6 +2,7 @@
 use Rattle.std.proofs.Common.{◌≡◌, ℕ, ◌+◌, ◌-◌, ◌<◌, ◌≤◌, ◌==◌, ◌||◌, Bool, true, false, cond, min, nat_lt, List, length, get_or, refl, arith}
 use Rattle.std.proofs.lemmas.Bool.Decides.{nat_tests}
 use Rattle.std.specs.List.{All}
+use Rattle.cb_types.specs.Config.{most_bytes}
 use Rattle.cb_types.specs.declared.request.Request.{Request}
 use Rattle.cb_types.specs.declared.request.Request.TheVariants as request
 use Rattle.cb_gen.specs.Draws.{drawn, state_after}
@@ -14,8 +15,8 @@ pub data IsKind (lane : ℕ) (lengths : List ℕ) : Request → Type 0 where
       → IsKind lane lengths (request.Make (object_name lane (length lengths)) bytes)
   reads : (object : ℕ) → object < length lengths
       → IsKind lane lengths (request.Read (object_name lane object))
-  writes : (object at : ℕ) (bytes : List ℕ) → object < length lengths → at ≤ 1024
-      → length bytes ≤ 1024 → All (λ b. b < 256) bytes
+  writes : (object at : ℕ) (bytes : List ℕ) → object < length lengths → at ≤ most_bytes
+      → length bytes ≤ most_bytes → All (λ b. b < 256) bytes
       → IsKind lane lengths (request.Write (object_name lane object) at bytes)
   frees : (object : ℕ) → object < length lengths
       → IsKind lane lengths (request.Free (object_name lane object))

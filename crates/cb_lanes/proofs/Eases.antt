@@ -23,6 +23,7 @@ use Rattle.cb_script.specs.declared.script.Line.{Line}
 use Rattle.cb_script.specs.declared.script.Script.{Script}
 use Rattle.cb_script.specs.Form.{IsRequest, IsScript}
 use Rattle.cb_script.specs.Roomy.{IsAtEase, is_make}
+use Rattle.cb_world.specs.Codes.{HaveCodes, IsConfiguredCode}
 use Rattle.cb_world.specs.World.{WorldState, IsSoundWorld, empty_world}
 use Rattle.cb_core.proofs.Laws.{IsEased, MakesEasy}
 use Rattle.cb_lanes.specs.declared.side.Side.{Side}
@@ -33,6 +34,8 @@ use Rattle.cb_lanes.specs.LineAnswered.{LineAnswered}
 use Rattle.cb_lanes.specs.LineStep.{LineStep}
 use Rattle.cb_lanes.specs.Names.{KeptNames, kept_for, kept_number, request_handle}
 use Rattle.cb_lanes.specs.Scopes.{KeepScopes, ScopeSays, scope_of}
+use Rattle.cb_world.proofs.Laws.{empty_codes, have_codes}
+use Rattle.cb_lanes.proofs.LineCodes.{line_codes, rests_far}
 use Rattle.cb_lanes.proofs.AloneGoes.{GoesAlone, Telling, alone_none, alone_push}
 use Rattle.cb_lanes.proofs.AloneLines.{IsOwnName, any_at, count_front, each_at, names_known}
 use Rattle.cb_lanes.proofs.AloneLines.{one_maker}
@@ -50,6 +53,7 @@ use Rattle.cb_lanes.proofs.Versions.{version_more}
 -- what is kept
 pub record Eases (s : Script) (answers : List Answer) (w : WorldState) : Type 0 where
   pub rest : IsIdleAmong (crashed_nodes s) w
+  pub codes : HaveCodes (IsConfiguredCode s.config) w.far
   pub young : (h : ℕ) → version_had (value (calls_of answers) h) ≤ length answers
   pub calm : AllByRecursion (λ a. IsCalmReply a.reply) answers
   pub alone : (lane : ℕ) → HasOwnLines s.lines lane → GoesAlone s.lines lane answers
@@ -120,7 +124,8 @@ module _ (side : Side) (s : Script) (i : ℕ) (later : List ℕ) (answers : List
   is_line = all_last HasLineReply answers next_answer then.answered
 
   easy : MakesEasy w.desk w.far
-  easy = easy_world side s i (l.lane.n ∷ later) answers w names script ease along so_far eases.rest eases.young
+  easy = easy_world side s i (l.lane.n ∷ later) answers w names script ease along so_far eases.rest
+      eases.codes eases.young
 
   few_turns : w.far.counts.turns < 2 ^ 40
   few_turns = let turns = along.turns in
@@ -193,6 +198,11 @@ module _ (side : Side) (s : Script) (i : ℕ) (later : List ℕ) (answers : List
     rest = rests_at_rest (crashed_nodes s) (lines_by l.lane.n later) l.lane.n between rested rests
         (line_at_rest (crashed_nodes s) side l.lane.n (request_handle names l.request) l.request w between r
         (easy_line s i l ease lt at form.0) step eases.rest);
+    codes = subst (HaveCodes (IsConfiguredCode s.config))
+        (sym (rests_far (lines_by l.lane.n later) l.lane.n between rested rests))
+        (have_codes (IsConfiguredCode s.config) w.far between.far
+        (line_codes w along.sound side l.lane.n (request_handle names l.request) l.request between r step)
+        eases.codes);
     young = λ h.
         let z = version_more s.config.handles (calls_of answers) (called answers next_answer) h (length answers) by_map
         (eases.young h) in
@@ -231,6 +241,7 @@ eases_answered side s i later answers all l w rested names kept script ease lt a
 pub eases_none : (s : Script) (w : WorldState) → w ≡ empty_world s.config → Eases s [] w
 eases_none s w is = subst (Eases s []) (sym is) (record {
   rest = empty_at_rest (crashed_nodes s) s.config;
+  codes = empty_codes (IsConfiguredCode s.config) 1 s.config (refl, refl);
   young = λ h. omega arith;
   calm = tt;
   alone = λ lane has. alone_none s.lines lane;

@@ -18,6 +18,7 @@ use Rattle.cb_script.specs.declared.script.Script.{Script}
 use Rattle.cb_script.specs.Form.{IsRequest, IsScript}
 use Rattle.cb_script.specs.Roomy.{IsAtEase, crashing, has_crash, has_pin, is_crash, is_make}
 use Rattle.cb_script.specs.Roomy.{is_step, makes_in, pinning}
+use Rattle.cb_world.specs.Codes.{HaveCodes, IsConfiguredCode}
 use Rattle.cb_world.specs.declared.seats.Pin.{Pin}
 use Rattle.cb_world.specs.Seats.{SeatState, idle_seat, pins_of_seat}
 use Rattle.cb_world.specs.World.{WorldState}
@@ -121,20 +122,18 @@ module _ (side : Side) (s : Script) (i : ℕ) (later : List ℕ) (answers : List
   few_answers = let most = script.few in
       omega (arith, ap (λ (ls : List Line). length ls) so_far, length-take i s.lines, length-map answers asked, most)
 
-  pub easy_world : IsIdleAmong (crashed_nodes s) w
+  pub easy_world : IsIdleAmong (crashed_nodes s) w → HaveCodes (IsConfiguredCode s.config) w.far
       → ((h : ℕ) → version_had (value (calls_of answers) h) ≤ length answers) → MakesEasy w.desk w.far
-  easy_world rest young = record {
+  easy_world rest codes young = record {
     still = λ h below moves.
         never_moving w.desk w.far w.seats h along.sound.ongoing rest.claims rest.idle.0 below moves;
-    whole = never_gone w.desk.settings along.sound.shown w.far (crashed_nodes s) along.sound.known.sound
-        along.sound.configured.codes rest.crashed
-        (let few = ease.crashes in let r = ap (λ (c : Config). c.r) along.settings in
-        omega (arith, crashed_count s, few, r));
+    whole = never_gone s.config along.sound.shown w.far (crashed_nodes s) along.sound.known.sound codes
+        rest.crashed (let few = ease.crashes in omega (arith, crashed_count s, few));
     spans = λ full.
         let all = loose_or_pinned w.desk w.far along.sound.shown w.seats along.sound.known along.sound.pinned
         along.sound.ongoing rest.claims rest.idle.0 full in
         let frames = along.sound.configured.frames in let pins = few_pins in let enough = ease.frames in
-        let k = ap (λ (c : Config). c.k) along.settings in
+        let k = codes.force.0 in
         let same = ap (λ (c : Config). c.frames) along.settings in
         omega (arith, all, frames, pins, enough, k, same);
     nodes = enough_roomy w.desk.settings along.sound.shown w.far (crashed_nodes s) along.sound.known.sound
@@ -142,8 +141,8 @@ module _ (side : Side) (s : Script) (i : ℕ) (later : List ℕ) (answers : List
         (let few = few_made in let front = count_front (λ (l : Line). is_make l.request) s.lines i in
         let room = ease.room in let same = ap (λ (c : Config). c.room) along.settings in
         omega (arith, few, front, room, same))
-        (let enough = ease.nodes in
-        let k = ap (λ (c : Config). c.k) along.settings in let r = ap (λ (c : Config). c.r) along.settings in
+        (w.far.code.k + w.far.code.r)
+        (let enough = ease.nodes in let k = codes.force.0 in let r = codes.force.1 in
         let n = ap (λ (c : Config). c.nodes) along.settings in
         omega (arith, crashed_count s, enough, k, r, n));
     stamps = λ h.

@@ -2,6 +2,7 @@ pub mod Lists
 pub mod NamesKept
 pub mod Recounting
 pub mod LineKeeps
+pub mod LineCodes
 pub mod Lone
 pub mod LooseSpans
 mod FramesMade

@@ -7,13 +7,13 @@ use Rattle.cb_member.specs.declared.no_memory.NoMemory.{NoMemory}
 use Rattle.cb_types.specs.declared.reply.Reply.{Reply}
 use Rattle.cb_types.specs.declared.reply.Reply.TheVariants as answer
 use Rattle.cb_world.specs.Memory.{bytes_in, words_for}
+use Rattle.cb_mutate.proofs.Laws.{AreBytesFilled, IsPutInto, filled_all, filled_more}
 use Rattle.cb_rule.specs.declared.view.Stand.{Stand}
 use Rattle.cb_rule.specs.declared.view.View.{View}
 use Rattle.cb_rule.specs.Lists.{Has}
 use Rattle.cb_rule.specs.Steps.{IsNewest, with_peek}
 use Rattle.cb_shared.specs.declared.pass.Pin.{Pin}
 use Rattle.cb_shared.specs.Passes.{IsPinOf, stand_of}
-use Rattle.cb_shared.proofs.Laws.{AreBytesFilled, IsPutInto, filled_all, filled_more}
 use Rattle.cb_lanes.specs.Passing.{AreHeld, IsNewestAt, PeekGoes, PeeksAll, marks_of, peeks_of}
 use Rattle.cb_lanes.proofs.LineParts.{newest_handle}
 use Rattle.cb_lanes.proofs.PinsHeld.{IsPinThere, found_at, newest_below, pin_there}

@@ -93,22 +93,22 @@ filter_as state.Moving frames h w name far new r es (is, same) = so (Filter name
 
 -- ---- evictions
 pub evict_rule : (c : Config) (far new : FarState) (r : Reply) (es : List Event)
-    → EvictRule c far new r es → IsReplyOf line.Evict r
+    → EvictRule far new r es → IsReplyOf line.Evict r
 evict_rule c far new r es a = by a.answered
   where
-    by : HasFewSpans c far new r a.loose ⊎ (HasFewNodes c far new r a.loose
-        ⊎ HasBoth c far new r a.loose es) → IsReplyOf line.Evict r
+    by : HasFewSpans far new r a.loose ⊎ (HasFewNodes far new r a.loose
+        ⊎ HasBoth far new r a.loose es) → IsReplyOf line.Evict r
     by (inl x) = so line.Evict r _ tt x.reply
     by (inr (inl x)) = so line.Evict r _ tt x.reply
     by (inr (inr x)) = so line.Evict r _ tt x.reply
 
 pub begin_rule : (c : Config) (far new : FarState) (r : Reply) (es : List Event)
-    → BeginRule c far new r es → IsReplyOf line.Begin r
+    → BeginRule far new r es → IsReplyOf line.Begin r
 begin_rule c far new r es (inl a) = so line.Begin r _ tt a.reply
 begin_rule c far new r es (inr a) = by a.answered
   where
-    by : HasFewSpans c far new r a.loose ⊎ (HasFewNodes c far new r a.loose
-        ⊎ HasBatch c far new r a.loose es) → IsReplyOf line.Begin r
+    by : HasFewSpans far new r a.loose ⊎ (HasFewNodes far new r a.loose
+        ⊎ HasBatch far new r a.loose es) → IsReplyOf line.Begin r
     by (inl x) = so line.Begin r _ tt x.reply
     by (inr (inl x)) = so line.Begin r _ tt x.reply
     by (inr (inr x)) = so line.Begin r _ tt x.reply

@@ -1,5 +1,6 @@
 -- What a line may ask for.
 use Rattle.std.specs.Prelude.{◌≡◌, ◌<◌, ◌≤◌, ℕ, List, length}
+use Rattle.cb_types.specs.Config.{most_bytes}
 use Rattle.cb_types.specs.declared.handle.Handle.{Handle}
 use Rattle.cb_types.specs.declared.job.Job.{Job}
 use Rattle.cb_types.specs.declared.job.Job.TheVariants.{Make, Read, Write, Free, Swap, Filter}
@@ -8,9 +9,9 @@ use Rattle.cb_types.specs.declared.reply.Reply.{Reply}
 use Rattle.cb_types.specs.declared.reply.Reply.TheVariants.{Made}
 
 -- A job that may be called, where there are so many nodes and these handles may be named: an object
--- has 1 to 1,024 bytes.
+-- has 1 to `most_bytes` bytes.
 abbrev pub MayCall : ℕ → (ℕ → Type 0) → Job → Type 0
-MayCall nodes named (Make bytes) = (1 ≤ length bytes) × (length bytes ≤ 1024)
+MayCall nodes named (Make bytes) = (1 ≤ length bytes) × (length bytes ≤ most_bytes)
 MayCall nodes named (Read handle) = named handle.n
 MayCall nodes named (Write handle at bytes) = named handle.n
 MayCall nodes named (Free handle) = named handle.n

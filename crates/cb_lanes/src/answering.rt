@@ -1,5 +1,6 @@
 ghost use Rattle.std.specs.Prelude.{◌≡◌, ◌<◌, ◌≤◌, ℕ, List, Some, IfOk, OnErr, length};
 ghost use Rattle.std.specs.Option.{option_map};
+ghost use Rattle.cb_types.specs.Config.{most_bytes};
 ghost use Rattle.cb_script.specs.Form.{IsRequest};
 ghost use Rattle.cb_lanes.specs.LineGoes.{Calls, LineGoes, ObjectGoes, job_of};
 ghost use Rattle.cb_lanes.specs.MayAsk.{StayNamed};
@@ -74,7 +75,7 @@ fn make_named<'a, C: Caller>(
     bytes: &Bytes,
 ) -> Result<Reply, NoMemory>
     requires some_byte { 1 ≤ length bytes.now }
-    requires few { length bytes.now ≤ 1024 }
+    requires few { length bytes.now ≤ most_bytes }
     requires ready { AreNamed (C.may_name caller.now lane.old) names.old }
     requires well { C.well caller.now lane.old }
     ensures step { IfOk result (λ reply.

@@ -14,8 +14,8 @@ ghost use Rattle.cb_lanes.specs.Passing.{PinsAtLast, UnpinGoes};
 ghost use Rattle.cb_lanes.specs.Stopping.{BringsNot, CallStops, PinStops, TurnLacks};
 
 use crate::kept_pins::{KeptPins, MOST_PINS, keep_pin, newest_pin};
-use cb_shared::{Pass, Patience, Pin, PinAnswer, Shared, put_word};
-use cb_types::{Bytes, Handle, Job, NoMemory, Reply};
+use cb_shared::{Pass, Patience, Pin, PinAnswer, Shared};
+use cb_types::{Bytes, Handle, Job, NoMemory, Reply, put_word};
 use std::alloc::Global;
 use std::sync::Wait;
 

@@ -7,10 +7,11 @@ use Rattle.cb_types.specs.declared.reply.Reply.{Reply}
 use Rattle.cb_types.specs.declared.reply.Reply.TheVariants as answer
 use Rattle.cb_types.specs.declared.request.Request.TheVariants as line
 use Rattle.cb_world.specs.declared.shown.Shown.{Shown}
+use Rattle.cb_world.specs.Codes.{IsCodeOf}
 use Rattle.cb_world.specs.FarState.{FarState}
 use Rattle.cb_world.specs.Pairs.{HoldsNoPair}
 use Rattle.cb_world.specs.Sound.{Sound}
-use Rattle.cb_world.proofs.Laws.{KeepsHolding, StaysBy, StaysIfBy, rises_more, stays_noted, stays_same}
+use Rattle.cb_world.proofs.Laws.{KeepsHolding, StaysBy, StaysIfBy, codes_stay, codes_then, have_codes, rises_more, stays_noted, stays_same}
 use Rattle.cb_compact.specs.NowGoing.{with_keys}
 use Rattle.cb_compact.specs.CompactStep.{CompactStep, PairEnds}
 use Rattle.cb_compact.specs.PairStep.{live_positions}
@@ -55,19 +56,16 @@ given_stays : (c : Config) (far mid : FarState) (rows : ℕ) → rows ≤ 36
     → mid.nodes.given ≡ far.nodes.given → StaysBy KeepsHolding c 20 far mid
     → StaysBy KeepsHolding c 36 far (far_given mid rows)
 given_stays c far mid rows few same z =
+    let given = codes_stay mid (far_given mid rows) refl refl refl refl in
     let r = z.rises in let sets = r.sets in let keys = r.keys in let epoch = r.epoch in record {
       configured = record {
         frames = z.configured.frames;
         homes = z.configured.homes;
         nodes = z.configured.nodes;
         room = z.configured.room;
-        codes = record {
-          sets = z.configured.codes.sets;
-          batch = z.configured.codes.batch;
-          pair = z.configured.codes.pair;
-          own = z.configured.codes.own;
-        };
+        codes = have_codes (IsCodeOf c) mid (far_given mid rows) given z.configured.codes;
       };
+      codes = codes_then far mid (far_given mid rows) z.codes given;
       rises = record {
         turns = r.turns;
         by_job = r.by_job;
@@ -83,6 +81,7 @@ more_stays : (c : Config) (n : ℕ) (far new : FarState) → n ≤ 36 → StaysB
     → StaysBy KeepsHolding c 36 far new
 more_stays c n far new few z = record {
   configured = z.configured;
+  codes = z.codes;
   rises = rises_more n 36 far new few z.rises;
 }
 

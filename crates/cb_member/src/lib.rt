@@ -10,5 +10,5 @@ mod node;
 
 pub use losses::Losses;
 pub use members::{MemberAnswer, Members};
-pub use names::{Epoch, Loss, NodeId, Shard};
+pub use names::{Code, Epoch, Loss, NodeId, Shard};
 pub use no_memory::NoMemory;

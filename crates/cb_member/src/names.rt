@@ -25,3 +25,11 @@ pub struct Shard {
     pub incarnation: u64,
     pub key: u64,
 }
+
+/// The code of a span-set: so many data positions, and so many parities and so the lost shards that it
+/// survives.
+#[derive(Clone, Copy, Debug, PartialEq, Eq)]
+pub struct Code {
+    pub k: u32,
+    pub r: u32,
+}

@@ -10,7 +10,7 @@ use Rattle.cb_types.specs.declared.reply.Reply.TheVariants as answer
 use Rattle.cb_world.specs.declared.event.Event.{Event}
 use Rattle.cb_world.specs.FarState.{FarState}
 use Rattle.cb_world.specs.LeftOver.{set_without}
-use Rattle.cb_world.proofs.Laws.{codes_left, codes_stay, own_left, left_count, left_given, left_note, left_room, IsLike, StaysIf, stays_like, stays_same}
+use Rattle.cb_world.proofs.Laws.{KeepCodes, batch_has, codes_kept, codes_left, codes_stay, own_left, pair_stays, sets_have, left_count, left_given, left_note, left_room, IsLike, StaysIf, stays_like, stays_same}
 use Rattle.cb_mutate.specs.FreeRule.{FreeFar, FreeRule, IsReleased, IsRemoved, LeavesPlace}
 use Rattle.cb_mutate.specs.MakeRule.{MakeRule, with_made}
 
@@ -26,7 +26,7 @@ make_stays c handles bytes far new (answer.Made h v) es x =
       homes = refl;
       nodes = refl;
       room = refl;
-      codes = codes_stay far (with_made far x.1.slot) refl refl refl;
+      codes = codes_stay far (with_made far x.1.slot) refl refl refl refl;
       counts = refl;
       note = λ n e. e;
       epoch = omega arith;
@@ -41,7 +41,7 @@ released far new h z = subst (IsLike far) (sym z.left) (record {
   homes = refl;
   nodes = refl;
   room = refl;
-  codes = codes_stay far _ refl refl refl;
+  codes = codes_stay far _ refl refl refl refl;
   counts = refl;
   note = λ n e. e;
   epoch = omega arith;
@@ -54,14 +54,12 @@ removed far new h z = subst (IsLike far) (sym z.left) (record {
   homes = length-set far.homes h _;
   nodes = left_count far.nodes (set_without z.set z.home);
   room = left_room far.nodes (set_without z.set z.home);
-  codes = λ c x. record {
-    sets = codes_left c far.sets z.home.set z.home.position z.set
-        (without_object (position_of z.set z.home.position) z.home.slot) z.lies.there x.sets;
-    batch = x.batch;
-    pair = x.pair;
-    own = own_left far.sets z.home.set z.home.position z.set
-        (without_object (position_of z.set z.home.position) z.home.slot) z.lies.there x.own;
-  };
+  codes = codes_kept far _ refl
+      (codes_left far far.sets z.home.set z.home.position z.set
+      (without_object (position_of z.set z.home.position) z.home.slot) z.lies.there (sets_have far))
+      (batch_has far far.leaving refl) (pair_stays far far.joining refl)
+      (own_left far.sets z.home.set z.home.position z.set
+      (without_object (position_of z.set z.home.position) z.home.slot) z.lies.there);
   counts = refl;
   note = λ n e. left_note far z.home.set n (set_without z.set z.home) e;
   epoch = omega arith;
@@ -73,6 +71,11 @@ leaves state.Here far new h z = released far new h z
 leaves state.Far far new h z = removed far new h z
 leaves state.Empty far new h z = absurd z
 leaves state.Moving far new h z = absurd z
+
+-- a freed object's place: no other code comes up
+pub place_codes : (q : State) (far new : FarState) (h : ℕ) → LeavesPlace q far new h
+    → KeepCodes far new
+place_codes q far new h z = (leaves q far new h z).codes
 
 pub free_stays : (c : Config) (h : ℕ) (far new : FarState) (r : Reply) (es : List Event)
     → FreeRule h far new r es → StaysIf c 1 far new

@@ -2,6 +2,7 @@
 pub use Rattle.cb_mutate.proofs.Bytes.{write_all, write_more, write_none}
 pub use Rattle.cb_mutate.proofs.ChangedObject.{hot_fields, keeps_same}
 pub use Rattle.cb_mutate.proofs.FarFreed.{found_far}
+pub use Rattle.cb_mutate.proofs.Filled.{AreBytesFilled, IsPutInto, filled_all, filled_more}
 pub use Rattle.cb_mutate.proofs.FreeCall.{free_call}
 pub use Rattle.cb_mutate.proofs.FreeStep.{free_step}
 pub use Rattle.cb_mutate.proofs.MakeCall.{make_call}
@@ -10,7 +11,7 @@ pub use Rattle.cb_mutate.proofs.MapBeside.{FollowsMap, FollowsOf, beside_kept, b
 pub use Rattle.cb_mutate.proofs.MapReplies.{AreKnownBoth, ChangesAt, IsObjectThere, IsOnContents, call_by_state, far_there, here_near, in_range, map_same, moving_near, near_held, others_hold, refused_by, refused_call, stays_call}
 pub use Rattle.cb_mutate.proofs.ReadCall.{read_call}
 pub use Rattle.cb_mutate.proofs.ReadStep.{failed_step, read_step}
-pub use Rattle.cb_mutate.proofs.CallStays.{free_stays, make_stays}
+pub use Rattle.cb_mutate.proofs.CallStays.{free_stays, make_stays, place_codes}
 pub use Rattle.cb_mutate.proofs.Stepping.{ComesTo, comes, is_exact, reply_comes}
 pub use Rattle.cb_mutate.proofs.CallFixed.{free_step_fixes, make_step_fixes, read_step_fixes, write_step_fixes}
 pub use Rattle.cb_mutate.proofs.ReadUnwritten.{read_unwritten}

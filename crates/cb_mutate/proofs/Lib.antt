@@ -10,6 +10,7 @@ pub mod Emptied
 pub mod FreeSound
 pub mod FarFreed
 pub mod FarSeen
+pub mod Filled
 pub mod Loaded
 pub mod SettledHot
 pub mod ReadSound

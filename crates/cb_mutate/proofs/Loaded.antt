@@ -1,15 +1,13 @@
 -- The words of an object are read one after the other.
-use Rattle.std.proofs.Common.{◌≡◌, ◌≢◌, ◌⊎◌, ℕ, ◌+◌, ◌*◌, ◌/◌, ◌%◌, ◌<◌, ◌≤◌, List, [], ◌∷◌, ◌++◌, length, get_or, take, map, sym, refl, ap, ◌∙◌, subst, arith, inl, inr}
-use Rattle.std.proofs.lemmas.Bool.{cases_eq, cases_lt}
-use Rattle.std.proofs.lemmas.List.{ext_get_or, get_or-take, get_or_append_left, length-append, length-take-le}
-use Rattle.std.proofs.lemmas.List.FromFn.{get_or-map-range_with_len, length-map-range_with_len}
+use Rattle.std.proofs.Common.{◌≡◌, ◌≢◌, ◌⊎◌, ℕ, ◌+◌, ◌/◌, ◌%◌, ◌<◌, List, [], ◌∷◌, ◌++◌, length, get_or, sym, refl, ap, ◌∙◌, subst, arith, inl, inr}
+use Rattle.std.proofs.lemmas.Bool.{cases_eq}
+use Rattle.std.proofs.lemmas.List.{ext_get_or, get_or_append_left, length-append}
 use Rattle.std.proofs.Math.Seq.{get_or-append_seam}
 use Rattle.std.specs.Int.{to_le_bytes, w64}
-use Rattle.std.specs.List.{range_with_len}
 use Rattle.cb_world.specs.declared.event.Event.{Event}
 use Rattle.cb_world.specs.declared.event.Event.TheVariants.{Loaded}
 use Rattle.cb_world.specs.declared.shown.Shown.{Shown}
-use Rattle.cb_world.specs.Memory.{window, words_for, memory_byte, bytes_in}
+use Rattle.cb_world.specs.Memory.{window, words_for}
 use Rattle.cb_world.specs.Shown.{Covers, Owns}
 use Rattle.cb_world.specs.Touches.{Touches}
 use Rattle.cb_world.specs.Played.{played, Agree}
@@ -18,10 +16,11 @@ use Rattle.cb_world.proofs.Laws.{agree_last, touches_append, window_at}
 use Rattle.cb_mutate.specs.Stores.{AreLoads}
 use Rattle.cb_mutate.specs.ReadRule.{IsLoaded, AreLoaded}
 use Rattle.cb_mutate.specs.Loads.{Loads}
+use Rattle.cb_mutate.proofs.Filled.{AreBytesFilled, IsPutInto, filled_all, filled_more}
 
--- the first i words were read, and their bytes stand in front
+-- the first i words were read, and their bytes stand in the room
 pub record LoadsBelow (runs : List Event → Type 0) (owns : Shown → Type 0) (place len i : ℕ)
-    (into : List ℕ) : Type 0 where
+    (room : List ℕ) : Type 0 where
   pub events : List Event
   pub ran : runs events
   pub loads : AreLoads events
@@ -29,8 +28,8 @@ pub record LoadsBelow (runs : List Event → Type 0) (owns : Shown → Type 0) (
   pub words : List ℕ
   pub count : length words ≡ i
   pub loaded : AreLoaded place words events
-  pub sized : length into ≡ 1024
-  pub bytes : (p : ℕ) → p < 8 * i → get_or into p 0 ≡ memory_byte words p
+  pub sized : length room ≡ len
+  pub bytes : AreBytesFilled words i room
   pub contents : (s : Shown) → owns s → (k : ℕ) → k < i
       → get_or words k 0 ≡ get_or s.memory (place + k) 0
 
@@ -64,15 +63,9 @@ loaded_agrees es s p x loads agree owned =
     (agree_last es (Loaded p x ∷ []) s agree).0 in
     subst (λ (t : Shown). Owns t p → x ≡ get_or t.memory p 0) at told owned
 
--- one word more was read, and its bytes were put behind the others
-pub record IsPutWord (old new : List ℕ) (i x : ℕ) : Type 0 where
-  pub inside : (j : ℕ) → j < 8 → get_or new (8 * i + j) 0 ≡ get_or (to_le_bytes w64 x) j 0
-  pub outside : (p : ℕ) → (p < 8 * i) ⊎ (8 * i + 8 ≤ p) → get_or new p 0 ≡ get_or old p 0
-  pub sized : length new ≡ length old
-
 pub loads_none : (runs : List Event → Type 0) (owns : Shown → Type 0) (place len : ℕ)
-    (into : List ℕ) → runs [] → length into ≡ 1024 → LoadsBelow runs owns place len 0 into
-loads_none runs owns place len into ran sized = record {
+    (room : List ℕ) → runs [] → length room ≡ len → LoadsBelow runs owns place len 0 room
+loads_none runs owns place len room ran sized = record {
   events = [];
   ran = ran;
   loads = tt;
@@ -81,13 +74,13 @@ loads_none runs owns place len into ran sized = record {
   count = refl;
   loaded = λ i below. absurd (omega (arith, below));
   sized = sized;
-  bytes = λ p below. absurd (omega (arith, below));
+  bytes = λ p below within. absurd (omega (arith, below));
   contents = λ s o k below. absurd (omega (arith, below));
 }
 
 pub loads_one : (runs more : List Event → Type 0) (owns : Shown → Type 0) (place len i x : ℕ)
     (old new : List ℕ) → (l : LoadsBelow runs owns place len i old) → Covers place len (place + i)
-    → more (l.events ++ Loaded (place + i) x ∷ []) → IsPutWord old new i x
+    → more (l.events ++ Loaded (place + i) x ∷ []) → IsPutInto old new i x
     → ((s : Shown) → owns s → x ≡ get_or s.memory (place + i) 0)
     → LoadsBelow more owns place len (i + 1) new
 loads_one runs more owns place len i x old new l covers ran put told = record {
@@ -100,7 +93,7 @@ loads_one runs more owns place len i x old new l covers ran put told = record {
   count = length-append l.words (x ∷ []) ∙ ap (λ (n : ℕ). n + 1) l.count;
   loaded = λ k below. loaded k (cases_eq k i) below;
   sized = put.sized ∙ l.sized;
-  bytes = λ p below. bytes p below (cases_lt p (8 * i));
+  bytes = filled_more (l.words ++ x ∷ []) old new i x (sym last) put filled;
   contents = λ s o k below. contents s o k below (cases_eq k i);
 }
   where
@@ -126,19 +119,10 @@ loads_one runs more owns place len i x old new l covers ran put told = record {
         (loaded_before l.events (Loaded (place + i) x ∷ []) (place + k) (get_or l.words k 0)
         (l.loaded k (omega (arith, less, l.count))))
 
-    bytes : (p : ℕ) → p < 8 * (i + 1) → (p < 8 * i) ⊎ (8 * i ≤ p)
-        → get_or new p 0 ≡ memory_byte (l.words ++ x ∷ []) p
-    bytes p below (inl less) = put.outside p (inl less) ∙ l.bytes p less
+    filled : AreBytesFilled (l.words ++ x ∷ []) i old
+    filled p below within = l.bytes p below within
         ∙ ap (λ (w : ℕ). get_or (to_le_bytes w64 w) (p % 8) 0)
-        (sym (earlier (p / 8) (omega (arith, less))))
-    bytes p below (inr more) =
-        let j = p % 8 in
-        let at : p / 8 ≡ i = omega (arith, below, more) in
-        let split : 8 * i + j ≡ p = omega (arith, at) in
-        let low : j < 8 = omega arith in
-        ap (λ (q : ℕ). get_or new q 0) (sym split) ∙ put.inside j low
-        ∙ ap (λ (w : ℕ). get_or (to_le_bytes w64 w) j 0)
-        (sym (ap (λ (n : ℕ). get_or (l.words ++ x ∷ []) n 0) at ∙ last))
+        (sym (earlier (p / 8) (omega (arith, below))))
 
     contents : (s : Shown) → owns s → (k : ℕ) → k < i + 1 → (k ≡ i) ⊎ (k ≢ i)
         → get_or (l.words ++ x ∷ []) k 0 ≡ get_or s.memory (place + k) 0
@@ -149,10 +133,9 @@ loads_one runs more owns place len i x old new l covers ran put told = record {
 
 -- all words of the object were read
 pub loads_all : (runs : List Event → Type 0) (owns : Shown → Type 0) (place len i : ℕ)
-    (into : List ℕ) → i ≡ words_for len → len ≤ 1024 → LoadsBelow runs owns place len i into
-    → Loads runs owns place len into
-unfolding bytes_in
-loads_all runs owns place len i into same short l = record {
+    (room : List ℕ) → i ≡ words_for len → LoadsBelow runs owns place len i room
+    → Loads runs owns place len room
+loads_all runs owns place len i room same l = record {
   events = l.events;
   ran = l.ran;
   loads = l.loads;
@@ -160,18 +143,9 @@ loads_all runs owns place len i into same short l = record {
   words = l.words;
   count = l.count ∙ same;
   loaded = l.loaded;
-  bytes = ext_get_or 0 (take len into) (map (memory_byte l.words) (range_with_len 0 len))
-      (taken ∙ sym (length-map-range_with_len (memory_byte l.words) 0 len))
-      (λ k below. get_or-take len into k 0 (omega (arith, below, taken))
-      ∙ l.bytes k (omega (arith, below, taken, same))
-      ∙ sym (get_or-map-range_with_len (memory_byte l.words) 0 len k k 0
-      (omega (arith, below, taken))
-      (omega arith)));
+  bytes = filled_all l.words room len i l.sized (omega (arith, same)) l.bytes;
   contents = λ s o. ext_get_or 0 l.words (window s.memory place (words_for len))
       (l.count ∙ same ∙ sym (window_length s.memory place (words_for len)))
       (λ k below. l.contents s o k (omega (arith, below, l.count))
       ∙ sym (window_at s.memory place (words_for len) k (omega (arith, below, l.count, same))));
 }
-  where
-    taken : length (take len into) ≡ len
-    taken = length-take-le len into (omega (arith, short, l.sized))

@@ -1,5 +1,6 @@
 -- The world after a make.
 use Rattle.std.proofs.Common.{◌≡◌, ◌≢◌, ℕ, ◌+◌, ◌^◌, ◌<◌, ◌≤◌, List, length, sym, refl, ap, ◌∙◌, subst, arith, get_or-set_other, get_or-set_same}
+use Rattle.cb_types.specs.Config.{most_bytes}
 use Rattle.cb_class.specs.declared.class.Class.{Class}
 use Rattle.cb_class.specs.Class.{IsClassOf}
 use Rattle.cb_span.specs.declared.temp.Temp.TheVariants.{Hot}
@@ -32,7 +33,7 @@ pub record IsReadyToMake (s : Shown) (far : FarState) (class : Class) (slot : Sl
   pub range : h < length s.objects
   pub stamp : h < length s.versions
   pub memory : length s.memory ≤ 2 ^ 21
-  pub short : len ≤ 1024
+  pub short : len ≤ most_bytes
   pub some_byte : 1 ≤ len
   pub fits : IsClassOf len class
   pub chosen : IsChosen far class Hot slot

@@ -1,5 +1,6 @@
 -- How a read of an object that is here ends.
 use Rattle.std.specs.Prelude.{◌≡◌, ℕ, true, ◌+◌, ◌≤◌, List, []}
+use Rattle.cb_types.specs.Config.{most_bytes}
 use Rattle.cb_ptr.specs.Word.{len_of, place_of}
 use Rattle.cb_types.specs.declared.reply.Reply.{Reply}
 use Rattle.cb_types.specs.declared.reply.Reply.TheVariants as answer
@@ -29,5 +30,5 @@ pub record ReadsPinned (runs : List Event → Type 0) (h word : ℕ) (reply : Re
 
 -- the words of the object at this word lie in memory
 pub record LiesInMemory (word frames_words : ℕ) : Type 0 where
-  pub short : len_of word ≤ 1024
+  pub short : len_of word ≤ most_bytes
   pub inside : place_of word + words_for (len_of word) ≤ frames_words

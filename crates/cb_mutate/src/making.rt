@@ -1,5 +1,5 @@
 ghost use Rattle.std.specs.Prelude.{◌≡◌, ℕ, ◌+◌, ◌*◌, ◌^◌, ◌<◌, ◌≤◌, List, length, IfOk, OnErr};
-ghost use Rattle.cb_types.specs.Config.{IsAccepted};
+ghost use Rattle.cb_types.specs.Config.{IsAccepted, most_bytes};
 ghost use Rattle.cb_world.specs.declared.shown.Shown.{Shown};
 ghost use Rattle.cb_world.specs.Memory.{words_for};
 ghost use Rattle.cb_world.specs.Sound.{Sound};
@@ -30,7 +30,7 @@ const WORD_BYTES: usize = 8;
 /// slot nor a free frame.
 pub fn make<D: Desk>(desk: &mut D, far: &mut Far, bytes: &[u8]) -> Result<Reply, NoMemory>
     requires some_byte { 1 ≤ length bytes.now }
-    requires fits { length bytes.now ≤ 1024 }
+    requires fits { length bytes.now ≤ most_bytes }
     requires config { IsAccepted (D.settings desk.old) }
     requires sound { (s : Shown) × D.shows desk.old s × Sound s far.old }
     ensures make { IfOk result (λ reply. Performs (λ es. D.run desk.old es desk.new)
@@ -60,7 +60,7 @@ pub fn make<D: Desk>(desk: &mut D, far: &mut Far, bytes: &[u8]) -> Result<Reply,
 fn write_new<D: Desk>(desk: &mut D, h: Handle, version: u64, place: u32, bytes: &[u8])
     requires handle { h.n < (D.settings desk.old).handles }
     requires some_byte { 1 ≤ length bytes.now }
-    requires fits { length bytes.now ≤ 1024 }
+    requires fits { length bytes.now ≤ most_bytes }
     requires config { IsAccepted (D.settings desk.old) }
     requires new { (s : Shown) × D.shows desk.old s
         × IsNewAt s h.n version place (length bytes.now) }
@@ -80,7 +80,7 @@ fn write_new<D: Desk>(desk: &mut D, h: Handle, version: u64, place: u32, bytes: 
 
 /// Stores the bytes in the words from a place on, each word once.
 fn store_bytes<D: Desk>(desk: &mut D, place: u32, bytes: &[u8])
-    requires fits { length bytes.now ≤ 1024 }
+    requires fits { length bytes.now ≤ most_bytes }
     requires memory { place + words_for (length bytes.now) ≤ 512 * (D.settings desk.old).frames }
     requires config { IsAccepted (D.settings desk.old) }
     requires owned { (s : Shown) × D.shows desk.old s × OwnsAll s place (length bytes.now) }

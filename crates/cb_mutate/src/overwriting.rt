@@ -1,5 +1,5 @@
 ghost use Rattle.std.specs.Prelude.{◌≡◌, ℕ, ◌+◌, ◌*◌, ◌<◌, ◌≤◌, List, length};
-ghost use Rattle.cb_types.specs.Config.{IsAccepted};
+ghost use Rattle.cb_types.specs.Config.{IsAccepted, most_bytes};
 ghost use Rattle.cb_world.specs.declared.shown.Shown.{Shown};
 ghost use Rattle.cb_world.specs.Memory.{words_for};
 ghost use Rattle.cb_world.specs.Claimed.{OwnsAll};
@@ -12,7 +12,7 @@ use cb_world::Desk;
 /// `bytes` from the byte number `at` on. Each word that has one of them is loaded and stored once.
 pub(crate) fn overwrite<D: Desk>(desk: &mut D, place: u32, len: u32, at: u32, bytes: &[u8])
     requires inside { at + length bytes.now ≤ len }
-    requires size { len ≤ 1024 }
+    requires size { len ≤ most_bytes }
     requires memory { place + words_for len ≤ 512 * (D.settings desk.old).frames }
     requires config { IsAccepted (D.settings desk.old) }
     requires owned { (s : Shown) × D.shows desk.old s × OwnsAll s place len }

@@ -4,10 +4,12 @@ use Rattle.cb_set.specs.SetState.{SetState, with_shard}
 use Rattle.cb_types.specs.declared.config.Config.{Config}
 use Rattle.cb_types.specs.declared.reply.Reply.{Reply}
 use Rattle.cb_world.specs.declared.shown.Shown.{Shown}
+use Rattle.cb_world.specs.Codes.{IsCodeOf}
 use Rattle.cb_world.specs.FarState.{FarState}
+use Rattle.cb_world.specs.Sets.{Kept}
 use Rattle.cb_world.specs.Sets.{set_in}
 use Rattle.cb_world.specs.Sound.{Sound}
-use Rattle.cb_world.proofs.Laws.{code_as, codes_put, own_put, Stays, StaysIf, stays_given}
+use Rattle.cb_world.proofs.Laws.{KeepCodes, batch_has, code_as, codes_kept, codes_put, have_codes, of_a_set, own_put, pair_stays, sets_have, Stays, StaysIf, stays_given}
 use Rattle.cb_rebuild.specs.RebuildStep.{IsRebuilt, RebuildStep, Restores, far_given, surveyed}
 
 -- nothing is noted of a search for a pair
@@ -27,30 +29,33 @@ positions_most : (s : Shown) (far : FarState) (id : ℕ) (set : SetState) → So
     → set_in far.sets id ≡ Some set → length set.positions ≤ 16
 positions_most s far id set sound there = (sound.away.sound.sets.shaped id set there).range.data_most
 
--- a row stands again: its set has as many places as before
+-- a row stands again: its set has the code that it had
+rebuilt_codes : (far new : FarState) (id : ℕ) (set : SetState) (r : Reply)
+    → set_in far.sets id ≡ Some set → IsRebuilt (surveyed far id) id set new r → KeepCodes far new
+rebuilt_codes far new id set r there z =
+    let kept : Kept = record { set = with_shard set z.position z.shard; committed = true } in
+    subst (KeepCodes far) (sym z.state) (codes_kept far _ refl
+    (codes_put far far.sets id kept (λ committed. code_as far set (with_shard set z.position z.shard)
+    refl (length-set set.shards z.position z.shard) (of_a_set id set there refl)) (sets_have far))
+    (batch_has far far.leaving refl) (pair_stays far far.joining refl)
+    (λ own. own_put far.sets id kept (λ committed. own id set there) own))
+
+-- and as many places as before
 rebuilt_stays : (c : Config) (s : Shown) (far new : FarState) (id : ℕ) (set : SetState) (r : Reply)
     → Sound s far → set_in far.sets id ≡ Some set → IsRebuilt (surveyed far id) id set new r
     → StaysIf c 16 far new
 rebuilt_stays c s far new id set r sound there z is =
     let most = positions_most s far id set sound there in
+    let keep = subst (KeepCodes far) z.state (rebuilt_codes far new id set r there z) in
     let e = z.state in subst (Stays c 16 far) (sym e) (record {
       configured = record {
         frames = is.frames;
         homes = is.homes;
         nodes = length-set far.nodes.nodes z.shard.node.n _ ∙ is.nodes;
         room = is.room;
-        codes = record {
-          sets = codes_put c far.sets id
-              (record { set = with_shard set z.position z.shard; committed = true })
-              (λ committed. code_as c set (with_shard set z.position z.shard) refl
-              (length-set set.shards z.position z.shard) (is.codes.sets id set there)) is.codes.sets;
-          batch = is.codes.batch;
-          pair = is.codes.pair;
-          own = own_put far.sets id
-              (record { set = with_shard set z.position z.shard; committed = true })
-              (λ committed. is.codes.own id set there) is.codes.own;
-        };
+        codes = have_codes (IsCodeOf c) far _ keep is.codes;
       };
+      codes = keep;
       rises = record {
         turns = refl;
         by_job = refl;

@@ -70,6 +70,7 @@ far sets room = record {
   homes = [];
   nodes = empty_nodes 6 room;
   members = members;
+  code = record { k = 2; r = 1 };
   leaving = None;
   joining = None;
   counts = record { turns = 0; by_job = []; sets = 3; keys = 10 };

@@ -12,11 +12,12 @@ use Rattle.cb_world.specs.declared.entry.Entry.{Entry}
 use Rattle.cb_world.specs.declared.object.Object.{Object}
 use Rattle.cb_world.specs.declared.object.Object.TheVariants as is
 use Rattle.cb_world.specs.declared.shown.Shown.{Shown}
+use Rattle.cb_world.specs.Codes.{IsCodeOf}
 use Rattle.cb_world.specs.Empty.{empty_far, empty_shown}
 use Rattle.cb_world.specs.FarState.{FarState}
 use Rattle.cb_world.specs.LocalSound.{LiesAt}
 use Rattle.cb_world.specs.Shown.{Fits, never, object_at, version_at}
-use Rattle.cb_world.proofs.Laws.{empty_sound, empty_world_sound}
+use Rattle.cb_world.proofs.Laws.{codes_stay, empty_sound, empty_world_sound, have_codes}
 use Rattle.cb_rule.specs.declared.view.View.{View}
 use Rattle.cb_rule.specs.History.{Value, WasNow, newest, no_value, top}
 use Rattle.cb_rule.specs.Lists.{total, Each}
@@ -52,12 +53,8 @@ stood_empty first c pos accepted = let world = empty_world_sound c accepted in
         homes = f.homes;
         nodes = f.nodes;
         room = f.room;
-        codes = record {
-          sets = f.codes.sets;
-          batch = f.codes.batch;
-          pair = f.codes.pair;
-          own = f.codes.own;
-        };
+        codes = have_codes (IsCodeOf c) (empty_far 1 c) (empty_far first c)
+            (codes_stay (empty_far 1 c) (empty_far first c) refl refl refl refl) f.codes;
       };
       counted = record {
         kinds = n.kinds;

@@ -11,9 +11,10 @@ use Rattle.cb_types.specs.Config.{IsAccepted}
 use Rattle.cb_types.specs.declared.job.Job.TheVariants.{Evict}
 use Rattle.cb_world.specs.declared.event.Event.TheVariants.{Looked}
 use Rattle.cb_world.specs.declared.shown.Shown.{Shown}
+use Rattle.cb_world.specs.Codes.{IsCodeOf}
 use Rattle.cb_world.specs.Empty.{empty_far, empty_shown}
 use Rattle.cb_world.specs.FarState.{FarState}
-use Rattle.cb_world.proofs.Laws.{recounted_sound}
+use Rattle.cb_world.proofs.Laws.{codes_stay, have_codes, recounted_sound}
 use Rattle.cb_rule.specs.declared.turn.Turn.{Turn}
 use Rattle.cb_rule.specs.declared.view.View.{View}
 use Rattle.cb_rule.specs.Lists.{total, Each}
@@ -51,12 +52,8 @@ stood n few = let e = stood_empty 3 pair_of (lit≤ tt) accepted in
         homes = f.homes;
         nodes = f.nodes;
         room = f.room;
-        codes = record {
-          sets = f.codes.sets;
-          batch = f.codes.batch;
-          pair = f.codes.pair;
-          own = f.codes.own;
-        };
+        codes = have_codes (IsCodeOf pair_of) (empty_far 3 pair_of) (far n)
+            (codes_stay (empty_far 3 pair_of) (far n) refl refl refl refl) f.codes;
       };
       counted = record {
         kinds = refl;

@@ -1,10 +1,11 @@
 -- A request has one phrase, and each phrase is that of one request.
-use Rattle.std.proofs.Common.{◌≡◌, ℕ, ◌≤◌, List, [], ◌∷◌, length, Result, Ok, Err, ◌⊎◌, inl, inr, refl, sym, ap, ◌∙◌, arith}
+use Rattle.std.proofs.Common.{◌≡◌, ℕ, ◌≤◌, List, [], ◌∷◌, length, Result, Ok, Err, ◌⊎◌, inl, inr, refl, sym, ap, ◌∙◌, arith, ◌*◌}
 use Rattle.std.specs.Prelude.{codes}
 use Rattle.std.specs.Str.Parse.{digits_value}
 use Rattle.hex.specs.Hex.{decode_of}
 use Rattle.hex.specs.declared.error.FromHexError.{FromHexError}
 use Rattle.hex.proofs.HexLemmas.{decode_of-encode_lower}
+use Rattle.cb_types.specs.Config.{most_bytes}
 use Rattle.cb_types.specs.declared.request.Request.{Request}
 use Rattle.cb_types.specs.declared.request.Request.TheVariants as request
 use Rattle.cb_script.specs.declared.fault.Reason.{Reason}
@@ -101,7 +102,7 @@ has_change_hex : (bytes : List ℕ) → IsChange bytes → IsHexadecimal (change
 has_change_hex [] change = inr refl
 has_change_hex (b ∷ bytes) change = inl (contents_hexadecimal (b ∷ bytes) (contents_of_change b bytes change)).0
 
-has_change_length : (bytes : List ℕ) → IsChange bytes → length (change_text bytes) ≤ 2048
+has_change_length : (bytes : List ℕ) → IsChange bytes → length (change_text bytes) ≤ 2 * most_bytes
 has_change_length [] change = omega arith
 has_change_length (b ∷ bytes) change = (contents_hexadecimal (b ∷ bytes) (contents_of_change b bytes change)).1
 

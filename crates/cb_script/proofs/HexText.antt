@@ -5,6 +5,7 @@ use Rattle.std.proofs.lemmas.Bool.{cases_lt, agree_below_at, eqb-true, leb-true,
 use Rattle.std.proofs.lemmas.List.Elements.{All-nil, All-cons, All-head, All-tail, All-get_or}
 use Rattle.hex.specs.Hex.{IsBytes, lower_digits, encode_with, encode_lower, decode_of}
 use Rattle.hex.proofs.HexLemmas.{length-encode_with, decode_of-encode_lower}
+use Rattle.cb_types.specs.Config.{most_bytes}
 use Rattle.cb_script.specs.Form.{IsContents}
 use Rattle.cb_script.specs.declared.digits.TheConstants.{VALUES}
 use Rattle.cb_script.specs.Hexadecimal.{IsLowerDigit, IsHexadecimal}
@@ -102,7 +103,7 @@ value_of_digit c byte lower =
 
 -- ---- contents
 
-pub contents_spelled : (text bytes : List ℕ) → 0 < length text → length text ≤ 2048 → All (λ b. b < 256) bytes → text ≡ encode_lower bytes
+pub contents_spelled : (text bytes : List ℕ) → 0 < length text → length text ≤ 2 * most_bytes → All (λ b. b < 256) bytes → text ≡ encode_lower bytes
     → IsContents bytes × (text ≡ encode_lower bytes)
 contents_spelled text bytes some few each is =
     let n : length text ≡ 2 * length bytes = ap length is ∙ length-encode_with lower_digits bytes in
@@ -116,7 +117,7 @@ lower_encoded (b ∷ bytes) each =
     All-cons IsLowerDigit (get_or lower_digits (b / 16) 0) (get_or lower_digits (b % 16) 0 ∷ encode_lower bytes) (digits_are_lower (b / 16) (omega arith))
     (All-cons IsLowerDigit (get_or lower_digits (b % 16) 0) (encode_lower bytes) (digits_are_lower (b % 16) (omega arith)) (lower_encoded bytes (All-tail (λ b. b < 256) b bytes each)))
 
-pub contents_hexadecimal : (bytes : List ℕ) → IsContents bytes → IsHexadecimal (encode_lower bytes) × (length (encode_lower bytes) ≤ 2048)
+pub contents_hexadecimal : (bytes : List ℕ) → IsContents bytes → IsHexadecimal (encode_lower bytes) × (length (encode_lower bytes) ≤ 2 * most_bytes)
 contents_hexadecimal bytes contents =
     let n = length-encode_with lower_digits bytes in
     let some = contents.some in

@@ -1,7 +1,8 @@
 -- Requests of verbs, and the rules that their words keep.
-use Rattle.std.proofs.Common.{◌≡◌, ℕ, ◌<◌, ◌≤◌, List, length, ◌⊎◌, refl, sym, ap, ◌∙◌}
+use Rattle.std.proofs.Common.{◌≡◌, ℕ, ◌<◌, ◌≤◌, List, length, ◌⊎◌, refl, sym, ap, ◌∙◌, ◌*◌}
 use Rattle.std.specs.Prelude.{codes}
 use Rattle.hex.specs.Hex.{encode_lower}
+use Rattle.cb_types.specs.Config.{most_bytes}
 use Rattle.cb_types.specs.declared.request.Request.TheVariants as request
 use Rattle.cb_script.specs.declared.fault.Reason.{Reason}
 use Rattle.cb_script.specs.declared.fault.Reason.TheVariants as reasons
@@ -54,7 +55,7 @@ module _ (place : LinePlace) (lane : ℕ) where
     making_name_fault reasons.Known fault = least_known (Rule place lane (Phrase.Making name hex)) tt tt tt tt tt tt fault.0 fault.1
     making_name_fault _ fault = absurd fault
 
-    pub making_hex_fault : (reason : Reason) → IsName name → IsNameNew place.before name → HexFault (IsHexadecimal hex) (length hex ≤ 2048) reason → IsLeast (Rule place lane (Phrase.Making name hex)) reason
+    pub making_hex_fault : (reason : Reason) → IsName name → IsNameNew place.before name → HexFault (IsHexadecimal hex) (length hex ≤ 2 * most_bytes) reason → IsLeast (Rule place lane (Phrase.Making name hex)) reason
     making_hex_fault reasons.Hex is new fault = least_hex (Rule place lane (Phrase.Making name hex)) tt tt tt tt tt tt is new tt fault
     making_hex_fault reasons.Length is new fault = least_length (Rule place lane (Phrase.Making name hex)) tt tt tt tt tt tt is new tt fault.0 fault.1
     making_hex_fault _ is new fault = absurd fault
@@ -64,7 +65,7 @@ module _ (place : LinePlace) (lane : ℕ) where
     making_name_refused (Broken reason) fault = making_name_fault reason fault
     making_name_refused NoMemory fault = tt
 
-    pub making_hex_refused : (e : Refusal) → IsName name → IsNameNew place.before name → RefusesBy e (HexFault (IsHexadecimal hex) (length hex ≤ 2048))
+    pub making_hex_refused : (e : Refusal) → IsName name → IsNameNew place.before name → RefusesBy e (HexFault (IsHexadecimal hex) (length hex ≤ 2 * most_bytes))
         → RefusesBy e (IsLeast (Rule place lane (Phrase.Making name hex)))
     making_hex_refused (Broken reason) is new fault = making_hex_fault reason is new fault
     making_hex_refused NoMemory is new fault = tt
@@ -72,7 +73,7 @@ module _ (place : LinePlace) (lane : ℕ) where
   -- ---- a write
 
   module _ (name at hex : List ℕ) where
-    pub writing_stands : (n : ℕ) (bytes : List ℕ) → IsName name → KnowsName place.before lane name → IsNumber at n × (n ≤ 1024) → IsChange bytes × (hex ≡ change_text bytes) → MayStand place lane (Phrase.Writing name at hex) (request.Write name n bytes)
+    pub writing_stands : (n : ℕ) (bytes : List ℕ) → IsName name → KnowsName place.before lane name → IsNumber at n × (n ≤ most_bytes) → IsChange bytes × (hex ≡ change_text bytes) → MayStand place lane (Phrase.Writing name at hex) (request.Write name n bytes)
     writing_stands n bytes is known_name start change = record {
       spelled = ap (λ (w : List ℕ). Phrase.Writing name w (change_text bytes)) (sym start.0.1) ∙ ap (λ (t : List ℕ). Phrase.Writing name at t) (sym change.1);
       request = (is, start.1, change.0);
@@ -85,15 +86,15 @@ module _ (place : LinePlace) (lane : ℕ) where
     writing_name_fault reasons.Known fault = least_known (Rule place lane (Phrase.Writing name at hex)) tt tt tt tt tt tt fault.0 fault.1
     writing_name_fault _ fault = absurd fault
 
-    pub writing_start_fault : IsName name → KnowsName place.before lane name → ((n : ℕ) → IsNumber at n × (n ≤ 1024) → ⊥) → IsLeast (Rule place lane (Phrase.Writing name at hex)) reasons.Number
+    pub writing_start_fault : IsName name → KnowsName place.before lane name → ((n : ℕ) → IsNumber at n × (n ≤ most_bytes) → ⊥) → IsLeast (Rule place lane (Phrase.Writing name at hex)) reasons.Number
     writing_start_fault is known_name none = least_number (Rule place lane (Phrase.Writing name at hex)) tt tt tt tt tt tt is known_name (λ some. none some.0 (some.1, some.2))
 
-    pub writing_hex_fault : (reason : Reason) (n : ℕ) → IsName name → KnowsName place.before lane name → IsNumber at n × (n ≤ 1024) → HexFault (IsHexadecimal hex ⊎ (hex ≡ codes "-")) (length hex ≤ 2048) reason → IsLeast (Rule place lane (Phrase.Writing name at hex)) reason
+    pub writing_hex_fault : (reason : Reason) (n : ℕ) → IsName name → KnowsName place.before lane name → IsNumber at n × (n ≤ most_bytes) → HexFault (IsHexadecimal hex ⊎ (hex ≡ codes "-")) (length hex ≤ 2 * most_bytes) reason → IsLeast (Rule place lane (Phrase.Writing name at hex)) reason
     writing_hex_fault reasons.Hex n is known_name start fault = least_hex (Rule place lane (Phrase.Writing name at hex)) tt tt tt tt tt tt is known_name (n, start.0, start.1) fault
     writing_hex_fault reasons.Length n is known_name start fault = least_length (Rule place lane (Phrase.Writing name at hex)) tt tt tt tt tt tt is known_name (n, start.0, start.1) fault.0 fault.1
     writing_hex_fault _ n is known_name start fault = absurd fault
 
-    pub writing_refused : (e : Refusal) (n : ℕ) → IsName name → KnowsName place.before lane name → IsNumber at n × (n ≤ 1024) → RefusesBy e (HexFault (IsHexadecimal hex ⊎ (hex ≡ codes "-")) (length hex ≤ 2048))
+    pub writing_refused : (e : Refusal) (n : ℕ) → IsName name → KnowsName place.before lane name → IsNumber at n × (n ≤ most_bytes) → RefusesBy e (HexFault (IsHexadecimal hex ⊎ (hex ≡ codes "-")) (length hex ≤ 2 * most_bytes))
         → RefusesBy e (IsLeast (Rule place lane (Phrase.Writing name at hex)))
     writing_refused (Broken reason) n is known_name start fault = writing_hex_fault reason n is known_name start fault
     writing_refused NoMemory n is known_name start fault = tt

@@ -1,7 +1,7 @@
 -- Which scripts there are, and which bytes spell one.
 use Rattle.std.specs.Prelude.{◌≡◌, ℕ, ◌+◌, ◌<◌, ◌≤◌, ◌⊎◌, List, [], ◌∷◌, ◌++◌, length, All}
 use Rattle.std.specs.List.{AllByRecursion}
-use Rattle.cb_types.specs.Config.{IsAccepted}
+use Rattle.cb_types.specs.Config.{IsAccepted, most_bytes}
 use Rattle.cb_types.specs.declared.request.Request.{Request}
 use Rattle.cb_types.specs.declared.request.Request.TheVariants.{Make, Read, Write, Free, Pin, Peek, Unpin, Filter, Crash, Join}
 use Rattle.cb_script.specs.declared.verb.BareVerb.{BareVerb}
@@ -23,21 +23,21 @@ pub record IsName (name : List ℕ) : Type 0 where
   pub few : length name ≤ 16
   pub each : All IsNameByte name
 
--- the bytes of a make: 1 to 1,024 of them
+-- the bytes of a make: 1 to `most_bytes` of them
 pub record IsContents (bytes : List ℕ) : Type 0 where
   pub some : 1 ≤ length bytes
-  pub few : length bytes ≤ 1024
+  pub few : length bytes ≤ most_bytes
   pub each : All (λ b. b < 256) bytes
 
--- the bytes of a write: 0 to 1,024 of them
+-- the bytes of a write: 0 to `most_bytes` of them
 pub record IsChange (bytes : List ℕ) : Type 0 where
-  pub few : length bytes ≤ 1024
+  pub few : length bytes ≤ most_bytes
   pub each : All (λ b. b < 256) bytes
 
 -- the request's name, numbers and bytes have their forms, where there are so many nodes
 abbrev pub IsRequest : ℕ → Request → Type 0
 IsRequest nodes (Make name bytes) = IsName name × IsContents bytes
-IsRequest nodes (Write name at bytes) = IsName name × (at ≤ 1024) × IsChange bytes
+IsRequest nodes (Write name at bytes) = IsName name × (at ≤ most_bytes) × IsChange bytes
 IsRequest nodes (Read name) = IsName name
 IsRequest nodes (Free name) = IsName name
 IsRequest nodes (Pin name) = IsName name

@@ -1,7 +1,8 @@
 -- What each reason's rule asks of a line.
-use Rattle.std.specs.Prelude.{◌≡◌, ℕ, ◌^◌, ◌<◌, ◌≤◌, ◌⊎◌, List, ◌∷◌, length, codes}
+use Rattle.std.specs.Prelude.{◌≡◌, ℕ, ◌^◌, ◌<◌, ◌≤◌, ◌⊎◌, List, ◌∷◌, length, codes, ◌*◌}
 use Rattle.std.specs.List.{AllByRecursion}
 use Rattle.std.specs.Fmt.{decimal}
+use Rattle.cb_types.specs.Config.{most_bytes}
 use Rattle.cb_script.specs.declared.fault.Reason.{Reason}
 use Rattle.cb_script.specs.declared.fault.Reason.TheVariants as reasons
 use Rattle.cb_script.specs.declared.script.Line.{Line}
@@ -40,10 +41,10 @@ HasKnown place lane (Phrase.Writing name at hex) = KnowsName place.before lane n
 HasKnown place lane (Phrase.Naming verb name) = KnowsName place.before lane name
 HasKnown place lane _ = Unit {0}
 
--- NODE is a number below the nodes, and AT a number up to 1,024
+-- NODE is a number below the nodes, and AT a number up to the most bytes of an object
 abbrev pub HasNumber : LinePlace → Phrase → Type 0
 HasNumber place (Phrase.Facing verb node) = (n : ℕ) × IsNumber node n × (n < place.nodes)
-HasNumber place (Phrase.Writing name at hex) = (n : ℕ) × IsNumber at n × (n ≤ 1024)
+HasNumber place (Phrase.Writing name at hex) = (n : ℕ) × IsNumber at n × (n ≤ most_bytes)
 HasNumber place _ = Unit {0}
 
 -- HEX is lower-case hexadecimal, and may be `-` in a write
@@ -52,10 +53,10 @@ HasHex (Phrase.Making name hex) = IsHexadecimal hex
 HasHex (Phrase.Writing name at hex) = IsHexadecimal hex ⊎ (hex ≡ codes "-")
 HasHex _ = Unit {0}
 
--- HEX has two digits for each of 1,024 bytes at the most
+-- HEX has two digits for each of the most bytes of an object
 abbrev pub HasLength : Phrase → Type 0
-HasLength (Phrase.Making name hex) = length hex ≤ 2048
-HasLength (Phrase.Writing name at hex) = length hex ≤ 2048
+HasLength (Phrase.Making name hex) = length hex ≤ 2 * most_bytes
+HasLength (Phrase.Writing name at hex) = length hex ≤ 2 * most_bytes
 HasLength _ = Unit {0}
 
 -- what each reason asks of a phrase behind this lane; the others ask nothing of it

@@ -1,5 +1,6 @@
-ghost use Rattle.std.specs.Prelude.{◌≡◌, ◌↔◌, ◌≤◌, ◌⊎◌, codes, length, IsTrue};
+ghost use Rattle.std.specs.Prelude.{◌≡◌, ◌↔◌, ◌*◌, ◌≤◌, ◌⊎◌, codes, length, IsTrue};
 ghost use Rattle.hex.specs.Hex.{encode_lower};
+ghost use Rattle.cb_types.specs.Config.{most_bytes};
 ghost use Rattle.cb_script.specs.Form.{IsChange, IsContents};
 ghost use Rattle.cb_script.specs.Hexadecimal.{IsLowerDigit, IsHexadecimal};
 ghost use Rattle.cb_script.specs.Phrase.{change_text};
@@ -8,17 +9,17 @@ ghost use Rattle.cb_script.specs.Reading.{ReadsAs, HexFault};
 use crate::digits::spelled_bytes;
 use crate::fault::{Reason, Refusal};
 use crate::verb::is_word;
-use cb_types::Bytes;
+use cb_types::{Bytes, MOST_BYTES};
 use std::alloc::Global;
 
-/// The longest contents have so many digits: two for each of 1,024 bytes.
-const MOST_DIGITS: usize = 2048;
+/// The longest contents have so many digits: two for each of its bytes.
+const MOST_DIGITS: usize = 2 * MOST_BYTES as usize;
 
-/// The bytes of a make: 1 to 1,024 of them, in lower-case hexadecimal.
+/// The bytes of a make: 1 to `MOST_BYTES` of them, in lower-case hexadecimal.
 pub(crate) fn contents_of(alloc: Global, text: &[u8]) -> Result<Bytes, Refusal>
     ensures { ReadsAs result
         (λ bytes. IsContents bytes × (text.now ≡ encode_lower bytes))
-        (HexFault (IsHexadecimal text.now) (length text.now ≤ 2048)) }
+        (HexFault (IsHexadecimal text.now) (length text.now ≤ 2 * most_bytes)) }
 {
     if text.len() > MOST_DIGITS {
         // That one of them is no digit is told before that there are too many.
@@ -36,11 +37,11 @@ pub(crate) fn contents_of(alloc: Global, text: &[u8]) -> Result<Bytes, Refusal>
     }
 }
 
-/// The bytes of a write: 0 to 1,024 of them, in lower-case hexadecimal, and `-` for none.
+/// The bytes of a write: 0 to `MOST_BYTES` of them, in lower-case hexadecimal, and `-` for none.
 pub(crate) fn change_of(alloc: Global, text: &[u8]) -> Result<Bytes, Refusal>
     ensures { ReadsAs result
         (λ bytes. IsChange bytes × (text.now ≡ change_text bytes))
-        (HexFault (IsHexadecimal text.now ⊎ (text.now ≡ codes "-")) (length text.now ≤ 2048)) }
+        (HexFault (IsHexadecimal text.now ⊎ (text.now ≡ codes "-")) (length text.now ≤ 2 * most_bytes)) }
 {
     if is_word(text, b"-") {
         return Ok(Bytes::from(Vec::new(alloc)));

@@ -1,16 +1,17 @@
 ghost use Rattle.std.specs.Prelude.{◌≡◌, ◌<◌, ◌≤◌, ◌^◌};
 ghost use Rattle.std.specs.Str.Parse.{AllDigits, digits_value};
+ghost use Rattle.cb_types.specs.Config.{most_bytes};
 ghost use Rattle.cb_script.specs.Found.{Finds};
 ghost use Rattle.cb_script.specs.Rules.{IsNumber};
 ghost use Rattle.cb_script.specs.Spelling.{setting};
 
-use cb_types::{Lane, NodeId};
+use cb_types::{Lane, MOST_BYTES, NodeId};
 
 /// The greatest lane.
 const LAST_LANE: u32 = 15;
 
 /// The greatest place at which a write begins.
-const LAST_START: u32 = 1024;
+const LAST_START: u32 = MOST_BYTES;
 
 /// The number that the word spells: 0, or a digit 1 to 9 and at the most eight digits behind it.
 pub fn number_of(word: &[u8]) -> Option<u32>
@@ -57,9 +58,9 @@ pub(crate) fn node_of(word: &[u8], nodes: u8) -> Option<NodeId>
     Some(NodeId { n: n as u8 })
 }
 
-/// The place where a write begins, which the word spells: a number up to 1,024.
+/// The place where a write begins, which the word spells: a number up to `MOST_BYTES`.
 pub(crate) fn start_of(word: &[u8]) -> Option<u32>
-    ensures { Finds result (λ at. IsNumber word.now at × (at ≤ 1024)) }
+    ensures { Finds result (λ at. IsNumber word.now at × (at ≤ most_bytes)) }
 {
     let at = number_of(word)?;
     if at > LAST_START {

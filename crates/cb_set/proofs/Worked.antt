@@ -4,7 +4,7 @@ use Rattle.cb_member.specs.declared.names.NodeId.{NodeId}
 use Rattle.cb_member.specs.declared.names.Loss.{Loss}
 use Rattle.cb_member.specs.declared.names.Shard.{Shard}
 use Rattle.cb_member.specs.Membership.{Membership}
-use Rattle.cb_set.specs.SetState.{IsRestOf, IsSet, PositionState, SetState, dead_position, filled_position, fresh_set, is_live, live_at, parities, slot_at, with_cleared, with_position, with_shard, without_object}
+use Rattle.cb_set.specs.SetState.{IsRestOf, IsSet, PositionState, SetState, code_of, dead_position, filled_position, fresh_set, is_live, live_at, parities, slot_at, with_cleared, with_position, with_shard, without_object}
 use Rattle.cb_set.specs.Lost.{IsWhole, NodesAreMembers, least_lost, loss_of, lost, lost_at}
 use Rattle.cb_set.specs.Surviving.{surviving}
 use Rattle.cb_set.specs.Matched.{IsMatched, PositionsApart, live_mask}
@@ -85,6 +85,9 @@ all_dead = refl
 
 one_parity : parities fresh ≡ 1
 one_parity = refl
+
+one_and_one : code_of fresh ≡ record { k = 1; r = 1 }
+one_and_one = refl
 
 live_where_a_handle_is_named : live_at filled 0 ≡ true
 live_where_a_handle_is_named = refl

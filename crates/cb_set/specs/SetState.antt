@@ -2,6 +2,7 @@
 use Rattle.std.specs.Prelude.{◌≡◌, ℕ, ◌-◌, ◌^◌, ◌<◌, ◌≤◌, Bool, length, false, None, Some, Option, List, [], if◌then◌else◌, replicate, is_some, refl, slice_index_or, slice_set}
 use Rattle.std.specs.List.{list_any}
 use Rattle.std.specs.Coded.{Coded, code_by, coded×, coded_bool, coded_list, coded_option, coded_ℕ}
+use Rattle.cb_member.specs.declared.names.Code.{Code}
 use Rattle.cb_member.specs.declared.names.Shard.{Shard}
 
 -- A data position: whether it is live, and its span's slot table, with a handle at each taken slot.
@@ -51,6 +52,10 @@ fresh_set id k shards = set_of id shards (replicate k dead_position)
 -- the parities of a set: the positions beyond the data positions
 abbrev pub parities : SetState → ℕ
 parities set = length set.shards - length set.positions
+
+-- the code of a set: its data positions and its parities
+abbrev pub code_of : SetState → Code
+code_of set = record { k = length set.positions; r = parities set }
 
 -- what the data position holds
 abbrev pub position_of : SetState → ℕ → PositionState

@@ -1,11 +1,11 @@
 ghost use Rattle.std.specs.Prelude.{◌≡◌, ◌+◌, ◌-◌, ◌^◌, ◌<◌, ◌≤◌, length, Some, slice_get, is_some, nat_eq, IfOk, OnOk, OnErr};
 ghost use Rattle.std.specs.List.{list_any};
-ghost use Rattle.cb_set.specs.SetState.{IsSet, dead_position, filled_position, fresh_set, is_live, live_at, parities, position_of, slot_at, with_cleared, without_object, with_position, with_shard};
+ghost use Rattle.cb_set.specs.SetState.{IsSet, code_of, dead_position, filled_position, fresh_set, is_live, live_at, parities, position_of, slot_at, with_cleared, without_object, with_position, with_shard};
 ghost use Rattle.cb_set.specs.Matched.{live_mask};
 ghost use Rattle.cb_set.specs.Nodes.{names_elsewhere};
 
 use crate::position::Position;
-use cb_member::{NoMemory, NodeId, Shard};
+use cb_member::{Code, NoMemory, NodeId, Shard};
 use std::alloc::Global;
 use std::marker::Model;
 
@@ -83,6 +83,16 @@ impl SpanSet {
         ensures rest { result + length self.now.positions ≡ length self.now.shards }
     {
         (self.shards.len() - self.positions.len()) as u32
+    }
+
+    /// The set's code: how many data positions it has, and how many parities.
+    pub fn code(&self) -> Code
+        ensures { result ≡ code_of self.now }
+    {
+        Code {
+            k: self.k(),
+            r: self.r(),
+        }
     }
 
     /// Gives the data position that slot table; it is live where the table names a handle.

@@ -7,7 +7,6 @@ pub use Rattle.cb_shared.proofs.Known.{Keeps, call_keeps, call_made, join_keeps,
 pub use Rattle.cb_shared.proofs.Known.{peek_has, peek_keeps, pin_keeps, read_keeps, right_keeps}
 pub use Rattle.cb_shared.proofs.Known.{turn_keeps, turn_made, turns_keep, unpin_keeps, write_keeps}
 pub use Rattle.cb_shared.proofs.MadeFirst.{makes_backed, makes_first, makes_full}
-pub use Rattle.cb_shared.proofs.ReadBytes.{AreBytesFilled, IsPutInto, filled_all, filled_more}
 pub use Rattle.cb_shared.proofs.ReadParts.{grown_nothing, grown_sum}
 pub use Rattle.cb_shared.proofs.Resting.{known_below}
 pub use Rattle.cb_shared.proofs.ReadSteps.{freed_part, look_part, twice_part}

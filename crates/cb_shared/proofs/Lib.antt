@@ -11,7 +11,6 @@ mod Parting
 mod Begun
 mod WriteSteps
 mod WholeWord
-mod ReadBytes
 mod ReadSteps
 mod Tallying
 mod FirstPin

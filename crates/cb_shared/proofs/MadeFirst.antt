@@ -83,7 +83,7 @@ make_found_none : (c : Config) (bytes : List ℕ) (far new : FarState) (es : Lis
 make_found_none c bytes far new es (less, place, left) = left.0
 
 evicted_still : (c : Config) (far new : FarState) (r : Reply) (es : List Event)
-    → EvictRule c far new r es → (new.made ≡ far.made) × (new.first ≡ far.first)
+    → EvictRule far new r es → (new.made ≡ far.made) × (new.first ≡ far.first)
 evicted_still c far new r es x = elim x.answered [
   | inl few ↦ (ap (λ (f : FarState). f.made) few.state, ap (λ (f : FarState). f.first) few.state)
   | inr (inl few) ↦ (ap (λ (f : FarState). f.made) few.state, ap (λ (f : FarState). f.first) few.state)

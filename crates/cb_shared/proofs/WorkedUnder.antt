@@ -10,9 +10,10 @@ use Rattle.cb_types.specs.declared.job.Job.TheVariants as job
 use Rattle.cb_types.specs.declared.reply.Reply.TheVariants as answer
 use Rattle.cb_world.specs.declared.event.Event.TheVariants.{Looked}
 use Rattle.cb_world.specs.declared.shown.Shown.{Shown}
+use Rattle.cb_world.specs.Codes.{IsCodeOf}
 use Rattle.cb_world.specs.Empty.{empty_far, empty_shown}
 use Rattle.cb_world.specs.FarState.{FarState}
-use Rattle.cb_world.proofs.Laws.{recounted_sound}
+use Rattle.cb_world.proofs.Laws.{codes_stay, have_codes, recounted_sound}
 use Rattle.cb_core.specs.Turned.{worn}
 use Rattle.cb_rule.specs.declared.view.View.{View}
 use Rattle.cb_rule.specs.Locking.{Stood}
@@ -55,12 +56,8 @@ stood n few = let e = stood_empty 3 two (lit≤ tt) accepted in
         homes = f.homes;
         nodes = f.nodes;
         room = f.room;
-        codes = record {
-          sets = f.codes.sets;
-          batch = f.codes.batch;
-          pair = f.codes.pair;
-          own = f.codes.own;
-        };
+        codes = have_codes (IsCodeOf two) (empty_far 3 two) (far n)
+            (codes_stay (empty_far 3 two) (far n) refl refl refl refl) f.codes;
       };
       counted = record {
         kinds = refl;

@@ -1,6 +1,7 @@
 //! Reads, writes, makes and frees that try again until they are answered. Each try is a step or a
 //! turn of its own, and waits where others stand in its way; nothing else waits but the turns.
 ghost use Rattle.std.specs.Prelude.{◌≡◌, ◌≤◌, ℕ, true, false, length, None, Some, IfOk, OnErr};
+ghost use Rattle.cb_types.specs.Config.{most_bytes};
 ghost use Rattle.cb_types.specs.declared.job.Job.TheVariants as jobs;
 ghost use Rattle.cb_types.specs.declared.reply.Reply.{Reply};
 ghost use Rattle.cb_shared.specs.declared.answers.WriteAnswer.TheVariants as places;
@@ -112,7 +113,7 @@ impl Shared {
         bytes: &[u8],
     ) -> Result<Reply, NoMemory>
         requires of { IsPassOf self.now pass.old }
-        requires size { (1 ≤ length bytes.now) × (length bytes.now ≤ 1024) }
+        requires size { (1 ≤ length bytes.now) × (length bytes.now ≤ most_bytes) }
         ensures of { IsPassOf self.now pass.new }
         ensures make { IfOk result (λ reply. TurnGives self.now.config (jobs.Make bytes.now) reply
             pass.old.seat.me.0 pass.new.seat.me.0) }

@@ -34,7 +34,6 @@ mod writing;
 
 pub use answers::{PinAnswer, WriteAnswer};
 pub use pass::{Pass, Pin};
-pub use reading::put_word;
 pub use refused::CloseRefused;
 pub use runtime::Shared;
 pub use seal::Seal;

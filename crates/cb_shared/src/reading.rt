@@ -1,7 +1,6 @@
 //! Reads under a pin of their own, which stands beside those of the scope.
-ghost use Rattle.std.specs.Prelude.{◌≡◌, ◌⊎◌, ℕ, ◌+◌, ◌*◌, ◌<◌, ◌≤◌, length, slice_index, None};
+ghost use Rattle.std.specs.Prelude.{◌≡◌, ℕ, ◌+◌, ◌*◌, ◌<◌, ◌≤◌, length, None};
 ghost use Rattle.std.specs.Prelude.{Some, IfOk, OnErr};
-ghost use Rattle.std.specs.Int.{to_le_bytes, w64};
 ghost use Rattle.cb_ptr.specs.declared.word.State.TheVariants as state;
 ghost use Rattle.cb_ptr.specs.Word.{len_of, pins_of, state_of};
 ghost use Rattle.cb_world.specs.Memory.{bytes_in, words_for};
@@ -16,7 +15,7 @@ use crate::board::{Place, Top};
 use crate::pins::{give_pin, glance, take_pin, tell_version};
 use crate::plays::ReadPin;
 use cb_ptr::{State, unpack};
-use cb_types::{Bytes, Config, NoMemory};
+use cb_types::{Bytes, Config, NoMemory, put_word};
 use std::alloc::Global;
 
 /// The most pins that a word can count.
@@ -133,54 +132,4 @@ fn load_into(top: &Top, seat: &mut Place, config: &Config, place: u32, room: &mu
         let word = top.load::<ReadPin>(seat, first + i);
         put_word(room, i, word);
     }
-}
-
-/// Puts the first bytes of a word into the room, as many as it has place for, as word `i` of it.
-/// Takes no memory.
-#[inline(always)]
-pub fn put_word(room: &mut Bytes, i: usize, word: u64)
-    requires within { 8 * i < length room.old }
-    ensures inside { (j : ℕ) → j < 8 → 8 * i + j < length room.old
-        → slice_index room.new (8 * i + j) ≡ slice_index (to_le_bytes w64 word) j }
-    ensures outside { (p : ℕ) → (p < 8 * i) ⊎ (8 * i + 8 ≤ p)
-        → slice_index room.new p ≡ slice_index room.old p }
-    ensures sized { length room.new ≡ length room.old }
-{
-    let count = room.len();
-    let at = 8 * i;
-    if count - at < 8 {
-        put_last_bytes(room, at, word);
-    } else {
-        put_whole_word(room, at, word);
-    }
-}
-
-/// Puts all eight bytes of a word into the room, from the byte `at` on: a copy of a fixed size is
-/// one store.
-#[inline(always)]
-fn put_whole_word(room: &mut Bytes, at: usize, word: u64)
-    requires within { at + 8 ≤ length room.old }
-    ensures inside { (j : ℕ) → j < 8
-        → slice_index room.new (at + j) ≡ slice_index (to_le_bytes w64 word) j }
-    ensures outside { (p : ℕ) → (p < at) ⊎ (at + 8 ≤ p)
-        → slice_index room.new p ≡ slice_index room.old p }
-    ensures sized { length room.new ≡ length room.old }
-{
-    let bytes = word.to_le_bytes();
-    room.overwrite(at, &bytes);
-}
-
-/// Puts the first bytes of a word into the room from the byte `at` on, where fewer than eight have
-/// place.
-fn put_last_bytes(room: &mut Bytes, at: usize, word: u64)
-    requires within { at ≤ length room.old }
-    requires last { length room.old < at + 8 }
-    ensures inside { (j : ℕ) → at + j < length room.old
-        → slice_index room.new (at + j) ≡ slice_index (to_le_bytes w64 word) j }
-    ensures outside { (p : ℕ) → p < at → slice_index room.new p ≡ slice_index room.old p }
-    ensures sized { length room.new ≡ length room.old }
-{
-    let bytes = word.to_le_bytes();
-    let end = room.len() - at;
-    room.overwrite(at, &bytes[..end]);
 }

@@ -1,7 +1,7 @@
 -- Worked spans: what meets each definition, and what breaks one of its parts alone.
 use Rattle.std.proofs.Common.{◌≡◌, ℕ, List, [], ◌∷◌, Option, Some, None, refl, arith}
 use Rattle.cb_class.specs.declared.class.Class.{Class}
-use Rattle.cb_class.specs.Class.{bytes_of, slots_of, words_of}
+use Rattle.cb_class.specs.Class.{bytes_of, pages_of, slots_of, words_of}
 use Rattle.cb_span.specs.declared.temp.Temp.TheVariants.{Hot, Cold}
 use Rattle.cb_span.specs.Contents.{Contents, IsSpan, handle_at, least_empty, live_count, new_span, span_of, with_cleared, with_placed}
 use Rattle.cb_span.specs.Kept.{IsKept}
@@ -18,18 +18,18 @@ abbrev span : Contents
 span = span_of largest Cold slots
 
 is_span : IsSpan span
-unfolding slots_of bytes_of
+unfolding slots_of pages_of bytes_of
 is_span = record { in_table = omega arith; sized = refl }
 
 no_such_class : ¬ (IsSpan (span_of (record { index = 12 }) Cold slots))
 no_such_class h = absurd (omega (arith, h.in_table))
 
 a_slot_too_many : ¬ (IsSpan (span_of largest Cold (None ∷ slots)))
-unfolding slots_of bytes_of
+unfolding slots_of pages_of bytes_of
 a_slot_too_many h = absurd (omega (arith, h.sized))
 
 fresh : new_span largest Hot ≡ span_of largest Hot (None ∷ None ∷ None ∷ None ∷ [])
-unfolding slots_of bytes_of
+unfolding slots_of pages_of bytes_of
 fresh = refl
 
 taken : handle_at span 2 ≡ Some 9

@@ -1,7 +1,7 @@
 -- The lemmas of this crate that other crates cite.
 pub use Rattle.cb_swapin.proofs.FarHomes.{given_known, gone_is_broken}
 pub use Rattle.cb_swapin.proofs.SlotNames.{named_within}
-pub use Rattle.cb_swapin.proofs.SwapStays.{given_stays, swap_stays, swap_step_stays}
+pub use Rattle.cb_swapin.proofs.SwapStays.{given_stays, swap_codes, swap_stays, swap_step_codes, swap_step_stays}
 pub use Rattle.cb_swapin.proofs.SwapFixed.{swap_step_fixes}
 pub use Rattle.cb_swapin.proofs.SwapAnswers.{by_answer, unavailable_answer}
 pub use Rattle.cb_swapin.proofs.SwapKeeps.{keeps_far, leaving_stays, settings_stay, step_cases, step_only_no_frame}

@@ -10,12 +10,13 @@ use Rattle.cb_types.specs.declared.reply.Reply.{Reply}
 use Rattle.cb_types.specs.declared.reply.Reply.TheVariants as answer
 use Rattle.cb_world.specs.declared.event.Event.{Event}
 use Rattle.cb_world.specs.declared.shown.Shown.{Shown}
+use Rattle.cb_world.specs.Codes.{IsCodeOf}
 use Rattle.cb_world.specs.FarState.{FarState}
 use Rattle.cb_world.specs.Fetched.{rows_needed, with_rows_given}
 use Rattle.cb_world.specs.Plain.{Words}
 use Rattle.cb_world.specs.Sets.{set_in}
 use Rattle.cb_world.specs.Sound.{Sound}
-use Rattle.cb_world.proofs.Laws.{AreOwn, SetCodes, codes_left, own_left, left_count, left_given, left_room, StaysIf, stays_given, stays_same}
+use Rattle.cb_world.proofs.Laws.{AreOwn, KeepCodes, SetCodes, batch_has, codes_kept, codes_same, codes_left, have_codes, own_left, pair_stays, sets_have, left_count, left_given, left_room, StaysIf, stays_given, stays_same}
 use Rattle.cb_swapin.specs.Fetching.{far_given}
 use Rattle.cb_swapin.specs.SwapRule.{IsSwappedTo, SwapFar, SwapRule}
 use Rattle.cb_swapin.specs.SwapStep.{IsSwapStep}
@@ -32,6 +33,17 @@ rows_most s far id p set sound there = by (lost_at far.members set.shards p) ref
     by false e = subst (λ (b : Bool). (if b then length set.positions else 1) ≤ 16) (sym e)
         (omega arith)
 
+-- its set has the code that it had
+swapped_codes : (far new : FarState) (id p : ℕ) (set : SetState) (f : ℕ)
+    → set_in far.sets id ≡ Some set → IsSwappedTo far new id p set f → KeepCodes far new
+swapped_codes far new id p set f there z =
+    codes_kept far new (ap (λ (q : FarState). q.code) z.rest)
+    (subst (SetCodes far) (sym z.sets)
+    (codes_left far far.sets id p set dead_position there (sets_have far)))
+    (batch_has far new.leaving (ap (λ (q : FarState). q.leaving) z.rest))
+    (pair_stays far new.joining (ap (λ (q : FarState). q.joining) z.rest))
+    (λ own. subst AreOwn (sym z.sets) (own_left far.sets id p set dead_position there own))
+
 -- a position was brought in
 pub swapped_stays : (c : Config) (s : Shown) (far new : FarState) (id p : ℕ) (set : SetState) (f : ℕ)
     → Sound s far → set_in far.sets id ≡ Some set → IsSwappedTo far new id p set f
@@ -44,6 +56,7 @@ swapped_stays c s far new id p set f sound there z is =
     let sets : new.counts.sets ≡ far.counts.sets = ap (λ (q : FarState). q.counts.sets) z.rest in
     let keys : new.counts.keys ≡ far.counts.keys = ap (λ (q : FarState). q.counts.keys) z.rest in
     let epoch : new.members.epoch ≡ far.members.epoch = ap (λ (q : FarState). q.members.epoch) z.rest in
+    let keep = swapped_codes far new id p set f there z in
     let most = rows_most s far id p set sound there in record {
       configured = record {
         frames = ap (λ (l : List (Option Contents)). length l) z.spans
@@ -56,14 +69,9 @@ swapped_stays c s far new id p set f sound there z is =
         room = ap (λ (q : NodesState). q.room) z.nodes
             ∙ left_room (with_rows_given far.nodes (rows_needed far.members set p))
             (with_position set p dead_position) ∙ is.room;
-        codes = record {
-          sets = subst (SetCodes c) (sym z.sets)
-              (codes_left c far.sets id p set dead_position there is.codes.sets);
-          batch = λ b at. is.codes.batch b (sym (ap (λ (q : FarState). q.leaving) z.rest) ∙ at);
-          pair = λ b at. is.codes.pair b (sym (ap (λ (q : FarState). q.joining) z.rest) ∙ at);
-          own = subst AreOwn (sym z.sets) (own_left far.sets id p set dead_position there is.codes.own);
-        };
+        codes = have_codes (IsCodeOf c) far new keep is.codes;
       };
+      codes = keep;
       rises = record {
         turns = ap (λ (q : FarState). q.counts.turns) z.rest;
         by_job = ap (λ (q : FarState). q.counts.by_job) z.rest;
@@ -83,6 +91,15 @@ swap_stays c id p s far new r es sound x = by r x.state
     by (answer.Swapped f) z = swapped_stays c s far new id p x.set f sound x.there z.0
     by q z = stays_same c 16 far new (omega arith) z.0
 
+-- a swap-in makes no other code
+pub swap_codes : (id p : ℕ) (far new : FarState) (r : Reply) (es : List Event)
+    → SwapRule id p far new r es → KeepCodes far new
+swap_codes id p far new r es x = by r x.state
+  where
+    by : (q : Reply) → SwapFar far new id p x.set es q → KeepCodes far new
+    by (answer.Swapped f) z = swapped_codes far new id p x.set f x.there z.0
+    by q z = codes_same far new z.0
+
 -- by the step of a still desk
 pub swap_step_stays : (c : Config) (x y : Words) (far new : FarState) (id p : ℕ) (r : Reply) (s : Shown)
     → Sound s far → IsSwapStep x y far new id p r → StaysIf c 16 far new
@@ -90,6 +107,12 @@ swap_step_stays c x y far new id p r s sound z =
     step_cases (StaysIf c 16 far new) x y far new id p r z
     (λ same. stays_same c 16 far new (omega arith) same.1)
     (λ f whole least e w. swapped_stays c s far new id p z.set f sound z.there w.state)
+
+pub swap_step_codes : (x y : Words) (far new : FarState) (id p : ℕ) (r : Reply)
+    → IsSwapStep x y far new id p r → KeepCodes far new
+swap_step_codes x y far new id p r z = step_cases (KeepCodes far new) x y far new id p r z
+    (λ same. codes_same far new same.1)
+    (λ f whole least e w. swapped_codes far new id p z.set f z.there w.state)
 
 -- a swap-in that found no memory may have given rows out
 pub given_stays : (c : Config) (s : Shown) (far : FarState) (id n : ℕ) (set : SetState) → Sound s far

@@ -3,7 +3,7 @@
 use Rattle.std.proofs.Common.{◌≡◌, ℕ, zero, suc, true, false, List, [], ◌∷◌, Option, Some, length, get_or, replicate, refl, sym, ap, ◌∙◌, arith, lit≤}
 use Rattle.std.specs.FinMap as map
 use Rattle.std.proofs.lemmas.List.{length-replicate}
-use Rattle.cb_class.specs.Class.{bytes_of, slots_of, words_of}
+use Rattle.cb_class.specs.Class.{bytes_of, pages_of, slots_of, words_of}
 use Rattle.cb_set.specs.SetState.{SetState}
 use Rattle.cb_span.specs.Places.{slot_place}
 use Rattle.cb_types.specs.declared.reply.Reply.TheVariants as answer
@@ -138,7 +138,7 @@ abbrev Swaps : List Event → ℕ → Type 0
 Swaps es version = IsSwappedIn 5 0 1 far new es (before version) (afterwards version)
 
 is_swapped_in : Swaps (Settled 0 343597400066 ∷ []) 1
-unfolding slots_of bytes_of
+unfolding slots_of pages_of bytes_of
 is_swapped_in = record {
   set = set;
   there = set_there;

@@ -4,7 +4,7 @@ use Rattle.std.proofs.Common.{◌≡◌, ℕ, zero, suc, Bool, true, false, ◌�
 use Rattle.std.specs.FinMap as map
 use Rattle.std.proofs.lemmas.Option.{none-some, same_Some}
 use Rattle.cb_class.specs.declared.class.Class.{Class}
-use Rattle.cb_class.specs.Class.{bytes_of, slots_of}
+use Rattle.cb_class.specs.Class.{bytes_of, pages_of, slots_of}
 use Rattle.cb_member.specs.declared.names.Loss.{Loss}
 use Rattle.cb_member.specs.Membership.{Membership}
 use Rattle.cb_node.specs.NodesState.{NodesState, empty_nodes}
@@ -62,6 +62,7 @@ far frames set = record {
   homes = Some (home 0 1) ∷ Some (home 1 0) ∷ [];
   nodes = empty_nodes 4 1;
   members = members;
+  code = record { k = 2; r = 1 };
   leaving = None;
   joining = None;
   counts = record { turns = 0; by_job = []; sets = 6; keys = 10 };
@@ -164,7 +165,7 @@ the_one (suc (suc (suc zero))) h e = absurd (none-some h e)
 the_one (suc (suc (suc (suc slot)))) h e = absurd (none-some h e)
 
 pub swapped : IsSwappedTo old new 5 0 set 1
-unfolding slots_of bytes_of
+unfolding slots_of pages_of bytes_of
 swapped = record {
   class = class;
   in_table = omega arith;

@@ -3,7 +3,7 @@
 use Rattle.std.proofs.Common.{◌≡◌, ◌≢◌, ℕ, zero, suc, Bool, true, false, ◌+◌, ◌≤◌, List, [], ◌∷◌, None, Some, length, get_or, refl, sym, ap, ◌∙◌, subst, arith, inl, inr}
 use Rattle.std.specs.FinMap as map
 use Rattle.std.proofs.lemmas.Option.{none-some, same_Some}
-use Rattle.cb_class.specs.Class.{bytes_of, slots_of, words_of}
+use Rattle.cb_class.specs.Class.{bytes_of, pages_of, slots_of, words_of}
 use Rattle.cb_gf256.specs.Rows.{row_at}
 use Rattle.cb_node.specs.NodesState.{NodesState, row_under}
 use Rattle.cb_ptr.specs.declared.word.State.TheVariants as pointer
@@ -183,7 +183,7 @@ abbrev new_at : NodesState → FarState
 new_at nodes = record new { nodes = with_rows_given nodes 1 }
 
 swapped_at : (nodes : NodesState) → IsSwappedTo (old_at nodes) (new_at nodes) 5 0 set 1
-unfolding slots_of bytes_of
+unfolding slots_of pages_of bytes_of
 swapped_at nodes = record {
   class = class;
   in_table = omega arith;

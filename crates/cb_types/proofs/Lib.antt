@@ -1,2 +1,3 @@
 pub mod Written
+mod Replaced
 pub mod WorkedConfig

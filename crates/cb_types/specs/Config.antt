@@ -4,6 +4,10 @@ use Rattle.cb_types.specs.declared.config.Config.{Config}
 use Rattle.cb_types.specs.declared.config.Field.{Field}
 use Rattle.cb_types.specs.declared.config.Field.TheVariants.{K, R, Nodes, Frames, Room, Handles, Turns}
 
+-- the most bytes of an object
+abbrev pub most_bytes : ℕ
+most_bytes = 1024
+
 -- the field is in its range
 abbrev pub IsFieldInRange : Config → Field → Type 0
 IsFieldInRange c K = (1 ≤ c.k) × (c.k ≤ 16)

@@ -3,6 +3,7 @@ use Rattle.std.proofs.Common.{◌≡◌, ◌≢◌, ℕ, Bool, ◌+◌, ◌^◌,
 use native.Mathlib.Decide.{ℕ_discrete}
 use Rattle.std.proofs.lemmas.Bool.{cases_lt}
 use Rattle.std.proofs.lemmas.List.{set-get_or, set-set, get_or_past}
+use Rattle.cb_types.specs.Config.{most_bytes}
 use Rattle.cb_class.proofs.Laws.{bytes_at_most}
 use Rattle.cb_span.specs.Contents.{Contents}
 use Rattle.cb_span.specs.Places.{slot_place}
@@ -33,7 +34,7 @@ frame_in_range spans f span there = elim (cases_lt f (length spans)) [
 
 -- an object that lies in local memory lies within it
 pub lies_within : (far : FarState) (s : Shown) (h len place : ℕ) → LocalSound s far
-    → LiesAt (object_at s h) len place → (place + words_for len ≤ length s.memory) × (len ≤ 1024)
+    → LiesAt (object_at s h) len place → (place + words_for len ≤ length s.memory) × (len ≤ most_bytes)
 lies_within far s h len place sound lies =
     let c = sound.placed.placed h len place lies in
     let x = slot_inside far s h len place sound c in

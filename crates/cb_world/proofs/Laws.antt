@@ -10,7 +10,8 @@ pub use Rattle.cb_world.proofs.Beside.{IsOutside, KeepsBeside, put_beside, put_t
 pub use Rattle.cb_world.proofs.Bridge.{put_only}
 pub use Rattle.cb_world.proofs.Choices.{few_pass, number, range_more}
 pub use Rattle.cb_world.proofs.Claimed.{avoids, back_written, held, is_claimed_at, lies, may_put_back, settled_here}
-pub use Rattle.cb_world.proofs.Codes.{AreOwn, HasCode, SetCodes, code_as, codes_left, codes_paired, codes_parted, codes_put, codes_removed, codes_stay, own_left, own_put, own_removed}
+pub use Rattle.cb_world.proofs.Codes.{SetCodes, batch_has, code_as, code_same, codes_kept, codes_left, codes_paired, codes_parted, codes_put, codes_removed, codes_same, codes_stay, codes_then, empty_codes, have_codes, no_pair_has, own_left, own_put, own_removed, pair_stays, sets_have}
+pub use Rattle.cb_world.specs.KeepCodes.{AreOwn, IsCodeIn, KeepCodes, PairHasCode, as_before, from_before, in_force, of_the_batch, of_code, of_a_set}
 pub use Rattle.cb_world.proofs.Counting.{count_next}
 pub use Rattle.cb_world.proofs.CrashNow.{BecomesGone, crash_now}
 pub use Rattle.cb_world.proofs.Dropping.{put_drops_more, node_there}

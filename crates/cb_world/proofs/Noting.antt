@@ -8,6 +8,7 @@ use Rattle.cb_member.specs.Membership.{Membership}
 use Rattle.cb_set.specs.SetState.{SetState, is_live}
 use Rattle.cb_set.specs.Matched.{IsMatched}
 use Rattle.cb_types.specs.declared.config.Config.{Config}
+use Rattle.cb_world.specs.Codes.{IsCodeOf}
 use Rattle.cb_world.specs.declared.shown.Shown.{Shown}
 use Rattle.cb_world.specs.Counts.{CountsState, with_turn}
 use Rattle.cb_world.specs.FarState.{FarState}
@@ -19,6 +20,7 @@ use Rattle.cb_world.specs.SetWord.{is_broken}
 use Rattle.cb_world.specs.Survey.{no_survey, survey_after_crash, survey_without}
 use Rattle.cb_world.specs.Sound.{Sound}
 use Rattle.cb_world.specs.World.{AreCounted, IsConfigured}
+use Rattle.cb_world.proofs.Codes.{codes_stay, have_codes}
 use Rattle.cb_world.proofs.Alike.{retold_sound}
 
 -- ---- sets and members that stay
@@ -171,10 +173,6 @@ no_pair_configured c far is = record {
   homes = is.homes;
   nodes = is.nodes;
   room = is.room;
-  codes = record {
-    sets = is.codes.sets;
-    batch = is.codes.batch;
-    pair = is.codes.pair;
-    own = is.codes.own;
-  };
+  codes = have_codes (IsCodeOf c) far (with_no_pair far)
+      (codes_stay far (with_no_pair far) refl refl refl refl) is.codes;
 }

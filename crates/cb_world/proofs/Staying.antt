@@ -10,7 +10,9 @@ use Rattle.cb_world.specs.Pairs.{HoldsNoPair}
 use Rattle.cb_world.specs.Plain.{Words}
 use Rattle.cb_world.specs.Seats.{SeatState}
 use Rattle.cb_world.specs.World.{ArePinned, IsConfigured, word_at}
-use Rattle.cb_world.proofs.Codes.{KeepCodes}
+use Rattle.cb_world.specs.Codes.{IsCodeOf}
+use Rattle.cb_world.specs.KeepCodes.{KeepCodes}
+use Rattle.cb_world.proofs.Codes.{codes_stay, have_codes}
 use Rattle.cb_world.proofs.Pins.{pinned_still}
 
 -- what is noted of a search for a pair was noted before
@@ -79,17 +81,19 @@ like_same far = record {
   homes = refl;
   nodes = refl;
   room = refl;
-  codes = λ c x. x;
+  codes = codes_stay far far refl refl refl refl;
   counts = refl;
   note = λ n e. e;
   epoch = omega arith;
   given = refl;
 }
 
--- the far state is as it is configured, its numbers rose by n at the most, and so does this of the note
+-- the far state is as it is configured, it has no other code, its numbers rose by n at the most, and so
+-- does this of the note
 pub record StaysBy (N : FarState → FarState → Type 0) (c : Config) (n : ℕ) (far new : FarState)
     : Type 0 where
   pub configured : IsConfigured c new
+  pub codes : KeepCodes far new
   pub rises : RisesBy N n far new
 
 abbrev pub Stays : Config → ℕ → FarState → FarState → Type 0
@@ -114,8 +118,9 @@ stays_like c n far new some like is =
         homes = like.homes ∙ is.homes;
         nodes = like.nodes ∙ is.nodes;
         room = like.room ∙ is.room;
-        codes = like.codes c is.codes;
+        codes = have_codes (IsCodeOf c) far new like.codes is.codes;
       };
+      codes = like.codes;
       rises = record {
         turns = ap (λ (x : CountsState). x.turns) counts;
         by_job = ap (λ (x : CountsState). x.by_job) counts;
@@ -140,12 +145,8 @@ recounted c far counts is = record {
   homes = is.homes;
   nodes = is.nodes;
   room = is.room;
-  codes = record {
-    sets = is.codes.sets;
-    batch = is.codes.batch;
-    pair = is.codes.pair;
-    own = is.codes.own;
-  };
+  codes = have_codes (IsCodeOf c) far (record far { counts = counts })
+      (codes_stay far (record far { counts = counts }) refl refl refl refl) is.codes;
 }
 
 -- rows were given out, and what is noted of the sets is other
@@ -158,13 +159,9 @@ stays_given c n given far survey most note is = record {
     homes = is.homes;
     nodes = is.nodes;
     room = is.room;
-    codes = record {
-      sets = is.codes.sets;
-      batch = is.codes.batch;
-      pair = is.codes.pair;
-      own = is.codes.own;
-    };
+    codes = have_codes (IsCodeOf c) far new keep is.codes;
   };
+  codes = keep;
   rises = record {
     turns = refl;
     by_job = refl;
@@ -175,12 +172,19 @@ stays_given c n given far survey most note is = record {
     note = note;
   };
 }
+  where
+    new : FarState
+    new = record far { nodes = record far.nodes { given = given }; survey = survey }
+
+    keep : KeepCodes far new
+    keep = codes_stay far new refl refl refl refl
 
 -- another way of what is known of the note
 pub stays_noted : (M N : FarState → FarState → Type 0) (c : Config) (n : ℕ) (far new : FarState)
     → N far new → StaysBy M c n far new → StaysBy N c n far new
 stays_noted M N c n far new note z = let r = z.rises in record {
   configured = z.configured;
+  codes = z.codes;
   rises = record {
     turns = r.turns;
     by_job = r.by_job;

@@ -74,13 +74,14 @@ keeps_all far = record {
   survey = refl;
 }
 
--- the far part of the state with other local parts
+-- the far part of the state with other local parts, and another code in force
 abbrev pub with_local : FarState → FarState → FarState
 with_local far new = record far {
   first = new.first;
   made = new.made;
   frames = new.frames;
   spans = new.spans;
+  code = new.code;
 }
 
 -- a state that keeps the far parts is the old one with its own local parts
@@ -94,6 +95,7 @@ same_away far new k = λ i. record {
   homes = k.homes i;
   nodes = k.nodes i;
   members = k.members i;
+  code = new.code;
   leaving = k.leaving i;
   joining = k.joining i;
   counts = k.counts i;

@@ -10,7 +10,7 @@ use Rattle.std.proofs.lemmas.Bool.Decides.{nat_tests}
 use Rattle.std.proofs.lemmas.List.{get_or-replicate, length-replicate}
 use Rattle.std.proofs.lemmas.List.Elements.{All-nil, All-cons, All-replicate}
 use Rattle.std.proofs.Math.Dec.{ltb}
-use Rattle.cb_class.specs.Class.{IsClassOf, bytes_of, slots_of, words_of}
+use Rattle.cb_class.specs.Class.{IsClassOf, bytes_of, pages_of, slots_of, words_of}
 use Rattle.cb_gf256.specs.Power.{power}
 use Rattle.cb_gf256.specs.Product.{◌⊗◌}
 use Rattle.cb_gf256.specs.Rows.{byte_at, row_at}
@@ -194,7 +194,7 @@ class_of_1024 = record {
 }
 
 holds : HoldsObject after row 4 0 0
-unfolding slots_of bytes_of words words_of
+unfolding slots_of pages_of bytes_of words words_of
 holds = record {
   len = 1024;
   version = 1;

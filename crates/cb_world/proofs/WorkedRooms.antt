@@ -1,12 +1,12 @@
 -- Worked examples of room at the nodes, and of the codes of sets: what meets each definition, and
 -- what breaks one part.
-use Rattle.std.proofs.Common.{◌≡◌, ℕ, zero, suc, ◌<◌, ◌≤◌, true, false, List, [], ◌∷◌, Option, None, Some, length, replicate, refl, ap, sym, ◌∙◌, arith, lit<}
+use Rattle.std.proofs.Common.{◌≡◌, ℕ, zero, suc, ◌+◌, ◌<◌, ◌≤◌, true, false, List, [], ◌∷◌, Option, None, Some, length, replicate, refl, ap, sym, subst, ◌∙◌, arith, lit<}
 use Rattle.std.specs.List.{All, AllPairs, slice_get}
 use Rattle.std.specs.FinMap as map
+use Rattle.cb_member.specs.declared.names.Code.{Code}
 use Rattle.cb_member.specs.declared.names.Shard.{Shard}
 use Rattle.cb_node.specs.NodesState.{NodesState, empty_nodes, held, with_row}
-use Rattle.cb_set.specs.SetState.{SetState, set_of}
-use Rattle.cb_types.specs.declared.config.Config.{Config}
+use Rattle.cb_set.specs.SetState.{SetState, code_of, set_of}
 use Rattle.cb_world.specs.Codes.{HaveCodes, IsPairOfCode}
 use Rattle.cb_world.specs.FarSound.{AreShardRows}
 use Rattle.cb_world.specs.FarState.{FarState}
@@ -15,7 +15,7 @@ use Rattle.cb_world.specs.Leaving.{LeavingState}
 use Rattle.cb_world.specs.Merged.{takes}
 use Rattle.cb_world.specs.Rooms.{HaveRoom}
 use Rattle.cb_world.specs.Sets.{set_in}
-use Rattle.cb_world.proofs.Codes.{codes_put, own_put}
+use Rattle.cb_world.proofs.Codes.{each_put}
 use Rattle.cb_world.proofs.WorkedFar.{at, away, committed, filled, node, set, there}
 
 -- ---- room: a row at each of two nodes
@@ -44,8 +44,12 @@ past_its_room : ¬ (AreShardRows (record (away set) { nodes = two 0 }))
 past_its_room x = let l = x.room (node 0) in let e = first_holds_one 0 in omega (arith, l, e)
 
 -- ---- codes: a committed set and a batch, each of one data position and one parity
-abbrev code : ℕ → ℕ → Config
-code k r = record { k = k; r = r; nodes = 2; frames = 2; room = 1; handles = 3; turns = 0 }
+abbrev code : ℕ → ℕ → Code
+code k r = record { k = k; r = r }
+
+-- the property: to be this code
+abbrev IsCode : ℕ → ℕ → Code → Type 0
+IsCode k r code = (code.k ≡ k) × (code.r ≡ r)
 
 abbrev leaving : ℕ → ℕ → LeavingState
 leaving frames parities = record {
@@ -59,47 +63,71 @@ leaving frames parities = record {
 abbrev holding : SetState → LeavingState → FarState
 holding x b = record (away x) { leaving = Some b }
 
-have_codes : HaveCodes (code 1 1) (holding set (leaving 1 1))
+some_same : (a b : LeavingState) → Some a ≡ Some b → a ≡ b
+some_same a b e = cc
+
+no_pair : (x : JoiningState) → None ≡ Some x → ⊥
+no_pair x e = cc
+
+none_some : (x : SetState) → None ≡ Some x → ⊥
+none_some x e = cc
+
+nothing : (id : ℕ) → set_in map.empty id ≡ None
+nothing id = grind (arith, map.gets)
+
+-- the set under the number 5 is the only one
+only : (P : ℕ → SetState → Type 0) (x : SetState) → P 5 x
+    → (id : ℕ) (y : SetState) → set_in (away x).sets id ≡ Some y → P id y
+only P x holds = each_put P map.empty 5 (committed x) (λ e. holds)
+    (λ id y e. absurd (none_some y (sym (nothing id) ∙ e)))
+
+have_codes : HaveCodes (IsCode 1 1) (holding set (leaving 1 1))
 have_codes = record {
-  sets = codes_put (code 1 1) map.empty 5 (committed set) (λ e. (refl, refl))
-      (λ id x e. absurd (none_some x (sym (nothing id) ∙ e)));
+  force = (refl, refl);
+  sets = only (λ id x. IsCode 1 1 (code_of x)) set (refl, refl);
   batch = λ b e. let same = some_same (leaving 1 1) b e in (
     ap (λ (l : LeavingState). length l.frames) (sym same),
     ap (λ (l : LeavingState). length l.parities) (sym same),
   );
   pair = λ p e. absurd (no_pair p e);
-  own = own_put map.empty 5 (committed set) (λ e. refl)
-      (λ id x e. absurd (none_some x (sym (nothing id) ∙ e)));
+  own = only (λ id x. x.id ≡ id) set refl;
 }
-  where
-    no_pair : (x : JoiningState) → None ≡ Some x → ⊥
-    no_pair x e = cc
 
-    nothing : (id : ℕ) → set_in map.empty id ≡ None
-    nothing id = grind (arith, map.gets)
+-- Two codes, for a property that both have: a set of one, and a batch and the code in force of the
+-- other.
+abbrev two_codes : FarState
+two_codes = record (holding set (leaving 2 2)) { code = code 2 2 }
 
-    none_some : (x : SetState) → None ≡ Some x → ⊥
-    none_some x e = cc
+have_both : HaveCodes (λ x. x.k ≡ x.r) two_codes
+have_both = record {
+  force = refl;
+  sets = only (λ id x. (code_of x).k ≡ (code_of x).r) set refl;
+  batch = λ b e. let same = some_same (leaving 2 2) b e in
+      subst (λ (l : LeavingState). length l.frames ≡ length l.parities) same refl;
+  pair = λ p e. absurd (no_pair p e);
+  own = only (λ id x. x.id ≡ id) set refl;
+}
 
-    some_same : (a b : LeavingState) → Some a ≡ Some b → a ≡ b
-    some_same a b e = cc
+-- which is no property of the first one alone
+not_one_alone : ¬ (HaveCodes (IsCode 1 1) two_codes)
+not_one_alone x = let e : 2 ≡ 1 = x.force.0 in omega (arith, e)
 
-set_of_another_k : ¬ (HaveCodes (code 1 1)
+set_of_another_k : ¬ (HaveCodes (IsCode 1 1)
     (holding (set_of 5 (at 0 0 ∷ at 1 1 ∷ at 2 2 ∷ []) (filled ∷ filled ∷ [])) (leaving 1 1)))
 set_of_another_k x = let e : 2 ≡ 1 = (x.sets 5 _ (there _)).0 in omega (arith, e)
 
-set_of_another_r : ¬ (HaveCodes (code 1 1)
+set_of_another_r : ¬ (HaveCodes (IsCode 1 1)
     (holding (set_of 5 (at 0 0 ∷ at 1 1 ∷ at 2 2 ∷ []) (filled ∷ [])) (leaving 1 1)))
 set_of_another_r x = let e : 2 ≡ 1 = (x.sets 5 _ (there _)).1 in omega (arith, e)
 
-batch_of_another_k : ¬ (HaveCodes (code 1 1) (holding set (leaving 2 1)))
+batch_of_another_k : ¬ (HaveCodes (IsCode 1 1) (holding set (leaving 2 1)))
 batch_of_another_k x = let e : 2 ≡ 1 = (x.batch _ refl).0 in omega (arith, e)
 
-batch_of_another_r : ¬ (HaveCodes (code 1 1) (holding set (leaving 1 2)))
+batch_of_another_r : ¬ (HaveCodes (IsCode 1 1) (holding set (leaving 1 2)))
 batch_of_another_r x = let e : 2 ≡ 1 = (x.batch _ refl).1 in omega (arith, e)
 
 -- a set is kept under the number 5 whose own number is 7
-set_of_another_number : ¬ (HaveCodes (code 1 1)
+set_of_another_number : ¬ (HaveCodes (IsCode 1 1)
     (holding (set_of 7 (at 0 0 ∷ at 1 1 ∷ []) (filled ∷ [])) (leaving 1 1)))
 set_of_another_number x = let e : 7 ≡ 5 = x.own 5 _ (there _) in omega (arith, e)
 
@@ -150,7 +178,9 @@ stepped_untaken : ¬ (IsPairOfCode 2 1 (joining (1 ∷ []) one_step))
 stepped_untaken x = let e : false ≡ true = x.done 0 (at 0 0) refl (lit< tt) in cc
 
 -- which no set and no batch has
-pair_of_another_code : ¬ (HaveCodes (code 1 1) (record (holding set (leaving 1 1)) {
+pair_of_another_code : ¬ (HaveCodes (IsCode 1 1) (record (holding set (leaving 1 1)) {
   joining = Some (joining (0 ∷ 1 ∷ []) one_step);
 }))
-pair_of_another_code x = let e : 3 ≡ 2 = (x.pair _ refl).steps in omega (arith, e)
+pair_of_another_code x =
+    let of = x.pair _ refl in let steps : 3 ≡ of.0.k + of.0.r = of.2.steps in
+    let k = of.1.0 in let r = of.1.1 in omega (arith, steps, k, r)

@@ -12,7 +12,9 @@ use Rattle.cb_types.specs.declared.order.Kept.{Kept}
 use Rattle.cb_types.specs.declared.order.Kept.TheVariants as kept
 use Rattle.cb_world.specs.declared.seats.Pin.{Pin}
 use Rattle.cb_set.specs.SetState.{SetState}
-use Rattle.cb_world.specs.Codes.{HaveCodes}
+use Rattle.cb_world.specs.Codes.{HaveCodes, IsCodeOf}
+use Rattle.cb_member.specs.Membership.{fresh_members}
+use Rattle.cb_node.specs.NodesState.{empty_nodes}
 use Rattle.cb_world.specs.FarState.{FarState}
 use Rattle.cb_world.specs.Joining.{JoiningState}
 use Rattle.cb_world.specs.Leaving.{LeavingState}
@@ -268,8 +270,14 @@ noted_too_late : AreCounted (record after_four {
 }) → ⊥
 noted_too_late c = let n = (c.no_pair 5 refl).0 in omega (arith, n)
 
--- ---- two frames, three homes, one node with room for one row, and no set
-is_configured : IsConfigured settings far
+-- ---- two frames, three homes, two nodes with room for one row, and no set
+abbrev allowing : Config
+allowing = record settings { nodes = 2 }
+
+abbrev over_two : FarState
+over_two = record far { nodes = empty_nodes 2 1; members = fresh_members 2 }
+
+is_configured : IsConfigured allowing over_two
 is_configured = record { frames = refl; homes = refl; nodes = refl; room = refl; codes = no_sets }
   where
     nothing : (id : ℕ) → set_in map.empty id ≡ None
@@ -284,29 +292,47 @@ is_configured = record { frames = refl; homes = refl; nodes = refl; room = refl;
     none_pair : (x : JoiningState) → None ≡ Some x → ⊥
     none_pair x e = cc
 
-    no_sets : HaveCodes settings far
+    no_sets : HaveCodes (IsCodeOf allowing) over_two
     no_sets = record {
+      force = record {
+        range = record {
+          data_least = lit≤ tt;
+          data_most = lit≤ tt;
+          parities_least = lit≤ tt;
+          parities_most = lit≤ tt;
+        };
+        places = lit≤ tt;
+      };
       sets = λ id x e. absurd (none_set x (sym (nothing id) ∙ e));
       batch = λ b e. absurd (none_batch b e);
       pair = λ p e. absurd (none_pair p e);
       own = λ id x e. absurd (none_set x (sym (nothing id) ∙ e));
     }
 
-frame_too_few : IsConfigured settings (record far { spans = None ∷ [] }) → ⊥
+frame_too_few : IsConfigured allowing (record over_two { spans = None ∷ [] }) → ⊥
 frame_too_few c = let n : 1 ≡ 2 = c.frames in omega (arith, n)
 
-home_too_few : IsConfigured settings (record far { homes = [] }) → ⊥
+home_too_few : IsConfigured allowing (record over_two { homes = [] }) → ⊥
 home_too_few c = let n : 0 ≡ 3 = c.homes in omega (arith, n)
 
-node_too_few : IsConfigured (record settings { nodes = 2 }) far → ⊥
-node_too_few c = let n : 1 ≡ 2 = c.nodes in omega (arith, n)
+node_too_few : IsConfigured (record allowing { nodes = 3 }) over_two → ⊥
+node_too_few c = let n : 2 ≡ 3 = c.nodes in omega (arith, n)
 
-row_too_few : IsConfigured (record settings { room = 9 }) far → ⊥
+row_too_few : IsConfigured (record allowing { room = 9 }) over_two → ⊥
 row_too_few c = let n : 1 ≡ 9 = c.room in omega (arith, n)
 
--- a batch of two data positions, where a set has one
+-- a batch of two data positions and a parity, where there are two nodes
 abbrev wide : LeavingState
 wide = record { set = 0; frames = 0 ∷ 1 ∷ []; words = []; parities = [] ∷ []; shards = [] }
 
-code_of_another_k : IsConfigured settings (record far { leaving = Some wide }) → ⊥
-code_of_another_k c = let e : 2 ≡ 1 = (c.codes.batch wide refl).0 in omega (arith, e)
+more_positions_than_nodes : IsConfigured allowing (record over_two { leaving = Some wide }) → ⊥
+more_positions_than_nodes c =
+    let n : 3 ≤ 2 = (c.codes.batch wide refl).places in omega (arith, n)
+
+-- a code is in force that has no parity
+no_parity_in_force : IsConfigured allowing (record over_two { code = record { k = 2; r = 0 } }) → ⊥
+no_parity_in_force c = let n : 1 ≤ 0 = c.codes.force.range.parities_least in omega (arith, n)
+
+-- and one that has no data
+no_data_in_force : IsConfigured allowing (record over_two { code = record { k = 0; r = 2 } }) → ⊥
+no_data_in_force c = let n : 1 ≤ 0 = c.codes.force.range.data_least in omega (arith, n)

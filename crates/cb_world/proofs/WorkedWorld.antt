@@ -5,10 +5,11 @@ use Rattle.std.proofs.lemmas.Bool.{agree_below_at, ltb-true}
 use Rattle.std.proofs.Math.Dec.{ltb}
 use Rattle.std.specs.FinMap as map
 use Rattle.cb_class.specs.declared.class.Class.{Class}
-use Rattle.cb_class.specs.Class.{IsClassOf, bytes_of, slots_of, words_of}
+use Rattle.cb_class.specs.Class.{IsClassOf, bytes_of, pages_of, slots_of, words_of}
 use Rattle.cb_frame.specs.FreeFrames.{IsFreeFrame}
 use Rattle.cb_member.specs.Membership.{fresh_members}
 use Rattle.cb_node.specs.NodesState.{empty_nodes}
+use Rattle.cb_types.specs.Config.{most_bytes}
 use Rattle.cb_span.specs.declared.temp.Temp.TheVariants.{Cold}
 use Rattle.cb_span.specs.Contents.{Contents, IsSpan, handle_at, live_count, span_of}
 use Rattle.cb_span.specs.Places.{slot_place}
@@ -56,6 +57,7 @@ far = record {
   homes = None ∷ None ∷ None ∷ [];
   nodes = empty_nodes 1 1;
   members = fresh_members 1;
+  code = record { k = 1; r = 1 };
   leaving = None;
   joining = None;
   counts = record { turns = 0; by_job = []; sets = 0; keys = 0 };
@@ -76,6 +78,11 @@ class_of_1024 = record {
 second_slot : 128 ≡ slot_place largest 0 1
 unfolding words_of bytes_of
 second_slot = refl
+
+-- an object of the most bytes that one may have fills a slot of the last class
+most_fills : most_bytes ≡ bytes_of largest
+unfolding bytes_of
+most_fills = refl
 
 are_known : AreKnown known far
 are_known = record {
@@ -105,7 +112,7 @@ are_known = record {
     versioned (suc (suc h)) below = absurd (omega (arith, below))
 
 is_span : IsSpan span
-unfolding slots_of bytes_of
+unfolding slots_of pages_of bytes_of
 is_span = record { in_table = lit< tt; sized = refl }
 
 are_frames : AreFrames far
@@ -212,7 +219,7 @@ taken_without_a_span x = absurd (let z = (x.free 1 (lit< tt)).1 refl in cc)
 slot_too_many : ¬ (AreFrames (record far {
   spans = Some (span_of largest Cold (None ∷ slots_with None (Some 0))) ∷ None ∷ [];
 }))
-unfolding slots_of bytes_of
+unfolding slots_of pages_of bytes_of
 slot_too_many x =
     absurd (let z : 5 ≡ 4 = (x.valid 0 _ refl).sized in omega (arith, z))
 

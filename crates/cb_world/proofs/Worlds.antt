@@ -11,13 +11,14 @@ use Rattle.std.specs.FinMap as map
 use Rattle.cb_ptr.specs.declared.word.State.TheVariants as word
 use Rattle.cb_ptr.specs.Word.{state_of, hot_of, pins_of}
 use Rattle.cb_world.proofs.OpenKept.{none_open}
+use Rattle.cb_world.specs.Codes.{IsCodeOf}
 use Rattle.cb_world.specs.declared.seats.Pin.{Pin}
 use Rattle.cb_world.specs.Empty.{empty_words, empty_shown, empty_far}
 use Rattle.cb_world.specs.Packed.{IsFreedLater, IsPackedAs}
 use Rattle.cb_world.specs.Shown.{never}
 use Rattle.cb_world.specs.Seats.{SeatState, Holds, idle_seat, pins_among, all_pins_on}
 use Rattle.cb_world.specs.World.{IsKnown, ArePinned, IsSoundWorld, empty_world, word_at}
-use Rattle.cb_world.proofs.Codes.{empty_codes}
+use Rattle.cb_world.proofs.Codes.{accepted_code, empty_codes}
 use Rattle.cb_world.proofs.Empty.{empty_sound, empty_shows, reads_one}
 
 known : (c : Config) → IsAccepted c → IsKnown (empty_words c) (empty_far 1 c) (empty_shown 1 c)
@@ -85,7 +86,7 @@ empty_world_sound c ok = record {
     homes = length-replicate c.handles _;
     nodes = length-replicate c.nodes (map.empty {K = ℕ});
     room = refl;
-    codes = empty_codes 1 c;
+    codes = empty_codes (IsCodeOf c) 1 c (accepted_code c ok);
   };
   shown = empty_shown 1 c;
   known = known c ok;

@@ -1,5 +1,6 @@
 -- An object that the caller has claimed, and what is known once it is settled again.
 use Rattle.std.specs.Prelude.{◌≡◌, ℕ, Bool, ◌+◌, ◌^◌, ◌<◌, ◌≤◌, List, length, slice_set}
+use Rattle.cb_types.specs.Config.{most_bytes}
 use Rattle.cb_ptr.specs.Word.{len_of, place_of}
 use Rattle.cb_world.specs.declared.object.Object.TheVariants as is
 use Rattle.cb_world.specs.declared.shown.Shown.{Shown}
@@ -21,7 +22,7 @@ pub record IsClaimedAt (s : Shown) (h word v : ℕ) (words : List ℕ) : Type 0 
   pub owned : OwnsAll s (place_of word) (len_of word)
   pub alone : (p : ℕ) → Covers (place_of word) (len_of word) p → MayLie s h p
   pub within : place_of word + words_for (len_of word) ≤ length s.memory
-  pub short : len_of word ≤ 1024
+  pub short : len_of word ≤ most_bytes
   pub handle : h < length s.objects
   pub stamp : h < length s.versions
 

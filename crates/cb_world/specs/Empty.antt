@@ -11,8 +11,8 @@ use Rattle.cb_world.specs.FarState.{FarState}
 use Rattle.cb_world.specs.Survey.{no_survey}
 use Rattle.cb_world.specs.Plain.{Words}
 
--- all frames are free, no object was made and all nodes are up without rows; makes give this
--- version
+-- all frames are free, no object was made and all nodes are up without rows; the configured code is
+-- in force, and makes give this version
 abbrev pub empty_far : ℕ → Config → FarState
 empty_far first c = record {
   first = first;
@@ -23,6 +23,7 @@ empty_far first c = record {
   homes = replicate c.handles None;
   nodes = empty_nodes c.nodes c.room;
   members = fresh_members c.nodes;
+  code = record { k = c.k; r = c.r };
   leaving = None;
   joining = None;
   counts = record { turns = 0; by_job = replicate 19 0; sets = 0; keys = 0 };

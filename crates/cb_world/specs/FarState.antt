@@ -3,6 +3,7 @@ use Rattle.std.specs.Prelude.{ℕ, Bool, List, Option, None, Some, slice_index_o
 use Rattle.cb_span.specs.Contents.{Contents, handle_at, least_empty}
 use Rattle.cb_class.specs.declared.class.Class.{Class}
 use Rattle.cb_node.specs.NodesState.{NodesState}
+use Rattle.cb_member.specs.declared.names.Code.{Code}
 use Rattle.cb_member.specs.Membership.{Membership}
 use Rattle.cb_world.specs.declared.homes.Home.{Home}
 use Rattle.cb_world.specs.Sets.{SetMap}
@@ -12,8 +13,9 @@ use Rattle.cb_world.specs.Counts.{CountsState}
 use Rattle.cb_world.specs.declared.survey.Survey.{Survey}
 
 -- the version that a make gives, and how many handles were made; free frames and the spans in the
--- others; span-sets, homes of far objects, nodes and their membership; the batch that is leaving
--- and the pair that is joining; what is counted, and what is known of how the sets stand
+-- others; span-sets, homes of far objects, nodes and their membership; the code in force, which is
+-- that of the next set; the batch that is leaving and the pair that is joining; what is counted, and
+-- what is known of how the sets stand
 pub record FarState : Type 0 where
   pub first : ℕ
   pub made : ℕ
@@ -23,6 +25,7 @@ pub record FarState : Type 0 where
   pub homes : List (Option Home)
   pub nodes : NodesState
   pub members : Membership
+  pub code : Code
   pub leaving : Option LeavingState
   pub joining : Option JoiningState
   pub counts : CountsState

@@ -24,6 +24,7 @@ pub mod Survey
 pub mod FarState
 pub mod Rooms
 pub mod Codes
+pub mod KeepCodes
 pub mod NodeChanges
 pub mod RowWords
 pub mod FrameWords

@@ -11,7 +11,7 @@ use Rattle.cb_world.specs.Shown.{hot_at}
 use Rattle.cb_world.specs.Plain.{Words, Shows, IsSized}
 pub use Rattle.cb_world.specs.Plain.{word_at}
 use Rattle.cb_world.specs.Empty.{empty_words, empty_far}
-use Rattle.cb_world.specs.Codes.{HaveCodes}
+use Rattle.cb_world.specs.Codes.{HaveCodes, IsCodeOf}
 use Rattle.cb_world.specs.FarState.{FarState}
 use Rattle.cb_world.specs.Packed.{ArePacked, AreFreedLater}
 use Rattle.cb_world.specs.Pairs.{HoldsNoPair}
@@ -69,13 +69,13 @@ pub record AreCounted (far : FarState) : Type 0 where
   pub no_pair : HoldsNoPair far
 
 -- The far state has as many frames, homes and nodes as the configuration says, a node has room for
--- as many rows, and the sets have the configured code.
+-- as many rows, and the configuration allows the code in force and those of the sets.
 pub record IsConfigured (c : Config) (far : FarState) : Type 0 where
   pub frames : length far.spans ≡ c.frames
   pub homes : length far.homes ≡ c.handles
   pub nodes : length far.nodes.nodes ≡ c.nodes
   pub room : far.nodes.room ≡ c.room
-  pub codes : HaveCodes c far
+  pub codes : HaveCodes (IsCodeOf c) far
 
 -- The world is sound.
 pub record IsSoundWorld (w : WorldState) : Type 0 where

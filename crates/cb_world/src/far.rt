@@ -10,7 +10,7 @@ use crate::sets::Sets;
 use crate::spans::Spans;
 use crate::survey::Survey;
 use cb_frame::Frames;
-use cb_member::{Members, NoMemory};
+use cb_member::{Code, Members, NoMemory};
 use cb_node::Nodes;
 use cb_types::Config;
 use std::alloc::Global;
@@ -31,6 +31,8 @@ pub struct Far {
     pub homes: Homes,
     pub nodes: Nodes,
     pub members: Members,
+    /// The code in force: that of the next set.
+    pub code: Code,
     pub leaving: Option<Leaving>,
     pub joining: Option<Joining>,
     pub counts: Counts,
@@ -57,6 +59,7 @@ impl Model for Far {
       homes = a.homes;
       nodes = a.nodes;
       members = a.members;
+      code = a.code;
       leaving = a.leaving;
       joining = a.joining;
       counts = a.counts;
@@ -90,10 +93,21 @@ impl Far {
             homes,
             nodes,
             members,
+            code: Code {
+                k: config.k,
+                r: config.r,
+            },
             leaving: None,
             joining: None,
             counts: Counts::new(),
             survey: Survey::new(),
         })
+    }
+
+    /// The code in force: that of the next set.
+    pub fn in_force(&self) -> Code
+        ensures { result ≡ self.now.code }
+    {
+        self.code
     }
 }

@@ -3,11 +3,12 @@ use Rattle.std.proofs.Common.{ℕ, ◌*◌, ◌^◌, ◌<◌, ◌≤◌, Result,
 use Rattle.std.specs.Prelude.{IfOk}
 use Rattle.cb_member.specs.declared.names.Shard.{Shard}
 use Rattle.cb_node.specs.NodesState.{with_spoiled}
+use Rattle.cb_world.specs.Codes.{IsCodeOf}
 use Rattle.cb_world.specs.FarState.{FarState}
 use Rattle.cb_world.specs.Sound.{Sound}
 use Rattle.cb_world.specs.World.{WorldState, IsSoundWorld}
 use Rattle.cb_world.specs.declared.shown.Shown.{Shown}
-use Rattle.cb_world.proofs.Laws.{none_again}
+use Rattle.cb_world.proofs.Laws.{codes_stay, have_codes, none_again}
 use Rattle.cb_scrub_world.specs.Scrub.{MayScrub, with_nodes}
 use Rattle.cb_scrub_world.specs.Spoilt.{IsSoundAgain, IsSpoilt}
 use Rattle.cb_scrub_world.proofs.Laws.{byte_is_spoilt, sound_may_scrub}
@@ -49,12 +50,8 @@ module _ (w : WorldState) (new : FarState) (sound : IsSoundWorld w)
       homes = sound.configured.homes;
       nodes = sound.configured.nodes;
       room = sound.configured.room;
-      codes = record {
-        sets = sound.configured.codes.sets;
-        batch = sound.configured.codes.batch;
-        pair = sound.configured.codes.pair;
-        own = sound.configured.codes.own;
-      };
+      codes = have_codes (IsCodeOf w.desk.settings) w.far was
+          (codes_stay w.far was refl refl refl refl) sound.configured.codes;
     };
     shown = sound.shown;
     known = record {

@@ -2,7 +2,7 @@ use Rattle.std.proofs.Common.{◌≡◌, ℕ, ◌<◌, true, false, ltb, ltb-tru
 use Rattle.std.proofs.lemmas.List.Sorted.{IsPartitionPoint-from_clause, IsPartitionedBy-ltb}
 use Rattle.std.specs.List.Sorted.{IsPartitionPoint}
 use Rattle.std.proofs.lemmas.Bool.{cases_lt}
-use Rattle.cb_class.specs.Class.{bytes_of, sizes}
+use Rattle.cb_class.specs.Class.{bytes_of, largest, sizes}
 use Rattle.cb_class.proofs.Table.{sizes_ascend, size_at}
 use Rattle.cb_class.proofs.class.class_of.Goals as goal
 
@@ -19,8 +19,8 @@ returns c =
     let in_table : index < 12 =
     elim (cases_lt index 12) [
       | inl below ↦ below
-      | inr past ↦ let last : 1024 < len =
-          ltb-true 1024 len (point.0 11 0 (omega arith) (omega arith)) in absurd (omega arith)
+      | inr past ↦ let last : largest < len =
+          ltb-true largest len (point.0 11 0 (omega arith) (omega arith)) in absurd (omega arith)
     ] in
     record {
       in_table = in_table;

@@ -11,6 +11,6 @@ returns c =
     record {
       words = same;
       at_least = omega arith;
-      at_most = omega arith;
+      at_most = omega (arith, c.class_bytes.ensures.at_most);
       fill = rw same (words_fill c.args.c c.requires);
     }

@@ -6,7 +6,7 @@ use Rattle.cb_evict.proofs.BeginParts.{number_of, none_leaving, begins_not}
 use Rattle.cb_evict.proofs.beginning.begin.Goals as goal
 
 pub returns-in-Some-clause-begun : goal.returns-in-Some-clause-begun
-returns-in-Some-clause-begun g c = begins_not (g.D.Desk.settings c.args.desk.now) c.args.far.now _
+returns-in-Some-clause-begun g c = begins_not c.args.far.now _
     c.in-Some.set (λ es. g.D.Desk.run c.args.desk.now es c.args.desk.now)
     (λ s. g.D.Desk.shows c.args.desk.now s)
     (sym (sym c.in-Some.is ∙ c.leaving_set.ensures

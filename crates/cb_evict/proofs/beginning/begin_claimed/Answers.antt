@@ -20,6 +20,10 @@ use Rattle.cb_evict.proofs.beginning.begin_claimed.Goals as goal
 pub reserve_frames-requires-clause-config : goal.reserve_frames-requires-clause-config
 reserve_frames-requires-clause-config g c = c.requires.config
 
+pub reserve_frames-requires-clause-range : goal.reserve_frames-requires-clause-range
+reserve_frames-requires-clause-range g c =
+    c.requires.configured.codes.force.range
+
 pub reserve_frames-requires-clause-count : goal.reserve_frames-requires-clause-count
 reserve_frames-requires-clause-count g c =
     ap (λ (l : List ℕ). length l) c.deref.ensures.value ∙ c.requires.taken.count
@@ -28,7 +32,7 @@ pub reserve_frames-requires-clause-there : goal.reserve_frames-requires-clause-t
 reserve_frames-requires-clause-there g c =
     subst (λ (l : List ℕ). All (λ f. (span : Contents) × (span_in c.args.far.now.spans f ≡ Some span)) l)
     (sym c.deref.ensures.value) (λ k d l.
-    let x = taken_ready _ c.args.far.now c.args.frames.items c.args.formers.items c.requires.ready.1
+    let x = taken_ready c.args.far.now c.args.frames.items c.args.formers.items c.requires.ready.1
     c.requires.taken c.requires.ready.2.sound.here (get_or c.args.frames.items k d)
     (place_in c.args.frames.items k d l) in (x.span, x.there))
 
@@ -38,7 +42,7 @@ reserve_frames-requires-clause-below g c =
     let sized = g.met.D.Desk.sized _ (played c.requires.ready.0 c.requires.ready.1) r.shown in
     subst (λ (l : List ℕ). All (λ f. f < (g.D.Desk.settings c.args.desk.now).frames) l)
     (sym c.deref.ensures.value)
-    (frames_below _ c.args.far.now c.args.frames.items c.args.formers.items c.requires.ready.1
+    (frames_below c.args.far.now c.args.frames.items c.args.formers.items c.requires.ready.1
     (played c.requires.ready.0 c.requires.ready.1) _ c.requires.taken r.sound.here r.here sized.3)
 
 pub note_batch-set-requires : goal.note_batch-set-requires
@@ -87,10 +91,10 @@ returns-in-Ok-clause-begun g c =
     let far = c.args.far.now in let frames = c.args.frames.items in let formers = c.args.formers.items in
     let config = g.D.Desk.settings c.args.desk.now in
     let shows = λ (t : Shown). g.D.Desk.shows c.args.desk.now t in
-    let y = reserves_as (λ es. g.D.Desk.run c.args.desk.now es c.reserve_frames.new.desk) shows config far
+    let y = reserves_as (λ es. g.D.Desk.run c.args.desk.now es c.reserve_frames.new.desk) shows far
     c.reserve_frames.new.far _ frames c.in-Ok.reserved.parities c.deref.ensures.value c.in-Ok.ensures.reserved in
     let x = y.loads in let reads = are_reads (LiesInOne frames) x.events x.loads in
-    let is = batch_then config far c.reserve_frames.new.far c.note_batch-set.new.far frames formers
+    let is = batch_then far c.reserve_frames.new.far c.note_batch-set.new.far frames formers
     c.in-Ok.reserved.parities c.in-Ok.reserved.shards.items y.state c.note_batch-set.ensures.state c.in-Ok.ensures.shards in
     record {
       events = x.events;
@@ -100,10 +104,10 @@ returns-in-Ok-clause-begun g c =
       done = (
         reads.quiet,
         λ before s r.
-            let all = starts config far c.note_batch-set.new.far frames formers
+            let all = starts far c.note_batch-set.new.far frames formers
             c.in-Ok.reserved.parities before x.events s
-            (are_read config far frames formers y.rows c.in-Ok.reserved.parities shows before s
-            c.requires.config r c.requires.taken y.made y.count x.made).0
+            (are_read far frames formers y.rows c.in-Ok.reserved.parities shows before s
+            c.requires.configured.codes.force.range r c.requires.taken y.made y.count x.made).0
             c.requires.none reads is r.steady r.touches in record {
               allowed = (reads.steady (played before s)).allowed;
               rule = all.begun;

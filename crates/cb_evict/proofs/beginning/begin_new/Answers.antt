@@ -10,7 +10,6 @@ use Rattle.cb_world.specs.Sound.{Sound}
 use Rattle.cb_world.specs.Still.{IsStill}
 use Rattle.cb_world.specs.World.{IsConfigured}
 use Rattle.cb_evict.specs.declared.eviction.Eviction.TheVariants.{Refused}
-use Rattle.cb_evict.specs.Beginning.{BeginsClaimed}
 use Rattle.cb_evict.specs.Evicting.{TouchesSpans}
 use Rattle.cb_evict.specs.Taking.{AreLooseNow, Takes}
 use Rattle.cb_evict.proofs.BeginParts.{begin_few, takes_begin}
@@ -40,9 +39,9 @@ pub returns-in-Few-clause-begun : goal.returns-in-Few-clause-begun
 returns-in-Few-clause-begun g c =
     let runs = λ (es : List Event). g.D.Desk.run c.args.desk.now es c.take_spans.new.desk in
     let shows = λ (s : Shown). g.D.Desk.shows c.args.desk.now s in
-    begin_few (g.D.Desk.settings c.args.desk.now) c.args.far.now c.refusal.result
+    begin_few c.args.far.now c.refusal.result
     (Refused c.in-Few.lack c.in-Few.loose c.in-Few.nodes) runs shows c.requires.none c.refusal.ensures
-    (subst (Takes runs shows (g.D.Desk.settings c.args.desk.now) c.args.far.now
+    (subst (Takes runs shows c.args.far.now
     (AreLooseNow c.args.far.now)) c.in-Few.is c.in_ok-taken.ensures.taken)
 
 pub returns-in-Few-clause-error : goal.returns-in-Few-clause-error
@@ -53,13 +52,13 @@ returns-in-Few-clause-unchanged g c = tt
 
 pub begin_claimed-requires-clause-config : goal.begin_claimed-requires-clause-config
 begin_claimed-requires-clause-config g c =
-    let taken = taken_enough _ _ _ _ _ _ _ _ c.in-Enough.is c.in_ok-taken.ensures.taken in
+    let taken = taken_enough _ _ _ _ _ _ _ c.in-Enough.is c.in_ok-taken.ensures.taken in
     let stays = g.met.D.Desk.stays _ _ taken.tries.events taken.tries.ran in
     subst IsAccepted (sym stays) c.requires.config
 
 pub begin_claimed-requires-clause-configured : goal.begin_claimed-requires-clause-configured
 begin_claimed-requires-clause-configured g c =
-    let taken = taken_enough _ _ _ _ _ _ _ _ c.in-Enough.is c.in_ok-taken.ensures.taken in
+    let taken = taken_enough _ _ _ _ _ _ _ c.in-Enough.is c.in_ok-taken.ensures.taken in
     let stays = g.met.D.Desk.stays _ _ taken.tries.events taken.tries.ran in
     subst (λ (n : Config). IsConfigured n c.args.far.now) (sym stays) c.requires.configured
 
@@ -71,13 +70,13 @@ begin_claimed-requires-clause-none g c = c.requires.none
 
 pub begin_claimed-requires-clause-taken : goal.begin_claimed-requires-clause-taken
 begin_claimed-requires-clause-taken g c =
-    let taken = taken_enough _ _ _ _ _ _ _ _ c.in-Enough.is c.in_ok-taken.ensures.taken in
+    let taken = taken_enough _ _ _ _ _ _ _ c.in-Enough.is c.in_ok-taken.ensures.taken in
     let stays = g.met.D.Desk.stays _ _ taken.tries.events taken.tries.ran in
-    taken_as _ _ c.args.far.now _ _ _ _ (sym stays) refl refl taken.taken
+    taken_as c.args.far.now _ _ _ _ refl refl taken.taken
 
 pub begin_claimed-requires-clause-ready : goal.begin_claimed-requires-clause-ready
 begin_claimed-requires-clause-ready g c =
-    let taken = taken_enough _ _ _ _ _ _ _ _ c.in-Enough.is c.in_ok-taken.ensures.taken in
+    let taken = taken_enough _ _ _ _ _ _ _ c.in-Enough.is c.in_ok-taken.ensures.taken in
     let x = taken.tries in let s = c.requires.sound.0 in (
       x.events,
       s,
@@ -88,20 +87,17 @@ begin_claimed-requires-clause-ready g c =
 
 pub returns-in-Enough-clause-begun : goal.returns-in-Enough-clause-begun
 returns-in-Enough-clause-begun g c =
-    let taken = taken_enough _ _ _ _ _ _ _ _ c.in-Enough.is c.in_ok-taken.ensures.taken in
+    let taken = taken_enough _ _ _ _ _ _ _ c.in-Enough.is c.in_ok-taken.ensures.taken in
     let stays = g.met.D.Desk.stays _ _ taken.tries.events taken.tries.ran in
     if_ok _ _ _ c.begin_claimed.result c.begin_claimed.ensures.reply c.begin_claimed.ensures.begun
     (λ r is y. takes_begin r (joins (λ es fs a b. g.met.D.Desk.more _ _ _ _ _ a b)
     (λ es s ran a. (g.met.D.Desk.follows _ _ es s ran a).1)) taken
-    (subst (λ (n : Config). BeginsClaimed
-    (λ es. g.D.Desk.run c.take_spans.new.desk es c.begin_claimed.new.desk)
-    (λ s. g.D.Desk.shows c.take_spans.new.desk s) n c.args.far.now c.begin_claimed.new.far
-    c.in-Enough.frames.items c.in-Enough.formers.items) stays y)
+    y
     c.requires.none is c.requires.sound)
 
 pub returns-in-Enough-clause-error : goal.returns-in-Enough-clause-error
 returns-in-Enough-clause-error g c =
-    let taken = taken_enough _ _ _ _ _ _ _ _ c.in-Enough.is c.in_ok-taken.ensures.taken in
+    let taken = taken_enough _ _ _ _ _ _ _ c.in-Enough.is c.in_ok-taken.ensures.taken in
     on_err _ _ c.begin_claimed.result
     (both_err _ _ c.begin_claimed.result c.begin_claimed.ensures.error c.begin_claimed.ensures.unchanged)
     (λ (y, same).

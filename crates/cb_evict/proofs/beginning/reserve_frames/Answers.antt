@@ -1,22 +1,20 @@
 use Rattle.std.proofs.lemmas.Result.{IfOk-from_err}
 use Rattle.std.proofs.Common.{◌≡◌, ◌+◌, ℕ, List, [], length, sym, refl, ap, ◌∙◌, subst, arith}
+use Rattle.cb_member.specs.declared.names.Code.{Code}
 use Rattle.cb_member.specs.declared.names.Shard.{Shard}
-use Rattle.cb_types.specs.declared.config.Config.{Config}
-use Rattle.cb_types.specs.declared.config.Field.TheVariants.{K, R}
 use Rattle.cb_evict.specs.BeginRule.{blank_shards}
 use Rattle.cb_evict.specs.Beginning.{AreParities, with_reserved}
 use Rattle.cb_evict.proofs.BeginEnd.{blank_count}
 use Rattle.cb_evict.proofs.BeginParts.{no_names}
 use Rattle.cb_evict.proofs.Composed.{any_err, read_err, rows_made}
-use Rattle.cb_evict.proofs.Ending.{code_range}
 use Rattle.cb_evict.proofs.beginning.reserve_frames.Goals as goal
 
 pub room_for-requires : goal.room_for-requires
 room_for-requires g c =
-    let k = ap (λ (n : Config). n.k) c.config-config.ensures in
-    let r = ap (λ (n : Config). n.r) c.config-config.ensures in
-    let most = c.requires.config K in let more = c.requires.config R in
-    omega (arith, k, r, most.1, more.1)
+    let k = ap (λ (n : Code). n.k) c.in_force-code.ensures in
+    let r = ap (λ (n : Code). n.r) c.in_force-code.ensures in
+    let range = c.requires.range in let most = range.data_most in let more = range.parities_most in
+    omega (arith, k, r, most, more)
 
 pub returns-in_err-room-clause-reserved : goal.returns-in_err-room-clause-reserved
 returns-in_err-room-clause-reserved g c = IfOk-from_err _ _ c.from_residual.ensures.0
@@ -33,19 +31,19 @@ returns-in_err-room-clause-unchanged g c = any_err _ _ refl
 
 pub load_frames-requires-clause-count : goal.load_frames-requires-clause-count
 load_frames-requires-clause-count g c =
-    (rows_made c.in_ok-room.room.rows c.config-config.result.k (length c.args.frames.now)
+    (rows_made c.in_ok-room.room.rows c.in_force-code.result.k (length c.args.frames.now)
     c.in_ok-room.ensures.rows
-    (c.requires.count ∙ sym (ap (λ (n : Config). n.k) c.config-config.ensures))).0
+    (c.requires.count ∙ sym (ap (λ (n : Code). n.k) c.in_force-code.ensures))).0
 
 pub load_frames-requires-clause-few : goal.load_frames-requires-clause-few
 load_frames-requires-clause-few g c =
-    let most = c.requires.config K in omega (arith, most.1, c.requires.count)
+    let most = c.requires.range.data_most in omega (arith, most, c.requires.count)
 
 pub load_frames-requires-clause-lengths : goal.load_frames-requires-clause-lengths
 load_frames-requires-clause-lengths g c =
-    (rows_made c.in_ok-room.room.rows c.config-config.result.k (length c.args.frames.now)
+    (rows_made c.in_ok-room.room.rows c.in_force-code.result.k (length c.args.frames.now)
     c.in_ok-room.ensures.rows
-    (c.requires.count ∙ sym (ap (λ (n : Config). n.k) c.config-config.ensures))).1
+    (c.requires.count ∙ sym (ap (λ (n : Code). n.k) c.in_force-code.ensures))).1
 
 pub load_frames-requires-clause-config : goal.load_frames-requires-clause-config
 load_frames-requires-clause-config g c = c.requires.config
@@ -58,17 +56,17 @@ reserve-requires-clause-there g c = c.requires.there
 
 pub reserve-requires-clause-data_rows : goal.reserve-requires-clause-data_rows
 reserve-requires-clause-data_rows g c = c.load_frames.ensures.count
-    ∙ (rows_made c.in_ok-room.room.rows c.config-config.result.k (length c.args.frames.now)
+    ∙ (rows_made c.in_ok-room.room.rows c.in_force-code.result.k (length c.args.frames.now)
     c.in_ok-room.ensures.rows
-    (c.requires.count ∙ sym (ap (λ (n : Config). n.k) c.config-config.ensures))).0
+    (c.requires.count ∙ sym (ap (λ (n : Code). n.k) c.in_force-code.ensures))).0
 
 pub reserve-requires-clause-range : goal.reserve-requires-clause-range
 reserve-requires-clause-range g c =
     let same = ap (λ (l : List Shard). length l) c.deref.ensures.value in
     let many = blank_count _ _ c.in_ok-room.ensures.blank in
-    let k = ap (λ (n : Config). n.k) c.config-config.ensures in
-    let r = ap (λ (n : Config). n.r) c.config-config.ensures in
-    let range = code_range _ c.requires.config in record {
+    let k = ap (λ (n : Code). n.k) c.in_force-code.ensures in
+    let r = ap (λ (n : Code). n.r) c.in_force-code.ensures in
+    let range = c.requires.range in record {
       data_least = omega (arith, range.data_least, c.requires.count);
       data_most = omega (arith, range.data_most, c.requires.count);
       parities_least = omega (arith, range.parities_least, c.requires.count, same, many, k, r);
@@ -92,13 +90,13 @@ returns-in_err-parities-clause-unchanged g c = any_err _ _ c.in_err-parities.ens
 pub returns-clause-reserved : goal.returns-clause-reserved
 returns-clause-reserved g c =
     let blank = c.deref.ensures.value ∙ c.in_ok-room.ensures.blank
-    ∙ ap (λ (n : Config). blank_shards (n.k + n.r)) c.config-config.ensures in record {
+    ∙ ap (λ (n : Code). blank_shards (n.k + n.r)) c.in_force-code.ensures in record {
       rows = c.load_frames.new.rows;
       loads = c.load_frames.ensures.loads;
       count = c.load_frames.ensures.count
-          ∙ (rows_made c.in_ok-room.room.rows c.config-config.result.k (length c.args.frames.now)
+          ∙ (rows_made c.in_ok-room.room.rows c.in_force-code.result.k (length c.args.frames.now)
           c.in_ok-room.ensures.rows
-          (c.requires.count ∙ sym (ap (λ (n : Config). n.k) c.config-config.ensures))).0;
+          (c.requires.count ∙ sym (ap (λ (n : Code). n.k) c.in_force-code.ensures))).0;
       made = subst (λ (n : ℕ). AreParities (length c.args.frames.now) n c.load_frames.new.rows c.in_ok-parities.parities)
           (blank_count _ _ blank) c.in_ok-parities.ensures.parities;
       state = subst (λ (l : List Shard). c.reserve.new.far ≡ with_reserved c.args.far.now l c.args.frames.now)
@@ -107,7 +105,7 @@ returns-clause-reserved g c =
 
 pub returns-clause-shards : goal.returns-clause-shards
 returns-clause-shards g c = c.in_ok-room.ensures.shards
-    ∙ ap (λ (n : Config). no_names (n.k + n.r)) c.config-config.ensures
+    ∙ ap (λ (n : Code). no_names (n.k + n.r)) c.in_force-code.ensures
 
 pub returns-clause-read : goal.returns-clause-read
 returns-clause-read g c = tt

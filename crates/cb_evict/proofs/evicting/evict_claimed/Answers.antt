@@ -1,7 +1,6 @@
 use Rattle.std.proofs.Common.{◌<◌, ◌++◌, length, get_or, All, sym, ap, ◌∙◌, subst, arith}
 use Rattle.cb_frame.specs.FreeFrames.{IsFreeFrame}
 use Rattle.cb_types.specs.declared.config.Config.{Config}
-use Rattle.cb_types.specs.declared.config.Field.TheVariants.{K}
 use Rattle.cb_world.specs.declared.shown.Shown.{Shown}
 use Rattle.cb_world.specs.Played.{played}
 use Rattle.cb_world.specs.FarState.{FarState, span_in}
@@ -32,7 +31,7 @@ store_frames-requires-clause-count g c = c.requires.taken.count
 
 pub store_frames-requires-clause-there : goal.store_frames-requires-clause-there
 store_frames-requires-clause-there g c = λ k d l.
-    let x = taken_ready _ c.args.far.now c.args.frames.now c.args.formers.now c.requires.ready.1
+    let x = taken_ready c.args.far.now c.args.frames.now c.args.formers.now c.requires.ready.1
     c.requires.taken c.requires.ready.2.sound.here (get_or c.args.frames.now k d)
     (place_in c.args.frames.now k d l) in (x.span, x.there)
 
@@ -40,7 +39,7 @@ pub store_frames-requires-clause-below : goal.store_frames-requires-clause-below
 store_frames-requires-clause-below g c =
     let r = c.requires.ready.2 in
     let sized = g.met.D.Desk.sized _ (played c.requires.ready.0 c.requires.ready.1) r.shown in
-    frames_below _ c.args.far.now c.args.frames.now c.args.formers.now c.requires.ready.1
+    frames_below c.args.far.now c.args.frames.now c.args.formers.now c.requires.ready.1
     (played c.requires.ready.0 c.requires.ready.1) _ c.requires.taken r.sound.here r.here sized.3
 
 pub store_frames-requires-clause-rows : goal.store_frames-requires-clause-rows
@@ -96,7 +95,7 @@ give_back-requires-clause-held g c =
 pub close_spans-requires-clause-there : goal.close_spans-requires-clause-there
 close_spans-requires-clause-there g c =
     let kept = c.in-Ok.ensures.kept.kept in λ k d l.
-    let x = taken_ready _ c.args.far.now c.args.frames.now c.args.formers.now c.requires.ready.1
+    let x = taken_ready c.args.far.now c.args.frames.now c.args.formers.now c.requires.ready.1
     c.requires.taken c.requires.ready.2.sound.here (get_or c.args.frames.now k d)
     (place_in c.args.frames.now k d l) in
     (x.span, ap (λ (f : FarState). span_in f.spans (get_or c.args.frames.now k d)) kept.state ∙ x.there)
@@ -118,7 +117,7 @@ close_spans-requires-clause-within g c =
     let kept = c.in-Ok.ensures.kept.kept in
     subst (λ (y : FarState). All (λ f. (f < length y.frames) × (f < length y.spans)) c.args.frames.now)
     (sym kept.state) (λ k d l.
-    let x = taken_ready _ c.args.far.now c.args.frames.now c.args.formers.now c.requires.ready.1
+    let x = taken_ready c.args.far.now c.args.frames.now c.args.formers.now c.requires.ready.1
     c.requires.taken c.requires.ready.2.sound.here (get_or c.args.frames.now k d)
     (place_in c.args.frames.now k d l) in (x.counted, x.within))
 
@@ -127,13 +126,14 @@ close_spans-requires-clause-busy g c =
     let kept = c.in-Ok.ensures.kept.kept in
     subst (λ (y : FarState). All (λ f. ¬ (IsFreeFrame y.frames f)) c.args.frames.now)
     (sym kept.state) (λ k d l.
-    (taken_ready _ c.args.far.now c.args.frames.now c.args.formers.now c.requires.ready.1
+    (taken_ready c.args.far.now c.args.frames.now c.args.formers.now c.requires.ready.1
     c.requires.taken c.requires.ready.2.sound.here (get_or c.args.frames.now k d)
     (place_in c.args.frames.now k d l)).busy)
 
 pub close_spans-requires-clause-few : goal.close_spans-requires-clause-few
 close_spans-requires-clause-few g c =
-    let most = c.requires.config K in omega (arith, most.1, c.requires.taken.count)
+    let range = c.requires.configured.codes.force.range in
+    let most = range.data_most in omega (arith, most, c.requires.taken.count)
 
 pub returns-in-Ok-clause-evict : goal.returns-in-Ok-clause-evict
 returns-in-Ok-clause-evict g c =
@@ -152,10 +152,11 @@ returns-in-Ok-clause-evict g c =
     let told = told_all far before s (played before s) formers r.claimed r.here
     (sized.1 ∙ sym sized.0) in
     let z = y.done.1 (played before s) shown told in
-    let read = are_read config far frames formers stored.rows kept.parities
-    (λ t. g.D.Desk.shows c.args.desk.now t) before s c.requires.config r c.requires.taken
+    let read = are_read far frames formers stored.rows kept.parities
+    (λ t. g.D.Desk.shows c.args.desk.now t) before s
+    c.requires.configured.codes.force.range r c.requires.taken
     (kept_parities shards frames _ stored.rows stored.chosen.count kept) stored.count x.made in
-    let all = ended config far c.close_spans.new.far frames formers shards
+    let all = ended far c.close_spans.new.far frames formers shards
     stored.rows kept.parities c.close_spans.new.far.homes (LiesInOne frames) _ _ before
     x.events y.events s
     (record { read = read.0; sent = z.sent; chosen = stored.chosen; homed = homed }) read.1

@@ -1,11 +1,10 @@
 use Rattle.std.proofs.lemmas.Result.{IfOk-from_err}
-use Rattle.std.proofs.Common.{◌+◌, ◌≤◌, List, sym, subst, refl}
+use Rattle.std.proofs.Common.{List, sym, subst, refl}
 use Rattle.cb_types.specs.Config.{IsAccepted}
 use Rattle.cb_types.specs.declared.config.Config.{Config}
 use Rattle.cb_world.specs.declared.event.Event.{Event}
 use Rattle.cb_world.specs.declared.leaving.Former.{Former}
 use Rattle.cb_world.specs.declared.shown.Shown.{Shown}
-use Rattle.cb_world.specs.Choices.{room_count}
 use Rattle.cb_world.specs.FarState.{FarState}
 use Rattle.cb_world.specs.Performs.{Performs}
 use Rattle.cb_world.specs.Sound.{Sound}
@@ -40,9 +39,9 @@ pub returns-in-Few-clause-evict : goal.returns-in-Few-clause-evict
 returns-in-Few-clause-evict g c =
     let runs = λ (es : List Event). g.D.Desk.run c.args.desk.now es c.take_spans.new.desk in
     let shows = λ (s : Shown). g.D.Desk.shows c.args.desk.now s in
-    takes_few (g.D.Desk.settings c.args.desk.now) c.args.far.now
+    takes_few c.args.far.now
     (Refused c.in-Few.lack c.in-Few.loose c.in-Few.nodes) runs shows
-    (subst (Takes runs shows (g.D.Desk.settings c.args.desk.now) c.args.far.now
+    (subst (Takes runs shows c.args.far.now
     (AreLooseNow c.args.far.now)) c.in-Few.is c.in_ok-taken.ensures.taken)
 
 pub returns-in-Few-clause-error : goal.returns-in-Few-clause-error
@@ -53,13 +52,13 @@ returns-in-Few-clause-unchanged g c = tt
 
 pub evict_claimed-requires-clause-config : goal.evict_claimed-requires-clause-config
 evict_claimed-requires-clause-config g c =
-    let taken = taken_enough _ _ _ _ _ _ _ _ c.in-Enough.is c.in_ok-taken.ensures.taken in
+    let taken = taken_enough _ _ _ _ _ _ _ c.in-Enough.is c.in_ok-taken.ensures.taken in
     let stays = g.met.D.Desk.stays _ _ taken.tries.events taken.tries.ran in
     subst IsAccepted (sym stays) c.requires.config
 
 pub evict_claimed-requires-clause-configured : goal.evict_claimed-requires-clause-configured
 evict_claimed-requires-clause-configured g c =
-    let taken = taken_enough _ _ _ _ _ _ _ _ c.in-Enough.is c.in_ok-taken.ensures.taken in
+    let taken = taken_enough _ _ _ _ _ _ _ c.in-Enough.is c.in_ok-taken.ensures.taken in
     let stays = g.met.D.Desk.stays _ _ taken.tries.events taken.tries.ran in
     subst (λ (n : Config). IsConfigured n c.args.far.now) (sym stays) c.requires.configured
 
@@ -68,21 +67,20 @@ evict_claimed-requires-clause-counts g c = c.requires.counts
 
 pub evict_claimed-requires-clause-room : goal.evict_claimed-requires-clause-room
 evict_claimed-requires-clause-room g c =
-    let taken = taken_enough _ _ _ _ _ _ _ _ c.in-Enough.is c.in_ok-taken.ensures.taken in
+    let taken = taken_enough _ _ _ _ _ _ _ c.in-Enough.is c.in_ok-taken.ensures.taken in
     let stays = g.met.D.Desk.stays _ _ taken.tries.events taken.tries.ran in
-    subst (λ (n : Config). n.k + n.r ≤ room_count c.args.far.now.nodes c.args.far.now.members)
-    (sym stays) taken.room
+    taken.room
 
 pub evict_claimed-requires-clause-taken : goal.evict_claimed-requires-clause-taken
 evict_claimed-requires-clause-taken g c =
-    let taken = taken_enough _ _ _ _ _ _ _ _ c.in-Enough.is c.in_ok-taken.ensures.taken in
+    let taken = taken_enough _ _ _ _ _ _ _ c.in-Enough.is c.in_ok-taken.ensures.taken in
     let stays = g.met.D.Desk.stays _ _ taken.tries.events taken.tries.ran in
-    taken_as _ _ c.args.far.now _ _ _ _ (sym stays) c.deref.ensures.value
+    taken_as c.args.far.now _ _ _ _ c.deref.ensures.value
     c.deref-in-Enough.ensures.value taken.taken
 
 pub evict_claimed-requires-clause-ready : goal.evict_claimed-requires-clause-ready
 evict_claimed-requires-clause-ready g c =
-    let taken = taken_enough _ _ _ _ _ _ _ _ c.in-Enough.is c.in_ok-taken.ensures.taken in
+    let taken = taken_enough _ _ _ _ _ _ _ c.in-Enough.is c.in_ok-taken.ensures.taken in
     let x = taken.tries in let s = c.requires.sound.0 in (
       x.events,
       s,
@@ -95,18 +93,18 @@ evict_claimed-requires-clause-ready g c =
 
 pub returns-in-Enough-clause-evict : goal.returns-in-Enough-clause-evict
 returns-in-Enough-clause-evict g c =
-    let taken = taken_enough _ _ _ _ _ _ _ _ c.in-Enough.is c.in_ok-taken.ensures.taken in
+    let taken = taken_enough _ _ _ _ _ _ _ c.in-Enough.is c.in_ok-taken.ensures.taken in
     let stays = g.met.D.Desk.stays _ _ taken.tries.events taken.tries.ran in
     if_ok _ _ _ c.evict_claimed.result c.evict_claimed.ensures.set c.evict_claimed.ensures.evict
     (λ e is y. takes_evict e (joins (λ es fs a b. g.met.D.Desk.more _ _ _ _ _ a b)
     (λ es s ran a. (g.met.D.Desk.follows _ _ es s ran a).1)) taken
-    (evicts_as _ _ (g.D.Desk.settings c.args.desk.now) _ c.args.far.now c.evict_claimed.new.far _ _ _ _
-    (sym stays) c.deref.ensures.value c.deref-in-Enough.ensures.value y)
+    (evicts_as _ _ c.args.far.now c.evict_claimed.new.far _ _ _ _
+    c.deref.ensures.value c.deref-in-Enough.ensures.value y)
     is c.requires.sound)
 
 pub returns-in-Enough-clause-error : goal.returns-in-Enough-clause-error
 returns-in-Enough-clause-error g c =
-    let taken = taken_enough _ _ _ _ _ _ _ _ c.in-Enough.is c.in_ok-taken.ensures.taken in
+    let taken = taken_enough _ _ _ _ _ _ _ c.in-Enough.is c.in_ok-taken.ensures.taken in
     on_err _ _ c.evict_claimed.result
     (both_err _ _ c.evict_claimed.result c.evict_claimed.ensures.error c.evict_claimed.ensures.unchanged)
     (λ (y, same).

@@ -1,22 +1,21 @@
 use Rattle.std.proofs.lemmas.Result.{IfOk-from_err}
 use Rattle.std.proofs.Common.{◌≡◌, ◌+◌, ◌^◌, ◌<◌, List, [], length, All, Some, sym, refl, ap, ◌∙◌, subst, arith}
+use Rattle.cb_member.specs.declared.names.Code.{Code}
 use Rattle.cb_member.specs.declared.names.Shard.{Shard}
 use Rattle.cb_span.specs.Contents.{Contents}
-use Rattle.cb_types.specs.declared.config.Config.{Config}
-use Rattle.cb_types.specs.declared.config.Field.TheVariants.{K, R, Nodes}
+use Rattle.cb_types.specs.declared.config.Field.TheVariants.{Nodes}
 use Rattle.cb_world.specs.FarState.{FarState, span_in}
 use Rattle.cb_evict.specs.Storing.{AreShards, CanPut, HasRoomFor, KeepsSet}
 use Rattle.cb_evict.proofs.Composed.{any_err, if_map, on_err, read_err}
-use Rattle.cb_evict.proofs.Ending.{code_range}
 use Rattle.cb_evict.proofs.NewSet.{can_put, have_room}
 use Rattle.cb_evict.proofs.evicting.store_frames.Goals as goal
 
-pub overflow_add-config : goal.overflow_add-config
-overflow_add-config g c =
-    let k = ap (λ (n : Config). n.k) c.config-config.ensures in
-    let r = ap (λ (n : Config). n.r) c.config-config.ensures in
-    let most = c.requires.config K in let more = c.requires.config R in
-    omega (arith, k, r, most.1, more.1)
+pub overflow_add-code : goal.overflow_add-code
+overflow_add-code g c =
+    let k = ap (λ (n : Code). n.k) c.in_force-code.ensures in
+    let r = ap (λ (n : Code). n.r) c.in_force-code.ensures in
+    let range = c.requires.configured.codes.force.range in
+    let most = range.data_most in let more = range.parities_most in omega (arith, k, r, most, more)
 
 pub choose_shards-requires-clause-counted : goal.choose_shards-requires-clause-counted
 choose_shards-requires-clause-counted g c = c.requires.rows.counted
@@ -27,16 +26,17 @@ choose_shards-requires-clause-few g c =
 
 pub choose_shards-requires-clause-room : goal.choose_shards-requires-clause-room
 choose_shards-requires-clause-room g c =
-    let k = ap (λ (n : Config). n.k) c.config-config.ensures in
-    let r = ap (λ (n : Config). n.r) c.config-config.ensures in
+    let k = ap (λ (n : Code). n.k) c.in_force-code.ensures in
+    let r = ap (λ (n : Code). n.r) c.in_force-code.ensures in
     let room = c.requires.room in omega (arith, k, r, room)
 
 pub choose_shards-requires-clause-keys : goal.choose_shards-requires-clause-keys
 choose_shards-requires-clause-keys g c =
-    let k = ap (λ (n : Config). n.k) c.config-config.ensures in
-    let r = ap (λ (n : Config). n.r) c.config-config.ensures in
-    let most = c.requires.config K in let more = c.requires.config R in let few = c.requires.counts.1 in
-    omega (arith, k, r, most.1, more.1, few)
+    let k = ap (λ (n : Code). n.k) c.in_force-code.ensures in
+    let r = ap (λ (n : Code). n.r) c.in_force-code.ensures in
+    let range = c.requires.configured.codes.force.range in
+    let most = range.data_most in let more = range.parities_most in let few = c.requires.counts.1 in
+    omega (arith, k, r, most, more, few)
 
 pub returns-in_err-shards-clause-kept : goal.returns-in_err-shards-clause-kept
 returns-in_err-shards-clause-kept g c = IfOk-from_err _ _ c.from_residual.ensures.0
@@ -50,8 +50,9 @@ returns-in_err-shards-clause-unchanged g c = any_err _ _ refl
 
 pub spare_rows-requires : goal.spare_rows-requires
 spare_rows-requires g c =
-    let k = ap (λ (n : Config). n.k) c.config-config.ensures in
-    let least = c.requires.config K in omega (arith, k, least.0)
+    let k = ap (λ (n : Code). n.k) c.in_force-code.ensures in
+    let range = c.requires.configured.codes.force.range in
+    let least = range.data_least in omega (arith, k, least)
 
 pub returns-in_err-rows-clause-kept : goal.returns-in_err-rows-clause-kept
 returns-in_err-rows-clause-kept g c = IfOk-from_err _ _ c.from_residual-in_err-rows.ensures.0
@@ -65,11 +66,12 @@ returns-in_err-rows-clause-unchanged g c = any_err _ _ c.spare_rows.ensures.unch
 
 pub load_frames-requires-clause-count : goal.load_frames-requires-clause-count
 load_frames-requires-clause-count g c = c.in_ok-rows.ensures.count
-    ∙ ap (λ (n : Config). n.k) c.config-config.ensures ∙ sym c.requires.count
+    ∙ ap (λ (n : Code). n.k) c.in_force-code.ensures ∙ sym c.requires.count
 
 pub load_frames-requires-clause-few : goal.load_frames-requires-clause-few
 load_frames-requires-clause-few g c =
-    let most = c.requires.config K in omega (arith, most.1, c.requires.count)
+    let range = c.requires.configured.codes.force.range in
+    let most = range.data_most in omega (arith, most, c.requires.count)
 
 pub load_frames-requires-clause-lengths : goal.load_frames-requires-clause-lengths
 load_frames-requires-clause-lengths g c = c.in_ok-rows.ensures.lengths
@@ -87,16 +89,16 @@ keep_set-kept-requires-clause-there g c =
 
 pub keep_set-kept-requires-clause-data_rows : goal.keep_set-kept-requires-clause-data_rows
 keep_set-kept-requires-clause-data_rows g c = c.load_frames.ensures.count
-    ∙ c.in_ok-rows.ensures.count ∙ ap (λ (n : Config). n.k) c.config-config.ensures
+    ∙ c.in_ok-rows.ensures.count ∙ ap (λ (n : Code). n.k) c.in_force-code.ensures
     ∙ sym c.requires.count
 
 pub keep_set-kept-requires-clause-range : goal.keep_set-kept-requires-clause-range
 keep_set-kept-requires-clause-range g c =
     let same = ap (λ (l : List Shard). length l) c.deref.ensures.value in
     let many = c.in_ok-shards.ensures.shards.count in
-    let k = ap (λ (n : Config). n.k) c.config-config.ensures in
-    let r = ap (λ (n : Config). n.r) c.config-config.ensures in
-    let range = code_range _ c.requires.config in record {
+    let k = ap (λ (n : Code). n.k) c.in_force-code.ensures in
+    let r = ap (λ (n : Code). n.r) c.in_force-code.ensures in
+    let range = c.requires.configured.codes.force.range in record {
       data_least = omega (arith, range.data_least, c.requires.count);
       data_most = omega (arith, range.data_most, c.requires.count);
       parities_least = omega (arith, range.parities_least, c.requires.count, same, many, k, r);
@@ -126,9 +128,9 @@ returns-clause-kept g c = if_map _ _ c.keep_set-kept.result c.keep_set-kept.ensu
   shards = c.in_ok-shards.shards.items;
   loads = c.load_frames.ensures.loads;
   count = c.load_frames.ensures.count ∙ c.in_ok-rows.ensures.count
-      ∙ ap (λ (n : Config). n.k) c.config-config.ensures ∙ sym c.requires.count;
-  chosen = subst (λ (n : Config). AreShards c.args.far.now (n.k + n.r) c.in_ok-shards.shards.items)
-      c.config-config.ensures c.in_ok-shards.ensures.shards;
+      ∙ ap (λ (n : Code). n.k) c.in_force-code.ensures ∙ sym c.requires.count;
+  chosen = subst (λ (n : Code). AreShards c.args.far.now (n.k + n.r) c.in_ok-shards.shards.items)
+      c.in_force-code.ensures c.in_ok-shards.ensures.shards;
   kept = subst (λ (new : FarState). KeepsSet c.args.far.now new c.in_ok-shards.shards.items
       c.args.frames.now c.load_frames.new.rows) (sym c.keep_rows.ensures.unchanged)
       (subst (λ (far : FarState). KeepsSet far c.keep_set-kept.new.far c.in_ok-shards.shards.items

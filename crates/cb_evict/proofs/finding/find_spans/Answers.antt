@@ -1,7 +1,8 @@
 use Rattle.std.proofs.lemmas.Result.{IfOk-from_err}
 use Rattle.std.proofs.Common.{◌≡◌, ◌≢◌, ℕ, ◌≤◌, List, length, get_or, All, Some, refl, sym, ap, ◌∙◌, subst, arith, inl, inr}
 use Rattle.std.specs.List.{AllPairs}
-use Rattle.cb_types.specs.declared.config.Field.TheVariants.{Frames, K, R, Nodes}
+use Rattle.cb_member.specs.declared.names.Code.{Code}
+use Rattle.cb_types.specs.declared.config.Field.TheVariants.{Frames, Nodes}
 use Rattle.cb_types.specs.declared.reply.Reply.TheVariants as answer
 use Rattle.cb_world.specs.Choices.{room_count}
 use Rattle.cb_world.specs.FarState.{FarState, span_in}
@@ -41,8 +42,10 @@ find_loose-requires-clause-apart g c =
     subst (λ (l : List ℕ). AllPairs (λ f h. f ≢ h) l)
     (sym (c.deref.ensures.value ∙ c.in_ok-frames.ensures.frames)) (candidates_apart c.args.far.now)
 
-pub returns-then-len-config-clause-found : goal.returns-then-len-config-clause-found
-returns-then-len-config-clause-found g c =
+pub returns-then-len-code-clause-found : goal.returns-then-len-code-clause-found
+returns-then-len-code-clause-found g c =
+    let k = ap (λ (x : Code). x.k) c.in_force-code.ensures in
+    let r = ap (λ (x : Code). x.r) c.in_force-code.ensures in
     let nodes = c.nodes_with_room-nodes.ensures
     ∙ ap (λ (far : FarState). room_count far.nodes far.members) c.far.view_is in record {
       loose = c.find_loose.new.loose.items;
@@ -50,17 +53,19 @@ returns-then-len-config-clause-found g c =
           (looks_as _ _ _ _ _ _ _
           (ap (λ (far : FarState). far.spans) c.far.view_is) (c.deref.ensures.value ∙ c.in_ok-frames.ensures.frames) refl c.find_loose.ensures.looks);
       few = inl (record {
-        few = omega (arith, c.if-len-config.true, c.len-2.ensures, c.find_loose.new.loose.ok);
-        reply = ap answer.NoSpans (omega (arith, c.len-then-len-config.ensures, c.find_loose.new.loose.ok));
+        few = omega (arith, k, c.if-len-code.true, c.len-2.ensures, c.find_loose.new.loose.ok);
+        reply = ap answer.NoSpans (omega (arith, c.len-then-len-code.ensures, c.find_loose.new.loose.ok));
         state = refl;
       });
-      counts = (omega (arith, c.len-then-len-config.ensures, c.find_loose.new.loose.ok), nodes);
+      counts = (omega (arith, c.len-then-len-code.ensures, c.find_loose.new.loose.ok), nodes);
     }
 
-pub overflow_add-config : goal.overflow_add-config
-overflow_add-config g c =
-    let most = c.requires.config.0 K in let more = c.requires.config.0 R in
-    omega (arith, most.1, more.1)
+pub overflow_add-code : goal.overflow_add-code
+overflow_add-code g c =
+    let range = c.requires.configured.codes.force.range in
+    let most = range.data_most in let more = range.parities_most in let code = c.in_force-code.ensures in
+    let k = ap (λ (x : Code). x.k) code in let r = ap (λ (x : Code). x.r) code in
+    omega (arith, most, more, k, r)
 
 pub nodes_with_room-nodes-requires-clause-counted : goal.nodes_with_room-nodes-requires-clause-counted
 nodes_with_room-nodes-requires-clause-counted g c =
@@ -69,12 +74,14 @@ nodes_with_room-nodes-requires-clause-counted g c =
 
 pub nodes_with_room-nodes-requires-clause-few : goal.nodes_with_room-nodes-requires-clause-few
 nodes_with_room-nodes-requires-clause-few g c =
-    let n = c.requires.config.0 Nodes in let nodes = c.requires.configured.nodes in
+    let n = c.requires.config Nodes in let nodes = c.requires.configured.nodes in
     subst (λ (far : FarState). length far.nodes.nodes ≤ 256) (sym c.far.view_is)
     (omega (arith, n.1, nodes))
 
-pub returns-then-nodes-config-clause-found : goal.returns-then-nodes-config-clause-found
-returns-then-nodes-config-clause-found g c =
+pub returns-then-nodes-code-clause-found : goal.returns-then-nodes-code-clause-found
+returns-then-nodes-code-clause-found g c =
+    let k = ap (λ (x : Code). x.k) c.in_force-code.ensures in
+    let r = ap (λ (x : Code). x.r) c.in_force-code.ensures in
     let nodes = c.nodes_with_room-nodes.ensures
     ∙ ap (λ (far : FarState). room_count far.nodes far.members) c.far.view_is in record {
       loose = c.find_loose.new.loose.items;
@@ -82,22 +89,24 @@ returns-then-nodes-config-clause-found g c =
           (looks_as _ _ _ _ _ _ _
           (ap (λ (far : FarState). far.spans) c.far.view_is) (c.deref.ensures.value ∙ c.in_ok-frames.ensures.frames) refl c.find_loose.ensures.looks);
       few = inr (record {
-        enough = omega (arith, c.if-len-config.false, c.len-2.ensures, c.find_loose.new.loose.ok);
-        few = omega (arith, nodes, c.if-nodes-config.true);
+        enough = omega (arith, k, c.if-len-code.false, c.len-2.ensures, c.find_loose.new.loose.ok);
+        few = omega (arith, nodes, k, r, c.if-nodes-code.true);
         reply = ap answer.NoNodes nodes;
         state = refl;
       });
-      counts = (omega (arith, c.len-then-nodes-config.ensures, c.find_loose.new.loose.ok), nodes);
+      counts = (omega (arith, c.len-then-nodes-code.ensures, c.find_loose.new.loose.ok), nodes);
     }
 
 pub returns-clause-found : goal.returns-clause-found
 returns-clause-found g c =
+    let k = ap (λ (x : Code). x.k) c.in_force-code.ensures in
+    let r = ap (λ (x : Code). x.r) c.in_force-code.ensures in
     let nodes = c.nodes_with_room-nodes.ensures
     ∙ ap (λ (far : FarState). room_count far.nodes far.members) c.far.view_is in record {
       looks = looks_as _ _ _ _ _ _ _ (ap (λ (far : FarState). far.spans) c.far.view_is)
           (c.deref.ensures.value ∙ c.in_ok-frames.ensures.frames) refl c.find_loose.ensures.looks;
-      enough = omega (arith, c.if-len-config.false, c.len-2.ensures, c.find_loose.new.loose.ok);
-      room = omega (arith, nodes, c.if-nodes-config.false);
+      enough = omega (arith, k, c.if-len-code.false, c.len-2.ensures, c.find_loose.new.loose.ok);
+      room = omega (arith, nodes, k, r, c.if-nodes-code.false);
       nodes = nodes;
     }
 
@@ -107,18 +116,18 @@ returns-in_err-frames-clause-found g c = IfOk-from_err _ _ c.from_residual.ensur
 pub returns-in_err-loose-clause-found : goal.returns-in_err-loose-clause-found
 returns-in_err-loose-clause-found g c = IfOk-from_err _ _ c.from_residual-in_err-loose.ensures.0
 
-pub returns-then-len-config-clause-error : goal.returns-then-len-config-clause-error
-returns-then-len-config-clause-error g c = tt
+pub returns-then-len-code-clause-error : goal.returns-then-len-code-clause-error
+returns-then-len-code-clause-error g c = tt
 
-pub returns-then-nodes-config-clause-error : goal.returns-then-nodes-config-clause-error
-returns-then-nodes-config-clause-error g c = tt
+pub returns-then-nodes-code-clause-error : goal.returns-then-nodes-code-clause-error
+returns-then-nodes-code-clause-error g c = tt
 
 pub returns-clause-error : goal.returns-clause-error
 returns-clause-error g c = tt
 
-pub overflow_cast-result-then-nodes-config : goal.overflow_cast-result-then-nodes-config
-overflow_cast-result-then-nodes-config g c =
-    let few = candidates_few c.args.far.now in let n = c.requires.config.0 Frames in
+pub overflow_cast-result-then-nodes-code : goal.overflow_cast-result-then-nodes-code
+overflow_cast-result-then-nodes-code g c =
+    let few = candidates_few c.args.far.now in let n = c.requires.config Frames in
     let frames = c.requires.configured.frames in
     let found = ap (λ (l : List ℕ). length l) (c.deref.ensures.value ∙ c.in_ok-frames.ensures.frames) in
-    omega (arith, few, n.1, frames, found, c.find_loose.ensures.few, c.len-then-nodes-config.ensures, c.find_loose.new.loose.ok)
+    omega (arith, few, n.1, frames, found, c.find_loose.ensures.few, c.len-then-nodes-code.ensures, c.find_loose.new.loose.ok)

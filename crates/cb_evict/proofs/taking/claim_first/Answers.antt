@@ -1,6 +1,7 @@
 use Rattle.std.proofs.lemmas.Result.{IfOk-from_err}
 use Rattle.std.proofs.lemmas.List.{length-append, take_at}
 use Rattle.std.proofs.Common.{◌≡◌, ◌<◌, List, ◌++◌, length, get_or, All, refl, sym, ap, ◌∙◌, subst, arith, inl}
+use Rattle.cb_member.specs.declared.names.Code.{Code}
 use Rattle.cb_types.specs.declared.reply.Reply.TheVariants as answer
 use Rattle.cb_world.specs.declared.leaving.Former.{Former}
 use Rattle.cb_world.specs.Played.{played}
@@ -69,10 +70,11 @@ give_back-requires-clause-held g c =
 
 pub returns-then-len-k-clause-taken : goal.returns-then-len-k-clause-taken
 returns-then-len-k-clause-taken g c =
-    let x = claims_as _ _ _ _ c.args.loose.now c.args.config.k _ _
+    let x = claims_as _ _ _ _ c.args.loose.now c.in_force-code.result.k _ _
     (ap (λ (far : FarState). far.spans) c.far.view_is) c.claim_spans.ensures.claims in
-    let few : length c.claim_spans.new.frames.items < c.args.config.k =
-    omega (arith, c.if-len-k.true, c.len.ensures) in record {
+    let few : length c.claim_spans.new.frames.items < c.in_force-code.result.k =
+    omega (arith, c.if-len-k.true, c.len.ensures) in
+    let k = ap (λ (n : Code). n.k) c.in_force-code.ensures in record {
       loose = c.claim_spans.new.frames.items;
       tries = back_tried c.args.far.now (joins (λ es fs a b. g.met.D.Desk.more _ _ _ _ _ a b)
           (λ es s ran a. (g.met.D.Desk.follows _ _ es s ran a).1)) c.requires.among x
@@ -81,7 +83,7 @@ returns-then-len-k-clause-taken g c =
           (λ s. g.D.Desk.shows c.claim_spans.new.desk s) l) c.deref.ensures.value c.give_back.ensures)
           few;
       few = inl (record {
-        few = few;
+        few = omega (arith, few, k);
         reply = ap answer.NoSpans (omega (arith, c.len-spans.ensures, c.claim_spans.new.frames.ok));
         state = refl;
       });
@@ -90,18 +92,19 @@ returns-then-len-k-clause-taken g c =
 
 pub returns-clause-taken : goal.returns-clause-taken
 returns-clause-taken g c =
-    let x = claims_as _ _ _ _ c.args.loose.now c.args.config.k _ _
+    let x = claims_as _ _ _ _ c.args.loose.now c.in_force-code.result.k _ _
     (ap (λ (far : FarState). far.spans) c.far.view_is) c.claim_spans.ensures.claims in
     let frames = c.claim_spans.new.frames.items in
-    let count : length frames ≡ c.args.config.k =
-    omega (arith, c.if-len-k.false, c.len.ensures, x.few, c.claim_spans.new.frames.ok) in
+    let k = ap (λ (n : Code). n.k) c.in_force-code.ensures in
+    let count : length frames ≡ c.args.far.now.code.k =
+    omega (arith, c.if-len-k.false, c.len.ensures, x.few, c.claim_spans.new.frames.ok, k) in
     let more = length-append frames x.rest in record {
       loose = frames ++ x.rest;
       tries = claims_tried c.args.far.now c.requires.among x;
       enough = omega (arith, more, count);
-      first = sym (take_at frames x.rest c.args.config.k count);
+      first = sym (take_at frames x.rest c.args.far.now.code.k count);
       room = c.requires.room;
-      taken = are_taken c.args.config c.args.far.now c.args.loose.now _ _ _ _ c.args.config.k x
+      taken = are_taken c.args.far.now c.args.loose.now _ _ _ _ c.in_force-code.result.k x
           c.requires.among count;
     }
 

@@ -1,7 +1,6 @@
 use Rattle.cb_types.specs.Config.{IsAccepted}
 use Rattle.cb_types.specs.declared.config.Config.{Config}
-use Rattle.std.proofs.Common.{[], ◌∷◌, ◌++◌, refl, sym, ap, ◌∙◌, subst, ◌<◌, ◌≤◌, ◌+◌, arith}
-use Rattle.std.proofs.lemmas.List.{take_all}
+use Rattle.std.proofs.Common.{[], ◌∷◌, ◌++◌, refl, sym, ap, ◌∙◌, subst, ◌<◌}
 use Rattle.cb_ptr.specs.declared.word.PtrWord.{PtrWord}
 use Rattle.cb_world.specs.declared.event.Event.TheVariants.{Told, Settled}
 use Rattle.cb_world.specs.declared.shown.Shown.{Shown}
@@ -17,7 +16,7 @@ use Rattle.cb_mutate.proofs.reading.read_claimed.Goals as goal
 pub settle-requires-clause-may : goal.settle-requires-clause-may
 settle-requires-clause-may g c =
     let had = c.requires.claimed in let h = c.args.h.n in let w = c.args.word in
-    let l = c.load_into.ensures.loads in let s = had.0 in let k = had.2.2 in
+    let l = c.load_into.ensures in let s = had.0 in let k = had.2.2 in
     let told = g.met.D.Desk.follows _ _ (Told h c.version-version.result ∷ []) s
     c.version-version.ensures had.1 in (
       played l.events s,
@@ -32,7 +31,7 @@ settle-requires-clause-may g c =
 pub returns-clause-ends : goal.returns-clause-ends
 returns-clause-ends g c =
     let h = c.args.h.n in let w = c.args.word in let x = c.version-version.result in
-    let l = c.load_into.ensures.loads in let n = c.settled.result in
+    let l = c.load_into.ensures in let n = c.settled.result in
     let f = c.unpack-fields.ensures.fields in
     let tail = Settled h n ∷ [] in let stores = loads_are_stores l.events l.loads in record {
       events = Told h x ∷ (l.events ++ tail);
@@ -62,9 +61,7 @@ returns-clause-ends g c =
           let slot = same_slot w c.claimed.result n c.unpack-fields.result.place k.1.free
           c.claimed.ensures (ap (λ (p : PtrWord). p.place) f) c.settled.ensures in record {
             shown = bytes_are (told.0.0 (held s h w v words k.1) ∙ k.1.version)
-                (read_bytes s h w v words l.words _ c.unpack-fields.result f k.1
-                (sym (take_all _ c.load_into.new.room (omega (arith, c.load_into.ensures.sized)))
-                ∙ l.bytes)
+                (read_bytes s h w v words l.words _ c.unpack-fields.result f k.1 l.bytes
                 (l.contents s (
                   told.1,
                   owned_at s h w v words c.unpack-fields.result f k.1,
@@ -83,4 +80,4 @@ load_into-requires-clause-config g c = subst IsAccepted (sym (g.met.D.Desk.stays
 pub settle-requires-clause-handle : goal.settle-requires-clause-handle
 settle-requires-clause-handle g c =
     subst (λ (q : Config). c.args.h.n < q.handles)
-    (sym (g.met.D.Desk.stays _ _ _ c.load_into.ensures.loads.ran ∙ g.met.D.Desk.stays _ _ _ c.version-version.ensures)) c.requires.handle
+    (sym (g.met.D.Desk.stays _ _ _ c.load_into.ensures.ran ∙ g.met.D.Desk.stays _ _ _ c.version-version.ensures)) c.requires.handle

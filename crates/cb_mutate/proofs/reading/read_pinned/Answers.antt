@@ -1,6 +1,5 @@
 use Rattle.cb_types.specs.Config.{IsAccepted}
-use Rattle.std.proofs.Common.{◌≡◌, ◌∷◌, ◌≤◌, take, refl, subst, ◌∙◌, ap, inr, sym, arith}
-use Rattle.std.proofs.lemmas.List.{take_all}
+use Rattle.std.proofs.Common.{◌≡◌, ◌∷◌, refl, subst, ◌∙◌, ap, inr, sym}
 use Rattle.cb_ptr.specs.declared.word.PtrWord.{PtrWord}
 use Rattle.cb_world.specs.declared.event.Event.TheVariants.{Told}
 use Rattle.cb_world.specs.Memory.{words_for, bytes_in}
@@ -12,7 +11,7 @@ use Rattle.cb_mutate.proofs.reading.read_pinned.Goals as goal
 pub returns : goal.returns
 returns g c =
     let h = c.args.h.n in let x = c.version-version.result in
-    let l = c.load_into.ensures.loads in let f = c.unpack-fields.ensures.fields in record {
+    let l = c.load_into.ensures in let f = c.unpack-fields.ensures.fields in record {
       events = Told h x ∷ l.events;
       ran = g.met.D.Desk.more _ _ _ _ _ c.version-version.ensures l.ran;
       reads = (refl, loads_are_reads h l.events l.loads);
@@ -23,10 +22,8 @@ returns g c =
         inr (refl, refl),
         l.count ∙ ap (λ (p : PtrWord). words_for p.len) f,
         subst (λ (p : PtrWord). AreLoaded p.place l.words l.events) f l.loaded,
-        bytes_are refl (sym (take_all _ c.load_into.new.room
-            (omega (arith, c.load_into.ensures.sized)))
-            ∙ subst (λ (p : PtrWord). take c.unpack-fields.result.len c.load_into.new.room
-            ≡ bytes_in l.words p.len) f l.bytes),
+        bytes_are refl (subst (λ (p : PtrWord). c.load_into.new.room ≡ bytes_in l.words p.len) f
+            l.bytes),
       );
     }
 

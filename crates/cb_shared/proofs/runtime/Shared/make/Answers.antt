@@ -1,5 +1,6 @@
 use Rattle.std.proofs.Common.{◌≤◌, List, ℕ, length, sym, subst}
 use Rattle.std.specs.Result.{IfOk, OnErr}
+use Rattle.cb_types.specs.Config.{most_bytes}
 use Rattle.cb_types.specs.declared.job.Job.TheVariants as jobs
 use Rattle.cb_shared.specs.Calls.{AtNone, IsForWant, IsUnanswered, TurnGives, TurnStops}
 use Rattle.cb_shared.specs.Making.{MakesNew}
@@ -13,7 +14,7 @@ returns-in_err-copy_of-clause-error g c = err_always c.from_residual.result _
 
 pub turn_until-requires-clause-job : goal.turn_until-requires-clause-job
 turn_until-requires-clause-job g c =
-    subst (λ (l : List ℕ). (1 ≤ length l) × (length l ≤ 1024)) (sym c.in_ok-copy_of.ensures.items)
+    subst (λ (l : List ℕ). (1 ≤ length l) × (length l ≤ most_bytes)) (sym c.in_ok-copy_of.ensures.items)
     c.requires.size
 
 pub returns-clause-make : goal.returns-clause-make

@@ -1,8 +1,8 @@
 use Rattle.std.proofs.Common.{◌≡◌, ◌+◌, ◌≤◌, ◌∙◌, ℕ, List, length, take, drop, ◌++◌, get_or, ap}
 use Rattle.std.proofs.Common.{sym, arith}
 use Rattle.std.proofs.lemmas.List.{take_all}
-use Rattle.cb_shared.proofs.ReadBytes.{replaced, replaced_inside, replaced_length, replaced_outside}
-use Rattle.cb_shared.proofs.reading.put_whole_word.Goals as goal
+use Rattle.cb_types.proofs.Replaced.{replaced, replaced_inside, replaced_length, replaced_outside}
+use Rattle.cb_types.proofs.filling.put_whole_word.Goals as goal
 
 long : (c : goal.After-overwrite) → 8 ≤ length c.to_le_bytes-bytes.result
 long c = let e = ap length c.to_le_bytes-bytes.ensures in omega (arith, e)

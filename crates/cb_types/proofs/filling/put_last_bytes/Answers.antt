@@ -1,6 +1,6 @@
 use Rattle.std.proofs.Common.{◌+◌, ◌-◌, ◌≤◌, ◌<◌, ◌∙◌, ℕ, List, length, get_or, ap, arith, inl}
-use Rattle.cb_shared.proofs.ReadBytes.{replaced_inside, replaced_length, replaced_outside}
-use Rattle.cb_shared.proofs.reading.put_last_bytes.Goals as goal
+use Rattle.cb_types.proofs.Replaced.{replaced_inside, replaced_length, replaced_outside}
+use Rattle.cb_types.proofs.filling.put_last_bytes.Goals as goal
 
 fits : (c : goal.After-overwrite)
     → c.args.at + (c.len.result - c.args.at) ≤ length c.args.room.now
