@@ -38,8 +38,8 @@ use Rattle.cb_rule.specs.Steps.{AreNew, Knows, acted, version_seen}
 use Rattle.cb_shared.specs.declared.setup.Setup.{Setup}
 use Rattle.cb_record.specs.Parts.{Part, grown, nothing_more}
 use Rattle.cb_shared.specs.Passes.{IsAtRest}
-use Rattle.cb_shared.specs.Places.{HoldsLock, IsOf, Place}
 use Rattle.cb_shared.specs.SeatLaws.{Runs, acted_is, acted_known, after_events, sized_after}
+use Rattle.cb_shared.specs.Seats.{HoldsLock, IsOf, SeatAt}
 use Rattle.cb_shared.specs.Turning.{CountsPins, Did, DidAs, JobReads, KnowsIt, KnowsOf, PinsTold}
 use Rattle.cb_shared.specs.Turning.{answer_of, made_by_turn, object_of, turn_part, with_own}
 use Rattle.cb_shared.specs.UnderLock.{GivesFar, IsBeginning, IsEnding, IsQuiet, TakesFar, TurnWith}
@@ -53,7 +53,7 @@ sized_played c [] s z = z
 sized_played c (e ∷ es) s z = sized_played c es (after e s) (sized_after c e s z)
 
 -- a seat that moved to another view is of the table as before
-pub of_moved : (z : TableId) (k : Setup) (c : Config) (p q : Place) → IsOf z k c p
+pub of_moved : (z : TableId) (k : Setup) (c : Config) (p q : SeatAt) → IsOf z k c p
     → q.table_id ≡ p.table_id → q.me.0.config ≡ p.me.0.config → q.me.0.share ≡ p.me.0.share
     → IsOf z k c q
 of_moved z k c p q of table config share = record {
@@ -64,21 +64,21 @@ of_moved z k c p q of table config share = record {
   live = subst (λ (n : ℕ). 1 ≤ n) (sym share) of.live;
 }
 
-pub view_is : (p q : Place) (w : View) (slots : List (ℕ × LockSlot)) → q.me ≡ (w, slots)
+pub view_is : (p q : SeatAt) (w : View) (slots : List (ℕ × LockSlot)) → q.me ≡ (w, slots)
     → q.me.0 ≡ w
 view_is p q w slots e = ap (λ (m : Sat). m.0) e
 
 -- the record after the events of a seat
-pub after_runs : (p q : Place) (es : List Event) → Runs p es q → q.me.0 ≡ after_events es p.me.0
+pub after_runs : (p q : SeatAt) (es : List Event) → Runs p es q → q.me.0 ≡ after_events es p.me.0
 after_runs p q es r = ap (λ (m : Sat). m.0) r.0.2 ∙ acted_is es p.me.0
 
-pub of_runs : (z : TableId) (k : Setup) (c : Config) (p q : Place) (es : List Event) → IsOf z k c p
+pub of_runs : (z : TableId) (k : Setup) (c : Config) (p q : SeatAt) (es : List Event) → IsOf z k c p
     → Runs p es q → IsOf z k c q
 of_runs z k c p q es of r = let m = after_runs p q es r in of_moved z k c p q of r.0.0
     (ap (λ (x : View). x.config) m) (ap (λ (x : View). x.share) m)
 
 -- ---- the seat that has just taken the lock
-pub begins_taken : (c : Config) (far : FarState) (p q : Place) → IsAtRest c p.me.0
+pub begins_taken : (c : Config) (far : FarState) (p q : SeatAt) → IsAtRest c p.me.0
     → TakesFar c far p q → IsBeginning c far q.me.0
 begins_taken c far p q rest t =
     let e : q.me.0 ≡ took_lock t.known far t.entries p.me.0 = ap (λ (m : Sat). m.0) t.at.2 in
@@ -92,11 +92,12 @@ begins_taken c far p q rest t =
       stood = t.stood;
     }
 
-pub holds_begun : (z : TableId) (k : Setup) (c : Config) (far : FarState) (p : Place) → IsOf z k c p
+pub holds_begun : (z : TableId) (k : Setup) (c : Config) (far : FarState) (p : SeatAt)
+    → IsOf z k c p
     → IsBeginning c far p.me.0 → HoldsLock z k c p
 holds_begun z k c far p of b = record { of = of; holds = b.holds; sized = b.sized }
 
-module _ (c : Config) (far : FarState) (p q : Place) (t : TakesFar c far p q) where
+module _ (c : Config) (far : FarState) (p q : SeatAt) (t : TakesFar c far p q) where
   taken : q.me.0 ≡ took_lock t.known far t.entries p.me.0
   taken = ap (λ (m : Sat). m.0) t.at.2
 
@@ -115,25 +116,25 @@ module _ (c : Config) (far : FarState) (p q : Place) (t : TakesFar c far p q) wh
   knows_take None knows = tt
   knows_take (Some h) knows = subst (Knows h) (sym taken) knows
 
-pub of_taken : (z : TableId) (k : Setup) (c : Config) (far : FarState) (p q : Place) → IsOf z k c p
+pub of_taken : (z : TableId) (k : Setup) (c : Config) (far : FarState) (p q : SeatAt) → IsOf z k c p
     → TakesFar c far p q → IsOf z k c q
 of_taken z k c far p q of t = of_take c far p q t z k of
 
-pub slots_taken : (c : Config) (far : FarState) (p q : Place) → p.me.1 ≡ [] → TakesFar c far p q
+pub slots_taken : (c : Config) (far : FarState) (p q : SeatAt) → p.me.1 ≡ [] → TakesFar c far p q
     → q.me.1 ≡ (0, None) ∷ []
 slots_taken c far p q none t = slots_take c far p q t none
 
-pub pins_taken : (c : Config) (far : FarState) (p q : Place) → length p.me.0.pins ≤ 16
+pub pins_taken : (c : Config) (far : FarState) (p q : SeatAt) → length p.me.0.pins ≤ 16
     → TakesFar c far p q → length q.me.0.pins ≤ 16
 pins_taken c far p q few t = pins_take c far p q t few
 
-pub knows_taken : (c : Config) (far : FarState) (job : Job) (p q : Place) → KnowsOf job p.me.0
+pub knows_taken : (c : Config) (far : FarState) (job : Job) (p q : SeatAt) → KnowsOf job p.me.0
     → TakesFar c far p q → KnowsOf job q.me.0
 knows_taken c far job p q knows t = knows_take c far p q t (object_of job) knows
 
 -- ---- the work of a turn, and its end
 -- what was taken is what the box has that was lent
-pub took_as : (c : Config) (lent far : FarState) (p q : Place) → lent ≡ far → TakesFar c far p q
+pub took_as : (c : Config) (lent far : FarState) (p q : SeatAt) → lent ≡ far → TakesFar c far p q
     → TakesFar c lent p q
 took_as c lent far p q e t = subst (λ (f : FarState). TakesFar c f p q) (sym e) t
 
@@ -214,7 +215,7 @@ told_written job (Err e) more w wrote fresh h n (inr (inl x)) = absurd (let told
 told_written job (Err e) more w wrote fresh h n (inr (inr x)) = absurd (let told = x.2 in cc)
 
 pub ends_work : (c : Config) (job : Job) (r : Result Reply NoMemory) (took gave : FarState)
-    (p q : Place) → IsBeginning c took p.me.0 → WorkBy c job r took gave p q
+    (p q : SeatAt) → IsBeginning c took p.me.0 → WorkBy c job r took gave p q
     → IsEnding c job (answer_of r) gave q.me.0
 ends_work c job r took gave p q b w =
     let v = p.me.0 in let es = w.events in let reply = answer_of r in
@@ -245,7 +246,7 @@ ends_work c job r took gave p q b w =
     }
 
 pub of_work : (z : TableId) (k : Setup) (c : Config) (job : Job) (r : Result Reply NoMemory)
-    (took gave : FarState) (p q : Place) → IsOf z k c p → WorkBy c job r took gave p q
+    (took gave : FarState) (p q : SeatAt) → IsOf z k c p → WorkBy c job r took gave p q
     → IsOf z k c q
 of_work z k c job r took gave p q of w =
     let m : q.me.0 ≡ grown w.within (after_events w.events p.me.0) =
@@ -253,7 +254,7 @@ of_work z k c job r took gave p q of w =
     of_moved z k c p q of w.moves.0 (ap (λ (x : View). x.config) m) (ap (λ (x : View). x.share) m)
 
 pub turn_with : (c : Config) (job : Job) (r : Result Reply NoMemory) (took gave : FarState)
-    (p m q : Place) → WorkBy c job r took gave p m → GivesFar c job (answer_of r) gave m q
+    (p m q : SeatAt) → WorkBy c job r took gave p m → GivesFar c job (answer_of r) gave m q
     → TurnWith c job r took p q
 turn_with c job r took gave p m q w g =
     let v = p.me.0 in let reply = answer_of r in let made = made_by_turn job reply in
@@ -291,7 +292,7 @@ turn_with c job r took gave p m q w g =
 
 -- the seat that took the lock and gave it back is the same one, with no slot in hand
 pub at_end : (c : Config) (job : Job) (r : Result Reply NoMemory) (took gave : FarState)
-    (p l m q : Place) → TakesFar c took p l → WorkBy c job r took gave l m
+    (p l m q : SeatAt) → TakesFar c took p l → WorkBy c job r took gave l m
     → GivesFar c job (answer_of r) gave m q
     → (q.table_id ≡ p.table_id) × (q.id ≡ p.id) × (q.me.1 ≡ [])
 at_end c job r took gave p l m q t w g = (
@@ -355,7 +356,8 @@ pins_counted known far n v (Filter handle) (Err e) counts = tt
 pins_counted known far n v job r counts = tt
 
 -- the record of a pass at rest, from taking the lock to giving it back
-pub turned_by : (c : Config) (job : Job) (r : Result Reply NoMemory) (far : FarState) (p m q : Place)
+pub turned_by : (c : Config) (job : Job) (r : Result Reply NoMemory) (far : FarState)
+    (p m q : SeatAt)
     → IsAtRest c p.me.0 → TakesFar c far p m → TurnWith c job r far m q
     → IfOk r (λ reply. TurnTells job far reply) → TurnedBy c job r p.me.0 q.me.0
 turned_by c job r far p m q rest t w tells =

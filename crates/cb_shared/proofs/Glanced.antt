@@ -17,7 +17,7 @@ use Rattle.cb_shared.specs.declared.setup.Setup.{Setup}
 use Rattle.cb_shared.specs.Glances.{Glances}
 use Rattle.cb_shared.specs.Passes.{IsAtRest, IsPassOf}
 use Rattle.cb_shared.specs.Pinning.{PinAt, PinGives}
-use Rattle.cb_shared.specs.Places.{IsOf, Moves, Place}
+use Rattle.cb_shared.specs.Seats.{IsOf, Moves, SeatAt}
 use Rattle.cb_shared.specs.Trying.{tries_of}
 use Rattle.cb_shared.specs.Writing.{WriteAt}
 use Rattle.cb_shared.proofs.ReadKept.{IsSeatKept}
@@ -36,7 +36,7 @@ of_pass s p o = record {
 }
 
 -- and stays of it
-pub of_kept : (z : TableId) (k : Setup) (c : Config) (p q : Place) → IsOf z k c p
+pub of_kept : (z : TableId) (k : Setup) (c : Config) (p q : SeatAt) → IsOf z k c p
     → IsSeatKept c p q → IsOf z k c q
 of_kept z k c p q o x = record {
   table = x.table ∙ o.table;
@@ -46,7 +46,7 @@ of_kept z k c p q o x = record {
   live = x.rest.live;
 }
 
-kept_moves : (c : Config) (p q : Place) (w : View) → Moves p q w → w.share ≡ p.me.0.share
+kept_moves : (c : Config) (p q : SeatAt) (w : View) → Moves p q w → w.share ≡ p.me.0.share
     → w.pins ≡ p.me.0.pins → tries_of w ≡ tries_of p.me.0 → IsAtRest c w → IsSeatKept c p q
 kept_moves c p q w m share pins tries rest = record {
   table = m.0;
@@ -57,7 +57,7 @@ kept_moves c p q w m share pins tries rest = record {
   rest = rest_moved c p q w m rest;
 }
 
-pub kept_glance : (c : Config) (h w : ℕ) (p q : Place) → Glances h w p q → h < c.handles
+pub kept_glance : (c : Config) (h w : ℕ) (p q : SeatAt) → Glances h w p q → h < c.handles
     → IsAtRest c p.me.0 → IsSeatKept c p q
 kept_glance c h w p q g below rest = ⊎_elim
     (λ (e : state_of w ≡ state.Empty). let f = g.freed e in
@@ -68,7 +68,7 @@ kept_glance c h w p q g below rest = ⊎_elim
     (rest_look c h w p.me.0 rest)) (by_state w)
 
 -- a pin at the word that was found is answered
-pub pinned_gives : (h w : ℕ) (a : PinAnswer) (p m q : Place) → Glances h w p m
+pub pinned_gives : (h w : ℕ) (a : PinAnswer) (p m q : SeatAt) → Glances h w p m
     → state_of w ≡ state.Here → PinAt h w a m.me.0 q.me.0 → PinGives h a p.me.0 q.me.0
 pinned_gives h w (pins.Pinned x) p m q g here at =
     let saw = view_of p m (with_look h w p.me.0) (g.other (λ e. here_empty (sym here ∙ e))) in

@@ -21,7 +21,7 @@ use Rattle.cb_rule.specs.Slot.{LockSlot, Sat, Table}
 use Rattle.cb_rule.specs.Steps.{Knows}
 use Rattle.cb_rule.proofs.Laws.{gives_lock, takes_lock}
 use Rattle.cb_shared.specs.Making.{took_first}
-use Rattle.cb_shared.specs.Places.{Moves, Place}
+use Rattle.cb_shared.specs.Seats.{Moves, SeatAt}
 use Rattle.cb_shared.specs.Turning.{Did, made_by_turn}
 use Rattle.cb_shared.specs.UnderLock.{GivesFar, IsEnding, TakesFar, TakesLock}
 use Rattle.cb_shared.proofs.Alone.{at_key}
@@ -87,7 +87,7 @@ gives_lock_at first c k key slots id me job j reply r ej er far n live carried e
 
 -- what the step tells of the seat
 pub gives_far : (c : Config) (job j : Job) (reply r : Option Reply) → j ≡ job → r ≡ reply
-    → (far : FarState) (p q : Place) → p.me.0.config ≡ c → q.table_id ≡ p.table_id → q.id ≡ p.id
+    → (far : FarState) (p q : SeatAt) → p.me.0.config ≡ c → q.table_id ≡ p.table_id → q.id ≡ p.id
     → HasGiven j r far [] (made_by_turn j r) p.me q.me → GivesFar c job reply far p q
 gives_far c job j reply r ej er far p q key table id h = record {
   entries = h.entries;
@@ -119,7 +119,7 @@ none_taken m n m' t slot = no_far (ap (slot_in None) (sym (ap (λ (x : Sat). x.1
     no_far e = cc
 
 -- the seat took the far state that was in the slot
-pub takes_far : (c : Config) (word : ℕ) (far : FarState) (p m q : Place) → p.me.0.config ≡ c
+pub takes_far : (c : Config) (word : ℕ) (far : FarState) (p m q : SeatAt) → p.me.0.config ≡ c
     → TakesLock word p m → (q.table_id ≡ m.table_id) × (q.id ≡ m.id)
     × (q.me ≡ (m.me.0, (0, None) ∷ rest m.me.1)) → m.me.1 ≡ (0, Some far) ∷ rest m.me.1
     → TakesFar c far p q
@@ -143,11 +143,11 @@ takes_far c word far p m q key (table, id, t) out slot =
     }
 
 -- a seat that is not moved, twice
-pub not_moved_twice : (p m q : Place) → Moves p m p.me.0 → Moves m q m.me.0 → Moves p q p.me.0
+pub not_moved_twice : (p m q : SeatAt) → Moves p m p.me.0 → Moves m q m.me.0 → Moves p q p.me.0
 not_moved_twice p m q a b = (b.0 ∙ a.0, b.1 ∙ a.1, b.2 ∙ a.2)
 
 -- so where it was not moved before
-pub takes_from : (c : Config) (far : FarState) (p m q : Place) → Moves p m p.me.0
+pub takes_from : (c : Config) (far : FarState) (p m q : SeatAt) → Moves p m p.me.0
     → TakesFar c far m q → TakesFar c far p q
 takes_from c far p m q same t = record {
   known = t.known;
@@ -165,7 +165,7 @@ takes_from c far p m q same t = record {
 }
 
 -- so where the far state was put into the slot before
-pub gives_from : (c : Config) (job : Job) (reply : Option Reply) (far : FarState) (p m q : Place)
+pub gives_from : (c : Config) (job : Job) (reply : Option Reply) (far : FarState) (p m q : SeatAt)
     → m.table_id ≡ p.table_id → m.id ≡ p.id → m.me.0 ≡ p.me.0 → GivesFar c job reply far m q
     → GivesFar c job reply far p q
 gives_from c job reply far p m q table id same g = record {

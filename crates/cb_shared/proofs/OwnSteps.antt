@@ -20,13 +20,13 @@ use Rattle.cb_rule.specs.Words.{base, stamps}
 use Rattle.cb_shared.specs.declared.setup.Setup.{Setup}
 use Rattle.cb_shared.specs.Claims.{ClaimsHere, HoldsOnly, IsAsClaimed, IsNextOf, back_only}
 use Rattle.cb_shared.specs.Claims.{with_only, written_only}
-use Rattle.cb_shared.specs.Places.{IsOf, Moves, Place}
+use Rattle.cb_shared.specs.Seats.{IsOf, Moves, SeatAt}
 use Rattle.cb_shared.specs.Turning.{Did}
 use Rattle.cb_shared.proofs.Only.{edited_only, has_only, removed_only}
 use Rattle.cb_shared.proofs.OwnAlone.{puts_back_at, settles_here_at, stamps_here_at, stores_here_at}
 
 -- ---- a seat that claims an object and no other may make the steps on it
-module _ (z : TableId) (k : Setup) (c : Config) (p : Place) (o : IsOf z k c p) (x : Held)
+module _ (z : TableId) (k : Setup) (c : Config) (p : SeatAt) (o : IsOf z k c p) (x : Held)
     (h : ℕ) (ho : HoldsOnly x h p) where
   pub may_store : (i j y : ℕ) → j < words_for x.len → base c + x.place + j ≡ i
       → Allows (Ruled (Locked Did) k.first k.config) z.slots p.id p.me i (λ _. y)
@@ -69,7 +69,7 @@ module _ (z : TableId) (k : Setup) (c : Config) (p : Place) (o : IsOf z k c p) (
       (has_only x p.me.0.claims ho.0) n.version n.memory))
 
 -- ---- what the seat finds at the words of its claim
-module _ (c : Config) (slots : ℕ) (p q : Place) (config : p.me.0.config ≡ c) where
+module _ (c : Config) (slots : ℕ) (p q : SeatAt) (config : p.me.0.config ≡ c) where
   pub version_held : (h n : ℕ) → dated (step slots (stamps c + h) 0 0 none) p.me n q.me
       → (x : Held) → HoldsOnly x h p → n ≡ x.stamp
   version_held h n d x ho =
@@ -86,7 +86,7 @@ module _ (c : Config) (slots : ℕ) (p q : Place) (config : p.me.0.config ≡ c)
       each.0 j lt (here ∙ ap (λ (q : Config). base q + x.place + j) (sym config))
 
 -- ---- where a step leaves the seat
-module _ (c : Config) (slots : ℕ) (p q : Place) (config : p.me.0.config ≡ c)
+module _ (c : Config) (slots : ℕ) (p q : SeatAt) (config : p.me.0.config ≡ c)
     (table : q.table_id ≡ p.table_id) (id : q.id ≡ p.id) where
   pub claims_only : (h saw new n : ℕ) → p.me.0.claims ≡ []
       → claimed_here (step slots (1 + h) saw new none) p.me n q.me → ClaimsHere c h saw n p q

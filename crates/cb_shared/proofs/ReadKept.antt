@@ -17,8 +17,8 @@ use Rattle.cb_shared.specs.declared.reading.ReadAnswer.TheVariants.{Bytes, Freed
 use Rattle.cb_shared.specs.declared.reading.ReadAnswer.TheVariants.{Crowded, Raced}
 use Rattle.cb_record.specs.Parts.{Part, grown}
 use Rattle.cb_shared.specs.Passes.{IsAtRest}
-use Rattle.cb_shared.specs.Places.{Moves, Place}
 use Rattle.cb_shared.specs.Reading.{ReadFinds, ReadMoves, looked}
+use Rattle.cb_shared.specs.Seats.{Moves, SeatAt}
 use Rattle.cb_shared.specs.Trying.{newest_tries, tries_of}
 
 -- the part wrote nothing, has no turns, and read entries of objects that there are
@@ -42,7 +42,7 @@ finds_reading c h (Raced saw found) v d l x =
     reading_as c d _ x.1 (record { wrote = refl; turns = refl; seen = tt })
 
 -- what stands of the seat afterwards
-pub record IsSeatKept (c : Config) (p q : Place) : Type 0 where
+pub record IsSeatKept (c : Config) (p q : SeatAt) : Type 0 where
   pub table : q.table_id ≡ p.table_id
   pub share : q.me.0.share ≡ p.me.0.share
   pub carries : q.me.1 ≡ p.me.1
@@ -55,7 +55,7 @@ each_both : {A : Type 0} (P : A → Type 0) (xs ys : List A) → Each P xs → E
 each_both P [] ys a b = b
 each_both P (x ∷ xs) ys a b = (a.0, each_both P xs ys a.1 b)
 
-pub kept_part : (c : Config) (p q : Place) (d : Part) → IsAtRest c p.me.0
+pub kept_part : (c : Config) (p q : SeatAt) (d : Part) → IsAtRest c p.me.0
     → Moves p q (grown d p.me.0) → IsReadPart c d → IsSeatKept c p q
 kept_part c p q d rest m x = record {
   table = m.0;
@@ -79,7 +79,7 @@ kept_part c p q d rest m x = record {
   };
 }
 
-pub kept_read : (c : Config) (h : ℕ) (p q : Place) (r : Result ReadAnswer NoMemory)
+pub kept_read : (c : Config) (h : ℕ) (p q : SeatAt) (r : Result ReadAnswer NoMemory)
     → IsAtRest c p.me.0 → h < c.handles → IfOk r (λ a. ReadMoves h a p q)
     → OnErr r ((word : ℕ) × (state_of word ≡ state.Here)
     × Moves p q (grown (looked h word) p.me.0)) → IsSeatKept c p q

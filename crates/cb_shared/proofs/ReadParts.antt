@@ -20,8 +20,8 @@ use Rattle.cb_shared.specs.declared.reading.ReadAnswer.{ReadAnswer}
 use Rattle.cb_shared.specs.declared.reading.ReadAnswer.TheVariants as found
 use Rattle.cb_shared.specs.declared.setup.Setup.{Setup}
 use Rattle.cb_record.specs.Parts.{Part, grown, nothing_more, sum}
-use Rattle.cb_shared.specs.Places.{IsOf, Moves, Place}
 use Rattle.cb_shared.specs.Reading.{ReadFinds, ReadMoves, looked}
+use Rattle.cb_shared.specs.Seats.{IsOf, Moves, SeatAt}
 use Rattle.cb_shared.specs.Turning.{AreLooksAt, FindsAtLast, Tries}
 use Rattle.cb_shared.specs.UnderLock.{HasSame, IsQuiet, IsReplyTo, IsTriedAgain, LooksFor}
 use Rattle.cb_shared.specs.UnderLock.{ReadsBelow, TriesOn}
@@ -187,7 +187,7 @@ pub looks_known : (h k : ℕ) (d : Part) (v : View) → AreLooksAt h d → Knows
     → Knows k (grown d v)
 looks_known h k d v x knows = subst (λ (e : Part). Knows k (grown e v)) (sym x.part) knows
 
-pub grown_moves : (p q r : Place) (d e : Part) → Moves p q (grown d p.me.0)
+pub grown_moves : (p q r : SeatAt) (d e : Part) → Moves p q (grown d p.me.0)
     → Moves q r (grown e q.me.0) → Moves p r (grown (sum d e) p.me.0)
 grown_moves p q r d e m n = (
   n.0 ∙ m.0,
@@ -196,7 +196,7 @@ grown_moves p q r d e m n = (
       ∙ ap (λ (x : View). let z : Sat = (x, p.me.1) in z) (grown_sum d e p.me.0),
 )
 
-pub not_moved : (p : Place) → Moves p p (grown nothing_more p.me.0)
+pub not_moved : (p : SeatAt) → Moves p p (grown nothing_more p.me.0)
 not_moved p = (
   refl,
   refl,
@@ -204,13 +204,14 @@ not_moved p = (
 )
 
 -- a seat that grew is of the table as before
-pub of_grown : (z : TableId) (k : Setup) (c : Config) (p q : Place) (d : Part) → IsOf z k c p
+pub of_grown : (z : TableId) (k : Setup) (c : Config) (p q : SeatAt) (d : Part) → IsOf z k c p
     → Moves p q (grown d p.me.0) → IsOf z k c q
 of_grown z k c p q d of m = let v = ap (λ (s : Sat). s.0) m.2 in
     of_moved z k c p q of m.0 (ap (λ (x : View). x.config) v) (ap (λ (x : View). x.share) v)
 
 -- a look found the object freed
-pub look_found : (c : Config) (h : ℕ) (p q r : Place) (d : Part) → h < c.handles → AreLooksAt h d → Moves p q (grown d p.me.0)
+pub look_found : (c : Config) (h : ℕ) (p q r : SeatAt) (d : Part) → h < c.handles → AreLooksAt h d
+    → Moves p q (grown d p.me.0)
     → ReadMoves h found.Freed q r → LooksFor c h p r
 look_found c h p q r d l lost m (e, n, finds) =
     let at : q.me.0 ≡ grown d p.me.0 = ap (λ (s : Sat). s.0) m.2 in
@@ -224,7 +225,7 @@ look_found c h p q r d l lost m (e, n, finds) =
     )
 
 -- a try that came to nothing, and one that is answered
-pub try_lost : (h : ℕ) (a : Result ReadAnswer NoMemory) (p q r : Place) (d : Part) → AreLooksAt h d
+pub try_lost : (h : ℕ) (a : Result ReadAnswer NoMemory) (p q r : SeatAt) (d : Part) → AreLooksAt h d
     → Moves p q (grown d p.me.0) → IfOk a (λ x. ReadMoves h x q r) → IsTriedAgain a
     → (e : Part) × AreLooksAt h e × Moves p r (grown e p.me.0)
 try_lost h (Ok a) p q r d lost m (e, n, finds) again = (
@@ -234,7 +235,7 @@ try_lost h (Ok a) p q r d lost m (e, n, finds) again = (
 )
 try_lost h (Err e) p q r d lost m read again = absurd again
 
-try_done : (c : Config) (h : ℕ) (a : ReadAnswer) (reply : Result Reply NoMemory) (p q r : Place)
+try_done : (c : Config) (h : ℕ) (a : ReadAnswer) (reply : Result Reply NoMemory) (p q r : SeatAt)
     (d : Part) → h < c.handles → AreLooksAt h d → Moves p q (grown d p.me.0) → ReadMoves h a q r → IsReplyTo (Ok a) reply
     → TriesOn c h reply p r
 try_done c h a reply p q r d l lost m (e, n, finds) is =
@@ -248,7 +249,7 @@ try_done c h a reply p q r d l lost m (e, n, finds) is =
     )
 
 pub try_ends : (c : Config) (h : ℕ) (a : Result ReadAnswer NoMemory) (reply : Result Reply NoMemory)
-    (p q r : Place) (d : Part) → h < c.handles → AreLooksAt h d → Moves p q (grown d p.me.0)
+    (p q r : SeatAt) (d : Part) → h < c.handles → AreLooksAt h d → Moves p q (grown d p.me.0)
     → IfOk a (λ x. ReadMoves h x q r)
     → OnErr a ((word : ℕ) × (state_of word ≡ state.Here) × Moves q r (grown (looked h word) q.me.0))
     → IsReplyTo a reply → TriesOn c h reply p r
@@ -264,12 +265,12 @@ try_ends c h (Err e) reply p q r d l lost m read (word, here, n) is =
     )
 
 -- the seat knows what it knew
-pub looks_know : (h : ℕ) (p q : Place) (d : Part) → AreLooksAt h d → Moves p q (grown d p.me.0)
+pub looks_know : (h : ℕ) (p q : SeatAt) (d : Part) → AreLooksAt h d → Moves p q (grown d p.me.0)
     → Knows h p.me.0 → Knows h q.me.0
 looks_know h p q d lost m knows = subst (Knows h) (sym (ap (λ (s : Sat). s.0) m.2))
     (looks_known h h d p.me.0 lost knows)
 
-pub looks_few : (h : ℕ) (p q : Place) (d : Part) → Moves p q (grown d p.me.0)
+pub looks_few : (h : ℕ) (p q : SeatAt) (d : Part) → Moves p q (grown d p.me.0)
     → length p.me.0.pins ≤ 16 → length q.me.0.pins ≤ 16
 looks_few h p q d m few = subst (λ (v : View). length v.pins ≤ 16)
     (sym (ap (λ (s : Sat). s.0) m.2)) few

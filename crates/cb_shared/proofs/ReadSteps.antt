@@ -16,9 +16,9 @@ use Rattle.cb_shared.specs.declared.reading.ReadAnswer.TheVariants.{Bytes, Freed
 use Rattle.cb_shared.specs.declared.reading.ReadAnswer.TheVariants.{Crowded, Raced}
 use Rattle.cb_shared.specs.Glances.{Glances, TellsVersion}
 use Rattle.cb_record.specs.Parts.{grown}
-use Rattle.cb_shared.specs.Places.{Place, Moves}
 use Rattle.cb_shared.specs.Reading.{IsReadAt, IsReadRefusal, IsUnderPin, ReadAt, ReadMoves, looked}
 use Rattle.cb_shared.specs.Reading.{looked_freed, looked_twice, read_once, with_read}
+use Rattle.cb_shared.specs.Seats.{SeatAt, Moves}
 use Rattle.cb_shared.proofs.Resting.{far_empty, here_empty, moving_empty, view_of}
 
 -- what a step adds is a part of the record
@@ -41,14 +41,14 @@ pub read_part : (h word version : ℕ) (words : List ℕ) (v : View)
 read_part h word version words v = refl
 
 -- one step after another
-pub moves_as : (p q : Place) (x y : View) → Moves p q x → x ≡ y → Moves p q y
+pub moves_as : (p q : SeatAt) (x y : View) → Moves p q x → x ≡ y → Moves p q y
 moves_as p q x y m e = (
   m.0,
   m.1,
   m.2 ∙ ap (λ (z : View). let s : Sat = (z, p.me.1) in s) e,
 )
 
-pub moves_then : (p q r : Place) (f : View → View) (x : View) → Moves p q x
+pub moves_then : (p q r : SeatAt) (f : View → View) (x : View) → Moves p q x
     → Moves q r (f q.me.0) → Moves p r (f x)
 moves_then p q r f x m n = (
   n.0 ∙ m.0,
@@ -57,7 +57,7 @@ moves_then p q r f x m n = (
 )
 
 -- a refusal by the word that was found is answered
-pub refused_moves : (h w : ℕ) (a : ReadAnswer) (p q : Place) → Glances h w p q
+pub refused_moves : (h w : ℕ) (a : ReadAnswer) (p q : SeatAt) → Glances h w p q
     → IsReadRefusal w a → ReadMoves h a p q
 refused_moves h w (Bytes version bytes) p q g why = absurd why
 refused_moves h w Freed p q g why = let f = g.freed why in (
@@ -87,13 +87,13 @@ refused_moves h w Crowded p q g why = (
 refused_moves h w (Raced saw found) p q g why = absurd why
 
 -- the look found the object here
-pub looked_here : (h w : ℕ) (p q : Place) → Glances h w p q → state_of w ≡ state.Here
+pub looked_here : (h w : ℕ) (p q : SeatAt) → Glances h w p q → state_of w ≡ state.Here
     → Moves p q (grown (looked h w) p.me.0)
 looked_here h w p q g here = moves_as p q (with_look h w p.me.0) (grown (looked h w) p.me.0)
     (g.other (λ e. here_empty (sym here ∙ e))) (look_part h w p.me.0)
 
 -- the look, and what the exchange at its word comes to
-pub at_word : (h saw : ℕ) (a : ReadAnswer) (p q r : Place) → Glances h saw p q
+pub at_word : (h saw : ℕ) (a : ReadAnswer) (p q r : SeatAt) → Glances h saw p q
     → state_of saw ≡ state.Here → ReadAt h saw a q r → ReadMoves h a p r
 at_word h saw (Bytes version bytes) p q r g here x =
     let m = g.other (λ e. here_empty (sym here ∙ e)) in (
@@ -132,7 +132,7 @@ pin_gone h w v words u =
     } in z) (eq-eqb h h refl)
 
 -- the pin that was taken, and what was loaded under it
-module _ (c : Config) (h saw v version : ℕ) (words bytes : List ℕ) (p s t : Place)
+module _ (c : Config) (h saw v version : ℕ) (words bytes : List ℕ) (p s t : SeatAt)
     (taken : Moves p s (with_pin h saw v words p.me.0)) (told : TellsVersion c h version s t) where
   the_pin : Stand
   the_pin = stand h (len_of saw) (place_of saw) v words
@@ -156,7 +156,7 @@ module _ (c : Config) (h saw v version : ℕ) (words bytes : List ℕ) (p s t : 
       subst (Each (λ (x : Stand). x.handle ≡ h → version ≡ x.version))
       (ap (λ (m : Sat). m.0.pins) taken.2) told.tells in each.0 refl
 
-  pub read_ended : (u q : Place) → IsNewest h v p.me.0 → Moves t u t.me.0
+  pub read_ended : (u q : SeatAt) → IsNewest h v p.me.0 → Moves t u t.me.0
       → ((x : Stand) → IsUnderPin x (place_of saw) (len_of saw) t
       → bytes ≡ bytes_in x.words (len_of saw))
       → Moves u q (without_pin h u.me.0) → IsReadAt h saw version bytes p q

@@ -35,8 +35,8 @@ use Rattle.cb_rule.specs.Locking.{Stood}
 use Rattle.cb_rule.specs.Slot.{Sat}
 use Rattle.cb_rule.specs.Steps.{AreNew, Knows, acted}
 use Rattle.cb_record.specs.Parts.{Part, grown, nothing_more}
-use Rattle.cb_shared.specs.Places.{Place}
 use Rattle.cb_shared.specs.SeatLaws.{Runs, acted_fresh, acted_is, acted_known, fresh_new}
+use Rattle.cb_shared.specs.Seats.{SeatAt}
 use Rattle.cb_shared.specs.Turning.{DidAs, IsReadReply, JobReads, Slate, TellsNoPin, Tries}
 use Rattle.cb_shared.specs.Turning.{answer_of, slate_run, slate_shows}
 use Rattle.cb_shared.specs.UnderLock.{BringAt, BroughtForRead, CameThere, HasSame, IsNoRead}
@@ -122,7 +122,7 @@ did_read c handle place (Err e) v d start es took gave (first_done few come) the
     record { few = few; stops = call_stops _ place come there refl }
 
 -- ---- the work of such a turn
-module _ (c : Config) (handle : Handle) (took gave : FarState) (p m : Place) (place : Reply)
+module _ (c : Config) (handle : Handle) (took gave : FarState) (p m : SeatAt) (place : Reply)
     (b : BringAt c handle (Ok place) took gave p m) where
   came : m.me.0 ≡ acted b.events p.me.0
   came = ap (λ (s : Sat). s.0) b.runs.0.2
@@ -168,7 +168,7 @@ module _ (c : Config) (handle : Handle) (took gave : FarState) (p m : Place) (pl
     sym (ap (λ (x : View). x.own) e),
   )
 
-  work_here : (q : Place) (r : Result Reply NoMemory) → p.me.0.fresh ≡ [] → IsThere place
+  work_here : (q : SeatAt) (r : Result Reply NoMemory) → p.me.0.fresh ≡ [] → IsThere place
       → TriesOn c handle.n r m q → WorkBy c (Read handle) r took gave p q
   work_here q r none there (d, moves, quiet, range, tries) =
       let s = same_come none in record {
@@ -205,7 +205,7 @@ module _ (c : Config) (handle : Handle) (took gave : FarState) (p m : Place) (pl
       wrote_none (Err e) = refl
 
 -- where there was no memory to bring it in
-work_stopped : (c : Config) (handle : Handle) (e : NoMemory) (took gave : FarState) (p m : Place)
+work_stopped : (c : Config) (handle : Handle) (e : NoMemory) (took gave : FarState) (p m : SeatAt)
     → BringAt c handle (Err e) took gave p m → WorkBy c (Read handle) (Err e) took gave p m
 work_stopped c handle e took gave p m b =
     let came : m.me.0 ≡ acted b.events p.me.0 = ap (λ (s : Sat). s.0) b.runs.0.2 in record {
@@ -234,13 +234,13 @@ work_stopped c handle e took gave p m b =
 
 -- by the answer of the first part
 pub work_away : (c : Config) (handle : Handle) (r : Result Reply NoMemory) (took gave : FarState)
-    (p m : Place) → BringAt c handle r took gave p m → (CameThere r → ⊥)
+    (p m : SeatAt) → BringAt c handle r took gave p m → (CameThere r → ⊥)
     → WorkBy c (Read handle) r took gave p m
 work_away c handle (Ok place) took gave p m b off = work_off c handle took gave p m place b off
 work_away c handle (Err e) took gave p m b off = work_stopped c handle e took gave p m b
 
 pub work_read : (c : Config) (handle : Handle) (place r : Result Reply NoMemory)
-    (took gave : FarState) (p m q : Place) → BringAt c handle place took gave p m
+    (took gave : FarState) (p m q : SeatAt) → BringAt c handle place took gave p m
     → p.me.0.fresh ≡ [] → CameThere place → TriesOn c handle.n r m q
     → WorkBy c (Read handle) r took gave p q
 work_read c handle (Ok place) r took gave p m q b none there tries =
@@ -256,7 +256,7 @@ slate_follows d e es s run shown = (
 )
 
 pub tells_away : (c : Config) (handle : Handle) (r : Result Reply NoMemory) (took gave : FarState)
-    (p m : Place) → BringAt c handle r took gave p m → Stood c p.me.0.known took
+    (p m : SeatAt) → BringAt c handle r took gave p m → Stood c p.me.0.known took
     → IfOk r (λ reply. TurnTells (Read handle) took reply)
 tells_away c handle (Ok r) took gave p m b stood = brought_tells slate_run slate_shows slate_follows c
     handle _ _ r (p.me.0.known, refl, stood.sound) b.brought
@@ -266,7 +266,7 @@ read_tells_none : (r : Reply) → IsReadReply r → IsNever r
 read_tells_none r is id losses e = subst IsReadReply e is
 
 pub tells_read : (c : Config) (handle : Handle) (place r : Result Reply NoMemory)
-    (took gave : FarState) (p m q : Place) → BringAt c handle place took gave p m
+    (took gave : FarState) (p m q : SeatAt) → BringAt c handle place took gave p m
     → Stood c p.me.0.known took → CameThere place → TriesOn c handle.n r m q
     → IfOk r (λ reply. TurnTells (Read handle) took reply)
 tells_read c handle (Ok place) (Ok r) took gave p m q b stood there (d, moves, quiet, range, tries) =
@@ -277,25 +277,26 @@ tells_read c handle (Ok place) (Err e) took gave p m q b stood there tries = tt
 tells_read c handle (Err e) (Ok r) took gave p m q b stood there tries = absurd there
 tells_read c handle (Err e) (Err f) took gave p m q b stood there tries = tt
 
-pub no_frame_read : (c : Config) (h : ℕ) (r : Result Reply NoMemory) (m q : Place) → TriesOn c h r m q
+pub no_frame_read : (c : Config) (h : ℕ) (r : Result Reply NoMemory) (m q : SeatAt)
+    → TriesOn c h r m q
     → IfOk r (λ reply. reply ≡ answer.NoFrame → ⊥)
 no_frame_read c h (Ok r) m q (d, moves, quiet, range, tries) = λ e. subst IsReadReply e
     (tries_reply h r m.me.0 d (tries m.me.0 (refl, refl, refl, refl, refl)))
 no_frame_read c h (Err e) m q tries = tt
 
 -- the seat knows and pins what it did
-pub knows_come : (h : ℕ) (p m : Place) (es : List Event) → Runs p es m → Knows h p.me.0
+pub knows_come : (h : ℕ) (p m : SeatAt) (es : List Event) → Runs p es m → Knows h p.me.0
     → Knows h m.me.0
 knows_come h p m es runs knows = subst (Knows h) (sym (after_runs p m es runs)) knows
 
-pub few_come : (p m : Place) (es : List Event) → Runs p es m → length p.me.0.pins ≤ 16
+pub few_come : (p m : SeatAt) (es : List Event) → Runs p es m → length p.me.0.pins ≤ 16
     → length m.me.0.pins ≤ 16
 few_come p m es runs few = subst (λ (v : View). length v.pins ≤ 16)
     (sym (after_runs p m es runs)) few
 
 -- ---- any other job
 pub work_done : (c : Config) (job : Job) (r : Result Reply NoMemory) (took gave : FarState)
-    (p q : Place) → IsNoRead job → p.me.0.fresh ≡ [] → TurnAtSeat c job r took gave p q
+    (p q : SeatAt) → IsNoRead job → p.me.0.fresh ≡ [] → TurnAtSeat c job r took gave p q
     → WorkBy c job r took gave p q
 work_done c job r took gave p q other none t =
     let came : q.me.0 ≡ acted t.events p.me.0 = ap (λ (s : Sat). s.0) t.runs.0.2 in

@@ -20,7 +20,7 @@ use Rattle.cb_shared.specs.declared.answers.PinAnswer.TheVariants.{NotHere, Movi
 use Rattle.cb_shared.specs.Glances.{Glances}
 use Rattle.cb_shared.specs.Passes.{IsAtRest, PinFits}
 use Rattle.cb_shared.specs.Pinning.{IsRefusal, PinGives}
-use Rattle.cb_shared.specs.Places.{Place, Moves}
+use Rattle.cb_shared.specs.Seats.{SeatAt, Moves}
 
 pub far_empty : state.Far ≡ state.Empty → ⊥
 far_empty e = let z : 1 ≡ 0 = ap state_number e in omega (arith, z)
@@ -134,15 +134,15 @@ by_state w = go (state_of w) refl
     go state.Here e = inr (λ q. here_empty (sym e ∙ q))
     go state.Moving e = inr (λ q. moving_empty (sym e ∙ q))
 
-pub rest_moved : (c : Config) (p q : Place) (w : View) → Moves p q w → IsAtRest c w
+pub rest_moved : (c : Config) (p q : SeatAt) (w : View) → Moves p q w → IsAtRest c w
     → IsAtRest c q.me.0
 rest_moved c p q w m rest = subst (λ (x : Sat). IsAtRest c x.0) (sym m.2) rest
 
-pub view_of : (p q : Place) (w : View) → Moves p q w → q.me.0 ≡ w
+pub view_of : (p q : SeatAt) (w : View) → Moves p q w → q.me.0 ≡ w
 view_of p q w m = ap (λ (x : Sat). x.0) m.2
 
 -- what was known is known after a look
-pub knows_glance : (h k w : ℕ) (p q : Place) → Glances h w p q → Knows k p.me.0 → Knows k q.me.0
+pub knows_glance : (h k w : ℕ) (p q : SeatAt) → Glances h w p q → Knows k p.me.0 → Knows k q.me.0
 knows_glance h k w p q g knows = ⊎_elim
     (λ (e : state_of w ≡ state.Empty). let f = g.freed e in
     subst (Knows k) (sym (view_of p q (with_freed_seen h f.0 w p.me.0) f.2)) (also f.0 knows))
@@ -154,7 +154,7 @@ knows_glance h k w p q g knows = ⊎_elim
     also v (inr (s, has, is)) = inr (s, inr has, is)
 
 -- a refusal by the word that was found is answered
-pub refused_gives : (h w : ℕ) (a : PinAnswer) (p q : Place) → Glances h w p q → IsRefusal w a
+pub refused_gives : (h w : ℕ) (a : PinAnswer) (p q : SeatAt) → Glances h w p q → IsRefusal w a
     → PinGives h a p.me.0 q.me.0
 refused_gives h w (Pinned x) p q g why = absurd why
 refused_gives h w ScopeFull p q g why = absurd why

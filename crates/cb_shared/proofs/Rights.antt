@@ -31,9 +31,9 @@ use Rattle.cb_rule.specs.Slot.{Sat}
 use Rattle.cb_rule.specs.Steps.{HasEvent, act, acted}
 use Rattle.cb_rule.proofs.Laws.{entries_acted, hit, known_entries, times-append}
 use Rattle.cb_shared.specs.declared.setup.Setup.{Setup}
-use Rattle.cb_shared.specs.Places.{Acts, HoldsLock, Moves, Place}
 use Rattle.cb_shared.specs.SeatLaws.{holds_still}
 use Rattle.cb_shared.specs.Rights.{rights, unmade, writes_of}
+use Rattle.cb_shared.specs.Seats.{Acts, HoldsLock, Moves, SeatAt}
 use Rattle.cb_shared.specs.Turning.{KnowsOf}
 
 abbrev is_never : Object → Type 0
@@ -125,7 +125,7 @@ rights_acted (Some k) e v a m r = rights_are k (act e v).known (act e v) (⊎_el
     (λ (n : object_at v.known k ≡ never). unmade_after k v.known v refl e a m n)
     (may_write k v.known v r))
 
-pub rights_moved : (allowed : Option ℕ) (e : Event) (p q : Place) → Acts p e q
+pub rights_moved : (allowed : Option ℕ) (e : Event) (p q : SeatAt) → Acts p e q
     → SettlesRightly e p.me.0.known → 1 ≤ rights allowed p.me.0.known p.me.0
     → 1 ≤ rights allowed q.me.0.known q.me.0
 rights_moved allowed e p q a m r = subst (λ (x : Sat). 1 ≤ rights allowed x.0.known x.0)
@@ -156,13 +156,13 @@ rights_stores allowed place (w ∷ ws) v r =
     same None r = r
     same (Some h) r = r
 
-pub rights_loaded : (allowed : Option ℕ) (place : ℕ) (ws : List ℕ) (p q : Place)
+pub rights_loaded : (allowed : Option ℕ) (place : ℕ) (ws : List ℕ) (p q : SeatAt)
     → Moves p q (acted (loads_from place ws) p.me.0) → 1 ≤ rights allowed p.me.0.known p.me.0
     → 1 ≤ rights allowed q.me.0.known q.me.0
 rights_loaded allowed place ws p q m r = subst (λ (x : Sat). 1 ≤ rights allowed x.0.known x.0)
     (sym m.2) (rights_loads allowed place ws p.me.0 r)
 
-pub rights_stored : (allowed : Option ℕ) (place : ℕ) (ws : List ℕ) (p q : Place)
+pub rights_stored : (allowed : Option ℕ) (place : ℕ) (ws : List ℕ) (p q : SeatAt)
     → Moves p q (acted (stores_from place ws) p.me.0) → 1 ≤ rights allowed p.me.0.known p.me.0
     → 1 ≤ rights allowed q.me.0.known q.me.0
 rights_stored allowed place ws p q m r = subst (λ (x : Sat). 1 ≤ rights allowed x.0.known x.0)
@@ -198,7 +198,7 @@ begins_with (Free handle) far v sound knows =
 begins_with job far v sound knows = let z : 1 ≤ 1 = omega arith in z
 
 -- a claim, won or lost
-pub rights_claimed : (allowed : Option ℕ) (h saw w : ℕ) (p q : Place)
+pub rights_claimed : (allowed : Option ℕ) (h saw w : ℕ) (p q : SeatAt)
     → (w ≡ saw → (n : ℕ) × (words : List ℕ) × Acts p (ev.Claimed h saw n words) q)
     → (w ≢ saw → Acts p (ev.Looked h w) q) → 1 ≤ rights allowed p.me.0.known p.me.0
     → 1 ≤ rights allowed q.me.0.known q.me.0
@@ -208,7 +208,7 @@ rights_claimed allowed h saw w p q won lost r = elim (ℕ_discrete w saw) [
 ]
 
 -- what the exchange of a claim tells the seat, where it found the word
-pub claim_won : (h saw w : ℕ) (p q : Place) → q.table_id ≡ p.table_id → q.id ≡ p.id
+pub claim_won : (h saw w : ℕ) (p q : SeatAt) → q.table_id ≡ p.table_id → q.id ≡ p.id
     → (w ≡ saw → (n : ℕ) × (words : List ℕ) × HasEvent p.me (ev.Claimed h w n words) q.me) → w ≡ saw
     → (n : ℕ) × (words : List ℕ) × Acts p (ev.Claimed h saw n words) q
 claim_won h saw w p q table id won e = let z = won e in (
@@ -218,12 +218,12 @@ claim_won h saw w p q table id won e = let z = won e in (
 )
 
 -- and where it found another one
-pub claim_lost : (h saw w : ℕ) (p q : Place) → q.table_id ≡ p.table_id → q.id ≡ p.id
+pub claim_lost : (h saw w : ℕ) (p q : SeatAt) → q.table_id ≡ p.table_id → q.id ≡ p.id
     → (w ≢ saw → HasEvent p.me (ev.Looked h w) q.me) → w ≢ saw → Acts p (ev.Looked h w) q
 claim_lost h saw w p q table id lost ne = let z = lost ne in ((table, id, z.0), z.1)
 
 -- the seat holds the lock as before
-pub claim_holds : (z : TableId) (k : Setup) (c : Config) (h saw w : ℕ) (p q : Place)
+pub claim_holds : (z : TableId) (k : Setup) (c : Config) (h saw w : ℕ) (p q : SeatAt)
     → (w ≡ saw → (n : ℕ) × (words : List ℕ) × Acts p (ev.Claimed h saw n words) q)
     → (w ≢ saw → Acts p (ev.Looked h w) q) → HoldsLock z k c p → HoldsLock z k c q
 claim_holds z k c h saw w p q won lost holds = elim (ℕ_discrete w saw) [
@@ -245,7 +245,7 @@ rights_within allowed h known v is r =
     may_write h known v (subst (λ (x : Option ℕ). 1 ≤ rights x known v) is r)
 
 -- what a desk says of its seat
-pub holds_of : (z : TableId) (k : Setup) (c : Config) (p : Place) → p.table_id ≡ z
+pub holds_of : (z : TableId) (k : Setup) (c : Config) (p : SeatAt) → p.table_id ≡ z
     → z.words ≡ 1 + c.handles + c.handles + 512 * c.frames → k.config ≡ c → p.me.0.config ≡ c
     → 1 ≤ p.me.0.share → p.me.0.holds ≡ true → length p.me.0.known.objects ≡ c.handles
     → length p.me.0.known.hots ≡ c.handles → length p.me.0.known.versions ≡ c.handles

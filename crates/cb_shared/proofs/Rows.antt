@@ -11,8 +11,8 @@ use Rattle.cb_world.specs.FrameWords.{OwnsWords, loads_from, stores_from}
 use Rattle.cb_world.specs.Played.{after}
 use Rattle.cb_world.specs.Written.{adds}
 use Rattle.cb_rule.specs.Steps.{AreNew}
-use Rattle.cb_shared.specs.Places.{Place, Acts}
 use Rattle.cb_shared.specs.SeatLaws.{Runs, SaysPins, runs_more}
+use Rattle.cb_shared.specs.Seats.{SeatAt, Acts}
 use native.Mathlib.Decide.{ℕ_discrete}
 
 loads_last : (p : ℕ) (ws : List ℕ) (w : ℕ)
@@ -32,7 +32,8 @@ stores_last p (x ∷ ws) w =
     ∙ ap (λ (q : ℕ). stores_from (p + 1) ws ++ Stored q w ∷ []) z)
 
 -- one event more, which writes nothing
-pub acts_run : (p q : Place) (e : Event) → adds e p.me.0.known ≡ [] → SaysPins p.me.0 e → Acts p e q
+pub acts_run : (p q : SeatAt) (e : Event) → adds e p.me.0.known ≡ [] → SaysPins p.me.0 e
+    → Acts p e q
     → Runs p (e ∷ []) q
 acts_run p q e none says a = (
   a.0,
@@ -41,7 +42,7 @@ acts_run p q e none says a = (
   (says, tt),
 )
 
-pub load_more : (p q r : Place) (first i : ℕ) (words : List ℕ) (w : ℕ) → i < length words
+pub load_more : (p q r : SeatAt) (first i : ℕ) (words : List ℕ) (w : ℕ) → i < length words
     → length (take i words) ≡ i → Runs p (loads_from first (take i words)) q
     → Acts q (Loaded (first + i) w) r → Runs p (loads_from first (take (i + 1) (set words i w))) r
 load_more p q r first i words w below long runs acts =
@@ -53,7 +54,7 @@ load_more p q r first i words w below long runs acts =
     (runs_more p q r (loads_from first (take i words)) (Loaded (first + i) w ∷ []) runs
     (acts_run q r (Loaded (first + i) w) refl tt acts))
 
-pub store_more : (p q r : Place) (first i : ℕ) (done more : List ℕ) (w : ℕ)
+pub store_more : (p q r : SeatAt) (first i : ℕ) (done more : List ℕ) (w : ℕ)
     → more ≡ done ++ w ∷ [] → length done ≡ i → Runs p (stores_from first done) q
     → Acts q (Stored (first + i) w) r → Runs p (stores_from first more) r
 store_more p q r first i done more w is long runs acts =

@@ -16,8 +16,8 @@ use Rattle.cb_rule.proofs.Laws.{knows_or}
 use Rattle.cb_record.specs.Parts.{Part, grown, sum}
 use Rattle.cb_shared.specs.declared.reading.ReadAnswer.TheVariants as found
 use Rattle.cb_shared.specs.Passes.{IsAtRest}
-use Rattle.cb_shared.specs.Places.{Moves, Place}
 use Rattle.cb_shared.specs.Reading.{ReadFinds, looked, looked_freed}
+use Rattle.cb_shared.specs.Seats.{Moves, SeatAt}
 use Rattle.cb_shared.specs.Seeking.{GlancesAny, KnownMoves, swapped_of}
 use Rattle.cb_shared.specs.Turning.{AreLooksAt}
 use Rattle.cb_shared.specs.UnderLock.{IsBelow}
@@ -26,13 +26,13 @@ use Rattle.cb_shared.proofs.ReadParts.{grown_moves, here_look, look_found, looks
 use Rattle.cb_shared.proofs.ReadSteps.{freed_part, look_part, moves_as}
 
 -- looks leave what the seat knows
-looks_knew : (h : ℕ) (p q : Place) (d : Part) → AreLooksAt h d → Moves p q (grown d p.me.0)
+looks_knew : (h : ℕ) (p q : SeatAt) (d : Part) → AreLooksAt h d → Moves p q (grown d p.me.0)
     → Knows h q.me.0 → Knows h p.me.0
 looks_knew h p q d lost m knows = subst (λ (e : Part). Knows h (grown e p.me.0)) lost.part
     (subst (Knows h) (ap (λ (s : Sat). s.0) m.2) knows)
 
 -- a look found another state than freed
-pub known_again : (h word : ℕ) (p q r : Place) (d : Part) → AreLooksAt h d
+pub known_again : (h word : ℕ) (p q r : SeatAt) (d : Part) → AreLooksAt h d
     → Moves p q (grown d p.me.0) → GlancesAny h word q r
     → (state_of word ≡ state.Empty → Knows h q.me.0 → ⊥)
     → (e : Part) × AreLooksAt h e × Moves p r (grown e p.me.0)
@@ -44,7 +44,7 @@ known_again h word p q r d lost m g off = (
 )
 
 -- a look found the object freed
-pub known_found : (c : Config) (h word : ℕ) (p q r : Place) (d : Part) → h < c.handles
+pub known_found : (c : Config) (h word : ℕ) (p q r : SeatAt) (d : Part) → h < c.handles
     → AreLooksAt h d → Moves p q (grown d p.me.0) → GlancesAny h word q r
     → state_of word ≡ state.Empty → KnownMoves c (Some h) p r
 known_found c h word p q r d l lost m g empty = ⊎_elim
@@ -74,7 +74,7 @@ swapped_below c (Swap handle) (Ok answer.Freed) is = is
 swapped_below c job r is = tt
 
 -- what stands of the seat afterwards
-pub kept_known : (c : Config) (o : Option ℕ) (p q : Place) → IsAtRest c p.me.0 → KnownMoves c o p q
+pub kept_known : (c : Config) (o : Option ℕ) (p q : SeatAt) → IsAtRest c p.me.0 → KnownMoves c o p q
     → IsSeatKept c p q
 kept_known c o p q rest x =
     kept_part c p q x.0 rest x.1 (record { wrote = x.2.0; turns = x.2.1; seen = x.3 })

@@ -18,7 +18,7 @@ use Rattle.cb_rule.specs.Steps.{Knows}
 use Rattle.cb_shared.specs.Handles.{handles_of}
 use Rattle.cb_record.specs.Parts.{Part, grown, nothing_more}
 use Rattle.cb_shared.specs.Passes.{IsAtRest}
-use Rattle.cb_shared.specs.Places.{Place}
+use Rattle.cb_shared.specs.Seats.{SeatAt}
 use Rattle.cb_shared.specs.Trying.{is_to_try_again, tries_of}
 use Rattle.cb_shared.specs.Turning.{KnowsIt, KnowsOf, TurnBy, answer_of, freed_of, made_by_turn}
 use Rattle.cb_shared.specs.Turning.{object_of, turn_part, with_own}
@@ -80,7 +80,7 @@ each_both : {A : Type 0} (P : A → Type 0) (xs ys : List A) → Each P xs → E
 each_both P [] ys a b = b
 each_both P (x ∷ xs) ys a b = (a.0, each_both P xs ys a.1 b)
 
-module _ (c : Config) (job : Job) (r : Result Reply NoMemory) (p m q : Place)
+module _ (c : Config) (job : Job) (r : Result Reply NoMemory) (p m q : SeatAt)
     (rest : IsAtRest c p.me.0) (t : TurnedBy c job r p.me.0 m.me.0)
     (f : FreedMoves c (freed_of job r) m q) where
   abbrev v : View

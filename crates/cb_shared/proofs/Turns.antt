@@ -21,8 +21,8 @@ use Rattle.cb_rule.specs.declared.view.View.{View}
 use Rattle.cb_rule.specs.Locking.{Stood}
 use Rattle.cb_rule.specs.Slot.{Sat}
 use Rattle.cb_rule.specs.Steps.{acted}
-use Rattle.cb_shared.specs.Places.{Place}
 use Rattle.cb_shared.specs.SeatLaws.{Runs, acted_fresh, acted_is, acted_known}
+use Rattle.cb_shared.specs.Seats.{SeatAt}
 use Rattle.cb_shared.specs.Turning.{DidAs, PinLacks, ReadsByPin, Slate, answer_of, held_by}
 use Rattle.cb_shared.specs.Turning.{slate_run, slate_shows}
 use Rattle.cb_shared.specs.UnderLock.{BringAt, BroughtForRead, IsNoRead, TurnAtSeat}
@@ -39,7 +39,7 @@ record LeftAt (c : Config) (W : List Entry → Type 0) (runs : List Event → Ty
   pub fresh : w.fresh ≡ more
   pub stood : Stood c w.known gave
 
-module _ {D : Type 0} (at : D → Place) (run : D → List Event → D → Type 0)
+module _ {D : Type 0} (at : D → SeatAt) (run : D → List Event → D → Type 0)
     (shows : D → Shown → Type 0)
     (back : (d e : D) (es : List Event) → run d es e → Runs (at d) es (at e))
     (shown : (d : D) (s : Shown) → s ≡ (at d).me.0.known → shows d s) (c : Config)

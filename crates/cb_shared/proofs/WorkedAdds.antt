@@ -34,8 +34,8 @@ use Rattle.cb_shared.specs.Calls.{IsUnanswered, IsUnfetched, IsWrittenOnce, Read
 use Rattle.cb_shared.specs.Calls.{TurnGives, WriteAnswers, WriteCallEnds, the_handle, written_once}
 use Rattle.cb_shared.specs.Joining.{IsSpare}
 use Rattle.cb_shared.specs.Passes.{IsPassOf}
-use Rattle.cb_shared.specs.Places.{Place}
 use Rattle.cb_shared.specs.Reading.{FindsGone, IsReadHere, looked, looked_freed, read_once}
+use Rattle.cb_shared.specs.Seats.{SeatAt}
 use Rattle.cb_shared.specs.Turning.{Did, JobReads, Tries, TurnAdds, TurnBy, turn_part}
 use Rattle.cb_shared.specs.UnderLock.{HasSame, IsEnding, IsQuiet, ReadsBelow}
 use Rattle.cb_shared.proofs.WorkedGround.{a_stand, away, calm, made, moving, newest_made, owner}
@@ -338,7 +338,8 @@ other_own s = eqb-false 1 0 refl (ap length s.4)
 not_accepted : (s : Shared) (p : Pass) → s.config ≡ record two { k = 0 } → IsPassOf s p → ⊥
 not_accepted s p e i = let n : 1 ≤ 0 = (subst IsAccepted e i.accepted K).0 in omega (arith, n)
 
-spare_with_a_slot : (z : TableId) (p : Place) (x : ℕ × LockSlot) → p.me.1 ≡ x ∷ [] → IsSpare z p → ⊥
+spare_with_a_slot : (z : TableId) (p : SeatAt) (x : ℕ × LockSlot) → p.me.1 ≡ x ∷ [] → IsSpare z p
+    → ⊥
 spare_with_a_slot z p x e i = eqb-false 1 0 refl (ap length (sym e ∙ i.carries))
 
 -- ---- the last try of a write, and what it leaves

@@ -21,8 +21,8 @@ use Rattle.cb_rule.specs.Steps.{look_at}
 use Rattle.cb_record.specs.Parts.{Part, grown, nothing_more, sum}
 use Rattle.cb_shared.specs.declared.reading.ReadAnswer.TheVariants as found
 use Rattle.cb_shared.specs.Calls.{the_handle}
-use Rattle.cb_shared.specs.Places.{Moves, Place}
 use Rattle.cb_shared.specs.Reading.{looked, looked_freed}
+use Rattle.cb_shared.specs.Seats.{Moves, SeatAt}
 use Rattle.cb_shared.specs.Turning.{FindsAtLast}
 use Rattle.cb_shared.specs.UnderLock.{BringAt, BroughtForRead, FreedMoves, LooksFor, TriesOn}
 use Rattle.cb_shared.proofs.WorkedGround.{calm, made, newest_made, part, two}
@@ -30,7 +30,7 @@ use Rattle.cb_shared.proofs.WorkedSeat.{Has, refusing}
 use Rattle.cb_shared.proofs.WorkedUnder.{far, last, stood}
 
 -- ---- the first part of a read, which was refused for its number
-abbrev Brings : FarState → Place → Place → Type 0
+abbrev Brings : FarState → SeatAt → SeatAt → Type 0
 Brings gave p q = BringAt two (the_handle 1) (Ok answer.Worn) (far last) gave p q
 
 no_end : (s : Shown) (es : List Event) → BroughtForRead two (the_handle 1) (Ok answer.Stays) s es (far last) (far last) → ⊥
@@ -41,7 +41,7 @@ no_next : IsOneTurnOn (far last) (far 3) → ⊥
 no_next (inl few) = let n = few.0 in omega (arith, n)
 no_next (inr same) = eqb-false 3 last refl (ap (λ (f : FarState). f.counts.turns) same.1)
 
-module _ (p q : Place) where
+module _ (p q : SeatAt) where
   brings : Has p refusing [] → q.table_id ≡ p.table_id → q.id ≡ p.id → q.me ≡ p.me → Brings (far last) p q
   brings at table id me = record {
     events = [];
@@ -78,7 +78,7 @@ freed_is_read h v d x each =
     x.finds.4 below).0 in omega (arith, first)
 
 -- ---- the tries of a read on a seat that found no memory: looks alone
-module _ (e : NoMemory) (p q : Place) where
+module _ (e : NoMemory) (p q : SeatAt) where
   tries_on : Moves p q (grown (looked 1 calm) p.me.0) → TriesOn two 1 (Err e) p q
   tries_on moves = (
     looked 1 calm,
@@ -113,7 +113,7 @@ module _ (e : NoMemory) (p q : Place) where
       freed_is_read 2 p.me.0 d (tries p.me.0 (refl, refl, refl, refl, refl)) range
 
 -- ---- the freed entry of an object was looked for
-module _ (p q : Place) where
+module _ (p q : SeatAt) where
   looks_for : p.me.0 ≡ part → Moves p q (grown (sum nothing_more (looked_freed 1 3 0)) p.me.0)
       → LooksFor two 1 p q
   looks_for at moves = (

@@ -23,7 +23,7 @@ use Rattle.cb_shared.specs.Claims.{IsAsClaimed, IsFreshClaim, IsNextOf, IsWithin
 use Rattle.cb_shared.specs.Handles.{IsFirstAt}
 use Rattle.cb_shared.specs.Joining.{IsSpare, unpinned_all}
 use Rattle.cb_shared.specs.Passes.{IsAtRest, IsPassOf, IsRuntimeBegun}
-use Rattle.cb_shared.specs.Places.{Place}
+use Rattle.cb_shared.specs.Seats.{SeatAt}
 use Rattle.cb_shared.specs.Tallies.{tallied}
 use Rattle.cb_shared.proofs.WorkedGround.{a_stand, calm, made, part, pinned, two, whole}
 use Rattle.cb_shared.proofs.WorkedWrites.{write_it}
@@ -132,7 +132,7 @@ begun_of_another s p n b = n b.of
 abbrev claim : Held
 claim = held_at 1 calm 3 (2826 ∷ [])
 
-fresh_claim : (p : Place) → p.me.0.claims ≡ claim ∷ [] → IsFreshClaim two 1 calm 3 (2826 ∷ []) p
+fresh_claim : (p : SeatAt) → p.me.0.claims ≡ claim ∷ [] → IsFreshClaim two 1 calm 3 (2826 ∷ []) p
 fresh_claim p e = record {
   only = e;
   lies = λ j below. lies 5 j (lit< tt) below;
@@ -140,16 +140,16 @@ fresh_claim p e = record {
   whole = refl;
 }
 
-no_claim : (p : Place) → p.me.0.claims ≡ [] → IsFreshClaim two 1 calm 3 (2826 ∷ []) p → ⊥
+no_claim : (p : SeatAt) → p.me.0.claims ≡ [] → IsFreshClaim two 1 calm 3 (2826 ∷ []) p → ⊥
 no_claim p e f = eqb-false 0 1 refl (ap (λ (xs : List Held). length xs) (sym e ∙ f.only))
 
-claimed_past_memory : (p : Place) → IsFreshClaim no_frames 1 calm 3 (2826 ∷ []) p → ⊥
+claimed_past_memory : (p : SeatAt) → IsFreshClaim no_frames 1 calm 3 (2826 ∷ []) p → ⊥
 claimed_past_memory p f = let e : 5 + 0 < 0 = f.lies 0 (lit< tt) in omega (arith, e)
 
-too_wide : (p : Place) → IsFreshClaim two 1 (calm + 2 ^ 53) 3 (2826 ∷ []) p → ⊥
+too_wide : (p : SeatAt) → IsFreshClaim two 1 (calm + 2 ^ 53) 3 (2826 ∷ []) p → ⊥
 too_wide p f = let e = f.below in omega (arith, e)
 
-no_words : (p : Place) → IsFreshClaim two 1 calm 3 [] p → ⊥
+no_words : (p : SeatAt) → IsFreshClaim two 1 calm 3 [] p → ⊥
 no_words p f = eqb-false 0 1 refl (f.whole)
 
 -- ---- a claim under which one write and the next version were stored, and the hot word
@@ -253,7 +253,7 @@ tallied_over st t = let e : 65 ≤ 64 = t.1 in omega (arith, e)
 abbrev spare_view : View
 spare_view = right_of 24 part
 
-spare : (z : TableId) (p : Place) → p.table_id ≡ z → p.me ≡ (spare_view, []) → IsSpare z p
+spare : (z : TableId) (p : SeatAt) → p.table_id ≡ z → p.me ≡ (spare_view, []) → IsSpare z p
 spare z p t e = record {
   table = t;
   carries = ap (λ (m : Sat). m.1) e;
@@ -263,19 +263,19 @@ spare z p t e = record {
   free = ap (λ (m : Sat). m.0.holds) e;
 }
 
-spare_elsewhere : (z : TableId) (p : Place) → (p.table_id ≡ z → ⊥) → IsSpare z p → ⊥
+spare_elsewhere : (z : TableId) (p : SeatAt) → (p.table_id ≡ z → ⊥) → IsSpare z p → ⊥
 spare_elsewhere z p n s = n s.table
 
-spare_spent : (z : TableId) (p : Place) → p.me.0.share ≡ 0 → IsSpare z p → ⊥
+spare_spent : (z : TableId) (p : SeatAt) → p.me.0.share ≡ 0 → IsSpare z p → ⊥
 spare_spent z p e s = let live = s.live in omega (arith, e, live)
 
-spare_pinning : (z : TableId) (p : Place) → p.me.0.pins ≡ a_stand ∷ [] → IsSpare z p → ⊥
+spare_pinning : (z : TableId) (p : SeatAt) → p.me.0.pins ≡ a_stand ∷ [] → IsSpare z p → ⊥
 spare_pinning z p e s = eqb-false 1 0 refl (ap length (sym e ∙ s.no_pins))
 
-spare_claiming : (z : TableId) (p : Place) → p.me.0.claims ≡ claim ∷ [] → IsSpare z p → ⊥
+spare_claiming : (z : TableId) (p : SeatAt) → p.me.0.claims ≡ claim ∷ [] → IsSpare z p → ⊥
 spare_claiming z p e s = eqb-false 1 0 refl (ap length (sym e ∙ s.no_claims))
 
-spare_locking : (z : TableId) (p : Place) → p.me.0.holds ≡ true → IsSpare z p → ⊥
+spare_locking : (z : TableId) (p : SeatAt) → p.me.0.holds ≡ true → IsSpare z p → ⊥
 spare_locking z p e s = true≢false (sym e ∙ s.free)
 
 -- the other's pins are given back before, and its share and what it read are taken in

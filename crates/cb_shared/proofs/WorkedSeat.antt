@@ -19,14 +19,14 @@ use Rattle.cb_rule.specs.Lists.{Each}
 use Rattle.cb_rule.specs.LockSteps.{gave_lock, took_lock}
 use Rattle.cb_rule.specs.Slot.{LockSlot, Sat}
 use Rattle.cb_rule.specs.Steps.{AreNew, Knows, act}
-use Rattle.cb_shared.specs.Places.{Moves, Place}
 use Rattle.cb_shared.specs.SeatLaws.{Runs, SayPins, SaysPins}
+use Rattle.cb_shared.specs.Seats.{Moves, SeatAt}
 use Rattle.cb_shared.specs.UnderLock.{GivesFar, IsAt, TakesFar}
 use Rattle.cb_shared.proofs.WorkedGround.{calm, made, part, part_pinned, pinned, shared_part, two}
 use Rattle.cb_shared.proofs.WorkedUnder.{beginner, far, known, knows_nothing, last, newcomer, stood}
 
 -- the seat has this view and these slots
-abbrev pub Has : Place → View → List (ℕ × LockSlot) → Type 0
+abbrev pub Has : SeatAt → View → List (ℕ × LockSlot) → Type 0
 Has p v slots = p.me ≡ (v, slots)
 
 abbrev pub seat : View → List (ℕ × LockSlot) → Sat
@@ -43,7 +43,7 @@ tells_none = ((λ _. refl), tt)
 pub tells_nine : Agree known (tells 9) → ⊥
 tells_nine a = eqb-false 9 0 refl (a.0 tt)
 
-module _ (p q : Place) where
+module _ (p q : SeatAt) where
   runs : p.me.0.known ≡ known → Moves p q (act (Told 1 0) p.me.0) → Runs p (tells 0) q
   runs at moves = (
     moves,
@@ -74,7 +74,7 @@ knowing version = record part {
   };
 }
 
-module _ (p q : Place) where
+module _ (p q : SeatAt) where
   runs_free : p.me.0 ≡ knowing 4 → Moves p q (act (Settled 1 0) p.me.0) → Runs p frees q
   runs_free at moves = (
     moves,
@@ -130,7 +130,7 @@ says_one_by_one = (tt, (says_pinned_then, tt))
 says_one_too_few : SayPins (Told 1 4 ∷ Looked 1 calm ∷ []) looker → ⊥
 says_one_too_few says = let few = (says.1.0.here refl).1 in omega (arith, few)
 
-module _ (p q : Place) where
+module _ (p q : SeatAt) where
   runs_look : p.me.0 ≡ looker → Moves p q (act (Looked 1 pinned) p.me.0)
       → Runs p (looks_at pinned) q
   runs_look at moves = (
@@ -149,7 +149,7 @@ module _ (p q : Place) where
 abbrev beginning : View
 beginning = took_lock known (far 1) 0 newcomer
 
-module _ (p q : Place) where
+module _ (p q : SeatAt) where
   takes : Has p newcomer [] → q.table_id ≡ p.table_id → q.id ≡ p.id → Has q beginning ((0, None) ∷ [])
       → TakesFar two (far 1) p q
   takes at table id me = record {
@@ -196,10 +196,10 @@ refusing = beginner (far last) known
 abbrev pub gives_back : View → View
 gives_back v = gave_lock job.Evict (Some answer.Worn) (far last) 0 [] [] v
 
-abbrev Gives : Place → Place → Type 0
+abbrev Gives : SeatAt → SeatAt → Type 0
 Gives p q = GivesFar two job.Evict (Some answer.Worn) (far last) p q
 
-module _ (p q : Place) where
+module _ (p q : SeatAt) where
   gives : p.me.0 ≡ refusing → IsAt p q (gives_back p.me.0) [] → Gives p q
   gives before at = record {
     entries = 0;

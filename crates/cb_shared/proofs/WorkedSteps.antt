@@ -28,7 +28,7 @@ use Rattle.cb_shared.specs.declared.setup.Setup.{Setup}
 use Rattle.cb_shared.specs.Claims.{ClaimsHere, HoldsOnly, with_only}
 use Rattle.cb_shared.specs.Glances.{Glances, TakesPinAt, TellsVersion}
 use Rattle.cb_shared.specs.Pinning.{IsPinnedAt, IsRefusal, PinAt}
-use Rattle.cb_shared.specs.Places.{HoldsLock, IsOf, Moves, Place}
+use Rattle.cb_shared.specs.Seats.{HoldsLock, IsOf, Moves, SeatAt}
 use Rattle.cb_shared.specs.Writing.{IsWriteRefusal, IsWrittenAt, WriteAt, WriteClaimed, last_seen}
 use Rattle.cb_shared.proofs.WorkedGround.{a_pin, a_stand, away, calm, freed_last, full, has_last}
 use Rattle.cb_shared.proofs.WorkedGround.{last_is_freed, last_look, moving, newest_later}
@@ -244,63 +244,63 @@ settled version new v = record v {
   written = entry 1 version 8 (2826 ∷ []) new ∷ v.written;
 }
 
-is_claimed_write : (p q : Place) → Moves p q (settled 4 (3082 ∷ []) p.me.0)
+is_claimed_write : (p q : SeatAt) → Moves p q (settled 4 (3082 ∷ []) p.me.0)
     → WriteClaimed 1 calm 1 (12 ∷ []) 3 (2826 ∷ []) (writes.Ok 4) p q
 is_claimed_write p q m = (refl, 3082 ∷ [], write_it, m)
 
-claimed_same_version : (p q : Place)
+claimed_same_version : (p q : SeatAt)
     → WriteClaimed 1 calm 1 (12 ∷ []) 3 (2826 ∷ []) (writes.Ok 3) p q → ⊥
 claimed_same_version p q g = eqb-false 3 4 refl (g.0)
 
-claimed_not_the_bytes : (p q : Place) → q.me.0 ≡ settled 4 (2826 ∷ []) p.me.0
+claimed_not_the_bytes : (p q : SeatAt) → q.me.0 ≡ settled 4 (2826 ∷ []) p.me.0
     → WriteClaimed 1 calm 1 (12 ∷ []) 3 (2826 ∷ []) (writes.Ok 4) p q → ⊥
 claimed_not_the_bytes p q e g = eqb-false 11 12 refl
     (ap (λ (v : View). memory_byte (words_in v.written) 1) (sym e ∙ ap (λ (m : Sat). m.0) g.3.2)
     ∙ g.2.inside 0 (lit< tt))
 
-claimed_kept : (p q : Place) (x : Held) → q.me.0.claims ≡ x ∷ []
+claimed_kept : (p q : SeatAt) (x : Held) → q.me.0.claims ≡ x ∷ []
     → WriteClaimed 1 calm 1 (12 ∷ []) 3 (2826 ∷ []) (writes.Ok 4) p q → ⊥
 claimed_kept p q x e g = eqb-false 1 0 refl
     (ap (λ (xs : List Held). length xs) (sym e ∙ ap (λ (m : Sat). m.0.claims) g.3.2))
 
-claimed_no_entry : (p q : Place) → p.me.0 ≡ part → q.me.0.written ≡ part.written
+claimed_no_entry : (p q : SeatAt) → p.me.0 ≡ part → q.me.0.written ≡ part.written
     → WriteClaimed 1 calm 1 (12 ∷ []) 3 (2826 ∷ []) (writes.Ok 4) p q → ⊥
 claimed_no_entry p q e k g = eqb-false 1 2 refl
     (ap length (sym k ∙ ap (λ (m : Sat). m.0.written) g.3.2)
     ∙ ap (λ (v : View). suc (length v.written)) e)
 
-claimed_elsewhere : (p q : Place) → (q.table_id ≡ p.table_id → ⊥)
+claimed_elsewhere : (p q : SeatAt) → (q.table_id ≡ p.table_id → ⊥)
     → WriteClaimed 1 calm 1 (12 ∷ []) 3 (2826 ∷ []) (writes.Ok 4) p q → ⊥
 claimed_elsewhere p q n g = n g.3.0
 
 abbrev last_read : View → View
 last_read v = record v { claims = []; seen = last_seen 1 calm (2826 ∷ []) ∷ v.seen }
 
-claimed_worn : (p q : Place) → Moves p q (last_read p.me.0)
+claimed_worn : (p q : SeatAt) → Moves p q (last_read p.me.0)
     → WriteClaimed 1 calm 1 (12 ∷ []) (2 ^ 64 - 1) (2826 ∷ []) writes.Worn p q
 claimed_worn p q m = (refl, m)
 
-claimed_not_worn : (p q : Place)
+claimed_not_worn : (p q : SeatAt)
     → WriteClaimed 1 calm 1 (12 ∷ []) 3 (2826 ∷ []) writes.Worn p q → ⊥
 claimed_not_worn p q g = eqb-false 3 (2 ^ 64 - 1) refl (g.0)
 
-claimed_worn_kept : (p q : Place) (x : Held) → q.me.0.claims ≡ x ∷ []
+claimed_worn_kept : (p q : SeatAt) (x : Held) → q.me.0.claims ≡ x ∷ []
     → WriteClaimed 1 calm 1 (12 ∷ []) (2 ^ 64 - 1) (2826 ∷ []) writes.Worn p q → ⊥
 claimed_worn_kept p q x e g = eqb-false 1 0 refl
     (ap (λ (xs : List Held). length xs) (sym e ∙ ap (λ (m : Sat). m.0.claims) g.1.2))
 
 -- the version that was claimed is not read
-claimed_worn_unread : (p q : Place) → p.me.0 ≡ part → q.me.0.seen ≡ []
+claimed_worn_unread : (p q : SeatAt) → p.me.0 ≡ part → q.me.0.seen ≡ []
     → WriteClaimed 1 calm 1 (12 ∷ []) (2 ^ 64 - 1) (2826 ∷ []) writes.Worn p q → ⊥
 claimed_worn_unread p q e f g = eqb-false 0 1 refl
     (ap length (sym f ∙ ap (λ (m : Sat). m.0.seen) g.1.2) ∙ ap (λ (v : View). suc (length v.seen)) e)
 
-claimed_refused : (p q : Place)
+claimed_refused : (p q : SeatAt)
     → WriteClaimed 1 calm 1 (12 ∷ []) 3 (2826 ∷ []) writes.Moving p q → ⊥
 claimed_refused p q g = g
 
 -- ---- a look of a seat
-glanced : (p q : Place) → p.me.0 ≡ part_pinned → Moves p q (with_look 1 pinned p.me.0)
+glanced : (p q : SeatAt) → p.me.0 ≡ part_pinned → Moves p q (with_look 1 pinned p.me.0)
     → Glances 1 pinned p q
 glanced p q e m = record {
   freed = λ f. absurd (eqb-false 2 0 refl (ap state_number f));
@@ -312,7 +312,7 @@ glanced p q e m = record {
   held = λ _ l. absurd (shared_part 1 (subst (IsAlone 1) e l));
 }
 
-glanced_freed : (p q : Place) → p.me.0 ≡ part → Moves p q (with_freed_seen 1 4 0 p.me.0)
+glanced_freed : (p q : SeatAt) → p.me.0 ≡ part → Moves p q (with_freed_seen 1 4 0 p.me.0)
     → Glances 1 0 p q
 glanced_freed p q e m = record {
   freed = λ _. (4, subst (λ (v : View). IsNewest 1 4 v) (sym e) newest_later, m);
@@ -321,12 +321,12 @@ glanced_freed p q e m = record {
   held = λ h _. absurd (eqb-false 0 2 refl (ap state_number h));
 }
 
-glanced_unlooked : (p q : Place) → p.me.0 ≡ part → q.me.0 ≡ part → Glances 1 calm p q → ⊥
+glanced_unlooked : (p q : SeatAt) → p.me.0 ≡ part → q.me.0 ≡ part → Glances 1 calm p q → ⊥
 glanced_unlooked p q e f g = eqb-false 0 1 refl
     (ap looks_of (sym f ∙ ap (λ (m : Sat). m.0)
     (g.other (λ h. eqb-false 2 0 refl (ap state_number h))).2 ∙ ap (with_look 1 calm) e))
 
-glanced_freed_before : (p q : Place) → p.me.0 ≡ part → q.me.0 ≡ with_freed_seen 1 2 0 part
+glanced_freed_before : (p q : SeatAt) → p.me.0 ≡ part → q.me.0 ≡ with_freed_seen 1 2 0 part
     → Glances 1 0 p q → ⊥
 glanced_freed_before p q e f g = let z = g.freed refl in
     let same : 2 ≡ z.0 = ap (λ (v : View). version_read v.seen)
@@ -334,17 +334,17 @@ glanced_freed_before p q e f g = let z = g.freed refl in
     not_second (subst (λ (n : ℕ). IsNewest 1 n part) (sym same)
     (subst (λ (v : View). IsNewest 1 z.0 v) e z.1))
 
-glanced_uncounted : (p q : Place) → p.me.0 ≡ part_pinned → Glances 1 calm p q → ⊥
+glanced_uncounted : (p q : SeatAt) → p.me.0 ≡ part_pinned → Glances 1 calm p q → ⊥
 glanced_uncounted p q e g =
     let less : 1 ≤ 0 = subst (λ (v : View). pins_on 1 v ≤ 0) e (g.counted refl).0 in
     omega (arith, less)
 
-glanced_foreign : (p q : Place) → p.me.0 ≡ whole → Glances 1 pinned p q → ⊥
+glanced_foreign : (p q : SeatAt) → p.me.0 ≡ whole → Glances 1 pinned p q → ⊥
 glanced_foreign p q e g = eqb-false 1 0 refl
     ((g.counted refl).1 (inl (ap (λ (v : View). v.share) e)) ∙ ap (pins_on 1) e)
 
 -- with the whole share, where it freed the object
-glanced_gone : (p q : Place) → p.me.0 ≡ freed_last → Glances 1 calm p q → ⊥
+glanced_gone : (p q : SeatAt) → p.me.0 ≡ freed_last → Glances 1 calm p q → ⊥
 glanced_gone p q e g = last_is_freed [] (subst (HasLast 1 8) e
     (g.held refl (inl (ap (λ (v : View). v.share) e))))
 
@@ -383,7 +383,7 @@ no_frames = record two { frames = 0 }
 lies : (j : ℕ) → j < 1 → 5 + j < 512
 lies j below = omega (arith, below)
 
-takes : (p q : Place) → p.me.0 ≡ part → Moves p q (with_pin 1 calm 3 (2826 ∷ []) p.me.0)
+takes : (p q : SeatAt) → p.me.0 ≡ part → Moves p q (with_pin 1 calm 3 (2826 ∷ []) p.me.0)
     → TakesPinAt two 1 calm calm p q
 takes p q e m = record {
   won = λ _. (
@@ -396,7 +396,7 @@ takes p q e m = record {
   lost = λ n. absurd (n refl);
 }
 
-takes_an_older : (p q : Place) → p.me.0 ≡ part
+takes_an_older : (p q : SeatAt) → p.me.0 ≡ part
     → q.me.0 ≡ with_pin 1 calm 2 (2826 ∷ []) part → TakesPinAt two 1 calm calm p q → ⊥
 takes_an_older p q e f t = let z = t.won refl in
     let same : 2 ≡ z.0 = ap (λ (v : View). version_read v.seen)
@@ -404,16 +404,16 @@ takes_an_older p q e f t = let z = t.won refl in
     not_second (subst (λ (n : ℕ). IsNewest 1 n part) (sym same)
     (subst (λ (v : View). IsNewest 1 z.0 v) e z.2))
 
-takes_outside : (p q : Place) → TakesPinAt no_frames 1 calm calm p q → ⊥
+takes_outside : (p q : SeatAt) → TakesPinAt no_frames 1 calm calm p q → ⊥
 takes_outside p q t = let e : 5 + 0 < 0 = (t.won refl).3 0 (lit< tt) in omega (arith, e)
 
-takes_none : (p q : Place) → p.me.0 ≡ part → q.me.0 ≡ with_look 1 calm part
+takes_none : (p q : SeatAt) → p.me.0 ≡ part → q.me.0 ≡ with_look 1 calm part
     → TakesPinAt two 1 calm calm p q → ⊥
 takes_none p q e f t = eqb-false 0 1 refl
     (ap (λ (v : View). length v.pins) (sym f ∙ ap (λ (m : Sat). m.0) (t.won refl).4.2)
     ∙ ap (λ (v : View). suc (length v.pins)) e)
 
-loses_unlooked : (p q : Place) → p.me.0 ≡ part → q.me.0 ≡ part
+loses_unlooked : (p q : SeatAt) → p.me.0 ≡ part → q.me.0 ≡ part
     → TakesPinAt two 1 calm moving p q → ⊥
 loses_unlooked p q e f t = eqb-false 0 1 refl
     (ap looks_of (sym f ∙ ap (λ (m : Sat). m.0) (t.lost (λ h. eqb-false moving calm refl h)).2
@@ -423,7 +423,7 @@ loses_unlooked p q e f t = eqb-false 0 1 refl
 abbrev pinning : View
 pinning = record part { pins = a_stand ∷ [] }
 
-tells : (p q : Place) → p.me.0 ≡ pinning → Moves p q p.me.0 → TellsVersion two 1 3 p q
+tells : (p q : SeatAt) → p.me.0 ≡ pinning → Moves p q p.me.0 → TellsVersion two 1 3 p q
 tells p q e m = record {
   moves = m;
   tells = subst (λ (v : View). Each (λ (s : Stand). s.handle ≡ 1 → 3 ≡ s.version) v.pins) (sym e)
@@ -440,24 +440,24 @@ tells p q e m = record {
 }
 
 -- a version that is older than one that the record has
-tells_an_older : (p q : Place) → p.me.0 ≡ record pinning { seen = version_seen 1 4 8 [] ∷ [] }
+tells_an_older : (p q : SeatAt) → p.me.0 ≡ record pinning { seen = version_seen 1 4 8 [] ∷ [] }
     → TellsVersion two 1 3 p q → ⊥
 tells_an_older p q e t = let z = (subst (λ (v : View).
     Each (λ (s : Stand). s.handle ≡ 1 → IsNewest 1 s.version v) v.pins) e t.newest).0 refl in
     let low = z.seen.0 refl in omega (arith, low)
 
-tells_another : (p q : Place) → p.me.0.pins ≡ a_stand ∷ [] → TellsVersion two 1 4 p q → ⊥
+tells_another : (p q : SeatAt) → p.me.0.pins ≡ a_stand ∷ [] → TellsVersion two 1 4 p q → ⊥
 tells_another p q e t = eqb-false 4 3 refl
     ((subst (λ xs. Each (λ (s : Stand). s.handle ≡ 1 → 4 ≡ s.version) xs) e t.tells).0 refl)
 
-tells_and_moves : (p q : Place) → (q.me ≡ p.me → ⊥) → TellsVersion two 1 3 p q → ⊥
+tells_and_moves : (p q : SeatAt) → (q.me ≡ p.me → ⊥) → TellsVersion two 1 3 p q → ⊥
 tells_and_moves p q n t = n t.moves.2
 
 -- ---- an exchange of a claim
 abbrev claim : Held
 claim = held_at 1 calm 3 (2826 ∷ [])
 
-claims_it : (p q : Place) → p.me.0 ≡ part
+claims_it : (p q : SeatAt) → p.me.0 ≡ part
     → Moves p q (with_only claim (with_look 1 calm p.me.0)) → ClaimsHere two 1 calm calm p q
 claims_it p q e m = record {
   won = λ _. (
@@ -472,67 +472,67 @@ claims_it p q e m = record {
   lost = λ n. absurd (n refl);
 }
 
-claims_outside : (p q : Place) → ClaimsHere no_frames 1 calm calm p q → ⊥
+claims_outside : (p q : SeatAt) → ClaimsHere no_frames 1 calm calm p q → ⊥
 claims_outside p q c = let e : 5 + 0 < 0 = (c.won refl).3 0 (lit< tt) in omega (arith, e)
 
-claims_too_wide : (p q : Place) → ClaimsHere two 1 (calm + 2 ^ 53) (calm + 2 ^ 53) p q → ⊥
+claims_too_wide : (p q : SeatAt) → ClaimsHere two 1 (calm + 2 ^ 53) (calm + 2 ^ 53) p q → ⊥
 claims_too_wide p q c = let e = (c.won refl).4 in omega (arith, e)
 
-claims_none : (p q : Place) → q.me.0.claims ≡ [] → ClaimsHere two 1 calm calm p q → ⊥
+claims_none : (p q : SeatAt) → q.me.0.claims ≡ [] → ClaimsHere two 1 calm calm p q → ⊥
 claims_none p q e c = eqb-false 0 1 refl (ap (λ (xs : List Held). length xs)
     (sym e ∙ ap (λ (m : Sat). m.0.claims) (c.won refl).6.2))
 
-claims_without_words : (p q : Place) → q.me.0.claims ≡ held_at 1 calm 3 [] ∷ []
+claims_without_words : (p q : SeatAt) → q.me.0.claims ≡ held_at 1 calm 3 [] ∷ []
     → ClaimsHere two 1 calm calm p q → ⊥
 claims_without_words p q e c = let z = c.won refl in eqb-false 0 1 refl
     (ap (λ (xs : List Held). words_held xs) (sym e ∙ ap (λ (m : Sat). m.0.claims) z.6.2) ∙ z.5)
 
-lost_and_unlooked : (p q : Place) → p.me.0 ≡ part → q.me.0 ≡ part
+lost_and_unlooked : (p q : SeatAt) → p.me.0 ≡ part → q.me.0 ≡ part
     → ClaimsHere two 1 calm moving p q → ⊥
 lost_and_unlooked p q e f c = eqb-false 0 1 refl
     (ap looks_of (sym f ∙ ap (λ (m : Sat). m.0) (c.lost (λ h. eqb-false moving calm refl h)).2
     ∙ ap (with_look 1 moving) e))
 
 -- ---- the one claim
-holds_only : (p : Place) → p.me.0.claims ≡ claim ∷ [] → HoldsOnly claim 1 p
+holds_only : (p : SeatAt) → p.me.0.claims ≡ claim ∷ [] → HoldsOnly claim 1 p
 holds_only p e = (e, refl)
 
-holds_another : (p : Place) → HoldsOnly claim 0 p → ⊥
+holds_another : (p : SeatAt) → HoldsOnly claim 0 p → ⊥
 holds_another p h = eqb-false 1 0 refl (h.1)
 
-holds_two : (p : Place) → p.me.0.claims ≡ claim ∷ claim ∷ [] → HoldsOnly claim 1 p → ⊥
+holds_two : (p : SeatAt) → p.me.0.claims ≡ claim ∷ claim ∷ [] → HoldsOnly claim 1 p → ⊥
 holds_two p e h = eqb-false 2 1 refl (ap (λ (xs : List Held). length xs) (sym e ∙ h.0))
 
 -- ---- a seat of the table of a configuration: each part is one that cannot be left out
-of_another_table : (z : TableId) (k : Setup) (p : Place) → (p.table_id ≡ z → ⊥)
+of_another_table : (z : TableId) (k : Setup) (p : SeatAt) → (p.table_id ≡ z → ⊥)
     → IsOf z k two p → ⊥
 of_another_table z k p n o = n o.table
 
-of_too_few_words : (z : TableId) (k : Setup) (p : Place) → z.words ≡ base two → IsOf z k two p
+of_too_few_words : (z : TableId) (k : Setup) (p : SeatAt) → z.words ≡ base two → IsOf z k two p
     → ⊥
 of_too_few_words z k p e o = let w = o.words in omega (arith, e, w)
 
-of_another_key : (z : TableId) (k : Setup) (p : Place) → k.config ≡ no_frames → IsOf z k two p
+of_another_key : (z : TableId) (k : Setup) (p : SeatAt) → k.config ≡ no_frames → IsOf z k two p
     → ⊥
 of_another_key z k p e o =
     eqb-false 0 1 refl (ap (λ (c : Config). c.frames) (sym e ∙ o.key))
 
-of_another_config : (z : TableId) (k : Setup) (p : Place) → p.me.0.config ≡ no_frames
+of_another_config : (z : TableId) (k : Setup) (p : SeatAt) → p.me.0.config ≡ no_frames
     → IsOf z k two p → ⊥
 of_another_config z k p e o =
     eqb-false 0 1 refl (ap (λ (c : Config). c.frames) (sym e ∙ o.config))
 
-of_no_share : (z : TableId) (k : Setup) (p : Place) → p.me.0.share ≡ 0 → IsOf z k two p → ⊥
+of_no_share : (z : TableId) (k : Setup) (p : SeatAt) → p.me.0.share ≡ 0 → IsOf z k two p → ⊥
 of_no_share z k p e o = let live = o.live in omega (arith, e, live)
 
-holds_no_lock : (z : TableId) (k : Setup) (p : Place) → p.me.0.holds ≡ false
+holds_no_lock : (z : TableId) (k : Setup) (p : SeatAt) → p.me.0.holds ≡ false
     → HoldsLock z k two p → ⊥
 holds_no_lock z k p e h = true≢false (sym h.holds ∙ e)
 
-holds_elsewhere : (z : TableId) (k : Setup) (p : Place) → (IsOf z k two p → ⊥)
+holds_elsewhere : (z : TableId) (k : Setup) (p : SeatAt) → (IsOf z k two p → ⊥)
     → HoldsLock z k two p → ⊥
 holds_elsewhere z k p n h = n h.of
 
-holds_unsized : (z : TableId) (k : Setup) (p : Place) → (AreSized two p.me.0.known → ⊥)
+holds_unsized : (z : TableId) (k : Setup) (p : SeatAt) → (AreSized two p.me.0.known → ⊥)
     → HoldsLock z k two p → ⊥
 holds_unsized z k p n h = n h.sized

@@ -24,7 +24,7 @@ use Rattle.cb_rule.specs.Steps.{Knows}
 use Rattle.cb_rule.proofs.Laws.{stood_empty}
 use Rattle.cb_shared.specs.declared.reading.ReadAnswer.TheVariants as found
 use Rattle.cb_shared.specs.Calls.{the_handle}
-use Rattle.cb_shared.specs.Places.{Place}
+use Rattle.cb_shared.specs.Seats.{SeatAt}
 use Rattle.cb_shared.specs.UnderLock.{CameThere, IsBeginning, IsBelow, IsEnding, IsNoRead}
 use Rattle.cb_shared.specs.UnderLock.{IsReplyTo, IsTriedAgain, TakesLock}
 use Rattle.cb_shared.proofs.WorkedGround.{made, part, two}
@@ -165,7 +165,7 @@ has_taken = record {
   number = refl;
 }
 
-takes : (p q : Place) → p.me ≡ before → q.table_id ≡ p.table_id → q.id ≡ p.id → q.me ≡ holder
+takes : (p q : SeatAt) → p.me ≡ before → q.table_id ≡ p.table_id → q.id ≡ p.id → q.me ≡ holder
     → TakesLock 2 p q
 takes p q at table id me = (
   table,
@@ -174,13 +174,13 @@ takes p q at table id me = (
       (subst (λ (m : Sat). HasTaken before 2 m) (sym me) has_taken),
 )
 
-takes_at_another_table : (p q : Place) → (q.table_id ≡ p.table_id → ⊥) → TakesLock 2 p q → ⊥
+takes_at_another_table : (p q : SeatAt) → (q.table_id ≡ p.table_id → ⊥) → TakesLock 2 p q → ⊥
 takes_at_another_table p q n t = n t.0
 
-takes_as_another_seat : (p q : Place) → (q.id ≡ p.id → ⊥) → TakesLock 2 p q → ⊥
+takes_as_another_seat : (p q : SeatAt) → (q.id ≡ p.id → ⊥) → TakesLock 2 p q → ⊥
 takes_as_another_seat p q n t = n t.1
 
-takes_nothing : (p q : Place) → q.me ≡ before → TakesLock 2 p q → ⊥
+takes_nothing : (p q : SeatAt) → q.me ≡ before → TakesLock 2 p q → ⊥
 takes_nothing p q me t =
     true≢false (sym (ap (λ (m : Sat). m.0.holds) (sym me ∙ t.2.taken)))
 

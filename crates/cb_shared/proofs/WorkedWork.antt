@@ -23,8 +23,8 @@ use Rattle.cb_rule.specs.Seats.{pins_it}
 use Rattle.cb_rule.specs.Slot.{Sat}
 use Rattle.cb_rule.specs.Steps.{AreNew, act, acted, freed_seen}
 use Rattle.cb_record.specs.Parts.{grown, nothing_more}
-use Rattle.cb_shared.specs.Places.{Place}
 use Rattle.cb_shared.specs.SeatLaws.{acted_known}
+use Rattle.cb_shared.specs.Seats.{SeatAt}
 use Rattle.cb_shared.specs.Turning.{DidAs}
 use Rattle.cb_shared.specs.UnderLock.{TurnAtSeat, TurnWith, WorkBy}
 use Rattle.cb_shared.proofs.WorkedGround.{a_stand, made, not_new, two}
@@ -42,10 +42,10 @@ not_next (inl few) = let n = few.0 in omega (arith, n)
 not_next (inr same) = eqb-false 3 last refl (ap (λ (f : FarState). f.counts.turns) same.1)
 
 -- ---- the work of a turn that was refused for its number
-abbrev Works : FarState → Place → Place → Type 0
+abbrev Works : FarState → SeatAt → SeatAt → Type 0
 Works gave p q = TurnAtSeat two job.Evict (Ok answer.Worn) (far last) gave p q
 
-module _ (p q : Place) where
+module _ (p q : SeatAt) where
   works : Has p refusing [] → q.table_id ≡ p.table_id → q.id ≡ p.id → q.me ≡ p.me
       → Works (far last) p q
   works at table id me = record {
@@ -95,10 +95,10 @@ in_range : (ss : List Seen) → Each (λ (s : Seen). s.handle < 2) ss → first_
 in_range [] each = lit< tt
 in_range (s ∷ ss) each = each.0
 
-abbrev WorksBy : FarState → Place → Place → Type 0
+abbrev WorksBy : FarState → SeatAt → SeatAt → Type 0
 WorksBy gave p q = WorkBy two job.Evict (Ok answer.Worn) (far last) gave p q
 
-module _ (p q : Place) where
+module _ (p q : SeatAt) where
   works_by : Has p refusing [] → q.table_id ≡ p.table_id → q.id ≡ p.id → Has q refusing []
       → WorksBy (far last) p q
   works_by at table id me = record {
@@ -192,10 +192,10 @@ abbrev first_gave : List Turn → FarState
 first_gave [] = far last
 first_gave (t ∷ ts) = t.gave
 
-abbrev Turns : Place → Place → Type 0
+abbrev Turns : SeatAt → SeatAt → Type 0
 Turns p q = TurnWith two job.Evict (Ok answer.Worn) (far last) p q
 
-module _ (p q : Place) where
+module _ (p q : SeatAt) where
   turns : Has p refusing [] → q.table_id ≡ p.table_id → q.id ≡ p.id → Has q (gives_back refusing) []
       → Turns p q
   turns at table id me = record {

@@ -18,12 +18,12 @@ use Rattle.cb_shared.specs.declared.setup.Setup.{Setup}
 use Rattle.cb_shared.specs.Claims.{with_only}
 use Rattle.cb_shared.specs.Glances.{Glances}
 use Rattle.cb_shared.specs.Passes.{IsAtRest}
-use Rattle.cb_shared.specs.Places.{IsOf, Place, Moves}
+use Rattle.cb_shared.specs.Seats.{IsOf, SeatAt, Moves}
 use Rattle.cb_shared.specs.Writing.{IsRoomFor, IsWriteRefusal, WriteAt, WriteClaimed, WriteGives}
 use Rattle.cb_shared.specs.Writing.{last_seen}
 use Rattle.cb_shared.proofs.Resting.{far_empty, here_empty, moving_empty, view_of}
 
-pub of_moves : (z : TableId) (k : Setup) (c : Config) (p q : Place) (w : View) → IsOf z k c p
+pub of_moves : (z : TableId) (k : Setup) (c : Config) (p q : SeatAt) (w : View) → IsOf z k c p
     → Moves p q w → w.config ≡ p.me.0.config → w.share ≡ p.me.0.share → IsOf z k c q
 of_moves z k c p q w o m config share = record {
   table = m.0 ∙ o.table;
@@ -34,7 +34,7 @@ of_moves z k c p q w o m config share = record {
 }
 
 -- where a write at a claimed word leaves the seat
-pub record IsAfter (c : Config) (h word at : ℕ) (bytes : List ℕ) (a : WriteAnswer) (p q : Place)
+pub record IsAfter (c : Config) (h word at : ℕ) (bytes : List ℕ) (a : WriteAnswer) (p q : SeatAt)
     : Type 0 where
   pub table : (q.table_id ≡ p.table_id) × (q.me.1 ≡ p.me.1)
   pub share : q.me.0.share ≡ p.me.0.share
@@ -70,7 +70,7 @@ rest_written c h n e v rest below = record {
   pins = rest.pins;
 }
 
-pub written_at : (c : Config) (h word at : ℕ) (bytes : List ℕ) (a : WriteAnswer) (p m q : Place)
+pub written_at : (c : Config) (h word at : ℕ) (bytes : List ℕ) (a : WriteAnswer) (p m q : SeatAt)
     (v : ℕ) (words : List ℕ) → IsAtRest c p.me.0 → h < c.handles → IsNewest h v p.me.0
     → Moves p m (with_only (held_at h word v words) (with_look h word p.me.0))
     → WriteClaimed h word at bytes v words a m q → IsAfter c h word at bytes a p q
@@ -123,7 +123,8 @@ written_at c h word at bytes (Pinned n) p m q v words rest below newest mv x = a
 written_at c h word at bytes (Raced s f) p m q v words rest below newest mv x = absurd x
 
 -- a refusal by the word that was found is answered
-pub refused_writes : (h w at : ℕ) (bytes : List ℕ) (a : WriteAnswer) (p q : Place) → Glances h w p q
+pub refused_writes : (h w at : ℕ) (bytes : List ℕ) (a : WriteAnswer) (p q : SeatAt)
+    → Glances h w p q
     → IsWriteRefusal at (length bytes) w a → WriteGives h at bytes a p.me.0 q.me.0
 refused_writes h w at bytes (Ok n) p q g why = absurd why
 refused_writes h w at bytes Freed p q g why = let f = g.freed why in
@@ -155,7 +156,7 @@ refused_writes h w at bytes Worn p q g why = absurd why
 refused_writes h w at bytes (Raced s f) p q g why = absurd why
 
 -- ---- a look at a word that can be claimed, and then the exchange
-module _ (h w at : ℕ) (bytes : List ℕ) (p m q : Place) (g : Glances h w p m)
+module _ (h w at : ℕ) (bytes : List ℕ) (p m q : SeatAt) (g : Glances h w p m)
     (room : IsRoomFor at (length bytes) w) (bare : pins_of w ≡ 0) where
   saw : m.me.0 ≡ with_look h w p.me.0
   saw = view_of p m (with_look h w p.me.0) (g.other (λ e. here_empty (sym room.0 ∙ e)))

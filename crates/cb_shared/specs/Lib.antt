@@ -1,4 +1,4 @@
-pub mod Places
+pub mod Seats
 pub mod SeatLaws
 pub mod Handles
 pub mod Trying

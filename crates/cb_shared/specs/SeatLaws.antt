@@ -21,7 +21,7 @@ use Rattle.cb_rule.specs.Rule.{AreSized}
 use Rattle.cb_rule.specs.Slot.{Sat}
 use Rattle.cb_rule.specs.Steps.{AreNew, FollowsLast, IsNewVersion, TellsPins, act, acted}
 use Rattle.cb_shared.specs.declared.setup.Setup.{Setup}
-use Rattle.cb_shared.specs.Places.{Moves, Place, HoldsLock, Acts}
+use Rattle.cb_shared.specs.Seats.{Moves, SeatAt, HoldsLock, Acts}
 
 pub acted_known : (es : List Event) (v : View) → (acted es v).known ≡ played es v.known
 acted_known [] v = refl
@@ -70,11 +70,11 @@ SayPins (e ∷ es) v = SaysPins v e × SayPins es (act e v)
 
 -- The seat's view has these events more. They agree with what it knew, and what they write is new to
 -- its record. The words that were found tell of its pins.
-abbrev pub Runs : Place → List Event → Place → Type 0
+abbrev pub Runs : SeatAt → List Event → SeatAt → Type 0
 Runs p es q = Moves p q (acted es p.me.0) × Agree p.me.0.known es
     × AreNew (written_by es p.me.0.known []) p.me.0 × SayPins es p.me.0
 
-pub known_is : (p q : Place) (es : List Event) → Moves p q (acted es p.me.0)
+pub known_is : (p q : SeatAt) (es : List Event) → Moves p q (acted es p.me.0)
     → q.me.0.known ≡ played es p.me.0.known
 known_is p q es m = ap (λ (k : Sat). k.0.known) m.2 ∙ acted_known es p.me.0
 
@@ -166,12 +166,12 @@ still_unwritten es fs s old none =
     here ∙ sym (nothing_behind (written_by es s []) old (sym (written_more es s old) ∙ here))
 
 -- what a seat wrote that had written nothing in its turn
-pub fresh_new : (p q : Place) (es : List Event) → p.me.0.fresh ≡ [] → Runs p es q
+pub fresh_new : (p q : SeatAt) (es : List Event) → p.me.0.fresh ≡ [] → Runs p es q
     → AreNew (acted es p.me.0).fresh p.me.0
 fresh_new p q es none r = subst (λ (l : List Entry). AreNew l p.me.0)
     (ap (written_by es p.me.0.known) (sym none) ∙ sym (acted_fresh es p.me.0)) r.2
 
-pub runs_more : (p q r : Place) (es fs : List Event) → Runs p es q → Runs q fs r
+pub runs_more : (p q r : SeatAt) (es fs : List Event) → Runs p es q → Runs q fs r
     → Runs p (es ++ fs) r
 runs_more p q r es fs a b = let m = a.0 in let n = b.0 in (
   (
@@ -189,7 +189,7 @@ runs_more p q r es fs a b = let m = a.0 in let n = b.0 in (
       (subst (λ (v : View). SayPins fs v) (ap (λ (k : Sat). k.0) m.2) b.3),
 )
 
-pub runs_follows : (p q : Place) (es : List Event) (s : Shown) → Runs p es q → s ≡ p.me.0.known
+pub runs_follows : (p q : SeatAt) (es : List Event) (s : Shown) → Runs p es q → s ≡ p.me.0.known
     → Agree s es × (played es s ≡ q.me.0.known)
 runs_follows p q es s a b = (
   subst (λ (t : Shown). Agree t es) (sym b) a.1,
@@ -232,7 +232,8 @@ sized_after c (Settled h w) s z = record {
 }
 
 -- the seat holds the lock as before
-pub holds_still : (z : TableId) (k : Setup) (c : Config) (p q : Place) (e : Event) → HoldsLock z k c p
+pub holds_still : (z : TableId) (k : Setup) (c : Config) (p q : SeatAt) (e : Event)
+    → HoldsLock z k c p
     → Acts p e q → HoldsLock z k c q
 holds_still z k c p q e h a = record {
   of = record {

@@ -13,13 +13,13 @@ use Rattle.cb_rule.specs.declared.view.View.{View}
 use Rattle.cb_rule.specs.Steps.{IsNewest, Knows, with_freed_seen, with_look}
 use Rattle.cb_record.specs.Parts.{Part, Grows, grown, nothing_more}
 use Rattle.cb_shared.specs.declared.reading.ReadAnswer.TheVariants as found
-use Rattle.cb_shared.specs.Places.{Moves, Place}
+use Rattle.cb_shared.specs.Seats.{Moves, SeatAt}
 use Rattle.cb_shared.specs.Turning.{AreLooksAt, FindsAtLast, TurnBy}
 use Rattle.cb_shared.specs.UnderLock.{IsQuiet, ReadsBelow}
 
 -- The look is added to the record. Where it finds the object freed, and the record knows the object,
 -- its freed entry is read.
-pub record GlancesAny (h w : ℕ) (p q : Place) : Type 0 where
+pub record GlancesAny (h w : ℕ) (p q : SeatAt) : Type 0 where
   pub freed : state_of w ≡ state.Empty → Knows h p.me.0 → (v : ℕ) × IsNewest h v p.me.0
       × Moves p q (with_freed_seen h v w p.me.0)
   pub other : (state_of w ≡ state.Empty → Knows h p.me.0 → ⊥) → Moves p q (with_look h w p.me.0)
@@ -36,7 +36,7 @@ FindsKnown (Some h) v d =
 FindsKnown None v d = d ≡ nothing_more
 
 -- so a seat does
-abbrev pub KnownMoves : Config → Option ℕ → Place → Place → Type 0
+abbrev pub KnownMoves : Config → Option ℕ → SeatAt → SeatAt → Type 0
 KnownMoves c freed p q = (d : Part) × Moves p q (grown d p.me.0) × IsQuiet d × ReadsBelow c d
     × FindsKnown freed p.me.0 d
 

@@ -32,23 +32,23 @@ use Rattle.cb_rule.specs.Steps.{AreNew, Knows, acted}
 use Rattle.cb_shared.specs.declared.reading.ReadAnswer.{ReadAnswer}
 use Rattle.cb_shared.specs.declared.reading.ReadAnswer.TheVariants as found
 use Rattle.cb_record.specs.Parts.{Part, grown, nothing_more}
-use Rattle.cb_shared.specs.Places.{Moves, Place}
 use Rattle.cb_shared.specs.SeatLaws.{Runs}
+use Rattle.cb_shared.specs.Seats.{Moves, SeatAt}
 use Rattle.cb_shared.specs.Turning.{CountsPins, Did, DidAs, FindsAtLast, FindsFreedAfter, JobReads}
 use Rattle.cb_shared.specs.Turning.{NotesWritten, Tries, answer_of, held_by, made_by_turn}
 use Rattle.cb_shared.specs.Turning.{slate_run, slate_shows, turn_part, with_own}
 
 -- the same seat, with this view and these slots in hand
-abbrev pub IsAt : Place → Place → View → List (ℕ × LockSlot) → Type 0
+abbrev pub IsAt : SeatAt → SeatAt → View → List (ℕ × LockSlot) → Type 0
 IsAt p q w slots = (q.table_id ≡ p.table_id) × (q.id ≡ p.id) × (q.me ≡ (w, slots))
 
 -- the seat took the lock where its word was this one
-abbrev pub TakesLock : ℕ → Place → Place → Type 0
+abbrev pub TakesLock : ℕ → SeatAt → SeatAt → Type 0
 TakesLock word p q = (q.table_id ≡ p.table_id) × (q.id ≡ p.id) × HasTaken p.me word q.me
 
 -- The seat took the lock, and the far state out of its slot: what is known then is sound for it, and
 -- each object of which the record has an entry was made.
-pub record TakesFar (c : Config) (far : FarState) (p q : Place) : Type 0 where
+pub record TakesFar (c : Config) (far : FarState) (p q : SeatAt) : Type 0 where
   pub known : Shown
   pub entries : ℕ
   pub at : IsAt p q (took_lock known far entries p.me.0) ((0, None) ∷ p.me.1)
@@ -70,7 +70,7 @@ pub record IsBeginning (c : Config) (far : FarState) (v : View) : Type 0 where
 -- The work of a turn at the desk over the seat: its events, by which the turn did its job, and what
 -- they wrote.
 pub record TurnAtSeat (c : Config) (job : Job) (r : Result Reply NoMemory) (took gave : FarState)
-    (p q : Place) : Type 0 where
+    (p q : SeatAt) : Type 0 where
   pub events : List Event
   pub more : List Entry
   pub runs : Runs p events q
@@ -90,7 +90,7 @@ BroughtForRead c handle (Err e) start es took gave = StoppedToRead slate_run sla
 
 -- The first part of a read at the desk over the seat: it wrote nothing.
 pub record BringAt (c : Config) (handle : Handle) (r : Result Reply NoMemory) (took gave : FarState)
-    (p q : Place) : Type 0 where
+    (p q : SeatAt) : Type 0 where
   pub events : List Event
   pub runs : Runs p events q
   pub brought : BroughtForRead c handle r p.me.0.known events took gave
@@ -114,7 +114,7 @@ HasSame u v = (u.fresh ≡ v.fresh) × (u.written ≡ v.written) × (u.seen ≡ 
 -- The work of a turn at the desk, and the read under a pin beside it. What it wrote is new to the
 -- record, and its reply counts the pins.
 pub record WorkBy (c : Config) (job : Job) (r : Result Reply NoMemory) (took gave : FarState)
-    (p q : Place) : Type 0 where
+    (p q : SeatAt) : Type 0 where
   pub events : List Event
   pub more : List Entry
   pub within : Part
@@ -137,7 +137,7 @@ IsNoRead (Read handle) = ⊥
 IsNoRead job = Unit {0}
 
 -- they are so on a seat
-abbrev pub TriesOn : Config → ℕ → Result Reply NoMemory → Place → Place → Type 0
+abbrev pub TriesOn : Config → ℕ → Result Reply NoMemory → SeatAt → SeatAt → Type 0
 TriesOn c h r p q = (d : Part) × Moves p q (grown d p.me.0) × IsQuiet d × ReadsBelow c d
     × ((u : View) → HasSame u p.me.0 → Tries h r u d)
 
@@ -167,11 +167,11 @@ IsBelow c (Some h) = h < c.handles
 IsBelow c None = Unit {0}
 
 -- a seat looked for the freed entry of an object, and of one if there is one
-abbrev pub LooksFor : Config → ℕ → Place → Place → Type 0
+abbrev pub LooksFor : Config → ℕ → SeatAt → SeatAt → Type 0
 LooksFor c h p q = (d : Part) × Moves p q (grown d p.me.0) × IsQuiet d × ReadsBelow c d
     × FindsAtLast h found.Freed p.me.0 d
 
-abbrev pub FreedMoves : Config → Option ℕ → Place → Place → Type 0
+abbrev pub FreedMoves : Config → Option ℕ → SeatAt → SeatAt → Type 0
 FreedMoves c freed p q = (d : Part) × Moves p q (grown d p.me.0) × IsQuiet d × ReadsBelow c d
     × FindsFreedAfter freed p.me.0 d
 
@@ -189,7 +189,7 @@ pub record IsEnding (c : Config) (job : Job) (r : Option Reply) (far : FarState)
     pub makes : Each (λ h. Make v.known.first h v.fresh) (made_by_turn job r)
 
 -- the seat gave the lock back, with the far state in its slot
-pub record GivesFar (c : Config) (job : Job) (r : Option Reply) (far : FarState) (p q : Place)
+pub record GivesFar (c : Config) (job : Job) (r : Option Reply) (far : FarState) (p q : SeatAt)
     : Type 0 where
   pub entries : ℕ
   pub at : IsAt p q (gave_lock job r far entries [] (made_by_turn job r) p.me.0) []
@@ -197,7 +197,7 @@ pub record GivesFar (c : Config) (job : Job) (r : Option Reply) (far : FarState)
 
 -- A turn of a seat that took the lock, to its end.
 pub record TurnWith (c : Config) (job : Job) (r : Result Reply NoMemory) (took : FarState)
-    (p q : Place) : Type 0 where
+    (p q : SeatAt) : Type 0 where
   pub gave : FarState
   pub events : List Event
   pub more : List Entry

@@ -14,7 +14,7 @@ use Rattle.cb_shared.specs.declared.answers.WriteAnswer.TheVariants.{Ok, Freed, 
 use Rattle.cb_shared.specs.declared.answers.WriteAnswer.TheVariants.{Range, Pinned, Worn, Raced}
 use Rattle.cb_shared.specs.Glances.{IsLastAlone}
 use Rattle.cb_shared.specs.Pinning.{LooksOnce, FindsFreed, LoosesRace}
-use Rattle.cb_shared.specs.Places.{Place, Moves}
+use Rattle.cb_shared.specs.Seats.{SeatAt, Moves}
 
 -- the word is that of an object that is here, and that so many bytes from the byte number `at` on
 -- lie in
@@ -115,7 +115,7 @@ WriteAt h saw at bytes (Raced seen found) v w =
 WriteAt h saw at bytes _ v w = ⊥
 
 -- and what the write comes to of an object that is claimed at this version, with these words
-abbrev pub WriteClaimed : ℕ → ℕ → ℕ → List ℕ → ℕ → List ℕ → WriteAnswer → Place → Place → Type 0
+abbrev pub WriteClaimed : ℕ → ℕ → ℕ → List ℕ → ℕ → List ℕ → WriteAnswer → SeatAt → SeatAt → Type 0
 WriteClaimed h word at bytes v words (Ok version) p q = (version ≡ v + 1) × (new : List ℕ)
     × IsWrite words at bytes new × Moves p q (record p.me.0 {
       claims = [];

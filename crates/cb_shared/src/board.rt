@@ -26,4 +26,4 @@ pub type Board = Table<Option<BoxedFar>, View, Setup, Words, Global>;
 pub type Top = atomic_table::Shared<Option<BoxedFar>, View, Setup, Words>;
 
 /// A seat at the table: what one caller knows. It has no bytes.
-pub type Place = Seat<Option<BoxedFar>, View>;
+pub type SeatAt = Seat<Option<BoxedFar>, View>;

@@ -2,10 +2,10 @@
 ghost use Rattle.std.specs.Prelude.{◌≡◌, ◌+◌, ◌*◌, ◌^◌, ◌<◌, length, All};
 ghost use Rattle.cb_world.specs.FrameWords.{OwnsWords, loads_from, stores_from};
 ghost use Rattle.cb_world.specs.RowWords.{words_in};
-ghost use Rattle.cb_shared.specs.Places.{HoldsLock};
 ghost use Rattle.cb_shared.specs.SeatLaws.{Runs};
+ghost use Rattle.cb_shared.specs.Seats.{HoldsLock};
 
-use crate::board::{Place, Top};
+use crate::board::{SeatAt, Top};
 use crate::plays::{Load, Store};
 use byteorder::{ByteOrder, LittleEndian};
 use cb_types::Config;
@@ -16,7 +16,7 @@ pub(crate) const FRAME_WORDS: usize = 512;
 /// Loads the words of a frame, in order.
 pub(crate) fn load_words(
     top: &Top,
-    seat: &mut Place,
+    seat: &mut SeatAt,
     config: &Config,
     frame: u32,
     words: &mut [u64; FRAME_WORDS],
@@ -36,7 +36,7 @@ pub(crate) fn load_words(
 }
 
 /// Stores the words of a row of 4,096 bytes in a frame that the holder owns, in order.
-pub(crate) fn store_row(top: &Top, seat: &mut Place, config: &Config, frame: u32, row: &[u8])
+pub(crate) fn store_row(top: &Top, seat: &mut SeatAt, config: &Config, frame: u32, row: &[u8])
     requires holds { HoldsLock top.now.table_id top.now.key config.now seat.old }
     requires frame { frame < config.now.frames }
     requires row { length row.now ≡ 4096 }

@@ -1,11 +1,11 @@
 //! The freed entry of an object, after a turn that was answered Freed.
 ghost use Rattle.std.specs.Prelude.{◌≡◌};
-ghost use Rattle.cb_shared.specs.Places.{IsOf};
+ghost use Rattle.cb_shared.specs.Seats.{IsOf};
 ghost use Rattle.cb_shared.specs.Seeking.{KnownMoves, swapped_of};
 ghost use Rattle.cb_shared.specs.Turning.{KnowsIt, freed_of};
 ghost use Rattle.cb_shared.specs.UnderLock.{FreedMoves, IsBelow};
 
-use crate::board::{Place, Top};
+use crate::board::{SeatAt, Top};
 use crate::pins::{glance, glance_any};
 use cb_ptr::{State, unpack};
 use cb_types::{Config, Handle, Job, NoMemory, Reply};
@@ -31,7 +31,7 @@ pub(crate) fn freed_of(job: &Job, reply: &Result<Reply, NoMemory>) -> Option<u32
 pub(crate) fn find_freed<R: Wait>(
     rt: &R,
     top: &Top,
-    seat: &mut Place,
+    seat: &mut SeatAt,
     config: &Config,
     freed: Option<u32>,
 )
@@ -71,7 +71,7 @@ pub(crate) fn swapped_of(job: &Job, reply: &Result<Reply, NoMemory>) -> Option<u
 pub(crate) fn find_known<R: Wait>(
     rt: &R,
     top: &Top,
-    seat: &mut Place,
+    seat: &mut SeatAt,
     config: &Config,
     freed: Option<u32>,
 )

@@ -1,11 +1,11 @@
 //! The far lock: it is taken with the far state, and given back with it.
 ghost use Rattle.std.specs.Prelude.{◌≡◌, ◌%◌, ◌^◌, ◌<◌, [], ◌∷◌, Some, None};
 ghost use Rattle.cb_world.specs.FarState.{FarState};
-ghost use Rattle.cb_shared.specs.Places.{IsOf, Moves};
+ghost use Rattle.cb_shared.specs.Seats.{IsOf, Moves};
 ghost use Rattle.cb_shared.specs.Turning.{answer_of};
 ghost use Rattle.cb_shared.specs.UnderLock.{GivesFar, IsEnding, TakesFar};
 
-use crate::board::{Place, Top};
+use crate::board::{SeatAt, Top};
 use crate::boxed_far::BoxedFar;
 use crate::plays::{Deed, GiveLock, Opening, TakeLock};
 use cb_types::{Config, Job, NoMemory, Reply};
@@ -18,7 +18,7 @@ use std::{hint, mem};
 const SPINS: u32 = 100;
 
 /// Waits until the far lock is free, and takes it with the far state.
-pub(crate) fn lock_far<R: Wait>(rt: &R, top: &Top, seat: &mut Place, config: &Config) -> BoxedFar
+pub(crate) fn lock_far<R: Wait>(rt: &R, top: &Top, seat: &mut SeatAt, config: &Config) -> BoxedFar
     requires of { IsOf top.now.table_id top.now.key config.now seat.old }
     ensures took { TakesFar config.now result seat.old seat.new }
     ensures first { seat.new.me.0.known.first ≡ top.now.key.first }
@@ -57,7 +57,12 @@ fn await_free<R: Wait>(rt: &R, top: &Top) -> u64
 }
 
 /// Takes the lock if its word is this one, and the far state out of the slot that comes with it.
-fn take_far<W: Opening>(top: &Top, seat: &mut Place, config: &Config, word: u64) -> Option<BoxedFar>
+fn take_far<W: Opening>(
+    top: &Top,
+    seat: &mut SeatAt,
+    config: &Config,
+    word: u64,
+) -> Option<BoxedFar>
     requires of { IsOf top.now.table_id top.now.key config.now seat.old }
     requires picks { W.first ≡ top.now.key.first }
     requires even { word % 2 ≡ 0 }
@@ -85,7 +90,7 @@ fn turns_of(far: &BoxedFar) -> u64
 /// word is twice the count of turns then.
 pub(crate) fn give_far<W: Deed>(
     top: &Top,
-    seat: &mut Place,
+    seat: &mut SeatAt,
     config: &Config,
     job: &Job,
     reply: &Result<Reply, NoMemory>,

@@ -3,7 +3,7 @@ ghost use Rattle.crossbeam_utils.specs.Padded.{padded_value};
 ghost use Rattle.cb_shared.specs.Handles.{handles_of};
 ghost use Rattle.cb_shared.specs.Trying.{newest_tries, tries_of};
 
-use crate::board::Place;
+use crate::board::SeatAt;
 use crate::handles::Pins;
 use cb_types::Handle;
 
@@ -58,7 +58,7 @@ impl Pin {
 /// newest turn is made again.
 #[derive(Drop)]
 pub struct Pass {
-    pub(crate) seat: Place,
+    pub(crate) seat: SeatAt,
     pub(crate) share: u32,
     pub(crate) pins: Pins,
     pub(crate) tries: Option<bool>,

@@ -11,10 +11,10 @@ ghost use Rattle.cb_shared.specs.declared.answers.PinAnswer.TheVariants as answe
 ghost use Rattle.cb_shared.specs.Handles.{handles_of};
 ghost use Rattle.cb_shared.specs.Passes.{IsAtRest, IsPassOf, IsPinOf, stand_of};
 ghost use Rattle.cb_shared.specs.Pinning.{IsRefusal, PinAt, PinGives};
-ghost use Rattle.cb_shared.specs.Places.{IsOf, Moves};
+ghost use Rattle.cb_shared.specs.Seats.{IsOf, Moves};
 
 use crate::answers::PinAnswer;
-use crate::board::{Place, Top};
+use crate::board::{SeatAt, Top};
 use crate::handles::{MOST_PINS, Pins, newest};
 use crate::pass::{Pass, Pin};
 use crate::pins::{give_pin, glance, take_pin, tell_version};
@@ -126,7 +126,7 @@ fn refuse_pin(word: u64) -> Option<PinAnswer>
 /// The pin of an object at the word that was seen.
 fn pin_at(
     top: &Top,
-    seat: &mut Place,
+    seat: &mut SeatAt,
     pins: &mut Pins,
     config: &Config,
     h: Handle,
@@ -162,7 +162,7 @@ fn pin_at(
 }
 
 /// Gives the newest pin on an object back.
-pub(crate) fn unpin_one(top: &Top, seat: &mut Place, pins: &mut Pins, config: &Config, h: u32)
+pub(crate) fn unpin_one(top: &Top, seat: &mut SeatAt, pins: &mut Pins, config: &Config, h: u32)
     requires of { IsOf top.now.table_id top.now.key config.now seat.old }
     requires handle { h < config.now.handles }
     requires held { 0 < pins_on h seat.old.me.0 }

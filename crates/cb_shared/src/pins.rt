@@ -4,16 +4,16 @@ ghost use Rattle.cb_ptr.specs.declared.word.State.TheVariants as state;
 ghost use Rattle.cb_ptr.specs.Word.{state_of, pins_of};
 ghost use Rattle.cb_rule.specs.Seats.{pins_on};
 ghost use Rattle.cb_rule.specs.Steps.{Knows, without_pin};
-ghost use Rattle.cb_shared.specs.Places.{IsOf, Moves};
 ghost use Rattle.cb_shared.specs.Glances.{Glances, TakesPinAt, TellsVersion};
+ghost use Rattle.cb_shared.specs.Seats.{IsOf, Moves};
 ghost use Rattle.cb_shared.specs.Seeking.{GlancesAny};
 
-use crate::board::{Place, Top};
+use crate::board::{SeatAt, Top};
 use crate::plays::{Date, GivePin, Glance, GlanceAny, TakePin};
 use cb_types::Config;
 
 /// The pointer word of an object that the seat knows.
-pub(crate) fn glance(top: &Top, seat: &mut Place, config: &Config, h: u32) -> u64
+pub(crate) fn glance(top: &Top, seat: &mut SeatAt, config: &Config, h: u32) -> u64
     requires of { IsOf top.now.table_id top.now.key config.now seat.old }
     requires handle { h < config.now.handles }
     requires knows { Knows h seat.old.me.0 }
@@ -23,7 +23,7 @@ pub(crate) fn glance(top: &Top, seat: &mut Place, config: &Config, h: u32) -> u6
 }
 
 /// The pointer word of an object, which the seat may or may not know.
-pub(crate) fn glance_any(top: &Top, seat: &mut Place, config: &Config, h: u32) -> u64
+pub(crate) fn glance_any(top: &Top, seat: &mut SeatAt, config: &Config, h: u32) -> u64
     requires of { IsOf top.now.table_id top.now.key config.now seat.old }
     requires handle { h < config.now.handles }
     ensures { GlancesAny h result seat.old seat.new }
@@ -33,7 +33,7 @@ pub(crate) fn glance_any(top: &Top, seat: &mut Place, config: &Config, h: u32) -
 
 /// Pins an object that the seat knows where its word is `saw`, which is here and has fewer than 1,023 pins, and answers
 /// the word that was found.
-pub(crate) fn take_pin(top: &Top, seat: &mut Place, config: &Config, h: u32, saw: u64) -> u64
+pub(crate) fn take_pin(top: &Top, seat: &mut SeatAt, config: &Config, h: u32, saw: u64) -> u64
     requires of { IsOf top.now.table_id top.now.key config.now seat.old }
     requires handle { h < config.now.handles }
     requires here { state_of saw ≡ state.Here }
@@ -46,7 +46,7 @@ pub(crate) fn take_pin(top: &Top, seat: &mut Place, config: &Config, h: u32, saw
 }
 
 /// The version of an object that the seat has pinned.
-pub(crate) fn tell_version(top: &Top, seat: &mut Place, config: &Config, h: u32) -> u64
+pub(crate) fn tell_version(top: &Top, seat: &mut SeatAt, config: &Config, h: u32) -> u64
     requires of { IsOf top.now.table_id top.now.key config.now seat.old }
     requires handle { h < config.now.handles }
     ensures { TellsVersion config.now h result seat.old seat.new }
@@ -55,7 +55,7 @@ pub(crate) fn tell_version(top: &Top, seat: &mut Place, config: &Config, h: u32)
 }
 
 /// Gives the newest pin on an object back.
-pub(crate) fn give_pin(top: &Top, seat: &mut Place, config: &Config, h: u32)
+pub(crate) fn give_pin(top: &Top, seat: &mut SeatAt, config: &Config, h: u32)
     requires of { IsOf top.now.table_id top.now.key config.now seat.old }
     requires handle { h < config.now.handles }
     requires held { 0 < pins_on h seat.old.me.0 }

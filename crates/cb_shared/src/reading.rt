@@ -8,10 +8,10 @@ ghost use Rattle.cb_rule.specs.declared.view.Stand.{Stand};
 ghost use Rattle.cb_rule.specs.Steps.{Knows};
 ghost use Rattle.cb_shared.specs.declared.reading.ReadAnswer.{ReadAnswer};
 ghost use Rattle.cb_record.specs.Parts.{grown};
-ghost use Rattle.cb_shared.specs.Places.{IsOf, Moves};
 ghost use Rattle.cb_shared.specs.Reading.{IsReadRefusal, IsUnderPin, ReadAt, ReadMoves, looked};
+ghost use Rattle.cb_shared.specs.Seats.{IsOf, Moves};
 
-use crate::board::{Place, Top};
+use crate::board::{SeatAt, Top};
 use crate::pins::{give_pin, glance, take_pin, tell_version};
 use crate::plays::ReadPin;
 use cb_ptr::{State, unpack};
@@ -44,7 +44,7 @@ pub enum ReadAnswer {
 /// the word alone.
 pub(crate) fn read_pinned(
     top: &Top,
-    seat: &mut Place,
+    seat: &mut SeatAt,
     config: &Config,
     alloc: Global,
     h: u32,
@@ -86,7 +86,7 @@ fn refuse_read(word: u64) -> Option<ReadAnswer>
 /// The read of an object at the word that was seen, with room for its bytes.
 fn read_at(
     top: &Top,
-    seat: &mut Place,
+    seat: &mut SeatAt,
     config: &Config,
     h: u32,
     saw: u64,
@@ -116,7 +116,7 @@ fn read_at(
 }
 
 /// Loads the words of a pinned object, which lies at this place, into the room for its bytes.
-fn load_into(top: &Top, seat: &mut Place, config: &Config, place: u32, room: &mut Bytes)
+fn load_into(top: &Top, seat: &mut SeatAt, config: &Config, place: u32, room: &mut Bytes)
     requires of { IsOf top.now.table_id top.now.key config.now seat.old }
     requires inside { (j : ℕ) → j < words_for (length room.old)
         → place + j < 512 * config.now.frames }

@@ -1,10 +1,10 @@
 //! What the record of a pass has of objects.
 ghost use Rattle.std.specs.Prelude.{◌≡◌};
 ghost use Rattle.cb_shared.specs.Passes.{IsPassOf, record_of};
-ghost use Rattle.cb_shared.specs.Places.{IsOf, Moves};
 ghost use Rattle.cb_shared.specs.Recalls.{Recalls, first_version_of};
+ghost use Rattle.cb_shared.specs.Seats.{IsOf, Moves};
 
-use crate::board::{Place, Top};
+use crate::board::{SeatAt, Top};
 use crate::pass::Pass;
 use crate::plays::{Opening, Recall};
 use crate::runtime::Shared;
@@ -28,7 +28,7 @@ impl Shared {
 }
 
 /// A look that tells what the record has of its own objects.
-fn recall_at<W: Opening>(top: &Top, seat: &mut Place, config: &Config)
+fn recall_at<W: Opening>(top: &Top, seat: &mut SeatAt, config: &Config)
     requires of { IsOf top.now.table_id top.now.key config.now seat.old }
     requires picks { W.first ≡ top.now.key.first }
     ensures same { Moves seat.old seat.new seat.old.me.0 }

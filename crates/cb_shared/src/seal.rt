@@ -4,7 +4,7 @@ ghost use Rattle.cb_world.specs.World.{WorldState};
 ghost use Rattle.cb_rule.specs.declared.view.View.{View};
 ghost use Rattle.cb_shared.specs.Sealing.{AnyWord, no_view, no_world, sealed, unsealed};
 
-use crate::board::Place;
+use crate::board::SeatAt;
 use crate::boxed_far::BoxedFar;
 use crate::sealed::Sealed;
 use atomic_table::{Mark, PerchPlay, PerchRule, RuledPerch};
@@ -63,12 +63,12 @@ pub(crate) struct Draft {
 
 impl Draft {
     /// With the view of a seat under it.
-    pub(crate) fn of(seat: &Place) -> Draft
+    pub(crate) fn of(seat: &SeatAt) -> Draft
         ensures { result.mark.view.view ≡ seat.now.me.0 }
     {
         let (bench, mark) = Bench::new(seat, 0);
         let mut draft = Draft { bench, mark };
-        put::<Brand, Place>(&mut draft, seat);
+        put::<Brand, SeatAt>(&mut draft, seat);
         draft
     }
 

@@ -1,7 +1,7 @@
 ghost use Rattle.std.specs.Prelude.{◌≡◌, ℕ, true, ◌+◌, ◌*◌, ◌≤◌, length, Some};
 ghost use Rattle.cb_shared.specs.Rights.{rights};
 
-use crate::board::{Place, Top};
+use crate::board::{SeatAt, Top};
 use crate::frames::{FRAME_WORDS, load_words, store_row};
 use crate::plays::{Load, Look, Settle, Stamp, Store, TakeClaim, Tell};
 use byteorder::{ByteOrder, LittleEndian};
@@ -16,7 +16,7 @@ pub struct SeatDesk<'a, R: Wait> {
     pub rt: &'a R,
     pub config: Config,
     pub top: &'a Top,
-    pub seat: &'a mut Place,
+    pub seat: &'a mut SeatAt,
     /// The object that the turn may write, if there is one.
     pub allowed: Option<u32>,
     pub ghost table: { seat.now.table_id ≡ top.now.table_id },

@@ -4,9 +4,9 @@ ghost use Rattle.cb_rule.specs.Lists.{Each};
 ghost use Rattle.cb_rule.specs.Steps.{joined, left_of, right_of};
 ghost use Rattle.cb_shared.specs.Passes.{IsPassOf, PinFits};
 ghost use Rattle.cb_shared.specs.Joining.{IsSpare, unpinned_all};
-ghost use Rattle.cb_shared.specs.Places.{IsOf, Moves};
+ghost use Rattle.cb_shared.specs.Seats.{IsOf, Moves};
 
-use crate::board::{Place, Top};
+use crate::board::{SeatAt, Top};
 use crate::handles::{first_handle, no_pins};
 use crate::pass::Pass;
 use crate::pinning::unpin_one;
@@ -58,7 +58,7 @@ impl Shared {
 }
 
 /// A new seat with so much of the share of this one.
-fn split_seat<W: Given>(top: &Top, seat: &mut Place, config: &Config, share: u32) -> Place
+fn split_seat<W: Given>(top: &Top, seat: &mut SeatAt, config: &Config, share: u32) -> SeatAt
     requires of { IsOf top.now.table_id top.now.key config.now seat.old }
     requires picks { W.share ≡ share }
     requires share { (1 ≤ share) × (share < seat.old.me.0.share) }
@@ -84,7 +84,7 @@ pub(crate) fn give_back(top: &Top, pass: &mut Pass, config: &Config)
 }
 
 /// A seat takes another in.
-fn join_seats<W: Keyed>(top: &Top, seat: &mut Place, other: Place, config: &Config)
+fn join_seats<W: Keyed>(top: &Top, seat: &mut SeatAt, other: SeatAt, config: &Config)
     requires of { IsOf top.now.table_id top.now.key config.now seat.old }
     requires picks { W.key ≡ config.now }
     requires other { IsSpare top.now.table_id other }

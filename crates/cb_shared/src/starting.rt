@@ -6,7 +6,7 @@ ghost use Rattle.cb_rule.specs.Steps.{opener};
 ghost use Rattle.cb_rule.specs.Words.{base};
 ghost use Rattle.cb_shared.specs.Passes.{IsRuntimeBegun};
 
-use crate::board::{Board, Place};
+use crate::board::{Board, SeatAt};
 use crate::boxed_far::BoxedFar;
 use crate::handles::no_pins;
 use crate::pass::Pass;
@@ -62,7 +62,7 @@ impl Shared {
 
 /// The table of these words, which are 0, with the far state of no objects in its slot, and its
 /// first seat.
-fn open_board(alloc: Global, words: &[u64], about: &Setup) -> Result<(Board, Place), NoMemory>
+fn open_board(alloc: Global, words: &[u64], about: &Setup) -> Result<(Board, SeatAt), NoMemory>
     requires accepted { IsAccepted about.now.config }
     requires first { 1 ≤ about.now.first }
     requires long { length words.now ≡ base about.now.config + 512 * about.now.config.frames }

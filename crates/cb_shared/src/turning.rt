@@ -5,13 +5,13 @@ ghost use Rattle.cb_types.specs.declared.reply.Reply.TheVariants as answer;
 ghost use Rattle.cb_core.specs.Jobs.{IsJob};
 ghost use Rattle.cb_shared.specs.Making.{MakesNew};
 ghost use Rattle.cb_shared.specs.Passes.{IsAtRest, IsPassOf};
-ghost use Rattle.cb_shared.specs.Places.{IsOf};
 ghost use Rattle.cb_record.specs.Parts.{Grows, Part};
+ghost use Rattle.cb_shared.specs.Seats.{IsOf};
 ghost use Rattle.cb_shared.specs.Seeking.{FindsKnown, TurnFinds};
 ghost use Rattle.cb_shared.specs.Turning.{KnowsOf, TurnBy};
 ghost use Rattle.cb_shared.specs.UnderLock.{IsBelow, TurnedBy};
 
-use crate::board::{Place, Top};
+use crate::board::{SeatAt, Top};
 use crate::calling::is_to_try_again;
 use crate::freed::{find_freed, find_known, freed_of, swapped_of};
 use crate::handles::count_pins;
@@ -99,7 +99,7 @@ impl Shared {
 fn locked_turn<R: Wait>(
     rt: &R,
     top: &Top,
-    seat: &mut Place,
+    seat: &mut SeatAt,
     config: &Config,
     alloc: Global,
     job: &Job,

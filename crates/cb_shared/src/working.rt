@@ -11,13 +11,13 @@ ghost use Rattle.cb_core.specs.Jobs.{IsJob};
 ghost use Rattle.cb_core.specs.Unavailable.{TurnTells};
 ghost use Rattle.cb_rule.specs.Locking.{Stood};
 ghost use Rattle.cb_rule.specs.Steps.{Knows};
-ghost use Rattle.cb_shared.specs.Places.{HoldsLock, IsOf};
 ghost use Rattle.cb_shared.specs.Rights.{writes_of};
+ghost use Rattle.cb_shared.specs.Seats.{HoldsLock, IsOf};
 ghost use Rattle.cb_shared.specs.Turning.{KnowsOf};
 ghost use Rattle.cb_shared.specs.UnderLock.{BringAt, CameThere, IsBeginning, IsNoRead, IsReplyTo};
 ghost use Rattle.cb_shared.specs.UnderLock.{IsTriedAgain, TriesOn, TurnAtSeat, WorkBy};
 
-use crate::board::{Place, Top};
+use crate::board::{SeatAt, Top};
 use crate::reading::{ReadAnswer, read_pinned};
 use crate::seat_desk::SeatDesk;
 use cb_core::{bring_to_read, turn};
@@ -31,7 +31,7 @@ use std::sync::Wait;
 pub(crate) fn work<R: Wait>(
     rt: &R,
     top: &Top,
-    seat: &mut Place,
+    seat: &mut SeatAt,
     config: &Config,
     far: &mut Far,
     alloc: Global,
@@ -57,7 +57,7 @@ pub(crate) fn work<R: Wait>(
 fn turn_by_seat<R: Wait>(
     rt: &R,
     top: &Top,
-    seat: &mut Place,
+    seat: &mut SeatAt,
     config: &Config,
     far: &mut Far,
     alloc: Global,
@@ -111,7 +111,7 @@ fn object_written(job: &Job, far: &Far) -> Option<u32>
 fn read_by_seat<R: Wait>(
     rt: &R,
     top: &Top,
-    seat: &mut Place,
+    seat: &mut SeatAt,
     config: &Config,
     far: &mut Far,
     alloc: Global,
@@ -150,7 +150,7 @@ fn is_there(place: &Result<Reply, NoMemory>) -> bool
 fn bring_by_seat<R: Wait>(
     rt: &R,
     top: &Top,
-    seat: &mut Place,
+    seat: &mut SeatAt,
     config: &Config,
     far: &mut Far,
     h: Handle,
@@ -187,7 +187,7 @@ fn bring_by_seat<R: Wait>(
 fn read_tried<R: Wait>(
     rt: &R,
     top: &Top,
-    seat: &mut Place,
+    seat: &mut SeatAt,
     config: &Config,
     alloc: Global,
     h: u32,

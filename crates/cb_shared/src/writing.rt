@@ -9,12 +9,12 @@ ghost use Rattle.cb_rule.specs.Steps.{Knows};
 ghost use Rattle.cb_shared.specs.declared.answers.WriteAnswer.{WriteAnswer};
 ghost use Rattle.cb_shared.specs.Claims.{HoldsOnly, IsFreshClaim, IsWithin, with_memory, with_only};
 ghost use Rattle.cb_shared.specs.Passes.{IsAtRest, IsPassOf};
-ghost use Rattle.cb_shared.specs.Places.{IsOf, Moves};
+ghost use Rattle.cb_shared.specs.Seats.{IsOf, Moves};
 ghost use Rattle.cb_shared.specs.Writing.{IsRoomFor, IsWriteRefusal, WriteAt, WriteClaimed};
 ghost use Rattle.cb_shared.specs.Writing.{WriteGives};
 
 use crate::answers::WriteAnswer;
-use crate::board::{Place, Top};
+use crate::board::{SeatAt, Top};
 use crate::pass::Pass;
 use crate::pins::glance;
 use crate::plays::{ClaimHere, Date, PutBack, ReadHeld, SettleHere, StampHere, StoreHere};
@@ -66,7 +66,7 @@ fn refuse_write(word: u64, at: u32, count: usize) -> Option<WriteAnswer>
 /// The claim of an object at the word that was seen, and its write.
 fn write_at(
     top: &Top,
-    seat: &mut Place,
+    seat: &mut SeatAt,
     config: &Config,
     h: u32,
     saw: u64,
@@ -95,7 +95,7 @@ fn write_at(
 /// The write of an object that the seat claims, and its settling.
 fn write_claimed(
     top: &Top,
-    seat: &mut Place,
+    seat: &mut SeatAt,
     config: &Config,
     h: u32,
     word: u64,
@@ -128,7 +128,7 @@ fn write_claimed(
 
 /// Stores each word of a claimed object that these bytes reach, from the byte number `at` on. A
 /// word of which a part stays is loaded before.
-fn overwrite_own(top: &Top, seat: &mut Place, config: &Config, place: u32, at: u32, bytes: &[u8])
+fn overwrite_own(top: &Top, seat: &mut SeatAt, config: &Config, place: u32, at: u32, bytes: &[u8])
     requires of { IsOf top.now.table_id top.now.key config.now seat.old }
     requires end { at + length bytes.now < 2 ^ 16 }
     requires claim { (x : Held) × HoldsOnly x x.handle seat.old
@@ -152,7 +152,7 @@ fn overwrite_own(top: &Top, seat: &mut Place, config: &Config, place: u32, at: u
 /// of them.
 fn merged_own(
     top: &Top,
-    seat: &mut Place,
+    seat: &mut SeatAt,
     config: &Config,
     place: usize,
     first: u32,

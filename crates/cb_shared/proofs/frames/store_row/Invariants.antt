@@ -1,7 +1,7 @@
 use Rattle.std.proofs.Common.{◌*◌, take}
 use Rattle.cb_world.specs.FrameWords.{OwnsWords, stores_from}
-use Rattle.cb_shared.specs.Places.{HoldsLock}
 use Rattle.cb_shared.specs.SeatLaws.{Runs}
+use Rattle.cb_shared.specs.Seats.{HoldsLock}
 use Rattle.cb_shared.proofs.frames.store_row.Given as goal
 
 abbrev pub invariant-loop-i : goal.invariant-loop-i

@@ -1,5 +1,5 @@
 use Rattle.cb_record.specs.Parts.{Part, grown}
-use Rattle.cb_shared.specs.Places.{Moves}
+use Rattle.cb_shared.specs.Seats.{Moves}
 use Rattle.cb_shared.specs.Turning.{AreLooksAt}
 use Rattle.cb_shared.proofs.freed.find_freed.Given as goal
 

@@ -1,4 +1,4 @@
-use Rattle.cb_shared.specs.Places.{Moves}
+use Rattle.cb_shared.specs.Seats.{Moves}
 use Rattle.cb_shared.proofs.locking.lock_far.Given as goal
 
 abbrev pub invariant-loop : goal.invariant-loop

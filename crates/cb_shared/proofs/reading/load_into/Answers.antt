@@ -5,7 +5,7 @@ use Rattle.cb_rule.specs.declared.view.View.{View}
 use Rattle.cb_rule.specs.Lists.{Has}
 use Rattle.cb_rule.specs.Slot.{Sat}
 use Rattle.cb_rule.specs.Words.{base}
-use Rattle.cb_shared.specs.Places.{Moves}
+use Rattle.cb_shared.specs.Seats.{Moves}
 use Rattle.cb_shared.proofs.PinsAlone.{reads_pin_at}
 use Rattle.cb_mutate.proofs.Laws.{filled_all, filled_more}
 use Rattle.cb_shared.proofs.ReadSteps.{moves_then}

@@ -1,7 +1,7 @@
 use Rattle.std.proofs.Common.{◌≡◌, length}
 use Rattle.cb_rule.specs.declared.view.Stand.{Stand}
-use Rattle.cb_shared.specs.Places.{IsOf, Moves}
 use Rattle.cb_shared.specs.Reading.{IsUnderPin}
+use Rattle.cb_shared.specs.Seats.{IsOf, Moves}
 use Rattle.cb_mutate.proofs.Laws.{AreBytesFilled}
 use Rattle.cb_shared.proofs.reading.load_into.Given as goal
 

@@ -2,7 +2,7 @@ use Rattle.std.proofs.Common.{length}
 use Rattle.crossbeam_utils.specs.Padded.{padded_value}
 use Rattle.cb_rule.specs.Lists.{Each}
 use Rattle.cb_shared.specs.Passes.{PinFits}
-use Rattle.cb_shared.specs.Places.{IsOf, Moves}
+use Rattle.cb_shared.specs.Seats.{IsOf, Moves}
 use Rattle.cb_shared.proofs.seats.give_back.Given as goal
 
 abbrev pub decreases-loop-h : goal.decreases-loop-h

@@ -6,7 +6,7 @@ use Rattle.cb_rule.specs.Slot.{Sat}
 use Rattle.cb_rule.specs.Steps.{with_claim_word}
 use Rattle.cb_rule.specs.Words.{base}
 use Rattle.cb_shared.specs.Claims.{HoldsOnly, IsWithin, with_memory, with_only}
-use Rattle.cb_shared.specs.Places.{Moves}
+use Rattle.cb_shared.specs.Seats.{Moves}
 use Rattle.cb_shared.proofs.OwnSteps.{may_store, stores_only}
 use Rattle.cb_shared.proofs.WriteSteps.{of_moves}
 use Rattle.cb_shared.proofs.writing.overwrite_own.Goals as goal

@@ -2,7 +2,7 @@ use Rattle.std.proofs.Common.{ℕ, ◌*◌, List, length}
 use Rattle.cb_world.specs.Write.{IsWriteBelow}
 use Rattle.cb_rule.specs.declared.view.Held.{Held}
 use Rattle.cb_shared.specs.Claims.{HoldsOnly, IsWithin, with_memory, with_only}
-use Rattle.cb_shared.specs.Places.{IsOf, Moves}
+use Rattle.cb_shared.specs.Seats.{IsOf, Moves}
 use Rattle.cb_shared.proofs.writing.overwrite_own.Given as goal
 
 abbrev pub invariant-loop-i : goal.invariant-loop-i

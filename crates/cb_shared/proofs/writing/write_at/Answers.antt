@@ -4,7 +4,7 @@ use Rattle.cb_rule.specs.Steps.{held_at, with_look}
 use Rattle.cb_shared.specs.declared.answers.WriteAnswer.{WriteAnswer}
 use Rattle.cb_shared.specs.Claims.{ClaimsHere, IsFreshClaim, with_only}
 use Rattle.cb_shared.specs.Passes.{IsAtRest}
-use Rattle.cb_shared.specs.Places.{Place}
+use Rattle.cb_shared.specs.Seats.{SeatAt}
 use Rattle.cb_shared.specs.Writing.{WriteClaimed}
 use Rattle.cb_shared.proofs.OwnAlone.{claims_here_at}
 use Rattle.cb_shared.proofs.OwnSteps.{claims_only}
@@ -68,7 +68,7 @@ write_claimed-requires-clause-of c = let y = (claims (goal.at.write_claimed-requ
     c.args.seat.now.me.0)) c.requires.of y.6 refl refl
 
 -- where the write leaves the seat
-after : (c : After-compare_exchange-found) (a : WriteAnswer) (q : Place)
+after : (c : After-compare_exchange-found) (a : WriteAnswer) (q : SeatAt)
     → c.compare_exchange-found.result ≡ c.args.saw
     → ((v : ℕ) (words : List ℕ)
     → IsFreshClaim c.args.config.now c.args.h c.args.saw v words c.compare_exchange-found.new.seat

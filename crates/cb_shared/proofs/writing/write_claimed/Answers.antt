@@ -13,7 +13,7 @@ use Rattle.cb_rule.specs.Words.{stamps}
 use Rattle.cb_shared.specs.declared.setup.Setup.{Setup}
 use Rattle.cb_shared.specs.Claims.{HoldsOnly, IsFreshClaim, IsWithin, back_only, with_memory}
 use Rattle.cb_shared.specs.Claims.{with_only, written_only}
-use Rattle.cb_shared.specs.Places.{IsOf, Moves, Place}
+use Rattle.cb_shared.specs.Seats.{IsOf, Moves, SeatAt}
 use Rattle.cb_shared.proofs.OwnSteps.{may_put_back, may_settle, may_stamp, puts_only, settles_only}
 use Rattle.cb_shared.proofs.OwnSteps.{stamps_only, version_held}
 use Rattle.cb_shared.proofs.PinsAlone.{dates_at}
@@ -29,7 +29,7 @@ load-version-requires c = let o = c.requires.of in (
 )
 
 -- the seat after the load of the version word, and what is known of it there
-record IsLoaded (z : TableId) (k : Setup) (g : Config) (h n : ℕ) (p m : Place) : Type 0 where
+record IsLoaded (z : TableId) (k : Setup) (g : Config) (h n : ℕ) (p m : SeatAt) : Type 0 where
   pub of : IsOf z k g p
   pub same : Moves p m p.me.0
   pub tells : (x : Held) → HoldsOnly x h p → n ≡ x.stamp
@@ -56,7 +56,7 @@ within c v words f = record {
   whole = f.whole;
 }
 
-module _ (z : TableId) (k : Setup) (g : Config) (h n : ℕ) (p m : Place)
+module _ (z : TableId) (k : Setup) (g : Config) (h n : ℕ) (p m : SeatAt)
     (l : IsLoaded z k g h n p m) where
   of_loaded : IsOf z k g m
   of_loaded = of_moves z k g p m p.me.0 l.of l.same refl refl
@@ -69,7 +69,7 @@ module _ (z : TableId) (k : Setup) (g : Config) (h n : ℕ) (p m : Place)
     only = (ap (λ (m : Sat). m.0.claims) l.same.2 ∙ f.only, refl)
 
 -- the seat after the stores of the words and of the version
-module _ (z : TableId) (k : Setup) (g : Config) (m q s : Place) (o : IsOf z k g m) (y : Held)
+module _ (z : TableId) (k : Setup) (g : Config) (m q s : SeatAt) (o : IsOf z k g m) (y : Held)
     (n : ℕ) (wrote : Moves m q (with_only y m.me.0)) where
   of_wrote : IsOf z k g q
   of_wrote = of_moves z k g m q (with_only y m.me.0) o wrote refl refl

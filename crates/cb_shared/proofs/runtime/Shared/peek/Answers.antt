@@ -5,7 +5,7 @@ use Rattle.cb_rule.specs.Steps.{with_peek}
 use Rattle.cb_rule.specs.Words.{base}
 use Rattle.cb_shared.specs.Handles.{handles_of}
 use Rattle.cb_shared.specs.Passes.{IsAtRest, PinFits, stand_of}
-use Rattle.cb_shared.specs.Places.{Moves}
+use Rattle.cb_shared.specs.Seats.{Moves}
 use Rattle.cb_shared.specs.Trying.{tries_of}
 use Rattle.cb_shared.proofs.PinsAlone.{peeks_at}
 use Rattle.cb_shared.proofs.Resting.{each_has}

@@ -12,15 +12,16 @@ use Rattle.cb_rule.specs.Steps.{act}
 use Rattle.cb_rule.specs.Words.{base}
 use Rattle.cb_shared.specs.declared.setup.Setup.{Setup}
 
-abbrev pub Place : Type 0
-Place = Seat LockSlot View
+-- a seat, which has the record of its caller
+abbrev pub SeatAt : Type 0
+SeatAt = Seat LockSlot View
 
 -- the same seat, with the view w
-abbrev pub Moves : Place → Place → View → Type 0
+abbrev pub Moves : SeatAt → SeatAt → View → Type 0
 Moves p q w = (q.table_id ≡ p.table_id) × (q.id ≡ p.id) × (q.me ≡ (w, p.me.1))
 
 -- the seat is of the table of this configuration
-pub record IsOf (z : TableId) (k : Setup) (c : Config) (p : Place) : Type 0 where
+pub record IsOf (z : TableId) (k : Setup) (c : Config) (p : SeatAt) : Type 0 where
   pub table : p.table_id ≡ z
   pub words : z.words ≡ base c + 512 * c.frames
   pub key : k.config ≡ c
@@ -28,11 +29,11 @@ pub record IsOf (z : TableId) (k : Setup) (c : Config) (p : Place) : Type 0 wher
   pub live : 1 ≤ p.me.0.share
 
 -- and holds the far lock
-pub record HoldsLock (z : TableId) (k : Setup) (c : Config) (p : Place) : Type 0 where
+pub record HoldsLock (z : TableId) (k : Setup) (c : Config) (p : SeatAt) : Type 0 where
   pub of : IsOf z k c p
   pub holds : p.me.0.holds ≡ true
   pub sized : AreSized c p.me.0.known
 
 -- the seat's view has the event, which agrees with what it knew
-abbrev pub Acts : Place → Event → Place → Type 0
+abbrev pub Acts : SeatAt → Event → SeatAt → Type 0
 Acts p e q = Moves p q (act e p.me.0) × Agrees p.me.0.known e
