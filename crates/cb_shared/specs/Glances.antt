@@ -15,9 +15,9 @@ use Rattle.cb_shared.specs.Seats.{SeatAt, Moves}
 abbrev pub IsLastAlone : ℕ → ℕ → View → Type 0
 IsLastAlone h len v = IsAlone h v → HasLast h len v
 
--- The look is added to the record. A freed object is read, at its last version; the pins of one that
--- is here are counted in its word, and where no other pass has it these are the seat's own, and the
--- seat wrote its last entry.
+-- The look is added to the record. A freed object is read, at its last version; the pins of one
+-- that is here are counted in its word, and where no other pass has it these are the seat's own,
+-- and the seat wrote its last entry.
 pub record Glances (h w : ℕ) (p q : SeatAt) : Type 0 where
   pub freed : state_of w ≡ state.Empty → (v : ℕ) × IsNewest h v p.me.0
       × Moves p q (with_freed_seen h v w p.me.0)

@@ -68,8 +68,8 @@ abbrev pub SayPins : List Event → View → Type 0
 SayPins [] v = Unit {0}
 SayPins (e ∷ es) v = SaysPins v e × SayPins es (act e v)
 
--- The seat's view has these events more. They agree with what it knew, and what they write is new to
--- its record. The words that were found tell of its pins.
+-- The seat's view has these events more. They agree with what it knew, and what they write is new
+-- to its record. The words that were found tell of its pins.
 abbrev pub Runs : SeatAt → List Event → SeatAt → Type 0
 Runs p es q = Moves p q (acted es p.me.0) × Agree p.me.0.known es
     × AreNew (written_by es p.me.0.known []) p.me.0 × SayPins es p.me.0
@@ -184,7 +184,8 @@ runs_more p q r es fs a b = let m = a.0 in let n = b.0 in (
       (subst (λ (s : Shown). Agree s fs) (known_is p q es m) b.1),
   new_more es fs p.me.0 a.2 (subst (λ (s : Shown). AreNew (written_by fs s []) (acted es p.me.0))
       (known_is p q es m)
-      (subst (λ (v : View). AreNew (written_by fs q.me.0.known []) v) (ap (λ (k : Sat). k.0) m.2) b.2)),
+      (subst (λ (v : View). AreNew (written_by fs q.me.0.known []) v) (ap (λ (k : Sat). k.0) m.2)
+      b.2)),
   say_more es fs p.me.0 a.3
       (subst (λ (v : View). SayPins fs v) (ap (λ (k : Sat). k.0) m.2) b.3),
 )

@@ -1,5 +1,5 @@
--- The freed entry of an object after a turn of the job Swap that was answered Freed: it is read where
--- the record knows the object.
+-- The freed entry of an object after a turn of the job Swap that was answered Freed: it is read
+-- where the record knows the object.
 use Rattle.std.specs.Prelude.{◌≡◌, ℕ, Option, None, Some, Result, Ok}
 use Rattle.cb_member.specs.declared.no_memory.NoMemory.{NoMemory}
 use Rattle.cb_ptr.specs.declared.word.State.TheVariants as state
@@ -17,8 +17,8 @@ use Rattle.cb_shared.specs.Seats.{Moves, SeatAt}
 use Rattle.cb_shared.specs.Turning.{AreLooksAt, FindsAtLast, TurnBy}
 use Rattle.cb_shared.specs.UnderLock.{IsQuiet, ReadsBelow}
 
--- The look is added to the record. Where it finds the object freed, and the record knows the object,
--- its freed entry is read.
+-- The look is added to the record. Where it finds the object freed, and the record knows the
+-- object, its freed entry is read.
 pub record GlancesAny (h w : ℕ) (p q : SeatAt) : Type 0 where
   pub freed : state_of w ≡ state.Empty → Knows h p.me.0 → (v : ℕ) × IsNewest h v p.me.0
       × Moves p q (with_freed_seen h v w p.me.0)

@@ -167,9 +167,9 @@ FindsFreedAfter (Some h) v d = FindsAtLast h found.Freed v d
 FindsFreedAfter None v d = d ≡ nothing_more
 
 -- What a write, a free or a filter tells of its object, by the word that it found last. It is
--- answered Pinned where there are some pins: as many at least as the pass has on it, and these alone
--- where no other pass has the object. A version is answered only where the pass has none. Range tells
--- the length of the last entry, which the pass wrote where no other one has the object.
+-- answered Pinned where there are some pins: as many at least as the pass has on it, and these
+-- alone where no other pass has the object. A version is answered only where the pass has none.
+-- Range tells the length of the last entry, which the pass wrote where no other one has the object.
 abbrev pub PinsTold : ℕ → Reply → View → Type 0
 PinsTold h (answer.Pinned count) v =
     (1 ≤ count) × (pins_on h v ≤ count) × (IsAlone h v → count ≡ pins_on h v)
@@ -195,7 +195,8 @@ with_own made v = record v { own = made ++ v.own }
 
 -- The turn notes which entries its record had as written when it began and, behind what it wrote
 -- itself, when it ended; and of those at its begin which ones the record had when its turn before
--- ended or when it last took another in, with how many entries the history had when that turn ended.
+-- ended or when it last took another in, with how many entries the history had when that turn
+-- ended.
 pub record NotesWritten (turn : Turn) (more : List Entry) (v : View) : Type 0 where
   pub had : turn.had ≡ v.written
   pub left : turn.left ≡ more ++ v.written
@@ -206,8 +207,8 @@ pub record NotesWritten (turn : Turn) (more : List Entry) (v : View) : Type 0 wh
 -- known when it began, its events, and the far states that it took and gave, which are those of one
 -- turn more. What it wrote is that of its reply, and new to the record: one above the greatest
 -- version that the record has of an object that it knows and no other pass has. A write, a free and
--- a filter tell of the object by its word (`pins`). Each object of which the record has an entry had
--- a version when it began. It is answered Unavailable exactly where it is to be.
+-- a filter tell of the object by its word (`pins`). Each object of which the record has an entry
+-- had a version when it began. It is answered Unavailable exactly where it is to be.
 pub record TurnAdds (c : Config) (job : Job) (r : Result Reply NoMemory) (v : View) (d : Part)
     : Type 0 where
   pub turn : Turn

@@ -46,8 +46,8 @@ IsAt p q w slots = (q.table_id ≡ p.table_id) × (q.id ≡ p.id) × (q.me ≡ (
 abbrev pub TakesLock : ℕ → SeatAt → SeatAt → Type 0
 TakesLock word p q = (q.table_id ≡ p.table_id) × (q.id ≡ p.id) × HasTaken p.me word q.me
 
--- The seat took the lock, and the far state out of its slot: what is known then is sound for it, and
--- each object of which the record has an entry was made.
+-- The seat took the lock, and the far state out of its slot: what is known then is sound for it,
+-- and each object of which the record has an entry was made.
 pub record TakesFar (c : Config) (far : FarState) (p q : SeatAt) : Type 0 where
   pub known : Shown
   pub entries : ℕ
@@ -56,8 +56,8 @@ pub record TakesFar (c : Config) (far : FarState) (p q : SeatAt) : Type 0 where
   pub stood : Stood c known far
   pub made : (h : ℕ) → Knows h p.me.0 → h < far.made
 
--- The seat holds the lock, has its slot in hand, and has done nothing in its turn yet. What it knows
--- is sound for the far state that it took.
+-- The seat holds the lock, has its slot in hand, and has done nothing in its turn yet. What it
+-- knows is sound for the far state that it took.
 pub record IsBeginning (c : Config) (far : FarState) (v : View) : Type 0 where
   pub holds : v.holds ≡ true
   pub idle : v.acts ≡ []

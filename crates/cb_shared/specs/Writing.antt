@@ -65,8 +65,8 @@ pub record IsWorn (h at count : ℕ) (v w : View) : Type 0 where
     seen = last_seen h word words ∷ v.seen;
   }
 
--- By the answer. One that is refused for its length or its pins is not freed, and where no other pass
--- has it, it has the length of its last entry, which the record wrote.
+-- By the answer. One that is refused for its length or its pins is not freed, and where no other
+-- pass has it, it has the length of its last entry, which the record wrote.
 abbrev pub WriteGives : ℕ → ℕ → List ℕ → WriteAnswer → View → View → Type 0
 WriteGives h at bytes (Ok version) v w = IsWrittenHere h at bytes version v w
 WriteGives h at bytes Freed v w = FindsFreed h v w

@@ -5,7 +5,8 @@ use cb_rule::View;
 use std::alloc::Global;
 
 /// The rule that holds between any two steps at the table. Its words are, in order: that of the far
-/// lock, the pointer words, the version words, and the memory words. Its one slot has the far state.
+/// lock, the pointer words, the version words, and the memory words. Its one slot has the far
+/// state.
 pub struct Words;
 
 impl TableRule<Option<BoxedFar>, View, Setup> for Words {

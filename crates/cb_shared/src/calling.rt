@@ -129,9 +129,9 @@ impl Shared {
     }
 
     /// Frees an object that the pass knows, by a turn of the job Free: Version with the version
-    /// that it ends at; Freed where it was freed before; Pinned with the count of its pins; Worn where
-    /// its version has no next one, or by the count of turns. Tries again while the object is being
-    /// moved or written. Waits.
+    /// that it ends at; Freed where it was freed before; Pinned with the count of its pins; Worn
+    /// where its version has no next one, or by the count of turns. Tries again while the object is
+    /// being moved or written. Waits.
     pub fn free<R: Wait>(
         &self,
         rt: &R,

@@ -42,7 +42,8 @@ pub(crate) fn newest(pins: &[u32], h: u32) -> usize
 
 /// The handle of the newest pin, None where there is none.
 pub(crate) fn first_handle(pins: &Pins) -> Option<u32>
-    ensures some { IfSome result (λ h. (rest : List ℕ) × ((padded_value pins.now).items ≡ h ∷ rest)) }
+    ensures some { IfSome result (λ h. (rest : List ℕ)
+        × ((padded_value pins.now).items ≡ h ∷ rest)) }
     ensures none { IfNone result ((padded_value pins.now).items ≡ []) }
 {
     match pins.as_slice() {

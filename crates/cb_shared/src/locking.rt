@@ -33,8 +33,8 @@ pub(crate) fn lock_far<R: Wait>(rt: &R, top: &Top, seat: &mut SeatAt, config: &C
     unreachable!()
 }
 
-/// Waits until the lock's word is one that a free lock has, and answers it. A look at the word alone
-/// is short, and moves no far state. The word of a lock that is held is 1.
+/// Waits until the lock's word is one that a free lock has, and answers it. A look at the word
+/// alone is short, and moves no far state. The word of a lock that is held is 1.
 fn await_free<R: Wait>(rt: &R, top: &Top) -> u64
     requires word { 0 < top.now.table_id.words }
     ensures even { result % 2 ≡ 0 }
@@ -66,7 +66,8 @@ fn take_far<W: Opening>(
     requires of { IsOf top.now.table_id top.now.key config.now seat.old }
     requires picks { W.first ≡ top.now.key.first }
     requires even { word % 2 ≡ 0 }
-    ensures took { (far : FarState) → result ≡ Some far → TakesFar config.now far seat.old seat.new }
+    ensures took { (far : FarState) → result ≡ Some far
+        → TakesFar config.now far seat.old seat.new }
     ensures first { (far : FarState) → result ≡ Some far
         → seat.new.me.0.known.first ≡ top.now.key.first }
     ensures lost { result ≡ None → Moves seat.old seat.new seat.old.me.0 }
@@ -86,8 +87,8 @@ fn turns_of(far: &BoxedFar) -> u64
     far.state.counts.turns
 }
 
-/// Puts the far state into its slot, gives the lock back, and wakes one who waits for it. The lock's
-/// word is twice the count of turns then.
+/// Puts the far state into its slot, gives the lock back, and wakes one who waits for it. The
+/// lock's word is twice the count of turns then.
 pub(crate) fn give_far<W: Deed>(
     top: &Top,
     seat: &mut SeatAt,

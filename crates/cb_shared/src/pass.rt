@@ -17,7 +17,8 @@ pub struct Pin {
 }
 
 impl Default for Pin {
-    ghost is_default = { λ p. p ≡ record { handle = record { n = 0 }; version = 0; len = 0; place = 0 } };
+    ghost is_default = { λ p. p
+        ≡ record { handle = record { n = 0 }; version = 0; len = 0; place = 0 } };
 
     /// A pin of no version, which no pass has: it fills the free places of arrays.
     fn default() -> Pin {
@@ -77,8 +78,8 @@ impl Pass {
     }
 
     /// Whether the newest turn of the pass was refused for want of loose spans alone and is made
-    /// again, as `Shared::read` does: with so many frames more spans may come loose. False where the
-    /// pass has made no turn. Takes no memory and waits for nobody.
+    /// again, as `Shared::read` does: with so many frames more spans may come loose. False where
+    /// the pass has made no turn. Takes no memory and waits for nobody.
     pub fn again(&self) -> bool
         ensures { result ≡ unwrap_or
             (newest_tries self.now.seat.me.0.config self.now.seat.me.0.turns) false }

@@ -62,7 +62,8 @@ impl Shared {
         ensures of { IsPassOf self.now pass.new }
         ensures word { (words : List ℕ) → Has (stand_of pin.now words) pass.old.seat.me.0.pins
             → result ≡ slice_index words index }
-        ensures peeked { pass.new.seat.me.0 ≡ with_peek pin.now.handle.n pin.now.version index result
+        ensures peeked { pass.new.seat.me.0 ≡ with_peek pin.now.handle.n
+            pin.now.version index result
             pass.old.seat.me.0 }
     {
         let handles = self.config.handles as usize;
@@ -72,9 +73,9 @@ impl Shared {
         )
     }
 
-    /// The version of a pinned object: one load of its version word. No one writes an object while it
-    /// is pinned, so the pass has no version of it that is above this one. Takes no memory and waits
-    /// for nobody.
+    /// The version of a pinned object: one load of its version word. No one writes an object while
+    /// it is pinned, so the pass has no version of it that is above this one. Takes no memory and
+    /// waits for nobody.
     pub fn version(&self, pass: &mut Pass, pin: &Pin) -> u64
         requires of { IsPassOf self.now pass.old }
         requires pin { IsPinOf pin.now pass.old.seat.me.0 }

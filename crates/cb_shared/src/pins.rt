@@ -31,8 +31,8 @@ pub(crate) fn glance_any(top: &Top, seat: &mut SeatAt, config: &Config, h: u32) 
     top.load::<GlanceAny>(seat, 1 + h as usize)
 }
 
-/// Pins an object that the seat knows where its word is `saw`, which is here and has fewer than 1,023 pins, and answers
-/// the word that was found.
+/// Pins an object that the seat knows where its word is `saw`, which is here and has fewer than
+/// 1,023 pins, and answers the word that was found.
 pub(crate) fn take_pin(top: &Top, seat: &mut SeatAt, config: &Config, h: u32, saw: u64) -> u64
     requires of { IsOf top.now.table_id top.now.key config.now seat.old }
     requires handle { h < config.now.handles }

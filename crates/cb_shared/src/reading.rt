@@ -40,8 +40,8 @@ pub enum ReadAnswer {
 
 /// Reads an object that the seat knows, where it is here: one load of its word, one exchange that
 /// takes a pin, one load of its version and one of each of its words, and one subtraction that
-/// gives the pin back. Takes the memory of its bytes before the pin; where there is none it has looked at
-/// the word alone.
+/// gives the pin back. Takes the memory of its bytes before the pin; where there is none it has
+/// looked at the word alone.
 pub(crate) fn read_pinned(
     top: &Top,
     seat: &mut SeatAt,

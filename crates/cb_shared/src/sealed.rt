@@ -7,8 +7,8 @@ ghost use Rattle.cb_rule.specs.declared.view.View.{View};
 
 use std::marker::Model;
 
-/// What stands under a seal. No value of it is made, and its parts are of contracts alone: a function
-/// that names a seal then names none of their types.
+/// What stands under a seal. No value of it is made, and its parts are of contracts alone: a
+/// function that names a seal then names none of their types.
 pub struct Sealed {
     pub ghost world: { WorldState } by { Prim.hlevel (codes, world.the_row.coded) },
     pub ghost view: { View } by { Prim.hlevel (codes, view.the_row.coded) },

@@ -125,8 +125,8 @@ impl<'a, R: Wait> Desk for SeatDesk<'a, R> {
 
 /// Goes on where the object is the one that the turn may write. No turn stores the version word of
 /// another, but the desk can't tell that of the calls that are made at it; and what a pass reads of
-/// its own objects rests on it that no other pass writes them. So a turn that came here with another
-/// object would stop for good, and write nothing.
+/// its own objects rests on it that no other pass writes them. So a turn that came here with
+/// another object would stop for good, and write nothing.
 fn stay_within<R: Wait>(rt: &R, allowed: Option<u32>, h: u32)
     ensures { allowed ≡ Some h }
 {
