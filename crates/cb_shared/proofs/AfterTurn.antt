@@ -39,7 +39,7 @@ use Rattle.cb_shared.specs.declared.setup.Setup.{Setup}
 use Rattle.cb_record.specs.Parts.{Part, grown, nothing_more}
 use Rattle.cb_shared.specs.Passes.{IsAtRest}
 use Rattle.cb_shared.specs.SeatLaws.{Runs, acted_is, acted_known, after_events, sized_after}
-use Rattle.cb_shared.specs.Seats.{HoldsLock, IsOf, SeatAt}
+use Rattle.cb_shared.specs.Seats.{HoldsLock, IsOf, SeatAt, record_at}
 use Rattle.cb_shared.specs.Turning.{CountsPins, Did, DidAs, JobReads, KnowsIt, KnowsOf, PinsTold}
 use Rattle.cb_shared.specs.Turning.{answer_of, made_by_turn, object_of, turn_part, with_own}
 use Rattle.cb_shared.specs.UnderLock.{GivesFar, IsBeginning, IsEnding, IsQuiet, TakesFar, TurnWith}
@@ -54,7 +54,8 @@ sized_played c (e ∷ es) s z = sized_played c es (after e s) (sized_after c e s
 
 -- a seat that moved to another view is of the table as before
 pub of_moved : (z : TableId) (k : Setup) (c : Config) (p q : SeatAt) → IsOf z k c p
-    → q.table_id ≡ p.table_id → q.me.0.config ≡ p.me.0.config → q.me.0.share ≡ p.me.0.share
+    → q.table_id ≡ p.table_id → (record_at q).config ≡ (record_at p).config
+    → (record_at q).share ≡ (record_at p).share
     → IsOf z k c q
 of_moved z k c p q of table config share = record {
   table = table ∙ of.table;
@@ -65,12 +66,13 @@ of_moved z k c p q of table config share = record {
 }
 
 pub view_is : (p q : SeatAt) (w : View) (slots : List (ℕ × LockSlot)) → q.me ≡ (w, slots)
-    → q.me.0 ≡ w
+    → record_at q ≡ w
 view_is p q w slots e = ap (λ (m : Sat). m.0) e
 
 -- the record after the events of a seat
-pub after_runs : (p q : SeatAt) (es : List Event) → Runs p es q → q.me.0 ≡ after_events es p.me.0
-after_runs p q es r = ap (λ (m : Sat). m.0) r.0.2 ∙ acted_is es p.me.0
+pub after_runs : (p q : SeatAt) (es : List Event) → Runs p es q
+    → record_at q ≡ after_events es (record_at p)
+after_runs p q es r = ap (λ (m : Sat). m.0) r.0.2 ∙ acted_is es (record_at p)
 
 pub of_runs : (z : TableId) (k : Setup) (c : Config) (p q : SeatAt) (es : List Event) → IsOf z k c p
     → Runs p es q → IsOf z k c q
@@ -78,10 +80,11 @@ of_runs z k c p q es of r = let m = after_runs p q es r in of_moved z k c p q of
     (ap (λ (x : View). x.config) m) (ap (λ (x : View). x.share) m)
 
 -- ---- the seat that has just taken the lock
-pub begins_taken : (c : Config) (far : FarState) (p q : SeatAt) → IsAtRest c p.me.0
-    → TakesFar c far p q → IsBeginning c far q.me.0
+pub begins_taken : (c : Config) (far : FarState) (p q : SeatAt) → IsAtRest c (record_at p)
+    → TakesFar c far p q → IsBeginning c far (record_at q)
 begins_taken c far p q rest t =
-    let e : q.me.0 ≡ took_lock t.known far t.entries p.me.0 = ap (λ (m : Sat). m.0) t.at.2 in
+    let e : record_at q ≡ took_lock t.known far t.entries (record_at p) =
+    ap (λ (m : Sat). m.0) t.at.2 in
     subst (IsBeginning c far) (sym e) record {
       holds = refl;
       idle = refl;
@@ -94,11 +97,11 @@ begins_taken c far p q rest t =
 
 pub holds_begun : (z : TableId) (k : Setup) (c : Config) (far : FarState) (p : SeatAt)
     → IsOf z k c p
-    → IsBeginning c far p.me.0 → HoldsLock z k c p
+    → IsBeginning c far (record_at p) → HoldsLock z k c p
 holds_begun z k c far p of b = record { of = of; holds = b.holds; sized = b.sized }
 
 module _ (c : Config) (far : FarState) (p q : SeatAt) (t : TakesFar c far p q) where
-  taken : q.me.0 ≡ took_lock t.known far t.entries p.me.0
+  taken : record_at q ≡ took_lock t.known far t.entries (record_at p)
   taken = ap (λ (m : Sat). m.0) t.at.2
 
   of_take : (z : TableId) (k : Setup) → IsOf z k c p → IsOf z k c q
@@ -109,10 +112,10 @@ module _ (c : Config) (far : FarState) (p q : SeatAt) (t : TakesFar c far p q) w
   slots_take none = ap (λ (m : Sat). m.1) t.at.2
       ∙ ap (λ (l : List (ℕ × LockSlot)). let k : List (ℕ × LockSlot) = (0, None) ∷ l in k) none
 
-  pins_take : length p.me.0.pins ≤ 16 → length q.me.0.pins ≤ 16
+  pins_take : length (record_at p).pins ≤ 16 → length (record_at q).pins ≤ 16
   pins_take few = subst (λ (v : View). length v.pins ≤ 16) (sym taken) few
 
-  knows_take : (o : Option ℕ) → KnowsIt o p.me.0 → KnowsIt o q.me.0
+  knows_take : (o : Option ℕ) → KnowsIt o (record_at p) → KnowsIt o (record_at q)
   knows_take None knows = tt
   knows_take (Some h) knows = subst (Knows h) (sym taken) knows
 
@@ -124,12 +127,13 @@ pub slots_taken : (c : Config) (far : FarState) (p q : SeatAt) → p.me.1 ≡ []
     → q.me.1 ≡ (0, None) ∷ []
 slots_taken c far p q none t = slots_take c far p q t none
 
-pub pins_taken : (c : Config) (far : FarState) (p q : SeatAt) → length p.me.0.pins ≤ 16
-    → TakesFar c far p q → length q.me.0.pins ≤ 16
+pub pins_taken : (c : Config) (far : FarState) (p q : SeatAt) → length (record_at p).pins ≤ 16
+    → TakesFar c far p q → length (record_at q).pins ≤ 16
 pins_taken c far p q few t = pins_take c far p q t few
 
-pub knows_taken : (c : Config) (far : FarState) (job : Job) (p q : SeatAt) → KnowsOf job p.me.0
-    → TakesFar c far p q → KnowsOf job q.me.0
+pub knows_taken : (c : Config) (far : FarState) (job : Job) (p q : SeatAt)
+    → KnowsOf job (record_at p)
+    → TakesFar c far p q → KnowsOf job (record_at q)
 knows_taken c far job p q knows t = knows_take c far p q t (object_of job) knows
 
 -- ---- the work of a turn, and its end
@@ -215,11 +219,11 @@ told_written job (Err e) more w wrote fresh h n (inr (inl x)) = absurd (let told
 told_written job (Err e) more w wrote fresh h n (inr (inr x)) = absurd (let told = x.2 in cc)
 
 pub ends_work : (c : Config) (job : Job) (r : Result Reply NoMemory) (took gave : FarState)
-    (p q : SeatAt) → IsBeginning c took p.me.0 → WorkBy c job r took gave p q
-    → IsEnding c job (answer_of r) gave q.me.0
+    (p q : SeatAt) → IsBeginning c took (record_at p) → WorkBy c job r took gave p q
+    → IsEnding c job (answer_of r) gave (record_at q)
 ends_work c job r took gave p q b w =
-    let v = p.me.0 in let es = w.events in let reply = answer_of r in
-    let m : q.me.0 ≡ grown w.within (after_events es v) = ap (λ (x : Sat). x.0) w.moves.2
+    let v = record_at p in let es = w.events in let reply = answer_of r in
+    let m : record_at q ≡ grown w.within (after_events es v) = ap (λ (x : Sat). x.0) w.moves.2
     ∙ ap (grown w.within) (acted_is es v) in record {
       holds = ap (λ (x : View). x.holds) m ∙ b.holds;
       stood = subst (λ (x : View). Stood c x.known gave) (sym m) w.stood;
@@ -229,9 +233,9 @@ ends_work c job r took gave p q b w =
           (subst (λ (s : Shown). DidAs c job reply s (v.acts ++ es) v.took gave) (sym b.start)
           (subst (λ (l : List Event). DidAs c job reply v.known (l ++ es) v.took gave) (sym b.idle)
           (subst (λ (f : FarState). DidAs c job reply v.known es f gave) (sym b.took) w.did)));
-      reads = told_read job es r v w.within q.me.0 (w.reads v (refl, refl, refl, refl, refl))
+      reads = told_read job es r v w.within (record_at q) (w.reads v (refl, refl, refl, refl, refl))
           (ap (λ (x : View). x.seen) m);
-      writes = told_written job r w.more q.me.0 w.wrote
+      writes = told_written job r w.more (record_at q) w.wrote
           (ap (λ (x : View). x.fresh) (ap (λ (x : Sat). x.0) w.moves.2) ∙ w.fresh);
       makes = subst (λ (x : View). Each (λ h. IsMake x.known.first h x.fresh)
           (made_by_turn job reply))
@@ -249,20 +253,20 @@ pub of_work : (z : TableId) (k : Setup) (c : Config) (job : Job) (r : Result Rep
     (took gave : FarState) (p q : SeatAt) → IsOf z k c p → WorkBy c job r took gave p q
     → IsOf z k c q
 of_work z k c job r took gave p q of w =
-    let m : q.me.0 ≡ grown w.within (after_events w.events p.me.0) =
-    ap (λ (x : Sat). x.0) w.moves.2 ∙ ap (grown w.within) (acted_is w.events p.me.0) in
+    let m : record_at q ≡ grown w.within (after_events w.events (record_at p)) =
+    ap (λ (x : Sat). x.0) w.moves.2 ∙ ap (grown w.within) (acted_is w.events (record_at p)) in
     of_moved z k c p q of w.moves.0 (ap (λ (x : View). x.config) m) (ap (λ (x : View). x.share) m)
 
 pub turn_with : (c : Config) (job : Job) (r : Result Reply NoMemory) (took gave : FarState)
     (p m q : SeatAt) → WorkBy c job r took gave p m → GivesFar c job (answer_of r) gave m q
     → TurnWith c job r took p q
 turn_with c job r took gave p m q w g =
-    let v = p.me.0 in let reply = answer_of r in let made = made_by_turn job reply in
-    let at : m.me.0 ≡ grown w.within (acted w.events v) = ap (λ (x : Sat). x.0) w.moves.2 in
-    let is : m.me.0 ≡ grown w.within (after_events w.events v) = at
+    let v = record_at p in let reply = answer_of r in let made = made_by_turn job reply in
+    let at : record_at m ≡ grown w.within (acted w.events v) = ap (λ (x : Sat). x.0) w.moves.2 in
+    let is : record_at m ≡ grown w.within (after_events w.events v) = at
     ∙ ap (grown w.within) (acted_is w.events v) in
-    let fresh : m.me.0.fresh ≡ w.more = ap (λ (x : View). x.fresh) at ∙ w.fresh in
-    let written : m.me.0.written ≡ v.written = ap (λ (x : View). x.written) is
+    let fresh : (record_at m).fresh ≡ w.more = ap (λ (x : View). x.fresh) at ∙ w.fresh in
+    let written : (record_at m).written ≡ v.written = ap (λ (x : View). x.written) is
     ∙ ap (λ (l : List Entry). l ++ v.written) w.quiet.0 in record {
       gave = gave;
       events = w.events;
@@ -358,22 +362,22 @@ pins_counted known far n v job r counts = tt
 -- the record of a pass at rest, from taking the lock to giving it back
 pub turned_by : (c : Config) (job : Job) (r : Result Reply NoMemory) (far : FarState)
     (p m q : SeatAt)
-    → IsAtRest c p.me.0 → TakesFar c far p m → TurnWith c job r far m q
-    → IfOk r (λ reply. TurnTells job far reply) → TurnedBy c job r p.me.0 q.me.0
+    → IsAtRest c (record_at p) → TakesFar c far p m → TurnWith c job r far m q
+    → IfOk r (λ reply. TurnTells job far reply) → TurnedBy c job r (record_at p) (record_at q)
 turned_by c job r far p m q rest t w tells =
-    let v = p.me.0 in let reply = answer_of r in let made = made_by_turn job reply in
+    let v = record_at p in let reply = answer_of r in let made = made_by_turn job reply in
     let u : View = took_lock t.known far t.entries v in
-    let at : m.me.0 ≡ u = ap (λ (x : Sat). x.0) t.at.2 in
+    let at : record_at m ≡ u = ap (λ (x : Sat). x.0) t.at.2 in
     let es = w.events in let d = w.within in let z : View = after_events es u in
     let turn : Turn = turn_told job r t.known t.entries w.entries v w.more es far w.gave in
     let fresh : z.fresh ≡ w.more = ap (λ (x : View). x.fresh) (sym (acted_is es u))
     ∙ ap (λ (x : View). (acted es x).fresh) (sym at) ∙ w.fresh in
-    let written : m.me.0.written ≡ v.written = ap (λ (x : View). x.written) at in
-    let left : q.me.0 ≡ gave_lock job reply w.gave w.entries [] made (grown d z) =
+    let written : (record_at m).written ≡ v.written = ap (λ (x : View). x.written) at in
+    let left : record_at q ≡ gave_lock job reply w.gave w.entries [] made (grown d z) =
     ap (λ (x : Sat). x.0) w.at.2
     ∙ ap (λ (x : View). gave_lock job reply w.gave w.entries [] made (grown d (acted es x))) at
     ∙ ap (λ (x : View). gave_lock job reply w.gave w.entries [] made (grown d x)) (acted_is es u) in
-    let known : m.me.0.known ≡ t.known = ap (λ (x : View). x.known) at in record {
+    let known : (record_at m).known ≡ t.known = ap (λ (x : View). x.known) at in record {
       turn = turn;
       more = w.more;
       within = d;

@@ -17,7 +17,7 @@ use Rattle.cb_shared.specs.declared.setup.Setup.{Setup}
 use Rattle.cb_shared.specs.Glances.{Glances}
 use Rattle.cb_shared.specs.Passes.{IsAtRest, IsPassOf}
 use Rattle.cb_shared.specs.Pinning.{PinAt, PinGives}
-use Rattle.cb_shared.specs.Seats.{IsOf, Moves, SeatAt}
+use Rattle.cb_shared.specs.Seats.{IsOf, Moves, SeatAt, record_at}
 use Rattle.cb_shared.specs.Trying.{tries_of}
 use Rattle.cb_shared.specs.Writing.{WriteAt}
 use Rattle.cb_shared.proofs.ReadKept.{IsSeatKept}
@@ -46,8 +46,9 @@ of_kept z k c p q o x = record {
   live = x.rest.live;
 }
 
-kept_moves : (c : Config) (p q : SeatAt) (w : View) → Moves p q w → w.share ≡ p.me.0.share
-    → w.pins ≡ p.me.0.pins → tries_of w ≡ tries_of p.me.0 → IsAtRest c w → IsSeatKept c p q
+kept_moves : (c : Config) (p q : SeatAt) (w : View) → Moves p q w → w.share ≡ (record_at p).share
+    → w.pins ≡ (record_at p).pins → tries_of w ≡ tries_of (record_at p) → IsAtRest c w
+    → IsSeatKept c p q
 kept_moves c p q w m share pins tries rest = record {
   table = m.0;
   share = ap (λ (s : Sat). s.0.share) m.2 ∙ share;
@@ -58,20 +59,22 @@ kept_moves c p q w m share pins tries rest = record {
 }
 
 pub kept_glance : (c : Config) (h w : ℕ) (p q : SeatAt) → Glances h w p q → h < c.handles
-    → IsAtRest c p.me.0 → IsSeatKept c p q
+    → IsAtRest c (record_at p) → IsSeatKept c p q
 kept_glance c h w p q g below rest = ⊎_elim
     (λ (e : state_of w ≡ state.Empty). let f = g.freed e in
-    kept_moves c p q (with_freed_seen h f.0 w p.me.0) f.2 refl refl refl
-    (rest_freed c h f.0 w p.me.0 rest below))
+    kept_moves c p q (with_freed_seen h f.0 w (record_at p)) f.2 refl refl refl
+    (rest_freed c h f.0 w (record_at p) rest below))
     (λ (ne : state_of w ≢ state.Empty).
-    kept_moves c p q (with_look h w p.me.0) (g.other ne) refl refl refl
-    (rest_look c h w p.me.0 rest)) (by_state w)
+    kept_moves c p q (with_look h w (record_at p)) (g.other ne) refl refl refl
+    (rest_look c h w (record_at p) rest)) (by_state w)
 
 -- a pin at the word that was found is answered
 pub pinned_gives : (h w : ℕ) (a : PinAnswer) (p m q : SeatAt) → Glances h w p m
-    → state_of w ≡ state.Here → PinAt h w a m.me.0 q.me.0 → PinGives h a p.me.0 q.me.0
+    → state_of w ≡ state.Here → PinAt h w a (record_at m) (record_at q)
+    → PinGives h a (record_at p) (record_at q)
 pinned_gives h w (pins.Pinned x) p m q g here at =
-    let saw = view_of p m (with_look h w p.me.0) (g.other (λ e. here_empty (sym here ∙ e))) in
+    let saw = view_of p m (with_look h w (record_at p))
+    (g.other (λ e. here_empty (sym here ∙ e))) in
     let y = subst (IsNewest h x.version) saw at.1.newest in record {
       word = w;
       words = at.0;
@@ -83,10 +86,11 @@ pinned_gives h w (pins.Pinned x) p m q g here at =
       left = at.1.left ∙ ap (with_pin h w x.version at.0) saw;
     }
 pinned_gives h w (pins.Raced seen found) p m q g here at =
-    let saw = view_of p m (with_look h w p.me.0) (g.other (λ e. here_empty (sym here ∙ e))) in (
+    let saw = view_of p m (with_look h w (record_at p))
+    (g.other (λ e. here_empty (sym here ∙ e))) in (
       (λ e. at.1 (e ∙ at.0)),
       at.2 ∙ ap (with_look h found) saw
-          ∙ ap (λ (n : ℕ). with_look h found (with_look h n p.me.0)) (sym at.0),
+          ∙ ap (λ (n : ℕ). with_look h found (with_look h n (record_at p))) (sym at.0),
       ap state_of at.0 ∙ here,
     )
 pinned_gives h w pins.ScopeFull p m q g here at = absurd at

@@ -21,7 +21,7 @@ use Rattle.cb_rule.specs.Slot.{LockSlot, Sat, Table}
 use Rattle.cb_rule.specs.Steps.{Knows}
 use Rattle.cb_rule.proofs.Laws.{gives_lock, takes_lock}
 use Rattle.cb_shared.specs.Making.{took_first}
-use Rattle.cb_shared.specs.Seats.{Moves, SeatAt}
+use Rattle.cb_shared.specs.Seats.{Moves, SeatAt, record_at}
 use Rattle.cb_shared.specs.Turning.{Did, made_by_turn}
 use Rattle.cb_shared.specs.UnderLock.{GivesFar, IsEnding, TakesFar, TakesLock}
 use Rattle.cb_shared.proofs.Alone.{at_key}
@@ -87,7 +87,8 @@ gives_lock_at first c k key slots id me job j reply r ej er far n live carried e
 
 -- what the step tells of the seat
 pub gives_far : (c : Config) (job j : Job) (reply r : Option Reply) → j ≡ job → r ≡ reply
-    → (far : FarState) (p q : SeatAt) → p.me.0.config ≡ c → q.table_id ≡ p.table_id → q.id ≡ p.id
+    → (far : FarState) (p q : SeatAt) → (record_at p).config ≡ c → q.table_id ≡ p.table_id
+    → q.id ≡ p.id
     → HasGiven j r far [] (made_by_turn j r) p.me q.me → GivesFar c job reply far p q
 gives_far c job j reply r ej er far p q key table id h = record {
   entries = h.entries;
@@ -95,12 +96,12 @@ gives_far c job j reply r ej er far p q key table id h = record {
     table,
     id,
     h.given ∙ (λ i. (
-      gave_lock (ej i) (er i) far h.entries [] (made_by_turn (ej i) (er i)) p.me.0,
+      gave_lock (ej i) (er i) far h.entries [] (made_by_turn (ej i) (er i)) (record_at p),
       [],
     )),
   );
   written = subst (λ (x : Config). Each (λ (e : Entry). e.handle < x.handles)
-      (p.me.0.fresh ++ p.me.0.written)) key h.written;
+      ((record_at p).fresh ++ (record_at p).written)) key h.written;
 }
 
 abbrev slot_in : LockSlot → List (ℕ × LockSlot) → LockSlot
@@ -119,9 +120,9 @@ none_taken m n m' t slot = no_far (ap (slot_in None) (sym (ap (λ (x : Sat). x.1
     no_far e = cc
 
 -- the seat took the far state that was in the slot
-pub takes_far : (c : Config) (word : ℕ) (far : FarState) (p m q : SeatAt) → p.me.0.config ≡ c
+pub takes_far : (c : Config) (word : ℕ) (far : FarState) (p m q : SeatAt) → (record_at p).config ≡ c
     → TakesLock word p m → (q.table_id ≡ m.table_id) × (q.id ≡ m.id)
-    × (q.me ≡ (m.me.0, (0, None) ∷ rest m.me.1)) → m.me.1 ≡ (0, Some far) ∷ rest m.me.1
+    × (q.me ≡ (record_at m, (0, None) ∷ rest m.me.1)) → m.me.1 ≡ (0, Some far) ∷ rest m.me.1
     → TakesFar c far p q
 takes_far c word far p m q key (table, id, t) out slot =
     let had : m.me.1 ≡ (0, Some t.far) ∷ p.me.1 = ap (λ (x : Sat). x.1) t.taken in
@@ -133,7 +134,7 @@ takes_far c word far p m q key (table, id, t) out slot =
         out.1 ∙ id,
         out.2 ∙ ap (λ (x : Sat). let z : Sat = (x.0, (0, None) ∷ rest x.1) in z) t.taken
             ∙ ap (λ (f : FarState).
-            let z : Sat = (took_lock t.known f t.entries p.me.0, (0, None) ∷ p.me.1) in
+            let z : Sat = (took_lock t.known f t.entries (record_at p), (0, None) ∷ p.me.1) in
             z) same,
       );
       sized = subst (λ (x : Config). AreSized x t.known) key t.sized;
@@ -143,11 +144,12 @@ takes_far c word far p m q key (table, id, t) out slot =
     }
 
 -- a seat that is not moved, twice
-pub not_moved_twice : (p m q : SeatAt) → Moves p m p.me.0 → Moves m q m.me.0 → Moves p q p.me.0
+pub not_moved_twice : (p m q : SeatAt) → Moves p m (record_at p) → Moves m q (record_at m)
+    → Moves p q (record_at p)
 not_moved_twice p m q a b = (b.0 ∙ a.0, b.1 ∙ a.1, b.2 ∙ a.2)
 
 -- so where it was not moved before
-pub takes_from : (c : Config) (far : FarState) (p m q : SeatAt) → Moves p m p.me.0
+pub takes_from : (c : Config) (far : FarState) (p m q : SeatAt) → Moves p m (record_at p)
     → TakesFar c far m q → TakesFar c far p q
 takes_from c far p m q same t = record {
   known = t.known;
@@ -166,7 +168,8 @@ takes_from c far p m q same t = record {
 
 -- so where the far state was put into the slot before
 pub gives_from : (c : Config) (job : Job) (reply : Option Reply) (far : FarState) (p m q : SeatAt)
-    → m.table_id ≡ p.table_id → m.id ≡ p.id → m.me.0 ≡ p.me.0 → GivesFar c job reply far m q
+    → m.table_id ≡ p.table_id → m.id ≡ p.id → record_at m ≡ record_at p
+    → GivesFar c job reply far m q
     → GivesFar c job reply far p q
 gives_from c job reply far p m q table id same g = record {
   entries = g.entries;

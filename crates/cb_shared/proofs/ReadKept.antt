@@ -18,7 +18,7 @@ use Rattle.cb_shared.specs.declared.reading.ReadAnswer.TheVariants.{Crowded, Rac
 use Rattle.cb_record.specs.Parts.{Part, grown}
 use Rattle.cb_shared.specs.Passes.{IsAtRest}
 use Rattle.cb_shared.specs.Reading.{ReadFinds, ReadMoves, looked}
-use Rattle.cb_shared.specs.Seats.{Moves, SeatAt}
+use Rattle.cb_shared.specs.Seats.{Moves, SeatAt, record_at}
 use Rattle.cb_shared.specs.Trying.{newest_tries, tries_of}
 
 -- the part wrote nothing, has no turns, and read entries of objects that there are
@@ -44,26 +44,27 @@ finds_reading c h (Raced saw found) v d l x =
 -- what stands of the seat afterwards
 pub record IsSeatKept (c : Config) (p q : SeatAt) : Type 0 where
   pub table : q.table_id ≡ p.table_id
-  pub share : q.me.0.share ≡ p.me.0.share
+  pub share : (record_at q).share ≡ (record_at p).share
   pub carries : q.me.1 ≡ p.me.1
-  pub pins : q.me.0.pins ≡ p.me.0.pins
-  pub tries : tries_of q.me.0 ≡ tries_of p.me.0
-  pub rest : IsAtRest c q.me.0
+  pub pins : (record_at q).pins ≡ (record_at p).pins
+  pub tries : tries_of (record_at q) ≡ tries_of (record_at p)
+  pub rest : IsAtRest c (record_at q)
 
 each_both : {A : Type 0} (P : A → Type 0) (xs ys : List A) → Each P xs → Each P ys
     → Each P (xs ++ ys)
 each_both P [] ys a b = b
 each_both P (x ∷ xs) ys a b = (a.0, each_both P xs ys a.1 b)
 
-pub kept_part : (c : Config) (p q : SeatAt) (d : Part) → IsAtRest c p.me.0
-    → Moves p q (grown d p.me.0) → IsReadPart c d → IsSeatKept c p q
+pub kept_part : (c : Config) (p q : SeatAt) (d : Part) → IsAtRest c (record_at p)
+    → Moves p q (grown d (record_at p)) → IsReadPart c d → IsSeatKept c p q
 kept_part c p q d rest m x = record {
   table = m.0;
   share = ap (λ (s : Sat). s.0.share) m.2;
   carries = ap (λ (s : Sat). s.1) m.2;
   pins = ap (λ (s : Sat). s.0.pins) m.2;
   tries = ap (λ (s : Sat). tries_of s.0) m.2
-      ∙ ap (λ (l : List Turn). newest_tries p.me.0.config (l ++ p.me.0.turns)) x.turns;
+      ∙ ap (λ (l : List Turn). newest_tries (record_at p).config (l ++ (record_at p).turns))
+      x.turns;
   rest = subst (λ (s : Sat). IsAtRest c s.0) (sym m.2) record {
     config = rest.config;
     live = rest.live;
@@ -72,18 +73,19 @@ kept_part c p q d rest m x = record {
     out = rest.out;
     fresh = rest.fresh;
     written = subst (λ (l : List Entry).
-        Each (λ (e : Entry). e.handle < c.handles) (l ++ p.me.0.written)) (sym x.wrote)
+        Each (λ (e : Entry). e.handle < c.handles) (l ++ (record_at p).written)) (sym x.wrote)
         rest.written;
-    seen = each_both (λ (s : Seen). s.handle < c.handles) d.seen p.me.0.seen x.seen rest.seen;
+    seen = each_both (λ (s : Seen). s.handle < c.handles) d.seen (record_at p).seen
+        x.seen rest.seen;
     pins = rest.pins;
   };
 }
 
 pub kept_read : (c : Config) (h : ℕ) (p q : SeatAt) (r : Result ReadAnswer NoMemory)
-    → IsAtRest c p.me.0 → h < c.handles → IfOk r (λ a. ReadMoves h a p q)
+    → IsAtRest c (record_at p) → h < c.handles → IfOk r (λ a. ReadMoves h a p q)
     → OnErr r ((word : ℕ) × (state_of word ≡ state.Here)
-    × Moves p q (grown (looked h word) p.me.0)) → IsSeatKept c p q
+    × Moves p q (grown (looked h word) (record_at p))) → IsSeatKept c p q
 kept_read c h p q (Ok a) rest l ok err =
-    kept_part c p q ok.0 rest ok.1 (finds_reading c h a p.me.0 ok.0 l ok.2)
+    kept_part c p q ok.0 rest ok.1 (finds_reading c h a (record_at p) ok.0 l ok.2)
 kept_read c h p q (Err e) rest l ok err =
     kept_part c p q (looked h err.0) rest err.2 (record { wrote = refl; turns = refl; seen = tt })

@@ -21,7 +21,7 @@ use Rattle.cb_shared.specs.declared.reading.ReadAnswer.TheVariants as found
 use Rattle.cb_shared.specs.declared.setup.Setup.{Setup}
 use Rattle.cb_record.specs.Parts.{Part, grown, nothing_more, sum}
 use Rattle.cb_shared.specs.Reading.{ReadFinds, ReadMoves, looked}
-use Rattle.cb_shared.specs.Seats.{IsOf, Moves, SeatAt}
+use Rattle.cb_shared.specs.Seats.{IsOf, Moves, SeatAt, record_at}
 use Rattle.cb_shared.specs.Turning.{AreLooksAt, FindsAtLast, Tries}
 use Rattle.cb_shared.specs.UnderLock.{HasSame, IsQuiet, IsReplyTo, IsTriedAgain, LooksFor}
 use Rattle.cb_shared.specs.UnderLock.{ReadsBelow, TriesOn}
@@ -187,71 +187,75 @@ pub looks_known : (h k : ℕ) (d : Part) (v : View) → AreLooksAt h d → Knows
     → Knows k (grown d v)
 looks_known h k d v x knows = subst (λ (e : Part). Knows k (grown e v)) (sym x.part) knows
 
-pub grown_moves : (p q r : SeatAt) (d e : Part) → Moves p q (grown d p.me.0)
-    → Moves q r (grown e q.me.0) → Moves p r (grown (sum d e) p.me.0)
+pub grown_moves : (p q r : SeatAt) (d e : Part) → Moves p q (grown d (record_at p))
+    → Moves q r (grown e (record_at q)) → Moves p r (grown (sum d e) (record_at p))
 grown_moves p q r d e m n = (
   n.0 ∙ m.0,
   n.1 ∙ m.1,
   n.2 ∙ ap (λ (s : Sat). let z : Sat = (grown e s.0, s.1) in z) m.2
-      ∙ ap (λ (x : View). let z : Sat = (x, p.me.1) in z) (grown_sum d e p.me.0),
+      ∙ ap (λ (x : View). let z : Sat = (x, p.me.1) in z) (grown_sum d e (record_at p)),
 )
 
-pub not_moved : (p : SeatAt) → Moves p p (grown nothing_more p.me.0)
+pub not_moved : (p : SeatAt) → Moves p p (grown nothing_more (record_at p))
 not_moved p = (
   refl,
   refl,
-  ap (λ (x : View). let z : Sat = (x, p.me.1) in z) (grown_nothing p.me.0),
+  ap (λ (x : View). let z : Sat = (x, p.me.1) in z) (grown_nothing (record_at p)),
 )
 
 -- a seat that grew is of the table as before
 pub of_grown : (z : TableId) (k : Setup) (c : Config) (p q : SeatAt) (d : Part) → IsOf z k c p
-    → Moves p q (grown d p.me.0) → IsOf z k c q
+    → Moves p q (grown d (record_at p)) → IsOf z k c q
 of_grown z k c p q d of m = let v = ap (λ (s : Sat). s.0) m.2 in
     of_moved z k c p q of m.0 (ap (λ (x : View). x.config) v) (ap (λ (x : View). x.share) v)
 
 -- a look found the object freed
 pub look_found : (c : Config) (h : ℕ) (p q r : SeatAt) (d : Part) → h < c.handles → AreLooksAt h d
-    → Moves p q (grown d p.me.0)
+    → Moves p q (grown d (record_at p))
     → ReadMoves h found.Freed q r → LooksFor c h p r
 look_found c h p q r d l lost m (e, n, finds) =
-    let at : q.me.0 ≡ grown d p.me.0 = ap (λ (s : Sat). s.0) m.2 in
-    let last = found_last h found.Freed p.me.0 d e lost
+    let at : record_at q ≡ grown d (record_at p) = ap (λ (s : Sat). s.0) m.2 in
+    let last = found_last h found.Freed (record_at p) d e lost
     (subst (λ (v : View). ReadFinds h found.Freed v e) at finds) in (
       sum d e,
       grown_moves p q r d e m n,
-      last_quiet h found.Freed p.me.0 (sum d e) last,
-      last_below c h found.Freed p.me.0 (sum d e) l last,
+      last_quiet h found.Freed (record_at p) (sum d e) last,
+      last_below c h found.Freed (record_at p) (sum d e) l last,
       last,
     )
 
 -- a try that came to nothing, and one that is answered
 pub try_lost : (h : ℕ) (a : Result ReadAnswer NoMemory) (p q r : SeatAt) (d : Part) → AreLooksAt h d
-    → Moves p q (grown d p.me.0) → IfOk a (λ x. ReadMoves h x q r) → IsTriedAgain a
-    → (e : Part) × AreLooksAt h e × Moves p r (grown e p.me.0)
+    → Moves p q (grown d (record_at p)) → IfOk a (λ x. ReadMoves h x q r) → IsTriedAgain a
+    → (e : Part) × AreLooksAt h e × Moves p r (grown e (record_at p))
 try_lost h (Ok a) p q r d lost m (e, n, finds) again = (
   sum d e,
-  more_looks h d e lost (tried_again h a q.me.0 e finds again),
+  more_looks h d e lost (tried_again h a (record_at q) e finds again),
   grown_moves p q r d e m n,
 )
 try_lost h (Err e) p q r d lost m read again = absurd again
 
 try_done : (c : Config) (h : ℕ) (a : ReadAnswer) (reply : Result Reply NoMemory) (p q r : SeatAt)
-    (d : Part) → h < c.handles → AreLooksAt h d → Moves p q (grown d p.me.0) → ReadMoves h a q r → IsReplyTo (Ok a) reply
+    (d : Part) → h < c.handles → AreLooksAt h d → Moves p q (grown d (record_at p))
+    → ReadMoves h a q r → IsReplyTo (Ok a) reply
     → TriesOn c h reply p r
 try_done c h a reply p q r d l lost m (e, n, finds) is =
-    let at : q.me.0 ≡ grown d p.me.0 = ap (λ (s : Sat). s.0) m.2 in
-    let last = found_last h a p.me.0 d e lost (subst (λ (v : View). ReadFinds h a v e) at finds) in (
+    let at : record_at q ≡ grown d (record_at p) = ap (λ (s : Sat). s.0) m.2 in
+    let last = found_last h a (record_at p) d e lost
+    (subst (λ (v : View). ReadFinds h a v e) at finds) in (
       sum d e,
       grown_moves p q r d e m n,
-      last_quiet h a p.me.0 (sum d e) last,
-      last_below c h a p.me.0 (sum d e) l last,
-      λ u same. tries_of h a reply u (sum d e) is (last_same h a u p.me.0 (sum d e) same last),
+      last_quiet h a (record_at p) (sum d e) last,
+      last_below c h a (record_at p) (sum d e) l last,
+      λ u same. tries_of h a reply u (sum d e) is
+          (last_same h a u (record_at p) (sum d e) same last),
     )
 
 pub try_ends : (c : Config) (h : ℕ) (a : Result ReadAnswer NoMemory) (reply : Result Reply NoMemory)
-    (p q r : SeatAt) (d : Part) → h < c.handles → AreLooksAt h d → Moves p q (grown d p.me.0)
+    (p q r : SeatAt) (d : Part) → h < c.handles → AreLooksAt h d → Moves p q (grown d (record_at p))
     → IfOk a (λ x. ReadMoves h x q r)
-    → OnErr a ((word : ℕ) × (state_of word ≡ state.Here) × Moves q r (grown (looked h word) q.me.0))
+    → OnErr a ((word : ℕ) × (state_of word ≡ state.Here)
+    × Moves q r (grown (looked h word) (record_at q)))
     → IsReplyTo a reply → TriesOn c h reply p r
 try_ends c h (Ok a) reply p q r d l lost m read err is = try_done c h a reply p q r d l lost m read is
 try_ends c h (Err e) reply p q r d l lost m read (word, here, n) is =
@@ -265,12 +269,13 @@ try_ends c h (Err e) reply p q r d l lost m read (word, here, n) is =
     )
 
 -- the seat knows what it knew
-pub looks_know : (h : ℕ) (p q : SeatAt) (d : Part) → AreLooksAt h d → Moves p q (grown d p.me.0)
-    → Knows h p.me.0 → Knows h q.me.0
+pub looks_know : (h : ℕ) (p q : SeatAt) (d : Part) → AreLooksAt h d
+    → Moves p q (grown d (record_at p))
+    → Knows h (record_at p) → Knows h (record_at q)
 looks_know h p q d lost m knows = subst (Knows h) (sym (ap (λ (s : Sat). s.0) m.2))
-    (looks_known h h d p.me.0 lost knows)
+    (looks_known h h d (record_at p) lost knows)
 
-pub looks_few : (h : ℕ) (p q : SeatAt) (d : Part) → Moves p q (grown d p.me.0)
-    → length p.me.0.pins ≤ 16 → length q.me.0.pins ≤ 16
+pub looks_few : (h : ℕ) (p q : SeatAt) (d : Part) → Moves p q (grown d (record_at p))
+    → length (record_at p).pins ≤ 16 → length (record_at q).pins ≤ 16
 looks_few h p q d m few = subst (λ (v : View). length v.pins ≤ 16)
     (sym (ap (λ (s : Sat). s.0) m.2)) few

@@ -18,7 +18,7 @@ use Rattle.cb_shared.specs.Glances.{Glances, TellsVersion}
 use Rattle.cb_record.specs.Parts.{grown}
 use Rattle.cb_shared.specs.Reading.{IsReadAt, IsReadRefusal, IsUnderPin, ReadAt, ReadMoves, looked}
 use Rattle.cb_shared.specs.Reading.{looked_freed, looked_twice, read_once, with_read}
-use Rattle.cb_shared.specs.Seats.{SeatAt, Moves}
+use Rattle.cb_shared.specs.Seats.{SeatAt, Moves, record_at}
 use Rattle.cb_shared.proofs.Resting.{far_empty, here_empty, moving_empty, view_of}
 
 -- what a step adds is a part of the record
@@ -49,7 +49,7 @@ moves_as p q x y m e = (
 )
 
 pub moves_then : (p q r : SeatAt) (f : View → View) (x : View) → Moves p q x
-    → Moves q r (f q.me.0) → Moves p r (f x)
+    → Moves q r (f (record_at q)) → Moves p r (f x)
 moves_then p q r f x m n = (
   n.0 ∙ m.0,
   n.1 ∙ m.1,
@@ -62,35 +62,36 @@ pub refused_moves : (h w : ℕ) (a : ReadAnswer) (p q : SeatAt) → Glances h w 
 refused_moves h w (Bytes version bytes) p q g why = absurd why
 refused_moves h w Freed p q g why = let f = g.freed why in (
   looked_freed h f.0 w,
-  moves_as p q (with_freed_seen h f.0 w p.me.0) (grown (looked_freed h f.0 w) p.me.0) f.2
-      (freed_part h f.0 w p.me.0),
+  moves_as p q (with_freed_seen h f.0 w (record_at p)) (grown (looked_freed h f.0 w) (record_at p))
+      f.2 (freed_part h f.0 w (record_at p)),
   (w, f.0, why, f.1, refl),
 )
 refused_moves h w NotHere p q g why = (
   looked h w,
-  moves_as p q (with_look h w p.me.0) (grown (looked h w) p.me.0)
-      (g.other (λ e. far_empty (sym why ∙ e))) (look_part h w p.me.0),
+  moves_as p q (with_look h w (record_at p)) (grown (looked h w) (record_at p))
+      (g.other (λ e. far_empty (sym why ∙ e))) (look_part h w (record_at p)),
   (w, why, refl),
 )
 refused_moves h w Moving p q g why = (
   looked h w,
-  moves_as p q (with_look h w p.me.0) (grown (looked h w) p.me.0)
-      (g.other (λ e. moving_empty (sym why ∙ e))) (look_part h w p.me.0),
+  moves_as p q (with_look h w (record_at p)) (grown (looked h w) (record_at p))
+      (g.other (λ e. moving_empty (sym why ∙ e))) (look_part h w (record_at p)),
   (w, why, refl),
 )
 refused_moves h w Crowded p q g why = (
   looked h w,
-  moves_as p q (with_look h w p.me.0) (grown (looked h w) p.me.0)
-      (g.other (λ e. here_empty (sym why.0 ∙ e))) (look_part h w p.me.0),
+  moves_as p q (with_look h w (record_at p)) (grown (looked h w) (record_at p))
+      (g.other (λ e. here_empty (sym why.0 ∙ e))) (look_part h w (record_at p)),
   (w, why, refl),
 )
 refused_moves h w (Raced saw found) p q g why = absurd why
 
 -- the look found the object here
 pub looked_here : (h w : ℕ) (p q : SeatAt) → Glances h w p q → state_of w ≡ state.Here
-    → Moves p q (grown (looked h w) p.me.0)
-looked_here h w p q g here = moves_as p q (with_look h w p.me.0) (grown (looked h w) p.me.0)
-    (g.other (λ e. here_empty (sym here ∙ e))) (look_part h w p.me.0)
+    → Moves p q (grown (looked h w) (record_at p))
+looked_here h w p q g here = moves_as p q (with_look h w (record_at p))
+    (grown (looked h w) (record_at p))
+    (g.other (λ e. here_empty (sym here ∙ e))) (look_part h w (record_at p))
 
 -- the look, and what the exchange at its word comes to
 pub at_word : (h saw : ℕ) (a : ReadAnswer) (p q r : SeatAt) → Glances h saw p q
@@ -98,12 +99,13 @@ pub at_word : (h saw : ℕ) (a : ReadAnswer) (p q r : SeatAt) → Glances h saw 
 at_word h saw (Bytes version bytes) p q r g here x =
     let m = g.other (λ e. here_empty (sym here ∙ e)) in (
       read_once h saw version x.words,
-      moves_then p q r (with_read h saw version x.words) (with_look h saw p.me.0) m x.left,
+      moves_then p q r (with_read h saw version x.words) (with_look h saw (record_at p)) m x.left,
       record {
         word = saw;
         words = x.words;
         here = here;
-        newest = subst (IsNewest h version) (view_of p q (with_look h saw p.me.0) m) x.newest;
+        newest = subst (IsNewest h version) (view_of p q (with_look h saw (record_at p)) m)
+            x.newest;
         bytes_are = x.bytes_are;
         part = refl;
       },
@@ -111,10 +113,10 @@ at_word h saw (Bytes version bytes) p q r g here x =
 at_word h saw (Raced seen found) p q r g here x =
     let m = g.other (λ e. here_empty (sym here ∙ e)) in (
       looked_twice h saw found,
-      moves_as p r (with_look h found (with_look h saw p.me.0))
-          (grown (looked_twice h saw found) p.me.0)
-          (moves_then p q r (with_look h found) (with_look h saw p.me.0) m x.2)
-          (twice_part h saw found p.me.0),
+      moves_as p r (with_look h found (with_look h saw (record_at p)))
+          (grown (looked_twice h saw found) (record_at p))
+          (moves_then p q r (with_look h found) (with_look h saw (record_at p)) m x.2)
+          (twice_part h saw found (record_at p)),
       (λ e. x.1 (e ∙ x.0), ap (λ (n : ℕ). looked_twice h n found) (sym x.0)),
     )
 at_word h saw Freed p q r g here x = absurd x
@@ -133,12 +135,14 @@ pin_gone h w v words u =
 
 -- the pin that was taken, and what was loaded under it
 module _ (c : Config) (h saw v version : ℕ) (words bytes : List ℕ) (p s t : SeatAt)
-    (taken : Moves p s (with_pin h saw v words p.me.0)) (told : TellsVersion c h version s t) where
+    (taken : Moves p s (with_pin h saw v words (record_at p)))
+    (told : TellsVersion c h version s t) where
   the_pin : Stand
   the_pin = stand h (len_of saw) (place_of saw) v words
 
-  pub pin_there : Moves p t (with_pin h saw v words p.me.0)
-  pin_there = moves_then p s t (λ (x : View). x) (with_pin h saw v words p.me.0) taken told.moves
+  pub pin_there : Moves p t (with_pin h saw v words (record_at p))
+  pin_there = moves_then p s t (λ (x : View). x) (with_pin h saw v words (record_at p))
+      taken told.moves
 
   pub under_pin : IsUnderPin (stand h (len_of saw) (place_of saw) v words) (place_of saw)
       (len_of saw) t
@@ -152,22 +156,22 @@ module _ (c : Config) (h saw v version : ℕ) (words bytes : List ℕ) (p s t : 
   pub version_told : version ≡ v
   version_told =
       let each : Each (λ (x : Stand). x.handle ≡ h → version ≡ x.version)
-      (with_pin h saw v words p.me.0).pins =
+      (with_pin h saw v words (record_at p)).pins =
       subst (Each (λ (x : Stand). x.handle ≡ h → version ≡ x.version))
       (ap (λ (m : Sat). m.0.pins) taken.2) told.tells in each.0 refl
 
-  pub read_ended : (u q : SeatAt) → IsNewest h v p.me.0 → Moves t u t.me.0
+  pub read_ended : (u q : SeatAt) → IsNewest h v (record_at p) → Moves t u (record_at t)
       → ((x : Stand) → IsUnderPin x (place_of saw) (len_of saw) t
       → bytes ≡ bytes_in x.words (len_of saw))
-      → Moves u q (without_pin h u.me.0) → IsReadAt h saw version bytes p q
+      → Moves u q (without_pin h (record_at u)) → IsReadAt h saw version bytes p q
   read_ended u q newest loaded read back = record {
     words = words;
-    newest = subst (λ (n : ℕ). IsNewest h n p.me.0) (sym version_told) newest;
+    newest = subst (λ (n : ℕ). IsNewest h n (record_at p)) (sym version_told) newest;
     bytes_are = read (stand h (len_of saw) (place_of saw) v words) under_pin;
-    left = moves_as p q (without_pin h (with_pin h saw v words p.me.0))
-        (with_read h saw version words p.me.0)
-        (moves_then p u q (without_pin h) (with_pin h saw v words p.me.0)
-        (moves_then p t u (λ (x : View). x) (with_pin h saw v words p.me.0) pin_there loaded) back)
-        (pin_gone h saw v words p.me.0
-        ∙ ap (λ (n : ℕ). with_read h saw n words p.me.0) (sym version_told));
+    left = moves_as p q (without_pin h (with_pin h saw v words (record_at p)))
+        (with_read h saw version words (record_at p))
+        (moves_then p u q (without_pin h) (with_pin h saw v words (record_at p))
+        (moves_then p t u (λ (x : View). x) (with_pin h saw v words (record_at p)) pin_there loaded)
+        back) (pin_gone h saw v words (record_at p)
+        ∙ ap (λ (n : ℕ). with_read h saw n words (record_at p)) (sym version_told));
   }

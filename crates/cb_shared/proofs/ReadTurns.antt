@@ -36,7 +36,7 @@ use Rattle.cb_rule.specs.Slot.{Sat}
 use Rattle.cb_rule.specs.Steps.{AreNew, Knows, acted}
 use Rattle.cb_record.specs.Parts.{Part, grown, nothing_more}
 use Rattle.cb_shared.specs.SeatLaws.{Runs, acted_fresh, acted_is, acted_known, fresh_new}
-use Rattle.cb_shared.specs.Seats.{SeatAt}
+use Rattle.cb_shared.specs.Seats.{SeatAt, record_at}
 use Rattle.cb_shared.specs.Turning.{DidAs, IsReadReply, JobReads, Slate, TellsNoPin, Tries}
 use Rattle.cb_shared.specs.Turning.{answer_of, slate_run, slate_shows}
 use Rattle.cb_shared.specs.UnderLock.{BringAt, BroughtForRead, CameThere, HasSame, IsNoRead}
@@ -124,15 +124,15 @@ did_read c handle place (Err e) v d start es took gave (first_done few come) the
 -- ---- the work of such a turn
 module _ (c : Config) (handle : Handle) (took gave : FarState) (p m : SeatAt) (place : Reply)
     (b : BringAt c handle (Ok place) took gave p m) where
-  came : m.me.0 ≡ acted b.events p.me.0
+  came : record_at m ≡ acted b.events (record_at p)
   came = ap (λ (s : Sat). s.0) b.runs.0.2
 
-  fresh_acted : (acted b.events p.me.0).fresh ≡ []
+  fresh_acted : (acted b.events (record_at p)).fresh ≡ []
   fresh_acted = ap (λ (x : View). x.fresh) (sym came) ∙ b.fresh
 
-  stood_acted : Stood c (played b.events p.me.0.known) gave
+  stood_acted : Stood c (played b.events (record_at p).known) gave
   stood_acted = subst (λ (s : Shown). Stood c s gave)
-      (ap (λ (x : View). x.known) came ∙ acted_known b.events p.me.0) b.stood
+      (ap (λ (x : View). x.known) came ∙ acted_known b.events (record_at p)) b.stood
 
   work_off : (IsThere place → ⊥) → WorkBy c (Read handle) (Ok place) took gave p m
   work_off off = record {
@@ -144,12 +144,12 @@ module _ (c : Config) (handle : Handle) (took gave : FarState) (p m : SeatAt) (p
       b.runs.0.0,
       b.runs.0.1,
       b.runs.0.2 ∙ ap (λ (x : View). let z : Sat = (x, p.me.1) in z)
-          (grown_nothing (acted b.events p.me.0)),
+          (grown_nothing (acted b.events (record_at p))),
     );
     quiet = (refl, refl);
     range = tt;
     reads = λ u same. inl (refl, first_plain c handle _ _ place refl b.brought);
-    did = did_away c handle place p.me.0.known b.events took gave b.brought off;
+    did = did_away c handle place (record_at p).known b.events took gave b.brought off;
     next = b.next;
     wrote = refl;
     fresh = fresh_acted;
@@ -159,8 +159,8 @@ module _ (c : Config) (handle : Handle) (took gave : FarState) (p m : SeatAt) (p
   }
 
   -- the seat has what it had when the turn began
-  same_come : p.me.0.fresh ≡ [] → HasSame p.me.0 m.me.0
-  same_come none = let e = came ∙ acted_is b.events p.me.0 in (
+  same_come : (record_at p).fresh ≡ [] → HasSame (record_at p) (record_at m)
+  same_come none = let e = came ∙ acted_is b.events (record_at p) in (
     none ∙ sym b.fresh,
     sym (ap (λ (x : View). x.written) e),
     sym (ap (λ (x : View). x.seen) e),
@@ -168,7 +168,7 @@ module _ (c : Config) (handle : Handle) (took gave : FarState) (p m : SeatAt) (p
     sym (ap (λ (x : View). x.own) e),
   )
 
-  work_here : (q : SeatAt) (r : Result Reply NoMemory) → p.me.0.fresh ≡ [] → IsThere place
+  work_here : (q : SeatAt) (r : Result Reply NoMemory) → (record_at p).fresh ≡ [] → IsThere place
       → TriesOn c handle.n r m q → WorkBy c (Read handle) r took gave p q
   work_here q r none there (d, moves, quiet, range, tries) =
       let s = same_come none in record {
@@ -190,8 +190,8 @@ module _ (c : Config) (handle : Handle) (took gave : FarState) (p m : SeatAt) (p
           same.3 ∙ s.3,
           same.4 ∙ s.4,
         ));
-        did = did_read c handle place r m.me.0 d p.me.0.known b.events took gave b.brought there
-            (tries m.me.0 (refl, refl, refl, refl, refl));
+        did = did_read c handle place r (record_at m) d (record_at p).known b.events took gave
+            b.brought there (tries (record_at m) (refl, refl, refl, refl, refl));
         next = b.next;
         wrote = wrote_none r;
         fresh = fresh_acted;
@@ -208,7 +208,8 @@ module _ (c : Config) (handle : Handle) (took gave : FarState) (p m : SeatAt) (p
 work_stopped : (c : Config) (handle : Handle) (e : NoMemory) (took gave : FarState) (p m : SeatAt)
     → BringAt c handle (Err e) took gave p m → WorkBy c (Read handle) (Err e) took gave p m
 work_stopped c handle e took gave p m b =
-    let came : m.me.0 ≡ acted b.events p.me.0 = ap (λ (s : Sat). s.0) b.runs.0.2 in record {
+    let came : record_at m ≡ acted b.events (record_at p) = ap (λ (s : Sat). s.0) b.runs.0.2 in
+    record {
       events = b.events;
       more = [];
       within = nothing_more;
@@ -217,19 +218,19 @@ work_stopped c handle e took gave p m b =
         b.runs.0.0,
         b.runs.0.1,
         b.runs.0.2 ∙ ap (λ (x : View). let z : Sat = (x, p.me.1) in z)
-            (grown_nothing (acted b.events p.me.0)),
+            (grown_nothing (acted b.events (record_at p))),
       );
       quiet = (refl, refl);
       range = tt;
       reads = λ u same. inl (refl, tt);
-      did = did_stop c handle e p.me.0.known b.events took gave b.brought;
+      did = did_stop c handle e (record_at p).known b.events took gave b.brought;
       next = b.next;
       wrote = refl;
       fresh = ap (λ (x : View). x.fresh) (sym came) ∙ b.fresh;
       new = tt;
       pins = tt;
       stood = subst (λ (s : Shown). Stood c s gave)
-          (ap (λ (x : View). x.known) came ∙ acted_known b.events p.me.0) b.stood;
+          (ap (λ (x : View). x.known) came ∙ acted_known b.events (record_at p)) b.stood;
     }
 
 -- by the answer of the first part
@@ -241,7 +242,7 @@ work_away c handle (Err e) took gave p m b off = work_stopped c handle e took ga
 
 pub work_read : (c : Config) (handle : Handle) (place r : Result Reply NoMemory)
     (took gave : FarState) (p m q : SeatAt) → BringAt c handle place took gave p m
-    → p.me.0.fresh ≡ [] → CameThere place → TriesOn c handle.n r m q
+    → (record_at p).fresh ≡ [] → CameThere place → TriesOn c handle.n r m q
     → WorkBy c (Read handle) r took gave p q
 work_read c handle (Ok place) r took gave p m q b none there tries =
     work_here c handle took gave p m place b q r none there tries
@@ -256,10 +257,10 @@ slate_follows d e es s run shown = (
 )
 
 pub tells_away : (c : Config) (handle : Handle) (r : Result Reply NoMemory) (took gave : FarState)
-    (p m : SeatAt) → BringAt c handle r took gave p m → Stood c p.me.0.known took
+    (p m : SeatAt) → BringAt c handle r took gave p m → Stood c (record_at p).known took
     → IfOk r (λ reply. TurnTells (Read handle) took reply)
 tells_away c handle (Ok r) took gave p m b stood = brought_tells slate_run slate_shows slate_follows c
-    handle _ _ r (p.me.0.known, refl, stood.sound) b.brought
+    handle _ _ r ((record_at p).known, refl, stood.sound) b.brought
 tells_away c handle (Err e) took gave p m b stood = tt
 
 read_tells_none : (r : Reply) → IsReadReply r → IsNever r
@@ -267,12 +268,12 @@ read_tells_none r is id losses e = subst IsReadReply e is
 
 pub tells_read : (c : Config) (handle : Handle) (place r : Result Reply NoMemory)
     (took gave : FarState) (p m q : SeatAt) → BringAt c handle place took gave p m
-    → Stood c p.me.0.known took → CameThere place → TriesOn c handle.n r m q
+    → Stood c (record_at p).known took → CameThere place → TriesOn c handle.n r m q
     → IfOk r (λ reply. TurnTells (Read handle) took reply)
 tells_read c handle (Ok place) (Ok r) took gave p m q b stood there (d, moves, quiet, range, tries) =
     there_tells slate_run slate_shows slate_follows c handle _ _ place r
-    (p.me.0.known, refl, stood.sound) b.brought there (read_tells_none r
-    (tries_reply handle.n r m.me.0 d (tries m.me.0 (refl, refl, refl, refl, refl))))
+    ((record_at p).known, refl, stood.sound) b.brought there (read_tells_none r
+    (tries_reply handle.n r (record_at m) d (tries (record_at m) (refl, refl, refl, refl, refl))))
 tells_read c handle (Ok place) (Err e) took gave p m q b stood there tries = tt
 tells_read c handle (Err e) (Ok r) took gave p m q b stood there tries = absurd there
 tells_read c handle (Err e) (Err f) took gave p m q b stood there tries = tt
@@ -281,26 +282,26 @@ pub no_frame_read : (c : Config) (h : ℕ) (r : Result Reply NoMemory) (m q : Se
     → TriesOn c h r m q
     → IfOk r (λ reply. reply ≡ answer.NoFrame → ⊥)
 no_frame_read c h (Ok r) m q (d, moves, quiet, range, tries) = λ e. subst IsReadReply e
-    (tries_reply h r m.me.0 d (tries m.me.0 (refl, refl, refl, refl, refl)))
+    (tries_reply h r (record_at m) d (tries (record_at m) (refl, refl, refl, refl, refl)))
 no_frame_read c h (Err e) m q tries = tt
 
 -- the seat knows and pins what it did
-pub knows_come : (h : ℕ) (p m : SeatAt) (es : List Event) → Runs p es m → Knows h p.me.0
-    → Knows h m.me.0
+pub knows_come : (h : ℕ) (p m : SeatAt) (es : List Event) → Runs p es m → Knows h (record_at p)
+    → Knows h (record_at m)
 knows_come h p m es runs knows = subst (Knows h) (sym (after_runs p m es runs)) knows
 
-pub few_come : (p m : SeatAt) (es : List Event) → Runs p es m → length p.me.0.pins ≤ 16
-    → length m.me.0.pins ≤ 16
+pub few_come : (p m : SeatAt) (es : List Event) → Runs p es m → length (record_at p).pins ≤ 16
+    → length (record_at m).pins ≤ 16
 few_come p m es runs few = subst (λ (v : View). length v.pins ≤ 16)
     (sym (after_runs p m es runs)) few
 
 -- ---- any other job
 pub work_done : (c : Config) (job : Job) (r : Result Reply NoMemory) (took gave : FarState)
-    (p q : SeatAt) → IsNoRead job → p.me.0.fresh ≡ [] → TurnAtSeat c job r took gave p q
+    (p q : SeatAt) → IsNoRead job → (record_at p).fresh ≡ [] → TurnAtSeat c job r took gave p q
     → WorkBy c job r took gave p q
 work_done c job r took gave p q other none t =
-    let came : q.me.0 ≡ acted t.events p.me.0 = ap (λ (s : Sat). s.0) t.runs.0.2 in
-    let fresh : (acted t.events p.me.0).fresh ≡ t.more =
+    let came : record_at q ≡ acted t.events (record_at p) = ap (λ (s : Sat). s.0) t.runs.0.2 in
+    let fresh : (acted t.events (record_at p)).fresh ≡ t.more =
     ap (λ (x : View). x.fresh) (sym came) ∙ t.fresh in record {
       events = t.events;
       more = t.more;
@@ -310,7 +311,7 @@ work_done c job r took gave p q other none t =
         t.runs.0.0,
         t.runs.0.1,
         t.runs.0.2 ∙ ap (λ (x : View). let z : Sat = (x, p.me.1) in z)
-            (grown_nothing (acted t.events p.me.0)),
+            (grown_nothing (acted t.events (record_at p))),
       );
       quiet = (refl, refl);
       range = tt;
@@ -319,12 +320,12 @@ work_done c job r took gave p q other none t =
       next = t.next;
       wrote = t.wrote;
       fresh = fresh;
-      new = subst (λ (l : List Entry). AreNew l p.me.0) fresh
+      new = subst (λ (l : List Entry). AreNew l (record_at p)) fresh
           (fresh_new p q t.events none t.runs);
-      pins = counts_pins c job r t.events t.more took gave p.me.0 t.did t.runs.3 t.wrote
-          (sym (acted_fresh t.events p.me.0) ∙ fresh);
+      pins = counts_pins c job r t.events t.more took gave (record_at p) t.did t.runs.3 t.wrote
+          (sym (acted_fresh t.events (record_at p)) ∙ fresh);
       stood = subst (λ (s : Shown). Stood c s gave)
-          (ap (λ (x : View). x.known) came ∙ acted_known t.events p.me.0) t.stood;
+          (ap (λ (x : View). x.known) came ∙ acted_known t.events (record_at p)) t.stood;
     }
   where
     reads_none : (job : Job) → IsNoRead job → (r : Result Reply NoMemory) (u : View)

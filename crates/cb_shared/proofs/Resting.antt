@@ -20,7 +20,7 @@ use Rattle.cb_shared.specs.declared.answers.PinAnswer.TheVariants.{NotHere, Movi
 use Rattle.cb_shared.specs.Glances.{Glances}
 use Rattle.cb_shared.specs.Passes.{IsAtRest, PinFits}
 use Rattle.cb_shared.specs.Pinning.{IsRefusal, PinGives}
-use Rattle.cb_shared.specs.Seats.{SeatAt, Moves}
+use Rattle.cb_shared.specs.Seats.{SeatAt, Moves, record_at}
 
 pub far_empty : state.Far ≡ state.Empty → ⊥
 far_empty e = let z : 1 ≡ 0 = ap state_number e in omega (arith, z)
@@ -135,37 +135,39 @@ by_state w = go (state_of w) refl
     go state.Moving e = inr (λ q. moving_empty (sym e ∙ q))
 
 pub rest_moved : (c : Config) (p q : SeatAt) (w : View) → Moves p q w → IsAtRest c w
-    → IsAtRest c q.me.0
+    → IsAtRest c (record_at q)
 rest_moved c p q w m rest = subst (λ (x : Sat). IsAtRest c x.0) (sym m.2) rest
 
-pub view_of : (p q : SeatAt) (w : View) → Moves p q w → q.me.0 ≡ w
+pub view_of : (p q : SeatAt) (w : View) → Moves p q w → record_at q ≡ w
 view_of p q w m = ap (λ (x : Sat). x.0) m.2
 
 -- what was known is known after a look
-pub knows_glance : (h k w : ℕ) (p q : SeatAt) → Glances h w p q → Knows k p.me.0 → Knows k q.me.0
+pub knows_glance : (h k w : ℕ) (p q : SeatAt) → Glances h w p q → Knows k (record_at p)
+    → Knows k (record_at q)
 knows_glance h k w p q g knows = ⊎_elim
     (λ (e : state_of w ≡ state.Empty). let f = g.freed e in
-    subst (Knows k) (sym (view_of p q (with_freed_seen h f.0 w p.me.0) f.2)) (also f.0 knows))
-    (λ (ne : state_of w ≢ state.Empty).
-    subst (Knows k) (sym (view_of p q (with_look h w p.me.0) (g.other ne))) knows) (by_state w)
+    subst (Knows k) (sym (view_of p q (with_freed_seen h f.0 w (record_at p)) f.2))
+    (also f.0 knows)) (λ (ne : state_of w ≢ state.Empty).
+    subst (Knows k) (sym (view_of p q (with_look h w (record_at p)) (g.other ne))) knows)
+    (by_state w)
   where
-    also : (v : ℕ) → Knows k p.me.0 → Knows k (with_freed_seen h v w p.me.0)
+    also : (v : ℕ) → Knows k (record_at p) → Knows k (with_freed_seen h v w (record_at p))
     also v (inl x) = inl x
     also v (inr (s, has, is)) = inr (s, inr has, is)
 
 -- a refusal by the word that was found is answered
 pub refused_gives : (h w : ℕ) (a : PinAnswer) (p q : SeatAt) → Glances h w p q → IsRefusal w a
-    → PinGives h a p.me.0 q.me.0
+    → PinGives h a (record_at p) (record_at q)
 refused_gives h w (Pinned x) p q g why = absurd why
 refused_gives h w ScopeFull p q g why = absurd why
 refused_gives h w Freed p q g why = let f = g.freed why in
-    (w, f.0, why, f.1, view_of p q (with_freed_seen h f.0 w p.me.0) f.2)
+    (w, f.0, why, f.1, view_of p q (with_freed_seen h f.0 w (record_at p)) f.2)
 refused_gives h w NotHere p q g why =
-    (w, why, view_of p q (with_look h w p.me.0) (g.other (λ e. far_empty (sym why ∙ e))))
+    (w, why, view_of p q (with_look h w (record_at p)) (g.other (λ e. far_empty (sym why ∙ e))))
 refused_gives h w Moving p q g why =
-    (w, why, view_of p q (with_look h w p.me.0) (g.other (λ e. moving_empty (sym why ∙ e))))
+    (w, why, view_of p q (with_look h w (record_at p)) (g.other (λ e. moving_empty (sym why ∙ e))))
 refused_gives h w Crowded p q g why =
-    (w, why, view_of p q (with_look h w p.me.0) (g.other (λ e. here_empty (sym why.0 ∙ e))))
+    (w, why, view_of p q (with_look h w (record_at p)) (g.other (λ e. here_empty (sym why.0 ∙ e))))
 refused_gives h w (Raced saw found) p q g why = absurd why
 
 -- a pin that stands in the list is counted

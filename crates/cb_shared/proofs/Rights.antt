@@ -33,7 +33,7 @@ use Rattle.cb_rule.proofs.Laws.{entries_acted, hit, known_entries, times-append}
 use Rattle.cb_shared.specs.declared.setup.Setup.{Setup}
 use Rattle.cb_shared.specs.SeatLaws.{holds_still}
 use Rattle.cb_shared.specs.Rights.{rights, unmade, writes_of}
-use Rattle.cb_shared.specs.Seats.{Acts, HoldsLock, Moves, SeatAt}
+use Rattle.cb_shared.specs.Seats.{Acts, HoldsLock, Moves, SeatAt, record_at}
 use Rattle.cb_shared.specs.Turning.{KnowsOf}
 
 abbrev is_never : Object → Type 0
@@ -126,10 +126,10 @@ rights_acted (Some k) e v a m r = rights_are k (act e v).known (act e v) (⊎_el
     (may_write k v.known v r))
 
 pub rights_moved : (allowed : Option ℕ) (e : Event) (p q : SeatAt) → Acts p e q
-    → SettlesRightly e p.me.0.known → 1 ≤ rights allowed p.me.0.known p.me.0
-    → 1 ≤ rights allowed q.me.0.known q.me.0
+    → SettlesRightly e (record_at p).known → 1 ≤ rights allowed (record_at p).known (record_at p)
+    → 1 ≤ rights allowed (record_at q).known (record_at q)
 rights_moved allowed e p q a m r = subst (λ (x : Sat). 1 ≤ rights allowed x.0.known x.0)
-    (sym a.0.2) (rights_acted allowed e p.me.0 a.1 m r)
+    (sym a.0.2) (rights_acted allowed e (record_at p) a.1 m r)
 
 -- so do loads, and stores of memory words
 rights_loads : (allowed : Option ℕ) (place : ℕ) (ws : List ℕ) (v : View)
@@ -157,16 +157,18 @@ rights_stores allowed place (w ∷ ws) v r =
     same (Some h) r = r
 
 pub rights_loaded : (allowed : Option ℕ) (place : ℕ) (ws : List ℕ) (p q : SeatAt)
-    → Moves p q (acted (loads_from place ws) p.me.0) → 1 ≤ rights allowed p.me.0.known p.me.0
-    → 1 ≤ rights allowed q.me.0.known q.me.0
+    → Moves p q (acted (loads_from place ws) (record_at p)) → 1 ≤ rights allowed (record_at p).known
+    (record_at p)
+    → 1 ≤ rights allowed (record_at q).known (record_at q)
 rights_loaded allowed place ws p q m r = subst (λ (x : Sat). 1 ≤ rights allowed x.0.known x.0)
-    (sym m.2) (rights_loads allowed place ws p.me.0 r)
+    (sym m.2) (rights_loads allowed place ws (record_at p) r)
 
 pub rights_stored : (allowed : Option ℕ) (place : ℕ) (ws : List ℕ) (p q : SeatAt)
-    → Moves p q (acted (stores_from place ws) p.me.0) → 1 ≤ rights allowed p.me.0.known p.me.0
-    → 1 ≤ rights allowed q.me.0.known q.me.0
+    → Moves p q (acted (stores_from place ws) (record_at p))
+    → 1 ≤ rights allowed (record_at p).known (record_at p)
+    → 1 ≤ rights allowed (record_at q).known (record_at q)
 rights_stored allowed place ws p q m r = subst (λ (x : Sat). 1 ≤ rights allowed x.0.known x.0)
-    (sym m.2) (rights_stores allowed place ws p.me.0 r)
+    (sym m.2) (rights_stores allowed place ws (record_at p) r)
 
 -- when a turn begins it may write the object of its job
 pub begins_with : (job : Job) (far : FarState) (v : View) → Sound v.known far → KnowsOf job v
@@ -200,8 +202,8 @@ begins_with job far v sound knows = let z : 1 ≤ 1 = omega arith in z
 -- a claim, won or lost
 pub rights_claimed : (allowed : Option ℕ) (h saw w : ℕ) (p q : SeatAt)
     → (w ≡ saw → (n : ℕ) × (words : List ℕ) × Acts p (ev.Claimed h saw n words) q)
-    → (w ≢ saw → Acts p (ev.Looked h w) q) → 1 ≤ rights allowed p.me.0.known p.me.0
-    → 1 ≤ rights allowed q.me.0.known q.me.0
+    → (w ≢ saw → Acts p (ev.Looked h w) q) → 1 ≤ rights allowed (record_at p).known (record_at p)
+    → 1 ≤ rights allowed (record_at q).known (record_at q)
 rights_claimed allowed h saw w p q won lost r = elim (ℕ_discrete w saw) [
   | yes e ↦ let x = won e in rights_moved allowed (ev.Claimed h saw x.0 x.1) p q x.2 tt r
   | no ne ↦ rights_moved allowed (ev.Looked h w) p q (lost ne) tt r
@@ -246,10 +248,11 @@ rights_within allowed h known v is r =
 
 -- what a desk says of its seat
 pub holds_of : (z : TableId) (k : Setup) (c : Config) (p : SeatAt) → p.table_id ≡ z
-    → z.words ≡ 1 + c.handles + c.handles + 512 * c.frames → k.config ≡ c → p.me.0.config ≡ c
-    → 1 ≤ p.me.0.share → p.me.0.holds ≡ true → length p.me.0.known.objects ≡ c.handles
-    → length p.me.0.known.hots ≡ c.handles → length p.me.0.known.versions ≡ c.handles
-    → length p.me.0.known.memory ≡ 512 * c.frames → HoldsLock z k c p
+    → z.words ≡ 1 + c.handles + c.handles + 512 * c.frames → k.config ≡ c → (record_at p).config ≡ c
+    → 1 ≤ (record_at p).share → (record_at p).holds ≡ true
+    → length (record_at p).known.objects ≡ c.handles
+    → length (record_at p).known.hots ≡ c.handles → length (record_at p).known.versions ≡ c.handles
+    → length (record_at p).known.memory ≡ 512 * c.frames → HoldsLock z k c p
 holds_of z k c p table words key config live holds objects hots versions memory = record {
   of = record { table = table; words = words; key = key; config = config; live = live };
   holds = holds;

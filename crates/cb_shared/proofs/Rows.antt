@@ -12,7 +12,7 @@ use Rattle.cb_world.specs.Played.{after}
 use Rattle.cb_world.specs.Written.{adds}
 use Rattle.cb_rule.specs.Steps.{AreNew}
 use Rattle.cb_shared.specs.SeatLaws.{Runs, SaysPins, runs_more}
-use Rattle.cb_shared.specs.Seats.{SeatAt, Acts}
+use Rattle.cb_shared.specs.Seats.{SeatAt, Acts, record_at}
 use native.Mathlib.Decide.{ℕ_discrete}
 
 loads_last : (p : ℕ) (ws : List ℕ) (w : ℕ)
@@ -32,13 +32,13 @@ stores_last p (x ∷ ws) w =
     ∙ ap (λ (q : ℕ). stores_from (p + 1) ws ++ Stored q w ∷ []) z)
 
 -- one event more, which writes nothing
-pub acts_run : (p q : SeatAt) (e : Event) → adds e p.me.0.known ≡ [] → SaysPins p.me.0 e
-    → Acts p e q
+pub acts_run : (p q : SeatAt) (e : Event) → adds e (record_at p).known ≡ []
+    → SaysPins (record_at p) e → Acts p e q
     → Runs p (e ∷ []) q
 acts_run p q e none says a = (
   a.0,
   (a.1, tt),
-  subst (λ (l : List Entry). AreNew (l ++ []) p.me.0) (sym none) tt,
+  subst (λ (l : List Entry). AreNew (l ++ []) (record_at p)) (sym none) tt,
   (says, tt),
 )
 

@@ -17,7 +17,7 @@ use Rattle.cb_record.specs.Parts.{Part, grown, sum}
 use Rattle.cb_shared.specs.declared.reading.ReadAnswer.TheVariants as found
 use Rattle.cb_shared.specs.Passes.{IsAtRest}
 use Rattle.cb_shared.specs.Reading.{ReadFinds, looked, looked_freed}
-use Rattle.cb_shared.specs.Seats.{Moves, SeatAt}
+use Rattle.cb_shared.specs.Seats.{Moves, SeatAt, record_at}
 use Rattle.cb_shared.specs.Seeking.{GlancesAny, KnownMoves, swapped_of}
 use Rattle.cb_shared.specs.Turning.{AreLooksAt}
 use Rattle.cb_shared.specs.UnderLock.{IsBelow}
@@ -26,46 +26,46 @@ use Rattle.cb_shared.proofs.ReadParts.{grown_moves, here_look, look_found, looks
 use Rattle.cb_shared.proofs.ReadSteps.{freed_part, look_part, moves_as}
 
 -- looks leave what the seat knows
-looks_knew : (h : ℕ) (p q : SeatAt) (d : Part) → AreLooksAt h d → Moves p q (grown d p.me.0)
-    → Knows h q.me.0 → Knows h p.me.0
-looks_knew h p q d lost m knows = subst (λ (e : Part). Knows h (grown e p.me.0)) lost.part
+looks_knew : (h : ℕ) (p q : SeatAt) (d : Part) → AreLooksAt h d → Moves p q (grown d (record_at p))
+    → Knows h (record_at q) → Knows h (record_at p)
+looks_knew h p q d lost m knows = subst (λ (e : Part). Knows h (grown e (record_at p))) lost.part
     (subst (Knows h) (ap (λ (s : Sat). s.0) m.2) knows)
 
 -- a look found another state than freed
 pub known_again : (h word : ℕ) (p q r : SeatAt) (d : Part) → AreLooksAt h d
-    → Moves p q (grown d p.me.0) → GlancesAny h word q r
-    → (state_of word ≡ state.Empty → Knows h q.me.0 → ⊥)
-    → (e : Part) × AreLooksAt h e × Moves p r (grown e p.me.0)
+    → Moves p q (grown d (record_at p)) → GlancesAny h word q r
+    → (state_of word ≡ state.Empty → Knows h (record_at q) → ⊥)
+    → (e : Part) × AreLooksAt h e × Moves p r (grown e (record_at p))
 known_again h word p q r d lost m g off = (
   sum d (looked h word),
   more_looks h d (looked h word) lost (here_look h word),
-  grown_moves p q r d (looked h word) m (moves_as q r (with_look h word q.me.0)
-      (grown (looked h word) q.me.0) (g.other off) (look_part h word q.me.0)),
+  grown_moves p q r d (looked h word) m (moves_as q r (with_look h word (record_at q))
+      (grown (looked h word) (record_at q)) (g.other off) (look_part h word (record_at q))),
 )
 
 -- a look found the object freed
 pub known_found : (c : Config) (h word : ℕ) (p q r : SeatAt) (d : Part) → h < c.handles
-    → AreLooksAt h d → Moves p q (grown d p.me.0) → GlancesAny h word q r
+    → AreLooksAt h d → Moves p q (grown d (record_at p)) → GlancesAny h word q r
     → state_of word ≡ state.Empty → KnownMoves c (Some h) p r
 known_found c h word p q r d l lost m g empty = ⊎_elim
-    (λ (knows : Knows h p.me.0).
+    (λ (knows : Knows h (record_at p)).
     let f = g.freed empty (looks_know h p q d lost m knows) in
-    let finds : ReadFinds h found.Freed q.me.0 (looked_freed h f.0 word) =
+    let finds : ReadFinds h found.Freed (record_at q) (looked_freed h f.0 word) =
     (word, f.0, empty, f.1, refl) in
     let x = look_found c h p q r d l lost m (
       looked_freed h f.0 word,
-      moves_as q r (with_freed_seen h f.0 word q.me.0) (grown (looked_freed h f.0 word) q.me.0) f.2
-          (freed_part h f.0 word q.me.0),
+      moves_as q r (with_freed_seen h f.0 word (record_at q))
+          (grown (looked_freed h f.0 word) (record_at q)) f.2 (freed_part h f.0 word (record_at q)),
       finds,
     ) in (x.0, x.1, x.2, x.3, ((λ _. x.4), λ off. absurd (off knows))))
-    (λ (off : Knows h p.me.0 → ⊥).
+    (λ (off : Knows h (record_at p) → ⊥).
     let x = known_again h word p q r d lost m g (λ _ knows. off (looks_knew h p q d lost m knows)) in (
       x.0,
       x.2,
       looks_quiet h x.0 x.1,
       looks_below c h x.0 x.1,
       ((λ knows. absurd (off knows)), λ _. x.1),
-    )) (knows_or h p.me.0)
+    )) (knows_or h (record_at p))
 
 -- the object is in range
 pub swapped_below : (c : Config) (job : Job) (r : Result Reply NoMemory) → IsJob c job
@@ -74,7 +74,8 @@ swapped_below c (Swap handle) (Ok answer.Freed) is = is
 swapped_below c job r is = tt
 
 -- what stands of the seat afterwards
-pub kept_known : (c : Config) (o : Option ℕ) (p q : SeatAt) → IsAtRest c p.me.0 → KnownMoves c o p q
+pub kept_known : (c : Config) (o : Option ℕ) (p q : SeatAt) → IsAtRest c (record_at p)
+    → KnownMoves c o p q
     → IsSeatKept c p q
 kept_known c o p q rest x =
     kept_part c p q x.0 rest x.1 (record { wrote = x.2.0; turns = x.2.1; seen = x.3 })

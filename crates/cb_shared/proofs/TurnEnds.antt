@@ -18,7 +18,7 @@ use Rattle.cb_rule.specs.Steps.{Knows}
 use Rattle.cb_shared.specs.Handles.{handles_of}
 use Rattle.cb_record.specs.Parts.{Part, grown, nothing_more}
 use Rattle.cb_shared.specs.Passes.{IsAtRest}
-use Rattle.cb_shared.specs.Seats.{SeatAt}
+use Rattle.cb_shared.specs.Seats.{SeatAt, record_at}
 use Rattle.cb_shared.specs.Trying.{is_to_try_again, tries_of}
 use Rattle.cb_shared.specs.Turning.{KnowsIt, KnowsOf, TurnBy, answer_of, freed_of, made_by_turn}
 use Rattle.cb_shared.specs.Turning.{object_of, turn_part, with_own}
@@ -81,10 +81,10 @@ each_both P [] ys a b = b
 each_both P (x ∷ xs) ys a b = (a.0, each_both P xs ys a.1 b)
 
 module _ (c : Config) (job : Job) (r : Result Reply NoMemory) (p m q : SeatAt)
-    (rest : IsAtRest c p.me.0) (t : TurnedBy c job r p.me.0 m.me.0)
+    (rest : IsAtRest c (record_at p)) (t : TurnedBy c job r (record_at p) (record_at m))
     (f : FreedMoves c (freed_of job r) m q) where
   abbrev v : View
-  v = p.me.0
+  v = record_at p
 
   abbrev made : List ℕ
   made = made_by_turn job (answer_of r)
@@ -92,11 +92,11 @@ module _ (c : Config) (job : Job) (r : Result Reply NoMemory) (p m q : SeatAt)
   abbrev d : Part
   d = turn_part t.turn t.more t.within f.0
 
-  pub left : q.me.0 ≡ with_own made (grown d v)
+  pub left : record_at q ≡ with_own made (grown d v)
   left = ap (λ (x : Sat). x.0) f.1.2 ∙ ap (grown f.0) t.left
       ∙ part_more t.turn t.more t.within f.0 made v f.2
 
-  pub rest_turned : IsAtRest c q.me.0
+  pub rest_turned : IsAtRest c (record_at q)
   rest_turned = subst (IsAtRest c) (sym left) record {
     config = rest.config;
     live = rest.live;
@@ -111,17 +111,17 @@ module _ (c : Config) (job : Job) (r : Result Reply NoMemory) (p m q : SeatAt)
     pins = rest.pins;
   }
 
-  pub share_turned : q.me.0.share ≡ v.share
+  pub share_turned : (record_at q).share ≡ v.share
   share_turned = ap (λ (x : View). x.share) left
 
-  pub pins_turned : q.me.0.pins ≡ v.pins
+  pub pins_turned : (record_at q).pins ≡ v.pins
   pins_turned = ap (λ (x : View). x.pins) left
 
-  pub tries_turned : tries_of q.me.0 ≡ Some (is_to_try_again c (answer_of r))
+  pub tries_turned : tries_of (record_at q) ≡ Some (is_to_try_again c (answer_of r))
   tries_turned = ap tries_of left
       ∙ (λ i. Some (is_to_try_again (rest.config i) (t.reply_is i)))
 
-  pub turn_by : TurnBy c job r v q.me.0
+  pub turn_by : TurnBy c job r v (record_at q)
   turn_by = (
     d,
     record {

@@ -22,7 +22,7 @@ use Rattle.cb_rule.specs.Locking.{Stood}
 use Rattle.cb_rule.specs.Slot.{Sat}
 use Rattle.cb_rule.specs.Steps.{acted}
 use Rattle.cb_shared.specs.SeatLaws.{Runs, acted_fresh, acted_is, acted_known}
-use Rattle.cb_shared.specs.Seats.{SeatAt}
+use Rattle.cb_shared.specs.Seats.{SeatAt, record_at}
 use Rattle.cb_shared.specs.Turning.{DidAs, PinLacks, ReadsByPin, Slate, answer_of, held_by}
 use Rattle.cb_shared.specs.Turning.{slate_run, slate_shows}
 use Rattle.cb_shared.specs.UnderLock.{BringAt, BroughtForRead, IsNoRead, TurnAtSeat}
@@ -42,14 +42,15 @@ record LeftAt (c : Config) (W : List Entry → Type 0) (runs : List Event → Ty
 module _ {D : Type 0} (at : D → SeatAt) (run : D → List Event → D → Type 0)
     (shows : D → Shown → Type 0)
     (back : (d e : D) (es : List Event) → run d es e → Runs (at d) es (at e))
-    (shown : (d : D) (s : Shown) → s ≡ (at d).me.0.known → shows d s) (c : Config)
-    (a b : Holding D) (idle : (at a.desk).me.0.acts ≡ []) (fresh : (at a.desk).me.0.fresh ≡ [])
-    (stood : Stood c (at a.desk).me.0.known a.far) where
+    (shown : (d : D) (s : Shown) → s ≡ (record_at (at d)).known → shows d s) (c : Config)
+    (a b : Holding D) (idle : (record_at (at a.desk)).acts ≡ [])
+    (fresh : (record_at (at a.desk)).fresh ≡ [])
+    (stood : Stood c (record_at (at a.desk)).known a.far) where
   abbrev slate_of : D → Slate
-  slate_of d = record { known = (at d).me.0.known; acts = (at d).me.0.acts }
+  slate_of d = record { known = (record_at (at d)).known; acts = (record_at (at d)).acts }
 
   slate_ran : (d e : D) (es : List Event) → run d es e → slate_run (slate_of d) es (slate_of e)
-  slate_ran d e es x = let r = back d e es x in let v = (at d).me.0 in (
+  slate_ran d e es x = let r = back d e es x in let v = record_at (at d) in (
     (λ i. record {
       known = (ap (λ (m : Sat). m.0.known) r.0.2 ∙ acted_known es v) i;
       acts = (ap (λ (m : Sat). m.0.acts) r.0.2 ∙ ap (λ (x : View). x.acts) (acted_is es v)) i;
@@ -58,10 +59,10 @@ module _ {D : Type 0} (at : D → SeatAt) (run : D → List Event → D → Type
   )
 
   abbrev v : View
-  v = (at a.desk).me.0
+  v = record_at (at a.desk)
 
   abbrev w : View
-  w = (at b.desk).me.0
+  w = record_at (at b.desk)
 
   module _ (es : List Event) (ran : run a.desk es b.desk) where
     moved : w ≡ acted es v

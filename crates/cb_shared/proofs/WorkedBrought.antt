@@ -22,7 +22,7 @@ use Rattle.cb_record.specs.Parts.{Part, grown, nothing_more, sum}
 use Rattle.cb_shared.specs.declared.reading.ReadAnswer.TheVariants as found
 use Rattle.cb_shared.specs.Calls.{the_handle}
 use Rattle.cb_shared.specs.Reading.{looked, looked_freed}
-use Rattle.cb_shared.specs.Seats.{Moves, SeatAt}
+use Rattle.cb_shared.specs.Seats.{Moves, SeatAt, record_at}
 use Rattle.cb_shared.specs.Turning.{FindsAtLast}
 use Rattle.cb_shared.specs.UnderLock.{BringAt, BroughtForRead, FreedMoves, LooksFor, TriesOn}
 use Rattle.cb_shared.proofs.WorkedGround.{calm, made, newest_made, part, two}
@@ -61,10 +61,10 @@ module _ (p q : SeatAt) where
   brings_uncounted : Brings (far 3) p q → ⊥
   brings_uncounted b = no_next b.next
 
-  brings_and_writes : q.me.0.fresh ≡ made ∷ [] → Brings (far last) p q → ⊥
+  brings_and_writes : (record_at q).fresh ≡ made ∷ [] → Brings (far last) p q → ⊥
   brings_and_writes is b = eqb-false 1 0 refl (ap length (sym is ∙ b.fresh))
 
-  brings_unsoundly : q.me.0.known ≡ empty_shown 4 two → Brings (far last) p q → ⊥
+  brings_unsoundly : (record_at q).known ≡ empty_shown 4 two → Brings (far last) p q → ⊥
   brings_unsoundly is b = eqb-false 4 3 refl
       (ap (λ (s : Shown). s.first) (sym is) ∙ b.stood.sound.here.known.first)
 
@@ -79,7 +79,7 @@ freed_is_read h v d x each =
 
 -- ---- the tries of a read on a seat that found no memory: looks alone
 module _ (e : NoMemory) (p q : SeatAt) where
-  tries_on : Moves p q (grown (looked 1 calm) p.me.0) → TriesOn two 1 (Err e) p q
+  tries_on : Moves p q (grown (looked 1 calm) (record_at p)) → TriesOn two 1 (Err e) p q
   tries_on moves = (
     looked 1 calm,
     moves,
@@ -91,30 +91,34 @@ module _ (e : NoMemory) (p q : SeatAt) where
   tries_elsewhere : (q.table_id ≡ p.table_id → ⊥) → TriesOn two 1 (Err e) p q → ⊥
   tries_elsewhere n t = n t.1.0
 
-  tries_and_pins : p.me.0.ever ≡ 0 → q.me.0.ever ≡ 1 → TriesOn two 1 (Err e) p q → ⊥
+  tries_and_pins : (record_at p).ever ≡ 0 → (record_at q).ever ≡ 1 → TriesOn two 1 (Err e) p q → ⊥
   tries_and_pins none is (d, moves, quiet, range, tries) =
       let one = sym is ∙ ap (λ (m : Sat). m.0.ever) moves.2 in
-      let zero = ap (λ (x : Part). x.ever) (tries p.me.0 (refl, refl, refl, refl, refl)).part in
+      let zero = ap (λ (x : Part). x.ever)
+      (tries (record_at p) (refl, refl, refl, refl, refl)).part in
       omega (arith, one, zero, none)
 
-  tries_and_writes : p.me.0.written ≡ [] → q.me.0.written ≡ made ∷ [] → TriesOn two 1 (Err e) p q → ⊥
+  tries_and_writes : (record_at p).written ≡ [] → (record_at q).written ≡ made ∷ []
+      → TriesOn two 1 (Err e) p q → ⊥
   tries_and_writes none is (d, moves, quiet, range, tries) =
       eqb-false 1 0 refl (ap length (sym is ∙ ap (λ (m : Sat). m.0.written) moves.2
-      ∙ ap (λ (es : List Entry). es ++ p.me.0.written) quiet.0 ∙ none))
+      ∙ ap (λ (es : List Entry). es ++ (record_at p).written) quiet.0 ∙ none))
 
-  tries_and_turns : (t : Turn) → p.me.0.turns ≡ [] → q.me.0.turns ≡ t ∷ [] → TriesOn two 1 (Err e) p q → ⊥
+  tries_and_turns : (t : Turn) → (record_at p).turns ≡ [] → (record_at q).turns ≡ t ∷ []
+      → TriesOn two 1 (Err e) p q → ⊥
   tries_and_turns t none is (d, moves, quiet, range, tries) =
       eqb-false 1 0 refl (ap length (sym is ∙ ap (λ (m : Sat). m.0.turns) moves.2
-      ∙ ap (λ (ts : List Turn). ts ++ p.me.0.turns) quiet.1 ∙ none))
+      ∙ ap (λ (ts : List Turn). ts ++ (record_at p).turns) quiet.1 ∙ none))
 
   -- one that found an object freed that is out of range
   tries_out_of_range : TriesOn two 2 (Ok answer.Freed) p q → ⊥
   tries_out_of_range (d, moves, quiet, range, tries) =
-      freed_is_read 2 p.me.0 d (tries p.me.0 (refl, refl, refl, refl, refl)) range
+      freed_is_read 2 (record_at p) d (tries (record_at p) (refl, refl, refl, refl, refl)) range
 
 -- ---- the freed entry of an object was looked for
 module _ (p q : SeatAt) where
-  looks_for : p.me.0 ≡ part → Moves p q (grown (sum nothing_more (looked_freed 1 3 0)) p.me.0)
+  looks_for : record_at p ≡ part
+      → Moves p q (grown (sum nothing_more (looked_freed 1 3 0)) (record_at p))
       → LooksFor two 1 p q
   looks_for at moves = (
     sum nothing_more (looked_freed 1 3 0),
@@ -135,21 +139,23 @@ module _ (p q : SeatAt) where
   looks_elsewhere n l = n l.1.1
 
   looks_out_of_range : LooksFor two 2 p q → ⊥
-  looks_out_of_range (d, moves, quiet, range, finds) = freed_is_read 2 p.me.0 d finds range
+  looks_out_of_range (d, moves, quiet, range, finds) = freed_is_read 2 (record_at p) d finds range
 
-  looks_and_turns : (t : Turn) → p.me.0.turns ≡ [] → q.me.0.turns ≡ t ∷ [] → LooksFor two 1 p q → ⊥
+  looks_and_turns : (t : Turn) → (record_at p).turns ≡ [] → (record_at q).turns ≡ t ∷ []
+      → LooksFor two 1 p q → ⊥
   looks_and_turns t none is (d, moves, quiet, range, finds) =
       eqb-false 1 0 refl (ap length (sym is ∙ ap (λ (m : Sat). m.0.turns) moves.2
-      ∙ ap (λ (ts : List Turn). ts ++ p.me.0.turns) quiet.1 ∙ none))
+      ∙ ap (λ (ts : List Turn). ts ++ (record_at p).turns) quiet.1 ∙ none))
 
   -- where there is none to look for, nothing is added
-  looks_for_none : Moves p q (grown nothing_more p.me.0) → FreedMoves two None p q
+  looks_for_none : Moves p q (grown nothing_more (record_at p)) → FreedMoves two None p q
   looks_for_none moves = (nothing_more, moves, (refl, refl), tt, refl)
 
-  looks_though_none : p.me.0.looks ≡ [] → q.me.0.looks ≡ look_at 1 calm ∷ [] → FreedMoves two None p q → ⊥
+  looks_though_none : (record_at p).looks ≡ [] → (record_at q).looks ≡ look_at 1 calm ∷ []
+      → FreedMoves two None p q → ⊥
   looks_though_none none is (d, moves, quiet, range, finds) =
       eqb-false 1 0 refl (ap length (sym is ∙ ap (λ (m : Sat). m.0.looks) moves.2
-      ∙ ap (λ (e : Part). e.looks ++ p.me.0.looks) finds ∙ none))
+      ∙ ap (λ (e : Part). e.looks ++ (record_at p).looks) finds ∙ none))
 
   looks_for_it : LooksFor two 1 p q → FreedMoves two (Some 1) p q
   looks_for_it l = l

@@ -30,7 +30,7 @@ use Rattle.cb_shared.specs.Reading.{FindsGone, FindsOther, FindsWord, IsReadAt, 
 use Rattle.cb_shared.specs.Reading.{IsUnderPin, ReadAt, ReadMoves, looked, looked_freed}
 use Rattle.cb_shared.specs.Reading.{looked_twice, with_read}
 use Rattle.cb_shared.specs.Sealing.{AnyWord, no_view, unsealed}
-use Rattle.cb_shared.specs.Seats.{Acts, Moves, SeatAt}
+use Rattle.cb_shared.specs.Seats.{Acts, Moves, SeatAt, record_at}
 use Rattle.cb_shared.specs.Trying.{may_come_loose}
 use Rattle.cb_shared.proofs.WorkedGround.{a_pin, a_stand, away, calm, full, made, moving}
 use Rattle.cb_shared.proofs.WorkedGround.{newest_made, not_second, part, pinned, two, word_in}
@@ -113,7 +113,8 @@ abbrev words_in_seen : List Seen → List ℕ
 words_in_seen [] = []
 words_in_seen (s ∷ ss) = s.words
 
-is_read_at : (p q : SeatAt) → p.me.0 ≡ part → Moves p q (with_read 1 calm 3 (2826 ∷ []) p.me.0)
+is_read_at : (p q : SeatAt) → record_at p ≡ part
+    → Moves p q (with_read 1 calm 3 (2826 ∷ []) (record_at p))
     → IsReadAt 1 calm 3 eight p q
 is_read_at p q e m = record {
   words = 2826 ∷ [];
@@ -122,10 +123,11 @@ is_read_at p q e m = record {
   left = m;
 }
 
-read_before : (p q : SeatAt) → p.me.0 ≡ part → (bytes : List ℕ) → IsReadAt 1 calm 2 bytes p q → ⊥
+read_before : (p q : SeatAt) → record_at p ≡ part → (bytes : List ℕ) → IsReadAt 1 calm 2 bytes p q
+    → ⊥
 read_before p q e bytes r = not_second (subst (λ (v : View). IsNewest 1 2 v) e r.newest)
 
-read_no_bytes : (p q : SeatAt) → q.me.0 ≡ with_read 1 calm 3 (2826 ∷ []) p.me.0
+read_no_bytes : (p q : SeatAt) → record_at q ≡ with_read 1 calm 3 (2826 ∷ []) (record_at p)
     → IsReadAt 1 calm 3 [] p q → ⊥
 read_no_bytes p q f r =
     let same : 2826 ∷ [] ≡ r.words =
@@ -133,14 +135,15 @@ read_no_bytes p q f r =
     eqb-false 0 8 refl (ap (λ (xs : List ℕ). length xs)
     (r.bytes_are ∙ ap (λ (ws : List ℕ). bytes_in ws 8) (sym same) ∙ sym eight_bytes))
 
-read_unlooked : (p q : SeatAt) → p.me.0 ≡ part → q.me.0 ≡ part → IsReadAt 1 calm 3 eight p q → ⊥
+read_unlooked : (p q : SeatAt) → record_at p ≡ part → record_at q ≡ part
+    → IsReadAt 1 calm 3 eight p q → ⊥
 read_unlooked p q e f r = eqb-false 0 1 refl (ap looks_of (sym f ∙ ap (λ (m : Sat). m.0) r.left.2)
     ∙ ap (λ (v : View). suc (looks_of v)) e)
 
 at_word : (p q : SeatAt) → IsReadAt 1 calm 3 eight p q → ReadAt 1 calm (reads.Bytes 3 eight) p q
 at_word p q r = r
 
-raced : (p q : SeatAt) → Moves p q (with_look 1 moving p.me.0)
+raced : (p q : SeatAt) → Moves p q (with_look 1 moving (record_at p))
     → ReadAt 1 calm (reads.Raced calm moving) p q
 raced p q m = (refl, (λ e. eqb-false moving calm refl e), m)
 
@@ -150,7 +153,7 @@ raced_elsewhere p q g = eqb-false moving calm refl (g.0)
 raced_with_itself : (p q : SeatAt) → ReadAt 1 calm (reads.Raced calm calm) p q → ⊥
 raced_with_itself p q g = g.1 refl
 
-raced_unlooked : (p q : SeatAt) → p.me.0 ≡ part → q.me.0 ≡ part
+raced_unlooked : (p q : SeatAt) → record_at p ≡ part → record_at q ≡ part
     → ReadAt 1 calm (reads.Raced calm moving) p q → ⊥
 raced_unlooked p q e f g = eqb-false 0 1 refl (ap looks_of (sym f ∙ ap (λ (m : Sat). m.0) g.2.2)
     ∙ ap (λ (v : View). suc (looks_of v)) e)
@@ -162,10 +165,10 @@ refused_at_word p q g = g
 abbrev with_one : View
 with_one = record part { pins = a_stand ∷ [] }
 
-under_pin : (p : SeatAt) → p.me.0 ≡ with_one → IsUnderPin a_stand 5 8 p
+under_pin : (p : SeatAt) → record_at p ≡ with_one → IsUnderPin a_stand 5 8 p
 under_pin p e = (subst (λ (v : View). Has a_stand v.pins) (sym e) (inl refl), refl, refl)
 
-under_no_pin : (p : SeatAt) → p.me.0 ≡ part → IsUnderPin a_stand 5 8 p → ⊥
+under_no_pin : (p : SeatAt) → record_at p ≡ part → IsUnderPin a_stand 5 8 p → ⊥
 under_no_pin p e u = subst (λ (v : View). Has a_stand v.pins) e u.0
 
 under_pin_elsewhere : (p : SeatAt) → IsUnderPin a_stand 6 8 p → ⊥
@@ -175,15 +178,15 @@ under_shorter_pin : (p : SeatAt) → IsUnderPin a_stand 5 7 p → ⊥
 under_shorter_pin p u = eqb-false 8 7 refl (u.2)
 
 -- ---- what a read leaves of a seat
-read_moves : (p q : SeatAt) → Moves p q (grown (looked 1 away) p.me.0)
+read_moves : (p q : SeatAt) → Moves p q (grown (looked 1 away) (record_at p))
     → ReadMoves 1 reads.NotHere p q
 read_moves p q m = (looked 1 away, m, (away, refl, refl))
 
-read_moves_nothing : (p q : SeatAt) → p.me.0 ≡ part → q.me.0 ≡ part
+read_moves_nothing : (p q : SeatAt) → record_at p ≡ part → record_at q ≡ part
     → ReadMoves 1 reads.NotHere p q → ⊥
 read_moves_nothing p q e f g = eqb-false 0 1 refl
     (ap looks_of (sym f ∙ ap (λ (m : Sat). m.0) g.1.2)
-    ∙ ap (λ (d : Part). looks_of (grown d p.me.0)) g.2.2
+    ∙ ap (λ (d : Part). looks_of (grown d (record_at p))) g.2.2
     ∙ ap (λ (v : View). suc (looks_of v)) e)
 
 read_moves_elsewhere : (p q : SeatAt) → (q.table_id ≡ p.table_id → ⊥)
@@ -191,13 +194,14 @@ read_moves_elsewhere : (p q : SeatAt) → (q.table_id ≡ p.table_id → ⊥)
 read_moves_elsewhere p q n g = n g.1.0
 
 -- ---- one event more, which agrees with what the seat knew
-acts : (p q : SeatAt) (e : Event) → Moves p q (act e p.me.0) → Agrees p.me.0.known e → Acts p e q
+acts : (p q : SeatAt) (e : Event) → Moves p q (act e (record_at p)) → Agrees (record_at p).known e
+    → Acts p e q
 acts p q e m agrees = (m, agrees)
 
 acts_elsewhere : (p q : SeatAt) (e : Event) → (q.table_id ≡ p.table_id → ⊥) → Acts p e q → ⊥
 acts_elsewhere p q e n a = n a.0.0
 
-acts_against : (p q : SeatAt) (e : Event) → (Agrees p.me.0.known e → ⊥) → Acts p e q → ⊥
+acts_against : (p q : SeatAt) (e : Event) → (Agrees (record_at p).known e → ⊥) → Acts p e q → ⊥
 acts_against p q e n a = n a.1
 
 -- ---- a load of the one word of a pinned object

@@ -22,8 +22,8 @@ use Rattle.cb_shared.specs.declared.runtime.Shared.{Shared}
 use Rattle.cb_shared.specs.Claims.{IsAsClaimed, IsFreshClaim, IsNextOf, IsWithin}
 use Rattle.cb_shared.specs.Handles.{IsFirstAt}
 use Rattle.cb_shared.specs.Joining.{IsSpare, unpinned_all}
-use Rattle.cb_shared.specs.Passes.{IsAtRest, IsPassOf, IsRuntimeBegun}
-use Rattle.cb_shared.specs.Seats.{SeatAt}
+use Rattle.cb_shared.specs.Passes.{IsAtRest, IsPassOf, IsRuntimeBegun, record_of}
+use Rattle.cb_shared.specs.Seats.{SeatAt, record_at}
 use Rattle.cb_shared.specs.Tallies.{tallied}
 use Rattle.cb_shared.proofs.WorkedGround.{a_stand, calm, made, part, pinned, two, whole}
 use Rattle.cb_shared.proofs.WorkedWrites.{write_it}
@@ -110,7 +110,7 @@ of_another_table : (s : Shared) (p : Pass) → (p.seat.table_id ≡ s.board.shar
     → IsPassOf s p → ⊥
 of_another_table s p n f = n f.table
 
-spent_pass : (s : Shared) (p : Pass) → p.seat.me.0.share ≡ 0 → IsPassOf s p → ⊥
+spent_pass : (s : Shared) (p : Pass) → (record_of p).share ≡ 0 → IsPassOf s p → ⊥
 spent_pass s p e f = let live = f.rest.live in omega (arith, e, live)
 
 -- ---- the start
@@ -121,7 +121,7 @@ of_another_first : (s : Shared) (p : Pass) → s.board.shared.key.first ≡ 4 �
     → ⊥
 of_another_first s p e b = eqb-false 4 3 refl (sym e ∙ b.first_is)
 
-begun_with_an_entry : (s : Shared) (p : Pass) → p.seat.me.0 ≡ whole → IsRuntimeBegun 3 two s p → ⊥
+begun_with_an_entry : (s : Shared) (p : Pass) → record_of p ≡ whole → IsRuntimeBegun 3 two s p → ⊥
 begun_with_an_entry s p e b =
     eqb-false 1 0 refl (ap (λ (v : View). length v.written) (sym e ∙ b.begun))
 
@@ -132,7 +132,8 @@ begun_of_another s p n b = n b.of
 abbrev claim : Held
 claim = held_at 1 calm 3 (2826 ∷ [])
 
-fresh_claim : (p : SeatAt) → p.me.0.claims ≡ claim ∷ [] → IsFreshClaim two 1 calm 3 (2826 ∷ []) p
+fresh_claim : (p : SeatAt) → (record_at p).claims ≡ claim ∷ []
+    → IsFreshClaim two 1 calm 3 (2826 ∷ []) p
 fresh_claim p e = record {
   only = e;
   lies = λ j below. lies 5 j (lit< tt) below;
@@ -140,7 +141,7 @@ fresh_claim p e = record {
   whole = refl;
 }
 
-no_claim : (p : SeatAt) → p.me.0.claims ≡ [] → IsFreshClaim two 1 calm 3 (2826 ∷ []) p → ⊥
+no_claim : (p : SeatAt) → (record_at p).claims ≡ [] → IsFreshClaim two 1 calm 3 (2826 ∷ []) p → ⊥
 no_claim p e f = eqb-false 0 1 refl (ap (λ (xs : List Held). length xs) (sym e ∙ f.only))
 
 claimed_past_memory : (p : SeatAt) → IsFreshClaim no_frames 1 calm 3 (2826 ∷ []) p → ⊥
@@ -266,16 +267,16 @@ spare z p t e = record {
 spare_elsewhere : (z : TableId) (p : SeatAt) → (p.table_id ≡ z → ⊥) → IsSpare z p → ⊥
 spare_elsewhere z p n s = n s.table
 
-spare_spent : (z : TableId) (p : SeatAt) → p.me.0.share ≡ 0 → IsSpare z p → ⊥
+spare_spent : (z : TableId) (p : SeatAt) → (record_at p).share ≡ 0 → IsSpare z p → ⊥
 spare_spent z p e s = let live = s.live in omega (arith, e, live)
 
-spare_pinning : (z : TableId) (p : SeatAt) → p.me.0.pins ≡ a_stand ∷ [] → IsSpare z p → ⊥
+spare_pinning : (z : TableId) (p : SeatAt) → (record_at p).pins ≡ a_stand ∷ [] → IsSpare z p → ⊥
 spare_pinning z p e s = eqb-false 1 0 refl (ap length (sym e ∙ s.no_pins))
 
-spare_claiming : (z : TableId) (p : SeatAt) → p.me.0.claims ≡ claim ∷ [] → IsSpare z p → ⊥
+spare_claiming : (z : TableId) (p : SeatAt) → (record_at p).claims ≡ claim ∷ [] → IsSpare z p → ⊥
 spare_claiming z p e s = eqb-false 1 0 refl (ap length (sym e ∙ s.no_claims))
 
-spare_locking : (z : TableId) (p : SeatAt) → p.me.0.holds ≡ true → IsSpare z p → ⊥
+spare_locking : (z : TableId) (p : SeatAt) → (record_at p).holds ≡ true → IsSpare z p → ⊥
 spare_locking z p e s = true≢false (sym e ∙ s.free)
 
 -- the other's pins are given back before, and its share and what it read are taken in

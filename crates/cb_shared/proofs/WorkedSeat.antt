@@ -20,7 +20,7 @@ use Rattle.cb_rule.specs.LockSteps.{gave_lock, took_lock}
 use Rattle.cb_rule.specs.Slot.{LockSlot, Sat}
 use Rattle.cb_rule.specs.Steps.{AreNew, Knows, act}
 use Rattle.cb_shared.specs.SeatLaws.{Runs, SayPins, SaysPins}
-use Rattle.cb_shared.specs.Seats.{Moves, SeatAt}
+use Rattle.cb_shared.specs.Seats.{Moves, SeatAt, record_at}
 use Rattle.cb_shared.specs.UnderLock.{GivesFar, IsAt, TakesFar}
 use Rattle.cb_shared.proofs.WorkedGround.{calm, made, part, part_pinned, pinned, shared_part, two}
 use Rattle.cb_shared.proofs.WorkedUnder.{beginner, far, known, knows_nothing, last, newcomer, stood}
@@ -44,7 +44,7 @@ pub tells_nine : Agree known (tells 9) → ⊥
 tells_nine a = eqb-false 9 0 refl (a.0 tt)
 
 module _ (p q : SeatAt) where
-  runs : p.me.0.known ≡ known → Moves p q (act (Told 1 0) p.me.0) → Runs p (tells 0) q
+  runs : (record_at p).known ≡ known → Moves p q (act (Told 1 0) (record_at p)) → Runs p (tells 0) q
   runs at moves = (
     moves,
     subst (λ (s : Shown). Agree s (tells 0)) (sym at) tells_none,
@@ -52,10 +52,10 @@ module _ (p q : SeatAt) where
     (tt, tt),
   )
 
-  runs_untrue : p.me.0.known ≡ known → Runs p (tells 9) q → ⊥
+  runs_untrue : (record_at p).known ≡ known → Runs p (tells 9) q → ⊥
   runs_untrue at r = tells_nine (subst (λ (s : Shown). Agree s (tells 9)) at r.1)
 
-  runs_unnoted : p.me.0.acts ≡ [] → q.me.0.acts ≡ [] → Runs p (tells 0) q → ⊥
+  runs_unnoted : (record_at p).acts ≡ [] → (record_at q).acts ≡ [] → Runs p (tells 0) q → ⊥
   runs_unnoted none still r = eqb-false 0 1 refl (ap length (sym still
       ∙ ap (λ (m : Sat). m.0.acts) r.0.2 ∙ ap (λ (es : List Event). es ++ tells 0) none))
 
@@ -75,7 +75,7 @@ knowing version = record part {
 }
 
 module _ (p q : SeatAt) where
-  runs_free : p.me.0 ≡ knowing 4 → Moves p q (act (Settled 1 0) p.me.0) → Runs p frees q
+  runs_free : record_at p ≡ knowing 4 → Moves p q (act (Settled 1 0) (record_at p)) → Runs p frees q
   runs_free at moves = (
     moves,
     (tt, tt),
@@ -87,7 +87,7 @@ module _ (p q : SeatAt) where
     (tt, tt),
   )
 
-  runs_old : p.me.0 ≡ knowing 3 → Runs p frees q → ⊥
+  runs_old : record_at p ≡ knowing 3 → Runs p frees q → ⊥
   runs_old at r = let z = (subst (λ (v : View). AreNew (written_by frees v.known []) v) at r.2).0 in
       let low = z.written.0 refl in omega (arith, low)
 
@@ -131,7 +131,7 @@ says_one_too_few : SayPins (Told 1 4 ∷ Looked 1 calm ∷ []) looker → ⊥
 says_one_too_few says = let few = (says.1.0.here refl).1 in omega (arith, few)
 
 module _ (p q : SeatAt) where
-  runs_look : p.me.0 ≡ looker → Moves p q (act (Looked 1 pinned) p.me.0)
+  runs_look : record_at p ≡ looker → Moves p q (act (Looked 1 pinned) (record_at p))
       → Runs p (looks_at pinned) q
   runs_look at moves = (
     moves,
@@ -140,7 +140,7 @@ module _ (p q : SeatAt) where
     (subst (λ (v : View). SaysPins v (Looked 1 pinned)) (sym at) says_pinned, tt),
   )
 
-  runs_uncounted : p.me.0 ≡ looker → Runs p (looks_at calm) q → ⊥
+  runs_uncounted : record_at p ≡ looker → Runs p (looks_at calm) q → ⊥
   runs_uncounted at r =
       let says = subst (λ (v : View). SaysPins v (Looked 1 calm)) at r.3.0 in
       let few = (says.here refl).1 in omega (arith, few)
@@ -170,7 +170,7 @@ module _ (p q : SeatAt) where
   takes_unmade at t = let less : 1 < 0 = t.made 1 (subst (λ (m : Sat). Knows 1 m.0) (sym at)
       (inl (made, inl refl, refl))) in omega (arith, less)
 
-  takes_another : q.me.0.took ≡ far 0 → TakesFar two (far 1) p q → ⊥
+  takes_another : (record_at q).took ≡ far 0 → TakesFar two (far 1) p q → ⊥
   takes_another is t = eqb-false 0 1 refl (ap (λ (f : FarState). f.counts.turns)
       (sym is ∙ ap (λ (m : Sat). m.0.took) t.at.2))
 
@@ -181,11 +181,11 @@ module _ (p q : SeatAt) where
   takes_elsewhere : (q.id ≡ p.id → ⊥) → TakesFar two (far 1) p q → ⊥
   takes_elsewhere n t = n t.at.1
 
-  knows_too_few : q.me.0.known ≡ record known { hots = [] } → TakesFar two (far 1) p q → ⊥
+  knows_too_few : (record_at q).known ≡ record known { hots = [] } → TakesFar two (far 1) p q → ⊥
   knows_too_few is t = eqb-false 0 2 refl (ap (λ (s : Shown). length s.hots)
       (sym is ∙ ap (λ (m : Sat). m.0.known) t.at.2) ∙ t.sized.hots)
 
-  knows_another_first : q.me.0.known ≡ empty_shown 4 two → TakesFar two (far 1) p q → ⊥
+  knows_another_first : (record_at q).known ≡ empty_shown 4 two → TakesFar two (far 1) p q → ⊥
   knows_another_first is t = eqb-false 4 3 refl (ap (λ (s : Shown). s.first)
       (sym is ∙ ap (λ (m : Sat). m.0.known) t.at.2) ∙ t.stood.sound.here.known.first)
 
@@ -200,7 +200,7 @@ abbrev Gives : SeatAt → SeatAt → Type 0
 Gives p q = GivesFar two job.Evict (Some answer.Worn) (far last) p q
 
 module _ (p q : SeatAt) where
-  gives : p.me.0 ≡ refusing → IsAt p q (gives_back p.me.0) [] → Gives p q
+  gives : record_at p ≡ refusing → IsAt p q (gives_back (record_at p)) [] → Gives p q
   gives before at = record {
     entries = 0;
     at = at;
@@ -208,22 +208,24 @@ module _ (p q : SeatAt) where
         (sym before) (lit< tt, tt);
   }
 
-  gives_out_of_range : p.me.0.fresh ≡ [] → p.me.0.written ≡ entry 2 3 8 [] [] ∷ [] → Gives p q → ⊥
+  gives_out_of_range : (record_at p).fresh ≡ [] → (record_at p).written ≡ entry 2 3 8 [] [] ∷ []
+      → Gives p q → ⊥
   gives_out_of_range none is g =
       let few : Each (λ (e : Entry). e.handle < 2) ([] ++ entry 2 3 8 [] [] ∷ []) =
       subst (λ (es : List Entry). Each (λ (e : Entry). e.handle < 2) (es ++ entry 2 3 8 [] [] ∷ [])) none
-      (subst (λ (es : List Entry). Each (λ (e : Entry). e.handle < 2) (p.me.0.fresh ++ es)) is g.written) in
+      (subst (λ (es : List Entry). Each (λ (e : Entry). e.handle < 2) ((record_at p).fresh ++ es))
+      is g.written) in
       let below = few.0 in omega (arith, below)
 
-  gives_no_lock : q.me.0.holds ≡ true → Gives p q → ⊥
+  gives_no_lock : (record_at q).holds ≡ true → Gives p q → ⊥
   gives_no_lock is g = true≢false (sym is ∙ ap (λ (m : Sat). m.0.holds) g.at.2)
 
   gives_no_slot : (x : ℕ × LockSlot) → q.me.1 ≡ x ∷ [] → Gives p q → ⊥
   gives_no_slot x is g = eqb-false 1 0 refl (ap length (sym is ∙ ap (λ (m : Sat). m.1) g.at.2))
 
   -- the turn does not stand in the record
-  gives_no_turn : q.me.0.turns ≡ [] → Gives p q → ⊥
-  gives_no_turn is g = let e : 0 ≡ suc (length p.me.0.turns) =
+  gives_no_turn : (record_at q).turns ≡ [] → Gives p q → ⊥
+  gives_no_turn is g = let e : 0 ≡ suc (length (record_at p).turns) =
       ap length (sym is ∙ ap (λ (m : Sat). m.0.turns) g.at.2) in omega (arith, e)
 
   gives_elsewhere : (q.table_id ≡ p.table_id → ⊥) → Gives p q → ⊥

@@ -13,7 +13,7 @@ use Rattle.cb_rule.specs.Steps.{IsNewest, Knows, with_freed_seen, with_look}
 use Rattle.cb_record.specs.Parts.{Part, grown, nothing_more, sum}
 use Rattle.cb_shared.specs.Calls.{the_handle}
 use Rattle.cb_shared.specs.Reading.{looked, looked_freed}
-use Rattle.cb_shared.specs.Seats.{Moves, SeatAt}
+use Rattle.cb_shared.specs.Seats.{Moves, SeatAt, record_at}
 use Rattle.cb_shared.specs.Seeking.{FindsKnown, GlancesAny, KnownMoves, TurnFinds, swapped_of}
 use Rattle.cb_shared.proofs.ReadParts.{here_look, no_looks}
 use Rattle.cb_shared.proofs.WorkedGround.{made, newest_later, newest_made, not_second, part, two}
@@ -66,7 +66,7 @@ looks_for_none : FindsKnown None part (looked 1 0) → ⊥
 looks_for_none e = eqb-false 1 0 refl (ap (λ (d : Part). length d.looks) e)
 
 -- ---- a look of a seat
-glanced : (p q : SeatAt) → p.me.0 ≡ part → Moves p q (with_freed_seen 1 4 0 p.me.0)
+glanced : (p q : SeatAt) → record_at p ≡ part → Moves p q (with_freed_seen 1 4 0 (record_at p))
     → GlancesAny 1 0 p q
 glanced p q e m = record {
   freed = λ f knows. (4, subst (λ (v : View). IsNewest 1 4 v) (sym e) newest_later, m);
@@ -80,13 +80,13 @@ abbrev version_read : List Seen → ℕ
 version_read [] = 0
 version_read (s ∷ ss) = s.version
 
-glanced_unread : (p q : SeatAt) → p.me.0 ≡ part → q.me.0 ≡ with_look 1 0 part → GlancesAny 1 0 p q
-    → ⊥
+glanced_unread : (p q : SeatAt) → record_at p ≡ part → record_at q ≡ with_look 1 0 part
+    → GlancesAny 1 0 p q → ⊥
 glanced_unread p q e f g = let z = g.freed refl (subst (Knows 1) (sym e) knows_one) in
     eqb-false 0 1 refl (ap reads_of (sym f ∙ ap (λ (m : Sat). m.0) z.2.2)
     ∙ ap (λ (v : View). reads_of (with_freed_seen 1 z.0 0 v)) e)
 
-glanced_below : (p q : SeatAt) → p.me.0 ≡ part → q.me.0 ≡ with_freed_seen 1 2 0 part
+glanced_below : (p q : SeatAt) → record_at p ≡ part → record_at q ≡ with_freed_seen 1 2 0 part
     → GlancesAny 1 0 p q → ⊥
 glanced_below p q e f g = let z = g.freed refl (subst (Knows 1) (sym e) knows_one) in
     let same : 2 ≡ z.0 = ap (λ (v : View). version_read v.seen)
@@ -94,7 +94,7 @@ glanced_below p q e f g = let z = g.freed refl (subst (Knows 1) (sym e) knows_on
     not_second (subst (λ (n : ℕ). IsNewest 1 n part) (sym same)
     (subst (λ (v : View). IsNewest 1 z.0 v) e z.1))
 
-glanced_unknown : (p q : SeatAt) → p.me.0 ≡ part → q.me.0 ≡ with_freed_seen 0 3 0 part
+glanced_unknown : (p q : SeatAt) → record_at p ≡ part → record_at q ≡ with_freed_seen 0 3 0 part
     → GlancesAny 0 0 p q → ⊥
 glanced_unknown p q e f g =
     let m = g.other (λ _ knows. knows_not (subst (Knows 0) e knows)) in
@@ -102,10 +102,10 @@ glanced_unknown p q e f g =
     ∙ ap (λ (v : View). reads_of (with_look 0 0 v)) e)
 
 -- ---- the looks of a seat: none where there is none to be looked for
-seeks_none : (p q : SeatAt) → Moves p q (grown nothing_more p.me.0) → KnownMoves two None p q
+seeks_none : (p q : SeatAt) → Moves p q (grown nothing_more (record_at p)) → KnownMoves two None p q
 seeks_none p q m = (nothing_more, m, (refl, refl), tt, refl)
 
-seeks_though_none : (p q : SeatAt) → p.me.0 ≡ part → q.me.0 ≡ with_look 1 0 part
+seeks_though_none : (p q : SeatAt) → record_at p ≡ part → record_at q ≡ with_look 1 0 part
     → KnownMoves two None p q → ⊥
 seeks_though_none p q e f x = eqb-false 1 0 refl
     (ap (λ (v : View). length v.looks) (sym f ∙ ap (λ (m : Sat). m.0) x.1.2)

@@ -28,7 +28,7 @@ use Rattle.cb_shared.specs.declared.setup.Setup.{Setup}
 use Rattle.cb_shared.specs.Claims.{ClaimsHere, HoldsOnly, with_only}
 use Rattle.cb_shared.specs.Glances.{Glances, TakesPinAt, TellsVersion}
 use Rattle.cb_shared.specs.Pinning.{IsPinnedAt, IsRefusal, PinAt}
-use Rattle.cb_shared.specs.Seats.{HoldsLock, IsOf, Moves, SeatAt}
+use Rattle.cb_shared.specs.Seats.{HoldsLock, IsOf, Moves, SeatAt, record_at}
 use Rattle.cb_shared.specs.Writing.{IsWriteRefusal, IsWrittenAt, WriteAt, WriteClaimed, last_seen}
 use Rattle.cb_shared.proofs.WorkedGround.{a_pin, a_stand, away, calm, freed_last, full, has_last}
 use Rattle.cb_shared.proofs.WorkedGround.{last_is_freed, last_look, moving, newest_later}
@@ -244,7 +244,7 @@ settled version new v = record v {
   written = entry 1 version 8 (2826 ∷ []) new ∷ v.written;
 }
 
-is_claimed_write : (p q : SeatAt) → Moves p q (settled 4 (3082 ∷ []) p.me.0)
+is_claimed_write : (p q : SeatAt) → Moves p q (settled 4 (3082 ∷ []) (record_at p))
     → WriteClaimed 1 calm 1 (12 ∷ []) 3 (2826 ∷ []) (writes.Ok 4) p q
 is_claimed_write p q m = (refl, 3082 ∷ [], write_it, m)
 
@@ -252,18 +252,18 @@ claimed_same_version : (p q : SeatAt)
     → WriteClaimed 1 calm 1 (12 ∷ []) 3 (2826 ∷ []) (writes.Ok 3) p q → ⊥
 claimed_same_version p q g = eqb-false 3 4 refl (g.0)
 
-claimed_not_the_bytes : (p q : SeatAt) → q.me.0 ≡ settled 4 (2826 ∷ []) p.me.0
+claimed_not_the_bytes : (p q : SeatAt) → record_at q ≡ settled 4 (2826 ∷ []) (record_at p)
     → WriteClaimed 1 calm 1 (12 ∷ []) 3 (2826 ∷ []) (writes.Ok 4) p q → ⊥
 claimed_not_the_bytes p q e g = eqb-false 11 12 refl
     (ap (λ (v : View). memory_byte (words_in v.written) 1) (sym e ∙ ap (λ (m : Sat). m.0) g.3.2)
     ∙ g.2.inside 0 (lit< tt))
 
-claimed_kept : (p q : SeatAt) (x : Held) → q.me.0.claims ≡ x ∷ []
+claimed_kept : (p q : SeatAt) (x : Held) → (record_at q).claims ≡ x ∷ []
     → WriteClaimed 1 calm 1 (12 ∷ []) 3 (2826 ∷ []) (writes.Ok 4) p q → ⊥
 claimed_kept p q x e g = eqb-false 1 0 refl
     (ap (λ (xs : List Held). length xs) (sym e ∙ ap (λ (m : Sat). m.0.claims) g.3.2))
 
-claimed_no_entry : (p q : SeatAt) → p.me.0 ≡ part → q.me.0.written ≡ part.written
+claimed_no_entry : (p q : SeatAt) → record_at p ≡ part → (record_at q).written ≡ part.written
     → WriteClaimed 1 calm 1 (12 ∷ []) 3 (2826 ∷ []) (writes.Ok 4) p q → ⊥
 claimed_no_entry p q e k g = eqb-false 1 2 refl
     (ap length (sym k ∙ ap (λ (m : Sat). m.0.written) g.3.2)
@@ -276,7 +276,7 @@ claimed_elsewhere p q n g = n g.3.0
 abbrev last_read : View → View
 last_read v = record v { claims = []; seen = last_seen 1 calm (2826 ∷ []) ∷ v.seen }
 
-claimed_worn : (p q : SeatAt) → Moves p q (last_read p.me.0)
+claimed_worn : (p q : SeatAt) → Moves p q (last_read (record_at p))
     → WriteClaimed 1 calm 1 (12 ∷ []) (2 ^ 64 - 1) (2826 ∷ []) writes.Worn p q
 claimed_worn p q m = (refl, m)
 
@@ -284,13 +284,13 @@ claimed_not_worn : (p q : SeatAt)
     → WriteClaimed 1 calm 1 (12 ∷ []) 3 (2826 ∷ []) writes.Worn p q → ⊥
 claimed_not_worn p q g = eqb-false 3 (2 ^ 64 - 1) refl (g.0)
 
-claimed_worn_kept : (p q : SeatAt) (x : Held) → q.me.0.claims ≡ x ∷ []
+claimed_worn_kept : (p q : SeatAt) (x : Held) → (record_at q).claims ≡ x ∷ []
     → WriteClaimed 1 calm 1 (12 ∷ []) (2 ^ 64 - 1) (2826 ∷ []) writes.Worn p q → ⊥
 claimed_worn_kept p q x e g = eqb-false 1 0 refl
     (ap (λ (xs : List Held). length xs) (sym e ∙ ap (λ (m : Sat). m.0.claims) g.1.2))
 
 -- the version that was claimed is not read
-claimed_worn_unread : (p q : SeatAt) → p.me.0 ≡ part → q.me.0.seen ≡ []
+claimed_worn_unread : (p q : SeatAt) → record_at p ≡ part → (record_at q).seen ≡ []
     → WriteClaimed 1 calm 1 (12 ∷ []) (2 ^ 64 - 1) (2826 ∷ []) writes.Worn p q → ⊥
 claimed_worn_unread p q e f g = eqb-false 0 1 refl
     (ap length (sym f ∙ ap (λ (m : Sat). m.0.seen) g.1.2) ∙ ap (λ (v : View). suc (length v.seen)) e)
@@ -300,7 +300,7 @@ claimed_refused : (p q : SeatAt)
 claimed_refused p q g = g
 
 -- ---- a look of a seat
-glanced : (p q : SeatAt) → p.me.0 ≡ part_pinned → Moves p q (with_look 1 pinned p.me.0)
+glanced : (p q : SeatAt) → record_at p ≡ part_pinned → Moves p q (with_look 1 pinned (record_at p))
     → Glances 1 pinned p q
 glanced p q e m = record {
   freed = λ f. absurd (eqb-false 2 0 refl (ap state_number f));
@@ -312,7 +312,8 @@ glanced p q e m = record {
   held = λ _ l. absurd (shared_part 1 (subst (IsAlone 1) e l));
 }
 
-glanced_freed : (p q : SeatAt) → p.me.0 ≡ part → Moves p q (with_freed_seen 1 4 0 p.me.0)
+glanced_freed : (p q : SeatAt) → record_at p ≡ part
+    → Moves p q (with_freed_seen 1 4 0 (record_at p))
     → Glances 1 0 p q
 glanced_freed p q e m = record {
   freed = λ _. (4, subst (λ (v : View). IsNewest 1 4 v) (sym e) newest_later, m);
@@ -321,12 +322,13 @@ glanced_freed p q e m = record {
   held = λ h _. absurd (eqb-false 0 2 refl (ap state_number h));
 }
 
-glanced_unlooked : (p q : SeatAt) → p.me.0 ≡ part → q.me.0 ≡ part → Glances 1 calm p q → ⊥
+glanced_unlooked : (p q : SeatAt) → record_at p ≡ part → record_at q ≡ part → Glances 1 calm p q → ⊥
 glanced_unlooked p q e f g = eqb-false 0 1 refl
     (ap looks_of (sym f ∙ ap (λ (m : Sat). m.0)
     (g.other (λ h. eqb-false 2 0 refl (ap state_number h))).2 ∙ ap (with_look 1 calm) e))
 
-glanced_freed_before : (p q : SeatAt) → p.me.0 ≡ part → q.me.0 ≡ with_freed_seen 1 2 0 part
+glanced_freed_before : (p q : SeatAt) → record_at p ≡ part
+    → record_at q ≡ with_freed_seen 1 2 0 part
     → Glances 1 0 p q → ⊥
 glanced_freed_before p q e f g = let z = g.freed refl in
     let same : 2 ≡ z.0 = ap (λ (v : View). version_read v.seen)
@@ -334,17 +336,17 @@ glanced_freed_before p q e f g = let z = g.freed refl in
     not_second (subst (λ (n : ℕ). IsNewest 1 n part) (sym same)
     (subst (λ (v : View). IsNewest 1 z.0 v) e z.1))
 
-glanced_uncounted : (p q : SeatAt) → p.me.0 ≡ part_pinned → Glances 1 calm p q → ⊥
+glanced_uncounted : (p q : SeatAt) → record_at p ≡ part_pinned → Glances 1 calm p q → ⊥
 glanced_uncounted p q e g =
     let less : 1 ≤ 0 = subst (λ (v : View). pins_on 1 v ≤ 0) e (g.counted refl).0 in
     omega (arith, less)
 
-glanced_foreign : (p q : SeatAt) → p.me.0 ≡ whole → Glances 1 pinned p q → ⊥
+glanced_foreign : (p q : SeatAt) → record_at p ≡ whole → Glances 1 pinned p q → ⊥
 glanced_foreign p q e g = eqb-false 1 0 refl
     ((g.counted refl).1 (inl (ap (λ (v : View). v.share) e)) ∙ ap (pins_on 1) e)
 
 -- with the whole share, where it freed the object
-glanced_gone : (p q : SeatAt) → p.me.0 ≡ freed_last → Glances 1 calm p q → ⊥
+glanced_gone : (p q : SeatAt) → record_at p ≡ freed_last → Glances 1 calm p q → ⊥
 glanced_gone p q e g = last_is_freed [] (subst (HasLast 1 8) e
     (g.held refl (inl (ap (λ (v : View). v.share) e))))
 
@@ -383,7 +385,8 @@ no_frames = record two { frames = 0 }
 lies : (j : ℕ) → j < 1 → 5 + j < 512
 lies j below = omega (arith, below)
 
-takes : (p q : SeatAt) → p.me.0 ≡ part → Moves p q (with_pin 1 calm 3 (2826 ∷ []) p.me.0)
+takes : (p q : SeatAt) → record_at p ≡ part
+    → Moves p q (with_pin 1 calm 3 (2826 ∷ []) (record_at p))
     → TakesPinAt two 1 calm calm p q
 takes p q e m = record {
   won = λ _. (
@@ -396,8 +399,8 @@ takes p q e m = record {
   lost = λ n. absurd (n refl);
 }
 
-takes_an_older : (p q : SeatAt) → p.me.0 ≡ part
-    → q.me.0 ≡ with_pin 1 calm 2 (2826 ∷ []) part → TakesPinAt two 1 calm calm p q → ⊥
+takes_an_older : (p q : SeatAt) → record_at p ≡ part
+    → record_at q ≡ with_pin 1 calm 2 (2826 ∷ []) part → TakesPinAt two 1 calm calm p q → ⊥
 takes_an_older p q e f t = let z = t.won refl in
     let same : 2 ≡ z.0 = ap (λ (v : View). version_read v.seen)
     (sym f ∙ ap (λ (m : Sat). m.0) z.4.2) in
@@ -407,13 +410,13 @@ takes_an_older p q e f t = let z = t.won refl in
 takes_outside : (p q : SeatAt) → TakesPinAt no_frames 1 calm calm p q → ⊥
 takes_outside p q t = let e : 5 + 0 < 0 = (t.won refl).3 0 (lit< tt) in omega (arith, e)
 
-takes_none : (p q : SeatAt) → p.me.0 ≡ part → q.me.0 ≡ with_look 1 calm part
+takes_none : (p q : SeatAt) → record_at p ≡ part → record_at q ≡ with_look 1 calm part
     → TakesPinAt two 1 calm calm p q → ⊥
 takes_none p q e f t = eqb-false 0 1 refl
     (ap (λ (v : View). length v.pins) (sym f ∙ ap (λ (m : Sat). m.0) (t.won refl).4.2)
     ∙ ap (λ (v : View). suc (length v.pins)) e)
 
-loses_unlooked : (p q : SeatAt) → p.me.0 ≡ part → q.me.0 ≡ part
+loses_unlooked : (p q : SeatAt) → record_at p ≡ part → record_at q ≡ part
     → TakesPinAt two 1 calm moving p q → ⊥
 loses_unlooked p q e f t = eqb-false 0 1 refl
     (ap looks_of (sym f ∙ ap (λ (m : Sat). m.0) (t.lost (λ h. eqb-false moving calm refl h)).2
@@ -423,7 +426,7 @@ loses_unlooked p q e f t = eqb-false 0 1 refl
 abbrev pinning : View
 pinning = record part { pins = a_stand ∷ [] }
 
-tells : (p q : SeatAt) → p.me.0 ≡ pinning → Moves p q p.me.0 → TellsVersion two 1 3 p q
+tells : (p q : SeatAt) → record_at p ≡ pinning → Moves p q (record_at p) → TellsVersion two 1 3 p q
 tells p q e m = record {
   moves = m;
   tells = subst (λ (v : View). Each (λ (s : Stand). s.handle ≡ 1 → 3 ≡ s.version) v.pins) (sym e)
@@ -440,13 +443,13 @@ tells p q e m = record {
 }
 
 -- a version that is older than one that the record has
-tells_an_older : (p q : SeatAt) → p.me.0 ≡ record pinning { seen = version_seen 1 4 8 [] ∷ [] }
+tells_an_older : (p q : SeatAt) → record_at p ≡ record pinning { seen = version_seen 1 4 8 [] ∷ [] }
     → TellsVersion two 1 3 p q → ⊥
 tells_an_older p q e t = let z = (subst (λ (v : View).
     Each (λ (s : Stand). s.handle ≡ 1 → IsNewest 1 s.version v) v.pins) e t.newest).0 refl in
     let low = z.seen.0 refl in omega (arith, low)
 
-tells_another : (p q : SeatAt) → p.me.0.pins ≡ a_stand ∷ [] → TellsVersion two 1 4 p q → ⊥
+tells_another : (p q : SeatAt) → (record_at p).pins ≡ a_stand ∷ [] → TellsVersion two 1 4 p q → ⊥
 tells_another p q e t = eqb-false 4 3 refl
     ((subst (λ xs. Each (λ (s : Stand). s.handle ≡ 1 → 4 ≡ s.version) xs) e t.tells).0 refl)
 
@@ -457,8 +460,8 @@ tells_and_moves p q n t = n t.moves.2
 abbrev claim : Held
 claim = held_at 1 calm 3 (2826 ∷ [])
 
-claims_it : (p q : SeatAt) → p.me.0 ≡ part
-    → Moves p q (with_only claim (with_look 1 calm p.me.0)) → ClaimsHere two 1 calm calm p q
+claims_it : (p q : SeatAt) → record_at p ≡ part
+    → Moves p q (with_only claim (with_look 1 calm (record_at p))) → ClaimsHere two 1 calm calm p q
 claims_it p q e m = record {
   won = λ _. (
     3,
@@ -478,29 +481,29 @@ claims_outside p q c = let e : 5 + 0 < 0 = (c.won refl).3 0 (lit< tt) in omega (
 claims_too_wide : (p q : SeatAt) → ClaimsHere two 1 (calm + 2 ^ 53) (calm + 2 ^ 53) p q → ⊥
 claims_too_wide p q c = let e = (c.won refl).4 in omega (arith, e)
 
-claims_none : (p q : SeatAt) → q.me.0.claims ≡ [] → ClaimsHere two 1 calm calm p q → ⊥
+claims_none : (p q : SeatAt) → (record_at q).claims ≡ [] → ClaimsHere two 1 calm calm p q → ⊥
 claims_none p q e c = eqb-false 0 1 refl (ap (λ (xs : List Held). length xs)
     (sym e ∙ ap (λ (m : Sat). m.0.claims) (c.won refl).6.2))
 
-claims_without_words : (p q : SeatAt) → q.me.0.claims ≡ held_at 1 calm 3 [] ∷ []
+claims_without_words : (p q : SeatAt) → (record_at q).claims ≡ held_at 1 calm 3 [] ∷ []
     → ClaimsHere two 1 calm calm p q → ⊥
 claims_without_words p q e c = let z = c.won refl in eqb-false 0 1 refl
     (ap (λ (xs : List Held). words_held xs) (sym e ∙ ap (λ (m : Sat). m.0.claims) z.6.2) ∙ z.5)
 
-lost_and_unlooked : (p q : SeatAt) → p.me.0 ≡ part → q.me.0 ≡ part
+lost_and_unlooked : (p q : SeatAt) → record_at p ≡ part → record_at q ≡ part
     → ClaimsHere two 1 calm moving p q → ⊥
 lost_and_unlooked p q e f c = eqb-false 0 1 refl
     (ap looks_of (sym f ∙ ap (λ (m : Sat). m.0) (c.lost (λ h. eqb-false moving calm refl h)).2
     ∙ ap (with_look 1 moving) e))
 
 -- ---- the one claim
-holds_only : (p : SeatAt) → p.me.0.claims ≡ claim ∷ [] → HoldsOnly claim 1 p
+holds_only : (p : SeatAt) → (record_at p).claims ≡ claim ∷ [] → HoldsOnly claim 1 p
 holds_only p e = (e, refl)
 
 holds_another : (p : SeatAt) → HoldsOnly claim 0 p → ⊥
 holds_another p h = eqb-false 1 0 refl (h.1)
 
-holds_two : (p : SeatAt) → p.me.0.claims ≡ claim ∷ claim ∷ [] → HoldsOnly claim 1 p → ⊥
+holds_two : (p : SeatAt) → (record_at p).claims ≡ claim ∷ claim ∷ [] → HoldsOnly claim 1 p → ⊥
 holds_two p e h = eqb-false 2 1 refl (ap (λ (xs : List Held). length xs) (sym e ∙ h.0))
 
 -- ---- a seat of the table of a configuration: each part is one that cannot be left out
@@ -517,15 +520,15 @@ of_another_key : (z : TableId) (k : Setup) (p : SeatAt) → k.config ≡ no_fram
 of_another_key z k p e o =
     eqb-false 0 1 refl (ap (λ (c : Config). c.frames) (sym e ∙ o.key))
 
-of_another_config : (z : TableId) (k : Setup) (p : SeatAt) → p.me.0.config ≡ no_frames
+of_another_config : (z : TableId) (k : Setup) (p : SeatAt) → (record_at p).config ≡ no_frames
     → IsOf z k two p → ⊥
 of_another_config z k p e o =
     eqb-false 0 1 refl (ap (λ (c : Config). c.frames) (sym e ∙ o.config))
 
-of_no_share : (z : TableId) (k : Setup) (p : SeatAt) → p.me.0.share ≡ 0 → IsOf z k two p → ⊥
+of_no_share : (z : TableId) (k : Setup) (p : SeatAt) → (record_at p).share ≡ 0 → IsOf z k two p → ⊥
 of_no_share z k p e o = let live = o.live in omega (arith, e, live)
 
-holds_no_lock : (z : TableId) (k : Setup) (p : SeatAt) → p.me.0.holds ≡ false
+holds_no_lock : (z : TableId) (k : Setup) (p : SeatAt) → (record_at p).holds ≡ false
     → HoldsLock z k two p → ⊥
 holds_no_lock z k p e h = true≢false (sym h.holds ∙ e)
 
@@ -533,6 +536,6 @@ holds_elsewhere : (z : TableId) (k : Setup) (p : SeatAt) → (IsOf z k two p →
     → HoldsLock z k two p → ⊥
 holds_elsewhere z k p n h = n h.of
 
-holds_unsized : (z : TableId) (k : Setup) (p : SeatAt) → (AreSized two p.me.0.known → ⊥)
+holds_unsized : (z : TableId) (k : Setup) (p : SeatAt) → (AreSized two (record_at p).known → ⊥)
     → HoldsLock z k two p → ⊥
 holds_unsized z k p n h = n h.sized

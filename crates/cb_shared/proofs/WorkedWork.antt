@@ -24,7 +24,7 @@ use Rattle.cb_rule.specs.Slot.{Sat}
 use Rattle.cb_rule.specs.Steps.{AreNew, act, acted, freed_seen}
 use Rattle.cb_record.specs.Parts.{grown, nothing_more}
 use Rattle.cb_shared.specs.SeatLaws.{acted_known}
-use Rattle.cb_shared.specs.Seats.{SeatAt}
+use Rattle.cb_shared.specs.Seats.{SeatAt, record_at}
 use Rattle.cb_shared.specs.Turning.{DidAs}
 use Rattle.cb_shared.specs.UnderLock.{TurnAtSeat, TurnWith, WorkBy}
 use Rattle.cb_shared.proofs.WorkedGround.{a_stand, made, not_new, two}
@@ -68,10 +68,10 @@ module _ (p q : SeatAt) where
   works_uncounted : Works (far 3) p q → ⊥
   works_uncounted w = not_next w.next
 
-  works_and_writes : q.me.0.fresh ≡ made ∷ [] → Works (far last) p q → ⊥
+  works_and_writes : (record_at q).fresh ≡ made ∷ [] → Works (far last) p q → ⊥
   works_and_writes is w = eqb-false 1 0 refl (ap length (sym is ∙ w.fresh ∙ w.wrote))
 
-  works_unsoundly : q.me.0.known ≡ empty_shown 4 two → Works (far last) p q → ⊥
+  works_unsoundly : (record_at q).known ≡ empty_shown 4 two → Works (far last) p q → ⊥
   works_unsoundly is w = eqb-false 4 3 refl
       (ap (λ (s : Shown). s.first) (sym is) ∙ w.stood.sound.here.known.first)
 
@@ -119,10 +119,11 @@ module _ (p q : SeatAt) where
     stood = subst (λ (m : Sat). Stood two m.0.known (far last)) (sym at) (stood last (lit≤ tt));
   }
 
-  by_untrue_events : p.me.0.acts ≡ [] → p.me.0.known ≡ known → q.me.0.acts ≡ tells 9
+  by_untrue_events : (record_at p).acts ≡ [] → (record_at p).known ≡ known
+      → (record_at q).acts ≡ tells 9
       → WorksBy (far last) p q → ⊥
   by_untrue_events none at is w =
-      let e : w.events ≡ tells 9 = sym (acts_are w.events p.me.0
+      let e : w.events ≡ tells 9 = sym (acts_are w.events (record_at p)
       ∙ ap (λ (es : List Event). es ++ w.events) none) ∙ sym (ap (λ (m : Sat). m.0.acts) w.moves.2) ∙ is in
       tells_nine (subst (λ (es : List Event). Agree known es) e
       (subst (λ (s : Shown). Agree s w.events) at w.agree))
@@ -132,39 +133,43 @@ module _ (p q : SeatAt) where
 
   -- a turn or an entry within, a freed entry of an object out of range, and a pin of a job that is no
   -- read
-  by_two_turns : (t : Turn) → p.me.0.turns ≡ [] → q.me.0.turns ≡ t ∷ [] → WorksBy (far last) p q → ⊥
+  by_two_turns : (t : Turn) → (record_at p).turns ≡ [] → (record_at q).turns ≡ t ∷ []
+      → WorksBy (far last) p q → ⊥
   by_two_turns t none is w = eqb-false 1 0 refl (ap length (sym is ∙ ap (λ (m : Sat). m.0.turns) w.moves.2
-      ∙ ap (λ (ts : List Turn). ts ++ (acted w.events p.me.0).turns) w.quiet.1
-      ∙ acts_keep (λ v. v.turns) (λ e v. refl) w.events p.me.0 ∙ none))
+      ∙ ap (λ (ts : List Turn). ts ++ (acted w.events (record_at p)).turns) w.quiet.1
+      ∙ acts_keep (λ v. v.turns) (λ e v. refl) w.events (record_at p) ∙ none))
 
-  by_two_entries : p.me.0.written ≡ [] → q.me.0.written ≡ made ∷ [] → WorksBy (far last) p q → ⊥
+  by_two_entries : (record_at p).written ≡ [] → (record_at q).written ≡ made ∷ []
+      → WorksBy (far last) p q → ⊥
   by_two_entries none is w =
       eqb-false 1 0 refl (ap length (sym is ∙ ap (λ (m : Sat). m.0.written) w.moves.2
-      ∙ ap (λ (es : List Entry). es ++ (acted w.events p.me.0).written) w.quiet.0
-      ∙ acts_keep (λ v. v.written) (λ e v. refl) w.events p.me.0 ∙ none))
+      ∙ ap (λ (es : List Entry). es ++ (acted w.events (record_at p)).written) w.quiet.0
+      ∙ acts_keep (λ v. v.written) (λ e v. refl) w.events (record_at p) ∙ none))
 
-  by_far_reads : p.me.0.seen ≡ [] → q.me.0.seen ≡ freed_seen 2 4 ∷ [] → WorksBy (far last) p q → ⊥
+  by_far_reads : (record_at p).seen ≡ [] → (record_at q).seen ≡ freed_seen 2 4 ∷ []
+      → WorksBy (far last) p q → ⊥
   by_far_reads none is w =
       let e : 2 ≡ first_read (w.within.seen ++ []) = ap first_read (sym is ∙ ap (λ (m : Sat). m.0.seen) w.moves.2
       ∙ ap (λ (ss : List Seen). w.within.seen ++ ss)
-      (acts_keep (λ v. v.seen) (λ e v. refl) w.events p.me.0 ∙ none)) in
+      (acts_keep (λ v. v.seen) (λ e v. refl) w.events (record_at p) ∙ none)) in
       let low = in_range w.within.seen w.range in omega (arith, e, low)
 
-  by_a_pin : p.me.0.ever ≡ 0 → q.me.0.ever ≡ 1 → WorksBy (far last) p q → ⊥
+  by_a_pin : (record_at p).ever ≡ 0 → (record_at q).ever ≡ 1 → WorksBy (far last) p q → ⊥
   by_a_pin none is w =
-      let e : 1 ≡ (acted w.events p.me.0).ever + w.within.ever =
+      let e : 1 ≡ (acted w.events (record_at p)).ever + w.within.ever =
       sym is ∙ ap (λ (m : Sat). m.0.ever) w.moves.2 in
-      let f = acts_keep (λ v. v.ever) (λ e v. refl) w.events p.me.0 in
-      let g = ap (λ d. d.ever) (w.reads p.me.0 (refl, refl, refl, refl, refl)) in
+      let f = acts_keep (λ v. v.ever) (λ e v. refl) w.events (record_at p) in
+      let g = ap (λ d. d.ever) (w.reads (record_at p) (refl, refl, refl, refl, refl)) in
       omega (arith, e, f, g, none)
 
   -- a free at a version that the record has
-  by_an_old_version : p.me.0.written ≡ made ∷ []
+  by_an_old_version : (record_at p).written ≡ made ∷ []
       → WorkBy two (job.Free record { n = 1 }) (Ok (answer.Version 3)) (far 1) (far 2) p q → ⊥
-  by_an_old_version is w = not_new p.me.0 is (subst (λ (l : List Entry). AreNew l p.me.0) w.wrote.1 w.new).0
+  by_an_old_version is w = not_new (record_at p) is
+      (subst (λ (l : List Entry). AreNew l (record_at p)) w.wrote.1 w.new).0
 
   -- one of an object that the pass has pinned
-  by_a_pinned_one : p.me.0.pins ≡ a_stand ∷ []
+  by_a_pinned_one : (record_at p).pins ≡ a_stand ∷ []
       → WorkBy two (job.Free record { n = 1 }) (Ok (answer.Version 4)) (far 1) (far 2) p q → ⊥
   by_a_pinned_one is w = eqb-false 1 0 refl (sym (ap (times (pins_it 1)) is) ∙ w.pins)
 
@@ -174,13 +179,13 @@ module _ (p q : SeatAt) where
   by_no_count : WorksBy (far 3) p q → ⊥
   by_no_count w = not_next w.next
 
-  by_an_entry : q.me.0.fresh ≡ made ∷ [] → WorksBy (far last) p q → ⊥
+  by_an_entry : (record_at q).fresh ≡ made ∷ [] → WorksBy (far last) p q → ⊥
   by_an_entry is w = eqb-false 1 0 refl (ap length (sym is ∙ ap (λ (m : Sat). m.0.fresh) w.moves.2
       ∙ w.fresh ∙ w.wrote))
 
-  by_unsound_words : q.me.0.known ≡ empty_shown 4 two → WorksBy (far last) p q → ⊥
+  by_unsound_words : (record_at q).known ≡ empty_shown 4 two → WorksBy (far last) p q → ⊥
   by_unsound_words is w = eqb-false 4 3 refl (ap (λ (s : Shown). s.first) (sym is
-      ∙ ap (λ (m : Sat). m.0.known) w.moves.2 ∙ acted_known w.events p.me.0)
+      ∙ ap (λ (m : Sat). m.0.known) w.moves.2 ∙ acted_known w.events (record_at p))
       ∙ w.stood.sound.here.known.first)
 
 -- ---- and to its end, with the lock given back
@@ -222,10 +227,11 @@ module _ (p q : SeatAt) where
     pins = tt;
   }
 
-  turns_untrue : p.me.0.acts ≡ [] → p.me.0.known ≡ known → first_acts q.me.0.turns ≡ tells 9
+  turns_untrue : (record_at p).acts ≡ [] → (record_at p).known ≡ known
+      → first_acts (record_at q).turns ≡ tells 9
       → Turns p q → ⊥
   turns_untrue none at is t =
-      let e : t.events ≡ tells 9 = sym (acts_are t.events p.me.0
+      let e : t.events ≡ tells 9 = sym (acts_are t.events (record_at p)
       ∙ ap (λ (es : List Event). es ++ t.events) none)
       ∙ sym (ap (λ (m : Sat). first_acts m.0.turns) t.at.2) ∙ is in
       tells_nine (subst (λ (es : List Event). Agree known es) e
@@ -234,56 +240,61 @@ module _ (p q : SeatAt) where
   turns_elsewhere : (q.table_id ≡ p.table_id → ⊥) → Turns p q → ⊥
   turns_elsewhere n t = n t.at.0
 
-  turns_and_holds : q.me.0.holds ≡ true → Turns p q → ⊥
+  turns_and_holds : (record_at q).holds ≡ true → Turns p q → ⊥
   turns_and_holds is t = true≢false (sym is ∙ ap (λ (m : Sat). m.0.holds) t.at.2)
 
-  turns_out_of_range : p.me.0.written ≡ entry 2 3 8 [] [] ∷ [] → Turns p q → ⊥
+  turns_out_of_range : (record_at p).written ≡ entry 2 3 8 [] [] ∷ [] → Turns p q → ⊥
   turns_out_of_range is t =
       let low : Each (λ (e : Entry). e.handle < 2) ([] ++ entry 2 3 8 [] [] ∷ []) =
       subst (λ (es : List Entry). Each (λ (e : Entry). e.handle < 2) ([] ++ es)) is
-      (subst (λ (es : List Entry). Each (λ (e : Entry). e.handle < 2) (es ++ p.me.0.written)) t.wrote
-      t.below) in
+      (subst (λ (es : List Entry). Each (λ (e : Entry). e.handle < 2) (es ++ (record_at p).written))
+      t.wrote t.below) in
       let below = low.0 in omega (arith, below)
 
   -- two turns, a freed entry of an object out of range, and a pin of a job that is no read
-  turns_twice : (a b : Turn) → p.me.0.turns ≡ [] → q.me.0.turns ≡ a ∷ b ∷ [] → Turns p q → ⊥
+  turns_twice : (a b : Turn) → (record_at p).turns ≡ [] → (record_at q).turns ≡ a ∷ b ∷ []
+      → Turns p q → ⊥
   turns_twice a b none is t = eqb-false 2 1 refl (ap length (sym is) ∙ ap (λ (m : Sat). length m.0.turns) t.at.2
-      ∙ ap (λ (ts : List Turn). suc (length ts)) (ap (λ (ts : List Turn). ts ++ (acted t.events p.me.0).turns)
-      t.quiet.1 ∙ acts_keep (λ v. v.turns) (λ e v. refl) t.events p.me.0 ∙ none))
+      ∙ ap (λ (ts : List Turn). suc (length ts))
+      (ap (λ (ts : List Turn). ts ++ (acted t.events (record_at p)).turns)
+      t.quiet.1 ∙ acts_keep (λ v. v.turns) (λ e v. refl) t.events (record_at p) ∙ none))
 
-  turns_and_reads : p.me.0.seen ≡ [] → q.me.0.seen ≡ freed_seen 2 4 ∷ [] → Turns p q → ⊥
+  turns_and_reads : (record_at p).seen ≡ [] → (record_at q).seen ≡ freed_seen 2 4 ∷ []
+      → Turns p q → ⊥
   turns_and_reads none is t =
       let e : 2 ≡ first_read (t.within.seen ++ []) = ap first_read (sym is ∙ ap (λ (m : Sat). m.0.seen) t.at.2
       ∙ ap (λ (ss : List Seen). t.within.seen ++ ss)
-      (acts_keep (λ v. v.seen) (λ e v. refl) t.events p.me.0 ∙ none)) in
+      (acts_keep (λ v. v.seen) (λ e v. refl) t.events (record_at p) ∙ none)) in
       let low = in_range t.within.seen t.range in omega (arith, e, low)
 
-  turns_and_pins : p.me.0.ever ≡ 0 → q.me.0.ever ≡ 1 → Turns p q → ⊥
+  turns_and_pins : (record_at p).ever ≡ 0 → (record_at q).ever ≡ 1 → Turns p q → ⊥
   turns_and_pins none is t =
-      let e : 1 ≡ (acted t.events p.me.0).ever + t.within.ever =
+      let e : 1 ≡ (acted t.events (record_at p)).ever + t.within.ever =
       sym is ∙ ap (λ (m : Sat). m.0.ever) t.at.2 in
-      let f = acts_keep (λ v. v.ever) (λ e v. refl) t.events p.me.0 in
-      let g = ap (λ d. d.ever) (t.reads p.me.0 (refl, refl, refl, refl, refl)) in
+      let f = acts_keep (λ v. v.ever) (λ e v. refl) t.events (record_at p) in
+      let g = ap (λ d. d.ever) (t.reads (record_at p) (refl, refl, refl, refl, refl)) in
       omega (arith, e, f, g, none)
 
-  turns_to_an_old_version : p.me.0.written ≡ made ∷ []
+  turns_to_an_old_version : (record_at p).written ≡ made ∷ []
       → TurnWith two (job.Free record { n = 1 }) (Ok (answer.Version 3)) (far 1) p q → ⊥
   turns_to_an_old_version is t =
-      not_new p.me.0 is (subst (λ (l : List Entry). AreNew l p.me.0) t.wrote.1 t.new).0
+      not_new (record_at p) is
+      (subst (λ (l : List Entry). AreNew l (record_at p)) t.wrote.1 t.new).0
 
-  turns_a_pinned_one : p.me.0.pins ≡ a_stand ∷ []
+  turns_a_pinned_one : (record_at p).pins ≡ a_stand ∷ []
       → TurnWith two (job.Free record { n = 1 }) (Ok (answer.Version 4)) (far 1) p q → ⊥
   turns_a_pinned_one is t = eqb-false 1 0 refl (sym (ap (times (pins_it 1)) is) ∙ t.pins)
 
   turns_to_another_end : TurnWith two job.Evict (Ok answer.Done) (far last) p q → ⊥
   turns_to_another_end t = not_done _ _ _ t.did
 
-  turns_uncounted : first_gave q.me.0.turns ≡ far 3 → Turns p q → ⊥
+  turns_uncounted : first_gave (record_at q).turns ≡ far 3 → Turns p q → ⊥
   turns_uncounted is t = not_next (subst (λ (f : FarState). IsOneTurnOn (far last) f)
       (sym (ap (λ (m : Sat). first_gave m.0.turns) t.at.2) ∙ is) t.next)
 
-  turns_and_writes : p.me.0.written ≡ [] → q.me.0.written ≡ made ∷ [] → Turns p q → ⊥
+  turns_and_writes : (record_at p).written ≡ [] → (record_at q).written ≡ made ∷ [] → Turns p q → ⊥
   turns_and_writes none is t = eqb-false 1 0 refl (ap length (sym is ∙ ap (λ (m : Sat). m.0.written) t.at.2
-      ∙ ap (λ (es : List Entry). es ++ (t.within.written ++ (acted t.events p.me.0).written)) (t.fresh ∙ t.wrote)
-      ∙ ap (λ (es : List Entry). es ++ (acted t.events p.me.0).written) t.quiet.0
-      ∙ acts_keep (λ v. v.written) (λ e v. refl) t.events p.me.0 ∙ none))
+      ∙ ap (λ (es : List Entry). es ++ (t.within.written ++ (acted t.events (record_at p)).written))
+      (t.fresh ∙ t.wrote)
+      ∙ ap (λ (es : List Entry). es ++ (acted t.events (record_at p)).written) t.quiet.0
+      ∙ acts_keep (λ v. v.written) (λ e v. refl) t.events (record_at p) ∙ none))

@@ -18,13 +18,13 @@ use Rattle.cb_shared.specs.declared.setup.Setup.{Setup}
 use Rattle.cb_shared.specs.Claims.{with_only}
 use Rattle.cb_shared.specs.Glances.{Glances}
 use Rattle.cb_shared.specs.Passes.{IsAtRest}
-use Rattle.cb_shared.specs.Seats.{IsOf, SeatAt, Moves}
+use Rattle.cb_shared.specs.Seats.{IsOf, SeatAt, Moves, record_at}
 use Rattle.cb_shared.specs.Writing.{IsRoomFor, IsWriteRefusal, WriteAt, WriteClaimed, WriteGives}
 use Rattle.cb_shared.specs.Writing.{last_seen}
 use Rattle.cb_shared.proofs.Resting.{far_empty, here_empty, moving_empty, view_of}
 
 pub of_moves : (z : TableId) (k : Setup) (c : Config) (p q : SeatAt) (w : View) → IsOf z k c p
-    → Moves p q w → w.config ≡ p.me.0.config → w.share ≡ p.me.0.share → IsOf z k c q
+    → Moves p q w → w.config ≡ (record_at p).config → w.share ≡ (record_at p).share → IsOf z k c q
 of_moves z k c p q w o m config share = record {
   table = m.0 ∙ o.table;
   words = o.words;
@@ -37,10 +37,10 @@ of_moves z k c p q w o m config share = record {
 pub record IsAfter (c : Config) (h word at : ℕ) (bytes : List ℕ) (a : WriteAnswer) (p q : SeatAt)
     : Type 0 where
   pub table : (q.table_id ≡ p.table_id) × (q.me.1 ≡ p.me.1)
-  pub share : q.me.0.share ≡ p.me.0.share
-  pub pins : q.me.0.pins ≡ p.me.0.pins
-  pub rest : IsAtRest c q.me.0
-  pub write : WriteAt h word at bytes a p.me.0 q.me.0
+  pub share : (record_at q).share ≡ (record_at p).share
+  pub pins : (record_at q).pins ≡ (record_at p).pins
+  pub rest : IsAtRest c (record_at q)
+  pub write : WriteAt h word at bytes a (record_at p) (record_at q)
 
 rest_worn : (c : Config) (h n : ℕ) (s : Seen) (v : View) → IsAtRest c v → s.handle < c.handles
     → IsAtRest c (record (with_look h n v) { claims = []; seen = s ∷ v.seen })
@@ -71,11 +71,11 @@ rest_written c h n e v rest below = record {
 }
 
 pub written_at : (c : Config) (h word at : ℕ) (bytes : List ℕ) (a : WriteAnswer) (p m q : SeatAt)
-    (v : ℕ) (words : List ℕ) → IsAtRest c p.me.0 → h < c.handles → IsNewest h v p.me.0
-    → Moves p m (with_only (held_at h word v words) (with_look h word p.me.0))
+    (v : ℕ) (words : List ℕ) → IsAtRest c (record_at p) → h < c.handles → IsNewest h v (record_at p)
+    → Moves p m (with_only (held_at h word v words) (with_look h word (record_at p)))
     → WriteClaimed h word at bytes v words a m q → IsAfter c h word at bytes a p q
 written_at c h word at bytes (Ok version) p m q v words rest below newest mv x =
-    let u = p.me.0 in let e : Entry = entry h (v + 1) (len_of word) words x.1 in
+    let u = record_at p in let e : Entry = entry h (v + 1) (len_of word) words x.1 in
     let w : View = record (with_look h word u) { claims = []; written = e ∷ u.written } in
     let left : q.me ≡ (let z : Sat = (w, p.me.1) in z) = x.3.2
     ∙ ap (λ (y : Sat).
@@ -99,7 +99,7 @@ written_at c h word at bytes (Ok version) p m q v words rest below newest mv x =
       };
     }
 written_at c h word at bytes Worn p m q v words rest below newest mv x =
-    let u = p.me.0 in let s : Seen = last_seen h word words in
+    let u = record_at p in let s : Seen = last_seen h word words in
     let w : View = record (with_look h word u) { claims = []; seen = s ∷ u.seen } in
     let left : q.me ≡ (let z : Sat = (w, p.me.1) in z) = x.1.2
     ∙ ap (λ (y : Sat).
@@ -125,18 +125,18 @@ written_at c h word at bytes (Raced s f) p m q v words rest below newest mv x = 
 -- a refusal by the word that was found is answered
 pub refused_writes : (h w at : ℕ) (bytes : List ℕ) (a : WriteAnswer) (p q : SeatAt)
     → Glances h w p q
-    → IsWriteRefusal at (length bytes) w a → WriteGives h at bytes a p.me.0 q.me.0
+    → IsWriteRefusal at (length bytes) w a → WriteGives h at bytes a (record_at p) (record_at q)
 refused_writes h w at bytes (Ok n) p q g why = absurd why
 refused_writes h w at bytes Freed p q g why = let f = g.freed why in
-    (w, f.0, why, f.1, view_of p q (with_freed_seen h f.0 w p.me.0) f.2)
+    (w, f.0, why, f.1, view_of p q (with_freed_seen h f.0 w (record_at p)) f.2)
 refused_writes h w at bytes NotHere p q g why =
-    (w, why, view_of p q (with_look h w p.me.0) (g.other (λ e. far_empty (sym why ∙ e))))
+    (w, why, view_of p q (with_look h w (record_at p)) (g.other (λ e. far_empty (sym why ∙ e))))
 refused_writes h w at bytes Moving p q g why =
-    (w, why, view_of p q (with_look h w p.me.0) (g.other (λ e. moving_empty (sym why ∙ e))))
+    (w, why, view_of p q (with_look h w (record_at p)) (g.other (λ e. moving_empty (sym why ∙ e))))
 refused_writes h w at bytes (Range len) p q g why = (
   w,
-  (why, λ alone. subst (λ (n : ℕ). HasLast h n p.me.0) why.1 (g.held why.0 alone)),
-  view_of p q (with_look h w p.me.0) (g.other (λ e. here_empty (sym why.0 ∙ e))),
+  (why, λ alone. subst (λ (n : ℕ). HasLast h n (record_at p)) why.1 (g.held why.0 alone)),
+  view_of p q (with_look h w (record_at p)) (g.other (λ e. here_empty (sym why.0 ∙ e))),
 )
 refused_writes h w at bytes (Pinned k) p q g why = (
   w,
@@ -150,7 +150,7 @@ refused_writes h w at bytes (Pinned k) p q g why = (
     ),
     g.held why.0.0,
   ),
-  view_of p q (with_look h w p.me.0) (g.other (λ e. here_empty (sym why.0.0 ∙ e))),
+  view_of p q (with_look h w (record_at p)) (g.other (λ e. here_empty (sym why.0.0 ∙ e))),
 )
 refused_writes h w at bytes Worn p q g why = absurd why
 refused_writes h w at bytes (Raced s f) p q g why = absurd why
@@ -158,19 +158,19 @@ refused_writes h w at bytes (Raced s f) p q g why = absurd why
 -- ---- a look at a word that can be claimed, and then the exchange
 module _ (h w at : ℕ) (bytes : List ℕ) (p m q : SeatAt) (g : Glances h w p m)
     (room : IsRoomFor at (length bytes) w) (bare : pins_of w ≡ 0) where
-  saw : m.me.0 ≡ with_look h w p.me.0
-  saw = view_of p m (with_look h w p.me.0) (g.other (λ e. here_empty (sym room.0 ∙ e)))
+  saw : record_at m ≡ with_look h w (record_at p)
+  saw = view_of p m (with_look h w (record_at p)) (g.other (λ e. here_empty (sym room.0 ∙ e)))
 
   -- the word counts the pass's own pins too
-  loose : pins_on h p.me.0 ≡ 0
+  loose : pins_on h (record_at p) ≡ 0
   loose = let few = (g.counted room.0).0 in omega (arith, few, bare)
 
-  newest_before : (n : ℕ) → IsNewest h n m.me.0 → IsNewest h n p.me.0
+  newest_before : (n : ℕ) → IsNewest h n (record_at m) → IsNewest h n (record_at p)
   newest_before n x = let y = subst (IsNewest h n) saw x in
       record { written = y.written; seen = y.seen; lone = y.lone }
 
-  pub claimed_writes : (a : WriteAnswer) → WriteAt h w at bytes a m.me.0 q.me.0
-      → WriteGives h at bytes a p.me.0 q.me.0
+  pub claimed_writes : (a : WriteAnswer) → WriteAt h w at bytes a (record_at m) (record_at q)
+      → WriteGives h at bytes a (record_at p) (record_at q)
   claimed_writes (Ok version) x = record {
     word = w;
     old = x.old;
@@ -199,7 +199,8 @@ module _ (h w at : ℕ) (bytes : List ℕ) (p m q : SeatAt) (g : Glances h w p m
   }
   claimed_writes (Raced seen found) x = (
     (λ e. x.1 (e ∙ x.0)),
-    x.2 ∙ ap (with_look h found) saw ∙ ap (λ (n : ℕ). with_look h found (with_look h n p.me.0)) (sym x.0),
+    x.2 ∙ ap (with_look h found) saw
+        ∙ ap (λ (n : ℕ). with_look h found (with_look h n (record_at p))) (sym x.0),
     ap state_of x.0 ∙ room.0,
   )
   claimed_writes Freed x = absurd x

@@ -8,7 +8,7 @@ use Rattle.cb_types.specs.declared.config.Config.{Config}
 use Rattle.cb_rule.specs.declared.view.Held.{Held}
 use Rattle.cb_rule.specs.declared.view.View.{View}
 use Rattle.cb_rule.specs.Steps.{IsInside, IsNewest, held_at, next_entry, version_seen, with_look}
-use Rattle.cb_shared.specs.Seats.{SeatAt, Moves}
+use Rattle.cb_shared.specs.Seats.{SeatAt, Moves, record_at}
 
 -- the record with this one claim
 abbrev pub with_only : Held → View → View
@@ -17,14 +17,14 @@ with_only x v = record v { claims = x ∷ [] }
 -- The object was claimed at the word that was expected, at its newest version; or another word was
 -- found, and looked at.
 pub record ClaimsHere (c : Config) (h saw w : ℕ) (p q : SeatAt) : Type 0 where
-  pub won : w ≡ saw → (v : ℕ) × (words : List ℕ) × IsNewest h v p.me.0 × IsInside c saw
+  pub won : w ≡ saw → (v : ℕ) × (words : List ℕ) × IsNewest h v (record_at p) × IsInside c saw
       × (saw < 2 ^ 53) × (length words ≡ words_for (len_of saw))
-      × Moves p q (with_only (held_at h saw v words) (with_look h saw p.me.0))
-  pub lost : w ≢ saw → Moves p q (with_look h w p.me.0)
+      × Moves p q (with_only (held_at h saw v words) (with_look h saw (record_at p)))
+  pub lost : w ≢ saw → Moves p q (with_look h w (record_at p))
 
 -- the seat claims this object and no other
 abbrev pub HoldsOnly : Held → ℕ → SeatAt → Type 0
-HoldsOnly x h p = (p.me.0.claims ≡ x ∷ []) × (x.handle ≡ h)
+HoldsOnly x h p = ((record_at p).claims ≡ x ∷ []) × (x.handle ≡ h)
 
 -- no claim is left, and the version that was claimed is read
 abbrev pub back_only : Held → View → View
@@ -58,7 +58,7 @@ pub record IsAsClaimed (x : Held) (w : ℕ) : Type 0 where
 
 -- the claim as it is directly after the exchange at this word
 pub record IsFreshClaim (c : Config) (h w v : ℕ) (words : List ℕ) (p : SeatAt) : Type 0 where
-  pub only : p.me.0.claims ≡ held_at h w v words ∷ []
+  pub only : (record_at p).claims ≡ held_at h w v words ∷ []
   pub lies : IsInside c w
   pub below : w < 2 ^ 53
   pub whole : length words ≡ words_for (len_of w)

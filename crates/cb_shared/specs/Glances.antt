@@ -9,7 +9,7 @@ use Rattle.cb_rule.specs.Lists.{Each}
 use Rattle.cb_rule.specs.Own.{IsAlone}
 use Rattle.cb_rule.specs.Seats.{pins_on}
 use Rattle.cb_rule.specs.Steps.{HasLast, IsInside, IsNewest, with_freed_seen, with_look, with_pin}
-use Rattle.cb_shared.specs.Seats.{SeatAt, Moves}
+use Rattle.cb_shared.specs.Seats.{SeatAt, Moves, record_at}
 
 -- the record wrote the object's last entry, of this length, where no other pass has the object
 abbrev pub IsLastAlone : ℕ → ℕ → View → Type 0
@@ -19,23 +19,24 @@ IsLastAlone h len v = IsAlone h v → HasLast h len v
 -- that is here are counted in its word, and where no other pass has it these are the seat's own,
 -- and the seat wrote its last entry.
 pub record Glances (h w : ℕ) (p q : SeatAt) : Type 0 where
-  pub freed : state_of w ≡ state.Empty → (v : ℕ) × IsNewest h v p.me.0
-      × Moves p q (with_freed_seen h v w p.me.0)
-  pub other : state_of w ≢ state.Empty → Moves p q (with_look h w p.me.0)
-  pub counted : state_of w ≡ state.Here → (pins_on h p.me.0 ≤ pins_of w)
-      × (IsAlone h p.me.0 → pins_of w ≡ pins_on h p.me.0)
-  pub held : state_of w ≡ state.Here → IsLastAlone h (len_of w) p.me.0
+  pub freed : state_of w ≡ state.Empty → (v : ℕ) × IsNewest h v (record_at p)
+      × Moves p q (with_freed_seen h v w (record_at p))
+  pub other : state_of w ≢ state.Empty → Moves p q (with_look h w (record_at p))
+  pub counted : state_of w ≡ state.Here → (pins_on h (record_at p) ≤ pins_of w)
+      × (IsAlone h (record_at p) → pins_of w ≡ pins_on h (record_at p))
+  pub held : state_of w ≡ state.Here → IsLastAlone h (len_of w) (record_at p)
 
 -- A pin was taken at the word that was expected, of the newest version, which is read; or another
 -- word was found, and looked at.
 pub record TakesPinAt (c : Config) (h saw w : ℕ) (p q : SeatAt) : Type 0 where
-  pub won : w ≡ saw → (v : ℕ) × (words : List ℕ) × IsNewest h v p.me.0 × IsInside c saw
-      × Moves p q (with_pin h saw v words p.me.0)
-  pub lost : w ≢ saw → Moves p q (with_look h w p.me.0)
+  pub won : w ≡ saw → (v : ℕ) × (words : List ℕ) × IsNewest h v (record_at p) × IsInside c saw
+      × Moves p q (with_pin h saw v words (record_at p))
+  pub lost : w ≢ saw → Moves p q (with_look h w (record_at p))
 
 -- The version word has the version of each pin of the object, which is at least all that the record
 -- has of it.
 pub record TellsVersion (c : Config) (h n : ℕ) (p q : SeatAt) : Type 0 where
-  pub moves : Moves p q p.me.0
-  pub tells : Each (λ (s : Stand). s.handle ≡ h → n ≡ s.version) p.me.0.pins
-  pub newest : Each (λ (s : Stand). s.handle ≡ h → IsNewest h s.version p.me.0) p.me.0.pins
+  pub moves : Moves p q (record_at p)
+  pub tells : Each (λ (s : Stand). s.handle ≡ h → n ≡ s.version) (record_at p).pins
+  pub newest : Each (λ (s : Stand). s.handle ≡ h → IsNewest h s.version (record_at p))
+      (record_at p).pins

@@ -2,7 +2,7 @@
 use Rattle.std.specs.Prelude.{◌≡◌, ◌≤◌, [], false}
 use Rattle.atomic_table.specs.Seated.{TableId}
 use Rattle.cb_rule.specs.declared.view.View.{View}
-use Rattle.cb_shared.specs.Seats.{SeatAt}
+use Rattle.cb_shared.specs.Seats.{SeatAt, record_at}
 
 -- with no pins
 abbrev pub unpinned_all : View → View
@@ -12,7 +12,7 @@ unpinned_all v = record v { pins = [] }
 pub record IsSpare (z : TableId) (p : SeatAt) : Type 0 where
   pub table : p.table_id ≡ z
   pub carries : p.me.1 ≡ []
-  pub live : 1 ≤ p.me.0.share
-  pub no_pins : p.me.0.pins ≡ []
-  pub no_claims : p.me.0.claims ≡ []
-  pub free : p.me.0.holds ≡ false
+  pub live : 1 ≤ (record_at p).share
+  pub no_pins : (record_at p).pins ≡ []
+  pub no_claims : (record_at p).claims ≡ []
+  pub free : (record_at p).holds ≡ false

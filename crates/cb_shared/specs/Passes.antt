@@ -13,10 +13,11 @@ use Rattle.cb_rule.specs.Steps.{nothing, opener, stand}
 use Rattle.cb_shared.specs.declared.pass.Pass.{Pass}
 use Rattle.cb_shared.specs.declared.pass.Pin.{Pin}
 use Rattle.cb_shared.specs.declared.runtime.Shared.{Shared}
+use Rattle.cb_shared.specs.Seats.{record_at}
 
 -- the record of a pass
 abbrev pub record_of : Pass → View
-record_of p = p.seat.me.0
+record_of p = record_at p.seat
 
 -- the pin as it stands in a record, with the words of its version
 abbrev pub stand_of : Pin → List ℕ → Stand
@@ -53,7 +54,7 @@ pub record IsAtRest (c : Config) (v : View) : Type 0 where
 pub record IsPassOf (s : Shared) (p : Pass) : Type 0 where
   pub accepted : IsAccepted s.config
   pub table : p.seat.table_id ≡ s.board.shared.table_id
-  pub rest : IsAtRest s.config p.seat.me.0
+  pub rest : IsAtRest s.config (record_of p)
 
 -- the runtime and its first pass at the start: makes give the version first, and the far state is
 -- that of the empty world
@@ -61,4 +62,4 @@ pub record IsRuntimeBegun (first : ℕ) (c : Config) (s : Shared) (p : Pass) : T
   pub config : s.config ≡ c
   pub first_is : s.board.shared.key.first ≡ first
   pub of : IsPassOf s p
-  pub begun : p.seat.me.0 ≡ opener c
+  pub begun : record_of p ≡ opener c

@@ -11,7 +11,7 @@ use Rattle.cb_shared.specs.declared.reading.ReadAnswer.{ReadAnswer}
 use Rattle.cb_shared.specs.declared.reading.ReadAnswer.TheVariants.{Bytes, Freed, NotHere, Moving}
 use Rattle.cb_shared.specs.declared.reading.ReadAnswer.TheVariants.{Crowded, Raced}
 use Rattle.cb_record.specs.Parts.{Part, grown, nothing_more}
-use Rattle.cb_shared.specs.Seats.{Moves, SeatAt}
+use Rattle.cb_shared.specs.Seats.{Moves, SeatAt, record_at}
 
 -- one look at the object, and nothing else
 abbrev pub looked : ℕ → ℕ → Part
@@ -84,22 +84,22 @@ with_read h word version words v = record (with_look h word v) {
 -- the object was read at this word
 pub record IsReadAt (h word version : ℕ) (bytes : List ℕ) (p q : SeatAt) : Type 0 where
   pub words : List ℕ
-  pub newest : IsNewest h version p.me.0
+  pub newest : IsNewest h version (record_at p)
   pub bytes_are : bytes ≡ bytes_in words (len_of word)
-  pub left : Moves p q (with_read h word version words p.me.0)
+  pub left : Moves p q (with_read h word version words (record_at p))
 
 -- what the exchange at the word that was seen comes to
 abbrev pub ReadAt : ℕ → ℕ → ReadAnswer → SeatAt → SeatAt → Type 0
 ReadAt h saw (Bytes version bytes) p q = IsReadAt h saw version bytes p q
 ReadAt h saw (Raced seen found) p q =
-    (seen ≡ saw) × (found ≢ saw) × Moves p q (with_look h found p.me.0)
+    (seen ≡ saw) × (found ≢ saw) × Moves p q (with_look h found (record_at p))
 ReadAt h saw _ p q = ⊥
 
 -- the seat has this pin, of an object of so many bytes that lies at this place
 abbrev pub IsUnderPin : Stand → ℕ → ℕ → SeatAt → Type 0
-IsUnderPin s place len p = Has s p.me.0.pins × (s.place ≡ place) × (s.len ≡ len)
+IsUnderPin s place len p = Has s (record_at p).pins × (s.place ≡ place) × (s.len ≡ len)
 
 -- what a read leaves of a seat: its part in front of the record, and no pin more
 abbrev pub ReadMoves : ℕ → ReadAnswer → SeatAt → SeatAt → Type 0
 ReadMoves h answer p q =
-    (d : Part) × Moves p q (grown d p.me.0) × ReadFinds h answer p.me.0 d
+    (d : Part) × Moves p q (grown d (record_at p)) × ReadFinds h answer (record_at p) d

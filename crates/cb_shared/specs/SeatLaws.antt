@@ -21,7 +21,7 @@ use Rattle.cb_rule.specs.Rule.{AreSized}
 use Rattle.cb_rule.specs.Slot.{Sat}
 use Rattle.cb_rule.specs.Steps.{AreNew, FollowsLast, IsNewVersion, TellsPins, act, acted}
 use Rattle.cb_shared.specs.declared.setup.Setup.{Setup}
-use Rattle.cb_shared.specs.Seats.{Moves, SeatAt, HoldsLock, Acts}
+use Rattle.cb_shared.specs.Seats.{Moves, SeatAt, HoldsLock, Acts, record_at}
 
 pub acted_known : (es : List Event) (v : View) → (acted es v).known ≡ played es v.known
 acted_known [] v = refl
@@ -71,12 +71,12 @@ SayPins (e ∷ es) v = SaysPins v e × SayPins es (act e v)
 -- The seat's view has these events more. They agree with what it knew, and what they write is new
 -- to its record. The words that were found tell of its pins.
 abbrev pub Runs : SeatAt → List Event → SeatAt → Type 0
-Runs p es q = Moves p q (acted es p.me.0) × Agree p.me.0.known es
-    × AreNew (written_by es p.me.0.known []) p.me.0 × SayPins es p.me.0
+Runs p es q = Moves p q (acted es (record_at p)) × Agree (record_at p).known es
+    × AreNew (written_by es (record_at p).known []) (record_at p) × SayPins es (record_at p)
 
-pub known_is : (p q : SeatAt) (es : List Event) → Moves p q (acted es p.me.0)
-    → q.me.0.known ≡ played es p.me.0.known
-known_is p q es m = ap (λ (k : Sat). k.0.known) m.2 ∙ acted_known es p.me.0
+pub known_is : (p q : SeatAt) (es : List Event) → Moves p q (acted es (record_at p))
+    → (record_at q).known ≡ played es (record_at p).known
+known_is p q es m = ap (λ (k : Sat). k.0.known) m.2 ∙ acted_known es (record_at p)
 
 written_more : (es : List Event) (s : Shown) (old : List Entry)
     → written_by es s old ≡ written_by es s [] ++ old
@@ -166,10 +166,10 @@ still_unwritten es fs s old none =
     here ∙ sym (nothing_behind (written_by es s []) old (sym (written_more es s old) ∙ here))
 
 -- what a seat wrote that had written nothing in its turn
-pub fresh_new : (p q : SeatAt) (es : List Event) → p.me.0.fresh ≡ [] → Runs p es q
-    → AreNew (acted es p.me.0).fresh p.me.0
-fresh_new p q es none r = subst (λ (l : List Entry). AreNew l p.me.0)
-    (ap (written_by es p.me.0.known) (sym none) ∙ sym (acted_fresh es p.me.0)) r.2
+pub fresh_new : (p q : SeatAt) (es : List Event) → (record_at p).fresh ≡ [] → Runs p es q
+    → AreNew (acted es (record_at p)).fresh (record_at p)
+fresh_new p q es none r = subst (λ (l : List Entry). AreNew l (record_at p))
+    (ap (written_by es (record_at p).known) (sym none) ∙ sym (acted_fresh es (record_at p))) r.2
 
 pub runs_more : (p q r : SeatAt) (es fs : List Event) → Runs p es q → Runs q fs r
     → Runs p (es ++ fs) r
@@ -178,20 +178,23 @@ runs_more p q r es fs a b = let m = a.0 in let n = b.0 in (
     n.0 ∙ m.0,
     n.1 ∙ m.1,
     n.2 ∙ ap (λ (k : Sat). let z : Sat = (acted fs k.0, k.1) in z) m.2
-        ∙ ap (λ (v : View). let z : Sat = (v, p.me.1) in z) (sym (acted_append es fs p.me.0)),
+        ∙ ap (λ (v : View). let z : Sat = (v, p.me.1) in z)
+        (sym (acted_append es fs (record_at p))),
   ),
-  agree_more es fs p.me.0.known a.1
+  agree_more es fs (record_at p).known a.1
       (subst (λ (s : Shown). Agree s fs) (known_is p q es m) b.1),
-  new_more es fs p.me.0 a.2 (subst (λ (s : Shown). AreNew (written_by fs s []) (acted es p.me.0))
+  new_more es fs (record_at p) a.2
+      (subst (λ (s : Shown). AreNew (written_by fs s []) (acted es (record_at p)))
       (known_is p q es m)
-      (subst (λ (v : View). AreNew (written_by fs q.me.0.known []) v) (ap (λ (k : Sat). k.0) m.2)
-      b.2)),
-  say_more es fs p.me.0 a.3
+      (subst (λ (v : View). AreNew (written_by fs (record_at q).known []) v)
+      (ap (λ (k : Sat). k.0) m.2) b.2)),
+  say_more es fs (record_at p) a.3
       (subst (λ (v : View). SayPins fs v) (ap (λ (k : Sat). k.0) m.2) b.3),
 )
 
-pub runs_follows : (p q : SeatAt) (es : List Event) (s : Shown) → Runs p es q → s ≡ p.me.0.known
-    → Agree s es × (played es s ≡ q.me.0.known)
+pub runs_follows : (p q : SeatAt) (es : List Event) (s : Shown) → Runs p es q
+    → s ≡ (record_at p).known
+    → Agree s es × (played es s ≡ (record_at q).known)
 runs_follows p q es s a b = (
   subst (λ (t : Shown). Agree t es) (sym b) a.1,
   ap (played es) b ∙ sym (known_is p q es a.0),
@@ -246,5 +249,5 @@ holds_still z k c p q e h a = record {
   };
   holds = ap (λ (m : Sat). m.0.holds) a.0.2 ∙ h.holds;
   sized = subst (λ (m : Sat). AreSized c m.0.known) (sym a.0.2)
-      (sized_after c e p.me.0.known h.sized);
+      (sized_after c e (record_at p).known h.sized);
 }

@@ -16,6 +16,10 @@ use Rattle.cb_shared.specs.declared.setup.Setup.{Setup}
 abbrev pub SeatAt : Type 0
 SeatAt = Seat LockSlot View
 
+-- the record of a seat
+abbrev pub record_at : SeatAt → View
+record_at p = p.me.0
+
 -- the same seat, with the view w
 abbrev pub Moves : SeatAt → SeatAt → View → Type 0
 Moves p q w = (q.table_id ≡ p.table_id) × (q.id ≡ p.id) × (q.me ≡ (w, p.me.1))
@@ -25,15 +29,15 @@ pub record IsOf (z : TableId) (k : Setup) (c : Config) (p : SeatAt) : Type 0 whe
   pub table : p.table_id ≡ z
   pub words : z.words ≡ base c + 512 * c.frames
   pub key : k.config ≡ c
-  pub config : p.me.0.config ≡ c
-  pub live : 1 ≤ p.me.0.share
+  pub config : (record_at p).config ≡ c
+  pub live : 1 ≤ (record_at p).share
 
 -- and holds the far lock
 pub record HoldsLock (z : TableId) (k : Setup) (c : Config) (p : SeatAt) : Type 0 where
   pub of : IsOf z k c p
-  pub holds : p.me.0.holds ≡ true
-  pub sized : AreSized c p.me.0.known
+  pub holds : (record_at p).holds ≡ true
+  pub sized : AreSized c (record_at p).known
 
 -- the seat's view has the event, which agrees with what it knew
 abbrev pub Acts : SeatAt → Event → SeatAt → Type 0
-Acts p e q = Moves p q (act e p.me.0) × Agrees p.me.0.known e
+Acts p e q = Moves p q (act e (record_at p)) × Agrees (record_at p).known e

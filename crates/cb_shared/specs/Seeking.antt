@@ -13,16 +13,17 @@ use Rattle.cb_rule.specs.declared.view.View.{View}
 use Rattle.cb_rule.specs.Steps.{IsNewest, Knows, with_freed_seen, with_look}
 use Rattle.cb_record.specs.Parts.{Part, Grows, grown, nothing_more}
 use Rattle.cb_shared.specs.declared.reading.ReadAnswer.TheVariants as found
-use Rattle.cb_shared.specs.Seats.{Moves, SeatAt}
+use Rattle.cb_shared.specs.Seats.{Moves, SeatAt, record_at}
 use Rattle.cb_shared.specs.Turning.{AreLooksAt, FindsAtLast, TurnBy}
 use Rattle.cb_shared.specs.UnderLock.{IsQuiet, ReadsBelow}
 
 -- The look is added to the record. Where it finds the object freed, and the record knows the
 -- object, its freed entry is read.
 pub record GlancesAny (h w : ℕ) (p q : SeatAt) : Type 0 where
-  pub freed : state_of w ≡ state.Empty → Knows h p.me.0 → (v : ℕ) × IsNewest h v p.me.0
-      × Moves p q (with_freed_seen h v w p.me.0)
-  pub other : (state_of w ≡ state.Empty → Knows h p.me.0 → ⊥) → Moves p q (with_look h w p.me.0)
+  pub freed : state_of w ≡ state.Empty → Knows h (record_at p)
+      → (v : ℕ) × IsNewest h v (record_at p) × Moves p q (with_freed_seen h v w (record_at p))
+  pub other : (state_of w ≡ state.Empty → Knows h (record_at p) → ⊥)
+      → Moves p q (with_look h w (record_at p))
 
 -- the object of a swap-in that was answered Freed
 abbrev pub swapped_of : Job → Result Reply NoMemory → Option ℕ
@@ -37,8 +38,8 @@ FindsKnown None v d = d ≡ nothing_more
 
 -- so a seat does
 abbrev pub KnownMoves : Config → Option ℕ → SeatAt → SeatAt → Type 0
-KnownMoves c freed p q = (d : Part) × Moves p q (grown d p.me.0) × IsQuiet d × ReadsBelow c d
-    × FindsKnown freed p.me.0 d
+KnownMoves c freed p q = (d : Part) × Moves p q (grown d (record_at p)) × IsQuiet d × ReadsBelow c d
+    × FindsKnown freed (record_at p) d
 
 -- a turn, and behind a swap-in that was answered Freed such looks
 abbrev pub TurnFinds : Config → Job → Result Reply NoMemory → View → View → Type 0

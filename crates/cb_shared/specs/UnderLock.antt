@@ -33,7 +33,7 @@ use Rattle.cb_shared.specs.declared.reading.ReadAnswer.{ReadAnswer}
 use Rattle.cb_shared.specs.declared.reading.ReadAnswer.TheVariants as found
 use Rattle.cb_record.specs.Parts.{Part, grown, nothing_more}
 use Rattle.cb_shared.specs.SeatLaws.{Runs}
-use Rattle.cb_shared.specs.Seats.{Moves, SeatAt}
+use Rattle.cb_shared.specs.Seats.{Moves, SeatAt, record_at}
 use Rattle.cb_shared.specs.Turning.{CountsPins, Did, DidAs, FindsAtLast, FindsFreedAfter, JobReads}
 use Rattle.cb_shared.specs.Turning.{NotesWritten, Tries, answer_of, held_by, made_by_turn}
 use Rattle.cb_shared.specs.Turning.{slate_run, slate_shows, turn_part, with_own}
@@ -51,10 +51,10 @@ TakesLock word p q = (q.table_id ≡ p.table_id) × (q.id ≡ p.id) × HasTaken 
 pub record TakesFar (c : Config) (far : FarState) (p q : SeatAt) : Type 0 where
   pub known : Shown
   pub entries : ℕ
-  pub at : IsAt p q (took_lock known far entries p.me.0) ((0, None) ∷ p.me.1)
+  pub at : IsAt p q (took_lock known far entries (record_at p)) ((0, None) ∷ p.me.1)
   pub sized : AreSized c known
   pub stood : Stood c known far
-  pub made : (h : ℕ) → Knows h p.me.0 → h < far.made
+  pub made : (h : ℕ) → Knows h (record_at p) → h < far.made
 
 -- The seat holds the lock, has its slot in hand, and has done nothing in its turn yet. What it
 -- knows is sound for the far state that it took.
@@ -74,11 +74,11 @@ pub record TurnAtSeat (c : Config) (job : Job) (r : Result Reply NoMemory) (took
   pub events : List Event
   pub more : List Entry
   pub runs : Runs p events q
-  pub did : DidAs c job (answer_of r) p.me.0.known events took gave
+  pub did : DidAs c job (answer_of r) (record_at p).known events took gave
   pub next : IsOneTurnOn took gave
   pub wrote : OutcomeWrites job r more
-  pub fresh : q.me.0.fresh ≡ more
-  pub stood : Stood c q.me.0.known gave
+  pub fresh : (record_at q).fresh ≡ more
+  pub stood : Stood c (record_at q).known gave
 
 -- what the first part of a read did
 abbrev pub BroughtForRead : Config → Handle → Result Reply NoMemory → Shown → List Event → FarState
@@ -93,10 +93,10 @@ pub record BringAt (c : Config) (handle : Handle) (r : Result Reply NoMemory) (t
     (p q : SeatAt) : Type 0 where
   pub events : List Event
   pub runs : Runs p events q
-  pub brought : BroughtForRead c handle r p.me.0.known events took gave
+  pub brought : BroughtForRead c handle r (record_at p).known events took gave
   pub next : IsOneTurnOn took gave
-  pub fresh : q.me.0.fresh ≡ []
-  pub stood : Stood c q.me.0.known gave
+  pub fresh : (record_at q).fresh ≡ []
+  pub stood : Stood c (record_at q).known gave
 
 -- the part has neither entries that were written nor turns
 abbrev pub IsQuiet : Part → Type 0
@@ -118,18 +118,18 @@ pub record WorkBy (c : Config) (job : Job) (r : Result Reply NoMemory) (took gav
   pub events : List Event
   pub more : List Entry
   pub within : Part
-  pub agree : Agree p.me.0.known events
-  pub moves : Moves p q (grown within (acted events p.me.0))
+  pub agree : Agree (record_at p).known events
+  pub moves : Moves p q (grown within (acted events (record_at p)))
   pub quiet : IsQuiet within
   pub range : ReadsBelow c within
-  pub reads : (u : View) → HasSame u p.me.0 → JobReads job events r u within
-  pub did : DidAs c job (answer_of r) p.me.0.known events took gave
+  pub reads : (u : View) → HasSame u (record_at p) → JobReads job events r u within
+  pub did : DidAs c job (answer_of r) (record_at p).known events took gave
   pub next : IsOneTurnOn took gave
   pub wrote : OutcomeWrites job r more
-  pub fresh : (acted events p.me.0).fresh ≡ more
-  pub new : AreNew more p.me.0
-  pub pins : CountsPins job r p.me.0
-  pub stood : Stood c (played events p.me.0.known) gave
+  pub fresh : (acted events (record_at p)).fresh ≡ more
+  pub new : AreNew more (record_at p)
+  pub pins : CountsPins job r (record_at p)
+  pub stood : Stood c (played events (record_at p).known) gave
 
 -- any job but Read
 abbrev pub IsNoRead : Job → Type 0
@@ -138,8 +138,8 @@ IsNoRead job = Unit {0}
 
 -- they are so on a seat
 abbrev pub TriesOn : Config → ℕ → Result Reply NoMemory → SeatAt → SeatAt → Type 0
-TriesOn c h r p q = (d : Part) × Moves p q (grown d p.me.0) × IsQuiet d × ReadsBelow c d
-    × ((u : View) → HasSame u p.me.0 → Tries h r u d)
+TriesOn c h r p q = (d : Part) × Moves p q (grown d (record_at p)) × IsQuiet d × ReadsBelow c d
+    × ((u : View) → HasSame u (record_at p) → Tries h r u d)
 
 -- the object is here by the answer of the first part of a read
 abbrev pub CameThere : Result Reply NoMemory → Type 0
@@ -168,12 +168,12 @@ IsBelow c None = Unit {0}
 
 -- a seat looked for the freed entry of an object, and of one if there is one
 abbrev pub LooksFor : Config → ℕ → SeatAt → SeatAt → Type 0
-LooksFor c h p q = (d : Part) × Moves p q (grown d p.me.0) × IsQuiet d × ReadsBelow c d
-    × FindsAtLast h found.Freed p.me.0 d
+LooksFor c h p q = (d : Part) × Moves p q (grown d (record_at p)) × IsQuiet d × ReadsBelow c d
+    × FindsAtLast h found.Freed (record_at p) d
 
 abbrev pub FreedMoves : Config → Option ℕ → SeatAt → SeatAt → Type 0
-FreedMoves c freed p q = (d : Part) × Moves p q (grown d p.me.0) × IsQuiet d × ReadsBelow c d
-    × FindsFreedAfter freed p.me.0 d
+FreedMoves c freed p q = (d : Part) × Moves p q (grown d (record_at p)) × IsQuiet d × ReadsBelow c d
+    × FindsFreedAfter freed (record_at p) d
 
 -- The seat may give the lock back with this far state, whose turn had this job and this reply. The
 -- bytes that it told were read, the version that it told was written, and what it made has the
@@ -192,8 +192,9 @@ pub record IsEnding (c : Config) (job : Job) (r : Option Reply) (far : FarState)
 pub record GivesFar (c : Config) (job : Job) (r : Option Reply) (far : FarState) (p q : SeatAt)
     : Type 0 where
   pub entries : ℕ
-  pub at : IsAt p q (gave_lock job r far entries [] (made_by_turn job r) p.me.0) []
-  pub written : Each (λ (e : Entry). e.handle < c.handles) (p.me.0.fresh ++ p.me.0.written)
+  pub at : IsAt p q (gave_lock job r far entries [] (made_by_turn job r) (record_at p)) []
+  pub written : Each (λ (e : Entry). e.handle < c.handles)
+      ((record_at p).fresh ++ (record_at p).written)
 
 -- A turn of a seat that took the lock, to its end.
 pub record TurnWith (c : Config) (job : Job) (r : Result Reply NoMemory) (took : FarState)
@@ -203,19 +204,19 @@ pub record TurnWith (c : Config) (job : Job) (r : Result Reply NoMemory) (took :
   pub more : List Entry
   pub within : Part
   pub entries : ℕ
-  pub agree : Agree p.me.0.known events
+  pub agree : Agree (record_at p).known events
   pub at : IsAt p q (gave_lock job (answer_of r) gave entries [] (made_by_turn job (answer_of r))
-      (grown within (acted events p.me.0))) []
-  pub below : Each (λ (e : Entry). e.handle < c.handles) (more ++ p.me.0.written)
+      (grown within (acted events (record_at p)))) []
+  pub below : Each (λ (e : Entry). e.handle < c.handles) (more ++ (record_at p).written)
   pub quiet : IsQuiet within
   pub range : ReadsBelow c within
-  pub reads : (u : View) → HasSame u p.me.0 → JobReads job events r u within
-  pub did : DidAs c job (answer_of r) p.me.0.known events took gave
+  pub reads : (u : View) → HasSame u (record_at p) → JobReads job events r u within
+  pub did : DidAs c job (answer_of r) (record_at p).known events took gave
   pub next : IsOneTurnOn took gave
   pub wrote : OutcomeWrites job r more
-  pub fresh : (acted events p.me.0).fresh ≡ more
-  pub new : AreNew more p.me.0
-  pub pins : CountsPins job r p.me.0
+  pub fresh : (acted events (record_at p)).fresh ≡ more
+  pub new : AreNew more (record_at p)
+  pub pins : CountsPins job r (record_at p)
 
 -- A turn as it stands in the record of its pass, before a freed entry is looked for.
 pub record TurnedBy (c : Config) (job : Job) (r : Result Reply NoMemory) (v w : View) : Type 0 where

@@ -14,7 +14,7 @@ use Rattle.cb_shared.specs.declared.answers.WriteAnswer.TheVariants.{Ok, Freed, 
 use Rattle.cb_shared.specs.declared.answers.WriteAnswer.TheVariants.{Range, Pinned, Worn, Raced}
 use Rattle.cb_shared.specs.Glances.{IsLastAlone}
 use Rattle.cb_shared.specs.Pinning.{LooksOnce, FindsFreed, LoosesRace}
-use Rattle.cb_shared.specs.Seats.{SeatAt, Moves}
+use Rattle.cb_shared.specs.Seats.{SeatAt, Moves, record_at}
 
 -- the word is that of an object that is here, and that so many bytes from the byte number `at` on
 -- lie in
@@ -117,13 +117,13 @@ WriteAt h saw at bytes _ v w = ⊥
 -- and what the write comes to of an object that is claimed at this version, with these words
 abbrev pub WriteClaimed : ℕ → ℕ → ℕ → List ℕ → ℕ → List ℕ → WriteAnswer → SeatAt → SeatAt → Type 0
 WriteClaimed h word at bytes v words (Ok version) p q = (version ≡ v + 1) × (new : List ℕ)
-    × IsWrite words at bytes new × Moves p q (record p.me.0 {
+    × IsWrite words at bytes new × Moves p q (record (record_at p) {
       claims = [];
-      written = entry h (v + 1) (len_of word) words new ∷ p.me.0.written;
+      written = entry h (v + 1) (len_of word) words new ∷ (record_at p).written;
     })
 WriteClaimed h word at bytes v words Worn p q =
-    (v ≡ 2 ^ 64 - 1) × Moves p q (record p.me.0 {
+    (v ≡ 2 ^ 64 - 1) × Moves p q (record (record_at p) {
       claims = [];
-      seen = last_seen h word words ∷ p.me.0.seen;
+      seen = last_seen h word words ∷ (record_at p).seen;
     })
 WriteClaimed h word at bytes v words _ p q = ⊥

@@ -15,7 +15,7 @@ ghost use Rattle.cb_record.specs.Parts.{Part, Grows};
 ghost use Rattle.cb_shared.specs.Fetching.{AreFetches, AreFetchesTo, GetsTurns, IsOneMore, IsOneOf};
 ghost use Rattle.cb_shared.specs.Fetching.{job_to_fetch};
 ghost use Rattle.cb_shared.specs.Making.{MakesNew, TriesNew};
-ghost use Rattle.cb_shared.specs.Passes.{IsPassOf};
+ghost use Rattle.cb_shared.specs.Passes.{IsPassOf, record_of};
 ghost use Rattle.cb_shared.specs.Reading.{ReadFinds, looked};
 ghost use Rattle.cb_shared.specs.Turning.{KnowsOf, answer_of};
 ghost use Rattle.cb_ptr.specs.declared.word.State.TheVariants as state;
@@ -51,13 +51,13 @@ impl Shared {
         h: Handle,
     ) -> Result<Reply, NoMemory>
         requires of { IsPassOf self.now pass.old }
-        requires knows { Knows h.n pass.old.seat.me.0 }
+        requires knows { Knows h.n (record_of pass.old) }
         ensures of { IsPassOf self.now pass.new }
         ensures read { IfOk result (λ reply. ReadGives self.now.config h.n reply
-            pass.old.seat.me.0 pass.new.seat.me.0) }
-        ensures error { OnErr result (ReadStops self.now.config h.n pass.old.seat.me.0
-            pass.new.seat.me.0) }
-        ensures jobs { GetsTurns (AreFetches h.n false) pass.old.seat.me.0 pass.new.seat.me.0 }
+            (record_of pass.old) (record_of pass.new)) }
+        ensures error { OnErr result (ReadStops self.now.config h.n (record_of pass.old)
+            (record_of pass.new)) }
+        ensures jobs { GetsTurns (AreFetches h.n false) (record_of pass.old) (record_of pass.new) }
     {
         let mut patience = Patience::new();
         for _ in rt.forever() {
@@ -85,12 +85,12 @@ impl Shared {
         bytes: &[u8],
     ) -> Result<Reply, NoMemory>
         requires of { IsPassOf self.now pass.old }
-        requires knows { Knows h.n pass.old.seat.me.0 }
+        requires knows { Knows h.n (record_of pass.old) }
         ensures of { IsPassOf self.now pass.new }
         ensures write { IfOk result (λ reply. WriteAnswers self.now.config h.n at bytes.now reply
-            pass.old.seat.me.0 pass.new.seat.me.0) }
+            (record_of pass.old) (record_of pass.new)) }
         ensures error { OnErr result (WriteStops self.now.config h.n at bytes.now
-            pass.old.seat.me.0 pass.new.seat.me.0) }
+            (record_of pass.old) (record_of pass.new)) }
     {
         let mut patience = Patience::new();
         for _ in rt.forever() {
@@ -116,11 +116,11 @@ impl Shared {
         requires size { (1 ≤ length bytes.now) × (length bytes.now ≤ most_bytes) }
         ensures of { IsPassOf self.now pass.new }
         ensures make { IfOk result (λ reply. TurnGives self.now.config (jobs.Make bytes.now) reply
-            pass.old.seat.me.0 pass.new.seat.me.0) }
+            (record_of pass.old) (record_of pass.new)) }
         ensures new { IfOk result (λ reply. MakesNew self.now.board.shared.key.first
-            (jobs.Make bytes.now) reply pass.old.seat.me.0) }
+            (jobs.Make bytes.now) reply (record_of pass.old)) }
         ensures error { OnErr result (TurnStops self.now.config (jobs.Make bytes.now)
-            pass.old.seat.me.0 pass.new.seat.me.0) }
+            (record_of pass.old) (record_of pass.new)) }
     {
         let job = Job::Make {
             bytes: Bytes::copy_of(alloc, bytes)?,
@@ -140,12 +140,12 @@ impl Shared {
         h: Handle,
     ) -> Result<Reply, NoMemory>
         requires of { IsPassOf self.now pass.old }
-        requires knows { Knows h.n pass.old.seat.me.0 }
+        requires knows { Knows h.n (record_of pass.old) }
         ensures of { IsPassOf self.now pass.new }
         ensures free { IfOk result (λ reply. TurnGives self.now.config (jobs.Free h) reply
-            pass.old.seat.me.0 pass.new.seat.me.0) }
-        ensures error { OnErr result (TurnStops self.now.config (jobs.Free h) pass.old.seat.me.0
-            pass.new.seat.me.0) }
+            (record_of pass.old) (record_of pass.new)) }
+        ensures error { OnErr result (TurnStops self.now.config (jobs.Free h) (record_of pass.old)
+            (record_of pass.new)) }
     {
         self.turn_until(rt, alloc, pass, &Job::Free { handle: h })
     }
@@ -172,15 +172,15 @@ impl Shared {
     ) -> Result<Reply, NoMemory>
         requires of { IsPassOf self.now pass.old }
         requires job { IsJob self.now.config job.now }
-        requires knows { KnowsOf job.now pass.old.seat.me.0 }
+        requires knows { KnowsOf job.now (record_of pass.old) }
         requires called { IsCalled job.now }
         ensures of { IsPassOf self.now pass.new }
         ensures turn { IfOk result (λ reply. TurnGives self.now.config job.now reply
-            pass.old.seat.me.0 pass.new.seat.me.0) }
+            (record_of pass.old) (record_of pass.new)) }
         ensures new { IfOk result (λ reply. MakesNew self.now.board.shared.key.first job.now reply
-            pass.old.seat.me.0) }
-        ensures error { OnErr result (TurnStops self.now.config job.now pass.old.seat.me.0
-            pass.new.seat.me.0) }
+            (record_of pass.old)) }
+        ensures error { OnErr result (TurnStops self.now.config job.now (record_of pass.old)
+            (record_of pass.new)) }
     {
         let mut patience = Patience::new();
         for _ in rt.forever() {
@@ -203,18 +203,18 @@ impl Shared {
     ) -> Result<Option<Reply>, NoMemory>
         requires of { IsPassOf self.now pass.old }
         requires job { IsJob self.now.config job.now }
-        requires knows { KnowsOf job.now pass.old.seat.me.0 }
+        requires knows { KnowsOf job.now (record_of pass.old) }
         requires called { IsCalled job.now }
         ensures of { IsPassOf self.now pass.new }
-        ensures turn { IfOk result (λ o. TurnTries self.now.config job.now o pass.old.seat.me.0
-            pass.new.seat.me.0) }
+        ensures turn { IfOk result (λ o. TurnTries self.now.config job.now o (record_of pass.old)
+            (record_of pass.new)) }
         ensures new { IfOk result (λ o. TriesNew self.now.board.shared.key.first job.now o
-            pass.old.seat.me.0) }
-        ensures error { OnErr result (TurnStops self.now.config job.now pass.old.seat.me.0
-            pass.new.seat.me.0) }
-        ensures one { GetsTurns (IsOneOf job.now) pass.old.seat.me.0 pass.new.seat.me.0 }
+            (record_of pass.old)) }
+        ensures error { OnErr result (TurnStops self.now.config job.now (record_of pass.old)
+            (record_of pass.new)) }
+        ensures one { GetsTurns (IsOneOf job.now) (record_of pass.old) (record_of pass.new) }
         ensures brought { IfOk result (λ o. o ≡ None → GetsTurns (IsOneMore job.now
-            patience.old.brought patience.new.brought) pass.old.seat.me.0 pass.new.seat.me.0) }
+            patience.old.brought patience.new.brought) (record_of pass.old) (record_of pass.new)) }
     {
         let reply = self.turn_within(rt, alloc, pass, job)?;
         if is_answer(&self.config, job, &reply) {
@@ -236,16 +236,16 @@ impl Shared {
         patience: &mut Patience,
     ) -> Result<Option<Reply>, NoMemory>
         requires of { IsPassOf self.now pass.old }
-        requires knows { Knows h.n pass.old.seat.me.0 }
+        requires knows { Knows h.n (record_of pass.old) }
         ensures of { IsPassOf self.now pass.new }
-        ensures read { IfOk result (λ o. ReadTries self.now.config h.n o pass.old.seat.me.0
-            pass.new.seat.me.0) }
-        ensures error { OnErr result (ReadStops self.now.config h.n pass.old.seat.me.0
-            pass.new.seat.me.0) }
-        ensures jobs { GetsTurns (AreFetches h.n patience.old.brought) pass.old.seat.me.0
-            pass.new.seat.me.0 }
+        ensures read { IfOk result (λ o. ReadTries self.now.config h.n o (record_of pass.old)
+            (record_of pass.new)) }
+        ensures error { OnErr result (ReadStops self.now.config h.n (record_of pass.old)
+            (record_of pass.new)) }
+        ensures jobs { GetsTurns (AreFetches h.n patience.old.brought) (record_of pass.old)
+            (record_of pass.new) }
         ensures brought { IfOk result (λ o. o ≡ None → GetsTurns (AreFetchesTo h.n
-            patience.old.brought patience.new.brought) pass.old.seat.me.0 pass.new.seat.me.0) }
+            patience.old.brought patience.new.brought) (record_of pass.old) (record_of pass.new)) }
     {
         match self.read_beside(alloc, pass, h)? {
             ReadAnswer::Bytes { version, bytes } => Ok(Some(Reply::Bytes { version, bytes })),
@@ -274,12 +274,12 @@ impl Shared {
         patience: &mut Patience,
     ) -> Result<Option<Reply>, NoMemory>
         requires of { IsPassOf self.now pass.old }
-        requires knows { Knows h.n pass.old.seat.me.0 }
+        requires knows { Knows h.n (record_of pass.old) }
         ensures of { IsPassOf self.now pass.new }
         ensures write { IfOk result (λ o. WriteTries self.now.config h.n at bytes.now o
-            pass.old.seat.me.0 pass.new.seat.me.0) }
+            (record_of pass.old) (record_of pass.new)) }
         ensures error { OnErr result (WriteStops self.now.config h.n at bytes.now
-            pass.old.seat.me.0 pass.new.seat.me.0) }
+            (record_of pass.old) (record_of pass.new)) }
     {
         let answer = self.write_here(pass, h, at, bytes);
         if is_away(answer) {
@@ -300,13 +300,13 @@ impl Shared {
     /// One read under a pin beside those of the pass.
     fn read_beside(&self, alloc: Global, pass: &mut Pass, h: Handle) -> Result<ReadAnswer, NoMemory>
         requires of { IsPassOf self.now pass.old }
-        requires knows { Knows h.n pass.old.seat.me.0 }
+        requires knows { Knows h.n (record_of pass.old) }
         ensures of { IsPassOf self.now pass.new }
         ensures read { IfOk result (λ answer. (d : Part)
-            × Grows pass.old.seat.me.0 d pass.new.seat.me.0
-            × ReadFinds h.n answer pass.old.seat.me.0 d) }
+            × Grows (record_of pass.old) d (record_of pass.new)
+            × ReadFinds h.n answer (record_of pass.old) d) }
         ensures error { OnErr result ((word : ℕ) × (state_of word ≡ state.Here)
-            × Grows pass.old.seat.me.0 (looked h.n word) pass.new.seat.me.0) }
+            × Grows (record_of pass.old) (looked h.n word) (record_of pass.new)) }
     {
         count_pins(&pass.pins);
         read_pinned(&self.board.shared, &mut pass.seat, &self.config, alloc, h.n)

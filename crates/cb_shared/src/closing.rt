@@ -4,7 +4,7 @@ ghost use Rattle.cb_types.specs.Config.{IsAccepted};
 ghost use Rattle.cb_world.specs.Empty.{empty_words};
 ghost use Rattle.cb_world.specs.Seats.{idle_seat};
 ghost use Rattle.cb_shared.specs.Closing.{IsClosedBy, RefusesToClose};
-ghost use Rattle.cb_shared.specs.Passes.{IsPassOf};
+ghost use Rattle.cb_shared.specs.Passes.{IsPassOf, record_of};
 
 use crate::filling::{fill_memory, fill_objects, take_far};
 use crate::pass::Pass;
@@ -71,7 +71,7 @@ fn still_world(alloc: Global, config: Config) -> Result<Still, NoMemory>
 /// back.
 fn close_whole(shared: Shared, pass: Pass, still: Still) -> (World, Seal)
     requires of { IsPassOf shared pass }
-    requires whole { pass.seat.me.0.share ≡ 64 }
+    requires whole { (record_of pass).share ≡ 64 }
     requires desk { still.desk ≡ empty_words shared.config }
     requires seats { still.seats ≡ replicate 64 idle_seat }
     ensures { IsClosedBy shared pass result.0 result.1 }

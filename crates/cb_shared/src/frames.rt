@@ -3,7 +3,7 @@ ghost use Rattle.std.specs.Prelude.{◌≡◌, ◌+◌, ◌*◌, ◌^◌, ◌<�
 ghost use Rattle.cb_world.specs.FrameWords.{OwnsWords, loads_from, stores_from};
 ghost use Rattle.cb_world.specs.RowWords.{words_in};
 ghost use Rattle.cb_shared.specs.SeatLaws.{Runs};
-ghost use Rattle.cb_shared.specs.Seats.{HoldsLock};
+ghost use Rattle.cb_shared.specs.Seats.{HoldsLock, record_at};
 
 use crate::board::{SeatAt, Top};
 use crate::plays::{Load, Store};
@@ -40,7 +40,7 @@ pub(crate) fn store_row(top: &Top, seat: &mut SeatAt, config: &Config, frame: u3
     requires holds { HoldsLock top.now.table_id top.now.key config.now seat.old }
     requires frame { frame < config.now.frames }
     requires row { length row.now ≡ 4096 }
-    requires owned { OwnsWords seat.old.me.0.known frame }
+    requires owned { OwnsWords (record_at seat.old).known frame }
     ensures ran { Runs seat.old (stores_from (512 * frame) (words_in row.now)) seat.new }
     ensures still { HoldsLock top.now.table_id top.now.key config.now seat.new }
 {

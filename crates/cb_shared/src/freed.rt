@@ -1,6 +1,6 @@
 //! The freed entry of an object, after a turn that was answered Freed.
 ghost use Rattle.std.specs.Prelude.{◌≡◌};
-ghost use Rattle.cb_shared.specs.Seats.{IsOf};
+ghost use Rattle.cb_shared.specs.Seats.{IsOf, record_at};
 ghost use Rattle.cb_shared.specs.Seeking.{KnownMoves, swapped_of};
 ghost use Rattle.cb_shared.specs.Turning.{KnowsIt, freed_of};
 ghost use Rattle.cb_shared.specs.UnderLock.{FreedMoves, IsBelow};
@@ -37,7 +37,7 @@ pub(crate) fn find_freed<R: Wait>(
 )
     requires of { IsOf top.now.table_id top.now.key config.now seat.old }
     requires handle { IsBelow config.now freed }
-    requires knows { KnowsIt freed seat.old.me.0 }
+    requires knows { KnowsIt freed (record_at seat.old) }
     ensures { FreedMoves config.now freed seat.old seat.new }
 {
     let Some(h) = freed else {

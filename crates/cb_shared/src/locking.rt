@@ -1,7 +1,7 @@
 //! The far lock: it is taken with the far state, and given back with it.
 ghost use Rattle.std.specs.Prelude.{◌≡◌, ◌%◌, ◌^◌, ◌<◌, [], ◌∷◌, Some, None};
 ghost use Rattle.cb_world.specs.FarState.{FarState};
-ghost use Rattle.cb_shared.specs.Seats.{IsOf, Moves};
+ghost use Rattle.cb_shared.specs.Seats.{IsOf, Moves, record_at};
 ghost use Rattle.cb_shared.specs.Turning.{answer_of};
 ghost use Rattle.cb_shared.specs.UnderLock.{GivesFar, IsEnding, TakesFar};
 
@@ -21,7 +21,7 @@ const SPINS: u32 = 100;
 pub(crate) fn lock_far<R: Wait>(rt: &R, top: &Top, seat: &mut SeatAt, config: &Config) -> BoxedFar
     requires of { IsOf top.now.table_id top.now.key config.now seat.old }
     ensures took { TakesFar config.now result seat.old seat.new }
-    ensures first { seat.new.me.0.known.first ≡ top.now.key.first }
+    ensures first { (record_at seat.new).known.first ≡ top.now.key.first }
 {
     for _ in rt.forever() {
         let word = await_free(rt, top);
@@ -69,8 +69,8 @@ fn take_far<W: Opening>(
     ensures took { (far : FarState) → result ≡ Some far
         → TakesFar config.now far seat.old seat.new }
     ensures first { (far : FarState) → result ≡ Some far
-        → seat.new.me.0.known.first ≡ top.now.key.first }
-    ensures lost { result ≡ None → Moves seat.old seat.new seat.old.me.0 }
+        → (record_at seat.new).known.first ≡ top.now.key.first }
+    ensures lost { result ≡ None → Moves seat.old seat.new (record_at seat.old) }
 {
     let _config = config;
     let found = top.compare_exchange::<TakeLock<W>>(seat, 0, word, 1);
@@ -101,7 +101,7 @@ pub(crate) fn give_far<W: Deed>(
     requires picks { (W.job ≡ job.now) × (W.reply ≡ answer_of reply.now) }
     requires slot { seat.old.me.1 ≡ (0, None) ∷ [] }
     requires few { far.counts.turns < 2 ^ 63 }
-    requires ends { IsEnding config.now job.now (answer_of reply.now) far seat.old.me.0 }
+    requires ends { IsEnding config.now job.now (answer_of reply.now) far (record_at seat.old) }
     ensures { GivesFar config.now job.now (answer_of reply.now) far seat.old seat.new }
 {
     let _config = config;

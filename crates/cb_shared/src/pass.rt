@@ -1,6 +1,7 @@
 ghost use Rattle.std.specs.Prelude.{◌≡◌, [], false, unwrap_or};
 ghost use Rattle.crossbeam_utils.specs.Padded.{padded_value};
 ghost use Rattle.cb_shared.specs.Handles.{handles_of};
+ghost use Rattle.cb_shared.specs.Seats.{record_at};
 ghost use Rattle.cb_shared.specs.Trying.{newest_tries, tries_of};
 
 use crate::board::SeatAt;
@@ -63,16 +64,18 @@ pub struct Pass {
     pub(crate) share: u32,
     pub(crate) pins: Pins,
     pub(crate) tries: Option<bool>,
-    ghost shares: { share ≡ seat.me.0.share },
+    ghost shares: { share ≡ (record_at seat).share },
     ghost carries: { seat.me.1 ≡ [] },
-    ghost pinned: { (padded_value pins).items ≡ handles_of seat.me.0.pins },
-    ghost tried: { tries ≡ tries_of seat.me.0 },
+    ghost pinned: { (padded_value pins).items ≡ handles_of (record_at seat).pins },
+    ghost tried: { tries ≡ tries_of (record_at seat) },
 }
 
 impl Pass {
+    ghost use Rattle.cb_shared.specs.Passes.{record_of};
+
     /// The part of the whole, of 64 shares, that the pass has.
     pub fn share(&self) -> u32
-        ensures { result ≡ self.now.seat.me.0.share }
+        ensures { result ≡ (record_of self.now).share }
     {
         self.share
     }
@@ -82,7 +85,7 @@ impl Pass {
     /// the pass has made no turn. Takes no memory and waits for nobody.
     pub fn again(&self) -> bool
         ensures { result ≡ unwrap_or
-            (newest_tries self.now.seat.me.0.config self.now.seat.me.0.turns) false }
+            (newest_tries (record_of self.now).config (record_of self.now).turns) false }
     {
         self.tries.unwrap_or(false)
     }

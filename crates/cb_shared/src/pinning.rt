@@ -9,9 +9,9 @@ ghost use Rattle.cb_rule.specs.Steps.{IsNewest, Knows, with_peek, without_pin};
 ghost use Rattle.cb_shared.specs.declared.answers.PinAnswer.{PinAnswer};
 ghost use Rattle.cb_shared.specs.declared.answers.PinAnswer.TheVariants as answer;
 ghost use Rattle.cb_shared.specs.Handles.{handles_of};
-ghost use Rattle.cb_shared.specs.Passes.{IsAtRest, IsPassOf, IsPinOf, stand_of};
+ghost use Rattle.cb_shared.specs.Passes.{IsAtRest, IsPassOf, IsPinOf, record_of, stand_of};
 ghost use Rattle.cb_shared.specs.Pinning.{IsRefusal, PinAt, PinGives};
-ghost use Rattle.cb_shared.specs.Seats.{IsOf, Moves};
+ghost use Rattle.cb_shared.specs.Seats.{IsOf, Moves, record_at};
 
 use crate::answers::PinAnswer;
 use crate::board::{SeatAt, Top};
@@ -31,10 +31,10 @@ impl Shared {
     /// and one load of its version. Takes no memory and waits for nobody.
     pub fn pin(&self, pass: &mut Pass, h: Handle) -> PinAnswer
         requires of { IsPassOf self.now pass.old }
-        requires knows { Knows h.n pass.old.seat.me.0 }
+        requires knows { Knows h.n (record_of pass.old) }
         ensures of { IsPassOf self.now pass.new }
-        ensures full { length pass.old.seat.me.0.pins ≡ 16 → result ≡ answer.ScopeFull }
-        ensures pin { PinGives h.n result pass.old.seat.me.0 pass.new.seat.me.0 }
+        ensures full { length (record_of pass.old).pins ≡ 16 → result ≡ answer.ScopeFull }
+        ensures pin { PinGives h.n result (record_of pass.old) (record_of pass.new) }
     {
         if pass.pins.len() == MOST_PINS {
             return PinAnswer::ScopeFull;
@@ -57,14 +57,13 @@ impl Shared {
     /// one load. Takes no memory and waits for nobody.
     pub fn peek(&self, pass: &mut Pass, pin: &Pin, index: u32) -> u64
         requires of { IsPassOf self.now pass.old }
-        requires pin { IsPinOf pin.now pass.old.seat.me.0 }
+        requires pin { IsPinOf pin.now (record_of pass.old) }
         requires index { index < words_for pin.now.len }
         ensures of { IsPassOf self.now pass.new }
-        ensures word { (words : List ℕ) → Has (stand_of pin.now words) pass.old.seat.me.0.pins
+        ensures word { (words : List ℕ) → Has (stand_of pin.now words) (record_of pass.old).pins
             → result ≡ slice_index words index }
-        ensures peeked { pass.new.seat.me.0 ≡ with_peek pin.now.handle.n
-            pin.now.version index result
-            pass.old.seat.me.0 }
+        ensures peeked { record_of pass.new
+            ≡ with_peek pin.now.handle.n pin.now.version index result (record_of pass.old) }
     {
         let handles = self.config.handles as usize;
         self.board.shared.load::<Peek>(
@@ -78,11 +77,11 @@ impl Shared {
     /// waits for nobody.
     pub fn version(&self, pass: &mut Pass, pin: &Pin) -> u64
         requires of { IsPassOf self.now pass.old }
-        requires pin { IsPinOf pin.now pass.old.seat.me.0 }
+        requires pin { IsPinOf pin.now (record_of pass.old) }
         ensures of { IsPassOf self.now pass.new }
-        ensures same { pass.new.seat.me.0 ≡ pass.old.seat.me.0 }
+        ensures same { record_of pass.new ≡ record_of pass.old }
         ensures version { result ≡ pin.now.version }
-        ensures newest { IsNewest pin.now.handle.n pin.now.version pass.old.seat.me.0 }
+        ensures newest { IsNewest pin.now.handle.n pin.now.version (record_of pass.old) }
     {
         tell_version(
             &self.board.shared,
@@ -95,9 +94,9 @@ impl Shared {
     /// Gives a pin back: one subtraction. Takes no memory and waits for nobody.
     pub fn unpin(&self, pass: &mut Pass, pin: Pin)
         requires of { IsPassOf self.now pass.old }
-        requires pin { IsPinOf pin pass.old.seat.me.0 }
+        requires pin { IsPinOf pin (record_of pass.old) }
         ensures of { IsPassOf self.now pass.new }
-        ensures unpinned { pass.new.seat.me.0 ≡ without_pin pin.handle.n pass.old.seat.me.0 }
+        ensures unpinned { record_of pass.new ≡ without_pin pin.handle.n (record_of pass.old) }
     {
         unpin_one(
             &self.board.shared,
@@ -134,18 +133,18 @@ fn pin_at(
     saw: u64,
 ) -> PinAnswer
     requires of { IsOf top.now.table_id top.now.key config.now seat.old }
-    requires rest { IsAtRest config.now seat.old.me.0 }
+    requires rest { IsAtRest config.now (record_at seat.old) }
     requires handle { h.n < config.now.handles }
     requires here { state_of saw ≡ state.Here }
     requires few { pins_of saw < 1023 }
-    requires knows { Knows h.n seat.old.me.0 }
-    requires pins { (padded_value pins.old).items ≡ handles_of seat.old.me.0.pins }
-    requires room { length seat.old.me.0.pins < 16 }
+    requires knows { Knows h.n (record_at seat.old) }
+    requires pins { (padded_value pins.old).items ≡ handles_of (record_at seat.old).pins }
+    requires room { length (record_at seat.old).pins < 16 }
     ensures table { (seat.new.table_id ≡ seat.old.table_id) × (seat.new.me.1 ≡ seat.old.me.1) }
-    ensures share { seat.new.me.0.share ≡ seat.old.me.0.share }
-    ensures rest { IsAtRest config.now seat.new.me.0 }
-    ensures pins { (padded_value pins.new).items ≡ handles_of seat.new.me.0.pins }
-    ensures pin { PinAt h.n saw result seat.old.me.0 seat.new.me.0 }
+    ensures share { (record_at seat.new).share ≡ (record_at seat.old).share }
+    ensures rest { IsAtRest config.now (record_at seat.new) }
+    ensures pins { (padded_value pins.new).items ≡ handles_of (record_at seat.new).pins }
+    ensures pin { PinAt h.n saw result (record_at seat.old) (record_at seat.new) }
 {
     let found = take_pin(top, seat, config, h.n, saw);
     if found != saw {
@@ -166,10 +165,10 @@ fn pin_at(
 pub(crate) fn unpin_one(top: &Top, seat: &mut SeatAt, pins: &mut Pins, config: &Config, h: u32)
     requires of { IsOf top.now.table_id top.now.key config.now seat.old }
     requires handle { h < config.now.handles }
-    requires held { 0 < pins_on h seat.old.me.0 }
-    requires pins { (padded_value pins.old).items ≡ handles_of seat.old.me.0.pins }
-    ensures moved { Moves seat.old seat.new (without_pin h seat.old.me.0) }
-    ensures pins { (padded_value pins.new).items ≡ handles_of seat.new.me.0.pins }
+    requires held { 0 < pins_on h (record_at seat.old) }
+    requires pins { (padded_value pins.old).items ≡ handles_of (record_at seat.old).pins }
+    ensures moved { Moves seat.old seat.new (without_pin h (record_at seat.old)) }
+    ensures pins { (padded_value pins.new).items ≡ handles_of (record_at seat.new).pins }
 {
     let at = newest(pins.as_slice(), h);
     pins.remove(at);

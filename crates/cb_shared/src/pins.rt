@@ -5,7 +5,7 @@ ghost use Rattle.cb_ptr.specs.Word.{state_of, pins_of};
 ghost use Rattle.cb_rule.specs.Seats.{pins_on};
 ghost use Rattle.cb_rule.specs.Steps.{Knows, without_pin};
 ghost use Rattle.cb_shared.specs.Glances.{Glances, TakesPinAt, TellsVersion};
-ghost use Rattle.cb_shared.specs.Seats.{IsOf, Moves};
+ghost use Rattle.cb_shared.specs.Seats.{IsOf, Moves, record_at};
 ghost use Rattle.cb_shared.specs.Seeking.{GlancesAny};
 
 use crate::board::{SeatAt, Top};
@@ -16,7 +16,7 @@ use cb_types::Config;
 pub(crate) fn glance(top: &Top, seat: &mut SeatAt, config: &Config, h: u32) -> u64
     requires of { IsOf top.now.table_id top.now.key config.now seat.old }
     requires handle { h < config.now.handles }
-    requires knows { Knows h seat.old.me.0 }
+    requires knows { Knows h (record_at seat.old) }
     ensures { Glances h result seat.old seat.new }
 {
     top.load::<Glance>(seat, 1 + h as usize)
@@ -38,8 +38,8 @@ pub(crate) fn take_pin(top: &Top, seat: &mut SeatAt, config: &Config, h: u32, sa
     requires handle { h < config.now.handles }
     requires here { state_of saw ≡ state.Here }
     requires room { pins_of saw < 1023 }
-    requires knows { Knows h seat.old.me.0 }
-    requires few { length seat.old.me.0.pins < 17 }
+    requires knows { Knows h (record_at seat.old) }
+    requires few { length (record_at seat.old).pins < 17 }
     ensures { TakesPinAt config.now h saw result seat.old seat.new }
 {
     top.compare_exchange::<TakePin>(seat, 1 + h as usize, saw, cb_ptr::pinned(saw))
@@ -58,8 +58,8 @@ pub(crate) fn tell_version(top: &Top, seat: &mut SeatAt, config: &Config, h: u32
 pub(crate) fn give_pin(top: &Top, seat: &mut SeatAt, config: &Config, h: u32)
     requires of { IsOf top.now.table_id top.now.key config.now seat.old }
     requires handle { h < config.now.handles }
-    requires held { 0 < pins_on h seat.old.me.0 }
-    ensures { Moves seat.old seat.new (without_pin h seat.old.me.0) }
+    requires held { 0 < pins_on h (record_at seat.old) }
+    ensures { Moves seat.old seat.new (without_pin h (record_at seat.old)) }
 {
     top.fetch_sub::<GivePin>(seat, 1 + h as usize, 8);
 }

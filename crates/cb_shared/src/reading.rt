@@ -9,7 +9,7 @@ ghost use Rattle.cb_rule.specs.Steps.{Knows};
 ghost use Rattle.cb_shared.specs.declared.reading.ReadAnswer.{ReadAnswer};
 ghost use Rattle.cb_record.specs.Parts.{grown};
 ghost use Rattle.cb_shared.specs.Reading.{IsReadRefusal, IsUnderPin, ReadAt, ReadMoves, looked};
-ghost use Rattle.cb_shared.specs.Seats.{IsOf, Moves};
+ghost use Rattle.cb_shared.specs.Seats.{IsOf, Moves, record_at};
 
 use crate::board::{SeatAt, Top};
 use crate::pins::{give_pin, glance, take_pin, tell_version};
@@ -51,11 +51,11 @@ pub(crate) fn read_pinned(
 ) -> Result<ReadAnswer, NoMemory>
     requires of { IsOf top.now.table_id top.now.key config.now seat.old }
     requires handle { h < config.now.handles }
-    requires knows { Knows h seat.old.me.0 }
-    requires few { length seat.old.me.0.pins ≤ 16 }
+    requires knows { Knows h (record_at seat.old) }
+    requires few { length (record_at seat.old).pins ≤ 16 }
     ensures read { IfOk result (λ answer. ReadMoves h answer seat.old seat.new) }
     ensures error { OnErr result ((word : ℕ) × (state_of word ≡ state.Here)
-        × Moves seat.old seat.new (grown (looked h word) seat.old.me.0)) }
+        × Moves seat.old seat.new (grown (looked h word) (record_at seat.old))) }
 {
     let saw = glance(top, seat, config, h);
     match refuse_read(saw) {
@@ -96,8 +96,8 @@ fn read_at(
     requires handle { h < config.now.handles }
     requires here { state_of saw ≡ state.Here }
     requires room { pins_of saw < 1023 }
-    requires knows { Knows h seat.old.me.0 }
-    requires few { length seat.old.me.0.pins ≤ 16 }
+    requires knows { Knows h (record_at seat.old) }
+    requires few { length (record_at seat.old).pins ≤ 16 }
     requires long { length room ≡ len_of saw }
     ensures read { ReadAt h saw result seat.old seat.new }
 {
@@ -121,7 +121,7 @@ fn load_into(top: &Top, seat: &mut SeatAt, config: &Config, place: u32, room: &m
     requires inside { (j : ℕ) → j < words_for (length room.old)
         → place + j < 512 * config.now.frames }
     requires pin { (p : Stand) × IsUnderPin p place (length room.old) seat.old }
-    ensures same { Moves seat.old seat.new seat.old.me.0 }
+    ensures same { Moves seat.old seat.new (record_at seat.old) }
     ensures bytes { (p : Stand) → IsUnderPin p place (length room.old) seat.old
         → room.new ≡ bytes_in p.words (length room.old) }
 {

@@ -2,7 +2,7 @@
 ghost use Rattle.std.specs.Prelude.{◌≡◌};
 ghost use Rattle.cb_shared.specs.Passes.{IsPassOf, record_of};
 ghost use Rattle.cb_shared.specs.Recalls.{Recalls, first_version_of};
-ghost use Rattle.cb_shared.specs.Seats.{IsOf, Moves};
+ghost use Rattle.cb_shared.specs.Seats.{IsOf, Moves, record_at};
 
 use crate::board::{SeatAt, Top};
 use crate::pass::Pass;
@@ -31,8 +31,8 @@ impl Shared {
 fn recall_at<W: Opening>(top: &Top, seat: &mut SeatAt, config: &Config)
     requires of { IsOf top.now.table_id top.now.key config.now seat.old }
     requires picks { W.first ≡ top.now.key.first }
-    ensures same { Moves seat.old seat.new seat.old.me.0 }
-    ensures own { Recalls top.now.key.first seat.old.me.0 }
+    ensures same { Moves seat.old seat.new (record_at seat.old) }
+    ensures own { Recalls top.now.key.first (record_at seat.old) }
 {
     let _config = *config;
     top.load::<Recall<W>>(seat, 0);

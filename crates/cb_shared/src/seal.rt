@@ -3,6 +3,7 @@ ghost use Rattle.std.specs.Prelude.{◌≡◌};
 ghost use Rattle.cb_world.specs.World.{WorldState};
 ghost use Rattle.cb_rule.specs.declared.view.View.{View};
 ghost use Rattle.cb_shared.specs.Sealing.{AnyWord, no_view, no_world, sealed, unsealed};
+ghost use Rattle.cb_shared.specs.Seats.{record_at};
 
 use crate::board::SeatAt;
 use crate::boxed_far::BoxedFar;
@@ -64,7 +65,7 @@ pub(crate) struct Draft {
 impl Draft {
     /// With the view of a seat under it.
     pub(crate) fn of(seat: &SeatAt) -> Draft
-        ensures { result.mark.view.view ≡ seat.now.me.0 }
+        ensures { result.mark.view.view ≡ record_at seat.now }
     {
         let (bench, mark) = Bench::new(seat, 0);
         let mut draft = Draft { bench, mark };

@@ -1,5 +1,6 @@
 ghost use Rattle.std.specs.Prelude.{◌≡◌, ℕ, true, ◌+◌, ◌*◌, ◌≤◌, length, Some};
 ghost use Rattle.cb_shared.specs.Rights.{rights};
+ghost use Rattle.cb_shared.specs.Seats.{record_at};
 
 use crate::board::{SeatAt, Top};
 use crate::frames::{FRAME_WORDS, load_words, store_row};
@@ -23,14 +24,14 @@ pub struct SeatDesk<'a, R: Wait> {
     pub ghost counts: { top.now.table_id.words
         ≡ 1 + config.handles + config.handles + 512 * config.frames },
     pub ghost key: { top.now.key.config ≡ config },
-    pub ghost same: { seat.now.me.0.config ≡ config },
-    pub ghost live: { 1 ≤ seat.now.me.0.share },
-    pub ghost may: { 1 ≤ rights allowed seat.now.me.0.known seat.now.me.0 },
-    pub ghost holder: { seat.now.me.0.holds ≡ true },
-    pub ghost objects: { length seat.now.me.0.known.objects ≡ config.handles },
-    pub ghost hots: { length seat.now.me.0.known.hots ≡ config.handles },
-    pub ghost versions: { length seat.now.me.0.known.versions ≡ config.handles },
-    pub ghost memory: { length seat.now.me.0.known.memory ≡ 512 * config.frames },
+    pub ghost same: { (record_at seat.now).config ≡ config },
+    pub ghost live: { 1 ≤ (record_at seat.now).share },
+    pub ghost may: { 1 ≤ rights allowed (record_at seat.now).known (record_at seat.now) },
+    pub ghost holder: { (record_at seat.now).holds ≡ true },
+    pub ghost objects: { length (record_at seat.now).known.objects ≡ config.handles },
+    pub ghost hots: { length (record_at seat.now).known.hots ≡ config.handles },
+    pub ghost versions: { length (record_at seat.now).known.versions ≡ config.handles },
+    pub ghost memory: { length (record_at seat.now).known.memory ≡ 512 * config.frames },
 }
 
 impl<'a, R: Wait> Desk for SeatDesk<'a, R> {
@@ -39,7 +40,7 @@ impl<'a, R: Wait> Desk for SeatDesk<'a, R> {
 
     ghost settings = { λ d. d.config };
 
-    ghost shows = { λ d s. s ≡ d.seat.now.me.0.known };
+    ghost shows = { λ d s. s ≡ (record_at d.seat.now).known };
 
     ghost run = { λ d es e. Runs d.seat.now es e.seat.now × (e.top.now ≡ d.top.now)
         × (e.config ≡ d.config) × (e.seat.ghost_name ≡ d.seat.ghost_name) };

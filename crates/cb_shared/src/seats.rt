@@ -2,9 +2,9 @@
 ghost use Rattle.std.specs.Prelude.{◌≡◌, ◌<◌, ◌≤◌, [], false};
 ghost use Rattle.cb_rule.specs.Lists.{Each};
 ghost use Rattle.cb_rule.specs.Steps.{joined, left_of, right_of};
-ghost use Rattle.cb_shared.specs.Passes.{IsPassOf, PinFits};
+ghost use Rattle.cb_shared.specs.Passes.{IsPassOf, PinFits, record_of};
 ghost use Rattle.cb_shared.specs.Joining.{IsSpare, unpinned_all};
-ghost use Rattle.cb_shared.specs.Seats.{IsOf, Moves};
+ghost use Rattle.cb_shared.specs.Seats.{IsOf, Moves, record_at};
 
 use crate::board::{SeatAt, Top};
 use crate::handles::{first_handle, no_pins};
@@ -20,11 +20,11 @@ impl Shared {
     /// or read. Takes no memory and waits for nobody.
     pub fn split(&self, pass: &mut Pass, share: u32) -> Pass
         requires of { IsPassOf self.now pass.old }
-        requires share { (1 ≤ share) × (share < pass.old.seat.me.0.share) }
+        requires share { (1 ≤ share) × (share < (record_of pass.old).share) }
         ensures of { IsPassOf self.now pass.new }
         ensures new { IsPassOf self.now result }
-        ensures left { pass.new.seat.me.0 ≡ left_of share pass.old.seat.me.0 }
-        ensures right { result.seat.me.0 ≡ right_of share pass.old.seat.me.0 }
+        ensures left { record_of pass.new ≡ left_of share (record_of pass.old) }
+        ensures right { record_of result ≡ right_of share (record_of pass.old) }
     {
         let seat = split_seat::<Brand>(&self.board.shared, &mut pass.seat, &self.config, share);
         pass.share -= share;
@@ -41,10 +41,10 @@ impl Shared {
     pub fn join_pass(&self, pass: &mut Pass, other: Pass)
         requires of { IsPassOf self.now pass.old }
         requires other { IsPassOf self.now other }
-        requires free { other.seat.me.0.holds ≡ false }
+        requires free { (record_of other).holds ≡ false }
         ensures of { IsPassOf self.now pass.new }
-        ensures joined { pass.new.seat.me.0
-            ≡ joined pass.old.seat.me.0 (unpinned_all other.seat.me.0) }
+        ensures joined { record_of pass.new
+            ≡ joined (record_of pass.old) (unpinned_all (record_of other)) }
     {
         let mut other = other;
         give_back(&self.board.shared, &mut other, &self.config);
@@ -61,11 +61,11 @@ impl Shared {
 fn split_seat<W: Given>(top: &Top, seat: &mut SeatAt, config: &Config, share: u32) -> SeatAt
     requires of { IsOf top.now.table_id top.now.key config.now seat.old }
     requires picks { W.share ≡ share }
-    requires share { (1 ≤ share) × (share < seat.old.me.0.share) }
-    requires fresh { seat.old.me.0.fresh ≡ [] }
-    ensures left { Moves seat.old seat.new (left_of share seat.old.me.0) }
+    requires share { (1 ≤ share) × (share < (record_at seat.old).share) }
+    requires fresh { (record_at seat.old).fresh ≡ [] }
+    ensures left { Moves seat.old seat.new (left_of share (record_at seat.old)) }
     ensures right { (result.table_id ≡ seat.old.table_id)
-        × (result.me ≡ (right_of share seat.old.me.0, [])) }
+        × (result.me ≡ (right_of share (record_at seat.old), [])) }
 {
     let _share = share;
     let _config = config;
@@ -75,8 +75,8 @@ fn split_seat<W: Given>(top: &Top, seat: &mut SeatAt, config: &Config, share: u3
 /// Gives all pins of a pass back.
 pub(crate) fn give_back(top: &Top, pass: &mut Pass, config: &Config)
     requires of { IsOf top.now.table_id top.now.key config.now pass.old.seat }
-    requires pins { Each (PinFits config.now) pass.old.seat.me.0.pins }
-    ensures { Moves pass.old.seat pass.new.seat (unpinned_all pass.old.seat.me.0) }
+    requires pins { Each (PinFits config.now) (record_of pass.old).pins }
+    ensures { Moves pass.old.seat pass.new.seat (unpinned_all (record_of pass.old)) }
 {
     while let Some(h) = first_handle(&pass.pins) {
         unpin_one(top, &mut pass.seat, &mut pass.pins, config, h);
@@ -88,8 +88,8 @@ fn join_seats<W: Keyed>(top: &Top, seat: &mut SeatAt, other: SeatAt, config: &Co
     requires of { IsOf top.now.table_id top.now.key config.now seat.old }
     requires picks { W.key ≡ config.now }
     requires other { IsSpare top.now.table_id other }
-    requires fresh { seat.old.me.0.fresh ≡ [] }
-    ensures { Moves seat.old seat.new (joined seat.old.me.0 other.me.0) }
+    requires fresh { (record_at seat.old).fresh ≡ [] }
+    ensures { Moves seat.old seat.new (joined (record_at seat.old) (record_at other)) }
 {
     let _config = config;
     top.join_seat::<Glue<W>>(seat, other)

@@ -4,9 +4,9 @@ ghost use Rattle.cb_types.specs.Config.{IsAccepted};
 ghost use Rattle.cb_types.specs.declared.reply.Reply.TheVariants as answer;
 ghost use Rattle.cb_core.specs.Jobs.{IsJob};
 ghost use Rattle.cb_shared.specs.Making.{MakesNew};
-ghost use Rattle.cb_shared.specs.Passes.{IsAtRest, IsPassOf};
+ghost use Rattle.cb_shared.specs.Passes.{IsAtRest, IsPassOf, record_of};
 ghost use Rattle.cb_record.specs.Parts.{Grows, Part};
-ghost use Rattle.cb_shared.specs.Seats.{IsOf};
+ghost use Rattle.cb_shared.specs.Seats.{IsOf, record_at};
 ghost use Rattle.cb_shared.specs.Seeking.{FindsKnown, TurnFinds};
 ghost use Rattle.cb_shared.specs.Turning.{KnowsOf, TurnBy};
 ghost use Rattle.cb_shared.specs.UnderLock.{IsBelow, TurnedBy};
@@ -41,12 +41,12 @@ impl Shared {
     ) -> Result<Reply, NoMemory>
         requires of { IsPassOf self.now pass.old }
         requires job { IsJob self.now.config job.now }
-        requires knows { KnowsOf job.now pass.old.seat.me.0 }
+        requires knows { KnowsOf job.now (record_of pass.old) }
         ensures of { IsPassOf self.now pass.new }
-        ensures turn { TurnFinds self.now.config job.now result pass.old.seat.me.0
-            pass.new.seat.me.0 }
+        ensures turn { TurnFinds self.now.config job.now result (record_of pass.old)
+            (record_of pass.new) }
         ensures new { IfOk result (λ reply. MakesNew self.now.board.shared.key.first job.now reply
-            pass.old.seat.me.0) }
+            (record_of pass.old)) }
         ensures no_frame { IfOk result (λ reply. reply ≡ answer.NoFrame → ⊥) }
     {
         let reply = self.turn_within(rt, alloc, pass, job);
@@ -59,8 +59,8 @@ impl Shared {
         requires of { IsPassOf self.now pass.old }
         requires handle { IsBelow self.now.config freed }
         ensures of { IsPassOf self.now pass.new }
-        ensures finds { (d : Part) × Grows pass.old.seat.me.0 d pass.new.seat.me.0
-            × FindsKnown freed pass.old.seat.me.0 d }
+        ensures finds { (d : Part) × Grows (record_of pass.old) d (record_of pass.new)
+            × FindsKnown freed (record_of pass.old) d }
     {
         let config = self.config;
         find_known(rt, &self.board.shared, &mut pass.seat, &config, freed);
@@ -77,12 +77,12 @@ impl Shared {
     ) -> Result<Reply, NoMemory>
         requires of { IsPassOf self.now pass.old }
         requires job { IsJob self.now.config job.now }
-        requires knows { KnowsOf job.now pass.old.seat.me.0 }
+        requires knows { KnowsOf job.now (record_of pass.old) }
         ensures of { IsPassOf self.now pass.new }
-        ensures turn { TurnBy self.now.config job.now result pass.old.seat.me.0
-            pass.new.seat.me.0 }
+        ensures turn { TurnBy self.now.config job.now result (record_of pass.old)
+            (record_of pass.new) }
         ensures new { IfOk result (λ reply. MakesNew self.now.board.shared.key.first job.now reply
-            pass.old.seat.me.0) }
+            (record_of pass.old)) }
         ensures no_frame { IfOk result (λ reply. reply ≡ answer.NoFrame → ⊥) }
     {
         let config = self.config;
@@ -105,16 +105,17 @@ fn locked_turn<R: Wait>(
     job: &Job,
 ) -> Result<Reply, NoMemory>
     requires of { IsOf top.now.table_id top.now.key config.now seat.old }
-    requires rest { IsAtRest config.now seat.old.me.0 }
+    requires rest { IsAtRest config.now (record_at seat.old) }
     requires slots { seat.old.me.1 ≡ [] }
-    requires few { length seat.old.me.0.pins ≤ 16 }
+    requires few { length (record_at seat.old).pins ≤ 16 }
     requires config { IsAccepted config.now }
     requires job { IsJob config.now job.now }
-    requires knows { KnowsOf job.now seat.old.me.0 }
+    requires knows { KnowsOf job.now (record_at seat.old) }
     ensures same { (seat.new.table_id ≡ seat.old.table_id) × (seat.new.id ≡ seat.old.id)
         × (seat.new.me.1 ≡ []) }
-    ensures turn { TurnedBy config.now job.now result seat.old.me.0 seat.new.me.0 }
-    ensures new { IfOk result (λ reply. MakesNew top.now.key.first job.now reply seat.old.me.0) }
+    ensures turn { TurnedBy config.now job.now result (record_at seat.old) (record_at seat.new) }
+    ensures new { IfOk result
+        (λ reply. MakesNew top.now.key.first job.now reply (record_at seat.old)) }
     ensures no_frame { IfOk result (λ reply. reply ≡ answer.NoFrame → ⊥) }
 {
     let mut far = lock_far(rt, top, seat, config);

@@ -12,7 +12,7 @@ ghost use Rattle.cb_core.specs.Unavailable.{TurnTells};
 ghost use Rattle.cb_rule.specs.Locking.{Stood};
 ghost use Rattle.cb_rule.specs.Steps.{Knows};
 ghost use Rattle.cb_shared.specs.Rights.{writes_of};
-ghost use Rattle.cb_shared.specs.Seats.{HoldsLock, IsOf};
+ghost use Rattle.cb_shared.specs.Seats.{HoldsLock, IsOf, record_at};
 ghost use Rattle.cb_shared.specs.Turning.{KnowsOf};
 ghost use Rattle.cb_shared.specs.UnderLock.{BringAt, CameThere, IsBeginning, IsNoRead, IsReplyTo};
 ghost use Rattle.cb_shared.specs.UnderLock.{IsTriedAgain, TriesOn, TurnAtSeat, WorkBy};
@@ -38,11 +38,11 @@ pub(crate) fn work<R: Wait>(
     job: &Job,
 ) -> Result<Reply, NoMemory>
     requires of { IsOf top.now.table_id top.now.key config.now seat.old }
-    requires few { length seat.old.me.0.pins ≤ 16 }
+    requires few { length (record_at seat.old).pins ≤ 16 }
     requires config { IsAccepted config.now }
     requires job { IsJob config.now job.now }
-    requires knows { KnowsOf job.now seat.old.me.0 }
-    requires begins { IsBeginning config.now far.old seat.old.me.0 }
+    requires knows { KnowsOf job.now (record_at seat.old) }
+    requires begins { IsBeginning config.now far.old (record_at seat.old) }
     ensures work { WorkBy config.now job.now result far.old far.new seat.old seat.new }
     ensures no_frame { IfOk result (λ reply. reply ≡ answer.NoFrame → ⊥) }
     ensures unavailable { IfOk result (λ reply. TurnTells job.now far.old reply) }
@@ -67,10 +67,10 @@ fn turn_by_seat<R: Wait>(
     requires config { IsAccepted config.now }
     requires job { IsJob config.now job.now }
     requires other { IsNoRead job.now }
-    requires knows { KnowsOf job.now seat.old.me.0 }
-    requires stood { Stood config.now seat.old.me.0.known far.old }
-    requires idle { seat.old.me.0.acts ≡ [] }
-    requires fresh { seat.old.me.0.fresh ≡ [] }
+    requires knows { KnowsOf job.now (record_at seat.old) }
+    requires stood { Stood config.now (record_at seat.old).known far.old }
+    requires idle { (record_at seat.old).acts ≡ [] }
+    requires fresh { (record_at seat.old).fresh ≡ [] }
     ensures turn { TurnAtSeat config.now job.now result far.old far.new seat.old seat.new }
     ensures no_frame { IfOk result (λ reply. reply ≡ answer.NoFrame → ⊥) }
     ensures unavailable { IfOk result (λ reply. TurnTells job.now far.old reply) }
@@ -118,11 +118,11 @@ fn read_by_seat<R: Wait>(
     h: Handle,
 ) -> Result<Reply, NoMemory>
     requires of { IsOf top.now.table_id top.now.key config.now seat.old }
-    requires few { length seat.old.me.0.pins ≤ 16 }
+    requires few { length (record_at seat.old).pins ≤ 16 }
     requires config { IsAccepted config.now }
     requires handle { h.n < config.now.handles }
-    requires knows { Knows h.n seat.old.me.0 }
-    requires begins { IsBeginning config.now far.old seat.old.me.0 }
+    requires knows { Knows h.n (record_at seat.old) }
+    requires begins { IsBeginning config.now far.old (record_at seat.old) }
     ensures work { WorkBy config.now (jobs.Read h) result far.old far.new seat.old seat.new }
     ensures no_frame { IfOk result (λ reply. reply ≡ answer.NoFrame → ⊥) }
     ensures unavailable { IfOk result (λ reply. TurnTells (jobs.Read h) far.old reply) }
@@ -158,9 +158,9 @@ fn bring_by_seat<R: Wait>(
     requires holds { HoldsLock top.now.table_id top.now.key config.now seat.old }
     requires config { IsAccepted config.now }
     requires handle { h.n < config.now.handles }
-    requires stood { Stood config.now seat.old.me.0.known far.old }
-    requires idle { seat.old.me.0.acts ≡ [] }
-    requires fresh { seat.old.me.0.fresh ≡ [] }
+    requires stood { Stood config.now (record_at seat.old).known far.old }
+    requires idle { (record_at seat.old).acts ≡ [] }
+    requires fresh { (record_at seat.old).fresh ≡ [] }
     ensures bring { BringAt config.now h result far.old far.new seat.old seat.new }
     ensures no_frame { IfOk result (λ reply. reply ≡ answer.NoFrame → ⊥) }
 {
@@ -194,8 +194,8 @@ fn read_tried<R: Wait>(
 ) -> Result<Reply, NoMemory>
     requires of { IsOf top.now.table_id top.now.key config.now seat.old }
     requires handle { h < config.now.handles }
-    requires knows { Knows h seat.old.me.0 }
-    requires few { length seat.old.me.0.pins ≤ 16 }
+    requires knows { Knows h (record_at seat.old) }
+    requires few { length (record_at seat.old).pins ≤ 16 }
     ensures { TriesOn config.now h result seat.old seat.new }
 {
     for _ in rt.forever() {

@@ -8,8 +8,8 @@ ghost use Rattle.cb_rule.specs.declared.view.Held.{Held};
 ghost use Rattle.cb_rule.specs.Steps.{Knows};
 ghost use Rattle.cb_shared.specs.declared.answers.WriteAnswer.{WriteAnswer};
 ghost use Rattle.cb_shared.specs.Claims.{HoldsOnly, IsFreshClaim, IsWithin, with_memory, with_only};
-ghost use Rattle.cb_shared.specs.Passes.{IsAtRest, IsPassOf};
-ghost use Rattle.cb_shared.specs.Seats.{IsOf, Moves};
+ghost use Rattle.cb_shared.specs.Passes.{IsAtRest, IsPassOf, record_of};
+ghost use Rattle.cb_shared.specs.Seats.{IsOf, Moves, record_at};
 ghost use Rattle.cb_shared.specs.Writing.{IsRoomFor, IsWriteRefusal, WriteAt, WriteClaimed};
 ghost use Rattle.cb_shared.specs.Writing.{WriteGives};
 
@@ -31,9 +31,10 @@ impl Shared {
     /// of the word stays, and one store of its word. Takes no memory and waits for nobody.
     pub fn write_here(&self, pass: &mut Pass, h: Handle, at: u32, bytes: &[u8]) -> WriteAnswer
         requires of { IsPassOf self.now pass.old }
-        requires knows { Knows h.n pass.old.seat.me.0 }
+        requires knows { Knows h.n (record_of pass.old) }
         ensures of { IsPassOf self.now pass.new }
-        ensures write { WriteGives h.n at bytes.now result pass.old.seat.me.0 pass.new.seat.me.0 }
+        ensures write { WriteGives h.n at bytes.now result
+            (record_of pass.old) (record_of pass.new) }
     {
         let top = &self.board.shared;
         let saw = glance(top, &mut pass.seat, &self.config, h.n);
@@ -74,16 +75,16 @@ fn write_at(
     bytes: &[u8],
 ) -> WriteAnswer
     requires of { IsOf top.now.table_id top.now.key config.now seat.old }
-    requires rest { IsAtRest config.now seat.old.me.0 }
+    requires rest { IsAtRest config.now (record_at seat.old) }
     requires handle { h < config.now.handles }
     requires room { IsRoomFor at (length bytes.now) saw }
     requires bare { pins_of saw ≡ 0 }
-    requires knows { Knows h seat.old.me.0 }
+    requires knows { Knows h (record_at seat.old) }
     ensures table { (seat.new.table_id ≡ seat.old.table_id) × (seat.new.me.1 ≡ seat.old.me.1) }
-    ensures share { seat.new.me.0.share ≡ seat.old.me.0.share }
-    ensures pins { seat.new.me.0.pins ≡ seat.old.me.0.pins }
-    ensures rest { IsAtRest config.now seat.new.me.0 }
-    ensures write { WriteAt h saw at bytes.now result seat.old.me.0 seat.new.me.0 }
+    ensures share { (record_at seat.new).share ≡ (record_at seat.old).share }
+    ensures pins { (record_at seat.new).pins ≡ (record_at seat.old).pins }
+    ensures rest { IsAtRest config.now (record_at seat.new) }
+    ensures write { WriteAt h saw at bytes.now result (record_at seat.old) (record_at seat.new) }
 {
     let found = top.compare_exchange::<ClaimHere>(seat, 1 + h as usize, saw, claimed(saw));
     if found != saw {
@@ -136,7 +137,7 @@ fn overwrite_own(top: &Top, seat: &mut SeatAt, config: &Config, place: u32, at: 
     ensures { (x : Held) → HoldsOnly x x.handle seat.old
         → IsWithin config.now x place at (length bytes.now)
         → (new : List ℕ) × IsWrite x.memory at bytes.now new
-        × Moves seat.old seat.new (with_only (with_memory new x) seat.old.me.0) }
+        × Moves seat.old seat.new (with_only (with_memory new x) (record_at seat.old)) }
 {
     let end = at + bytes.len() as u32;
     let handles = config.handles as usize;
@@ -163,7 +164,7 @@ fn merged_own(
     requires place { place < 512 * config.now.frames }
     requires first { first + 8 < 2 ^ 32 }
     requires end { at + length bytes.now < 2 ^ 16 }
-    ensures same { Moves seat.old seat.new seat.old.me.0 }
+    ensures same { Moves seat.old seat.new (record_at seat.old) }
     ensures merged { (x : Held) (j : ℕ) → HoldsOnly x x.handle seat.old → j < words_for x.len
         → place ≡ x.place + j → IsWordMerged (slice_index x.memory j) first at bytes.now result }
 {

@@ -4,6 +4,7 @@ use Rattle.std.specs.Slots.{slots_items}
 use Rattle.cb_rule.specs.Slot.{Sat}
 use Rattle.cb_shared.specs.declared.sealed.Sealed.{Sealed}
 use Rattle.cb_shared.specs.Joining.{unpinned_all}
+use Rattle.cb_shared.specs.Passes.{record_of}
 use Rattle.cb_shared.proofs.Closes.{ends_in, is_closed}
 use Rattle.cb_shared.proofs.Filled.{all_blank, all_put, empty_sized, objects_sized}
 use Rattle.cb_shared.proofs.closing.close_whole.Goals as goal
@@ -11,7 +12,7 @@ use Rattle.cb_shared.proofs.closing.close_whole.Goals as goal
 pub take_far-far-requires-clause-home : goal.take_far-far-requires-clause-home
 take_far-far-requires-clause-home c = let s = c.args.shared in
     let e = ends_in s.board.shared.key s.config s.key c.requires.of.accepted
-    c.args.pass.seat.me.0 c.give_back.new.pass.seat.me.0 c.requires.of.rest c.requires.whole
+    (record_of c.args.pass) (record_of c.give_back.new.pass) c.requires.of.rest c.requires.whole
     (ap (λ (m : Sat). m.0) c.give_back.ensures.2) c.give_back.new.pass.seat.id _ _
     c.close_with-rows.ensures.values.2 in (e.far, e.there)
 
@@ -40,7 +41,7 @@ fill_memory-requires-clause-blank c i =
     ∙ all_blank (512 * c.args.shared.config.frames) i
 
 pub returns : goal.returns
-returns c = let s = c.args.shared in let v = c.args.pass.seat.me.0 in
+returns c = let s = c.args.shared in let v = record_of c.args.pass in
     let under = c.seal-seal.ensures in
     let back = ap (λ (m : Sat). m.0) c.give_back.ensures.2 in
     let ws = slots_items c.close_with-rows.result.words in
@@ -50,7 +51,7 @@ returns c = let s = c.args.shared in let v = c.args.pass.seat.me.0 in
       world = ap (λ (x : Sealed). x.world) under;
       closed = is_closed s.board.shared.key.first s.config (unpinned_all v) ws slots
           (ends_in s.board.shared.key s.config s.key c.requires.of.accepted v
-          c.give_back.new.pass.seat.me.0 c.requires.of.rest c.requires.whole back
+          (record_of c.give_back.new.pass) c.requires.of.rest c.requires.whole back
           c.give_back.new.pass.seat.id ws slots c.close_with-rows.ensures.values.2)
           _ (all_put s.config ws c.args.still.desk (ap (λ (d : Words). d.settings) c.requires.desk) _ _
           c.fill_objects.ensures c.fill_memory.ensures) c.take_far-far.ensures c.requires.seats;

@@ -8,6 +8,7 @@ use Rattle.cb_world.specs.FrameWords.{OwnsWords, stores_from}
 use Rattle.cb_world.proofs.Laws.{words_read}
 use Rattle.cb_rule.specs.Slot.{Sat}
 use Rattle.cb_shared.specs.SeatLaws.{Runs, holds_still}
+use Rattle.cb_shared.specs.Seats.{record_at}
 use Rattle.cb_shared.proofs.Alone.{stores_at}
 use Rattle.cb_shared.proofs.Rows.{owned_still, store_more}
 use Rattle.cb_shared.proofs.frames.store_row.Goals as goal
@@ -42,7 +43,7 @@ loop-i-preserved c = let inv = c.loop-i.invariant in let i = c.loop-i.i in
           ((x.0, x.1, y.0), y.1),
       subst (λ (s : Shown). OwnsWords s c.args.frame)
           (sym (ap (λ (m : Sat). m.0.known) y.0))
-          (owned_still (first + i) _ c.args.frame c.loop-i.seat.me.0.known inv.2),
+          (owned_still (first + i) _ c.args.frame (record_at c.loop-i.seat).known inv.2),
     )
 
 pub returns-clause-ran : goal.returns-clause-ran

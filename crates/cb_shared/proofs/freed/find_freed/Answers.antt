@@ -4,6 +4,7 @@ use Rattle.cb_rule.specs.Steps.{with_look}
 use Rattle.cb_shared.specs.declared.reading.ReadAnswer.TheVariants as found
 use Rattle.cb_record.specs.Parts.{grown, nothing_more, sum}
 use Rattle.cb_shared.specs.Reading.{looked}
+use Rattle.cb_shared.specs.Seats.{record_at}
 use Rattle.cb_shared.specs.Turning.{FindsFreedAfter, KnowsIt}
 use Rattle.cb_shared.specs.UnderLock.{FreedMoves, IsBelow}
 use Rattle.cb_shared.proofs.ReadParts.{grown_moves, here_look, look_found, looks_know, more_looks}
@@ -21,7 +22,7 @@ returns-in_default g c = (
   not_moved c.args.seat.now,
   (refl, refl),
   tt,
-  subst (λ (o : Option ℕ). FindsFreedAfter o c.args.seat.now.me.0 nothing_more)
+  subst (λ (o : Option ℕ). FindsFreedAfter o (record_at c.args.seat.now) nothing_more)
       (sym (none_is c.args.freed c.in_default.not-Some)) refl,
 )
 
@@ -39,7 +40,7 @@ glance-word-requires-clause-handle g c =
 pub glance-word-requires-clause-knows : goal.glance-word-requires-clause-knows
 glance-word-requires-clause-knows g c = let i = c.loop.invariant in
     looks_know c.in-Some.h c.args.seat.now c.loop.seat i.0 i.1 i.2
-    (subst (λ (o : Option ℕ). KnowsIt o c.args.seat.now.me.0) c.in-Some.is c.requires.knows)
+    (subst (λ (o : Option ℕ). KnowsIt o (record_at c.args.seat.now)) c.in-Some.is c.requires.knows)
 
 pub returns-in-Empty : goal.returns-in-Empty
 returns-in-Empty g c = let i = c.loop.invariant in let h = c.in-Some.h in
@@ -56,9 +57,9 @@ loop-preserved g c = let i = c.loop.invariant in let h = c.in-Some.h in
     let r = c.glance-word.new.seat in (
       sum i.0 (looked h word),
       more_looks h i.0 (looked h word) i.1 (here_look h word),
-      grown_moves p q r i.0 (looked h word) i.2 (moves_as q r (with_look h word q.me.0)
-          (grown (looked h word) q.me.0)
+      grown_moves p q r i.0 (looked h word) i.2 (moves_as q r (with_look h word (record_at q))
+          (grown (looked h word) (record_at q))
           (c.glance-word.ensures.other (λ e. c.in_default-state.not-Empty
           (ap (λ (w : PtrWord). w.state) c.unpack.ensures.fields ∙ e)))
-          (look_part h word q.me.0)),
+          (look_part h word (record_at q))),
     )

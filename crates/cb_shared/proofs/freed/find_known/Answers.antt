@@ -1,6 +1,7 @@
 use Rattle.std.proofs.Common.{◌≡◌, ◌∙◌, ℕ, Option, None, Some, refl, sym, ap, subst}
 use Rattle.cb_ptr.specs.declared.word.PtrWord.{PtrWord}
 use Rattle.cb_record.specs.Parts.{nothing_more}
+use Rattle.cb_shared.specs.Seats.{record_at}
 use Rattle.cb_shared.specs.Seeking.{FindsKnown, KnownMoves}
 use Rattle.cb_shared.specs.UnderLock.{IsBelow}
 use Rattle.cb_shared.proofs.ReadParts.{no_looks, not_moved, of_grown}
@@ -17,7 +18,7 @@ returns-in_default g c = (
   not_moved c.args.seat.now,
   (refl, refl),
   tt,
-  subst (λ (o : Option ℕ). FindsKnown o c.args.seat.now.me.0 nothing_more)
+  subst (λ (o : Option ℕ). FindsKnown o (record_at c.args.seat.now) nothing_more)
       (sym (none_is c.args.freed c.in_default.not-Some)) refl,
 )
 

@@ -3,6 +3,7 @@ use Rattle.cb_ptr.specs.declared.word.PtrWord.{PtrWord}
 use Rattle.cb_rule.specs.Slot.{Sat}
 use Rattle.cb_rule.specs.Steps.{IsNewest, with_look, with_pin}
 use Rattle.cb_shared.specs.Handles.{handles_of}
+use Rattle.cb_shared.specs.Seats.{record_at}
 use Rattle.cb_shared.proofs.ReadSteps.{version_told}
 use Rattle.cb_shared.proofs.Resting.{rest_look, rest_moved, rest_pin}
 use Rattle.cb_shared.proofs.WriteSteps.{of_moves}
@@ -13,7 +14,7 @@ take_pin-found-requires-clause-few c = let f = c.requires.room in omega (arith, 
 
 pub returns-then-found-saw : goal.returns-then-found-saw
 returns-then-found-saw c = let lost = c.take_pin-found.ensures.lost c.if-found-saw.true in
-    let w = c.take_pin-found.result in let v = c.args.seat.now.me.0 in record {
+    let w = c.take_pin-found.result in let v = record_at c.args.seat.now in record {
       table = (lost.0, ap (λ (m : Sat). m.1) lost.2);
       share = ap (λ (m : Sat). m.0.share) lost.2;
       rest = rest_moved c.args.config.now c.args.seat.now c.take_pin-found.new.seat
@@ -27,7 +28,7 @@ pub tell_version-version-requires-clause-of : goal.tell_version-version-requires
 tell_version-version-requires-clause-of c =
     let y = c.take_pin-found.ensures.won c.if-found-saw.false in
     of_moves c.args.top.now.table_id c.args.top.now.key c.args.config.now c.args.seat.now
-    c.take_pin-found.new.seat (with_pin c.args.h.n c.args.saw y.0 y.1 c.args.seat.now.me.0)
+    c.take_pin-found.new.seat (with_pin c.args.h.n c.args.saw y.0 y.1 (record_at c.args.seat.now))
     c.requires.of y.4 refl refl
 
 pub returns-clause-table : goal.returns-clause-table
@@ -44,13 +45,15 @@ pub returns-clause-rest : goal.returns-clause-rest
 returns-clause-rest c = let y = c.take_pin-found.ensures.won c.if-found-saw.false in
     let k = c.args.config.now in let h = c.args.h.n in let p = c.args.seat.now in
     let m = c.take_pin-found.new.seat in
-    rest_moved k m c.tell_version-version.new.seat m.me.0 c.tell_version-version.ensures.moves
-    (rest_moved k p m (with_pin h c.args.saw y.0 y.1 p.me.0) y.4
-    (rest_pin k h c.args.saw y.0 y.1 p.me.0 c.requires.rest c.requires.handle y.3))
+    rest_moved k m c.tell_version-version.new.seat (record_at m)
+    c.tell_version-version.ensures.moves
+    (rest_moved k p m (with_pin h c.args.saw y.0 y.1 (record_at p)) y.4
+    (rest_pin k h c.args.saw y.0 y.1 (record_at p) c.requires.rest c.requires.handle y.3))
 
 pub returns-clause-pin : goal.returns-clause-pin
 returns-clause-pin c = let y = c.take_pin-found.ensures.won c.if-found-saw.false in
-    let v = c.args.seat.now.me.0 in let h = c.args.h.n in let t = c.tell_version-version.ensures in
+    let v = record_at c.args.seat.now in let h = c.args.h.n in
+    let t = c.tell_version-version.ensures in
     let told = version_told c.args.config.now h c.args.saw y.0 c.tell_version-version.result y.1 []
     c.args.seat.now c.take_pin-found.new.seat c.tell_version-version.new.seat y.4 t in (
       y.1,

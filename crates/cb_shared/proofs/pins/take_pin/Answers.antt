@@ -2,6 +2,7 @@ use Rattle.std.proofs.Common.{ℕ, refl, ap, subst, ◌∙◌, arith}
 use Rattle.cb_types.specs.declared.config.Config.{Config}
 use Rattle.cb_rule.specs.Slot.{Sat}
 use Rattle.cb_rule.specs.Steps.{IsInside, with_pin}
+use Rattle.cb_shared.specs.Seats.{record_at}
 use Rattle.cb_shared.proofs.PinsAlone.{takes_pin_at}
 use Rattle.cb_shared.proofs.pins.take_pin.Goals as goal
 
@@ -22,12 +23,15 @@ returns c = let t = c.compare_exchange.ensures.0 in let i = c.compare_exchange.e
         words,
         f.above,
         subst (λ (x : Config). IsInside x c.args.saw) c.requires.of.config
-            (subst (λ (n : ℕ). IsInside c.args.seat.now.me.0.config n) e f.inside),
+            (subst (λ (n : ℕ). IsInside (record_at c.args.seat.now).config n) e f.inside),
         (
           t,
           i,
           y.2 ∙ ap (λ (n : ℕ).
-              let m : Sat = (with_pin c.args.h n v words c.args.seat.now.me.0, c.args.seat.now.me.1) in
+              let m : Sat = (
+                with_pin c.args.h n v words (record_at c.args.seat.now),
+                c.args.seat.now.me.1,
+              ) in
               m) e,
         ),
       );

@@ -5,6 +5,7 @@ use Rattle.cb_rule.specs.declared.view.View.{View}
 use Rattle.cb_rule.specs.Lists.{Each}
 use Rattle.cb_rule.specs.Steps.{IsNewest, TellsPin}
 use Rattle.cb_rule.specs.Words.{stamps}
+use Rattle.cb_shared.specs.Seats.{record_at}
 use Rattle.cb_shared.proofs.PinsAlone.{dates_at}
 use Rattle.cb_shared.proofs.pins.tell_version.Goals as goal
 
@@ -35,7 +36,8 @@ newest h v (p ∷ ps) each = (
 pub returns : goal.returns
 returns c = let t = c.load.ensures.0 in let i = c.load.ensures.1 in record {
   moves = (t, i, c.load.ensures.2.0);
-  tells = tells c.args.seat.now.me.0.config c.args.config.now c.args.h c.load.result
-      c.args.seat.now.me.0.pins c.requires.of.config c.load.ensures.2.1;
-  newest = newest c.args.h c.args.seat.now.me.0 c.args.seat.now.me.0.pins c.load.ensures.2.3;
+  tells = tells (record_at c.args.seat.now).config c.args.config.now c.args.h c.load.result
+      (record_at c.args.seat.now).pins c.requires.of.config c.load.ensures.2.1;
+  newest = newest c.args.h (record_at c.args.seat.now) (record_at c.args.seat.now).pins
+      c.load.ensures.2.3;
 }

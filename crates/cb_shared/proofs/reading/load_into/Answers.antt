@@ -5,7 +5,7 @@ use Rattle.cb_rule.specs.declared.view.View.{View}
 use Rattle.cb_rule.specs.Lists.{Has}
 use Rattle.cb_rule.specs.Slot.{Sat}
 use Rattle.cb_rule.specs.Words.{base}
-use Rattle.cb_shared.specs.Seats.{Moves}
+use Rattle.cb_shared.specs.Seats.{Moves, record_at}
 use Rattle.cb_shared.proofs.PinsAlone.{reads_pin_at}
 use Rattle.cb_mutate.proofs.Laws.{filled_all, filled_more}
 use Rattle.cb_shared.proofs.ReadSteps.{moves_then}
@@ -36,14 +36,15 @@ put_word-requires c =
 pub loop-i-preserved : goal.loop-i-preserved
 loop-i-preserved c = let inv = c.loop-i.invariant in let i = c.loop-i.i in
     let e = c.load-word.ensures in
-    let same : Moves c.loop-i.seat c.load-word.new.seat c.loop-i.seat.me.0 = (e.0, e.1, e.2.0) in let put = c.put_word.ensures in (
+    let same : Moves c.loop-i.seat c.load-word.new.seat (record_at c.loop-i.seat) =
+    (e.0, e.1, e.2.0) in let put = c.put_word.ensures in (
       of_moves c.args.top.now.table_id c.args.top.now.key c.args.config.now c.loop-i.seat
-          c.load-word.new.seat c.loop-i.seat.me.0 inv.0 same refl refl,
+          c.load-word.new.seat (record_at c.loop-i.seat) inv.0 same refl refl,
       moves_then c.args.seat.now c.loop-i.seat c.load-word.new.seat (λ (x : View). x)
-          c.args.seat.now.me.0 inv.1 same,
+          (record_at c.args.seat.now) inv.1 same,
       put.sized ∙ inv.2,
       λ p u.
-          let has : Has p c.loop-i.seat.me.0.pins =
+          let has : Has p (record_at c.loop-i.seat).pins =
           subst (Has p) (sym (ap (λ (m : Sat). m.0.pins) inv.1.2)) u.0 in
           let lt : i < words_for p.len = omega (
             arith,

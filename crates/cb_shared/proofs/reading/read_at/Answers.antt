@@ -7,6 +7,7 @@ use Rattle.cb_rule.specs.Lists.{times}
 use Rattle.cb_rule.specs.Seats.{pins_it}
 use Rattle.cb_rule.specs.Slot.{Sat}
 use Rattle.cb_rule.specs.Steps.{stand, with_pin}
+use Rattle.cb_shared.specs.Seats.{record_at}
 use Rattle.cb_shared.proofs.ReadSteps.{read_ended, under_pin}
 use Rattle.cb_shared.proofs.Resting.{pins_some}
 use Rattle.cb_shared.proofs.WriteSteps.{of_moves}
@@ -24,16 +25,16 @@ pub tell_version-version-requires-clause-of : goal.tell_version-version-requires
 tell_version-version-requires-clause-of c =
     let y = c.take_pin-found.ensures.won c.if-found-saw.false in
     of_moves c.args.top.now.table_id c.args.top.now.key c.args.config.now c.args.seat.now
-    c.take_pin-found.new.seat (with_pin c.args.h c.args.saw y.0 y.1 c.args.seat.now.me.0)
+    c.take_pin-found.new.seat (with_pin c.args.h c.args.saw y.0 y.1 (record_at c.args.seat.now))
     c.requires.of y.4 refl refl
 
 pub load_into-requires-clause-of : goal.load_into-requires-clause-of
 load_into-requires-clause-of c =
     of_moves c.args.top.now.table_id c.args.top.now.key c.args.config.now c.take_pin-found.new.seat
-    c.tell_version-version.new.seat c.take_pin-found.new.seat.me.0
+    c.tell_version-version.new.seat (record_at c.take_pin-found.new.seat)
     (let y = c.take_pin-found.ensures.won c.if-found-saw.false in
     of_moves c.args.top.now.table_id c.args.top.now.key c.args.config.now c.args.seat.now
-    c.take_pin-found.new.seat (with_pin c.args.h c.args.saw y.0 y.1 c.args.seat.now.me.0)
+    c.take_pin-found.new.seat (with_pin c.args.h c.args.saw y.0 y.1 (record_at c.args.seat.now))
     c.requires.of y.4 refl refl) c.tell_version-version.ensures.moves refl refl
 
 pub load_into-requires-clause-inside : goal.load_into-requires-clause-inside
@@ -61,11 +62,11 @@ pub give_pin-requires-clause-of : goal.give_pin-requires-clause-of
 give_pin-requires-clause-of c =
     let y = c.take_pin-found.ensures.won c.if-found-saw.false in
     of_moves c.args.top.now.table_id c.args.top.now.key c.args.config.now
-    c.tell_version-version.new.seat c.load_into.new.seat c.tell_version-version.new.seat.me.0
+    c.tell_version-version.new.seat c.load_into.new.seat (record_at c.tell_version-version.new.seat)
     (of_moves c.args.top.now.table_id c.args.top.now.key c.args.config.now c.take_pin-found.new.seat
-    c.tell_version-version.new.seat c.take_pin-found.new.seat.me.0
+    c.tell_version-version.new.seat (record_at c.take_pin-found.new.seat)
     (of_moves c.args.top.now.table_id c.args.top.now.key c.args.config.now c.args.seat.now
-    c.take_pin-found.new.seat (with_pin c.args.h c.args.saw y.0 y.1 c.args.seat.now.me.0)
+    c.take_pin-found.new.seat (with_pin c.args.h c.args.saw y.0 y.1 (record_at c.args.seat.now))
     c.requires.of y.4 refl refl) c.tell_version-version.ensures.moves refl refl)
     c.load_into.ensures.same refl refl
 
@@ -78,7 +79,7 @@ give_pin-requires-clause-held c =
     subst (λ (ps : List Stand). 0 < times (pins_it c.args.h) ps)
     (sym (ap (λ (m : Sat). m.0.pins) c.load_into.ensures.same.2))
     (pins_some (stand c.args.h (len_of c.args.saw) (place_of c.args.saw) y.0 y.1)
-    c.tell_version-version.new.seat.me.0.pins u.0)
+    (record_at c.tell_version-version.new.seat).pins u.0)
 
 pub returns : goal.returns
 returns c = record {

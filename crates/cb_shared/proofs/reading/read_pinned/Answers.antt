@@ -1,6 +1,7 @@
 use Rattle.std.proofs.Common.{◌≤◌, length, refl, sym, subst, ◌∙◌}
 use Rattle.cb_rule.specs.declared.view.View.{View}
 use Rattle.cb_rule.specs.Steps.{Knows, with_look}
+use Rattle.cb_shared.specs.Seats.{record_at}
 use Rattle.cb_shared.proofs.ReadSteps.{at_word, refused_moves}
 use Rattle.cb_shared.proofs.Resting.{here_empty, view_of}
 use Rattle.cb_shared.proofs.WriteSteps.{of_moves}
@@ -10,7 +11,7 @@ pub read_at-requires-clause-of : goal.read_at-requires-clause-of
 read_at-requires-clause-of c =
     let is = (c.refuse_read.ensures.room c.in-None.is).0 in
     of_moves c.args.top.now.table_id c.args.top.now.key c.args.config.now c.args.seat.now
-    c.glance-saw.new.seat (with_look c.args.h c.glance-saw.result c.args.seat.now.me.0)
+    c.glance-saw.new.seat (with_look c.args.h c.glance-saw.result (record_at c.args.seat.now))
     c.requires.of (c.glance-saw.ensures.other (λ e. here_empty (sym is ∙ e))) refl refl
 
 pub read_at-requires-clause-here : goal.read_at-requires-clause-here
@@ -23,14 +24,14 @@ pub read_at-requires-clause-knows : goal.read_at-requires-clause-knows
 read_at-requires-clause-knows c =
     let is = (c.refuse_read.ensures.room c.in-None.is).0 in
     subst (Knows c.args.h) (sym (view_of c.args.seat.now c.glance-saw.new.seat
-    (with_look c.args.h c.glance-saw.result c.args.seat.now.me.0)
+    (with_look c.args.h c.glance-saw.result (record_at c.args.seat.now))
     (c.glance-saw.ensures.other (λ e. here_empty (sym is ∙ e))))) c.requires.knows
 
 pub read_at-requires-clause-few : goal.read_at-requires-clause-few
 read_at-requires-clause-few c =
     let is = (c.refuse_read.ensures.room c.in-None.is).0 in
     subst (λ (v : View). length v.pins ≤ 16) (sym (view_of c.args.seat.now c.glance-saw.new.seat
-    (with_look c.args.h c.glance-saw.result c.args.seat.now.me.0)
+    (with_look c.args.h c.glance-saw.result (record_at c.args.seat.now))
     (c.glance-saw.ensures.other (λ e. here_empty (sym is ∙ e))))) c.requires.few
 
 pub returns-in-Some-clause-read : goal.returns-in-Some-clause-read

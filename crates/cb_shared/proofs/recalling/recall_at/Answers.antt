@@ -1,5 +1,6 @@
 use Rattle.std.proofs.Common.{ℕ, subst, arith}
 use Rattle.cb_shared.specs.Recalls.{Recalls}
+use Rattle.cb_shared.specs.Seats.{record_at}
 use Rattle.cb_shared.proofs.Recalled.{recalls_at}
 use Rattle.cb_shared.proofs.recalling.recall_at.Goals as goal
 
@@ -15,4 +16,4 @@ returns-clause-same g c = (c.load.ensures.0, c.load.ensures.1, c.load.ensures.2.
 
 pub returns-clause-own : goal.returns-clause-own
 returns-clause-own g c =
-    subst (λ (n : ℕ). Recalls n c.args.seat.now.me.0) c.requires.picks c.load.ensures.2.1
+    subst (λ (n : ℕ). Recalls n (record_at c.args.seat.now)) c.requires.picks c.load.ensures.2.1

@@ -1,6 +1,7 @@
 use Rattle.std.proofs.Common.{ℕ, [], ap, ◌∙◌, arith}
 use Rattle.cb_rule.specs.Slot.{Sat}
 use Rattle.cb_rule.specs.Steps.{left_of, right_of}
+use Rattle.cb_shared.specs.Seats.{record_at}
 use Rattle.cb_shared.proofs.SeatsAlone.{splits_at}
 use Rattle.cb_shared.proofs.seats.split_seat.Goals as goal
 
@@ -16,12 +17,13 @@ pub returns-clause-left : goal.returns-clause-left
 returns-clause-left g c = let s = c.split_seat.ensures in (
   s.0,
   s.1,
-  s.2 ∙ ap (λ (n : ℕ). let m : Sat = (left_of n c.args.seat.now.me.0, c.args.seat.now.me.1) in m)
-      c.requires.picks,
+  s.2 ∙ ap (λ (n : ℕ). let m : Sat =
+      (left_of n (record_at c.args.seat.now), c.args.seat.now.me.1) in m) c.requires.picks,
 )
 
 pub returns-clause-right : goal.returns-clause-right
 returns-clause-right g c = let s = c.split_seat.ensures in (
   s.3,
-  s.4 ∙ ap (λ (n : ℕ). let m : Sat = (right_of n c.args.seat.now.me.0, []) in m) c.requires.picks,
+  s.4 ∙ ap (λ (n : ℕ). let m : Sat = (right_of n (record_at c.args.seat.now), []) in m)
+      c.requires.picks,
 )

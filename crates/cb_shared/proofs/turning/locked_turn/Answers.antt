@@ -1,5 +1,6 @@
 use Rattle.std.proofs.Common.{◌∙◌, ap, sym, arith}
 use Rattle.cb_rule.specs.Slot.{Sat}
+use Rattle.cb_shared.specs.Seats.{record_at}
 use Rattle.cb_shared.proofs.AfterTurn.{at_end, begins_taken, ends_work, knows_taken, of_taken}
 use Rattle.cb_shared.proofs.AfterTurn.{of_work, pins_taken, slots_taken, took_as, turn_with}
 use Rattle.cb_shared.proofs.AfterTurn.{turned_by}
@@ -77,7 +78,7 @@ returns-clause-new g c = let t = took_as c.args.config.now c.deref_mut.result.no
     (c.deref_mut.ensures.value ∙ c.far.view_is) c.lock_far-far.ensures.took in
     let w = c.work-reply.ensures.work in
     makes_new c.args.top.now.key.first c.args.config.now c.args.job.now c.work-reply.result
-    c.lock_far-far.new.seat.me.0.known w.events c.deref_mut.result.now c.work-reply.new.far
-    c.args.seat.now.me.0
+    (record_at c.lock_far-far.new.seat).known w.events c.deref_mut.result.now c.work-reply.new.far
+    (record_at c.args.seat.now)
     w.did (sym t.stood.sound.here.known.first
     ∙ sym (ap (λ (m : Sat). m.0.known.first) t.at.2) ∙ c.lock_far-far.ensures.first) t.made

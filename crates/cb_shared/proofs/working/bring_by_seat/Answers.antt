@@ -1,4 +1,5 @@
 use Rattle.std.proofs.Common.{rules, ◌≡◌, ◌≤◌, refl, arith}
+use Rattle.cb_shared.specs.Seats.{record_at}
 use Rattle.cb_shared.specs.UnderLock.{BringAt}
 use Rattle.cb_shared.proofs.Turns.{bring_at, turn_ran}
 use Rattle.cb_shared.proofs.working.bring_by_seat.Goals as goal
@@ -24,7 +25,7 @@ bring_to_read-reply-requires g c = record {
   configured = c.requires.stood.configured;
   handle = c.requires.handle;
   counted = c.requires.stood.counted;
-  sound = (c.args.seat.now.me.0.known, refl, c.requires.stood.sound);
+  sound = ((record_at c.args.seat.now).known, refl, c.requires.stood.sound);
 }
 
 pub returns-clause-bring : goal.returns-clause-bring

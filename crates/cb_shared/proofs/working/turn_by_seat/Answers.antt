@@ -1,12 +1,13 @@
 use Rattle.std.proofs.Common.{rules, ℕ, ◌≡◌, ◌≤◌, Option, refl, sym, subst}
 use Rattle.cb_shared.specs.Rights.{rights}
+use Rattle.cb_shared.specs.Seats.{record_at}
 use Rattle.cb_shared.specs.UnderLock.{TurnAtSeat}
 use Rattle.cb_shared.proofs.Turns.{turn_at, turn_ran}
 use Rattle.cb_shared.proofs.Rights.{begins_with}
 use Rattle.cb_shared.proofs.working.turn_by_seat.Goals as goal
 
 pub invariant_of-desk : goal.invariant_of-desk
-invariant_of-desk g c = let h = c.requires.holds in let v = c.args.seat.now.me.0 in record {
+invariant_of-desk g c = let h = c.requires.holds in let v = record_at c.args.seat.now in record {
   table = h.of.table;
   counts = h.of.words;
   key = h.of.key;
@@ -27,7 +28,7 @@ turn-reply-requires g c = record {
   configured = c.requires.stood.configured;
   job = c.requires.job;
   counted = c.requires.stood.counted;
-  sound = (c.args.seat.now.me.0.known, refl, c.requires.stood.sound);
+  sound = ((record_at c.args.seat.now).known, refl, c.requires.stood.sound);
 }
 
 pub returns-clause-turn : goal.returns-clause-turn

@@ -5,6 +5,7 @@ use Rattle.cb_types.specs.declared.job.Job.{Job}
 use Rattle.cb_types.specs.declared.job.Job.TheVariants as jobs
 use Rattle.cb_core.specs.Jobs.{IsJob}
 use Rattle.cb_core.specs.Unavailable.{TurnTells}
+use Rattle.cb_shared.specs.Seats.{record_at}
 use Rattle.cb_shared.specs.Turning.{KnowsOf}
 use Rattle.cb_shared.specs.UnderLock.{IsNoRead, WorkBy}
 use Rattle.cb_shared.proofs.AfterTurn.{holds_begun}
@@ -20,7 +21,7 @@ read_by_seat-requires-clause-handle g c = subst (IsJob c.args.config.now)
     c.in-Read.is c.requires.job
 
 pub read_by_seat-requires-clause-knows : goal.read_by_seat-requires-clause-knows
-read_by_seat-requires-clause-knows g c = subst (λ (j : Job). KnowsOf j c.args.seat.now.me.0)
+read_by_seat-requires-clause-knows g c = subst (λ (j : Job). KnowsOf j (record_at c.args.seat.now))
     c.in-Read.is c.requires.knows
 
 pub turn_by_seat-requires : goal.turn_by_seat-requires

@@ -6,7 +6,7 @@ use Rattle.cb_rule.specs.Slot.{Sat}
 use Rattle.cb_rule.specs.Steps.{with_claim_word}
 use Rattle.cb_rule.specs.Words.{base}
 use Rattle.cb_shared.specs.Claims.{HoldsOnly, IsWithin, with_memory, with_only}
-use Rattle.cb_shared.specs.Seats.{Moves}
+use Rattle.cb_shared.specs.Seats.{Moves, record_at}
 use Rattle.cb_shared.proofs.OwnSteps.{may_store, stores_only}
 use Rattle.cb_shared.proofs.WriteSteps.{of_moves}
 use Rattle.cb_shared.proofs.writing.overwrite_own.Goals as goal
@@ -21,7 +21,7 @@ loop-i-init c = (
       refl,
       refl,
       ap (λ (l : List Held). let p = c.args.seat.now in
-          let z : Sat = (record p.me.0 { claims = l }, p.me.1) in
+          let z : Sat = (record (record_at p) { claims = l }, p.me.1) in
           z) ho.0,
     ),
   ),
@@ -34,7 +34,7 @@ store-requires c = let h = c.requires.claim in let x = h.0 in let w = h.2 in
     let lt : i < words_for x.len =
     omega (arith, c.loop-i-test.true, c.div_ceil-i-end.ensures, w.inside) in
     let o = of_moves c.args.top.now.table_id c.args.top.now.key k c.loop-i.seat
-    c.merged_own-word.new.seat c.loop-i.seat.me.0 c.loop-i.invariant.0 same refl refl in (
+    c.merged_own-word.new.seat (record_at c.loop-i.seat) c.loop-i.invariant.0 same refl refl in (
       o.table,
       (let z = o.words in let l = w.lies i lt in let e = w.there in omega arith),
       may_store c.args.top.now.table_id c.args.top.now.key k c.merged_own-word.new.seat o y x.handle
@@ -47,7 +47,7 @@ stored : (c : goal.After-store) (x : Held) (ho : HoldsOnly x x.handle c.args.sea
     (w : IsWithin c.args.config.now x c.args.place c.args.at (length c.args.bytes.now))
     → Moves c.merged_own-word.new.seat c.store.new.seat
     (with_only (with_claim_word c.loop-i.i c.merged_own-word.result
-    (with_memory (c.loop-i.invariant.1 x ho w).0 x)) c.merged_own-word.new.seat.me.0)
+    (with_memory (c.loop-i.invariant.1 x ho w).0 x)) (record_at c.merged_own-word.new.seat))
 stored c x ho w = let inv = c.loop-i.invariant.1 x ho w in let i = c.loop-i.i in
     let k = c.args.config.now in let same = c.merged_own-word.ensures.same in
     stores_only k c.args.top.now.table_id.slots c.merged_own-word.new.seat c.store.new.seat
@@ -64,9 +64,9 @@ loop-i-preserved c = let i = c.loop-i.i in let same = c.merged_own-word.ensures.
       let y : Held = with_memory inv.0 x in let mid = c.merged_own-word.new.seat in
       let s = stored c x h.1 h.2 in
       of_moves c.args.top.now.table_id c.args.top.now.key c.args.config.now mid c.store.new.seat
-      (with_only (with_claim_word i c.merged_own-word.result y) mid.me.0)
+      (with_only (with_claim_word i c.merged_own-word.result y) (record_at mid))
       (of_moves c.args.top.now.table_id c.args.top.now.key c.args.config.now c.loop-i.seat mid
-      c.loop-i.seat.me.0 c.loop-i.invariant.0 same refl refl) s refl refl),
+      (record_at c.loop-i.seat) c.loop-i.invariant.0 same refl refl) s refl refl),
   λ x ho w. let inv = c.loop-i.invariant.1 x ho w in
       let y : Held = with_memory inv.0 x in let n = c.merged_own-word.result in
       let lt : i < words_for x.len =

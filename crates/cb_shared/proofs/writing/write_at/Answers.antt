@@ -4,7 +4,7 @@ use Rattle.cb_rule.specs.Steps.{held_at, with_look}
 use Rattle.cb_shared.specs.declared.answers.WriteAnswer.{WriteAnswer}
 use Rattle.cb_shared.specs.Claims.{ClaimsHere, IsFreshClaim, with_only}
 use Rattle.cb_shared.specs.Passes.{IsAtRest}
-use Rattle.cb_shared.specs.Seats.{SeatAt}
+use Rattle.cb_shared.specs.Seats.{SeatAt, record_at}
 use Rattle.cb_shared.specs.Writing.{WriteClaimed}
 use Rattle.cb_shared.proofs.OwnAlone.{claims_here_at}
 use Rattle.cb_shared.proofs.OwnSteps.{claims_only}
@@ -65,7 +65,7 @@ write_claimed-requires-clause-of c = let y = (claims (goal.at.write_claimed-requ
     of_moves c.args.top.now.table_id c.args.top.now.key c.args.config.now c.args.seat.now
     c.compare_exchange-found.new.seat
     (with_only (held_at c.args.h c.args.saw y.0 y.1) (with_look c.args.h c.args.saw
-    c.args.seat.now.me.0)) c.requires.of y.6 refl refl
+    (record_at c.args.seat.now))) c.requires.of y.6 refl refl
 
 -- where the write leaves the seat
 after : (c : After-compare_exchange-found) (a : WriteAnswer) (q : SeatAt)

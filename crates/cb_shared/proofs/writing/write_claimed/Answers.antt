@@ -13,7 +13,7 @@ use Rattle.cb_rule.specs.Words.{stamps}
 use Rattle.cb_shared.specs.declared.setup.Setup.{Setup}
 use Rattle.cb_shared.specs.Claims.{HoldsOnly, IsFreshClaim, IsWithin, back_only, with_memory}
 use Rattle.cb_shared.specs.Claims.{with_only, written_only}
-use Rattle.cb_shared.specs.Seats.{IsOf, Moves, SeatAt}
+use Rattle.cb_shared.specs.Seats.{IsOf, Moves, SeatAt, record_at}
 use Rattle.cb_shared.proofs.OwnSteps.{may_put_back, may_settle, may_stamp, puts_only, settles_only}
 use Rattle.cb_shared.proofs.OwnSteps.{stamps_only, version_held}
 use Rattle.cb_shared.proofs.PinsAlone.{dates_at}
@@ -31,7 +31,7 @@ load-version-requires c = let o = c.requires.of in (
 -- the seat after the load of the version word, and what is known of it there
 record IsLoaded (z : TableId) (k : Setup) (g : Config) (h n : ℕ) (p m : SeatAt) : Type 0 where
   pub of : IsOf z k g p
-  pub same : Moves p m p.me.0
+  pub same : Moves p m (record_at p)
   pub tells : (x : Held) → HoldsOnly x h p → n ≡ x.stamp
 
 loaded : (c : After-load-version) → IsLoaded c.args.top.now.table_id c.args.top.now.key
@@ -59,7 +59,7 @@ within c v words f = record {
 module _ (z : TableId) (k : Setup) (g : Config) (h n : ℕ) (p m : SeatAt)
     (l : IsLoaded z k g h n p m) where
   of_loaded : IsOf z k g m
-  of_loaded = of_moves z k g p m p.me.0 l.of l.same refl refl
+  of_loaded = of_moves z k g p m (record_at p) l.of l.same refl refl
 
   module _ (word v : ℕ) (words : List ℕ) (f : IsFreshClaim g h word v words p) where
     found : n ≡ v
@@ -70,20 +70,21 @@ module _ (z : TableId) (k : Setup) (g : Config) (h n : ℕ) (p m : SeatAt)
 
 -- the seat after the stores of the words and of the version
 module _ (z : TableId) (k : Setup) (g : Config) (m q s : SeatAt) (o : IsOf z k g m) (y : Held)
-    (n : ℕ) (wrote : Moves m q (with_only y m.me.0)) where
+    (n : ℕ) (wrote : Moves m q (with_only y (record_at m))) where
   of_wrote : IsOf z k g q
-  of_wrote = of_moves z k g m q (with_only y m.me.0) o wrote refl refl
+  of_wrote = of_moves z k g m q (with_only y (record_at m)) o wrote refl refl
 
   held : HoldsOnly y y.handle q
   held = (ap (λ (m : Sat). m.0.claims) wrote.2, refl)
 
   module _ (table : s.table_id ≡ q.table_id) (id : s.id ≡ q.id)
       (done : stamped_here (step z.slots (stamps g + y.handle) n 0 none) q.me n s.me) where
-    stamp : Moves q s (with_only (with_stamp n y) q.me.0)
+    stamp : Moves q s (with_only (with_stamp n y) (record_at q))
     stamp = stamps_only g z.slots q s of_wrote.config table id y y.handle held n done
 
     of_stamped : IsOf z k g s
-    of_stamped = of_moves z k g q s (with_only (with_stamp n y) q.me.0) of_wrote stamp refl refl
+    of_stamped = of_moves z k g q s (with_only (with_stamp n y) (record_at q)) of_wrote
+        stamp refl refl
 
 pub store-requires : goal.store-requires
 store-requires c = let r = c.requires.claim in
@@ -114,10 +115,10 @@ returns-then-version c v words f =
             z) l.same.2
             ∙ ap (λ (n : ℕ).
             let z : Sat = (
-              record c.args.seat.now.me.0 {
+              record (record_at c.args.seat.now) {
                 claims = [];
                 seen = version_seen c.args.h n (len_of c.args.word) words
-                    ∷ c.args.seat.now.me.0.seen;
+                    ∷ (record_at c.args.seat.now).seen;
               },
               c.args.seat.now.me.1,
             ) in

@@ -1,6 +1,7 @@
 use Rattle.std.proofs.Common.{◌∙◌, sym, ap}
 use Rattle.cb_record.specs.Parts.{grown}
 use Rattle.cb_shared.specs.Handles.{handles_of}
+use Rattle.cb_shared.specs.Passes.{record_of}
 use Rattle.cb_shared.proofs.Glanced.{of_pass}
 use Rattle.cb_shared.proofs.Resting.{view_of}
 use Rattle.cb_shared.proofs.Seeking.{kept_known}
@@ -20,7 +21,7 @@ returns-clause-of g c = let k = kept_known c.args.self.now.config c.args.freed c
 pub returns-clause-finds : goal.returns-clause-finds
 returns-clause-finds g c = let x = c.find_known.ensures in (
   x.0,
-  view_of c.args.pass.now.seat c.find_known.new.seat (grown x.0 c.args.pass.now.seat.me.0) x.1,
+  view_of c.args.pass.now.seat c.find_known.new.seat (grown x.0 (record_of c.args.pass.now)) x.1,
   x.4,
 )
 

@@ -5,7 +5,8 @@ use Rattle.cb_rule.specs.Steps.{joined}
 use Rattle.cb_rule.specs.declared.view.View.{View}
 use Rattle.cb_shared.specs.Handles.{handles_of}
 use Rattle.cb_shared.specs.Joining.{unpinned_all}
-use Rattle.cb_shared.specs.Passes.{IsAtRest}
+use Rattle.cb_shared.specs.Passes.{IsAtRest, record_of}
+use Rattle.cb_shared.specs.Seats.{record_at}
 use Rattle.cb_shared.specs.Trying.{tries_of}
 use Rattle.cb_shared.proofs.Glanced.{of_pass}
 use Rattle.cb_shared.proofs.Parting.{rest_joined, tries_joined}
@@ -50,7 +51,7 @@ load-requires c = let s = c.args.self.now in (
 
 -- what the look leaves
 left : (c : After-load) → c.load.new.seat.me ≡ (let z : Sat = (
-  joined c.args.pass.now.seat.me.0 (unpinned_all c.args.other.seat.me.0),
+  joined (record_of c.args.pass.now) (unpinned_all (record_of c.args.other)),
   c.args.pass.now.seat.me.1,
 ) in z)
 left c = let p = c.args.pass.now.seat.me in
@@ -59,24 +60,24 @@ left c = let p = c.args.pass.now.seat.me in
 
 pub invariant_of-pass : goal.invariant_of-pass
 invariant_of-pass c = let p = c.args.pass.now in let o = c.give_back.new.pass in
-    let v = p.seat.me.0 in let g = c.give_back.ensures.2 in let z = left c in record {
+    let v = record_of p in let g = c.give_back.ensures.2 in let z = left c in record {
       shares = (λ i. p.shares i + o.shares i)
           ∙ ap (λ (m : Sat). v.share + m.0.share) g ∙ sym (ap (λ (m : Sat). m.0.share) z);
       carries = ap (λ (m : Sat). m.1) z ∙ p.carries;
       pinned = p.pinned ∙ sym (ap (λ (m : Sat). handles_of m.0.pins) z);
       tried = c.or-pass.ensures ∙ (λ i. option_or (o.tried i) (p.tried i))
           ∙ ap (λ (m : Sat). option_or (tries_of m.0) (tries_of v)) g
-          ∙ tries_joined v c.args.other.seat.me.0
+          ∙ tries_joined v (record_of c.args.other)
           (c.requires.other.rest.config ∙ sym c.requires.of.rest.config)
           ∙ sym (ap (λ (m : Sat). tries_of m.0) z);
     }
 
 pub returns-clause-of : goal.returns-clause-of
 returns-clause-of c =
-    let cfg = c.args.self.now.config in let v = c.args.pass.now.seat.me.0 in
-    let w = c.args.other.seat.me.0 in let t = c.load.ensures in
+    let cfg = c.args.self.now.config in let v = record_of c.args.pass.now in
+    let w = record_of c.args.other in let t = c.load.ensures in
     let z = left (goal.at.returns-clause-of c).After-load in
-    let back : c.join_seats.new.seat.me.0 ≡ joined v (unpinned_all w) =
+    let back : record_at c.join_seats.new.seat ≡ joined v (unpinned_all w) =
     ap (λ (m : Sat). m.0) c.join_seats.ensures.2
     ∙ ap (λ (m : Sat). joined v m.0) c.give_back.ensures.2 in record {
       accepted = c.requires.of.accepted;

@@ -4,7 +4,7 @@ use Rattle.cb_rule.specs.Slot.{Sat}
 use Rattle.cb_rule.specs.Steps.{with_peek}
 use Rattle.cb_rule.specs.Words.{base}
 use Rattle.cb_shared.specs.Handles.{handles_of}
-use Rattle.cb_shared.specs.Passes.{IsAtRest, PinFits, stand_of}
+use Rattle.cb_shared.specs.Passes.{IsAtRest, PinFits, record_of, stand_of}
 use Rattle.cb_shared.specs.Seats.{Moves}
 use Rattle.cb_shared.specs.Trying.{tries_of}
 use Rattle.cb_shared.proofs.PinsAlone.{peeks_at}
@@ -17,7 +17,8 @@ load-requires c = let s = c.args.self.now in let p = c.requires.pin in (
   c.requires.of.table,
   (let all = s.counts in
       let l = (each_has (PinFits s.config) (stand_of c.args.pin.now p.0)
-      c.args.pass.now.seat.me.0.pins c.requires.of.rest.pins p.1).1 c.args.index c.requires.index in
+      (record_of c.args.pass.now).pins c.requires.of.rest.pins p.1).1 c.args.index
+      c.requires.index in
       omega arith),
   peeks_at s.board.shared.key.first s.config _ s.key _ _ _ c.requires.of.rest.live
       (stand_of c.args.pin.now p.0) _ p.1 c.requires.index,
@@ -26,7 +27,7 @@ load-requires c = let s = c.args.self.now in let p = c.requires.pin in (
 -- where the load leaves the seat
 moved : (c : After-load) → Moves c.args.pass.now.seat c.load.new.seat
     (with_peek c.args.pin.now.handle.n c.args.pin.now.version c.args.index c.load.result
-    c.args.pass.now.seat.me.0)
+    (record_of c.args.pass.now))
 moved c = let p = c.requires.pin in (
   c.load.ensures.0,
   c.load.ensures.1,

@@ -3,6 +3,7 @@ use Rattle.std.proofs.lemmas.Result.{IfOk-weaker, on_err_weaker}
 use Rattle.crossbeam_utils.specs.Padded.{padded_value}
 use Rattle.cb_shared.specs.Handles.{handles_of}
 use Rattle.cb_record.specs.Parts.{grown}
+use Rattle.cb_shared.specs.Passes.{record_of}
 use Rattle.cb_shared.specs.Reading.{looked}
 use Rattle.cb_shared.proofs.ReadKept.{kept_read}
 use Rattle.cb_shared.proofs.Resting.{known_below, view_of}
@@ -11,17 +12,17 @@ use Rattle.cb_shared.proofs.runtime.Shared.read_beside.Goals as goal
 
 pub read_pinned-requires-clause-handle : goal.read_pinned-requires-clause-handle
 read_pinned-requires-clause-handle c = known_below c.args.self.now.config c.args.h.n
-    c.args.pass.now.seat.me.0 c.requires.of.rest c.requires.knows
+    (record_of c.args.pass.now) c.requires.of.rest c.requires.knows
 
 pub read_pinned-requires-clause-few : goal.read_pinned-requires-clause-few
 read_pinned-requires-clause-few c = few_pins (padded_value c.args.pass.now.pins).items
-    c.args.pass.now.seat.me.0.pins c.args.pass.now.pinned c.count_pins.ensures.few
+    (record_of c.args.pass.now).pins c.args.pass.now.pinned c.count_pins.ensures.few
 
 pub returns-clause-of : goal.returns-clause-of
 returns-clause-of c =
     let k = kept_read c.args.self.now.config c.args.h.n c.args.pass.now.seat c.read_pinned.new.seat
     c.read_pinned.result c.requires.of.rest
-    (known_below c.args.self.now.config c.args.h.n c.args.pass.now.seat.me.0 c.requires.of.rest
+    (known_below c.args.self.now.config c.args.h.n (record_of c.args.pass.now) c.requires.of.rest
     c.requires.knows) c.read_pinned.ensures.read c.read_pinned.ensures.error in record {
       accepted = c.requires.of.accepted;
       table = k.table ∙ c.requires.of.table;
@@ -33,7 +34,7 @@ returns-clause-read c = IfOk-weaker c.read_pinned.result _ _
     (λ a x. (
       x.0,
       view_of c.args.pass.now.seat c.read_pinned.new.seat
-          (grown x.0 c.args.pass.now.seat.me.0) x.1,
+          (grown x.0 (record_of c.args.pass.now)) x.1,
       x.2,
     )) c.read_pinned.ensures.read
 
@@ -43,14 +44,14 @@ returns-clause-error c = on_err_weaker c.read_pinned.result
       x.0,
       x.1,
       view_of c.args.pass.now.seat c.read_pinned.new.seat
-          (grown (looked c.args.h.n x.0) c.args.pass.now.seat.me.0) x.2,
+          (grown (looked c.args.h.n x.0) (record_of c.args.pass.now)) x.2,
     )) c.read_pinned.ensures.error
 
 pub invariant_of-pass : goal.invariant_of-pass
 invariant_of-pass c =
     let k = kept_read c.args.self.now.config c.args.h.n c.args.pass.now.seat c.read_pinned.new.seat
     c.read_pinned.result c.requires.of.rest
-    (known_below c.args.self.now.config c.args.h.n c.args.pass.now.seat.me.0 c.requires.of.rest
+    (known_below c.args.self.now.config c.args.h.n (record_of c.args.pass.now) c.requires.of.rest
     c.requires.knows) c.read_pinned.ensures.read c.read_pinned.ensures.error in record {
       shares = c.args.pass.now.shares ∙ sym k.share;
       carries = k.carries ∙ c.args.pass.now.carries;

@@ -1,6 +1,7 @@
 use Rattle.std.proofs.Common.{◌∙◌, sym, ap, subst}
 use Rattle.cb_rule.specs.Slot.{Sat}
 use Rattle.cb_rule.specs.declared.view.View.{View}
+use Rattle.cb_shared.specs.Passes.{record_of}
 use Rattle.cb_shared.specs.Recalls.{Recalls}
 use Rattle.cb_shared.proofs.Resting.{rest_moved}
 use Rattle.cb_shared.proofs.runtime.Shared.recall.Goals as goal
@@ -10,7 +11,7 @@ returns-clause-of c = let m = c.recall_at.ensures.same in record {
   accepted = c.requires.of.accepted;
   table = m.0 ∙ c.requires.of.table;
   rest = rest_moved c.args.self.now.config c.args.pass.now.seat c.recall_at.new.seat
-      c.args.pass.now.seat.me.0 m c.requires.of.rest;
+      (record_of c.args.pass.now) m c.requires.of.rest;
 }
 
 pub returns-clause-same : goal.returns-clause-same

@@ -7,25 +7,27 @@ use Rattle.cb_shared.proofs.CallSteps.{found_knows, is_hindered, lacks_room}
 use Rattle.cb_shared.proofs.Fetches.{fetch_is, fetched, fetched_more, fetches_none, found_same}
 use Rattle.cb_shared.proofs.Fetches.{lacks_same, no_fetches}
 use Rattle.cb_shared.specs.Calls.{IsUnfetched}
+use Rattle.cb_shared.specs.Passes.{record_of}
 use Rattle.cb_shared.proofs.Resting.{known_below}
 use Rattle.cb_shared.proofs.runtime.Shared.try_read.Goals as goal
 
 pub returns-in_err-version-clause-error : goal.returns-in_err-version-clause-error
 returns-in_err-version-clause-error g c = err_always c.from_residual.result _
-    (lacks_room c.args.self.now.config c.args.h.n c.args.pass.now.seat.me.0 c.read_beside.new.pass.seat.me.0
-    c.in_err-version.ensures.error)
+    (lacks_room c.args.self.now.config c.args.h.n (record_of c.args.pass.now)
+    (record_of c.read_beside.new.pass) c.in_err-version.ensures.error)
 
 pub try_turn-requires-clause-job : goal.try_turn-requires-clause-job
 try_turn-requires-clause-job g c = fetch_job c.args.self.now.config c.args.h.n
     c.fetch_job-job.result (fetch_is c.args.h.n c.args.patience.now.brought c.fetch_job-job.result
     c.fetch_job-job.ensures) (known_below c.args.self.now.config c.args.h.n
-    c.args.pass.now.seat.me.0 c.requires.of.rest c.requires.knows)
+    (record_of c.args.pass.now) c.requires.of.rest c.requires.knows)
 
 pub try_turn-requires-clause-knows : goal.try_turn-requires-clause-knows
 try_turn-requires-clause-knows g c = fetch_knows c.args.h.n c.fetch_job-job.result
-    c.read_beside.new.pass.seat.me.0 (fetch_is c.args.h.n c.args.patience.now.brought c.fetch_job-job.result
+    (record_of c.read_beside.new.pass)
+    (fetch_is c.args.h.n c.args.patience.now.brought c.fetch_job-job.result
     c.fetch_job-job.ensures) (found_knows c.args.h.n
-    c.in_ok-version.field-0 c.args.pass.now.seat.me.0 c.read_beside.new.pass.seat.me.0
+    c.in_ok-version.field-0 (record_of c.args.pass.now) (record_of c.read_beside.new.pass)
     c.requires.knows c.in_ok-version.ensures.read)
 
 pub try_turn-requires-clause-called : goal.try_turn-requires-clause-called
@@ -35,27 +37,29 @@ try_turn-requires-clause-called g c = fetch_called c.args.h.n c.fetch_job-job.re
 
 pub returns-in-Bytes-clause-read : goal.returns-in-Bytes-clause-read
 returns-in-Bytes-clause-read g c = found_bytes c.args.self.now.config c.args.h.n c.in-Bytes.version
-    c.in-Bytes.bytes c.in_ok-version.field-0 c.args.pass.now.seat.me.0
-    c.read_beside.new.pass.seat.me.0 c.in-Bytes.is c.in_ok-version.ensures.read
+    c.in-Bytes.bytes c.in_ok-version.field-0 (record_of c.args.pass.now)
+    (record_of c.read_beside.new.pass) c.in-Bytes.is c.in_ok-version.ensures.read
 
 pub returns-in-Freed-clause-read : goal.returns-in-Freed-clause-read
 returns-in-Freed-clause-read g c = found_freed c.args.self.now.config c.args.h.n
-    c.in_ok-version.field-0 c.args.pass.now.seat.me.0 c.read_beside.new.pass.seat.me.0
+    c.in_ok-version.field-0 (record_of c.args.pass.now) (record_of c.read_beside.new.pass)
     c.in-Freed.is c.in_ok-version.ensures.read
 
 pub returns-in-NotHere-clause-read : goal.returns-in-NotHere-clause-read
 returns-in-NotHere-clause-read g c = IfOk-weaker c.try_turn.result _ _
     (λ o x. away_tries c.args.self.now.config c.args.h.n c.fetch_job-job.result
-    c.in_ok-version.field-0 o c.args.pass.now.seat.me.0 c.read_beside.new.pass.seat.me.0
-    c.try_turn.new.pass.seat.me.0 (fetch_is c.args.h.n c.args.patience.now.brought c.fetch_job-job.result
+    c.in_ok-version.field-0 o (record_of c.args.pass.now) (record_of c.read_beside.new.pass)
+    (record_of c.try_turn.new.pass)
+    (fetch_is c.args.h.n c.args.patience.now.brought c.fetch_job-job.result
     c.fetch_job-job.ensures) c.in-NotHere.is
     c.in_ok-version.ensures.read x) c.try_turn.ensures.turn
 
 pub returns-in-NotHere-clause-error : goal.returns-in-NotHere-clause-error
 returns-in-NotHere-clause-error g c = on_err_weaker c.try_turn.result
     (λ x. away_stops c.args.self.now.config c.args.h.n c.fetch_job-job.result
-    c.in_ok-version.field-0 c.args.pass.now.seat.me.0 c.read_beside.new.pass.seat.me.0
-    c.try_turn.new.pass.seat.me.0 (fetch_is c.args.h.n c.args.patience.now.brought c.fetch_job-job.result
+    c.in_ok-version.field-0 (record_of c.args.pass.now) (record_of c.read_beside.new.pass)
+    (record_of c.try_turn.new.pass)
+    (fetch_is c.args.h.n c.args.patience.now.brought c.fetch_job-job.result
     c.fetch_job-job.ensures) c.in-NotHere.is
     c.in_ok-version.ensures.read x) c.try_turn.ensures.error
 
@@ -77,7 +81,7 @@ returns-in-Freed-clause-of g c = c.in_ok-version.ensures.of
 pub returns-in-Moving-clause-read : goal.returns-in-Moving-clause-read
 returns-in-Moving-clause-read g c = found_hindered c.args.h.n
     (IsUnfetched c.args.self.now.config c.args.h.n) c.in_ok-version.field-0
-    c.args.pass.now.seat.me.0 c.read_beside.new.pass.seat.me.0
+    (record_of c.args.pass.now) (record_of c.read_beside.new.pass)
     (is_hindered c.in_ok-version.field-0 c.in-Moving.is) c.in_ok-version.ensures.read
 
 pub returns-in-Moving-clause-of : goal.returns-in-Moving-clause-of
@@ -88,20 +92,20 @@ returns-in-NotHere-clause-of g c = c.try_turn.ensures.of
 
 pub returns-in-Bytes-clause-jobs : goal.returns-in-Bytes-clause-jobs
 returns-in-Bytes-clause-jobs g c = no_fetches c.args.h.n c.args.patience.now.brought
-    c.args.pass.now.seat.me.0 c.read_beside.new.pass.seat.me.0 (found_same c.args.h.n
-    c.in_ok-version.field-0 c.args.pass.now.seat.me.0 c.read_beside.new.pass.seat.me.0
+    (record_of c.args.pass.now) (record_of c.read_beside.new.pass) (found_same c.args.h.n
+    c.in_ok-version.field-0 (record_of c.args.pass.now) (record_of c.read_beside.new.pass)
     c.in_ok-version.ensures.read)
 
 pub returns-in-Freed-clause-jobs : goal.returns-in-Freed-clause-jobs
 returns-in-Freed-clause-jobs g c = no_fetches c.args.h.n c.args.patience.now.brought
-    c.args.pass.now.seat.me.0 c.read_beside.new.pass.seat.me.0 (found_same c.args.h.n
-    c.in_ok-version.field-0 c.args.pass.now.seat.me.0 c.read_beside.new.pass.seat.me.0
+    (record_of c.args.pass.now) (record_of c.read_beside.new.pass) (found_same c.args.h.n
+    c.in_ok-version.field-0 (record_of c.args.pass.now) (record_of c.read_beside.new.pass)
     c.in_ok-version.ensures.read)
 
 pub returns-in-Moving-clause-jobs : goal.returns-in-Moving-clause-jobs
 returns-in-Moving-clause-jobs g c = no_fetches c.args.h.n c.args.patience.now.brought
-    c.args.pass.now.seat.me.0 c.read_beside.new.pass.seat.me.0 (found_same c.args.h.n
-    c.in_ok-version.field-0 c.args.pass.now.seat.me.0 c.read_beside.new.pass.seat.me.0
+    (record_of c.args.pass.now) (record_of c.read_beside.new.pass) (found_same c.args.h.n
+    c.in_ok-version.field-0 (record_of c.args.pass.now) (record_of c.read_beside.new.pass)
     c.in_ok-version.ensures.read)
 
 pub returns-in-Bytes-clause-brought : goal.returns-in-Bytes-clause-brought
@@ -112,31 +116,32 @@ returns-in-Freed-clause-brought g c = λ none. absurd (none-some _ (sym none))
 
 pub returns-in-Moving-clause-brought : goal.returns-in-Moving-clause-brought
 returns-in-Moving-clause-brought g c = λ none. fetches_none c.args.h.n c.args.patience.now.brought
-    c.wait.new.patience.brought c.args.pass.now.seat.me.0 c.read_beside.new.pass.seat.me.0
+    c.wait.new.patience.brought (record_of c.args.pass.now) (record_of c.read_beside.new.pass)
     (found_same c.args.h.n
-    c.in_ok-version.field-0 c.args.pass.now.seat.me.0 c.read_beside.new.pass.seat.me.0
+    c.in_ok-version.field-0 (record_of c.args.pass.now) (record_of c.read_beside.new.pass)
     c.in_ok-version.ensures.read) c.wait.ensures
 
 pub returns-in_err-version-clause-jobs : goal.returns-in_err-version-clause-jobs
 returns-in_err-version-clause-jobs g c = no_fetches c.args.h.n c.args.patience.now.brought
-    c.args.pass.now.seat.me.0 c.read_beside.new.pass.seat.me.0 (lacks_same c.args.h.n
-    c.args.pass.now.seat.me.0 c.read_beside.new.pass.seat.me.0 c.in_err-version.ensures.error)
+    (record_of c.args.pass.now) (record_of c.read_beside.new.pass) (lacks_same c.args.h.n
+    (record_of c.args.pass.now) (record_of c.read_beside.new.pass) c.in_err-version.ensures.error)
 
 pub returns-in_err-version-clause-brought : goal.returns-in_err-version-clause-brought
 returns-in_err-version-clause-brought g c = IfOk-from_err _ _ c.from_residual.ensures.0
 
 pub returns-in-NotHere-clause-jobs : goal.returns-in-NotHere-clause-jobs
 returns-in-NotHere-clause-jobs g c = fetched c.args.h.n c.args.patience.now.brought
-    c.fetch_job-job.result c.args.pass.now.seat.me.0 c.read_beside.new.pass.seat.me.0
-    c.try_turn.new.pass.seat.me.0 c.fetch_job-job.ensures (found_same c.args.h.n
-    c.in_ok-version.field-0 c.args.pass.now.seat.me.0 c.read_beside.new.pass.seat.me.0
+    c.fetch_job-job.result (record_of c.args.pass.now) (record_of c.read_beside.new.pass)
+    (record_of c.try_turn.new.pass) c.fetch_job-job.ensures (found_same c.args.h.n
+    c.in_ok-version.field-0 (record_of c.args.pass.now) (record_of c.read_beside.new.pass)
     c.in_ok-version.ensures.read) c.try_turn.ensures.one
 
 pub returns-in-NotHere-clause-brought : goal.returns-in-NotHere-clause-brought
 returns-in-NotHere-clause-brought g c = IfOk-weaker c.try_turn.result _ _
     (λ o x none. fetched_more c.args.h.n c.args.patience.now.brought
-    c.try_turn.new.patience.brought c.fetch_job-job.result c.args.pass.now.seat.me.0
-    c.read_beside.new.pass.seat.me.0 c.try_turn.new.pass.seat.me.0 c.fetch_job-job.ensures (found_same c.args.h.n
-    c.in_ok-version.field-0 c.args.pass.now.seat.me.0 c.read_beside.new.pass.seat.me.0
+    c.try_turn.new.patience.brought c.fetch_job-job.result (record_of c.args.pass.now)
+    (record_of c.read_beside.new.pass) (record_of c.try_turn.new.pass) c.fetch_job-job.ensures
+    (found_same c.args.h.n
+    c.in_ok-version.field-0 (record_of c.args.pass.now) (record_of c.read_beside.new.pass)
     c.in_ok-version.ensures.read)
     (x none)) c.try_turn.ensures.brought

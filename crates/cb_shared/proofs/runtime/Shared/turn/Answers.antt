@@ -1,5 +1,6 @@
 use Rattle.std.proofs.Common.{ℕ, Option, sym, subst}
 use Rattle.cb_record.specs.Parts.{Grows, Part}
+use Rattle.cb_shared.specs.Passes.{record_of}
 use Rattle.cb_shared.specs.Seeking.{FindsKnown}
 use Rattle.cb_shared.specs.UnderLock.{IsBelow}
 use Rattle.cb_shared.proofs.Seeking.{swapped_below}
@@ -12,10 +13,10 @@ find_swapped-requires-clause-handle g c = subst (IsBelow c.args.self.now.config)
 
 pub returns-clause-turn : goal.returns-clause-turn
 returns-clause-turn g c = (
-  c.turn_within-reply.new.pass.seat.me.0,
+  record_of c.turn_within-reply.new.pass,
   c.turn_within-reply.ensures.turn,
   subst (λ (o : Option ℕ). (d : Part)
-      × Grows c.turn_within-reply.new.pass.seat.me.0 d c.find_swapped.new.pass.seat.me.0
-      × FindsKnown o c.turn_within-reply.new.pass.seat.me.0 d) c.swapped_of.ensures
+      × Grows (record_of c.turn_within-reply.new.pass) d (record_of c.find_swapped.new.pass)
+      × FindsKnown o (record_of c.turn_within-reply.new.pass) d) c.swapped_of.ensures
       c.find_swapped.ensures.finds,
 )

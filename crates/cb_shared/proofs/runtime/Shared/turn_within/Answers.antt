@@ -4,6 +4,8 @@ use Rattle.crossbeam_utils.specs.Padded.{padded_value}
 use Rattle.cb_rule.specs.Slot.{Sat}
 use Rattle.cb_rule.specs.declared.view.View.{View}
 use Rattle.cb_shared.specs.Handles.{handles_of}
+use Rattle.cb_shared.specs.Passes.{record_of}
+use Rattle.cb_shared.specs.Seats.{record_at}
 use Rattle.cb_shared.specs.Turning.{KnowsIt}
 use Rattle.cb_shared.specs.UnderLock.{FreedMoves, IsBelow}
 use Rattle.cb_shared.proofs.AfterTurn.{of_moved}
@@ -13,7 +15,7 @@ use Rattle.cb_shared.proofs.runtime.Shared.turn_within.Goals as goal
 
 pub locked_turn-reply-requires-clause-few : goal.locked_turn-reply-requires-clause-few
 locked_turn-reply-requires-clause-few g c = few_pins (padded_value c.args.pass.now.pins).items
-    c.args.pass.now.seat.me.0.pins c.args.pass.now.pinned c.count_pins.ensures.few
+    (record_of c.args.pass.now).pins c.args.pass.now.pinned c.count_pins.ensures.few
 
 pub find_freed-requires-clause-of : goal.find_freed-requires-clause-of
 find_freed-requires-clause-of g c = let s = c.args.self.now in let of = c.requires.of in
@@ -31,13 +33,14 @@ find_freed-requires-clause-of g c = let s = c.args.self.now in let of = c.requir
 pub find_freed-requires-clause-handle : goal.find_freed-requires-clause-handle
 find_freed-requires-clause-handle g c = subst (IsBelow c.args.self.now.config)
     (sym c.freed_of.ensures) (freed_below c.args.self.now.config c.args.job.now
-    c.locked_turn-reply.result c.args.pass.now.seat.me.0 c.requires.of.rest c.requires.knows)
+    c.locked_turn-reply.result (record_of c.args.pass.now) c.requires.of.rest c.requires.knows)
 
 pub find_freed-requires-clause-knows : goal.find_freed-requires-clause-knows
 find_freed-requires-clause-knows g c =
-    subst (λ (o : Option ℕ). KnowsIt o c.locked_turn-reply.new.seat.me.0) (sym c.freed_of.ensures)
+    subst (λ (o : Option ℕ). KnowsIt o (record_at c.locked_turn-reply.new.seat))
+    (sym c.freed_of.ensures)
     (freed_knows c.args.self.now.config c.args.job.now c.locked_turn-reply.result
-    c.args.pass.now.seat.me.0 c.locked_turn-reply.new.seat.me.0 c.requires.of.rest
+    (record_of c.args.pass.now) (record_at c.locked_turn-reply.new.seat) c.requires.of.rest
     c.locked_turn-reply.ensures.turn c.requires.knows)
 
 pub returns-clause-of : goal.returns-clause-of

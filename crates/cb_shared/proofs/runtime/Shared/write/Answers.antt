@@ -2,6 +2,7 @@ use Rattle.std.proofs.Common.{Some}
 use Rattle.std.proofs.lemmas.Result.{IfOk-from_err}
 use Rattle.cb_types.specs.declared.job.Job.TheVariants as jobs
 use Rattle.cb_shared.specs.Calls.{AtThis, IsForWant, IsUnanswered, the_handle}
+use Rattle.cb_shared.specs.Passes.{record_of}
 use Rattle.cb_shared.proofs.CallSteps.{err_always, known_still, so_far, stops_then}
 use Rattle.cb_shared.proofs.WriteParts.{write_again, write_at_last}
 use Rattle.cb_shared.proofs.runtime.Shared.write.Goals as goal
@@ -11,7 +12,7 @@ loop-init g c = (
   c.requires.of,
   so_far (AtThis c.args.h.n) (IsUnanswered c.args.self.now.config
       (jobs.Write (the_handle c.args.h.n) c.args.at c.args.bytes.now))
-      c.args.pass.now.seat.me.0,
+      (record_of c.args.pass.now),
 )
 
 pub try_write-requires-clause-of : goal.try_write-requires-clause-of
@@ -21,7 +22,7 @@ pub try_write-requires-clause-knows : goal.try_write-requires-clause-knows
 try_write-requires-clause-knows g c = known_still (AtThis c.args.h.n)
     (IsUnanswered c.args.self.now.config
     (jobs.Write (the_handle c.args.h.n) c.args.at c.args.bytes.now)) (Some c.args.h.n)
-    c.args.pass.now.seat.me.0 c.loop.pass.seat.me.0 c.requires.knows
+    (record_of c.args.pass.now) (record_of c.loop.pass) c.requires.knows
     c.loop.invariant.1
 
 pub returns-in_err-reply-clause-error : goal.returns-in_err-reply-clause-error
@@ -29,20 +30,20 @@ returns-in_err-reply-clause-error g c = err_always c.from_residual.result _
     (stops_then (AtThis c.args.h.n) (IsUnanswered c.args.self.now.config
     (jobs.Write (the_handle c.args.h.n) c.args.at c.args.bytes.now))
     (IsForWant (jobs.Write (the_handle c.args.h.n) c.args.at c.args.bytes.now))
-    c.args.pass.now.seat.me.0 c.loop.pass.seat.me.0 c.try_write.new.pass.seat.me.0
+    (record_of c.args.pass.now) (record_of c.loop.pass) (record_of c.try_write.new.pass)
     c.loop.invariant.1 c.in_err-reply.ensures.error)
 
 pub returns-in-Some-2-clause-write : goal.returns-in-Some-2-clause-write
 returns-in-Some-2-clause-write g c = write_at_last c.args.self.now.config c.args.h.n c.args.at
-    c.args.bytes.now c.in_ok-reply.field-0 c.in-Some-2.reply c.args.pass.now.seat.me.0
-    c.loop.pass.seat.me.0 c.try_write.new.pass.seat.me.0 c.in-Some-2.is c.loop.invariant.1
+    c.args.bytes.now c.in_ok-reply.field-0 c.in-Some-2.reply (record_of c.args.pass.now)
+    (record_of c.loop.pass) (record_of c.try_write.new.pass) c.in-Some-2.is c.loop.invariant.1
     c.in_ok-reply.ensures.write
 
 pub loop-preserved : goal.loop-preserved
 loop-preserved g c = (
   c.in_ok-reply.ensures.of,
   write_again c.args.self.now.config c.args.h.n c.args.at c.args.bytes.now c.in_ok-reply.field-0
-      c.args.pass.now.seat.me.0 c.loop.pass.seat.me.0 c.try_write.new.pass.seat.me.0
+      (record_of c.args.pass.now) (record_of c.loop.pass) (record_of c.try_write.new.pass)
       c.in_default.is c.loop.invariant.1 c.in_ok-reply.ensures.write,
 )
 

@@ -1,5 +1,7 @@
 use Rattle.std.proofs.Common.{◌∙◌, sym, ap}
 use Rattle.cb_shared.specs.Handles.{handles_of}
+use Rattle.cb_shared.specs.Passes.{record_of}
+use Rattle.cb_shared.specs.Seats.{record_at}
 use Rattle.cb_shared.proofs.Glanced.{kept_glance, of_kept, of_pass, write_tries}
 use Rattle.cb_shared.proofs.ReadKept.{IsSeatKept}
 use Rattle.cb_shared.proofs.Resting.{known_below, knows_glance}
@@ -12,14 +14,14 @@ glance-saw-requires-clause-of c = of_pass c.args.self.now c.args.pass.now c.requ
 
 pub glance-saw-requires-clause-handle : goal.glance-saw-requires-clause-handle
 glance-saw-requires-clause-handle c = known_below c.args.self.now.config c.args.h.n
-    c.args.pass.now.seat.me.0 c.requires.of.rest c.requires.knows
+    (record_of c.args.pass.now) c.requires.of.rest c.requires.knows
 
 -- what the look leaves
 kept : (c : After-glance-saw)
     → IsSeatKept c.args.self.now.config c.args.pass.now.seat c.glance-saw.new.seat
 kept c = kept_glance c.args.self.now.config c.args.h.n c.glance-saw.result c.args.pass.now.seat
     c.glance-saw.new.seat c.glance-saw.ensures
-    (known_below c.args.self.now.config c.args.h.n c.args.pass.now.seat.me.0 c.requires.of.rest
+    (known_below c.args.self.now.config c.args.h.n (record_of c.args.pass.now) c.requires.of.rest
     c.requires.knows) c.requires.of.rest
 
 pub returns-in-Some-clause-of : goal.returns-in-Some-clause-of
@@ -46,7 +48,7 @@ write_at-requires-clause-rest c =
 
 pub write_at-requires-clause-handle : goal.write_at-requires-clause-handle
 write_at-requires-clause-handle c = known_below c.args.self.now.config c.args.h.n
-    c.args.pass.now.seat.me.0 c.requires.of.rest c.requires.knows
+    (record_of c.args.pass.now) c.requires.of.rest c.requires.knows
 
 pub write_at-requires-clause-knows : goal.write_at-requires-clause-knows
 write_at-requires-clause-knows c = knows_glance c.args.h.n c.args.h.n c.glance-saw.result
@@ -60,8 +62,8 @@ invariant_of-pass-in-None c =
       carries = x.table.1 ∙ k.carries ∙ p.carries;
       pinned = p.pinned ∙ sym (ap handles_of (x.pins ∙ k.pins));
       tried = p.tried ∙ sym k.tries ∙ sym (write_tries c.args.h.n c.glance-saw.result c.args.at
-          c.args.bytes.now c.write_at.result c.glance-saw.new.seat.me.0 c.write_at.new.seat.me.0
-          x.write);
+          c.args.bytes.now c.write_at.result (record_at c.glance-saw.new.seat)
+          (record_at c.write_at.new.seat) x.write);
     }
 
 pub returns-in-None-clause-of : goal.returns-in-None-clause-of

@@ -2,6 +2,7 @@ use Rattle.std.proofs.Common.{ℕ, [], ◌∷◌, ◌∙◌, refl, subst, arith}
 use Rattle.cb_world.specs.declared.event.Event.TheVariants.{Looked}
 use Rattle.cb_rule.specs.Steps.{TellsPins}
 use Rattle.cb_shared.specs.SeatLaws.{Runs}
+use Rattle.cb_shared.specs.Seats.{record_at}
 use Rattle.cb_shared.proofs.Alone.{takes_claim_at}
 use Rattle.cb_shared.proofs.Rights.{claim_holds, claim_lost, claim_won, holds_of, raced_is}
 use Rattle.cb_shared.proofs.Rights.{rights_claimed}
@@ -42,7 +43,7 @@ returns-then-found-saw-clause-won g c _ = let x = c.compare_exchange-found.ensur
     let p = c.args.self.now.seat.now in let y = x.2 c.args.h.n refl in
     let w = claim_won c.args.h.n c.args.saw c.compare_exchange-found.result p
     c.compare_exchange-found.new.seat x.0 x.1 y.0 c.if-found-saw.true in
-    let pins = subst (λ (n : ℕ). TellsPins c.args.h.n n p.me.0) c.if-found-saw.true y.2 in
+    let pins = subst (λ (n : ℕ). TellsPins c.args.h.n n (record_at p)) c.if-found-saw.true y.2 in
     (w.0, w.1, ((w.2.0, (w.2.1, tt), tt, (pins, tt)), refl, refl, refl))
 
 pub returns-else-found-saw-clause-raced : goal.returns-else-found-saw-clause-raced

@@ -6,6 +6,7 @@ use Rattle.cb_world.specs.declared.entry.Entry.{Entry}
 use Rattle.cb_world.specs.Written.{adds}
 use Rattle.cb_rule.specs.Steps.{AreNew}
 use Rattle.cb_shared.specs.SeatLaws.{holds_still}
+use Rattle.cb_shared.specs.Seats.{record_at}
 use Rattle.cb_shared.proofs.Alone.{settles_at}
 use Rattle.cb_shared.proofs.Rights.{holds_of, rights_moved}
 use Rattle.cb_shared.proofs.seat_desk.SeatDeskDesk.settle.Goals as goal
@@ -42,6 +43,6 @@ invariant_of-self g c = let d = c.args.self.now in let x = c.store.ensures in
 pub returns : goal.returns
 returns g c = let d = c.args.self.now in let x = c.store.ensures in
     let y = x.2 c.args.h.n refl in
-    let new = subst (λ (l : List Entry). AreNew l d.seat.now.me.0)
-    (sym (append-nil (adds (Settled c.args.h.n c.args.word) d.seat.now.me.0.known))) y.1 in
+    let new = subst (λ (l : List Entry). AreNew l (record_at d.seat.now))
+    (sym (append-nil (adds (Settled c.args.h.n c.args.word) (record_at d.seat.now).known))) y.1 in
     (((x.0, x.1, y.0.0), (y.0.1, tt), new, (tt, tt)), refl, refl, refl)

@@ -3,6 +3,7 @@ use Rattle.cb_world.specs.declared.event.Event.TheVariants.{Stamped}
 use Rattle.cb_world.specs.declared.shown.Shown.{Shown}
 use Rattle.cb_world.specs.Shown.{IsHeld, object_at}
 use Rattle.cb_shared.specs.SeatLaws.{holds_still}
+use Rattle.cb_shared.specs.Seats.{record_at}
 use Rattle.cb_shared.proofs.Alone.{stamps_at}
 use Rattle.cb_shared.proofs.Rights.{holds_of, rights_moved, rights_within}
 use Rattle.cb_shared.proofs.seat_desk.SeatDeskDesk.store_version.Goals as goal
@@ -13,8 +14,8 @@ store-requires g c = let d = c.args.self.now in let l = c.requires.handle in let
   (let z = d.counts in omega (arith, z, l)),
   stamps_at d.top.now.key.first d.config _ d.key _ _ _ d.live d.holder _ _ l d.objects
       (subst (λ (s : Shown). IsHeld (object_at s c.args.h.n)) o.1 o.2)
-      (rights_within d.allowed c.args.h.n d.seat.now.me.0.known d.seat.now.me.0 c.stay_within.ensures
-      d.may),
+      (rights_within d.allowed c.args.h.n (record_at d.seat.now).known (record_at d.seat.now)
+      c.stay_within.ensures d.may),
 )
 
 pub invariant_of-self : goal.invariant_of-self
