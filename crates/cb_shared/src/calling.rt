@@ -43,6 +43,9 @@ impl Shared {
     /// Worn by the count of turns. Tries again where the object is being moved or written, has as
     /// many pins as its word can count, or another pass came first, and where too few spans were
     /// loose but there are so many frames that more may come. Waits.
+    ///
+    /// This is the read for callers, who hold the far lock only within those turns; that for turns
+    /// of the job Read is `read_by_seat`.
     pub fn read<R: Wait>(
         &self,
         rt: &R,

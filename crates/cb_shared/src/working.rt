@@ -107,7 +107,9 @@ fn object_written(job: &Job, far: &Far) -> Option<u32>
     }
 }
 
-/// A read: the object is brought in at the desk over the seat, and read under a pin.
+/// A read: the object is brought in at the desk over the seat, and read under a pin. This is the
+/// read for turns of the job Read, which hold the far lock until the last word is read, so that
+/// nobody takes the object away in between; that for callers is `Shared::read`.
 fn read_by_seat<R: Wait>(
     rt: &R,
     top: &Top,
