@@ -1,9 +1,8 @@
 -- What is read of a text so far.
-use Rattle.std.proofs.Common.{◌≡◌, ℕ, ◌≤◌, List, ◌++◌, length, map, inl, inr}
+use Rattle.std.proofs.Common.{◌≡◌, ℕ, ◌≤◌, List, ◌++◌, length, map}
 use Rattle.std.specs.List.{AllByRecursion}
 use Rattle.cb_script.specs.Spelling.{lines_of}
 use Rattle.cb_rma.specs.declared.step.Step.{Step}
-use Rattle.cb_rma_text.specs.First.{HasWindow, IsBadLine}
 use Rattle.cb_rma_text.specs.Form.{IsInForm}
 use Rattle.cb_rma_text.specs.Spelling.{step_line}
 
