@@ -36,9 +36,6 @@ use Rattle.cb_shared.specs.SeatLaws.{holds_still}
 use Rattle.cb_shared.specs.Rights.{rights, unmade, writes_of}
 use Rattle.cb_shared.specs.Turning.{KnowsOf}
 
-abbrev is_never : Object → Type 0
-is_never o = o ≡ never
-
 of_unmade : (o : Object) → 0 < unmade o → o ≡ never
 of_unmade (is.Empty v) pos = Rattle.cb_rule.proofs.Laws.by_case
     (λ b. 0 < cond {A = ℕ} b 1 0 → is.Empty v ≡ never) (eqb v 0)
