@@ -50,9 +50,6 @@ words_fixed bytes xs ys a b =
     byte p within (inr past) = a.packed p past within
         ∙ sym (b.packed p past (let m = a.count in let n = b.count in omega (arith, within, m, n)))
 
-abbrev Stays : Words → Words → FarState → FarState → Type 0
-Stays x y far new = (y ≡ x) × (new ≡ far)
-
 module _ (x y z : Words) (far new other : FarState) (bytes : List ℕ) where
   object_fixed : IsNewObject x y far new bytes → IsNewObject x z far other bytes
       → (y ≡ z) × (new ≡ other)
