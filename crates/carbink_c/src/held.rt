@@ -1,5 +1,3 @@
-ghost use Rattle.std.specs.Prelude.{◌≡◌, ◌<◌};
-
 use cb_world::World;
 
 /// A world in a field of its own, with its drop written out: what drops one here drops none of the

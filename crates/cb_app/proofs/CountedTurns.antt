@@ -14,9 +14,6 @@ is e k = eqb k e
 own : (y : ℕ) → cond {A = ℕ} (is y y) 1 0 ≡ 1
 own y = hit (is y y) (eq-eqb y y refl)
 
-pub other : (y k : ℕ) → y ≢ k → cond {A = ℕ} (is k y) 1 0 ≡ 0
-other y k ne = ap (λ (b : Bool). cond {A = ℕ} b 1 0) (ne_eqb y k ne)
-
 -- a list with the number in it, and the rest
 record HasAt (y : ℕ) (xs : List ℕ) : Type 0 where
   front : List ℕ

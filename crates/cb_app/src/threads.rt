@@ -1,5 +1,5 @@
 //! Lanes and workers as threads.
-ghost use Rattle.std.specs.Prelude.{◌≡◌, ◌≤◌, [], ◌++◌, IfOk};
+ghost use Rattle.std.specs.Prelude.{◌≡◌, ◌≤◌, [], IfOk};
 ghost use Rattle.cb_script.specs.Form.{AreInMode, AreLines, IsScript};
 ghost use Rattle.cb_script.specs.declared.script.Mode.TheVariants as scripts;
 ghost use Rattle.cb_shared.specs.Closing.{IsClosedBy};

@@ -3,10 +3,9 @@
 //! nanoseconds, over that many slices of four calls each, or 0 where no slice is asked for.
 #![tactic(auto)]
 
-ghost use Rattle.std.specs.Prelude.{◌≡◌, ◌+◌, ◌≤◌, length, IfOk};
+ghost use Rattle.std.specs.Prelude.{◌≡◌, ◌+◌, length, IfOk};
 ghost use Rattle.cb_gf256.specs.InRange.{IsInRange};
 ghost use Rattle.cb_gf256.specs.Positions.{ArePositions};
-ghost use Rattle.cb_gf256.specs.Rows.{HaveLength};
 
 use cb_code::{coefficients, encode, syndromes_zero};
 use cb_erase::solve;

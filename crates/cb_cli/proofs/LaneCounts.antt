@@ -47,10 +47,6 @@ pub record FlagsOfNumbers (seen : List Bool) (lanes : List ℕ) : Type 0 where
   pub all : length seen ≡ 256
   pub each : (lane : ℕ) → lane < 256 → get_or seen lane false ≡ is_member nat_eq lanes lane
 
-or_other : (b : Bool) → b ≡ (b || (false || false))
-or_other true = refl
-or_other false = refl
-
 -- the flag of the number at the end is raised
 pub raised : (seen : List Bool) (lanes : List ℕ) (x : ℕ) → x < 256 → FlagsOfNumbers seen lanes
     → FlagsOfNumbers (set seen x true) (lanes ++ x ∷ [])

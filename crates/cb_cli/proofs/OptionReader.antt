@@ -8,7 +8,7 @@ use Rattle.std.specs.Prelude.{slice_get, option_map}
 use Rattle.std.specs.Str.{bytes_eq, chars}
 use Rattle.clap.specs.Lexer.{long_of}
 use Rattle.clap.specs.Kinds.{Kinds, or_else}
-use Rattle.clap.specs.Walk.{Held, Names, Row, Rule, Step, Text, Waiting, Walk, after_flag, after_step, arg_by_id, arg_by_index, arg_by_long, at_row, bundle_met, bundle_step, has_row, idle, long_or_other, more_values, next, option, plain, plain_word, pushed, reading_by, settled, short_or_plain, subcommand_met, subcommand_or_other, trailing, used, value, walked, with_values, without, word_met}
+use Rattle.clap.specs.Walk.{Held, Row, Rule, Step, Text, Waiting, Walk, after_flag, after_step, arg_by_id, arg_by_long, at_row, bundle_met, bundle_step, has_row, idle, long_or_other, more_values, option, plain, plain_word, reading_by, settled, short_or_plain, subcommand_met, subcommand_or_other, trailing, used, walked, with_values, without}
 use Rattle.clap.specs.Simple.{App, Shape, app_of, app_of_fields, built, filled, new_app, with_index, with_rule}
 use Rattle.clap.specs.Faults.{bundle_fault, bundle_step_fault, flag_word_fault, flags_fault, is_simple_and_free, other_fault, settle_fault, step_fault, turn_fault, use_fault}
 use Rattle.clap.specs.declared.builder.command.Command.TheViews.{out-Command}

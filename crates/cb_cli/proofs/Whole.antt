@@ -19,7 +19,3 @@ taken_is (Some whole) None all taken told is = absurd is.front
 taken_is (Some whole) (Some rest) all taken told is =
     let same : all ≡ whole = cc in
     front_is all taken rest (same ∙ is.front) is.few is.whole
-
--- an input that is no longer than a script may be is taken whole
-pub short_is_taken : (all : List ℕ) → length all ≤ 1048577 → taken_of all ≡ all
-short_is_taken all few = take_all 1048577 all few

@@ -1,7 +1,7 @@
 ghost use Rattle.std.specs.Prelude.{◌≡◌, ℕ, ◌-◌, ◌+◌, ◌*◌, ◌/◌};
 ghost use Rattle.std.specs.Prelude.{◌<◌, ◌≤◌, ◌↔◌, length, slice_index, IsTrue};
 ghost use Rattle.cb_gf256.specs.Power.{power};
-ghost use Rattle.cb_gf256.specs.Rows.{row_at, HaveLength};
+ghost use Rattle.cb_gf256.specs.Rows.{HaveLength};
 ghost use Rattle.cb_gf256.specs.CodeWord.{syndrome, IsCodeWord};
 ghost use Rattle.cb_gf256.specs.InRange.{IsInRange};
 ghost use Rattle.cb_gf256.specs.Lanes.{HasLanes};

@@ -376,21 +376,3 @@ seen_more cmp found c seen new exact x updates g has = by (is_at (cmp (group c))
         let old = x g (sym (ap (λ (b : Bool). cond b true (contains cmp seen g)) e)
         ∙ sym (updates g) ∙ has) in
         (old.0, old.1, kept found c old.0 old.1 old.2, old.3)
-
--- ---- the first pair is one
-pub record IsOnePair (x y z w : ℕ) : Type 0 where
-  pub first : x ≡ z
-  pub second : y ≡ w
-
-pub one_pair : (far : FarState) (x y z w : ℕ) (a b c d : SetState) → IsFirstPair far x y a b
-    → IsFirstPair far z w c d → IsOnePair x y z w
-one_pair far x y z w a b c d p q =
-    let low = p.least_a z w c d q.above q.can in
-    let high = q.least_a x y a b p.above p.can in
-    let first : x ≡ z = omega (arith, low, high) in
-    let up = p.above in let over = q.above in
-    let less = p.least_b w c d (omega (arith, first, over))
-    (subst (λ (n : ℕ). CanJoin far n w c d) (sym first) q.can) in
-    let more = q.least_b y a b (omega (arith, first, up))
-    (subst (λ (n : ℕ). CanJoin far n y a b) first p.can) in
-    record { first = first; second = omega (arith, less, more) }

@@ -1,6 +1,6 @@
 -- What the sets keep of a search that has found no pair: the groups of all sets, of which no two
 -- match.
-use Rattle.std.proofs.Common.{◌≡◌, ◌⊎◌, ℕ, ◌+◌, ◌<◌, ◌≤◌, List, [], ◌∷◌, ◌++◌, length, Option, None, Some, bit_and, refl, sym, ap, ◌∙◌, subst, arith, inl, inr}
+use Rattle.std.proofs.Common.{◌≡◌, ◌⊎◌, ℕ, ◌+◌, ◌<◌, ◌≤◌, List, [], Option, None, Some, bit_and, refl, sym, ap, ◌∙◌, subst, arith, inl, inr}
 use Rattle.std.specs.List.{slice_get}
 use Rattle.std.specs.Option.{option_map}
 use Rattle.std.specs.FinMap as sets
@@ -17,7 +17,6 @@ use Rattle.cb_world.specs.FarSound.{AwaySound}
 use Rattle.cb_world.specs.Groups.{AreGrouped, DoMatch, IsAmong, NoGroupsMatch, NoSetsMatch, group_of}
 use Rattle.cb_world.specs.Sets.{if_committed, set_in}
 use Rattle.cb_world.specs.SetsFrom.{AreFrom}
-use Rattle.cb_world.proofs.Laws.{among_last, among_more}
 use Rattle.cb_compact.specs.declared.candidates.Candidate.{Candidate}
 use Rattle.cb_compact.specs.Candidates.{AreAlike, AreFirsts, AreWholeBut, CanMatch, IsCandidate, NoneMatch, group, groups_of}
 use Rattle.cb_compact.specs.PairStep.{NoneCanJoin}
@@ -48,19 +47,6 @@ others_whole far id others c set whole e is j other below at = elim (cases_eq j 
       (sym is.there ∙ ap (set_in far.sets) (e ∙ sym same) ∙ at)) is.whole)
   | inr off ↦ whole j other (omega (arith, below, off)) at
 ]
-
-pub others_more : (far : FarState) (id : ℕ) (others new : List ℕ) → AreWholeBut far id others
-    → new ≡ others ++ id ∷ [] → AreWholeBut far (id + 1) new
-others_more far id others new whole is =
-    subst (AreWholeBut far (id + 1)) (sym is) (λ j set below at. elim (cases_eq j id) [
-      | inl same ↦ inr (length others, among_last others id ∙ ap Some (sym same))
-      | inr off ↦ later j set (whole j set (omega (arith, below, off)) at)
-    ])
-  where
-    later : (j : ℕ) (set : SetState) → IsWhole far.members set ⊎ IsAmong j others
-        → IsWhole far.members set ⊎ IsAmong j (others ++ id ∷ [])
-    later j set (inl w) = inl w
-    later j set (inr (i, at)) = inr (i, among_more others id i j at)
 
 pub others_all : (far : FarState) (from n : ℕ) (others : List ℕ) → AreWholeBut far from others
     → AreFrom far.sets from [] → AreWholeBut far n others

@@ -1,8 +1,8 @@
-ghost use Rattle.std.specs.Prelude.{◌≡◌, ℕ, ◌+◌, ◌<◌, ◌≤◌, List, All, Some, false, true, length, slice_get, IfOk, OnErr};
+ghost use Rattle.std.specs.Prelude.{◌≡◌, ℕ, ◌+◌, ◌<◌, List, All, Some, false, true, length, slice_get, IfOk, OnErr};
 ghost use Rattle.cb_gf256.specs.Rows.{row_at};
 ghost use Rattle.cb_member.specs.declared.names.Shard.{Shard};
 ghost use Rattle.cb_node.specs.Answer.{PutGives};
-ghost use Rattle.cb_node.specs.NodesState.{NodesState, has, with_row};
+ghost use Rattle.cb_node.specs.NodesState.{has, with_row};
 ghost use Rattle.cb_world.specs.Merged.{IsMergedWord, patched, takes};
 ghost use Rattle.cb_compact.specs.Deltas.{CanPatch, HaveAllRows, IsOfCode, NoneNames, StandTogether};
 

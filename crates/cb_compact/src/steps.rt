@@ -1,7 +1,5 @@
-ghost use Rattle.std.specs.Prelude.{◌≡◌, ℕ, ◌<◌, ◌≤◌, ◌^◌, IfNone, IfSome, Some, length, slice_get};
+ghost use Rattle.std.specs.Prelude.{◌≡◌, ◌<◌, ◌≤◌, IfNone, IfSome, Some, length};
 ghost use Rattle.cb_member.specs.declared.names.Shard.{Shard};
-ghost use Rattle.cb_set.specs.SetState.{SetState, parities};
-ghost use Rattle.cb_world.specs.Joining.{JoiningState};
 ghost use Rattle.cb_world.specs.JoinSteps.{with_step};
 ghost use Rattle.cb_world.specs.Merged.{takes};
 ghost use Rattle.cb_compact.specs.PatchStep.{AreDone, IsNext, has_step, is_undone, undone};

@@ -1,13 +1,10 @@
--- What the steps of open writes ask for, from a sound world; and what a claim is answered.
-use Rattle.std.proofs.Common.{◌≡◌, ℕ, Bool, zero, suc, ◌+◌, ◌-◌, ◌/◌, ◌^◌, ◌<◌, ◌≤◌, List, Some, length, refl, sym, ap, ◌∙◌, subst, arith, eq-eqb, ne_eqb}
-use Rattle.std.proofs.lemmas.Bool.{le-ltb}
+-- What the steps of open writes ask for, from a sound world.
+use Rattle.std.proofs.Common.{◌≡◌, ℕ, zero, suc, ◌+◌, ◌-◌, ◌/◌, ◌^◌, ◌<◌, ◌≤◌, List, Some, length, refl, sym, ap, ◌∙◌, subst, arith}
 use native.Mathlib.Decide.{ℕ_discrete}
-use Rattle.std.specs.Prelude.{slice_get, slice_set, nat_lt, if◌then◌else◌}
-use Rattle.cb_ptr.specs.declared.word.State.{State}
+use Rattle.std.specs.Prelude.{slice_get, slice_set}
 use Rattle.cb_ptr.specs.declared.word.State.TheVariants as state
-use Rattle.cb_ptr.specs.Word.{state_of, len_of, place_of, pins_of}
+use Rattle.cb_ptr.specs.Word.{state_of, len_of, place_of}
 use Rattle.cb_ptr.proofs.Laws.{len_of-below}
-use Rattle.cb_types.specs.declared.reply.Reply.{Reply}
 use Rattle.cb_types.specs.declared.reply.Reply.TheVariants as answer
 use Rattle.cb_world.specs.Memory.{words_for}
 use Rattle.cb_world.specs.OpenSteps.{IsClaimOn, next_word, stored_once}
@@ -17,8 +14,7 @@ use Rattle.cb_world.specs.Shown.{object_at}
 use Rattle.cb_world.specs.StillDesk.{here_is}
 use Rattle.cb_world.specs.World.{WorldState, IsSoundWorld, word_at}
 use Rattle.cb_world.proofs.Laws.{lies, lies_within, open_here, some_same}
-use Rattle.cb_mutate.specs.StillReplies.{reply_as, write_reply, next_reply, change_reply}
-use Rattle.cb_core.specs.Claiming.{claim_reply, IsWordStored, IsVersionStored, next_place, StoreStep, nothing_left, stored, stamped, IsClaimSettled, SettleStep, not_stored, settled}
+use Rattle.cb_core.specs.Claiming.{IsWordStored, IsVersionStored, next_place, StoreStep, nothing_left, stored, stamped, IsClaimSettled, SettleStep, not_stored, settled}
 
 -- the words of an object that is here lie in the memory
 pub here_within : (w : WorldState) (h : ℕ) → IsSoundWorld w → h < w.desk.settings.handles
@@ -75,24 +71,6 @@ next_within w seat at c sound there less =
     let i = touches_within c.at (length c.bytes) (len_of n)
     (let a = o.inside in let b = o.len in omega (arith, a, b)) c.stored less in
     omega (arith, within, e, i)
-
--- ---- a claim is answered Claimed where the object may be claimed
-abbrev by_length : ℕ → ℕ → ℕ → ℕ → Bool → Reply
-by_length w v at count long = if long then answer.Range (len_of w) else change_reply w v
-
-abbrev by_pins : ℕ → ℕ → Bool → Reply
-by_pins w v none = if none then next_reply v else answer.Pinned (pins_of w)
-
-abbrev by_version : ℕ → Bool → Reply
-by_version v worn = if worn then answer.Worn else answer.Version (v + 1)
-
-pub may_reply : (w v at count : ℕ) → state_of w ≡ state.Here → pins_of w ≡ 0
-    → at + count ≤ len_of w → v < 2 ^ 64 - 1 → claim_reply (write_reply w v at count) ≡ answer.Claimed
-may_reply w v at count here none inside next = ap claim_reply (
-    ap (λ (q : State). reply_as q v (by_length w v at count (nat_lt (len_of w) (at + count)))) here
-    ∙ ap (by_length w v at count) (le-ltb (len_of w) (at + count) inside)
-    ∙ ap (by_pins w v) (eq-eqb (pins_of w) 0 none)
-    ∙ ap (by_version v) (ne_eqb v (2 ^ 64 - 1) (λ e. omega (arith, e, next))))
 
 -- ---- what the calls of open writes come to
 -- the open write that was read is the one that was found

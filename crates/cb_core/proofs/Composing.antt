@@ -27,7 +27,7 @@ use Rattle.cb_evict.specs.declared.eviction.Eviction.TheVariants.{Refused, Set}
 use Rattle.cb_evict.specs.declared.eviction.Lack.{Lack}
 use Rattle.cb_core.specs.Parts.{Holding, WithRoom, WhereItIs, BringsIn, RoomStops, CallStops}
 use Rattle.cb_core.specs.Parts.BringsIn.{was_far}
-use Rattle.cb_core.specs.Parts.CallStops.{far as far_lacks, after as come_lacks}
+use Rattle.cb_core.specs.Parts.CallStops.{far as far_lacks}
 use Rattle.cb_core.specs.Parts.WhereItIs.{declined, stays_far, brought}
 use Rattle.cb_core.specs.Parts.WithRoom.{no_room, won}
 use Rattle.cb_core.specs.Parts.RoomStops.{at_once, evicting, after}
@@ -314,13 +314,6 @@ module _ {D : Type 0} (call : Holding D → Reply → Holding D → Type 0)
       → OnErr result (CallStops call lacks look bringing bringing_lacks a b)
   far_stops lacks bringing_lacks b result x =
       any_err _ result (far_lacks m n was_called looked x)
-
-  pub come_stops : (lacks bringing_lacks : Holding D → Holding D → Type 0) (o b : Holding D)
-      (p : Reply) (f : ℕ) (result : Result Reply NoMemory) → bringing n p o → p ≡ answer.Swapped f
-      → OnErr result (lacks o b)
-      → OnErr result (CallStops call lacks look bringing bringing_lacks a b)
-  come_stops lacks bringing_lacks o b p f result x is y = err_map _ (lacks o b) result y
-      (λ z. come_lacks m n o f was_called looked (subst (λ (r : Reply). bringing n r o) is x) z)
 
 -- ---- an object that is brought in
 pub comes_in : {D : Type 0} (call bringing : Holding D → Reply → Holding D → Type 0) (a m b : Holding D)

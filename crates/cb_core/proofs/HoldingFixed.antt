@@ -6,15 +6,11 @@ use Rattle.cb_types.specs.declared.reply.Reply.TheVariants as answer
 use Rattle.cb_world.specs.OpenSteps.{NoneHolds}
 use Rattle.cb_world.specs.Seats.{SeatState, AtMostOneHolds, Holds}
 use Rattle.cb_world.specs.World.{WorldState}
-use Rattle.cb_core.specs.Holding.{NoOtherHolds, TakeStep, held, taken, GiveStep, not_held, given}
+use Rattle.cb_core.specs.Holding.{TakeStep, held, taken, GiveStep, not_held, given}
 
 -- a seat holds the lock, or none does, and not both
 pub none_and_one : (seats : List SeatState) (seat : ℕ) → NoneHolds seats → Holds seats seat → ⊥
 none_and_one seats seat none holds = let e = sym (none seat) ∙ holds in cc
-
--- where no seat holds the lock, no other does
-pub none_other : (seats : List SeatState) (seat : ℕ) → NoneHolds seats → NoOtherHolds seats seat
-none_other seats seat none other holds = absurd (none_and_one seats other none holds)
 
 -- two holders are one
 pub one_holder : (seats : List SeatState) (a b : ℕ) → AtMostOneHolds seats → Holds seats a

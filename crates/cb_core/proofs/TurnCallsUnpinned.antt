@@ -104,11 +104,6 @@ brings_version a b h version (came f e whole here) = cc
 brings_version a b h version (broke id l e lost) = cc
 brings_version a b h version (crammed frames loose nodes e whole) = cc
 
-brings_pins : (a b : Holding Words) (h count : ℕ) → BringEnds a b h (answer.Pinned count) → ⊥
-brings_pins a b h count (came f e whole here) = cc
-brings_pins a b h count (broke id l e lost) = cc
-brings_pins a b h count (crammed frames loose nodes e whole) = cc
-
 -- a write that is declined is answered Range or Worn
 abbrev declines : Reply → Bool
 declines (answer.Range len) = true

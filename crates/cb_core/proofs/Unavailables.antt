@@ -38,7 +38,6 @@ use Rattle.cb_core.specs.Holding.{not_held}
 use Rattle.cb_core.specs.Holding.TakeStep.{held as lock_held, taken as lock_taken}
 use Rattle.cb_core.specs.Holding.GiveStep.{given as lock_given}
 use Rattle.cb_core.specs.Jobs.{IsJob}
-use Rattle.cb_core.specs.NowIn.{IsLostAt}
 use Rattle.cb_core.specs.Pinning.{pin_refusal, scope_full, refused as pin_refused, taken, not_pinned, given}
 use Rattle.cb_core.specs.Run.{LeadsSoundly}
 use Rattle.cb_core.specs.Step.{AtomicStep, SeatTurn, Step, TurnStep, worn, done}
@@ -47,7 +46,7 @@ use Rattle.cb_core.specs.Unavailable.{IsInLost, IsLost, brought_by, asked_by, Te
 use Rattle.cb_core.proofs.Settings.{step_settings}
 use Rattle.cb_core.proofs.TurnCalls.{abort_turn, begin_turn, commit_turn, compact_turn, crash_turn, evict_turn, filter_turn, free_turn, join_turn, make_turn, merge_turn, pair_turn, part_turn, patch_turn, rebuild_turn, ship_turn}
 use Rattle.cb_core.proofs.TurnCallsFar.{IsLostFar}
-use Rattle.cb_core.proofs.TurnCallsLost.{gone_lost, lost_far}
+use Rattle.cb_core.proofs.TurnCallsLost.{lost_far}
 use Rattle.cb_core.proofs.TurnCallsUnavailable.{IsUnavailable, read_gone, read_unavailable, swap_is_gone, swap_unavailable, write_gone, write_unavailable}
 
 -- ---- an object whose set has lost too many
@@ -88,16 +87,6 @@ far_is w h id l z = in_far w.far h id l z.home
 pub gone_is : (far : FarState) (h : ℕ) (id : SetId) (l : List Loss) → IsLostFar far h id l
     → is_gone far h ≡ true
 gone_is far h id l z = gone_is_broken far h z.home z.set z.at z.there ∙ z.broken
-
--- Such objects are those that are gone.
-pub lost_at : (w : WorldState) (h : ℕ) (id : SetId) (l : List Loss) → IsLost w h id l
-    → IsLostAt w h (stamp_at w.desk h)
-lost_at w h id l z = (z.away, gone_is w.far h id l (far_is w h id l z), refl)
-
-pub at_lost : (w : WorldState) (s : Shown) (h v : ℕ) → IsKnown w.desk w.far s → IsLostAt w h v
-    → (id : SetId) × (l : List Loss) × IsLost w h id l
-at_lost w s h v k z =
-    let y = gone_lost w.far h z.1 in (y.0, y.1, lost_is w s h y.0 y.1 k y.2)
 
 -- it has one set, and that has lost one list of shards
 pub one_lost : (far : FarState) (h : ℕ) (i j : SetId) (l m : List Loss) → IsLostFar far h i l

@@ -1,7 +1,5 @@
-ghost use Rattle.std.specs.Prelude.{◌≡◌, ℕ, ◌+◌, ◌-◌, ◌^◌, ◌<◌, ◌≤◌, length, IfSome, IfNone, IfOk, OnErr};
-ghost use Rattle.cb_types.specs.declared.reply.Reply.TheVariants as answer;
-ghost use Rattle.cb_ptr.specs.declared.word.State.TheVariants as state;
-ghost use Rattle.cb_ptr.specs.Word.{len_of, place_of, state_of};
+ghost use Rattle.std.specs.Prelude.{◌≡◌, ◌+◌, ◌-◌, ◌^◌, ◌<◌, ◌≤◌, length, IfSome, IfNone, IfOk, OnErr};
+ghost use Rattle.cb_ptr.specs.Word.{len_of, place_of};
 ghost use Rattle.cb_world.specs.Memory.{words_for};
 ghost use Rattle.cb_world.specs.OpenSteps.{next_word};
 ghost use Rattle.cb_world.specs.World.{IsSoundWorld, word_at};

@@ -1,5 +1,5 @@
 ghost use Rattle.cb_member.specs.Membership.{alive};
-ghost use Rattle.std.specs.Prelude.{◌≡◌, true, ℕ, ◌^◌, ◌-◌, ◌<◌, length, IfOk, OnErr};
+ghost use Rattle.std.specs.Prelude.{◌≡◌, true, ◌^◌, ◌-◌, ◌<◌, length, IfOk, OnErr};
 ghost use Rattle.cb_node.specs.NodesState.{held};
 ghost use Rattle.cb_world.specs.Survey.{survey_after_crash};
 ghost use Rattle.cb_core.specs.Membership.{CrashTurn, JoinTurn};

@@ -1,7 +1,6 @@
-ghost use Rattle.std.specs.Prelude.{◌≡◌, ℕ, ◌<◌, length, Some};
-ghost use Rattle.cb_ptr.specs.declared.word.State.TheVariants as state;
+ghost use Rattle.std.specs.Prelude.{◌≡◌, ◌<◌, length, Some};
 ghost use Rattle.cb_core.specs.Pinning.{PinStep, UnpinStep};
-ghost use Rattle.cb_world.specs.World.{ArePinned, word_at};
+ghost use Rattle.cb_world.specs.World.{ArePinned};
 
 use cb_ptr::{State, unpack};
 use cb_types::{Handle, Reply};

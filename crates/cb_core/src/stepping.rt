@@ -1,4 +1,4 @@
-ghost use Rattle.std.specs.Prelude.{◌≡◌, ◌<◌, IfOk, OnErr};
+ghost use Rattle.std.specs.Prelude.{◌<◌, IfOk, OnErr};
 ghost use Rattle.cb_world.specs.World.{IsSoundWorld};
 ghost use Rattle.cb_core.specs.Events.{IsAtomic, IsEvent};
 ghost use Rattle.cb_core.specs.Jobs.{IsJob};

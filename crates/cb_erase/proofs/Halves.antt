@@ -5,26 +5,12 @@ use Rattle.std.proofs.lemmas.Bool.{cases_lt}
 use Rattle.std.proofs.lemmas.List.{length-append, get_or_append_left, get_or-append_right}
 use Rattle.std.proofs.lemmas.Grind.{same_number_lists}
 use Rattle.std.proofs.lemmas.Simd.{length-put_chunk, get_or-put_chunk_at, get_or-put_chunk_below, get_or-put_chunk_above}
-use Rattle.cb_gf256.specs.Lanes.{HasLanes}
-use Rattle.cb_erase.specs.TwoBlocks.{HasBytes}
 
 pub in_front : (front back : List ℕ) (l : ℕ) → length front ≡ 32 → l < 32 → get_or (front ++ back) l 0 ≡ get_or front l 0
 in_front front back l long h = get_or_append_left front back 0 l (omega arith)
 
 pub in_back : (front back : List ℕ) (l : ℕ) → length front ≡ 32 → get_or (front ++ back) (32 + l) 0 ≡ get_or back l 0
 in_back front back l long = get_or-append_right front back 32 (32 + l) 0 long (omega arith) ∙ ap (λ i. get_or back i 0) (omega arith)
-
-pub of_halves : (front back : List ℕ) (f : ℕ → ℕ) → HasLanes front f → HasLanes back (λ l. f (32 + l)) → HasBytes (front ++ back) f
-of_halves front back f a b = record {
-  count = omega (arith, length-append front back, a.count, b.count);
-  each = λ l h.
-      ⊎_elim
-      (λ below. in_front front back l a.count below ∙ a.each l below)
-      (λ above.
-      let behind : 32 + (l - 32) ≡ l = omega arith in
-      ap (λ i. get_or (front ++ back) i 0) (sym behind) ∙ in_back front back (l - 32) a.count ∙ b.each (l - 32) (omega arith) ∙ ap f behind)
-      (cases_lt l 32);
-}
 
 -- one block and then the other, put behind it
 pub put_halves : (at : ℕ) (row front back : List ℕ) → at + 64 ≤ length row → length front ≡ 32 → length back ≡ 32 → put_chunk (at + 32) (put_chunk at row front) back ≡ put_chunk at row (front ++ back)

@@ -1,6 +1,5 @@
-ghost use Rattle.std.specs.Prelude.{◌≡◌, ◌++◌, IfOk, OnOk, codes};
+ghost use Rattle.std.specs.Prelude.{◌≡◌, ◌++◌, IfOk, OnOk};
 ghost use Rattle.std.specs.List.{flat_map};
-ghost use Rattle.cb_text.specs.Line.{word_and_number};
 ghost use Rattle.cb_events.specs.Told.{no_config, rest_line, told_line, told_text};
 
 use cb_text::reply::push_reply;

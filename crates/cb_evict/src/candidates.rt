@@ -1,6 +1,6 @@
 ghost use Rattle.std.specs.Prelude.{◌≡◌, ◌^◌, ◌<◌, ◌++◌, true, IfOk, OnOk, filter, length, slice_set};
 ghost use Rattle.std.specs.List.{range_with_len};
-ghost use Rattle.cb_evict.specs.Candidates.{AreFlags, same_temp, has_temp, may_leave_by, candidates};
+ghost use Rattle.cb_evict.specs.Candidates.{AreFlags, same_temp, may_leave_by, candidates};
 
 use cb_span::{Span, Temp};
 use cb_types::NoMemory;

@@ -1,4 +1,4 @@
-ghost use Rattle.std.specs.Prelude.{◌≡◌, ◌≢◌, ℕ, ◌^◌, ◌<◌, ◌≤◌, true, All, IfNone, IfOk, IfSome, IsOk, None, Some, length};
+ghost use Rattle.std.specs.Prelude.{◌≡◌, ◌≢◌, ◌^◌, ◌<◌, ◌≤◌, true, All, IfNone, IfOk, IfSome, IsOk, None, Some, length};
 ghost use Rattle.std.specs.List.{AllPairs};
 ghost use Rattle.std.specs.FinMap as map;
 ghost use Rattle.cb_frame.specs.FreeFrames.{IsFreeFrame};
@@ -9,13 +9,13 @@ ghost use Rattle.cb_world.specs.declared.shown.Shown.{Shown};
 ghost use Rattle.cb_world.specs.FarState.{span_in};
 ghost use Rattle.cb_world.specs.Leaving.{LeavingState};
 ghost use Rattle.cb_world.specs.Performs.{Performs};
-ghost use Rattle.cb_world.specs.Reserved.{put_shards, set_from};
+ghost use Rattle.cb_world.specs.Reserved.{put_shards};
 ghost use Rattle.cb_world.specs.Sets.{Kept};
 ghost use Rattle.cb_world.specs.Sound.{Sound};
 ghost use Rattle.cb_world.specs.World.{IsConfigured};
 ghost use Rattle.cb_evict.specs.Candidates.{AreUnique};
 ghost use Rattle.cb_evict.specs.Closing.{HaveHomes, with_homes};
-ghost use Rattle.cb_evict.specs.CommitRule.{CommitEffect, CommitRule, with_committed};
+ghost use Rattle.cb_evict.specs.CommitRule.{CommitEffect, CommitRule};
 ghost use Rattle.cb_evict.specs.Committing.{AreAllPut, HasPlaces, with_shards};
 ghost use Rattle.cb_evict.specs.Waiting.{PutAtMembers, waiting};
 

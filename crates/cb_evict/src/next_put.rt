@@ -1,7 +1,5 @@
-ghost use Rattle.std.specs.Prelude.{◌≡◌, ℕ, ◌+◌, ◌<◌, ◌≤◌, ◌++◌, IfOk, List, OnErr, OnOk, Some, length};
+ghost use Rattle.std.specs.Prelude.{◌≡◌, ℕ, ◌+◌, ◌<◌, ◌≤◌, ◌++◌, IfOk, OnErr, OnOk, Some, length};
 ghost use Rattle.cb_world.specs.declared.shown.Shown.{Shown};
-ghost use Rattle.cb_world.specs.FarState.{FarState};
-ghost use Rattle.cb_world.specs.Leaving.{LeavingState};
 ghost use Rattle.cb_world.specs.Reserved.{put_shards};
 ghost use Rattle.cb_world.specs.Sound.{Sound};
 ghost use Rattle.cb_evict.specs.ShipRule.{other_puts};

@@ -11,7 +11,7 @@ use Rattle.cb_rule.specs.declared.view.View.{View}
 use Rattle.cb_farmap.specs.declared.array.FarArray.{FarArray}
 use Rattle.cb_farmap.specs.declared.kept.KeptObject.{KeptObject}
 use Rattle.cb_farmap.specs.declared.kept.Stop.{Stop}
-use Rattle.cb_farmap.specs.Arrays.{IsArrayOf, PutsNumber, WritesNumber, but_last, bytes_with, is_full, last_of, list_of, no_array}
+use Rattle.cb_farmap.specs.Arrays.{IsArrayOf, PutsNumber, WritesNumber, but_last, bytes_with, is_full, last_of, list_of}
 use Rattle.cb_farmap.specs.Changes.{GoesOn, IsBehind, Makes, with_next}
 use Rattle.cb_farmap.specs.Numbers.{number_at, numbers}
 use Rattle.cb_farmap.specs.Objects.{AreApart, IsObject, blank, bytes_at, bytes_of, numbers_at, object_at}

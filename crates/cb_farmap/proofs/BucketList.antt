@@ -182,10 +182,6 @@ module _ (es new : List Entry) (bs : List Bucket) (key : ℕ) (later : Bucket) (
   now : kept_of (with_bucket bs key later) ≡ before ++ (later.kept ++ behind)
   now = kept_set bs at later (omega (arith, some))
 
-  -- one of them is written
-  spot : ℕ → ℕ
-  spot o = length before + o
-
   set_there : (o : ℕ) (y : KeptObject) → o < length own
       → before ++ (slice_set own o y ++ behind) ≡ slice_set (before ++ (own ++ behind)) (length before + o) y
   set_there o y low = ap (λ (l : List KeptObject). before ++ l) (sym (set-append_left own behind o y low))

@@ -81,9 +81,6 @@ module _ (es : List Entry) (b : Bucket) (o few key : ℕ) (bytes : List ℕ) (is
       less : i < few
       less = let n = few_long bytes few low in omega (arith, within, n)
 
-  pub object_there : IsObject es (object_at b.kept o)
-  object_there = object_is es b o is (let w = is.within in omega (arith, w, some))
-
 pub long_bytes : (es : List Entry) (b : Bucket) (o : ℕ) → IsBucket es b → 64 * o < b.count
     → length (bytes_at es (object_at b.kept o)) ≡ 1024
 long_bytes es b o is some =

@@ -80,9 +80,3 @@ pub no_place_told : {X : Type 0} (c : Config) (first : ℕ) (bytes : List ℕ) (
 no_place_told c first bytes v r is = let z = err_from_is_err_and r is in
     subst (λ (t : Option Cannot). Goes c first (AskMake bytes ∷ []) t v v)
     (sym (ap trouble z.1 ∙ ap (λ (e : Cannot). Some e) z.2)) (no_place c first bytes v v refl)
-
--- the trouble of another call
-pub same_trouble : {X Y : Type 0} (q : Result X Cannot) (r : Result Y Cannot) (e : Cannot)
-    → q ≡ Err e → IsErrAnd r (λ y. y ≡ e) → trouble r ≡ trouble q
-same_trouble q r e is told = let z = err_from_is_err_and r told in
-    ap trouble z.1 ∙ ap (λ (y : Cannot). Some y) z.2 ∙ sym (ap trouble is)

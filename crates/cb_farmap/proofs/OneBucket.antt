@@ -121,9 +121,6 @@ module _ (many at : ℕ) (pairs : List Pair) (i key x : ℕ) (home : BelongTo ma
         )));
   }
 
-  pub told_there : value_at key pairs ≡ Some (pair_of pairs i).1
-  told_there = value_there key pairs i one less key_is
-
 -- ---- a pair with a new key, behind the others
 module _ (many at : ℕ) (pairs : List Pair) (key x : ℕ) (home : BelongTo many at pairs) (one : NoKeyTwice pairs)
     (is : place_of key pairs ≡ None) (belongs : key % many ≡ at) where
@@ -180,9 +177,6 @@ module _ (many at : ℕ) (pairs : List Pair) (key x : ℕ) (home : BelongTo many
           → (k : ℕ) × (k < length pairs) × (pair_of pairs k ≡ pair_of more j)
       old q ne j low same (inl a) = (j, a, sym (before j a))
       old q ne j low same (inr e) = absurd (ne (sym same ∙ at_last j e))
-
-  pub told_none : value_at key pairs ≡ None
-  told_none = no_value key pairs none
 
 -- ---- a pair is dropped, and the last one put into the gap
 module _ (many at : ℕ) (pairs : List Pair) (p key : ℕ) (home : BelongTo many at pairs) (one : NoKeyTwice pairs)

@@ -102,9 +102,6 @@ module _ (c : Config) (n : ℕ) (v u : View) (b : Bucket) (key : ℕ)
 
   -- and of none
   module _ (at : place_of key (pairs_in v.written b) ≡ None) where
-    pub none_value : None ≡ value_of v.written b key
-    none_value = ap (value_in (pairs_in v.written b)) (sym at)
-
     pub none_dropped : IsBucket v.written b → Becomes v.written b b (dropped_in v.written b key) u.written
     none_dropped is = record {
       bucket = bucket_after is;

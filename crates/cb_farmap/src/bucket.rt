@@ -1,15 +1,15 @@
 //! A bucket of a far map: pairs in the objects that it keeps, one behind the other.
-ghost use Rattle.std.specs.Prelude.{◌≡◌, ◌*◌, ◌+◌, ◌-◌, ◌/◌, ◌<◌, ◌≤◌, ◌^◌, ◌∷◌, [], ◌==◌, length, IfOk, OnErr, OnOk, Some, None};
+ghost use Rattle.std.specs.Prelude.{◌≡◌, ◌*◌, ◌+◌, ◌-◌, ◌/◌, ◌<◌, ◌≤◌, ◌∷◌, [], ◌==◌, length, IfOk, OnErr, OnOk, Some, None};
 ghost use Rattle.std.specs.List.{AllByRecursion};
 ghost use Rattle.cb_shared.specs.Passes.{IsPassOf, record_of};
 ghost use Rattle.cb_shared.specs.Recalls.{first_version_of};
-ghost use Rattle.cb_farmap.specs.BucketChanges.{AddsPair, Becomes, FillsGap, FindsAt, IsFound, WritesPair, dropped_in, put_at, put_in, value_in, value_of};
+ghost use Rattle.cb_farmap.specs.BucketChanges.{AddsPair, Becomes, FillsGap, IsFound, WritesPair, dropped_in, put_at, put_in, value_in, value_of};
 ghost use Rattle.cb_farmap.specs.Buckets.{IsBucket, all_pairs, no_bucket, pairs_in};
 ghost use Rattle.cb_farmap.specs.Calls.{Goes, trouble};
 ghost use Rattle.cb_farmap.specs.Changes.{AreLoose, AreSole, IsCalm};
 ghost use Rattle.cb_farmap.specs.Numbers.{pair_at};
 ghost use Rattle.cb_farmap.specs.Objects.{IsObject, bytes_at, object_at};
-ghost use Rattle.cb_farmap.specs.Pairs.{dropped, pair_of, place_of};
+ghost use Rattle.cb_farmap.specs.Pairs.{dropped, pair_of};
 ghost use Rattle.cb_farmap.specs.Plans.{add_ask, drop_plan, is_filled, last_asks, look_plan, move_asks, put_ask, put_plan, write_at};
 
 use crate::find::Found;

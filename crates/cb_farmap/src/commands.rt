@@ -1,5 +1,5 @@
 //! Commands on one array and one map, which one pass keeps.
-ghost use Rattle.std.specs.Prelude.{◌≡◌, ◌≤◌, ◌<◌, ◌∷◌, ◌++◌, [], length, replicate, IfOk, OnErr, OnOk};
+ghost use Rattle.std.specs.Prelude.{◌≡◌, ◌≤◌, ◌<◌, ◌∷◌, ◌++◌, [], length, IfOk, OnErr, OnOk};
 ghost use Rattle.cb_shared.specs.Passes.{IsPassOf, IsRuntimeBegun, record_of};
 ghost use Rattle.cb_shared.specs.Recalls.{first_version_of};
 ghost use Rattle.cb_map_text.specs.Plain.{found_said, fresh};
@@ -10,7 +10,7 @@ ghost use Rattle.cb_farmap.specs.Calls.{trouble};
 ghost use Rattle.cb_farmap.specs.Changes.{IsCalm};
 ghost use Rattle.cb_farmap.specs.Commands.{CommandsGo};
 ghost use Rattle.cb_farmap.specs.Maps.{no_map};
-ghost use Rattle.cb_farmap.specs.Stands.{AreReady, GoesSo, Says, SaysWhy, Stands};
+ghost use Rattle.cb_farmap.specs.Stands.{AreReady, GoesSo, Says, SaysWhy};
 
 use crate::array::FarArray;
 use crate::kept::Cannot;

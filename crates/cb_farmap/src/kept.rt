@@ -1,4 +1,4 @@
-ghost use Rattle.std.specs.Prelude.{◌≡◌, ◌<◌, ◌≤◌, [], ◌∷◌, ◌++◌, ◌-◌, length, slice_set, take, OnErr, OnOk};
+ghost use Rattle.std.specs.Prelude.{◌≡◌, ◌<◌, [], ◌∷◌, ◌++◌, ◌-◌, length, slice_set, take, OnErr, OnOk};
 ghost use Rattle.cb_farmap.specs.Objects.{blank, object_at};
 ghost use Rattle.cb_farmap.specs.Stops.{cannot_of, stop_of};
 

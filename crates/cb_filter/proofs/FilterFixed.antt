@@ -1,8 +1,8 @@
 -- A filter is fixed: one reply, one set of words and one far state.
-use Rattle.std.proofs.Common.{◌≡◌, ◌≢◌, ◌⊎◌, ℕ, zero, suc, ◌≤◌, sym, ap, ◌∙◌, subst, arith, refl}
+use Rattle.std.proofs.Common.{◌≡◌, ◌≢◌, ℕ, zero, suc, sym, ap, ◌∙◌, subst, arith, refl}
 use Rattle.cb_ptr.specs.declared.word.State.{State}
 use Rattle.cb_ptr.specs.declared.word.State.TheVariants as word
-use Rattle.cb_ptr.specs.Word.{pins_of, state_of}
+use Rattle.cb_ptr.specs.Word.{state_of}
 use Rattle.cb_span.specs.declared.temp.Temp.{Temp}
 use Rattle.cb_types.specs.declared.reply.Reply.{Reply}
 use Rattle.cb_types.specs.declared.reply.Reply.TheVariants as answer
@@ -16,8 +16,8 @@ use Rattle.cb_world.specs.StillWords.{stamp_at}
 use Rattle.cb_world.specs.World.{word_at}
 use Rattle.cb_world.proofs.Laws.{IsOneEnd, refused_alike, chosen_fixed, not_crammed, seat_fixed}
 use Rattle.cb_filter.specs.Seats.{Seat, IsSeatOf, with_moved}
-use Rattle.cb_filter.specs.FilterRule.{EmptyToFilter, GetsSlot, HasNoSlot, IsInPlace}
-use Rattle.cb_filter.specs.FilterStep.{IsFilterStep, IsFreeIn, RefusesAs, temp_of, with_carried_to, with_cooled, refused, cools, without_slot, moves}
+use Rattle.cb_filter.specs.FilterRule.{EmptyToFilter, GetsSlot}
+use Rattle.cb_filter.specs.FilterStep.{IsFilterStep, RefusesAs, temp_of, with_carried_to, refused, cools, without_slot, moves}
 
 empty_fixed : (v : ℕ) (r q : Reply) → EmptyToFilter v r → EmptyToFilter v q → r ≡ q
 empty_fixed zero r q a b = a ∙ sym b

@@ -1,15 +1,13 @@
 -- Worked examples of a filter as a step of the still desk.
-use Rattle.std.proofs.Common.{◌≡◌, ◌≢◌, ℕ, ◌+◌, ◌*◌, ◌≤◌, true, false, List, [], ◌∷◌, None, Some, get_or, refl, ap, lit≤, arith}
-use Rattle.cb_class.specs.Class.{bytes_of, words_of}
+use Rattle.std.proofs.Common.{◌≡◌, ℕ, ◌+◌, ◌*◌, true, false, [], ◌∷◌, None, Some, get_or, refl, ap, lit≤, arith}
 use Rattle.cb_ptr.specs.declared.word.State.TheVariants as state
 use Rattle.cb_types.specs.declared.reply.Reply.TheVariants as answer
 use Rattle.cb_world.specs.FarState.{FarState}
 use Rattle.cb_world.specs.Memory.{put, window}
 use Rattle.cb_world.specs.Placed.{place_in}
 use Rattle.cb_world.specs.Plain.{Words}
-use Rattle.cb_world.proofs.Laws.{some_same}
 use Rattle.cb_filter.specs.FilterStep.{cool_word, with_cooled, with_carried_to, RefusesAs, IsFreeIn, IsFilterStep, refused, cools, without_slot, moves}
-use Rattle.cb_filter.proofs.WorkedSeats.{config, far, moved, full, seat, slot, stands, gets, in_place, no_slot, hot_cold, word}
+use Rattle.cb_filter.proofs.WorkedSeats.{config, far, moved, full, seat, slot, stands, gets, in_place, no_slot, word}
 
 -- object 0 has 16 bytes at place 1, and is hot
 abbrev near_word : ℕ

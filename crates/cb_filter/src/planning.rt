@@ -1,4 +1,4 @@
-ghost use Rattle.std.specs.Prelude.{◌≡◌, ◌≢◌, ℕ, ◌^◌, ◌≤◌, true, false, length, Some, IfOk, OnErr};
+ghost use Rattle.std.specs.Prelude.{◌≡◌, ◌≢◌, ◌^◌, ◌≤◌, true, false, length, Some, IfOk, OnErr};
 ghost use Rattle.cb_ptr.specs.Word.{hot_of, place_of};
 ghost use Rattle.cb_world.specs.LocalSound.{AreFrames};
 ghost use Rattle.cb_filter.specs.Seats.{Seat, temp_for};

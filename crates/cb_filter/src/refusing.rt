@@ -1,7 +1,6 @@
-ghost use Rattle.std.specs.Prelude.{◌≡◌, ◌⊎◌, ◌≢◌, ℕ, ◌<◌, ◌≤◌, List};
+ghost use Rattle.std.specs.Prelude.{◌≢◌, ◌<◌, List};
 ghost use Rattle.cb_ptr.specs.declared.word.State.TheVariants as state;
-ghost use Rattle.cb_ptr.specs.Word.{state_of, pins_of};
-ghost use Rattle.cb_types.specs.declared.reply.Reply.TheVariants as answer;
+ghost use Rattle.cb_ptr.specs.Word.{state_of};
 ghost use Rattle.cb_world.specs.declared.event.Event.{Event};
 ghost use Rattle.cb_world.specs.Grasped.{IsFree};
 ghost use Rattle.cb_world.specs.Reads.{AreReads};

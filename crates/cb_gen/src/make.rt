@@ -1,4 +1,4 @@
-ghost use Rattle.std.specs.Prelude.{◌≡◌, ◌<◌, ◌≤◌, ◌∷◌, ◌++◌, length, OnOk, IfOk};
+ghost use Rattle.std.specs.Prelude.{◌≡◌, ◌<◌, ◌≤◌, length, OnOk, IfOk};
 ghost use Rattle.cb_script.specs.Form.{IsScript};
 ghost use Rattle.cb_script.specs.Roomy.{IsAtEase};
 ghost use Rattle.cb_gen.specs.Drawn.{made_script, with_line};

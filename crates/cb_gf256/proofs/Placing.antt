@@ -60,14 +60,6 @@ placed_more w at targets v before now m row ascend inside within size new old be
       others = λ i apart. set_row (λ r. r ≡ row_at before i) now t i row within (λ e. absurd (apart m (omega arith) e)) (λ _. h.others i (λ j k. apart j (omega arith)));
     }
 
-pub combined_none : (table shown : List (List ℕ)) (targets : List ℕ) (rows : List (List ℕ)) (at : ℕ) → Combined table shown targets rows rows at at
-combined_none table shown targets rows at = record {
-  count = refl;
-  lengths = λ i. refl;
-  sums = λ j c h k l. absurd (omega arith);
-  others = λ i h. refl;
-}
-
 -- the columns of a block, where they are put
 block_columns : (table shown : List (List ℕ)) (targets : List ℕ) (now next : List (List ℕ)) (w at m : ℕ) → m ≡ length targets → Placed w at targets (λ j l. combination (row_at table j) shown (at + l)) now next m
     → (j c : ℕ) → j < length targets → at ≤ c → c < at + w → byte_at next (get_or targets j 0) c ≡ combination (row_at table j) shown c

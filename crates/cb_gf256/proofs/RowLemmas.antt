@@ -9,7 +9,7 @@ use Rattle.std.proofs.lemmas.Simd.{length-put_chunk, get_or-put_chunk_below, get
 use Rattle.cb_gf256.specs.Lanes.{HasLanes}
 use Rattle.cb_gf256.specs.Row.{row_sum, scaled_row, summed_front}
 use Rattle.cb_gf256.proofs.Linear.{product-right}
-use Rattle.cb_gf256.proofs.FieldLaws.{product-zero, zero-product}
+use Rattle.cb_gf256.proofs.FieldLaws.{product-zero}
 
 front_more : (xs ys : List ℕ) (i : ℕ) → i < length xs → i < length ys → set (summed_front xs ys i) i (get_or (summed_front xs ys i) i 0 ⊕ get_or ys i 0) ≡ summed_front xs ys (suc i)
 front_more [] ys i h k = absurd (omega arith)
@@ -78,12 +78,6 @@ pub scaled_row-row_sum : (c : ℕ) (xs ys : List ℕ) → scaled_row c (row_sum 
 scaled_row-row_sum c [] ys = refl
 scaled_row-row_sum c (x ∷ xs) [] = refl
 scaled_row-row_sum c (x ∷ xs) (y ∷ ys) = ap₂ ◌∷◌ (product-right c x y) (scaled_row-row_sum c xs ys)
-
-pub row_sum-scaled_by_zero : (xs ys : List ℕ) → length xs ≡ length ys → row_sum xs (scaled_row 0 ys) ≡ xs
-row_sum-scaled_by_zero [] ys h = refl
-row_sum-scaled_by_zero (x ∷ xs) [] h = absurd (omega arith)
-row_sum-scaled_by_zero (x ∷ xs) (y ∷ ys) h =
-    ap₂ ◌∷◌ (ap (λ z. x ⊕ z) (zero-product y) ∙ xor_zero_r x) (row_sum-scaled_by_zero xs ys (omega arith))
 
 -- ---- a front of whole blocks
 pub length-front : (xs ys : List ℕ) (i : ℕ) → i ≤ length xs → i ≤ length ys → length (summed_front xs ys i) ≡ length xs

@@ -1,4 +1,4 @@
-ghost use Rattle.std.specs.Prelude.{◌≡◌, ◌*◌, ◌<◌, [], length, replicate, IfOk};
+ghost use Rattle.std.specs.Prelude.{◌≡◌, ◌*◌, ◌<◌, length, replicate, IfOk};
 ghost use Rattle.cb_gf256.specs.Block.{cut_rows};
 ghost use Rattle.std.specs.Borrow.{sem};
 ghost use Rattle.cb_gf256.specs.Rows.{row_at, HaveLength, AreRows};

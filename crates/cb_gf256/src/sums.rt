@@ -1,6 +1,6 @@
 //! Sums of rows, each times its factor: a block of all sums at a time, and the rest byte by byte.
 ghost use Rattle.std.specs.Prelude.{◌≡◌, ◌≢◌, ℕ, ◌+◌, ◌-◌, ◌/◌, ◌*◌};
-ghost use Rattle.std.specs.Prelude.{◌%◌, ◌<◌, ◌≤◌, List, length, All, slice_index};
+ghost use Rattle.std.specs.Prelude.{◌<◌, ◌≤◌, List, length, All, slice_index};
 ghost use Rattle.std.specs.List.Sorted.{IsStrictlyIncreasing};
 ghost use Rattle.cb_gf256.specs.Sum.{◌⊕◌};
 ghost use Rattle.cb_gf256.specs.Product.{◌⊗◌};

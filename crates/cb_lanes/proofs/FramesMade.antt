@@ -1,5 +1,5 @@
 -- Where no frame is free, at least as many objects were made as there are frames.
-use Rattle.std.proofs.Common.{◌≡◌, ◌≢◌, ◌⊎◌, ℕ, zero, suc, ◌+◌, ◌<◌, ◌≤◌, Bool, true, false, List, [], ◌∷◌, ◌++◌, length, get_or, map, Option, None, Some, refl, sym, ap, ◌∙◌, subst, arith, inl, inr, nat_eq, eq-eqb}
+use Rattle.std.proofs.Common.{◌≡◌, ◌⊎◌, ℕ, suc, ◌<◌, ◌≤◌, true, List, [], ◌∷◌, length, get_or, map, Option, None, Some, refl, sym, ap, ◌∙◌, subst, arith, inl, inr, nat_eq, eq-eqb}
 use Rattle.std.proofs.Common.{is_some}
 use Rattle.std.specs.List.{count_by, list_any, range_with_len}
 use Rattle.std.proofs.lemmas.Bool.{cases_lt}
@@ -7,17 +7,15 @@ use Rattle.std.proofs.lemmas.List.{get_or_past}
 use Rattle.std.proofs.lemmas.List.Folds.{list_any_at}
 use Rattle.std.proofs.lemmas.List.FromFn.{get_or-map-range_with_len, length-map-range_with_len}
 use Rattle.std.proofs.lemmas.Map.Steps.{le-length_from_below}
-use Rattle.cb_frame.specs.FreeFrames.{IsFreeFrame, least_free}
+use Rattle.cb_frame.specs.FreeFrames.{least_free}
 use Rattle.cb_frame.proofs.Laws.{least_free-None}
-use Rattle.cb_span.specs.Contents.{Contents, handle_at}
+use Rattle.cb_span.specs.Contents.{Contents}
 use Rattle.cb_span.specs.Places.{slot_place}
 use Rattle.cb_world.specs.declared.object.Object.{Object}
-use Rattle.cb_world.specs.declared.object.Object.TheVariants as is
 use Rattle.cb_world.specs.declared.shown.Shown.{Shown}
 use Rattle.cb_world.specs.FarState.{FarState, handle_in, span_in, resident}
 use Rattle.cb_world.specs.LocalSound.{LiesAt, LocalSound}
 use Rattle.cb_world.specs.Shown.{never, object_at}
-use Rattle.cb_evict.proofs.Laws.{named_at, names_span}
 use Rattle.cb_lanes.proofs.LooseSpans.{HasFrame, frame_of}
 
 -- ---- every frame has an object

@@ -12,5 +12,5 @@ pub use Rattle.cb_lanes.proofs.LinesSuit.{are_suited_both, are_suited_more, lane
 pub use Rattle.cb_lanes.proofs.Lists.{all_both, all_map, found_one}
 pub use Rattle.cb_lanes.proofs.OwnEnds.{FoundIn, turned_in}
 pub use Rattle.cb_lanes.proofs.TurnReplies.{room_for, turned_so, write_where}
-pub use Rattle.cb_lanes.proofs.UntilLack.{NoneOfLane, calm_lacks_none, keep_alone, none_lacks}
+pub use Rattle.cb_lanes.proofs.UntilLack.{NoneOfLane, keep_alone, none_lacks}
 pub use Rattle.cb_lanes.proofs.UntilLack.{none_until, until_before, until_behind}

@@ -1,6 +1,6 @@
 -- The tries of a pin, one after another.
 use Rattle.std.proofs.Common.{◌≡◌, ℕ, ◌<◌, List, [], ◌∷◌, length, Option, None, Some, Result, Ok}
-use Rattle.std.proofs.Common.{Err, inl, inr, sym, refl, ap, ◌∙◌, ◌⊎◌, subst}
+use Rattle.std.proofs.Common.{Err, sym, refl, ap, ◌∙◌, ◌⊎◌, subst}
 use Rattle.std.specs.Result.{IfOk, OnErr}
 use Rattle.cb_member.specs.declared.no_memory.NoMemory.{NoMemory}
 use Rattle.cb_types.specs.declared.config.Config.{Config}

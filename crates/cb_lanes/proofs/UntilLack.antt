@@ -5,10 +5,8 @@ use Rattle.std.proofs.Common.{ap, ◌∙◌, subst, ne_eqb, if◌then◌else◌}
 use Rattle.std.specs.List.{AllByRecursion}
 use Rattle.std.proofs.lemmas.Bool.{true≢false}
 use Rattle.cb_types.specs.declared.answer.Answer.{Answer}
-use Rattle.cb_types.specs.declared.reply.Reply.{Reply}
-use Rattle.cb_types.specs.declared.reply.Reply.TheVariants as answer
 use Rattle.cb_script.specs.declared.script.Line.{Line}
-use Rattle.cb_lanes.specs.Alone.{IsCalmReply, KeepAlone, LaneState, alone_after, alone_more}
+use Rattle.cb_lanes.specs.Alone.{KeepAlone, LaneState, alone_after, alone_more}
 use Rattle.cb_lanes.specs.Alone.{is_leave, is_maker_of, is_own, leaves, own_name}
 use Rattle.cb_lanes.specs.AloneUntil.{KeepAloneUntil, is_lack, lacks}
 
@@ -77,11 +75,3 @@ module _ (lines : List Line) (lane : ℕ) where
       → AllByRecursion (λ a. lacks lines lane a ≡ false) answers
   none_lacks [] none = tt
   none_lacks (a ∷ answers) none = (no_lack a none.0, none_lacks answers none.1)
-
--- a calm reply tells of no lack
-pub calm_lacks_none : (r : Reply) → IsCalmReply r → is_lack r ≡ false
-calm_lacks_none (answer.NoRoom frames loose nodes) calm = absurd calm
-calm_lacks_none (answer.Unavailable set lost) calm = absurd calm
-calm_lacks_none (answer.Full handles) calm = absurd calm
-calm_lacks_none answer.Worn calm = absurd calm
-calm_lacks_none r calm = refl

@@ -1,5 +1,5 @@
 //! The pins that a lane keeps beside its pass, the newest one first.
-ghost use Rattle.std.specs.Prelude.{◌≡◌, ◌<◌, ◌≤◌, ◌∷◌, length, IfSome, IfNone};
+ghost use Rattle.std.specs.Prelude.{◌≡◌, ◌<◌, ◌∷◌, length, IfSome, IfNone};
 ghost use Rattle.cb_lanes.specs.Passing.{HasNoMark, IsNewestAt, marks_of};
 
 use arrayvec::ArrayVec;

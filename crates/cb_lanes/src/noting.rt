@@ -1,4 +1,4 @@
-ghost use Rattle.std.specs.Prelude.{◌≡◌, List, [], ◌∷◌, ◌++◌, IfOk, OnErr};
+ghost use Rattle.std.specs.Prelude.{◌≡◌, [], ◌∷◌, ◌++◌, IfOk, OnErr};
 ghost use Rattle.std.specs.List.{cons_option};
 ghost use Rattle.cb_script.specs.Form.{IsRequest};
 ghost use Rattle.cb_lanes.specs.Asked.{answer_to};

@@ -1,12 +1,11 @@
 -- The delta of one data row, added to one parity after another.
-use Rattle.std.proofs.Common.{◌≡◌, ◌≢◌, ℕ, ◌+◌, ◌<◌, ◌≤◌, List, [], length, set, refl, sym, ap, ◌∙◌, subst, arith, inl, inr}
+use Rattle.std.proofs.Common.{◌≡◌, ◌≢◌, ℕ, ◌+◌, ◌<◌, ◌≤◌, List, [], length, set, sym, ap, ◌∙◌, subst, arith, inl, inr}
 use Rattle.std.proofs.lemmas.Bool.{cases_eq}
 use Rattle.std.proofs.lemmas.List.{get_or-set_same, get_or-set_other}
 use Rattle.cb_gf256.specs.Block.{with_row}
 use Rattle.cb_gf256.specs.Row.{row_sum, scaled_row}
 use Rattle.cb_gf256.specs.Rows.{HaveLength, byte_at, row_at}
 use Rattle.cb_gf256.proofs.PublicLaws.{row_sum_length, scaled_row_length, written_count, written_lengths, written_row}
-use Rattle.cb_local.specs.Adding.{IsDeltaAdded}
 
 -- it is added to the parities below this one
 pub record IsAddedBelow (table : List (List ℕ)) (position : ℕ) (delta : List ℕ)
@@ -16,15 +15,6 @@ pub record IsAddedBelow (table : List (List ℕ)) (position : ℕ) (delta : List
   pub front : (j : ℕ) → j < n → row_at new j
       ≡ row_sum (row_at old j) (scaled_row (byte_at table j position) delta)
   pub rest : (j : ℕ) → n ≤ j → row_at new j ≡ row_at old j
-
-pub none_below : (table : List (List ℕ)) (position : ℕ) (delta : List ℕ) (old : List (List ℕ))
-    → HaveLength (length delta) old → IsAddedBelow table position delta old old 0
-none_below table position delta old wide = record {
-  count = refl;
-  wide = wide;
-  front = λ j l. absurd (omega (arith, l));
-  rest = λ j l. refl;
-}
 
 pub one_more : (table : List (List ℕ)) (position : ℕ) (delta : List ℕ) (old now : List (List ℕ))
     (n : ℕ) (row : List ℕ) → IsAddedBelow table position delta old now n → n < length old
@@ -59,11 +49,3 @@ one_more table position delta old now n row g within is =
 
     later : (j : ℕ) → n + 1 ≤ j → j ≢ n
     later j l e = omega (arith, l, e)
-
-pub all_added : (table : List (List ℕ)) (position : ℕ) (delta : List ℕ) (old now : List (List ℕ))
-    (n : ℕ) → IsAddedBelow table position delta old now n → length old ≤ n
-    → IsDeltaAdded table position delta old now
-all_added table position delta old now n g past = record {
-  count = g.count;
-  rows = λ j l. g.front j (omega (arith, l, past));
-}

@@ -1,20 +1,17 @@
 -- What does not look at how many rows were given out.
 use Rattle.std.proofs.Common.{◌≡◌, ℕ, List, [], ◌∷◌, refl, sym, ap, ◌∙◌}
 use Rattle.cb_member.specs.declared.names.Shard.{Shard}
-use Rattle.cb_member.specs.Membership.{Membership}
 use Rattle.cb_node.specs.NodesState.{NodesState, with_dropped}
 use Rattle.cb_set.specs.SetState.{SetState}
 use Rattle.cb_types.specs.declared.reply.Reply.{Reply}
 use Rattle.cb_world.specs.declared.shown.Shown.{Shown}
 use Rattle.cb_world.specs.FarState.{FarState}
 use Rattle.cb_world.specs.Joining.{JoiningState}
-use Rattle.cb_world.specs.SetWord.{IsWordOf}
 use Rattle.cb_world.specs.Sound.{Sound}
 use Rattle.cb_world.specs.Stored.{all_dropped}
 use Rattle.cb_world.proofs.Laws.{recounted_sound}
 use Rattle.cb_compact.specs.MergeStep.{IsMerged, replaced_shards, with_merged}
 use Rattle.cb_compact.specs.PartStep.{IsFreshPair}
-use Rattle.cb_compact.specs.PatchStep.{IsMergedRow}
 use Rattle.cb_local.specs.Putting.{with_count}
 
 pub sound_counted : (s : Shown) (far : FarState) (given : ℕ) → Sound s far
@@ -37,18 +34,6 @@ fresh_counted far given pair a b x = record {
     whole = x.b_stands.whole;
   };
 }
-
-pub word_counted : (nodes : NodesState) (given : ℕ) (members : Membership) (set : SetState)
-    (rows : List (List ℕ)) → IsWordOf nodes members set rows
-    → IsWordOf (record nodes { given = given }) members set rows
-word_counted nodes given members set rows x = record { code = x.code; survive = x.survive }
-
-pub row_counted : (far : FarState) (given : ℕ) (pair : JoiningState) (a b : SetState) (p : ℕ)
-    (row : List ℕ) → IsMergedRow far pair a b p row
-    → IsMergedRow (with_count far given) pair a b p row
-row_counted far given pair a b p row is wa wb m xa xb merged =
-    is wa wb m (record { code = xa.code; survive = xa.survive })
-    (record { code = xb.code; survive = xb.survive }) merged
 
 pub dropped_counted : (nodes : NodesState) (given : ℕ) (shards : List Shard)
     → all_dropped (record nodes { given = given }) shards

@@ -1,13 +1,12 @@
 -- The deltas of the taken positions, added one after another.
-use Rattle.std.proofs.Common.{◌≡◌, ℕ, suc, ◌+◌, ◌<◌, All, List, [], length, get_or, sym, ap, ap₂, ◌∙◌, subst, arith}
+use Rattle.std.proofs.Common.{◌≡◌, ℕ, suc, ◌+◌, ◌<◌, List, [], length, get_or, sym, ap, ap₂, ◌∙◌, subst, arith}
 use Rattle.cb_gf256.specs.Product.{◌⊗◌}
 use Rattle.cb_gf256.specs.Row.{row_sum, scaled_row}
 use Rattle.cb_gf256.specs.Rows.{HaveLength, byte_at, row_at}
 use Rattle.cb_gf256.specs.Sum.{◌⊕◌}
-use Rattle.cb_gf256.proofs.PublicLaws.{at_default, row_sum_by_byte, row_sum_length, scaled_row_by_byte, scaled_row_length, sum_associates, sum_with_zero}
-use Rattle.cb_code.specs.Coefficients.{AreCoefficients}
+use Rattle.cb_gf256.proofs.PublicLaws.{at_default, row_sum_by_byte, row_sum_length, scaled_row_by_byte, scaled_row_length, sum_associates}
 use Rattle.cb_local.specs.Adding.{IsDeltaAdded}
-use Rattle.cb_local.specs.Delta.{ArePatched, IsOrder, added_byte, width}
+use Rattle.cb_local.specs.Delta.{IsOrder, added_byte, width}
 use Rattle.cb_local.specs.declared.order.DeltaOrder.{DeltaOrder}
 
 -- the first n taken positions are added
@@ -18,17 +17,6 @@ pub record ArePatchedTo (table : List (List ℕ)) (order : DeltaOrder) (rows : L
   pub bytes : (j column : ℕ) → j < order.r → column < width order → byte_at rows j column
       ≡ byte_at order.parities j column ⊕ added_byte table order n j column
   pub room : length change ≡ width order
-
-pub none_patched : (table : List (List ℕ)) (order : DeltaOrder) (rows : List (List ℕ))
-    (change : List ℕ) → IsOrder order → rows ≡ order.parities → length change ≡ width order
-    → ArePatchedTo table order rows change 0
-none_patched table order rows change is same room =
-    subst (λ (t : List (List ℕ)). ArePatchedTo table order t change 0) (sym same) (record {
-      count = is.parity_count;
-      wide = is.parities_wide;
-      bytes = λ j column l m. sym (sum_with_zero (byte_at order.parities j column));
-      room = room;
-    })
 
 module _ (table : List (List ℕ)) (order : DeltaOrder) (is : IsOrder order) (n : ℕ)
     (below : n < length order.taken) where
@@ -51,24 +39,11 @@ module _ (table : List (List ℕ)) (order : DeltaOrder) (is : IsOrder order) (n 
   pub long_alike : length (row_at order.old n) ≡ length (row_at order.new n)
   long_alike = old_long ∙ sym new_long
 
-  pub room_for : (change : List ℕ) → length change ≡ width order
-      → length change ≡ length (row_at order.old n)
-  room_for change room = room ∙ sym old_long
-
-  -- the position is one of the table's
-  pub in_table : AreCoefficients order.k order.r table → All (λ row. position < length row) table
-  in_table coeffs j d l =
-      let w = coeffs.positions j d l in let p = is.below n 0 below in omega (arith, w, p)
-
   module _ (change : List ℕ)
       (made : change ≡ row_sum (row_at order.old n) (row_at order.new n)) where
     pub change_long : length change ≡ width order
     change_long = ap length made ∙ row_sum_length (row_at order.old n) (row_at order.new n) long_alike
         ∙ old_long
-
-    pub wide_as : (rows : List (List ℕ)) → HaveLength (width order) rows
-        → HaveLength (length change) rows
-    wide_as rows wide j d l = wide j d l ∙ sym change_long
 
     pub one_patched : (rows next : List (List ℕ)) (before : List ℕ)
         → ArePatchedTo table order rows before n → IsDeltaAdded table position change rows next
@@ -103,13 +78,3 @@ module _ (table : List (List ℕ)) (order : DeltaOrder) (is : IsOrder order) (n 
         row_long j l = ap length (added.rows j l)
             ∙ row_sum_length (row_at rows j) (scaled_row (byte_at table j position) change)
             (lengths j l) ∙ x.wide j [] l
-
-pub all_patched : (table : List (List ℕ)) (order : DeltaOrder) (rows : List (List ℕ))
-    (change : List ℕ) (n : ℕ) → ArePatchedTo table order rows change n → n ≡ length order.taken
-    → ArePatched table order rows
-all_patched table order rows change n x e = record {
-  count = x.count;
-  wide = x.wide;
-  bytes = λ j column l m. x.bytes j column l m
-      ∙ ap (λ (m : ℕ). byte_at order.parities j column ⊕ added_byte table order m j column) e;
-}

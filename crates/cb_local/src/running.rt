@@ -1,5 +1,5 @@
 ghost use Rattle.std.specs.Prelude.{◌≡◌, ◌<◌, All, IfErr, IfOk, length};
-ghost use Rattle.cb_gf256.specs.Rows.{row_at, HaveLength};
+ghost use Rattle.cb_gf256.specs.Rows.{HaveLength};
 ghost use Rattle.cb_code.specs.Coefficients.{AreCoefficients};
 ghost use Rattle.cb_local.specs.Delta.{ArePatched, HasItsParities, IsOrder, width};
 ghost use Rattle.cb_local.specs.Adding.{IsDeltaAdded};

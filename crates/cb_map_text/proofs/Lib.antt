@@ -2,7 +2,6 @@ pub mod Commands
 pub mod Front
 pub mod Parts
 pub mod OneReading
-pub mod ReplyWords
 pub mod Objects
 pub mod WorkedText
 pub mod WorkedPlain

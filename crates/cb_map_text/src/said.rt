@@ -1,4 +1,4 @@
-ghost use Rattle.std.specs.Prelude.{◌≡◌, ◌∷◌, ◌++◌, [], decimal, drop, IfOk, OnOk};
+ghost use Rattle.std.specs.Prelude.{◌≡◌, ◌∷◌, ◌++◌, [], decimal, IfOk, OnOk};
 ghost use Rattle.cb_map_text.specs.Texts.{refusal_text, reply_words, said_line, said_text};
 
 use crate::command::FarAnswer;

@@ -1,14 +1,13 @@
 -- When each incarnation crashed, after a crash and after a join, and which incarnations did.
-use Rattle.std.proofs.Common.{◌≡◌, ℕ, zero, suc, ◌+◌, ◌<◌, ◌≤◌, ◌≢◌, true, List, [], ◌∷◌, ◌++◌, length, if◌then◌else◌, Some, is_some, refl, ap, sym, ◌∙◌, inl, inr, arith}
+use Rattle.std.proofs.Common.{◌≡◌, ℕ, zero, suc, ◌+◌, ◌<◌, ◌≢◌, true, List, [], ◌∷◌, ◌++◌, length, if◌then◌else◌, Some, is_some, refl, ap, sym, ◌∙◌, inl, inr, arith}
 use Rattle.std.specs.Prelude.{slice_get, slice_index_or, nat_lt}
 use Rattle.std.proofs.lemmas.Bool.{cases_eq}
 use Rattle.std.proofs.lemmas.Grind.{common_steps}
 use Rattle.std.proofs.lemmas.Option.{gets, slice_get_cases}
 use Rattle.std.proofs.lemmas.Bool.Decides.{nat_tests}
 use Rattle.std.proofs.lemmas.List.{get_or-set_same, get_or-set_other}
-use Rattle.std.proofs.lemmas.List.Sums.{get_or-le-sum_by}
 use Rattle.cb_member.specs.declared.names.NodeId.{NodeId}
-use Rattle.cb_member.specs.Membership.{Membership, NodeState, fresh_node, node_state, alive, incarnation, crashed_at, next_epoch, with_crash, with_join, with_state, events_of, ended_incarnations, IsMembership}
+use Rattle.cb_member.specs.Membership.{Membership, NodeState, fresh_node, node_state, alive, incarnation, crashed_at, next_epoch, with_crash, with_join, with_state, ended_incarnations, IsMembership}
 
 -- the element after the last of a list, once it is appended
 slice_get-push_end : {X : Type 0} (xs : List X) (x : X) (i : ℕ) → length xs ≡ i
@@ -94,9 +93,3 @@ pub is_some-crashed_at : (m : Membership) (node : NodeId) (which : ℕ) → IsMe
 is_some-crashed_at m node which valid within =
     is_some-slice_get (node_state m node).crashes which
     ∙ ap (λ n. nat_lt which n) (valid.ended node.n fresh_node within)
-
--- a node has joined no more often than there were crashes and joins
-pub incarnation-le-epoch : (m : Membership) (node : NodeId) → IsMembership m
-    → node.n < length m.nodes → incarnation m node ≤ m.epoch
-incarnation-le-epoch m node valid within =
-    omega (arith, valid.counted, get_or-le-sum_by events_of m.nodes node.n fresh_node within)

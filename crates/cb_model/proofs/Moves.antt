@@ -1,5 +1,5 @@
 -- What the map's reply to one call says, in whatever state the map is.
-use Rattle.std.proofs.Common.{◌≡◌, ℕ, ◌+◌, ◌≤◌, List, [], ◌∷◌, ◌++◌, Some, None, refl, arith}
+use Rattle.std.proofs.Common.{◌≡◌, ℕ, ◌≤◌, List, [], ◌∷◌, ◌++◌, Some, None, refl, arith}
 use Rattle.std.specs.List.{fold}
 use Rattle.std.proofs.lemmas.List.{append-nil}
 use Rattle.cb_model.specs.declared.object.Object.TheVariants.{Held, Freed}
@@ -199,22 +199,3 @@ pub still_covers : (first : ℕ) (event : Event) (now : MapNow) (changes : List 
 still_covers first event now changes told all =
     let on = moves first now changes all in
     record { version = λ v e. omega (arith, told.version v e, on.0); freed = λ e. on.1 (told.freed e) }
-
-one_higher : (now : MapNow) (c : ℕ × Change) → ChangeFits 1 now c
-    → latest (changed now c) ≤ latest now + 1
-one_higher None (v, Create bytes) f = omega (arith, f)
-one_higher None (v, Overwrite at bytes) f = absurd f
-one_higher None (v, Remove) f = absurd f
-one_higher (Some (Held w b)) (v, Create bytes) f = absurd f
-one_higher (Some (Held w b)) (v, Overwrite at bytes) f = omega (arith, f.1)
-one_higher (Some (Held w b)) (v, Remove) f = omega (arith, f)
-one_higher (Some (Freed w)) (v, Create bytes) f = absurd f
-one_higher (Some (Freed w)) (v, Overwrite at bytes) f = absurd f
-one_higher (Some (Freed w)) (v, Remove) f = absurd f
-
--- where first versions are 1, a call raises the version by one at the most
-pub not_higher : (now : MapNow) (changes : List (ℕ × Change)) → FitsAll 1 now changes
-    → latest (fold changed now changes) ≤ latest now + 1
-not_higher now [] all = omega arith
-not_higher now (c ∷ []) all = one_higher now c all
-not_higher now (c ∷ d ∷ changes) all = absurd all

@@ -1,4 +1,4 @@
-ghost use Rattle.std.specs.Prelude.{◌≡◌, ◌<◌, [], length, IsOkAnd, IfOk, OnErr};
+ghost use Rattle.std.specs.Prelude.{◌≡◌, ◌<◌, [], IsOkAnd, IfOk, OnErr};
 ghost use Rattle.cb_model.specs.Map.{IsPossible, Replies};
 
 use crate::call::{Call, MapReply};

@@ -1,24 +1,20 @@
 -- A step of a call is fixed: one reply, one set of words and one far state.
-use Rattle.std.proofs.Common.{◌≡◌, ◌⊎◌, ℕ, ◌+◌, ◌-◌, ◌*◌, ◌^◌, ◌<◌, ◌≤◌, List, length, get_or, sym, ap, ◌∙◌, subst, arith, inl, inr}
+use Rattle.std.proofs.Common.{◌≡◌, ◌⊎◌, ℕ, ◌+◌, ◌-◌, ◌*◌, ◌<◌, ◌≤◌, List, length, get_or, sym, ap, ◌∙◌, subst, arith, inl, inr}
 use Rattle.std.proofs.lemmas.Bool.{cases_lt}
 use Rattle.std.proofs.lemmas.List.{ext_get_or}
 use Rattle.cb_class.specs.declared.class.Class.{Class}
-use Rattle.cb_class.specs.Class.{IsClassOf}
 use Rattle.cb_class.proofs.Laws.{IsClassOf-unique}
 use Rattle.cb_ptr.specs.declared.word.State.{State}
 use Rattle.cb_ptr.specs.declared.word.State.TheVariants as state
 use Rattle.cb_ptr.specs.Word.{state_of}
-use Rattle.cb_set.specs.SetState.{SetState}
-use Rattle.cb_span.specs.Contents.{Contents}
 use Rattle.cb_span.specs.declared.temp.Temp.TheVariants.{Hot}
 use Rattle.cb_types.specs.declared.reply.Reply.{Reply}
 use Rattle.cb_types.specs.declared.reply.Reply.TheVariants as answer
-use Rattle.cb_world.specs.declared.homes.Home.{Home}
 use Rattle.cb_world.specs.declared.shown.Shown.{Shown}
 use Rattle.cb_world.specs.FarState.{FarState}
 use Rattle.cb_world.specs.LeftOver.{without_far}
 use Rattle.cb_world.specs.LocalSound.{LocalSound}
-use Rattle.cb_world.specs.Memory.{bytes_in, memory_byte, words_for}
+use Rattle.cb_world.specs.Memory.{memory_byte}
 use Rattle.cb_world.specs.Placed.{Slot, IsChosen, IsCrammed, place_in}
 use Rattle.cb_world.specs.Plain.{Words}
 use Rattle.cb_world.specs.Released.{with_released}
@@ -29,7 +25,7 @@ use Rattle.cb_world.proofs.Laws.{IsOneEnd, refused_alike, chosen_fixed, not_cram
 use Rattle.cb_mutate.specs.FreeRule.{IsReleased, IsRemoved, LeavesPlace}
 use Rattle.cb_mutate.specs.MakeRule.{HasNoPlace, with_made}
 use Rattle.cb_mutate.specs.MakeStep.{IsMakeStep, IsNewObject, with_new}
-use Rattle.cb_mutate.specs.CallStep.{IsFreeStep, IsOverwritten, IsReadStep, IsTakenOut, IsWriteStep, FreeChange, ReadChange, WriteChange, with_contents, with_freed}
+use Rattle.cb_mutate.specs.CallStep.{IsFreeStep, IsOverwritten, IsReadStep, IsWriteStep, FreeChange, ReadChange, WriteChange, with_contents}
 use Rattle.cb_mutate.specs.WordsOf.{AreWordsOf}
 use Rattle.cb_mutate.specs.Wordwise.{IsReached, IsWordwise}
 use Rattle.cb_mutate.proofs.WrittenBytes.{bytes_at}
@@ -49,9 +45,6 @@ words_fixed bytes xs ys a b =
         ∙ bytes_at ys (length bytes) p less
     byte p within (inr past) = a.packed p past within
         ∙ sym (b.packed p past (let m = a.count in let n = b.count in omega (arith, within, m, n)))
-
-abbrev Stays : Words → Words → FarState → FarState → Type 0
-Stays x y far new = (y ≡ x) × (new ≡ far)
 
 module _ (x y z : Words) (far new other : FarState) (bytes : List ℕ) where
   object_fixed : IsNewObject x y far new bytes → IsNewObject x z far other bytes

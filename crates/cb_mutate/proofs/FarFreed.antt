@@ -32,10 +32,6 @@ use Rattle.cb_mutate.specs.FreeRule.{FreeAs, FreeEffect, FreeFar, LeavesPlace}
 use Rattle.cb_mutate.specs.FreeEnds.{with_emptied}
 use Rattle.cb_mutate.proofs.Emptied.{with_stamped}
 
--- an object is far, with these words at this version
-abbrev pub IsFarWith : Shown → ℕ → ℕ → Type 0
-IsFarWith s h v = (len : ℕ) × (words : List ℕ) × (object_at s h ≡ is.Far len v words)
-
 -- ---- the word that was found
 pub one_look_more : (h w : ℕ) (es : List Event) → AreLooks h es → AreLooks h (look_after es h w)
 one_look_more h w [] a = (refl, tt)

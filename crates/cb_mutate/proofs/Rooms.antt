@@ -1,5 +1,5 @@
 -- An object that was seen here has one length for as long as it is known.
-use Rattle.std.proofs.Common.{◌≡◌, ℕ, List, [], ◌∷◌, ◌++◌, Result, Ok, Err, length, refl, sym, ap, ◌∙◌, subst}
+use Rattle.std.proofs.Common.{◌≡◌, ℕ, List, [], ◌∷◌, Result, Ok, Err, length, refl, sym, ap, ◌∙◌, subst}
 use Rattle.std.specs.Prelude.{OnErr}
 use Rattle.cb_member.specs.declared.no_memory.NoMemory.{NoMemory}
 use Rattle.cb_types.specs.declared.reply.Reply.{Reply}
@@ -14,7 +14,7 @@ use Rattle.cb_world.specs.declared.object.Object.TheVariants as is
 use Rattle.cb_world.specs.declared.shown.Shown.{Shown}
 use Rattle.cb_world.specs.Shown.{Fits, object_at}
 use Rattle.cb_world.specs.Looks.{AreLooks}
-use Rattle.cb_world.specs.Played.{Agree, Agrees, played}
+use Rattle.cb_world.specs.Played.{Agree, played}
 use Rattle.cb_world.specs.Grasped.{Grasps}
 use Rattle.cb_world.proofs.Laws.{agree_last, looks_played}
 use Rattle.cb_mutate.specs.Reaches.{HasReadRoom}

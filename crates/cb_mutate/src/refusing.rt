@@ -1,4 +1,4 @@
-ghost use Rattle.std.specs.Prelude.{◌≡◌, ◌≢◌, ℕ, ◌<◌, List};
+ghost use Rattle.std.specs.Prelude.{◌≢◌, ◌<◌, List};
 ghost use Rattle.cb_ptr.specs.declared.word.State.TheVariants as state;
 ghost use Rattle.cb_ptr.specs.Word.{state_of, len_of, place_of};
 ghost use Rattle.cb_world.specs.declared.event.Event.{Event};

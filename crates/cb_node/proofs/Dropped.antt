@@ -1,5 +1,5 @@
 -- What a row dropped at one node, and a node wiped, leave of the rows.
-use Rattle.std.proofs.Common.{◌≡◌, ◌≢◌, ℕ, ◌+◌, ◌<◌, true, false, cond, List, [], length, get_or, Option, Some, None, is_some, unwrap_or, refl, ap, sym, ◌∙◌, inl, inr}
+use Rattle.std.proofs.Common.{◌≡◌, ◌≢◌, ℕ, ◌<◌, false, cond, List, length, get_or, Option, Some, None, is_some, refl, ap, sym, ◌∙◌, inl, inr}
 use Rattle.std.specs.Cmp.{nat_cmp_total}
 use Rattle.std.specs.Ordering.{nat_cmp, eq_by_cmp}
 use Rattle.std.specs.FinMap as map
@@ -7,8 +7,8 @@ use Rattle.std.proofs.lemmas.Bool.{cases_eq, false≢true}
 use Rattle.std.proofs.lemmas.List.{set-set, set-get_or}
 use Rattle.cb_member.specs.declared.names.NodeId.{NodeId}
 use Rattle.cb_node.specs.Rows.{RowsByKey}
-use Rattle.cb_node.specs.NodesState.{NodesState, has, held, row_under, rows_of_node, with_dropped, with_row, with_rows, with_wiped}
-use Rattle.cb_node.proofs.Put.{chosen, covered, eq_by_cmp-other, eq_by_cmp-same, equal_from_eq, some_known, rows_at-with_rows_here, rows_at-with_rows_other}
+use Rattle.cb_node.specs.NodesState.{NodesState, has, held, row_under, rows_of_node, with_dropped, with_row, with_rows}
+use Rattle.cb_node.proofs.Put.{chosen, covered, eq_by_cmp-other, eq_by_cmp-same, equal_from_eq, rows_at-with_rows_here, rows_at-with_rows_other}
 
 none_unknown : (o : Option (List ℕ)) → is_some o ≡ false → o ≡ None
 none_unknown None absent = refl
@@ -34,32 +34,6 @@ remove-insert rows key row =
     ∙ covered (eq_by_cmp nat_cmp q key) None (Some row) (map.get rows q)
     ∙ sym (map.get-remove nat_cmp_total rows key q))
 
--- what was removed, put back
-insert-remove : (rows : RowsByKey) (key : ℕ) → map.contains_key rows key ≡ true
-    → map.insert (map.remove rows key) key (unwrap_or (map.get rows key) []) ≡ rows
-insert-remove rows key there =
-    let row = unwrap_or (map.get rows key) [] in
-    map.same_map nat_cmp_total map.nat_cmp-IsAntisymmetric _ _
-    (λ q. map.get-insert nat_cmp_total (map.remove rows key) key row q
-    ∙ ap (cond (eq_by_cmp nat_cmp q key) (Some row)) (map.get-remove nat_cmp_total rows key q)
-    ∙ covered (eq_by_cmp nat_cmp q key) (Some row) None (map.get rows q)
-    ∙ chosen (eq_by_cmp nat_cmp q key) (Some row) (map.get rows q) (λ same.
-    let at : q ≡ key = map.nat_cmp-IsAntisymmetric q key (equal_from_eq (nat_cmp q key) same) in
-    some_known (map.get rows key) there ∙ ap (λ k. map.get rows k) (sym at)))
-
-len-remove_known : (rows : RowsByKey) (key : ℕ) → map.contains_key rows key ≡ true
-    → map.len (map.remove rows key) + 1 ≡ map.len rows
-len-remove_known rows key there =
-    let rest = map.remove rows key in
-    let row = unwrap_or (map.get rows key) [] in
-    let gone : map.contains_key rest key ≡ false =
-    ap is_some (map.get-remove nat_cmp_total rows key key
-    ∙ ap (λ b. cond b None (map.get rows key)) (eq_by_cmp-same key)) in
-    let back : map.len (map.insert rest key row) ≡ map.len rest + 1 =
-    map.len-insert nat_cmp_total rest key row
-    ∙ ap (λ b. cond b (map.len rest) (map.len rest + 1)) gone in
-    sym back ∙ ap (λ m. map.len m) (insert-remove rows key there)
-
 -- the row that is dropped is gone
 pub row_at-with_dropped_here : (state : NodesState) (node : NodeId) (key : ℕ)
     → node.n < length state.nodes → row_under (with_dropped state node key) node key ≡ None
@@ -84,55 +58,11 @@ row_at-with_dropped_other state node other key k within apart =
       | inr off ↦ ap (λ rows. map.get rows k) (rows_at-with_rows_other state node other _ off)
     ]
 
--- a node that is wiped keeps no row
-pub row_at-with_wiped_here : (state : NodesState) (node other : NodeId) (key : ℕ)
-    → node.n < length state.nodes → other.n ≡ node.n
-    → row_under (with_wiped state node) other key ≡ None
-row_at-with_wiped_here state node other key within here =
-    ap (λ (n : ℕ). map.get (get_or (with_wiped state node).nodes n map.empty) key) here
-    ∙ ap (λ rows. map.get rows key) (rows_at-with_rows_here state node map.empty within)
-    ∙ map.get-empty nat_cmp key
-
--- and every other node keeps its rows
-pub row_at-with_wiped_other : (state : NodesState) (node other : NodeId) (key : ℕ)
-    → other.n ≢ node.n → row_under (with_wiped state node) other key ≡ row_under state other key
-row_at-with_wiped_other state node other key off =
-    ap (λ rows. map.get rows key) (rows_at-with_rows_other state node other map.empty off)
-
--- how many rows the nodes hold after a put under a fresh key, a drop and a wipe
-pub held-with_row : (state : NodesState) (node : NodeId) (key : ℕ) (row : List ℕ)
-    → node.n < length state.nodes → has state node key ≡ false
-    → held (with_row state node key row) node ≡ held state node + 1
-held-with_row state node key row within fresh =
-    ap (λ rows. map.len rows) (rows_at-with_rows_here state node _ within)
-    ∙ map.len-insert nat_cmp_total (rows_of_node state node) key row
-    ∙ ap (λ b. cond b (held state node) (held state node + 1)) fresh
-
-pub held-with_dropped : (state : NodesState) (node : NodeId) (key : ℕ)
-    → node.n < length state.nodes → has state node key ≡ true
-    → held (with_dropped state node key) node + 1 ≡ held state node
-held-with_dropped state node key within there =
-    ap (λ rows. map.len rows + 1) (rows_at-with_rows_here state node _ within)
-    ∙ len-remove_known (rows_of_node state node) key there
-
-pub held-with_wiped : (state : NodesState) (node : NodeId) → node.n < length state.nodes
-    → held (with_wiped state node) node ≡ 0
-held-with_wiped state node within =
-    ap (λ rows. map.len rows) (rows_at-with_rows_here state node map.empty within)
-    ∙ map.len-empty nat_cmp (List ℕ)
-
 -- every other node holds as many rows as before, whatever stands at this one
 pub held-with_rows_other : (state : NodesState) (node other : NodeId) (rows : RowsByKey)
     → other.n ≢ node.n → held (with_rows state node rows) other ≡ held state other
 held-with_rows_other state node other rows off =
     ap (λ rows. map.len rows) (rows_at-with_rows_other state node other rows off)
-
--- a key that is not there can be dropped, and nothing changes
-pub with_dropped-absent : (state : NodesState) (node : NodeId) (key : ℕ)
-    → has state node key ≡ false → with_dropped state node key ≡ state
-with_dropped-absent state node key absent =
-    ap (λ rows. with_rows state node rows) (remove-absent (rows_of_node state node) key absent)
-    ∙ ap (λ nodes. record state { nodes = nodes }) (set-get_or state.nodes node.n map.empty)
 
 -- a row that was put under a fresh key and dropped leaves the nodes as they were
 pub with_dropped-with_row : (state : NodesState) (node : NodeId) (key : ℕ) (row : List ℕ)

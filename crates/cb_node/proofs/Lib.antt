@@ -2,7 +2,6 @@ pub mod Views
 pub mod Kept
 pub mod Put
 pub mod Dropped
-pub mod Bytes
 pub mod Deltas
 pub mod Laws
 pub mod Worked

@@ -3,7 +3,7 @@ use Rattle.std.proofs.Common.{◌≡◌, ℕ, zero, suc, ◌+◌, ◌-◌, ◌*�
 use Rattle.std.proofs.lemmas.Grind.{common_steps}
 use Rattle.cb_ptr.specs.declared.word.PtrWord.{PtrWord}
 use Rattle.cb_ptr.specs.declared.word.State.TheVariants.{Far, Here}
-use Rattle.cb_ptr.specs.Word.{IsInWidths, IsPointer, fields_of, flag_number, hot_of, len_of, numbered_state, pins_of, place_of, state_number, state_of, word_of}
+use Rattle.cb_ptr.specs.Word.{IsInWidths, fields_of, flag_number, hot_of, len_of, numbered_state, pins_of, place_of, state_number, state_of, word_of}
 use Rattle.cb_ptr.specs.Steps.{Claims, GivesPin, IsFarWord, Settles, TakesPin}
 
 -- the state's number is the remainder by 4, and back
@@ -39,15 +39,9 @@ pub same_from_fields : (v w : ℕ) → v < 2 ^ 53 → w < 2 ^ 53 → fields_of v
 same_from_fields v w below_v below_w same =
     sym (word_of-fields_of v below_v) ∙ ap word_of same ∙ word_of-fields_of w below_w
 
--- the bounds of the fields
-pub pins_of-below : (w : ℕ) → pins_of w < 2 ^ 10
-pins_of-below w = omega arith
-
+-- the bound of the length
 pub len_of-below : (w : ℕ) → len_of w < 2 ^ 16
 len_of-below w = omega arith
-
-pub place_of-below : (w : ℕ) → place_of w < 2 ^ 24
-place_of-below w = omega arith
 
 -- to set hot and add a pin: what a pin exchanges in
 pub takes_pin : (old new : ℕ) → state_of old ≡ Here → pins_of old < 1023
@@ -79,21 +73,6 @@ here_bits w here = sym (state_number-state_of w) ∙ ap state_number here
 pub claimed_below : (w : ℕ) → w < 2 ^ 53 → state_of w ≡ Here → w + 1 < 2 ^ 53
 claimed_below w below here = omega (arith, here_bits w here)
 
--- a word that is Here and has no pins, as the sum of its fields
-pub here_number : (w : ℕ) → w < 2 ^ 53 → state_of w ≡ Here → pins_of w ≡ 0
-    → w ≡ 2 + flag_number (hot_of w) * 4 + len_of w * 8192 + place_of w * 536870912
-here_number w below here none = omega (arith, here_bits w here, flag_number-hot_of w)
-
--- the word of these fields, Here and without pins, reads back
-pub here_fields : (w len place : ℕ) → len < 2 ^ 16 → place < 2 ^ 24
-    → w ≡ 2 + len * 8192 + place * 536870912
-    → fields_of w ≡ record { state = Here; hot = false; pins = 0; len = len; place = place }
-here_fields w len place len_fits place_fits number =
-    let p : PtrWord = record { state = Here; hot = false; pins = 0; len = len; place = place } in
-    let is : w ≡ word_of p = omega (arith, number) in
-    ap fields_of is
-    ∙ fields_of-word_of p (record { pins = omega arith; len = len_fits; place = place_fits })
-
 -- the word of a Far object is 1 and its length from bit 13 on
 pub far_word_is : (len w : ℕ) → len < 2 ^ 16 → w ≡ 1 + len * 8192 → IsFarWord len w
 far_word_is len w fits number =
@@ -109,21 +88,6 @@ far_word_is len w fits number =
       place = ap (λ (q : PtrWord). q.place) fields;
       number = number;
     }
-
--- an object's word that is Far is the one of its length
-pub far_number : (w : ℕ) → IsPointer w → state_of w ≡ Far → IsFarWord (len_of w) w
-far_number w pointer far =
-    let clear : (hot_of w ≡ false) × (pins_of w ≡ 0) × (place_of w ≡ 0) = pointer.far far in
-    let bits : w % 4 ≡ 1 = sym (state_number-state_of w) ∙ ap state_number far in
-    let flag : w / 4 % 2 ≡ 0 = sym (flag_number-hot_of w) ∙ ap flag_number clear.0 in
-    let pins : pins_of w ≡ 0 = clear.1 in
-    let place : place_of w ≡ 0 = clear.2 in
-    far_word_is (len_of w) w (len_of-below w)
-    (omega (arith, bits, flag, pins, place, pointer.below))
-
--- the word of a Far object is below 2^53
-pub far_below : (len w : ℕ) → IsFarWord len w → w < 2 ^ 53
-far_below len w far = omega (arith, far.number, far.len, len_of-below w)
 
 -- an unpin after a pin leaves the word that was pinned, hot
 pub pin_then_unpin : (a b c : ℕ) → TakesPin a b → GivesPin b c

@@ -1,4 +1,3 @@
 pub mod Bits
 pub mod Laws
-pub mod Pointers
 pub mod Worked

@@ -1,10 +1,8 @@
 -- A turn of the rebuild is fixed: one reply and one far state.
-use Rattle.std.proofs.Common.{◌≡◌, ◌⊎◌, ℕ, List, Option, None, Some, sym, ap, ◌∙◌, subst, inl, inr}
+use Rattle.std.proofs.Common.{◌≡◌, ℕ, sym, ap, ◌∙◌, subst, inl, inr}
 use Rattle.std.proofs.lemmas.Bool.{cases_order}
 use Rattle.std.proofs.lemmas.Option.{same_Some}
 use Rattle.cb_gf256.specs.Rows.{row_at}
-use Rattle.cb_member.specs.declared.names.NodeId.{NodeId}
-use Rattle.cb_member.specs.declared.names.Shard.{Shard}
 use Rattle.cb_member.specs.Membership.{incarnation}
 use Rattle.cb_set.specs.SetState.{SetState}
 use Rattle.cb_set.specs.Nodes.{other_shards}
@@ -14,7 +12,7 @@ use Rattle.cb_world.specs.Choices.{IsLeastNode}
 use Rattle.cb_world.specs.FarState.{FarState}
 use Rattle.cb_world.specs.Sets.{set_in}
 use Rattle.cb_world.proofs.Laws.{least_node_fixed}
-use Rattle.cb_rebuild.specs.RebuildStep.{FindsNone, IsFirstWeak, IsNewShard, IsRebuilt, IsRowOf, IsStuck, RebuildStep, Restores, RestoresFirst, surveyed, with_put, with_shard_named}
+use Rattle.cb_rebuild.specs.RebuildStep.{IsFirstWeak, IsRebuilt, IsStuck, RebuildStep, Restores, surveyed, with_put, with_shard_named}
 use Rattle.cb_rebuild.proofs.WeakSets.{set_same}
 
 -- the first set that is weak is one

@@ -1,7 +1,6 @@
-ghost use Rattle.std.specs.Prelude.{◌≡◌, ℕ, ◌+◌, ◌^◌, ◌<◌, ◌≤◌, false, true, List, OnErr, OnOk, Some, length};
-ghost use Rattle.std.specs.FinMap as map;
+ghost use Rattle.std.specs.Prelude.{◌≡◌, ℕ, ◌+◌, ◌^◌, ◌<◌, ◌≤◌, false, List, OnErr, OnOk, Some, length};
 ghost use Rattle.cb_node.specs.NodesState.{has, held};
-ghost use Rattle.cb_set.specs.SetState.{SetState, with_shard};
+ghost use Rattle.cb_set.specs.SetState.{SetState};
 ghost use Rattle.cb_world.specs.declared.shown.Shown.{Shown};
 ghost use Rattle.cb_world.specs.Sets.{set_in};
 ghost use Rattle.cb_world.specs.FarSound.{AwaySound};

@@ -1,38 +1,18 @@
 -- What is upheld of an answer by what the record that backs it has.
-use Rattle.std.proofs.Common.{◌≡◌, ℕ, ◌+◌, ◌<◌, List, [], ◌∷◌, length, Option, sym, refl, ap, ◌∙◌, inl, inr, ⊎_elim}
+use Rattle.std.proofs.Common.{◌≡◌, ℕ, ◌+◌, ◌<◌, [], ◌∷◌, Option, sym, refl, ◌∙◌, inl, ⊎_elim}
 use Rattle.cb_types.specs.declared.job.Job.{Job}
 use Rattle.cb_types.specs.declared.reply.Reply.TheVariants as answer
 use Rattle.cb_ptr.specs.declared.word.State.TheVariants as state
-use Rattle.cb_mutate.proofs.Laws.{bytes_length}
 use Rattle.cb_rule.specs.declared.turn.Turn.{Turn}
-use Rattle.cb_rule.specs.declared.view.Seen.{Seen}
 use Rattle.cb_rule.specs.declared.view.View.{View}
 use Rattle.cb_rule.specs.Lists.{Has}
 use Rattle.cb_rule.specs.Promised.{EntriesStand}
 use Rattle.cb_record.specs.Lists.{HasOne}
-use Rattle.cb_record.specs.Needs.{FindsPast, IsOwnTurn, IsReadAs, Meets}
-use Rattle.cb_record.specs.Needs.Need.{ARead, AnEnd}
-use Rattle.cb_record.specs.Upheld.{IsLong, IsSeenLong, as_part}
+use Rattle.cb_record.specs.Needs.{FindsPast, IsOwnTurn, Meets}
+use Rattle.cb_record.specs.Needs.Need.{AnEnd}
+use Rattle.cb_record.specs.Upheld.{IsLong, as_part}
 use Rattle.cb_record.proofs.Histories.{written}
 use Rattle.cb_record.proofs.Replied.{find_one}
-
--- what was read is as long as the bytes that are told of it
-pub read_long : (v : View) (h version : ℕ) (bytes : List ℕ)
-    → Meets (as_part v) (ARead h version bytes)
-    → HasOne (IsSeenLong h version (length bytes)) v.seen
-read_long v h version bytes m = go v.seen m
-  where
-    go : (xs : List Seen) → HasOne (IsReadAs h version bytes) xs
-        → HasOne (IsSeenLong h version (length bytes)) xs
-    go [] none = none
-    go (s ∷ xs) one = ⊎_elim
-        (λ (r : IsReadAs h version bytes s). inl (
-          r.0,
-          r.1,
-          r.2,
-          sym (bytes_length s.words s.len) ∙ ap (λ (b : List ℕ). length b) (sym r.3),
-        ))
-        (λ (later : HasOne (IsReadAs h version bytes) xs). inr (go xs later)) one
 
 here_full : state.Here ≡ state.Empty → ⊥
 here_full e = absurd cc

@@ -1,12 +1,10 @@
 -- The words of an event, and the event of words.
 use Rattle.std.proofs.Common.{◌≡◌, ℕ, ◌<◌, ◌≤◌, List, [], ◌∷◌, length, get_or, Option, Some, None, Result, Ok, Err, if◌then◌else◌, refl, sym, ap, ◌∙◌, arith}
 use Rattle.std.specs.Prelude.{codes, IfOk}
-use Rattle.std.specs.Fmt.{decimal}
 use Rattle.std.specs.List.{join_with_byte}
 use Rattle.std.specs.Str.{bytes_eq}
 use Rattle.std.specs.Str.Parse.{digits_value}
 use Rattle.std.proofs.lemmas.List.Splits.{join_with_byte-slice_split}
-use Rattle.hex.specs.Hex.{encode_lower}
 use Rattle.cb_script.specs.Found.{Finds}
 use Rattle.cb_script.specs.Rules.{IsNumber}
 use Rattle.cb_script.specs.Spelling.{words_of}
@@ -14,7 +12,7 @@ use Rattle.cb_script.proofs.PublicLaws.{decimal_value, AreWords, IsWord-decimal,
 use Rattle.cb_rma.specs.declared.order.Order.TheVariants.{Put, Add, Drop}
 use Rattle.cb_rma.specs.declared.step.Step.{Step}
 use Rattle.cb_rma.specs.declared.step.Step.TheVariants.{Submit, Send, Ask, Ack, Restart, Show}
-use Rattle.cb_rma_text.specs.Form.{IsRow, IsInForm}
+use Rattle.cb_rma_text.specs.Form.{IsInForm}
 use Rattle.cb_rma_text.specs.Spelling.{step_words, step_line}
 use Rattle.cb_rma_text.specs.Verbs.{verb_word, numbered}
 use Rattle.cb_rma_text.specs.declared.verb.Verb.{Verb}

@@ -1,12 +1,11 @@
 -- The same bytes spell one schedule or have one first line outside the form, and never both.
-use Rattle.std.proofs.Common.{◌≡◌, ℕ, ◌+◌, ◌<◌, ◌≤◌, ◌⊎◌, List, [], ◌∷◌, ◌++◌, length, map, Result, Ok, Err, inl, inr, refl, sym, ap, ◌∙◌, arith}
+use Rattle.std.proofs.Common.{◌≡◌, ℕ, ◌<◌, ◌≤◌, ◌⊎◌, List, [], ◌∷◌, ◌++◌, length, map, Result, Ok, Err, inl, inr, refl, sym, ap, ◌∙◌, arith}
 use Rattle.std.specs.Prelude.{IfOk, IsErr}
 use Rattle.std.specs.List.{AllByRecursion}
 use Rattle.std.proofs.lemmas.Bool.{cases_lt}
 use Rattle.std.proofs.lemmas.List.{append-nil, length-append, length-map}
 use Rattle.cb_cli.specs.declared.verdict.Verdict.{Verdict}
 use Rattle.cb_cli.specs.declared.verdict.Verdict.TheVariants.{Done, Refused}
-use Rattle.cb_script.specs.Spelling.{lines_of}
 use Rattle.cb_types.specs.declared.NoMemory.{NoMemory}
 use Rattle.cb_rma.specs.Schedule.{start, replies}
 use Rattle.cb_rma.specs.declared.step.Step.{Step}

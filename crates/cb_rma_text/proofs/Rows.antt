@@ -1,5 +1,5 @@
 -- Rows and factors in hexadecimal.
-use Rattle.std.proofs.Common.{◌≡◌, ℕ, ◌*◌, ◌%◌, ◌<◌, ◌≤◌, List, [], ◌∷◌, length, get_or, Option, Some, None, Result, Ok, Err, All, refl, sym, ap, ◌∙◌, arith}
+use Rattle.std.proofs.Common.{◌≡◌, ℕ, ◌*◌, ◌<◌, List, [], ◌∷◌, length, get_or, Option, Some, None, Result, Ok, Err, All, ap, ◌∙◌, arith}
 use Rattle.std.specs.Prelude.{MatchOption, IfOk}
 use Rattle.std.proofs.lemmas.List.Elements.{All-nil, All-cons, All-head}
 use Rattle.hex.specs.Hex.{encode_lower, decode_of, lower_digits}

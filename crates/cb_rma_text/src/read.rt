@@ -1,4 +1,4 @@
-ghost use Rattle.std.specs.Prelude.{◌≡◌, ◌+◌, ◌≤◌, length, MatchResult, IfOk};
+ghost use Rattle.std.specs.Prelude.{◌≡◌, ◌+◌, ◌≤◌, MatchResult, IfOk};
 ghost use Rattle.cb_script.specs.Spelling.{lines_of};
 ghost use Rattle.cb_rma_text.specs.First.{First};
 ghost use Rattle.cb_rma_text.specs.Form.{Spells};

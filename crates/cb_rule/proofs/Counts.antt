@@ -1,10 +1,10 @@
 -- Counts and totals of lists, one of whose elements changes.
 use Rattle.std.proofs.Common.{◌≡◌, ◌≢◌, ℕ, zero, suc, ◌+◌, ◌<◌, ◌≤◌, Bool, true, false, cond, List}
-use Rattle.std.proofs.Common.{[], ◌∷◌, ◌++◌, map, set, sym, refl, ap, ◌∙◌, subst, eqb, eq-eqb}
+use Rattle.std.proofs.Common.{[], ◌∷◌, ◌++◌, map, set, sym, refl, ap, eqb, eq-eqb}
 use Rattle.std.proofs.Common.{true≢false, arith}
 use mathlib.Core.Option.{some, some-injective, some-ne-none}
 use lib.ListN.{get_elem?}
-use Rattle.cb_rule.specs.Lists.{times, total, removed, edited, picked, Each}
+use Rattle.cb_rule.specs.Lists.{times, total, removed, edited, Each}
 
 pub by_case : (M : Bool → Type 0) (b : Bool) → (b ≡ true → M true) → (b ≡ false → M false) → M b
 by_case M true y n = y refl
@@ -116,15 +116,6 @@ module _ {A : Type 0} where
       ≡ cond (t' x) 1 0 + times t' xs) (t x)
       (λ _. ap (λ (b : Bool). cond b 1 0 + times t' xs) (same x)) (λ _. ap (λ (k : ℕ). cond
       (t' x) 1 0 + k) (times-edited t t' g xs same))
-
-  pub picked_is : (P : A → Type 0) (t : A → Bool) (xs : List A) (y : A) → picked t xs ≡ some y
-      → Each P xs → (t y ≡ true) × P y × (0 < times t xs)
-  picked_is P t [] y e h = absurd (some-ne-none y (sym e))
-  picked_is P t (x ∷ xs) y e h = by_case (λ b. cond b (some x) (picked t xs) ≡ some y
-      → (t y ≡ true) × P y × (0 < cond b 1 0 + times t xs)) (t x)
-      (λ is e. let same : x ≡ y = some-injective x y e in
-      (ap t (sym same) ∙ is, subst P same h.0, omega arith))
-      (λ is e. let rest = picked_is P t xs y e h.1 in (rest.0, rest.1, omega (arith, rest.2))) e
 
   -- each with the fact that it is there
   each_present : (P Q : A → Type 0) (key : A → ℕ) (ys xs : List A) → ((h : ℕ)

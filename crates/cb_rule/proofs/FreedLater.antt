@@ -2,10 +2,9 @@
 use Rattle.std.proofs.Common.{◌≡◌, ◌⊎◌, ℕ, zero, suc, ◌<◌, ◌≤◌, Bool, true, false, List, [], ◌∷◌, refl, sym, ap, ◌∙◌, subst, arith, inl, inr, true≢false}
 use native.Mathlib.Decide.{ℕ_discrete}
 use Rattle.cb_world.specs.declared.entry.Entry.{Entry}
-use Rattle.cb_world.specs.declared.object.Object.{Object}
 use Rattle.cb_world.specs.declared.object.Object.TheVariants as is
 use Rattle.cb_world.specs.Packed.{IsFreedLater}
-use Rattle.cb_rule.specs.History.{Follows, IsChanged, IsEntryHistory, IsMadeEntry, Value, newest, no_value, top, value_of}
+use Rattle.cb_rule.specs.History.{Follows, IsEntryHistory, Value, newest, no_value, top, value_of}
 use Rattle.cb_rule.proofs.Histories.{newest_else, newest_same, top_else, top_same}
 
 -- it is there at no version below the first, and freed, if it ever was made, above it

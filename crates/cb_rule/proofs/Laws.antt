@@ -5,10 +5,9 @@ pub use Rattle.cb_rule.proofs.Allowing.{stores_here}
 pub use Rattle.cb_rule.proofs.Closing.{EndsIn, IsAtEnd, closes_table}
 pub use Rattle.cb_rule.proofs.AnyGlancing.{glances_any, knows_or}
 pub use Rattle.cb_rule.proofs.Binding.{entries_acted}
-pub use Rattle.cb_rule.proofs.Counts.{by_case, each_append, each_map, hit, times-append}
+pub use Rattle.cb_rule.proofs.Counts.{by_case, hit, times-append}
 pub use Rattle.cb_rule.proofs.Glancing.{dates, glances, reads_held}
 pub use Rattle.cb_rule.proofs.Giving.{gives_lock}
-pub use Rattle.cb_rule.proofs.Keeping.{sized_after}
 pub use Rattle.cb_rule.proofs.Locking.{locked_steady}
 pub use Rattle.cb_rule.proofs.Looking.{loads, looks, tells}
 pub use Rattle.cb_rule.proofs.Members.{each_has, times_has}
@@ -21,7 +20,7 @@ pub use Rattle.cb_rule.proofs.Promising.{promises}
 pub use Rattle.cb_rule.proofs.RecordStanding.{stands_by_itself, whole_history}
 pub use Rattle.cb_rule.proofs.Seating.{joins, splits}
 pub use Rattle.cb_rule.proofs.ShownWorld.{world_shown}
-pub use Rattle.cb_rule.proofs.Showing.{is_shown, shown_sound}
+pub use Rattle.cb_rule.proofs.Showing.{shown_sound}
 pub use Rattle.cb_rule.proofs.Taking.{takes_lock}
 pub use Rattle.cb_rule.proofs.Told.{are_told, claimed_written, far_written, never_overtaken}
 pub use Rattle.cb_rule.proofs.Turns.{one_history, turns_stand}

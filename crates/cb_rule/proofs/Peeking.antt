@@ -1,6 +1,6 @@
 -- A load of a memory word under a pin.
-use Rattle.std.proofs.Common.{◌≡◌, ◌≢◌, ◌⊎◌, ℕ, ◌+◌, ◌*◌, ◌<◌, ◌≤◌, Bool, true, false, cond, List}
-use Rattle.std.proofs.Common.{[], ◌∷◌, ◌++◌, length, get_or, set, sym, refl, ap, ◌∙◌, subst, inl}
+use Rattle.std.proofs.Common.{◌≡◌, ℕ, ◌+◌, ◌<◌, ◌≤◌, List}
+use Rattle.std.proofs.Common.{[], ◌∷◌, get_or, set, sym, refl, ap, ◌∙◌, subst}
 use Rattle.std.proofs.Common.{inr, arith}
 use native.Mathlib.Decide.{ℕ_discrete}
 use mathlib.Core.Logic.{dite}
@@ -17,7 +17,7 @@ use Rattle.cb_world.specs.Shown.{object_at}
 use Rattle.cb_world.proofs.Laws.{window_at}
 use Rattle.cb_rule.specs.declared.view.Stand.{Stand}
 use Rattle.cb_rule.specs.declared.view.View.{View}
-use Rattle.cb_rule.specs.History.{newest, top}
+use Rattle.cb_rule.specs.History.{top}
 use Rattle.cb_rule.specs.Lists.{times, total, Has}
 use Rattle.cb_rule.specs.Records.{PinOk, PeekedOk}
 use Rattle.cb_rule.specs.Rule.{RuleKept}

@@ -1,7 +1,7 @@
 -- Lines that were read one after the other.
 use Rattle.std.proofs.Common.{◌≡◌, ℕ, ◌+◌, ◌<◌, ◌≤◌, List, [], ◌∷◌, ◌++◌, length, map, inl, inr, refl, sym, ap, ◌∙◌, subst, append_assoc, arith}
 use Rattle.std.specs.List.{AllByRecursion}
-use Rattle.std.proofs.lemmas.List.{append-nil, length_push, map_push, nil_from_length}
+use Rattle.std.proofs.lemmas.List.{append-nil, length_push, map_push}
 use Rattle.cb_types.specs.declared.handle.Lane.{Lane}
 use Rattle.cb_script.specs.declared.fault.Reason.{Reason}
 use Rattle.cb_script.specs.declared.fault.Reason.TheVariants as reasons
@@ -11,7 +11,7 @@ use Rattle.cb_script.specs.declared.script.Line.{Line}
 use Rattle.cb_script.specs.declared.script.Mode.{Mode}
 use Rattle.cb_script.specs.Form.{MayFollow, AreLines, AreInMode, FitsMode}
 use Rattle.cb_script.specs.Phrase.{phrase_of}
-use Rattle.cb_script.specs.Reading.{AreTheLines, ComesNext, FaultIs, HasBadLine, IsLeastLane, RefusesBy, fault_at}
+use Rattle.cb_script.specs.Reading.{ComesNext, FaultIs, HasBadLine, IsLeastLane, RefusesBy, fault_at}
 use Rattle.cb_script.specs.Rules.{IsLeast, RuleHolds}
 use Rattle.cb_script.specs.Spelling.{lines_of, script_line}
 use Rattle.cb_script.proofs.Least.{least_lines}
@@ -92,15 +92,3 @@ module _ (mode : Mode) (nodes : ℕ) (text : List ℕ) (lines : List Line) (rest
       → FaultIs (fault_at number e) (HasBadLine mode nodes (lines_of text))
   line_fault line behind number (Broken reason) cut numbered least = has_bad_line line behind number reason cut numbered least
   line_fault line behind number NoMemory cut numbered least = tt
-
-  pub all_read : length rest ≡ 0 → AreTheLines mode nodes (lines_of text) lines
-  all_read none = record {
-    are = front.are;
-    allowed = front.allowed;
-    few = front.few;
-    read = sym (front.read ∙ ap (λ (bytes : List ℕ). map script_line lines ++ lines_of bytes) (nil_from_length rest none) ∙ append-nil (map script_line lines));
-  }
-
--- nothing is read yet
-pub front_none : (mode : Mode) (nodes : ℕ) (text : List ℕ) → FrontIsRead mode nodes text [] text
-front_none mode nodes text = record { are = tt; allowed = tt; few = omega arith; read = refl }

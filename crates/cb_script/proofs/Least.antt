@@ -15,16 +15,6 @@ module _ (R : Reason → Type 0) where
   pub least_lines : R reasons.TooLong → R reasons.Header → R reasons.Config → (R reasons.Lines → ⊥) → IsLeast R reasons.Lines
   least_lines r1 r2 r3 broken = record { broken = broken; lesser = λ other below. below_lines r1 r2 r3 other below }
 
-  below_shape : R reasons.TooLong → R reasons.Header → R reasons.Config → R reasons.Lines → (other : Reason) → reason_number other < 5 → R other
-  below_shape r1 r2 r3 r4 reasons.TooLong below = r1
-  below_shape r1 r2 r3 r4 reasons.Header below = r2
-  below_shape r1 r2 r3 r4 reasons.Config below = r3
-  below_shape r1 r2 r3 r4 reasons.Lines below = r4
-  below_shape r1 r2 r3 r4 _ below = absurd (omega (arith, below))
-
-  pub least_shape : R reasons.TooLong → R reasons.Header → R reasons.Config → R reasons.Lines → (R reasons.Shape → ⊥) → IsLeast R reasons.Shape
-  least_shape r1 r2 r3 r4 broken = record { broken = broken; lesser = λ other below. below_shape r1 r2 r3 r4 other below }
-
   below_lane : R reasons.TooLong → R reasons.Header → R reasons.Config → R reasons.Lines → R reasons.Shape → (other : Reason) → reason_number other < 6 → R other
   below_lane r1 r2 r3 r4 r5 reasons.TooLong below = r1
   below_lane r1 r2 r3 r4 r5 reasons.Header below = r2

@@ -18,7 +18,7 @@ use Rattle.cb_script.specs.Phrase.{Phrase, phrase_words}
 use Rattle.cb_script.specs.Reading.{ComesNext, IsLeastLane, MayStand, RefusesBy}
 use Rattle.cb_script.specs.Rules.{LinePlace, Rule, RuleHolds, HasLane, IsLeast, IsLineShaped}
 use Rattle.cb_script.specs.Spelling.{words_of, line_words}
-use Rattle.cb_script.proofs.Least.{least_shape, least_lane}
+use Rattle.cb_script.proofs.Least.{least_lane}
 use Rattle.cb_script.proofs.Phrases.{phrase_injective}
 
 -- a line has one shape
@@ -30,9 +30,6 @@ shaped_same text a b p q x y =
     (lanes, phrase_injective p q words)
 
 module _ (place : LinePlace) (text : List ℕ) (few : length place.before < 20000) where
-  pub shape_fault : ((lane : List ℕ) (phrase : Phrase) → IsLineShaped text lane phrase → ⊥) → IsLeast (RuleHolds place text) reasons.Shape
-  shape_fault none = least_shape (RuleHolds place text) (λ l p low is. tt) (λ l p low is. tt) (λ l p low is. tt) few (λ some. none some.0 some.1 some.2)
-
   pub lane_fault : (lane : List ℕ) (phrase : Phrase) → IsLineShaped text lane phrase → (HasLane place lane → ⊥) → IsLeast (RuleHolds place text) reasons.Lane
   lane_fault lane phrase shaped none = least_lane (RuleHolds place text) (λ l p low is. tt) (λ l p low is. tt) (λ l p low is. tt) few (lane, phrase, shaped) (λ holds. none (holds lane phrase shaped))
 

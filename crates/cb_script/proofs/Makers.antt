@@ -1,8 +1,7 @@
 -- The names that are kept, each with the lane that made it, as lines are added.
 use Rattle.std.proofs.Common.{◌≡◌, ℕ, Bool, cond, List, [], ◌∷◌, ◌++◌, Option, Some, None, Result, Ok, Err, ◌⊎◌, inl, inr, refl, true, sym, ap, ◌∙◌, subst}
 use Rattle.std.specs.Prelude.{IfOk}
-use Rattle.std.specs.BTreeMap.{BTreeMap, get, is_at}
-use Rattle.std.specs.Map.{lookup}
+use Rattle.std.specs.BTreeMap.{BTreeMap, get}
 use Rattle.std.specs.Ordering.{nat_cmp, is_eq}
 use Rattle.std.specs.Cmp.{Equal-is, nat_cmp_is}
 use Rattle.std.specs.declared.cmp.Ordering.TheVariants.{Equal}
@@ -88,10 +87,3 @@ names_stay names before lane r has none line name named =
 pub names_stay_where : (names : BTreeMap ℕ ℕ) (before : List Line) (lane : Lane) (r : Result Request Refusal) → HasNames names before → IfOk r (λ x. names_made x ≡ []) → IfOk r (λ x. StaysNamed names before lane x)
 names_stay_where names before lane (Ok r) has none = names_stay names before lane r has none
 names_stay_where names before lane (Err e) has none = tt
-
-none_of : (names : BTreeMap ℕ ℕ) → names.entries ≡ [] → (name : List ℕ) → maker_of names name ≡ None
-none_of names empty name = ap (λ (es : List (ℕ × ℕ)). lookup (is_at (nat_cmp (number_of_name name))) es) empty
-
--- no names before the first line
-pub no_names : (names : BTreeMap ℕ ℕ) → names.entries ≡ [] → HasNames names []
-no_names names empty name named = subst (λ (o : Option ℕ). IsMaker [] name o) (sym (none_of names empty name)) (λ lane made. made)

@@ -3,7 +3,6 @@ pub use Rattle.cb_script.proofs.AtEase.{roomy_at_ease}
 pub use Rattle.cb_script.proofs.Cuts.{HasFirst, split_has, without_empty_end-more}
 pub use Rattle.cb_script.proofs.Decimals.{decimal_value}
 pub use Rattle.cb_script.proofs.Front.{AreLines-push}
-pub use Rattle.cb_script.proofs.HeaderWords.{text_at, text_at_is}
 pub use Rattle.cb_script.proofs.Headers.{header_refused, header_unique, setting_injective}
 pub use Rattle.cb_script.proofs.HexText.{bytes_at, lower_encoded}
 pub use Rattle.cb_script.proofs.Makers.{made_before, made_cases, made_here}

@@ -7,11 +7,10 @@ use Rattle.cb_script.specs.declared.fault.Reason.{Reason}
 use Rattle.cb_script.specs.declared.fault.Reason.TheVariants as reasons
 use Rattle.cb_script.specs.declared.fault.ScriptFault.{ScriptFault}
 use Rattle.cb_script.specs.declared.fault.ScriptFault.TheVariants as script_faults
-use Rattle.cb_script.specs.declared.script.Line.{Line}
 use Rattle.cb_script.specs.declared.script.Mode.{Mode}
 use Rattle.cb_script.specs.First.{First, IsBadLine}
-use Rattle.cb_script.specs.Form.{AreLines, Spells}
-use Rattle.cb_script.specs.Reading.{AreTheLines, FaultIs, HasBadLine, HeaderFault}
+use Rattle.cb_script.specs.Form.{AreLines}
+use Rattle.cb_script.specs.Reading.{FaultIs, HasBadLine}
 use Rattle.cb_script.specs.Rules.{IsLeast, RuleHolds}
 use Rattle.cb_script.specs.Spelling.{lines_of, header_line}
 
@@ -22,24 +21,9 @@ no_header bytes mode none =
     (refl, omega (arith, none), λ c has. let lines : [] ≡ header_line c ∷ has.others = ap lines_of (sym nothing) ∙ has.text in absurd cc)
 
 module _ (bytes : List ℕ) (mode : Mode) (header : List ℕ) (others : List (List ℕ)) (short : length bytes ≤ 1048576) (cut : lines_of bytes ≡ header ∷ others) where
-  pub header_first : (reason : Reason) → HeaderFault header reason → First bytes mode 1 reason
-  header_first reasons.Header fault = (refl, short, λ c has. let both : header ∷ others ≡ header_line c ∷ has.others = sym cut ∙ has.text in let same : header ≡ header_line c = cc in fault c has.numbers same)
-  header_first reasons.Config fault =
-      let c = fault.0 in
-      (refl, short, c, record { numbers = fault.1; others = others; text = cut ∙ ap (λ (text : List ℕ). text ∷ others) fault.2 }, fault.3)
-  header_first _ fault = absurd fault
-
   module _ (c : Config) (accepted : IsAccepted c) (is_header : header ≡ header_line c) (nodes : ℕ) (same : nodes ≡ c.nodes) where
     lines_are : lines_of bytes ≡ header_line c ∷ others
     lines_are = cut ∙ ap (λ (text : List ℕ). text ∷ others) is_header
-
-    pub script_found : (lines : List Line) → AreTheLines mode nodes others lines → Spells bytes mode (record { config = c; lines = lines })
-    script_found lines are = record {
-      short = short;
-      form = record { config = accepted; few = are.few; lines = subst (λ (n : ℕ). AreLines n [] lines) same are.are };
-      allowed = are.allowed;
-      text = lines_are ∙ ap (λ (texts : List (List ℕ)). header_line c ∷ texts) (sym are.read);
-    }
 
     bad_found : (line : ℕ) (reason : Reason) → HasBadLine mode nodes others line reason → IsBadLine bytes mode line reason
     bad_found line reason bad = record {

@@ -1,4 +1,4 @@
-ghost use Rattle.std.specs.Prelude.{◌≡◌, ◌∷◌, [], ◌++◌, ℕ, List, MatchResult, IfOk};
+ghost use Rattle.std.specs.Prelude.{◌≡◌, ◌∷◌, [], ◌++◌, List, MatchResult, IfOk};
 ghost use Rattle.cb_script.specs.declared.script.Line.{Line};
 ghost use Rattle.cb_script.specs.Form.{IsName, IsNameNew, KnowsName, MakesName};
 ghost use Rattle.cb_script.specs.Reading.{ReadsAs, NameFault, HasNames, maker_of};

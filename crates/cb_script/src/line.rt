@@ -2,7 +2,6 @@ ghost use Rattle.std.specs.Prelude.{◌≡◌, ◌+◌, ◌<◌, ◌∷◌, ◌+
 ghost use Rattle.std.specs.List.{AllByRecursion};
 ghost use Rattle.cb_script.specs.declared.script.Line.{Line};
 ghost use Rattle.cb_script.specs.Cut.{texts, phrase};
-ghost use Rattle.cb_script.specs.Phrase.{phrase_words};
 ghost use Rattle.cb_script.specs.Reading.{ReadsAs, ComesNext, HasNames, IsLeastLane, line_place};
 ghost use Rattle.cb_script.specs.Rules.{IsLeast, RuleHolds};
 

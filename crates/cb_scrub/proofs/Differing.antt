@@ -48,8 +48,6 @@ other_of_sum a b s e =
     sym (sum_with_zero b) ∙ sum_commutes b 0 ∙ ap (λ x. x ⊕ b) (sym (sum_with_itself a)) ∙ sum_associates a a b ∙ ap (λ x. a ⊕ x) e
 
 -- ---- the sum of all rows but one
-part : Bool → ℕ → ℕ
-part b x = cond b 0 x
 
 in_two : (b : Bool) (x : ℕ) → cond b 0 x ⊕ cond b x 0 ≡ x
 in_two true x = sum_commutes 0 x ∙ sum_with_zero x

@@ -24,9 +24,6 @@ fits_lanes r p at rows h x from to j least below =
     let place : at + (x - at) ≡ x = omega arith in
     subst (λ column. syndrome j rows column ≡ power 2 (p * j) ⊗ syndrome 0 rows column) place (h (x - at) j (omega arith) least below)
 
-pub fits_parts : (r p from mid to : ℕ) (rows : List (List ℕ)) → FitsColumns r rows p from mid → FitsColumns r rows p mid to → FitsColumns r rows p from to
-fits_parts r p from mid to rows a b x l m = ⊎_elim (λ before. a x l before) (λ after. b x after m) (cases_lt x mid)
-
 -- the powers of a position's power of 2
 pub powers_listed : (p a b c d : ℕ) → a ≡ power 2 0 → b ≡ power 2 p → c ≡ power 2 (p * 2) → d ≡ power 2 (p * 3) → (j : ℕ) → j < 4 → get_or (a ∷ b ∷ c ∷ d ∷ []) j 0 ≡ power 2 (p * j)
 powers_listed p a b c d pa pb pc pd zero h = pa ∙ ap (power 2) (sym (mul-zero p))

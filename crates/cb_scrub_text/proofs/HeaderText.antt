@@ -1,13 +1,12 @@
 -- The header: its words, and that its text has one reading.
-use Rattle.std.proofs.Common.{◌≡◌, ℕ, ◌^◌, ◌<◌, ◌≤◌, List, [], ◌∷◌, length, get_or, Option, Some, None, refl, sym, ap, ◌∙◌, arith, Bor}
+use Rattle.std.proofs.Common.{◌≡◌, ℕ, ◌^◌, ◌<◌, ◌≤◌, List, [], ◌∷◌, Option, Some, None, refl, sym, ap, ◌∙◌, arith, Bor}
 use Rattle.std.specs.Prelude.{codes}
 use Rattle.std.specs.List.{join_with_byte}
-use Rattle.std.proofs.lemmas.List.{length-map}
 use Rattle.std.proofs.lemmas.List.Splits.{join_with_byte-slice_split}
 use Rattle.cb_script.specs.Cut.{texts}
 use Rattle.cb_script.specs.Found.{Finds}
 use Rattle.cb_script.specs.Spelling.{words_of, setting}
-use Rattle.cb_script.proofs.PublicLaws.{text_at, text_at_is, setting_injective, AreWords, IsWord-setting, word_from_test, words_split}
+use Rattle.cb_script.proofs.PublicLaws.{setting_injective, AreWords, IsWord-setting, word_from_test, words_split}
 use Rattle.cb_scrub_text.specs.declared.header.Sizes.{Sizes}
 use Rattle.cb_scrub_text.specs.Form.{AreSizes, header_words, header_line}
 
@@ -50,24 +49,6 @@ out_of_range word name n most small is few out m set =
     out (omega (arith, same, set.0), omega (arith, same, set.1))
 
 -- ---- the words, as they are read
-
-four_words : (ws : List (List ℕ)) → length ws ≡ 4
-    → ws ≡ get_or ws 0 [] ∷ get_or ws 1 [] ∷ get_or ws 2 [] ∷ get_or ws 3 [] ∷ []
-four_words (a ∷ b ∷ c ∷ d ∷ []) four = refl
-four_words _ four = absurd (omega arith)
-
-pub words_are : (words : List (Bor (List ℕ))) (k r : ℕ) → length words ≡ 4 → text_at words 0 ≡ codes "scrub" → text_at words 1 ≡ codes "1"
-    → text_at words 2 ≡ setting (codes "k") k → text_at words 3 ≡ setting (codes "r") r → texts words ≡ header_words k r
-words_are words k r four first second third fourth =
-    let e0 = text_at_is words 0 (omega (arith, four)) ∙ first in
-    let e1 = text_at_is words 1 (omega (arith, four)) ∙ second in
-    let e2 = text_at_is words 2 (omega (arith, four)) ∙ third in
-    let e3 = text_at_is words 3 (omega (arith, four)) ∙ fourth in
-    four_words (texts words) (length-map words (λ (word : Bor (List ℕ)). word.now) ∙ four) ∙ rw (e0, e1, e2, e3) refl
-
--- the word at a place of a header
-pub word_at : (words : List (Bor (List ℕ))) (i : ℕ) (k r : ℕ) → i < length words → texts words ≡ header_words k r → text_at words i ≡ get_or (header_words k r) i []
-word_at words i k r within e = sym (text_at_is words i within) ∙ ap (λ (ws : List (List ℕ)). get_or ws i []) e
 
 -- what was read of the words is read of the text
 pub text_from_words : (text : List ℕ) (words : List (Bor (List ℕ))) (found : Option Sizes) → texts words ≡ words_of text

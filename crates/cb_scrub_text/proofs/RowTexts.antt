@@ -13,10 +13,6 @@ encoded_length row = length-encode_with lower_digits row
 pub text_length : (len : ℕ) (text row : List ℕ) → SpellsRow len text row → length text ≡ 2 * len
 text_length len text row is = omega (arith, ap length is.text_is, encoded_length row, is.long)
 
--- the length of a text is that of one row
-pub one_length : (m n : ℕ) (text xs ys : List ℕ) → SpellsRow m text xs → SpellsRow n text ys → m ≡ n
-one_length m n text xs ys x y = omega (arith, text_length m text xs x, text_length n text ys y)
-
 -- rows of bytes with one text are one row
 pub one_row : (xs ys : List ℕ) → All (λ b. b < 256) xs → All (λ b. b < 256) ys → encode_lower xs ≡ encode_lower ys → xs ≡ ys
 one_row xs ys x y e =

@@ -1,13 +1,13 @@
 -- Rows that are read one after the other.
-use Rattle.std.proofs.Common.{◌≡◌, ◌==◌, ℕ, ◌+◌, ◌<◌, ◌≤◌, true, false, List, [], ◌∷◌, ◌++◌, length, map, take, All, inl, inr, refl, sym, ap, ◌∙◌, subst, append_assoc, arith}
+use Rattle.std.proofs.Common.{◌≡◌, ◌==◌, ℕ, ◌+◌, ◌<◌, ◌≤◌, true, List, [], ◌∷◌, ◌++◌, length, map, take, All, inl, inr, refl, sym, ap, ◌∙◌, subst, append_assoc, arith}
 use Rattle.std.proofs.lemmas.Bool.{cases_Bool}
 use Rattle.std.proofs.lemmas.List.Elements.{All-set, All-take}
-use Rattle.std.proofs.lemmas.List.{append-nil, length-set, length-take-le, map-append, nil_from_length, take_all, take_more_set}
+use Rattle.std.proofs.lemmas.List.{length-set, length-take-le, map-append, nil_from_length, take_more_set}
 use Rattle.hex.specs.Hex.{encode_lower}
 use Rattle.cb_gf256.specs.Rows.{HaveLength, HoldBytes}
 use Rattle.cb_script.specs.Spelling.{without_empty_end, lines_of}
 use Rattle.cb_script.proofs.PublicLaws.{HasFirst, split_has, without_empty_end-more}
-use Rattle.cb_scrub_text.specs.Reading.{IsReadInto, StopsBehind, StopsAt, AreRowsOf}
+use Rattle.cb_scrub_text.specs.Reading.{IsReadInto, StopsBehind, StopsAt}
 
 -- ---- a text that is not empty has a line
 
@@ -72,23 +72,9 @@ module _ (len count i : ℕ) (text : List ℕ) (rows : List (List ℕ)) (rest : 
       let fewer : length (take i rows) < count = omega (arith, within, taken (omega (arith, within))) in
       stops (omega (arith, within)) (subst (StopsBehind len count (take i rows)) (sym empty) fewer)
 
-  -- the next line spells no row of as many bytes
-  pub stops_row : (line behind : List ℕ) → i < count → lines_of rest ≡ line ∷ lines_of behind → IsReadInto len rows i line rows false → StopsAt len count (lines_of text) i
-  stops_row line behind within cut none =
-      stops (omega (arith, within)) (subst (StopsBehind len count (take i rows)) (sym cut) (λ fewer row is. none row is))
-
   -- there is a line behind the last row
   pub stops_over : i ≡ count → 0 < length rest → StopsAt len count (lines_of text) i
   stops_over all some =
       let has = has_line rest some in
       let fewer : (length (take i rows) < count → ⊥) = λ less. omega (arith, all, less, taken (omega (arith, all))) in
       stops (omega (arith, all)) (subst (StopsBehind len count (take i rows)) (sym has.is) (λ less row is. fewer less))
-
-  pub filling_done : i ≡ count → length rest ≡ 0 → AreRowsOf len count (lines_of text) rows
-  filling_done all none = record {
-    counted = filling.counted;
-    lengths = filling.lengths;
-    bytes = filling.bytes;
-    are = filling.read ∙ ap (λ (bytes : List ℕ). map encode_lower (take i rows) ++ lines_of bytes) (nil_from_length rest none) ∙ append-nil (map encode_lower (take i rows))
-        ∙ ap (map encode_lower) (take_all i rows (omega (arith, all, filling.counted)));
-  }

@@ -8,11 +8,11 @@ use Rattle.cb_script.specs.Spelling.{lines_of}
 use Rattle.cb_script.proofs.PublicLaws.{differ}
 use Rattle.cb_cli.specs.declared.verdict.Verdict.TheVariants.{Done, Refused}
 use Rattle.cb_scrub.specs.declared.found.Found.TheVariants.{Clean, One, Many}
-use Rattle.cb_scrub.proofs.Laws.{four, word, one, many, lengths, bytes, word_but, one_is_wrong, found_many, is_word}
+use Rattle.cb_scrub.proofs.Laws.{word, one, many, lengths, bytes, word_but, one_is_wrong, found_many, is_word}
 use Rattle.cb_scrub_text.specs.declared.asked.Asked.{Asked}
-use Rattle.cb_scrub_text.specs.Form.{AreSizes, IsAsked, Spells, asked_lines, header_line}
+use Rattle.cb_scrub_text.specs.Form.{AreSizes, IsAsked, Spells, header_line}
 use Rattle.cb_scrub_text.specs.FirstBad.{Begin, AreAsked, IsBadLine, IsFirstBad}
-use Rattle.cb_scrub_text.specs.Verdicts.{FindsAndTells, Yields, Refuses, Accepts, IsVerdict}
+use Rattle.cb_scrub_text.specs.Verdicts.{FindsAndTells, Yields, Accepts, IsVerdict}
 use Rattle.cb_scrub_text.proofs.HeaderText.{one_header}
 use Rattle.cb_scrub_text.proofs.OneReading.{accepted_not_refused, one_asked, one_first_bad, one_text, spelled_not_bad}
 

@@ -41,9 +41,6 @@ pub record Giving (old now : NodesState) (shards : List Shard) (table : List (Li
   pub lengths : HaveLength 4096 table
   pub rows : (j : ℕ) → j < i → row_at table j ≡ row_at (rows_of old shards) j
 
-pub giving_none : (old : NodesState) (shards : List Shard) (table : List (List ℕ)) → length table ≡ length shards → HaveLength 4096 table → Giving old old shards table 0
-giving_none old shards table count lengths = record { nodes = ap (λ (n : ℕ). record old { given = n }) (omega arith); count = count; lengths = lengths; rows = λ j below. absurd (omega (arith, below)) }
-
 module _ (old now : NodesState) (shards : List Shard) (table : List (List ℕ)) (i : ℕ) (giving : Giving old now shards table i) where
   pub stands_now : (shard : Shard) → RowStands old shard → RowStands now shard
   stands_now shard stands = subst (λ (n : NodesState). RowStands n shard) (sym giving.nodes) (record { node = stands.node; there = stands.there; wide = stands.wide })

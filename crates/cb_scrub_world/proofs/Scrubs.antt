@@ -1,5 +1,5 @@
 -- What a scrub of the next set does.
-use Rattle.std.proofs.Common.{◌≡◌, ℕ, ◌<◌, length, get_or, Option, None, Some, All, refl}
+use Rattle.std.proofs.Common.{◌≡◌, ℕ, length, get_or, Option, None, Some, All, refl}
 use Rattle.std.specs.Prelude.{IsSome}
 use Rattle.std.proofs.lemmas.Option.{slice_get-get_or}
 use Rattle.cb_member.specs.Membership.{Membership}
@@ -12,7 +12,7 @@ use Rattle.cb_types.specs.declared.handle.SetId.{SetId}
 use Rattle.cb_world.specs.FarState.{FarState}
 use Rattle.cb_world.specs.Sets.{set_in}
 use Rattle.cb_scrub_world.specs.Next.{IsNextSet}
-use Rattle.cb_scrub_world.specs.Scrub.{Examines, IsExamined, MayScrubSet, Skips, with_nodes}
+use Rattle.cb_scrub_world.specs.Scrub.{Examines, IsExamined, MayScrubSet, with_nodes}
 use Rattle.cb_scrub_world.specs.Standing.{RowStands}
 
 -- where nothing is lost, each row stands
@@ -30,8 +30,3 @@ pub examines : (after : Option SetId) (far new : FarState) (id : ℕ) (found : F
 examines after far new id found next none examined others =
     let there = some_set (set_in far.sets id) next.committed in
     record { next = next; set = there.0; is_set = there.1; whole = whole_by_count far.members there.0.shards (none there.0 there.1); examined = examined there.0 there.1; others = others }
-
-pub skips : (after : Option SetId) (far : FarState) (id count : ℕ) → IsNextSet after far.sets id → ((set : SetState) → set_in far.sets id ≡ Some set → count ≡ length (lost far.members set.shards)) → 0 < count → Skips after far id count far
-skips after far id count next counted some =
-    let there = some_set (set_in far.sets id) next.committed in
-    record { next = next; set = there.0; is_set = there.1; counted = counted there.0 there.1; some = some; same = refl }

@@ -1,6 +1,4 @@
-ghost use Rattle.std.specs.Prelude.{◌≡◌, ℕ, ◌+◌, ◌^◌, ◌<◌, ◌≤◌, IfNone, IfSome, IsSome, None};
-ghost use Rattle.std.specs.FinMap as map;
-ghost use Rattle.cb_world.specs.Sets.{set_in};
+ghost use Rattle.std.specs.Prelude.{ℕ, ◌+◌, ◌^◌, ◌<◌, ◌≤◌, IfNone, IfSome, None};
 ghost use Rattle.cb_scrub_world.specs.Next.{Above, IsNextSet, AreNone};
 
 use cb_types::SetId;

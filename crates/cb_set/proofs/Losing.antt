@@ -142,15 +142,3 @@ none_whole m (x ∷ xs) kept =
 pub whole_by_count : (m : Membership) (shards : List Shard) → length (lost m shards) ≡ 0
     → lost m shards ≡ []
 whole_by_count m shards none = nil_from_length (lost m shards) none
-
--- whether a shard is lost hangs on its node and its incarnation alone
-pub is_lost-same : (m : Membership) (a b : Shard) → a.node.n ≡ b.node.n
-    → a.incarnation ≡ b.incarnation → is_lost m a ≡ is_lost m b
-is_lost-same m a b node incarnation =
-    ap (λ (n : ℕ). is_lost m (record {
-      node = record { n = n };
-      incarnation = a.incarnation;
-      key = a.key;
-    })) node
-    ∙ ap (λ (i : ℕ). is_lost m (record { node = b.node; incarnation = i; key = a.key }))
-    incarnation

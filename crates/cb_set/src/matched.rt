@@ -1,4 +1,4 @@
-ghost use Rattle.std.specs.Prelude.{◌≡◌, ◌↔◌, IsTrue};
+ghost use Rattle.std.specs.Prelude.{◌↔◌, IsTrue};
 ghost use Rattle.cb_set.specs.Lost.{NodesAreMembers};
 ghost use Rattle.cb_set.specs.Matched.{IsMatched, PositionsApart};
 

@@ -18,7 +18,7 @@ use Rattle.cb_world.specs.declared.event.Event.{Event}
 use Rattle.cb_world.specs.declared.shown.Shown.{Shown}
 use Rattle.cb_world.specs.FarState.{FarState}
 use Rattle.cb_world.specs.Memory.{bytes_in}
-use Rattle.cb_world.specs.Played.{after, played}
+use Rattle.cb_world.specs.Played.{played}
 use Rattle.cb_world.specs.Written.{written_by}
 use Rattle.cb_mutate.specs.JobWrites.{FreeWrites, MakeWrites, TurnWrites, WriteWrites}
 use Rattle.cb_core.specs.TurnLeaves.{OutcomeWrites}
@@ -32,13 +32,12 @@ use Rattle.cb_rule.specs.Locking.{Stood}
 use Rattle.cb_rule.specs.LockSteps.{AddsTurn, ReadsTold, WritesTold, gave_lock, took_lock, turn_of}
 use Rattle.cb_rule.specs.Own.{Make as IsMake}
 use Rattle.cb_rule.specs.Records.{TellsWritten, ended_by, old_by}
-use Rattle.cb_rule.specs.Rule.{AreSized}
 use Rattle.cb_rule.specs.Slot.{LockSlot, Sat}
 use Rattle.cb_rule.specs.Steps.{AreNew, Knows, acted, version_seen}
 use Rattle.cb_shared.specs.declared.setup.Setup.{Setup}
 use Rattle.cb_record.specs.Parts.{Part, grown, nothing_more}
 use Rattle.cb_shared.specs.Passes.{IsAtRest}
-use Rattle.cb_shared.specs.SeatLaws.{Runs, acted_is, acted_known, after_events, sized_after}
+use Rattle.cb_shared.specs.SeatLaws.{Runs, acted_is, acted_known, after_events}
 use Rattle.cb_shared.specs.Seats.{HoldsLock, IsOf, SeatAt, record_at}
 use Rattle.cb_shared.specs.Turning.{CountsPins, Did, DidAs, JobReads, KnowsIt, KnowsOf, PinsTold}
 use Rattle.cb_shared.specs.Turning.{answer_of, made_by_turn, object_of, turn_part, with_own}
@@ -46,11 +45,6 @@ use Rattle.cb_shared.specs.UnderLock.{GivesFar, IsBeginning, IsEnding, IsQuiet, 
 use Rattle.cb_shared.specs.UnderLock.{TurnedBy, WorkBy}
 use Rattle.cb_rule.proofs.Laws.{hit}
 use Rattle.cb_shared.proofs.MadeFirst.{makes_own}
-
-pub sized_played : (c : Config) (es : List Event) (s : Shown) → AreSized c s
-    → AreSized c (played es s)
-sized_played c [] s z = z
-sized_played c (e ∷ es) s z = sized_played c es (after e s) (sized_after c e s z)
 
 -- a seat that moved to another view is of the table as before
 pub of_moved : (z : TableId) (k : Setup) (c : Config) (p q : SeatAt) → IsOf z k c p
@@ -64,10 +58,6 @@ of_moved z k c p q of table config share = record {
   config = config ∙ of.config;
   live = subst (λ (n : ℕ). 1 ≤ n) (sym share) of.live;
 }
-
-pub view_is : (p q : SeatAt) (w : View) (slots : List (ℕ × LockSlot)) → q.me ≡ (w, slots)
-    → record_at q ≡ w
-view_is p q w slots e = ap (λ (m : Sat). m.0) e
 
 -- the record after the events of a seat
 pub after_runs : (p q : SeatAt) (es : List Event) → Runs p es q

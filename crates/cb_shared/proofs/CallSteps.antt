@@ -42,10 +42,6 @@ each_both : {A : Type 0} (P : A → Type 0) (xs ys : List A) → Each P xs → E
 each_both P [] ys a b = b
 each_both P (x ∷ xs) ys a b = (a.0, each_both P xs ys a.1 b)
 
-each_never : {A : Type 0} (P : A → Type 0) (xs : List A) → Each (λ _. ⊥) xs → Each P xs
-each_never P [] none = tt
-each_never P (x ∷ xs) none = absurd none.0
-
 each_map : {A : Type 0} (P Q : A → Type 0) → ((x : A) → P x → Q x) → (xs : List A) → Each P xs
     → Each Q xs
 each_map P Q f [] all = tt

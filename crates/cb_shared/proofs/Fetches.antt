@@ -1,6 +1,6 @@
 -- The turns of a read have the job that its tries before ask for.
-use Rattle.std.proofs.Common.{◌≡◌, ℕ, ◌||◌, Bool, true, false, List, [], ◌∷◌, ◌++◌, Option, None}
-use Rattle.std.proofs.Common.{Some, Result, Ok, Err, sym, refl, ap, ◌∙◌, subst, inl, inr}
+use Rattle.std.proofs.Common.{◌≡◌, ℕ, ◌||◌, Bool, true, false, List, [], ◌∷◌, ◌++◌, Option}
+use Rattle.std.proofs.Common.{Some, Result, Ok, sym, refl, ap, ◌∙◌, subst, inl, inr}
 use Rattle.std.proofs.Common.{append_assoc}
 use Rattle.cb_member.specs.declared.no_memory.NoMemory.{NoMemory}
 use Rattle.cb_types.specs.declared.config.Config.{Config}
@@ -17,7 +17,7 @@ use Rattle.cb_shared.specs.Calls.{IsFetch}
 use Rattle.cb_shared.specs.Fetching.{AreFetches, AreFetchesTo, GetsTurns, IsOneMore, IsOneOf}
 use Rattle.cb_shared.specs.Fetching.{brings, brought_in_by, job_to_fetch}
 use Rattle.cb_shared.specs.Reading.{ReadFinds, looked}
-use Rattle.cb_shared.specs.Turning.{TurnBy, answer_of}
+use Rattle.cb_shared.specs.Turning.{TurnBy}
 
 pub fetch_is : (h : ℕ) (b : Bool) (job : Job) → job ≡ job_to_fetch h b → IsFetch h job
 fetch_is h false job is = inl is

@@ -36,10 +36,6 @@ twice_part h saw found v = let e : v.ever ≡ v.ever + 0 = omega arith in
     ap (λ (n : ℕ). let z : View = record (with_look h found (with_look h saw v)) { ever = n } in z)
     e
 
-pub read_part : (h word version : ℕ) (words : List ℕ) (v : View)
-    → with_read h word version words (with_look h word v) ≡ grown (read_once h word version words) v
-read_part h word version words v = refl
-
 -- one step after another
 pub moves_as : (p q : SeatAt) (x y : View) → Moves p q x → x ≡ y → Moves p q y
 moves_as p q x y m e = (
@@ -86,13 +82,6 @@ refused_moves h w Crowded p q g why = (
 )
 refused_moves h w (Raced saw found) p q g why = absurd why
 
--- the look found the object here
-pub looked_here : (h w : ℕ) (p q : SeatAt) → Glances h w p q → state_of w ≡ state.Here
-    → Moves p q (grown (looked h w) (record_at p))
-looked_here h w p q g here = moves_as p q (with_look h w (record_at p))
-    (grown (looked h w) (record_at p))
-    (g.other (λ e. here_empty (sym here ∙ e))) (look_part h w (record_at p))
-
 -- the look, and what the exchange at its word comes to
 pub at_word : (h saw : ℕ) (a : ReadAnswer) (p q r : SeatAt) → Glances h saw p q
     → state_of saw ≡ state.Here → ReadAt h saw a q r → ReadMoves h a p r
@@ -137,9 +126,6 @@ pin_gone h w v words u =
 module _ (c : Config) (h saw v version : ℕ) (words bytes : List ℕ) (p s t : SeatAt)
     (taken : Moves p s (with_pin h saw v words (record_at p)))
     (told : TellsVersion c h version s t) where
-  the_pin : Stand
-  the_pin = stand h (len_of saw) (place_of saw) v words
-
   pub pin_there : Moves p t (with_pin h saw v words (record_at p))
   pin_there = moves_then p s t (λ (x : View). x) (with_pin h saw v words (record_at p))
       taken told.moves

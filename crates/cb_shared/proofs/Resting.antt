@@ -11,7 +11,7 @@ use Rattle.cb_rule.specs.declared.view.Stand.{Stand}
 use Rattle.cb_rule.specs.declared.view.View.{View}
 use Rattle.cb_rule.specs.Lists.{Each, Has, removed, times}
 use Rattle.cb_rule.specs.Seats.{pins_it}
-use Rattle.cb_rule.specs.Steps.{IsInside, Knows, with_look, with_freed_seen, with_pin, with_peek}
+use Rattle.cb_rule.specs.Steps.{IsInside, Knows, with_look, with_freed_seen, with_pin}
 use Rattle.cb_rule.specs.Steps.{without_pin}
 use Rattle.cb_rule.specs.Slot.{Sat}
 use Rattle.cb_shared.specs.declared.answers.PinAnswer.{PinAnswer}
@@ -95,20 +95,6 @@ rest_pin c h w n words v rest below inside = record {
   written = rest.written;
   seen = (below, rest.seen);
   pins = ((below, inside), rest.pins);
-}
-
-pub rest_peek : (c : Config) (h n j w : ℕ) (v : View) → IsAtRest c v
-    → IsAtRest c (with_peek h n j w v)
-rest_peek c h n j w v rest = record {
-  config = rest.config;
-  live = rest.live;
-  most = rest.most;
-  claims = rest.claims;
-  out = rest.out;
-  fresh = rest.fresh;
-  written = rest.written;
-  seen = rest.seen;
-  pins = rest.pins;
 }
 
 pub rest_unpin : (c : Config) (h : ℕ) (v : View) → IsAtRest c v → IsAtRest c (without_pin h v)

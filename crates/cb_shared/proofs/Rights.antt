@@ -1,6 +1,6 @@
 -- A turn that may write an object may write it still after each of its steps.
-use Rattle.std.proofs.Common.{◌≡◌, ◌≢◌, ◌⊎◌, ℕ, zero, suc, ◌+◌, ◌*◌, ◌<◌, ◌≤◌, Bool, true, cond}
-use Rattle.std.proofs.Common.{eqb, List, [], ◌∷◌, Option, None, Some, get_or, set, length, sym}
+use Rattle.std.proofs.Common.{◌≡◌, ◌≢◌, ◌⊎◌, ℕ, zero, suc, ◌+◌, ◌*◌, ◌<◌, ◌≤◌, true, cond}
+use Rattle.std.proofs.Common.{eqb, List, [], ◌∷◌, Option, None, Some, get_or, length, sym}
 use Rattle.std.proofs.Common.{refl, ap, ◌∙◌, subst, inl, inr, ⊎_elim, arith, eqb-true}
 use Rattle.std.proofs.Common.{get_or-set_other}
 use native.Mathlib.Decide.{ℕ_discrete}
@@ -35,9 +35,6 @@ use Rattle.cb_shared.specs.SeatLaws.{holds_still}
 use Rattle.cb_shared.specs.Rights.{rights, unmade, writes_of}
 use Rattle.cb_shared.specs.Seats.{Acts, HoldsLock, Moves, SeatAt, record_at}
 use Rattle.cb_shared.specs.Turning.{KnowsOf}
-
-abbrev is_never : Object → Type 0
-is_never o = o ≡ never
 
 of_unmade : (o : Object) → 0 < unmade o → o ≡ never
 of_unmade (is.Empty v) pos = Rattle.cb_rule.proofs.Laws.by_case

@@ -1,5 +1,5 @@
 -- A freed entry is looked for, of an object that the seat may or may not know.
-use Rattle.std.proofs.Common.{◌≡◌, ◌⊎◌, ⊎_elim, ℕ, ◌<◌, List, ◌++◌, Option, None, Some, Result, Ok, refl, sym, ap, ◌∙◌, subst}
+use Rattle.std.proofs.Common.{◌≡◌, ⊎_elim, ℕ, ◌<◌, Option, Some, Result, Ok, refl, ap, subst}
 use Rattle.cb_member.specs.declared.no_memory.NoMemory.{NoMemory}
 use Rattle.cb_ptr.specs.declared.word.State.TheVariants as state
 use Rattle.cb_ptr.specs.Word.{state_of}
@@ -9,7 +9,6 @@ use Rattle.cb_types.specs.declared.job.Job.TheVariants.{Swap}
 use Rattle.cb_types.specs.declared.reply.Reply.{Reply}
 use Rattle.cb_types.specs.declared.reply.Reply.TheVariants as answer
 use Rattle.cb_core.specs.Jobs.{IsJob}
-use Rattle.cb_rule.specs.declared.view.View.{View}
 use Rattle.cb_rule.specs.Slot.{Sat}
 use Rattle.cb_rule.specs.Steps.{Knows, with_freed_seen, with_look}
 use Rattle.cb_rule.proofs.Laws.{knows_or}

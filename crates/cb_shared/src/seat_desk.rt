@@ -1,4 +1,4 @@
-ghost use Rattle.std.specs.Prelude.{◌≡◌, ℕ, true, ◌+◌, ◌*◌, ◌≤◌, length, Some};
+ghost use Rattle.std.specs.Prelude.{◌≡◌, true, ◌+◌, ◌*◌, ◌≤◌, length, Some};
 ghost use Rattle.cb_shared.specs.Rights.{rights};
 ghost use Rattle.cb_shared.specs.Seats.{record_at};
 

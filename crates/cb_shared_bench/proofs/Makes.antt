@@ -1,5 +1,5 @@
 -- A make leaves its pass one that knows the object.
-use Rattle.std.proofs.Common.{◌≡◌, ℕ, Result, Ok, Err, Option, None, Some, List, subst}
+use Rattle.std.proofs.Common.{ℕ, Result, Option, None, Some, List, subst}
 use Rattle.std.specs.Prelude.{IfOk, IfSome}
 use Rattle.cb_member.specs.declared.no_memory.NoMemory.{NoMemory}
 use Rattle.cb_types.specs.declared.handle.Handle.{Handle}

@@ -1,5 +1,5 @@
 -- A pin that was taken is one of its pass.
-use Rattle.std.proofs.Common.{◌≡◌, ℕ, List, sym, subst, inl}
+use Rattle.std.proofs.Common.{ℕ, sym, subst, inl}
 use Rattle.cb_rule.specs.declared.view.View.{View}
 use Rattle.cb_rule.specs.Lists.{Has}
 use Rattle.cb_shared.specs.declared.answers.PinAnswer.{PinAnswer}

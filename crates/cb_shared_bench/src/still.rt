@@ -2,7 +2,6 @@
 ghost use Rattle.std.specs.Prelude.{◌≡◌, true, IfOk, IfSome};
 ghost use Rattle.cb_core.specs.declared.event.Event.TheVariants.{Turn};
 ghost use Rattle.cb_core.specs.Events.{IsEvent};
-ghost use Rattle.cb_world.specs.World.{IsSoundWorld};
 ghost use Rattle.cb_shared_bench.specs.Callers.{IsBenchWorld, the_config};
 
 use crate::objects::{BYTES, CONFIG};

@@ -1,5 +1,5 @@
 -- Where slots lie in memory: the laws that the crates above cite.
-use Rattle.std.proofs.Common.{◌≡◌, ℕ, ◌+◌, ◌*◌, ◌/◌, ◌%◌, ◌^◌, ◌<◌, ◌≤◌, ap, sym, ◌∙◌, arith}
+use Rattle.std.proofs.Common.{◌≡◌, ℕ, ◌+◌, ◌*◌, ◌/◌, ◌%◌, ◌^◌, ◌<◌, ◌≤◌, ap, ◌∙◌, arith}
 use Rattle.std.proofs.Math.Nat.{mul-div_right}
 use Rattle.cb_class.specs.declared.class.Class.{Class}
 use Rattle.cb_class.specs.Class.{IsClass, slots_of, words_of}
@@ -17,11 +17,6 @@ pub slot_place_fits : (class : Class) (frame slot : ℕ) → IsClass class → s
 slot_place_fits class frame slot known within below =
     omega (arith, slot_within class slot known within, words_at_least class known)
 
--- slots of two frames do not overlap
-pub frames_apart : (a b : Class) (f g s t : ℕ) → IsClass a → s < slots_of a → f < g
-    → slot_place a f s + words_of a ≤ slot_place b g t
-frames_apart a b f g s t known within below = omega (arith, slot_within a s known within)
-
 -- the frame of a slot's place, and of every word of the slot
 pub frame_of-slot_place : (class : Class) (frame slot : ℕ) → IsClass class → slot < slots_of class
     → frame_of (slot_place class frame slot) ≡ frame
@@ -36,13 +31,3 @@ slot_of-slot_place class frame slot known within =
     let low : slot_place class frame slot % 512 ≡ words_of class * slot =
     omega (arith, slot_within class slot known within, words_at_least class known) in
     ap (λ n. n / words_of class) low ∙ mul-div_right slot some
-
--- slots at one place are one slot
-pub same_slot : (class : Class) (f g s t : ℕ) → IsClass class → s < slots_of class
-    → t < slots_of class → slot_place class f s ≡ slot_place class g t → (f ≡ g) × (s ≡ t)
-same_slot class f g s t known s_in t_in same = (
-  sym (frame_of-slot_place class f s known s_in) ∙ ap frame_of same
-      ∙ frame_of-slot_place class g t known t_in,
-  sym (slot_of-slot_place class f s known s_in) ∙ ap (slot_of class) same
-      ∙ slot_of-slot_place class g t known t_in,
-)

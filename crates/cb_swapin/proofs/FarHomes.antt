@@ -1,5 +1,5 @@
 -- Where the object of a far word lies; and what is known where rows were given out in vain.
-use Rattle.std.proofs.Common.{◌≡◌, ℕ, ◌+◌, ◌≤◌, ◌<◌, Some, length, refl, ap, ◌∙◌, arith}
+use Rattle.std.proofs.Common.{◌≡◌, ℕ, ◌+◌, Some, ap, ◌∙◌}
 use Rattle.cb_set.specs.SetState.{SetState}
 use Rattle.cb_world.specs.declared.homes.Home.{Home}
 use Rattle.cb_world.specs.declared.shown.Shown.{Shown}
@@ -31,11 +31,3 @@ given_known x far s n k = record {
   packed = k.packed;
   freed = k.freed;
 }
-
--- at most as many as the set has data positions, which are 16 at the most
-pub given_failed : (x : Words) (far : FarState) (s : Shown) (id n : ℕ) (set : SetState)
-    → IsKnown x far s → set_in far.sets id ≡ Some set → n ≤ length set.positions
-    → (far_given far n).nodes.given ≤ far.nodes.given + 16
-given_failed x far s id n set k there few =
-    let most = (k.sound.away.sound.sets.shaped id set there).range.data_most in
-    omega (arith, few, most)

@@ -1,7 +1,7 @@
 ghost use Rattle.std.specs.Prelude.{◌≡◌, ◌++◌, OnOk, OnErr, IfOk};
 ghost use Rattle.std.specs.Io.{StartsWith};
 ghost use Rattle.cb_types.specs.Table.{IsReplyOf};
-ghost use Rattle.cb_text.specs.Line.{answer_line, spaced, subject_text};
+ghost use Rattle.cb_text.specs.Line.{answer_line, subject_text};
 
 use crate::reply::push_reply;
 use crate::verb::verb;

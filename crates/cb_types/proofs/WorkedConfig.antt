@@ -1,10 +1,10 @@
 -- Configurations, counts of faults and replies at worked values, and values that break one part each.
-use Rattle.std.proofs.Common.{◌≡◌, ℕ, ◌<◌, ◌≤◌, ◌-◌, ◌^◌, List, [], ◌∷◌, refl, arith, inl, inr}
+use Rattle.std.proofs.Common.{ℕ, ◌<◌, ◌-◌, ◌^◌, [], refl, arith, inl, inr}
 use Rattle.cb_types.specs.declared.config.Config.{Config}
 use Rattle.cb_types.specs.declared.config.Field.{Field}
 use Rattle.cb_types.specs.declared.config.Field.TheVariants.{K, R, Nodes, Frames, Room, Handles, Turns}
 use Rattle.cb_types.specs.declared.request.Request.TheVariants as line
-use Rattle.cb_types.specs.declared.reply.Reply.TheVariants.{Made, Version, Bytes, Done, Left, Full, NoRoom, Unmade, Freed, Moving, Unavailable, Range, Pinned, Worn, ScopeFull, NotHere, NoFrame, Down, Stays, Joining, NodeFull, NoPair, NoJoin, Unfinished, Short, Changed}
+use Rattle.cb_types.specs.declared.reply.Reply.TheVariants.{Bytes, Done, Left, Full, NoRoom, Freed, Unavailable, Range, Pinned, Worn, ScopeFull, NoFrame, Down, Stays, Joining, NodeFull, NoPair, NoJoin, Unfinished, Short, Changed}
 use Rattle.cb_types.specs.Config.{IsFieldInRange, IsAccepted, IsFirstOutOfRange, place}
 use Rattle.cb_types.specs.Faults.{Rose}
 use Rattle.cb_types.specs.Table.{IsReplyOf}

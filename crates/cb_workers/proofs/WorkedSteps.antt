@@ -12,14 +12,13 @@ use Rattle.cb_world.specs.FarState.{FarState}
 use Rattle.cb_rule.specs.declared.turn.Turn.{Turn}
 use Rattle.cb_rule.specs.declared.view.View.{View}
 use Rattle.cb_record.specs.Deeds.{Deed, deed}
-use Rattle.cb_record.specs.Parts.{Grows, Part, grown, nothing_more}
+use Rattle.cb_record.specs.Parts.{Grows, grown, nothing_more}
 use Rattle.cb_shared.specs.declared.pass.Pass.{Pass}
 use Rattle.cb_shared.specs.declared.runtime.Shared.{Shared}
 use Rattle.cb_shared.specs.Passes.{IsPassOf}
 use Rattle.cb_workers.specs.Bodies.{AddsTurns, Cuts, EndsBegun, HasMade, IsStopped, IsWorked, Lacks, Steps, WorkerStops, WorkerWorks, one_deed, turns_alone}
-use Rattle.cb_workers.specs.Rules.{after_visit, next_job, next_visit, visit, visited}
+use Rattle.cb_workers.specs.Rules.{after_visit, next_visit, visit, visited}
 use Rattle.cb_workers.specs.Work.{AnsweredTurn, AreDue, IsOnly, deed_of, deeds_of, job_behind, lacked}
-use Rattle.cb_workers.specs.declared.worker.Worker.{Worker}
 use Rattle.cb_workers.specs.declared.worker.Worker.TheVariants as worker
 use Rattle.cb_workers.proofs.WorkedBodies.{aborted, begun, deeds_in, some_there, stopped, turn, two_turns, works}
 

@@ -1,5 +1,5 @@
 //! The bodies of the workers: each makes so many turns of its own pass.
-ghost use Rattle.std.specs.Prelude.{◌≡◌, IfOk, IfErr};
+ghost use Rattle.std.specs.Prelude.{IfOk, IfErr};
 ghost use Rattle.cb_shared.specs.Passes.{IsPassOf};
 ghost use Rattle.cb_workers.specs.Bodies.{WorkerStops, WorkerWorks};
 ghost use Rattle.cb_workers.specs.declared.worker.Worker.TheVariants as worker;

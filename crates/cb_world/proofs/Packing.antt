@@ -1,14 +1,12 @@
 -- At the still desk: what an operation may do keeps each object packed, and each freed one above the
 -- first version.
-use Rattle.std.proofs.Common.{◌≡◌, ◌≢◌, ◌⊎◌, ℕ, zero, suc, ◌+◌, ◌<◌, ◌≤◌, List, [], ◌∷◌, length, get_or, set, sym, refl, ap, ◌∙◌, subst, arith, inl, inr, ⊎_elim, length-set, get_or-set_other, get_or-set_same}
+use Rattle.std.proofs.Common.{◌≡◌, ℕ, zero, suc, ◌+◌, ◌<◌, ◌≤◌, List, [], ◌∷◌, length, get_or, set, sym, refl, ap, ◌∙◌, subst, arith, inl, inr, ⊎_elim, length-set, get_or-set_other, get_or-set_same}
 use Rattle.std.proofs.lemmas.Bool.{cases_lt}
 use Rattle.std.proofs.lemmas.List.{get_or_past, set-get_or}
 use native.Mathlib.Decide.{ℕ_discrete}
 use Rattle.cb_ptr.specs.declared.word.State.{State}
 use Rattle.cb_ptr.specs.declared.word.State.TheVariants as word
-use Rattle.cb_ptr.specs.Steps.{Claims}
 use Rattle.cb_ptr.specs.Word.{state_of, len_of, place_of}
-use Rattle.cb_ptr.proofs.Laws.{claims}
 use Rattle.cb_world.specs.Allowed.{Allowed}
 use Rattle.cb_world.specs.declared.event.Event.{Event}
 use Rattle.cb_world.specs.declared.event.Event.TheVariants.{Looked, Claimed, Told, Loaded, Stored, Stamped, Settled}
@@ -21,7 +19,7 @@ use Rattle.cb_world.specs.Memory.{IsPacked, put, window, words_for}
 use Rattle.cb_world.specs.Packed.{AreFreedLater, ArePacked, IsFreedLater, IsPackedAs}
 use Rattle.cb_world.specs.Plain.{IsClaim, Plain, Shows, Words, word_at}
 use Rattle.cb_world.specs.Played.{after, played, settled_by}
-use Rattle.cb_world.specs.Settling.{HasContents, MayBring, MayFree, MayPutAway, MaySettle, MaySettleAs}
+use Rattle.cb_world.specs.Settling.{HasContents, MayBring, MayFree, MayPutAway, MaySettleAs}
 use Rattle.cb_world.specs.Shown.{Covers, Fits, IsHeld, Spares, never, object_at, version_at}
 use Rattle.cb_world.specs.Sound.{Sound}
 use Rattle.cb_world.specs.StillDesk.{here_is, plain_follows, put_window}

@@ -3,7 +3,6 @@ ghost use Rattle.cb_gf256.specs.Rows.{row_at, HaveLength};
 ghost use Rattle.cb_set.specs.Lost.{lost};
 ghost use Rattle.cb_world.specs.SetWord.{IsShaped, IsWordOf};
 ghost use Rattle.cb_set.specs.SetState.{parities};
-ghost use Rattle.cb_set.specs.Surviving.{surviving};
 ghost use Rattle.cb_world.specs.Fetched.{StandAt, with_rows_given};
 
 use cb_erase::solve;

@@ -1,4 +1,4 @@
-ghost use Rattle.std.specs.Prelude.{◌≡◌, ℕ, ◌<◌, List, true, false};
+ghost use Rattle.std.specs.Prelude.{◌≡◌, ◌<◌, List, true, false};
 ghost use Rattle.cb_world.specs.declared.event.Event.{Event};
 ghost use Rattle.cb_world.specs.declared.shown.Shown.{Shown};
 ghost use Rattle.cb_world.specs.Grasped.{Grasps, IsFree};

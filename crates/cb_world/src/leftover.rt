@@ -1,5 +1,5 @@
-ghost use Rattle.std.specs.Prelude.{◌≡◌, ℕ, ◌<◌, Some, length, if◌then◌else◌};
-ghost use Rattle.cb_set.specs.SetState.{SetState, dead_position, is_live, position_of, with_position};
+ghost use Rattle.std.specs.Prelude.{◌≡◌, ◌<◌, Some, length, if◌then◌else◌};
+ghost use Rattle.cb_set.specs.SetState.{SetState, dead_position, is_live, with_position};
 ghost use Rattle.cb_set.specs.Lost.{NodesAreMembers};
 ghost use Rattle.cb_world.specs.Sets.{set_in};
 ghost use Rattle.cb_world.specs.SetWord.{is_broken};

@@ -1,6 +1,6 @@
 //! A far array and a far map on one pass, and what an array tells where another pass writes or frees
 //! an object of it.
-ghost use Rattle.std.specs.Prelude.{◌≡◌, ◌<◌, []};
+ghost use Rattle.std.specs.Prelude.{◌<◌, []};
 ghost use Rattle.cb_rule.specs.Steps.{Knows};
 ghost use Rattle.cb_shared.specs.Passes.{IsPassOf, record_of};
 ghost use Rattle.cb_farmap.specs.Arrays.{IsArrayOf};

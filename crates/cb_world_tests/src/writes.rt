@@ -1,4 +1,4 @@
-ghost use Rattle.std.specs.Prelude.{◌≡◌, ◌<◌, IfOk};
+ghost use Rattle.std.specs.Prelude.{◌<◌, IfOk};
 ghost use Rattle.std.specs.List.{AllByRecursion};
 ghost use Rattle.cb_core.specs.Events.{IsEvent};
 ghost use Rattle.cb_world_tests.specs.Worlds.{IsSmallWorld, small};

@@ -1,4 +1,4 @@
-use Rattle.std.proofs.Common.{◌≡◌, ◌<◌, [], length, ap, ◌∙◌, rules, arith}
+use Rattle.std.proofs.Common.{◌<◌, [], length, ap, ◌∙◌, rules}
 use Rattle.cb_gf256.proofs.PublicLaws.{written_count, written_lengths}
 use Rattle.cb_low_tests.proofs.codes.present_rows.Goals as goal
 

@@ -1,24 +1,18 @@
-use Rattle.std.proofs.Common.{◌≡◌, ℕ, ◌*◌, ◌<◌, ◌≤◌, List, [], ◌∷◌, ◌++◌, IfOk, length, refl, sym, ap, subst}
-use Rattle.cb_types.specs.Config.{IsAccepted}
+use Rattle.std.proofs.Common.{ℕ, ◌*◌, ◌<◌, List, [], ◌∷◌, ◌++◌, refl, sym, subst}
 use Rattle.cb_types.specs.declared.config.Config.{Config}
-use Rattle.cb_types.specs.declared.reply.Reply.{Reply}
-use Rattle.cb_types.specs.declared.reply.Reply.TheVariants as answer
 use Rattle.cb_ptr.specs.declared.word.State.{State}
 use Rattle.cb_ptr.specs.Word.{state_of, len_of, place_of}
 use Rattle.cb_world.specs.declared.event.Event.{Event}
 use Rattle.cb_world.specs.declared.event.Event.TheVariants.{Looked}
-use Rattle.cb_world.specs.declared.object.Object.TheVariants as is
 use Rattle.cb_world.specs.declared.shown.Shown.{Shown}
-use Rattle.cb_world.specs.Shown.{object_at}
 use Rattle.cb_world.specs.Played.{played}
 use Rattle.cb_world.specs.Performs.{Performs}
 use Rattle.cb_world.specs.Sound.{Sound}
-use Rattle.cb_world.specs.Still.{IsStill}
 use Rattle.cb_world.specs.Grasped.{Grasps}
 use Rattle.cb_world.proofs.Laws.{claim_after, after_claim, claim_found, claim_taken, claim_first, claim_all_allowed, look_after, look_found, look_first, look_allowed, look_sound, look_still, claim_touches, claim_settles_last, look_touches, look_settles_last}
 use Rattle.cb_mutate.specs.Answered.{AnsweredAs}
 use Rattle.cb_mutate.specs.Reaches.{grasp_of, room_of, HasReadRoom}
-use Rattle.cb_mutate.specs.ReadRule.{ReadHere, ReadRule, ReadEffect, IsSeenHere}
+use Rattle.cb_mutate.specs.ReadRule.{ReadHere, ReadRule, ReadEffect}
 use Rattle.cb_mutate.specs.ReadEnds.{ReadEnds, LiesInMemory}
 use Rattle.cb_mutate.specs.declared.reaching.Reached.{Reached}
 use Rattle.cb_mutate.proofs.FarFreed.{found_far}

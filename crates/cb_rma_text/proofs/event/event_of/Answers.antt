@@ -1,5 +1,4 @@
-use Rattle.std.proofs.Common.{◌≡◌, List, ℕ, length, ap, ◌∙◌, arith}
-use Rattle.cb_script.specs.Cut.{texts}
+use Rattle.std.proofs.Common.{◌≡◌, length, ap, ◌∙◌, arith}
 use Rattle.cb_script.specs.Spelling.{words_of}
 use Rattle.cb_rma_text.specs.Spelling.{step_words}
 use Rattle.cb_rma_text.proofs.Events.{few_words, read_of_words, step_splits}

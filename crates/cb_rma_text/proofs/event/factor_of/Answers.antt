@@ -1,4 +1,4 @@
-use Rattle.std.proofs.Common.{◌≡◌, arith}
+use Rattle.std.proofs.Common.{arith}
 use Rattle.cb_rma_text.proofs.Rows.{one_byte, one_byte_lower, one_byte_text}
 use Rattle.cb_rma_text.proofs.event.factor_of.Goals as goal
 

@@ -1,4 +1,4 @@
-use Rattle.std.proofs.Common.{◌≡◌, List, ℕ, length, ap, ◌∙◌, arith}
+use Rattle.std.proofs.Common.{◌≡◌, length, ap, ◌∙◌, arith}
 use Rattle.cb_script.specs.Spelling.{words_of}
 use Rattle.cb_rma_text.specs.Spelling.{window_words}
 use Rattle.cb_rma_text.proofs.Windows.{window_of_words, window_splits}

@@ -1,4 +1,4 @@
-use Rattle.std.proofs.Common.{◌≡◌, ◌∙◌, ap, rules}
+use Rattle.std.proofs.Common.{◌∙◌, ap, rules}
 use Rattle.std.proofs.lemmas.List.{take_all}
 use Rattle.cb_rma_text.specs.Texts.{said_text}
 use Rattle.cb_rma_text.proofs.said.saids_text.Goals as goal

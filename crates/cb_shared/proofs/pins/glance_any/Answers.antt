@@ -1,4 +1,4 @@
-use Rattle.std.proofs.Common.{◌∙◌, refl, sym, arith}
+use Rattle.std.proofs.Common.{refl, arith}
 use Rattle.cb_shared.proofs.PinsAlone.{glances_any_at}
 use Rattle.cb_shared.proofs.pins.glance_any.Goals as goal
 
