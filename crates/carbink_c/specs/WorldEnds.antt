@@ -72,8 +72,8 @@ abbrev pub IsAsked : Verb → CarbinkEvent → Type 0
 IsAsked verb a = (a.verb ≡ verb_number verb) × (a.seat < 64)
 
 -- An event with these numbers and bytes: a verb that there is none of, a seat that there is none of,
--- an argument that the verb does not take and a room of fewer bytes than an object may have are told, the first of
--- them, and nothing changes. Else the event may come.
+-- an argument that the verb does not take and a room of fewer bytes than an object may have are told,
+-- the first of them, and nothing changes. Else the event may come.
 abbrev pub EventEnds : CarbinkEvent → List ℕ → WorldState → WorldState → Place → Place → Outcome
     → Type 0
 EventEnds a bytes w v old new BadVerb =

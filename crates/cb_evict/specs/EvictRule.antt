@@ -36,9 +36,9 @@ AreInRows es far frames rows = (p f slot h : ℕ) (span : Contents) → slice_ge
     → span_in far.spans f ≡ Some span → handle_at span slot ≡ Some h
     → IsInRow es span (row_at rows p) slot h
 
--- The spans in these frames left local memory as a new set of the code in force: a code word whose rows have the words
--- of their objects stands at the nodes of the set's shards, the objects' homes are in the set, and
--- the frames are free. Nothing else of the far state changed.
+-- The spans in these frames left local memory as a new set of the code in force: a code word whose
+-- rows have the words of their objects stands at the nodes of the set's shards, the objects' homes
+-- are in the set, and the frames are free. Nothing else of the far state changed.
 pub record HasEvicted (far new : FarState) (frames : List ℕ) (es : List Event)
     : Type 0 where
   pub shards : List Shard
