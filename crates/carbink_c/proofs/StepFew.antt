@@ -11,7 +11,6 @@ use Rattle.cb_ptr.specs.declared.word.State.TheVariants as state
 use Rattle.cb_ptr.specs.Word.{len_of, pins_of, place_of, state_of}
 use Rattle.cb_ptr.proofs.Laws.{here_bits}
 use Rattle.cb_set.specs.Lost.{loss_of, lost}
-use Rattle.cb_types.specs.declared.config.Field.TheVariants.{K, R}
 use Rattle.cb_types.specs.declared.handle.SetId.{SetId}
 use Rattle.cb_types.specs.declared.job.Job.{Job}
 use Rattle.cb_types.specs.declared.job.Job.TheVariants as job
@@ -256,16 +255,19 @@ here_short v sound h e = elim (cases_lt h (length v.desk.words)) [
 
 batch_few : (w : WorldState) → IsSoundWorld w → (l : LeavingState) → w.far.leaving ≡ Some l → length l.shards ≤ 20
 batch_few w sound l there =
-    let code = sound.configured.codes.batch l there in
-    omega (arith, (sound.known.sound.away.sound.batch l there).count, code.0, code.1, (sound.config K).1, (sound.config R).1)
+    let range = (sound.configured.codes.batch l there).range in
+    omega (arith, (sound.known.sound.away.sound.batch l there).count, range.data_most, range.parities_most)
 
 pair_short : (w : WorldState) → IsSoundWorld w → (p : JoiningState) → w.far.joining ≡ Some p → length p.steps ≤ 20
-pair_short w sound p there = omega (arith, (sound.configured.codes.pair p there).steps, (sound.config K).1, (sound.config R).1)
+pair_short w sound p there =
+    let pair = sound.configured.codes.pair p there in
+    omega (arith, pair.2.steps, pair.1.range.data_most, pair.1.range.parities_most)
 
 lost_few : (w : WorldState) → IsSoundWorld w → (h : ℕ) (id : SetId) (losses : List Loss) → IsInLost w.far h id losses → length losses ≤ 20
 lost_few w sound h id losses l =
-    let code = sound.configured.codes.sets l.home.set l.set l.there in
-    omega (arith, ap length l.all, filter_map_few (loss_of w.far.members) l.set.shards, code.0, code.1, (sound.config K).1, (sound.config R).1)
+    let range = (sound.configured.codes.sets l.home.set l.set l.there).range in
+    omega (arith, ap length l.all, filter_map_few (loss_of w.far.members) l.set.shards,
+    range.data_most, range.parities_most)
 
 turn_few : (j : Job) (w v : WorldState) (r : Reply) → IsSoundWorld w → IsSoundWorld v → TurnStep j w r v → HasFew r
 turn_few j w v r before after (TurnStep.worn all e is) = same e tt

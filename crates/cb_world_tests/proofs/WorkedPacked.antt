@@ -196,7 +196,7 @@ sound_with w v memory free span order s none calm known unordered = record {
     nodes = refl;
     room = refl;
     codes = (let c = (empty_world_sound one accepted).configured.codes in
-        record { sets = c.sets; batch = c.batch; pair = c.pair; own = c.own });
+        record { force = c.force; sets = c.sets; batch = c.batch; pair = c.pair; own = c.own });
   };
   shown = s;
   known = known;
