@@ -277,7 +277,7 @@ unfolding words_of bytes_of
 first_slot = refl
 
 is_span : IsSpan span
-unfolding slots_of bytes_of
+unfolding slots_of pages_of bytes_of
 is_span = record { in_table = lit< tt; sized = refl }
 
 known_of : (memory : List ℕ) → AreKnown (here memory) far
