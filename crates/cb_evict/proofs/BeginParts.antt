@@ -161,7 +161,7 @@ pub takes_begin : {runsA runsB runsC : List Event → Type 0} {showsA showsB : S
     → (s : Shown) × showsA s × Sound s far
     → Performs runsC (λ s. showsA s × Sound s far) (BeginRule far new r) (λ t. Sound t new)
     (BeginEffect far new r)
-takes_begin {c = c} {far = far} {new = new} r j x y none is (s, knows, sound) =
+takes_begin {far = far} {new = new} r j x y none is (s, knows, sound) =
     let all = all_tried j x y in
     tried_end j x y (BeginRule far new r) (BeginEffect far new r)
     (inr (record {

@@ -490,7 +490,7 @@ pub takes_evict : {runsA runsB runsC : List Event → Type 0} {showsA showsB : S
     → e ≡ eviction.Set (record { n = far.counts.sets }) → (s : Shown) × showsA s × Sound s far
     → Performs runsC (λ s. showsA s × Sound s far) (CountsRule far new e) (λ t. Sound t new)
     (EvictEffect far new (reply_of e))
-takes_evict {c = c} {far = far} {new = new} e j x y is (s, knows, sound) =
+takes_evict {far = far} {new = new} e j x y is (s, knows, sound) =
     let all = all_tried j x y in let id : SetId = record { n = far.counts.sets } in
     tried_end j x y (CountsRule far new e) (EvictEffect far new (reply_of e))
     (set_counted far new id e all.events is (record {

@@ -37,6 +37,11 @@ find_loose-requires-clause-unique g c =
     (sym c.far.view_is)
     (are_unique c.args.far.now c.requires.sound.0 _ c.requires.sound.2.here sized.0)
 
+pub candidates-requires : goal.candidates-requires
+candidates-requires g c = record {
+  count = let n = c.requires.config Frames in omega (arith, n.1, c.requires.configured.frames);
+}
+
 pub find_loose-requires-clause-apart : goal.find_loose-requires-clause-apart
 find_loose-requires-clause-apart g c =
     subst (λ (l : List ℕ). AllPairs (λ f h. f ≢ h) l)
