@@ -2,6 +2,7 @@ pub mod Counting
 pub mod PartsFar
 pub mod Composing
 pub mod Exits
+mod Winning
 pub mod NoFrames
 pub mod DeclinedLooks
 pub mod Changes

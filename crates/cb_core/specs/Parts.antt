@@ -35,6 +35,12 @@ pub data WithRoom {D : Type 0} (frames : ℕ) (operation : Holding D → Reply �
       → WithRoom frames operation eviction fewer n r b
       → WithRoom frames operation eviction (suc fewer) a r b
 
+-- The answer, by an eviction, to an operation for which room is won: that there is no room, where the
+-- eviction was refused; and none yet, where spans left as a set.
+abbrev pub refusal_by : ℕ → Eviction → Option Reply
+refusal_by frames (Set id) = None
+refusal_by frames (Refused why loose nodes) = Some (answer.NoRoom frames loose nodes)
+
 -- A call on an object wherever it is. One that is far is first looked at, which may decline the
 -- call; then it is brought in, and the call is made once more. Where it can't be brought in the
 -- call is answered as its bringing in was.

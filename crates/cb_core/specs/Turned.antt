@@ -46,7 +46,7 @@ use Rattle.cb_core.specs.Declining.{write_refusal}
 use Rattle.cb_core.specs.FarJobs.{FarLacks, FarStep}
 use Rattle.cb_core.specs.JobParts.{JobParts, PartLacks, DoesBy, StopsBy}
 use Rattle.cb_core.specs.OnceHere.{OnceHere, OnceHereStops}
-use Rattle.cb_core.specs.Parts.{Holding, WithRoom, most_evictions, BringsIn, RoomStops}
+use Rattle.cb_core.specs.Parts.{Holding, WithRoom, most_evictions, refusal_by, BringsIn, RoomStops}
 
 -- the far state with one turn more of the job's kind
 abbrev pub counted : FarState → Job → FarState
@@ -114,6 +114,12 @@ abbrev pub WinsRoom : {D : Type 0} → (D → List Event → D → Type 0) → (
     → Holding D → Eviction → Holding D → Type 0
 WinsRoom run shows c a e b = Performs (λ es. run a.desk es b.desk) (λ s. shows a.desk s × Sound s a.far)
     (CountsRule a.far b.far e) (λ t. Sound t b.far) (EvictEffect a.far b.far (reply_of e))
+
+-- and the answer to whom room is won for: that there is no room, or none yet
+abbrev pub TriesRoom : {D : Type 0} → (D → List Event → D → Type 0) → (D → Shown → Type 0) → Config
+    → Holding D → Option Reply → Holding D → Type 0
+TriesRoom run shows c a refusal b =
+    (room : Eviction) × WinsRoom run shows c a room b × (refusal ≡ refusal_by c.frames room)
 
 -- an eviction in steps: some spans begin to leave, their rows are put one by one, and the batch is
 -- committed or given up
