@@ -239,7 +239,7 @@ module _ (first : ℕ) (c : Config) (ok : IsAccepted c) (v : View) (count : ℕ)
       → t.reply ≡ Some (answer.Unavailable id losses)
       → (c.r < length losses) × AreOfOtherNodes losses × AllByRecursion (IsLoss v.turns) losses
   lost_told t id losses there is =
-      let tells = subst (TellsIf c t.took) is (goes t there).tells in (
+      let tells = subst (TellsIf c t.took t.gave) is (goes t there).tells in (
         tells.many,
         subst AreOfOtherNodes (sym tells.all)
             (lost_apart t.took.members tells.shards (apart_rec tells.shards tells.apart)),
@@ -250,5 +250,5 @@ module _ (first : ℕ) (c : Config) (ok : IsAccepted c) (v : View) (count : ℕ)
   -- and one that was answered NoRoom
   pub room_told : (t : Turn) (frames loose nodes : ℕ) → Has t v.turns
       → t.reply ≡ Some (answer.NoRoom frames loose nodes)
-      → IsShortOfRoom c (room_count t.took.nodes t.took.members) frames loose nodes
-  room_told t frames loose nodes there is = subst (TellsIf c t.took) is (goes t there).tells
+      → IsShortOfRoom c (room_count t.gave.nodes t.gave.members) frames loose nodes
+  room_told t frames loose nodes there is = subst (TellsIf c t.took t.gave) is (goes t there).tells

@@ -33,15 +33,15 @@ use Rattle.cb_app.proofs.TurnStops.{stops_same}
 
 -- ---- one turn
 -- what its reply tells, where it has one
-abbrev pub TellsIf : Config → FarState → Option Reply → Type 0
-TellsIf c far None = Unit {0}
-TellsIf c far (Some r) = TellsWant c far r
+abbrev pub TellsIf : Config → FarState → FarState → Option Reply → Type 0
+TellsIf c far new None = Unit {0}
+TellsIf c far new (Some r) = TellsWant c far new r
 
--- it leaves the members and the pair so, and tells so of the far state that it found
+-- it leaves the members and the pair so, and tells so of the far states that it found and left
 pub record TurnGoes (c : Config) (t : Turn) : Type 0 where
   pub goes : MembersGoOn t.job t.took.members t.gave.members t.reply
   pub pair : PairGoes t.took t.gave
-  pub tells : TellsIf c t.took t.reply
+  pub tells : TellsIf c t.took t.gave t.reply
 
 read_plain : (r : Reply) → IsReadReply r → TellsNoLack r
 read_plain (answer.Unavailable id l) x = absurd x
@@ -59,7 +59,7 @@ lacks_same h a b x = ap (λ (z : Holding Slate). z.far) x
 
 did_goes : (c : Config) → IsAccepted c → (j : Job) (reply : Option Reply) (start : Shown)
     (es : List Event) (took gave : FarState) → IsFine c took → DidAs c j reply start es took gave
-    → MembersGoOn j took.members gave.members reply × PairGoes took gave × TellsIf c took reply
+    → MembersGoOn j took.members gave.members reply × PairGoes took gave × TellsIf c took gave reply
 did_goes c ok j (Some r) start es took gave is did =
     let z = turned_goes slate_run slate_shows ReadsByPin pins_plain c ok j (held_by start [] took)
     (held_by (played es start) es gave) r is did in

@@ -1,6 +1,6 @@
 -- The lemmas of this crate that other crates cite.
 pub use Rattle.cb_core.proofs.Admitted.{compact_made, compact_sound, compacted_sound}
-pub use Rattle.cb_core.proofs.Calm.{IsEased, MakesEasy, pin_calm, turn_calm}
+pub use Rattle.cb_core.proofs.Calm.{IsEased, KeepsEasy, MakesEasy, pin_calm, turn_calm}
 pub use Rattle.cb_core.proofs.Changes.{read_leaves}
 pub use Rattle.cb_core.proofs.CrashesKept.{NamesAmong, none_crashed, turn_crashed, turn_idle}
 pub use Rattle.cb_core.proofs.Epochs.{lead_rises, pin_far, step_rises, unpin_far}
@@ -10,6 +10,7 @@ pub use Rattle.cb_core.proofs.PartsCodes.{turn_codes}
 pub use Rattle.cb_core.proofs.NowIn.{are_gone}
 pub use Rattle.cb_core.proofs.PinnedStays.{step_pinned, touched, unmoved_same}
 pub use Rattle.cb_core.proofs.PinsKept.{pin_step_sound, unpin_step_sound}
+pub use Rattle.cb_core.proofs.RoomEnds.{RoomEnds, operated, room_ends, room_reply, was_refused}
 pub use Rattle.cb_core.proofs.RoomyNodes.{enough_beside, enough_roomy}
 pub use Rattle.cb_core.proofs.RowsHeld.{IsIdle, JoinsApart}
 pub use Rattle.cb_core.proofs.RunEvents.{kept_beside, lost_beside}

@@ -8,6 +8,7 @@ pub mod DeclinedLooks
 pub mod Changes
 pub mod KeptPins
 pub mod Carried
+mod RoomEnds
 pub mod KeptParts
 pub mod FewLost
 pub mod RowsHeld
