@@ -32,7 +32,7 @@ use Rattle.cb_rule.specs.OneHistory.{IsOneHistory}
 use Rattle.cb_shared.specs.Turning.{Did}
 use Rattle.cb_app.specs.Telling.{AreOfOtherNodes}
 use Rattle.cb_app.proofs.TurnGoes.{IsShortOfRoom, MembersGoOn}
-use Rattle.cb_app.proofs.TurnHistory.{TellsIf, TurnGoes, at_turn, each_goes}
+use Rattle.cb_app.proofs.TurnHistory.{TellsIf, TurnGoes, at_gave, at_turn, each_goes}
 
 -- ---- the members, where one node has a new state
 -- a node is that one, or has the state that it had
@@ -233,6 +233,10 @@ module _ (first : ℕ) (c : Config) (ok : IsAccepted c) (v : View) (count : ℕ)
 
   pub found_crashes : (t : Turn) → Has t v.turns → AreCrashes v.turns t.took.members
   found_crashes t there = at_turn first c v count last one KnowsCrashes start step t there
+
+  pub given_crashes : (t : Turn) → Has t v.turns → AreCrashes v.turns t.gave.members
+  given_crashes t there = at_gave first c v count last one KnowsCrashes start step
+      (λ far. AreCrashes v.turns far.members) (λ n far are. are) t there
 
   -- what a turn that was answered Unavailable tells
   pub lost_told : (t : Turn) (id : SetId) (losses : List Loss) → Has t v.turns
