@@ -4,15 +4,17 @@ use Rattle.cb_types.specs.declared.config.Config.{Config}
 use Rattle.cb_types.specs.declared.job.Job.TheVariants as job
 use Rattle.cb_types.specs.declared.reply.Reply.{Reply}
 use Rattle.cb_types.specs.Config.{IsAccepted}
+use Rattle.cb_world.specs.Plain.{Words}
 use Rattle.cb_world.specs.Seats.{SeatState}
 use Rattle.cb_world.specs.World.{WorldState, IsSoundWorld}
 use Rattle.cb_world.proofs.Laws.{StaysIf}
+use Rattle.cb_evict.specs.declared.eviction.Eviction.{Eviction}
 use Rattle.cb_evict.specs.Eviction.{reply_of}
 use Rattle.cb_evict.specs.EvictStep.{IsCountedStep}
 use Rattle.cb_evict.proofs.Laws.{evict_keeps, evict_step_stays}
 use Rattle.cb_swapin.specs.SwapStep.{IsSwapStep}
 use Rattle.cb_swapin.proofs.Laws.{swap_keeps, swap_step_stays}
-use Rattle.cb_core.specs.Parts.{BringsIn, most_evictions}
+use Rattle.cb_core.specs.Parts.{BringsIn, Holding, most_evictions}
 use Rattle.cb_core.specs.Step.{StillRoom, StillSwap, StillBring, StillFind, TurnStep, worn, done}
 use Rattle.cb_core.specs.Turned.{once_counted}
 use Rattle.cb_core.proofs.Carried.{bring_rise, brings_in, come_rise, itself, turn_rise, with_room}
@@ -46,6 +48,11 @@ module _ (c : Config) (seats : List SeatState) (accepted : IsAccepted c) where
       (λ a b r good x. with_room itself (IsGood c seats) (Arrives c seats) (good_along c seats)
       a.desk.settings.frames 16 24 (StillSwap h) (StillSwap h) StillRoom StillRoom (one_arrives h)
       room_arrives most_evictions bring_rise (omega arith) a b r good x)
+
+-- What is known of a holding between two parts is known behind an eviction.
+pub room_good : (c : Config) (seats : List SeatState) → IsAccepted c → (a b : Holding Words)
+    (e : Eviction) → IsGood c seats a → StillRoom a e b → IsGood c seats b
+room_good c seats accepted a b e good still = (room_arrives c seats accepted a b e good still).good
 
 -- The world is sound after a swap.
 pub swap_sound : (w new : WorldState) (h : ℕ) (r : Reply) → IsSoundWorld w
