@@ -1,5 +1,5 @@
 -- The parts of a turn one after another, over any desk.
-use Rattle.std.proofs.Common.{◌≡◌, ℕ, ◌≤◌, List, [], length, Option, None, Some, Result, Ok, Err, sym, refl, ap, ◌∙◌, subst}
+use Rattle.std.proofs.Common.{◌≡◌, ℕ, ◌≤◌, List, [], length, Option, None, Some, Result, Ok, Err, sym, subst}
 use Rattle.std.specs.Prelude.{IfOk, OnErr}
 use Rattle.cb_member.specs.declared.no_memory.NoMemory.{NoMemory}
 use Rattle.cb_set.specs.SetState.{SetState}
@@ -16,13 +16,11 @@ use Rattle.cb_world.specs.Played.{played}
 use Rattle.cb_world.specs.Sets.{set_in}
 use Rattle.cb_world.specs.Sound.{Sound}
 use Rattle.cb_swapin.specs.Fetching.{far_given}
-use Rattle.cb_swapin.specs.SwapEffect.{SwapEffect}
-use Rattle.cb_swapin.specs.SwapRule.{SwapRule}
 use Rattle.cb_core.specs.Parts.{Holding, WhereItIs, BringsIn, CallStops}
 use Rattle.cb_core.specs.Parts.BringsIn.{was_far}
 use Rattle.cb_core.specs.Parts.CallStops.{far as far_lacks, after as come_lacks}
 use Rattle.cb_core.specs.Parts.WhereItIs.{declined, stays_far, brought}
-use Rattle.cb_core.specs.Turned.{Brings, BringLacks, FindsWhere, IsGiven, Makes, Operates, SwapLacks}
+use Rattle.cb_core.specs.Turned.{Brings, BringLacks, FindsWhere, IsGiven, Makes, SwapLacks}
 use Rattle.cb_core.proofs.PartsFar.{live_home}
 
 -- ---- what a part leaves known
@@ -66,18 +64,6 @@ pub any_err : (P : Type 0) (r : Result Reply NoMemory) → P → OnErr r P
 any_err P (Ok q) p = tt
 any_err P (Err e) p = p
 
--- by the result of the part
-pub shown_if : (runs : List Event → Type 0) (shows then_shows : Shown → Type 0) (far new : FarState)
-    (rules : Reply → List Event → Type 0) (does : Reply → List Event → Shown → Shown → Type 0)
-    (result : Result Reply NoMemory)
-    → IfOk result (λ r. Performs runs (λ s. shows s × Sound s far) (rules r) (λ t. Sound t new) (does r))
-    → ((es : List Event) (s : Shown) → runs es → shows s → then_shows (played es s))
-    → IsSoundShown shows far → IfOk result (λ r. IsSoundShown then_shows new)
-shown_if runs shows then_shows far new rules does result x follows k =
-    if_map (λ r. IsSoundShown then_shows new)
-    (λ r. Performs runs (λ s. shows s × Sound s far) (rules r) (λ t. Sound t new) (does r)) result x
-    (λ r p. shown_after runs shows then_shows far new (rules r) (does r) p follows k)
-
 -- ---- the reply that it was
 pub makes_as : {D : Type 0} (run : D → List Event → D → Type 0) (shows : D → Shown → Type 0)
     (c d : Config) (bytes : List ℕ) (a b : Holding D) (q r : Reply) → d ≡ c → q ≡ r
@@ -87,17 +73,6 @@ makes_as run shows c d bytes a b q r same is x =
     (subst (λ (p : Reply). Makes run shows d bytes a p b) is x)
 
 -- ---- a swap-in
--- a swap-in of a position
-abbrev pub SwapsAt : {D : Type 0} → (D → List Event → D → Type 0) → (D → Shown → Type 0) → ℕ → ℕ
-    → Holding D → Reply → Holding D → Type 0
-SwapsAt run shows id p = Operates run shows (λ far new q. SwapRule id p far new q)
-    (λ far new q. SwapEffect id p far new q)
-
-pub swaps_as : {D : Type 0} (run : D → List Event → D → Type 0) (shows : D → Shown → Type 0)
-    (id p : ℕ) (a b : Holding D) (q r : Reply) → q ≡ r → SwapsAt run shows id p a q b
-    → SwapsAt run shows id p a r b
-swaps_as run shows id p a b q r is x = subst (λ (e : Reply). SwapsAt run shows id p a e b) is x
-
 -- rows of its set were given out: the set of a home is there
 is_given : (s : Shown) (far new : FarState) (h : ℕ) (home : Home) → Sound s far
     → home_at far.homes h ≡ Some home

@@ -1,31 +1,19 @@
 -- What is known at an exit of a turn's parts: the configuration and the far state, and which case of
 -- the whole it is.
-use Rattle.std.proofs.Common.{◌≡◌, ℕ, List, [], length, Option, Result, Ok, Err, sym, ap, subst}
-use Rattle.std.specs.Prelude.{IfOk, OnErr}
+use Rattle.std.proofs.Common.{◌≡◌, ℕ, List, [], length, Option, Result, sym, subst}
+use Rattle.std.specs.Prelude.{OnErr}
 use Rattle.cb_member.specs.declared.no_memory.NoMemory.{NoMemory}
 use Rattle.cb_types.specs.declared.config.Config.{Config}
 use Rattle.cb_types.specs.declared.reply.Reply.{Reply}
 use Rattle.cb_types.specs.declared.reply.Reply.TheVariants as answer
 use Rattle.cb_world.specs.declared.event.Event.{Event}
-use Rattle.cb_world.specs.declared.shown.Shown.{Shown}
 use Rattle.cb_world.specs.FarState.{FarState}
-use Rattle.cb_world.specs.Performs.{Performs}
 use Rattle.cb_world.specs.World.{IsConfigured}
 use Rattle.cb_mutate.specs.MakeRule.{NeedsNewSpan}
 use Rattle.cb_core.specs.Parts.{Holding, WhereItIs}
 use Rattle.cb_core.specs.Parts.WhereItIs.{near}
 use Rattle.cb_core.specs.Turned.{MakeLacks}
 use Rattle.cb_core.proofs.Composing.{err_map}
-
--- the configuration after a part, whether it was answered or left the desk as it was
-pub settings_kept : {D : Type 0} (run : D → List Event → D → Type 0) (settings : D → Config) (a b : D)
-    (knows : Shown → Type 0) (rules : Reply → List Event → Type 0) (sound : Shown → Type 0)
-    (does : Reply → List Event → Shown → Shown → Type 0) (result : Result Reply NoMemory)
-    → ((x y : D) (es : List Event) → run x es y → settings y ≡ settings x)
-    → IfOk result (λ r. Performs (λ es. run a es b) knows (rules r) sound (does r))
-    → OnErr result (b ≡ a) → settings b ≡ settings a
-settings_kept run settings a b knows rules sound does (Ok r) stays p e = stays a b p.events p.ran
-settings_kept run settings a b knows rules sound does (Err x) stays p e = ap settings e
 
 -- a far state that stayed is configured as before
 pub configured_as : (c d : Config) (far new : FarState) → d ≡ c → new ≡ far → IsConfigured c far

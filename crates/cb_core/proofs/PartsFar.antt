@@ -15,7 +15,6 @@ use Rattle.cb_set.specs.SetState.{SetState, live_at, position_of}
 use Rattle.cb_span.specs.Contents.{Contents}
 use Rattle.cb_span.specs.Places.{slot_place}
 use Rattle.cb_types.specs.declared.config.Config.{Config}
-use Rattle.cb_types.specs.declared.config.Field.TheVariants.{K}
 use Rattle.cb_types.specs.Config.{IsAccepted}
 use Rattle.cb_types.specs.declared.handle.SetId.{SetId}
 use Rattle.cb_types.specs.declared.reply.Reply.{Reply}

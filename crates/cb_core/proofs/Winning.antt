@@ -1,5 +1,5 @@
 -- Room is won by evictions one after another, over any desk: what stands in the loop that makes them.
-use Rattle.std.proofs.Common.{◌≡◌, ℕ, zero, suc, ◌+◌, ◌*◌, ◌^◌, ◌<◌, ◌≤◌, List, [], length, Option, None, Some, Result, Ok, Err, is_some, refl, sym, ap, ◌∙◌, subst, arith}
+use Rattle.std.proofs.Common.{◌≡◌, ℕ, zero, suc, ◌+◌, ◌*◌, ◌^◌, ◌<◌, ◌≤◌, List, Option, None, Some, Result, Ok, Err, is_some, refl, sym, ◌∙◌, subst, arith}
 use Rattle.std.specs.Prelude.{OnErr}
 use Rattle.std.proofs.lemmas.List.Sums.{count_by-le-length}
 use Rattle.cb_member.specs.declared.no_memory.NoMemory.{NoMemory}
@@ -18,8 +18,7 @@ use Rattle.cb_world.specs.Played.{played}
 use Rattle.cb_world.specs.World.{IsConfigured}
 use Rattle.cb_evict.specs.declared.eviction.Eviction.{Eviction}
 use Rattle.cb_evict.specs.declared.eviction.Eviction.TheVariants.{Refused, Set}
-use Rattle.cb_evict.specs.declared.eviction.Lack.{Lack}
-use Rattle.cb_core.specs.Parts.{Holding, WithRoom, at_once, no_room, won, most_evictions, refusal_by, RoomStops, evicting, after}
+use Rattle.cb_core.specs.Parts.{Holding, WithRoom, no_room, won, most_evictions, refusal_by, RoomStops, evicting, after}
 use Rattle.cb_core.specs.Turned.{EvictLacks, TriesRoom, WinsRoom}
 use Rattle.cb_core.proofs.Composing.{IsSoundShown, shown_after}
 use Rattle.cb_core.proofs.PartsFar.{HasWon, has_won, span_count}
