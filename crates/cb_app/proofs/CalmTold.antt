@@ -166,7 +166,8 @@ module _ (first : ℕ) (s : Script) (ok : IsAccepted s.config) (v : View) (count
   -- what a turn gave is sound
   stands : (t : Turn) → Has t v.turns → StandsSound c t.gave
   stands t there = each_gave first c v count last one (StandsSound c)
-      (λ u is. let k = one.sound u (v, (0, refl), is) in (u.start, k.sound, k.configured)) end t there
+      (λ u is. let k = one.sound u (v, (0, refl), is) in (u.start, k.sound, k.configured)) end t
+      there
 
   enough : (t : Turn) → Has t v.turns → c.k + c.r ≤ room_count t.gave.nodes t.gave.members
   enough t there =

@@ -164,7 +164,8 @@ module _ {D : Type 0} (run : D → List Event → D → Type 0) (shows : D → S
   once h a b r (here m place come there call) = read h m b r call
 
   makes : (bytes : List ℕ) (a b : Hold) (r : Reply)
-      → WithRoom c.frames (Makes run shows c bytes) (WinsRoom run shows c) most_evictions a r b → Unworn r
+      → WithRoom c.frames (Makes run shows c bytes) (WinsRoom run shows c) most_evictions a r b
+      → Unworn r
   makes bytes a b r x = room_reply c.frames (Makes run shows c bytes) (WinsRoom run shows c) Unworn
       (λ n b r y never. make_rule c.handles bytes n.far b.far r y.events y.rule)
       (λ loose nodes. refl) most_evictions a b r x

@@ -81,8 +81,11 @@ is_run script end mode few are lines replies last seal closed backs suits rises 
     let worn = answers_worn c v end.world closed end.answers replies runs backs
     (few_answers script.lines end.answers few lines) in
     let sound = closed.sound in
-    let stands : StandsSound c far = (sound.shown, sound.known.sound,
-    subst (λ (d : Config). IsConfigured d far) closed.settings sound.configured) in
+    let stands : StandsSound c far = (
+      sound.shown,
+      sound.known.sound,
+      subst (λ (d : Config). IsConfigured d far) closed.settings sound.configured,
+    ) in
     let calm : IsRoomy script → far.counts.turns < 2 ^ 40
     → AllByRecursion (λ a. IsCalmTo a.request a.reply) end.answers =
     (λ roomy under. all_calm 1 script ok v far.counts.turns far closed.turns end.answers backs

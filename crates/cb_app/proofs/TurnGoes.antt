@@ -235,7 +235,8 @@ refused_same far new why loose nodes es x = elim x.answered [
   | inr (inr both) ↦ absurd (no_set why both.reply)
 ]
   where
-    no_set : (why : Lack) → reply_of (Refused why loose nodes) ≡ answer.Set (record { n = far.counts.sets })
+    no_set : (why : Lack) → reply_of (Refused why loose nodes) ≡ answer.Set
+        (record { n = far.counts.sets })
         → ⊥
     no_set lack.Spans e = cc
     no_set lack.Nodes e = cc

@@ -248,7 +248,8 @@ module _ {D : Type 0} (run : D → List Event → D → Type 0) (shows : D → S
     stops : (j : Job) (a b : Hold) → IsConfigured c a.far → Stops run shows lacks c j a b
         → K a.far b.far
     stops (job.Make bytes) a b is x =
-        room_stops (Makes run shows c bytes) (MakeLacks run c bytes) (make_none bytes) (make_lacks bytes)
+        room_stops (Makes run shows c bytes) (MakeLacks run c bytes) (make_none bytes)
+        (make_lacks bytes)
         most_evictions a b is x
     stops (job.Read handle) a b is (bringing_stops x) = come_lacks handle.n a b is x
     stops (job.Read handle) a b is (call_stops m place x there y) =

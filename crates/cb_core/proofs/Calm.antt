@@ -412,15 +412,17 @@ join_job : (node : _) (far new : FarState) (r : Reply) → JoinTurn node far r n
 join_job node far new r (joined down reply state) = calm_as r _ tt reply
 join_job node far new r (is_up up reply state) = calm_as r _ tt reply
 
-works_calm : (E : Holding Words → Type 0) → KeepsEasy E → (job : Job) (a b : Holding Words) (r : Reply)
+works_calm : (E : Holding Words → Type 0) → KeepsEasy E → (job : Job) (a b : Holding Words)
+    (r : Reply)
     (s : Shown) → IsKnown a.desk a.far s → E a → IsWholeJob job → StillWorks job a r b → IsEased r
-works_calm E keeps (Make bytes) a b r s known good whole step = make_calm E keeps bytes a.desk.settings.frames
-    most_evictions a b r good step
+works_calm E keeps (Make bytes) a b r s known good whole step =
+    make_calm E keeps bytes a.desk.settings.frames most_evictions a b r good step
 works_calm E keeps (Read handle) a b r s known good whole step =
     read_job E keeps handle.n a b r s known good step
 works_calm E keeps (Write handle at bytes) a b r s known good whole step =
     write_job E keeps handle.n at bytes a b r s known good step
-works_calm E keeps (Free handle) a b r s known good whole step = free_job handle.n a b r (keeps.easy a good) step
+works_calm E keeps (Free handle) a b r s known good whole step =
+    free_job handle.n a b r (keeps.easy a good) step
 works_calm E keeps (Swap handle) a b r s known good whole step =
     swap_job E keeps handle.n a b r s known good step
 works_calm E keeps (Filter handle) a b r s known good whole step =
@@ -440,7 +442,8 @@ works_calm E keeps (Crash node) a b r s known good whole step = crash_job node a
 works_calm E keeps (Join node) a b r s known good whole step = join_job node a.far b.far r step.1
 
 -- ---- a turn
-pub turn_calm : (E : Holding Words → Type 0) → KeepsEasy E → (w new : WorldState) (job : Job) (r : Reply)
+pub turn_calm : (E : Holding Words → Type 0) → KeepsEasy E
+    → (w new : WorldState) (job : Job) (r : Reply)
     → IsSoundWorld w → w.far.counts.turns < 2 ^ 40 → IsWholeJob job → E (held_at w job)
     → TurnStep job w r new → IsEased r
 turn_calm E keeps w new job r sound few whole good (worn end reply same) =

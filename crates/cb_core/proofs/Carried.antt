@@ -34,8 +34,8 @@ abbrev pub AlongLack : {D E : Type 0} → (Holding D → Holding E) → (Holding
 AlongLack {D = D} on G C n L M = (a b : Holding D) → G a → L a b → C n a b (M (on a) (on b))
 
 -- By how much the numbers may rise while an object is brought in: by its swap-in, and by each
--- eviction and the swap-in behind it, the last of which may be refused; where it is looked for first;
--- and in a turn.
+-- eviction and the swap-in behind it, the last of which may be refused; where it is looked for
+-- first; and in a turn.
 abbrev pub bring_rise : ℕ
 bring_rise = 16 + most_evictions * (24 + 16) + 24
 
@@ -87,7 +87,7 @@ module _ {D E : Type 0} (on : Holding D → Holding E) (G : Holding D → Type 0
   CarriesLack n L M = AlongLack on G C n L M
 
   -- ---- the parts one after another
-  -- an operation for which room is won, by so many evictions at the most; the last one may be refused
+  -- an operation for which room is won, by so many evictions; the last one may be refused
   pub with_room : (frames n m : ℕ) (P : Holding D → Reply → Holding D → Type 0)
       (Q : Holding E → Reply → Holding E → Type 0) (V : Holding D → Eviction → Holding D → Type 0)
       (F : Holding E → Eviction → Holding E → Type 0) → Carries n P Q → Carries m V F
@@ -105,7 +105,8 @@ module _ {D E : Type 0} (on : Holding D → Holding E) (G : Holding D → Type 0
       let z = p a mid answer.NoFrame good o in
       let there = laws.next n a mid _ good z in
       let y = e mid next (Set id) there v in
-      let x = with_room frames n m P Q V F p e fewer (n + fewer * (m + n) + m) (omega arith) next b r
+      let x = with_room frames n m P Q V F p e fewer (n + fewer * (m + n) + m) (omega arith) next b
+      r
       (laws.next m mid next _ there y) again in
       laws.both (n + m) (n + fewer * (m + n) + m) k a next b _ _ _ (omega (arith, most))
       (laws.both n m (n + m) a mid next _ _ _ (omega arith) z y (laws.is m mid next _ y)) x
@@ -131,7 +132,8 @@ module _ {D E : Type 0} (on : Holding D → Holding E) (G : Holding D → Type 0
       let z = p a mid answer.NoFrame good o in
       let there = laws.next n a mid _ good z in
       let y = e mid next (Set id) there v in
-      let x = room_stops n m P Q V F L I M J p l e i fewer (n + fewer * (m + n) + m) (omega arith) next b
+      let x = room_stops n m P Q V F L I M J p l e i fewer (n + fewer * (m + n) + m) (omega arith)
+      next b
       (laws.next m mid next _ there y) w in
       laws.both (n + m) (n + fewer * (m + n) + m) k a next b _ _ _ (omega (arith, most))
       (laws.both n m (n + m) a mid next _ _ _ (omega arith) z y (laws.is m mid next _ y)) x
@@ -258,10 +260,12 @@ module _ {D E : Type 0} (on : Holding D → Holding E) (G : Holding D → Type 0
         → WithRoom (p.frames a) P p.wins most_evictions a r b
         → C k a b (WithRoom (q.frames (on a)) Q q.wins most_evictions (on a) r (on b))
     roomed n k P Q most part a b r good x =
-        let z = with_room (p.frames a) n 24 P Q p.wins q.wins part parts.wins most_evictions k most a b r
+        let z = with_room (p.frames a) n 24 P Q p.wins q.wins part parts.wins most_evictions k most
+        a b r
         good x in
         laws.more k k a b _ _ (omega arith) z
-        (subst (λ (i : ℕ). WithRoom i Q q.wins most_evictions (on a) r (on b)) (sym (parts.frames a good))
+        (subst (λ (i : ℕ). WithRoom i Q q.wins most_evictions (on a) r (on b))
+        (sym (parts.frames a good))
         (laws.is k a b _ z))
 
     pub brings : (h : ℕ) → Carries bring_rise (BringsBy p h) (BringsBy q h)
@@ -269,7 +273,8 @@ module _ {D E : Type 0} (on : Holding D → Holding E) (G : Holding D → Type 0
 
     pub comes_in : (h : ℕ) → Carries come_rise (BringsIn (p.finds h) (BringsBy p h))
         (BringsIn (q.finds h) (BringsBy q h))
-    comes_in h = brings_in 1 bring_rise come_rise (p.finds h) (BringsBy p h) (q.finds h) (BringsBy q h)
+    comes_in h = brings_in 1 bring_rise come_rise (p.finds h) (BringsBy p h) (q.finds h)
+        (BringsBy q h)
         (omega arith) (parts.finds h) (brings h)
 
     -- where a job of one call leaves what it does, and one of more leaves what its parts do
@@ -283,12 +288,14 @@ module _ {D E : Type 0} (on : Holding D → Holding E) (G : Holding D → Type 0
         → (a b : Holding D) (r : Reply) → G a → DoesBy p reads job a r b
         → J job a b (DoesBy q others job (on a) r (on b))
     does J reads others (Make bytes) many read alone a b r good x = many tt a b _
-        (roomed 1 turn_rise (p.makes bytes) (q.makes bytes) (omega arith) (parts.makes bytes) a b r good x)
+        (roomed 1 turn_rise (p.makes bytes) (q.makes bytes) (omega arith) (parts.makes bytes) a b r
+        good x)
     does J reads others (Read handle) many read alone a b r good x =
         many tt a b _ (read handle.n a b r good x)
     does J reads others (Write handle at bytes) many read alone a b r good x =
         let h = handle.n in let count = length bytes in many tt a b _
-        (where_it_is 1 1 bring_rise turn_rise (p.writes h at bytes) (q.writes h at bytes) (p.declines h at count)
+        (where_it_is 1 1 bring_rise turn_rise (p.writes h at bytes) (q.writes h at bytes)
+        (p.declines h at count)
         (q.declines h at count) (BringsBy p h) (BringsBy q h) (omega arith) (parts.writes h at bytes)
         (parts.declines h at count) (brings h) a b r good x)
     does J reads others (Swap handle) many read alone a b r good x = let h = handle.n in
@@ -299,7 +306,8 @@ module _ {D E : Type 0} (on : Holding D → Holding E) (G : Holding D → Type 0
     module _ (l : PartLacks D) (k : PartLacks E) (lacks : LackAlong on G C l k) where
       bring_stops : (h : ℕ) → CarriesLack bring_rise (BringStopsBy p l h) (BringStopsBy q k h)
       bring_stops h = room_stops 16 24 (p.swaps h) (q.swaps h) p.wins q.wins (l.swaps h) l.evicts
-          (k.swaps h) k.evicts (parts.swaps h) (lacks.swaps h) parts.wins lacks.evicts most_evictions bring_rise
+          (k.swaps h) k.evicts (parts.swaps h) (lacks.swaps h) parts.wins lacks.evicts
+          most_evictions bring_rise
           (omega arith)
 
       pub come_stops : (h : ℕ) → CarriesLack come_rise (ComeStopsBy p l h) (ComeStopsBy q k h)
@@ -328,10 +336,12 @@ module _ {D E : Type 0} (on : Holding D → Holding E) (G : Holding D → Type 0
           many tt a b _ (read handle.n a b good x)
       stops J lacking others (Write handle at bytes) many read alone a b good x =
           let h = handle.n in let count = length bytes in many tt a b _
-          (call_stops 1 1 bring_rise turn_rise (p.writes h at bytes) (q.writes h at bytes) (p.declines h at count)
+          (call_stops 1 1 bring_rise turn_rise (p.writes h at bytes) (q.writes h at bytes)
+          (p.declines h at count)
           (q.declines h at count) (BringsBy p h) (BringsBy q h) NeverLacks (BringStopsBy p l h) NeverLacks
           (BringStopsBy q k h) (omega arith) (parts.writes h at bytes) never_lacks
           (parts.declines h at count) (brings h) (bring_stops h) a b good x)
       stops J lacking others (Swap handle) many read alone a b good x = let z = come_stops handle.n a b good x in
-          many tt a b _ (laws.more come_rise turn_rise a b _ _ (omega arith) z (laws.is come_rise a b _ z))
+          many tt a b _ (laws.more come_rise turn_rise a b _ _ (omega arith) z
+          (laws.is come_rise a b _ z))
       stops J lacking others job many read alone a b good x = alone a b good x

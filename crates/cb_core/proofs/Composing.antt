@@ -86,20 +86,13 @@ is_given s far new h home sound at x =
 module _ {D : Type 0} (run : D → List Event → D → Type 0) (shows : D → Shown → Type 0) (h : ℕ)
     (home : Home) (a b : Holding D) (nothing : (x : D) → run x [] x)
     (k : IsSoundShown (λ s. shows a.desk s) a.far) (at : home_at a.far.homes h ≡ Some home) where
-  swap_lacks : b.desk ≡ a.desk → ((set : SetState) → set_in a.far.sets home.set ≡ Some set → (n : ℕ)
+  pub swap_lacks : b.desk ≡ a.desk → ((set : SetState) → set_in a.far.sets home.set ≡ Some set
+      → (n : ℕ)
       × (n ≤ length set.positions) × (b.far ≡ far_given a.far n)) → SwapLacks run h a b
   swap_lacks desk far = (
     subst (λ (u : D). run a.desk [] u) (sym desk) (nothing a.desk),
     is_given k.0 a.far b.far h home k.2 at far,
   )
-
-  -- by the result of the call
-  pub swap_lacked : (P : Type 0) (result : Result Reply NoMemory) → OnErr result (b.desk ≡ a.desk)
-      → OnErr result ((set : SetState) → set_in a.far.sets home.set ≡ Some set → (n : ℕ)
-      × (n ≤ length set.positions) × (b.far ≡ far_given a.far n))
-      → (SwapLacks run h a b → P) → OnErr result P
-  swap_lacked P result desk far then =
-      err_both P (b.desk ≡ a.desk) _ result desk far (λ same given. then (swap_lacks same given))
 
 -- ---- a call on an object wherever it is
 -- a part that leaves the far state as it was

@@ -205,7 +205,8 @@ room_never : {D : Type 0} (frames : ℕ) (P : Holding D → Reply → Holding D 
     (E : Holding D → Eviction → Holding D → Type 0) (left : ℕ) → AllNever (WithRoom frames P E left)
 room_never frames P E left a b r (at_once o off) = off
 room_never frames P E left a b r (no_room m why loose nodes o v is) = never r (off r _ refl is)
-room_never frames P E (suc fewer) a b r (won m n id o v again) = room_never frames P E fewer n b r again
+room_never frames P E (suc fewer) a b r (won m n id o v again) =
+    room_never frames P E fewer n b r again
 
 where_never : {D : Type 0} (P : Holding D → Reply → Holding D → Type 0)
     (L : Holding D → Option Reply → Holding D → Type 0) (E : Holding D → Reply → Holding D → Type 0)

@@ -152,8 +152,8 @@ closed_fewer spans (f ∷ frames) some there =
     let rest = closed_less (slice_set spans f None) frames in let one = span_gone spans f x.0 x.1 in
     omega (arith, rest, one)
 
--- What it leaves for the part behind it: fewer spans are in local memory, far objects have the homes
--- that they had, and the numbers rose by no more than an eviction's may.
+-- What it leaves for the part behind it: fewer spans are in local memory, far objects have the
+-- homes that they had, and the numbers rose by no more than an eviction's may.
 pub record HasWon (c : Config) (far new : FarState) : Type 0 where
   pub configured : IsConfigured c new
   pub given : new.nodes.given ≡ far.nodes.given
@@ -176,7 +176,8 @@ has_won c s far new r id es accepted configured sound rule set =
       sets = stays.rises.sets;
       keys = stays.rises.keys;
       fewer = let less = closed_fewer far.spans x.frames some (λ f inside.
-          let ready = ready_frame far s f sound.here (x.among f inside) in (ready.span, ready.there)) in
+          let ready = ready_frame far s f sound.here (x.among f inside) in
+          (ready.span, ready.there)) in
           let same = ap span_count e.state in omega (arith, less, same);
       homes = λ h home at. e.homes.others h (λ g in_frames names.
           not_resident s far h g home sound at names) ∙ at;

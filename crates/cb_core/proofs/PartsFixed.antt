@@ -83,7 +83,8 @@ module _ {D : Type 0} (frames : ℕ) (operation : Holding D → Reply → Holdin
       (evictions_fixed a m n (Refused v i j) (Set id) c d good o p x y).0)
   with_room_fixed (suc fewer) a good r q b c (won m d id o x u) (won n e jd p y v) =
       let same = evictions_fixed a m n (Set id) (Set jd) d e good o p x y in
-      let then = kept a e jd good (subst (λ (h : Holding D). eviction h (Set jd) e) (refuses a n p) y) in
+      let then = kept a e jd good (subst (λ (h : Holding D). eviction h (Set jd) e) (refuses a n p)
+      y) in
       with_room_fixed fewer e then r q b c
       (subst (λ (h : Holding D). WithRoom frames operation eviction fewer h r b) same.1 u) v
 

@@ -57,8 +57,10 @@ pub room_same : {X : Type 0} (what : Holding Words → X) (n left : ℕ)
     (P : Holding Words → Reply → Holding Words → Type 0)
     (V : Holding Words → Eviction → Holding Words → Type 0) → LeavesSame what P → LeavesSame what V
     → LeavesSame what (WithRoom n P V left)
-room_same what n left P V p v a b r x = (with_room itself Anywhere (LeftAs what) (along what) n 0 0 P P V
-    V (λ a b r good x. (p a b r x, x)) (λ a b e good x. (v a b e x, x)) left 0 (omega arith) a b r tt x).0
+room_same what n left P V p v a b r x = (with_room itself Anywhere (LeftAs what) (along what) n 0 0
+    P P V
+    V (λ a b r good x. (p a b r x, x)) (λ a b e good x. (v a b e x, x)) left 0 (omega arith) a b r
+    tt x).0
 
 -- ---- what lasts
 abbrev pub Steady : Type 0
@@ -196,7 +198,8 @@ parts = record {
 reads : (h : ℕ) → CarriesAlong itself Anywhere (LeftAs lasting) turn_rise
     (WhereItIs (StillRead h) NeverDeclined (StillBring h))
     (WhereItIs (StillRead h) NeverDeclined (StillBring h))
-reads h = where_it_is itself Anywhere (LeftAs lasting) (along lasting) 1 1 bring_rise turn_rise (StillRead h)
+reads h = where_it_is itself Anywhere (LeftAs lasting) (along lasting) 1 1 bring_rise turn_rise
+    (StillRead h)
     (StillRead h) NeverDeclined NeverDeclined (StillBring h) (StillBring h) (omega arith)
     (λ a b r good x. (read_lasts h a b r x, x)) (λ a b r good x. (ap lasting x.1, x))
     (brings itself Anywhere (LeftAs lasting) (along lasting) still_parts still_parts parts h)

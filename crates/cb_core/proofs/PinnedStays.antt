@@ -200,7 +200,8 @@ made_fixed a b s t k bytes r ka kb p (inr (more, inr (is, z))) = (
         call.others k (λ e. off (e ∙ ap handle_in (sym made ∙ is)))
     by (inr none) = none.others k
 
-make_fixed : (bytes : List ℕ) (frames left : ℕ) (a b : Holding Words) (s t : Shown) (k : ℕ) (r : Reply)
+make_fixed : (bytes : List ℕ) (frames left : ℕ) (a b : Holding Words) (s t : Shown) (k : ℕ)
+    (r : Reply)
     → IsKnown a.desk a.far s → IsKnown b.desk b.far t → IsHeldHere a.desk k
     → WithRoom frames (StillMake bytes) StillRoom left a r b → Fixed a b s t k
 make_fixed bytes frames left a b s t k r ka kb p (at_once c never) =
@@ -212,11 +213,13 @@ make_fixed bytes frames left a b s t k r ka kb p (no_room m why loose nodes c ev
     kept_fixed a b s t k (kept_room a b (Refused why loose nodes) s ka from) kb p
 make_fixed bytes frames (suc fewer) a b s t k r ka kb p (won m n id c evict again) =
     let none = make_crammed a.desk m.desk a.far m.far bytes c in
-    let from = subst (λ (x : Holding Words). StillRoom x (Set id) n) (same_holding a m none.1 none.2)
+    let from = subst (λ (x : Holding Words). StillRoom x (Set id) n)
+    (same_holding a m none.1 none.2)
     evict in
     let kept = kept_room a n (Set id) s ka from in
     fixed_then a n b s kept.shown t k (kept_fixed a n s kept.shown k kept kept.known p)
-    (make_fixed bytes frames fewer n b kept.shown t k r kept.known kb (still_held a n s k ka kept p) again)
+    (make_fixed bytes frames fewer n b kept.shown t k r kept.known kb
+    (still_held a n s k ka kept p) again)
 
 -- ---- a call on an object wherever it is
 where_fixed : (call : Holding Words → Reply → Holding Words → Type 0)

@@ -18,28 +18,35 @@ use Rattle.cb_core.proofs.StillFarJobs.{known_far}
 
 -- the far state, where so many turns were counted, by job in this way
 abbrev pub rejobbed : ℕ → List ℕ → FarState → FarState
-rejobbed turns by_job far = record far { counts = record far.counts { turns = turns; by_job = by_job } }
+rejobbed turns by_job far = record far {
+  counts = record far.counts { turns = turns; by_job = by_job };
+}
 
 abbrev pub held_as : ℕ → List ℕ → Holding Words → Holding Words
 held_as turns by_job a = record { desk = a.desk; far = rejobbed turns by_job a.far }
 
 module _ (turns : ℕ) (by_job : List ℕ) where
-  known_as : (x : Words) (far : FarState) (s : Shown) → IsKnown x far s → IsKnown x (rejobbed turns by_job far) s
+  known_as : (x : Words) (far : FarState) (s : Shown) → IsKnown x far s
+      → IsKnown x (rejobbed turns by_job far) s
   known_as x far s k = known_far x far (rejobbed turns by_job far) s k
       (recounted_sound s far turns by_job far.nodes.given k.sound)
 
-  known_back : (x : Words) (far : FarState) (s : Shown) → IsKnown x (rejobbed turns by_job far) s → IsKnown x far s
+  known_back : (x : Words) (far : FarState) (s : Shown) → IsKnown x (rejobbed turns by_job far) s
+      → IsKnown x far s
   known_back x far s k = known_far x (rejobbed turns by_job far) far s k
-      (recounted_sound s (rejobbed turns by_job far) far.counts.turns far.counts.by_job far.nodes.given k.sound)
+      (recounted_sound s (rejobbed turns by_job far) far.counts.turns far.counts.by_job
+      far.nodes.given k.sound)
 
-  holds_as : (a b : Holding Words) → HoldOn a b → HoldOn (held_as turns by_job a) (held_as turns by_job b)
+  holds_as : (a b : Holding Words) → HoldOn a b → HoldOn (held_as turns by_job a)
+      (held_as turns by_job b)
   holds_as a b hold s k =
       let before = known_back a.desk a.far s k in let then = hold s before in
       let after = known_as b.desk b.far then.0 then.1 in (
         then.0,
         after,
         then.2,
-        λ seats ongoing. open_same b.desk b.far (rejobbed turns by_job b.far) then.0 seats then.1 after
+        λ seats ongoing. open_same b.desk b.far (rejobbed turns by_job b.far) then.0 seats then.1
+            after
             (then.3 seats
             (open_same a.desk (rejobbed turns by_job a.far) a.far s seats k before ongoing)),
       )
@@ -163,10 +170,12 @@ module _ (turns : ℕ) (by_job : List ℕ) where
   brought_as h room left a b r f is (no_room m why loose nodes swap evict e) =
       absurd (not_crammed f room loose nodes (sym is ∙ e))
   brought_as h room (suc fewer) a b r f is (won m n id swap evict again) =
-      won (held_as turns by_job m) (held_as turns by_job n) id (full_as a m h swap) (room_as m n id evict)
+      won (held_as turns by_job m) (held_as turns by_job n) id (full_as a m h swap)
+      (room_as m n id evict)
       (brought_as h room fewer n b r f is again)
 
   pub bring_as : (a b : Holding Words) (h f : ℕ) → StillBring h a (answer.Swapped f) b
       → StillBring h (held_as turns by_job a) (answer.Swapped f) (held_as turns by_job b)
-  bring_as a b h f bring = brought_as h a.desk.settings.frames most_evictions a b (answer.Swapped f) f refl
+  bring_as a b h f bring = brought_as h a.desk.settings.frames most_evictions a b
+      (answer.Swapped f) f refl
       bring

@@ -10,10 +10,12 @@ use Rattle.cb_core.specs.Parts.{Holding, WithRoom, at_once, no_room, won}
 -- as the operation does, from where the evictions led; or with no room, by an eviction that was
 -- refused
 pub data RoomEnds {D : Type 0} (frames : ℕ) (operation : Holding D → Reply → Holding D → Type 0)
-    (eviction : Holding D → Eviction → Holding D → Type 0) (r : Reply) (b : Holding D) : Type 0 where
+    (eviction : Holding D → Eviction → Holding D → Type 0) (r : Reply) (b : Holding D)
+    : Type 0 where
   operated : (n : Holding D) → operation n r b → (r ≡ answer.NoFrame → ⊥)
       → RoomEnds frames operation eviction r b
-  was_refused : (m : Holding D) (why : Lack) (loose nodes : ℕ) → eviction m (Refused why loose nodes) b
+  was_refused : (m : Holding D) (why : Lack) (loose nodes : ℕ)
+      → eviction m (Refused why loose nodes) b
       → r ≡ answer.NoRoom frames loose nodes → RoomEnds frames operation eviction r b
 
 module _ {D : Type 0} (frames : ℕ) (operation : Holding D → Reply → Holding D → Type 0)
@@ -24,8 +26,8 @@ module _ {D : Type 0} (frames : ℕ) (operation : Holding D → Reply → Holdin
   room_ends left a b r (no_room m why loose nodes o v is) = was_refused m why loose nodes v is
   room_ends (suc fewer) a b r (won m n id o v again) = room_ends fewer n b r again
 
-  -- what is so of each reply of the operation but that there is no frame, and of each that there is no
-  -- room, is so of the reply
+  -- what is so of each reply of the operation but that there is no frame, and of each that there is
+  -- no room, is so of the reply
   pub room_reply : (C : Reply → Type 0)
       → ((n b : Holding D) (r : Reply) → operation n r b → (r ≡ answer.NoFrame → ⊥) → C r)
       → ((loose nodes : ℕ) → C (answer.NoRoom frames loose nodes)) → (left : ℕ) (a b : Holding D)

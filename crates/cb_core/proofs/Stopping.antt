@@ -135,7 +135,8 @@ make_room a b bytes asked stops = has_room a b asked (left_behind (StillMake byt
 
 bring_room : (a b : Holding Words) (h : ℕ) (asked : Option ℕ) → StillBringLacks h a b → HasRoom a b asked
 bring_room a b h asked stops = has_room a b asked (left_behind (StillSwap h) (StillSwapLacks h)
-    (λ a m swap. swap_refuses h a m swap) (λ a b lacks. left_given a b h lacks) most_evictions a b stops)
+    (λ a m swap. swap_refuses h a m swap) (λ a b lacks. left_given a b h lacks) most_evictions a b
+    stops)
 
 read_room : (a b : Holding Words) (handle : Handle) → StillStops (job.Read handle) a b
     → HasRoom a b (Some handle.n)
@@ -196,7 +197,8 @@ module _ (w new : WorldState) (seat : ℕ) (j : Job) (alone : NoOtherHolds w.sea
     (few : w.far.counts.turns < 2 ^ 40) (seats : new.seats ≡ w.seats) where
   -- the world at a holding, where as many turns were counted as before, and where one more was
   abbrev counted_as : Job → Holding Words → Holding Words
-  counted_as other n = let counts = (counted w.far other).counts in held_as counts.turns counts.by_job n
+  counted_as other n = let counts = (counted w.far other).counts in held_as counts.turns
+      counts.by_job n
 
   abbrev with_held : Holding Words → WorldState
   with_held n = record { desk = n.desk; far = n.far; seats = w.seats }

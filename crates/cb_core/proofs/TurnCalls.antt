@@ -117,7 +117,8 @@ pub make_turn : (w new : WorldState) (bytes name : List ℕ) (r : Reply) → (be
 make_turn w new bytes name r before after few step =
     let j = job.Make bytes in
     let d = is_done j w new r few step in
-    let z = make_answered bytes name w.desk.settings.frames most_evictions (held_at w j) (held_then new)
+    let z = make_answered bytes name w.desk.settings.frames most_evictions (held_at w j)
+    (held_then new)
     before.shown after.shown r (known_at w j before) after.known d in
     record {
       call = make_carried w.desk.settings.handles before.shown before.shown after.shown after.shown w.far

@@ -109,7 +109,8 @@ lost_now far s h id losses sound z =
     (o.1, (λ i. now_as s h (lost_gone far h id losses z i) (o.3 i)))
 
 -- behind so many evictions at the most
-ends_behind : (h room left : ℕ) (a b : Holding Words) (r : Reply) (s : Shown) → IsKnown a.desk a.far s
+ends_behind : (h room left : ℕ) (a b : Holding Words) (r : Reply) (s : Shown)
+    → IsKnown a.desk a.far s
     → WithRoom room (StillSwap h) StillRoom left a r b → BringEnds a b h r
 ends_behind h room left a b r s k (at_once swap some) = swap_ends a b h r s k swap some
 ends_behind h room left a b r s k (no_room m why loose nodes (home, at, z, hold) evict e) =

@@ -96,7 +96,8 @@ kept_room a b e s k (step, hold) =
     kept_step a b s k hold (evict_keeps a.desk b.desk a.far b.far (reply_of e) step.step)
 
 -- what is done with room won keeps what its parts keep
-kept_behind : (h room left : ℕ) (a b : Holding Words) (r : Reply) (s : Shown) → IsKnown a.desk a.far s
+kept_behind : (h room left : ℕ) (a b : Holding Words) (r : Reply) (s : Shown)
+    → IsKnown a.desk a.far s
     → WithRoom room (StillSwap h) StillRoom left a r b → HasKept a b s
 kept_behind h room left a b r s k (at_once swap some) = kept_swap a b h r s k swap
 kept_behind h room left a b r s k (no_room m why loose nodes swap evict e) =

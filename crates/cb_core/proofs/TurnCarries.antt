@@ -179,7 +179,8 @@ module _ {D : Type 0} (run : D → List Event → D → Type 0) (shows : D → S
 
   brings : (h : ℕ) → Leads bring_rise Nil (Brings run shows c h)
   brings h = with_room run shows laws c Nil (nil_quiet answer.NoFrame) c.frames (λ loose nodes. refl)
-      16 24 (Swaps run shows h) (WinsRoom run shows c) (swaps h) wins most_evictions bring_rise (omega arith)
+      16 24 (Swaps run shows h) (WinsRoom run shows c) (swaps h) wins most_evictions bring_rise
+      (omega arith)
 
   bring_lacks : (h : ℕ) → Lacks bring_rise (BringLacks run shows c h)
   bring_lacks h = room_stops run shows laws c Nil (nil_quiet answer.NoFrame) 16 24
@@ -188,7 +189,8 @@ module _ {D : Type 0} (run : D → List Event → D → Type 0) (shows : D → S
 
   -- an object comes in, or there is no memory for that
   pub comes_in : (h : ℕ) → Leads come_rise Nil (ComesIn run shows c h)
-  comes_in h = brings_in run shows laws c 1 bring_rise come_rise (FindsWhere run shows h) (Brings run shows c h)
+  comes_in h = brings_in run shows laws c 1 bring_rise come_rise (FindsWhere run shows h)
+      (Brings run shows c h)
       (omega arith) (finds h) (brings h)
 
   pub come_lacks : (h : ℕ) → Lacks come_rise (ComeLacks run shows c h)
@@ -236,11 +238,13 @@ module _ {D : Type 0} (run : D → List Event → D → Type 0) (shows : D → S
       (λ loose nodes. refl) 1 24 (Makes run shows c bytes) (WinsRoom run shows c) (makes bytes) wins
       most_evictions turn_rise (omega arith) a b r good x
   does_comes reading read (Read handle) a b r ok good x = let h = handle.n in
-      once_here run shows laws c come_rise 1 turn_rise (ComesIn run shows c h) (reading h) (omega arith) (comes_in h)
+      once_here run shows laws c come_rise 1 turn_rise (ComesIn run shows c h) (reading h)
+      (omega arith) (comes_in h)
       (read h) a b r good x
   does_comes reading read (Write handle at bytes) a b r ok good x =
       let h = handle.n in let count = length bytes in
-      where_it_is run shows laws c (WriteWrites h at bytes) (write_quiet h at bytes) 1 1 bring_rise turn_rise
+      where_it_is run shows laws c (WriteWrites h at bytes) (write_quiet h at bytes) 1 1 bring_rise
+      turn_rise
       (WritesObject run shows h at bytes) (Brings run shows c h) (Declines run shows h at count)
       (λ m n q (same, p). declined_none h at bytes count m.far q p.events p.rule)
       (λ m n q e. brings_no_version h at bytes h m n q e) (omega arith) (writes h at bytes)
@@ -282,13 +286,16 @@ module _ {D : Type 0} (run : D → List Event → D → Type 0) (shows : D → S
   stops_comes lacking lack (Make bytes) a b good x =
       room_stops run shows laws c (MakeWrites bytes) (make_quiet bytes) 1 24
       (Makes run shows c bytes) (WinsRoom run shows c) (MakeLacks run c bytes) (EvictLacks run shows)
-      (makes bytes) (make_lacks bytes) wins evict_lacks most_evictions turn_rise (omega arith) a b good x
+      (makes bytes) (make_lacks bytes) wins evict_lacks most_evictions turn_rise (omega arith) a b
+      good x
   stops_comes lacking lack (Read handle) a b good x = let h = handle.n in
-      once_here_stops run shows laws c come_rise 1 turn_rise (ComesIn run shows c h) (ComeLacks run shows c h)
+      once_here_stops run shows laws c come_rise 1 turn_rise (ComesIn run shows c h)
+      (ComeLacks run shows c h)
       (lacking h) (omega arith) (comes_in h) (come_lacks h) (lack h) a b good x
   stops_comes lacking lack (Write handle at bytes) a b good x =
       let h = handle.n in let count = length bytes in
-      call_stops run shows laws c (WriteWrites h at bytes) (write_quiet h at bytes) 1 1 bring_rise turn_rise
+      call_stops run shows laws c (WriteWrites h at bytes) (write_quiet h at bytes) 1 1 bring_rise
+      turn_rise
       (WritesObject run shows h at bytes) (Brings run shows c h) (Declines run shows h at count) NeverLacks
       (BringLacks run shows c h) (omega arith) (writes h at bytes) never_lacks (declines h at count)
       (brings h) (bring_lacks h) a b good x

@@ -243,7 +243,8 @@ module _ {D : Type 0} (run : D → List Event → D → Type 0) (shows : D → S
       let y = then_none n m (n + m) a mid next (omega arith) z
       (e mid next (Set id) (good_then n WritesNothing a mid good z) v) in
       then_last (W r) (n + m) (n + fewer * (m + n) + m) k a next b (omega (arith, most)) y
-      (with_room W quiet frames off_room n m P E p e fewer (n + fewer * (m + n) + m) (omega arith) next b r
+      (with_room W quiet frames off_room n m P E p e fewer (n + fewer * (m + n) + m) (omega arith)
+      next b r
       (good_then (n + m) WritesNothing a next good y) again)
 
   pub room_stops : (W : Reply → List Entry → Type 0) → IsQuietReply W answer.NoFrame → (n m : ℕ)
@@ -257,7 +258,8 @@ module _ {D : Type 0} (run : D → List Event → D → Type 0) (shows : D → S
       let z = first W n P answer.NoFrame a mid quiet p good o in
       then_none n m k a mid b (omega (arith, most)) z
       (i mid b (good_then n WritesNothing a mid good z) v)
-  room_stops W quiet n m P E L I p l e i (suc fewer) k most a b good (lacks_last mid next id o v u) =
+  room_stops W quiet n m P E L I p l e i (suc fewer) k most a b good
+      (lacks_last mid next id o v u) =
       let z = first W n P answer.NoFrame a mid quiet p good o in
       let y = then_none n m (n + m) a mid next (omega arith) z
       (e mid next (Set id) (good_then n WritesNothing a mid good z) v) in

@@ -65,7 +65,8 @@ module _ {D : Type 0} (run : D → List Event → D → Type 0) (shows : D → S
 
   -- a counted turn
   counted_leaves : (W : List Entry → Type 0) (job : Job) (a b : Hold) → AreCounted a.far
-      → a.far.counts.turns < 2 ^ 40 → ComesBy (note_of job) run shows c turn_rise W (once_counted a job) b
+      → a.far.counts.turns < 2 ^ 40 → ComesBy (note_of job) run shows c turn_rise W
+      (once_counted a job) b
       → TurnLeaves run shows c a b W
   counted_leaves W job a b counts few z = record {
     events = z.events;
@@ -147,6 +148,7 @@ module _ {D : Type 0} (run : D → List Event → D → Type 0) (shows : D → S
       → OnErr result (StoppedToRead run shows c h a b) → TurnLeaves run shows c a b WritesNothing
   brought_leaves h a b (Ok r) good counts brought stopped = first_leaves h a b r good counts brought
   brought_leaves h a b (Err e) good counts brought stopped = let a' = once_counted a (Read h) in
-      counted_leaves WritesNothing (Read h) a b counts stopped.few (in_job run shows laws c accepted WritesNothing come_rise a'
+      counted_leaves WritesNothing (Read h) a b counts stopped.few
+      (in_job run shows laws c accepted WritesNothing come_rise a'
       b (omega arith) (come_lacks run shows laws c accepted h.n a' b (counted_good (Read h) a good)
       stopped.stops))

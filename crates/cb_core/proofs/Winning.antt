@@ -1,4 +1,5 @@
--- Room is won by evictions one after another, over any desk: what stands in the loop that makes them.
+-- Room is won by evictions one after another, over any desk: what stands in the loop that makes
+-- them.
 use Rattle.std.proofs.Common.{◌≡◌, ℕ, zero, suc, ◌+◌, ◌*◌, ◌^◌, ◌<◌, ◌≤◌, List, Option, None, Some, Result, Ok, Err, is_some, refl, sym, ◌∙◌, subst, arith}
 use Rattle.std.specs.Prelude.{OnErr}
 use Rattle.std.proofs.lemmas.List.Sums.{count_by-le-length}
@@ -72,7 +73,8 @@ module _ {D : Type 0} (run : D → List Event → D → Type 0) (shows : D → S
   }
 
   -- there are no more of them than spans
-  pub never_more : (start here : Holding D) (made : ℕ) → IsWinning start here made → made ≤ most_evictions
+  pub never_more : (start here : Holding D) (made : ℕ) → IsWinning start here made
+      → made ≤ most_evictions
   never_more start here made w = let count = w.count in omega (arith, count)
 
   -- the numbers are far below their bounds all along
@@ -92,7 +94,8 @@ module _ {D : Type 0} (run : D → List Event → D → Type 0) (shows : D → S
     crammed = subst (λ (r : Reply). P here r m) full operated
 
     -- the eviction found no memory
-    pub room_lacks : (b : Holding D) (X : Type 0) (result : Result X NoMemory) → EvictLacks run shows m b
+    pub room_lacks : (b : Holding D) (X : Type 0) (result : Result X NoMemory)
+        → EvictLacks run shows m b
         → OnErr result (Stops most_evictions start b)
     room_lacks b X result lacks = by result
       where
@@ -131,7 +134,8 @@ module _ {D : Type 0} (run : D → List Event → D → Type 0) (shows : D → S
 
         further : (id : SetId) → WinsRoom run shows c m (Set id) n → HasWon c here.far n.far
             → (fewer : ℕ) → made + suc fewer ≡ most_evictions → span_count here.far ≤ suc fewer
-            → ((r : Reply) (b : Holding D) → Goes (suc fewer) here r b → Goes most_evictions start r b)
+            → ((r : Reply) (b : Holding D) → Goes (suc fewer) here r b
+            → Goes most_evictions start r b)
             → ((b : Holding D) → Stops (suc fewer) here b → Stops most_evictions start b)
             → IsWinning start n (made + 1)
         further id v z fewer count spans goes stopping = record {
@@ -142,7 +146,8 @@ module _ {D : Type 0} (run : D → List Event → D → Type 0) (shows : D → S
           stops = λ b x. stopping b (after m n id crammed v x);
           desk_settings = stays m.desk n.desk v.events v.ran ∙ same;
           configured = z.configured;
-          shown = shown_after _ _ _ _ _ _ _ v (λ es s ran a. follows m.desk n.desk es s ran a) known;
+          shown = shown_after _ _ _ _ _ _ _ v (λ es s ran a. follows m.desk n.desk es s ran a)
+              known;
           sets = let one = z.sets in let before = w.sets in omega (arith, one, before);
           keys = let one = z.keys in let before = w.keys in omega (arith, one, before);
           given = z.given ∙ w.given;
@@ -165,5 +170,6 @@ module _ {D : Type 0} (run : D → List Event → D → Type 0) (shows : D → S
         by (Set id) v e = with_left id v
             (subst (λ (f : FarState). HasWon c f n.far) stayed
             (has_won c known.0 m.far n.far (answer.Set id) id v.events accepted
-            (subst (λ (f : FarState). IsConfigured c f) (sym stayed) w.configured) known.2 v.rule.rule refl))
+            (subst (λ (f : FarState). IsConfigured c f) (sym stayed) w.configured) known.2
+            v.rule.rule refl))
             w.left w.count w.spans w.goes w.stops

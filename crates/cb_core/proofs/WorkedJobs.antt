@@ -179,7 +179,8 @@ module _ (far : FarState) where
   Stops j a b = StopsBy parts lacks read_lacks j a b
 
   brings_and_stops : BringStopsBy parts lacks 1 (at 0) (at 42)
-  brings_and_stops = lacks_after (at 0) (at 1) set_five (refl, refl) (refl, refl) (lacks_at_once refl)
+  brings_and_stops = lacks_after (at 0) (at 1) set_five (refl, refl) (refl, refl)
+      (lacks_at_once refl)
 
   stops_making : Stops (job.Make two_bytes) (at 0) (at 22)
   stops_making = lacks_at_once refl

@@ -127,7 +127,8 @@ module _ (far : FarState) where
   done_after_one : (left : ℕ) → WithRoom 9 works evicts (suc left) (at 2) answer.Done (at 3)
   done_after_one left = won (at 2) (at 3) set_five (refl, refl) (refl, refl) (done_at_once left)
 
-  done_after_three : (left : ℕ) → WithRoom 9 works evicts (suc (suc (suc left))) (at 0) answer.Done (at 3)
+  done_after_three : (left : ℕ) → WithRoom 9 works evicts (suc (suc (suc left))) (at 0) answer.Done
+      (at 3)
   done_after_three left = won (at 0) (at 1) set_five (refl, refl) (refl, refl)
       (won (at 1) (at 2) set_five (refl, refl) (refl, refl) (done_after_one left))
 
@@ -152,7 +153,8 @@ module _ (far : FarState) where
   only_done left n = with_room_fixed 9 works evicts (λ a. Unit {0}) one_work works_stays
       (λ a good e f b c x y. (x.0 ∙ sym y.0, x.1 ∙ sym y.1)) (λ a n id good x. tt) left (at n) tt
 
-  only_refused : (left n : ℕ) (r q : Reply) (b c : Holding ℕ) → WithRoom 9 works refuses left (at n) r b
+  only_refused : (left n : ℕ) (r q : Reply) (b c : Holding ℕ)
+      → WithRoom 9 works refuses left (at n) r b
       → WithRoom 9 works refuses left (at n) q c → AreOne r q b c
   only_refused left n = with_room_fixed 9 works refuses (λ a. Unit {0}) one_work works_stays
       (λ a good e f b c x y. (x.0 ∙ sym y.0, x.1 ∙ sym y.1)) (λ a n id good x. tt) left (at n) tt
@@ -165,10 +167,12 @@ module _ (far : FarState) where
   -- an eviction though there is a frame
   not_wanted : (left : ℕ) → WithRoom 9 works evicts left (at 3) answer.Done (at 4) → ⊥
   not_wanted left z = let e = desks 4 3
-      (only_done left 3 answer.Done answer.Done (at 4) (at 3) z (done_at_once left)).1 in omega (arith, e)
+      (only_done left 3 answer.Done answer.Done (at 4) (at 3) z (done_at_once left)).1 in omega
+      (arith, e)
 
   -- no room, and no eviction was tried, or but one, though each makes a set
-  not_tried : (left : ℕ) → WithRoom 9 works evicts (suc (suc (suc left))) (at 0) (answer.NoRoom 9 2 4) (at 0) → ⊥
+  not_tried : (left : ℕ) → WithRoom 9 works evicts (suc (suc (suc left))) (at 0)
+      (answer.NoRoom 9 2 4) (at 0) → ⊥
   not_tried left z = rooms_done answer.Done 9 2 4 refl
       (sym (only_done (suc (suc (suc left))) 0 (answer.NoRoom 9 2 4) answer.Done (at 0) (at 3) z
       (done_after_three left)).0)
@@ -180,9 +184,11 @@ module _ (far : FarState) where
       (done_after_three left)).0)
 
   -- the desk is not that which the last eviction left
-  not_after : (left : ℕ) → WithRoom 9 works evicts (suc (suc (suc left))) (at 0) answer.Done (at 2) → ⊥
+  not_after : (left : ℕ) → WithRoom 9 works evicts (suc (suc (suc left))) (at 0) answer.Done (at 2)
+      → ⊥
   not_after left z = let e = desks 2 3
-      (only_done (suc (suc (suc left))) 0 answer.Done answer.Done (at 2) (at 3) z (done_after_three left)).1 in
+      (only_done (suc (suc (suc left))) 0 answer.Done answer.Done (at 2) (at 3) z
+      (done_after_three left)).1 in
       omega (arith, e)
 
   -- three evictions, of which there are but two
@@ -220,18 +226,23 @@ module _ (far : FarState) where
   -- the numbers are not those of the refusal: the loose spans and the nodes stand in each other's place
   not_swapped : (left : ℕ) → WithRoom 9 works refuses left (at 2) (answer.NoRoom 9 4 2) (at 2) → ⊥
   not_swapped left z = let e : 4 ≡ 2 = ap loose_of
-      (only_refused left 2 (answer.NoRoom 9 4 2) (answer.NoRoom 9 2 4) (at 2) (at 2) z (refused left)).0 in
+      (only_refused left 2 (answer.NoRoom 9 4 2) (answer.NoRoom 9 2 4) (at 2) (at 2) z
+      (refused left)).0 in
       omega (arith, e)
 
   -- nor another count of nodes, or of frames
-  not_other_nodes : (left : ℕ) → WithRoom 9 works refuses left (at 2) (answer.NoRoom 9 2 3) (at 2) → ⊥
+  not_other_nodes : (left : ℕ) → WithRoom 9 works refuses left (at 2) (answer.NoRoom 9 2 3) (at 2)
+      → ⊥
   not_other_nodes left z = let e : 3 ≡ 4 = ap nodes_of
-      (only_refused left 2 (answer.NoRoom 9 2 3) (answer.NoRoom 9 2 4) (at 2) (at 2) z (refused left)).0 in
+      (only_refused left 2 (answer.NoRoom 9 2 3) (answer.NoRoom 9 2 4) (at 2) (at 2) z
+      (refused left)).0 in
       omega (arith, e)
 
-  not_other_frames : (left : ℕ) → WithRoom 9 works refuses left (at 2) (answer.NoRoom 8 2 4) (at 2) → ⊥
+  not_other_frames : (left : ℕ) → WithRoom 9 works refuses left (at 2) (answer.NoRoom 8 2 4) (at 2)
+      → ⊥
   not_other_frames left z = let e : 8 ≡ 9 = ap frames_of
-      (only_refused left 2 (answer.NoRoom 8 2 4) (answer.NoRoom 9 2 4) (at 2) (at 2) z (refused left)).0 in
+      (only_refused left 2 (answer.NoRoom 8 2 4) (answer.NoRoom 9 2 4) (at 2) (at 2) z
+      (refused left)).0 in
       omega (arith, e)
 
   -- the loose spans are not those that there were where the evictions began, nor behind one more
@@ -261,14 +272,18 @@ module _ (far : FarState) where
   stops_evicting left = evicting (at 0) (refl, refl) refl
 
   stops_after : (left : ℕ) → RoomStops works lacks evicts also_lacks (suc left) (at 0) (at 11)
-  stops_after left = lacks_after (at 0) (at 1) set_five (refl, refl) (refl, refl) (lacks_at_once refl)
+  stops_after left = lacks_after (at 0) (at 1) set_five (refl, refl) (refl, refl)
+      (lacks_at_once refl)
 
   -- behind two evictions, at the third one, and behind that
-  stops_at_third : (left : ℕ) → RoomStops works lacks evicts also_lacks (suc (suc left)) (at 0) (at 22)
+  stops_at_third : (left : ℕ) → RoomStops works lacks evicts also_lacks (suc (suc left)) (at 0)
+      (at 22)
   stops_at_third left = lacks_after (at 0) (at 1) set_five (refl, refl) (refl, refl)
-      (lacks_after (at 1) (at 2) set_five (refl, refl) (refl, refl) (evicting (at 2) (refl, refl) refl))
+      (lacks_after (at 1) (at 2) set_five (refl, refl) (refl, refl)
+      (evicting (at 2) (refl, refl) refl))
 
-  stops_after_three : (left : ℕ) → RoomStops works lacks evicts also_lacks (suc (suc (suc left))) (at 0) (at 13)
+  stops_after_three : (left : ℕ) → RoomStops works lacks evicts also_lacks (suc (suc (suc left)))
+      (at 0) (at 13)
   stops_after_three left = lacks_after (at 0) (at 1) set_five (refl, refl) (refl, refl)
       (lacks_after (at 1) (at 2) set_five (refl, refl) (refl, refl)
       (lacks_after (at 2) (at 3) set_five (refl, refl) (refl, refl) (lacks_at_once refl)))

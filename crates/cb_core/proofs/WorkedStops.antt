@@ -97,12 +97,14 @@ only_counted = nothing same_but_counts
 
 by_an_eviction : (v : WorldState) (id : SetId) → Step w (event.Turn 3 job.Evict) (answer.Set id) v
     → MakesRoom w make v
-by_an_eviction v id step = evicts (last v id step (record { desk = refl; far = refl; seats = refl }))
+by_an_eviction v id step =
+    evicts (last v id step (record { desk = refl; far = refl; seats = refl }))
 
 -- by two evictions: the second one from what the first one left, whatever turns that counts
 by_two_evictions : (v new : WorldState) (id other : SetId) (turns : ℕ) (by_job : List ℕ)
     → Step w (event.Turn 3 job.Evict) (answer.Set id) v
-    → Step (record v { far = rejobbed turns by_job v.far }) (event.Turn 3 job.Evict) (answer.Set other) new
+    → Step (record v { far = rejobbed turns by_job v.far }) (event.Turn 3 job.Evict)
+    (answer.Set other) new
     → MakesRoom w make new
 by_two_evictions v new id other turns by_job first second = evicts
     (one_more v (record v { far = rejobbed turns by_job v.far }) id first
@@ -146,7 +148,8 @@ nothing_leaves v id (is_free none (done few (made z, hold) seats)) =
 nothing_before_a_make : (new : WorldState) → MakesRoom w make new → IsSameBut w new
 nothing_before_a_make new (nothing same) = same
 nothing_before_a_make new (evicts (last v id step same)) = absurd (nothing_leaves v id step)
-nothing_before_a_make new (evicts (one_more v u id step same rest)) = absurd (nothing_leaves v id step)
+nothing_before_a_make new (evicts (one_more v u id step same rest)) =
+    absurd (nothing_leaves v id step)
 nothing_before_a_make new (brings v handle f asked step same) = absurd (none_asked handle.n asked)
   where
     none_asked : (h : ℕ) → None ≡ Some h → ⊥

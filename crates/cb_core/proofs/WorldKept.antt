@@ -53,11 +53,13 @@ module _ (c : Config) (seats : List SeatState) (accepted : IsAccepted c) where
       still_parts parts
 
   -- a part whose numbers rise by no more than those of a job may
-  in_job : (n : ℕ) (a b : Holding Words) (Z W : Type 0) → n ≤ turn_rise → Arrives c seats n a b Z → (Z → W)
+  in_job : (n : ℕ) (a b : Holding Words) (Z W : Type 0) → n ≤ turn_rise → Arrives c seats n a b Z
+      → (Z → W)
       → Arrives c seats turn_rise a b W
   in_job n a b Z W most z w = arrives_more c seats n turn_rise a b Z W most z (w z.is)
 
-  many : (job : Job) → IsMany job → (a b : Holding Words) (Z : Type 0) → Arrives c seats turn_rise a b Z
+  many : (job : Job) → IsMany job → (a b : Holding Words) (Z : Type 0)
+      → Arrives c seats turn_rise a b Z
       → ArrivesBy (note_of job) c seats turn_rise a b Z
   many (Make bytes) two a b Z z = z
   many (Read handle) two a b Z z = z
@@ -91,13 +93,17 @@ module _ (c : Config) (seats : List SeatState) (accepted : IsAccepted c) where
       → Does Ran SaysAll (Reads Ran SaysAll) c job a r b
       → ArrivesBy (note_of job) c seats turn_rise a b (StillWorks job a r b)
   works_part job a b r ok good x = does itself (IsGood c seats) (Arrives c seats) (good_along c seats)
-      (desk_parts Ran SaysAll c) still_parts parts (λ j. ArrivesBy (note_of j) c seats turn_rise) _ _ job
+      (desk_parts Ran SaysAll c) still_parts parts (λ j. ArrivesBy (note_of j) c seats turn_rise) _
+      _ job
       (many job) read (alone_part job ok) a b r good x
     where
-      read : (h : ℕ) → Carries c seats turn_rise (OnceHere (ComesIn Ran SaysAll c h) (Reads Ran SaysAll h))
+      read : (h : ℕ) → Carries c seats turn_rise (OnceHere (ComesIn Ran SaysAll c h)
+          (Reads Ran SaysAll h))
           (WhereItIs (StillRead h) NeverDeclined (StillBring h))
-      read h a b r good x = in_job turn_rise a b _ _ (omega arith) (once_here itself (IsGood c seats)
-          (Arrives c seats) (good_along c seats) come_rise 1 turn_rise (ComesIn Ran SaysAll c h) (Reads Ran SaysAll h) (StillComes h)
+      read h a b r good x = in_job turn_rise a b _ _ (omega arith)
+          (once_here itself (IsGood c seats)
+          (Arrives c seats) (good_along c seats) come_rise 1 turn_rise (ComesIn Ran SaysAll c h)
+          (Reads Ran SaysAll h) (StillComes h)
           (StillRead h) (omega arith) (come_part h) (read_part c seats h) a b r good x)
           (reads_where h a b r)
 
@@ -119,14 +125,17 @@ module _ (c : Config) (seats : List SeatState) (accepted : IsAccepted c) where
       → ArrivesBy (note_of job) c seats turn_rise a b (StillStops job a b)
   stops_part job a b good x = stops itself (IsGood c seats) (Arrives c seats) (good_along c seats)
       (desk_parts Ran SaysAll c) still_parts parts (desk_lacks Ran SaysAll c) still_lacks lacks
-      (λ j. ArrivesBy (note_of j) c seats turn_rise) _ _ job (many job) read (alone_lack job) a b good x
+      (λ j. ArrivesBy (note_of j) c seats turn_rise) _ _ job (many job) read (alone_lack job) a b
+      good x
     where
       read : (h : ℕ) → CarriesLack c seats turn_rise
           (OnceHereStops (ComesIn Ran SaysAll c h) (ComeLacks Ran SaysAll c h)
           (ReadLacks Ran SaysAll h))
           (CallStops (StillRead h) (StillReadLacks h) NeverDeclined (StillBring h) (StillBringLacks h))
-      read h a b good x = in_job turn_rise a b _ _ (omega arith) (once_here_stops itself (IsGood c seats)
-          (Arrives c seats) (good_along c seats) come_rise 1 turn_rise (ComesIn Ran SaysAll c h) (StillComes h) (ComeLacks Ran SaysAll c h)
+      read h a b good x = in_job turn_rise a b _ _ (omega arith)
+          (once_here_stops itself (IsGood c seats)
+          (Arrives c seats) (good_along c seats) come_rise 1 turn_rise (ComesIn Ran SaysAll c h)
+          (StillComes h) (ComeLacks Ran SaysAll c h)
           (ReadLacks Ran SaysAll h) (StillComeLacks h) (StillReadLacks h) (omega arith)
           (come_part h)
           (come_stops itself (IsGood c seats) (Arrives c seats) (good_along c seats) (desk_parts Ran SaysAll c) still_parts
@@ -167,7 +176,8 @@ arrived_sound w job b Z sound few z = record {
   one = sound.one;
   orders = sound.orders;
   counted = counted_rises w.far (counted w.far job) b.far (job_index job) sound.counted few
-      (job_below job) refl (rises_more turn_rise (2 ^ 20) (counted w.far job) b.far (omega arith) z.rises)
+      (job_below job) refl (rises_more turn_rise (2 ^ 20) (counted w.far job) b.far (omega arith)
+      z.rises)
       (noted_after job turn_rise w.far b.far sound.counted z.rises);
 }
 

@@ -20,8 +20,8 @@ most_evictions = 4096
 -- An operation for which room is won by evictions one after another, so many at the most: where it
 -- finds no frame, an eviction makes some and the whole begins again, with one fewer left; where the
 -- eviction is refused, there is no room, with the frames that there are and what that last eviction
--- found lacking: so many loose spans, and so many nodes with room. The number that is left, where it
--- begins and where it ends are told by each case.
+-- found lacking: so many loose spans, and so many nodes with room. The number that is left, where
+-- it begins and where it ends are told by each case.
 pub data WithRoom {D : Type 0} (frames : ℕ) (operation : Holding D → Reply → Holding D → Type 0)
     (eviction : Holding D → Eviction → Holding D → Type 0) : ℕ → Holding D → Reply → Holding D
     → Type 0 where
@@ -35,8 +35,8 @@ pub data WithRoom {D : Type 0} (frames : ℕ) (operation : Holding D → Reply �
       → WithRoom frames operation eviction fewer n r b
       → WithRoom frames operation eviction (suc fewer) a r b
 
--- The answer, by an eviction, to an operation for which room is won: that there is no room, where the
--- eviction was refused; and none yet, where spans left as a set.
+-- The answer, by an eviction, to an operation for which room is won: that there is no room, where
+-- the eviction was refused; and none yet, where spans left as a set.
 abbrev pub refusal_by : ℕ → Eviction → Option Reply
 refusal_by frames (Set id) = None
 refusal_by frames (Refused why loose nodes) = Some (answer.NoRoom frames loose nodes)

@@ -38,7 +38,8 @@ pub(crate) fn make_with_room<D: Desk>(
     requires sound { (s : Shown) × D.shows desk.old s × Sound s far.old }
     ensures makes { IfOk result (λ reply. WithRoom (D.settings desk.old).frames
         (Makes (λ d es e. D.run d es e) (λ d s. D.shows d s) (D.settings desk.old) bytes.now)
-        (WinsRoom (λ d es e. D.run d es e) (λ d s. D.shows d s) (D.settings desk.old)) most_evictions
+        (WinsRoom (λ d es e. D.run d es e) (λ d s. D.shows d s) (D.settings desk.old))
+        most_evictions
         (record { desk = desk.old; far = far.old }) reply (record { desk = desk.new; far = far.new })) }
     ensures error { OnErr result (RoomStops
         (Makes (λ d es e. D.run d es e) (λ d s. D.shows d s) (D.settings desk.old) bytes.now)
@@ -81,7 +82,8 @@ fn win_room<D: Desk>(desk: &mut D, far: &mut Far) -> Result<Option<Reply>, NoMem
 
 /// Brings a far object in, with the span in which it left. Where no frame is free, evictions make
 /// room, one after another, and the span is swapped in then; NoRoom is answered only where an
-/// eviction is refused. Answers Unavailable where its set has lost more shards than it has parities.
+/// eviction is refused. Answers Unavailable where its set has lost more shards than it has
+/// parities.
 fn bring<D: Desk>(desk: &mut D, far: &mut Far, h: Handle) -> Result<Reply, NoMemory>
     requires handle { h.n < (D.settings desk.old).handles }
     requires config { IsAccepted (D.settings desk.old) }

@@ -112,7 +112,8 @@ module _ (at : ℕ) (bytes : List ℕ) where
   bring_past : (c : Config) (h : ℕ) (a b : Holding Slate) (r : Reply)
       → ((f : ℕ) → r ≡ answer.Swapped f → ⊥) → Brings slate_run slate_shows c h a r b → PastEnd r
   bring_past c h a b r never x = room_reply c.frames (Swaps slate_run slate_shows h)
-      (WinsRoom slate_run slate_shows c) (λ (q : Reply). ((f : ℕ) → q ≡ answer.Swapped f → ⊥) → PastEnd q)
+      (WinsRoom slate_run slate_shows c) (λ (q : Reply). ((f : ℕ) → q ≡ answer.Swapped f → ⊥)
+      → PastEnd q)
       (λ n b r y off out. swap_past h n b r off out y)
       (λ loose nodes out. other _ _ refl refl) most_evictions a b r x never
 

@@ -64,7 +64,8 @@ peek_calm seat h w new r (not_pinned none reply same) = eased_as r _ tt reply
 peek_calm seat h w new r (shown at newest reply same) = eased_as r _ tt reply
 
 -- facts that make it easy, also behind each eviction of a turn
-module _ (E : Holding Words → Type 0) (keeps : KeepsEasy E) (w : WorldState) (sound : IsSoundWorld w)
+module _ (E : Holding Words → Type 0) (keeps : KeepsEasy E) (w : WorldState)
+    (sound : IsSoundWorld w)
     (few : w.far.counts.turns < 2 ^ 40) (lone : NoneHolds w.seats) (easy : MakesEasy w.desk w.far)
     (begins : (j : Job) → E (once_counted (held w) j)) where
   event_calm : (seat : ℕ) (j : Job) (new : WorldState) (r : Reply) → IsWholeJob j

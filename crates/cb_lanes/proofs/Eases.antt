@@ -135,7 +135,8 @@ module _ (side : Side) (s : Script) (i : ℕ) (later : List ℕ) (answers : List
       eases.codes eases.young
 
   begins : (j : Job) → IsLikeWorld s w (once_counted (held w) j)
-  begins = like_counted side s i (l.lane.n ∷ later) answers w names script ease along so_far eases.rest
+  begins = like_counted side s i (l.lane.n ∷ later) answers w names script ease along so_far
+      eases.rest
       eases.codes eases.young
 
   few_turns : w.far.counts.turns < 2 ^ 40
@@ -235,7 +236,8 @@ module _ (side : Side) (s : Script) (i : ℕ) (later : List ℕ) (answers : List
 
       calm : IsCalmReply r
       calm = eased_calm (line_calm (IsLikeWorld s w) keeps (crashed_nodes s) side l.lane.n
-          (request_handle names l.request) l.request w between r along.sound few_turns along.lone easy begins
+          (request_handle names l.request) l.request w between r along.sound few_turns along.lone
+          easy begins
           (easy_line s i l ease lt at form.0) handle_ready step)
 
 pub eases_answered : (side : Side) (s : Script) (i : ℕ) (later : List ℕ) (answers all : List Answer) (l : Line)

@@ -94,9 +94,9 @@ easy_line s i l ease lt at is = record {
 
 -- ---- and so are the worlds between lines
 
--- What stands between two lines, and behind each eviction of a turn: all is known, no batch is leaving
--- and no pair is joining, no other nodes have crashed, all codes are the configured one, and as many
--- handles were made and the version words are as in this world.
+-- What stands between two lines, and behind each eviction of a turn: all is known, no batch is
+-- leaving and no pair is joining, no other nodes have crashed, all codes are the configured one,
+-- and as many handles were made and the version words are as in this world.
 pub record IsLikeWorld (s : Script) (w : WorldState) (a : Holding Words) : Type 0 where
   pub good : IsGood w.desk.settings w.seats a
   pub idle : IsIdle a.far
@@ -144,7 +144,8 @@ module _ (side : Side) (s : Script) (i : ℕ) (later : List ℕ) (answers : List
       omega (arith, ap (λ (ls : List Line). length ls) so_far, length-take i s.lines, length-map answers asked, most)
 
   -- ---- at each holding of a turn's parts that evictions lead to
-  module _ (rest : IsIdleAmong (crashed_nodes s) w) (codes : HaveCodes (IsConfiguredCode s.config) w.far)
+  module _ (rest : IsIdleAmong (crashed_nodes s) w) (codes : HaveCodes (IsConfiguredCode s.config)
+      w.far)
       (young : (h : ℕ) → version_had (value (calls_of answers) h) ≤ length answers) where
     easy_at : (a : Holding Words) → IsLikeWorld s w a → MakesEasy a.desk a.far
     easy_at a x = let good = x.good in record {
@@ -161,7 +162,8 @@ module _ (side : Side) (s : Script) (i : ℕ) (later : List ℕ) (answers : List
           omega (arith, all, frames, pins, enough, k, same);
       nodes = enough_roomy w.desk.settings good.shown a.far (crashed_nodes s) good.known.sound
           good.configured x.idle x.crashed
-          (let few = few_made in let front = count_front (λ (l : Line). is_make l.request) s.lines i in
+          (let few = few_made in let front = count_front (λ (l : Line). is_make l.request) s.lines
+          i in
           let room = ease.room in let same = ap (λ (c : Config). c.room) along.settings in
           let made = x.made in omega (arith, few, front, room, same, made))
           (a.far.code.k + a.far.code.r)

@@ -170,7 +170,8 @@ module _ (h at : ℕ) (bytes : List ℕ) (r : Reply) (of_word : IsOfWord r) wher
   bring_none c a b bring = by (room_ends c.frames (Swaps slate_run slate_shows h)
       (WinsRoom slate_run slate_shows c) most_evictions a b r bring)
     where
-      by : RoomEnds c.frames (Swaps slate_run slate_shows h) (WinsRoom slate_run slate_shows c) r b → ⊥
+      by : RoomEnds c.frames (Swaps slate_run slate_shows h) (WinsRoom slate_run slate_shows c) r b
+          → ⊥
       by (operated n x never) = swap_none x.0.set x.0.position n.far b.far x.2.events x.2.rule
       by (was_refused m why loose nodes evict e) = not_so _ e (λ z. z)
 

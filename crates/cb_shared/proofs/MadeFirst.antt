@@ -94,9 +94,11 @@ evicted_still c far new r es x = elim x.answered [
   )
 ]
 
-roomed_next : (c : Config) (bytes : List ℕ) (h : Handle) (n left : ℕ) (a b : Holding Slate) (r : Reply)
+roomed_next : (c : Config) (bytes : List ℕ) (h : Handle) (n left : ℕ) (a b : Holding Slate)
+    (r : Reply)
     → r ≡ answer.Made h n
-    → WithRoom c.frames (Makes slate_run slate_shows c bytes) (WinsRoom slate_run slate_shows c) left a r b
+    → WithRoom c.frames (Makes slate_run slate_shows c bytes) (WinsRoom slate_run slate_shows c)
+    left a r b
     → IsNextOf h n a.far
 roomed_next c bytes h n left a b r made (at_once op ne) = make_is_next c bytes h n a b
     (subst (λ (q : Reply). Makes slate_run slate_shows c bytes a q b) made op)
@@ -113,7 +115,8 @@ made_is_next : (c : Config) (bytes : List ℕ) (h : Handle) (n : ℕ) (a b : Hol
     → IsNextOf h n a.far
 made_is_next c bytes h n a b (worn last is same ran) =
     absurd (let e : 1 ≡ 0 = ap is_made is in omega (arith, e))
-made_is_next c bytes h n a b (done less does) = roomed_next c bytes h n most_evictions _ b _ refl does
+made_is_next c bytes h n a b (done less does) = roomed_next c bytes h n most_evictions _ b _ refl
+    does
 
 -- so the record did not know it, where all that it knew was made by then
 of_new : (first : ℕ) (c : Config) (bytes : List ℕ) (r : Result Reply NoMemory) (start : Shown)

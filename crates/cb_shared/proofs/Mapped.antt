@@ -67,10 +67,12 @@ module _ {D E : Type 0} (run : D → List Event → D → Type 0) (shows : D →
       (G : Holding E → Eviction → Holding E → Type 0) → Maps P Q → Maps F G → (left : ℕ)
       → Maps (WithRoom n P F left) (WithRoom n Q G left)
   with_room n P F Q G p e left a b r (at_once o off) = at_once (p a b r o) off
-  with_room n P F Q G p e left a b r (no_room m why loose nodes o v is) = no_room (on m) why loose nodes
+  with_room n P F Q G p e left a b r (no_room m why loose nodes o v is) = no_room (on m) why loose
+      nodes
       (p a m answer.NoFrame o) (e m b (eviction.Refused why loose nodes) v) is
   with_room n P F Q G p e (suc fewer) a b r (won m k id o v again) = won (on m) (on k) id
-      (p a m answer.NoFrame o) (e m k (eviction.Set id) v) (with_room n P F Q G p e fewer k b r again)
+      (p a m answer.NoFrame o) (e m k (eviction.Set id) v)
+      (with_room n P F Q G p e fewer k b r again)
 
   where_it_is : (P F : Holding D → Reply → Holding D → Type 0)
       (L : Holding D → Option Reply → Holding D → Type 0)

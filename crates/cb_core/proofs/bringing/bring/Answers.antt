@@ -6,7 +6,7 @@ use Rattle.cb_world.specs.Homes.{home_at}
 use Rattle.cb_core.specs.Parts.WithRoom.{at_once}
 use Rattle.cb_core.specs.Parts.RoomStops.{at_once as lacks_at_once}
 use Rattle.cb_core.specs.Turned.{SwapLacks, Swaps, TriesRoom}
-use Rattle.cb_core.proofs.Composing.{holding, shown_after, swap_lacked}
+use Rattle.cb_core.proofs.Composing.{any_err, holding, shown_after, swap_lacks}
 use Rattle.cb_core.proofs.Exits.{configured_as}
 use Rattle.cb_core.proofs.PartsFar.{live_home, swap_crammed}
 use Rattle.cb_core.proofs.Winning.{few_drawn, room_lacks, room_refused, wins_more, wins_none}
@@ -44,11 +44,13 @@ returns-in_err-swapped-clause-error g c =
     let at = ap (λ (q : FarState). home_at q.homes c.args.h.n) (sym c.far.view_is)
     ∙ sym c.at.ensures.home ∙ c.unwrap-home.ensures in
     let w = c.loop.invariant in
-    swap_lacked (λ d es e. g.D.Desk.run d es e) (λ d s. g.D.Desk.shows d s) c.args.h.n
-    c.unwrap-home.result (holding c.loop.desk c.loop.far) (holding c.swap_in.new.desk c.swap_in.new.far)
-    (λ d. g.met.D.Desk.none d) w.shown (w.homes c.args.h.n c.unwrap-home.result at) _ c.from_residual.result
-    c.in_err-swapped.ensures.desk c.in_err-swapped.ensures.far
-    (λ x. w.stops (holding c.swap_in.new.desk c.swap_in.new.far) (lacks_at_once x))
+    any_err _ c.from_residual.result (w.stops (holding c.swap_in.new.desk c.swap_in.new.far)
+    (lacks_at_once (swap_lacks (λ d es e. g.D.Desk.run d es e) (λ d s. g.D.Desk.shows d s)
+    c.args.h.n
+    c.unwrap-home.result (holding c.loop.desk c.loop.far)
+    (holding c.swap_in.new.desk c.swap_in.new.far)
+    (λ d. g.met.D.Desk.none d) w.shown (w.homes c.args.h.n c.unwrap-home.result at)
+    c.in_err-swapped.ensures.desk c.in_err-swapped.ensures.far)))
 
 pub returns-in_err-swapped-clause-settings : goal.returns-in_err-swapped-clause-settings
 returns-in_err-swapped-clause-settings g c =
@@ -140,7 +142,8 @@ returns-in-Some-clause-brings g c =
     (subst (λ (k : Config). TriesRoom (λ d es e. g.D.Desk.run d es e)
     (λ d s. g.D.Desk.shows d s) k (holding c.swap_in.new.desk c.swap_in.new.far)
     c.in_ok-refusal.field-0 (holding c.win_room.new.desk c.win_room.new.far))
-    (g.met.D.Desk.stays _ _ x.events x.ran ∙ w.desk_settings) c.in_ok-refusal.ensures.tries) c.in-Some.is
+    (g.met.D.Desk.stays _ _ x.events x.ran ∙ w.desk_settings) c.in_ok-refusal.ensures.tries)
+    c.in-Some.is
 
 pub returns-in-Some-clause-settings : goal.returns-in-Some-clause-settings
 returns-in-Some-clause-settings g c =
@@ -179,4 +182,5 @@ loop-preserved g c =
     (subst (λ (k : Config). TriesRoom (λ d es e. g.D.Desk.run d es e)
     (λ d s. g.D.Desk.shows d s) k (holding c.swap_in.new.desk c.swap_in.new.far)
     c.in_ok-refusal.field-0 (holding c.win_room.new.desk c.win_room.new.far))
-    (g.met.D.Desk.stays _ _ x.events x.ran ∙ w.desk_settings) c.in_ok-refusal.ensures.tries) c.in_default.is
+    (g.met.D.Desk.stays _ _ x.events x.ran ∙ w.desk_settings) c.in_ok-refusal.ensures.tries)
+    c.in_default.is

@@ -4,8 +4,8 @@ use Rattle.cb_types.specs.Config.{IsAccepted}
 use Rattle.cb_core.specs.Parts.WithRoom.{at_once}
 use Rattle.cb_core.specs.Parts.RoomStops.{at_once as lacks_at_once}
 use Rattle.cb_core.specs.Turned.{MakeLacks, Makes, TriesRoom}
-use Rattle.cb_core.proofs.Composing.{holding, makes_as, shown_after}
-use Rattle.cb_core.proofs.Exits.{configured_as, make_lacked}
+use Rattle.cb_core.proofs.Composing.{any_err, holding, makes_as, shown_after}
+use Rattle.cb_core.proofs.Exits.{configured_as, make_lacks}
 use Rattle.cb_core.proofs.PartsFar.{make_crammed}
 use Rattle.cb_core.proofs.Winning.{few_drawn, room_lacks, room_refused, wins_more, wins_none}
 use Rattle.cb_core.proofs.bringing.make_with_room.Goals as goal
@@ -29,11 +29,11 @@ make-requires-clause-sound g c = c.loop.invariant.shown
 
 pub returns-in_err-reply-clause-error : goal.returns-in_err-reply-clause-error
 returns-in_err-reply-clause-error g c = let w = c.loop.invariant in
-    make_lacked (λ d es e. g.D.Desk.run d es e) (g.D.Desk.settings c.args.desk.now)
+    any_err _ c.from_residual.result (w.stops (holding c.make.new.desk c.make.new.far)
+    (lacks_at_once (make_lacks (λ d es e. g.D.Desk.run d es e) (g.D.Desk.settings c.args.desk.now)
     (g.D.Desk.settings c.loop.desk) c.args.bytes.now (holding c.loop.desk c.loop.far)
-    (holding c.make.new.desk c.make.new.far) _ c.from_residual.result
-    (λ d. g.met.D.Desk.none d) w.desk_settings c.in_err-reply.ensures.error
-    (λ x. w.stops (holding c.make.new.desk c.make.new.far) (lacks_at_once x))
+    (holding c.make.new.desk c.make.new.far) (λ d. g.met.D.Desk.none d) w.desk_settings
+    c.in_err-reply.ensures.error)))
 
 pub returns-then-not-is_no_frame-clause-makes : goal.returns-then-not-is_no_frame-clause-makes
 returns-then-not-is_no_frame-clause-makes g c = let w = c.loop.invariant in
@@ -113,7 +113,8 @@ returns-in-Some-clause-makes g c =
     (subst (λ (k : Config). TriesRoom (λ d es e. g.D.Desk.run d es e)
     (λ d s. g.D.Desk.shows d s) k (holding c.make.new.desk c.make.new.far)
     c.in_ok-refusal.field-0 (holding c.win_room.new.desk c.win_room.new.far))
-    (g.met.D.Desk.stays _ _ x.events x.ran ∙ w.desk_settings) c.in_ok-refusal.ensures.tries) c.in-Some.is
+    (g.met.D.Desk.stays _ _ x.events x.ran ∙ w.desk_settings) c.in_ok-refusal.ensures.tries)
+    c.in-Some.is
 
 pub loop-preserved : goal.loop-preserved
 loop-preserved g c =
@@ -141,4 +142,5 @@ loop-preserved g c =
     (subst (λ (k : Config). TriesRoom (λ d es e. g.D.Desk.run d es e)
     (λ d s. g.D.Desk.shows d s) k (holding c.make.new.desk c.make.new.far)
     c.in_ok-refusal.field-0 (holding c.win_room.new.desk c.win_room.new.far))
-    (g.met.D.Desk.stays _ _ x.events x.ran ∙ w.desk_settings) c.in_ok-refusal.ensures.tries) c.in_default.is
+    (g.met.D.Desk.stays _ _ x.events x.ran ∙ w.desk_settings) c.in_ok-refusal.ensures.tries)
+    c.in_default.is
