@@ -47,12 +47,12 @@ use Rattle.cb_core.specs.declared.event.Event.TheVariants as event
 use Rattle.cb_core.specs.Claiming.{ClaimStep, SettleStep, StoreStep}
 use Rattle.cb_core.specs.Holding.{GiveStep, TakeStep}
 use Rattle.cb_core.specs.Membership.{CrashTurn, JoinTurn}
-use Rattle.cb_core.specs.Parts.{BringsIn, Holding, NeverDeclined, WhereItIs, WithRoom}
+use Rattle.cb_core.specs.Parts.{BringsIn, Holding, NeverDeclined, WhereItIs, WithRoom, most_evictions}
 use Rattle.cb_core.specs.Pinning.{PinStep, UnpinStep}
 use Rattle.cb_core.specs.Step.{AtomicStep, SeatTurn, Step, StillBring, StillDecline, StillFind, StillMake, StillRead, StillRoom, StillSwap, StillWorks, StillWrite, TurnStep}
 use Rattle.cb_core.specs.Turned.{counted}
 use Rattle.cb_core.specs.Unavailable.{IsInLost, TellsUnavailable}
-use Rattle.cb_core.proofs.Laws.{read_leaves}
+use Rattle.cb_core.proofs.Laws.{read_leaves, room_reply}
 use Rattle.carbink_c.specs.Told.{bytes_of}
 use Rattle.carbink_c.proofs.FewBytes.{HasFew, HasFewIn, IsLike, claim_few, few_bytes, filter_map_few, frame_few, free_few, passing_few, pin_few, put_like, read_few, refusal_few, seen_like, state_few, write_few}
 
@@ -69,10 +69,10 @@ same e few = subst HasFew (sym e) few
 -- ---- room, and objects that are brought in
 
 room_few : {D : Type 0} (frames : ℕ) (operation : Holding D → Reply → Holding D → Type 0) (eviction : Holding D → Eviction → Holding D → Type 0) (a : Holding D) (r : Reply) (b : Holding D)
-    → ((m n : Holding D) (q : Reply) → operation m q n → HasFew q) → WithRoom frames operation eviction a r b → HasFew r
-room_few frames operation eviction a r b each (WithRoom.at_once x other) = each a b r x
-room_few frames operation eviction a r b each (WithRoom.no_room m why loose nodes x y e) = same e tt
-room_few frames operation eviction a r b each (WithRoom.won m n id x y z other) = each n b r z
+    → ((m n : Holding D) (q : Reply) → operation m q n → HasFew q)
+    → WithRoom frames operation eviction most_evictions a r b → HasFew r
+room_few frames operation eviction a r b each x = room_reply frames operation eviction HasFew
+    (λ m n q y off. each m n q y) (λ loose nodes. tt) most_evictions a b r x
 
 swap_few : (h : ℕ) (m n : Holding Words) (q : Reply) → StillSwap h m q n → HasFew q
 swap_few h m n q (home, there, step, held) =

@@ -25,8 +25,11 @@ use Rattle.cb_types.specs.Table.{IsReplyOf}
 use Rattle.cb_script.specs.declared.script.Script.{Script}
 use Rattle.cb_script.specs.Form.{AreLines}
 use Rattle.cb_script.specs.Roomy.{IsRoomy}
+use Rattle.cb_world.specs.declared.shown.Shown.{Shown}
 use Rattle.cb_world.specs.Choices.{room_count}
 use Rattle.cb_world.specs.FarState.{FarState}
+use Rattle.cb_world.specs.Sound.{Sound}
+use Rattle.cb_world.specs.World.{IsConfigured}
 use Rattle.cb_core.proofs.Laws.{CrashedAmong, enough_beside}
 use Rattle.cb_rule.specs.declared.turn.Turn.{Turn}
 use Rattle.cb_rule.specs.declared.view.View.{View}
@@ -50,9 +53,10 @@ use Rattle.cb_app.specs.Calm.{IsCalmTo, MayFindMoving}
 use Rattle.cb_app.specs.Telling.{AreOfOtherNodes, TellsLost, TellsWorn}
 use Rattle.cb_app.specs.Threaded.{AreLosses}
 use Rattle.cb_app.proofs.AnswersTold.{is_loss, room_turn}
-use Rattle.cb_app.proofs.CrashesTold.{found_crashes, room_told}
-use Rattle.cb_app.proofs.MadeTurns.{few_found}
-use Rattle.cb_app.proofs.PairsApart.{found_joins}
+use Rattle.cb_app.proofs.CrashesTold.{given_crashes, room_told}
+use Rattle.cb_app.proofs.MadeTurns.{few_given}
+use Rattle.cb_app.proofs.PairsApart.{given_joins}
+use Rattle.cb_app.proofs.TurnHistory.{each_gave}
 use Rattle.cb_app.proofs.RoomyLines.{AreOfNodes, crashed_named, few_makes, fulls, is_full}
 
 -- ---- losses of different nodes, which are among some
@@ -115,12 +119,17 @@ more_come : (c : Config) (loose : ℕ) → loose < c.k → 2 * c.k + 360 ≤ c.f
 more_come c loose few enough = ap (λ (b : Bool). b && leb (2 * c.k + 360) c.frames)
     (lt-ltb loose c.k few) ∙ le-leb (2 * c.k + 360) c.frames enough
 
+-- the far state is as it is configured, and a sound world is known of it
+abbrev pub StandsSound : Config → FarState → Type 0
+StandsSound c far = (k : Shown) × Sound k far × IsConfigured c far
+
 -- ---- all answers of a closed record
 module _ (first : ℕ) (s : Script) (ok : IsAccepted s.config) (v : View) (count : ℕ)
     (last : FarState) (one : IsOneHistory Did first s.config (v ∷ []) count last) (answers : List Answer)
     (backs : Backs (as_part v) (tolds [] answers)) (losses : List Loss)
     (are_losses : AreLosses losses answers) (are : AreLines s.config.nodes [] s.lines)
-    (by : map asked answers ≡ by_lane s.lines) (roomy : IsRoomy s) (few : count < 2 ^ 40) where
+    (by : map asked answers ≡ by_lane s.lines) (roomy : IsRoomy s) (few : count < 2 ^ 40)
+    (end : StandsSound s.config last) where
   abbrev c : Config
   c = s.config
 
@@ -146,23 +155,29 @@ module _ (first : ℕ) (s : Script) (ok : IsAccepted s.config) (v : View) (count
       let many = tells.many in let least = few_nodes in omega (arith, most, many, least)
 
   -- ---- room
-  -- the nodes that have crashed when a turn was taken are those of crash lines
-  crashed : (t : Turn) → Has t v.turns → CrashedAmong nodes t.took.members
+  -- the nodes that have crashed when a turn was made are those of crash lines
+  crashed : (t : Turn) → Has t v.turns → CrashedAmong nodes t.gave.members
   crashed t there node some =
-      let x = first_epoch (node_state t.took.members node).crashes some in
+      let x = first_epoch (node_state t.gave.members node).crashes some in
       named (record { node = node; epoch = x.0 }) (is_loss v answers losses backs are_losses
       (record { node = node; epoch = x.0 })
-      (found_crashes first c ok v count last one t there node 0 x.0 x.1))
+      (given_crashes first c ok v count last one t there node 0 x.0 x.1))
 
-  enough : (t : Turn) → Has t v.turns → c.k + c.r ≤ room_count t.took.nodes t.took.members
+  -- what a turn gave is sound
+  stands : (t : Turn) → Has t v.turns → StandsSound c t.gave
+  stands t there = each_gave first c v count last one (StandsSound c)
+      (λ u is. let k = one.sound u (v, (0, refl), is) in (u.start, k.sound, k.configured)) end t
+      there
+
+  enough : (t : Turn) → Has t v.turns → c.k + c.r ≤ room_count t.gave.nodes t.gave.members
   enough t there =
-      let k = one.sound t (v, (0, refl), there) in
-      let made = few_found first c v count last one t there in
+      let k = stands t there in
+      let made = few_given first c v count last one t there in
       let room = roomy.room in
       let least = few_nodes in
       let all = roomy.nodes in
-      enough_beside c t.start t.took nodes k.sound k.configured
-      (found_joins first c ok v count last one t there) (crashed t there)
+      enough_beside c k.0 t.gave nodes k.1 k.2
+      (given_joins first c ok v count last one t there) (crashed t there)
       (omega (arith, made, room)) (c.k + c.r) (omega (arith, least, all))
 
   no_room : (h : Option ℕ) (q : Request) (frames loose roomy_nodes : ℕ)

@@ -32,7 +32,7 @@ use Rattle.cb_rule.specs.OneHistory.{IsOneHistory}
 use Rattle.cb_shared.specs.Turning.{Did}
 use Rattle.cb_app.specs.Telling.{AreOfOtherNodes}
 use Rattle.cb_app.proofs.TurnGoes.{IsShortOfRoom, MembersGoOn}
-use Rattle.cb_app.proofs.TurnHistory.{TellsIf, TurnGoes, at_turn, each_goes}
+use Rattle.cb_app.proofs.TurnHistory.{TellsIf, TurnGoes, at_gave, at_turn, each_goes}
 
 -- ---- the members, where one node has a new state
 -- a node is that one, or has the state that it had
@@ -234,12 +234,16 @@ module _ (first : ℕ) (c : Config) (ok : IsAccepted c) (v : View) (count : ℕ)
   pub found_crashes : (t : Turn) → Has t v.turns → AreCrashes v.turns t.took.members
   found_crashes t there = at_turn first c v count last one KnowsCrashes start step t there
 
+  pub given_crashes : (t : Turn) → Has t v.turns → AreCrashes v.turns t.gave.members
+  given_crashes t there = at_gave first c v count last one KnowsCrashes start step
+      (λ far. AreCrashes v.turns far.members) (λ n far are. are) t there
+
   -- what a turn that was answered Unavailable tells
   pub lost_told : (t : Turn) (id : SetId) (losses : List Loss) → Has t v.turns
       → t.reply ≡ Some (answer.Unavailable id losses)
       → (c.r < length losses) × AreOfOtherNodes losses × AllByRecursion (IsLoss v.turns) losses
   lost_told t id losses there is =
-      let tells = subst (TellsIf c t.took) is (goes t there).tells in (
+      let tells = subst (TellsIf c t.took t.gave) is (goes t there).tells in (
         tells.many,
         subst AreOfOtherNodes (sym tells.all)
             (lost_apart t.took.members tells.shards (apart_rec tells.shards tells.apart)),
@@ -250,5 +254,5 @@ module _ (first : ℕ) (c : Config) (ok : IsAccepted c) (v : View) (count : ℕ)
   -- and one that was answered NoRoom
   pub room_told : (t : Turn) (frames loose nodes : ℕ) → Has t v.turns
       → t.reply ≡ Some (answer.NoRoom frames loose nodes)
-      → IsShortOfRoom c (room_count t.took.nodes t.took.members) frames loose nodes
-  room_told t frames loose nodes there is = subst (TellsIf c t.took) is (goes t there).tells
+      → IsShortOfRoom c (room_count t.gave.nodes t.gave.members) frames loose nodes
+  room_told t frames loose nodes there is = subst (TellsIf c t.took t.gave) is (goes t there).tells

@@ -17,7 +17,7 @@ use Rattle.cb_mutate.specs.MakeRule.{MakeRule}
 use Rattle.cb_swapin.specs.SwapRule.{SwapRule}
 use Rattle.cb_swapin.proofs.Laws.{by_answer}
 use Rattle.cb_core.specs.OnceHere.{OnceHere, away, here}
-use Rattle.cb_core.specs.Parts.{Holding, WithRoom, WhereItIs, at_once, no_room, won, near, declined, stays_far, brought, not_far, was_far}
+use Rattle.cb_core.specs.Parts.{Holding, WithRoom, WhereItIs, at_once, no_room, won, most_evictions, near, declined, stays_far, brought, not_far, was_far}
 use Rattle.cb_core.specs.Turned.{Brings, ComesIn, Declines, Makes, WinsRoom, WritesObject, done, worn}
 use Rattle.cb_rule.specs.Locking.{Stood}
 use Rattle.cb_shared.specs.Turning.{DidAs, IsReadReply, ReadsByPin, Slate, slate_run, slate_shows}
@@ -81,7 +81,7 @@ module _ (c : Config) where
       other_unless r a.far (swap_other home.set home.position a.far b.far r x.events x.rule)
   brings h a b r (no_room m why loose nodes (home, at, x) evict e) = λ is.
       no_frame home.set home.position a.far m.far x.events x.rule
-  brings h a b r (won m n id (home, at, x) evict more never) = λ is.
+  brings h a b r (won m n id (home, at, x) evict again) = λ is.
       no_frame home.set home.position a.far m.far x.events x.rule
 
   -- behind what left the far state
@@ -119,12 +119,12 @@ module _ (c : Config) where
 
   makes : (bytes : List ℕ) (a b : Hold) (r : Reply)
       → WithRoom c.frames (Makes slate_run slate_shows c bytes) (WinsRoom slate_run slate_shows c)
-      a r b → is_room r ≡ true → Lacks a.far
+      most_evictions a r b → is_room r ≡ true → Lacks a.far
   makes bytes a b r (at_once x never) is = absurd (true≢false (sym is
       ∙ make_other c.handles bytes a.far b.far r x.events x.rule))
   makes bytes a b r (no_room m why loose nodes x evict e) is =
       (x.rule.0, x.rule.1.2.taken)
-  makes bytes a b r (won m n id x evict more never) is =
+  makes bytes a b r (won m n id x evict again) is =
       (x.rule.0, x.rule.1.2.taken)
 
   -- ---- a turn

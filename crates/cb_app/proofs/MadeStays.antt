@@ -1,6 +1,6 @@
 -- How many handles were made behind a turn over any desk: a make that is answered Made makes one
 -- more, and nothing else does. It is of the rules alone, and would fit cb_core.
-use Rattle.std.proofs.Common.{◌≡◌, ◌⊎◌, ℕ, ◌+◌, ◌≤◌, List, length, Option, None, Some, refl, sym, ap, ◌∙◌, subst, inl, inr, arith}
+use Rattle.std.proofs.Common.{◌≡◌, ◌⊎◌, ℕ, suc, ◌+◌, ◌≤◌, List, length, Option, None, Some, refl, sym, ap, ◌∙◌, subst, inl, inr, arith}
 use Rattle.cb_member.specs.declared.names.NodeId.{NodeId}
 use Rattle.cb_ptr.specs.declared.word.State.{State}
 use Rattle.cb_ptr.specs.declared.word.State.TheVariants as word
@@ -30,7 +30,7 @@ use Rattle.cb_compact.proofs.Laws.{begin_laws, merge_laws, now_laws, part_laws, 
 use Rattle.cb_rebuild.specs.RebuildStep.{RebuildStep, Restores, surveyed}
 use Rattle.cb_core.specs.Membership.{CrashTurn, JoinTurn, crashed, is_down, is_up, joined}
 use Rattle.cb_core.specs.OnceHere.{OnceHere, OnceHereStops, away, bringing_stops, call_stops, here}
-use Rattle.cb_core.specs.Parts.{CallStops, Holding, NeverLacks, RoomStops, WithRoom, WhereItIs, at_once, no_room, won, near, declined, stays_far, brought, not_far, was_far}
+use Rattle.cb_core.specs.Parts.{CallStops, Holding, NeverLacks, RoomStops, WithRoom, WhereItIs, at_once, no_room, won, most_evictions, near, declined, stays_far, brought, not_far, was_far}
 use Rattle.cb_core.specs.Parts.RoomStops.{at_once as lacks_at_once, evicting, after}
 use Rattle.cb_core.specs.Parts.CallStops.{near as call_near, far as call_far, after as call_after}
 use Rattle.cb_core.specs.Turned.{BringLacks, Brings, ComeLacks, ComesIn, Declines, Does, EvictLacks, MakeLacks, Makes, Stops, SwapLacks, Swaps, Turned, WinsRoom, WritesObject, counted, done, worn}
@@ -194,12 +194,16 @@ module _ {D : Type 0} (run : D → List Event → D → Type 0) (shows : D → S
       → WinsRoom run shows c m (Refused why loose nodes) n → KeepsMade m n
   room_lost m n why loose nodes x = evict_same c m.far n.far _ x.events x.rule.rule
 
-  bring_kept : (h : ℕ) (a b : Hold) (r : Reply) → Brings run shows c h a r b → KeepsMade a b
-  bring_kept h a b r (at_once x never) = swapped h a b r x
-  bring_kept h a b r (no_room m why loose nodes x evict e) =
+  brought_kept : (h left : ℕ) (a b : Hold) (r : Reply)
+      → WithRoom c.frames (Swaps run shows h) (WinsRoom run shows c) left a r b → KeepsMade a b
+  brought_kept h left a b r (at_once x never) = swapped h a b r x
+  brought_kept h left a b r (no_room m why loose nodes x evict e) =
       room_lost m b why loose nodes evict ∙ swapped h a m answer.NoFrame x
-  bring_kept h a b r (won m n id x evict y never) =
-      swapped h n b r y ∙ room_won m n id evict ∙ swapped h a m answer.NoFrame x
+  brought_kept h (suc fewer) a b r (won m n id x evict again) =
+      brought_kept h fewer n b r again ∙ room_won m n id evict ∙ swapped h a m answer.NoFrame x
+
+  bring_kept : (h : ℕ) (a b : Hold) (r : Reply) → Brings run shows c h a r b → KeepsMade a b
+  bring_kept h a b r bring = brought_kept h most_evictions a b r bring
 
   come_kept : (h : ℕ) (a b : Hold) (r : Reply) → ComesIn run shows c h a r b → KeepsMade a b
   come_kept h a b r (not_far x never) = kept a b x.rule.0
@@ -229,21 +233,21 @@ module _ {D : Type 0} (run : D → List Event → D → Type 0) (shows : D → S
     few = λ le. x.few (omega (arith, le, e));
   }
 
-  make_turn : (bytes : List ℕ) (a b : Hold) (r : Reply)
-      → WithRoom c.frames (Makes run shows c bytes) (WinsRoom run shows c) a r b
+  make_turn : (bytes : List ℕ) (left : ℕ) (a b : Hold) (r : Reply)
+      → WithRoom c.frames (Makes run shows c bytes) (WinsRoom run shows c) left a r b
       → CountsMakes c (job.Make bytes) a.far b.far (Some r)
-  make_turn bytes a b r (at_once x never) = make_adds c bytes a.far b.far r x.events x.rule
-  make_turn bytes a b r (no_room m why loose nodes x evict e) =
+  make_turn bytes left a b r (at_once x never) = make_adds c bytes a.far b.far r x.events x.rule
+  make_turn bytes left a b r (no_room m why loose nodes x evict e) =
       subst (λ (q : Reply). CountsMakes c (job.Make bytes) a.far b.far (Some q)) (sym e)
       (adds_none c (job.Make bytes) a.far b.far (Some (answer.NoRoom c.frames loose nodes)) refl
       (room_lost m b why loose nodes evict ∙ kept a m x.rule.2.0))
-  make_turn bytes a b r (won m n id x evict y never) =
+  make_turn bytes (suc fewer) a b r (won m n id x evict again) =
       adds_from (job.Make bytes) a n b (Some r) (room_won m n id evict ∙ kept a m x.rule.2.0)
-      (make_adds c bytes n.far b.far r y.events y.rule)
+      (make_turn bytes fewer n b r again)
 
   does_adds : (j : Job) (a b : Hold) (r : Reply) → Does run shows reads c j a r b
       → CountsMakes c j a.far b.far (Some r)
-  does_adds (job.Make bytes) a b r x = make_turn bytes a b r x
+  does_adds (job.Make bytes) a b r x = make_turn bytes most_evictions a b r x
   does_adds (job.Read handle) a b r x =
       adds_none c (job.Read handle) a.far b.far (Some r) refl (once_kept handle.n a b r x)
   does_adds (job.Write handle at bytes) a b r x =
@@ -296,21 +300,27 @@ module _ {D : Type 0} (run : D → List Event → D → Type 0) (shows : D → S
       record { more = z.more; few = z.few }
 
   -- ---- want of memory
+  room_stops : (P : Hold → Reply → Hold → Type 0) (L : Hold → Hold → Type 0)
+      → ((a m : Hold) → P a answer.NoFrame m → KeepsMade a m)
+      → ((a b : Hold) → L a b → KeepsMade a b) → (left : ℕ) (a b : Hold)
+      → RoomStops P L (WinsRoom run shows c) (EvictLacks run shows) left a b → KeepsMade a b
+  room_stops P L none lacking left a b (lacks_at_once x) = lacking a b x
+  room_stops P L none lacking left a b (evicting m x y) = kept m b y.0 ∙ none a m x
+  room_stops P L none lacking (suc fewer) a b (after m n id x y z) =
+      room_stops P L none lacking fewer n b z ∙ room_won m n id y ∙ none a m x
+
   make_stops : (bytes : List ℕ) (a b : Hold)
       → RoomStops (Makes run shows c bytes) (MakeLacks run c bytes) (WinsRoom run shows c)
-      (EvictLacks run shows) a b → KeepsMade a b
-  make_stops bytes a b (lacks_at_once x) = kept a b x.1
-  make_stops bytes a b (evicting m x y) = kept m b y.0 ∙ kept a m x.rule.2.0
-  make_stops bytes a b (after m n id x y z) = kept n b z.1 ∙ room_won m n id y ∙ kept a m x.rule.2.0
+      (EvictLacks run shows) most_evictions a b → KeepsMade a b
+  make_stops bytes a b x = room_stops (Makes run shows c bytes) (MakeLacks run c bytes)
+      (λ a m y. kept a m y.rule.2.0) (λ a b y. kept a b y.1) most_evictions a b x
 
   given : (h : ℕ) (a b : Hold) → SwapLacks run h a b → KeepsMade a b
   given h a b (ran, (home, set, n, at, there, few, state)) = ap (λ (f : FarState). f.made) state
 
   bring_stops : (h : ℕ) (a b : Hold) → BringLacks run shows c h a b → KeepsMade a b
-  bring_stops h a b (lacks_at_once x) = given h a b x
-  bring_stops h a b (evicting m x y) = kept m b y.0 ∙ swapped h a m answer.NoFrame x
-  bring_stops h a b (after m n id x y z) =
-      given h n b z ∙ room_won m n id y ∙ swapped h a m answer.NoFrame x
+  bring_stops h a b x = room_stops (Swaps run shows h) (SwapLacks run h)
+      (λ a m y. swapped h a m answer.NoFrame y) (given h) most_evictions a b x
 
   come_stops : (h : ℕ) (a b : Hold) → ComeLacks run shows c h a b → KeepsMade a b
   come_stops h a b (m, find, x) = bring_stops h m b x ∙ kept a m find.rule.0

@@ -33,7 +33,7 @@ use Rattle.cb_record.specs.Upheld.{as_part}
 use Rattle.cb_shared.specs.Turning.{Did, DidAs, PinLacks, ReadsByPin, held_by, slate_run, slate_shows}
 use Rattle.cb_app.proofs.CountedTurns.{below, counts_all, counts_more, counts_none}
 use Rattle.cb_app.proofs.MadeStays.{CountsMakes, made_by, stops_adds, turned_adds}
-use Rattle.cb_app.proofs.TurnHistory.{at_last, at_turn, lone, number_of, lacks_same, pins_same}
+use Rattle.cb_app.proofs.TurnHistory.{at_gave, at_last, at_turn, lone, number_of, lacks_same, pins_same}
 
 -- ---- one turn
 
@@ -106,8 +106,9 @@ module _ (first : ℕ) (c : Config) (v : View) (count : ℕ) (last : FarState)
   made_found t there = (at_turn first c v count last one CountsMade start step t there).0
 
   -- nor behind any turn before
-  pub few_found : (t : Turn) → Has t v.turns → t.took.made ≤ c.handles
-  few_found t there = (at_turn first c v count last one CountsMade start step t there).1
+  pub few_given : (t : Turn) → Has t v.turns → t.gave.made ≤ c.handles
+  few_given t there = at_gave first c v count last one CountsMade start step
+      (λ far. far.made ≤ c.handles) (λ n far z. z.1) t there
 
   -- and at least as many as were made behind a turn
   pub made_before : (t : Turn) → Has t v.turns → t.gave.made ≤ total made_in v.turns

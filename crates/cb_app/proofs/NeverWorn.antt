@@ -26,8 +26,9 @@ use Rattle.cb_rebuild.specs.RebuildStep.{RebuildStep, Restores, surveyed}
 use Rattle.cb_set.specs.SetState.{SetState}
 use Rattle.cb_core.specs.Membership.{CrashTurn, JoinTurn, crashed, is_down, is_up, joined}
 use Rattle.cb_core.specs.OnceHere.{OnceHere, away, here}
-use Rattle.cb_core.specs.Parts.{Holding, WithRoom, at_once, no_room, won, not_far, was_far}
-use Rattle.cb_core.specs.Turned.{Brings, ComesIn, Does, Makes, Turned, WinsRoom, counted, done, worn}
+use Rattle.cb_core.specs.Parts.{Holding, WithRoom, most_evictions, not_far, was_far}
+use Rattle.cb_core.proofs.Laws.{room_reply}
+use Rattle.cb_core.specs.Turned.{Brings, ComesIn, Does, Makes, Swaps, Turned, WinsRoom, counted, done, worn}
 
 abbrev pub is_worn : Reply → Bool
 is_worn answer.Worn = true
@@ -149,12 +150,9 @@ module _ {D : Type 0} (run : D → List Event → D → Type 0) (shows : D → S
   Hold = Holding D
 
   pub brings : (h : ℕ) (a b : Hold) (r : Reply) → Brings run shows c h a r b → Unworn r
-  brings h a b r (at_once (home, at, x) never) =
-      swap_rule home.set home.position a.far b.far r x.events x.rule
-  brings h a b r (no_room m why loose nodes x evict e) =
-      off r (answer.NoRoom c.frames loose nodes) refl e
-  brings h a b r (won m n id x evict (home, at, y) never) =
-      swap_rule home.set home.position n.far b.far r y.events y.rule
+  brings h a b r x = room_reply c.frames (Swaps run shows h) (WinsRoom run shows c) Unworn
+      (λ n b r y never. swap_rule y.0.set y.0.position n.far b.far r y.2.events y.2.rule)
+      (λ loose nodes. refl) most_evictions a b r x
 
   comes : (h : ℕ) (a b : Hold) (r : Reply) → ComesIn run shows c h a r b → Unworn r
   comes h a b r (not_far x never) =
@@ -166,12 +164,11 @@ module _ {D : Type 0} (run : D → List Event → D → Type 0) (shows : D → S
   once h a b r (here m place come there call) = read h m b r call
 
   makes : (bytes : List ℕ) (a b : Hold) (r : Reply)
-      → WithRoom c.frames (Makes run shows c bytes) (WinsRoom run shows c) a r b → Unworn r
-  makes bytes a b r (at_once x never) = make_rule c.handles bytes a.far b.far r x.events x.rule
-  makes bytes a b r (no_room m why loose nodes x evict e) =
-      off r (answer.NoRoom c.frames loose nodes) refl e
-  makes bytes a b r (won m n id x evict y never) =
-      make_rule c.handles bytes n.far b.far r y.events y.rule
+      → WithRoom c.frames (Makes run shows c bytes) (WinsRoom run shows c) most_evictions a r b
+      → Unworn r
+  makes bytes a b r x = room_reply c.frames (Makes run shows c bytes) (WinsRoom run shows c) Unworn
+      (λ n b r y never. make_rule c.handles bytes n.far b.far r y.events y.rule)
+      (λ loose nodes. refl) most_evictions a b r x
 
   does : (j : Job) → WritesNone j → (a b : Hold) (r : Reply) → Does run shows reads c j a r b
       → Unworn r

@@ -15,7 +15,7 @@ use Rattle.cb_rule.specs.Locking.{turn_number}
 use Rattle.cb_rule.specs.OneHistory.{IsOneHistory}
 use Rattle.cb_shared.specs.Turning.{Did}
 use Rattle.cb_app.proofs.PairGoes.{AreSetsApart, PairGoes}
-use Rattle.cb_app.proofs.TurnHistory.{at_turn, each_goes, sets_apart}
+use Rattle.cb_app.proofs.TurnHistory.{at_gave, each_goes, sets_apart}
 
 joins_after : (far new : FarState) → PairGoes far new → AreSetsApart far → JoinsApart far
     → JoinsApart new
@@ -38,5 +38,6 @@ module _ (first : ℕ) (c : Config) (ok : IsAccepted c) (v : View) (count : ℕ)
       joins_after t.took t.gave (each_goes first c v count last one ok t there).pair
       (sets_apart c t.start t.took (one.sound t (v, (0, refl), there))) before
 
-  pub found_joins : (t : Turn) → Has t v.turns → JoinsApart t.took
-  found_joins t there = at_turn first c v count last one Joins start step t there
+  pub given_joins : (t : Turn) → Has t v.turns → JoinsApart t.gave
+  given_joins t there = at_gave first c v count last one Joins start step JoinsApart
+      (λ n far apart. apart) t there

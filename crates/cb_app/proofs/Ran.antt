@@ -6,7 +6,7 @@ use Rattle.cb_member.specs.declared.no_memory.NoMemory.{NoMemory}
 use Rattle.cb_types.specs.declared.answer.Answer.{Answer}
 use Rattle.cb_types.specs.declared.config.Config.{Config}
 use Rattle.cb_types.specs.Config.{IsAccepted}
-use Rattle.cb_world.specs.World.{WorldState}
+use Rattle.cb_world.specs.World.{IsConfigured, WorldState}
 use Rattle.cb_script.specs.Form.{AreInMode, AreLines, FitsMode}
 use Rattle.cb_script.specs.Phrase.{phrase_of}
 use Rattle.cb_script.specs.Roomy.{IsRoomy}
@@ -41,7 +41,7 @@ use Rattle.cb_app.specs.Crew.{IsLaneTold, NeverFall, work_in}
 use Rattle.cb_app.specs.OwnLines.{AreAllOf, KeepAloneWith}
 use Rattle.cb_app.specs.Threaded.{AreLosses, IsRun}
 use Rattle.cb_app.specs.declared.threads.ThreadsEnd.{ThreadsEnd}
-use Rattle.cb_app.proofs.CalmTold.{all_calm, calm_lack_none}
+use Rattle.cb_app.proofs.CalmTold.{StandsSound, all_calm, calm_lack_none}
 use Rattle.cb_app.proofs.AnswersTold.{InThreads, answers_lost, answers_room}
 use Rattle.cb_app.proofs.EpochsTold.{are_epochs}
 use Rattle.cb_app.proofs.Lanes.{by_lane_all}
@@ -80,10 +80,16 @@ is_run script end mode few are lines replies last seal closed backs suits rises 
     let lost = answers_lost 1 c ok v far.counts.turns far closed.turns end.answers backs end.losses losses in
     let worn = answers_worn c v end.world closed end.answers replies runs backs
     (few_answers script.lines end.answers few lines) in
+    let sound = closed.sound in
+    let stands : StandsSound c far = (
+      sound.shown,
+      sound.known.sound,
+      subst (λ (d : Config). IsConfigured d far) closed.settings sound.configured,
+    ) in
     let calm : IsRoomy script → far.counts.turns < 2 ^ 40
     → AllByRecursion (λ a. IsCalmTo a.request a.reply) end.answers =
     (λ roomy under. all_calm 1 script ok v far.counts.turns far closed.turns end.answers backs
-    end.losses losses are lines roomy under replies last worn lost upheld) in
+    end.losses losses are lines roomy under stands replies last worn lost upheld) in
     let legal : IsLegal 1 c.handles end.answers =
     legal_of_backed 1 c.handles v end.answers closed.entries closed.calm backs upheld rises.1 in
     let one = one_to_one 1 c.handles c.nodes script.lines end.answers legal are lines in

@@ -1,7 +1,7 @@
 -- What a turn over any desk tells of the members that it found, what it leaves of them and of the
 -- pair that is joining, and what it tells of want of room. It is of the rules alone, and would fit
 -- cb_core.
-use Rattle.std.proofs.Common.{◌≡◌, ◌⊎◌, ℕ, ◌+◌, ◌<◌, true, List, [], ◌∷◌, length, Option, None, Some, refl, sym, ap, ◌∙◌, subst, inl, inr, arith}
+use Rattle.std.proofs.Common.{◌≡◌, ◌⊎◌, ℕ, suc, ◌+◌, ◌<◌, true, List, [], ◌∷◌, length, Option, None, Some, refl, sym, ap, ◌∙◌, subst, inl, inr, arith}
 use Rattle.std.proofs.lemmas.Bool.{false≢true, ltb-true}
 use Rattle.cb_member.specs.declared.names.Loss.{Loss}
 use Rattle.cb_member.specs.declared.names.NodeId.{NodeId}
@@ -32,7 +32,7 @@ use Rattle.cb_world.proofs.Laws.{codes_stay, have_codes, recounted}
 use Rattle.cb_evict.specs.declared.eviction.Eviction.TheVariants.{Refused, Set}
 use Rattle.cb_evict.specs.declared.eviction.Lack.{Lack}
 use Rattle.cb_evict.specs.declared.eviction.Lack.TheVariants as lack
-use Rattle.cb_evict.specs.Eviction.{CountsRule}
+use Rattle.cb_evict.specs.Eviction.{CountsRule, reply_of}
 use Rattle.cb_evict.specs.EvictRule.{EvictRule, HasBoth, HasFewNodes, HasFewSpans}
 use Rattle.cb_evict.proofs.Laws.{evict_stays}
 use Rattle.cb_swapin.specs.SwapRule.{SwapFar, SwapRule}
@@ -41,7 +41,7 @@ use Rattle.cb_compact.proofs.Laws.{begin_laws, merge_laws, now_laws, part_laws, 
 use Rattle.cb_rebuild.specs.RebuildStep.{RebuildStep, Restores, surveyed}
 use Rattle.cb_core.specs.Membership.{CrashTurn, JoinTurn, crashed, is_down, is_up, joined}
 use Rattle.cb_core.specs.OnceHere.{OnceHere, away, here}
-use Rattle.cb_core.specs.Parts.{Holding, WithRoom, WhereItIs, at_once, no_room, won, near, declined, stays_far, brought, not_far, was_far}
+use Rattle.cb_core.specs.Parts.{Holding, WithRoom, WhereItIs, at_once, no_room, won, most_evictions, near, declined, stays_far, brought, not_far, was_far}
 use Rattle.cb_core.specs.Turned.{Brings, ComesIn, Declines, Does, Makes, Turned, WinsRoom, WritesObject, counted, done, worn}
 use Rattle.cb_app.proofs.PairGoes.{AreSetsApart, PairGoes, begin_pair, evicted_apart, merge_pair, now_pair, pair_stays, part_pair, patch_pair}
 use Rattle.cb_app.proofs.PlainReplies.{StandsAs, StaysPlain, TellsNoLack, abort_plain, answered, begin_plain, commit_plain, declined_plain, evict_plain, filter_plain, free_plain, joining_of, make_plain, members_of, off, ship_plain, standing, stands_same, write_plain}
@@ -59,17 +59,26 @@ pub record IsShortOfRoom (c : Config) (roomy frames loose nodes : ℕ) : Type 0 
   pub few : (loose < c.k) ⊎ (nodes < c.k + c.r)
   pub counted : nodes ≡ roomy
 
--- what a reply tells of a lost set, and of want of room
-abbrev pub TellsWant : Config → FarState → Reply → Type 0
-TellsWant c far (answer.Unavailable set losses) = AreManyLost c far.members losses
-TellsWant c far (answer.NoRoom frames loose nodes) =
-    IsShortOfRoom c (room_count far.nodes far.members) frames loose nodes
-TellsWant c far r = Unit {0}
+-- What a reply tells: of a lost set as the far state had it that was taken, and of want of room by
+-- the far state that was left, behind the evictions that were made.
+abbrev pub TellsWant : Config → FarState → FarState → Reply → Type 0
+TellsWant c far new (answer.Unavailable set losses) = AreManyLost c far.members losses
+TellsWant c far new (answer.NoRoom frames loose nodes) =
+    IsShortOfRoom c (room_count new.nodes new.members) frames loose nodes
+TellsWant c far new r = Unit {0}
 
-plain_tells : (c : Config) (far : FarState) (r : Reply) → TellsNoLack r → TellsWant c far r
-plain_tells c far (answer.Unavailable set losses) plain = absurd (false≢true (sym plain))
-plain_tells c far (answer.NoRoom frames loose nodes) plain = absurd (false≢true (sym plain))
-plain_tells c far r plain = tt
+plain_tells : (c : Config) (far new : FarState) (r : Reply) → TellsNoLack r → TellsWant c far new r
+plain_tells c far new (answer.Unavailable set losses) plain = absurd (false≢true (sym plain))
+plain_tells c far new (answer.NoRoom frames loose nodes) plain = absurd (false≢true (sym plain))
+plain_tells c far new r plain = tt
+
+-- behind what left the members
+tells_behind : (c : Config) (far mid new : FarState) (r : Reply) → mid.members ≡ far.members
+    → TellsWant c mid new r → TellsWant c far new r
+tells_behind c far mid new (answer.Unavailable set losses) same y =
+    subst (λ (m : Membership). AreManyLost c m losses) same y
+tells_behind c far mid new (answer.NoRoom frames loose nodes) same y = y
+tells_behind c far mid new r same y = tt
 
 -- a far state as it is configured, all of whose codes are the configured one, and whose sets stand on
 -- different nodes
@@ -132,20 +141,20 @@ worn_told j = refl
 -- the members and the pair stand as they did, and the reply tells so of the far state that was found
 pub record StandsAndTells (c : Config) (far new : FarState) (r : Reply) : Type 0 where
   pub stands : StandsAs far new
-  pub tells : TellsWant c far r
+  pub tells : TellsWant c far new r
 
 pub plain_keeps : (c : Config) (far new : FarState) (r : Reply) → StaysPlain far new r
     → StandsAndTells c far new r
 plain_keeps c far new r x = record {
   stands = x.stands;
-  tells = plain_tells c far r x.plain;
+  tells = plain_tells c far new r x.plain;
 }
 
 same_keeps : (c : Config) (far new : FarState) (r : Reply) → new ≡ far → TellsNoLack r
     → StandsAndTells c far new r
 same_keeps c far new r same plain = record {
   stands = stands_same far new same;
-  tells = plain_tells c far r plain;
+  tells = plain_tells c far new r plain;
 }
 
 -- behind one that left the far state
@@ -159,7 +168,15 @@ plain_behind : (c : Config) (far mid new : FarState) (r : Reply) → StandsAs fa
     → StaysPlain mid new r → StandsAndTells c far new r
 plain_behind c far mid new r same x = record {
   stands = x.stands ∙ same;
-  tells = plain_tells c far r x.plain;
+  tells = plain_tells c far new r x.plain;
+}
+
+-- behind what left them, with any reply
+stands_behind : (c : Config) (far mid new : FarState) (r : Reply) → StandsAs far mid
+    → StandsAndTells c mid new r → StandsAndTells c far new r
+stands_behind c far mid new r same x = record {
+  stands = x.stands ∙ same;
+  tells = tells_behind c far mid new r (members_of far mid same) x.tells;
 }
 
 pub swap_stands : (far new : FarState) (id p : ℕ) (set : SetState) (es : List Event) (r : Reply)
@@ -167,15 +184,14 @@ pub swap_stands : (far new : FarState) (id p : ℕ) (set : SetState) (es : List 
 swap_stands far new id p set es (answer.Swapped f) x = ap standing x.0.rest
 swap_stands far new id p set es r x = ap standing x.0
 
--- behind what left the members and the pair as the first far state has them
-swap_keeps : (c : Config) (id p : ℕ) (first far new : FarState) (r : Reply) (es : List Event)
-    → IsFine c far → StandsAs first far → SwapRule id p far new r es → StandsAndTells c first new r
-swap_keeps c id p first far new r es fine same x = record {
-  stands = swap_stands far new id p x.set es r x.state ∙ same;
-  tells = subst (TellsWant c first) (sym x.reply) (by_answer (TellsWant c first) far id x.set
+swap_keeps : (c : Config) (id p : ℕ) (far new : FarState) (r : Reply) (es : List Event)
+    → IsFine c far → SwapRule id p far new r es → StandsAndTells c far new r
+swap_keeps c id p far new r es fine x = record {
+  stands = swap_stands far new id p x.set es r x.state;
+  tells = subst (TellsWant c far new) (sym x.reply) (by_answer (TellsWant c far new) far id x.set
       (λ broken. record {
         shards = x.set.shards;
-        all = ap (λ (m : Membership). lost m x.set.shards) (members_of first far same);
+        all = refl;
         many = many broken;
         apart = fine.apart id x.set x.there;
       })
@@ -210,6 +226,21 @@ too_few c far new lack.Nodes loose nodes es code x = by x.rule.answered
         let k = code.0 in let r = code.1 in omega (arith, n, f, k, r))
     by (inr (inr both)) = absurd (let e = both.reply in cc)
 
+-- and leaves the far state
+refused_same : (far new : FarState) (why : Lack) (loose nodes : ℕ) (es : List Event)
+    → EvictRule far new (reply_of (Refused why loose nodes)) es → new ≡ far
+refused_same far new why loose nodes es x = elim x.answered [
+  | inl few ↦ few.state
+  | inr (inl few) ↦ few.state
+  | inr (inr both) ↦ absurd (no_set why both.reply)
+]
+  where
+    no_set : (why : Lack) → reply_of (Refused why loose nodes) ≡ answer.Set
+        (record { n = far.counts.sets })
+        → ⊥
+    no_set lack.Spans e = cc
+    no_set lack.Nodes e = cc
+
 -- ---- jobs at the far state alone
 line_plain : (asked : Request) (r : Reply) → IsReplyOf asked r
     → ((id : SetId) (l : List Loss) → IsReplyOf asked (answer.Unavailable id l) → ⊥)
@@ -240,14 +271,14 @@ rebuild_plain far new r (inr z) = restored_plain far new z.id z.set r z.restores
 pub record LeavesAndTells (c : Config) (j : Job) (far new : FarState) (r : Reply) : Type 0 where
   pub goes : MembersGoOn j far.members new.members (Some r)
   pub pair : PairGoes far new
-  pub tells : TellsWant c far r
+  pub tells : TellsWant c far new r
 
 crash_goes : (c : Config) (node : NodeId) (far new : FarState) (r : Reply) → CrashTurn node far r new
     → LeavesAndTells c (job.Crash node) far new r
 crash_goes c node far new r (crashed up is state) = record {
   goes = inr (ap (λ (f : FarState). f.members) state, ap (λ (q : Reply). Some q) is);
   pair = pair_stays far new (ap (λ (f : FarState). f.joining) state);
-  tells = subst (TellsWant c far) (sym is) tt;
+  tells = subst (TellsWant c far new) (sym is) tt;
 }
 crash_goes c node far new r (is_down down is state) = record {
   goes = inl (
@@ -255,7 +286,7 @@ crash_goes c node far new r (is_down down is state) = record {
     ap (λ (q : Reply). epochs_in (job.Crash node) (Some q)) is,
   );
   pair = pair_stays far new (ap (λ (f : FarState). f.joining) state);
-  tells = subst (TellsWant c far) (sym is) tt;
+  tells = subst (TellsWant c far new) (sym is) tt;
 }
 
 join_goes : (c : Config) (node : NodeId) (far new : FarState) (r : Reply) → JoinTurn node far r new
@@ -263,7 +294,7 @@ join_goes : (c : Config) (node : NodeId) (far new : FarState) (r : Reply) → Jo
 join_goes c node far new r (joined down is state) = record {
   goes = inr (ap (λ (f : FarState). f.members) state, ap (λ (q : Reply). Some q) is);
   pair = pair_stays far new (ap (λ (f : FarState). f.joining) state);
-  tells = subst (TellsWant c far) (sym is) tt;
+  tells = subst (TellsWant c far new) (sym is) tt;
 }
 join_goes c node far new r (is_up up is state) = record {
   goes = inl (
@@ -271,7 +302,7 @@ join_goes c node far new r (is_up up is state) = record {
     ap (λ (q : Reply). epochs_in (job.Join node) (Some q)) is,
   );
   pair = pair_stays far new (ap (λ (f : FarState). f.joining) state);
-  tells = subst (TellsWant c far) (sym is) tt;
+  tells = subst (TellsWant c far new) (sym is) tt;
 }
 
 -- ---- by parts, over any desk, however an object is read that is here
@@ -290,31 +321,43 @@ module _ {D : Type 0} (run : D → List Event → D → Type 0) (shows : D → S
     (evict_plain c m.far n.far (answer.Set id) x.events x.rule.rule).stands,
   )
 
+  -- the counts are those of the far state that is left: the refused eviction changed nothing
   room_lacks : (a m b : Hold) (why : Lack) (loose nodes : ℕ) (r : Reply) → IsFine c a.far
       → m.far ≡ a.far → WinsRoom run shows c m (Refused why loose nodes) b → r ≡ answer.NoRoom c.frames loose nodes
       → StandsAndTells c a.far b.far r
   room_lacks a m b why loose nodes r fine same x is = keeps_behind c a.far m.far b.far r same (record {
     stands = (evict_plain c m.far b.far _ x.events x.rule.rule).stands;
-    tells = subst (TellsWant c m.far) (sym is) (record {
+    tells = subst (TellsWant c m.far b.far) (sym is) (record {
       frames_are = refl;
       few = too_few c m.far b.far why loose nodes x.events
           (subst (λ (f : FarState). IsConfiguredCode c f.code) (sym same) fine.codes.force)
           x.rule;
-      counted = x.rule.counts.1;
+      counted = x.rule.counts.1 ∙ ap (λ (f : FarState). room_count f.nodes f.members)
+          (sym (refused_same m.far b.far why loose nodes x.events x.rule.rule));
     });
   })
 
+  -- an operation that leaves the far state where it finds no frame, behind so many evictions
+  keeps_won : (P : Hold → Reply → Hold → Type 0)
+      → ((a m : Hold) → P a answer.NoFrame m → m.far ≡ a.far)
+      → ((a b : Hold) (r : Reply) → IsFine c a.far → P a r b → StandsAndTells c a.far b.far r)
+      → (left : ℕ) (a b : Hold) (r : Reply) → IsFine c a.far
+      → WithRoom c.frames P (WinsRoom run shows c) left a r b → StandsAndTells c a.far b.far r
+  keeps_won P none each left a b r fine (at_once x never) = each a b r fine x
+  keeps_won P none each left a b r fine (no_room m why loose nodes x evict e) =
+      room_lacks a m b why loose nodes r fine (none a m x) evict e
+  keeps_won P none each (suc fewer) a b r fine (won m n id x evict again) =
+      let same = none a m x in
+      let w = room_won m n id (subst (IsFine c) (sym same) fine) evict in
+      stands_behind c a.far n.far b.far r (w.1 ∙ stands_same a.far m.far same)
+      (keeps_won P none each fewer n b r w.0 again)
+
   bring_keeps : (h : ℕ) (a b : Hold) (r : Reply) → IsFine c a.far → Brings run shows c h a r b
       → StandsAndTells c a.far b.far r
-  bring_keeps h a b r fine (at_once (home, at, x) never) =
-      swap_keeps c home.set home.position a.far a.far b.far r x.events fine refl x.rule
-  bring_keeps h a b r fine (no_room m why loose nodes (home, at, x) evict e) =
-      room_lacks a m b why loose nodes r fine x.rule.state.0 evict e
-  bring_keeps h a b r fine (won m n id (home, at, x) evict (home', at', y) never) =
-      let same : m.far ≡ a.far = x.rule.state.0 in
-      let w = room_won m n id (subst (IsFine c) (sym same) fine) evict in
-      swap_keeps c home'.set home'.position a.far n.far b.far r y.events w.0
-      (w.1 ∙ stands_same a.far m.far same) y.rule
+  bring_keeps h a b r fine bring = keeps_won (Swaps run shows h)
+      (λ a m x. x.2.rule.state.0)
+      (λ a b r fine x. swap_keeps c x.0.set x.0.position a.far b.far r x.2.events fine x.2.rule)
+      most_evictions a b r fine bring
 
   pub come_keeps : (h : ℕ) (a b : Hold) (r : Reply) → IsFine c a.far → ComesIn run shows c h a r b
       → StandsAndTells c a.far b.far r
@@ -333,17 +376,12 @@ module _ {D : Type 0} (run : D → List Event → D → Type 0) (shows : D → S
       (record { stands = stands_same m.far b.far x.0; plain = x.1 })
 
   make_keeps : (bytes : List ℕ) (a b : Hold) (r : Reply) → IsFine c a.far
-      → WithRoom c.frames (Makes run shows c bytes) (WinsRoom run shows c) a r b
+      → WithRoom c.frames (Makes run shows c bytes) (WinsRoom run shows c) most_evictions a r b
       → StandsAndTells c a.far b.far r
-  make_keeps bytes a b r is (at_once x never) =
-      plain_keeps c a.far b.far r (make_plain c.handles bytes a.far b.far r x.events x.rule)
-  make_keeps bytes a b r is (no_room m why loose nodes x evict e) =
-      room_lacks a m b why loose nodes r is x.rule.2.0 evict e
-  make_keeps bytes a b r is (won m n id x evict y never) =
-      let same : m.far ≡ a.far = x.rule.2.0 in
-      let w = room_won m n id (subst (IsFine c) (sym same) is) evict in
-      plain_behind c a.far n.far b.far r (w.1 ∙ stands_same a.far m.far same)
-      (make_plain c.handles bytes n.far b.far r y.events y.rule)
+  make_keeps bytes a b r is x = keeps_won (Makes run shows c bytes) (λ a m y. y.rule.2.0)
+      (λ a b r fine y.
+      plain_keeps c a.far b.far r (make_plain c.handles bytes a.far b.far r y.events y.rule))
+      most_evictions a b r is x
 
   write_keeps : (h at : ℕ) (bytes : List ℕ) (a b : Hold) (r : Reply) → IsFine c a.far
       → WhereItIs (WritesObject run shows h at bytes) (Declines run shows h at (length bytes))
@@ -384,7 +422,7 @@ module _ {D : Type 0} (run : D → List Event → D → Type 0) (shows : D → S
   paired j a b r on members plain pair = record {
     goes = on a.far.members b.far.members members;
     pair = pair;
-    tells = plain_tells c a.far r plain;
+    tells = plain_tells c a.far b.far r plain;
   }
 
   does_goes : (j : Job) (a b : Hold) (r : Reply) → IsFine c a.far
@@ -444,7 +482,7 @@ module _ {D : Type 0} (run : D → List Event → D → Type 0) (shows : D → S
         (stays_on j a.far.members b.far.members (Some answer.Worn)
         (ap (λ (f : FarState). f.members) same) (worn_told j));
     pair = pair_stays a.far b.far (ap (λ (f : FarState). f.joining) same);
-    tells = subst (TellsWant c a.far) (sym e) tt;
+    tells = subst (TellsWant c a.far b.far) (sym e) tt;
   }
   turned_goes j a b r is (done few x) =
       let z = does_goes j (record { desk = a.desk; far = counted a.far j }) b r
@@ -452,7 +490,7 @@ module _ {D : Type 0} (run : D → List Event → D → Type 0) (shows : D → S
       record { goes = z.goes; pair = z.pair; tells = told r z.tells }
     where
       -- a turn more is counted in the far state of which it tells
-      told : (q : Reply) → TellsWant c (counted a.far j) q → TellsWant c a.far q
+      told : (q : Reply) → TellsWant c (counted a.far j) b.far q → TellsWant c a.far b.far q
       told (answer.NoRoom frames loose nodes) y = y
       told (answer.Unavailable set losses) y = y
       told q y = tt

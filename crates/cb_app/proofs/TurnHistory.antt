@@ -1,6 +1,7 @@
 -- The turns of a closed record, one after another: what each tells, and what holds of the far state
 -- after so many of them. It would fit cb_shared, and its induction cb_rule.
-use Rattle.std.proofs.Common.{◌≡◌, ℕ, zero, suc, ◌+◌, ◌<◌, ◌≤◌, Bool, true, cond, List, [], ◌∷◌, Option, None, Some, refl, sym, ap, subst, inl, inr, arith, eqb-true}
+use Rattle.std.proofs.Common.{◌≡◌, ◌⊎◌, ℕ, zero, suc, ◌+◌, ◌<◌, ◌≤◌, Bool, true, cond, List, [], ◌∷◌, Option, None, Some, refl, sym, ap, subst, inl, inr, arith, eqb-true}
+use Rattle.std.proofs.lemmas.Bool.{cases_lt}
 use Rattle.cb_types.specs.declared.config.Config.{Config}
 use Rattle.cb_types.specs.Config.{IsAccepted}
 use Rattle.cb_types.specs.declared.job.Job.{Job}
@@ -33,15 +34,15 @@ use Rattle.cb_app.proofs.TurnStops.{stops_same}
 
 -- ---- one turn
 -- what its reply tells, where it has one
-abbrev pub TellsIf : Config → FarState → Option Reply → Type 0
-TellsIf c far None = Unit {0}
-TellsIf c far (Some r) = TellsWant c far r
+abbrev pub TellsIf : Config → FarState → FarState → Option Reply → Type 0
+TellsIf c far new None = Unit {0}
+TellsIf c far new (Some r) = TellsWant c far new r
 
--- it leaves the members and the pair so, and tells so of the far state that it found
+-- it leaves the members and the pair so, and tells so of the far states that it found and left
 pub record TurnGoes (c : Config) (t : Turn) : Type 0 where
   pub goes : MembersGoOn t.job t.took.members t.gave.members t.reply
   pub pair : PairGoes t.took t.gave
-  pub tells : TellsIf c t.took t.reply
+  pub tells : TellsIf c t.took t.gave t.reply
 
 read_plain : (r : Reply) → IsReadReply r → TellsNoLack r
 read_plain (answer.Unavailable id l) x = absurd x
@@ -59,7 +60,7 @@ lacks_same h a b x = ap (λ (z : Holding Slate). z.far) x
 
 did_goes : (c : Config) → IsAccepted c → (j : Job) (reply : Option Reply) (start : Shown)
     (es : List Event) (took gave : FarState) → IsFine c took → DidAs c j reply start es took gave
-    → MembersGoOn j took.members gave.members reply × PairGoes took gave × TellsIf c took reply
+    → MembersGoOn j took.members gave.members reply × PairGoes took gave × TellsIf c took gave reply
 did_goes c ok j (Some r) start es took gave is did =
     let z = turned_goes slate_run slate_shows ReadsByPin pins_plain c ok j (held_by start [] took)
     (held_by (played es start) es gave) r is did in
@@ -177,6 +178,32 @@ module _ (first : ℕ) (c : Config) (v : View) (count : ℕ) (last : FarState)
 
     pub at_last : P count last
     at_last = let z = reached count (omega arith) in subst (P count) (z.end refl) z.holds
+
+    -- and what follows from it, after however many turns, holds of what each turn gave
+    pub at_gave : (Q : FarState → Type 0) → ((n : ℕ) (far : FarState) → P n far → Q far)
+        → (t : Turn) → Has t v.turns → Q t.gave
+    at_gave Q gives t there = by (number_of t there)
+      where
+        by : HasTurnNumber count t → Q t.gave
+        by (inl low) = gives (suc (turn_number t)) t.gave (step t there low (at_turn t there))
+        by (inr e) = subst Q (sym e.2) (gives (turn_number t) t.took (at_turn t there))
+
+  -- What a turn gave is what the next one took, or the last far state, or what it took itself: what
+  -- holds of all these holds of it.
+  pub each_gave : (Q : FarState → Type 0) → ((t : Turn) → Has t v.turns → Q t.took) → Q last
+      → (t : Turn) → Has t v.turns → Q t.gave
+  each_gave Q took end t there = by (number_of t there)
+    where
+      next : (turn_number t + 1 < count) ⊎ (count ≤ turn_number t + 1) → turn_number t < count
+          → Q t.gave
+      next (inl more) low = let z = turn_of (turn_number t + 1) more in
+          subst Q (one.follows t z.0 (made t there) (made z.0 z.1) z.2) (took z.0 z.1)
+      next (inr less) low =
+          subst Q (sym (one.ends t (made t there) (omega (arith, less, low)))) end
+
+      by : HasTurnNumber count t → Q t.gave
+      by (inl low) = next (cases_lt (turn_number t + 1) count) low
+      by (inr e) = subst Q (sym e.2) (took t there)
 
   -- all codes are the configured one
   abbrev Codes : ℕ → FarState → Type 0

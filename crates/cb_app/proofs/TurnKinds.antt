@@ -1,6 +1,6 @@
 -- A turn is counted once, as one of its job's kind, and makes no other code: none of its parts counts
 -- turns or makes codes. It is of the rules alone, and would fit cb_core.
-use Rattle.std.proofs.Common.{◌≡◌, ◌⊎◌, ℕ, ◌<◌, ◌^◌, List, length, refl, sym, ap, ◌∙◌, subst, inl, inr}
+use Rattle.std.proofs.Common.{◌≡◌, ◌⊎◌, ℕ, suc, ◌<◌, ◌^◌, List, length, refl, sym, ap, ◌∙◌, subst, inl, inr}
 use Rattle.cb_set.specs.SetState.{SetState}
 use Rattle.cb_types.specs.declared.config.Config.{Config}
 use Rattle.cb_types.specs.Config.{IsAccepted}
@@ -31,7 +31,7 @@ use Rattle.cb_rebuild.specs.RebuildStep.{surveyed}
 use Rattle.cb_rebuild.proofs.Laws.{rebuild_stays}
 use Rattle.cb_core.proofs.Laws.{crash_stays, join_stays}
 use Rattle.cb_core.specs.OnceHere.{away, bringing_stops, call_stops, here}
-use Rattle.cb_core.specs.Parts.{Holding, NeverLacks, WithRoom, WhereItIs, at_once, no_room, won, near, declined, stays_far, brought, not_far, was_far}
+use Rattle.cb_core.specs.Parts.{Holding, NeverLacks, WithRoom, WhereItIs, at_once, no_room, won, most_evictions, near, declined, stays_far, brought, not_far, was_far}
 use Rattle.cb_core.specs.Parts.{CallStops, RoomStops}
 use Rattle.cb_core.specs.Parts.RoomStops.{at_once as lacks_now, evicting, after as lacks_last}
 use Rattle.cb_core.specs.Parts.CallStops.{near as lacks_near, far as lacks_far, after as lacks_after}
@@ -119,26 +119,29 @@ module _ {D : Type 0} (run : D → List Event → D → Type 0) (shows : D → S
       let z = evict_stays c m.far n.far (reply_of e) x.events accepted x.rule.rule is in
       (z.configured, kept.stays 24 m.far n.far z)
 
-  with_room : (P : Hold → Reply → Hold → Type 0) → Keeps P → StaysFrameless P
-      → Keeps (WithRoom c.frames P (WinsRoom run shows c))
-  with_room P part none a b r is (at_once x never) = part a b r is x
-  with_room P part none a b r is (no_room m why loose nodes x evict e) =
+  with_room : (P : Hold → Reply → Hold → Type 0) → Keeps P → StaysFrameless P → (left : ℕ)
+      → Keeps (WithRoom c.frames P (WinsRoom run shows c) left)
+  with_room P part none left a b r is (at_once x never) = part a b r is x
+  with_room P part none left a b r is (no_room m why loose nodes x evict e) =
       let stays : m.far ≡ a.far = none a m x in behind a.far m.far b.far stays
       (room m b (Refused why loose nodes) (subst (IsConfigured c) (sym stays) is) evict).1
-  with_room P part none a b r is (won m n id x evict y never) =
+  with_room P part none (suc fewer) a b r is (won m n id x evict again) =
       let stays : m.far ≡ a.far = none a m x in
       let w = room m n (Set id) (subst (IsConfigured c) (sym stays) is) evict in
-      behind a.far m.far b.far stays (kept.next m.far n.far b.far w.1 (part n b r w.0 y))
+      behind a.far m.far b.far stays
+      (kept.next m.far n.far b.far w.1 (with_room P part none fewer n b r w.0 again))
 
-  room_stops : (P : Hold → Reply → Hold → Type 0) (L : Hold → Hold → Type 0) → StaysFrameless P → KeepsLack L
-      → KeepsLack (RoomStops P L (WinsRoom run shows c) (EvictLacks run shows))
-  room_stops P L none lack a b is (lacks_now x) = lack a b is x
-  room_stops P L none lack a b is (evicting m x y) =
+  room_stops : (P : Hold → Reply → Hold → Type 0) (L : Hold → Hold → Type 0) → StaysFrameless P
+      → KeepsLack L → (left : ℕ)
+      → KeepsLack (RoomStops P L (WinsRoom run shows c) (EvictLacks run shows) left)
+  room_stops P L none lack left a b is (lacks_now x) = lack a b is x
+  room_stops P L none lack left a b is (evicting m x y) =
       kept.same a.far b.far (y.0 ∙ none a m x)
-  room_stops P L none lack a b is (lacks_last m n id x y z) =
+  room_stops P L none lack (suc fewer) a b is (lacks_last m n id x y z) =
       let stays : m.far ≡ a.far = none a m x in
       let w = room m n (Set id) (subst (IsConfigured c) (sym stays) is) y in
-      behind a.far m.far b.far stays (kept.next m.far n.far b.far w.1 (lack n b w.0 z))
+      behind a.far m.far b.far stays (kept.next m.far n.far b.far w.1
+      (room_stops P L none lack fewer n b w.0 z))
 
   -- ---- calls on objects
   make : (bytes : List ℕ) → Keeps (Makes run shows c bytes)
@@ -162,10 +165,11 @@ module _ {D : Type 0} (run : D → List Event → D → Type 0) (shows : D → S
       subst (K a.far) (sym state) (kept.given a.far n)
 
   bring : (h : ℕ) → Keeps (Brings run shows c h)
-  bring h = with_room (Swaps run shows h) (swap h) (swap_none h)
+  bring h = with_room (Swaps run shows h) (swap h) (swap_none h) most_evictions
 
   bring_lacks : (h : ℕ) → KeepsLack (BringLacks run shows c h)
   bring_lacks h = room_stops (Swaps run shows h) (SwapLacks run h) (swap_none h) (swap_lacks h)
+      most_evictions
 
   come : (h : ℕ) → Keeps (ComesIn run shows c h)
   come h a b r is (not_far x never) = kept.same a.far b.far x.rule.0
@@ -207,7 +211,7 @@ module _ {D : Type 0} (run : D → List Event → D → Type 0) (shows : D → S
     does : (j : Job) (a b : Hold) (r : Reply) → IsConfigured c a.far → Sound s a.far
         → Does run shows reads c j a r b → K a.far b.far
     does (job.Make bytes) a b r is sound x =
-        with_room (Makes run shows c bytes) (make bytes) (make_none bytes) a b r is x
+        with_room (Makes run shows c bytes) (make bytes) (make_none bytes) most_evictions a b r is x
     does (job.Read handle) a b r is sound (away x off) = come handle.n a b r is x
     does (job.Read handle) a b r is sound (here m place x there call) =
         kept.next a.far m.far b.far (come handle.n a m place is x)
@@ -244,8 +248,9 @@ module _ {D : Type 0} (run : D → List Event → D → Type 0) (shows : D → S
     stops : (j : Job) (a b : Hold) → IsConfigured c a.far → Stops run shows lacks c j a b
         → K a.far b.far
     stops (job.Make bytes) a b is x =
-        room_stops (Makes run shows c bytes) (MakeLacks run c bytes) (make_none bytes) (make_lacks bytes) a
-        b is x
+        room_stops (Makes run shows c bytes) (MakeLacks run c bytes) (make_none bytes)
+        (make_lacks bytes)
+        most_evictions a b is x
     stops (job.Read handle) a b is (bringing_stops x) = come_lacks handle.n a b is x
     stops (job.Read handle) a b is (call_stops m place x there y) =
         kept.next a.far m.far b.far (come handle.n a m place is x)

@@ -1,6 +1,6 @@
 -- A turn that found no memory leaves the members and the pair that is joining. It is of the rules
 -- alone, and would fit cb_core.
-use Rattle.std.proofs.Common.{◌≡◌, ℕ, List, length, ap, ◌∙◌}
+use Rattle.std.proofs.Common.{◌≡◌, ℕ, suc, List, length, ap, ◌∙◌}
 use Rattle.cb_types.specs.declared.config.Config.{Config}
 use Rattle.cb_types.specs.Config.{IsAccepted}
 use Rattle.cb_types.specs.declared.job.Job.{Job}
@@ -11,7 +11,7 @@ use Rattle.cb_world.specs.declared.event.Event.{Event}
 use Rattle.cb_world.specs.declared.shown.Shown.{Shown}
 use Rattle.cb_evict.specs.declared.eviction.Eviction.TheVariants.{Set}
 use Rattle.cb_core.specs.OnceHere.{OnceHereStops, bringing_stops, call_stops}
-use Rattle.cb_core.specs.Parts.{CallStops, Holding, NeverLacks, RoomStops}
+use Rattle.cb_core.specs.Parts.{CallStops, Holding, NeverLacks, RoomStops, most_evictions}
 use Rattle.cb_core.specs.Parts.RoomStops.{at_once, evicting, after}
 use Rattle.cb_core.specs.Parts.CallStops.{near as call_near, far as call_far, after as call_after}
 use Rattle.cb_core.specs.Turned.{BringLacks, Brings, ComeLacks, ComesIn, Declines, EvictLacks, MakeLacks, Makes, Stops, SwapLacks, Swaps, WinsRoom, WritesObject}
@@ -40,13 +40,21 @@ module _ {D : Type 0} (run : D → List Event → D → Type 0) (shows : D → S
   made : (bytes : List ℕ) (a b : Hold) (r : Reply) → Makes run shows c bytes a r b → Same a b
   made bytes a b r x = (make_plain c.handles bytes a.far b.far r x.events x.rule).stands
 
+  -- an operation for which room is won, behind so many evictions
+  room_stops : (P : Hold → Reply → Hold → Type 0) (L : Hold → Hold → Type 0)
+      → ((a b : Hold) (r : Reply) → P a r b → Same a b) → ((a b : Hold) → L a b → Same a b)
+      → (left : ℕ) (a b : Hold)
+      → RoomStops P L (WinsRoom run shows c) (EvictLacks run shows) left a b → Same a b
+  room_stops P L each lacking left a b (at_once x) = lacking a b x
+  room_stops P L each lacking left a b (evicting m x y) = same m b y.0 ∙ each a m answer.NoFrame x
+  room_stops P L each lacking (suc fewer) a b (after m n id x y z) =
+      room_stops P L each lacking fewer n b z ∙ evicted m n id y ∙ each a m answer.NoFrame x
+
   make_stops : (bytes : List ℕ) (a b : Hold)
       → RoomStops (Makes run shows c bytes) (MakeLacks run c bytes) (WinsRoom run shows c)
-      (EvictLacks run shows) a b → Same a b
-  make_stops bytes a b (at_once x) = same a b x.1
-  make_stops bytes a b (evicting m x y) = same m b y.0 ∙ made bytes a m answer.NoFrame x
-  make_stops bytes a b (after m n id x y z) =
-      same n b z.1 ∙ evicted m n id y ∙ made bytes a m answer.NoFrame x
+      (EvictLacks run shows) most_evictions a b → Same a b
+  make_stops bytes a b x = room_stops (Makes run shows c bytes) (MakeLacks run c bytes) (made bytes)
+      (λ a b y. same a b y.1) most_evictions a b x
 
   swapped : (h : ℕ) (a b : Hold) (r : Reply) → Swaps run shows h a r b → Same a b
   swapped h a b r (home, at, x) =
@@ -56,10 +64,8 @@ module _ {D : Type 0} (run : D → List Event → D → Type 0) (shows : D → S
   given h a b (ran, (home, set, n, at, there, few, state)) = ap standing state
 
   bring_stops : (h : ℕ) (a b : Hold) → BringLacks run shows c h a b → Same a b
-  bring_stops h a b (at_once x) = given h a b x
-  bring_stops h a b (evicting m x y) = same m b y.0 ∙ swapped h a m answer.NoFrame x
-  bring_stops h a b (after m n id x y z) =
-      given h n b z ∙ evicted m n id y ∙ swapped h a m answer.NoFrame x
+  bring_stops h a b x = room_stops (Swaps run shows h) (SwapLacks run h) (swapped h) (given h)
+      most_evictions a b x
 
   come_stops : (h : ℕ) (a b : Hold) → ComeLacks run shows c h a b → Same a b
   come_stops h a b (m, find, x) = bring_stops h m b x ∙ same a m find.rule.0

@@ -14,6 +14,7 @@ use Rattle.cb_core.specs.Holding.{NoOtherHolds}
 use Rattle.cb_core.specs.Parts.{Holding}
 use Rattle.cb_core.specs.Step.{SeatTurn, TurnStep, free, worn, done}
 use Rattle.cb_core.specs.Turned.{counted, once_counted}
+use Rattle.cb_core.proofs.Carried.{turn_rise}
 use Rattle.cb_core.proofs.FarJobs.{far_job, note_of, stays_sound}
 use Rattle.cb_core.proofs.KeptParts.{IsGood}
 use Rattle.cb_core.proofs.StillFarJobs.{arrives_far, known_after, open_after}
@@ -22,7 +23,7 @@ use Rattle.cb_core.proofs.WorldKept.{arrived_sound, counted_good, held}
 -- ---- the far state of a counted turn is changed alone
 module _ (w : WorldState) (job : Job) (sound : IsSoundWorld w) (few : w.far.counts.turns < 2 ^ 40)
   where
-    pub far_after : (n : ℕ) (new : FarState) → n ≤ 64
+    pub far_after : (n : ℕ) (new : FarState) → n ≤ turn_rise
         → StaysIfBy (note_of job) w.desk.settings n (counted w.far job) new
         → Sound sound.shown new → IsSoundWorld (record w { far = new })
     far_after n new most stays then =
@@ -51,7 +52,7 @@ admitted_sound w job sound few =
 -- ---- a compaction
 
 -- a change of the far state that a compaction may make leaves the world sound
-pub compacted_sound : (w : WorldState) (n : ℕ) (new : FarState) → n ≤ 64
+pub compacted_sound : (w : WorldState) (n : ℕ) (new : FarState) → n ≤ turn_rise
     → (sound : IsSoundWorld w) → w.far.counts.turns < 2 ^ 40
     → StaysIfBy KeepsHolding w.desk.settings n (counted w.far Compact) new
     → Sound sound.shown new → IsSoundWorld (record w { far = new })

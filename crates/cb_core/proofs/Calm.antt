@@ -9,6 +9,7 @@ use Rattle.cb_ptr.specs.declared.word.State.TheVariants as word
 use Rattle.cb_ptr.specs.Word.{state_of, len_of, pins_of}
 use Rattle.cb_set.specs.SetState.{SetState}
 use Rattle.cb_set.specs.Lost.{lost}
+use Rattle.cb_types.specs.declared.handle.SetId.{SetId}
 use Rattle.cb_types.specs.declared.job.Job.{Job}
 use Rattle.cb_types.specs.declared.job.Job.TheVariants.{Make, Read, Write, Free, Swap, Filter, Evict, Begin, Ship, Commit, Abort, Pair, Patch, Merge, Part, Compact, Rebuild, Crash, Join}
 use Rattle.cb_types.specs.declared.reply.Reply.{Reply}
@@ -22,7 +23,7 @@ use Rattle.cb_world.specs.SetWord.{is_broken}
 use Rattle.cb_world.specs.StillWords.{stamp_at}
 use Rattle.cb_world.specs.World.{WorldState, IsKnown, IsSoundWorld, word_at}
 use Rattle.cb_mutate.specs.StillReplies.{change_reply, empty_reply, free_as, next_reply, reply_as, write_reply}
-use Rattle.cb_evict.specs.declared.eviction.Eviction.TheVariants.{Refused}
+use Rattle.cb_evict.specs.declared.eviction.Eviction.TheVariants.{Refused, Set}
 use Rattle.cb_evict.specs.declared.eviction.Lack.{Lack}
 use Rattle.cb_evict.specs.declared.eviction.Lack.TheVariants as lack
 use Rattle.cb_evict.specs.Eviction.{reply_of}
@@ -35,10 +36,9 @@ use Rattle.cb_compact.specs.CompactStep.{CompactStep}
 use Rattle.cb_rebuild.specs.RebuildStep.{RebuildStep}
 use Rattle.cb_core.specs.Declining.{write_refusal}
 use Rattle.cb_core.specs.Membership.{CrashTurn, JoinTurn, crashed, is_down, is_up, joined}
-use Rattle.cb_core.specs.Parts.{Holding, NeverDeclined, WithRoom, at_once, no_room, won, WhereItIs, near, declined, stays_far, brought, BringsIn, not_far, was_far}
+use Rattle.cb_core.specs.Parts.{Holding, NeverDeclined, WithRoom, at_once, no_room, won, most_evictions, WhereItIs, near, declined, stays_far, brought, BringsIn, not_far, was_far}
 use Rattle.cb_core.specs.Pinning.{PinStep, pin_refusal, refused as refused_pin, scope_full, taken}
 use Rattle.cb_core.specs.Step.{StillBring, StillDecline, StillEvict, StillFilter, StillFind, StillFree, StillMake, StillRead, StillRoom, StillSwap, StillWorks, StillWrite, TurnStep, worn, done}
-use Rattle.cb_core.specs.Turned.{counted}
 use Rattle.cb_core.proofs.NodesStay.{IsWholeJob}
 use Rattle.cb_core.proofs.PartsStay.{LeavesSame, room_same}
 use Rattle.cb_core.proofs.TurnCalls.{held_at, held_then, known_at}
@@ -64,6 +64,11 @@ pub record MakesEasy (x : Words) (far : FarState) : Type 0 where
   pub spans : least_free far.frames ≡ None → far.code.k ≤ length (loose_frames x far)
   pub nodes : far.code.k + far.code.r ≤ room_count far.nodes far.members
   pub stamps : (h : ℕ) → stamp_at x h < 2 ^ 64 - 1
+
+-- facts of a holding that make it easy, which stay behind each eviction that made a set
+pub record KeepsEasy (E : Holding Words → Type 0) : Type 0 where
+  pub easy : (a : Holding Words) → E a → MakesEasy a.desk a.far
+  pub kept : (a b : Holding Words) (id : SetId) → E a → StillRoom a (Set id) b → E b
 
 abbrev IsEasy : Holding Words → Type 0
 IsEasy a = MakesEasy a.desk a.far
@@ -180,14 +185,18 @@ make_at bytes a b r framed (inl (full, reply, words, far)) = calm_as r _ tt repl
 make_at bytes a b r framed (inr (more, inl (none, reply, words, far))) = absurd (framed reply)
 make_at bytes a b r framed (inr (more, inr (reply, new))) = calm_as r _ tt reply
 
-make_calm : (bytes : List ℕ) (a b : Holding Words) (r : Reply) → IsEasy a
-    → WithRoom a.desk.settings.frames (StillMake bytes) StillRoom a r b → IsEased r
-make_calm bytes a b r easy (at_once o off) = make_at bytes a b r off o
-make_calm bytes a b r easy (no_room m why loose nodes o v is) =
+-- so is one behind evictions
+make_calm : (E : Holding Words → Type 0) → KeepsEasy E → (bytes : List ℕ) (frames left : ℕ)
+    (a b : Holding Words) (r : Reply) → E a → WithRoom frames (StillMake bytes) StillRoom left a r b
+    → IsEased r
+make_calm E keeps bytes frames left a b r good (at_once o off) = make_at bytes a b r off o
+make_calm E keeps bytes frames left a b r good (no_room m why loose nodes o v is) =
     let x = make_stops bytes a m o in
-    absurd (not_refused m b why loose nodes (subst IsEasy (sym x.0) easy)
+    absurd (not_refused m b why loose nodes (keeps.easy m (subst E (sym x.0) good))
     (ap (λ (z : Holding Words). least_free z.far.frames) x.0 ∙ x.1) v)
-make_calm bytes a b r easy (won m n id o v again off) = make_at bytes n b r off again
+make_calm E keeps bytes frames (suc fewer) a b r good (won m n id o v again) =
+    let x = make_stops bytes a m o in
+    make_calm E keeps bytes frames fewer n b r (keeps.kept m n id (subst E (sym x.0) good) v) again
 
 -- ---- a bringing in
 not_room : (far : FarState) (id : ℕ) (set : SetState) (frames loose nodes : ℕ)
@@ -211,27 +220,30 @@ swap_stops h a m (home, at, step, hold) = (
   (step_only_no_frame a.desk m.desk a.far m.far home.set home.position step).1,
 )
 
-has_room : (h : ℕ) (a b : Holding Words) (r : Reply) (frames loose nodes : ℕ) → IsEasy a
-    → StillBring h a r b → r ≡ answer.NoRoom frames loose nodes → ⊥
-has_room h a b r frames loose nodes easy (at_once (home, at, step, hold) off) e =
+has_room : (E : Holding Words → Type 0) → KeepsEasy E → (h room left : ℕ) (a b : Holding Words)
+    (r : Reply) (frames loose nodes : ℕ) → E a → WithRoom room (StillSwap h) StillRoom left a r b
+    → r ≡ answer.NoRoom frames loose nodes → ⊥
+has_room E keeps h room left a b r frames loose nodes good (at_once (home, at, step, hold) off) e =
     not_room a.far home.set step.set frames loose nodes (sym step.reply ∙ e)
-has_room h a b r frames loose nodes easy (no_room m why some other o v is) e =
+has_room E keeps h room left a b r frames loose nodes good (no_room m why some other o v is) e =
     let x = swap_stops h a m o in
-    not_refused m b why some other (subst IsEasy (sym x.0) easy)
+    not_refused m b why some other (keeps.easy m (subst E (sym x.0) good))
     (ap (λ (z : Holding Words). least_free z.far.frames) x.0 ∙ x.1) v
-has_room h a b r frames loose nodes easy (won m n id o v (home, at, step, hold) off) e =
-    not_room n.far home.set step.set frames loose nodes (sym step.reply ∙ e)
+has_room E keeps h room (suc fewer) a b r frames loose nodes good (won m n id o v again) e =
+    let x = swap_stops h a m o in
+    has_room E keeps h room fewer n b r frames loose nodes
+    (keeps.kept m n id (subst E (sym x.0) good) v) again e
 
-bring_calm : (h : ℕ) (a b : Holding Words) (r : Reply) (s : Shown) → IsKnown a.desk a.far s
-    → IsEasy a → StillBring h a r b → IsEased r
-bring_calm h a b r s known easy step = by (bring_ends a b h r s known step)
+bring_calm : (E : Holding Words → Type 0) → KeepsEasy E → (h : ℕ) (a b : Holding Words) (r : Reply)
+    (s : Shown) → IsKnown a.desk a.far s → E a → StillBring h a r b → IsEased r
+bring_calm E keeps h a b r s known good step = by (bring_ends a b h r s known step)
   where
     by : BringEnds a b h r → IsEased r
     by (came f e kept here) = calm_as r (answer.Swapped f) tt e
     by (broke id losses e z) =
-        absurd (false≢true (sym (easy.whole h) ∙ lost_gone a.far h id losses z))
-    by (crammed frames loose nodes e kept) =
-        absurd (has_room h a b r frames loose nodes easy step e)
+        absurd (false≢true (sym ((keeps.easy a good).whole h) ∙ lost_gone a.far h id losses z))
+    by (crammed frames loose nodes e kept) = absurd (has_room E keeps h a.desk.settings.frames
+        most_evictions a b r frames loose nodes good step e)
 
 -- an object that came in is here
 unavailable_came : (f : ℕ) (r : Reply) (id : _) (losses : _) → r ≡ answer.Swapped f
@@ -274,7 +286,7 @@ swap_versions h a b r (home, at, step, hold) =
 brought_young : (h : ℕ) (a b : Holding Words) (r : Reply) → IsEasy a → StillBring h a r b
     → stamp_at b.desk h < 2 ^ 64 - 1
 brought_young h a b r easy step =
-    let same = room_same versions_of a.desk.settings.frames (StillSwap h) StillRoom
+    let same = room_same versions_of a.desk.settings.frames most_evictions (StillSwap h) StillRoom
     (swap_versions h) room_versions a b r step in
     subst (λ (versions : List ℕ). slice_index versions h < 2 ^ 64 - 1) (sym same)
     (easy.stamps h)
@@ -288,16 +300,18 @@ read_calm h a b r still step = calm_as r _
 read_stops : (h : ℕ) (a m : Holding Words) → StillRead h a answer.NotHere m → m ≡ a
 read_stops h a m step = same_holding a m step.0.change step.1
 
-read_job : (h : ℕ) (a b : Holding Words) (r : Reply) (s : Shown) → IsKnown a.desk a.far s → IsEasy a
+read_job : (E : Holding Words → Type 0) → KeepsEasy E → (h : ℕ) (a b : Holding Words) (r : Reply)
+    (s : Shown) → IsKnown a.desk a.far s → E a
     → WhereItIs (StillRead h) NeverDeclined (StillBring h) a r b → IsEased r
-read_job h a b r s known easy (near o off) =
-    read_calm h a b r (still_at a.desk a.far easy h) o
-read_job h a b r s known easy (declined m o d) = absurd (none_some r d.0)
-read_job h a b r s known easy (stays_far m n o d v off) =
+read_job E keeps h a b r s known good (near o off) =
+    read_calm h a b r (still_at a.desk a.far (keeps.easy a good) h) o
+read_job E keeps h a b r s known good (declined m o d) = absurd (none_some r d.0)
+read_job E keeps h a b r s known good (stays_far m n o d v off) =
     let same = d.1 ∙ read_stops h a m o in
-    bring_calm h n b r s (subst (λ (z : Holding Words). IsKnown z.desk z.far s) (sym same) known)
-    (subst IsEasy (sym same) easy) v
-read_job h a b r s known easy (brought m n q f o d v again) =
+    bring_calm E keeps h n b r s
+    (subst (λ (z : Holding Words). IsKnown z.desk z.far s) (sym same) known)
+    (subst E (sym same) good) v
+read_job E keeps h a b r s known good (brought m n q f o d v again) =
     let same = d.1 ∙ read_stops h a m o in
     read_calm h q b r (brought_still h f n q s
     (subst (λ (z : Holding Words). IsKnown z.desk z.far s) (sym same) known) v) again
@@ -312,25 +326,26 @@ write_stops : (h at : ℕ) (bytes : List ℕ) (a m : Holding Words)
     → StillWrite h at bytes a answer.NotHere m → m ≡ a
 write_stops h at bytes a m step = same_holding a m step.0.change step.1
 
-write_job : (h at : ℕ) (bytes : List ℕ) (a b : Holding Words) (r : Reply) (s : Shown)
-    → IsKnown a.desk a.far s → IsEasy a
+write_job : (E : Holding Words → Type 0) → KeepsEasy E → (h at : ℕ) (bytes : List ℕ)
+    (a b : Holding Words) (r : Reply) (s : Shown) → IsKnown a.desk a.far s → E a
     → WhereItIs (StillWrite h at bytes) (StillDecline h at (length bytes)) (StillBring h) a r b
     → IsEased r
-write_job h at bytes a b r s known easy (near o off) = write_at h at bytes a b r
-    (still_at a.desk a.far easy h) (easy.stamps h) o
-write_job h at bytes a b r s known easy (declined m o d) =
+write_job E keeps h at bytes a b r s known good (near o off) = let easy = keeps.easy a good in
+    write_at h at bytes a b r (still_at a.desk a.far easy h) (easy.stamps h) o
+write_job E keeps h at bytes a b r s known good (declined m o d) =
     let same = write_stops h at bytes a m o in
     declined_calm (is_gone m.far h) (len_of (word_at m.desk h)) (stamp_at m.desk h) at
-    (length bytes) r ((subst IsEasy (sym same) easy).stamps h) d.0
-write_job h at bytes a b r s known easy (stays_far m n o d v off) =
+    (length bytes) r ((keeps.easy m (subst E (sym same) good)).stamps h) d.0
+write_job E keeps h at bytes a b r s known good (stays_far m n o d v off) =
     let same = d.1 ∙ write_stops h at bytes a m o in
-    bring_calm h n b r s (subst (λ (z : Holding Words). IsKnown z.desk z.far s) (sym same) known)
-    (subst IsEasy (sym same) easy) v
-write_job h at bytes a b r s known easy (brought m n q f o d v again) =
+    bring_calm E keeps h n b r s
+    (subst (λ (z : Holding Words). IsKnown z.desk z.far s) (sym same) known)
+    (subst E (sym same) good) v
+write_job E keeps h at bytes a b r s known good (brought m n q f o d v again) =
     let same = d.1 ∙ write_stops h at bytes a m o in
     write_at h at bytes q b r (brought_still h f n q s
     (subst (λ (z : Holding Words). IsKnown z.desk z.far s) (sym same) known) v)
-    (brought_young h n q (answer.Swapped f) (subst IsEasy (sym same) easy) v) again
+    (brought_young h n q (answer.Swapped f) (keeps.easy n (subst E (sym same) good)) v) again
 
 free_job : (h : ℕ) (a b : Holding Words) (r : Reply) → IsEasy a → StillFree h a r b → IsEased r
 free_job h a b r easy step = calm_as r _ (free_calm (state_of (word_at a.desk h)) (word_at a.desk h)
@@ -340,12 +355,13 @@ find_calm : (h : ℕ) (a b : Holding Words) (r : Reply) → IsEasy a → StillFi
 find_calm h a b r easy step = calm_as r _ (calm_by_state (state_of (word_at a.desk h))
     (stamp_at a.desk h) answer.Stays (still_at a.desk a.far easy h) tt) step.0
 
-swap_job : (h : ℕ) (a b : Holding Words) (r : Reply) (s : Shown) → IsKnown a.desk a.far s → IsEasy a
-    → BringsIn (StillFind h) (StillBring h) a r b → IsEased r
-swap_job h a b r s known easy (not_far o off) = find_calm h a b r easy o
-swap_job h a b r s known easy (was_far m o v) =
-    bring_calm h m b r s (subst (λ (z : Holding Words). IsKnown z.desk z.far s) (sym o.1) known)
-    (subst IsEasy (sym o.1) easy) v
+swap_job : (E : Holding Words → Type 0) → KeepsEasy E → (h : ℕ) (a b : Holding Words) (r : Reply)
+    (s : Shown) → IsKnown a.desk a.far s → E a → BringsIn (StillFind h) (StillBring h) a r b
+    → IsEased r
+swap_job E keeps h a b r s known good (not_far o off) = find_calm h a b r (keeps.easy a good) o
+swap_job E keeps h a b r s known good (was_far m o v) = bring_calm E keeps h m b r s
+    (subst (λ (z : Holding Words). IsKnown z.desk z.far s) (sym o.1) known)
+    (subst E (sym o.1) good) v
 
 filter_job : (h : ℕ) (a b : Holding Words) (r : Reply) → IsEasy a → StillFilter h a r b → IsEased r
 filter_job h a b r easy (refused why same state, hold) =
@@ -396,50 +412,45 @@ join_job : (node : _) (far new : FarState) (r : Reply) → JoinTurn node far r n
 join_job node far new r (joined down reply state) = calm_as r _ tt reply
 join_job node far new r (is_up up reply state) = calm_as r _ tt reply
 
-works_calm : (job : Job) (a b : Holding Words) (r : Reply) (s : Shown) → IsKnown a.desk a.far s
-    → IsEasy a → IsWholeJob job → StillWorks job a r b → IsEased r
-works_calm (Make bytes) a b r s known easy whole step = make_calm bytes a b r easy step
-works_calm (Read handle) a b r s known easy whole step =
-    read_job handle.n a b r s known easy step
-works_calm (Write handle at bytes) a b r s known easy whole step =
-    write_job handle.n at bytes a b r s known easy step
-works_calm (Free handle) a b r s known easy whole step = free_job handle.n a b r easy step
-works_calm (Swap handle) a b r s known easy whole step =
-    swap_job handle.n a b r s known easy step
-works_calm (Filter handle) a b r s known easy whole step =
-    filter_job handle.n a b r easy step
-works_calm Evict a b r s known easy whole step = evict_job a b r step
-works_calm Begin a b r s known easy whole step = absurd whole
-works_calm Ship a b r s known easy whole step = absurd whole
-works_calm Commit a b r s known easy whole step = absurd whole
-works_calm Abort a b r s known easy whole step = absurd whole
-works_calm Pair a b r s known easy whole step = absurd whole
-works_calm Patch a b r s known easy whole step = absurd whole
-works_calm Merge a b r s known easy whole step = absurd whole
-works_calm Part a b r s known easy whole step = absurd whole
-works_calm Compact a b r s known easy whole step = compact_job a.far b.far r step.1
-works_calm Rebuild a b r s known easy whole step = rebuild_job a.far b.far r step.1
-works_calm (Crash node) a b r s known easy whole step = crash_job node a.far b.far r step.1
-works_calm (Join node) a b r s known easy whole step = join_job node a.far b.far r step.1
+works_calm : (E : Holding Words → Type 0) → KeepsEasy E → (job : Job) (a b : Holding Words)
+    (r : Reply)
+    (s : Shown) → IsKnown a.desk a.far s → E a → IsWholeJob job → StillWorks job a r b → IsEased r
+works_calm E keeps (Make bytes) a b r s known good whole step =
+    make_calm E keeps bytes a.desk.settings.frames most_evictions a b r good step
+works_calm E keeps (Read handle) a b r s known good whole step =
+    read_job E keeps handle.n a b r s known good step
+works_calm E keeps (Write handle at bytes) a b r s known good whole step =
+    write_job E keeps handle.n at bytes a b r s known good step
+works_calm E keeps (Free handle) a b r s known good whole step =
+    free_job handle.n a b r (keeps.easy a good) step
+works_calm E keeps (Swap handle) a b r s known good whole step =
+    swap_job E keeps handle.n a b r s known good step
+works_calm E keeps (Filter handle) a b r s known good whole step =
+    filter_job handle.n a b r (keeps.easy a good) step
+works_calm E keeps Evict a b r s known good whole step = evict_job a b r step
+works_calm E keeps Begin a b r s known good whole step = absurd whole
+works_calm E keeps Ship a b r s known good whole step = absurd whole
+works_calm E keeps Commit a b r s known good whole step = absurd whole
+works_calm E keeps Abort a b r s known good whole step = absurd whole
+works_calm E keeps Pair a b r s known good whole step = absurd whole
+works_calm E keeps Patch a b r s known good whole step = absurd whole
+works_calm E keeps Merge a b r s known good whole step = absurd whole
+works_calm E keeps Part a b r s known good whole step = absurd whole
+works_calm E keeps Compact a b r s known good whole step = compact_job a.far b.far r step.1
+works_calm E keeps Rebuild a b r s known good whole step = rebuild_job a.far b.far r step.1
+works_calm E keeps (Crash node) a b r s known good whole step = crash_job node a.far b.far r step.1
+works_calm E keeps (Join node) a b r s known good whole step = join_job node a.far b.far r step.1
 
 -- ---- a turn
-easy_counted : (x : Words) (far : FarState) (job : Job) → MakesEasy x far
-    → MakesEasy x (counted far job)
-easy_counted x far job easy = record {
-  still = easy.still;
-  whole = easy.whole;
-  spans = easy.spans;
-  nodes = easy.nodes;
-  stamps = easy.stamps;
-}
-
-pub turn_calm : (w new : WorldState) (job : Job) (r : Reply) → IsSoundWorld w
-    → w.far.counts.turns < 2 ^ 40 → IsWholeJob job → MakesEasy w.desk w.far → TurnStep job w r new
-    → IsEased r
-turn_calm w new job r sound few whole easy (worn end reply same) = absurd (omega (arith, few, end))
-turn_calm w new job r sound few whole easy (done more works seats) =
-    works_calm job (held_at w job) (held_then new) r sound.shown (known_at w job sound)
-    (easy_counted w.desk w.far job easy) whole works
+pub turn_calm : (E : Holding Words → Type 0) → KeepsEasy E
+    → (w new : WorldState) (job : Job) (r : Reply)
+    → IsSoundWorld w → w.far.counts.turns < 2 ^ 40 → IsWholeJob job → E (held_at w job)
+    → TurnStep job w r new → IsEased r
+turn_calm E keeps w new job r sound few whole good (worn end reply same) =
+    absurd (omega (arith, few, end))
+turn_calm E keeps w new job r sound few whole good (done more works seats) =
+    works_calm E keeps job (held_at w job) (held_then new) r sound.shown (known_at w job sound) good
+    whole works
 
 -- ---- a pin
 refusal_calm : (q : State) (version pins : ℕ) → (q ≡ word.Moving → ⊥)

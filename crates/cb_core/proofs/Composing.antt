@@ -1,11 +1,9 @@
 -- The parts of a turn one after another, over any desk.
-use Rattle.std.proofs.Common.{◌≡◌, ℕ, ◌≤◌, List, [], length, Option, None, Some, Result, Ok, Err, sym, refl, ap, ◌∙◌, subst}
+use Rattle.std.proofs.Common.{◌≡◌, ℕ, ◌≤◌, List, [], length, Option, None, Some, Result, Ok, Err, sym, subst}
 use Rattle.std.specs.Prelude.{IfOk, OnErr}
 use Rattle.cb_member.specs.declared.no_memory.NoMemory.{NoMemory}
 use Rattle.cb_set.specs.SetState.{SetState}
 use Rattle.cb_types.specs.declared.config.Config.{Config}
-use Rattle.cb_types.specs.Config.{IsAccepted}
-use Rattle.cb_types.specs.declared.handle.SetId.{SetId}
 use Rattle.cb_types.specs.declared.reply.Reply.{Reply}
 use Rattle.cb_types.specs.declared.reply.Reply.TheVariants as answer
 use Rattle.cb_world.specs.declared.event.Event.{Event}
@@ -17,22 +15,13 @@ use Rattle.cb_world.specs.Performs.{Performs}
 use Rattle.cb_world.specs.Played.{played}
 use Rattle.cb_world.specs.Sets.{set_in}
 use Rattle.cb_world.specs.Sound.{Sound}
-use Rattle.cb_world.specs.World.{IsConfigured}
-use Rattle.cb_mutate.specs.MakeRule.{NeedsNewSpan}
 use Rattle.cb_swapin.specs.Fetching.{far_given}
-use Rattle.cb_swapin.specs.SwapEffect.{SwapEffect}
-use Rattle.cb_swapin.specs.SwapRule.{SwapRule}
-use Rattle.cb_evict.specs.declared.eviction.Eviction.{Eviction}
-use Rattle.cb_evict.specs.declared.eviction.Eviction.TheVariants.{Refused, Set}
-use Rattle.cb_evict.specs.declared.eviction.Lack.{Lack}
-use Rattle.cb_core.specs.Parts.{Holding, WithRoom, WhereItIs, BringsIn, RoomStops, CallStops}
+use Rattle.cb_core.specs.Parts.{Holding, WhereItIs, BringsIn, CallStops}
 use Rattle.cb_core.specs.Parts.BringsIn.{was_far}
 use Rattle.cb_core.specs.Parts.CallStops.{far as far_lacks}
 use Rattle.cb_core.specs.Parts.WhereItIs.{declined, stays_far, brought}
-use Rattle.cb_core.specs.Parts.WithRoom.{no_room, won}
-use Rattle.cb_core.specs.Parts.RoomStops.{at_once, evicting, after}
-use Rattle.cb_core.specs.Turned.{Brings, BringLacks, EvictLacks, FindsWhere, IsGiven, WinsRoom, MakeLacks, Makes, Operates, SwapLacks}
-use Rattle.cb_core.proofs.PartsFar.{HasWon, has_won, live_home, make_crammed, swap_crammed}
+use Rattle.cb_core.specs.Turned.{Brings, BringLacks, FindsWhere, IsGiven, Makes, SwapLacks}
+use Rattle.cb_core.proofs.PartsFar.{live_home}
 
 -- ---- what a part leaves known
 -- a sound world that the desk shows
@@ -75,18 +64,6 @@ pub any_err : (P : Type 0) (r : Result Reply NoMemory) → P → OnErr r P
 any_err P (Ok q) p = tt
 any_err P (Err e) p = p
 
--- by the result of the part
-pub shown_if : (runs : List Event → Type 0) (shows then_shows : Shown → Type 0) (far new : FarState)
-    (rules : Reply → List Event → Type 0) (does : Reply → List Event → Shown → Shown → Type 0)
-    (result : Result Reply NoMemory)
-    → IfOk result (λ r. Performs runs (λ s. shows s × Sound s far) (rules r) (λ t. Sound t new) (does r))
-    → ((es : List Event) (s : Shown) → runs es → shows s → then_shows (played es s))
-    → IsSoundShown shows far → IfOk result (λ r. IsSoundShown then_shows new)
-shown_if runs shows then_shows far new rules does result x follows k =
-    if_map (λ r. IsSoundShown then_shows new)
-    (λ r. Performs runs (λ s. shows s × Sound s far) (rules r) (λ t. Sound t new) (does r)) result x
-    (λ r p. shown_after runs shows then_shows far new (rules r) (does r) p follows k)
-
 -- ---- the reply that it was
 pub makes_as : {D : Type 0} (run : D → List Event → D → Type 0) (shows : D → Shown → Type 0)
     (c d : Config) (bytes : List ℕ) (a b : Holding D) (q r : Reply) → d ≡ c → q ≡ r
@@ -95,88 +72,7 @@ makes_as run shows c d bytes a b q r same is x =
     subst (λ (e : Config). Makes run shows e bytes a r b) same
     (subst (λ (p : Reply). Makes run shows d bytes a p b) is x)
 
-pub wins_as : {D : Type 0} (run : D → List Event → D → Type 0) (shows : D → Shown → Type 0)
-    (c d : Config) (a b : Holding D) (e f : Eviction) → d ≡ c → e ≡ f
-    → WinsRoom run shows d a e b → WinsRoom run shows c a f b
-wins_as run shows c d a b e f same is x =
-    subst (λ (n : Config). WinsRoom run shows n a f b) same
-    (subst (λ (p : Eviction). WinsRoom run shows d a p b) is x)
-
--- ---- room that was won
--- an eviction that made a set, in the far state that the operation left as it was
-pub won_between : {D : Type 0} (run : D → List Event → D → Type 0) (shows : D → Shown → Type 0)
-    (c d : Config) (far : FarState) (m n : Holding D) (e : Eviction) (id : SetId) → d ≡ c
-    → IsAccepted c → IsConfigured c far → m.far ≡ far → IsSoundShown (λ s. shows m.desk s) m.far
-    → e ≡ Set id → WinsRoom run shows d m e n → HasWon c far n.far
-won_between run shows c d far m n e id same accepted configured left k is x =
-    let y = wins_as run shows c d m n e (Set id) same is x in
-    subst (λ (f : FarState). HasWon c f n.far) left
-    (has_won c k.0 m.far n.far (answer.Set id) id y.events accepted
-    (subst (λ (f : FarState). IsConfigured c f) (sym left) configured) k.2 y.rule.rule refl)
-
--- ---- a make for which room is won
-module _ {D : Type 0} (run : D → List Event → D → Type 0) (shows : D → Shown → Type 0) (c : Config)
-    (bytes : List ℕ) (a m : Holding D) (q : Reply) where
-  pub make_refused : (n : Holding D) (d k : Config) (e : Eviction) (why : Lack) (loose nodes : ℕ)
-      (r : Reply) → Makes run shows c bytes a q m
-      → q ≡ answer.NoFrame → d ≡ c → k ≡ c → e ≡ Refused why loose nodes → WinsRoom run shows d m e n
-      → r ≡ answer.NoRoom k.frames loose nodes
-      → WithRoom c.frames (Makes run shows c bytes) (WinsRoom run shows c) a r n
-  make_refused n d k e why loose nodes r x none same kept few y is =
-      no_room m why loose nodes (makes_as run shows c c bytes a m q answer.NoFrame refl none x)
-      (wins_as run shows c d m n e (Refused why loose nodes) same few y)
-      (is ∙ ap (λ (f : Config). answer.NoRoom f.frames loose nodes) kept)
-
-  pub make_again : (n b : Holding D) (d e : Config) (p : Eviction) (id : SetId)
-      (result : Result Reply NoMemory) → Makes run shows c bytes a q m
-      → q ≡ answer.NoFrame → d ≡ c → e ≡ c → WinsRoom run shows d m p n → p ≡ Set id
-      → HasWon c a.far n.far → IfOk result (λ r. Makes run shows e bytes n r b)
-      → IfOk result (λ r. WithRoom c.frames (Makes run shows c bytes) (WinsRoom run shows c) a r b)
-  make_again n b d e p id result x none same again y set left z =
-      if_map (λ r. WithRoom c.frames (Makes run shows c bytes) (WinsRoom run shows c) a r b)
-      (λ r. Makes run shows e bytes n r b) result z (λ r made.
-      let made_here = makes_as run shows c e bytes n b r r again refl made in
-      won m n id (makes_as run shows c c bytes a m q answer.NoFrame refl none x)
-      (wins_as run shows c d m n p (Set id) same set y) made_here
-      (λ crammed. left.free (make_crammed c.handles bytes n.far b.far r made_here.events made_here.rule
-      crammed).1))
-
-  pub make_without : (b : Holding D) (result : Result Reply NoMemory)
-      → Makes run shows c bytes a q m → q ≡ answer.NoFrame → EvictLacks run shows m b
-      → OnErr result (RoomStops (Makes run shows c bytes) (MakeLacks run c bytes) (WinsRoom run shows c)
-      (EvictLacks run shows) a b)
-  make_without b result x none lacks = any_err _ result
-      (evicting m (makes_as run shows c c bytes a m q answer.NoFrame refl none x) lacks)
-
-  pub make_lacks_again : (n b : Holding D) (d e : Config) (p : Eviction) (id : SetId)
-      (result : Result Reply NoMemory) → ((x : D) → run x [] x) → Makes run shows c bytes a q m
-      → q ≡ answer.NoFrame → d ≡ c → e ≡ c → WinsRoom run shows d m p n → p ≡ Set id
-      → OnErr result ((b.desk ≡ n.desk) × (b.far ≡ n.far)
-      × NeedsNewSpan e.handles (length bytes) n.far)
-      → OnErr result (RoomStops (Makes run shows c bytes) (MakeLacks run c bytes) (WinsRoom run shows c)
-      (EvictLacks run shows) a b)
-  make_lacks_again n b d e p id result nothing x none same again y set z =
-      err_map _ ((b.desk ≡ n.desk) × (b.far ≡ n.far) × NeedsNewSpan e.handles (length bytes) n.far)
-      result z (λ lacked.
-      after m n id (makes_as run shows c c bytes a m q answer.NoFrame refl none x)
-      (wins_as run shows c d m n p (Set id) same set y) (
-        subst (λ (u : D). run n.desk [] u) (sym lacked.0) (nothing n.desk),
-        lacked.1,
-        subst (λ (f : Config). NeedsNewSpan f.handles (length bytes) n.far) again lacked.2,
-      ))
-
--- ---- a swap-in for which room is won
--- a swap-in of a position
-abbrev pub SwapsAt : {D : Type 0} → (D → List Event → D → Type 0) → (D → Shown → Type 0) → ℕ → ℕ
-    → Holding D → Reply → Holding D → Type 0
-SwapsAt run shows id p = Operates run shows (λ far new q. SwapRule id p far new q)
-    (λ far new q. SwapEffect id p far new q)
-
-pub swaps_as : {D : Type 0} (run : D → List Event → D → Type 0) (shows : D → Shown → Type 0)
-    (id p : ℕ) (a b : Holding D) (q r : Reply) → q ≡ r → SwapsAt run shows id p a q b
-    → SwapsAt run shows id p a r b
-swaps_as run shows id p a b q r is x = subst (λ (e : Reply). SwapsAt run shows id p a e b) is x
-
+-- ---- a swap-in
 -- rows of its set were given out: the set of a home is there
 is_given : (s : Shown) (far new : FarState) (h : ℕ) (home : Home) → Sound s far
     → home_at far.homes h ≡ Some home
@@ -190,60 +86,13 @@ is_given s far new h home sound at x =
 module _ {D : Type 0} (run : D → List Event → D → Type 0) (shows : D → Shown → Type 0) (h : ℕ)
     (home : Home) (a b : Holding D) (nothing : (x : D) → run x [] x)
     (k : IsSoundShown (λ s. shows a.desk s) a.far) (at : home_at a.far.homes h ≡ Some home) where
-  swap_lacks : b.desk ≡ a.desk → ((set : SetState) → set_in a.far.sets home.set ≡ Some set → (n : ℕ)
+  pub swap_lacks : b.desk ≡ a.desk → ((set : SetState) → set_in a.far.sets home.set ≡ Some set
+      → (n : ℕ)
       × (n ≤ length set.positions) × (b.far ≡ far_given a.far n)) → SwapLacks run h a b
   swap_lacks desk far = (
     subst (λ (u : D). run a.desk [] u) (sym desk) (nothing a.desk),
     is_given k.0 a.far b.far h home k.2 at far,
   )
-
-  pub swap_stops : (c : Config) (result : Result Reply NoMemory) → b.desk ≡ a.desk
-      → ((set : SetState) → set_in a.far.sets home.set ≡ Some set → (n : ℕ)
-      × (n ≤ length set.positions) × (b.far ≡ far_given a.far n))
-      → OnErr result (BringLacks run shows c h a b)
-  swap_stops c result desk far = any_err _ result (at_once (swap_lacks desk far))
-
-module _ {D : Type 0} (run : D → List Event → D → Type 0) (shows : D → Shown → Type 0) (c : Config)
-    (h : ℕ) (home : Home) (a m : Holding D) (q : Reply) (at : home_at a.far.homes h ≡ Some home)
-    (x : SwapsAt run shows home.set home.position a q m) where
-  pub swap_refused : (n : Holding D) (d k : Config) (e : Eviction) (why : Lack) (loose nodes : ℕ)
-      (r : Reply) → q ≡ answer.NoFrame → d ≡ c → k ≡ c → e ≡ Refused why loose nodes
-      → WinsRoom run shows d m e n → r ≡ answer.NoRoom k.frames loose nodes
-      → Brings run shows c h a r n
-  swap_refused n d k e why loose nodes r none same kept few y is = no_room m why loose nodes
-      (home, at, swaps_as run shows home.set home.position a m q answer.NoFrame none x)
-      (wins_as run shows c d m n e (Refused why loose nodes) same few y)
-      (is ∙ ap (λ (f : Config). answer.NoRoom f.frames loose nodes) kept)
-
-  pub swap_again : (n b : Holding D) (d : Config) (p : Eviction) (id : SetId)
-      (result : Result Reply NoMemory) → q ≡ answer.NoFrame → d ≡ c → WinsRoom run shows d m p n
-      → p ≡ Set id → HasWon c a.far n.far
-      → IfOk result (λ r. SwapsAt run shows home.set home.position n r b)
-      → IfOk result (λ r. Brings run shows c h a r b)
-  swap_again n b d p id result none same y set left z = if_map (λ r. Brings run shows c h a r b)
-      (λ r. SwapsAt run shows home.set home.position n r b) result z (λ r swapped.
-      won m n id (home, at, swaps_as run shows home.set home.position a m q answer.NoFrame none x)
-      (wins_as run shows c d m n p (Set id) same set y) (home, left.homes h home at, swapped)
-      (λ crammed. left.free (swap_crammed home.set home.position n.far b.far r swapped.events
-      swapped.rule crammed).1))
-
-  pub swap_without : (b : Holding D) (result : Result Reply NoMemory) → q ≡ answer.NoFrame
-      → EvictLacks run shows m b → OnErr result (BringLacks run shows c h a b)
-  swap_without b result none lacks = any_err _ result (evicting m
-      (home, at, swaps_as run shows home.set home.position a m q answer.NoFrame none x) lacks)
-
-  pub swap_lacks_again : (n b : Holding D) (d : Config) (p : Eviction) (id : SetId)
-      (result : Result Reply NoMemory) → q ≡ answer.NoFrame → d ≡ c → WinsRoom run shows d m p n
-      → p ≡ Set id → ((x : D) → run x [] x) → IsSoundShown (λ s. shows n.desk s) n.far
-      → HasWon c a.far n.far → OnErr result (b.desk ≡ n.desk)
-      → OnErr result ((set : SetState) → set_in n.far.sets home.set ≡ Some set → (i : ℕ)
-      × (i ≤ length set.positions) × (b.far ≡ far_given n.far i))
-      → OnErr result (BringLacks run shows c h a b)
-  swap_lacks_again n b d p id result none same y set nothing k left z w =
-      err_both _ (b.desk ≡ n.desk) _ result z w (λ desk far.
-      after m n id (home, at, swaps_as run shows home.set home.position a m q answer.NoFrame none x)
-      (wins_as run shows c d m n p (Set id) same set y)
-      (swap_lacks run shows h home n b nothing k (left.homes h home at) desk far))
 
 -- ---- a call on an object wherever it is
 -- a part that leaves the far state as it was

@@ -20,6 +20,7 @@ use Rattle.cb_rebuild.specs.RebuildStep.{RebuildStep, surveyed}
 use Rattle.cb_rebuild.proofs.Laws.{failed_stays, keeps_first, keeps_step, rebuild_stays, rebuild_step_fixes}
 use Rattle.cb_core.specs.FarJobs.{FarLacks, FarStep, IsWeakGiven}
 use Rattle.cb_core.specs.Jobs.{IsJob}
+use Rattle.cb_core.proofs.Carried.{turn_rise}
 use Rattle.cb_core.proofs.CompactIdle.{now_idle}
 use Rattle.cb_core.proofs.NodesStay.{IsWholeJob, MakesNone, MembersAfter, MembersBatchPair, MembersStand, crash_fixed, crash_line, crash_none, crash_sound, crash_stands, crash_stays, join_fixed, join_line, join_none, join_now, join_sound, join_stands, join_stays, member_of, standing, stands_same, tally}
 use Rattle.cb_core.proofs.RowsHeld.{IsIdle}
@@ -52,7 +53,7 @@ note_of job = KeepsNote
 -- is sound
 pub record StaysSound (N : FarState → FarState → Type 0) (c : Config) (s : Shown) (far new : FarState)
     : Type 0 where
-  pub stays : StaysBy N c 64 far new
+  pub stays : StaysBy N c turn_rise far new
   pub sound : Sound s new
 
 -- what is owed
@@ -72,13 +73,13 @@ pub record IsFarJob (job : Job) : Type 0 where
 
 -- whose numbers rise by at most so many
 pub stays_sound : {N : FarState → FarState → Type 0} (c : Config) (n : ℕ) (s : Shown)
-    (far new : FarState) → n ≤ 64 → IsConfigured c far
+    (far new : FarState) → n ≤ turn_rise → IsConfigured c far
     → StaysIfBy N c n far new → Sound s new → StaysSound N c s far new
 stays_sound c n s far new most is stays sound = let z = stays is in record {
   stays = record {
     configured = z.configured;
     codes = z.codes;
-    rises = rises_more n 64 far new most z.rises;
+    rises = rises_more n turn_rise far new most z.rises;
   };
   sound = sound;
 }
@@ -100,7 +101,7 @@ same_looks : (c : Config) (s : Shown) (far new : FarState) → IsConfigured c fa
 same_looks = same_by KeepsHolding (λ far holds. holds)
 
 -- ---- by the laws of a step that leaves the members
-by_laws : (job : Job) (most : ℕ) (asked : Request) → most ≤ 64
+by_laws : (job : Job) (most : ℕ) (asked : Request) → most ≤ turn_rise
     → AreFarLaws (note_of job) most asked (FarStep job)
     → ((old new : Membership) → new ≡ old → MembersAfter job old new)
     → (IsWholeJob job → (far new : FarState) (r : Reply) → FarStep job far new r → IsIdle far

@@ -1,15 +1,17 @@
 -- The lemmas of this crate that other crates cite.
 pub use Rattle.cb_core.proofs.Admitted.{compact_made, compact_sound, compacted_sound}
-pub use Rattle.cb_core.proofs.Calm.{IsEased, MakesEasy, pin_calm, turn_calm}
+pub use Rattle.cb_core.proofs.Calm.{IsEased, KeepsEasy, MakesEasy, pin_calm, turn_calm}
 pub use Rattle.cb_core.proofs.Changes.{read_leaves}
 pub use Rattle.cb_core.proofs.CrashesKept.{NamesAmong, none_crashed, turn_crashed, turn_idle}
 pub use Rattle.cb_core.proofs.Epochs.{lead_rises, pin_far, step_rises, unpin_far}
 pub use Rattle.cb_core.proofs.FewLost.{CrashedAmong, never_broken, never_gone}
+pub use Rattle.cb_core.proofs.KeptParts.{IsGood}
 pub use Rattle.cb_core.proofs.NodesStay.{IsWholeJob, crash_stays, join_stays}
 pub use Rattle.cb_core.proofs.PartsCodes.{turn_codes}
 pub use Rattle.cb_core.proofs.NowIn.{are_gone}
 pub use Rattle.cb_core.proofs.PinnedStays.{step_pinned, touched, unmoved_same}
 pub use Rattle.cb_core.proofs.PinsKept.{pin_step_sound, unpin_step_sound}
+pub use Rattle.cb_core.proofs.RoomEnds.{RoomEnds, operated, room_ends, room_reply, was_refused}
 pub use Rattle.cb_core.proofs.RoomyNodes.{enough_beside, enough_roomy}
 pub use Rattle.cb_core.proofs.RowsHeld.{IsIdle, JoinsApart}
 pub use Rattle.cb_core.proofs.RunEvents.{kept_beside, lost_beside}
@@ -19,8 +21,9 @@ pub use Rattle.cb_core.proofs.TurnCalls.{IsQuietJob, abort_turn, begin_turn, com
 pub use Rattle.cb_core.proofs.TurnCallsKept.{known_same, once_known}
 pub use Rattle.cb_core.proofs.TurnCallsMap.{IsSameMap, counted_map}
 pub use Rattle.cb_core.proofs.TurnCallsPinned.{IsPinCount, free_counts, write_counts}
-pub use Rattle.cb_core.proofs.TurnCallsSound.{swap_sound}
+pub use Rattle.cb_core.proofs.TurnCallsSound.{room_good, swap_sound}
 pub use Rattle.cb_core.proofs.TurnCallsSwap.{IsSwapRefusal, SwapEnds, refusal_line, refused, stays, swapped}
 pub use Rattle.cb_core.proofs.TurnCallsUnpinned.{free_unpinned, write_fits, write_unpinned}
 pub use Rattle.cb_core.proofs.Unavailables.{step_tells}
 pub use Rattle.cb_core.proofs.TurnUnavailable.{IsNever, brought_tells, there_tells}
+pub use Rattle.cb_core.proofs.WorldKept.{counted_good, held}

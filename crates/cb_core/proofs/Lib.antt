@@ -2,11 +2,13 @@ pub mod Counting
 pub mod PartsFar
 pub mod Composing
 pub mod Exits
+mod Winning
 pub mod NoFrames
 pub mod DeclinedLooks
 pub mod Changes
 pub mod KeptPins
 pub mod Carried
+mod RoomEnds
 pub mod KeptParts
 pub mod FewLost
 pub mod RowsHeld

@@ -202,10 +202,11 @@ abbrev pub AllNever : {D : Type 0} → (Holding D → Reply → Holding D → Ty
 AllNever {D = D} P = (a b : Holding D) (r : Reply) → P a r b → Never r
 
 room_never : {D : Type 0} (frames : ℕ) (P : Holding D → Reply → Holding D → Type 0)
-    (E : Holding D → Eviction → Holding D → Type 0) → AllNever (WithRoom frames P E)
-room_never frames P E a b r (at_once o off) = off
-room_never frames P E a b r (no_room m why loose nodes o v is) = never r (off r _ refl is)
-room_never frames P E a b r (won m n id o v again off) = off
+    (E : Holding D → Eviction → Holding D → Type 0) (left : ℕ) → AllNever (WithRoom frames P E left)
+room_never frames P E left a b r (at_once o off) = off
+room_never frames P E left a b r (no_room m why loose nodes o v is) = never r (off r _ refl is)
+room_never frames P E (suc fewer) a b r (won m n id o v again) =
+    room_never frames P E fewer n b r again
 
 where_never : {D : Type 0} (P : Holding D → Reply → Holding D → Type 0)
     (L : Holding D → Option Reply → Holding D → Type 0) (E : Holding D → Reply → Holding D → Type 0)
@@ -233,7 +234,7 @@ module _ {D : Type 0} (run : D → List Event → D → Type 0) (shows : D → S
     pub comes_never : (h : ℕ) → AllNever (ComesIn run shows c h)
     comes_never h a b r come = brings_never _ _
         (λ a b r x. never r (answered _ (state_of x.rule.1.word) x.rule.1.word h x.events r
-        (λ is. off r answer.Stays refl is) x.rule.1.answer)) (room_never _ _ _) a b r come
+        (λ is. off r answer.Stays refl is) x.rule.1.answer)) (room_never _ _ _ _) a b r come
 
     pub reads_never : (h : ℕ) → AllNever (Reads run shows h)
     reads_never h a b r x = never r (read_plain h r x.events x.rule.1)
@@ -243,13 +244,13 @@ module _ {D : Type 0} (run : D → List Event → D → Type 0) (shows : D → S
     (c : Config) where
   pub does_never : (job : Job) (a b : Holding D) (r : Reply) → Does run shows reads c job a r b
       → Never r
-  does_never (Make bytes) a b r does = room_never _ _ _ a b r does
+  does_never (Make bytes) a b r does = room_never _ _ _ _ a b r does
   does_never (Read handle) a b r does = once_never (ComesIn run shows c handle.n) (reads handle.n)
       (comes_never run shows c handle.n) (read handle.n) a b r does
   does_never (Write handle at bytes) a b r does = where_never _ _ _
       (λ a b r x. never r (write_plain handle.n at bytes r x.events x.rule.1))
       (λ a b r x. never r (declined_plain handle.n at (length bytes) a.far r x.1.events x.1.rule))
-      (room_never _ _ _) a b r does
+      (room_never _ _ _ _) a b r does
   does_never (Free handle) a b r does =
       never r (free_plain handle.n a.far b.far r does.events does.rule)
   does_never (Swap handle) a b r does = comes_never run shows c handle.n a b r does

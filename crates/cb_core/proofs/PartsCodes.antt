@@ -22,7 +22,7 @@ use Rattle.cb_swapin.proofs.Laws.{swap_step_codes}
 use Rattle.cb_core.specs.Parts.{Holding, WhereItIs, NeverDeclined}
 use Rattle.cb_core.specs.Step.{StillAlone, StillMake, StillRead, StillFree, StillSwap, StillBring, StillFilter, StillWorks, TurnStep, done, still_parts, worn}
 use Rattle.cb_core.specs.Turned.{counted}
-use Rattle.cb_core.proofs.Carried.{AreAlong, CarriesAlong, KeepsAlong, brings, does, itself, where_it_is}
+use Rattle.cb_core.proofs.Carried.{AreAlong, CarriesAlong, KeepsAlong, bring_rise, brings, does, itself, turn_rise, where_it_is}
 use Rattle.cb_core.proofs.Changes.{free_leaves}
 use Rattle.cb_core.proofs.Counting.{counted_sound}
 use Rattle.cb_core.proofs.NodesStay.{crash_stays, join_stays}
@@ -85,11 +85,11 @@ parts = record {
       (evict_step_codes a.desk b.desk a.far b.far (reply_of e) x.0.step, x);
 }
 
-reads : (h : ℕ) → CarriesAlong itself Anywhere KeepAs 64
+reads : (h : ℕ) → CarriesAlong itself Anywhere KeepAs turn_rise
     (WhereItIs (StillRead h) NeverDeclined (StillBring h))
     (WhereItIs (StillRead h) NeverDeclined (StillBring h))
-reads h = where_it_is itself Anywhere KeepAs along 1 1 56 64 (StillRead h) (StillRead h)
-    NeverDeclined NeverDeclined (StillBring h) (StillBring h) (omega arith)
+reads h = where_it_is itself Anywhere KeepAs along 1 1 bring_rise turn_rise (StillRead h)
+    (StillRead h) NeverDeclined NeverDeclined (StillBring h) (StillBring h) (omega arith)
     (λ a b r good x. (codes_same a.far b.far x.1, x))
     (λ a b r good x. (codes_same a.far b.far (ap (λ (z : Holding Words). z.far) x.1), x))
     (brings itself Anywhere KeepAs along still_parts still_parts parts h)

@@ -1,19 +1,20 @@
 -- What the parts of a turn find in the far state, and what they leave there.
-use Rattle.std.proofs.Common.{◌≡◌, ℕ, Bool, true, false, ◌<◌, List, [], ◌∷◌, Option, None, Some, is_some, length, get_or, take, sym, refl, ap, ◌∙◌, subst, arith, inl, inr, if◌then◌else◌}
+use Rattle.std.proofs.Common.{◌≡◌, ℕ, ◌+◌, Bool, true, false, ◌<◌, ◌≤◌, List, [], ◌∷◌, Option, None, Some, is_some, length, take, sym, refl, ap, ◌∙◌, subst, arith, inl, inr, if◌then◌else◌}
 use Rattle.std.specs.List.{Contains}
-use Rattle.std.proofs.lemmas.List.{length-take-le}
-use Rattle.std.proofs.lemmas.List.Elements.{Contains-get_or}
+use Rattle.std.specs.Prelude.{count_by, slice_set}
+use Rattle.std.proofs.lemmas.Bool.{cases_lt}
+use Rattle.std.proofs.lemmas.List.{get_or_past, length-take-le, set_past}
 use Rattle.std.proofs.lemmas.List.Folds.{list_any_at}
+use Rattle.std.proofs.lemmas.List.Sums.{sum_by-set}
 use Rattle.cb_frame.specs.FreeFrames.{least_free}
-use Rattle.cb_frame.proofs.Laws.{least_free-None}
 use Rattle.cb_member.specs.declared.names.Loss.{Loss}
 use Rattle.cb_member.specs.declared.names.Shard.{Shard}
 use Rattle.cb_node.specs.NodesState.{NodesState, with_row}
 use Rattle.cb_set.specs.Lost.{lost}
 use Rattle.cb_set.specs.SetState.{SetState, live_at, position_of}
+use Rattle.cb_span.specs.Contents.{Contents}
 use Rattle.cb_span.specs.Places.{slot_place}
 use Rattle.cb_types.specs.declared.config.Config.{Config}
-use Rattle.cb_types.specs.declared.config.Field.TheVariants.{K}
 use Rattle.cb_types.specs.Config.{IsAccepted}
 use Rattle.cb_types.specs.declared.handle.SetId.{SetId}
 use Rattle.cb_types.specs.declared.reply.Reply.{Reply}
@@ -24,7 +25,7 @@ use Rattle.cb_world.specs.declared.object.Object.{Object}
 use Rattle.cb_world.specs.declared.object.Object.TheVariants as is
 use Rattle.cb_world.specs.declared.shown.Shown.{Shown}
 use Rattle.cb_world.specs.Shown.{object_at}
-use Rattle.cb_world.specs.FarState.{FarState}
+use Rattle.cb_world.specs.FarState.{FarState, span_in}
 use Rattle.cb_world.specs.Homes.{home_at}
 use Rattle.cb_world.specs.LocalSound.{LiesAt}
 use Rattle.cb_world.specs.Sets.{set_in}
@@ -34,9 +35,9 @@ use Rattle.cb_world.specs.Stored.{all_put}
 use Rattle.cb_world.specs.World.{IsConfigured}
 use Rattle.cb_mutate.specs.MakeRule.{MakeRule}
 use Rattle.cb_evict.specs.Candidates.{candidates, SpanNames}
-use Rattle.cb_evict.specs.Closing.{all_given}
+use Rattle.cb_evict.specs.Closing.{all_closed}
 use Rattle.cb_evict.specs.EvictRule.{HasEvicted, EvictRule}
-use Rattle.cb_evict.proofs.Laws.{few_spans, few_nodes, given_in, loose_among, evict_stays, names_span, named_at, ready_frame, taken_of}
+use Rattle.cb_evict.proofs.Laws.{few_spans, few_nodes, loose_among, evict_stays, names_span, named_at, ready_frame, taken_of}
 use Rattle.cb_swapin.specs.SwapRule.{SwapFar, SwapRule, frame_answer, swap_answer}
 use Rattle.cb_swapin.proofs.Laws.{named_within}
 
@@ -102,11 +103,63 @@ put_given nodes (shard ∷ shards) [] = refl
 put_given nodes (shard ∷ shards) (row ∷ rows) =
     put_given (with_row nodes shard.node shard.key row) shards rows
 
--- what it leaves for the part behind it: a frame is free, and far objects have the homes that they had
+-- how many spans are in local memory
+abbrev pub span_count : FarState → ℕ
+span_count far = count_by (λ o. is_some o) far.spans
+
+abbrev one_if : Option Contents → ℕ
+one_if o = if is_some o then 1 else 0
+
+abbrev there_count : List (Option Contents) → ℕ
+there_count spans = count_by (λ o. is_some o) spans
+
+span_less : (spans : List (Option Contents)) (f : ℕ)
+    → there_count (slice_set spans f None) ≤ there_count spans
+span_less spans f = elim (cases_lt f (length spans)) [
+  | inl within ↦
+      let e = sum_by-set one_if spans f None None within in
+      omega (arith, e)
+  | inr past ↦ let e = ap there_count (set_past spans f None past) in omega (arith, e)
+]
+
+span_gone : (spans : List (Option Contents)) (f : ℕ) (span : Contents) → span_in spans f ≡ Some span
+    → there_count (slice_set spans f None) + 1 ≡ there_count spans
+span_gone spans f span there = elim (cases_lt f (length spans)) [
+  | inl within ↦
+      let e = sum_by-set one_if spans f None None within in
+      let one = ap one_if there in
+      omega (arith, e, one)
+  | inr past ↦ absurd (none_there (sym (get_or_past spans f None past) ∙ there))
+]
+  where
+    none_there : None ≡ Some span → ⊥
+    none_there e = cc
+
+closed_less : (spans : List (Option Contents)) (frames : List ℕ)
+    → there_count (all_closed spans frames) ≤ there_count spans
+closed_less spans [] = omega arith
+closed_less spans (f ∷ frames) =
+    let rest = closed_less (slice_set spans f None) frames in let one = span_less spans f in
+    omega (arith, rest, one)
+
+-- where at least one is closed there are fewer
+closed_fewer : (spans : List (Option Contents)) (frames : List ℕ) → 0 < length frames
+    → ((f : ℕ) → Contains frames f → (span : Contents) × (span_in spans f ≡ Some span))
+    → there_count (all_closed spans frames) < there_count spans
+closed_fewer spans [] some there = absurd (omega (arith, some))
+closed_fewer spans (f ∷ frames) some there =
+    let x = there f (0, omega arith, refl) in
+    let rest = closed_less (slice_set spans f None) frames in let one = span_gone spans f x.0 x.1 in
+    omega (arith, rest, one)
+
+-- What it leaves for the part behind it: fewer spans are in local memory, far objects have the
+-- homes that they had, and the numbers rose by no more than an eviction's may.
 pub record HasWon (c : Config) (far new : FarState) : Type 0 where
   pub configured : IsConfigured c new
   pub given : new.nodes.given ≡ far.nodes.given
-  pub free : least_free new.frames ≡ None → ⊥
+  pub sets : new.counts.sets ≤ far.counts.sets + 24
+  pub keys : new.counts.keys ≤ far.counts.keys + 24
+  pub fewer : span_count new < span_count far
   pub homes : (h : ℕ) (home : Home) → home_at far.homes h ≡ Some home
       → home_at new.homes h ≡ Some home
 
@@ -115,16 +168,17 @@ pub has_won : (c : Config) (s : Shown) (far new : FarState) (r : Reply) (id : Se
     → r ≡ answer.Set id → HasWon c far new
 has_won c s far new r id es accepted configured sound rule set =
     let x = has_sent far new r id es rule set in let e = x.evicted in
-    let most = accepted K in
-    let some : 0 < length x.frames = let n = x.count in omega (arith, n, most.0) in
-    let f = get_or x.frames 0 0 in
-    let inside = Contains-get_or x.frames 0 0 some in
-    let ready = ready_frame far s f sound.here (x.among f inside) in record {
-      configured = (evict_stays c far new r es accepted rule configured).configured;
+    let least = configured.codes.force.range.data_least in
+    let some : 0 < length x.frames = let n = x.count in omega (arith, n, least) in
+    let stays = evict_stays c far new r es accepted rule configured in record {
+      configured = stays.configured;
       given = ap (λ (q : FarState). q.nodes.given) e.state ∙ put_given far.nodes e.shards e.rows;
-      free = λ none. least_free-None (all_given far.frames x.frames)
-          (sym (ap (λ (q : FarState). least_free q.frames) e.state) ∙ none) f
-          (given_in far.frames x.frames f ready.counted inside);
+      sets = stays.rises.sets;
+      keys = stays.rises.keys;
+      fewer = let less = closed_fewer far.spans x.frames some (λ f inside.
+          let ready = ready_frame far s f sound.here (x.among f inside) in
+          (ready.span, ready.there)) in
+          let same = ap span_count e.state in omega (arith, less, same);
       homes = λ h home at. e.homes.others h (λ g in_frames names.
           not_resident s far h g home sound at names) ∙ at;
     }

@@ -1,5 +1,5 @@
 -- Parts of a turn that are fixed make a turn that is: one reply, and one end.
-use Rattle.std.proofs.Common.{◌≡◌, ℕ, Option, None, Some, sym, ap, ◌∙◌, subst}
+use Rattle.std.proofs.Common.{◌≡◌, ℕ, suc, Option, None, Some, sym, ap, ◌∙◌, subst}
 use Rattle.cb_evict.specs.declared.eviction.Eviction.{Eviction}
 use Rattle.cb_evict.specs.declared.eviction.Eviction.TheVariants.{Refused, Set}
 use Rattle.cb_evict.specs.declared.eviction.Lack.{Lack}
@@ -41,45 +41,52 @@ some_same : {A : Type 0} (x y : A) → Some x ≡ Some y → x ≡ y
 some_same x y e = cc
 
 -- ---- an operation for which room is won
+-- Each eviction begins where G holds, which the evictions before it kept.
 module _ {D : Type 0} (frames : ℕ) (operation : Holding D → Reply → Holding D → Type 0)
-    (eviction : Holding D → Eviction → Holding D → Type 0)
+    (eviction : Holding D → Eviction → Holding D → Type 0) (G : Holding D → Type 0)
     (each : (a : Holding D) → IsFixed operation a)
-    (refuses : PartLeavesAll operation answer.NoFrame) (a : Holding D) (evicts : IsFixed eviction a) where
+    (refuses : PartLeavesAll operation answer.NoFrame)
+    (evicts : (a : Holding D) → G a → IsFixed eviction a)
+    (kept : (a n : Holding D) (id : SetId) → G a → eviction a (Set id) n → G n) where
   -- evictions behind two refusals are behind one
-  evictions_fixed : (m n : Holding D) (e f : Eviction) (b c : Holding D)
+  evictions_fixed : (a m n : Holding D) (e f : Eviction) (b c : Holding D) → G a
       → operation a answer.NoFrame m → operation a answer.NoFrame n → eviction m e b
       → eviction n f c → AreOne e f b c
-  evictions_fixed m n e f b c o p v w = evicts e f b c
+  evictions_fixed a m n e f b c good o p v w = evicts a good e f b c
       (subst (λ (x : Holding D). eviction x e b) (refuses a m o) v)
       (subst (λ (x : Holding D). eviction x f c) (refuses a n p) w)
 
-  refused_or_not : (r : Reply) (b m : Holding D) → operation a r b → operation a answer.NoFrame m
-      → (r ≡ answer.NoFrame → ⊥) → ⊥
-  refused_or_not r b m o p off = off (each a r answer.NoFrame b m o p).0
+  refused_or_not : (a : Holding D) (r : Reply) (b m : Holding D) → operation a r b
+      → operation a answer.NoFrame m → (r ≡ answer.NoFrame → ⊥) → ⊥
+  refused_or_not a r b m o p off = off (each a r answer.NoFrame b m o p).0
 
-  pub with_room_fixed : IsFixed (WithRoom frames operation eviction) a
-  with_room_fixed r q b c (at_once o off) (at_once p on) = each a r q b c o p
-  with_room_fixed r q b c (at_once o off) (no_room m why i j p v is) =
-      absurd (refused_or_not r b m o p off)
-  with_room_fixed r q b c (at_once o off) (won m n id p v w on) =
-      absurd (refused_or_not r b m o p off)
-  with_room_fixed r q b c (no_room m why i j o v is) (at_once p on) =
-      absurd (refused_or_not q c m p o on)
-  with_room_fixed r q b c (won m n id o v w off) (at_once p on) =
-      absurd (refused_or_not q c m p o on)
-  with_room_fixed r q b c (no_room m v i j o x is) (no_room n w k l p y also) =
-      let same = evictions_fixed m n (Refused v i j) (Refused w k l) b c o p x y in
+  pub with_room_fixed : (left : ℕ) (a : Holding D) → G a
+      → IsFixed (WithRoom frames operation eviction left) a
+  with_room_fixed left a good r q b c (at_once o off) (at_once p on) = each a r q b c o p
+  with_room_fixed left a good r q b c (at_once o off) (no_room m why i j p v is) =
+      absurd (refused_or_not a r b m o p off)
+  with_room_fixed left a good r q b c (at_once o off) (won m n id p v w) =
+      absurd (refused_or_not a r b m o p off)
+  with_room_fixed left a good r q b c (no_room m why i j o v is) (at_once p on) =
+      absurd (refused_or_not a q c m p o on)
+  with_room_fixed left a good r q b c (won m n id o v w) (at_once p on) =
+      absurd (refused_or_not a q c m p o on)
+  with_room_fixed left a good r q b c (no_room m v i j o x is) (no_room n w k l p y also) =
+      let same = evictions_fixed a m n (Refused v i j) (Refused w k l) b c good o p x y in
       let counts = counts_same v w i j k l same.0 in
       (is ∙ (λ t. answer.NoRoom frames (counts.0 t) (counts.1 t)) ∙ sym also, same.1)
-  with_room_fixed r q b c (no_room m v i j o x is) (won n d id p y z on) =
+  with_room_fixed left a good r q b c (no_room m v i j o x is) (won n d id p y z) =
       absurd (refused_set v i j id
-      (evictions_fixed m n (Refused v i j) (Set id) b d o p x y).0)
-  with_room_fixed r q b c (won n d id p y z on) (no_room m v i j o x is) =
+      (evictions_fixed a m n (Refused v i j) (Set id) b d good o p x y).0)
+  with_room_fixed left a good r q b c (won n d id p y z) (no_room m v i j o x is) =
       absurd (refused_set v i j id
-      (evictions_fixed m n (Refused v i j) (Set id) c d o p x y).0)
-  with_room_fixed r q b c (won m d id o x u off) (won n e jd p y v on) =
-      let same = evictions_fixed m n (Set id) (Set jd) d e o p x y in
-      each e r q b c (subst (λ (h : Holding D). operation h r b) same.1 u) v
+      (evictions_fixed a m n (Refused v i j) (Set id) c d good o p x y).0)
+  with_room_fixed (suc fewer) a good r q b c (won m d id o x u) (won n e jd p y v) =
+      let same = evictions_fixed a m n (Set id) (Set jd) d e good o p x y in
+      let then = kept a e jd good (subst (λ (h : Holding D). eviction h (Set jd) e) (refuses a n p)
+      y) in
+      with_room_fixed fewer e then r q b c
+      (subst (λ (h : Holding D). WithRoom frames operation eviction fewer h r b) same.1 u) v
 
 -- ---- a call on an object wherever it is
 module _ {D : Type 0} (call : Holding D → Reply → Holding D → Type 0)

@@ -29,7 +29,7 @@ use Rattle.cb_swapin.proofs.Laws.{keeps_far, leaving_stays, settings_stay}
 use Rattle.cb_core.specs.FarJobs.{FarStep}
 use Rattle.cb_core.specs.Parts.{Holding, WithRoom, WhereItIs, NeverDeclined}
 use Rattle.cb_core.specs.Step.{StillAlone, StillMake, StillRead, StillWrite, StillFree, StillSwap, StillBring, StillFilter, StillBegin, StillShip, StillCommit, StillAbort, StillWorks, still_parts}
-use Rattle.cb_core.proofs.Carried.{AreAlong, CarriesAlong, KeepsAlong, brings, does, itself, where_it_is, with_room}
+use Rattle.cb_core.proofs.Carried.{AreAlong, CarriesAlong, KeepsAlong, bring_rise, brings, does, itself, turn_rise, where_it_is, with_room}
 use Rattle.cb_core.proofs.Changes.{read_leaves, write_leaves, free_leaves}
 use Rattle.cb_core.proofs.NodesStay.{IsWholeJob}
 
@@ -53,12 +53,14 @@ along what = record {
   both = λ n m k a b d Y Z W most y z w. (z.0 ∙ y.0, w);
 }
 
-pub room_same : {X : Type 0} (what : Holding Words → X) (n : ℕ)
+pub room_same : {X : Type 0} (what : Holding Words → X) (n left : ℕ)
     (P : Holding Words → Reply → Holding Words → Type 0)
     (V : Holding Words → Eviction → Holding Words → Type 0) → LeavesSame what P → LeavesSame what V
-    → LeavesSame what (WithRoom n P V)
-room_same what n P V p v a b r x = (with_room itself Anywhere (LeftAs what) (along what) n 0 0 0 P P V V
-    (omega arith) (λ a b r good x. (p a b r x, x)) (λ a b e good x. (v a b e x, x)) a b r tt x).0
+    → LeavesSame what (WithRoom n P V left)
+room_same what n left P V p v a b r x = (with_room itself Anywhere (LeftAs what) (along what) n 0 0
+    P P V
+    V (λ a b r good x. (p a b r x, x)) (λ a b e good x. (v a b e x, x)) left 0 (omega arith) a b r
+    tt x).0
 
 -- ---- what lasts
 abbrev pub Steady : Type 0
@@ -193,11 +195,12 @@ parts = record {
   wins = λ a b e good x. (evicted a b (reply_of e) x.0.step, x);
 }
 
-reads : (h : ℕ) → CarriesAlong itself Anywhere (LeftAs lasting) 64
+reads : (h : ℕ) → CarriesAlong itself Anywhere (LeftAs lasting) turn_rise
     (WhereItIs (StillRead h) NeverDeclined (StillBring h))
     (WhereItIs (StillRead h) NeverDeclined (StillBring h))
-reads h = where_it_is itself Anywhere (LeftAs lasting) (along lasting) 1 1 56 64 (StillRead h) (StillRead h)
-    NeverDeclined NeverDeclined (StillBring h) (StillBring h) (omega arith)
+reads h = where_it_is itself Anywhere (LeftAs lasting) (along lasting) 1 1 bring_rise turn_rise
+    (StillRead h)
+    (StillRead h) NeverDeclined NeverDeclined (StillBring h) (StillBring h) (omega arith)
     (λ a b r good x. (read_lasts h a b r x, x)) (λ a b r good x. (ap lasting x.1, x))
     (brings itself Anywhere (LeftAs lasting) (along lasting) still_parts still_parts parts h)
 

@@ -1,5 +1,5 @@
 -- A pinned object is unmoved by each event.
-use Rattle.std.proofs.Common.{◌≡◌, ◌≢◌, ◌⊎◌, ℕ, ◌+◌, ◌<◌, ◌≤◌, ◌==◌, Bool, List, [], ◌∷◌, length, Option, Some, None, refl, sym, ap, ◌∙◌, subst, arith, inl, inr, if◌then◌else◌, ne_eqb, get_or-set_same, get_or-set_other}
+use Rattle.std.proofs.Common.{◌≡◌, ◌≢◌, ◌⊎◌, ℕ, suc, ◌+◌, ◌<◌, ◌≤◌, ◌==◌, Bool, List, [], ◌∷◌, length, Option, Some, None, refl, sym, ap, ◌∙◌, subst, arith, inl, inr, if◌then◌else◌, ne_eqb, get_or-set_same, get_or-set_other}
 use native.Mathlib.Decide.{ℕ_discrete}
 use Rattle.std.specs.List.{AllByRecursion}
 use Rattle.std.proofs.lemmas.Bool.{cases_lt}
@@ -38,7 +38,7 @@ use Rattle.cb_core.specs.declared.event.Event.TheVariants as event
 use Rattle.cb_core.specs.Claiming.{refused as claim_refused, taken as claim_taken, not_claimed as none_stored, nothing_left, stored, stamped, not_stored, settled}
 use Rattle.cb_core.specs.Events.{IsAtomic, IsEvent}
 use Rattle.cb_core.specs.Jobs.{IsJob}
-use Rattle.cb_core.specs.Parts.{Holding, NeverDeclined, WithRoom, at_once, no_room, won, WhereItIs, near, declined, stays_far, brought, not_far, was_far}
+use Rattle.cb_core.specs.Parts.{Holding, NeverDeclined, WithRoom, at_once, no_room, won, most_evictions, WhereItIs, near, declined, stays_far, brought, not_far, was_far}
 use Rattle.cb_core.specs.Pinning.{scope_full, refused as pin_refused, taken, not_pinned, given}
 use Rattle.cb_core.specs.Run.{LeadsSoundly}
 use Rattle.cb_core.specs.Step.{HoldOn, Step, StillMake, StillRead, StillWrite, StillFree, StillDecline, StillRoom, StillBring, StillWorks, AtomicStep, TurnStep, worn, done, held as other_holds, free as alone}
@@ -200,22 +200,26 @@ made_fixed a b s t k bytes r ka kb p (inr (more, inr (is, z))) = (
         call.others k (λ e. off (e ∙ ap handle_in (sym made ∙ is)))
     by (inr none) = none.others k
 
-make_fixed : (a b : Holding Words) (s t : Shown) (k : ℕ) (bytes : List ℕ) (r : Reply)
+make_fixed : (bytes : List ℕ) (frames left : ℕ) (a b : Holding Words) (s t : Shown) (k : ℕ)
+    (r : Reply)
     → IsKnown a.desk a.far s → IsKnown b.desk b.far t → IsHeldHere a.desk k
-    → WithRoom a.desk.settings.frames (StillMake bytes) StillRoom a r b → Fixed a b s t k
-make_fixed a b s t k bytes r ka kb p (at_once c never) = made_fixed a b s t k bytes r ka kb p c
-make_fixed a b s t k bytes r ka kb p (no_room m why loose nodes c evict e) =
+    → WithRoom frames (StillMake bytes) StillRoom left a r b → Fixed a b s t k
+make_fixed bytes frames left a b s t k r ka kb p (at_once c never) =
+    made_fixed a b s t k bytes r ka kb p c
+make_fixed bytes frames left a b s t k r ka kb p (no_room m why loose nodes c evict e) =
     let none = make_crammed a.desk m.desk a.far m.far bytes c in
-    let left = subst (λ (x : Holding Words). StillRoom x (Refused why loose nodes) b)
+    let from = subst (λ (x : Holding Words). StillRoom x (Refused why loose nodes) b)
     (same_holding a m none.1 none.2) evict in
-    kept_fixed a b s t k (kept_room a b (Refused why loose nodes) s ka left) kb p
-make_fixed a b s t k bytes r ka kb p (won m n id c evict again never) =
+    kept_fixed a b s t k (kept_room a b (Refused why loose nodes) s ka from) kb p
+make_fixed bytes frames (suc fewer) a b s t k r ka kb p (won m n id c evict again) =
     let none = make_crammed a.desk m.desk a.far m.far bytes c in
-    let left = subst (λ (x : Holding Words). StillRoom x (Set id) n) (same_holding a m none.1 none.2)
+    let from = subst (λ (x : Holding Words). StillRoom x (Set id) n)
+    (same_holding a m none.1 none.2)
     evict in
-    let kept = kept_room a n (Set id) s ka left in
+    let kept = kept_room a n (Set id) s ka from in
     fixed_then a n b s kept.shown t k (kept_fixed a n s kept.shown k kept kept.known p)
-    (made_fixed n b kept.shown t k bytes r kept.known kb (still_held a n s k ka kept p) again)
+    (make_fixed bytes frames fewer n b kept.shown t k r kept.known kb
+    (still_held a n s k ka kept p) again)
 
 -- ---- a call on an object wherever it is
 where_fixed : (call : Holding Words → Reply → Holding Words → Type 0)
@@ -248,7 +252,8 @@ where_fixed call look h k q part fixes a b s t r ka kb below p (brought m n o f 
 works_fixed : (j : Job) (k : ℕ) (a b : Holding Words) (s t : Shown) (r : Reply)
     → IsJob a.desk.settings j → IsKnown a.desk a.far s → IsKnown b.desk b.far t → IsHeldHere a.desk k
     → StillWorks j a r b → Fixed a b s t k
-works_fixed (Make bytes) k a b s t r ok ka kb p works = make_fixed a b s t k bytes r ka kb p works
+works_fixed (Make bytes) k a b s t r ok ka kb p works =
+    make_fixed bytes a.desk.settings.frames most_evictions a b s t k r ka kb p works
 works_fixed (Read handle) k a b s t r ok ka kb p works = let h = handle.n in
     where_fixed (StillRead h) NeverDeclined h k (line.Read []) (read_part h [])
     (λ c d u v q kc kd lt z x. read_fixed c d u v h k q kc kd lt z x) a b s t r ka kb

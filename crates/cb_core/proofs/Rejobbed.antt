@@ -1,5 +1,5 @@
--- An eviction and a swap-in do the same whichever job the turn is counted as.
-use Rattle.std.proofs.Common.{◌≡◌, ℕ, List, ap}
+-- An eviction and a swap-in do the same however many turns were counted, and as whichever jobs.
+use Rattle.std.proofs.Common.{◌≡◌, ℕ, suc, List, refl, sym, ap, ◌∙◌, subst}
 use Rattle.cb_types.specs.declared.reply.Reply.{Reply}
 use Rattle.cb_types.specs.declared.reply.Reply.TheVariants as answer
 use Rattle.cb_types.specs.declared.handle.SetId.{SetId}
@@ -12,51 +12,58 @@ use Rattle.cb_world.proofs.Laws.{open_same, recounted_sound}
 use Rattle.cb_evict.specs.declared.eviction.Eviction.TheVariants.{Set}
 use Rattle.cb_evict.specs.EvictStep.{IsEvictStep, few_spans, few_nodes, made}
 use Rattle.cb_swapin.specs.SwapStep.{IsSwapped}
-use Rattle.cb_core.specs.Parts.{Holding, at_once, no_room, won}
+use Rattle.cb_core.specs.Parts.{Holding, WithRoom, at_once, no_room, won, most_evictions}
 use Rattle.cb_core.specs.Step.{HoldOn, StillBring, StillEvict, StillRoom, StillSwap}
 use Rattle.cb_core.proofs.StillFarJobs.{known_far}
 
--- the far state, where the turns were counted by job in this way
-abbrev pub rejobbed : List ℕ → FarState → FarState
-rejobbed by_job far = record far { counts = record far.counts { by_job = by_job } }
+-- the far state, where so many turns were counted, by job in this way
+abbrev pub rejobbed : ℕ → List ℕ → FarState → FarState
+rejobbed turns by_job far = record far {
+  counts = record far.counts { turns = turns; by_job = by_job };
+}
 
-abbrev pub held_as : List ℕ → Holding Words → Holding Words
-held_as by_job a = record { desk = a.desk; far = rejobbed by_job a.far }
+abbrev pub held_as : ℕ → List ℕ → Holding Words → Holding Words
+held_as turns by_job a = record { desk = a.desk; far = rejobbed turns by_job a.far }
 
-module _ (by_job : List ℕ) where
-  known_as : (x : Words) (far : FarState) (s : Shown) → IsKnown x far s → IsKnown x (rejobbed by_job far) s
-  known_as x far s k = known_far x far (rejobbed by_job far) s k
-      (recounted_sound s far far.counts.turns by_job far.nodes.given k.sound)
+module _ (turns : ℕ) (by_job : List ℕ) where
+  known_as : (x : Words) (far : FarState) (s : Shown) → IsKnown x far s
+      → IsKnown x (rejobbed turns by_job far) s
+  known_as x far s k = known_far x far (rejobbed turns by_job far) s k
+      (recounted_sound s far turns by_job far.nodes.given k.sound)
 
-  known_back : (x : Words) (far : FarState) (s : Shown) → IsKnown x (rejobbed by_job far) s → IsKnown x far s
-  known_back x far s k = known_far x (rejobbed by_job far) far s k
-      (recounted_sound s (rejobbed by_job far) far.counts.turns far.counts.by_job far.nodes.given k.sound)
+  known_back : (x : Words) (far : FarState) (s : Shown) → IsKnown x (rejobbed turns by_job far) s
+      → IsKnown x far s
+  known_back x far s k = known_far x (rejobbed turns by_job far) far s k
+      (recounted_sound s (rejobbed turns by_job far) far.counts.turns far.counts.by_job
+      far.nodes.given k.sound)
 
-  holds_as : (a b : Holding Words) → HoldOn a b → HoldOn (held_as by_job a) (held_as by_job b)
+  holds_as : (a b : Holding Words) → HoldOn a b → HoldOn (held_as turns by_job a)
+      (held_as turns by_job b)
   holds_as a b hold s k =
       let before = known_back a.desk a.far s k in let then = hold s before in
       let after = known_as b.desk b.far then.0 then.1 in (
         then.0,
         after,
         then.2,
-        λ seats ongoing. open_same b.desk b.far (rejobbed by_job b.far) then.0 seats then.1 after
+        λ seats ongoing. open_same b.desk b.far (rejobbed turns by_job b.far) then.0 seats then.1
+            after
             (then.3 seats
-            (open_same a.desk (rejobbed by_job a.far) a.far s seats k before ongoing)),
+            (open_same a.desk (rejobbed turns by_job a.far) a.far s seats k before ongoing)),
       )
 
   -- an eviction
   evict_as : (x y : Words) (far new : FarState) (r : Reply) → IsEvictStep x y far new r
-      → IsEvictStep x y (rejobbed by_job far) (rejobbed by_job new) r
+      → IsEvictStep x y (rejobbed turns by_job far) (rejobbed turns by_job new) r
   evict_as x y far new r (few_spans z same) = few_spans (record {
     few = z.few;
     reply = z.reply;
-    state = ap (rejobbed by_job) z.state;
+    state = ap (rejobbed turns by_job) z.state;
   }) same
   evict_as x y far new r (few_nodes z same) = few_nodes (record {
     enough = z.enough;
     few = z.few;
     reply = z.reply;
-    state = ap (rejobbed by_job) z.state;
+    state = ap (rejobbed turns by_job) z.state;
   }) same
   evict_as x y far new r (made z) = let e = z.evicted in made (record {
     enough = z.enough;
@@ -77,7 +84,7 @@ module _ (by_job : List ℕ) where
       contents = e.contents;
       of_frames = e.of_frames;
       homes = record { count = e.homes.count; here = e.homes.here; others = e.homes.others };
-      state = ap (rejobbed by_job) e.state;
+      state = ap (rejobbed turns by_job) e.state;
       sent = record {
         changed = e.sent.changed;
         others = e.sent.others;
@@ -90,12 +97,12 @@ module _ (by_job : List ℕ) where
   })
 
   pub room_evicts : (a b : Holding Words) (id : SetId) → StillRoom a (Set id) b
-      → StillEvict (held_as by_job a) (answer.Set id) (held_as by_job b)
+      → StillEvict (held_as turns by_job a) (answer.Set id) (held_as turns by_job b)
   room_evicts a b id (step, hold) =
       (evict_as a.desk b.desk a.far b.far (answer.Set id) step.step, holds_as a b hold)
 
   room_as : (a b : Holding Words) (id : SetId) → StillRoom a (Set id) b
-      → StillRoom (held_as by_job a) (Set id) (held_as by_job b)
+      → StillRoom (held_as turns by_job a) (Set id) (held_as turns by_job b)
   room_as a b id (step, hold) = (
     record { step = evict_as a.desk b.desk a.far b.far (answer.Set id) step.step; counts = tt },
     holds_as a b hold,
@@ -104,7 +111,7 @@ module _ (by_job : List ℕ) where
   -- a swap-in
   swapped_as : (x y : Words) (far new : FarState) (id p : ℕ) (set : SetState) (f : ℕ)
       → IsSwapped x y far new id p set f
-      → IsSwapped x y (rejobbed by_job far) (rejobbed by_job new) id p set f
+      → IsSwapped x y (rejobbed turns by_job far) (rejobbed turns by_job new) id p set f
   swapped_as x y far new id p set f z = record {
     state = record {
       class = z.state.class;
@@ -115,7 +122,7 @@ module _ (by_job : List ℕ) where
       homes = z.state.homes;
       sets = z.state.sets;
       nodes = z.state.nodes;
-      rest = ap (rejobbed by_job) z.state.rest;
+      rest = ap (rejobbed turns by_job) z.state.rest;
     };
     rows = z.rows;
     word = z.word;
@@ -124,7 +131,7 @@ module _ (by_job : List ℕ) where
   }
 
   swap_as : (a b : Holding Words) (h f : ℕ) → StillSwap h a (answer.Swapped f) b
-      → StillSwap h (held_as by_job a) (answer.Swapped f) (held_as by_job b)
+      → StillSwap h (held_as turns by_job a) (answer.Swapped f) (held_as turns by_job b)
   swap_as a b h f (home, at, z, hold) = (
     home,
     at,
@@ -138,7 +145,7 @@ module _ (by_job : List ℕ) where
   )
 
   full_as : (a b : Holding Words) (h : ℕ) → StillSwap h a answer.NoFrame b
-      → StillSwap h (held_as by_job a) answer.NoFrame (held_as by_job b)
+      → StillSwap h (held_as turns by_job a) answer.NoFrame (held_as turns by_job b)
   full_as a b h (home, at, z, hold) = (
     home,
     at,
@@ -146,7 +153,7 @@ module _ (by_job : List ℕ) where
       set = z.set;
       there = z.there;
       reply = z.reply;
-      change = (z.change.0, ap (rejobbed by_job) z.change.1);
+      change = (z.change.0, ap (rejobbed turns by_job) z.change.1);
     },
     holds_as a b hold,
   )
@@ -154,11 +161,21 @@ module _ (by_job : List ℕ) where
   not_crammed : (f frames loose nodes : ℕ) → answer.Swapped f ≡ answer.NoRoom frames loose nodes → ⊥
   not_crammed f frames loose nodes e = cc
 
+  brought_as : (h room left : ℕ) (a b : Holding Words) (r : Reply) (f : ℕ) → r ≡ answer.Swapped f
+      → WithRoom room (StillSwap h) StillRoom left a r b
+      → WithRoom room (StillSwap h) StillRoom left (held_as turns by_job a) (answer.Swapped f)
+      (held_as turns by_job b)
+  brought_as h room left a b r f is (at_once swap never) = at_once
+      (swap_as a b h f (subst (λ (q : Reply). StillSwap h a q b) is swap)) (λ e. never (is ∙ e))
+  brought_as h room left a b r f is (no_room m why loose nodes swap evict e) =
+      absurd (not_crammed f room loose nodes (sym is ∙ e))
+  brought_as h room (suc fewer) a b r f is (won m n id swap evict again) =
+      won (held_as turns by_job m) (held_as turns by_job n) id (full_as a m h swap)
+      (room_as m n id evict)
+      (brought_as h room fewer n b r f is again)
+
   pub bring_as : (a b : Holding Words) (h f : ℕ) → StillBring h a (answer.Swapped f) b
-      → StillBring h (held_as by_job a) (answer.Swapped f) (held_as by_job b)
-  bring_as a b h f (at_once swap never) = at_once (swap_as a b h f swap) never
-  bring_as a b h f (no_room m why loose nodes swap evict e) =
-      absurd (not_crammed f a.desk.settings.frames loose nodes e)
-  bring_as a b h f (won m n id swap evict again never) =
-      won (held_as by_job m) (held_as by_job n) id (full_as a m h swap) (room_as m n id evict)
-      (swap_as n b h f again) never
+      → StillBring h (held_as turns by_job a) (answer.Swapped f) (held_as turns by_job b)
+  bring_as a b h f bring = brought_as h a.desk.settings.frames most_evictions a b
+      (answer.Swapped f) f refl
+      bring

@@ -2,7 +2,9 @@
 use Rattle.std.proofs.Common.{◌≡◌, ℕ, List, [], ◌∷◌, length, None, refl, sym, ap, ◌∙◌, subst, arith, inl, inr}
 use Rattle.std.specs.List.{remove}
 use Rattle.std.proofs.lemmas.Bool.{cases_order}
+use Rattle.cb_member.specs.declared.names.Code.{Code}
 use Rattle.cb_types.specs.declared.handle.Handle.{Handle}
+use Rattle.cb_types.specs.declared.handle.SetId.{SetId}
 use Rattle.cb_types.specs.declared.job.Job.{Job}
 use Rattle.cb_types.specs.declared.job.Job.TheVariants.{Make, Read, Write, Free, Swap, Filter, Evict, Begin, Ship, Commit, Abort}
 use Rattle.cb_types.specs.declared.reply.Reply.{Reply}
@@ -11,6 +13,7 @@ use Rattle.cb_gf256.specs.InRange.{IsInRange}
 use Rattle.cb_world.specs.declared.homes.Home.{Home}
 use Rattle.cb_world.specs.declared.seats.Pin.{Pin}
 use Rattle.cb_world.specs.declared.shown.Shown.{Shown}
+use Rattle.cb_world.specs.FarState.{FarState}
 use Rattle.cb_world.specs.Pinned.{with_word}
 use Rattle.cb_world.specs.Plain.{Words}
 use Rattle.cb_world.specs.Seats.{IsNewestOf, pins_of_seat, with_pins}
@@ -18,6 +21,8 @@ use Rattle.cb_world.specs.Sound.{Sound}
 use Rattle.cb_world.specs.World.{WorldState, IsSoundWorld}
 use Rattle.cb_world.proofs.Laws.{IsOneEnd, home_same}
 use Rattle.cb_mutate.proofs.Laws.{free_step_fixes, make_step_fixes, read_step_fixes, write_step_fixes}
+use Rattle.cb_evict.specs.declared.eviction.Eviction.TheVariants.{Set}
+use Rattle.cb_evict.specs.EvictStep.{IsEvictStep, few_spans, few_nodes, made}
 use Rattle.cb_evict.proofs.Laws.{abort_step_fixes, begin_step_fixes, commit_step_fixes, evict_step_fixes, counted_step_fixes, ship_step_fixes}
 use Rattle.cb_filter.proofs.Laws.{filter_step_fixes}
 use Rattle.cb_swapin.specs.SwapStep.{IsSwapStep}
@@ -26,7 +31,7 @@ use Rattle.cb_core.specs.declared.event.Atomic.{Atomic}
 use Rattle.cb_core.specs.declared.event.Atomic.TheVariants.{Load, Pin as PinOn, Unpin, Claim, Store, Settle, Take, Give}
 use Rattle.cb_core.specs.declared.event.Event.{Event}
 use Rattle.cb_core.specs.declared.event.Event.TheVariants as event
-use Rattle.cb_core.specs.Parts.{Holding, NeverDeclined}
+use Rattle.cb_core.specs.Parts.{Holding, NeverDeclined, most_evictions}
 use Rattle.cb_core.specs.Pinning.{IsPinGiven, IsPinTaken, PinStep, scope_full, refused, taken, UnpinStep, not_pinned, given}
 use Rattle.cb_core.specs.Run.{IsOnlyRun, IsOnlyStep, LeadsSoundly}
 use Rattle.cb_core.specs.Step.{AtomicStep, Leads, SeatTurn, held, free, Step, StillBring, StillDecline, StillFind, StillMake, StillRead, StillRoom, StillSwap, StillWorks, StillWrite, TurnStep, worn, done}
@@ -105,9 +110,22 @@ room_fixed a ok e f b c x y =
     let ends = counted_step_fixes a.desk b.desk c.desk a.far b.far c.far e f ok x.0 y.0 in
     (ends.answer, λ i. record { desk = ends.words i; far = ends.far i })
 
-bring_fixed : (h : ℕ) (a : Holding Words) → IsInRange a.far.code.k a.far.code.r → IsFixed (StillBring h) a
-bring_fixed h a ok = with_room_fixed a.desk.settings.frames (StillSwap h) StillRoom (swap_fixed h)
-    (swap_refuses h) a (room_fixed a ok)
+-- the code in force is built, which an eviction keeps
+abbrev HasRange : Holding Words → Type 0
+HasRange a = IsInRange a.far.code.k a.far.code.r
+
+room_range : (a b : Holding Words) (id : SetId) → HasRange a → StillRoom a (Set id) b → HasRange b
+room_range a b id ok x =
+    subst (λ (code : Code). IsInRange code.k code.r) (sym (by (answer.Set id) x.0.step)) ok
+  where
+    by : (r : Reply) → IsEvictStep a.desk b.desk a.far b.far r → b.far.code ≡ a.far.code
+    by r (few_spans few same) = ap (λ (f : FarState). f.code) few.state
+    by r (few_nodes few same) = ap (λ (f : FarState). f.code) few.state
+    by r (made m) = ap (λ (f : FarState). f.code) m.evicted.state
+
+bring_fixed : (h : ℕ) (a : Holding Words) → HasRange a → IsFixed (StillBring h) a
+bring_fixed h a ok = with_room_fixed a.desk.settings.frames (StillSwap h) StillRoom HasRange
+    (swap_fixed h) (swap_refuses h) room_fixed room_range most_evictions a ok
 
 -- where the words stay and the far state is one, the ends are one
 still : (r q : Reply) (a b c : Holding Words) → b.desk ≡ a.desk → c.desk ≡ a.desk
@@ -124,8 +142,8 @@ pub record IsReadyToWork (a : Holding Words) : Type 0 where
 
 pub works_fixed : (job : Job) (a : Holding Words) → IsReadyToWork a → IsFixed (StillWorks job) a
 works_fixed (Make bytes) a ready r q b c x y =
-    with_room_fixed a.desk.settings.frames (StillMake bytes) StillRoom (make_fixed bytes)
-    (make_refuses bytes) a (room_fixed a ready.range) r q b c x y
+    with_room_fixed a.desk.settings.frames (StillMake bytes) StillRoom HasRange (make_fixed bytes)
+    (make_refuses bytes) room_fixed room_range most_evictions a ready.range r q b c x y
 works_fixed (Read handle) a ready r q b c x y = where_it_is_fixed (StillRead handle.n) NeverDeclined
     (StillBring handle.n) (read_fixed handle.n) (read_refuses handle.n) never_fixed never_stays a
     (bring_fixed handle.n a ready.range) r q b c x y

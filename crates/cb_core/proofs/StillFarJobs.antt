@@ -16,6 +16,7 @@ use Rattle.cb_core.specs.Jobs.{IsJob}
 use Rattle.cb_core.specs.Parts.{Holding}
 use Rattle.cb_core.specs.Step.{StillFar, StillFarLacks}
 use Rattle.cb_core.specs.Turned.{AtFar, AtFarLacks}
+use Rattle.cb_core.proofs.Carried.{turn_rise}
 use Rattle.cb_core.proofs.FarJobs.{KeepsContents, StaysSound, far_job, note_of}
 use Rattle.cb_core.proofs.KeptParts.{IsGood, ArrivesBy}
 use Rattle.cb_core.proofs.StillParts.{Ran}
@@ -49,7 +50,7 @@ open_after a b s seats same k sound ongoing =
 pub arrives_far : {N : FarState → FarState → Type 0} (c : Config) (seats : List SeatState)
     (a b : Holding Words) (Z : Type 0)
     → (good : IsGood c seats a) → b.desk ≡ a.desk → StaysSound N c good.shown a.far b.far → Z
-    → ArrivesBy N c seats 64 a b Z
+    → ArrivesBy N c seats turn_rise a b Z
 arrives_far c seats a b Z good same x z = record {
   is = z;
   good = record {
@@ -66,13 +67,13 @@ arrives_far c seats a b Z good same x z = record {
 -- whether or not it loses what an object holds
 pub far_arrives : (c : Config) (seats : List SeatState) (job : Job) (a b : Holding Words) (r : Reply)
     (Z : Type 0) → IsJob c job → IsGood c seats a → b.desk ≡ a.desk → FarStep job a.far b.far r → Z
-    → ArrivesBy (note_of job) c seats 64 a b Z
+    → ArrivesBy (note_of job) c seats turn_rise a b Z
 far_arrives c seats job a b r Z ok good same step z = arrives_far c seats a b Z good same
     ((far_job job).keeps c good.shown a.far b.far r ok good.configured good.known.sound step) z
 
 pub far_part : (c : Config) (seats : List SeatState) (job : Job) → IsJob c job → KeepsContents job
     → (a b : Holding Words) (r : Reply) → IsGood c seats a → AtFar Ran (FarStep job) a r b
-    → ArrivesBy (note_of job) c seats 64 a b (StillFar (FarStep job) a r b)
+    → ArrivesBy (note_of job) c seats turn_rise a b (StillFar (FarStep job) a r b)
 far_part c seats job ok holds a b r good (ran, step) =
     far_arrives c seats job a b r (StillFar (FarStep job) a r b) ok good ran.0 step (
       ran.0,
@@ -90,7 +91,7 @@ far_part c seats job ok holds a b r good (ran, step) =
 -- ---- want of memory
 pub far_lack : (c : Config) (seats : List SeatState) (job : Job)
     → (a b : Holding Words) → IsGood c seats a → AtFarLacks Ran (FarLacks job) a b
-    → ArrivesBy (note_of job) c seats 64 a b (StillFarLacks (FarLacks job) a b)
+    → ArrivesBy (note_of job) c seats turn_rise a b (StillFarLacks (FarLacks job) a b)
 far_lack c seats job a b good (ran, lacks) =
     arrives_far c seats a b (StillFarLacks (FarLacks job) a b) good ran.0
     ((far_job job).lacks c good.shown a.far b.far good.configured good.known.sound lacks) (ran.0, lacks)

@@ -19,9 +19,9 @@ use Rattle.cb_mutate.specs.StillReplies.{reply_as}
 use Rattle.cb_mutate.specs.CallStep.{ReadChange}
 use Rattle.cb_swapin.specs.SwapRule.{swap_answer, frame_answer}
 use Rattle.cb_core.specs.OnceHere.{IsThere, OnceHere, away, here, OnceHereStops, bringing_stops, call_stops}
-use Rattle.cb_core.specs.Parts.{Holding, NeverDeclined, at_once, no_room, won, WhereItIs, near, stays_far, brought, BringsIn, not_far, was_far, CallStops}
+use Rattle.cb_core.specs.Parts.{Holding, NeverDeclined, WithRoom, at_once, no_room, won, most_evictions, WhereItIs, near, stays_far, brought, BringsIn, not_far, was_far, CallStops}
 use Rattle.cb_core.specs.Parts.CallStops.{near as lacks_near, far as lacks_far, after as lacks_after}
-use Rattle.cb_core.specs.Step.{StillRead, StillFind, StillSwap, StillBring, StillBringLacks, StillReadLacks}
+use Rattle.cb_core.specs.Step.{StillRead, StillFind, StillRoom, StillSwap, StillBring, StillBringLacks, StillReadLacks}
 use Rattle.cb_core.proofs.TurnCallsReply.{read_is_here}
 
 -- an object comes in at the still desk; and where that lacked memory
@@ -104,10 +104,18 @@ swap_not_stays h a b (home, at, step, hold) = stays_swap a.far home.set step.set
 stays_no_room : (frames loose nodes : ℕ) → answer.Stays ≡ answer.NoRoom frames loose nodes → ⊥
 stays_no_room frames loose nodes e = cc
 
+brought_not_stays : (h room left : ℕ) (a b : Holding Words) (r : Reply) → r ≡ answer.Stays
+    → WithRoom room (StillSwap h) StillRoom left a r b → ⊥
+brought_not_stays h room left a b r e (at_once o off) =
+    swap_not_stays h a b (subst (λ (q : Reply). StillSwap h a q b) e o)
+brought_not_stays h room left a b r e (no_room m why loose nodes o v is) =
+    stays_no_room room loose nodes (sym e ∙ is)
+brought_not_stays h room (suc fewer) a b r e (won m n id o v again) =
+    brought_not_stays h room fewer n b r e again
+
 bring_not_stays : (h : ℕ) (a b : Holding Words) → StillBring h a answer.Stays b → ⊥
-bring_not_stays h a b (at_once o off) = swap_not_stays h a b o
-bring_not_stays h a b (no_room m why loose nodes o v is) = stays_no_room _ loose nodes is
-bring_not_stays h a b (won m n id o v again off) = swap_not_stays h n b again
+bring_not_stays h a b bring =
+    brought_not_stays h a.desk.settings.frames most_evictions a b answer.Stays refl bring
 
 came_in : (h : ℕ) (a b : Holding Words) (place : Reply) → StillBring h a place b → IsThere place
     → (f : ℕ) × StillBring h a (answer.Swapped f) b

@@ -1,5 +1,5 @@
 -- What an event leaves that found no memory, and what a run leaves.
-use Rattle.std.proofs.Common.{◌≡◌, ℕ, ◌^◌, ◌<◌, ◌+◌, List, [], length, take, drop, get_or, Option, Some, None, refl, sym, ap, ◌∙◌, subst, inl, inr}
+use Rattle.std.proofs.Common.{◌≡◌, ◌⊎◌, ℕ, suc, ◌^◌, ◌<◌, ◌+◌, List, [], length, take, drop, get_or, Option, Some, None, refl, sym, ap, ◌∙◌, subst, inl, inr}
 use Rattle.cb_ptr.specs.declared.word.State.{State}
 use Rattle.cb_ptr.specs.declared.word.State.TheVariants as state
 use Rattle.cb_ptr.specs.Word.{state_of}
@@ -27,23 +27,23 @@ use Rattle.cb_core.specs.declared.event.Event.TheVariants as event
 use Rattle.cb_core.specs.FarJobs.{FarLacks}
 use Rattle.cb_core.specs.Holding.{NoOtherHolds}
 use Rattle.cb_core.specs.NowIn.{claim_on, now_in}
-use Rattle.cb_core.specs.Parts.{Holding, at_once, won, was_far}
+use Rattle.cb_core.specs.Parts.{Holding, RoomStops, WithRoom, at_once, most_evictions, was_far, won}
 use Rattle.cb_core.specs.Parts.WithRoom.{no_room}
 use Rattle.cb_core.specs.Parts.RoomStops.{at_once as lacks_at_once, evicting, after as lacks_after}
 use Rattle.cb_core.specs.Parts.CallStops.{near, far as was_away, after as call_after}
-use Rattle.cb_core.specs.Run.{but_counts, HoldsAsBefore, MakesRoom, nothing, evicts, brings, LeavesAsBefore, LeavesPrefix}
-use Rattle.cb_core.specs.Step.{Step, EventStops, AtomicStops, StillBring, StillBringLacks, StillFarLacks, StillFind, StillRoom, StillStops, StillSwapLacks, StillWorks, done}
+use Rattle.cb_core.specs.Run.{but_counts, HoldsAsBefore, MakesEvictions, last, one_more, MakesRoom, nothing, evicts, brings, LeavesAsBefore, LeavesPrefix}
+use Rattle.cb_core.specs.Step.{Step, EventStops, AtomicStops, StillBring, StillBringLacks, StillEvictLacks, StillFarLacks, StillFind, StillMake, StillMakeLacks, StillRoom, StillStops, StillSwap, StillSwapLacks, StillWorks, done}
 use Rattle.cb_core.specs.Step.SeatTurn.{free}
 use Rattle.cb_core.specs.Turned.{counted}
 use Rattle.cb_core.specs.Unavailable.{brought_by}
 use Rattle.cb_core.proofs.FarJobs.{far_job}
 use Rattle.cb_core.proofs.NowIn.{in_same}
-use Rattle.cb_core.proofs.Rejobbed.{rejobbed, held_as, room_evicts, bring_as}
+use Rattle.cb_core.proofs.Rejobbed.{held_as, room_evicts, bring_as}
 use Rattle.cb_core.proofs.Runs.{Going, next_at, split_at}
 use Rattle.cb_core.proofs.StepFixed.{swap_refuses}
 use Rattle.cb_core.proofs.StillFarJobs.{known_after}
 use Rattle.cb_core.proofs.TurnCalls.{held_at, held_then}
-use Rattle.cb_core.proofs.TurnCallsKept.{HasKept, kept_bring, kept_room, once_known, same_holding}
+use Rattle.cb_core.proofs.TurnCallsKept.{HasKept, kept_all, kept_bring, kept_room, kept_then, once_known, same_holding}
 use Rattle.cb_core.proofs.TurnCallsLost.{home_far}
 use Rattle.cb_core.proofs.TurnCallsMake.{make_crammed}
 use Rattle.cb_core.proofs.TurnCallsParts.{read_part, write_part}
@@ -91,29 +91,52 @@ left_far j a b configured (same, lacks) = record {
 }
 
 -- ---- what room was made before
+-- evictions one after another, at least one and so many at the most
+data AreEvicted : ℕ → Holding Words → Holding Words → Type 0 where
+  the_last : {fewer : ℕ} {a b : Holding Words} (n : Holding Words) (id : SetId)
+      → StillRoom a (Set id) n → IsLeft n b → AreEvicted (suc fewer) a b
+  and_more : {fewer : ℕ} {a b : Holding Words} (n : Holding Words) (id : SetId)
+      → StillRoom a (Set id) n → AreEvicted fewer n b → AreEvicted (suc fewer) a b
+
 data HasRoom (a b : Holding Words) (asked : Option ℕ) : Type 0 where
   none : IsLeft a b → HasRoom a b asked
-  evicted : (n : Holding Words) (id : SetId) → StillRoom a (Set id) n → IsLeft n b → HasRoom a b asked
+  evicted : AreEvicted most_evictions a b → HasRoom a b asked
   came : (o : Holding Words) (handle : Handle) (f : ℕ) → asked ≡ Some handle.n
       → StillBring handle.n a (answer.Swapped f) o → IsLeft o b → HasRoom a b asked
 
+-- an operation that changes nothing where it finds no frame, and nothing that counts where it finds
+-- no memory
+left_behind : (P : Holding Words → Reply → Holding Words → Type 0)
+    (L : Holding Words → Holding Words → Type 0)
+    → ((a m : Holding Words) → P a answer.NoFrame m → m ≡ a)
+    → ((a b : Holding Words) → L a b → IsLeft a b) → (left : ℕ) (a b : Holding Words)
+    → RoomStops P L StillRoom StillEvictLacks left a b → IsLeft a b ⊎ AreEvicted left a b
+left_behind P L full lacking left a b (lacks_at_once lacks) = inl (lacking a b lacks)
+left_behind P L full lacking left a b (evicting m o same) = inl (left_same a b (same ∙ full a m o))
+left_behind P L full lacking (suc fewer) a b (lacks_after m n id o evict rest) =
+    let first = subst (λ (x : Holding Words). StillRoom x (Set id) n) (full a m o) evict in
+    elim (left_behind P L full lacking fewer n b rest) [
+      | inl z ↦ inr (the_last n id first z)
+      | inr more ↦ inr (and_more n id first more)
+    ]
+
+has_room : (a b : Holding Words) (asked : Option ℕ) → IsLeft a b ⊎ AreEvicted most_evictions a b
+    → HasRoom a b asked
+has_room a b asked (inl z) = none z
+has_room a b asked (inr more) = evicted more
+
 make_room : (a b : Holding Words) (bytes : List ℕ) (asked : Option ℕ)
     → StillStops (job.Make bytes) a b → HasRoom a b asked
-make_room a b bytes asked (lacks_at_once (same, needs)) = none (left_same a b same)
-make_room a b bytes asked (evicting m make same) =
-    let back = make_crammed a.desk m.desk a.far m.far bytes make in
-    none (left_same a b (same ∙ same_holding a m back.1 back.2))
-make_room a b bytes asked (lacks_after m n id make evict (same, needs)) =
-    let back = make_crammed a.desk m.desk a.far m.far bytes make in
-    evicted n id (subst (λ (x : Holding Words). StillRoom x (Set id) n) (same_holding a m back.1 back.2)
-    evict) (left_same n b same)
+make_room a b bytes asked stops = has_room a b asked (left_behind (StillMake bytes)
+    (StillMakeLacks bytes)
+    (λ a m make. let back = make_crammed a.desk m.desk a.far m.far bytes make in
+    same_holding a m back.1 back.2)
+    (λ a b lacks. left_same a b lacks.0) most_evictions a b stops)
 
 bring_room : (a b : Holding Words) (h : ℕ) (asked : Option ℕ) → StillBringLacks h a b → HasRoom a b asked
-bring_room a b h asked (lacks_at_once lacks) = none (left_given a b h lacks)
-bring_room a b h asked (evicting m swap same) = none (left_same a b (same ∙ swap_refuses h a m swap))
-bring_room a b h asked (lacks_after m n id swap evict lacks) =
-    evicted n id (subst (λ (x : Holding Words). StillRoom x (Set id) n) (swap_refuses h a m swap) evict)
-    (left_given n b h lacks)
+bring_room a b h asked stops = has_room a b asked (left_behind (StillSwap h) (StillSwapLacks h)
+    (λ a m swap. swap_refuses h a m swap) (λ a b lacks. left_given a b h lacks) most_evictions a b
+    stops)
 
 read_room : (a b : Holding Words) (handle : Handle) → StillStops (job.Read handle) a b
     → HasRoom a b (Some handle.n)
@@ -160,23 +183,40 @@ left_now a b s h z = ap (λ (f : FarState). now s f h) z.far
 
 bring_home : (a b : Holding Words) (s : Shown) (h f : ℕ) → IsKnown a.desk a.far s
     → StillBring h a (answer.Swapped f) b → state_of (word_at a.desk h) ≡ state.Far
-bring_home a b s h f k (at_once (home, at, step, hold) never) = home_far a.desk a.far s h home k at
-bring_home a b s h f k (no_room m why loose nodes (home, at, step, hold) evict e) =
-    home_far a.desk a.far s h home k at
-bring_home a b s h f k (won m n id (home, at, step, hold) evict again never) =
-    home_far a.desk a.far s h home k at
+bring_home a b s h f k bring = by most_evictions (answer.Swapped f) bring
+  where
+    by : (left : ℕ) (r : Reply) → WithRoom a.desk.settings.frames (StillSwap h) StillRoom left a r b
+        → state_of (word_at a.desk h) ≡ state.Far
+    by left r (at_once (home, at, step, hold) never) = home_far a.desk a.far s h home k at
+    by left r (no_room m why loose nodes (home, at, step, hold) evict e) =
+        home_far a.desk a.far s h home k at
+    by (suc fewer) r (won m n id (home, at, step, hold) evict again) =
+        home_far a.desk a.far s h home k at
 
 module _ (w new : WorldState) (seat : ℕ) (j : Job) (alone : NoOtherHolds w.seats seat)
     (few : w.far.counts.turns < 2 ^ 40) (seats : new.seats ≡ w.seats) where
-  -- a turn of another job that does its work from here on
-  other_turn : (other : Job) (r : Reply) (n : Holding Words)
-      → StillWorks other (held_at w other) r (held_as (counted w.far other).counts.by_job n)
-      → Step w (event.Turn seat other) r (record {
-        desk = n.desk;
-        far = rejobbed (counted w.far other).counts.by_job n.far;
-        seats = w.seats;
-      })
-  other_turn other r n works = free alone (done few works refl)
+  -- the world at a holding, where as many turns were counted as before, and where one more was
+  abbrev counted_as : Job → Holding Words → Holding Words
+  counted_as other n = let counts = (counted w.far other).counts in held_as counts.turns
+      counts.by_job n
+
+  abbrev with_held : Holding Words → WorldState
+  with_held n = record { desk = n.desk; far = n.far; seats = w.seats }
+
+  abbrev uncounted : Holding Words → WorldState
+  uncounted n = with_held (held_as w.far.counts.turns w.far.counts.by_job n)
+
+  -- a turn of another job that does its work from there on
+  other_turn : (other : Job) (r : Reply) (n o : Holding Words)
+      → StillWorks other (counted_as other n) r (counted_as other o)
+      → Step (uncounted n) (event.Turn seat other) r (with_held (counted_as other o))
+  other_turn other r n o works = free alone (done few works refl)
+
+  evict_turn : (n o : Holding Words) (id : SetId) → StillRoom n (Set id) o
+      → Step (uncounted n) (event.Turn seat job.Evict) (answer.Set id)
+      (with_held (counted_as job.Evict o))
+  evict_turn n o id evict = let counts = (counted w.far job.Evict).counts in
+      other_turn job.Evict (answer.Set id) n o (room_evicts counts.turns counts.by_job n o id evict)
 
   find_far : (other : Job) (h : ℕ) → state_of (word_at w.desk h) ≡ state.Far
       → StillFind h (held_at w other) answer.NotHere (held_at w other)
@@ -185,20 +225,25 @@ module _ (w new : WorldState) (seat : ℕ) (j : Job) (alone : NoOtherHolds w.sea
     refl,
   )
 
+  world_evicts : (left : ℕ) (n : Holding Words) → AreEvicted left n (held_then new)
+      → MakesEvictions seat left (uncounted n) new
+  world_evicts (suc fewer) n (the_last o id evict z) = last (with_held (counted_as job.Evict o)) id
+      (evict_turn n o id evict) (record { desk = z.desk; far = z.far; seats = seats })
+  world_evicts (suc fewer) n (and_more o id evict rest) =
+      one_more (with_held (counted_as job.Evict o)) (uncounted o) id (evict_turn n o id evict)
+      (record { desk = refl; far = refl; seats = refl }) (world_evicts fewer o rest)
+
   world_room : (s : Shown) → IsKnown w.desk w.far s → HasRoom (held_at w j) (held_then new) (brought_by j)
       → MakesRoom w (event.Turn seat j) new
   world_room s k (none z) = nothing (record { desk = z.desk; far = z.far; seats = seats })
-  world_room s k (evicted n id evict z) =
-      let by_job = (counted w.far job.Evict).counts.by_job in
-      evicts (record { desk = n.desk; far = rejobbed by_job n.far; seats = w.seats }) id
-      (other_turn job.Evict (answer.Set id) n (room_evicts by_job (held_at w j) n id evict))
-      (record { desk = z.desk; far = z.far; seats = seats })
+  world_room s k (evicted more) = evicts (world_evicts most_evictions (held_at w j) more)
   world_room s k (came o handle f asked bring z) =
-      let by_job = (counted w.far (job.Swap handle)).counts.by_job in
+      let swap = job.Swap handle in let counts = (counted w.far swap).counts in
       let away = bring_home (held_at w j) o s handle.n f (once_known w j s k) bring in
-      brings (record { desk = o.desk; far = rejobbed by_job o.far; seats = w.seats }) handle f asked
-      (other_turn (job.Swap handle) (answer.Swapped f) o (was_far (held_at w (job.Swap handle))
-      (find_far (job.Swap handle) handle.n away) (bring_as by_job (held_at w j) o handle.n f bring)))
+      brings (with_held (counted_as swap o)) handle f asked
+      (other_turn swap (answer.Swapped f) (held_at w j) o (was_far (held_at w swap)
+      (find_far swap handle.n away)
+      (bring_as counts.turns counts.by_job (held_at w j) o handle.n f bring)))
       (record { desk = z.desk; far = z.far; seats = seats })
 
   claims : (h : ℕ) → claim_on new.seats h ≡ claim_on w.seats h
@@ -214,14 +259,23 @@ module _ (w new : WorldState) (seat : ℕ) (j : Job) (alone : NoOtherHolds w.sea
         (left_now n (held_then new) kept.shown h z ∙ kept.same_now h),
   )
 
+  -- what all evictions kept
+  evictions_kept : (left : ℕ) (n : Holding Words) (s : Shown) → (kept : HasKept (held_at w j) n s)
+      → AreEvicted left n (held_then new)
+      → (t : Shown) × IsKnown new.desk new.far t × ((h : ℕ) → now_in new t h ≡ now_in w s h)
+  evictions_kept (suc fewer) n s kept (the_last o id evict z) = kept_left o s
+      (kept_then (held_at w j) n o s kept (kept_room n o (Set id) kept.shown kept.known evict)) z
+  evictions_kept (suc fewer) n s kept (and_more o id evict rest) = evictions_kept fewer o s
+      (kept_then (held_at w j) n o s kept (kept_room n o (Set id) kept.shown kept.known evict)) rest
+
   world_holds : HasRoom (held_at w j) (held_then new) (brought_by j) → HoldsAsBefore w new
   world_holds (none z) s k = (
     s,
     z.known s (once_known w j s k),
     λ h. in_same w new s s claims h (left_now (held_at w j) (held_then new) s h z),
   )
-  world_holds (evicted n id evict z) s k =
-      kept_left n s (kept_room (held_at w j) n (Set id) s (once_known w j s k) evict) z
+  world_holds (evicted more) s k = evictions_kept most_evictions (held_at w j) s
+      (kept_all (held_at w j) s (once_known w j s k)) more
   world_holds (came o handle f asked bring z) s k = kept_left o s
       (kept_bring (held_at w j) o handle.n (answer.Swapped f) s (once_known w j s k) bring) z
 

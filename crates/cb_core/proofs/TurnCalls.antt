@@ -21,7 +21,7 @@ use Rattle.cb_evict.specs.EvictStep.{IsEvictStep}
 use Rattle.cb_evict.specs.ShipStep.{IsShipStep}
 use Rattle.cb_evict.proofs.Laws.{abort_keeps, begin_keeps, commit_keeps, evict_keeps, ship_keeps}
 use Rattle.cb_core.specs.FarJobs.{FarStep}
-use Rattle.cb_core.specs.Parts.{Holding, NeverDeclined}
+use Rattle.cb_core.specs.Parts.{Holding, NeverDeclined, most_evictions}
 use Rattle.cb_core.specs.Step.{HoldOn, StillFar, StillRead, StillWrite, StillDecline, StillWorks, TurnStep, worn, done}
 use Rattle.cb_core.specs.Turned.{counted}
 use Rattle.cb_core.proofs.FarJobs.{AnswersLine, far_job}
@@ -117,8 +117,9 @@ pub make_turn : (w new : WorldState) (bytes name : List ℕ) (r : Reply) → (be
 make_turn w new bytes name r before after few step =
     let j = job.Make bytes in
     let d = is_done j w new r few step in
-    let z = make_answered (held_at w j) (held_then new) before.shown after.shown bytes name r
-    (known_at w j before) after.known d in
+    let z = make_answered bytes name w.desk.settings.frames most_evictions (held_at w j)
+    (held_then new)
+    before.shown after.shown r (known_at w j before) after.known d in
     record {
       call = make_carried w.desk.settings.handles before.shown before.shown after.shown after.shown w.far
           (counted w.far j) new.far new.far (Make name bytes) r

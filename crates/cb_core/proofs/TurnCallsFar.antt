@@ -25,8 +25,8 @@ use Rattle.cb_world.specs.World.{IsKnown, word_at}
 use Rattle.cb_swapin.specs.SwapStep.{IsSwapStep}
 use Rattle.cb_swapin.proofs.Laws.{gone_is_broken, by_answer, unavailable_answer, step_only_no_frame, home_comes_in}
 use Rattle.cb_evict.specs.declared.eviction.Eviction.TheVariants.{Set}
-use Rattle.cb_core.specs.Parts.{Holding, at_once, no_room, won}
-use Rattle.cb_core.specs.Step.{StillSwap, StillBring}
+use Rattle.cb_core.specs.Parts.{Holding, WithRoom, at_once, no_room, won, most_evictions}
+use Rattle.cb_core.specs.Step.{StillRoom, StillSwap, StillBring}
 use Rattle.cb_core.proofs.TurnCallsKept.{HasKept, kept_swap, kept_room, kept_then}
 
 -- The object's set has lost more shards than it has parities: its number, and what it lost.
@@ -108,16 +108,18 @@ lost_now far s h id losses sound z =
     let o = lost_away far s h id losses sound z in
     (o.1, (λ i. now_as s h (lost_gone far h id losses z i) (o.3 i)))
 
-pub bring_ends : (a b : Holding Words) (h : ℕ) (r : Reply) (s : Shown) → IsKnown a.desk a.far s
-    → StillBring h a r b → BringEnds a b h r
-bring_ends a b h r s k (at_once swap some) = swap_ends a b h r s k swap some
-bring_ends a b h r s k (no_room m why loose nodes (home, at, z, hold) evict e) =
-    crammed a.desk.settings.frames loose nodes e (gone_is_broken a.far h home z.set at z.there
+-- behind so many evictions at the most
+ends_behind : (h room left : ℕ) (a b : Holding Words) (r : Reply) (s : Shown)
+    → IsKnown a.desk a.far s
+    → WithRoom room (StillSwap h) StillRoom left a r b → BringEnds a b h r
+ends_behind h room left a b r s k (at_once swap some) = swap_ends a b h r s k swap some
+ends_behind h room left a b r s k (no_room m why loose nodes (home, at, z, hold) evict e) =
+    crammed room loose nodes e (gone_is_broken a.far h home z.set at z.there
     ∙ (step_only_no_frame a.desk m.desk a.far m.far home.set home.position z).0)
-bring_ends a b h r s k (won m n id (home, at, z, hold) evict again some) =
+ends_behind h room (suc fewer) a b r s k (won m n id (home, at, z, hold) evict again) =
     let one = kept_swap a m h answer.NoFrame s k (home, at, z, hold) in
     let two = kept_then a m n s one (kept_room m n (Set id) one.shown one.known evict) in
-    by two (swap_ends n b h r two.shown two.known again some)
+    by two (ends_behind h room fewer n b r two.shown two.known again)
   where
     whole : is_gone a.far h ≡ false
     whole = gone_is_broken a.far h home z.set at z.there
@@ -131,3 +133,8 @@ bring_ends a b h r s k (won m n id (home, at, z, hold) evict again some) =
         absurd (never_gone s h then.0 (object_at s h)
         (ap (λ (lost : Bool). now_as s h lost (object_at s h)) (sym whole)
         ∙ sym (two.same_now h) ∙ then.1))
+
+pub bring_ends : (a b : Holding Words) (h : ℕ) (r : Reply) (s : Shown) → IsKnown a.desk a.far s
+    → StillBring h a r b → BringEnds a b h r
+bring_ends a b h r s k bring =
+    ends_behind h a.desk.settings.frames most_evictions a b r s k bring

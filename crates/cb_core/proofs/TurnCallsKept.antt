@@ -1,5 +1,5 @@
 -- What a step within a turn keeps: what every object holds, with its pins.
-use Rattle.std.proofs.Common.{◌≡◌, ℕ, ◌≤◌, refl, sym, ◌∙◌, subst}
+use Rattle.std.proofs.Common.{◌≡◌, ℕ, suc, ◌≤◌, refl, sym, ◌∙◌, subst}
 use Rattle.cb_types.specs.declared.job.Job.{Job}
 use Rattle.cb_types.specs.declared.reply.Reply.{Reply}
 use Rattle.cb_types.specs.declared.reply.Reply.TheVariants as answer
@@ -16,7 +16,7 @@ use Rattle.cb_swapin.proofs.Laws.{swap_keeps}
 use Rattle.cb_evict.specs.declared.eviction.Eviction.{Eviction}
 use Rattle.cb_evict.specs.declared.eviction.Eviction.TheVariants.{Refused, Set}
 use Rattle.cb_evict.specs.Eviction.{reply_of}
-use Rattle.cb_core.specs.Parts.{Holding, at_once, no_room, won}
+use Rattle.cb_core.specs.Parts.{Holding, WithRoom, at_once, no_room, won, most_evictions}
 use Rattle.cb_core.specs.Step.{HoldOn, StillRoom, StillSwap, StillBring, StillFar}
 use Rattle.cb_core.specs.Turned.{counted}
 use Rattle.cb_core.proofs.NodesStay.{MakesNone}
@@ -96,16 +96,22 @@ kept_room a b e s k (step, hold) =
     kept_step a b s k hold (evict_keeps a.desk b.desk a.far b.far (reply_of e) step.step)
 
 -- what is done with room won keeps what its parts keep
-pub kept_bring : (a b : Holding Words) (h : ℕ) (r : Reply) (s : Shown) → IsKnown a.desk a.far s
-    → StillBring h a r b → HasKept a b s
-kept_bring a b h r s k (at_once swap some) = kept_swap a b h r s k swap
-kept_bring a b h r s k (no_room m why loose nodes swap evict e) =
+kept_behind : (h room left : ℕ) (a b : Holding Words) (r : Reply) (s : Shown)
+    → IsKnown a.desk a.far s
+    → WithRoom room (StillSwap h) StillRoom left a r b → HasKept a b s
+kept_behind h room left a b r s k (at_once swap some) = kept_swap a b h r s k swap
+kept_behind h room left a b r s k (no_room m why loose nodes swap evict e) =
     let one = kept_swap a m h answer.NoFrame s k swap in
     kept_then a m b s one (kept_room m b (Refused why loose nodes) one.shown one.known evict)
-kept_bring a b h r s k (won m n id swap evict again some) =
+kept_behind h room (suc fewer) a b r s k (won m n id swap evict again) =
     let one = kept_swap a m h answer.NoFrame s k swap in
     let two = kept_then a m n s one (kept_room m n (Set id) one.shown one.known evict) in
-    kept_then a n b s two (kept_swap n b h r two.shown two.known again)
+    kept_then a n b s two (kept_behind h room fewer n b r two.shown two.known again)
+
+pub kept_bring : (a b : Holding Words) (h : ℕ) (r : Reply) (s : Shown) → IsKnown a.desk a.far s
+    → StillBring h a r b → HasKept a b s
+kept_bring a b h r s k bring =
+    kept_behind h a.desk.settings.frames most_evictions a b r s k bring
 
 -- what is known of the same words and far state is the same
 pub known_same : (x : Words) (far : FarState) (s t : Shown) (h : ℕ) → IsKnown x far s → IsKnown x far t

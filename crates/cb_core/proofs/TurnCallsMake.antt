@@ -1,5 +1,5 @@
 -- A make for which room is won, and an eviction, as parts of a turn.
-use Rattle.std.proofs.Common.{◌≡◌, ℕ, ◌<◌, List, refl, sym, subst, inl, inr, arith}
+use Rattle.std.proofs.Common.{◌≡◌, ℕ, suc, ◌<◌, List, refl, sym, subst, inl, inr, arith}
 use Rattle.cb_types.specs.declared.request.Request.{Request}
 use Rattle.cb_types.specs.declared.request.Request.TheVariants.{Make, Evict}
 use Rattle.cb_types.specs.declared.reply.Reply.{Reply}
@@ -48,17 +48,17 @@ make_line x y far new bytes name r (inr (more, inl (class, is, same, left))) nev
 make_line x y far new bytes name r (inr (more, inr (is, z))) never =
     subst (IsReplyOf (Make name bytes)) (sym is) tt
 
-pub make_answered : (a b : Holding Words) (s t : Shown) (bytes name : List ℕ) (r : Reply)
-    → IsKnown a.desk a.far s → IsKnown b.desk b.far t
-    → WithRoom a.desk.settings.frames (StillMake bytes) StillRoom a r b
+pub make_answered : (bytes name : List ℕ) (frames left : ℕ) (a b : Holding Words) (s t : Shown)
+    (r : Reply) → IsKnown a.desk a.far s → IsKnown b.desk b.far t
+    → WithRoom frames (StillMake bytes) StillRoom left a r b
     → IsMakeAnswered a.desk.settings.handles s t a.far b.far (Make name bytes) r
-make_answered a b s t bytes name r before after (at_once c never) =
+make_answered bytes name frames left a b s t r before after (at_once c never) =
     record {
       call = make_call a.desk b.desk a.far b.far s t bytes name r
           (record { before = before; afterwards = after }) c;
       line = make_line a.desk b.desk a.far b.far bytes name r c never;
     }
-make_answered a b s t bytes name r before after (no_room m why loose nodes c evict e) =
+make_answered bytes name frames left a b s t r before after (no_room m why loose nodes c evict e) =
     let none = make_crammed a.desk m.desk a.far m.far bytes c in
     let kept = kept_room a b (Refused why loose nodes) s before
     (subst (λ (x : Holding Words). StillRoom x (Refused why loose nodes) b)
@@ -74,19 +74,18 @@ make_answered a b s t bytes name r before after (no_room m why loose nodes c evi
       });
       line = tt;
     })
-make_answered a b s t bytes name r before after (won m n id c evict again never) =
+make_answered bytes name frames (suc fewer) a b s t r before after (won m n id c evict again) =
     let none = make_crammed a.desk m.desk a.far m.far bytes c in
     let kept = kept_room a n (Set id) s before
     (subst (λ (x : Holding Words). StillRoom x (Set id) n) (same_holding a m none.1 none.2) evict) in
+    let rest = make_answered bytes name frames fewer n b kept.shown t r kept.known after again in
     record {
       call = make_carried a.desk.settings.handles s kept.shown t t a.far n.far b.far b.far
           (Make name bytes) r
           (kept_map a n s kept.shown kept kept.known) (map_stays t b.far)
           (subst (λ c. IsMakeCall c.handles kept.shown t n.far b.far (Make name bytes) r)
-          kept.words.settings
-          (make_call n.desk b.desk n.far b.far kept.shown t bytes name r
-          (record { before = kept.known; afterwards = after }) again));
-      line = make_line n.desk b.desk n.far b.far bytes name r again never;
+          kept.words.settings rest.call);
+      line = rest.line;
     }
 
 -- an eviction is answered the set that it made, or why it made none

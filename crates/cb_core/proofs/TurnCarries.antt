@@ -1,5 +1,5 @@
 -- What each part of a turn leaves over any desk, each job, and the turn.
-use Rattle.std.proofs.Common.{◌≡◌, ℕ, Bool, true, false, ◌+◌, ◌-◌, ◌^◌, ◌≤◌, if◌then◌else◌, ◌==◌, nat_lt, List, [], ◌∷◌, length, None, Some, refl, sym, subst, arith, inl, inr}
+use Rattle.std.proofs.Common.{◌≡◌, ℕ, suc, Bool, true, false, ◌+◌, ◌-◌, ◌^◌, ◌≤◌, if◌then◌else◌, ◌==◌, nat_lt, List, [], ◌∷◌, length, None, Some, refl, sym, subst, arith, inl, inr}
 use Rattle.cb_types.specs.declared.config.Config.{Config}
 use Rattle.cb_types.specs.Config.{IsAccepted}
 use Rattle.cb_types.specs.declared.job.Job.{Job}
@@ -27,9 +27,10 @@ use Rattle.cb_swapin.specs.SwapRule.{SwapRule}
 use Rattle.cb_swapin.proofs.Laws.{given_stays, swap_stays, by_answer, swap_unwritten}
 use Rattle.cb_core.specs.Declining.{far_refusal}
 use Rattle.cb_core.specs.Jobs.{IsJob}
-use Rattle.cb_core.specs.Parts.{Holding, NeverDeclined, NeverLacks, at_once, no_room, won}
+use Rattle.cb_core.specs.Parts.{Holding, WithRoom, NeverDeclined, NeverLacks, at_once, no_room, won, most_evictions}
 use Rattle.cb_core.specs.Turned.{Swaps, SwapLacks, Brings, BringLacks, ComesIn, ComeLacks, Evicts, WinsRoom, EvictLacks, Makes, MakeLacks, Reads, ReadLacks, WritesObject, Declines, FindsWhere, Does, Stops, IsDeclined}
 use Rattle.cb_mutate.specs.JobWrites.{MakeWrites, WriteWrites, FreeWrites, TurnWrites}
+use Rattle.cb_core.proofs.Carried.{bring_rise, come_rise, turn_rise}
 use Rattle.cb_core.proofs.FarJobs.{StaysSound, far_job, note_of}
 use Rattle.cb_core.proofs.TurnComes.{AreLaws, CarriesWrites, CarriesNoWrites, Comes, ComesBy, Good, WritesNothing, IsQuietReply, Nil, comes_by, comes_far, comes_more, comes_none, then_none, good_then, with_room, room_stops, where_it_is, brings_in, call_stops, once_here, once_here_stops}
 
@@ -176,65 +177,74 @@ module _ {D : Type 0} (run : D → List Event → D → Type 0) (shows : D → S
             (a.far.nodes.given + n) sound),
       ))
 
-  brings : (h : ℕ) → Leads 56 Nil (Brings run shows c h)
+  brings : (h : ℕ) → Leads bring_rise Nil (Brings run shows c h)
   brings h = with_room run shows laws c Nil (nil_quiet answer.NoFrame) c.frames (λ loose nodes. refl)
-      16 24 56 (Swaps run shows h) (WinsRoom run shows c) (omega arith) (swaps h) wins
+      16 24 (Swaps run shows h) (WinsRoom run shows c) (swaps h) wins most_evictions bring_rise
+      (omega arith)
 
-  bring_lacks : (h : ℕ) → Lacks 56 (BringLacks run shows c h)
-  bring_lacks h = room_stops run shows laws c Nil (nil_quiet answer.NoFrame) 16 24 56
-      (Swaps run shows h) (WinsRoom run shows c) (SwapLacks run h) (EvictLacks run shows) (omega arith)
-      (swaps h) (swap_lacks h) wins evict_lacks
+  bring_lacks : (h : ℕ) → Lacks bring_rise (BringLacks run shows c h)
+  bring_lacks h = room_stops run shows laws c Nil (nil_quiet answer.NoFrame) 16 24
+      (Swaps run shows h) (WinsRoom run shows c) (SwapLacks run h) (EvictLacks run shows) (swaps h)
+      (swap_lacks h) wins evict_lacks most_evictions bring_rise (omega arith)
 
   -- an object comes in, or there is no memory for that
-  pub comes_in : (h : ℕ) → Leads 57 Nil (ComesIn run shows c h)
-  comes_in h = brings_in run shows laws c 1 56 57 (FindsWhere run shows h) (Brings run shows c h)
+  pub comes_in : (h : ℕ) → Leads come_rise Nil (ComesIn run shows c h)
+  comes_in h = brings_in run shows laws c 1 bring_rise come_rise (FindsWhere run shows h)
+      (Brings run shows c h)
       (omega arith) (finds h) (brings h)
 
-  pub come_lacks : (h : ℕ) → Lacks 57 (ComeLacks run shows c h)
+  pub come_lacks : (h : ℕ) → Lacks come_rise (ComeLacks run shows c h)
   come_lacks h a b good (m, find, lacks) = let z = finds h a m answer.NotHere good find in
-      then_none run shows laws c 1 56 57 a m b (omega arith) z
+      then_none run shows laws c 1 bring_rise come_rise a m b (omega arith) z
       (bring_lacks h m b (good_then run shows laws c 1 WritesNothing a m good z) lacks)
 
   -- a write whose object can't be brought in is answered no version
+  brought_no_version : (h at : ℕ) (bytes : List ℕ) (k left : ℕ) (x y : Hold) (r : Reply)
+      → WithRoom c.frames (Swaps run shows k) (WinsRoom run shows c) left x r y
+      → WriteWrites h at bytes r []
+  brought_no_version h at bytes k left x y r (at_once (home, there, p) off) =
+      swap_none h at bytes home.set home.position x.far y.far r p.events p.rule
+  brought_no_version h at bytes k left x y r (no_room m why loose nodes o v is) =
+      subst (λ (q : Reply). WriteWrites h at bytes q []) (sym is) refl
+  brought_no_version h at bytes k (suc fewer) x y r (won m n id o v again) =
+      brought_no_version h at bytes k fewer n y r again
+
   brings_no_version : (h at : ℕ) (bytes : List ℕ) (k : ℕ) (x y : Hold) (r : Reply)
       → Brings run shows c k x r y → WriteWrites h at bytes r []
-  brings_no_version h at bytes k x y r (at_once (home, there, p) off) =
-      swap_none h at bytes home.set home.position x.far y.far r p.events p.rule
-  brings_no_version h at bytes k x y r (no_room m why loose nodes o v is) =
-      subst (λ (q : Reply). WriteWrites h at bytes q []) (sym is) refl
-  brings_no_version h at bytes k x y r (won m n id o v (home, there, p) off) =
-      swap_none h at bytes home.set home.position n.far y.far r p.events p.rule
+  brings_no_version h at bytes k = brought_no_version h at bytes k most_evictions
 
   never_lacks : Lacks 1 NeverLacks
   never_lacks a b good x = absurd x
 
   -- ---- the jobs
   -- a part whose numbers rise by no more than those of a job may
-  pub in_job : (W : List Entry → Type 0) (n : ℕ) (a b : Hold) → n ≤ 64 → Comes run shows c n W a b
-      → Comes run shows c 64 W a b
-  in_job W n a b most z = comes_more run shows laws c W n 64 a b most z
+  pub in_job : (W : List Entry → Type 0) (n : ℕ) (a b : Hold) → n ≤ turn_rise
+      → Comes run shows c n W a b → Comes run shows c turn_rise W a b
+  in_job W n a b most z = comes_more run shows laws c W n turn_rise a b most z
 
   -- a change of the far state alone
   far_leaves : {N : FarState → FarState → Type 0} (s : Shown) (a b : Hold)
       → (IsConfigured c a.far → StaysSound N c s a.far b.far)
-      → Good shows c a → StaysIfBy N c 64 a.far b.far × Sound s b.far
+      → Good shows c a → StaysIfBy N c turn_rise a.far b.far × Sound s b.far
   far_leaves s a b keeps good = ((λ is. (keeps is).stays), (keeps good.configured).sound)
 
   -- however an object is read
   pub does_comes : (reading : ℕ → Hold → Reply → Hold → Type 0) → ((h : ℕ) → Leads 1 Nil (reading h))
       → (job : Job) (a b : Hold) (r : Reply) → IsJob c job → Good shows c a
       → Does run shows reading c job a r b
-      → ComesBy (note_of job) run shows c 64 (TurnWrites job r) a b
+      → ComesBy (note_of job) run shows c turn_rise (TurnWrites job r) a b
   does_comes reading read (Make bytes) a b r ok good x =
       with_room run shows laws c (MakeWrites bytes) (make_quiet bytes) c.frames
-      (λ loose nodes. refl) 1 24 64 (Makes run shows c bytes) (WinsRoom run shows c) (omega arith)
-      (makes bytes) wins a b r good x
+      (λ loose nodes. refl) 1 24 (Makes run shows c bytes) (WinsRoom run shows c) (makes bytes) wins
+      most_evictions turn_rise (omega arith) a b r good x
   does_comes reading read (Read handle) a b r ok good x = let h = handle.n in
-      once_here run shows laws c 57 1 64 (ComesIn run shows c h) (reading h) (omega arith) (comes_in h)
+      once_here run shows laws c come_rise 1 turn_rise (ComesIn run shows c h) (reading h)
+      (omega arith) (comes_in h)
       (read h) a b r good x
   does_comes reading read (Write handle at bytes) a b r ok good x =
       let h = handle.n in let count = length bytes in
-      where_it_is run shows laws c (WriteWrites h at bytes) (write_quiet h at bytes) 1 1 56 64
+      where_it_is run shows laws c (WriteWrites h at bytes) (write_quiet h at bytes) 1 1 bring_rise
+      turn_rise
       (WritesObject run shows h at bytes) (Brings run shows c h) (Declines run shows h at count)
       (λ m n q (same, p). declined_none h at bytes count m.far q p.events p.rule)
       (λ m n q e. brings_no_version h at bytes h m n q e) (omega arith) (writes h at bytes)
@@ -244,7 +254,7 @@ module _ {D : Type 0} (run : D → List Event → D → Type 0) (shows : D → S
       (λ s sound. free_stays c h a.far b.far r p.events p.rule) p
       (λ s e. free_writes h r p.events s (played p.events s) e))
   does_comes reading read (Swap handle) a b r ok good x =
-      in_job WritesNothing 57 a b (omega arith) (comes_in handle.n a b r good x)
+      in_job WritesNothing come_rise a b (omega arith) (comes_in handle.n a b r good x)
   does_comes reading read (Filter handle) a b r ok good p = let h = handle.n in
       in_job WritesNothing 1 a b (omega arith) (comes_none run shows laws c 1 a b _ _ good
       (λ s sound. filter_stays c c.frames h a.far b.far r p.events p.rule) p
@@ -266,28 +276,31 @@ module _ {D : Type 0} (run : D → List Event → D → Type 0) (shows : D → S
       (λ s sound. abort_stays c a.far b.far r p.events p.rule) p
       (λ s e. abort_unwritten a.far b.far r p.events s (played p.events s) p.rule e))
   does_comes reading read job a b r ok good (ran, step) =
-      comes_far run shows laws c 64 a b good ran (λ s sound.
+      comes_far run shows laws c turn_rise a b good ran (λ s sound.
       far_leaves s a b (λ is. (far_job job).keeps c s a.far b.far r ok is sound step) good)
 
   -- ---- want of memory
   pub stops_comes : (lacking : ℕ → Hold → Hold → Type 0) → ((h : ℕ) → Lacks 1 (lacking h))
       → (job : Job) (a b : Hold) → Good shows c a → Stops run shows lacking c job a b
-      → ComesBy (note_of job) run shows c 64 WritesNothing a b
+      → ComesBy (note_of job) run shows c turn_rise WritesNothing a b
   stops_comes lacking lack (Make bytes) a b good x =
-      room_stops run shows laws c (MakeWrites bytes) (make_quiet bytes) 1 24 64
+      room_stops run shows laws c (MakeWrites bytes) (make_quiet bytes) 1 24
       (Makes run shows c bytes) (WinsRoom run shows c) (MakeLacks run c bytes) (EvictLacks run shows)
-      (omega arith) (makes bytes) (make_lacks bytes) wins evict_lacks a b good x
+      (makes bytes) (make_lacks bytes) wins evict_lacks most_evictions turn_rise (omega arith) a b
+      good x
   stops_comes lacking lack (Read handle) a b good x = let h = handle.n in
-      once_here_stops run shows laws c 57 1 64 (ComesIn run shows c h) (ComeLacks run shows c h)
+      once_here_stops run shows laws c come_rise 1 turn_rise (ComesIn run shows c h)
+      (ComeLacks run shows c h)
       (lacking h) (omega arith) (comes_in h) (come_lacks h) (lack h) a b good x
   stops_comes lacking lack (Write handle at bytes) a b good x =
       let h = handle.n in let count = length bytes in
-      call_stops run shows laws c (WriteWrites h at bytes) (write_quiet h at bytes) 1 1 56 64
+      call_stops run shows laws c (WriteWrites h at bytes) (write_quiet h at bytes) 1 1 bring_rise
+      turn_rise
       (WritesObject run shows h at bytes) (Brings run shows c h) (Declines run shows h at count) NeverLacks
       (BringLacks run shows c h) (omega arith) (writes h at bytes) never_lacks (declines h at count)
       (brings h) (bring_lacks h) a b good x
   stops_comes lacking lack (Swap handle) a b good x =
-      in_job WritesNothing 57 a b (omega arith) (come_lacks handle.n a b good x)
+      in_job WritesNothing come_rise a b (omega arith) (come_lacks handle.n a b good x)
   stops_comes lacking lack (Filter handle) a b good p =
       in_job WritesNothing 1 a b (omega arith) (comes_none run shows laws c 1 a b _ _ good
       (λ s sound. stays_same c 1 a.far b.far (omega arith) p.rule.state) p (λ s e. e.nothing))
@@ -300,5 +313,5 @@ module _ {D : Type 0} (run : D → List Event → D → Type 0) (shows : D → S
   stops_comes lacking lack Commit a b good x = absurd x
   stops_comes lacking lack Abort a b good x = absurd x
   stops_comes lacking lack job a b good (ran, lacks) =
-      comes_far run shows laws c 64 a b good ran (λ s sound.
+      comes_far run shows laws c turn_rise a b good ran (λ s sound.
       far_leaves s a b (λ is. (far_job job).lacks c s a.far b.far is sound lacks) good)

@@ -1,5 +1,5 @@
 -- What the parts of a turn leave over any desk, and how the parts of a job put it together.
-use Rattle.std.proofs.Common.{◌≡◌, ℕ, ◌+◌, ◌≤◌, List, [], ◌++◌, Option, None, Some, refl, sym, ap, ◌∙◌, subst, arith, append_assoc, append-nil}
+use Rattle.std.proofs.Common.{◌≡◌, ℕ, suc, ◌+◌, ◌*◌, ◌≤◌, List, [], ◌++◌, Option, None, Some, refl, sym, ap, ◌∙◌, subst, arith, append_assoc, append-nil}
 use Rattle.cb_types.specs.declared.config.Config.{Config}
 use Rattle.cb_types.specs.declared.reply.Reply.{Reply}
 use Rattle.cb_types.specs.declared.reply.Reply.TheVariants as answer
@@ -221,43 +221,51 @@ module _ {D : Type 0} (run : D → List Event → D → Type 0) (shows : D → S
   first W n P r a m quiet p good x =
       comes_as (W r) WritesNothing quiet.none n n a m (omega arith) (p a m r good x)
 
+  -- an operation for which room is won, by so many evictions at the most
   pub with_room : (W : Reply → List Entry → Type 0) → IsQuietReply W answer.NoFrame → (frames : ℕ)
-      → ((loose nodes : ℕ) → W (answer.NoRoom frames loose nodes) []) → (n m k : ℕ)
-      (P : Hold → Reply → Hold → Type 0) (E : Hold → Eviction → Hold → Type 0) → n + m + n ≤ k
-      → CarriesWrites n W P → CarriesWrites m Nil E → CarriesWrites k W (WithRoom frames P E)
-  with_room W quiet frames off_room n m k P E most p e a b r good (at_once o off) =
+      → ((loose nodes : ℕ) → W (answer.NoRoom frames loose nodes) []) → (n m : ℕ)
+      (P : Hold → Reply → Hold → Type 0) (E : Hold → Eviction → Hold → Type 0)
+      → CarriesWrites n W P → CarriesWrites m Nil E → (left k : ℕ) → n + left * (m + n) + m ≤ k
+      → CarriesWrites k W (WithRoom frames P E left)
+  with_room W quiet frames off_room n m P E p e left k most a b r good (at_once o off) =
       comes_more (W r) n k a b (omega (arith, most)) (p a b r good o)
-  with_room W quiet frames off_room n m k P E most p e a b r good (no_room mid why loose nodes o v is) =
+  with_room W quiet frames off_room n m P E p e left k most a b r good
+      (no_room mid why loose nodes o v is) =
       let z = first W n P answer.NoFrame a mid quiet p good o in
       let y = e mid b (Refused why loose nodes) (good_then n WritesNothing a mid good z) v in
       comes_as WritesNothing (W r) (λ more none. subst (λ (q : Reply). W q more) (sym is)
       (subst (W (answer.NoRoom frames loose nodes)) (sym none) (off_room loose nodes))) (n + m) k a b
       (omega (arith, most))
       (then_none n m (n + m) a mid b (omega arith) z y)
-  with_room W quiet frames off_room n m k P E most p e a b r good (won mid next id o v again off) =
+  with_room W quiet frames off_room n m P E p e (suc fewer) k most a b r good
+      (won mid next id o v again) =
       let z = first W n P answer.NoFrame a mid quiet p good o in
       let y = then_none n m (n + m) a mid next (omega arith) z
       (e mid next (Set id) (good_then n WritesNothing a mid good z) v) in
-      then_last (W r) (n + m) n k a next b most y
-      (p next b r (good_then (n + m) WritesNothing a next good y) again)
+      then_last (W r) (n + m) (n + fewer * (m + n) + m) k a next b (omega (arith, most)) y
+      (with_room W quiet frames off_room n m P E p e fewer (n + fewer * (m + n) + m) (omega arith)
+      next b r
+      (good_then (n + m) WritesNothing a next good y) again)
 
-  pub room_stops : (W : Reply → List Entry → Type 0) → IsQuietReply W answer.NoFrame → (n m k : ℕ)
+  pub room_stops : (W : Reply → List Entry → Type 0) → IsQuietReply W answer.NoFrame → (n m : ℕ)
       (P : Hold → Reply → Hold → Type 0) (E : Hold → Eviction → Hold → Type 0)
-      (L I : Hold → Hold → Type 0) → n + m + n ≤ k
-      → CarriesWrites n W P → CarriesNoWrites n L → CarriesWrites m Nil E → CarriesNoWrites m I
-      → CarriesNoWrites k (RoomStops P L E I)
-  room_stops W quiet n m k P E L I most p l e i a b good (lacks_now o) =
+      (L I : Hold → Hold → Type 0) → CarriesWrites n W P → CarriesNoWrites n L
+      → CarriesWrites m Nil E → CarriesNoWrites m I → (left k : ℕ) → n + left * (m + n) + m ≤ k
+      → CarriesNoWrites k (RoomStops P L E I left)
+  room_stops W quiet n m P E L I p l e i left k most a b good (lacks_now o) =
       comes_more WritesNothing n k a b (omega (arith, most)) (l a b good o)
-  room_stops W quiet n m k P E L I most p l e i a b good (evicting mid o v) =
+  room_stops W quiet n m P E L I p l e i left k most a b good (evicting mid o v) =
       let z = first W n P answer.NoFrame a mid quiet p good o in
       then_none n m k a mid b (omega (arith, most)) z
       (i mid b (good_then n WritesNothing a mid good z) v)
-  room_stops W quiet n m k P E L I most p l e i a b good (lacks_last mid next id o v u) =
+  room_stops W quiet n m P E L I p l e i (suc fewer) k most a b good
+      (lacks_last mid next id o v u) =
       let z = first W n P answer.NoFrame a mid quiet p good o in
       let y = then_none n m (n + m) a mid next (omega arith) z
       (e mid next (Set id) (good_then n WritesNothing a mid good z) v) in
-      then_none (n + m) n k a next b most y
-      (l next b (good_then (n + m) WritesNothing a next good y) u)
+      then_none (n + m) (n + fewer * (m + n) + m) k a next b (omega (arith, most)) y
+      (room_stops W quiet n m P E L I p l e i fewer (n + fewer * (m + n) + m) (omega arith) next b
+      (good_then (n + m) WritesNothing a next good y) u)
 
   -- a call that is declined, or whose object stays far, writes nothing
   pub where_it_is : (W : Reply → List Entry → Type 0) → IsQuietReply W answer.NotHere

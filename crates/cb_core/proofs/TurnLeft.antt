@@ -24,6 +24,7 @@ use Rattle.cb_core.specs.ReadTurn.BroughtToRead.{worn as first_worn, done as fir
 use Rattle.cb_core.specs.Turned.{Reads, ReadLacks, Turned, Stopped, counted, once_counted, worn, done}
 use Rattle.cb_mutate.specs.JobWrites.{TurnWrites}
 use Rattle.cb_core.specs.TurnLeaves.{OutcomeWrites, TurnLeaves}
+use Rattle.cb_core.proofs.Carried.{come_rise, turn_rise}
 use Rattle.cb_core.proofs.Counting.{counted_sound, job_below}
 use Rattle.cb_core.proofs.FarJobs.{note_of}
 use Rattle.cb_core.proofs.KeptParts.{counted_rises}
@@ -64,7 +65,8 @@ module _ {D : Type 0} (run : D → List Event → D → Type 0) (shows : D → S
 
   -- a counted turn
   counted_leaves : (W : List Entry → Type 0) (job : Job) (a b : Hold) → AreCounted a.far
-      → a.far.counts.turns < 2 ^ 40 → ComesBy (note_of job) run shows c 64 W (once_counted a job) b
+      → a.far.counts.turns < 2 ^ 40 → ComesBy (note_of job) run shows c turn_rise W
+      (once_counted a job) b
       → TurnLeaves run shows c a b W
   counted_leaves W job a b counts few z = record {
     events = z.events;
@@ -73,8 +75,8 @@ module _ {D : Type 0} (run : D → List Event → D → Type 0) (shows : D → S
     codes = codes_then a.far (counted a.far job) b.far
         (codes_stay a.far (counted a.far job) refl refl refl refl) z.codes;
     counted = counted_rises a.far (counted a.far job) b.far (job_index job) counts few (job_below job)
-        refl (rises_more 64 (2 ^ 20) (counted a.far job) b.far (omega arith) z.rises)
-        (noted_after job 64 a.far b.far counts z.rises);
+        refl (rises_more turn_rise (2 ^ 20) (counted a.far job) b.far (omega arith) z.rises)
+        (noted_after job turn_rise a.far b.far counts z.rises);
     next = inl (few, z.rises.turns);
     after = λ s shown sound. z.after s shown (counted_sound s a.far (counted a.far job) job refl sound);
   }
@@ -138,7 +140,7 @@ module _ {D : Type 0} (run : D → List Event → D → Type 0) (shows : D → S
       refused_leaves (Read h) a b r good counts end reply same ran
   first_leaves h a b r good counts (first_done few x) = let a' = once_counted a (Read h) in
       counted_leaves WritesNothing (Read h) a b counts few
-      (in_job run shows laws c accepted WritesNothing 57 a' b
+      (in_job run shows laws c accepted WritesNothing come_rise a' b
       (omega arith) (comes_in run shows laws c accepted h.n a' b r (counted_good (Read h) a good) x))
 
   pub brought_leaves : (h : Handle) (a b : Hold) (result : Result Reply NoMemory) → Good shows c a
@@ -146,6 +148,7 @@ module _ {D : Type 0} (run : D → List Event → D → Type 0) (shows : D → S
       → OnErr result (StoppedToRead run shows c h a b) → TurnLeaves run shows c a b WritesNothing
   brought_leaves h a b (Ok r) good counts brought stopped = first_leaves h a b r good counts brought
   brought_leaves h a b (Err e) good counts brought stopped = let a' = once_counted a (Read h) in
-      counted_leaves WritesNothing (Read h) a b counts stopped.few (in_job run shows laws c accepted WritesNothing 57 a'
+      counted_leaves WritesNothing (Read h) a b counts stopped.few
+      (in_job run shows laws c accepted WritesNothing come_rise a'
       b (omega arith) (come_lacks run shows laws c accepted h.n a' b (counted_good (Read h) a good)
       stopped.stops))

@@ -1,5 +1,5 @@
 -- Over any desk a turn is answered Unavailable exactly where it is to be.
-use Rattle.std.proofs.Common.{◌≡◌, ℕ, ◌^◌, Bool, true, false, List, [], length, Some, None, refl, sym, ap, ◌∙◌, subst, arith, inl, inr}
+use Rattle.std.proofs.Common.{◌≡◌, ℕ, suc, ◌^◌, Bool, true, false, List, [], length, Some, None, refl, sym, ap, ◌∙◌, subst, arith, inl, inr}
 use Rattle.std.proofs.lemmas.Bool.{false≢true}
 use Rattle.cb_member.specs.declared.names.Loss.{Loss}
 use Rattle.cb_ptr.specs.declared.word.State.{State}
@@ -26,7 +26,7 @@ use Rattle.cb_mutate.specs.Answered.{AnsweredAs, AnsweredByLook}
 use Rattle.cb_mutate.specs.MakeRule.{MakeRule}
 use Rattle.cb_swapin.proofs.Laws.{by_answer, gone_is_broken}
 use Rattle.cb_core.specs.OnceHere.{IsThere, OnceHere, away, here}
-use Rattle.cb_core.specs.Parts.{Holding, WithRoom, WhereItIs, at_once, no_room, won, near, declined, stays_far, brought, not_far, was_far}
+use Rattle.cb_core.specs.Parts.{Holding, WithRoom, WhereItIs, at_once, no_room, won, most_evictions, near, declined, stays_far, brought, not_far, was_far}
 use Rattle.cb_core.specs.FarJobs.{FarStep}
 use Rattle.cb_core.specs.ReadTurn.{BroughtToRead}
 use Rattle.cb_core.specs.ReadTurn.BroughtToRead.{worn as first_worn, done as first_done}
@@ -125,13 +125,17 @@ module _ {D : Type 0} (run : D → List Event → D → Type 0) (shows : D → S
       there (broke id l e z) = absurd (no_frame_lost id l e)
       there (whole_there fine never) = fine
 
-  bring_tells : (a b : Hold) (h : ℕ) (r : Reply) → Good a → Brings run shows c h a r b
-      → Tells a.far h r
-  bring_tells a b h r good (at_once swap never) = swap_tells a b h r swap
-  bring_tells a b h r good (no_room m why loose nodes swap evict e) =
+  tells_behind : (h left : ℕ) (a b : Hold) (r : Reply) → Good a
+      → WithRoom c.frames (Swaps run shows h) (WinsRoom run shows c) left a r b → Tells a.far h r
+  tells_behind h left a b r good (at_once swap never) = swap_tells a b h r swap
+  tells_behind h left a b r good (no_room m why loose nodes swap evict e) =
       whole_there (full_same a m h swap).0 (λ id l is. room_lost c.frames loose nodes id l (sym e ∙ is))
-  bring_tells a b h r (s, shown, sound) (won m n id swap evict again never) =
-      by (swap_tells n b h r again)
+  tells_behind h (suc fewer) a b r (s, shown, sound) (won m n id swap evict again) =
+      by (tells_behind h fewer n b r (
+        played evict.events s,
+        (follows m.desk n.desk evict.events s evict.ran knows.0).1,
+        evict.sound_after s knows,
+      ) again)
     where
       full : (is_gone a.far h ≡ false) × (m.far ≡ a.far) × run a.desk [] m.desk
       full = full_same a m h swap
@@ -152,6 +156,10 @@ module _ {D : Type 0} (run : D → List Event → D → Type 0) (shows : D → S
           ap (λ (f : FarState). is_gone f h) full.1 ∙ full.0 in
           absurd (never_gone u h then.0 (object_at u h)
           (ap (λ (broken : Bool). now_as u h broken (object_at u h)) (sym fine) ∙ sym stays ∙ then.1))
+
+  bring_tells : (a b : Hold) (h : ℕ) (r : Reply) → Good a → Brings run shows c h a r b
+      → Tells a.far h r
+  bring_tells a b h r good bring = tells_behind h most_evictions a b r good bring
 
   -- a call on an object that is gone is answered that it is not here
   gone_far : (a : Hold) (h : ℕ) (near_as : ℕ → Type 0) (r : Reply) (es : List Event) (e : D) → Good a
@@ -241,14 +249,14 @@ module _ {D : Type 0} (run : D → List Event → D → Type 0) (shows : D → S
       (whole r (write_plain h at bytes r again.events again.rule.1))
 
   -- ---- a turn
-  make_never : (bytes : List ℕ) (a b : Hold) (r : Reply)
-      → WithRoom c.frames (Makes run shows c bytes) (WinsRoom run shows c) a r b → IsNever r
-  make_never bytes a b r (at_once x never) id l e =
+  make_never : (bytes : List ℕ) (left : ℕ) (a b : Hold) (r : Reply)
+      → WithRoom c.frames (Makes run shows c bytes) (WinsRoom run shows c) left a r b → IsNever r
+  make_never bytes left a b r (at_once x never) id l e =
       subst (λ (q : Reply). MakeRule c.handles bytes a.far b.far q x.events) e x.rule
-  make_never bytes a b r (no_room m why loose nodes x evict e) id l is =
+  make_never bytes left a b r (no_room m why loose nodes x evict e) id l is =
       room_lost c.frames loose nodes id l (sym e ∙ is)
-  make_never bytes a b r (won m n i x evict again never) id l e =
-      subst (λ (q : Reply). MakeRule c.handles bytes n.far b.far q again.events) e again.rule
+  make_never bytes (suc fewer) a b r (won m n i x evict again) id l e =
+      make_never bytes fewer n b r again id l e
 
   -- a job at the far state alone
   far_never : (j : Job) (far new : FarState) (r : Reply)
@@ -316,7 +324,7 @@ module _ {D : Type 0} (run : D → List Event → D → Type 0) (shows : D → S
       (come_tells (once_counted a (job.Swap handle)) b handle.n r
       (good_counted (job.Swap handle) a good) does)
   does_tells (job.Make bytes) a b r good does = by_never (job.Make bytes) a.far r refl
-      (make_never bytes (once_counted a (job.Make bytes)) b r does)
+      (make_never bytes most_evictions (once_counted a (job.Make bytes)) b r does)
   does_tells (job.Free handle) a b r good does = by_never (job.Free handle) a.far r refl
       (whole r (free_plain handle.n _ b.far r does.events does.rule))
   does_tells (job.Filter handle) a b r good does = by_never (job.Filter handle) a.far r refl

@@ -108,14 +108,14 @@ module _ (far : FarState) where
 
   -- ---- a far object is brought in, and room is won for it
   brings : BringsBy parts 1 (at 0) (answer.Swapped 1) (at 3)
-  brings = won (at 0) (at 1) set_five (refl, refl) (refl, refl) (refl, refl) swapped_frame
+  brings = won (at 0) (at 1) set_five (refl, refl) (refl, refl) (at_once (refl, refl) swapped_frame)
 
   brings_none : BringsBy refused 1 (at 0) (answer.NoRoom 9 1 4) (at 0)
   brings_none = no_room (at 0) Spans 1 4 (refl, refl) (refl, refl) refl
 
   -- ---- what each job does
   makes : Does (job.Make two_bytes) (at 0) (answer.Full 2) (at 1)
-  makes = won (at 0) (at 1) set_five (refl, refl) (refl, refl) (refl, refl) full_frame
+  makes = won (at 0) (at 1) set_five (refl, refl) (refl, refl) (at_once (refl, refl) full_frame)
 
   makes_none : DoesBy refused reads (job.Make two_bytes) (at 0) (answer.NoRoom 9 1 4) (at 0)
   makes_none = no_room (at 0) Spans 1 4 (refl, refl) (refl, refl) refl
@@ -148,7 +148,7 @@ module _ (far : FarState) where
   makes_alone : (b : Holding ℕ) → Does (job.Make two_bytes) (at 1) (answer.Shipped 0) b → ⊥
   makes_alone b (at_once x none) = full_shipped x.0
   makes_alone b (no_room m why loose nodes x y is) = full_frame (sym x.0)
-  makes_alone b (won m n id x y z none) = full_frame (sym x.0)
+  makes_alone b (won m n id x y z) = full_frame (sym x.0)
 
   reads_alone : (b : Holding ℕ) → Does (job.Read one) (at 2) (answer.Shipped 1) b → ⊥
   reads_alone b x = absurd (let e = x.0 in cc)
@@ -179,7 +179,8 @@ module _ (far : FarState) where
   Stops j a b = StopsBy parts lacks read_lacks j a b
 
   brings_and_stops : BringStopsBy parts lacks 1 (at 0) (at 42)
-  brings_and_stops = lacks_after (at 0) (at 1) set_five (refl, refl) (refl, refl) refl
+  brings_and_stops = lacks_after (at 0) (at 1) set_five (refl, refl) (refl, refl)
+      (lacks_at_once refl)
 
   stops_making : Stops (job.Make two_bytes) (at 0) (at 22)
   stops_making = lacks_at_once refl
@@ -188,7 +189,8 @@ module _ (far : FarState) where
   stops_making_room = evicting (at 0) (refl, refl) refl
 
   stops_making_after : Stops (job.Make two_bytes) (at 0) (at 23)
-  stops_making_after = lacks_after (at 0) (at 1) set_five (refl, refl) (refl, refl) refl
+  stops_making_after =
+      lacks_after (at 0) (at 1) set_five (refl, refl) (refl, refl) (lacks_at_once refl)
 
   stops_reading : Stops (job.Read one) (at 0) (at 201)
   stops_reading = refl

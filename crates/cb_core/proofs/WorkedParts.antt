@@ -1,6 +1,6 @@
 -- Worked examples of the parts of a turn, over a desk that is a number: what meets each definition,
 -- and what breaks one of its parts alone.
-use Rattle.std.proofs.Common.{◌≡◌, ℕ, zero, suc, ◌+◌, ◌-◌, ◌^◌, true, false, Option, None, Some, refl, sym, ap, ◌∙◌, arith}
+use Rattle.std.proofs.Common.{◌≡◌, ◌⊎◌, ℕ, zero, suc, ◌+◌, ◌-◌, ◌^◌, ◌≤◌, true, false, Option, None, Some, refl, sym, ap, ◌∙◌, arith, inl, inr}
 use Rattle.cb_types.specs.declared.handle.SetId.{SetId}
 use Rattle.cb_types.specs.declared.reply.Reply.{Reply}
 use Rattle.cb_types.specs.declared.reply.Reply.TheVariants as answer
@@ -16,6 +16,7 @@ use Rattle.cb_core.specs.Parts.WhereItIs.{near, declined, stays_far, brought}
 use Rattle.cb_core.specs.Parts.BringsIn.{not_far, was_far}
 use Rattle.cb_core.specs.Parts.RoomStops.{at_once as lacks_at_once, evicting, after as lacks_after}
 use Rattle.cb_core.specs.Parts.CallStops.{near as lacks_near, far as lacks_far, after as lacks_once_in}
+use Rattle.cb_core.proofs.PartsFixed.{AreOne, IsFixed, PartLeavesAll, with_room_fixed}
 
 -- ---- replies that differ
 set_five : SetId
@@ -48,14 +49,6 @@ loose_of r = 0
 abbrev nodes_of : Reply → ℕ
 nodes_of (answer.NoRoom frames loose nodes) = nodes
 nodes_of r = 0
-
-abbrev loose_in : Eviction → ℕ
-loose_in (Set id) = 0
-loose_in (Refused why loose nodes) = loose
-
-abbrev nodes_in : Eviction → ℕ
-nodes_in (Set id) = 0
-nodes_in (Refused why loose nodes) = nodes
 
 here_done : (r : Reply) → r ≡ answer.Done → r ≡ answer.NotHere → ⊥
 here_done r a b = cc
@@ -95,84 +88,175 @@ module _ (far : FarState) where
   abbrev at : ℕ → Holding ℕ
   at n = record { desk = n; far = far }
 
-  -- ---- room: an operation finds no frame at desk 0, and is done at every other
+  desks : (a b : ℕ) → at a ≡ at b → a ≡ b
+  desks a b e = ap (λ (h : Holding ℕ). h.desk) e
+
+  -- ---- room: an operation finds a frame at desk 3 and behind it alone
   abbrev told : ℕ → Reply
   told zero = answer.NoFrame
-  told (suc n) = answer.Done
+  told (suc zero) = answer.NoFrame
+  told (suc (suc zero)) = answer.NoFrame
+  told (suc (suc (suc n))) = answer.Done
 
   abbrev works : Holding ℕ → Reply → Holding ℕ → Type 0
   works a r b = (r ≡ told a.desk) × (b ≡ a)
 
-  -- an eviction that makes a set, and leads to the next desk; and one that is refused for want of spans:
-  -- one is loose, and four nodes have room
+  -- an eviction that makes a set, and leads to the next desk
   abbrev evicts : Holding ℕ → Eviction → Holding ℕ → Type 0
   evicts a e b = (e ≡ Set set_five) × (b ≡ at (a.desk + 1))
 
+  -- One that does so at the first two desks, and behind them is refused for want of spans: so many
+  -- are loose as the desk's number says, and four nodes have room.
+  abbrev found : ℕ → Eviction
+  found zero = Set set_five
+  found (suc zero) = Set set_five
+  found (suc (suc n)) = Refused Spans (suc (suc n)) 4
+
+  abbrev next : ℕ → ℕ
+  next zero = 1
+  next (suc zero) = 2
+  next (suc (suc n)) = suc (suc n)
+
   abbrev refuses : Holding ℕ → Eviction → Holding ℕ → Type 0
-  refuses a e b = (e ≡ Refused Spans 1 4) × (b ≡ a)
+  refuses a e b = (e ≡ found a.desk) × (b ≡ at (next a.desk))
 
-  -- of nine frames
-  done_at_once : WithRoom 9 works evicts (at 1) answer.Done (at 1)
-  done_at_once = at_once (refl, refl) (frames_done answer.Done refl)
+  -- of nine frames: by no eviction, by one, and by three
+  done_at_once : (left : ℕ) → WithRoom 9 works evicts left (at 3) answer.Done (at 3)
+  done_at_once left = at_once (refl, refl) (frames_done answer.Done refl)
 
-  refused : WithRoom 9 works refuses (at 0) (answer.NoRoom 9 1 4) (at 0)
-  refused = no_room (at 0) Spans 1 4 (refl, refl) (refl, refl) refl
+  done_after_one : (left : ℕ) → WithRoom 9 works evicts (suc left) (at 2) answer.Done (at 3)
+  done_after_one left = won (at 2) (at 3) set_five (refl, refl) (refl, refl) (done_at_once left)
 
-  done_after : WithRoom 9 works evicts (at 0) answer.Done (at 1)
-  done_after = won (at 0) (at 1) set_five (refl, refl) (refl, refl) (refl, refl)
-      (frames_done answer.Done refl)
+  done_after_three : (left : ℕ) → WithRoom 9 works evicts (suc (suc (suc left))) (at 0) answer.Done
+      (at 3)
+  done_after_three left = won (at 0) (at 1) set_five (refl, refl) (refl, refl)
+      (won (at 1) (at 2) set_five (refl, refl) (refl, refl) (done_after_one left))
+
+  -- no room at once, and behind two evictions: the counts are those that the third one found
+  refused : (left : ℕ) → WithRoom 9 works refuses left (at 2) (answer.NoRoom 9 2 4) (at 2)
+  refused left = no_room (at 2) Spans 2 4 (refl, refl) (refl, refl) refl
+
+  refused_behind_two : (left : ℕ)
+      → WithRoom 9 works refuses (suc (suc left)) (at 0) (answer.NoRoom 9 2 4) (at 2)
+  refused_behind_two left = won (at 0) (at 1) set_five (refl, refl) (refl, refl)
+      (won (at 1) (at 2) set_five (refl, refl) (refl, refl) (refused left))
+
+  -- each of these has one answer and one end, and so have both together
+  one_work : (a : Holding ℕ) → IsFixed works a
+  one_work a r q b c x y = (x.0 ∙ sym y.0, x.1 ∙ sym y.1)
+
+  works_stays : PartLeavesAll works answer.NoFrame
+  works_stays a b x = x.1
+
+  only_done : (left n : ℕ) (r q : Reply) (b c : Holding ℕ) → WithRoom 9 works evicts left (at n) r b
+      → WithRoom 9 works evicts left (at n) q c → AreOne r q b c
+  only_done left n = with_room_fixed 9 works evicts (λ a. Unit {0}) one_work works_stays
+      (λ a good e f b c x y. (x.0 ∙ sym y.0, x.1 ∙ sym y.1)) (λ a n id good x. tt) left (at n) tt
+
+  only_refused : (left n : ℕ) (r q : Reply) (b c : Holding ℕ)
+      → WithRoom 9 works refuses left (at n) r b
+      → WithRoom 9 works refuses left (at n) q c → AreOne r q b c
+  only_refused left n = with_room_fixed 9 works refuses (λ a. Unit {0}) one_work works_stays
+      (λ a good e f b c x y. (x.0 ∙ sym y.0, x.1 ∙ sym y.1)) (λ a n id good x. tt) left (at n) tt
 
   -- a reply that is not the operation's
-  not_told : WithRoom 9 works evicts (at 1) answer.Unmade (at 1) → ⊥
-  not_told (at_once x none) = done_unmade answer.Unmade x.0 refl
-  not_told (no_room m why loose nodes x y is) = frames_done answer.NoFrame (x.0) refl
-  not_told (won m n id x y z none) = frames_done answer.NoFrame (x.0) refl
+  not_told : (left : ℕ) → WithRoom 9 works evicts left (at 3) answer.Unmade (at 3) → ⊥
+  not_told left z = done_unmade answer.Unmade
+      (only_done left 3 answer.Unmade answer.Done (at 3) (at 3) z (done_at_once left)).0 refl
 
-  -- no room, and no eviction was tried though one makes a set
-  not_tried : WithRoom 9 works evicts (at 0) (answer.NoRoom 9 1 4) (at 0) → ⊥
-  not_tried (at_once x none) = none x.0
-  not_tried (no_room m why loose nodes x y is) = refused_set _ set_five why loose nodes refl y.0
-  not_tried (won m n id x y z none) =
-      let e = ap (λ (h : Holding ℕ). h.desk) (z.1 ∙ y.1) in omega (arith, e)
+  -- an eviction though there is a frame
+  not_wanted : (left : ℕ) → WithRoom 9 works evicts left (at 3) answer.Done (at 4) → ⊥
+  not_wanted left z = let e = desks 4 3
+      (only_done left 3 answer.Done answer.Done (at 4) (at 3) z (done_at_once left)).1 in omega
+      (arith, e)
+
+  -- no room, and no eviction was tried, or but one, though each makes a set
+  not_tried : (left : ℕ) → WithRoom 9 works evicts (suc (suc (suc left))) (at 0)
+      (answer.NoRoom 9 2 4) (at 0) → ⊥
+  not_tried left z = rooms_done answer.Done 9 2 4 refl
+      (sym (only_done (suc (suc (suc left))) 0 (answer.NoRoom 9 2 4) answer.Done (at 0) (at 3) z
+      (done_after_three left)).0)
+
+  not_tried_again : (left : ℕ)
+      → WithRoom 9 works evicts (suc (suc (suc left))) (at 0) (answer.NoRoom 9 2 4) (at 1) → ⊥
+  not_tried_again left z = rooms_done answer.Done 9 2 4 refl
+      (sym (only_done (suc (suc (suc left))) 0 (answer.NoRoom 9 2 4) answer.Done (at 1) (at 3) z
+      (done_after_three left)).0)
+
+  -- the desk is not that which the last eviction left
+  not_after : (left : ℕ) → WithRoom 9 works evicts (suc (suc (suc left))) (at 0) answer.Done (at 2)
+      → ⊥
+  not_after left z = let e = desks 2 3
+      (only_done (suc (suc (suc left))) 0 answer.Done answer.Done (at 2) (at 3) z
+      (done_after_three left)).1 in
+      omega (arith, e)
+
+  -- three evictions, of which there are but two
+  at_least : (left : ℕ) (a b : Holding ℕ) (r : Reply) → WithRoom 9 works evicts left a r b
+      → 3 ≤ a.desk + left
+  at_least left a b r (at_once x none) =
+      let z = by a.desk (λ e. none (x.0 ∙ e)) in omega (arith, z)
+    where
+      by : (n : ℕ) → (told n ≡ answer.NoFrame → ⊥) → 3 ≤ n
+      by zero off = absurd (off refl)
+      by (suc zero) off = absurd (off refl)
+      by (suc (suc zero)) off = absurd (off refl)
+      by (suc (suc (suc n))) off = omega arith
+  at_least left a b r (no_room m why loose nodes x y is) =
+      absurd (refused_set _ set_five why loose nodes refl y.0)
+  at_least (suc fewer) a b r (won m n id x y z) =
+      let rest = at_least fewer n b r z in
+      let p = ap (λ (h : Holding ℕ). h.desk) x.1 in let q = ap (λ (h : Holding ℕ). h.desk) y.1 in
+      omega (arith, rest, p, q)
+
+  not_so_many : (r : Reply) (b : Holding ℕ) → WithRoom 9 works evicts 2 (at 0) r b → ⊥
+  not_so_many r b z = let e : 3 ≤ 2 = at_least 2 (at 0) b r z in omega (arith, e)
 
   -- the eviction was refused, and the operation is said to be done
-  not_refused : WithRoom 9 works refuses (at 0) answer.Done (at 0) → ⊥
-  not_refused (at_once x none) = frames_done answer.Done refl x.0
-  not_refused (no_room m why loose nodes x y is) = rooms_done answer.Done 9 loose nodes refl is
-  not_refused (won m n id x y z none) = refused_set _ id Spans 1 4 refl (sym y.0)
+  not_refused : (left : ℕ) → WithRoom 9 works refuses (suc (suc left)) (at 0) answer.Done (at 2) → ⊥
+  not_refused left z = rooms_done answer.Done 9 2 4 refl
+      (only_refused (suc (suc left)) 0 answer.Done (answer.NoRoom 9 2 4) (at 2) (at 2) z
+      (refused_behind_two left)).0
 
   -- the eviction was refused, and there is said to be no frame
-  not_no_frame : WithRoom 9 works refuses (at 0) answer.NoFrame (at 0) → ⊥
-  not_no_frame (at_once x none) = none refl
-  not_no_frame (no_room m why loose nodes x y is) = rooms_frames answer.NoFrame 9 loose nodes refl is
-  not_no_frame (won m n id x y z none) = none refl
+  not_no_frame : (left : ℕ) → WithRoom 9 works refuses left (at 2) answer.NoFrame (at 2) → ⊥
+  not_no_frame left z = rooms_frames answer.NoFrame 9 2 4 refl
+      (only_refused left 2 answer.NoFrame (answer.NoRoom 9 2 4) (at 2) (at 2) z (refused left)).0
 
   -- the numbers are not those of the refusal: the loose spans and the nodes stand in each other's place
-  not_swapped : WithRoom 9 works refuses (at 0) (answer.NoRoom 9 4 1) (at 0) → ⊥
-  not_swapped (at_once x none) = none x.0
-  not_swapped (no_room m why loose nodes x y is) =
-      let e : 4 ≡ loose = ap loose_of is in let f : loose ≡ 1 = ap loose_in y.0 in omega (arith, e, f)
-  not_swapped (won m n id x y z none) = refused_set _ id Spans 1 4 refl (sym y.0)
+  not_swapped : (left : ℕ) → WithRoom 9 works refuses left (at 2) (answer.NoRoom 9 4 2) (at 2) → ⊥
+  not_swapped left z = let e : 4 ≡ 2 = ap loose_of
+      (only_refused left 2 (answer.NoRoom 9 4 2) (answer.NoRoom 9 2 4) (at 2) (at 2) z
+      (refused left)).0 in
+      omega (arith, e)
 
   -- nor another count of nodes, or of frames
-  not_other_nodes : WithRoom 9 works refuses (at 0) (answer.NoRoom 9 1 3) (at 0) → ⊥
-  not_other_nodes (at_once x none) = none x.0
-  not_other_nodes (no_room m why loose nodes x y is) =
-      let e : 3 ≡ nodes = ap nodes_of is in let f : nodes ≡ 4 = ap nodes_in y.0 in omega (arith, e, f)
-  not_other_nodes (won m n id x y z none) = refused_set _ id Spans 1 4 refl (sym y.0)
+  not_other_nodes : (left : ℕ) → WithRoom 9 works refuses left (at 2) (answer.NoRoom 9 2 3) (at 2)
+      → ⊥
+  not_other_nodes left z = let e : 3 ≡ 4 = ap nodes_of
+      (only_refused left 2 (answer.NoRoom 9 2 3) (answer.NoRoom 9 2 4) (at 2) (at 2) z
+      (refused left)).0 in
+      omega (arith, e)
 
-  not_other_frames : WithRoom 9 works refuses (at 0) (answer.NoRoom 8 1 4) (at 0) → ⊥
-  not_other_frames (at_once x none) = none x.0
-  not_other_frames (no_room m why loose nodes x y is) =
-      let e : 8 ≡ 9 = ap frames_of is in omega (arith, e)
-  not_other_frames (won m n id x y z none) = refused_set _ id Spans 1 4 refl (sym y.0)
+  not_other_frames : (left : ℕ) → WithRoom 9 works refuses left (at 2) (answer.NoRoom 8 2 4) (at 2)
+      → ⊥
+  not_other_frames left z = let e : 8 ≡ 9 = ap frames_of
+      (only_refused left 2 (answer.NoRoom 8 2 4) (answer.NoRoom 9 2 4) (at 2) (at 2) z
+      (refused left)).0 in
+      omega (arith, e)
 
-  -- the desk is not that which the eviction left
-  not_after : WithRoom 9 works evicts (at 0) answer.Done (at 0) → ⊥
-  not_after (at_once x none) = frames_done answer.Done refl x.0
-  not_after (no_room m why loose nodes x y is) = rooms_done answer.Done 9 loose nodes refl is
-  not_after (won m n id x y z none) =
-      let e = ap (λ (h : Holding ℕ). h.desk) (z.1 ∙ y.1) in omega (arith, e)
+  -- the loose spans are not those that there were where the evictions began, nor behind one more
+  not_counted_before : (left : ℕ)
+      → WithRoom 9 works refuses (suc (suc left)) (at 0) (answer.NoRoom 9 0 4) (at 2) → ⊥
+  not_counted_before left z = let e : 0 ≡ 2 = ap loose_of
+      (only_refused (suc (suc left)) 0 (answer.NoRoom 9 0 4) (answer.NoRoom 9 2 4) (at 2) (at 2) z
+      (refused_behind_two left)).0 in omega (arith, e)
+
+  not_behind_three : (left : ℕ)
+      → WithRoom 9 works refuses (suc (suc left)) (at 0) (answer.NoRoom 9 2 4) (at 3) → ⊥
+  not_behind_three left z = let e = desks 3 2
+      (only_refused (suc (suc left)) 0 (answer.NoRoom 9 2 4) (answer.NoRoom 9 2 4) (at 3) (at 2) z
+      (refused_behind_two left)).1 in omega (arith, e)
 
   -- ---- want of memory: of the operation leads 10 desks on, that of the eviction 20
   abbrev lacks : Holding ℕ → Holding ℕ → Type 0
@@ -181,39 +265,72 @@ module _ (far : FarState) where
   abbrev also_lacks : Holding ℕ → Holding ℕ → Type 0
   also_lacks a b = b ≡ at (a.desk + 20)
 
-  stops_first : RoomStops works lacks evicts also_lacks (at 0) (at 10)
-  stops_first = lacks_at_once refl
+  stops_first : (left : ℕ) → RoomStops works lacks evicts also_lacks left (at 0) (at 10)
+  stops_first left = lacks_at_once refl
 
-  stops_evicting : RoomStops works lacks evicts also_lacks (at 0) (at 20)
-  stops_evicting = evicting (at 0) (refl, refl) refl
+  stops_evicting : (left : ℕ) → RoomStops works lacks evicts also_lacks left (at 0) (at 20)
+  stops_evicting left = evicting (at 0) (refl, refl) refl
 
-  stops_after : RoomStops works lacks evicts also_lacks (at 0) (at 11)
-  stops_after = lacks_after (at 0) (at 1) set_five (refl, refl) (refl, refl) refl
+  stops_after : (left : ℕ) → RoomStops works lacks evicts also_lacks (suc left) (at 0) (at 11)
+  stops_after left = lacks_after (at 0) (at 1) set_five (refl, refl) (refl, refl)
+      (lacks_at_once refl)
 
-  desks : (a b : ℕ) → at a ≡ at b → a ≡ b
-  desks a b e = ap (λ (h : Holding ℕ). h.desk) e
+  -- behind two evictions, at the third one, and behind that
+  stops_at_third : (left : ℕ) → RoomStops works lacks evicts also_lacks (suc (suc left)) (at 0)
+      (at 22)
+  stops_at_third left = lacks_after (at 0) (at 1) set_five (refl, refl) (refl, refl)
+      (lacks_after (at 1) (at 2) set_five (refl, refl) (refl, refl)
+      (evicting (at 2) (refl, refl) refl))
+
+  stops_after_three : (left : ℕ) → RoomStops works lacks evicts also_lacks (suc (suc (suc left)))
+      (at 0) (at 13)
+  stops_after_three left = lacks_after (at 0) (at 1) set_five (refl, refl) (refl, refl)
+      (lacks_after (at 1) (at 2) set_five (refl, refl) (refl, refl)
+      (lacks_after (at 2) (at 3) set_five (refl, refl) (refl, refl) (lacks_at_once refl)))
 
   -- where there is a frame no eviction is tried, so none can lack memory
-  not_evicting : RoomStops works lacks evicts also_lacks (at 1) (at 21) → ⊥
-  not_evicting (lacks_at_once x) = let e = desks 21 11 x in omega (arith, e)
-  not_evicting (evicting m x y) = frames_done answer.NoFrame x.0 refl
-  not_evicting (lacks_after m n id x y z) = frames_done answer.NoFrame x.0 refl
+  not_evicting : (left : ℕ) → RoomStops works lacks evicts also_lacks left (at 3) (at 23) → ⊥
+  not_evicting left (lacks_at_once x) = let e = desks 23 13 x in omega (arith, e)
+  not_evicting left (evicting m x y) = frames_done answer.NoFrame x.0 refl
+  not_evicting (suc left) (lacks_after m n id x y z) = frames_done answer.NoFrame x.0 refl
 
   -- where the eviction is refused the operation is not done again, so it can't lack memory then
-  not_again : RoomStops works lacks refuses also_lacks (at 0) (at 11) → ⊥
-  not_again (lacks_at_once x) = let e = desks 11 10 x in omega (arith, e)
-  not_again (evicting m x y) =
+  not_again : (left : ℕ) → RoomStops works lacks refuses also_lacks left (at 2) (at 13) → ⊥
+  not_again left (lacks_at_once x) = let e = desks 13 12 x in omega (arith, e)
+  not_again left (evicting m x y) =
       let e = ap (λ (h : Holding ℕ). h.desk) (y ∙ ap (λ (h : Holding ℕ). at (h.desk + 20)) x.1) in
       omega (arith, e)
-  not_again (lacks_after m n id x y z) = refused_set _ id Spans 1 4 refl (sym y.0)
+  not_again (suc left) (lacks_after m n id x y z) = refused_set _ id Spans 2 4
+      (sym (y.0 ∙ ap (λ (h : Holding ℕ). found h.desk) x.1)) refl
+
+  -- behind three evictions, of which there are but two
+  stops_within : (left : ℕ) (a b : Holding ℕ) → RoomStops works lacks evicts also_lacks left a b
+      → (b.desk ≤ a.desk + left + 10) ⊎ (a.desk + 20 ≤ b.desk)
+  stops_within left a b (lacks_at_once x) =
+      let e = ap (λ (h : Holding ℕ). h.desk) x in inl (omega (arith, e))
+  stops_within left a b (evicting m x y) =
+      let e = ap (λ (h : Holding ℕ). h.desk) y in let f = ap (λ (h : Holding ℕ). h.desk) x.1 in
+      inr (omega (arith, e, f))
+  stops_within (suc fewer) a b (lacks_after m n id x y z) =
+      let e = ap (λ (h : Holding ℕ). h.desk) y.1 in let f = ap (λ (h : Holding ℕ). h.desk) x.1 in
+      elim (stops_within fewer n b z) [
+        | inl less ↦ inl (omega (arith, e, f, less))
+        | inr more ↦ inr (omega (arith, e, f, more))
+      ]
+
+  not_after_three : RoomStops works lacks evicts also_lacks 2 (at 0) (at 13) → ⊥
+  not_after_three z = elim (stops_within 2 (at 0) (at 13) z) [
+    | inl less ↦ let e : 13 ≤ 12 = less in omega (arith, e)
+    | inr more ↦ let e : 20 ≤ 13 = more in omega (arith, e)
+  ]
 
   -- ---- where an object is: at desk 0 it is far, at every other it is here
-  abbrev found : ℕ → Reply
-  found zero = answer.NotHere
-  found (suc n) = answer.Done
+  abbrev placed : ℕ → Reply
+  placed zero = answer.NotHere
+  placed (suc n) = answer.Done
 
   abbrev calls : Holding ℕ → Reply → Holding ℕ → Type 0
-  calls a r b = (r ≡ found a.desk) × (b ≡ a)
+  calls a r b = (r ≡ placed a.desk) × (b ≡ a)
 
   -- a look that declines the call
   abbrev past_end : Holding ℕ → Option Reply → Holding ℕ → Type 0
@@ -277,7 +394,7 @@ module _ (far : FarState) where
   not_once_more (declined m x y) = some_none (Some (answer.Swapped 7)) (answer.Swapped 7) refl y.0
   not_once_more (stays_far m n x y z left) = left 7 refl
   not_once_more (brought m n o f x y z w) = done_swapped (answer.Swapped 7) 7 refl
-      (w.0 ∙ ap (λ (h : Holding ℕ). found h.desk) (z.1
+      (w.0 ∙ ap (λ (h : Holding ℕ). placed h.desk) (z.1
       ∙ ap (λ (h : Holding ℕ). at (h.desk + 1)) (y.1 ∙ x.1)))
 
   -- ---- a call that is never declined

@@ -175,7 +175,7 @@ no_home m b r same bring = by bring
     by : Brings run none c 0 m r b → ⊥
     by (at_once x off) = lacks_one x.0 x.1
     by (no_room n why loose nodes x v is) = lacks_one x.0 x.1
-    by (won n o id x v again off) = lacks_one x.0 x.1
+    by (won n o id x v again) = lacks_one x.0 x.1
 
 -- the turn is not counted
 uncounted : BroughtToRead run none c handle (at 3) answer.Stays (at 3) → ⊥

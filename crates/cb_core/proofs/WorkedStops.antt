@@ -1,6 +1,6 @@
 -- Worked examples of what want of memory leaves: what meets each definition, and what breaks one
 -- part.
-use Rattle.std.proofs.Common.{◌≡◌, ◌⊎◌, ℕ, ◌≤◌, Bool, true, false, List, [], ◌∷◌, ◌++◌, None, Some, length, get_or, refl, ap, ◌∙◌, subst, inl, inr, arith}
+use Rattle.std.proofs.Common.{◌≡◌, ◌⊎◌, ℕ, suc, ◌≤◌, Bool, true, false, List, [], ◌∷◌, ◌++◌, None, Some, length, get_or, refl, ap, ◌∙◌, subst, inl, inr, arith}
 use Rattle.cb_types.specs.declared.config.Config.{Config}
 use Rattle.cb_types.specs.declared.handle.SetId.{SetId}
 use Rattle.cb_types.specs.declared.job.Job.TheVariants as job
@@ -16,9 +16,10 @@ use Rattle.cb_core.specs.declared.event.Atomic.TheVariants.{Load}
 use Rattle.cb_core.specs.declared.event.Event.{Event}
 use Rattle.cb_core.specs.declared.event.Event.TheVariants as event
 use Rattle.cb_core.specs.NowIn.{claim_on, now_in, now_with}
-use Rattle.cb_core.specs.Run.{IsSameBut, HoldsAsBefore, MakesRoom, nothing, evicts, brings, LeavesAsBefore, LeavesPrefix, LeadsSoundly, seat_of}
+use Rattle.cb_core.specs.Run.{IsSameBut, HoldsAsBefore, MakesEvictions, last, one_more, MakesRoom, nothing, evicts, brings, LeavesAsBefore, LeavesPrefix, LeadsSoundly, seat_of}
 use Rattle.cb_core.specs.Step.{Step, worn, done}
 use Rattle.cb_core.specs.Step.SeatTurn.{held as is_held, free as is_free}
+use Rattle.cb_core.proofs.Rejobbed.{rejobbed}
 use Rattle.cb_core.proofs.TurnCallsKept.{known_same}
 use Rattle.cb_core.proofs.WorkedPins.{pin_on, seat_with}
 
@@ -96,7 +97,19 @@ only_counted = nothing same_but_counts
 
 by_an_eviction : (v : WorldState) (id : SetId) → Step w (event.Turn 3 job.Evict) (answer.Set id) v
     → MakesRoom w make v
-by_an_eviction v id step = evicts v id step (record { desk = refl; far = refl; seats = refl })
+by_an_eviction v id step =
+    evicts (last v id step (record { desk = refl; far = refl; seats = refl }))
+
+-- by two evictions: the second one from what the first one left, whatever turns that counts
+by_two_evictions : (v new : WorldState) (id other : SetId) (turns : ℕ) (by_job : List ℕ)
+    → Step w (event.Turn 3 job.Evict) (answer.Set id) v
+    → Step (record v { far = rejobbed turns by_job v.far }) (event.Turn 3 job.Evict)
+    (answer.Set other) new
+    → MakesRoom w make new
+by_two_evictions v new id other turns by_job first second = evicts
+    (one_more v (record v { far = rejobbed turns by_job v.far }) id first
+    (record { desk = refl; far = refl; seats = refl })
+    (last new other second (record { desk = refl; far = refl; seats = refl })))
 
 by_its_swap_in : (v : WorldState) (f : ℕ)
     → Step w (event.Turn 3 (job.Swap (record { n = 1 }))) (answer.Swapped f) v → MakesRoom w (read 1) v
@@ -112,6 +125,14 @@ set_is_worn id e = cc
 set_is_held : (id : SetId) (seat : ℕ) → answer.Set id ≡ answer.Held seat → ⊥
 set_is_held id seat e = cc
 
+-- more evictions than there may be
+no_fewer : (v new : WorldState) → MakesEvictions 3 0 v new → ⊥
+no_fewer v new more = by 0 refl more
+  where
+    by : (n : ℕ) → n ≡ 0 → MakesEvictions 3 n v new → ⊥
+    by (suc n) none (last u id step same) = omega (arith, none)
+    by (suc n) none (one_more u x id step same rest) = omega (arith, none)
+
 -- there is no span that could leave
 nothing_leaves : (v : WorldState) (id : SetId) → Step w (event.Turn 3 job.Evict) (answer.Set id) v → ⊥
 nothing_leaves v id (is_held holder other holds is same) = set_is_held id holder is
@@ -126,7 +147,9 @@ nothing_leaves v id (is_free none (done few (made z, hold) seats)) =
 -- so a make that found no memory left all as it was
 nothing_before_a_make : (new : WorldState) → MakesRoom w make new → IsSameBut w new
 nothing_before_a_make new (nothing same) = same
-nothing_before_a_make new (evicts v id step same) = absurd (nothing_leaves v id step)
+nothing_before_a_make new (evicts (last v id step same)) = absurd (nothing_leaves v id step)
+nothing_before_a_make new (evicts (one_more v u id step same rest)) =
+    absurd (nothing_leaves v id step)
 nothing_before_a_make new (brings v handle f asked step same) = absurd (none_asked handle.n asked)
   where
     none_asked : (h : ℕ) → None ≡ Some h → ⊥

@@ -245,7 +245,7 @@ told_no_room r (worn end reply same) = absurd (omega (arith, end))
 told_no_room r (done few (at_once o off) seats) = absurd (not_made r o off)
 told_no_room r (done few (no_room_won m why loose nodes o v is) seats) =
     let z = none_counted m start why loose nodes o v in is ∙ (λ i. answer.NoRoom 2 (z.0 i) (z.1 i))
-told_no_room r (done few (won m n id o v again off) seats) = absurd (not_after_a_set m n id o v)
+told_no_room r (done few (won m n id o v again) seats) = absurd (not_after_a_set m n id o v)
 
 abbrev loose_of : Reply → ℕ
 loose_of (answer.NoRoom frames loose nodes) = loose

@@ -16,7 +16,7 @@ use Rattle.cb_core.specs.OnceHere.{OnceHere, OnceHereStops}
 use Rattle.cb_core.specs.Parts.{Holding, WhereItIs, NeverDeclined, CallStops}
 use Rattle.cb_core.specs.Step.{StillAlone, StillBring, StillBringLacks, StillLacksAlone, StillRead, StillReadLacks, StillWorks, StillStops, still_lacks, still_parts, TurnStep, worn, done, TurnStops}
 use Rattle.cb_core.specs.Turned.{Does, DoesAlone, LacksAlone, Turned, worn as was_worn, done as was_done, Stopped, counted, once_counted, Reads, ReadLacks, Stops as StopsOver, ComesIn, ComeLacks, desk_lacks, desk_parts}
-use Rattle.cb_core.proofs.Carried.{AreAlong, IsMany, LackAlong, come_stops, comes_in, does, itself, once_here, once_here_stops, stops}
+use Rattle.cb_core.proofs.Carried.{AreAlong, IsMany, LackAlong, come_rise, come_stops, comes_in, does, itself, once_here, once_here_stops, stops, turn_rise}
 use Rattle.cb_core.proofs.Counting.{job_below}
 use Rattle.cb_core.proofs.KeptParts.{IsGood, Arrives, Carries, CarriesLack, rises_more, arrives_more, counted_rises, good_along, ArrivesBy}
 use Rattle.cb_core.proofs.StillParts.{Ran, SaysAll, make_part, read_part, write_part, free_part, find_part, decline_part, evict_part, room_part, swap_part, make_lack, read_lack, evict_lack, swap_lack}
@@ -48,17 +48,19 @@ module _ (c : Config) (seats : List SeatState) (accepted : IsAccepted c) where
     evicts = evict_lack c seats;
   }
 
-  come_part : (h : ℕ) → Carries c seats 57 (ComesIn Ran SaysAll c h) (StillComes h)
+  come_part : (h : ℕ) → Carries c seats come_rise (ComesIn Ran SaysAll c h) (StillComes h)
   come_part = comes_in itself (IsGood c seats) (Arrives c seats) (good_along c seats) (desk_parts Ran SaysAll c)
       still_parts parts
 
   -- a part whose numbers rise by no more than those of a job may
-  in_job : (n : ℕ) (a b : Holding Words) (Z W : Type 0) → n ≤ 64 → Arrives c seats n a b Z → (Z → W)
-      → Arrives c seats 64 a b W
-  in_job n a b Z W most z w = arrives_more c seats n 64 a b Z W most z (w z.is)
+  in_job : (n : ℕ) (a b : Holding Words) (Z W : Type 0) → n ≤ turn_rise → Arrives c seats n a b Z
+      → (Z → W)
+      → Arrives c seats turn_rise a b W
+  in_job n a b Z W most z w = arrives_more c seats n turn_rise a b Z W most z (w z.is)
 
-  many : (job : Job) → IsMany job → (a b : Holding Words) (Z : Type 0) → Arrives c seats 64 a b Z
-      → ArrivesBy (note_of job) c seats 64 a b Z
+  many : (job : Job) → IsMany job → (a b : Holding Words) (Z : Type 0)
+      → Arrives c seats turn_rise a b Z
+      → ArrivesBy (note_of job) c seats turn_rise a b Z
   many (Make bytes) two a b Z z = z
   many (Read handle) two a b Z z = z
   many (Write handle at bytes) two a b Z z = z
@@ -67,7 +69,7 @@ module _ (c : Config) (seats : List SeatState) (accepted : IsAccepted c) where
 
   alone_part : (job : Job) → IsJob c job → (a b : Holding Words) (r : Reply) → IsGood c seats a
       → DoesAlone Ran SaysAll c job a r b
-      → ArrivesBy (note_of job) c seats 64 a b (StillAlone job a r b)
+      → ArrivesBy (note_of job) c seats turn_rise a b (StillAlone job a r b)
   alone_part (Free handle) ok a b r good x =
       in_job 1 a b _ _ (omega arith) (free_part c seats handle.n a b r good x) (λ z. z)
   alone_part (Filter handle) ok a b r good x =
@@ -89,21 +91,25 @@ module _ (c : Config) (seats : List SeatState) (accepted : IsAccepted c) where
 
   works_part : (job : Job) (a b : Holding Words) (r : Reply) → IsJob c job → IsGood c seats a
       → Does Ran SaysAll (Reads Ran SaysAll) c job a r b
-      → ArrivesBy (note_of job) c seats 64 a b (StillWorks job a r b)
+      → ArrivesBy (note_of job) c seats turn_rise a b (StillWorks job a r b)
   works_part job a b r ok good x = does itself (IsGood c seats) (Arrives c seats) (good_along c seats)
-      (desk_parts Ran SaysAll c) still_parts parts (λ j. ArrivesBy (note_of j) c seats 64) _ _ job
+      (desk_parts Ran SaysAll c) still_parts parts (λ j. ArrivesBy (note_of j) c seats turn_rise) _
+      _ job
       (many job) read (alone_part job ok) a b r good x
     where
-      read : (h : ℕ) → Carries c seats 64 (OnceHere (ComesIn Ran SaysAll c h) (Reads Ran SaysAll h))
+      read : (h : ℕ) → Carries c seats turn_rise (OnceHere (ComesIn Ran SaysAll c h)
+          (Reads Ran SaysAll h))
           (WhereItIs (StillRead h) NeverDeclined (StillBring h))
-      read h a b r good x = in_job 64 a b _ _ (omega arith) (once_here itself (IsGood c seats)
-          (Arrives c seats) (good_along c seats) 57 1 64 (ComesIn Ran SaysAll c h) (Reads Ran SaysAll h) (StillComes h)
+      read h a b r good x = in_job turn_rise a b _ _ (omega arith)
+          (once_here itself (IsGood c seats)
+          (Arrives c seats) (good_along c seats) come_rise 1 turn_rise (ComesIn Ran SaysAll c h)
+          (Reads Ran SaysAll h) (StillComes h)
           (StillRead h) (omega arith) (come_part h) (read_part c seats h) a b r good x)
           (reads_where h a b r)
 
   -- a job that found no memory
   alone_lack : (job : Job) (a b : Holding Words) → IsGood c seats a → LacksAlone Ran SaysAll job a b
-      → ArrivesBy (note_of job) c seats 64 a b (StillLacksAlone job a b)
+      → ArrivesBy (note_of job) c seats turn_rise a b (StillLacksAlone job a b)
   alone_lack (Filter handle) a b good x =
       in_job 1 a b _ _ (omega arith) (filter_lack c seats handle.n a b good x) (λ z. z)
   alone_lack Evict a b good x = in_job 24 a b _ _ (omega arith) (evict_lack c seats a b good x) (λ z. z)
@@ -116,17 +122,20 @@ module _ (c : Config) (seats : List SeatState) (accepted : IsAccepted c) where
 
   stops_part : (job : Job) (a b : Holding Words) → IsGood c seats a
       → StopsOver Ran SaysAll (ReadLacks Ran SaysAll) c job a b
-      → ArrivesBy (note_of job) c seats 64 a b (StillStops job a b)
+      → ArrivesBy (note_of job) c seats turn_rise a b (StillStops job a b)
   stops_part job a b good x = stops itself (IsGood c seats) (Arrives c seats) (good_along c seats)
       (desk_parts Ran SaysAll c) still_parts parts (desk_lacks Ran SaysAll c) still_lacks lacks
-      (λ j. ArrivesBy (note_of j) c seats 64) _ _ job (many job) read (alone_lack job) a b good x
+      (λ j. ArrivesBy (note_of j) c seats turn_rise) _ _ job (many job) read (alone_lack job) a b
+      good x
     where
-      read : (h : ℕ) → CarriesLack c seats 64
+      read : (h : ℕ) → CarriesLack c seats turn_rise
           (OnceHereStops (ComesIn Ran SaysAll c h) (ComeLacks Ran SaysAll c h)
           (ReadLacks Ran SaysAll h))
           (CallStops (StillRead h) (StillReadLacks h) NeverDeclined (StillBring h) (StillBringLacks h))
-      read h a b good x = in_job 64 a b _ _ (omega arith) (once_here_stops itself (IsGood c seats)
-          (Arrives c seats) (good_along c seats) 57 1 64 (ComesIn Ran SaysAll c h) (StillComes h) (ComeLacks Ran SaysAll c h)
+      read h a b good x = in_job turn_rise a b _ _ (omega arith)
+          (once_here_stops itself (IsGood c seats)
+          (Arrives c seats) (good_along c seats) come_rise 1 turn_rise (ComesIn Ran SaysAll c h)
+          (StillComes h) (ComeLacks Ran SaysAll c h)
           (ReadLacks Ran SaysAll h) (StillComeLacks h) (StillReadLacks h) (omega arith)
           (come_part h)
           (come_stops itself (IsGood c seats) (Arrives c seats) (good_along c seats) (desk_parts Ran SaysAll c) still_parts
@@ -155,7 +164,7 @@ counted_good w job sound = record {
 
 pub arrived_sound : (w : WorldState) (job : Job) (b : Holding Words) (Z : Type 0) → IsSoundWorld w
     → w.far.counts.turns < 2 ^ 40
-    → ArrivesBy (note_of job) w.desk.settings w.seats 64 (once_counted (held w) job) b Z
+    → ArrivesBy (note_of job) w.desk.settings w.seats turn_rise (once_counted (held w) job) b Z
     → IsSoundWorld (with_job w b.desk b.far)
 arrived_sound w job b Z sound few z = record {
   config = subst IsAccepted (sym z.good.settings) sound.config;
@@ -167,8 +176,9 @@ arrived_sound w job b Z sound few z = record {
   one = sound.one;
   orders = sound.orders;
   counted = counted_rises w.far (counted w.far job) b.far (job_index job) sound.counted few
-      (job_below job) refl (rises_more 64 (2 ^ 20) (counted w.far job) b.far (omega arith) z.rises)
-      (noted_after job 64 w.far b.far sound.counted z.rises);
+      (job_below job) refl (rises_more turn_rise (2 ^ 20) (counted w.far job) b.far (omega arith)
+      z.rises)
+      (noted_after job turn_rise w.far b.far sound.counted z.rises);
 }
 
 -- ---- a turn over the still desk is a step, and leaves the world sound

@@ -1,5 +1,5 @@
 -- The parts of a turn, one after another.
-use Rattle.std.specs.Prelude.{◌≡◌, ℕ, Option, None, Some}
+use Rattle.std.specs.Prelude.{◌≡◌, ℕ, suc, Option, None, Some}
 use Rattle.cb_types.specs.declared.handle.SetId.{SetId}
 use Rattle.cb_types.specs.declared.reply.Reply.{Reply}
 use Rattle.cb_types.specs.declared.reply.Reply.TheVariants as answer
@@ -13,18 +13,33 @@ pub record Holding (D : Type 0) : Type 0 where
   pub desk : D
   pub far : FarState
 
--- An operation for which room is won: where it finds no frame, an eviction makes some and the
--- operation is done once more; where the eviction is refused too, there is no room, with the frames
--- that there are and what was found lacking: so many loose spans, and so many nodes with room.
+-- The most evictions of one job. Each frees a frame, and there are at most so many.
+abbrev pub most_evictions : ℕ
+most_evictions = 4096
+
+-- An operation for which room is won by evictions one after another, so many at the most: where it
+-- finds no frame, an eviction makes some and the whole begins again, with one fewer left; where the
+-- eviction is refused, there is no room, with the frames that there are and what that last eviction
+-- found lacking: so many loose spans, and so many nodes with room. The number that is left, where
+-- it begins and where it ends are told by each case.
 pub data WithRoom {D : Type 0} (frames : ℕ) (operation : Holding D → Reply → Holding D → Type 0)
-    (eviction : Holding D → Eviction → Holding D → Type 0) (a : Holding D) (r : Reply)
-    (b : Holding D) : Type 0 where
-  at_once : operation a r b → (r ≡ answer.NoFrame → ⊥) → WithRoom frames operation eviction a r b
-  no_room : (m : Holding D) (why : Lack) (loose nodes : ℕ) → operation a answer.NoFrame m
-      → eviction m (Refused why loose nodes) b → r ≡ answer.NoRoom frames loose nodes
-      → WithRoom frames operation eviction a r b
-  won : (m n : Holding D) (id : SetId) → operation a answer.NoFrame m → eviction m (Set id) n
-      → operation n r b → (r ≡ answer.NoFrame → ⊥) → WithRoom frames operation eviction a r b
+    (eviction : Holding D → Eviction → Holding D → Type 0) : ℕ → Holding D → Reply → Holding D
+    → Type 0 where
+  at_once : {left : ℕ} {a b : Holding D} {r : Reply} → operation a r b
+      → (r ≡ answer.NoFrame → ⊥) → WithRoom frames operation eviction left a r b
+  no_room : {left : ℕ} {a b : Holding D} {r : Reply} (m : Holding D) (why : Lack)
+      (loose nodes : ℕ) → operation a answer.NoFrame m → eviction m (Refused why loose nodes) b
+      → r ≡ answer.NoRoom frames loose nodes → WithRoom frames operation eviction left a r b
+  won : {fewer : ℕ} {a b : Holding D} {r : Reply} (m n : Holding D) (id : SetId)
+      → operation a answer.NoFrame m → eviction m (Set id) n
+      → WithRoom frames operation eviction fewer n r b
+      → WithRoom frames operation eviction (suc fewer) a r b
+
+-- The answer, by an eviction, to an operation for which room is won: that there is no room, where
+-- the eviction was refused; and none yet, where spans left as a set.
+abbrev pub refusal_by : ℕ → Eviction → Option Reply
+refusal_by frames (Set id) = None
+refusal_by frames (Refused why loose nodes) = Some (answer.NoRoom frames loose nodes)
 
 -- A call on an object wherever it is. One that is far is first looked at, which may decline the
 -- call; then it is brought in, and the call is made once more. Where it can't be brought in the
@@ -51,17 +66,19 @@ pub data BringsIn {D : Type 0} (call bringing : Holding D → Reply → Holding 
   not_far : call a r b → (r ≡ answer.NotHere → ⊥) → BringsIn call bringing a r b
   was_far : (m : Holding D) → call a answer.NotHere m → bringing m r b → BringsIn call bringing a r b
 
--- An operation for which room is won, and which found no memory at the one part or at the other.
--- The eviction stays, where there was one.
+-- An operation for which room is won, and which found no memory at one of its parts: at the
+-- operation, or at an eviction. The evictions before it stay.
 pub data RoomStops {D : Type 0} (operation : Holding D → Reply → Holding D → Type 0)
     (lacks : Holding D → Holding D → Type 0) (eviction : Holding D → Eviction → Holding D → Type 0)
-    (eviction_lacks : Holding D → Holding D → Type 0) (a b : Holding D) : Type 0 where
-  at_once : lacks a b → RoomStops operation lacks eviction eviction_lacks a b
-  evicting : (m : Holding D) → operation a answer.NoFrame m → eviction_lacks m b
-      → RoomStops operation lacks eviction eviction_lacks a b
-  after : (m n : Holding D) (id : SetId) → operation a answer.NoFrame m
-      → eviction m (Set id) n → lacks n b
-      → RoomStops operation lacks eviction eviction_lacks a b
+    (eviction_lacks : Holding D → Holding D → Type 0) : ℕ → Holding D → Holding D → Type 0 where
+  at_once : {left : ℕ} {a b : Holding D} → lacks a b
+      → RoomStops operation lacks eviction eviction_lacks left a b
+  evicting : {left : ℕ} {a b : Holding D} (m : Holding D) → operation a answer.NoFrame m
+      → eviction_lacks m b → RoomStops operation lacks eviction eviction_lacks left a b
+  after : {fewer : ℕ} {a b : Holding D} (m n : Holding D) (id : SetId)
+      → operation a answer.NoFrame m → eviction m (Set id) n
+      → RoomStops operation lacks eviction eviction_lacks fewer n b
+      → RoomStops operation lacks eviction eviction_lacks (suc fewer) a b
 
 -- A call on an object wherever it is that found no memory: itself, where the object is brought in,
 -- or once it is here. What was done before stays.

@@ -1,5 +1,5 @@
 -- Runs of the core: events one after another.
-use Rattle.std.specs.Prelude.{◌≡◌, ◌⊎◌, ℕ, List, [], ◌∷◌, ◌++◌, Some}
+use Rattle.std.specs.Prelude.{◌≡◌, ◌⊎◌, ℕ, suc, List, [], ◌∷◌, ◌++◌, Some}
 use Rattle.cb_types.specs.declared.handle.Handle.{Handle}
 use Rattle.cb_types.specs.declared.handle.SetId.{SetId}
 use Rattle.cb_types.specs.declared.job.Job.TheVariants.{Evict, Swap}
@@ -12,6 +12,7 @@ use Rattle.cb_world.specs.World.{WorldState, IsKnown, IsSoundWorld}
 use Rattle.cb_core.specs.declared.event.Event.{Event}
 use Rattle.cb_core.specs.declared.event.Event.TheVariants as event
 use Rattle.cb_core.specs.NowIn.{now_in}
+use Rattle.cb_core.specs.Parts.{most_evictions}
 use Rattle.cb_core.specs.Step.{Step, Leads, EventStops}
 use Rattle.cb_core.specs.Unavailable.{asked_by}
 
@@ -72,13 +73,23 @@ abbrev pub seat_of : Event → ℕ
 seat_of (event.Step seat atomic) = seat
 seat_of (event.Turn seat job) = seat
 
--- What an event that found no memory did before, counts left out: nothing; or an eviction, as a turn
--- Evict of its seat does it; or its object was brought in, as a turn Swap of its seat does it,
+-- Evictions one after another, at least one and so many at the most, each as a turn Evict of the
+-- seat does it, counts left out: the first from the world w, and each other one from the world that
+-- the one before it left.
+pub data MakesEvictions (seat : ℕ) : ℕ → WorldState → WorldState → Type 0 where
+  last : {fewer : ℕ} {w new : WorldState} (v : WorldState) (id : SetId)
+      → Step w (event.Turn seat Evict) (answer.Set id) v → IsSameBut v new
+      → MakesEvictions seat (suc fewer) w new
+  one_more : {fewer : ℕ} {w new : WorldState} (v u : WorldState) (id : SetId)
+      → Step w (event.Turn seat Evict) (answer.Set id) v → IsSameBut v u
+      → MakesEvictions seat fewer u new → MakesEvictions seat (suc fewer) w new
+
+-- What an event that found no memory did before, counts left out: nothing; or evictions, as turns
+-- Evict of its seat do them; or its object was brought in, as a turn Swap of its seat does it,
 -- which evicts for it where there is no frame.
 pub data MakesRoom (w : WorldState) (e : Event) (new : WorldState) : Type 0 where
   nothing : IsSameBut w new → MakesRoom w e new
-  evicts : (v : WorldState) (id : SetId) → Step w (event.Turn (seat_of e) Evict) (answer.Set id) v
-      → IsSameBut v new → MakesRoom w e new
+  evicts : MakesEvictions (seat_of e) most_evictions w new → MakesRoom w e new
   brings : (v : WorldState) (handle : Handle) (f : ℕ) → asked_by e ≡ Some handle.n
       → Step w (event.Turn (seat_of e) (Swap handle)) (answer.Swapped f) v → IsSameBut v new
       → MakesRoom w e new

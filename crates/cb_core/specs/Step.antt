@@ -39,7 +39,7 @@ use Rattle.cb_core.specs.Declining.{write_refusal}
 use Rattle.cb_core.specs.FarJobs.{FarLacks, FarStep}
 use Rattle.cb_core.specs.Holding.{GiveStep, NoOtherHolds, TakeStep}
 use Rattle.cb_core.specs.JobParts.{JobParts, PartLacks, DoesBy, StopsBy}
-use Rattle.cb_core.specs.Parts.{Holding, WithRoom, WhereItIs, NeverDeclined, RoomStops, CallStops}
+use Rattle.cb_core.specs.Parts.{Holding, WithRoom, most_evictions, WhereItIs, NeverDeclined, RoomStops, CallStops}
 use Rattle.cb_core.specs.Pinning.{PinStep, UnpinStep}
 use Rattle.cb_core.specs.Turned.{IsGiven, counted}
 
@@ -101,7 +101,7 @@ StillSwap h a r b = (home : Home) × (home_at a.far.homes h ≡ Some home)
 
 -- a far object is brought in, and room is won for it
 abbrev pub StillBring : ℕ → Holding Words → Reply → Holding Words → Type 0
-StillBring h a r b = WithRoom a.desk.settings.frames (StillSwap h) StillRoom a r b
+StillBring h a r b = WithRoom a.desk.settings.frames (StillSwap h) StillRoom most_evictions a r b
 
 -- a filter of an object in local memory
 abbrev pub StillFilter : ℕ → Holding Words → Reply → Holding Words → Type 0
@@ -205,7 +205,8 @@ abbrev pub StillSwapLacks : ℕ → Holding Words → Holding Words → Type 0
 StillSwapLacks h a b = (b.desk ≡ a.desk) × IsGiven a.far b.far h
 
 abbrev pub StillBringLacks : ℕ → Holding Words → Holding Words → Type 0
-StillBringLacks h = RoomStops (StillSwap h) (StillSwapLacks h) StillRoom StillEvictLacks
+StillBringLacks h =
+    RoomStops (StillSwap h) (StillSwapLacks h) StillRoom StillEvictLacks most_evictions
 
 -- nothing changed, and the object needs a slot in a new span
 abbrev pub StillFilterLacks : ℕ → Holding Words → Holding Words → Type 0

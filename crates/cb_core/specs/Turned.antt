@@ -46,7 +46,7 @@ use Rattle.cb_core.specs.Declining.{write_refusal}
 use Rattle.cb_core.specs.FarJobs.{FarLacks, FarStep}
 use Rattle.cb_core.specs.JobParts.{JobParts, PartLacks, DoesBy, StopsBy}
 use Rattle.cb_core.specs.OnceHere.{OnceHere, OnceHereStops}
-use Rattle.cb_core.specs.Parts.{Holding, WithRoom, BringsIn, RoomStops}
+use Rattle.cb_core.specs.Parts.{Holding, WithRoom, most_evictions, refusal_by, BringsIn, RoomStops}
 
 -- the far state with one turn more of the job's kind
 abbrev pub counted : FarState → Job → FarState
@@ -115,6 +115,12 @@ abbrev pub WinsRoom : {D : Type 0} → (D → List Event → D → Type 0) → (
 WinsRoom run shows c a e b = Performs (λ es. run a.desk es b.desk) (λ s. shows a.desk s × Sound s a.far)
     (CountsRule a.far b.far e) (λ t. Sound t b.far) (EvictEffect a.far b.far (reply_of e))
 
+-- and the answer to whom room is won for: that there is no room, or none yet
+abbrev pub TriesRoom : {D : Type 0} → (D → List Event → D → Type 0) → (D → Shown → Type 0) → Config
+    → Holding D → Option Reply → Holding D → Type 0
+TriesRoom run shows c a refusal b =
+    (room : Eviction) × WinsRoom run shows c a room b × (refusal ≡ refusal_by c.frames room)
+
 -- an eviction in steps: some spans begin to leave, their rows are put one by one, and the batch is
 -- committed or given up
 abbrev pub Begins : {D : Type 0} → (D → List Event → D → Type 0) → (D → Shown → Type 0) → Config
@@ -143,7 +149,7 @@ Swaps run shows h a r b = (home : Home) × (home_at a.far.homes h ≡ Some home)
 -- a far object is brought in, and room is won for it
 abbrev pub Brings : {D : Type 0} → (D → List Event → D → Type 0) → (D → Shown → Type 0) → Config → ℕ
     → Holding D → Reply → Holding D → Type 0
-Brings run shows c h = WithRoom c.frames (Swaps run shows h) (WinsRoom run shows c)
+Brings run shows c h = WithRoom c.frames (Swaps run shows h) (WinsRoom run shows c) most_evictions
 
 -- a filter of an object in local memory
 abbrev pub Filters : {D : Type 0} → (D → List Event → D → Type 0) → (D → Shown → Type 0) → Config → ℕ
@@ -243,7 +249,7 @@ SwapLacks run h a b = run a.desk [] b.desk × IsGiven a.far b.far h
 abbrev pub BringLacks : {D : Type 0} → (D → List Event → D → Type 0) → (D → Shown → Type 0) → Config
     → ℕ → Holding D → Holding D → Type 0
 BringLacks run shows c h = RoomStops (Swaps run shows h) (SwapLacks run h) (WinsRoom run shows c)
-    (EvictLacks run shows)
+    (EvictLacks run shows) most_evictions
 
 -- a filter that lacks memory for a new span changes nothing
 abbrev pub FilterLacks : {D : Type 0} → (D → List Event → D → Type 0) → (D → Shown → Type 0) → ℕ

@@ -6,8 +6,8 @@ ghost use Rattle.cb_world.specs.declared.shown.Shown.{Shown};
 ghost use Rattle.cb_world.specs.Homes.{home_at};
 ghost use Rattle.cb_world.specs.Sound.{Sound};
 ghost use Rattle.cb_world.specs.World.{IsConfigured};
-ghost use Rattle.cb_core.specs.Parts.{CallStops, NeverLacks, RoomStops, WhereItIs, WithRoom};
-ghost use Rattle.cb_core.specs.Turned.{BringLacks, Brings, Declines, EvictLacks, MakeLacks, Makes, WinsRoom, WritesObject, ComeLacks, ComesIn};
+ghost use Rattle.cb_core.specs.Parts.{CallStops, NeverLacks, RoomStops, WhereItIs, WithRoom, most_evictions};
+ghost use Rattle.cb_core.specs.Turned.{BringLacks, Brings, Declines, EvictLacks, MakeLacks, Makes, TriesRoom, WinsRoom, WritesObject, ComeLacks, ComesIn};
 
 use crate::declining::{decline, find};
 use cb_evict::{Eviction, evict_counted};
@@ -16,10 +16,14 @@ use cb_swapin::swap_in;
 use cb_types::{Config, Handle, NoMemory, Reply, SetId};
 use cb_world::{Desk, Far};
 
-/// Makes an object of these bytes, 1 to 1,024. Where there is no frame for it, an eviction makes
-/// room, and it is made then. Where the eviction is refused there is no room: NoRoom tells how many
-/// frames there are, and how many spans are loose and how many nodes have room, as the eviction
-/// found them.
+/// The most evictions by which room is won for one object: each takes a span out of local memory,
+/// and that has at most as many as frames.
+const MOST_EVICTIONS: u32 = 4096;
+
+/// Makes an object of these bytes, 1 to 1,024. Where there is no frame for it, evictions make room,
+/// one after another, and it is made then. Where an eviction is refused there is no room: NoRoom
+/// tells how many frames there are, and how many spans are loose and how many nodes have room, as
+/// that last eviction found them. The evictions before it stay.
 pub(crate) fn make_with_room<D: Desk>(
     desk: &mut D,
     far: &mut Far,
@@ -29,38 +33,63 @@ pub(crate) fn make_with_room<D: Desk>(
     requires fits { length bytes.now ≤ most_bytes }
     requires config { IsAccepted (D.settings desk.old) }
     requires configured { IsConfigured (D.settings desk.old) far.old }
-    requires counts { (far.old.counts.sets < 2 ^ 62) × (far.old.counts.keys < 2 ^ 62) }
+    requires counts { (far.old.counts.sets + 2 ^ 18 < 2 ^ 62)
+        × (far.old.counts.keys + 2 ^ 18 < 2 ^ 62) }
     requires sound { (s : Shown) × D.shows desk.old s × Sound s far.old }
     ensures makes { IfOk result (λ reply. WithRoom (D.settings desk.old).frames
         (Makes (λ d es e. D.run d es e) (λ d s. D.shows d s) (D.settings desk.old) bytes.now)
         (WinsRoom (λ d es e. D.run d es e) (λ d s. D.shows d s) (D.settings desk.old))
+        most_evictions
         (record { desk = desk.old; far = far.old }) reply (record { desk = desk.new; far = far.new })) }
     ensures error { OnErr result (RoomStops
         (Makes (λ d es e. D.run d es e) (λ d s. D.shows d s) (D.settings desk.old) bytes.now)
         (MakeLacks (λ d es e. D.run d es e) (D.settings desk.old) bytes.now)
         (WinsRoom (λ d es e. D.run d es e) (λ d s. D.shows d s) (D.settings desk.old))
-        (EvictLacks (λ d es e. D.run d es e) (λ d s. D.shows d s))
+        (EvictLacks (λ d es e. D.run d es e) (λ d s. D.shows d s)) most_evictions
         (record { desk = desk.old; far = far.old }) (record { desk = desk.new; far = far.new })) }
 {
-    let reply = make(desk, far, bytes)?;
-    if !is_no_frame(&reply) {
-        return Ok(reply);
+    for _ in 0..MOST_EVICTIONS + 1 {
+        let reply = make(desk, far, bytes)?;
+        if !is_no_frame(&reply) {
+            return Ok(reply);
+        }
+        if let Some(refusal) = win_room(desk, far)? {
+            return Ok(refusal);
+        }
     }
+    unreachable!()
+}
+
+/// Evicts to make room. Where the eviction is refused the answer is that there is no room, with the
+/// counts that it found; where spans left there is none yet.
+fn win_room<D: Desk>(desk: &mut D, far: &mut Far) -> Result<Option<Reply>, NoMemory>
+    requires config { IsAccepted (D.settings desk.old) }
+    requires configured { IsConfigured (D.settings desk.old) far.old }
+    requires counts { (far.old.counts.sets < 2 ^ 62) × (far.old.counts.keys < 2 ^ 62) }
+    requires sound { (s : Shown) × D.shows desk.old s × Sound s far.old }
+    ensures tries { IfOk result (λ refusal. TriesRoom (λ d es e. D.run d es e) (λ d s. D.shows d s)
+        (D.settings desk.old) (record { desk = desk.old; far = far.old }) refusal
+        (record { desk = desk.new; far = far.new })) }
+    ensures error { OnErr result (EvictLacks (λ d es e. D.run d es e) (λ d s. D.shows d s)
+        (record { desk = desk.old; far = far.old }) (record { desk = desk.new; far = far.new })) }
+{
     let room = evict_counted(desk, far)?;
     match room {
-        Eviction::Refused { loose, nodes, .. } => Ok(no_room(desk.config(), loose, nodes)),
-        Eviction::Set { .. } => make(desk, far, bytes),
+        Eviction::Refused { loose, nodes, .. } => Ok(Some(no_room(desk.config(), loose, nodes))),
+        Eviction::Set { .. } => Ok(None),
     }
 }
 
-/// Brings a far object in, with the span in which it left. Where no frame is free, an eviction
-/// makes room, and the span is swapped in then; NoRoom is answered only where the eviction is
-/// refused. Answers Unavailable where its set has lost more shards than it has parities.
+/// Brings a far object in, with the span in which it left. Where no frame is free, evictions make
+/// room, one after another, and the span is swapped in then; NoRoom is answered only where an
+/// eviction is refused. Answers Unavailable where its set has lost more shards than it has
+/// parities.
 fn bring<D: Desk>(desk: &mut D, far: &mut Far, h: Handle) -> Result<Reply, NoMemory>
     requires handle { h.n < (D.settings desk.old).handles }
     requires config { IsAccepted (D.settings desk.old) }
     requires configured { IsConfigured (D.settings desk.old) far.old }
-    requires counts { (far.old.counts.sets < 2 ^ 62) × (far.old.counts.keys < 2 ^ 62) }
+    requires counts { (far.old.counts.sets + 2 ^ 18 < 2 ^ 62)
+        × (far.old.counts.keys + 2 ^ 18 < 2 ^ 62) }
     requires given { far.old.nodes.given + 16 < 2 ^ 64 }
     requires home { (home : Home) × (home_at far.old.homes h.n ≡ Some home) }
     requires sound { (s : Shown) × D.shows desk.old s × Sound s far.old }
@@ -75,15 +104,16 @@ fn bring<D: Desk>(desk: &mut D, far: &mut Far, h: Handle) -> Result<Reply, NoMem
 {
     let home = far.homes.at(h.n).unwrap();
     let id = SetId { n: home.set };
-    let swapped = swap_in(desk, far, id, home.position)?;
-    if !is_no_frame(&swapped) {
-        return Ok(swapped);
+    for _ in 0..MOST_EVICTIONS + 1 {
+        let swapped = swap_in(desk, far, id, home.position)?;
+        if !is_no_frame(&swapped) {
+            return Ok(swapped);
+        }
+        if let Some(refusal) = win_room(desk, far)? {
+            return Ok(refusal);
+        }
     }
-    let room = evict_counted(desk, far)?;
-    match room {
-        Eviction::Refused { loose, nodes, .. } => Ok(no_room(desk.config(), loose, nodes)),
-        Eviction::Set { .. } => swap_in(desk, far, id, home.position),
-    }
+    unreachable!()
 }
 
 /// Writes over a part of an object wherever it is: a far one is brought in first, but where the
@@ -99,7 +129,8 @@ pub(crate) fn write_anywhere<D: Desk>(
     requires handle { h.n < (D.settings desk.old).handles }
     requires config { IsAccepted (D.settings desk.old) }
     requires configured { IsConfigured (D.settings desk.old) far.old }
-    requires counts { (far.old.counts.sets < 2 ^ 62) × (far.old.counts.keys < 2 ^ 62) }
+    requires counts { (far.old.counts.sets + 2 ^ 18 < 2 ^ 62)
+        × (far.old.counts.keys + 2 ^ 18 < 2 ^ 62) }
     requires given { far.old.nodes.given + 16 < 2 ^ 64 }
     requires sound { (s : Shown) × D.shows desk.old s × Sound s far.old }
     ensures writes { IfOk result (λ reply. WhereItIs
@@ -139,7 +170,8 @@ pub(crate) fn swap_object<D: Desk>(
     requires handle { h.n < (D.settings desk.old).handles }
     requires config { IsAccepted (D.settings desk.old) }
     requires configured { IsConfigured (D.settings desk.old) far.old }
-    requires counts { (far.old.counts.sets < 2 ^ 62) × (far.old.counts.keys < 2 ^ 62) }
+    requires counts { (far.old.counts.sets + 2 ^ 18 < 2 ^ 62)
+        × (far.old.counts.keys + 2 ^ 18 < 2 ^ 62) }
     requires given { far.old.nodes.given + 16 < 2 ^ 64 }
     requires sound { (s : Shown) × D.shows desk.old s × Sound s far.old }
     ensures comes { IfOk result (λ reply. ComesIn (λ d es e. D.run d es e) (λ d s. D.shows d s)

@@ -59,7 +59,8 @@ pub(crate) fn read_anywhere<D: Desk>(
     requires handle { h.n < (D.settings desk.old).handles }
     requires config { IsAccepted (D.settings desk.old) }
     requires configured { IsConfigured (D.settings desk.old) far.old }
-    requires counts { (far.old.counts.sets < 2 ^ 62) × (far.old.counts.keys < 2 ^ 62) }
+    requires counts { (far.old.counts.sets + 2 ^ 18 < 2 ^ 62)
+        × (far.old.counts.keys + 2 ^ 18 < 2 ^ 62) }
     requires given { far.old.nodes.given + 16 < 2 ^ 64 }
     requires sound { (s : Shown) × D.shows desk.old s × Sound s far.old }
     ensures reads { IfOk result (λ reply. OnceHere

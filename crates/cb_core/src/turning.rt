@@ -28,16 +28,17 @@ pub const MOST_TURNS: u64 = 1 << 40;
 /// A turn of the holder of the far lock: it is counted, and does its job. Where 2^40 turns were
 /// counted it answers Worn, and neither counts nor does anything.
 ///
-/// Where there is no frame for a new object or for one that is brought in, an eviction makes room.
-/// Where that is refused the answer is NoRoom: how many frames there are, and how many spans are
-/// loose and how many nodes have room, as the eviction found them; NoFrame is the answer of no
-/// turn. A call on a far object brings it in first, and is answered as the bringing in where the
-/// object stays far; Unavailable exactly where its home is a set that has lost more shards than it
-/// has parities, with the set and all that it lost. A read is `bring_to_read` and then a read of the object, where it is here. A
-/// filter, a rebuild, a compaction and the steps of an eviction (begin, ship, commit, abort) and of
-/// a joining pair (pair, patch, merge, part) win no room: each is one part alone. Where there is no
-/// memory, the turn is counted and what its parts did before stays; a commit, an abort and a
-/// parting take none.
+/// Where there is no frame for a new object or for one that is brought in, evictions make room, one
+/// after another. Where one is refused the answer is NoRoom: how many frames there are, and how
+/// many spans are loose and how many nodes have room, as that last eviction found them, and the
+/// evictions before it stay; NoFrame is the answer of no turn. A call on a far object brings it in
+/// first, and is answered as the bringing in where the object stays far; Unavailable exactly where
+/// its home is a set that has lost more shards than it has parities, with the set and all that it
+/// lost. A read is `bring_to_read` and then a read of the object, where it is here. A filter, a
+/// rebuild, a compaction and the steps of an eviction (begin, ship, commit, abort) and of a joining
+/// pair (pair, patch, merge, part) win no room: each is one part alone. Where there is no memory,
+/// the turn is counted and what its parts did before stays; a commit, an abort and a parting take
+/// none.
 pub fn turn<D: Desk>(
     alloc: Global,
     desk: &mut D,
@@ -88,7 +89,8 @@ fn work<D: Desk>(alloc: Global, desk: &mut D, far: &mut Far, job: &Job) -> Resul
     requires config { IsAccepted (D.settings desk.old) }
     requires configured { IsConfigured (D.settings desk.old) far.old }
     requires job { IsJob (D.settings desk.old) job.now }
-    requires counts { (far.old.counts.sets < 2 ^ 62) × (far.old.counts.keys + 20 < 2 ^ 62) }
+    requires counts { (far.old.counts.sets + 2 ^ 18 < 2 ^ 62)
+        × (far.old.counts.keys + 2 ^ 18 < 2 ^ 62) }
     requires given { far.old.nodes.given + 16 < 2 ^ 64 }
     requires epoch { far.old.members.epoch < 2 ^ 62 }
     requires note { HoldsNoPair far.old }

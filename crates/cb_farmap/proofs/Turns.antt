@@ -16,8 +16,9 @@ use Rattle.cb_mutate.specs.MakeRule.{MakeRule}
 use Rattle.cb_mutate.specs.WriteRule.{NextVersion, WriteHere}
 use Rattle.cb_swapin.proofs.Laws.{by_answer}
 use Rattle.cb_rule.specs.declared.view.View.{View}
-use Rattle.cb_core.specs.Parts.{Holding, WhereItIs, WithRoom, at_once, brought, declined, near, no_room, stays_far, won}
+use Rattle.cb_core.specs.Parts.{Holding, WhereItIs, WithRoom, brought, declined, most_evictions, near, stays_far}
 use Rattle.cb_core.specs.Turned.{Brings, Declines, Does, IsDeclined, Makes, Swaps, Turned, WinsRoom, WritesObject, done, worn}
+use Rattle.cb_core.proofs.Laws.{room_reply}
 use Rattle.cb_record.specs.Parts.{Part}
 use Rattle.cb_shared.specs.Calls.{the_handle}
 use Rattle.cb_shared.specs.Turning.{DidAs, ReadsByPin, Slate, TurnAdds, slate_run, slate_shows}
@@ -54,13 +55,12 @@ make_rule n bytes far new (answer.Made handle version) es off x = tt
 make_rule n bytes far new r es off x = absurd x
 
 make_room : (c : Config) (bytes : List ℕ) (a b : Holding Slate) (r : Reply)
-    → WithRoom c.frames (Makes slate_run slate_shows c bytes) (WinsRoom slate_run slate_shows c) a r b
-    → IsOfMake r
-make_room c bytes a b r (at_once x off) =
-    make_rule c.handles bytes a.far b.far r x.events off x.rule
-make_room c bytes a b r (no_room m why loose nodes x evict is) = subst IsOfMake (sym is) tt
-make_room c bytes a b r (won m n id x evict again off) =
-    make_rule c.handles bytes n.far b.far r again.events off again.rule
+    → WithRoom c.frames (Makes slate_run slate_shows c bytes) (WinsRoom slate_run slate_shows c)
+    most_evictions a r b → IsOfMake r
+make_room c bytes a b r x = room_reply c.frames (Makes slate_run slate_shows c bytes)
+    (WinsRoom slate_run slate_shows c) IsOfMake
+    (λ n b r y off. make_rule c.handles bytes n.far b.far r y.events off y.rule) (λ loose nodes. tt)
+    most_evictions a b r x
 
 pub make_told : (c : Config) (bytes : List ℕ) (r : Reply) (v : View) (d : Part)
     → TurnAdds c (Make bytes) (Ok r) v d → IsOfMake r
@@ -111,10 +111,11 @@ module _ (at : ℕ) (bytes : List ℕ) where
 
   bring_past : (c : Config) (h : ℕ) (a b : Holding Slate) (r : Reply)
       → ((f : ℕ) → r ≡ answer.Swapped f → ⊥) → Brings slate_run slate_shows c h a r b → PastEnd r
-  bring_past c h a b r never (at_once x off) = swap_past h a b r off never x
-  bring_past c h a b r never (no_room m why loose nodes x evict is) =
-      other r (answer.NoRoom _ _ _) refl is
-  bring_past c h a b r never (won m n id x evict again off) = swap_past h n b r off never again
+  bring_past c h a b r never x = room_reply c.frames (Swaps slate_run slate_shows h)
+      (WinsRoom slate_run slate_shows c) (λ (q : Reply). ((f : ℕ) → q ≡ answer.Swapped f → ⊥)
+      → PastEnd q)
+      (λ n b r y off out. swap_past h n b r off out y)
+      (λ loose nodes out. other _ _ refl refl) most_evictions a b r x never
 
   declined_past : (h : ℕ) (far : FarState) (r : Reply) (es : List Event)
       → IsDeclined h at (length bytes) far (Some r) es → PastEnd r

@@ -11,13 +11,17 @@ use Rattle.cb_types.specs.declared.request.Request.TheVariants.{Unpin, Filter, L
 use Rattle.cb_types.specs.declared.reply.Reply.{Reply}
 use Rattle.cb_types.specs.declared.reply.Reply.TheVariants as answer
 use Rattle.cb_world.specs.OpenSteps.{NoneHolds}
+use Rattle.cb_world.specs.Plain.{Words}
 use Rattle.cb_world.specs.StillWords.{stamp_at}
 use Rattle.cb_world.specs.World.{WorldState, IsSoundWorld, word_at}
 use Rattle.cb_core.specs.declared.event.Event.TheVariants.{Turn}
 use Rattle.cb_core.specs.Pinning.{PinStep, UnpinStep, given, not_pinned as none_given, pin_refusal}
 use Rattle.cb_core.specs.Pinning.{refused, scope_full, taken}
 use Rattle.cb_core.specs.Step.{Step}
-use Rattle.cb_core.proofs.Laws.{IsEased, IsSwapRefusal, IsWholeJob, MakesEasy, SwapEnds, pin_calm}
+use Rattle.cb_core.specs.Parts.{Holding}
+use Rattle.cb_core.specs.Turned.{once_counted}
+use Rattle.cb_core.proofs.Laws.{IsEased, IsSwapRefusal, IsWholeJob, KeepsEasy, MakesEasy, SwapEnds}
+use Rattle.cb_core.proofs.Laws.{held, pin_calm}
 use Rattle.cb_core.proofs.Laws.{refused as swap_refused, stays, swap_sound, swap_turn, swapped}
 use Rattle.cb_core.proofs.Laws.{turn_calm}
 use Rattle.cb_lanes.specs.LineGoes.{job_of}
@@ -59,12 +63,15 @@ peek_calm : (seat h : ℕ) (w new : WorldState) (r : Reply) → PeekStep seat h 
 peek_calm seat h w new r (not_pinned none reply same) = eased_as r _ tt reply
 peek_calm seat h w new r (shown at newest reply same) = eased_as r _ tt reply
 
-module _ (w : WorldState) (sound : IsSoundWorld w) (few : w.far.counts.turns < 2 ^ 40)
-    (lone : NoneHolds w.seats) (easy : MakesEasy w.desk w.far) where
+-- facts that make it easy, also behind each eviction of a turn
+module _ (E : Holding Words → Type 0) (keeps : KeepsEasy E) (w : WorldState)
+    (sound : IsSoundWorld w)
+    (few : w.far.counts.turns < 2 ^ 40) (lone : NoneHolds w.seats) (easy : MakesEasy w.desk w.far)
+    (begins : (j : Job) → E (once_counted (held w) j)) where
   event_calm : (seat : ℕ) (j : Job) (new : WorldState) (r : Reply) → IsWholeJob j
       → Step w (Turn seat j) r new → IsEased r
   event_calm seat j new r whole step =
-      turn_calm w new j r sound few whole easy (turn_alone seat j w new r lone step)
+      turn_calm E keeps w new j r sound few whole (begins j) (turn_alone seat j w new r lone step)
 
   pin_line_calm : (seat h : ℕ) (new : WorldState) (r : Reply) → h < w.desk.settings.handles
       → PinLine seat h w r new → IsEased r
@@ -117,10 +124,12 @@ module _ (w : WorldState) (sound : IsSoundWorld w) (few : w.far.counts.turns < 2
   go nodes side seat handle request new r line ready x = other_calm side seat handle request
       (job_of request) new r (job_whole nodes request line) ready x
 
-pub line_calm : (nodes : List ℕ) (side : Side) (seat : ℕ) (handle : Option ℕ) (request : Request)
+pub line_calm : (E : Holding Words → Type 0) → KeepsEasy E → (nodes : List ℕ) (side : Side)
+    (seat : ℕ) (handle : Option ℕ) (request : Request)
     (w new : WorldState) (r : Reply) → IsSoundWorld w → w.far.counts.turns < 2 ^ 40
-    → NoneHolds w.seats → MakesEasy w.desk w.far → IsEasyLine nodes request
+    → NoneHolds w.seats → MakesEasy w.desk w.far → ((j : Job) → E (once_counted (held w) j))
+    → IsEasyLine nodes request
     → ((h : ℕ) → handle ≡ Some h → h < w.desk.settings.handles)
     → LineStep side seat handle request w r new → IsEased r
-line_calm nodes side seat handle request w new r sound few lone easy line ready x =
-    go w sound few lone easy nodes side seat handle request new r line ready x
+line_calm E keeps nodes side seat handle request w new r sound few lone easy begins line ready x =
+    go E keeps w sound few lone easy begins nodes side seat handle request new r line ready x

@@ -7,6 +7,7 @@ use Rattle.std.specs.List.{AllByRecursion}
 use Rattle.std.proofs.lemmas.List.{append-nil, length_push}
 use Rattle.std.proofs.lemmas.List.Sums.{count_by_more_yes}
 use Rattle.cb_types.specs.declared.answer.Answer.{Answer}
+use Rattle.cb_types.specs.declared.job.Job.{Job}
 use Rattle.cb_types.specs.declared.request.Request.{Request}
 use Rattle.cb_types.specs.declared.request.Request.TheVariants.{Make}
 use Rattle.cb_types.specs.declared.reply.Reply.{Reply}
@@ -25,7 +26,8 @@ use Rattle.cb_script.specs.Form.{IsRequest, IsScript}
 use Rattle.cb_script.specs.Roomy.{IsAtEase, is_make}
 use Rattle.cb_world.specs.Codes.{HaveCodes, IsConfiguredCode}
 use Rattle.cb_world.specs.World.{WorldState, IsSoundWorld, empty_world}
-use Rattle.cb_core.proofs.Laws.{IsEased, MakesEasy}
+use Rattle.cb_core.specs.Turned.{once_counted}
+use Rattle.cb_core.proofs.Laws.{IsEased, KeepsEasy, MakesEasy, held}
 use Rattle.cb_lanes.specs.declared.side.Side.{Side}
 use Rattle.cb_lanes.specs.Alone.{HasOwnLines, IsCalmReply, pins_shared}
 use Rattle.cb_lanes.specs.Asked.{HasLineReply, answer_to, asked}
@@ -42,7 +44,8 @@ use Rattle.cb_lanes.proofs.AloneLines.{one_maker}
 use Rattle.cb_lanes.proofs.Along.{Along, along_ready, line_form}
 use Rattle.cb_lanes.proofs.CalmLines.{line_calm}
 use Rattle.cb_lanes.proofs.EasyLines.{IsIdleAmong, empty_at_rest, line_at_rest, rests_at_rest}
-use Rattle.cb_lanes.proofs.EasyWorlds.{crashed_nodes, easy_line, easy_world, few_answers, few_made}
+use Rattle.cb_lanes.proofs.EasyWorlds.{IsLikeWorld, crashed_nodes, easy_line, easy_world, few_answers}
+use Rattle.cb_lanes.proofs.EasyWorlds.{few_made, keeps_easy, like_counted}
 use Rattle.cb_lanes.proofs.Lists.{all_last, all_push}
 use Rattle.cb_lanes.proofs.OwnPins.{line_tells}
 use Rattle.cb_lanes.proofs.ScopesKept.{lines_own}
@@ -125,6 +128,15 @@ module _ (side : Side) (s : Script) (i : ℕ) (later : List ℕ) (answers : List
 
   easy : MakesEasy w.desk w.far
   easy = easy_world side s i (l.lane.n ∷ later) answers w names script ease along so_far eases.rest
+      eases.codes eases.young
+
+  keeps : KeepsEasy (IsLikeWorld s w)
+  keeps = keeps_easy side s i (l.lane.n ∷ later) answers w names script ease along so_far eases.rest
+      eases.codes eases.young
+
+  begins : (j : Job) → IsLikeWorld s w (once_counted (held w) j)
+  begins = like_counted side s i (l.lane.n ∷ later) answers w names script ease along so_far
+      eases.rest
       eases.codes eases.young
 
   few_turns : w.far.counts.turns < 2 ^ 40
@@ -223,8 +235,10 @@ module _ (side : Side) (s : Script) (i : ℕ) (later : List ℕ) (answers : List
       }
 
       calm : IsCalmReply r
-      calm = eased_calm (line_calm (crashed_nodes s) side l.lane.n (request_handle names l.request) l.request w between r
-          along.sound few_turns along.lone easy (easy_line s i l ease lt at form.0) handle_ready step)
+      calm = eased_calm (line_calm (IsLikeWorld s w) keeps (crashed_nodes s) side l.lane.n
+          (request_handle names l.request) l.request w between r along.sound few_turns along.lone
+          easy begins
+          (easy_line s i l ease lt at form.0) handle_ready step)
 
 pub eases_answered : (side : Side) (s : Script) (i : ℕ) (later : List ℕ) (answers all : List Answer) (l : Line)
     (w rested : WorldState) (names kept : KeptNames) → IsScript s → IsAtEase s → i < length s.lines

@@ -3,6 +3,7 @@ use Rattle.std.proofs.Common.{◌≡◌, ◌⊎◌, ℕ, zero, suc, ◌+◌, ◌
 use Rattle.std.proofs.Common.{[], ◌∷◌, length, map, take, get_or, filter, Contains, refl, sym, ap}
 use Rattle.std.proofs.Common.{◌∙◌, subst, arith, inl, inr, eqb-true, if◌then◌else◌, length-take}
 use Rattle.std.specs.List.{range_with_len, sum_by}
+use Rattle.std.specs.Prelude.{slice_index}
 use Rattle.std.proofs.lemmas.Bool.{cases_Bool, cases_lt, false≢true}
 use Rattle.std.proofs.lemmas.List.{length-map}
 use Rattle.std.proofs.lemmas.List.Folds.{list_any_at}
@@ -10,6 +11,8 @@ use Rattle.std.proofs.lemmas.List.FromFn.{get_or-range_with_len, length-range_wi
 use Rattle.std.proofs.lemmas.List.Sums.{length-filter}
 use Rattle.cb_types.specs.declared.answer.Answer.{Answer}
 use Rattle.cb_types.specs.declared.config.Config.{Config}
+use Rattle.cb_types.specs.declared.job.Job.{Job}
+use Rattle.cb_types.specs.declared.reply.Reply.TheVariants as answer
 use Rattle.cb_types.specs.declared.request.Request.{Request}
 use Rattle.cb_types.specs.declared.request.Request.TheVariants.{Crash}
 use Rattle.cb_model.specs.Called.{calls_of, value}
@@ -22,7 +25,14 @@ use Rattle.cb_world.specs.Codes.{HaveCodes, IsConfiguredCode}
 use Rattle.cb_world.specs.declared.seats.Pin.{Pin}
 use Rattle.cb_world.specs.Seats.{SeatState, idle_seat, pins_of_seat}
 use Rattle.cb_world.specs.World.{WorldState}
-use Rattle.cb_core.proofs.Laws.{MakesEasy, enough_roomy, never_gone}
+use Rattle.cb_world.specs.Plain.{Words}
+use Rattle.cb_world.proofs.Laws.{codes_stay, have_codes}
+use Rattle.cb_evict.specs.declared.eviction.Eviction.TheVariants.{Set}
+use Rattle.cb_evict.proofs.Laws.{evict_keeps, evict_leaving, evict_step_codes}
+use Rattle.cb_core.specs.Parts.{Holding}
+use Rattle.cb_core.specs.Turned.{counted, once_counted}
+use Rattle.cb_core.proofs.Laws.{CrashedAmong, IsGood, IsIdle, KeepsEasy, MakesEasy, counted_good}
+use Rattle.cb_core.proofs.Laws.{enough_roomy, held, never_gone, room_good}
 use Rattle.cb_lanes.specs.declared.side.Side.{Side}
 use Rattle.cb_lanes.specs.Asked.{asked}
 use Rattle.cb_lanes.specs.GivingBack.{lines_by}
@@ -84,6 +94,17 @@ easy_line s i l ease lt at is = record {
 
 -- ---- and so are the worlds between lines
 
+-- What stands between two lines, and behind each eviction of a turn: all is known, no batch is
+-- leaving and no pair is joining, no other nodes have crashed, all codes are the configured one,
+-- and as many handles were made and the version words are as in this world.
+pub record IsLikeWorld (s : Script) (w : WorldState) (a : Holding Words) : Type 0 where
+  pub good : IsGood w.desk.settings w.seats a
+  pub idle : IsIdle a.far
+  pub crashed : CrashedAmong (crashed_nodes s) a.far.members
+  pub codes : HaveCodes (IsConfiguredCode s.config) a.far
+  pub made : a.far.made ≡ w.far.made
+  pub versions : a.desk.versions ≡ w.desk.versions
+
 module _ (side : Side) (s : Script) (i : ℕ) (later : List ℕ) (answers : List Answer) (w : WorldState) (names : KeptNames)
     (script : IsScript s) (ease : IsAtEase s) (along : Along side s.config later answers w names)
     (so_far : map asked answers ≡ take i s.lines) where
@@ -122,31 +143,83 @@ module _ (side : Side) (s : Script) (i : ℕ) (later : List ℕ) (answers : List
   few_answers = let most = script.few in
       omega (arith, ap (λ (ls : List Line). length ls) so_far, length-take i s.lines, length-map answers asked, most)
 
-  pub easy_world : IsIdleAmong (crashed_nodes s) w → HaveCodes (IsConfiguredCode s.config) w.far
-      → ((h : ℕ) → version_had (value (calls_of answers) h) ≤ length answers) → MakesEasy w.desk w.far
-  easy_world rest codes young = record {
-    still = λ h below moves.
-        never_moving w.desk w.far w.seats h along.sound.ongoing rest.claims rest.idle.0 below moves;
-    whole = never_gone s.config along.sound.shown w.far (crashed_nodes s) along.sound.known.sound codes
-        rest.crashed (let few = ease.crashes in omega (arith, crashed_count s, few));
-    spans = λ full.
-        let all = loose_or_pinned w.desk w.far along.sound.shown w.seats along.sound.known along.sound.pinned
-        along.sound.ongoing rest.claims rest.idle.0 full in
-        let frames = along.sound.configured.frames in let pins = few_pins in let enough = ease.frames in
-        let k = codes.force.0 in
-        let same = ap (λ (c : Config). c.frames) along.settings in
-        omega (arith, all, frames, pins, enough, k, same);
-    nodes = enough_roomy w.desk.settings along.sound.shown w.far (crashed_nodes s) along.sound.known.sound
-        along.sound.configured rest.idle rest.crashed
-        (let few = few_made in let front = count_front (λ (l : Line). is_make l.request) s.lines i in
-        let room = ease.room in let same = ap (λ (c : Config). c.room) along.settings in
-        omega (arith, few, front, room, same))
-        (w.far.code.k + w.far.code.r)
-        (let enough = ease.nodes in let k = codes.force.0 in let r = codes.force.1 in
-        let n = ap (λ (c : Config). c.nodes) along.settings in
-        omega (arith, crashed_count s, enough, k, r, n));
-    stamps = λ h.
-        let had = stamp_had w.desk w.far along.sound.shown h along.sound.known (value (calls_of answers) h)
-        (along.beside.values h) in
-        let most = young h in let few = few_answers in omega (arith, had, most, few);
-  }
+  -- ---- at each holding of a turn's parts that evictions lead to
+  module _ (rest : IsIdleAmong (crashed_nodes s) w) (codes : HaveCodes (IsConfiguredCode s.config)
+      w.far)
+      (young : (h : ℕ) → version_had (value (calls_of answers) h) ≤ length answers) where
+    easy_at : (a : Holding Words) → IsLikeWorld s w a → MakesEasy a.desk a.far
+    easy_at a x = let good = x.good in record {
+      still = λ h below moves.
+          never_moving a.desk a.far w.seats h good.ongoing rest.claims x.idle.0 below moves;
+      whole = never_gone s.config good.shown a.far (crashed_nodes s) good.known.sound x.codes
+          x.crashed (let few = ease.crashes in omega (arith, crashed_count s, few));
+      spans = λ full.
+          let all = loose_or_pinned a.desk a.far good.shown w.seats good.known good.pinned
+          good.ongoing rest.claims x.idle.0 full in
+          let frames = good.configured.frames in let pins = few_pins in let enough = ease.frames in
+          let k = x.codes.force.0 in
+          let same = ap (λ (c : Config). c.frames) along.settings in
+          omega (arith, all, frames, pins, enough, k, same);
+      nodes = enough_roomy w.desk.settings good.shown a.far (crashed_nodes s) good.known.sound
+          good.configured x.idle x.crashed
+          (let few = few_made in let front = count_front (λ (l : Line). is_make l.request) s.lines
+          i in
+          let room = ease.room in let same = ap (λ (c : Config). c.room) along.settings in
+          let made = x.made in omega (arith, few, front, room, same, made))
+          (a.far.code.k + a.far.code.r)
+          (let enough = ease.nodes in let k = x.codes.force.0 in let r = x.codes.force.1 in
+          let n = ap (λ (c : Config). c.nodes) along.settings in
+          omega (arith, crashed_count s, enough, k, r, n));
+      stamps = λ h.
+          let had = stamp_had w.desk w.far along.sound.shown h along.sound.known
+          (value (calls_of answers) h) (along.beside.values h) in
+          let same = ap (λ (versions : List ℕ). slice_index versions h) x.versions in
+          let most = young h in let few = few_answers in omega (arith, had, same, most, few);
+    }
+
+    pub keeps_easy : KeepsEasy (IsLikeWorld s w)
+    keeps_easy = record {
+      easy = easy_at;
+      kept = λ a b id x step.
+          let k = evict_keeps a.desk b.desk a.far b.far (answer.Set id) step.0.step in record {
+            good = room_good w.desk.settings w.seats along.sound.config a b (Set id) x.good step;
+            idle = (
+              evict_leaving a.desk b.desk a.far b.far (answer.Set id) step.0.step ∙ x.idle.0,
+              k.far.joining ∙ x.idle.1,
+            );
+            crashed = subst (CrashedAmong (crashed_nodes s)) (sym k.far.members) x.crashed;
+            codes = have_codes (IsConfiguredCode s.config) a.far b.far
+                (evict_step_codes a.desk b.desk a.far b.far (answer.Set id) step.0.step) x.codes;
+            made = k.far.made ∙ x.made;
+            versions = k.words.versions ∙ x.versions;
+          };
+    }
+
+    -- once a turn is counted
+    pub like_counted : (j : Job) → IsLikeWorld s w (once_counted (held w) j)
+    like_counted j = record {
+      good = counted_good w j along.sound;
+      idle = rest.idle;
+      crashed = rest.crashed;
+      codes = have_codes (IsConfiguredCode s.config) w.far (counted w.far j)
+          (codes_stay w.far (counted w.far j) refl refl refl refl) codes;
+      made = refl;
+      versions = refl;
+    }
+
+    pub easy_world : MakesEasy w.desk w.far
+    easy_world = let sound = along.sound in easy_at (held w) (record {
+      good = record {
+        settings = refl;
+        configured = sound.configured;
+        shown = sound.shown;
+        known = sound.known;
+        pinned = sound.pinned;
+        ongoing = sound.ongoing;
+      };
+      idle = rest.idle;
+      crashed = rest.crashed;
+      codes = codes;
+      made = refl;
+      versions = refl;
+    })

@@ -20,9 +20,11 @@ use Rattle.cb_mutate.specs.Answered.{AbsentAs, AnsweredAs, EmptyAnswer}
 use Rattle.cb_mutate.specs.WriteRule.{NextVersion, WriteHere, WriteRule}
 use Rattle.cb_swapin.specs.SwapRule.{SwapRule}
 use Rattle.cb_swapin.proofs.Laws.{by_answer}
-use Rattle.cb_core.specs.Parts.{Holding, WhereItIs, at_once, no_room, won, near, declined}
+use Rattle.cb_core.specs.Parts.{Holding, WhereItIs, most_evictions, near, declined}
 use Rattle.cb_core.specs.Parts.{stays_far, brought}
-use Rattle.cb_core.specs.Turned.{Brings, Declines, IsDeclined, Turned, WritesObject, done, worn}
+use Rattle.cb_core.specs.Turned.{Brings, Declines, IsDeclined, Swaps, Turned, WinsRoom}
+use Rattle.cb_core.specs.Turned.{WritesObject, done, worn}
+use Rattle.cb_core.proofs.Laws.{RoomEnds, operated, room_ends, was_refused}
 use Rattle.cb_rule.specs.declared.turn.Turn.{Turn}
 use Rattle.cb_rule.specs.declared.view.Look.{Look}
 use Rattle.cb_rule.specs.declared.view.View.{View}
@@ -165,11 +167,13 @@ module _ (h at : ℕ) (bytes : List ℕ) (r : Reply) (of_word : IsOfWord r) wher
       (λ fine free e. not_so answer.NoFrame e (λ z. z)) (λ f fine free e. not_so _ e (λ z. z)) x.reply
 
   bring_none : (c : Config) (a b : Hold) → Brings slate_run slate_shows c h a r b → ⊥
-  bring_none c a b (at_once (home, there, x) never) =
-      swap_none home.set home.position a.far b.far x.events x.rule
-  bring_none c a b (no_room m why loose nodes x evict e) = not_so _ e (λ z. z)
-  bring_none c a b (won m n id x evict (home, there, y) never) =
-      swap_none home.set home.position n.far b.far y.events y.rule
+  bring_none c a b bring = by (room_ends c.frames (Swaps slate_run slate_shows h)
+      (WinsRoom slate_run slate_shows c) most_evictions a b r bring)
+    where
+      by : RoomEnds c.frames (Swaps slate_run slate_shows h) (WinsRoom slate_run slate_shows c) r b
+          → ⊥
+      by (operated n x never) = swap_none x.0.set x.0.position n.far b.far x.2.events x.2.rule
+      by (was_refused m why loose nodes evict e) = not_so _ e (λ z. z)
 
   -- ---- the turn
   where_in : (c : Config) (a b : Hold) → WhereItIs (WritesObject slate_run slate_shows h at bytes)

@@ -30,10 +30,11 @@ use Rattle.cb_filter.specs.FilterRule.{FilterAs}
 use Rattle.cb_rebuild.specs.RebuildStep.{RebuildStep, Restores, surveyed}
 use Rattle.cb_swapin.proofs.Laws.{by_answer}
 use Rattle.cb_core.specs.Membership.{CrashTurn, JoinTurn, crashed, is_down, is_up, joined}
-use Rattle.cb_core.specs.Parts.{Holding, WhereItIs, WithRoom, at_once, brought, declined, near}
-use Rattle.cb_core.specs.Parts.{no_room, stays_far, won}
+use Rattle.cb_core.specs.Parts.{Holding, WhereItIs, WithRoom, brought, declined, most_evictions, near}
+use Rattle.cb_core.specs.Parts.{stays_far}
 use Rattle.cb_core.specs.Turned.{Brings, Declines, Does, IsDeclined, Makes, Swaps, Turned, WinsRoom}
 use Rattle.cb_core.specs.Turned.{WritesObject, done, once_counted, worn}
+use Rattle.cb_core.proofs.Laws.{room_reply}
 use Rattle.cb_world.specs.declared.shown.Shown.{Shown}
 
 -- the reply is that one
@@ -165,13 +166,12 @@ join_turn far new node r (is_up up is same) = so (line.Join node) r _ tt is
 module _ {D : Type 0} (run : D → List Event → D → Type 0) (shows : D → Shown → Type 0)
     (c : Config) where
   pub room_for : (name bytes : List ℕ) (a b : Holding D) (r : Reply)
-      → WithRoom c.frames (Makes run shows c bytes) (WinsRoom run shows c) a r b
+      → WithRoom c.frames (Makes run shows c bytes) (WinsRoom run shows c) most_evictions a r b
       → IsReplyOf (Make name bytes) r
-  room_for name bytes a b r (at_once x off) =
-      make_rule c.handles bytes name a.far b.far r x.events off x.rule
-  room_for name bytes a b r (no_room m why loose nodes x evict is) = so (Make name bytes) r _ tt is
-  room_for name bytes a b r (won m n id x evict again off) =
-      make_rule c.handles bytes name n.far b.far r again.events off again.rule
+  room_for name bytes a b r x = room_reply c.frames (Makes run shows c bytes) (WinsRoom run shows c)
+      (IsReplyOf (Make name bytes))
+      (λ n b r y off. make_rule c.handles bytes name n.far b.far r y.events off y.rule)
+      (λ loose nodes. tt) most_evictions a b r x
 
   -- a write of a far object that is not brought in
   swap_off : (name bytes : List ℕ) (h at : ℕ) (a b : Holding D) (r : Reply)
@@ -187,10 +187,11 @@ module _ {D : Type 0} (run : D → List Event → D → Type 0) (shows : D → S
   bring_off : (name bytes : List ℕ) (h at : ℕ) (a b : Holding D) (r : Reply)
       → ((f : ℕ) → r ≡ answer.Swapped f → ⊥) → Brings run shows c h a r b
       → IsReplyOf (Write name at bytes) r
-  bring_off name bytes h at a b r never (at_once x off) = swap_off name bytes h at a b r off never x
-  bring_off name bytes h at a b r never (no_room m why loose nodes x evict is) = so (Write name at bytes) r _ tt is
-  bring_off name bytes h at a b r never (won m n id x evict again off) =
-      swap_off name bytes h at n b r off never again
+  bring_off name bytes h at a b r never x = room_reply c.frames (Swaps run shows h)
+      (WinsRoom run shows c)
+      (λ (q : Reply). ((f : ℕ) → q ≡ answer.Swapped f → ⊥) → IsReplyOf (Write name at bytes) q)
+      (λ n b r y off out. swap_off name bytes h at n b r off out y) (λ loose nodes out. tt)
+      most_evictions a b r x never
 
   declined_so : (name bytes : List ℕ) (h at : ℕ) (far : FarState) (r : Reply) (es : List Event)
       → IsDeclined h at (length bytes) far (Some r) es → IsReplyOf (Write name at bytes) r

@@ -6,9 +6,9 @@ use Rattle.cb_types.specs.declared.handle.SetId.{SetId}
 use Rattle.cb_types.specs.declared.reply.Reply.{Reply}
 use Rattle.cb_types.specs.declared.reply.Reply.TheVariants as answer
 use Rattle.cb_swapin.proofs.Laws.{by_answer}
-use Rattle.cb_core.specs.Parts.{Holding}
-use Rattle.cb_core.specs.Parts.WithRoom.{at_once, no_room, won}
-use Rattle.cb_core.specs.Turned.{Brings, Swaps}
+use Rattle.cb_core.specs.Parts.{Holding, most_evictions}
+use Rattle.cb_core.specs.Turned.{Brings, Swaps, WinsRoom}
+use Rattle.cb_core.proofs.Laws.{room_reply}
 use Rattle.cb_shared.specs.Turning.{Slate, slate_run, slate_shows}
 
 -- what holds of each reply that a bringing in may have holds of its reply
@@ -22,7 +22,6 @@ module _ (C : Reply → Type 0) (lost : (id : SetId) (losses : List Loss) → C 
 
   pub bring_gives : (c : Config) (h : ℕ) (a b : Holding Slate) (r : Reply)
       → Brings slate_run slate_shows c h a r b → C r
-  bring_gives c h a b r (at_once x off) = swap_gives h a b r x
-  bring_gives c h a b r (no_room m why loose nodes x e is) =
-      subst C (sym is) (no_rooms c.frames loose nodes)
-  bring_gives c h a b r (won m n id x e again off) = swap_gives h n b r again
+  bring_gives c h a b r bring = room_reply c.frames (Swaps slate_run slate_shows h)
+      (WinsRoom slate_run slate_shows c) C (λ n b r x off. swap_gives h n b r x) (no_rooms c.frames)
+      most_evictions a b r bring

@@ -1,5 +1,5 @@
 -- What a turn makes is one of the handles, at the first version, so it is its pass's own.
-use Rattle.std.proofs.Common.{◌≡◌, ℕ, ◌<◌, ◌&&◌, Bool, List, [], Ok, Err, Result, Option, Some}
+use Rattle.std.proofs.Common.{◌≡◌, ℕ, suc, ◌<◌, ◌&&◌, Bool, List, [], Ok, Err, Result, Option, Some}
 use Rattle.std.proofs.Common.{refl, sym, ap, ◌∙◌, subst, eqb, eq-eqb, arith, inl, inr}
 use Rattle.std.specs.Prelude.{IfOk}
 use Rattle.cb_member.specs.declared.no_memory.NoMemory.{NoMemory}
@@ -18,9 +18,10 @@ use Rattle.cb_world.specs.Played.{played}
 use Rattle.cb_world.specs.World.{WorldState}
 use Rattle.cb_mutate.specs.MakeRule.{MakeRule}
 use Rattle.cb_evict.specs.EvictRule.{EvictRule}
-use Rattle.cb_core.specs.Parts.{Holding, WithRoom, at_once, no_room, won}
+use Rattle.cb_core.specs.Parts.{Holding, WithRoom, at_once, no_room, won, most_evictions}
 use Rattle.cb_core.specs.Turned.{Makes, Turned, WinsRoom, done, worn}
 use Rattle.cb_core.specs.TurnLeaves.{OutcomeWrites}
+use Rattle.cb_core.proofs.Laws.{RoomEnds, operated, room_ends, was_refused}
 use Rattle.cb_rule.specs.declared.turn.Turn.{Turn}
 use Rattle.cb_rule.specs.declared.view.View.{View}
 use Rattle.cb_rule.specs.Closing.{IsClosed}
@@ -54,20 +55,20 @@ make_is_first : (c : Config) (bytes : List ℕ) (h : Handle) (n : ℕ) (a b : Ho
 make_is_first c bytes h n a b p = let low = p.rule.0 in let m = p.rule.1 in let next = m.next in
     (omega (arith, low, next), m.first ∙ sym (ap (λ (f : FarState). f.first) m.state))
 
-roomed : (c : Config) (bytes : List ℕ) (h : Handle) (n : ℕ) (a b : Holding Slate)
-    → WithRoom c.frames (Makes slate_run slate_shows c bytes) (WinsRoom slate_run slate_shows c) a
+roomed : (c : Config) (bytes : List ℕ) (h : Handle) (n : ℕ) (b : Holding Slate)
+    → RoomEnds c.frames (Makes slate_run slate_shows c bytes) (WinsRoom slate_run slate_shows c)
     (answer.Made h n) b → IsFirst c h n b.far
-roomed c bytes h n a b (at_once op ne) = make_is_first c bytes h n a b op
-roomed c bytes h n a b (no_room m why loose nodes op ev is) =
+roomed c bytes h n b (operated q op ne) = make_is_first c bytes h n q b op
+roomed c bytes h n b (was_refused m why loose nodes ev is) =
     absurd (let e : 1 ≡ 0 = ap is_made is in omega (arith, e))
-roomed c bytes h n a b (won m q id op ev last ne) = make_is_first c bytes h n q b last
 
 made_is_first : (c : Config) (bytes : List ℕ) (h : Handle) (n : ℕ) (a b : Holding Slate)
     → Turned slate_run slate_shows ReadsByPin c (Make bytes) a (answer.Made h n) b
     → IsFirst c h n b.far
 made_is_first c bytes h n a b (worn last is same ran) =
     absurd (let e : 1 ≡ 0 = ap is_made is in omega (arith, e))
-made_is_first c bytes h n a b (done less does) = roomed c bytes h n _ b does
+made_is_first c bytes h n a b (done less does) =
+    roomed c bytes h n b (room_ends _ _ _ most_evictions _ b _ does)
 
 -- ---- the next handle of the far state that was taken, at its first version
 abbrev IsNextOf : Handle → ℕ → FarState → Type 0
@@ -93,14 +94,18 @@ evicted_still c far new r es x = elim x.answered [
   )
 ]
 
-roomed_next : (c : Config) (bytes : List ℕ) (h : Handle) (n : ℕ) (a b : Holding Slate)
-    → WithRoom c.frames (Makes slate_run slate_shows c bytes) (WinsRoom slate_run slate_shows c) a
-    (answer.Made h n) b → IsNextOf h n a.far
-roomed_next c bytes h n a b (at_once op ne) = make_is_next c bytes h n a b op
-roomed_next c bytes h n a b (no_room m why loose nodes op ev is) =
-    absurd (let e : 1 ≡ 0 = ap is_made is in omega (arith, e))
-roomed_next c bytes h n a b (won m q id op ev last ne) =
-    let z = make_is_next c bytes h n q b last in
+roomed_next : (c : Config) (bytes : List ℕ) (h : Handle) (n left : ℕ) (a b : Holding Slate)
+    (r : Reply)
+    → r ≡ answer.Made h n
+    → WithRoom c.frames (Makes slate_run slate_shows c bytes) (WinsRoom slate_run slate_shows c)
+    left a r b
+    → IsNextOf h n a.far
+roomed_next c bytes h n left a b r made (at_once op ne) = make_is_next c bytes h n a b
+    (subst (λ (q : Reply). Makes slate_run slate_shows c bytes a q b) made op)
+roomed_next c bytes h n left a b r made (no_room m why loose nodes op ev is) =
+    absurd (let e : 1 ≡ 0 = ap is_made (sym made ∙ is) in omega (arith, e))
+roomed_next c bytes h n (suc fewer) a b r made (won m q id op ev again) =
+    let z = roomed_next c bytes h n fewer q b r made again in
     let e = evicted_still c m.far q.far _ ev.events ev.rule.rule in
     let s = make_found_none c bytes a.far m.far op.events op.rule in
     (z.0 ∙ e.0 ∙ ap (λ (f : FarState). f.made) s, z.1 ∙ e.1 ∙ ap (λ (f : FarState). f.first) s)
@@ -110,7 +115,8 @@ made_is_next : (c : Config) (bytes : List ℕ) (h : Handle) (n : ℕ) (a b : Hol
     → IsNextOf h n a.far
 made_is_next c bytes h n a b (worn last is same ran) =
     absurd (let e : 1 ≡ 0 = ap is_made is in omega (arith, e))
-made_is_next c bytes h n a b (done less does) = roomed_next c bytes h n _ b does
+made_is_next c bytes h n a b (done less does) = roomed_next c bytes h n most_evictions _ b _ refl
+    does
 
 -- so the record did not know it, where all that it knew was made by then
 of_new : (first : ℕ) (c : Config) (bytes : List ℕ) (r : Result Reply NoMemory) (start : Shown)
@@ -148,20 +154,20 @@ full_told c bytes n a b p = by p.rule
     by : MakeRule c.handles bytes a.far b.far (answer.Full n) p.events → IsFull c n b.far
     by (made, told, left) = (ap (λ (f : FarState). f.made) left.0 ∙ made, told)
 
-full_roomed : (c : Config) (bytes : List ℕ) (n : ℕ) (a b : Holding Slate)
-    → WithRoom c.frames (Makes slate_run slate_shows c bytes) (WinsRoom slate_run slate_shows c) a
+full_roomed : (c : Config) (bytes : List ℕ) (n : ℕ) (b : Holding Slate)
+    → RoomEnds c.frames (Makes slate_run slate_shows c bytes) (WinsRoom slate_run slate_shows c)
     (answer.Full n) b → IsFull c n b.far
-full_roomed c bytes n a b (at_once op ne) = full_told c bytes n a b op
-full_roomed c bytes n a b (no_room m why loose nodes op ev is) =
+full_roomed c bytes n b (operated q op ne) = full_told c bytes n q b op
+full_roomed c bytes n b (was_refused m why loose nodes ev is) =
     absurd (let e : 1 ≡ 0 = ap is_full is in omega (arith, e))
-full_roomed c bytes n a b (won m q id op ev last ne) = full_told c bytes n q b last
 
 full_turned : (c : Config) (bytes : List ℕ) (n : ℕ) (a b : Holding Slate)
     → Turned slate_run slate_shows ReadsByPin c (Make bytes) a (answer.Full n) b
     → IsFull c n b.far
 full_turned c bytes n a b (worn last is same ran) =
     absurd (let e : 1 ≡ 0 = ap is_full is in omega (arith, e))
-full_turned c bytes n a b (done less does) = full_roomed c bytes n _ b does
+full_turned c bytes n a b (done less does) =
+    full_roomed c bytes n b (room_ends _ _ _ most_evictions _ b _ does)
 
 -- the first version of what it made is among what it wrote
 of_make : (c : Config) (bytes : List ℕ) (r : Result Reply NoMemory) (start known : Shown)

@@ -1,5 +1,5 @@
 -- A turn at a desk of one kind as one at a desk of another kind.
-use Rattle.std.proofs.Common.{ℕ, List, [], Option, None, Some}
+use Rattle.std.proofs.Common.{ℕ, suc, List, [], Option, None, Some}
 use Rattle.cb_types.specs.declared.config.Config.{Config}
 use Rattle.cb_types.specs.declared.handle.Handle.{Handle}
 use Rattle.cb_types.specs.declared.job.Job.{Job}
@@ -16,7 +16,7 @@ use Rattle.cb_world.specs.Performs.{Performs}
 use Rattle.cb_world.specs.Sound.{Sound}
 use Rattle.cb_evict.specs.declared.eviction.Eviction.{Eviction}
 use Rattle.cb_evict.specs.declared.eviction.Eviction.TheVariants as eviction
-use Rattle.cb_core.specs.Parts.{Holding, WithRoom, WhereItIs, BringsIn, RoomStops, CallStops}
+use Rattle.cb_core.specs.Parts.{Holding, WithRoom, most_evictions, WhereItIs, BringsIn, RoomStops, CallStops}
 use Rattle.cb_core.specs.Parts.{NeverLacks}
 use Rattle.cb_core.specs.Parts.WithRoom.{at_once, no_room, won}
 use Rattle.cb_core.specs.Parts.WhereItIs.{near, declined, stays_far, brought}
@@ -64,13 +64,15 @@ module _ {D E : Type 0} (run : D → List Event → D → Type 0) (shows : D →
 
   with_room : (n : ℕ) (P : Holding D → Reply → Holding D → Type 0)
       (F : Holding D → Eviction → Holding D → Type 0) (Q : Holding E → Reply → Holding E → Type 0)
-      (G : Holding E → Eviction → Holding E → Type 0) → Maps P Q → Maps F G
-      → Maps (WithRoom n P F) (WithRoom n Q G)
-  with_room n P F Q G p e a b r (at_once o off) = at_once (p a b r o) off
-  with_room n P F Q G p e a b r (no_room m why loose nodes o v is) = no_room (on m) why loose nodes
+      (G : Holding E → Eviction → Holding E → Type 0) → Maps P Q → Maps F G → (left : ℕ)
+      → Maps (WithRoom n P F left) (WithRoom n Q G left)
+  with_room n P F Q G p e left a b r (at_once o off) = at_once (p a b r o) off
+  with_room n P F Q G p e left a b r (no_room m why loose nodes o v is) = no_room (on m) why loose
+      nodes
       (p a m answer.NoFrame o) (e m b (eviction.Refused why loose nodes) v) is
-  with_room n P F Q G p e a b r (won m k id o v again off) = won (on m) (on k) id
-      (p a m answer.NoFrame o) (e m k (eviction.Set id) v) (p k b r again) off
+  with_room n P F Q G p e (suc fewer) a b r (won m k id o v again) = won (on m) (on k) id
+      (p a m answer.NoFrame o) (e m k (eviction.Set id) v)
+      (with_room n P F Q G p e fewer k b r again)
 
   where_it_is : (P F : Holding D → Reply → Holding D → Type 0)
       (L : Holding D → Option Reply → Holding D → Type 0)
@@ -97,12 +99,13 @@ module _ {D E : Type 0} (run : D → List Event → D → Type 0) (shows : D →
       (F : Holding D → Eviction → Holding D → Type 0) (L I : Holding D → Holding D → Type 0)
       (Q : Holding E → Reply → Holding E → Type 0) (G : Holding E → Eviction → Holding E → Type 0)
       (M J : Holding E → Holding E → Type 0) → Maps P Q → MapsLack L M → Maps F G → MapsLack I J
-      → MapsLack (RoomStops P L F I) (RoomStops Q M G J)
-  room_stops P F L I Q G M J p l e i a b (lacks_now o) = lacks_now (l a b o)
-  room_stops P F L I Q G M J p l e i a b (evicting m o v) =
+      → (left : ℕ) → MapsLack (RoomStops P L F I left) (RoomStops Q M G J left)
+  room_stops P F L I Q G M J p l e i left a b (lacks_now o) = lacks_now (l a b o)
+  room_stops P F L I Q G M J p l e i left a b (evicting m o v) =
       evicting (on m) (p a m answer.NoFrame o) (i m b v)
-  room_stops P F L I Q G M J p l e i a b (after m n id o v w) =
-      after (on m) (on n) id (p a m answer.NoFrame o) (e m n (eviction.Set id) v) (l n b w)
+  room_stops P F L I Q G M J p l e i (suc fewer) a b (after m n id o v w) =
+      after (on m) (on n) id (p a m answer.NoFrame o) (e m n (eviction.Set id) v)
+      (room_stops P F L I Q G M J p l e i fewer n b w)
 
   call_lacks : (P F : Holding D → Reply → Holding D → Type 0)
       (S : Holding D → Option Reply → Holding D → Type 0) (L I : Holding D → Holding D → Type 0)
@@ -131,13 +134,13 @@ module _ {D E : Type 0} (run : D → List Event → D → Type 0) (shows : D →
 
   brings : (c : Config) (h : ℕ) → Maps (Brings run shows c h) (Brings run' shows' c h)
   brings c h = with_room c.frames (Swaps run shows h) (WinsRoom run shows c) (Swaps run' shows' h)
-      (WinsRoom run' shows' c) (swaps h) (wins c)
+      (WinsRoom run' shows' c) (swaps h) (wins c) most_evictions
 
   bring_lacks : (c : Config) (h : ℕ) → MapsLack (BringLacks run shows c h)
       (BringLacks run' shows' c h)
   bring_lacks c h = room_stops (Swaps run shows h) (WinsRoom run shows c) (SwapLacks run h)
       (EvictLacks run shows) (Swaps run' shows' h) (WinsRoom run' shows' c) (SwapLacks run' h)
-      (EvictLacks run' shows') (swaps h) (swap_lacks h) (wins c) evict_lacks
+      (EvictLacks run' shows') (swaps h) (swap_lacks h) (wins c) evict_lacks most_evictions
 
   makes : (c : Config) (bytes : List ℕ) → Maps (Makes run shows c bytes) (Makes run' shows' c bytes)
   makes c bytes a b r p = performs a.desk b.desk a.far _ _ _ p
@@ -172,7 +175,8 @@ module _ {D E : Type 0} (run : D → List Event → D → Type 0) (shows : D →
   does : (c : Config) (job : Job) → IsNoRead job
       → Maps (Does run shows reads c job) (Does run' shows' reads' c job)
   does c (Make bytes) other a b r x = with_room c.frames (Makes run shows c bytes) (WinsRoom run shows c)
-      (Makes run' shows' c bytes) (WinsRoom run' shows' c) (makes c bytes) (wins c) a b r x
+      (Makes run' shows' c bytes) (WinsRoom run' shows' c) (makes c bytes) (wins c)
+      most_evictions a b r x
   does c (Read handle) other a b r x = absurd other
   does c (Write handle at bytes) other a b r x =
       where_it_is (WritesObject run shows handle.n at bytes)
@@ -201,7 +205,7 @@ module _ {D E : Type 0} (run : D → List Event → D → Type 0) (shows : D →
   stops c (Make bytes) other a b x = room_stops (Makes run shows c bytes) (WinsRoom run shows c)
       (MakeLacks run c bytes) (EvictLacks run shows) (Makes run' shows' c bytes)
       (WinsRoom run' shows' c) (MakeLacks run' c bytes) (EvictLacks run' shows') (makes c bytes)
-      (make_lacks c bytes) (wins c) evict_lacks a b x
+      (make_lacks c bytes) (wins c) evict_lacks most_evictions a b x
   stops c (Read handle) other a b x = absurd other
   stops c (Write handle at bytes) other a b x =
       call_lacks (WritesObject run shows handle.n at bytes)

@@ -153,7 +153,7 @@ bring-requires-clause-configured g c =
 
 pub bring-requires-clause-counts : goal.bring-requires-clause-counts
 bring-requires-clause-counts g c =
-    subst (λ (f : FarState). (f.counts.sets < 2 ^ 62) × (f.counts.keys < 2 ^ 62))
+    subst (λ (f : FarState). (f.counts.sets + 2 ^ 18 < 2 ^ 62) × (f.counts.keys + 2 ^ 18 < 2 ^ 62))
     (sym c.in_ok-reply.ensures.far) c.requires.counts
 
 pub bring-requires-clause-given : goal.bring-requires-clause-given
