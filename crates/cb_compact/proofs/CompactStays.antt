@@ -1,5 +1,5 @@
 -- What the steps of a pair leave of the configured sizes and codes, and of what is counted.
-use Rattle.std.proofs.Common.{◌≡◌, ℕ, true, List, Option, None, Some, refl, sym, ◌∙◌, subst, arith, inl, inr, length-set}
+use Rattle.std.proofs.Common.{ℕ, true, List, Option, None, refl, sym, ◌∙◌, subst, arith, inl, inr, length-set}
 use Rattle.std.specs.FinMap as map
 use Rattle.cb_member.specs.declared.names.Shard.{Shard}
 use Rattle.cb_node.specs.NodesState.{NodesState}

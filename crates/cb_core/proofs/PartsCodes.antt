@@ -1,12 +1,11 @@
 -- No job makes another code: what its parts leave of the codes of the far state, at the still desk.
-use Rattle.std.proofs.Common.{◌≡◌, ◌⊎◌, ℕ, Option, refl, sym, ap, ◌∙◌, subst, arith, inl, inr}
+use Rattle.std.proofs.Common.{◌⊎◌, ℕ, List, refl, sym, ap, subst, arith, inl, inr}
 use Rattle.cb_ptr.specs.Word.{state_of}
 use Rattle.cb_types.specs.declared.config.Config.{Config}
 use Rattle.cb_types.specs.declared.job.Job.{Job}
 use Rattle.cb_types.specs.declared.job.Job.TheVariants.{Free, Filter, Evict, Begin, Ship, Commit, Abort, Pair, Patch, Merge, Part, Compact, Rebuild, Crash, Join}
 use Rattle.cb_types.specs.declared.reply.Reply.{Reply}
 use Rattle.cb_world.specs.declared.shown.Shown.{Shown}
-use Rattle.cb_world.specs.FarState.{FarState}
 use Rattle.cb_world.specs.KeepCodes.{KeepCodes}
 use Rattle.cb_world.specs.Plain.{Words}
 use Rattle.cb_world.specs.Sound.{Sound}

@@ -18,7 +18,7 @@ use Rattle.cb_world.specs.Sound.{Sound}
 use Rattle.cb_core.specs.Turned.{counted}
 use Rattle.cb_world.specs.declared.homes.Home.{Home}
 use Rattle.cb_world.specs.Written.{Writes, entry, gone}
-use Rattle.cb_world.proofs.Laws.{counted_holds, empty_world_sound, recounted}
+use Rattle.cb_world.proofs.Laws.{codes_stay, counted_holds, empty_world_sound, recounted}
 use Rattle.cb_core.specs.Parts.{Holding}
 use Rattle.cb_mutate.specs.JobWrites.{TurnWrites}
 use Rattle.cb_core.specs.TurnLeaves.{IsOneTurnOn, TurnLeaves}

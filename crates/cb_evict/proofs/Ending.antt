@@ -9,7 +9,6 @@ use Rattle.cb_gf256.specs.InRange.{IsInRange}
 use Rattle.cb_gf256.specs.Rows.{row_at, HoldBytes}
 use Rattle.cb_member.specs.declared.names.Shard.{Shard}
 use Rattle.cb_span.specs.Contents.{Contents}
-use Rattle.cb_types.specs.declared.config.Config.{Config}
 use Rattle.cb_world.specs.declared.entry.Entry.{Entry}
 use Rattle.cb_world.specs.declared.event.Event.{Event}
 use Rattle.cb_world.specs.declared.homes.Home.{Home}

@@ -1,6 +1,6 @@
 -- An eviction and the steps of a batch make no other code: what their steps of a still desk leave of
 -- the codes of the far state.
-use Rattle.std.proofs.Common.{◌≡◌, ℕ, List, take, inl, inr}
+use Rattle.std.proofs.Common.{ℕ, List, take, inl, inr}
 use Rattle.std.proofs.lemmas.List.{length-take-le}
 use Rattle.cb_types.specs.declared.reply.Reply.{Reply}
 use Rattle.cb_world.specs.declared.shown.Shown.{Shown}

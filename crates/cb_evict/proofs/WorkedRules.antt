@@ -44,7 +44,7 @@ use Rattle.cb_evict.proofs.NewSet.{set_added_in}
 use Rattle.cb_evict.proofs.WorkedBegin.{former, second}
 use Rattle.cb_evict.proofs.WorkedEnds.{are_restored, batch, both_put, claimed, hot, is_committed, is_given_up, leaving, none_of_one, noted, one_put, restored}
 use Rattle.cb_evict.proofs.Options.{none_some, some_same}
-use Rattle.cb_evict.proofs.SmallWorlds.{away, calm, far_with, first_object, heads, homes, is_word, only_first, only_object, only_second, pair, pinned, row, row_words, settings, span_with}
+use Rattle.cb_evict.proofs.SmallWorlds.{away, calm, far_with, first_object, heads, homes, is_word, only_first, only_object, only_second, pair, pinned, row, row_words, span_with}
 
 -- ---- objects of the batch alone are settled by a commit and by an abort
 of_batch : (shards : List (Option Shard)) → IsOfBatch (leaving shards) 0

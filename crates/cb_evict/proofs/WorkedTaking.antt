@@ -33,7 +33,7 @@ use Rattle.cb_evict.proofs.BeginSound.{reserved_kept}
 use Rattle.cb_evict.proofs.Composed.{looks_tried}
 use Rattle.cb_evict.proofs.Loose.{held_alone}
 use Rattle.cb_evict.proofs.Options.{none_some}
-use Rattle.cb_evict.proofs.SmallWorlds.{calm, first_object, heads, lone, one_node, only_first, only_second, pair, pinned, settings, two_nodes}
+use Rattle.cb_evict.proofs.SmallWorlds.{calm, first_object, heads, lone, one_node, only_first, only_second, pair, pinned, two_nodes}
 use Rattle.cb_evict.proofs.WorkedBegin.{former, of_first}
 
 not_one : (n : ℕ) → suc n ≡ 0 → ⊥

@@ -7,7 +7,7 @@ use Rattle.cb_member.specs.declared.names.Code.{Code}
 use Rattle.cb_member.specs.declared.names.Shard.{Shard}
 use Rattle.cb_node.specs.NodesState.{NodesState, empty_nodes, held, with_row}
 use Rattle.cb_set.specs.SetState.{SetState, code_of, set_of}
-use Rattle.cb_world.specs.Codes.{HaveCodes, IsConfiguredCode, IsPairOfCode}
+use Rattle.cb_world.specs.Codes.{HaveCodes, IsPairOfCode}
 use Rattle.cb_world.specs.FarSound.{AreShardRows}
 use Rattle.cb_world.specs.FarState.{FarState}
 use Rattle.cb_world.specs.Joining.{JoiningState}

@@ -10,7 +10,6 @@ use Rattle.cb_world.specs.Sound.{Sound}
 use Rattle.cb_world.specs.Still.{IsStill}
 use Rattle.cb_world.specs.World.{IsConfigured}
 use Rattle.cb_evict.specs.declared.eviction.Eviction.TheVariants.{Refused}
-use Rattle.cb_evict.specs.Beginning.{BeginsClaimed}
 use Rattle.cb_evict.specs.Evicting.{TouchesSpans}
 use Rattle.cb_evict.specs.Taking.{AreLooseNow, Takes}
 use Rattle.cb_evict.proofs.BeginParts.{begin_few, takes_begin}

@@ -1,14 +1,13 @@
 use Rattle.std.proofs.lemmas.Result.{IfOk-from_err}
 use Rattle.std.proofs.lemmas.List.{append-nil}
-use Rattle.std.proofs.Common.{◌≢◌, ℕ, List, All, sym, subst, ◌∙◌}
+use Rattle.std.proofs.Common.{◌≢◌, ℕ, List, All, sym, subst}
 use Rattle.std.specs.List.{Contains, AllPairs}
 use Rattle.cb_world.specs.declared.event.Event.{Event}
 use Rattle.cb_world.specs.declared.shown.Shown.{Shown}
 use Rattle.cb_world.specs.Played.{played}
 use Rattle.cb_evict.specs.Candidates.{candidates}
-use Rattle.cb_evict.specs.declared.taking.Taken.TheVariants.{Few}
 use Rattle.cb_evict.specs.Finding.{FindsSpans}
-use Rattle.cb_evict.specs.Taking.{AreLooseNow, AreLooseStill, Takes}
+use Rattle.cb_evict.specs.Taking.{AreLooseStill, Takes}
 use Rattle.cb_evict.proofs.Composed.{any_err, found_loose, if_map, looked_fails, looked_takes, loose_apart, nothing_done, on_err}
 use Rattle.cb_evict.proofs.Loose.{loose_among}
 use Rattle.cb_evict.proofs.Ending.{place_in}
