@@ -2,7 +2,7 @@
 use Rattle.std.proofs.Common.{◌≡◌, ℕ, ◌<◌, ◌≤◌, List, length, inr, sym, ap, subst, arith}
 use Rattle.std.specs.Prelude.{Option, Some}
 use Rattle.std.specs.Option.{option_map}
-use Rattle.cb_types.specs.Config.{IsAccepted}
+use Rattle.cb_types.specs.Config.{IsAccepted, most_bytes}
 use Rattle.cb_types.specs.declared.config.Config.{Config}
 use Rattle.cb_types.specs.declared.config.Field.TheVariants.{Nodes}
 use Rattle.cb_world.specs.World.{WorldState, IsSoundWorld, empty_world}
@@ -52,7 +52,7 @@ join_byte c verb a bytes is ok may = omega (arith, join_small c verb a bytes is 
 pub record Comes (verb : Verb) (a : CarbinkEvent) (bytes : List ℕ) (w : WorldState) (room : List ℕ) : Type 0 where
   pub asked : IsAsked verb a
   pub may : IsEvent w.desk.settings (event_by verb a bytes)
-  pub large : 1024 ≤ length room
+  pub large : most_bytes ≤ length room
 
 pub event_ended : (verb : Verb) (a : CarbinkEvent) (bytes : List ℕ) (w v : WorldState) (old new : Place) (e : Event) (outcome : Outcome)
     → Comes verb a bytes w old.room → e ≡ event_by verb a bytes → AnswerEnds e w v old new outcome → EventEnds a bytes w v old new outcome

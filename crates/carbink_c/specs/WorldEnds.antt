@@ -1,6 +1,6 @@
 -- How the calls on a world end, and what each leaves.
 use Rattle.std.specs.Prelude.{◌≡◌, ◌⊎◌, ℕ, ◌<◌, ◌≤◌, List, ◌++◌, length, drop, Option, None, Some, IsSome}
-use Rattle.cb_types.specs.Config.{IsAccepted, IsFirstOutOfRange}
+use Rattle.cb_types.specs.Config.{IsAccepted, IsFirstOutOfRange, most_bytes}
 use Rattle.cb_types.specs.declared.config.Config.{Config}
 use Rattle.cb_types.specs.declared.reply.Reply.{Reply}
 use Rattle.cb_world.specs.World.{WorldState, empty_world}
@@ -78,7 +78,7 @@ abbrev pub IsAsked : Verb → CarbinkEvent → Type 0
 IsAsked verb a = (a.verb ≡ verb_number verb) × (a.seat < 64)
 
 -- An event with these numbers and bytes: a verb that there is none of, a seat that there is none of,
--- an argument that the verb does not take and a room of fewer than 1,024 bytes are told, the first of
+-- an argument that the verb does not take and a room of fewer bytes than an object may have are told, the first of
 -- them, and nothing changes. Else the event may come.
 abbrev pub EventEnds : CarbinkEvent → List ℕ → WorldState → WorldState → Place → Place → Outcome
     → Type 0
@@ -89,13 +89,13 @@ EventEnds a bytes w v old new BadSeat =
 EventEnds a bytes w v old new BadArgument = ((verb : Verb) × IsAsked verb a
     × ¬ (IsEvent w.desk.settings (event_by verb a bytes))) × (v ≡ w) × (new ≡ old)
 EventEnds a bytes w v old new BadBuffer = ((verb : Verb) × IsAsked verb a
-    × IsEvent w.desk.settings (event_by verb a bytes)) × (length old.room < 1024) × (v ≡ w)
+    × IsEvent w.desk.settings (event_by verb a bytes)) × (length old.room < most_bytes) × (v ≡ w)
     × (new ≡ old)
 EventEnds a bytes w v old new NoMemory = (verb : Verb) × IsAsked verb a
-    × IsEvent w.desk.settings (event_by verb a bytes) × (1024 ≤ length old.room)
+    × IsEvent w.desk.settings (event_by verb a bytes) × (most_bytes ≤ length old.room)
     × (((v ≡ w) × (new ≡ old)) ⊎ AnswerEnds (event_by verb a bytes) w v old new NoMemory)
 EventEnds a bytes w v old new outcome = (verb : Verb) × IsAsked verb a
-    × IsEvent w.desk.settings (event_by verb a bytes) × (1024 ≤ length old.room)
+    × IsEvent w.desk.settings (event_by verb a bytes) × (most_bytes ≤ length old.room)
     × AnswerEnds (event_by verb a bytes) w v old new outcome
 
 -- a handle without a world is told before all else

@@ -10,11 +10,8 @@ ghost use Rattle.carbink_c.specs.Asked.{event_by};
 use crate::event::{CarbinkEvent, Verb};
 use cb_core::{Atomic, Event};
 use cb_member::NodeId;
-use cb_types::{Bytes, Config, Handle, Job, NoMemory};
+use cb_types::{Bytes, Config, Handle, Job, MOST_BYTES, NoMemory};
 use std::alloc::Global;
-
-/// The most bytes of an object.
-const MOST_BYTES: usize = 1024;
 
 /// Whether the event may come that the verb asks for with these numbers and so many bytes: its
 /// handle, its node or its bytes are as the verb may have them.
@@ -23,7 +20,7 @@ pub(crate) fn may_come(config: &Config, verb: Verb, asked: &CarbinkEvent, bytes:
     ensures { IsTrue result ↔ IsEvent config.now (event_by verb asked.now bytes.now) }
 {
     match verb {
-        Verb::Make => 0 < bytes.len() && bytes.len() <= MOST_BYTES,
+        Verb::Make => 0 < bytes.len() && bytes.len() <= MOST_BYTES as usize,
         Verb::Crash | Verb::Join => asked.node < config.nodes,
         Verb::Read | Verb::Write | Verb::Free | Verb::Swap | Verb::Filter => {
             asked.handle < config.handles

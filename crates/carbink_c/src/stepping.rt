@@ -1,4 +1,5 @@
 ghost use Rattle.std.specs.Prelude.{◌≡◌, ◌≤◌, length};
+ghost use Rattle.cb_types.specs.Config.{most_bytes};
 ghost use Rattle.cb_core.specs.Events.{IsEvent};
 ghost use Rattle.cb_world.specs.World.{IsSoundWorld};
 ghost use Rattle.carbink_c.specs.Asked.{event_by};
@@ -13,12 +14,12 @@ use crate::outcome::Outcome;
 use crate::reply::{CarbinkReply, told};
 use crate::telling::put_bytes;
 use cb_core::{Event, step};
-use cb_types::{Config, NoMemory};
+use cb_types::{Config, MOST_BYTES, NoMemory};
 use cb_world::{Desk, World};
 use std::alloc::Global;
 
 /// The fewest bytes of a caller's buffer: as many as an object has at the most.
-const BUFFER_BYTES: usize = 1024;
+const BUFFER_BYTES: usize = MOST_BYTES as usize;
 
 /// One event on the world: what it is answered, with its bytes at the front of `room`.
 ///
@@ -119,7 +120,7 @@ fn come(
     requires settings { config.now ≡ world.old.desk.settings }
     requires asked { IsAsked verb asked.now }
     requires may { IsEvent config.now (event_by verb asked.now bytes.now) }
-    requires large { 1024 ≤ length room.old }
+    requires large { most_bytes ≤ length room.old }
     ensures ends { EventEnds asked.now bytes.now world.old world.new
         (record { reply = reply.old; room = room.old })
         (record { reply = reply.new; room = room.new }) result }
