@@ -127,9 +127,9 @@ pub lost_at-shard : (m : Membership) (shards : List Shard) (p : ℕ) (shard : Sh
 lost_at-shard m shards p shard at = ap (λ o. option_map_or (is_lost m) o false) at
 
 -- a set stays one
-pub IsSet-fresh_set : (id k : ℕ) (shards : List Shard) → k ≤ length shards
-    → length shards < 2 ^ 32 → IsSet (fresh_set id k shards)
-IsSet-fresh_set id k shards fits small = record {
+pub IsSet-fresh_set : (id k pages : ℕ) (shards : List Shard) → k ≤ length shards
+    → length shards < 2 ^ 32 → IsSet (fresh_set id k pages shards)
+IsSet-fresh_set id k pages shards fits small = record {
   data_first = omega (arith, fits, length-replicate {A = PositionState} k dead_position);
   numbered = small;
 }

@@ -11,7 +11,7 @@ use Rattle.cb_class.specs.Class.{IsClass, slots_of}
 use Rattle.cb_class.proofs.Laws.{slots_at_most}
 use Rattle.cb_span.specs.declared.temp.Temp.{Temp}
 use Rattle.cb_span.specs.Contents.{Contents, IsSpan, handle_at, least_empty, live_count, new_span, span_of, with_cleared, with_placed}
-pub use Rattle.cb_span.proofs.Places.{frame_of-slot_place, slot_of-slot_place}
+pub use Rattle.cb_span.proofs.Places.{frame_of-slot_place, frames_apart, same_slot, slot_in-slot_place}
 
 -- an option that holds nothing is None
 none_unless : (o : Option ℕ) → ((x : ℕ) → o ≡ Some x → ⊥) → o ≡ None
