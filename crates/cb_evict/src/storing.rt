@@ -114,7 +114,7 @@ fn make_set(
 {
     let k = frames.len() as u32;
     let r = shards.len() as u32 - k;
-    let mut set = SpanSet::new(alloc, id, k, r, shards)?;
+    let mut set = SpanSet::new(alloc, id, k, r, 1, shards)?;
     fill(&mut set, spans, frames)?;
     Ok(set)
 }

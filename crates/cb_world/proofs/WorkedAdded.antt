@@ -106,7 +106,7 @@ abbrev slots : Option ℕ → List (Option ℕ)
 slots first = first ∷ None ∷ None ∷ None ∷ []
 
 abbrev of : List Shard → PositionState → SetState
-of shards position = set_of 6 shards (position ∷ [])
+of shards position = set_of 6 1 shards (position ∷ [])
 
 abbrev set : SetState
 set = of shards (filled_position (slots (Some 0)))

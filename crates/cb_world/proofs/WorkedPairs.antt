@@ -382,7 +382,7 @@ left_by_begin = record {
 }
 
 is_matched : IsMatched (fresh_members 3) a b
-is_matched = record { whole_a = refl; whole_b = refl; apart = apart }
+is_matched = record { whole_a = refl; whole_b = refl; pages = refl; apart = apart }
   where
     apart : (k : ℕ) → live_at a k ≡ true → live_at b k ≡ true → ⊥
     apart zero one two = false_true two

@@ -39,10 +39,10 @@ abbrev pub of : ℕ → PositionState
 of h = filled_position (Some h ∷ [])
 
 abbrev pub a : SetState
-a = set_of 4 (at 0 0 ∷ at 1 1 ∷ at 2 2 ∷ []) (of 0 ∷ dead_position ∷ [])
+a = set_of 4 1 (at 0 0 ∷ at 1 1 ∷ at 2 2 ∷ []) (of 0 ∷ dead_position ∷ [])
 
 abbrev pub b : SetState
-b = set_of 5 (at 0 3 ∷ at 1 4 ∷ at 2 5 ∷ []) (dead_position ∷ of 1 ∷ [])
+b = set_of 5 1 (at 0 3 ∷ at 1 4 ∷ at 2 5 ∷ []) (dead_position ∷ of 1 ∷ [])
 
 -- both new rows were put: that of b's position, and the parity's
 abbrev pub pair : JoiningState
@@ -57,7 +57,7 @@ pair = record {
 
 -- the merged set
 abbrev c : SetState
-c = set_of 6 (at 0 0 ∷ at 1 6 ∷ at 2 7 ∷ []) (of 0 ∷ of 1 ∷ [])
+c = set_of 6 1 (at 0 0 ∷ at 1 6 ∷ at 2 7 ∷ []) (of 0 ∷ of 1 ∷ [])
 
 abbrev pub kept : SetState → Kept
 kept set = record { set = set; committed = true }

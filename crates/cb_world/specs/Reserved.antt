@@ -21,7 +21,7 @@ position_for spans f = filled_position (table_of (span_in spans f))
 
 -- the set of this number of the spans in some frames, each at its place
 abbrev pub set_from : ℕ → List Shard → List (Option Contents) → List ℕ → SetState
-set_from id shards spans frames = set_of id shards (mapped (position_for spans) frames)
+set_from id shards spans frames = set_of id 1 shards (mapped (position_for spans) frames)
 
 -- neither set of the pair that is joining has the number
 abbrev pub IsUnpaired : FarState → ℕ → Type 0
