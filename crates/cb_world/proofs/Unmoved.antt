@@ -1,6 +1,7 @@
 -- What a change of objects that are not far leaves of the far part of the sound world.
 use Rattle.std.proofs.Common.{◌≡◌, ◌⊎◌, ℕ, suc, ◌+◌, ◌-◌, ◌*◌, ◌<◌, ◌≤◌, List, [], ◌∷◌, ◌++◌, Some, Contains, length, get_or, map, sym, refl, ap, ◌∙◌, subst, arith, inl, inr}
 use Rattle.std.specs.FinMap as map
+use Rattle.cb_class.proofs.Laws.{one_page}
 use Rattle.cb_gf256.specs.Rows.{row_at}
 use Rattle.cb_member.specs.declared.names.Shard.{Shard}
 use Rattle.cb_set.specs.SetState.{SetState}
@@ -331,7 +332,8 @@ claimed_kept s t far new sound same objects leaving h len place v words e = by (
           };
           leaves = x.leaves;
           contents = x.contents ∙ sym (in_frame s.memory t.memory x.slot.frame place (words_for len)
-              inside.0 inside.1 (k.words x.slot.frame x.leaves));
+              inside.0 (let one = one_page x.slot.span.class x.slot.fits.in_table in
+              omega (arith, inside.1, one)) (k.words x.slot.frame x.leaves));
         }
 
 -- the world stays sound where no far and no claimed object changed, and the leaving frames are as
