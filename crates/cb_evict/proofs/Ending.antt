@@ -22,7 +22,7 @@ use Rattle.cb_world.specs.FarState.{FarState, handle_in}
 use Rattle.cb_world.specs.LocalSound.{LocalSound}
 use Rattle.cb_world.specs.RowWords.{row_of}
 use Rattle.cb_world.specs.Sound.{Sound}
-use Rattle.cb_world.proofs.Laws.{allowed_append, played_append, written_append, frame_owned}
+use Rattle.cb_world.proofs.Laws.{allowed_append, played_append, written_append, frame_owned, has_pages}
 use Rattle.cb_evict.specs.Candidates.{candidates}
 use Rattle.cb_evict.specs.Beginning.{AreParities}
 use Rattle.cb_evict.specs.Claims.{AreClaimed}
@@ -62,9 +62,12 @@ pub owns_taken : (far : FarState) (frames : List ℕ) (formers : List Former)
     (before : List Event) (s t : Shown) → AreSpansTaken far frames formers → LocalSound s far
     → LocalSound t far → AreClaimed before s t formers → (f : ℕ) → Contains frames f → OwnsFrame t f
 owns_taken far frames formers before s t a sound here claimed f x =
-    frame_owned far t f here (taken_ready far frames formers s a sound f x).within
-    (λ slot h span there named. claimed_held before s t formers claimed h
-    (a.of.all h (f, x, (slot, ap (λ (o : Option Contents). handle_in o slot) there ∙ named))))
+    let r = taken_ready far frames formers s a sound f x in
+    let some = has_pages far f r.span here.frames r.there in λ p inside.
+    frame_owned far t f r.span here r.there
+    (λ slot h named. claimed_held before s t formers claimed h
+    (a.of.all h (f, x, (slot, ap (λ (o : Option Contents). handle_in o slot) r.there ∙ named))))
+    p (inside.0, omega (arith, inside.1, some))
 
 -- ---- the eviction
 -- the parities of a set that is kept

@@ -11,18 +11,20 @@ use Rattle.cb_world.specs.Shown.{IsHeld, object_at}
 use Rattle.cb_world.specs.Memory.{window}
 use Rattle.cb_world.specs.FarState.{FarState, span_in}
 use Rattle.cb_world.specs.LocalSound.{LocalSound}
-use Rattle.cb_world.proofs.Laws.{window_same, frame_spares}
+use Rattle.cb_world.proofs.Laws.{window_same, frame_spares, has_pages}
 use Rattle.cb_evict.specs.Claims.{Keeps, AreClaimed, IsClaimedBy}
 use Rattle.cb_evict.specs.Claiming.{IsOne}
 
--- its words stay while others are claimed
-pub frame_stays : (far : FarState) (s t : Shown) (f : ℕ) → LocalSound s far
-    → ((slot h : ℕ) (span : Contents) → span_in far.spans f ≡ Some span
-    → handle_at span slot ≡ Some h → IsHeld (object_at s h)) → Keeps s t
+-- the words of a span stay while others are claimed
+pub frame_stays : (far : FarState) (s t : Shown) (f : ℕ) (span : Contents) → LocalSound s far
+    → span_in far.spans f ≡ Some span
+    → ((slot h : ℕ) → handle_at span slot ≡ Some h → IsHeld (object_at s h)) → Keeps s t
     → window t.memory (512 * f) 512 ≡ window s.memory (512 * f) 512
-frame_stays far s t f sound held keeps =
+frame_stays far s t f span sound there held keeps =
+    let some = has_pages far f span sound.frames there in
     window_same t.memory s.memory (512 * f) 512 (λ p from to. elim (cases_lt p (length s.memory)) [
-      | inl within ↦ keeps.words p (within, frame_spares far s f p sound held (from, to))
+      | inl within ↦ keeps.words p (within, frame_spares far s f p span sound there held
+          (from, omega (arith, to, some)))
       | inr past ↦ get_or_past t.memory p 0 (omega (arith, past, keeps.memory))
           ∙ sym (get_or_past s.memory p 0 past)
     ])

@@ -29,6 +29,7 @@ use Rattle.cb_world.specs.RowWords.{words_in, row_of}
 use Rattle.cb_world.specs.SetWord.{IsSpanWord}
 use Rattle.cb_world.specs.Sound.{Sound, IsNoted}
 use Rattle.cb_world.specs.StillDesk.{window_length}
+use Rattle.cb_class.proofs.Laws.{one_page}
 use Rattle.cb_world.proofs.Laws.{batch_kept, found_more, noted_by, slot_inside, taken_more, window_at, window_same}
 use Rattle.cb_evict.specs.BeginRule.{new_batch}
 use Rattle.cb_evict.specs.Candidates.{candidates, AreUnique, SpanNames}
@@ -140,9 +141,10 @@ module _ (far : FarState) (frames : List ℕ) (formers : List Former)
       (seat.slot, ap (λ (o : Option Contents). handle_in o seat.slot) seat.there ∙ seat.named)
       named in
       let inside = slot_inside far t h len place d.here seat in
+      let one = one_page seat.span.class seat.fits.in_table in
       small_part t.memory (window t.memory (512 * f) 512) (512 * f) place (words_for len)
       (window_length t.memory (512 * f) 512) (d.small f x) refl
-      (omega (arith, inside.0, frame)) (omega (arith, inside.1, frame))
+      (omega (arith, inside.0, frame)) (omega (arith, inside.1, frame, one))
 
   pub told_one : (events : List Event) → ((k : ℕ) → NoLook k events) → (h : ℕ)
       → IsIn far.spans frames h
@@ -215,8 +217,9 @@ module _ (far : FarState) (frames : List ℕ) (formers : List Former)
   leaving_words : (b : LeavingState) → far.leaving ≡ Some b → (f : ℕ) → Contains b.frames f
       → window t.memory (512 * f) 512 ≡ window s.memory (512 * f) 512
   leaving_words b there f leaves =
-      frame_stays far s t f d.sound.here
-      (λ slot h span at named. let n = (d.sound.noted b there).each f slot h span leaves at named in
+      let held = (d.sound.noted b there).held f leaves in
+      frame_stays far s t f held.0 d.sound.here held.1
+      (λ slot h named. let n = (d.sound.noted b there).each f slot h held.0 leaves held.1 named in
       subst IsHeld (sym n.claimed) tt) d.claimed.keeps
 
   -- ---- the group
@@ -248,7 +251,8 @@ module _ (far : FarState) (frames : List ℕ) (formers : List Former)
           slot = x.slot;
           leaves = x.leaves;
           contents = x.contents ∙ sym (in_frame s.memory t.memory x.slot.frame place (words_for len)
-              inside.0 inside.1 (leaving_words x.batch x.there x.slot.frame x.leaves));
+              inside.0 (let one = one_page x.slot.span.class x.slot.fits.in_table in
+              omega (arith, inside.1, one)) (leaving_words x.batch x.there x.slot.frame x.leaves));
         };
     noted = λ b there. noted_by s t far far b (record {
       spans = λ f leaves. refl;
