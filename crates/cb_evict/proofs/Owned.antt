@@ -23,11 +23,8 @@ pub frame_stays : (far : FarState) (s t : Shown) (f : ℕ) (span : Contents) →
 frame_stays far s t f span sound there held keeps =
     let some = has_pages far f span sound.frames there in
     window_same t.memory s.memory (512 * f) 512 (λ p from to. elim (cases_lt p (length s.memory)) [
-      | inl within ↦ keeps.words p (
-        within,
-        frame_spares far s f p span sound there held
-            (from, omega (arith, to, some)),
-      )
+      | inl within ↦ keeps.words p (within, frame_spares far s f p span sound there held
+          (from, omega (arith, to, some)))
       | inr past ↦ get_or_past t.memory p 0 (omega (arith, past, keeps.memory))
           ∙ sym (get_or_past s.memory p 0 past)
     ])

@@ -7,8 +7,7 @@ use Rattle.cb_world.specs.declared.shown.Shown.{Shown}
 use Rattle.cb_world.specs.Memory.{window, put, words_for}
 use Rattle.cb_world.specs.Shown.{object_at, version_at}
 use Rattle.cb_world.specs.Leaving.{LeavingState}
-use Rattle.cb_span.specs.Contents.{Contents}
-use Rattle.cb_world.specs.FarState.{FarState, span_in}
+use Rattle.cb_world.specs.FarState.{FarState}
 use Rattle.cb_world.specs.Sound.{Sound}
 use Rattle.cb_world.proofs.Windows.{window_same, put_else}
 use Rattle.cb_world.proofs.Apart.{slot_inside}
@@ -36,10 +35,10 @@ pub put_twice_beside : (ms xs ys : List ℕ) (place len : ℕ) → length xs ≡
 put_twice_beside ms xs ys place len count more p beside =
     put_beside (put ms place xs) ys place len more p beside ∙ put_beside ms xs place len count p beside
 
--- where one of two runs ends before the other begins, so it is with a front of n frames of the first
-pub front_apart : (n f p g m : ℕ) → n ≤ p → (f + p ≤ g) ⊎ (g + m ≤ f) → (f + n ≤ g) ⊎ (g + m ≤ f)
-front_apart n f p g m front (inl less) = inl (omega (arith, front, less))
-front_apart n f p g m front (inr more) = inr more
+-- of two runs of frames one ends before the other begins, and so a front of the first does
+pub one_of : (f n g m : ℕ) → 1 ≤ n → (f + n ≤ g) ⊎ (g + m ≤ f) → (f + 1 ≤ g) ⊎ (g + m ≤ f)
+one_of f n g m some (inl less) = inl (omega (arith, some, less))
+one_of f n g m some (inr more) = inr more
 
 -- the words of n frames, none of which is one of the m frames of the object's span
 pub other_run : (ms ns : List ℕ) (place len f n g m : ℕ) → (f + n ≤ g) ⊎ (g + m ≤ f)
@@ -53,22 +52,20 @@ other_run ms ns place len f n g m other start end beside =
     side i (inl less) low high = inl (omega (arith, less, start, high))
     side i (inr more) low high = inr (omega (arith, more, end, low))
 
--- a span that is leaving has other frames than that of an object that is here: a front of n of them
--- has the words that it had
-pub apart_frames : (far : FarState) (s t : Shown) (h len place f n : ℕ) (batch : LeavingState)
+-- a span that is leaving has other frames than that of an object that is here
+pub apart_frames : (far : FarState) (s t : Shown) (h len place f : ℕ) (batch : LeavingState)
     → Sound s far → object_at s h ≡ is.Here len place → KeepsBeside s.memory t.memory place len
     → far.leaving ≡ Some batch → Contains batch.frames f
-    → ((span : Contents) → span_in far.spans f ≡ Some span → n ≤ pages_of span.class)
-    → window t.memory (512 * f) (512 * n) ≡ window s.memory (512 * f) (512 * n)
-apart_frames far s t h len place f n batch sound here beside there leaves front =
+    → window t.memory (512 * f) 512 ≡ window s.memory (512 * f) 512
+apart_frames far s t h len place f batch sound here beside there leaves =
     let c = sound.here.placed.placed h len place (lies s h len place here) in
     let x = slot_inside far s h len place sound.here c in
     let other : f ≢ c.frame = λ e. not_leaving s far batch c.frame c.slot h c.span sound there
     (subst IsAtLarge (sym here) tt) c.there c.named (subst (Contains batch.frames) e leaves) in
     let held = (sound.noted batch there).held f leaves in
-    other_run s.memory t.memory place len f n c.frame (pages_of c.span.class)
-    (front_apart n f (pages_of held.0.class) c.frame (pages_of c.span.class)
-    (front held.0 held.1)
+    other_run s.memory t.memory place len f 1 c.frame (pages_of c.span.class)
+    (one_of f (pages_of held.0.class) c.frame (pages_of c.span.class)
+    (has_pages far f held.0 sound.here.frames held.1)
     (spans_apart far c.frame f c.span held.0 sound.here.frames c.there held.1 other))
     x.0 x.1 beside
 
@@ -77,8 +74,7 @@ pub leaving_beside : (far : FarState) (s t : Shown) (h len place : ℕ) (batch :
     → far.leaving ≡ Some batch → KeepsLeaving s t far far batch
 leaving_beside far s t h len place batch sound here beside there = record {
   spans = λ f leaves. refl;
-  words = λ f leaves. apart_frames far s t h len place f 1 batch sound here beside there leaves
-      (λ span at. has_pages far f span sound.here.frames at);
+  words = λ f leaves. apart_frames far s t h len place f batch sound here beside there leaves;
 }
 
 -- the world stays sound where the words and the version word of one object that is here change

@@ -21,7 +21,6 @@ use Rattle.cb_world.proofs.Apart.{some_same}
 use Rattle.cb_world.proofs.Freed.{freed, sound_freed}
 use Rattle.cb_world.proofs.Closed.{IsSpared, IsSentAway, IsSentOff, sound_closed}
 use Rattle.cb_world.proofs.Kept.{frame_in_range}
-use Rattle.cb_world.proofs.Lying.{has_pages}
 use Rattle.cb_world.proofs.Unmoved.{IsAtLarge, IsNear, not_leaving, sound_near}
 use Rattle.cb_world.proofs.Beside.{KeepsBeside, apart_frames}
 
@@ -199,8 +198,7 @@ sound_gone far s t h len place v c sound here range stamp up x beside =
       spans = λ f leaves.
           get_or-set_other far.spans c.frame f _ None (other batch there f leaves);
       words = λ f leaves.
-          apart_frames far s t h len place f 1 batch sound here beside there leaves
-          (λ span at. has_pages far f span sound.here.frames at);
+          apart_frames far s t h len place f batch sound here beside there leaves;
     })
   where
     mine : object_at t h ≡ is.Empty (v + 1)

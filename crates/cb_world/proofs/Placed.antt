@@ -21,7 +21,7 @@ use Rattle.cb_world.proofs.Apart.{some_same, apart}
 use Rattle.cb_world.proofs.Claimed.{lies, avoids}
 use Rattle.cb_world.proofs.Slots.{IsEmptySlot}
 use Rattle.cb_world.proofs.Unmoved.{IsAtLarge, IsNear, sound_near}
-use Rattle.cb_world.proofs.Beside.{KeepsBeside, front_apart, other_run}
+use Rattle.cb_world.proofs.Beside.{KeepsBeside, one_of, other_run}
 use Rattle.cb_world.proofs.Lying.{frames_as, frames_put, has_pages}
 
 -- the handle counts as made, and every other one as before
@@ -307,7 +307,7 @@ sound_brought far s t slot h len made v sound empty range free off_leaving fits 
           let held = (sound.noted batch there).held f leaves in
           other_run s.memory t.memory (place_in slot) len f 1 slot.frame
           (pages_of slot.span.class)
-          (front_apart 1 f (pages_of held.0.class) slot.frame (pages_of slot.span.class)
+          (one_of f (pages_of held.0.class) slot.frame (pages_of slot.span.class)
           (has_pages far f held.0 sound.here.frames held.1)
           (free.stands.apart f held.0 held.1 (apart_of batch there f leaves)))
           ends.0 ends.1 beside;
