@@ -1,5 +1,5 @@
 -- The words of a row in local memory.
-use Rattle.std.proofs.Common.{◌≡◌, ℕ, zero, suc, ◌+◌, ◌*◌, ◌/◌, ◌^◌, ◌<◌, ◌≤◌, List, [], ◌∷◌, ◌++◌, length, take, drop, get_or, sym, refl, ap, ◌∙◌, arith}
+use Rattle.std.proofs.Common.{◌≡◌, ℕ, zero, suc, ◌+◌, ◌*◌, ◌/◌, ◌^◌, ◌<◌, ◌≤◌, List, [], ◌∷◌, ◌++◌, length, take, drop, get_or, sym, refl, ap, ◌∙◌, arith, length-append}
 use Rattle.std.specs.Int.{to_le_bytes, from_le_bytes, w64}
 use Rattle.std.proofs.lemmas.Nat.{from_le_bytes-to_le_bytes_8}
 use Rattle.std.proofs.lemmas.List.{take_at, drop_at}
@@ -51,7 +51,9 @@ pub row_length : (words : List ℕ) → length (row_of words) ≡ 8 * length wor
 row_length [] = refl
 row_length (w ∷ ws) =
     let e = length-append (to_le_bytes w64 w) (row_of ws) in
-    omega (arith, e, row_length ws, length-to_le_bytes w64 w)
+    let n : length (to_le_bytes w64 w) ≡ 8 = refl in
+    let r = row_length ws in
+    omega (arith, e, n, r)
 
 -- the row that words make has these words and no more
 pub words_in_row : (ws : List ℕ) → ((i : ℕ) → i < length ws → get_or ws i 0 < 2 ^ 64)
