@@ -30,7 +30,8 @@ use Rattle.cb_world.specs.SetAdded.{is_far}
 use Rattle.cb_world.specs.Sets.{SetMap}
 use Rattle.cb_world.specs.SetWord.{IsSpanWord}
 use Rattle.cb_world.specs.Sound.{AreNoted, IsLeaving, IsNoted, Sound}
-use Rattle.cb_world.proofs.Laws.{was_far, slot_inside, some_same, one_slot, batch_given_up_whole, gone_sets}
+use Rattle.cb_class.proofs.Laws.{one_page}
+use Rattle.cb_world.proofs.Laws.{was_far, frames_as, slot_inside, some_same, one_slot, batch_given_up_whole, gone_sets}
 use Rattle.cb_evict.specs.Candidates.{AreUnique}
 use Rattle.cb_evict.specs.Claims.{AreApart, IsNone}
 use Rattle.cb_evict.specs.Looking.{IsIn}
@@ -54,12 +55,7 @@ here_beside s far sets nodes leaving counts x = record {
     made = x.known.made;
     stamped = x.known.stamped;
   };
-  frames = record {
-    sized = x.frames.sized;
-    free = x.frames.free;
-    valid = x.frames.valid;
-    taken = x.frames.taken;
-  };
+  frames = frames_as far _ refl refl x.frames;
   placed = record {
     memory = x.placed.memory;
     placed = x.placed.placed;

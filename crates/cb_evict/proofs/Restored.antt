@@ -46,9 +46,10 @@ restored far es s o p sound claimed here steady touches =
       },
       sound_near s t far far sound here (keeps_all far) (λ h. inl (same h)) (λ b there. record {
         spans = λ f leaves. refl;
-        words = λ f leaves. frame_stays far s t f sound.here
-            (λ slot h span at named.
-            let n = (sound.noted b there).each f slot h span leaves at named in
+        words = λ f leaves. let held = (sound.noted b there).held f leaves in
+            frame_stays far s t f held.0 sound.here held.1
+            (λ slot h named.
+            let n = (sound.noted b there).each f slot h held.0 leaves held.1 named in
             subst IsHeld (sym n.claimed) tt) claimed.keeps;
       }),
     )

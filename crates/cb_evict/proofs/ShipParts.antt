@@ -20,7 +20,7 @@ use Rattle.cb_world.specs.Placed.{leaving_frames}
 use Rattle.cb_world.specs.Played.{played}
 use Rattle.cb_world.specs.RowWords.{row_of}
 use Rattle.cb_world.specs.Sound.{Sound}
-use Rattle.cb_world.proofs.Laws.{batch_owned}
+use Rattle.cb_world.proofs.Laws.{batch_owned, has_pages}
 use Rattle.cb_world.specs.Still.{IsStill}
 use Rattle.cb_evict.specs.Loading.{LiesInFrame, LiesInOne, OnlyLoads, LoadsFrame}
 use Rattle.cb_evict.specs.ShipRule.{IsShardFor, ReadsLeaving, ShipEffect, ShipRule, ShipsRow, with_shipped}
@@ -183,7 +183,10 @@ pub shipped : (runs : List Event → Type 0) (knows : Shown → Type 0) (far new
 shipped runs knows far new batch p shard there least named q =
     let x = are_reads (LiesInOne (leaving_frames far.leaving)) q.events q.reads in
     let of_batch = λ (s : Shown) (k : knows s × Sound s far).
-    q.of_batch s k.0 (batch_owned s far batch k.1 there) in
+    q.of_batch s k.0 (λ f leaves p inside. let held = (k.1.noted batch there).held f leaves in
+    let some = has_pages far f held.0 k.1.here.frames held.1 in
+    batch_owned s far batch k.1 there f held.0 leaves held.1 p
+    (inside.0, omega (arith, inside.1, some))) in
     let ships = λ (row : LeavingState → ℕ → List ℕ)
     (is : new ≡ with_shipped far batch p shard (row batch p)). is_shipped far new batch p shard row there
     least named is in

@@ -522,7 +522,7 @@ not_told_anew a = let e : 7 ≡ 8 = ap (λ (l : List ℕ). get_or l 0 0) (bytes_
 
 -- the set of a far object is gone: it lost its one shard, and has no parity
 abbrev lost_set : SetState
-lost_set = set_of 3 (record { node = numbered 0; incarnation = 0; key = 9 } ∷ [])
+lost_set = set_of 3 1 (record { node = numbered 0; incarnation = 0; key = 9 } ∷ [])
     (filled_position (Some 1 ∷ []) ∷ [])
 
 abbrev with_loss : FarState

@@ -29,7 +29,7 @@ use Rattle.cb_world.specs.Choices.{room_count}
 use Rattle.cb_world.specs.FarSound.{AreAway, AreShardRows, AreSets, Owner, of_set, of_leaving, of_joining, IsShardOf}
 use Rattle.cb_world.specs.FarState.{FarState, handle_in, span_in}
 use Rattle.cb_world.specs.Homes.{home_at}
-use Rattle.cb_world.specs.LocalSound.{AreFrames, AreKnown, ArePlaced, HasSlot, IsStamped, LiesAt, NamesObject}
+use Rattle.cb_world.specs.LocalSound.{AreFrames, AreKnown, ArePlaced, HasSlot, IsStamped, LiesAt, LiesOver, NamesObject}
 use Rattle.cb_world.specs.Memory.{window, words_for}
 use Rattle.cb_world.specs.Plain.{Words}
 use Rattle.cb_world.specs.RowWords.{row_of}
@@ -135,11 +135,40 @@ is_span : IsSpan span
 unfolding slots_of pages_of bytes_of
 is_span = record { in_table = lit< tt; sized = refl }
 
+one_frame : pages_of largest ≡ 1
+unfolding pages_of
+one_frame = refl
+
 are_frames : AreFrames far
-are_frames = record { sized = refl; free = free; valid = valid; taken = taken }
+are_frames = record {
+  sized = refl;
+  within = within;
+  apart = apart;
+  free = free;
+  valid = valid;
+  taken = taken;
+}
   where
-    free : (f : ℕ) → f < 1 → IsFreeFrame far.frames f ↔ (span_in far.spans f ≡ None)
-    free zero below = (λ e. absurd (cc), λ e. absurd (cc))
+    within : (f : ℕ) (x : Contents) → span_in far.spans f ≡ Some x → f + pages_of x.class ≤ 1
+    within zero x e = subst (λ (y : Contents). 0 + pages_of y.class ≤ 1) (some_same span x e)
+        (omega (arith, one_frame))
+    within (suc f) x e = absurd (none_some x e)
+
+    apart : (f g : ℕ) (x y : Contents) → span_in far.spans f ≡ Some x
+        → span_in far.spans g ≡ Some y → f < g → f + pages_of x.class ≤ g
+    apart f zero x y d e less = absurd (omega (arith, less))
+    apart f (suc g) x y d e less = absurd (none_some y e)
+
+    free : (f : ℕ) → f < 1 → IsFreeFrame far.frames f ↔ ¬ ((g : ℕ) × LiesOver far.spans g f)
+    free zero below = (
+      (λ e. absurd (cc)),
+      (λ none. absurd (none (0, record {
+        span = span;
+        there = refl;
+        from = lit≤ tt;
+        to = omega (arith, one_frame);
+      }))),
+    )
     free (suc f) below = absurd (omega (arith, below))
 
     valid : (f : ℕ) (x : Contents) → span_in far.spans f ≡ Some x → IsSpan x

@@ -47,7 +47,7 @@ second = filled_position (Some 1 ∷ None ∷ None ∷ None ∷ [])
 
 -- two data positions and a parity, by the nodes of their shards
 abbrev pub on : ℕ → ℕ → ℕ → SetState
-on a b c = set_of 5 (at a 7 ∷ at b 8 ∷ at c 9 ∷ []) (first ∷ second ∷ [])
+on a b c = set_of 5 1 (at a 7 ∷ at b 8 ∷ at c 9 ∷ []) (first ∷ second ∷ [])
 
 abbrev home : ℕ → ℕ → Home
 home position slot = record { set = 5; position = position; slot = slot }
@@ -142,7 +142,7 @@ abbrev with_set : SetState → SetMap
 with_set rest = map.insert old.sets 5 (record { set = rest; committed = true })
 
 abbrev rest : SetState
-rest = set_of 5 (at 0 7 ∷ at 3 8 ∷ at 1 9 ∷ []) (dead_position ∷ second ∷ [])
+rest = set_of 5 1 (at 0 7 ∷ at 3 8 ∷ at 1 9 ∷ []) (dead_position ∷ second ∷ [])
 
 abbrev span : Temp → Contents
 span temp = span_of class temp first.slots
@@ -268,7 +268,7 @@ counts_a_set x = let e : 7 ≡ 6 = ap (λ (f : FarState). f.counts.sets) x.rest 
 
 -- ---- position 1 follows: no position is live, and the set is dropped with its rows
 abbrev last : SetState
-last = set_of 5 (at 0 7 ∷ at 3 8 ∷ at 1 9 ∷ []) (dead_position ∷ dead_position ∷ [])
+last = set_of 5 1 (at 0 7 ∷ at 3 8 ∷ at 1 9 ∷ []) (dead_position ∷ dead_position ∷ [])
 
 sets_then : sets_left new.sets 5 last ≡ map.remove new.sets 5
 sets_then = refl

@@ -4,6 +4,8 @@ mod FrameRuns
 mod Dropping
 mod Homing
 pub mod Grasping
+pub mod Lying
+mod Holding
 pub mod Windows
 pub mod Tracing
 pub mod Exact

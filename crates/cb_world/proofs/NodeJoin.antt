@@ -32,6 +32,7 @@ use Rattle.cb_world.specs.Sound.{AreNoted, IsLeaving}
 use Rattle.std.specs.Prelude.{nat_lt}
 use Rattle.cb_world.proofs.Whole.{crash_whole}
 use Rattle.cb_world.proofs.Joined.{pair_kept}
+use Rattle.cb_world.proofs.Lying.{frames_as}
 use Rattle.cb_world.proofs.Reserving.{noted_by}
 use Rattle.cb_world.proofs.Surveying.{stands_joined, survey_stays}
 
@@ -177,12 +178,7 @@ local_stays s far new first made frames spans x = record {
     stamped = x.known.stamped;
     bounded = rw made x.known.bounded;
   };
-  frames = rw (frames, spans) (record {
-    sized = x.frames.sized;
-    free = x.frames.free;
-    valid = x.frames.valid;
-    taken = x.frames.taken;
-  });
+  frames = frames_as far new frames spans x.frames;
   placed = rw spans (record {
     memory = x.placed.memory;
     placed = x.placed.placed;

@@ -1,9 +1,10 @@
-use Rattle.std.proofs.Common.{◌<◌, ◌++◌, length, get_or, All, sym, ap, ◌∙◌, subst, arith}
-use Rattle.cb_frame.specs.FreeFrames.{IsFreeFrame}
+use Rattle.std.proofs.Common.{◌++◌, length, refl, get_or, All, sym, ap, ◌∙◌, subst, arith}
 use Rattle.cb_types.specs.declared.config.Config.{Config}
 use Rattle.cb_world.specs.declared.shown.Shown.{Shown}
 use Rattle.cb_world.specs.Played.{played}
 use Rattle.cb_world.specs.FarState.{FarState, span_in}
+use Rattle.cb_world.specs.LocalSound.{AreFrames}
+use Rattle.cb_world.proofs.Laws.{frames_as}
 use Rattle.cb_evict.specs.Candidates.{AreUnique}
 use Rattle.cb_evict.specs.Loading.{LiesInOne}
 use Rattle.cb_evict.proofs.Events.{are_reads}
@@ -112,23 +113,11 @@ close_spans-requires-clause-unique g c =
 pub close_spans-requires-clause-apart : goal.close_spans-requires-clause-apart
 close_spans-requires-clause-apart g c = c.requires.taken.apart
 
-pub close_spans-requires-clause-within : goal.close_spans-requires-clause-within
-close_spans-requires-clause-within g c =
+pub close_spans-requires-clause-owned : goal.close_spans-requires-clause-owned
+close_spans-requires-clause-owned g c =
     let kept = c.in-Ok.ensures.kept.kept in
-    subst (λ (y : FarState). All (λ f. (f < length y.frames) × (f < length y.spans)) c.args.frames.now)
-    (sym kept.state) (λ k d l.
-    let x = taken_ready c.args.far.now c.args.frames.now c.args.formers.now c.requires.ready.1
-    c.requires.taken c.requires.ready.2.sound.here (get_or c.args.frames.now k d)
-    (place_in c.args.frames.now k d l) in (x.counted, x.within))
-
-pub close_spans-requires-clause-busy : goal.close_spans-requires-clause-busy
-close_spans-requires-clause-busy g c =
-    let kept = c.in-Ok.ensures.kept.kept in
-    subst (λ (y : FarState). All (λ f. ¬ (IsFreeFrame y.frames f)) c.args.frames.now)
-    (sym kept.state) (λ k d l.
-    (taken_ready c.args.far.now c.args.frames.now c.args.formers.now c.requires.ready.1
-    c.requires.taken c.requires.ready.2.sound.here (get_or c.args.frames.now k d)
-    (place_in c.args.frames.now k d l)).busy)
+    subst AreFrames (sym kept.state)
+    (frames_as c.args.far.now _ refl refl c.requires.ready.2.sound.here.frames)
 
 pub close_spans-requires-clause-few : goal.close_spans-requires-clause-few
 close_spans-requires-clause-few g c =
