@@ -24,7 +24,7 @@ use Rattle.cb_world.specs.FrameWords.{OwnsRun}
 use Rattle.cb_world.specs.LocalSound.{LocalSound}
 use Rattle.cb_world.specs.RowWords.{row_of}
 use Rattle.cb_world.specs.Sound.{Sound}
-use Rattle.cb_world.proofs.Laws.{allowed_append, played_append, written_append, frame_owned, has_pages}
+use Rattle.cb_world.proofs.Laws.{allowed_append, played_append, written_append, frame_owned}
 use Rattle.cb_evict.specs.Candidates.{candidates}
 use Rattle.cb_evict.specs.Beginning.{AreParities}
 use Rattle.cb_evict.specs.Claims.{AreClaimed}

@@ -30,7 +30,6 @@ use Rattle.cb_world.specs.SetAdded.{is_far}
 use Rattle.cb_world.specs.Sets.{SetMap}
 use Rattle.cb_world.specs.SetWord.{IsSpanWord}
 use Rattle.cb_world.specs.Sound.{AreNoted, IsLeaving, IsNoted, Sound}
-use Rattle.cb_class.proofs.Laws.{one_page}
 use Rattle.cb_world.proofs.Laws.{was_far, frames_as, slot_inside, some_same, one_slot, batch_given_up_whole, gone_sets}
 use Rattle.cb_evict.specs.Candidates.{AreUnique}
 use Rattle.cb_evict.specs.Claims.{AreApart, IsNone}

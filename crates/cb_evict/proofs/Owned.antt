@@ -12,7 +12,7 @@ use Rattle.cb_world.specs.Shown.{IsHeld, object_at}
 use Rattle.cb_world.specs.Memory.{window}
 use Rattle.cb_world.specs.FarState.{FarState, span_in}
 use Rattle.cb_world.specs.LocalSound.{LocalSound}
-use Rattle.cb_world.proofs.Laws.{window_same, frame_spares, has_pages}
+use Rattle.cb_world.proofs.Laws.{window_same, frame_spares}
 use Rattle.cb_evict.specs.Claims.{Keeps, AreClaimed, IsClaimedBy}
 use Rattle.cb_evict.specs.Claiming.{IsOne}
 

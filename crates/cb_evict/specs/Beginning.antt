@@ -9,7 +9,7 @@ use Rattle.cb_world.specs.declared.leaving.Former.{Former}
 use Rattle.cb_world.specs.declared.shown.Shown.{Shown}
 use Rattle.cb_world.specs.FarState.{FarState}
 use Rattle.cb_world.specs.Reserved.{set_from}
-use Rattle.cb_evict.specs.Loading.{LoadsFrames}
+use Rattle.cb_evict.specs.Loading.{LoadsRuns}
 use Rattle.cb_evict.specs.Evicting.{EndsClaimed}
 use Rattle.cb_evict.specs.BeginRule.{HasBegun, blank_shards}
 use Rattle.cb_evict.specs.BeginEffect.{IsBatchBegun}
