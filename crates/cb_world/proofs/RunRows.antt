@@ -151,6 +151,11 @@ run_read runs f pages page row x all = record {
 }
 
 -- ---- the pages that are stored so far
+pub none_stored : (runs : List Event → Type 0) (f : ℕ) (row : List ℕ) → runs []
+    → runs (stores_from (512 * f) (words_from (512 * 0) row))
+unfolding words_from
+none_stored runs f row none = none
+
 pub page_stored : (runs then_ all : List Event → Type 0) (f page : ℕ) (row : List ℕ)
     → ((es fs : List Event) → runs es → then_ fs → all (es ++ fs))
     → runs (stores_from (512 * f) (words_from (512 * page) row))
