@@ -111,19 +111,22 @@ none_read runs f pages row none long = record {
 }
 
 -- one page more
-pub page_read : (runs then_ all : List Event → Type 0) (f pages page : ℕ) (row new piece rest : List ℕ)
+pub page_read : (runs then_ all : List Event → Type 0) (f pages page k : ℕ) (row new piece : List ℕ)
     → ((es fs : List Event) → runs es → then_ fs → all (es ++ fs))
     → HasRead runs f pages page row → ReadsFrame then_ (f + page) piece → page < pages
-    → new ≡ take (4096 * page) row ++ (piece ++ rest) → length new ≡ length row
+    → k ≡ 4096 → new ≡ take (4096 * page) row ++ (piece ++ drop (4096 * page + k) row)
     → HasRead all f pages (page + 1) new
-page_read runs then_ all f pages page row new piece rest more x y below is long =
-    let front = take (4096 * page) row in
+page_read runs then_ all f pages page k row new piece more x y below wide is =
+    let front = take (4096 * page) row in let rest = drop (4096 * page + k) row in
     let first : length front ≡ 4096 * page =
     length-take-le (4096 * page) row (omega (arith, x.sized, below)) in
     let next : length piece ≡ 4096 = ap length y.made ∙ row_length y.words
     ∙ (let n = y.count in omega (arith, n)) in
     let both : length (front ++ piece) ≡ 4096 * (page + 1) =
-    omega (arith, length-append front piece, first, next) in record {
+    omega (arith, length-append front piece, first, next) in
+    let whole : length new ≡ length row = ap length is ∙ length-append front (piece ++ rest)
+    ∙ (let p = length-append piece rest in let d = length-drop (4096 * page + k) row in
+    omega (arith, p, d, first, next, wide, x.sized, below)) in record {
       words = x.words ++ y.words;
       count = omega (arith, length-append x.words y.words, x.count, y.count);
       small = All-append (λ w. w < 2 ^ 64) x.words y.words x.small y.small;
@@ -136,7 +139,7 @@ page_read runs then_ all f pages page row new piece rest more x y below is long 
           (let n = x.count in let e : 512 * (f + page) ≡ 512 * f + length x.words = omega (arith, n) in e)
           ∙ sym (loads_append (512 * f) x.words y.words))
           (more (loads_from (512 * f) x.words) (loads_from (512 * (f + page)) y.words) x.ran y.ran);
-      sized = long ∙ x.sized;
+      sized = whole ∙ x.sized;
     }
 
 -- all pages
@@ -156,13 +159,14 @@ pub none_stored : (runs : List Event → Type 0) (f : ℕ) (row : List ℕ) → 
 unfolding words_from
 none_stored runs f row none = none
 
-pub page_stored : (runs then_ all : List Event → Type 0) (f page : ℕ) (row : List ℕ)
+pub page_stored : (runs then_ all : List Event → Type 0) (f page k : ℕ) (row : List ℕ)
     → ((es fs : List Event) → runs es → then_ fs → all (es ++ fs))
     → runs (stores_from (512 * f) (words_from (512 * page) row))
-    → then_ (stores_from (512 * (f + page)) (words_in (take 4096 (drop (4096 * page) row))))
+    → k ≡ 4096
+    → then_ (stores_from (512 * (f + page)) (words_in (take k (drop (4096 * page) row))))
     → 4096 * page + 4096 ≤ length row
     → all (stores_from (512 * f) (words_from (512 * (page + 1)) row))
-page_stored runs then_ all f page row more ran next fits =
+page_stored runs then_ all f page k row more ran wide next fits =
     let done = words_from (512 * page) row in
     let piece = words_in (take 4096 (drop (4096 * page) row)) in
     subst all (ap (λ (p : ℕ). stores_from (512 * f) done ++ stores_from p piece)
@@ -170,4 +174,6 @@ page_stored runs then_ all f page row more ran next fits =
     let e : 512 * (f + page) ≡ 512 * f + length done = omega (arith, n) in e)
     ∙ sym (stores_append (512 * f) done piece)
     ∙ ap (stores_from (512 * f)) (sym (words_more row page fits)))
-    (more (stores_from (512 * f) done) (stores_from (512 * (f + page)) piece) ran next)
+    (more (stores_from (512 * f) done) (stores_from (512 * (f + page)) piece) ran
+    (subst (λ (n : ℕ). then_ (stores_from (512 * (f + page))
+    (words_in (take n (drop (4096 * page) row))))) wide next))

@@ -1,5 +1,4 @@
-use Rattle.std.proofs.Common.{◌*◌, List, sym, ap, ◌∙◌, subst, arith}
-use Rattle.cb_world.specs.declared.event.Event.{Event}
+use Rattle.std.proofs.Common.{ℕ, ◌+◌, ◌-◌, ◌*◌, List, ap, ◌∙◌, subst, arith}
 use Rattle.cb_world.specs.FrameWords.{stores_from}
 use Rattle.cb_world.specs.Played.{played}
 use Rattle.cb_world.specs.RowWords.{words_from}
@@ -23,7 +22,19 @@ store_frame-requires-clause-owned g c =
     )
 
 pub loop-page-preserved : goal.loop-page-preserved
-loop-page-preserved g c = ?
+loop-page-preserved g c =
+    let page = c.loop-page.page in let row = c.args.row.now in
+    page_stored (λ es. g.D.Desk.run c.args.desk.now es c.loop-page.desk)
+    (λ es. g.D.Desk.run c.loop-page.desk es c.store_frame.new.desk)
+    (λ es. g.D.Desk.run c.args.desk.now es c.store_frame.new.desk) c.args.frame page
+    (4096 * page + 4096 - 4096 * page) row (λ es fs a b. g.met.D.Desk.more _ _ _ _ _ a b)
+    c.loop-page.invariant (omega arith) c.store_frame.ensures
+    (omega (arith, c.requires.row, c.loop-page-test.true))
 
 pub returns : goal.returns
-returns g c = ?
+returns g c =
+    subst (λ (ws : List ℕ). g.D.Desk.run c.args.desk.now (stores_from (512 * c.args.frame) ws)
+    c.loop-page.desk)
+    (ap (λ (n : ℕ). words_from (512 * n) c.args.row.now)
+    (omega (arith, c.loop-page-test.false, c.loop-page.auto.page-end))
+    ∙ words_whole c.args.row.now c.args.pages c.requires.row) c.loop-page.invariant
