@@ -29,7 +29,7 @@ brought_word len place = word_of (record {
   place = place;
 })
 
--- The objects of these slots are here, each at its slot of the frame, and every other pointer word
+-- The objects of these slots are here, each at its slot of the span at the frame, and every other pointer word
 -- and all version words are as they were. The frame has the words of the row, and every other
 -- memory word is as it was.
 pub record AreBroughtTo (x y : Words) (slots : List (Option ℕ)) (class : Class) (f : ℕ)

@@ -12,7 +12,7 @@ use Rattle.cb_world.specs.Sound.{Sound}
 use Rattle.cb_world.proofs.Windows.{window_same, put_else}
 use Rattle.cb_world.proofs.Apart.{slot_inside}
 use Rattle.cb_world.proofs.Kept.{sound_kept}
-use Rattle.cb_world.proofs.Lying.{has_pages, spans_apart}
+use Rattle.cb_world.proofs.Lying.{spans_apart}
 use Rattle.cb_world.proofs.Claimed.{lies}
 use Rattle.cb_world.proofs.Unmoved.{KeepsLeaving, IsAtLarge, keeps_all, not_leaving, sound_near}
 
@@ -35,11 +35,6 @@ pub put_twice_beside : (ms xs ys : List ℕ) (place len : ℕ) → length xs ≡
 put_twice_beside ms xs ys place len count more p beside =
     put_beside (put ms place xs) ys place len more p beside ∙ put_beside ms xs place len count p beside
 
--- of two runs of frames one ends before the other begins, and so a front of the first does
-pub one_of : (f n g m : ℕ) → 1 ≤ n → (f + n ≤ g) ⊎ (g + m ≤ f) → (f + 1 ≤ g) ⊎ (g + m ≤ f)
-one_of f n g m some (inl less) = inl (omega (arith, some, less))
-one_of f n g m some (inr more) = inr more
-
 -- the words of n frames, none of which is one of the m frames of the object's span
 pub other_run : (ms ns : List ℕ) (place len f n g m : ℕ) → (f + n ≤ g) ⊎ (g + m ≤ f)
     → 512 * g ≤ place → place + words_for len ≤ 512 * (g + m) → KeepsBeside ms ns place len
@@ -56,16 +51,15 @@ other_run ms ns place len f n g m other start end beside =
 pub apart_frames : (far : FarState) (s t : Shown) (h len place f : ℕ) (batch : LeavingState)
     → Sound s far → object_at s h ≡ is.Here len place → KeepsBeside s.memory t.memory place len
     → far.leaving ≡ Some batch → Contains batch.frames f
-    → window t.memory (512 * f) 512 ≡ window s.memory (512 * f) 512
+    → window t.memory (512 * f) (512 * batch.pages) ≡ window s.memory (512 * f) (512 * batch.pages)
 apart_frames far s t h len place f batch sound here beside there leaves =
     let c = sound.here.placed.placed h len place (lies s h len place here) in
     let x = slot_inside far s h len place sound.here c in
     let other : f ≢ c.frame = λ e. not_leaving s far batch c.frame c.slot h c.span sound there
     (subst IsAtLarge (sym here) tt) c.there c.named (subst (Contains batch.frames) e leaves) in
     let held = (sound.noted batch there).held f leaves in
-    other_run s.memory t.memory place len f 1 c.frame (pages_of c.span.class)
-    (one_of f (pages_of held.0.class) c.frame (pages_of c.span.class)
-    (has_pages far f held.0 sound.here.frames held.1)
+    other_run s.memory t.memory place len f batch.pages c.frame (pages_of c.span.class)
+    (subst (λ (n : ℕ). (f + n ≤ c.frame) ⊎ (c.frame + pages_of c.span.class ≤ f)) held.2
     (spans_apart far c.frame f c.span held.0 sound.here.frames c.there held.1 other))
     x.0 x.1 beside
 

@@ -48,7 +48,8 @@ pub use Rattle.cb_world.proofs.Placed.{IsCountedMade, made_counted, may_lie, nex
 pub use Rattle.cb_world.proofs.Reserving.{noted_by, reserved_is_other, reserved_uncommitted}
 pub use Rattle.cb_world.proofs.Rooms.{room_dropped, room_empty, room_left, room_put, room_puts, room_wiped}
 pub use Rattle.cb_world.proofs.RowPut.{HasRowPut, IsNewOr, IsRefilled, IsRenamed, row_put_away, row_put_join, row_put_words}
-pub use Rattle.cb_world.proofs.RowWords.{length_words, row_put, windows_agree, words_of_row}
+pub use Rattle.cb_world.proofs.RowWords.{length_words, row_length, row_put, windows_agree, words_in_row, words_of_row}
+pub use Rattle.cb_world.proofs.RunRows.{loads_append, owned_still, owns_frame, stores_append, words_more}
 pub use Rattle.cb_world.proofs.Seen.{IsSeenFrom, batch_owned, frame_owned, frame_spares, seen_sound}
 pub use Rattle.cb_world.proofs.SetChanging.{drops_more, kept_same, set_there}
 pub use Rattle.cb_world.proofs.SetWalk.{IsFirst, first_from}

@@ -47,6 +47,7 @@ pub mod Counting
 pub mod Surveying
 pub mod Whole
 pub mod RowWords
+pub mod RunRows
 pub mod Apart
 pub mod Kept
 pub mod Freed

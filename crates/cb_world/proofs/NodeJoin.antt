@@ -116,6 +116,7 @@ away_stays s far node sound within down = record {
     shaped = λ id set at. let x = sound.sets.shaped id set at in record {
       range = x.range;
       data_first = x.data_first;
+      pages = x.pages;
       distinct = x.distinct;
       current = λ p shard is. keeps_current far.members node shard within (x.current p shard is);
     };
@@ -150,7 +151,7 @@ pair_stays : (far : FarState) (node : NodeId) (pair : JoiningState)
 pair_stays far node pair within j = pair_kept far (joined_far far node) pair (record {
   more_sets = omega arith;
   more_keys = omega arith;
-  fresh = λ c d f. (c, d, before c d f, λ k fit. fit);
+  fresh = λ c d f. (c, d, before c d f, λ pages k fit. fit);
   a_stay = λ c d f p shard at. refl;
   b_stay = λ c d f p shard at. refl;
   new_stay = λ c d f p shard at. refl;

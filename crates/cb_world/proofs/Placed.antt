@@ -21,8 +21,8 @@ use Rattle.cb_world.proofs.Apart.{some_same, apart}
 use Rattle.cb_world.proofs.Claimed.{lies, avoids}
 use Rattle.cb_world.proofs.Slots.{IsEmptySlot}
 use Rattle.cb_world.proofs.Unmoved.{IsAtLarge, IsNear, sound_near}
-use Rattle.cb_world.proofs.Beside.{KeepsBeside, one_of, other_run}
-use Rattle.cb_world.proofs.Lying.{frames_as, frames_put, has_pages}
+use Rattle.cb_world.proofs.Beside.{KeepsBeside, other_run}
+use Rattle.cb_world.proofs.Lying.{frames_as, frames_put}
 
 -- the handle counts as made, and every other one as before
 pub record IsCountedMade (before after h : ℕ) : Type 0 where
@@ -305,10 +305,9 @@ sound_brought far s t slot h len made v sound empty range free off_leaving fits 
           get_or-set_other far.spans slot.frame f _ None (apart_of batch there f leaves);
       words = λ f leaves. let ends = slot_bounds far slot len free fits in
           let held = (sound.noted batch there).held f leaves in
-          other_run s.memory t.memory (place_in slot) len f 1 slot.frame
+          other_run s.memory t.memory (place_in slot) len f batch.pages slot.frame
           (pages_of slot.span.class)
-          (one_of f (pages_of held.0.class) slot.frame (pages_of slot.span.class)
-          (has_pages far f held.0 sound.here.frames held.1)
+          (subst (λ (n : ℕ). (f + n ≤ slot.frame) ⊎ (slot.frame + pages_of slot.span.class ≤ f)) held.2
           (free.stands.apart f held.0 held.1 (apart_of batch there f leaves)))
           ends.0 ends.1 beside;
     })

@@ -13,7 +13,7 @@ use Rattle.cb_world.specs.Leaving.{LeavingState}
 use Rattle.cb_world.specs.LocalSound.{LocalSound, LiesAt, IsStamped}
 use Rattle.cb_world.specs.Sound.{Sound}
 use Rattle.cb_world.proofs.Apart.{slot_inside, some_same}
-use Rattle.cb_world.proofs.Lying.{has_pages, spans_apart}
+use Rattle.cb_world.proofs.Lying.{spans_apart}
 use Rattle.cb_world.proofs.Windows.{window_same}
 use Rattle.cb_world.proofs.Unmoved.{KeepsLeaving, keeps_all, sound_near}
 
@@ -119,8 +119,7 @@ seen_sound s t far sound x = sound_near s t far far sound here (keeps_all far)
     leaving batch there = record {
       spans = λ f leaves. refl;
       words = λ f leaves. let held = (sound.noted batch there).held f leaves in
-          let some = has_pages far f held.0 sound.here.frames held.1 in
-          window_same t.memory s.memory (512 * f) 512 (λ p from to. x.owned p
+          window_same t.memory s.memory (512 * f) (512 * batch.pages) (λ p from to. x.owned p
           (batch_owned s far batch sound there f held.0 leaves held.1 p
-          (from, omega (arith, to, some))));
+          (from, omega (arith, to, held.2))));
     }

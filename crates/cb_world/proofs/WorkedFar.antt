@@ -108,6 +108,9 @@ still_to_come : ¬ (IsShaped (fresh_members 2)
     (set_of 5 1 (at 0 0 ∷ record { node = node 1; incarnation = 1; key = 1 } ∷ []) (filled ∷ [])))
 still_to_come x = absurd (omega (arith, (x.current 1 _ refl).1))
 
+too_many_pages : ¬ (IsShaped (fresh_members 2) (record set { pages = 5 }))
+too_many_pages x = absurd (let l : 5 ≤ 4 = x.pages in omega (arith, l))
+
 is_shaped : IsShaped (fresh_members 2) set
 is_shaped = record {
   range = record {
@@ -117,6 +120,7 @@ is_shaped = record {
     parities_most = lit≤ tt;
   };
   data_first = lit≤ tt;
+  pages = lit≤ tt;
   distinct = distinct;
   current = current;
 }
@@ -292,7 +296,7 @@ held_by_the_claim = refl
 
 -- the batch that is leaving
 abbrev pub batch : LeavingState
-batch = record { set = 5; frames = []; words = []; parities = []; shards = [] }
+batch = record { set = 5; pages = 1; frames = []; words = []; parities = []; shards = [] }
 
 no_frames_leave : ¬ (IsBatch known (away set) batch)
 no_frames_leave x = absurd (let z : 0 ≡ 4096 = x.word.wide in omega (arith, z))

@@ -55,6 +55,7 @@ abbrev leaving : FarState
 leaving = record far {
   leaving = Some (record {
     set = 0;
+    pages = 1;
     frames = 0 ∷ [];
     words = [];
     parities = [];

@@ -54,6 +54,7 @@ IsCode k r code = (code.k ≡ k) × (code.r ≡ r)
 abbrev leaving : ℕ → ℕ → LeavingState
 leaving frames parities = record {
   set = 5;
+  pages = 1;
   frames = replicate frames 0;
   words = [];
   parities = replicate parities [];

@@ -132,6 +132,7 @@ module _ (others : NodesState) (m : Membership) (id : ℕ) (a b : PositionState)
       parities_most = lit≤ tt;
     };
     data_first = lit≤ tt;
+    pages = lit≤ tt;
     distinct = distinct;
     current = current;
   }
