@@ -5,8 +5,8 @@ use Rattle.cb_world.specs.FarState.{pages_at}
 use Rattle.cb_evict.proofs.Homing.{slots_below, slots_apart, span_few}
 use Rattle.cb_evict.proofs.closing.take_out.Goals as goal
 
-pub pages-requires : goal.pages-requires
-pages-requires c = subst IsClass (sym c.class.ensures.class) c.class.ensures.valid.in_table
+pub pages-count-requires : goal.pages-count-requires
+pages-count-requires c = subst IsClass (sym c.class.ensures.class) c.class.ensures.valid.in_table
 
 pub give_run-requires-clause-in_range : goal.give_run-requires-clause-in_range
 give_run-requires-clause-in_range c =
