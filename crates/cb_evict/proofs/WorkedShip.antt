@@ -80,6 +80,7 @@ but_own = refl
 abbrev batch : List (Option Shard) → LeavingState
 batch shards = record {
   set = 3;
+  pages = 1;
   frames = 2 ∷ [];
   words = [];
   parities = (7 ∷ []) ∷ (9 ∷ []) ∷ [];
