@@ -166,7 +166,7 @@ can_patch = record {
   b_rows = in_b;
 }
   where
-    in_a : (i : ℕ) → i < 1 → StandsAt ground.nodes begun.shards_a rows (get_or (1 ∷ []) i 0)
+    in_a : (i : ℕ) → i < 1 → StandsAt 1 ground.nodes begun.shards_a rows (get_or (1 ∷ []) i 0)
     in_a zero l = record {
       shard = on_node 1;
       at = refl;
@@ -176,7 +176,7 @@ can_patch = record {
     }
     in_a (suc i) l = absurd (omega (arith, l))
 
-    in_b : (i : ℕ) → i < 1 → StandsAt ground.nodes begun.shards_b rows (get_or (1 ∷ []) i 0)
+    in_b : (i : ℕ) → i < 1 → StandsAt 1 ground.nodes begun.shards_b rows (get_or (1 ∷ []) i 0)
     in_b zero l = record {
       shard = on_node 4;
       at = refl;
@@ -190,7 +190,7 @@ not_another_target : patch ground.nodes rows rows (row 0) → ⊥
 not_another_target x = rows_differ (same_Some (row 7) (row 0) (sym (has_row 2 7) ∙ x.target))
 
 not_a_short_one : (nodes : NodesState) → patch nodes rows rows [] → ⊥
-not_a_short_one nodes x = let e : 0 ≡ 4096 = x.wide in omega (arith, e)
+not_a_short_one nodes x = let e : 0 ≡ 4096 * x.pages = x.wide in omega (arith, e)
 
 -- where the word has another row at position 1
 abbrev sevens : List (List ℕ)

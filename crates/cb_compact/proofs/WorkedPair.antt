@@ -21,10 +21,10 @@ dead = record { live = false; slots = [] }
 
 -- a is live at position 0, and b at position 1
 abbrev pub set_a : SetState
-set_a = set_of 0 (on_node 0 ∷ on_node 1 ∷ on_node 2 ∷ []) (live_with 7 ∷ dead ∷ [])
+set_a = set_of 0 1 (on_node 0 ∷ on_node 1 ∷ on_node 2 ∷ []) (live_with 7 ∷ dead ∷ [])
 
 abbrev pub set_b : SetState
-set_b = set_of 1 (on_node 3 ∷ on_node 4 ∷ on_node 5 ∷ []) (dead ∷ live_with 8 ∷ [])
+set_b = set_of 1 1 (on_node 3 ∷ on_node 4 ∷ on_node 5 ∷ []) (dead ∷ live_with 8 ∷ [])
 
 pub live_in_b : live_positions set_b ≡ 1 ∷ []
 live_in_b = refl
