@@ -225,6 +225,7 @@ module _ (s : Shown) (far : FarState) (pair : JoiningState) (a b : SetState)
     shards = λ p. shards_at pair.steps pair.shards_a p ready_steps;
     count = length_shards pair.steps pair.shards_a ready_steps ∙ sym ready_shards;
     positions = length_merged a.positions b.positions ready_data;
+    pages = refl;
     content = chosen_at far.counts.sets pair a b ready_data;
   }
 

@@ -31,7 +31,7 @@ can_join = record {
   b_there = second_of set_a set_b;
   data_count = refl;
   parity_count = refl;
-  matched = record { whole_a = refl; whole_b = refl; apart = a_or_b };
+  matched = record { whole_a = refl; whole_b = refl; pages = refl; apart = a_or_b };
 }
 
 -- neither may be missing
@@ -53,6 +53,13 @@ not_of_fewer_positions x = let e : 1 ≡ 2 = x.data_count in omega (arith, e)
 
 not_of_more_parities : CanJoin (far (two set_a tall) all_up 2 None) 0 1 set_a tall → ⊥
 not_of_more_parities x = let e : 2 ≡ 1 = x.parity_count in omega (arith, e)
+
+-- of spans of two pages
+abbrev longer : SetState
+longer = record set_b { pages = 2 }
+
+not_of_another_length : CanJoin (far (two set_a longer) all_up 2 None) 0 1 set_a longer → ⊥
+not_of_another_length x = let e : 2 ≡ 1 = x.matched.pages in omega (arith, e)
 
 -- live at position 0 as well
 abbrev beside_a : SetState
@@ -92,6 +99,7 @@ b_and_a = record {
   matched = record {
     whole_a = refl;
     whole_b = refl;
+    pages = refl;
     apart = λ p on off. a_or_b p off on;
   };
 }
@@ -118,7 +126,7 @@ first_of_crowd = record {
   b_there = second_of_four set_a set_b set_c set_d;
   data_count = refl;
   parity_count = refl;
-  matched = record { whole_a = refl; whole_b = refl; apart = a_or_b };
+  matched = record { whole_a = refl; whole_b = refl; pages = refl; apart = a_or_b };
 }
 
 -- these two can be joined, and so can the second and the third
@@ -128,7 +136,7 @@ last_of_crowd = record {
   b_there = fourth_of_four set_a set_b set_c set_d;
   data_count = refl;
   parity_count = refl;
-  matched = record { whole_a = refl; whole_b = refl; apart = a_or_b };
+  matched = record { whole_a = refl; whole_b = refl; pages = refl; apart = a_or_b };
 }
 
 later_of_crowd : CanJoin crowd 1 2 set_b set_c
@@ -140,6 +148,7 @@ later_of_crowd = record {
   matched = record {
     whole_a = refl;
     whole_b = refl;
+    pages = refl;
     apart = λ p on off. a_or_b p off on;
   };
 }
