@@ -95,9 +95,7 @@ fn table_of(
 
 /// Whether there is a table of this code and length.
 fn has_table(tables: &[Table], k: u32, r: u32, pages: u32) -> bool {
-    tables
-        .iter()
-        .any(|table| table.k == k && table.r == r && table.pages == pages)
+    tables.iter().any(|table| table.k == k && table.r == r && table.pages == pages)
 }
 
 /// Whether a table costs less than comparing so many candidates each with each: `k` looks for each

@@ -148,7 +148,14 @@ pub(crate) fn next_set(
     requires spans { HasSpans far.now.spans shards.now frames.now }
     ensures set { IfOk result (λ set. set ≡ set_for far.now pages shards.now frames.now) }
 {
-    make_set(far.alloc, next_number(far), pages, shards, &far.spans, frames)
+    make_set(
+        far.alloc,
+        next_number(far),
+        pages,
+        shards,
+        &far.spans,
+        frames,
+    )
 }
 
 /// The parities of some data rows.

@@ -171,8 +171,11 @@ chosen_empty far class temp slot frames known (inr x) =
         slots_at_least class known,
       );
       empty = none slot.number;
-      before = inr (none_at_free far slot.frame frames
-          (run.1 slot.frame (omega arith) (omega (arith, some))), none);
+      before = inr (
+        none_at_free far slot.frame frames
+            (run.1 slot.frame (omega arith) (omega (arith, some))),
+        none,
+      );
       stands = subst (λ (n : ℕ). MayStand far slot.frame n slot.free) pages
           (subst (MayStand far slot.frame (pages_of class)) (sym x.free)
           (stands_where_free far slot.frame (pages_of class) frames some run.0 run.1));

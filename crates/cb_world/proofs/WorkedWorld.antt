@@ -154,12 +154,15 @@ are_frames = record {
     free : (f : ℕ) → f < 2 → IsFreeFrame far.frames f ↔ ¬ ((g : ℕ) × LiesOver far.spans g f)
     free zero below = (
       (λ e. absurd (cc)),
-      (λ none. absurd (none (0, record {
-        span = span;
-        there = refl;
-        from = lit≤ tt;
-        to = omega (arith, one_frame);
-      }))),
+      (λ none. absurd (none (
+        0,
+        record {
+          span = span;
+          there = refl;
+          from = lit≤ tt;
+          to = omega (arith, one_frame);
+        },
+      ))),
     )
     free (suc zero) below = ((λ e over. over_none over.0 over.1), (λ none. refl))
     free (suc (suc f)) below = absurd (omega (arith, below))
@@ -252,12 +255,15 @@ frame_too_many : ¬ (AreFrames (record far { frames = false ∷ true ∷ true �
 frame_too_many x = absurd (let z : 2 ≡ 3 = x.sized in omega (arith, z))
 
 free_with_a_span : ¬ (AreFrames (record far { frames = true ∷ true ∷ [] }))
-free_with_a_span x = (x.free 0 (lit< tt)).0 refl (0, record {
-  span = span;
-  there = refl;
-  from = lit≤ tt;
-  to = omega (arith, one_frame);
-})
+free_with_a_span x = (x.free 0 (lit< tt)).0 refl (
+  0,
+  record {
+    span = span;
+    there = refl;
+    from = lit≤ tt;
+    to = omega (arith, one_frame);
+  },
+)
 
 -- frame 1 is none of the span in frame 0, which has one frame
 taken_without_a_span : ¬ (AreFrames (record far { frames = false ∷ false ∷ [] }))

@@ -131,14 +131,14 @@ give_rows-requires-3-clause-there c =
       (
         w.0,
         stand_along c.give_rows-2.new.nodes pair.shards_a c.deref-5.result.now w.0 places places sa
-          refl
-          (stand_given c.give_rows.new.nodes c.give_rows-2.new.nodes pair.shards_a w.0 places _
-          c.give_rows-2.ensures.nodes
-          (stand_given nodes c.give_rows.new.nodes pair.shards_a w.0 places _
-          c.give_rows.ensures.nodes
-          (parity_stand nodes pair order can places size
-          (λ e l. get_or-take order.r c.parity_positions-parities.result e 0 l
-          ∙ c.parity_positions-parities.ensures.positions e l) can.pages w.0 w.1 w.2))),
+            refl
+            (stand_given c.give_rows.new.nodes c.give_rows-2.new.nodes pair.shards_a w.0 places _
+            c.give_rows-2.ensures.nodes
+            (stand_given nodes c.give_rows.new.nodes pair.shards_a w.0 places _
+            c.give_rows.ensures.nodes
+            (parity_stand nodes pair order can places size
+            (λ e l. get_or-take order.r c.parity_positions-parities.result e 0 l
+            ∙ c.parity_positions-parities.ensures.positions e l) can.pages w.0 w.1 w.2))),
       ),
     )
 
