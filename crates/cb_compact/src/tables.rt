@@ -8,8 +8,9 @@ use crate::candidates::Candidate;
 use cb_types::NoMemory;
 use std::alloc::Global;
 
-/// The table of the candidates of one code and length, with an entry for each set of positions, as the number
-/// that has their bits: it is marked where a candidate's live positions all lie among these.
+/// The table of the candidates of one code and length, with an entry for each set of positions, as
+/// the number that has their bits: it is marked where a candidate's live positions all lie among
+/// these.
 #[derive(Drop)]
 pub(crate) struct Table {
     pub k: u32,
@@ -147,7 +148,8 @@ pub(crate) fn tables_of(alloc: Global, found: &[Candidate]) -> Result<Vec<Table>
     Ok(tables)
 }
 
-/// Whether each candidate of the table's code and length has a live position in common with this one.
+/// Whether each candidate of the table's code and length has a live position in common with this
+/// one.
 fn meets_all(found: &[Candidate], table: &Table, candidate: Candidate) -> bool
     requires table { IsTable found.now table.now }
     requires few { table.now.k ≤ 16 }
@@ -160,8 +162,8 @@ fn meets_all(found: &[Candidate], table: &Table, candidate: Candidate) -> bool
     !table.marks[all - candidate.live as usize]
 }
 
-/// Whether the table of its code and length shows that no candidate matches this one. Where there is no such
-/// table it does not.
+/// Whether the table of its code and length shows that no candidate matches this one. Where there
+/// is no such table it does not.
 pub(crate) fn matches_none(found: &[Candidate], tables: &[Table], place: usize) -> bool
     requires place { place < length found.now }
     requires tables { AreTables found.now tables.now }

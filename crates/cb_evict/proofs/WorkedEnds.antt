@@ -1,5 +1,5 @@
--- Worked examples of the two ends of a leaving batch: values that meet a definition, and for each of
--- its parts one that breaks that part alone.
+-- Worked examples of the two ends of a leaving batch: values that meet a definition, and for each
+-- of its parts one that breaks that part alone.
 use Rattle.std.proofs.Common.{◌≡◌, ℕ, zero, suc, ◌+◌, ◌*◌, ◌≤◌, true, false, List, [], ◌∷◌, length, Option, None, Some, refl, sym, ap, ◌∙◌, subst, lit<, lit≤, arith}
 use Rattle.std.specs.FinMap as map
 use Rattle.std.proofs.lemmas.List.Elements.{All-nil, All-cons}

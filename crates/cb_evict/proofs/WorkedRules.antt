@@ -1,6 +1,6 @@
--- Worked examples of what the events of an eviction, of a begin and of the two ends of a batch may be
--- about, of what the ends write, and of the rows of a begin: what meets each definition, and for each
--- of its parts what breaks that part alone.
+-- Worked examples of what the events of an eviction, of a begin and of the two ends of a batch may
+-- be about, of what the ends write, and of the rows of a begin: what meets each definition, and for
+-- each of its parts what breaks that part alone.
 use Rattle.std.proofs.Common.{◌≡◌, ℕ, zero, suc, ◌+◌, ◌*◌, ◌<◌, true, false, List, [], ◌∷◌, ◌++◌, length, Option, Some, refl, sym, ap, ◌∙◌, subst, lit<, lit≤, arith, inl, inr}
 use Rattle.std.proofs.lemmas.List.Elements.{All-nil, All-cons}
 use Rattle.cb_class.specs.Class.{pages_of, words_of}

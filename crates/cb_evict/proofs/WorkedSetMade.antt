@@ -271,7 +271,8 @@ not_another_number a =
 not_refused : IsSetMade before before pair pair (answer.Set (record { n = 0 })) → ⊥
 not_refused a = not_here a.evicted.sent
 
--- ---- the refusals with both counts: no span is loose and two nodes have room, and one is and one has
+-- ---- the refusals with both counts: no span is loose and two nodes have room, and one is and one
+-- has
 no_spans_told : IsCountedStep busy busy pair pair (Refused Spans 0 2)
 no_spans_told = record { step = no_spans; counts = (refl, sym two_nodes) }
 

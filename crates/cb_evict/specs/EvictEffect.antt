@@ -37,8 +37,8 @@ pub record IsAway (es : List Event) (t : Shown) (h : ℕ) : Type 0 where
   pub object : object_at t h ≡ is.Far (len_of word) version words
   pub cold : hot_at t h ≡ false
 
--- the row of the position where an object that left has its home is that of its span, whose words are
--- as in this memory
+-- the row of the position where an object that left has its home is that of its span, whose words
+-- are as in this memory
 abbrev pub HaveFrameRows : FarState → FarState → List ℕ → Type 0
 HaveFrameRows far new memory = (h f : ℕ) (home : Home) (set : SetState) (shard : Shard)
     → SpanNames far.spans f h → span_in new.spans f ≡ None → home_at new.homes h ≡ Some home

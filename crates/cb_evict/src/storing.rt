@@ -217,9 +217,9 @@ fn store_set(
     }
 }
 
-/// Codes the rows of the spans in these frames, of so many pages each, puts data and parities at the shards' nodes and
-/// keeps the set as committed. Its number and the row keys are drawn. Where there is no memory,
-/// nothing has changed.
+/// Codes the rows of the spans in these frames, of so many pages each, puts data and parities at
+/// the shards' nodes and keeps the set as committed. Its number and the row keys are drawn. Where
+/// there is no memory, nothing has changed.
 pub(crate) fn keep_set(
     far: &mut Far,
     pages: u32,

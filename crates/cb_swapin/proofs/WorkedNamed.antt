@@ -1,5 +1,5 @@
--- Worked examples of slot tables, of the events that bring a span in, and of what they do: what meets
--- each definition, and what breaks one of its parts alone.
+-- Worked examples of slot tables, of the events that bring a span in, and of what they do: what
+-- meets each definition, and what breaks one of its parts alone.
 use Rattle.std.proofs.Common.{◌≡◌, ◌≢◌, ◌⊎◌, ℕ, zero, suc, ◌/◌, Bool, true, false, List, [], ◌∷◌, Option, None, Some, length, get_or, refl, sym, ap, ◌∙◌, arith, inl, inr}
 use Rattle.cb_class.specs.declared.class.Class.{Class}
 use Rattle.cb_class.specs.Class.{words_of, bytes_of}

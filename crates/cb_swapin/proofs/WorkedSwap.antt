@@ -1,5 +1,5 @@
--- Worked examples of a swap-in: what it is answered, and the far state after it, with what breaks one
--- part of that alone.
+-- Worked examples of a swap-in: what it is answered, and the far state after it, with what breaks
+-- one part of that alone.
 use Rattle.std.proofs.Common.{◌≡◌, ℕ, zero, suc, Bool, true, false, ◌≤◌, List, [], ◌∷◌, Option, None, Some, length, get_or, refl, sym, ap, ◌∙◌, arith}
 use Rattle.std.specs.FinMap as map
 use Rattle.std.proofs.lemmas.Option.{none-some, same_Some}

@@ -29,8 +29,8 @@ use Rattle.cb_swapin.specs.SwapStep.{AreBroughtTo, IsSwapped, IsSwapStep, brough
 use Rattle.cb_swapin.proofs.WorkedWord.{is_word, nodes, one_row}
 use Rattle.cb_swapin.proofs.WorkedSwap.{members, first, on, refused, class, set, old, new, swapped, the_one}
 
--- ---- words: of an object of two bytes that is far, of one that came to place 640, and of one that is
--- here and hot with a pin
+-- ---- words: of an object of two bytes that is far, of one that came to place 640, and of one that
+-- is here and hot with a pin
 abbrev away : ℕ
 away = 16385
 
@@ -58,8 +58,8 @@ has_its_length = refl
 has_its_place : place_of came ≡ 640
 has_its_place = refl
 
--- ---- objects 0 and 1 are far, and slot 1 of the position names object 0: it comes into frame 1, of
--- slots of 128 words
+-- ---- objects 0 and 1 are far, and slot 1 of the position names object 0: it comes into frame 1,
+-- of slots of 128 words
 abbrev desk : Config → List ℕ → List ℕ → List ℕ → Words
 desk c words versions memory =
     record { settings = c; words = words; versions = versions; memory = memory }
