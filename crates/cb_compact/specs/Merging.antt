@@ -21,8 +21,8 @@ chosen_position a b p = if live_at b p then position_of b p else position_of a p
 
 -- the set has spans of so many pages, these shards and as many positions as a, and the first n of
 -- them are the merged set's
-pub record IsFilledBelow (id pages : ℕ) (shards : List Shard) (a b : SetState) (n : ℕ) (set : SetState)
-    : Type 0 where
+pub record IsFilledBelow (id pages : ℕ) (shards : List Shard) (a b : SetState) (n : ℕ)
+    (set : SetState) : Type 0 where
   pub name : set.id ≡ id
   pub long : set.pages ≡ pages
   pub shards_are : set.shards ≡ shards

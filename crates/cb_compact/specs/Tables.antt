@@ -22,7 +22,8 @@ AreMarked found k r pages marks = (i : ℕ) (c : Candidate) → slice_get found 
 -- its own
 abbrev pub IsFilled : List Candidate → ℕ → ℕ → ℕ → List Bool → Type 0
 IsFilled found k r pages marks = (i mask : ℕ) (c : Candidate) → slice_get found i ≡ Some c → c.k ≡ k
-    → c.r ≡ r → c.pages ≡ pages → mask < 2 ^ k → AreBitsWithin c.live mask → slice_index_or marks mask false ≡ true
+    → c.r ≡ r → c.pages ≡ pages → mask < 2 ^ k → AreBitsWithin c.live mask
+    → slice_index_or marks mask false ≡ true
 
 -- the table has an entry for each set of positions, and they are filled
 pub record IsTable (found : List Candidate) (table : Table) : Type 0 where

@@ -156,7 +156,8 @@ fn meets_all(found: &[Candidate], table: &Table, candidate: Candidate) -> bool
     requires live { candidate.live < 2 ^ table.now.k }
     requires masks { AreMasks found.now }
     ensures { result ≡ true → (i : ℕ) (d : Candidate) → slice_get found.now i ≡ Some d
-        → d.k ≡ table.now.k → d.r ≡ table.now.r → d.pages ≡ table.now.pages → bit_and candidate.live d.live ≡ 0 → ⊥ }
+        → d.k ≡ table.now.k → d.r ≡ table.now.r → d.pages ≡ table.now.pages
+        → bit_and candidate.live d.live ≡ 0 → ⊥ }
 {
     let all = (1usize << table.k) - 1;
     !table.marks[all - candidate.live as usize]

@@ -95,7 +95,8 @@ pub record HasLooked (far new : FarState) (r : Reply) (es : List Event) : Type 0
   pub found : AreLoose es far.spans (candidates far) loose
   pub answered : HasFewSpans far new r loose ⊎ (HasFewNodes far new r loose
       ⊎ HasBatch far new r loose es)
-  pub touches : TouchesOnly (IsIn far.spans (candidates far)) (LiesInOne far.spans (candidates far)) es
+  pub touches : TouchesOnly (IsIn far.spans (candidates far))
+      (LiesInOne far.spans (candidates far)) es
 
 -- the reply of a begin and the far state after it
 abbrev pub BeginRule : FarState → FarState → Reply → List Event → Type 0

@@ -54,7 +54,8 @@ pub record AreFetched (nodes : NodesState) (pair : JoiningState) (old new : Delt
     pub taken_is : new.taken ≡ pair.taken
     pub k_is : new.k ≡ old.k
     pub r_is : new.r ≡ old.r
-    pub words : (pages : ℕ) (wa wb : List (List ℕ)) → StandTogether nodes pair pages old.k old.r wa wb
+    pub words : (pages : ℕ) (wa wb : List (List ℕ))
+        → StandTogether nodes pair pages old.k old.r wa wb
         → IsOfWords new pages wa wb
 
 -- the joining pair can have an order: the far part is sound, both sets stand as they did at the

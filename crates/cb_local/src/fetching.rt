@@ -37,8 +37,8 @@ fn give_rows(nodes: &mut Nodes, shards: &[Shard], positions: &[u32], table: &mut
     ensures count { length table.new ≡ length positions.now }
     ensures lengths { (pages : ℕ) → HaveLength (4096 * pages) table.old
         → HaveLength (4096 * pages) table.new }
-    ensures rows { (pages : ℕ) (rows : List (List ℕ)) → StandAt pages nodes.old shards.now rows positions.now
-        → (i : ℕ) → i < length positions.now
+    ensures rows { (pages : ℕ) (rows : List (List ℕ)) → StandAt pages nodes.old
+        shards.now rows positions.now → (i : ℕ) → i < length positions.now
         → row_at table.new i ≡ row_at rows (slice_index positions.now i) }
 {
     for (i, position) in positions.iter().enumerate() {
