@@ -326,8 +326,8 @@ set_counted far new id e es is x = record {
 }
 
 -- ---- the claims
--- All spans have one page today, and so those that are claimed have one length. This goes once those
--- of the wanted length alone are claimed.
+-- All spans have one page today, and so those that are claimed have one length. This goes once
+-- those of the wanted length alone are claimed.
 one_length : (c : Class) → IsClass c → pages_of c ≡ 1
 one_length c h =
     let count = slots_of c in let width = words_of c in

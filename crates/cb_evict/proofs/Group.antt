@@ -1,5 +1,5 @@
--- Spans all of whose objects are claimed: what is known of such a group, where the words of its objects
--- lie, and what stays while objects that are not far change.
+-- Spans all of whose objects are claimed: what is known of such a group, where the words of its
+-- objects lie, and what stays while objects that are not far change.
 use Rattle.std.proofs.Common.{◌≡◌, ◌≢◌, ◌⊎◌, ℕ, ◌+◌, ◌*◌, ◌^◌, ◌<◌, ◌≤◌, Bool, List, [], length, get_or, All, Option, None, Some, map as mapped, sym, refl, ap, ◌∙◌, subst, arith, inl, inr}
 use Rattle.std.specs.List.{Contains, AllPairs}
 use Rattle.std.proofs.lemmas.List.{get_or_default, get_or-map, get_or_append_left, length-map}
@@ -152,9 +152,9 @@ noted_still s t batch rest h words same n = record {
 }
 
 -- ---- the group
--- All spans of a batch have its length, and all their objects are claimed at the words that are noted, one of each, and their
--- words stand at their places. Each other claimed object is of a batch that is leaving, which has none
--- of these spans; all else of the far state is sound.
+-- All spans of a batch have its length, and all their objects are claimed at the words that are
+-- noted, one of each, and their words stand at their places. Each other claimed object is of a
+-- batch that is leaving, which has none of these spans; all else of the far state is sound.
 pub record IsGroup (t : Shown) (far : FarState) (batch : LeavingState) : Type 0 where
   pub here : LocalSound t far
   pub away : FarSound t far

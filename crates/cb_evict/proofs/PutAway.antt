@@ -1,5 +1,5 @@
--- A claimed group is put away: its objects are away, its spans are gone, and its rows stand under shards
--- as the set of its number.
+-- A claimed group is put away: its objects are away, its spans are gone, and its rows stand under
+-- shards as the set of its number.
 use Rattle.std.proofs.Common.{◌≡◌, ◌≢◌, ◌⊎◌, ℕ, ◌+◌, ◌*◌, ◌<◌, ◌≤◌, false, List, length, get_or, All, Option, None, Some, sym, refl, ap, ◌∙◌, subst, arith, inl, inr}
 use Rattle.std.specs.List.{Contains, slice_get}
 use Rattle.std.specs.FinMap as map

@@ -32,6 +32,7 @@ use Rattle.cb_world.specs.Homes.{home_at}
 use Rattle.cb_world.specs.LocalSound.{AreFrames, AreKnown, ArePlaced, HasSlot, IsStamped, LiesAt, LiesOver, NamesObject}
 use Rattle.cb_world.specs.Memory.{window, words_for}
 use Rattle.cb_world.specs.Plain.{Words}
+use Rattle.cb_evict.specs.Loading.{pages_in}
 use Rattle.cb_world.specs.RowWords.{row_of}
 use Rattle.cb_world.specs.Sets.{set_in}
 use Rattle.cb_world.specs.SetWord.{IsSpanWord}
@@ -334,7 +335,7 @@ abbrev former : Former
 former = record { handle = 0; word = calm }
 
 abbrev pub after : FarState
-after = with_batch far (0 ∷ []) (former ∷ []) (row ∷ [])
+after = with_batch far 1 (0 ∷ []) (former ∷ []) (row ∷ [])
 
 -- the frame's bytes are zeros
 zeros : row_of (window memory 0 512) ≡ row_of (window [] 0 512)
@@ -374,6 +375,9 @@ held = record {
 
 begun : IsBegunTo (desk calm) (desk (calm + 1)) far after (0 ∷ [])
 begun = record {
+  pages = 1;
+  long = All-cons (λ (f : ℕ). pages_in far.spans f ≡ 1) 0 [] one_frame
+      (All-nil (λ (f : ℕ). pages_in far.spans f ≡ 1));
   words = former ∷ [];
   parities = row ∷ [];
   of = record {
@@ -386,7 +390,7 @@ begun = record {
   noted = All-cons (λ (f : Former). f.word ≡ word_at (desk calm) f.handle) former [] refl
       (All-nil (λ (f : Former). f.word ≡ word_at (desk calm) f.handle));
   count = refl;
-  word = subst (λ (r : List ℕ). IsSpanWord 1 1 (r ∷ row ∷ [])) (sym (zeros ∙ zero_row)) is_word;
+  word = subst (λ (r : List ℕ). IsSpanWord 1 1 1 (r ∷ row ∷ [])) (sym (zeros ∙ zero_row)) is_word;
   state = refl;
   held = held;
 }
@@ -411,7 +415,7 @@ first_word ws e small = let l = subst (λ (l : List ℕ). All (λ w. w < 2 ^ 64)
 
 pub none_known : (t : Shown) → IsKnown (desk (calm + 1)) after t → ⊥
 none_known t k =
-    let noted = (k.sound.noted (new_batch far (0 ∷ []) (former ∷ []) (row ∷ []))
+    let noted = (k.sound.noted (new_batch far 1 (0 ∷ []) (former ∷ []) (row ∷ []))
     refl).each 0 0 0 span (0, lit< tt, refl) refl refl in
     let leaves = k.sound.claimed 0 (len_of noted.former.word) (place_of noted.former.word)
     noted.version noted.words noted.claimed in

@@ -52,10 +52,9 @@ with_batch far pages frames words parities = record far {
   counts = record far.counts { sets = far.counts.sets + 1 };
 }
 
--- The spans in these frames, of one length, are leaving from here: the words that the claims of their objects found
--- are noted, each once, in order of frame and slot, and the parities are those of the rows with the
--- words of their objects.
--- Nothing else of the far state changed.
+-- The spans in these frames, of one length, are leaving from here: the words that the claims of
+-- their objects found are noted, each once, in order of frame and slot, and the parities are those
+-- of the rows with the words of their objects. Nothing else of the far state changed.
 pub record HasBegun (far new : FarState) (frames : List ℕ) (es : List Event)
     : Type 0 where
   pub pages : ℕ
@@ -96,7 +95,8 @@ pub record HasLooked (far new : FarState) (r : Reply) (es : List Event) : Type 0
   pub found : AreLoose es far.spans (candidates far) loose
   pub answered : HasFewSpans far new r loose ⊎ (HasFewNodes far new r loose
       ⊎ HasBatch far new r loose es)
-  pub touches : TouchesOnly (IsIn far.spans (candidates far)) (LiesInOne far.spans (candidates far)) es
+  pub touches : TouchesOnly (IsIn far.spans (candidates far))
+      (LiesInOne far.spans (candidates far)) es
 
 -- the reply of a begin and the far state after it
 abbrev pub BeginRule : FarState → FarState → Reply → List Event → Type 0

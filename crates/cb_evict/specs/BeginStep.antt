@@ -33,9 +33,9 @@ AreSpansClaimed x y far frames = ChangesWords x y
     ((h : ℕ) → IsIn far.spans frames h → Claims (word_at x h) (word_at y h))
     (λ h. ¬ (IsIn far.spans frames h))
 
--- The spans in these frames, of one length, are leaving from here: the words of their objects are noted, each once,
--- in order of frame and slot, and the parities are those of the memory of the frames. Nothing else
--- of the far state changed, and of the words those of the objects alone.
+-- The spans in these frames, of one length, are leaving from here: the words of their objects are
+-- noted, each once, in order of frame and slot, and the parities are those of the memory of the
+-- frames. Nothing else of the far state changed, and of the words those of the objects alone.
 pub record IsBegunTo (x y : Words) (far new : FarState) (frames : List ℕ) : Type 0 where
   pub pages : ℕ
   pub long : AreOfLength far.spans pages frames

@@ -79,4 +79,5 @@ pub record EvictRule (far new : FarState) (r : Reply) (es : List Event) : Type 0
   pub found : AreLoose es far.spans (candidates far) loose
   pub answered : HasFewSpans far new r loose ⊎ (HasFewNodes far new r loose
       ⊎ HasBoth far new r loose es)
-  pub touches : TouchesOnly (IsIn far.spans (candidates far)) (LiesInOne far.spans (candidates far)) es
+  pub touches : TouchesOnly (IsIn far.spans (candidates far))
+      (LiesInOne far.spans (candidates far)) es

@@ -69,10 +69,10 @@ abbrev pub AreFrameRows : Words → ℕ → List ℕ → List (List ℕ) → Typ
 AreFrameRows x pages frames rows = (p f : ℕ) → slice_get frames p ≡ Some f
     → row_at rows p ≡ row_of (window x.memory (512 * f) (512 * pages))
 
--- The spans in these frames, of one length, left as a new set: a code word whose data rows are theirs,
--- with the memory words of the objects, stands at the nodes of the set's shards, the objects' homes
--- are in the set, and the frames are free. Nothing else of the far state changed, and of the words
--- those of the objects alone.
+-- The spans in these frames, of one length, left as a new set: a code word whose data rows are
+-- theirs, with the memory words of the objects, stands at the nodes of the set's shards, the
+-- objects' homes are in the set, and the frames are free. Nothing else of the far state changed,
+-- and of the words those of the objects alone.
 pub record IsEvictedTo (x y : Words) (far new : FarState) (frames : List ℕ) : Type 0 where
   pub pages : ℕ
   pub long : AreOfLength far.spans pages frames

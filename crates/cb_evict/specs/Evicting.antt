@@ -26,7 +26,8 @@ use Rattle.cb_evict.specs.EvictEffect.{IsEvicted}
 
 -- only objects and words of spans that may leave are touched
 abbrev pub TouchesSpans : FarState → List Event → Type 0
-TouchesSpans far es = TouchesOnly (IsIn far.spans (candidates far)) (LiesInOne far.spans (candidates far)) es
+TouchesSpans far es = TouchesOnly (IsIn far.spans (candidates far))
+    (LiesInOne far.spans (candidates far)) es
 
 -- k different spans of one length may leave, and these are their objects, in order
 pub record AreSpansTaken (far : FarState) (frames : List ℕ) (formers : List Former)
@@ -64,7 +65,8 @@ pub record IsEnded (new : FarState) (before es : List Event) (s : Shown)
 abbrev pub EndsClaimed : (List Event → Type 0) → (Shown → Type 0) → FarState → FarState → List ℕ
     → List Former → (List Event → Type 0) → (List Event → Shown → Shown → Type 0) → Type 0
 EndsClaimed runs shows far new frames formers ends does =
-    Settles runs (IsIn far.spans frames) (LiesInOne far.spans frames) (λ es. (before : List Event) (s : Shown)
+    Settles runs (IsIn far.spans frames) (LiesInOne far.spans frames)
+    (λ es. (before : List Event) (s : Shown)
     → IsReadyToEvict shows far formers before s → IsEnded new before es s ends does)
 
 -- claimed spans are evicted

@@ -56,11 +56,12 @@ struct Reserved {
     shards: Vec<Option<Shard>>,
 }
 
-/// Begins to evict k spans, as many as the code in force has data positions: they are leaving from here, as one batch, until a commit or an abort.
-/// Of the spans none of whose objects is pinned or claimed, the first k are taken, the cold ones
-/// before the hot ones and then by frame number. All their objects are claimed and stay in local
-/// memory, the parities of their frames are made, and the number of the set that they will be is
-/// drawn; the memory that its commit needs is taken. No row is put.
+/// Begins to evict k spans, as many as the code in force has data positions: they are leaving from
+/// here, as one batch, until a commit or an abort. Of the spans none of whose objects is pinned or
+/// claimed, the first k are taken, the cold ones before the hot ones and then by frame number. All
+/// their objects are claimed and stay in local memory, the parities of their frames are made, and
+/// the number of the set that they will be is drawn; the memory that its commit needs is taken. No
+/// row is put.
 ///
 /// Answers Leaving where a batch is leaving already, and then looks at nothing; then NoSpans where
 /// fewer than k spans are loose, and then NoNodes where fewer than k + r nodes have room. Every
@@ -198,8 +199,9 @@ fn begin_claimed<D: Desk>(
     }
 }
 
-/// Reads the spans in these frames, of so many pages each, makes the parities of their rows, and keeps the set that they will be under
-/// the next set number. Where there is no memory, the far state has not changed.
+/// Reads the spans in these frames, of so many pages each, makes the parities of their rows, and
+/// keeps the set that they will be under the next set number. Where there is no memory, the far
+/// state has not changed.
 fn reserve_frames<D: Desk>(
     desk: &mut D,
     far: &mut Far,
@@ -234,9 +236,9 @@ fn reserve_frames<D: Desk>(
     Ok(Reserved { parities, shards })
 }
 
-/// Keeps the set that the spans in these frames, of so many pages each, will be under the next set number, with as many
-/// shards as there are blank ones. Answers the parities of their rows. Where there is no memory,
-/// nothing has changed.
+/// Keeps the set that the spans in these frames, of so many pages each, will be under the next set
+/// number, with as many shards as there are blank ones. Answers the parities of their rows. Where
+/// there is no memory, nothing has changed.
 fn reserve(
     far: &mut Far,
     pages: u32,

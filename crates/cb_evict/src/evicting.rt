@@ -28,9 +28,10 @@ use cb_class::PAGE_BYTES;
 use cb_types::{NoMemory, Reply, Rows, SetId};
 use cb_world::{Desk, Far, Former};
 
-/// Evicts k spans at once, as many as the code in force has data positions. Of the spans none of whose objects is pinned or claimed, and which are
-/// not leaving, the first k go, the cold ones before the hot ones and then by frame number: they
-/// are coded together, their rows are put at k + r nodes, and the objects are far.
+/// Evicts k spans at once, as many as the code in force has data positions. Of the spans none of
+/// whose objects is pinned or claimed, and which are not leaving, the first k go, the cold ones
+/// before the hot ones and then by frame number: they are coded together, their rows are put at k
+/// + r nodes, and the objects are far.
 ///
 /// Refuses with NoSpans where fewer than k spans are so, and then with NoNodes where fewer than k +
 /// r nodes have room. A batch that is leaving does not hinder it and stays as it is. Every object
@@ -86,8 +87,8 @@ pub fn evict_counted<D: Desk>(desk: &mut D, far: &mut Far) -> Result<Eviction, N
     }
 }
 
-/// Room for the rows of `k` spans of so many pages, which have any bytes: mostly that of the eviction
-/// before.
+/// Room for the rows of `k` spans of so many pages, which have any bytes: mostly that of the
+/// eviction before.
 fn spare_rows(far: &mut Far, k: u32, pages: u32) -> Result<Rows, NoMemory>
     requires some { 0 < k }
     requires pages { pages ≤ 4 }
@@ -105,9 +106,10 @@ fn keep_rows(far: &mut Far, rows: Rows)
     far.nodes.keep_table(rows);
 }
 
-/// Reads the spans in these frames, of so many pages each, codes their rows and stores them with their parities as the next set: for each
-/// position, in order, at the node with the fewest rows of those that have room and are not taken
-/// yet. Where there is no memory, the far state has not changed.
+/// Reads the spans in these frames, of so many pages each, codes their rows and stores them with
+/// their parities as the next set: for each position, in order, at the node with the fewest rows
+/// of those that have room and are not taken yet. Where there is no memory, the far state has not
+/// changed.
 fn store_frames<D: Desk>(
     desk: &mut D,
     far: &mut Far,

@@ -148,7 +148,14 @@ pub(crate) fn next_set(
     requires spans { HasSpans far.now.spans shards.now frames.now }
     ensures set { IfOk result (λ set. set ≡ set_for far.now pages shards.now frames.now) }
 {
-    make_set(far.alloc, next_number(far), pages, shards, &far.spans, frames)
+    make_set(
+        far.alloc,
+        next_number(far),
+        pages,
+        shards,
+        &far.spans,
+        frames,
+    )
 }
 
 /// The parities of some data rows.
@@ -210,9 +217,9 @@ fn store_set(
     }
 }
 
-/// Codes the rows of the spans in these frames, of so many pages each, puts data and parities at the shards' nodes and
-/// keeps the set as committed. Its number and the row keys are drawn. Where there is no memory,
-/// nothing has changed.
+/// Codes the rows of the spans in these frames, of so many pages each, puts data and parities at
+/// the shards' nodes and keeps the set as committed. Its number and the row keys are drawn. Where
+/// there is no memory, nothing has changed.
 pub(crate) fn keep_set(
     far: &mut Far,
     pages: u32,

@@ -6,7 +6,7 @@ use Rattle.std.specs.Option.{option_map_or}
 use Rattle.cb_gf256.specs.Rows.{row_at}
 use Rattle.cb_member.specs.declared.names.Shard.{Shard}
 use Rattle.cb_member.specs.Membership.{Membership}
-use Rattle.cb_node.specs.NodesState.{NodesState, has, known_row, row_under}
+use Rattle.cb_node.specs.NodesState.{NodesState, has, known_row}
 use Rattle.cb_set.specs.SetState.{SetState}
 use Rattle.cb_set.specs.Lost.{is_lost, lost_at}
 use Rattle.cb_world.specs.declared.homes.Home.{Home}

@@ -81,7 +81,8 @@ only_no_frame far id set = by_answer
     (λ broken e. absurd (no_frame_unavailable (record { n = id }) (lost far.members set.shards) (sym e)))
     (λ whole none e. (whole, none)) (λ f whole least e. absurd (swapped_no_frame f e))
 
--- where the position came into a frame, the set is not broken and that is the first of the least run that fits
+-- where the position came into a frame, the set is not broken and that is the first of the least
+-- run that fits
 pub only_swapped : (far : FarState) (id : ℕ) (set : SetState) (f : ℕ)
     → swap_answer far id set ≡ answer.Swapped f
     → (is_broken far.members set ≡ false) × (least_run far.frames set.pages ≡ Some f)

@@ -4,23 +4,18 @@ use Rattle.std.proofs.lemmas.List.{ext_get_or}
 use Rattle.cb_class.specs.declared.class.Class.{Class}
 use Rattle.cb_class.proofs.Laws.{pages_and_slots_tell_class}
 use Rattle.cb_gf256.specs.Rows.{row_at}
-use Rattle.cb_ptr.specs.Word.{len_of}
 use Rattle.cb_set.specs.SetState.{SetState, position_of}
 use Rattle.cb_span.specs.declared.temp.Temp.TheVariants.{Hot}
-use Rattle.cb_span.specs.Contents.{Contents, span_of}
-use Rattle.cb_span.specs.Places.{slot_place}
+use Rattle.cb_span.specs.Contents.{span_of}
 use Rattle.cb_types.specs.declared.reply.Reply.{Reply}
 use Rattle.cb_types.specs.declared.reply.Reply.TheVariants as answer
 use Rattle.cb_world.specs.declared.homes.Home.{Home}
 use Rattle.cb_world.specs.FarState.{FarState}
-use Rattle.cb_world.specs.Memory.{put}
 use Rattle.cb_world.specs.Plain.{Words}
-use Rattle.cb_world.specs.RowWords.{words_in}
-use Rattle.cb_world.specs.World.{word_at}
 use Rattle.cb_world.proofs.Laws.{set_same, IsOneEnd}
-use Rattle.cb_swapin.specs.Named.{AreCleared, IsNamed}
+use Rattle.cb_swapin.specs.Named.{AreCleared}
 use Rattle.cb_swapin.specs.SwapRule.{IsSwappedTo, swap_answer}
-use Rattle.cb_swapin.specs.SwapStep.{AreBroughtTo, IsSwapped, IsSwapStep, SwapChange, brought_word}
+use Rattle.cb_swapin.specs.SwapStep.{AreBroughtTo, IsSwapped, IsSwapStep, SwapChange}
 use Rattle.cb_swapin.proofs.SlotNames.{named_or_not}
 
 -- the homes once the named objects have none

@@ -81,8 +81,8 @@ word_reads x y far new id p set f w slot h named =
     (brought_reads (len_of (word_at x h)) (slot_place w.state.class f slot)
     (len_of-below (word_at x h)))
 
--- An object that came in: it was far and without pins, and is here at its slot of the frame, with its
--- length, not hot and without pins.
+-- An object that came in: it was far and without pins, and is here at its slot of the frame, with
+-- its length, not hot and without pins.
 pub record HasComeIn (x y : Words) (class : Class) (f slot h : ℕ) : Type 0 where
   pub was : IsFarAt x h
   pub reads : IsBroughtWord (word_at y h) (len_of (word_at x h))

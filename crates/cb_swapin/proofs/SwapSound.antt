@@ -33,8 +33,8 @@ use Rattle.cb_swapin.specs.Named.{NamesHandle, IsNamed}
 use Rattle.cb_swapin.proofs.Committed.{live_within}
 use Rattle.cb_swapin.proofs.SlotNames.{named_or_not, named_within}
 use Rattle.cb_swapin.proofs.SlotsBrought.{far_same}
-use Rattle.cb_swapin.proofs.Waits.{CanArrive, free_frame, home_named, named_waits}
-use Rattle.cb_swapin.proofs.Arrived.{HasArrived, arrived_here, each_moved, moved, other_span}
+use Rattle.cb_swapin.proofs.Waits.{CanArrive, home_named, named_waits}
+use Rattle.cb_swapin.proofs.Arrived.{free_frame, HasArrived, arrived_here, each_moved, moved, other_span}
 
 some_none : {X : Type 0} (o : Option X) (x : X) → o ≡ None → o ≡ Some x → ⊥
 some_none o x e f = cc

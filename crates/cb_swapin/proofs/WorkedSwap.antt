@@ -1,5 +1,5 @@
--- Worked examples of a swap-in: what it is answered, and the far state after it, with what breaks one
--- part of that alone.
+-- Worked examples of a swap-in: what it is answered, and the far state after it, with what breaks
+-- one part of that alone.
 use Rattle.std.proofs.Common.{◌≡◌, ℕ, zero, suc, Bool, true, false, ◌≤◌, List, [], ◌∷◌, Option, None, Some, length, get_or, refl, sym, ap, ◌∙◌, arith}
 use Rattle.std.specs.FinMap as map
 use Rattle.std.proofs.lemmas.Option.{none-some, same_Some}
@@ -92,6 +92,15 @@ broken_elsewhere : swap_answer (far some_free (on 0 2 1)) 5 (on 0 2 1)
     ≡ answer.Unavailable (record { n = 5 }) (loss 2 3 ∷ loss 1 1 ∷ [])
 broken_elsewhere = refl
 
+-- frames 1 and 2 are free: a span of two pages comes there, and one of four nowhere
+two_frames : swap_answer (far some_free (record (on 0 3 0) { pages = 2 })) 5
+    (record (on 0 3 0) { pages = 2 }) ≡ answer.Swapped 1
+two_frames = refl
+
+no_four_frames : swap_answer (far some_free (record (on 0 3 0) { pages = 4 })) 5
+    (record (on 0 3 0) { pages = 4 }) ≡ answer.NoFrame
+no_four_frames = refl
+
 no_frame : swap_answer (far none_free (on 1 0 3)) 5 (on 1 0 3) ≡ answer.NoFrame
 no_frame = refl
 
@@ -169,6 +178,7 @@ unfolding slots_of pages_of bytes_of
 swapped = record {
   class = class;
   in_table = omega arith;
+  paged = refl;
   sized = refl;
   frames = refl;
   spans = refl;
@@ -197,6 +207,12 @@ leaves_the_frame_free x = true_false (ap (λ (l : List Bool). get_or l 1 false) 
   where
     true_false : true ≡ false → ⊥
     true_false e = cc
+
+takes_a_frame_more : Refuted (record new { frames = none_free })
+takes_a_frame_more x = false_true (ap (λ (l : List Bool). get_or l 2 false) x.frames)
+  where
+    false_true : false ≡ true → ⊥
+    false_true e = cc
 
 brings_no_span : Refuted (record new { spans = old.spans })
 brings_no_span x = none-some _ (ap (λ (l : List (Option Contents)). get_or l 1 None) x.spans)

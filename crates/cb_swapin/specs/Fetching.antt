@@ -42,9 +42,9 @@ pub record IsFetched (far : FarState) (set : SetState) (p : ℕ) (span : Content
   pub row_of : (rows : List (List ℕ)) → IsWordOf far.nodes far.members set rows
       → row ≡ row_at rows p
 
--- The row of the position was brought into the frames from this one on, from its node or made of others: as many rows
--- were given out as that needs, the objects of the span are here and have no home, and nothing else
--- changed.
+-- The row of the position was brought into the frames from this one on, from its node or made of
+-- others: as many rows were given out as that needs, the objects of the span are here and have no
+-- home, and nothing else changed.
 pub record BringsRow (runs : List Event → Type 0) (shows : Shown → Type 0) (far new : FarState)
     (set : SetState) (p f : ℕ) (span : Contents) : Type 0 where
   pub row : List ℕ

@@ -23,7 +23,7 @@ pub record IsSwappedIn (id p f : ℕ) (far new : FarState) (es : List Event) (s 
     pub there : set_in far.sets id ≡ Some set
     pub class : Class
     pub in_table : IsClass class
-  pub paged : pages_of class ≡ set.pages
+    pub paged : pages_of class ≡ set.pages
     pub sized : length (position_of set p).slots ≡ slots_of class
     pub row : List ℕ
     pub of_word : (rows : List (List ℕ)) → IsWordOf far.nodes far.members set rows

@@ -16,9 +16,9 @@ use cb_span::{Span, slot_place};
 use cb_types::Handle;
 use cb_world::{Desk, Homes};
 
-/// Brings the span of a row into its frames, from this one on, where no object lies: the row's words
-/// are stored there, and the objects of the span's slots are here, each at its slot, not hot and without a home.
-/// Their version words stay.
+/// Brings the span of a row into its frames, from this one on, where no object lies: the row's
+/// words are stored there, and the objects of the span's slots are here, each at its slot, not hot
+/// and without a home. Their version words stay.
 pub(crate) fn bring_span<D: Desk>(
     desk: &mut D,
     homes: &mut Homes,

@@ -30,11 +30,11 @@ use cb_world::{Desk, Far, kill_position, solved};
 /// changed; where there is none, at most k rows were given out and nothing else has changed.
 ///
 /// Refuses with Unavailable where the set has lost more shards than it has parities, and then with
-/// NoFrame where no free frames are adjacent that its spans fit. Else the least such run has the span,
-/// hot and with the slots of the position: their objects are here, not hot, at the version that they had. The row is the
-/// position's own where its shard is not lost (one row is given out), else the one that the k least
-/// other positions make whose shards are not lost (k rows are given out). The position is dead
-/// then, and a set with no live position goes with all its rows.
+/// NoFrame where no free frames are adjacent that its spans fit. Else the least such run has the
+/// span, hot and with the slots of the position: their objects are here, not hot, at the version
+/// that they had. The row is the position's own where its shard is not lost (one row is given
+/// out), else the one that the k least other positions make whose shards are not lost (k rows are
+/// given out). The position is dead then, and a set with no live position goes with all its rows.
 pub fn swap_in<D: Desk>(
     desk: &mut D,
     far: &mut Far,
@@ -148,8 +148,8 @@ fn bring_row<D: Desk>(
     Ok(())
 }
 
-/// Puts the span that was brought in into the least run that it fits. Its position is dead then, and a
-/// set with no live position goes with all its rows.
+/// Puts the span that was brought in into the least run that it fits. Its position is dead then,
+/// and a set with no live position goes with all its rows.
 fn keep_span(far: &mut Far, id: SetId, position: u32, frame: u32, span: Span)
     requires frame { least_run far.old.frames (pages_of span.class) ≡ Some frame }
     requires within { frame < length far.old.spans }

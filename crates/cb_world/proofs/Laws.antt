@@ -68,5 +68,5 @@ pub use Rattle.cb_world.proofs.Unmoved.{KeepsAway, KeepsLeaving, batch_kept, kee
 pub use Rattle.cb_world.proofs.Untouched.{allowed_append}
 pub use Rattle.cb_world.proofs.Whole.{added_whole, begun_whole, committed_whole, given_whole, parted_whole, stepped_whole}
 pub use Rattle.cb_world.proofs.Windows.{length_put, put_at as put_at-windows, put_else, set_put, window_at, window_put, window_same}
-pub use Rattle.cb_world.proofs.WorkedWord.{at, is_word, node, only_word, row, row_byte, rows, with_two_rows}
+pub use Rattle.cb_world.proofs.WorkedWord.{at, is_word, node, only_word, row, row_byte, row_long, rows, with_two_rows}
 pub use Rattle.cb_world.proofs.Worlds.{empty_world_sound}

@@ -104,7 +104,8 @@ batch_rows s batch =
 -- the batch that is leaving: its rows are a word, those that were put and are not lost stand at
 -- their nodes, on different nodes
 pub record IsBatch (s : Shown) (far : FarState) (batch : LeavingState) : Type 0 where
-  pub word : IsSpanWord batch.pages (length batch.frames) (length batch.parities) (batch_rows s batch)
+  pub word : IsSpanWord batch.pages (length batch.frames) (length batch.parities)
+      (batch_rows s batch)
   pub count : length batch.shards ≡ length batch.frames + length batch.parities
   pub put : (p : ℕ) (shard : Shard) → slice_get batch.shards p ≡ Some (Some shard)
       → is_lost far.members shard ≡ false

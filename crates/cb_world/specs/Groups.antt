@@ -36,7 +36,8 @@ pub record AreGrouped (sets : SetMap) (groups : List Group) (changed : List ℕ)
   pub cover : (id : ℕ) (set : SetState) → set_in sets id ≡ Some set
       → IsAmong (group_of set) groups ⊎ IsAmong id changed
 
--- no two committed sets are of one code and one length and without a common live position, whole or not
+-- no two committed sets are of one code and one length and without a common live position, whole or
+-- not
 abbrev pub NoSetsMatch : SetMap → Type 0
 NoSetsMatch sets = (i j : ℕ) (a b : SetState) → set_in sets i ≡ Some a → set_in sets j ≡ Some b
     → ¬ (DoMatch (group_of a) (group_of b))

@@ -29,7 +29,8 @@ pub record IsFresh (far : FarState) (pair : JoiningState) (a b : SetState) : Typ
 
 -- m is the merged word: b's rows stand at the taken positions, a's rows at the other data
 -- positions, and each new row is its position's
-pub record IsJoinWord (far : FarState) (pair : JoiningState) (pages k r : ℕ) (m : List (List ℕ)) : Type 0
+pub record IsJoinWord (far : FarState) (pair : JoiningState) (pages k r : ℕ)
+    (m : List (List ℕ)) : Type 0
   where
     pub word : IsSpanWord pages k r m
     pub a_rows : (i : ℕ) (shard : Shard) → i < k → takes pair.taken i ≡ false

@@ -34,8 +34,9 @@ pub record IsNoted (s : Shown) (batch : LeavingState) (h : ℕ) : Type 0 where
 abbrev pub Leaves : FarState → LeavingState → ℕ → Type 0
 Leaves far batch h = (f slot : ℕ) × Contains batch.frames f × (resident far.spans f slot ≡ Some h)
 
--- The frames that are leaving are different, and in each begins a span of the batch's length. Each object there is claimed,
--- and the noted words are those of these objects, one of each. The set that they will be is kept.
+-- The frames that are leaving are different, and in each begins a span of the batch's length. Each
+-- object there is claimed, and the noted words are those of these objects, one of each. The set
+-- that they will be is kept.
 pub record AreNoted (s : Shown) (far : FarState) (batch : LeavingState) : Type 0 where
   pub apart : AllPairs (λ f g. f ≢ g) batch.frames
   pub held : (f : ℕ) → Contains batch.frames f → (span : Contents)

@@ -19,10 +19,12 @@ fn give_rows(nodes: &mut Nodes, set: &SpanSet, positions: &[u8], table: &mut Row
     requires given { nodes.old.given + length positions.now < 2 ^ 64 }
     requires below { All (λ p. p < length table.old) positions.now }
     requires lengths { HaveLength (4096 * set.now.pages) table.old }
-    requires there { (rows : List (List ℕ)) × StandAt set.now.pages nodes.old set.now.shards rows positions.now }
+    requires there { (rows : List (List ℕ)) × StandAt set.now.pages nodes.old
+        set.now.shards rows positions.now }
     ensures nodes { nodes.new ≡ record nodes.old { given = nodes.old.given + length positions.now } }
     ensures count { length table.new ≡ length table.old }
-    ensures rows { (rows : List (List ℕ)) → StandAt set.now.pages nodes.old set.now.shards rows positions.now
+    ensures rows { (rows : List (List ℕ)) → StandAt set.now.pages nodes.old
+        set.now.shards rows positions.now
         → (i : ℕ) → i < length positions.now → row_at table.new (slice_index positions.now i) ≡ row_at rows (slice_index positions.now i) }
 {
     for position in positions {

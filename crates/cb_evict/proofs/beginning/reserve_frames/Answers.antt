@@ -104,7 +104,7 @@ returns-clause-reserved g c =
       loads = c.load_spans.ensures.loads;
       count = c.load_spans.ensures.count
           ∙ (rows_made c.in_ok-room.room.rows c.in_force-code.result.k (length c.args.frames.now)
-    (4096 * c.args.pages)
+          (4096 * c.args.pages)
           c.in_ok-room.ensures.rows
           (c.requires.count ∙ sym (ap (λ (n : Code). n.k) c.in_force-code.ensures))).0;
       made = subst (λ (n : ℕ). AreParities (length c.args.frames.now) n c.load_spans.new.rows c.in_ok-parities.parities)

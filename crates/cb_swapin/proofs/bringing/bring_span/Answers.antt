@@ -84,8 +84,11 @@ returns-clause-brought g c =
     (in_run _ _ _ f (pages_of span.class) (pages_of c.class-class.result)
     (ap pages_of (sym c.class-class.ensures.class)) a) b
     (g.met.D.Desk.more _ _ _ _ _ a.ran b.ran)
-    (λ s k. (k.0, subst (λ (q : Class). IsRunVacant s f (pages_of q)) (sym c.class-class.ensures.class)
-    k.1.vacant))
+    (λ s k. (
+      k.0,
+      subst (λ (q : Class). IsRunVacant s f (pages_of q)) (sym c.class-class.ensures.class)
+          k.1.vacant,
+    ))
     (λ s k. let t = played a.events s in (
       (g.met.D.Desk.follows _ _ a.events s a.ran k.0).1,
       subst (λ (l : List (Option ℕ)). AreStored t f c.class-class.result l) (sym c.slots.ensures.slots)
