@@ -1,5 +1,5 @@
 -- What a sound world with a leaving batch gives to its commit.
-use Rattle.std.proofs.Common.{◌≡◌, ◌≢◌, ℕ, ◌<◌, ◌≤◌, All, length, get_or, Option, None, Some, sym, ◌∙◌, subst, arith}
+use Rattle.std.proofs.Common.{◌≡◌, ◌≢◌, ℕ, ◌<◌, ◌≤◌, All, length, get_or, Option, None, Some, arith}
 use Rattle.std.specs.List.{AllPairs, Contains, slice_get}
 use Rattle.std.specs.Prelude.{IfSome}
 use Rattle.std.proofs.lemmas.List.{get_or_default}

@@ -1,5 +1,5 @@
 -- Worked examples of slots, and of what a filter answers.
-use Rattle.std.proofs.Common.{◌≡◌, ◌≢◌, ◌⊎◌, ℕ, zero, suc, ◌+◌, ◌*◌, true, false, List, [], ◌∷◌, Some, None, Contains, get_or, refl, ap, lit≤, arith, inl, inr}
+use Rattle.std.proofs.Common.{◌≡◌, ◌≢◌, ◌⊎◌, ◌∙◌, ℕ, zero, suc, ◌+◌, ◌*◌, true, false, List, [], ◌∷◌, Some, None, Contains, get_or, refl, sym, ap, lit≤, arith, inl, inr}
 use Rattle.cb_class.specs.declared.class.Class.{Class}
 use Rattle.cb_class.specs.Class.{pages_of}
 use Rattle.cb_frame.specs.Runs.{least_run}
@@ -141,7 +141,7 @@ in_place_with_a_change x = absurd (let z : true ≡ false =
     ap (λ (q : FarState). get_or q.frames 1 false) x.state in cc)
 
 pub gets : GetsSlot far moved Cold seat 0 slot answer.Moved
-gets = record { other = hot_cold; chosen = chosen; reply = refl; state = refl }
+gets = record { other = hot_cold; chosen = chosen; reply = refl; state = sym left_alone }
 
 gets_one_like_its_own : ¬ (GetsSlot far moved Hot seat 0 slot answer.Moved)
 gets_one_like_its_own x = x.other refl
@@ -158,10 +158,10 @@ gets_and_stays x = absurd (let z : answer.Same ≡ answer.Moved = x.reply in cc)
 
 gets_without_a_change : ¬ (GetsSlot far far Cold seat 0 slot answer.Moved)
 gets_without_a_change x = absurd (let z : false ≡ true =
-    ap (λ (q : FarState). get_or q.frames 1 false) x.state in cc)
+    ap (λ (q : FarState). get_or q.frames 1 false) (x.state ∙ left_alone) in cc)
 
 -- the cold span is full, and no frame is free
-abbrev full_span : Contents
+abbrev pub full_span : Contents
 full_span = record cold_span { slots = Some 1 ∷ Some 2 ∷ Some 3 ∷ Some 4 ∷ [] }
 
 abbrev pub full : FarState

@@ -1,5 +1,5 @@
 -- The sound world once all objects of a span are away and its frames are given back.
-use Rattle.std.proofs.Common.{◌≡◌, ◌≢◌, ◌⊎◌, ◌↔◌, ℕ, Bool, true, false, ◌*◌, ◌<◌, ◌≤◌, length, set, sym, ap, ◌∙◌, subst, arith, inl, inr, Option, Some, None, length-set, get_or-set_other, get_or-set_same}
+use Rattle.std.proofs.Common.{◌≡◌, ◌≢◌, ◌⊎◌, ◌↔◌, ℕ, ◌*◌, ◌<◌, ◌≤◌, length, set, sym, ap, ◌∙◌, subst, arith, inl, inr, Some, None, length-set, get_or-set_other, get_or-set_same}
 use Rattle.std.proofs.lemmas.Bool.{cases_eq}
 use Rattle.cb_class.specs.Class.{pages_of}
 use Rattle.cb_frame.specs.FreeFrames.{with_run_given}

@@ -106,7 +106,7 @@ freed_here s t far h len v words home c x = record {
     stamped = λ k. stamped k (cases_eq k h);
     versioned = λ k below. versioned k below (cases_eq k h);
   };
-  frames = frames_as far (without_far far h home set) refl refl x.sound.here.frames;
+  frames = frames_as far (without_far far h home c) refl refl x.sound.here.frames;
   placed = record {
     memory = ap length x.memory ∙ x.sound.here.placed.memory;
     placed = λ k n place lies. x.sound.here.placed.placed k n place (before k n place lies

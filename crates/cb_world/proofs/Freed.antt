@@ -2,10 +2,10 @@
 use Rattle.std.proofs.Common.{◌≡◌, ◌≢◌, ◌↔◌, ℕ, ◌+◌, ◌*◌, ◌<◌, ◌≤◌, List, length, set, sym, ap, ◌∙◌, subst, arith, inl, inr, Option, Some, None, length-set, get_or-set_other, get_or-set_same}
 use native.Mathlib.Decide.{ℕ_discrete}
 use Rattle.cb_class.specs.declared.class.Class.{Class}
-use Rattle.cb_class.specs.Class.{IsClass, IsClassOf, pages_of, slots_of, words_of}
+use Rattle.cb_class.specs.Class.{IsClass, IsClassOf, pages_of, slots_of}
 use Rattle.cb_class.proofs.Laws.{words_at_least}
 use Rattle.std.proofs.lemmas.Bool.{cases_order}
-use Rattle.cb_span.specs.Contents.{Contents, IsSpan, handle_at, with_cleared, live_count}
+use Rattle.cb_span.specs.Contents.{Contents, handle_at, with_cleared, live_count}
 use Rattle.cb_span.specs.Places.{slot_place}
 use Rattle.cb_span.proofs.Laws.{slot_in_range, frames_apart, same_slot, IsSpan-with_cleared, handle_at-with_cleared, handle_at-with_cleared_other}
 use Rattle.cb_world.specs.declared.object.Object.{Object}

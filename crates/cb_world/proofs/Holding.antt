@@ -1,11 +1,10 @@
 -- How the first frame of a span is found from one of its frames.
 use Rattle.std.proofs.Common.{◌≡◌, ◌⊎◌, ℕ, ◌-◌, ◌+◌, ◌<◌, ◌≤◌, Bool, true, false, List, Option, Some, None, is_some, refl, sym, ap, ◌∙◌, arith, inl, inr}
 use Rattle.std.proofs.lemmas.Bool.{cases_eq, cases_order, false≢true}
-use Rattle.cb_class.specs.Class.{IsClass, pages_of}
+use Rattle.cb_class.specs.Class.{pages_of}
 use Rattle.cb_class.proofs.Laws.{pages_few}
 use Rattle.cb_span.specs.Contents.{Contents}
 use Rattle.cb_world.specs.FarState.{span_in}
-use Rattle.cb_world.specs.LocalSound.{LiesOver}
 use Rattle.cb_world.proofs.SlotFinding.{TellsHolder}
 
 -- no span stands at the last frames up to this one, so many

@@ -168,8 +168,8 @@ module _ (far : FarState) (f : ℕ) (y : Contents) (new : List Bool) (frames : A
   here : span_in put_far.spans f ≡ Some y
   here = get_or-set_same far.spans f (Some y) None (omega (arith, some, may.within))
 
-  else : (g : ℕ) → g ≢ f → span_in put_far.spans g ≡ span_in far.spans g
-  else g off = get_or-set_other far.spans f g (Some y) None off
+  elsewhere : (g : ℕ) → g ≢ f → span_in put_far.spans g ≡ span_in far.spans g
+  elsewhere g off = get_or-set_other far.spans f g (Some y) None off
 
   is_put : (g : ℕ) (q : Contents) → span_in put_far.spans g ≡ Some q → g ≡ f → y ≡ q
   is_put g q at e = some_same y q (sym here ∙ ap (span_in put_far.spans) (sym e) ∙ at)
@@ -181,7 +181,7 @@ module _ (far : FarState) (f : ℕ) (y : Contents) (new : List Bool) (frames : A
         over.to e (sym (pages_same y over.span (is_put g over.span over.there e))))
     | inr off ↦ record {
       span = over.span;
-      there = sym (else g off) ∙ over.there;
+      there = sym (elsewhere g off) ∙ over.there;
       from = over.from;
       to = over.to;
     }
@@ -194,7 +194,7 @@ module _ (far : FarState) (f : ℕ) (y : Contents) (new : List Bool) (frames : A
         over.to e (may.same over.span (ap (span_in far.spans) (sym e) ∙ over.there)))
     | inr off ↦ record {
       span = over.span;
-      there = else g off ∙ over.there;
+      there = elsewhere g off ∙ over.there;
       from = over.from;
       to = over.to;
     }
@@ -219,33 +219,33 @@ module _ (far : FarState) (f : ℕ) (y : Contents) (new : List Bool) (frames : A
     sized = length-set far.spans f (Some y) ∙ frames.sized ∙ sym may.sized;
     within = λ g q at. let len = length-set far.spans f (Some y) in elim (cases_eq g f) [
       | inl e ↦ let k = pages_same y q (is_put g q at e) in omega (arith, k, e, may.within, len)
-      | inr off ↦ let w = frames.within g q (sym (else g off) ∙ at) in omega (arith, w, len)
+      | inr off ↦ let w = frames.within g q (sym (elsewhere g off) ∙ at) in omega (arith, w, len)
     ];
     apart = λ g h a b at_g at_h less. elim (cases_eq g f) [
       | inl e ↦
           let off : h ≢ f = λ z. omega (arith, less, e, z) in
           let k = pages_same y a (is_put g a at_g e) in
-          elim (may.apart h b (sym (else h off) ∙ at_h) off) [
+          elim (may.apart h b (sym (elsewhere h off) ∙ at_h) off) [
             | inl before ↦ absurd (omega (arith, before, less, e))
             | inr behind ↦ omega (arith, behind, e, k)
           ]
       | inr off_g ↦ elim (cases_eq h f) [
-        | inl e ↦ elim (may.apart g a (sym (else g off_g) ∙ at_g) off_g) [
+        | inl e ↦ elim (may.apart g a (sym (elsewhere g off_g) ∙ at_g) off_g) [
           | inl before ↦ omega (arith, before, e)
           | inr behind ↦ absurd (omega (arith, behind, less, e, some))
         ]
-        | inr off_h ↦ frames.apart g h a b (sym (else g off_g) ∙ at_g) (sym (else h off_h) ∙ at_h)
+        | inr off_h ↦ frames.apart g h a b (sym (elsewhere g off_g) ∙ at_g) (sym (elsewhere h off_h) ∙ at_h)
             less
       ]
     ];
     free = λ x below. free_by x (omega (arith, below, may.sized)) (where_is f (pages_of y.class) x);
     valid = λ g q at. elim (cases_eq g f) [
       | inl e ↦ subst IsSpan (is_put g q at e) valid
-      | inr off ↦ frames.valid g q (sym (else g off) ∙ at)
+      | inr off ↦ frames.valid g q (sym (elsewhere g off) ∙ at)
     ];
     taken = λ g q at. elim (cases_eq g f) [
       | inl e ↦ subst (λ (z : Contents). 1 ≤ live_count z) (is_put g q at e) live
-      | inr off ↦ frames.taken g q (sym (else g off) ∙ at)
+      | inr off ↦ frames.taken g q (sym (elsewhere g off) ∙ at)
     ];
   }
 

@@ -1,5 +1,5 @@
 -- The slot that an object gets.
-use Rattle.std.proofs.Common.{◌≡◌, ◌≢◌, ◌⊎◌, ℕ, Bool, false, Option, IfSome, ◌<◌, List, Some, None, Contains, length, set, sym, refl, ap, ◌∙◌, subst, arith, inl, inr, length-set}
+use Rattle.std.proofs.Common.{◌≡◌, ◌⊎◌, ℕ, Option, IfSome, ◌+◌, ◌<◌, ◌≤◌, Some, None, Contains, length, set, sym, refl, ap, ◌∙◌, subst, arith, inl, inr}
 use Rattle.cb_class.specs.declared.class.Class.{Class}
 use Rattle.cb_class.specs.Class.{IsClass, pages_of, slots_of}
 use Rattle.cb_class.proofs.Laws.{pages_some, slots_at_least}

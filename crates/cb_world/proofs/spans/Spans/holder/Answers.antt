@@ -11,16 +11,19 @@ loop-back-preserved c =
     c.if-back-frame.false c.loop-back.invariant c.stands_at.ensures c.if-stands_at.false
 
 pub returns-then-back-frame : goal.returns-then-back-frame
-returns-then-back-frame c =
-    holder_none c.args.self.now c.args.frame c.loop-back.back None c.loop-back.invariant
-    (inr c.if-back-frame.true)
+returns-then-back-frame c = record {
+  holder = holder_none c.args.self.now c.args.frame c.loop-back.back None c.loop-back.invariant
+      (inr c.if-back-frame.true);
+}
 
 pub returns-then-stands_at : goal.returns-then-stands_at
-returns-then-stands_at c =
-    holder_found c.args.self.now c.args.frame c.loop-back.back c.stands_at.result
-    c.if-back-frame.false c.loop-back.invariant c.stands_at.ensures c.if-stands_at.true
+returns-then-stands_at c = record {
+  holder = holder_found c.args.self.now c.args.frame c.loop-back.back c.stands_at.result
+      c.if-back-frame.false c.loop-back.invariant c.stands_at.ensures c.if-stands_at.true;
+}
 
 pub returns : goal.returns
-returns c =
-    holder_none c.args.self.now c.args.frame c.loop-back.back None c.loop-back.invariant
-    (inl (search rules))
+returns c = record {
+  holder = holder_none c.args.self.now c.args.frame c.loop-back.back None c.loop-back.invariant
+      (inl (search rules));
+}
