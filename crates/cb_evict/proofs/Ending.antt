@@ -276,3 +276,10 @@ pages_first far frames formers s d a sound some =
     let long = span_long far.spans a.pages frames f x.span a.long c x.there in
     let few = pages_few x.span.class x.valid.in_table in
     (a.long 0 d some, omega (arith, few, long))
+
+-- so what is read off the first span is the length of all
+pub pages_told : (far : FarState) (frames : List ℕ) (formers : List Former) (s : Shown)
+    (d n : ℕ) → (a : AreSpansTaken far frames formers) → LocalSound s far → 1 ≤ far.code.k
+    → n ≡ pages_in far.spans (get_or frames 0 d) → n ≡ a.pages
+pages_told far frames formers s d n a sound some is =
+    is ∙ (pages_first far frames formers s d a sound (let c = a.count in omega (arith, c, some))).0

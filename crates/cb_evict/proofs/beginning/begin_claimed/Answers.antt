@@ -11,10 +11,10 @@ use Rattle.cb_world.specs.FarState.{FarState, span_in}
 use Rattle.cb_evict.specs.Claiming.{GivesBack}
 use Rattle.cb_evict.specs.Claims.{AreApart, IsHeldAt}
 use Rattle.cb_evict.specs.Beginning.{ReservesFrames}
-use Rattle.cb_evict.specs.Loading.{AreOfLength, LiesInOne}
+use Rattle.cb_evict.specs.Loading.{AreOfLength, LiesInOne, pages_in}
 use Rattle.cb_evict.proofs.BeginEnd.{noted_far, starts, reads_as, reads_in, batch_then, reserves_as}
 use Rattle.cb_evict.proofs.Events.{are_reads}
-use Rattle.cb_evict.proofs.Ending.{are_read, taken_ready, place_in, handles_all, frames_below, pages_first}
+use Rattle.cb_evict.proofs.Ending.{are_read, taken_ready, place_in, handles_all, frames_below, pages_told}
 use Rattle.cb_evict.proofs.Loads.{reads_spans}
 use Rattle.cb_evict.proofs.Restored.{gives_back_ends}
 use Rattle.cb_evict.proofs.CallParts.{joins}
@@ -42,39 +42,38 @@ reserve_frames-requires-clause-there g c =
 pub span_pages-pages-requires : goal.span_pages-pages-requires
 span_pages-pages-requires g c =
     let some = c.requires.configured.codes.force.range.data_least in
+    let d = c.index.result.now in
     let x = taken_ready c.args.far.now c.args.frames.items c.args.formers.items c.requires.ready.1
-    c.requires.taken c.requires.ready.2.sound.here (get_or c.args.frames.items 0 0)
-    (place_in c.args.frames.items 0 0 (omega (arith, some, c.requires.taken.count))) in
-    record { there = (x.span, x.there) }
-
--- the pages of the first span are those of all
-all_pages : (g : _) (c : goal.After-span_pages-pages g)
-    → (c.span_pages-pages.result ≡ c.requires.taken.pages) × (c.requires.taken.pages ≤ 4)
-all_pages g c =
-    let some = c.requires.configured.codes.force.range.data_least in
-    let x = pages_first c.args.far.now c.args.frames.items c.args.formers.items
-    c.requires.ready.1 0 c.requires.taken c.requires.ready.2.sound.here
-    (omega (arith, some, c.requires.taken.count)) in
-    (c.span_pages-pages.ensures.pages ∙ x.0, x.1)
+    c.requires.taken c.requires.ready.2.sound.here (get_or c.args.frames.items 0 d)
+    (place_in c.args.frames.items 0 d (omega (arith, some, c.requires.taken.count))) in
+    record { there = (x.span, ap (span_in c.args.far.now.spans) c.index.ensures ∙ x.there) }
 
 pub reserve_frames-requires-clause-pages : goal.reserve_frames-requires-clause-pages
 reserve_frames-requires-clause-pages g c = c.span_pages-pages.ensures.few
 
 pub reserve_frames-requires-clause-long : goal.reserve_frames-requires-clause-long
 reserve_frames-requires-clause-long g c =
+    let pages = pages_told c.args.far.now c.args.frames.items c.args.formers.items
+    c.requires.ready.1 c.index.result.now c.span_pages-pages.result c.requires.taken
+    c.requires.ready.2.sound.here c.requires.configured.codes.force.range.data_least
+    (c.span_pages-pages.ensures.pages ∙ ap (pages_in c.args.far.now.spans) c.index.ensures) in
     subst (λ (l : List ℕ). AreOfLength c.args.far.now.spans c.span_pages-pages.result l)
     (sym c.deref.ensures.value)
     (subst (λ (n : ℕ). AreOfLength c.args.far.now.spans n c.args.frames.items)
-    (sym (all_pages g c).0) c.requires.taken.long)
+    (sym pages) c.requires.taken.long)
 
 pub reserve_frames-requires-clause-below : goal.reserve_frames-requires-clause-below
 reserve_frames-requires-clause-below g c =
     let r = c.requires.ready.2 in
     let sized = g.met.D.Desk.sized _ (played c.requires.ready.0 c.requires.ready.1) r.shown in
+    let pages = pages_told c.args.far.now c.args.frames.items c.args.formers.items
+    c.requires.ready.1 c.index.result.now c.span_pages-pages.result c.requires.taken
+    c.requires.ready.2.sound.here c.requires.configured.codes.force.range.data_least
+    (c.span_pages-pages.ensures.pages ∙ ap (pages_in c.args.far.now.spans) c.index.ensures) in
     subst (λ (l : List ℕ). All (λ f. f + c.span_pages-pages.result
     ≤ (g.D.Desk.settings c.args.desk.now).frames) l) (sym c.deref.ensures.value)
     (subst (λ (n : ℕ). All (λ f. f + n ≤ (g.D.Desk.settings c.args.desk.now).frames)
-    c.args.frames.items) (sym (all_pages g c).0)
+    c.args.frames.items) (sym pages)
     (frames_below c.args.far.now c.args.frames.items c.args.formers.items c.requires.ready.1
     (played c.requires.ready.0 c.requires.ready.1) _ c.requires.taken r.sound.here r.here sized.3))
 
@@ -125,9 +124,13 @@ returns-in-Ok-clause-begun g c =
     let config = g.D.Desk.settings c.args.desk.now in
     let shows = λ (t : Shown). g.D.Desk.shows c.args.desk.now t in
     let taken = c.requires.taken in
+    let pages = pages_told c.args.far.now c.args.frames.items c.args.formers.items
+    c.requires.ready.1 c.index.result.now c.span_pages-pages.result c.requires.taken
+    c.requires.ready.2.sound.here c.requires.configured.codes.force.range.data_least
+    (c.span_pages-pages.ensures.pages ∙ ap (pages_in c.args.far.now.spans) c.index.ensures) in
     let runs = λ (es : List Event). g.D.Desk.run c.args.desk.now es c.reserve_frames.new.desk in
     let y = subst (λ (n : ℕ). ReservesFrames runs shows far c.reserve_frames.new.far n frames
-    c.in-Ok.reserved.parities) (all_pages g c).0
+    c.in-Ok.reserved.parities) pages
     (reserves_as runs shows far c.reserve_frames.new.far _ _ frames c.in-Ok.reserved.parities
     c.deref.ensures.value c.in-Ok.ensures.reserved) in
     let x = y.loads in
@@ -136,7 +139,7 @@ returns-in-Ok-clause-begun g c =
     let is = batch_then far c.reserve_frames.new.far c.note_batch-set.new.far taken.pages frames
     formers c.in-Ok.reserved.parities c.in-Ok.reserved.shards.items y.state
     (subst (λ (n : ℕ). c.note_batch-set.new.far ≡ noted_far c.reserve_frames.new.far n frames
-    formers c.in-Ok.reserved.parities c.in-Ok.reserved.shards.items) (all_pages g c).0
+    formers c.in-Ok.reserved.parities c.in-Ok.reserved.shards.items) pages
     c.note_batch-set.ensures.state) c.in-Ok.ensures.shards in
     record {
       events = x.events;

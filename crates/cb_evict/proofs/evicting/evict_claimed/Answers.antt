@@ -10,7 +10,7 @@ use Rattle.cb_evict.specs.Evicting.{StoresFrames}
 use Rattle.cb_evict.specs.Loading.{AreOfLength, LiesInOne, LiesInRuns}
 use Rattle.cb_evict.proofs.Events.{are_reads}
 use Rattle.cb_evict.proofs.EvictSound.{told_all}
-use Rattle.cb_evict.proofs.Ending.{taken_ready, place_in, handles_all, are_read, kept_parities, end_allowed, ended, state_then, homes_then, end_in, spans_touched, frames_below, pages_first}
+use Rattle.cb_evict.proofs.Ending.{taken_ready, place_in, handles_all, are_read, kept_parities, end_allowed, ended, state_then, homes_then, end_in, spans_touched, frames_below, pages_told}
 use Rattle.cb_evict.proofs.Loads.{reads_spans}
 use Rattle.cb_evict.proofs.Restored.{gives_back_ends, settled_end}
 use Rattle.cb_evict.proofs.Standing.{are_unique}
@@ -46,30 +46,26 @@ span_pages-pages-requires g c =
     (place_in c.args.frames.now 0 0 (omega (arith, some, c.requires.taken.count))) in
     record { there = (x.span, x.there) }
 
--- the pages of the first span are those of all
-all_pages : (g : _) (c : goal.After-span_pages-pages g)
-    → (c.span_pages-pages.result ≡ c.requires.taken.pages) × (c.requires.taken.pages ≤ 4)
-all_pages g c =
-    let some = c.requires.configured.codes.force.range.data_least in
-    let x = pages_first c.args.far.now c.args.frames.now c.args.formers.now c.requires.ready.1 0
-    c.requires.taken c.requires.ready.2.sound.here
-    (omega (arith, some, c.requires.taken.count)) in
-    (c.span_pages-pages.ensures.pages ∙ x.0, x.1)
-
 pub store_frames-requires-clause-pages : goal.store_frames-requires-clause-pages
 store_frames-requires-clause-pages g c = c.span_pages-pages.ensures.few
 
 pub store_frames-requires-clause-long : goal.store_frames-requires-clause-long
 store_frames-requires-clause-long g c =
-    subst (λ (n : ℕ). AreOfLength c.args.far.now.spans n c.args.frames.now)
-    (sym (all_pages g c).0) c.requires.taken.long
+    let pages = pages_told c.args.far.now c.args.frames.now c.args.formers.now c.requires.ready.1 0
+    c.span_pages-pages.result c.requires.taken c.requires.ready.2.sound.here
+    c.requires.configured.codes.force.range.data_least c.span_pages-pages.ensures.pages in
+    subst (λ (n : ℕ). AreOfLength c.args.far.now.spans n c.args.frames.now) (sym pages)
+    c.requires.taken.long
 
 pub store_frames-requires-clause-below : goal.store_frames-requires-clause-below
 store_frames-requires-clause-below g c =
     let r = c.requires.ready.2 in
     let sized = g.met.D.Desk.sized _ (played c.requires.ready.0 c.requires.ready.1) r.shown in
+    let pages = pages_told c.args.far.now c.args.frames.now c.args.formers.now c.requires.ready.1 0
+    c.span_pages-pages.result c.requires.taken c.requires.ready.2.sound.here
+    c.requires.configured.codes.force.range.data_least c.span_pages-pages.ensures.pages in
     subst (λ (n : ℕ). All (λ f. f + n ≤ (g.D.Desk.settings c.args.desk.now).frames)
-    c.args.frames.now) (sym (all_pages g c).0)
+    c.args.frames.now) (sym pages)
     (frames_below c.args.far.now c.args.frames.now c.args.formers.now c.requires.ready.1
     (played c.requires.ready.0 c.requires.ready.1) _ c.requires.taken r.sound.here r.here sized.3)
 
@@ -159,10 +155,13 @@ pub returns-in-Ok-clause-evict : goal.returns-in-Ok-clause-evict
 returns-in-Ok-clause-evict g c =
     let far = c.args.far.now in let frames = c.args.frames.now in let formers = c.args.formers.now in
     let taken = c.requires.taken in
+    let pages = pages_told c.args.far.now c.args.frames.now c.args.formers.now c.requires.ready.1 0
+    c.span_pages-pages.result c.requires.taken c.requires.ready.2.sound.here
+    c.requires.configured.codes.force.range.data_least c.span_pages-pages.ensures.pages in
     let stored = subst (λ (n : ℕ). StoresFrames
     (λ es. g.D.Desk.run c.args.desk.now es c.store_frames.new.desk)
     (λ t. g.D.Desk.shows c.args.desk.now t) far c.store_frames.new.far n frames)
-    (all_pages g c).0 c.in-Ok.ensures.kept in
+    pages c.in-Ok.ensures.kept in
     let x = stored.loads in let y = c.send.ensures in
     let kept = stored.kept in let shards = stored.shards in let only = taken.of.only in
     let loads = reads_spans far.spans taken.pages frames taken.long x.events x.loads in

@@ -11,8 +11,8 @@ pub loop-page-preserved : goal.loop-page-preserved
 loop-page-preserved g c =
     let page = c.loop-page.page in
     page_read (λ es. g.D.Desk.run c.args.desk.now es c.loop-page.desk)
-    (λ es. g.D.Desk.run c.loop-page.desk es c.load_frame.new.desk)
-    (λ es. g.D.Desk.run c.args.desk.now es c.load_frame.new.desk) c.args.frame c.args.pages page
+    (λ es. g.D.Desk.run c.loop-page.desk es c.load_frame.new.self)
+    (λ es. g.D.Desk.run c.args.desk.now es c.load_frame.new.self) c.args.frame c.args.pages page
     (4096 * page + 4096 - 4096 * page) c.loop-page.row _ c.load_frame.new.row
     (λ es fs a b. g.met.D.Desk.more _ _ _ _ _ a b) c.loop-page.invariant c.load_frame.ensures
     c.loop-page-test.true (omega arith) refl

@@ -25,8 +25,8 @@ pub loop-page-preserved : goal.loop-page-preserved
 loop-page-preserved g c =
     let page = c.loop-page.page in let row = c.args.row.now in
     page_stored (λ es. g.D.Desk.run c.args.desk.now es c.loop-page.desk)
-    (λ es. g.D.Desk.run c.loop-page.desk es c.store_frame.new.desk)
-    (λ es. g.D.Desk.run c.args.desk.now es c.store_frame.new.desk) c.args.frame page
+    (λ es. g.D.Desk.run c.loop-page.desk es c.store_frame.new.self)
+    (λ es. g.D.Desk.run c.args.desk.now es c.store_frame.new.self) c.args.frame page
     (4096 * page + 4096 - 4096 * page) row (λ es fs a b. g.met.D.Desk.more _ _ _ _ _ a b)
     c.loop-page.invariant (omega arith) c.store_frame.ensures
     (omega (arith, c.requires.row, c.loop-page-test.true))
