@@ -1,5 +1,5 @@
 -- The deltas that are added to one row, one after another.
-use Rattle.std.proofs.Common.{◌≡◌, ℕ, zero, suc, ◌+◌, ◌<◌, ◌≤◌, true, List, [], Some, is_some, unwrap_or, length, take, get_or, sym, ap, ◌∙◌, subst, arith, length-set}
+use Rattle.std.proofs.Common.{◌≡◌, ℕ, zero, suc, ◌+◌, ◌*◌, ◌<◌, ◌≤◌, true, List, [], Some, is_some, unwrap_or, length, take, get_or, sym, ap, ◌∙◌, subst, arith, length-set}
 use Rattle.std.specs.List.{slice_get}
 use Rattle.cb_gf256.specs.Row.{row_sum, scaled_row}
 use Rattle.cb_gf256.specs.Rows.{row_at}
@@ -37,9 +37,9 @@ none_added old to factors a b taken wa wb row can =
     sym (same_row_changes_nothing old to.node to.key (has_row old to.node to.key row can.target))
     ∙ ap (with_row old to.node to.key) (row_known old to.node to.key row can.target)
 
-delta_length : (c : ℕ) (row x y : List ℕ) → length row ≡ 4096 → length x ≡ 4096 → length y ≡ 4096
-    → length (row_sum row (scaled_row c (row_sum x y))) ≡ 4096
-delta_length c row x y l m n =
+delta_length : (c len : ℕ) (row x y : List ℕ) → length row ≡ len → length x ≡ len
+    → length y ≡ len → length (row_sum row (scaled_row c (row_sum x y))) ≡ len
+delta_length c len row x y l m n =
     let e = row_sum_length x y (m ∙ sym n) in
     row_sum_length row (scaled_row c (row_sum x y)) (l ∙ sym (scaled_row_length c (row_sum x y) ∙
     e ∙ m)) ∙ l
@@ -66,10 +66,10 @@ module _ (old now : NodesState) (to : Shard) (factors : List ℕ) (a b : List Sh
     pub count : length now.nodes ≡ length old.nodes
     count = ap (λ (n : NodesState). length n.nodes) state ∙ length-set old.nodes to.node.n _
 
-    a_stands : StandsAt old a wa p
+    a_stands : StandsAt can.pages old a wa p
     a_stands = can.a_rows i below
 
-    b_stands : StandsAt old b wb p
+    b_stands : StandsAt can.pages old b wb p
     b_stands = can.b_rows i below
 
     shard_same : (c d : Shard) → Some c ≡ Some d → c ≡ d
@@ -112,14 +112,14 @@ module _ (old now : NodesState) (to : Shard) (factors : List ℕ) (a b : List Sh
     b_node = let n = subst (λ (c : Shard). c.node.n < length old.nodes) b_is b_stands.node in
         omega (arith, n, count)
 
-    wide : (n : ℕ) → n ≤ length taken → length (added n) ≡ 4096
+    wide : (n : ℕ) → n ≤ length taken → length (added n) ≡ 4096 * can.pages
     wide zero l = can.wide
     wide (suc n) l =
         let before : n < length taken = omega (arith, l) in
         let next : suc n ≡ n + 1 = omega arith in
         ap (λ (m : ℕ). length (added m)) next ∙ ap length (patched_more factors wa wb row taken n
         before)
-        ∙ delta_length (get_or factors (get_or taken n 0) 0) (added n) (row_at wa (get_or taken n
+        ∙ delta_length (get_or factors (get_or taken n 0) 0) (4096 * can.pages) (added n) (row_at wa (get_or taken n
         0))
         (row_at wb (get_or taken n 0)) (wide n (omega (arith, l))) (can.a_rows n before).wide
         (can.b_rows n before).wide

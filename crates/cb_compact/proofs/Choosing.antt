@@ -1,4 +1,4 @@
--- The first pair of all sets is found among the first sets of each code and live positions.
+-- The first pair of all sets is found among the first sets of each code, length and live positions.
 use Rattle.std.proofs.Common.{◌≡◌, ◌≢◌, ◌⊎◌, ℕ, zero, suc, ◌+◌, ◌<◌, ◌≤◌, ◌^◌, Bool, true, false, cond, if◌then◌else◌, List, [], ◌∷◌, ◌++◌, length, Option, Some, None, bit_and, refl, sym, ap, ◌∙◌, subst, arith, inl, inr}
 use Rattle.std.specs.List.{list_any, slice_get}
 use Rattle.std.specs.FinMap as map
@@ -33,13 +33,14 @@ candidate_of id c = record {
   id = id;
   k = length c.positions;
   r = parities c;
+  pages = c.pages;
   live = live_mask c.positions;
 }
 
 pub is_candidate : (far : FarState) (id : ℕ) (c : SetState) → set_in far.sets id ≡ Some c
     → IsWhole far.members c → IsCandidate far (candidate_of id c) c
 is_candidate far id c there whole =
-    record { there = there; whole = whole; k = refl; r = refl; live = refl }
+    record { there = there; whole = whole; k = refl; r = refl; pages = refl; live = refl }
 
 -- two candidates that match, in their order, for two sets that can be joined
 record Covered (found : List Candidate) (i j : ℕ) (c : SetState) : Type 0 where
@@ -65,6 +66,7 @@ module _ (s : Shown) (far : FarState) (sound : AwaySound s far) (found : List Ca
       (is_candidate far j d can.b_there can.matched.whole_b) in
       let k : u.1.k ≡ v.1.k = u.4.k ∙ sym can.data_count ∙ sym v.4.k in
       let r : u.1.r ≡ v.1.r = u.4.r ∙ sym can.parity_count ∙ sym v.4.r in
+      let pages : u.1.pages ≡ v.1.pages = u.4.pages ∙ sym can.matched.pages ∙ sym v.4.pages in
       let none : bit_and u.1.live v.1.live ≡ 0 =
       ap (λ (n : ℕ). bit_and n v.1.live) u.4.live ∙ ap (bit_and (live_mask c.positions)) v.4.live
       ∙ masks_of_matched far.members c d can.matched in
@@ -80,8 +82,8 @@ module _ (s : Shown) (far : FarState) (sound : AwaySound s far) (found : List Ca
         at_n = v.2;
         low = u.3;
         high = v.3;
-        both = record { k = k; r = r; apart = none };
-        back = record { k = sym k; r = sym r; apart = flip };
+        both = record { k = k; r = r; pages = pages; apart = none };
+        back = record { k = sym k; r = sym r; pages = sym pages; apart = flip };
         apart = λ e. let same = candidate_same u.1 v.1 (sym u.2 ∙ ap (slice_get found) e ∙ v.2) in
             let masks : live_mask c.positions ≡ live_mask d.positions =
             sym u.4.live ∙ ap (λ (q : Candidate). q.live) same ∙ v.4.live in
@@ -126,6 +128,7 @@ module _ (s : Shown) (far : FarState) (sound : AwaySound s far) (found : List Ca
             data_count = sym is_b.k ∙ sym y.match_.k ∙ is_a.k;
             parity_count = sym is_b.r ∙ sym y.match_.r ∙ is_a.r;
             matched = matched_by_masks far.members a b is_a.whole is_b.whole
+                (sym is_b.pages ∙ sym y.match_.pages ∙ is_a.pages)
                 (ap (λ (n : ℕ). bit_and n (live_mask b.positions)) (sym is_a.live)
                 ∙ ap (bit_and p.live) (sym is_b.live) ∙ y.match_.apart);
           };
@@ -266,6 +269,7 @@ firsts_more far id found c set x e is = record {
           record {
             k = is.k ∙ ap (λ (q : SetState). length q.positions) same ∙ sym of.k;
             r = is.r ∙ ap parities same ∙ sym of.r;
+            pages = is.pages ∙ ap (λ (q : SetState). q.pages) same ∙ sym of.pages;
             live = is.live ∙ ap (λ (q : SetState). live_mask q.positions) same ∙ sym of.live;
           },
         )
@@ -283,6 +287,7 @@ alike_same far c d y set other e is of alike =
     record {
       k = alike.k ∙ is.k ∙ ap (λ (q : SetState). length q.positions) same ∙ sym of.k;
       r = alike.r ∙ is.r ∙ ap parities same ∙ sym of.r;
+      pages = alike.pages ∙ is.pages ∙ ap (λ (q : SetState). q.pages) same ∙ sym of.pages;
       live = alike.live ∙ is.live ∙ ap (λ (q : SetState). live_mask q.positions) same ∙ sym
           of.live;
     }

@@ -122,7 +122,7 @@ module _ (s : Shown) (far : FarState) (pair : JoiningState) (a b : SetState)
   pub ready_whole : IsFresh far pair a b
   ready_whole = fresh_is far pair a b x.fresh
 
-  pub ready_fit : AreFit pair ready_join.k a b
+  pub ready_fit : AreFit pair ready_join.pages ready_join.k a b
   ready_fit = ready_join.fit a b ready_whole
 
   away : AwaySound s far
@@ -225,6 +225,7 @@ module _ (s : Shown) (far : FarState) (pair : JoiningState) (a b : SetState)
     shards = λ p. shards_at pair.steps pair.shards_a p ready_steps;
     count = length_shards pair.steps pair.shards_a ready_steps ∙ sym ready_shards;
     positions = length_merged a.positions b.positions ready_data;
+    pages = refl;
     content = chosen_at far.counts.sets pair a b ready_data;
   }
 

@@ -167,7 +167,7 @@ pub record HasMerged (far : FarState) (pair : JoiningState) (a b : SetState) : T
   pub m : List (List ℕ)
   pub a_word : IsWordOf far.nodes far.members a wa
   pub b_word : IsWordOf far.nodes far.members b wb
-  pub merged : IsMergedWord (length a.positions) (parities a) pair.taken wa wb m
+  pub merged : IsMergedWord a.pages (length a.positions) (parities a) pair.taken wa wb m
 
 pub has_merged : (s : Shown) (far : FarState) (pair : JoiningState) (a b : SetState) → Sound s far
     → IsFreshPair far pair a b → HasMerged far pair a b

@@ -7,10 +7,10 @@ use Rattle.std.proofs.lemmas.Bool.{false≢true}
 use Rattle.std.proofs.lemmas.Map.Lookups.{exact_unsigned}
 use Rattle.cb_world.specs.declared.groups.Group.{Group}
 
--- by k, then by r, then by the live positions
+-- by k, then by r, then by the pages, then by the live positions
 abbrev pub group_cmp : Group → Group → Ordering
 group_cmp g h = ordering_then (nat_cmp g.k h.k) (ordering_then (nat_cmp g.r h.r)
-    (nat_cmp g.live h.live))
+    (ordering_then (nat_cmp g.pages h.pages) (nat_cmp g.live h.live)))
 
 is_equal : (o : Ordering) → is_eq o ≡ true → o ≡ is.Equal
 is_equal is.Less e = absurd (false≢true e)
@@ -28,9 +28,11 @@ same_number a b e = exact_unsigned a b (is_equal (nat_cmp a b) e)
 
 pub same_group : (g h : Group) → is_eq (group_cmp g h) ≡ true → g ≡ h
 same_group g h e =
-    let x = both_equal (nat_cmp g.k h.k)
-    (ordering_then (nat_cmp g.r h.r) (nat_cmp g.live h.live)) e in
-    let y = both_equal (nat_cmp g.r h.r) (nat_cmp g.live h.live) x.1 in
+    let x = both_equal (nat_cmp g.k h.k) (ordering_then (nat_cmp g.r h.r)
+    (ordering_then (nat_cmp g.pages h.pages) (nat_cmp g.live h.live))) e in
+    let y = both_equal (nat_cmp g.r h.r)
+    (ordering_then (nat_cmp g.pages h.pages) (nat_cmp g.live h.live)) x.1 in
+    let z = both_equal (nat_cmp g.pages h.pages) (nat_cmp g.live h.live) y.1 in
     let k = same_number g.k h.k x.0 in let r = same_number g.r h.r y.0 in
-    let live = same_number g.live h.live y.1 in
-    λ i. record { k = k i; r = r i; live = live i }
+    let pages = same_number g.pages h.pages z.0 in let live = same_number g.live h.live z.1 in
+    λ i. record { k = k i; r = r i; pages = pages i; live = live i }

@@ -28,6 +28,7 @@ pub none_can_join : (far : FarState) → NoSetsMatch far.sets → NoneCanJoin fa
 none_can_join far none i j c d l can = none i j c d can.a_there can.b_there (record {
   k = sym can.data_count;
   r = sym can.parity_count;
+  pages = sym can.matched.pages;
   apart = masks_of_matched far.members c d can.matched;
 })
 
@@ -76,11 +77,12 @@ turned : (c d : Candidate) → CanMatch c d → CanMatch d c
 turned c d m = record {
   k = sym m.k;
   r = sym m.r;
+  pages = sym m.pages;
   apart = and_comm d.live c.live ∙ m.apart;
 }
 
 same_group : (c d : Candidate) → AreAlike c d → group c ≡ group d
-same_group c d x = λ i. record { k = x.k i; r = x.r i; live = x.live i }
+same_group c d x = λ i. record { k = x.k i; r = x.r i; pages = x.pages i; live = x.live i }
 
 module _ (s : Shown) (far : FarState) (sound : AwaySound s far) (found : List Candidate)
     (x : AreFirsts far far.counts.sets found) where
@@ -97,7 +99,7 @@ module _ (s : Shown) (far : FarState) (sound : AwaySound s far) (found : List Ca
       let y = group_at found g at_g in let z = group_at found h at_h in
       let p = subst (λ (q : Group). DoMatch q (group z.1)) (sym y.3)
       (subst (λ (q : Group). DoMatch g q) (sym z.3) m) in
-      let can : CanMatch y.1 z.1 = record { k = p.k; r = p.r; apart = p.apart } in
+      let can : CanMatch y.1 z.1 = record { k = p.k; r = p.r; pages = p.pages; apart = p.apart } in
       elim (cases_lt y.0 z.0) [
         | inl less ↦ none y.0 z.0 y.1 z.1 less y.2 z.2 can
         | inr more ↦ elim (cases_eq y.0 z.0) [

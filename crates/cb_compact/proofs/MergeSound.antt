@@ -95,7 +95,7 @@ module _ (s : Shown) (far : FarState) (pair : JoiningState) (a b : SetState)
     abbrev join : IsJoin far pair
     join = ready_join s far pair a b x
 
-    fit : AreFit pair join.k a b
+    fit : AreFit pair join.pages join.k a b
     fit = ready_fit s far pair a b x
 
     same : length b.positions ≡ length a.positions

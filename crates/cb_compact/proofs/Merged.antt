@@ -69,19 +69,21 @@ shards_at (Some shard ∷ steps) (old ∷ olds) (suc p) e = shards_at steps olds
 
 -- ---- positions
 pub none_filled : (a b c : SetState) → length c.positions ≡ length a.positions
-    → IsFilledBelow c.id c.shards a b 0 c
+    → IsFilledBelow c.id c.pages c.shards a b 0 c
 none_filled a b c count = record {
   name = refl;
+  long = refl;
   shards_are = refl;
   count = count;
   filled = λ p l. absurd (omega (arith, l));
 }
 
-pub one_filled : (id : ℕ) (shards : List Shard) (a b now : SetState) (n : ℕ)
-    → IsFilledBelow id shards a b n now → n < length a.positions
-    → IsFilledBelow id shards a b (n + 1) (with_position now n (chosen_position a b n))
-one_filled id shards a b now n x l = record {
+pub one_filled : (id pages : ℕ) (shards : List Shard) (a b now : SetState) (n : ℕ)
+    → IsFilledBelow id pages shards a b n now → n < length a.positions
+    → IsFilledBelow id pages shards a b (n + 1) (with_position now n (chosen_position a b n))
+one_filled id pages shards a b now n x l = record {
   name = x.name;
+  long = x.long;
   shards_are = x.shards_are;
   count = length-set now.positions n (chosen_position a b n) ∙ x.count;
   filled = λ p below. elim (cases_eq p n) [
@@ -112,7 +114,7 @@ merged_at (a ∷ rest) (b ∷ others) (suc p) d e l = merged_at rest others p d 
     (omega (arith, l))
 
 pub all_filled : (id : ℕ) (pair : JoiningState) (a b c : SetState)
-    → IsFilledBelow id (merged_shards pair.steps pair.shards_a) a b (length a.positions) c
+    → IsFilledBelow id a.pages (merged_shards pair.steps pair.shards_a) a b (length a.positions) c
     → length b.positions ≡ length a.positions → c ≡ merged_set id pair a b
 all_filled id pair a b c x e =
     let positions : c.positions ≡ merged_positions a.positions b.positions =
@@ -120,12 +122,19 @@ all_filled id pair a b c x e =
     (x.count ∙ sym (length_merged a.positions b.positions e))
     (λ p l. let within : p < length a.positions = let n = x.count in omega (arith, n, l) in
     x.filled p within ∙ sym (merged_at a.positions b.positions p dead_position e within)) in
-    λ i. record { id = x.name i; shards = x.shards_are i; positions = positions i }
+    λ i. record {
+      id = x.name i;
+      pages = x.long i;
+      shards = x.shards_are i;
+      positions = positions i;
+    }
 
-pub filled_as : (i id : ℕ) (l shards : List Shard) (a b c : SetState) (n : ℕ)
-    → IsFilledBelow i l a b n c → i ≡ id → l ≡ shards → IsFilledBelow id shards a b n c
-filled_as i id l shards a b c n x e f = record {
+pub filled_as : (i id o pages : ℕ) (l shards : List Shard) (a b c : SetState) (n : ℕ)
+    → IsFilledBelow i o l a b n c → i ≡ id → o ≡ pages → l ≡ shards
+    → IsFilledBelow id pages shards a b n c
+filled_as i id o pages l shards a b c n x e g f = record {
   name = x.name ∙ e;
+  long = x.long ∙ g;
   shards_are = x.shards_are ∙ f;
   count = x.count;
   filled = x.filled;

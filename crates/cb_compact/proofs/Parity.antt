@@ -1,5 +1,5 @@
 -- A parity of the merged word is made beside a's own.
-use Rattle.std.proofs.Common.{◌≡◌, ℕ, zero, suc, ◌+◌, ◌<◌, true, List, [], ◌∷◌, length, get_or, All, Some, ap, ◌∙◌, arith, length-set}
+use Rattle.std.proofs.Common.{◌≡◌, ℕ, zero, suc, ◌+◌, ◌*◌, ◌<◌, true, List, [], ◌∷◌, length, get_or, All, Some, ap, ◌∙◌, arith, length-set}
 use Rattle.std.specs.List.{slice_get}
 use Rattle.std.proofs.lemmas.Option.{slice_get-get_or}
 use Rattle.cb_gf256.specs.Rows.{row_at}
@@ -23,9 +23,9 @@ all_taken k (q ∷ taken) x zero d l = x.0
 all_taken k (q ∷ taken) x (suc i) d l = all_taken k taken x.2 i d (omega (arith, l))
 
 -- each row of a word of spans is as wide as a span
-pub row_wide : (k r : ℕ) (rows : List (List ℕ)) (p : ℕ) → IsSpanWord k r rows → p < k + r
-    → length (row_at rows p) ≡ 4096
-row_wide k r rows p x l =
+pub row_wide : (pages k r : ℕ) (rows : List (List ℕ)) (p : ℕ) → IsSpanWord pages k r rows
+    → p < k + r → length (row_at rows p) ≡ 4096 * pages
+row_wide pages k r rows p x l =
     x.is_word.equal_lengths p [] (let n = x.is_word.count in omega (arith, n, l)) ∙ x.wide
 
 module _ (nodes : NodesState) (pair : JoiningState) (k r e : ℕ) (to : Shard)
@@ -56,12 +56,12 @@ module _ (nodes : NodesState) (pair : JoiningState) (k r e : ℕ) (to : Shard)
   ))
 
   -- the rows of a word stand beside the one that is put
-  beside : (new : NodesState) (row : List ℕ) (shards : List Shard) (w : List (List ℕ))
+  beside : (pages : ℕ) (new : NodesState) (row : List ℕ) (shards : List Shard)
+      (w : List (List ℕ))
       → new ≡ with_row nodes to.node to.key row → NoneNames shards to.node to.key
-      → AreThere nodes shards → HaveAllRows nodes shards w → length shards ≡ k + r → IsSpanWord k
-      r w
-      → StandAt new shards w pair.taken
-  beside new row shards w put other there rows count word i l =
+      → AreThere nodes shards → HaveAllRows nodes shards w → length shards ≡ k + r
+      → IsSpanWord pages k r w → StandAt pages new shards w pair.taken
+  beside pages new row shards w put other there rows count word i l =
       let p = get_or pair.taken i 0 in
       let t : p < k = all_taken k pair.taken code.taken i 0 l in
       let d : Shard = record { node = record { n = 0 }; incarnation = 0; key = 0 } in
@@ -78,36 +78,38 @@ module _ (nodes : NodesState) (pair : JoiningState) (k r e : ℕ) (to : Shard)
             ∙ put_keeps_other_rows nodes to.node shard.node to.key shard.key row within
             (other p shard at)
             ∙ rows p shard at;
-        wide = row_wide k r w p word (omega (arith, t));
+        wide = row_wide pages k r w p word (omega (arith, t));
       }
 
-  pub can_patch : (wa wb : List (List ℕ)) (new : NodesState) → StandTogether nodes pair k r wa wb
+  pub can_patch : (pages : ℕ) (wa wb : List (List ℕ)) (new : NodesState)
+      → StandTogether nodes pair pages k r wa wb
       → new ≡ with_row nodes to.node to.key (row_at wa (k + e))
       → CanPatch new to.node to.key pair.shards_a pair.shards_b pair.taken wa wb (row_at wa (k +
       e))
-  can_patch wa wb new x put = record {
+  can_patch pages wa wb new x put = record {
+    pages = pages;
     target = ap (λ (n : NodesState). row_under n to.node to.key) put
         ∙ row_is_put nodes to.node to.key (row_at wa (k + e)) within;
-    wide = row_wide k r wa (k + e) x.a_word (omega (arith, below));
-    a_rows = beside new (row_at wa (k + e)) pair.shards_a wa put a_other code.a_nodes x.a_rows
+    wide = row_wide pages k r wa (k + e) x.a_word (omega (arith, below));
+    a_rows = beside pages new (row_at wa (k + e)) pair.shards_a wa put a_other code.a_nodes x.a_rows
         code.a_count x.a_word;
-    b_rows = beside new (row_at wa (k + e)) pair.shards_b wb put b_other code.b_nodes x.b_rows
+    b_rows = beside pages new (row_at wa (k + e)) pair.shards_b wb put b_other code.b_nodes x.b_rows
         code.b_count x.b_word;
   }
 
-  pub parity_put : (table wa wb m : List (List ℕ)) (new last : NodesState)
-      → AreCoefficients k r table → StandTogether nodes pair k r wa wb
-      → IsMergedWord k r pair.taken wa wb m
+  pub parity_put : (pages : ℕ) (table wa wb m : List (List ℕ)) (new last : NodesState)
+      → AreCoefficients k r table → StandTogether nodes pair pages k r wa wb
+      → IsMergedWord pages k r pair.taken wa wb m
       → new ≡ with_row nodes to.node to.key (row_at wa (k + e))
       → last ≡ with_row new to.node to.key
       (patched (row_at table e) wa wb (row_at wa (k + e)) pair.taken)
       → last ≡ with_row nodes to.node to.key (row_at m (k + e))
-  parity_put table wa wb m new last coeffs x merged put done = done
+  parity_put pages table wa wb m new last coeffs x merged put done = done
       ∙ ap (λ (n : NodesState). with_row n to.node to.key
       (patched (row_at table e) wa wb (row_at wa (k + e)) pair.taken)) put
       ∙ later_row_stays nodes to.node to.key (row_at wa (k + e))
       (patched (row_at table e) wa wb (row_at wa (k + e)) pair.taken) within
-      ∙ ap (with_row nodes to.node to.key) (merged_parity k r table wa wb m pair.taken (record {
+      ∙ ap (with_row nodes to.node to.key) (merged_parity pages k r table wa wb m pair.taken (record {
         range = code.range;
         coefficients = coeffs;
         a_word = x.a_word;

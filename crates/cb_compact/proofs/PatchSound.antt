@@ -56,14 +56,16 @@ step_is_taken pair k p x below =
 -- ---- the pair's code
 pub record HasPairCode (far : FarState) (pair : JoiningState) (a b : SetState) (j : IsJoin far pair)
     : Type 0 where
+  pub pages : a.pages ≡ j.pages
   pub k : length a.positions ≡ j.k
   pub r : parities a ≡ j.r
 
 pub counted : (far : FarState) (pair : JoiningState) (a b : SetState) (j : IsJoin far pair)
     → IsFreshPair far pair a b → HasPairCode far pair a b j
 counted far pair a b j fresh =
-    let k = (j.fit a b (fresh_is far pair a b fresh)).a_count in
+    let fit = j.fit a b (fresh_is far pair a b fresh) in let k = fit.a_count in
     record {
+      pages = fit.a_pages;
       k = k;
       r = let n = j.a_count in let e = ap length fresh.a_stands.same in omega (arith, k, n, e);
     }
@@ -71,13 +73,15 @@ counted far pair a b j fresh =
 -- the merged word that stands at the pair's shards is that of the sets' words
 pub word_merged : (far : FarState) (pair : JoiningState) (a b : SetState) (j : IsJoin far pair)
     (wa wb m : List (List ℕ)) → IsFreshPair far pair a b → IsWordOf far.nodes far.members a wa
-    → IsWordOf far.nodes far.members b wb → IsJoinWord far pair j.k j.r m
-    → IsMergedWord (length a.positions) (parities a) pair.taken wa wb m
+    → IsWordOf far.nodes far.members b wb → IsJoinWord far pair j.pages j.k j.r m
+    → IsMergedWord a.pages (length a.positions) (parities a) pair.taken wa wb m
 word_merged far pair a b j wa wb m fresh xa xb x =
     let c = counted far pair a b j fresh in
-    subst (λ (k : ℕ). IsMergedWord k (parities a) pair.taken wa wb m) (sym c.k)
-    (subst (λ (r : ℕ). IsMergedWord j.k r pair.taken wa wb m) (sym c.r)
-    (join_is_merged far pair a b wa wb m j (fresh_is far pair a b fresh) xa xb x))
+    subst (λ (n : ℕ). IsMergedWord n (length a.positions) (parities a) pair.taken wa wb m)
+    (sym c.pages)
+    (subst (λ (k : ℕ). IsMergedWord j.pages k (parities a) pair.taken wa wb m) (sym c.k)
+    (subst (λ (r : ℕ). IsMergedWord j.pages j.k r pair.taken wa wb m) (sym c.r)
+    (join_is_merged far pair a b wa wb m j (fresh_is far pair a b fresh) xa xb x)))
 
 -- ---- one step
 module _ (s : Shown) (far : FarState) (pair : JoiningState) (a b : SetState) (p : ℕ) (old : Shard)
@@ -122,16 +126,18 @@ module _ (s : Shown) (far : FarState) (pair : JoiningState) (a b : SetState) (p 
         below,
         is,
       ));
-      merged = λ k r m total is word.
+      merged = λ pages k r m long total is word.
           let c = counted far pair a b j fresh in
           let k_is : k ≡ j.k = let e = c.k in omega (arith, e, is) in
+          let pages_is : pages ≡ j.pages = sym long ∙ c.pages in
           let r_is : r ≡ j.r = let n = j.count in omega (arith, total, n, k_is) in
           let wa = sound.away.sound.sets.worded pair.a a fresh.a_stands.there in
           let wb = sound.away.sound.sets.worded pair.b b fresh.b_stands.there in
           merged wa.0 wb.0 m wa.1.word wb.1.word
           (word_merged far pair a b j wa.0 wb.0 m fresh wa.1.word wb.1.word
-          (subst (λ (q : ℕ). IsJoinWord far pair q j.r m) k_is
-          (subst (λ (q : ℕ). IsJoinWord far pair k q m) r_is word)));
+          (subst (λ (q : ℕ). IsJoinWord far pair j.pages q j.r m) k_is
+          (subst (λ (q : ℕ). IsJoinWord far pair j.pages k q m) r_is
+          (subst (λ (q : ℕ). IsJoinWord far pair q k r m) pages_is word))));
       put = row_is_put far.nodes shard.node shard.key row within;
       stay = λ node key off.
           put_keeps_other_rows far.nodes shard.node node shard.key key row within (λ both. off

@@ -105,7 +105,7 @@ module _ (s : Shown) (far : FarState) (pair : JoiningState) (a b : SetState)
 
   pub fresh_together : (wa wb : List (List ℕ)) → IsWordOf far.nodes far.members a wa
       → IsWordOf far.nodes far.members b wb
-      → StandTogether far.nodes pair (length a.positions) (parities a) wa wb
+      → StandTogether far.nodes pair a.pages (length a.positions) (parities a) wa wb
   fresh_together wa wb xa xb =
       let fit = j.fit a b (fresh_is far pair a b fresh) in
       let bk : length b.positions ≡ length a.positions = fit.b_count ∙ sym fit.a_count in
@@ -114,18 +114,20 @@ module _ (s : Shown) (far : FarState) (pair : JoiningState) (a b : SetState)
       let c = fit.b_count in omega (arith, n, e, k, r, c, bk) in
       record {
         a_word = xa.code;
-        b_word = subst (λ (r : ℕ). IsSpanWord (length a.positions) r wb) br
-            (subst (λ (k : ℕ). IsSpanWord k (parities b) wb) bk xb.code);
+        b_word = subst (λ (n : ℕ). IsSpanWord n (length a.positions) (parities a) wb)
+            (fit.b_pages ∙ sym fit.a_pages)
+            (subst (λ (r : ℕ). IsSpanWord b.pages (length a.positions) r wb) br
+            (subst (λ (k : ℕ). IsSpanWord b.pages k (parities b) wb) bk xb.code));
         a_rows = stand_all far pair.a pair.shards_a a wa fresh.a_stands xa;
         b_rows = stand_all far pair.b pair.shards_b b wb fresh.b_stands xb;
       }
 
   pub fresh_words : (wa wb : List (List ℕ))
-      × StandTogether far.nodes pair (length a.positions) (parities a) wa wb
+      × (pages : ℕ) × StandTogether far.nodes pair pages (length a.positions) (parities a) wa wb
   fresh_words =
       let x = sound.sound.sets.worded pair.a a fresh.a_stands.there in
       let y = sound.sound.sets.worded pair.b b fresh.b_stands.there in
-      (x.0, y.0, fresh_together x.0 y.0 x.1.word y.1.word)
+      (x.0, y.0, a.pages, fresh_together x.0 y.0 x.1.word y.1.word)
 
 module _ (s : Shown) (far : FarState) (pair : JoiningState) (a b : SetState) (p : ℕ)
     (shard : Shard) (x : IsReadyToPut s far pair a b p shard) where
@@ -164,7 +166,7 @@ module _ (s : Shown) (far : FarState) (pair : JoiningState) (a b : SetState) (p 
 
   together : (wa wb : List (List ℕ)) → IsWordOf far.nodes far.members a wa
       → IsWordOf far.nodes far.members b wb
-      → StandTogether far.nodes pair (length a.positions) (parities a) wa wb
+      → StandTogether far.nodes pair a.pages (length a.positions) (parities a) wa wb
   together = fresh_together s far pair a b x.sound x.fresh
 
   a_worded : (rows : List (List ℕ)) × IsSetWord s far.nodes far.members a rows
@@ -174,40 +176,41 @@ module _ (s : Shown) (far : FarState) (pair : JoiningState) (a b : SetState) (p 
   b_worded = x.sound.sound.sets.worded pair.b b x.fresh.b_stands.there
 
   pub ready_words : (wa wb : List (List ℕ))
-      × StandTogether far.nodes pair (length a.positions) (parities a) wa wb
+      × (pages : ℕ) × StandTogether far.nodes pair pages (length a.positions) (parities a) wa wb
   ready_words = fresh_words s far pair a b x.sound x.fresh
 
   row_same : (c d : List ℕ) → Some c ≡ Some d → c ≡ d
   row_same c d e = cc
 
   -- what was put is the merged row, whichever words are looked at
-  pub puts_merged : (answer : PutAnswer) (new : NodesState) → ((wa wb m : List (List ℕ))
-      → StandTogether far.nodes pair (length a.positions) (parities a) wa wb
-      → IsMergedWord (length a.positions) (parities a) pair.taken wa wb m
+  pub puts_merged : (answer : PutAnswer) (new : NodesState)
+      → ((pages : ℕ) (wa wb m : List (List ℕ))
+      → StandTogether far.nodes pair pages (length a.positions) (parities a) wa wb
+      → IsMergedWord pages (length a.positions) (parities a) pair.taken wa wb m
       → PutGives far.nodes shard.node shard.key (row_at m p) answer new)
       → PutsMerged far pair a b p shard answer new
   puts_merged answer new puts = by answer puts
     where
       word : (m : List (List ℕ))
-          × IsMergedWord (length a.positions) (parities a) pair.taken a_worded.0 b_worded.0 m
+          × IsMergedWord a.pages (length a.positions) (parities a) pair.taken a_worded.0 b_worded.0 m
       word = let m = joined.word a b (fresh_is far pair a b x.fresh) in (
         m.0,
         word_merged far pair a b joined a_worded.0 b_worded.0 m.0 x.fresh a_worded.1.word
             b_worded.1.word m.1,
       )
 
-      by : (v : PutAnswer) → ((wa wb m : List (List ℕ))
-          → StandTogether far.nodes pair (length a.positions) (parities a) wa wb
-          → IsMergedWord (length a.positions) (parities a) pair.taken wa wb m
+      by : (v : PutAnswer) → ((pages : ℕ) (wa wb m : List (List ℕ))
+          → StandTogether far.nodes pair pages (length a.positions) (parities a) wa wb
+          → IsMergedWord pages (length a.positions) (parities a) pair.taken wa wb m
           → PutGives far.nodes shard.node shard.key (row_at m p) v new)
           → PutsMerged far pair a b p shard v new
       by Stored puts =
-          let first = puts a_worded.0 b_worded.0 word.0
+          let first = puts a.pages a_worded.0 b_worded.0 word.0
           (together a_worded.0 b_worded.0 a_worded.1.word b_worded.1.word) word.1 in (
             first.0,
             row_at word.0 p,
             λ wa wb m xa xb merged.
-                let other = puts wa wb m (together wa wb xa xb) merged in
+                let other = puts a.pages wa wb m (together wa wb xa xb) merged in
                 row_same (row_at word.0 p) (row_at m p)
                 (sym (row_is_put far.nodes shard.node shard.key (row_at word.0 p) ready_node)
                 ∙ ap (λ (n : NodesState). row_under n shard.node shard.key) (sym first.1 ∙
@@ -216,7 +219,7 @@ module _ (s : Shown) (far : FarState) (pair : JoiningState) (a b : SetState) (p 
             first.1,
           )
       by (Full count) puts =
-          let first = puts a_worded.0 b_worded.0 word.0
+          let first = puts a.pages a_worded.0 b_worded.0 word.0
           (together a_worded.0 b_worded.0 a_worded.1.word b_worded.1.word) word.1 in (
             first.0,
             first.2,

@@ -31,7 +31,7 @@ can_join = record {
   b_there = second_of set_a set_b;
   data_count = refl;
   parity_count = refl;
-  matched = record { whole_a = refl; whole_b = refl; apart = a_or_b };
+  matched = record { whole_a = refl; whole_b = refl; pages = refl; apart = a_or_b };
 }
 
 -- neither may be missing
@@ -43,10 +43,10 @@ not_without_b x = none-some set_b (sym (none_third set_a set_b) ∙ x.b_there)
 
 -- b with one data position and a parity, and with a parity more
 abbrev narrow : SetState
-narrow = set_of 1 (on_node 3 ∷ on_node 4 ∷ []) (dead ∷ [])
+narrow = set_of 1 1 (on_node 3 ∷ on_node 4 ∷ []) (dead ∷ [])
 
 abbrev tall : SetState
-tall = set_of 1 (on_node 3 ∷ on_node 4 ∷ on_node 5 ∷ on_node 0 ∷ []) set_b.positions
+tall = set_of 1 1 (on_node 3 ∷ on_node 4 ∷ on_node 5 ∷ on_node 0 ∷ []) set_b.positions
 
 not_of_fewer_positions : CanJoin (far (two set_a narrow) all_up 2 None) 0 1 set_a narrow → ⊥
 not_of_fewer_positions x = let e : 1 ≡ 2 = x.data_count in omega (arith, e)
@@ -54,9 +54,16 @@ not_of_fewer_positions x = let e : 1 ≡ 2 = x.data_count in omega (arith, e)
 not_of_more_parities : CanJoin (far (two set_a tall) all_up 2 None) 0 1 set_a tall → ⊥
 not_of_more_parities x = let e : 2 ≡ 1 = x.parity_count in omega (arith, e)
 
+-- of spans of two pages
+abbrev longer : SetState
+longer = record set_b { pages = 2 }
+
+not_of_another_length : CanJoin (far (two set_a longer) all_up 2 None) 0 1 set_a longer → ⊥
+not_of_another_length x = let e : 2 ≡ 1 = x.matched.pages in omega (arith, e)
+
 -- live at position 0 as well
 abbrev beside_a : SetState
-beside_a = set_of 1 set_b.shards (live_with 8 ∷ dead ∷ [])
+beside_a = set_of 1 1 set_b.shards (live_with 8 ∷ dead ∷ [])
 
 not_live_in_both : CanJoin (far (two set_a beside_a) all_up 2 None) 0 1 set_a beside_a → ⊥
 not_live_in_both x = x.matched.apart 0 refl refl
@@ -92,6 +99,7 @@ b_and_a = record {
   matched = record {
     whole_a = refl;
     whole_b = refl;
+    pages = refl;
     apart = λ p on off. a_or_b p off on;
   };
 }
@@ -104,10 +112,10 @@ not_one_that_is_missing x = not_without_b x.can
 
 -- of four sets the first and the third are live at position 0, the second and the fourth at 1
 abbrev pub set_c : SetState
-set_c = set_of 2 set_a.shards set_a.positions
+set_c = set_of 2 1 set_a.shards set_a.positions
 
 abbrev set_d : SetState
-set_d = set_of 3 set_b.shards set_b.positions
+set_d = set_of 3 1 set_b.shards set_b.positions
 
 abbrev pub crowd : FarState
 crowd = far (four set_a set_b set_c set_d) all_up 2 None
@@ -118,7 +126,7 @@ first_of_crowd = record {
   b_there = second_of_four set_a set_b set_c set_d;
   data_count = refl;
   parity_count = refl;
-  matched = record { whole_a = refl; whole_b = refl; apart = a_or_b };
+  matched = record { whole_a = refl; whole_b = refl; pages = refl; apart = a_or_b };
 }
 
 -- these two can be joined, and so can the second and the third
@@ -128,7 +136,7 @@ last_of_crowd = record {
   b_there = fourth_of_four set_a set_b set_c set_d;
   data_count = refl;
   parity_count = refl;
-  matched = record { whole_a = refl; whole_b = refl; apart = a_or_b };
+  matched = record { whole_a = refl; whole_b = refl; pages = refl; apart = a_or_b };
 }
 
 later_of_crowd : CanJoin crowd 1 2 set_b set_c
@@ -140,6 +148,7 @@ later_of_crowd = record {
   matched = record {
     whole_a = refl;
     whole_b = refl;
+    pages = refl;
     apart = λ p on off. a_or_b p off on;
   };
 }

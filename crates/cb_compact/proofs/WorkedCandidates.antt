@@ -19,19 +19,33 @@ use Rattle.cb_compact.proofs.WorkedBegin.{crowd, set_c}
 use Rattle.cb_compact.proofs.WorkedGround.{all_up, far, first_of, first_of_four, ground, none_third, one_down, second_of, two}
 use Rattle.cb_compact.proofs.WorkedPair.{begun, set_a, set_b}
 
--- sets of one code, live at position 0 of two, or at position 1
+-- sets of one code and length, live at position 0 of two, or at position 1
 abbrev at_zero : ℕ → Candidate
-at_zero id = record { id = id; k = 2; r = 1; live = 1 }
+at_zero id = record { id = id; k = 2; r = 1; pages = 1; live = 1 }
 
 abbrev at_one : ℕ → Candidate
-at_one id = record { id = id; k = 2; r = 1; live = 2 }
+at_one id = record { id = id; k = 2; r = 1; pages = 1; live = 2 }
 
 -- ---- a whole committed set
 a_is : IsCandidate ground (at_zero 0) set_a
-a_is = record { there = first_of set_a set_b; whole = refl; k = refl; r = refl; live = refl }
+a_is = record {
+  there = first_of set_a set_b;
+  whole = refl;
+  k = refl;
+  r = refl;
+  pages = refl;
+  live = refl;
+}
 
 b_is : IsCandidate ground (at_one 1) set_b
-b_is = record { there = second_of set_a set_b; whole = refl; k = refl; r = refl; live = refl }
+b_is = record {
+  there = second_of set_a set_b;
+  whole = refl;
+  k = refl;
+  r = refl;
+  pages = refl;
+  live = refl;
+}
 
 not_a_number_of_none : (set : SetState) → IsCandidate ground (at_zero 2) set → ⊥
 not_a_number_of_none set x = none-some set (sym (none_third set_a set_b) ∙ x.there)
@@ -47,6 +61,9 @@ not_of_more_data x = let e : 3 ≡ 2 = x.k in omega (arith, e)
 not_of_more_parities : IsCandidate ground (record (at_zero 0) { r = 2 }) set_a → ⊥
 not_of_more_parities x = let e : 2 ≡ 1 = x.r in omega (arith, e)
 
+not_of_longer_spans : IsCandidate ground (record (at_zero 0) { pages = 2 }) set_a → ⊥
+not_of_longer_spans x = let e : 2 ≡ 1 = x.pages in omega (arith, e)
+
 not_live_elsewhere : IsCandidate ground (at_one 0) set_a → ⊥
 not_live_elsewhere x = let e : 2 ≡ 1 = x.live in omega (arith, e)
 
@@ -57,8 +74,11 @@ not_alike_in_data x = let e : 3 ≡ 2 = x.k in omega (arith, e)
 not_alike_in_parities : AreAlike (record (at_zero 0) { r = 2 }) (at_zero 0) → ⊥
 not_alike_in_parities x = let e : 2 ≡ 1 = x.r in omega (arith, e)
 
+not_alike_in_length : AreAlike (record (at_zero 0) { pages = 2 }) (at_zero 0) → ⊥
+not_alike_in_length x = let e : 2 ≡ 1 = x.pages in omega (arith, e)
+
 alike : (m n : ℕ) → AreAlike (at_zero m) (at_zero n)
-alike m n = record { k = refl; r = refl; live = refl }
+alike m n = record { k = refl; r = refl; pages = refl; live = refl }
 
 -- ---- places of candidates
 no_place : (i : ℕ) (d : Candidate) → slice_get [] i ≡ Some d → ⊥
@@ -113,7 +133,7 @@ none_is_dropped : IsAdded (at_zero 0 ∷ []) (at_zero 4) [] → ⊥
 none_is_dropped (inl e) = let f : 0 ≡ 2 = ap count_of e in omega (arith, f)
 none_is_dropped (inr x) = let f : 0 ≡ 1 = ap count_of x.0 in omega (arith, f)
 
--- ---- the first of each code and live positions
+-- ---- the first of each code, length and live positions
 abbrev both : List Candidate
 both = at_zero 0 ∷ at_one 1 ∷ []
 
@@ -144,6 +164,7 @@ both_are_first = record {
     alike_of d c set other x y e = record {
       k = y.k ∙ sym (x.k ∙ ap (λ (s : SetState). length s.positions) e);
       r = y.r ∙ sym (x.r ∙ ap (λ (s : SetState). parities s) e);
+      pages = y.pages ∙ sym (x.pages ∙ ap (λ (s : SetState). s.pages) e);
       live = y.live ∙ sym (x.live ∙ ap (λ (s : SetState). live_mask s.positions) e);
     }
 
@@ -198,6 +219,7 @@ not_a_later_one x = by y.0 y.1 y.2 y.3 y.4
       whole = refl;
       k = refl;
       r = refl;
+      pages = refl;
       live = refl;
     }
 
@@ -217,7 +239,7 @@ not_a_later_one x = by y.0 y.1 y.2 y.3 y.4
 
 -- ---- the first two that match
 zero_and_one : (m n : ℕ) → CanMatch (at_zero m) (at_one n)
-zero_and_one m n = record { k = refl; r = refl; apart = refl }
+zero_and_one m n = record { k = refl; r = refl; pages = refl; apart = refl }
 
 not_two_at_zero : (m n : ℕ) → CanMatch (at_zero m) (at_zero n) → ⊥
 not_two_at_zero m n x = let e : 1 ≡ 0 = x.apart in omega (arith, e)

@@ -1,6 +1,6 @@
 -- Worked examples of how the row of a step is put: a value that meets each definition, and for each
 -- of its parts one that breaks that part alone.
-use Rattle.std.proofs.Common.{◌≡◌, ℕ, zero, suc, ◌<◌, ◌≤◌, List, [], ◌∷◌, Some, get_or, length, refl, sym, ap, ◌∙◌, subst, arith, lit<, lit≤}
+use Rattle.std.proofs.Common.{◌≡◌, ℕ, zero, suc, ◌*◌, ◌<◌, ◌≤◌, List, [], ◌∷◌, Some, get_or, length, refl, sym, ap, ◌∙◌, subst, arith, lit<, lit≤}
 use Rattle.std.specs.List.{slice_get}
 use Rattle.std.proofs.lemmas.Option.{none-some, same_Some}
 use Rattle.cb_member.specs.declared.names.Shard.{Shard}
@@ -70,7 +70,7 @@ not_other_rows : HaveAllRows ground.nodes begun.shards_a others → ⊥
 not_other_rows x = rows_differ (same_Some (row 7) (row 0)
     (sym (has_row 0 7) ∙ x 0 (on_node 0) refl))
 
-together : StandTogether ground.nodes begun 2 1 rows rows
+together : StandTogether ground.nodes begun 1 2 1 rows rows
 together = record {
   a_word = word_a.code;
   b_word = word_b.code;
@@ -82,16 +82,16 @@ together = record {
 abbrev longer : List (List ℕ)
 longer = row 7 ∷ row 0 ∷ row 7 ∷ row 0 ∷ []
 
-no_word_of_a : StandTogether ground.nodes begun 2 1 longer rows → ⊥
+no_word_of_a : StandTogether ground.nodes begun 1 2 1 longer rows → ⊥
 no_word_of_a x = let e : 4 ≡ 3 = x.a_word.is_word.count in omega (arith, e)
 
-no_word_of_b : StandTogether ground.nodes begun 2 1 rows longer → ⊥
+no_word_of_b : StandTogether ground.nodes begun 1 2 1 rows longer → ⊥
 no_word_of_b x = let e : 4 ≡ 3 = x.b_word.is_word.count in omega (arith, e)
 
-not_the_rows_of_a : StandTogether ground.nodes begun 2 1 others rows → ⊥
+not_the_rows_of_a : StandTogether ground.nodes begun 1 2 1 others rows → ⊥
 not_the_rows_of_a x = not_other_rows x.a_rows
 
-not_the_rows_of_b : StandTogether ground.nodes begun 2 1 rows others → ⊥
+not_the_rows_of_b : StandTogether ground.nodes begun 1 2 1 rows others → ⊥
 not_the_rows_of_b x = rows_differ (same_Some (row 7) (row 0)
     (sym (has_row 3 7) ∙ x.b_rows 0 (on_node 3) refl))
 
@@ -160,13 +160,14 @@ patch nodes wa wb put = CanPatch nodes (node 2) 2 begun.shards_a begun.shards_b 
 
 can_patch : patch ground.nodes rows rows (row 7)
 can_patch = record {
+  pages = 1;
   target = has_row 2 7;
   wide = seven_wide;
   a_rows = in_a;
   b_rows = in_b;
 }
   where
-    in_a : (i : ℕ) → i < 1 → StandsAt ground.nodes begun.shards_a rows (get_or (1 ∷ []) i 0)
+    in_a : (i : ℕ) → i < 1 → StandsAt 1 ground.nodes begun.shards_a rows (get_or (1 ∷ []) i 0)
     in_a zero l = record {
       shard = on_node 1;
       at = refl;
@@ -176,7 +177,7 @@ can_patch = record {
     }
     in_a (suc i) l = absurd (omega (arith, l))
 
-    in_b : (i : ℕ) → i < 1 → StandsAt ground.nodes begun.shards_b rows (get_or (1 ∷ []) i 0)
+    in_b : (i : ℕ) → i < 1 → StandsAt 1 ground.nodes begun.shards_b rows (get_or (1 ∷ []) i 0)
     in_b zero l = record {
       shard = on_node 4;
       at = refl;
@@ -190,7 +191,9 @@ not_another_target : patch ground.nodes rows rows (row 0) → ⊥
 not_another_target x = rows_differ (same_Some (row 7) (row 0) (sym (has_row 2 7) ∙ x.target))
 
 not_a_short_one : (nodes : NodesState) → patch nodes rows rows [] → ⊥
-not_a_short_one nodes x = let e : 0 ≡ 4096 = x.wide in omega (arith, e)
+not_a_short_one nodes x =
+    let e : 0 ≡ 4096 * x.pages = x.wide in let w = (x.a_rows 0 (lit< tt)).wide in
+    let z = zero_wide in omega (arith, e, w, z)
 
 -- where the word has another row at position 1
 abbrev sevens : List (List ℕ)

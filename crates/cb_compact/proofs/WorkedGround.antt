@@ -117,7 +117,7 @@ abbrev pub ground : FarState
 ground = far (two set_a set_b) all_up 2 (Some begun)
 
 -- ---- the words
-is_span_word : IsSpanWord 2 1 rows
+is_span_word : IsSpanWord 1 2 1 rows
 is_span_word = (worked_word (empty_nodes 4 2) one_down 0 (record { live = false; slots = [] })
     (record { live = false; slots = [] }) (lit≤ tt) refl).code
 
@@ -140,7 +140,7 @@ module _ (id x y z : ℕ) (first second : PositionState)
       (same_Some (on_node z) shard e) third_row
   survive (suc (suc (suc p))) shard e stands = absurd (none-some shard e)
 
-  word_of : IsWordOf (nodes_with 2) all_up (set_of id shards (first ∷ second ∷ [])) rows
+  word_of : IsWordOf (nodes_with 2) all_up (set_of id 1 shards (first ∷ second ∷ [])) rows
   word_of = record { code = is_span_word; survive = survive }
 
 pub word_a : IsWordOf ground.nodes ground.members set_a rows
@@ -150,7 +150,7 @@ pub word_b : IsWordOf ground.nodes ground.members set_b rows
 word_b = word_of 1 3 4 5 _ _ (has_row 3 7) (has_row 4 0) (has_row 5 7)
 
 -- the merged word of two that are the same
-pub merged_word : IsMergedWord 2 1 begun.taken rows rows rows
+pub merged_word : IsMergedWord 1 2 1 begun.taken rows rows rows
 merged_word = record {
   word = is_span_word;
   chosen = λ i l. either (takes begun.taken i) (row_at rows i);

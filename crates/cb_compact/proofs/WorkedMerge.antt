@@ -35,7 +35,7 @@ none_undone = refl
 
 -- a's shard stays where b is not taken, and the new ones stand elsewhere
 pub merged : merged_set 2 all_done set_a set_b
-    ≡ set_of 2 (on_node 0 ∷ new_at 1 6 ∷ new_at 2 7 ∷ []) (live_with 7 ∷ live_with 8 ∷ [])
+    ≡ set_of 2 1 (on_node 0 ∷ new_at 1 6 ∷ new_at 2 7 ∷ []) (live_with 7 ∷ live_with 8 ∷ [])
 merged = refl
 
 -- of a, the rows beside new ones are dropped
@@ -51,7 +51,7 @@ one_moved = refl
 
 -- b after its position died
 abbrev set_b_dead : SetState
-set_b_dead = set_of 1 set_b.shards (dead ∷ dead ∷ [])
+set_b_dead = set_of 1 1 set_b.shards (dead ∷ dead ∷ [])
 
 pub none_moved : moved_count all_done set_b_dead ≡ 0
 none_moved = refl
@@ -62,7 +62,7 @@ a_stays_where_b_died = refl
 
 -- ---- homes
 abbrev one_object : SetState
-one_object = set_of 5 [] (live_with 1 ∷ [])
+one_object = set_of 5 1 [] (live_with 1 ∷ [])
 
 abbrev home_in : ℕ → Option Home
 home_in set = Some (record { set = set; position = 0; slot = 0 })
@@ -196,7 +196,7 @@ once = record {
 pub not_past_the_count : AreNamedOnce one_object 1 → ⊥
 not_past_the_count x = let l = x.below 0 0 1 refl in omega (arith, l)
 
-pub not_twice_named : AreNamedOnce (set_of 5 [] (record {
+pub not_twice_named : AreNamedOnce (set_of 5 1 [] (record {
   live = true;
   slots = Some 1 ∷ Some 1 ∷ [];
 } ∷ [])) 2 → ⊥
@@ -205,14 +205,14 @@ not_twice_named x = let e = (x.once 0 0 0 1 1 refl refl).1 in omega (arith, e)
 false_is_true : false ≡ true → ⊥
 false_is_true e = cc
 
-pub not_where_dead : AreNamedOnce (set_of 5 [] (record {
+pub not_where_dead : AreNamedOnce (set_of 5 1 [] (record {
   live = false;
   slots = Some 1 ∷ [];
 } ∷ [])) 2 → ⊥
 not_where_dead x = false_is_true (x.live 0 0 1 refl)
 
 pub not_so_many_slots : (slots : List (Option ℕ)) → 2 ^ 32 ≤ length slots
-    → AreNamedOnce (set_of 5 [] (record { live = true; slots = slots } ∷ [])) 2 → ⊥
+    → AreNamedOnce (set_of 5 1 [] (record { live = true; slots = slots } ∷ [])) 2 → ⊥
 not_so_many_slots slots many x = let l = x.few 0 refl in omega (arith, many, l)
 
 -- ---- slot tables and live positions
@@ -221,10 +221,10 @@ tables zero = refl
 tables (suc zero) = refl
 tables (suc (suc p)) = refl
 
-pub not_live_with_none : AreSlotTables (set_of 5 [] (record { live = true; slots = [] } ∷ [])) → ⊥
+pub not_live_with_none : AreSlotTables (set_of 5 1 [] (record { live = true; slots = [] } ∷ [])) → ⊥
 not_live_with_none x = false_is_true (sym (x 0))
 
-pub not_dead_with_one : AreSlotTables (set_of 5 [] (record {
+pub not_dead_with_one : AreSlotTables (set_of 5 1 [] (record {
   live = false;
   slots = Some 1 ∷ [];
 } ∷ [])) → ⊥
@@ -235,27 +235,31 @@ first_only : (p : ℕ) → p < 1 → (P : ℕ → Type 0) → P 0 → P p
 first_only zero l P x = x
 first_only (suc p) l P x = absurd (omega (arith, l))
 
-pub first_filled : IsFilledBelow 2 [] set_a set_b 1 (set_of 2 [] (live_with 7 ∷ dead ∷ []))
+pub first_filled : IsFilledBelow 2 1 [] set_a set_b 1 (set_of 2 1 [] (live_with 7 ∷ dead ∷ []))
 first_filled = record {
   name = refl;
+  long = refl;
   shards_are = refl;
   count = refl;
-  filled = λ p l. first_only p l (λ p. position_of (set_of 2 [] (live_with 7 ∷ dead ∷ [])) p
+  filled = λ p l. first_only p l (λ p. position_of (set_of 2 1 [] (live_with 7 ∷ dead ∷ [])) p
       ≡ chosen_position set_a set_b p) refl;
 }
 
-pub another_name : IsFilledBelow 3 [] set_a set_b 1 (set_of 2 [] (live_with 7 ∷ dead ∷ [])) → ⊥
+pub another_name : IsFilledBelow 3 1 [] set_a set_b 1 (set_of 2 1 [] (live_with 7 ∷ dead ∷ [])) → ⊥
 another_name x = let e = x.name in omega (arith, e)
 
-pub no_such_shards : IsFilledBelow 2 (on_node 0 ∷ []) set_a set_b 1
-    (set_of 2 [] (live_with 7 ∷ dead ∷ [])) → ⊥
+pub another_length : IsFilledBelow 2 4 [] set_a set_b 1 (set_of 2 1 [] (live_with 7 ∷ dead ∷ [])) → ⊥
+another_length x = let e : 1 ≡ 4 = x.long in omega (arith, e)
+
+pub no_such_shards : IsFilledBelow 2 1 (on_node 0 ∷ []) set_a set_b 1
+    (set_of 2 1 [] (live_with 7 ∷ dead ∷ [])) → ⊥
 no_such_shards x = let e = ap (λ (l : List Shard). length l) x.shards_are in omega (arith, e)
 
-pub too_few_positions : IsFilledBelow 2 [] set_a set_b 1 (set_of 2 [] (live_with 7 ∷ [])) → ⊥
+pub too_few_positions : IsFilledBelow 2 1 [] set_a set_b 1 (set_of 2 1 [] (live_with 7 ∷ [])) → ⊥
 too_few_positions x = let e = x.count in omega (arith, e)
 
-pub second_not_filled : IsFilledBelow 2 [] set_a set_b 2
-    (set_of 2 [] (live_with 7 ∷ dead ∷ [])) → ⊥
+pub second_not_filled : IsFilledBelow 2 1 [] set_a set_b 2
+    (set_of 2 1 [] (live_with 7 ∷ dead ∷ [])) → ⊥
 second_not_filled x = false_is_true (ap (λ (q : PositionState). q.live) (x.filled 1 (omega arith)))
 
 -- ---- what a commit is answered, over any far state

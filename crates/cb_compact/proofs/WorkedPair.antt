@@ -21,10 +21,10 @@ dead = record { live = false; slots = [] }
 
 -- a is live at position 0, and b at position 1
 abbrev pub set_a : SetState
-set_a = set_of 0 (on_node 0 ∷ on_node 1 ∷ on_node 2 ∷ []) (live_with 7 ∷ dead ∷ [])
+set_a = set_of 0 1 (on_node 0 ∷ on_node 1 ∷ on_node 2 ∷ []) (live_with 7 ∷ dead ∷ [])
 
 abbrev pub set_b : SetState
-set_b = set_of 1 (on_node 3 ∷ on_node 4 ∷ on_node 5 ∷ []) (dead ∷ live_with 8 ∷ [])
+set_b = set_of 1 1 (on_node 3 ∷ on_node 4 ∷ on_node 5 ∷ []) (dead ∷ live_with 8 ∷ [])
 
 pub live_in_b : live_positions set_b ≡ 1 ∷ []
 live_in_b = refl
@@ -102,10 +102,10 @@ not_done_yet x = true_false (x 2 (omega arith))
 
 -- ---- candidates
 abbrev of_bits : ℕ → ℕ → ℕ → Candidate
-of_bits k r live = record { id = 0; k = k; r = r; live = live }
+of_bits k r live = record { id = 0; k = k; r = r; pages = 1; live = live }
 
 pub apart_match : CanMatch (of_bits 4 2 5) (of_bits 4 2 10)
-apart_match = record { k = refl; r = refl; apart = refl }
+apart_match = record { k = refl; r = refl; pages = refl; apart = refl }
 
 pub no_common_position : CanMatch (of_bits 4 2 5) (of_bits 4 2 9) → ⊥
 no_common_position x = let e = x.apart in omega (arith, e)
@@ -116,8 +116,11 @@ no_other_data x = let e = x.k in omega (arith, e)
 pub no_other_parities : CanMatch (of_bits 4 2 5) (of_bits 4 1 10) → ⊥
 no_other_parities x = let e = x.r in omega (arith, e)
 
+pub no_other_length : CanMatch (of_bits 4 2 5) (record (of_bits 4 2 10) { pages = 2 }) → ⊥
+no_other_length x = let e = x.pages in omega (arith, e)
+
 pub alike : AreAlike (of_bits 4 2 5) (of_bits 4 2 5)
-alike = record { k = refl; r = refl; live = refl }
+alike = record { k = refl; r = refl; pages = refl; live = refl }
 
 pub not_alike_elsewhere : AreAlike (of_bits 4 2 5) (of_bits 4 2 10) → ⊥
 not_alike_elsewhere x = let e = x.live in omega (arith, e)

@@ -17,17 +17,19 @@ pub record IsCandidate (far : FarState) (candidate : Candidate) (set : SetState)
   pub whole : IsWhole far.members set
   pub k : candidate.k ≡ length set.positions
   pub r : candidate.r ≡ parities set
+  pub pages : candidate.pages ≡ set.pages
   pub live : candidate.live ≡ live_mask set.positions
 
--- both are of one code and have the same live positions
+-- both are of one code and one length and have the same live positions
 pub record AreAlike (a b : Candidate) : Type 0 where
   pub k : a.k ≡ b.k
   pub r : a.r ≡ b.r
+  pub pages : a.pages ≡ b.pages
   pub live : a.live ≡ b.live
 
 -- what it has in common with those that are alike
 abbrev pub group : Candidate → Group
-group c = record { k = c.k; r = c.r; live = c.live }
+group c = record { k = c.k; r = c.r; pages = c.pages; live = c.live }
 
 -- the groups of candidates
 abbrev pub groups_of : List Candidate → List Group
@@ -43,14 +45,15 @@ abbrev pub IsAdded : List Candidate → Candidate → List Candidate → Type 0
 IsAdded found c new = (new ≡ found ++ c ∷ []) ⊎ ((new ≡ found)
     × ((i : ℕ) × (d : Candidate) × (slice_get found i ≡ Some d) × AreAlike d c))
 
--- both are of one code and have no live position in common
+-- both are of one code and one length and have no live position in common
 pub record CanMatch (a b : Candidate) : Type 0 where
   pub k : a.k ≡ b.k
   pub r : a.r ≡ b.r
+  pub pages : a.pages ≡ b.pages
   pub apart : bit_and a.live b.live ≡ 0
 
--- Of the whole committed sets with a number below this one, the first of each code and live
--- positions, in order of their numbers.
+-- Of the whole committed sets with a number below this one, the first of each code, length
+-- and live positions, in order of their numbers.
 pub record AreFirsts (far : FarState) (below : ℕ) (found : List Candidate) : Type 0 where
   pub sets : (i : ℕ) (c : Candidate) → slice_get found i ≡ Some c
       → (c.id < below) × (set : SetState) × IsCandidate far c set

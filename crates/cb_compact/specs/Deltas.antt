@@ -1,5 +1,5 @@
 -- The deltas that a parity's step adds at a node, and the words that they are made of.
-use Rattle.std.specs.Prelude.{◌≡◌, ℕ, ◌+◌, ◌<◌, List, Some, length, slice_get}
+use Rattle.std.specs.Prelude.{◌≡◌, ℕ, ◌+◌, ◌*◌, ◌<◌, List, Some, length, slice_get}
 use Rattle.cb_gf256.specs.Rows.{row_at}
 use Rattle.cb_gf256.specs.InRange.{IsInRange}
 use Rattle.cb_member.specs.declared.names.NodeId.{NodeId}
@@ -26,24 +26,24 @@ NoneNames shards node key = (p : ℕ) (shard : Shard) → slice_get shards p ≡
     → ¬ (NamesRow shard node key)
 
 -- the row stands at the node under the key, beside the rows of two words at these positions
-pub record CanPatch (nodes : NodesState) (to : NodeId) (key : ℕ) (a b : List Shard) (taken : List
-    ℕ)
-    (wa wb : List (List ℕ)) (row : List ℕ) : Type 0 where
+pub record CanPatch (nodes : NodesState) (to : NodeId) (key : ℕ) (a b : List Shard)
+    (taken : List ℕ) (wa wb : List (List ℕ)) (row : List ℕ) : Type 0 where
+  pub pages : ℕ
   pub target : row_under nodes to key ≡ Some row
-  pub wide : length row ≡ 4096
-  pub a_rows : StandAt nodes a wa taken
-  pub b_rows : StandAt nodes b wb taken
+  pub wide : length row ≡ 4096 * pages
+  pub a_rows : StandAt pages nodes a wa taken
+  pub b_rows : StandAt pages nodes b wb taken
 
 -- each shard's row stands at its node, and is that of its position in the word
 abbrev pub HaveAllRows : NodesState → List Shard → List (List ℕ) → Type 0
 HaveAllRows nodes shards rows = (p : ℕ) (shard : Shard) → slice_get shards p ≡ Some shard
     → row_under nodes shard.node shard.key ≡ Some (row_at rows p)
 
--- all rows of the words of the pair's sets stand at the nodes
-pub record StandTogether (nodes : NodesState) (pair : JoiningState) (k r : ℕ)
+-- all rows of the words of the pair's sets, of spans of so many pages, stand at the nodes
+pub record StandTogether (nodes : NodesState) (pair : JoiningState) (pages k r : ℕ)
     (wa wb : List (List ℕ)) : Type 0 where
-  pub a_word : IsSpanWord k r wa
-  pub b_word : IsSpanWord k r wb
+  pub a_word : IsSpanWord pages k r wa
+  pub b_word : IsSpanWord pages k r wb
   pub a_rows : HaveAllRows nodes pair.shards_a wa
   pub b_rows : HaveAllRows nodes pair.shards_b wb
 

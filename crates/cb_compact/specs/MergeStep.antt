@@ -30,7 +30,8 @@ merged_positions (a ∷ rest) (b ∷ bs) = (if b.live then b else a) ∷ merged_
 -- the merged set, under its number
 abbrev pub merged_set : ℕ → JoiningState → SetState → SetState → SetState
 merged_set id pair a b =
-    set_of id (merged_shards pair.steps pair.shards_a) (merged_positions a.positions b.positions)
+    set_of id a.pages (merged_shards pair.steps pair.shards_a)
+    (merged_positions a.positions b.positions)
 
 -- a's shards beside which new rows stand
 abbrev pub replaced_shards : List (Option Shard) → List Shard → List Shard

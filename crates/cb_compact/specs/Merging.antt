@@ -19,11 +19,12 @@ AreSlotTables set = (p : ℕ)
 abbrev pub chosen_position : SetState → SetState → ℕ → PositionState
 chosen_position a b p = if live_at b p then position_of b p else position_of a p
 
--- the set has these shards and as many positions as a, and the first n of them are the merged
--- set's
-pub record IsFilledBelow (id : ℕ) (shards : List Shard) (a b : SetState) (n : ℕ) (set : SetState)
-    : Type 0 where
+-- the set has spans of so many pages, these shards and as many positions as a, and the first n of
+-- them are the merged set's
+pub record IsFilledBelow (id pages : ℕ) (shards : List Shard) (a b : SetState) (n : ℕ)
+    (set : SetState) : Type 0 where
   pub name : set.id ≡ id
+  pub long : set.pages ≡ pages
   pub shards_are : set.shards ≡ shards
   pub count : length set.positions ≡ length a.positions
   pub filled : (p : ℕ) → p < n → position_of set p ≡ chosen_position a b p

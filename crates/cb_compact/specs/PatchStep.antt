@@ -41,7 +41,7 @@ AreDone pair k = (p : ℕ) → p < length pair.steps → is_undone pair k p ≡ 
 abbrev pub IsMergedRow : FarState → JoiningState → SetState → SetState → ℕ → List ℕ → Type 0
 IsMergedRow far pair a b p row = (wa wb m : List (List ℕ)) → IsWordOf far.nodes far.members a wa
     → IsWordOf far.nodes far.members b wb
-    → IsMergedWord (length a.positions) (parities a) pair.taken wa wb m → row ≡ row_at m p
+    → IsMergedWord a.pages (length a.positions) (parities a) pair.taken wa wb m → row ≡ row_at m p
 
 -- the shard for a new row beside the old one: on its node and of its incarnation, under the next
 -- key

@@ -13,20 +13,22 @@ abbrev pub AreMasks : List Candidate → Type 0
 AreMasks found = (i : ℕ) (c : Candidate) → slice_get found i ≡ Some c
     → (c.k ≤ 16) × (c.live < 2 ^ c.k)
 
--- the live positions of each candidate of this code are marked
-abbrev pub AreMarked : List Candidate → ℕ → ℕ → List Bool → Type 0
-AreMarked found k r marks = (i : ℕ) (c : Candidate) → slice_get found i ≡ Some c → c.k ≡ k → c.r ≡ r
-    → slice_index_or marks c.live false ≡ true
+-- the live positions of each candidate of this code and length are marked
+abbrev pub AreMarked : List Candidate → ℕ → ℕ → ℕ → List Bool → Type 0
+AreMarked found k r pages marks = (i : ℕ) (c : Candidate) → slice_get found i ≡ Some c → c.k ≡ k
+    → c.r ≡ r → c.pages ≡ pages → slice_index_or marks c.live false ≡ true
 
--- an entry is marked wherever all live positions of a candidate of this code are among its own
-abbrev pub IsFilled : List Candidate → ℕ → ℕ → List Bool → Type 0
-IsFilled found k r marks = (i mask : ℕ) (c : Candidate) → slice_get found i ≡ Some c → c.k ≡ k
-    → c.r ≡ r → mask < 2 ^ k → AreBitsWithin c.live mask → slice_index_or marks mask false ≡ true
+-- an entry is marked wherever all live positions of a candidate of this code and length are among
+-- its own
+abbrev pub IsFilled : List Candidate → ℕ → ℕ → ℕ → List Bool → Type 0
+IsFilled found k r pages marks = (i mask : ℕ) (c : Candidate) → slice_get found i ≡ Some c → c.k ≡ k
+    → c.r ≡ r → c.pages ≡ pages → mask < 2 ^ k → AreBitsWithin c.live mask
+    → slice_index_or marks mask false ≡ true
 
 -- the table has an entry for each set of positions, and they are filled
 pub record IsTable (found : List Candidate) (table : Table) : Type 0 where
   pub size : length table.marks.items ≡ 2 ^ table.k
-  pub marked : IsFilled found table.k table.r table.marks.items
+  pub marked : IsFilled found table.k table.r table.pages table.marks.items
 
 -- each is a table of these candidates
 abbrev pub AreTables : List Candidate → List Table → Type 0

@@ -14,12 +14,14 @@ use cb_world::{Far, Group, KeptSet};
 use std::alloc::Global;
 use std::collections::BTreeSet;
 
-/// A whole committed set: its number, its code, and its live positions as bits.
+/// A whole committed set: its number, its code, the pages of its spans, and its live positions as
+/// bits.
 #[derive(Clone, Copy)]
 pub(crate) struct Candidate {
     pub id: u64,
     pub k: u32,
     pub r: u32,
+    pub pages: u32,
     pub live: u32,
 }
 
@@ -30,6 +32,7 @@ fn group_of(candidate: Candidate) -> Group
     Group {
         k: candidate.k,
         r: candidate.r,
+        pages: candidate.pages,
         live: candidate.live,
     }
 }
@@ -50,16 +53,17 @@ fn whole_set(far: &Far, id: u64, kept: &KeptSet) -> Option<Candidate>
         id,
         k: kept.set.k(),
         r: kept.set.r(),
+        pages: kept.set.pages(),
         live: kept.set.live_mask(),
     })
 }
 
-/// Whether both are of one code and have no live position in common.
+/// Whether both are of one code and one length and have no live position in common.
 fn can_match(a: Candidate, b: Candidate) -> bool
     ensures yes { result ≡ true → CanMatch a b }
     ensures no { result ≡ false → ¬ (CanMatch a b) }
 {
-    a.k == b.k && a.r == b.r && a.live & b.live == 0
+    a.k == b.k && a.r == b.r && a.pages == b.pages && a.live & b.live == 0
 }
 
 /// The first candidate after this one that matches it.

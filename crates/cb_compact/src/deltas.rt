@@ -75,9 +75,11 @@ fn put_parity(
     requires fresh { has nodes.old to.node to.key ≡ false }
     requires a_other { NoneNames pair.now.shards_a to.node to.key }
     requires b_other { NoneNames pair.now.shards_b to.node to.key }
-    requires words { (wa wb : List (List ℕ)) × StandTogether nodes.old pair.now k r wa wb }
-    ensures put { IfOk result (λ answer. (wa wb m : List (List ℕ))
-        → StandTogether nodes.old pair.now k r wa wb → IsMergedWord k r pair.now.taken wa wb m
+    requires words { (wa wb : List (List ℕ)) × (pages : ℕ)
+        × StandTogether nodes.old pair.now pages k r wa wb }
+    ensures put { IfOk result (λ answer. (pages : ℕ) (wa wb m : List (List ℕ))
+        → StandTogether nodes.old pair.now pages k r wa wb
+        → IsMergedWord pages k r pair.now.taken wa wb m
         → PutGives nodes.old to.node to.key (row_at m (k + parity)) answer nodes.new) }
     ensures error { OnErr result (nodes.new ≡ nodes.old) }
 {
@@ -118,9 +120,11 @@ pub(crate) fn put_merged(
     requires fresh { has nodes.old to.node to.key ≡ false }
     requires a_other { NoneNames pair.now.shards_a to.node to.key }
     requires b_other { NoneNames pair.now.shards_b to.node to.key }
-    requires words { (wa wb : List (List ℕ)) × StandTogether nodes.old pair.now k r wa wb }
-    ensures put { IfOk result (λ answer. (wa wb m : List (List ℕ))
-        → StandTogether nodes.old pair.now k r wa wb → IsMergedWord k r pair.now.taken wa wb m
+    requires words { (wa wb : List (List ℕ)) × (pages : ℕ)
+        × StandTogether nodes.old pair.now pages k r wa wb }
+    ensures put { IfOk result (λ answer. (pages : ℕ) (wa wb m : List (List ℕ))
+        → StandTogether nodes.old pair.now pages k r wa wb
+        → IsMergedWord pages k r pair.now.taken wa wb m
         → PutGives nodes.old to.node to.key (row_at m position) answer nodes.new) }
     ensures error { OnErr result (nodes.new ≡ nodes.old) }
 {

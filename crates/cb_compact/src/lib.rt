@@ -25,4 +25,4 @@ pub use beginning::{Begun, begin};
 pub use compacting::{drawn_keys, step_count, stop_at, undone_at};
 pub use merging::merge;
 pub use parting::undo;
-pub use stepping::{data_count, new_shard, note_step, parity_count};
+pub use stepping::{data_count, new_shard, note_step, page_count, parity_count};

@@ -63,7 +63,7 @@ fn fill_positions(set: &mut SpanSet, a: &SpanSet, b: &SpanSet) -> Result<(), NoM
     requires in_b { length b.now.positions ≡ length a.now.positions }
     requires a_tables { AreSlotTables a.now }
     requires b_tables { AreSlotTables b.now }
-    ensures { OnOk result (IsFilledBelow set.old.id set.old.shards a.now b.now
+    ensures { OnOk result (IsFilledBelow set.old.id set.old.pages set.old.shards a.now b.now
         (length a.now.positions) set.new) }
 {
     for position in 0..a.k() {
@@ -88,7 +88,7 @@ fn merged(
     ensures { IfOk result (λ set. set ≡ merged_set id pair.now a.now b.now) }
 {
     let shards = shards_of(alloc, &pair.steps, &pair.shards_a)?;
-    let mut set = SpanSet::new(alloc, id, a.k(), a.r(), &shards)?;
+    let mut set = SpanSet::new(alloc, id, a.k(), a.r(), a.pages(), &shards)?;
     match fill_positions(&mut set, a, b) {
         Ok(()) => Ok(set),
         Err(NoMemory) => Err(NoMemory),

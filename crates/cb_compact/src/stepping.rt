@@ -41,6 +41,16 @@ pub fn parity_count(far: &Far) -> u32
     far.sets.committed(pair.a).unwrap().r()
 }
 
+/// How many pages the spans of the sets of the joining pair have.
+pub fn page_count(far: &Far) -> u32
+    requires fresh { (pair : JoiningState) × (a b : SetState) × IsFreshPair far.now pair a b }
+    ensures { (pair : JoiningState) (a b : SetState) → IsFreshPair far.now pair a b
+        → result ≡ a.pages }
+{
+    let pair = far.joining.as_ref().unwrap();
+    far.sets.committed(pair.a).unwrap().pages()
+}
+
 /// The least position of the joining pair whose step is not done; None where all are.
 pub(crate) fn next_position(far: &Far) -> Option<u32>
     requires fresh { (pair : JoiningState) × (a : SetState) × (b : SetState)

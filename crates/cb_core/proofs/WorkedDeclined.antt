@@ -23,7 +23,7 @@ abbrev shard : ℕ → Shard
 shard n = record { node = record { n = n }; incarnation = 0; key = n }
 
 abbrev set : SetState
-set = set_of 5 (shard 0 ∷ shard 1 ∷ [])
+set = set_of 5 1 (shard 0 ∷ shard 1 ∷ [])
     (record { live = true; slots = Some 0 ∷ None ∷ None ∷ None ∷ [] } ∷ [])
 
 abbrev home : Home

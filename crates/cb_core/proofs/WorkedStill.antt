@@ -58,7 +58,7 @@ abbrev shard : ℕ → Shard
 shard n = record { node = record { n = n }; incarnation = 0; key = n }
 
 abbrev set : SetState
-set = set_of 5 (shard 0 ∷ shard 1 ∷ [])
+set = set_of 5 1 (shard 0 ∷ shard 1 ∷ [])
     (record { live = true; slots = Some 0 ∷ None ∷ None ∷ None ∷ [] } ∷ [])
 
 abbrev home : Home
@@ -233,7 +233,7 @@ one_span (made m, hold) = let n : 1 ≤ 0 = m.enough in absurd (omega (arith, n)
 
 -- ---- the steps of a batch: where none is leaving, and where one is whose rows were not put
 abbrev batch : LeavingState
-batch = record { set = 4; frames = 1 ∷ []; words = []; parities = []; shards = None ∷ None ∷ [] }
+batch = record { set = 4; pages = 1; frames = 1 ∷ []; words = []; parities = []; shards = None ∷ None ∷ [] }
 
 abbrev beside : Holding Words
 beside = record { desk = crowd.desk; far = record crowd.far { leaving = Some batch } }

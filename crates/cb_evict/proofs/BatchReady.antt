@@ -1,10 +1,9 @@
 -- What a sound world with a leaving batch gives to its commit.
-use Rattle.std.proofs.Common.{◌≡◌, ◌≢◌, ℕ, ◌<◌, ◌≤◌, All, length, get_or, Option, None, Some, sym, ◌∙◌, subst, arith}
+use Rattle.std.proofs.Common.{◌≡◌, ◌≢◌, ℕ, ◌<◌, ◌≤◌, All, length, get_or, Option, None, Some, arith}
 use Rattle.std.specs.List.{AllPairs, Contains, slice_get}
 use Rattle.std.specs.Prelude.{IfSome}
 use Rattle.std.proofs.lemmas.List.{get_or_default}
 use Rattle.std.proofs.lemmas.Option.{slice_get-get_or}
-use Rattle.cb_frame.specs.FreeFrames.{IsFreeFrame}
 use Rattle.cb_member.specs.declared.names.Shard.{Shard}
 use Rattle.cb_span.specs.Contents.{Contents}
 use Rattle.cb_world.specs.declared.shown.Shown.{Shown}
@@ -12,14 +11,12 @@ use Rattle.cb_world.specs.FarSound.{of_leaving}
 use Rattle.cb_world.specs.FarState.{FarState, span_in}
 use Rattle.cb_world.specs.Leaving.{LeavingState}
 use Rattle.cb_world.specs.Sound.{AreNoted, Sound}
-use Rattle.cb_world.proofs.Laws.{frame_in_range}
 use Rattle.cb_evict.specs.Candidates.{AreUnique}
 use Rattle.cb_evict.specs.Committing.{HasPlaces}
 use Rattle.cb_evict.specs.Sending.{IsFormerTold}
 use Rattle.cb_evict.specs.Waiting.{PutAtMembers}
 use Rattle.cb_evict.proofs.Noted.{claimed_all, stamp_of}
 use Rattle.cb_evict.proofs.Standing.{are_unique}
-use Rattle.cb_evict.proofs.Options.{none_some}
 
 module _ (s : Shown) (far : FarState) (batch : LeavingState) (sound : Sound s far)
     (there : far.leaving ≡ Some batch) where
@@ -54,19 +51,6 @@ module _ (s : Shown) (far : FarState) (batch : LeavingState) (sound : Sound s fa
 
   pub frames_held : All (λ f. (span : Contents) × (span_in far.spans f ≡ Some span)) batch.frames
   frames_held k d l = noted.held (get_or batch.frames k d) (frame_at k d l)
-
-  pub frames_within : All (λ f. (f < length far.frames) × (f < length far.spans)) batch.frames
-  frames_within k d l =
-      let f = get_or batch.frames k d in
-      let x = frames_held k d l in
-      let within = frame_in_range far.spans f x.0 x.1 in
-      (subst (λ (n : ℕ). f < n) sound.here.frames.sized within, within)
-
-  pub frames_busy : All (λ f. ¬ (IsFreeFrame far.frames f)) batch.frames
-  frames_busy k d l free =
-      let f = get_or batch.frames k d in
-      let x = frames_held k d l in
-      none_some x.0 (sym ((sound.here.frames.free f (frames_within k d l).0).0 free) ∙ x.1)
 
   pub frames_apart : AllPairs (λ f g. f ≢ g) batch.frames
   frames_apart = noted.apart

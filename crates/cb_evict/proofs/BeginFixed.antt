@@ -1,5 +1,5 @@
 -- A begin is fixed: one reply, one set of words and one far state.
-use Rattle.std.proofs.Common.{◌≡◌, ℕ, suc, ◌*◌, List, [], ◌∷◌, ◌++◌, length, take, map, All, None, Some, refl, sym, ap, ◌∙◌, arith, inl, inr}
+use Rattle.std.proofs.Common.{◌≡◌, ℕ, suc, ◌*◌, List, [], ◌∷◌, ◌++◌, length, take, map, All, None, Some, refl, sym, ap, ◌∙◌, subst, arith, inl, inr}
 use Rattle.std.proofs.lemmas.List.{append_cancel_left, get_or_append_left, length-map}
 use Rattle.cb_gf256.specs.InRange.{IsInRange}
 use Rattle.cb_types.specs.declared.reply.Reply.{Reply}
@@ -19,7 +19,7 @@ use Rattle.cb_evict.specs.EvictStep.{loose_frames}
 use Rattle.cb_evict.specs.Order.{noted_of}
 use Rattle.cb_evict.proofs.EvictKeeps.{in_or_not}
 use Rattle.cb_evict.proofs.ChangedWords.{changes_fixed}
-use Rattle.cb_evict.proofs.EvictFixed.{first_loose}
+use Rattle.cb_evict.proofs.EvictFixed.{first_loose, one_length}
 use Rattle.cb_evict.proofs.Options.{none_some}
 
 -- ---- the words that are noted
@@ -51,9 +51,9 @@ held_fixed x y z far frames a b =
     ])
 
 -- data rows have one list of parities
-parities_fixed : (k r : ℕ) (rows a b : List (List ℕ)) → IsInRange k r → length rows ≡ k
-    → IsSpanWord k r (rows ++ a) → IsSpanWord k r (rows ++ b) → a ≡ b
-parities_fixed k r rows a b range count x y =
+parities_fixed : (pages k r : ℕ) (rows a b : List (List ℕ)) → IsInRange k r → length rows ≡ k
+    → IsSpanWord pages k r (rows ++ a) → IsSpanWord pages k r (rows ++ b) → a ≡ b
+parities_fixed pages k r rows a b range count x y =
     append_cancel_left rows a b (same_data k r (rows ++ a) (rows ++ b) range x.is_word x.bytes y.is_word
     y.bytes (λ i within. get_or_append_left rows a [] i (omega (arith, within, count))
     ∙ sym (get_or_append_left rows b [] i (omega (arith, within, count)))))
@@ -63,11 +63,15 @@ batch_fixed : (x y z : Words) (far new other : FarState) (frames : List ℕ)
     → IsBegunTo x y far new frames → IsBegunTo x z far other frames → (y ≡ z) × (new ≡ other)
 batch_fixed x y z far new other frames range count a b =
     let words = noted_fixed x _ a.words b.words a.order b.order a.noted b.noted in
-    let rows = length-map frames (λ f. row_of (window x.memory (512 * f) 512)) in
-    let parities = parities_fixed far.code.k far.code.r (frame_rows x frames) a.parities
-    b.parities range (rows ∙ count) a.word b.word in (
+    let pages = one_length far.spans frames a.pages b.pages a.long b.long
+    (let least = range.data_least in omega (arith, least, count)) in
+    let rows = length-map frames (λ f. row_of (window x.memory (512 * f) (512 * b.pages))) in
+    let parities = parities_fixed b.pages far.code.k far.code.r (frame_rows x b.pages frames)
+    a.parities b.parities range (rows ∙ count)
+    (subst (λ (n : ℕ). IsSpanWord n far.code.k far.code.r (frame_rows x n frames ++ a.parities))
+    pages a.word) b.word in (
       held_fixed x y z far frames a.held b.held,
-      a.state ∙ (λ i. with_batch far frames (words i) (parities i)) ∙ sym b.state,
+      a.state ∙ (λ i. with_batch far (pages i) frames (words i) (parities i)) ∙ sym b.state,
     )
 
 begun_fixed : (x y z : Words) (far new other : FarState) (r q : Reply)

@@ -134,6 +134,7 @@ module _ (t : Shown) (far : FarState) (set : SetState) (batch : LeavingState)
         (reserved_others far.sets far.counts.sets id set
         (λ same. let d = sound.survey.drawn in omega (arith, l, d, same)))) sound.survey;
     join = λ pair there. let j = sound.join pair there in record {
+      pages = j.pages;
       k = j.k;
       r = j.r;
       range = j.range;
@@ -194,7 +195,7 @@ module _ (t : Shown) (far : FarState) (set : SetState) (batch : LeavingState)
 module _ (far : FarState) (frames : List ℕ) (formers : List Former)
     (parities : List (List ℕ)) (before : List Event) (s t : Shown)
     (d : AreRowsCoded far frames formers parities before s t) (none : far.leaving ≡ None) where
-  no_shard : NoneNamed (new_batch far frames formers parities)
+  no_shard : NoneNamed (new_batch far d.taken.pages frames formers parities)
   no_shard p shard at =
       let n = far.code.k + far.code.r in
       let all : List (Option Shard) = replicate n None in
@@ -203,19 +204,19 @@ module _ (far : FarState) (frames : List ℕ) (formers : List Former)
       none_some shard (sym (get_or-replicate n p None None (omega (arith, within, count)))
       ∙ get_or_from_slice_get all p (Some shard) None at)
 
-  is_batch : IsBatch t (with_batch far frames formers parities)
-      (new_batch far frames formers parities)
+  is_batch : IsBatch t (with_batch far d.taken.pages frames formers parities)
+      (new_batch far d.taken.pages frames formers parities)
   is_batch = record {
     word = group_word far frames formers parities before s t d;
-    count = let n : length (new_batch far frames formers parities).shards ≡ far.code.k + far.code.r =
+    count = let n : length (new_batch far d.taken.pages frames formers parities).shards ≡ far.code.k + far.code.r =
         length-replicate {A = Option Shard} (far.code.k + far.code.r) None in
         omega (arith, n, d.taken.count, d.few);
     put = λ p shard at lost. absurd (no_shard p shard at);
     apart = λ p q a b at there same. absurd (no_shard p a at);
   }
 
-  reserved : IsReserved (with_batch far frames formers parities)
-      (new_batch far frames formers parities)
+  reserved : IsReserved (with_batch far d.taken.pages frames formers parities)
+      (new_batch far d.taken.pages frames formers parities)
   reserved = record {
     drawn = omega arith;
     unpaired = λ pair there. let less = (d.sound.away.join pair there).drawn in
@@ -225,11 +226,11 @@ module _ (far : FarState) (frames : List ℕ) (formers : List Former)
     places = length-replicate (far.code.k + far.code.r) blank_shard
         ∙ sym (length-replicate {A = Option Shard} (far.code.k + far.code.r) None);
     kept = reserved_kept far.sets far.counts.sets
-        (set_from far.counts.sets (blank_shards (far.code.k + far.code.r)) far.spans frames);
+        (set_from far.counts.sets d.taken.pages (blank_shards (far.code.k + far.code.r)) far.spans frames);
   }
 
-  noted : AreNoted t (with_batch far frames formers parities)
-      (new_batch far frames formers parities)
+  noted : AreNoted t (with_batch far d.taken.pages frames formers parities)
+      (new_batch far d.taken.pages frames formers parities)
   noted = let g = taken_group far frames formers parities before s t d in record {
     apart = d.taken.apart;
     held = g.held;
@@ -242,9 +243,9 @@ module _ (far : FarState) (frames : List ℕ) (formers : List Former)
 
   -- a claimed object stands in one of the frames
   leaves_one : (h len place v : ℕ) (words : List ℕ) → object_at t h ≡ is.Claimed len place v words
-      → IsLeaving t (with_batch far frames formers parities) h len place words
+      → IsLeaving t (with_batch far d.taken.pages frames formers parities) h len place words
   leaves_one h len place v words e =
-      let batch = new_batch far frames formers parities in
+      let batch = new_batch far d.taken.pages frames formers parities in
       let g = taken_group far frames formers parities before s t d in
       elim (either t far batch g h) [
         | inl x ↦
@@ -257,7 +258,7 @@ module _ (far : FarState) (frames : List ℕ) (formers : List Former)
                   ∙ seat.named,
             ) x.2 in
             record {
-              batch = new_batch far frames formers parities;
+              batch = new_batch far d.taken.pages frames formers parities;
               there = refl;
               slot = seat;
               leaves = subst (Contains frames) (sym frame) x.1;
@@ -268,37 +269,40 @@ module _ (far : FarState) (frames : List ℕ) (formers : List Former)
       ]
 
   -- the world is sound then
-  pub sound_begun : Sound t (with_batch far frames formers parities)
+  pub sound_begun : Sound t (with_batch far d.taken.pages frames formers parities)
   sound_begun = record {
     here = here_beside t far _ far.nodes _ _ d.here;
-    noted = λ b there. subst (AreNoted t (with_batch far frames formers parities))
-        (some_same (new_batch far frames formers parities) b there) noted;
+    noted = λ b there. subst (AreNoted t (with_batch far d.taken.pages frames formers parities))
+        (some_same (new_batch far d.taken.pages frames formers parities) b there) noted;
     claimed = leaves_one;
-    away = away_begun t far (set_from far.counts.sets (blank_shards (far.code.k + far.code.r)) far.spans frames)
-        (new_batch far frames formers parities) none no_shard
+    away = away_begun t far (set_from far.counts.sets d.taken.pages (blank_shards (far.code.k + far.code.r)) far.spans frames)
+        (new_batch far d.taken.pages frames formers parities) none no_shard
         (taken_group far frames formers parities before s t d).away is_batch;
   }
 
   -- ---- last complete contents
   -- the set of an object that is away is another one, and stays
   other_home : (o : Option Home) (h : ℕ) → home_at far.homes h ≡ o
-      → broken_home (with_batch far frames formers parities) o ≡ broken_home far o
+      → broken_home (with_batch far d.taken.pages frames formers parities) o ≡ broken_home far o
   other_home None h e = refl
   other_home (Some home) h e =
       let x = d.sound.away.sound.away.home h home e in
       let less = d.sound.away.sound.sets.numbered home.set x.0 x.1 in
       ap (λ (o : Option SetState). broken_set far.members o)
       (reserved_others far.sets far.counts.sets home.set
-      (set_from far.counts.sets (blank_shards (far.code.k + far.code.r)) far.spans frames)
+      (set_from far.counts.sets d.taken.pages (blank_shards (far.code.k + far.code.r)) far.spans frames)
       (λ same. omega (arith, less, same)))
 
   -- ---- the rule
   pub rule_begun : (events : List Event) → ((k : ℕ) → NoLook k events)
-      → HasBegun far (with_batch far frames formers parities) frames (before ++ events)
+      → HasBegun far (with_batch far d.taken.pages frames formers parities) frames (before ++ events)
   rule_begun events quiet =
-      let n = length-map frames (λ (f : ℕ). row_of (window t.memory (512 * f) 512)) in record {
+      let n = length-map frames
+      (λ (f : ℕ). row_of (window t.memory (512 * f) (512 * d.taken.pages))) in record {
+        pages = d.taken.pages;
+        long = d.taken.long;
         words = formers;
-        rows = frame_rows t frames;
+        rows = frame_rows t d.taken.pages frames;
         parities = parities;
         of = d.taken.of;
         order = d.taken.order;
@@ -306,9 +310,9 @@ module _ (far : FarState) (frames : List ℕ) (formers : List Former)
         found = λ k e l. let f = get_or formers k e in
             found_more f.handle f.word before events (d.claimed.taken k e l).found (quiet f.handle);
         contents = rows_told far frames formers parities before s t d events quiet
-            (frame_rows t frames)
+            (frame_rows t d.taken.pages frames)
             (λ p f at. let within = slice_get_within frames p f at in
-            sym (get_or_append_left (frame_rows t frames) parities [] p (omega (arith, n, within)))
+            sym (get_or_append_left (frame_rows t d.taken.pages frames) parities [] p (omega (arith, n, within)))
             ∙ row_at_frame far frames formers parities before s t d p f at);
         counts = (n ∙ d.taken.count, d.few);
         word = span_word far frames formers parities before s t d;
@@ -322,7 +326,7 @@ module _ (far : FarState) (frames : List ℕ) (formers : List Former)
       → t.versions ≡ (told_by (before ++ events) s).versions
       → t.memory ≡ (told_by (before ++ events) s).memory
       → Writes (before ++ events) s []
-      → IsBatchBegun far (with_batch far frames formers parities) (before ++ events) s t
+      → IsBatchBegun far (with_batch far d.taken.pages frames formers parities) (before ++ events) s t
   effect_begun events quiet hots objects versions memory nothing = record {
     claimed = λ h x. let g = told_one far frames formers parities before s t d events quiet h
         x in record {
@@ -334,7 +338,7 @@ module _ (far : FarState) (frames : List ℕ) (formers : List Former)
           was = g.was;
           object = g.noted.claimed;
         };
-    others = λ h out. d.claimed.others h (out_none t far (new_batch far frames formers parities)
+    others = λ h out. d.claimed.others h (out_none t far (new_batch far d.taken.pages frames formers parities)
         (taken_group far frames formers parities before s t d) h out);
     hots = hots;
     first = d.claimed.keeps.first;

@@ -108,7 +108,7 @@ begun_to : (x y : Words) (far new : FarState) (s : Shown) (es : List Event)
     → IsBegunTo x y far new (take far.code.k (loose_frames x far))
 begun_to x y far new s es r l enough b z =
     let k = far.code.k in let frames = take k (loose_frames x far) in
-    let batch = new_batch far frames b.words b.parities in
+    let batch = new_batch far b.pages frames b.words b.parities in
     let held = held_words x y far new s es frames r
     (ap (λ (f : FarState). f.spans) b.state) (ap (λ (f : FarState). leaving_frames f.leaving)
     b.state)
@@ -116,6 +116,8 @@ begun_to x y far new s es r l enough b z =
     let word = (l.sound.away.sound.batch batch (ap (λ (f : FarState). f.leaving) b.state)).word in
     let memory : (played es s).memory ≡ x.memory = l.shows.memory ∙ held.memory in
     record {
+      pages = b.pages;
+      long = b.long;
       words = b.words;
       parities = b.parities;
       of = b.of;
@@ -124,11 +126,11 @@ begun_to x y far new s es r l enough b z =
       noted = λ i e within. let f = get_or b.words i e in
           sym (found_exact es x y f.handle f.word r.ran r.looks_first (b.found i e within));
       count = b.counts.1;
-      word = subst (λ (ms : List ℕ). IsSpanWord k far.code.r
-          (map (λ f. row_of (window ms (512 * f) 512)) frames ++ b.parities)) memory
-          (subst (λ (n : ℕ). IsSpanWord n far.code.r (batch_rows (played es s) batch))
+      word = subst (λ (ms : List ℕ). IsSpanWord b.pages k far.code.r
+          (map (λ f. row_of (window ms (512 * f) (512 * b.pages))) frames ++ b.parities)) memory
+          (subst (λ (n : ℕ). IsSpanWord b.pages n far.code.r (batch_rows (played es s) batch))
           (length-take-le k (loose_frames x far) enough)
-          (subst (λ (n : ℕ). IsSpanWord (length frames) n (batch_rows (played es s) batch))
+          (subst (λ (n : ℕ). IsSpanWord b.pages (length frames) n (batch_rows (played es s) batch))
           b.counts.1 word));
       state = b.state;
       held = held;

@@ -47,7 +47,7 @@ committed_far far batch homes = with_homes (with_committed far batch) batch.fram
 
 -- the set then, and the sets
 abbrev pub the_set : FarState → LeavingState → SetState
-the_set far batch = set_from batch.set (put_shards batch.shards) far.spans batch.frames
+the_set far batch = set_from batch.set batch.pages (put_shards batch.shards) far.spans batch.frames
 
 abbrev new_sets : FarState → LeavingState → SetMap
 new_sets far batch =

@@ -95,9 +95,12 @@ pub committed_state : (inside far new : FarState) (batch : LeavingState) (o : Op
     }) batch.frames new.homes)
     → new ≡ with_homes (with_committed far batch) batch.frames new.homes
 committed_state inside far new batch o same none reserved is =
-    let set = set_from batch.set (put_shards batch.shards) far.spans batch.frames in
+    let set = set_from batch.set batch.pages (put_shards batch.shards) far.spans batch.frames in
     let kept : Kept = record { set = set; committed = true } in
-    is (record { set = set_from batch.set reserved.blank far.spans batch.frames; committed = false })
+    is (record {
+      set = set_from batch.set batch.pages reserved.blank far.spans batch.frames;
+      committed = false;
+    })
     (ap (λ (f : FarState). map.get f.sets batch.set) same ∙ reserved.kept)
     ∙ ap (λ (q : Option LeavingState). with_homes (record inside {
       sets = map.insert inside.sets batch.set kept;

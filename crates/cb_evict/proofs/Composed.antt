@@ -1,10 +1,14 @@
 -- The front of an eviction and of a begin, and what comes behind it.
-use Rattle.std.proofs.Common.{◌≡◌, ◌≢◌, ◌⊎◌, ℕ, ◌<◌, List, [], ◌∷◌, ◌++◌, length, get_or, All, Option, replicate, sym, refl, ap, ◌∙◌, subst, arith, inl, inr}
+use Rattle.std.proofs.Common.{◌≡◌, ◌≢◌, ◌⊎◌, ℕ, suc, ◌+◌, ◌-◌, ◌*◌, ◌<◌, ◌≤◌, List, [], ◌∷◌, ◌++◌, length, get_or, All, Option, replicate, sym, refl, ap, ◌∙◌, subst, arith, inl, inr}
 use Rattle.std.specs.Prelude.{Result, Ok, Err, IfOk, OnOk, OnErr}
 use Rattle.std.specs.List.{Contains, AllPairs}
+use Rattle.std.proofs.Math.Nat.{suc-mul}
 use Rattle.std.proofs.lemmas.List.{append-nil, append_assoc, length-replicate, get_or-replicate, get_or_default}
 use Rattle.std.proofs.lemmas.List.Elements.{All-contains, All-nil}
 use Rattle.std.proofs.lemmas.List.Kept.{AllPairs-cons}
+use Rattle.cb_class.specs.declared.class.Class.{Class}
+use Rattle.cb_class.specs.Class.{IsClass, pages_of, slots_of, words_of}
+use Rattle.cb_class.proofs.Laws.{bytes_at_most, pages_some, slot_within, slots_at_least, slots_fill, words_fill}
 use Rattle.cb_span.specs.Contents.{Contents}
 use Rattle.cb_gf256.specs.Rows.{HaveLength}
 use Rattle.cb_types.specs.declared.handle.SetId.{SetId}
@@ -18,6 +22,7 @@ use Rattle.cb_world.specs.Played.{played}
 use Rattle.cb_world.specs.Looks.{NoLook}
 use Rattle.cb_world.specs.Still.{IsStill}
 use Rattle.cb_world.specs.FarState.{FarState}
+use Rattle.cb_world.specs.LocalSound.{LocalSound}
 use Rattle.cb_world.specs.Sound.{Sound}
 use Rattle.cb_world.specs.Performs.{Performs}
 use Rattle.cb_world.proofs.Laws.{allowed_append}
@@ -27,7 +32,7 @@ use Rattle.cb_evict.specs.Claims.{IsNone}
 use Rattle.cb_evict.specs.Claiming.{ClaimsObjects, GivesBack, ClaimsSpans}
 use Rattle.cb_evict.specs.EvictEffect.{IsEvicted, EvictEffect}
 use Rattle.cb_evict.specs.EvictRule.{HasEvicted, HasFewSpans, HasFewNodes, HasBoth, EvictRule}
-use Rattle.cb_evict.specs.Evicting.{TouchesSpans, ReadsFrames, AreSpansTaken, IsEnded, IsReadyToEvict, EndsClaimed, EvictsClaimed, LeavesClaimed}
+use Rattle.cb_evict.specs.Evicting.{TouchesSpans, ReadsSpans, AreSpansTaken, IsEnded, IsReadyToEvict, EndsClaimed, EvictsClaimed, LeavesClaimed}
 use Rattle.cb_evict.specs.declared.eviction.Eviction.{Eviction}
 use Rattle.cb_evict.specs.declared.eviction.Eviction.TheVariants as eviction
 use Rattle.cb_evict.specs.Eviction.{CountsRule, TellsCounts, reply_of}
@@ -37,7 +42,7 @@ use Rattle.cb_evict.specs.declared.taking.Taken.{Taken}
 use Rattle.cb_evict.specs.declared.taking.Taken.TheVariants.{Few, Enough}
 use Rattle.cb_evict.specs.Finding.{FindsSpans}
 use Rattle.cb_evict.specs.Taking.{AreLooseNow, AreLooseStill, TriesSpans, TakesFew, TakesEnough, Takes}
-use Rattle.cb_evict.specs.Loading.{LiesInOne, OnlyLoads}
+use Rattle.cb_evict.specs.Loading.{LiesInOne, OnlyLoads, pages_at}
 use Rattle.cb_evict.specs.Looking.{IsIn, LooksOver}
 use Rattle.cb_evict.proofs.CallParts.{Joins, part_more, part_then}
 use Rattle.cb_evict.proofs.Claims.{claims_nothing}
@@ -45,7 +50,7 @@ use Rattle.cb_evict.proofs.Events.{touches_more}
 use Rattle.cb_evict.proofs.Gathers.{claims_then, gathers_back}
 use Rattle.cb_evict.proofs.Loose.{loose_among, all_quiet, apart_tail, fresh_head}
 use Rattle.cb_evict.proofs.Restored.{restored}
-use Rattle.cb_evict.proofs.Standing.{candidates_apart}
+use Rattle.cb_evict.proofs.Standing.{candidates_apart, ready_frame}
 use Rattle.cb_evict.proofs.Still.{does_nothing, still_none}
 
 -- ---- by the result
@@ -74,10 +79,11 @@ pub any_err : {T : Type 0} {E : Type 0} (P : Type 0) (r : Result T E) → P → 
 any_err P (Ok t) p = tt
 any_err P (Err e) p = p
 
-pub read_err : {T : Type 0} {E : Type 0} (runs : List Event → Type 0) (frames : List ℕ)
-    (es : List Event) (r : Result T E) → runs es → OnlyLoads (LiesInOne frames) es
-    → OnErr r (ReadsFrames runs frames)
-read_err runs frames es r ran loads = any_err (ReadsFrames runs frames) r (es, ran, loads)
+pub read_err : {T : Type 0} {E : Type 0} (runs : List Event → Type 0)
+    (spans : List (Option Contents)) (frames : List ℕ) (es : List Event) (r : Result T E) → runs es
+    → OnlyLoads (LiesInOne spans frames) es → OnErr r (ReadsSpans runs spans frames)
+read_err runs spans frames es r ran loads =
+    any_err (ReadsSpans runs spans frames) r (es, ran, loads)
 
 -- ---- by what was found, and by what was taken
 pub found_loose : (runs : List Event → Type 0) (shows : Shown → Type 0)
@@ -93,16 +99,16 @@ taken_enough runs shows far finds taken frames formers is x =
     subst (Takes runs shows far finds) is x
 
 -- ---- the rows that are made
-pub rows_made : (rows : List (List ℕ)) (k n : ℕ) → rows ≡ replicate k (replicate 4096 0) → n ≡ k
-    → (length rows ≡ n) × HaveLength 4096 rows
-rows_made rows k n is e =
+pub rows_made : (rows : List (List ℕ)) (k n len : ℕ) → rows ≡ replicate k (replicate len 0) → n ≡ k
+    → (length rows ≡ n) × HaveLength len rows
+rows_made rows k n len is e =
     let count : length rows ≡ k =
-    ap (λ (l : List (List ℕ)). length l) is ∙ length-replicate k (replicate 4096 0) in (
+    ap (λ (l : List (List ℕ)). length l) is ∙ length-replicate k (replicate len 0) in (
       count ∙ sym e,
       λ i d l. ap (λ (m : List (List ℕ)). length (get_or m i d)) is
-          ∙ ap (λ (m : List ℕ). length m) (get_or-replicate k i (replicate 4096 0) d
+          ∙ ap (λ (m : List ℕ). length m) (get_or-replicate k i (replicate len 0) d
           (omega (arith, l, count)))
-          ∙ length-replicate {A = ℕ} 4096 0,
+          ∙ length-replicate {A = ℕ} len 0,
     )
 
 -- ---- the loose spans
@@ -163,7 +169,7 @@ pub looks_tried : {runs : List Event → Type 0} {shows : Shown → Type 0} (far
     (loose : List ℕ) → LooksOver runs far.spans (candidates far) loose
     → TriesSpans runs shows far (AreLooseNow far loose) []
 looks_tried far loose x =
-    part_more (IsIn far.spans (candidates far)) (LiesInOne (candidates far)) _ x (λ h y. y)
+    part_more (IsIn far.spans (candidates far)) (LiesInOne far.spans (candidates far)) _ x (λ h y. y)
     (λ p y. absurd y) (x.done.1, λ at s knows here. claims_nothing at s x.events x.done.0 here)
 
 -- ---- the looks, and then the rest
@@ -174,7 +180,7 @@ module _ {runsA runsB runsC : List Event → Type 0} {showsA showsB : Shown → 
       → TriesSpans runsB showsB far (AreLooseStill far was loose) formers
       → TriesSpans runsC showsA far (AreLooseNow far loose) formers
   looked_tries loose formers y =
-      part_then (IsIn far.spans (candidates far)) (LiesInOne (candidates far))
+      part_then (IsIn far.spans (candidates far)) (LiesInOne far.spans (candidates far))
       (λ es. AreLooseNow far loose es × ((at : FarState) → ClaimsObjects showsA at es formers)) j x y (λ h z. z) (λ p z. absurd z) (λ h z. z) (λ p z. z) (inl x.done.0) (
         y.done.0 x.events x.done.1,
         λ at s knows here.
@@ -214,7 +220,7 @@ still_at : (far : FarState) (finds : List Event → Type 0) {runs : List Event �
     → IsStill x.events s (played x.events s) × Sound (played x.events s) far
 still_at far finds x s k =
     let a = x.done.1 far s k.0 k.1.here in
-    restored far x.events s (IsIn far.spans (candidates far)) (LiesInOne (candidates far)) k.1 a.0
+    restored far x.events s (IsIn far.spans (candidates far)) (LiesInOne far.spans (candidates far)) k.1 a.0
     a.1 a.2 x.touches
 
 tried_still : (far : FarState) (finds : List Event → Type 0) {runs : List Event → Type 0}
@@ -320,20 +326,41 @@ set_counted far new id e es is x = record {
 }
 
 -- ---- the claims
-pub are_taken : (far : FarState) (loose frames : List ℕ) (formers : List Former)
-    (runs : List Event → Type 0) (shows : Shown → Type 0) (k : ℕ)
+-- All spans have one page today, and so those that are claimed have one length. This goes once
+-- those of the wanted length alone are claimed.
+one_length : (c : Class) → IsClass c → pages_of c ≡ 1
+one_length c h =
+    let count = slots_of c in let width = words_of c in
+    let some : 4 ≤ count = slots_at_least c h in let n = count - 1 in
+    let next : count ≡ suc n = omega (arith, some) in
+    let ends : n * width + width ≤ 512 = slot_within c n h (omega (arith, some)) in
+    let all : count * width ≡ suc n * width = ap (λ (k : ℕ). k * width) next in
+    let step = suc-mul n width in
+    let fill : 4096 * pages_of c < count * (width * 8) + width * 8 =
+    rw (sym (words_fill c h)) (slots_fill c h) in
+    let few : width * 8 ≤ 1024 = rw (sym (words_fill c h)) (bytes_at_most c h) in
+    let least = pages_some c h in omega (arith, ends, all, step, fill, few, least)
+
+pub are_taken : (s : Shown) (far : FarState) (loose frames : List ℕ) (formers : List Former)
+    (runs : List Event → Type 0) (shows : Shown → Type 0) (k : ℕ) → LocalSound s far
     → ClaimsSpans runs shows far.spans loose k frames formers
     → All (Contains (candidates far)) loose
     → length frames ≡ far.code.k → AreSpansTaken far frames formers
-are_taken far loose frames formers runs shows k x among count = record {
+are_taken s far loose frames formers runs shows k sound x among count = record {
   count = count;
-  among = λ i d l. All-contains (Contains (candidates far)) loose (get_or frames i d) among
-      (x.among i d l);
+  among = chosen;
   apart = x.apart;
+  pages = 1;
+  long = λ i d l. let f = get_or frames i d in let r = ready_frame far s f sound (chosen i d l) in
+      ap pages_at r.there ∙ one_length r.span.class r.valid.in_table;
   of = x.of;
   order = x.order;
   each_once = x.each_once;
 }
+  where
+    chosen : All (Contains (candidates far)) frames
+    chosen i d l = All-contains (Contains (candidates far)) loose (get_or frames i d) among
+        (x.among i d l)
 
 -- the same, of the same lists
 pub taken_as : (far : FarState) (frames gs : List ℕ) (formers hs : List Former) → gs ≡ frames → hs ≡ formers → AreSpansTaken far frames formers
@@ -376,7 +403,7 @@ pub claims_tried : (far : FarState) {loose frames : List ℕ} {formers : List Fo
     → (x : ClaimsSpans runs shows far.spans loose k frames formers)
     → TriesSpans runs shows far (AreLooseStill far loose (frames ++ x.rest)) formers
 claims_tried far {loose = loose} among x =
-    part_more (IsIn far.spans (candidates far)) (LiesInOne (candidates far)) _ x.part
+    part_more (IsIn far.spans (candidates far)) (LiesInOne far.spans (candidates far)) _ x.part
     (among_spans far loose among) (λ p z. absurd z)
     (λ before was. x.part.done.0 before (candidates far) (candidates_apart far) was, x.part.done.1)
 
@@ -414,7 +441,7 @@ back_tried far {loose = loose} {frames = frames} {formers = formers} {k = k} {ru
       events = es ++ fs;
       ran = g.ran;
       touches = touches_more (IsIn far.spans loose) (IsIn far.spans (candidates far)) (λ p. ⊥)
-          (LiesInOne (candidates far)) (es ++ fs) (among_spans far loose among) (λ p z. absurd z) g.touches;
+          (LiesInOne far.spans (candidates far)) (es ++ fs) (among_spans far loose among) (λ p z. absurd z) g.touches;
       first = g.first;
       done = (
         λ before was.
@@ -457,9 +484,9 @@ module _ {runsA runsB runsC : List Event → Type 0} {showsA showsB : Shown → 
       (tried_ready far formers (AreLooseNow far x.loose) x.tries s (j.shown x.tries.events s x.tries.ran knows) knows sound)
 
   -- both parts are one, by which the spans that were loose are so in the end
-  abbrev pub all_tried : CallPart runsC (IsIn far.spans (candidates far)) (LiesInOne (candidates far))
+  abbrev pub all_tried : CallPart runsC (IsIn far.spans (candidates far)) (LiesInOne far.spans (candidates far))
       (AreLooseNow far x.loose)
-  all_tried = part_then (IsIn far.spans (candidates far)) (LiesInOne (candidates far))
+  all_tried = part_then (IsIn far.spans (candidates far)) (LiesInOne far.spans (candidates far))
       (AreLooseNow far x.loose) j x.tries y (λ h z. z) (λ p z. z) (among_spans far frames x.taken.among)
       (λ p (f, e, lies). (f, All-contains (Contains (candidates far)) frames f x.taken.among e, lies))
       (inr (λ h z. y.done.0 h))

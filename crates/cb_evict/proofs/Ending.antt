@@ -1,9 +1,10 @@
 -- The end of an eviction: rows are read and put, objects are put away, or given back.
-use Rattle.std.proofs.Common.{◌≡◌, ℕ, ◌+◌, ◌*◌, ◌^◌, ◌<◌, Bool, false, List, [], ◌++◌, length, get_or, All, Option, Some, sym, refl, ap, ◌∙◌, subst, arith}
+use Rattle.std.proofs.Common.{◌≡◌, ℕ, ◌+◌, ◌*◌, ◌^◌, ◌<◌, ◌≤◌, Bool, false, List, [], ◌++◌, length, get_or, All, Option, Some, sym, refl, ap, ◌∙◌, subst, arith}
 use Rattle.std.specs.List.{Contains, slice_get}
 use Rattle.std.proofs.lemmas.List.{get_or_default}
 use Rattle.std.proofs.lemmas.List.Elements.{All-contains}
 use Rattle.std.proofs.lemmas.Option.{slice_get-get_or, slice_get_within, get_or_from_slice_get}
+use Rattle.cb_class.proofs.Laws.{pages_few}
 use Rattle.cb_gf256.specs.CodeWord.{IsCodeWord}
 use Rattle.cb_gf256.specs.InRange.{IsInRange}
 use Rattle.cb_gf256.specs.Rows.{row_at, HoldBytes}
@@ -19,6 +20,7 @@ use Rattle.cb_world.specs.Played.{played}
 use Rattle.cb_world.specs.Looks.{NoLook}
 use Rattle.cb_world.specs.Written.{Writes, written_by}
 use Rattle.cb_world.specs.FarState.{FarState, handle_in}
+use Rattle.cb_world.specs.FrameWords.{OwnsRun}
 use Rattle.cb_world.specs.LocalSound.{LocalSound}
 use Rattle.cb_world.specs.RowWords.{row_of}
 use Rattle.cb_world.specs.Sound.{Sound}
@@ -32,11 +34,12 @@ use Rattle.cb_evict.specs.Events.{TouchesOnly, AreSteady}
 use Rattle.cb_evict.specs.EvictEffect.{IsEvicted}
 use Rattle.cb_evict.specs.EvictRule.{HasEvicted}
 use Rattle.cb_evict.specs.Evicting.{AreSpansTaken, IsReadyToEvict, TouchesSpans}
-use Rattle.cb_evict.specs.Loading.{LiesInOne, OwnsFrame, IsRowOfFrame}
+use Rattle.cb_evict.specs.Loading.{IsRowOfRun, LiesInOne, pages_in}
 use Rattle.cb_evict.specs.Looking.{IsIn}
 use Rattle.cb_evict.specs.Storing.{KeepsSet, with_set}
 use Rattle.cb_evict.proofs.Events.{AreAllReads, touches_append, touches_more, no_look_append, told_words, told_objects}
 use Rattle.cb_evict.proofs.EvictSound.{EvictDone, after_far, rule_then, sound_then, effect_then, told_before}
+use Rattle.cb_evict.proofs.Loads.{span_long}
 use Rattle.cb_evict.proofs.Owned.{claimed_held}
 use Rattle.cb_evict.proofs.Standing.{IsReadyFrame, ready_frame}
 use Rattle.cb_evict.proofs.TakenGroup.{AreRowsCoded, frame_rows, rows_read}
@@ -59,34 +62,39 @@ handles_all es s t formers n a count k d l =
 
 -- the caller owns the words of the frames
 pub owns_taken : (far : FarState) (frames : List ℕ) (formers : List Former)
-    (before : List Event) (s t : Shown) → AreSpansTaken far frames formers → LocalSound s far
-    → LocalSound t far → AreClaimed before s t formers → (f : ℕ) → Contains frames f → OwnsFrame t f
-owns_taken far frames formers before s t a sound here claimed f x =
-    frame_owned far t f here (taken_ready far frames formers s a sound f x).within
-    (λ slot h span there named. claimed_held before s t formers claimed h
-    (a.of.all h (f, x, (slot, ap (λ (o : Option Contents). handle_in o slot) there ∙ named))))
+    (before : List Event) (s t : Shown) → (a : AreSpansTaken far frames formers)
+    → LocalSound s far → LocalSound t far → AreClaimed before s t formers → (f : ℕ)
+    → Contains frames f → OwnsRun t f a.pages
+owns_taken far frames formers before s t a sound here claimed f x p lies =
+    let r = taken_ready far frames formers s a sound f x in
+    let long = span_long far.spans a.pages frames f r.span a.long x r.there in
+    frame_owned far t f r.span here r.there
+    (λ slot h named. claimed_held before s t formers claimed h
+    (a.of.all h (f, x, (slot, ap (λ (o : Option Contents). handle_in o slot) r.there ∙ named))))
+    p (lies.0, omega (arith, lies.1, long))
 
 -- ---- the eviction
 -- the parities of a set that is kept
-pub kept_parities : {far mid : FarState} (shards : List Shard) (frames : List ℕ) (n : ℕ)
-    (coded : List (List ℕ)) → length shards ≡ n → (kept : KeepsSet far mid shards frames coded)
+pub kept_parities : {far mid : FarState} {pages : ℕ} (shards : List Shard) (frames : List ℕ) (n : ℕ)
+    (coded : List (List ℕ)) → length shards ≡ n → (kept : KeepsSet far mid pages shards frames coded)
     → AreParities (length frames) n coded kept.parities
 kept_parities shards frames n coded count kept =
     record { count = sym kept.count ∙ count; word = kept.word; bytes = kept.bytes }
 
 -- what is known once the rows are read and coded
-pub are_read : (far : FarState) (frames : List ℕ) (formers : List Former)
+abbrev pub are_read : (far : FarState) (frames : List ℕ) (formers : List Former)
     (coded parities : List (List ℕ)) (shows : Shown → Type 0) (before : List Event) (s : Shown)
-    → IsInRange far.code.k far.code.r → IsReadyToEvict shows far formers before s → AreSpansTaken far frames formers
+    → IsInRange far.code.k far.code.r → IsReadyToEvict shows far formers before s
+    → (taken : AreSpansTaken far frames formers)
     → AreParities (length frames) (far.code.k + far.code.r) coded parities → length coded ≡ length frames
-    → ((p f : ℕ) → slice_get frames p ≡ Some f → IsRowOfFrame shows f (row_at coded p))
+    → ((p f : ℕ) → slice_get frames p ≡ Some f → IsRowOfRun shows f taken.pages (row_at coded p))
     → AreRowsCoded far frames formers parities before s (played before s)
-    × (coded ≡ frame_rows (played before s) frames)
+    × (coded ≡ frame_rows (played before s) taken.pages frames)
 are_read far frames formers coded parities shows before s ok r taken a count made =
     let t = played before s in
     let owned = owns_taken far frames formers before s t taken r.sound.here r.here r.claimed in
     let few : length parities ≡ far.code.r = omega (arith, a.count, taken.count) in
-    let same : coded ≡ frame_rows t frames = rows_read t frames coded count (λ p f at.
+    let same : coded ≡ frame_rows t taken.pages frames = rows_read t taken.pages frames coded count (λ p f at.
     let m = made p f at in
     m.made ∙ ap row_of (m.contents t r.shown (owned f (placed frames p f at)))) in (
       record {
@@ -160,19 +168,21 @@ end_played q formers before ls ss s e = played_append before (ls ++ ss) s
 pub ended : (far new : FarState) (frames : List ℕ) (formers : List Former)
     (shards : List Shard) (coded parities : List (List ℕ)) (homes : List (Option Home))
     (q o p : ℕ → Type 0) (before ls ss : List Event) (s : Shown)
-    → EvictDone far frames formers shards parities homes before s (played before s)
-    (played ss (played before s))
-    → coded ≡ frame_rows (played before s) frames → IsEvictEnd q formers ls ss
-    → new ≡ after_far far frames shards (coded ++ parities) homes → AreSteady before s
+    → (d : EvictDone far frames formers shards parities homes before s (played before s)
+    (played ss (played before s)))
+    → coded ≡ frame_rows (played before s) d.read.taken.pages frames → IsEvictEnd q formers ls ss
+    → new ≡ after_far far d.read.taken.pages frames shards (coded ++ parities) homes
+    → AreSteady before s
     → TouchesOnly o p (before ++ (ls ++ ss)) → Writes ss (played before s) []
     → Ended far new frames before (ls ++ ss) s
 ended far new frames formers shards coded parities homes q o p before ls ss s d read e state
     steady
     touches nothing =
     let t = played before s in let u = played ss t in
-    let events = ls ++ ss in let rows = frame_rows t frames ++ parities in
-    let is : new ≡ after_far far frames shards rows homes =
-    state ∙ ap (λ (l : List (List ℕ)). after_far far frames shards (l ++ parities) homes) read in
+    let pages = d.read.taken.pages in
+    let events = ls ++ ss in let rows = frame_rows t pages frames ++ parities in
+    let is : new ≡ after_far far pages frames shards rows homes =
+    state ∙ ap (λ (l : List (List ℕ)). after_far far pages frames shards (l ++ parities) homes) read in
     let quiet = end_quiet q formers ls ss e in
     let same = end_played q formers before ls ss s e in
     let words = told_words o p (before ++ events) s s touches refl refl in
@@ -182,11 +192,11 @@ ended far new frames formers shards coded parities homes q o p before ls ss s d 
       evicted = subst (λ (x : FarState). HasEvicted far x frames (before ++ events)) (sym is)
           (rule_then far frames formers shards parities homes before s t u d events quiet);
       sound = subst (λ (x : FarState). Sound (played (before ++ events) s) x) (sym is)
-          (subst (λ (v : Shown). Sound v (after_far far frames shards rows homes)) (sym same)
+          (subst (λ (v : Shown). Sound v (after_far far pages frames shards rows homes)) (sym same)
           (sound_then far frames formers shards parities homes before s t u d));
       effect = subst (λ (x : FarState). IsEvicted far x (before ++ events) s
           (played (before ++ events) s)) (sym is)
-          (subst (λ (v : Shown). IsEvicted far (after_far far frames shards rows homes)
+          (subst (λ (v : Shown). IsEvicted far (after_far far pages frames shards rows homes)
           (before ++ events) s v) (sym same)
           (effect_then far frames formers shards parities homes before s t u d events quiet
           (λ h none. d.sent.hots h none
@@ -203,18 +213,19 @@ ended far new frames formers shards coded parities homes q o p before ls ss s d 
     }
 
 -- the far state in which it ends
-pub state_then : (far mid new : FarState) (frames : List ℕ) (shards : List Shard)
-    (rows : List (List ℕ)) → mid ≡ with_set far shards frames rows
-    → new ≡ with_homes mid frames new.homes → new ≡ after_far far frames shards rows new.homes
-state_then far mid new frames shards rows a b =
+pub state_then : (far mid new : FarState) (pages : ℕ) (frames : List ℕ) (shards : List Shard)
+    (rows : List (List ℕ)) → mid ≡ with_set far pages shards frames rows
+    → new ≡ with_homes mid frames new.homes
+    → new ≡ after_far far pages frames shards rows new.homes
+state_then far mid new pages frames shards rows a b =
     b ∙ ap (λ (x : FarState). with_homes x frames new.homes) a
 
-pub homes_then : (far mid : FarState) (frames : List ℕ) (shards : List Shard)
+pub homes_then : (far mid : FarState) (pages : ℕ) (frames : List ℕ) (shards : List Shard)
     (rows : List (List ℕ)) (id : ℕ) (homes : List (Option Home))
-    → mid ≡ with_set far shards frames rows
+    → mid ≡ with_set far pages shards frames rows
     → id ≡ far.counts.sets → HaveHomes mid.spans frames id mid.homes homes
     → HaveHomes far.spans frames far.counts.sets far.homes homes
-homes_then far mid frames shards rows id homes a e x =
+homes_then far mid pages frames shards rows id homes a e x =
     subst (λ (n : ℕ). HaveHomes far.spans frames n far.homes homes) e
     (subst (λ (y : FarState). HaveHomes y.spans frames id y.homes homes) a x)
 
@@ -227,28 +238,48 @@ one_in far frames formers only h (f, x, same) = subst (IsIn far.spans frames) sa
 
 pub end_in : (far : FarState) (frames : List ℕ) (formers : List Former) (ls ss : List Event)
     → All (λ f. IsIn far.spans frames f.handle) formers
-    → IsEvictEnd (LiesInOne frames) formers ls ss
-    → TouchesOnly (IsIn far.spans frames) (LiesInOne frames) (ls ++ ss)
+    → IsEvictEnd (LiesInOne far.spans frames) formers ls ss
+    → TouchesOnly (IsIn far.spans frames) (LiesInOne far.spans frames) (ls ++ ss)
 end_in far frames formers ls ss only e =
-    touches_more (IsOne formers) (IsIn far.spans frames) (LiesInOne frames) (LiesInOne frames)
-    (ls ++ ss) (one_in far frames formers only) (λ p x. x) (end_touches (LiesInOne frames) formers ls ss e)
+    touches_more (IsOne formers) (IsIn far.spans frames) (LiesInOne far.spans frames)
+    (LiesInOne far.spans frames) (ls ++ ss) (one_in far frames formers only) (λ p x. x) (end_touches (LiesInOne far.spans frames) formers ls ss e)
 
 -- the frames are candidates
 pub spans_touched : (far : FarState) (frames : List ℕ) (before es : List Event)
     → All (Contains (candidates far)) frames → TouchesSpans far before
-    → TouchesOnly (IsIn far.spans frames) (LiesInOne frames) es → TouchesSpans far (before ++ es)
+    → TouchesOnly (IsIn far.spans frames) (LiesInOne far.spans frames) es → TouchesSpans far (before ++ es)
 spans_touched far frames before es among touched t =
-    touches_append (IsIn far.spans (candidates far)) (LiesInOne (candidates far)) before es touched
-    (touches_more (IsIn far.spans frames) (IsIn far.spans (candidates far)) (LiesInOne frames)
-    (LiesInOne (candidates far)) es
+    touches_append (IsIn far.spans (candidates far)) (LiesInOne far.spans (candidates far)) before es touched
+    (touches_more (IsIn far.spans frames) (IsIn far.spans (candidates far)) (LiesInOne far.spans frames)
+    (LiesInOne far.spans (candidates far)) es
     (λ h (f, x, named). (f, All-contains (Contains (candidates far)) frames f among x, named))
     (λ p (f, x, lies). (f, All-contains (Contains (candidates far)) frames f among x, lies)) t)
 
--- the frames are those that there are
+-- the frames of the spans are those that there are
 pub frames_below : (far : FarState) (frames : List ℕ) (formers : List Former)
-    (s t : Shown) (n : ℕ) → AreSpansTaken far frames formers → LocalSound s far → LocalSound t far
-    → length t.memory ≡ 512 * n → All (λ f. f < n) frames
+    (s t : Shown) (n : ℕ) → (a : AreSpansTaken far frames formers) → LocalSound s far
+    → LocalSound t far → length t.memory ≡ 512 * n → All (λ f. f + a.pages ≤ n) frames
 frames_below far frames formers s t n a sound here count k d l =
-    let x = taken_ready far frames formers s a sound (get_or frames k d) (place_in frames k d l)
-    in
-    let w = x.within in omega (arith, w, here.placed.memory, count)
+    let f = get_or frames k d in let c = place_in frames k d l in
+    let x = taken_ready far frames formers s a sound f c in
+    let long = span_long far.spans a.pages frames f x.span a.long c x.there in
+    let w = here.frames.within f x.span x.there in
+    omega (arith, w, here.placed.memory, count, long)
+
+-- the length of the spans is that of the first one, and a span has few pages
+pub pages_first : (far : FarState) (frames : List ℕ) (formers : List Former) (s : Shown)
+    (d : ℕ) → (a : AreSpansTaken far frames formers) → LocalSound s far → 0 < length frames
+    → (pages_in far.spans (get_or frames 0 d) ≡ a.pages) × (a.pages ≤ 4)
+pages_first far frames formers s d a sound some =
+    let f = get_or frames 0 d in let c = place_in frames 0 d some in
+    let x = taken_ready far frames formers s a sound f c in
+    let long = span_long far.spans a.pages frames f x.span a.long c x.there in
+    let few = pages_few x.span.class x.valid.in_table in
+    (a.long 0 d some, omega (arith, few, long))
+
+-- so what is read off the first span is the length of all
+pub pages_told : (far : FarState) (frames : List ℕ) (formers : List Former) (s : Shown)
+    (d n : ℕ) → (a : AreSpansTaken far frames formers) → LocalSound s far → 1 ≤ far.code.k
+    → n ≡ pages_in far.spans (get_or frames 0 d) → n ≡ a.pages
+pages_told far frames formers s d n a sound some is =
+    is ∙ (pages_first far frames formers s d a sound (let c = a.count in omega (arith, c, some))).0

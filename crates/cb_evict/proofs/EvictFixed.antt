@@ -7,6 +7,7 @@ use Rattle.cb_gf256.specs.InRange.{IsInRange}
 use Rattle.cb_gf256.specs.Rows.{row_at}
 use Rattle.cb_member.specs.declared.names.Shard.{Shard}
 use Rattle.cb_member.specs.Membership.{incarnation}
+use Rattle.cb_span.specs.Contents.{Contents}
 use Rattle.cb_types.specs.declared.reply.Reply.{Reply}
 use Rattle.cb_world.specs.declared.homes.Home.{Home}
 use Rattle.cb_world.specs.Choices.{IsLeastNode}
@@ -16,6 +17,7 @@ use Rattle.cb_world.proofs.Laws.{IsOneEnd, least_node_fixed, refused_alike, same
 use Rattle.cb_evict.specs.BeginRule.{blank_shard}
 use Rattle.cb_evict.specs.Closing.{HaveHomes, with_homes}
 use Rattle.cb_evict.specs.EvictStep.{AreFrameRows, AreSentOff, IsEvictedTo, IsEvictStep, IsSetMade, loose_frames, few_spans, few_nodes, made}
+use Rattle.cb_evict.specs.Loading.{AreOfLength}
 use Rattle.cb_evict.specs.Storing.{AreShards, with_set}
 use Rattle.cb_evict.proofs.EvictKeeps.{in_or_not}
 use Rattle.cb_evict.proofs.ChangedWords.{changes_fixed}
@@ -54,6 +56,12 @@ shards_fixed far n a b x y =
     ∙ first_shards far n a b x y n (omega arith)
     ∙ take_all n b (let m = y.count in omega (arith, m))
 
+-- ---- the length of the spans
+-- spans have one length
+pub one_length : (spans : List (Option Contents)) (frames : List ℕ) (a b : ℕ)
+    → AreOfLength spans a frames → AreOfLength spans b frames → 1 ≤ length frames → a ≡ b
+one_length spans frames a b x y some = sym (x 0 0 (omega (arith, some))) ∙ y 0 0 (omega (arith, some))
+
 -- ---- the homes of objects that left
 pub homes_fixed : (far : FarState) (frames : List ℕ) (set : ℕ) (a b : List (Option Home))
     → HaveHomes far.spans frames set far.homes a → HaveHomes far.spans frames set far.homes b → a ≡ b
@@ -79,9 +87,9 @@ sent_fixed x y z far frames a b =
 -- ---- a set that was made
 module _ (x y z : Words) (far new other : FarState) (frames : List ℕ)
     (range : IsInRange far.code.k far.code.r) (count : length frames ≡ far.code.k) where
-  data_same : (a b : List (List ℕ)) → AreFrameRows x frames a → AreFrameRows x frames b → (i : ℕ)
-      → i < far.code.k → row_at a i ≡ row_at b i
-  data_same a b c d i within =
+  data_same : (pages : ℕ) (a b : List (List ℕ)) → AreFrameRows x pages frames a
+      → AreFrameRows x pages frames b → (i : ℕ) → i < far.code.k → row_at a i ≡ row_at b i
+  data_same pages a b c d i within =
       let f = get_or frames i 0 in
       let at : slice_get frames i ≡ Some f = slice_get-get_or frames i 0 (omega (arith, within, count)) in
       c i f at ∙ sym (d i f at)
@@ -90,12 +98,15 @@ module _ (x y z : Words) (far new other : FarState) (frames : List ℕ)
       → (y ≡ z) × (new ≡ other)
   evicted_fixed a b =
       let shards = shards_fixed far (far.code.k + far.code.r) a.shards b.shards a.chosen b.chosen in
+      let pages = one_length far.spans frames a.pages b.pages a.long b.long
+      (let least = range.data_least in omega (arith, least, count)) in
       let rows = same_data far.code.k far.code.r a.rows b.rows range a.word.is_word a.word.bytes
-      b.word.is_word b.word.bytes (data_same a.rows b.rows a.of_frames b.of_frames) in
+      b.word.is_word b.word.bytes (data_same b.pages a.rows b.rows
+      (subst (λ (n : ℕ). AreFrameRows x n frames a.rows) pages a.of_frames) b.of_frames) in
       let homes = homes_fixed far frames far.counts.sets new.homes other.homes a.homes b.homes in (
         sent_fixed x y z far frames a.sent b.sent,
         a.state
-            ∙ (λ i. with_homes (with_set far (shards i) frames (rows i)) frames (homes i))
+            ∙ (λ i. with_homes (with_set far (pages i) (shards i) frames (rows i)) frames (homes i))
             ∙ sym b.state,
       )
 

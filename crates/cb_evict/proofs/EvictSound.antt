@@ -6,6 +6,7 @@ use Rattle.std.proofs.lemmas.List.{get_or_default}
 use Rattle.std.proofs.lemmas.List.Elements.{All-contains}
 use Rattle.std.proofs.lemmas.Option.{slice_get-get_or, slice_get_within}
 use Rattle.cb_member.specs.declared.names.Shard.{Shard}
+use Rattle.cb_set.specs.SetState.{SetState}
 use Rattle.cb_world.specs.declared.event.Event.{Event}
 use Rattle.cb_world.specs.declared.homes.Home.{Home}
 use Rattle.cb_world.specs.declared.leaving.Former.{Former}
@@ -53,13 +54,14 @@ pub record EvictDone (far : FarState) (frames : List ℕ) (formers : List Former
   pub homed : HaveHomes far.spans frames far.counts.sets far.homes homes
 
 -- the far state then
-abbrev pub after_far : FarState → List ℕ → List Shard → List (List ℕ) → List (Option Home)
+abbrev pub after_far : FarState → ℕ → List ℕ → List Shard → List (List ℕ) → List (Option Home)
     → FarState
-after_far far frames shards rows homes = with_homes (with_set far shards frames rows) frames homes
+after_far far pages frames shards rows homes =
+    with_homes (with_set far pages shards frames rows) frames homes
 
-abbrev new_sets : FarState → List ℕ → List Shard → SetMap
-new_sets far frames shards = map.insert far.sets far.counts.sets
-    (record { set = set_for far shards frames; committed = true })
+abbrev new_sets : FarState → ℕ → List ℕ → List Shard → SetMap
+new_sets far pages frames shards = map.insert far.sets far.counts.sets
+    (record { set = set_for far pages shards frames; committed = true })
 
 abbrev new_counts : FarState → List Shard → CountsState
 new_counts far shards =
@@ -69,11 +71,11 @@ module _ (far : FarState) (frames : List ℕ) (formers : List Former)
     (shards : List Shard) (parities : List (List ℕ)) (homes : List (Option Home))
     (before : List Event) (s t u : Shown)
     (d : EvictDone far frames formers shards parities homes before s t u) where
-  put_away : IsGroupPutAway t u far (new_batch far frames formers parities) shards
-      (new_sets far frames shards) (all_put far.nodes shards (frame_rows t frames ++ parities))
+  put_away : IsGroupPutAway t u far (new_batch far d.read.taken.pages frames formers parities) shards
+      (new_sets far d.read.taken.pages frames shards) (all_put far.nodes shards (frame_rows t d.read.taken.pages frames ++ parities))
       (new_counts far shards) homes
   put_away =
-      let r = d.read in let n = far.code.k + far.code.r in let rows = frame_rows t frames ++ parities in
+      let r = d.read in let n = far.code.k + far.code.r in let rows = frame_rows t d.read.taken.pages frames ++ parities in
       let sound = r.sound.away.sound in
       let within = shards_within far n shards d.chosen in
       let count : length rows ≡ length shards = r.word.count ∙ sym d.chosen.count in record {
@@ -85,11 +87,11 @@ module _ (far : FarState) (frames : List ℕ) (formers : List Former)
         count = omega (arith, d.chosen.count, r.taken.count, r.few);
         distinct = shards_distinct far n shards d.chosen;
         current = shards_current far n shards d.chosen sound.rows;
-        added = set_added_in far.sets far.counts.sets (set_for far shards frames);
+        added = set_added_in far.sets far.counts.sets (set_for far d.read.taken.pages shards frames);
         fresh = fresh_number s far sound;
         other_batch = λ b there. let less = (r.sound.noted b there).reserved.drawn in
             λ same. omega (arith, less, same);
-        other_sets = λ j off. set_others far.sets far.counts.sets j (set_for far shards frames) off;
+        other_sets = λ j off. set_others far.sets far.counts.sets j (set_for far d.read.taken.pages shards frames) off;
         drawn = (omega arith, omega arith);
         keys = λ p shard at. let e = (d.chosen.each p shard at).key in
             let w = slice_get_within shards p shard at in omega (arith, e, w);
@@ -113,18 +115,20 @@ module _ (far : FarState) (frames : List ℕ) (formers : List Former)
       }
 
   -- the world is sound then
-  pub sound_then : Sound u (after_far far frames shards (frame_rows t frames ++ parities) homes)
-  sound_then = sound_away t u far (new_batch far frames formers parities) shards _ _ _ homes
+  pub sound_then : Sound u (after_far far d.read.taken.pages frames shards (frame_rows t d.read.taken.pages frames ++ parities) homes)
+  sound_then = sound_away t u far (new_batch far d.read.taken.pages frames formers parities) shards _ _ _ homes
       put_away
 
   -- ---- the rule
   pub rule_then : (events : List Event) → ((k : ℕ) → NoLook k events)
-      → HasEvicted far (after_far far frames shards (frame_rows t frames ++ parities) homes)
+      → HasEvicted far (after_far far d.read.taken.pages frames shards (frame_rows t d.read.taken.pages frames ++ parities) homes)
       frames
       (before ++ events)
   rule_then events quiet = record {
+    pages = d.read.taken.pages;
+    long = d.read.taken.long;
     shards = shards;
-    rows = frame_rows t frames ++ parities;
+    rows = frame_rows t d.read.taken.pages frames ++ parities;
     chosen = d.chosen;
     word = span_word far frames formers parities before s t d.read;
     contents = rows_told far frames formers parities before s t d.read events quiet _
@@ -135,7 +139,7 @@ module _ (far : FarState) (frames : List ℕ) (formers : List Former)
 
   -- ---- the effect
   in_gone : (h f : ℕ) → SpanNames far.spans f h
-      → span_in (after_far far frames shards (frame_rows t frames ++ parities) homes).spans f ≡ None
+      → span_in (after_far far d.read.taken.pages frames shards (frame_rows t d.read.taken.pages frames ++ parities) homes).spans f ≡ None
       → Contains frames f
   in_gone h f named gone = elim (in_or_out frames f) [
     | inl x ↦ x
@@ -144,13 +148,13 @@ module _ (far : FarState) (frames : List ℕ) (formers : List Former)
   ]
 
   not_left : (h : ℕ)
-      → (HasLeft far (after_far far frames shards (frame_rows t frames ++ parities) homes) h → ⊥)
+      → (HasLeft far (after_far far d.read.taken.pages frames shards (frame_rows t d.read.taken.pages frames ++ parities) homes) h → ⊥)
       → IsNone formers h
-  not_left h not = out_none t far (new_batch far frames formers parities) put_away.group h
+  not_left h not = out_none t far (new_batch far d.read.taken.pages frames formers parities) put_away.group h
       (λ (f, x, named). not (f, named, closed_in far.spans frames f x))
 
   -- the row of an object is that of the frame that it left
-  rows_then : HaveFrameRows far (after_far far frames shards (frame_rows t frames ++ parities)
+  rows_then : HaveFrameRows far (after_far far d.read.taken.pages frames shards (frame_rows t d.read.taken.pages frames ++ parities)
       homes)
       u.memory
   rows_then h f home set shard named gone at there is =
@@ -161,16 +165,18 @@ module _ (far : FarState) (frames : List ℕ) (formers : List Former)
       let wanted : Home = record { set = far.counts.sets; position = x.0; slot = named.0 } in
       let home_is : home ≡ wanted =
       some_same home wanted (sym at ∙ d.homed.here x.0 f named.0 h place named.1) in
-      let set_is : set ≡ set_for far shards frames =
-      some_same set (set_for far shards frames)
-      (sym there ∙ ap (λ (q : Home). set_in (new_sets far frames shards) q.set) home_is
-      ∙ set_added_in far.sets far.counts.sets (set_for far shards frames)) in
+      let set_is : set ≡ set_for far d.read.taken.pages shards frames =
+      some_same set (set_for far d.read.taken.pages shards frames)
+      (sym there ∙ ap (λ (q : Home). set_in (new_sets far d.read.taken.pages frames shards) q.set) home_is
+      ∙ set_added_in far.sets far.counts.sets (set_for far d.read.taken.pages shards frames)) in
       let shard_is : slice_get shards x.0 ≡ Some shard =
       (λ i. slice_get (sym set_is i).shards (sym home_is i).position) ∙ is in
       put_away.put x.0 shard shard_is
       ∙ ap (λ (l : List ℕ). Some l)
       (row_at_frame far frames formers parities before s t d.read x.0 f place
-      ∙ ap (λ (ms : List ℕ). row_of (window ms (512 * f) 512)) (sym d.sent.memory))
+      ∙ ap (λ (ms : List ℕ). row_of (window ms (512 * f) (512 * d.read.taken.pages)))
+      (sym d.sent.memory)
+      ∙ ap (λ (q : SetState). row_of (window u.memory (512 * f) (512 * q.pages))) (sym set_is))
 
   pub effect_then : (events : List Event) → ((k : ℕ) → NoLook k events)
       → ((h : ℕ) → IsNone formers h → hot_at u h ≡ hot_at (told_by (before ++ events) s) h)
@@ -178,7 +184,7 @@ module _ (far : FarState) (frames : List ℕ) (formers : List Former)
       → u.versions ≡ (told_by (before ++ events) s).versions
       → u.memory ≡ (told_by (before ++ events) s).memory
       → Writes (before ++ events) s []
-      → IsEvicted far (after_far far frames shards (frame_rows t frames ++ parities) homes)
+      → IsEvicted far (after_far far d.read.taken.pages frames shards (frame_rows t d.read.taken.pages frames ++ parities) homes)
       (before ++ events) s u
   effect_then events quiet hots objects versions memory nothing = record {
     away = λ h (f, named, gone).
@@ -189,7 +195,7 @@ module _ (far : FarState) (frames : List ℕ) (formers : List Former)
           words = g.noted.words;
           found = g.found;
           told = g.told;
-          object = is_sent t u far (new_batch far frames formers parities) shards _ _ _ homes
+          object = is_sent t u far (new_batch far d.read.taken.pages frames formers parities) shards _ _ _ homes
               put_away h
               g.noted;
           cold = ap (hot_at u) (sym g.noted.handle)
@@ -205,7 +211,7 @@ module _ (far : FarState) (frames : List ℕ) (formers : List Former)
     rows = rows_then;
     nothing = nothing;
     same_now = λ h.
-        now_away t u far (new_batch far frames formers parities) shards _ _ _ homes put_away h
+        now_away t u far (new_batch far d.read.taken.pages frames formers parities) shards _ _ _ homes put_away h
         ∙ now_told far frames formers parities before s t d.read (told_by (before ++ events) s) h
         objects (sym d.sent.versions ∙ versions) (sym d.sent.memory ∙ memory);
   }

@@ -36,13 +36,13 @@ use Rattle.cb_evict.proofs.Putting.{put_count, put_room}
 use Rattle.cb_evict.proofs.Options.{none_some, some_same}
 
 -- the set of spans in k frames, with k + r shards, has the code
-code_is : (code : Code) (id : ℕ) (shards : List Shard) (far : FarState) (frames : List ℕ)
+code_is : (code : Code) (id pages : ℕ) (shards : List Shard) (far : FarState) (frames : List ℕ)
     → length frames ≡ code.k → length shards ≡ code.k + code.r
-    → code_of (set_from id shards far.spans frames) ≡ code
-code_is code id shards far frames k count =
-    let n : length (set_from id shards far.spans frames).positions ≡ code.k =
+    → code_of (set_from id pages shards far.spans frames) ≡ code
+code_is code id pages shards far frames k count =
+    let n : length (set_from id pages shards far.spans frames).positions ≡ code.k =
     length-map frames (position_for far.spans) ∙ k in
-    let m : parities (set_from id shards far.spans frames) ≡ code.r = omega (arith, n, count) in
+    let m : parities (set_from id pages shards far.spans frames) ≡ code.r = omega (arith, n, count) in
     λ i. record { k = n i; r = m i }
 
 -- ---- an eviction
@@ -54,26 +54,27 @@ put_given nodes (shard ∷ shards) (row ∷ rows) =
     put_given (with_row nodes shard.node shard.key row) shards rows
 
 -- a set was made of the spans in some frames: it has the code in force
-pub made_codes : (far new : FarState) (frames : List ℕ) (shards : List Shard) (rows : List (List ℕ))
-    → length frames ≡ far.code.k → length shards ≡ far.code.k + far.code.r
-    → new ≡ with_homes (with_set far shards frames rows) frames new.homes → KeepCodes far new
-made_codes far new frames shards rows k count state =
-    let kept : Kept = record { set = set_for far shards frames; committed = true } in
+pub made_codes : (far new : FarState) (pages : ℕ) (frames : List ℕ) (shards : List Shard)
+    (rows : List (List ℕ)) → length frames ≡ far.code.k → length shards ≡ far.code.k + far.code.r
+    → new ≡ with_homes (with_set far pages shards frames rows) frames new.homes → KeepCodes far new
+made_codes far new pages frames shards rows k count state =
+    let kept : Kept = record { set = set_for far pages shards frames; committed = true } in
     subst (KeepCodes far) (sym state) (codes_kept far _ refl
     (codes_put far far.sets far.counts.sets kept
-    (λ committed. in_force (code_is far.code far.counts.sets shards far frames k count))
+    (λ committed. in_force (code_is far.code far.counts.sets pages shards far frames k count))
     (sets_have far))
     (batch_has far far.leaving refl) (pair_stays far far.joining refl)
     (λ own. own_put far.sets far.counts.sets kept (λ committed. refl) own))
 
-pub made_stays : (c : Config) (far new : FarState) (frames : List ℕ) (shards : List Shard)
+pub made_stays : (c : Config) (far new : FarState) (pages : ℕ) (frames : List ℕ) (shards : List Shard)
     (rows : List (List ℕ)) → IsAccepted c → length frames ≡ far.code.k
     → length shards ≡ far.code.k + far.code.r → length new.homes ≡ length far.homes
-    → new ≡ with_homes (with_set far shards frames rows) frames new.homes → StaysIf c 24 far new
-made_stays c far new frames shards rows accepted k count homes state is =
+    → new ≡ with_homes (with_set far pages shards frames rows) frames new.homes
+    → StaysIf c 24 far new
+made_stays c far new pages frames shards rows accepted k count homes state is =
     let range = is.codes.force.range in
     let most = range.data_most in let few = range.parities_most in
-    let keep = made_codes far new frames shards rows k count state in
+    let keep = made_codes far new pages frames shards rows k count state in
     let sets : new.counts.sets ≡ far.counts.sets + 1 = ap (λ (f : FarState). f.counts.sets) state in
     let keys : new.counts.keys ≡ far.counts.keys + length shards =
     ap (λ (f : FarState). f.counts.keys) state in
@@ -107,36 +108,36 @@ evict_stays c far new r es accepted x = elim x.answered [
   | inl few ↦ stays_same c 24 far new (omega arith) few.state
   | inr (inl few) ↦ stays_same c 24 far new (omega arith) few.state
   | inr (inr both) ↦ let e = both.evicted in
-      made_stays c far new _ e.shards e.rows accepted (length-take-le far.code.k x.loose both.enough)
+      made_stays c far new e.pages _ e.shards e.rows accepted (length-take-le far.code.k x.loose both.enough)
       e.chosen.count e.homes.count e.state
 ]
 
 -- ---- a begin
 -- the spans in some frames are leaving: they will be a set of the code in force
-pub batch_codes : (far new : FarState) (frames : List ℕ) (words : List Former)
+pub batch_codes : (far new : FarState) (pages : ℕ) (frames : List ℕ) (words : List Former)
     (parities : List (List ℕ)) → length frames ≡ far.code.k → length parities ≡ far.code.r
-    → new ≡ with_batch far frames words parities → KeepCodes far new
-batch_codes far new frames words parities k r state =
-    subst (KeepCodes far) (sym state) (codes_kept far (with_batch far frames words parities) refl
+    → new ≡ with_batch far pages frames words parities → KeepCodes far new
+batch_codes far new pages frames words parities k r state =
+    subst (KeepCodes far) (sym state) (codes_kept far (with_batch far pages frames words parities) refl
     (codes_put far far.sets far.counts.sets _ (λ committed. absurd (false_true committed))
     (sets_have far))
     (λ b at. subst (λ (l : LeavingState). IsCodeIn far (code_of_batch l))
-    (some_same (new_batch far frames words parities) b at) (in_force (λ i. record { k = k i; r = r i })))
+    (some_same (new_batch far pages frames words parities) b at) (in_force (λ i. record { k = k i; r = r i })))
     (pair_stays far far.joining refl)
     (λ own. own_put far.sets far.counts.sets _ (λ committed. absurd (false_true committed)) own))
   where
     false_true : false ≡ true → ⊥
     false_true e = cc
 
-pub batch_stays : (c : Config) (far new : FarState) (frames : List ℕ) (words : List Former)
+pub batch_stays : (c : Config) (far new : FarState) (pages : ℕ) (frames : List ℕ) (words : List Former)
     (parities : List (List ℕ)) → length frames ≡ far.code.k → length parities ≡ far.code.r
-    → new ≡ with_batch far frames words parities → StaysIf c 1 far new
-batch_stays c far new frames words parities k r state is =
+    → new ≡ with_batch far pages frames words parities → StaysIf c 1 far new
+batch_stays c far new pages frames words parities k r state is =
     let sets : new.counts.sets ≡ far.counts.sets + 1 = ap (λ (f : FarState). f.counts.sets) state in
     let keys : new.counts.keys ≡ far.counts.keys = ap (λ (f : FarState). f.counts.keys) state in
     let epoch : new.members.epoch ≡ far.members.epoch = ap (λ (f : FarState). f.members.epoch) state in
     let given : new.nodes.given ≡ far.nodes.given = ap (λ (f : FarState). f.nodes.given) state in
-    let keep = batch_codes far new frames words parities k r state in record {
+    let keep = batch_codes far new pages frames words parities k r state in record {
       configured = record {
         frames = ap (λ (f : FarState). length f.spans) state ∙ is.frames;
         homes = ap (λ (f : FarState). length f.homes) state ∙ is.homes;
@@ -163,7 +164,7 @@ begin_stays c far new r es (inr x) = elim x.answered [
   | inl few ↦ stays_same c 1 far new (omega arith) few.state
   | inr (inl few) ↦ stays_same c 1 far new (omega arith) few.state
   | inr (inr both) ↦ let e = both.begun in
-      batch_stays c far new _ e.words e.parities (length-take-le far.code.k x.loose both.enough)
+      batch_stays c far new e.pages _ e.words e.parities (length-take-le far.code.k x.loose both.enough)
       e.counts.1
       e.state
 ]
@@ -226,10 +227,10 @@ committed_codes s far new r sound z =
     let shards = shards_count batch.shards (all_shards_put far batch z.whole) in
     let places = (sound.away.sound.batch batch z.there).count in
     let kept : Kept = record {
-      set = set_from batch.set (put_shards batch.shards) far.spans batch.frames;
+      set = set_from batch.set batch.pages (put_shards batch.shards) far.spans batch.frames;
       committed = true;
     } in
-    let is = code_is (code_of_batch batch) batch.set (put_shards batch.shards) far batch.frames refl
+    let is = code_is (code_of_batch batch) batch.set batch.pages (put_shards batch.shards) far batch.frames refl
     (omega (arith, shards, places)) in
     subst (KeepCodes far) (sym z.state) (codes_kept far _ refl
     (codes_put far far.sets batch.set kept (λ committed. of_the_batch batch z.there is) (sets_have far))
@@ -314,5 +315,5 @@ evict_step_stays x y far new r accepted (few_nodes few same) =
     stays_same x.settings 24 far new (omega arith) few.state
 evict_step_stays x y far new r accepted (made m) =
     let e = m.evicted in
-    made_stays x.settings far new (take far.code.k (loose_frames x far)) e.shards e.rows accepted
+    made_stays x.settings far new e.pages (take far.code.k (loose_frames x far)) e.shards e.rows accepted
     (length-take-le far.code.k (loose_frames x far) m.enough) e.chosen.count e.homes.count e.state

@@ -131,6 +131,8 @@ evicted_to : (x y : Words) (far new : FarState) (s : Shown) (es : List Event) (f
     → ((f : ℕ) → Contains frames f → (span : Contents) × (span_in far.spans f ≡ Some span))
     → length frames ≤ far.code.k + far.code.r → IsEvictedTo x y far new frames
 evicted_to x y far new s es frames r e z holds few = record {
+  pages = e.pages;
+  long = e.long;
   shards = e.shards;
   rows = e.rows;
   chosen = e.chosen;

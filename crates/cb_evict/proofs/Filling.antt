@@ -27,7 +27,7 @@ all_filled spans frames n old new a all count =
     (λ i l. let within : i < length frames = omega (arith, l, a.count, count) in
     a.filled i (omega (arith, within, all))
     ∙ sym (get_or-map (position_for spans) frames i 0 dead_position within)) in
-    λ i. record { id = a.id i; shards = a.shards i; positions = positions i }
+    λ i. record { id = a.id i; pages = a.pages i; shards = a.shards i; positions = positions i }
 
 -- a frame that holds a span gives it
 pub span_got : {A : Type 0} (v : A → Contents) (spans : List (Option Contents)) (f : ℕ)

@@ -51,7 +51,7 @@ module _ (far new : FarState) (s : Shown) (frames : List ℕ) (es : List Event)
       (keys_apart far (far.code.k + far.code.r) e.shards e.chosen) (e.word.is_word.count ∙ sym e.chosen.count) at
 
   pub rows_of_frames : (p f : ℕ) → slice_get frames p ≡ Some f
-      → row_at e.rows p ≡ row_of (window memory (512 * f) 512)
+      → row_at e.rows p ≡ row_of (window memory (512 * f) (512 * e.pages))
   rows_of_frames p f at =
       let within = slice_get_within frames p f at in
       let among : Contains frames f = (p, within, get_or_from_slice_get frames p f f at) in
@@ -60,11 +60,11 @@ module _ (far new : FarState) (s : Shown) (frames : List ℕ) (es : List Event)
       let shard = get_or e.shards p blank_shard in
       let there : slice_get e.shards p ≡ Some shard =
       slice_get-get_or e.shards p blank_shard (let n = e.chosen.count in omega (arith, within, few, n)) in
-      some_same (row_at e.rows p) (row_of (window memory (512 * f) 512))
+      some_same (row_at e.rows p) (row_of (window memory (512 * f) (512 * e.pages)))
       (sym (stored p shard there)
       ∙ rows one.0 f (record { set = far.counts.sets; position = p; slot = one.1.0 })
-      (set_for far e.shards frames) shard one.1
+      (set_for far e.pages e.shards frames) shard one.1
       (ap (λ (q : FarState). span_in q.spans f) e.state ∙ closed_in far.spans frames f among)
       (e.homes.here p f one.1.0 one.0 at one.1.1)
       (ap (λ (q : FarState). set_in q.sets far.counts.sets) e.state
-      ∙ set_added_in far.sets far.counts.sets (set_for far e.shards frames)) there)
+      ∙ set_added_in far.sets far.counts.sets (set_for far e.pages e.shards frames)) there)

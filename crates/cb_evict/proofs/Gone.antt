@@ -1,11 +1,12 @@
 -- The local part of the sound world once all objects of some spans are away and their frames are
 -- given back.
-use Rattle.std.proofs.Common.{◌≡◌, ◌≢◌, ◌⊎◌, ◌↔◌, ℕ, zero, suc, Bool, true, false, ◌*◌, ◌<◌, ◌≤◌, List, [], ◌∷◌, length, get_or, set, All, sym, refl, ap, ◌∙◌, subst, arith, inl, inr, Option, Some, None, length-set, get_or-set_other, get_or-set_same}
+use Rattle.std.proofs.Common.{◌≡◌, ◌≢◌, ◌⊎◌, ◌↔◌, ℕ, zero, suc, ◌+◌, ◌*◌, ◌<◌, ◌≤◌, List, [], ◌∷◌, length, set, All, sym, refl, ap, ◌∙◌, subst, arith, inl, inr, Option, Some, None, length-set, get_or-set_other, get_or-set_same}
 use Rattle.std.specs.List.{Contains}
 use Rattle.std.proofs.lemmas.Bool.{cases_eq, cases_lt}
 use Rattle.std.proofs.lemmas.List.{get_or_past}
 use Rattle.std.proofs.lemmas.List.Elements.{All-nil, All-cons}
-use Rattle.cb_frame.specs.FreeFrames.{IsFreeFrame, with_given}
+use Rattle.cb_class.specs.Class.{pages_of}
+use Rattle.cb_frame.specs.FreeFrames.{IsFreeFrame}
 use Rattle.cb_span.specs.Contents.{Contents, handle_at}
 use Rattle.cb_span.specs.Places.{slot_place}
 use Rattle.cb_world.specs.declared.homes.Home.{Home}
@@ -13,11 +14,11 @@ use Rattle.cb_world.specs.declared.object.Object.{Object}
 use Rattle.cb_world.specs.declared.shown.Shown.{Shown}
 use Rattle.cb_world.specs.Shown.{object_at, version_at, never}
 use Rattle.cb_world.specs.FarState.{FarState, span_in, resident, handle_in}
-use Rattle.cb_world.specs.LocalSound.{LocalSound, LiesAt, IsStamped}
-use Rattle.cb_world.proofs.Laws.{one_slot}
+use Rattle.cb_world.specs.LocalSound.{AreFrames, LocalSound, LiesAt, IsStamped}
+use Rattle.cb_world.proofs.Laws.{frames_as, one_slot, spans_apart}
 use Rattle.cb_evict.specs.Looking.{IsIn}
 use Rattle.cb_evict.specs.Closing.{all_given, all_closed, with_homes}
-use Rattle.cb_evict.proofs.Homing.{closed_else, given_else, length_closed, length_given}
+use Rattle.cb_evict.proofs.Homing.{close_all, closed_else, length_closed}
 use Rattle.cb_evict.proofs.Options.{none_some, some_none}
 
 -- a number is among these, or is none of them
@@ -59,29 +60,6 @@ closed_in spans (g ∷ frames) f (zero, l, e) = closed_empty (set spans g None) 
 closed_in spans (g ∷ frames) f (suc k, l, e) =
     closed_in (set spans g None) frames f (k, omega (arith, l), e)
 
-given_free : (free : List Bool) (frames : List ℕ) (f : ℕ) → f < length free → get_or free f false ≡ true
-    → get_or (all_given free frames) f false ≡ true
-given_free free [] f within e = e
-given_free free (g ∷ frames) f within e =
-    given_free (with_given free g) frames f (let n = length-set free g true in omega (arith, n, within))
-    (elim (cases_eq f g) [
-      | inl same ↦ ap (λ (i : ℕ). get_or (with_given free g) i false) same
-          ∙ get_or-set_same free g true false (omega (arith, within, same))
-      | inr off ↦ get_or-set_other free g f true false off ∙ e
-    ])
-
-pub given_in : (free : List Bool) (frames : List ℕ) (f : ℕ) → f < length free → Contains frames f
-    → get_or (all_given free frames) f false ≡ true
-given_in free [] f within (k, l, e) = absurd (omega (arith, l))
-given_in free (g ∷ frames) f within (zero, l, e) =
-    let n = length-set free g true in
-    given_free (with_given free g) frames f (omega (arith, n, within))
-    (ap (λ (i : ℕ). get_or (with_given free g) i false) (sym e)
-    ∙ get_or-set_same free g true false (let same : g ≡ f = e in omega (arith, within, same)))
-given_in free (g ∷ frames) f within (suc k, l, e) =
-    given_in (with_given free g) frames f (let n = length-set free g true in omega (arith, n, within))
-    (k, omega (arith, l), e)
-
 -- ---- objects that are gone
 -- the object is as it was, and the spans do not name it
 pub record IsSparedOf (s t : Shown) (spans : List (Option Contents)) (frames : List ℕ) (h : ℕ)
@@ -116,6 +94,22 @@ was_there spans frames g other at = elim (in_or_out frames g) [
   | inr none ↦ (sym (closed_else spans frames g none) ∙ at, none)
 ]
 
+-- the frames of a span that is taken out are free
+pub given_in : (far : FarState) (frames : List ℕ) (f g : ℕ) (span : Contents) → AreFrames far
+    → span_in far.spans f ≡ Some span → Contains frames f → f ≤ g → g < f + pages_of span.class
+    → IsFreeFrame (all_given far.frames far.spans frames) g
+given_in far frames f g span x there c from to =
+    let y = close_all far frames x in
+    let run = x.within f span there in
+    let count = length_closed far.spans frames in
+    (y.free g (omega (arith, to, run, count, y.sized))).1 (λ over.
+    let was = was_there far.spans frames over.0 over.1.span over.1.there in
+    elim (spans_apart far f over.0 span over.1.span x there was.0
+    (λ e. out_of frames over.0 was.1 (subst (Contains frames) (sym e) c))) [
+      | inl less ↦ let end = over.1.to in omega (arith, less, end, from)
+      | inr more ↦ let begin = over.1.from in omega (arith, more, begin, to)
+    ])
+
 span_named : (spans : List (Option Contents)) (f slot h : ℕ) → resident spans f slot ≡ Some h
     → (span : Contents) × (span_in spans f ≡ Some span) × (handle_at span slot ≡ Some h)
 span_named spans f slot h named = go (span_in spans f) refl
@@ -148,24 +142,7 @@ sound_gone far s t frames homes sound within x = record {
     ];
     stamped = x.stamped;
   };
-  frames = record {
-    sized = length_closed far.spans frames ∙ sound.frames.sized ∙ sym (length_given far.frames frames);
-    free = λ g below. elim (in_or_out frames g) [
-      | inl c ↦ (
-        (λ z. closed_in far.spans frames g c),
-        (λ z. given_in far.frames frames g
-            (let n = length_given far.frames frames in omega (arith, n, below)) c),
-      )
-      | inr none ↦
-          subst (λ (o : Option Contents). IsFreeFrame (all_given far.frames frames) g ↔ (o ≡ None))
-          (sym (closed_else far.spans frames g none))
-          (subst (λ (b : Bool). (b ≡ true) ↔ (span_in far.spans g ≡ None))
-          (sym (given_else far.frames frames g none))
-          (sound.frames.free g (let n = length_given far.frames frames in omega (arith, n, below))))
-    ];
-    valid = λ g other at. sound.frames.valid g other (was_there far.spans frames g other at).0;
-    taken = λ g other at. sound.frames.taken g other (was_there far.spans frames g other at).0;
-  };
+  frames = frames_as _ (with_homes far frames homes) refl refl (close_all far frames sound.frames);
   placed = record {
     memory = x.memory ∙ sound.placed.memory
         ∙ ap (λ (n : ℕ). 512 * n) (sym (length_closed far.spans frames));

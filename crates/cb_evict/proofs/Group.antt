@@ -1,10 +1,10 @@
--- Spans all of whose objects are claimed: what is known of such a group, where the words of its objects
--- lie, and what stays while objects that are not far change.
+-- Spans all of whose objects are claimed: what is known of such a group, where the words of its
+-- objects lie, and what stays while objects that are not far change.
 use Rattle.std.proofs.Common.{◌≡◌, ◌≢◌, ◌⊎◌, ℕ, ◌+◌, ◌*◌, ◌^◌, ◌<◌, ◌≤◌, Bool, List, [], length, get_or, All, Option, None, Some, map as mapped, sym, refl, ap, ◌∙◌, subst, arith, inl, inr}
 use Rattle.std.specs.List.{Contains, AllPairs}
 use Rattle.std.proofs.lemmas.List.{get_or_default, get_or-map, get_or_append_left, length-map}
 use Rattle.std.proofs.lemmas.List.Elements.{All-contains}
-use Rattle.cb_class.specs.Class.{IsClassOf, words_of}
+use Rattle.cb_class.specs.Class.{IsClassOf, pages_of, words_of}
 use Rattle.cb_gf256.specs.Rows.{row_at}
 use Rattle.cb_node.specs.NodesState.{NodesState}
 use Rattle.cb_ptr.specs.Word.{len_of, place_of}
@@ -30,7 +30,7 @@ use Rattle.cb_world.specs.SetAdded.{is_far}
 use Rattle.cb_world.specs.Sets.{SetMap}
 use Rattle.cb_world.specs.SetWord.{IsSpanWord}
 use Rattle.cb_world.specs.Sound.{AreNoted, IsLeaving, IsNoted, Sound}
-use Rattle.cb_world.proofs.Laws.{was_far, slot_inside, some_same, one_slot, batch_given_up_whole, gone_sets}
+use Rattle.cb_world.proofs.Laws.{was_far, frames_as, slot_inside, some_same, one_slot, batch_given_up_whole, gone_sets}
 use Rattle.cb_evict.specs.Candidates.{AreUnique}
 use Rattle.cb_evict.specs.Claims.{AreApart, IsNone}
 use Rattle.cb_evict.specs.Looking.{IsIn}
@@ -54,12 +54,7 @@ here_beside s far sets nodes leaving counts x = record {
     made = x.known.made;
     stamped = x.known.stamped;
   };
-  frames = record {
-    sized = x.frames.sized;
-    free = x.frames.free;
-    valid = x.frames.valid;
-    taken = x.frames.taken;
-  };
+  frames = frames_as far _ refl refl x.frames;
   placed = record {
     memory = x.placed.memory;
     placed = x.placed.placed;
@@ -120,7 +115,7 @@ quiet_away s t far quiet rows sound = record {
     };
     rows = x.rows;
     batch = λ b there. let y = x.batch b there in let same = sym (rows b there) in record {
-      word = subst (IsSpanWord (length b.frames) (length b.parities)) same y.word;
+      word = subst (IsSpanWord b.pages (length b.frames) (length b.parities)) same y.word;
       count = y.count;
       put = λ p shard at up.
           y.put p shard at up ∙ ap (λ (l : List (List ℕ)). Some (row_at l p)) same;
@@ -157,15 +152,15 @@ noted_still s t batch rest h words same n = record {
 }
 
 -- ---- the group
--- All objects of the spans of a batch are claimed at the words that are noted, one of each, and their
--- words stand at their places. Each other claimed object is of a batch that is leaving, which has none
--- of these spans; all else of the far state is sound.
+-- All spans of a batch have its length, and all their objects are claimed at the words that are
+-- noted, one of each, and their words stand at their places. Each other claimed object is of a
+-- batch that is leaving, which has none of these spans; all else of the far state is sound.
 pub record IsGroup (t : Shown) (far : FarState) (batch : LeavingState) : Type 0 where
   pub here : LocalSound t far
   pub away : FarSound t far
   pub apart : AllPairs (λ f g. f ≢ g) batch.frames
   pub held : (f : ℕ) → Contains batch.frames f → (span : Contents)
-      × (span_in far.spans f ≡ Some span)
+      × (span_in far.spans f ≡ Some span) × (pages_of span.class ≡ batch.pages)
   pub each : (h : ℕ) → IsIn far.spans batch.frames h → IsNoted t batch h
   pub only : All (λ former. IsIn far.spans batch.frames former.handle) batch.words
   pub each_once : AreApart batch.words
@@ -233,7 +228,7 @@ module _ (t : Shown) (far : FarState) (batch : LeavingState) (g : IsGroup t far 
   pub record LiesHere (f slot : ℕ) (span : Contents) (word : ℕ) : Type 0 where
     pub place : place_of word ≡ slot_place span.class f slot
     pub fits : IsClassOf (len_of word) span.class
-    pub room : slot * words_of span.class + words_for (len_of word) ≤ 512
+    pub room : slot * words_of span.class + words_for (len_of word) ≤ 512 * pages_of span.class
 
   pub lies_here : (f slot h : ℕ) (span : Contents) (n : IsNoted t batch h)
       → span_in far.spans f ≡ Some span → handle_at span slot ≡ Some h
@@ -255,13 +250,14 @@ module _ (t : Shown) (far : FarState) (batch : LeavingState) (g : IsGroup t far 
       record {
         place = at;
         fits = subst (λ (y : Contents). IsClassOf len y.class) span_same x.fits;
-        room = omega (arith, inside.1, at, frame);
+        room = (let n = ap (λ (y : Contents). pages_of y.class) span_same in
+            omega (arith, inside.1, at, frame, n));
       }
 
-  -- its words stand in its slot of the row of the frame
+  -- its words stand in its slot of the row of the span
   pub in_row : (f slot h : ℕ) (span : Contents) (n : IsNoted t batch h) → Contains batch.frames f
       → span_in far.spans f ≡ Some span → handle_at span slot ≡ Some h
-      → n.words ≡ window (words_in (row_of (window t.memory (512 * f) 512)))
+      → n.words ≡ window (words_in (row_of (window t.memory (512 * f) (512 * batch.pages))))
       (slot * words_of span.class) (words_for (len_of n.former.word))
   in_row f slot h span n c there named =
       let count = words_for (len_of n.former.word) in
@@ -271,14 +267,17 @@ module _ (t : Shown) (far : FarState) (batch : LeavingState) (g : IsGroup t far 
       let here : n.words ≡ window t.memory (512 * f + slot * words_of span.class) count =
       g.contents h (len_of n.former.word) (place_of n.former.word) n.version n.words x n.claimed
       ∙ ap (λ (i : ℕ). window t.memory i count) l.place in
-      here ∙ sym (row_window t.memory (512 * f) (slot * words_of span.class) count l.room
+      let held = g.held f c in
+      let long = ap (λ (y : Contents). pages_of y.class) (some_same span held.0 (sym there ∙ held.1)) in
+      here ∙ sym (row_window t.memory (512 * f) (512 * batch.pages) (slot * words_of span.class) count
+      (omega (arith, l.room, long, held.2))
       (subst (λ (ws : List ℕ). All (λ w. w < 2 ^ 64) ws) here n.small))
 
-  -- the row of a frame
-  pub row_is : (p : ℕ) → p < length batch.frames
-      → row_at (batch_rows t batch) p ≡ row_of (window t.memory (512 * get_or batch.frames p 0) 512)
+  -- the row of a span
+  pub row_is : (p : ℕ) → p < length batch.frames → row_at (batch_rows t batch) p
+      ≡ row_of (window t.memory (512 * get_or batch.frames p 0) (512 * batch.pages))
   row_is p within =
-      let n = length-map batch.frames (λ (f : ℕ). row_of (window t.memory (512 * f) 512)) in
-      get_or_append_left (mapped (λ (f : ℕ). row_of (window t.memory (512 * f) 512)) batch.frames)
-      batch.parities [] p (omega (arith, n, within))
-      ∙ get_or-map (λ (f : ℕ). row_of (window t.memory (512 * f) 512)) batch.frames p 0 [] within
+      let row : ℕ → List ℕ = λ (f : ℕ). row_of (window t.memory (512 * f) (512 * batch.pages)) in
+      let n = length-map batch.frames row in
+      get_or_append_left (mapped row batch.frames) batch.parities [] p (omega (arith, n, within))
+      ∙ get_or-map row batch.frames p 0 [] within

@@ -1,15 +1,18 @@
 -- Spans are taken out, one after another, and their objects get homes.
-use Rattle.std.proofs.Common.{◌≡◌, ◌≢◌, ℕ, suc, ◌+◌, ◌^◌, ◌<◌, ◌≤◌, Bool, true, false, List, [], ◌∷◌, ◌++◌, length, take, set, get_or, All, Option, Some, None, sym, refl, ap, ◌∙◌, subst, arith, inl, inr, length-set, get_or-set_same, get_or-set_other}
+use Rattle.std.proofs.Common.{◌≡◌, ◌≢◌, ℕ, suc, ◌+◌, ◌^◌, ◌<◌, ◌≤◌, Bool, List, [], ◌∷◌, ◌++◌, length, take, set, get_or, All, Option, Some, None, sym, refl, ap, ◌∙◌, subst, arith, inl, inr, length-set, get_or-set_same, get_or-set_other}
 use Rattle.std.specs.List.{slice_get, AllPairs}
 use Rattle.std.proofs.lemmas.Bool.{cases_eq, cases_lt}
-use Rattle.std.proofs.lemmas.List.{take_more, length-take-le, get_or-take, get_or_past, take_all}
+use Rattle.std.proofs.lemmas.List.{take_more, length-take-le, get_or-take, get_or_past, set-get_or, take_all}
 use Rattle.std.proofs.lemmas.List.Elements.{Contains-append_left, Contains-push}
 use Rattle.std.proofs.lemmas.Option.{slice_get-get_or, get_or_from_slice_get}
-use Rattle.cb_frame.specs.FreeFrames.{with_given}
 use Rattle.cb_class.proofs.Laws.{slots_at_most}
+use Rattle.cb_class.specs.Class.{pages_of}
+use Rattle.cb_frame.specs.FreeFrames.{IsFreeFrame, with_run_given}
 use Rattle.cb_span.specs.Contents.{Contents, IsSpan}
 use Rattle.cb_world.specs.Homes.{home_at}
-use Rattle.cb_world.specs.FarState.{FarState, span_in, resident, handle_in}
+use Rattle.cb_world.specs.FarState.{FarState, pages_at, pages_if, span_in, resident, handle_in}
+use Rattle.cb_world.specs.LocalSound.{AreFrames}
+use Rattle.cb_world.proofs.Laws.{frames_as, frames_closed, has_pages, span_busy}
 use Rattle.cb_evict.specs.Candidates.{AreUnique}
 use Rattle.cb_world.specs.Reserved.{table_of}
 use Rattle.cb_evict.specs.Closing.{all_given, all_closed, HaveHomes, with_homes, ClosesSpan}
@@ -22,12 +25,42 @@ pub closed_last : (spans : List (Option Contents)) (xs : List ℕ) (x : ℕ)
 closed_last spans [] x = refl
 closed_last spans (y ∷ ys) x = closed_last (set spans y None) ys x
 
-pub given_last : (free : List Bool) (xs : List ℕ) (x : ℕ)
-    → all_given free (xs ++ x ∷ []) ≡ with_given (all_given free xs) x
-given_last free [] x = refl
-given_last free (y ∷ ys) x = given_last (with_given free y) ys x
+pub given_last : (free : List Bool) (spans : List (Option Contents)) (xs : List ℕ) (x : ℕ)
+    → all_given free spans (xs ++ x ∷ [])
+    ≡ with_run_given (all_given free spans xs) x (pages_at (all_closed spans xs) x)
+given_last free spans [] x = refl
+given_last free spans (y ∷ ys) x =
+    given_last (with_run_given free y (pages_at spans y)) (set spans y None) ys x
 
--- a span in another frame stays
+-- each frame is free or one of exactly one span's, once a span is taken out
+close_one : (far : FarState) (f : ℕ) → AreFrames far → AreFrames (record far {
+  frames = with_run_given far.frames f (pages_at far.spans f);
+  spans = set far.spans f None;
+})
+close_one far f x = by (span_in far.spans f) refl
+  where
+    by : (o : Option Contents) → span_in far.spans f ≡ o → AreFrames (record far {
+      frames = with_run_given far.frames f (pages_at far.spans f);
+      spans = set far.spans f None;
+    })
+    by None e = frames_as far _ (ap (λ (o : Option Contents). with_run_given far.frames f (pages_if o)) e)
+        (ap (set far.spans f) (sym e) ∙ set-get_or far.spans f None) x
+    by (Some span) e = frames_as _ _
+        (ap (λ (o : Option Contents). with_run_given far.frames f (pages_if o)) e) refl
+        (frames_closed far f span x e)
+
+-- and once several are
+pub close_all : (far : FarState) (frames : List ℕ) → AreFrames far → AreFrames (record far {
+  frames = all_given far.frames far.spans frames;
+  spans = all_closed far.spans frames;
+})
+close_all far [] x = frames_as far _ refl refl x
+close_all far (f ∷ frames) x = frames_as _ _ refl refl (close_all (record far {
+  frames = with_run_given far.frames f (pages_at far.spans f);
+  spans = set far.spans f None;
+}) frames (close_one far f x))
+
+-- a span at another frame stays
 pub closed_else : (spans : List (Option Contents)) (frames : List ℕ) (f : ℕ)
     → All (λ g. g ≢ f) frames → span_in (all_closed spans frames) f ≡ span_in spans f
 closed_else spans [] f none = refl
@@ -35,24 +68,27 @@ closed_else spans (g ∷ frames) f none =
     closed_else (set spans g None) frames f (λ k d l. none (suc k) d (omega (arith, l)))
     ∙ get_or-set_other spans g f None None (λ e. none 0 0 (omega arith) (sym e))
 
-pub given_else : (free : List Bool) (frames : List ℕ) (f : ℕ) → All (λ g. g ≢ f) frames
-    → get_or (all_given free frames) f false ≡ get_or free f false
-given_else free [] f none = refl
-given_else free (g ∷ frames) f none =
-    given_else (with_given free g) frames f (λ k d l. none (suc k) d (omega (arith, l)))
-    ∙ get_or-set_other free g f true false (λ e. none 0 0 (omega arith) (sym e))
-
 pub length_closed : (spans : List (Option Contents)) (frames : List ℕ)
     → length (all_closed spans frames) ≡ length spans
 length_closed spans [] = refl
 length_closed spans (f ∷ frames) = length_closed (set spans f None) frames ∙ length-set spans f None
 
-pub length_given : (free : List Bool) (frames : List ℕ)
-    → length (all_given free frames) ≡ length free
-length_given free [] = refl
-length_given free (f ∷ frames) = length_given (with_given free f) frames ∙ length-set free f true
+-- a span's frames are there, and none of them is free
+pub run_busy : (far : FarState) (f : ℕ) (span : Contents) → AreFrames far
+    → span_in far.spans f ≡ Some span → (g : ℕ) → f ≤ g → g < f + pages_at far.spans f
+    → ¬ (IsFreeFrame far.frames g)
+run_busy far f span x there g from to = span_busy far f g span x there from
+    (subst (λ (n : ℕ). g < f + n) (ap pages_if there) to)
 
--- the spans in the first n frames are taken out
+pub run_within : (far : FarState) (f : ℕ) (span : Contents) → AreFrames far
+    → span_in far.spans f ≡ Some span
+    → (f + pages_at far.spans f ≤ length far.frames) × (f < length far.spans)
+run_within far f span x there =
+    let run = x.within f span there in
+    let many : pages_at far.spans f ≡ pages_of span.class = ap pages_if there in
+    (omega (arith, run, many, x.sized), omega (arith, run, has_pages far f span x there))
+
+-- the spans at the first n frames are taken out
 pub record AreClosed (far new : FarState) (frames : List ℕ) (id : ℕ) : Type 0 where
   pub state : new ≡ with_homes far frames new.homes
   pub homes : HaveHomes far.spans frames id far.homes new.homes
@@ -116,35 +152,32 @@ unique_closed spans frames n m u e = record {
       (names_closed spans frames f j h b);
 }
 
--- the next span is there still, and its frame is not free
+-- the next span is there still, and it alone has its frames
 pub record IsNextFrame (far now : FarState) (f : ℕ) : Type 0 where
   pub span : span_in now.spans f ≡ span_in far.spans f
-  pub free : get_or now.frames f false ≡ get_or far.frames f false
-  pub count : length now.frames ≡ length far.frames
-  pub places : length now.spans ≡ length far.spans
+  pub owned : AreFrames now
   pub unique : AreUnique now.spans (length now.homes)
 
 pub next_frame : (far now : FarState) (frames : List ℕ) (n id : ℕ)
     → AreClosed far now (take n frames) id → AllPairs (λ f g. f ≢ g) frames → n < length frames
-    → AreUnique far.spans (length far.homes) → IsNextFrame far now (get_or frames n 0)
-next_frame far now frames n id a apart within unique =
+    → AreUnique far.spans (length far.homes) → AreFrames far
+    → IsNextFrame far now (get_or frames n 0)
+next_frame far now frames n id a apart within unique owned =
     let off = none_before frames n apart within in
     subst (λ (x : FarState). IsNextFrame far x (get_or frames n 0)) (sym a.state) (record {
       span = closed_else far.spans (take n frames) (get_or frames n 0) off;
-      free = given_else far.frames (take n frames) (get_or frames n 0) off;
-      count = length_given far.frames (take n frames);
-      places = length_closed far.spans (take n frames);
+      owned = frames_as _ _ refl refl (close_all far (take n frames) owned);
       unique = unique_closed far.spans (take n frames) (length far.homes) (length now.homes) unique a.homes.count;
     })
 
 pub closed_more : (far now new : FarState) (frames : List ℕ) (n id : ℕ)
     → AreClosed far now (take n frames) id → ClosesSpan now new id n (get_or frames n 0)
     → AllPairs (λ f g. f ≢ g) frames → n < length frames → AreUnique far.spans (length far.homes)
-    → AreClosed far new (take (n + 1) frames) id
-closed_more far now new frames n id a x apart within unique =
+    → AreFrames far → AreClosed far new (take (n + 1) frames) id
+closed_more far now new frames n id a x apart within unique owned =
     let f = get_or frames n 0 in
     let more = take_more frames n 0 within in
-    let next = next_frame far now frames n id a apart within unique in
+    let next = next_frame far now frames n id a apart within unique owned in
     let count : length (take n frames) ≡ n = length-take-le n frames (omega (arith, within)) in
     let at : slice_get frames n ≡ Some f = slice_get-get_or frames n 0 within in
     let named : (slot h : ℕ) → get_or (table_of (span_in now.spans f)) slot None ≡ resident far.spans f slot =
@@ -153,7 +186,7 @@ closed_more far now new frames n id a x apart within unique =
     subst (λ (l : List ℕ). AreClosed far new l id) (sym more) (record {
       state = x.state
           ∙ ap (λ (y : FarState). let z : FarState = record y {
-            frames = with_given y.frames f;
+            frames = with_run_given y.frames f (pages_at y.spans f);
             spans = set y.spans f None;
             homes = new.homes;
           } in z) a.state
@@ -161,9 +194,9 @@ closed_more far now new frames n id a x apart within unique =
             frames = l;
             spans = set (all_closed far.spans (take n frames)) f None;
             homes = new.homes;
-          } in z) (sym (given_last far.frames (take n frames) f))
+          } in z) (sym (given_last far.frames far.spans (take n frames) f))
           ∙ ap (λ (l : List (Option Contents)). let z : FarState = record far {
-            frames = all_given far.frames (take n frames ++ f ∷ []);
+            frames = all_given far.frames far.spans (take n frames ++ f ∷ []);
             spans = l;
             homes = new.homes;
           } in z) (sym (closed_last far.spans (take n frames) f));

@@ -98,19 +98,19 @@ shards_current far n shards a rows p shard at =
     up_is_current far shard rows (shard_up far n shards a p shard at)
 
 -- ---- the set
-pub set_count : (far : FarState) (shards : List Shard) (frames : List ℕ)
-    → length (set_for far shards frames).positions ≡ length frames
-set_count far shards frames = length-map frames (position_for far.spans)
+pub set_count : (far : FarState) (pages : ℕ) (shards : List Shard) (frames : List ℕ)
+    → length (set_for far pages shards frames).positions ≡ length frames
+set_count far pages shards frames = length-map frames (position_for far.spans)
 
-pub position_at : (far : FarState) (shards : List Shard) (frames : List ℕ) (p : ℕ)
+pub position_at : (far : FarState) (pages : ℕ) (shards : List Shard) (frames : List ℕ) (p : ℕ)
     → p < length frames
-    → position_of (set_for far shards frames) p ≡ position_for far.spans (get_or frames p 0)
-position_at far shards frames p within =
+    → position_of (set_for far pages shards frames) p ≡ position_for far.spans (get_or frames p 0)
+position_at far pages shards frames p within =
     get_or-map (position_for far.spans) frames p 0 dead_position within
 
-position_past : (far : FarState) (shards : List Shard) (frames : List ℕ) (p : ℕ)
-    → length frames ≤ p → position_of (set_for far shards frames) p ≡ dead_position
-position_past far shards frames p past =
+position_past : (far : FarState) (pages : ℕ) (shards : List Shard) (frames : List ℕ) (p : ℕ)
+    → length frames ≤ p → position_of (set_for far pages shards frames) p ≡ dead_position
+position_past far pages shards frames p past =
     get_or_past (mapped (position_for far.spans) frames) p dead_position
     (let n = length-map frames (position_for far.spans) in omega (arith, n, past))
 
@@ -118,33 +118,33 @@ slots_resident : (o : Option Contents) (slot : ℕ) → get_or (table_of o) slot
 slots_resident None slot = refl
 slots_resident (Some span) slot = refl
 
-pub slot_is : (far : FarState) (shards : List Shard) (frames : List ℕ) (p slot : ℕ)
-    → p < length frames → slot_at (set_for far shards frames) p slot
+pub slot_is : (far : FarState) (pages : ℕ) (shards : List Shard) (frames : List ℕ) (p slot : ℕ)
+    → p < length frames → slot_at (set_for far pages shards frames) p slot
     ≡ resident far.spans (get_or frames p 0) slot
-slot_is far shards frames p slot within =
-    ap (λ (c : PositionState). get_or c.slots slot None) (position_at far shards frames p within)
+slot_is far pages shards frames p slot within =
+    ap (λ (c : PositionState). get_or c.slots slot None) (position_at far pages shards frames p within)
     ∙ slots_resident (span_in far.spans (get_or frames p 0)) slot
 
 -- a slot that names an object is that of a span in one of the frames
-pub slot_named : (far : FarState) (shards : List Shard) (frames : List ℕ) (p slot h : ℕ)
-    → slot_at (set_for far shards frames) p slot ≡ Some h
+pub slot_named : (far : FarState) (pages : ℕ) (shards : List Shard) (frames : List ℕ) (p slot h : ℕ)
+    → slot_at (set_for far pages shards frames) p slot ≡ Some h
     → (p < length frames) × (resident far.spans (get_or frames p 0) slot ≡ Some h)
-slot_named far shards frames p slot h named = elim (cases_lt p (length frames)) [
-  | inl within ↦ (within, sym (slot_is far shards frames p slot within) ∙ named)
+slot_named far pages shards frames p slot h named = elim (cases_lt p (length frames)) [
+  | inl within ↦ (within, sym (slot_is far pages shards frames p slot within) ∙ named)
   | inr past ↦ absurd (none_some h (sym (ap (λ (c : PositionState). get_or c.slots slot None)
-      (position_past far shards frames p past)) ∙ named))
+      (position_past far pages shards frames p past)) ∙ named))
 ]
 
-pub set_lives : (far : FarState) (shards : List Shard) (frames : List ℕ) (p : ℕ)
-    → live_at (set_for far shards frames) p
-    ≡ list_any (λ slot. is_some slot) (position_of (set_for far shards frames) p).slots
-set_lives far shards frames p = elim (cases_lt p (length frames)) [
-  | inl within ↦ ap (λ (c : PositionState). c.live) (position_at far shards frames p within)
+pub set_lives : (far : FarState) (pages : ℕ) (shards : List Shard) (frames : List ℕ) (p : ℕ)
+    → live_at (set_for far pages shards frames) p
+    ≡ list_any (λ slot. is_some slot) (position_of (set_for far pages shards frames) p).slots
+set_lives far pages shards frames p = elim (cases_lt p (length frames)) [
+  | inl within ↦ ap (λ (c : PositionState). c.live) (position_at far pages shards frames p within)
       ∙ sym (ap (λ (c : PositionState). list_any (λ slot. is_some slot) c.slots)
-      (position_at far shards frames p within))
-  | inr past ↦ ap (λ (c : PositionState). c.live) (position_past far shards frames p past)
+      (position_at far pages shards frames p within))
+  | inr past ↦ ap (λ (c : PositionState). c.live) (position_past far pages shards frames p past)
       ∙ sym (ap (λ (c : PositionState). list_any (λ slot. is_some slot) c.slots)
-      (position_past far shards frames p past))
+      (position_past far pages shards frames p past))
 ]
 
 any_taken : (slots : List (Option ℕ)) → 1 ≤ count_by is_some slots
@@ -155,14 +155,14 @@ any_taken (None ∷ slots) l = any_taken slots
 any_taken (Some h ∷ slots) l = refl
 
 -- its first position is live
-pub set_live : (far : FarState) (s : Shown) (shards : List Shard) (frames : List ℕ)
+pub set_live : (far : FarState) (pages : ℕ) (s : Shown) (shards : List Shard) (frames : List ℕ)
     (span : Contents) → LocalSound s far → 1 ≤ length frames
     → span_in far.spans (get_or frames 0 0) ≡ Some span
-    → live_at (set_for far shards frames) 0 ≡ true
-set_live far s shards frames span sound some there =
-    set_lives far shards frames 0
+    → live_at (set_for far pages shards frames) 0 ≡ true
+set_live far pages s shards frames span sound some there =
+    set_lives far pages shards frames 0
     ∙ ap (λ (c : PositionState). list_any (λ slot. is_some slot) c.slots)
-    (position_at far shards frames 0 (omega (arith, some)))
+    (position_at far pages shards frames 0 (omega (arith, some)))
     ∙ ap (λ (o : Option Contents). list_any (λ slot. is_some slot) (table_of o)) there
     ∙ any_taken span.slots (sound.frames.taken (get_or frames 0 0) span there)
 

@@ -1,8 +1,9 @@
--- The words of frames whose objects are all held.
+-- The words of spans whose objects are all held.
 use Rattle.std.proofs.Common.{◌≡◌, ℕ, ◌*◌, List, length, Some, inl, inr, sym, ◌∙◌, subst, arith}
 use Rattle.std.proofs.lemmas.Bool.{cases_lt}
 use Rattle.std.proofs.lemmas.List.{get_or_past}
 use Rattle.std.proofs.lemmas.List.Elements.{All-contains}
+use Rattle.cb_class.specs.Class.{pages_of}
 use Rattle.cb_span.specs.Contents.{Contents, handle_at}
 use Rattle.cb_world.specs.declared.leaving.Former.{Former}
 use Rattle.cb_world.specs.declared.event.Event.{Event}
@@ -16,13 +17,17 @@ use Rattle.cb_evict.specs.Claims.{Keeps, AreClaimed, IsClaimedBy}
 use Rattle.cb_evict.specs.Claiming.{IsOne}
 
 -- its words stay while others are claimed
-pub frame_stays : (far : FarState) (s t : Shown) (f : ℕ) → LocalSound s far
-    → ((slot h : ℕ) (span : Contents) → span_in far.spans f ≡ Some span
-    → handle_at span slot ≡ Some h → IsHeld (object_at s h)) → Keeps s t
-    → window t.memory (512 * f) 512 ≡ window s.memory (512 * f) 512
-frame_stays far s t f sound held keeps =
-    window_same t.memory s.memory (512 * f) 512 (λ p from to. elim (cases_lt p (length s.memory)) [
-      | inl within ↦ keeps.words p (within, frame_spares far s f p sound held (from, to))
+pub span_stays : (far : FarState) (s t : Shown) (f pages : ℕ) (span : Contents) → LocalSound s far
+    → span_in far.spans f ≡ Some span → pages_of span.class ≡ pages
+    → ((slot h : ℕ) → handle_at span slot ≡ Some h → IsHeld (object_at s h)) → Keeps s t
+    → window t.memory (512 * f) (512 * pages) ≡ window s.memory (512 * f) (512 * pages)
+span_stays far s t f pages span sound there long held keeps =
+    window_same t.memory s.memory (512 * f) (512 * pages) (λ p from to.
+    elim (cases_lt p (length s.memory)) [
+      | inl within ↦ keeps.words p (
+        within,
+        frame_spares far s f p span sound there held (from, omega (arith, to, long)),
+      )
       | inr past ↦ get_or_past t.memory p 0 (omega (arith, past, keeps.memory))
           ∙ sym (get_or_past s.memory p 0 past)
     ])

@@ -1,5 +1,5 @@
--- A claimed group is put away: its objects are away, its spans are gone, and its rows stand under shards
--- as the set of its number.
+-- A claimed group is put away: its objects are away, its spans are gone, and its rows stand under
+-- shards as the set of its number.
 use Rattle.std.proofs.Common.{◌≡◌, ◌≢◌, ◌⊎◌, ℕ, ◌+◌, ◌*◌, ◌<◌, ◌≤◌, false, List, length, get_or, All, Option, None, Some, sym, refl, ap, ◌∙◌, subst, arith, inl, inr}
 use Rattle.std.specs.List.{Contains, slice_get}
 use Rattle.std.specs.FinMap as map
@@ -7,7 +7,8 @@ use Rattle.std.proofs.lemmas.Bool.{cases_order}
 use Rattle.std.proofs.lemmas.List.{get_or_default}
 use Rattle.std.proofs.lemmas.List.Elements.{All-contains}
 use Rattle.std.proofs.lemmas.Option.{slice_get-get_or}
-use Rattle.cb_class.specs.Class.{words_of}
+use Rattle.cb_class.specs.Class.{pages_of, words_of}
+use Rattle.cb_class.proofs.Laws.{pages_few}
 use Rattle.cb_gf256.specs.InRange.{IsInRange}
 use Rattle.cb_gf256.specs.Rows.{row_at}
 use Rattle.cb_member.specs.declared.names.NodeId.{NodeId}
@@ -50,11 +51,11 @@ use Rattle.cb_evict.proofs.Group.{IsGroup, here_beside, claimed_not_far, unique,
 use Rattle.cb_evict.proofs.Homing.{closed_else}
 use Rattle.cb_evict.proofs.NewSet.{set_count, position_at, slot_is, slot_named, set_lives, set_live}
 use Rattle.cb_evict.proofs.Standing.{named_at, names_span}
-use Rattle.cb_evict.proofs.Options.{none_some}
+use Rattle.cb_evict.proofs.Options.{none_some, some_same}
 
 -- the set of a group under these shards
 abbrev pub put_set : FarState → LeavingState → List Shard → SetState
-put_set far batch shards = set_from batch.set shards far.spans batch.frames
+put_set far batch shards = set_from batch.set batch.pages shards far.spans batch.frames
 
 -- the far state then
 abbrev pub away_far : FarState → LeavingState → SetMap → NodesState → CountsState
@@ -71,7 +72,7 @@ pub record IsGroupPutAway (t u : Shown) (far : FarState) (batch : LeavingState)
   pub sent : AreSent t u batch.words
   pub homed : HaveHomes far.spans batch.frames batch.set far.homes homes
   pub range : IsInRange (length batch.frames) (length batch.parities)
-  pub word : IsSpanWord (length batch.frames) (length batch.parities) (batch_rows t batch)
+  pub word : IsSpanWord batch.pages (length batch.frames) (length batch.parities) (batch_rows t batch)
   pub count : length shards ≡ length batch.frames + length batch.parities
   pub distinct : OnDistinctNodes shards
   pub current : AreCurrent far.members shards
@@ -125,10 +126,10 @@ module _ (t u : Shown) (far : FarState) (batch : LeavingState) (shards : List Sh
 
   -- ---- the set
   holds : (p slot h : ℕ) → slot_at (put_set far batch shards) p slot ≡ Some h
-      → HoldsObject u (row_at (batch_rows t batch) p)
+      → HoldsObject u batch.pages (row_at (batch_rows t batch) p)
       (length (position_of (put_set far batch shards) p).slots) slot h
   holds p slot h named =
-      let m = slot_named far shards batch.frames p slot h named in
+      let m = slot_named far batch.pages shards batch.frames p slot h named in
       let f = get_or batch.frames p 0 in
       let c = at_place t far batch d.group p m.0 in
       let n = d.group.each h (f, c, (slot, m.1)) in
@@ -142,8 +143,11 @@ module _ (t u : Shown) (far : FarState) (batch : LeavingState) (shards : List Sh
         class = span.0.class;
         away = is_sent h n;
         fits = l.fits;
+        paged = sym (let held = d.group.held f c in
+            ap (λ (y : Contents). pages_of y.class)
+            (some_same span.0 held.0 (sym span.1 ∙ held.1)) ∙ held.2);
         sized = ap (λ (y : PositionState). length y.slots)
-            (position_at far shards batch.frames p m.0)
+            (position_at far batch.pages shards batch.frames p m.0)
             ∙ ap (λ (o : Option Contents). length (table_of o)) span.1
             ∙ (d.group.here.frames.valid f span.0 span.1).sized;
         contents = in_row t far batch d.group f slot h span.0 n c span.1 here
@@ -161,14 +165,14 @@ module _ (t u : Shown) (far : FarState) (batch : LeavingState) (shards : List Sh
       let there : slice_get batch.frames p ≡ Some f =
       slice_get-get_or batch.frames p 0 within ∙ ap (λ (i : ℕ). Some i) frame in
       let named : slot_at (put_set far batch shards) p slot ≡ Some h =
-      slot_is far shards batch.frames p slot within
+      slot_is far batch.pages shards batch.frames p slot within
       ∙ ap (λ (i : ℕ). resident far.spans i slot) frame ∙ is in
       record {
         position = p;
         slot = slot;
         named = named;
         once = λ q i e.
-            let m = slot_named far shards batch.frames q i h e in
+            let m = slot_named far batch.pages shards batch.frames q i h e in
             let same = once.one_frame (get_or batch.frames q 0) f h (i, m.1) (slot, is) in (
               frame_once q p m.0 within (same ∙ sym frame),
               once.one_slot f i slot h (subst (λ (k : ℕ). resident far.spans k i ≡ Some h) same
@@ -193,7 +197,7 @@ module _ (t u : Shown) (far : FarState) (batch : LeavingState) (shards : List Sh
       (put_set far batch shards) (batch_rows t batch)
   set_is_added =
       let k : length (put_set far batch shards).positions ≡ length batch.frames =
-      set_count far shards batch.frames in
+      set_count far batch.pages shards batch.frames in
       let r : parities (put_set far batch shards) ≡ length batch.parities =
       omega (arith, k, d.count) in
       let some : 1 ≤ length batch.frames = d.range.data_least in
@@ -204,16 +208,18 @@ module _ (t u : Shown) (far : FarState) (batch : LeavingState) (shards : List Sh
           range = subst (λ (i : ℕ). IsInRange i (parities (put_set far batch shards))) (sym k)
               (subst (λ (i : ℕ). IsInRange (length batch.frames) i) (sym r) d.range);
           data_first = omega (arith, k, d.count);
+          pages = (let most = pages_few head.0.class (d.group.here.frames.valid _ head.0 head.1).in_table in
+              omega (arith, most, head.2));
           distinct = d.distinct;
           current = d.current;
         };
-        code = subst (λ (i : ℕ). IsSpanWord i (parities (put_set far batch shards))
+        code = subst (λ (i : ℕ). IsSpanWord batch.pages i (parities (put_set far batch shards))
             (batch_rows t batch))
-            (sym k) (subst (λ (i : ℕ). IsSpanWord (length batch.frames) i (batch_rows t batch))
+            (sym k) (subst (λ (i : ℕ). IsSpanWord batch.pages (length batch.frames) i (batch_rows t batch))
             (sym r)
             d.word);
-        lives = set_lives far shards batch.frames;
-        some_live = (0, set_live far t shards batch.frames head.0 d.group.here some head.1);
+        lives = set_lives far batch.pages shards batch.frames;
+        some_live = (0, set_live far batch.pages t shards batch.frames head.0 d.group.here some head.1);
         added = d.added;
         fresh = d.fresh;
         others = d.other_sets;
@@ -240,7 +246,7 @@ module _ (t u : Shown) (far : FarState) (batch : LeavingState) (shards : List Sh
           | inr none ↦ inl (record {
             object = d.sent.others h none;
             home = d.homed.others h (λ f y named. not_in t far batch d.group h none (f, y, named));
-            absent = λ p slot named. let m = slot_named far shards batch.frames p slot h named in
+            absent = λ p slot named. let m = slot_named far batch.pages shards batch.frames p slot h named in
                 not_in t far batch d.group h none
                 (get_or batch.frames p 0, at_place t far batch d.group p m.0, (slot, m.1));
           })

@@ -18,7 +18,7 @@ use Rattle.cb_evict.specs.Claims.{AreClaimed, AreBack}
 use Rattle.cb_evict.specs.CallPart.{Settles}
 use Rattle.cb_evict.specs.Claiming.{GivesBack, IsOne}
 use Rattle.cb_evict.specs.Events.{TouchesOnly, OnlyLooks, AreSteady}
-use Rattle.cb_evict.specs.Evicting.{EndsClaimed, IsEnded, IsReadyToEvict, LeavesClaimed, ReadsFrames}
+use Rattle.cb_evict.specs.Evicting.{EndsClaimed, IsEnded, IsReadyToEvict, LeavesClaimed, ReadsSpans}
 use Rattle.cb_evict.specs.Loading.{LiesInOne}
 use Rattle.cb_evict.specs.Looking.{IsIn}
 use Rattle.cb_world.specs.Still.{IsStill}
@@ -26,7 +26,7 @@ use Rattle.cb_evict.proofs.Claims.{claims_back, sound_hots}
 use Rattle.cb_evict.proofs.CallParts.{Joins, part_then, reads_part}
 use Rattle.cb_evict.proofs.Ending.{IsEvictEnd, end_allowed, end_in, end_played, end_quiet, one_in, spans_touched}
 use Rattle.cb_evict.proofs.Events.{are_reads, told_words, steady_append, looks_steady, looks_change}
-use Rattle.cb_evict.proofs.Owned.{frame_stays}
+use Rattle.cb_evict.proofs.Owned.{span_stays}
 
 -- nothing changed
 pub restored : (far : FarState) (es : List Event) (s : Shown) (o p : ℕ → Type 0) → Sound s far
@@ -46,9 +46,10 @@ restored far es s o p sound claimed here steady touches =
       },
       sound_near s t far far sound here (keeps_all far) (λ h. inl (same h)) (λ b there. record {
         spans = λ f leaves. refl;
-        words = λ f leaves. frame_stays far s t f sound.here
-            (λ slot h span at named.
-            let n = (sound.noted b there).each f slot h span leaves at named in
+        words = λ f leaves. let held = (sound.noted b there).held f leaves in
+            span_stays far s t f b.pages held.0 sound.here held.1 held.2
+            (λ slot h named.
+            let n = (sound.noted b there).each f slot h held.0 leaves held.1 named in
             subst IsHeld (sym n.claimed) tt) claimed.keeps;
       }),
     )
@@ -97,22 +98,22 @@ batch_back far formers q o p before ls bs s sound claimed steady e back here aft
 pub settled_end : {runsA runsB runsC : List Event → Type 0} {showsA showsB : Shown → Type 0}
     {so ends : List Event → Type 0} {does : List Event → Shown → Shown → Type 0} (far new : FarState)
     (frames : List ℕ) (formers : List Former) → Joins runsA runsB runsC showsA showsB
-    → All (λ f. IsIn far.spans frames f.handle) formers → (x : ReadsFrames runsA frames)
+    → All (λ f. IsIn far.spans frames f.handle) formers → (x : ReadsSpans runsA far.spans frames)
     → (y : Settles runsB (IsOne formers) (λ p. ⊥) so)
-    → (IsEvictEnd (LiesInOne frames) formers x.0 y.events → (before : List Event) (s : Shown)
+    → (IsEvictEnd (LiesInOne far.spans frames) formers x.0 y.events → (before : List Event) (s : Shown)
     → IsReadyToEvict showsA far formers before s → showsB (played before s)
     → IsEnded new before (x.0 ++ y.events) s ends does)
     → EndsClaimed runsC showsA far new frames formers ends does
 settled_end {showsA = showsA} {showsB = showsB} {ends = ends} {does = does} far new frames formers j only x y ended =
-    let reads = are_reads (LiesInOne frames) x.0 x.2 in
-    let end : IsEvictEnd (LiesInOne frames) formers x.0 y.events =
+    let reads = are_reads (LiesInOne far.spans frames) x.0 x.2 in
+    let end : IsEvictEnd (LiesInOne far.spans frames) formers x.0 y.events =
     record { reads = reads; touches = y.touches; quiet = y.done.0 } in
-    part_then (IsIn far.spans frames) (LiesInOne frames)
+    part_then (IsIn far.spans frames) (LiesInOne far.spans frames)
     (λ es. ((k : ℕ) → NoLook k es) × ((before : List Event) (s : Shown)
     → IsReadyToEvict showsA far formers before s → IsEnded new before es s ends does)) j
     (reads_part x.0 x.1 reads) y (λ h e. absurd e) (λ p l. l)
     (one_in far frames formers only) (λ p e. absurd e) (inr (λ h e. absurd e)) (
-      end_quiet (LiesInOne frames) formers x.0 y.events end,
+      end_quiet (LiesInOne far.spans frames) formers x.0 y.events end,
       λ before s r. ended end before s r
           (subst showsB (reads.stays (played before s)) (j.shown x.0 (played before s) x.1 r.shown)),
     )
@@ -121,15 +122,15 @@ settled_end {showsA = showsA} {showsB = showsB} {ends = ends} {does = does} far 
 pub gives_back_ends : {runsA runsB runsC : List Event → Type 0} {showsA showsB : Shown → Type 0}
     (far : FarState) (frames : List ℕ) (formers : List Former)
     → Joins runsA runsB runsC showsA showsB → All (Contains (candidates far)) frames
-    → All (λ f. IsIn far.spans frames f.handle) formers → ReadsFrames runsA frames
+    → All (λ f. IsIn far.spans frames f.handle) formers → ReadsSpans runsA far.spans frames
     → GivesBack runsB showsB formers → LeavesClaimed runsC showsA far frames formers
 gives_back_ends far frames formers j among only x y =
     settled_end far far frames formers j only x y (λ end before s r shown.
     let b = y.done.1 (played before s) far shown r.here (λ k d l. (r.claimed.taken k d l).at) in
-    let all = batch_back far formers (LiesInOne frames) _ _ before x.0 y.events s r.sound r.claimed
+    let all = batch_back far formers (LiesInOne far.spans frames) _ _ before x.0 y.events s r.sound r.claimed
     r.steady end b.0 b.1 b.2 (spans_touched far frames before (x.0 ++ y.events) among r.touches
     (end_in far frames formers x.0 y.events only end)) in record {
-      allowed = end_allowed (LiesInOne frames) formers before x.0 y.events s end b.2.allowed;
+      allowed = end_allowed (LiesInOne far.spans frames) formers before x.0 y.events s end b.2.allowed;
       rule = tt;
       sound = all.1;
       effect = all.0;

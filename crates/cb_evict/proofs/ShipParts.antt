@@ -13,6 +13,7 @@ use Rattle.cb_world.specs.declared.event.Event.{Event}
 use Rattle.cb_world.specs.declared.shown.Shown.{Shown}
 use Rattle.cb_world.specs.FarSound.{AreShardRows, of_leaving, batch_rows}
 use Rattle.cb_world.specs.FarState.{FarState, span_in}
+use Rattle.cb_world.specs.FrameWords.{LiesInRun}
 use Rattle.cb_world.specs.Leaving.{LeavingState}
 use Rattle.cb_world.specs.Memory.{window}
 use Rattle.cb_world.specs.Performs.{Performs}
@@ -22,7 +23,7 @@ use Rattle.cb_world.specs.RowWords.{row_of}
 use Rattle.cb_world.specs.Sound.{Sound}
 use Rattle.cb_world.proofs.Laws.{batch_owned}
 use Rattle.cb_world.specs.Still.{IsStill}
-use Rattle.cb_evict.specs.Loading.{LiesInFrame, LiesInOne, OnlyLoads, LoadsFrame}
+use Rattle.cb_evict.specs.Loading.{LiesInOne, LoadsRun, OnlyLoads, pages_in}
 use Rattle.cb_evict.specs.ShipRule.{IsShardFor, ReadsLeaving, ShipEffect, ShipRule, ShipsRow, with_shipped}
 use Rattle.cb_evict.specs.Shipping.{PutsNothing, PutsRow}
 use Rattle.cb_evict.specs.Waiting.{PutAtMembers, least_waiting}
@@ -71,42 +72,48 @@ past_end xs p none = elim (cases_lt p (length xs)) [
   | inr past ↦ past
 ]
 
-abbrev frame_row : Shown → ℕ → List ℕ
-frame_row s f = row_of (window s.memory (512 * f) 512)
+abbrev frame_row : Shown → ℕ → ℕ → List ℕ
+frame_row s pages f = row_of (window s.memory (512 * f) (512 * pages))
 
 data_row : (s : Shown) (batch : LeavingState) (p f : ℕ) → slice_get batch.frames p ≡ Some f
-    → row_at (batch_rows s batch) p ≡ frame_row s f
+    → row_at (batch_rows s batch) p ≡ frame_row s batch.pages f
 data_row s batch p f at =
     let l = slice_get_within batch.frames p f at in
-    let n = length-map batch.frames (frame_row s) in
-    get_or_append_left (map (frame_row s) batch.frames) batch.parities [] p (omega (arith, l, n))
-    ∙ get_or-map (frame_row s) batch.frames p 0 [] l
-    ∙ ap (frame_row s) (get_or_from_slice_get batch.frames p f 0 at)
+    let n = length-map batch.frames (frame_row s batch.pages) in
+    get_or_append_left (map (frame_row s batch.pages) batch.frames) batch.parities [] p (omega (arith, l, n))
+    ∙ get_or-map (frame_row s batch.pages) batch.frames p 0 [] l
+    ∙ ap (frame_row s batch.pages) (get_or_from_slice_get batch.frames p f 0 at)
 
 parity_row : (s : Shown) (batch : LeavingState) (p : ℕ) → length batch.frames ≤ p
     → row_at (batch_rows s batch) p ≡ row_at batch.parities (p - length batch.frames)
 parity_row s batch p behind =
-    get_or-append_right (map (frame_row s) batch.frames) batch.parities (length batch.frames) p []
-    (length-map batch.frames (frame_row s)) behind
+    get_or-append_right (map (frame_row s batch.pages) batch.frames) batch.parities
+    (length batch.frames) p [] (length-map batch.frames (frame_row s batch.pages)) behind
 
 -- ---- a row is put
 frame_reads : (far : FarState) (batch : LeavingState) (p f : ℕ) (es : List Event)
-    → far.leaving ≡ Some batch → slice_get batch.frames p ≡ Some f → OnlyLoads (LiesInFrame f) es
+    → far.leaving ≡ Some batch → slice_get batch.frames p ≡ Some f
+    → pages_in far.spans f ≡ batch.pages → OnlyLoads (LiesInRun f batch.pages) es
     → ReadsLeaving far es
-frame_reads far batch p f es there at loads =
-    subst (λ (o : Option LeavingState). OnlyLoads (LiesInOne (leaving_frames o)) es) (sym there)
-    (loads_more (LiesInFrame f) (LiesInOne batch.frames) es
-    (λ i lies. (f, contains_at batch.frames p f at, lies)) loads)
+frame_reads far batch p f es there at long loads =
+    subst (λ (o : Option LeavingState). OnlyLoads (LiesInOne far.spans (leaving_frames o)) es)
+    (sym there)
+    (loads_more (LiesInRun f batch.pages) (LiesInOne far.spans batch.frames) es
+    (λ i lies. (
+      f,
+      contains_at batch.frames p f at,
+      (lies.0, omega (arith, lies.1, long)),
+    )) loads)
 
 pub puts_data : (runs : List Event → Type 0) (showsA showsB : Shown → Type 0) (far new : FarState)
     (batch : LeavingState) (p f : ℕ) (shard : Shard) (row : List ℕ) → far.leaving ≡ Some batch
-    → slice_get batch.frames p ≡ Some f → LoadsFrame runs showsA f row
-    → ((s : Shown) → showsB s → showsA s)
+    → slice_get batch.frames p ≡ Some f → pages_in far.spans f ≡ batch.pages
+    → LoadsRun runs showsA f batch.pages row → ((s : Shown) → showsB s → showsA s)
     → new ≡ with_shipped far batch p shard row → PutsRow runs showsB far new batch p shard
-puts_data runs showsA showsB far new batch p f shard row there at x back state = record {
+puts_data runs showsA showsB far new batch p f shard row there at long x back state = record {
   events = x.events;
   ran = x.ran;
-  reads = frame_reads far batch p f x.events there at x.loads;
+  reads = frame_reads far batch p f x.events there at long x.loads;
   row = row;
   state = state;
   of_batch = λ s shown owns. x.made.made
@@ -116,9 +123,10 @@ puts_data runs showsA showsB far new batch p f shard row there at x back state =
 
 pub puts_nothing : (runs : List Event → Type 0) (shows : Shown → Type 0) (far : FarState)
     (batch : LeavingState) (p f : ℕ) (row : List ℕ) → far.leaving ≡ Some batch
-    → slice_get batch.frames p ≡ Some f → LoadsFrame runs shows f row → PutsNothing runs far
-puts_nothing runs shows far batch p f row there at x =
-    (x.events, x.ran, frame_reads far batch p f x.events there at x.loads)
+    → slice_get batch.frames p ≡ Some f → pages_in far.spans f ≡ batch.pages
+    → LoadsRun runs shows f batch.pages row → PutsNothing runs far
+puts_nothing runs shows far batch p f row there at long x =
+    (x.events, x.ran, frame_reads far batch p f x.events there at long x.loads)
 
 pub puts_parity : (runs : List Event → Type 0) (shows : Shown → Type 0) (far new : FarState)
     (batch : LeavingState) (p : ℕ) (shard : Shard) → length batch.frames ≤ p → runs []
@@ -137,8 +145,10 @@ puts_parity runs shows far new batch p shard behind ran state = record {
 still : (far : FarState) (es : List Event) (s : Shown) → ReadsLeaving far es
     → IsStill es s (played es s)
 still far es s reads =
-    let x = are_reads (LiesInOne (leaving_frames far.leaving)) es reads in
-    let words = told_words (λ h. ⊥) (LiesInOne (leaving_frames far.leaving)) es s s x.touches refl refl in
+    let x = are_reads (LiesInOne far.spans (leaving_frames far.leaving)) es reads in
+    let words =
+    told_words (λ h. ⊥) (LiesInOne far.spans (leaving_frames far.leaving)) es s s x.touches refl refl
+    in
     record {
       objects = ap (λ (t : Shown). t.objects) (x.stays s);
       hots = (x.steady s).hots;
@@ -152,7 +162,7 @@ pub reads_alone : (runs : List Event → Type 0) (knows : Shown → Type 0) (far
     → new ≡ far → PutsNothing runs far
     → Performs runs (λ s. knows s × Sound s far) (ReadsLeaving far) (λ t. Sound t new) IsStill
 reads_alone runs knows far new same q =
-    let x = are_reads (LiesInOne (leaving_frames far.leaving)) q.0 q.2 in record {
+    let x = are_reads (LiesInOne far.spans (leaving_frames far.leaving)) q.0 q.2 in record {
       events = q.0;
       ran = q.1;
       looks_first = x.first;
@@ -181,9 +191,11 @@ pub shipped : (runs : List Event → Type 0) (knows : Shown → Type 0) (far new
     → Performs runs (λ s. knows s × Sound s far) (ShipRule far new (answer.Shipped p))
     (λ t. Sound t new) (ShipEffect far new (answer.Shipped p))
 shipped runs knows far new batch p shard there least named q =
-    let x = are_reads (LiesInOne (leaving_frames far.leaving)) q.events q.reads in
+    let x = are_reads (LiesInOne far.spans (leaving_frames far.leaving)) q.events q.reads in
     let of_batch = λ (s : Shown) (k : knows s × Sound s far).
-    q.of_batch s k.0 (batch_owned s far batch k.1 there) in
+    q.of_batch s k.0 (λ f leaves p inside. let held = (k.1.noted batch there).held f leaves in
+    batch_owned s far batch k.1 there f held.0 leaves held.1 p
+    (inside.0, omega (arith, inside.1, held.2))) in
     let ships = λ (row : LeavingState → ℕ → List ℕ)
     (is : new ≡ with_shipped far batch p shard (row batch p)). is_shipped far new batch p shard row there
     least named is in

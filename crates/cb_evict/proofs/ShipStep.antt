@@ -32,7 +32,8 @@ ships_now s far new r row (inr (inr (inr x))) h = ap (λ (f : FarState). now s f
 -- the row of a position of a batch, where this is the memory
 abbrev row_in : List ℕ → LeavingState → ℕ → List ℕ
 row_in memory batch =
-    row_at (map (λ f. row_of (window memory (512 * f) 512)) batch.frames ++ batch.parities)
+    row_at (map (λ f. row_of (window memory (512 * f) (512 * batch.pages))) batch.frames
+    ++ batch.parities)
 
 -- Over a still desk of which all is known a ship is a step, and all is known of it afterwards.
 pub ship_step : (x y : Words) (far new : FarState) (r : Reply) (s : Shown)
@@ -41,7 +42,7 @@ pub ship_step : (x y : Words) (far new : FarState) (r : Reply) (s : Shown)
 ship_step x y far new r s p k =
     let rules = ShipRule far new r in let does = ShipEffect far new r in
     let effect = p.effect s ((k.sized, k.shows), k.sound) in
-    let reads = are_reads (LiesInOne (leaving_frames far.leaving)) p.events p.rule.reads in (
+    let reads = are_reads (LiesInOne far.spans (leaving_frames far.leaving)) p.events p.rule.reads in (
       record {
         words = stays_still x y far s p.events (runs_still x y far new rules does s k p) effect.still;
         ships = subst (λ (memory : List ℕ). ShipsRow far new r (row_in memory)) k.shows.memory

@@ -1,10 +1,10 @@
 -- The ground of the worked examples: small worlds, their words, spans, nodes and sets.
-use Rattle.std.proofs.Common.{All, List, None, Option, Some, [], ap, arith, false, get_or, length, lit<, refl, replicate, suc, sym, true, zero, ℕ, ◌*◌, ◌<◌, ◌^◌, ◌∙◌, ◌∷◌, ◌≡◌}
+use Rattle.std.proofs.Common.{All, List, None, Option, Some, [], ap, arith, false, get_or, length, lit<, refl, replicate, suc, sym, true, zero, ℕ, ◌*◌, ◌/◌, ◌<◌, ◌^◌, ◌∙◌, ◌∷◌, ◌≡◌}
 use Rattle.std.proofs.lemmas.List.Elements.{All-cons, All-nil, All-replicate}
 use Rattle.std.proofs.lemmas.List.{get_or-replicate, length-replicate}
 use Rattle.std.specs.FinMap as map
 use Rattle.std.specs.List.{Contains, slice_get}
-use Rattle.cb_class.specs.Class.{bytes_of, words_of}
+use Rattle.cb_class.specs.Class.{bytes_of, pages_of, words_of}
 use Rattle.cb_evict.proofs.Options.{none_some, some_same}
 use Rattle.cb_evict.specs.Candidates.{SpanNames}
 use Rattle.cb_evict.specs.Closing.{HaveHomes}
@@ -26,6 +26,7 @@ use Rattle.cb_world.specs.Homes.{home_at}
 use Rattle.cb_world.specs.Leaving.{LeavingState}
 use Rattle.cb_world.specs.Memory.{window}
 use Rattle.cb_world.specs.Plain.{Words}
+use Rattle.cb_evict.specs.Loading.{AreOfLength, pages_in}
 use Rattle.cb_world.specs.RowWords.{row_of, words_from, words_in}
 use Rattle.cb_world.specs.SetWord.{IsSpanWord}
 use Rattle.cb_world.specs.Survey.{no_survey}
@@ -81,6 +82,11 @@ far_with spans leaving nodes = record {
   survey = no_survey;
 }
 
+-- ---- the pages of such a span
+pub one_page : pages_of (record { index = 0 }) ≡ 1
+unfolding pages_of
+one_page = refl
+
 -- ---- two spans
 -- one span leaves, and another one stays
 abbrev pub pair : FarState
@@ -105,6 +111,11 @@ only_object h (f, (suc k, l, e), named) = absurd (omega (arith, l))
 
 pub first_object : IsIn pair.spans (0 ∷ []) 0
 first_object = (0, (0, lit< tt, refl), (1, refl))
+
+-- the first span has one page
+pub one_long : AreOfLength pair.spans 1 (0 ∷ [])
+one_long = All-cons (λ (f : ℕ). pages_in pair.spans f ≡ 1) 0 [] one_page
+    (All-nil (λ (f : ℕ). pages_in pair.spans f ≡ 1))
 
 pub heads : (a b : ℕ) → a ∷ [] ≡ b ∷ [] → a ≡ b
 heads a b e = cc
@@ -155,16 +166,21 @@ row_bytes : All (λ (b : ℕ). b < 2 ^ 8) row
 unfolding row
 row_bytes = All-replicate (λ (b : ℕ). b < 2 ^ 8) 4096 0 (lit< tt)
 
-pub row_words : window (words_in row) (1 * words_of (record { index = 0 })) 1 ≡ 0 ∷ []
+front_words : window (words_from 512 row) (1 * words_of (record { index = 0 })) 1 ≡ 0 ∷ []
 unfolding row words_of bytes_of window words_from
-row_words = refl
+front_words = refl
+
+pub row_words : window (words_in row) (1 * words_of (record { index = 0 })) 1 ≡ 0 ∷ []
+row_words =
+    ap (λ (n : ℕ). window (words_from (n / 8) row) (1 * words_of (record { index = 0 })) 1)
+    row_length ∙ front_words
 
 bytes_zero : (column i : ℕ) → column < 4096 → byte_at rows i column ≡ 0
 bytes_zero column zero below = row_zeros column below
 bytes_zero column (suc zero) below = row_zeros column below
 bytes_zero column (suc (suc i)) below = refl
 
-pub is_word : IsSpanWord 1 1 rows
+pub is_word : IsSpanWord 1 1 1 rows
 is_word = record {
   is_word = record {
     count = refl;

@@ -7,7 +7,6 @@ use Rattle.std.proofs.lemmas.List.Elements.{Contains-append_cases, All-contains,
 use Rattle.std.proofs.lemmas.List.FromFn.{get_or-range_with_len, length-range_with_len}
 use Rattle.std.proofs.lemmas.List.Kept.{AllPairs-filter}
 use Rattle.std.proofs.lemmas.List.Folds.{list_any_at}
-use Rattle.cb_frame.specs.FreeFrames.{IsFreeFrame}
 use Rattle.cb_span.specs.declared.temp.Temp.{Temp}
 use Rattle.cb_span.specs.declared.temp.Temp.TheVariants.{Hot, Cold}
 use Rattle.cb_span.specs.Contents.{Contents, IsSpan, handle_at}
@@ -184,22 +183,17 @@ pub record IsReadyFrame (far : FarState) (f : ℕ) : Type 0 where
   pub there : span_in far.spans f ≡ Some span
   pub valid : IsSpan span
   pub within : f < length far.spans
-  pub counted : f < length far.frames
-  pub busy : ¬ (IsFreeFrame far.frames f)
   pub stays : is_among (leaving_frames far.leaving) f ≡ false
 
 pub ready_frame : (far : FarState) (s : Shown) (f : ℕ) → LocalSound s far
     → Contains (candidates far) f → IsReadyFrame far f
 ready_frame far s f sound c =
     let x = is_standing far f c in
-    let within = frame_in_range far.spans f x.span x.there in
-    let counted = subst (λ (n : ℕ). f < n) sound.frames.sized within in record {
+    record {
       span = x.span;
       there = x.there;
       valid = sound.frames.valid f x.span x.there;
-      within = within;
-      counted = counted;
-      busy = λ free. none_some x.span (sym ((sound.frames.free f counted).0 free) ∙ x.there);
+      within = frame_in_range far.spans f x.span x.there;
       stays = x.stays;
     }
 

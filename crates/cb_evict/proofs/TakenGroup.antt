@@ -1,12 +1,11 @@
--- Spans that may leave were taken in a sound world: their objects were claimed, and their words were
--- read. They are a claimed group.
+-- Spans that may leave were taken in a sound world: their objects were claimed, and their words
+-- were read. They are a claimed group.
 use Rattle.std.proofs.Common.{◌≡◌, ◌⊎◌, ℕ, zero, suc, ◌+◌, ◌-◌, ◌*◌, ◌^◌, ◌<◌, ◌≤◌, Bool, List, [], ◌∷◌, ◌++◌, length, get_or, All, map as mapped, Option, Some, sym, refl, ap, ◌∙◌, subst, arith, inl, inr}
 use Rattle.std.specs.List.{Contains, slice_get}
-use Rattle.std.proofs.lemmas.List.{get_or-map, length-map, ext_get_or, length-append}
+use Rattle.std.proofs.lemmas.List.{get_or-map, length-map, ext_get_or}
 use Rattle.std.proofs.lemmas.List.Elements.{All-contains}
 use Rattle.std.proofs.lemmas.Option.{slice_get-get_or, slice_get_within, get_or_from_slice_get}
-use Rattle.std.specs.Int.{to_le_bytes, w64}
-use Rattle.cb_class.specs.Class.{words_of}
+use Rattle.cb_class.specs.Class.{pages_of, words_of}
 use Rattle.cb_gf256.specs.CodeWord.{IsCodeWord}
 use Rattle.cb_gf256.specs.InRange.{IsInRange}
 use Rattle.cb_gf256.specs.Rows.{row_at, HoldBytes}
@@ -29,7 +28,7 @@ use Rattle.cb_world.specs.RowWords.{words_in, row_of}
 use Rattle.cb_world.specs.SetWord.{IsSpanWord}
 use Rattle.cb_world.specs.Sound.{Sound, IsNoted}
 use Rattle.cb_world.specs.StillDesk.{window_length}
-use Rattle.cb_world.proofs.Laws.{batch_kept, found_more, noted_by, slot_inside, taken_more, window_at, window_same}
+use Rattle.cb_world.proofs.Laws.{batch_kept, found_more, noted_by, row_length, slot_inside, taken_more, window_at, window_same}
 use Rattle.cb_evict.specs.BeginRule.{new_batch}
 use Rattle.cb_evict.specs.Candidates.{candidates, AreUnique, SpanNames}
 use Rattle.cb_evict.specs.Claims.{AreClaimed, IsClaimedBy, IsNone, WasHere}
@@ -38,22 +37,16 @@ use Rattle.cb_evict.specs.Evicting.{AreSpansTaken}
 use Rattle.cb_evict.specs.Looking.{IsIn}
 use Rattle.cb_evict.proofs.Claims.{among, no_former}
 use Rattle.cb_evict.proofs.Group.{IsGroup, IsNotFarBoth, quiet_away, claimed_not_far, here_not_far, in_row, row_is, noted_still}
-use Rattle.cb_evict.proofs.Owned.{frame_stays}
+use Rattle.cb_evict.proofs.Options.{some_same}
+use Rattle.cb_evict.proofs.Owned.{span_stays}
+use Rattle.cb_evict.proofs.Loads.{span_long}
 use Rattle.cb_evict.proofs.SmallWords.{small_part}
 use Rattle.cb_evict.proofs.Standing.{IsReadyFrame, ready_frame, are_unique, not_among}
 
--- a word is eight bytes of a row
-row_length : (words : List ℕ) → length (row_of words) ≡ length words * 8
-row_length [] = refl
-row_length (w ∷ words) =
-    let e = length-append (to_le_bytes w64 w) (row_of words) in
-    let n : length (to_le_bytes w64 w) ≡ 8 = refl in
-    let r = row_length words in
-    omega (arith, e, n, r)
-
--- the rows of some frames, in this memory
-abbrev pub frame_rows : Shown → List ℕ → List (List ℕ)
-frame_rows t frames = mapped (λ f. row_of (window t.memory (512 * f) 512)) frames
+-- the rows of the spans in some frames, of so many pages each, in this memory
+abbrev pub frame_rows : Shown → ℕ → List ℕ → List (List ℕ)
+frame_rows t pages frames =
+    mapped (λ f. row_of (window t.memory (512 * f) (512 * pages))) frames
 
 -- in a sound world objects of k spans were claimed; their words were read, and the rows were coded
 pub record AreRowsCoded (far : FarState) (frames : List ℕ) (formers : List Former)
@@ -64,9 +57,10 @@ pub record AreRowsCoded (far : FarState) (frames : List ℕ) (formers : List For
   pub taken : AreSpansTaken far frames formers
   pub range : IsInRange far.code.k far.code.r
   pub few : length parities ≡ far.code.r
-  pub word : IsCodeWord far.code.k far.code.r (frame_rows t frames ++ parities)
-  pub bytes : HoldBytes (frame_rows t frames ++ parities)
-  pub small : (f : ℕ) → Contains frames f → All (λ w. w < 2 ^ 64) (window t.memory (512 * f) 512)
+  pub word : IsCodeWord far.code.k far.code.r (frame_rows t taken.pages frames ++ parities)
+  pub bytes : HoldBytes (frame_rows t taken.pages frames ++ parities)
+  pub small : (f : ℕ) → Contains frames f
+      → All (λ w. w < 2 ^ 64) (window t.memory (512 * f) (512 * taken.pages))
 
 -- what the events told of an object: it was here, and is claimed as they tell
 pub record IsToldOne (es : List Event) (s t : Shown) (batch : LeavingState) (h : ℕ) : Type 0 where
@@ -77,15 +71,16 @@ pub record IsToldOne (es : List Event) (s t : Shown) (batch : LeavingState) (h :
   pub contents : window t.memory (place_of noted.former.word) (words_for (len_of noted.former.word))
       ≡ noted.words
 
--- words of a frame that is as it was
-in_frame : (ms ns : List ℕ) (f place n : ℕ) → 512 * f ≤ place → place + n ≤ 512 * f + 512
-    → window ns (512 * f) 512 ≡ window ms (512 * f) 512 → window ns place n ≡ window ms place n
-in_frame ms ns f place n start end same =
+-- words of a run that is as it was
+in_run : (ms ns : List ℕ) (f pages place n : ℕ) → 512 * f ≤ place → place + n ≤ 512 * (f + pages)
+    → window ns (512 * f) (512 * pages) ≡ window ms (512 * f) (512 * pages)
+    → window ns place n ≡ window ms place n
+in_run ms ns f pages place n start end same =
     window_same ns ms place n (λ i low high. let k = i - 512 * f in
     let at : 512 * f + k ≡ i = omega (arith, low, start) in
-    let below : k < 512 = omega (arith, low, high, start, end) in
-    ap (λ (j : ℕ). get_or ns j 0) (sym at) ∙ sym (window_at ns (512 * f) 512 k below)
-    ∙ ap (λ (l : List ℕ). get_or l k 0) same ∙ window_at ms (512 * f) 512 k below
+    let below : k < 512 * pages = omega (arith, low, high, start, end) in
+    ap (λ (j : ℕ). get_or ns j 0) (sym at) ∙ sym (window_at ns (512 * f) (512 * pages) k below)
+    ∙ ap (λ (l : List ℕ). get_or l k 0) same ∙ window_at ms (512 * f) (512 * pages) k below
     ∙ ap (λ (j : ℕ). get_or ms j 0) at)
 
 -- two accounts of one claimed object
@@ -140,13 +135,16 @@ module _ (far : FarState) (frames : List ℕ) (formers : List Former)
       (seat.slot, ap (λ (o : Option Contents). handle_in o seat.slot) seat.there ∙ seat.named)
       named in
       let inside = slot_inside far t h len place d.here seat in
-      small_part t.memory (window t.memory (512 * f) 512) (512 * f) place (words_for len)
-      (window_length t.memory (512 * f) 512) (d.small f x) refl
-      (omega (arith, inside.0, frame)) (omega (arith, inside.1, frame))
+      let long = span_long far.spans d.taken.pages frames f seat.span d.taken.long x
+      (ap (span_in far.spans) (sym frame) ∙ seat.there) in
+      small_part t.memory (window t.memory (512 * f) (512 * d.taken.pages)) (512 * f)
+      (512 * d.taken.pages) place (words_for len)
+      (window_length t.memory (512 * f) (512 * d.taken.pages)) (d.small f x) refl
+      (omega (arith, inside.0, frame)) (omega (arith, inside.1, frame, long))
 
   pub told_one : (events : List Event) → ((k : ℕ) → NoLook k events) → (h : ℕ)
       → IsIn far.spans frames h
-      → IsToldOne (before ++ events) s t (new_batch far frames formers parities) h
+      → IsToldOne (before ++ events) s t (new_batch far d.taken.pages frames formers parities) h
   told_one events quiet h (f, c, named) =
       let y = d.taken.of.all h (f, c, named) in
       let g = y.0 in let x = y.1 in let same : g.handle ≡ h = y.2 in
@@ -177,7 +175,7 @@ module _ (far : FarState) (frames : List ℕ) (formers : List Former)
       }
 
   pub one : (h : ℕ) → IsIn far.spans frames h
-      → IsToldOne (before ++ []) s t (new_batch far frames formers parities) h
+      → IsToldOne (before ++ []) s t (new_batch far d.taken.pages frames formers parities) h
   one h x = told_one [] (λ k. tt) h x
 
   quiet_one : (h : ℕ) → IsNotFarBoth s t h
@@ -213,14 +211,16 @@ module _ (far : FarState) (frames : List ℕ) (formers : List Former)
   ]
 
   leaving_words : (b : LeavingState) → far.leaving ≡ Some b → (f : ℕ) → Contains b.frames f
-      → window t.memory (512 * f) 512 ≡ window s.memory (512 * f) 512
+      → window t.memory (512 * f) (512 * b.pages) ≡ window s.memory (512 * f) (512 * b.pages)
   leaving_words b there f leaves =
-      frame_stays far s t f d.sound.here
-      (λ slot h span at named. let n = (d.sound.noted b there).each f slot h span leaves at named in
+      let held = (d.sound.noted b there).held f leaves in
+      span_stays far s t f b.pages held.0 d.sound.here held.1 held.2
+      (λ slot h named.
+      let n = (d.sound.noted b there).each f slot h held.0 leaves held.1 named in
       subst IsHeld (sym n.claimed) tt) d.claimed.keeps
 
   -- ---- the group
-  pub taken_group : IsGroup t far (new_batch far frames formers parities)
+  pub taken_group : IsGroup t far (new_batch far d.taken.pages frames formers parities)
   taken_group = record {
     here = d.here;
     away = quiet_away s t far quiet_one
@@ -229,7 +229,8 @@ module _ (far : FarState) (frames : List ℕ) (formers : List Former)
           words = λ f leaves. leaving_words b there f leaves;
         })) d.sound.away;
     apart = d.taken.apart;
-    held = λ f x. let r = ready f x in (r.span, r.there);
+    held = λ f x. let r = ready f x in
+        (r.span, r.there, span_long far.spans d.taken.pages frames f r.span d.taken.long x r.there);
     each = λ h x. (one h x).noted;
     only = d.taken.of.only;
     each_once = d.taken.each_once;
@@ -242,13 +243,17 @@ module _ (far : FarState) (frames : List ℕ) (formers : List Former)
         ∙ (λ i. window t.memory (sym same.1 i) (words_for (sym same.0 i)));
     others = λ h len place v words none e.
         let x = d.sound.claimed h len place v words (sym (d.claimed.others h none) ∙ e) in
-        let inside = slot_inside far s h len place d.sound.here x.slot in record {
+        let inside = slot_inside far s h len place d.sound.here x.slot in
+        let held = (d.sound.noted x.batch x.there).held x.slot.frame x.leaves in
+        let long = ap (λ (y : Contents). pages_of y.class)
+        (some_same x.slot.span held.0 (sym x.slot.there ∙ held.1)) ∙ held.2 in record {
           batch = x.batch;
           there = x.there;
           slot = x.slot;
           leaves = x.leaves;
-          contents = x.contents ∙ sym (in_frame s.memory t.memory x.slot.frame place (words_for len)
-              inside.0 inside.1 (leaving_words x.batch x.there x.slot.frame x.leaves));
+          contents = x.contents ∙ sym (in_run s.memory t.memory x.slot.frame x.batch.pages place
+              (words_for len) inside.0 (omega (arith, inside.1, long))
+              (leaving_words x.batch x.there x.slot.frame x.leaves));
         };
     noted = λ b there. noted_by s t far far b (record {
       spans = λ f leaves. refl;
@@ -262,38 +267,41 @@ module _ (far : FarState) (frames : List ℕ) (formers : List Former)
   }
 
   -- ---- its rows
-  wide_row : length (row_at (frame_rows t frames ++ parities) 0) ≡ 4096
+  wide_row : length (row_at (frame_rows t d.taken.pages frames ++ parities) 0)
+      ≡ 4096 * d.taken.pages
   wide_row =
       let within : 0 < length frames = omega (arith, d.taken.count, d.range.data_least) in
-      let ws = window t.memory (512 * get_or frames 0 0) 512 in
-      ap length (row_is t far (new_batch far frames formers parities) taken_group 0 within)
-      ∙ row_length ws ∙ ap (λ (i : ℕ). i * 8) (window_length t.memory (512 * get_or frames 0 0) 512)
+      let count = 512 * d.taken.pages in
+      let ws = window t.memory (512 * get_or frames 0 0) count in
+      ap length (row_is t far (new_batch far d.taken.pages frames formers parities) taken_group 0 within)
+      ∙ row_length ws ∙ ap (λ (i : ℕ). 8 * i) (window_length t.memory (512 * get_or frames 0 0) count)
+      ∙ (let e : 8 * (512 * d.taken.pages) ≡ 4096 * d.taken.pages = omega arith in e)
 
-  pub span_word : IsSpanWord far.code.k far.code.r (frame_rows t frames ++ parities)
+  pub span_word : IsSpanWord d.taken.pages far.code.k far.code.r (frame_rows t d.taken.pages frames ++ parities)
   span_word = record { is_word = d.word; bytes = d.bytes; wide = wide_row }
 
-  pub group_word : IsSpanWord (length frames) (length parities) (frame_rows t frames ++ parities)
+  pub group_word : IsSpanWord d.taken.pages (length frames) (length parities) (frame_rows t d.taken.pages frames ++ parities)
   group_word =
-      subst (λ (n : ℕ). IsSpanWord n (length parities) (frame_rows t frames ++ parities))
+      subst (λ (n : ℕ). IsSpanWord d.taken.pages n (length parities) (frame_rows t d.taken.pages frames ++ parities))
       (sym d.taken.count)
-      (subst (λ (n : ℕ). IsSpanWord far.code.k n (frame_rows t frames ++ parities)) (sym d.few) span_word)
+      (subst (λ (n : ℕ). IsSpanWord d.taken.pages far.code.k n (frame_rows t d.taken.pages frames ++ parities)) (sym d.few) span_word)
 
   pub group_range : IsInRange (length frames) (length parities)
   group_range = subst (λ (n : ℕ). IsInRange n (length parities)) (sym d.taken.count)
       (subst (λ (n : ℕ). IsInRange far.code.k n) (sym d.few) d.range)
 
   pub row_at_frame : (p f : ℕ) → slice_get frames p ≡ Some f
-      → row_at (frame_rows t frames ++ parities) p ≡ row_of (window t.memory (512 * f) 512)
+      → row_at (frame_rows t d.taken.pages frames ++ parities) p ≡ row_of (window t.memory (512 * f) (512 * d.taken.pages))
   row_at_frame p f at =
-      row_is t far (new_batch far frames formers parities) taken_group p
+      row_is t far (new_batch far d.taken.pages frames formers parities) taken_group p
       (slice_get_within frames p f at)
-      ∙ ap (λ (g : ℕ). row_of (window t.memory (512 * g) 512))
+      ∙ ap (λ (g : ℕ). row_of (window t.memory (512 * g) (512 * d.taken.pages)))
       (get_or_from_slice_get frames p f 0 at)
 
   -- rows with the words of the frames, each at its frame's place, have what the claims told
   pub rows_told : (events : List Event) → ((k : ℕ) → NoLook k events) → (rows : List (List ℕ))
       → ((p f : ℕ) → slice_get frames p ≡ Some f
-      → row_at rows p ≡ row_of (window t.memory (512 * f) 512))
+      → row_at rows p ≡ row_of (window t.memory (512 * f) (512 * d.taken.pages)))
       → AreInRows (before ++ events) far frames rows
   rows_told events quiet rows are p f slot h span at there named =
       let x : Contains frames f =
@@ -305,7 +313,7 @@ module _ (far : FarState) (frames : List ℕ) (formers : List Former)
         words = g.noted.words;
         found = g.found;
         told = g.told;
-        contents = in_row t far (new_batch far frames formers parities) taken_group f slot h span
+        contents = in_row t far (new_batch far d.taken.pages frames formers parities) taken_group f slot h span
             g.noted x
             there named
             ∙ ap (λ (row : List ℕ). window (words_in row) (slot * words_of span.class)
@@ -350,13 +358,15 @@ module _ (far : FarState) (frames : List ℕ) (formers : List Former)
         ∙ words_same t told h (is_gone far h) (object_at told h) versions memory
   ]
 
--- rows that were read are those of the frames
-pub rows_read : (t : Shown) (frames : List ℕ) (rows : List (List ℕ)) → length rows ≡ length frames
+-- rows that were read are those of the spans
+pub rows_read : (t : Shown) (pages : ℕ) (frames : List ℕ) (rows : List (List ℕ))
+    → length rows ≡ length frames
     → ((p f : ℕ) → slice_get frames p ≡ Some f
-    → row_at rows p ≡ row_of (window t.memory (512 * f) 512))
-    → rows ≡ frame_rows t frames
-rows_read t frames rows count made = ext_get_or [] rows (frame_rows t frames)
-    (count ∙ sym (length-map frames (λ (f : ℕ). row_of (window t.memory (512 * f) 512))))
+    → row_at rows p ≡ row_of (window t.memory (512 * f) (512 * pages)))
+    → rows ≡ frame_rows t pages frames
+rows_read t pages frames rows count made =
+    let row : ℕ → List ℕ = λ (f : ℕ). row_of (window t.memory (512 * f) (512 * pages)) in
+    ext_get_or [] rows (frame_rows t pages frames) (count ∙ sym (length-map frames row))
     (λ p within. let l : p < length frames = omega (arith, within, count) in
     made p (get_or frames p 0) (slice_get-get_or frames p 0 l)
-    ∙ sym (get_or-map (λ (f : ℕ). row_of (window t.memory (512 * f) 512)) frames p 0 [] l))
+    ∙ sym (get_or-map row frames p 0 [] l))

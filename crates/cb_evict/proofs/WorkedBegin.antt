@@ -1,9 +1,10 @@
 -- Worked examples of a begin: the loose one of two spans is leaving from here; and for each part of
 -- what is said of it a value that breaks that part alone.
-use Rattle.std.proofs.Common.{◌≡◌, ℕ, zero, suc, ◌+◌, ◌≤◌, Bool, true, false, List, [], ◌∷◌, ◌++◌, length, All, get_or, Option, None, Some, refl, sym, ap, ◌∙◌, subst, lit<, lit≤, arith, inl, inr}
+use Rattle.std.proofs.Common.{◌≡◌, ℕ, zero, suc, ◌+◌, ◌*◌, ◌≤◌, Bool, true, false, List, [], ◌∷◌, ◌++◌, length, All, get_or, Option, None, Some, refl, sym, ap, ◌∙◌, subst, lit<, lit≤, arith, inl, inr}
 use Rattle.std.specs.FinMap as map
 use Rattle.std.proofs.lemmas.Bool.{false≢true}
 use Rattle.std.proofs.lemmas.List.Elements.{All-nil, All-cons}
+use Rattle.cb_class.specs.Class.{pages_of}
 use Rattle.cb_ptr.specs.Steps.{Claims}
 use Rattle.cb_ptr.proofs.Laws.{claims}
 use Rattle.cb_types.specs.declared.config.Config.{Config}
@@ -47,7 +48,7 @@ use Rattle.cb_evict.specs.Claiming.{AreOf}
 use Rattle.cb_evict.specs.Looking.{IsIn}
 use Rattle.cb_evict.proofs.BeginParts.{leaving_batch, spans_batch}
 use Rattle.cb_evict.proofs.Options.{none_some, some_none, some_same}
-use Rattle.cb_evict.proofs.SmallWorlds.{busy, calm, desk, first_object, is_word, lone, moving, one_node, only_object, pair, pinned, row, row_words, settings, span_with, two_nodes, zero_row}
+use Rattle.cb_evict.proofs.SmallWorlds.{busy, calm, desk, first_object, is_word, lone, moving, one_long, one_node, one_page, only_object, pair, pinned, row, row_words, settings, span_with, two_nodes, zero_row}
 
 -- ---- words of objects that are claimed
 -- the first object is here, the other one pinned; all memory words are 0
@@ -106,11 +107,11 @@ former = record { handle = 0; word = calm }
 
 -- the far state where the first span is leaving, with these words and these parities
 abbrev leaving_with : List Former → List (List ℕ) → FarState
-leaving_with words parities = with_batch pair (0 ∷ []) words parities
+leaving_with words parities = with_batch pair 1 (0 ∷ []) words parities
 
 -- its frame has zeros, and so has its parity
-word_is : IsSpanWord 1 1 (frame_rows start (0 ∷ []) ++ row ∷ [])
-word_is = subst (λ (r : List ℕ). IsSpanWord 1 1 (r ∷ row ∷ [])) (sym zero_row) is_word
+word_is : IsSpanWord 1 1 1 (frame_rows start 1 (0 ∷ []) ++ row ∷ [])
+word_is = subst (λ (r : List ℕ). IsSpanWord 1 1 1 (r ∷ row ∷ [])) (sym zero_row) is_word
 
 pub of_first : AreOf (IsIn pair.spans (0 ∷ [])) (former ∷ [])
 of_first = record {
@@ -121,6 +122,8 @@ of_first = record {
 
 begun : IsBegunTo start claimed pair (leaving_with (former ∷ []) (row ∷ [])) (0 ∷ [])
 begun = record {
+  pages = 1;
+  long = one_long;
   words = former ∷ [];
   parities = row ∷ [];
   of = of_first;
@@ -137,11 +140,14 @@ begun = record {
 -- the far state says which words and parities are noted
 same_batch : (words : List Former) (parities : List (List ℕ)) (y : Words)
     → (a : IsBegunTo start y pair (leaving_with words parities) (0 ∷ []))
-    → (words ≡ a.words) × (parities ≡ a.parities)
+    → (words ≡ a.words) × (parities ≡ a.parities) × (1 ≡ a.pages)
 same_batch words parities y a =
-    let e = some_same (new_batch pair (0 ∷ []) words parities)
-    (new_batch pair (0 ∷ []) a.words a.parities) (ap (λ (f : FarState). f.leaving) a.state) in
-    (ap (λ (b : LeavingState). b.words) e, ap (λ (b : LeavingState). b.parities) e)
+    let e = some_same (new_batch pair 1 (0 ∷ []) words parities)
+    (new_batch pair a.pages (0 ∷ []) a.words a.parities) (ap (λ (f : FarState). f.leaving) a.state) in (
+      ap (λ (b : LeavingState). b.words) e,
+      ap (λ (b : LeavingState). b.parities) e,
+      ap (λ (b : LeavingState). b.pages) e,
+    )
 
 -- ---- the order in which objects are noted
 -- a span with two objects, and one with another
@@ -159,11 +165,11 @@ noted_at h = record { handle = h; word = calm }
 
 -- the object of a later slot is not noted first
 not_the_other_way : (x y : Words)
-    → IsBegunTo x y two (with_batch two (0 ∷ []) (noted_at 1 ∷ noted_at 3 ∷ []) (row ∷ []))
+    → IsBegunTo x y two (with_batch two 1 (0 ∷ []) (noted_at 1 ∷ noted_at 3 ∷ []) (row ∷ []))
     (0 ∷ []) → ⊥
 not_the_other_way x y a =
-    let e = some_same (new_batch two (0 ∷ []) (noted_at 1 ∷ noted_at 3 ∷ []) (row ∷ []))
-    (new_batch two (0 ∷ []) a.words a.parities) (ap (λ (f : FarState). f.leaving) a.state) in
+    let e = some_same (new_batch two 1 (0 ∷ []) (noted_at 1 ∷ noted_at 3 ∷ []) (row ∷ []))
+    (new_batch two a.pages (0 ∷ []) a.words a.parities) (ap (λ (f : FarState). f.leaving) a.state) in
     let first : 1 ≡ 3 = ap (λ (l : List ℕ). get_or l 0 0)
     (ap (λ (b : LeavingState). noted_of b.words) e ∙ a.order) in
     omega (arith, first)
@@ -201,11 +207,22 @@ not_another a =
 -- an empty parity is none of that row
 not_empty : IsBegunTo start claimed pair (leaving_with (former ∷ []) ([] ∷ [])) (0 ∷ []) → ⊥
 not_empty a =
-    let word = subst (λ (l : List (List ℕ)). IsSpanWord 1 1 (frame_rows start (0 ∷ []) ++ l))
-    (sym (same_batch (former ∷ []) ([] ∷ []) claimed a).1) a.word in
+    let batch = same_batch (former ∷ []) ([] ∷ []) claimed a in
+    let word = subst (λ (l : List (List ℕ)).
+    IsSpanWord a.pages 1 1 (frame_rows start a.pages (0 ∷ []) ++ l)) (sym batch.1) a.word in
     let same = word.is_word.equal_lengths 1 [] (lit< tt) in
-    let wide = word.wide in
-    let e : 0 ≡ 4096 = same ∙ wide in absurd (omega (arith, e))
+    let e : 0 ≡ 4096 * a.pages = same ∙ word.wide in let one = batch.2 in
+    absurd (omega (arith, e, one))
+
+-- a span of one page is no part of a batch of spans of two
+not_of_two_pages : IsBegunTo start claimed pair
+    (with_batch pair 2 (0 ∷ []) (former ∷ []) (row ∷ [])) (0 ∷ []) → ⊥
+not_of_two_pages a =
+    let e = some_same (new_batch pair 2 (0 ∷ []) (former ∷ []) (row ∷ []))
+    (new_batch pair a.pages (0 ∷ []) a.words a.parities) (ap (λ (f : FarState). f.leaving) a.state) in
+    let two : 2 ≡ a.pages = ap (λ (b : LeavingState). b.pages) e in
+    let long : pages_of (record { index = 0 }) ≡ a.pages = a.long 0 0 (lit< tt) in
+    let one = one_page in absurd (omega (arith, two, long, one))
 
 -- and there is one parity
 not_without : IsBegunTo start claimed pair (leaving_with (former ∷ []) []) (0 ∷ []) → ⊥
@@ -244,7 +261,7 @@ abbrev pub second : FarState
 second = leaving_with (former ∷ []) (row ∷ [])
 
 waits : IsBeginStep claimed claimed second second (answer.Leaving (record { n = 0 }))
-waits = is_leaving (new_batch pair (0 ∷ []) (former ∷ []) (row ∷ [])) refl refl refl refl
+waits = is_leaving (new_batch pair 1 (0 ∷ []) (former ∷ []) (row ∷ [])) refl refl refl refl
 
 not_yet : (y : Words) (new : FarState) → IsBatchMade claimed y second new
     (answer.Batch (record { n = 1 })) → ⊥
@@ -278,7 +295,7 @@ not_another_number y new a =
 -- nothing is looked at where a batch is leaving
 told : IsLeavingAlready second second (answer.Leaving (record { n = 0 })) []
 told = record {
-  batch = new_batch pair (0 ∷ []) (former ∷ []) (row ∷ []);
+  batch = new_batch pair 1 (0 ∷ []) (former ∷ []) (row ∷ []);
   there = refl;
   reply = refl;
   state = refl;
@@ -297,7 +314,7 @@ leaving_is a b e = cc
 
 not_other_set : IsLeavingAlready second second (answer.Leaving (record { n = 3 })) [] → ⊥
 not_other_set a =
-    let b = some_same (new_batch pair (0 ∷ []) (former ∷ []) (row ∷ [])) a.batch a.there in
+    let b = some_same (new_batch pair 1 (0 ∷ []) (former ∷ []) (row ∷ [])) a.batch a.there in
     let e : 3 ≡ 0 = ap (λ (id : SetId). id.n) (leaving_is _ _ a.reply)
     ∙ sym (ap (λ (x : LeavingState). x.set) b) in absurd (omega (arith, e))
 
@@ -396,6 +413,8 @@ in_rows (suc p) f slot h span at there named = absurd (none_some f at)
 
 pub has_begun : HasBegun pair second (0 ∷ []) claim_zeros
 has_begun = record {
+  pages = 1;
+  long = one_long;
   words = former ∷ [];
   rows = row ∷ [];
   parities = row ∷ [];
@@ -413,8 +432,8 @@ has_begun = record {
 -- a word that no claim found is not noted
 not_without_claim : HasBegun pair second (0 ∷ []) [] → ⊥
 not_without_claim a =
-    let batch = some_same (new_batch pair (0 ∷ []) (former ∷ []) (row ∷ []))
-    (new_batch pair (0 ∷ []) a.words a.parities) (ap (λ (f : FarState). f.leaving) a.state) in
+    let batch = some_same (new_batch pair 1 (0 ∷ []) (former ∷ []) (row ∷ []))
+    (new_batch pair a.pages (0 ∷ []) a.words a.parities) (ap (λ (f : FarState). f.leaving) a.state) in
     let found = subst (λ (l : List Former). All (λ (f : Former). IsFound f.handle f.word []) l)
     (sym (ap (λ (b : LeavingState). b.words) batch)) a.found in
     found 0 former (lit< tt)
@@ -425,7 +444,7 @@ not_committed : (set : SetState) → HasBegun pair (record second {
 }) (0 ∷ []) claim_zeros → ⊥
 not_committed set a = some_none set (sym (set_added_in pair.sets 0 set)
     ∙ ap (λ (f : FarState). set_in f.sets 0) a.state
-    ∙ ap if_committed (reserved_kept pair.sets 0 (set_from 0 (blank_shards 2) pair.spans (0 ∷ []))))
+    ∙ ap if_committed (reserved_kept pair.sets 0 (set_from 0 a.pages (blank_shards 2) pair.spans (0 ∷ []))))
 
 -- ---- the effect
 abbrev both : List Object → Shown
@@ -522,7 +541,7 @@ not_told_anew a = let e : 7 ≡ 8 = ap (λ (l : List ℕ). get_or l 0 0) (bytes_
 
 -- the set of a far object is gone: it lost its one shard, and has no parity
 abbrev lost_set : SetState
-lost_set = set_of 3 (record { node = numbered 0; incarnation = 0; key = 9 } ∷ [])
+lost_set = set_of 3 1 (record { node = numbered 0; incarnation = 0; key = 9 } ∷ [])
     (filled_position (Some 1 ∷ []) ∷ [])
 
 abbrev with_loss : FarState

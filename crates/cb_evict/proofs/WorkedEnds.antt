@@ -1,5 +1,5 @@
--- Worked examples of the two ends of a leaving batch: values that meet a definition, and for each of
--- its parts one that breaks that part alone.
+-- Worked examples of the two ends of a leaving batch: values that meet a definition, and for each
+-- of its parts one that breaks that part alone.
 use Rattle.std.proofs.Common.{◌≡◌, ℕ, zero, suc, ◌+◌, ◌*◌, ◌≤◌, true, false, List, [], ◌∷◌, length, Option, None, Some, refl, sym, ap, ◌∙◌, subst, lit<, lit≤, arith}
 use Rattle.std.specs.FinMap as map
 use Rattle.std.proofs.lemmas.List.Elements.{All-nil, All-cons}
@@ -252,10 +252,20 @@ makes_one x = absurd (let e : 2 ≡ 1 = x.first in omega (arith, e))
 
 -- ---- the far state: a batch of the first span is leaving
 abbrev pub batch : List (Option Shard) → LeavingState
-batch shards = record { set = 0; frames = 0 ∷ []; words = noted; parities = [] ∷ []; shards = shards }
+batch shards = record {
+  set = 0;
+  pages = 1;
+  frames = 0 ∷ [];
+  words = noted;
+  parities = [] ∷ [];
+  shards = shards;
+}
 
 abbrev kept_set : Kept
-kept_set = record { set = set_from 0 (shard 0 ∷ shard 0 ∷ []) pair.spans (0 ∷ []); committed = false }
+kept_set = record {
+  set = set_from 0 1 (shard 0 ∷ shard 0 ∷ []) pair.spans (0 ∷ []);
+  committed = false;
+}
 
 abbrev pub leaving : List (Option Shard) → FarState
 leaving shards = record pair {
@@ -376,7 +386,7 @@ not_all_put : ¬ (AreAllPut one_put)
 not_all_put x = absurd (let y = x 1 (lit< tt) in some_none y.0 (sym y.1))
 
 named : with_shards kept_set shards ≡ record {
-  set = set_from 0 shards pair.spans (0 ∷ []);
+  set = set_from 0 1 shards pair.spans (0 ∷ []);
   committed = false;
 }
 named = refl

@@ -1,6 +1,6 @@
 -- Worked examples of loose spans by the words of the still desk, of objects that are sent off and
--- of the two refusals: values that meet a definition, and for each of its parts one that breaks that
--- part alone.
+-- of the two refusals: values that meet a definition, and for each of its parts one that breaks
+-- that part alone.
 use Rattle.std.proofs.Common.{◌≡◌, ℕ, zero, suc, ◌+◌, ◌*◌, ◌<◌, ◌≤◌, true, false, List, [], ◌∷◌, length, Option, None, Some, refl, sym, ap, ◌∙◌, subst, lit<, lit≤, arith}
 use Rattle.cb_class.specs.Class.{words_of, bytes_of}
 use Rattle.cb_ptr.specs.Steps.{IsFarWord}
@@ -70,7 +70,7 @@ but_pinned = refl
 
 -- and a frame that is leaving
 abbrev batch : LeavingState
-batch = record { set = 0; frames = 3 ∷ []; words = []; parities = []; shards = [] }
+batch = record { set = 0; pages = 1; frames = 3 ∷ []; words = []; parities = []; shards = [] }
 
 but_leaving : loose_frames (desk (calm ∷ calm ∷ calm ∷ calm ∷ [])) (far_with spans (Some batch) 2)
     ≡ 1 ∷ 4 ∷ 0 ∷ []

@@ -1,9 +1,9 @@
--- Worked examples of what the events of an eviction, of a begin and of the two ends of a batch may be
--- about, of what the ends write, and of the rows of a begin: what meets each definition, and for each
--- of its parts what breaks that part alone.
+-- Worked examples of what the events of an eviction, of a begin and of the two ends of a batch may
+-- be about, of what the ends write, and of the rows of a begin: what meets each definition, and for
+-- each of its parts what breaks that part alone.
 use Rattle.std.proofs.Common.{◌≡◌, ℕ, zero, suc, ◌+◌, ◌*◌, ◌<◌, true, false, List, [], ◌∷◌, ◌++◌, length, Option, Some, refl, sym, ap, ◌∙◌, subst, lit<, lit≤, arith, inl, inr}
 use Rattle.std.proofs.lemmas.List.Elements.{All-nil, All-cons}
-use Rattle.cb_class.specs.Class.{words_of}
+use Rattle.cb_class.specs.Class.{pages_of, words_of}
 use Rattle.cb_gf256.specs.Rows.{row_at}
 use Rattle.cb_gf256.proofs.PublicLaws.{agreeing_words_are_equal}
 use Rattle.cb_member.specs.declared.names.Shard.{Shard}
@@ -27,6 +27,7 @@ use Rattle.cb_world.specs.Memory.{window, words_for}
 use Rattle.cb_world.specs.Now.{broken_set, now, now_as}
 use Rattle.cb_world.specs.Now.Now.{held, gone}
 use Rattle.cb_world.specs.Reserved.{put_shards, set_from, without_batch}
+use Rattle.cb_world.specs.FrameWords.{LiesInRun}
 use Rattle.cb_world.specs.RowWords.{words_in}
 use Rattle.cb_world.specs.SetWord.{IsSpanWord}
 use Rattle.cb_world.specs.Shown.{object_at, hot_at}
@@ -36,7 +37,7 @@ use Rattle.cb_evict.specs.Claiming.{IsOne}
 use Rattle.cb_evict.specs.Closing.{with_homes}
 use Rattle.cb_evict.specs.CommitRule.{CommitRule, IsBatchCommitted, with_committed}
 use Rattle.cb_evict.specs.EvictRule.{EvictRule, IsInRow}
-use Rattle.cb_evict.specs.Loading.{LiesInOne}
+use Rattle.cb_evict.specs.Loading.{LiesInOne, pages_in}
 use Rattle.cb_evict.specs.Looking.{IsIn}
 use Rattle.cb_evict.specs.Sending.{AreSent, IsSent}
 use Rattle.cb_evict.proofs.Loose.{held_alone}
@@ -44,7 +45,7 @@ use Rattle.cb_evict.proofs.NewSet.{set_added_in}
 use Rattle.cb_evict.proofs.WorkedBegin.{former, second}
 use Rattle.cb_evict.proofs.WorkedEnds.{are_restored, batch, both_put, claimed, hot, is_committed, is_given_up, leaving, none_of_one, noted, one_put, restored}
 use Rattle.cb_evict.proofs.Options.{none_some, some_same}
-use Rattle.cb_evict.proofs.SmallWorlds.{away, calm, far_with, first_object, heads, homes, is_word, only_first, only_object, only_second, pair, pinned, row, row_words, span_with}
+use Rattle.cb_evict.proofs.SmallWorlds.{away, calm, far_with, first_object, heads, homes, is_word, one_page, only_first, only_object, only_second, pair, pinned, row, row_words, span_with}
 
 -- ---- objects of the batch alone are settled by a commit and by an abort
 of_batch : (shards : List (Option Shard)) → IsOfBatch (leaving shards) 0
@@ -140,7 +141,7 @@ are_sent = record {
 }
 
 abbrev set_then : SetState
-set_then = set_from 0 (put_shards both_put) (leaving both_put).spans (0 ∷ [])
+set_then = set_from 0 1 (put_shards both_put) (leaving both_put).spans (0 ∷ [])
 
 now_in : (h : ℕ) → now sent committed h ≡ now claimed (leaving both_put) h
 now_in zero = ap (λ (o : Option SetState). now_as sent 0 (broken_set committed.members o)
@@ -185,7 +186,14 @@ commit_loses x = lost_held _ _ _ (sym lost ∙ x.same_now 0)
 -- the first span is cold, and its object pinned; the second one is hot, and leaves already
 abbrev hot_leaves : FarState
 hot_leaves = far_with pair.spans
-    (Some (record { set = 0; frames = 1 ∷ []; words = []; parities = []; shards = [] })) 2
+    (Some (record {
+      set = 0;
+      pages = 1;
+      frames = 1 ∷ [];
+      words = [];
+      parities = [];
+      shards = [];
+    })) 2
 
 abbrev of_one : List Event
 of_one = Looked 0 pinned ∷ []
@@ -212,9 +220,11 @@ loads_what_leaves : ¬ (EvictRule hot_leaves hot_leaves (answer.NoSpans 0)
     (Looked 0 pinned ∷ Loaded 512 0 ∷ []))
 loads_what_leaves x = beside x.touches.1.0
   where
-    beside : LiesInOne (0 ∷ []) 512 → ⊥
+    beside : LiesInOne pair.spans (0 ∷ []) 512 → ⊥
     beside (f, (zero, less, same), lies) =
-        let e : 0 ≡ f = same in let l : 512 < 512 * f + 512 = lies.1 in omega (arith, e, l)
+        let l : 512 < 512 * (0 + pages_of (record { index = 0 })) =
+        (subst (λ (n : ℕ). LiesInRun n (pages_in pair.spans n) 512) (sym same) lies).1 in
+        let one = one_page in omega (arith, l, one)
     beside (f, (suc k, less, same), lies) = let l : suc k < 1 = less in omega (arith, l)
 
 looks_at_what_leaves : ¬ (EvictRule hot_leaves hot_leaves (answer.NoSpans 0) of_both)
@@ -253,11 +263,15 @@ begin_loads_elsewhere : ¬ (HasLooked pair pair (answer.NoSpans 0)
     (Looked 0 pinned ∷ Looked 1 pinned ∷ Loaded 1024 0 ∷ []))
 begin_loads_elsewhere x = beside x.touches.1.1.0
   where
-    beside : LiesInOne (0 ∷ 1 ∷ []) 1024 → ⊥
+    beside : LiesInOne pair.spans (0 ∷ 1 ∷ []) 1024 → ⊥
     beside (f, (zero, less, same), lies) =
-        let e : 0 ≡ f = same in let l : 1024 < 512 * f + 512 = lies.1 in omega (arith, e, l)
+        let l : 1024 < 512 * (0 + pages_of (record { index = 0 })) =
+        (subst (λ (n : ℕ). LiesInRun n (pages_in pair.spans n) 1024) (sym same) lies).1 in
+        let one = one_page in omega (arith, l, one)
     beside (f, (suc zero, less, same), lies) =
-        let e : 1 ≡ f = same in let l : 1024 < 512 * f + 512 = lies.1 in omega (arith, e, l)
+        let l : 1024 < 512 * (1 + pages_of (record { index = 0 })) =
+        (subst (λ (n : ℕ). LiesInRun n (pages_in pair.spans n) 1024) (sym same) lies).1 in
+        let one = one_page in omega (arith, l, one)
     beside (f, (suc (suc k), less, same), lies) =
         let l : suc (suc k) < 2 = less in omega (arith, l)
 
@@ -282,7 +296,7 @@ begin_looks_elsewhere x = nowhere x.touches.1.1.0
 
 -- ---- the rows of a begin have the words that the claims told
 -- a row whose parity has zeros has zeros
-zeros_alone : (r : List ℕ) → IsSpanWord 1 1 (r ∷ row ∷ []) → r ≡ row
+zeros_alone : (r : List ℕ) → IsSpanWord 1 1 1 (r ∷ row ∷ []) → r ≡ row
 zeros_alone r word = ap (λ (l : List (List ℕ)). row_at l 0)
     (agreeing_words_are_equal 1 1 (r ∷ row ∷ []) (row ∷ row ∷ []) (1 ∷ []) (lit≤ tt) (lit< tt)
     (record {
@@ -317,12 +331,14 @@ not_sevens x = let e = heads 7 0 (told x.words x.version x.told ∙ x.contents
 -- rows of zeros, where the claim told another word
 begins_with_other_words : ¬ (HasBegun pair second (0 ∷ []) claim_sevens)
 begins_with_other_words a =
-    let b = some_same (new_batch pair (0 ∷ []) (former ∷ []) (row ∷ []))
-    (new_batch pair (0 ∷ []) a.words a.parities)
+    let b = some_same (new_batch pair 1 (0 ∷ []) (former ∷ []) (row ∷ []))
+    (new_batch pair a.pages (0 ∷ []) a.words a.parities)
     (ap (λ (f : FarState). f.leaving) a.state) in
     let parities : row ∷ [] ≡ a.parities = ap (λ (x : LeavingState). x.parities) b in
-    let word : IsSpanWord 1 1 (row_at a.rows 0 ∷ row ∷ []) =
-    subst (λ (l : List (List ℕ)). IsSpanWord 1 1 (l ++ row ∷ [])) (one_of a.rows a.counts.0)
-    (subst (λ (l : List (List ℕ)). IsSpanWord 1 1 (a.rows ++ l)) (sym parities) a.word) in
+    let pages : 1 ≡ a.pages = ap (λ (x : LeavingState). x.pages) b in
+    let word : IsSpanWord 1 1 1 (row_at a.rows 0 ∷ row ∷ []) =
+    subst (λ (n : ℕ). IsSpanWord n 1 1 (row_at a.rows 0 ∷ row ∷ [])) (sym pages)
+    (subst (λ (l : List (List ℕ)). IsSpanWord a.pages 1 1 (l ++ row ∷ [])) (one_of a.rows a.counts.0)
+    (subst (λ (l : List (List ℕ)). IsSpanWord a.pages 1 1 (a.rows ++ l)) (sym parities) a.word)) in
     not_sevens (subst (λ (r : List ℕ). IsInRow claim_sevens (span_with Cold 0) r 1 0)
     (zeros_alone (row_at a.rows 0) word) (a.contents 0 0 1 0 (span_with Cold 0) refl refl refl))

@@ -1,10 +1,11 @@
 -- A worked example of a whole step: the loose one of two spans is evicted; and for each part of
 -- what is said of it a value that breaks that part alone.
-use Rattle.std.proofs.Common.{◌≡◌, ℕ, zero, suc, ◌*◌, ◌≤◌, false, nat_lt, List, [], ◌∷◌, ◌++◌, length, get_or, Some, replicate, refl, sym, ap, ◌∙◌, subst, lit<, lit≤, arith, inr}
+use Rattle.std.proofs.Common.{◌≡◌, ℕ, zero, suc, ◌*◌, ◌/◌, ◌≤◌, false, nat_lt, List, [], ◌∷◌, ◌++◌, length, get_or, Some, replicate, refl, sym, ap, ◌∙◌, subst, lit<, lit≤, arith, inr}
 use Rattle.std.specs.FinMap as map
 use Rattle.std.specs.List.{slice_get}
 use Rattle.std.proofs.lemmas.Bool.{false≢true}
-use Rattle.cb_class.specs.Class.{words_of, bytes_of}
+use Rattle.std.proofs.lemmas.List.{length-replicate}
+use Rattle.cb_class.specs.Class.{words_of, bytes_of, pages_of}
 use Rattle.cb_gf256.specs.Rows.{row_at}
 use Rattle.cb_member.specs.declared.names.Shard.{Shard}
 use Rattle.cb_node.specs.NodesState.{NodesState, row_under}
@@ -26,7 +27,7 @@ use Rattle.cb_evict.specs.Storing.{IsShardAt, AreShards, set_for, with_set}
 use Rattle.cb_evict.proofs.NewSet.{set_added_in}
 use Rattle.cb_evict.proofs.WorkedEvictStep.{no_nodes, no_spans, sent_off, not_here, contents_in, first_word}
 use Rattle.cb_evict.proofs.Options.{none_some, some_same}
-use Rattle.cb_evict.proofs.SmallWorlds.{after, before, busy, heads, homed, homes, is_word, lone, none_held, one_node, pair, row, row_words, rows, shard, shards, span_with, two_nodes}
+use Rattle.cb_evict.proofs.SmallWorlds.{after, before, busy, heads, homed, homes, is_word, lone, none_held, one_long, one_node, one_page, pair, row, row_words, rows, shard, shards, span_with, two_nodes}
 
 -- the bytes of a frame where there are words, which are 0
 memory_row : row_of (window before.memory 0 512) ≡ row
@@ -70,7 +71,7 @@ chosen = record { count = refl; each = λ p s at. each p s at }
 
 -- the row of the one frame stands first
 data_in : (first : List ℕ) (rest : List (List ℕ)) → first ≡ row_of (window before.memory 0 512)
-    → AreFrameRows before (0 ∷ []) (first ∷ rest)
+    → AreFrameRows before 1 (0 ∷ []) (first ∷ rest)
 data_in first rest is zero f at =
     is ∙ ap (λ (n : ℕ). row_of (window before.memory (512 * n) 512)) (some_same 0 f at)
 data_in first rest is (suc p) f at = absurd (none_some f at)
@@ -78,13 +79,15 @@ data_in first rest is (suc p) f at = absurd (none_some f at)
 -- ---- the step
 -- the far state once these rows are put at these shards' nodes
 abbrev with_word : List Shard → List (List ℕ) → FarState
-with_word shards rows = with_homes (with_set pair shards (0 ∷ []) rows) (0 ∷ []) homes
+with_word shards rows = with_homes (with_set pair 1 shards (0 ∷ []) rows) (0 ∷ []) homes
 
 abbrev new : FarState
 new = with_word shards rows
 
 evicted : IsEvictedTo before after pair new (0 ∷ [])
 evicted = record {
+  pages = 1;
+  long = one_long;
   shards = shards;
   rows = rows;
   chosen = chosen;
@@ -112,14 +115,32 @@ step = made set_made
 abbrev again : Shard
 again = record { node = numbered 0; incarnation = 0; key = 1 }
 
--- the set says which its shards are
+-- the set says which its shards are, and how many pages its spans have
+same_set : (pages : ℕ) (at : List Shard) (put : List (List ℕ))
+    → (a : IsEvictedTo before after pair
+    (with_homes (with_set pair pages at (0 ∷ []) put) (0 ∷ []) homes) (0 ∷ []))
+    → set_for pair pages at (0 ∷ []) ≡ set_for pair a.pages a.shards (0 ∷ [])
+same_set pages at put a =
+    some_same (set_for pair pages at (0 ∷ [])) (set_for pair a.pages a.shards (0 ∷ []))
+    (sym (set_added_in pair.sets 0 (set_for pair pages at (0 ∷ [])))
+    ∙ ap (λ (f : FarState). set_in f.sets 0) a.state
+    ∙ set_added_in pair.sets 0 (set_for pair a.pages a.shards (0 ∷ [])))
+
 same_shards : (at : List Shard) (put : List (List ℕ))
     → (a : IsEvictedTo before after pair (with_word at put) (0 ∷ [])) → at ≡ a.shards
-same_shards at put a = ap (λ (s : SetState). s.shards)
-    (some_same (set_for pair at (0 ∷ [])) (set_for pair a.shards (0 ∷ []))
-    (sym (set_added_in pair.sets 0 (set_for pair at (0 ∷ [])))
-    ∙ ap (λ (f : FarState). set_in f.sets 0) a.state
-    ∙ set_added_in pair.sets 0 (set_for pair a.shards (0 ∷ []))))
+same_shards at put a = ap (λ (s : SetState). s.shards) (same_set 1 at put a)
+
+same_pages : (at : List Shard) (put : List (List ℕ))
+    → (a : IsEvictedTo before after pair (with_word at put) (0 ∷ [])) → 1 ≡ a.pages
+same_pages at put a = ap (λ (s : SetState). s.pages) (same_set 1 at put a)
+
+-- a span of one page is none of a set of spans of two
+not_of_two_pages : IsEvictedTo before after pair
+    (with_homes (with_set pair 2 shards (0 ∷ []) rows) (0 ∷ []) homes) (0 ∷ []) → ⊥
+not_of_two_pages a =
+    let two : 2 ≡ a.pages = ap (λ (s : SetState). s.pages) (same_set 2 shards rows a) in
+    let long : pages_of (record { index = 0 }) ≡ a.pages = a.long 0 0 (lit< tt) in
+    let one = one_page in absurd (omega (arith, two, long, one))
 
 -- two rows at one node
 not_twice : IsEvictedTo before after pair (with_word (shard 0 ∷ again ∷ []) rows) (0 ∷ []) → ⊥
@@ -168,16 +189,27 @@ not_word a =
     ap (λ (l : List ℕ). length l) (same_rows row [] a).1 in
     let count = a.word.is_word.count in
     let same = a.word.is_word.equal_lengths 1 [] (omega (arith, count)) in
-    let wide = a.word.wide in absurd (omega (arith, none, same, wide))
+    let wide = a.word.wide in let one = same_pages shards (row ∷ [] ∷ []) a in
+    absurd (omega (arith, none, same, wide, one))
 
 -- a row of ones has not the object's word
 ones : List ℕ
 ones = replicate 4096 1
 
-ones_words : window (words_in ones) (1 * words_of (record { index = 0 })) 1
+ones_long : length ones ≡ 4096
+unfolding ones
+ones_long = length-replicate {A = ℕ} 4096 1
+
+front_ones : window (words_from 512 ones) (1 * words_of (record { index = 0 })) 1
     ≡ 72340172838076673 ∷ []
 unfolding ones words_of bytes_of window words_from
-ones_words = refl
+front_ones = refl
+
+ones_words : window (words_in ones) (1 * words_of (record { index = 0 })) 1
+    ≡ 72340172838076673 ∷ []
+ones_words =
+    ap (λ (n : ℕ). window (words_from (n / 8) ones) (1 * words_of (record { index = 0 })) 1)
+    ones_long ∙ front_ones
 
 not_its_words : IsEvictedTo before after pair (with_word shards (ones ∷ ones ∷ [])) (0 ∷ []) → ⊥
 not_its_words a =
@@ -201,7 +233,9 @@ zero_last = refl
 not_the_frame : IsEvictedTo before after pair (with_word shards (past ∷ past ∷ [])) (0 ∷ []) → ⊥
 not_the_frame a =
     let e : get_or past 4095 0 ≡ get_or row 4095 0 =
-    ap (λ (l : List ℕ). get_or l 4095 0) ((same_rows past past a).0 ∙ a.of_frames 0 0 refl ∙ memory_row) in
+    ap (λ (l : List ℕ). get_or l 4095 0) ((same_rows past past a).0 ∙ a.of_frames 0 0 refl
+    ∙ ap (λ (n : ℕ). row_of (window before.memory 0 (512 * n)))
+    (sym (same_pages shards (past ∷ past ∷ []) a)) ∙ memory_row) in
     absurd (let f = past_last in let g = zero_last in omega (arith, e, f, g))
 
 -- another part of the far state changed
@@ -237,7 +271,8 @@ not_another_number a =
 not_refused : IsSetMade before before pair pair (answer.Set (record { n = 0 })) → ⊥
 not_refused a = not_here a.evicted.sent
 
--- ---- the refusals with both counts: no span is loose and two nodes have room, and one is and one has
+-- ---- the refusals with both counts: no span is loose and two nodes have room, and one is and one
+-- has
 no_spans_told : IsCountedStep busy busy pair pair (Refused Spans 0 2)
 no_spans_told = record { step = no_spans; counts = (refl, sym two_nodes) }
 

@@ -1,5 +1,5 @@
--- Worked examples of a ship: values that meet a definition, and for each of its parts one that breaks
--- that part alone.
+-- Worked examples of a ship: values that meet a definition, and for each of its parts one that
+-- breaks that part alone.
 use Rattle.std.proofs.Common.{◌≡◌, ℕ, zero, suc, ◌<◌, ◌≤◌, true, false, List, [], ◌∷◌, Option, None, Some, get_or, nat_lt, refl, sym, ap, ◌∙◌, subst, lit<, lit≤, arith, inl, inr}
 use Rattle.std.specs.FinMap as map
 use Rattle.std.proofs.lemmas.Bool.{false≢true}
@@ -80,6 +80,7 @@ but_own = refl
 abbrev batch : List (Option Shard) → LeavingState
 batch shards = record {
   set = 3;
+  pages = 1;
   frames = 2 ∷ [];
   words = [];
   parities = (7 ∷ []) ∷ (9 ∷ []) ∷ [];

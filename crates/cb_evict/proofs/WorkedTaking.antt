@@ -24,7 +24,7 @@ use Rattle.cb_evict.specs.Claims.{AreClaimed}
 use Rattle.cb_evict.specs.Events.{OnlyLooks}
 use Rattle.cb_evict.specs.EvictRule.{HasFewSpans, HasFewNodes}
 use Rattle.cb_evict.specs.Beginning.{ReservesFrames}
-use Rattle.cb_evict.specs.Evicting.{AreSpansTaken, ReadsFrames, StoresFrames, TouchesSpans}
+use Rattle.cb_evict.specs.Evicting.{AreSpansTaken, ReadsSpans, StoresFrames, TouchesSpans}
 use Rattle.cb_evict.specs.Finding.{FindsLoose}
 use Rattle.cb_evict.specs.Loading.{LiesInOne, OnlyLoads}
 use Rattle.cb_evict.specs.Looking.{LooksOver}
@@ -33,7 +33,7 @@ use Rattle.cb_evict.proofs.BeginSound.{reserved_kept}
 use Rattle.cb_evict.proofs.Composed.{looks_tried}
 use Rattle.cb_evict.proofs.Loose.{held_alone}
 use Rattle.cb_evict.proofs.Options.{none_some}
-use Rattle.cb_evict.proofs.SmallWorlds.{calm, first_object, heads, lone, one_node, only_first, only_second, pair, pinned, two_nodes}
+use Rattle.cb_evict.proofs.SmallWorlds.{calm, first_object, heads, lone, one_long, one_node, only_first, only_second, pair, pinned, two_nodes}
 use Rattle.cb_evict.proofs.WorkedBegin.{former, of_first}
 
 not_one : (n : ℕ) → suc n ≡ 0 → ⊥
@@ -188,6 +188,8 @@ taken_first = record {
   among = All-cons (Contains (candidates pair)) 0 [] (0, lit< tt, refl)
       (All-nil (Contains (candidates pair)));
   apart = λ i j d less within. absurd (omega (arith, less, within));
+  pages = 1;
+  long = one_long;
   of = of_first;
   order = refl;
   each_once = λ i j d less within. absurd (omega (arith, less, within));
@@ -269,27 +271,27 @@ not_without runs shows finds a =
     let x = a.taken.of.all 0 first_object in let l = x.1.1 in omega (arith, l)
 
 -- ---- the frames are read, and stored or reserved
-nothing_read : ReadsFrames (λ es. es ≡ []) (0 ∷ [])
+nothing_read : ReadsSpans (λ es. es ≡ []) pair.spans (0 ∷ [])
 nothing_read = ([], refl, tt)
 
 -- and nothing else is done
-not_looked_at : ReadsFrames (λ es. es ≡ looks) (0 ∷ []) → ⊥
-not_looked_at a = subst (OnlyLoads (LiesInOne (0 ∷ []))) a.1 a.2
+not_looked_at : ReadsSpans (λ es. es ≡ looks) pair.spans (0 ∷ []) → ⊥
+not_looked_at a = subst (OnlyLoads (LiesInOne pair.spans (0 ∷ []))) a.1 a.2
 
 -- a set is stored
 not_unstored : (runs : List Event → Type 0) (shows : Shown → Type 0)
-    → StoresFrames runs shows pair pair (0 ∷ []) → ⊥
+    → StoresFrames runs shows pair pair 1 (0 ∷ []) → ⊥
 not_unstored runs shows a =
     let e : 0 ≡ 1 = ap (λ (far : FarState). far.counts.sets) a.kept.state in omega (arith, e)
 
 -- with a row for each frame
 not_two_rows : (runs : List Event → Type 0) (shows : Shown → Type 0) (new : FarState)
-    → (a : StoresFrames runs shows pair new (0 ∷ [])) → length a.rows ≡ 2 → ⊥
+    → (a : StoresFrames runs shows pair new 1 (0 ∷ [])) → length a.rows ≡ 2 → ⊥
 not_two_rows runs shows new a two = let e = a.count in omega (arith, e, two)
 
 -- the set is kept that the spans will be
 not_unkept : (runs : List Event → Type 0) (shows : Shown → Type 0) (parities : List (List ℕ))
-    → ReservesFrames runs shows pair pair (0 ∷ []) parities → ⊥
+    → ReservesFrames runs shows pair pair 1 (0 ∷ []) parities → ⊥
 not_unkept runs shows parities a =
     let none : map.get pair.sets 0 ≡ None = grind (arith, map.gets) in
     none_some _ (sym none ∙ ap (λ (far : FarState). map.get far.sets 0) a.state
@@ -297,5 +299,5 @@ not_unkept runs shows parities a =
 
 -- with as many parities as the code has
 not_unparted : (runs : List Event → Type 0) (shows : Shown → Type 0) (new : FarState)
-    → ReservesFrames runs shows pair new (0 ∷ []) [] → ⊥
+    → ReservesFrames runs shows pair new 1 (0 ∷ []) [] → ⊥
 not_unparted runs shows new a = let e : 1 ≡ 2 = a.made.count in omega (arith, e)

@@ -29,9 +29,10 @@ use Rattle.cb_world.specs.Choices.{room_count}
 use Rattle.cb_world.specs.FarSound.{AreAway, AreShardRows, AreSets, Owner, of_set, of_leaving, of_joining, IsShardOf}
 use Rattle.cb_world.specs.FarState.{FarState, handle_in, span_in}
 use Rattle.cb_world.specs.Homes.{home_at}
-use Rattle.cb_world.specs.LocalSound.{AreFrames, AreKnown, ArePlaced, HasSlot, IsStamped, LiesAt, NamesObject}
+use Rattle.cb_world.specs.LocalSound.{AreFrames, AreKnown, ArePlaced, HasSlot, IsStamped, LiesAt, LiesOver, NamesObject}
 use Rattle.cb_world.specs.Memory.{window, words_for}
 use Rattle.cb_world.specs.Plain.{Words}
+use Rattle.cb_evict.specs.Loading.{pages_in}
 use Rattle.cb_world.specs.RowWords.{row_of}
 use Rattle.cb_world.specs.Sets.{set_in}
 use Rattle.cb_world.specs.SetWord.{IsSpanWord}
@@ -135,11 +136,43 @@ is_span : IsSpan span
 unfolding slots_of pages_of bytes_of
 is_span = record { in_table = lit< tt; sized = refl }
 
+one_frame : pages_of largest ≡ 1
+unfolding pages_of
+one_frame = refl
+
 are_frames : AreFrames far
-are_frames = record { sized = refl; free = free; valid = valid; taken = taken }
+are_frames = record {
+  sized = refl;
+  within = within;
+  apart = apart;
+  free = free;
+  valid = valid;
+  taken = taken;
+}
   where
-    free : (f : ℕ) → f < 1 → IsFreeFrame far.frames f ↔ (span_in far.spans f ≡ None)
-    free zero below = (λ e. absurd (cc), λ e. absurd (cc))
+    within : (f : ℕ) (x : Contents) → span_in far.spans f ≡ Some x → f + pages_of x.class ≤ 1
+    within zero x e = subst (λ (y : Contents). 0 + pages_of y.class ≤ 1) (some_same span x e)
+        (omega (arith, one_frame))
+    within (suc f) x e = absurd (none_some x e)
+
+    apart : (f g : ℕ) (x y : Contents) → span_in far.spans f ≡ Some x
+        → span_in far.spans g ≡ Some y → f < g → f + pages_of x.class ≤ g
+    apart f zero x y d e less = absurd (omega (arith, less))
+    apart f (suc g) x y d e less = absurd (none_some y e)
+
+    free : (f : ℕ) → f < 1 → IsFreeFrame far.frames f ↔ ¬ ((g : ℕ) × LiesOver far.spans g f)
+    free zero below = (
+      (λ e. absurd (cc)),
+      (λ none. absurd (none (
+        0,
+        record {
+          span = span;
+          there = refl;
+          from = lit≤ tt;
+          to = omega (arith, one_frame);
+        },
+      ))),
+    )
     free (suc f) below = absurd (omega (arith, below))
 
     valid : (f : ℕ) (x : Contents) → span_in far.spans f ≡ Some x → IsSpan x
@@ -302,7 +335,7 @@ abbrev former : Former
 former = record { handle = 0; word = calm }
 
 abbrev pub after : FarState
-after = with_batch far (0 ∷ []) (former ∷ []) (row ∷ [])
+after = with_batch far 1 (0 ∷ []) (former ∷ []) (row ∷ [])
 
 -- the frame's bytes are zeros
 zeros : row_of (window memory 0 512) ≡ row_of (window [] 0 512)
@@ -342,6 +375,9 @@ held = record {
 
 begun : IsBegunTo (desk calm) (desk (calm + 1)) far after (0 ∷ [])
 begun = record {
+  pages = 1;
+  long = All-cons (λ (f : ℕ). pages_in far.spans f ≡ 1) 0 [] one_frame
+      (All-nil (λ (f : ℕ). pages_in far.spans f ≡ 1));
   words = former ∷ [];
   parities = row ∷ [];
   of = record {
@@ -354,7 +390,7 @@ begun = record {
   noted = All-cons (λ (f : Former). f.word ≡ word_at (desk calm) f.handle) former [] refl
       (All-nil (λ (f : Former). f.word ≡ word_at (desk calm) f.handle));
   count = refl;
-  word = subst (λ (r : List ℕ). IsSpanWord 1 1 (r ∷ row ∷ [])) (sym (zeros ∙ zero_row)) is_word;
+  word = subst (λ (r : List ℕ). IsSpanWord 1 1 1 (r ∷ row ∷ [])) (sym (zeros ∙ zero_row)) is_word;
   state = refl;
   held = held;
 }
@@ -379,7 +415,7 @@ first_word ws e small = let l = subst (λ (l : List ℕ). All (λ w. w < 2 ^ 64)
 
 pub none_known : (t : Shown) → IsKnown (desk (calm + 1)) after t → ⊥
 none_known t k =
-    let noted = (k.sound.noted (new_batch far (0 ∷ []) (former ∷ []) (row ∷ []))
+    let noted = (k.sound.noted (new_batch far 1 (0 ∷ []) (former ∷ []) (row ∷ []))
     refl).each 0 0 0 span (0, lit< tt, refl) refl refl in
     let leaves = k.sound.claimed 0 (len_of noted.former.word) (place_of noted.former.word)
     noted.version noted.words noted.claimed in

@@ -18,7 +18,7 @@ use Rattle.cb_evict.specs.Claiming.{AreOf}
 use Rattle.cb_evict.specs.Events.{TouchesOnly}
 use Rattle.cb_evict.specs.Looking.{IsIn}
 use Rattle.cb_evict.specs.Order.{noted_of, objects_of}
-use Rattle.cb_evict.specs.Loading.{LiesInOne}
+use Rattle.cb_evict.specs.Loading.{AreOfLength, LiesInOne}
 use Rattle.cb_evict.specs.EvictRule.{AreInRows, HasFewSpans, HasFewNodes}
 
 -- the name of a row that was not put yet
@@ -29,10 +29,11 @@ blank_shard = record { node = record { n = 0 }; incarnation = 0; key = 0 }
 abbrev pub blank_shards : ℕ → List Shard
 blank_shards n = replicate n blank_shard
 
--- the batch of the spans in some frames, of which no row was put yet
-abbrev pub new_batch : FarState → List ℕ → List Former → List (List ℕ) → LeavingState
-new_batch far frames words parities = record {
+-- the batch of the spans in some frames, of so many pages each, of which no row was put yet
+abbrev pub new_batch : FarState → ℕ → List ℕ → List Former → List (List ℕ) → LeavingState
+new_batch far pages frames words parities = record {
   set = far.counts.sets;
+  pages = pages;
   frames = frames;
   words = words;
   parities = parities;
@@ -40,22 +41,24 @@ new_batch far frames words parities = record {
 }
 
 -- the far state with that batch: its number is drawn, and the set that it will be is kept under it
-abbrev pub with_batch : FarState → List ℕ → List Former → List (List ℕ) → FarState
-with_batch far frames words parities = record far {
+abbrev pub with_batch : FarState → ℕ → List ℕ → List Former → List (List ℕ) → FarState
+with_batch far pages frames words parities = record far {
   sets = map.insert far.sets far.counts.sets (record {
-    set = set_from far.counts.sets (blank_shards (far.code.k + far.code.r)) far.spans frames;
+    set =
+        set_from far.counts.sets pages (blank_shards (far.code.k + far.code.r)) far.spans frames;
     committed = false;
   });
-  leaving = Some (new_batch far frames words parities);
+  leaving = Some (new_batch far pages frames words parities);
   counts = record far.counts { sets = far.counts.sets + 1 };
 }
 
--- The spans in these frames are leaving from here: the words that the claims of their objects found
--- are noted, each once, in order of frame and slot, and the parities are those of the rows with the
--- words of their objects.
--- Nothing else of the far state changed.
+-- The spans in these frames, of one length, are leaving from here: the words that the claims of
+-- their objects found are noted, each once, in order of frame and slot, and the parities are those
+-- of the rows with the words of their objects. Nothing else of the far state changed.
 pub record HasBegun (far new : FarState) (frames : List ℕ) (es : List Event)
     : Type 0 where
+  pub pages : ℕ
+  pub long : AreOfLength far.spans pages frames
   pub words : List Former
   pub rows : List (List ℕ)
   pub parities : List (List ℕ)
@@ -65,8 +68,8 @@ pub record HasBegun (far new : FarState) (frames : List ℕ) (es : List Event)
   pub found : All (λ former. IsFound former.handle former.word es) words
   pub contents : AreInRows es far frames rows
   pub counts : (length rows ≡ far.code.k) × (length parities ≡ far.code.r)
-  pub word : IsSpanWord far.code.k far.code.r (rows ++ parities)
-  pub state : new ≡ with_batch far frames words parities
+  pub word : IsSpanWord pages far.code.k far.code.r (rows ++ parities)
+  pub state : new ≡ with_batch far pages frames words parities
 
 -- a batch is leaving: nothing is looked at, and nothing changes
 pub record IsLeavingAlready (far new : FarState) (r : Reply) (es : List Event) : Type 0 where
@@ -92,7 +95,8 @@ pub record HasLooked (far new : FarState) (r : Reply) (es : List Event) : Type 0
   pub found : AreLoose es far.spans (candidates far) loose
   pub answered : HasFewSpans far new r loose ⊎ (HasFewNodes far new r loose
       ⊎ HasBatch far new r loose es)
-  pub touches : TouchesOnly (IsIn far.spans (candidates far)) (LiesInOne (candidates far)) es
+  pub touches : TouchesOnly (IsIn far.spans (candidates far))
+      (LiesInOne far.spans (candidates far)) es
 
 -- the reply of a begin and the far state after it
 abbrev pub BeginRule : FarState → FarState → Reply → List Event → Type 0

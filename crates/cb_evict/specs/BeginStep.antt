@@ -20,10 +20,12 @@ use Rattle.cb_evict.specs.Order.{noted_of, objects_of}
 use Rattle.cb_evict.specs.EvictRule.{HasFewSpans, HasFewNodes}
 use Rattle.cb_evict.specs.EvictStep.{loose_frames}
 use Rattle.cb_evict.specs.BeginRule.{with_batch}
+use Rattle.cb_evict.specs.Loading.{AreOfLength}
 
--- the rows of some frames: the bytes of their memory words
-abbrev pub frame_rows : Words → List ℕ → List (List ℕ)
-frame_rows x frames = map (λ f. row_of (window x.memory (512 * f) 512)) frames
+-- the rows of the spans in some frames, of so many pages each: the bytes of their memory words
+abbrev pub frame_rows : Words → ℕ → List ℕ → List (List ℕ)
+frame_rows x pages frames =
+    map (λ f. row_of (window x.memory (512 * f) (512 * pages))) frames
 
 -- The objects of the spans in these frames are claimed: each word is as it was, and Moving.
 abbrev pub AreSpansClaimed : Words → Words → FarState → List ℕ → Type 0
@@ -31,10 +33,12 @@ AreSpansClaimed x y far frames = ChangesWords x y
     ((h : ℕ) → IsIn far.spans frames h → Claims (word_at x h) (word_at y h))
     (λ h. ¬ (IsIn far.spans frames h))
 
--- The spans in these frames are leaving from here: the words of their objects are noted, each once,
--- in order of frame and slot, and the parities are those of the memory of the frames. Nothing else
--- of the far state changed, and of the words those of the objects alone.
+-- The spans in these frames, of one length, are leaving from here: the words of their objects are
+-- noted, each once, in order of frame and slot, and the parities are those of the memory of the
+-- frames. Nothing else of the far state changed, and of the words those of the objects alone.
 pub record IsBegunTo (x y : Words) (far new : FarState) (frames : List ℕ) : Type 0 where
+  pub pages : ℕ
+  pub long : AreOfLength far.spans pages frames
   pub words : List Former
   pub parities : List (List ℕ)
   pub of : AreOf (IsIn far.spans frames) words
@@ -42,8 +46,8 @@ pub record IsBegunTo (x y : Words) (far new : FarState) (frames : List ℕ) : Ty
   pub each_once : AreApart words
   pub noted : All (λ former. former.word ≡ word_at x former.handle) words
   pub count : length parities ≡ far.code.r
-  pub word : IsSpanWord far.code.k far.code.r (frame_rows x frames ++ parities)
-  pub state : new ≡ with_batch far frames words parities
+  pub word : IsSpanWord pages far.code.k far.code.r (frame_rows x pages frames ++ parities)
+  pub state : new ≡ with_batch far pages frames words parities
   pub held : AreSpansClaimed x y far frames
 
 -- enough spans are loose and enough nodes have room: the first k of the loose spans are leaving

@@ -31,7 +31,7 @@ pub record HasShort (far new : FarState) (r : Reply) : Type 0 where
 abbrev pub with_committed : FarState → LeavingState → FarState
 with_committed far batch = record far {
   sets = map.insert far.sets batch.set (record {
-    set = set_from batch.set (put_shards batch.shards) far.spans batch.frames;
+    set = set_from batch.set batch.pages (put_shards batch.shards) far.spans batch.frames;
     committed = true;
   });
   leaving = None;

@@ -37,13 +37,14 @@ pub record IsAway (es : List Event) (t : Shown) (h : ℕ) : Type 0 where
   pub object : object_at t h ≡ is.Far (len_of word) version words
   pub cold : hot_at t h ≡ false
 
--- the row of the position where an object that left has its home is that of its frame, whose words
+-- the row of the position where an object that left has its home is that of its span, whose words
 -- are as in this memory
 abbrev pub HaveFrameRows : FarState → FarState → List ℕ → Type 0
 HaveFrameRows far new memory = (h f : ℕ) (home : Home) (set : SetState) (shard : Shard)
     → SpanNames far.spans f h → span_in new.spans f ≡ None → home_at new.homes h ≡ Some home
     → set_in new.sets home.set ≡ Some set → slice_get set.shards home.position ≡ Some shard
-    → row_under new.nodes shard.node shard.key ≡ Some (row_of (window memory (512 * f) 512))
+    → row_under new.nodes shard.node shard.key ≡ Some (row_of
+    (window memory (512 * f) (512 * set.pages)))
 
 -- The objects of the spans that are gone are away, and their rows are those of their frames; every
 -- other object is as it was, words are as the events told of them, and no version is written. So

@@ -17,7 +17,7 @@ use Rattle.cb_world.specs.SetWord.{IsSpanWord}
 use Rattle.cb_evict.specs.Candidates.{candidates, AreLoose}
 use Rattle.cb_evict.specs.Events.{TouchesOnly}
 use Rattle.cb_evict.specs.Looking.{IsIn}
-use Rattle.cb_evict.specs.Loading.{LiesInOne}
+use Rattle.cb_evict.specs.Loading.{AreOfLength, LiesInOne}
 use Rattle.cb_evict.specs.Storing.{AreShards, with_set}
 use Rattle.cb_evict.specs.Closing.{HaveHomes, with_homes}
 
@@ -36,18 +36,20 @@ AreInRows es far frames rows = (p f slot h : ℕ) (span : Contents) → slice_ge
     → span_in far.spans f ≡ Some span → handle_at span slot ≡ Some h
     → IsInRow es span (row_at rows p) slot h
 
--- The spans in these frames left local memory as a new set of the code in force: a code word whose
--- rows have the words of their objects stands at the nodes of the set's shards, the objects' homes
--- are in the set, and the frames are free. Nothing else of the far state changed.
+-- The spans in these frames, of one length, left local memory as a new set of the code in force: a
+-- code word whose rows have the words of their objects stands at the nodes of the set's shards, the
+-- objects' homes are in the set, and their frames are free. Nothing else of the far state changed.
 pub record HasEvicted (far new : FarState) (frames : List ℕ) (es : List Event)
     : Type 0 where
+  pub pages : ℕ
+  pub long : AreOfLength far.spans pages frames
   pub shards : List Shard
   pub rows : List (List ℕ)
   pub chosen : AreShards far (far.code.k + far.code.r) shards
-  pub word : IsSpanWord far.code.k far.code.r rows
+  pub word : IsSpanWord pages far.code.k far.code.r rows
   pub contents : AreInRows es far frames rows
   pub homes : HaveHomes far.spans frames far.counts.sets far.homes new.homes
-  pub state : new ≡ with_homes (with_set far shards frames rows) frames new.homes
+  pub state : new ≡ with_homes (with_set far pages shards frames rows) frames new.homes
 
 -- fewer spans are loose than the code in force has data positions
 pub record HasFewSpans (far new : FarState) (r : Reply) (loose : List ℕ) : Type 0 where
@@ -77,4 +79,5 @@ pub record EvictRule (far new : FarState) (r : Reply) (es : List Event) : Type 0
   pub found : AreLoose es far.spans (candidates far) loose
   pub answered : HasFewSpans far new r loose ⊎ (HasFewNodes far new r loose
       ⊎ HasBoth far new r loose es)
-  pub touches : TouchesOnly (IsIn far.spans (candidates far)) (LiesInOne (candidates far)) es
+  pub touches : TouchesOnly (IsIn far.spans (candidates far))
+      (LiesInOne far.spans (candidates far)) es

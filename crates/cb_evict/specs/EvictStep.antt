@@ -27,6 +27,7 @@ use Rattle.cb_evict.specs.Looking.{IsIn}
 use Rattle.cb_evict.specs.Storing.{AreShards, with_set}
 use Rattle.cb_evict.specs.Closing.{HaveHomes, with_homes}
 use Rattle.cb_evict.specs.EvictRule.{HasFewSpans, HasFewNodes}
+use Rattle.cb_evict.specs.Loading.{AreOfLength}
 
 -- whether the state is Here
 abbrev pub is_here : State → Bool
@@ -62,24 +63,27 @@ HaveContents x far frames rows = (p f slot h : ℕ) (span : Contents) → slice_
     → contents_at x h ≡ window (words_in (row_at rows p)) (slot * words_of span.class)
     (words_for (len_of (word_at x h)))
 
--- the rows of the places of these frames are those of the frames: the bytes of their memory words
-abbrev pub AreFrameRows : Words → List ℕ → List (List ℕ) → Type 0
-AreFrameRows x frames rows = (p f : ℕ) → slice_get frames p ≡ Some f
-    → row_at rows p ≡ row_of (window x.memory (512 * f) 512)
+-- the rows of the places of these frames are those of the spans there, of so many pages each: the
+-- bytes of their memory words
+abbrev pub AreFrameRows : Words → ℕ → List ℕ → List (List ℕ) → Type 0
+AreFrameRows x pages frames rows = (p f : ℕ) → slice_get frames p ≡ Some f
+    → row_at rows p ≡ row_of (window x.memory (512 * f) (512 * pages))
 
--- The spans in these frames left as a new set: a code word whose data rows are those of the frames,
--- with the memory words of the objects, stands at the nodes of the set's shards, the objects' homes
--- are in the set, and the frames are free. Nothing else of the far state changed, and of the words
--- those of the objects alone.
+-- The spans in these frames, of one length, left as a new set: a code word whose data rows are
+-- theirs, with the memory words of the objects, stands at the nodes of the set's shards, the
+-- objects' homes are in the set, and the frames are free. Nothing else of the far state changed,
+-- and of the words those of the objects alone.
 pub record IsEvictedTo (x y : Words) (far new : FarState) (frames : List ℕ) : Type 0 where
+  pub pages : ℕ
+  pub long : AreOfLength far.spans pages frames
   pub shards : List Shard
   pub rows : List (List ℕ)
   pub chosen : AreShards far (far.code.k + far.code.r) shards
-  pub word : IsSpanWord far.code.k far.code.r rows
+  pub word : IsSpanWord pages far.code.k far.code.r rows
   pub contents : HaveContents x far frames rows
-  pub of_frames : AreFrameRows x frames rows
+  pub of_frames : AreFrameRows x pages frames rows
   pub homes : HaveHomes far.spans frames far.counts.sets far.homes new.homes
-  pub state : new ≡ with_homes (with_set far shards frames rows) frames new.homes
+  pub state : new ≡ with_homes (with_set far pages shards frames rows) frames new.homes
   pub sent : AreSentOff x y far frames
 
 -- enough spans are loose and enough nodes have room: the first k of the loose spans left as a set

@@ -1,5 +1,5 @@
 -- The parts of an eviction.
-use Rattle.std.specs.Prelude.{◌≡◌, ◌≢◌, ℕ, ◌+◌, ◌++◌, All, List, length}
+use Rattle.std.specs.Prelude.{◌≡◌, ◌≢◌, ℕ, ◌+◌, ◌++◌, All, List, Option, length}
 use Rattle.std.specs.List.{Contains, AllPairs}
 use Rattle.cb_member.specs.declared.names.Shard.{Shard}
 use Rattle.cb_world.specs.declared.event.Event.{Event}
@@ -10,6 +10,7 @@ use Rattle.cb_world.specs.Allowed.{Allowed}
 use Rattle.cb_world.specs.LocalSound.{LocalSound}
 use Rattle.cb_world.specs.Sound.{Sound}
 use Rattle.cb_world.specs.Still.{IsStill}
+use Rattle.cb_span.specs.Contents.{Contents}
 use Rattle.cb_world.specs.FarState.{FarState}
 use Rattle.cb_evict.specs.CallPart.{Settles}
 use Rattle.cb_evict.specs.Candidates.{candidates}
@@ -18,21 +19,24 @@ use Rattle.cb_evict.specs.Claims.{AreApart, AreClaimed}
 use Rattle.cb_evict.specs.Claiming.{AreOf}
 use Rattle.cb_evict.specs.Looking.{IsIn}
 use Rattle.cb_evict.specs.Order.{noted_of, objects_of}
-use Rattle.cb_evict.specs.Loading.{LiesInOne, LoadsFrames, OnlyLoads}
+use Rattle.cb_evict.specs.Loading.{AreOfLength, LiesInOne, LoadsRuns, OnlyLoads}
 use Rattle.cb_evict.specs.Storing.{AreShards, KeepsSet}
 use Rattle.cb_evict.specs.EvictRule.{HasEvicted}
 use Rattle.cb_evict.specs.EvictEffect.{IsEvicted}
 
 -- only objects and words of spans that may leave are touched
 abbrev pub TouchesSpans : FarState → List Event → Type 0
-TouchesSpans far es = TouchesOnly (IsIn far.spans (candidates far)) (LiesInOne (candidates far)) es
+TouchesSpans far es = TouchesOnly (IsIn far.spans (candidates far))
+    (LiesInOne far.spans (candidates far)) es
 
--- k different spans may leave, and these are their objects, in order
+-- k different spans of one length may leave, and these are their objects, in order
 pub record AreSpansTaken (far : FarState) (frames : List ℕ) (formers : List Former)
     : Type 0 where
   pub count : length frames ≡ far.code.k
   pub among : All (Contains (candidates far)) frames
   pub apart : AllPairs (λ f g. f ≢ g) frames
+  pub pages : ℕ
+  pub long : AreOfLength far.spans pages frames
   pub of : AreOf (IsIn far.spans frames) formers
   pub order : noted_of formers ≡ objects_of far.spans frames
   pub each_once : AreApart formers
@@ -61,7 +65,8 @@ pub record IsEnded (new : FarState) (before es : List Event) (s : Shown)
 abbrev pub EndsClaimed : (List Event → Type 0) → (Shown → Type 0) → FarState → FarState → List ℕ
     → List Former → (List Event → Type 0) → (List Event → Shown → Shown → Type 0) → Type 0
 EndsClaimed runs shows far new frames formers ends does =
-    Settles runs (IsIn far.spans frames) (LiesInOne frames) (λ es. (before : List Event) (s : Shown)
+    Settles runs (IsIn far.spans frames) (LiesInOne far.spans frames)
+    (λ es. (before : List Event) (s : Shown)
     → IsReadyToEvict shows far formers before s → IsEnded new before es s ends does)
 
 -- claimed spans are evicted
@@ -76,16 +81,17 @@ abbrev pub LeavesClaimed : (List Event → Type 0) → (Shown → Type 0) → Fa
 LeavesClaimed runs shows far frames formers =
     EndsClaimed runs shows far far frames formers (λ es. Unit {0}) IsStill
 
--- words of these frames are read, and nothing else is done
-abbrev pub ReadsFrames : (List Event → Type 0) → List ℕ → Type 0
-ReadsFrames runs frames = (es : List Event) × runs es × OnlyLoads (LiesInOne frames) es
+-- words of the spans in these frames are read, and nothing else is done
+abbrev pub ReadsSpans : (List Event → Type 0) → List (Option Contents) → List ℕ → Type 0
+ReadsSpans runs spans frames = (es : List Event) × runs es × OnlyLoads (LiesInOne spans frames) es
 
--- the frames are read, and their rows are stored with their parities as the next set
+-- the spans in these frames, of so many pages each, are read, and their rows are stored with their
+-- parities as the next set
 pub record StoresFrames (runs : List Event → Type 0) (shows : Shown → Type 0)
-    (far new : FarState) (frames : List ℕ) : Type 0 where
+    (far new : FarState) (pages : ℕ) (frames : List ℕ) : Type 0 where
   pub rows : List (List ℕ)
   pub shards : List Shard
-  pub loads : LoadsFrames runs shows frames rows
+  pub loads : LoadsRuns runs shows pages frames rows
   pub count : length rows ≡ length frames
   pub chosen : AreShards far (far.code.k + far.code.r) shards
-  pub kept : KeepsSet far new shards frames rows
+  pub kept : KeepsSet far new pages shards frames rows

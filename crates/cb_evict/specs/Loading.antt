@@ -1,21 +1,36 @@
--- Frames that are read into rows.
-use Rattle.std.specs.Prelude.{◌≡◌, ℕ, ◌+◌, ◌*◌, ◌^◌, ◌<◌, ◌≤◌, List, [], ◌∷◌, Some, length, slice_get, All}
+-- The words of spans that are read into rows.
+use Rattle.std.specs.Prelude.{◌≡◌, ℕ, ◌*◌, ◌^◌, ◌<◌, List, [], ◌∷◌, Option, None, Some, length, slice_get, All}
 use Rattle.std.specs.List.{Contains}
+use Rattle.cb_class.specs.Class.{pages_of}
 use Rattle.cb_gf256.specs.Rows.{row_at}
+use Rattle.cb_span.specs.Contents.{Contents}
 use Rattle.cb_world.specs.declared.event.Event.{Event}
 use Rattle.cb_world.specs.declared.event.Event.TheVariants.{Loaded}
 use Rattle.cb_world.specs.declared.shown.Shown.{Shown}
-use Rattle.cb_world.specs.Shown.{Owns}
+use Rattle.cb_world.specs.FarState.{span_in}
+use Rattle.cb_world.specs.FrameWords.{LiesInRun, OwnsRun}
 use Rattle.cb_world.specs.Memory.{window}
 use Rattle.cb_world.specs.RowWords.{row_of}
 
--- the word p lies in the frame
-abbrev pub LiesInFrame : ℕ → ℕ → Type 0
-LiesInFrame f p = (512 * f ≤ p) × (p < 512 * f + 512)
+-- the pages of the span in a frame, 0 where there is none
+abbrev pub pages_at : Option Contents → ℕ
+pages_at None = 0
+pages_at (Some span) = pages_of span.class
 
--- the word p lies in one of the frames
-abbrev pub LiesInOne : List ℕ → ℕ → Type 0
-LiesInOne frames p = (f : ℕ) × Contains frames f × LiesInFrame f p
+abbrev pub pages_in : List (Option Contents) → ℕ → ℕ
+pages_in spans f = pages_at (span_in spans f)
+
+-- the spans in these frames have so many pages each
+abbrev pub AreOfLength : List (Option Contents) → ℕ → List ℕ → Type 0
+AreOfLength spans pages frames = All (λ f. pages_in spans f ≡ pages) frames
+
+-- the word p lies in the run of so many frames from one of these on
+abbrev pub LiesInRuns : ℕ → List ℕ → ℕ → Type 0
+LiesInRuns pages frames p = (f : ℕ) × Contains frames f × LiesInRun f pages p
+
+-- the word p lies in the span in one of these frames
+abbrev pub LiesInOne : List (Option Contents) → List ℕ → ℕ → Type 0
+LiesInOne spans frames p = (f : ℕ) × Contains frames f × LiesInRun f (pages_in spans f) p
 
 -- each event reads a word at one of these places
 abbrev pub OnlyLoads : (ℕ → Type 0) → List Event → Type 0
@@ -23,30 +38,27 @@ OnlyLoads places [] = Unit {0}
 OnlyLoads places (Loaded p x ∷ es) = places p × OnlyLoads places es
 OnlyLoads places (e ∷ es) = ⊥
 
--- the caller owns all words of the frame
-abbrev pub OwnsFrame : Shown → ℕ → Type 0
-OwnsFrame s f = (p : ℕ) → LiesInFrame f p → Owns s p
-
--- the row is made of the words of the frame, which the desk shows where the caller owns them
-pub record IsRowOfFrame (shows : Shown → Type 0) (f : ℕ) (row : List ℕ) : Type 0 where
+-- the row is made of the words of the run, which the desk shows where the caller owns them
+pub record IsRowOfRun (shows : Shown → Type 0) (f pages : ℕ) (row : List ℕ) : Type 0 where
   pub words : List ℕ
-  pub count : length words ≡ 512
+  pub count : length words ≡ 512 * pages
   pub small : All (λ w. w < 2 ^ 64) words
   pub made : row ≡ row_of words
-  pub contents : (s : Shown) → shows s → OwnsFrame s f → words ≡ window s.memory (512 * f) 512
+  pub contents : (s : Shown) → shows s → OwnsRun s f pages
+      → words ≡ window s.memory (512 * f) (512 * pages)
 
--- each word of the frame is read once, into a row
-pub record LoadsFrame (runs : List Event → Type 0) (shows : Shown → Type 0) (f : ℕ) (row : List ℕ)
-    : Type 0 where
+-- each word of the run is read once, into a row
+pub record LoadsRun (runs : List Event → Type 0) (shows : Shown → Type 0) (f pages : ℕ)
+    (row : List ℕ) : Type 0 where
   pub events : List Event
   pub ran : runs events
-  pub loads : OnlyLoads (LiesInFrame f) events
-  pub made : IsRowOfFrame shows f row
+  pub loads : OnlyLoads (LiesInRun f pages) events
+  pub made : IsRowOfRun shows f pages row
 
--- so of each frame, into the row at its place
-pub record LoadsFrames (runs : List Event → Type 0) (shows : Shown → Type 0) (frames : List ℕ)
-    (rows : List (List ℕ)) : Type 0 where
+-- so of each run of so many frames, into the row at its place
+pub record LoadsRuns (runs : List Event → Type 0) (shows : Shown → Type 0) (pages : ℕ)
+    (frames : List ℕ) (rows : List (List ℕ)) : Type 0 where
   pub events : List Event
   pub ran : runs events
-  pub loads : OnlyLoads (LiesInOne frames) events
-  pub made : (p f : ℕ) → slice_get frames p ≡ Some f → IsRowOfFrame shows f (row_at rows p)
+  pub loads : OnlyLoads (LiesInRuns pages frames) events
+  pub made : (p f : ℕ) → slice_get frames p ≡ Some f → IsRowOfRun shows f pages (row_at rows p)

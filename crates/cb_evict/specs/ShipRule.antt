@@ -88,7 +88,7 @@ ShipsRow far new r row =
 
 -- nothing is done but that words of frames that are leaving are read
 abbrev pub ReadsLeaving : FarState → List Event → Type 0
-ReadsLeaving far es = OnlyLoads (LiesInOne (leaving_frames far.leaving)) es
+ReadsLeaving far es = OnlyLoads (LiesInOne far.spans (leaving_frames far.leaving)) es
 
 -- so, whatever was read
 pub record ShipRule (far new : FarState) (r : Reply) (es : List Event) : Type 0 where

@@ -10,7 +10,7 @@ use Rattle.cb_evict.specs.ShipRule.{ShipsRow}
 
 -- the rows of a batch at a desk: the words of its frames, and its parities
 abbrev pub rows_at_desk : Words → LeavingState → List (List ℕ)
-rows_at_desk desk batch = frame_rows desk batch.frames ++ batch.parities
+rows_at_desk desk batch = frame_rows desk batch.pages batch.frames ++ batch.parities
 
 -- A turn that ships a row, from the words x to the words y: no word changes.
 pub record IsShipStep (x y : Words) (far new : FarState) (r : Reply) : Type 0 where

@@ -9,12 +9,12 @@ use Rattle.cb_world.specs.declared.shown.Shown.{Shown}
 use Rattle.cb_world.specs.Choices.{MayPut}
 use Rattle.cb_world.specs.FarSound.{batch_rows}
 use Rattle.cb_world.specs.FarState.{FarState}
+use Rattle.cb_world.specs.FrameWords.{OwnsRun}
 use Rattle.cb_world.specs.Leaving.{LeavingState}
 use Rattle.cb_world.specs.Placed.{leaving_frames}
 use Rattle.cb_evict.specs.declared.next_put.NextPut.{NextPut}
 use Rattle.cb_evict.specs.declared.next_put.NextPut.TheVariants as next
-use Rattle.cb_evict.specs.Evicting.{ReadsFrames}
-use Rattle.cb_evict.specs.Loading.{OwnsFrame}
+use Rattle.cb_evict.specs.Evicting.{ReadsSpans}
 use Rattle.cb_evict.specs.ShipRule.{IsShardFor, ReadsLeaving, other_puts, with_shipped}
 use Rattle.cb_evict.specs.Waiting.{least_waiting}
 
@@ -37,9 +37,9 @@ abbrev pub Waits : FarState → Type 0
 Waits far = (batch : LeavingState) × (p : ℕ) × (far.leaving ≡ Some batch)
     × (least_waiting far.members batch.shards ≡ Some p)
 
--- the caller owns all words of the frames of the batch
+-- the caller owns all words of the spans of the batch
 abbrev pub OwnsBatch : Shown → LeavingState → Type 0
-OwnsBatch s batch = (f : ℕ) → Contains batch.frames f → OwnsFrame s f
+OwnsBatch s batch = (f : ℕ) → Contains batch.frames f → OwnsRun s f batch.pages
 
 -- the row of a position of the batch is put under the shard
 pub record PutsRow (runs : List Event → Type 0) (shows : Shown → Type 0) (far new : FarState)
@@ -53,4 +53,4 @@ pub record PutsRow (runs : List Event → Type 0) (shows : Shown → Type 0) (fa
 
 -- nothing is put, and words of frames that are leaving are read
 abbrev pub PutsNothing : (List Event → Type 0) → FarState → Type 0
-PutsNothing runs far = ReadsFrames runs (leaving_frames far.leaving)
+PutsNothing runs far = ReadsSpans runs far.spans (leaving_frames far.leaving)

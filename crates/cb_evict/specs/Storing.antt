@@ -59,9 +59,9 @@ pub record HasSpans (spans : List (Option Contents)) (shards : List Shard) (fram
   pub few : length shards < 2 ^ 32
   pub count : length frames ≤ length shards
 
--- the set of the spans in some frames, with the next number
-abbrev pub set_for : FarState → List Shard → List ℕ → SetState
-set_for far shards frames = set_from far.counts.sets shards far.spans frames
+-- the set of the spans in some frames, of so many pages each, with the next number
+abbrev pub set_for : FarState → ℕ → List Shard → List ℕ → SetState
+set_for far pages shards frames = set_from far.counts.sets pages shards far.spans frames
 
 -- the far state with a committed set of the next number; that and the keys of its rows are drawn
 abbrev pub with_kept : FarState → SetState → ℕ → FarState
@@ -72,10 +72,10 @@ with_kept far set rows = record far {
 
 -- the far state with the set of the spans in some frames, whose rows are put at its shards' nodes;
 -- its number and the keys of its rows are drawn
-abbrev pub with_set : FarState → List Shard → List ℕ → List (List ℕ) → FarState
-with_set far shards frames rows = record far {
+abbrev pub with_set : FarState → ℕ → List Shard → List ℕ → List (List ℕ) → FarState
+with_set far pages shards frames rows = record far {
   sets = map.insert far.sets far.counts.sets
-      (record { set = set_for far shards frames; committed = true });
+      (record { set = set_for far pages shards frames; committed = true });
   nodes = all_put far.nodes shards rows;
   counts = record far.counts {
     sets = far.counts.sets + 1;
@@ -84,10 +84,10 @@ with_set far shards frames rows = record far {
 }
 
 -- a set is kept, whose rows are these data rows and their parities
-pub record KeepsSet (far new : FarState) (shards : List Shard) (frames : List ℕ)
+pub record KeepsSet (far new : FarState) (pages : ℕ) (shards : List Shard) (frames : List ℕ)
     (rows : List (List ℕ)) : Type 0 where
   pub parities : List (List ℕ)
   pub count : length shards ≡ length frames + length parities
   pub word : IsCodeWord (length frames) (length parities) (rows ++ parities)
   pub bytes : HoldBytes (rows ++ parities)
-  pub state : new ≡ with_set far shards frames (rows ++ parities)
+  pub state : new ≡ with_set far pages shards frames (rows ++ parities)

@@ -31,7 +31,7 @@ AreLooseStill far was loose es = (before : List Event) → AreLooseNow far was b
 abbrev pub TriesSpans : (List Event → Type 0) → (Shown → Type 0) → FarState → (List Event → Type 0)
     → List Former → Type 0
 TriesSpans runs shows far finds formers = ClaimsThese runs shows (IsIn far.spans (candidates far))
-    (LiesInOne (candidates far)) finds formers
+    (LiesInOne far.spans (candidates far)) finds formers
 
 -- fewer than k spans are loose, or fewer than k + r nodes have room; this refusal tells so, and no
 -- object is claimed

@@ -1,4 +1,4 @@
-ghost use Rattle.std.specs.Prelude.{◌≡◌, ◌^◌, ◌+◌, ◌-◌, ◌<◌, All, IfOk, OnErr, OnOk, List, None, Some, length, replicate};
+ghost use Rattle.std.specs.Prelude.{◌≡◌, ◌^◌, ◌+◌, ◌-◌, ◌*◌, ◌<◌, ◌≤◌, All, IfOk, OnErr, OnOk, List, None, Some, length, replicate};
 ghost use Rattle.std.specs.Option.{option_map};
 ghost use Rattle.cb_types.specs.Config.{IsAccepted};
 ghost use Rattle.cb_types.specs.declared.handle.SetId.{SetId};
@@ -15,13 +15,15 @@ ghost use Rattle.cb_world.specs.Performs.{Performs};
 ghost use Rattle.cb_evict.specs.BeginRule.{BeginRule, blank_shard, blank_shards};
 ghost use Rattle.cb_evict.specs.BeginEffect.{BeginEffect};
 ghost use Rattle.cb_evict.specs.Beginning.{AreParities, BeginsClaimed, ReservesFrames, with_reserved};
-ghost use Rattle.cb_evict.specs.Evicting.{AreSpansTaken, IsReadyToEvict, LeavesClaimed, ReadsFrames, TouchesSpans};
+ghost use Rattle.cb_evict.specs.Loading.{AreOfLength};
+ghost use Rattle.cb_evict.specs.Evicting.{AreSpansTaken, IsReadyToEvict, LeavesClaimed, ReadsSpans, TouchesSpans};
 
 use crate::claiming::give_back;
 use crate::eviction::refusal;
-use crate::loading::load_frames;
-use crate::storing::{make_parities, next_set};
+use crate::loading::load_spans;
+use crate::storing::{make_parities, next_set, span_pages};
 use crate::taking::{Taken, take_spans};
+use cb_class::PAGE_BYTES;
 use cb_member::{NodeId, Shard};
 use cb_types::{NoMemory, Reply, Rows, SetId};
 use cb_world::{Desk, Far, Former, KeptSet, Leaving};
@@ -126,16 +128,17 @@ fn begin_new<D: Desk>(desk: &mut D, far: &mut Far) -> Result<Reply, NoMemory>
     }
 }
 
-/// Takes the memory of a batch of `k` spans with `r` parities.
-fn room_for(alloc: Global, k: u32, r: u32) -> Result<Room, NoMemory>
-    requires { k + r < 2 ^ 32 }
-    ensures rows { IfOk result (λ room. room.rows ≡ replicate k (replicate 4096 0)) }
+/// Takes the memory of a batch of `k` spans of so many pages with `r` parities.
+fn room_for(alloc: Global, k: u32, r: u32, pages: u32) -> Result<Room, NoMemory>
+    requires count { k + r < 2 ^ 32 }
+    requires pages { pages ≤ 4 }
+    ensures rows { IfOk result (λ room. room.rows ≡ replicate k (replicate (4096 * pages) 0)) }
     ensures shards { IfOk result (λ room. room.shards.items ≡ replicate (k + r) None) }
     ensures blank { IfOk result (λ room. room.blank.items ≡ blank_shards (k + r)) }
 {
     let shards = no_shards(alloc, k + r)?;
     let blank = blank_shards(alloc, k + r)?;
-    match Rows::new(alloc, k, 4096) {
+    match Rows::new(alloc, k, PAGE_BYTES * pages) {
         Ok(rows) => Ok(Room {
             rows,
             shards,
@@ -182,10 +185,11 @@ fn begin_claimed<D: Desk>(
         (λ s. D.shows desk.old s) far.old frames.items formers.items) }
     ensures unchanged { OnErr result (far.new ≡ far.old) }
 {
-    match reserve_frames(desk, far, &frames) {
+    let pages = span_pages(far, frames[0]);
+    match reserve_frames(desk, far, &frames, pages) {
         Ok(reserved) => {
             let Reserved { parities, shards } = reserved;
-            let set = note_batch(far, frames, formers, parities, shards);
+            let set = note_batch(far, pages, frames, formers, parities, shards);
             Ok(Reply::Batch { set })
         }
         Err(_) => {
@@ -195,54 +199,65 @@ fn begin_claimed<D: Desk>(
     }
 }
 
-/// Reads the frames, makes the parities of their rows, and keeps the set that they will be under
-/// the next set number. Where there is no memory, the far state has not changed.
+/// Reads the spans in these frames, of so many pages each, makes the parities of their rows, and
+/// keeps the set that they will be under the next set number. Where there is no memory, the far
+/// state has not changed.
 fn reserve_frames<D: Desk>(
     desk: &mut D,
     far: &mut Far,
     frames: &[u32],
+    pages: u32,
 ) -> Result<Reserved, NoMemory>
     requires config { IsAccepted (D.settings desk.old) }
     requires range { IsInRange far.old.code.k far.old.code.r }
     requires count { length frames.now ≡ far.old.code.k }
     requires there { All (λ f. (span : Contents) × (span_in far.old.spans f ≡ Some span))
         frames.now }
-    requires below { All (λ f. f < (D.settings desk.old).frames) frames.now }
+    requires pages { pages ≤ 4 }
+    requires long { AreOfLength far.old.spans pages frames.now }
+    requires below { All (λ f. f + pages ≤ (D.settings desk.old).frames) frames.now }
     ensures reserved { IfOk result (λ reserved. ReservesFrames (λ es. D.run desk.old es desk.new)
-        (λ s. D.shows desk.old s) far.old far.new frames.now reserved.parities) }
+        (λ s. D.shows desk.old s) far.old far.new pages frames.now reserved.parities) }
     ensures shards { IfOk result (λ reserved. reserved.shards.items
         ≡ replicate (far.old.code.k + far.old.code.r) None) }
-    ensures read { OnErr result (ReadsFrames (λ es. D.run desk.old es desk.new) frames.now) }
+    ensures read { OnErr result (ReadsSpans (λ es. D.run desk.old es desk.new) far.old.spans
+        frames.now) }
     ensures unchanged { OnErr result (far.new ≡ far.old) }
 {
     let code = far.in_force();
-    let room = room_for(far.alloc, code.k, code.r)?;
+    let room = room_for(far.alloc, code.k, code.r, pages)?;
     let Room {
         mut rows,
         shards,
         blank,
     } = room;
-    load_frames(desk, frames, &mut rows);
-    let parities = reserve(far, &blank, frames, &rows)?;
+    load_spans(desk, frames, pages, &mut rows);
+    let parities = reserve(far, pages, &blank, frames, &rows)?;
     Ok(Reserved { parities, shards })
 }
 
-/// Keeps the set that the spans in these frames will be under the next set number, with as many
-/// shards as there are blank ones. Answers the parities of their rows. Where there is no memory,
-/// nothing has changed.
-fn reserve(far: &mut Far, blank: &[Shard], frames: &[u32], rows: &Rows) -> Result<Rows, NoMemory>
+/// Keeps the set that the spans in these frames, of so many pages each, will be under the next set
+/// number, with as many shards as there are blank ones. Answers the parities of their rows. Where
+/// there is no memory, nothing has changed.
+fn reserve(
+    far: &mut Far,
+    pages: u32,
+    blank: &[Shard],
+    frames: &[u32],
+    rows: &Rows,
+) -> Result<Rows, NoMemory>
     requires there { All (λ f. (span : Contents) × (span_in far.old.spans f ≡ Some span))
         frames.now }
     requires data_rows { length rows.now ≡ length frames.now }
     requires range { IsInRange (length frames.now) (length blank.now - length frames.now) }
     ensures err { OnErr result (far.new ≡ far.old) }
-    ensures state { OnOk result (far.new ≡ with_reserved far.old blank.now frames.now) }
+    ensures state { OnOk result (far.new ≡ with_reserved far.old pages blank.now frames.now) }
     ensures parities { IfOk result (λ parities.
         AreParities (length frames.now) (length blank.now) rows.now parities) }
 {
     let r = blank.len() - frames.len();
     let parities = make_parities(far.alloc, rows, r as u32)?;
-    let set = next_set(far, blank, frames)?;
+    let set = next_set(far, pages, blank, frames)?;
     far.sets.put(
         far.counts.sets,
         KeptSet {
@@ -256,6 +271,7 @@ fn reserve(far: &mut Far, blank: &[Shard], frames: &[u32], rows: &Rows) -> Resul
 /// Notes the batch that is leaving from here, under the next set number, which is drawn.
 fn note_batch(
     far: &mut Far,
+    pages: u32,
     frames: Vec<u32>,
     words: Vec<Former>,
     parities: Rows,
@@ -266,6 +282,7 @@ fn note_batch(
     ensures state { far.new ≡ record far.old {
       leaving = Some (record {
         set = far.old.counts.sets;
+        pages = pages;
         frames = frames.items;
         words = words.items;
         parities = parities;
@@ -278,6 +295,7 @@ fn note_batch(
     far.counts.sets += 1;
     far.leaving = Some(Leaving {
         set,
+        pages,
         frames,
         words,
         parities,

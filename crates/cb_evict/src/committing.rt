@@ -1,7 +1,7 @@
 ghost use Rattle.std.specs.Prelude.{◌≡◌, ◌≢◌, ◌^◌, ◌<◌, ◌≤◌, true, All, IfNone, IfOk, IfSome, IsOk, None, Some, length};
 ghost use Rattle.std.specs.List.{AllPairs};
 ghost use Rattle.std.specs.FinMap as map;
-ghost use Rattle.cb_frame.specs.FreeFrames.{IsFreeFrame};
+ghost use Rattle.cb_world.specs.LocalSound.{AreFrames};
 ghost use Rattle.cb_member.specs.declared.names.Shard.{Shard};
 ghost use Rattle.cb_set.specs.SetState.{with_shard};
 ghost use Rattle.cb_span.specs.Contents.{Contents};
@@ -83,9 +83,7 @@ fn keep_batch(far: &mut Far, batch: &Leaving)
         batch.now.frames }
     requires unique { AreUnique far.old.spans (length far.old.homes) }
     requires apart { AllPairs (λ f g. f ≢ g) batch.now.frames }
-    requires within { All (λ f. (f < length far.old.frames) × (f < length far.old.spans))
-        batch.now.frames }
-    requires busy { All (λ f. ¬ (IsFreeFrame far.old.frames f)) batch.now.frames }
+    requires owned { AreFrames far.old }
     requires few { length batch.now.frames < 2 ^ 32 }
     ensures state { (kept : Kept) → map.get far.old.sets batch.now.set ≡ Some kept
         → far.new ≡ with_homes (record far.old {

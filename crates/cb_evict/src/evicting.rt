@@ -1,4 +1,4 @@
-ghost use Rattle.std.specs.Prelude.{◌≡◌, ◌^◌, ◌+◌, ◌<◌, ◌≤◌, All, IfOk, OnErr, OnOk, List, Some, length};
+ghost use Rattle.std.specs.Prelude.{◌≡◌, ◌^◌, ◌+◌, ◌*◌, ◌<◌, ◌≤◌, All, IfOk, OnErr, OnOk, List, Some, length};
 ghost use Rattle.cb_types.specs.Config.{IsAccepted};
 ghost use Rattle.cb_gf256.specs.Rows.{HaveLength};
 ghost use Rattle.cb_span.specs.Contents.{Contents};
@@ -13,23 +13,25 @@ ghost use Rattle.cb_world.specs.Sound.{Sound};
 ghost use Rattle.cb_world.specs.Performs.{Performs};
 ghost use Rattle.cb_evict.specs.EvictRule.{EvictRule};
 ghost use Rattle.cb_evict.specs.EvictEffect.{EvictEffect};
-ghost use Rattle.cb_evict.specs.Evicting.{AreSpansTaken, EvictsClaimed, IsReadyToEvict, LeavesClaimed, ReadsFrames, StoresFrames, TouchesSpans};
+ghost use Rattle.cb_evict.specs.Evicting.{AreSpansTaken, EvictsClaimed, IsReadyToEvict, LeavesClaimed, ReadsSpans, StoresFrames, TouchesSpans};
 ghost use Rattle.cb_evict.specs.Eviction.{CountsRule, reply_of};
+ghost use Rattle.cb_evict.specs.Loading.{AreOfLength};
 
 use crate::claiming::give_back;
 use crate::closing::close_spans;
 use crate::eviction::{Eviction, reply_of};
-use crate::loading::load_frames;
+use crate::loading::load_spans;
 use crate::sending::send;
-use crate::storing::{choose_shards, keep_set, next_number};
+use crate::storing::{choose_shards, keep_set, next_number, span_pages};
 use crate::taking::{Taken, take_spans};
+use cb_class::PAGE_BYTES;
 use cb_types::{NoMemory, Reply, Rows, SetId};
 use cb_world::{Desk, Far, Former};
 
 /// Evicts k spans at once, as many as the code in force has data positions. Of the spans none of
 /// whose objects is pinned or claimed, and which are not leaving, the first k go, the cold ones
-/// before the hot ones and then by frame number: they are coded together, their rows are put at
-/// k + r nodes, and the objects are far.
+/// before the hot ones and then by frame number: they are coded together, their rows are put at k
+/// + r nodes, and the objects are far.
 ///
 /// Refuses with NoSpans where fewer than k spans are so, and then with NoNodes where fewer than k +
 /// r nodes have room. A batch that is leaving does not hinder it and stays as it is. Every object
@@ -85,14 +87,16 @@ pub fn evict_counted<D: Desk>(desk: &mut D, far: &mut Far) -> Result<Eviction, N
     }
 }
 
-/// Room for the rows of `k` spans, which have any bytes: mostly that of the eviction before.
-fn spare_rows(far: &mut Far, k: u32) -> Result<Rows, NoMemory>
+/// Room for the rows of `k` spans of so many pages, which have any bytes: mostly that of the
+/// eviction before.
+fn spare_rows(far: &mut Far, k: u32, pages: u32) -> Result<Rows, NoMemory>
     requires some { 0 < k }
+    requires pages { pages ≤ 4 }
     ensures count { IfOk result (λ rows. length rows ≡ k) }
-    ensures lengths { IfOk result (λ rows. HaveLength 4096 rows) }
+    ensures lengths { IfOk result (λ rows. HaveLength (4096 * pages) rows) }
     ensures unchanged { far.new ≡ far.old }
 {
-    far.nodes.spare_table(k, 4096)
+    far.nodes.spare_table(k, PAGE_BYTES * pages)
 }
 
 /// Keeps the room of rows for the next eviction. Takes no memory.
@@ -102,10 +106,16 @@ fn keep_rows(far: &mut Far, rows: Rows)
     far.nodes.keep_table(rows);
 }
 
-/// Reads the frames, codes their rows and stores them with their parities as the next set: for each
-/// position, in order, at the node with the fewest rows of those that have room and are not taken
-/// yet. Where there is no memory, the far state has not changed.
-fn store_frames<D: Desk>(desk: &mut D, far: &mut Far, frames: &[u32]) -> Result<(), NoMemory>
+/// Reads the spans in these frames, of so many pages each, codes their rows and stores them with
+/// their parities as the next set: for each position, in order, at the node with the fewest rows
+/// of those that have room and are not taken yet. Where there is no memory, the far state has not
+/// changed.
+fn store_frames<D: Desk>(
+    desk: &mut D,
+    far: &mut Far,
+    frames: &[u32],
+    pages: u32,
+) -> Result<(), NoMemory>
     requires config { IsAccepted (D.settings desk.old) }
     requires configured { IsConfigured (D.settings desk.old) far.old }
     requires counts { (far.old.counts.sets < 2 ^ 62) × (far.old.counts.keys < 2 ^ 62) }
@@ -113,18 +123,21 @@ fn store_frames<D: Desk>(desk: &mut D, far: &mut Far, frames: &[u32]) -> Result<
     requires count { length frames.now ≡ far.old.code.k }
     requires there { All (λ f. (span : Contents) × (span_in far.old.spans f ≡ Some span))
         frames.now }
-    requires below { All (λ f. f < (D.settings desk.old).frames) frames.now }
+    requires pages { pages ≤ 4 }
+    requires long { AreOfLength far.old.spans pages frames.now }
+    requires below { All (λ f. f + pages ≤ (D.settings desk.old).frames) frames.now }
     requires rows { AreShardRows far.old }
     ensures kept { OnOk result (StoresFrames (λ es. D.run desk.old es desk.new)
-        (λ s. D.shows desk.old s) far.old far.new frames.now) }
-    ensures read { OnErr result (ReadsFrames (λ es. D.run desk.old es desk.new) frames.now) }
+        (λ s. D.shows desk.old s) far.old far.new pages frames.now) }
+    ensures read { OnErr result (ReadsSpans (λ es. D.run desk.old es desk.new) far.old.spans
+        frames.now) }
     ensures unchanged { OnErr result (far.new ≡ far.old) }
 {
     let code = far.in_force();
     let shards = choose_shards(far, code.k + code.r)?;
-    let mut rows = spare_rows(far, code.k)?;
-    load_frames(desk, frames, &mut rows);
-    let kept = keep_set(far, &shards, frames, &rows);
+    let mut rows = spare_rows(far, code.k, pages)?;
+    load_spans(desk, frames, pages, &mut rows);
+    let kept = keep_set(far, pages, &shards, frames, &rows);
     keep_rows(far, rows);
     kept
 }
@@ -152,7 +165,8 @@ fn evict_claimed<D: Desk>(
     ensures unchanged { OnErr result (far.new ≡ far.old) }
 {
     let set = next_number(far);
-    match store_frames(desk, far, frames) {
+    let pages = span_pages(far, frames[0]);
+    match store_frames(desk, far, frames, pages) {
         Ok(()) => {
             send(desk, formers);
             close_spans(far, set, frames);

@@ -1,8 +1,10 @@
-ghost use Rattle.std.specs.Prelude.{◌≡◌, ◌+◌, ◌-◌, ◌^◌, ◌<◌, ◌≤◌, false, IfOk, OnErr, OnOk, None, Some, length, slice_get};
+ghost use Rattle.std.specs.Prelude.{◌≡◌, ℕ, ◌+◌, ◌-◌, ◌*◌, ◌^◌, ◌<◌, ◌≤◌, false, IfOk, OnErr, OnOk, List, None, Some, length, slice_get};
 ghost use Rattle.cb_gf256.specs.Rows.{row_at};
 ghost use Rattle.cb_types.specs.Config.{IsAccepted};
 ghost use Rattle.cb_node.specs.NodesState.{has, held, with_row};
+ghost use Rattle.cb_world.specs.declared.event.Event.{Event};
 ghost use Rattle.cb_world.specs.declared.shown.Shown.{Shown};
+ghost use Rattle.cb_world.specs.FarState.{FarState};
 ghost use Rattle.cb_world.specs.Leaving.{LeavingState};
 ghost use Rattle.cb_world.specs.World.{IsConfigured};
 ghost use Rattle.cb_world.specs.Still.{IsStill};
@@ -10,17 +12,18 @@ ghost use Rattle.cb_world.specs.Sound.{Sound};
 ghost use Rattle.cb_world.specs.Performs.{Performs};
 ghost use Rattle.cb_evict.specs.ShipRule.{ReadsLeaving, ShipEffect, ShipRule, with_noted, with_shard_at};
 ghost use Rattle.cb_evict.specs.declared.next_put.NextPut.TheVariants as next;
+ghost use Rattle.cb_evict.specs.Loading.{pages_in};
 ghost use Rattle.cb_evict.specs.Shipping.{IsNextPut, PutsNothing, PutsRow, Waits};
 
-use crate::loading::load_frame;
+use crate::loading::load_span;
 use crate::next_put::{NextPut, next_put};
 use cb_member::Shard;
 use cb_node::Nodes;
 use cb_types::{NoMemory, Reply};
 use cb_world::{Desk, Far, Leaving, put_row};
 
-/// How many bytes a row has.
-const ROW_BYTES: usize = 4096;
+/// How many bytes a page has.
+const PAGE: usize = 4096;
 
 /// Gives the position of the batch its shard.
 fn set_shard(batch: &mut Leaving, position: u32, shard: Shard)
@@ -41,6 +44,16 @@ fn note_shard(far: &mut Far, position: u32, shard: Shard)
     far.counts.keys += 1;
     if let Some(batch) = &mut far.leaving {
         set_shard(batch, position, shard);
+    }
+}
+
+/// The pages of each span of the batch that is leaving, and 0 where none is.
+fn batch_pages(far: &Far) -> u32
+    ensures { (batch : LeavingState) → far.now.leaving ≡ Some batch → result ≡ batch.pages }
+{
+    match &far.leaving {
+        Some(batch) => batch.pages,
+        None => 0,
     }
 }
 
@@ -101,7 +114,7 @@ fn ship_parity(far: &mut Far, position: u32, shard: Shard) -> Result<(), NoMemor
     Ok(())
 }
 
-/// Reads the words of the frame at a position of the batch that is leaving into a row, and puts
+/// Reads the words of the span at a position of the batch that is leaving into a row, and puts
 /// that under the shard, which the position has then. The row is allocated before all else.
 fn ship_data<D: Desk>(
     desk: &mut D,
@@ -111,7 +124,10 @@ fn ship_data<D: Desk>(
     shard: Shard,
 ) -> Result<(), NoMemory>
     requires config { IsAccepted (D.settings desk.old) }
-    requires frame { frame < (D.settings desk.old).frames }
+    requires frames { (batch : LeavingState) → far.old.leaving ≡ Some batch
+        → frame + batch.pages ≤ (D.settings desk.old).frames }
+    requires spans { (batch : LeavingState) → far.old.leaving ≡ Some batch
+        → pages_in far.old.spans frame ≡ batch.pages }
     requires there { (batch : LeavingState) × (far.old.leaving ≡ Some batch)
         × (slice_get batch.frames position ≡ Some frame) × (position < length batch.shards) }
     requires keys { far.old.counts.keys < 2 ^ 62 }
@@ -124,8 +140,9 @@ fn ship_data<D: Desk>(
     ensures err { OnErr result (PutsNothing (λ es. D.run desk.old es desk.new) far.old) }
     ensures unchanged { OnErr result (far.new ≡ far.old) }
 {
-    let mut row = vec![in far.alloc; 0; ROW_BYTES]?;
-    load_frame(desk, frame, &mut row);
+    let pages = batch_pages(far);
+    let mut row = vec![in far.alloc; 0; PAGE * pages as usize]?;
+    load_span(desk, frame, pages, &mut row);
     put_row(&mut far.nodes, shard, &row)?;
     note_shard(far, position, shard);
     Ok(())

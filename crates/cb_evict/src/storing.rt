@@ -8,8 +8,10 @@ ghost use Rattle.cb_world.specs.Choices.{room_count};
 ghost use Rattle.cb_world.specs.FarState.{span_in};
 ghost use Rattle.cb_world.specs.Reserved.{position_for, set_from};
 ghost use Rattle.cb_world.specs.Stored.{all_put};
+ghost use Rattle.cb_evict.specs.Loading.{pages_in};
 ghost use Rattle.cb_evict.specs.Storing.{AreShards, CanPut, CanStore, HasRoomFor, HasSpans, KeepsSet, set_for, with_kept};
 
+use cb_class::pages;
 use cb_code::{coefficients, encode};
 use cb_member::Shard;
 use cb_node::Nodes;
@@ -87,6 +89,15 @@ fn put_rows(
     Ok(())
 }
 
+/// The pages of the span in a frame.
+pub(crate) fn span_pages(far: &Far, frame: u32) -> u32
+    requires there { (span : Contents) × (span_in far.now.spans frame ≡ Some span) }
+    ensures pages { result ≡ pages_in far.now.spans frame }
+    ensures few { result ≤ 4 }
+{
+    pages(far.spans.get(frame).unwrap().class())
+}
+
 /// Gives each data position of a set the slot table of the span in its frame.
 fn fill(set: &mut SpanSet, spans: &Spans, frames: &[u32]) -> Result<(), NoMemory>
     requires there { All (λ f. (span : Contents) × (span_in spans.now f ≡ Some span)) frames.now }
@@ -101,20 +112,21 @@ fn fill(set: &mut SpanSet, spans: &Spans, frames: &[u32]) -> Result<(), NoMemory
     Ok(())
 }
 
-/// The set of this number of the spans in these frames, each at its place.
+/// The set of this number of the spans in these frames, of so many pages each, each at its place.
 fn make_set(
     alloc: Global,
     id: u64,
+    pages: u32,
     shards: &[Shard],
     spans: &Spans,
     frames: &[u32],
 ) -> Result<SpanSet, NoMemory>
     requires spans { HasSpans spans.now shards.now frames.now }
-    ensures set { IfOk result (λ set. set ≡ set_from id shards.now spans.now frames.now) }
+    ensures set { IfOk result (λ set. set ≡ set_from id pages shards.now spans.now frames.now) }
 {
     let k = frames.len() as u32;
     let r = shards.len() as u32 - k;
-    let mut set = SpanSet::new(alloc, id, k, r, shards)?;
+    let mut set = SpanSet::new(alloc, id, k, r, pages, shards)?;
     fill(&mut set, spans, frames)?;
     Ok(set)
 }
@@ -126,12 +138,24 @@ pub(crate) fn next_number(far: &Far) -> u64
     far.counts.sets
 }
 
-/// The set of the spans in these frames, with the next set number.
-pub(crate) fn next_set(far: &Far, shards: &[Shard], frames: &[u32]) -> Result<SpanSet, NoMemory>
+/// The set of the spans in these frames, of so many pages each, with the next set number.
+pub(crate) fn next_set(
+    far: &Far,
+    pages: u32,
+    shards: &[Shard],
+    frames: &[u32],
+) -> Result<SpanSet, NoMemory>
     requires spans { HasSpans far.now.spans shards.now frames.now }
-    ensures set { IfOk result (λ set. set ≡ set_for far.now shards.now frames.now) }
+    ensures set { IfOk result (λ set. set ≡ set_for far.now pages shards.now frames.now) }
 {
-    make_set(far.alloc, next_number(far), shards, &far.spans, frames)
+    make_set(
+        far.alloc,
+        next_number(far),
+        pages,
+        shards,
+        &far.spans,
+        frames,
+    )
 }
 
 /// The parities of some data rows.
@@ -193,11 +217,12 @@ fn store_set(
     }
 }
 
-/// Codes the rows of the spans in these frames, puts data and parities at the shards' nodes and
-/// keeps the set as committed. Its number and the row keys are drawn. Where there is no memory,
-/// nothing has changed.
+/// Codes the rows of the spans in these frames, of so many pages each, puts data and parities at
+/// the shards' nodes and keeps the set as committed. Its number and the row keys are drawn. Where
+/// there is no memory, nothing has changed.
 pub(crate) fn keep_set(
     far: &mut Far,
+    pages: u32,
     shards: &[Shard],
     frames: &[u32],
     rows: &Rows,
@@ -209,10 +234,10 @@ pub(crate) fn keep_set(
     requires fits { HasRoomFor far.old.nodes shards.now }
     requires counts { (far.old.counts.sets < 2 ^ 62) × (far.old.counts.keys < 2 ^ 62) }
     ensures err { OnErr result (far.new ≡ far.old) }
-    ensures kept { OnOk result (KeepsSet far.old far.new shards.now frames.now rows.now) }
+    ensures kept { OnOk result (KeepsSet far.old far.new pages shards.now frames.now rows.now) }
 {
     let r = shards.len() - frames.len();
     let parities = make_parities(far.alloc, rows, r as u32)?;
-    let set = next_set(far, shards, frames)?;
+    let set = next_set(far, pages, shards, frames)?;
     store_set(far, set, shards, rows, &parities)
 }

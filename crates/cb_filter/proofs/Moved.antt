@@ -1,15 +1,10 @@
 -- The world once an object that was here is in another slot.
-use Rattle.std.proofs.Common.{◌≡◌, ◌≢◌, ◌⊎◌, ℕ, Bool, true, false, ◌+◌, ◌*◌, ◌<◌, ◌≤◌, List, Option, Some, None, length, get_or, set, if◌then◌else◌, sym, refl, ap, ◌∙◌, subst, arith, inl, inr, length-set, get_or-set_other, get_or-set_same}
-use native.Mathlib.Decide.{ℕ_discrete}
-use Rattle.std.proofs.lemmas.Bool.{cases_order, cases_lt}
+use Rattle.std.proofs.Common.{◌≡◌, ◌≢◌, ◌⊎◌, ℕ, ◌+◌, ◌*◌, ◌<◌, ◌≤◌, List, Option, Some, None, length, get_or, set, if◌then◌else◌, sym, refl, ap, ◌∙◌, subst, arith, inl, inr, length-set, get_or-set_other, get_or-set_same}
+use Rattle.std.proofs.lemmas.Bool.{cases_lt}
 use Rattle.std.proofs.lemmas.List.{set-set, set_comm}
-use Rattle.cb_class.specs.Class.{IsClassOf}
-use Rattle.cb_frame.specs.FrameSet.{contains}
-use Rattle.cb_frame.specs.FreeFrames.{with_given}
-use Rattle.cb_frame.proofs.Laws.{contains-with_inserted, contains-with_inserted_other}
+use Rattle.cb_class.specs.Class.{IsClassOf, pages_of}
 use Rattle.cb_span.specs.declared.temp.Temp.{Temp}
 use Rattle.cb_span.specs.Contents.{Contents, with_cleared, with_placed}
-use Rattle.cb_span.proofs.Laws.{slot_in_range}
 use Rattle.cb_world.specs.declared.object.Object.{Object}
 use Rattle.cb_world.specs.declared.object.Object.TheVariants as is
 use Rattle.cb_world.specs.declared.shown.Shown.{Shown}
@@ -20,13 +15,10 @@ use Rattle.cb_world.specs.LocalSound.{HasSlot}
 use Rattle.cb_world.specs.Sound.{Sound}
 use Rattle.cb_world.specs.Placed.{Slot, IsChosen, place_in}
 use Rattle.cb_world.specs.Released.{is_last, frames_without, with_released}
-use Rattle.cb_world.proofs.Laws.{slot_inside, length_put, frame_in_range, lies, put_beside, sound_gone, IsEmptySlot, chosen_empty, chosen_class, chosen_stays, IsCountedMade, made_counted, slot_bounds, may_lie, sound_brought, with_made}
+use Rattle.cb_world.proofs.Laws.{slot_inside, slot_lies, stands_released, length_put, lies, put_beside, sound_gone, IsEmptySlot, chosen_empty, chosen_class, chosen_stays, IsCountedMade, made_counted, slot_bounds, may_lie, sound_brought, with_made}
 use Rattle.cb_filter.specs.Seats.{Seat, with_moved}
 use Rattle.cb_filter.specs.Plans.{LiesAtPlace}
 use Rattle.cb_filter.proofs.Berths.{apart_frame}
-
-some_none : (x : Contents) → Some x ≡ None → ⊥
-some_none x e = cc
 
 -- the slot of an object that is here
 pub slot_here : (far : FarState) (s : Shown) (h len place : ℕ) → Sound s far
@@ -41,18 +33,7 @@ seat_of spans h len place c = record { frame = c.frame; number = c.slot; span = 
 
 pub seat_lies : (far : FarState) (s : Shown) (h len place : ℕ) → Sound s far
     → (c : HasSlot far.spans h len place) → LiesAtPlace far place (seat_of far.spans h len place c)
-seat_lies far s h len place sound c =
-    let within = frame_in_range far.spans c.frame c.span c.there in record {
-      there = c.there;
-      at = c.at;
-      inside = slot_in_range c.span c.slot h c.named;
-      valid = sound.here.frames.valid c.frame c.span c.there;
-      within = within;
-      counted = subst (λ (n : ℕ). c.frame < n) sound.here.frames.sized within;
-      busy = λ free. some_none c.span (sym c.there
-          ∙ (sound.here.frames.free c.frame
-          (subst (λ (n : ℕ). c.frame < n) sound.here.frames.sized within)).0 free);
-    }
+seat_lies far s h len place sound c = slot_lies far h len place sound.here.frames c
 
 -- What holds where an object that is here gets another slot.
 pub record IsReadyToMove (s : Shown) (far : FarState) (h len place : ℕ) (temp : Temp) (slot : Slot)
@@ -67,9 +48,9 @@ pub record IsReadyToMove (s : Shown) (far : FarState) (h len place : ℕ) (temp 
 
 module _ (s : Shown) (far : FarState) (h len place : ℕ) (temp : Temp) (slot : Slot)
     (x : IsReadyToMove s far h len place temp slot) where
-  -- the frames are two
+  -- the spans are two
   frames_apart : x.c.frame ≢ slot.frame
-  frames_apart = apart_frame far x.c.span.class temp slot place
+  frames_apart = apart_frame far temp slot place
       (seat_of far.spans h len place x.c) x.chosen (seat_lies far s h len place x.sound x.c) x.other
 
   frames_off : slot.frame ≢ x.c.frame
@@ -77,6 +58,11 @@ module _ (s : Shown) (far : FarState) (h len place : ℕ) (temp : Temp) (slot : 
 
   free : IsEmptySlot far slot
   free = chosen_empty far x.c.span.class temp slot x.sound.here.frames x.c.fits.in_table x.chosen
+
+  -- no frame of one is one of the other's
+  runs_apart : (x.c.frame + pages_of x.c.span.class ≤ slot.frame)
+      ⊎ (slot.frame + pages_of slot.span.class ≤ x.c.frame)
+  runs_apart = free.stands.apart x.c.frame x.c.span x.c.there frames_apart
 
   fits : IsClassOf len slot.span.class
   fits = subst (IsClassOf len) (sym (chosen_class far x.c.span.class temp slot x.chosen)) x.c.fits
@@ -87,36 +73,6 @@ module _ (s : Shown) (far : FarState) (h len place : ℕ) (temp : Temp) (slot : 
 
   abbrev again : Slot
   again = record slot { free = frames_without slot.free x.c.frame x.c.slot x.c.span }
-
-  same_flags : (b : Bool) (f : ℕ) → f ≢ slot.frame
-      → contains (if b then with_given slot.free x.c.frame else slot.free) f
-      ≡ contains (if b then with_given far.frames x.c.frame else far.frames) f
-  same_flags false f off = free.others f off
-  same_flags true f off = by (ℕ_discrete f x.c.frame)
-    where
-      within : x.c.frame < length far.frames
-      within = (seat_lies far s h len place x.sound x.c).counted
-
-      by : Dec (f ≡ x.c.frame)
-          → contains (with_given slot.free x.c.frame) f ≡ contains (with_given far.frames x.c.frame) f
-      by (yes e) = ap (contains (with_given slot.free x.c.frame)) e
-          ∙ contains-with_inserted slot.free x.c.frame (omega (arith, within, free.sized))
-          ∙ sym (ap (contains (with_given far.frames x.c.frame)) e
-          ∙ contains-with_inserted far.frames x.c.frame within)
-      by (no n) = contains-with_inserted_other slot.free x.c.frame f n ∙ free.others f off
-          ∙ sym (contains-with_inserted_other far.frames x.c.frame f n)
-
-  same_size : (b : Bool) → length (if b then with_given slot.free x.c.frame else slot.free)
-      ≡ length (if b then with_given far.frames x.c.frame else far.frames)
-  same_size false = free.sized
-  same_size true = length-set slot.free x.c.frame true ∙ free.sized
-      ∙ sym (length-set far.frames x.c.frame true)
-
-  still_busy : (b : Bool)
-      → contains (if b then with_given slot.free x.c.frame else slot.free) slot.frame ≡ false
-  still_busy false = free.busy
-  still_busy true =
-      contains-with_inserted_other slot.free x.c.frame slot.frame frames_off ∙ free.busy
 
   abbrev left_over : Option Contents
   left_over = if is_last x.c.span x.c.slot then None else Some (with_cleared x.c.span x.c.slot)
@@ -135,9 +91,8 @@ module _ (s : Shown) (far : FarState) (h len place : ℕ) (temp : Temp) (slot : 
       | inl there ↦ inl (else_same ∙ there)
       | inr none ↦ inr (else_same ∙ none.0, none.1)
     ];
-    sized = same_size (is_last x.c.span x.c.slot);
-    busy = still_busy (is_last x.c.span x.c.slot);
-    others = λ f off. same_flags (is_last x.c.span x.c.slot) f off;
+    stands = stands_released far x.c.frame x.c.slot x.c.span x.sound.here.frames x.c.there slot.frame
+        (pages_of slot.span.class) slot.free free.stands frames_apart;
   }
 
   -- both ways round the far state is one
@@ -201,7 +156,7 @@ module _ (s : Shown) (far : FarState) (h len place : ℕ) (temp : Temp) (slot : 
   vacant_at v words t count newer others memory =
       let ends = slot_bounds far slot len free fits in
       let old = slot_inside far s h len place x.sound.here x.c in (
-        omega (arith, ends.1, free.within, x.sound.here.placed.memory, memory),
+        omega (arith, ends.1, free.stands.within, x.sound.here.placed.memory, memory),
         λ p covers. let may = may_lie between (freed_at v words) again h len far.made (v + 1) p
             (sound_between v words count newer).here (empty_at v words) (range_at v) (stamp_at v)
             free_again fits counted covers in (
@@ -210,19 +165,20 @@ module _ (s : Shown) (far : FarState) (h len place : ℕ) (temp : Temp) (slot : 
                   (get_or-set_other s.objects h k (is.Empty (v + 1)) never off
                   ∙ sym (others k off)) (may.1 k off),
             ),
-        λ p mine yours. two_frames p (cases_order x.c.frame slot.frame) ends old mine yours,
+        λ p mine yours. two_runs p runs_apart ends old mine yours,
       )
     where
-      two_frames : (p : ℕ)
-          → (x.c.frame ≡ slot.frame) ⊎ ((x.c.frame < slot.frame) ⊎ (slot.frame < x.c.frame))
+      two_runs : (p : ℕ)
+          → (x.c.frame + pages_of x.c.span.class ≤ slot.frame)
+          ⊎ (slot.frame + pages_of slot.span.class ≤ x.c.frame)
           → (512 * slot.frame ≤ place_in slot)
-          × (place_in slot + words_for len ≤ 512 * slot.frame + 512)
-          → (512 * x.c.frame ≤ place) × (place + words_for len ≤ 512 * x.c.frame + 512)
+          × (place_in slot + words_for len ≤ 512 * (slot.frame + pages_of slot.span.class))
+          → (512 * x.c.frame ≤ place)
+          × (place + words_for len ≤ 512 * (x.c.frame + pages_of x.c.span.class))
           → Covers (place_in slot) len p → Covers place len p → ⊥
-      two_frames p (inl same) ends old mine yours = frames_apart same
-      two_frames p (inr (inl less)) ends old mine yours =
+      two_runs p (inl less) ends old mine yours =
           omega (arith, less, ends.0, old.1, mine.0, yours.1)
-      two_frames p (inr (inr more)) ends old mine yours =
+      two_runs p (inr more) ends old mine yours =
           omega (arith, more, ends.1, old.0, mine.1, yours.0)
 
   -- the world stays sound where the object is in its new slot
@@ -235,8 +191,8 @@ module _ (s : Shown) (far : FarState) (h len place : ℕ) (temp : Temp) (slot : 
       subst (Sound t) same_far
       (sound_brought between (freed_at v words) t again h len far.made (v + 1)
       (sound_between v words count newer) (empty_at v words) (range_at v) free_again
-      (λ batch there leaves. chosen_stays s far x.c.span.class temp slot batch x.sound x.chosen
-      there leaves) fits counted
+      (λ batch there leaves. chosen_stays s far x.c.span.class temp slot batch x.sound
+      x.c.fits.in_table x.chosen there leaves) fits counted
       (record {
         first = first;
         objects = objects

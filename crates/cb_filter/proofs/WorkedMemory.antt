@@ -1,6 +1,8 @@
 -- Worked examples of a filter that wants memory: it needs a new span.
-use Rattle.std.proofs.Common.{◌≡◌, ℕ, zero, suc, None, Some, refl, ap, subst, arith, inl, inr}
+use Rattle.std.proofs.Common.{◌≡◌, ◌∙◌, ℕ, zero, suc, None, Some, refl, sym, ap, subst, inl, inr}
 use Rattle.cb_class.specs.declared.class.Class.{Class}
+use Rattle.cb_class.specs.Class.{pages_of}
+use Rattle.cb_frame.specs.Runs.{least_run}
 use Rattle.cb_ptr.specs.Word.{hot_of}
 use Rattle.cb_span.specs.declared.temp.Temp.TheVariants.{Cold}
 use Rattle.cb_span.specs.Contents.{Contents}
@@ -9,11 +11,28 @@ use Rattle.cb_world.specs.Looks.{IsFound}
 use Rattle.cb_world.specs.Placed.{HasRoom}
 use Rattle.cb_filter.specs.FilterRule.{NeedsMemory}
 use Rattle.cb_filter.specs.Seats.{temp_for}
-use Rattle.cb_filter.proofs.WorkedSeats.{claim, cold_span, far, full, hot_span, largest, no_frame, word}
+use Rattle.cb_filter.proofs.WorkedSeats.{claim, cold_span, far, full, full_span, hot_span, largest, no_frame, one_page, word}
 
 -- no frame is free for it
 no_frame_for_it : ¬ (NeedsMemory 0 full full claim)
-no_frame_for_it x = absurd (let l = x.needs.some_free in omega (arith, l))
+no_frame_for_it x = absurd (no_first x.needs.first
+    (sym (ap (least_run full.frames) (ap (λ (c : Class). pages_of c)
+    (sym (full_class x.seat.frame x.seat.span x.stands.there)) ∙ one_page)) ∙ x.needs.some_free))
+  where
+    no_first : (f : ℕ) → None ≡ Some f → ⊥
+    no_first f e = cc
+
+    no_span_there : (a : Contents) → None ≡ Some a → ⊥
+    no_span_there a e = cc
+
+    one_span : (a b : Contents) → Some a ≡ Some b → a ≡ b
+    one_span a b e = cc
+
+    full_class : (f : ℕ) (span : Contents) → span_in full.spans f ≡ Some span → largest ≡ span.class
+    full_class zero span e = ap (λ (s : Contents). s.class) (one_span full_span span e)
+    full_class (suc zero) span e = ap (λ (s : Contents). s.class) (one_span hot_span span e)
+    full_class (suc (suc zero)) span e = absurd (no_span_there span e)
+    full_class (suc (suc (suc f))) span e = absurd (no_span_there span e)
 
 -- the cold span has a slot for it: all spans here have one class, and the word was not hot
 same_span : (a b : Contents) → Some a ≡ Some b → a ≡ b

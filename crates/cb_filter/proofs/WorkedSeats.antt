@@ -1,6 +1,8 @@
 -- Worked examples of slots, and of what a filter answers.
-use Rattle.std.proofs.Common.{◌≡◌, ◌≢◌, ◌⊎◌, ℕ, zero, suc, ◌+◌, ◌*◌, true, false, List, [], ◌∷◌, Some, None, Contains, get_or, refl, ap, lit≤, arith, inl, inr}
+use Rattle.std.proofs.Common.{◌≡◌, ◌≢◌, ◌⊎◌, ◌∙◌, ℕ, zero, suc, ◌+◌, ◌*◌, true, false, List, [], ◌∷◌, Some, None, Contains, get_or, refl, sym, ap, lit≤, arith, inl, inr}
 use Rattle.cb_class.specs.declared.class.Class.{Class}
+use Rattle.cb_class.specs.Class.{pages_of}
+use Rattle.cb_frame.specs.Runs.{least_run}
 use Rattle.cb_ptr.specs.declared.word.State.TheVariants as state
 use Rattle.cb_types.specs.declared.config.Config.{Config}
 use Rattle.cb_types.specs.declared.reply.Reply.{Reply}
@@ -31,6 +33,11 @@ config = record {
   handles = 3;
   turns = 0;
 }
+
+-- and one page
+pub one_page : pages_of largest ≡ 1
+unfolding pages_of
+one_page = refl
 
 -- frame 0 holds a cold span with object 1, frame 1 a hot one with object 0 alone, and frame 2 is free
 abbrev pub hot_span : Contents
@@ -87,6 +94,7 @@ moved = record far {
 
 -- the object was alone in its span, which is gone
 left_alone : with_moved far seat slot 0 ≡ moved
+unfolding pages_of
 left_alone = refl
 
 -- beside another object it leaves its slot alone
@@ -133,7 +141,7 @@ in_place_with_a_change x = absurd (let z : true ≡ false =
     ap (λ (q : FarState). get_or q.frames 1 false) x.state in cc)
 
 pub gets : GetsSlot far moved Cold seat 0 slot answer.Moved
-gets = record { other = hot_cold; chosen = chosen; reply = refl; state = refl }
+gets = record { other = hot_cold; chosen = chosen; reply = refl; state = sym left_alone }
 
 gets_one_like_its_own : ¬ (GetsSlot far moved Hot seat 0 slot answer.Moved)
 gets_one_like_its_own x = x.other refl
@@ -150,10 +158,10 @@ gets_and_stays x = absurd (let z : answer.Same ≡ answer.Moved = x.reply in cc)
 
 gets_without_a_change : ¬ (GetsSlot far far Cold seat 0 slot answer.Moved)
 gets_without_a_change x = absurd (let z : false ≡ true =
-    ap (λ (q : FarState). get_or q.frames 1 false) x.state in cc)
+    ap (λ (q : FarState). get_or q.frames 1 false) (x.state ∙ left_alone) in cc)
 
 -- the cold span is full, and no frame is free
-abbrev full_span : Contents
+abbrev pub full_span : Contents
 full_span = record cold_span { slots = Some 1 ∷ Some 2 ∷ Some 3 ∷ Some 4 ∷ [] }
 
 abbrev pub full : FarState
@@ -171,7 +179,7 @@ no_room (suc (suc (suc f))) may = absurd (let z : None ≡ Some 23 = may.0 in cc
 pub no_slot : HasNoSlot 3 full full Cold seat (answer.NoSlot 3)
 no_slot = record {
   other = hot_cold;
-  crammed = record { full = no_room; taken = refl };
+  crammed = record { full = no_room; taken = ap (least_run (false ∷ false ∷ false ∷ [])) one_page };
   reply = refl;
   state = refl;
 }
@@ -324,7 +332,7 @@ no_memory = record {
   seat = seat;
   stands = record { there = refl; named = refl };
   other = hot_cold;
-  needs = record { full = no_room; some_free = lit≤ tt };
+  needs = record { full = no_room; first = 2; some_free = ap (least_run short.frames) one_page };
   state = refl;
 }
 

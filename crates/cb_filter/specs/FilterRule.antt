@@ -32,7 +32,8 @@ pub record IsInPlace (far new : FarState) (temp : Temp) (seat : Seat) (r : Reply
   pub reply : r ≡ answer.Same
   pub state : new ≡ far
 
--- the object's span has the other temperature, and for it there is neither a slot nor a free frame
+-- the object's span has the other temperature, and for it there is neither a slot nor a run of free
+-- frames for a new span
 pub record HasNoSlot (frames : ℕ) (far new : FarState) (temp : Temp) (seat : Seat) (r : Reply)
     : Type 0 where
   pub other : seat.span.temp ≢ temp

@@ -26,12 +26,13 @@ use cb_world::{Desk, Far, Grasp, release, try_claim};
 ///
 /// Moved, where the object's span has the other temperature: the object goes into the least empty
 /// slot of the least frame that holds a span of its class and temperature with one and is not
-/// leaving, else into a new span in the least free frame. A span whose last object goes gives its
-/// frame back. Same, where its span has its temperature. After both its word is not hot.
+/// leaving, else into a new span in the least run of free frames that it fits. A span whose last
+/// object goes gives its frames back. Same, where its span has its temperature. After both its word
+/// is not hot.
 ///
 /// Refuses with Unmade where it was never made, with NotHere where it was freed or is far, with
 /// Moving where another has claimed it, with Pinned where it has pins, and with NoSlot where there
-/// is neither a slot nor a free frame. A refusal changes nothing.
+/// is neither a slot nor such a run. A refusal changes nothing.
 pub fn filter_one<D: Desk>(desk: &mut D, far: &mut Far, h: Handle) -> Result<Reply, NoMemory>
     requires handle { h.n < (D.settings desk.old).handles }
     requires config { IsAccepted (D.settings desk.old) }

@@ -15,7 +15,7 @@ use cb_world::{Far, place_object};
 pub(crate) enum Plan {
     /// Its span has its temperature.
     Same,
-    /// There is neither a slot in a span of its temperature nor a free frame.
+    /// There is neither a slot in a span of its temperature nor a run of free frames for a new one.
     NoSlot,
     /// It has a slot in a span of its temperature too; the place of this slot.
     Move { place: u32 },
@@ -52,7 +52,10 @@ fn kind_at(far: &Far, place: u32) -> Option<Kind>
     ensures { (seat : Seat) → LiesAtPlace far.now place seat
         → result ≡ Some (record { class = seat.span.class; temp = seat.span.temp }) }
 {
-    match far.spans.get(place_frame(place)) {
+    let Some(frame) = far.spans.holder(place_frame(place)) else {
+        return None;
+    };
+    match far.spans.get(frame) {
         Some(span) => Some(Kind {
             class: span.class(),
             temp: span.temp(),

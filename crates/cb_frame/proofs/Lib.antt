@@ -1,4 +1,5 @@
 pub mod Bits
+pub mod Sets
 pub mod Laws
 pub mod Flags
 pub mod Runs

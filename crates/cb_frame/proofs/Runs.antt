@@ -7,7 +7,7 @@ use Rattle.std.proofs.lemmas.Bool.{cases_eq, cases_lt, cases_Bool, eq-eqb, ne_eq
 use Rattle.std.proofs.lemmas.List.{get_or_past, length-set}
 use Rattle.std.proofs.lemmas.List.FromFn.{length-range_with_len, get_or-range_with_len}
 use Rattle.std.proofs.lemmas.List.Quantifiers.{position-Some}
-use Rattle.std.proofs.lemmas.List.Sums.{position_or_len_is}
+use Rattle.std.proofs.lemmas.List.Sums.{fails_before_first, position_or_len_is}
 use Rattle.std.proofs.lemmas.Nat.Bits.{bit_at-zero, bit_at-lt, bit_at_and, bit_at-trailing_zeros, bit_at_cat_low, bit_at_cat_high}
 use Rattle.cb_frame.specs.Bitmap.{IsBitmap, IsLeastSet, NoneSet, bit_in, flags}
 use Rattle.cb_frame.specs.FrameSet.{contains, least}
@@ -15,7 +15,7 @@ use Rattle.cb_frame.specs.FreeFrames.{IsFreeFrame, free_count, with_given, with_
 use Rattle.cb_frame.specs.Runs.{IsLeastRun, IsRunLength, NoRun, is_run, least_run, run_in, with_run}
 use Rattle.cb_frame.proofs.Bits.{bit_at-shifted, clear_past_words}
 use Rattle.cb_frame.proofs.Flags.{flag_anywhere, length-flags, set_in_range}
-use Rattle.cb_frame.proofs.Laws.{IsFree-in_range, flag_from_taken, free_count-with_given, free_count-with_taken, least_free-None, least_free-Some}
+use Rattle.cb_frame.proofs.Sets.{IsFree-in_range, flag_from_taken, free_count-with_given, free_count-with_taken, least_free-None, least_free-Some}
 
 -- ---- bits of both of two numbers
 both_bits : (a b : ℕ) → a < 2 → b < 2 → nat_eq (min a b) 1 ≡ (nat_eq a 1 && nat_eq b 1)
@@ -384,3 +384,50 @@ least_run-one frames = by (least frames) refl
         let first = least_free-Some frames f e in
         least_run-is frames 1 f (IsFree-in_range frames f first.0) (one_frame frames f ∙ first.0)
         (λ g below. one_frame frames g ∙ flag_from_taken frames g (first.1 g below))
+
+-- ---- the least run, frame by frame
+-- the frames of the least run are free, and there
+pub least_run-Some : (frames : List Bool) (pages f : ℕ) → least_run frames pages ≡ Some f
+    → 1 ≤ pages → (f + pages ≤ length frames)
+    × ((g : ℕ) → f ≤ g → g < f + pages → IsFreeFrame frames g)
+least_run-Some frames pages f found some =
+    let run = least_run-some frames pages f found in
+    let free : (g : ℕ) → f ≤ g → g < f + pages → IsFreeFrame frames g =
+    λ g from to. subst (IsFreeFrame frames) (let e : f + (g - f) ≡ g = omega (arith, from) in e)
+        (is_run_has frames f pages (g - f) run (omega (arith, from, to))) in
+    let last = IsFree-in_range frames (f + (pages - 1)) (free (f + (pages - 1)) (omega arith)
+    (omega (arith, some))) in
+    (omega (arith, last, some), free)
+
+-- frames that are all free are a run
+pub run_of_free : (frames : List Bool) (f n : ℕ)
+    → ((g : ℕ) → f ≤ g → g < f + n → IsFreeFrame frames g) → is_run frames f n ≡ true
+run_of_free frames f zero free = refl
+run_of_free frames f (suc n) free =
+    ap (λ b. b && contains frames (f + n))
+    (run_of_free frames f n (λ g from to. free g from (omega (arith, to))))
+    ∙ free (f + n) (omega arith) (omega arith)
+
+-- where there is no least run, none begins anywhere
+pub least_run-None : (frames : List Bool) (pages : ℕ) → least_run frames pages ≡ None → 1 ≤ pages
+    → (f : ℕ) → is_run frames f pages ≡ false
+least_run-None frames pages none some f = elim (cases_Bool (is_run frames f pages)) [
+  | inl run ↦
+      let n = length frames in
+      let len = length-range_with_len 0 n in
+      let p : ℕ → Bool = λ g. is_run frames g pages in
+      let first : IsFreeFrame frames f = subst (IsFreeFrame frames)
+      (let e : f + 0 ≡ f = omega arith in e) (is_run_has frames f pages 0 run some) in
+      let within : f < n = IsFree-in_range frames f first in
+      let place = position_or_len p (range_with_len 0 n) in
+      absurd (elim (cases_lt place (length (range_with_len 0 n))) [
+        | inl there ↦
+            let found : least_run frames pages ≡ Some place =
+            rw (lt-ltb place (length (range_with_len 0 n)) there) refl in cc
+        | inr past ↦
+            let clear = fails_before_first p (range_with_len 0 n) f 0
+            (omega (arith, past, within, len)) in
+            false≢true (sym clear ∙ ap p (in_order n f 0 within) ∙ run)
+      ])
+  | inr clear ↦ clear
+]

@@ -1,5 +1,5 @@
 -- The patched parities of an order for two sets are those of the merged word.
-use Rattle.std.proofs.Common.{◌≡◌, ℕ, zero, suc, ◌+◌, ◌<◌, ◌≤◌, Bool, true, false, cond, nat_eq, All, List, [], ◌∷◌, length, take, get_or, refl, sym, ap, ap₂, ◌∙◌, arith, ext_get_or}
+use Rattle.std.proofs.Common.{◌≡◌, ℕ, zero, suc, ◌+◌, ◌*◌, ◌<◌, ◌≤◌, Bool, true, false, cond, nat_eq, All, List, [], ◌∷◌, length, take, get_or, refl, sym, ap, ap₂, ◌∙◌, arith, ext_get_or}
 use Rattle.std.specs.List.{AllPairs}
 use Rattle.std.proofs.lemmas.Bool.{eqb-true}
 use Rattle.std.proofs.lemmas.List.{take_all}
@@ -47,13 +47,13 @@ are_taken k (i ∷ xs) pairs below = (
 )
 
 -- ---- the bytes of a parity to which the first positions are added
-pub wide_row : (k r : ℕ) (rows : List (List ℕ)) (p : ℕ) → IsSpanWord k r rows → p < k + r
-    → length (row_at rows p) ≡ 4096
-wide_row k r rows p x l =
+pub wide_row : (pages k r : ℕ) (rows : List (List ℕ)) (p : ℕ) → IsSpanWord pages k r rows
+    → p < k + r → length (row_at rows p) ≡ 4096 * pages
+wide_row pages k r rows p x l =
     x.is_word.equal_lengths p [] (let n = x.is_word.count in omega (arith, n, l)) ∙ x.wide
 
-module _ (table : List (List ℕ)) (order : DeltaOrder) (is : IsOrder order)
-    (wa wb : List (List ℕ)) (x : IsOfWords order wa wb) (j : ℕ) (within : j < order.r) where
+module _ (table : List (List ℕ)) (order : DeltaOrder) (is : IsOrder order) (pages : ℕ)
+    (wa wb : List (List ℕ)) (x : IsOfWords order pages wa wb) (j : ℕ) (within : j < order.r) where
   abbrev factors : List ℕ
   factors = row_at table j
 
@@ -67,13 +67,13 @@ module _ (table : List (List ℕ)) (order : DeltaOrder) (is : IsOrder order)
   at n = get_or order.taken n 0
 
   record HasBytes (n : ℕ) : Type 0 where
-    pub long : length (sum_to n) ≡ 4096
+    pub long : length (sum_to n) ≡ 4096 * pages
     pub bytes : (column : ℕ) → get_or (sum_to n) column 0
         ≡ byte_at order.parities j column ⊕ added_byte table order n j column
 
   no_bytes : HasBytes 0
   no_bytes = record {
-    long = wide_row order.k order.r wa (order.k + j) x.a_word (omega (arith, within));
+    long = wide_row pages order.k order.r wa (order.k + j) x.a_word (omega (arith, within));
     bytes = λ column. ap (λ (row : List ℕ). get_or row column 0) (sym (x.parity_rows j within))
         ∙ sym (sum_with_zero (byte_at order.parities j column));
   }
@@ -83,13 +83,13 @@ module _ (table : List (List ℕ)) (order : DeltaOrder) (is : IsOrder order)
       let a = row_at wa (at n) in
       let b = row_at wb (at n) in
       let p : at n < order.k = is.below n 0 l in
-      let a_long : length a ≡ 4096 =
-      wide_row order.k order.r wa (at n) x.a_word (omega (arith, p)) in
-      let b_long : length b ≡ 4096 =
-      wide_row order.k order.r wb (at n) x.b_word (omega (arith, p)) in
+      let a_long : length a ≡ 4096 * pages =
+      wide_row pages order.k order.r wa (at n) x.a_word (omega (arith, p)) in
+      let b_long : length b ≡ 4096 * pages =
+      wide_row pages order.k order.r wb (at n) x.b_word (omega (arith, p)) in
       let c = get_or factors (at n) 0 in
       let even : length a ≡ length b = a_long ∙ sym b_long in
-      let delta_long : length (row_sum a b) ≡ 4096 = row_sum_length a b even ∙ a_long in
+      let delta_long : length (row_sum a b) ≡ 4096 * pages = row_sum_length a b even ∙ a_long in
       let same : length (sum_to n) ≡ length (scaled_row c (row_sum a b)) =
       h.long ∙ sym (scaled_row_length c (row_sum a b) ∙ delta_long) in
       let is_sum : sum_to (suc n) ≡ row_sum (sum_to n) (scaled_row c (row_sum a b)) =
@@ -114,7 +114,7 @@ module _ (table : List (List ℕ)) (order : DeltaOrder) (is : IsOrder order)
   have_bytes (suc n) l = more_bytes n (omega (arith, l)) (have_bytes n (omega (arith, l)))
 
   pub is_merged : AreCoefficients order.k order.r table → (rows m : List (List ℕ))
-      → ArePatched table order rows → IsMergedWord order.k order.r order.taken wa wb m
+      → ArePatched table order rows → IsMergedWord pages order.k order.r order.taken wa wb m
       → row_at rows j ≡ row_at m (order.k + j)
   is_merged coeffs rows m done merged =
       let count = length order.taken in
@@ -122,13 +122,13 @@ module _ (table : List (List ℕ)) (order : DeltaOrder) (is : IsOrder order)
       let e = done.count in
       let i = is.parity_count in
       let long : length (row_at rows j) ≡ width order = done.wide j [] (omega (arith, e, within)) in
-      let wide : width order ≡ 4096 =
+      let wide : width order ≡ 4096 * pages =
       sym (is.parities_wide j [] (omega (arith, i, within))) ∙ ap length (x.parity_rows j within)
-      ∙ wide_row order.k order.r wa (order.k + j) x.a_word (omega (arith, within)) in
+      ∙ wide_row pages order.k order.r wa (order.k + j) x.a_word (omega (arith, within)) in
       ext_get_or 0 (row_at rows j) (sum_to count) (long ∙ wide ∙ sym h.long)
       (λ column l. done.bytes j column within (omega (arith, l, long)) ∙ sym (h.bytes column))
       ∙ ap (patched factors wa wb own) (take_all count order.taken (omega arith))
-      ∙ merged_parity order.k order.r table wa wb m order.taken (record {
+      ∙ merged_parity pages order.k order.r table wa wb m order.taken (record {
         range = is.range;
         coefficients = coeffs;
         a_word = x.a_word;
@@ -139,5 +139,5 @@ module _ (table : List (List ℕ)) (order : DeltaOrder) (is : IsOrder order)
 pub patched_merged : (table : List (List ℕ)) (order : DeltaOrder) (rows : List (List ℕ))
     → IsOrder order → AreCoefficients order.k order.r table → ArePatched table order rows
     → AreMergedParities order rows
-patched_merged table order rows is coeffs done wa wb m x merged j l =
-    is_merged table order is wa wb x j l coeffs rows m done merged
+patched_merged table order rows is coeffs done pages wa wb m x merged j l =
+    is_merged table order is pages wa wb x j l coeffs rows m done merged

@@ -36,10 +36,11 @@ if_some P Q (Some v) f x = f v x
 -- the row of a parity
 pub parity_row : (order : DeltaOrder) (rows : List (List ℕ)) (p : ℕ) (row : List ℕ)
     → AreMergedParities order rows → p < order.k + order.r → order.k ≤ p
-    → row ≡ row_at rows (p - order.k) → (wa wb m : List (List ℕ)) → IsOfWords order wa wb
-    → IsMergedWord order.k order.r order.taken wa wb m → row ≡ row_at m p
-parity_row order rows p row merged l past e wa wb m x y =
-    e ∙ merged wa wb m x y (p - order.k) (omega (arith, l, past))
+    → row ≡ row_at rows (p - order.k) → (pages : ℕ) (wa wb m : List (List ℕ))
+    → IsOfWords order pages wa wb → IsMergedWord pages order.k order.r order.taken wa wb m
+    → row ≡ row_at m p
+parity_row order rows p row merged l past e pages wa wb m x y =
+    e ∙ merged pages wa wb m x y (p - order.k) (omega (arith, l, past))
     ∙ ap (row_at m) (let s : order.k + (p - order.k) ≡ p = omega (arith, past) in s)
 
 -- ---- the place of a position
@@ -121,18 +122,18 @@ module _ (done : DoneState) (s : Shown) (begun : FarState) (first : JoiningState
         omega (arith, fits, same, wide)
 
     pub put_one : (new : FarState) (row : List ℕ)
-        → ((wa wb m : List (List ℕ)) → IsOfWords done.order wa wb
-        → IsMergedWord done.order.k done.order.r done.order.taken wa wb m → row ≡ row_at m n)
+        → ((pages : ℕ) (wa wb m : List (List ℕ)) → IsOfWords done.order pages wa wb
+        → IsMergedWord pages done.order.k done.order.r done.order.taken wa wb m → row ≡ row_at m n)
         → new ≡ with_stepped far pair n (shard_beside far at_old) row
         → ArePut done s begun first a b new (n + 1)
     put_one new row is state =
         let taken = x.made.fetched.taken_is ∙ sym x.taken.taken in
         let merged : IsMergedRow plain pair a b n row = λ wa wb m xa xb y.
-        is wa wb m (x.made.fetched.words wa wb (x.taken.a_words wa xa) (x.taken.b_words wb xb))
-        (subst (λ (t : List ℕ). IsMergedWord done.order.k done.order.r t wa wb m) (sym taken)
-        (subst (λ (k : ℕ). IsMergedWord k done.order.r pair.taken wa wb m)
+        is a.pages wa wb m (x.made.fetched.words wa wb (x.taken.a_words wa xa) (x.taken.b_words wb xb))
+        (subst (λ (t : List ℕ). IsMergedWord a.pages done.order.k done.order.r t wa wb m) (sym taken)
+        (subst (λ (k : ℕ). IsMergedWord a.pages k done.order.r pair.taken wa wb m)
         (sym x.made.fetched.k_is)
-        (subst (λ (r : ℕ). IsMergedWord (length a.positions) r pair.taken wa wb m)
+        (subst (λ (r : ℕ). IsMergedWord a.pages (length a.positions) r pair.taken wa wb m)
         (sym x.made.fetched.r_is) y))) in record {
           sound = x.sound;
           made = x.made;

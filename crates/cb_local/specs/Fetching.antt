@@ -25,8 +25,8 @@ rows_given taken r = 2 * length taken + r
 abbrev pub far_given : FarState → ℕ → FarState
 far_given far n = record far { nodes = with_rows_given far.nodes n }
 
--- the order is for the pair, with rows of spans, as many as it takes
-pub record IsBlank (pair : JoiningState) (k r : ℕ) (order : DeltaOrder) : Type 0 where
+-- the order is for the pair, with rows of spans of so many pages, as many as it takes
+pub record IsBlank (pair : JoiningState) (k r pages : ℕ) (order : DeltaOrder) : Type 0 where
   pub set_is : order.set ≡ pair.a
   pub taken_is : order.taken ≡ pair.taken
   pub k_is : order.k ≡ k
@@ -34,17 +34,18 @@ pub record IsBlank (pair : JoiningState) (k r : ℕ) (order : DeltaOrder) : Type
   pub old_count : length order.old ≡ length pair.taken
   pub new_count : length order.new ≡ length pair.taken
   pub parity_count : length order.parities ≡ r
-  pub old_wide : HaveLength 4096 order.old
-  pub new_wide : HaveLength 4096 order.new
-  pub parities_wide : HaveLength 4096 order.parities
+  pub old_wide : HaveLength (4096 * pages) order.old
+  pub new_wide : HaveLength (4096 * pages) order.new
+  pub parities_wide : HaveLength (4096 * pages) order.parities
 
 -- there is room in it for the rows of the pair, whose taken positions ascend and whose sets' rows
 -- stand
 pub record CanFetch (nodes : NodesState) (pair : JoiningState) (order : DeltaOrder) : Type 0 where
   pub code : IsOfCode nodes pair order.k order.r
   pub ascend : IsStrictlyIncreasing pair.taken
-  pub blank : IsBlank pair order.k order.r order
-  pub words : (wa wb : List (List ℕ)) × StandTogether nodes pair order.k order.r wa wb
+  pub pages : ℕ
+  pub blank : IsBlank pair order.k order.r pages order
+  pub words : (wa wb : List (List ℕ)) × StandTogether nodes pair pages order.k order.r wa wb
 
 -- the order has its rows: those of both sets' words
 pub record AreFetched (nodes : NodesState) (pair : JoiningState) (old new : DeltaOrder) : Type 0
@@ -53,8 +54,9 @@ pub record AreFetched (nodes : NodesState) (pair : JoiningState) (old new : Delt
     pub taken_is : new.taken ≡ pair.taken
     pub k_is : new.k ≡ old.k
     pub r_is : new.r ≡ old.r
-    pub words : (wa wb : List (List ℕ)) → StandTogether nodes pair old.k old.r wa wb
-        → IsOfWords new wa wb
+    pub words : (pages : ℕ) (wa wb : List (List ℕ))
+        → StandTogether nodes pair pages old.k old.r wa wb
+        → IsOfWords new pages wa wb
 
 -- the joining pair can have an order: the far part is sound, both sets stand as they did at the
 -- begin, and the taken positions ascend
@@ -73,7 +75,7 @@ pub record IsOrderFetched (far : FarState) (pair : JoiningState) (a b : SetState
   pub k_is : order.k ≡ length a.positions
   pub r_is : order.r ≡ parities a
   pub words : (wa wb : List (List ℕ)) → IsWordOf far.nodes far.members a wa
-      → IsWordOf far.nodes far.members b wb → IsOfWords order wa wb
+      → IsWordOf far.nodes far.members b wb → IsOfWords order a.pages wa wb
 
 -- and it was run: the parities are the merged set's
 pub record AreParitiesMade (far : FarState) (pair : JoiningState) (a b : SetState)

@@ -1,16 +1,19 @@
-ghost use Rattle.std.specs.Prelude.{◌≡◌, ℕ, ◌+◌, ◌^◌, ◌<◌, ◌≤◌, List, All, IfOk, OnErr, OnOk, length, slice_index};
+ghost use Rattle.std.specs.Prelude.{◌≡◌, ℕ, ◌+◌, ◌*◌, ◌^◌, ◌<◌, ◌≤◌, List, Some, All, IfOk, OnErr, OnOk, length, slice_index};
+ghost use Rattle.std.specs.List.Sorted.{IsStrictlyIncreasing};
 ghost use Rattle.cb_gf256.specs.InRange.{IsInRange};
 ghost use Rattle.cb_gf256.specs.Rows.{row_at, HaveLength};
 ghost use Rattle.cb_set.specs.SetState.{SetState, parities};
 ghost use Rattle.cb_world.specs.declared.shown.Shown.{Shown};
+ghost use Rattle.cb_world.specs.FarSound.{FarSound};
 ghost use Rattle.cb_world.specs.Fetched.{StandAt, with_rows_given};
 ghost use Rattle.cb_world.specs.Joining.{JoiningState};
+ghost use Rattle.cb_compact.specs.Deltas.{IsOfCode, StandTogether};
 ghost use Rattle.cb_compact.specs.PartStep.{IsFreshPair};
 ghost use Rattle.cb_local.specs.Fetching.{AreFetched, AreParitiesMade, CanFetch, HasOrder, IsBlank, IsOrderFetched, far_given, rows_given};
 
 use crate::order::{DeltaDone, DeltaOrder};
 use crate::running::run_delta;
-use cb_compact::{data_count, parity_count};
+use cb_compact::{data_count, page_count, parity_count};
 use cb_gf256::Rows;
 use cb_member::Shard;
 use cb_node::Nodes;
@@ -19,19 +22,23 @@ use cb_types::{NoMemory, Positions};
 use cb_world::{Far, Joining};
 use std::alloc::Global;
 
+/// The bytes of a page.
+const PAGE_BYTES: u32 = 4096;
+
 /// Gives the rows of the shards at some positions out, one after another, into the table.
 fn give_rows(nodes: &mut Nodes, shards: &[Shard], positions: &[u32], table: &mut Rows)
     requires given { nodes.old.given + length positions.now < 2 ^ 64 }
     requires few { length positions.now ≤ 20 }
     requires within { All (λ p. p < length shards.now) positions.now }
     requires count { length table.old ≡ length positions.now }
-    requires lengths { HaveLength 4096 table.old }
-    requires there { (rows : List (List ℕ)) × StandAt nodes.old shards.now rows positions.now }
+    requires there { (pages : ℕ) × HaveLength (4096 * pages) table.old
+        × ((rows : List (List ℕ)) × StandAt pages nodes.old shards.now rows positions.now) }
     ensures nodes { nodes.new ≡ with_rows_given nodes.old (length positions.now) }
     ensures count { length table.new ≡ length positions.now }
-    ensures lengths { HaveLength 4096 table.new }
-    ensures rows { (rows : List (List ℕ)) → StandAt nodes.old shards.now rows positions.now
-        → (i : ℕ) → i < length positions.now
+    ensures lengths { (pages : ℕ) → HaveLength (4096 * pages) table.old
+        → HaveLength (4096 * pages) table.new }
+    ensures rows { (pages : ℕ) (rows : List (List ℕ)) → StandAt pages nodes.old
+        shards.now rows positions.now → (i : ℕ) → i < length positions.now
         → row_at table.new i ≡ row_at rows (slice_index positions.now i) }
 {
     for (i, position) in positions.iter().enumerate() {
@@ -66,23 +73,26 @@ fn parity_positions(k: u32, r: u32) -> [u32; 4]
     positions
 }
 
-/// An order for a joining pair of sets with `k` data rows and `r` parities, whose rows are still to
-/// be fetched: all their bytes are zero.
+/// An order for a joining pair of sets with `k` data rows and `r` parities, of spans of so many
+/// pages, whose rows are still to be fetched: all their bytes are zero.
 fn blank_order(
     alloc: Global,
     pair: &Joining,
     k: u32,
     r: u32,
+    pages: u32,
 ) -> Result<DeltaOrder, cb_gf256::NoMemory>
     requires few { length pair.now.taken ≤ 20 }
     requires small { All (λ p. p < 2 ^ 8) pair.now.taken }
-    ensures { IfOk result (IsBlank pair.now k r) }
+    requires pages { pages ≤ 4 }
+    ensures { IfOk result (IsBlank pair.now k r pages) }
 {
     let taken = positions_of(&pair.taken);
     let count = pair.taken.len() as u32;
-    let parities = Rows::new(alloc, r, 4096)?;
-    let old = Rows::new(alloc, count, 4096)?;
-    let new = Rows::new(alloc, count, 4096)?;
+    let len = PAGE_BYTES * pages;
+    let parities = Rows::new(alloc, r, len)?;
+    let old = Rows::new(alloc, count, len)?;
+    let new = Rows::new(alloc, count, len)?;
     Ok(DeltaOrder {
         set: pair.a,
         taken,
@@ -120,10 +130,11 @@ fn new_order(alloc: Global, far: &Far) -> Result<DeltaOrder, NoMemory>
         × HasOrder s far.now pair a b }
     ensures { IfOk result (λ order. (pair : JoiningState) (a b : SetState)
         → IsFreshPair far.now pair a b
-        → IsBlank pair (length a.positions) (parities a) order) }
+        → IsBlank pair (length a.positions) (parities a) a.pages order) }
 {
     let pair = far.joining.as_ref().unwrap();
-    match blank_order(alloc, pair, data_count(far), parity_count(far)) {
+    let pages = page_count(far);
+    match blank_order(alloc, pair, data_count(far), parity_count(far), pages) {
         Ok(order) => Ok(order),
         Err(_) => Err(NoMemory),
     }
@@ -134,7 +145,7 @@ fn fill_order(far: &mut Far, order: &mut DeltaOrder)
     requires given { far.old.nodes.given + 36 < 2 ^ 64 }
     requires ready { (s : Shown) × (pair : JoiningState) × (a : SetState) × (b : SetState)
         × HasOrder s far.old pair a b
-        × IsBlank pair (length a.positions) (parities a) order.now }
+        × IsBlank pair (length a.positions) (parities a) a.pages order.now }
     ensures far { (pair : JoiningState) (a b : SetState) → IsFreshPair far.old pair a b
         → far.new ≡ far_given far.old (rows_given pair.taken (parities a)) }
     ensures order { (pair : JoiningState) (a b : SetState) → IsFreshPair far.old pair a b

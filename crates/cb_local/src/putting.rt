@@ -44,8 +44,8 @@ fn merged_row(done: &DeltaDone, position: u32) -> &[u8]
     requires taken { position < done.now.order.k
         → takes done.now.order.taken position ≡ true }
     requires merged { AreMergedParities done.now.order done.now.parities }
-    ensures { (wa wb m : List (List ℕ)) → IsOfWords done.now.order wa wb
-        → IsMergedWord done.now.order.k done.now.order.r done.now.order.taken wa wb m
+    ensures { (pages : ℕ) (wa wb m : List (List ℕ)) → IsOfWords done.now.order pages wa wb
+        → IsMergedWord pages done.now.order.k done.now.order.r done.now.order.taken wa wb m
         → result.now ≡ row_at m position }
 {
     let order = done.order();

@@ -54,7 +54,7 @@ const SHARDS: [Shard; 2] = [
 fn set_matches(alloc: Global, members: &Members) -> Result<bool, NoMemory>
     requires { length members.now.nodes ≡ 2 }
 {
-    let set = SpanSet::new(alloc, 5, 1, 1, &SHARDS)?;
+    let set = SpanSet::new(alloc, 5, 1, 1, 1, &SHARDS)?;
     Ok(SpanSet::matched(&set, &set, members))
 }
 

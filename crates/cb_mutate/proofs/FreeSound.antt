@@ -1,11 +1,9 @@
 -- The world after a free.
-use Rattle.std.proofs.Common.{◌≡◌, ◌≢◌, ℕ, zero, suc, Bool, false, ◌+◌, ◌<◌, List, ◌++◌, Some, None, length, set, sym, refl, ap, ◌∙◌, subst, arith, inl, inr}
+use Rattle.std.proofs.Common.{◌≡◌, ◌≢◌, ℕ, zero, suc, Bool, false, ◌+◌, ◌<◌, List, ◌++◌, length, set, sym, refl, ap, ◌∙◌, subst, arith, inl, inr}
 use Rattle.std.proofs.lemmas.List.{set-set}
 use Rattle.cb_ptr.specs.declared.word.State.{State}
 use Rattle.cb_ptr.specs.declared.word.State.TheVariants as state
 use Rattle.cb_ptr.specs.Word.{len_of, place_of, pins_of}
-use Rattle.cb_span.specs.Contents.{Contents}
-use Rattle.cb_span.proofs.Laws.{slot_in_range}
 use Rattle.cb_types.specs.declared.reply.Reply.{Reply}
 use Rattle.cb_types.specs.declared.reply.Reply.TheVariants as answer
 use Rattle.cb_world.specs.declared.object.Object.TheVariants as is
@@ -21,14 +19,11 @@ use Rattle.cb_world.specs.FarState.{FarState}
 use Rattle.cb_world.specs.LocalSound.{HasSlot}
 use Rattle.cb_world.specs.Sound.{Sound}
 use Rattle.cb_world.specs.Released.{IsSlotAt, with_released}
-use Rattle.cb_world.proofs.Laws.{length_put, claimed_from, frame_in_range, lies, IsAfterClaim, taken_before, put_beside, sound_gone}
+use Rattle.cb_world.proofs.Laws.{length_put, claimed_from, slot_lies, lies, IsAfterClaim, taken_before, put_beside, sound_gone}
 use Rattle.cb_mutate.specs.Answered.{EmptyAnswer, AnsweredAs}
 use Rattle.cb_mutate.specs.FreeRule.{FreeAs, FreeHere, FreeFar, FreeEffect, IsGone, LeavesPlace}
 use Rattle.cb_mutate.specs.FreeEnds.{with_emptied, IsEmptied, FreeEnds}
 use Rattle.cb_mutate.proofs.WriteSound.{back_well, claimed_words, absent_before, no_taken}
-
-some_none : (x : Contents) → Some x ≡ None → ⊥
-some_none x e = cc
 
 -- the slot of an object that is here
 pub slot_here : (far : FarState) (s : Shown) (h len place : ℕ) → Sound s far
@@ -39,18 +34,7 @@ slot_here far s h len place sound here =
 pub slot_at : (far : FarState) (s : Shown) (h len place : ℕ) → Sound s far
     → (c : HasSlot far.spans h len place)
     → IsSlotAt far.frames far.spans place c.frame c.slot c.span
-slot_at far s h len place sound c =
-    let within = frame_in_range far.spans c.frame c.span c.there in record {
-      there = c.there;
-      at = c.at;
-      inside = slot_in_range c.span c.slot h c.named;
-      valid = sound.here.frames.valid c.frame c.span c.there;
-      within = within;
-      counted = subst (λ (n : ℕ). c.frame < n) sound.here.frames.sized within;
-      busy = λ free. some_none c.span (sym c.there
-          ∙ (sound.here.frames.free c.frame
-          (subst (λ (n : ℕ). c.frame < n) sound.here.frames.sized within)).0 free);
-    }
+slot_at far s h len place sound c = slot_lies far h len place sound.here.frames c
 
 -- What holds after a free that began with a claim.
 pub record IsFreeDone (far new : FarState) (s t : Shown) (es : List Event) (h w : ℕ) (r : Reply)

@@ -64,7 +64,7 @@ new_at s far class slot h version len x =
       never_made = never_was s far class slot h version len x;
       first = x.first ∙ sym x.sound.here.known.first;
       stamp = x.stamp;
-      within = omega (arith, ends.1, free.within, x.sound.here.placed.memory);
+      within = omega (arith, ends.1, free.stands.within, x.sound.here.placed.memory);
       alone = λ p covers. may_lie far s slot h len (far.made + 1) 0 p x.sound.here
           (never_was s far class slot h version len x) x.range x.stamp free fits
           (subst (IsCountedMade far.made (far.made + 1)) (sym x.next) (next_counted far.made))
@@ -98,8 +98,8 @@ make_done s far new class slot h version bytes words x packed left =
           (sound_brought far s u slot h len (far.made + 1) 0 x.sound
           (never_was s far class slot h version len x) x.range
           (empty_slot s far class slot h version len x)
-          (λ batch there leaves. chosen_stays s far class Hot slot batch x.sound x.chosen there
-          leaves)
+          (λ batch there leaves. chosen_stays s far class Hot slot batch x.sound
+          x.fits.in_table x.chosen there leaves)
           (class_fits s far class slot h version len x)
           (subst (IsCountedMade far.made (far.made + 1)) (sym x.next) (next_counted far.made))
           (record {

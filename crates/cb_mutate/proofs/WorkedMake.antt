@@ -1,7 +1,8 @@
 -- Worked examples of the words of bytes, and of makes.
-use Rattle.std.proofs.Common.{◌≡◌, ℕ, zero, suc, ◌+◌, ◌*◌, ◌<◌, ◌≤◌, true, false, List, [], ◌∷◌, Some, None, length, get_or, ◌^◌, refl, ap, lit<, lit≤, arith, inr}
+use Rattle.std.proofs.Common.{◌≡◌, ℕ, zero, suc, ◌+◌, ◌*◌, ◌<◌, ◌≤◌, true, false, List, [], ◌∷◌, Some, None, length, get_or, ◌^◌, refl, ap, subst, lit<, lit≤, arith, inr}
 use Rattle.cb_class.specs.declared.class.Class.{Class}
-use Rattle.cb_class.specs.Class.{IsClassOf, bytes_of, words_of}
+use Rattle.cb_class.specs.Class.{IsClassOf, bytes_of, pages_of, words_of}
+use Rattle.cb_class.proofs.Laws.{IsClassOf-unique}
 use Rattle.cb_types.specs.declared.config.Config.{Config}
 use Rattle.cb_span.specs.declared.temp.Temp.TheVariants.{Hot}
 use Rattle.cb_span.specs.Contents.{new_span}
@@ -11,7 +12,7 @@ use Rattle.cb_world.specs.declared.event.Event.TheVariants.{Stored, Stamped, Set
 use Rattle.cb_world.specs.Memory.{bytes_in, memory_byte}
 use Rattle.cb_world.specs.Empty.{empty_far}
 use Rattle.cb_world.specs.FarState.{FarState}
-use Rattle.cb_world.specs.Placed.{Slot, HasRoom}
+use Rattle.cb_world.specs.Placed.{Slot, HasRoom, IsCrammed}
 use Rattle.cb_mutate.specs.WordsOf.{AreWordsOf}
 use Rattle.cb_mutate.specs.MakeRule.{IsMake, MakeRule, make_events, with_made}
 
@@ -105,7 +106,7 @@ abbrev done : List Event
 done = make_events 2 1 3 512 (197121 ∷ [])
 
 make : IsMake 2 1 three far (with_made far slot) done
-unfolding bytes_of words_of
+unfolding bytes_of words_of pages_of
 make = record {
   class = smallest;
   slot = slot;
@@ -157,5 +158,10 @@ refused_with_a_store x = absurd (let z : 1 ≡ 0 = ap (λ (es : List Event). len
     omega (arith, z))
 
 -- no frame where a frame is free
+not_crammed : ¬ (IsCrammed far smallest Hot)
+unfolding pages_of
+not_crammed x = absurd (let z : Some 1 ≡ None = x.taken in cc)
+
 no_frame : ¬ (MakeRule 3 three far far answer.NoFrame [])
-no_frame x = absurd (let z : Some 1 ≡ None = x.1.2.taken in cc)
+no_frame x = not_crammed (subst (λ (c : Class). IsCrammed far c Hot)
+    (IsClassOf-unique 3 x.1.0 smallest x.1.1 three_fit) x.1.2)

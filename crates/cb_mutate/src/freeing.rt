@@ -28,7 +28,7 @@ use cb_types::{Handle, NoMemory, Reply};
 use cb_world::{Desk, Far, Grasp, release, remove_far, try_claim};
 
 /// Frees an object. Where it is in local memory its slot is empty, and a span whose last object
-/// goes gives its frame back at once. Where it is far no row is read: its slot in its span-set is
+/// goes gives its frames back at once. Where it is far no row is read: its slot in its span-set is
 /// empty, a position without objects is dead, and a set with no live position goes with all its
 /// rows. Takes no memory, and never answers that there is none.
 ///

@@ -30,7 +30,7 @@ second = filled_position (Some 1 ∷ [])
 
 -- and a parity, by the nodes of their shards
 abbrev pub on : ℕ → ℕ → ℕ → SetState
-on a b c = set_of 1 (at a 7 ∷ at b 8 ∷ at c 9 ∷ []) (first ∷ second ∷ [])
+on a b c = set_of 1 1 (at a 7 ∷ at b 8 ∷ at c 9 ∷ []) (first ∷ second ∷ [])
 
 -- the parity is lost
 abbrev pub set : SetState

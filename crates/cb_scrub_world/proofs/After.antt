@@ -1,5 +1,5 @@
 -- The rows of a set once one of them is replaced, and that they are right then.
-use Rattle.std.proofs.Common.{◌≡◌, ◌≢◌, ℕ, ◌<◌, List, [], ◌∷◌, length, get_or, set, Option, Some, All, Result, Ok, Err, refl, sym, ap, ◌∙◌, subst, ext_get_or, arith, inl, inr}
+use Rattle.std.proofs.Common.{◌≡◌, ◌≢◌, ℕ, ◌*◌, ◌<◌, List, [], ◌∷◌, length, get_or, set, Option, Some, All, Result, Ok, Err, refl, sym, ap, ◌∙◌, subst, ext_get_or, arith, inl, inr}
 use Rattle.std.specs.List.{slice_get}
 use Rattle.std.specs.Option.{unwrap_or}
 use Rattle.std.proofs.lemmas.Bool.{cases_eq, cases_lt}
@@ -62,7 +62,7 @@ rows_after nodes shards p shard row distinct within at =
     ])
 
 -- the rows are right afterwards
-pub made_right : (old new : NodesState) (set : SetState) (found : Found) → HaveParities (parities set) (rows_of old set.shards) → OnDistinctNodes set.shards → All (RowStands old) set.shards
+pub made_right : (old new : NodesState) (set : SetState) (found : Found) → HaveParities (parities set) (rows_of old set.shards) → OnDistinctNodes set.shards → All (RowStands old set.pages) set.shards
     → IsFinding (parities set) (rows_of old set.shards) found → LeavesNodes old set found new → MakesRight (parities set) (rows_of old set.shards) found (rows_of new set.shards)
 made_right old new set Clean h distinct standing is leaves =
     let same : rows_of new set.shards ≡ rows_of old set.shards = ap (λ (n : NodesState). rows_of n set.shards) leaves in
@@ -82,15 +82,15 @@ made_right old new set (Many power column sum) h distinct standing is leaves =
 -- ---- what a set's rows are
 
 -- a row that is put in place of another has its length
-pub mended_wide : (nodes : NodesState) (shards : List Shard) (p : ℕ) (rows : List (List ℕ)) → rows ≡ rows_of nodes shards → All (RowStands nodes) shards → p < length shards
-    → length (row_at (mended rows p) p) ≡ 4096
+pub mended_wide : {pages : ℕ} (nodes : NodesState) (shards : List Shard) (p : ℕ) (rows : List (List ℕ)) → rows ≡ rows_of nodes shards → All (RowStands nodes pages) shards → p < length shards
+    → length (row_at (mended rows p) p) ≡ 4096 * pages
 mended_wide nodes [] p rows is standing within = absurd (omega (arith, within))
-mended_wide nodes (s ∷ shards) p rows is standing within =
+mended_wide {pages = pages} nodes (s ∷ shards) p rows is standing within =
     let inside : p < length rows = omega (arith, within, ap length is, count_of nodes (s ∷ shards)) in
-    let first : length (row_at rows 0) ≡ 4096 = ap (λ (x : List (List ℕ)). length (row_at x 0)) is ∙ (stands_at nodes (s ∷ shards) 0 s standing refl).wide in
+    let first : length (row_at rows 0) ≡ 4096 * pages = ap (λ (x : List (List ℕ)). length (row_at x 0)) is ∙ (stands_at nodes (s ∷ shards) 0 s standing refl).wide in
     ap length (mended_row rows p inside) ∙ length-others rows p ∙ first
 
-pub made_right_if_ok : (old new : NodesState) (set : SetState) (result : Result Found NoMemory) → IsInRange (length set.positions) (parities set) → OnDistinctNodes set.shards → All (RowStands old) set.shards
+pub made_right_if_ok : (old new : NodesState) (set : SetState) (result : Result Found NoMemory) → IsInRange (length set.positions) (parities set) → OnDistinctNodes set.shards → All (RowStands old set.pages) set.shards
     → IfOk result (λ found. IsExamined old set found new) → OnOk result (AreRows (rows_of old set.shards)) → IfOk result (λ found. MakesRight (parities set) (rows_of old set.shards) found (rows_of new set.shards))
 made_right_if_ok old new set (Ok found) range distinct standing examined are =
     let count = count_of old set.shards in

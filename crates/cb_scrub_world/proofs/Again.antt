@@ -23,14 +23,15 @@ use Rattle.cb_scrub_world.proofs.Given.{stands_at}
 use Rattle.cb_scrub_world.proofs.Scrubs.{all_stand}
 use Rattle.cb_scrub_world.proofs.SoundScrub.{stands_with}
 
-pub given_stands : (old : NodesState) (n : ℕ) (shard : Shard) → RowStands old shard → RowStands (with_rows_given old n) shard
+pub given_stands : {pages : ℕ} (old : NodesState) (n : ℕ) (shard : Shard) → RowStands old pages shard → RowStands (with_rows_given old n) pages shard
 given_stands old n shard stands = record { node = stands.node; there = stands.there; wide = stands.wide }
 
 -- each row still stands behind an examination
-leaves_stand : (old new : NodesState) (set : SetState) (found : Found) (shard : Shard) → All (RowStands old) set.shards → LeavesNodes old set found new → RowStands old shard → RowStands new shard
-leaves_stand old new set Clean shard all leaves stands = subst (λ (n : NodesState). RowStands n shard) (sym leaves) (given_stands old (length set.shards) shard stands)
-leaves_stand old new set (Many power column sum) shard all leaves stands = subst (λ (n : NodesState). RowStands n shard) (sym leaves) (given_stands old (length set.shards) shard stands)
-leaves_stand old new set (One p) shard all leaves stands =
+leaves_stand : (old new : NodesState) (set : SetState) (found : Found) (pages : ℕ) (shard : Shard) → All (RowStands old set.pages) set.shards → LeavesNodes old set found new → RowStands old pages shard
+    → RowStands new pages shard
+leaves_stand old new set Clean pages shard all leaves stands = subst (λ (n : NodesState). RowStands n pages shard) (sym leaves) (given_stands old (length set.shards) shard stands)
+leaves_stand old new set (Many power column sum) pages shard all leaves stands = subst (λ (n : NodesState). RowStands n pages shard) (sym leaves) (given_stands old (length set.shards) shard stands)
+leaves_stand old new set (One p) pages shard all leaves stands =
     let given : NodesState = with_rows_given old (length set.shards) in
     let rows : List (List ℕ) = rows_of old set.shards in
     let row : List ℕ = row_of_others rows p in
@@ -39,7 +40,7 @@ leaves_stand old new set (One p) shard all leaves stands =
     let inside : p < length rows = omega (arith, within, length-map set.shards (λ (s : Shard). known_row old s.node s.key)) in
     let long : length row ≡ length (known_row given leaves.0.node leaves.0.key) =
     sym (ap length (mended_row rows p inside)) ∙ mended_wide old set.shards p rows refl all within ∙ sym mine.wide in
-    subst (λ (n : NodesState). RowStands n shard) (sym leaves.2) (stands_with given leaves.0.node leaves.0.key row shard mine.node long (given_stands old (length set.shards) shard stands))
+    subst (λ (n : NodesState). RowStands n pages shard) (sym leaves.2) (stands_with given leaves.0.node leaves.0.key row shard mine.node long (given_stands old (length set.shards) shard stands))
 
 leaves_given : (old new : NodesState) (set : SetState) (found : Found) → LeavesNodes old set found new → new.given ≡ old.given + length set.shards
 leaves_given old new set Clean leaves = ap (λ (n : NodesState). n.given) leaves
@@ -59,9 +60,10 @@ may_again after far new (Ok (Set id found)) may scrubs stays given =
           let was = may.sets i set at in
           record {
             range = was.range;
+            pages = was.pages;
             members = was.members;
             distinct = was.distinct;
-            standing = λ k d l kept. leaves_stand far.nodes new.nodes scrubs.set found (get_or set.shards k d) all scrubs.examined.leaves (was.standing k d l kept);
+            standing = λ k d l kept. leaves_stand far.nodes new.nodes scrubs.set found set.pages (get_or set.shards k d) all scrubs.examined.leaves (was.standing k d l kept);
           };
       given = given;
     })

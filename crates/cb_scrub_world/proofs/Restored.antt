@@ -45,19 +45,22 @@ use Rattle.cb_scrub_world.proofs.Scrubs.{all_stand}
 -- ---- the nodes
 
 -- a row that stands, put again, changes nothing
-put_again : (nodes : NodesState) (shard : Shard) (row : List ℕ) → RowStands nodes shard
+put_again : {pages : ℕ} (nodes : NodesState) (shard : Shard) (row : List ℕ)
+    → RowStands nodes pages shard
     → row ≡ known_row nodes shard.node shard.key → with_row nodes shard.node shard.key row ≡ nodes
 put_again nodes shard row stands same = ap (with_row nodes shard.node shard.key) same
     ∙ same_row_changes_nothing nodes shard.node shard.key stands.there
 
 -- the row that was put is known
-known_put : (nodes : NodesState) (shard : Shard) (row : List ℕ) → RowStands nodes shard
+known_put : {pages : ℕ} (nodes : NodesState) (shard : Shard) (row : List ℕ)
+    → RowStands nodes pages shard
     → known_row (with_row nodes shard.node shard.key row) shard.node shard.key ≡ row
 known_put nodes shard row stands = ap (λ (o : Option (List ℕ)). unwrap_or o [])
     (row_is_put nodes shard.node shard.key row stands.node)
 
 -- a row that was put and is as it was before changed nothing
-put_same : (nodes : NodesState) (shard : Shard) (row : List ℕ) → RowStands nodes shard
+put_same : {pages : ℕ} (nodes : NodesState) (shard : Shard) (row : List ℕ)
+    → RowStands nodes pages shard
     → known_row (with_row nodes shard.node shard.key row) shard.node shard.key
     ≡ known_row nodes shard.node shard.key
     → with_row nodes shard.node shard.key row ≡ nodes
@@ -73,8 +76,8 @@ same_row a b shards i shard same at = sym (row_of_shard a shards i shard at)
     ∙ row_of_shard b shards i shard at
 
 -- a shard's row is put, and the set's rows are as they were
-put_back : (nodes : NodesState) (shards : List Shard) (i : ℕ) (shard : Shard) (row : List ℕ)
-    → RowStands nodes shard → slice_get shards i ≡ Some shard
+put_back : {pages : ℕ} (nodes : NodesState) (shards : List Shard) (i : ℕ) (shard : Shard) (row : List ℕ)
+    → RowStands nodes pages shard → slice_get shards i ≡ Some shard
     → rows_of (with_row nodes shard.node shard.key row) shards ≡ rows_of nodes shards
     → with_row nodes shard.node shard.key row ≡ nodes
 put_back nodes shards i shard row stands at same = put_same nodes shard row stands
@@ -94,7 +97,7 @@ data_rows nodes m set shaped =
     let count = count_of nodes set.shards in omega (arith, first, count)
 
 module _ (right : NodesState) (set : SetState) (p : ℕ) (shard : Shard) (row : List ℕ)
-    (distinct : OnDistinctNodes set.shards) (stand : All (RowStands right) set.shards)
+    (distinct : OnDistinctNodes set.shards) (stand : All (RowStands right set.pages) set.shards)
     (at : slice_get set.shards p ≡ Some shard) where
   abbrev spoilt : NodesState
   spoilt = with_row right shard.node shard.key row
@@ -103,7 +106,7 @@ module _ (right : NodesState) (set : SetState) (p : ℕ) (shard : Shard) (row : 
   abbrev AreAsBefore : NodesState → Type 0
   AreAsBefore nodes = rows_of nodes set.shards ≡ rows_of right set.shards
 
-  stands : RowStands right shard
+  stands : RowStands right set.pages shard
   stands = stands_at right set.shards p shard stand at
 
   -- the row that was spoilt is replaced
@@ -118,7 +121,7 @@ module _ (right : NodesState) (set : SetState) (p : ℕ) (shard : Shard) (row : 
       → slice_get set.shards q ≡ Some other → AreAsBefore (with_row spoilt other.node other.key put)
       → with_row spoilt other.node other.key put ≡ right
   replaced_there q other put off there same =
-      let mine : RowStands right other = stands_at right set.shards q other stand there in
+      let mine : RowStands right set.pages other = stands_at right set.shards q other stand there in
       let elsewhere : ((shard.node.n ≡ other.node.n) × (shard.key ≡ other.key)) → ⊥ =
       λ both. apart set.shards p q shard other distinct at there (λ e. off (sym e)) both.0 in
       let count : length spoilt.nodes ≡ length right.nodes =
@@ -239,7 +242,7 @@ module _ (s : Shown) (right : FarState) (sound : Sound s right) (id : ℕ) (set 
   word : (word : List (List ℕ)) × IsWordOf right.nodes right.members set word
   word = let worded = sound.away.sound.sets.worded id set committed in (worded.0, worded.1.word)
 
-  stand : All (RowStands right.nodes) set.shards
+  stand : All (RowStands right.nodes set.pages) set.shards
   stand =
       let counted = sound.away.sound.rows.counted in
       all_stand right.nodes right.members set

@@ -16,7 +16,7 @@ use Rattle.cb_scrub_world.specs.Scrub.{Examines, IsExamined, MayScrubSet, with_n
 use Rattle.cb_scrub_world.specs.Standing.{RowStands}
 
 -- where nothing is lost, each row stands
-pub all_stand : (nodes : NodesState) (m : Membership) (set : SetState) → MayScrubSet nodes m set → length (lost m set.shards) ≡ 0 → All (RowStands nodes) set.shards
+pub all_stand : (nodes : NodesState) (m : Membership) (set : SetState) → MayScrubSet nodes m set → length (lost m set.shards) ≡ 0 → All (RowStands nodes set.pages) set.shards
 all_stand nodes m set may none k d within =
     let whole = whole_by_count m set.shards none in
     may.standing k d within (whole_none m set.shards whole k (get_or set.shards k d) (slice_get-get_or set.shards k d within))

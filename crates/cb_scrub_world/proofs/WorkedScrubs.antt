@@ -44,14 +44,18 @@ passed_over : (sets : SetMap) (id j : ℕ) → j < id → (set_in sets j ≡ Non
 passed_over sets id j less there next = there (next.least j tt less)
 
 -- ---- a row that stands
-on_no_node : (nodes : NodesState) (shard : Shard) → length nodes.nodes ≤ shard.node.n → RowStands nodes shard → ⊥
+on_no_node : (nodes : NodesState) (shard : Shard) → length nodes.nodes ≤ shard.node.n → RowStands nodes 1 shard → ⊥
 on_no_node nodes shard past stands = omega (arith, past, stands.node)
 
-not_there : (nodes : NodesState) (shard : Shard) → has nodes shard.node shard.key ≡ false → RowStands nodes shard → ⊥
+not_there : (nodes : NodesState) (shard : Shard) → has nodes shard.node shard.key ≡ false → RowStands nodes 1 shard → ⊥
 not_there nodes shard none stands = absurd (let e : true ≡ false = sym stands.there ∙ none in cc)
 
-too_short : (nodes : NodesState) (shard : Shard) → length (known_row nodes shard.node shard.key) ≡ 1 → RowStands nodes shard → ⊥
+too_short : (nodes : NodesState) (shard : Shard) → length (known_row nodes shard.node shard.key) ≡ 1 → RowStands nodes 1 shard → ⊥
 too_short nodes shard one_byte stands = omega (arith, one_byte, stands.wide)
+
+-- a row of one page is none of a span of two
+too_short_for_two : (nodes : NodesState) (shard : Shard) → length (known_row nodes shard.node shard.key) ≡ 4096 → RowStands nodes 2 shard → ⊥
+too_short_for_two nodes shard one_page stands = omega (arith, one_page, stands.wide)
 
 too_many_given : (far : FarState) → far.nodes.given ≡ 4611686018427387904 → MayScrub far → ⊥
 too_many_given far given may = omega (arith, given, may.given)

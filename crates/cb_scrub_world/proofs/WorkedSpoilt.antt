@@ -31,10 +31,10 @@ on n key = record { node = node n; incarnation = 0; key = key }
 
 -- a data position with two parities, and with one
 abbrev set : SetState
-set = set_of 0 (on 0 7 ∷ on 1 8 ∷ on 2 9 ∷ []) (dead_position ∷ [])
+set = set_of 0 1 (on 0 7 ∷ on 1 8 ∷ on 2 9 ∷ []) (dead_position ∷ [])
 
 abbrev thin : SetState
-thin = set_of 0 (on 0 7 ∷ on 1 8 ∷ []) (dead_position ∷ [])
+thin = set_of 0 1 (on 0 7 ∷ on 1 8 ∷ []) (dead_position ∷ [])
 
 abbrev only : SetState → SetMap
 only one = map.insert map.empty 0 (record { set = one; committed = true })

@@ -1,4 +1,4 @@
-ghost use Rattle.std.specs.Prelude.{◌≡◌, ◌+◌, ◌^◌, ◌<◌, All, length, IfOk, OnErr, OnOk};
+ghost use Rattle.std.specs.Prelude.{◌≡◌, ◌+◌, ◌^◌, ◌<◌, ◌≤◌, All, length, IfOk, OnErr, OnOk};
 ghost use Rattle.cb_set.specs.Nodes.{OnDistinctNodes};
 ghost use Rattle.cb_set.specs.SetState.{parities};
 ghost use Rattle.cb_gf256.specs.Rows.{AreRows};
@@ -14,8 +14,8 @@ use cb_set::SpanSet;
 use cb_types::NoMemory;
 use std::alloc::Global;
 
-/// A row has so many bytes, those of a span.
-const ROW_BYTES: u32 = 4096;
+/// A row has so many bytes for each page of its span.
+const PAGE_BYTES: u32 = 4096;
 
 /// Gives all rows of a set out and examines them; one wrong row is made right at its node. Takes
 /// the memory of all rows first; its want leaves the nodes as they were.
@@ -25,7 +25,8 @@ pub(crate) fn examine_set(
     set: &SpanSet,
 ) -> Result<Found, NoMemory>
     requires range { IsInRange (length set.now.positions) (parities set.now) }
-    requires stand { All (RowStands nodes.old) set.now.shards }
+    requires pages { set.now.pages ≤ 4 }
+    requires stand { All (RowStands nodes.old set.now.pages) set.now.shards }
     requires given { nodes.old.given + length set.now.shards < 2 ^ 64 }
     ensures examined { IfOk result (λ found. IsExamined nodes.old set.now found nodes.new) }
     ensures right { OnDistinctNodes set.now.shards → IfOk result (λ found.
@@ -38,13 +39,14 @@ pub(crate) fn examine_set(
 
 fn examine_rows(alloc: Global, nodes: &mut Nodes, set: &SpanSet) -> Result<Found, NoMemory>
     requires range { IsInRange (length set.now.positions) (parities set.now) }
-    requires stand { All (RowStands nodes.old) set.now.shards }
+    requires pages { set.now.pages ≤ 4 }
+    requires stand { All (RowStands nodes.old set.now.pages) set.now.shards }
     requires given { nodes.old.given + length set.now.shards < 2 ^ 64 }
     ensures examined { IfOk result (λ found. IsExamined nodes.old set.now found nodes.new) }
     ensures bytes { OnOk result (AreRows (rows_of nodes.old set.now.shards)) }
     ensures error { OnErr result (nodes.new ≡ nodes.old) }
 {
-    let Ok(mut rows) = Rows::new(alloc, set.k() + set.r(), ROW_BYTES) else {
+    let Ok(mut rows) = Rows::new(alloc, set.k() + set.r(), PAGE_BYTES * set.pages()) else {
         return Err(NoMemory);
     };
     give_all(nodes, set, &mut rows);
@@ -59,7 +61,7 @@ fn examine_rows(alloc: Global, nodes: &mut Nodes, set: &SpanSet) -> Result<Found
 fn mend_at_node(nodes: &mut Nodes, set: &SpanSet, rows: &mut Rows, position: u32)
     requires position { position < length set.now.shards }
     requires rows { rows.old ≡ rows_of nodes.old set.now.shards }
-    requires stand { All (RowStands nodes.old) set.now.shards }
+    requires stand { All (RowStands nodes.old set.now.pages) set.now.shards }
     ensures { Replaces nodes.old set.now (rows_of nodes.old set.now.shards) position nodes.new }
 {
     mend(rows, position);

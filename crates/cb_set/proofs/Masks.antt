@@ -121,12 +121,14 @@ masks_from_apart (x ∷ xs) (y ∷ ys) apart =
     let rest = masks_from_apart xs ys (λ k. apart (suc k)) in
     omega (arith, and_masks x y xs ys, first, rest)
 
--- two sets are matched exactly where both are whole and their masks have no bit in common
+-- two sets are matched exactly where both are whole and of one length and their masks have no bit in
+-- common
 pub matched_by_masks : (m : Membership) (a b : SetState) → IsWhole m a → IsWhole m b
-    → bit_and (live_mask a.positions) (live_mask b.positions) ≡ 0 → IsMatched m a b
-matched_by_masks m a b whole_a whole_b none = record {
+    → b.pages ≡ a.pages → bit_and (live_mask a.positions) (live_mask b.positions) ≡ 0 → IsMatched m a b
+matched_by_masks m a b whole_a whole_b pages none = record {
   whole_a = whole_a;
   whole_b = whole_b;
+  pages = pages;
   apart = apart_from_masks a.positions b.positions none;
 }
 

@@ -75,7 +75,7 @@ abbrev table : List (Option ℕ)
 table = None ∷ Some 9 ∷ []
 
 abbrev fresh : SetState
-fresh = fresh_set 5 1 (at 0 0 7 ∷ at 1 1 8 ∷ [])
+fresh = fresh_set 5 1 1 (at 0 0 7 ∷ at 1 1 8 ∷ [])
 
 abbrev filled : SetState
 filled = with_position fresh 0 (filled_position table)
@@ -153,6 +153,7 @@ matched : IsMatched members fresh filled
 matched = record {
   whole_a = refl;
   whole_b = refl;
+  pages = refl;
   apart = λ k p q. dead k p;
 }
   where
@@ -165,6 +166,10 @@ first_is_broken h = not_whole h.whole_a
 
 second_is_broken : ¬ (IsMatched members fresh broken)
 second_is_broken h = not_whole h.whole_b
+
+-- spans of one page do not match spans of two
+of_two_lengths : ¬ (IsMatched members fresh (record filled { pages = 2 }))
+of_two_lengths h = absurd (omega (arith, h.pages))
 
 both_live : ¬ (IsMatched members filled filled)
 both_live h = h.apart 0 refl refl

@@ -10,10 +10,11 @@ PositionsApart xs ys =
     (k : ℕ) → (slice_index_or xs k dead_position).live ≡ true
     → (slice_index_or ys k dead_position).live ≡ true → ⊥
 
--- both sets are whole, and no data position is live in both
+-- both sets are whole and of one length, and no data position is live in both
 pub record IsMatched (m : Membership) (a b : SetState) : Type 0 where
   pub whole_a : IsWhole m a
   pub whole_b : IsWhole m b
+  pub pages : b.pages ≡ a.pages
   pub apart : PositionsApart a.positions b.positions
 
 -- the live positions as a number: bit p, the lowest first, is 1 where position p is live

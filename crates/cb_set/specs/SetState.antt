@@ -10,9 +10,11 @@ pub record PositionState : Type 0 where
   pub live : Bool
   pub slots : List (Option ℕ)
 
--- The shards are those of the data positions and then those of the parities.
+-- The pages are those of each of its spans, and so of each of its rows. The shards are those of the
+-- data positions and then those of the parities.
 pub record SetState : Type 0 where
   pub id : ℕ
+  pub pages : ℕ
   pub shards : List Shard
   pub positions : List PositionState
 
@@ -29,25 +31,26 @@ shard_code =
     (λ s. (s.node.n, (s.incarnation, s.key)))
     (λ p. record { node = record { n = p.0 }; incarnation = p.1.0; key = p.1.1 }) (λ _. refl)
 
--- a set is stored as these three
+-- a set is stored as these four
 abbrev pub set_code : Coded SetState
 set_code =
-    code_by (ℕ × (List Shard × List PositionState))
-    (coded× coded_ℕ (coded× (coded_list shard_code) (coded_list position_code)))
-    (λ s. (s.id, (s.shards, s.positions)))
-    (λ p. record { id = p.0; shards = p.1.0; positions = p.1.1 }) (λ _. refl)
+    code_by (ℕ × (ℕ × (List Shard × List PositionState)))
+    (coded× coded_ℕ (coded× coded_ℕ (coded× (coded_list shard_code) (coded_list position_code))))
+    (λ s. (s.id, (s.pages, (s.shards, s.positions))))
+    (λ p. record { id = p.0; pages = p.1.0; shards = p.1.1.0; positions = p.1.1.1 }) (λ _. refl)
 
 -- the set of these parts
-abbrev pub set_of : ℕ → List Shard → List PositionState → SetState
-set_of id shards positions = record { id = id; shards = shards; positions = positions }
+abbrev pub set_of : ℕ → ℕ → List Shard → List PositionState → SetState
+set_of id pages shards positions =
+    record { id = id; pages = pages; shards = shards; positions = positions }
 
 -- a position that is not live and has no slot table
 abbrev pub dead_position : PositionState
 dead_position = record { live = false; slots = [] }
 
--- a set with these shards, all of whose k data positions are dead
-abbrev pub fresh_set : ℕ → ℕ → List Shard → SetState
-fresh_set id k shards = set_of id shards (replicate k dead_position)
+-- a set of spans of so many pages with these shards, all of whose k data positions are dead
+abbrev pub fresh_set : ℕ → ℕ → ℕ → List Shard → SetState
+fresh_set id k pages shards = set_of id pages shards (replicate k dead_position)
 
 -- the parities of a set: the positions beyond the data positions
 abbrev pub parities : SetState → ℕ

@@ -7,13 +7,16 @@ use crate::span_set::SpanSet;
 use cb_member::Members;
 
 impl SpanSet {
-    /// Whether both sets are whole and no position is live in both.
+    /// Whether both sets are whole, their spans have as many pages, and no position is live in both.
     pub fn matched(a: &SpanSet, b: &SpanSet, m: &Members) -> bool
         requires nodes_a { NodesAreMembers m.now a.now.shards }
         requires nodes_b { NodesAreMembers m.now b.now.shards }
         ensures { IsTrue result ↔ IsMatched m.now a.now b.now }
     {
-        a.whole(m) && b.whole(m) && live_apart(a.positions(), b.positions())
+        a.whole(m)
+            && b.whole(m)
+            && a.pages() == b.pages()
+            && live_apart(a.positions(), b.positions())
     }
 }
 

@@ -10,10 +10,12 @@ use std::alloc::Global;
 use std::marker::Model;
 
 /// A span-set of k data positions and r parities: a shard for each position, data first, and for
-/// each data position a live flag and the slot table of its span.
+/// each data position a live flag and the slot table of its span. All of its spans have as many
+/// pages.
 #[derive(Drop)]
 pub struct SpanSet {
     id: u64,
+    pages: u32,
     shards: Vec<Shard>,
     positions: Vec<Position>,
 }
@@ -25,23 +27,24 @@ impl Model for SpanSet {
 
     ghost coded = { set_code };
 
-    ghost view = { λ a. set_of a.id a.shards.items a.positions.items };
+    ghost view = { λ a. set_of a.id a.pages a.shards.items a.positions.items };
 
-    ghost invariant = { λ a. IsSet (set_of a.id a.shards.items a.positions.items) };
+    ghost invariant = { λ a. IsSet (set_of a.id a.pages a.shards.items a.positions.items) };
 }
 
 impl SpanSet {
-    /// A set whose data positions are all dead. Positions are numbers of 32 bits: more shards than
-    /// they number are answered as want of memory.
+    /// A set of spans of so many pages each, whose data positions are all dead. Positions are numbers
+    /// of 32 bits: more shards than they number are answered as want of memory.
     pub fn new(
         alloc: Global,
         id: u64,
         k: u32,
         r: u32,
+        pages: u32,
         shards: &[Shard],
     ) -> Result<SpanSet, NoMemory>
         requires { length shards.now ≡ k + r }
-        ensures fresh { IfOk result (λ set. set ≡ fresh_set id k shards.now) }
+        ensures fresh { IfOk result (λ set. set ≡ fresh_set id k pages shards.now) }
         ensures valid { IfOk result IsSet }
     {
         if shards.len() > u32::MAX as usize {
@@ -57,6 +60,7 @@ impl SpanSet {
         }
         Ok(SpanSet {
             id,
+            pages,
             shards,
             positions,
         })
@@ -67,6 +71,13 @@ impl SpanSet {
         ensures { result ≡ self.now.id }
     {
         self.id
+    }
+
+    /// The pages of each of its spans, and so of each of its rows.
+    pub fn pages(&self) -> u32
+        ensures { result ≡ self.now.pages }
+    {
+        self.pages
     }
 
     /// The number of data positions.

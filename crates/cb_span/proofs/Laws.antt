@@ -2,15 +2,16 @@
 use Rattle.std.proofs.Common.{Bool, ◌≡◌, ◌≢◌, ℕ, suc, ◌+◌, ◌<◌, ◌≤◌, true, false, List, [], ◌∷◌, Option, count_by, get_or, Some, None, is_none, is_some, length, set, replicate, refl, ap, sym, ◌∙◌, arith, inl, inr, if◌then◌else◌}
 use Rattle.std.specs.List.{position_or_len}
 use Rattle.std.proofs.lemmas.Bool.{cases_lt, false≢true, le-ltb, lt-ltb}
-use Rattle.std.proofs.lemmas.List.{get_or-set_other, get_or-set_same, get_or-replicate, get_or_past, length-replicate, length-set}
+use Rattle.std.proofs.lemmas.List.{get_or-set_other, get_or-set_same, get_or-replicate, get_or_past, length-replicate, length-set, set-get_or, set-set}
+use Rattle.std.proofs.lemmas.List.Folds.{sum_by-replicate}
 use Rattle.std.proofs.lemmas.List.Quantifiers.{position-Some}
 use Rattle.std.proofs.lemmas.List.Sums.{count_by-le-length, fails_before_first, passes_at_first, position_or_len_is, sum_by-cons, sum_by-set}
 use Rattle.cb_class.specs.declared.class.Class.{Class}
 use Rattle.cb_class.specs.Class.{IsClass, slots_of}
 use Rattle.cb_class.proofs.Laws.{slots_at_most}
 use Rattle.cb_span.specs.declared.temp.Temp.{Temp}
-use Rattle.cb_span.specs.Contents.{Contents, IsSpan, handle_at, least_empty, live_count, new_span, with_cleared, with_placed}
-pub use Rattle.cb_span.proofs.Places.{frame_of-slot_place, slot_of-slot_place}
+use Rattle.cb_span.specs.Contents.{Contents, IsSpan, handle_at, least_empty, live_count, new_span, span_of, with_cleared, with_placed}
+pub use Rattle.cb_span.proofs.Places.{frame_of-slot_place, frames_apart, same_slot, slot_in-slot_place}
 
 -- an option that holds nothing is None
 none_unless : (o : Option ℕ) → ((x : ℕ) → o ≡ Some x → ⊥) → o ≡ None
@@ -94,9 +95,40 @@ pub handle_at-with_cleared_other : (span : Contents) (slot other : ℕ) → othe
 handle_at-with_cleared_other span slot other apart =
     get_or-set_other span.slots slot other None None apart
 
+-- the span with these slots
+abbrev with_slots : Contents → List (Option ℕ) → Contents
+with_slots span slots = record { class = span.class; temp = span.temp; slots = slots }
+
+-- two writes to one slot, of which the last is what stood there
+write_back : (span : Contents) (slot : ℕ) (other back : Option ℕ) → handle_at span slot ≡ back
+    → with_slots span (set (set span.slots slot other) slot back) ≡ span
+write_back span slot other back was =
+    ap (with_slots span)
+    (set-set span.slots slot other back ∙ ap (set span.slots slot) (sym was)
+    ∙ set-get_or span.slots slot None)
+
+-- to clear a slot that was placed into leaves the span as it was, and so does placing back what was
+-- cleared
+pub cleared-placed : (span : Contents) (slot handle : ℕ) → handle_at span slot ≡ None
+    → with_cleared (with_placed span slot handle) slot ≡ span
+cleared-placed span slot handle empty = write_back span slot (Some handle) None empty
+
+pub placed-cleared : (span : Contents) (slot handle : ℕ) → handle_at span slot ≡ Some handle
+    → with_placed (with_cleared span slot) slot handle ≡ span
+placed-cleared span slot handle taken = write_back span slot None (Some handle) taken
+
+-- to clear an empty slot changes nothing
+pub with_cleared_empty : (span : Contents) (slot : ℕ) → handle_at span slot ≡ None
+    → with_cleared span slot ≡ span
+with_cleared_empty span slot empty =
+    ap (with_slots span) (ap (set span.slots slot) (sym empty) ∙ set-get_or span.slots slot None)
+
 -- how a slot is counted
 abbrev counted : Option ℕ → ℕ
 counted o = if is_some o then 1 else 0
+
+pub live_count-new_span : (class : Class) (temp : Temp) → live_count (new_span class temp) ≡ 0
+live_count-new_span class temp = omega (arith, sum_by-replicate counted (slots_of class) None)
 
 -- one slot more is taken
 pub live_count-with_placed : (span : Contents) (slot handle : ℕ) → slot < length span.slots
@@ -129,6 +161,15 @@ all_empty span none slot =
     none_unless (handle_at span slot)
     (λ handle taken. omega (arith, live_count-pos span slot handle taken))
 
+count_by-all_none : (slots : List (Option ℕ))
+    → ((k : ℕ) → k < length slots → get_or slots k None ≡ None) → count_by is_some slots ≡ 0
+count_by-all_none [] empty = refl
+count_by-all_none (o ∷ slots) empty =
+    let first : counted o ≡ 0 = ap counted (empty 0 (omega arith)) in
+    let rest : count_by is_some slots ≡ 0 =
+    count_by-all_none slots (λ k within. empty (suc k) (omega arith)) in
+    omega (arith, sum_by-cons counted o slots, first, rest)
+
 count_by-all_some : (slots : List (Option ℕ))
     → ((k : ℕ) → k < length slots → is_some (get_or slots k None) ≡ true)
     → count_by is_some slots ≡ length slots
@@ -139,6 +180,11 @@ count_by-all_some (o ∷ slots) taken =
     let rest : count_by is_some slots ≡ length slots =
     count_by-all_some slots (λ k within. taken (suc k) (omega arith)) in
     omega (arith, sum_by-cons counted o slots, first, rest)
+
+-- a span each of whose slots is empty has the count 0
+pub none_taken : (span : Contents) → ((slot : ℕ) → handle_at span slot ≡ None)
+    → live_count span ≡ 0
+none_taken span empty = count_by-all_none span.slots (λ k within. empty k)
 
 -- a span each of whose slots is taken has the count of its slots
 pub live_count_full : (span : Contents)
@@ -199,7 +245,20 @@ least_empty_full span full =
       | inr past ↦ rw (le-ltb place (length span.slots) past) refl
     ]
 
--- a span without an empty slot has the count of its slots
+-- a span has no least empty slot exactly where all its slots are taken
+pub all_taken : (span : Contents) → live_count span ≡ length span.slots
+    → (slot : ℕ) → slot < length span.slots → is_some (handle_at span slot) ≡ true
+all_taken span full = least_empty-None span (least_empty_full span full)
+
 pub live_count-no_empty : (span : Contents) → least_empty span ≡ None
     → live_count span ≡ length span.slots
 live_count-no_empty span none = live_count_full span (least_empty-None span none)
+
+-- the span of a span's own parts is that span
+pub span_of-parts : (span : Contents) → span_of span.class span.temp span.slots ≡ span
+span_of-parts span = refl
+
+-- a slot table of the class's length makes a span
+pub IsSpan-span_of : (class : Class) (temp : Temp) (slots : List (Option ℕ)) → IsClass class
+    → length slots ≡ slots_of class → IsSpan (span_of class temp slots)
+IsSpan-span_of class temp slots known sized = record { in_table = known; sized = sized }

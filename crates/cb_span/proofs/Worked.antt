@@ -5,7 +5,7 @@ use Rattle.cb_class.specs.Class.{bytes_of, pages_of, slots_of, words_of}
 use Rattle.cb_span.specs.declared.temp.Temp.TheVariants.{Hot, Cold}
 use Rattle.cb_span.specs.Contents.{Contents, IsSpan, handle_at, least_empty, live_count, new_span, span_of, with_cleared, with_placed}
 use Rattle.cb_span.specs.Kept.{IsKept}
-use Rattle.cb_span.specs.Places.{frame_of, slot_of, slot_place}
+use Rattle.cb_span.specs.Places.{frame_of, slot_in, slot_place}
 
 -- a span of slots of 1,024 bytes, with objects in slots 0 and 2
 abbrev largest : Class
@@ -88,10 +88,15 @@ frame = refl
 last_word_of_the_frame_before : frame_of 1535 ≡ 2
 last_word_of_the_frame_before = refl
 
-slot : slot_of small 2040 ≡ 84
+slot : slot_in small 3 2040 ≡ 84
 unfolding words_of bytes_of
 slot = refl
 
-last_word_of_the_first_slot : slot_of small 1541 ≡ 0
+last_word_of_the_first_slot : slot_in small 3 1541 ≡ 0
 unfolding words_of bytes_of
 last_word_of_the_first_slot = refl
+
+-- of a span that begins one frame earlier it is a later slot
+slot_of_an_earlier_span : slot_in small 2 2040 ≡ 169
+unfolding words_of bytes_of
+slot_of_an_earlier_span = refl

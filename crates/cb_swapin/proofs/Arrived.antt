@@ -1,12 +1,11 @@
--- A span has arrived in a free frame: the local part of the world is sound.
-use Rattle.std.proofs.Common.{◌≡◌, ◌≢◌, ◌⊎◌, ◌↔◌, ℕ, Bool, true, false, ◌*◌, ◌<◌, ◌≤◌, List, Option, Some, None, length, get_or, set, refl, sym, ap, ◌∙◌, subst, arith, inl, inr, length-set, get_or-set_same, get_or-set_other}
+-- A span has arrived in free frames: the local part of the world is sound.
+use Rattle.std.proofs.Common.{◌≡◌, ◌≢◌, ◌⊎◌, ◌↔◌, ℕ, ◌+◌, ◌*◌, ◌<◌, ◌≤◌, List, Option, Some, None, length, get_or, set, refl, sym, ap, ◌∙◌, subst, arith, inl, inr, length-set, get_or-set_same, get_or-set_other}
 use Rattle.std.proofs.lemmas.Bool.{cases_eq}
-use Rattle.cb_class.specs.Class.{IsClassOf}
-use Rattle.cb_frame.specs.FreeFrames.{IsFreeFrame, with_taken}
-use Rattle.cb_frame.specs.FrameSet.{contains}
-use Rattle.cb_frame.proofs.Laws.{contains-with_removed, contains-with_removed_other}
+use Rattle.cb_class.specs.Class.{IsClassOf, pages_of}
+use Rattle.cb_class.proofs.Laws.{pages_some}
+use Rattle.cb_frame.specs.FreeFrames.{with_run_taken}
 use Rattle.cb_set.specs.SetState.{SetState, dead_position, position_of, with_position}
-use Rattle.cb_span.specs.Contents.{Contents, IsSpan, handle_at, live_count}
+use Rattle.cb_span.specs.Contents.{Contents, handle_at, live_count}
 use Rattle.cb_span.specs.Places.{slot_place}
 use Rattle.cb_span.proofs.Laws.{live_count-pos}
 use Rattle.cb_world.specs.declared.object.Object.{Object}
@@ -18,12 +17,12 @@ use Rattle.cb_world.specs.Fetched.{with_rows_given}
 use Rattle.cb_world.specs.LeftOver.{nodes_left, sets_left}
 use Rattle.cb_world.specs.FarState.{FarState, span_in}
 use Rattle.cb_world.specs.LocalSound.{LocalSound, AreFrames, AreKnown, ArePlaced, HasSlot, IsStamped, LiesAt, NamesObject}
-use Rattle.cb_world.proofs.Laws.{live_names, length_put}
+use Rattle.cb_world.proofs.Laws.{frames_as, frames_put, length_put, live_names}
 use Rattle.cb_swapin.specs.Named.{AreCleared, NamesHandle, IsNamed}
 use Rattle.cb_swapin.specs.BroughtIn.{IsSpanBrought}
 use Rattle.cb_swapin.proofs.SlotNames.{named_or_not}
 use Rattle.cb_swapin.proofs.SlotsBrought.{far_same}
-use Rattle.cb_swapin.proofs.Waits.{CanArrive, free_frame, named_waits}
+use Rattle.cb_swapin.proofs.Waits.{CanArrive, arrives_in, named_waits}
 
 -- the spans with this one in a frame
 abbrev pub set_at : List (Option Contents) → ℕ → Contents → List (Option Contents)
@@ -34,7 +33,7 @@ pub record HasArrived (s t : Shown) (far new : FarState) (id p : ℕ) (set : Set
     (span : Contents) (row : List ℕ) : Type 0 where
   pub brought : IsSpanBrought span.slots span.class f row s t
   pub homes : AreCleared span.slots far.homes new.homes
-  pub frames : new.frames ≡ with_taken far.frames f
+  pub frames : new.frames ≡ with_run_taken far.frames f (pages_of span.class)
   pub spans : new.spans ≡ set_at far.spans f span
   pub sets : new.sets ≡ sets_left far.sets id (with_position set p dead_position)
   pub nodes : new.nodes
@@ -72,6 +71,15 @@ pub record IsBroughtIn (s t : Shown) (span : Contents) (f h : ℕ) : Type 0 wher
   pub was : object_at s h ≡ is.Far len version words
   pub here : object_at t h ≡ is.Here len (slot_place span.class f slot)
   pub fits : IsClassOf len span.class
+
+-- the first of the frames is one of local memory, and has no span
+pub free_frame : (s : Shown) (far : FarState) (id p : ℕ) (set : SetState) (f : ℕ)
+    (span : Contents) (row : List ℕ) → CanArrive s far id p set f span row
+    → (f < length far.spans) × (span_in far.spans f ≡ None)
+free_frame s far id p set f span row x =
+    let room = arrives_in s far id p set f span row x in
+    let some = pages_some span.class x.fetched.valid.in_table in
+    let within = room.stands.within in (omega (arith, some, within), room.none)
 
 pub moved : (s t : Shown) (far new : FarState) (id p : ℕ) (set : SetState) (f n : ℕ)
     (span : Contents) (row : List ℕ) → CanArrive s far id p set f span row
@@ -147,55 +155,10 @@ arrived_known s t far new id p set f n span row x y = record {
 pub arrived_frames : (s t : Shown) (far new : FarState) (id p : ℕ) (set : SetState) (f n : ℕ)
     (span : Contents) (row : List ℕ) → CanArrive s far id p set f span row
     → HasArrived s t far new id p set f n span row → AreFrames new
-arrived_frames s t far new id p set f n span row x y = record {
-  sized = ap length y.spans ∙ length-set far.spans f (Some span) ∙ sound.sized
-      ∙ sym (length-set far.frames f false) ∙ sym (ap length y.frames);
-  free = λ g below. subst (λ (l : List Bool). IsFreeFrame l g ↔ (span_in new.spans g ≡ None))
-      (sym y.frames) (subst (λ (l : List (Option Contents)).
-      IsFreeFrame (with_taken far.frames f) g ↔ (span_in l g ≡ None)) (sym y.spans)
-      (free g (let k = ap length y.frames in let l = length-set far.frames f false in
-      omega (arith, below, k, l)) (cases_eq g f)));
-  valid = λ g other there. elim (cases_eq g f) [
-    | inl same ↦ subst IsSpan (span_same span other (sym (here_span far.spans f span frame.0)
-        ∙ ap (span_in (set_at far.spans f span)) (sym same)
-        ∙ ap (λ (l : List (Option Contents)). span_in l g) (sym y.spans) ∙ there)) x.fetched.valid
-    | inr off ↦ sound.valid g other (sym (other_span far.spans f g span off)
-        ∙ ap (λ (l : List (Option Contents)). span_in l g) (sym y.spans) ∙ there)
-  ];
-  taken = λ g other there. elim (cases_eq g f) [
-    | inl same ↦ subst (λ (c : Contents). 1 ≤ live_count c)
-        (span_same span other (sym (here_span far.spans f span frame.0)
-        ∙ ap (span_in (set_at far.spans f span)) (sym same)
-        ∙ ap (λ (l : List (Option Contents)). span_in l g) (sym y.spans) ∙ there)) some
-    | inr off ↦ sound.taken g other (sym (other_span far.spans f g span off)
-        ∙ ap (λ (l : List (Option Contents)). span_in l g) (sym y.spans) ∙ there)
-  ];
-}
+arrived_frames s t far new id p set f n span row x y = frames_as _ new y.frames y.spans
+    (frames_put far f span (with_run_taken far.frames f (pages_of span.class)) x.sound.here.frames
+    (arrives_in s far id p set f span row x).stands x.fetched.valid some)
   where
-    sound : AreFrames far
-    sound = x.sound.here.frames
-
-    frame : (f < length far.spans) × (span_in far.spans f ≡ None)
-    frame = free_frame s far f x.sound.here x.least
-
-    true_false : false ≡ true → ⊥
-    true_false e = cc
-
-    free : (g : ℕ) → g < length far.frames → (g ≡ f) ⊎ (g ≢ f)
-        → IsFreeFrame (with_taken far.frames f) g ↔ (span_in (set_at far.spans f span) g ≡ None)
-    free g below (inl same) = (
-      (λ is_free. absurd (true_false (sym (ap (contains (with_taken far.frames f)) same
-          ∙ contains-with_removed far.frames f) ∙ is_free))),
-      (λ none. absurd (none_some span (sym none
-          ∙ ap (span_in (set_at far.spans f span)) same ∙ here_span far.spans f span frame.0))),
-    )
-    free g below (inr off) = (
-      (λ is_free. other_span far.spans f g span off ∙ (sound.free g below).0
-          (sym (contains-with_removed_other far.frames f g off) ∙ is_free)),
-      (λ none. contains-with_removed_other far.frames f g off
-          ∙ (sound.free g below).1 (sym (other_span far.spans f g span off) ∙ none)),
-    )
-
     some : 1 ≤ live_count span
     some = let z = live_names (position_of set p).slots
         (sym (x.sound.away.sound.sets.live id p set x.there) ∙ x.live) in
@@ -248,7 +211,7 @@ arrived_placed s t far new id p set f n span row x y = record {
     sound = x.sound.here.placed
 
     frame : (f < length far.spans) × (span_in far.spans f ≡ None)
-    frame = free_frame s far f x.sound.here x.least
+    frame = free_frame s far id p set f span row x
 
     placed : (h len place : ℕ) → LiesAt (object_at t h) len place
         → IsBroughtIn s t span f h ⊎ ((object_at t h ≡ object_at s h) × (IsNamed span.slots h → ⊥))

@@ -1,5 +1,5 @@
 -- The row of a position as it stands at its node, and the far state once it was given out.
-use Rattle.std.proofs.Common.{◌≡◌, ℕ, ◌<◌, Bool, true, false, List, [], Option, Some, length, unwrap_or, if◌then◌else◌, is_some, sym, ap, ◌∙◌, arith}
+use Rattle.std.proofs.Common.{◌≡◌, ℕ, ◌+◌, ◌*◌, ◌<◌, Bool, true, false, List, [], Option, Some, length, unwrap_or, if◌then◌else◌, is_some, sym, refl, ap, ◌∙◌, subst, arith}
 use Rattle.std.specs.Prelude.{Result, Ok, Err, OnErr}
 use Rattle.std.specs.List.{slice_get}
 use Rattle.std.specs.Option.{option_map_or}
@@ -32,7 +32,7 @@ row_is_there nodes m set p shard rows word at kept = ap is_some (word.survive p 
 pub row_is_wide : (nodes : NodesState) (m : Membership) (set : SetState) (p : ℕ) (shard : Shard)
     (rows : List (List ℕ)) → IsWordOf nodes m set rows → slice_get set.shards p ≡ Some shard
     → is_lost m shard ≡ false → p < length set.positions
-    → length (known_row nodes shard.node shard.key) ≡ 4096
+    → length (known_row nodes shard.node shard.key) ≡ 4096 * set.pages
 row_is_wide nodes m set p shard rows word at kept within =
     let n = word.code.is_word.count in
     ap length (row_of_word nodes m set p shard rows word at kept)
@@ -60,7 +60,7 @@ all_needed nodes new m set p shard at gone e =
 -- a word of the set has a row at each position of data, of the bytes of a span
 pub word_is_wide : (nodes : NodesState) (m : Membership) (set : SetState) (p : ℕ)
     (rows : List (List ℕ)) → IsWordOf nodes m set rows → p < length set.positions
-    → (p < length rows) × (length (row_at rows p) ≡ 4096)
+    → (p < length rows) × (length (row_at rows p) ≡ 4096 * set.pages)
 word_is_wide nodes m set p rows word within =
     let n = word.code.is_word.count in
     let inside : p < length rows = omega (arith, within, n) in

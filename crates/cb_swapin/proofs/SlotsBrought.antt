@@ -3,8 +3,8 @@ use Rattle.std.proofs.Common.{◌≡◌, ◌≢◌, ℕ, false, ◌+◌, ◌<◌
 use Rattle.std.proofs.lemmas.Bool.{cases_eq}
 use Rattle.std.specs.Option.{IfSome}
 use Rattle.cb_class.specs.declared.class.Class.{Class}
-use Rattle.cb_class.specs.Class.{IsClass, IsClassOf, slots_of}
-use Rattle.cb_class.proofs.Laws.{object_fits, slot_within, slots_apart}
+use Rattle.cb_class.specs.Class.{IsClass, IsClassOf, pages_of, slots_of}
+use Rattle.cb_class.proofs.Laws.{object_fits, slot_in_run, slots_apart}
 use Rattle.cb_ptr.specs.Word.{len_of}
 use Rattle.cb_span.specs.Places.{slot_place}
 use Rattle.cb_world.specs.declared.event.Event.{Event}
@@ -49,7 +49,7 @@ ready_next s t class f i h slots valid sized apart stored b named =
     let st = stored.each i h named in
     let within : i < slots_of class = let w = named_within slots i h named in
     omega (arith, w, sized) in
-    let ends = slot_within class i valid within in
+    let ends = slot_in_run class i valid within in
     let room = object_fits st.len class st.fits in
     let before = b.others h (λ slot below e. not_before slots i h apart named (slot, below, e)) in
     record {
@@ -251,12 +251,12 @@ slot_brought runs last next knows later i slots class f homes new b more after_b
 pub all_brought : (runs : List Event → Type 0) (knows : Shown → Type 0) (i : ℕ)
     (slots : List (Option ℕ)) (class : Class) (f : ℕ) → length slots ≤ i → i ≤ length slots
     → BroughtBelow runs knows i slots class f
-    → Brought runs knows (BringsSlots slots f) (AreBrought (length slots) slots class f)
+    → Brought runs knows (BringsSlots slots f (pages_of class)) (AreBrought (length slots) slots class f)
 all_brought runs knows i slots class f past most b =
     let same : i ≡ length slots = omega (arith, past, most) in record {
       events = b.events;
       ran = b.ran;
-      tells = below_brings i slots f b.events b.tells;
+      tells = below_brings i slots f (pages_of class) b.events b.tells;
       looks_first = b.looks_first;
       allowed = b.allowed;
       nothing = b.nothing;

@@ -1,8 +1,8 @@
 -- A row is stored, and then its objects are brought in.
-use Rattle.std.proofs.Common.{◌≡◌, ℕ, ◌*◌, ◌<◌, List, [], ◌∷◌, ◌++◌, length, Option, sym, ap, ◌∙◌, subst, arith}
+use Rattle.std.proofs.Common.{◌≡◌, ℕ, ◌+◌, ◌*◌, ◌/◌, ◌<◌, ◌≤◌, List, [], ◌∷◌, ◌++◌, length, Option, sym, ap, ◌∙◌, subst, arith}
 use Rattle.cb_class.specs.declared.class.Class.{Class}
-use Rattle.cb_class.specs.Class.{slots_of, words_of}
-use Rattle.cb_class.proofs.Laws.{object_fits, slot_within}
+use Rattle.cb_class.specs.Class.{pages_of, slots_of, words_of}
+use Rattle.cb_class.proofs.Laws.{object_fits, slot_in_run}
 use Rattle.cb_world.specs.declared.event.Event.{Event}
 use Rattle.cb_world.specs.declared.event.Event.TheVariants.{Looked, Stored, Settled}
 use Rattle.cb_world.specs.declared.entry.Entry.{Entry}
@@ -23,9 +23,9 @@ abbrev pub with_row_words : Shown → ℕ → List ℕ → Shown
 with_row_words s f row = record s { memory = put s.memory (512 * f) (words_in row) }
 
 pub waiting_stored : (s t : Shown) (f : ℕ) (class : Class) (slots : List (Option ℕ))
-    (row : List ℕ) → length slots ≡ slots_of class → AreWaiting s f class slots row
-    → t ≡ with_row_words s f row → AreStored t f class slots
-waiting_stored s t f class slots row sized x e =
+    (row : List ℕ) → length row ≡ 4096 * pages_of class → length slots ≡ slots_of class
+    → AreWaiting s f class slots row → t ≡ with_row_words s f row → AreStored t f class slots
+waiting_stored s t f class slots row long sized x e =
     subst (λ (q : Shown). AreStored q f class slots) (sym e) (record {
       vacant = record {
         within = (let m = length_put s.memory (512 * f) (words_in row) in
@@ -35,7 +35,7 @@ waiting_stored s t f class slots row sized x e =
       each = λ slot h named. let y = x.each slot h named in
           let below : slot < slots_of class = let w = named_within slots slot h named in
           omega (arith, w, sized) in
-          let ends = slot_within class slot y.fits.in_table below in
+          let ends = slot_in_run class slot y.fits.in_table below in
           let room = object_fits y.len class y.fits in record {
             len = y.len;
             version = y.version;
@@ -44,35 +44,36 @@ waiting_stored s t f class slots row sized x e =
             fits = y.fits;
             stamp = y.stamp;
             contents = row_put s.memory row (512 * f) (slot * words_of class) (words_for y.len)
-                x.vacant.within (omega (arith, ends, room)) ∙ sym y.contents;
+                (let w = x.vacant.within in omega (arith, w, long)) (omega (arith, ends, room, long))
+                ∙ sym y.contents;
             handle = y.handle;
             flag = y.flag;
           };
     })
 
 -- ---- lists of events
-stores_bring : (slots : List (Option ℕ)) (f : ℕ) (es fs : List Event) → StoresIn f es
-    → BringsSlots slots f fs → BringsSlots slots f (es ++ fs)
-stores_bring slots f [] fs a b = b
-stores_bring slots f (Stored p x ∷ es) fs a b = (a.0, stores_bring slots f es fs a.1 b)
-stores_bring slots f (e ∷ es) fs a b = absurd a
+stores_bring : (slots : List (Option ℕ)) (f pages : ℕ) (es fs : List Event) → StoresIn f pages es
+    → BringsSlots slots f pages fs → BringsSlots slots f pages (es ++ fs)
+stores_bring slots f pages [] fs a b = b
+stores_bring slots f pages (Stored p x ∷ es) fs a b = (a.0, stores_bring slots f pages es fs a.1 b)
+stores_bring slots f pages (e ∷ es) fs a b = absurd a
 
-brings_no_claim : (slots : List (Option ℕ)) (f : ℕ) (es : List Event) → BringsSlots slots f es
+brings_no_claim : (slots : List (Option ℕ)) (f pages : ℕ) (es : List Event) → BringsSlots slots f pages es
     → NoClaim es
-brings_no_claim slots f [] a = tt
-brings_no_claim slots f (Looked h w ∷ es) a = brings_no_claim slots f es a.1
-brings_no_claim slots f (Stored p x ∷ es) a = brings_no_claim slots f es a.1
-brings_no_claim slots f (Settled h w ∷ es) a = brings_no_claim slots f es a.1
-brings_no_claim slots f (e ∷ es) a = absurd a
+brings_no_claim slots f pages [] a = tt
+brings_no_claim slots f pages (Looked h w ∷ es) a = brings_no_claim slots f pages es a.1
+brings_no_claim slots f pages (Stored p x ∷ es) a = brings_no_claim slots f pages es a.1
+brings_no_claim slots f pages (Settled h w ∷ es) a = brings_no_claim slots f pages es a.1
+brings_no_claim slots f pages (e ∷ es) a = absurd a
 
-stores_then_first : (slots : List (Option ℕ)) (f : ℕ) (es fs : List Event) → StoresIn f es
-    → BringsSlots slots f fs → LooksFirst fs → LooksFirst (es ++ fs)
-stores_then_first slots f [] fs a b first = first
-stores_then_first slots f (Stored p x ∷ es) fs a b first = (
-  brings_no_claim slots f (es ++ fs) (stores_bring slots f es fs a.1 b),
-  stores_then_first slots f es fs a.1 b first,
+stores_then_first : (slots : List (Option ℕ)) (f pages : ℕ) (es fs : List Event) → StoresIn f pages es
+    → BringsSlots slots f pages fs → LooksFirst fs → LooksFirst (es ++ fs)
+stores_then_first slots f pages [] fs a b first = first
+stores_then_first slots f pages (Stored p x ∷ es) fs a b first = (
+  brings_no_claim slots f pages (es ++ fs) (stores_bring slots f pages es fs a.1 b),
+  stores_then_first slots f pages es fs a.1 b first,
 )
-stores_then_first slots f (e ∷ es) fs a b first = absurd a
+stores_then_first slots f pages (e ∷ es) fs a b first = absurd a
 
 -- ---- both parts
 both_parts : (s t u : Shown) (slots : List (Option ℕ)) (class : Class) (f : ℕ) (row : List ℕ)
@@ -106,16 +107,16 @@ both_parts s t u slots class f row e b =
 
 pub span_brought : (first last all : List Event → Type 0) (vacant later knows : Shown → Type 0)
     (slots : List (Option ℕ)) (class : Class) (f : ℕ) (row : List ℕ)
-    (a : Brought first vacant (StoresIn f) (λ s t. t ≡ with_row_words s f row))
-    (b : Brought last later (BringsSlots slots f) (AreBrought (length slots) slots class f))
+    (a : Brought first vacant (StoresIn f (pages_of class)) (λ s t. t ≡ with_row_words s f row))
+    (b : Brought last later (BringsSlots slots f (pages_of class)) (AreBrought (length slots) slots class f))
     → all (a.events ++ b.events) → ((s : Shown) → knows s → vacant s)
     → ((s : Shown) → knows s → later (played a.events s))
-    → Brought all knows (BringsSlots slots f) (IsSpanBrought slots class f row)
+    → Brought all knows (BringsSlots slots f (pages_of class)) (IsSpanBrought slots class f row)
 span_brought first last all vacant later knows slots class f row a b ran known after_a = record {
   events = a.events ++ b.events;
   ran = ran;
-  tells = stores_bring slots f a.events b.events a.tells b.tells;
-  looks_first = stores_then_first slots f a.events b.events a.tells b.tells b.looks_first;
+  tells = stores_bring slots f (pages_of class) a.events b.events a.tells b.tells;
+  looks_first = stores_then_first slots f (pages_of class) a.events b.events a.tells b.tells b.looks_first;
   allowed = λ s k. allowed_append a.events b.events s (a.allowed s (known s k))
       (b.allowed (played a.events s) (after_a s k));
   nothing = λ s k old. written_append a.events b.events s old

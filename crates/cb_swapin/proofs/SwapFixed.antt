@@ -2,7 +2,7 @@
 use Rattle.std.proofs.Common.{◌≡◌, ℕ, List, Option, None, Some, set as set_place, sym, ap, ◌∙◌, subst, inl, inr}
 use Rattle.std.proofs.lemmas.List.{ext_get_or}
 use Rattle.cb_class.specs.declared.class.Class.{Class}
-use Rattle.cb_class.proofs.Laws.{slots_tell_class}
+use Rattle.cb_class.proofs.Laws.{pages_and_slots_tell_class}
 use Rattle.cb_gf256.specs.Rows.{row_at}
 use Rattle.cb_set.specs.SetState.{SetState, position_of}
 use Rattle.cb_span.specs.declared.temp.Temp.TheVariants.{Hot}
@@ -68,8 +68,9 @@ module _ (x y z : Words) (far new other : FarState) (id p : ℕ) (set : SetState
       → (y ≡ z) × (new ≡ other)
   swapped_fixed f a b =
       let slots = (position_of set p).slots in
-      let classes : a.state.class ≡ b.state.class = slots_tell_class a.state.class b.state.class
-      a.state.in_table b.state.in_table (sym a.state.sized ∙ b.state.sized) in
+      let classes : a.state.class ≡ b.state.class = pages_and_slots_tell_class
+      a.state.class b.state.class a.state.in_table b.state.in_table
+      (a.state.paged ∙ sym b.state.paged) (sym a.state.sized ∙ b.state.sized) in
       let rows : row_at a.rows p ≡ row_at b.rows p = b.one_row a.rows a.word in
       let words : AreBroughtTo x y slots b.state.class f (row_at b.rows p) =
       subst (λ (l : List ℕ). AreBroughtTo x y slots b.state.class f l) rows

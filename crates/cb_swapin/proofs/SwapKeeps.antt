@@ -1,6 +1,6 @@
 -- What a step of a swap-in keeps, and what it gives out.
 use Rattle.std.proofs.Common.{◌≡◌, ℕ, false, Some, None, sym, ap, subst}
-use Rattle.cb_frame.specs.FreeFrames.{least_free}
+use Rattle.cb_frame.specs.Runs.{least_run}
 use Rattle.cb_set.specs.SetState.{SetState}
 use Rattle.cb_types.specs.declared.reply.Reply.{Reply}
 use Rattle.cb_types.specs.declared.reply.Reply.TheVariants as answer
@@ -15,7 +15,7 @@ use Rattle.cb_swapin.proofs.SwapAnswers.{by_answer, only_no_frame}
 -- a swap-in changes nothing, or brings the position into the least free frame
 pub step_cases : (P : Type 0) (x y : Words) (far new : FarState) (id p : ℕ) (r : Reply)
     → (z : IsSwapStep x y far new id p r) → ((y ≡ x) × (new ≡ far) → P)
-    → ((f : ℕ) → is_broken far.members z.set ≡ false → least_free far.frames ≡ Some f
+    → ((f : ℕ) → is_broken far.members z.set ≡ false → least_run far.frames z.set.pages ≡ Some f
     → r ≡ answer.Swapped f → IsSwapped x y far new id p z.set f → P)
     → P
 step_cases P x y far new id p r z stays comes =
@@ -27,7 +27,7 @@ step_cases P x y far new id p r z stays comes =
 -- ---- the reply
 pub step_only_no_frame : (x y : Words) (far new : FarState) (id p : ℕ)
     → (z : IsSwapStep x y far new id p answer.NoFrame)
-    → (is_broken far.members z.set ≡ false) × (least_free far.frames ≡ None)
+    → (is_broken far.members z.set ≡ false) × (least_run far.frames z.set.pages ≡ None)
 step_only_no_frame x y far new id p z = only_no_frame far id z.set (sym z.reply)
 
 -- ---- the far state

@@ -1,8 +1,9 @@
 -- What a step of a swap-in does to single objects: those of the position, which were far, are here;
 -- every other one, and so each with pins, is as it was.
-use Rattle.std.proofs.Common.{◌≡◌, ℕ, false, nat_eq, ◌+◌, ◌*◌, ◌/◌, ◌%◌, ◌^◌, ◌<◌, List, Option, Some, None, length, sym, ap, ◌∙◌, subst, arith, inl, inr, get_or-set_same}
+use Rattle.std.proofs.Common.{◌≡◌, ℕ, false, nat_eq, ◌+◌, ◌*◌, ◌/◌, ◌%◌, ◌^◌, ◌<◌, ◌≤◌, List, Option, Some, None, length, sym, ap, ◌∙◌, subst, arith, inl, inr, get_or-set_same}
 use Rattle.cb_class.specs.declared.class.Class.{Class}
-use Rattle.cb_frame.specs.FreeFrames.{least_free}
+use Rattle.cb_class.proofs.Laws.{pages_some}
+use Rattle.cb_frame.specs.Runs.{least_run}
 use Rattle.cb_ptr.specs.declared.word.State.TheVariants as pointer
 use Rattle.cb_ptr.specs.Word.{numbered_state, state_of, hot_of, len_of, place_of, pins_of}
 use Rattle.cb_ptr.proofs.Laws.{len_of-below}
@@ -28,7 +29,7 @@ use Rattle.cb_world.proofs.Laws.{KeepsPins, StepKeeps, pins_same}
 use Rattle.cb_swapin.specs.Named.{NamesHandle}
 use Rattle.cb_swapin.specs.SwapStep.{IsSwapped, IsSwapStep, brought_word}
 use Rattle.cb_swapin.proofs.SlotNames.{named_or_not}
-use Rattle.cb_swapin.proofs.Waits.{free_frame}
+use Rattle.cb_swapin.proofs.Waits.{free_run}
 use Rattle.cb_swapin.proofs.SwapAnswers.{only_swapped}
 use Rattle.cb_swapin.proofs.SwapWords.{far_within}
 use Rattle.cb_swapin.proofs.SwapKeeps.{keeps_far, step_cases}
@@ -80,8 +81,8 @@ word_reads x y far new id p set f w slot h named =
     (brought_reads (len_of (word_at x h)) (slot_place w.state.class f slot)
     (len_of-below (word_at x h)))
 
--- An object that came in: it was far and without pins, and is here at its slot of the frame, with its
--- length, not hot and without pins.
+-- An object that came in: it was far and without pins, and is here at its slot of the frame, with
+-- its length, not hot and without pins.
 pub record HasComeIn (x y : Words) (class : Class) (f slot h : ℕ) : Type 0 where
   pub was : IsFarAt x h
   pub reads : IsBroughtWord (word_at y h) (len_of (word_at x h))
@@ -89,7 +90,7 @@ pub record HasComeIn (x y : Words) (class : Class) (f slot h : ℕ) : Type 0 whe
 
 pub come_in : (x y : Words) (far new : FarState) (s t : Shown) (id p : ℕ) (set : SetState) (f : ℕ)
     → IsKnown x far s → IsKnown y new t → set_in far.sets id ≡ Some set
-    → least_free far.frames ≡ Some f → (w : IsSwapped x y far new id p set f) → (slot h : ℕ)
+    → least_run far.frames set.pages ≡ Some f → (w : IsSwapped x y far new id p set f) → (slot h : ℕ)
     → NamesHandle (position_of set p).slots slot h → HasComeIn x y w.state.class f slot h
 come_in x y far new s t id p set f k l there least w slot h named =
     let was = named_far x far s id p set k there slot h named in
@@ -99,9 +100,12 @@ come_in x y far new s t id p set f k l there least w slot h named =
     let object : object_at t h ≡ is.Here (len_of (word_at y h)) (place_of (word_at y h)) =
     here_is (object_at t h) (word_at y h) (l.shows.fit h below) reads.here in
     let span = span_of w.state.class Hot (position_of set p).slots in
+    let some : 1 ≤ set.pages =
+    (let n = pages_some w.state.class w.state.in_table in omega (arith, n, w.state.paged)) in
+    let room = (free_run far f set.pages k.sound.here.frames some least).stands.within in
     let frame : span_in new.spans f ≡ Some span =
     ap (λ (c : List (Option Contents)). span_in c f) w.state.spans
-    ∙ get_or-set_same far.spans f (Some span) None (free_frame s far f k.sound.here least).0 in
+    ∙ get_or-set_same far.spans f (Some span) None (omega (arith, some, room)) in
     let z = l.sound.here.placed.named f slot h span frame named in
     let lies : LiesAt (is.Here (len_of (word_at y h)) (place_of (word_at y h))) z.len
     (slot_place w.state.class f slot) =

@@ -1,9 +1,9 @@
--- A span has arrived in a free frame: the world is sound, and last complete contents stay.
+-- A span has arrived in free frames: the world is sound, and last complete contents stay.
 use Rattle.std.proofs.Common.{◌≡◌, ◌≢◌, ◌⊎◌, ℕ, false, ◌+◌, ◌*◌, ◌<◌, ◌≤◌, List, Option, Some, None, Contains, length, get_or, set, refl, sym, ap, ◌∙◌, subst, arith, inl, inr}
 use Rattle.std.specs.FinMap as map
 use Rattle.std.proofs.lemmas.Bool.{cases_order}
 use Rattle.std.proofs.lemmas.List.{get_or_past}
-use Rattle.cb_class.proofs.Laws.{object_fits, slot_within}
+use Rattle.cb_class.proofs.Laws.{object_fits, slot_in_run}
 use Rattle.cb_class.specs.Class.{slots_of, words_of}
 use Rattle.cb_set.specs.SetState.{SetState, dead_position, position_of, with_position}
 use Rattle.cb_set.proofs.Laws.{dead_is_rest}
@@ -33,27 +33,48 @@ use Rattle.cb_swapin.specs.Named.{NamesHandle, IsNamed}
 use Rattle.cb_swapin.proofs.Committed.{live_within}
 use Rattle.cb_swapin.proofs.SlotNames.{named_or_not, named_within}
 use Rattle.cb_swapin.proofs.SlotsBrought.{far_same}
-use Rattle.cb_swapin.proofs.Waits.{CanArrive, free_frame, home_named, named_waits}
-use Rattle.cb_swapin.proofs.Arrived.{HasArrived, arrived_here, each_moved, moved, other_span}
+use Rattle.cb_swapin.proofs.Waits.{CanArrive, home_named, named_waits}
+use Rattle.cb_swapin.proofs.Arrived.{free_frame, HasArrived, arrived_here, each_moved, moved, other_span}
 
 some_none : {X : Type 0} (o : Option X) (x : X) → o ≡ None → o ≡ Some x → ⊥
 some_none o x e f = cc
 
--- ---- words beside the frame
--- the words of another frame stay
-pub other_words : (ms : List ℕ) (f g : ℕ) (row : List ℕ) → g ≢ f → (at n : ℕ) → 512 * g ≤ at
-    → at + n ≤ 512 * g + 512
+-- ---- words beside the frames
+-- the words of other frames stay
+pub other_words : (ms : List ℕ) (f pages g more : ℕ) (row : List ℕ) → length row ≡ 4096 * pages
+    → (g + more ≤ f) ⊎ (f + pages ≤ g) → (at n : ℕ) → 512 * g ≤ at → at + n ≤ 512 * (g + more)
     → window (put ms (512 * f) (words_in row)) at n ≡ window ms at n
-other_words ms f g row off at n start end =
+other_words ms f pages g more row long off at n start end =
     window_same (put ms (512 * f) (words_in row)) ms at n (λ i low high.
-    put_else ms (512 * f) (words_in row) i (side (cases_order g f) i low high))
+    put_else ms (512 * f) (words_in row) i (side off i low high))
   where
-    side : (g ≡ f) ⊎ ((g < f) ⊎ (f < g)) → (i : ℕ) → at ≤ i → i < at + n
+    side : (g + more ≤ f) ⊎ (f + pages ≤ g) → (i : ℕ) → at ≤ i → i < at + n
         → (i < 512 * f) ⊎ (512 * f + length (words_in row) ≤ i)
-    side (inl same) i low high = absurd (off same)
-    side (inr (inl less)) i low high = inl (omega (arith, less, high, end))
-    side (inr (inr more)) i low high = inr (let w = length_words 512 row in
-        omega (arith, more, low, start, w))
+    side (inl less) i low high = inl (omega (arith, less, high, end))
+    side (inr more) i low high = inr (let w = length_words (length row / 8) row in
+        omega (arith, more, low, start, w, long))
+
+-- the row of a position has the bytes of a span of the set
+pub fetched_wide : (s : Shown) (far : FarState) (id p : ℕ) (set : SetState) (f : ℕ)
+    (span : Contents) (row : List ℕ) → CanArrive s far id p set f span row
+    → length row ≡ 4096 * pages_of span.class
+fetched_wide s far id p set f span row x =
+    let w = x.sound.away.sound.sets.worded id set x.there in
+    ap length (x.fetched.row_of w.0 w.1.word)
+    ∙ (word_is_wide far.nodes far.members set p w.0 w.1.word (live_within set p x.live)).1
+    ∙ ap (λ (n : ℕ). 4096 * n) (sym x.fetched.pages)
+
+-- the words of a span that is there stay
+span_words : (s : Shown) (far : FarState) (id p : ℕ) (set : SetState) (f : ℕ) (span : Contents)
+    (row : List ℕ) → CanArrive s far id p set f span row → (g : ℕ) (c : Contents)
+    → span_in far.spans g ≡ Some c → (at n : ℕ) → 512 * g ≤ at
+    → at + n ≤ 512 * (g + pages_of c.class)
+    → window (put s.memory (512 * f) (words_in row)) at n ≡ window s.memory at n
+span_words s far id p set f span row x g c there at n start end =
+    other_words s.memory f (pages_of span.class) g (pages_of c.class) row
+    (fetched_wide s far id p set f span row x)
+    (other_run far f (pages_of span.class) g c (arrives_in s far id p set f span row x) there) at n
+    start end
 
 -- ---- the batch that is leaving
 leaves_apart : (s : Shown) (far : FarState) (id p : ℕ) (set : SetState) (f : ℕ) (span : Contents)
@@ -61,7 +82,7 @@ leaves_apart : (s : Shown) (far : FarState) (id p : ℕ) (set : SetState) (f : �
     → far.leaving ≡ Some batch → (g : ℕ) → Contains batch.frames g → g ≢ f
 leaves_apart s far id p set f span row batch x there g leaves same =
     let held = (x.sound.noted batch there).held g leaves in
-    let frame = free_frame s far f x.sound.here x.least in
+    let frame = free_frame s far id p set f span row x in
     some_none (span_in far.spans f) held.0 frame.1 (ap (span_in far.spans) (sym same) ∙ held.1)
 
 pub keeps_leaving : (s t : Shown) (far new : FarState) (id p : ℕ) (set : SetState) (f n : ℕ)
@@ -72,10 +93,10 @@ keeps_leaving s t far new id p set f n span row x y batch there = record {
   spans = λ g leaves. ap (λ (l : List (Option Contents)). span_in l g) y.spans
       ∙ other_span far.spans f g span
       (leaves_apart s far id p set f span row batch x there g leaves);
-  words = λ g leaves. ap (λ (l : List ℕ). window l (512 * g) 512) y.brought.memory
-      ∙ other_words s.memory f g row
-      (leaves_apart s far id p set f span row batch x there g leaves) (512 * g) 512 (omega arith)
-      (omega arith);
+  words = λ g leaves. let held = (x.sound.noted batch there).held g leaves in
+      ap (λ (l : List ℕ). window l (512 * g) (512 * batch.pages)) y.brought.memory
+      ∙ span_words s far id p set f span row x g held.0 held.1 (512 * g) (512 * batch.pages)
+      (omega arith) (omega (arith, held.2));
 }
 
 far_claimed : (len v place l u : ℕ) (words ws : List ℕ)
@@ -140,8 +161,8 @@ arrived_claimed s t far new id p set f n span row x y h len place v words claime
             };
             leaves = z.leaves;
             contents = z.contents
-                ∙ sym (other_words s.memory f c.frame row off place (words_for len) inside.0
-                inside.1)
+                ∙ sym (span_words s far id p set f span row x c.frame c.span c.there place
+                (words_for len) inside.0 inside.1)
                 ∙ sym (ap (λ (l : List ℕ). window l place (words_for len)) y.brought.memory);
           }
     ]
@@ -243,9 +264,10 @@ now_arrived s t far new id p set f n span row x y h = elim (named_or_not span.sl
         far_same b.len b.version w.len w.version b.words w.words (sym b.was ∙ w.away) in
         let below : slot < slots_of span.class = let k = named_within span.slots slot h named in
         omega (arith, k, x.fetched.valid.sized) in
-        let ends = slot_within span.class slot x.fetched.valid.in_table below in
-        let room = object_fits w.len span.class w.fits in
-        let frame = free_frame s far f x.sound.here x.least in
+        let ends = slot_in_run span.class slot x.fetched.valid.in_table below in
+        let fit = object_fits w.len span.class w.fits in
+        let room = arrives_in s far id p set f span row x in
+        let long = fetched_wide s far id p set f span row x in
         brought_now s t far new h w.len w.version (slot_place span.class f slot) w.words w.away
         (whole slot named)
         (b.here ∙ ap (λ (k : ℕ). is.Here k (slot_place span.class f slot)) len)
@@ -253,8 +275,9 @@ now_arrived s t far new id p set f n span row x y h = elim (named_or_not span.sl
         (ap (λ (l : List ℕ). window l (slot_place span.class f slot) (words_for w.len))
         y.brought.memory
         ∙ row_put s.memory row (512 * f) (slot * words_of span.class) (words_for w.len)
-        (let m = x.sound.here.placed.memory in omega (arith, m, frame.0))
-        (omega (arith, ends, room)) ∙ sym w.contents)
+        (let m = x.sound.here.placed.memory in let within = room.stands.within in
+        omega (arith, m, within, long))
+        (omega (arith, ends, fit, long)) ∙ sym w.contents)
 
     other_now : (IsNamed span.slots h → ⊥) → now t new h ≡ now s far h
     other_now none = now_kept s t far new h (y.brought.others h none).object
@@ -263,11 +286,9 @@ now_arrived s t far new id p set f n span row x y h = elim (named_or_not span.sl
         let lies = subst (λ (o : Object). LiesAt o len place) (sym here) (refl, refl) in
         let c = x.sound.here.placed.placed h len place lies in
         let inside = slot_inside far s h len place x.sound.here c in
-        let frame = free_frame s far f x.sound.here x.least in
-        let off : c.frame ≢ f = λ same. some_none (span_in far.spans f) c.span frame.1
-        (ap (span_in far.spans) (sym same) ∙ c.there) in
         ap (λ (l : List ℕ). window l place (words_for len)) y.brought.memory
-        ∙ other_words s.memory f c.frame row off place (words_for len) inside.0 inside.1)
+        ∙ span_words s far id p set f span row x c.frame c.span c.there place (words_for len)
+        inside.0 inside.1)
         (left_gone s t far new id set p dead_position x.sound.away.sound
         (sound_arrived s t far new id p set f n span row x y).away.sound
         (gives_up s t far new id p set f n span row x y) h (y.homes.others h none))

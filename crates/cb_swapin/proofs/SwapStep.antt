@@ -1,7 +1,7 @@
 -- A swap-in over a still desk is a step.
 use Rattle.std.proofs.Common.{◌≡◌, ℕ, List, [], Some, length, sym, ap, ◌∙◌, subst}
 use Rattle.cb_class.specs.declared.class.Class.{Class}
-use Rattle.cb_class.proofs.Laws.{slots_tell_class}
+use Rattle.cb_class.proofs.Laws.{pages_and_slots_tell_class}
 use Rattle.cb_gf256.specs.Rows.{row_at}
 use Rattle.cb_set.specs.SetState.{SetState, position_of}
 use Rattle.cb_types.specs.declared.reply.Reply.{Reply}
@@ -43,8 +43,8 @@ swapped x y far new s es id p set f runs there state z =
     → z.row ≡ row_at rows p = λ rows word. z.of_word rows
     (subst (λ (q : SetState). IsWordOf far.nodes far.members q rows) (sym same) word) in
     let row : z.row ≡ row_at found.0 p = row_is found.0 found.1.word in
-    let class : z.class ≡ state.class = slots_tell_class z.class state.class z.in_table
-    state.in_table
+    let class : z.class ≡ state.class = pages_and_slots_tell_class z.class state.class
+    z.in_table state.in_table (z.paged ∙ ap (λ (q : SetState). q.pages) same ∙ sym state.paged)
     (sym z.sized ∙ ap (λ (q : SetState). length (position_of q p).slots) same ∙ state.sized) in
     record {
       state = state;

@@ -1,6 +1,8 @@
 -- What a swap-in comes to: its answers, the far state after it, and its effect.
 use Rattle.std.proofs.Common.{◌≡◌, ℕ, Bool, true, false, List, Option, Some, None, if◌then◌else◌, length, set, refl, sym, ap, ◌∙◌, subst, []}
-use Rattle.cb_frame.specs.FreeFrames.{least_free, with_taken}
+use Rattle.cb_class.specs.Class.{pages_of}
+use Rattle.cb_frame.specs.FreeFrames.{with_run_taken}
+use Rattle.cb_frame.specs.Runs.{least_run}
 use Rattle.cb_member.specs.declared.names.Loss.{Loss}
 use Rattle.cb_set.specs.SetState.{SetState, dead_position, position_of, with_position}
 use Rattle.cb_set.specs.Lost.{lost}
@@ -35,7 +37,7 @@ abbrev answer_by : Bool → FarState → ℕ → SetState → Reply
 answer_by b far id set =
     if b
     then answer.Unavailable (record { n = id }) (lost far.members set.shards)
-    else frame_answer (least_free far.frames)
+    else frame_answer (least_run far.frames set.pages)
 
 losses_same : (a b : List Loss) → Some a ≡ Some b → a ≡ b
 losses_same a b e = cc
@@ -69,7 +71,7 @@ is_whole far set e = by (is_broken far.members set) refl
         (sym e ∙ ap (λ (b : Bool). losses_by b far set) is))
 
 pub by_frame : (far : FarState) (id : ℕ) (set : SetState) (o : Option ℕ)
-    → is_broken far.members set ≡ false → least_free far.frames ≡ o
+    → is_broken far.members set ≡ false → least_run far.frames set.pages ≡ o
     → frame_answer o ≡ swap_answer far id set
 by_frame far id set o whole e =
     sym (ap frame_answer e) ∙ sym (ap (λ (b : Bool). answer_by b far id set) whole)
@@ -78,7 +80,7 @@ by_frame far id set o whole e =
 -- the span is in the frame, its objects have these homes, and its position is dead
 abbrev pub with_arrived : FarState → List (Option Home) → ℕ → SetState → ℕ → Contents → FarState
 with_arrived far homes id rest f span = record far {
-  frames = with_taken far.frames f;
+  frames = with_run_taken far.frames f (pages_of span.class);
   spans = set far.spans f (Some span);
   sets = sets_left far.sets id rest;
   homes = homes;
@@ -126,8 +128,9 @@ swapped_to far new homes id p set f span row x e whole cleared =
     subst (λ (q : FarState). IsSwappedTo far q id p set f) (sym e) (record {
       class = span.class;
       in_table = x.valid.in_table;
+      paged = x.pages;
       sized = ap length (sym x.slots) ∙ x.valid.sized;
-      frames = refl;
+      frames = ap (with_run_taken far.frames f) x.pages;
       spans = ap (λ (c : Contents). with_span far.spans f c)
           (span_is span (position_of set p).slots x.hot x.slots);
       homes = subst (λ (l : List (Option ℕ)). AreCleared l far.homes homes) x.slots cleared;
@@ -148,6 +151,7 @@ swapped_in s t far new id p set f n span row es x y nothing = record {
   there = x.there;
   class = span.class;
   in_table = x.fetched.valid.in_table;
+  paged = x.fetched.pages;
   sized = ap length (sym x.fetched.slots) ∙ x.fetched.valid.sized;
   row = row;
   of_word = x.fetched.row_of;

@@ -1,12 +1,13 @@
--- The objects of a live position wait in the row, and a free frame is vacant.
-use Rattle.std.proofs.Common.{◌≡◌, ◌≢◌, ◌⊎◌, ℕ, ◌+◌, ◌*◌, ◌<◌, ◌≤◌, false, true, List, Option, Some, None, length, sym, ap, ◌∙◌, subst, arith, inl, inr}
-use Rattle.std.proofs.lemmas.Bool.{cases_lt, cases_order}
+-- The objects of a live position wait in the row, and a run of free frames is vacant.
+use Rattle.std.proofs.Common.{◌≡◌, ◌⊎◌, ℕ, ◌+◌, ◌*◌, ◌<◌, ◌≤◌, false, true, List, Option, Some, None, length, sym, ap, ◌∙◌, subst, arith, inl, inr}
+use Rattle.std.proofs.lemmas.Bool.{cases_lt}
 use Rattle.std.proofs.lemmas.List.{get_or_past}
 use Rattle.cb_class.specs.declared.class.Class.{Class}
-use Rattle.cb_class.specs.Class.{words_of, IsClassOf}
-use Rattle.cb_class.proofs.Laws.{slots_tell_class}
-use Rattle.cb_frame.specs.FreeFrames.{IsFreeFrame, least_free}
-use Rattle.cb_frame.proofs.Laws.{least_free-Some, IsFree-in_range}
+use Rattle.cb_class.specs.Class.{IsClassOf, pages_of, words_of}
+use Rattle.cb_class.proofs.Laws.{pages_and_slots_tell_class, pages_some}
+use Rattle.cb_frame.specs.FreeFrames.{with_run_taken}
+use Rattle.cb_frame.specs.Runs.{least_run}
+use Rattle.cb_frame.proofs.Laws.{least_run-Some}
 use Rattle.cb_gf256.specs.Rows.{row_at}
 use Rattle.cb_set.specs.SetState.{SetState, live_at, position_of}
 use Rattle.cb_span.specs.Contents.{Contents}
@@ -15,19 +16,19 @@ use Rattle.cb_world.specs.declared.object.Object.{Object}
 use Rattle.cb_world.specs.declared.object.Object.TheVariants as is
 use Rattle.cb_world.specs.declared.shown.Shown.{Shown}
 use Rattle.cb_world.specs.Memory.{window, words_for}
+use Rattle.cb_world.specs.FrameWords.{LiesInRun}
 use Rattle.cb_world.specs.RowWords.{words_in}
 use Rattle.cb_world.specs.Shown.{Covers, object_at, version_at, never}
 use Rattle.cb_world.specs.Sets.{set_in}
 use Rattle.cb_world.specs.Homes.{home_at}
 use Rattle.cb_world.specs.SetWord.{is_broken}
 use Rattle.cb_world.specs.FarState.{FarState, span_in}
-use Rattle.cb_world.specs.LocalSound.{LocalSound, IsStamped}
+use Rattle.cb_world.specs.LocalSound.{AreFrames, LocalSound, IsStamped}
 use Rattle.cb_world.specs.FarSound.{AwaySound}
 use Rattle.cb_world.specs.Sound.{Sound}
-use Rattle.cb_world.proofs.Laws.{slot_inside, avoids}
+use Rattle.cb_world.proofs.Laws.{MayStand, avoids, none_at_free, slot_inside, stands_where_free}
 use Rattle.cb_swapin.specs.Named.{NamesHandle, IsNamed, NamesApart}
-use Rattle.cb_swapin.specs.Brings.{IsInFrame}
-use Rattle.cb_swapin.specs.Waiting.{AreWaiting, IsFrameVacant, WaitsInRow}
+use Rattle.cb_swapin.specs.Waiting.{AreWaiting, IsRunVacant, WaitsInRow}
 use Rattle.cb_swapin.specs.Fetching.{IsFetched}
 
 -- What is known where a live position of a committed set can be swapped in.
@@ -37,44 +38,58 @@ pub record CanArrive (s : Shown) (far : FarState) (id p : ℕ) (set : SetState) 
   pub there : set_in far.sets id ≡ Some set
   pub live : live_at set p ≡ true
   pub whole : is_broken far.members set ≡ false
-  pub least : least_free far.frames ≡ Some f
+  pub least : least_run far.frames (pages_of span.class) ≡ Some f
   pub flags : length s.hots ≡ length s.objects
   pub fetched : IsFetched far set p span row
 
 some_none : {X : Type 0} (o : Option X) (x : X) → o ≡ None → o ≡ Some x → ⊥
 some_none o x e f = cc
 
--- ---- the frame
--- a free frame is one of local memory, and has no span
-pub free_frame : (s : Shown) (far : FarState) (f : ℕ) → LocalSound s far
-    → least_free far.frames ≡ Some f → (f < length far.spans) × (span_in far.spans f ≡ None)
-free_frame s far f sound least =
-    let free : IsFreeFrame far.frames f = (least_free-Some far.frames f least).0 in
-    let within = IsFree-in_range far.frames f free in (
-      (let n = sound.frames.sized in omega (arith, n, within)),
-      (sound.frames.free f within).0 free,
-    )
+-- ---- the frames
+-- a span of so many pages may stand where so many frames are free, and none stands there
+pub record IsRoom (far : FarState) (f pages : ℕ) : Type 0 where
+  pub stands : MayStand far f pages (with_run_taken far.frames f pages)
+  pub none : span_in far.spans f ≡ None
 
-pub vacant : (s : Shown) (far : FarState) (f : ℕ) → LocalSound s far
-    → least_free far.frames ≡ Some f → IsFrameVacant s f
-vacant s far f sound least = let frame = free_frame s far f sound least in record {
-  within = (let m = sound.placed.memory in omega (arith, m, frame.0));
+pub free_run : (far : FarState) (f pages : ℕ) → AreFrames far → 1 ≤ pages
+    → least_run far.frames pages ≡ Some f → IsRoom far f pages
+free_run far f pages frames some least =
+    let run = least_run-Some far.frames pages f least some in record {
+      stands = stands_where_free far f pages frames some run.0 run.1;
+      none = none_at_free far f frames (run.1 f (omega arith) (omega (arith, some)));
+    }
+
+-- no other span has one of these frames
+pub other_run : (far : FarState) (f pages g : ℕ) (c : Contents) → IsRoom far f pages
+    → span_in far.spans g ≡ Some c → (g + pages_of c.class ≤ f) ⊎ (f + pages ≤ g)
+other_run far f pages g c room there = room.stands.apart g c there
+    (λ same. some_none (span_in far.spans f) c room.none
+    (ap (span_in far.spans) (sym same) ∙ there))
+
+pub vacant : (s : Shown) (far : FarState) (f pages : ℕ) → LocalSound s far → IsRoom far f pages
+    → IsRunVacant s f pages
+vacant s far f pages sound room = record {
+  within = (let m = sound.placed.memory in omega (arith, m, room.stands.within));
   none = λ p h inside. avoids (object_at s h) p (λ len place lies covers.
       let c = sound.placed.placed h len place lies in
       let x = slot_inside far s h len place sound c in
-      let other : c.frame ≢ f = λ same. some_none (span_in far.spans f) c.span frame.1
-      (ap (span_in far.spans) (sym same) ∙ c.there) in
-      apart_frames c.frame f place len p (cases_order c.frame f) other x.0 x.1 inside covers);
+      beside p place len c.frame (pages_of c.span.class)
+      (other_run far f pages c.frame c.span room c.there) x.0 x.1 inside covers);
 }
   where
-    apart_frames : (g f place len p : ℕ) → (g ≡ f) ⊎ ((g < f) ⊎ (f < g)) → g ≢ f
-        → 512 * g ≤ place → place + words_for len ≤ 512 * g + 512 → IsInFrame f p
-        → Covers place len p → ⊥
-    apart_frames g f place len p (inl same) other start end inside covers = other same
-    apart_frames g f place len p (inr (inl less)) other start end inside covers =
+    beside : (p place len g n : ℕ) → (g + n ≤ f) ⊎ (f + pages ≤ g) → 512 * g ≤ place
+        → place + words_for len ≤ 512 * (g + n) → LiesInRun f pages p → Covers place len p → ⊥
+    beside p place len g n (inl less) start end inside covers =
         omega (arith, less, start, end, inside.0, inside.1, covers.0, covers.1)
-    apart_frames g f place len p (inr (inr more)) other start end inside covers =
+    beside p place len g n (inr more) start end inside covers =
         omega (arith, more, start, end, inside.0, inside.1, covers.0, covers.1)
+
+-- where the span of a live position arrives
+pub arrives_in : (s : Shown) (far : FarState) (id p : ℕ) (set : SetState) (f : ℕ)
+    (span : Contents) (row : List ℕ) → CanArrive s far id p set f span row
+    → IsRoom far f (pages_of span.class)
+arrives_in s far id p set f span row x = free_run far f (pages_of span.class) x.sound.here.frames
+    (pages_some span.class x.fetched.valid.in_table) x.least
 
 -- ---- the objects
 far_known : (s : Shown) (h len v : ℕ) (words : List ℕ) → object_at s h ≡ is.Far len v words
@@ -95,8 +110,8 @@ named_waits s far id p set f span row x slot h named =
     let y = w.1.holds p slot h
     (subst (λ (l : List (Option ℕ)). NamesHandle l slot h) x.fetched.slots
     named) in
-    let class : y.class ≡ span.class = slots_tell_class y.class span.class y.fits.in_table
-    x.fetched.valid.in_table
+    let class : y.class ≡ span.class = pages_and_slots_tell_class y.class span.class
+    y.fits.in_table x.fetched.valid.in_table (sym y.paged ∙ sym x.fetched.pages)
     (sym y.sized ∙ ap length (sym x.fetched.slots) ∙ x.fetched.valid.sized) in
     let same : row_at w.0 p ≡ row = sym (x.fetched.row_of w.0 w.1.word) in
     let known = far_known s h y.len y.version y.words y.away in record {
@@ -118,7 +133,8 @@ pub waiting : (s : Shown) (far : FarState) (id p : ℕ) (set : SetState) (f : �
     (row : List ℕ) → CanArrive s far id p set f span row
     → AreWaiting s f span.class span.slots row
 waiting s far id p set f span row x = record {
-  vacant = vacant s far f x.sound.here x.least;
+  vacant = vacant s far f (pages_of span.class) x.sound.here
+      (arrives_in s far id p set f span row x);
   each = named_waits s far id p set f span row x;
 }
 

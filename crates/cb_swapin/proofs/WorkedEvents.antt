@@ -1,6 +1,6 @@
 -- Worked examples of the events of a swap-in and of its effect: what meets each definition, and for
 -- its parts what breaks one alone.
-use Rattle.std.proofs.Common.{◌≡◌, ℕ, zero, suc, true, false, List, [], ◌∷◌, Option, Some, length, get_or, replicate, refl, sym, ap, ◌∙◌, arith, lit≤}
+use Rattle.std.proofs.Common.{◌≡◌, ℕ, zero, suc, true, false, List, [], ◌∷◌, Option, Some, length, get_or, replicate, refl, sym, ap, ◌∙◌, arith}
 use Rattle.std.specs.FinMap as map
 use Rattle.std.proofs.lemmas.List.{length-replicate}
 use Rattle.cb_class.specs.Class.{bytes_of, pages_of, slots_of, words_of}
@@ -18,7 +18,7 @@ use Rattle.cb_world.specs.Now.{broken_set, now, now_as}
 use Rattle.cb_world.specs.Now.Now.{held}
 use Rattle.cb_world.specs.RowWords.{words_in}
 use Rattle.cb_world.specs.Sets.{set_in}
-use Rattle.cb_world.proofs.Laws.{row_put, row}
+use Rattle.cb_world.proofs.Laws.{row_long, row_put, row}
 use Rattle.cb_swapin.specs.BroughtIn.{IsAsBefore, IsSpanBrought}
 use Rattle.cb_swapin.specs.Named.{IsNamed}
 use Rattle.cb_swapin.specs.SwapEffect.{IsSwappedIn}
@@ -123,7 +123,9 @@ span_brought version = record {
 
 -- the object's words in the frame, and its contents before
 words_there : window (put memory 512 (words_in (row 7))) 640 1 ≡ content
-words_there = row_put memory (row 7) 512 128 1 (let e = memory_long in omega (arith, e)) (lit≤ tt)
+words_there =
+    let long = row_long 7 in let e = memory_long in
+    row_put memory (row 7) 512 128 1 (omega (arith, e, long)) (omega (arith, long))
 
 now_before : (version : ℕ) → now (before version) far 0 ≡ held 1 (bytes_in content 2)
 now_before version = ap (λ (o : Option SetState). now_as (before version) 0 (broken_set members o)
@@ -144,6 +146,7 @@ is_swapped_in = record {
   there = set_there;
   class = class;
   in_table = omega arith;
+  paged = refl;
   sized = refl;
   row = row 7;
   of_word = λ others word. sym (one_row others word);

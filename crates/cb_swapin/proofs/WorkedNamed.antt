@@ -1,6 +1,6 @@
--- Worked examples of slot tables, of the events that bring a span in, and of what they do: what meets
--- each definition, and what breaks one of its parts alone.
-use Rattle.std.proofs.Common.{◌≡◌, ◌≢◌, ◌⊎◌, ℕ, zero, suc, Bool, true, false, List, [], ◌∷◌, Option, None, Some, length, get_or, refl, sym, ap, ◌∙◌, arith, inl, inr}
+-- Worked examples of slot tables, of the events that bring a span in, and of what they do: what
+-- meets each definition, and what breaks one of its parts alone.
+use Rattle.std.proofs.Common.{◌≡◌, ◌≢◌, ◌⊎◌, ℕ, zero, suc, ◌/◌, Bool, true, false, List, [], ◌∷◌, Option, None, Some, length, get_or, refl, sym, ap, ◌∙◌, arith, inl, inr}
 use Rattle.cb_class.specs.declared.class.Class.{Class}
 use Rattle.cb_class.specs.Class.{words_of, bytes_of}
 use Rattle.cb_span.specs.Places.{slot_place}
@@ -105,42 +105,49 @@ takes_another_home x = no_home (x.others 2 not_two)
 cuts_the_homes : AreCleared slots (None ∷ None ∷ None ∷ None ∷ []) (None ∷ None ∷ None ∷ []) → ⊥
 cuts_the_homes x = let e = x.count in omega (arith, e)
 
--- ---- events, where the frame is 1: its words are 512 to 1023
-brings : BringsSlots slots 1 (Stored 512 7 ∷ Stored 1023 8 ∷ Looked 3 9 ∷ Settled 3 10 ∷ Looked 1 9
+-- ---- events, where the span has frame 1 alone: its words are 512 to 1023
+brings : BringsSlots slots 1 1 (Stored 512 7 ∷ Stored 1023 8 ∷ Looked 3 9 ∷ Settled 3 10 ∷ Looked 1 9
     ∷ Settled 1 10 ∷ [])
 brings = (
   (omega arith, omega arith),
   ((omega arith, omega arith), ((0, refl), ((0, refl), ((2, refl), ((2, refl), tt))))),
 )
 
-brings_nothing : BringsSlots slots 1 []
+brings_nothing : BringsSlots slots 1 1 []
 brings_nothing = tt
 
-stores_behind_the_frame : BringsSlots slots 1 (Stored 1024 7 ∷ []) → ⊥
+stores_behind_the_frame : BringsSlots slots 1 1 (Stored 1024 7 ∷ []) → ⊥
 stores_behind_the_frame x = omega (arith, x.0.1)
 
-stores_before_the_frame : BringsSlots slots 1 (Stored 511 7 ∷ []) → ⊥
+-- of two frames those of frame 2 are the span's too
+brings_into_both : BringsSlots slots 1 2 (Stored 1024 7 ∷ Stored 1535 8 ∷ [])
+brings_into_both = ((omega arith, omega arith), ((omega arith, omega arith), tt))
+
+stores_behind_both : BringsSlots slots 1 2 (Stored 1536 7 ∷ []) → ⊥
+stores_behind_both x = omega (arith, x.0.1)
+
+stores_before_the_frame : BringsSlots slots 1 1 (Stored 511 7 ∷ []) → ⊥
 stores_before_the_frame x = omega (arith, x.0.0)
 
-settles_another : BringsSlots slots 1 (Settled 2 10 ∷ []) → ⊥
+settles_another : BringsSlots slots 1 1 (Settled 2 10 ∷ []) → ⊥
 settles_another x = not_two x.0
 
-looks_at_another : BringsSlots slots 1 (Looked 2 10 ∷ []) → ⊥
+looks_at_another : BringsSlots slots 1 1 (Looked 2 10 ∷ []) → ⊥
 looks_at_another x = not_two x.0
 
-stamps : BringsSlots slots 1 (Stamped 3 2 ∷ []) → ⊥
+stamps : BringsSlots slots 1 1 (Stamped 3 2 ∷ []) → ⊥
 stamps x = x
 
-claims : BringsSlots slots 1 (Claimed 3 9 1 [] ∷ []) → ⊥
+claims : BringsSlots slots 1 1 (Claimed 3 9 1 [] ∷ []) → ⊥
 claims x = x
 
-stores : StoresIn 1 (Stored 512 7 ∷ Stored 512 8 ∷ [])
+stores : StoresIn 1 1 (Stored 512 7 ∷ Stored 512 8 ∷ [])
 stores = ((omega arith, omega arith), ((omega arith, omega arith), tt))
 
-stores_elsewhere : StoresIn 1 (Stored 0 7 ∷ []) → ⊥
+stores_elsewhere : StoresIn 1 1 (Stored 0 7 ∷ []) → ⊥
 stores_elsewhere x = omega (arith, x.0.0)
 
-loads : StoresIn 1 (Loaded 512 7 ∷ []) → ⊥
+loads : StoresIn 1 1 (Loaded 512 7 ∷ []) → ⊥
 loads x = x
 
 -- ---- what they do: object 0 is far, object 1 is here in frame 1; slot 1 of the row names object 0
@@ -268,7 +275,9 @@ shortens_the_memory : (row : List ℕ)
 shortens_the_memory row x = let e : 0 ≡ 1 = ap (λ (l : List ℕ). length l) x.memory
     ∙ length_put (7 ∷ []) 0 (words_in row) in omega (arith, e)
 
-changes_a_word_behind : (m n row : List ℕ) → get_or n 512 0 ≢ get_or m 512 0
+changes_a_word_behind : (m n row : List ℕ) → length row ≡ 4096
+    → get_or n 512 0 ≢ get_or m 512 0
     → IsSpanBrought table class 0 row (before m) (afterwards n) → ⊥
-changes_a_word_behind m n row other x = other (ap (λ (l : List ℕ). get_or l 512 0) x.memory
-    ∙ put_else m 0 (words_in row) 512 (inr (omega (arith, length_words 512 row))))
+changes_a_word_behind m n row long other x = other (ap (λ (l : List ℕ). get_or l 512 0) x.memory
+    ∙ put_else m 0 (words_in row) 512
+    (inr (let w = length_words (length row / 8) row in omega (arith, w, long))))

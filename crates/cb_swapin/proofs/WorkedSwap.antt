@@ -1,5 +1,5 @@
--- Worked examples of a swap-in: what it is answered, and the far state after it, with what breaks one
--- part of that alone.
+-- Worked examples of a swap-in: what it is answered, and the far state after it, with what breaks
+-- one part of that alone.
 use Rattle.std.proofs.Common.{◌≡◌, ℕ, zero, suc, Bool, true, false, ◌≤◌, List, [], ◌∷◌, Option, None, Some, length, get_or, refl, sym, ap, ◌∙◌, arith}
 use Rattle.std.specs.FinMap as map
 use Rattle.std.proofs.lemmas.Option.{none-some, same_Some}
@@ -47,7 +47,7 @@ second = filled_position (Some 1 ∷ None ∷ None ∷ None ∷ [])
 
 -- two data positions and a parity, by the nodes of their shards
 abbrev pub on : ℕ → ℕ → ℕ → SetState
-on a b c = set_of 5 (at a 7 ∷ at b 8 ∷ at c 9 ∷ []) (first ∷ second ∷ [])
+on a b c = set_of 5 1 (at a 7 ∷ at b 8 ∷ at c 9 ∷ []) (first ∷ second ∷ [])
 
 abbrev home : ℕ → ℕ → Home
 home position slot = record { set = 5; position = position; slot = slot }
@@ -91,6 +91,15 @@ broken = refl
 broken_elsewhere : swap_answer (far some_free (on 0 2 1)) 5 (on 0 2 1)
     ≡ answer.Unavailable (record { n = 5 }) (loss 2 3 ∷ loss 1 1 ∷ [])
 broken_elsewhere = refl
+
+-- frames 1 and 2 are free: a span of two pages comes there, and one of four nowhere
+two_frames : swap_answer (far some_free (record (on 0 3 0) { pages = 2 })) 5
+    (record (on 0 3 0) { pages = 2 }) ≡ answer.Swapped 1
+two_frames = refl
+
+no_four_frames : swap_answer (far some_free (record (on 0 3 0) { pages = 4 })) 5
+    (record (on 0 3 0) { pages = 4 }) ≡ answer.NoFrame
+no_four_frames = refl
 
 no_frame : swap_answer (far none_free (on 1 0 3)) 5 (on 1 0 3) ≡ answer.NoFrame
 no_frame = refl
@@ -142,7 +151,7 @@ abbrev with_set : SetState → SetMap
 with_set rest = map.insert old.sets 5 (record { set = rest; committed = true })
 
 abbrev rest : SetState
-rest = set_of 5 (at 0 7 ∷ at 3 8 ∷ at 1 9 ∷ []) (dead_position ∷ second ∷ [])
+rest = set_of 5 1 (at 0 7 ∷ at 3 8 ∷ at 1 9 ∷ []) (dead_position ∷ second ∷ [])
 
 abbrev span : Temp → Contents
 span temp = span_of class temp first.slots
@@ -169,6 +178,7 @@ unfolding slots_of pages_of bytes_of
 swapped = record {
   class = class;
   in_table = omega arith;
+  paged = refl;
   sized = refl;
   frames = refl;
   spans = refl;
@@ -197,6 +207,12 @@ leaves_the_frame_free x = true_false (ap (λ (l : List Bool). get_or l 1 false) 
   where
     true_false : true ≡ false → ⊥
     true_false e = cc
+
+takes_a_frame_more : Refuted (record new { frames = none_free })
+takes_a_frame_more x = false_true (ap (λ (l : List Bool). get_or l 2 false) x.frames)
+  where
+    false_true : false ≡ true → ⊥
+    false_true e = cc
 
 brings_no_span : Refuted (record new { spans = old.spans })
 brings_no_span x = none-some _ (ap (λ (l : List (Option Contents)). get_or l 1 None) x.spans)
@@ -268,7 +284,7 @@ counts_a_set x = let e : 7 ≡ 6 = ap (λ (f : FarState). f.counts.sets) x.rest 
 
 -- ---- position 1 follows: no position is live, and the set is dropped with its rows
 abbrev last : SetState
-last = set_of 5 (at 0 7 ∷ at 3 8 ∷ at 1 9 ∷ []) (dead_position ∷ dead_position ∷ [])
+last = set_of 5 1 (at 0 7 ∷ at 3 8 ∷ at 1 9 ∷ []) (dead_position ∷ dead_position ∷ [])
 
 sets_then : sets_left new.sets 5 last ≡ map.remove new.sets 5
 sets_then = refl

@@ -1,6 +1,6 @@
 -- Worked examples of a swap-in as a step of the still desk: what meets each definition, and what
 -- breaks one of its parts alone.
-use Rattle.std.proofs.Common.{◌≡◌, ◌≢◌, ℕ, zero, suc, Bool, true, false, ◌+◌, ◌≤◌, List, [], ◌∷◌, None, Some, length, get_or, refl, sym, ap, ◌∙◌, subst, arith, inl, inr}
+use Rattle.std.proofs.Common.{◌≡◌, ◌≢◌, ℕ, zero, suc, Bool, true, false, ◌+◌, ◌/◌, ◌≤◌, List, [], ◌∷◌, None, Some, length, get_or, refl, sym, ap, ◌∙◌, subst, arith, inl, inr}
 use Rattle.std.specs.FinMap as map
 use Rattle.std.proofs.lemmas.Option.{none-some, same_Some}
 use Rattle.cb_class.specs.Class.{bytes_of, pages_of, slots_of, words_of}
@@ -29,8 +29,8 @@ use Rattle.cb_swapin.specs.SwapStep.{AreBroughtTo, IsSwapped, IsSwapStep, brough
 use Rattle.cb_swapin.proofs.WorkedWord.{is_word, nodes, one_row}
 use Rattle.cb_swapin.proofs.WorkedSwap.{members, first, on, refused, class, set, old, new, swapped, the_one}
 
--- ---- words: of an object of two bytes that is far, of one that came to place 640, and of one that is
--- here and hot with a pin
+-- ---- words: of an object of two bytes that is far, of one that came to place 640, and of one that
+-- is here and hot with a pin
 abbrev away : ℕ
 away = 16385
 
@@ -58,8 +58,8 @@ has_its_length = refl
 has_its_place : place_of came ≡ 640
 has_its_place = refl
 
--- ---- objects 0 and 1 are far, and slot 1 of the position names object 0: it comes into frame 1, of
--- slots of 128 words
+-- ---- objects 0 and 1 are far, and slot 1 of the position names object 0: it comes into frame 1,
+-- of slots of 128 words
 abbrev desk : Config → List ℕ → List ℕ → List ℕ → Words
 desk c words versions memory =
     record { settings = c; words = words; versions = versions; memory = memory }
@@ -152,22 +152,25 @@ shortens_the_memory : (c : Config) (row : List ℕ)
 shortens_the_memory c row x = let e : 0 ≡ 1 = ap (λ (l : List ℕ). length l) x.memory
     ∙ length_put (7 ∷ []) 512 (words_in row) in omega (arith, e)
 
-changes_a_word_behind : (c : Config) (m n row : List ℕ) → get_or n 1024 0 ≢ get_or m 1024 0
+changes_a_word_behind : (c : Config) (m n row : List ℕ) → length row ≡ 4096
+    → get_or n 1024 0 ≢ get_or m 1024 0
     → AreBroughtTo (before c m) (afterwards c n) first.slots class 1 row → ⊥
-changes_a_word_behind c m n row other x = other (ap (λ (l : List ℕ). get_or l 1024 0) x.memory
-    ∙ put_else m 512 (words_in row) 1024 (inr (omega (arith, length_words 512 row))))
+changes_a_word_behind c m n row long other x = other (ap (λ (l : List ℕ). get_or l 1024 0) x.memory
+    ∙ put_else m 512 (words_in row) 1024
+    (inr (let w = length_words (length row / 8) row in omega (arith, w, long))))
 
 changes_a_word_before : (c : Config) (m n row : List ℕ) → get_or n 511 0 ≢ get_or m 511 0
     → AreBroughtTo (before c m) (afterwards c n) first.slots class 1 row → ⊥
 changes_a_word_before c m n row other x = other (ap (λ (l : List ℕ). get_or l 511 0) x.memory
     ∙ put_else m 512 (words_in row) 511 (inl (omega arith)))
 
-has_another_row : (c : Config) (m n row : List ℕ) → 1024 ≤ length m
+has_another_row : (c : Config) (m n row : List ℕ) → 1024 ≤ length m → length row ≡ 4096
     → get_or n 512 0 ≢ get_or (words_in row) 0 0
     → AreBroughtTo (before c m) (afterwards c n) first.slots class 1 row → ⊥
-has_another_row c m n row room other x = other (ap (λ (l : List ℕ). get_or l 512 0) x.memory
-    ∙ put_at m 512 (words_in row) 0 (omega (arith, length_words 512 row))
-    (omega (arith, length_words 512 row, room)))
+has_another_row c m n row room long other x =
+    let w = length_words (length row / 8) row in
+    other (ap (λ (l : List ℕ). get_or l 512 0) x.memory
+    ∙ put_at m 512 (words_in row) 0 (omega (arith, w, long)) (omega (arith, w, long, room)))
 
 has_more_frames : (c : Config) (m n row : List ℕ)
     → AreBroughtTo (before c m) (afterwards (record c { frames = c.frames + 1 }) n) first.slots class
@@ -187,6 +190,7 @@ unfolding slots_of pages_of bytes_of
 swapped_at nodes = record {
   class = class;
   in_table = omega arith;
+  paged = refl;
   sized = refl;
   frames = refl;
   spans = refl;
@@ -224,9 +228,12 @@ swaps_in c memory = record {
 has_another_rows_words : (c : Config) (m n : List ℕ) → 1024 ≤ length m
     → get_or n 512 0 ≢ get_or (words_in (row 7)) 0 0
     → IsSwapped (before c m) (afterwards c n) (old_at nodes) (new_at nodes) 5 0 set 1 → ⊥
-has_another_rows_words c m n room other z = other (ap (λ (l : List ℕ). get_or l 512 0) z.words.memory
-    ∙ put_at m 512 (words_in (row_at z.rows 0)) 0 (omega (arith, length_words 512 (row_at z.rows 0)))
-    (omega (arith, length_words 512 (row_at z.rows 0), room))
+has_another_rows_words c m n room other z =
+    let found = row_at z.rows 0 in
+    let w = length_words (length found / 8) found in
+    let long : length found ≡ 4096 = z.word.code.wide in
+    other (ap (λ (l : List ℕ). get_or l 512 0) z.words.memory
+    ∙ put_at m 512 (words_in found) 0 (omega (arith, w, long)) (omega (arith, w, long, room))
     ∙ ap (λ (l : List ℕ). get_or (words_in l) 0 0) (sym (z.one_row rows is_word)))
 
 -- the objects are here, and the far state is as it was

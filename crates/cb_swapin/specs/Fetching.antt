@@ -1,5 +1,6 @@
 -- What is fetched before a span is brought in.
 use Rattle.std.specs.Prelude.{◌≡◌, ℕ, List, Option, None, Some, if◌then◌else◌}
+use Rattle.cb_class.specs.Class.{pages_of}
 use Rattle.cb_gf256.specs.Rows.{row_at}
 use Rattle.cb_member.specs.declared.names.Loss.{Loss}
 use Rattle.cb_set.specs.SetState.{SetState, position_of}
@@ -24,10 +25,11 @@ losses_told far set = if is_broken far.members set then Some (lost far.members s
 abbrev pub far_given : FarState → ℕ → FarState
 far_given far n = record far { nodes = with_rows_given far.nodes n }
 
--- the span is hot and has the slots of the position
+-- the span is hot, of the length of the set, and has the slots of the position
 pub record IsSpanOf (set : SetState) (p : ℕ) (span : Contents) : Type 0 where
   pub valid : IsSpan span
   pub hot : span.temp ≡ Hot
+  pub pages : pages_of span.class ≡ set.pages
   pub slots : span.slots ≡ (position_of set p).slots
 
 -- such a span, and the row is that of the set's word
@@ -35,13 +37,14 @@ pub record IsFetched (far : FarState) (set : SetState) (p : ℕ) (span : Content
     : Type 0 where
   pub valid : IsSpan span
   pub hot : span.temp ≡ Hot
+  pub pages : pages_of span.class ≡ set.pages
   pub slots : span.slots ≡ (position_of set p).slots
   pub row_of : (rows : List (List ℕ)) → IsWordOf far.nodes far.members set rows
       → row ≡ row_at rows p
 
--- The row of the position was brought into the frame, from its node or made of others: as many rows
--- were given out as that needs, the objects of the span are here and have no home, and nothing else
--- changed.
+-- The row of the position was brought into the frames from this one on, from its node or made of
+-- others: as many rows were given out as that needs, the objects of the span are here and have no
+-- home, and nothing else changed.
 pub record BringsRow (runs : List Event → Type 0) (shows : Shown → Type 0) (far new : FarState)
     (set : SetState) (p f : ℕ) (span : Contents) : Type 0 where
   pub row : List ℕ
@@ -49,4 +52,4 @@ pub record BringsRow (runs : List Event → Type 0) (shows : Shown → Type 0) (
   pub homes : AreCleared span.slots far.homes new.homes
   pub state : new ≡ record (far_given far (rows_needed far.members set p)) { homes = new.homes }
   pub brought : Brought runs (λ s. shows s × AreWaiting s f span.class span.slots row)
-      (BringsSlots span.slots f) (IsSpanBrought span.slots span.class f row)
+      (BringsSlots span.slots f (pages_of span.class)) (IsSpanBrought span.slots span.class f row)

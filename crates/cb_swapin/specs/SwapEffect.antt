@@ -1,7 +1,7 @@
 -- What a swap-in does to the objects and the memory.
 use Rattle.std.specs.Prelude.{◌≡◌, ℕ, List, [], Some, length}
 use Rattle.cb_class.specs.declared.class.Class.{Class}
-use Rattle.cb_class.specs.Class.{IsClass, slots_of}
+use Rattle.cb_class.specs.Class.{IsClass, pages_of, slots_of}
 use Rattle.cb_gf256.specs.Rows.{row_at}
 use Rattle.cb_set.specs.SetState.{SetState, position_of}
 use Rattle.cb_types.specs.declared.reply.Reply.{Reply}
@@ -23,6 +23,7 @@ pub record IsSwappedIn (id p f : ℕ) (far new : FarState) (es : List Event) (s 
     pub there : set_in far.sets id ≡ Some set
     pub class : Class
     pub in_table : IsClass class
+    pub paged : pages_of class ≡ set.pages
     pub sized : length (position_of set p).slots ≡ slots_of class
     pub row : List ℕ
     pub of_word : (rows : List (List ℕ)) → IsWordOf far.nodes far.members set rows

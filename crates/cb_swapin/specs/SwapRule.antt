@@ -1,8 +1,9 @@
 -- The rule of a swap-in.
 use Rattle.std.specs.Prelude.{◌≡◌, ℕ, List, [], Option, None, Some, length, if◌then◌else◌, slice_set}
 use Rattle.cb_class.specs.declared.class.Class.{Class}
-use Rattle.cb_class.specs.Class.{IsClass, slots_of}
-use Rattle.cb_frame.specs.FreeFrames.{least_free, with_taken}
+use Rattle.cb_class.specs.Class.{IsClass, pages_of, slots_of}
+use Rattle.cb_frame.specs.FreeFrames.{with_run_taken}
+use Rattle.cb_frame.specs.Runs.{least_run}
 use Rattle.cb_span.specs.declared.temp.Temp.TheVariants.{Hot}
 use Rattle.cb_span.specs.Contents.{span_of}
 use Rattle.cb_set.specs.SetState.{SetState, dead_position, position_of, with_position}
@@ -18,7 +19,7 @@ use Rattle.cb_world.specs.LeftOver.{nodes_left, sets_left}
 use Rattle.cb_swapin.specs.Named.{AreCleared}
 use Rattle.cb_swapin.specs.Brings.{BringsSlots}
 
--- the least free frame is taken, if there is one
+-- the least run of free frames that the set's spans fit is taken, if there is one
 abbrev pub frame_answer : Option ℕ → Reply
 frame_answer None = answer.NoFrame
 frame_answer (Some f) = answer.Swapped f
@@ -29,17 +30,19 @@ abbrev pub swap_answer : FarState → ℕ → SetState → Reply
 swap_answer far id set =
     if is_broken far.members set
     then answer.Unavailable (record { n = id }) (lost far.members set.shards)
-    else frame_answer (least_free far.frames)
+    else frame_answer (least_run far.frames set.pages)
 
--- The far state once position p of the set was brought into the frame: the frame is taken, and has
--- the hot span of the position's slots, whose count tells their class; the objects have no home;
+-- The far state once position p of the set was brought into the frames from this one on, as many as
+-- the set's spans have: they are taken, and have the hot span of the position's slots, whose count
+-- tells their class with that length; the objects have no home;
 -- the rows that were needed were given out; the position is dead, and a set with no live position
 -- is dropped with its rows. All else is as it was.
 pub record IsSwappedTo (far new : FarState) (id p : ℕ) (set : SetState) (f : ℕ) : Type 0 where
   pub class : Class
   pub in_table : IsClass class
+  pub paged : pages_of class ≡ set.pages
   pub sized : length (position_of set p).slots ≡ slots_of class
-  pub frames : new.frames ≡ with_taken far.frames f
+  pub frames : new.frames ≡ with_run_taken far.frames f set.pages
   pub spans : new.spans
       ≡ slice_set far.spans f (Some (span_of class Hot (position_of set p).slots))
   pub homes : AreCleared (position_of set p).slots far.homes new.homes
@@ -58,7 +61,7 @@ pub record IsSwappedTo (far new : FarState) (id p : ℕ) (set : SetState) (f : �
 -- the far state after a swap-in with this reply, and its events; a refusal changes nothing
 abbrev pub SwapFar : FarState → FarState → ℕ → ℕ → SetState → List Event → Reply → Type 0
 SwapFar far new id p set es (answer.Swapped f) =
-    IsSwappedTo far new id p set f × BringsSlots (position_of set p).slots f es
+    IsSwappedTo far new id p set f × BringsSlots (position_of set p).slots f set.pages es
 SwapFar far new id p set es _ = (new ≡ far) × (es ≡ [])
 
 -- the reply of a swap-in of position p of the set of a number, and the far state after it

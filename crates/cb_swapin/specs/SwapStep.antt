@@ -29,9 +29,9 @@ brought_word len place = word_of (record {
   place = place;
 })
 
--- The objects of these slots are here, each at its slot of the frame, and every other pointer word
--- and all version words are as they were. The frame has the words of the row, and every other
--- memory word is as it was.
+-- The objects of these slots are here, each at its slot of the span at the frame, and every other
+-- pointer word and all version words are as they were. The frame has the words of the row, and
+-- every other memory word is as it was.
 pub record AreBroughtTo (x y : Words) (slots : List (Option ℕ)) (class : Class) (f : ℕ)
     (row : List ℕ) : Type 0 where
   pub settings : y.settings ≡ x.settings

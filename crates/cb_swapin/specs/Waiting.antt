@@ -1,20 +1,20 @@
 -- Objects that wait to be brought in.
 use Rattle.std.specs.Prelude.{◌≡◌, ℕ, ◌+◌, ◌*◌, ◌<◌, ◌≤◌, List, Option, length}
 use Rattle.cb_class.specs.declared.class.Class.{Class}
-use Rattle.cb_class.specs.Class.{IsClassOf, words_of}
+use Rattle.cb_class.specs.Class.{IsClassOf, pages_of, words_of}
 use Rattle.cb_span.specs.Places.{slot_place}
 use Rattle.cb_world.specs.declared.object.Object.TheVariants as is
 use Rattle.cb_world.specs.declared.shown.Shown.{Shown}
 use Rattle.cb_world.specs.Memory.{window, words_for}
 use Rattle.cb_world.specs.Shown.{Avoids, Covers, MayLie, object_at, version_at}
+use Rattle.cb_world.specs.FrameWords.{LiesInRun}
 use Rattle.cb_world.specs.RowWords.{words_in}
 use Rattle.cb_swapin.specs.Named.{NamesHandle}
-use Rattle.cb_swapin.specs.Brings.{IsInFrame}
 
--- no object lies in the frame
-pub record IsFrameVacant (s : Shown) (f : ℕ) : Type 0 where
-  pub within : 512 * f + 512 ≤ length s.memory
-  pub none : (p h : ℕ) → IsInFrame f p → Avoids p (object_at s h)
+-- no object lies in the run of so many frames from this one on
+pub record IsRunVacant (s : Shown) (f pages : ℕ) : Type 0 where
+  pub within : 512 * (f + pages) ≤ length s.memory
+  pub none : (p h : ℕ) → LiesInRun f pages p → Avoids p (object_at s h)
 
 -- an object is far, and its words stand in a slot of the row
 pub record WaitsInRow (s : Shown) (class : Class) (row : List ℕ) (slot h : ℕ) : Type 0 where
@@ -28,10 +28,10 @@ pub record WaitsInRow (s : Shown) (class : Class) (row : List ℕ) (slot h : ℕ
   pub handle : h < length s.objects
   pub flag : h < length s.hots
 
--- the frame is vacant, and the named objects are far and stand in the row
+-- the frames of the span are vacant, and the named objects are far and stand in the row
 pub record AreWaiting (s : Shown) (f : ℕ) (class : Class) (slots : List (Option ℕ))
     (row : List ℕ) : Type 0 where
-  pub vacant : IsFrameVacant s f
+  pub vacant : IsRunVacant s f (pages_of class)
   pub each : (slot h : ℕ) → NamesHandle slots slot h → WaitsInRow s class row slot h
 
 -- a far object can be settled at a place: its words stand there, and no other object lies there
@@ -44,7 +44,7 @@ pub record IsReady (s : Shown) (h place : ℕ) : Type 0 where
   pub contents : window s.memory place (words_for len) ≡ words
   pub alone : (p : ℕ) → Covers place len p → MayLie s h p
 
--- an object is far, and its words stand in a slot of the frame
+-- an object is far, and its words stand in a slot of the span at the frame
 pub record IsStored (s : Shown) (f : ℕ) (class : Class) (slot h : ℕ) : Type 0 where
   pub len : ℕ
   pub version : ℕ
@@ -56,7 +56,7 @@ pub record IsStored (s : Shown) (f : ℕ) (class : Class) (slot h : ℕ) : Type 
   pub handle : h < length s.objects
   pub flag : h < length s.hots
 
--- the frame is vacant, and the words of the named objects stand there
+-- the frames of the span are vacant, and the words of the named objects stand there
 pub record AreStored (s : Shown) (f : ℕ) (class : Class) (slots : List (Option ℕ)) : Type 0 where
-  pub vacant : IsFrameVacant s f
+  pub vacant : IsRunVacant s f (pages_of class)
   pub each : (slot h : ℕ) → NamesHandle slots slot h → IsStored s f class slot h

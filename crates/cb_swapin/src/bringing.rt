@@ -1,6 +1,7 @@
-ghost use Rattle.std.specs.Prelude.{◌≡◌, ℕ, ◌^◌, ◌<◌, [], ◌∷◌, IfSome, length};
-ghost use Rattle.cb_class.specs.Class.{IsClass, slots_of};
+ghost use Rattle.std.specs.Prelude.{◌≡◌, ℕ, ◌+◌, ◌*◌, ◌^◌, ◌<◌, ◌≤◌, List, [], ◌∷◌, IfSome, length};
+ghost use Rattle.cb_class.specs.Class.{IsClass, pages_of, slots_of};
 ghost use Rattle.cb_types.specs.Config.{IsAccepted};
+ghost use Rattle.cb_world.specs.declared.event.Event.{Event};
 ghost use Rattle.cb_world.specs.declared.event.Event.TheVariants.{Looked, Settled};
 ghost use Rattle.cb_world.specs.declared.shown.Shown.{Shown};
 ghost use Rattle.cb_swapin.specs.Named.{AreCleared, IsNamed, NamesApart};
@@ -9,15 +10,15 @@ ghost use Rattle.cb_swapin.specs.Waiting.{AreStored, AreWaiting, IsReady};
 ghost use Rattle.cb_swapin.specs.BroughtIn.{AreBrought, BringsOne, BringsSlot, Brought, IsSpanBrought};
 
 use crate::storing::store_row;
-use cb_class::Class;
+use cb_class::{Class, pages};
 use cb_ptr::{PtrWord, State, pack, unpack};
 use cb_span::{Span, slot_place};
 use cb_types::Handle;
 use cb_world::{Desk, Homes};
 
-/// Brings the span of a row into a frame where no object lies: the row's words are stored there,
-/// and the objects of the span's slots are here, each at its slot, not hot and without a home.
-/// Their version words stay.
+/// Brings the span of a row into its frames, from this one on, where no object lies: the row's
+/// words are stored there, and the objects of the span's slots are here, each at its slot, not hot
+/// and without a home. Their version words stay.
 pub(crate) fn bring_span<D: Desk>(
     desk: &mut D,
     homes: &mut Homes,
@@ -26,8 +27,8 @@ pub(crate) fn bring_span<D: Desk>(
     row: &[u8],
 )
     requires config { IsAccepted (D.settings desk.old) }
-    requires frame { frame < (D.settings desk.old).frames }
-    requires row { length row.now ≡ 4096 }
+    requires frames { frame + pages_of span.now.class ≤ (D.settings desk.old).frames }
+    requires row { length row.now ≡ 4096 * pages_of span.now.class }
     requires apart { NamesApart span.now.slots }
     requires homes { (h : ℕ) → IsNamed span.now.slots h → h < length homes.old }
     requires waiting { (s : Shown) × D.shows desk.old s
@@ -35,14 +36,15 @@ pub(crate) fn bring_span<D: Desk>(
     ensures homes { AreCleared span.now.slots homes.old homes.new }
     ensures brought { Brought (λ es. D.run desk.old es desk.new)
         (λ s. D.shows desk.old s × AreWaiting s frame span.now.class span.now.slots row.now)
-        (BringsSlots span.now.slots frame)
+        (BringsSlots span.now.slots frame (pages_of span.now.class))
         (IsSpanBrought span.now.slots span.now.class frame row.now) }
 {
-    store_row(desk, frame, row);
-    bring_all(desk, homes, frame, span.class(), span.slots());
+    let class = span.class();
+    store_row(desk, frame, pages(class), row);
+    bring_all(desk, homes, frame, class, span.slots());
 }
 
-/// Brings the objects of all slots in, whose words stand in the frame.
+/// Brings the objects of all slots in, whose words stand in the frames from this one on.
 fn bring_all<D: Desk>(
     desk: &mut D,
     homes: &mut Homes,
@@ -51,7 +53,7 @@ fn bring_all<D: Desk>(
     slots: &[Option<u32>],
 )
     requires config { IsAccepted (D.settings desk.old) }
-    requires frame { frame < (D.settings desk.old).frames }
+    requires frames { frame + pages_of class ≤ (D.settings desk.old).frames }
     requires class { IsClass class }
     requires sized { length slots.now ≡ slots_of class }
     requires apart { NamesApart slots.now }
@@ -60,7 +62,7 @@ fn bring_all<D: Desk>(
     ensures homes { AreCleared slots.now homes.old homes.new }
     ensures brought { Brought (λ es. D.run desk.old es desk.new)
         (λ s. D.shows desk.old s × AreStored s frame class slots.now)
-        (BringsSlots slots.now frame)
+        (BringsSlots slots.now frame (pages_of class))
         (AreBrought (length slots.now) slots.now class frame) }
 {
     for (slot, handle) in slots.iter().enumerate() {

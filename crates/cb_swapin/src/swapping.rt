@@ -1,7 +1,10 @@
-ghost use Rattle.std.specs.Prelude.{◌≡◌, ℕ, true, false, ◌+◌, ◌^◌, ◌<◌, ◌≤◌, Some, IfOk, OnOk, OnErr, length, slice_set};
+ghost use Rattle.std.specs.Prelude.{◌≡◌, ℕ, true, false, ◌+◌, ◌^◌, ◌<◌, ◌≤◌, List, Some, IfOk, OnOk, OnErr, length, slice_set};
 ghost use Rattle.cb_types.specs.Config.{IsAccepted};
-ghost use Rattle.cb_frame.specs.FreeFrames.{least_free, with_taken};
-ghost use Rattle.cb_set.specs.SetState.{SetState, dead_position, live_at, with_position};
+ghost use Rattle.cb_class.specs.Class.{pages_of};
+ghost use Rattle.cb_frame.specs.FreeFrames.{with_run_taken};
+ghost use Rattle.cb_frame.specs.Runs.{IsRunLength, least_run};
+ghost use Rattle.cb_set.specs.SetState.{SetState, dead_position, live_at, position_of, with_position};
+ghost use Rattle.cb_world.specs.declared.event.Event.{Event};
 ghost use Rattle.cb_world.specs.declared.shown.Shown.{Shown};
 ghost use Rattle.cb_world.specs.Sets.{set_in};
 ghost use Rattle.cb_world.specs.SetWord.{is_broken};
@@ -16,7 +19,7 @@ ghost use Rattle.cb_swapin.specs.SwapRule.{SwapRule};
 ghost use Rattle.cb_swapin.specs.SwapEffect.{SwapEffect};
 
 use crate::bringing::bring_span;
-use cb_class::class_with_slots;
+use cb_class::{class_of_span, pages};
 use cb_member::Losses;
 use cb_set::is_lost;
 use cb_span::{Span, Temp};
@@ -27,11 +30,11 @@ use cb_world::{Desk, Far, kill_position, solved};
 /// changed; where there is none, at most k rows were given out and nothing else has changed.
 ///
 /// Refuses with Unavailable where the set has lost more shards than it has parities, and then with
-/// NoFrame where no frame is free. Else the least free frame has the span, hot and with the slots
-/// of the position: their objects are here, not hot, at the version that they had. The row is the
-/// position's own where its shard is not lost (one row is given out), else the one that the k least
-/// other positions make whose shards are not lost (k rows are given out). The position is dead
-/// then, and a set with no live position goes with all its rows.
+/// NoFrame where no free frames are adjacent that its spans fit. Else the least such run has the
+/// span, hot and with the slots of the position: their objects are here, not hot, at the version
+/// that they had. The row is the position's own where its shard is not lost (one row is given
+/// out), else the one that the k least other positions make whose shards are not lost (k rows are
+/// given out). The position is dead then, and a set with no live position goes with all its rows.
 pub fn swap_in<D: Desk>(
     desk: &mut D,
     far: &mut Far,
@@ -55,7 +58,8 @@ pub fn swap_in<D: Desk>(
     if let Some(lost) = losses(far, id)? {
         return Ok(Reply::Unavailable { set: id, lost });
     }
-    let Some(frame) = far.frames.free_set().least() else {
+    let pages = set_pages(far, id, position);
+    let Some(frame) = far.frames.least_run(pages) else {
         return Ok(Reply::NoFrame);
     };
     let span = span_at(far, id, position)?;
@@ -78,6 +82,17 @@ fn losses(far: &Far, id: SetId) -> Result<Option<Losses>, NoMemory>
     Ok(Some(set.lost(far.alloc, &far.members)?))
 }
 
+/// The pages of each span of a committed set with a live position.
+fn set_pages(far: &Far, id: SetId, position: u32) -> u32
+    requires sound { (s : Shown) × AwaySound s far.now }
+    requires live { (set : SetState) × (set_in far.now.sets id.n ≡ Some set)
+        × (live_at set position ≡ true) }
+    ensures pages { (set : SetState) → set_in far.now.sets id.n ≡ Some set → result ≡ set.pages }
+    ensures known { IsRunLength result }
+{
+    far.sets.committed(id.n).unwrap().pages()
+}
+
 /// The span of a live position of a committed set: hot, with the slots of the position. Takes the
 /// memory of its slots.
 fn span_at(far: &Far, id: SetId, position: u32) -> Result<Span, NoMemory>
@@ -89,11 +104,11 @@ fn span_at(far: &Far, id: SetId, position: u32) -> Result<Span, NoMemory>
 {
     let set = far.sets.committed(id.n).unwrap();
     let slots = set.slots(position);
-    let class = class_with_slots(slots.len() as u32).unwrap();
+    let class = class_of_span(set.pages(), slots.len() as u32).unwrap();
     Ok(Span::from_slots(far.alloc, class, Temp::Hot, slots)?)
 }
 
-/// Brings the span of a live position of a committed set into the least free frame. Where the
+/// Brings the span of a live position of a committed set into the least run that it fits. Where the
 /// position's shard is not lost, its row is stored from where it stands at its node; else the row
 /// that k others make is. Where there is no memory for that one, at most k rows were given out and
 /// nothing else has changed.
@@ -106,8 +121,8 @@ fn bring_row<D: Desk>(
     span: &Span,
 ) -> Result<(), NoMemory>
     requires config { IsAccepted (D.settings desk.old) }
-    requires least { least_free far.old.frames ≡ Some frame }
-    requires frame { frame < (D.settings desk.old).frames }
+    requires least { least_run far.old.frames (pages_of span.now.class) ≡ Some frame }
+    requires frames { frame + pages_of span.now.class ≤ (D.settings desk.old).frames }
     requires live { (set : SetState) × (set_in far.old.sets id.n ≡ Some set)
         × (live_at set position ≡ true) × (is_broken far.old.members set ≡ false) }
     requires span { (set : SetState) → set_in far.old.sets id.n ≡ Some set
@@ -133,21 +148,21 @@ fn bring_row<D: Desk>(
     Ok(())
 }
 
-/// Puts the span that was brought in into the least free frame. Its position is dead then, and a
-/// set with no live position goes with all its rows.
+/// Puts the span that was brought in into the least run that it fits. Its position is dead then,
+/// and a set with no live position goes with all its rows.
 fn keep_span(far: &mut Far, id: SetId, position: u32, frame: u32, span: Span)
-    requires frame { least_free far.old.frames ≡ Some frame }
+    requires frame { least_run far.old.frames (pages_of span.class) ≡ Some frame }
     requires within { frame < length far.old.spans }
     requires set { (set : SetState) × (set_in far.old.sets id.n ≡ Some set)
         × (position < length set.positions) × AreThere far.old.nodes set.shards
         × NodesAreMembers far.old.members set.shards }
     ensures { (set : SetState) → set_in far.old.sets id.n ≡ Some set
         → far.new ≡ record (with_left far.old id.n (with_position set position dead_position)) {
-          frames = with_taken far.old.frames frame;
+          frames = with_run_taken far.old.frames frame (pages_of span.class);
           spans = slice_set far.old.spans frame (Some span);
         } }
 {
-    far.frames.take();
+    far.frames.take_run(pages(span.class()));
     far.spans.put(frame, span);
     kill_position(far, id.n, position);
 }

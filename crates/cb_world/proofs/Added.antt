@@ -25,9 +25,10 @@ pub set_same : (a b : SetState) → Some a ≡ Some b → a ≡ b
 set_same a b e = cc
 
 -- the object in the slot of a row is what it was
-pub holds_kept : (s t : Shown) (row : List ℕ) (slots slot h : ℕ) → object_at t h ≡ object_at s h
-    → HoldsObject s row slots slot h → HoldsObject t row slots slot h
-holds_kept s t row slots slot h same x =
+pub holds_kept : (s t : Shown) (pages : ℕ) (row : List ℕ) (slots slot h : ℕ)
+    → object_at t h ≡ object_at s h → HoldsObject s pages row slots slot h
+    → HoldsObject t pages row slots slot h
+holds_kept s t pages row slots slot h same x =
     record {
       len = x.len;
       version = x.version;
@@ -36,6 +37,7 @@ holds_kept s t row slots slot h same x =
       away = same
           ∙ x.away;
       fits = x.fits;
+      paged = x.paged;
       sized = x.sized;
       contents = x.contents;
     }
@@ -45,9 +47,9 @@ was_far o len v words e = subst is_far (sym e) tt
 
 -- an object that an old set names is not moved
 old_object : (s t : Shown) (far new : FarState) (id : ℕ) (set : SetState) (rows : List (List ℕ))
-    (row : List ℕ) (slots slot h : ℕ) → IsSetAdded s t far new id set rows
-    → HoldsObject s row slots slot h → IsUntouched s t far new set h
-old_object s t far new id set rows row slots slot h x holds = elim (x.each h) [
+    (pages : ℕ) (row : List ℕ) (slots slot h : ℕ) → IsSetAdded s t far new id set rows
+    → HoldsObject s pages row slots slot h → IsUntouched s t far new set h
+old_object s t far new id set rows pages row slots slot h x holds = elim (x.each h) [
   | inl stays ↦ stays
   | inr moved ↦
       absurd (moved.before (was_far (object_at s h) holds.len holds.version holds.words holds.away))
@@ -67,9 +69,9 @@ old_word s t far new id set rows old word x keys y = record {
   };
   holds = λ p slot h named. let z =
       y.holds p slot h named in
-      holds_kept s t (row_at word p) (length (position_of old p).slots) slot h
-      (old_object s t far new id set rows (row_at word p) (length (position_of old p).slots) slot h
-      x z).object z;
+      holds_kept s t old.pages (row_at word p) (length (position_of old p).slots) slot h
+      (old_object s t far new id set rows old.pages (row_at word p)
+      (length (position_of old p).slots) slot h x z).object z;
 }
 
 new_word : (s t : Shown) (far new : FarState) (id : ℕ) (set : SetState) (rows : List (List ℕ))
@@ -80,9 +82,9 @@ new_word s t far new id set rows x = record {
     | inl stays ↦ absurd (stays.absent p slot named)
     | inr moved ↦ let e = moved.once p slot named in
         subst (λ (q : ℕ).
-        HoldsObject t (row_at rows p) (length (position_of set p).slots) q h) (sym e.1)
+        HoldsObject t set.pages (row_at rows p) (length (position_of set p).slots) q h) (sym e.1)
         (subst (λ (q : ℕ).
-        HoldsObject t (row_at rows q) (length (position_of set q).slots) moved.slot h) (sym e.0)
+        HoldsObject t set.pages (row_at rows q) (length (position_of set q).slots) moved.slot h) (sym e.0)
         moved.holds)
   ];
 }
@@ -285,7 +287,7 @@ added_batch s t far new id set rows sound x b at =
     let was = sym x.leaving ∙ at in let y = sound.batch b was in
     let same : batch_rows t b ≡ batch_rows s b = x.batch b was in
     record {
-      word = subst (IsSpanWord (length b.frames) (length b.parities)) (sym same) y.word;
+      word = subst (IsSpanWord b.pages (length b.frames) (length b.parities)) (sym same) y.word;
       count = y.count;
       put = λ p shard is kept.
           x.stay shard.node shard.key (x.fresh_keys (of_leaving p) shard (b, was, is))

@@ -81,7 +81,7 @@ pair_alike far turns by_job given survey pair j = pair_kept far (retold far turn
     (record {
       more_sets = omega arith;
       more_keys = omega arith;
-      fresh = λ c d f. (c, d, before c d f, λ k fit. fit);
+      fresh = λ c d f. (c, d, before c d f, λ pages k fit. fit);
       a_stay = λ c d f p shard at. refl;
       b_stay = λ c d f p shard at. refl;
       new_stay = λ c d f p shard at. refl;

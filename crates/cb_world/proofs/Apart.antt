@@ -1,8 +1,8 @@
 -- Objects in local memory do not overlap, and owned places stay owned.
 use Rattle.std.proofs.Common.{◌≡◌, ◌≢◌, ℕ, ◌+◌, ◌*◌, ◌<◌, ◌≤◌, sym, ap, ◌∙◌, subst, arith, inl, inr, Option, Some, None}
 use Rattle.std.proofs.lemmas.Bool.{cases_order}
-use Rattle.cb_class.specs.Class.{words_of, slots_of}
-use Rattle.cb_class.proofs.Laws.{object_fits, slot_within, slots_apart}
+use Rattle.cb_class.specs.Class.{words_of, slots_of, pages_of}
+use Rattle.cb_class.proofs.Laws.{object_fits, slot_in_run, slots_apart}
 use Rattle.cb_span.specs.Contents.{Contents, IsSpan, handle_at}
 use Rattle.cb_span.proofs.Laws.{slot_in_range}
 use Rattle.cb_world.specs.Memory.{words_for}
@@ -11,15 +11,16 @@ use Rattle.cb_world.specs.Shown.{Covers, object_at}
 use Rattle.cb_world.specs.FarState.{FarState, span_in}
 use Rattle.cb_world.specs.LocalSound.{LocalSound, HasSlot, LiesAt}
 
--- where a slot lies: inside its frame
+-- where a slot lies: inside the frames of its span
 pub slot_inside : (far : FarState) (s : Shown) (h len place : ℕ) → LocalSound s far
     → (c : HasSlot far.spans h len place)
-    → (512 * c.frame ≤ place) × (place + words_for len ≤ 512 * c.frame + 512)
+    → (512 * c.frame ≤ place)
+    × (place + words_for len ≤ 512 * (c.frame + pages_of c.span.class))
 slot_inside far s h len place sound c =
     let valid : IsSpan c.span = sound.frames.valid c.frame c.span c.there in
     let range : c.slot < slots_of c.span.class =
     subst (λ (n : ℕ). c.slot < n) valid.sized (slot_in_range c.span c.slot h c.named) in
-    let ends = slot_within c.span.class c.slot valid.in_table range in
+    let ends = slot_in_run c.span.class c.slot valid.in_table range in
     let fits = object_fits len c.span.class c.fits in
     (omega (arith, c.at), omega (arith, c.at, ends, fits))
 
@@ -70,7 +71,11 @@ apart far s h len place k len' place' p sound a b other u v =
     elim (cases_order c.frame d.frame) [
       | inl same ↦ in_one far h len place k len' place' p c d other u v same
       | inr differ ↦ elim differ [
-        | inl less ↦ omega (arith, u.0, u.1, v.0, v.1, x.0, x.1, y.0, y.1, less)
-        | inr more ↦ omega (arith, u.0, u.1, v.0, v.1, x.0, x.1, y.0, y.1, more)
+        | inl less ↦
+            let run = sound.frames.apart c.frame d.frame c.span d.span c.there d.there less in
+            omega (arith, u.0, u.1, v.0, v.1, x.0, x.1, y.0, y.1, run)
+        | inr more ↦
+            let run = sound.frames.apart d.frame c.frame d.span c.span d.there c.there more in
+            omega (arith, u.0, u.1, v.0, v.1, x.0, x.1, y.0, y.1, run)
       ]
     ]

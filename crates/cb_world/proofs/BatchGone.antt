@@ -208,7 +208,7 @@ gone_pair s far batch pair sound there x joins j = pair_kept far (without_batch 
     (record {
       more_sets = omega arith;
       more_keys = omega arith;
-      fresh = λ c d f. (c, d, before c d f, λ k fit. fit);
+      fresh = λ c d f. (c, d, before c d f, λ pages k fit. fit);
       a_stay = λ c d f p shard at.
           gone_row s far batch (of_set pair.a p) shard sound there (
             c,

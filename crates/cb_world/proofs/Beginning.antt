@@ -97,6 +97,7 @@ pub begun_join : (s : Shown) (far new : FarState) (pair : JoiningState) (a b : S
     → AreCoefficients (length a.positions) (parities a) table → IsBegun far new pair a b
     → IsJoin new pair
 begun_join s far new pair a b table sound coeffs x = record {
+  pages = a.pages;
   k = length a.positions;
   r = parities a;
   range = shaped.range;
@@ -137,10 +138,12 @@ begun_join s far new pair a b table sound coeffs x = record {
       same b d (sym x.b_there ∙ ap (λ (m : SetMap). set_in m pair.b) (sym x.left.sets)
       ∙ f.b_there) in
       subst (λ (c : SetState).
-      AreFit pair (length a.positions) c d) e (subst (λ (d : SetState).
-      AreFit pair (length a.positions) a d) g (record {
+      AreFit pair a.pages (length a.positions) c d) e (subst (λ (d : SetState).
+      AreFit pair a.pages (length a.positions) a d) g (record {
         a_count = refl;
         b_count = x.positions;
+        a_pages = refl;
+        b_pages = x.matched.pages;
         a_live = λ p l. x.live p ∙ off p l (live_at b p) refl;
         b_live = λ p l. x.live p ∙ l;
       }));
@@ -183,17 +186,19 @@ begun_join s far new pair a b table sound coeffs x = record {
     wb = sound.sets.worded pair.b b x.b_there
 
     m : (rows : List (List ℕ))
-        × IsMergedWord (length a.positions) (parities a) pair.taken wa.0 wb.0 rows
-    m = merged_word (length a.positions) (parities a) table wa.0 wb.0 pair.taken (record {
+        × IsMergedWord a.pages (length a.positions) (parities a) pair.taken wa.0 wb.0 rows
+    m = merged_word a.pages (length a.positions) (parities a) table wa.0 wb.0 pair.taken (record {
       range = shaped.range;
       coefficients = coeffs;
       a_word = wa.1.word.code;
       b_word = subst (λ (r : ℕ).
-          IsSpanWord (length a.positions) r wb.0) (omega (
+          IsSpanWord a.pages (length a.positions) r wb.0) (omega (
             arith,
             x.positions,
             x.shards,
-          )) (subst (λ (k : ℕ). IsSpanWord k (parities b) wb.0) x.positions wb.1.word.code);
+          )) (subst (λ (k : ℕ). IsSpanWord a.pages k (parities b) wb.0) x.positions
+          (subst (λ (n : ℕ). IsSpanWord n (length b.positions) (parities b) wb.0) x.matched.pages
+          wb.1.word.code));
     }) x.taken
 
     off : (p : ℕ) → live_at a p ≡ true → (flag : Bool) → live_at b p ≡ flag → live_at b p ≡ false

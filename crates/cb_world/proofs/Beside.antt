@@ -1,6 +1,6 @@
 -- Words of one object change: those beside it, and so the frames that are leaving, stay.
 use Rattle.std.proofs.Common.{◌≡◌, ◌≢◌, ◌⊎◌, ℕ, ◌+◌, ◌*◌, ◌<◌, ◌≤◌, List, Some, Contains, length, get_or, sym, refl, ap, ◌∙◌, subst, arith, inl, inr}
-use Rattle.std.proofs.lemmas.Bool.{cases_order}
+use Rattle.cb_class.specs.Class.{pages_of}
 use Rattle.cb_world.specs.declared.object.Object.{Object}
 use Rattle.cb_world.specs.declared.object.Object.TheVariants as is
 use Rattle.cb_world.specs.declared.shown.Shown.{Shown}
@@ -12,6 +12,7 @@ use Rattle.cb_world.specs.Sound.{Sound}
 use Rattle.cb_world.proofs.Windows.{window_same, put_else}
 use Rattle.cb_world.proofs.Apart.{slot_inside}
 use Rattle.cb_world.proofs.Kept.{sound_kept}
+use Rattle.cb_world.proofs.Lying.{spans_apart}
 use Rattle.cb_world.proofs.Claimed.{lies}
 use Rattle.cb_world.proofs.Unmoved.{KeepsLeaving, IsAtLarge, keeps_all, not_leaving, sound_near}
 
@@ -34,30 +35,33 @@ pub put_twice_beside : (ms xs ys : List ℕ) (place len : ℕ) → length xs ≡
 put_twice_beside ms xs ys place len count more p beside =
     put_beside (put ms place xs) ys place len more p beside ∙ put_beside ms xs place len count p beside
 
--- the words of another frame than that of the object
-pub other_frame : (ms ns : List ℕ) (place len f g : ℕ) → f ≢ g → 512 * g ≤ place
-    → place + words_for len ≤ 512 * g + 512 → KeepsBeside ms ns place len
-    → window ns (512 * f) 512 ≡ window ms (512 * f) 512
-other_frame ms ns place len f g other start end beside =
-    window_same ns ms (512 * f) 512 (λ i low high. beside i (side i (cases_order f g) low high))
+-- the words of n frames, none of which is one of the m frames of the object's span
+pub other_run : (ms ns : List ℕ) (place len f n g m : ℕ) → (f + n ≤ g) ⊎ (g + m ≤ f)
+    → 512 * g ≤ place → place + words_for len ≤ 512 * (g + m) → KeepsBeside ms ns place len
+    → window ns (512 * f) (512 * n) ≡ window ms (512 * f) (512 * n)
+other_run ms ns place len f n g m other start end beside =
+    window_same ns ms (512 * f) (512 * n) (λ i low high. beside i (side i other low high))
   where
-    side : (i : ℕ) → (f ≡ g) ⊎ ((f < g) ⊎ (g < f)) → 512 * f ≤ i → i < 512 * f + 512
+    side : (i : ℕ) → (f + n ≤ g) ⊎ (g + m ≤ f) → 512 * f ≤ i → i < 512 * f + 512 * n
         → IsOutside place len i
-    side i (inl same) low high = absurd (other same)
-    side i (inr (inl less)) low high = inl (omega (arith, less, start, high))
-    side i (inr (inr more)) low high = inr (omega (arith, more, end, low))
+    side i (inl less) low high = inl (omega (arith, less, start, high))
+    side i (inr more) low high = inr (omega (arith, more, end, low))
 
--- a frame that is leaving is another than that of an object that is here
+-- a span that is leaving has other frames than that of an object that is here
 pub apart_frames : (far : FarState) (s t : Shown) (h len place f : ℕ) (batch : LeavingState)
     → Sound s far → object_at s h ≡ is.Here len place → KeepsBeside s.memory t.memory place len
     → far.leaving ≡ Some batch → Contains batch.frames f
-    → window t.memory (512 * f) 512 ≡ window s.memory (512 * f) 512
+    → window t.memory (512 * f) (512 * batch.pages) ≡ window s.memory (512 * f) (512 * batch.pages)
 apart_frames far s t h len place f batch sound here beside there leaves =
     let c = sound.here.placed.placed h len place (lies s h len place here) in
     let x = slot_inside far s h len place sound.here c in
     let other : f ≢ c.frame = λ e. not_leaving s far batch c.frame c.slot h c.span sound there
     (subst IsAtLarge (sym here) tt) c.there c.named (subst (Contains batch.frames) e leaves) in
-    other_frame s.memory t.memory place len f c.frame other x.0 x.1 beside
+    let held = (sound.noted batch there).held f leaves in
+    other_run s.memory t.memory place len f batch.pages c.frame (pages_of c.span.class)
+    (subst (λ (n : ℕ). (f + n ≤ c.frame) ⊎ (c.frame + pages_of c.span.class ≤ f)) held.2
+    (spans_apart far c.frame f c.span held.0 sound.here.frames c.there held.1 other))
+    x.0 x.1 beside
 
 pub leaving_beside : (far : FarState) (s t : Shown) (h len place : ℕ) (batch : LeavingState)
     → Sound s far → object_at s h ≡ is.Here len place → KeepsBeside s.memory t.memory place len

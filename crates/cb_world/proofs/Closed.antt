@@ -1,7 +1,8 @@
--- The sound world once all objects of a span are away and its frame is given back.
-use Rattle.std.proofs.Common.{◌≡◌, ◌≢◌, ◌⊎◌, ◌↔◌, ℕ, Bool, true, false, ◌*◌, ◌<◌, ◌≤◌, length, set, sym, ap, ◌∙◌, subst, arith, inl, inr, Option, Some, None, length-set, get_or-set_other, get_or-set_same}
+-- The sound world once all objects of a span are away and its frames are given back.
+use Rattle.std.proofs.Common.{◌≡◌, ◌≢◌, ◌⊎◌, ◌↔◌, ℕ, ◌*◌, ◌<◌, ◌≤◌, length, set, sym, ap, ◌∙◌, subst, arith, inl, inr, Some, None, length-set, get_or-set_other, get_or-set_same}
 use Rattle.std.proofs.lemmas.Bool.{cases_eq}
-use Rattle.cb_frame.specs.FreeFrames.{IsFreeFrame, with_given}
+use Rattle.cb_class.specs.Class.{pages_of}
+use Rattle.cb_frame.specs.FreeFrames.{with_run_given}
 use Rattle.cb_span.specs.Contents.{Contents, handle_at}
 use Rattle.cb_span.specs.Places.{slot_place}
 use Rattle.cb_world.specs.declared.object.Object.{Object}
@@ -10,6 +11,7 @@ use Rattle.cb_world.specs.Shown.{object_at, version_at, never}
 use Rattle.cb_world.specs.FarState.{FarState, span_in}
 use Rattle.cb_world.specs.LocalSound.{LocalSound, LiesAt, IsStamped}
 use Rattle.cb_world.proofs.Freed.{one_slot}
+use Rattle.cb_world.proofs.Lying.{frames_closed}
 
 -- the object is as it was, and the span does not name it
 pub record IsSpared (s t : Shown) (span : Contents) (h : ℕ) : Type 0 where
@@ -31,9 +33,12 @@ pub record IsSentOff (s t : Shown) (span : Contents) : Type 0 where
   pub risen : (h : ℕ) → version_at s h ≤ version_at t h
   pub each : (h : ℕ) → IsSpared s t span h ⊎ IsSentAway t span h
 
--- the far state whose frame is given back
-abbrev pub with_closed : FarState → ℕ → FarState
-with_closed far f = record far { frames = with_given far.frames f; spans = set far.spans f None }
+-- the far state without the span, whose frames are given back
+abbrev pub with_closed : FarState → ℕ → Contents → FarState
+with_closed far f span = record far {
+  frames = with_run_given far.frames f (pages_of span.class);
+  spans = set far.spans f None;
+}
 
 some_none : (x : Contents) → Some x ≡ None → ⊥
 some_none x e = cc
@@ -43,7 +48,7 @@ lies_never o len place lies e = subst (λ (q : Object). LiesAt q len place) e li
 
 pub sound_closed : (far : FarState) (s t : Shown) (f : ℕ) (span : Contents) → LocalSound s far
     → span_in far.spans f ≡ Some span → f < length far.spans → IsSentOff s t span
-    → LocalSound t (with_closed far f)
+    → LocalSound t (with_closed far f span)
 sound_closed far s t f span sound there within x =
     let here : span_in (set far.spans f None) f ≡ None =
     get_or-set_same far.spans f None None within in
@@ -73,31 +78,7 @@ sound_closed far s t f span sound there within x =
         stamped = x.stamped;
         versioned = λ h below. omega (arith, sound.known.versioned h below, x.risen h);
       };
-      frames = record {
-        sized = length-set far.spans f None ∙ sound.frames.sized
-            ∙ sym (length-set far.frames f true);
-        free = λ g below. elim (cases_eq g f) [
-          | inl e ↦ subst (λ (i : ℕ).
-              IsFreeFrame (with_given far.frames f) i ↔ (span_in (set far.spans f None) i ≡ None))
-              (sym e) (
-                (λ z. here),
-                (λ z. get_or-set_same far.frames f true false (omega (
-                  arith,
-                  within,
-                  sound.frames.sized,
-                ))),
-              )
-          | inr off ↦
-              subst (λ (o : Option Contents).
-              IsFreeFrame (with_given far.frames f) g ↔ (o ≡ None)) (sym (else g off))
-              (subst (λ (b : Bool).
-              (b ≡ true) ↔ (span_in far.spans g ≡ None))
-              (sym (get_or-set_other far.frames f g true false off))
-              (sound.frames.free g (given_within g below)))
-        ];
-        valid = λ g other at. sound.frames.valid g other (was g other at);
-        taken = λ g other at. sound.frames.taken g other (was g other at);
-      };
+      frames = frames_closed far f span sound.frames there;
       placed = record {
         memory = x.memory ∙ sound.placed.memory
             ∙ ap (λ (n : ℕ). 512 * n) (sym (length-set far.spans f None));
@@ -144,9 +125,6 @@ sound_closed far s t f span sound there within x =
   where
     same_span : (a b : Contents) → Some a ≡ Some b → a ≡ b
     same_span a b e = cc
-
-    given_within : (g : ℕ) → g < length (with_given far.frames f) → g < length far.frames
-    given_within g below = let n = length-set far.frames f true in omega (arith, n, below)
 
     was : (g : ℕ) (other : Contents) → span_in (set far.spans f None) g ≡ Some other
         → span_in far.spans g ≡ Some other

@@ -218,11 +218,13 @@ joining_not_set q id p e = cc
 -- the merged set keeps the merged word
 c_word : (s : Shown) (far new : FarState) (pair : JoiningState) (a b c : SetState) (id : ℕ)
     → AwaySound s far → (j : IsJoin far pair) → IsCommitted far new pair a b c id
-    → (m : List (List ℕ)) → IsJoinWord far pair j.k j.r m
+    → (m : List (List ℕ)) → IsJoinWord far pair j.pages j.k j.r m
     → IsWordOf new.nodes new.members c m
 c_word s far new pair a b c id sound j x m w = record {
-  code = subst (λ (k : ℕ).
-      IsSpanWord k (parities c) m) (sym ck) (subst (λ (r : ℕ). IsSpanWord j.k r m) (sym cr) w.word);
+  code = subst (λ (n : ℕ). IsSpanWord n (length c.positions) (parities c) m)
+      (sym (x.merged.pages ∙ fit.a_pages)) (subst (λ (k : ℕ).
+      IsSpanWord j.pages k (parities c) m) (sym ck) (subst (λ (r : ℕ).
+      IsSpanWord j.pages j.k r m) (sym cr) w.word));
   survive = λ p shard at kept. elim (c_cases pair a b c x.merged p shard at) [
     | inl step ↦
         row_stays s far new pair a b c id sound x (of_joining p) shard (
@@ -251,7 +253,7 @@ c_word s far new pair a b c id sound j x m w = record {
   ];
 }
   where
-    fit : AreFit pair j.k a b
+    fit : AreFit pair j.pages j.k a b
     fit = j.fit a b x.fresh
 
     ck : length c.positions ≡ j.k
@@ -290,6 +292,7 @@ c_shaped s far new pair a b c id sound j x = record {
   range = subst (λ (k : ℕ).
       IsInRange k (parities c)) (sym ck) (subst (λ (r : ℕ). IsInRange j.k r) (sym cr) j.range);
   data_first = omega (arith, ck, x.merged.count, ap length x.fresh.a_shards, j.a_count);
+  pages = omega (arith, x.merged.pages, shaped.pages);
   distinct = λ i l d less within.
       let yi = at_a i d (omega (arith, less, within)) in
       let yl = at_a l d within in
@@ -304,7 +307,7 @@ c_shaped s far new pair a b c id sound j x = record {
   ];
 }
   where
-    fit : AreFit pair j.k a b
+    fit : AreFit pair j.pages j.k a b
     fit = j.fit a b x.fresh
 
     ck : length c.positions ≡ j.k
@@ -368,7 +371,7 @@ commit_sets s far new pair a b c id sound j x = record {
       omega (arith, sound.sets.numbered q other was, x.drawn.0, x.drawn.1));
 }
   where
-    m : (rows : List (List ℕ)) × IsJoinWord far pair j.k j.r rows
+    m : (rows : List (List ℕ)) × IsJoinWord far pair j.pages j.k j.r rows
     m = j.word a b x.fresh
 
     wa : (rows : List (List ℕ)) × IsSetWord s far.nodes far.members a rows
@@ -377,28 +380,35 @@ commit_sets s far new pair a b c id sound j x = record {
     wb : (rows : List (List ℕ)) × IsSetWord s far.nodes far.members b rows
     wb = sound.sets.worded pair.b b x.fresh.b_there
 
-    merged : IsMergedWord j.k j.r pair.taken wa.0 wb.0 m.0
+    merged : IsMergedWord j.pages j.k j.r pair.taken wa.0 wb.0 m.0
     merged = join_is_merged far pair a b wa.0 wb.0 m.0 j x.fresh wa.1.word wb.1.word m.1
 
+    fit : AreFit pair j.pages j.k a b
+    fit = j.fit a b x.fresh
+
     holds : (p slot h : ℕ) → slot_at c p slot ≡ Some h
-        → HoldsObject s (row_at m.0 p) (length (position_of c p).slots) slot h
+        → HoldsObject s c.pages (row_at m.0 p) (length (position_of c p).slots) slot h
     holds p slot h named = elim (c_named s far pair a b c sound j x.fresh x.merged p slot h named) [
       | inl y ↦
           let row : row_at m.0 p ≡ row_at wb.0 p =
           merged.chosen p (omega (arith, y.inside, (j.fit a b x.fresh).b_count))
           ∙ ap (λ t. cond t (row_at wb.0 p) (row_at wa.0 p)) y.takes in
-          subst (λ (r : List ℕ). HoldsObject s r (length (position_of c p).slots) slot h) (sym row)
+          subst (λ (r : List ℕ).
+          HoldsObject s c.pages r (length (position_of c p).slots) slot h) (sym row)
           (subst (λ (z : PositionState).
-          HoldsObject s (row_at wb.0 p) (length z.slots) slot h) (sym y.content)
-          (wb.1.holds p slot h y.named))
+          HoldsObject s c.pages (row_at wb.0 p) (length z.slots) slot h) (sym y.content)
+          (subst (λ (n : ℕ). HoldsObject s n (row_at wb.0 p) (length (position_of b p).slots) slot h)
+          (fit.b_pages ∙ sym fit.a_pages ∙ sym x.merged.pages) (wb.1.holds p slot h y.named)))
       | inr y ↦
           let row : row_at m.0 p ≡ row_at wa.0 p =
           merged.chosen p (omega (arith, y.inside, (j.fit a b x.fresh).a_count))
           ∙ ap (λ t. cond t (row_at wb.0 p) (row_at wa.0 p)) y.takes in
-          subst (λ (r : List ℕ). HoldsObject s r (length (position_of c p).slots) slot h) (sym row)
+          subst (λ (r : List ℕ).
+          HoldsObject s c.pages r (length (position_of c p).slots) slot h) (sym row)
           (subst (λ (z : PositionState).
-          HoldsObject s (row_at wa.0 p) (length z.slots) slot h) (sym y.content)
-          (wa.1.holds p slot h y.named))
+          HoldsObject s c.pages (row_at wa.0 p) (length z.slots) slot h) (sym y.content)
+          (subst (λ (n : ℕ). HoldsObject s n (row_at wa.0 p) (length (position_of a p).slots) slot h)
+          (sym x.merged.pages) (wa.1.holds p slot h y.named)))
     ]
 
     content : (p : ℕ) (flag : Bool) → live_at b p ≡ flag

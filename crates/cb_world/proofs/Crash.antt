@@ -83,6 +83,7 @@ crash_keeps s far node sound within up valid = record {
         record {
           range = x.range;
           data_first = x.data_first;
+          pages = x.pages;
           distinct = x.distinct;
           current =
               crash_keeps_current far.members node set.shards within x.current;

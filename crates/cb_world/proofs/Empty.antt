@@ -78,8 +78,10 @@ local first c some = record {
   };
   frames = record {
     sized = length-replicate c.frames no_contents ∙ sym (length-replicate c.frames true);
+    within = λ f span e. absurd (none_some _ span (no_span first c f) e);
+    apart = λ f g a b e. absurd (none_some _ a (no_span first c f) e);
     free = λ f below. (
-      λ free. no_span first c f,
+      λ free over. none_some _ over.1.span (no_span first c over.0) over.1.there,
       λ e. get_or-replicate c.frames f true false
           (omega (arith, below, length-replicate c.frames true)),
     );

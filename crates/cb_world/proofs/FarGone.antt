@@ -29,6 +29,7 @@ use Rattle.cb_world.specs.LocalSound.{LocalSound, IsStamped, LiesAt}
 use Rattle.cb_world.specs.GivenUp.{GivesUp, IsGivenUp}
 use Rattle.cb_world.specs.Sound.{AreNoted, IsLeaving, Sound}
 use Rattle.cb_world.proofs.Gone.{IsFreed}
+use Rattle.cb_world.proofs.Lying.{frames_as}
 use Rattle.cb_world.proofs.Rooms.{room_left}
 use Rattle.cb_world.proofs.SetsLeft.{left_count, left_others, left_over}
 use Rattle.cb_world.proofs.Reserving.{noted_by, reserved_is_other}
@@ -105,12 +106,7 @@ freed_here s t far h len v words home c x = record {
     stamped = λ k. stamped k (cases_eq k h);
     versioned = λ k below. versioned k below (cases_eq k h);
   };
-  frames = record {
-    sized = x.sound.here.frames.sized;
-    free = x.sound.here.frames.free;
-    valid = x.sound.here.frames.valid;
-    taken = x.sound.here.frames.taken;
-  };
+  frames = frames_as far (without_far far h home c) refl refl x.sound.here.frames;
   placed = record {
     memory = ap length x.memory ∙ x.sound.here.placed.memory;
     placed = λ k n place lies. x.sound.here.placed.placed k n place (before k n place lies

@@ -6,7 +6,8 @@ use Rattle.std.proofs.lemmas.List.{ext_get_or}
 use Rattle.std.proofs.lemmas.Nat.{from_le_bytes-to_le_bytes_8}
 use Rattle.std.specs.Int.{to_le_bytes, from_le_bytes, w64}
 use Rattle.cb_class.specs.declared.class.Class.{Class}
-use Rattle.cb_frame.specs.FreeFrames.{with_taken}
+use Rattle.cb_class.specs.Class.{pages_of}
+use Rattle.cb_frame.specs.FreeFrames.{with_run_taken}
 use Rattle.cb_member.specs.declared.names.NodeId.{NodeId}
 use Rattle.cb_member.specs.declared.names.Shard.{Shard}
 use Rattle.cb_member.specs.Membership.{Membership}
@@ -76,7 +77,8 @@ module _ (far : FarState) (class : Class) (temp : Temp) (a b : Slot) where
       let frames : a.frame ≡ b.frame = some_same a.frame b.frame (sym x.frame ∙ y.frame) in
       let numbers : a.number ≡ b.number = x.number ∙ sym y.number in
       let spans : a.span ≡ b.span = x.span ∙ sym y.span in
-      let free : a.free ≡ b.free = x.free ∙ ap (with_taken far.frames) frames ∙ sym y.free in
+      let free : a.free ≡ b.free = x.free
+      ∙ ap (λ (f : ℕ). with_run_taken far.frames f (pages_of class)) frames ∙ sym y.free in
       λ i. record { frame = frames i; number = numbers i; span = spans i; free = free i }
 
   pub chosen_fixed : IsChosen far class temp a → IsChosen far class temp b → a ≡ b

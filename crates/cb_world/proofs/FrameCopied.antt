@@ -1,5 +1,5 @@
 -- The words of a frame as a row of bytes, and back.
-use Rattle.std.proofs.Common.{◌≡◌, ℕ, zero, suc, ◌+◌, ◌*◌, ◌-◌, ◌^◌, ◌<◌, ◌≤◌, List, [], ◌∷◌, ◌++◌, length, take, drop, drop-cons, drop-drop, length-set, get_or, set, replicate, All, refl, sym, ap, ◌∙◌, arith, append_assoc, length-append}
+use Rattle.std.proofs.Common.{◌≡◌, ℕ, zero, suc, ◌+◌, ◌*◌, ◌/◌, ◌-◌, ◌^◌, ◌<◌, ◌≤◌, List, [], ◌∷◌, ◌++◌, length, take, drop, drop-cons, drop-drop, length-set, get_or, set, replicate, All, refl, sym, ap, ◌∙◌, arith, append_assoc, length-append}
 use Rattle.std.proofs.lemmas.List.{append-nil, drop_all, ext_get_or, get_or_append_left, length-drop, length-take-le, set-append_left, take_all, take-append-drop}
 use Rattle.std.proofs.lemmas.List.Elements.{All-nil, All-cons}
 use Rattle.std.proofs.lemmas.List.Edits.{sets, sets-eq}
@@ -36,12 +36,13 @@ pub words_read : (row dst : List ℕ) → length row ≡ 4096 → length dst ≡
     → ((k : ℕ) → k < length dst → get_or dst k 0 ≡ little_number 8 (drop (8 * k) row))
     → dst ≡ words_in row
 words_read row dst wide count read =
-    let w = length_words 512 row in
-    ext_get_or 0 dst (words_in row) (count ∙ sym w) (λ i below.
+    let n : length row / 8 ≡ 512 = omega (arith, wide) in
+    let w = length_words (length row / 8) row in
+    ext_get_or 0 dst (words_in row) (count ∙ sym (w ∙ n)) (λ i below.
     let l = length-drop (8 * i) row in
     read i below ∙ first_eight (drop (8 * i) row) (omega (arith, l, wide, below, count))
     ∙ eight_bytes (take 8 (drop (8 * i) row))
-    ∙ sym (word_from 512 i row (omega (arith, below, count))))
+    ∙ sym (word_from (length row / 8) i row (omega (arith, below, count, n))))
 
 -- ---- words that are put
 put_sets : (ms : List ℕ) (p : ℕ) (xs : List ℕ) → put ms p xs ≡ sets ms p xs

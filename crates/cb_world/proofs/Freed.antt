@@ -1,13 +1,13 @@
 -- The world after an object in local memory is freed.
 use Rattle.std.proofs.Common.{◌≡◌, ◌≢◌, ◌↔◌, ℕ, ◌+◌, ◌*◌, ◌<◌, ◌≤◌, List, length, set, sym, ap, ◌∙◌, subst, arith, inl, inr, Option, Some, None, length-set, get_or-set_other, get_or-set_same}
 use native.Mathlib.Decide.{ℕ_discrete}
-use Rattle.cb_class.specs.Class.{IsClassOf, slots_of, words_of}
-use Rattle.cb_class.proofs.Laws.{slot_within, slots_apart, words_fill, bytes_at_least}
+use Rattle.cb_class.specs.declared.class.Class.{Class}
+use Rattle.cb_class.specs.Class.{IsClass, IsClassOf, pages_of, slots_of}
+use Rattle.cb_class.proofs.Laws.{words_at_least}
 use Rattle.std.proofs.lemmas.Bool.{cases_order}
-use Rattle.cb_frame.specs.FreeFrames.{IsFreeFrame}
-use Rattle.cb_span.specs.Contents.{Contents, IsSpan, handle_at, with_cleared, live_count}
+use Rattle.cb_span.specs.Contents.{Contents, handle_at, with_cleared, live_count}
 use Rattle.cb_span.specs.Places.{slot_place}
-use Rattle.cb_span.proofs.Laws.{slot_in_range, IsSpan-with_cleared, handle_at-with_cleared, handle_at-with_cleared_other}
+use Rattle.cb_span.proofs.Laws.{slot_in_range, frames_apart, same_slot, IsSpan-with_cleared, handle_at-with_cleared, handle_at-with_cleared_other}
 use Rattle.cb_world.specs.declared.object.Object.{Object}
 use Rattle.cb_world.specs.declared.object.Object.TheVariants as is
 use Rattle.cb_world.specs.declared.shown.Shown.{Shown}
@@ -15,6 +15,7 @@ use Rattle.cb_world.specs.Shown.{object_at, version_at, never}
 use Rattle.cb_world.specs.FarState.{FarState, span_in}
 use Rattle.cb_world.specs.LocalSound.{LocalSound, HasSlot, NamesObject, LiesAt, IsStamped}
 use Rattle.cb_world.proofs.Apart.{some_same}
+use Rattle.cb_world.proofs.Lying.{frames_put, stands_in_place}
 
 -- the spans with another one in a frame
 span_there : (spans : List (Option Contents)) (f : ℕ) (o : Option Contents) → f < length spans
@@ -52,30 +53,29 @@ one_slot far s h len place f slot span sound lies c there holds =
     subst (λ (n : ℕ). slot < n) valid.sized (slot_in_range span slot h holds) in
     let range' : c.slot < slots_of c.span.class =
     subst (λ (n : ℕ). c.slot < n) valid'.sized (slot_in_range c.span c.slot h c.named) in
-    let ends = slot_within span.class slot valid.in_table range in
-    let ends' = slot_within c.span.class c.slot valid'.in_table range' in
-    let fill = words_fill span.class valid.in_table in
-    let least = bytes_at_least span.class valid.in_table in
-    let fill' = words_fill c.span.class valid'.in_table in
-    let least' = bytes_at_least c.span.class valid'.in_table in
-    let frames : f ≡ c.frame = omega (arith, same, c.at, ends, ends', fill, least, fill', least') in
+    let frames : f ≡ c.frame = elim (cases_order f c.frame) [
+      | inl e ↦ e
+      | inr differ ↦ elim differ [
+        | inl less ↦ absurd (two span.class c.span.class f c.frame slot c.slot valid.in_table range
+            (sound.frames.apart f c.frame span c.span there c.there less) (sym same ∙ c.at))
+        | inr more ↦ absurd (two c.span.class span.class c.frame f c.slot slot valid'.in_table range'
+            (sound.frames.apart c.frame f c.span span c.there there more) (sym c.at ∙ same))
+      ]
+    ] in
     let spans : span ≡ c.span =
-    some_same span c.span (sym there ∙ ap (span_in far.spans) frames ∙ c.there) in
-    let starts : slot * words_of span.class ≡ c.slot * words_of span.class =
-    omega (arith, same, c.at, frames, ap (λ (q : Contents). c.slot * words_of q.class) spans) in (
+    some_same span c.span (sym there ∙ ap (span_in far.spans) frames ∙ c.there) in (
       frames,
-      elim (cases_order slot c.slot) [
-        | inl e ↦ e
-        | inr apart ↦ elim apart [
-          | inl less ↦
-              absurd (let off =
-              slots_apart span.class slot c.slot less in omega (arith, starts, off, fill, least))
-          | inr more ↦
-              absurd (let off =
-              slots_apart span.class c.slot slot more in omega (arith, starts, off, fill, least))
-        ]
-      ],
+      same_slot span.class f slot c.slot valid.in_table (sym same ∙ c.at
+          ∙ ap (λ (i : ℕ). slot_place c.span.class i c.slot) (sym frames)
+          ∙ ap (λ (q : Contents). slot_place q.class f c.slot) (sym spans)),
     )
+  where
+    -- slots of two spans lie at two places
+    two : (a b : Class) (f g s t : ℕ) → IsClass a → s < slots_of a → f + pages_of a ≤ g
+        → slot_place a f s ≡ slot_place b g t → ⊥
+    two a b f g s t known inside run e =
+        let ends = frames_apart a b f g s t known inside run in
+        omega (arith, ends, e, words_at_least a known)
 
 abbrev pub freed : Shown → ℕ → ℕ → Shown
 freed s h v =
@@ -99,12 +99,9 @@ sound_freed far s h len place v sound lies c range stamp frame live rises = reco
     stamped = λ k. stamped k (ℕ_discrete k h);
     versioned = λ k below. versioned k below (ℕ_discrete k h);
   };
-  frames = record {
-    sized = length-set far.spans c.frame (Some left) ∙ sound.frames.sized;
-    free = λ f below. free f below (ℕ_discrete f c.frame);
-    valid = λ f span there. valid f span there (ℕ_discrete f c.frame);
-    taken = λ f span there. taken f span there (ℕ_discrete f c.frame);
-  };
+  frames = frames_put far c.frame left far.frames sound.frames
+      (stands_in_place far c.frame c.span sound.frames c.there)
+      (IsSpan-with_cleared c.span c.slot (sound.frames.valid c.frame c.span c.there)) live;
   placed = record {
     memory = sound.placed.memory
         ∙ ap (λ (n : ℕ). 512 * n) (sym (length-set far.spans c.frame (Some left)));
@@ -167,42 +164,6 @@ sound_freed far s h len place v sound lies c range stamp frame live rises = reco
         IsStamped o (version_at (freed s h v) k)) (sym (other k apart))
         (subst (IsStamped (object_at s k)) (sym (get_or-set_other s.versions h k (v + 1) 0 apart))
         (sound.known.stamped k))
-
-    some_none : (x : Contents) → Some x ≡ None → ⊥
-    some_none x e = cc
-
-    free : (f : ℕ) → f < length far.frames → Dec (f ≡ c.frame)
-        → IsFreeFrame far.frames f ↔ (span_in (set far.spans c.frame (Some left)) f ≡ None)
-    free f below (yes e) =
-        subst (λ (i : ℕ).
-        IsFreeFrame far.frames i ↔ (span_in (set far.spans c.frame (Some left)) i ≡ None)) (sym e) (
-          (λ z. absurd (some_none c.span (sym c.there
-              ∙ (sound.frames.free c.frame (subst (λ (i : ℕ). i < length far.frames) e below)).0 z))),
-          (λ z. absurd (some_none left (sym here ∙ z))),
-        )
-    free f below (no apart) =
-        subst (λ (o : Option Contents).
-        IsFreeFrame far.frames f
-        ↔ (o ≡ None)) (sym (span_else far.spans c.frame f (Some left) apart))
-        (sound.frames.free f below)
-
-    valid : (f : ℕ) (span : Contents) → span_in (set far.spans c.frame (Some left)) f ≡ Some span
-        → Dec (f ≡ c.frame) → IsSpan span
-    valid f span there (yes e) =
-        subst IsSpan (some_same left span (sym here
-        ∙ ap (span_in (set far.spans c.frame (Some left))) (sym e)
-        ∙ there)) (IsSpan-with_cleared c.span c.slot (sound.frames.valid c.frame c.span c.there))
-    valid f span there (no apart) =
-        sound.frames.valid f span (sym (span_else far.spans c.frame f (Some left) apart) ∙ there)
-
-    taken : (f : ℕ) (span : Contents) → span_in (set far.spans c.frame (Some left)) f ≡ Some span
-        → Dec (f ≡ c.frame) → 1 ≤ live_count span
-    taken f span there (yes e) =
-        subst (λ (x : Contents).
-        1 ≤ live_count x) (some_same left span (sym here
-        ∙ ap (span_in (set far.spans c.frame (Some left))) (sym e) ∙ there)) live
-    taken f span there (no apart) =
-        sound.frames.taken f span (sym (span_else far.spans c.frame f (Some left) apart) ∙ there)
 
     placed : (k n p : ℕ) → LiesAt (object_at (freed s h v) k) n p → Dec (k ≡ h)
         → HasSlot (set far.spans c.frame (Some left)) k n p

@@ -1,5 +1,5 @@
 -- How the surviving positions are found, and their rows given out.
-use Rattle.std.proofs.Common.{◌≡◌, ◌≢◌, ℕ, suc, ◌+◌, ◌<◌, ◌≤◌, List, [], ◌∷◌, length, take, get_or, set, Some, sym, refl, ap, ◌∙◌, subst, arith, inl, inr, get_or-set_same, get_or-set_other}
+use Rattle.std.proofs.Common.{◌≡◌, ◌≢◌, ℕ, suc, ◌+◌, ◌*◌, ◌<◌, ◌≤◌, List, [], ◌∷◌, length, take, get_or, set, Some, sym, refl, ap, ◌∙◌, subst, arith, inl, inr, get_or-set_same, get_or-set_other}
 use Rattle.std.specs.List.{slice_get}
 use Rattle.std.proofs.lemmas.Bool.{cases_eq}
 use Rattle.std.proofs.lemmas.List.{take-take}
@@ -22,22 +22,22 @@ use Rattle.std.proofs.lemmas.Option.{slice_get_within}
 use Rattle.cb_world.specs.Fetched.{StandAt, StandsAt}
 
 -- the rows of the first i positions are those of the word
-pub record Given (old now : NodesState) (shards : List Shard) (positions : List ℕ)
+pub record Given (pages : ℕ) (old now : NodesState) (shards : List Shard) (positions : List ℕ)
     (table given : List (List ℕ)) (i : ℕ) : Type 0 where
   pub nodes : now ≡ record old { given = old.given + i }
   pub count : length given ≡ length table
-  pub lengths : HaveLength 4096 given
-  pub rows : (rows : List (List ℕ)) → StandAt old shards rows positions → (j : ℕ) → j < i
+  pub lengths : HaveLength (4096 * pages) given
+  pub rows : (rows : List (List ℕ)) → StandAt pages old shards rows positions → (j : ℕ) → j < i
       → row_at given (get_or positions j 0) ≡ row_at rows (get_or positions j 0)
 
-pub given_more : (old now next : NodesState) (shards : List Shard) (positions : List ℕ)
+pub given_more : (pages : ℕ) (old now next : NodesState) (shards : List Shard) (positions : List ℕ)
     (table given : List (List ℕ)) (i p : ℕ) (row : List ℕ)
-    → Given old now shards positions table given i → i < length positions → p ≡ get_or positions i 0
+    → Given pages old now shards positions table given i → i < length positions → p ≡ get_or positions i 0
     → p < length table
-    → length row ≡ 4096 → next ≡ record now { given = now.given + 1 }
-    → ((rows : List (List ℕ)) → StandAt old shards rows positions → row ≡ row_at rows p)
-    → Given old next shards positions table (with_row given p row) (i + 1)
-given_more old now next shards positions table given i p row g within here below wide one is =
+    → length row ≡ 4096 * pages → next ≡ record now { given = now.given + 1 }
+    → ((rows : List (List ℕ)) → StandAt pages old shards rows positions → row ≡ row_at rows p)
+    → Given pages old next shards positions table (with_row given p row) (i + 1)
+given_more pages old now next shards positions table given i p row g within here below wide one is =
     let inside : p < length given = omega (arith, g.count, below) in
     let lengths : HaveLength (length row) given = λ q d l. omega (arith, g.lengths q d l, wide) in
     let e = written_row given p row lengths inside in
@@ -45,7 +45,7 @@ given_more old now next shards positions table given i p row g within here below
       nodes = one ∙ ap (λ (n : NodesState). record n { given = n.given + 1 }) g.nodes
           ∙ ap (λ (k : ℕ). record old { given = k }) (omega arith);
       count = written_count given p row ∙ g.count;
-      lengths = written_lengths 4096 given p row g.lengths wide inside;
+      lengths = written_lengths (4096 * pages) given p row g.lengths wide inside;
       rows = λ rows stand j l. ap (λ (t : List (List ℕ)). row_at t (get_or positions j 0)) e
           ∙ elim (cases_eq (get_or positions j 0) p) [
             | inl same ↦ ap (row_at (set given p row)) same ∙ get_or-set_same given p row [] inside
@@ -62,12 +62,12 @@ given_more old now next shards positions table given i p row g within here below
 shard_same : (a b : Shard) → Some a ≡ Some b → a ≡ b
 shard_same a b e = cc
 
-pub stand_row : (old now : NodesState) (shards : List Shard) (positions : List ℕ) (i p : ℕ)
+pub stand_row : (pages : ℕ) (old now : NodesState) (shards : List Shard) (positions : List ℕ) (i p : ℕ)
     (shard : Shard) (rows : List (List ℕ)) → now ≡ record old { given = old.given + i }
-    → StandAt old shards rows positions → i < length positions → p ≡ get_or positions i 0
+    → StandAt pages old shards rows positions → i < length positions → p ≡ get_or positions i 0
     → slice_get shards p ≡ Some shard → (row_under now shard.node shard.key ≡ Some (row_at rows p))
-    × (length (row_at rows p) ≡ 4096)
-stand_row old now shards positions i p shard rows is stand within here at =
+    × (length (row_at rows p) ≡ 4096 * pages)
+stand_row pages old now shards positions i p shard rows is stand within here at =
     let s = stand i within in
     let e : s.shard ≡ shard =
     shard_same s.shard shard (sym s.at ∙ ap (slice_get shards) (sym here) ∙ at) in (
@@ -91,7 +91,7 @@ first_survivors m set present shaped few listed =
 -- their rows stand at their nodes
 pub survivors_stand : (nodes : NodesState) (m : Membership) (set : SetState) (rows : List (List ℕ))
     (k : ℕ) → IsShaped m set → length nodes.nodes ≡ length m.nodes → IsWordOf nodes m set rows
-    → StandAt nodes set.shards rows (take k (surviving m set.shards))
+    → StandAt set.pages nodes set.shards rows (take k (surviving m set.shards))
 survivors_stand nodes m set rows k shaped count word i within =
     let s = taken_survives m set.shards k i within in
     let q : get_or (take k (surviving m set.shards)) i 0 ≡ s.at = s.place ∙ omega arith in
@@ -103,9 +103,9 @@ survivors_stand nodes m set rows k shaped count word i within =
       word.code.is_word.count,
       counted m set shaped,
     ) in
-    let wide : length (row_at rows s.at) ≡ 4096 = word.code.is_word.equal_lengths s.at [] inside
+    let wide : length (row_at rows s.at) ≡ 4096 * set.pages = word.code.is_word.equal_lengths s.at [] inside
     ∙ word.code.wide in
-    subst (StandsAt nodes set.shards rows) (sym q) (record {
+    subst (StandsAt set.pages nodes set.shards rows) (sym q) (record {
       shard = s.shard;
       at = s.there;
       node =

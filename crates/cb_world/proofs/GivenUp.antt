@@ -68,6 +68,7 @@ shaped_rest m set p left x =
     length-set set.positions p left in record {
       range = subst (λ (k : ℕ). IsInRange k (length set.shards - k)) (sym n) x.range;
       data_first = omega (arith, n, x.data_first);
+      pages = x.pages;
       distinct = x.distinct;
       current = x.current;
     }
@@ -101,7 +102,7 @@ word_rest nodes m set p left rows x =
     let n : length (with_position set p left).positions ≡ length set.positions =
     length-set set.positions p left in
     record {
-      code = subst (λ (k : ℕ). IsSpanWord k (length set.shards - k) rows) (sym n) x.code;
+      code = subst (λ (k : ℕ). IsSpanWord set.pages k (length set.shards - k) rows) (sym n) x.code;
       survive = x.survive;
     }
 
@@ -224,9 +225,9 @@ given_sets s t far new id set p left sound x = record {
               let n = named_before set p left q slot h x.inside x.rest named in
               let z = left_object s t far new id set p left sound x id q slot h set x.was n.0
               (λ same. n.1) in
-              holds_kept s t (row_at y.0 q)
+              holds_kept s t set.pages (row_at y.0 q)
               (length (position_of (with_position set p left) q).slots) slot h z.object
-              (subst (λ (k : ℕ). HoldsObject s (row_at y.0 q) k slot h)
+              (subst (λ (k : ℕ). HoldsObject s set.pages (row_at y.0 q) k slot h)
               (sym (slots_stay set p left q slot h x.inside x.rest named))
               (y.1.holds q slot h n.0));
         },
@@ -244,8 +245,8 @@ given_sets s t far new id set p left sound x = record {
           holds = λ q slot h named.
               let z = left_object s t far new id set p left sound x j q slot h other was named
               (λ same. absurd (off same)) in
-              holds_kept s t (row_at y.0 q) (length (position_of other q).slots) slot h z.object
-              (y.1.holds q slot h named);
+              holds_kept s t other.pages (row_at y.0 q) (length (position_of other q).slots) slot h
+              z.object (y.1.holds q slot h named);
         },
       ));
   live = λ j q other at.
@@ -401,7 +402,7 @@ given_up s t far new id set p left sound x = record {
   rows = given_rows s t far new id set p left sound x;
   batch = λ b at. let was = sym x.leaving ∙ at in let y = sound.batch b was in let same =
       x.batch b was in record {
-        word = subst (IsSpanWord (length b.frames) (length b.parities)) (sym same) y.word;
+        word = subst (IsSpanWord b.pages (length b.frames) (length b.parities)) (sym same) y.word;
         count = y.count;
         put = λ q shard is kept.
             other_rows s t far new id set p left sound x (of_leaving q) shard (

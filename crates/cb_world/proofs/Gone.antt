@@ -2,7 +2,8 @@
 use Rattle.std.proofs.Common.{◌≡◌, ◌≢◌, ◌⊎◌, ◌↔◌, ℕ, Bool, true, false, ◌+◌, ◌<◌, ◌≤◌, ◌==◌, List, length, get_or, set, if◌then◌else◌, sym, refl, ap, ◌∙◌, subst, arith, inl, inr, Some, None, Contains, length-set, get_or-set_other, get_or-set_same}
 use native.Mathlib.Decide.{ℕ_discrete}
 use Rattle.std.proofs.lemmas.Bool.{eqb-true, eqb-false}
-use Rattle.cb_frame.specs.FreeFrames.{with_given}
+use Rattle.cb_class.specs.Class.{pages_of}
+use Rattle.cb_frame.specs.FreeFrames.{with_run_given}
 use Rattle.cb_span.specs.Contents.{Contents, handle_at, with_cleared, live_count}
 use Rattle.cb_span.specs.Places.{slot_place}
 use Rattle.cb_span.proofs.Laws.{all_empty, handle_at-with_cleared_other}
@@ -146,7 +147,7 @@ none_left n e = eqb-true n 0 e
 -- the far state by whether the object was the last one of its span
 abbrev released_as : FarState → ℕ → ℕ → Contents → Bool → FarState
 released_as far f slot span b = record far {
-  frames = if b then with_given far.frames f else far.frames;
+  frames = if b then with_run_given far.frames f (pages_of span.class) else far.frames;
   spans = set far.spans f (if b then None else Some (with_cleared span slot));
 }
 

@@ -43,6 +43,7 @@ flipped : (g h : Group) → DoMatch g h → DoMatch h g
 flipped g h m = record {
   k = sym m.k;
   r = sym m.r;
+  pages = sym m.pages;
   apart = and_comm h.live g.live ∙ m.apart;
 }
 

@@ -171,7 +171,7 @@ added_keeps_join s t far new id set rows pair sound was x j = pair_kept far new 
 abbrev WasSet : (far : FarState) (q : ℕ) (c : SetState) → Type 0
 WasSet far q c = (a : SetState) × (set_in far.sets q ≡ Some a) × (c.shards ≡ a.shards)
     × (length c.positions ≡ length a.positions)
-    × ((p : ℕ) → live_at c p ≡ true → live_at a p ≡ true)
+    × ((p : ℕ) → live_at c p ≡ true → live_at a p ≡ true) × (c.pages ≡ a.pages)
 
 live_before : (set : SetState) (p : ℕ) (left : PositionState) (q : ℕ) → p < length set.positions
     → IsRestOf (position_of set p) left
@@ -203,12 +203,13 @@ was_set s t far new id set p left sound x q c at = elim (cases_eq q id) [
           refl,
           length-set set.positions p left,
           λ z l. live_before set p left z x.inside x.rest (sound.sets.live id p set x.was) l,
+          refl,
         )
     | inr dropped ↦
         absurd (some_none (set_in new.sets id) c dropped.gone (ap (set_in new.sets) (sym here)
         ∙ at))
   ]
-  | inr off ↦ (c, sym (ap if_committed (x.others q off)) ∙ at, refl, refl, λ z l. l)
+  | inr off ↦ (c, sym (ap if_committed (x.others q off)) ∙ at, refl, refl, (λ z l. l), refl)
 ]
 
 pub given_keeps_join : (s t : Shown) (far new : FarState) (id : ℕ) (set : SetState) (p : ℕ)
@@ -222,9 +223,11 @@ given_keeps_join s t far new id set p left pair sound was x j = pair_kept far ne
         y.0,
         z.0,
         before c d f,
-        λ k fit. record {
+        λ pages k fit. record {
           a_count = y.3 ∙ fit.a_count;
           b_count = z.3 ∙ fit.b_count;
+          a_pages = y.5 ∙ fit.a_pages;
+          b_pages = z.5 ∙ fit.b_pages;
           a_live =
               λ q l. fit.a_live q (y.4 q l);
           b_live = λ q l. fit.b_live q (z.4 q l);

@@ -28,7 +28,7 @@ pub record KeepsPair (far new : FarState) (pair : JoiningState) : Type 0 where
   pub more_sets : far.counts.sets ≤ new.counts.sets
   pub more_keys : far.counts.keys ≤ new.counts.keys
   pub fresh : (c d : SetState) → IsFresh new pair c d → (a : SetState) × (b : SetState)
-      × IsFresh far pair a b × (((k : ℕ) → AreFit pair k a b → AreFit pair k c d))
+      × IsFresh far pair a b × ((pages k : ℕ) → AreFit pair pages k a b → AreFit pair pages k c d)
   pub a_stay : (c d : SetState) → IsFresh new pair c d → (p : ℕ) (shard : Shard)
       → slice_get pair.shards_a p ≡ Some shard
       → row_under new.nodes shard.node shard.key ≡ row_under far.nodes shard.node shard.key
@@ -42,6 +42,7 @@ pub record KeepsPair (far new : FarState) (pair : JoiningState) : Type 0 where
 pub pair_kept : (far new : FarState) (pair : JoiningState) → KeepsPair far new pair
     → IsJoin far pair → IsJoin new pair
 pair_kept far new pair x j = record {
+  pages = j.pages;
   k = j.k;
   r = j.r;
   range = j.range;
@@ -55,7 +56,7 @@ pair_kept far new pair x j = record {
   b_keys = λ p shard at. omega (arith, j.b_keys p shard at, x.more_keys);
   steps = j.steps;
   beside = j.beside;
-  fit = λ c d f. let y = x.fresh c d f in y.3 j.k (j.fit y.0 y.1 y.2);
+  fit = λ c d f. let y = x.fresh c d f in y.3 j.pages j.k (j.fit y.0 y.1 y.2);
   word = λ c d f. let y = x.fresh c d f in let m = j.word y.0 y.1 y.2 in (
     m.0,
     record {
@@ -75,7 +76,7 @@ crash_keeps_join s far node pair sound within up j =
     pair_kept far (crashed_far far node) pair (record {
       more_sets = omega arith;
       more_keys = omega arith;
-      fresh = λ c d f. (c, d, before c d f, λ k fit. fit);
+      fresh = λ c d f. (c, d, before c d f, λ pages k fit. fit);
       a_stay = λ c d f p shard at. stays shard (a_left c d f p shard at).0;
       b_stay = λ c d f p shard at. stays shard (b_left c d f p shard at).0;
       new_stay = λ c d f p shard at. let y = j.beside p shard at in

@@ -38,7 +38,7 @@ pub lies_within : (far : FarState) (s : Shown) (h len place : ℕ) → LocalSoun
 lies_within far s h len place sound lies =
     let c = sound.placed.placed h len place lies in
     let x = slot_inside far s h len place sound c in
-    let range = frame_in_range far.spans c.frame c.span c.there in
+    let range = sound.frames.within c.frame c.span c.there in
     let most = bytes_at_most c.span.class c.fits.in_table in
     (omega (arith, x.1, range, sound.placed.memory), omega (arith, c.fits.holds, most))
 

@@ -31,6 +31,7 @@ pub use Rattle.cb_world.proofs.JoinNow.{commit_now, pair_now, whole_not_broken}
 pub use Rattle.cb_world.proofs.Joined.{pair_kept, sets_kept}
 pub use Rattle.cb_world.proofs.Kept.{claim_played, claimed_from, frame_in_range, lies_within, set_back}
 pub use Rattle.cb_world.proofs.Known.{AreHotsKnown, HereIs, here_after, seen_after, seen_known}
+pub use Rattle.cb_world.proofs.Lying.{MayStand, frames_as, frames_closed, frames_put, has_pages, none_at_free, slot_lies, span_busy, spans_apart, stands_alone, stands_closed, stands_in_place, stands_released, stands_where_free}
 pub use Rattle.cb_world.proofs.Merging.{merged_parity, merged_word, same_data, word_with_row}
 pub use Rattle.cb_world.proofs.NodeJoin.{claimed_stay, local_stays, node_crash_sound, node_join_now, node_join_sound, noted_stays}
 pub use Rattle.cb_world.proofs.NowKept.{brought_now, now_kept, put_away_now}
@@ -47,13 +48,14 @@ pub use Rattle.cb_world.proofs.Placed.{IsCountedMade, made_counted, may_lie, nex
 pub use Rattle.cb_world.proofs.Reserving.{noted_by, reserved_is_other, reserved_uncommitted}
 pub use Rattle.cb_world.proofs.Rooms.{room_dropped, room_empty, room_left, room_put, room_puts, room_wiped}
 pub use Rattle.cb_world.proofs.RowPut.{HasRowPut, IsNewOr, IsRefilled, IsRenamed, row_put_away, row_put_join, row_put_words}
-pub use Rattle.cb_world.proofs.RowWords.{length_words, row_put, windows_agree, words_of_row}
+pub use Rattle.cb_world.proofs.RowWords.{length_words, row_length, row_put, windows_agree, words_in_row, words_of_row}
+pub use Rattle.cb_world.proofs.RunRows.{loads_append, owned_still, owns_frame, stores_append, words_more}
 pub use Rattle.cb_world.proofs.Seen.{IsSeenFrom, batch_owned, frame_owned, frame_spares, seen_sound}
 pub use Rattle.cb_world.proofs.SetChanging.{drops_more, kept_same, set_there}
 pub use Rattle.cb_world.proofs.SetWalk.{IsFirst, first_from}
 pub use Rattle.cb_world.proofs.SetsLeft.{drop_count, drop_fewer, drop_room, drop_there, left_count, left_given, left_others, left_over, left_room}
-pub use Rattle.cb_world.proofs.SlotFinding.{frame_is}
-pub use Rattle.cb_world.proofs.Slots.{IsEmptySlot, chosen_class, chosen_empty, chosen_stays}
+pub use Rattle.cb_world.proofs.SlotFinding.{TellsHolder, held_is, place_in_run}
+pub use Rattle.cb_world.proofs.Slots.{IsEmptySlot, chosen_class, chosen_empty, chosen_stays, new_free}
 pub use Rattle.cb_world.proofs.Staying.{IsLike, KeepsFar, KeepsHolding, KeepsNote, KeepsPins, Rises, RisesBy, Stays, StaysBy, StaysIf, StaysIfBy, StepKeeps, far_same, keeps_pinned, keeps_same, pins_same, recounted, rises_more, rises_then, stays_given, stays_like, stays_noted, stays_same}
 pub use Rattle.cb_world.proofs.Noting.{counted_holds, counted_strictly, crash_note, left_note, no_pair_configured, no_pair_sound, none_again, noted_holds, others_same}
 pub use Rattle.cb_world.proofs.StillPerforms.{IsStepKnown, PerformsStill, RunsStill, known_then, runs_still, stays_still}
@@ -66,5 +68,5 @@ pub use Rattle.cb_world.proofs.Unmoved.{KeepsAway, KeepsLeaving, batch_kept, kee
 pub use Rattle.cb_world.proofs.Untouched.{allowed_append}
 pub use Rattle.cb_world.proofs.Whole.{added_whole, begun_whole, committed_whole, given_whole, parted_whole, stepped_whole}
 pub use Rattle.cb_world.proofs.Windows.{length_put, put_at as put_at-windows, put_else, set_put, window_at, window_put, window_same}
-pub use Rattle.cb_world.proofs.WorkedWord.{at, is_word, node, only_word, row, row_byte, rows, with_two_rows}
+pub use Rattle.cb_world.proofs.WorkedWord.{at, is_word, node, only_word, row, row_byte, row_long, rows, with_two_rows}
 pub use Rattle.cb_world.proofs.Worlds.{empty_world_sound}

@@ -4,6 +4,8 @@ mod FrameRuns
 mod Dropping
 mod Homing
 pub mod Grasping
+pub mod Lying
+mod Holding
 pub mod Windows
 pub mod Tracing
 pub mod Exact
@@ -45,6 +47,7 @@ pub mod Counting
 pub mod Surveying
 pub mod Whole
 pub mod RowWords
+pub mod RunRows
 pub mod Apart
 pub mod Kept
 pub mod Freed

@@ -1,5 +1,5 @@
 -- The merged word: it is there, and the deltas of the taken positions make its parities from a's.
-use Rattle.std.proofs.Common.{◌≡◌, ◌≢◌, ℕ, ◌+◌, ◌<◌, ◌^◌, true, cond, List, [], ◌∷◌, ◌++◌, length, take, get_or, set, map, All, sym, refl, ap, ap₂, ◌∙◌, subst, arith, inl, inr, length-set, get_or-set_same, get_or-set_other}
+use Rattle.std.proofs.Common.{◌≡◌, ◌≢◌, ℕ, ◌+◌, ◌*◌, ◌<◌, ◌^◌, true, cond, List, [], ◌∷◌, ◌++◌, length, take, get_or, set, map, All, sym, refl, ap, ap₂, ◌∙◌, subst, arith, inl, inr, length-set, get_or-set_same, get_or-set_other}
 use Rattle.std.proofs.lemmas.Bool.{cases_eq, true≢false}
 use Rattle.std.proofs.lemmas.Bool.Decides.{nat_tests}
 use Rattle.std.proofs.lemmas.List.{get_or-map, get_or-take, length-take-le, get_or_append_left, get_or-append-add, length-map}
@@ -133,28 +133,28 @@ cancelled x y d e =
     sym (ap (λ z. x ⊕ z) (sym e) ∙ sym (sum_associates x x y) ∙ ap (λ z. z ⊕ y) (sum_with_itself x)
     ∙ sum_commutes 0 y ∙ sum_with_zero y)
 
-wide_at : (k r : ℕ) (x : List (List ℕ)) → IsSpanWord k r x → (i : ℕ) → i < k + r
-    → length (row_at x i) ≡ 4096
-wide_at k r x w i l = w.is_word.equal_lengths i [] (omega (arith, l, w.is_word.count)) ∙ w.wide
+wide_at : (pages k r : ℕ) (x : List (List ℕ)) → IsSpanWord pages k r x → (i : ℕ) → i < k + r
+    → length (row_at x i) ≡ 4096 * pages
+wide_at pages k r x w i l = w.is_word.equal_lengths i [] (omega (arith, l, w.is_word.count)) ∙ w.wide
 
 -- where two words differ at one data position alone, the parities of the one are those of the other
 -- with one delta added
-pub parity_with_delta : (k r : ℕ) (table x y : List (List ℕ)) → IsInRange k r
-    → AreCoefficients k r table → IsSpanWord k r x → IsSpanWord k r y → (i : ℕ) → i < k
+pub parity_with_delta : (pages k r : ℕ) (table x y : List (List ℕ)) → IsInRange k r
+    → AreCoefficients k r table → IsSpanWord pages k r x → IsSpanWord pages k r y → (i : ℕ) → i < k
     → ((q : ℕ) → q < k → q ≢ i → row_at y q ≡ row_at x q)
     → (j : ℕ) → j < r
     → row_at y (k + j) ≡ row_sum (row_at x (k + j))
     (scaled_row (byte_at table j i) (row_sum (row_at x i) (row_at y i)))
-parity_with_delta k r table x y range c wx wy i l same j m =
-    let xi = wide_at k r x wx i (omega (arith, l)) in
-    let yi = wide_at k r y wy i (omega (arith, l)) in
-    let xp = wide_at k r x wx (k + j) (omega (arith, m)) in
-    let yp = wide_at k r y wy (k + j) (omega (arith, m)) in
+parity_with_delta pages k r table x y range c wx wy i l same j m =
+    let xi = wide_at pages k r x wx i (omega (arith, l)) in
+    let yi = wide_at pages k r y wy i (omega (arith, l)) in
+    let xp = wide_at pages k r x wx (k + j) (omega (arith, m)) in
+    let yp = wide_at pages k r y wy (k + j) (omega (arith, m)) in
     let t = byte_at table j i in
     let change = row_sum (row_at x i) (row_at y i) in
-    let change_wide : length change ≡ 4096 = row_sum_length (row_at x i) (row_at y i) (xi ∙ sym yi)
+    let change_wide : length change ≡ 4096 * pages = row_sum_length (row_at x i) (row_at y i) (xi ∙ sym yi)
     ∙ xi in
-    let scaled_wide : length (scaled_row t change) ≡ 4096 = scaled_row_length t change
+    let scaled_wide : length (scaled_row t change) ≡ 4096 * pages = scaled_row_length t change
     ∙ change_wide in
     same_number_lists (row_at y (k + j)) (row_sum (row_at x (k + j)) (scaled_row t change))
     (yp ∙ sym (row_sum_length (row_at x (k + j)) (scaled_row t change) (xp ∙ sym scaled_wide)
@@ -184,11 +184,11 @@ parity_with_delta k r table x y range c wx wy i l same j m =
 
 -- ---- the deltas of all taken positions
 -- the rows of the word of these data, as long as a span
-word_from : (k r : ℕ) (table given : List (List ℕ)) → IsInRange k r → AreCoefficients k r table
-    → length given ≡ k → AreRows given → length (row_at given 0) ≡ 4096
-    → (rows : List (List ℕ)) × IsSpanWord k r rows
+word_from : (pages k r : ℕ) (table given : List (List ℕ)) → IsInRange k r → AreCoefficients k r table
+    → length given ≡ k → AreRows given → length (row_at given 0) ≡ 4096 * pages
+    → (rows : List (List ℕ)) × IsSpanWord pages k r rows
     × ((i : ℕ) → i < k → row_at rows i ≡ row_at given i)
-word_from k r table given range c count rows wide =
+word_from pages k r table given range c count rows wide =
     let w = word_sums k r table given c count rows in (
       given ++ sums_of table given,
       record {
@@ -201,12 +201,12 @@ word_from k r table given range c count rows wide =
     )
 
 -- a word with another row at one data position
-pub word_with_row : (k r : ℕ) (table x : List (List ℕ)) (i : ℕ) (row : List ℕ) → IsInRange k r
-    → AreCoefficients k r table → IsSpanWord k r x → i < k → length row ≡ 4096
+pub word_with_row : (pages k r : ℕ) (table x : List (List ℕ)) (i : ℕ) (row : List ℕ) → IsInRange k r
+    → AreCoefficients k r table → IsSpanWord pages k r x → i < k → length row ≡ 4096 * pages
     → All (λ b. b < 2 ^ 8) row
-    → (y : List (List ℕ)) × IsSpanWord k r y × (row_at y i ≡ row)
+    → (y : List (List ℕ)) × IsSpanWord pages k r y × (row_at y i ≡ row)
     × ((q : ℕ) → q < k → q ≢ i → row_at y q ≡ row_at x q)
-word_with_row k r table x i row range c w l wide bytes =
+word_with_row pages k r table x i row range c w l wide bytes =
     let d = data_rows k r x range w.is_word w.bytes in
     let given = set (take k x) i row in
     let n : length given ≡ k = length-set (take k x) i row ∙ d.0 in
@@ -214,14 +214,14 @@ word_with_row k r table x i row range c w l wide bytes =
     λ e. get_or-set_same (take k x) i row e (omega (arith, l, d.0)) in
     let else : (q : ℕ) (e : List ℕ) → q < k → q ≢ i → get_or given q e ≡ get_or x q e =
     λ q e m off. get_or-set_other (take k x) i q row e off ∙ get_or-take k x q e m in
-    let long : (q : ℕ) (e : List ℕ) → q < k → length (get_or given q e) ≡ 4096 =
+    let long : (q : ℕ) (e : List ℕ) → q < k → length (get_or given q e) ≡ 4096 * pages =
     λ q e m. elim (cases_eq q i) [
       | inl same ↦ ap (λ (p : ℕ). length (get_or given p e)) same ∙ ap length (here e) ∙ wide
       | inr off ↦ ap length (else q e m off)
           ∙ w.is_word.equal_lengths q e (omega (arith, m, w.is_word.count)) ∙ w.wide
     ] in
     let first = long 0 [] (omega (arith, range.data_least)) in
-    let y = word_from k r table given range c n (record {
+    let y = word_from pages k r table given range c n (record {
       equal_lengths = λ q e m. long q e (omega (arith, m, n)) ∙ sym first;
       bytes = λ q e m. elim (cases_eq q i) [
         | inl same ↦
@@ -245,32 +245,32 @@ takes_other i q taken off = grind (arith, nat_tests)
 takes_here : (i : ℕ) (taken : List ℕ) → takes (i ∷ taken) i ≡ true
 takes_here i taken = grind (arith, nat_tests)
 
--- the words of two sets of one code
-pub record AreTwoWords (k r : ℕ) (table a b : List (List ℕ)) : Type 0 where
+-- the words of two sets of one code and length
+pub record AreTwoWords (pages k r : ℕ) (table a b : List (List ℕ)) : Type 0 where
   pub range : IsInRange k r
   pub coefficients : AreCoefficients k r table
-  pub a_word : IsSpanWord k r a
-  pub b_word : IsSpanWord k r b
+  pub a_word : IsSpanWord pages k r a
+  pub b_word : IsSpanWord pages k r b
 
 -- one after another
-patched_from : (k r : ℕ) (table a b x m : List (List ℕ)) → AreTwoWords k r table a b
-    → IsSpanWord k r x → IsSpanWord k r m → (j : ℕ) → j < r → (taken : List ℕ) → AreTaken k taken
+patched_from : (pages k r : ℕ) (table a b x m : List (List ℕ)) → AreTwoWords pages k r table a b
+    → IsSpanWord pages k r x → IsSpanWord pages k r m → (j : ℕ) → j < r → (taken : List ℕ) → AreTaken k taken
     → ((i : ℕ) → i < k → takes taken i ≡ true → row_at x i ≡ row_at a i)
     → ((i : ℕ) → i < k → row_at m i ≡ cond (takes taken i) (row_at b i) (row_at x i))
     → patched (row_at table j) a b (row_at x (k + j)) taken ≡ row_at m (k + j)
-patched_from k r table a b x m two wx wm j l [] are was now =
+patched_from pages k r table a b x m two wx wm j l [] are was now =
     ap (λ (w : List (List ℕ)).
     row_at w (k + j))
     (sym (same_data k r m x two.range wm.is_word wm.bytes wx.is_word wx.bytes now))
-patched_from k r table a b x m two wx wm j l (i ∷ taken) are was now =
-    let y = word_with_row k r table x i (row_at b i) two.range two.coefficients wx are.0
-    (wide_at k r b two.b_word i (omega (arith, are.0))) (two.b_word.bytes i [] (omega (
+patched_from pages k r table a b x m two wx wm j l (i ∷ taken) are was now =
+    let y = word_with_row pages k r table x i (row_at b i) two.range two.coefficients wx are.0
+    (wide_at pages k r b two.b_word i (omega (arith, are.0))) (two.b_word.bytes i [] (omega (
       arith,
       are.0,
       two.b_word.is_word.count,
     ))) in
     let delta =
-    parity_with_delta k r table x y.0 two.range two.coefficients wx y.1 i are.0 y.3 j l in
+    parity_with_delta pages k r table x y.0 two.range two.coefficients wx y.1 i are.0 y.3 j l in
     let change : row_sum (row_at x (k + j))
     (scaled_row (byte_at table j i) (row_sum (row_at a i) (row_at b i))) ≡ row_at y.0 (k + j) =
     sym (delta
@@ -278,7 +278,7 @@ patched_from k r table a b x m two wx wm j l (i ∷ taken) are was now =
     row_sum (row_at x (k + j)) (scaled_row (byte_at table j i) (row_sum p q)))
     (was i are.0 (takes_here i taken)) y.2) in
     ap (λ (row : List ℕ). patched (row_at table j) a b row taken) change
-    ∙ patched_from k r table a b y.0 m two y.1 wm j l taken are.2
+    ∙ patched_from pages k r table a b y.0 m two y.1 wm j l taken are.2
     (λ q h t. let off : q ≢ i =
     λ e. true≢false (sym t ∙ ap (takes taken) e ∙ are.1) in y.3 q h off
     ∙ was q h (takes_other i q taken (λ e. off (sym e)) ∙ t))
@@ -293,21 +293,21 @@ patched_from k r table a b x m two wx wm j l (i ∷ taken) are was now =
     ])
 
 -- the deltas of the taken positions make the merged word's parities from a's
-pub merged_parity : (k r : ℕ) (table a b m : List (List ℕ)) (taken : List ℕ)
-    → AreTwoWords k r table a b → AreTaken k taken → IsMergedWord k r taken a b m → (j : ℕ) → j < r
+pub merged_parity : (pages k r : ℕ) (table a b m : List (List ℕ)) (taken : List ℕ)
+    → AreTwoWords pages k r table a b → AreTaken k taken → IsMergedWord pages k r taken a b m → (j : ℕ) → j < r
     → patched (row_at table j) a b (row_at a (k + j)) taken ≡ row_at m (k + j)
-merged_parity k r table a b m taken two are merged j l =
-    patched_from k r table a b a m two two.a_word merged.word j l taken are (λ i h t.
+merged_parity pages k r table a b m taken two are merged j l =
+    patched_from pages k r table a b a m two two.a_word merged.word j l taken are (λ i h t.
     refl) merged.chosen
 
 -- and there is a merged word
-pub merged_word : (k r : ℕ) (table a b : List (List ℕ)) (taken : List ℕ) → AreTwoWords k r table a b
-    → AreTaken k taken → (m : List (List ℕ)) × IsMergedWord k r taken a b m
-merged_word k r table a b [] two are = (a, record { word = two.a_word; chosen = λ i l. refl })
-merged_word k r table a b (i ∷ taken) two are =
-    let x = merged_word k r table a b taken two are.2 in
-    let y = word_with_row k r table x.0 i (row_at b i) two.range two.coefficients x.1.word are.0
-    (wide_at k r b two.b_word i (omega (arith, are.0))) (two.b_word.bytes i [] (omega (
+pub merged_word : (pages k r : ℕ) (table a b : List (List ℕ)) (taken : List ℕ) → AreTwoWords pages k r table a b
+    → AreTaken k taken → (m : List (List ℕ)) × IsMergedWord pages k r taken a b m
+merged_word pages k r table a b [] two are = (a, record { word = two.a_word; chosen = λ i l. refl })
+merged_word pages k r table a b (i ∷ taken) two are =
+    let x = merged_word pages k r table a b taken two are.2 in
+    let y = word_with_row pages k r table x.0 i (row_at b i) two.range two.coefficients x.1.word are.0
+    (wide_at pages k r b two.b_word i (omega (arith, are.0))) (two.b_word.bytes i [] (omega (
       arith,
       are.0,
       two.b_word.is_word.count,

@@ -32,6 +32,7 @@ use Rattle.cb_world.specs.Sound.{AreNoted, IsLeaving}
 use Rattle.std.specs.Prelude.{nat_lt}
 use Rattle.cb_world.proofs.Whole.{crash_whole}
 use Rattle.cb_world.proofs.Joined.{pair_kept}
+use Rattle.cb_world.proofs.Lying.{frames_as}
 use Rattle.cb_world.proofs.Reserving.{noted_by}
 use Rattle.cb_world.proofs.Surveying.{stands_joined, survey_stays}
 
@@ -115,6 +116,7 @@ away_stays s far node sound within down = record {
     shaped = λ id set at. let x = sound.sets.shaped id set at in record {
       range = x.range;
       data_first = x.data_first;
+      pages = x.pages;
       distinct = x.distinct;
       current = λ p shard is. keeps_current far.members node shard within (x.current p shard is);
     };
@@ -149,7 +151,7 @@ pair_stays : (far : FarState) (node : NodeId) (pair : JoiningState)
 pair_stays far node pair within j = pair_kept far (joined_far far node) pair (record {
   more_sets = omega arith;
   more_keys = omega arith;
-  fresh = λ c d f. (c, d, before c d f, λ k fit. fit);
+  fresh = λ c d f. (c, d, before c d f, λ pages k fit. fit);
   a_stay = λ c d f p shard at. refl;
   b_stay = λ c d f p shard at. refl;
   new_stay = λ c d f p shard at. refl;
@@ -176,12 +178,7 @@ local_stays s far new first made frames spans x = record {
     stamped = x.known.stamped;
     bounded = rw made x.known.bounded;
   };
-  frames = rw (frames, spans) (record {
-    sized = x.frames.sized;
-    free = x.frames.free;
-    valid = x.frames.valid;
-    taken = x.frames.taken;
-  });
+  frames = frames_as far new frames spans x.frames;
   placed = rw spans (record {
     memory = x.placed.memory;
     placed = x.placed.placed;

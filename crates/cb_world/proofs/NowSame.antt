@@ -147,7 +147,7 @@ far_words s t far new h len v u xs ys sound other keeps a b whole =
     first.1.word
     (subst (λ (n : NodesState). IsWordOf n far.members set second.0) keeps.nodes
     (subst (λ (m : Membership). IsWordOf new.nodes m set second.0) keeps.members second.1.word)) in
-    same_slot len v u xs ys first.0 second.0 (length (position_of set home.position).slots)
+    same_slot len v u xs ys first.0 second.0 set.pages (length (position_of set home.position).slots)
     home.slot home.position mine yours a b rows
   where
     far_len : Object → ℕ
@@ -162,12 +162,12 @@ far_words s t far new h len v u xs ys sound other keeps a b whole =
     far_contents (is.Here len place) = []
     far_contents (is.Claimed len place v words) = []
 
-    same_slot : (len v u : ℕ) (xs ys : List ℕ) (rows others : List (List ℕ)) (slots slot p : ℕ)
-        → (m : HoldsObject s (row_at rows p) slots slot h)
-        → (y : HoldsObject t (row_at others p) slots slot h)
+    same_slot : (len v u : ℕ) (xs ys : List ℕ) (rows others : List (List ℕ)) (pages slots slot p : ℕ)
+        → (m : HoldsObject s pages (row_at rows p) slots slot h)
+        → (y : HoldsObject t pages (row_at others p) slots slot h)
         → object_at s h ≡ is.Far len v xs → object_at t h ≡ is.Far len u ys → rows ≡ others
         → xs ≡ ys
-    same_slot len v u xs ys rows others slots slot p m y a b e =
+    same_slot len v u xs ys rows others pages slots slot p m y a b e =
         let m_len : m.len ≡ len = ap far_len (sym m.away ∙ a) in
         let y_len : y.len ≡ len = ap far_len (sym y.away ∙ b) in
         let class : m.class ≡ y.class = IsClassOf-unique len m.class y.class

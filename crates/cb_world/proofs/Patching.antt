@@ -41,8 +41,8 @@ b_row far pair a b wb f w p shard at =
 pub join_is_merged : (far : FarState) (pair : JoiningState) (a b : SetState)
     (wa wb m : List (List ℕ)) (j : IsJoin far pair) → IsFresh far pair a b
     → IsWordOf far.nodes far.members a wa → IsWordOf far.nodes far.members b wb
-    → IsJoinWord far pair j.k j.r m
-    → IsMergedWord j.k j.r pair.taken wa wb m
+    → IsJoinWord far pair j.pages j.k j.r m
+    → IsMergedWord j.pages j.k j.r pair.taken wa wb m
 join_is_merged far pair a b wa wb m j f xa xb x = record {
   word = x.word;
   chosen = λ i l. by_flag i l (takes pair.taken i) refl;
@@ -61,32 +61,34 @@ join_is_merged far pair a b wa wb m j f xa xb x = record {
         row_same (row_at m i) (row_at wa i) (sym (x.a_rows i (get_or pair.shards_a i d) l t at)
         ∙ a_row far pair a b wa f xa i (get_or pair.shards_a i d) at)
 
--- the words of the pair's sets are words of the pair's code
+-- the words of the pair's sets are words of the pair's code and length
 pub two_words : (far : FarState) (pair : JoiningState) (a b : SetState)
     (table wa wb : List (List ℕ)) (j : IsJoin far pair) → IsFresh far pair a b
     → AreCoefficients j.k j.r table → IsWordOf far.nodes far.members a wa
-    → IsWordOf far.nodes far.members b wb → AreTwoWords j.k j.r table wa wb
+    → IsWordOf far.nodes far.members b wb → AreTwoWords j.pages j.k j.r table wa wb
 two_words far pair a b table wa wb j f c xa xb =
     let fit = j.fit a b f in
     record {
       range = j.range;
       coefficients = c;
       a_word = subst (λ (r : ℕ).
-          IsSpanWord j.k r wa) (omega (
+          IsSpanWord j.pages j.k r wa) (omega (
             arith,
             fit.a_count,
             j.a_count,
             ap length f.a_shards,
           )) (subst (λ (k : ℕ).
-          IsSpanWord k (parities a) wa) fit.a_count xa.code);
+          IsSpanWord j.pages k (parities a) wa) fit.a_count (subst (λ (n : ℕ).
+          IsSpanWord n (length a.positions) (parities a) wa) fit.a_pages xa.code));
       b_word = subst (λ (r : ℕ).
-          IsSpanWord j.k r wb) (omega (
+          IsSpanWord j.pages j.k r wb) (omega (
             arith,
             fit.b_count,
             j.b_count,
             ap length f.b_shards,
           )) (subst (λ (k : ℕ).
-          IsSpanWord k (parities b) wb) fit.b_count xb.code);
+          IsSpanWord j.pages k (parities b) wb) fit.b_count (subst (λ (n : ℕ).
+          IsSpanWord n (length b.positions) (parities b) wb) fit.b_pages xb.code));
     }
 
 -- a parity's step: a's row with the deltas of the taken positions is the merged word's
@@ -94,10 +96,10 @@ pub parity_step : (far : FarState) (pair : JoiningState) (a b : SetState)
     (table wa wb m : List (List ℕ)) (j : IsJoin far pair) → IsFresh far pair a b
     → AreCoefficients j.k j.r table → IsWordOf far.nodes far.members a wa
     → IsWordOf far.nodes far.members b wb
-    → IsJoinWord far pair j.k j.r m → (e : ℕ) → e < j.r
+    → IsJoinWord far pair j.pages j.k j.r m → (e : ℕ) → e < j.r
     → patched (row_at table e) wa wb (row_at wa (j.k + e)) pair.taken ≡ row_at m (j.k + e)
 parity_step far pair a b table wa wb m j f c xa xb x e l =
-    merged_parity j.k j.r table wa wb m pair.taken (two_words far pair a b table wa wb j f c xa xb)
+    merged_parity j.pages j.k j.r table wa wb m pair.taken (two_words far pair a b table wa wb j f c xa xb)
     j.taken (join_is_merged far pair a b wa wb m j f xa xb x) e l
 
 -- the loop over the deltas: one more

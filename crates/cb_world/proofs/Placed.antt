@@ -1,11 +1,9 @@
 -- The world once an object that lay nowhere is here, in the slot that it got.
-use Rattle.std.proofs.Common.{◌≡◌, ◌≢◌, ◌⊎◌, ◌↔◌, ℕ, true, false, ◌+◌, ◌*◌, ◌<◌, ◌≤◌, List, Option, Some, None, Contains, length, get_or, set, sym, refl, ap, ◌∙◌, subst, arith, inl, inr, length-set, get_or-set_other, get_or-set_same}
+use Rattle.std.proofs.Common.{◌≡◌, ◌≢◌, ◌⊎◌, ◌↔◌, ℕ, ◌+◌, ◌*◌, ◌<◌, ◌≤◌, List, Option, Some, None, Contains, length, get_or, set, sym, refl, ap, ◌∙◌, subst, arith, inl, inr, length-set, get_or-set_other, get_or-set_same}
 use native.Mathlib.Decide.{ℕ_discrete}
 use Rattle.std.proofs.lemmas.Bool.{cases_order}
-use Rattle.cb_class.specs.Class.{IsClassOf, slots_of}
-use Rattle.cb_class.proofs.Laws.{object_fits, slot_within}
-use Rattle.cb_frame.specs.FrameSet.{contains}
-use Rattle.cb_frame.specs.FreeFrames.{IsFreeFrame}
+use Rattle.cb_class.specs.Class.{IsClassOf, pages_of, slots_of}
+use Rattle.cb_class.proofs.Laws.{object_fits, slot_in_run}
 use Rattle.cb_span.specs.Contents.{Contents, IsSpan, handle_at, live_count, with_placed}
 use Rattle.cb_span.specs.Places.{slot_place}
 use Rattle.cb_span.proofs.Laws.{IsSpan-with_placed, handle_at-with_placed, handle_at-with_placed_other, live_count-pos}
@@ -23,7 +21,8 @@ use Rattle.cb_world.proofs.Apart.{some_same, apart}
 use Rattle.cb_world.proofs.Claimed.{lies, avoids}
 use Rattle.cb_world.proofs.Slots.{IsEmptySlot}
 use Rattle.cb_world.proofs.Unmoved.{IsAtLarge, IsNear, sound_near}
-use Rattle.cb_world.proofs.Beside.{KeepsBeside, other_frame}
+use Rattle.cb_world.proofs.Beside.{KeepsBeside, other_run}
+use Rattle.cb_world.proofs.Lying.{frames_as, frames_put}
 
 -- the handle counts as made, and every other one as before
 pub record IsCountedMade (before after h : ℕ) : Type 0 where
@@ -87,12 +86,8 @@ local_brought far s t slot h len made sound nowhere range free fits count x = re
     stamped = λ k. stamped k (ℕ_discrete k h);
     versioned = λ k below. versioned k below (ℕ_discrete k h);
   };
-  frames = record {
-    sized = length-set far.spans slot.frame (Some span) ∙ sound.frames.sized ∙ sym free.sized;
-    free = λ f below. frees f below (ℕ_discrete f slot.frame);
-    valid = λ f other there. valid f other there (ℕ_discrete f slot.frame);
-    taken = λ f other there. taken f other there (ℕ_discrete f slot.frame);
-  };
+  frames = frames_as _ (with_made far slot h made) refl refl
+      (frames_put far slot.frame span slot.free sound.frames free.stands is_valid live);
   placed = record {
     memory = x.memory ∙ sound.placed.memory
         ∙ ap (λ (n : ℕ). 512 * n) (sym (length-set far.spans slot.frame (Some span)));
@@ -163,30 +158,12 @@ local_brought far s t slot h len made sound nowhere range free fits count x = re
           ]
         ] in omega (arith, x.versions k off, sound.known.versioned k was)
 
-    frees : (f : ℕ) → f < length slot.free → Dec (f ≡ slot.frame)
-        → IsFreeFrame slot.free f ↔ (span_in spans f ≡ None)
-    frees f below (yes e) = (
-      (λ z. absurd (let q : false ≡ true =
-          sym free.busy ∙ ap (contains slot.free) (sym e) ∙ z in cc)),
-      (λ z. absurd (some_none span (sym here ∙ ap (span_in spans) (sym e) ∙ z))),
-    )
-    frees f below (no off) =
-        let was = sound.frames.free f (omega (arith, below, free.sized)) in (
-          (λ z. else f off ∙ was.0 (sym (free.others f off) ∙ z)),
-          (λ z. free.others f off ∙ was.1 (sym (else f off) ∙ z)),
-        )
+    is_valid : IsSpan span
+    is_valid = IsSpan-with_placed slot.span slot.number h free.valid
 
-    valid : (f : ℕ) (y : Contents) → span_in spans f ≡ Some y → Dec (f ≡ slot.frame) → IsSpan y
-    valid f y there (yes e) =
-        subst IsSpan (is_span f y there e) (IsSpan-with_placed slot.span slot.number h free.valid)
-    valid f y there (no off) = sound.frames.valid f y (sym (else f off) ∙ there)
-
-    taken : (f : ℕ) (y : Contents) → span_in spans f ≡ Some y → Dec (f ≡ slot.frame)
-        → 1 ≤ live_count y
-    taken f y there (yes e) = subst (λ (z : Contents). 1 ≤ live_count z) (is_span f y there e)
-        (live_count-pos span slot.number h
-        (handle_at-with_placed slot.span slot.number h free.inside))
-    taken f y there (no off) = sound.frames.taken f y (sym (else f off) ∙ there)
+    live : 1 ≤ live_count span
+    live = live_count-pos span slot.number h
+        (handle_at-with_placed slot.span slot.number h free.inside)
 
     placed : (k n p : ℕ) → LiesAt (object_at t k) n p → Dec (k ≡ h) → HasSlot spans k n p
     placed k n p there (yes e) =
@@ -289,14 +266,14 @@ local_brought far s t slot h len made sound nowhere range free fits count x = re
                 let n = stays f j k slot.span (ap (span_in far.spans) e ∙ stands) was in
                 record { len = n.len; lies = n.lies }
 
--- where a slot's object lies: inside its frame
+-- where a slot's object lies: inside the frames of its span
 pub slot_bounds : (far : FarState) (slot : Slot) (len : ℕ) → IsEmptySlot far slot
     → IsClassOf len slot.span.class → (512 * slot.frame ≤ place_in slot)
-    × (place_in slot + words_for len ≤ 512 * slot.frame + 512)
+    × (place_in slot + words_for len ≤ 512 * (slot.frame + pages_of slot.span.class))
 slot_bounds far slot len free fits =
     let range : slot.number < slots_of slot.span.class =
     subst (λ (n : ℕ). slot.number < n) free.valid.sized free.inside in
-    let ends = slot_within slot.span.class slot.number free.valid.in_table range in
+    let ends = slot_in_run slot.span.class slot.number free.valid.in_table range in
     let fit = object_fits len slot.span.class fits in
     (omega arith, omega (arith, ends, fit))
 
@@ -327,8 +304,12 @@ sound_brought far s t slot h len made v sound empty range free off_leaving fits 
       spans = λ f leaves.
           get_or-set_other far.spans slot.frame f _ None (apart_of batch there f leaves);
       words = λ f leaves. let ends = slot_bounds far slot len free fits in
-          other_frame s.memory t.memory (place_in slot) len f slot.frame
-          (apart_of batch there f leaves) ends.0 ends.1 beside;
+          let held = (sound.noted batch there).held f leaves in
+          other_run s.memory t.memory (place_in slot) len f batch.pages slot.frame
+          (pages_of slot.span.class)
+          (subst (λ (n : ℕ). (f + n ≤ slot.frame) ⊎ (slot.frame + pages_of slot.span.class ≤ f)) held.2
+          (free.stands.apart f held.0 held.1 (apart_of batch there f leaves)))
+          ends.0 ends.1 beside;
     })
   where
     mine : object_at t h ≡ is.Here len (place_in slot)
@@ -355,7 +336,7 @@ pub may_lie : (far : FarState) (s : Shown) (slot : Slot) (h len made v p : ℕ) 
     → Covers (place_in slot) len p → MayLie s h p
 may_lie far s slot h len made v p sound empty range stamp free fits count covers =
     let ends = slot_bounds far slot len free fits in (
-      omega (arith, covers.1, ends.1, free.within, sound.placed.memory),
+      omega (arith, covers.1, ends.1, free.stands.within, sound.placed.memory),
       λ k off. avoids (object_at s k) p (λ n q there over. clear k n q off there over),
     )
   where

@@ -32,7 +32,7 @@ same_positions xs ys (f ∷ fs) same =
     later fs f g c = ap (λ (i : ℕ). get_or (f ∷ fs) i g) (let e : c.0 + 1 ≡ suc c.0 = omega arith in e) ∙ c.2
 
 abbrev kept_with : ℕ → List Shard → List PositionState → Kept
-kept_with id blank positions = record { set = set_of id blank positions; committed = false }
+kept_with id blank positions = record { set = set_of id 1 blank positions; committed = false }
 
 pub reserved_kept : (far new : FarState) (batch : LeavingState) → KeepsReserved far new batch
     → IsReserved far batch → IsReserved new batch

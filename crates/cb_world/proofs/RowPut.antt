@@ -203,11 +203,13 @@ module _ (s : Shown) (far new : FarState) (o : Owner) (shard : Shard) (row : Lis
 
   -- ---- the sets
   -- what holds of a set's code holds of it with other shards
-  code_stays : (was set : SetState) → IsRenamed was set → (P : ℕ → ℕ → Type 0)
-      → P (length was.positions) (parities was) → P (length set.positions) (parities set)
+  code_stays : (was set : SetState) → IsRenamed was set → (P : ℕ → ℕ → ℕ → Type 0)
+      → P was.pages (length was.positions) (parities was)
+      → P set.pages (length set.positions) (parities set)
   code_stays was set r P code =
-      subst (λ (c : SetState). P (length c.positions) (parities c)) (sym r.same)
-      (subst (λ (n : ℕ). P (length was.positions) (n - length was.positions)) (sym r.count) code)
+      subst (λ (c : SetState). P c.pages (length c.positions) (parities c)) (sym r.same)
+      (subst (λ (n : ℕ). P was.pages (length was.positions) (n - length was.positions))
+      (sym r.count) code)
 
   row_of_set : (id p : ℕ) (was : SetState) (words : List (List ℕ)) (a : Shard)
       → set_in far.sets id ≡ Some was → IsWordOf far.nodes far.members was words
@@ -225,7 +227,7 @@ module _ (s : Shown) (far new : FarState) (o : Owner) (shard : Shard) (row : Lis
       → set_in new.sets id ≡ Some set → IsRenamed was set → IsWordOf far.nodes far.members was words
       → IsWordOf new.nodes new.members set words
   word_stays id was set words there at r word = record {
-    code = code_stays was set r (λ k r. IsSpanWord k r words) word.code;
+    code = code_stays was set r (λ pages k r. IsSpanWord pages k r words) word.code;
     survive = λ p a is kept. row_of_set id p was words a there word
         (x.back (of_set id p) a (set, at, is)) (was_kept a kept);
   }
@@ -233,7 +235,8 @@ module _ (s : Shown) (far new : FarState) (o : Owner) (shard : Shard) (row : Lis
   shaped : (id : ℕ) (set : SetState) → set_in new.sets id ≡ Some set → IsShaped new.members set
   shaped id set at =
       let y = x.set_was id set at in let r = y.2 in let z = sound.sets.shaped id y.0 y.1 in record {
-        range = code_stays y.0 set r IsInRange z.range;
+        range = code_stays y.0 set r (λ pages k r. IsInRange k r) z.range;
+        pages = code_stays y.0 set r (λ pages k r. pages ≤ 4) z.pages;
         data_first =
             let n = ap (λ (c : SetState). length c.positions) r.same in
             let d = z.data_first in let m = r.count in omega (arith, n, d, m);
@@ -249,7 +252,7 @@ module _ (s : Shown) (far new : FarState) (o : Owner) (shard : Shard) (row : Lis
         record {
           word = word_stays id y.0 set z.0 y.1 at y.2 z.1.word;
           holds = subst (λ (c : SetState). (p slot h : ℕ) → slot_at c p slot ≡ Some h
-              → HoldsObject s (row_at z.0 p) (length (position_of c p).slots) slot h)
+              → HoldsObject s c.pages (row_at z.0 p) (length (position_of c p).slots) slot h)
               (sym y.2.same) z.1.holds;
         },
       )
@@ -301,7 +304,7 @@ module _ (s : Shown) (far new : FarState) (o : Owner) (shard : Shard) (row : Lis
   batch : (b : LeavingState) → new.leaving ≡ Some b → IsBatch s new b
   batch b at = let y = x.batch_was b at in let r = y.2 in let z = sound.batch y.0 y.1 in record {
     word = subst (λ (c : LeavingState).
-        IsSpanWord (length c.frames) (length c.parities) (batch_rows s c)) (sym r.same) z.word;
+        IsSpanWord c.pages (length c.frames) (length c.parities) (batch_rows s c)) (sym r.same) z.word;
     count = r.count ∙ z.count
         ∙ ap (λ (c : LeavingState). length c.frames + length c.parities) (sym r.same);
     put = λ p a is kept.
@@ -330,7 +333,7 @@ module _ (s : Shown) (far new : FarState) (o : Owner) (shard : Shard) (row : Lis
   row_put_join pair was j = pair_kept far new pair (record {
     more_sets = let same = x.numbers in omega (arith, same);
     more_keys = let more = x.keys in omega (arith, more);
-    fresh = λ c d f. (c, d, before c d f, λ k fit. fit);
+    fresh = λ c d f. (c, d, before c d f, λ pages k fit. fit);
     a_stay = λ c d f p a at. row_stays a.node a.key (j.a_keys p a at);
     b_stay = λ c d f p a at. row_stays a.node a.key (j.b_keys p a at);
     new_stay = λ c d f p a at. owned_stays (of_joining p) a (pair, was, at);

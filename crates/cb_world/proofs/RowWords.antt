@@ -1,5 +1,5 @@
 -- The words of a row in local memory.
-use Rattle.std.proofs.Common.{◌≡◌, ℕ, zero, suc, ◌+◌, ◌^◌, ◌<◌, ◌≤◌, List, [], ◌∷◌, ◌++◌, length, take, drop, get_or, sym, refl, ap, ◌∙◌, arith}
+use Rattle.std.proofs.Common.{◌≡◌, ℕ, zero, suc, ◌+◌, ◌*◌, ◌/◌, ◌^◌, ◌<◌, ◌≤◌, List, [], ◌∷◌, ◌++◌, length, take, drop, get_or, sym, refl, ap, ◌∙◌, arith, length-append}
 use Rattle.std.specs.Int.{to_le_bytes, from_le_bytes, w64}
 use Rattle.std.proofs.lemmas.Nat.{from_le_bytes-to_le_bytes_8}
 use Rattle.std.proofs.lemmas.List.{take_at, drop_at}
@@ -46,12 +46,29 @@ windows_agree xs ys p q (suc n) same =
     ap (λ (k : ℕ). get_or xs k 0) c ∙ same (suc i) (omega (arith, l))
     ∙ ap (λ (k : ℕ). get_or ys k 0) d))
 
--- lemma (iii): the words of a row put into a frame give each slot's words back
-pub row_put : (ms row : List ℕ) (base at n : ℕ) → base + 512 ≤ length ms → at + n ≤ 512
+-- a row has eight bytes a word
+pub row_length : (words : List ℕ) → length (row_of words) ≡ 8 * length words
+row_length [] = refl
+row_length (w ∷ ws) =
+    let e = length-append (to_le_bytes w64 w) (row_of ws) in
+    let n : length (to_le_bytes w64 w) ≡ 8 = refl in
+    let r = row_length ws in
+    omega (arith, e, n, r)
+
+-- the row that words make has these words and no more
+pub words_in_row : (ws : List ℕ) → ((i : ℕ) → i < length ws → get_or ws i 0 < 2 ^ 64)
+    → words_in (row_of ws) ≡ ws
+words_in_row ws small = ap (λ (n : ℕ). words_from n (row_of ws))
+    (let e = row_length ws in let n : length (row_of ws) / 8 ≡ length ws = omega (arith, e) in n)
+    ∙ words_of_row ws small
+
+-- lemma (iii): the words of a row put into a run give each slot's words back
+pub row_put : (ms row : List ℕ) (base at n : ℕ) → base + length row / 8 ≤ length ms
+    → at + n ≤ length row / 8
     → window (put ms base (words_in row)) (base + at) n ≡ window (words_in row) at n
 row_put ms row base at n room within =
     windows_agree (put ms base (words_in row)) (words_in row) (base + at) at n (λ i l.
-    let w = length_words 512 row in
+    let w = length_words (length row / 8) row in
     let e : (base + at) + i ≡ base + (at + i) = omega arith in
     ap (λ (k : ℕ). get_or (put ms base (words_in row)) k 0) e
     ∙ put_at ms base (words_in row) (at + i) (omega (arith, w, l, within)) (omega (

@@ -1,7 +1,7 @@
 -- The sound world over the words as they are now, where others pinned, read and wrote since.
-use Rattle.std.proofs.Common.{◌≡◌, ℕ, ◌+◌, ◌*◌, ◌<◌, ◌≤◌, ◌↔◌, List, length, get_or, Some, None, Contains, sym, refl, ap, ◌∙◌, subst, arith, inl, inr}
-use Rattle.std.proofs.lemmas.Bool.{cases_lt}
-use Rattle.std.proofs.lemmas.List.{get_or_past}
+use Rattle.std.proofs.Common.{◌≡◌, ℕ, ◌+◌, ◌*◌, ◌<◌, ◌≤◌, ◌↔◌, List, length, get_or, Some, Contains, sym, refl, ap, ◌∙◌, subst, arith, inl, inr}
+use Rattle.std.proofs.lemmas.Bool.{cases_eq}
+use Rattle.cb_class.specs.Class.{pages_of}
 use Rattle.cb_span.specs.Contents.{Contents, handle_at}
 use Rattle.cb_span.specs.Places.{slot_place}
 use Rattle.cb_world.specs.declared.object.Object.{Object}
@@ -12,16 +12,17 @@ use Rattle.cb_world.specs.FarState.{FarState, span_in}
 use Rattle.cb_world.specs.Leaving.{LeavingState}
 use Rattle.cb_world.specs.LocalSound.{LocalSound, LiesAt, IsStamped}
 use Rattle.cb_world.specs.Sound.{Sound}
-use Rattle.cb_world.proofs.Apart.{slot_inside}
+use Rattle.cb_world.proofs.Apart.{slot_inside, some_same}
+use Rattle.cb_world.proofs.Lying.{spans_apart}
 use Rattle.cb_world.proofs.Windows.{window_same}
 use Rattle.cb_world.proofs.Unmoved.{KeepsLeaving, keeps_all, sound_near}
 
--- no object that others may change lies in a frame whose objects are all held
-pub frame_spares : (far : FarState) (s : Shown) (f p : ℕ) → LocalSound s far
-    → ((slot h : ℕ) (span : Contents) → span_in far.spans f ≡ Some span
-    → handle_at span slot ≡ Some h → IsHeld (object_at s h))
-    → (512 * f ≤ p) × (p < 512 * f + 512) → (k : ℕ) → Spares p (object_at s k)
-frame_spares far s f p sound held (from, to) k = spare (object_at s k) refl
+-- no object that others may change lies in the frames of a span whose objects are all held
+pub frame_spares : (far : FarState) (s : Shown) (f p : ℕ) (span : Contents) → LocalSound s far
+    → span_in far.spans f ≡ Some span
+    → ((slot h : ℕ) → handle_at span slot ≡ Some h → IsHeld (object_at s h))
+    → (512 * f ≤ p) × (p < 512 * (f + pages_of span.class)) → (k : ℕ) → Spares p (object_at s k)
+frame_spares far s f p span sound there held (from, to) k = spare (object_at s k) refl
   where
     spare : (o : Object) → object_at s k ≡ o → Spares p o
     spare (is.Empty v) e = tt
@@ -32,36 +33,36 @@ frame_spares far s f p sound held (from, to) k = spare (object_at s k) refl
         subst (λ (o : Object). LiesAt o len place) (sym e) (refl, refl) in
         let c = sound.placed.placed k len place lies in
         let x = slot_inside far s k len place sound c in
-        let here : c.frame ≡ f = omega (arith, x.0, x.1, covers.0, covers.1, from, to) in
-        subst IsHeld e (held c.slot k c.span (ap (span_in far.spans) (sym here) ∙ c.there) c.named)
+        let here : c.frame ≡ f = elim (cases_eq c.frame f) [
+          | inl same ↦ same
+          | inr off ↦ absurd (elim (spans_apart far f c.frame span c.span sound.frames there c.there off) [
+            | inl less ↦ omega (arith, x.0, x.1, covers.0, covers.1, from, to, less)
+            | inr more ↦ omega (arith, x.0, x.1, covers.0, covers.1, from, to, more)
+          ])
+        ] in
+        let one : c.span ≡ span =
+        some_same c.span span (sym c.there ∙ ap (span_in far.spans) here ∙ there) in
+        subst IsHeld e (held c.slot k (ap (λ (y : Contents). handle_at y c.slot) (sym one) ∙ c.named))
 
--- the caller owns every word of a frame whose objects are all held
-pub frame_owned : (far : FarState) (s : Shown) (f : ℕ) → LocalSound s far → f < length far.spans
-    → ((slot h : ℕ) (span : Contents) → span_in far.spans f ≡ Some span
-    → handle_at span slot ≡ Some h → IsHeld (object_at s h))
-    → (p : ℕ) → (512 * f ≤ p) × (p < 512 * f + 512) → Owns s p
-frame_owned far s f sound range held p lies =
-    (omega (arith, lies.1, range, sound.placed.memory), frame_spares far s f p sound held lies)
-
-span_within : (far : FarState) (f : ℕ) (span : Contents) → span_in far.spans f ≡ Some span
-    → f < length far.spans
-span_within far f span e = elim (cases_lt f (length far.spans)) [
-  | inl below ↦ below
-  | inr past ↦ absurd (none_some (sym (get_or_past far.spans f None past) ∙ e))
-]
-  where
-    none_some : None ≡ Some span → ⊥
-    none_some e = cc
+-- the caller owns every word of the frames of a span whose objects are all held
+pub frame_owned : (far : FarState) (s : Shown) (f : ℕ) (span : Contents) → LocalSound s far
+    → span_in far.spans f ≡ Some span
+    → ((slot h : ℕ) → handle_at span slot ≡ Some h → IsHeld (object_at s h))
+    → (p : ℕ) → (512 * f ≤ p) × (p < 512 * (f + pages_of span.class)) → Owns s p
+frame_owned far s f span sound there held p lies = (
+  omega (arith, lies.1, sound.frames.within f span there, sound.placed.memory),
+  frame_spares far s f p span sound there held lies,
+)
 
 -- the holder of the far lock owns the words of the batch that is leaving
 pub batch_owned : (s : Shown) (far : FarState) (batch : LeavingState) → Sound s far
-    → far.leaving ≡ Some batch → (f : ℕ) → Contains batch.frames f
-    → (p : ℕ) → (512 * f ≤ p) × (p < 512 * f + 512) → Owns s p
-batch_owned s far batch sound there f leaves =
-    let n = sound.noted batch there in let h = n.held f leaves in
-    frame_owned far s f sound.here (span_within far f h.0 h.1)
-    (λ slot h span at named.
-    subst IsHeld (sym (n.each f slot h span leaves at named).claimed) tt)
+    → far.leaving ≡ Some batch → (f : ℕ) (span : Contents) → Contains batch.frames f
+    → span_in far.spans f ≡ Some span
+    → (p : ℕ) → (512 * f ≤ p) × (p < 512 * (f + pages_of span.class)) → Owns s p
+batch_owned s far batch sound at f span leaves there =
+    let n = sound.noted batch at in
+    frame_owned far s f span sound.here there
+    (λ slot h named. subst IsHeld (sym (n.each f slot h span leaves there named).claimed) tt)
 
 -- The objects are what they were. No version fell; those of objects that no one else may change are
 -- the same, and so are the memory words that the holder owns.
@@ -117,6 +118,8 @@ seen_sound s t far sound x = sound_near s t far far sound here (keeps_all far)
     leaving : (batch : LeavingState) → far.leaving ≡ Some batch → KeepsLeaving s t far far batch
     leaving batch there = record {
       spans = λ f leaves. refl;
-      words = λ f leaves. window_same t.memory s.memory (512 * f) 512 (λ p from to.
-          x.owned p (batch_owned s far batch sound there f leaves p (from, to)));
+      words = λ f leaves. let held = (sound.noted batch there).held f leaves in
+          window_same t.memory s.memory (512 * f) (512 * batch.pages) (λ p from to. x.owned p
+          (batch_owned s far batch sound there f held.0 leaves held.1 p
+          (from, omega (arith, to, held.2))));
     }

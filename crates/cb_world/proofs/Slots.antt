@@ -1,11 +1,11 @@
 -- The slot that an object gets.
-use Rattle.std.proofs.Common.{◌≡◌, ◌≢◌, ◌⊎◌, ℕ, Bool, false, Option, IfSome, ◌<◌, List, Some, None, Contains, length, set, sym, refl, ap, ◌∙◌, subst, arith, inl, inr, length-set}
+use Rattle.std.proofs.Common.{◌≡◌, ◌⊎◌, ℕ, Option, IfSome, ◌+◌, ◌<◌, ◌≤◌, Some, None, Contains, length, set, sym, refl, ap, ◌∙◌, subst, arith, inl, inr}
 use Rattle.cb_class.specs.declared.class.Class.{Class}
-use Rattle.cb_class.specs.Class.{IsClass, slots_of}
-use Rattle.cb_class.proofs.Laws.{slots_at_least}
-use Rattle.cb_frame.specs.FreeFrames.{free_count, least_free, with_taken}
-use Rattle.cb_frame.proofs.Laws.{IsFree-in_range, least_free-Some, flag_from_taken, free_count-pos, contains-with_removed, contains-with_removed_other}
-use Rattle.cb_frame.specs.FrameSet.{contains}
+use Rattle.cb_class.specs.Class.{IsClass, pages_of, slots_of}
+use Rattle.cb_class.proofs.Laws.{pages_some, slots_at_least}
+use Rattle.cb_frame.specs.FreeFrames.{IsFreeFrame, with_run_taken}
+use Rattle.cb_frame.specs.Runs.{least_run}
+use Rattle.cb_frame.proofs.Laws.{least_run-Some}
 use Rattle.cb_span.specs.declared.temp.Temp.{Temp}
 use Rattle.cb_span.specs.declared.temp.Temp.TheVariants.{Hot, Cold}
 use Rattle.cb_span.specs.Contents.{Contents, IsSpan, handle_at, least_empty, new_span, with_placed}
@@ -16,10 +16,11 @@ use Rattle.cb_world.specs.FarState.{FarState, span_in}
 use Rattle.cb_world.specs.LocalSound.{AreFrames}
 use Rattle.cb_world.specs.Leaving.{LeavingState}
 use Rattle.cb_world.specs.OpenSpans.{kind_of, kind_if, open_kind}
-use Rattle.cb_world.specs.Placed.{HasRoom, Slot, IsChosen, IsPlaced, leaving_frames}
+use Rattle.cb_world.specs.Placed.{HasRoom, Slot, IsChosen, IsInNew, IsPlaced, leaving_frames}
 use Rattle.cb_world.specs.Sound.{Sound}
 use Rattle.cb_world.proofs.Apart.{some_same}
 use Rattle.cb_world.proofs.Kept.{frame_in_range}
+use Rattle.cb_world.proofs.Lying.{MayStand, none_at_free, stands_in_place, stands_where_free}
 
 -- the number of a class and a temperature tells both
 kind_tells : (a b : Class) (t u : Temp) → kind_of a t ≡ kind_of b u → (a ≡ b) × (t ≡ u)
@@ -96,11 +97,11 @@ first_taken class temp h span after slot known fresh least placed =
     subst (λ (o : Option ℕ). IfSome o (λ n. after ≡ with_placed span n h)) first placed
     ∙ ap (λ (x : Contents). with_placed x 0 h) fresh
 
--- the object goes into a new span in the least free frame
+-- the object goes into a new span in the least run of free frames that it fits
 pub placed_in_new : (far new : FarState) (class : Class) (temp : Temp) (h f at : ℕ)
-    → ((g : ℕ) → ¬ (HasRoom far class temp g)) → least_free far.frames ≡ Some f
+    → ((g : ℕ) → ¬ (HasRoom far class temp g)) → least_run far.frames (pages_of class) ≡ Some f
     → new ≡ record far {
-      frames = with_taken far.frames f;
+      frames = with_run_taken far.frames f (pages_of class);
       spans = set far.spans f (Some (with_placed (new_span class temp) 0 h));
     } → at ≡ slot_place class f 0 → IsPlaced far class temp h new at
 placed_in_new far new class temp h f at full frame left place = record {
@@ -108,7 +109,7 @@ placed_in_new far new class temp h f at full frame left place = record {
     frame = f;
     number = 0;
     span = new_span class temp;
-    free = with_taken far.frames f;
+    free = with_run_taken far.frames f (pages_of class);
   };
   chosen = inr (record {
     full = full;
@@ -121,17 +122,7 @@ placed_in_new far new class temp h f at full frame left place = record {
   place = place;
 }
 
--- where no frame is counted as free there is no least one
-pub none_free : (frames : List Bool) (n : ℕ) → n ≡ free_count frames → n ≡ 0
-    → least_free frames ≡ None
-none_free frames n count none = at (least_free frames) refl
-  where
-    at : (o : Option ℕ) → least_free frames ≡ o → least_free frames ≡ None
-    at None e = e
-    at (Some f) e = absurd (let some = free_count-pos frames f (least_free-Some frames f e).0 in
-        omega (arith, some, count, none))
-
--- An empty slot: the span there, or a new one where the frame was free.
+-- An empty slot: of the span there, or of a new one where its frames were free.
 pub record IsEmptySlot (far : FarState) (slot : Slot) : Type 0 where
   pub within : slot.frame < length far.spans
   pub valid : IsSpan slot.span
@@ -139,9 +130,14 @@ pub record IsEmptySlot (far : FarState) (slot : Slot) : Type 0 where
   pub empty : handle_at slot.span slot.number ≡ None
   pub before : (span_in far.spans slot.frame ≡ Some slot.span)
       ⊎ ((span_in far.spans slot.frame ≡ None) × ((k : ℕ) → handle_at slot.span k ≡ None))
-  pub sized : length slot.free ≡ length far.frames
-  pub busy : contains slot.free slot.frame ≡ false
-  pub others : (f : ℕ) → f ≢ slot.frame → contains slot.free f ≡ contains far.frames f
+  pub stands : MayStand far slot.frame (pages_of slot.span.class) slot.free
+
+-- the frames of a new span were free
+pub new_free : (far : FarState) (class : Class) (temp : Temp) (slot : Slot) → IsClass class
+    → IsInNew far class temp slot → (slot.frame + pages_of class ≤ length far.frames)
+    × ((g : ℕ) → slot.frame ≤ g → g < slot.frame + pages_of class → IsFreeFrame far.frames g)
+new_free far class temp slot known x =
+    least_run-Some far.frames (pages_of class) slot.frame x.frame (pages_some class known)
 
 pub chosen_empty : (far : FarState) (class : Class) (temp : Temp) (slot : Slot) → AreFrames far
     → IsClass class → IsChosen far class temp slot → IsEmptySlot far slot
@@ -153,20 +149,19 @@ chosen_empty far class temp slot frames known (inl x) =
       inside = least.0;
       empty = least.1;
       before = inl x.there;
-      sized = ap length x.free;
-      busy = ap (λ (l : List Bool). contains l slot.frame) x.free
-          ∙ flag_from_taken far.frames slot.frame (λ free. some_none slot.span
-          (sym x.there ∙ (frames.free slot.frame (omega (arith, within, frames.sized))).0 free));
-      others = λ f off. ap (λ (l : List Bool). contains l f) x.free;
+      stands = subst (MayStand far slot.frame (pages_of slot.span.class)) (sym x.free)
+          (stands_in_place far slot.frame slot.span frames x.there);
     }
 chosen_empty far class temp slot frames known (inr x) =
-    let free = (least_free-Some far.frames slot.frame x.frame).0 in
-    let within = IsFree-in_range far.frames slot.frame free in
+    let run = new_free far class temp slot known x in
+    let some = pages_some class known in
     let valid : IsSpan slot.span = subst IsSpan (sym x.span) (IsSpan-new_span class temp known) in
     let none : (k : ℕ) → handle_at slot.span k ≡ None =
     λ k. ap (λ (span : Contents). handle_at span k) x.span ∙ handle_at-new_span class temp k in
+    let pages : pages_of class ≡ pages_of slot.span.class =
+    ap (λ (span : Contents). pages_of span.class) (sym x.span) in
     record {
-      within = omega (arith, within, frames.sized);
+      within = omega (arith, run.0, some, frames.sized);
       valid = valid;
       inside = omega (
         arith,
@@ -176,12 +171,14 @@ chosen_empty far class temp slot frames known (inr x) =
         slots_at_least class known,
       );
       empty = none slot.number;
-      before = inr ((frames.free slot.frame within).0 free, none);
-      sized = ap length x.free ∙ length-set far.frames slot.frame false;
-      busy = ap (λ (l : List Bool). contains l slot.frame) x.free
-          ∙ contains-with_removed far.frames slot.frame;
-      others = λ f off. ap (λ (l : List Bool). contains l f) x.free
-          ∙ contains-with_removed_other far.frames slot.frame f off;
+      before = inr (
+        none_at_free far slot.frame frames
+            (run.1 slot.frame (omega arith) (omega (arith, some))),
+        none,
+      );
+      stands = subst (λ (n : ℕ). MayStand far slot.frame n slot.free) pages
+          (subst (MayStand far slot.frame (pages_of class)) (sym x.free)
+          (stands_where_free far slot.frame (pages_of class) frames some run.0 run.1));
     }
 
 -- its class is the one asked for
@@ -192,13 +189,13 @@ chosen_class far class temp slot (inr x) = ap (λ (span : Contents). span.class)
 
 -- its frame is not leaving
 pub chosen_stays : (s : Shown) (far : FarState) (class : Class) (temp : Temp) (slot : Slot)
-    (batch : LeavingState) → Sound s far → IsChosen far class temp slot
+    (batch : LeavingState) → Sound s far → IsClass class → IsChosen far class temp slot
     → far.leaving ≡ Some batch → Contains batch.frames slot.frame → ⊥
-chosen_stays s far class temp slot batch sound (inl x) there leaves =
+chosen_stays s far class temp slot batch sound known (inl x) there leaves =
     x.room.1 (subst (λ (o : Option LeavingState). Contains (leaving_frames o) slot.frame)
     (sym there) leaves)
-chosen_stays s far class temp slot batch sound (inr x) there leaves =
+chosen_stays s far class temp slot batch sound known (inr x) there leaves =
     let held = (sound.noted batch there).held slot.frame leaves in
-    let free = (least_free-Some far.frames slot.frame x.frame).0 in
-    some_none held.0 (sym held.1 ∙ (sound.here.frames.free slot.frame
-    (IsFree-in_range far.frames slot.frame free)).0 free)
+    let run = new_free far class temp slot known x in
+    some_none held.0 (sym held.1 ∙ none_at_free far slot.frame sound.here.frames
+    (run.1 slot.frame (omega arith) (omega (arith, pages_some class known))))

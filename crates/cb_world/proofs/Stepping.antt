@@ -200,6 +200,7 @@ pub step_keeps_join : (s : Shown) (far new : FarState) (pair : JoiningState) (a 
     (p : ℕ) (old shard : Shard) (row : List ℕ) → AwaySound s far → IsJoin far pair
     → IsStepped far new pair a b p old shard row → IsJoin new (with_step pair p shard)
 step_keeps_join s far new pair a b p old shard row sound j st = record {
+  pages = j.pages;
   k = j.k;
   r = j.r;
   range = j.range;
@@ -223,7 +224,14 @@ step_keeps_join s far new pair a b p old shard row sound j st = record {
   ];
   fit = λ c d f. let y =
       j.fit c d (back c d f) in
-      record { a_count = y.a_count; b_count = y.b_count; a_live = y.a_live; b_live = y.b_live };
+      record {
+        a_count = y.a_count;
+        b_count = y.b_count;
+        a_pages = y.a_pages;
+        b_pages = y.b_pages;
+        a_live = y.a_live;
+        b_live = y.b_live;
+      };
   word = λ c d f. let m = j.word a b st.fresh in (
     m.0,
     record {
@@ -237,7 +245,8 @@ step_keeps_join s far new pair a b p old shard row sound j st = record {
       new_rows = λ q x at. elim (step_cases pair.steps p q shard x st.undone at) [
         | inl (here, same) ↦
             subst (λ (c : Shard). row_under new.nodes c.node c.key ≡ Some (row_at m.0 q)) same
-            (st.put ∙ ap Some (st.merged j.k j.r m.0 j.count (j.fit a b st.fresh).a_count m.1)
+            (st.put ∙ ap Some (st.merged j.pages j.k j.r m.0 (j.fit a b st.fresh).a_pages j.count
+            (j.fit a b st.fresh).a_count m.1)
             ∙ ap (λ (n : ℕ). Some (row_at m.0 n)) (sym here))
         | inr before ↦
             st.stay x.node x.key (λ e.

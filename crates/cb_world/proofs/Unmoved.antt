@@ -1,6 +1,7 @@
 -- What a change of objects that are not far leaves of the far part of the sound world.
 use Rattle.std.proofs.Common.{◌≡◌, ◌⊎◌, ℕ, suc, ◌+◌, ◌-◌, ◌*◌, ◌<◌, ◌≤◌, List, [], ◌∷◌, ◌++◌, Some, Contains, length, get_or, map, sym, refl, ap, ◌∙◌, subst, arith, inl, inr}
 use Rattle.std.specs.FinMap as map
+use Rattle.cb_class.specs.Class.{pages_of}
 use Rattle.cb_gf256.specs.Rows.{row_at}
 use Rattle.cb_member.specs.declared.names.Shard.{Shard}
 use Rattle.cb_set.specs.SetState.{SetState}
@@ -25,7 +26,7 @@ use Rattle.cb_world.specs.Sets.{SetMap}
 use Rattle.cb_world.specs.Counts.{CountsState}
 use Rattle.cb_world.specs.SetAdded.{is_far}
 use Rattle.cb_world.proofs.Added.{was_far}
-use Rattle.cb_world.proofs.Apart.{slot_inside}
+use Rattle.cb_world.proofs.Apart.{slot_inside, some_same}
 use Rattle.cb_world.proofs.Reserving.{noted_by}
 use Rattle.cb_world.proofs.Surveying.{survey_same}
 use Rattle.cb_world.proofs.Windows.{window_at, window_same}
@@ -161,6 +162,7 @@ away_kept s t far new keeps objects batches sound =
                     class = o.class;
                     away = far_stays s t h o.len o.version o.words (objects h) o.away;
                     fits = o.fits;
+                    paged = o.paged;
                     sized = o.sized;
                     contents = o.contents;
                   };
@@ -189,7 +191,7 @@ away_kept s t far new keeps objects batches sound =
         };
         batch = λ b there. let y = x.batch b there in let e = sym (batches b there) in record {
           word = subst (λ (rows : List (List ℕ)).
-              IsSpanWord (length b.frames) (length b.parities) rows) e y.word;
+              IsSpanWord b.pages (length b.frames) (length b.parities) rows) e y.word;
           count = y.count;
           put = λ p shard at lost. y.put p shard at lost
               ∙ ap (λ (rows : List (List ℕ)). Some (row_at rows p)) e;
@@ -198,6 +200,7 @@ away_kept s t far new keeps objects batches sound =
       };
       survey = survey_same far (with_local far new) refl refl (omega arith) (λ id. refl) sound.survey;
       join = λ pair there. let j = sound.join pair there in record {
+        pages = j.pages;
         k = j.k;
         r = j.r;
         range = j.range;
@@ -227,21 +230,22 @@ away_kept s t far new keeps objects batches sound =
     x : AwaySound s far
     x = sound.sound
 
--- the frames that are leaving hold the same spans and words
+-- the spans that are leaving and the words of their runs are the same
 pub record KeepsLeaving (s t : Shown) (far new : FarState) (batch : LeavingState) : Type 0 where
   pub spans : (f : ℕ) → Contains batch.frames f → span_in new.spans f ≡ span_in far.spans f
   pub words : (f : ℕ) → Contains batch.frames f
-      → window t.memory (512 * f) 512 ≡ window s.memory (512 * f) 512
+      → window t.memory (512 * f) (512 * batch.pages)
+      ≡ window s.memory (512 * f) (512 * batch.pages)
 
-same_rows : (ms ns : List ℕ) (fs : List ℕ)
-    → ((f : ℕ) → Contains fs f → window ns (512 * f) 512 ≡ window ms (512 * f) 512)
-    → map (λ f. row_of (window ns (512 * f) 512)) fs ≡ map (λ f. row_of (window ms (512 * f) 512)) fs
-same_rows ms ns [] same = refl
-same_rows ms ns (f ∷ fs) same =
-    ap (λ (row : List ℕ). row ∷ map (λ f. row_of (window ns (512 * f) 512)) fs)
+same_rows : (ms ns : List ℕ) (n : ℕ) (fs : List ℕ)
+    → ((f : ℕ) → Contains fs f → window ns (512 * f) n ≡ window ms (512 * f) n)
+    → map (λ f. row_of (window ns (512 * f) n)) fs ≡ map (λ f. row_of (window ms (512 * f) n)) fs
+same_rows ms ns n [] same = refl
+same_rows ms ns n (f ∷ fs) same =
+    ap (λ (row : List ℕ). row ∷ map (λ f. row_of (window ns (512 * f) n)) fs)
     (ap (λ (ws : List ℕ). row_of ws) (same f (0, omega arith, refl)))
-    ∙ ap (λ (rows : List (List ℕ)). row_of (window ms (512 * f) 512) ∷ rows)
-    (same_rows ms ns fs (λ g c. same g (c.0 + 1, omega (arith, c.1), later fs f g c)))
+    ∙ ap (λ (rows : List (List ℕ)). row_of (window ms (512 * f) n) ∷ rows)
+    (same_rows ms ns n fs (λ g c. same g (c.0 + 1, omega (arith, c.1), later fs f g c)))
   where
     later : (fs : List ℕ) (f g : ℕ) → (c : Contains fs g) → get_or (f ∷ fs) (c.0 + 1) g ≡ g
     later fs f g c = ap (λ (i : ℕ). get_or (f ∷ fs) i g) (let e : c.0 + 1 ≡ suc c.0 = omega arith in e) ∙ c.2
@@ -250,7 +254,7 @@ pub batch_kept : (s t : Shown) (far new : FarState) (batch : LeavingState)
     → KeepsLeaving s t far new batch → batch_rows t batch ≡ batch_rows s batch
 batch_kept s t far new batch k =
     ap (λ (rows : List (List ℕ)). rows ++ batch.parities)
-    (same_rows s.memory t.memory batch.frames k.words)
+    (same_rows s.memory t.memory (512 * batch.pages) batch.frames k.words)
 
 -- and so do the set kept for it and the numbers
 pub record KeepsNumbers (far new : FarState) (batch : LeavingState) : Type 0 where
@@ -293,16 +297,25 @@ noted_kept s t far new batch k numbers objects noted = noted_by s t far new batc
     stays {h} n (inr near) = absurd (not_claimed (object_at s h) (len_of n.former.word)
         (place_of n.former.word) n.version n.words near.before n.claimed)
 
--- words of a frame that is as it was
-in_frame : (ms ns : List ℕ) (f place n : ℕ) → 512 * f ≤ place → place + n ≤ 512 * f + 512
-    → window ns (512 * f) 512 ≡ window ms (512 * f) 512 → window ns place n ≡ window ms place n
-in_frame ms ns f place n start end same =
+-- words of a run that is as it was
+in_run : (ms ns : List ℕ) (f pages place n : ℕ) → 512 * f ≤ place → place + n ≤ 512 * (f + pages)
+    → window ns (512 * f) (512 * pages) ≡ window ms (512 * f) (512 * pages)
+    → window ns place n ≡ window ms place n
+in_run ms ns f pages place n start end same =
     window_same ns ms place n (λ i low high. let k = i - 512 * f in
     let at : 512 * f + k ≡ i = omega (arith, low, start) in
-    let below : k < 512 = omega (arith, low, high, start, end) in
-    ap (λ (j : ℕ). get_or ns j 0) (sym at) ∙ sym (window_at ns (512 * f) 512 k below)
-    ∙ ap (λ (l : List ℕ). get_or l k 0) same ∙ window_at ms (512 * f) 512 k below
+    let below : k < 512 * pages = omega (arith, low, high, start, end) in
+    ap (λ (j : ℕ). get_or ns j 0) (sym at) ∙ sym (window_at ns (512 * f) (512 * pages) k below)
+    ∙ ap (λ (l : List ℕ). get_or l k 0) same ∙ window_at ms (512 * f) (512 * pages) k below
     ∙ ap (λ (j : ℕ). get_or ms j 0) at)
+
+-- a span that is leaving has the batch's length
+pub leaving_pages : (s : Shown) (far : FarState) (batch : LeavingState) (f : ℕ) (span : Contents)
+    → AreNoted s far batch → Contains batch.frames f → span_in far.spans f ≡ Some span
+    → pages_of span.class ≡ batch.pages
+leaving_pages s far batch f span noted leaves there =
+    let h = noted.held f leaves in
+    ap (λ (c : Contents). pages_of c.class) (some_same span h.0 (sym there ∙ h.1)) ∙ h.2
 
 -- the objects of the leaving frames are claimed with the same words
 claimed_kept : (s t : Shown) (far new : FarState) → Sound s far → far.leaving ≡ new.leaving
@@ -317,7 +330,9 @@ claimed_kept s t far new sound same objects leaving h len place v words e = by (
     by (inl stays) =
         let x = sound.claimed h len place v words (sym stays ∙ e) in
         let k = leaving x.batch x.there in
-        let inside = slot_inside far s h len place sound.here x.slot in record {
+        let inside = slot_inside far s h len place sound.here x.slot in
+        let long = leaving_pages s far x.batch x.slot.frame x.slot.span (sound.noted x.batch x.there)
+        x.leaves x.slot.there in record {
           batch = x.batch;
           there = sym same ∙ x.there;
           slot = record {
@@ -330,8 +345,8 @@ claimed_kept s t far new sound same objects leaving h len place v words e = by (
             fits = x.slot.fits;
           };
           leaves = x.leaves;
-          contents = x.contents ∙ sym (in_frame s.memory t.memory x.slot.frame place (words_for len)
-              inside.0 inside.1 (k.words x.slot.frame x.leaves));
+          contents = x.contents ∙ sym (in_run s.memory t.memory x.slot.frame x.batch.pages place
+              (words_for len) inside.0 (omega (arith, inside.1, long)) (k.words x.slot.frame x.leaves));
         }
 
 -- the world stays sound where no far and no claimed object changed, and the leaving frames are as

@@ -76,7 +76,7 @@ bytes_zero column zero below = row_zeros column below
 bytes_zero column (suc zero) below = row_zeros column below
 bytes_zero column (suc (suc i)) below = refl
 
-pub is_word : IsSpanWord 1 1 rows
+pub is_word : IsSpanWord 1 1 1 rows
 is_word = record {
   is_word = record {
     count = refl;
@@ -106,7 +106,7 @@ abbrev slots : Option ℕ → List (Option ℕ)
 slots first = first ∷ None ∷ None ∷ None ∷ []
 
 abbrev of : List Shard → PositionState → SetState
-of shards position = set_of 6 shards (position ∷ [])
+of shards position = set_of 6 1 shards (position ∷ [])
 
 abbrev set : SetState
 set = of shards (filled_position (slots (Some 0)))
@@ -171,6 +171,7 @@ is_shaped = record {
     parities_most = lit≤ tt;
   };
   data_first = lit≤ tt;
+  pages = lit≤ tt;
   distinct = distinct;
   current = shard_by (λ s. (s.node.n < 2) × (s.incarnation ≤ incarnation (fresh_members 2) s.node))
       (lit< tt, lit≤ tt) (lit< tt, lit≤ tt);
@@ -193,7 +194,7 @@ class_of_1024 = record {
       (agree_below_at test (λ _. true) 11 smaller.index refl less);
 }
 
-holds : HoldsObject after row 4 0 0
+holds : HoldsObject after 1 row 4 0 0
 unfolding slots_of pages_of bytes_of words words_of
 holds = record {
   len = 1024;
@@ -202,6 +203,7 @@ holds = record {
   class = largest;
   away = refl;
   fits = class_of_1024;
+  paged = refl;
   sized = refl;
   contents = refl;
 }
@@ -415,7 +417,7 @@ key_not_drawn x = absurd (let l : 3 < 3 = x.keys 1 (at 1 3) refl in omega (arith
 
 -- a row of the batch that is leaving has the key
 abbrev batch : List ℕ → List (Option Shard) → LeavingState
-batch frames shards = record { set = 5; frames = frames; words = []; parities = []; shards = shards }
+batch frames shards = record { set = 5; pages = 1; frames = frames; words = []; parities = []; shards = shards }
 
 abbrev leaves : LeavingState → FarState → FarState
 leaves batch far = record far { leaving = Some batch }

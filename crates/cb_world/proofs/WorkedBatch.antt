@@ -33,6 +33,7 @@ use Rattle.cb_world.proofs.WorkedWorld.{far}
 abbrev batch : LeavingState
 batch = record {
   set = 5;
+  pages = 1;
   frames = 0 ∷ [];
   words = [];
   parities = row ∷ [];
@@ -50,7 +51,7 @@ first_row = got 2 row ∙ ap (λ (r : List ℕ). Some r) (sym zero_row)
 
 is_batch : IsBatch known leaving batch
 is_batch = record {
-  word = subst (λ (r : List ℕ). IsSpanWord 1 1 (r ∷ row ∷ [])) (sym zero_row) is_word;
+  word = subst (λ (r : List ℕ). IsSpanWord 1 1 1 (r ∷ row ∷ [])) (sym zero_row) is_word;
   count = refl;
   put = put;
   apart = apart;

@@ -47,7 +47,7 @@ abbrev pub shards : List Shard
 shards = at 0 0 ∷ at 1 1 ∷ []
 
 abbrev pub set : SetState
-set = set_of 5 shards (filled ∷ [])
+set = set_of 5 1 shards (filled ∷ [])
 
 abbrev home : Home
 home = record { set = 5; position = 0; slot = 1 }
@@ -95,18 +95,21 @@ no_home_past_the_last : home_at (away set).homes 3 ≡ None
 no_home_past_the_last = refl
 
 -- what holds of a set beside its word
-no_parity : ¬ (IsShaped (fresh_members 2) (set_of 5 (at 0 0 ∷ []) (filled ∷ [])))
+no_parity : ¬ (IsShaped (fresh_members 2) (set_of 5 1 (at 0 0 ∷ []) (filled ∷ [])))
 no_parity x = absurd (omega (arith, x.range.parities_least))
 
-one_node : ¬ (IsShaped (fresh_members 2) (set_of 5 (at 0 0 ∷ at 0 1 ∷ []) (filled ∷ [])))
+one_node : ¬ (IsShaped (fresh_members 2) (set_of 5 1 (at 0 0 ∷ at 0 1 ∷ []) (filled ∷ [])))
 one_node x = x.distinct 0 1 (at 0 0) (lit< tt) (lit< tt) refl
 
 no_such_node : ¬ (IsShaped (fresh_members 1) set)
 no_such_node x = absurd (let z : 1 < 1 = (x.current 1 (at 1 1) refl).0 in omega (arith, z))
 
 still_to_come : ¬ (IsShaped (fresh_members 2)
-    (set_of 5 (at 0 0 ∷ record { node = node 1; incarnation = 1; key = 1 } ∷ []) (filled ∷ [])))
+    (set_of 5 1 (at 0 0 ∷ record { node = node 1; incarnation = 1; key = 1 } ∷ []) (filled ∷ [])))
 still_to_come x = absurd (omega (arith, (x.current 1 _ refl).1))
+
+too_many_pages : ¬ (IsShaped (fresh_members 2) (record set { pages = 5 }))
+too_many_pages x = absurd (let l : 5 ≤ 4 = x.pages in omega (arith, l))
 
 is_shaped : IsShaped (fresh_members 2) set
 is_shaped = record {
@@ -117,6 +120,7 @@ is_shaped = record {
     parities_most = lit≤ tt;
   };
   data_first = lit≤ tt;
+  pages = lit≤ tt;
   distinct = distinct;
   current = current;
 }
@@ -141,10 +145,10 @@ is_shaped = record {
     current (suc (suc p)) shard e = absurd (cc)
 
 -- sets
-shaped_otherwise : ¬ (AreSets known (away (set_of 5 (at 0 0 ∷ []) (filled ∷ []))))
+shaped_otherwise : ¬ (AreSets known (away (set_of 5 1 (at 0 0 ∷ []) (filled ∷ []))))
 shaped_otherwise x = no_parity' (x.shaped 5 _ (there _))
   where
-    no_parity' : ¬ (IsShaped (fresh_members 2) (set_of 5 (at 0 0 ∷ []) (filled ∷ [])))
+    no_parity' : ¬ (IsShaped (fresh_members 2) (set_of 5 1 (at 0 0 ∷ []) (filled ∷ [])))
     no_parity' y = absurd (omega (arith, y.range.parities_least))
 
 row_missing : ¬ (AreSets known (away set))
@@ -156,13 +160,13 @@ row_missing x =
     no_row key = grind (arith, map.gets)
 
 dead_with_an_object : ¬ (AreSets known
-    (away (set_of 5 shards (record { live = false; slots = filled.slots } ∷ []))))
+    (away (set_of 5 1 shards (record { live = false; slots = filled.slots } ∷ []))))
 dead_with_an_object x = absurd (let z : false ≡ true = x.live 5 0 _ (there _) in cc)
 
-none_live : ¬ (AreSets known (away (set_of 5 shards (dead_position ∷ []))))
+none_live : ¬ (AreSets known (away (set_of 5 1 shards (dead_position ∷ []))))
 none_live x = absurd (dead ((x.kept 5 _ (there _)).0) ((x.kept 5 _ (there _)).1))
   where
-    dead : (p : ℕ) → live_at (set_of 5 shards (dead_position ∷ [])) p ≡ true → ⊥
+    dead : (p : ℕ) → live_at (set_of 5 1 shards (dead_position ∷ [])) p ≡ true → ⊥
     dead zero e = cc
     dead (suc p) e = cc
 
@@ -235,7 +239,7 @@ position_of_owner (of_leaving p) = p
 position_of_owner (of_joining p) = p
 
 abbrev twice : SetState
-twice = set_of 5 (at 0 0 ∷ at 1 0 ∷ []) (filled ∷ [])
+twice = set_of 5 1 (at 0 0 ∷ at 1 0 ∷ []) (filled ∷ [])
 
 one_key_twice : ¬ (AreShardRows (away twice))
 one_key_twice x =
@@ -292,7 +296,7 @@ held_by_the_claim = refl
 
 -- the batch that is leaving
 abbrev pub batch : LeavingState
-batch = record { set = 5; frames = []; words = []; parities = []; shards = [] }
+batch = record { set = 5; pages = 1; frames = []; words = []; parities = []; shards = [] }
 
 no_frames_leave : ¬ (IsBatch known (away set) batch)
 no_frames_leave x = absurd (let z : 0 ≡ 4096 = x.word.wide in omega (arith, z))

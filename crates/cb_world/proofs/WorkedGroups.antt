@@ -11,12 +11,12 @@ use Rattle.cb_world.proofs.Apart.{some_same}
 use Rattle.cb_world.proofs.Grouped.{beside_put}
 use Rattle.cb_world.proofs.WorkedSteps.{a, b, five_there, four_there, joining, kept, none_some}
 
--- ---- two sets of one code, live at the first position and at the second
+-- ---- two sets of one code and length, live at the first position and at the second
 abbrev first : Group
-first = record { k = 2; r = 1; live = 1 }
+first = record { k = 2; r = 1; pages = 1; live = 1 }
 
 abbrev second : Group
-second = record { k = 2; r = 1; live = 2 }
+second = record { k = 2; r = 1; pages = 1; live = 2 }
 
 group_a : group_of a ≡ first
 group_a = refl
@@ -25,13 +25,16 @@ group_b : group_of b ≡ second
 group_b = refl
 
 they_match : DoMatch first second
-they_match = record { k = refl; r = refl; apart = refl }
+they_match = record { k = refl; r = refl; pages = refl; apart = refl }
 
 not_with_more_data : DoMatch (record first { k = 3 }) second → ⊥
 not_with_more_data x = let e : 3 ≡ 2 = x.k in omega (arith, e)
 
 not_with_more_parities : DoMatch (record first { r = 2 }) second → ⊥
 not_with_more_parities x = let e : 2 ≡ 1 = x.r in omega (arith, e)
+
+not_with_longer_spans : DoMatch (record first { pages = 2 }) second → ⊥
+not_with_longer_spans x = let e : 2 ≡ 1 = x.pages in omega (arith, e)
 
 not_with_a_position_in_both : DoMatch first first → ⊥
 not_with_a_position_in_both x = let e : 1 ≡ 0 = x.apart in omega (arith, e)
@@ -64,7 +67,7 @@ not_two_that_match x = x first second (0, refl) (1, refl) they_match
 not_one_that_is_nowhere_live : NoGroupsMatch (record first { live = 0 } ∷ []) → ⊥
 not_one_that_is_nowhere_live x =
     x (record first { live = 0 }) (record first { live = 0 }) (0, refl) (0, refl)
-    (record { k = refl; r = refl; apart = refl })
+    (record { k = refl; r = refl; pages = refl; apart = refl })
 
 -- ---- a set that is alone
 abbrev one : SetMap

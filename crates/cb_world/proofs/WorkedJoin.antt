@@ -31,17 +31,22 @@ of_another_incarnation : ¬ (IsBeside (at 1 1) (record (at 1 6) { incarnation = 
 of_another_incarnation x = absurd (let e : 1 ≡ 0 = x.incarnation in omega (arith, e))
 
 -- ---- the merged word: the first row is a's and the second one b's
-pub is_span_word : IsSpanWord 2 1 rows
+pub is_span_word : IsSpanWord 1 2 1 rows
 is_span_word = record { is_word = is_code_word; bytes = bytes; wide = row_long 7 }
 
 -- rows of one byte
 abbrev short : List (List ℕ)
 short = (7 ∷ []) ∷ (0 ∷ []) ∷ (7 ∷ []) ∷ []
 
-not_wide : ¬ (IsSpanWord 2 1 short)
+not_wide : ¬ (IsSpanWord 1 2 1 short)
 not_wide x = absurd (let e : 1 ≡ 4096 = x.wide in omega (arith, e))
 
-is_merged_word : IsMergedWord 2 1 (1 ∷ []) (row 7 ∷ row 5 ∷ []) (row 9 ∷ row 0 ∷ []) rows
+-- rows of one page are no word of spans of two
+not_as_wide : ¬ (IsSpanWord 2 2 1 rows)
+not_as_wide x = absurd (let e = row_long 7 in let l : length (row 7) ≡ 8192 = x.wide in
+    omega (arith, e, l))
+
+is_merged_word : IsMergedWord 1 2 1 (1 ∷ []) (row 7 ∷ row 5 ∷ []) (row 9 ∷ row 0 ∷ []) rows
 is_merged_word = record { word = is_span_word; chosen = chosen }
   where
     chosen : (i : ℕ) → i < 2 → row_at rows i
@@ -51,17 +56,17 @@ is_merged_word = record { word = is_span_word; chosen = chosen }
     chosen (suc zero) below = refl
     chosen (suc (suc i)) below = absurd (omega (arith, below))
 
-merged_of_short_rows : ¬ (IsMergedWord 2 1 (1 ∷ []) ((7 ∷ []) ∷ []) ([] ∷ (0 ∷ []) ∷ []) short)
+merged_of_short_rows : ¬ (IsMergedWord 1 2 1 (1 ∷ []) ((7 ∷ []) ∷ []) ([] ∷ (0 ∷ []) ∷ []) short)
 merged_of_short_rows x = not_wide x.word
 
 other_rows : (n m : ℕ) → n ≢ m → row n ≡ row m → ⊥
 other_rows n m off e = off (sym (row_byte n 0 (lit< tt)) ∙ ap (λ (l : List ℕ). get_or l 0 0) e
     ∙ row_byte m 0 (lit< tt))
 
-merged_of_b_alone : ¬ (IsMergedWord 2 1 (1 ∷ []) (row 6 ∷ []) (row 7 ∷ row 0 ∷ []) rows)
+merged_of_b_alone : ¬ (IsMergedWord 1 2 1 (1 ∷ []) (row 6 ∷ []) (row 7 ∷ row 0 ∷ []) rows)
 merged_of_b_alone x = other_rows 7 6 (λ e. omega (arith, e)) (x.chosen 0 (lit< tt))
 
-merged_of_a_alone : ¬ (IsMergedWord 2 1 (1 ∷ []) (row 7 ∷ row 0 ∷ []) (row 7 ∷ row 6 ∷ []) rows)
+merged_of_a_alone : ¬ (IsMergedWord 1 2 1 (1 ∷ []) (row 7 ∷ row 0 ∷ []) (row 7 ∷ row 6 ∷ []) rows)
 merged_of_a_alone x = other_rows 0 6 (λ e. omega (arith, e)) (x.chosen 1 (lit< tt))
 
 -- ---- the rows at the nodes: a's first, b's second, and the two new ones
@@ -97,7 +102,7 @@ named : (nodes : NodesState) (s t : Shard) (r : List ℕ) → Some s ≡ Some t
 named nodes s t r e at =
     subst (λ (x : Shard). row_under nodes x.node x.key ≡ Some r) (some_same s t e) at
 
-is_join_word : IsJoinWord merging pair 2 1 rows
+is_join_word : IsJoinWord merging pair 1 2 1 rows
 is_join_word = record {
   word = is_span_word;
   a_rows = a_rows;
@@ -133,32 +138,39 @@ is_join_word = record {
     new_rows (suc (suc (suc p))) shard e = absurd (none_some (Some shard) e)
 
 joined_of_short_rows :
-    ¬ (IsJoinWord (with_nodes (holding (7 ∷ []) (0 ∷ []) (0 ∷ []) (7 ∷ []))) pair 2 1 short)
+    ¬ (IsJoinWord (with_nodes (holding (7 ∷ []) (0 ∷ []) (0 ∷ []) (7 ∷ []))) pair 1 2 1 short)
 joined_of_short_rows x = not_wide x.word
 
 pub differ : (n m : ℕ) → n ≢ m → Some (row n) ≡ Some (row m) → ⊥
 differ n m off e = other_rows n m off (some_same (row n) (row m) e)
 
-another_row_of_a : ¬ (IsJoinWord (with_nodes (holding (row 6) (row 0) (row 0) (row 7))) pair 2 1 rows)
+another_row_of_a : ¬ (IsJoinWord (with_nodes (holding (row 6) (row 0) (row 0) (row 7))) pair 1 2 1 rows)
 another_row_of_a x = differ 6 7 (λ e. omega (arith, e))
     (sym (got 0 (row 6)) ∙ x.a_rows 0 (at 0 0) (lit< tt) refl refl)
 
-another_row_of_b : ¬ (IsJoinWord (with_nodes (holding (row 7) (row 6) (row 0) (row 7))) pair 2 1 rows)
+another_row_of_b : ¬ (IsJoinWord (with_nodes (holding (row 7) (row 6) (row 0) (row 7))) pair 1 2 1 rows)
 another_row_of_b x = differ 6 0 (λ e. omega (arith, e))
     (sym (got_first (row 6) (row 0)) ∙ x.b_rows 1 (at 1 4) (lit< tt) refl refl)
 
-another_new_row : ¬ (IsJoinWord (with_nodes (holding (row 7) (row 0) (row 6) (row 7))) pair 2 1 rows)
+another_new_row : ¬ (IsJoinWord (with_nodes (holding (row 7) (row 0) (row 6) (row 7))) pair 1 2 1 rows)
 another_new_row x = differ 6 0 (λ e. omega (arith, e))
     (sym (got_second (row 0) (row 6)) ∙ x.new_rows 1 (at 1 6) refl)
 
 another_new_parity :
-    ¬ (IsJoinWord (with_nodes (holding (row 7) (row 0) (row 0) (row 6))) pair 2 1 rows)
+    ¬ (IsJoinWord (with_nodes (holding (row 7) (row 0) (row 0) (row 6))) pair 1 2 1 rows)
 another_new_parity x =
     differ 6 7 (λ e. omega (arith, e)) (sym (got 7 (row 6)) ∙ x.new_rows 2 (at 2 7) refl)
 
 -- ---- sets that fit the pair: of as many positions, and live where the pair says
-are_fit : AreFit pair 2 a b
-are_fit = record { a_count = refl; b_count = refl; a_live = a_live; b_live = b_live }
+are_fit : AreFit pair 1 2 a b
+are_fit = record {
+  a_count = refl;
+  b_count = refl;
+  a_pages = refl;
+  b_pages = refl;
+  a_live = a_live;
+  b_live = b_live;
+}
   where
     a_live : (p : ℕ) → live_at a p ≡ true → takes pair.taken p ≡ false
     a_live zero e = refl
@@ -177,16 +189,23 @@ longer_a = record a { positions = of 0 ∷ dead_position ∷ dead_position ∷ [
 abbrev pub longer_b : SetState
 longer_b = record b { positions = dead_position ∷ of 1 ∷ dead_position ∷ [] }
 
-longer_a_unfit : ¬ (AreFit pair 2 longer_a b)
+longer_a_unfit : ¬ (AreFit pair 1 2 longer_a b)
 longer_a_unfit x = absurd (let e : 3 ≡ 2 = x.a_count in omega (arith, e))
 
-longer_b_unfit : ¬ (AreFit pair 2 a longer_b)
+longer_b_unfit : ¬ (AreFit pair 1 2 a longer_b)
 longer_b_unfit x = absurd (let e : 3 ≡ 2 = x.b_count in omega (arith, e))
 
-live_where_taken : ¬ (AreFit pair 2 (record a { positions = of 0 ∷ of 2 ∷ [] }) b)
+-- of spans of another length
+longer_spans_of_a_unfit : ¬ (AreFit pair 1 2 (record a { pages = 2 }) b)
+longer_spans_of_a_unfit x = absurd (let e : 2 ≡ 1 = x.a_pages in omega (arith, e))
+
+longer_spans_of_b_unfit : ¬ (AreFit pair 1 2 a (record b { pages = 2 }))
+longer_spans_of_b_unfit x = absurd (let e : 2 ≡ 1 = x.b_pages in omega (arith, e))
+
+live_where_taken : ¬ (AreFit pair 1 2 (record a { positions = of 0 ∷ of 2 ∷ [] }) b)
 live_where_taken x = false_true (sym (x.a_live 1 refl))
 
-live_where_not_taken : ¬ (AreFit pair 2 a (record b { positions = of 2 ∷ of 1 ∷ [] }))
+live_where_not_taken : ¬ (AreFit pair 1 2 a (record b { positions = of 2 ∷ of 1 ∷ [] }))
 live_where_not_taken x = false_true (x.b_live 0 refl)
 
 -- ---- the pair
@@ -209,6 +228,7 @@ same_sets x y fresh = (
 
 is_join : IsJoin merging pair
 is_join = record {
+  pages = 1;
   k = 2;
   r = 1;
   range = in_range;
@@ -223,8 +243,8 @@ is_join = record {
   steps = steps;
   beside = beside;
   fit = λ x y fresh. let same = same_sets x y fresh in
-      subst (λ (q : SetState). AreFit pair 2 x q) same.1
-      (subst (λ (q : SetState). AreFit pair 2 q b) same.0 are_fit);
+      subst (λ (q : SetState). AreFit pair 1 2 x q) same.1
+      (subst (λ (q : SetState). AreFit pair 1 2 q b) same.0 are_fit);
   word = λ x y fresh. (rows, is_join_word);
 }
   where

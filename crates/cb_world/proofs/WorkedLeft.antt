@@ -39,7 +39,7 @@ abbrev one : PositionState
 one = filled_position (None ∷ Some 1 ∷ [])
 
 abbrev with_this : PositionState → SetState
-with_this p = set_of 5 (at 0 7 ∷ at 1 8 ∷ []) (p ∷ [])
+with_this p = set_of 5 1 (at 0 7 ∷ at 1 8 ∷ []) (p ∷ [])
 
 abbrev home : ℕ → Home
 home slot = record { set = 5; position = 0; slot = slot }
@@ -281,7 +281,7 @@ goes_on_without_a_row x = none_some (3 ∷ []) (sym no_row_nine ∙ x.rows (node
 
 -- ---- the set is dropped: two of its nodes crashed, so that it was gone, and one row of it stood
 abbrev on_three : PositionState → SetState
-on_three p = set_of 5 (at 0 7 ∷ at 1 8 ∷ at 2 9 ∷ []) (p ∷ dead_position ∷ [])
+on_three p = set_of 5 1 (at 0 7 ∷ at 1 8 ∷ at 2 9 ∷ []) (p ∷ dead_position ∷ [])
 
 abbrev rest : SetState
 rest = on_three dead_position

@@ -122,9 +122,9 @@ rows_only (suc zero) key other is = elim (more_only 4 6 key (row 0) (row 0) othe
 rows_only (suc (suc zero)) key other is = inl is
 rows_only (suc (suc (suc n))) key other is = inl is
 
-merged_row : (k r : ℕ) (m : List (List ℕ)) → 3 ≡ k + r → 2 ≡ k → IsJoinWord before none_done k r m
-    → row 0 ≡ row_at m 1
-merged_row k r m count size word = some_same (row 0) (row_at m 1)
+merged_row : (pages k r : ℕ) (m : List (List ℕ)) → 1 ≡ pages → 3 ≡ k + r → 2 ≡ k
+    → IsJoinWord before none_done pages k r m → row 0 ≡ row_at m 1
+merged_row pages k r m long count size word = some_same (row 0) (row_at m 1)
     (sym (got 4 (row 0)) ∙ word.b_rows 1 (at 1 4) (omega (arith, size)) refl refl)
 
 is_stepped : IsStepped before after none_done a b 1 (at 1 1) (at 1 6) (row 0)
@@ -200,7 +200,7 @@ stepped_at_an_own_row : ¬ (IsStepped before own_again none_done a b 0 (at 0 0) 
 stepped_at_an_own_row x = false_true (x.sort 2 1 refl refl (lit< tt))
 
 -- the row is not that of the merged word
-word_before : IsJoinWord before none_done 2 1 rows
+word_before : IsJoinWord before none_done 1 2 1 rows
 word_before =
     record { word = is_span_word; a_rows = a_rows; b_rows = b_rows; new_rows = new_rows }
   where
@@ -230,7 +230,7 @@ stepped_with_another_row : ¬ (IsStepped before
     (record after { nodes = with_second (two_rows 4 (row 0) 6 (row 5)) }) none_done a b 1 (at 1 1)
     (at 1 6) (row 5))
 stepped_with_another_row x = differ 5 0 (λ e. omega (arith, e))
-    (ap (λ (r : List ℕ). Some r) (x.merged 2 1 rows refl refl word_before))
+    (ap (λ (r : List ℕ). Some r) (x.merged 1 2 1 rows refl refl refl word_before))
 
 not_got : (key other : ℕ) (x : List ℕ) → other ≢ key → map.get (one_row key x) other ≡ None
 not_got key other x off = grind (arith, map.gets, nat_tests, off)
@@ -382,7 +382,7 @@ left_by_begin = record {
 }
 
 is_matched : IsMatched (fresh_members 3) a b
-is_matched = record { whole_a = refl; whole_b = refl; apart = apart }
+is_matched = record { whole_a = refl; whole_b = refl; pages = refl; apart = apart }
   where
     apart : (k : ℕ) → live_at a k ≡ true → live_at b k ≡ true → ⊥
     apart zero one two = false_true two

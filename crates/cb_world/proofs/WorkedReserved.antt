@@ -3,6 +3,7 @@
 use Rattle.std.proofs.Common.{◌≡◌, ℕ, zero, suc, ◌^◌, ◌<◌, true, false, List, [], ◌∷◌, None, Some, Contains, length, get_or, refl, ap, subst, sym, ◌∙◌, lit<, lit≤, arith}
 use Rattle.std.specs.FinMap as map
 use Rattle.std.proofs.lemmas.List.Elements.{All-nil}
+use Rattle.cb_class.specs.Class.{pages_of}
 use Rattle.cb_gf256.specs.InRange.{IsInRange}
 use Rattle.cb_member.specs.declared.names.Shard.{Shard}
 use Rattle.cb_set.specs.SetState.{SetState}
@@ -33,6 +34,7 @@ former h = record { handle = h; word = 68727865346 }
 abbrev batch : LeavingState
 batch = record {
   set = 5;
+  pages = 1;
   frames = 0 ∷ [];
   words = former 0 ∷ [];
   parities = [] ∷ [];
@@ -46,7 +48,7 @@ abbrev kept_as : SetState → Kept
 kept_as set = record { set = set; committed = false }
 
 abbrev set : SetState
-set = set_from 5 blank far.spans (0 ∷ [])
+set = set_from 5 1 blank far.spans (0 ∷ [])
 
 abbrev one_set : ℕ → Kept → SetMap
 one_set id kept = map.insert map.empty id kept
@@ -148,9 +150,10 @@ first_frame : (f : ℕ) → Contains (0 ∷ []) f → 0 ≡ f
 first_frame f c = sym (alone 0 f c.0 c.1) ∙ c.2
 
 are_noted : AreNoted known leaving batch
+unfolding pages_of
 are_noted = record {
   apart = λ i j d less below. absurd (no_two 0 d i j less below);
-  held = λ f leaves. (span, ap (span_in far.spans) (sym (first_frame f leaves)));
+  held = λ f leaves. (span, ap (span_in far.spans) (sym (first_frame f leaves)), refl);
   each = λ f slot h other leaves at named. each slot h
       (subst (λ (x : Contents). handle_at x slot ≡ Some h) (sym (some_same span other
       (ap (span_in far.spans) (first_frame f leaves) ∙ at))) named);
@@ -166,6 +169,12 @@ are_noted = record {
     each (suc (suc zero)) h e = absurd (cc)
     each (suc (suc (suc zero))) h e = absurd (cc)
     each (suc (suc (suc (suc slot)))) h e = absurd (cc)
+
+of_another_length : ¬ (AreNoted known leaving (record batch { pages = 2 }))
+unfolding pages_of
+of_another_length x = let y = x.held 0 (0, lit< tt, refl) in
+    absurd (let e : 1 ≡ 2 = ap (λ (c : Contents). pages_of c.class) (some_same span y.0 y.1) ∙ y.2 in
+    omega (arith, e))
 
 one_frame_twice : ¬ (AreNoted known leaving (record batch { frames = 0 ∷ 0 ∷ [] }))
 one_frame_twice x = absurd (x.apart 0 1 0 (lit< tt) (lit< tt) refl)

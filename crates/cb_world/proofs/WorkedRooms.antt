@@ -54,6 +54,7 @@ IsCode k r code = (code.k ≡ k) × (code.r ≡ r)
 abbrev leaving : ℕ → ℕ → LeavingState
 leaving frames parities = record {
   set = 5;
+  pages = 1;
   frames = replicate frames 0;
   words = [];
   parities = replicate parities [];
@@ -113,11 +114,11 @@ not_one_alone : ¬ (HaveCodes (IsCode 1 1) two_codes)
 not_one_alone x = let e : 2 ≡ 1 = x.force.0 in omega (arith, e)
 
 set_of_another_k : ¬ (HaveCodes (IsCode 1 1)
-    (holding (set_of 5 (at 0 0 ∷ at 1 1 ∷ at 2 2 ∷ []) (filled ∷ filled ∷ [])) (leaving 1 1)))
+    (holding (set_of 5 1 (at 0 0 ∷ at 1 1 ∷ at 2 2 ∷ []) (filled ∷ filled ∷ [])) (leaving 1 1)))
 set_of_another_k x = let e : 2 ≡ 1 = (x.sets 5 _ (there _)).0 in omega (arith, e)
 
 set_of_another_r : ¬ (HaveCodes (IsCode 1 1)
-    (holding (set_of 5 (at 0 0 ∷ at 1 1 ∷ at 2 2 ∷ []) (filled ∷ [])) (leaving 1 1)))
+    (holding (set_of 5 1 (at 0 0 ∷ at 1 1 ∷ at 2 2 ∷ []) (filled ∷ [])) (leaving 1 1)))
 set_of_another_r x = let e : 2 ≡ 1 = (x.sets 5 _ (there _)).1 in omega (arith, e)
 
 batch_of_another_k : ¬ (HaveCodes (IsCode 1 1) (holding set (leaving 2 1)))
@@ -128,7 +129,7 @@ batch_of_another_r x = let e : 2 ≡ 1 = (x.batch _ refl).1 in omega (arith, e)
 
 -- a set is kept under the number 5 whose own number is 7
 set_of_another_number : ¬ (HaveCodes (IsCode 1 1)
-    (holding (set_of 7 (at 0 0 ∷ at 1 1 ∷ []) (filled ∷ [])) (leaving 1 1)))
+    (holding (set_of 7 1 (at 0 0 ∷ at 1 1 ∷ []) (filled ∷ [])) (leaving 1 1)))
 set_of_another_number x = let e : 7 ≡ 5 = x.own 5 _ (there _) in omega (arith, e)
 
 -- ---- a pair of two data positions and one parity: both are taken, and the first is stepped

@@ -39,10 +39,10 @@ abbrev pub of : ℕ → PositionState
 of h = filled_position (Some h ∷ [])
 
 abbrev pub a : SetState
-a = set_of 4 (at 0 0 ∷ at 1 1 ∷ at 2 2 ∷ []) (of 0 ∷ dead_position ∷ [])
+a = set_of 4 1 (at 0 0 ∷ at 1 1 ∷ at 2 2 ∷ []) (of 0 ∷ dead_position ∷ [])
 
 abbrev pub b : SetState
-b = set_of 5 (at 0 3 ∷ at 1 4 ∷ at 2 5 ∷ []) (dead_position ∷ of 1 ∷ [])
+b = set_of 5 1 (at 0 3 ∷ at 1 4 ∷ at 2 5 ∷ []) (dead_position ∷ of 1 ∷ [])
 
 -- both new rows were put: that of b's position, and the parity's
 abbrev pub pair : JoiningState
@@ -57,7 +57,7 @@ pair = record {
 
 -- the merged set
 abbrev c : SetState
-c = set_of 6 (at 0 0 ∷ at 1 6 ∷ at 2 7 ∷ []) (of 0 ∷ of 1 ∷ [])
+c = set_of 6 1 (at 0 0 ∷ at 1 6 ∷ at 2 7 ∷ []) (of 0 ∷ of 1 ∷ [])
 
 abbrev pub kept : SetState → Kept
 kept set = record { set = set; committed = true }
@@ -125,7 +125,7 @@ changes_the_members x = absurd (let e : 4 ≡ 3 = ap (λ (m : Membership). lengt
     omega (arith, e))
 
 abbrev pub batch : LeavingState
-batch = record { set = 5; frames = []; words = []; parities = []; shards = [] }
+batch = record { set = 5; pages = 1; frames = []; words = []; parities = []; shards = [] }
 
 begins_to_leave : ¬ (LeavesSets joining (record drawn { leaving = Some batch }))
 begins_to_leave x = none_some batch (sym x.leaving)
@@ -222,7 +222,14 @@ pub false_true : false ≡ true → ⊥
 false_true e = cc
 
 merged : IsMergedSet pair a b c
-merged = record { done = done; shards = shards; count = refl; positions = refl; content = content }
+merged = record {
+  done = done;
+  shards = shards;
+  count = refl;
+  positions = refl;
+  pages = refl;
+  content = content;
+}
   where
     done : (p : ℕ) → p < 3 → (p < 2 → takes pair.taken p ≡ true)
         → (shard : Shard) × (slice_get pair.steps p ≡ Some (Some shard))
@@ -267,6 +274,9 @@ merged_with_more x = absurd (let e : 4 ≡ 3 = x.count in omega (arith, e))
 
 merged_longer : ¬ (IsMergedSet pair a b (record c { positions = of 0 ∷ of 1 ∷ dead_position ∷ [] }))
 merged_longer x = absurd (let e : 3 ≡ 2 = x.positions in omega (arith, e))
+
+merged_to_longer_spans : ¬ (IsMergedSet pair a b (record c { pages = 2 }))
+merged_to_longer_spans x = absurd (let e : 2 ≡ 1 = x.pages in omega (arith, e))
 
 merged_without_b : ¬ (IsMergedSet pair a b (record c { positions = of 0 ∷ dead_position ∷ [] }))
 merged_without_b x = false_true (ap (λ (p : PositionState). p.live) (x.content 1))

@@ -68,7 +68,7 @@ at n key = record { node = node n; incarnation = 0; key = key }
 
 -- two data positions and a parity, by the nodes of their shards and what the first position holds
 abbrev on : ℕ → ℕ → ℕ → PositionState → SetState
-on a b c first = set_of 1 (at a 7 ∷ at b 8 ∷ at c 9 ∷ []) (first ∷ dead_position ∷ [])
+on a b c first = set_of 1 1 (at a 7 ∷ at b 8 ∷ at c 9 ∷ []) (first ∷ dead_position ∷ [])
 
 abbrev object : PositionState
 object = filled_position (Some 0 ∷ [])

@@ -93,7 +93,7 @@ module _ (others : NodesState) (m : Membership) (id : ℕ) (a b : PositionState)
   nodes = with_two_rows others
 
   abbrev set : SetState
-  set = set_of id shards (a ∷ b ∷ [])
+  set = set_of id 1 shards (a ∷ b ∷ [])
 
   within : 3 < length (with_row others (node 0) 7 (row 7)).nodes
   within = let n = length-set others.nodes 0 (map.insert (rows_of_node others (node 0)) 7 (row 7)) in omega (arith, n, many)
@@ -132,6 +132,7 @@ module _ (others : NodesState) (m : Membership) (id : ℕ) (a b : PositionState)
       parities_most = lit≤ tt;
     };
     data_first = lit≤ tt;
+    pages = lit≤ tt;
     distinct = distinct;
     current = current;
   }

@@ -1,6 +1,6 @@
 -- Worked examples of the local part of the sound world: a world that meets it, and for each fact
 -- one that breaks it.
-use Rattle.std.proofs.Common.{◌≡◌, ◌↔◌, ℕ, zero, suc, ◌<◌, ◌≤◌, Bool, true, false, List, [], ◌∷◌, Option, None, Some, Contains, replicate, get_or, refl, ap, subst, sym, ◌∙◌, lit<, lit≤, arith}
+use Rattle.std.proofs.Common.{◌≡◌, ◌↔◌, ℕ, zero, suc, ◌+◌, ◌<◌, ◌≤◌, Bool, true, false, List, [], ◌∷◌, Option, None, Some, Contains, replicate, get_or, refl, ap, subst, sym, ◌∙◌, lit<, lit≤, arith}
 use Rattle.std.proofs.lemmas.Bool.{agree_below_at, ltb-true}
 use Rattle.std.proofs.Math.Dec.{ltb}
 use Rattle.std.specs.FinMap as map
@@ -17,7 +17,7 @@ use Rattle.cb_world.specs.declared.object.Object.TheVariants as is
 use Rattle.cb_world.specs.declared.shown.Shown.{Shown}
 use Rattle.cb_world.specs.Shown.{object_at, version_at, never}
 use Rattle.cb_world.specs.FarState.{FarState, span_in}
-use Rattle.cb_world.specs.LocalSound.{LocalSound, AreKnown, AreFrames, ArePlaced, HasSlot, NamesObject, LiesAt, IsStamped}
+use Rattle.cb_world.specs.LocalSound.{LocalSound, AreKnown, AreFrames, ArePlaced, HasSlot, LiesOver, NamesObject, LiesAt, IsStamped}
 use Rattle.cb_world.specs.Memory.{window}
 use Rattle.cb_world.specs.Leaving.{LeavingState}
 use Rattle.cb_world.specs.Placed.{leaving_frames}
@@ -115,12 +115,56 @@ is_span : IsSpan span
 unfolding slots_of pages_of bytes_of
 is_span = record { in_table = lit< tt; sized = refl }
 
+-- a span of this class has one frame
+pub one_frame : pages_of largest ≡ 1
+unfolding pages_of
+one_frame = refl
+
 are_frames : AreFrames far
-are_frames = record { sized = refl; free = free; valid = valid; taken = taken }
+are_frames = record {
+  sized = refl;
+  within = within;
+  apart = apart;
+  free = free;
+  valid = valid;
+  taken = taken;
+}
   where
-    free : (f : ℕ) → f < 2 → IsFreeFrame far.frames f ↔ (span_in far.spans f ≡ None)
-    free zero below = (λ e. absurd (cc), λ e. absurd (cc))
-    free (suc zero) below = (λ e. refl, λ e. refl)
+    within : (f : ℕ) (x : Contents) → span_in far.spans f ≡ Some x → f + pages_of x.class ≤ 2
+    within zero x e = subst (λ (y : Contents). 0 + pages_of y.class ≤ 2) (some_same span x e)
+        (omega (arith, one_frame))
+    within (suc zero) x e = absurd (cc)
+    within (suc (suc f)) x e = absurd (cc)
+
+    apart : (f g : ℕ) (x y : Contents) → span_in far.spans f ≡ Some x
+        → span_in far.spans g ≡ Some y → f < g → f + pages_of x.class ≤ g
+    apart f zero x y d e less = absurd (omega (arith, less))
+    apart f (suc zero) x y d e less = absurd (cc)
+    apart f (suc (suc g)) x y d e less = absurd (cc)
+
+    over_none : (g : ℕ) → LiesOver far.spans g 1 → ⊥
+    over_none zero over =
+        let one : pages_of over.span.class ≡ 1 =
+        ap (λ (y : Contents). pages_of y.class) (sym (some_same span over.span over.there))
+        ∙ one_frame in
+        let end = over.to in omega (arith, end, one)
+    over_none (suc zero) over = absurd (let e = over.there in cc)
+    over_none (suc (suc g)) over = absurd (let e = over.there in cc)
+
+    free : (f : ℕ) → f < 2 → IsFreeFrame far.frames f ↔ ¬ ((g : ℕ) × LiesOver far.spans g f)
+    free zero below = (
+      (λ e. absurd (cc)),
+      (λ none. absurd (none (
+        0,
+        record {
+          span = span;
+          there = refl;
+          from = lit≤ tt;
+          to = omega (arith, one_frame);
+        },
+      ))),
+    )
+    free (suc zero) below = ((λ e over. over_none over.0 over.1), (λ none. refl))
     free (suc (suc f)) below = absurd (omega (arith, below))
 
     valid : (f : ℕ) (x : Contents) → span_in far.spans f ≡ Some x → IsSpan x
@@ -211,10 +255,20 @@ frame_too_many : ¬ (AreFrames (record far { frames = false ∷ true ∷ true �
 frame_too_many x = absurd (let z : 2 ≡ 3 = x.sized in omega (arith, z))
 
 free_with_a_span : ¬ (AreFrames (record far { frames = true ∷ true ∷ [] }))
-free_with_a_span x = absurd (let z = (x.free 0 (lit< tt)).0 refl in cc)
+free_with_a_span x = (x.free 0 (lit< tt)).0 refl (
+  0,
+  record {
+    span = span;
+    there = refl;
+    from = lit≤ tt;
+    to = omega (arith, one_frame);
+  },
+)
 
+-- frame 1 is none of the span in frame 0, which has one frame
 taken_without_a_span : ¬ (AreFrames (record far { frames = false ∷ false ∷ [] }))
-taken_without_a_span x = absurd (let z = (x.free 1 (lit< tt)).1 refl in cc)
+taken_without_a_span x =
+    absurd (let z = (x.free 1 (lit< tt)).1 ((are_frames.free 1 (lit< tt)).0 refl) in cc)
 
 slot_too_many : ¬ (AreFrames (record far {
   spans = Some (span_of largest Cold (None ∷ slots_with None (Some 0))) ∷ None ∷ [];
@@ -268,7 +322,7 @@ another_class x = absurd (omega (arith, x.holds))
 -- the span leaves, and object 0 with it, in its words
 abbrev leaver : ℕ → LeavingState
 leaver frame =
-    record { set = 0; frames = frame ∷ []; words = []; parities = []; shards = [] }
+    record { set = 0; pages = 1; frames = frame ∷ []; words = []; parities = []; shards = [] }
 
 abbrev leaving_in : ℕ → FarState
 leaving_in frame = record far { leaving = Some (leaver frame) }

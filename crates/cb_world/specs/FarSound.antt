@@ -2,7 +2,7 @@
 use Rattle.std.specs.Prelude.{◌≡◌, ℕ, ◌+◌, ◌*◌, ◌<◌, ◌≤◌, true, false, List, Some, length, slice_get, is_some, map, ◌++◌}
 use Rattle.std.specs.List.{list_any}
 use Rattle.cb_class.specs.declared.class.Class.{Class}
-use Rattle.cb_class.specs.Class.{IsClassOf, slots_of, words_of}
+use Rattle.cb_class.specs.Class.{IsClassOf, pages_of, slots_of, words_of}
 use Rattle.cb_gf256.specs.Rows.{row_at}
 use Rattle.cb_member.specs.declared.names.NodeId.{NodeId}
 use Rattle.cb_member.specs.declared.names.Shard.{Shard}
@@ -26,14 +26,16 @@ use Rattle.cb_world.specs.Rooms.{HaveRoom}
 use Rattle.cb_world.specs.Surveyed.{IsSurvey}
 use Rattle.cb_world.specs.SetWord.{IsSpanWord, IsWordOf, IsShaped}
 
--- an object that is away has its words in a slot of the row; the count of slots tells the class
-pub record HoldsObject (s : Shown) (row : List ℕ) (slots slot h : ℕ) : Type 0 where
+-- an object that is away has its words in a slot of the row; the pages and the count of slots tell
+-- the class
+pub record HoldsObject (s : Shown) (pages : ℕ) (row : List ℕ) (slots slot h : ℕ) : Type 0 where
   pub len : ℕ
   pub version : ℕ
   pub words : List ℕ
   pub class : Class
   pub away : object_at s h ≡ is.Far len version words
   pub fits : IsClassOf len class
+  pub paged : pages ≡ pages_of class
   pub sized : slots ≡ slots_of class
   pub contents : words ≡ window (words_in row) (slot * words_of class) (words_for len)
 
@@ -42,7 +44,7 @@ pub record IsSetWord (s : Shown) (nodes : NodesState) (m : Membership) (set : Se
     (rows : List (List ℕ)) : Type 0 where
   pub word : IsWordOf nodes m set rows
   pub holds : (p slot h : ℕ) → slot_at set p slot ≡ Some h
-      → HoldsObject s (row_at rows p) (length (position_of set p).slots) slot h
+      → HoldsObject s set.pages (row_at rows p) (length (position_of set p).slots) slot h
 
 -- each committed set is sound
 pub record AreSets (s : Shown) (far : FarState) : Type 0 where
@@ -96,12 +98,14 @@ pub record AreShardRows (far : FarState) : Type 0 where
 -- the rows of the spans of a batch as they stand in memory, and its parities
 abbrev pub batch_rows : Shown → LeavingState → List (List ℕ)
 batch_rows s batch =
-    map (λ f. row_of (window s.memory (512 * f) 512)) batch.frames ++ batch.parities
+    map (λ f. row_of (window s.memory (512 * f) (512 * batch.pages))) batch.frames
+    ++ batch.parities
 
 -- the batch that is leaving: its rows are a word, those that were put and are not lost stand at
 -- their nodes, on different nodes
 pub record IsBatch (s : Shown) (far : FarState) (batch : LeavingState) : Type 0 where
-  pub word : IsSpanWord (length batch.frames) (length batch.parities) (batch_rows s batch)
+  pub word : IsSpanWord batch.pages (length batch.frames) (length batch.parities)
+      (batch_rows s batch)
   pub count : length batch.shards ≡ length batch.frames + length batch.parities
   pub put : (p : ℕ) (shard : Shard) → slice_get batch.shards p ≡ Some (Some shard)
       → is_lost far.members shard ≡ false

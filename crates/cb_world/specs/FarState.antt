@@ -2,6 +2,7 @@
 use Rattle.std.specs.Prelude.{ℕ, Bool, List, Option, None, Some, slice_index_or}
 use Rattle.cb_span.specs.Contents.{Contents, handle_at, least_empty}
 use Rattle.cb_class.specs.declared.class.Class.{Class}
+use Rattle.cb_class.specs.Class.{pages_of}
 use Rattle.cb_node.specs.NodesState.{NodesState}
 use Rattle.cb_member.specs.declared.names.Code.{Code}
 use Rattle.cb_member.specs.Membership.{Membership}
@@ -34,6 +35,14 @@ pub record FarState : Type 0 where
 -- the span in a frame
 abbrev pub span_in : List (Option Contents) → ℕ → Option Contents
 span_in spans f = slice_index_or spans f None
+
+abbrev pub pages_if : Option Contents → ℕ
+pages_if None = 0
+pages_if (Some span) = pages_of span.class
+
+-- how many frames the span that stands at a frame has, and none where none stands there
+abbrev pub pages_at : List (Option Contents) → ℕ → ℕ
+pages_at spans f = pages_if (span_in spans f)
 
 -- the handle in a slot, where there is a span
 abbrev pub handle_in : Option Contents → ℕ → Option ℕ

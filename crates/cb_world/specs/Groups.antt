@@ -5,18 +5,20 @@ use Rattle.cb_set.specs.Matched.{live_mask}
 use Rattle.cb_world.specs.Sets.{SetMap, set_in}
 use Rattle.cb_world.specs.declared.groups.Group.{Group}
 
--- the code of a set, and its live positions
+-- the code and the length of a set, and its live positions
 abbrev pub group_of : SetState → Group
 group_of set = record {
   k = length set.positions;
   r = parities set;
+  pages = set.pages;
   live = live_mask set.positions;
 }
 
--- both are of one code and have no live position in common
+-- both are of one code and one length and have no live position in common
 pub record DoMatch (g h : Group) : Type 0 where
   pub k : g.k ≡ h.k
   pub r : g.r ≡ h.r
+  pub pages : g.pages ≡ h.pages
   pub apart : bit_and g.live h.live ≡ 0
 
 -- it stands somewhere in the list
@@ -34,7 +36,8 @@ pub record AreGrouped (sets : SetMap) (groups : List Group) (changed : List ℕ)
   pub cover : (id : ℕ) (set : SetState) → set_in sets id ≡ Some set
       → IsAmong (group_of set) groups ⊎ IsAmong id changed
 
--- no two committed sets are of one code and without a common live position, whole or not
+-- no two committed sets are of one code and one length and without a common live position, whole or
+-- not
 abbrev pub NoSetsMatch : SetMap → Type 0
 NoSetsMatch sets = (i j : ℕ) (a b : SetState) → set_in sets i ≡ Some a → set_in sets j ≡ Some b
     → ¬ (DoMatch (group_of a) (group_of b))

@@ -29,9 +29,10 @@ pub record IsFresh (far : FarState) (pair : JoiningState) (a b : SetState) : Typ
 
 -- m is the merged word: b's rows stand at the taken positions, a's rows at the other data
 -- positions, and each new row is its position's
-pub record IsJoinWord (far : FarState) (pair : JoiningState) (k r : ℕ) (m : List (List ℕ)) : Type 0
+pub record IsJoinWord (far : FarState) (pair : JoiningState) (pages k r : ℕ)
+    (m : List (List ℕ)) : Type 0
   where
-    pub word : IsSpanWord k r m
+    pub word : IsSpanWord pages k r m
     pub a_rows : (i : ℕ) (shard : Shard) → i < k → takes pair.taken i ≡ false
         → slice_get pair.shards_a i ≡ Some shard
         → row_under far.nodes shard.node shard.key ≡ Some (row_at m i)
@@ -46,15 +47,18 @@ pub record IsBeside (old shard : Shard) : Type 0 where
   pub node : shard.node ≡ old.node
   pub incarnation : shard.incarnation ≡ old.incarnation
 
--- the sets as they are now: of one code, live where the pair says
-pub record AreFit (pair : JoiningState) (k : ℕ) (a b : SetState) : Type 0 where
+-- the sets as they are now: of one code and length, live where the pair says
+pub record AreFit (pair : JoiningState) (pages k : ℕ) (a b : SetState) : Type 0 where
   pub a_count : length a.positions ≡ k
   pub b_count : length b.positions ≡ k
+  pub a_pages : a.pages ≡ pages
+  pub b_pages : b.pages ≡ pages
   pub a_live : (p : ℕ) → live_at a p ≡ true → takes pair.taken p ≡ false
   pub b_live : (p : ℕ) → live_at b p ≡ true → takes pair.taken p ≡ true
 
 -- the pair that is joining
 pub record IsJoin (far : FarState) (pair : JoiningState) : Type 0 where
+  pub pages : ℕ
   pub k : ℕ
   pub r : ℕ
   pub range : IsInRange k r
@@ -72,6 +76,6 @@ pub record IsJoin (far : FarState) (pair : JoiningState) : Type 0 where
       → takes pair.taken p ≡ true
   pub beside : (p : ℕ) (shard : Shard) → slice_get pair.steps p ≡ Some (Some shard) → (old : Shard)
       × (slice_get pair.shards_a p ≡ Some old) × IsBeside old shard
-  pub fit : (a b : SetState) → IsFresh far pair a b → AreFit pair k a b
+  pub fit : (a b : SetState) → IsFresh far pair a b → AreFit pair pages k a b
   pub word : (a b : SetState) → IsFresh far pair a b → (m : List (List ℕ))
-      × IsJoinWord far pair k r m
+      × IsJoinWord far pair pages k r m

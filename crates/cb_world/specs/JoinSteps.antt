@@ -42,8 +42,8 @@ pub record IsStepped (far new : FarState) (pair : JoiningState) (a b : SetState)
   pub key : (far.counts.keys ≤ shard.key) × (shard.key < new.counts.keys)
   pub sort : (k r : ℕ) → length pair.steps ≡ k + r → length a.positions ≡ k → p < k
       → takes pair.taken p ≡ true
-  pub merged : (k r : ℕ) (m : List (List ℕ)) → length pair.steps ≡ k + r → length a.positions ≡ k
-      → IsJoinWord far pair k r m → row ≡ row_at m p
+  pub merged : (pages k r : ℕ) (m : List (List ℕ)) → a.pages ≡ pages → length pair.steps ≡ k + r
+      → length a.positions ≡ k → IsJoinWord far pair pages k r m → row ≡ row_at m p
   pub put : row_under new.nodes shard.node shard.key ≡ Some row
   pub stay : (node : NodeId) (key : ℕ) → key ≢ shard.key
       → row_under new.nodes node key ≡ row_under far.nodes node key
@@ -82,6 +82,7 @@ pub record IsMergedSet (pair : JoiningState) (a b c : SetState) : Type 0 where
       → slice_get c.shards p ≡ merged_shard (slice_get pair.steps p) (slice_get pair.shards_a p)
   pub count : length c.shards ≡ length a.shards
   pub positions : length c.positions ≡ length a.positions
+  pub pages : c.pages ≡ a.pages
   pub content : (p : ℕ)
       → position_of c p ≡ (if live_at b p then position_of b p else position_of a p)
 

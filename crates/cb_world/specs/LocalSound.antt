@@ -1,6 +1,6 @@
 -- The sound world, over what the holder of the far lock knows and the far state.
-use Rattle.std.specs.Prelude.{◌≡◌, ℕ, ◌*◌, ◌<◌, ◌≤◌, ◌↔◌, List, Option, None, Some, length}
-use Rattle.cb_class.specs.Class.{IsClassOf}
+use Rattle.std.specs.Prelude.{◌≡◌, ℕ, ◌+◌, ◌*◌, ◌<◌, ◌≤◌, ◌↔◌, List, Option, Some, length}
+use Rattle.cb_class.specs.Class.{IsClassOf, pages_of}
 use Rattle.cb_frame.specs.FreeFrames.{IsFreeFrame}
 use Rattle.cb_span.specs.Contents.{Contents, IsSpan, handle_at, live_count}
 use Rattle.cb_span.specs.Places.{slot_place}
@@ -24,7 +24,7 @@ IsStamped (is.Far len v words) n = n ≡ v
 IsStamped (is.Here len place) n = Unit {0}
 IsStamped (is.Claimed len place v words) n = n ≡ v
 
--- an object that lies in local memory has a slot of the span in a frame
+-- an object that lies in local memory has a slot of the span at a frame, the first one of its run
 pub record HasSlot (spans : List (Option Contents)) (h len place : ℕ) : Type 0 where
   pub frame : ℕ
   pub slot : ℕ
@@ -49,11 +49,23 @@ pub record AreKnown (s : Shown) (far : FarState) : Type 0 where
   pub stamped : (h : ℕ) → IsStamped (object_at s h) (version_at s h)
   pub versioned : (h : ℕ) → h < far.made → far.first ≤ version_at s h
 
--- each frame is free or holds one span that is not empty
+-- the span that stands at frame g has the frame f: a span has adjacent frames, as many as its class
+-- has pages, from the one on at which it stands
+pub record LiesOver (spans : List (Option Contents)) (g f : ℕ) : Type 0 where
+  pub span : Contents
+  pub there : span_in spans g ≡ Some span
+  pub from : g ≤ f
+  pub to : f < g + pages_of span.class
+
+-- each frame is free or one of exactly one span's, which is not empty
 pub record AreFrames (far : FarState) : Type 0 where
   pub sized : length far.spans ≡ length far.frames
+  pub within : (f : ℕ) (span : Contents) → span_in far.spans f ≡ Some span
+      → f + pages_of span.class ≤ length far.spans
+  pub apart : (f g : ℕ) (a b : Contents) → span_in far.spans f ≡ Some a
+      → span_in far.spans g ≡ Some b → f < g → f + pages_of a.class ≤ g
   pub free : (f : ℕ) → f < length far.frames → IsFreeFrame far.frames f
-      ↔ (span_in far.spans f ≡ None)
+      ↔ ¬ ((g : ℕ) × LiesOver far.spans g f)
   pub valid : (f : ℕ) (span : Contents) → span_in far.spans f ≡ Some span → IsSpan span
   pub taken : (f : ℕ) (span : Contents) → span_in far.spans f ≡ Some span → 1 ≤ live_count span
 

@@ -23,6 +23,6 @@ AreTaken k [] = Unit {0}
 AreTaken k (i ∷ taken) = (i < k) × (takes taken i ≡ false) × AreTaken k taken
 
 -- m is the word whose data are b's rows at the taken positions and a's rows elsewhere
-pub record IsMergedWord (k r : ℕ) (taken : List ℕ) (a b m : List (List ℕ)) : Type 0 where
-  pub word : IsSpanWord k r m
+pub record IsMergedWord (pages k r : ℕ) (taken : List ℕ) (a b m : List (List ℕ)) : Type 0 where
+  pub word : IsSpanWord pages k r m
   pub chosen : (i : ℕ) → i < k → row_at m i ≡ (if takes taken i then row_at b i else row_at a i)

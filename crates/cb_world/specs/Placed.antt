@@ -1,7 +1,9 @@
 -- Where an object is placed in local memory, and the far state then.
-use Rattle.std.specs.Prelude.{◌≡◌, ◌⊎◌, ℕ, ◌<◌, ◌≤◌, Bool, List, [], Option, None, Some, slice_set}
+use Rattle.std.specs.Prelude.{◌≡◌, ◌⊎◌, ℕ, ◌<◌, Bool, List, [], Option, None, Some, slice_set}
 use Rattle.cb_class.specs.declared.class.Class.{Class}
-use Rattle.cb_frame.specs.FreeFrames.{free_count, least_free, with_taken}
+use Rattle.cb_class.specs.Class.{pages_of}
+use Rattle.cb_frame.specs.FreeFrames.{with_run_taken}
+use Rattle.cb_frame.specs.Runs.{least_run}
 use Rattle.cb_span.specs.declared.temp.Temp.{Temp}
 use Rattle.cb_span.specs.Contents.{Contents, least_empty, new_span, with_placed}
 use Rattle.cb_span.specs.Places.{slot_place}
@@ -18,8 +20,8 @@ leaving_frames (Some batch) = batch.frames
 abbrev pub HasRoom : FarState → Class → Temp → ℕ → Type 0
 HasRoom far class temp f = MayTake far.spans class temp (leaving_frames far.leaving) f
 
--- a slot for an object: its frame and its number there, the span before the object is in it, and
--- the frames that are free then
+-- a slot for an object: the first frame of its span and its number there, the span before the object
+-- is in it, and the frames that are free then
 pub record Slot : Type 0 where
   pub frame : ℕ
   pub number : ℕ
@@ -40,27 +42,28 @@ pub record IsInSpan (far : FarState) (class : Class) (temp : Temp) (slot : Slot)
   pub of_temp : slot.span.temp ≡ temp
   pub free : slot.free ≡ far.frames
 
--- the first slot of a new span in the least free frame, where no frame has room
+-- the first slot of a new span in the least run of free frames that it fits, where no span has room
 pub record IsInNew (far : FarState) (class : Class) (temp : Temp) (slot : Slot) : Type 0 where
   pub full : (f : ℕ) → ¬ (HasRoom far class temp f)
-  pub frame : least_free far.frames ≡ Some slot.frame
+  pub frame : least_run far.frames (pages_of class) ≡ Some slot.frame
   pub number : slot.number ≡ 0
   pub span : slot.span ≡ new_span class temp
-  pub free : slot.free ≡ with_taken far.frames slot.frame
+  pub free : slot.free ≡ with_run_taken far.frames slot.frame (pages_of class)
 
 -- the slot that an object of the class and temperature gets
 abbrev pub IsChosen : FarState → Class → Temp → Slot → Type 0
 IsChosen far class temp slot = IsInSpan far class temp slot ⊎ IsInNew far class temp slot
 
--- no frame has room, and none is free
+-- no span has room, and no run of frames is free that a new one would fit
 pub record IsCrammed (far : FarState) (class : Class) (temp : Temp) : Type 0 where
   pub full : (f : ℕ) → ¬ (HasRoom far class temp f)
-  pub taken : least_free far.frames ≡ None
+  pub taken : least_run far.frames (pages_of class) ≡ None
 
--- no frame has room, and some frame is free: the object needs a new span
+-- no span has room, and a run of frames is free that a new one fits: the object needs a new span
 pub record NeedsSpan (far : FarState) (class : Class) (temp : Temp) : Type 0 where
   pub full : (f : ℕ) → ¬ (HasRoom far class temp f)
-  pub some_free : 1 ≤ free_count far.frames
+  pub first : ℕ
+  pub some_free : least_run far.frames (pages_of class) ≡ Some first
 
 -- the far state with the object in the slot
 abbrev pub with_object : FarState → Slot → ℕ → FarState
@@ -77,7 +80,7 @@ pub record IsPlaced (far : FarState) (class : Class) (temp : Temp) (h : ℕ) (ne
   pub left : new ≡ with_object far slot h
   pub place : at ≡ place_in slot
 
--- the place of an object that was placed, or None where there is neither a slot nor a free frame
+-- the place of an object that was placed, or None where there is neither a slot nor a free run
 abbrev pub Places : FarState → Class → Temp → ℕ → FarState → Option ℕ → Type 0
 Places far class temp h new None = IsCrammed far class temp × (new ≡ far)
 Places far class temp h new (Some at) = IsPlaced far class temp h new at

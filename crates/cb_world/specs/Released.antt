@@ -1,6 +1,7 @@
 -- Spans and free frames once the object in a slot is gone.
-use Rattle.std.specs.Prelude.{◌≡◌, ℕ, Bool, ◌<◌, ◌==◌, List, Option, None, Some, length, slice_set, if◌then◌else◌}
-use Rattle.cb_frame.specs.FreeFrames.{IsFreeFrame, with_given}
+use Rattle.std.specs.Prelude.{◌≡◌, ℕ, Bool, ◌+◌, ◌<◌, ◌≤◌, ◌==◌, List, Option, None, Some, length, slice_set, if◌then◌else◌}
+use Rattle.cb_class.specs.Class.{pages_of}
+use Rattle.cb_frame.specs.FreeFrames.{IsFreeFrame, with_run_given}
 use Rattle.cb_span.specs.Contents.{Contents, IsSpan, with_cleared, live_count}
 use Rattle.cb_span.specs.Places.{slot_place}
 use Rattle.cb_world.specs.FarState.{FarState, span_in}
@@ -14,9 +15,10 @@ abbrev pub spans_without : List (Option Contents) → ℕ → ℕ → Contents �
 spans_without spans f slot span =
     slice_set spans f (if is_last span slot then None else Some (with_cleared span slot))
 
--- the free frames then: such a span gives its frame back
+-- the free frames then: such a span gives its frames back
 abbrev pub frames_without : List Bool → ℕ → ℕ → Contents → List Bool
-frames_without frames f slot span = if is_last span slot then with_given frames f else frames
+frames_without frames f slot span =
+    if is_last span slot then with_run_given frames f (pages_of span.class) else frames
 
 -- the far state without the object
 abbrev pub with_released : FarState → ℕ → ℕ → Contents → FarState
@@ -25,7 +27,7 @@ with_released far f slot span = record far {
   spans = spans_without far.spans f slot span;
 }
 
--- the place is that of a slot of the span in a frame
+-- the place is that of a slot of the span at a frame, whose frames it alone has
 pub record IsSlotAt (frames : List Bool) (spans : List (Option Contents)) (place f slot : ℕ)
     (span : Contents) : Type 0 where
   pub there : span_in spans f ≡ Some span
@@ -33,5 +35,6 @@ pub record IsSlotAt (frames : List Bool) (spans : List (Option Contents)) (place
   pub inside : slot < length span.slots
   pub valid : IsSpan span
   pub within : f < length spans
-  pub counted : f < length frames
-  pub busy : ¬ (IsFreeFrame frames f)
+  pub counted : f + pages_of span.class ≤ length frames
+  pub alone : (h : ℕ) → f < h → h < f + pages_of span.class → span_in spans h ≡ None
+  pub busy : (g : ℕ) → f ≤ g → g < f + pages_of span.class → ¬ (IsFreeFrame frames g)

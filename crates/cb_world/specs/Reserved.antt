@@ -19,9 +19,9 @@ table_of (Some span) = span.slots
 abbrev pub position_for : List (Option Contents) → ℕ → PositionState
 position_for spans f = filled_position (table_of (span_in spans f))
 
--- the set of this number of the spans in some frames, each at its place
-abbrev pub set_from : ℕ → List Shard → List (Option Contents) → List ℕ → SetState
-set_from id shards spans frames = set_of id shards (mapped (position_for spans) frames)
+-- the set of this number and length of the spans in some frames, each at its place
+abbrev pub set_from : ℕ → ℕ → List Shard → List (Option Contents) → List ℕ → SetState
+set_from id pages shards spans frames = set_of id pages shards (mapped (position_for spans) frames)
 
 -- neither set of the pair that is joining has the number
 abbrev pub IsUnpaired : FarState → ℕ → Type 0
@@ -37,7 +37,7 @@ pub record IsReserved (far : FarState) (batch : LeavingState) : Type 0 where
   pub blank : List Shard
   pub places : length blank ≡ length batch.shards
   pub kept : map.get far.sets batch.set ≡ Some (record {
-    set = set_from batch.set blank far.spans batch.frames;
+    set = set_from batch.set batch.pages blank far.spans batch.frames;
     committed = false;
   })
 

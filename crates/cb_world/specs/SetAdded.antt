@@ -44,14 +44,15 @@ pub record IsMovedIntoSet (s t : Shown) (far new : FarState) (id : ℕ) (set : S
   pub once : (p q : ℕ) → slot_at set p q ≡ Some h → (p ≡ position) × (q ≡ slot)
   pub home : home_at new.homes h ≡ Some (record { set = id; position = position; slot = slot })
   pub before : is_far (object_at s h) → ⊥
-  pub holds : HoldsObject t (row_at rows position) (length (position_of set position).slots) slot h
+  pub holds : HoldsObject t set.pages (row_at rows position)
+      (length (position_of set position).slots) slot h
 
 -- a fresh set is committed, with these rows: no set of its number was, also none that is joining,
 -- and no shard has a key of its shards
 pub record IsSetAdded (s t : Shown) (far new : FarState) (id : ℕ) (set : SetState)
     (rows : List (List ℕ)) : Type 0 where
   pub shape : IsShaped far.members set
-  pub code : IsSpanWord (length set.positions) (parities set) rows
+  pub code : IsSpanWord set.pages (length set.positions) (parities set) rows
   pub lives : (p : ℕ) → live_at set p ≡ list_any (λ slot. is_some slot) (position_of set p).slots
   pub some_live : (p : ℕ) × (live_at set p ≡ true)
   pub added : set_in new.sets id ≡ Some set

@@ -1,6 +1,7 @@
 -- The sound world, over what the holder of the far lock knows and the far state.
 use Rattle.std.specs.Prelude.{◌≡◌, ◌≢◌, ℕ, ◌^◌, ◌<◌, All, List, Some, Contains}
 use Rattle.std.specs.List.{AllPairs}
+use Rattle.cb_class.specs.Class.{pages_of}
 use Rattle.cb_ptr.specs.Word.{len_of, place_of}
 use Rattle.cb_span.specs.Contents.{Contents, handle_at}
 use Rattle.cb_world.specs.declared.leaving.Former.{Former}
@@ -33,12 +34,13 @@ pub record IsNoted (s : Shown) (batch : LeavingState) (h : ℕ) : Type 0 where
 abbrev pub Leaves : FarState → LeavingState → ℕ → Type 0
 Leaves far batch h = (f slot : ℕ) × Contains batch.frames f × (resident far.spans f slot ≡ Some h)
 
--- The frames that are leaving are different, and each holds a span. Each object there is claimed,
--- and the noted words are those of these objects, one of each. The set that they will be is kept.
+-- The frames that are leaving are different, and in each begins a span of the batch's length. Each
+-- object there is claimed, and the noted words are those of these objects, one of each. The set
+-- that they will be is kept.
 pub record AreNoted (s : Shown) (far : FarState) (batch : LeavingState) : Type 0 where
   pub apart : AllPairs (λ f g. f ≢ g) batch.frames
   pub held : (f : ℕ) → Contains batch.frames f → (span : Contents)
-      × (span_in far.spans f ≡ Some span)
+      × (span_in far.spans f ≡ Some span) × (pages_of span.class ≡ batch.pages)
   pub each : (f slot h : ℕ) (span : Contents) → Contains batch.frames f
       → span_in far.spans f ≡ Some span → handle_at span slot ≡ Some h → IsNoted s batch h
   pub only : All (λ former. Leaves far batch former.handle) batch.words

@@ -1,10 +1,11 @@
-ghost use Rattle.std.specs.Prelude.{◌≡◌, ℕ, ◌+◌, ◌-◌, ◌^◌, ◌<◌, ◌≤◌, List, All, IfOk, OnOk, OnErr, length, slice_index};
+ghost use Rattle.std.specs.Prelude.{◌≡◌, ℕ, ◌+◌, ◌-◌, ◌*◌, ◌^◌, ◌<◌, ◌≤◌, List, All, IfOk, OnOk, OnErr, length, slice_index};
 ghost use Rattle.cb_gf256.specs.Rows.{row_at, HaveLength};
 ghost use Rattle.cb_set.specs.Lost.{lost};
 ghost use Rattle.cb_world.specs.SetWord.{IsShaped, IsWordOf};
 ghost use Rattle.cb_set.specs.SetState.{parities};
 ghost use Rattle.cb_world.specs.Fetched.{StandAt, with_rows_given};
 
+use cb_class::PAGE_BYTES;
 use cb_erase::solve;
 use cb_gf256::Rows;
 use cb_member::{Members, NoMemory};
@@ -16,11 +17,13 @@ use std::alloc::Global;
 fn give_rows(nodes: &mut Nodes, set: &SpanSet, positions: &[u8], table: &mut Rows)
     requires given { nodes.old.given + length positions.now < 2 ^ 64 }
     requires below { All (λ p. p < length table.old) positions.now }
-    requires lengths { HaveLength 4096 table.old }
-    requires there { (rows : List (List ℕ)) × StandAt nodes.old set.now.shards rows positions.now }
+    requires lengths { HaveLength (4096 * set.now.pages) table.old }
+    requires there { (rows : List (List ℕ)) × StandAt set.now.pages nodes.old
+        set.now.shards rows positions.now }
     ensures nodes { nodes.new ≡ record nodes.old { given = nodes.old.given + length positions.now } }
     ensures count { length table.new ≡ length table.old }
-    ensures rows { (rows : List (List ℕ)) → StandAt nodes.old set.now.shards rows positions.now
+    ensures rows { (rows : List (List ℕ)) → StandAt set.now.pages nodes.old
+        set.now.shards rows positions.now
         → (i : ℕ) → i < length positions.now → row_at table.new (slice_index positions.now i) ≡ row_at rows (slice_index positions.now i) }
 {
     for position in positions {
@@ -49,7 +52,7 @@ pub fn solved(
 {
     let k = set.k();
     let r = set.r();
-    let Ok(mut table) = Rows::new(alloc, k + r, 4096) else {
+    let Ok(mut table) = Rows::new(alloc, k + r, PAGE_BYTES * set.pages()) else {
         return Err(NoMemory);
     };
     let present = set.survivors(members);

@@ -8,12 +8,13 @@ use std::alloc::Global;
 /// How many changes of sets are noted between two looks at them.
 const MOST_CHANGED: usize = 1024;
 
-/// What sets have in common that match the same others: their code, and their live positions as
-/// bits.
+/// What sets have in common that match the same others: their code, their length, and their
+/// live positions as bits.
 #[derive(Clone, Copy, PartialEq, Eq, PartialOrd, Ord)]
 pub struct Group {
     pub k: u32,
     pub r: u32,
+    pub pages: u32,
     pub live: u32,
 }
 
@@ -25,15 +26,16 @@ pub fn group_of(set: &SpanSet) -> Group
     Group {
         k: set.k(),
         r: set.r(),
+        pages: set.pages(),
         live: set.live_mask(),
     }
 }
 
-/// Whether both are of one code and have no live position in common.
+/// Whether both are of one code and one length and have no live position in common.
 fn do_match(a: Group, b: Group) -> bool
     ensures { result ≡ false → ¬ (DoMatch a b) }
 {
-    a.k == b.k && a.r == b.r && a.live & b.live == 0
+    a.k == b.k && a.r == b.r && a.pages == b.pages && a.live & b.live == 0
 }
 
 /// Whether a group is among these.

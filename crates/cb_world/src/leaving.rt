@@ -9,12 +9,13 @@ pub struct Former {
     pub word: u64,
 }
 
-/// The batch that is leaving: the number of its set, its frames by position, the words of its
-/// objects before the begin, its parities, and by position the shard whose row was put, where one
-/// was.
+/// The batch that is leaving: the number of its set, the pages of each of its spans and their first
+/// frames by position, the words of its objects before the begin, its parities, and by position the
+/// shard whose row was put, where one was.
 #[derive(Drop)]
 pub struct Leaving {
     pub set: u64,
+    pub pages: u32,
     pub frames: Vec<u32>,
     pub words: Vec<Former>,
     pub parities: Rows,
@@ -28,6 +29,7 @@ impl Model for Leaving {
 
     ghost view = { λ a. record {
       set = a.set;
+      pages = a.pages;
       frames = a.frames.items;
       words = a.words.items;
       parities = a.parities;

@@ -1,11 +1,12 @@
-ghost use Rattle.std.specs.Prelude.{◌≡◌, ℕ, ◌^◌, ◌≤◌, ◌<◌, length, IfSome, IfNone, IfOk, OnErr};
-ghost use Rattle.cb_class.specs.Class.{IsClass};
+ghost use Rattle.std.specs.Prelude.{◌≡◌, ℕ, ◌^◌, ◌≤◌, ◌<◌, length, None, Some, true, false, IfSome, IfNone, IfOk, OnErr};
+ghost use Rattle.cb_class.specs.Class.{IsClass, pages_of};
+ghost use Rattle.cb_frame.specs.Runs.{least_run};
 ghost use Rattle.cb_world.specs.LocalSound.{AreFrames};
 ghost use Rattle.cb_world.specs.Placed.{HasRoom, NeedsSpan, Places, leaving_frames};
 
 use crate::far::Far;
 use crate::leaving::Leaving;
-use cb_class::Class;
+use cb_class::{Class, pages};
 use cb_member::NoMemory;
 use cb_span::{Span, Temp, slot_place};
 
@@ -33,7 +34,8 @@ fn least_room(far: &Far, class: Class, temp: Temp) -> Option<u32>
 
 /// Places an object of the class in local memory, and answers the place of its slot: the least
 /// empty slot in the least frame whose span has the class and temperature and is not leaving; else
-/// the first slot of a new span in the least free frame. None exactly where there is neither.
+/// the first slot of a new span in the least run of free frames that it fits. None exactly where
+/// there is neither.
 ///
 /// Takes the memory of a new span alone, before anything changes.
 pub fn place_object(
@@ -57,7 +59,20 @@ pub fn place_object(
     Ok(Some(slot_place(class, frame, slot)))
 }
 
-/// Places the object in the first slot of a new span in the least free frame.
+/// Whether no run of free frames is long enough for a new span of the class.
+fn no_run_fits(far: &Far, class: Class) -> bool
+    requires { IsClass class }
+    ensures none { result ≡ true → least_run far.now.frames (pages_of class) ≡ None }
+    ensures some { result ≡ false
+        → (f : ℕ) × (least_run far.now.frames (pages_of class) ≡ Some f) }
+{
+    match far.frames.least_run(pages(class)) {
+        Some(_) => false,
+        None => true,
+    }
+}
+
+/// Places the object in the first slot of a new span, in the least run of free frames that it fits.
 fn open_span(far: &mut Far, handle: u32, class: Class, temp: Temp) -> Result<Option<u32>, NoMemory>
     requires class { IsClass class }
     requires frames { AreFrames far.old }
@@ -66,11 +81,11 @@ fn open_span(far: &mut Far, handle: u32, class: Class, temp: Temp) -> Result<Opt
     ensures placed { IfOk result (λ place. Places far.old class temp handle far.new place) }
     ensures error { OnErr result ((far.new ≡ far.old) × NeedsSpan far.old class temp) }
 {
-    if far.frames.free() == 0 {
+    if no_run_fits(far, class) {
         return Ok(None);
     }
     let mut span = Span::new(far.alloc, class, temp)?;
-    let Some(frame) = far.frames.take() else {
+    let Some(frame) = far.frames.take_run(pages(class)) else {
         return Ok(None);
     };
     span.place(handle);

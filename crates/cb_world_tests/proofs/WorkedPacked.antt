@@ -1,7 +1,7 @@
 -- Worked examples of packed words, of freed versions and of orders: what meets each definition, and
 -- worlds of one handle that are sound but for one of these alone. Of each such world one lemma says
 -- that it is sound if it has that part, and another one that it is not sound.
-use Rattle.std.proofs.Common.{◌≡◌, ◌↔◌, ℕ, zero, suc, ◌*◌, ◌^◌, ◌<◌, ◌≤◌, Bool, true, false, List, [], ◌∷◌, ◌++◌, Option, None, Some, All, get_or, length, replicate, refl, sym, ap, ◌∙◌, subst, lit<, lit≤, arith, inl, inr}
+use Rattle.std.proofs.Common.{◌≡◌, ◌↔◌, ℕ, zero, suc, ◌+◌, ◌*◌, ◌^◌, ◌<◌, ◌≤◌, Bool, true, false, List, [], ◌∷◌, ◌++◌, Option, None, Some, All, get_or, length, replicate, refl, sym, ap, ◌∙◌, subst, lit<, lit≤, arith, inl, inr}
 use Rattle.std.specs.List.{slice_get}
 use Rattle.std.proofs.lemmas.Bool.{agree_below_at, ltb-true}
 use Rattle.std.proofs.lemmas.List.{length-replicate}
@@ -9,7 +9,7 @@ use Rattle.std.proofs.lemmas.List.Elements.{All-replicate}
 use Rattle.std.proofs.lemmas.List.Folds.{sum_by-replicate}
 use Rattle.std.proofs.Math.Dec.{ltb}
 use Rattle.cb_class.specs.declared.class.Class.{Class}
-use Rattle.cb_class.specs.Class.{IsClassOf, bytes_of, slots_of, words_of}
+use Rattle.cb_class.specs.Class.{IsClassOf, bytes_of, pages_of, slots_of, words_of}
 use Rattle.cb_frame.specs.FreeFrames.{IsFreeFrame}
 use Rattle.cb_ptr.specs.declared.word.State.TheVariants as word
 use Rattle.cb_ptr.specs.Word.{hot_of, pins_of, state_of}
@@ -27,7 +27,7 @@ use Rattle.cb_world.specs.declared.seats.Pin.{Pin}
 use Rattle.cb_world.specs.declared.shown.Shown.{Shown}
 use Rattle.cb_world.specs.Empty.{empty_far, empty_shown}
 use Rattle.cb_world.specs.FarState.{FarState, span_in}
-use Rattle.cb_world.specs.LocalSound.{AreFrames, AreKnown, ArePlaced, HasSlot, IsStamped, LiesAt, NamesObject}
+use Rattle.cb_world.specs.LocalSound.{AreFrames, AreKnown, ArePlaced, HasSlot, IsStamped, LiesAt, LiesOver, NamesObject}
 use Rattle.cb_world.specs.Memory.{IsPacked, memory_byte, window, words_for}
 use Rattle.cb_world.specs.Packed.{AreFreedLater, ArePacked, IsFreedLater, IsPackedAs}
 use Rattle.cb_world.specs.Plain.{Words, word_at}
@@ -302,11 +302,40 @@ known_of memory = record {
     versioned zero below = lit≤ tt
     versioned (suc h) below = absurd (omega (arith, below))
 
+one_frame : pages_of largest ≡ 1
+unfolding pages_of
+one_frame = refl
+
 are_frames : AreFrames far
-are_frames = record { sized = refl; free = free; valid = valid; taken = taken }
+are_frames = record {
+  sized = refl;
+  within = within;
+  apart = apart;
+  free = free;
+  valid = valid;
+  taken = taken;
+}
   where
-    free : (f : ℕ) → f < 1 → IsFreeFrame far.frames f ↔ (span_in far.spans f ≡ None)
-    free zero below = (λ e. absurd (cc), λ e. absurd (cc))
+    within : (f : ℕ) (x : Contents) → span_in far.spans f ≡ Some x → f + pages_of x.class ≤ 1
+    within zero x e = subst (λ (y : Contents). 0 + pages_of y.class ≤ 1) (some_same span x e)
+        (omega (arith, one_frame))
+    within (suc f) x e = absurd (none_some x e)
+
+    apart : (f g : ℕ) (x y : Contents) → span_in far.spans f ≡ Some x
+        → span_in far.spans g ≡ Some y → f < g → f + pages_of x.class ≤ g
+    apart f zero x y d e less = absurd (omega (arith, less))
+    apart f (suc g) x y d e less = absurd (none_some y e)
+
+    free : (f : ℕ) → f < 1 → IsFreeFrame far.frames f ↔ ¬ ((g : ℕ) × LiesOver far.spans g f)
+    free zero below = (
+      (λ e. absurd (cc)),
+      (λ none. absurd (none (0, record {
+        span = span;
+        there = refl;
+        from = lit≤ tt;
+        to = omega (arith, one_frame);
+      }))),
+    )
     free (suc f) below = absurd (omega (arith, below))
 
     valid : (f : ℕ) (x : Contents) → span_in far.spans f ≡ Some x → IsSpan x
@@ -501,10 +530,29 @@ freed_known v some = record {
     versioned (suc h) below = absurd (omega (arith, below))
 
 no_frames : AreFrames no_span
-no_frames = record { sized = refl; free = free; valid = valid; taken = taken }
+no_frames = record {
+  sized = refl;
+  within = within;
+  apart = apart;
+  free = free;
+  valid = valid;
+  taken = taken;
+}
   where
-    free : (f : ℕ) → f < 1 → IsFreeFrame no_span.frames f ↔ (span_in no_span.spans f ≡ None)
-    free zero below = (λ e. refl, λ e. refl)
+    nowhere : (f : ℕ) (x : Contents) → span_in no_span.spans f ≡ Some x → ⊥
+    nowhere zero x e = none_some x e
+    nowhere (suc f) x e = none_some x e
+
+    within : (f : ℕ) (x : Contents) → span_in no_span.spans f ≡ Some x → f + pages_of x.class ≤ 1
+    within f x e = absurd (nowhere f x e)
+
+    apart : (f g : ℕ) (x y : Contents) → span_in no_span.spans f ≡ Some x
+        → span_in no_span.spans g ≡ Some y → f < g → f + pages_of x.class ≤ g
+    apart f g x y d e less = absurd (nowhere f x d)
+
+    free : (f : ℕ) → f < 1
+        → IsFreeFrame no_span.frames f ↔ ¬ ((g : ℕ) × LiesOver no_span.spans g f)
+    free zero below = ((λ e over. nowhere over.0 over.1.span over.1.there), (λ none. refl))
     free (suc f) below = absurd (omega (arith, below))
 
     valid : (f : ℕ) (x : Contents) → span_in no_span.spans f ≡ Some x → IsSpan x

@@ -6,7 +6,7 @@ use Rattle.cb_compact.specs.declared.candidates.Candidate.{Candidate}
 use Rattle.cb_compact.proofs.candidates.first_match.Goals as goal
 
 abbrev none_here : Candidate
-none_here = record { id = 0; k = 0; r = 0; live = 0 }
+none_here = record { id = 0; k = 0; r = 0; pages = 0; live = 0 }
 
 pub loop-place-init : goal.loop-place-init
 loop-place-init c m n a b below l at_a at_b can = omega (arith, below)

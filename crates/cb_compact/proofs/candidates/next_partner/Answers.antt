@@ -6,7 +6,7 @@ use Rattle.cb_compact.specs.Candidates.{CanMatch}
 use Rattle.cb_compact.proofs.candidates.next_partner.Goals as goal
 
 abbrev none_here : Candidate
-none_here = record { id = 0; k = 0; r = 0; live = 0 }
+none_here = record { id = 0; k = 0; r = 0; pages = 0; live = 0 }
 
 pub loop-other-init : goal.loop-other-init
 loop-other-init c n a b low high at_a at_b can = omega (arith, low, high)

@@ -28,7 +28,7 @@ pub copy_row-requires-clause-source : goal.copy_row-requires-clause-source
 copy_row-requires-clause-source c =
     let w = c.requires.words in
     row_there c.args.nodes.now c.args.pair.now.shards_b w.1 c.args.position c.index.result.now
-    w.2.b_rows (from_is c)
+    w.3.b_rows (from_is c)
 
 pub copy_row-requires-clause-fresh : goal.copy_row-requires-clause-fresh
 copy_row-requires-clause-fresh c = c.requires.fresh
@@ -47,7 +47,7 @@ returns-then-position-k-clause-put c =
     (let n = c.requires.code.b_count in let l = c.requires.position in omega (arith, n, l))
     ∙ ap Some (ap (λ (q : JoiningState). get_or q.shards_b c.args.position c.index.result.now)
     (sym c.pair.view_is) ∙ sym c.index.ensures) in
-    IfOk-weaker c.copy_row.result _ _ (λ answer given wa wb m x merged.
+    IfOk-weaker c.copy_row.result _ _ (λ answer given pages wa wb m x merged.
     subst (λ (row : List ℕ). PutGives c.args.nodes.now c.args.to.node c.args.to.key row answer
     c.copy_row.new.nodes)
     (sym (merged.chosen c.args.position c.if-position-k.true
@@ -57,9 +57,9 @@ returns-then-position-k-clause-put c =
 
 pub returns-clause-put : goal.returns-clause-put
 returns-clause-put c =
-    IfOk-weaker c.put_parity.result _ _ (λ answer given wa wb m x merged.
+    IfOk-weaker c.put_parity.result _ _ (λ answer given pages wa wb m x merged.
     subst (λ (p : ℕ). PutGives c.args.nodes.now c.args.to.node c.args.to.key (row_at m p) answer
     c.put_parity.new.nodes)
     (let f = c.if-position-k.false in
     let e : c.args.k + (c.args.position - c.args.k) ≡ c.args.position = omega (arith, f) in e)
-    (given wa wb m x merged)) c.put_parity.ensures.put
+    (given pages wa wb m x merged)) c.put_parity.ensures.put

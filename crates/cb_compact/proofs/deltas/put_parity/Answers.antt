@@ -36,7 +36,7 @@ pub copy_row-requires-clause-source : goal.copy_row-requires-clause-source
 copy_row-requires-clause-source c =
     let w = c.requires.words in
     row_there c.args.nodes.now c.args.pair.now.shards_a w.0 (c.args.k + c.args.parity)
-    c.index-own.result.now w.2.a_rows (own_is c)
+    c.index-own.result.now w.3.a_rows (own_is c)
 
 pub copy_row-requires-clause-fresh : goal.copy_row-requires-clause-fresh
 copy_row-requires-clause-fresh c = c.requires.fresh
@@ -141,7 +141,7 @@ add_deltas-requires-clause-rows c =
     let w = c.requires.words in
     let put = subst (λ (v : PutAnswer). PutGives nodes to.node to.key (row_at w.0 (k + e)) v
     c.copy_row.new.nodes)
-    c.in-Stored.is (c.in_ok-copy_row.ensures.copied w.0 (k + e) pair.shards_a w.2.a_rows own) in (
+    c.in-Stored.is (c.in_ok-copy_row.ensures.copied w.0 (k + e) pair.shards_a w.3.a_rows own) in (
       w.0,
       w.1,
       row_at w.0 (k + e),
@@ -153,11 +153,11 @@ add_deltas-requires-clause-rows c =
           (subst (λ (l : List Shard). CanPatch c.copy_row.new.nodes to.node to.key l pair.shards_b
           pair.taken w.0 w.1 (row_at w.0 (k + e))) (sym da)
           (can_patch nodes pair k r e to c.requires.code c.requires.parity c.requires.to
-          c.requires.a_other c.requires.b_other w.0 w.1 c.copy_row.new.nodes w.2 put.1))),
+          c.requires.a_other c.requires.b_other w.2 w.0 w.1 c.copy_row.new.nodes w.3 put.1))),
     )
 
 pub returns-in-Stored-clause-put : goal.returns-in-Stored-clause-put
-returns-in-Stored-clause-put c wa wb m x merged =
+returns-in-Stored-clause-put c pages wa wb m x merged =
     let nodes = c.args.nodes.now in let pair = c.args.pair.now in let k = c.args.k in
     let r = c.args.r in let e = c.args.parity in let to = c.args.to in
     let da : c.deref.result.now ≡ pair.shards_a =
@@ -182,10 +182,10 @@ returns-in-Stored-clause-put c wa wb m x merged =
     (subst (λ (l : List Shard). CanPatch c.copy_row.new.nodes to.node to.key l pair.shards_b
     pair.taken wa wb (row_at wa (k + e))) (sym da)
     (can_patch nodes pair k r e to c.requires.code c.requires.parity c.requires.to
-    c.requires.a_other c.requires.b_other wa wb c.copy_row.new.nodes x put.1))) in (
+    c.requires.a_other c.requires.b_other pages wa wb c.copy_row.new.nodes x put.1))) in (
       put.0,
       parity_put nodes pair k r e to c.requires.code c.requires.parity c.requires.to
-          c.requires.a_other c.requires.b_other c.coefficients-table.result wa wb m
+          c.requires.a_other c.requires.b_other pages c.coefficients-table.result wa wb m
           c.copy_row.new.nodes
           c.add_deltas.new.nodes c.coefficients-table.ensures x merged put.1
           (c.add_deltas.ensures wa wb (row_at wa (k + e)) can
@@ -194,7 +194,7 @@ returns-in-Stored-clause-put c wa wb m x merged =
     )
 
 pub returns-in-Full-clause-put : goal.returns-in-Full-clause-put
-returns-in-Full-clause-put c wa wb m x merged =
+returns-in-Full-clause-put c pages wa wb m x merged =
     let nodes = c.args.nodes.now in let pair = c.args.pair.now in let k = c.args.k in
     let r = c.args.r in let e = c.args.parity in let to = c.args.to in
     let own : slice_get pair.shards_a (k + e) ≡ Some c.index-own.result.now =

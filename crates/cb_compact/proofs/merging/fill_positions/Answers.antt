@@ -34,8 +34,8 @@ pub loop-position-preserved : goal.loop-position-preserved
 loop-position-preserved c =
     let set = c.args.set.now in let a = c.args.a.now in let b = c.args.b.now in
     let n = c.loop-position.position in
-    subst (IsFilledBelow set.id set.shards a b (n + 1)) (sym c.in_ok-fill_position.ensures)
-    (one_filled set.id set.shards a b c.loop-position.set n c.loop-position.invariant
+    subst (IsFilledBelow set.id set.pages set.shards a b (n + 1)) (sym c.in_ok-fill_position.ensures)
+    (one_filled set.id set.pages set.shards a b c.loop-position.set n c.loop-position.invariant
     (let l = c.loop-position-test.true in let m = c.k-position-end.ensures.count in omega (
       arith,
       l,
@@ -45,6 +45,6 @@ loop-position-preserved c =
 pub returns : goal.returns
 returns c =
     let set = c.args.set.now in let a = c.args.a.now in let b = c.args.b.now in
-    subst (λ (n : ℕ). IsFilledBelow set.id set.shards a b n c.loop-position.set)
+    subst (λ (n : ℕ). IsFilledBelow set.id set.pages set.shards a b n c.loop-position.set)
     (let l = c.loop-position-test.false in let m = c.k-position-end.ensures.count in
     let e = c.loop-position.auto.position-end in omega (arith, l, m, e)) c.loop-position.invariant

@@ -42,9 +42,10 @@ returns-in-Ok c =
     let a = c.args.a.now in let b = c.args.b.now in let pair = c.args.pair.now in
     let fresh = c.in_ok-set.ensures.fresh in
     all_filled c.args.id pair a b c.fill_positions.new.set
-    (filled_as c.in_ok-set.set.id c.args.id c.in_ok-set.set.shards
+    (filled_as c.in_ok-set.set.id c.args.id c.in_ok-set.set.pages a.pages c.in_ok-set.set.shards
     (merged_shards pair.steps pair.shards_a) a b c.fill_positions.new.set (length a.positions)
     c.in-Ok.ensures (ap (λ (q : SetState). q.id) fresh)
+    (ap (λ (q : SetState). q.pages) fresh ∙ c.pages.ensures)
     (ap (λ (q : SetState). q.shards) fresh ∙ c.deref-3.ensures.value ∙ c.in_ok-shards.ensures
     ∙ ap₂ merged_shards
     (c.deref.ensures.value ∙ ap (λ (q : JoiningState). q.steps) c.pair.view_is)

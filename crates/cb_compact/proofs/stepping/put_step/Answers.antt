@@ -171,7 +171,8 @@ put_merged-requires-clause-words c =
     x.4.fresh) in
     let er : parities a ≡ c.parity_count-r.result = sym (c.parity_count-r.ensures pair a b
     x.4.fresh) in
-    carry (λ n q k r. (wa wb : List (List ℕ)) × StandTogether n q k r wa wb) far.nodes
+    carry (λ n q k r. (wa wb : List (List ℕ)) × (pages : ℕ) × StandTogether n q pages k r wa wb)
+    far.nodes
     c.far.inside.nodes pair c.unwrap-pair.result.now (length a.positions)
     c.data_count-k.result (parities a) c.parity_count-r.result en ep ek er
     (ready_words x.0 far pair a b p shard x.4)
@@ -198,8 +199,8 @@ returns-clause-put c =
     (subst (λ (e : SetState). PutsMerged far pair a e p shard answer c.put_merged.new.nodes)
     same.b_is
     (puts_merged x.0 far pair a b p shard x.4 answer c.put_merged.new.nodes
-    (carry (λ n q k r. (wa wb m : List (List ℕ)) → StandTogether n q k r wa wb
-    → IsMergedWord k r q.taken wa wb m
+    (carry (λ n q k r. (pages : ℕ) (wa wb m : List (List ℕ)) → StandTogether n q pages k r wa wb
+    → IsMergedWord pages k r q.taken wa wb m
     → PutGives n shard.node shard.key (row_at m p) answer c.put_merged.new.nodes)
     c.far.inside.nodes far.nodes c.unwrap-pair.result.now pair c.data_count-k.result
     (length a.positions) c.parity_count-r.result (parities a) (sym en) (sym ep) (sym ek) (sym er)

@@ -5,7 +5,7 @@ use Rattle.cb_compact.specs.Tables.{AreTables}
 use Rattle.cb_compact.proofs.tables.tables_of.Goals as goal
 
 abbrev none_here : Candidate
-none_here = record { id = 0; k = 0; r = 0; live = 0 }
+none_here = record { id = 0; k = 0; r = 0; pages = 0; live = 0 }
 
 pub loop-candidate-init : goal.loop-candidate-init
 loop-candidate-init c =

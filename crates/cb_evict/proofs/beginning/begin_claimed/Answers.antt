@@ -1,18 +1,21 @@
-use Rattle.std.proofs.Common.{◌≡◌, ℕ, ◌<◌, ◌^◌, List, length, get_or, All, Some, sym, ap, ◌∙◌, subst}
+use Rattle.std.proofs.Common.{◌≡◌, ℕ, ◌+◌, ◌<◌, ◌≤◌, ◌^◌, List, length, get_or, All, Some, sym, ap, ◌∙◌, subst, arith}
 use Rattle.cb_span.specs.Contents.{Contents}
 use Rattle.cb_types.specs.declared.config.Config.{Config}
 use Rattle.cb_types.specs.declared.handle.SetId.{SetId}
 use Rattle.cb_types.specs.declared.reply.Reply.TheVariants as answer
+use Rattle.cb_world.specs.declared.event.Event.{Event}
 use Rattle.cb_world.specs.declared.leaving.Former.{Former}
 use Rattle.cb_world.specs.declared.shown.Shown.{Shown}
 use Rattle.cb_world.specs.Played.{played}
 use Rattle.cb_world.specs.FarState.{FarState, span_in}
 use Rattle.cb_evict.specs.Claiming.{GivesBack}
 use Rattle.cb_evict.specs.Claims.{AreApart, IsHeldAt}
-use Rattle.cb_evict.specs.Loading.{LiesInOne}
-use Rattle.cb_evict.proofs.BeginEnd.{starts, reads_as, reads_in, batch_then, reserves_as}
+use Rattle.cb_evict.specs.Beginning.{ReservesFrames}
+use Rattle.cb_evict.specs.Loading.{AreOfLength, LiesInOne, pages_in}
+use Rattle.cb_evict.proofs.BeginEnd.{noted_far, starts, reads_as, reads_in, batch_then, reserves_as}
 use Rattle.cb_evict.proofs.Events.{are_reads}
-use Rattle.cb_evict.proofs.Ending.{are_read, taken_ready, place_in, handles_all, frames_below}
+use Rattle.cb_evict.proofs.Ending.{are_read, taken_ready, place_in, handles_all, frames_below, pages_told}
+use Rattle.cb_evict.proofs.Loads.{reads_spans}
 use Rattle.cb_evict.proofs.Restored.{gives_back_ends}
 use Rattle.cb_evict.proofs.CallParts.{joins}
 use Rattle.cb_evict.proofs.beginning.begin_claimed.Goals as goal
@@ -36,14 +39,43 @@ reserve_frames-requires-clause-there g c =
     c.requires.taken c.requires.ready.2.sound.here (get_or c.args.frames.items k d)
     (place_in c.args.frames.items k d l) in (x.span, x.there))
 
+pub span_pages-pages-requires : goal.span_pages-pages-requires
+span_pages-pages-requires g c =
+    let some = c.requires.configured.codes.force.range.data_least in
+    let d = c.index.result.now in
+    let x = taken_ready c.args.far.now c.args.frames.items c.args.formers.items c.requires.ready.1
+    c.requires.taken c.requires.ready.2.sound.here (get_or c.args.frames.items 0 d)
+    (place_in c.args.frames.items 0 d (omega (arith, some, c.requires.taken.count))) in
+    record { there = (x.span, ap (span_in c.args.far.now.spans) c.index.ensures ∙ x.there) }
+
+pub reserve_frames-requires-clause-pages : goal.reserve_frames-requires-clause-pages
+reserve_frames-requires-clause-pages g c = c.span_pages-pages.ensures.few
+
+pub reserve_frames-requires-clause-long : goal.reserve_frames-requires-clause-long
+reserve_frames-requires-clause-long g c =
+    let pages = pages_told c.args.far.now c.args.frames.items c.args.formers.items
+    c.requires.ready.1 c.index.result.now c.span_pages-pages.result c.requires.taken
+    c.requires.ready.2.sound.here c.requires.configured.codes.force.range.data_least
+    (c.span_pages-pages.ensures.pages ∙ ap (pages_in c.args.far.now.spans) c.index.ensures) in
+    subst (λ (l : List ℕ). AreOfLength c.args.far.now.spans c.span_pages-pages.result l)
+    (sym c.deref.ensures.value)
+    (subst (λ (n : ℕ). AreOfLength c.args.far.now.spans n c.args.frames.items)
+    (sym pages) c.requires.taken.long)
+
 pub reserve_frames-requires-clause-below : goal.reserve_frames-requires-clause-below
 reserve_frames-requires-clause-below g c =
     let r = c.requires.ready.2 in
     let sized = g.met.D.Desk.sized _ (played c.requires.ready.0 c.requires.ready.1) r.shown in
-    subst (λ (l : List ℕ). All (λ f. f < (g.D.Desk.settings c.args.desk.now).frames) l)
-    (sym c.deref.ensures.value)
+    let pages = pages_told c.args.far.now c.args.frames.items c.args.formers.items
+    c.requires.ready.1 c.index.result.now c.span_pages-pages.result c.requires.taken
+    c.requires.ready.2.sound.here c.requires.configured.codes.force.range.data_least
+    (c.span_pages-pages.ensures.pages ∙ ap (pages_in c.args.far.now.spans) c.index.ensures) in
+    subst (λ (l : List ℕ). All (λ f. f + c.span_pages-pages.result
+    ≤ (g.D.Desk.settings c.args.desk.now).frames) l) (sym c.deref.ensures.value)
+    (subst (λ (n : ℕ). All (λ f. f + n ≤ (g.D.Desk.settings c.args.desk.now).frames)
+    c.args.frames.items) (sym pages)
     (frames_below c.args.far.now c.args.frames.items c.args.formers.items c.requires.ready.1
-    (played c.requires.ready.0 c.requires.ready.1) _ c.requires.taken r.sound.here r.here sized.3)
+    (played c.requires.ready.0 c.requires.ready.1) _ c.requires.taken r.sound.here r.here sized.3))
 
 pub note_batch-set-requires : goal.note_batch-set-requires
 note_batch-set-requires g c = record {
@@ -68,8 +100,8 @@ give_back-requires-clause-apart g c =
 pub give_back-requires-clause-held : goal.give_back-requires-clause-held
 give_back-requires-clause-held g c =
     let r = c.requires.ready.2 in let t = played c.requires.ready.0 c.requires.ready.1 in
-    let x = reads_as _ _ c.args.frames.items c.deref.ensures.value c.in-Err.ensures.read in
-    let reads = are_reads (LiesInOne c.args.frames.items) x.0 x.2 in (
+    let x = reads_as _ _ _ c.args.frames.items c.deref.ensures.value c.in-Err.ensures.read in
+    let reads = are_reads (LiesInOne c.args.far.now.spans c.args.frames.items) x.0 x.2 in (
       t,
       subst (λ (v : Shown). g.D.Desk.shows c.reserve_frames.new.desk v) (reads.stays t)
           (g.met.D.Desk.follows _ _ x.0 t x.1 r.shown).1,
@@ -91,11 +123,24 @@ returns-in-Ok-clause-begun g c =
     let far = c.args.far.now in let frames = c.args.frames.items in let formers = c.args.formers.items in
     let config = g.D.Desk.settings c.args.desk.now in
     let shows = λ (t : Shown). g.D.Desk.shows c.args.desk.now t in
-    let y = reserves_as (λ es. g.D.Desk.run c.args.desk.now es c.reserve_frames.new.desk) shows far
-    c.reserve_frames.new.far _ frames c.in-Ok.reserved.parities c.deref.ensures.value c.in-Ok.ensures.reserved in
-    let x = y.loads in let reads = are_reads (LiesInOne frames) x.events x.loads in
-    let is = batch_then far c.reserve_frames.new.far c.note_batch-set.new.far frames formers
-    c.in-Ok.reserved.parities c.in-Ok.reserved.shards.items y.state c.note_batch-set.ensures.state c.in-Ok.ensures.shards in
+    let taken = c.requires.taken in
+    let pages = pages_told c.args.far.now c.args.frames.items c.args.formers.items
+    c.requires.ready.1 c.index.result.now c.span_pages-pages.result c.requires.taken
+    c.requires.ready.2.sound.here c.requires.configured.codes.force.range.data_least
+    (c.span_pages-pages.ensures.pages ∙ ap (pages_in c.args.far.now.spans) c.index.ensures) in
+    let runs = λ (es : List Event). g.D.Desk.run c.args.desk.now es c.reserve_frames.new.desk in
+    let y = subst (λ (n : ℕ). ReservesFrames runs shows far c.reserve_frames.new.far n frames
+    c.in-Ok.reserved.parities) pages
+    (reserves_as runs shows far c.reserve_frames.new.far _ _ frames c.in-Ok.reserved.parities
+    c.deref.ensures.value c.in-Ok.ensures.reserved) in
+    let x = y.loads in
+    let reads = are_reads (LiesInOne far.spans frames) x.events
+    (reads_spans far.spans taken.pages frames taken.long x.events x.loads) in
+    let is = batch_then far c.reserve_frames.new.far c.note_batch-set.new.far taken.pages frames
+    formers c.in-Ok.reserved.parities c.in-Ok.reserved.shards.items y.state
+    (subst (λ (n : ℕ). c.note_batch-set.new.far ≡ noted_far c.reserve_frames.new.far n frames
+    formers c.in-Ok.reserved.parities c.in-Ok.reserved.shards.items) pages
+    c.note_batch-set.ensures.state) c.in-Ok.ensures.shards in
     record {
       events = x.events;
       ran = x.ran;
@@ -120,7 +165,7 @@ returns-in-Ok-clause-begun g c =
 pub returns-in-Err-clause-error : goal.returns-in-Err-clause-error
 returns-in-Err-clause-error g c = gives_back_ends c.args.far.now c.args.frames.items c.args.formers.items (joins (λ es fs a b. g.met.D.Desk.more _ _ _ _ _ a b)
     (λ es s ran a. (g.met.D.Desk.follows _ _ es s ran a).1)) c.requires.taken.among c.requires.taken.of.only
-    (reads_as _ _ c.args.frames.items c.deref.ensures.value c.in-Err.ensures.read)
+    (reads_as _ _ _ c.args.frames.items c.deref.ensures.value c.in-Err.ensures.read)
     (subst (λ (l : List Former). GivesBack
     (λ es. g.D.Desk.run c.reserve_frames.new.desk es c.give_back.new.desk)
     (λ s. g.D.Desk.shows c.reserve_frames.new.desk s) l) c.deref-in-Err.ensures.value c.give_back.ensures)

@@ -1,8 +1,9 @@
 use Rattle.std.proofs.Common.{◌≡◌, ℕ, ◌<◌, ◌≤◌, All, List, length, Some, sym, refl, ap, ◌∙◌, subst, arith}
-use Rattle.cb_frame.specs.FreeFrames.{IsFreeFrame}
 use Rattle.cb_span.specs.Contents.{Contents}
 use Rattle.cb_world.specs.declared.leaving.Former.{Former}
 use Rattle.cb_world.specs.FarState.{FarState, span_in}
+use Rattle.cb_world.specs.LocalSound.{AreFrames}
+use Rattle.cb_world.proofs.Laws.{frames_as}
 use Rattle.cb_world.specs.Leaving.{LeavingState}
 use Rattle.cb_evict.specs.Candidates.{AreUnique}
 use Rattle.cb_evict.specs.Claims.{AreApart}
@@ -10,7 +11,7 @@ use Rattle.cb_evict.specs.Closing.{HaveHomes}
 use Rattle.cb_evict.specs.Committing.{HasPlaces}
 use Rattle.cb_evict.specs.Sending.{IsFormerTold, Sends}
 use Rattle.cb_evict.specs.Waiting.{waiting}
-use Rattle.cb_evict.proofs.BatchReady.{put_at_members, few_shards, has_places, frames_held, frames_within, frames_busy, frames_apart, few_frames, spans_unique, told_all}
+use Rattle.cb_evict.proofs.BatchReady.{put_at_members, few_shards, has_places, frames_held, frames_apart, few_frames, spans_unique, told_all}
 use Rattle.cb_evict.proofs.Commits.{not_committed, short_of_rows, some_items, no_items, committed_state, all_put, commits}
 use Rattle.cb_evict.proofs.Noted.{claimed_all, noted_apart}
 use Rattle.cb_evict.proofs.committing.commit.Goals as goal
@@ -123,21 +124,10 @@ keep_batch-requires-clause-apart g c =
     sym (ap (λ (f : FarState). f.leaving) c.far.view_is) ∙ sym c.take.ensures.value ∙ c.unwrap-batch.ensures in
     frames_apart had.0 c.args.far.now c.unwrap-batch.result had.2 there
 
-pub keep_batch-requires-clause-within : goal.keep_batch-requires-clause-within
-keep_batch-requires-clause-within g c =
-    let had = c.requires.sound in
-    let there : c.args.far.now.leaving ≡ Some c.unwrap-batch.result =
-    sym (ap (λ (f : FarState). f.leaving) c.far.view_is) ∙ sym c.take.ensures.value ∙ c.unwrap-batch.ensures in
-    subst (λ (x : FarState). All (λ f. (f < length x.frames) × (f < length x.spans)) c.unwrap-batch.result.frames)
-    (sym c.far.view_is) (frames_within had.0 c.args.far.now c.unwrap-batch.result had.2 there)
-
-pub keep_batch-requires-clause-busy : goal.keep_batch-requires-clause-busy
-keep_batch-requires-clause-busy g c =
-    let had = c.requires.sound in
-    let there : c.args.far.now.leaving ≡ Some c.unwrap-batch.result =
-    sym (ap (λ (f : FarState). f.leaving) c.far.view_is) ∙ sym c.take.ensures.value ∙ c.unwrap-batch.ensures in
-    subst (λ (x : FarState). All (λ f. ¬ (IsFreeFrame x.frames f)) c.unwrap-batch.result.frames)
-    (sym c.far.view_is) (frames_busy had.0 c.args.far.now c.unwrap-batch.result had.2 there)
+pub keep_batch-requires-clause-owned : goal.keep_batch-requires-clause-owned
+keep_batch-requires-clause-owned g c =
+    let owned = subst AreFrames (sym c.far.view_is) c.requires.sound.2.here.frames in
+    frames_as _ _ refl refl owned
 
 pub keep_batch-requires-clause-few : goal.keep_batch-requires-clause-few
 keep_batch-requires-clause-few g c =

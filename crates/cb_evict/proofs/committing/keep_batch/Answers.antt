@@ -1,8 +1,10 @@
-use Rattle.std.proofs.Common.{◌≡◌, ℕ, All, List, Option, Some, sym, ap, ◌∙◌, subst}
+use Rattle.std.proofs.Common.{◌≡◌, ℕ, All, List, Option, Some, refl, sym, ap, ◌∙◌, subst}
 use Rattle.cb_member.specs.declared.names.Shard.{Shard}
 use Rattle.cb_span.specs.Contents.{Contents}
 use Rattle.cb_world.specs.FarState.{FarState, span_in}
 use Rattle.cb_world.specs.Leaving.{LeavingState}
+use Rattle.cb_world.specs.LocalSound.{AreFrames}
+use Rattle.cb_world.proofs.Laws.{frames_as}
 use Rattle.cb_evict.specs.Committing.{AreAllPut}
 use Rattle.cb_evict.proofs.committing.keep_batch.Goals as goal
 
@@ -18,3 +20,7 @@ close_spans-requires-clause-there c =
     (sym (c.deref-2.ensures.value ∙ ap (λ (b : LeavingState). b.frames) c.batch.view_is))
     (subst (λ (x : FarState). All (λ f. (span : Contents) × (span_in x.spans f ≡ Some span)) c.args.batch.now.frames)
     (sym c.far.view_is) c.requires.there)
+
+pub close_spans-requires-clause-owned : goal.close_spans-requires-clause-owned
+close_spans-requires-clause-owned c =
+    frames_as c.far.inside _ refl refl (subst AreFrames (sym c.far.view_is) c.requires.owned)

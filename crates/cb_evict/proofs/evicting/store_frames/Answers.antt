@@ -7,6 +7,7 @@ use Rattle.cb_types.specs.declared.config.Field.TheVariants.{Nodes}
 use Rattle.cb_world.specs.FarState.{FarState, span_in}
 use Rattle.cb_evict.specs.Storing.{AreShards, CanPut, HasRoomFor, KeepsSet}
 use Rattle.cb_evict.proofs.Composed.{any_err, if_map, on_err, read_err}
+use Rattle.cb_evict.proofs.Loads.{reads_spans}
 use Rattle.cb_evict.proofs.NewSet.{can_put, have_room}
 use Rattle.cb_evict.proofs.evicting.store_frames.Goals as goal
 
@@ -43,13 +44,16 @@ returns-in_err-shards-clause-kept g c = IfOk-from_err _ _ c.from_residual.ensure
 
 pub returns-in_err-shards-clause-read : goal.returns-in_err-shards-clause-read
 returns-in_err-shards-clause-read g c = read_err
-    (λ es. g.D.Desk.run c.args.desk.now es c.args.desk.now) c.args.frames.now [] _ (g.met.D.Desk.none _) tt
+    (λ es. g.D.Desk.run c.args.desk.now es c.args.desk.now) c.args.far.now.spans c.args.frames.now [] _ (g.met.D.Desk.none _) tt
 
 pub returns-in_err-shards-clause-unchanged : goal.returns-in_err-shards-clause-unchanged
 returns-in_err-shards-clause-unchanged g c = any_err _ _ refl
 
-pub spare_rows-requires : goal.spare_rows-requires
-spare_rows-requires g c =
+pub spare_rows-requires-clause-pages : goal.spare_rows-requires-clause-pages
+spare_rows-requires-clause-pages g c = c.requires.pages
+
+pub spare_rows-requires-clause-some : goal.spare_rows-requires-clause-some
+spare_rows-requires-clause-some g c =
     let k = ap (λ (n : Code). n.k) c.in_force-code.ensures in
     let range = c.requires.configured.codes.force.range in
     let least = range.data_least in omega (arith, k, least)
@@ -59,28 +63,28 @@ returns-in_err-rows-clause-kept g c = IfOk-from_err _ _ c.from_residual-in_err-r
 
 pub returns-in_err-rows-clause-read : goal.returns-in_err-rows-clause-read
 returns-in_err-rows-clause-read g c = read_err
-    (λ es. g.D.Desk.run c.args.desk.now es c.args.desk.now) c.args.frames.now [] _ (g.met.D.Desk.none _) tt
+    (λ es. g.D.Desk.run c.args.desk.now es c.args.desk.now) c.args.far.now.spans c.args.frames.now [] _ (g.met.D.Desk.none _) tt
 
 pub returns-in_err-rows-clause-unchanged : goal.returns-in_err-rows-clause-unchanged
 returns-in_err-rows-clause-unchanged g c = any_err _ _ c.spare_rows.ensures.unchanged
 
-pub load_frames-requires-clause-count : goal.load_frames-requires-clause-count
-load_frames-requires-clause-count g c = c.in_ok-rows.ensures.count
+pub load_spans-requires-clause-count : goal.load_spans-requires-clause-count
+load_spans-requires-clause-count g c = c.in_ok-rows.ensures.count
     ∙ ap (λ (n : Code). n.k) c.in_force-code.ensures ∙ sym c.requires.count
 
-pub load_frames-requires-clause-few : goal.load_frames-requires-clause-few
-load_frames-requires-clause-few g c =
+pub load_spans-requires-clause-few : goal.load_spans-requires-clause-few
+load_spans-requires-clause-few g c =
     let range = c.requires.configured.codes.force.range in
     let most = range.data_most in omega (arith, most, c.requires.count)
 
-pub load_frames-requires-clause-lengths : goal.load_frames-requires-clause-lengths
-load_frames-requires-clause-lengths g c = c.in_ok-rows.ensures.lengths
+pub load_spans-requires-clause-lengths : goal.load_spans-requires-clause-lengths
+load_spans-requires-clause-lengths g c = c.in_ok-rows.ensures.lengths
 
-pub load_frames-requires-clause-config : goal.load_frames-requires-clause-config
-load_frames-requires-clause-config g c = c.requires.config
+pub load_spans-requires-clause-config : goal.load_spans-requires-clause-config
+load_spans-requires-clause-config g c = c.requires.config
 
-pub load_frames-requires-clause-frames : goal.load_frames-requires-clause-frames
-load_frames-requires-clause-frames g c = c.requires.below
+pub load_spans-requires-clause-frames : goal.load_spans-requires-clause-frames
+load_spans-requires-clause-frames g c = c.requires.below
 
 pub keep_set-kept-requires-clause-there : goal.keep_set-kept-requires-clause-there
 keep_set-kept-requires-clause-there g c =
@@ -88,7 +92,7 @@ keep_set-kept-requires-clause-there g c =
     (sym c.spare_rows.ensures.unchanged) c.requires.there
 
 pub keep_set-kept-requires-clause-data_rows : goal.keep_set-kept-requires-clause-data_rows
-keep_set-kept-requires-clause-data_rows g c = c.load_frames.ensures.count
+keep_set-kept-requires-clause-data_rows g c = c.load_spans.ensures.count
     ∙ c.in_ok-rows.ensures.count ∙ ap (λ (n : Code). n.k) c.in_force-code.ensures
     ∙ sym c.requires.count
 
@@ -124,24 +128,26 @@ keep_set-kept-requires-clause-counts g c =
 
 pub returns-clause-kept : goal.returns-clause-kept
 returns-clause-kept g c = if_map _ _ c.keep_set-kept.result c.keep_set-kept.ensures.kept (λ done y. record {
-  rows = c.load_frames.new.rows;
+  rows = c.load_spans.new.rows;
   shards = c.in_ok-shards.shards.items;
-  loads = c.load_frames.ensures.loads;
-  count = c.load_frames.ensures.count ∙ c.in_ok-rows.ensures.count
+  loads = c.load_spans.ensures.loads;
+  count = c.load_spans.ensures.count ∙ c.in_ok-rows.ensures.count
       ∙ ap (λ (n : Code). n.k) c.in_force-code.ensures ∙ sym c.requires.count;
   chosen = subst (λ (n : Code). AreShards c.args.far.now (n.k + n.r) c.in_ok-shards.shards.items)
       c.in_force-code.ensures c.in_ok-shards.ensures.shards;
-  kept = subst (λ (new : FarState). KeepsSet c.args.far.now new c.in_ok-shards.shards.items
-      c.args.frames.now c.load_frames.new.rows) (sym c.keep_rows.ensures.unchanged)
-      (subst (λ (far : FarState). KeepsSet far c.keep_set-kept.new.far c.in_ok-shards.shards.items
-      c.args.frames.now c.load_frames.new.rows) c.spare_rows.ensures.unchanged
-      (subst (λ (l : List Shard). KeepsSet c.spare_rows.new.far c.keep_set-kept.new.far l
-      c.args.frames.now c.load_frames.new.rows) c.deref.ensures.value y));
+  kept = subst (λ (new : FarState). KeepsSet c.args.far.now new c.args.pages c.in_ok-shards.shards.items
+      c.args.frames.now c.load_spans.new.rows) (sym c.keep_rows.ensures.unchanged)
+      (subst (λ (far : FarState). KeepsSet far c.keep_set-kept.new.far c.args.pages c.in_ok-shards.shards.items
+      c.args.frames.now c.load_spans.new.rows) c.spare_rows.ensures.unchanged
+      (subst (λ (l : List Shard). KeepsSet c.spare_rows.new.far c.keep_set-kept.new.far c.args.pages l
+      c.args.frames.now c.load_spans.new.rows) c.deref.ensures.value y));
 })
 
 pub returns-clause-read : goal.returns-clause-read
-returns-clause-read g c = let x = c.load_frames.ensures.loads in read_err
-    (λ es. g.D.Desk.run c.args.desk.now es c.load_frames.new.desk) c.args.frames.now x.events _ x.ran x.loads
+returns-clause-read g c = let x = c.load_spans.ensures.loads in read_err
+    (λ es. g.D.Desk.run c.args.desk.now es c.load_spans.new.desk)
+    c.args.far.now.spans c.args.frames.now x.events _ x.ran
+    (reads_spans c.args.far.now.spans c.args.pages c.args.frames.now c.requires.long x.events x.loads)
 
 pub returns-clause-unchanged : goal.returns-clause-unchanged
 returns-clause-unchanged g c = on_err _ _ c.keep_set-kept.result c.keep_set-kept.ensures.err

@@ -1,11 +1,11 @@
-use Rattle.std.proofs.Common.{◌≡◌, ℕ, List, length, Some, ap, sym, ◌∙◌, subst, refl, [], ◌<◌, ◌^◌}
+use Rattle.std.proofs.Common.{◌≡◌, ℕ, ◌+◌, List, length, Some, ap, sym, ◌∙◌, subst, refl, [], ◌<◌, ◌≤◌, ◌^◌, arith}
 use Rattle.std.specs.List.{slice_get}
 use Rattle.std.proofs.lemmas.List.{with_items_is}
 use Rattle.cb_node.specs.NodesState.{NodesState, has, held}
 use Rattle.cb_world.specs.FarState.{FarState}
 use Rattle.cb_world.specs.Leaving.{LeavingState}
 use Rattle.cb_world.specs.contracts.far.Far.{the_view}
-use Rattle.cb_evict.specs.Loading.{LoadsFrame}
+use Rattle.cb_evict.specs.Loading.{LoadsRun}
 use Rattle.cb_evict.specs.ShipRule.{with_noted, with_shipped}
 use Rattle.cb_evict.specs.Shipping.{PutsNothing}
 use Rattle.cb_evict.proofs.Composed.{any_err}
@@ -16,9 +16,12 @@ use Rattle.cb_evict.proofs.Options.{some_same}
 pub returns-in_err-put_row-clause-err : goal.returns-in_err-put_row-clause-err
 returns-in_err-put_row-clause-err g c =
     let x = c.requires.there in
-    any_err _ _ (puts_nothing (λ es. g.D.Desk.run c.args.desk.now es c.load_frame.new.desk)
+    any_err _ _ (puts_nothing (λ es. g.D.Desk.run c.args.desk.now es c.load_span.new.desk)
     (λ s. g.D.Desk.shows c.args.desk.now s) c.args.far.now x.0 c.args.position c.args.frame _ x.1 x.2
-    c.load_frame.ensures.loads)
+    (c.requires.spans x.0 x.1)
+    (subst (λ (n : ℕ). LoadsRun (λ es. g.D.Desk.run c.args.desk.now es c.load_span.new.desk)
+    (λ s. g.D.Desk.shows c.args.desk.now s) c.args.frame n c.load_span.new.into)
+    (c.batch_pages.ensures x.0 x.1) c.load_span.ensures.loads))
 
 pub returns-clause-ok : goal.returns-clause-ok
 returns-clause-ok g c = λ batch there.
@@ -27,16 +30,20 @@ returns-clause-ok g c = λ batch there.
     let view = the_view c.far.inside in
     let row = c.deref.result.now in
     let read = c.in_ok-row.row in
-    let same : row ≡ c.load_frame.new.into =
-    c.deref.ensures.value ∙ with_items_is read c.load_frame.new.into
-    (c.load_frame.auto.into ∙ ap length c.deref_mut.ensures.value ∙ sym read.ok.0) in
-    puts_data (λ es. g.D.Desk.run c.args.desk.now es c.load_frame.new.desk)
+    let same : row ≡ c.load_span.new.into =
+    c.deref.ensures.value ∙ with_items_is read c.load_span.new.into
+    (c.load_span.auto.into ∙ ap length c.deref_mut.ensures.value ∙ sym read.ok.0) in
+    puts_data (λ es. g.D.Desk.run c.args.desk.now es c.load_span.new.desk)
     (λ s. g.D.Desk.shows c.args.desk.now s) (λ s. g.D.Desk.shows c.args.desk.now s) far
     c.note_shard.new.far batch p c.args.frame shard row there
     (subst (λ (b : LeavingState). slice_get b.frames p ≡ Some c.args.frame)
     (some_same x.0 batch (sym x.1 ∙ there)) x.2)
-    (subst (λ (l : List ℕ). LoadsFrame (λ es. g.D.Desk.run c.args.desk.now es c.load_frame.new.desk)
-    (λ s. g.D.Desk.shows c.args.desk.now s) c.args.frame l) (sym same) c.load_frame.ensures.loads)
+    (c.requires.spans batch there)
+    (subst (λ (l : List ℕ). LoadsRun (λ es. g.D.Desk.run c.args.desk.now es c.load_span.new.desk)
+    (λ s. g.D.Desk.shows c.args.desk.now s) c.args.frame batch.pages l) (sym same)
+    (subst (λ (n : ℕ). LoadsRun (λ es. g.D.Desk.run c.args.desk.now es c.load_span.new.desk)
+    (λ s. g.D.Desk.shows c.args.desk.now s) c.args.frame n c.load_span.new.into)
+    (c.batch_pages.ensures batch there) c.load_span.ensures.loads))
     (λ s k. k)
     (c.note_shard.ensures batch (ap (λ (f : FarState). f.leaving) c.far.view_is ∙ there)
     ∙ ap (λ (n : NodesState). with_noted (record view { nodes = n }) batch p shard)
@@ -54,11 +61,13 @@ returns-in_err-row-clause-err g c =
     let nothing : PutsNothing (λ es. g.D.Desk.run c.args.desk.now es c.args.desk.now) c.args.far.now =
     ([], g.met.D.Desk.none _, tt) in any_err _ _ nothing
 
-pub load_frame-requires-clause-config : goal.load_frame-requires-clause-config
-load_frame-requires-clause-config g c = c.requires.config
+pub load_span-requires-clause-config : goal.load_span-requires-clause-config
+load_span-requires-clause-config g c = c.requires.config
 
-pub load_frame-requires-clause-frame : goal.load_frame-requires-clause-frame
-load_frame-requires-clause-frame g c = c.requires.frame
+pub load_span-requires-clause-frames : goal.load_span-requires-clause-frames
+load_span-requires-clause-frames g c =
+    let x = c.requires.there in let pages = c.batch_pages.ensures x.0 x.1 in
+    omega (arith, c.requires.frames x.0 x.1, pages)
 
 pub put_row-requires-clause-within : goal.put_row-requires-clause-within
 put_row-requires-clause-within g c = subst (λ (q : FarState). c.args.shard.node.n < length q.nodes.nodes) (sym c.far.view_is) c.requires.within

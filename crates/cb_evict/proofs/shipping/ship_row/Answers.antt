@@ -1,26 +1,31 @@
 use Rattle.cb_evict.specs.Shipping.{PutsNothing}
 use Rattle.cb_evict.proofs.Composed.{any_err}
-use Rattle.std.proofs.Common.{◌≡◌, ◌<◌, length, Some, sym, ◌∙◌, arith, []}
+use Rattle.std.proofs.Common.{◌≡◌, ◌<◌, length, Some, sym, ap, ◌∙◌, arith, []}
 use Rattle.std.specs.List.{slice_get}
 use Rattle.std.proofs.lemmas.Result.{on_ok_weaker}
 use Rattle.cb_world.proofs.Laws.{fits_on_least}
+use Rattle.cb_evict.specs.Loading.{pages_at}
 use Rattle.cb_evict.specs.ShipRule.{other_puts}
 use Rattle.cb_evict.proofs.WhichWait.{least_waits}
-use Rattle.cb_evict.proofs.ShipParts.{puts_parity, span_within, contains_at, past_end, few_positions}
+use Rattle.cb_evict.proofs.ShipParts.{puts_parity, contains_at, past_end, few_positions}
 use Rattle.cb_evict.proofs.shipping.ship_row.Goals as goal
 
-pub ship_data-requires-clause-frame : goal.ship_data-requires-clause-frame
-ship_data-requires-clause-frame g c =
-    let x = c.requires.next in
-    let at : slice_get x.0.frames c.args.position ≡ Some c.in-Some.frame =
-    sym (c.frame_at.ensures x.0 x.1) ∙ c.in-Some.is in
-    let n = c.requires.sound.1.noted x.0 x.1 in
-    let h = n.held c.in-Some.frame (contains_at x.0.frames c.args.position c.in-Some.frame at) in
-    omega (
-      arith,
-      span_within c.args.far.now.spans c.in-Some.frame h.0 h.1,
-      c.requires.configured.frames,
-    )
+pub ship_data-requires-clause-frames : goal.ship_data-requires-clause-frames
+ship_data-requires-clause-frames g c = λ batch there.
+    let at : slice_get batch.frames c.args.position ≡ Some c.in-Some.frame =
+    sym (c.frame_at.ensures batch there) ∙ c.in-Some.is in
+    let sound = c.requires.sound.1 in
+    let h = (sound.noted batch there).held c.in-Some.frame
+    (contains_at batch.frames c.args.position c.in-Some.frame at) in
+    let within = sound.here.frames.within c.in-Some.frame h.0 h.1 in
+    omega (arith, within, h.2, c.requires.configured.frames)
+
+pub ship_data-requires-clause-spans : goal.ship_data-requires-clause-spans
+ship_data-requires-clause-spans g c = λ batch there.
+    let at : slice_get batch.frames c.args.position ≡ Some c.in-Some.frame =
+    sym (c.frame_at.ensures batch there) ∙ c.in-Some.is in
+    let h = (c.requires.sound.1.noted batch there).held c.in-Some.frame
+    (contains_at batch.frames c.args.position c.in-Some.frame at) in ap pages_at h.1 ∙ h.2
 
 pub ship_parity-requires-clause-there : goal.ship_parity-requires-clause-there
 ship_parity-requires-clause-there g c =

@@ -104,8 +104,8 @@ returns-clause-taken g c =
       enough = omega (arith, more, count);
       first = sym (take_at frames x.rest c.args.far.now.code.k count);
       room = c.requires.room;
-      taken = are_taken c.args.far.now c.args.loose.now _ _ _ _ c.in_force-code.result.k x
-          c.requires.among count;
+      taken = are_taken c.requires.sound.0 c.args.far.now c.args.loose.now _ _ _ _
+          c.in_force-code.result.k c.requires.sound.2.here x c.requires.among count;
     }
 
 pub returns-in_err-frames-clause-taken : goal.returns-in_err-frames-clause-taken

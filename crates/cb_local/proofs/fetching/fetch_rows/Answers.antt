@@ -41,9 +41,13 @@ give_rows-requires-clause-there c =
     let ta = ap (λ (p : JoiningState). p.taken) (sym c.pair.view_is)
     ∙ sym c.deref-2.ensures.value in
     let w = can.words in (
-      w.0,
-      stand_along nodes pair.shards_a c.deref.result.now w.0 pair.taken c.deref-2.result.now sa ta
-          (a_stand nodes pair c.args.order.now can w.0 w.1 w.2),
+      can.pages,
+      can.blank.old_wide,
+      (
+        w.0,
+        stand_along nodes pair.shards_a c.deref.result.now w.0 pair.taken c.deref-2.result.now sa ta
+            (a_stand nodes pair c.args.order.now can can.pages w.0 w.1 w.2),
+      ),
     )
 
 pub give_rows-requires-2-clause-given : goal.give_rows-requires-2-clause-given
@@ -83,11 +87,16 @@ give_rows-requires-2-clause-there c =
     let ta = ap (λ (p : JoiningState). p.taken) (sym c.pair.view_is)
     ∙ sym c.deref-4.ensures.value in
     let w = can.words in (
-      w.1,
-      stand_along c.give_rows.new.nodes pair.shards_b c.deref-3.result.now w.1 pair.taken
-          c.deref-4.result.now sb ta
-          (stand_given nodes c.give_rows.new.nodes pair.shards_b w.1 pair.taken _
-          c.give_rows.ensures.nodes (b_stand nodes pair c.args.order.now can w.0 w.1 w.2)),
+      can.pages,
+      can.blank.new_wide,
+      (
+        w.1,
+        stand_along c.give_rows.new.nodes pair.shards_b c.deref-3.result.now w.1 pair.taken
+            c.deref-4.result.now sb ta
+            (stand_given nodes c.give_rows.new.nodes pair.shards_b w.1 pair.taken _
+            c.give_rows.ensures.nodes
+            (b_stand nodes pair c.args.order.now can can.pages w.0 w.1 w.2)),
+      ),
     )
 
 pub give_rows-requires-3-clause-given : goal.give_rows-requires-3-clause-given
@@ -117,16 +126,20 @@ give_rows-requires-3-clause-there c =
     let sa = ap (λ (p : JoiningState). p.shards_a) (sym c.pair.view_is)
     ∙ sym c.deref-5.ensures.value in
     let w = can.words in (
-      w.0,
-      stand_along c.give_rows-2.new.nodes pair.shards_a c.deref-5.result.now w.0 places places sa
-          refl
-          (stand_given c.give_rows.new.nodes c.give_rows-2.new.nodes pair.shards_a w.0 places _
-          c.give_rows-2.ensures.nodes
-          (stand_given nodes c.give_rows.new.nodes pair.shards_a w.0 places _
-          c.give_rows.ensures.nodes
-          (parity_stand nodes pair order can places size
-          (λ e l. get_or-take order.r c.parity_positions-parities.result e 0 l
-          ∙ c.parity_positions-parities.ensures.positions e l) w.0 w.1 w.2))),
+      can.pages,
+      can.blank.parities_wide,
+      (
+        w.0,
+        stand_along c.give_rows-2.new.nodes pair.shards_a c.deref-5.result.now w.0 places places sa
+            refl
+            (stand_given c.give_rows.new.nodes c.give_rows-2.new.nodes pair.shards_a w.0 places _
+            c.give_rows-2.ensures.nodes
+            (stand_given nodes c.give_rows.new.nodes pair.shards_a w.0 places _
+            c.give_rows.ensures.nodes
+            (parity_stand nodes pair order can places size
+            (λ e l. get_or-take order.r c.parity_positions-parities.result e 0 l
+            ∙ c.parity_positions-parities.ensures.positions e l) can.pages w.0 w.1 w.2))),
+      ),
     )
 
 pub returns-clause-rows : goal.returns-clause-rows
@@ -156,18 +169,20 @@ returns-clause-rows c =
     c.give_rows-2.new.table c.give_rows-3.new.table
     (c.give_rows.ensures.count ∙ sym (ap length ta))
     (c.give_rows-2.ensures.count ∙ sym (ap length tb)) c.give_rows-3.ensures.count
-    c.give_rows.ensures.lengths c.give_rows-2.ensures.lengths c.give_rows-3.ensures.lengths
-    (λ wa wb x i l. c.give_rows.ensures.rows wa
+    (c.give_rows.ensures.lengths can.pages can.blank.old_wide)
+    (c.give_rows-2.ensures.lengths can.pages can.blank.new_wide)
+    (c.give_rows-3.ensures.lengths can.pages can.blank.parities_wide)
+    (λ n wa wb x i l. c.give_rows.ensures.rows n wa
     (stand_along nodes pair.shards_a c.deref.result.now wa pair.taken c.deref-2.result.now sa ta
-    (a_stand nodes pair order can wa wb x)) i (let e = ap length ta in omega (arith, l, e))
+    (a_stand nodes pair order can n wa wb x)) i (let e = ap length ta in omega (arith, l, e))
     ∙ ap (λ (t : List ℕ). row_at wa (get_or t i 0)) (sym ta))
-    (λ wa wb x i l. c.give_rows-2.ensures.rows wb
+    (λ n wa wb x i l. c.give_rows-2.ensures.rows n wb
     (stand_along first pair.shards_b c.deref-3.result.now wb pair.taken c.deref-4.result.now sb tb
     (stand_given nodes first pair.shards_b wb pair.taken _ c.give_rows.ensures.nodes
-    (b_stand nodes pair order can wa wb x))) i (let e = ap length tb in omega (arith, l, e))
+    (b_stand nodes pair order can n wa wb x))) i (let e = ap length tb in omega (arith, l, e))
     ∙ ap (λ (t : List ℕ). row_at wb (get_or t i 0)) (sym tb))
-    (λ wa wb x i l. c.give_rows-3.ensures.rows wa
+    (λ n wa wb x i l. c.give_rows-3.ensures.rows n wa
     (stand_along second pair.shards_a c.deref-5.result.now wa places places sp refl
     (stand_given first second pair.shards_a wa places _ c.give_rows-2.ensures.nodes
     (stand_given nodes first pair.shards_a wa places _ c.give_rows.ensures.nodes
-    (parity_stand nodes pair order can places size are wa wb x)))) i l)
+    (parity_stand nodes pair order can places size are n wa wb x)))) i l)

@@ -16,15 +16,17 @@ loop-i-preserved c =
     let inv = c.loop-i.invariant in
     let within = c.loop-i-test.true in
     let at = slice_get-get_or shards p none_here (c.requires.within i 0 within) in
-    let row = λ (rows : List (List ℕ)) (stand : StandAt old shards rows positions).
-    row_stands old now shards positions i p (get_or shards p none_here) rows inv.nodes stand within
+    let row = λ (n : ℕ) (rows : List (List ℕ)) (stand : StandAt n old shards rows positions).
+    row_stands n old now shards positions i p (get_or shards p none_here) rows inv.nodes stand within
     refl at in
-    let into = λ (rows : List (List ℕ)) (stand : StandAt old shards rows positions).
-    subst (λ (o : Option (List ℕ)). IfSome o (λ r. c.give_row.new.into ≡ r)) (row rows stand).0
+    let into = λ (n : ℕ) (rows : List (List ℕ)) (stand : StandAt n old shards rows positions).
+    subst (λ (o : Option (List ℕ)). IfSome o (λ r. c.give_row.new.into ≡ r)) (row n rows stand).0
     c.give_row.ensures.row in
-    let mine = row c.requires.there.0 c.requires.there.1 in
-    one_given old now c.give_row.new.self shards positions c.loop-i.table i c.give_row.new.into inv
-    within (ap length (into c.requires.there.0 c.requires.there.1) ∙ mine.1)
+    let pages = c.requires.there.0 in let sized = c.requires.there.1 in
+    let word = c.requires.there.2 in
+    let mine = row pages word.0 word.1 in
+    one_given old now c.give_row.new.self shards positions c.args.table.now c.loop-i.table i pages
+    c.give_row.new.into inv sized within (ap length (into pages word.0 word.1) ∙ mine.1)
     (c.give_row.ensures.given
     ∙ ap (λ (b : Bool). record now { given = now.given + (if b then 1 else 0) })
     (c.give_row.ensures.there ∙ ap is_some mine.0))

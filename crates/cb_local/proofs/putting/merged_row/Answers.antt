@@ -7,7 +7,7 @@ use Rattle.cb_local.proofs.PutStep.{parity_row}
 use Rattle.cb_local.proofs.putting.merged_row.Goals as goal
 
 pub returns-in-None : goal.returns-in-None
-returns-in-None c wa wb m x merged =
+returns-in-None c pages wa wb m x merged =
     let order = c.args.done.now.order in let p = c.args.position in
     let none = ap (λ (l : List ℕ). takes l p)
     (sym (c.as_slice.ensures.items ∙ ap (λ (o : DeltaOrder). o.taken) c.order-order.ensures))
@@ -21,4 +21,4 @@ returns-in-None c wa wb m x merged =
     (c.row-in-None.ensures.value
     ∙ ap (λ (t : List (List ℕ)). row_at t (p - c.order-order.result.now.k))
     c.parities.ensures.rows ∙ ap (λ (o : DeltaOrder). row_at c.args.done.now.parities (p - o.k))
-    c.order-order.ensures) wa wb m x merged
+    c.order-order.ensures) pages wa wb m x merged

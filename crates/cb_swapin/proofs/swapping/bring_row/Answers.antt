@@ -1,4 +1,4 @@
-use Rattle.std.proofs.Common.{◌≡◌, ℕ, ◌<◌, List, Option, false, true, length, refl, sym, ap, ◌∙◌, subst}
+use Rattle.std.proofs.Common.{◌≡◌, ℕ, ◌*◌, ◌<◌, List, Option, false, true, length, refl, sym, ap, ◌∙◌, subst}
 use Rattle.std.specs.List.{slice_get}
 use Rattle.cb_gf256.specs.Rows.{row_at}
 use Rattle.cb_node.specs.NodesState.{has, known_row}
@@ -89,6 +89,7 @@ bring_span-requires-clause-row g c =
     (subst (λ (y : SetState). IsWordOf far.nodes far.members y w.0) (sym same) w.1.word))))
     ∙ (word_is_wide far.nodes far.members set c.args.position w.0 w.1.word
     (live_within set c.args.position live.2)).1
+    ∙ ap (λ (n : ℕ). 4096 * n) (sym (c.requires.span set live.1).pages)
 
 pub bring_span-requires-clause-waiting : goal.bring_span-requires-clause-waiting
 bring_span-requires-clause-waiting g c =
@@ -112,6 +113,7 @@ bring_span-requires-clause-waiting g c =
             fetched = record {
               valid = x.valid;
               hot = x.hot;
+              pages = x.pages;
               slots = x.slots;
               row_of = λ rows word. c.row.ensures.value
                   ∙ sym (ap (λ (l : List (List ℕ)). row_at l c.args.position)
@@ -151,6 +153,7 @@ bring_span-requires-else-is_lost-clause-row g c =
     (ap (λ (y : SetState). slice_get y.shards c.args.position) (sym same) ∙ c.shard-shard.ensures)
     (ap (λ (q : FarState). is_lost q.members shard) (sym c.far.view_is)
     ∙ sym c.is_lost.ensures ∙ c.if-is_lost.false) (live_within set c.args.position live.2)
+    ∙ ap (λ (n : ℕ). 4096 * n) (sym (c.requires.span set live.1).pages)
 
 pub bring_span-requires-else-is_lost-clause-waiting :
     goal.bring_span-requires-else-is_lost-clause-waiting
@@ -175,6 +178,7 @@ bring_span-requires-else-is_lost-clause-waiting g c =
             fetched = record {
               valid = x.valid;
               hot = x.hot;
+              pages = x.pages;
               slots = x.slots;
               row_of = λ rows word. c.lend_row-row.ensures.row
                   ∙ ap (λ (q : FarState). known_row q.nodes shard.node shard.key) c.far.view_is
@@ -197,6 +201,7 @@ returns-in_ok-rows-clause-row g c = λ set there.
       fetched = record {
         valid = x.valid;
         hot = x.hot;
+        pages = x.pages;
         slots = x.slots;
         row_of = λ rows word. c.row.ensures.value
             ∙ sym (ap (λ (l : List (List ℕ)). row_at l c.args.position)
@@ -229,6 +234,7 @@ returns-else-is_lost-clause-row g c = λ set there.
       fetched = record {
         valid = x.valid;
         hot = x.hot;
+        pages = x.pages;
         slots = x.slots;
         row_of = λ rows word. c.lend_row-row.ensures.row
             ∙ ap (λ (q : FarState). known_row q.nodes shard.node shard.key) c.far.view_is

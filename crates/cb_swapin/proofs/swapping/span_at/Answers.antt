@@ -28,7 +28,8 @@ unwrap-class-requires c =
     found_set c.committed.result c.unwrap-set.result _ set c.committed.ensures c.unwrap-set.ensures
     (ap (λ (q : FarState). set_in q.sets c.args.id.n) c.far.view_is ∙ live.1) in
     let x = live_position c.requires.sound.0 far c.args.id.n p set c.requires.sound.1 live.1 live.2 in
-    class_found c.class_with_slots.result (length c.slots-slots.result.now)
-    c.class_with_slots.ensures.none x.class x.in_table
+    class_found c.class_of_span.result c.pages.result (length c.slots-slots.result.now)
+    c.class_of_span.ensures.none x.class x.in_table
+    (c.pages.ensures ∙ ap (λ (q : SetState). q.pages) same ∙ x.paged)
     (ap length c.slots-slots.ensures
     ∙ ap (λ (q : SetState). length (position_of q p).slots) same ∙ x.sized)

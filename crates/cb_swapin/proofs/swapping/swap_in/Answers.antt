@@ -1,6 +1,8 @@
 use Rattle.std.proofs.Common.{◌≡◌, ℕ, ◌+◌, ◌<◌, ◌≤◌, List, [], Option, None, Some, length, refl, sym, ap, ◌∙◌, subst, arith}
-use Rattle.cb_frame.specs.FreeFrames.{least_free}
-use Rattle.cb_set.specs.SetState.{SetState, dead_position, with_position}
+use Rattle.cb_class.specs.Class.{pages_of}
+use Rattle.cb_class.proofs.Laws.{pages_some}
+use Rattle.cb_frame.specs.Runs.{least_run}
+use Rattle.cb_set.specs.SetState.{SetState, dead_position, position_of, with_position}
 use Rattle.cb_set.specs.Lost.{NodesAreMembers}
 use Rattle.cb_world.specs.declared.shown.Shown.{Shown}
 use Rattle.cb_world.specs.Fetched.{rows_needed}
@@ -13,7 +15,7 @@ use Rattle.cb_swapin.specs.Brings.{BringsSlots}
 use Rattle.cb_swapin.specs.Fetching.{far_given}
 use Rattle.cb_world.proofs.Laws.{are_members}
 use Rattle.cb_swapin.proofs.Committed.{live_within}
-use Rattle.cb_swapin.proofs.Waits.{CanArrive, free_frame, waiting}
+use Rattle.cb_swapin.proofs.Waits.{CanArrive, free_run, waiting}
 use Rattle.cb_swapin.proofs.SwapSound.{sound_arrived, there_of}
 use Rattle.cb_swapin.proofs.Swapped.{by_frame, has_arrived, is_whole, swapped_in, swapped_to, unavailable, with_arrived}
 use Rattle.cb_swapin.proofs.RowGiven.{any_err}
@@ -37,13 +39,14 @@ returns-in-Some-clause-swap g c =
       effect = λ s k. refl;
     }
 
-pub returns-in_default-least-clause-swap : goal.returns-in_default-least-clause-swap
-returns-in_default-least-clause-swap g c =
+pub returns-in_default-least_run-clause-swap : goal.returns-in_default-least_run-clause-swap
+returns-in_default-least_run-clause-swap g c =
     let far = c.args.far.now in let live = c.requires.live in let set = live.0 in
     let whole = is_whole far set (sym (c.in_ok-lost.ensures set live.1) ∙ c.in_default.is) in
-    let least : least_free far.frames ≡ None =
-    sym (ap least_free (c.free_set.ensures ∙ ap (λ (q : FarState). q.frames) c.far.view_is))
-    ∙ sym c.least.ensures.least ∙ c.in_default-least.is in record {
+    let least : least_run far.frames set.pages ≡ None =
+    sym (ap (λ (q : FarState). least_run q.frames c.set_pages-pages.result) c.far.view_is
+    ∙ ap (least_run far.frames) (c.set_pages-pages.ensures.pages set live.1))
+    ∙ sym c.least_run.ensures.least ∙ c.in_default-least_run.is in record {
       events = [];
       ran = g.met.D.Desk.none _;
       looks_first = tt;
@@ -60,8 +63,25 @@ returns-in_default-least-clause-swap g c =
 
 pub bring_row-requires-clause-least : goal.bring_row-requires-clause-least
 bring_row-requires-clause-least g c =
-    sym (ap least_free (c.free_set.ensures ∙ ap (λ (q : FarState). q.frames) c.far.view_is))
-    ∙ sym c.least.ensures.least ∙ c.in-Some-least.is
+    let far = c.args.far.now in let live = c.requires.live in let set = live.0 in
+    ap (least_run far.frames) (c.in_ok-span.ensures set live.1).pages
+    ∙ sym (ap (λ (q : FarState). least_run q.frames c.set_pages-pages.result) c.far.view_is
+    ∙ ap (least_run far.frames) (c.set_pages-pages.ensures.pages set live.1))
+    ∙ sym c.least_run.ensures.least ∙ c.in-Some-least_run.is
+
+pub bring_row-requires-clause-frames : goal.bring_row-requires-clause-frames
+bring_row-requires-clause-frames g c =
+    let far = c.args.far.now in let live = c.requires.live in let set = live.0 in
+    let had = c.requires.sound in let span = c.in_ok-span.span in
+    let x = c.in_ok-span.ensures set live.1 in
+    let least : least_run far.frames (pages_of span.class) ≡ Some c.in-Some-least_run.frame =
+    ap (least_run far.frames) x.pages
+    ∙ sym (ap (λ (q : FarState). least_run q.frames c.set_pages-pages.result) c.far.view_is
+    ∙ ap (least_run far.frames) (c.set_pages-pages.ensures.pages set live.1))
+    ∙ sym c.least_run.ensures.least ∙ c.in-Some-least_run.is in
+    let room = free_run far c.in-Some-least_run.frame (pages_of span.class) had.2.here.frames
+    (pages_some span.class x.valid.in_table) least in
+    omega (arith, room.stands.within, had.2.here.placed.memory, (g.met.D.Desk.sized _ had.0 had.1).3)
 
 pub bring_row-requires-clause-live : goal.bring_row-requires-clause-live
 bring_row-requires-clause-live g c =
@@ -77,23 +97,30 @@ bring_row-requires-clause-span g c = λ set there. c.in_ok-span.ensures set ther
 
 pub keep_span-requires-clause-frame : goal.keep_span-requires-clause-frame
 keep_span-requires-clause-frame g c =
-    let live = c.requires.live in
-    let least : least_free c.args.far.now.frames ≡ Some c.in-Some-least.frame =
-    sym (ap least_free (c.free_set.ensures ∙ ap (λ (q : FarState). q.frames) c.far.view_is))
-    ∙ sym c.least.ensures.least ∙ c.in-Some-least.is in
-    ap (λ (q : FarState). least_free q.frames) (c.in_ok-bring_row.ensures.row live.0 live.1).state
-    ∙ least
+    let far = c.args.far.now in let live = c.requires.live in let set = live.0 in
+    let span = c.in_ok-span.span in
+    ap (λ (q : FarState). least_run q.frames (pages_of span.class))
+    (c.in_ok-bring_row.ensures.row set live.1).state
+    ∙ ap (least_run far.frames) (c.in_ok-span.ensures set live.1).pages
+    ∙ sym (ap (λ (q : FarState). least_run q.frames c.set_pages-pages.result) c.far.view_is
+    ∙ ap (least_run far.frames) (c.set_pages-pages.ensures.pages set live.1))
+    ∙ sym c.least_run.ensures.least ∙ c.in-Some-least_run.is
 
 pub keep_span-requires-clause-within : goal.keep_span-requires-clause-within
 keep_span-requires-clause-within g c =
     let far = c.args.far.now in let live = c.requires.live in let had = c.requires.sound in
-    let f = c.in-Some-least.frame in
-    let least : least_free far.frames ≡ Some f =
-    sym (ap least_free (c.free_set.ensures ∙ ap (λ (q : FarState). q.frames) c.far.view_is))
-    ∙ sym c.least.ensures.least ∙ c.in-Some-least.is in
+    let f = c.in-Some-least_run.frame in let set = live.0 in let span = c.in_ok-span.span in
+    let x = c.in_ok-span.ensures set live.1 in
+    let least : least_run far.frames (pages_of span.class) ≡ Some f =
+    ap (least_run far.frames) x.pages
+    ∙ sym (ap (λ (q : FarState). least_run q.frames c.set_pages-pages.result) c.far.view_is
+    ∙ ap (least_run far.frames) (c.set_pages-pages.ensures.pages set live.1))
+    ∙ sym c.least_run.ensures.least ∙ c.in-Some-least_run.is in
+    let some = pages_some span.class x.valid.in_table in
+    let room = free_run far f (pages_of span.class) had.2.here.frames some least in
     subst (λ (q : FarState). f < length q.spans)
     (sym (c.in_ok-bring_row.ensures.row live.0 live.1).state)
-    (free_frame had.0 far f had.2.here least).0
+    (omega (arith, some, room.stands.within))
 
 pub keep_span-requires-clause-set : goal.keep_span-requires-clause-set
 keep_span-requires-clause-set g c =
@@ -120,14 +147,15 @@ returns-in_err-span-clause-far g c =
 pub returns-clause-swap : goal.returns-clause-swap
 returns-clause-swap g c =
     let far = c.args.far.now in let live = c.requires.live in let set = live.0 in
-    let id = c.args.id.n in let p = c.args.position in let f = c.in-Some-least.frame in
+    let id = c.args.id.n in let p = c.args.position in let f = c.in-Some-least_run.frame in
     let span = c.in_ok-span.span in
     let x = c.in_ok-bring_row.ensures.row set live.1 in let row = x.row in
     let n = rows_needed far.members set p in
     let whole = is_whole far set (sym (c.in_ok-lost.ensures set live.1) ∙ c.in_default.is) in
-    let least : least_free far.frames ≡ Some f =
-    sym (ap least_free (c.free_set.ensures ∙ ap (λ (q : FarState). q.frames) c.far.view_is))
-    ∙ sym c.least.ensures.least ∙ c.in-Some-least.is in
+    let least : least_run far.frames set.pages ≡ Some f =
+    sym (ap (λ (q : FarState). least_run q.frames c.set_pages-pages.result) c.far.view_is
+    ∙ ap (least_run far.frames) (c.set_pages-pages.ensures.pages set live.1))
+    ∙ sym c.least_run.ensures.least ∙ c.in-Some-least_run.is in
     let fetched = x.fetched in
     let homes = c.bring_row.new.far.homes in
     let new = c.keep_span.new.far in
@@ -144,7 +172,7 @@ returns-clause-swap g c =
       there = live.1;
       live = live.2;
       whole = whole;
-      least = least;
+      least = ap (least_run far.frames) fetched.pages ∙ least;
       flags = sized.1 ∙ sym sized.0;
       fetched = fetched;
     } in x in
@@ -162,7 +190,9 @@ returns-clause-swap g c =
         reply = by_frame far id set (Some f) whole least;
         state = (
           swapped_to far new homes id p set f span row fetched left whole cleared,
-          subst (λ (l : List (Option ℕ)). BringsSlots l f b.events) fetched.slots b.tells,
+          subst (λ (n : ℕ). BringsSlots (position_of set p).slots f n b.events) fetched.pages
+              (subst (λ (l : List (Option ℕ)). BringsSlots l f (pages_of span.class) b.events)
+              fetched.slots b.tells),
         );
       };
       allowed = λ s k. b.allowed s (k.0, knows s k.0 k.1);

@@ -7,7 +7,7 @@ use Rattle.cb_world.proofs.fetching.give_rows.Goals as goal
 
 pub loop-position-preserved : goal.loop-position-preserved
 loop-position-preserved c =
-    let old = c.args.nodes.now in let now = c.loop-position.nodes in let shards =
+    let pages = c.args.set.now.pages in let old = c.args.nodes.now in let now = c.loop-position.nodes in let shards =
     c.args.set.now.shards in let positions = c.args.positions.now in
     let i = c.loop-position.position-index in let p = c.from-in-loop-position.result in let shard =
     c.shard-shard.result in
@@ -15,15 +15,15 @@ loop-position-preserved c =
     let within = c.loop-position-test.true in
     let at = ap (λ (n : ℕ). slice_get shards n) (c.from-in-loop-position.ensures
     ∙ sym c.from.ensures) ∙ c.shard-shard.ensures in
-    let row = λ (rows : List (List ℕ)) (stand : StandAt old shards rows positions).
-    stand_row old now shards positions i p shard rows inv.nodes stand within
+    let row = λ (rows : List (List ℕ)) (stand : StandAt pages old shards rows positions).
+    stand_row pages old now shards positions i p shard rows inv.nodes stand within
     c.from-in-loop-position.ensures at in
     let mine = row c.requires.there.0 c.requires.there.1 in
     let into =
-    λ (rows : List (List ℕ)) (stand : StandAt old shards rows positions).
+    λ (rows : List (List ℕ)) (stand : StandAt pages old shards rows positions).
     subst (λ (o : Option (List ℕ)).
     IfSome o (λ r. c.give_row.new.into ≡ r)) (row rows stand).0 c.give_row.ensures.row in
-    given_more old now c.give_row.new.self shards positions c.args.table.now c.loop-position.table i
+    given_more pages old now c.give_row.new.self shards positions c.args.table.now c.loop-position.table i
     p c.give_row.new.into inv within c.from-in-loop-position.ensures
     (subst (λ (n : ℕ).
     n < length c.args.table.now) (sym c.from-in-loop-position.ensures)

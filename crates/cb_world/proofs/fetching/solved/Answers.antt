@@ -1,4 +1,4 @@
-use Rattle.std.proofs.Common.{◌≡◌, ℕ, ◌+◌, ◌<◌, List, length, take, replicate, get_or, refl, sym, ap, ◌∙◌, subst, arith}
+use Rattle.std.proofs.Common.{◌≡◌, ℕ, ◌+◌, ◌*◌, ◌<◌, List, length, take, replicate, get_or, refl, sym, ap, ◌∙◌, subst, arith}
 use Rattle.std.proofs.lemmas.List.{length-replicate}
 use Rattle.std.proofs.lemmas.Option.{slice_get-get_or}
 use Rattle.cb_gf256.specs.Positions.{ArePositions}
@@ -31,7 +31,7 @@ give_rows-requires-clause-below c i d l =
     → get_or q i d < length set.shards) (sym e) (a.below i d) l in
     let t : length c.in-Ok.table ≡ c.k-k.result + c.r-r.result =
     ap (λ (t : List (List ℕ)). length t) c.in-Ok.ensures
-    ∙ length-replicate (c.k-k.result + c.r-r.result) (replicate 4096 0) in
+    ∙ length-replicate (c.k-k.result + c.r-r.result) (replicate (4096 * c.pages.result) 0) in
     omega (arith, b, t, n)
 
 pub give_rows-requires-clause-there : goal.give_rows-requires-clause-there
@@ -41,7 +41,7 @@ give_rows-requires-clause-there c =
     ∙ first_survivors m set c.survivors-present.result c.requires.shaped c.requires.few
     c.survivors-present.ensures.positions in (
       c.requires.word.0,
-      subst (StandAt c.args.nodes.now set.shards c.requires.word.0) (sym e)
+      subst (StandAt set.pages c.args.nodes.now set.shards c.requires.word.0) (sym e)
           (survivors_stand c.args.nodes.now m set c.requires.word.0 (length set.positions)
           c.requires.shaped c.requires.counted c.requires.word.1),
     )
@@ -68,8 +68,8 @@ returns-in-Ok-solve-clause-rows c rows word =
     let e = ap (λ (k : ℕ). take k c.survivors-present.result) c.k-k.ensures.count
     ∙ first_survivors m set c.survivors-present.result c.requires.shaped c.requires.few
     c.survivors-present.ensures.positions in
-    let stand : StandAt c.args.nodes.now set.shards rows positions =
-    subst (StandAt c.args.nodes.now set.shards rows) (sym e)
+    let stand : StandAt set.pages c.args.nodes.now set.shards rows positions =
+    subst (StandAt set.pages c.args.nodes.now set.shards rows) (sym e)
     (survivors_stand c.args.nodes.now m set rows (length set.positions) c.requires.shaped
     c.requires.counted word) in
     let s = word_is_solution c.args.nodes.now m set rows c.give_rows.new.table positions word

@@ -1,8 +1,21 @@
-use Rattle.std.proofs.Common.{List, Option, Some, refl, sym, ap, ◌∙◌, set}
+use Rattle.std.proofs.Common.{List, Option, Some, refl, sym, ap, ◌∙◌, arith, set}
+use Rattle.cb_class.specs.declared.class.Class.{Class}
+use Rattle.cb_class.specs.Class.{pages_of}
 use Rattle.cb_span.specs.Contents.{Contents, with_placed}
 use Rattle.cb_world.specs.FarState.{FarState, span_in}
 use Rattle.cb_world.proofs.Slots.{placed_in_span, room_is}
 use Rattle.cb_world.proofs.placing.place_object.Goals as goal
+
+pub slot_place-requires-clause-frame : goal.slot_place-requires-clause-frame
+slot_place-requires-clause-frame c =
+    let p = c.in-Some-place.ensures.placed c.in-Some-place.slot refl in
+    let f = c.in-Some.frame in
+    let there = sym (ap (λ (far : FarState). span_in far.spans f) c.far.view_is) ∙ p.1 in
+    let x = room_is c.args.far.now c.args.class c.args.temp f c.in-Some-place.slot p.0
+    c.in-Some.ensures.found there p.2 in
+    let run = c.requires.frames.within f p.0 there in
+    let many = ap (λ (k : Class). pages_of k) x.of_class in
+    omega (arith, run, many, c.requires.frames.sized, c.requires.numbered)
 
 pub returns-clause-placed : goal.returns-clause-placed
 returns-clause-placed c =

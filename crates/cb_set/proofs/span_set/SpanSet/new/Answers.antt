@@ -4,10 +4,10 @@ use Rattle.cb_member.specs.declared.names.Shard.{Shard}
 use Rattle.cb_set.specs.SetState.{IsSet, PositionState, dead_position, set_of}
 use Rattle.cb_set.proofs.span_set.SpanSet.new.Goals as goal
 
-is_set : (id k n : ℕ) (old shards : List Shard) (positions : List PositionState) → shards ≡ old
+is_set : (id k pages n : ℕ) (old shards : List Shard) (positions : List PositionState) → shards ≡ old
     → positions ≡ replicate n dead_position → n ≤ k → k ≤ length old → length old < 2 ^ 32
-    → IsSet (set_of id shards positions)
-is_set id k n old shards positions same dead low some few =
+    → IsSet (set_of id pages shards positions)
+is_set id k pages n old shards positions same dead low some few =
     let count : length positions ≡ n = ap length dead ∙ length-replicate n dead_position in
     let shard_count : length shards ≡ length old = ap length same in
     record {
@@ -24,8 +24,8 @@ loop-preserved c =
 
 pub invariant_of-result : goal.invariant_of-result
 invariant_of-result c =
-    is_set c.args.id c.args.k c.loop.counter c.args.shards.now c.in_ok-shards.shards.items
-    c.loop.positions.items c.in_ok-shards.ensures.items c.loop.invariant c.loop.auto.counter-end
+    is_set c.args.id c.args.k c.args.pages c.loop.counter c.args.shards.now
+    c.in_ok-shards.shards.items c.loop.positions.items c.in_ok-shards.ensures.items c.loop.invariant c.loop.auto.counter-end
     (omega (arith, c.requires)) (omega (arith, c.if-shards.false))
 
 pub returns-clause-fresh : goal.returns-clause-fresh
@@ -34,10 +34,10 @@ returns-clause-fresh c =
     omega (arith, c.loop.auto.counter-end, c.loop-test.false) in
     let dead : c.loop.positions.items ≡ replicate c.args.k dead_position =
     c.loop.invariant ∙ ap (λ (n : ℕ). replicate n dead_position) all in
-    λ i. set_of c.args.id (c.in_ok-shards.ensures.items i) (dead i)
+    λ i. set_of c.args.id c.args.pages (c.in_ok-shards.ensures.items i) (dead i)
 
 pub returns-clause-valid : goal.returns-clause-valid
 returns-clause-valid c =
-    is_set c.args.id c.args.k c.loop.counter c.args.shards.now c.in_ok-shards.shards.items
-    c.loop.positions.items c.in_ok-shards.ensures.items c.loop.invariant c.loop.auto.counter-end
+    is_set c.args.id c.args.k c.args.pages c.loop.counter c.args.shards.now
+    c.in_ok-shards.shards.items c.loop.positions.items c.in_ok-shards.ensures.items c.loop.invariant c.loop.auto.counter-end
     (omega (arith, c.requires)) (omega (arith, c.if-shards.false))

@@ -1,4 +1,4 @@
-use Rattle.std.proofs.Common.{ℕ, ◌*◌, List, length, ◌∙◌, ap, arith}
+use Rattle.std.proofs.Common.{ℕ, ◌*◌, ◌/◌, List, length, ◌∙◌, ap, arith}
 use Rattle.cb_world.specs.LocalMemory.{padded}
 use Rattle.cb_world.specs.Memory.{put}
 use Rattle.cb_world.specs.RowWords.{words_in}
@@ -20,6 +20,6 @@ returns c = let ws = c.reach.new.front.items in let r = c.reach.ensures in let c
     let reached = r.reached in let len = c.reach.new.front.ok.0 in
     let first = 512 * c.args.frame in let words = words_in c.args.row.now in
     ap (λ (l : List ℕ). padded l count) c.put_words.ensures.words
-    ∙ padded_put ws count first words (let w = length_words 512 c.args.row.now in omega
-    (arith, w, reached, len))
+    ∙ padded_put ws count first words (let w = length_words (length c.args.row.now / 8) c.args.row.now in omega
+    (arith, w, c.requires.row, reached, len))
     ∙ ap (λ (l : List ℕ). put l first words) (r.words ∙ c.self.view_is)
