@@ -1,7 +1,7 @@
 -- What the parts of a job leave as it was at the still desk: the configuration, the members, the first
 -- version and the count of turns; and, but for the steps of a batch, the batch that is leaving and the
 -- pair that is joining.
-use Rattle.std.proofs.Common.{◌≡◌, ◌⊎◌, ℕ, List, Option, refl, ap, ◌∙◌, arith, inl, inr}
+use Rattle.std.proofs.Common.{◌≡◌, ◌⊎◌, ℕ, ◌+◌, ◌*◌, List, Option, refl, ap, ◌∙◌, arith, inl, inr}
 use Rattle.cb_member.specs.Membership.{Membership}
 use Rattle.cb_ptr.specs.declared.word.State.{State}
 use Rattle.cb_ptr.specs.declared.word.State.TheVariants as state
@@ -58,9 +58,8 @@ pub room_same : {X : Type 0} (what : Holding Words → X) (n left : ℕ)
     (V : Holding Words → Eviction → Holding Words → Type 0) → LeavesSame what P → LeavesSame what V
     → LeavesSame what (WithRoom n P V left)
 room_same what n left P V p v a b r x = (with_room itself Anywhere (LeftAs what) (along what) n 0 0
-    P P V
-    V (λ a b r good x. (p a b r x, x)) (λ a b e good x. (v a b e x, x)) left 0 (omega arith) a b r
-    tt x).0
+    P P V V (λ a b r good x. (p a b r x, x)) (λ a b e good x. (v a b e x, x)) left
+    (0 + left * (0 + 0) + 0) (omega arith) a b r tt x).0
 
 -- ---- what lasts
 abbrev pub Steady : Type 0

@@ -197,8 +197,8 @@ module _ (w new : WorldState) (seat : ℕ) (j : Job) (alone : NoOtherHolds w.sea
     (few : w.far.counts.turns < 2 ^ 40) (seats : new.seats ≡ w.seats) where
   -- the world at a holding, where as many turns were counted as before, and where one more was
   abbrev counted_as : Job → Holding Words → Holding Words
-  counted_as other n = let counts = (counted w.far other).counts in held_as counts.turns
-      counts.by_job n
+  counted_as other n =
+      held_as (counted w.far other).counts.turns (counted w.far other).counts.by_job n
 
   abbrev with_held : Holding Words → WorldState
   with_held n = record { desk = n.desk; far = n.far; seats = w.seats }
