@@ -266,8 +266,13 @@ pair_short w sound p there =
 lost_few : (w : WorldState) → IsSoundWorld w → (h : ℕ) (id : SetId) (losses : List Loss) → IsInLost w.far h id losses → length losses ≤ 20
 lost_few w sound h id losses l =
     let range = (sound.configured.codes.sets l.home.set l.set l.there).range in
-    omega (arith, ap length l.all, filter_map_few (loss_of w.far.members) l.set.shards,
-    range.data_most, range.parities_most)
+    omega (
+      arith,
+      ap length l.all,
+      filter_map_few (loss_of w.far.members) l.set.shards,
+      range.data_most,
+      range.parities_most,
+    )
 
 turn_few : (j : Job) (w v : WorldState) (r : Reply) → IsSoundWorld w → IsSoundWorld v → TurnStep j w r v → HasFew r
 turn_few j w v r before after (TurnStep.worn all e is) = same e tt
