@@ -41,14 +41,15 @@ extern "C" {
 uint32_t carbink_version(void);
 
 /* Makes the r parities of k data rows. data_size is k * len, parities_size is r * len. The data rows
- * followed by the parities are a code word, and no other parities make one with them. */
+ * followed by the parities are a code word, and no other parities make one with them. It takes no memory, so it
+ * never ends with CARBINK_NO_MEMORY. */
 uint32_t carbink_encode(uint32_t k, uint32_t r, uint32_t len, const uint8_t *data, size_t data_size,
                         uint8_t *parities, size_t parities_size);
 
-/* An encoder: the table of a code, and room for parities of rows of one length, made once and used many times. For
- * short rows, and wherever rows of one length are encoded again and again, it saves most of what a call costs
- * beside its sums. A struct carbink_encoder is CARBINK_NO_ENCODER_YET before its first call. It holds one encoder
- * or none; only these calls change it, it is not copied, and it is used by one thread at a time. */
+/* An encoder: the table of a code, for rows of one length, made once and used many times. It saves what the table
+ * costs, which is most of a call on short rows. A struct carbink_encoder is CARBINK_NO_ENCODER_YET before its first
+ * call. It holds one encoder or none; only these calls change it, it is not copied, and it is used by one thread at
+ * a time. */
 struct carbink_encoder {
     uint8_t there; /* The library's. */
     struct {
@@ -63,7 +64,7 @@ struct carbink_encoder {
 #define CARBINK_HAS_ENCODER 13u /* The handle holds an encoder already. */
 
 /* Makes an encoder for the code of k and r and rows of `len` bytes: CARBINK_HAS_ENCODER where the handle holds one
- * already, then no such code, len 0, and want of memory. Takes 4,096 bytes and those of r rows. */
+ * already, then no such code, len 0, and want of memory. Takes some 2,048 bytes. */
 uint32_t carbink_encoder_new(struct carbink_encoder *encoder, uint32_t k, uint32_t r, uint32_t len);
 
 /* Does what carbink_encode does, with the encoder's k, r and len; it takes no memory. CARBINK_NO_ENCODER where the

@@ -3,7 +3,6 @@ mod Making
 mod WorkedEnds
 mod AsBox
 mod AsEncoder
-mod Tabling
 mod Worlds
 mod Losses
 mod FewBytes

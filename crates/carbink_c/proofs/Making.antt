@@ -60,11 +60,6 @@ module _ (k r len : ℕ) (given : List ℕ) (table rows made : List (List ℕ)) 
       only = λ others bytes h. only others bytes (of_word others h);
     }
 
-    pub parities_made : (now : List ℕ) → cut_rows (length made) len now ≡ made → AreParities k r (cut_rows k len given) (cut_rows r len now)
-    parities_made now put =
-        let is : cut_rows r len now ≡ made = subst (λ n. cut_rows n len now ≡ made) made_count put in
-        subst (λ xs. AreParities k r xs (cut_rows r len now)) done.are (subst (AreParities k r rows) (sym is) made_parities)
-
 -- ---- rows that are held against their parities
 
 -- whether the rows behind the data rows are the sums that the code's table makes of these tells
@@ -165,53 +160,33 @@ mended_made k r len position old now was is ranges sized are bytes sum count wor
     (subst (IsMendedAt r was position) (sym put_is)
     (record { sum = sum; word = λ wrong. word r have wrong; only = λ other found wrong but. only r other found have wrong but }))
 
--- ---- parities that an encoder makes
+-- ---- parities that are made in a buffer
 
--- what an encoder of rows of so many bytes has, and the data rows that it is given
-pub record Prepared (k len : ℕ) (given : List ℕ) (code old rows : List (List ℕ)) : Type 0 where
+-- a code's table, and the data rows that a buffer has for it
+pub record Prepared (k len : ℕ) (given : List ℕ) (code rows : List (List ℕ)) : Type 0 where
   pub wide : length (row_at code 0) ≡ k
   pub coefficients : AreCoefficients (length (row_at code 0)) (length code) code
   pub in_range : IsInRange (length (row_at code 0)) (length code)
-  pub tall : length old ≡ length code
-  pub lengths : HaveLength len old
-  pub sized : length given ≡ k * length (row_at old 0)
+  pub sized : length given ≡ k * len
   pub are : rows ≡ cut_rows k len given
 
-module _ (k len : ℕ) (given : List ℕ) (code old rows : List (List ℕ)) (p : Prepared k len given code old rows) where
-  pub old_long : length (row_at old 0) ≡ len
-  old_long = p.lengths 0 [] (omega (arith, p.tall, p.in_range.parities_least))
-
+module _ (k len : ℕ) (given : List ℕ) (code rows : List (List ℕ)) (p : Prepared k len given code rows) where
   code_of : AreCoefficients k (length code) code
   code_of = subst (λ n. AreCoefficients n (length code) code) p.wide p.coefficients
 
   ranges : IsInRange k (length code)
   ranges = subst (λ n. IsInRange n (length code)) p.wide p.in_range
 
-  given_sized : length given ≡ k * len
-  given_sized = p.sized ∙ ap (λ n. k * n) old_long
+  pub as_long : length (row_at rows 0) ≡ len
+  as_long = ap (λ xs. length (row_at xs 0)) p.are ∙ cut_long k len given 0 (omega (arith, ranges.data_least)) p.sized
 
   pub wide_enough : HaveLength (length rows) code
   wide_enough = table_wide k (length code) len given code rows p.are code_of
 
-  pub as_long : HaveLength (length (row_at rows 0)) old
-  as_long =
-      let long : length (row_at rows 0) ≡ len = ap (λ xs. length (row_at xs 0)) p.are ∙ cut_long k len given 0 (omega (arith, ranges.data_least)) given_sized in
-      subst (λ n. HaveLength n old) (sym long) p.lengths
-
-  pub encoded_by : (made : List (List ℕ)) → AreCombinations code rows made → Encoded k (length code) len given code rows made
-  encoded_by made sums = record { in_range = ranges; sized = given_sized; are = p.are; code = code_of; sums = sums }
-
-  pub left_lengths : (made : List (List ℕ)) → AreCombinations code rows made → HaveLength len made
-  left_lengths made sums = made_lengths k (length code) len given code rows made (encoded_by made sums)
-
-  -- the room is as it was, but for the bytes in it
-  pub left_long : (made : List (List ℕ)) → AreCombinations code rows made → length (row_at made 0) ≡ length (row_at old 0)
-  left_long made sums = left_lengths made sums 0 [] (omega (arith, sums.count, ranges.parities_least)) ∙ sym old_long
-
-  pub parities_put : (made : List (List ℕ)) (now : List ℕ) → AreCombinations code rows made → IsCodeWord (length rows) (length code) (rows ++ made)
+  pub parities_put : (made : List (List ℕ)) (now : List ℕ) → made ≡ cut_rows (length code) (length (row_at rows 0)) now → AreCombinations code rows made → IsCodeWord (length rows) (length code) (rows ++ made)
       → ((others : List (List ℕ)) → HoldBytes others → IsCodeWord (length rows) (length code) (rows ++ others) → others ≡ made)
-      → cut_rows (length made) len now ≡ made
-      → AreParities k (length code) (cut_rows k (length (row_at old 0)) given) (cut_rows (length code) (length (row_at old 0)) now)
-  parities_put made now sums word only put =
-      subst (λ n. AreParities k (length code) (cut_rows k n given) (cut_rows (length code) n now)) (sym old_long)
-      (parities_made k (length code) len given code rows made (encoded_by made sums) word only now put)
+      → AreParities k (length code) (cut_rows k len given) (cut_rows (length code) len now)
+  parities_put made now is sums word only =
+      subst (AreParities k (length code) (cut_rows k len given)) (is ∙ ap (λ n. cut_rows (length code) n now) as_long)
+      (subst (λ xs. AreParities k (length code) xs made) p.are
+      (made_parities k (length code) len given code rows made (record { in_range = ranges; sized = p.sized; are = p.are; code = code_of; sums = sums }) word only))

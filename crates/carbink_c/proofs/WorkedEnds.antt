@@ -4,7 +4,7 @@ use Rattle.cb_gf256.specs.InRange.{IsInRange}
 use Rattle.cb_scrub.specs.declared.found.Found.TheVariants.{Clean, One, Many}
 use Rattle.cb_scrub.proofs.Laws.{is_word, no_word, one, word}
 use Rattle.carbink_c.specs.declared.status.Status.TheVariants.{Done, BadCode, BadLength, BadBuffer, BadPositions, NoMemory}
-use Rattle.carbink_c.specs.Status.{Ends, IsNumberOf}
+use Rattle.carbink_c.specs.Status.{Ends, EndsInPlace, IsNumberOf}
 use Rattle.carbink_c.specs.Made.{TellsWord}
 use Rattle.carbink_c.specs.Found.{told_found}
 
@@ -53,6 +53,20 @@ memory_lacked = (two_and_two, omega arith, tt, tt, tt)
 
 changed_and_refused : Ends 2 2 1 (Unit {0}) (Unit {0}) ⊥ (Unit {0}) NoMemory → ⊥
 changed_and_refused e = e.4
+
+-- ---- in place: the same, but that no memory and no positions can be lacking
+
+done_in_place : EndsInPlace 2 2 1 (Unit {0}) ⊥ (Unit {0}) Done
+done_in_place = (two_and_two, omega arith, tt, tt, tt)
+
+refused_in_place : EndsInPlace 2 2 1 ⊥ (Unit {0}) ⊥ BadBuffer
+refused_in_place = (two_and_two, omega arith, λ x. x, tt)
+
+lacking_in_place : EndsInPlace 2 2 1 (Unit {0}) (Unit {0}) (Unit {0}) NoMemory → ⊥
+lacking_in_place e = e
+
+misplaced_in_place : EndsInPlace 2 2 1 (Unit {0}) (Unit {0}) (Unit {0}) BadPositions → ⊥
+misplaced_in_place e = e
 
 -- ---- what is told
 

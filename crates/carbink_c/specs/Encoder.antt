@@ -3,7 +3,6 @@ use Rattle.std.specs.Prelude.{◌≡◌, ℕ, ◌*◌, ◌<◌, List, Option, No
 use Rattle.std.specs.Option.{option_map}
 use Rattle.cb_gf256.specs.Block.{cut_rows}
 use Rattle.cb_gf256.specs.InRange.{IsInRange}
-use Rattle.cb_gf256.specs.Rows.{row_at}
 use Rattle.carbink_c.specs.declared.encoder.Encoder.{Encoder}
 use Rattle.carbink_c.specs.declared.prepared.CarbinkEncoder.{CarbinkEncoder}
 use Rattle.carbink_c.specs.declared.status.Status.{Status}
@@ -17,7 +16,7 @@ pub record Shape : Type 0 where
   pub len : ℕ
 
 abbrev pub shape_of : Encoder → Shape
-shape_of e = record { k = e.k; r = length e.code; len = length (row_at e.made 0) }
+shape_of e = record { k = e.k; r = length e.code; len = e.len }
 
 -- that of the encoder that a handle holds, if there is one
 abbrev pub shape_in : CarbinkEncoder → Option Shape

@@ -43,6 +43,12 @@ Ends k r len sized placed stays made NoMemory =
 Ends k r len sized placed stays made NoEncoder = ⊥
 Ends k r len sized placed stays made HasEncoder = ⊥
 
+-- the same of a call that takes no memory and no positions: it never lacks any
+abbrev pub EndsInPlace : ℕ → ℕ → ℕ → Type 0 → Type 0 → Type 0 → Status → Type 0
+EndsInPlace k r len sized stays made NoMemory = ⊥
+EndsInPlace k r len sized stays made BadPositions = ⊥
+EndsInPlace k r len sized stays made status = Ends k r len sized Unit stays made status
+
 -- the number is that of a status with which a call may end
 abbrev pub IsNumberOf : (Status → Type 0) → ℕ → Type 0
 IsNumberOf ends n = (status : Status) × (n ≡ status_number status) × ends status

@@ -6,9 +6,10 @@ ghost use Rattle.carbink_c.specs.Status.{IsNumberOf};
 
 use crate::buffers::size_of_rows;
 use crate::encoder::Encoder;
-use crate::parities::{encoder, put_made};
+use crate::parities::put_parities;
 use crate::prepared::CarbinkEncoder;
 use crate::status::{Status, refused_shape};
+use cb_code::coefficients;
 use cb_gf256::NoMemory;
 use std::alloc::{AllocError, Global};
 use std::mem;
@@ -59,13 +60,14 @@ fn put_new(alloc: Global, handle: &mut CarbinkEncoder, k: u32, r: u32, len: u32)
     }
 }
 
-/// An encoder in a block of its own. The only error is want of memory.
+/// An encoder of this code in a block of its own, for rows of so many bytes. The only error is want
+/// of memory.
 fn boxed(alloc: Global, k: u32, r: u32, len: u32) -> Result<Box<Encoder>, NoMemory>
     requires in_range { IsInRange k r }
     ensures { IfOk result (λ boxed. shape_of boxed.value ≡ record { k = k; r = r; len = len }) }
 {
-    let encoder = encoder(alloc, k, r, len)?;
-    match Box::new(alloc, encoder) {
+    let code = coefficients(k, r);
+    match Box::new(alloc, Encoder { k, len, code }) {
         Ok(boxed) => Ok(boxed),
         Err(failed) => Err(AllocError::from(failed).into()),
     }
@@ -93,8 +95,8 @@ fn encoded(alloc: Global, handle: &mut CarbinkEncoder, given: &[u8], parities: &
     ensures same { shape_in handle.new ≡ shape_in handle.old }
 {
     match handle.take(alloc) {
-        Some(mut boxed) => {
-            let status = encoded_by(&mut boxed, given, parities);
+        Some(boxed) => {
+            let status = encoded_by(&boxed, given, parities);
             handle.put(boxed);
             status
         }
@@ -102,15 +104,13 @@ fn encoded(alloc: Global, handle: &mut CarbinkEncoder, given: &[u8], parities: &
     }
 }
 
-fn encoded_by(e: &mut Encoder, given: &[u8], parities: &mut [u8]) -> Status
-    ensures ends { MakesParities (Some (shape_of e.old)) given.now parities.old parities.new
-        result }
-    ensures same { shape_of e.new ≡ shape_of e.old }
+fn encoded_by(e: &Encoder, given: &[u8], parities: &mut [u8]) -> Status
+    ensures { MakesParities (Some (shape_of e.now)) given.now parities.old parities.new result }
 {
     if !are_sized(e, given, parities) {
         return Status::BadBuffer;
     }
-    put_made(e, given, parities);
+    put_parities(&e.code, e.k, e.len, given, parities);
     Status::Done
 }
 
@@ -119,8 +119,7 @@ fn are_sized(e: &Encoder, given: &[u8], parities: &[u8]) -> bool
     ensures { IsTrue result ↔ AreSized (shape_of e.now) given.now parities.now }
 {
     let r = e.code.parities();
-    let len = e.made.row_len();
-    given.len() == size_of_rows(e.k, len) && parities.len() == size_of_rows(r, len)
+    given.len() == size_of_rows(e.k, e.len) && parities.len() == size_of_rows(r, e.len)
 }
 
 /// Gives the encoder's memory back, where the handle holds one; it holds none then.

@@ -1,10 +1,11 @@
-ghost use Rattle.std.specs.Prelude.{◌≡◌, ℕ, ◌<◌, ◌≤◌, List, ◌++◌, length, IfOk, slice_index};
-ghost use Rattle.cb_gf256.specs.Rows.{HaveLength, HoldBytes};
+ghost use Rattle.std.specs.Prelude.{◌≡◌, ℕ, ◌*◌, ◌<◌, ◌≤◌, List, ◌++◌, length, IfOk, slice_index};
+ghost use Rattle.cb_gf256.specs.Block.{cut_rows};
+ghost use Rattle.cb_gf256.specs.Rows.{row_at, HaveLength, HoldBytes};
 ghost use Rattle.cb_gf256.specs.CodeWord.{IsCodeWord};
 ghost use Rattle.cb_gf256.specs.Combination.{AreCombinations};
 
 use crate::Coeffs;
-use cb_gf256::{NoMemory, Rows, RowsRef};
+use cb_gf256::{NoMemory, Rows, RowsRef, set_sums_in};
 use std::alloc::Global;
 
 /// The parities of these data rows, as many as the code has. The only error is want of memory.
@@ -39,6 +40,31 @@ pub fn encode_borrowed(alloc: Global, c: &Coeffs, rows: &RowsRef<'_>) -> Result<
         first_positions(k),
     );
     Ok(parities)
+}
+
+/// The same in a block of just their size, one after another. It takes no memory.
+pub fn encode_into(c: &Coeffs, rows: &RowsRef<'_>, block: &mut [u8])
+    requires width { HaveLength (length rows.now) c.now }
+    requires size { length block.old ≡ length c.now * length (row_at rows.now 0) }
+    ensures sums { AreCombinations c.now rows.now
+        (cut_rows (length c.now) (length (row_at rows.now 0)) block.new) }
+    ensures word { IsCodeWord (length rows.now) (length c.now)
+        (rows.now ++ cut_rows (length c.now) (length (row_at rows.now 0)) block.new) }
+    ensures only { (others : List (List ℕ)) → HoldBytes others
+        → IsCodeWord (length rows.now) (length c.now) (rows.now ++ others)
+        → others ≡ cut_rows (length c.now) (length (row_at rows.now 0)) block.new }
+{
+    let k = rows.count() as usize;
+    let r = c.parities();
+    let _ = rows.row_len();
+    set_sums_in(
+        block,
+        r,
+        first_positions(r as usize),
+        c.factors(),
+        rows,
+        first_positions(k),
+    );
 }
 
 /// The first positions, one after another.

@@ -1,6 +1,7 @@
 -- Lists of rows cut out of one block.
 use Rattle.std.proofs.Common.{◌≡◌, ℕ, zero, suc, ◌+◌, ◌-◌, ◌*◌, ◌^◌, ◌<◌, ◌≤◌, List, [], ◌∷◌, ◌++◌, length, take, drop, get_or, set, replicate, refl, sym, ap, ap₂, ◌∙◌, subst, ⊎_elim, arith, All}
 use Rattle.std.specs.List.{concat}
+use Rattle.std.specs.Simd.Lanes.{put_chunk}
 use Rattle.std.proofs.Math.Nat.{suc-mul, zero-mul, add_comm, mul-le-mul_right}
 use Rattle.std.proofs.Math.Seq.{take-append-add}
 use Rattle.std.proofs.lemmas.List.{length-take, length-take-le, length-drop, drop-drop, drop-take, take-take, take-replicate, drop-replicate, take-append-drop, take_at, drop_at, append_assoc, length-append, get_or-take, get_or-drop, get_or_default, nil_from_length, get_or-set_same, get_or-set_other}
@@ -153,3 +154,78 @@ HaveLength-with_row len rows i bytes h e l k d m =
     (λ same. ap (λ j. length (get_or (set rows i bytes) j d)) same ∙ ap length (get_or-set_same rows i bytes d l) ∙ e)
     (λ other. ap length (get_or-set_other rows i k bytes d other) ∙ h k d within)
     (cases_eq k i)
+
+-- ---- bytes that are written over one row
+take_written : (m i : ℕ) (xs ys : List ℕ) → i + length ys ≤ m → take m (put_chunk i xs ys) ≡ put_chunk i (take m xs) ys
+take_written zero i xs ys h = refl
+take_written (suc m) i [] ys h = refl
+take_written (suc m) zero (x ∷ xs) [] h = refl
+take_written (suc m) zero (x ∷ xs) (y ∷ ys) h = ap (λ r. y ∷ r) (take_written m zero xs ys (omega arith))
+take_written (suc m) (suc i) (x ∷ xs) ys h = ap (λ r. x ∷ r) (take_written m i xs ys (omega arith))
+
+drop_written : (m i : ℕ) (xs ys : List ℕ) → i + length ys ≤ m → drop m (put_chunk i xs ys) ≡ drop m xs
+drop_written m i [] ys h = refl
+drop_written zero zero (x ∷ xs) [] h = refl
+drop_written zero zero (x ∷ xs) (y ∷ ys) h = absurd (omega arith)
+drop_written zero (suc i) (x ∷ xs) ys h = absurd (omega arith)
+drop_written (suc m) zero (x ∷ xs) [] h = refl
+drop_written (suc m) zero (x ∷ xs) (y ∷ ys) h = drop_written m zero xs ys (omega arith)
+drop_written (suc m) (suc i) (x ∷ xs) ys h = drop_written m i xs ys (omega arith)
+
+take_before : (m p : ℕ) (xs ys : List ℕ) → m ≤ p → take m (put_chunk p xs ys) ≡ take m xs
+take_before zero p xs ys h = refl
+take_before (suc m) p [] ys h = refl
+take_before (suc m) zero (x ∷ xs) ys h = absurd (omega arith)
+take_before (suc m) (suc p) (x ∷ xs) ys h = ap (λ r. x ∷ r) (take_before m p xs ys (omega arith))
+
+drop_before : (m p i : ℕ) (xs ys : List ℕ) → p ≡ m + i → drop m (put_chunk p xs ys) ≡ put_chunk i (drop m xs) ys
+drop_before zero p i xs ys e = let same : p ≡ i = omega arith in ap (λ k. put_chunk k xs ys) same
+drop_before (suc m) p i [] ys e = refl
+drop_before (suc m) zero i (x ∷ xs) ys e = absurd (omega arith)
+drop_before (suc m) (suc p) i (x ∷ xs) ys e = drop_before m p i xs ys (omega arith)
+
+pub cut_rows-put_chunk : (n len t at : ℕ) (block bytes : List ℕ) → t < n → at + length bytes ≤ len
+    → cut_rows n len (put_chunk (t * len + at) block bytes) ≡ set (cut_rows n len block) t (put_chunk at (row_at (cut_rows n len block) t) bytes)
+cut_rows-put_chunk zero len t at block bytes h room = absurd (omega arith)
+cut_rows-put_chunk (suc n) len zero at block bytes h room =
+    let place : 0 * len + at ≡ at = omega (arith, zero-mul len) in
+    ap (λ k. cut_rows (suc n) len (put_chunk k block bytes)) place
+    ∙ ap₂ ◌∷◌ (take_written len at block bytes room) (ap (cut_rows n len) (drop_written len at block bytes room))
+cut_rows-put_chunk (suc n) len (suc t) at block bytes h room =
+    let place : suc t * len + at ≡ len + (t * len + at) = omega (arith, suc-mul t len) in
+    ap₂ ◌∷◌ (take_before len (suc t * len + at) block bytes (omega arith))
+    (ap (cut_rows n len) (drop_before len (suc t * len + at) (t * len + at) block bytes place) ∙ cut_rows-put_chunk n len t at (drop len block) bytes (omega arith) room)
+
+-- one byte
+written_none : (xs : List ℕ) → put_chunk 0 xs [] ≡ xs
+written_none [] = refl
+written_none (x ∷ xs) = refl
+
+pub set-put_chunk : (xs : List ℕ) (i x : ℕ) → set xs i x ≡ put_chunk i xs (x ∷ [])
+set-put_chunk [] i x = refl
+set-put_chunk (y ∷ ys) zero x = ap (λ r. x ∷ r) (sym (written_none ys))
+set-put_chunk (y ∷ ys) (suc i) x = ap (λ r. y ∷ r) (set-put_chunk ys i x)
+
+-- ---- rows of one length are cut by any length that they have, also where there is none
+pub cut_rows-same : (n len m : ℕ) (block : List ℕ) → length block ≡ n * len → HaveLength m (cut_rows n len block) → (length block ≡ n * m) × ((other : List ℕ) → cut_rows n m other ≡ cut_rows n len other)
+cut_rows-same zero len m block e h = (e ∙ zero-mul len ∙ sym (zero-mul m), λ other. refl)
+cut_rows-same (suc n) len m block e h =
+    let same : len ≡ m = sym (HaveLength-cut_rows (suc n) len block e 0 [] (omega arith)) ∙ h 0 [] (omega arith) in
+    (e ∙ ap (λ l. suc n * l) same, λ other. ap (λ l. cut_rows (suc n) l other) (sym same))
+
+-- a block of rows that is lent, and what was written is back
+pub record Lent (n m : ℕ) (rows now : List (List ℕ)) (given new : List ℕ) : Type 0 where
+  pub whole : length new ≡ n * m
+  pub was : cut_rows n m given ≡ rows
+  pub is : cut_rows n m new ≡ now
+
+pub lent : (n len m : ℕ) (items given new back : List ℕ) (rows : List (List ℕ)) → length items ≡ n * len → cut_rows n len items ≡ rows → HaveLength m rows → given ≡ items → length new ≡ length given
+    → (length new ≡ length items → back ≡ new) → Lent n m rows (cut_rows n len back) given new
+lent n len m items given new back rows e view even at sized written =
+    let same = cut_rows-same n len m items e (subst (HaveLength m) (sym view) even) in
+    let all : length new ≡ length items = sized ∙ ap length at in
+    record {
+      whole = all ∙ same.0;
+      was = ap (cut_rows n m) at ∙ same.1 items ∙ view;
+      is = same.1 new ∙ ap (cut_rows n len) (sym (written all));
+    }

@@ -1,5 +1,5 @@
 -- Bytes that are put into some rows, from a place on, and sums that are made so.
-use Rattle.std.proofs.Common.{◌≡◌, ◌≢◌, ℕ, ◌+◌, ◌-◌, ◌<◌, ◌≤◌, List, [], length, get_or, set, refl, sym, ap, subst, ◌∙◌, ⊎_elim, arith}
+use Rattle.std.proofs.Common.{◌≡◌, ◌≢◌, ℕ, ◌+◌, ◌-◌, ◌*◌, ◌<◌, ◌≤◌, List, [], ◌∷◌, length, get_or, set, refl, sym, ap, subst, ◌∙◌, ⊎_elim, arith}
 use Rattle.std.specs.List.Sorted.{IsStrictlyIncreasing}
 use Rattle.std.proofs.lemmas.Bool.{cases_lt, cases_eq}
 use Rattle.std.proofs.lemmas.List.{get_or-set_same, get_or-set_other, length-set}
@@ -13,8 +13,8 @@ use Rattle.std.proofs.lemmas.Grind.{same_number_lists}
 use Rattle.std.specs.Simd.Lanes.{put_chunk}
 use Rattle.std.proofs.lemmas.Simd.{length-put_chunk, get_or-put_chunk_at, get_or-put_chunk_below, get_or-put_chunk_above}
 use Rattle.cb_gf256.specs.Rows.{HaveLength}
-use Rattle.cb_gf256.specs.Block.{with_row}
-use Rattle.cb_gf256.proofs.BlockLemmas.{with_row-set}
+use Rattle.cb_gf256.specs.Block.{cut_rows, with_row}
+use Rattle.cb_gf256.proofs.BlockLemmas.{with_row-set, HaveLength-cut_rows, cut_rows-put_chunk, length-cut_rows, set-put_chunk}
 use Rattle.cb_gf256.proofs.CornerLemmas.{at_default}
 use Rattle.cb_gf256.proofs.LagrangeLemmas.{ascending_apart}
 
@@ -170,43 +170,46 @@ placed_same w at m targets u v before now same h = record {
 pub kept_lengths : (len : ℕ) (before now : List (List ℕ)) → length now ≡ length before → ((i : ℕ) → length (row_at now i) ≡ length (row_at before i)) → HaveLength len before → HaveLength len now
 kept_lengths len before now count same h i d k = ap length (at_default now i d [] k) ∙ same i ∙ h i [] (omega arith)
 
--- a block is put into the row at target m
+-- some bytes are written over the row at target m
+chunk_placed : (w at len : ℕ) (targets : List ℕ) (v : ℕ → ℕ → ℕ) (before now : List (List ℕ)) (m : ℕ) (chunk : List ℕ) → IsStrictlyIncreasing targets → m < length targets
+    → get_or targets m 0 < length now → HaveLength len now → at + w ≤ len → length chunk ≡ w → ((l : ℕ) → l < w → get_or chunk l 0 ≡ v m l)
+    → Placed w at targets v before now m → Placed w at targets v before (set now (get_or targets m 0) (put_chunk at (row_at now (get_or targets m 0)) chunk)) (m + 1)
+chunk_placed w at len targets v before now m chunk ascend inside within even room size new h =
+    let row = row_at now (get_or targets m 0) in
+    let long : length row ≡ len = even (get_or targets m 0) [] within in
+    placed_more w at targets v before now m (put_chunk at row chunk) ascend inside within (length-put_chunk at row chunk)
+    (λ l k. get_or-put_chunk_at at row chunk l 0 (omega arith) (omega arith) ∙ new l k)
+    (λ c k. get_or-put_chunk_below at row chunk c 0 k)
+    (λ c k. get_or-put_chunk_above at row chunk c 0 (omega arith))
+    h
+
+-- into rows of which one is lent
 pub block_placed : (w at len : ℕ) (targets : List ℕ) (v : ℕ → ℕ → ℕ) (before now : List (List ℕ)) (m : ℕ) (block : List ℕ) → IsStrictlyIncreasing targets → m < length targets
     → get_or targets m 0 < length now → HaveLength len before → at + w ≤ len → length block ≡ w → ((l : ℕ) → l < w → get_or block l 0 ≡ v m l)
     → Placed w at targets v before now m → Placed w at targets v before (with_row now (get_or targets m 0) (put_chunk at (row_at now (get_or targets m 0)) block)) (m + 1)
 block_placed w at len targets v before now m block ascend inside within even room size new h =
     let t = get_or targets m 0 in
-    let row = row_at now t in
-    let next = put_chunk at row block in
+    let next = put_chunk at (row_at now t) block in
     let lengths = kept_lengths len before now h.count h.lengths even in
-    let long : length row ≡ len = lengths t [] within in
-    let same : length next ≡ len = length-put_chunk at row block ∙ long in
+    let same : length next ≡ len = length-put_chunk at (row_at now t) block ∙ lengths t [] within in
     subst (λ rows. Placed w at targets v before rows (m + 1)) (sym (with_row-set now t next (λ i d k. lengths i d k ∙ sym same) within))
-    (placed_more w at targets v before now m next ascend inside within (length-put_chunk at row block)
-    (λ l k. get_or-put_chunk_at at row block l 0 (omega arith) (omega arith) ∙ new l k)
-    (λ c k. get_or-put_chunk_below at row block c 0 k)
-    (λ c k. get_or-put_chunk_above at row block c 0 (omega arith))
-    h)
+    (chunk_placed w at len targets v before now m block ascend inside within lengths room size new h)
 
--- a byte is put into the row at target m
-pub byte_placed : (at len b : ℕ) (targets : List ℕ) (v : ℕ → ℕ → ℕ) (before now : List (List ℕ)) (m : ℕ) → IsStrictlyIncreasing targets → m < length targets
-    → get_or targets m 0 < length now → HaveLength len before → at < len → b ≡ v m 0
-    → Placed 1 at targets v before now m → Placed 1 at targets v before (with_row now (get_or targets m 0) (set (row_at now (get_or targets m 0)) at b)) (m + 1)
-byte_placed at len b targets v before now m ascend inside within even room new h =
-    let t = get_or targets m 0 in
-    let row = row_at now t in
-    let next = set row at b in
-    let lengths = kept_lengths len before now h.count h.lengths even in
-    let long : length row ≡ len = lengths t [] within in
-    let same : length next ≡ len = length-set row at b ∙ long in
-    subst (λ rows. Placed 1 at targets v before rows (m + 1)) (sym (with_row-set now t next (λ i d k. lengths i d k ∙ sym same) within))
-    (placed_more 1 at targets v before now m next ascend inside within (length-set row at b)
-    (λ l k.
-    let first : l ≡ 0 = omega arith in
-    subst (λ x. get_or next (at + x) 0 ≡ v m x) (sym first) (ap (λ n. get_or next n 0) (omega arith) ∙ get_or-set_same row at b 0 (omega arith) ∙ new))
-    (λ c k. get_or-set_other row at c b 0 (λ e. omega arith))
-    (λ c k. get_or-set_other row at c b 0 (λ e. omega arith))
-    h)
+-- into rows that are cut from a block
+pub cut_placed : (w at len n : ℕ) (targets : List ℕ) (v : ℕ → ℕ → ℕ) (before : List (List ℕ)) (block : List ℕ) (m : ℕ) (chunk : List ℕ) → IsStrictlyIncreasing targets → m < length targets
+    → get_or targets m 0 < n → length block ≡ n * len → at + w ≤ len → length chunk ≡ w → ((l : ℕ) → l < w → get_or chunk l 0 ≡ v m l)
+    → Placed w at targets v before (cut_rows n len block) m → Placed w at targets v before (cut_rows n len (put_chunk (get_or targets m 0 * len + at) block chunk)) (m + 1)
+cut_placed w at len n targets v before block m chunk ascend inside within whole room size new h =
+    subst (λ rows. Placed w at targets v before rows (m + 1)) (sym (cut_rows-put_chunk n len (get_or targets m 0) at block chunk within (omega arith)))
+    (chunk_placed w at len targets v before (cut_rows n len block) m chunk ascend inside (omega (arith, length-cut_rows n len block)) (HaveLength-cut_rows n len block whole) room size new h)
+
+-- one byte
+pub byte_placed : (at len n b : ℕ) (targets : List ℕ) (v : ℕ → ℕ → ℕ) (before : List (List ℕ)) (block : List ℕ) (m : ℕ) → IsStrictlyIncreasing targets → m < length targets
+    → get_or targets m 0 < n → length block ≡ n * len → at < len → b ≡ v m 0
+    → Placed 1 at targets v before (cut_rows n len block) m → Placed 1 at targets v before (cut_rows n len (set block (get_or targets m 0 * len + at) b)) (m + 1)
+byte_placed at len n b targets v before block m ascend inside within whole room new h =
+    subst (λ bytes. Placed 1 at targets v before (cut_rows n len bytes) (m + 1)) (sym (set-put_chunk block (get_or targets m 0 * len + at) b))
+    (cut_placed 1 at len n targets v before block m (b ∷ []) ascend inside within whole (omega arith) refl (λ l k. let first : l ≡ 0 = omega arith in subst (λ x. get_or (b ∷ []) x 0 ≡ v m x) (sym first) new) h)
 
 -- with all columns made, the rows at the targets are the combinations
 made_combinations : (table shown : List (List ℕ)) (targets : List ℕ) (before now : List (List ℕ)) (len : ℕ) → length targets ≡ length table → length (row_at shown 0) ≡ len

@@ -7,7 +7,7 @@ pub use Rattle.cb_gf256.proofs.PowerLaws.{one-product as one_with_product, one-p
 pub use Rattle.cb_gf256.proofs.SumLaws.{sum_over-product as sum_over_with_product, sum_over-one_term as sum_over_one_term, sum_over-lt as sum_over_is_byte, sum_over-zero as sum_over_zeros, sum_over-add as sum_over_splits, product-sum_over as product_with_sum_over, sum_over-swap as sum_over_swaps}
 pub use Rattle.cb_gf256.proofs.RowLemmas.{length-row_sum as row_sum_length, get_or-row_sum as row_sum_by_byte, row_sum_comm as row_sum_commutes, row_sum_assoc as row_sum_associates, row_sum_zero as row_sum_with_zeros, row_sum_twice as row_added_twice_is_gone, length-scaled_row as scaled_row_length, get_or-scaled_row as scaled_row_by_byte, scaled_row-row_sum as scaled_row_of_sum}
 pub use Rattle.cb_gf256.proofs.OrderLemmas.{fold-IsPermutation as rows_sum_in_any_order}
-pub use Rattle.cb_gf256.proofs.BlockLemmas.{length-with_row as written_count, with_row-set as written_row, HaveLength-with_row as written_lengths}
+pub use Rattle.cb_gf256.proofs.BlockLemmas.{length-cut_rows as cut_count, length-with_row as written_count, with_row-set as written_row, HaveLength-with_row as written_lengths}
 pub use Rattle.cb_gf256.proofs.Polynomials.{roots_make_zero}
 pub use Rattle.cb_gf256.proofs.Words.{words_agree_on as agreeing_words_are_equal, words_agree as words_that_agree, word_restored as lost_rows_are_sums, word_made as sums_make_a_word, HoldBytes-combinations as sums_are_bytes}
 pub use Rattle.cb_gf256.proofs.Splitting.{split_none as split_of_none, split_with_present, split_with_lost, split_same as split_of_same, splits_parities as parities_split, position_at_most as position_is_at_most}

@@ -26,4 +26,5 @@ pub use no_memory::NoMemory;
 pub use products::Products;
 pub use row::{axpy_row, xor_row};
 pub use rows::{Rows, RowsRef};
+pub use sums::set_sums_in;
 pub use tables::logarithm;

@@ -2,6 +2,7 @@
 ghost use Rattle.std.specs.Prelude.{◌≡◌, ◌≢◌, ℕ, ◌+◌, ◌-◌, ◌/◌, ◌*◌};
 ghost use Rattle.std.specs.Prelude.{◌<◌, ◌≤◌, List, length, All, slice_index};
 ghost use Rattle.std.specs.List.Sorted.{IsStrictlyIncreasing};
+ghost use Rattle.cb_gf256.specs.Block.{cut_rows};
 ghost use Rattle.cb_gf256.specs.Rows.{row_at, rows_at, byte_at, HaveLength};
 ghost use Rattle.cb_gf256.specs.Lanes.{HasLanes};
 ghost use Rattle.cb_gf256.specs.Combination.{combination, AreCombinations};
@@ -17,33 +18,34 @@ use std::simd::prelude::*;
 /// at its own position.
 #[inline(always)]
 fn kept_block_sums<const R: usize>(
-    out: &mut Rows,
+    out: &mut [u8],
+    count: u32,
+    len: usize,
     factors: &Factors,
     rows: &RowsRef<'_>,
     sources: &[u8],
     at: usize,
-    len: usize,
 ) -> [u8x32; R]
+    requires size { length out.old ≡ count * len }
     requires few { (R ≤ 4) × (length sources.now ≤ 16) }
     requires height { R ≤ length factors.now }
     requires width { HaveLength (length sources.now) factors.now }
     requires ascending { IsStrictlyIncreasing sources.now }
     requires sources { All (λ p. p < length rows.now) sources.now }
-    requires below { All (λ p. p < length out.old) sources.now }
-    requires lengths { HaveLength len rows.now × HaveLength len out.old }
+    requires below { All (λ p. p < count) sources.now }
+    requires lengths { HaveLength len rows.now }
     requires inside { at + 32 ≤ len }
     ensures lanes { (j : ℕ) → j < R
         → HasLanes (row_at result j) (λ l. combination (row_at factors.now j)
         (rows_at rows.now sources.now) (at + l)) }
     ensures kept { Placed 32 at sources.now
         (λ i l. byte_at (rows_at rows.now sources.now) i (at + l))
-        out.old out.new (length sources.now) }
+        (cut_rows count len out.old) (cut_rows count len out.new) (length sources.now) }
 {
     let mut sums = [u8x32::splat(0); R];
     for (i, position) in sources.iter().enumerate() {
-        let row = u32::from(*position);
-        let block = block_at(rows.row(row), at);
-        put_block(out.row_mut(row), at, block);
+        let block = block_at(rows.row(u32::from(*position)), at);
+        put_block(out, usize::from(*position) * len + at, block);
         sums = with_products::<R>(sums, factors, i, block);
     }
     sums
@@ -51,111 +53,124 @@ fn kept_block_sums<const R: usize>(
 
 /// Makes the sums and the copies in the whole blocks, from the last to the first.
 fn restore_blocks<const R: usize>(
-    out: &mut Rows,
+    out: &mut [u8],
+    count: u32,
+    len: usize,
     targets: &[u8],
     factors: &Factors,
     rows: &RowsRef<'_>,
     sources: &[u8],
-    len: usize,
 )
+    requires size { length out.old ≡ count * len }
     requires few { (R ≤ 4) × (length sources.now ≤ 16) }
     requires height { length factors.now ≡ R }
     requires width { HaveLength (length sources.now) factors.now }
     requires sources { All (λ p. p < length rows.now) sources.now }
     requires targets { length targets.now ≡ R }
     requires ascending { IsStrictlyIncreasing sources.now × IsStrictlyIncreasing targets.now }
-    requires below { All (λ p. p < length out.old) sources.now
-        × All (λ p. p < length out.old) targets.now }
+    requires below { All (λ p. p < count) sources.now
+        × All (λ p. p < count) targets.now }
     requires apart { AreDisjoint sources.now targets.now }
-    requires lengths { HaveLength len rows.now × HaveLength len out.old }
+    requires lengths { HaveLength len rows.now }
     ensures { Restored factors.now (rows_at rows.now sources.now) targets.now sources.now
-        out.old out.new 0 (len / 32 * 32) }
+        (cut_rows count len out.old) (cut_rows count len out.new) 0 (len / 32 * 32) }
 {
     for block in (0..len / BLOCK).rev() {
         let at = block * BLOCK;
-        let sums = kept_block_sums::<R>(out, factors, rows, sources, at, len);
-        put_sums::<R>(out, targets, at, sums, len);
+        let sums = kept_block_sums::<R>(out, count, len, factors, rows, sources, at);
+        put_sums::<R>(out, count, len, targets, at, sums);
     }
 }
 
 /// The same for as many sums as there are rows of factors.
 fn restore_whole_blocks(
-    out: &mut Rows,
+    out: &mut [u8],
+    count: u32,
+    len: usize,
     targets: &[u8],
     factors: &Factors,
     rows: &RowsRef<'_>,
     sources: &[u8],
-    len: usize,
 )
+    requires size { length out.old ≡ count * len }
     requires few { length sources.now ≤ 16 }
     requires height { length targets.now ≡ length factors.now }
     requires width { HaveLength (length sources.now) factors.now }
     requires sources { All (λ p. p < length rows.now) sources.now }
     requires ascending { IsStrictlyIncreasing sources.now × IsStrictlyIncreasing targets.now }
-    requires below { All (λ p. p < length out.old) sources.now
-        × All (λ p. p < length out.old) targets.now }
+    requires below { All (λ p. p < count) sources.now
+        × All (λ p. p < count) targets.now }
     requires apart { AreDisjoint sources.now targets.now }
-    requires lengths { HaveLength len rows.now × HaveLength len out.old }
+    requires lengths { HaveLength len rows.now }
     ensures height { length factors.now ≤ 4 }
     ensures blocks { Restored factors.now (rows_at rows.now sources.now) targets.now sources.now
-        out.old out.new 0 (len / 32 * 32) }
+        (cut_rows count len out.old) (cut_rows count len out.new) 0 (len / 32 * 32) }
 {
     match factors.height() {
-        0 => restore_blocks::<0>(out, targets, factors, rows, sources, len),
-        1 => restore_blocks::<1>(out, targets, factors, rows, sources, len),
-        2 => restore_blocks::<2>(out, targets, factors, rows, sources, len),
-        3 => restore_blocks::<3>(out, targets, factors, rows, sources, len),
-        _ => restore_blocks::<4>(out, targets, factors, rows, sources, len),
+        0 => restore_blocks::<0>(out, count, len, targets, factors, rows, sources),
+        1 => restore_blocks::<1>(out, count, len, targets, factors, rows, sources),
+        2 => restore_blocks::<2>(out, count, len, targets, factors, rows, sources),
+        3 => restore_blocks::<3>(out, count, len, targets, factors, rows, sources),
+        _ => restore_blocks::<4>(out, count, len, targets, factors, rows, sources),
     }
 }
 
 /// Copies one column of the rows at the sources.
-fn copy_column(out: &mut Rows, rows: &RowsRef<'_>, sources: &[u8], column: usize, len: usize)
+fn copy_column(
+    out: &mut [u8],
+    count: u32,
+    len: usize,
+    rows: &RowsRef<'_>,
+    sources: &[u8],
+    column: usize,
+)
+    requires size { length out.old ≡ count * len }
     requires ascending { IsStrictlyIncreasing sources.now }
     requires sources { All (λ p. p < length rows.now) sources.now }
-    requires below { All (λ p. p < length out.old) sources.now }
-    requires lengths { HaveLength len rows.now × HaveLength len out.old }
+    requires below { All (λ p. p < count) sources.now }
+    requires lengths { HaveLength len rows.now }
     requires inside { column < len }
     ensures { Placed 1 column sources.now
         (λ i l. byte_at (rows_at rows.now sources.now) i (column + l))
-        out.old out.new (length sources.now) }
+        (cut_rows count len out.old) (cut_rows count len out.new) (length sources.now) }
 {
     for i in 0..sources.len() {
-        let row = u32::from(sources[i]);
-        let byte = rows.row(row)[column];
-        out.row_mut(row)[column] = byte;
+        let byte = rows.row(u32::from(sources[i]))[column];
+        out[usize::from(sources[i]) * len + column] = byte;
     }
 }
 
 /// Makes the columns of the sums and of the copies from one on, where those before it are made.
 fn restore_rest(
-    out: &mut Rows,
+    out: &mut [u8],
+    count: u32,
+    len: usize,
     targets: &[u8],
     factors: &Factors,
     rows: &RowsRef<'_>,
     sources: &[u8],
     from: usize,
-    len: usize,
 )
+    requires size { length out.old ≡ count * len }
     requires few { (length targets.now ≤ 4) × (length sources.now ≤ 16) }
     requires height { length targets.now ≡ length factors.now }
     requires width { HaveLength (length sources.now) factors.now }
     requires sources { All (λ p. p < length rows.now) sources.now }
     requires ascending { IsStrictlyIncreasing sources.now × IsStrictlyIncreasing targets.now }
-    requires below { All (λ p. p < length out.old) sources.now
-        × All (λ p. p < length out.old) targets.now }
+    requires below { All (λ p. p < count) sources.now
+        × All (λ p. p < count) targets.now }
     requires apart { AreDisjoint sources.now targets.now }
-    requires lengths { HaveLength len rows.now × HaveLength len out.old }
+    requires lengths { HaveLength len rows.now }
     requires inside { from ≤ len }
     ensures { (before : List (List ℕ))
         → Restored factors.now (rows_at rows.now sources.now) targets.now sources.now before
-        out.old 0 from
+        (cut_rows count len out.old) 0 from
         → Restored factors.now (rows_at rows.now sources.now) targets.now sources.now before
-        out.new 0 len }
+        (cut_rows count len out.new) 0 len }
 {
     for column in from..len {
-        copy_column(out, rows, sources, column, len);
-        set_column(out, targets, factors, rows, sources, column, len);
+        copy_column(out, count, len, rows, sources, column);
+        set_column(out, count, len, targets, factors, rows, sources, column);
     }
 }
 
@@ -186,7 +201,8 @@ impl Rows {
     {
         let len = rows.row_len() as usize;
         let from = len / BLOCK * BLOCK;
-        restore_whole_blocks(self, targets, factors, rows, sources, len);
-        restore_rest(self, targets, factors, rows, sources, from, len);
+        let out = &mut self.block[..];
+        restore_whole_blocks(out, self.count, len, targets, factors, rows, sources);
+        restore_rest(out, self.count, len, targets, factors, rows, sources, from);
     }
 }

@@ -11,8 +11,8 @@ use std::marker::Model;
 /// A list of rows of bytes of equal length. The rows lie one after another in one block.
 #[derive(Drop)]
 pub struct Rows {
-    block: Vec<u8>,
-    count: u32,
+    pub(crate) block: Vec<u8>,
+    pub(crate) count: u32,
     len: u32,
 }
 

@@ -4,6 +4,7 @@ ghost use Rattle.std.specs.Prelude.{◌<◌, ◌≤◌, List, length, All, slice
 ghost use Rattle.std.specs.List.Sorted.{IsStrictlyIncreasing};
 ghost use Rattle.cb_gf256.specs.Sum.{◌⊕◌};
 ghost use Rattle.cb_gf256.specs.Product.{◌⊗◌};
+ghost use Rattle.cb_gf256.specs.Block.{cut_rows};
 ghost use Rattle.cb_gf256.specs.Rows.{row_at, rows_at, byte_at, HaveLength};
 ghost use Rattle.cb_gf256.specs.Lanes.{HasLanes};
 ghost use Rattle.cb_gf256.specs.Combination.{combination, AreCombinations};
@@ -67,80 +68,86 @@ fn block_sums<const R: usize>(
 /// Puts the blocks of the first `R` sums into the rows at the targets, from a place on.
 #[inline(always)]
 pub(crate) fn put_sums<const R: usize>(
-    out: &mut Rows,
+    out: &mut [u8],
+    count: u32,
+    len: usize,
     targets: &[u8],
     at: usize,
     sums: [u8x32; R],
-    len: usize,
 )
+    requires size { length out.old ≡ count * len }
     requires targets { length targets.now ≡ R }
     requires ascending { IsStrictlyIncreasing targets.now }
-    requires below { All (λ p. p < length out.old) targets.now }
-    requires lengths { HaveLength len out.old }
+    requires below { All (λ p. p < count) targets.now }
     requires inside { at + 32 ≤ len }
     requires lanes { (j : ℕ) → j < R → length (row_at sums j) ≡ 32 }
-    ensures { Placed 32 at targets.now (byte_at sums.entry) out.old out.new R }
+    ensures { Placed 32 at targets.now (byte_at sums.entry) (cut_rows count len out.old)
+        (cut_rows count len out.new) R }
 {
     for j in 0..R {
-        put_block(out.row_mut(u32::from(targets[j])), at, sums[j]);
+        put_block(out, usize::from(targets[j]) * len + at, sums[j]);
     }
 }
 
 /// Makes the sums in the rows at the targets, up to the last whole block and from there down.
 fn set_blocks<const R: usize>(
-    out: &mut Rows,
+    out: &mut [u8],
+    count: u32,
+    len: usize,
     targets: &[u8],
     factors: &Factors,
     rows: &RowsRef<'_>,
     sources: &[u8],
-    len: usize,
 )
+    requires size { length out.old ≡ count * len }
     requires few { (R ≤ 4) × (length sources.now ≤ 16) }
     requires height { length factors.now ≡ R }
     requires width { HaveLength (length sources.now) factors.now }
     requires sources { All (λ p. p < length rows.now) sources.now }
     requires targets { length targets.now ≡ R }
     requires ascending { IsStrictlyIncreasing targets.now }
-    requires below { All (λ p. p < length out.old) targets.now }
-    requires lengths { HaveLength len rows.now × HaveLength len out.old }
-    ensures { Combined factors.now (rows_at rows.now sources.now) targets.now out.old out.new
-        0 (len / 32 * 32) }
+    requires below { All (λ p. p < count) targets.now }
+    requires lengths { HaveLength len rows.now }
+    ensures { Combined factors.now (rows_at rows.now sources.now) targets.now
+        (cut_rows count len out.old) (cut_rows count len out.new) 0 (len / 32 * 32) }
 {
     // From the last to the first: a processor that compares the last twelve bits of addresses
     // alone takes a block for the one that was just written, where that one lies lower in its row.
     for block in (0..len / BLOCK).rev() {
         let at = block * BLOCK;
         let sums = block_sums::<R>(factors, rows, sources, at, len);
-        put_sums::<R>(out, targets, at, sums, len);
+        put_sums::<R>(out, count, len, targets, at, sums);
     }
 }
 
 /// The same for as many sums as there are rows of factors.
 fn set_whole_blocks(
-    out: &mut Rows,
+    out: &mut [u8],
+    count: u32,
+    len: usize,
     targets: &[u8],
     factors: &Factors,
     rows: &RowsRef<'_>,
     sources: &[u8],
-    len: usize,
 )
+    requires size { length out.old ≡ count * len }
     requires few { length sources.now ≤ 16 }
     requires height { length targets.now ≡ length factors.now }
     requires width { HaveLength (length sources.now) factors.now }
     requires sources { All (λ p. p < length rows.now) sources.now }
     requires ascending { IsStrictlyIncreasing targets.now }
-    requires below { All (λ p. p < length out.old) targets.now }
-    requires lengths { HaveLength len rows.now × HaveLength len out.old }
+    requires below { All (λ p. p < count) targets.now }
+    requires lengths { HaveLength len rows.now }
     ensures height { length factors.now ≤ 4 }
-    ensures blocks { Combined factors.now
-        (rows_at rows.now sources.now) targets.now out.old out.new 0 (len / 32 * 32) }
+    ensures blocks { Combined factors.now (rows_at rows.now sources.now) targets.now
+        (cut_rows count len out.old) (cut_rows count len out.new) 0 (len / 32 * 32) }
 {
     match factors.height() {
-        0 => set_blocks::<0>(out, targets, factors, rows, sources, len),
-        1 => set_blocks::<1>(out, targets, factors, rows, sources, len),
-        2 => set_blocks::<2>(out, targets, factors, rows, sources, len),
-        3 => set_blocks::<3>(out, targets, factors, rows, sources, len),
-        _ => set_blocks::<4>(out, targets, factors, rows, sources, len),
+        0 => set_blocks::<0>(out, count, len, targets, factors, rows, sources),
+        1 => set_blocks::<1>(out, count, len, targets, factors, rows, sources),
+        2 => set_blocks::<2>(out, count, len, targets, factors, rows, sources),
+        3 => set_blocks::<3>(out, count, len, targets, factors, rows, sources),
+        _ => set_blocks::<4>(out, count, len, targets, factors, rows, sources),
     }
 }
 
@@ -164,57 +171,102 @@ fn sum_at(factors: &Factors, j: usize, rows: &RowsRef<'_>, sources: &[u8], colum
 
 /// Makes one column of the sums.
 pub(crate) fn set_column(
-    out: &mut Rows,
+    out: &mut [u8],
+    count: u32,
+    len: usize,
     targets: &[u8],
     factors: &Factors,
     rows: &RowsRef<'_>,
     sources: &[u8],
     column: usize,
-    len: usize,
 )
+    requires size { length out.old ≡ count * len }
     requires few { (length targets.now ≤ 4) × (length sources.now ≤ 16) }
     requires height { length targets.now ≡ length factors.now }
     requires width { HaveLength (length sources.now) factors.now }
     requires sources { All (λ p. p < length rows.now) sources.now }
     requires ascending { IsStrictlyIncreasing targets.now }
-    requires below { All (λ p. p < length out.old) targets.now }
-    requires lengths { HaveLength len rows.now × HaveLength len out.old }
+    requires below { All (λ p. p < count) targets.now }
+    requires lengths { HaveLength len rows.now }
     requires inside { column < len }
     ensures { Placed 1 column targets.now
         (λ j l. combination (row_at factors.now j) (rows_at rows.now sources.now) (column + l))
-        out.old out.new (length targets.now) }
+        (cut_rows count len out.old) (cut_rows count len out.new) (length targets.now) }
 {
     for (j, target) in targets.iter().enumerate() {
         let sum = sum_at(factors, j, rows, sources, column);
-        out.row_mut(u32::from(*target))[column] = sum;
+        out[usize::from(*target) * len + column] = sum;
     }
 }
 
 /// Makes the columns of the sums from one on, where those before it are made.
 fn set_rest(
-    out: &mut Rows,
+    out: &mut [u8],
+    count: u32,
+    len: usize,
     targets: &[u8],
     factors: &Factors,
     rows: &RowsRef<'_>,
     sources: &[u8],
     from: usize,
-    len: usize,
 )
+    requires size { length out.old ≡ count * len }
     requires few { (length targets.now ≤ 4) × (length sources.now ≤ 16) }
     requires height { length targets.now ≡ length factors.now }
     requires width { HaveLength (length sources.now) factors.now }
     requires sources { All (λ p. p < length rows.now) sources.now }
     requires ascending { IsStrictlyIncreasing targets.now }
-    requires below { All (λ p. p < length out.old) targets.now }
-    requires lengths { HaveLength len rows.now × HaveLength len out.old }
+    requires below { All (λ p. p < count) targets.now }
+    requires lengths { HaveLength len rows.now }
     requires inside { from ≤ len }
     ensures { (before : List (List ℕ))
-        → Combined factors.now (rows_at rows.now sources.now) targets.now before out.old 0 from
-        → Combined factors.now (rows_at rows.now sources.now) targets.now before out.new 0 len }
+        → Combined factors.now (rows_at rows.now sources.now) targets.now before
+        (cut_rows count len out.old) 0 from
+        → Combined factors.now (rows_at rows.now sources.now) targets.now before
+        (cut_rows count len out.new) 0 len }
 {
     for column in from..len {
-        set_column(out, targets, factors, rows, sources, column, len);
+        set_column(out, count, len, targets, factors, rows, sources, column);
     }
+}
+
+/// Makes the rows at `targets`, of the `count` rows that a block has, sums of the rows of `rows` at
+/// `sources`: row j of the factors has the factor of each source in the row at target j. All other
+/// rows stay. It takes no memory.
+pub fn set_sums_in(
+    block: &mut [u8],
+    count: u32,
+    targets: &[u8],
+    factors: &Factors,
+    rows: &RowsRef<'_>,
+    sources: &[u8],
+)
+    requires size { length block.old ≡ count * length (row_at rows.now 0) }
+    requires some { 0 < length sources.now }
+    requires few { length sources.now ≤ 16 }
+    requires height { length targets.now ≡ length factors.now }
+    requires width { HaveLength (length sources.now) factors.now }
+    requires sources { All (λ p. p < length rows.now) sources.now }
+    requires ascending { IsStrictlyIncreasing targets.now }
+    requires below { All (λ p. p < count) targets.now }
+    ensures sums { AreCombinations factors.now (rows_at rows.now sources.now)
+        (rows_at (cut_rows count (length (row_at rows.now 0)) block.new) targets.now) }
+    ensures others { (i : ℕ) → All (λ t. t ≢ i) targets.now
+        → row_at (cut_rows count (length (row_at rows.now 0)) block.new) i
+        ≡ row_at (cut_rows count (length (row_at rows.now 0)) block.old) i }
+{
+    let len = rows.row_len() as usize;
+    set_whole_blocks(block, count, len, targets, factors, rows, sources);
+    set_rest(
+        block,
+        count,
+        len,
+        targets,
+        factors,
+        rows,
+        sources,
+        len / BLOCK * BLOCK,
+    );
 }
 
 impl Rows {
@@ -242,16 +294,6 @@ impl Rows {
         ensures others { (i : ℕ) → All (λ t. t ≢ i) targets.now
             → row_at self.new i ≡ row_at self.old i }
     {
-        let len = rows.row_len() as usize;
-        set_whole_blocks(self, targets, factors, rows, sources, len);
-        set_rest(
-            self,
-            targets,
-            factors,
-            rows,
-            sources,
-            len / BLOCK * BLOCK,
-            len,
-        );
+        set_sums_in(&mut self.block, self.count, targets, factors, rows, sources);
     }
 }

@@ -1,10 +1,10 @@
-use Rattle.std.proofs.Common.{◌≡◌, ◌+◌, ℕ, [], length, get_or, sym, ap, subst, ◌∙◌, arith}
+use Rattle.std.proofs.Common.{◌≡◌, ◌+◌, ◌*◌, ℕ, [], length, sym, ap, subst, ◌∙◌, arith}
 use Rattle.std.specs.Simd.Lanes.{put_chunk}
 use Rattle.cb_gf256.specs.Rows.{row_at, rows_at, byte_at}
-use Rattle.cb_gf256.specs.Block.{with_row}
+use Rattle.cb_gf256.specs.Block.{cut_rows}
 use Rattle.cb_gf256.specs.Lanes.{HasLanes}
 use Rattle.cb_gf256.specs.Placing.{Placed}
-use Rattle.cb_gf256.proofs.Placing.{placed_none, block_placed}
+use Rattle.cb_gf256.proofs.Placing.{placed_none, cut_placed}
 use Rattle.cb_gf256.proofs.Summing.{block_sums_none, block_sums_more, shown_block, all_summed}
 use Rattle.cb_gf256.proofs.recovering.kept_block_sums.Goals as goal
 
@@ -12,11 +12,8 @@ pub loop-i-init : goal.loop-i-init
 loop-i-init g c =
     let shown = rows_at c.args.rows.now c.args.sources.now in (
       block_sums_none g.row.R c.args.at c.args.factors.now shown,
-      placed_none 32 c.args.at c.args.sources.now (λ i l. byte_at shown i (c.args.at + l)) c.args.out.now,
+      placed_none 32 c.args.at c.args.sources.now (λ i l. byte_at shown i (c.args.at + l)) (cut_rows c.args.count c.args.len c.args.out.now),
     )
-
-pub row_mut-requires : goal.row_mut-requires
-row_mut-requires g c = omega (arith, c.from-row.ensures, c.loop-i.invariant.1.count, c.requires.below c.loop-i.i 0 c.loop-i-test.true)
 
 pub loop-i-preserved : goal.loop-i-preserved
 loop-i-preserved g c =
@@ -24,18 +21,17 @@ loop-i-preserved g c =
     let sources = c.args.sources.now in
     let i = c.loop-i.i in
     let at = c.args.at in
+    let len = c.args.len in
+    let cut = cut_rows c.args.count len in
     let out = c.loop-i.out in
     let block = c.block_at-block.result in
     let v = λ (m : ℕ) (l : ℕ). byte_at (rows_at rows sources) m (at + l) in
-    let shown : HasLanes block (v i) = shown_block rows sources i at c.row.result.now block c.loop-i-test.true (c.row.ensures.value ∙ ap (row_at rows) c.from-row.ensures) c.block_at-block.ensures in
-    let next = block_placed 32 at c.args.len sources v c.args.out.now out i block c.requires.ascending c.loop-i-test.true
-    (omega (arith, c.loop-i.invariant.1.count, c.requires.below i 0 c.loop-i-test.true))
-    c.requires.lengths.1 c.requires.inside shown.count (λ l k. shown.each l k) c.loop-i.invariant.1 in (
+    let shown : HasLanes block (v i) = shown_block rows sources i at c.row.result.now block c.loop-i-test.true (c.row.ensures.value ∙ ap (row_at rows) c.from.ensures) c.block_at-block.ensures in
+    let put = cut_placed 32 at len c.args.count sources v (cut c.args.out.now) out i block c.requires.ascending c.loop-i-test.true (c.requires.below i 0 c.loop-i-test.true)
+    (c.loop-i.auto.out ∙ c.requires.size) c.requires.inside shown.count (λ l k. shown.each l k) c.loop-i.invariant.1 in (
       block_sums_more g.row.R i at c.args.factors.now (rows_at rows sources) c.loop-i.sums c.with_products-sums.result block
           c.loop-i.invariant.0 shown c.with_products-sums.ensures.count c.with_products-sums.ensures.lanes,
-      subst (λ t. Placed 32 at sources v c.args.out.now (with_row out t c.put_block.new.row) (i + 1)) (sym c.from-row.ensures)
-          (subst (λ row. Placed 32 at sources v c.args.out.now (with_row out (get_or sources i 0) row) (i + 1))
-          (sym (c.put_block.ensures ∙ ap (λ row. put_chunk at row block) (c.row_mut.ensures.value ∙ ap (row_at out) c.from-row.ensures))) next),
+      subst (λ next. Placed 32 at sources v (cut c.args.out.now) (cut next) (i + 1)) (sym (c.put_block.ensures ∙ ap (λ t. put_chunk (t * len + at) out block) c.from-in-loop-i.ensures)) put,
     )
 
 pub returns-clause-lanes : goal.returns-clause-lanes
@@ -51,4 +47,5 @@ returns-clause-lanes g c j h =
 pub returns-clause-kept : goal.returns-clause-kept
 returns-clause-kept g c =
     let all : c.loop-i.i ≡ length c.args.sources.now = omega arith in
-    subst (Placed 32 c.args.at c.args.sources.now (λ i l. byte_at (rows_at c.args.rows.now c.args.sources.now) i (c.args.at + l)) c.args.out.now c.loop-i.out) all c.loop-i.invariant.1
+    let cut = cut_rows c.args.count c.args.len in
+    subst (Placed 32 c.args.at c.args.sources.now (λ i l. byte_at (rows_at c.args.rows.now c.args.sources.now) i (c.args.at + l)) (cut c.args.out.now) (cut c.loop-i.out)) all c.loop-i.invariant.1

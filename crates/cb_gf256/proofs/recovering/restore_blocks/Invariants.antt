@@ -1,7 +1,9 @@
 use Rattle.std.proofs.Common.{◌*◌, ◌/◌}
+use Rattle.cb_gf256.specs.Block.{cut_rows}
 use Rattle.cb_gf256.specs.Rows.{rows_at}
 use Rattle.cb_gf256.specs.Placing.{Restored}
 use Rattle.cb_gf256.proofs.recovering.restore_blocks.Given as goal
 
 abbrev pub invariant-loop-block : goal.invariant-loop-block
-invariant-loop-block g l = Restored l.factors (rows_at l.rows l.sources) l.targets l.sources l.initial.out l.out (l.block * 32) (l.len / 32 * 32)
+invariant-loop-block g l =
+    Restored l.factors (rows_at l.rows l.sources) l.targets l.sources (cut_rows l.count l.len l.initial.out) (cut_rows l.count l.len l.out) (l.block * 32) (l.len / 32 * 32)
