@@ -394,7 +394,7 @@ least_run-Some frames pages f found some =
     let run = least_run-some frames pages f found in
     let free : (g : ℕ) → f ≤ g → g < f + pages → IsFreeFrame frames g =
     λ g from to. subst (IsFreeFrame frames) (let e : f + (g - f) ≡ g = omega (arith, from) in e)
-        (is_run_has frames f pages (g - f) run (omega (arith, from, to))) in
+    (is_run_has frames f pages (g - f) run (omega (arith, from, to))) in
     let last = IsFree-in_range frames (f + (pages - 1)) (free (f + (pages - 1)) (omega arith)
     (omega (arith, some))) in
     (omega (arith, last, some), free)

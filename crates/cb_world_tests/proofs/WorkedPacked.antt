@@ -329,12 +329,15 @@ are_frames = record {
     free : (f : ℕ) → f < 1 → IsFreeFrame far.frames f ↔ ¬ ((g : ℕ) × LiesOver far.spans g f)
     free zero below = (
       (λ e. absurd (cc)),
-      (λ none. absurd (none (0, record {
-        span = span;
-        there = refl;
-        from = lit≤ tt;
-        to = omega (arith, one_frame);
-      }))),
+      (λ none. absurd (none (
+        0,
+        record {
+          span = span;
+          there = refl;
+          from = lit≤ tt;
+          to = omega (arith, one_frame);
+        },
+      ))),
     )
     free (suc f) below = absurd (omega (arith, below))
 
