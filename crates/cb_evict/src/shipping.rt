@@ -16,13 +16,11 @@ ghost use Rattle.cb_evict.specs.Shipping.{IsNextPut, PutsNothing, PutsRow, Waits
 
 use crate::loading::load_span;
 use crate::next_put::{NextPut, next_put};
+use cb_class::PAGE_BYTES;
 use cb_member::Shard;
 use cb_node::Nodes;
 use cb_types::{NoMemory, Reply};
 use cb_world::{Desk, Far, Leaving, put_row};
-
-/// How many bytes a page has.
-const PAGE: usize = 4096;
 
 /// Gives the position of the batch its shard.
 fn set_shard(batch: &mut Leaving, position: u32, shard: Shard)
@@ -140,7 +138,7 @@ fn ship_data<D: Desk>(
     ensures unchanged { OnErr result (far.new ≡ far.old) }
 {
     let pages = batch_pages(far);
-    let mut row = vec![in far.alloc; 0; PAGE * pages as usize]?;
+    let mut row = vec![in far.alloc; 0; PAGE_BYTES as usize * pages as usize]?;
     load_span(desk, frame, pages, &mut row);
     put_row(&mut far.nodes, shard, &row)?;
     note_shard(far, position, shard);
