@@ -24,8 +24,8 @@ one_page c h =
     let all : count * width ≡ suc n * width = ap (λ (k : ℕ). k * width) next in
     let step = suc-mul n width in
     let fill : 4096 * pages_of c < count * (width * 8) + width * 8 =
-    rw (sym (words_fill c h)) (slots_fill c h) in
-    let few : width * 8 ≤ 1024 = rw (sym (words_fill c h)) (bytes_at_most c h) in
+    rw (words_fill c h) (slots_fill c h) in
+    let few : width * 8 ≤ 1024 = rw (words_fill c h) (bytes_at_most c h) in
     let least = pages_some c h in omega (arith, ends, all, step, fill, few, least)
 
 none_some : (span : Contents) → None ≡ Some span → ⊥
