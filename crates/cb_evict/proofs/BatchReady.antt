@@ -50,7 +50,8 @@ module _ (s : Shown) (far : FarState) (batch : LeavingState) (sound : Sound s fa
   frame_at k d l = (k, l, get_or_default batch.frames k (get_or batch.frames k d) d l)
 
   pub frames_held : All (λ f. (span : Contents) × (span_in far.spans f ≡ Some span)) batch.frames
-  frames_held k d l = noted.held (get_or batch.frames k d) (frame_at k d l)
+  frames_held k d l =
+      let held = noted.held (get_or batch.frames k d) (frame_at k d l) in (held.0, held.1)
 
   pub frames_apart : AllPairs (λ f g. f ≢ g) batch.frames
   frames_apart = noted.apart

@@ -21,7 +21,7 @@ use Rattle.cb_world.specs.Choices.{room_count}
 use Rattle.cb_world.specs.Played.{played}
 use Rattle.cb_world.specs.Looks.{NoLook}
 use Rattle.cb_world.specs.Still.{IsStill}
-use Rattle.cb_world.specs.FarState.{FarState}
+use Rattle.cb_world.specs.FarState.{FarState, pages_if}
 use Rattle.cb_world.specs.LocalSound.{LocalSound}
 use Rattle.cb_world.specs.Sound.{Sound}
 use Rattle.cb_world.specs.Performs.{Performs}
@@ -42,7 +42,7 @@ use Rattle.cb_evict.specs.declared.taking.Taken.{Taken}
 use Rattle.cb_evict.specs.declared.taking.Taken.TheVariants.{Few, Enough}
 use Rattle.cb_evict.specs.Finding.{FindsSpans}
 use Rattle.cb_evict.specs.Taking.{AreLooseNow, AreLooseStill, TriesSpans, TakesFew, TakesEnough, Takes}
-use Rattle.cb_evict.specs.Loading.{LiesInOne, OnlyLoads, pages_at}
+use Rattle.cb_evict.specs.Loading.{LiesInOne, OnlyLoads}
 use Rattle.cb_evict.specs.Looking.{IsIn, LooksOver}
 use Rattle.cb_evict.proofs.CallParts.{Joins, part_more, part_then}
 use Rattle.cb_evict.proofs.Claims.{claims_nothing}
@@ -337,8 +337,8 @@ one_length c h =
     let all : count * width ≡ suc n * width = ap (λ (k : ℕ). k * width) next in
     let step = suc-mul n width in
     let fill : 4096 * pages_of c < count * (width * 8) + width * 8 =
-    rw (sym (words_fill c h)) (slots_fill c h) in
-    let few : width * 8 ≤ 1024 = rw (sym (words_fill c h)) (bytes_at_most c h) in
+    rw (words_fill c h) (slots_fill c h) in
+    let few : width * 8 ≤ 1024 = rw (words_fill c h) (bytes_at_most c h) in
     let least = pages_some c h in omega (arith, ends, all, step, fill, few, least)
 
 pub are_taken : (s : Shown) (far : FarState) (loose frames : List ℕ) (formers : List Former)
@@ -352,7 +352,7 @@ are_taken s far loose frames formers runs shows k sound x among count = record {
   apart = x.apart;
   pages = 1;
   long = λ i d l. let f = get_or frames i d in let r = ready_frame far s f sound (chosen i d l) in
-      ap pages_at r.there ∙ one_length r.span.class r.valid.in_table;
+      ap pages_if r.there ∙ one_length r.span.class r.valid.in_table;
   of = x.of;
   order = x.order;
   each_once = x.each_once;

@@ -19,7 +19,7 @@ use Rattle.cb_world.specs.Allowed.{Allowed}
 use Rattle.cb_world.specs.Played.{played}
 use Rattle.cb_world.specs.Looks.{NoLook}
 use Rattle.cb_world.specs.Written.{Writes, written_by}
-use Rattle.cb_world.specs.FarState.{FarState, handle_in}
+use Rattle.cb_world.specs.FarState.{FarState, handle_in, pages_at}
 use Rattle.cb_world.specs.FrameWords.{OwnsRun}
 use Rattle.cb_world.specs.LocalSound.{LocalSound}
 use Rattle.cb_world.specs.RowWords.{row_of}
@@ -34,7 +34,7 @@ use Rattle.cb_evict.specs.Events.{TouchesOnly, AreSteady}
 use Rattle.cb_evict.specs.EvictEffect.{IsEvicted}
 use Rattle.cb_evict.specs.EvictRule.{HasEvicted}
 use Rattle.cb_evict.specs.Evicting.{AreSpansTaken, IsReadyToEvict, TouchesSpans}
-use Rattle.cb_evict.specs.Loading.{IsRowOfRun, LiesInOne, pages_in}
+use Rattle.cb_evict.specs.Loading.{IsRowOfRun, LiesInOne}
 use Rattle.cb_evict.specs.Looking.{IsIn}
 use Rattle.cb_evict.specs.Storing.{KeepsSet, with_set}
 use Rattle.cb_evict.proofs.Events.{AreAllReads, touches_append, touches_more, no_look_append, told_words, told_objects}
@@ -269,7 +269,7 @@ frames_below far frames formers s t n a sound here count k d l =
 -- the length of the spans is that of the first one, and a span has few pages
 pub pages_first : (far : FarState) (frames : List ℕ) (formers : List Former) (s : Shown)
     (d : ℕ) → (a : AreSpansTaken far frames formers) → LocalSound s far → 0 < length frames
-    → (pages_in far.spans (get_or frames 0 d) ≡ a.pages) × (a.pages ≤ 4)
+    → (pages_at far.spans (get_or frames 0 d) ≡ a.pages) × (a.pages ≤ 4)
 pages_first far frames formers s d a sound some =
     let f = get_or frames 0 d in let c = place_in frames 0 d some in
     let x = taken_ready far frames formers s a sound f c in
@@ -280,6 +280,6 @@ pages_first far frames formers s d a sound some =
 -- so what is read off the first span is the length of all
 pub pages_told : (far : FarState) (frames : List ℕ) (formers : List Former) (s : Shown)
     (d n : ℕ) → (a : AreSpansTaken far frames formers) → LocalSound s far → 1 ≤ far.code.k
-    → n ≡ pages_in far.spans (get_or frames 0 d) → n ≡ a.pages
+    → n ≡ pages_at far.spans (get_or frames 0 d) → n ≡ a.pages
 pages_told far frames formers s d n a sound some is =
     is ∙ (pages_first far frames formers s d a sound (let c = a.count in omega (arith, c, some))).0

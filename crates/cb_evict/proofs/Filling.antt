@@ -12,6 +12,7 @@ pub record ArePositionsFilled (spans : List (Option Contents)) (frames : List �
     (old new : SetState)
     : Type 0 where
   pub id : new.id ≡ old.id
+  pub pages : new.pages ≡ old.pages
   pub shards : new.shards ≡ old.shards
   pub count : length new.positions ≡ length old.positions
   pub filled : (q : ℕ) → q < n → get_or new.positions q dead_position ≡ position_for spans (get_or frames q 0)

@@ -96,6 +96,7 @@ quiet_away s t far quiet rows sound = record {
             version = o.version;
             words = o.words;
             class = o.class;
+            paged = o.paged;
             away = far_then s t h o.len o.version o.words (quiet h) o.away;
             fits = o.fits;
             sized = o.sized;

@@ -15,9 +15,9 @@ use Rattle.cb_world.specs.declared.shown.Shown.{Shown}
 use Rattle.cb_world.specs.Shown.{Owns}
 use Rattle.cb_world.specs.Memory.{window}
 use Rattle.cb_world.specs.Played.{Agree}
-use Rattle.cb_world.specs.FarState.{span_in}
+use Rattle.cb_world.specs.FarState.{pages_at, pages_if, span_in}
 use Rattle.cb_world.specs.FrameWords.{LiesInRun, ReadsRun, loads_from}
-use Rattle.cb_evict.specs.Loading.{AreOfLength, IsRowOfRun, LiesInOne, LiesInRuns, LoadsRun, OnlyLoads, pages_at, pages_in}
+use Rattle.cb_evict.specs.Loading.{AreOfLength, IsRowOfRun, LiesInOne, LiesInRuns, LoadsRun, OnlyLoads}
 use Rattle.cb_evict.proofs.Events.{loads_more}
 
 -- ---- the words of a run
@@ -114,7 +114,7 @@ pub span_long : (spans : List (Option Contents)) (pages : ℕ) (frames : List �
     (span : Contents) → AreOfLength spans pages frames → Contains frames f
     → span_in spans f ≡ Some span → pages_of span.class ≡ pages
 span_long spans pages frames f span long c there =
-    sym (ap pages_at there) ∙ All-contains (λ g. pages_in spans g ≡ pages) frames f long c
+    sym (ap pages_if there) ∙ All-contains (λ g. pages_at spans g ≡ pages) frames f long c
 
 -- so their words are those of the spans
 pub lies_in_one : (spans : List (Option Contents)) (pages : ℕ) (frames : List ℕ)
@@ -123,7 +123,7 @@ pub lies_in_one : (spans : List (Option Contents)) (pages : ℕ) (frames : List 
 lies_in_one spans pages frames long q (f, c, lies) = (
   f,
   c,
-  subst (λ (n : ℕ). LiesInRun f n q) (sym (All-contains (λ g. pages_in spans g ≡ pages) frames f
+  subst (λ (n : ℕ). LiesInRun f n q) (sym (All-contains (λ g. pages_at spans g ≡ pages) frames f
       long c)) lies,
 )
 

@@ -12,7 +12,7 @@ use Rattle.cb_types.specs.declared.reply.Reply.TheVariants as answer
 use Rattle.cb_world.specs.declared.event.Event.{Event}
 use Rattle.cb_world.specs.declared.shown.Shown.{Shown}
 use Rattle.cb_world.specs.FarSound.{AreShardRows, of_leaving, batch_rows}
-use Rattle.cb_world.specs.FarState.{FarState, span_in}
+use Rattle.cb_world.specs.FarState.{FarState, pages_at, span_in}
 use Rattle.cb_world.specs.FrameWords.{LiesInRun}
 use Rattle.cb_world.specs.Leaving.{LeavingState}
 use Rattle.cb_world.specs.Memory.{window}
@@ -23,7 +23,7 @@ use Rattle.cb_world.specs.RowWords.{row_of}
 use Rattle.cb_world.specs.Sound.{Sound}
 use Rattle.cb_world.proofs.Laws.{batch_owned}
 use Rattle.cb_world.specs.Still.{IsStill}
-use Rattle.cb_evict.specs.Loading.{LiesInOne, LoadsRun, OnlyLoads, pages_in}
+use Rattle.cb_evict.specs.Loading.{LiesInOne, LoadsRun, OnlyLoads}
 use Rattle.cb_evict.specs.ShipRule.{IsShardFor, ReadsLeaving, ShipEffect, ShipRule, ShipsRow, with_shipped}
 use Rattle.cb_evict.specs.Shipping.{PutsNothing, PutsRow}
 use Rattle.cb_evict.specs.Waiting.{PutAtMembers, least_waiting}
@@ -93,7 +93,7 @@ parity_row s batch p behind =
 -- ---- a row is put
 frame_reads : (far : FarState) (batch : LeavingState) (p f : ℕ) (es : List Event)
     → far.leaving ≡ Some batch → slice_get batch.frames p ≡ Some f
-    → pages_in far.spans f ≡ batch.pages → OnlyLoads (LiesInRun f batch.pages) es
+    → pages_at far.spans f ≡ batch.pages → OnlyLoads (LiesInRun f batch.pages) es
     → ReadsLeaving far es
 frame_reads far batch p f es there at long loads =
     subst (λ (o : Option LeavingState). OnlyLoads (LiesInOne far.spans (leaving_frames o)) es)
@@ -107,7 +107,7 @@ frame_reads far batch p f es there at long loads =
 
 pub puts_data : (runs : List Event → Type 0) (showsA showsB : Shown → Type 0) (far new : FarState)
     (batch : LeavingState) (p f : ℕ) (shard : Shard) (row : List ℕ) → far.leaving ≡ Some batch
-    → slice_get batch.frames p ≡ Some f → pages_in far.spans f ≡ batch.pages
+    → slice_get batch.frames p ≡ Some f → pages_at far.spans f ≡ batch.pages
     → LoadsRun runs showsA f batch.pages row → ((s : Shown) → showsB s → showsA s)
     → new ≡ with_shipped far batch p shard row → PutsRow runs showsB far new batch p shard
 puts_data runs showsA showsB far new batch p f shard row there at long x back state = record {
@@ -123,7 +123,7 @@ puts_data runs showsA showsB far new batch p f shard row there at long x back st
 
 pub puts_nothing : (runs : List Event → Type 0) (shows : Shown → Type 0) (far : FarState)
     (batch : LeavingState) (p f : ℕ) (row : List ℕ) → far.leaving ≡ Some batch
-    → slice_get batch.frames p ≡ Some f → pages_in far.spans f ≡ batch.pages
+    → slice_get batch.frames p ≡ Some f → pages_at far.spans f ≡ batch.pages
     → LoadsRun runs shows f batch.pages row → PutsNothing runs far
 puts_nothing runs shows far batch p f row there at long x =
     (x.events, x.ran, frame_reads far batch p f x.events there at long x.loads)

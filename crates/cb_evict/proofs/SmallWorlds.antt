@@ -21,12 +21,12 @@ use Rattle.cb_span.specs.declared.temp.Temp.TheVariants.{Cold, Hot}
 use Rattle.cb_span.specs.declared.temp.Temp.{Temp}
 use Rattle.cb_types.specs.declared.config.Config.{Config}
 use Rattle.cb_world.specs.Choices.{numbered, room_count}
-use Rattle.cb_world.specs.FarState.{FarState, handle_in, resident, span_in}
+use Rattle.cb_world.specs.FarState.{FarState, handle_in, pages_at, resident, span_in}
 use Rattle.cb_world.specs.Homes.{home_at}
 use Rattle.cb_world.specs.Leaving.{LeavingState}
 use Rattle.cb_world.specs.Memory.{window}
 use Rattle.cb_world.specs.Plain.{Words}
-use Rattle.cb_evict.specs.Loading.{AreOfLength, pages_in}
+use Rattle.cb_evict.specs.Loading.{AreOfLength}
 use Rattle.cb_world.specs.RowWords.{row_of, words_from, words_in}
 use Rattle.cb_world.specs.SetWord.{IsSpanWord}
 use Rattle.cb_world.specs.Survey.{no_survey}
@@ -114,8 +114,8 @@ first_object = (0, (0, lit< tt, refl), (1, refl))
 
 -- the first span has one page
 pub one_long : AreOfLength pair.spans 1 (0 ∷ [])
-one_long = All-cons (λ (f : ℕ). pages_in pair.spans f ≡ 1) 0 [] one_page
-    (All-nil (λ (f : ℕ). pages_in pair.spans f ≡ 1))
+one_long = All-cons (λ (f : ℕ). pages_at pair.spans f ≡ 1) 0 [] one_page
+    (All-nil (λ (f : ℕ). pages_at pair.spans f ≡ 1))
 
 pub heads : (a b : ℕ) → a ∷ [] ≡ b ∷ [] → a ≡ b
 heads a b e = cc

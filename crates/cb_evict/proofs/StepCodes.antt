@@ -22,7 +22,7 @@ pub evict_step_codes : (x y : Words) (far new : FarState) (r : Reply) → IsEvic
 evict_step_codes x y far new r (few_spans few same) = codes_same far new few.state
 evict_step_codes x y far new r (few_nodes few same) = codes_same far new few.state
 evict_step_codes x y far new r (made m) = let e = m.evicted in
-    made_codes far new (take far.code.k (loose_frames x far)) e.shards e.rows
+    made_codes far new e.pages (take far.code.k (loose_frames x far)) e.shards e.rows
     (length-take-le far.code.k (loose_frames x far) m.enough) e.chosen.count e.state
 
 pub begin_step_codes : (x y : Words) (far new : FarState) (r : Reply) → IsBeginStep x y far new r
@@ -31,7 +31,7 @@ begin_step_codes x y far new r (is_leaving batch there reply state same) = codes
 begin_step_codes x y far new r (spans_few none few same) = codes_same far new few.state
 begin_step_codes x y far new r (nodes_few none few same) = codes_same far new few.state
 begin_step_codes x y far new r (begins m) = let e = m.begun in
-    batch_codes far new (take far.code.k (loose_frames x far)) e.words e.parities
+    batch_codes far new e.pages (take far.code.k (loose_frames x far)) e.words e.parities
     (length-take-le far.code.k (loose_frames x far) m.enough) e.count e.state
 
 ships_codes : (far new : FarState) (r : Reply) (row : LeavingState → ℕ → List ℕ)

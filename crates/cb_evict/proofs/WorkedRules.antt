@@ -19,7 +19,7 @@ use Rattle.cb_world.specs.declared.leaving.Former.{Former}
 use Rattle.cb_world.specs.declared.object.Object.TheVariants as is
 use Rattle.cb_world.specs.declared.shown.Shown.{Shown}
 use Rattle.cb_world.specs.Choices.{numbered}
-use Rattle.cb_world.specs.FarState.{FarState, handle_in, span_in}
+use Rattle.cb_world.specs.FarState.{FarState, handle_in, pages_at, span_in}
 use Rattle.cb_world.specs.Grasped.{IsFree}
 use Rattle.cb_world.specs.Leaving.{LeavingState}
 use Rattle.cb_world.specs.Looks.{IsFound, IsTaken}
@@ -37,7 +37,7 @@ use Rattle.cb_evict.specs.Claiming.{IsOne}
 use Rattle.cb_evict.specs.Closing.{with_homes}
 use Rattle.cb_evict.specs.CommitRule.{CommitRule, IsBatchCommitted, with_committed}
 use Rattle.cb_evict.specs.EvictRule.{EvictRule, IsInRow}
-use Rattle.cb_evict.specs.Loading.{LiesInOne, pages_in}
+use Rattle.cb_evict.specs.Loading.{LiesInOne}
 use Rattle.cb_evict.specs.Looking.{IsIn}
 use Rattle.cb_evict.specs.Sending.{AreSent, IsSent}
 use Rattle.cb_evict.proofs.Loose.{held_alone}
@@ -223,7 +223,7 @@ loads_what_leaves x = beside x.touches.1.0
     beside : LiesInOne pair.spans (0 ∷ []) 512 → ⊥
     beside (f, (zero, less, same), lies) =
         let l : 512 < 512 * (0 + pages_of (record { index = 0 })) =
-        (subst (λ (n : ℕ). LiesInRun n (pages_in pair.spans n) 512) (sym same) lies).1 in
+        (subst (λ (n : ℕ). LiesInRun n (pages_at pair.spans n) 512) (sym same) lies).1 in
         let one = one_page in omega (arith, l, one)
     beside (f, (suc k, less, same), lies) = let l : suc k < 1 = less in omega (arith, l)
 
@@ -266,11 +266,11 @@ begin_loads_elsewhere x = beside x.touches.1.1.0
     beside : LiesInOne pair.spans (0 ∷ 1 ∷ []) 1024 → ⊥
     beside (f, (zero, less, same), lies) =
         let l : 1024 < 512 * (0 + pages_of (record { index = 0 })) =
-        (subst (λ (n : ℕ). LiesInRun n (pages_in pair.spans n) 1024) (sym same) lies).1 in
+        (subst (λ (n : ℕ). LiesInRun n (pages_at pair.spans n) 1024) (sym same) lies).1 in
         let one = one_page in omega (arith, l, one)
     beside (f, (suc zero, less, same), lies) =
         let l : 1024 < 512 * (1 + pages_of (record { index = 0 })) =
-        (subst (λ (n : ℕ). LiesInRun n (pages_in pair.spans n) 1024) (sym same) lies).1 in
+        (subst (λ (n : ℕ). LiesInRun n (pages_at pair.spans n) 1024) (sym same) lies).1 in
         let one = one_page in omega (arith, l, one)
     beside (f, (suc (suc k), less, same), lies) =
         let l : suc (suc k) < 2 = less in omega (arith, l)

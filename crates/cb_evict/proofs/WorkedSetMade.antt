@@ -1,11 +1,12 @@
 -- A worked example of a whole step: the loose one of two spans is evicted; and for each part of
 -- what is said of it a value that breaks that part alone.
-use Rattle.std.proofs.Common.{◌≡◌, ℕ, zero, suc, ◌*◌, ◌/◌, ◌≤◌, false, nat_lt, List, [], ◌∷◌, ◌++◌, length, get_or, Some, replicate, refl, sym, ap, ◌∙◌, subst, lit<, lit≤, arith, inr}
+use Rattle.std.proofs.Common.{◌≡◌, ℕ, zero, suc, ◌*◌, ◌/◌, ◌≤◌, true, false, nat_lt, List, [], ◌∷◌, ◌++◌, length, get_or, None, Some, replicate, refl, sym, ap, ◌∙◌, subst, lit<, lit≤, arith, inr}
 use Rattle.std.specs.FinMap as map
 use Rattle.std.specs.List.{slice_get}
 use Rattle.std.proofs.lemmas.Bool.{false≢true}
 use Rattle.std.proofs.lemmas.List.{length-replicate}
 use Rattle.cb_class.specs.Class.{words_of, bytes_of, pages_of}
+use Rattle.cb_frame.specs.FreeFrames.{with_run_given}
 use Rattle.cb_gf256.specs.Rows.{row_at}
 use Rattle.cb_member.specs.declared.names.Shard.{Shard}
 use Rattle.cb_node.specs.NodesState.{NodesState, row_under}
@@ -19,7 +20,7 @@ use Rattle.cb_world.specs.RowWords.{words_from, words_in, row_of}
 use Rattle.cb_world.specs.Sets.{set_in}
 use Rattle.cb_world.specs.Stored.{all_put}
 use Rattle.cb_span.specs.declared.temp.Temp.TheVariants.{Cold}
-use Rattle.cb_evict.specs.Closing.{with_homes}
+use Rattle.cb_evict.specs.Closing.{all_given, with_homes}
 use Rattle.cb_evict.specs.EvictStep.{AreFrameRows, IsEvictedTo, IsSetMade, IsEvictStep, made, IsCountedStep}
 use Rattle.cb_evict.specs.declared.eviction.Eviction.TheVariants.{Refused}
 use Rattle.cb_evict.specs.declared.eviction.Lack.TheVariants.{Spans, Nodes}
@@ -270,6 +271,14 @@ not_another_number a =
 -- a set that was to be made is no refusal
 not_refused : IsSetMade before before pair pair (answer.Set (record { n = 0 })) → ⊥
 not_refused a = not_here a.evicted.sent
+
+-- ---- the frames that are given back: those of the spans that are gone
+both_given : all_given pair.frames pair.spans (0 ∷ 1 ∷ []) ≡ true ∷ true ∷ true ∷ false ∷ false ∷ []
+both_given = ap (λ (n : ℕ). with_run_given (with_run_given pair.frames 0 n) 1 n) one_page
+
+-- where no span stands none is given
+none_given : all_given pair.frames (None ∷ None ∷ []) (0 ∷ []) ≡ pair.frames
+none_given = refl
 
 -- ---- the refusals with both counts: no span is loose and two nodes have room, and one is and one
 -- has

@@ -1,17 +1,19 @@
 -- Worked examples of a ship: values that meet a definition, and for each of its parts one that
 -- breaks that part alone.
-use Rattle.std.proofs.Common.{◌≡◌, ℕ, zero, suc, ◌<◌, ◌≤◌, true, false, List, [], ◌∷◌, Option, None, Some, get_or, nat_lt, refl, sym, ap, ◌∙◌, subst, lit<, lit≤, arith, inl, inr}
+use Rattle.std.proofs.Common.{◌≡◌, ℕ, zero, suc, ◌+◌, ◌*◌, ◌<◌, ◌≤◌, true, false, List, [], ◌∷◌, Option, None, Some, get_or, nat_lt, refl, sym, ap, ◌∙◌, subst, lit<, lit≤, arith, inl, inr}
 use Rattle.std.specs.FinMap as map
 use Rattle.std.proofs.lemmas.Bool.{false≢true}
+use Rattle.cb_class.specs.Class.{pages_of}
 use Rattle.cb_member.specs.declared.names.Shard.{Shard}
 use Rattle.cb_member.specs.Membership.{Membership, fresh_members, with_crash}
 use Rattle.cb_node.specs.NodesState.{NodesState, empty_nodes, held, row_under, with_row}
 use Rattle.cb_node.proofs.Laws.{row_is_put}
+use Rattle.cb_span.specs.declared.temp.Temp.TheVariants.{Cold}
 use Rattle.cb_types.specs.declared.reply.Reply.{Reply}
 use Rattle.cb_types.specs.declared.reply.Reply.TheVariants as answer
 use Rattle.cb_world.specs.declared.event.Event.TheVariants.{Looked, Loaded}
 use Rattle.cb_world.specs.Choices.{numbered, MayPut, IsBefore}
-use Rattle.cb_world.specs.FarState.{FarState}
+use Rattle.cb_world.specs.FarState.{FarState, pages_at}
 use Rattle.cb_world.specs.Leaving.{LeavingState}
 use Rattle.cb_world.specs.Plain.{Words}
 use Rattle.cb_world.specs.Survey.{no_survey}
@@ -20,6 +22,7 @@ use Rattle.cb_evict.specs.ShipStep.{IsShipStep}
 use Rattle.cb_evict.specs.Shipping.{Waits}
 use Rattle.cb_evict.specs.Waiting.{is_waiting, waits_at, waiting, least_waiting, PutAtMembers}
 use Rattle.cb_evict.proofs.Options.{none_some, some_none, some_same}
+use Rattle.cb_evict.proofs.SmallWorlds.{one_page, span_with}
 
 abbrev at : ℕ → ℕ → Shard
 at n key = record { node = numbered n; incarnation = 0; key = key }
@@ -91,8 +94,8 @@ abbrev far : Option LeavingState → FarState
 far leaving = record {
   first = 1;
   made = 0;
-  frames = true ∷ true ∷ true ∷ [];
-  spans = None ∷ None ∷ None ∷ [];
+  frames = true ∷ true ∷ false ∷ [];
+  spans = None ∷ None ∷ Some (span_with Cold 0) ∷ [];
   sets = map.empty;
   homes = [];
   nodes = nodes;
@@ -313,8 +316,22 @@ a_node_is_left a =
     (subst (λ (q : ℕ). MayPut nodes members (other_puts some_wait q) (numbered 2)) p may_second))
 
 -- ---- what is read
+in_span : (p : ℕ) → p < 1536 → p < 512 * (2 + pages_of (record { index = 0 }))
+in_span p l = let one = one_page in omega (arith, l, one)
+
 reads : ReadsLeaving leaving (Loaded 1024 0 ∷ Loaded 1535 0 ∷ [])
-reads = ((2, (0, lit< tt, refl), (lit≤ tt, lit< tt)), ((2, (0, lit< tt, refl), (lit≤ tt, lit< tt)), tt))
+reads = (
+  (2, (0, lit< tt, refl), (lit≤ tt, in_span 1024 (lit< tt))),
+  ((2, (0, lit< tt, refl), (lit≤ tt, in_span 1535 (lit< tt))), tt),
+)
+
+-- the word behind the span's last frame is none of its words
+not_behind : ReadsLeaving leaving (Loaded 1536 0 ∷ []) → ⊥
+not_behind ((f, (zero, l, e), lies), rest) =
+    let end : 1536 < 512 * (2 + pages_of (record { index = 0 })) =
+    subst (λ (n : ℕ). 1536 < 512 * (n + pages_at leaving.spans n)) (sym e) lies.1 in
+    let one = one_page in absurd (omega (arith, end, one))
+not_behind ((f, (suc k, l, e), lies), rest) = absurd (omega (arith, l))
 
 not_looks : ReadsLeaving leaving (Looked 0 0 ∷ []) → ⊥
 not_looks a = a

@@ -27,12 +27,11 @@ use Rattle.cb_world.specs.declared.object.Object.TheVariants as is
 use Rattle.cb_world.specs.declared.shown.Shown.{Shown}
 use Rattle.cb_world.specs.Choices.{room_count}
 use Rattle.cb_world.specs.FarSound.{AreAway, AreShardRows, AreSets, Owner, of_set, of_leaving, of_joining, IsShardOf}
-use Rattle.cb_world.specs.FarState.{FarState, handle_in, span_in}
+use Rattle.cb_world.specs.FarState.{FarState, handle_in, pages_at, span_in}
 use Rattle.cb_world.specs.Homes.{home_at}
 use Rattle.cb_world.specs.LocalSound.{AreFrames, AreKnown, ArePlaced, HasSlot, IsStamped, LiesAt, LiesOver, NamesObject}
 use Rattle.cb_world.specs.Memory.{window, words_for}
 use Rattle.cb_world.specs.Plain.{Words}
-use Rattle.cb_evict.specs.Loading.{pages_in}
 use Rattle.cb_world.specs.RowWords.{row_of}
 use Rattle.cb_world.specs.Sets.{set_in}
 use Rattle.cb_world.specs.SetWord.{IsSpanWord}
@@ -376,8 +375,8 @@ held = record {
 begun : IsBegunTo (desk calm) (desk (calm + 1)) far after (0 ∷ [])
 begun = record {
   pages = 1;
-  long = All-cons (λ (f : ℕ). pages_in far.spans f ≡ 1) 0 [] one_frame
-      (All-nil (λ (f : ℕ). pages_in far.spans f ≡ 1));
+  long = All-cons (λ (f : ℕ). pages_at far.spans f ≡ 1) 0 [] one_frame
+      (All-nil (λ (f : ℕ). pages_at far.spans f ≡ 1));
   words = former ∷ [];
   parities = row ∷ [];
   of = record {

@@ -1,28 +1,19 @@
 -- The words of spans that are read into rows.
-use Rattle.std.specs.Prelude.{◌≡◌, ℕ, ◌*◌, ◌^◌, ◌<◌, List, [], ◌∷◌, Option, None, Some, length, slice_get, All}
+use Rattle.std.specs.Prelude.{◌≡◌, ℕ, ◌*◌, ◌^◌, ◌<◌, List, [], ◌∷◌, Option, Some, length, slice_get, All}
 use Rattle.std.specs.List.{Contains}
-use Rattle.cb_class.specs.Class.{pages_of}
 use Rattle.cb_gf256.specs.Rows.{row_at}
 use Rattle.cb_span.specs.Contents.{Contents}
 use Rattle.cb_world.specs.declared.event.Event.{Event}
 use Rattle.cb_world.specs.declared.event.Event.TheVariants.{Loaded}
 use Rattle.cb_world.specs.declared.shown.Shown.{Shown}
-use Rattle.cb_world.specs.FarState.{span_in}
+use Rattle.cb_world.specs.FarState.{pages_at}
 use Rattle.cb_world.specs.FrameWords.{LiesInRun, OwnsRun}
 use Rattle.cb_world.specs.Memory.{window}
 use Rattle.cb_world.specs.RowWords.{row_of}
 
--- the pages of the span in a frame, 0 where there is none
-abbrev pub pages_at : Option Contents → ℕ
-pages_at None = 0
-pages_at (Some span) = pages_of span.class
-
-abbrev pub pages_in : List (Option Contents) → ℕ → ℕ
-pages_in spans f = pages_at (span_in spans f)
-
 -- the spans in these frames have so many pages each
 abbrev pub AreOfLength : List (Option Contents) → ℕ → List ℕ → Type 0
-AreOfLength spans pages frames = All (λ f. pages_in spans f ≡ pages) frames
+AreOfLength spans pages frames = All (λ f. pages_at spans f ≡ pages) frames
 
 -- the word p lies in the run of so many frames from one of these on
 abbrev pub LiesInRuns : ℕ → List ℕ → ℕ → Type 0
@@ -30,7 +21,7 @@ LiesInRuns pages frames p = (f : ℕ) × Contains frames f × LiesInRun f pages 
 
 -- the word p lies in the span in one of these frames
 abbrev pub LiesInOne : List (Option Contents) → List ℕ → ℕ → Type 0
-LiesInOne spans frames p = (f : ℕ) × Contains frames f × LiesInRun f (pages_in spans f) p
+LiesInOne spans frames p = (f : ℕ) × Contains frames f × LiesInRun f (pages_at spans f) p
 
 -- each event reads a word at one of these places
 abbrev pub OnlyLoads : (ℕ → Type 0) → List Event → Type 0

@@ -30,8 +30,8 @@ use cb_world::{Desk, Far, Former};
 
 /// Evicts k spans at once, as many as the code in force has data positions. Of the spans none of
 /// whose objects is pinned or claimed, and which are not leaving, the first k go, the cold ones
-/// before the hot ones and then by frame number: they are coded together, their rows are put at k
-/// + r nodes, and the objects are far.
+/// before the hot ones and then by frame number: they are coded together, their rows are put at
+/// k + r nodes, and the objects are far.
 ///
 /// Refuses with NoSpans where fewer than k spans are so, and then with NoNodes where fewer than k +
 /// r nodes have room. A batch that is leaving does not hinder it and stays as it is. Every object

@@ -4,7 +4,7 @@ ghost use Rattle.cb_types.specs.Config.{IsAccepted};
 ghost use Rattle.cb_node.specs.NodesState.{has, held, with_row};
 ghost use Rattle.cb_world.specs.declared.event.Event.{Event};
 ghost use Rattle.cb_world.specs.declared.shown.Shown.{Shown};
-ghost use Rattle.cb_world.specs.FarState.{FarState};
+ghost use Rattle.cb_world.specs.FarState.{FarState, pages_at};
 ghost use Rattle.cb_world.specs.Leaving.{LeavingState};
 ghost use Rattle.cb_world.specs.World.{IsConfigured};
 ghost use Rattle.cb_world.specs.Still.{IsStill};
@@ -12,18 +12,15 @@ ghost use Rattle.cb_world.specs.Sound.{Sound};
 ghost use Rattle.cb_world.specs.Performs.{Performs};
 ghost use Rattle.cb_evict.specs.ShipRule.{ReadsLeaving, ShipEffect, ShipRule, with_noted, with_shard_at};
 ghost use Rattle.cb_evict.specs.declared.next_put.NextPut.TheVariants as next;
-ghost use Rattle.cb_evict.specs.Loading.{pages_in};
 ghost use Rattle.cb_evict.specs.Shipping.{IsNextPut, PutsNothing, PutsRow, Waits};
 
 use crate::loading::load_span;
 use crate::next_put::{NextPut, next_put};
+use cb_class::PAGE_BYTES;
 use cb_member::Shard;
 use cb_node::Nodes;
 use cb_types::{NoMemory, Reply};
 use cb_world::{Desk, Far, Leaving, put_row};
-
-/// How many bytes a page has.
-const PAGE: usize = 4096;
 
 /// Gives the position of the batch its shard.
 fn set_shard(batch: &mut Leaving, position: u32, shard: Shard)
@@ -127,7 +124,7 @@ fn ship_data<D: Desk>(
     requires frames { (batch : LeavingState) → far.old.leaving ≡ Some batch
         → frame + batch.pages ≤ (D.settings desk.old).frames }
     requires spans { (batch : LeavingState) → far.old.leaving ≡ Some batch
-        → pages_in far.old.spans frame ≡ batch.pages }
+        → pages_at far.old.spans frame ≡ batch.pages }
     requires there { (batch : LeavingState) × (far.old.leaving ≡ Some batch)
         × (slice_get batch.frames position ≡ Some frame) × (position < length batch.shards) }
     requires keys { far.old.counts.keys < 2 ^ 62 }
@@ -141,7 +138,7 @@ fn ship_data<D: Desk>(
     ensures unchanged { OnErr result (far.new ≡ far.old) }
 {
     let pages = batch_pages(far);
-    let mut row = vec![in far.alloc; 0; PAGE * pages as usize]?;
+    let mut row = vec![in far.alloc; 0; PAGE_BYTES as usize * pages as usize]?;
     load_span(desk, frame, pages, &mut row);
     put_row(&mut far.nodes, shard, &row)?;
     note_shard(far, position, shard);

@@ -5,10 +5,9 @@ ghost use Rattle.cb_gf256.specs.Rows.{row_at, HoldBytes};
 ghost use Rattle.cb_node.specs.NodesState.{NodesState};
 ghost use Rattle.cb_span.specs.Contents.{Contents};
 ghost use Rattle.cb_world.specs.Choices.{room_count};
-ghost use Rattle.cb_world.specs.FarState.{span_in};
+ghost use Rattle.cb_world.specs.FarState.{pages_at, span_in};
 ghost use Rattle.cb_world.specs.Reserved.{position_for, set_from};
 ghost use Rattle.cb_world.specs.Stored.{all_put};
-ghost use Rattle.cb_evict.specs.Loading.{pages_in};
 ghost use Rattle.cb_evict.specs.Storing.{AreShards, CanPut, CanStore, HasRoomFor, HasSpans, KeepsSet, set_for, with_kept};
 
 use cb_class::pages;
@@ -92,7 +91,7 @@ fn put_rows(
 /// The pages of the span in a frame.
 pub(crate) fn span_pages(far: &Far, frame: u32) -> u32
     requires there { (span : Contents) × (span_in far.now.spans frame ≡ Some span) }
-    ensures pages { result ≡ pages_in far.now.spans frame }
+    ensures pages { result ≡ pages_at far.now.spans frame }
     ensures few { result ≤ 4 }
 {
     pages(far.spans.get(frame).unwrap().class())

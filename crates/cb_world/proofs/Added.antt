@@ -182,7 +182,7 @@ added_away s t far new id set rows sound x = record {
     | inr off ↦
         let was = sym (ap if_committed (x.others j off)) ∙ at in
         let y = sound.sets.worded j other was in
-        let z = old_object s t far new id set rows (row_at y.0 p)
+        let z = old_object s t far new id set rows other.pages (row_at y.0 p)
         (length (position_of other p).slots) slot h x (y.1.holds p slot h named) in
         z.home ∙ sound.away.named j p slot h other was named
   ];

@@ -131,7 +131,7 @@ pub added_keeps_join : (s t : Shown) (far new : FarState) (id : ℕ) (set : SetS
 added_keeps_join s t far new id set rows pair sound was x j = pair_kept far new pair (record {
   more_sets = x.drawn.1;
   more_keys = x.more_keys;
-  fresh = λ c d f. (c, d, before c d f, λ k y. y);
+  fresh = λ c d f. (c, d, before c d f, λ pages k y. y);
   a_stay = λ c d f p shard at.
       stays (of_set pair.a p) shard (
         c,

@@ -31,8 +31,11 @@ same_positions xs ys (f ∷ fs) same =
     later : (fs : List ℕ) (f g : ℕ) → (c : Contains fs g) → get_or (f ∷ fs) (c.0 + 1) g ≡ g
     later fs f g c = ap (λ (i : ℕ). get_or (f ∷ fs) i g) (let e : c.0 + 1 ≡ suc c.0 = omega arith in e) ∙ c.2
 
-abbrev kept_with : ℕ → List Shard → List PositionState → Kept
-kept_with id blank positions = record { set = set_of id 1 blank positions; committed = false }
+abbrev kept_with : ℕ → ℕ → List Shard → List PositionState → Kept
+kept_with id pages blank positions = record {
+  set = set_of id pages blank positions;
+  committed = false;
+}
 
 pub reserved_kept : (far new : FarState) (batch : LeavingState) → KeepsReserved far new batch
     → IsReserved far batch → IsReserved new batch
@@ -42,7 +45,8 @@ reserved_kept far new batch k x = record {
   range = x.range;
   blank = x.blank;
   places = x.places;
-  kept = k.sets ∙ x.kept ∙ ap (λ (l : List PositionState). Some (kept_with batch.set x.blank l))
+  kept = k.sets ∙ x.kept
+      ∙ ap (λ (l : List PositionState). Some (kept_with batch.set batch.pages x.blank l))
       (sym (same_positions far.spans new.spans batch.frames k.spans));
 }
 
@@ -54,7 +58,7 @@ pub noted_by : (s t : Shown) (far new : FarState) (batch : LeavingState)
     → AreNoted s far batch → AreNoted t new batch
 noted_by s t far new batch k objects x = record {
   apart = x.apart;
-  held = λ f leaves. let y = x.held f leaves in (y.0, k.spans f leaves ∙ y.1);
+  held = λ f leaves. let y = x.held f leaves in (y.0, k.spans f leaves ∙ y.1, y.2);
   each = λ f slot h span leaves there named. let was = sym (k.spans f leaves) ∙ there in
       objects f slot h span leaves was named (x.each f slot h span leaves was named);
   only = λ i former below. let y = x.only i former below in (

@@ -4,6 +4,7 @@ use Rattle.std.proofs.Common.{◌≡◌, ℕ, zero, suc, ◌+◌, ◌*◌, ◌/�
 use Rattle.std.proofs.lemmas.Grind.{flat_map-append}
 use Rattle.std.proofs.lemmas.List.{drop-take, length-drop, length-take-le, take-take, take_all, take_at}
 use Rattle.std.proofs.lemmas.List.Elements.{All-append, All-nil}
+use borrow.Rule.Slice.PartMut.{put_mid, same_len_mid}
 use Rattle.std.specs.Int.{from_le_bytes, to_le_bytes, w64}
 use Rattle.cb_world.specs.declared.event.Event.{Event}
 use Rattle.cb_world.specs.declared.event.Event.TheVariants.{Loaded, Stored}
@@ -114,19 +115,22 @@ none_read runs f pages row none long = record {
 pub page_read : (runs then_ all : List Event → Type 0) (f pages page k : ℕ) (row new piece : List ℕ)
     → ((es fs : List Event) → runs es → then_ fs → all (es ++ fs))
     → HasRead runs f pages page row → ReadsFrame then_ (f + page) piece → page < pages
-    → k ≡ 4096 → new ≡ take (4096 * page) row ++ (piece ++ drop (4096 * page + k) row)
+    → k ≡ 4096 → new ≡ put_mid (4096 * page) k row piece
     → HasRead all f pages (page + 1) new
 page_read runs then_ all f pages page k row new piece more x y below wide is =
-    let front = take (4096 * page) row in let rest = drop (4096 * page + k) row in
+    let front = take (4096 * page) row in let rest = drop k (drop (4096 * page) row) in
     let first : length front ≡ 4096 * page =
     length-take-le (4096 * page) row (omega (arith, x.sized, below)) in
     let next : length piece ≡ 4096 = ap length y.made ∙ row_length y.words
     ∙ (let n = y.count in omega (arith, n)) in
     let both : length (front ++ piece) ≡ 4096 * (page + 1) =
     omega (arith, length-append front piece, first, next) in
-    let whole : length new ≡ length row = ap length is ∙ length-append front (piece ++ rest)
-    ∙ (let p = length-append piece rest in let d = length-drop (4096 * page + k) row in
-    omega (arith, p, d, first, next, wide, x.sized, below)) in record {
+    let left : 4096 ≤ length (drop (4096 * page) row) =
+    (let d = length-drop (4096 * page) row in omega (arith, d, x.sized, below)) in
+    let whole : length new ≡ length row = ap length is
+    ∙ same_len_mid (4096 * page) k row piece
+    (next ∙ sym wide ∙ sym (length-take-le k (drop (4096 * page) row) (omega (arith, left, wide)))) in
+    record {
       words = x.words ++ y.words;
       count = omega (arith, length-append x.words y.words, x.count, y.count);
       small = All-append (λ w. w < 2 ^ 64) x.words y.words x.small y.small;

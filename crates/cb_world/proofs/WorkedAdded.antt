@@ -11,6 +11,7 @@ use Rattle.std.proofs.lemmas.List.{get_or-replicate, length-replicate}
 use Rattle.std.proofs.lemmas.List.Elements.{All-nil, All-cons, All-replicate}
 use Rattle.std.proofs.Math.Dec.{ltb}
 use Rattle.cb_class.specs.Class.{IsClassOf, bytes_of, pages_of, slots_of, words_of}
+use Rattle.cb_class.proofs.Laws.{IsClassOf-unique}
 use Rattle.cb_gf256.specs.Power.{power}
 use Rattle.cb_gf256.specs.Product.{◌⊗◌}
 use Rattle.cb_gf256.specs.Rows.{byte_at, row_at}
@@ -207,6 +208,18 @@ holds = record {
   sized = refl;
   contents = refl;
 }
+
+-- rows of two pages are of no span of its class
+of_longer_spans : ¬ (HoldsObject after 2 row 4 0 0)
+unfolding pages_of words
+of_longer_spans x =
+    let n : x.len ≡ 1024 = far_len x.version x.len x.words (sym x.away) in
+    let c = IsClassOf-unique 1024 x.class largest
+    (subst (λ (n : ℕ). IsClassOf n x.class) n x.fits) class_of_1024 in
+    absurd (let e : 2 ≡ 1 = x.paged ∙ ap pages_of c in omega (arith, e))
+  where
+    far_len : (v n : ℕ) (ws : List ℕ) → is.Far n v ws ≡ is.Far 1024 1 words → n ≡ 1024
+    far_len v n ws e = cc
 
 is_moved : IsMovedIntoSet before after far new 6 set rows 0
 is_moved = record {

@@ -1,6 +1,6 @@
 -- Worked examples of a pair that is joining and of its merged word: what meets each definition, and
 -- for each of its parts what breaks that part alone.
-use Rattle.std.proofs.Common.{◌≡◌, ◌≢◌, ℕ, zero, suc, ◌+◌, ◌<◌, true, false, List, [], ◌∷◌, None, Some, get_or, if◌then◌else◌, refl, sym, ap, ◌∙◌, subst, arith, lit<, lit≤}
+use Rattle.std.proofs.Common.{◌≡◌, ◌≢◌, ℕ, zero, suc, ◌+◌, ◌<◌, true, false, List, [], ◌∷◌, None, Some, get_or, if◌then◌else◌, refl, sym, ap, ◌∙◌, subst, arith, lit<, lit≤, length}
 use Rattle.std.specs.FinMap as map
 use Rattle.std.specs.List.{slice_get}
 use Rattle.cb_gf256.specs.InRange.{IsInRange}

@@ -20,8 +20,8 @@ leaving_frames (Some batch) = batch.frames
 abbrev pub HasRoom : FarState → Class → Temp → ℕ → Type 0
 HasRoom far class temp f = MayTake far.spans class temp (leaving_frames far.leaving) f
 
--- a slot for an object: the first frame of its span and its number there, the span before the object
--- is in it, and the frames that are free then
+-- a slot for an object: the first frame of its span and its number there, the span before the
+-- object is in it, and the frames that are free then
 pub record Slot : Type 0 where
   pub frame : ℕ
   pub number : ℕ

@@ -7,11 +7,11 @@ use Rattle.cb_world.specs.declared.event.Event.{Event}
 use Rattle.cb_world.specs.declared.leaving.Former.{Former}
 use Rattle.cb_world.specs.declared.shown.Shown.{Shown}
 use Rattle.cb_world.specs.Played.{played}
-use Rattle.cb_world.specs.FarState.{FarState, span_in}
+use Rattle.cb_world.specs.FarState.{FarState, pages_at, span_in}
 use Rattle.cb_evict.specs.Claiming.{GivesBack}
 use Rattle.cb_evict.specs.Claims.{AreApart, IsHeldAt}
 use Rattle.cb_evict.specs.Beginning.{ReservesFrames}
-use Rattle.cb_evict.specs.Loading.{AreOfLength, LiesInOne, pages_in}
+use Rattle.cb_evict.specs.Loading.{AreOfLength, LiesInOne}
 use Rattle.cb_evict.proofs.BeginEnd.{noted_far, starts, reads_as, reads_in, batch_then, reserves_as}
 use Rattle.cb_evict.proofs.Events.{are_reads}
 use Rattle.cb_evict.proofs.Ending.{are_read, taken_ready, place_in, handles_all, frames_below, pages_told}
@@ -56,7 +56,7 @@ reserve_frames-requires-clause-long g c =
     let pages = pages_told c.args.far.now c.args.frames.items c.args.formers.items
     c.requires.ready.1 c.index.result.now c.span_pages-pages.result c.requires.taken
     c.requires.ready.2.sound.here c.requires.configured.codes.force.range.data_least
-    (c.span_pages-pages.ensures.pages ∙ ap (pages_in c.args.far.now.spans) c.index.ensures) in
+    (c.span_pages-pages.ensures.pages ∙ ap (pages_at c.args.far.now.spans) c.index.ensures) in
     subst (λ (l : List ℕ). AreOfLength c.args.far.now.spans c.span_pages-pages.result l)
     (sym c.deref.ensures.value)
     (subst (λ (n : ℕ). AreOfLength c.args.far.now.spans n c.args.frames.items)
@@ -69,7 +69,7 @@ reserve_frames-requires-clause-below g c =
     let pages = pages_told c.args.far.now c.args.frames.items c.args.formers.items
     c.requires.ready.1 c.index.result.now c.span_pages-pages.result c.requires.taken
     c.requires.ready.2.sound.here c.requires.configured.codes.force.range.data_least
-    (c.span_pages-pages.ensures.pages ∙ ap (pages_in c.args.far.now.spans) c.index.ensures) in
+    (c.span_pages-pages.ensures.pages ∙ ap (pages_at c.args.far.now.spans) c.index.ensures) in
     subst (λ (l : List ℕ). All (λ f. f + c.span_pages-pages.result
     ≤ (g.D.Desk.settings c.args.desk.now).frames) l) (sym c.deref.ensures.value)
     (subst (λ (n : ℕ). All (λ f. f + n ≤ (g.D.Desk.settings c.args.desk.now).frames)
@@ -127,7 +127,7 @@ returns-in-Ok-clause-begun g c =
     let pages = pages_told c.args.far.now c.args.frames.items c.args.formers.items
     c.requires.ready.1 c.index.result.now c.span_pages-pages.result c.requires.taken
     c.requires.ready.2.sound.here c.requires.configured.codes.force.range.data_least
-    (c.span_pages-pages.ensures.pages ∙ ap (pages_in c.args.far.now.spans) c.index.ensures) in
+    (c.span_pages-pages.ensures.pages ∙ ap (pages_at c.args.far.now.spans) c.index.ensures) in
     let runs = λ (es : List Event). g.D.Desk.run c.args.desk.now es c.reserve_frames.new.desk in
     let y = subst (λ (n : ℕ). ReservesFrames runs shows far c.reserve_frames.new.far n frames
     c.in-Ok.reserved.parities) pages

@@ -34,6 +34,7 @@ pub loop-p-preserved : goal.loop-p-preserved
 loop-p-preserved c =
     closed_more c.args.far.now c.loop-p.far c.close_span.new.far c.args.frames.now c.loop-p.p c.args.set
     c.loop-p.invariant c.close_span.ensures c.requires.apart c.loop-p-test.true c.requires.unique
+    c.requires.owned
 
 pub returns : goal.returns
 returns c =

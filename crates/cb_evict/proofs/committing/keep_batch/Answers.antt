@@ -23,4 +23,5 @@ close_spans-requires-clause-there c =
 
 pub close_spans-requires-clause-owned : goal.close_spans-requires-clause-owned
 close_spans-requires-clause-owned c =
-    frames_as c.far.inside _ refl refl (subst AreFrames (sym c.far.view_is) c.requires.owned)
+    let owned = subst AreFrames (sym c.far.view_is) c.requires.owned in
+    frames_as _ _ refl refl owned

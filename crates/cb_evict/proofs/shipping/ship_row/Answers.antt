@@ -4,7 +4,7 @@ use Rattle.std.proofs.Common.{◌≡◌, ◌<◌, length, Some, sym, ap, ◌∙�
 use Rattle.std.specs.List.{slice_get}
 use Rattle.std.proofs.lemmas.Result.{on_ok_weaker}
 use Rattle.cb_world.proofs.Laws.{fits_on_least}
-use Rattle.cb_evict.specs.Loading.{pages_at}
+use Rattle.cb_world.specs.FarState.{pages_if}
 use Rattle.cb_evict.specs.ShipRule.{other_puts}
 use Rattle.cb_evict.proofs.WhichWait.{least_waits}
 use Rattle.cb_evict.proofs.ShipParts.{puts_parity, contains_at, past_end, few_positions}
@@ -25,7 +25,7 @@ ship_data-requires-clause-spans g c = λ batch there.
     let at : slice_get batch.frames c.args.position ≡ Some c.in-Some.frame =
     sym (c.frame_at.ensures batch there) ∙ c.in-Some.is in
     let h = (c.requires.sound.1.noted batch there).held c.in-Some.frame
-    (contains_at batch.frames c.args.position c.in-Some.frame at) in ap pages_at h.1 ∙ h.2
+    (contains_at batch.frames c.args.position c.in-Some.frame at) in ap pages_if h.1 ∙ h.2
 
 pub ship_parity-requires-clause-there : goal.ship_parity-requires-clause-there
 ship_parity-requires-clause-there g c =

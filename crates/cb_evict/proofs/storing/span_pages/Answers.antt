@@ -1,8 +1,7 @@
 use Rattle.std.proofs.Common.{◌≡◌, ℕ, sym, ap, ◌∙◌, subst, arith}
 use Rattle.cb_class.specs.Class.{IsClass, pages_of}
 use Rattle.cb_class.proofs.Laws.{pages_few}
-use Rattle.cb_world.specs.FarState.{FarState, span_in}
-use Rattle.cb_evict.specs.Loading.{pages_at}
+use Rattle.cb_world.specs.FarState.{FarState, pages_if, span_in}
 use Rattle.cb_evict.proofs.Filling.{got_span, span_got}
 use Rattle.cb_evict.proofs.storing.span_pages.Goals as goal
 
@@ -23,6 +22,6 @@ returns-clause-few c =
 pub returns-clause-pages : goal.returns-clause-pages
 returns-clause-pages c =
     c.pages.ensures.pages ∙ ap pages_of c.class.ensures.class
-    ∙ sym (ap pages_at (got_span _ c.args.far.now.spans c.args.frame c.get.result c.unwrap.result
+    ∙ sym (ap pages_if (got_span _ c.args.far.now.spans c.args.frame c.get.result c.unwrap.result
     (c.get.ensures.span ∙ ap (λ (far : FarState). span_in far.spans c.args.frame) c.far.view_is)
     c.unwrap.ensures))

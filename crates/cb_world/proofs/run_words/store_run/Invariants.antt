@@ -1,4 +1,4 @@
-use Rattle.std.proofs.Common.{ℕ, ◌*◌}
+use Rattle.std.proofs.Common.{◌*◌}
 use Rattle.cb_world.specs.FrameWords.{stores_from}
 use Rattle.cb_world.specs.RowWords.{words_from}
 use Rattle.cb_world.proofs.run_words.store_run.Given as goal
