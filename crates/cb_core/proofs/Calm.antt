@@ -1,9 +1,12 @@
 -- A turn tells of no want of room and of no loss where no set is broken, no object moves, each
--- version has a next one, and an eviction finds spans and nodes whenever no frame is free.
+-- version has a next one, and an eviction finds spans and nodes whenever no run of frames is free
+-- that a span of some class fits.
 use Rattle.std.proofs.Common.{◌≡◌, ℕ, zero, suc, ◌+◌, ◌-◌, ◌^◌, ◌==◌, ◌<◌, ◌≤◌, nat_lt, Bool, true, false, List, length, slice_index, Option, None, Some, if◌then◌else◌, refl, sym, ap, ◌∙◌, subst, arith, inl, inr, ne_eqb}
 use Rattle.std.proofs.lemmas.Bool.{cases_lt, false≢true}
 use Rattle.std.proofs.lemmas.List.{get_or_past}
-use Rattle.cb_frame.specs.FreeFrames.{least_free}
+use Rattle.cb_class.specs.declared.class.Class.{Class}
+use Rattle.cb_class.specs.Class.{IsClass, pages_of}
+use Rattle.cb_frame.specs.Runs.{least_run}
 use Rattle.cb_ptr.specs.declared.word.State.{State}
 use Rattle.cb_ptr.specs.declared.word.State.TheVariants as word
 use Rattle.cb_ptr.specs.Word.{state_of, len_of, pins_of}
@@ -42,7 +45,7 @@ use Rattle.cb_core.specs.Step.{StillBring, StillDecline, StillEvict, StillFilter
 use Rattle.cb_core.proofs.NodesStay.{IsWholeJob}
 use Rattle.cb_core.proofs.PartsStay.{LeavesSame, room_same}
 use Rattle.cb_core.proofs.TurnCalls.{held_at, held_then, known_at}
-use Rattle.cb_core.proofs.TurnCallsKept.{same_holding}
+use Rattle.cb_core.proofs.TurnCallsKept.{kept_room, kept_swap, kept_then, same_holding}
 use Rattle.cb_core.proofs.TurnCallsFar.{BringEnds, bring_ends, broke, came, crammed, lost_gone}
 
 -- the reply tells of no want of room, no loss, no move and no number at its end
@@ -56,12 +59,13 @@ IsEased r = Unit {0}
 calm_as : (r q : Reply) → IsEased q → r ≡ q → IsEased r
 calm_as r q calm e = subst IsEased (sym e) calm
 
--- no object moves, and none is gone; where no frame is free enough spans are loose, and enough
--- nodes have room; each version has a next one
+-- no object moves, and none is gone; where no run of frames is free that a span of some class
+-- fits enough spans are loose, and enough nodes have room; each version has a next one
 pub record MakesEasy (x : Words) (far : FarState) : Type 0 where
   pub still : (h : ℕ) → h < length x.words → state_of (word_at x h) ≡ word.Moving → ⊥
   pub whole : (h : ℕ) → is_gone far h ≡ false
-  pub spans : least_free far.frames ≡ None → far.code.k ≤ length (loose_frames x far)
+  pub spans : (class : Class) → IsClass class → least_run far.frames (pages_of class) ≡ None
+      → far.code.k ≤ length (loose_frames x far)
   pub nodes : far.code.k + far.code.r ≤ room_count far.nodes far.members
   pub stamps : (h : ℕ) → stamp_at x h < 2 ^ 64 - 1
 
@@ -72,6 +76,10 @@ pub record KeepsEasy (E : Holding Words → Type 0) : Type 0 where
 
 abbrev IsEasy : Holding Words → Type 0
 IsEasy a = MakesEasy a.desk a.far
+
+-- no run of frames is free that a span of some class fits
+abbrev IsShort : FarState → Type 0
+IsShort far = (class : Class) × IsClass class × (least_run far.frames (pages_of class) ≡ None)
 
 -- ---- replies by pointer word and version word
 still_at : (x : Words) (far : FarState) → MakesEasy x far → (h : ℕ)
@@ -150,7 +158,7 @@ nodes_set : (nodes : ℕ) (r : Reply) (id : _) → r ≡ answer.NoNodes nodes �
 nodes_set nodes r id a b = cc
 
 not_refused : (a b : Holding Words) (why : Lack) (loose nodes : ℕ) → IsEasy a
-    → least_free a.far.frames ≡ None → StillRoom a (Refused why loose nodes) b → ⊥
+    → IsShort a.far → StillRoom a (Refused why loose nodes) b → ⊥
 not_refused a b why loose nodes easy none step = by step.0.step
   where
     no_set : (why : Lack) (id : _) → reply_of (Refused why loose nodes) ≡ answer.Set id → ⊥
@@ -159,7 +167,7 @@ not_refused a b why loose nodes easy none step = by step.0.step
 
     by : IsEvictStep a.desk b.desk a.far b.far (reply_of (Refused why loose nodes)) → ⊥
     by (few_spans few same) =
-        let enough = easy.spans none in let less = few.few in omega (arith, enough, less)
+        let enough = easy.spans none.0 none.1 none.2 in let less = few.few in omega (arith, enough, less)
     by (few_nodes few same) =
         let enough = easy.nodes in let less = few.few in omega (arith, enough, less)
     by (made m) = no_set why _ m.reply
@@ -173,10 +181,10 @@ made_crammed : (r : Reply) (h : _) (version : ℕ) → r ≡ answer.NoFrame
 made_crammed r h version a b = cc
 
 make_stops : (bytes : List ℕ) (a m : Holding Words) → StillMake bytes a answer.NoFrame m
-    → (m ≡ a) × (least_free a.far.frames ≡ None)
+    → (m ≡ a) × IsShort a.far
 make_stops bytes a m (inl (full, reply, words, far)) = absurd (full_crammed _ _ refl reply)
 make_stops bytes a m (inr (more, inl (none, reply, words, far))) =
-    (same_holding a m words far, none.2.taken)
+    (same_holding a m words far, (none.0, none.1.in_table, none.2.taken))
 make_stops bytes a m (inr (more, inr (reply, new))) = absurd (made_crammed _ _ _ refl reply)
 
 make_at : (bytes : List ℕ) (a b : Holding Words) (r : Reply) → (r ≡ answer.NoFrame → ⊥)
@@ -193,7 +201,7 @@ make_calm E keeps bytes frames left a b r good (at_once o off) = make_at bytes a
 make_calm E keeps bytes frames left a b r good (no_room m why loose nodes o v is) =
     let x = make_stops bytes a m o in
     absurd (not_refused m b why loose nodes (keeps.easy m (subst E (sym x.0) good))
-    (ap (λ (z : Holding Words). least_free z.far.frames) x.0 ∙ x.1) v)
+    (subst (λ (z : Holding Words). IsShort z.far) (sym x.0) x.1) v)
 make_calm E keeps bytes frames (suc fewer) a b r good (won m n id o v again) =
     let x = make_stops bytes a m o in
     make_calm E keeps bytes frames fewer n b r (keeps.kept m n id (subst E (sym x.0) good) v) again
@@ -209,29 +217,44 @@ not_room far id set frames loose nodes = by (is_broken far.members set)
 
     by : (b : Bool) → (if b
         then answer.Unavailable (record { n = id }) (lost far.members set.shards)
-        else frame_answer (least_free far.frames)) ≡ answer.NoRoom frames loose nodes → ⊥
+        else frame_answer (least_run far.frames set.pages)) ≡ answer.NoRoom frames loose nodes → ⊥
     by true e = cc
-    by false e = framed (least_free far.frames) e
+    by false e = framed (least_run far.frames set.pages) e
 
-swap_stops : (h : ℕ) (a m : Holding Words) → StillSwap h a answer.NoFrame m
-    → (m ≡ a) × (least_free a.far.frames ≡ None)
-swap_stops h a m (home, at, step, hold) = (
-  same_holding a m step.change.0 step.change.1,
-  (step_only_no_frame a.desk m.desk a.far m.far home.set home.position step).1,
-)
+same_set : (a b : SetState) → Some a ≡ Some b → a ≡ b
+same_set a b e = cc
+
+-- the set's spans have the length of the spans of the object's class
+swap_stops : (h : ℕ) (a m : Holding Words) (s : Shown) → IsKnown a.desk a.far s
+    → StillSwap h a answer.NoFrame m → (m ≡ a) × IsShort a.far
+swap_stops h a m s known (home, at, step, hold) =
+    let away = known.sound.away.sound in
+    let lies = away.away.home h home at in
+    let word = away.sets.worded home.set lies.0 lies.1 in
+    let object = word.1.holds home.position home.slot h lies.2 in
+    let none = (step_only_no_frame a.desk m.desk a.far m.far home.set home.position step).1 in
+    let same = same_set step.set lies.0 (sym step.there ∙ lies.1) in
+    let short = subst (λ (pages : ℕ). least_run a.far.frames pages ≡ None)
+    (ap (λ (z : SetState). z.pages) same ∙ object.paged) none in
+    (same_holding a m step.change.0 step.change.1, (object.class, object.fits.in_table, short))
 
 has_room : (E : Holding Words → Type 0) → KeepsEasy E → (h room left : ℕ) (a b : Holding Words)
-    (r : Reply) (frames loose nodes : ℕ) → E a → WithRoom room (StillSwap h) StillRoom left a r b
-    → r ≡ answer.NoRoom frames loose nodes → ⊥
-has_room E keeps h room left a b r frames loose nodes good (at_once (home, at, step, hold) off) e =
+    (r : Reply) (frames loose nodes : ℕ) (s : Shown) → IsKnown a.desk a.far s → E a
+    → WithRoom room (StillSwap h) StillRoom left a r b → r ≡ answer.NoRoom frames loose nodes → ⊥
+has_room E keeps h room left a b r frames loose nodes s known good
+    (at_once (home, at, step, hold) off) e =
     not_room a.far home.set step.set frames loose nodes (sym step.reply ∙ e)
-has_room E keeps h room left a b r frames loose nodes good (no_room m why some other o v is) e =
-    let x = swap_stops h a m o in
+has_room E keeps h room left a b r frames loose nodes s known good
+    (no_room m why some other o v is) e =
+    let x = swap_stops h a m s known o in
     not_refused m b why some other (keeps.easy m (subst E (sym x.0) good))
-    (ap (λ (z : Holding Words). least_free z.far.frames) x.0 ∙ x.1) v
-has_room E keeps h room (suc fewer) a b r frames loose nodes good (won m n id o v again) e =
-    let x = swap_stops h a m o in
-    has_room E keeps h room fewer n b r frames loose nodes
+    (subst (λ (z : Holding Words). IsShort z.far) (sym x.0) x.1) v
+has_room E keeps h room (suc fewer) a b r frames loose nodes s known good
+    (won m n id o v again) e =
+    let x = swap_stops h a m s known o in
+    let one = kept_swap a m h answer.NoFrame s known o in
+    let two = kept_then a m n s one (kept_room m n (Set id) one.shown one.known v) in
+    has_room E keeps h room fewer n b r frames loose nodes two.shown two.known
     (keeps.kept m n id (subst E (sym x.0) good) v) again e
 
 bring_calm : (E : Holding Words → Type 0) → KeepsEasy E → (h : ℕ) (a b : Holding Words) (r : Reply)
@@ -243,7 +266,7 @@ bring_calm E keeps h a b r s known good step = by (bring_ends a b h r s known st
     by (broke id losses e z) =
         absurd (false≢true (sym ((keeps.easy a good).whole h) ∙ lost_gone a.far h id losses z))
     by (crammed frames loose nodes e kept) = absurd (has_room E keeps h a.desk.settings.frames
-        most_evictions a b r frames loose nodes good step e)
+        most_evictions a b r frames loose nodes s known good step e)
 
 -- an object that came in is here
 unavailable_came : (f : ℕ) (r : Reply) (id : _) (losses : _) → r ≡ answer.Swapped f

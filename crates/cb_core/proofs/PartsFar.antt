@@ -6,7 +6,7 @@ use Rattle.std.proofs.lemmas.Bool.{cases_lt}
 use Rattle.std.proofs.lemmas.List.{get_or_past, length-take-le, set_past}
 use Rattle.std.proofs.lemmas.List.Folds.{list_any_at}
 use Rattle.std.proofs.lemmas.List.Sums.{sum_by-set}
-use Rattle.cb_frame.specs.FreeFrames.{least_free}
+use Rattle.cb_frame.specs.Runs.{least_run}
 use Rattle.cb_member.specs.declared.names.Loss.{Loss}
 use Rattle.cb_member.specs.declared.names.Shard.{Shard}
 use Rattle.cb_node.specs.NodesState.{NodesState, with_row}
@@ -33,7 +33,7 @@ use Rattle.cb_world.specs.SetWord.{is_broken}
 use Rattle.cb_world.specs.Sound.{Sound}
 use Rattle.cb_world.specs.Stored.{all_put}
 use Rattle.cb_world.specs.World.{IsConfigured}
-use Rattle.cb_mutate.specs.MakeRule.{MakeRule}
+use Rattle.cb_mutate.specs.MakeRule.{HasNoPlace, MakeRule}
 use Rattle.cb_evict.specs.Candidates.{candidates, SpanNames}
 use Rattle.cb_evict.specs.Closing.{all_closed}
 use Rattle.cb_evict.specs.EvictRule.{HasEvicted, EvictRule}
@@ -183,13 +183,13 @@ has_won c s far new r id es accepted configured sound rule set =
           not_resident s far h g home sound at names) ∙ at;
     }
 
--- ---- where there is no frame
+-- ---- where there is no frame for a span of the object's class, or of the set's length
 pub make_crammed : (handles : ℕ) (bytes : List ℕ) (far new : FarState) (r : Reply) (es : List Event)
     → MakeRule handles bytes far new r es → r ≡ answer.NoFrame
-    → (new ≡ far) × (least_free far.frames ≡ None)
+    → (new ≡ far) × HasNoPlace (length bytes) far
 make_crammed handles bytes far new r es rule none =
     let x = subst (λ (q : Reply). MakeRule handles bytes far new q es) none rule in
-    (x.2.0, x.1.2.taken)
+    (x.2.0, x.1)
 
 unavailable_not : (r : Reply) (id : SetId) (ls : List Loss) → r ≡ answer.Unavailable id ls
     → r ≡ answer.NoFrame → ⊥
@@ -204,19 +204,23 @@ no_least (Some f) e = absurd (differ (frame_answer (Some f)) f refl e)
 
 by_broken : (far : FarState) (id : ℕ) (set : SetState) (broken : Bool)
     → is_broken far.members set ≡ broken → swap_answer far id set ≡ answer.NoFrame
-    → least_free far.frames ≡ None
+    → least_run far.frames set.pages ≡ None
 by_broken far id set broken b e = by broken (subst (λ (x : Bool). (if x
     then answer.Unavailable (record { n = id }) (lost far.members set.shards)
-    else frame_answer (least_free far.frames)) ≡ answer.NoFrame) b e)
+    else frame_answer (least_run far.frames set.pages)) ≡ answer.NoFrame) b e)
   where
     by : (x : Bool) → (if x then answer.Unavailable (record { n = id }) (lost far.members set.shards)
-        else frame_answer (least_free far.frames)) ≡ answer.NoFrame → least_free far.frames ≡ None
+        else frame_answer (least_run far.frames set.pages)) ≡ answer.NoFrame
+        → least_run far.frames set.pages ≡ None
     by true q = absurd (unavailable_not _ (record { n = id }) (lost far.members set.shards) refl q)
-    by false q = no_least (least_free far.frames) q
+    by false q = no_least (least_run far.frames set.pages) q
 
 pub swap_crammed : (id p : ℕ) (far new : FarState) (r : Reply) (es : List Event)
     → SwapRule id p far new r es → r ≡ answer.NoFrame
-    → (new ≡ far) × (least_free far.frames ≡ None)
+    → (new ≡ far) × ((set : SetState) × (set_in far.sets id ≡ Some set)
+    × (least_run far.frames set.pages ≡ None))
 swap_crammed id p far new r es rule none =
     let x = subst (λ (q : Reply). SwapFar far new id p rule.set es q) none rule.state in
-    (x.0, by_broken far id rule.set (is_broken far.members rule.set) refl (sym rule.reply ∙ none))
+    let short = by_broken far id rule.set (is_broken far.members rule.set) refl
+    (sym rule.reply ∙ none) in
+    (x.0, (rule.set, rule.there, short))

@@ -70,6 +70,8 @@ module _ (turns : ℕ) (by_job : List ℕ) where
     room = z.room;
     reply = z.reply;
     evicted = record {
+      pages = e.pages;
+      long = e.long;
       shards = e.shards;
       rows = e.rows;
       chosen = record {
@@ -116,6 +118,7 @@ module _ (turns : ℕ) (by_job : List ℕ) where
     state = record {
       class = z.state.class;
       in_table = z.state.in_table;
+      paged = z.state.paged;
       sized = z.state.sized;
       frames = z.state.frames;
       spans = z.state.spans;

@@ -4,7 +4,7 @@ use Rattle.std.proofs.lemmas.Bool.{false≢true}
 use Rattle.cb_ptr.specs.declared.word.State.{State}
 use Rattle.cb_ptr.specs.declared.word.State.TheVariants as state
 use Rattle.cb_ptr.specs.Word.{state_of, len_of}
-use Rattle.cb_frame.specs.FreeFrames.{least_free}
+use Rattle.cb_frame.specs.Runs.{least_run}
 use Rattle.cb_set.specs.Lost.{lost}
 use Rattle.cb_set.specs.SetState.{SetState}
 use Rattle.cb_types.specs.declared.reply.Reply.{Reply}
@@ -89,7 +89,7 @@ find_far h a m f = find_off h a m answer.NotHere f not_here_stays
 
 -- ---- what is brought in is answered otherwise than what is here
 stays_swap : (far : FarState) (id : ℕ) (set : SetState) → answer.Stays ≡ swap_answer far id set → ⊥
-stays_swap far id set = by (is_broken far.members set) (least_free far.frames)
+stays_swap far id set = by (is_broken far.members set) (least_run far.frames set.pages)
   where
     by : (b : Bool) (o : Option ℕ) → answer.Stays
         ≡ (if b then answer.Unavailable (record { n = id }) (lost far.members set.shards)

@@ -1,5 +1,5 @@
 -- What an event leaves that found no memory, and what a run leaves.
-use Rattle.std.proofs.Common.{◌≡◌, ◌⊎◌, ℕ, suc, ◌^◌, ◌<◌, ◌+◌, List, [], length, take, drop, get_or, Option, Some, None, refl, sym, ap, ◌∙◌, subst, inl, inr}
+use Rattle.std.proofs.Common.{◌≡◌, ◌⊎◌, ℕ, zero, suc, ◌^◌, ◌<◌, ◌+◌, List, [], length, take, drop, get_or, Option, Some, None, refl, sym, ap, ◌∙◌, subst, inl, inr}
 use Rattle.cb_ptr.specs.declared.word.State.{State}
 use Rattle.cb_ptr.specs.declared.word.State.TheVariants as state
 use Rattle.cb_ptr.specs.Word.{state_of}
@@ -227,6 +227,7 @@ module _ (w new : WorldState) (seat : ℕ) (j : Job) (alone : NoOtherHolds w.sea
 
   world_evicts : (left : ℕ) (n : Holding Words) → AreEvicted left n (held_then new)
       → MakesEvictions seat left (uncounted n) new
+  world_evicts zero n never = elim never [ ]
   world_evicts (suc fewer) n (the_last o id evict z) = last (with_held (counted_as job.Evict o)) id
       (evict_turn n o id evict) (record { desk = z.desk; far = z.far; seats = seats })
   world_evicts (suc fewer) n (and_more o id evict rest) =
@@ -263,6 +264,7 @@ module _ (w new : WorldState) (seat : ℕ) (j : Job) (alone : NoOtherHolds w.sea
   evictions_kept : (left : ℕ) (n : Holding Words) (s : Shown) → (kept : HasKept (held_at w j) n s)
       → AreEvicted left n (held_then new)
       → (t : Shown) × IsKnown new.desk new.far t × ((h : ℕ) → now_in new t h ≡ now_in w s h)
+  evictions_kept zero n s kept never = elim never [ ]
   evictions_kept (suc fewer) n s kept (the_last o id evict z) = kept_left o s
       (kept_then (held_at w j) n o s kept (kept_room n o (Set id) kept.shown kept.known evict)) z
   evictions_kept (suc fewer) n s kept (and_more o id evict rest) = evictions_kept fewer o s

@@ -1,6 +1,6 @@
 -- How the bringing in of a far object within a turn ends.
 use Rattle.std.proofs.Common.{◌≡◌, ℕ, zero, suc, Bool, true, false, None, Some, List, refl, sym, ap, ◌∙◌, subst}
-use Rattle.cb_frame.specs.FreeFrames.{least_free}
+use Rattle.cb_frame.specs.Runs.{least_run}
 use Rattle.cb_member.specs.declared.names.Loss.{Loss}
 use Rattle.cb_ptr.specs.declared.word.State.TheVariants as state
 use Rattle.cb_ptr.specs.Word.{state_of}
@@ -78,11 +78,12 @@ swap_ends a b h r s k (home, at, z, hold) never =
       lost = refl;
     })
 
-    none : is_broken a.far.members z.set ≡ false → least_free a.far.frames ≡ None → C answer.NoFrame
+    none : is_broken a.far.members z.set ≡ false → least_run a.far.frames z.set.pages ≡ None
+        → C answer.NoFrame
     none e free y never = absurd (never refl)
 
-    some : (f : ℕ) → is_broken a.far.members z.set ≡ false → least_free a.far.frames ≡ Some f
-        → C (answer.Swapped f)
+    some : (f : ℕ) → is_broken a.far.members z.set ≡ false
+        → least_run a.far.frames z.set.pages ≡ Some f → C (answer.Swapped f)
     some f e free y never = let then = hold s k in
         came f refl (whole e) (home_comes_in a.desk b.desk a.far b.far s then.0 h home f k then.1 at y).reads.here
 

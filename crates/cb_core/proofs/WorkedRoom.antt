@@ -2,6 +2,7 @@
 use Rattle.std.proofs.Common.{◌≡◌, ℕ, false, List, [], ◌∷◌, Option, None, Some, refl, arith}
 use Rattle.std.specs.FinMap as map
 use Rattle.cb_class.specs.declared.class.Class.{Class}
+use Rattle.cb_class.specs.Class.{pages_of}
 use Rattle.cb_member.specs.Membership.{Membership, fresh_node, fresh_members}
 use Rattle.cb_node.specs.NodesState.{empty_nodes}
 use Rattle.cb_span.specs.declared.temp.Temp.TheVariants.{Hot}
@@ -18,6 +19,15 @@ use Rattle.cb_core.proofs.WorkedPins.{settings, calm, hot, pinned, moving}
 -- slots of 1,024 bytes, four a span
 abbrev pub largest : Class
 largest = record { index = 11 }
+
+-- a span of this class has one page, and so has one of the smallest class
+pub one_page : pages_of largest ≡ 1
+unfolding pages_of
+one_page = refl
+
+pub one_small_page : pages_of (record { index = 0 }) ≡ 1
+unfolding pages_of
+one_small_page = refl
 
 -- a span with these objects in its first two slots
 abbrev pub span_with : Option ℕ → Option ℕ → Option Contents

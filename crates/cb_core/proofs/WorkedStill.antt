@@ -4,6 +4,7 @@ use Rattle.std.proofs.Common.{◌≡◌, ℕ, zero, suc, ◌+◌, ◌<◌, ◌�
 use Rattle.std.specs.FinMap as map
 use Rattle.std.specs.Ordering.{nat_cmp}
 use Rattle.cb_class.specs.Class.{IsClassOf, bytes_of}
+use Rattle.cb_frame.specs.Runs.{least_run}
 use Rattle.cb_member.specs.declared.names.Shard.{Shard}
 use Rattle.cb_member.specs.Membership.{fresh_members}
 use Rattle.cb_ptr.specs.Word.{state_number}
@@ -50,7 +51,7 @@ use Rattle.cb_core.specs.Step.{StillRead, StillWrite, StillFind, StillDecline, H
 use Rattle.cb_core.specs.FarJobs.{FarLacks, FarStep, IsWeakGiven}
 use Rattle.cb_core.specs.Turned.{AtFar, AtFarLacks}
 use Rattle.cb_core.proofs.WorkedPins.{settings, desk, away, calm, hot, pinned, moving}
-use Rattle.cb_core.proofs.WorkedRoom.{counts, far_of, first_down, largest, span_with, two_open, words_are}
+use Rattle.cb_core.proofs.WorkedRoom.{counts, far_of, first_down, largest, one_page, one_small_page, span_with, two_open, words_are}
 
 -- ---- two frames, of which none is free, and whose spans have object 1; object 0 has its home in set
 -- 5, which has a live position
@@ -491,7 +492,11 @@ none_has_room (suc (suc f)) room = let e : 1 ≡ 0 = ap kind room.0 in omega (ar
 make_stops : StillMakeLacks (7 ∷ []) (holds calm open_far) (holds calm open_far)
 make_stops = (
   refl,
-  (lit< tt, (record { index = 0 }, smallest, record { full = none_has_room; some_free = lit≤ tt })),
+  (lit< tt, (record { index = 0 }, smallest, record {
+    full = none_has_room;
+    first = 1;
+    some_free = ap (least_run open_far.frames) one_small_page;
+  })),
 )
 
 make_stops_and_warms : StillMakeLacks (7 ∷ []) (holds calm open_far) (holds hot open_far) → ⊥
@@ -641,7 +646,11 @@ filter_stops = (
   (
     seat,
     record { free = (refl, refl); stands = record { there = refl; named = refl } },
-    (hot_cold, record { full = none_cold; some_free = lit≤ tt }),
+    (hot_cold, record {
+      full = none_cold;
+      first = 1;
+      some_free = ap (least_run open_far.frames) one_page;
+    }),
   ),
 )
 

@@ -1,6 +1,6 @@
 -- Worked examples of what want of memory leaves: what meets each definition, and what breaks one
 -- part.
-use Rattle.std.proofs.Common.{◌≡◌, ◌⊎◌, ℕ, suc, ◌≤◌, Bool, true, false, List, [], ◌∷◌, ◌++◌, None, Some, length, get_or, refl, ap, ◌∙◌, subst, inl, inr, arith}
+use Rattle.std.proofs.Common.{◌≡◌, ◌⊎◌, ℕ, zero, suc, ◌≤◌, Bool, true, false, List, [], ◌∷◌, ◌++◌, None, Some, length, get_or, refl, ap, ◌∙◌, subst, inl, inr, arith}
 use Rattle.cb_types.specs.declared.config.Config.{Config}
 use Rattle.cb_types.specs.declared.handle.SetId.{SetId}
 use Rattle.cb_types.specs.declared.job.Job.TheVariants as job
@@ -130,6 +130,7 @@ no_fewer : (v new : WorldState) → MakesEvictions 3 0 v new → ⊥
 no_fewer v new more = by 0 refl more
   where
     by : (n : ℕ) → n ≡ 0 → MakesEvictions 3 n v new → ⊥
+    by zero none never = elim never [ ]
     by (suc n) none (last u id step same) = omega (arith, none)
     by (suc n) none (one_more u x id step same rest) = omega (arith, none)
 

@@ -2,6 +2,7 @@
 use Rattle.std.proofs.Common.{◌≡◌, ℕ, zero, suc, ◌^◌, ◌≤◌, List, [], ◌∷◌, ◌++◌, Option, None, Some, length, replicate, get_or, unwrap_or, refl, ap, sym, ◌∙◌, subst, inl, inr, lit<, lit≤, arith}
 use Rattle.std.specs.FinMap as map
 use Rattle.cb_class.specs.Class.{IsClassOf, bytes_of}
+use Rattle.cb_frame.specs.Runs.{least_run}
 use Rattle.cb_member.specs.declared.names.NodeId.{NodeId}
 use Rattle.cb_member.specs.Membership.{fresh_members}
 use Rattle.cb_node.specs.NodesState.{empty_nodes, held, with_rows}
@@ -35,7 +36,7 @@ use Rattle.cb_evict.specs.declared.eviction.Lack.TheVariants.{Spans}
 use Rattle.cb_core.specs.Parts.{Holding, at_once, no_room as no_room_won, won, near, far as was_away, after as once_in}
 use Rattle.cb_core.specs.Step.{StillEvict, StillRoom, TurnStep, worn, done, free, Step, Leads, EventStops, StillStops}
 use Rattle.cb_core.proofs.WorkedPins.{settings, desk, calm, hot, pinned, pin_on, seat_with}
-use Rattle.cb_core.proofs.WorkedRoom.{counts, far_of, first_down, span_with, two_open, words_are}
+use Rattle.cb_core.proofs.WorkedRoom.{counts, far_of, first_down, one_small_page, span_with, two_open, words_are}
 
 abbrev pub node : ℕ → NodeId
 node n = record { n = n }
@@ -173,7 +174,11 @@ no_span_has_room c (suc zero) room = let e : 22 ≡ 0 = ap kind room.0 in omega 
 no_span_has_room c (suc (suc f)) room = let e : 1 ≡ 0 = ap kind room.0 in omega (arith, e)
 
 no_place : (c : CountsState) → HasNoPlace 1 (crowd c)
-no_place c = (record { index = 0 }, smallest, record { full = no_span_has_room c; taken = refl })
+no_place c = (
+  record { index = 0 },
+  smallest,
+  record { full = no_span_has_room c; taken = ap (least_run (crowd c).frames) one_small_page },
+)
 
 abbrev four_with_a_make : CountsState
 four_with_a_make = counts 4 (1 ∷ 3 ∷ replicate 17 0)
