@@ -70,20 +70,20 @@ lies_beside far temp slot h place seat frames chosen lies other =
       counted = subst (λ (n : ℕ). seat.frame + pages_of seat.span.class ≤ n) (sym free.stands.sized)
           lies.counted;
       alone = λ g behind to. get_or-set_other far.spans slot.frame g y None
-          (λ e. at_start run e behind to) ∙ lies.alone g behind to;
+          (λ e. at_start _ _ _ _ run e behind to) ∙ lies.alone g behind to;
       busy = λ g from to z. lies.busy g from to
-          (sym (free.stands.others g (out_of run from to)) ∙ z);
+          (sym (free.stands.others g (out_of _ _ _ _ run from to)) ∙ z);
     }
   where
-    at_start : {g n f m : ℕ} → (f + m ≤ slot.frame) ⊎ (slot.frame + n ≤ f) → g ≡ slot.frame → f < g
-        → g < f + m → ⊥
-    at_start (inl less) e behind to = omega (arith, less, e, to)
-    at_start (inr more) e behind to = omega (arith, more, e, behind)
+    at_start : (g n f m : ℕ) → (f + m ≤ slot.frame) ⊎ (slot.frame + n ≤ f) → g ≡ slot.frame
+        → f < g → g < f + m → ⊥
+    at_start g n f m (inl less) e behind to = omega (arith, less, e, to)
+    at_start g n f m (inr more) e behind to = omega (arith, more, e, behind)
 
-    out_of : {g n f m : ℕ} → (f + m ≤ slot.frame) ⊎ (slot.frame + n ≤ f) → f ≤ g → g < f + m
+    out_of : (g n f m : ℕ) → (f + m ≤ slot.frame) ⊎ (slot.frame + n ≤ f) → f ≤ g → g < f + m
         → (g < slot.frame) ⊎ (slot.frame + n ≤ g)
-    out_of (inl less) from to = inl (omega (arith, less, to))
-    out_of (inr more) from to = inr (omega (arith, more, from))
+    out_of g n f m (inl less) from to = inl (omega (arith, less, to))
+    out_of g n f m (inr more) from to = inr (omega (arith, more, from))
 
 -- the far state once the old slot is empty too
 pub moved_far : (far before : FarState) (frames : List Bool) (spans : List (Option Contents))

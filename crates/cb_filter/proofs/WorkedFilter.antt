@@ -1,6 +1,7 @@
 -- Worked examples of what a filter does, of copied words, and of the parts of a filter.
-use Rattle.std.proofs.Common.{subst, ◌∙◌, ◌≡◌, ◌≢◌, ℕ, zero, suc, Bool, ◌+◌, ◌*◌, ◌^◌, ◌<◌, true, false, List, [], ◌∷◌, None, length, get_or, refl, ap, lit<, lit≤, arith, inl, inr}
+use Rattle.std.proofs.Common.{subst, ◌∙◌, ◌≡◌, ◌≢◌, ℕ, zero, suc, Bool, ◌+◌, ◌*◌, ◌^◌, ◌<◌, true, false, List, [], ◌∷◌, None, Some, length, get_or, refl, ap, lit<, lit≤, arith, inl, inr}
 use Rattle.cb_class.specs.Class.{slots_of, pages_of, bytes_of, words_of}
+use Rattle.cb_frame.specs.FreeFrames.{IsFreeFrame}
 use Rattle.cb_ptr.specs.declared.word.State.TheVariants as state
 use Rattle.cb_types.specs.declared.reply.Reply.TheVariants as answer
 use Rattle.cb_span.specs.declared.temp.Temp.TheVariants.{Hot, Cold}
@@ -103,7 +104,7 @@ there = record s {
 }
 
 moves : IsMoved 0 far moved moving s there
-unfolding put words_of bytes_of
+unfolding put words_of bytes_of pages_of
 moves = record {
   word = cold_word;
   version = 7;
@@ -238,7 +239,9 @@ lies = record {
   valid = record { in_table = lit< tt; sized = refl };
   within = lit< tt;
   counted = lit< tt;
-  busy = λ free. let z : false ≡ true = free in cc;
+  alone = λ g behind to. absurd (omega (arith, behind, to));
+  busy = λ g from to free. let one : g ≡ 1 = omega (arith, from, to) in
+      let z : false ≡ true = subst (IsFreeFrame far.frames) one free in cc;
 }
 
 lies_elsewhere : ¬ (LiesAtPlace far 640 seat)
@@ -252,6 +255,7 @@ plans_same_of_another : ¬ (Plans far far Cold 0 seat plan.Same)
 plans_same_of_another x = hot_cold x.0
 
 plans_none : Plans full full Cold 0 seat plan.NoSlot
+unfolding pages_of
 plans_none = (hot_cold, record { full = no_room; taken = refl }, refl)
 
 plans_none_of_its_own : ¬ (Plans full full Hot 0 seat plan.NoSlot)
@@ -269,10 +273,12 @@ plans_move_of_its_own : ¬ (Plans far both Hot 0 seat (plan.Move 0))
 plans_move_of_its_own x = x.1 refl
 
 wants : Wants short Cold seat
-wants = (hot_cold, record { full = no_room; some_free = lit≤ tt })
+unfolding pages_of
+wants = (hot_cold, record { full = no_room; first = 2; some_free = refl })
 
 wants_where_none_is_free : ¬ (Wants full Cold seat)
-wants_where_none_is_free x = absurd (omega (arith, x.1.some_free))
+unfolding pages_of
+wants_where_none_is_free x = absurd (let z : None ≡ Some x.1.first = x.1.some_free in cc)
 
 -- ---- ends
 abbrev claimed : Shown

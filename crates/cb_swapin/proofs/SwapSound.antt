@@ -1,10 +1,9 @@
 -- A span has arrived in free frames: the world is sound, and last complete contents stay.
-use Rattle.std.proofs.Common.{◌≡◌, ◌≢◌, ◌⊎◌, ℕ, false, ◌+◌, ◌*◌, ◌<◌, ◌≤◌, List, Option, Some, None, Contains, length, get_or, set, refl, sym, ap, ◌∙◌, subst, arith, inl, inr}
+use Rattle.std.proofs.Common.{◌≡◌, ◌≢◌, ◌⊎◌, ℕ, false, ◌+◌, ◌*◌, ◌/◌, ◌<◌, ◌≤◌, List, Option, Some, None, Contains, length, get_or, set, refl, sym, ap, ◌∙◌, subst, arith, inl, inr}
 use Rattle.std.specs.FinMap as map
-use Rattle.std.proofs.lemmas.Bool.{cases_order}
 use Rattle.std.proofs.lemmas.List.{get_or_past}
 use Rattle.cb_class.proofs.Laws.{object_fits, slot_in_run}
-use Rattle.cb_class.specs.Class.{slots_of, words_of}
+use Rattle.cb_class.specs.Class.{pages_of, slots_of, words_of}
 use Rattle.cb_set.specs.SetState.{SetState, dead_position, position_of, with_position}
 use Rattle.cb_set.proofs.Laws.{dead_is_rest}
 use Rattle.cb_span.specs.Contents.{Contents}
@@ -33,7 +32,8 @@ use Rattle.cb_swapin.specs.Named.{NamesHandle, IsNamed}
 use Rattle.cb_swapin.proofs.Committed.{live_within}
 use Rattle.cb_swapin.proofs.SlotNames.{named_or_not, named_within}
 use Rattle.cb_swapin.proofs.SlotsBrought.{far_same}
-use Rattle.cb_swapin.proofs.Waits.{CanArrive, home_named, named_waits}
+use Rattle.cb_swapin.proofs.Waits.{CanArrive, arrives_in, home_named, named_waits, other_run}
+use Rattle.cb_swapin.proofs.RowGiven.{word_is_wide}
 use Rattle.cb_swapin.proofs.Arrived.{free_frame, HasArrived, arrived_here, each_moved, moved, other_span}
 
 some_none : {X : Type 0} (o : Option X) (x : X) → o ≡ None → o ≡ Some x → ⊥

@@ -18,6 +18,20 @@ use Rattle.cb_filter.proofs.Cooled.{may_cool, cooled, IsCopied, carried, carry_a
 use Rattle.cb_filter.proofs.Berths.{lies_beside, moved_far}
 use Rattle.cb_filter.proofs.filtering.filter_claimed.Goals as goal
 
+pub carry-requires-clause-ready : goal.carry-requires-clause-ready
+carry-requires-clause-ready g c =
+    let far = c.args.far.now in let w = c.args.word in let h = c.args.h.n in
+    let seat = c.requires.seat in let had = c.requires.ready in let known = had.2.2 in
+    let plan = subst (Plans far c.plan_move.new.far (temp_for (hot_of w)) h seat.0) c.in-Move.is
+    (c.in-Ok.ensures.plan seat.0 seat.1) in
+    (
+      had.0,
+      had.1,
+      subst (IsVacant had.0 h w) (sym plan.4)
+          (known.vacant seat.0 plan.0 seat.1 plan.1 plan.2),
+      (had.2.0, had.2.1, known.claimed),
+    )
+
 pub release-requires : goal.release-requires
 release-requires g c =
     let far = c.args.far.now in let w = c.args.word in

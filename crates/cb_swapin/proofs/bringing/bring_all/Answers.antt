@@ -23,7 +23,7 @@ overflow_cast-slot g c = let most = slots_at_most c.args.class c.requires.class 
 
 pub slot_place-requires-clause-frame : goal.slot_place-requires-clause-frame
 slot_place-requires-clause-frame g c =
-    omega (arith, (c.requires.config Frames).1, c.requires.frame)
+    omega (arith, (c.requires.config Frames).1, c.requires.frames)
 
 pub bring_slot-requires-clause-handle : goal.bring_slot-requires-clause-handle
 bring_slot-requires-clause-handle g c =

@@ -13,12 +13,21 @@ use Rattle.cb_swapin.proofs.SpanBrought.{span_brought, waiting_stored}
 use Rattle.cb_swapin.proofs.bringing.bring_span.Goals as goal
 
 -- a row that was stored in a run, by another count of its frames
-in_run : (runs : List Event → Type 0) (shows : Shown → Type 0) (does : Shown → Shown → Type 0)
-    (f n m : ℕ) → n ≡ m
+abbrev in_run : (runs : List Event → Type 0) (shows : Shown → Type 0)
+    (does : Shown → Shown → Type 0) (f n m : ℕ) → n ≡ m
     → Brought runs (λ s. shows s × IsRunVacant s f n) (StoresIn f n) does
     → Brought runs (λ s. shows s × IsRunVacant s f m) (StoresIn f m) does
-in_run runs shows does f n m e x = subst (λ (k : ℕ).
-    Brought runs (λ s. shows s × IsRunVacant s f k) (StoresIn f k) does) e x
+in_run runs shows does f n m e x =
+    let back : (s : Shown) → shows s × IsRunVacant s f m → shows s × IsRunVacant s f n =
+    λ s k. (k.0, subst (IsRunVacant s f) (sym e) k.1) in record {
+      events = x.events;
+      ran = x.ran;
+      tells = subst (λ (k : ℕ). StoresIn f k x.events) e x.tells;
+      looks_first = x.looks_first;
+      allowed = λ s k. x.allowed s (back s k);
+      nothing = λ s k. x.nothing s (back s k);
+      effect = λ s k. x.effect s (back s k);
+    }
 
 pub store_row-requires-clause-frames : goal.store_row-requires-clause-frames
 store_row-requires-clause-frames g c =
@@ -50,49 +59,44 @@ bring_all-requires-clause-homes g c h named =
 pub bring_all-requires-clause-stored : goal.bring_all-requires-clause-stored
 bring_all-requires-clause-stored g c =
     let had = c.requires.waiting in let s = had.0 in
-    let span = c.args.span.now in let f = c.args.frame in
-    let e : c.pages.result ≡ pages_of span.class = c.pages.ensures.pages
-    ∙ ap pages_of c.class-class.ensures.class in
-    let a = in_run _ _ _ f c.pages.result (pages_of span.class) e c.store_row.ensures in
+    let span = c.args.span.now in let f = c.args.frame in let class = c.class-class.result in
+    let same : class ≡ span.class = c.class-class.ensures.class in
+    let a = in_run _ _ _ f c.pages.result (pages_of class) c.pages.ensures.pages
+    c.store_row.ensures in
     let t = played a.events s in (
       t,
       (g.met.D.Desk.follows _ _ a.events s a.ran had.1).1,
-      subst (λ (l : List (Option ℕ)). AreStored t f c.class-class.result l) (sym c.slots.ensures.slots)
-          (subst (λ (k : Class). AreStored t f k span.slots) (sym c.class-class.ensures.class)
+      subst (λ (l : List (Option ℕ)). AreStored t f class l) (sym c.slots.ensures.slots)
+          (subst (λ (k : Class). AreStored t f k span.slots) (sym same)
           (waiting_stored s t f span.class span.slots c.args.row.now c.requires.row
-          c.slots.ensures.valid.sized had.2 (a.effect s (had.1, had.2.vacant)))),
+          c.slots.ensures.valid.sized had.2 (a.effect s (had.1,
+          subst (λ (q : Class). IsRunVacant s f (pages_of q)) (sym same) had.2.vacant)))),
     )
 
 pub returns-clause-brought : goal.returns-clause-brought
 returns-clause-brought g c =
     let span = c.args.span.now in let f = c.args.frame in let row = c.args.row.now in
-    let e : c.pages.result ≡ pages_of span.class = c.pages.ensures.pages
-    ∙ ap pages_of c.class-class.ensures.class in
-    let a = in_run _ _ _ f c.pages.result (pages_of span.class) e c.store_row.ensures in
+    let slots = c.slots.result.now in let class = c.class-class.result in
+    let same : class ≡ span.class = c.class-class.ensures.class in
+    let a = in_run _ _ _ f c.pages.result (pages_of class) c.pages.ensures.pages
+    c.store_row.ensures in
     let b = c.bring_all.ensures.brought in
     let all : List Event → Type 0 = λ es. g.D.Desk.run c.args.desk.now es c.bring_all.new.desk in
     let knows : Shown → Type 0 = λ s. g.D.Desk.shows c.args.desk.now s
     × AreWaiting s f span.class span.slots row in
+    let vacant : (s : Shown) → knows s → IsRunVacant s f (pages_of class) =
+    λ s k. subst (λ (q : Class). IsRunVacant s f (pages_of q)) (sym same) k.1.vacant in
     subst (λ (l : List (Option ℕ)).
     Brought all knows (BringsSlots l f (pages_of span.class)) (IsSpanBrought l span.class f row))
     c.slots.ensures.slots
     (subst (λ (k : Class).
-    Brought all knows (BringsSlots c.slots.result.now f (pages_of k))
-    (IsSpanBrought c.slots.result.now k f row))
-    c.class-class.ensures.class
-    (span_brought _ _ all _ _ knows c.slots.result.now c.class-class.result f row
-    (in_run _ _ _ f (pages_of span.class) (pages_of c.class-class.result)
-    (ap pages_of (sym c.class-class.ensures.class)) a) b
-    (g.met.D.Desk.more _ _ _ _ _ a.ran b.ran)
-    (λ s k. (
-      k.0,
-      subst (λ (q : Class). IsRunVacant s f (pages_of q)) (sym c.class-class.ensures.class)
-          k.1.vacant,
-    ))
+    Brought all knows (BringsSlots slots f (pages_of k)) (IsSpanBrought slots k f row)) same
+    (span_brought _ _ all _ _ knows slots class f row a b
+    (g.met.D.Desk.more _ _ _ _ _ a.ran b.ran) (λ s k. (k.0, vacant s k))
     (λ s k. let t = played a.events s in (
       (g.met.D.Desk.follows _ _ a.events s a.ran k.0).1,
-      subst (λ (l : List (Option ℕ)). AreStored t f c.class-class.result l) (sym c.slots.ensures.slots)
-          (subst (λ (q : Class). AreStored t f q span.slots) (sym c.class-class.ensures.class)
+      subst (λ (l : List (Option ℕ)). AreStored t f class l) (sym c.slots.ensures.slots)
+          (subst (λ (q : Class). AreStored t f q span.slots) (sym same)
           (waiting_stored s t f span.class span.slots row c.requires.row
-          c.slots.ensures.valid.sized k.1 (a.effect s (k.0, k.1.vacant)))),
+          c.slots.ensures.valid.sized k.1 (a.effect s (k.0, vacant s k)))),
     ))))
