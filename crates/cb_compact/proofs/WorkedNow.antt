@@ -64,7 +64,7 @@ paired room = record {
       b_there = second_of set_a set_b;
       data_count = refl;
       parity_count = refl;
-      matched = record { whole_a = refl; whole_b = refl; apart = a_or_b };
+      matched = record { whole_a = refl; whole_b = refl; pages = refl; apart = a_or_b };
     };
     least_a = λ i j c d l x. omega arith;
     least_b = λ j c d l x. omega (arith, l);

@@ -111,7 +111,7 @@ can_join = record {
   b_there = second_of set_a set_b;
   data_count = refl;
   parity_count = refl;
-  matched = record { whole_a = refl; whole_b = refl; apart = a_or_b };
+  matched = record { whole_a = refl; whole_b = refl; pages = refl; apart = a_or_b };
 }
 
 not_where_two_can : (new : FarState) (r : Reply) → FindsNoPair idle new r → ⊥

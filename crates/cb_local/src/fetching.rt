@@ -13,6 +13,7 @@ ghost use Rattle.cb_local.specs.Fetching.{AreFetched, AreParitiesMade, CanFetch,
 
 use crate::order::{DeltaDone, DeltaOrder};
 use crate::running::run_delta;
+use cb_class::PAGE_BYTES;
 use cb_compact::{data_count, page_count, parity_count};
 use cb_gf256::Rows;
 use cb_member::Shard;
@@ -21,9 +22,6 @@ use cb_set::MOST_POSITIONS;
 use cb_types::{NoMemory, Positions};
 use cb_world::{Far, Joining};
 use std::alloc::Global;
-
-/// The bytes of a page.
-const PAGE_BYTES: u32 = 4096;
 
 /// Gives the rows of the shards at some positions out, one after another, into the table.
 fn give_rows(nodes: &mut Nodes, shards: &[Shard], positions: &[u32], table: &mut Rows)

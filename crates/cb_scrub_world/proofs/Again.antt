@@ -60,7 +60,6 @@ may_again after far new (Ok (Set id found)) may scrubs stays given =
           let was = may.sets i set at in
           record {
             range = was.range;
-            pages = was.pages;
             members = was.members;
             distinct = was.distinct;
             standing = λ k d l kept. leaves_stand far.nodes new.nodes scrubs.set found set.pages (get_or set.shards k d) all scrubs.examined.leaves (was.standing k d l kept);

@@ -27,7 +27,6 @@ row_stands nodes pages shard row within is wide = record { node = within; there 
 pub sound_set : (nodes : NodesState) (far : FarState) (set : SetState) (rows : List (List ℕ)) → length far.nodes.nodes ≡ length far.members.nodes → IsShaped far.members set → IsWordOf far.nodes far.members set rows → MayScrubSet far.nodes far.members set
 sound_set nodes far set rows counted shaped word = record {
   range = shaped.range;
-  pages = shaped.pages;
   members = λ k d l. (shaped.current k (get_or set.shards k d) (slice_get-get_or set.shards k d l)).0;
   distinct = shaped.distinct;
   standing = λ k d l kept.
@@ -80,7 +79,6 @@ spoilt_may_scrub far node key at with within may =
           let was = may.sets id set there in
           record {
             range = was.range;
-            pages = was.pages;
             members = was.members;
             distinct = was.distinct;
             standing = λ k d l kept. stands_with far.nodes node key spoilt (get_or set.shards k d) within long (was.standing k d l kept);

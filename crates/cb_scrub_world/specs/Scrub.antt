@@ -21,12 +21,10 @@ use Rattle.cb_scrub_world.specs.declared.scrubbed.Scrubbed.TheVariants.{Done, Sk
 use Rattle.cb_scrub_world.specs.Next.{IsNextSet, AreNone}
 use Rattle.cb_scrub_world.specs.Standing.{RowStands, rows_of}
 
--- what a committed set has to be: of a code that is built and of spans of four pages at the most,
--- its shards on different nodes, and each
+-- what a committed set has to be: of a code that is built, its shards on different nodes, and each
 -- that is not lost with its row at its node; the rows need not be those of a code word
 pub record MayScrubSet (nodes : NodesState) (m : Membership) (set : SetState) : Type 0 where
   pub range : IsInRange (length set.positions) (parities set)
-  pub pages : set.pages ≤ 4
   pub members : NodesAreMembers m set.shards
   pub distinct : OnDistinctNodes set.shards
   pub standing : All (λ shard. is_lost m shard ≡ false → RowStands nodes set.pages shard) set.shards

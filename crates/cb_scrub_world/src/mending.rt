@@ -1,4 +1,4 @@
-ghost use Rattle.std.specs.Prelude.{◌≡◌, ◌+◌, ◌^◌, ◌<◌, ◌≤◌, All, length, IfOk, OnErr, OnOk};
+ghost use Rattle.std.specs.Prelude.{◌≡◌, ◌+◌, ◌*◌, ◌^◌, ◌<◌, All, length, IfOk, IfSome, OnErr, OnOk};
 ghost use Rattle.cb_set.specs.Nodes.{OnDistinctNodes};
 ghost use Rattle.cb_set.specs.SetState.{parities};
 ghost use Rattle.cb_gf256.specs.Rows.{AreRows};
@@ -7,15 +7,13 @@ ghost use Rattle.cb_scrub_world.specs.Standing.{RowStands, rows_of};
 ghost use Rattle.cb_scrub_world.specs.Scrub.{IsExamined, MakesRight, Replaces};
 
 use crate::giving::give_all;
+use cb_class::PAGE_BYTES;
 use cb_gf256::Rows;
 use cb_node::Nodes;
 use cb_scrub::{Found, examine, mend};
 use cb_set::SpanSet;
 use cb_types::NoMemory;
 use std::alloc::Global;
-
-/// A row has so many bytes for each page of its span.
-const PAGE_BYTES: u32 = 4096;
 
 /// Gives all rows of a set out and examines them; one wrong row is made right at its node. Takes
 /// the memory of all rows first; its want leaves the nodes as they were.
@@ -25,7 +23,6 @@ pub(crate) fn examine_set(
     set: &SpanSet,
 ) -> Result<Found, NoMemory>
     requires range { IsInRange (length set.now.positions) (parities set.now) }
-    requires pages { set.now.pages ≤ 4 }
     requires stand { All (RowStands nodes.old set.now.pages) set.now.shards }
     requires given { nodes.old.given + length set.now.shards < 2 ^ 64 }
     ensures examined { IfOk result (λ found. IsExamined nodes.old set.now found nodes.new) }
@@ -37,16 +34,26 @@ pub(crate) fn examine_set(
     examine_rows(alloc, nodes, set)
 }
 
+/// The bytes of a row of a span of so many pages. None where they are more than any table can have
+/// in a row, as in a world that is not sound.
+fn row_bytes(pages: u32) -> Option<u32>
+    ensures { IfSome result (λ bytes. bytes ≡ 4096 * pages) }
+{
+    PAGE_BYTES.checked_mul(pages)
+}
+
 fn examine_rows(alloc: Global, nodes: &mut Nodes, set: &SpanSet) -> Result<Found, NoMemory>
     requires range { IsInRange (length set.now.positions) (parities set.now) }
-    requires pages { set.now.pages ≤ 4 }
     requires stand { All (RowStands nodes.old set.now.pages) set.now.shards }
     requires given { nodes.old.given + length set.now.shards < 2 ^ 64 }
     ensures examined { IfOk result (λ found. IsExamined nodes.old set.now found nodes.new) }
     ensures bytes { OnOk result (AreRows (rows_of nodes.old set.now.shards)) }
     ensures error { OnErr result (nodes.new ≡ nodes.old) }
 {
-    let Ok(mut rows) = Rows::new(alloc, set.k() + set.r(), PAGE_BYTES * set.pages()) else {
+    let Some(bytes) = row_bytes(set.pages()) else {
+        return Err(NoMemory);
+    };
+    let Ok(mut rows) = Rows::new(alloc, set.k() + set.r(), bytes) else {
         return Err(NoMemory);
     };
     give_all(nodes, set, &mut rows);

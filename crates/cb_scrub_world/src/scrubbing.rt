@@ -72,7 +72,7 @@ fn lost_shards(far: &Far, id: u64) -> u32
 fn scrub_set(alloc: Global, far: &mut Far, id: u64) -> Result<Found, NoMemory>
     requires committed { IsSome (set_in far.old.sets id) }
     requires set { (set : SetState) → set_in far.old.sets id ≡ Some set
-        → IsInRange (length set.positions) (parities set) × (set.pages ≤ 4)
+        → IsInRange (length set.positions) (parities set)
         × All (RowStands far.old.nodes set.pages) set.shards }
     requires given { far.old.nodes.given < 2 ^ 62 }
     ensures examined { IfOk result (λ found. (set : SetState) → set_in far.old.sets id ≡ Some set

@@ -8,7 +8,7 @@ lost_shards-lost-requires-clause-members c = λ set at. (c.requires.sets _ set a
 pub scrub_set-requires-clause-set : goal.scrub_set-requires-clause-set
 scrub_set-requires-clause-set c = λ set at.
     let may = c.requires.sets c.in-Some.id set at in
-    (may.range, may.pages, all_stand c.args.far.now.nodes c.args.far.now.members set may (omega (arith, c.lost_shards-lost.ensures set at, c.if-lost-gt0.false)))
+    (may.range, all_stand c.args.far.now.nodes c.args.far.now.members set may (omega (arith, c.lost_shards-lost.ensures set at, c.if-lost-gt0.false)))
 
 pub returns-clause-scrubs : goal.returns-clause-scrubs
 returns-clause-scrubs c =
