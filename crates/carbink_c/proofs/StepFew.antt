@@ -3,7 +3,7 @@ use Rattle.std.proofs.Common.{◌≡◌, ℕ, zero, suc, ◌≤◌, ◌==◌, Li
 use Rattle.std.specs.Prelude.{None, Some, if◌then◌else◌}
 use Rattle.std.proofs.lemmas.Bool.{cases_lt}
 use Rattle.std.proofs.lemmas.List.{get_or_past}
-use Rattle.cb_frame.specs.FreeFrames.{least_free}
+use Rattle.cb_frame.specs.Runs.{least_run}
 use Rattle.cb_member.specs.declared.names.Loss.{Loss}
 use Rattle.cb_member.specs.declared.names.NodeId.{NodeId}
 use Rattle.cb_ptr.specs.declared.word.State.{State}
@@ -76,7 +76,7 @@ room_few frames operation eviction a r b each x = room_reply frames operation ev
 
 swap_few : (h : ℕ) (m n : Holding Words) (q : Reply) → StillSwap h m q n → HasFew q
 swap_few h m n q (home, there, step, held) =
-    same step.reply (frame_few (is_broken m.far.members step.set) (record { n = home.set }) (lost m.far.members step.set.shards) (least_free m.far.frames))
+    same step.reply (frame_few (is_broken m.far.members step.set) (record { n = home.set }) (lost m.far.members step.set.shards) (least_run m.far.frames step.set.pages))
 
 bring_few : (h : ℕ) (a b : Holding Words) (r : Reply) → StillBring h a r b → HasFew r
 bring_few h a b r x = room_few a.desk.settings.frames (StillSwap h) StillRoom a r b (swap_few h) x

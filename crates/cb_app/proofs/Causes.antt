@@ -3,7 +3,6 @@ use Rattle.std.proofs.Common.{◌≡◌, ◌⊎◌, ℕ, ◌^◌, ◌<◌, ◌�
 use Rattle.std.specs.List.{AllByRecursion}
 use Rattle.cb_member.specs.declared.names.Loss.{Loss}
 use Rattle.cb_member.specs.declared.names.NodeId.{NodeId}
-use Rattle.cb_frame.specs.FreeFrames.{least_free}
 use Rattle.cb_types.specs.Config.{IsAccepted}
 use Rattle.cb_types.specs.declared.config.Config.{Config}
 use Rattle.cb_types.specs.declared.handle.SetId.{SetId}
@@ -27,7 +26,7 @@ use Rattle.cb_farmap.specs.Commands.{HasOneHistory, IsMake, IsOnObject, IsToldBy
 use Rattle.cb_app.specs.Mapped.{HasTurn, IsCause}
 use Rattle.cb_app.specs.Telling.{AreOfOtherNodes}
 use Rattle.cb_app.proofs.CrashesTold.{IsLoss, lost_told, room_told}
-use Rattle.cb_app.proofs.FramesTold.{frames_taken, make_counted, make_lacks, read_lacks, swap_lacks, write_lacks}
+use Rattle.cb_app.proofs.FramesTold.{IsShort, frames_taken, make_counted, make_lacks, read_lacks, swap_lacks, write_lacks}
 use Rattle.cb_app.proofs.MadeStays.{made_by}
 use Rattle.cb_app.proofs.MadeTurns.{adds, few_made, made_before, made_in}
 use Rattle.cb_app.proofs.NeverWorn.{WritesNone}
@@ -124,15 +123,15 @@ module _ (c : Config) (ok : IsAccepted c) (v : View) (w : WorldState) (closed : 
     all_taken frames loose nodes is =
         frames_taken c t.start t.took stood (by t.job refl (jobs_are t there))
       where
-        by : (j : Job) → t.job ≡ j → IsForObject v j → least_free t.took.frames ≡ None
+        by : (j : Job) → t.job ≡ j → IsForObject v j → IsShort t.took
         by (job.Make bytes) e x = (make_lacks c t.start t.acts t.took t.gave frames loose nodes bytes
             (did (job.Make bytes) _ e is)).1
         by (job.Swap h) e x = swap_lacks c t.start t.acts t.took t.gave frames loose nodes h
-            (did (job.Swap h) _ e is)
+            stood.sound (did (job.Swap h) _ e is)
         by (job.Read h) e x = read_lacks c t.start t.acts t.took t.gave frames loose nodes h
-            (did (job.Read h) _ e is)
+            stood.sound (did (job.Read h) _ e is)
         by (job.Write h at bytes) e x = write_lacks c t.start t.acts t.took t.gave frames loose
-            nodes h at bytes (did (job.Write h at bytes) _ e is)
+            nodes h at bytes stood.sound (did (job.Write h at bytes) _ e is)
         by j e (inl x) = absurd x
         by j e (inr x) = absurd x
 

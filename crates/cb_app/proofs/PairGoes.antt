@@ -173,7 +173,7 @@ evicted_apart c far new id es a apart = by a.answered
     by (inl x) = subst AreSetsApart (sym x.state) apart
     by (inr (inl x)) = subst AreSetsApart (sym x.state) apart
     by (inr (inr x)) = λ n set there. elim (added_set far.sets far.counts.sets n
-        (set_for far x.evicted.shards (take far.code.k a.loose)) set
+        (set_for far x.evicted.pages x.evicted.shards (take far.code.k a.loose)) set
         (sym (ap (λ (f : FarState). set_in f.sets n) x.evicted.state) ∙ there)) [
           | inl is ↦ subst (λ (s : SetState). OnDistinctNodes s.shards) is
               (chosen_apart far (far.code.k + far.code.r) x.evicted.shards x.evicted.chosen)

@@ -42,7 +42,7 @@ use Rattle.cb_rebuild.specs.RebuildStep.{RebuildStep, Restores, surveyed}
 use Rattle.cb_core.specs.Membership.{CrashTurn, JoinTurn, crashed, is_down, is_up, joined}
 use Rattle.cb_core.specs.OnceHere.{OnceHere, away, here}
 use Rattle.cb_core.specs.Parts.{Holding, WithRoom, WhereItIs, at_once, no_room, won, most_evictions, near, declined, stays_far, brought, not_far, was_far}
-use Rattle.cb_core.specs.Turned.{Brings, ComesIn, Declines, Does, Makes, Turned, WinsRoom, WritesObject, counted, done, worn}
+use Rattle.cb_core.specs.Turned.{Brings, ComesIn, Declines, Does, Makes, Swaps, Turned, WinsRoom, WritesObject, counted, done, worn}
 use Rattle.cb_app.proofs.PairGoes.{AreSetsApart, PairGoes, begin_pair, evicted_apart, merge_pair, now_pair, pair_stays, part_pair, patch_pair}
 use Rattle.cb_app.proofs.PlainReplies.{StandsAs, StaysPlain, TellsNoLack, abort_plain, answered, begin_plain, commit_plain, declined_plain, evict_plain, filter_plain, free_plain, joining_of, make_plain, members_of, off, ship_plain, standing, stands_same, write_plain}
 

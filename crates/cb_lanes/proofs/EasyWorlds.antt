@@ -153,9 +153,9 @@ module _ (side : Side) (s : Script) (i : ℕ) (later : List ℕ) (answers : List
           never_moving a.desk a.far w.seats h good.ongoing rest.claims x.idle.0 below moves;
       whole = never_gone s.config good.shown a.far (crashed_nodes s) good.known.sound x.codes
           x.crashed (let few = ease.crashes in omega (arith, crashed_count s, few));
-      spans = λ full.
-          let all = loose_or_pinned a.desk a.far good.shown w.seats good.known good.pinned
-          good.ongoing rest.claims x.idle.0 full in
+      spans = λ class in_table full.
+          let all = loose_or_pinned a.desk a.far good.shown w.seats class good.known good.pinned
+          good.ongoing rest.claims x.idle.0 in_table full in
           let frames = good.configured.frames in let pins = few_pins in let enough = ease.frames in
           let k = x.codes.force.0 in
           let same = ap (λ (c : Config). c.frames) along.settings in

@@ -4,6 +4,7 @@ pub mod Recounting
 pub mod LineKeeps
 pub mod LineCodes
 pub mod Lone
+mod FullFrames
 pub mod LooseSpans
 mod FramesMade
 pub mod EasyLines

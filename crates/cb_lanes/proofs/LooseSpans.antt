@@ -1,4 +1,4 @@
--- Where no frame is free, every span that is not loose has an object that a seat has pinned.
+-- Where no run of frames is free that a span of some class fits, every span that is not loose has an object that a seat has pinned.
 use Rattle.std.proofs.Common.{◌≡◌, ◌≢◌, ◌⊎◌, ℕ, suc, ◌+◌, ◌<◌, ◌≤◌, Bool, true, false, ◌&&◌, ◌||◌}
 use Rattle.std.proofs.Common.{List, [], ◌∷◌, ◌++◌, length, get_or, Option, None, Some, refl, sym}
 use Rattle.std.proofs.Common.{ap, ◌∙◌, subst, arith, inl, inr, nat_eq, not, eq-eqb, ne_eqb}
@@ -11,8 +11,9 @@ use Rattle.std.proofs.lemmas.List.FromFn.{get_or-range_with_len, length-range_wi
 use Rattle.std.proofs.lemmas.List.Sums.{sum_by-cons}
 use Rattle.std.proofs.lemmas.Map.Steps.{le-length_from_below}
 use Rattle.std.proofs.lemmas.Option.{slice_get_within}
-use Rattle.cb_frame.specs.FreeFrames.{least_free}
-use Rattle.cb_frame.proofs.Laws.{least_free-None}
+use Rattle.cb_class.specs.declared.class.Class.{Class}
+use Rattle.cb_class.specs.Class.{IsClass, pages_of}
+use Rattle.cb_frame.specs.Runs.{least_run}
 use Rattle.cb_ptr.specs.declared.word.State.{State}
 use Rattle.cb_ptr.specs.declared.word.State.TheVariants as word
 use Rattle.cb_ptr.specs.Word.{state_of, pins_of}
@@ -38,6 +39,7 @@ use Rattle.cb_evict.specs.Candidates.{same_temp}
 use Rattle.cb_evict.specs.EvictStep.{is_here, is_loose, is_slot_loose, loose_frames}
 use Rattle.cb_evict.proofs.Laws.{named_at, names_span}
 use Rattle.cb_lanes.proofs.FewPins.{pins_in}
+use Rattle.cb_lanes.proofs.FullFrames.{has_span}
 use Rattle.cb_lanes.proofs.Lists.{one_if}
 
 -- ---- no word is Moving
@@ -280,13 +282,13 @@ candidate far f span idle below there =
     by Cold e = or_left (list_any (nat_eq f) (of Cold)) (list_any (nat_eq f) (of Hot)) (has Cold e)
     by Hot e = or_right (list_any (nat_eq f) (of Cold)) (list_any (nat_eq f) (of Hot)) (has Hot e)
 
--- Where no seat has an open write, no batch is leaving and no frame is free, the frames are no more
--- than the loose spans and the pins of all seats.
+-- Where no seat has an open write, no batch is leaving and no run of frames is free that a span of
+-- some class fits, the frames are no more than the loose spans and the pins of all seats.
 pub loose_or_pinned : (x : Words) (far : FarState) (s : Shown) (seats : List SeatState)
-    → IsKnown x far s → ArePinned x seats → AreOpen x far seats → NoClaims seats
-    → far.leaving ≡ None → least_free far.frames ≡ None
+    (class : Class) → IsKnown x far s → ArePinned x seats → AreOpen x far seats → NoClaims seats
+    → far.leaving ≡ None → IsClass class → least_run far.frames (pages_of class) ≡ None
     → length far.spans ≤ length (loose_frames x far) + sum_by (λ seat. length seat.pins) seats
-loose_or_pinned x far s seats known pinned are none idle full =
+loose_or_pinned x far s seats class known pinned are none idle in_table full =
     let all = le-length_from_below (loose_frames x far ++ zs) (length far.spans) there in
     let both = length-append (loose_frames x far) zs in
     let pins = seat_count s far frame seats in
@@ -324,14 +326,14 @@ loose_or_pinned x far s seats known pinned are none idle full =
     stands f span below at (inr off) = or_right (list_any (nat_eq f) (loose_frames x far))
         (list_any (nat_eq f) zs) (busy f span at (has_busy x span.slots off))
 
-    held : (f : ℕ) → f < length far.spans → (o : Option Contents) → span_in far.spans f ≡ o
+    held : (f : ℕ) → f < length far.spans
         → (list_any (nat_eq f) (loose_frames x far) || list_any (nat_eq f) zs) ≡ true
-    held f below None at = absurd (least_free-None far.frames full f
-        ((known.sound.here.frames.free f (let n = known.sound.here.frames.sized in
-        omega (arith, below, n))).1 at))
-    held f below (Some span) at = stands f span below at (cases_Bool (is_loose x (Some span)))
+    held f below =
+        let n = known.sound.here.frames.sized in
+        let span = has_span s far class known.sound.here in_table full f (omega (arith, below, n)) in
+        stands f span.0 below span.1 (cases_Bool (is_loose x (Some span.0)))
 
     there : (f : ℕ) → f < length far.spans
         → list_any (nat_eq f) (loose_frames x far ++ zs) ≡ true
     there f below = list_any-append (nat_eq f) (loose_frames x far) zs
-        ∙ held f below (span_in far.spans f) refl
+        ∙ held f below
