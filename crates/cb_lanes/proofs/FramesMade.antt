@@ -15,7 +15,7 @@ use Rattle.cb_span.specs.Contents.{Contents}
 use Rattle.cb_span.specs.Places.{slot_place}
 use Rattle.cb_world.specs.declared.object.Object.{Object}
 use Rattle.cb_world.specs.declared.shown.Shown.{Shown}
-use Rattle.cb_world.specs.FarState.{FarState, handle_in, span_in, resident}
+use Rattle.cb_world.specs.FarState.{FarState, handle_in, resident}
 use Rattle.cb_world.specs.LocalSound.{LiesAt, LocalSound}
 use Rattle.cb_world.specs.Shown.{never, object_at}
 use Rattle.cb_lanes.proofs.FullFrames.{has_span}
