@@ -1,4 +1,4 @@
-use Rattle.std.proofs.Common.{◌+◌, ◌^◌, ◌<◌, ◌∙◌, arith}
+use Rattle.std.proofs.Common.{◌∙◌, arith}
 use Rattle.cb_types.specs.declared.config.Field.TheVariants.{Frames}
 use Rattle.cb_evict.proofs.Loads.{run_loaded}
 use Rattle.cb_evict.proofs.loading.load_span.Goals as goal

@@ -1,4 +1,4 @@
-use Rattle.std.proofs.Common.{◌≡◌, ℕ, sym, ap, ◌∙◌, subst, arith}
+use Rattle.std.proofs.Common.{sym, ap, ◌∙◌, subst, arith}
 use Rattle.cb_class.specs.Class.{IsClass, pages_of}
 use Rattle.cb_class.proofs.Laws.{pages_few}
 use Rattle.cb_world.specs.FarState.{FarState, pages_if, span_in}
