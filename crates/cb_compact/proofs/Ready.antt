@@ -123,11 +123,11 @@ module _ (s : Shown) (far : FarState) (pair : JoiningState) (a b : SetState)
       }
 
   pub fresh_words : (wa wb : List (List ℕ))
-      × (pages : ℕ) × StandTogether far.nodes pair pages (length a.positions) (parities a) wa wb
+      × StandTogether far.nodes pair a.pages (length a.positions) (parities a) wa wb
   fresh_words =
       let x = sound.sound.sets.worded pair.a a fresh.a_stands.there in
       let y = sound.sound.sets.worded pair.b b fresh.b_stands.there in
-      (x.0, y.0, a.pages, fresh_together x.0 y.0 x.1.word y.1.word)
+      (x.0, y.0, fresh_together x.0 y.0 x.1.word y.1.word)
 
 module _ (s : Shown) (far : FarState) (pair : JoiningState) (a b : SetState) (p : ℕ)
     (shard : Shard) (x : IsReadyToPut s far pair a b p shard) where
@@ -177,7 +177,7 @@ module _ (s : Shown) (far : FarState) (pair : JoiningState) (a b : SetState) (p 
 
   pub ready_words : (wa wb : List (List ℕ))
       × (pages : ℕ) × StandTogether far.nodes pair pages (length a.positions) (parities a) wa wb
-  ready_words = fresh_words s far pair a b x.sound x.fresh
+  ready_words = let w = fresh_words s far pair a b x.sound x.fresh in (w.0, w.1, a.pages, w.2)
 
   row_same : (c d : List ℕ) → Some c ≡ Some d → c ≡ d
   row_same c d e = cc

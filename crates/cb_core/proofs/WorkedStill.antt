@@ -492,11 +492,18 @@ none_has_room (suc (suc f)) room = let e : 1 ≡ 0 = ap kind room.0 in omega (ar
 make_stops : StillMakeLacks (7 ∷ []) (holds calm open_far) (holds calm open_far)
 make_stops = (
   refl,
-  (lit< tt, (record { index = 0 }, smallest, record {
-    full = none_has_room;
-    first = 1;
-    some_free = ap (least_run open_far.frames) one_small_page;
-  })),
+  (
+    lit< tt,
+    (
+      record { index = 0 },
+      smallest,
+      record {
+        full = none_has_room;
+        first = 1;
+        some_free = ap (least_run open_far.frames) one_small_page;
+      },
+    ),
+  ),
 )
 
 make_stops_and_warms : StillMakeLacks (7 ∷ []) (holds calm open_far) (holds hot open_far) → ⊥
@@ -646,11 +653,14 @@ filter_stops = (
   (
     seat,
     record { free = (refl, refl); stands = record { there = refl; named = refl } },
-    (hot_cold, record {
-      full = none_cold;
-      first = 1;
-      some_free = ap (least_run open_far.frames) one_page;
-    }),
+    (
+      hot_cold,
+      record {
+        full = none_cold;
+        first = 1;
+        some_free = ap (least_run open_far.frames) one_page;
+      },
+    ),
   ),
 )
 

@@ -91,8 +91,8 @@ module _ (s : Shown) (far : FarState) (h len place : ℕ) (temp : Temp) (slot : 
       | inl there ↦ inl (else_same ∙ there)
       | inr none ↦ inr (else_same ∙ none.0, none.1)
     ];
-    stands = stands_released far x.c.frame x.c.slot x.c.span x.sound.here.frames x.c.there slot.frame
-        (pages_of slot.span.class) slot.free free.stands frames_apart;
+    stands = stands_released far x.c.frame x.c.slot x.c.span x.sound.here.frames x.c.there
+        slot.frame (pages_of slot.span.class) slot.free free.stands frames_apart;
   }
 
   -- both ways round the far state is one

@@ -24,6 +24,6 @@ temp_for true = Hot
 temp_for false = Cold
 
 -- the far state once the object moved from its slot to another one: a span whose last object went
--- gives its frame back
+-- gives its frames back
 abbrev pub with_moved : FarState → Seat → Slot → ℕ → FarState
 with_moved far seat slot h = with_released (with_object far slot h) seat.frame seat.number seat.span

@@ -15,7 +15,8 @@ use cb_world::{Far, place_object};
 pub(crate) enum Plan {
     /// Its span has its temperature.
     Same,
-    /// There is neither a slot in a span of its temperature nor a run of free frames for a new one.
+    /// There is neither a slot in a span of its temperature nor a run of free frames for a new
+    /// one.
     NoSlot,
     /// It has a slot in a span of its temperature too; the place of this slot.
     Move { place: u32 },

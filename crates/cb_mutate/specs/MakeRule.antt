@@ -52,8 +52,8 @@ pub record IsMake (h version : ℕ) (bytes : List ℕ) (far new : FarState) (es 
   pub packed : AreWordsOf bytes words
   pub done : es ≡ make_events h version (length bytes) (place_in slot) words
 
--- for an object of so many bytes there is neither a slot in a hot span nor a run of free frames for a
--- new one
+-- for an object of so many bytes there is neither a slot in a hot span nor a run of free frames for
+-- a new one
 abbrev pub HasNoPlace : ℕ → FarState → Type 0
 HasNoPlace len far = (class : Class) × IsClassOf len class × IsCrammed far class Hot
 

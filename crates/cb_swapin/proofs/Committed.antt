@@ -21,8 +21,8 @@ pub found_set : (o : Option (Bor SetState)) (b : Bor SetState) (x : Option SetSt
 found_set o b x set e f there =
     set_same b.now set (sym (ap (λ q. option_map (λ s. s.now) q) f) ∙ e ∙ there)
 
--- a live position names an object, whose words are in the set's row; the length of
--- the set and its count of slots are those of a class
+-- a live position names an object, whose words are in the set's row; the length of the set and its
+-- count of slots are those of a class
 pub record IsLivePosition (s : Shown) (far : FarState) (id p : ℕ) (set : SetState) : Type 0 where
   pub within : p < length set.positions
   pub class : Class

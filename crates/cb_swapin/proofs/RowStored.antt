@@ -39,10 +39,12 @@ stores_no_claim f pages (e ∷ es) a = absurd a
 
 pub stores_first : (f pages : ℕ) (es : List Event) → StoresIn f pages es → LooksFirst es
 stores_first f pages [] a = tt
-stores_first f pages (Stored p x ∷ es) a = (stores_no_claim f pages es a.1, stores_first f pages es a.1)
+stores_first f pages (Stored p x ∷ es) a =
+    (stores_no_claim f pages es a.1, stores_first f pages es a.1)
 stores_first f pages (e ∷ es) a = absurd a
 
-pub stores_nothing : (f pages : ℕ) (es : List Event) (s : Shown) → StoresIn f pages es → Writes es s []
+pub stores_nothing : (f pages : ℕ) (es : List Event) (s : Shown) → StoresIn f pages es
+    → Writes es s []
 stores_nothing f pages [] s a old = refl
 stores_nothing f pages (Stored p x ∷ es) s a old =
     stores_nothing f pages es (after (Stored p x) s) a.1 old

@@ -90,8 +90,10 @@ below_more n slots (e ∷ es) a = absurd a
 pub below_brings : (n : ℕ) (slots : List (Option ℕ)) (f pages : ℕ) (es : List Event)
     → BringsBelow n slots es → BringsSlots slots f pages es
 below_brings n slots f pages [] a = tt
-below_brings n slots f pages (Looked h w ∷ es) a = ((a.0.0, a.0.2), below_brings n slots f pages es a.1)
-below_brings n slots f pages (Settled h w ∷ es) a = ((a.0.0, a.0.2), below_brings n slots f pages es a.1)
+below_brings n slots f pages (Looked h w ∷ es) a =
+    ((a.0.0, a.0.2), below_brings n slots f pages es a.1)
+below_brings n slots f pages (Settled h w ∷ es) a =
+    ((a.0.0, a.0.2), below_brings n slots f pages es a.1)
 below_brings n slots f pages (e ∷ es) a = absurd a
 
 -- the next object is another than those that were settled

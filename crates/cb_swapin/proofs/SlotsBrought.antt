@@ -251,7 +251,8 @@ slot_brought runs last next knows later i slots class f homes new b more after_b
 pub all_brought : (runs : List Event → Type 0) (knows : Shown → Type 0) (i : ℕ)
     (slots : List (Option ℕ)) (class : Class) (f : ℕ) → length slots ≤ i → i ≤ length slots
     → BroughtBelow runs knows i slots class f
-    → Brought runs knows (BringsSlots slots f (pages_of class)) (AreBrought (length slots) slots class f)
+    → Brought runs knows (BringsSlots slots f (pages_of class))
+    (AreBrought (length slots) slots class f)
 all_brought runs knows i slots class f past most b =
     let same : i ≡ length slots = omega (arith, past, most) in record {
       events = b.events;

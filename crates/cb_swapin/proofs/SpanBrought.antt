@@ -1,5 +1,5 @@
 -- A row is stored, and then its objects are brought in.
-use Rattle.std.proofs.Common.{◌≡◌, ℕ, ◌+◌, ◌*◌, ◌/◌, ◌<◌, ◌≤◌, List, [], ◌∷◌, ◌++◌, length, Option, sym, ap, ◌∙◌, subst, arith}
+use Rattle.std.proofs.Common.{◌≡◌, ℕ, ◌*◌, ◌<◌, List, [], ◌∷◌, ◌++◌, length, Option, sym, ap, ◌∙◌, subst, arith}
 use Rattle.cb_class.specs.declared.class.Class.{Class}
 use Rattle.cb_class.specs.Class.{pages_of, slots_of, words_of}
 use Rattle.cb_class.proofs.Laws.{object_fits, slot_in_run}
@@ -44,7 +44,8 @@ waiting_stored s t f class slots row long sized x e =
             fits = y.fits;
             stamp = y.stamp;
             contents = row_put s.memory row (512 * f) (slot * words_of class) (words_for y.len)
-                (let w = x.vacant.within in omega (arith, w, long)) (omega (arith, ends, room, long))
+                (let w = x.vacant.within in omega (arith, w, long))
+                (omega (arith, ends, room, long))
                 ∙ sym y.contents;
             handle = y.handle;
             flag = y.flag;
@@ -58,16 +59,16 @@ stores_bring slots f pages [] fs a b = b
 stores_bring slots f pages (Stored p x ∷ es) fs a b = (a.0, stores_bring slots f pages es fs a.1 b)
 stores_bring slots f pages (e ∷ es) fs a b = absurd a
 
-brings_no_claim : (slots : List (Option ℕ)) (f pages : ℕ) (es : List Event) → BringsSlots slots f pages es
-    → NoClaim es
+brings_no_claim : (slots : List (Option ℕ)) (f pages : ℕ) (es : List Event)
+    → BringsSlots slots f pages es → NoClaim es
 brings_no_claim slots f pages [] a = tt
 brings_no_claim slots f pages (Looked h w ∷ es) a = brings_no_claim slots f pages es a.1
 brings_no_claim slots f pages (Stored p x ∷ es) a = brings_no_claim slots f pages es a.1
 brings_no_claim slots f pages (Settled h w ∷ es) a = brings_no_claim slots f pages es a.1
 brings_no_claim slots f pages (e ∷ es) a = absurd a
 
-stores_then_first : (slots : List (Option ℕ)) (f pages : ℕ) (es fs : List Event) → StoresIn f pages es
-    → BringsSlots slots f pages fs → LooksFirst fs → LooksFirst (es ++ fs)
+stores_then_first : (slots : List (Option ℕ)) (f pages : ℕ) (es fs : List Event)
+    → StoresIn f pages es → BringsSlots slots f pages fs → LooksFirst fs → LooksFirst (es ++ fs)
 stores_then_first slots f pages [] fs a b first = first
 stores_then_first slots f pages (Stored p x ∷ es) fs a b first = (
   brings_no_claim slots f pages (es ++ fs) (stores_bring slots f pages es fs a.1 b),
@@ -108,7 +109,8 @@ both_parts s t u slots class f row e b =
 pub span_brought : (first last all : List Event → Type 0) (vacant later knows : Shown → Type 0)
     (slots : List (Option ℕ)) (class : Class) (f : ℕ) (row : List ℕ)
     (a : Brought first vacant (StoresIn f (pages_of class)) (λ s t. t ≡ with_row_words s f row))
-    (b : Brought last later (BringsSlots slots f (pages_of class)) (AreBrought (length slots) slots class f))
+    (b : Brought last later (BringsSlots slots f (pages_of class))
+    (AreBrought (length slots) slots class f))
     → all (a.events ++ b.events) → ((s : Shown) → knows s → vacant s)
     → ((s : Shown) → knows s → later (played a.events s))
     → Brought all knows (BringsSlots slots f (pages_of class)) (IsSpanBrought slots class f row)
@@ -116,7 +118,8 @@ span_brought first last all vacant later knows slots class f row a b ran known a
   events = a.events ++ b.events;
   ran = ran;
   tells = stores_bring slots f (pages_of class) a.events b.events a.tells b.tells;
-  looks_first = stores_then_first slots f (pages_of class) a.events b.events a.tells b.tells b.looks_first;
+  looks_first = stores_then_first slots f (pages_of class) a.events b.events a.tells b.tells
+      b.looks_first;
   allowed = λ s k. allowed_append a.events b.events s (a.allowed s (known s k))
       (b.allowed (played a.events s) (after_a s k));
   nothing = λ s k old. written_append a.events b.events s old

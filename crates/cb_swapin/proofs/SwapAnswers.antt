@@ -33,14 +33,16 @@ pub no_frame_answer : (far : FarState) (id : ℕ) (set : SetState)
     → is_broken far.members set ≡ false → least_run far.frames set.pages ≡ None
     → swap_answer far id set ≡ answer.NoFrame
 no_frame_answer far id set whole none =
-    ap (λ (b : Bool). answer_by b (least_run far.frames set.pages) far id set) whole ∙ ap frame_answer none
+    ap (λ (b : Bool). answer_by b (least_run far.frames set.pages) far id set) whole
+    ∙ ap frame_answer none
 
 -- else it comes into the least run of free frames that fits
 pub swapped_answer : (far : FarState) (id : ℕ) (set : SetState) (f : ℕ)
     → is_broken far.members set ≡ false → least_run far.frames set.pages ≡ Some f
     → swap_answer far id set ≡ answer.Swapped f
 swapped_answer far id set f whole least =
-    ap (λ (b : Bool). answer_by b (least_run far.frames set.pages) far id set) whole ∙ ap frame_answer least
+    ap (λ (b : Bool). answer_by b (least_run far.frames set.pages) far id set) whole
+    ∙ ap frame_answer least
 
 -- what holds of these three replies, each in its case, holds of the one that is given
 pub by_answer : (C : Reply → Type 0) (far : FarState) (id : ℕ) (set : SetState)
@@ -52,8 +54,8 @@ pub by_answer : (C : Reply → Type 0) (far : FarState) (id : ℕ) (set : SetSta
 by_answer C far id set broken none some =
     by (is_broken far.members set) (least_run far.frames set.pages) refl refl
   where
-    by : (b : Bool) (o : Option ℕ) → is_broken far.members set ≡ b → least_run far.frames set.pages ≡ o
-        → C (swap_answer far id set)
+    by : (b : Bool) (o : Option ℕ) → is_broken far.members set ≡ b
+        → least_run far.frames set.pages ≡ o → C (swap_answer far id set)
     by true o e free = subst C (sym (broken_answer far id set e)) (broken e)
     by false None e free = subst C (sym (no_frame_answer far id set e free)) (none e free)
     by false (Some f) e free = subst C (sym (swapped_answer far id set f e free)) (some f e free)

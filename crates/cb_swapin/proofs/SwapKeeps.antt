@@ -12,7 +12,7 @@ use Rattle.cb_swapin.specs.SwapRule.{IsSwappedTo}
 use Rattle.cb_swapin.specs.SwapStep.{IsSwapped, SwapChange, IsSwapStep}
 use Rattle.cb_swapin.proofs.SwapAnswers.{by_answer, only_no_frame}
 
--- a swap-in changes nothing, or brings the position into the least free frame
+-- a swap-in changes nothing, or brings the position into the least run of free frames
 pub step_cases : (P : Type 0) (x y : Words) (far new : FarState) (id p : ℕ) (r : Reply)
     → (z : IsSwapStep x y far new id p r) → ((y ≡ x) × (new ≡ far) → P)
     → ((f : ℕ) → is_broken far.members z.set ≡ false → least_run far.frames z.set.pages ≡ Some f

@@ -90,8 +90,8 @@ pub record HasComeIn (x y : Words) (class : Class) (f slot h : ℕ) : Type 0 whe
 
 pub come_in : (x y : Words) (far new : FarState) (s t : Shown) (id p : ℕ) (set : SetState) (f : ℕ)
     → IsKnown x far s → IsKnown y new t → set_in far.sets id ≡ Some set
-    → least_run far.frames set.pages ≡ Some f → (w : IsSwapped x y far new id p set f) → (slot h : ℕ)
-    → NamesHandle (position_of set p).slots slot h → HasComeIn x y w.state.class f slot h
+    → least_run far.frames set.pages ≡ Some f → (w : IsSwapped x y far new id p set f)
+    → (slot h : ℕ) → NamesHandle (position_of set p).slots slot h → HasComeIn x y w.state.class f slot h
 come_in x y far new s t id p set f k l there least w slot h named =
     let was = named_far x far s id p set k there slot h named in
     let reads = word_reads x y far new id p set f w slot h named in

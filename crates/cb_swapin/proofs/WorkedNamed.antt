@@ -106,8 +106,8 @@ cuts_the_homes : AreCleared slots (None ∷ None ∷ None ∷ None ∷ []) (None
 cuts_the_homes x = let e = x.count in omega (arith, e)
 
 -- ---- events, where the span has frame 1 alone: its words are 512 to 1023
-brings : BringsSlots slots 1 1 (Stored 512 7 ∷ Stored 1023 8 ∷ Looked 3 9 ∷ Settled 3 10 ∷ Looked 1 9
-    ∷ Settled 1 10 ∷ [])
+brings : BringsSlots slots 1 1 (Stored 512 7 ∷ Stored 1023 8 ∷ Looked 3 9 ∷ Settled 3 10
+    ∷ Looked 1 9 ∷ Settled 1 10 ∷ [])
 brings = (
   (omega arith, omega arith),
   ((omega arith, omega arith), ((0, refl), ((0, refl), ((2, refl), ((2, refl), tt))))),

@@ -45,7 +45,7 @@ pub record AreBrought (n : ℕ) (slots : List (Option ℕ)) (class : Class) (f :
   pub brought : (slot h : ℕ) → slot < n → NamesHandle slots slot h → IsBrought s t class f slot h
   pub others : (h : ℕ) → ((slot : ℕ) → slot < n → NamesHandle slots slot h → ⊥) → IsAsBefore s t h
 
--- the words of the row stand in the frame, and the objects of all slots are here
+-- the words of the row stand in the frames from this one on, and the objects of all slots are here
 pub record IsSpanBrought (slots : List (Option ℕ)) (class : Class) (f : ℕ) (row : List ℕ)
     (s t : Shown) : Type 0 where
   pub first : t.first ≡ s.first

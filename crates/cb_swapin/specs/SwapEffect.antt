@@ -15,8 +15,8 @@ use Rattle.cb_world.specs.FarState.{FarState}
 use Rattle.cb_world.specs.Written.{Writes}
 use Rattle.cb_swapin.specs.BroughtIn.{IsSpanBrought}
 
--- The objects of the position are here in the frame, and the row of the position in the set's word
--- stands there. No version is written, and the last complete contents of every handle stay.
+-- The objects of the position are here in the span at the frame, and the row of the position in the
+-- set's word stands there. No version is written, and the last complete contents of every handle stay.
 pub record IsSwappedIn (id p f : ℕ) (far new : FarState) (es : List Event) (s t : Shown) : Type 0
   where
     pub set : SetState

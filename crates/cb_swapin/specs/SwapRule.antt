@@ -32,11 +32,11 @@ swap_answer far id set =
     then answer.Unavailable (record { n = id }) (lost far.members set.shards)
     else frame_answer (least_run far.frames set.pages)
 
--- The far state once position p of the set was brought into the frames from this one on, as many as
--- the set's spans have: they are taken, and have the hot span of the position's slots, whose count
--- tells their class with that length; the objects have no home;
--- the rows that were needed were given out; the position is dead, and a set with no live position
--- is dropped with its rows. All else is as it was.
+-- The far state once position p of the set was brought into the frames from this one on, as many
+-- as the set's spans have: they are taken, and have the hot span of the position's slots, whose
+-- count tells their class with that length; the objects have no home; the rows that were needed
+-- were given out; the position is dead, and a set with no live position is dropped with its rows.
+-- All else is as it was.
 pub record IsSwappedTo (far new : FarState) (id p : ℕ) (set : SetState) (f : ℕ) : Type 0 where
   pub class : Class
   pub in_table : IsClass class

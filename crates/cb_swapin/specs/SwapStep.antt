@@ -30,8 +30,8 @@ brought_word len place = word_of (record {
 })
 
 -- The objects of these slots are here, each at its slot of the span at the frame, and every other
--- pointer word and all version words are as they were. The frame has the words of the row, and
--- every other memory word is as it was.
+-- pointer word and all version words are as they were. The words of the row stand in the frames from
+-- that one on, and every other memory word is as it was.
 pub record AreBroughtTo (x y : Words) (slots : List (Option ℕ)) (class : Class) (f : ℕ)
     (row : List ℕ) : Type 0 where
   pub settings : y.settings ≡ x.settings
@@ -42,8 +42,8 @@ pub record AreBroughtTo (x y : Words) (slots : List (Option ℕ)) (class : Class
       → word_at y h ≡ brought_word (len_of (word_at x h)) (slot_place class f slot)
   pub others : (h : ℕ) → (IsNamed slots h → ⊥) → word_at y h ≡ word_at x h
 
--- The far state and the words once position p of the set was brought into the frame: the set has a
--- word, each such word has the same row at p, and that row stands in the frame.
+-- The far state and the words once position p of the set was brought into the frames from this one
+-- on: the set has a word, each such word has the same row at p, and that row stands in the frames.
 pub record IsSwapped (x y : Words) (far new : FarState) (id p : ℕ) (set : SetState) (f : ℕ) : Type 0
   where
     pub state : IsSwappedTo far new id p set f

@@ -1,10 +1,9 @@
-ghost use Rattle.std.specs.Prelude.{◌≡◌, ℕ, true, false, ◌+◌, ◌^◌, ◌<◌, ◌≤◌, List, Some, IfOk, OnOk, OnErr, length, slice_set};
+ghost use Rattle.std.specs.Prelude.{◌≡◌, ℕ, true, false, ◌+◌, ◌^◌, ◌<◌, ◌≤◌, Some, IfOk, OnOk, OnErr, length, slice_set};
 ghost use Rattle.cb_types.specs.Config.{IsAccepted};
 ghost use Rattle.cb_class.specs.Class.{pages_of};
 ghost use Rattle.cb_frame.specs.FreeFrames.{with_run_taken};
 ghost use Rattle.cb_frame.specs.Runs.{IsRunLength, least_run};
 ghost use Rattle.cb_set.specs.SetState.{SetState, dead_position, live_at, position_of, with_position};
-ghost use Rattle.cb_world.specs.declared.event.Event.{Event};
 ghost use Rattle.cb_world.specs.declared.shown.Shown.{Shown};
 ghost use Rattle.cb_world.specs.Sets.{set_in};
 ghost use Rattle.cb_world.specs.SetWord.{is_broken};

@@ -23,8 +23,7 @@ carry-requires-clause-ready g c =
     let far = c.args.far.now in let w = c.args.word in let h = c.args.h.n in
     let seat = c.requires.seat in let had = c.requires.ready in let known = had.2.2 in
     let plan = subst (Plans far c.plan_move.new.far (temp_for (hot_of w)) h seat.0) c.in-Move.is
-    (c.in-Ok.ensures.plan seat.0 seat.1) in
-    (
+    (c.in-Ok.ensures.plan seat.0 seat.1) in (
       had.0,
       had.1,
       subst (IsVacant had.0 h w) (sym plan.4)

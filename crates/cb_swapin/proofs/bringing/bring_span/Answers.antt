@@ -1,4 +1,4 @@
-use Rattle.std.proofs.Common.{◌≡◌, ◌+◌, ◌^◌, ◌<◌, ℕ, List, Option, sym, ap, ◌∙◌, subst, arith}
+use Rattle.std.proofs.Common.{◌≡◌, ℕ, List, Option, sym, ap, ◌∙◌, subst, arith}
 use Rattle.cb_types.specs.declared.config.Field.TheVariants.{Frames}
 use Rattle.cb_class.specs.declared.class.Class.{Class}
 use Rattle.cb_class.specs.Class.{pages_of}
@@ -69,8 +69,10 @@ bring_all-requires-clause-stored g c =
       subst (λ (l : List (Option ℕ)). AreStored t f class l) (sym c.slots.ensures.slots)
           (subst (λ (k : Class). AreStored t f k span.slots) (sym same)
           (waiting_stored s t f span.class span.slots c.args.row.now c.requires.row
-          c.slots.ensures.valid.sized had.2 (a.effect s (had.1,
-          subst (λ (q : Class). IsRunVacant s f (pages_of q)) (sym same) had.2.vacant)))),
+          c.slots.ensures.valid.sized had.2 (a.effect s (
+            had.1,
+            subst (λ (q : Class). IsRunVacant s f (pages_of q)) (sym same) had.2.vacant,
+          )))),
     )
 
 pub returns-clause-brought : goal.returns-clause-brought

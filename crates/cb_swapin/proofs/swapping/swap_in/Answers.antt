@@ -81,7 +81,8 @@ bring_row-requires-clause-frames g c =
     ∙ sym c.least_run.ensures.least ∙ c.in-Some-least_run.is in
     let room = free_run far c.in-Some-least_run.frame (pages_of span.class) had.2.here.frames
     (pages_some span.class x.valid.in_table) least in
-    omega (arith, room.stands.within, had.2.here.placed.memory, (g.met.D.Desk.sized _ had.0 had.1).3)
+    let sized = (g.met.D.Desk.sized _ had.0 had.1).3 in
+    omega (arith, room.stands.within, had.2.here.placed.memory, sized)
 
 pub bring_row-requires-clause-live : goal.bring_row-requires-clause-live
 bring_row-requires-clause-live g c =
