@@ -55,14 +55,6 @@ stand_given nodes new shards w positions n {pages = pages} is stand =
     let x = stand i l in
     record { shard = x.shard; at = x.at; node = x.node; row = x.row; wide = x.wide })
 
--- rows given out one after another
-pub given_twice : (nodes mid new : NodesState) (m n : ℕ) → mid ≡ with_rows_given nodes m
-    → new ≡ with_rows_given mid n → new ≡ with_rows_given nodes (m + n)
-given_twice nodes mid new m n first second =
-    second ∙ ap (λ (x : NodesState). with_rows_given x n) first
-    ∙ ap (λ (g : ℕ). record nodes { given = g })
-    (let e : nodes.given + m + n ≡ nodes.given + (m + n) = omega arith in e)
-
 module _ (nodes : NodesState) (pair : JoiningState) (order : DeltaOrder)
     (can : CanFetch nodes pair order) where
   below : All (λ p. p < order.k) pair.taken
@@ -101,10 +93,6 @@ module _ (nodes : NodesState) (pair : JoiningState) (order : DeltaOrder)
     parities_within i d l =
         let e = get_or_default places i d 0 l in
         let p = are i (omega (arith, l, size)) in omega (arith, e, p, l, size)
-
-    pub parities_in_a : All (λ p. p < length pair.shards_a) places
-    parities_in_a i d l =
-        let m = parities_within i d l in let n = can.code.a_count in omega (arith, m, n)
 
     pub parity_stand : (pages : ℕ) (wa wb : List (List ℕ))
         → StandTogether nodes pair pages order.k order.r wa wb

@@ -1,13 +1,10 @@
-ghost use Rattle.std.specs.Prelude.{◌≡◌, ℕ, ◌+◌, ◌*◌, ◌^◌, ◌<◌, ◌≤◌, List, Some, All, IfOk, OnErr, OnOk, length, slice_index};
-ghost use Rattle.std.specs.List.Sorted.{IsStrictlyIncreasing};
+ghost use Rattle.std.specs.Prelude.{◌≡◌, ℕ, ◌+◌, ◌*◌, ◌^◌, ◌<◌, ◌≤◌, List, All, IfOk, OnErr, OnOk, length, slice_index};
 ghost use Rattle.cb_gf256.specs.InRange.{IsInRange};
 ghost use Rattle.cb_gf256.specs.Rows.{row_at, HaveLength};
 ghost use Rattle.cb_set.specs.SetState.{SetState, parities};
 ghost use Rattle.cb_world.specs.declared.shown.Shown.{Shown};
-ghost use Rattle.cb_world.specs.FarSound.{FarSound};
 ghost use Rattle.cb_world.specs.Fetched.{StandAt, with_rows_given};
 ghost use Rattle.cb_world.specs.Joining.{JoiningState};
-ghost use Rattle.cb_compact.specs.Deltas.{IsOfCode, StandTogether};
 ghost use Rattle.cb_compact.specs.PartStep.{IsFreshPair};
 ghost use Rattle.cb_local.specs.Fetching.{AreFetched, AreParitiesMade, CanFetch, HasOrder, IsBlank, IsOrderFetched, far_given, rows_given};
 

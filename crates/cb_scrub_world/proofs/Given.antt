@@ -41,9 +41,6 @@ pub record Giving (old now : NodesState) (shards : List Shard) (pages : ℕ) (ta
   pub lengths : HaveLength (4096 * pages) table
   pub rows : (j : ℕ) → j < i → row_at table j ≡ row_at (rows_of old shards) j
 
-pub giving_none : (old : NodesState) (shards : List Shard) (pages : ℕ) (table : List (List ℕ)) → length table ≡ length shards → HaveLength (4096 * pages) table → Giving old old shards pages table 0
-giving_none old shards pages table count lengths = record { nodes = ap (λ (n : ℕ). record old { given = n }) (omega arith); count = count; lengths = lengths; rows = λ j below. absurd (omega (arith, below)) }
-
 module _ (old now : NodesState) (shards : List Shard) (pages : ℕ) (table : List (List ℕ)) (i : ℕ) (giving : Giving old now shards pages table i) where
   pub stands_now : (shard : Shard) → RowStands old pages shard → RowStands now pages shard
   stands_now shard stands = subst (λ (n : NodesState). RowStands n pages shard) (sym giving.nodes) (record { node = stands.node; there = stands.there; wide = stands.wide })
