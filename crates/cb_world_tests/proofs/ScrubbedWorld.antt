@@ -1,5 +1,5 @@
 -- A sound world is scrubbed, and sound again.
-use Rattle.std.proofs.Common.{ℕ, ◌*◌, ◌^◌, ◌<◌, ◌≤◌, Result, Ok, Err, refl, sym, subst, arith}
+use Rattle.std.proofs.Common.{◌≡◌, ℕ, ◌*◌, ◌^◌, ◌<◌, ◌≤◌, Result, Ok, Err, refl, sym, subst, arith}
 use Rattle.std.specs.Prelude.{IfOk}
 use Rattle.cb_member.specs.declared.names.Shard.{Shard}
 use Rattle.cb_node.specs.NodesState.{with_spoiled}
@@ -20,6 +20,10 @@ few_given w sound = omega (arith, sound.counted.given, sound.counted.turns)
 pub world_may : (w : WorldState) → IsSoundWorld w → MayScrub w.far
 world_may w sound = sound_may_scrub sound.shown w.far sound.known.sound.away.sound
     (let few = few_given w sound in omega (arith, few))
+
+-- a row of a page at least has a byte
+pub has_bytes : (n pages : ℕ) → 1 ≤ pages → n ≡ 4096 * pages → 0 < n
+has_bytes n pages some wide = omega (arith, some, wide)
 
 pub row_is_spoilt : (far : FarState) (position : ℕ) (shard : Shard) (at with : ℕ)
     → IsFirstSets far position shard

@@ -1,4 +1,4 @@
-ghost use Rattle.std.specs.Prelude.{◌≡◌, ◌+◌, ◌*◌, ◌^◌, ◌<◌, ◌≤◌, IfOk, IfSome, IsTrue};
+ghost use Rattle.std.specs.Prelude.{◌≡◌, ◌+◌, ◌*◌, ◌^◌, ◌<◌, ◌≤◌, ℕ, IfOk, IfSome, IsTrue};
 ghost use Rattle.cb_world.specs.Sound.{Sound};
 ghost use Rattle.cb_world.specs.World.{IsSoundWorld};
 ghost use Rattle.cb_world.specs.declared.shown.Shown.{Shown};
@@ -35,15 +35,16 @@ pub(crate) fn world_of(alloc: Global, text: &[u8]) -> Result<World, Fail>
     Ok(end.world)
 }
 
-/// The shard of a position of the first set, where the set has two parities or more and the shard
-/// is not lost.
+/// The shard of a position of the first set, where the set has two parities or more, its spans have
+/// a page at least, and the shard is not lost.
 fn kept_shard(far: &Far, position: u32) -> Option<Shard>
     requires { MayScrub far.now }
-    ensures stands { IfSome result (RowStands far.now.nodes) }
+    ensures stands { IfSome result (λ shard. (pages : ℕ) × (1 ≤ pages)
+        × RowStands far.now.nodes pages shard) }
     ensures shard { IfSome result (IsFirstSets far.now position) }
 {
     let set = far.sets.committed(0)?;
-    if set.r() < 2 || position >= set.k() + set.r() {
+    if set.r() < 2 || set.pages() == 0 || position >= set.k() + set.r() {
         return None;
     }
     let shard = set.shard(position);
