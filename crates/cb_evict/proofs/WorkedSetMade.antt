@@ -20,6 +20,7 @@ use Rattle.cb_world.specs.RowWords.{words_from, words_in, row_of}
 use Rattle.cb_world.specs.Sets.{set_in}
 use Rattle.cb_world.specs.Stored.{all_put}
 use Rattle.cb_span.specs.declared.temp.Temp.TheVariants.{Cold}
+use Rattle.cb_evict.specs.Lengths.{batch_pages, most_loose}
 use Rattle.cb_evict.specs.Closing.{all_given, with_homes}
 use Rattle.cb_evict.specs.EvictStep.{AreFrameRows, IsEvictedTo, IsSetMade, IsEvictStep, made, IsCountedStep}
 use Rattle.cb_evict.specs.declared.eviction.Eviction.TheVariants.{Refused}
@@ -101,8 +102,10 @@ evicted = record {
 }
 
 set_made : IsSetMade before after pair new (answer.Set (record { n = 0 }))
+unfolding pages_of batch_pages
 set_made = record {
-  enough = lit≤ tt;
+  pages = 1;
+  longest = refl;
   room = omega (arith, two_nodes);
   reply = refl;
   evicted = evicted;
@@ -254,7 +257,8 @@ not_sent a = not_here a.sent
 
 -- a set is made only where enough spans are loose
 not_pinned : IsSetMade busy after pair new (answer.Set (record { n = 0 })) → ⊥
-not_pinned a = let l : 1 ≤ 0 = a.enough in absurd (omega (arith, l))
+unfolding batch_pages
+not_pinned a = none_some a.pages a.longest
 
 -- and enough nodes have room
 not_lone : (far : FarState) → IsSetMade before after lone far (answer.Set (record { n = 0 })) → ⊥
@@ -283,9 +287,11 @@ none_given = refl
 -- ---- the refusals with both counts: no span is loose and two nodes have room, and one is and one
 -- has
 no_spans_told : IsCountedStep busy busy pair pair (Refused Spans 0 2)
+unfolding most_loose
 no_spans_told = record { step = no_spans; counts = (refl, sym two_nodes) }
 
 no_nodes_told : IsCountedStep before before lone lone (Refused Nodes 1 1)
+unfolding pages_of most_loose
 no_nodes_told = record { step = no_nodes; counts = (refl, sym one_node) }
 
 -- the counts are not told one in the other's place
