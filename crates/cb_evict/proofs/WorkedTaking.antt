@@ -272,7 +272,7 @@ not_the_other runs shows formers a =
     (taken_of (loose_of pair.spans a.pages a.loose) 1 1
     (subst (λ (l : List ℕ). Contains l 1) a.first (0, lit< tt, refl)))))
   where
-    first_one : Contains (0 ∷ []) 1 → ⊥
+    first_one : Contains {X = ℕ} (0 ∷ []) 1 → ⊥
     first_one (zero, l, e) = not_one 0 (sym e)
     first_one (suc k, l, e) = absurd (omega (arith, l))
 
