@@ -401,9 +401,11 @@ pub claims_tried : (far : FarState) {loose frames : List ℕ} {formers : List Fo
     → ClaimsThese runs shows (IsIn far.spans (loose_of far.spans pages loose)) (λ p. ⊥)
     (AreLostSince far loose pages x.lost) formers
 claims_tried far {loose = loose} {pages = pages} x =
-    part_more (IsIn far.spans (loose_of far.spans pages loose)) (λ p. ⊥) _ x.part (λ h y. y) (λ p y. y)
-    (λ before was same had.
-    x.part.done.0 before (candidates far) was (candidates_apart far) same had, x.part.done.1)
+    part_more (IsIn far.spans (loose_of far.spans pages loose)) (λ p. ⊥) _ x.part (λ h y. y) (λ p y. y) (
+      λ before was same had.
+          x.part.done.0 before (candidates far) was (candidates_apart far) same had,
+      x.part.done.1,
+    )
 
 -- where fewer are claimed than wanted, no other one is left
 pub fewer_left : (far : FarState) {loose frames : List ℕ} {formers : List Former} {pages k : ℕ}

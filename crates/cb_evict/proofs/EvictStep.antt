@@ -32,17 +32,17 @@ use Rattle.cb_evict.specs.EvictStep.{is_loose, loose_frames, AreSentOff, HaveCon
 use Rattle.cb_evict.specs.Evicting.{TouchesSpans}
 use Rattle.cb_evict.specs.declared.eviction.Eviction.{Eviction}
 use Rattle.cb_evict.specs.Eviction.{CountsRule, TellsCounts, reply_of}
-use Rattle.cb_evict.specs.Lengths.{has_pages, loose_of, most_loose}
+use Rattle.cb_evict.specs.Lengths.{loose_of, most_loose}
 use Rattle.cb_evict.specs.Looking.{IsIn}
 use Rattle.cb_evict.proofs.ChangedWords.{changes_words, same_count, shows_then}
 use Rattle.cb_evict.proofs.Composed.{few_spans as not_few_spans, few_nodes as not_few_nodes, rule_weaker}
 use Rattle.cb_evict.proofs.FrameRows.{rows_of_frames}
 use Rattle.cb_evict.proofs.Gone.{in_or_out, closed_in}
 use Rattle.cb_evict.proofs.Homing.{closed_else}
-use Rattle.cb_evict.proofs.LooseLengths.{filter_in, taken_count}
+use Rattle.cb_evict.proofs.LooseLengths.{taken_count}
 use Rattle.cb_evict.proofs.LooseSpans.{loose_exact}
 use Rattle.cb_evict.proofs.Standing.{names_span, are_unique}
-use Rattle.cb_evict.proofs.Trying.{taken_of}
+use Rattle.cb_evict.proofs.Trying.{taken_in}
 use Rattle.cb_evict.proofs.Options.{some_none}
 
 -- ---- which objects left
@@ -118,15 +118,19 @@ is_span x far f loose = by (span_in far.spans f) refl
     by None e = absurd (false≢true (sym (ap (is_loose x) e) ∙ loose))
     by (Some span) e = (span, e)
 
+pub loose_span : (x : Words) (far : FarState) (f : ℕ) → Contains (loose_frames x far) f
+    → (span : Contents) × (span_in far.spans f ≡ Some span)
+loose_span x far f c =
+    is_span x far f (All-contains (λ (g : ℕ). is_loose x (span_in far.spans g) ≡ true)
+    (loose_frames x far) f
+    (filter_passes (λ (g : ℕ). is_loose x (span_in far.spans g)) (candidates far))
+    c)
+
 loose_spans : (x : Words) (far : FarState) (k pages f : ℕ)
     → Contains (take k (loose_of far.spans pages (loose_frames x far))) f
     → (span : Contents) × (span_in far.spans f ≡ Some span)
 loose_spans x far k pages f c =
-    is_span x far f (All-contains (λ (g : ℕ). is_loose x (span_in far.spans g) ≡ true)
-    (loose_frames x far) f
-    (filter_passes (λ (g : ℕ). is_loose x (span_in far.spans g)) (candidates far))
-    (filter_in (has_pages far.spans pages) (loose_frames x far) f
-    (taken_of (loose_of far.spans pages (loose_frames x far)) k f c)))
+    loose_span x far f (taken_in k far.spans pages (loose_frames x far) f c)
 
 evicted_to : (x y : Words) (far new : FarState) (s : Shown) (es : List Event) (frames : List ℕ)
     → RunsStill x y far s es → HasEvicted far new frames es

@@ -307,8 +307,24 @@ count_within spans pages (f ∷ loose) = by (has_pages spans pages f) (count_wit
 pub most_within : (spans : List (Option Contents)) (loose : List ℕ)
     → most_loose spans loose ≤ length loose
 most_within spans loose =
-    omega (arith, most_is spans loose, count_within spans 4 loose, count_within spans 2 loose,
-    count_within spans 1 loose)
+    omega (
+      arith,
+      most_is spans loose,
+      count_within spans 4 loose,
+      count_within spans 2 loose,
+      count_within spans 1 loose,
+    )
+
+-- so where a length has k there are k in all
+pub longest_within : (k : ℕ) (spans : List (Option Contents)) (loose : List ℕ) (pages : ℕ)
+    → batch_pages k spans loose ≡ Some pages → k ≤ length loose
+longest_within k spans loose pages is =
+    omega (arith, longest_enough k spans loose pages is, count_within spans pages loose)
+
+pub some_within : (k : ℕ) (spans : List (Option Contents)) (loose : List ℕ)
+    → is_some (batch_pages k spans loose) ≡ true → k ≤ length loose
+some_within k spans loose some =
+    omega (arith, some_enough k spans loose some, most_within spans loose)
 
 -- where all have one length they are all of that length
 pub all_of_length : (spans : List (Option Contents)) (pages : ℕ) (loose : List ℕ)

@@ -360,6 +360,12 @@ taken_of xs i x (k, l, e) =
     min_both : (a b : ℕ) → (min a b ≤ a) × (min a b ≤ b)
     min_both a b = (omega arith, omega arith)
 
+-- the first ones of a length are some of all
+pub taken_in : (k : ℕ) (spans : List (Option Contents)) (pages : ℕ) (loose : List ℕ) (f : ℕ)
+    → Contains (take k (loose_of spans pages loose)) f → Contains loose f
+taken_in k spans pages loose f c = filter_in (has_pages spans pages) loose f
+    (taken_of (loose_of spans pages loose) k f c)
+
 -- what passes a test in a front of a list does so in the list
 filter_taken : (p : ℕ → Bool) (xs : List ℕ) (i x : ℕ) → Contains (filter p (take i xs)) x
     → Contains (filter p xs) x

@@ -36,8 +36,7 @@ claim_length-twos-requires-clause-sound g c =
     let among = c.requires.among in let room = c.requires.room in
     let k = ap (λ (n : Code). n.k) c.in_force-k.ensures in
     let four = past_four far was among room c.claim_length-fours.ensures.claims
-    (λ e. omega (arith, e, k, c.if-fours-k.false)) in
-    (
+    (λ e. omega (arith, e, k, c.if-fours-k.false)) in (
       played four.tried.events s,
       (g.met.D.Desk.follows _ _ four.tried.events s four.tried.ran c.requires.sound.1).1,
       four_sound among four s c.requires.sound.1 c.requires.sound.2,
@@ -68,8 +67,7 @@ claim_length-ones-requires-clause-sound g c =
     let two = past_two far was among room
     {runsC = λ es. g.D.Desk.run c.args.desk.now es c.claim_length-twos.new.desk} _ unique (joins (λ es fs a b. g.met.D.Desk.more _ _ _ _ _ a b)
     (λ es s ran a. (g.met.D.Desk.follows _ _ es s ran a).1)) four c.claim_length-twos.ensures.claims
-    (λ e. omega (arith, e, k, c.if-twos-k.false)) in
-    (
+    (λ e. omega (arith, e, k, c.if-twos-k.false)) in (
       played two.tried.events s,
       (g.met.D.Desk.follows _ _ two.tried.events s two.tried.ran c.requires.sound.1).1,
       two_sound among two s c.requires.sound.1 c.requires.sound.2,
