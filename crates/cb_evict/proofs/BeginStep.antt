@@ -1,5 +1,5 @@
 -- Over a still desk a begin is a step: what its rule and its effect say is exact there.
-use Rattle.std.proofs.Common.{◌≡◌, ◌⊎◌, ℕ, ◌+◌, ◌*◌, ◌^◌, ◌<◌, ◌≤◌, Bool, false, List, length, get_or, map, ◌++◌, take, None, Some, refl, sym, ap, ◌∙◌, subst, arith, inl, inr}
+use Rattle.std.proofs.Common.{◌≡◌, ◌⊎◌, ℕ, ◌+◌, ◌*◌, ◌^◌, ◌<◌, Bool, false, List, length, get_or, map, ◌++◌, take, None, Some, refl, sym, ap, ◌∙◌, subst, arith, inl, inr}
 use Rattle.cb_ptr.specs.Steps.{Claims}
 use Rattle.cb_ptr.specs.Word.{flag_number, hot_of, len_of, place_of}
 use Rattle.cb_ptr.proofs.Laws.{claims, claimed_below, same_but_hot}

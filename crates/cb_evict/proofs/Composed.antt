@@ -1,5 +1,5 @@
 -- The front of an eviction and of a begin, and what comes behind it.
-use Rattle.std.proofs.Common.{◌≡◌, ◌≢◌, ◌⊎◌, ℕ, ◌<◌, ◌≤◌, Bool, true, false, not, List, [], ◌∷◌, ◌++◌, length, get_or, All, Option, replicate, sym, refl, ap, ◌∙◌, subst, arith, inl, inr}
+use Rattle.std.proofs.Common.{◌≡◌, ◌≢◌, ◌⊎◌, ℕ, ◌<◌, true, false, not, List, [], ◌∷◌, ◌++◌, length, get_or, All, Option, replicate, sym, refl, ap, ◌∙◌, subst, arith, inl, inr}
 use Rattle.std.specs.Prelude.{Result, Ok, Err, IfOk, OnOk, OnErr}
 use Rattle.std.specs.List.{Contains, AllPairs}
 use Rattle.std.proofs.lemmas.List.{append-nil, append_assoc, length-replicate, get_or-replicate, get_or_default}
@@ -18,7 +18,6 @@ use Rattle.cb_world.specs.Played.{played}
 use Rattle.cb_world.specs.Looks.{NoLook}
 use Rattle.cb_world.specs.Still.{IsStill}
 use Rattle.cb_world.specs.FarState.{FarState, pages_at}
-use Rattle.cb_world.specs.LocalSound.{LocalSound}
 use Rattle.cb_world.specs.Sound.{Sound}
 use Rattle.cb_world.specs.Performs.{Performs}
 use Rattle.cb_world.proofs.Laws.{allowed_append}
@@ -43,7 +42,6 @@ use Rattle.cb_evict.specs.Loading.{AreOfLength, LiesInOne, OnlyLoads}
 use Rattle.cb_evict.specs.Looking.{IsIn, LooksOver}
 use Rattle.cb_evict.proofs.CallParts.{Joins, part_more, part_then}
 use Rattle.cb_evict.proofs.Claims.{all_left, claims_nothing}
-use Rattle.cb_evict.proofs.Events.{touches_more}
 use Rattle.cb_evict.proofs.Gathers.{claims_then, gathers_back}
 use Rattle.cb_evict.proofs.LooseLengths.{filter_all, filter_in, filter_swap, first_long}
 use Rattle.cb_evict.proofs.Loose.{loose_among, all_quiet, apart_tail, fresh_head}

@@ -1,5 +1,5 @@
 -- An eviction and the steps of a batch write no version.
-use Rattle.std.proofs.Common.{◌≡◌, ℕ, List, [], length, inl, inr}
+use Rattle.std.proofs.Common.{◌≡◌, ℕ, List, [], inl, inr}
 use Rattle.cb_types.specs.declared.handle.SetId.{SetId}
 use Rattle.cb_types.specs.declared.reply.Reply.{Reply}
 use Rattle.cb_types.specs.declared.reply.Reply.TheVariants as answer

@@ -1,5 +1,5 @@
 -- Loose spans by their lengths: the greatest length that has enough, and spans that are lost.
-use Rattle.std.proofs.Common.{◌≡◌, ◌≢◌, ◌⊎◌, ℕ, zero, suc, ◌+◌, ◌<◌, ◌≤◌, max, min, Bool, true, false, cond, not, ◌||◌, nat_eq, nat_le, List, [], ◌∷◌, ◌++◌, length, take, get_or, All, Option, None, Some, sym, refl, ap, ◌∙◌, subst, lit≤, arith, inl, inr, eq-eqb}
+use Rattle.std.proofs.Common.{◌≡◌, ◌≢◌, ℕ, zero, suc, ◌<◌, ◌≤◌, max, Bool, true, false, cond, not, ◌||◌, nat_eq, nat_le, List, [], ◌∷◌, ◌++◌, length, take, get_or, Option, None, Some, sym, refl, ap, ◌∙◌, subst, lit≤, arith, inl, inr, eq-eqb}
 use Rattle.std.specs.Prelude.{is_some, if◌then◌else◌}
 use Rattle.std.specs.List.{Contains, AllPairs, filter}
 use Rattle.std.proofs.lemmas.Bool.{cases_lt, eqb-true, eqb-false, false≢true, le-leb, lt-leb}
@@ -13,7 +13,7 @@ use Rattle.cb_evict.specs.Events.{TouchesOnly}
 use Rattle.cb_evict.specs.Lengths.{batch_pages, count_of, has_pages, loose_of, most_loose, without}
 use Rattle.cb_evict.specs.Loading.{AreOfLength}
 use Rattle.cb_evict.proofs.Loose.{all_quiet, apart_tail, contains_head, contains_tail, fresh_head, held_cons, held_more, loose_among, loose_more, loose_seen, others_quiet, tail_quiet}
-use Rattle.cb_evict.proofs.Options.{none_some, some_none, some_same}
+use Rattle.cb_evict.proofs.Options.{none_some, some_same}
 
 -- ---- what a test keeps of a list
 pub at_true : (p : ℕ → Bool) (x : ℕ) (xs : List ℕ) → p x ≡ true → filter p (x ∷ xs) ≡ x ∷ filter p xs

@@ -1,5 +1,5 @@
 -- Spans of one length after another are tried: of the greatest that has enough the first k are taken.
-use Rattle.std.proofs.Common.{◌≡◌, ◌≢◌, ◌⊎◌, ℕ, ◌+◌, ◌<◌, ◌≤◌, max, Bool, true, List, [], ◌++◌, length, get_or, take, All, Option, Some, refl, sym, ap, ◌∙◌, subst, arith, inl, inr}
+use Rattle.std.proofs.Common.{◌≡◌, ◌≢◌, ◌⊎◌, ℕ, ◌+◌, ◌<◌, ◌≤◌, max, Bool, List, [], ◌++◌, length, get_or, take, All, Option, refl, sym, ap, ◌∙◌, subst, arith, inl, inr}
 use Rattle.std.specs.List.{Contains}
 use Rattle.std.proofs.lemmas.List.{append_assoc}
 use Rattle.std.proofs.lemmas.List.Elements.{All-contains, All-nil}
@@ -16,9 +16,9 @@ use Rattle.cb_world.specs.Sound.{Sound}
 use Rattle.cb_evict.specs.declared.eviction.Eviction.TheVariants.{Refused}
 use Rattle.cb_evict.specs.declared.eviction.Lack.TheVariants.{Spans}
 use Rattle.cb_evict.specs.Candidates.{candidates, AreUnique}
-use Rattle.cb_evict.specs.Claiming.{ClaimsObjects, ClaimsThese}
+use Rattle.cb_evict.specs.Claiming.{ClaimsThese}
 use Rattle.cb_evict.specs.Claims.{IsNone}
-use Rattle.cb_evict.specs.Lengths.{batch_pages, count_of, has_pages, loose_of, most_loose, without}
+use Rattle.cb_evict.specs.Lengths.{count_of, has_pages, loose_of, most_loose, without}
 use Rattle.cb_evict.specs.Loading.{LiesInOne}
 use Rattle.cb_evict.specs.Looking.{IsIn}
 use Rattle.cb_evict.specs.Taking.{AreLooseNow, AreLooseStill, AreLostSince, ClaimsAll, ClaimsFewer, ClaimsLength, TakesEnough, TakesFew, TriesSpans}

@@ -1,7 +1,7 @@
 -- Worked examples of loose spans by the words of the still desk, of objects that are sent off and
 -- of the two refusals: values that meet a definition, and for each of its parts one that breaks
 -- that part alone.
-use Rattle.std.proofs.Common.{◌≡◌, ℕ, zero, suc, ◌+◌, ◌*◌, ◌<◌, ◌≤◌, true, false, List, [], ◌∷◌, length, Option, None, Some, refl, sym, ap, ◌∙◌, subst, lit<, lit≤, arith}
+use Rattle.std.proofs.Common.{◌≡◌, ℕ, zero, suc, ◌+◌, ◌*◌, true, false, List, [], ◌∷◌, length, Option, None, Some, refl, sym, ap, ◌∙◌, subst, lit<, arith}
 use Rattle.std.proofs.lemmas.Bool.{false≢true}
 use Rattle.cb_class.specs.Class.{words_of, bytes_of, pages_of}
 use Rattle.cb_ptr.specs.Steps.{IsFarWord}

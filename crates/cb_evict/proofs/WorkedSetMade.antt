@@ -1,6 +1,6 @@
 -- A worked example of a whole step: the loose one of two spans is evicted; and for each part of
 -- what is said of it a value that breaks that part alone.
-use Rattle.std.proofs.Common.{◌≡◌, ℕ, zero, suc, ◌*◌, ◌/◌, ◌≤◌, true, false, nat_lt, List, [], ◌∷◌, ◌++◌, length, get_or, None, Some, replicate, take, refl, sym, ap, ◌∙◌, subst, lit<, lit≤, arith, inr}
+use Rattle.std.proofs.Common.{◌≡◌, ℕ, zero, suc, ◌*◌, ◌/◌, ◌≤◌, true, false, nat_lt, List, [], ◌∷◌, ◌++◌, length, get_or, None, Some, replicate, take, refl, sym, ap, ◌∙◌, subst, lit<, arith, inr}
 use Rattle.std.specs.FinMap as map
 use Rattle.std.specs.List.{slice_get}
 use Rattle.std.proofs.lemmas.Bool.{false≢true}

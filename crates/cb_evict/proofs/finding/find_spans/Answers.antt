@@ -8,7 +8,6 @@ use Rattle.cb_types.specs.declared.reply.Reply.TheVariants as answer
 use Rattle.cb_world.specs.Choices.{room_count}
 use Rattle.cb_world.specs.FarState.{FarState, span_in}
 use Rattle.cb_evict.specs.Candidates.{AreUnique, candidates}
-use Rattle.cb_evict.specs.Lengths.{most_loose}
 use Rattle.cb_evict.proofs.Composed.{any_err, looks_as, looks_tried, most_told}
 use Rattle.cb_evict.proofs.LooseLengths.{enough_some, fewer_none, most_within}
 use Rattle.cb_evict.proofs.Ending.{place_in}

@@ -1,4 +1,4 @@
-use Rattle.std.proofs.Common.{◌≡◌, arith}
+use Rattle.std.proofs.Common.{arith}
 use Rattle.cb_evict.proofs.LooseLengths.{most_is}
 use Rattle.cb_evict.proofs.lengths.most_loose.Goals as goal
 

@@ -1,11 +1,7 @@
 use Rattle.std.proofs.lemmas.Result.{IfOk-from_err}
-use Rattle.std.proofs.Common.{◌≡◌, ◌≢◌, ◌<◌, ℕ, List, [], All, refl, sym, ap, ◌∙◌, subst, arith, rules}
-use Rattle.std.specs.List.{AllPairs, Contains}
+use Rattle.std.proofs.Common.{ap, arith}
 use Rattle.cb_member.specs.declared.names.Code.{Code}
 use Rattle.cb_world.specs.Played.{played}
-use Rattle.cb_world.specs.FarState.{FarState}
-use Rattle.cb_evict.specs.Candidates.{candidates}
-use Rattle.cb_evict.specs.Taking.{ClaimsLength}
 use Rattle.cb_evict.proofs.Composed.{any_err}
 use Rattle.cb_evict.proofs.TakenLengths.{four_sound, past_four, past_two, takes_four, takes_none, takes_one, takes_two, two_sound}
 use Rattle.cb_evict.proofs.Standing.{are_unique}

@@ -1,6 +1,6 @@
 use Rattle.std.proofs.lemmas.Bool.{false≢true}
 use Rattle.std.proofs.lemmas.List.{length-append, take_at}
-use Rattle.std.proofs.Common.{◌≡◌, ◌<◌, ℕ, List, [], ◌++◌, true, false, length, get_or, take, All, Some, refl, sym, ap, ◌∙◌, subst, arith, rules, inl, inr}
+use Rattle.std.proofs.Common.{◌≡◌, ◌<◌, ℕ, List, true, false, length, get_or, take, All, refl, sym, ap, ◌∙◌, subst, arith, rules, inl, inr}
 use Rattle.cb_member.specs.declared.names.Code.{Code}
 use Rattle.cb_world.specs.declared.leaving.Former.{Former}
 use Rattle.cb_world.specs.Played.{played}
@@ -8,7 +8,7 @@ use Rattle.cb_world.specs.FarState.{FarState, span_in}
 use Rattle.cb_evict.specs.Candidates.{AreUnique}
 use Rattle.cb_evict.specs.Claims.{AreApart, IsHeldAt}
 use Rattle.cb_evict.specs.Claiming.{GivesBack}
-use Rattle.cb_evict.specs.Lengths.{count_of, without}
+use Rattle.cb_evict.specs.Lengths.{count_of}
 use Rattle.cb_evict.proofs.Composed.{are_taken, back_tried, claims_as, claims_none, claims_tried, fewer_left, nothing_lost}
 use Rattle.cb_evict.proofs.Ending.{handles_all}
 use Rattle.cb_evict.proofs.LooseLengths.{filter_all}
