@@ -1,6 +1,6 @@
 -- The front of an eviction and of a begin: of two spans the second is held up by a pin, and the
 -- first is claimed.
-use Rattle.std.proofs.Common.{◌≡◌, ◌⊎◌, ℕ, zero, suc, List, [], ◌∷◌, length, take, None, refl, sym, ap, ◌∙◌, subst, lit<, lit≤, arith, inl, inr}
+use Rattle.std.proofs.Common.{◌≡◌, ◌⊎◌, ℕ, ◌<◌, ◌≤◌, true, false, zero, suc, List, [], ◌∷◌, length, None, refl, sym, ap, ◌∙◌, subst, lit<, lit≤, arith, inl, inr}
 use Rattle.std.specs.FinMap as map
 use Rattle.std.proofs.lemmas.Bool.{false≢true}
 use Rattle.cb_class.specs.Class.{pages_of}
@@ -31,14 +31,14 @@ use Rattle.cb_evict.specs.Finding.{FindsLoose}
 use Rattle.cb_evict.specs.Lengths.{batch_pages, has_pages, loose_of, most_loose}
 use Rattle.cb_evict.specs.Loading.{LiesInOne, OnlyLoads}
 use Rattle.cb_evict.specs.Looking.{LooksOver}
-use Rattle.cb_evict.specs.Taking.{AreLooseNow, TriesSpans, TakesEnough, TakesFew}
+use Rattle.cb_evict.specs.Taking.{AreLooseNow, ClaimsAll, ClaimsFewer, ClaimsLength, TriesSpans, TakesEnough, TakesFew}
 use Rattle.cb_evict.proofs.BeginSound.{reserved_kept}
-use Rattle.cb_evict.proofs.Composed.{looks_tried}
+use Rattle.cb_evict.proofs.Composed.{looks_tried, nothing_lost}
 use Rattle.cb_evict.proofs.LooseLengths.{count_within, filter_in, longest_enough, none_fewer}
 use Rattle.cb_evict.proofs.Loose.{held_alone}
 use Rattle.cb_evict.proofs.Trying.{taken_of}
 use Rattle.cb_evict.proofs.Options.{none_some}
-use Rattle.cb_evict.proofs.SmallWorlds.{calm, first_object, heads, lone, one_long, one_node, only_first, only_second, pair, pinned, two_nodes}
+use Rattle.cb_evict.proofs.SmallWorlds.{calm, first_object, lone, one_long, one_node, one_page, only_first, only_second, pair, pinned, two_nodes}
 use Rattle.cb_evict.proofs.WorkedBegin.{former, of_first}
 
 not_one : (n : ℕ) → suc n ≡ 0 → ⊥
@@ -253,6 +253,62 @@ not_claimed s shows finds known sound was a =
   where
     differ : (len place v : ℕ) (xs : List ℕ) → is.Here 8 0 ≡ is.Claimed len place v xs → ⊥
     differ len place v xs e = cc
+
+-- ---- the claims of one length
+-- where two spans are wanted the one is not claimed, and it is counted
+fewer : (shows : Shown → Type 0)
+    → ClaimsLength (λ es. es ≡ []) shows paired (0 ∷ []) 1 1 [] []
+unfolding pages_of
+fewer shows = record {
+  lost = λ f. false;
+  long = λ f e. absurd (false≢true e);
+  tries = nothing_lost paired (0 ∷ []) 1 refl;
+  came = inl (record { few = lit< tt; counted = refl; none = (refl, refl) });
+}
+
+-- no span has two pages, and none is lost that could be claimed
+none_of_two : (shows : Shown → Type 0)
+    → ClaimsLength (λ es. es ≡ []) shows pair (0 ∷ []) 2 0 [] []
+unfolding pages_of
+none_of_two shows = record {
+  lost = λ f. false;
+  long = λ f e. absurd (false≢true e);
+  tries = nothing_lost pair (0 ∷ []) 2 refl;
+  came = inl (record { few = lit< tt; counted = refl; none = (refl, refl) });
+}
+
+-- a span of another length is not lost
+not_lost : (runs : List Event → Type 0) (shows : Shown → Type 0) (count : ℕ) (frames : List ℕ)
+    (formers : List Former)
+    → (a : ClaimsLength runs shows pair (0 ∷ []) 2 count frames formers) → a.lost 0 ≡ true → ⊥
+not_lost runs shows count frames formers a is =
+    let e = a.long 0 is in let one = one_page in omega (arith, e, one)
+
+-- where one is wanted and there, it is claimed
+not_fewer : ClaimsFewer pair (0 ∷ []) 1 1 [] [] → ⊥
+not_fewer a = let l : 1 < 1 = a.few in absurd (omega (arith, l))
+
+not_uncounted : ClaimsFewer paired (0 ∷ []) 1 0 [] [] → ⊥
+unfolding pages_of
+not_uncounted a = let e : 0 ≡ 1 = a.counted in absurd (omega (arith, e))
+
+not_kept : ClaimsFewer paired (0 ∷ []) 1 1 (0 ∷ []) (former ∷ []) → ⊥
+not_kept a = let e : 1 ≡ 0 = ap (λ (l : List ℕ). length l) a.none.0 in absurd (omega (arith, e))
+
+claims_all : ClaimsAll pair (0 ∷ []) 1 1 (0 ∷ []) (former ∷ [])
+unfolding pages_of
+claims_all = record { all = refl; enough = lit≤ tt; first = refl; taken = taken_first }
+
+not_so_many : ClaimsAll pair (0 ∷ []) 1 2 (0 ∷ []) (former ∷ []) → ⊥
+not_so_many a = let e : 2 ≡ 1 = a.all in absurd (omega (arith, e))
+
+not_of_two : ClaimsAll pair (0 ∷ []) 2 1 (0 ∷ []) (former ∷ []) → ⊥
+unfolding pages_of
+not_of_two a = let l : 1 ≤ 0 = a.enough in absurd (omega (arith, l))
+
+not_another : ClaimsAll pair (0 ∷ []) 1 1 (1 ∷ []) (former ∷ []) → ⊥
+unfolding pages_of
+not_another a = not_one 0 (heads 1 0 a.first)
 
 -- none of a list is too few
 not_of_none : (runs : List Event → Type 0) (shows : Shown → Type 0) (frames : List ℕ)
