@@ -26,6 +26,7 @@ use Rattle.cb_world.specs.declared.event.Event.{Event}
 use Rattle.cb_world.specs.FarState.{FarState}
 use Rattle.cb_world.specs.Played.{played}
 use Rattle.cb_evict.specs.EvictRule.{EvictRule, HasBoth, HasFewNodes, HasFewSpans}
+use Rattle.cb_evict.proofs.Laws.{none_fewer}
 use Rattle.cb_core.specs.Parts.{Holding}
 use Rattle.cb_core.specs.Turned.{Turned, counted, done, worn}
 use Rattle.cb_model.specs.Called.{handle_for}
@@ -189,7 +190,7 @@ evict_few c far new r es code a = by a.answered
     by : HasFewSpans far new r a.loose ⊎ (HasFewNodes far new r a.loose
         ⊎ HasBoth far new r a.loose es) → TellsRoom c r
     by (inl x) = subst (TellsRoom c) (sym x.reply)
-        (let n = x.few in let k = code.0 in omega (arith, n, k))
+        (let n = none_fewer far.code.k far.spans a.loose x.few in let k = code.0 in omega (arith, n, k))
     by (inr (inl x)) = subst (TellsRoom c) (sym x.reply)
         (let n = x.few in let k = code.0 in let m = code.1 in omega (arith, n, k, m))
     by (inr (inr x)) = subst (TellsRoom c) (sym x.reply) tt

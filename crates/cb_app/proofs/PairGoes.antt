@@ -21,6 +21,7 @@ use Rattle.cb_world.specs.FarState.{FarState}
 use Rattle.cb_world.specs.Joining.{JoiningState}
 use Rattle.cb_world.specs.Sets.{Kept, SetMap, if_committed, set_in}
 use Rattle.cb_evict.specs.EvictRule.{EvictRule, HasBoth, HasFewNodes, HasFewSpans}
+use Rattle.cb_evict.specs.Lengths.{loose_of}
 use Rattle.cb_evict.specs.Storing.{AreShards, set_for}
 use Rattle.cb_compact.specs.MergeStep.{MergeStep, Merges}
 use Rattle.cb_compact.specs.CompactStep.{CompactStep, PairEnds}
@@ -173,7 +174,8 @@ evicted_apart c far new id es a apart = by a.answered
     by (inl x) = subst AreSetsApart (sym x.state) apart
     by (inr (inl x)) = subst AreSetsApart (sym x.state) apart
     by (inr (inr x)) = λ n set there. elim (added_set far.sets far.counts.sets n
-        (set_for far x.evicted.pages x.evicted.shards (take far.code.k a.loose)) set
+        (set_for far x.evicted.pages x.evicted.shards
+        (take far.code.k (loose_of far.spans x.pages a.loose))) set
         (sym (ap (λ (f : FarState). set_in f.sets n) x.evicted.state) ∙ there)) [
           | inl is ↦ subst (λ (s : SetState). OnDistinctNodes s.shards) is
               (chosen_apart far (far.code.k + far.code.r) x.evicted.shards x.evicted.chosen)

@@ -34,7 +34,7 @@ use Rattle.cb_evict.specs.declared.eviction.Lack.{Lack}
 use Rattle.cb_evict.specs.declared.eviction.Lack.TheVariants as lack
 use Rattle.cb_evict.specs.Eviction.{CountsRule, reply_of}
 use Rattle.cb_evict.specs.EvictRule.{EvictRule, HasBoth, HasFewNodes, HasFewSpans}
-use Rattle.cb_evict.proofs.Laws.{evict_stays}
+use Rattle.cb_evict.proofs.Laws.{evict_stays, none_fewer}
 use Rattle.cb_swapin.specs.SwapRule.{SwapFar, SwapRule}
 use Rattle.cb_swapin.proofs.Laws.{by_answer}
 use Rattle.cb_compact.proofs.Laws.{begin_laws, merge_laws, now_laws, part_laws, patch_laws}
@@ -212,7 +212,9 @@ too_few c far new lack.Spans loose nodes es code x = by x.rule.answered
         ⊎ (HasFewNodes far new (answer.NoSpans loose) x.rule.loose
         ⊎ HasBoth far new (answer.NoSpans loose) x.rule.loose es)
         → (loose < c.k) ⊎ (nodes < c.k + c.r)
-    by (inl few) = inl (let n = x.counts.0 in let f = few.few in let k = code.0 in omega (arith, n, f, k))
+    by (inl few) = inl (let n = x.counts.0 in
+        let f = none_fewer far.code.k far.spans x.rule.loose few.few in let k = code.0 in
+        omega (arith, n, f, k))
     by (inr (inl few)) = absurd (let e = few.reply in cc)
     by (inr (inr both)) = absurd (let e = both.reply in cc)
 too_few c far new lack.Nodes loose nodes es code x = by x.rule.answered

@@ -30,6 +30,8 @@ use Rattle.cb_evict.specs.declared.eviction.Eviction.TheVariants.{Refused, Set}
 use Rattle.cb_evict.specs.declared.eviction.Lack.{Lack}
 use Rattle.cb_evict.specs.declared.eviction.Lack.TheVariants as lack
 use Rattle.cb_evict.specs.Eviction.{reply_of}
+use Rattle.cb_evict.specs.Lengths.{most_loose}
+use Rattle.cb_evict.proofs.Laws.{none_fewer}
 use Rattle.cb_evict.specs.EvictStep.{IsEvictStep, few_nodes, few_spans, loose_frames, made}
 use Rattle.cb_filter.specs.FilterRule.{EmptyToFilter}
 use Rattle.cb_filter.specs.FilterStep.{RefusesAs, cools, moves, refused, without_slot}
@@ -60,12 +62,12 @@ calm_as : (r q : Reply) → IsEased q → r ≡ q → IsEased r
 calm_as r q calm e = subst IsEased (sym e) calm
 
 -- no object moves, and none is gone; where no run of frames is free that a span of some class
--- fits enough spans are loose, and enough nodes have room; each version has a next one
+-- fits enough spans of one length are loose, and enough nodes have room; each version has a next one
 pub record MakesEasy (x : Words) (far : FarState) : Type 0 where
   pub still : (h : ℕ) → h < length x.words → state_of (word_at x h) ≡ word.Moving → ⊥
   pub whole : (h : ℕ) → is_gone far h ≡ false
   pub spans : (class : Class) → IsClass class → least_run far.frames (pages_of class) ≡ None
-      → far.code.k ≤ length (loose_frames x far)
+      → far.code.k ≤ most_loose far.spans (loose_frames x far)
   pub nodes : far.code.k + far.code.r ≤ room_count far.nodes far.members
   pub stamps : (h : ℕ) → stamp_at x h < 2 ^ 64 - 1
 
@@ -167,7 +169,9 @@ not_refused a b why loose nodes easy none step = by step.0.step
 
     by : IsEvictStep a.desk b.desk a.far b.far (reply_of (Refused why loose nodes)) → ⊥
     by (few_spans few same) =
-        let enough = easy.spans none.0 none.1 none.2 in let less = few.few in omega (arith, enough, less)
+        let enough = easy.spans none.0 none.1 none.2 in
+        let less = none_fewer a.far.code.k a.far.spans (loose_frames a.desk a.far) few.few in
+        omega (arith, enough, less)
     by (few_nodes few same) =
         let enough = easy.nodes in let less = few.few in omega (arith, enough, less)
     by (made m) = no_set why _ m.reply

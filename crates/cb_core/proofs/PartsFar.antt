@@ -3,7 +3,7 @@ use Rattle.std.proofs.Common.{◌≡◌, ℕ, ◌+◌, Bool, true, false, ◌<�
 use Rattle.std.specs.List.{Contains}
 use Rattle.std.specs.Prelude.{count_by, slice_set}
 use Rattle.std.proofs.lemmas.Bool.{cases_lt}
-use Rattle.std.proofs.lemmas.List.{get_or_past, length-take-le, set_past}
+use Rattle.std.proofs.lemmas.List.{get_or_past, set_past}
 use Rattle.std.proofs.lemmas.List.Folds.{list_any_at}
 use Rattle.std.proofs.lemmas.List.Sums.{sum_by-set}
 use Rattle.cb_frame.specs.Runs.{least_run}
@@ -37,7 +37,8 @@ use Rattle.cb_mutate.specs.MakeRule.{HasNoPlace, MakeRule}
 use Rattle.cb_evict.specs.Candidates.{candidates, SpanNames}
 use Rattle.cb_evict.specs.Closing.{all_closed}
 use Rattle.cb_evict.specs.EvictRule.{HasEvicted, EvictRule}
-use Rattle.cb_evict.proofs.Laws.{few_spans, few_nodes, loose_among, evict_stays, names_span, named_at, ready_frame, taken_of}
+use Rattle.cb_evict.specs.Lengths.{loose_of}
+use Rattle.cb_evict.proofs.Laws.{few_spans, few_nodes, loose_among, evict_stays, names_span, named_at, ready_frame, taken_count, taken_in}
 use Rattle.cb_swapin.specs.SwapRule.{SwapFar, SwapRule, frame_answer, swap_answer}
 use Rattle.cb_swapin.proofs.Laws.{named_within}
 
@@ -88,11 +89,11 @@ has_sent far new r id es rule set = elim rule.answered [
   | inl few ↦ absurd (few_spans _ r id few.reply set)
   | inr (inl few) ↦ absurd (few_nodes _ r id few.reply set)
   | inr (inr both) ↦ record {
-    frames = take far.code.k rule.loose;
+    frames = take far.code.k (loose_of far.spans both.pages rule.loose);
     evicted = both.evicted;
     among = λ f in_taken. loose_among es far.spans (candidates far) rule.loose f rule.found
-        (taken_of rule.loose far.code.k f in_taken);
-    count = length-take-le far.code.k rule.loose both.enough;
+        (taken_in far.code.k far.spans both.pages rule.loose f in_taken);
+    count = taken_count far.code.k far.spans rule.loose both.pages both.longest;
   }
 ]
 

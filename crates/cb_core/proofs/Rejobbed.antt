@@ -66,7 +66,8 @@ module _ (turns : ℕ) (by_job : List ℕ) where
     state = ap (rejobbed turns by_job) z.state;
   }) same
   evict_as x y far new r (made z) = let e = z.evicted in made (record {
-    enough = z.enough;
+    pages = z.pages;
+    longest = z.longest;
     room = z.room;
     reply = z.reply;
     evicted = record {

@@ -37,7 +37,8 @@ use Rattle.cb_evict.specs.CommitStep.{no_batch as none_to_commit, short, committ
 use Rattle.cb_evict.specs.EvictStep.{few_spans, few_nodes, made}
 use Rattle.cb_evict.specs.ShipRule.{ShipsRow}
 use Rattle.cb_evict.specs.Waiting.{waiting, least_waiting}
-use Rattle.cb_evict.proofs.Laws.{calm as wide_calm, desk as wide_desk, far as wide_far, known as wide_shown, after as wide_after, all_known as wide_known, step as wide_step, none_known}
+use Rattle.cb_evict.specs.Lengths.{batch_pages, most_loose}
+use Rattle.cb_evict.proofs.Laws.{longest_within, some_within, calm as wide_calm, desk as wide_desk, far as wide_far, known as wide_shown, after as wide_after, all_known as wide_known, step as wide_step, none_known}
 use Rattle.cb_filter.specs.FilterStep.{refused, cools, without_slot, moves}
 use Rattle.cb_filter.specs.Seats.{Seat}
 use Rattle.cb_world.specs.SetWord.{IsWeak}
@@ -217,8 +218,9 @@ crowd = record {
 }
 
 no_spans : StillEvict crowd (answer.NoSpans 0) crowd
+unfolding batch_pages most_loose
 no_spans = (
-  few_spans (record { few = lit< tt; reply = refl; state = refl }) refl,
+  few_spans (record { few = refl; reply = refl; state = refl }) refl,
   same_holds crowd,
 )
 
@@ -227,10 +229,11 @@ spans_of (answer.NoSpans n) = n
 spans_of r = 9
 
 one_span : StillEvict crowd (answer.NoSpans 1) crowd → ⊥
+unfolding most_loose
 one_span (few_spans a e, hold) =
     let z : 1 ≡ 0 = ap spans_of a.reply in absurd (omega (arith, z))
-one_span (few_nodes a e, hold) = let n : 1 ≤ 0 = a.enough in absurd (omega (arith, n))
-one_span (made m, hold) = let n : 1 ≤ 0 = m.enough in absurd (omega (arith, n))
+one_span (few_nodes a e, hold) = let n : 1 ≤ 0 = some_within _ _ _ a.enough in absurd (omega (arith, n))
+one_span (made m, hold) = let n : 1 ≤ 0 = longest_within _ _ _ _ m.longest in absurd (omega (arith, n))
 
 -- ---- the steps of a batch: where none is leaving, and where one is whose rows were not put
 abbrev batch : LeavingState
@@ -250,17 +253,19 @@ batch_same b e = cc
 
 -- ---- a begin
 begins_none : StillBegin crowd (answer.NoSpans 0) crowd
+unfolding batch_pages most_loose
 begins_none = (
-  few_to_begin refl (record { few = lit< tt; reply = refl; state = refl }) refl,
+  few_to_begin refl (record { few = refl; reply = refl; state = refl }) refl,
   same_holds crowd,
 )
 
 begins_one : StillBegin crowd (answer.NoSpans 1) crowd → ⊥
+unfolding most_loose
 begins_one (is_leaving b there reply state e, hold) = none_batch b there
 begins_one (few_to_begin none a e, hold) =
     let z : 1 ≡ 0 = ap spans_of a.reply in absurd (omega (arith, z))
-begins_one (few_to_take none a e, hold) = let n : 1 ≤ 0 = a.enough in absurd (omega (arith, n))
-begins_one (begins m, hold) = let n : 1 ≤ 0 = m.enough in absurd (omega (arith, n))
+begins_one (few_to_take none a e, hold) = let n : 1 ≤ 0 = some_within _ _ _ a.enough in absurd (omega (arith, n))
+begins_one (begins m, hold) = let n : 1 ≤ 0 = longest_within _ _ _ _ m.longest in absurd (omega (arith, n))
 
 begins_again : StillBegin beside (answer.Leaving (record { n = 4 })) beside
 begins_again = (is_leaving batch refl refl refl refl, same_holds beside)
@@ -432,13 +437,15 @@ declines = declined start write_off past_its_end
 
 -- object 1 is not in local memory, so no span is loose
 none_loose : StillEvict start (answer.NoSpans 0) start
+unfolding batch_pages most_loose
 none_loose = (
-  few_spans (record { few = lit< tt; reply = refl; state = refl }) refl,
+  few_spans (record { few = refl; reply = refl; state = refl }) refl,
   same_holds start,
 )
 
 -- and two nodes have room
 none_told : StillRoom start (Refused Spans 0 2) start
+unfolding most_loose
 none_told = (record { step = none_loose.0; counts = (refl, sym two_open) }, none_loose.1)
 
 -- another number of nodes

@@ -11,6 +11,7 @@ use Rattle.cb_world.specs.FarState.{FarState}
 use Rattle.cb_world.specs.Plain.{Words}
 use Rattle.cb_world.specs.Seats.{SeatState, pins_of_seat}
 use Rattle.cb_world.specs.World.{WorldState, IsKnown, IsSoundWorld, empty_world}
+use Rattle.cb_evict.proofs.Laws.{longest_within, some_within}
 use Rattle.cb_evict.specs.EvictStep.{few_spans, few_nodes, made}
 use Rattle.cb_core.specs.declared.event.Atomic.TheVariants.{Load}
 use Rattle.cb_core.specs.declared.event.Event.{Event}
@@ -141,9 +142,9 @@ nothing_leaves v id (is_free none (worn end is same)) = set_is_worn id is
 nothing_leaves v id (is_free none (done few (few_spans z same, hold) seats)) =
     set_is_none id _ z.reply
 nothing_leaves v id (is_free none (done few (few_nodes z same, hold) seats)) =
-    let enough : 1 ≤ 0 = z.enough in omega (arith, enough)
+    let enough : 1 ≤ 0 = some_within _ _ _ z.enough in omega (arith, enough)
 nothing_leaves v id (is_free none (done few (made z, hold) seats)) =
-    let enough : 1 ≤ 0 = z.enough in omega (arith, enough)
+    let enough : 1 ≤ 0 = longest_within _ _ _ _ z.longest in omega (arith, enough)
 
 -- so a make that found no memory left all as it was
 nothing_before_a_make : (new : WorldState) → MakesRoom w make new → IsSameBut w new

@@ -23,7 +23,8 @@ use Rattle.cb_world.specs.World.{WorldState, word_at}
 use Rattle.cb_mutate.specs.MakeRule.{HasNoPlace}
 use Rattle.cb_mutate.specs.MakeStep.{IsMakeStep}
 use Rattle.cb_evict.specs.EvictStep.{loose_frames, few_spans}
-use Rattle.cb_evict.proofs.Laws.{evict_made}
+use Rattle.cb_evict.specs.Lengths.{batch_pages, most_loose}
+use Rattle.cb_evict.proofs.Laws.{evict_made, longest_within}
 use Rattle.cb_core.specs.declared.event.Atomic.TheVariants.{Load, Pin, Unpin, Claim, Store}
 use Rattle.cb_core.specs.declared.event.Event.TheVariants as event
 use Rattle.cb_core.specs.Events.{IsEvent}
@@ -191,13 +192,15 @@ abbrev start : Holding Words
 start = record { desk = words_are pinned pinned; far = crowd four_with_a_make }
 
 no_spans : StillEvict start (answer.NoSpans 0) start
+unfolding batch_pages most_loose
 no_spans = (
-  few_spans (record { few = lit< tt; reply = refl; state = refl }) refl,
+  few_spans (record { few = refl; reply = refl; state = refl }) refl,
   λ s k. (s, k, (λ h. refl), λ seats ongoing. ongoing),
 )
 
 -- none of them is loose, and two nodes have room
 none_told : StillRoom start (Refused Spans 0 2) start
+unfolding most_loose
 none_told = (record { step = no_spans.0; counts = (refl, sym two_open) }, no_spans.1)
 
 no_room : TurnStep (Make (7 ∷ [])) (crowded three) (answer.NoRoom 2 0 2) (crowded four_with_a_make)
@@ -213,7 +216,8 @@ no_set : (m n : Holding Words) (id : SetId) → m.desk ≡ start.desk → m.far 
 no_set m n id words state (step, hold) =
     let made = evict_made m.desk n.desk m.far n.far (answer.Set id) id step.step refl in
     let few : 1 ≤ 0 = subst (λ (f : FarState). f.code.k ≤ length (loose_frames (words_are pinned pinned) f))
-    state (subst (λ (x : Words). m.far.code.k ≤ length (loose_frames x m.far)) words made.enough) in
+    state (subst (λ (x : Words). m.far.code.k ≤ length (loose_frames x m.far)) words
+    (longest_within m.far.code.k m.far.spans (loose_frames m.desk m.far) made.pages made.longest)) in
     omega (arith, few)
 
 not_after_a_set : (m n : Holding Words) (id : SetId)
@@ -235,10 +239,11 @@ not_made q (inr (more, inr (reply, z))) off = absurd (let e : 1 ≡ 2 =
 none_counted : (m n : Holding Words) (why : Lack) (loose nodes : ℕ)
     → IsMakeStep start.desk m.desk start.far m.far (7 ∷ []) answer.NoFrame
     → StillRoom m (Refused why loose nodes) n → (loose ≡ 0) × (nodes ≡ 2)
+unfolding most_loose
 none_counted m n why loose nodes (inl (all, reply, words, state)) v = absurd (omega (arith, all))
 none_counted m n why loose nodes (inr (more, inl (crammed, reply, words, state))) (step, hold) = (
-  step.counts.0 ∙ ap (λ (x : Words). length (loose_frames x m.far)) words
-      ∙ ap (λ (f : FarState). length (loose_frames (words_are pinned pinned) f)) state,
+  step.counts.0 ∙ ap (λ (x : Words). most_loose m.far.spans (loose_frames x m.far)) words
+      ∙ ap (λ (f : FarState). most_loose f.spans (loose_frames (words_are pinned pinned) f)) state,
   step.counts.1 ∙ ap (λ (f : FarState). room_count f.nodes f.members) state ∙ two_open,
 )
 none_counted m n why loose nodes (inr (more, inr (reply, z))) v = absurd (no_frame_made _ _ reply)

@@ -19,7 +19,9 @@ use Rattle.cb_evict.specs.EvictStep.{loose_frames}
 use Rattle.cb_evict.specs.Order.{noted_of}
 use Rattle.cb_evict.proofs.EvictKeeps.{in_or_not}
 use Rattle.cb_evict.proofs.ChangedWords.{changes_fixed}
-use Rattle.cb_evict.proofs.EvictFixed.{first_loose, one_length}
+use Rattle.cb_evict.proofs.EvictFixed.{one_length}
+use Rattle.cb_evict.proofs.LooseLengths.{none_not_one, none_not_some, one_longest, taken_count}
+use Rattle.cb_evict.specs.Lengths.{loose_of}
 use Rattle.cb_evict.proofs.Options.{none_some}
 
 -- ---- the words that are noted
@@ -78,8 +80,12 @@ begun_fixed : (x y z : Words) (far new other : FarState) (r q : Reply)
     → IsInRange far.code.k far.code.r → IsBatchMade x y far new r → IsBatchMade x z far other q
     → IsOneEnd r q y z new other
 begun_fixed x y z far new other r q range a b =
-    let ends = batch_fixed x y z far new other (take far.code.k (loose_frames x far)) range
-    (first_loose x far a.enough) a.begun b.begun in
+    let loose = loose_frames x far in
+    let pages = one_longest far.code.k far.spans loose b.pages a.pages b.longest a.longest in
+    let ends = batch_fixed x y z far new other (take far.code.k (loose_of far.spans a.pages loose)) range
+    (taken_count far.code.k far.spans loose a.pages a.longest) a.begun
+    (subst (λ (n : ℕ). IsBegunTo x z far other (take far.code.k (loose_of far.spans n loose))) pages
+    b.begun) in
     record { reply = a.reply ∙ sym b.reply; words = ends.0; far = ends.1 }
 
 pub leaving_or_not : (far : FarState) (batch : LeavingState) → far.leaving ≡ Some batch
@@ -108,17 +114,17 @@ begin_step_fixes x y z far new other r q ok (begins a) (is_leaving s b f m v) =
 begin_step_fixes x y z far new other r q ok (few_spans o a e) (few_spans p b f) =
     refused_alike r q _ x y z far new other a.reply b.reply e f a.state b.state
 begin_step_fixes x y z far new other r q ok (few_spans o a e) (few_nodes p b f) =
-    absurd (let l = a.few in let m = b.enough in omega (arith, l, m))
+    absurd (none_not_some far.code.k far.spans (loose_frames x far) a.few b.enough)
 begin_step_fixes x y z far new other r q ok (few_spans o a e) (begins b) =
-    absurd (let l = a.few in let m = b.enough in omega (arith, l, m))
+    absurd (none_not_one far.code.k far.spans (loose_frames x far) b.pages a.few b.longest)
 begin_step_fixes x y z far new other r q ok (few_nodes o a e) (few_spans p b f) =
-    absurd (let l = b.few in let m = a.enough in omega (arith, l, m))
+    absurd (none_not_some far.code.k far.spans (loose_frames x far) b.few a.enough)
 begin_step_fixes x y z far new other r q ok (few_nodes o a e) (few_nodes p b f) =
     refused_alike r q _ x y z far new other a.reply b.reply e f a.state b.state
 begin_step_fixes x y z far new other r q ok (few_nodes o a e) (begins b) =
     absurd (let l = a.few in let m = b.room in omega (arith, l, m))
 begin_step_fixes x y z far new other r q ok (begins a) (few_spans p b f) =
-    absurd (let l = b.few in let m = a.enough in omega (arith, l, m))
+    absurd (none_not_one far.code.k far.spans (loose_frames x far) a.pages b.few a.longest)
 begin_step_fixes x y z far new other r q ok (begins a) (few_nodes p b f) =
     absurd (let l = b.few in let m = a.room in omega (arith, l, m))
 begin_step_fixes x y z far new other r q ok (begins a) (begins b) =

@@ -16,5 +16,5 @@ begin_keeps x y far new r (few_spans none few same) = keeps_same x y far new sam
 begin_keeps x y far new r (few_nodes none few same) = keeps_same x y far new same few.state
 begin_keeps x y far new r (begins m) = record {
   far = rest_kept far new (ap rest_of m.begun.state);
-  words = taken_keep x y far far.code.k _ m.begun.held (λ h i. (m.begun.held.changed h i).pins);
+  words = taken_keep x y far far.code.k m.pages _ m.begun.held (λ h i. (m.begun.held.changed h i).pins);
 }

@@ -1,5 +1,5 @@
 -- The parts of a begin one after another.
-use Rattle.std.proofs.Common.{◌≡◌, ◌⊎◌, ℕ, List, [], length, replicate, Option, Some, None, sym, refl, ap, ◌∙◌, subst, inl, inr}
+use Rattle.std.proofs.Common.{◌≡◌, ◌⊎◌, ℕ, List, [], replicate, Option, Some, None, sym, refl, ap, ◌∙◌, subst, inl, inr}
 use Rattle.std.specs.Option.{option_map}
 use Rattle.cb_member.specs.declared.names.Shard.{Shard}
 use Rattle.cb_types.specs.declared.handle.SetId.{SetId}
@@ -21,6 +21,7 @@ use Rattle.cb_evict.specs.Eviction.{reply_of}
 use Rattle.cb_evict.specs.BeginRule.{HasBegun, HasBatch, BeginRule}
 use Rattle.cb_evict.specs.BeginEffect.{BeginEffect}
 use Rattle.cb_evict.specs.Beginning.{BeginsClaimed}
+use Rattle.cb_evict.specs.Lengths.{most_loose}
 use Rattle.cb_evict.specs.Taking.{AreLooseNow, TakesEnough, TakesFew}
 use Rattle.cb_evict.proofs.CallParts.{Joins}
 use Rattle.cb_evict.proofs.Composed.{all_tried, ended_from, few_nodes, few_spans, replied, takes_few, tried_end}
@@ -116,7 +117,7 @@ refuses far r runs knows sound none off x = record {
 
 few_refusal : (far : FarState) (r : Reply) (loose : List ℕ)
     → HasFewSpans far far r loose ⊎ HasFewNodes far far r loose → IsFrontRefusal r
-few_refusal far r loose (inl a) = spans_refusal (length loose) r a.reply
+few_refusal far r loose (inl a) = spans_refusal (most_loose far.spans loose) r a.reply
 few_refusal far r loose (inr a) = nodes_refusal (room_count far.nodes far.members) r a.reply
 
 pub begin_few : (far : FarState) (r : Reply) (e : Eviction)
@@ -169,7 +170,8 @@ takes_begin {far = far} {new = new} r j x y none is (s, knows, sound) =
       loose = x.loose;
       found = all.done;
       answered = inr (inr (record {
-        enough = x.enough;
+        pages = x.pages;
+        longest = x.longest;
         room = x.room;
         reply = is;
         begun = subst (λ (l : List ℕ). HasBegun far new l all.events) x.first

@@ -1,6 +1,5 @@
 -- Over a still desk a begin is a step: what its rule and its effect say is exact there.
-use Rattle.std.proofs.Common.{◌≡◌, ◌⊎◌, ℕ, ◌+◌, ◌*◌, ◌^◌, ◌<◌, ◌≤◌, Bool, false, List, length, get_or, map, ◌++◌, take, None, refl, sym, ap, ◌∙◌, subst, arith, inl, inr}
-use Rattle.std.proofs.lemmas.List.{length-take-le}
+use Rattle.std.proofs.Common.{◌≡◌, ◌⊎◌, ℕ, ◌+◌, ◌*◌, ◌^◌, ◌<◌, Bool, false, List, length, get_or, map, ◌++◌, take, None, Some, refl, sym, ap, ◌∙◌, subst, arith, inl, inr}
 use Rattle.cb_ptr.specs.Steps.{Claims}
 use Rattle.cb_ptr.specs.Word.{flag_number, hot_of, len_of, place_of}
 use Rattle.cb_ptr.proofs.Laws.{claims, claimed_below, same_but_hot}
@@ -27,11 +26,13 @@ use Rattle.cb_evict.specs.BeginRule.{new_batch, HasBegun, HasBatch, BeginRule}
 use Rattle.cb_evict.specs.BeginStep.{AreSpansClaimed, IsBegunTo, IsBeginStep, is_leaving, few_spans, few_nodes, begins}
 use Rattle.cb_evict.specs.EvictRule.{HasFewSpans, HasFewNodes}
 use Rattle.cb_evict.specs.EvictStep.{loose_frames}
+use Rattle.cb_evict.specs.Lengths.{batch_pages, loose_of, most_loose}
 use Rattle.cb_evict.specs.Looking.{IsIn}
 use Rattle.cb_evict.proofs.EvictKeeps.{leaves_free}
 use Rattle.cb_evict.proofs.BeginParts.{leaving_batch, spans_batch, nodes_batch}
 use Rattle.cb_evict.proofs.ChangedWords.{changes_words, same_count, shows_then}
 use Rattle.cb_evict.proofs.EvictStep.{refused}
+use Rattle.cb_evict.proofs.LooseLengths.{taken_count}
 use Rattle.cb_evict.proofs.LooseSpans.{loose_exact}
 use Rattle.cb_evict.proofs.Standing.{are_unique}
 
@@ -102,17 +103,17 @@ held_words x y far new s es frames r spans leaves free z =
 
 begun_to : (x y : Words) (far new : FarState) (s : Shown) (es : List Event)
     → RunsStill x y far s es → IsKnown y new (played es s)
-    → far.code.k ≤ length (loose_frames x far)
-    → HasBegun far new (take far.code.k (loose_frames x far)) es
+    → (pages : ℕ) → batch_pages far.code.k far.spans (loose_frames x far) ≡ Some pages
+    → HasBegun far new (take far.code.k (loose_of far.spans pages (loose_frames x far))) es
     → IsBatchBegun far new es s (played es s)
-    → IsBegunTo x y far new (take far.code.k (loose_frames x far))
-begun_to x y far new s es r l enough b z =
-    let k = far.code.k in let frames = take k (loose_frames x far) in
+    → IsBegunTo x y far new (take far.code.k (loose_of far.spans pages (loose_frames x far)))
+begun_to x y far new s es r l pages longest b z =
+    let k = far.code.k in let frames = take k (loose_of far.spans pages (loose_frames x far)) in
     let batch = new_batch far b.pages frames b.words b.parities in
     let held = held_words x y far new s es frames r
     (ap (λ (f : FarState). f.spans) b.state) (ap (λ (f : FarState). leaving_frames f.leaving)
     b.state)
-    (λ h i. leaves_free x far k h i) z in
+    (λ h i. leaves_free x far k pages h i) z in
     let word = (l.sound.away.sound.batch batch (ap (λ (f : FarState). f.leaving) b.state)).word in
     let memory : (played es s).memory ≡ x.memory = l.shows.memory ∙ held.memory in
     record {
@@ -129,7 +130,7 @@ begun_to x y far new s es r l enough b z =
       word = subst (λ (ms : List ℕ). IsSpanWord b.pages k far.code.r
           (map (λ f. row_of (window ms (512 * f) (512 * b.pages))) frames ++ b.parities)) memory
           (subst (λ (n : ℕ). IsSpanWord b.pages n far.code.r (batch_rows (played es s) batch))
-          (length-take-le k (loose_frames x far) enough)
+          (taken_count k far.spans (loose_frames x far) pages longest)
           (subst (λ (n : ℕ). IsSpanWord b.pages (length frames) n (batch_rows (played es s) batch))
           b.counts.1 word));
       state = b.state;
@@ -145,7 +146,7 @@ by_looks : (x y : Words) (far new : FarState) (r : Reply) (s : Shown) (es : List
     → IsBeginStep x y far new r × IsStepKnown y far new s
 by_looks x y far new r s es loose runs l none same effect (inl a) =
     refused x y far new s es runs l (effect.left
-    (λ id e. spans_batch (length loose) r id a.reply e)) a.state
+    (λ id e. spans_batch (most_loose far.spans loose) r id a.reply e)) a.state
     (few_spans none (subst (HasFewSpans far new r) same a))
 by_looks x y far new r s es loose runs l none same effect (inr (inl a)) =
     refused x y far new s es runs l (effect.left (λ id e. nodes_batch _ r id a.reply e)) a.state
@@ -155,10 +156,11 @@ by_looks x y far new r s es loose runs l none same effect (inr (inr a)) =
     let z = effect.begun (record { n = far.counts.sets }) a.reply in (
       begins (record {
         none = none;
-        enough = b.enough;
+        pages = b.pages;
+        longest = b.longest;
         room = b.room;
         reply = b.reply;
-        begun = begun_to x y far new s es runs l b.enough b.begun z;
+        begun = begun_to x y far new s es runs l b.pages b.longest b.begun z;
       }),
       record {
         shown = played es s;

@@ -1,14 +1,10 @@
 -- The front of an eviction and of a begin, and what comes behind it.
-use Rattle.std.proofs.Common.{◌≡◌, ◌≢◌, ◌⊎◌, ℕ, suc, ◌+◌, ◌-◌, ◌*◌, ◌<◌, ◌≤◌, List, [], ◌∷◌, ◌++◌, length, get_or, All, Option, replicate, sym, refl, ap, ◌∙◌, subst, arith, inl, inr}
+use Rattle.std.proofs.Common.{◌≡◌, ◌≢◌, ◌⊎◌, ℕ, ◌<◌, true, false, not, List, [], ◌∷◌, ◌++◌, length, get_or, All, Option, replicate, sym, refl, ap, ◌∙◌, subst, arith, inl, inr}
 use Rattle.std.specs.Prelude.{Result, Ok, Err, IfOk, OnOk, OnErr}
 use Rattle.std.specs.List.{Contains, AllPairs}
-use Rattle.std.proofs.Math.Nat.{suc-mul}
 use Rattle.std.proofs.lemmas.List.{append-nil, append_assoc, length-replicate, get_or-replicate, get_or_default}
-use Rattle.std.proofs.lemmas.List.Elements.{All-contains, All-nil}
+use Rattle.std.proofs.lemmas.List.Elements.{All-contains, All-nil, Contains-append_left}
 use Rattle.std.proofs.lemmas.List.Kept.{AllPairs-cons}
-use Rattle.cb_class.specs.declared.class.Class.{Class}
-use Rattle.cb_class.specs.Class.{IsClass, pages_of, slots_of, words_of}
-use Rattle.cb_class.proofs.Laws.{bytes_at_most, pages_some, slot_within, slots_at_least, slots_fill, words_fill}
 use Rattle.cb_span.specs.Contents.{Contents}
 use Rattle.cb_gf256.specs.Rows.{HaveLength}
 use Rattle.cb_types.specs.declared.handle.SetId.{SetId}
@@ -21,15 +17,14 @@ use Rattle.cb_world.specs.Choices.{room_count}
 use Rattle.cb_world.specs.Played.{played}
 use Rattle.cb_world.specs.Looks.{NoLook}
 use Rattle.cb_world.specs.Still.{IsStill}
-use Rattle.cb_world.specs.FarState.{FarState, pages_if}
-use Rattle.cb_world.specs.LocalSound.{LocalSound}
+use Rattle.cb_world.specs.FarState.{FarState, pages_at}
 use Rattle.cb_world.specs.Sound.{Sound}
 use Rattle.cb_world.specs.Performs.{Performs}
 use Rattle.cb_world.proofs.Laws.{allowed_append}
 use Rattle.cb_evict.specs.Candidates.{candidates, AreLoose}
 use Rattle.cb_evict.specs.CallPart.{CallPart}
 use Rattle.cb_evict.specs.Claims.{IsNone}
-use Rattle.cb_evict.specs.Claiming.{ClaimsObjects, GivesBack, ClaimsSpans}
+use Rattle.cb_evict.specs.Claiming.{ClaimsObjects, ClaimsThese, GivesBack, ClaimsSpans}
 use Rattle.cb_evict.specs.EvictEffect.{IsEvicted, EvictEffect}
 use Rattle.cb_evict.specs.EvictRule.{HasEvicted, HasFewSpans, HasFewNodes, HasBoth, EvictRule}
 use Rattle.cb_evict.specs.Evicting.{TouchesSpans, ReadsSpans, AreSpansTaken, IsEnded, IsReadyToEvict, EndsClaimed, EvictsClaimed, LeavesClaimed}
@@ -41,16 +36,17 @@ use Rattle.cb_evict.specs.declared.finding.Found.TheVariants.{Loose}
 use Rattle.cb_evict.specs.declared.taking.Taken.{Taken}
 use Rattle.cb_evict.specs.declared.taking.Taken.TheVariants.{Few, Enough}
 use Rattle.cb_evict.specs.Finding.{FindsSpans}
-use Rattle.cb_evict.specs.Taking.{AreLooseNow, AreLooseStill, TriesSpans, TakesFew, TakesEnough, Takes}
-use Rattle.cb_evict.specs.Loading.{LiesInOne, OnlyLoads}
+use Rattle.cb_evict.specs.Taking.{AreLooseNow, AreLooseStill, AreLostSince, TriesSpans, TakesFew, TakesEnough, Takes}
+use Rattle.cb_evict.specs.Lengths.{has_pages, loose_of, most_loose, without}
+use Rattle.cb_evict.specs.Loading.{AreOfLength, LiesInOne, OnlyLoads}
 use Rattle.cb_evict.specs.Looking.{IsIn, LooksOver}
 use Rattle.cb_evict.proofs.CallParts.{Joins, part_more, part_then}
-use Rattle.cb_evict.proofs.Claims.{claims_nothing}
-use Rattle.cb_evict.proofs.Events.{touches_more}
+use Rattle.cb_evict.proofs.Claims.{all_left, claims_nothing}
 use Rattle.cb_evict.proofs.Gathers.{claims_then, gathers_back}
+use Rattle.cb_evict.proofs.LooseLengths.{filter_all, filter_in, filter_swap, first_long}
 use Rattle.cb_evict.proofs.Loose.{loose_among, all_quiet, apart_tail, fresh_head}
 use Rattle.cb_evict.proofs.Restored.{restored}
-use Rattle.cb_evict.proofs.Standing.{candidates_apart, ready_frame}
+use Rattle.cb_evict.proofs.Standing.{candidates_apart}
 use Rattle.cb_evict.proofs.Still.{does_nothing, still_none}
 
 -- ---- by the result
@@ -164,6 +160,11 @@ looks_as runs spans ys frames gs loose hs e f h x =
     (subst (λ (l : List ℕ). LooksOver runs ys l loose) f
     (subst (λ (l : List ℕ). LooksOver runs ys gs l) h x))
 
+-- the most of one length, of the same lists
+pub most_told : (spans ys : List (Option Contents)) (loose hs : List ℕ) {n : ℕ} → ys ≡ spans
+    → hs ≡ loose → n ≡ most_loose ys hs → n ≡ most_loose spans loose
+most_told spans ys loose hs e f is = is ∙ (λ i. most_loose (e i) (f i))
+
 -- nothing is claimed by looks
 pub looks_tried : {runs : List Event → Type 0} {shows : Shown → Type 0} (far : FarState)
     (loose : List ℕ) → LooksOver runs far.spans (candidates far) loose
@@ -206,7 +207,8 @@ module _ {runsA runsB runsC : List Event → Type 0} {showsA showsB : Shown → 
       by (Enough frames formers) y = record {
         loose = y.loose;
         tries = looked_tries y.loose formers.items y.tries;
-        enough = y.enough;
+        pages = y.pages;
+        longest = y.longest;
         first = y.first;
         room = y.room;
         taken = y.taken;
@@ -214,7 +216,7 @@ module _ {runsA runsB runsC : List Event → Type 0} {showsA showsB : Shown → 
 
 -- ---- nothing is claimed in the end
 -- so nothing changed
-still_at : (far : FarState) (finds : List Event → Type 0) {runs : List Event → Type 0}
+pub still_at : (far : FarState) (finds : List Event → Type 0) {runs : List Event → Type 0}
     {shows : Shown → Type 0} → (x : TriesSpans runs shows far finds []) → (s : Shown)
     → shows s × Sound s far
     → IsStill x.events s (played x.events s) × Sound (played x.events s) far
@@ -287,7 +289,7 @@ takes_few far e runs shows x = let y = x.tries in record {
     no_set : HasFewSpans far far (reply_of e) x.loose
         ⊎ HasFewNodes far far (reply_of e) x.loose
         → (id : SetId) → reply_of e ≡ answer.Set id → ⊥
-    no_set (inl a) id is = few_spans (length x.loose) (reply_of e) id a.reply is
+    no_set (inl a) id is = few_spans (most_loose far.spans x.loose) (reply_of e) id a.reply is
     no_set (inr a) id is =
         few_nodes (room_count far.nodes far.members) (reply_of e) id a.reply is
 
@@ -326,41 +328,35 @@ set_counted far new id e es is x = record {
 }
 
 -- ---- the claims
--- All spans have one page today, and so those that are claimed have one length. This goes once
--- those of the wanted length alone are claimed.
-one_length : (c : Class) → IsClass c → pages_of c ≡ 1
-one_length c h =
-    let count = slots_of c in let width = words_of c in
-    let some : 4 ≤ count = slots_at_least c h in let n = count - 1 in
-    let next : count ≡ suc n = omega (arith, some) in
-    let ends : n * width + width ≤ 512 = slot_within c n h (omega (arith, some)) in
-    let all : count * width ≡ suc n * width = ap (λ (k : ℕ). k * width) next in
-    let step = suc-mul n width in
-    let fill : 4096 * pages_of c < count * (width * 8) + width * 8 =
-    rw (words_fill c h) (slots_fill c h) in
-    let few : width * 8 ≤ 1024 = rw (words_fill c h) (bytes_at_most c h) in
-    let least = pages_some c h in omega (arith, ends, all, step, fill, few, least)
+-- the spans that are claimed are of the length, and were loose
+pub chosen_in : {runs : List Event → Type 0} {shows : Shown → Type 0}
+    (spans : List (Option Contents)) (loose : List ℕ) (pages k : ℕ) (frames : List ℕ)
+    (formers : List Former) → (x : ClaimsSpans runs shows spans loose pages k frames formers)
+    → (f : ℕ) → Contains frames f → Contains (loose_of spans pages loose) f
+chosen_in spans loose pages k frames formers x f c =
+    filter_in (λ g. not (x.lost g)) (loose_of spans pages loose) f
+    (subst (λ (l : List ℕ). Contains l f)
+    (sym x.chosen ∙ filter_swap (has_pages spans pages) (λ g. not (x.lost g)) loose)
+    (Contains-append_left frames x.rest f c))
 
-pub are_taken : (s : Shown) (far : FarState) (loose frames : List ℕ) (formers : List Former)
-    (runs : List Event → Type 0) (shows : Shown → Type 0) (k : ℕ) → LocalSound s far
-    → ClaimsSpans runs shows far.spans loose k frames formers
+pub are_taken : (far : FarState) (loose frames : List ℕ) (formers : List Former)
+    (runs : List Event → Type 0) (shows : Shown → Type 0) (pages k : ℕ)
+    → ClaimsSpans runs shows far.spans loose pages k frames formers
     → All (Contains (candidates far)) loose
     → length frames ≡ far.code.k → AreSpansTaken far frames formers
-are_taken s far loose frames formers runs shows k sound x among count = record {
+are_taken far loose frames formers runs shows pages k x among count = record {
   count = count;
-  among = chosen;
+  among = λ i d l. All-contains (Contains (candidates far)) loose (get_or frames i d) among
+      (x.among i d l);
   apart = x.apart;
-  pages = 1;
-  long = λ i d l. let f = get_or frames i d in let r = ready_frame far s f sound (chosen i d l) in
-      ap pages_if r.there ∙ one_length r.span.class r.valid.in_table;
+  pages = pages;
+  long = all_left (λ f. pages_at far.spans f ≡ pages) frames x.rest
+      (subst (AreOfLength far.spans pages) x.chosen
+      (first_long far.spans pages (without x.lost loose)));
   of = x.of;
   order = x.order;
   each_once = x.each_once;
 }
-  where
-    chosen : All (Contains (candidates far)) frames
-    chosen i d l = All-contains (Contains (candidates far)) loose (get_or frames i d) among
-        (x.among i d l)
 
 -- the same, of the same lists
 pub taken_as : (far : FarState) (frames gs : List ℕ) (formers hs : List Former) → gs ≡ frames → hs ≡ formers → AreSpansTaken far frames formers
@@ -384,11 +380,11 @@ leaves_as runs shows far frames gs formers hs f h a =
     (subst (λ (l : List ℕ). LeavesClaimed runs shows far l hs) f a)
 
 pub claims_as : (runs : List Event → Type 0) (shows : Shown → Type 0)
-    (spans ys : List (Option Contents)) (loose : List ℕ) (k : ℕ) (frames : List ℕ)
-    (formers : List Former) → ys ≡ spans → ClaimsSpans runs shows ys loose k frames formers
-    → ClaimsSpans runs shows spans loose k frames formers
-claims_as runs shows spans ys loose k frames formers e x =
-    subst (λ (l : List (Option Contents)). ClaimsSpans runs shows l loose k frames formers) e x
+    (spans ys : List (Option Contents)) (loose : List ℕ) (pages k : ℕ) (frames : List ℕ)
+    (formers : List Former) → ys ≡ spans → ClaimsSpans runs shows ys loose pages k frames formers
+    → ClaimsSpans runs shows spans loose pages k frames formers
+claims_as runs shows spans ys loose pages k frames formers e x =
+    subst (λ (l : List (Option Contents)). ClaimsSpans runs shows l loose pages k frames formers) e x
 
 -- what was claimed are objects of candidates
 pub among_spans : (far : FarState) (loose : List ℕ) → All (Contains (candidates far)) loose → (h : ℕ)
@@ -397,63 +393,91 @@ among_spans far loose among h (f, c, named) =
     (f, All-contains (Contains (candidates far)) loose f among c, named)
 
 -- what the claims tried
-pub claims_tried : (far : FarState) {loose frames : List ℕ} {formers : List Former} {k : ℕ}
+pub claims_tried : (far : FarState) {loose frames : List ℕ} {formers : List Former} {pages k : ℕ}
     {runs : List Event → Type 0} {shows : Shown → Type 0}
-    → All (Contains (candidates far)) loose
-    → (x : ClaimsSpans runs shows far.spans loose k frames formers)
-    → TriesSpans runs shows far (AreLooseStill far loose (frames ++ x.rest)) formers
-claims_tried far {loose = loose} among x =
-    part_more (IsIn far.spans (candidates far)) (LiesInOne far.spans (candidates far)) _ x.part
-    (among_spans far loose among) (λ p z. absurd z)
-    (λ before was. x.part.done.0 before (candidates far) (candidates_apart far) was, x.part.done.1)
+    → (x : ClaimsSpans runs shows far.spans loose pages k frames formers)
+    → ClaimsThese runs shows (IsIn far.spans (loose_of far.spans pages loose)) (λ p. ⊥)
+    (AreLostSince far loose pages x.lost) formers
+claims_tried far {loose = loose} {pages = pages} x =
+    part_more (IsIn far.spans (loose_of far.spans pages loose)) (λ p. ⊥) _ x.part (λ h y. y) (λ p y. y) (
+      λ before was same had.
+          x.part.done.0 before (candidates far) was (candidates_apart far) same had,
+      x.part.done.1,
+    )
 
--- where fewer are claimed than wanted, none is left
-pub few_left : (loose frames : List ℕ) (formers : List Former) (k : ℕ) (far : FarState)
-    (runs : List Event → Type 0) (shows : Shown → Type 0)
-    → (x : ClaimsSpans runs shows far.spans loose k frames formers) → length frames < k
-    → frames ++ x.rest ≡ frames
-few_left loose frames formers k far runs shows x few =
-    ap (λ (l : List ℕ). frames ++ l) (none x.stops) ∙ append-nil frames
+-- where fewer are claimed than wanted, no other one is left
+pub fewer_left : (far : FarState) {loose frames : List ℕ} {formers : List Former} {pages k : ℕ}
+    {runs : List Event → Type 0} {shows : Shown → Type 0}
+    → (x : ClaimsSpans runs shows far.spans loose pages k frames formers) → length frames < k
+    → loose_of far.spans pages (without x.lost loose) ≡ frames
+fewer_left far {frames = frames} {k = k} x few =
+    x.chosen ∙ ap (λ (l : List ℕ). frames ++ l) (none x.stops) ∙ append-nil frames
   where
     none : (length frames ≡ k) ⊎ (x.rest ≡ []) → x.rest ≡ []
     none (inl e) = absurd (omega (arith, e, few))
     none (inr e) = e
 
 -- and they are given back
-pub back_tried : (far : FarState) {loose frames : List ℕ} {formers : List Former} {k : ℕ}
+pub back_tried : (far : FarState) {loose frames : List ℕ} {formers : List Former} {pages k : ℕ}
     {runsA runsB runsC : List Event → Type 0} {showsA showsB : Shown → Type 0}
-    → Joins runsA runsB runsC showsA showsB → All (Contains (candidates far)) loose
-    → ClaimsSpans runsA showsA far.spans loose k frames formers → GivesBack runsB showsB formers
-    → length frames < k → TriesSpans runsC showsA far (AreLooseStill far loose frames) []
-back_tried far {loose = loose} {frames = frames} {formers = formers} {k = k} {runsA = runsA}
-    {runsB = runsB} {runsC = runsC} {showsA = showsA} {showsB = showsB} j among x y few =
+    → Joins runsA runsB runsC showsA showsB
+    → (x : ClaimsSpans runsA showsA far.spans loose pages k frames formers)
+    → GivesBack runsB showsB formers
+    → ClaimsThese runsC showsA (IsIn far.spans (loose_of far.spans pages loose)) (λ p. ⊥)
+    (AreLostSince far loose pages x.lost) []
+back_tried far {loose = loose} {frames = frames} {formers = formers} {pages = pages} {k = k}
+    {runsA = runsA} {runsB = runsB} {runsC = runsC} {showsA = showsA} {showsB = showsB} j x y =
     let es = x.part.events in let fs = y.events in
-    let g = gathers_back runsA runsB runsC showsA showsB (IsIn far.spans loose)
-    (IsIn far.spans frames) es formers (record {
+    let g = gathers_back runsA runsB runsC showsA showsB
+    (IsIn far.spans (loose_of far.spans pages loose)) (IsIn far.spans frames) es formers (record {
       ran = x.part.ran;
       touches = x.part.touches;
       first = x.part.first;
       of = x.of;
-      within = λ h (f, c, named). (f, All-contains (Contains loose) frames f x.among c, named);
+      within = λ h (f, c, named).
+          (f, chosen_in far.spans loose pages k frames formers x f c, named);
       each_once = x.each_once;
       claims = x.part.done.1;
     }) y j in record {
       events = es ++ fs;
       ran = g.ran;
-      touches = touches_more (IsIn far.spans loose) (IsIn far.spans (candidates far)) (λ p. ⊥)
-          (LiesInOne far.spans (candidates far)) (es ++ fs) (among_spans far loose among) (λ p z. absurd z) g.touches;
+      touches = g.touches;
       first = g.first;
       done = (
-        λ before was.
-            subst (λ (l : List ℕ). AreLooseNow far l (before ++ (es ++ fs)))
-            (few_left loose frames formers k far runsA showsA x few)
-            (subst (AreLooseNow far (frames ++ x.rest)) (append_assoc before es fs)
-            (all_quiet (before ++ es) fs far.spans (candidates far) (frames ++ x.rest)
+        λ before was same had.
+            subst (AreLooseNow far (without x.lost was)) (append_assoc before es fs)
+            (all_quiet (before ++ es) fs far.spans (candidates far) (without x.lost was)
             (λ f c h named. y.done.0 h)
-            (x.part.done.0 before (candidates far) (candidates_apart far) was))),
+            (x.part.done.0 before (candidates far) was (candidates_apart far) same had)),
         g.claims,
       );
     }
+
+-- what claims nothing is so of a list that is empty
+pub claims_none : {runs : List Event → Type 0} {shows : Shown → Type 0} {objects words : ℕ → Type 0}
+    {finds : List Event → Type 0} (formers : List Former) → formers ≡ []
+    → ClaimsThese runs shows objects words finds [] → ClaimsThese runs shows objects words finds formers
+claims_none {runs = runs} {shows = shows} {objects = objects} {words = words} {finds = finds} formers e x =
+    subst (λ (l : List Former). ClaimsThese runs shows objects words finds l) (sym e) x
+
+-- where none is tried none is lost
+pub nothing_lost : (far : FarState) (loose : List ℕ) (pages : ℕ) {runs : List Event → Type 0}
+    {shows : Shown → Type 0} → runs []
+    → ClaimsThese runs shows (IsIn far.spans (loose_of far.spans pages loose)) (λ p. ⊥)
+    (AreLostSince far loose pages (λ f. false)) []
+nothing_lost far loose pages ran = record {
+  events = [];
+  ran = ran;
+  touches = tt;
+  first = tt;
+  done = (
+    λ before was same had.
+        subst (λ (l : List ℕ). AreLooseNow far l (before ++ []))
+        (sym (filter_all (λ f. true) was (λ f c. refl)))
+        (subst (AreLooseNow far was) (sym (append-nil before)) had),
+    λ at s knows here. claims_nothing at s [] tt here,
+  );
+}
 
 -- ---- the claims, and then an end
 -- after the claims all is ready
@@ -524,7 +548,8 @@ takes_evict {far = far} {new = new} e j x y is (s, knows, sound) =
       loose = x.loose;
       found = all.done;
       answered = inr (inr (record {
-        enough = x.enough;
+        pages = x.pages;
+        longest = x.longest;
         room = x.room;
         reply = ap reply_of is;
         evicted = subst (λ (l : List ℕ). HasEvicted far new l all.events) x.first

@@ -1,7 +1,7 @@
 -- An eviction is fixed: one reply, one set of words and one far state.
 use Rattle.std.proofs.Common.{◌≡◌, ℕ, zero, suc, ◌+◌, ◌<◌, ◌≤◌, List, [], ◌∷◌, ◌++◌, length, get_or, take, Option, None, Some, refl, sym, ap, ◌∙◌, subst, arith, inl, inr}
 use Rattle.std.specs.List.{slice_get}
-use Rattle.std.proofs.lemmas.List.{ext_get_or, get_or_default, length-take-le, take_all, take_more}
+use Rattle.std.proofs.lemmas.List.{ext_get_or, get_or_default, take_all, take_more}
 use Rattle.std.proofs.lemmas.Option.{slice_get-get_or}
 use Rattle.cb_gf256.specs.InRange.{IsInRange}
 use Rattle.cb_gf256.specs.Rows.{row_at}
@@ -19,6 +19,8 @@ use Rattle.cb_evict.specs.Closing.{HaveHomes, with_homes}
 use Rattle.cb_evict.specs.EvictStep.{AreFrameRows, AreSentOff, IsEvictedTo, IsEvictStep, IsSetMade, loose_frames, few_spans, few_nodes, made}
 use Rattle.cb_evict.specs.Loading.{AreOfLength}
 use Rattle.cb_evict.specs.Storing.{AreShards, with_set}
+use Rattle.cb_evict.specs.Lengths.{loose_of}
+use Rattle.cb_evict.proofs.LooseLengths.{none_not_one, none_not_some, one_longest, taken_count}
 use Rattle.cb_evict.proofs.EvictKeeps.{in_or_not}
 use Rattle.cb_evict.proofs.ChangedWords.{changes_fixed}
 
@@ -110,17 +112,16 @@ module _ (x y z : Words) (far new other : FarState) (frames : List ℕ)
             ∙ sym b.state,
       )
 
--- k of enough spans
-pub first_loose : (x : Words) (far : FarState) → far.code.k ≤ length (loose_frames x far)
-    → length (take far.code.k (loose_frames x far)) ≡ far.code.k
-first_loose x far enough = length-take-le far.code.k (loose_frames x far) enough
-
 set_fixed : (x y z : Words) (far new other : FarState) (r q : Reply)
     → IsInRange far.code.k far.code.r → IsSetMade x y far new r → IsSetMade x z far other q
     → IsOneEnd r q y z new other
 set_fixed x y z far new other r q range a b =
-    let ends = evicted_fixed x y z far new other (take far.code.k (loose_frames x far)) range
-    (first_loose x far a.enough) a.evicted b.evicted in
+    let loose = loose_frames x far in
+    let pages = one_longest far.code.k far.spans loose b.pages a.pages b.longest a.longest in
+    let ends = evicted_fixed x y z far new other (take far.code.k (loose_of far.spans a.pages loose))
+    range (taken_count far.code.k far.spans loose a.pages a.longest) a.evicted
+    (subst (λ (n : ℕ). IsEvictedTo x z far other (take far.code.k (loose_of far.spans n loose))) pages
+    b.evicted) in
     record { reply = a.reply ∙ sym b.reply; words = ends.0; far = ends.1 }
 
 pub evict_step_fixes : (x y z : Words) (far new other : FarState) (r q : Reply)
@@ -129,17 +130,17 @@ pub evict_step_fixes : (x y z : Words) (far new other : FarState) (r q : Reply)
 evict_step_fixes x y z far new other r q ok (few_spans a e) (few_spans b f) =
     refused_alike r q _ x y z far new other a.reply b.reply e f a.state b.state
 evict_step_fixes x y z far new other r q ok (few_spans a e) (few_nodes b f) =
-    absurd (let l = a.few in let m = b.enough in omega (arith, l, m))
+    absurd (none_not_some far.code.k far.spans (loose_frames x far) a.few b.enough)
 evict_step_fixes x y z far new other r q ok (few_spans a e) (made b) =
-    absurd (let l = a.few in let m = b.enough in omega (arith, l, m))
+    absurd (none_not_one far.code.k far.spans (loose_frames x far) b.pages a.few b.longest)
 evict_step_fixes x y z far new other r q ok (few_nodes a e) (few_spans b f) =
-    absurd (let l = b.few in let m = a.enough in omega (arith, l, m))
+    absurd (none_not_some far.code.k far.spans (loose_frames x far) b.few a.enough)
 evict_step_fixes x y z far new other r q ok (few_nodes a e) (few_nodes b f) =
     refused_alike r q _ x y z far new other a.reply b.reply e f a.state b.state
 evict_step_fixes x y z far new other r q ok (few_nodes a e) (made b) =
     absurd (let l = a.few in let m = b.room in omega (arith, l, m))
 evict_step_fixes x y z far new other r q ok (made a) (few_spans b f) =
-    absurd (let l = b.few in let m = a.enough in omega (arith, l, m))
+    absurd (none_not_one far.code.k far.spans (loose_frames x far) a.pages b.few a.longest)
 evict_step_fixes x y z far new other r q ok (made a) (few_nodes b f) =
     absurd (let l = b.few in let m = a.room in omega (arith, l, m))
 evict_step_fixes x y z far new other r q ok (made a) (made b) =

@@ -16,11 +16,13 @@ use Rattle.cb_world.proofs.Laws.{KeepsPins, StepKeeps, keeps_same}
 use Rattle.cb_evict.specs.Candidates.{candidates}
 use Rattle.cb_evict.specs.ChangesWords.{ChangesWords}
 use Rattle.cb_evict.specs.EvictStep.{is_loose, loose_frames, IsSetMade, IsEvictStep, few_spans, few_nodes, made}
+use Rattle.cb_evict.specs.Lengths.{has_pages, loose_of}
 use Rattle.cb_evict.specs.Looking.{IsIn}
 use Rattle.cb_evict.proofs.ChangedWords.{changes_keep}
 use Rattle.cb_evict.proofs.Composed.{few_spans as not_few_spans, few_nodes as not_few_nodes}
 use Rattle.cb_evict.proofs.FarRest.{rest_kept, rest_of}
 use Rattle.cb_evict.proofs.Loose.{names_has, contains_head, contains_tail}
+use Rattle.cb_evict.proofs.LooseLengths.{filter_in}
 use Rattle.cb_evict.proofs.LooseSpans.{loose_free}
 use Rattle.cb_evict.proofs.Standing.{names_span}
 use Rattle.cb_evict.proofs.Trying.{taken_of}
@@ -86,29 +88,31 @@ in_or_not spans (f ∷ frames) h = elim (in_span (span_in spans f) h) [
 ]
 
 -- a frame of those that leave holds a loose span
-frame_loose : (x : Words) (far : FarState) (k f : ℕ) → Contains (take k (loose_frames x far)) f
+frame_loose : (x : Words) (far : FarState) (k pages f : ℕ)
+    → Contains (take k (loose_of far.spans pages (loose_frames x far))) f
     → is_loose x (span_in far.spans f) ≡ true
-frame_loose x far k f c = All-contains (λ (g : ℕ). is_loose x (span_in far.spans g) ≡ true)
+frame_loose x far k pages f c = All-contains (λ (g : ℕ). is_loose x (span_in far.spans g) ≡ true)
     (loose_frames x far) f
     (filter_passes (λ (g : ℕ). is_loose x (span_in far.spans g)) (candidates far))
-    (taken_of (loose_frames x far) k f c)
+    (filter_in (has_pages far.spans pages) (loose_frames x far) f
+    (taken_of (loose_of far.spans pages (loose_frames x far)) k f c))
 
 -- an object that leaves is here, and has no pins
-pub leaves_free : (x : Words) (far : FarState) (k h : ℕ)
-    → IsIn far.spans (take k (loose_frames x far)) h → IsFree (word_at x h)
-leaves_free x far k h (f, c, named) =
+pub leaves_free : (x : Words) (far : FarState) (k pages h : ℕ)
+    → IsIn far.spans (take k (loose_of far.spans pages (loose_frames x far))) h → IsFree (word_at x h)
+leaves_free x far k pages h (f, c, named) =
     let span = names_span far.spans f h named in
-    loose_free x span.0 h (sym (ap (is_loose x) span.1) ∙ frame_loose x far k f c)
+    loose_free x span.0 h (sym (ap (is_loose x) span.1) ∙ frame_loose x far k pages f c)
     (names_has far.spans f h span.0 span.1 named)
 
 -- so pins stay where those that leave have none afterwards, and other words stay
-pub taken_keep : (x y : Words) (far : FarState) (k : ℕ) (so : Type 0)
-    → ChangesWords x y so (λ h. ¬ (IsIn far.spans (take k (loose_frames x far)) h))
-    → ((h : ℕ) → IsIn far.spans (take k (loose_frames x far)) h → pins_of (word_at y h) ≡ 0)
+pub taken_keep : (x y : Words) (far : FarState) (k pages : ℕ) (so : Type 0)
+    → ChangesWords x y so (λ h. ¬ (IsIn far.spans (take k (loose_of far.spans pages (loose_frames x far))) h))
+    → ((h : ℕ) → IsIn far.spans (take k (loose_of far.spans pages (loose_frames x far))) h → pins_of (word_at y h) ≡ 0)
     → KeepsPins x y
-taken_keep x y far k so change none = changes_keep x y so _ change
-    (λ h. elim (in_or_not far.spans (take k (loose_frames x far)) h) [
-      | inl leaves ↦ inr ((leaves_free x far k h leaves).1, none h leaves)
+taken_keep x y far k pages so change none = changes_keep x y so _ change
+    (λ h. elim (in_or_not far.spans (take k (loose_of far.spans pages (loose_frames x far))) h) [
+      | inl leaves ↦ inr ((leaves_free x far k pages h leaves).1, none h leaves)
       | inr out ↦ inl out
     ])
 
@@ -119,7 +123,7 @@ evict_keeps x y far new r (few_spans few same) = keeps_same x y far new same few
 evict_keeps x y far new r (few_nodes few same) = keeps_same x y far new same few.state
 evict_keeps x y far new r (made m) = record {
   far = rest_kept far new (ap rest_of m.evicted.state);
-  words = taken_keep x y far far.code.k _ m.evicted.sent
+  words = taken_keep x y far far.code.k m.pages _ m.evicted.sent
       (λ h i. (m.evicted.sent.changed h i).pins);
 }
 

@@ -1,7 +1,7 @@
 -- What an eviction and the steps of a batch leave of the configured sizes and codes, and of what is
 -- counted.
 use Rattle.std.proofs.Common.{◌≡◌, ℕ, ◌+◌, true, false, List, [], ◌∷◌, length, inl, inr, refl, sym, ap, ◌∙◌, subst, arith, length-set, take}
-use Rattle.std.proofs.lemmas.List.{length-map, length-take-le}
+use Rattle.std.proofs.lemmas.List.{length-map}
 use Rattle.cb_member.specs.declared.names.Code.{Code}
 use Rattle.cb_member.specs.declared.names.Shard.{Shard}
 use Rattle.cb_node.specs.NodesState.{NodesState, with_dropped, with_row}
@@ -21,6 +21,8 @@ use Rattle.cb_world.specs.Sets.{Kept}
 use Rattle.cb_world.specs.Sound.{Sound}
 use Rattle.cb_world.specs.Stored.{all_dropped, all_put}
 use Rattle.cb_world.proofs.Laws.{IsCodeIn, KeepCodes, batch_has, codes_kept, codes_put, codes_removed, drop_count, drop_room, IsLike, Rises, StaysIf, have_codes, in_force, of_the_batch, own_put, own_removed, pair_stays, sets_have, stays_like, stays_same}
+use Rattle.cb_evict.specs.Lengths.{loose_of}
+use Rattle.cb_evict.proofs.LooseLengths.{taken_count}
 use Rattle.cb_evict.specs.AbortRule.{AbortRule, HasGivenUp}
 use Rattle.cb_evict.specs.BeginRule.{BeginRule, new_batch, with_batch}
 use Rattle.cb_evict.specs.Closing.{with_homes}
@@ -108,7 +110,7 @@ evict_stays c far new r es accepted x = elim x.answered [
   | inl few ↦ stays_same c 24 far new (omega arith) few.state
   | inr (inl few) ↦ stays_same c 24 far new (omega arith) few.state
   | inr (inr both) ↦ let e = both.evicted in
-      made_stays c far new e.pages _ e.shards e.rows accepted (length-take-le far.code.k x.loose both.enough)
+      made_stays c far new e.pages _ e.shards e.rows accepted (taken_count far.code.k far.spans x.loose both.pages both.longest)
       e.chosen.count e.homes.count e.state
 ]
 
@@ -164,7 +166,7 @@ begin_stays c far new r es (inr x) = elim x.answered [
   | inl few ↦ stays_same c 1 far new (omega arith) few.state
   | inr (inl few) ↦ stays_same c 1 far new (omega arith) few.state
   | inr (inr both) ↦ let e = both.begun in
-      batch_stays c far new e.pages _ e.words e.parities (length-take-le far.code.k x.loose both.enough)
+      batch_stays c far new e.pages _ e.words e.parities (taken_count far.code.k far.spans x.loose both.pages both.longest)
       e.counts.1
       e.state
 ]
@@ -315,5 +317,7 @@ evict_step_stays x y far new r accepted (few_nodes few same) =
     stays_same x.settings 24 far new (omega arith) few.state
 evict_step_stays x y far new r accepted (made m) =
     let e = m.evicted in
-    made_stays x.settings far new e.pages (take far.code.k (loose_frames x far)) e.shards e.rows accepted
-    (length-take-le far.code.k (loose_frames x far) m.enough) e.chosen.count e.homes.count e.state
+    made_stays x.settings far new e.pages
+    (take far.code.k (loose_of far.spans m.pages (loose_frames x far))) e.shards e.rows accepted
+    (taken_count far.code.k far.spans (loose_frames x far) m.pages m.longest) e.chosen.count
+    e.homes.count e.state

@@ -2,7 +2,6 @@
 use Rattle.std.proofs.Common.{◌≡◌, ◌⊎◌, ℕ, true, ◌+◌, ◌*◌, ◌<◌, ◌≤◌, List, length, take, Option, Some, None, refl, sym, ap, ◌∙◌, subst, arith, inl, inr}
 use Rattle.std.specs.List.{Contains}
 use Rattle.std.proofs.lemmas.Bool.{false≢true}
-use Rattle.std.proofs.lemmas.List.{length-take-le}
 use Rattle.std.proofs.lemmas.List.Elements.{All-contains, filter_passes}
 use Rattle.cb_class.specs.Class.{words_of}
 use Rattle.cb_gf256.specs.Rows.{row_at}
@@ -33,15 +32,17 @@ use Rattle.cb_evict.specs.EvictStep.{is_loose, loose_frames, AreSentOff, HaveCon
 use Rattle.cb_evict.specs.Evicting.{TouchesSpans}
 use Rattle.cb_evict.specs.declared.eviction.Eviction.{Eviction}
 use Rattle.cb_evict.specs.Eviction.{CountsRule, TellsCounts, reply_of}
+use Rattle.cb_evict.specs.Lengths.{loose_of, most_loose}
 use Rattle.cb_evict.specs.Looking.{IsIn}
 use Rattle.cb_evict.proofs.ChangedWords.{changes_words, same_count, shows_then}
 use Rattle.cb_evict.proofs.Composed.{few_spans as not_few_spans, few_nodes as not_few_nodes, rule_weaker}
 use Rattle.cb_evict.proofs.FrameRows.{rows_of_frames}
 use Rattle.cb_evict.proofs.Gone.{in_or_out, closed_in}
 use Rattle.cb_evict.proofs.Homing.{closed_else}
+use Rattle.cb_evict.proofs.LooseLengths.{taken_count}
 use Rattle.cb_evict.proofs.LooseSpans.{loose_exact}
 use Rattle.cb_evict.proofs.Standing.{names_span, are_unique}
-use Rattle.cb_evict.proofs.Trying.{taken_of}
+use Rattle.cb_evict.proofs.Trying.{taken_in}
 use Rattle.cb_evict.proofs.Options.{some_none}
 
 -- ---- which objects left
@@ -117,13 +118,19 @@ is_span x far f loose = by (span_in far.spans f) refl
     by None e = absurd (false≢true (sym (ap (is_loose x) e) ∙ loose))
     by (Some span) e = (span, e)
 
-loose_spans : (x : Words) (far : FarState) (k f : ℕ) → Contains (take k (loose_frames x far)) f
+pub loose_span : (x : Words) (far : FarState) (f : ℕ) → Contains (loose_frames x far) f
     → (span : Contents) × (span_in far.spans f ≡ Some span)
-loose_spans x far k f c =
+loose_span x far f c =
     is_span x far f (All-contains (λ (g : ℕ). is_loose x (span_in far.spans g) ≡ true)
     (loose_frames x far) f
     (filter_passes (λ (g : ℕ). is_loose x (span_in far.spans g)) (candidates far))
-    (taken_of (loose_frames x far) k f c))
+    c)
+
+loose_spans : (x : Words) (far : FarState) (k pages f : ℕ)
+    → Contains (take k (loose_of far.spans pages (loose_frames x far))) f
+    → (span : Contents) × (span_in far.spans f ≡ Some span)
+loose_spans x far k pages f c =
+    loose_span x far f (taken_in k far.spans pages (loose_frames x far) f c)
 
 evicted_to : (x y : Words) (far new : FarState) (s : Shown) (es : List Event) (frames : List ℕ)
     → RunsStill x y far s es → HasEvicted far new frames es
@@ -178,7 +185,7 @@ by_rule : (x y : Words) (far new : FarState) (r : Reply) (s : Shown) (es : List 
     → IsEvictStep x y far new r × IsStepKnown y far new s
 by_rule x y far new r s es loose runs l same effect (inl a) =
     refused x y far new s es runs l (effect.left
-    (λ id e. not_few_spans (length loose) r id a.reply e)) a.state
+    (λ id e. not_few_spans (most_loose far.spans loose) r id a.reply e)) a.state
     (few_spans (subst (HasFewSpans far new r) same a))
 by_rule x y far new r s es loose runs l same effect (inr (inl a)) =
     refused x y far new s es runs l (effect.left (λ id e. not_few_nodes _ r id a.reply e)) a.state
@@ -187,12 +194,15 @@ by_rule x y far new r s es loose runs l same effect (inr (inr a)) =
     let b = subst (λ (frames : List ℕ). HasBoth far new r frames es) same a in
     let z = effect.evicted (record { n = far.counts.sets }) a.reply in (
       made (record {
-        enough = b.enough;
+        pages = b.pages;
+        longest = b.longest;
         room = b.room;
         reply = b.reply;
-        evicted = evicted_to x y far new s es (take far.code.k (loose_frames x far)) runs
-            b.evicted z (loose_spans x far far.code.k)
-            (let n = length-take-le far.code.k (loose_frames x far) b.enough in omega (arith, n));
+        evicted = evicted_to x y far new s es
+            (take far.code.k (loose_of far.spans b.pages (loose_frames x far))) runs b.evicted z
+            (loose_spans x far far.code.k b.pages)
+            (let n = taken_count far.code.k far.spans (loose_frames x far) b.pages b.longest in
+            omega (arith, n));
       }),
       record {
         shown = played es s;

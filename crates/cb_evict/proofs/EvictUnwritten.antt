@@ -1,5 +1,5 @@
 -- An eviction and the steps of a batch write no version.
-use Rattle.std.proofs.Common.{◌≡◌, ℕ, List, [], length, inl, inr}
+use Rattle.std.proofs.Common.{◌≡◌, ℕ, List, [], inl, inr}
 use Rattle.cb_types.specs.declared.handle.SetId.{SetId}
 use Rattle.cb_types.specs.declared.reply.Reply.{Reply}
 use Rattle.cb_types.specs.declared.reply.Reply.TheVariants as answer
@@ -14,12 +14,13 @@ use Rattle.cb_evict.specs.BeginRule.{BeginRule}
 use Rattle.cb_evict.specs.CommitRule.{CommitEffect, CommitRule}
 use Rattle.cb_evict.specs.EvictEffect.{EvictEffect}
 use Rattle.cb_evict.specs.EvictRule.{EvictRule}
+use Rattle.cb_evict.specs.Lengths.{most_loose}
 use Rattle.cb_evict.proofs.Composed.{few_nodes, few_spans}
 
 pub evict_unwritten : (far new : FarState) (r : Reply) (es : List Event) (s t : Shown)
     → EvictRule far new r es → EvictEffect far new r es s t → Writes es s []
 evict_unwritten far new r es s t rule x = elim rule.answered [
-  | inl few ↦ (x.left (λ id e. few_spans (length rule.loose) r id few.reply e)).nothing
+  | inl few ↦ (x.left (λ id e. few_spans (most_loose far.spans rule.loose) r id few.reply e)).nothing
   | inr (inl few) ↦
       (x.left (λ id e. few_nodes (room_count far.nodes far.members) r id few.reply e)).nothing
   | inr (inr both) ↦ (x.evicted (record { n = far.counts.sets }) both.reply).nothing
@@ -46,7 +47,7 @@ pub begin_unwritten : (far new : FarState) (r : Reply) (es : List Event) (s t : 
 begin_unwritten far new r es s t (inl z) x =
     (x.left (λ id e. leaving_batch (record { n = z.batch.set }) id r z.reply e)).nothing
 begin_unwritten far new r es s t (inr z) x = elim z.answered [
-  | inl few ↦ (x.left (λ id e. spans_batch (length z.loose) id r few.reply e)).nothing
+  | inl few ↦ (x.left (λ id e. spans_batch (most_loose far.spans z.loose) id r few.reply e)).nothing
   | inr (inl few) ↦
       (x.left (λ id e. nodes_batch (room_count far.nodes far.members) id r few.reply e)).nothing
   | inr (inr both) ↦ (x.begun (record { n = far.counts.sets }) both.reply).nothing

@@ -11,16 +11,17 @@ pub use Rattle.cb_evict.proofs.CommitKeeps.{commit_keeps}
 pub use Rattle.cb_evict.proofs.CommitStep.{commit_step}
 pub use Rattle.cb_evict.proofs.Composed.{few_nodes, few_spans, rule_weaker}
 pub use Rattle.cb_evict.proofs.EvictFixed.{evict_step_fixes}
-pub use Rattle.cb_evict.proofs.EvictStep.{counted_step, evict_step, evict_stopped}
+pub use Rattle.cb_evict.proofs.EvictStep.{counted_step, evict_step, evict_stopped, loose_span}
 pub use Rattle.cb_evict.proofs.EvictionFixed.{counted_step_fixes}
 pub use Rattle.cb_evict.proofs.Gone.{given_in}
 pub use Rattle.cb_evict.proofs.Loose.{loose_among}
+pub use Rattle.cb_evict.proofs.LooseLengths.{enough_some, fewer_none, longest_enough, longest_within, most_alike, most_within, none_fewer, some_enough, some_within, taken_count}
 pub use Rattle.cb_evict.proofs.ShipFixed.{ship_step_fixes}
 pub use Rattle.cb_evict.proofs.ShipKeeps.{ship_keeps}
 pub use Rattle.cb_evict.proofs.ShipStep.{ship_step, ship_stopped}
 pub use Rattle.cb_evict.proofs.Standing.{named_at, names_span, ready_frame}
 pub use Rattle.cb_evict.proofs.StepCodes.{abort_step_codes, begin_step_codes, commit_step_codes, evict_step_codes, ship_step_codes}
 pub use Rattle.cb_evict.proofs.EvictStays.{abort_stays, begin_stays, commit_stays, evict_stays, evict_step_stays, ship_stays}
-pub use Rattle.cb_evict.proofs.Trying.{taken_of}
+pub use Rattle.cb_evict.proofs.Trying.{taken_in}
 pub use Rattle.cb_evict.proofs.EvictUnwritten.{abort_unwritten, begin_unwritten, commit_unwritten, evict_unwritten}
 pub use Rattle.cb_evict.proofs.WorkedWide.{after, all_known, calm, desk, far, known, none_known, step}

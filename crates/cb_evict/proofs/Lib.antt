@@ -13,6 +13,7 @@ pub mod Claims
 mod Gathers
 mod Slots
 pub mod Loose
+pub mod LooseLengths
 pub mod Trying
 mod Sends
 mod Loads
@@ -27,6 +28,8 @@ mod EvictSound
 mod Ending
 mod Restored
 pub mod Composed
+mod TakenLengths
+mod WorkedLengths
 mod LooseSpans
 pub mod FrameRows
 pub mod EvictStep

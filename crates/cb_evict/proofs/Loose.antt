@@ -69,7 +69,7 @@ held_alone spans f es h w only named found held = record {
 }
 
 -- each object of a loose span was looked at, and so it is once more is told
-loose_seen : (spans : List (Option Contents)) (f : ℕ) (es fs : List Event) → IsLoose es spans f
+pub loose_seen : (spans : List (Option Contents)) (f : ℕ) (es fs : List Event) → IsLoose es spans f
     → IsSeen (es ++ fs) spans f
 loose_seen spans f es fs a h named = let x = a h named in found_on h x.0 es fs x.1
 
@@ -157,7 +157,7 @@ others_quiet spans n x fs unique touches f off h named =
     touches_quiet (SpanNames spans x) (λ p. ⊥) h fs (λ other. off (unique.one_frame f x h named other)) touches
 
 -- the frames behind x are others
-tail_quiet : (spans : List (Option Contents)) (n x : ℕ) (fs : List Event) (frames : List ℕ)
+pub tail_quiet : (spans : List (Option Contents)) (n x : ℕ) (fs : List Event) (frames : List ℕ)
     → AreUnique spans n → TouchesOnly (SpanNames spans x) (λ p. ⊥) fs → (Contains frames x → ⊥)
     → (f : ℕ) → Contains frames f → (h : ℕ) → SpanNames spans f h → NoLook h fs
 tail_quiet spans n x fs frames unique touches none f c =

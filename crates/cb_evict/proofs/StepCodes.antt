@@ -1,7 +1,6 @@
 -- An eviction and the steps of a batch make no other code: what their steps of a still desk leave of
 -- the codes of the far state.
 use Rattle.std.proofs.Common.{ℕ, List, take, inl, inr}
-use Rattle.std.proofs.lemmas.List.{length-take-le}
 use Rattle.cb_types.specs.declared.reply.Reply.{Reply}
 use Rattle.cb_world.specs.declared.shown.Shown.{Shown}
 use Rattle.cb_world.specs.FarState.{FarState}
@@ -13,17 +12,20 @@ use Rattle.cb_evict.specs.AbortStep.{IsAbortStep, given_up, no_batch as none_to_
 use Rattle.cb_evict.specs.BeginStep.{IsBeginStep, begins, few_nodes as nodes_few, few_spans as spans_few, is_leaving}
 use Rattle.cb_evict.specs.CommitStep.{IsCommitStep, committed, no_batch as none_to_commit, short}
 use Rattle.cb_evict.specs.EvictStep.{IsEvictStep, few_nodes, few_spans, loose_frames, made}
+use Rattle.cb_evict.specs.Lengths.{loose_of}
 use Rattle.cb_evict.specs.ShipRule.{ShipsRow}
 use Rattle.cb_evict.specs.ShipStep.{IsShipStep}
 use Rattle.cb_evict.proofs.EvictStays.{batch_codes, committed_codes, given_up_codes, made_codes, shipped_codes}
+use Rattle.cb_evict.proofs.LooseLengths.{taken_count}
 
 pub evict_step_codes : (x y : Words) (far new : FarState) (r : Reply) → IsEvictStep x y far new r
     → KeepCodes far new
 evict_step_codes x y far new r (few_spans few same) = codes_same far new few.state
 evict_step_codes x y far new r (few_nodes few same) = codes_same far new few.state
 evict_step_codes x y far new r (made m) = let e = m.evicted in
-    made_codes far new e.pages (take far.code.k (loose_frames x far)) e.shards e.rows
-    (length-take-le far.code.k (loose_frames x far) m.enough) e.chosen.count e.state
+    made_codes far new e.pages (take far.code.k (loose_of far.spans m.pages (loose_frames x far)))
+    e.shards e.rows (taken_count far.code.k far.spans (loose_frames x far) m.pages m.longest)
+    e.chosen.count e.state
 
 pub begin_step_codes : (x y : Words) (far new : FarState) (r : Reply) → IsBeginStep x y far new r
     → KeepCodes far new
@@ -31,8 +33,9 @@ begin_step_codes x y far new r (is_leaving batch there reply state same) = codes
 begin_step_codes x y far new r (spans_few none few same) = codes_same far new few.state
 begin_step_codes x y far new r (nodes_few none few same) = codes_same far new few.state
 begin_step_codes x y far new r (begins m) = let e = m.begun in
-    batch_codes far new e.pages (take far.code.k (loose_frames x far)) e.words e.parities
-    (length-take-le far.code.k (loose_frames x far) m.enough) e.count e.state
+    batch_codes far new e.pages (take far.code.k (loose_of far.spans m.pages (loose_frames x far)))
+    e.words e.parities (taken_count far.code.k far.spans (loose_frames x far) m.pages m.longest) e.count
+    e.state
 
 ships_codes : (far new : FarState) (r : Reply) (row : LeavingState → ℕ → List ℕ)
     → ShipsRow far new r row → KeepCodes far new

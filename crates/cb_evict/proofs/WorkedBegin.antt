@@ -1,6 +1,6 @@
 -- Worked examples of a begin: the loose one of two spans is leaving from here; and for each part of
 -- what is said of it a value that breaks that part alone.
-use Rattle.std.proofs.Common.{◌≡◌, ℕ, zero, suc, ◌+◌, ◌*◌, ◌≤◌, Bool, true, false, List, [], ◌∷◌, ◌++◌, length, All, get_or, Option, None, Some, refl, sym, ap, ◌∙◌, subst, lit<, lit≤, arith, inl, inr}
+use Rattle.std.proofs.Common.{◌≡◌, ℕ, zero, suc, ◌+◌, ◌*◌, Bool, true, false, List, [], ◌∷◌, ◌++◌, length, All, get_or, Option, None, Some, refl, sym, ap, ◌∙◌, subst, lit<, arith, inl, inr}
 use Rattle.std.specs.FinMap as map
 use Rattle.std.proofs.lemmas.Bool.{false≢true}
 use Rattle.std.proofs.lemmas.List.Elements.{All-nil, All-cons}
@@ -35,6 +35,7 @@ use Rattle.cb_world.specs.Plain.{Words}
 use Rattle.cb_world.specs.Sets.{set_in, if_committed}
 use Rattle.cb_world.specs.SetWord.{IsSpanWord}
 use Rattle.cb_world.specs.World.{word_at}
+use Rattle.cb_evict.specs.Lengths.{batch_pages}
 use Rattle.cb_evict.specs.BeginEffect.{IsClaimedThere, IsBatchBegun, BeginEffect}
 use Rattle.cb_evict.specs.BeginRule.{blank_shards, new_batch, with_batch, HasBegun, IsLeavingAlready, HasBatch, HasLooked, BeginRule}
 use Rattle.cb_evict.specs.Beginning.{AreParities}
@@ -244,9 +245,11 @@ not_claimed a = not_here a.held
 -- ---- the step
 batch_made : IsBatchMade start claimed pair (leaving_with (former ∷ []) (row ∷ []))
     (answer.Batch (record { n = 0 }))
+unfolding pages_of batch_pages
 batch_made = record {
   none = refl;
-  enough = lit≤ tt;
+  pages = 1;
+  longest = refl;
   room = omega (arith, two_nodes);
   reply = refl;
   begun = begun;
@@ -270,13 +273,14 @@ not_yet y new a = none_some _ (sym a.none)
 -- a batch is told to be leaving only where one is
 not_told : (id : SetId) → IsBeginStep start start pair pair (answer.Leaving id) → ⊥
 not_told id (is_leaving b there a state e) = none_some b there
-not_told id (few_spans none a e) = let e : answer.Leaving id ≡ answer.NoSpans 1 = a.reply in cc
+not_told id (few_spans none a e) = let e : answer.Leaving id ≡ answer.NoSpans _ = a.reply in cc
 not_told id (few_nodes none a e) = let e : answer.Leaving id ≡ answer.NoNodes _ = a.reply in cc
 not_told id (begins m) = leaving_batch id (record { n = 0 }) (answer.Leaving id) refl m.reply
 
 -- a batch is made only where enough spans are loose
 not_pinned : (y : Words) (new : FarState) (r : Reply) → IsBatchMade busy y pair new r → ⊥
-not_pinned y new r a = let l : 1 ≤ 0 = a.enough in absurd (omega (arith, l))
+unfolding batch_pages
+not_pinned y new r a = none_some a.pages a.longest
 
 -- and enough nodes have room
 not_lone : (y : Words) (new : FarState) (r : Reply) → IsBatchMade start y lone new r → ⊥
@@ -572,15 +576,18 @@ not_refused a = differ (a.left (λ id e. spans_batch 0 (answer.NoSpans 0) id ref
 -- ---- the parts
 -- one batch by the rule: enough spans, enough nodes, and the next number
 has_batch : HasBatch pair second (answer.Batch (record { n = 0 })) (0 ∷ []) claim_zeros
+unfolding pages_of batch_pages
 has_batch = record {
-  enough = lit≤ tt;
+  pages = 1;
+  longest = refl;
   room = omega (arith, two_nodes);
   reply = refl;
   begun = has_begun;
 }
 
 not_of_none : (new : FarState) (r : Reply) (es : List Event) → HasBatch pair new r [] es → ⊥
-not_of_none new r es a = let l = a.enough in absurd (omega (arith, l))
+unfolding batch_pages
+not_of_none new r es a = none_some a.pages a.longest
 
 not_on_one : (new : FarState) (r : Reply) (es : List Event)
     → HasBatch lone new r (0 ∷ []) es → ⊥

@@ -4,7 +4,7 @@ use Rattle.std.proofs.Common.{◌≡◌, ℕ, zero, suc, ◌*◌, ◌<◌, ◌�
 use Rattle.std.proofs.lemmas.Bool.{false≢true}
 use Rattle.std.specs.FinMap as map
 use Rattle.std.specs.List.{slice_get}
-use Rattle.cb_class.specs.Class.{words_of, bytes_of}
+use Rattle.cb_class.specs.Class.{words_of, bytes_of, pages_of}
 use Rattle.cb_member.specs.declared.names.Shard.{Shard}
 use Rattle.cb_member.specs.Membership.{fresh_members}
 use Rattle.cb_node.specs.NodesState.{empty_nodes, held}
@@ -28,17 +28,22 @@ use Rattle.cb_world.specs.RowWords.{words_from, words_in}
 use Rattle.cb_world.specs.Survey.{no_survey}
 use Rattle.cb_evict.specs.EvictRule.{IsInRow, HasFewSpans, HasFewNodes, HasBoth}
 use Rattle.cb_evict.specs.EvictEffect.{IsAway, EvictEffect}
+use Rattle.cb_evict.specs.Lengths.{batch_pages, most_loose}
 use Rattle.cb_evict.specs.Storing.{CanStore, HasRoomFor, HasSpans, with_kept}
 use Rattle.cb_evict.proofs.Composed.{few_spans}
-use Rattle.cb_evict.proofs.Options.{none_some, some_same}
+use Rattle.cb_evict.proofs.Options.{none_some, some_none, some_same}
 
--- one node, with room for one row
+-- an empty span of one page
+abbrev lone_span : Contents
+lone_span = span_of (record { index = 0 }) Cold (None ∷ None ∷ [])
+
+-- one node, with room for one row; two spans
 abbrev far : FarState
 far = record {
   first = 1;
   made = 2;
   frames = false ∷ true ∷ [];
-  spans = None ∷ None ∷ [];
+  spans = None ∷ Some lone_span ∷ None ∷ Some lone_span ∷ [];
   sets = map.empty;
   homes = None ∷ None ∷ None ∷ [];
   nodes = empty_nodes 1 1;
@@ -52,15 +57,23 @@ far = record {
 
 -- ---- too few spans
 one_span : HasFewSpans far far (answer.NoSpans 1) (1 ∷ [])
-one_span = record { few = lit< tt; reply = refl; state = refl }
+unfolding pages_of batch_pages most_loose
+one_span = record { few = refl; reply = refl; state = refl }
 
 not_enough_spans : HasFewSpans far far (answer.NoSpans 2) (1 ∷ 3 ∷ []) → ⊥
-not_enough_spans a = let l = a.few in absurd (omega (arith, l))
+unfolding pages_of batch_pages
+not_enough_spans a = some_none 1 a.few
+
+-- frames without a span have none of any length
+no_length : HasFewSpans far far (answer.NoSpans 0) (0 ∷ 2 ∷ [])
+unfolding batch_pages most_loose
+no_length = record { few = refl; reply = refl; state = refl }
 
 counts : (n m : ℕ) → answer.NoSpans n ≡ answer.NoSpans m → n ≡ m
 counts n m e = cc
 
 not_another_count : HasFewSpans far far (answer.NoSpans 0) (1 ∷ []) → ⊥
+unfolding pages_of most_loose
 not_another_count a = let e = counts 0 1 a.reply in absurd (omega (arith, e))
 
 not_changed : HasFewSpans far (record far { made = 3 }) (answer.NoSpans 1) (1 ∷ []) → ⊥
@@ -71,8 +84,9 @@ one_node : room_count far.nodes far.members ≡ 1
 one_node = grind (arith, map.gets)
 
 few_nodes_room : HasFewNodes far far (answer.NoNodes 1) (1 ∷ 3 ∷ [])
+unfolding pages_of batch_pages
 few_nodes_room = record {
-  enough = lit≤ tt;
+  enough = refl;
   few = omega (arith, one_node);
   reply = ap answer.NoNodes (sym one_node);
   state = refl;
@@ -80,7 +94,8 @@ few_nodes_room = record {
 
 -- too few spans are told before too few nodes
 not_nodes_first : HasFewNodes far far (answer.NoNodes 1) (1 ∷ []) → ⊥
-not_nodes_first a = let l = a.enough in absurd (omega (arith, l))
+unfolding pages_of batch_pages
+not_nodes_first a = false≢true a.enough
 
 -- one data row and one parity where one node has room
 not_enough_nodes : HasFewNodes (record far { code = record { k = 0; r = 1 } })

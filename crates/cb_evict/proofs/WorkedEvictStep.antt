@@ -1,8 +1,9 @@
 -- Worked examples of loose spans by the words of the still desk, of objects that are sent off and
 -- of the two refusals: values that meet a definition, and for each of its parts one that breaks
 -- that part alone.
-use Rattle.std.proofs.Common.{◌≡◌, ℕ, zero, suc, ◌+◌, ◌*◌, ◌<◌, ◌≤◌, true, false, List, [], ◌∷◌, length, Option, None, Some, refl, sym, ap, ◌∙◌, subst, lit<, lit≤, arith}
-use Rattle.cb_class.specs.Class.{words_of, bytes_of}
+use Rattle.std.proofs.Common.{◌≡◌, ℕ, zero, suc, ◌+◌, ◌*◌, true, false, List, [], ◌∷◌, length, Option, None, Some, refl, sym, ap, ◌∙◌, subst, lit<, arith}
+use Rattle.std.proofs.lemmas.Bool.{false≢true}
+use Rattle.cb_class.specs.Class.{words_of, bytes_of, pages_of}
 use Rattle.cb_ptr.specs.Steps.{IsFarWord}
 use Rattle.cb_ptr.specs.Word.{len_of}
 use Rattle.cb_ptr.proofs.Laws.{far_word_is}
@@ -17,9 +18,10 @@ use Rattle.cb_world.specs.Plain.{Words}
 use Rattle.cb_world.specs.RowWords.{words_from, words_in}
 use Rattle.cb_world.specs.StillWords.{contents_at}
 use Rattle.cb_world.specs.World.{word_at}
+use Rattle.cb_evict.specs.Lengths.{batch_pages, most_loose}
 use Rattle.cb_evict.specs.EvictStep.{is_slot_loose, is_loose, loose_frames, AreSentOff, HaveContents, IsEvictStep, few_spans, few_nodes, made}
 use Rattle.cb_evict.specs.Looking.{IsIn}
-use Rattle.cb_evict.proofs.Options.{none_some, some_same}
+use Rattle.cb_evict.proofs.Options.{none_some, some_none, some_same}
 use Rattle.cb_evict.proofs.SmallWorlds.{after, away, before, busy, calm, desk, far_with, first_object, further, heads, lone, moving, one_node, only_object, pair, pinned, row, settings, span_with}
 
 -- a hot span, two cold ones with a free frame between them, and one more
@@ -173,11 +175,13 @@ not_contents a =
     absurd (omega (arith, e))
 
 pub no_spans : IsEvictStep busy busy pair pair (answer.NoSpans 0)
-no_spans = few_spans (record { few = lit< tt; reply = refl; state = refl }) refl
+unfolding batch_pages most_loose
+no_spans = few_spans (record { few = refl; reply = refl; state = refl }) refl
 
 pub no_nodes : IsEvictStep before before lone lone (answer.NoNodes 1)
+unfolding pages_of batch_pages
 no_nodes = few_nodes (record {
-  enough = lit≤ tt;
+  enough = refl;
   few = omega (arith, one_node);
   reply = ap answer.NoNodes (sym one_node);
   state = refl;
@@ -208,17 +212,20 @@ not_opened (made m) = spans_set 0 0 m.reply
 
 -- the reply has the count of loose spans
 not_another_count : IsEvictStep busy busy pair pair (answer.NoSpans 1) → ⊥
+unfolding most_loose
 not_another_count (few_spans a e) = let n = count_is 1 0 a.reply in absurd (omega (arith, n))
 not_another_count (few_nodes a e) = spans_nodes 1 _ a.reply
 not_another_count (made m) = spans_set 1 0 m.reply
 
 -- where a span is loose, too few spans are no cause, and where none is, too few nodes are none
 not_too_few : IsEvictStep before before pair pair (answer.NoSpans 1) → ⊥
-not_too_few (few_spans a e) = let l : 1 < 1 = a.few in absurd (omega (arith, l))
+unfolding pages_of batch_pages
+not_too_few (few_spans a e) = some_none 1 a.few
 not_too_few (few_nodes a e) = spans_nodes 1 _ a.reply
 not_too_few (made m) = spans_set 1 0 m.reply
 
 not_nodes_first : IsEvictStep busy busy lone lone (answer.NoNodes 1) → ⊥
+unfolding batch_pages
 not_nodes_first (few_spans a e) = spans_nodes _ 1 (sym a.reply)
-not_nodes_first (few_nodes a e) = let l : 1 ≤ 0 = a.enough in absurd (omega (arith, l))
+not_nodes_first (few_nodes a e) = false≢true a.enough
 not_nodes_first (made m) = let e : answer.NoNodes 1 ≡ answer.Set (record { n = 0 }) = m.reply in cc

@@ -31,6 +31,7 @@ use Rattle.cb_world.specs.FrameWords.{LiesInRun}
 use Rattle.cb_world.specs.RowWords.{words_in}
 use Rattle.cb_world.specs.SetWord.{IsSpanWord}
 use Rattle.cb_world.specs.Shown.{object_at, hot_at}
+use Rattle.cb_evict.specs.Lengths.{batch_pages, most_loose}
 use Rattle.cb_evict.specs.AbortRule.{AbortRule, IsAborted, IsOfBatch}
 use Rattle.cb_evict.specs.BeginRule.{HasBegun, HasLooked, new_batch}
 use Rattle.cb_evict.specs.Claiming.{IsOne}
@@ -205,13 +206,14 @@ not_free : IsFree pinned → ⊥
 not_free free = let e : 1 ≡ 0 = free.1 in omega (arith, e)
 
 no_spans : EvictRule hot_leaves hot_leaves (answer.NoSpans 0) of_one
+unfolding batch_pages most_loose
 no_spans = record {
   loose = [];
   found = (
     held_alone pair.spans 0 of_one 0 pinned only_first (1, refl) (inr ((refl, refl), tt)) not_free,
     tt,
   );
-  answered = inl (record { few = lit< tt; reply = refl; state = refl });
+  answered = inl (record { few = refl; reply = refl; state = refl });
   touches = (first_object, tt);
 }
 
@@ -236,6 +238,7 @@ settles_what_leaves x = let e = only_object 1 x.touches.1.0 in absurd (omega (ar
 
 -- a begin looks at both
 none_begins : HasLooked pair pair (answer.NoSpans 0) of_both
+unfolding batch_pages most_loose
 none_begins = record {
   none = refl;
   loose = [];
@@ -248,7 +251,7 @@ none_begins = record {
       tt,
     ),
   );
-  answered = inl (record { few = lit< tt; reply = refl; state = refl });
+  answered = inl (record { few = refl; reply = refl; state = refl });
   touches = (
     (0, (0, lit< tt, refl), (1, refl)),
     ((1, (1, lit< tt, refl), (1, refl)), tt),

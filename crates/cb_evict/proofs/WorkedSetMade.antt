@@ -1,6 +1,6 @@
 -- A worked example of a whole step: the loose one of two spans is evicted; and for each part of
 -- what is said of it a value that breaks that part alone.
-use Rattle.std.proofs.Common.{◌≡◌, ℕ, zero, suc, ◌*◌, ◌/◌, ◌≤◌, true, false, nat_lt, List, [], ◌∷◌, ◌++◌, length, get_or, None, Some, replicate, refl, sym, ap, ◌∙◌, subst, lit<, lit≤, arith, inr}
+use Rattle.std.proofs.Common.{◌≡◌, ℕ, zero, suc, ◌*◌, ◌/◌, ◌≤◌, true, false, nat_lt, List, [], ◌∷◌, ◌++◌, length, get_or, None, Some, replicate, take, refl, sym, ap, ◌∙◌, subst, lit<, arith, inr}
 use Rattle.std.specs.FinMap as map
 use Rattle.std.specs.List.{slice_get}
 use Rattle.std.proofs.lemmas.Bool.{false≢true}
@@ -20,8 +20,10 @@ use Rattle.cb_world.specs.RowWords.{words_from, words_in, row_of}
 use Rattle.cb_world.specs.Sets.{set_in}
 use Rattle.cb_world.specs.Stored.{all_put}
 use Rattle.cb_span.specs.declared.temp.Temp.TheVariants.{Cold}
+use Rattle.cb_evict.specs.Lengths.{batch_pages, loose_of, most_loose}
+use Rattle.cb_evict.proofs.LooseLengths.{one_longest}
 use Rattle.cb_evict.specs.Closing.{all_given, with_homes}
-use Rattle.cb_evict.specs.EvictStep.{AreFrameRows, IsEvictedTo, IsSetMade, IsEvictStep, made, IsCountedStep}
+use Rattle.cb_evict.specs.EvictStep.{loose_frames, AreFrameRows, AreSentOff, IsEvictedTo, IsSetMade, IsEvictStep, made, IsCountedStep}
 use Rattle.cb_evict.specs.declared.eviction.Eviction.TheVariants.{Refused}
 use Rattle.cb_evict.specs.declared.eviction.Lack.TheVariants.{Spans, Nodes}
 use Rattle.cb_evict.specs.Storing.{IsShardAt, AreShards, set_for, with_set}
@@ -101,8 +103,10 @@ evicted = record {
 }
 
 set_made : IsSetMade before after pair new (answer.Set (record { n = 0 }))
+unfolding pages_of batch_pages
 set_made = record {
-  enough = lit≤ tt;
+  pages = 1;
+  longest = refl;
   room = omega (arith, two_nodes);
   reply = refl;
   evicted = evicted;
@@ -254,7 +258,8 @@ not_sent a = not_here a.sent
 
 -- a set is made only where enough spans are loose
 not_pinned : IsSetMade busy after pair new (answer.Set (record { n = 0 })) → ⊥
-not_pinned a = let l : 1 ≤ 0 = a.enough in absurd (omega (arith, l))
+unfolding batch_pages
+not_pinned a = none_some a.pages a.longest
 
 -- and enough nodes have room
 not_lone : (far : FarState) → IsSetMade before after lone far (answer.Set (record { n = 0 })) → ⊥
@@ -270,7 +275,11 @@ not_another_number a =
 
 -- a set that was to be made is no refusal
 not_refused : IsSetMade before before pair pair (answer.Set (record { n = 0 })) → ⊥
-not_refused a = not_here a.evicted.sent
+unfolding pages_of batch_pages
+not_refused a =
+    let loose = loose_frames before pair in
+    not_here (subst (λ (n : ℕ). AreSentOff before before pair (take 1 (loose_of pair.spans n loose)))
+    (one_longest 1 pair.spans loose a.pages 1 a.longest refl) a.evicted.sent)
 
 -- ---- the frames that are given back: those of the spans that are gone
 both_given : all_given pair.frames pair.spans (0 ∷ 1 ∷ []) ≡ true ∷ true ∷ true ∷ false ∷ false ∷ []
@@ -283,13 +292,16 @@ none_given = refl
 -- ---- the refusals with both counts: no span is loose and two nodes have room, and one is and one
 -- has
 no_spans_told : IsCountedStep busy busy pair pair (Refused Spans 0 2)
+unfolding most_loose
 no_spans_told = record { step = no_spans; counts = (refl, sym two_nodes) }
 
 no_nodes_told : IsCountedStep before before lone lone (Refused Nodes 1 1)
+unfolding pages_of most_loose
 no_nodes_told = record { step = no_nodes; counts = (refl, sym one_node) }
 
 -- the counts are not told one in the other's place
 not_swapped : IsCountedStep busy busy pair pair (Refused Spans 2 0) → ⊥
+unfolding most_loose
 not_swapped a = let e : 2 ≡ 0 = a.counts.0 in absurd (omega (arith, e))
 
 -- nor those of another moment: the nodes are as they are at the refusal
@@ -298,4 +310,5 @@ not_of_another_moment a = let e = a.counts.1 in absurd (omega (arith, e, two_nod
 
 -- and the one that the reply leaves out is told too
 not_left_out : IsCountedStep before before lone lone (Refused Nodes 0 1) → ⊥
+unfolding pages_of most_loose
 not_left_out a = let e : 0 ≡ 1 = a.counts.0 in absurd (omega (arith, e))

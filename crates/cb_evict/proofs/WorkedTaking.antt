@@ -1,7 +1,9 @@
 -- The front of an eviction and of a begin: of two spans the second is held up by a pin, and the
 -- first is claimed.
-use Rattle.std.proofs.Common.{◌≡◌, ◌⊎◌, ℕ, suc, List, [], ◌∷◌, length, take, None, refl, sym, ap, ◌∙◌, subst, lit<, lit≤, arith, inl, inr}
+use Rattle.std.proofs.Common.{◌≡◌, ◌⊎◌, ℕ, ◌<◌, ◌≤◌, true, false, zero, suc, List, [], ◌∷◌, length, None, refl, sym, ap, ◌∙◌, subst, lit<, lit≤, arith, inl, inr}
 use Rattle.std.specs.FinMap as map
+use Rattle.std.proofs.lemmas.Bool.{false≢true}
+use Rattle.cb_class.specs.Class.{pages_of}
 use Rattle.std.specs.List.{Contains}
 use Rattle.std.proofs.lemmas.List.Elements.{All-nil, All-cons}
 use Rattle.cb_types.specs.declared.reply.Reply.TheVariants as answer
@@ -26,14 +28,17 @@ use Rattle.cb_evict.specs.EvictRule.{HasFewSpans, HasFewNodes}
 use Rattle.cb_evict.specs.Beginning.{ReservesFrames}
 use Rattle.cb_evict.specs.Evicting.{AreSpansTaken, ReadsSpans, StoresFrames, TouchesSpans}
 use Rattle.cb_evict.specs.Finding.{FindsLoose}
+use Rattle.cb_evict.specs.Lengths.{batch_pages, has_pages, loose_of, most_loose}
 use Rattle.cb_evict.specs.Loading.{LiesInOne, OnlyLoads}
 use Rattle.cb_evict.specs.Looking.{LooksOver}
-use Rattle.cb_evict.specs.Taking.{AreLooseNow, TriesSpans, TakesEnough, TakesFew}
+use Rattle.cb_evict.specs.Taking.{AreLooseNow, ClaimsAll, ClaimsFewer, ClaimsLength, TriesSpans, TakesEnough, TakesFew}
 use Rattle.cb_evict.proofs.BeginSound.{reserved_kept}
-use Rattle.cb_evict.proofs.Composed.{looks_tried}
+use Rattle.cb_evict.proofs.Composed.{looks_tried, nothing_lost}
+use Rattle.cb_evict.proofs.LooseLengths.{count_within, filter_in, longest_enough, none_fewer}
 use Rattle.cb_evict.proofs.Loose.{held_alone}
+use Rattle.cb_evict.proofs.Trying.{taken_of}
 use Rattle.cb_evict.proofs.Options.{none_some}
-use Rattle.cb_evict.proofs.SmallWorlds.{calm, first_object, heads, lone, one_long, one_node, only_first, only_second, pair, pinned, two_nodes}
+use Rattle.cb_evict.proofs.SmallWorlds.{calm, first_object, lone, one_long, one_node, one_page, only_first, only_second, pair, pinned, two_nodes}
 use Rattle.cb_evict.proofs.WorkedBegin.{former, of_first}
 
 not_one : (n : ℕ) → suc n ≡ 0 → ⊥
@@ -69,9 +74,10 @@ over_both = record {
 }
 
 finds_first : FindsLoose (λ es. es ≡ looks) pair (0 ∷ []) 2
+unfolding pages_of batch_pages
 finds_first = record {
   looks = over_both;
-  enough = lit≤ tt;
+  enough = refl;
   room = omega (arith, two_nodes);
   nodes = sym two_nodes;
 }
@@ -82,7 +88,8 @@ not_other_nodes runs a = let e = a.nodes in absurd (omega (arith, e, two_nodes))
 
 -- too few spans, and then too few nodes, are a refusal
 not_enough : (runs : List Event → Type 0) (n : ℕ) → FindsLoose runs pair [] n → ⊥
-not_enough runs n a = let l = a.enough in absurd (omega (arith, l))
+unfolding batch_pages
+not_enough runs n a = false≢true a.enough
 
 not_with_room : (runs : List Event → Type 0) (n : ℕ) → FindsLoose runs lone (0 ∷ []) n → ⊥
 not_with_room runs n a = let l = a.room in absurd (omega (arith, l, one_node))
@@ -93,10 +100,11 @@ paired = record pair { code = record { k = 2; r = 1 } }
 
 few : (shows : Shown → Type 0) → TakesFew (λ es. es ≡ looks) shows paired (AreLooseNow paired)
     (Refused Spans 1 2)
+unfolding pages_of batch_pages most_loose
 few shows = record {
   loose = 0 ∷ [];
   tries = looks_tried paired (0 ∷ []) over_both;
-  few = inl (record { few = lit< tt; reply = refl; state = refl });
+  few = inl (record { few = refl; reply = refl; state = refl });
   counts = (refl, sym two_nodes);
 }
 
@@ -113,8 +121,8 @@ not_its_count runs shows a = by a.few
 
     by : HasFewSpans pair pair (answer.NoSpans 1) a.loose
         ⊎ HasFewNodes pair pair (answer.NoSpans 1) a.loose → ⊥
-    by (inl x) = let l = x.few in let e = count_is 1 (length a.loose) x.reply in
-        omega (arith, l, e)
+    by (inl x) = let l = none_fewer 1 pair.spans a.loose x.few in
+        let e = count_is 1 (most_loose pair.spans a.loose) x.reply in omega (arith, l, e)
     by (inr x) = spans_nodes 1 _ x.reply
 
 -- and the other one beside it, as it is and not another
@@ -197,10 +205,12 @@ taken_first = record {
 
 enough : TakesEnough (λ es. es ≡ tried) (λ s. ⊥) pair (AreLooseNow pair) (0 ∷ [])
     (former ∷ [])
+unfolding pages_of batch_pages
 enough = record {
   loose = 0 ∷ [];
   tries = tries;
-  enough = lit≤ tt;
+  pages = 1;
+  longest = refl;
   first = refl;
   room = omega (arith, two_nodes);
   taken = taken_first;
@@ -244,18 +254,83 @@ not_claimed s shows finds known sound was a =
     differ : (len place v : ℕ) (xs : List ℕ) → is.Here 8 0 ≡ is.Claimed len place v xs → ⊥
     differ len place v xs e = cc
 
+-- ---- the claims of one length
+-- where two spans are wanted the one is not claimed, and it is counted
+fewer : (shows : Shown → Type 0)
+    → ClaimsLength (λ es. es ≡ []) shows paired (0 ∷ []) 1 1 [] []
+unfolding pages_of
+fewer shows = record {
+  lost = λ f. false;
+  long = λ f e. absurd (false≢true e);
+  tries = nothing_lost paired (0 ∷ []) 1 refl;
+  came = inl (record { few = lit< tt; counted = refl; none = (refl, refl) });
+}
+
+-- no span has two pages, and none is lost that could be claimed
+none_of_two : (shows : Shown → Type 0)
+    → ClaimsLength (λ es. es ≡ []) shows pair (0 ∷ []) 2 0 [] []
+unfolding pages_of
+none_of_two shows = record {
+  lost = λ f. false;
+  long = λ f e. absurd (false≢true e);
+  tries = nothing_lost pair (0 ∷ []) 2 refl;
+  came = inl (record { few = lit< tt; counted = refl; none = (refl, refl) });
+}
+
+-- a span of another length is not lost
+not_lost : (runs : List Event → Type 0) (shows : Shown → Type 0) (count : ℕ) (frames : List ℕ)
+    (formers : List Former)
+    → (a : ClaimsLength runs shows pair (0 ∷ []) 2 count frames formers) → a.lost 0 ≡ true → ⊥
+not_lost runs shows count frames formers a is =
+    let e = a.long 0 is in let one = one_page in omega (arith, e, one)
+
+-- where one is wanted and there, it is claimed
+not_fewer : ClaimsFewer pair (0 ∷ []) 1 1 [] [] → ⊥
+not_fewer a = let l : 1 < 1 = a.few in absurd (omega (arith, l))
+
+not_uncounted : ClaimsFewer paired (0 ∷ []) 1 0 [] [] → ⊥
+unfolding pages_of
+not_uncounted a = let e : 0 ≡ 1 = a.counted in absurd (omega (arith, e))
+
+not_kept : ClaimsFewer paired (0 ∷ []) 1 1 (0 ∷ []) (former ∷ []) → ⊥
+not_kept a = let e : 1 ≡ 0 = ap (λ (l : List ℕ). length l) a.none.0 in absurd (omega (arith, e))
+
+claims_all : ClaimsAll pair (0 ∷ []) 1 1 (0 ∷ []) (former ∷ [])
+unfolding pages_of
+claims_all = record { all = refl; enough = lit≤ tt; first = refl; taken = taken_first }
+
+not_so_many : ClaimsAll pair (0 ∷ []) 1 2 (0 ∷ []) (former ∷ []) → ⊥
+not_so_many a = let e : 2 ≡ 1 = a.all in absurd (omega (arith, e))
+
+not_of_two : ClaimsAll pair (0 ∷ []) 2 1 (0 ∷ []) (former ∷ []) → ⊥
+unfolding pages_of
+not_of_two a = let l : 1 ≤ 0 = a.enough in absurd (omega (arith, l))
+
+not_another : ClaimsAll pair (0 ∷ []) 1 1 (1 ∷ []) (former ∷ []) → ⊥
+unfolding pages_of
+not_another a = not_one 0 (heads 1 0 a.first)
+
 -- none of a list is too few
 not_of_none : (runs : List Event → Type 0) (shows : Shown → Type 0) (frames : List ℕ)
     (formers : List Former)
     → TakesEnough runs shows pair (λ l es. l ≡ []) frames formers → ⊥
 not_of_none runs shows frames formers a =
-    let l = a.enough in let e = ap (λ (l : List ℕ). length l) a.tries.done.0 in omega (arith, l, e)
+    let l = longest_enough 1 pair.spans a.loose a.pages a.longest in
+    let within = count_within pair.spans a.pages a.loose in
+    let e = ap (λ (l : List ℕ). length l) a.tries.done.0 in omega (arith, l, within, e)
 
 -- the first loose span goes
 not_the_other : (runs : List Event → Type 0) (shows : Shown → Type 0) (formers : List Former)
     → TakesEnough runs shows pair (λ l es. l ≡ 0 ∷ []) (1 ∷ []) formers → ⊥
 not_the_other runs shows formers a =
-    not_one 0 (heads 1 0 (a.first ∙ ap (λ (l : List ℕ). take 1 l) a.tries.done.0))
+    first_one (subst (λ (l : List ℕ). Contains l 1) a.tries.done.0
+    (filter_in (has_pages pair.spans a.pages) a.loose 1
+    (taken_of (loose_of pair.spans a.pages a.loose) 1 1
+    (subst (λ (l : List ℕ). Contains l 1) a.first (0, lit< tt, refl)))))
+  where
+    first_one : Contains {X = ℕ} (0 ∷ []) 1 → ⊥
+    first_one (zero, l, e) = not_one 0 (sym e)
+    first_one (suc k, l, e) = absurd (omega (arith, l))
 
 -- one node is too few for two rows
 not_on_one : (runs : List Event → Type 0) (shows : Shown → Type 0)

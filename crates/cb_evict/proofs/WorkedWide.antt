@@ -42,6 +42,7 @@ use Rattle.cb_world.specs.Packed.{ArePacked, AreFreedLater}
 use Rattle.cb_world.specs.StillDesk.{window_length}
 use Rattle.cb_world.specs.World.{IsKnown, word_at}
 use Rattle.cb_world.proofs.Laws.{some_same, room_empty, unsurveyed}
+use Rattle.cb_evict.specs.Lengths.{batch_pages}
 use Rattle.cb_evict.specs.BeginRule.{with_batch, new_batch}
 use Rattle.cb_evict.specs.BeginStep.{AreSpansClaimed, IsBegunTo, IsBeginStep, begins}
 use Rattle.cb_evict.specs.Looking.{IsIn}
@@ -398,9 +399,11 @@ two_nodes : room_count far.nodes far.members ≡ 2
 two_nodes = grind (arith, map.gets)
 
 pub step : IsBeginStep (desk calm) (desk (calm + 1)) far after (answer.Batch (record { n = 0 }))
+unfolding pages_of batch_pages
 step = begins (record {
   none = refl;
-  enough = lit≤ tt;
+  pages = 1;
+  longest = refl;
   room = omega (arith, two_nodes);
   reply = refl;
   begun = begun;

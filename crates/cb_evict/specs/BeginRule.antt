@@ -18,6 +18,7 @@ use Rattle.cb_evict.specs.Claiming.{AreOf}
 use Rattle.cb_evict.specs.Events.{TouchesOnly}
 use Rattle.cb_evict.specs.Looking.{IsIn}
 use Rattle.cb_evict.specs.Order.{noted_of, objects_of}
+use Rattle.cb_evict.specs.Lengths.{batch_pages, loose_of}
 use Rattle.cb_evict.specs.Loading.{AreOfLength, LiesInOne}
 use Rattle.cb_evict.specs.EvictRule.{AreInRows, HasFewSpans, HasFewNodes}
 
@@ -79,13 +80,15 @@ pub record IsLeavingAlready (far new : FarState) (r : Reply) (es : List Event) :
   pub state : new ≡ far
   pub nothing : es ≡ []
 
--- enough spans are loose and enough nodes have room: the first k of the loose spans are leaving
+-- enough spans of a length are loose and enough nodes have room: of the greatest such length the
+-- first k loose spans are leaving
 pub record HasBatch (far new : FarState) (r : Reply) (loose : List ℕ) (es : List Event)
     : Type 0 where
-  pub enough : far.code.k ≤ length loose
+  pub pages : ℕ
+  pub longest : batch_pages far.code.k far.spans loose ≡ Some pages
   pub room : far.code.k + far.code.r ≤ room_count far.nodes far.members
   pub reply : r ≡ answer.Batch (record { n = far.counts.sets })
-  pub begun : HasBegun far new (take far.code.k loose) es
+  pub begun : HasBegun far new (take far.code.k (loose_of far.spans pages loose)) es
 
 -- No batch is leaving: the reply and the far state after it, by which spans are loose by the last
 -- looks. Only objects and words of spans that may leave are touched.

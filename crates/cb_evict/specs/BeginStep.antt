@@ -20,6 +20,7 @@ use Rattle.cb_evict.specs.Order.{noted_of, objects_of}
 use Rattle.cb_evict.specs.EvictRule.{HasFewSpans, HasFewNodes}
 use Rattle.cb_evict.specs.EvictStep.{loose_frames}
 use Rattle.cb_evict.specs.BeginRule.{with_batch}
+use Rattle.cb_evict.specs.Lengths.{batch_pages, loose_of}
 use Rattle.cb_evict.specs.Loading.{AreOfLength}
 
 -- the rows of the spans in some frames, of so many pages each: the bytes of their memory words
@@ -50,17 +51,21 @@ pub record IsBegunTo (x y : Words) (far new : FarState) (frames : List ℕ) : Ty
   pub state : new ≡ with_batch far pages frames words parities
   pub held : AreSpansClaimed x y far frames
 
--- enough spans are loose and enough nodes have room: the first k of the loose spans are leaving
+-- enough spans of a length are loose and enough nodes have room: of the greatest such length the
+-- first k loose spans are leaving
 pub record IsBatchMade (x y : Words) (far new : FarState) (r : Reply) : Type 0 where
   pub none : far.leaving ≡ None
-  pub enough : far.code.k ≤ length (loose_frames x far)
+  pub pages : ℕ
+  pub longest : batch_pages far.code.k far.spans (loose_frames x far) ≡ Some pages
   pub room : far.code.k + far.code.r ≤ room_count far.nodes far.members
   pub reply : r ≡ answer.Batch (record { n = far.counts.sets })
-  pub begun : IsBegunTo x y far new (take far.code.k (loose_frames x far))
+  pub begun : IsBegunTo x y far new
+      (take far.code.k (loose_of far.spans pages (loose_frames x far)))
 
 -- A begin leads from the words x and a far state to the words y and another. It is refused where a
--- batch is leaving, then where fewer than k spans are loose, then where fewer than k + r nodes have
--- room; a refusal changes nothing. Else the first k loose spans are leaving.
+-- batch is leaving, then where of no length k spans are loose, then where fewer than k + r nodes have
+-- room; a refusal changes nothing. Else of the greatest length that has so many the first k loose
+-- spans are leaving.
 pub data IsBeginStep (x y : Words) (far new : FarState) (r : Reply) : Type 0 where
   is_leaving : (batch : LeavingState) → far.leaving ≡ Some batch
       → r ≡ answer.Leaving (record { n = batch.set }) → new ≡ far → y ≡ x

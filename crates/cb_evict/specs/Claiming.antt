@@ -6,7 +6,7 @@ use Rattle.cb_world.specs.declared.event.Event.{Event}
 use Rattle.cb_world.specs.declared.leaving.Former.{Former}
 use Rattle.cb_world.specs.declared.shown.Shown.{Shown}
 use Rattle.cb_world.specs.Played.{played}
-use Rattle.cb_world.specs.FarState.{FarState, span_in}
+use Rattle.cb_world.specs.FarState.{FarState, pages_at, span_in}
 use Rattle.cb_world.specs.LocalSound.{LocalSound}
 use Rattle.cb_world.specs.Reserved.{table_of}
 use Rattle.cb_evict.specs.Candidates.{SpanNames, IsLoose, AreLoose, IsBarred}
@@ -14,6 +14,7 @@ use Rattle.cb_evict.specs.Looking.{IsIn, IsSlotHeldUp, SpanFinds, SpanHas}
 use Rattle.cb_evict.specs.CallPart.{CallPart, Settles}
 use Rattle.cb_evict.specs.Events.{AreSteady}
 use Rattle.cb_evict.specs.Claims.{AreClaimed, AreBack, AreApart, IsHeldAt}
+use Rattle.cb_evict.specs.Lengths.{loose_of, without}
 use Rattle.cb_evict.specs.Order.{noted_of, objects_in, objects_of}
 
 -- one of these objects
@@ -83,19 +84,25 @@ pub record ClaimsFrame (runs : List Event → Type 0) (shows : Shown → Type 0)
       × (noted_of more ≡ objects_in (table_of (span_in spans f))))
       ⊎ ((more ≡ []) × (new ≡ old) × IsBarred es spans f)) more
 
--- the claims of the spans in some frames, one after another, until k of them are claimed: the spans
--- in these frames are, and the objects that are noted are theirs, in order of frame and slot
+-- the claims of the spans of a length in some frames, one after another, until k of them are claimed:
+-- the spans in these frames are, and the objects that are noted are theirs, in order of frame and
+-- slot. Those that could not be claimed are lost, and not loose any more; spans of another length are
+-- passed over.
 pub record ClaimsSpans (runs : List Event → Type 0) (shows : Shown → Type 0)
-    (spans : List (Option Contents)) (loose : List ℕ) (k : ℕ) (frames : List ℕ)
+    (spans : List (Option Contents)) (loose : List ℕ) (pages k : ℕ) (frames : List ℕ)
     (formers : List Former) : Type 0 where
+  pub lost : ℕ → Bool
   pub rest : List ℕ
   pub few : length frames ≤ k
   pub stops : (length frames ≡ k) ⊎ (rest ≡ [])
+  pub chosen : loose_of spans pages (without lost loose) ≡ frames ++ rest
+  pub long : (f : ℕ) → lost f ≡ true → pages_at spans f ≡ pages
   pub among : All (Contains loose) frames
   pub apart : AllPairs (λ f g. f ≢ g) frames
   pub of : AreOf (IsIn spans frames) formers
   pub order : noted_of formers ≡ objects_of spans frames
   pub each_once : AreApart formers
-  pub part : ClaimsThese runs shows (IsIn spans loose) (λ p. ⊥) (λ es. (before : List Event)
-      (all : List ℕ) → AllPairs (λ f g. f ≢ g) all → AreLoose before spans all loose
-      → AreLoose (before ++ es) spans all (frames ++ rest)) formers
+  pub part : ClaimsThese runs shows (IsIn spans (loose_of spans pages loose)) (λ p. ⊥)
+      (λ es. (before : List Event) (all was : List ℕ) → AllPairs (λ f g. f ≢ g) all
+      → loose_of spans pages was ≡ loose_of spans pages loose → AreLoose before spans all was
+      → AreLoose (before ++ es) spans all (without lost was)) formers

@@ -1,5 +1,5 @@
 -- The rule of an eviction.
-use Rattle.std.specs.Prelude.{◌≡◌, ◌⊎◌, ℕ, ◌+◌, ◌*◌, ◌<◌, ◌≤◌, List, Some, length, take, slice_get}
+use Rattle.std.specs.Prelude.{◌≡◌, ◌⊎◌, ℕ, ◌+◌, ◌*◌, ◌<◌, ◌≤◌, true, List, None, Some, is_some, take, slice_get}
 use Rattle.cb_class.specs.Class.{words_of}
 use Rattle.cb_gf256.specs.Rows.{row_at}
 use Rattle.cb_member.specs.declared.names.Shard.{Shard}
@@ -17,6 +17,7 @@ use Rattle.cb_world.specs.SetWord.{IsSpanWord}
 use Rattle.cb_evict.specs.Candidates.{candidates, AreLoose}
 use Rattle.cb_evict.specs.Events.{TouchesOnly}
 use Rattle.cb_evict.specs.Looking.{IsIn}
+use Rattle.cb_evict.specs.Lengths.{batch_pages, loose_of, most_loose}
 use Rattle.cb_evict.specs.Loading.{AreOfLength, LiesInOne}
 use Rattle.cb_evict.specs.Storing.{AreShards, with_set}
 use Rattle.cb_evict.specs.Closing.{HaveHomes, with_homes}
@@ -51,26 +52,28 @@ pub record HasEvicted (far new : FarState) (frames : List ℕ) (es : List Event)
   pub homes : HaveHomes far.spans frames far.counts.sets far.homes new.homes
   pub state : new ≡ with_homes (with_set far pages shards frames rows) frames new.homes
 
--- fewer spans are loose than the code in force has data positions
+-- of no length are as many spans loose as the code in force has data positions
 pub record HasFewSpans (far new : FarState) (r : Reply) (loose : List ℕ) : Type 0 where
-  pub few : length loose < far.code.k
-  pub reply : r ≡ answer.NoSpans (length loose)
+  pub few : batch_pages far.code.k far.spans loose ≡ None
+  pub reply : r ≡ answer.NoSpans (most_loose far.spans loose)
   pub state : new ≡ far
 
--- enough spans are loose, and fewer nodes have room than the code in force has positions
+-- enough spans of a length are loose, and fewer nodes have room than the code in force has positions
 pub record HasFewNodes (far new : FarState) (r : Reply) (loose : List ℕ) : Type 0 where
-  pub enough : far.code.k ≤ length loose
+  pub enough : is_some (batch_pages far.code.k far.spans loose) ≡ true
   pub few : room_count far.nodes far.members < far.code.k + far.code.r
   pub reply : r ≡ answer.NoNodes (room_count far.nodes far.members)
   pub state : new ≡ far
 
--- enough spans are loose and enough nodes have room: the first k of the loose spans are evicted
+-- enough spans of a length are loose and enough nodes have room: of the greatest such length the
+-- first k loose spans are evicted
 pub record HasBoth (far new : FarState) (r : Reply) (loose : List ℕ) (es : List Event)
     : Type 0 where
-  pub enough : far.code.k ≤ length loose
+  pub pages : ℕ
+  pub longest : batch_pages far.code.k far.spans loose ≡ Some pages
   pub room : far.code.k + far.code.r ≤ room_count far.nodes far.members
   pub reply : r ≡ answer.Set (record { n = far.counts.sets })
-  pub evicted : HasEvicted far new (take far.code.k loose) es
+  pub evicted : HasEvicted far new (take far.code.k (loose_of far.spans pages loose)) es
 
 -- The reply of an eviction and the far state after it, by which spans are loose by the last looks.
 -- Only objects and words of spans that may leave are touched.

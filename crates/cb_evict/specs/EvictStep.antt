@@ -1,5 +1,5 @@
 -- An eviction as a step of the still desk: the reply, every word and the far state afterwards.
-use Rattle.std.specs.Prelude.{◌≡◌, ℕ, ◌+◌, ◌*◌, ◌≤◌, ◌&&◌, Bool, true, false, nat_eq, List, Option, None, Some, filter, length, slice_get, take}
+use Rattle.std.specs.Prelude.{◌≡◌, ℕ, ◌+◌, ◌*◌, ◌≤◌, ◌&&◌, Bool, true, false, nat_eq, List, Option, None, Some, filter, slice_get, take}
 use Rattle.std.specs.List.{list_all}
 use Rattle.cb_class.specs.Class.{words_of}
 use Rattle.cb_gf256.specs.Rows.{row_at}
@@ -27,6 +27,7 @@ use Rattle.cb_evict.specs.Looking.{IsIn}
 use Rattle.cb_evict.specs.Storing.{AreShards, with_set}
 use Rattle.cb_evict.specs.Closing.{HaveHomes, with_homes}
 use Rattle.cb_evict.specs.EvictRule.{HasFewSpans, HasFewNodes}
+use Rattle.cb_evict.specs.Lengths.{batch_pages, loose_of}
 use Rattle.cb_evict.specs.Loading.{AreOfLength}
 
 -- whether the state is Here
@@ -86,16 +87,19 @@ pub record IsEvictedTo (x y : Words) (far new : FarState) (frames : List ℕ) : 
   pub state : new ≡ with_homes (with_set far pages shards frames rows) frames new.homes
   pub sent : AreSentOff x y far frames
 
--- enough spans are loose and enough nodes have room: the first k of the loose spans left as a set
+-- enough spans of a length are loose and enough nodes have room: of the greatest such length the
+-- first k loose spans left as a set
 pub record IsSetMade (x y : Words) (far new : FarState) (r : Reply) : Type 0 where
-  pub enough : far.code.k ≤ length (loose_frames x far)
+  pub pages : ℕ
+  pub longest : batch_pages far.code.k far.spans (loose_frames x far) ≡ Some pages
   pub room : far.code.k + far.code.r ≤ room_count far.nodes far.members
   pub reply : r ≡ answer.Set (record { n = far.counts.sets })
-  pub evicted : IsEvictedTo x y far new (take far.code.k (loose_frames x far))
+  pub evicted : IsEvictedTo x y far new
+      (take far.code.k (loose_of far.spans pages (loose_frames x far)))
 
--- An eviction leads from the words x and a far state to the words y and another. Where fewer than k
+-- An eviction leads from the words x and a far state to the words y and another. Where of no length k
 -- spans are loose it is refused, then where fewer than k + r nodes have room; a refusal changes
--- nothing. Else the first k loose spans leave.
+-- nothing. Else of the greatest length that has so many the first k loose spans leave.
 pub data IsEvictStep (x y : Words) (far new : FarState) (r : Reply) : Type 0 where
   few_spans : HasFewSpans far new r (loose_frames x far) → y ≡ x
       → IsEvictStep x y far new r
@@ -103,8 +107,8 @@ pub data IsEvictStep (x y : Words) (far new : FarState) (r : Reply) : Type 0 whe
       → IsEvictStep x y far new r
   made : IsSetMade x y far new r → IsEvictStep x y far new r
 
--- An eviction that tells both counts where it is refused: of the spans that are loose, and of the
--- nodes with room.
+-- An eviction that tells both counts where it is refused: of the spans of one length that are loose
+-- at the most, and of the nodes with room.
 pub record IsCountedStep (x y : Words) (far new : FarState) (e : Eviction) : Type 0 where
   pub step : IsEvictStep x y far new (reply_of e)
   pub counts : TellsCounts far (loose_frames x far) e

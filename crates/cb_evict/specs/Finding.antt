@@ -1,5 +1,5 @@
 -- The spans that can leave now.
-use Rattle.std.specs.Prelude.{◌≡◌, ℕ, ◌+◌, ◌≤◌, List, length}
+use Rattle.std.specs.Prelude.{◌≡◌, ℕ, ◌+◌, ◌≤◌, true, List, is_some}
 use Rattle.cb_world.specs.declared.event.Event.{Event}
 use Rattle.cb_world.specs.declared.shown.Shown.{Shown}
 use Rattle.cb_world.specs.Choices.{room_count}
@@ -8,14 +8,16 @@ use Rattle.cb_evict.specs.declared.eviction.Eviction.TheVariants.{Refused}
 use Rattle.cb_evict.specs.declared.finding.Found.{Found}
 use Rattle.cb_evict.specs.declared.finding.Found.TheVariants.{Few, Loose}
 use Rattle.cb_evict.specs.Candidates.{candidates}
+use Rattle.cb_evict.specs.Lengths.{batch_pages}
 use Rattle.cb_evict.specs.Looking.{LooksOver}
 use Rattle.cb_evict.specs.Taking.{AreLooseNow, TakesFew}
 
--- by looks these spans are loose, which are enough, and so many nodes have room, which are enough
+-- by looks these spans are loose, which are enough of a length, and so many nodes have room, which
+-- are enough
 pub record FindsLoose (runs : List Event → Type 0) (far : FarState) (loose : List ℕ)
     (n : ℕ) : Type 0 where
   pub looks : LooksOver runs far.spans (candidates far) loose
-  pub enough : far.code.k ≤ length loose
+  pub enough : is_some (batch_pages far.code.k far.spans loose) ≡ true
   pub room : far.code.k + far.code.r ≤ room_count far.nodes far.members
   pub nodes : n ≡ room_count far.nodes far.members
 

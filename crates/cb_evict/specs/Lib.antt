@@ -8,6 +8,7 @@ pub mod Looking
 pub mod Order
 pub mod Claiming
 pub mod Loading
+pub mod Lengths
 pub mod Storing
 pub mod Sending
 pub mod Closing

@@ -9,6 +9,7 @@ ghost use Rattle.cb_evict.specs.Looking.{SpanHas};
 ghost use Rattle.cb_evict.specs.Claims.{IsHeldAt, AreApart};
 ghost use Rattle.cb_evict.specs.Claiming.{GivesBack, ClaimsSlot, ClaimsSpan, ClaimsFrame, ClaimsSpans};
 
+use crate::lengths::has_pages;
 use crate::restoring::restore;
 use cb_span::Span;
 use cb_types::Handle;
@@ -128,13 +129,14 @@ fn claim_frame<D: Desk>(
     }
 }
 
-/// Claims the spans in these frames, in order, until `k` of them are claimed. A span of which an
-/// object is pinned or claimed by another is left as it was. `frames` and `formers` are empty
-/// before, and have room for k frames and for 256 objects of each.
+/// Claims the spans in these frames that have so many pages, in order, until `k` of them are
+/// claimed. A span of which an object is pinned or claimed by another is left as it was. `frames`
+/// and `formers` are empty before, and have room for k frames and for 256 objects of each.
 pub(crate) fn claim_spans<D: Desk>(
     desk: &mut D,
     spans: &Spans,
     loose: &[u32],
+    pages: u32,
     k: usize,
     frames: &mut Vec<u32>,
     formers: &mut Vec<Former>,
@@ -147,11 +149,16 @@ pub(crate) fn claim_spans<D: Desk>(
     requires room { (k ≤ vec_capacity frames.old) × (256 * k ≤ vec_capacity formers.old) }
     requires sound { (s : Shown) × D.shows desk.old s × ((far : FarState) × LocalSound s far) }
     ensures claims { ClaimsSpans (λ es. D.run desk.old es desk.new) (λ s. D.shows desk.old s)
-        spans.now loose.now k frames.new.items formers.new.items }
+        spans.now loose.now pages k frames.new.items formers.new.items }
+    ensures room { (vec_capacity frames.old ≤ vec_capacity frames.new)
+        × (vec_capacity formers.old ≤ vec_capacity formers.new) }
 {
     for frame in loose {
         if frames.len() == k {
             return;
+        }
+        if !has_pages(spans, *frame, pages) {
+            continue;
         }
         claim_frame(desk, spans, *frame, frames, formers);
     }

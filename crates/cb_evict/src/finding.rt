@@ -7,6 +7,7 @@ ghost use Rattle.cb_evict.specs.Finding.{FindsSpans};
 
 use crate::candidates::candidates;
 use crate::eviction::Lack;
+use crate::lengths::most_loose;
 use crate::looking::find_loose;
 use cb_types::NoMemory;
 use cb_world::{Desk, Far, nodes_with_room};
@@ -14,11 +15,12 @@ use cb_world::{Desk, Far, nodes_with_room};
 /// What was found of the spans that may leave.
 #[derive(Drop)]
 pub(crate) enum Found {
-    /// Fewer spans are loose than the code in force has data positions, or fewer nodes have room
-    /// than it has positions. So many spans are loose, and so many nodes have room.
+    /// Of no length are as many spans loose as the code in force has data positions, or fewer nodes
+    /// have room than it has positions. So many spans of one length are loose at the most, and so
+    /// many nodes have room.
     Few { lack: Lack, loose: u32, nodes: u32 },
-    /// The spans in these frames are loose: k at least, in the order in which they are taken. So
-    /// many nodes have room, which are enough.
+    /// The spans in these frames are loose, in the order in which they are taken: k of one length
+    /// at least. So many nodes have room, which are enough.
     Loose { frames: Vec<u32>, nodes: u32 },
 }
 
@@ -40,18 +42,19 @@ pub(crate) fn find_spans<D: Desk>(desk: &mut D, far: &Far) -> Result<Found, NoMe
     let mut loose = Vec::with_capacity(far.alloc, frames.len())?;
     find_loose(desk, &far.spans, &frames, &mut loose);
     let nodes = nodes_with_room(&far.nodes, &far.members);
+    let most = most_loose(&far.spans, &loose) as u32;
     let code = far.in_force();
-    if loose.len() < code.k as usize {
+    if most < code.k {
         return Ok(Found::Few {
             lack: Lack::Spans,
-            loose: loose.len() as u32,
+            loose: most,
             nodes,
         });
     }
     if nodes < code.k + code.r {
         return Ok(Found::Few {
             lack: Lack::Nodes,
-            loose: loose.len() as u32,
+            loose: most,
             nodes,
         });
     }

@@ -11,6 +11,7 @@ mod committing;
 mod evicting;
 pub mod eviction;
 mod finding;
+mod lengths;
 mod loading;
 mod looking;
 mod next_put;

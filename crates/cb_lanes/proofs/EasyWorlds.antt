@@ -42,7 +42,7 @@ use Rattle.cb_lanes.proofs.AloneLines.{any_at, count_front, makes_few, scope_non
 use Rattle.cb_lanes.proofs.Along.{Along}
 use Rattle.cb_lanes.proofs.EasyLines.{IsEasyLine, IsIdleAmong}
 use Rattle.cb_lanes.proofs.FewPins.{pins_few}
-use Rattle.cb_lanes.proofs.LooseSpans.{loose_or_pinned, never_moving}
+use Rattle.cb_lanes.proofs.LooseSpans.{loose_alike, loose_or_pinned, never_moving}
 use Rattle.cb_lanes.proofs.PinLists.{ArePinsOf}
 use Rattle.cb_lanes.proofs.Stamps.{stamp_had, version_had}
 
@@ -156,10 +156,11 @@ module _ (side : Side) (s : Script) (i : ℕ) (later : List ℕ) (answers : List
       spans = λ class in_table full.
           let all = loose_or_pinned a.desk a.far good.shown w.seats class good.known good.pinned
           good.ongoing rest.claims x.idle.0 in_table full in
+          let alike = loose_alike a.desk a.far good.shown good.known.sound.here in
           let frames = good.configured.frames in let pins = few_pins in let enough = ease.frames in
           let k = x.codes.force.0 in
           let same = ap (λ (c : Config). c.frames) along.settings in
-          omega (arith, all, frames, pins, enough, k, same);
+          omega (arith, all, alike, frames, pins, enough, k, same);
       nodes = enough_roomy w.desk.settings good.shown a.far (crashed_nodes s) good.known.sound
           good.configured x.idle x.crashed
           (let few = few_made in let front = count_front (λ (l : Line). is_make l.request) s.lines

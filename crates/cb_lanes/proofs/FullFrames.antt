@@ -1,7 +1,9 @@
 -- Where no run of frames is free that a span of some class fits, each frame has a span.
-use Rattle.std.proofs.Common.{◌≡◌, ℕ, suc, ◌+◌, ◌-◌, ◌*◌, ◌<◌, ◌≤◌, Option, None, Some, length, refl, sym, ap, ◌∙◌, subst, arith}
+use Rattle.std.proofs.Common.{◌≡◌, ℕ, suc, ◌+◌, ◌-◌, ◌*◌, ◌<◌, ◌≤◌, List, Option, None, Some, length, get_or, refl, sym, ap, ◌∙◌, subst, arith}
+use Rattle.std.specs.List.{Contains}
 use Rattle.std.proofs.Math.Nat.{suc-mul}
 use Rattle.std.proofs.lemmas.Bool.{true≢false}
+use Rattle.std.proofs.lemmas.List.{get_or_default}
 use Rattle.cb_class.specs.declared.class.Class.{Class}
 use Rattle.cb_class.specs.Class.{IsClass, pages_of, slots_of, words_of}
 use Rattle.cb_class.proofs.Laws.{bytes_at_most, pages_some, slot_within, slots_at_least, slots_fill, words_fill}
@@ -10,11 +12,12 @@ use Rattle.cb_frame.specs.Runs.{least_run}
 use Rattle.cb_frame.proofs.Laws.{least_run-None, run_of_free}
 use Rattle.cb_span.specs.Contents.{Contents}
 use Rattle.cb_world.specs.declared.shown.Shown.{Shown}
-use Rattle.cb_world.specs.FarState.{FarState, span_in}
+use Rattle.cb_world.specs.FarState.{FarState, pages_if, span_in}
 use Rattle.cb_world.specs.LocalSound.{LiesOver, LocalSound}
+use Rattle.cb_evict.specs.Loading.{AreOfLength}
 
 -- All spans have one page today, as the law of the slots within a frame says. This goes once frames
--- are counted by the pages of their spans.
+-- are counted by the pages of their spans, and loose spans by their lengths.
 one_page : (c : Class) → IsClass c → pages_of c ≡ 1
 one_page c h =
     let count = slots_of c in let width = words_of c in
@@ -27,6 +30,15 @@ one_page c h =
     rw (words_fill c h) (slots_fill c h) in
     let few : width * 8 ≤ 1024 = rw (words_fill c h) (bytes_at_most c h) in
     let least = pages_some c h in omega (arith, ends, all, step, fill, few, least)
+
+-- so spans in some frames have one length
+pub one_length : (s : Shown) (far : FarState) (frames : List ℕ) → LocalSound s far
+    → ((f : ℕ) → Contains frames f → (span : Contents) × (span_in far.spans f ≡ Some span))
+    → AreOfLength far.spans 1 frames
+one_length s far frames sound there k d below =
+    let f = get_or frames k d in
+    let span = there f (k, below, get_or_default frames k f d below) in
+    ap pages_if span.1 ∙ one_page span.0.class (sound.frames.valid f span.0 span.1).in_table
 
 none_some : (span : Contents) → None ≡ Some span → ⊥
 none_some span e = cc

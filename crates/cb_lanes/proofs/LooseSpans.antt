@@ -37,9 +37,10 @@ use Rattle.cb_world.proofs.Laws.{one_slot}
 use Rattle.cb_evict.specs.Candidates.{candidates, has_temp, is_among, may_leave, frames_with}
 use Rattle.cb_evict.specs.Candidates.{same_temp}
 use Rattle.cb_evict.specs.EvictStep.{is_here, is_loose, is_slot_loose, loose_frames}
-use Rattle.cb_evict.proofs.Laws.{named_at, names_span}
+use Rattle.cb_evict.specs.Lengths.{most_loose}
+use Rattle.cb_evict.proofs.Laws.{loose_span, most_alike, named_at, names_span}
 use Rattle.cb_lanes.proofs.FewPins.{pins_in}
-use Rattle.cb_lanes.proofs.FullFrames.{has_span}
+use Rattle.cb_lanes.proofs.FullFrames.{has_span, one_length}
 use Rattle.cb_lanes.proofs.Lists.{one_if}
 
 -- ---- no word is Moving
@@ -281,6 +282,12 @@ candidate far f span idle below there =
         → (list_any (nat_eq f) (of Cold) || list_any (nat_eq f) (of Hot)) ≡ true
     by Cold e = or_left (list_any (nat_eq f) (of Cold)) (list_any (nat_eq f) (of Hot)) (has Cold e)
     by Hot e = or_right (list_any (nat_eq f) (of Cold)) (list_any (nat_eq f) (of Hot)) (has Hot e)
+
+-- the loose spans are of one length
+pub loose_alike : (x : Words) (far : FarState) (s : Shown) → LocalSound s far
+    → most_loose far.spans (loose_frames x far) ≡ length (loose_frames x far)
+loose_alike x far s sound = most_alike far.spans (loose_frames x far)
+    (one_length s far (loose_frames x far) sound (loose_span x far))
 
 -- Where no seat has an open write, no batch is leaving and no run of frames is free that a span of
 -- some class fits, the frames are no more than the loose spans and the pins of all seats.

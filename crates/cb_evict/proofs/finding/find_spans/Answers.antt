@@ -1,15 +1,18 @@
 use Rattle.std.proofs.lemmas.Result.{IfOk-from_err}
 use Rattle.std.proofs.Common.{◌≡◌, ◌≢◌, ℕ, ◌≤◌, List, length, get_or, All, Some, refl, sym, ap, ◌∙◌, subst, arith, inl, inr}
 use Rattle.std.specs.List.{AllPairs}
+use Rattle.cb_span.specs.Contents.{Contents}
 use Rattle.cb_member.specs.declared.names.Code.{Code}
 use Rattle.cb_types.specs.declared.config.Field.TheVariants.{Frames, Nodes}
 use Rattle.cb_types.specs.declared.reply.Reply.TheVariants as answer
 use Rattle.cb_world.specs.Choices.{room_count}
 use Rattle.cb_world.specs.FarState.{FarState, span_in}
 use Rattle.cb_evict.specs.Candidates.{AreUnique, candidates}
-use Rattle.cb_evict.proofs.Composed.{any_err, looks_as, looks_tried}
+use Rattle.cb_evict.proofs.Composed.{any_err, looks_as, looks_tried, most_told}
+use Rattle.cb_evict.proofs.LooseLengths.{enough_some, fewer_none, most_within}
 use Rattle.cb_evict.proofs.Ending.{place_in}
 use Rattle.cb_evict.proofs.Framing.{candidates_few}
+use Rattle.cb_evict.proofs.Loose.{loose_among}
 use Rattle.cb_evict.proofs.Standing.{are_unique, is_standing, candidates_apart}
 use Rattle.cb_evict.proofs.finding.find_spans.Goals as goal
 
@@ -47,10 +50,11 @@ find_loose-requires-clause-apart g c =
     subst (λ (l : List ℕ). AllPairs (λ f h. f ≢ h) l)
     (sym (c.deref.ensures.value ∙ c.in_ok-frames.ensures.frames)) (candidates_apart c.args.far.now)
 
-pub returns-then-len-code-clause-found : goal.returns-then-len-code-clause-found
-returns-then-len-code-clause-found g c =
+pub returns-then-most-code-clause-found : goal.returns-then-most-code-clause-found
+returns-then-most-code-clause-found g c =
     let k = ap (λ (x : Code). x.k) c.in_force-code.ensures in
-    let r = ap (λ (x : Code). x.r) c.in_force-code.ensures in
+    let most = most_told _ _ _ _ (ap (λ (far : FarState). far.spans) c.far.view_is)
+    c.deref-2.ensures.value c.most_loose-most.ensures in
     let nodes = c.nodes_with_room-nodes.ensures
     ∙ ap (λ (far : FarState). room_count far.nodes far.members) c.far.view_is in record {
       loose = c.find_loose.new.loose.items;
@@ -58,11 +62,12 @@ returns-then-len-code-clause-found g c =
           (looks_as _ _ _ _ _ _ _
           (ap (λ (far : FarState). far.spans) c.far.view_is) (c.deref.ensures.value ∙ c.in_ok-frames.ensures.frames) refl c.find_loose.ensures.looks);
       few = inl (record {
-        few = omega (arith, k, c.if-len-code.true, c.len-2.ensures, c.find_loose.new.loose.ok);
-        reply = ap answer.NoSpans (omega (arith, c.len-then-len-code.ensures, c.find_loose.new.loose.ok));
+        few = fewer_none c.args.far.now.code.k c.args.far.now.spans c.find_loose.new.loose.items
+            (omega (arith, k, c.if-most-code.true, most));
+        reply = ap answer.NoSpans most;
         state = refl;
       });
-      counts = (omega (arith, c.len-then-len-code.ensures, c.find_loose.new.loose.ok), nodes);
+      counts = (most, nodes);
     }
 
 pub overflow_add-code : goal.overflow_add-code
@@ -87,6 +92,8 @@ pub returns-then-nodes-code-clause-found : goal.returns-then-nodes-code-clause-f
 returns-then-nodes-code-clause-found g c =
     let k = ap (λ (x : Code). x.k) c.in_force-code.ensures in
     let r = ap (λ (x : Code). x.r) c.in_force-code.ensures in
+    let most = most_told _ _ _ _ (ap (λ (far : FarState). far.spans) c.far.view_is)
+    c.deref-2.ensures.value c.most_loose-most.ensures in
     let nodes = c.nodes_with_room-nodes.ensures
     ∙ ap (λ (far : FarState). room_count far.nodes far.members) c.far.view_is in record {
       loose = c.find_loose.new.loose.items;
@@ -94,23 +101,27 @@ returns-then-nodes-code-clause-found g c =
           (looks_as _ _ _ _ _ _ _
           (ap (λ (far : FarState). far.spans) c.far.view_is) (c.deref.ensures.value ∙ c.in_ok-frames.ensures.frames) refl c.find_loose.ensures.looks);
       few = inr (record {
-        enough = omega (arith, k, c.if-len-code.false, c.len-2.ensures, c.find_loose.new.loose.ok);
+        enough = enough_some c.args.far.now.code.k c.args.far.now.spans c.find_loose.new.loose.items
+            (omega (arith, k, c.if-most-code.false, most));
         few = omega (arith, nodes, k, r, c.if-nodes-code.true);
         reply = ap answer.NoNodes nodes;
         state = refl;
       });
-      counts = (omega (arith, c.len-then-nodes-code.ensures, c.find_loose.new.loose.ok), nodes);
+      counts = (most, nodes);
     }
 
 pub returns-clause-found : goal.returns-clause-found
 returns-clause-found g c =
     let k = ap (λ (x : Code). x.k) c.in_force-code.ensures in
     let r = ap (λ (x : Code). x.r) c.in_force-code.ensures in
+    let most = most_told _ _ _ _ (ap (λ (far : FarState). far.spans) c.far.view_is)
+    c.deref-2.ensures.value c.most_loose-most.ensures in
     let nodes = c.nodes_with_room-nodes.ensures
     ∙ ap (λ (far : FarState). room_count far.nodes far.members) c.far.view_is in record {
       looks = looks_as _ _ _ _ _ _ _ (ap (λ (far : FarState). far.spans) c.far.view_is)
           (c.deref.ensures.value ∙ c.in_ok-frames.ensures.frames) refl c.find_loose.ensures.looks;
-      enough = omega (arith, k, c.if-len-code.false, c.len-2.ensures, c.find_loose.new.loose.ok);
+      enough = enough_some c.args.far.now.code.k c.args.far.now.spans c.find_loose.new.loose.items
+          (omega (arith, k, c.if-most-code.false, most));
       room = omega (arith, nodes, k, r, c.if-nodes-code.false);
       nodes = nodes;
     }
@@ -121,8 +132,8 @@ returns-in_err-frames-clause-found g c = IfOk-from_err _ _ c.from_residual.ensur
 pub returns-in_err-loose-clause-found : goal.returns-in_err-loose-clause-found
 returns-in_err-loose-clause-found g c = IfOk-from_err _ _ c.from_residual-in_err-loose.ensures.0
 
-pub returns-then-len-code-clause-error : goal.returns-then-len-code-clause-error
-returns-then-len-code-clause-error g c = tt
+pub returns-then-most-code-clause-error : goal.returns-then-most-code-clause-error
+returns-then-most-code-clause-error g c = tt
 
 pub returns-then-nodes-code-clause-error : goal.returns-then-nodes-code-clause-error
 returns-then-nodes-code-clause-error g c = tt
@@ -130,9 +141,27 @@ returns-then-nodes-code-clause-error g c = tt
 pub returns-clause-error : goal.returns-clause-error
 returns-clause-error g c = tt
 
-pub overflow_cast-result-then-nodes-code : goal.overflow_cast-result-then-nodes-code
-overflow_cast-result-then-nodes-code g c =
+pub overflow_cast-most : goal.overflow_cast-most
+overflow_cast-most g c =
     let few = candidates_few c.args.far.now in let n = c.requires.config Frames in
     let frames = c.requires.configured.frames in
     let found = ap (λ (l : List ℕ). length l) (c.deref.ensures.value ∙ c.in_ok-frames.ensures.frames) in
-    omega (arith, few, n.1, frames, found, c.find_loose.ensures.few, c.len-then-nodes-code.ensures, c.find_loose.new.loose.ok)
+    let most = most_told _ _ _ _ refl c.deref-2.ensures.value c.most_loose-most.ensures in
+    let within = most_within c.far.inside.spans c.find_loose.new.loose.items in
+    omega (arith, few, n.1, frames, found, c.find_loose.ensures.few, within, most)
+
+pub most_loose-most-requires : goal.most_loose-most-requires
+most_loose-most-requires g c = record {
+  there = subst (λ (l : List ℕ). All (λ f. (span : Contents) × (span_in c.far.inside.spans f ≡ Some span)) l)
+      (sym c.deref-2.ensures.value)
+      (λ k d l.
+      let loose = c.find_loose.new.loose.items in let far = c.args.far.now in
+      let x = looks_as _ _ _ _ _ _ _ (ap (λ (far : FarState). far.spans) c.far.view_is)
+      (c.deref.ensures.value ∙ c.in_ok-frames.ensures.frames) refl c.find_loose.ensures.looks in
+      let y = is_standing far (get_or loose k d)
+      (loose_among x.events far.spans (candidates far) loose (get_or loose k d) x.done.1
+      (place_in loose k d l)) in (
+        y.span,
+        ap (λ (far : FarState). span_in far.spans (get_or loose k d)) c.far.view_is ∙ y.there,
+      ));
+}
