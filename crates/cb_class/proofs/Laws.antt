@@ -1,11 +1,11 @@
 -- The laws of the table that the crates above cite.
-use Rattle.std.proofs.Common.{◌≡◌, ◌⊎◌, ℕ, ◌+◌, ◌*◌, ◌/◌, ◌<◌, ◌≤◌, true, eqb, eqb-true, ap, sym, subst, ◌∙◌, refl, arith, inl, inr, mul-le-mul_left}
+use Rattle.std.proofs.Common.{◌≡◌, ◌⊎◌, ℕ, ◌+◌, ◌*◌, ◌/◌, ◌<◌, ◌≤◌, ap, subst, arith, inl, inr, mul-le-mul_left}
 use Rattle.std.proofs.Math.Nat.{div-mul-le_self}
-use Rattle.std.proofs.lemmas.Bool.{agree_below, agree_below_at, cases_order}
+use Rattle.std.proofs.lemmas.Bool.{cases_order}
 use Rattle.std.proofs.lemmas.Nat.{le-div, row_fits}
 use Rattle.cb_class.specs.declared.class.Class.{Class}
 use Rattle.cb_class.specs.Class.{IsClass, IsClassOf, bytes_of, largest, pages_of, slots_of, words_of}
-use Rattle.cb_class.proofs.Table.{at_least_16, at_most_largest, few_pages, four_fit, page_at, places_told, sizes_grow, slots_are_few, whole_words}
+use Rattle.cb_class.proofs.Table.{at_least_16, at_most_largest, few_pages, four_fit, places_told, sizes_grow, slots_are_few, whole_words}
 
 pub bytes_at_least : (c : Class) → IsClass c → 16 ≤ bytes_of c
 unfolding bytes_of
@@ -129,22 +129,3 @@ IsClassOf-unique len a b p q =
         | inr more ↦ absurd (omega (arith, p.least b more, q.holds))
       ]
     ]
-
--- ---- Every span has one page today. Who places spans by these laws has to go over to those above
--- before a class of more pages can stand in the table.
-one_page : (c : Class) → IsClass c → pages_of c ≡ 1
-unfolding pages_of
-one_page c h =
-    let test = λ (k : ℕ). eqb (page_at k) 1 in
-    let all : agree_below test (λ _. true) 12 ≡ true = refl in
-    eqb-true _ _ (agree_below_at test (λ _. true) 12 c.index all h)
-
--- classes with as many slots are one
-pub slots_tell_class : (a b : Class) → IsClass a → IsClass b → slots_of a ≡ slots_of b → a ≡ b
-slots_tell_class a b in_a in_b same =
-    pages_and_slots_tell_class a b in_a in_b (one_page a in_a ∙ sym (one_page b in_b)) same
-
--- a slot ends within its frame
-pub slot_within : (c : Class) (slot : ℕ) → IsClass c → slot < slots_of c
-    → slot * words_of c + words_of c ≤ 512
-slot_within c slot h within = omega (arith, slot_in_run c slot h within, one_page c h)

@@ -3,15 +3,16 @@ use Rattle.cb_class.specs.declared.class.Class.{Class}
 
 -- the bytes of a slot of each class, by the class's index
 abbrev pub sizes : List ℕ
-sizes = 16 ∷ 32 ∷ 48 ∷ 64 ∷ 96 ∷ 128 ∷ 192 ∷ 256 ∷ 384 ∷ 512 ∷ 768 ∷ 1024 ∷ []
+sizes = 16 ∷ 32 ∷ 48 ∷ 64 ∷ 96 ∷ 128 ∷ 192 ∷ 256 ∷ 384 ∷ 512 ∷ 768 ∷ 1024
+    ∷ 1536 ∷ 2048 ∷ 3072 ∷ 4096 ∷ []
 
 -- the pages of a span of each class, by the class's index
 abbrev pub page_counts : List ℕ
-page_counts = 1 ∷ 1 ∷ 1 ∷ 1 ∷ 1 ∷ 1 ∷ 1 ∷ 1 ∷ 1 ∷ 1 ∷ 1 ∷ 1 ∷ []
+page_counts = 1 ∷ 1 ∷ 1 ∷ 1 ∷ 1 ∷ 1 ∷ 1 ∷ 1 ∷ 1 ∷ 1 ∷ 1 ∷ 1 ∷ 2 ∷ 2 ∷ 4 ∷ 4 ∷ []
 
 -- the bytes of the largest slots, those of the last class: no object is longer
 abbrev pub largest : ℕ
-largest = 1024
+largest = 4096
 
 -- the index stands in the table
 abbrev pub IsClass : Class → Type 0

@@ -12,16 +12,18 @@ pub const WORD_BYTES: u32 = 8;
 pub const FRAME_WORDS: u32 = PAGE_BYTES / WORD_BYTES;
 
 /// The number of size classes.
-pub const CLASSES: usize = 12;
+pub const CLASSES: usize = 16;
 
 /// The bytes of a slot of each class, by the class's index.
-pub const CLASS_BYTES: [u32; CLASSES] = [16, 32, 48, 64, 96, 128, 192, 256, 384, 512, 768, 1024];
+pub const CLASS_BYTES: [u32; CLASSES] = [
+    16, 32, 48, 64, 96, 128, 192, 256, 384, 512, 768, 1024, 1536, 2048, 3072, 4096,
+];
 
 /// The pages of a span of each class, by the class's index.
-pub const CLASS_PAGES: [u32; CLASSES] = [1, 1, 1, 1, 1, 1, 1, 1, 1, 1, 1, 1];
+pub const CLASS_PAGES: [u32; CLASSES] = [1, 1, 1, 1, 1, 1, 1, 1, 1, 1, 1, 1, 2, 2, 4, 4];
 
 /// The bytes of a slot of the last class, and so the most bytes of an object.
-pub const LARGEST: u32 = 1024;
+pub const LARGEST: u32 = 4096;
 
 /// A size class, named by its index in the table of sizes: a greater index has greater slots.
 #[derive(Clone, Copy, Debug, PartialEq, Eq, PartialOrd, Ord, Hash)]
@@ -81,22 +83,6 @@ pub fn class_of_span(page_count: u32, slot_count: u32) -> Option<Class>
     for index in 0..CLASSES as u32 {
         let class = Class { index };
         if pages(class) == page_count && slots(class) == slot_count {
-            return Some(class);
-        }
-    }
-    None
-}
-
-/// The class of which a span has so many slots, and None where there is none: no two classes have
-/// the same count. A walk over the table of classes.
-pub fn class_with_slots(count: u32) -> Option<Class>
-    ensures class { IfSome result IsClass }
-    ensures slots { IfSome result (λ c. slots_of c ≡ count) }
-    ensures none { IfNone result ((c : Class) → IsClass c → slots_of c ≢ count) }
-{
-    for index in 0..CLASSES as u32 {
-        let class = Class { index };
-        if slots(class) == count {
             return Some(class);
         }
     }

@@ -6,5 +6,5 @@ mod class;
 
 pub use class::{
     CLASS_BYTES, CLASS_PAGES, CLASSES, Class, FRAME_WORDS, LARGEST, PAGE_BYTES, WORD_BYTES,
-    class_bytes, class_of, class_of_span, class_with_slots, pages, slot_words, slots,
+    class_bytes, class_of, class_of_span, pages, slot_words, slots,
 };

@@ -21,7 +21,7 @@ is_span : IsSpan span
 unfolding slots_of pages_of bytes_of
 is_span = record { in_table = omega arith; sized = refl }
 
-no_such_class : ¬ (IsSpan (span_of (record { index = 12 }) Cold slots))
+no_such_class : ¬ (IsSpan (span_of (record { index = 16 }) Cold slots))
 no_such_class h = absurd (omega (arith, h.in_table))
 
 a_slot_too_many : ¬ (IsSpan (span_of largest Cold (None ∷ slots)))
@@ -100,3 +100,18 @@ last_word_of_the_first_slot = refl
 slot_of_an_earlier_span : slot_in small 2 2040 ≡ 169
 unfolding words_of bytes_of
 slot_of_an_earlier_span = refl
+
+-- slots of 4,096 bytes have 512 words, and those of a span that begins at frame 3 are frames 3 to 6
+abbrev widest : Class
+widest = record { index = 15 }
+
+last_frame_of_a_run : slot_place widest 3 3 ≡ 3072
+unfolding words_of bytes_of
+last_frame_of_a_run = refl
+
+frame_of_the_last_slot : frame_of 3072 ≡ 6
+frame_of_the_last_slot = refl
+
+slot_behind_the_first_frame : slot_in widest 3 3583 ≡ 3
+unfolding words_of bytes_of
+slot_behind_the_first_frame = refl

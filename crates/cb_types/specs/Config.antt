@@ -6,7 +6,7 @@ use Rattle.cb_types.specs.declared.config.Field.TheVariants.{K, R, Nodes, Frames
 
 -- the most bytes of an object
 abbrev pub most_bytes : ℕ
-most_bytes = 1024
+most_bytes = 4096
 
 -- the field is in its range
 abbrev pub IsFieldInRange : Config → Field → Type 0

@@ -2,7 +2,7 @@ ghost use Rattle.std.specs.Prelude.{◌≡◌, MatchResult};
 ghost use Rattle.cb_types.specs.Config.{IsAccepted, IsFirstOutOfRange};
 
 /// The most bytes of an object.
-pub const MOST_BYTES: u32 = 1024;
+pub const MOST_BYTES: u32 = 4096;
 
 /// The sizes with which a runtime is set up. `check` says which are accepted.
 #[derive(Clone, Copy, Debug, PartialEq, Eq)]

@@ -8,7 +8,7 @@ use cb_member::NodeId;
 /// What a turn of the holder of the far lock does.
 #[derive(Drop)]
 pub enum Job {
-    /// A new object with these bytes, 1 to 1,024 of them.
+    /// A new object with these bytes, 1 to 4,096 of them.
     Make {
         bytes: Bytes,
     },

@@ -10,11 +10,11 @@ use std::alloc::Global;
 /// What a line of a script asks for.
 #[derive(Drop)]
 pub enum Request {
-    /// A new object with these bytes, 1 to 1,024 of them, under a new name.
+    /// A new object with these bytes, 1 to 4,096 of them, under a new name.
     Make { name: Name, bytes: Bytes },
     /// The object's bytes.
     Read { name: Name },
-    /// These bytes, 0 to 1,024 of them, in place of those from the byte number `at` on.
+    /// These bytes, 0 to 4,096 of them, in place of those from the byte number `at` on.
     Write { name: Name, at: u32, bytes: Bytes },
     /// The end of the object.
     Free { name: Name },

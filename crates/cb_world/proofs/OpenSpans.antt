@@ -14,15 +14,15 @@ use Rattle.cb_span.specs.Contents.{Contents, least_empty, live_count}
 use Rattle.cb_span.proofs.Laws.{least_empty_full, live_count-no_empty}
 use Rattle.cb_world.proofs.Apart.{some_same}
 use Rattle.cb_world.specs.FarState.{span_in}
-use Rattle.cb_world.specs.OpenSpans.{IsIndex, IsOpenSpan, MayTake, frames_of, with_flag, retold, is_kind, kind_if, kind_of, open_kind}
+use Rattle.cb_world.specs.OpenSpans.{IsIndex, IsOpenSpan, MayTake, frames_of, with_flag, retold, is_kind, kind_if, kind_of, kinds, open_kind}
 
 -- one flag of one set is as said, and every other as it was
 record Flags (sets new : List (List Bool)) (n f : ℕ) (o : Option ℕ) (bit : Bool) : Type 0 where
   count : length new ≡ length sets
-  sized : (k : ℕ) → k < 24 → length (frames_of new k) ≡ n
-  at : (k : ℕ) → k < 24 → is_kind o k ≡ true → contains (frames_of new k) f ≡ bit
-  off : (k : ℕ) → k < 24 → is_kind o k ≡ false → frames_of new k ≡ frames_of sets k
-  else : (k g : ℕ) → k < 24 → g ≢ f
+  sized : (k : ℕ) → k < kinds → length (frames_of new k) ≡ n
+  at : (k : ℕ) → k < kinds → is_kind o k ≡ true → contains (frames_of new k) f ≡ bit
+  off : (k : ℕ) → k < kinds → is_kind o k ≡ false → frames_of new k ≡ frames_of sets k
+  else : (k g : ℕ) → k < kinds → g ≢ f
       → contains (frames_of new k) g ≡ contains (frames_of sets k) g
 
 same_kind : (a k : ℕ) → nat_eq a k ≡ true → a ≡ k
@@ -31,9 +31,9 @@ same_kind a k e = eqb-true a k e
 kind_itself : (a : ℕ) → nat_eq a a ≡ false → ⊥
 kind_itself a e = let t = eq-eqb a a refl in absurd (cc)
 
-flags : (sets : List (List Bool)) (n f : ℕ) (o : Option ℕ) (bit : Bool) → length sets ≡ 24
-    → ((k : ℕ) → k < 24 → length (frames_of sets k) ≡ n) → f < n
-    → ((a : ℕ) → o ≡ Some a → a < 24) → Flags sets (with_flag sets f o bit) n f o bit
+flags : (sets : List (List Bool)) (n f : ℕ) (o : Option ℕ) (bit : Bool) → length sets ≡ kinds
+    → ((k : ℕ) → k < kinds → length (frames_of sets k) ≡ n) → f < n
+    → ((a : ℕ) → o ≡ Some a → a < kinds) → Flags sets (with_flag sets f o bit) n f o bit
 flags sets n f None bit count sized within below = record {
   count = refl;
   sized = sized;
@@ -43,7 +43,7 @@ flags sets n f None bit count sized within below = record {
 }
 flags sets n f (Some a) bit count sized within below =
     let mine : List Bool = set (frames_of sets a) f bit in
-    let low : a < 24 = below a refl in
+    let low : a < kinds = below a refl in
     let here : frames_of (set sets a mine) a ≡ mine =
     get_or-set_same sets a mine [] (omega (arith, low, count)) in
     let there : (k : ℕ) → k ≢ a → frames_of (set sets a mine) k ≡ frames_of sets k =
@@ -76,7 +76,7 @@ flags sets n f (Some a) bit count sized within below =
 pub index_kept : (spans : List (Option Contents)) (sets : List (List Bool)) (f : ℕ)
     (new : Option Contents) (before after : Option ℕ) → IsIndex spans sets → f < length spans
     → before ≡ open_kind (span_in spans f) → after ≡ open_kind new
-    → ((a : ℕ) → before ≡ Some a → a < 24) → ((a : ℕ) → after ≡ Some a → a < 24)
+    → ((a : ℕ) → before ≡ Some a → a < kinds) → ((a : ℕ) → after ≡ Some a → a < kinds)
     → IsIndex (set spans f new) (retold sets f before after)
 index_kept spans sets f new before after index within was is low_before low_after =
     let n = length spans in
@@ -100,7 +100,7 @@ index_kept spans sets f new before after index within was is low_before low_afte
       ];
     }
   where
-    flag : (k : ℕ) → k < 24 → contains (frames_of (retold sets f before after) k) f
+    flag : (k : ℕ) → k < kinds → contains (frames_of (retold sets f before after) k) f
         ≡ is_kind after k
     flag k low =
         let mid = with_flag sets f before false in
@@ -114,7 +114,7 @@ index_kept spans sets f new before after index within was is low_before low_afte
               ∙ clear k low one ∙ sym no'
         ]
       where
-        clear : (k : ℕ) → k < 24
+        clear : (k : ℕ) → k < kinds
             → Flags sets (with_flag sets f before false) (length spans) f before false
             → contains (frames_of (with_flag sets f before false) k) f ≡ false
         clear k low one = elim (cases_Bool (is_kind before k)) [
@@ -127,9 +127,9 @@ abbrev no_contents : Option Contents
 no_contents = None
 
 -- without spans no set has a frame
-pub index_new : (count : ℕ) → IsIndex (replicate count None) (replicate 24 (no_frames count))
+pub index_new : (count : ℕ) → IsIndex (replicate count None) (replicate kinds (no_frames count))
 index_new count = record {
-  count = length-replicate 24 (no_frames count);
+  count = length-replicate kinds (no_frames count);
   sized = λ k low. ap length (of_kind k low) ∙ length-replicate count false
       ∙ sym (length-replicate count no_contents);
   exact = λ k f low. ap (λ (l : List Bool). contains l f) (of_kind k low)
@@ -137,8 +137,8 @@ index_new count = record {
       ∙ ap (λ (o : Option Contents). is_kind (open_kind o) k) (sym (no_span f));
 }
   where
-    of_kind : (k : ℕ) → k < 24 → frames_of (replicate 24 (no_frames count)) k ≡ no_frames count
-    of_kind k low = get_or-replicate 24 k (no_frames count) [] low
+    of_kind : (k : ℕ) → k < kinds → frames_of (replicate kinds (no_frames count)) k ≡ no_frames count
+    of_kind k low = get_or-replicate kinds k (no_frames count) [] low
 
     no_span : (f : ℕ) → span_in (replicate count None) f ≡ None
     no_span f = elim (cases_lt f count) [
@@ -148,19 +148,19 @@ index_new count = record {
     ]
 
 pub index_begun : (spans : List (Option Contents)) (sets : List (List Bool)) (count : ℕ)
-    → spans ≡ replicate count None → sets ≡ replicate 24 (no_frames count) → IsIndex spans sets
+    → spans ≡ replicate count None → sets ≡ replicate kinds (no_frames count) → IsIndex spans sets
 index_begun spans sets count e q =
     subst (λ (l : List (Option Contents)). IsIndex l sets) (sym e)
     (subst (λ (l : List (List Bool)). IsIndex (replicate count None) l) (sym q) (index_new count))
 
-below_some : (o : Option ℕ) → IfSome o (λ k. k < 24) → (a : ℕ) → o ≡ Some a → a < 24
+below_some : (o : Option ℕ) → IfSome o (λ k. k < kinds) → (a : ℕ) → o ≡ Some a → a < kinds
 below_some None low a e = absurd (cc)
-below_some (Some k) low a e = subst (λ (i : ℕ). i < 24) (some_same k a e) low
+below_some (Some k) low a e = subst (λ (i : ℕ). i < kinds) (some_same k a e) low
 
 pub index_told : (spans : List (Option Contents)) (sets told : List (List Bool)) (f : ℕ)
     (new : Option Contents) (before after : Option ℕ) → IsIndex spans sets → f < length spans
     → before ≡ open_kind (span_in spans f) → after ≡ open_kind new
-    → IfSome before (λ k. k < 24) → IfSome after (λ k. k < 24)
+    → IfSome before (λ k. k < kinds) → IfSome after (λ k. k < kinds)
     → told ≡ retold sets f before after → IsIndex (set spans f new) told
 index_told spans sets told f new before after index within was is low_before low_after e =
     subst (λ (l : List (List Bool)). IsIndex (set spans f new) l) (sym e)
@@ -176,7 +176,7 @@ pub index_written : (spans : List (Option Contents)) (sets told : List (List Boo
     (new x y : Option Contents) (before after : Option ℕ) → IsIndex spans sets → f < length spans
     → get_or spans f x ≡ x → get_or (set spans f new) f y ≡ y
     → before ≡ open_kind x → after ≡ open_kind y
-    → IfSome before (λ k. k < 24) → IfSome after (λ k. k < 24)
+    → IfSome before (λ k. k < kinds) → IfSome after (λ k. k < kinds)
     → told ≡ retold sets f before after → IsIndex (set spans f new) told
 index_written spans sets told f new x y before after index within reads ends was is =
     index_told spans sets told f new before after index within
@@ -209,7 +209,7 @@ kind_when_open o span class temp kind e room same_class same_temp is =
 
 -- the set of a kind has the frames of the open spans of a class and temperature
 pub open_in : (spans : List (Option Contents)) (sets : List (List Bool)) (class : Class)
-    (temp : Temp) (kind f : ℕ) → IsIndex spans sets → kind < 24 → kind ≡ kind_of class temp
+    (temp : Temp) (kind f : ℕ) → IsIndex spans sets → kind < kinds → kind ≡ kind_of class temp
     → contains (frames_of sets kind) f ≡ true → IsOpenSpan spans class temp f
 open_in spans sets class temp kind f index low is e =
     told_kind (open_kind (span_in spans f)) (sym (index.exact kind f low) ∙ e) ∙ ap Some is
@@ -219,7 +219,7 @@ open_in spans sets class temp kind f index low is e =
     told_kind (Some a) e = ap Some (same_kind a kind e)
 
 pub open_out : (spans : List (Option Contents)) (sets : List (List Bool)) (class : Class)
-    (temp : Temp) (kind f : ℕ) → IsIndex spans sets → kind < 24 → kind ≡ kind_of class temp
+    (temp : Temp) (kind f : ℕ) → IsIndex spans sets → kind < kinds → kind ≡ kind_of class temp
     → contains (frames_of sets kind) f ≡ false → ¬ (IsOpenSpan spans class temp f)
 open_out spans sets class temp kind f index low is e open' =
     let t : is_kind (open_kind (span_in spans f)) kind ≡ true =
@@ -228,7 +228,7 @@ open_out spans sets class temp kind f index low is e open' =
 
 -- what a look from a start on finds
 pub looks_on : (spans : List (Option Contents)) (sets : List (List Bool)) (class : Class)
-    (temp : Temp) (except : List ℕ) (kind start f : ℕ) → IsIndex spans sets → kind < 24
+    (temp : Temp) (except : List ℕ) (kind start f : ℕ) → IsIndex spans sets → kind < kinds
     → kind ≡ kind_of class temp → ((g : ℕ) → g < start → ¬ (MayTake spans class temp except g))
     → least_from (frames_of sets kind) start ≡ Some f
     → IsOpenSpan spans class temp f × ((g : ℕ) → g < f → ¬ (MayTake spans class temp except g))
@@ -242,7 +242,7 @@ looks_on spans sets class temp except kind start f index low is before e =
     )
 
 pub looks_on_past : (spans : List (Option Contents)) (sets : List (List Bool)) (class : Class)
-    (temp : Temp) (except : List ℕ) (kind start f : ℕ) → IsIndex spans sets → kind < 24
+    (temp : Temp) (except : List ℕ) (kind start f : ℕ) → IsIndex spans sets → kind < kinds
     → kind ≡ kind_of class temp → ((g : ℕ) → g < start → ¬ (MayTake spans class temp except g))
     → least_from (frames_of sets kind) start ≡ Some f → Contains except f
     → (g : ℕ) → g < f + 1 → ¬ (MayTake spans class temp except g)
@@ -254,7 +254,7 @@ looks_on_past spans sets class temp except kind start f index low is before e am
     ]
 
 pub looks_no_more : (spans : List (Option Contents)) (sets : List (List Bool)) (class : Class)
-    (temp : Temp) (except : List ℕ) (kind start : ℕ) → IsIndex spans sets → kind < 24
+    (temp : Temp) (except : List ℕ) (kind start : ℕ) → IsIndex spans sets → kind < kinds
     → kind ≡ kind_of class temp → ((g : ℕ) → g < start → ¬ (MayTake spans class temp except g))
     → least_from (frames_of sets kind) start ≡ None
     → (g : ℕ) → ¬ (MayTake spans class temp except g)

@@ -1,11 +1,11 @@
 -- Worked examples of the local part of the sound world: a world that meets it, and for each fact
 -- one that breaks it.
-use Rattle.std.proofs.Common.{◌≡◌, ◌↔◌, ℕ, zero, suc, ◌+◌, ◌<◌, ◌≤◌, Bool, true, false, List, [], ◌∷◌, Option, None, Some, Contains, replicate, get_or, refl, ap, subst, sym, ◌∙◌, lit<, lit≤, arith}
+use Rattle.std.proofs.Common.{◌≡◌, ◌↔◌, ℕ, zero, suc, ◌+◌, ◌-◌, ◌<◌, ◌≤◌, Bool, true, false, List, [], ◌∷◌, Option, None, Some, Contains, replicate, length, get_or, refl, ap, subst, sym, ◌∙◌, lit<, lit≤, arith}
 use Rattle.std.proofs.lemmas.Bool.{agree_below_at, ltb-true}
 use Rattle.std.proofs.Math.Dec.{ltb}
 use Rattle.std.specs.FinMap as map
 use Rattle.cb_class.specs.declared.class.Class.{Class}
-use Rattle.cb_class.specs.Class.{IsClassOf, bytes_of, pages_of, slots_of, words_of}
+use Rattle.cb_class.specs.Class.{IsClassOf, bytes_of, pages_of, sizes, slots_of, words_of}
 use Rattle.cb_frame.specs.FreeFrames.{IsFreeFrame}
 use Rattle.cb_member.specs.Membership.{fresh_members}
 use Rattle.cb_node.specs.NodesState.{empty_nodes}
@@ -80,7 +80,7 @@ unfolding words_of bytes_of
 second_slot = refl
 
 -- an object of the most bytes that one may have fills a slot of the last class
-most_fills : most_bytes ≡ bytes_of largest
+most_fills : most_bytes ≡ bytes_of (record { index = length sizes - 1 })
 unfolding bytes_of
 most_fills = refl
 

@@ -2,6 +2,7 @@
 use Rattle.std.specs.Prelude.{◌≡◌, ℕ, ◌+◌, ◌*◌, ◌<◌, Bool, true, false, nat_eq, List, [], Option, None, Some, length, slice_index_or, slice_set}
 use Rattle.std.specs.List.{Contains}
 use Rattle.cb_class.specs.declared.class.Class.{Class}
+use Rattle.cb_class.specs.Class.{sizes}
 use Rattle.cb_frame.specs.FrameSet.{contains}
 use Rattle.cb_span.specs.declared.temp.Temp.{Temp}
 use Rattle.cb_span.specs.declared.temp.Temp.TheVariants.{Hot, Cold}
@@ -12,7 +13,11 @@ abbrev pub temp_index : Temp → ℕ
 temp_index Hot = 0
 temp_index Cold = 1
 
--- the number of a class and a temperature, below 24
+-- how many classes there are, each hot and cold
+abbrev pub kinds : ℕ
+kinds = 2 * length sizes
+
+-- the number of a class and a temperature, below `kinds`
 abbrev pub kind_of : Class → Temp → ℕ
 kind_of class temp = 2 * class.index + temp_index temp
 
@@ -52,7 +57,7 @@ is_kind (Some a) k = nat_eq a k
 
 -- each set has the frames of the open spans of its kind
 pub record IsIndex (spans : List (Option Contents)) (sets : List (List Bool)) : Type 0 where
-  pub count : length sets ≡ 24
-  pub sized : (k : ℕ) → k < 24 → length (frames_of sets k) ≡ length spans
-  pub exact : (k f : ℕ) → k < 24
+  pub count : length sets ≡ kinds
+  pub sized : (k : ℕ) → k < kinds → length (frames_of sets k) ≡ length spans
+  pub exact : (k f : ℕ) → k < kinds
       → contains (frames_of sets k) f ≡ is_kind (open_kind (span_in spans f)) k

@@ -1,14 +1,15 @@
 ghost use Rattle.std.specs.Prelude.{◌≡◌, ℕ, ◌<◌, List, length, replicate, IfOk, IfSome, Some};
 ghost use Rattle.cb_frame.specs.FrameSet.{least_from, no_frames};
-ghost use Rattle.cb_world.specs.OpenSpans.{frames_of, retold};
+ghost use Rattle.cb_world.specs.OpenSpans.{frames_of, kinds, retold};
 
+use cb_class::CLASSES;
 use cb_frame::FrameSet;
 use cb_member::NoMemory;
 use std::alloc::Global;
 use std::marker::Model;
 
 /// How many classes there are, each hot and cold.
-pub const KINDS: u32 = 24;
+pub const KINDS: u32 = 2 * CLASSES as u32;
 
 /// A set of frames for each class and temperature.
 #[derive(Drop)]
@@ -27,7 +28,7 @@ impl Model for OpenFrames {
 impl OpenFrames {
     /// The sets of none of so many frames.
     pub fn new(alloc: Global, count: u32) -> Result<OpenFrames, NoMemory>
-        ensures { IfOk result (λ sets. sets ≡ replicate KINDS (no_frames count)) }
+        ensures { IfOk result (λ sets. sets ≡ replicate kinds (no_frames count)) }
     {
         let mut sets = Vec::with_capacity(alloc, KINDS as usize)?;
         for _ in 0..KINDS {

@@ -16,11 +16,11 @@ returns c =
     IsPartitionPoint-from_clause
     (λ (n : ℕ). ltb n len) sizes index c.partition_point-index.ensures.partitioned
     (IsPartitionedBy-ltb (λ (n : ℕ). n) sizes len sizes_ascend) (λ a r q k. search rules) in
-    let in_table : index < 12 =
-    elim (cases_lt index 12) [
+    let in_table : index < 16 =
+    elim (cases_lt index 16) [
       | inl below ↦ below
       | inr past ↦ let last : largest < len =
-          ltb-true largest len (point.0 11 0 (omega arith) (omega arith)) in absurd (omega arith)
+          ltb-true largest len (point.0 15 0 (omega arith) (omega arith)) in absurd (omega arith)
     ] in
     record {
       in_table = in_table;

@@ -1,6 +1,6 @@
-use Rattle.std.proofs.Common.{◌≡◌, ◌*◌, ◌/◌, ◌<◌, ◌≤◌, ap, arith, ◌∙◌, rules}
-use Rattle.cb_class.specs.Class.{bytes_of, pages_of, slots_of}
-use Rattle.cb_class.proofs.Laws.{pages_few, slots_at_least, slots_at_most, slots_fit}
+use Rattle.std.proofs.Common.{◌≡◌, ◌*◌, ◌/◌, ap, ◌∙◌}
+use Rattle.cb_class.specs.Class.{pages_of, slots_of}
+use Rattle.cb_class.proofs.Laws.{slots_at_least, slots_at_most, slots_fit}
 use Rattle.cb_class.proofs.class.slots.Goals as goal
 
 pub returns : goal.returns
