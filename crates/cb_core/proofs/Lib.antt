@@ -49,6 +49,7 @@ pub mod WorkedPins
 mod WorkedClaims
 pub mod WorkedMembership
 pub mod WorkedRoom
+mod WorkedSpans
 pub mod WorkedTurns
 pub mod WorkedHolding
 pub mod WorkedStill
