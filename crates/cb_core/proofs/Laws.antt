@@ -1,6 +1,6 @@
 -- The lemmas of this crate that other crates cite.
 pub use Rattle.cb_core.proofs.Admitted.{compact_made, compact_sound, compacted_sound}
-pub use Rattle.cb_core.proofs.Calm.{IsEased, KeepsEasy, MakesEasy, pin_calm, turn_calm}
+pub use Rattle.cb_core.proofs.Calm.{IsEased, KeepsEasy, MakesEasy, MakesWithin, pin_calm, turn_calm}
 pub use Rattle.cb_core.proofs.Changes.{read_leaves}
 pub use Rattle.cb_core.proofs.CrashesKept.{NamesAmong, none_crashed, turn_crashed, turn_idle}
 pub use Rattle.cb_core.proofs.Epochs.{lead_rises, pin_far, step_rises, unpin_far}
