@@ -395,16 +395,20 @@ still_alone Rebuild a b r x = far_narrow Rebuild a.far b.far r x.1
 still_alone (Join node) a b r x = far_narrow (Join node) a.far b.far r x.1
 still_alone job a b r x = absurd x.1
 
-pub turn_narrow : (w new : WorldState) (job : Job) (r : Reply) → IsSoundWorld w
-    → (IsLongMade job r → ⊥) → TurnStep job w r new → IsNarrow w.far → IsNarrow new.far
-turn_narrow w new job r sound short (worn end e same) =
-    narrow_configured w.desk.settings w.far new.far sound.configured
-    (narrow_same w.far new.far (ap (λ (v : WorldState). v.far) same))
-turn_narrow w new job r sound short (done few works seats) =
+pub turn_keeps_narrow : (w new : WorldState) (job : Job) (r : Reply) → (IsLongMade job r → ⊥)
+    → TurnStep job w r new → KeepsNarrow w.far new.far
+turn_keeps_narrow w new job r short (worn end e same) =
+    narrow_same w.far new.far (ap (λ (v : WorldState). v.far) same)
+turn_keeps_narrow w new job r short (done few works seats) =
     let a : Holding Words = record { desk = w.desk; far = counted w.far job } in
     let b : Holding Words = record { desk = new.desk; far = new.far } in
+    narrow_then w.far (counted w.far job) new.far (counted_narrow w.far job)
+    (does itself Anywhere KeepAs along still still still_along (λ j d e Z. KeepsNarrow d.far e.far) _ _ job
+    (λ two d e Z z. z.0) still_reads (λ d e q good y. still_alone job d e q y) a b r tt
+    (mild_does still_parts _ job a b r short works))
+
+pub turn_narrow : (w new : WorldState) (job : Job) (r : Reply) → IsSoundWorld w
+    → (IsLongMade job r → ⊥) → TurnStep job w r new → IsNarrow w.far → IsNarrow new.far
+turn_narrow w new job r sound short step =
     narrow_configured w.desk.settings w.far new.far sound.configured
-    (narrow_then w.far (counted w.far job) new.far (counted_narrow w.far job)
-    (does itself Anywhere KeepAs along still still still_along (λ j d e Z. KeepsNarrow d.far e.far)
-    _ _ job (λ two d e Z z. z.0) still_reads (λ d e q good y. still_alone job d e q y) a b r tt
-    (mild_does still_parts _ job a b r short works)))
+    (turn_keeps_narrow w new job r short step)
