@@ -33,7 +33,7 @@ class Drawn:
         return self.names[-1]
 
     def is_long_now(self, share):
-        """Whether a long object is drawn, in such a share of the cases; never in a script without, or where it would be too long."""
+        """Whether a long object is drawn, in such a share of the cases; never where the script would be too long."""
         return self.is_long and self.bytes < MOST_DRAWN and self.draw.random() < share
 
     def length(self):

@@ -102,4 +102,7 @@ pub mod WorkedReadTurns
 pub mod WorkedLegal
 pub mod Admitted
 pub mod WorkedAdmitting
+mod Narrow
+mod NarrowSteps
+mod NarrowTurns
 pub mod Laws
