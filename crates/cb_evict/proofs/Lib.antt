@@ -18,6 +18,7 @@ pub mod Trying
 mod Sends
 mod Loads
 pub mod Standing
+mod GreatestLength
 mod Owned
 mod NewSet
 pub mod Gone
