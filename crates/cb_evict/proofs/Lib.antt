@@ -73,6 +73,7 @@ pub mod CommitFixed
 pub mod AbortFixed
 mod WorkedBegin
 mod WorkedTaking
+mod WorkedThreeLengths
 mod WorkedRules
 pub mod WorkedWide
 pub mod PutShards
