@@ -74,6 +74,7 @@ pub mod AbortFixed
 mod WorkedBegin
 mod WorkedTaking
 mod WorkedThreeLengths
+mod WorkedRaces
 mod WorkedRules
 pub mod WorkedWide
 pub mod PutShards
