@@ -12,6 +12,7 @@ use Rattle.cb_rule.specs.declared.turn.Turn.{Turn}
 use Rattle.cb_rule.specs.declared.view.View.{View}
 use Rattle.cb_rule.specs.Lists.{Each, Has, total}
 use Rattle.cb_rule.specs.OneHistory.{IsOneHistory}
+use Rattle.cb_rule.specs.TriesAgain.{tries_again}
 use Rattle.cb_shared.specs.Calls.{IsAnswerTo}
 use Rattle.cb_shared.specs.Turning.{Did, made_by_turn}
 use Rattle.cb_map_text.specs.Plain.{Plain, after_said, calls_something, needs_object, objects, plain_said}
@@ -79,7 +80,7 @@ pub record IsToldByTurn (c : Config) (s : Plain) (a : FarCommand) (r : Reply) (w
   pub newest : more ≡ turn ∷ before
   pub reply_is : turn.reply ≡ Some r
   pub job_is : (IsMake turn.job × (needs_object s a ≡ true)) ⊎ IsOnObject w turn.job
-  pub answers : IsAnswerTo c turn.job r
+  pub answers : IsAnswerTo (tries_again turn) turn.job r
   pub lacks : IsOutOfPlace turn.job r → ⊥
 
 -- what is said to a command that finds the list and the map so
