@@ -4,6 +4,7 @@ ghost use Rattle.std.specs.Prelude.{◌≡◌, ◌<◌, ◌^◌, ℕ, ltb, lengt
 ghost use Rattle.std.specs.List.{list_any};
 ghost use Rattle.cb_class.specs.Class.{IsClass};
 ghost use Rattle.cb_span.specs.Contents.{Contents};
+ghost use Rattle.cb_types.specs.Config.{IsAccepted};
 ghost use Rattle.cb_core.specs.Jobs.{IsJob};
 ghost use Rattle.cb_rule.specs.Locking.{Stood};
 ghost use Rattle.cb_rule.specs.TriesAgain.{home_pages, is_to_try_again, is_wide, job_pages};
@@ -35,6 +36,7 @@ pub(crate) fn is_to_try_again(
     job: &Job,
     reply: &Result<Reply, NoMemory>,
 ) -> bool
+    requires config { IsAccepted config.now }
     requires stood { (known : Shown) × Stood config.now known far.now }
     requires job { IsJob config.now job.now }
     ensures { result ≡ is_to_try_again far.now job.now (answer_of reply.now) }
@@ -48,6 +50,7 @@ pub(crate) fn is_to_try_again(
 /// Whether so few loose spans are a reason to try again: too few for an eviction, but with so many
 /// frames more may come loose. The spans are looked at where the count of frames leaves it open.
 fn may_come_loose(config: &Config, far: &Far, job: &Job, frames: u32, loose: u32) -> bool
+    requires config { IsAccepted config.now }
     requires stood { (known : Shown) × Stood config.now known far.now }
     requires job { IsJob config.now job.now }
     ensures { result ≡ may_come_loose far.now job.now frames loose }
@@ -61,6 +64,7 @@ fn may_come_loose(config: &Config, far: &Far, job: &Job, frames: u32, loose: u32
 
 /// Whether the span for which the job needs frames, or one in local memory, has more than one page.
 fn is_wide(config: &Config, far: &Far, job: &Job) -> bool
+    requires config { IsAccepted config.now }
     requires stood { (known : Shown) × Stood config.now known far.now }
     requires job { IsJob config.now job.now }
     ensures { result ≡ is_wide far.now job.now }
