@@ -3,6 +3,10 @@ import random
 
 # The least length of each of eight classes: objects of different classes stand in different spans.
 LENGTHS = (1, 17, 33, 49, 65, 97, 129, 193)
+# Lengths of objects whose spans have 2 and 4 pages, of two classes each, at the ends of the classes and within them.
+LONG = {2: ((1025, 1500, 1536), (1537, 2000, 2048)), 4: ((2049, 3000, 3072), (3073, 4000, 4096))}
+# So many bytes of objects fit a script of 1,048,576 bytes beside its lines.
+MOST_DRAWN = 460000
 
 
 class Drawn:
@@ -12,9 +16,9 @@ class Drawn:
                "begin": 2, "ship": 8, "commit": 3, "abort": 1, "pair": 3, "patch": 6, "merge": 3, "part": 1, "compact": 4, "rebuild": 4,
                "crash": 0.3, "join": 1}
 
-    def __init__(self, k, nodes, seed):
-        self.k, self.nodes, self.draw = k, nodes, random.Random(seed)
-        self.text, self.names = [], []
+    def __init__(self, k, nodes, seed, is_long=False):
+        self.k, self.nodes, self.draw, self.is_long = k, nodes, random.Random(seed), is_long
+        self.text, self.names, self.lengths, self.bytes = [], [], {}, 0
 
     def say(self, lane, line):
         self.text.append(f"{lane} {line}")
@@ -24,27 +28,65 @@ class Drawn:
     def make(self, length):
         name, lane = f"o{len(self.names)}", self.draw.randint(1, 3)
         self.names.append((name, lane))
+        self.lengths[name], self.bytes = length, self.bytes + length
         self.text.append(f"{lane} make {name} {self.draw.randbytes(length).hex()}")
         return self.names[-1]
+
+    def is_long_now(self, share):
+        """Whether a long object is drawn, in such a share of the cases; never where the script would be too long."""
+        return self.is_long and self.bytes < MOST_DRAWN and self.draw.random() < share
+
+    def length(self):
+        if self.is_long_now(0.4):
+            return self.draw.choice(self.draw.choice(LONG[self.draw.choice((2, 4))]))
+        return self.draw.choice(LENGTHS) + self.draw.randint(0, 15)
+
+    def place(self, name):
+        """Where a write of a few bytes begins: near the front, and in a long object anywhere, past its end too."""
+        if self.is_long and self.lengths[name] > 1024:
+            return self.draw.randint(0, min(4096, self.lengths[name] + 1))
+        return self.draw.randint(0, 8)
 
     def one_line(self):
         verb = self.draw.choices(list(self.WEIGHTS), list(self.WEIGHTS.values()))[0]
         if verb == "make" or not self.names:
-            self.make(self.draw.choice(LENGTHS) + self.draw.randint(0, 15))
+            self.make(self.length())
         elif verb in ("read", "write", "free", "pin", "unpin", "peek", "filter"):
             name, lane = self.draw.choice(self.names[-6 * self.k:])
-            at = f" {self.draw.randint(0, 8)} {self.draw.randbytes(self.draw.randint(1, 8)).hex()}" if verb == "write" else ""
+            at = f" {self.place(name)} {self.draw.randbytes(self.draw.randint(1, 8)).hex()}" if verb == "write" else ""
             self.text.append(f"{lane} {verb} {name}{at}")
         else:
             node = f" {self.draw.randrange(self.nodes)}" if verb in ("crash", "join") else ""
             self.text.append(f"{self.draw.randint(1, 3)} {verb}{node}")
 
+    def long_spans(self):
+        """So many objects of one length of spans that k spans stand there, as a rule: of two classes, cold ones and hot ones,
+        and behind these as many as fill a span."""
+        classes, made = LONG[self.draw.choice((2, 4))], []
+        for at in range(self.k):
+            lengths = classes[at % 2]
+            for _ in range(1 if at < 4 else 4096 * (2 if lengths[0] < 2049 else 4) // lengths[-1]):
+                if self.bytes >= MOST_DRAWN:
+                    return made
+                made.append(self.make(self.draw.choice(lengths)))
+                if at < 2:
+                    self.say(made[-1][1], f"filter {made[-1][0]}")
+        return made
+
     def one_set(self):
+        if self.is_long_now(0.5):
+            made = self.long_spans()
+            self.say(1, "evict")
+            self.free_most(made)
+            return
         made = [self.make(LENGTHS[at % len(LENGTHS)]) for at in range(self.k)]
         for name, lane in made[:max(0, self.k - len(LENGTHS))]:
             self.say(lane, f"filter {name}")
         self.say(1, "evict")
-        live = self.draw.sample(made, self.draw.randint(1, max(1, self.k // 3)))
+        self.free_most(made)
+
+    def free_most(self, made):
+        live = self.draw.sample(made, min(len(made), self.draw.randint(1, max(1, self.k // 3))))
         for name, lane in made:
             if (name, lane) not in live:
                 self.say(lane, f"free {name}")

@@ -11,27 +11,34 @@ import sys
 
 import usage
 
-SIZES = [16, 32, 48, 64, 96, 128, 192, 256, 384, 512, 768, 1024]
+PAGE = 4096
+# The bytes of a slot of each class, with the pages of a span of it.
+PAGES = {**dict.fromkeys((16, 32, 48, 64, 96, 128, 192, 256, 384, 512, 768, 1024), 1), 1536: 2, 2048: 2, 3072: 4, 4096: 4}
+SIZES = list(PAGES)
+LENGTHS = sorted(set(PAGES.values()), reverse=True)  # the lengths of spans in pages, the greatest first
 
 
-def slots_of(size):
-    return 4096 // size
+def size_for(length):
+    """The least class that holds an object of this length."""
+    return next(size for size in SIZES if length <= size)
 
 
 class Span:
+    """A span stands at the first frame of a run of adjacent ones, as many as its class has pages."""
     def __init__(self, size, temp):
-        self.size, self.temp = size, temp
-        self.slots = [None] * slots_of(size)
+        self.size, self.temp, self.pages = size, temp, PAGES[size]
+        self.slots = [None] * (PAGE * self.pages // size)
 
 
 class Set:
     def __init__(self, number, shards, spans):
         self.number, self.shards = number, shards  # shards: (node, incarnation)
+        self.pages = spans[0].pages if spans else 0  # one length for all spans of a set
         self.slots = {p: (s.size, list(s.slots)) for p, s in enumerate(spans)}  # live positions
 
 
 class Batch:
-    """A batch that is leaving: its spans stand in their frames, and its objects are moving."""
+    """A batch that is leaving: its spans stand in their frames (the first of each run), and its objects are moving."""
     def __init__(self, number, frames, positions):
         self.number, self.frames = number, frames
         self.shards = [None] * positions  # as a set's, None where a position was not put yet
@@ -61,7 +68,8 @@ class World:
         self.local = local  # whether a compact line is done by the compute side
         self.k, self.r, self.n = k, r, k + r
         self.frames, self.room, self.handles = frames, room, handles
-        self.spans = [None] * frames
+        self.spans = [None] * frames  # each span at the first frame of its run
+        self.free_frames = [True] * frames
         self.sets, self.drawn = {}, 0
         self.leaving = None
         self.joining = None
@@ -108,24 +116,41 @@ class World:
     def stays(self, frame):
         return self.leaving is None or frame not in self.leaving.frames
 
+    def free_run(self, pages):
+        """The first frame of the least run of so many adjacent free frames; None where there is none."""
+        runs = (f for f in range(self.frames - pages + 1) if all(self.free_frames[f:f + pages]))
+        return next(runs, None)
+
+    def open_span(self, frame, span):
+        """The span stands at this frame and takes the frames of its run."""
+        self.spans[frame] = span
+        self.free_frames[frame:frame + span.pages] = [False] * span.pages
+
+    def close_span(self, frame):
+        """The span of this frame is gone, and the frames of its run are free."""
+        pages = self.spans[frame].pages
+        self.spans[frame] = None
+        self.free_frames[frame:frame + pages] = [True] * pages
+
     def place(self, handle, length, temp):
-        size = next(s for s in SIZES if length <= s)
+        size = size_for(length)
         for frame, span in enumerate(self.spans):
             if span and self.stays(frame) and span.size == size and span.temp == temp and None in span.slots:
                 slot = span.slots.index(None)
                 span.slots[slot] = handle
                 return frame, slot
-        for frame, span in enumerate(self.spans):
-            if span is None:
-                self.spans[frame] = Span(size, temp)
-                self.spans[frame].slots[0] = handle
-                return frame, 0
-        return None
+        frame = self.free_run(PAGES[size])
+        if frame is None:
+            return None
+        span = Span(size, temp)
+        span.slots[0] = handle
+        self.open_span(frame, span)
+        return frame, 0
 
     def take_out(self, frame, slot):
         self.spans[frame].slots[slot] = None
         if all(s is None for s in self.spans[frame].slots):
-            self.spans[frame] = None
+            self.close_span(frame)
 
     # ---- evictions and swap-ins
     def loose(self):
@@ -135,10 +160,23 @@ class World:
                     and all(h is None or self.objects[h].pins == 0 for h in span.slots))
         return [f for temp in ("cold", "hot") for f in range(self.frames) if ok(f, temp)]
 
+    def loose_by_length(self):
+        """The loose spans of each length, the greatest first, each list in the order in which they leave."""
+        loose = self.loose()
+        return [[f for f in loose if self.spans[f].pages == pages] for pages in LENGTHS]
+
+    def most_loose(self):
+        """The greatest number of loose spans of one length."""
+        return max(map(len, self.loose_by_length()))
+
+    def first_to_leave(self):
+        """The k spans that leave now: of the greatest length that has k loose ones. None where no length has."""
+        return next((frames[:self.k] for frames in self.loose_by_length() if len(frames) >= self.k), None)
+
     def cannot_leave(self):
         """Why no batch can leave now; None where one can."""
-        if len(self.loose()) < self.k:
-            return "nospans %d" % len(self.loose())
+        if self.first_to_leave() is None:
+            return "nospans %d" % self.most_loose()
         if self.nodes_with_room() < self.n:
             return "nonodes %d" % self.nodes_with_room()
         return None
@@ -155,14 +193,14 @@ class World:
                 if handle is not None:
                     o = self.objects[handle]
                     o.state, o.hot, o.home = "far", False, (number, position)
-            self.spans[frame] = None
+            self.close_span(frame)
         return "set %d" % number
 
     def evict(self):
         refusal = self.cannot_leave()
         if refusal:
             return refusal
-        frames, shards = self.loose()[:self.k], []
+        frames, shards = self.first_to_leave(), []
         for _ in range(self.n):
             shards.append(self.put(shards))
         return self.commit_set(self.draw(), frames, shards)
@@ -184,7 +222,7 @@ class World:
         refusal = self.cannot_leave()
         if refusal:
             return refusal
-        self.leaving = Batch(self.draw(), self.loose()[:self.k], self.n)
+        self.leaving = Batch(self.draw(), self.first_to_leave(), self.n)
         self.set_states(self.leaving.frames, "moving")
         return "batch %d" % self.leaving.number
 
@@ -233,13 +271,13 @@ class World:
         one = self.sets[number]
         if self.is_broken(one):
             return self.unavailable(one)
-        if None not in self.spans:
+        while self.free_run(one.pages) is None:
             if not self.evict().startswith("set"):
                 return self.no_room()
-        frame = self.spans.index(None)
+        frame = self.free_run(one.pages)
         size, slots = one.slots.pop(position)
         self.given += self.k if self.is_lost(one.shards[position]) else 1
-        self.spans[frame] = Span(size, "hot")
+        self.open_span(frame, Span(size, "hot"))
         self.spans[frame].slots = list(slots)
         for slot, h in enumerate(slots):
             if h is not None:
@@ -250,7 +288,8 @@ class World:
         return None
 
     def no_room(self):
-        return "noroom frames %d loose %d nodes %d" % (self.frames, len(self.loose()), self.nodes_with_room())
+        """Told behind the evictions that the line made, which stay."""
+        return "noroom frames %d loose %d nodes %d" % (self.frames, self.most_loose(), self.nodes_with_room())
 
     # ---- calls
     def make(self, data):
@@ -258,7 +297,7 @@ class World:
             return None, "full %d" % self.handles
         handle = len(self.objects)
         at = self.place(handle, len(data), "hot")
-        if at is None:
+        while at is None:
             if not self.evict().startswith("set"):
                 return None, self.no_room()
             at = self.place(handle, len(data), "hot")
@@ -340,11 +379,11 @@ class World:
     # ---- two sets become one
     def first_pair(self):
         """The least set that matches one of a greater number, and the least such other one; None where no two match:
-        both have all their shards, and no position is live in both."""
+        both have all their shards and the same length, and no position is live in both."""
         whole = [self.sets[number] for number in sorted(self.sets) if not self.lost(self.sets[number])]
         for at, a in enumerate(whole):
             for b in whole[at + 1:]:
-                if not a.slots.keys() & b.slots.keys():
+                if a.pages == b.pages and not a.slots.keys() & b.slots.keys():
                     return a, b
         return None
 
@@ -401,7 +440,7 @@ class World:
         self.drop_rows(a.shards[p] for p in pair.steps)
         self.drop_rows(b.shards)
         merged = Set(self.draw(), a.shards, [])
-        merged.slots = {**a.slots, **b.slots}
+        merged.pages, merged.slots = a.pages, {**a.slots, **b.slots}
         for position, (_, slots) in merged.slots.items():
             for handle in slots:
                 if handle is not None:

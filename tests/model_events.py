@@ -2,7 +2,7 @@
 
 A seat's write that is open is an object that nobody else can touch: its bytes change when the write is settled, and
 not before. Replies are words, as the program of `cb_events` tells them."""
-from model import SIZES, World
+from model import World, size_for
 
 SEATS, MOST_PINS = 64, 16
 STATES = {"unmade": 0, "freed": 0, "far": 1, "here": 2, "moving": 3}
@@ -46,8 +46,7 @@ class Events(World):
         word = STATES[state] + len(o.data) * 2 ** 13
         if state == "far":
             return word
-        size = next(s for s in SIZES if len(o.data) <= s)
-        return word + 4 * o.hot + 8 * o.pins + 2 ** 29 * (512 * o.frame + o.slot * size // 8)
+        return word + 4 * o.hot + 8 * o.pins + 2 ** 29 * (512 * o.frame + o.slot * size_for(len(o.data)) // 8)
 
     def load(self, seat, handle):
         return f"word {self.word(handle)}"

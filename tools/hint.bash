@@ -178,12 +178,12 @@ reason_text() {
         echo "no earlier line of this lane or of lane 0 made this name"
     fi ;;
     9) if [ "$verb" = write ]; then
-        echo "the place is a number up to 1,024"
+        echo "the place is a number up to 4,096"
     else
         echo "the node is a number below the nodes of the header"
     fi ;;
     10) echo "bytes are two lower-case hexadecimal digits each; - stands for none, in a write alone" ;;
-    11) echo "an object has at most 1,024 bytes" ;;
+    11) echo "an object has at most 4,096 bytes" ;;
     12) echo "steps are for scripts whose lanes take turns on one thread" ;;
     *) echo "docs/FORMATS.md has the reasons" ;;
     esac

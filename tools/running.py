@@ -15,7 +15,7 @@ import model  # noqa: E402
 # The most bytes of a script, and the most lines behind its header.
 MOST_BYTES, MOST_LINES = 1048576, 20000
 # The most bytes of an object.
-MOST_LENGTH = 1024
+MOST_LENGTH = 4096
 FIELDS = ("k", "r", "nodes", "frames", "room", "handles", "turns")
 RANGES = {"k": (1, 16), "r": (1, 4), "nodes": (2, 64), "frames": (1, 4096), "room": (1, 4096),
           "handles": (1, 65536), "turns": (0, 2500)}
@@ -236,7 +236,7 @@ def fault_of_words(place, words):
         if verb != "make" and place.makers.get(name) not in (lane, "0"):
             return 8, "no earlier line of this lane or of lane 0 made this name"
     for word, bound, what in (("NODE", place.nodes - 1, "the node is a number below the header's nodes"),
-                              ("AT", MOST_LENGTH, "the place is a number up to 1,024")):
+                              ("AT", MOST_LENGTH, "the place is a number up to 4,096")):
         if word in form:
             number = rest[form.index(word)]
             if not NUMBER.fullmatch(number) or int(number) > bound:
@@ -246,7 +246,7 @@ def fault_of_words(place, words):
             return 10, ("bytes are two lower-case hexadecimal digits each; - stands for none, in a "
                         "write alone")
         if len(rest[-1]) > 2 * MOST_LENGTH:
-            return 11, "an object has at most 1,024 bytes"
+            return 11, "an object has at most 4,096 bytes"
     return None
 
 
@@ -304,27 +304,19 @@ class CountedWorld(model.World):
         self.most_in_use = self.most_far = self.most_held = self.most_of_a_node = self.most_sets = 0
 
     # Frames in use.
-    def place(self, handle, length, temp):
-        at = super().place(handle, length, temp)
-        if at:
-            slots = self.spans[at[0]].slots
-            if slots.count(None) == len(slots) - 1:  # a new span
-                self.note_in_use()
-        return at
-
-    def note_in_use(self):
-        self.in_use += 1
+    def open_span(self, frame, span):
+        super().open_span(frame, span)
+        self.in_use += span.pages
         self.most_in_use = max(self.most_in_use, self.in_use)
 
-    def take_out(self, frame, slot):
-        super().take_out(frame, slot)
-        self.in_use -= self.spans[frame] is None
+    def close_span(self, frame):
+        self.in_use -= self.spans[frame].pages
+        super().close_span(frame)
 
     # Far spans.
     def commit_set(self, number, frames, shards):
         reply = super().commit_set(number, frames, shards)
         self.evicted += 1
-        self.in_use -= len(frames)
         self.far += len(frames)
         self.most_far = max(self.most_far, self.far)
         self.most_sets = max(self.most_sets, len(self.sets))
@@ -335,7 +327,6 @@ class CountedWorld(model.World):
         if refusal is None:
             self.swapped += 1
             self.far -= 1
-            self.note_in_use()
         return refusal
 
     def free(self, handle):

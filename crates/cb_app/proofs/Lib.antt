@@ -28,6 +28,7 @@ mod TurnGoes
 mod TurnStops
 mod TurnKinds
 mod TurnHistory
+mod NarrowTurns
 mod PairsApart
 mod CountedTurns
 mod WorkCounted

@@ -1,11 +1,11 @@
 -- A turn tells of no want of room and of no loss where no set is broken, no object moves, each
 -- version has a next one, and an eviction finds spans and nodes whenever no run of frames is free
--- that a span of some class fits.
+-- that a span of some class fits, of those that sets and the turn's job may ask for.
 use Rattle.std.proofs.Common.{◌≡◌, ℕ, zero, suc, ◌+◌, ◌-◌, ◌^◌, ◌==◌, ◌<◌, ◌≤◌, nat_lt, Bool, true, false, List, length, slice_index, Option, None, Some, if◌then◌else◌, refl, sym, ap, ◌∙◌, subst, arith, inl, inr, ne_eqb}
 use Rattle.std.proofs.lemmas.Bool.{cases_lt, false≢true}
 use Rattle.std.proofs.lemmas.List.{get_or_past}
 use Rattle.cb_class.specs.declared.class.Class.{Class}
-use Rattle.cb_class.specs.Class.{IsClass, pages_of}
+use Rattle.cb_class.specs.Class.{IsClass, IsClassOf, pages_of}
 use Rattle.cb_frame.specs.Runs.{least_run}
 use Rattle.cb_ptr.specs.declared.word.State.{State}
 use Rattle.cb_ptr.specs.declared.word.State.TheVariants as word
@@ -22,6 +22,7 @@ use Rattle.cb_world.specs.Choices.{room_count}
 use Rattle.cb_world.specs.FarState.{FarState}
 use Rattle.cb_world.specs.Now.{is_gone}
 use Rattle.cb_world.specs.Plain.{Words}
+use Rattle.cb_world.specs.Sets.{set_in}
 use Rattle.cb_world.specs.SetWord.{is_broken}
 use Rattle.cb_world.specs.StillWords.{stamp_at}
 use Rattle.cb_world.specs.World.{WorldState, IsKnown, IsSoundWorld, word_at}
@@ -61,30 +62,42 @@ IsEased r = Unit {0}
 calm_as : (r q : Reply) → IsEased q → r ≡ q → IsEased r
 calm_as r q calm e = subst IsEased (sym e) calm
 
--- no object moves, and none is gone; where no run of frames is free that a span of some class
--- fits enough spans of one length are loose, and enough nodes have room; each version has a next one
-pub record MakesEasy (x : Words) (far : FarState) : Type 0 where
+-- No object moves, and none is gone. Sets have no more than so many pages, and where no run of
+-- frames is free that a span of some class of no more pages fits, enough spans of one length are
+-- loose; enough nodes have room, and each version has a next one.
+pub record MakesEasy (most : ℕ) (x : Words) (far : FarState) : Type 0 where
   pub still : (h : ℕ) → h < length x.words → state_of (word_at x h) ≡ word.Moving → ⊥
   pub whole : (h : ℕ) → is_gone far h ≡ false
-  pub spans : (class : Class) → IsClass class → least_run far.frames (pages_of class) ≡ None
+  pub sets : (id : ℕ) (set : SetState) → set_in far.sets id ≡ Some set → set.pages ≤ most
+  pub spans : (class : Class) → IsClass class → pages_of class ≤ most
+      → least_run far.frames (pages_of class) ≡ None
       → far.code.k ≤ most_loose far.spans (loose_frames x far)
   pub nodes : far.code.k + far.code.r ≤ room_count far.nodes far.members
   pub stamps : (h : ℕ) → stamp_at x h < 2 ^ 64 - 1
 
 -- facts of a holding that make it easy, which stay behind each eviction that made a set
-pub record KeepsEasy (E : Holding Words → Type 0) : Type 0 where
-  pub easy : (a : Holding Words) → E a → MakesEasy a.desk a.far
+pub record KeepsEasy (most : ℕ) (E : Holding Words → Type 0) : Type 0 where
+  pub easy : (a : Holding Words) → E a → MakesEasy most a.desk a.far
   pub kept : (a b : Holding Words) (id : SetId) → E a → StillRoom a (Set id) b → E b
 
-abbrev IsEasy : Holding Words → Type 0
-IsEasy a = MakesEasy a.desk a.far
+-- an object that the job makes lies in a span of no more than so many pages
+abbrev pub MakesWithin : ℕ → Job → Type 0
+MakesWithin most (Make bytes) = (class : Class) → IsClassOf (length bytes) class
+    → pages_of class ≤ most
+MakesWithin most job = Unit {0}
 
--- no run of frames is free that a span of some class fits
-abbrev IsShort : FarState → Type 0
-IsShort far = (class : Class) × IsClass class × (least_run far.frames (pages_of class) ≡ None)
+abbrev IsEasy : ℕ → Holding Words → Type 0
+IsEasy most a = MakesEasy most a.desk a.far
+
+-- no run of frames is free that a span of some class of no more than so many pages fits
+record IsShort (most : ℕ) (far : FarState) : Type 0 where
+  class : Class
+  in_table : IsClass class
+  few : pages_of class ≤ most
+  full : least_run far.frames (pages_of class) ≡ None
 
 -- ---- replies by pointer word and version word
-still_at : (x : Words) (far : FarState) → MakesEasy x far → (h : ℕ)
+still_at : {most : ℕ} (x : Words) (far : FarState) → MakesEasy most x far → (h : ℕ)
     → state_of (word_at x h) ≡ word.Moving → ⊥
 still_at x far easy h moving = elim (cases_lt h (length x.words)) [
   | inl inside ↦ easy.still h inside moving
@@ -159,8 +172,8 @@ spans_set loose r id a b = cc
 nodes_set : (nodes : ℕ) (r : Reply) (id : _) → r ≡ answer.NoNodes nodes → r ≡ answer.Set id → ⊥
 nodes_set nodes r id a b = cc
 
-not_refused : (a b : Holding Words) (why : Lack) (loose nodes : ℕ) → IsEasy a
-    → IsShort a.far → StillRoom a (Refused why loose nodes) b → ⊥
+not_refused : {most : ℕ} (a b : Holding Words) (why : Lack) (loose nodes : ℕ) → IsEasy most a
+    → IsShort most a.far → StillRoom a (Refused why loose nodes) b → ⊥
 not_refused a b why loose nodes easy none step = by step.0.step
   where
     no_set : (why : Lack) (id : _) → reply_of (Refused why loose nodes) ≡ answer.Set id → ⊥
@@ -169,7 +182,7 @@ not_refused a b why loose nodes easy none step = by step.0.step
 
     by : IsEvictStep a.desk b.desk a.far b.far (reply_of (Refused why loose nodes)) → ⊥
     by (few_spans few same) =
-        let enough = easy.spans none.0 none.1 none.2 in
+        let enough = easy.spans none.class none.in_table none.few none.full in
         let less = none_fewer a.far.code.k a.far.spans (loose_frames a.desk a.far) few.few in
         omega (arith, enough, less)
     by (few_nodes few same) =
@@ -184,12 +197,17 @@ made_crammed : (r : Reply) (h : _) (version : ℕ) → r ≡ answer.NoFrame
     → r ≡ answer.Made h version → ⊥
 made_crammed r h version a b = cc
 
-make_stops : (bytes : List ℕ) (a m : Holding Words) → StillMake bytes a answer.NoFrame m
-    → (m ≡ a) × IsShort a.far
-make_stops bytes a m (inl (full, reply, words, far)) = absurd (full_crammed _ _ refl reply)
-make_stops bytes a m (inr (more, inl (none, reply, words, far))) =
-    (same_holding a m words far, (none.0, none.1.in_table, none.2.taken))
-make_stops bytes a m (inr (more, inr (reply, new))) = absurd (made_crammed _ _ _ refl reply)
+make_stops : {most : ℕ} (bytes : List ℕ) (a m : Holding Words) → MakesWithin most (Make bytes)
+    → StillMake bytes a answer.NoFrame m → (m ≡ a) × IsShort most a.far
+make_stops bytes a m within (inl (full, reply, words, far)) = absurd (full_crammed _ _ refl reply)
+make_stops bytes a m within (inr (more, inl (none, reply, words, far))) =
+    (same_holding a m words far, record {
+      class = none.0;
+      in_table = none.1.in_table;
+      few = within none.0 none.1;
+      full = none.2.taken;
+    })
+make_stops bytes a m within (inr (more, inr (reply, new))) = absurd (made_crammed _ _ _ refl reply)
 
 make_at : (bytes : List ℕ) (a b : Holding Words) (r : Reply) → (r ≡ answer.NoFrame → ⊥)
     → StillMake bytes a r b → IsEased r
@@ -198,17 +216,19 @@ make_at bytes a b r framed (inr (more, inl (none, reply, words, far))) = absurd 
 make_at bytes a b r framed (inr (more, inr (reply, new))) = calm_as r _ tt reply
 
 -- so is one behind evictions
-make_calm : (E : Holding Words → Type 0) → KeepsEasy E → (bytes : List ℕ) (frames left : ℕ)
-    (a b : Holding Words) (r : Reply) → E a → WithRoom frames (StillMake bytes) StillRoom left a r b
-    → IsEased r
-make_calm E keeps bytes frames left a b r good (at_once o off) = make_at bytes a b r off o
-make_calm E keeps bytes frames left a b r good (no_room m why loose nodes o v is) =
-    let x = make_stops bytes a m o in
+make_calm : {most : ℕ} (E : Holding Words → Type 0) → KeepsEasy most E → (bytes : List ℕ)
+    → MakesWithin most (Make bytes) → (frames left : ℕ) (a b : Holding Words) (r : Reply) → E a
+    → WithRoom frames (StillMake bytes) StillRoom left a r b → IsEased r
+make_calm E keeps bytes within frames left a b r good (at_once o off) = make_at bytes a b r off o
+make_calm {most = most} E keeps bytes within frames left a b r good
+    (no_room m why loose nodes o v is) =
+    let x = make_stops bytes a m within o in
     absurd (not_refused m b why loose nodes (keeps.easy m (subst E (sym x.0) good))
-    (subst (λ (z : Holding Words). IsShort z.far) (sym x.0) x.1) v)
-make_calm E keeps bytes frames (suc fewer) a b r good (won m n id o v again) =
-    let x = make_stops bytes a m o in
-    make_calm E keeps bytes frames fewer n b r (keeps.kept m n id (subst E (sym x.0) good) v) again
+    (subst (λ (z : Holding Words). IsShort most z.far) (sym x.0) x.1) v)
+make_calm {most = most} E keeps bytes within frames (suc fewer) a b r good (won m n id o v again) =
+    let x = make_stops bytes a m within o in
+    make_calm E keeps bytes within frames fewer n b r
+    (keeps.kept m n id (subst E (sym x.0) good) v) again
 
 -- ---- a bringing in
 not_room : (far : FarState) (id : ℕ) (set : SetState) (frames loose nodes : ℕ)
@@ -229,9 +249,9 @@ same_set : (a b : SetState) → Some a ≡ Some b → a ≡ b
 same_set a b e = cc
 
 -- the set's spans have the length of the spans of the object's class
-swap_stops : (h : ℕ) (a m : Holding Words) (s : Shown) → IsKnown a.desk a.far s
-    → StillSwap h a answer.NoFrame m → (m ≡ a) × IsShort a.far
-swap_stops h a m s known (home, at, step, hold) =
+swap_stops : {most : ℕ} (h : ℕ) (a m : Holding Words) (s : Shown) → IsKnown a.desk a.far s
+    → IsEasy most a → StillSwap h a answer.NoFrame m → (m ≡ a) × IsShort most a.far
+swap_stops h a m s known easy (home, at, step, hold) =
     let away = known.sound.away.sound in
     let lies = away.away.home h home at in
     let word = away.sets.worded home.set lies.0 lies.1 in
@@ -240,28 +260,34 @@ swap_stops h a m s known (home, at, step, hold) =
     let same = same_set step.set lies.0 (sym step.there ∙ lies.1) in
     let short = subst (λ (pages : ℕ). least_run a.far.frames pages ≡ None)
     (ap (λ (z : SetState). z.pages) same ∙ object.paged) none in
-    (same_holding a m step.change.0 step.change.1, (object.class, object.fits.in_table, short))
+    let paged = object.paged in let most_pages = easy.sets home.set lies.0 lies.1 in
+    (same_holding a m step.change.0 step.change.1, record {
+      class = object.class;
+      in_table = object.fits.in_table;
+      few = omega (arith, paged, most_pages);
+      full = short;
+    })
 
-has_room : (E : Holding Words → Type 0) → KeepsEasy E → (h room left : ℕ) (a b : Holding Words)
+has_room : {most : ℕ} (E : Holding Words → Type 0) → KeepsEasy most E → (h room left : ℕ) (a b : Holding Words)
     (r : Reply) (frames loose nodes : ℕ) (s : Shown) → IsKnown a.desk a.far s → E a
     → WithRoom room (StillSwap h) StillRoom left a r b → r ≡ answer.NoRoom frames loose nodes → ⊥
 has_room E keeps h room left a b r frames loose nodes s known good
     (at_once (home, at, step, hold) off) e =
     not_room a.far home.set step.set frames loose nodes (sym step.reply ∙ e)
-has_room E keeps h room left a b r frames loose nodes s known good
+has_room {most = most} E keeps h room left a b r frames loose nodes s known good
     (no_room m why some other o v is) e =
-    let x = swap_stops h a m s known o in
+    let x = swap_stops h a m s known (keeps.easy a good) o in
     not_refused m b why some other (keeps.easy m (subst E (sym x.0) good))
-    (subst (λ (z : Holding Words). IsShort z.far) (sym x.0) x.1) v
+    (subst (λ (z : Holding Words). IsShort most z.far) (sym x.0) x.1) v
 has_room E keeps h room (suc fewer) a b r frames loose nodes s known good
     (won m n id o v again) e =
-    let x = swap_stops h a m s known o in
+    let x = swap_stops h a m s known (keeps.easy a good) o in
     let one = kept_swap a m h answer.NoFrame s known o in
     let two = kept_then a m n s one (kept_room m n (Set id) one.shown one.known v) in
     has_room E keeps h room fewer n b r frames loose nodes two.shown two.known
     (keeps.kept m n id (subst E (sym x.0) good) v) again e
 
-bring_calm : (E : Holding Words → Type 0) → KeepsEasy E → (h : ℕ) (a b : Holding Words) (r : Reply)
+bring_calm : {most : ℕ} (E : Holding Words → Type 0) → KeepsEasy most E → (h : ℕ) (a b : Holding Words) (r : Reply)
     (s : Shown) → IsKnown a.desk a.far s → E a → StillBring h a r b → IsEased r
 bring_calm E keeps h a b r s known good step = by (bring_ends a b h r s known step)
   where
@@ -310,7 +336,7 @@ swap_versions h a b r (home, at, step, hold) =
     step_cases (versions_of b ≡ versions_of a) a.desk b.desk a.far b.far home.set home.position r
     step (λ same. ap (λ (x : Words). x.versions) same.0) (λ f whole least e w. w.words.versions)
 
-brought_young : (h : ℕ) (a b : Holding Words) (r : Reply) → IsEasy a → StillBring h a r b
+brought_young : {most : ℕ} (h : ℕ) (a b : Holding Words) (r : Reply) → IsEasy most a → StillBring h a r b
     → stamp_at b.desk h < 2 ^ 64 - 1
 brought_young h a b r easy step =
     let same = room_same versions_of a.desk.settings.frames most_evictions (StillSwap h) StillRoom
@@ -327,7 +353,7 @@ read_calm h a b r still step = calm_as r _
 read_stops : (h : ℕ) (a m : Holding Words) → StillRead h a answer.NotHere m → m ≡ a
 read_stops h a m step = same_holding a m step.0.change step.1
 
-read_job : (E : Holding Words → Type 0) → KeepsEasy E → (h : ℕ) (a b : Holding Words) (r : Reply)
+read_job : {most : ℕ} (E : Holding Words → Type 0) → KeepsEasy most E → (h : ℕ) (a b : Holding Words) (r : Reply)
     (s : Shown) → IsKnown a.desk a.far s → E a
     → WhereItIs (StillRead h) NeverDeclined (StillBring h) a r b → IsEased r
 read_job E keeps h a b r s known good (near o off) =
@@ -353,7 +379,7 @@ write_stops : (h at : ℕ) (bytes : List ℕ) (a m : Holding Words)
     → StillWrite h at bytes a answer.NotHere m → m ≡ a
 write_stops h at bytes a m step = same_holding a m step.0.change step.1
 
-write_job : (E : Holding Words → Type 0) → KeepsEasy E → (h at : ℕ) (bytes : List ℕ)
+write_job : {most : ℕ} (E : Holding Words → Type 0) → KeepsEasy most E → (h at : ℕ) (bytes : List ℕ)
     (a b : Holding Words) (r : Reply) (s : Shown) → IsKnown a.desk a.far s → E a
     → WhereItIs (StillWrite h at bytes) (StillDecline h at (length bytes)) (StillBring h) a r b
     → IsEased r
@@ -374,15 +400,15 @@ write_job E keeps h at bytes a b r s known good (brought m n q f o d v again) =
     (subst (λ (z : Holding Words). IsKnown z.desk z.far s) (sym same) known) v)
     (brought_young h n q (answer.Swapped f) (keeps.easy n (subst E (sym same) good)) v) again
 
-free_job : (h : ℕ) (a b : Holding Words) (r : Reply) → IsEasy a → StillFree h a r b → IsEased r
+free_job : {most : ℕ} (h : ℕ) (a b : Holding Words) (r : Reply) → IsEasy most a → StillFree h a r b → IsEased r
 free_job h a b r easy step = calm_as r _ (free_calm (state_of (word_at a.desk h)) (word_at a.desk h)
     (stamp_at a.desk h) (still_at a.desk a.far easy h) (easy.stamps h)) step.reply
 
-find_calm : (h : ℕ) (a b : Holding Words) (r : Reply) → IsEasy a → StillFind h a r b → IsEased r
+find_calm : {most : ℕ} (h : ℕ) (a b : Holding Words) (r : Reply) → IsEasy most a → StillFind h a r b → IsEased r
 find_calm h a b r easy step = calm_as r _ (calm_by_state (state_of (word_at a.desk h))
     (stamp_at a.desk h) answer.Stays (still_at a.desk a.far easy h) tt) step.0
 
-swap_job : (E : Holding Words → Type 0) → KeepsEasy E → (h : ℕ) (a b : Holding Words) (r : Reply)
+swap_job : {most : ℕ} (E : Holding Words → Type 0) → KeepsEasy most E → (h : ℕ) (a b : Holding Words) (r : Reply)
     (s : Shown) → IsKnown a.desk a.far s → E a → BringsIn (StillFind h) (StillBring h) a r b
     → IsEased r
 swap_job E keeps h a b r s known good (not_far o off) = find_calm h a b r (keeps.easy a good) o
@@ -390,7 +416,7 @@ swap_job E keeps h a b r s known good (was_far m o v) = bring_calm E keeps h m b
     (subst (λ (z : Holding Words). IsKnown z.desk z.far s) (sym o.1) known)
     (subst E (sym o.1) good) v
 
-filter_job : (h : ℕ) (a b : Holding Words) (r : Reply) → IsEasy a → StillFilter h a r b → IsEased r
+filter_job : {most : ℕ} (h : ℕ) (a b : Holding Words) (r : Reply) → IsEasy most a → StillFilter h a r b → IsEased r
 filter_job h a b r easy (refused why same state, hold) =
     by (state_of (word_at a.desk h)) (still_at a.desk a.far easy h) why
   where
@@ -439,45 +465,49 @@ join_job : (node : _) (far new : FarState) (r : Reply) → JoinTurn node far r n
 join_job node far new r (joined down reply state) = calm_as r _ tt reply
 join_job node far new r (is_up up reply state) = calm_as r _ tt reply
 
-works_calm : (E : Holding Words → Type 0) → KeepsEasy E → (job : Job) (a b : Holding Words)
-    (r : Reply)
-    (s : Shown) → IsKnown a.desk a.far s → E a → IsWholeJob job → StillWorks job a r b → IsEased r
-works_calm E keeps (Make bytes) a b r s known good whole step =
-    make_calm E keeps bytes a.desk.settings.frames most_evictions a b r good step
-works_calm E keeps (Read handle) a b r s known good whole step =
+works_calm : {most : ℕ} (E : Holding Words → Type 0) → KeepsEasy most E → (job : Job)
+    (a b : Holding Words) (r : Reply) (s : Shown) → IsKnown a.desk a.far s → E a → IsWholeJob job
+    → MakesWithin most job → StillWorks job a r b → IsEased r
+works_calm E keeps (Make bytes) a b r s known good whole within step =
+    make_calm E keeps bytes within a.desk.settings.frames most_evictions a b r good step
+works_calm E keeps (Read handle) a b r s known good whole within step =
     read_job E keeps handle.n a b r s known good step
-works_calm E keeps (Write handle at bytes) a b r s known good whole step =
+works_calm E keeps (Write handle at bytes) a b r s known good whole within step =
     write_job E keeps handle.n at bytes a b r s known good step
-works_calm E keeps (Free handle) a b r s known good whole step =
+works_calm E keeps (Free handle) a b r s known good whole within step =
     free_job handle.n a b r (keeps.easy a good) step
-works_calm E keeps (Swap handle) a b r s known good whole step =
+works_calm E keeps (Swap handle) a b r s known good whole within step =
     swap_job E keeps handle.n a b r s known good step
-works_calm E keeps (Filter handle) a b r s known good whole step =
+works_calm E keeps (Filter handle) a b r s known good whole within step =
     filter_job handle.n a b r (keeps.easy a good) step
-works_calm E keeps Evict a b r s known good whole step = evict_job a b r step
-works_calm E keeps Begin a b r s known good whole step = absurd whole
-works_calm E keeps Ship a b r s known good whole step = absurd whole
-works_calm E keeps Commit a b r s known good whole step = absurd whole
-works_calm E keeps Abort a b r s known good whole step = absurd whole
-works_calm E keeps Pair a b r s known good whole step = absurd whole
-works_calm E keeps Patch a b r s known good whole step = absurd whole
-works_calm E keeps Merge a b r s known good whole step = absurd whole
-works_calm E keeps Part a b r s known good whole step = absurd whole
-works_calm E keeps Compact a b r s known good whole step = compact_job a.far b.far r step.1
-works_calm E keeps Rebuild a b r s known good whole step = rebuild_job a.far b.far r step.1
-works_calm E keeps (Crash node) a b r s known good whole step = crash_job node a.far b.far r step.1
-works_calm E keeps (Join node) a b r s known good whole step = join_job node a.far b.far r step.1
+works_calm E keeps Evict a b r s known good whole within step = evict_job a b r step
+works_calm E keeps Begin a b r s known good whole within step = absurd whole
+works_calm E keeps Ship a b r s known good whole within step = absurd whole
+works_calm E keeps Commit a b r s known good whole within step = absurd whole
+works_calm E keeps Abort a b r s known good whole within step = absurd whole
+works_calm E keeps Pair a b r s known good whole within step = absurd whole
+works_calm E keeps Patch a b r s known good whole within step = absurd whole
+works_calm E keeps Merge a b r s known good whole within step = absurd whole
+works_calm E keeps Part a b r s known good whole within step = absurd whole
+works_calm E keeps Compact a b r s known good whole within step =
+    compact_job a.far b.far r step.1
+works_calm E keeps Rebuild a b r s known good whole within step =
+    rebuild_job a.far b.far r step.1
+works_calm E keeps (Crash node) a b r s known good whole within step =
+    crash_job node a.far b.far r step.1
+works_calm E keeps (Join node) a b r s known good whole within step =
+    join_job node a.far b.far r step.1
 
 -- ---- a turn
-pub turn_calm : (E : Holding Words → Type 0) → KeepsEasy E
+pub turn_calm : {most : ℕ} (E : Holding Words → Type 0) → KeepsEasy most E
     → (w new : WorldState) (job : Job) (r : Reply)
-    → IsSoundWorld w → w.far.counts.turns < 2 ^ 40 → IsWholeJob job → E (held_at w job)
-    → TurnStep job w r new → IsEased r
-turn_calm E keeps w new job r sound few whole good (worn end reply same) =
+    → IsSoundWorld w → w.far.counts.turns < 2 ^ 40 → IsWholeJob job → MakesWithin most job
+    → E (held_at w job) → TurnStep job w r new → IsEased r
+turn_calm E keeps w new job r sound few whole within good (worn end reply same) =
     absurd (omega (arith, few, end))
-turn_calm E keeps w new job r sound few whole good (done more works seats) =
+turn_calm E keeps w new job r sound few whole within good (done more works seats) =
     works_calm E keeps job (held_at w job) (held_then new) r sound.shown (known_at w job sound) good
-    whole works
+    whole within works
 
 -- ---- a pin
 refusal_calm : (q : State) (version pins : ℕ) → (q ≡ word.Moving → ⊥)
@@ -487,7 +517,7 @@ refusal_calm word.Far version pins still = tt
 refusal_calm word.Here version pins still = tt
 refusal_calm word.Moving version pins still = absurd (still refl)
 
-pub pin_calm : (w new : WorldState) (seat h : ℕ) (r : Reply) → MakesEasy w.desk w.far
+pub pin_calm : {most : ℕ} (w new : WorldState) (seat h : ℕ) (r : Reply) → MakesEasy most w.desk w.far
     → PinStep seat h w r new → IsEased r
 pin_calm w new seat h r easy (scope_full full reply same) = calm_as r _ tt reply
 pin_calm w new seat h r easy (refused_pin room not reply same) = calm_as r _

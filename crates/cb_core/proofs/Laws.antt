@@ -1,6 +1,6 @@
 -- The lemmas of this crate that other crates cite.
 pub use Rattle.cb_core.proofs.Admitted.{compact_made, compact_sound, compacted_sound}
-pub use Rattle.cb_core.proofs.Calm.{IsEased, KeepsEasy, MakesEasy, pin_calm, turn_calm}
+pub use Rattle.cb_core.proofs.Calm.{IsEased, KeepsEasy, MakesEasy, MakesWithin, pin_calm, turn_calm}
 pub use Rattle.cb_core.proofs.Changes.{read_leaves}
 pub use Rattle.cb_core.proofs.CrashesKept.{NamesAmong, none_crashed, turn_crashed, turn_idle}
 pub use Rattle.cb_core.proofs.Epochs.{lead_rises, pin_far, step_rises, unpin_far}
@@ -9,6 +9,8 @@ pub use Rattle.cb_core.proofs.KeptParts.{IsGood}
 pub use Rattle.cb_core.proofs.NodesStay.{IsWholeJob, crash_stays, join_stays}
 pub use Rattle.cb_core.proofs.PartsCodes.{turn_codes}
 pub use Rattle.cb_core.proofs.NowIn.{are_gone}
+pub use Rattle.cb_core.proofs.Narrow.{KeepsNarrow, empty_narrow, narrow_same, narrow_stays, narrow_then, same_narrow, short_page}
+pub use Rattle.cb_core.proofs.NarrowTurns.{evict_step_narrow, narrow_configured, stopped_narrow, turn_keeps_narrow, turn_narrow, turned_narrow}
 pub use Rattle.cb_core.proofs.PinnedStays.{step_pinned, touched, unmoved_same}
 pub use Rattle.cb_core.proofs.PinsKept.{pin_step_sound, unpin_step_sound}
 pub use Rattle.cb_core.proofs.RoomEnds.{RoomEnds, operated, room_ends, room_reply, was_refused}

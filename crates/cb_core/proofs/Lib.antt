@@ -49,6 +49,7 @@ pub mod WorkedPins
 mod WorkedClaims
 pub mod WorkedMembership
 pub mod WorkedRoom
+mod WorkedSpans
 pub mod WorkedTurns
 pub mod WorkedHolding
 pub mod WorkedStill
@@ -101,4 +102,8 @@ pub mod WorkedReadTurns
 pub mod WorkedLegal
 pub mod Admitted
 pub mod WorkedAdmitting
+mod Narrow
+mod NarrowSteps
+mod NarrowTurns
+mod WorkedNarrow
 pub mod Laws

@@ -17,11 +17,11 @@ use Rattle.cb_evict.specs.EvictStep.{loose_frames}
 use Rattle.cb_core.proofs.WorkedPins.{settings, calm, hot, pinned, moving}
 
 -- slots of 1,024 bytes, four a span
-abbrev pub largest : Class
-largest = record { index = 11 }
+abbrev pub of_four : Class
+of_four = record { index = 11 }
 
 -- a span of this class has one page, and so has one of the smallest class
-pub one_page : pages_of largest ≡ 1
+pub one_page : pages_of of_four ≡ 1
 unfolding pages_of
 one_page = refl
 
@@ -31,7 +31,7 @@ one_small_page = refl
 
 -- a span with these objects in its first two slots
 abbrev pub span_with : Option ℕ → Option ℕ → Option Contents
-span_with first second = Some (span_of largest Hot (first ∷ second ∷ None ∷ None ∷ []))
+span_with first second = Some (span_of of_four Hot (first ∷ second ∷ None ∷ None ∷ []))
 
 -- two objects with these words
 abbrev pub words_are : ℕ → ℕ → Words

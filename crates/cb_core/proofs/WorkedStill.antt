@@ -52,7 +52,7 @@ use Rattle.cb_core.specs.Step.{StillRead, StillWrite, StillFind, StillDecline, H
 use Rattle.cb_core.specs.FarJobs.{FarLacks, FarStep, IsWeakGiven}
 use Rattle.cb_core.specs.Turned.{AtFar, AtFarLacks}
 use Rattle.cb_core.proofs.WorkedPins.{settings, desk, away, calm, hot, pinned, moving}
-use Rattle.cb_core.proofs.WorkedRoom.{counts, far_of, first_down, largest, one_page, one_small_page, span_with, two_open, words_are}
+use Rattle.cb_core.proofs.WorkedRoom.{counts, far_of, first_down, of_four, one_page, one_small_page, span_with, two_open, words_are}
 
 -- ---- two frames, of which none is free, and whose spans have object 1; object 0 has its home in set
 -- 5, which has a live position
@@ -487,7 +487,7 @@ smallest = record {
 abbrev kind : Option ℕ → ℕ
 kind found = unwrap_or found 1
 
--- a frame is free, and the spans are of the largest class
+-- a frame is free, and the spans are of another class
 abbrev open_far : FarState
 open_far = record near { frames = false ∷ true ∷ []; spans = span_with (Some 0) None ∷ None ∷ [] }
 
@@ -640,13 +640,13 @@ seat = record {
   frame = 0;
   number = 0;
   span = record {
-    class = largest;
+    class = of_four;
     temp = Hot;
     slots = Some 0 ∷ None ∷ None ∷ None ∷ [];
   };
 }
 
-none_cold : (f : ℕ) → HasRoom open_far largest Cold f → ⊥
+none_cold : (f : ℕ) → HasRoom open_far of_four Cold f → ⊥
 none_cold zero room = let e : 22 ≡ 23 = ap kind room.0 in omega (arith, e)
 none_cold (suc zero) room = let e : 1 ≡ 23 = ap kind room.0 in omega (arith, e)
 none_cold (suc (suc f)) room = let e : 1 ≡ 23 = ap kind room.0 in omega (arith, e)

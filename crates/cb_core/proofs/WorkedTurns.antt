@@ -168,7 +168,7 @@ smallest = record {
 abbrev kind : Option ℕ → ℕ
 kind found = unwrap_or found 1
 
--- the spans are of the largest class
+-- the spans are of another class
 no_span_has_room : (c : CountsState) (f : ℕ) → HasRoom (crowd c) (record { index = 0 }) Hot f → ⊥
 no_span_has_room c zero room = let e : 22 ≡ 0 = ap kind room.0 in omega (arith, e)
 no_span_has_room c (suc zero) room = let e : 22 ≡ 0 = ap kind room.0 in omega (arith, e)
@@ -395,7 +395,7 @@ one_byte = (lit≤ tt, lit≤ tt)
 no_byte : IsJob settings (Make []) → ⊥
 no_byte job = let z = job.0 in omega (arith, z)
 
-too_many_bytes : (bytes : List ℕ) → length bytes ≡ 1025 → IsJob settings (Make bytes) → ⊥
+too_many_bytes : (bytes : List ℕ) → length bytes ≡ 4097 → IsJob settings (Make bytes) → ⊥
 too_many_bytes bytes n job = let z = job.1 in omega (arith, z, n)
 
 no_such_node : IsJob settings (Crash (node 2)) → ⊥

@@ -19,3 +19,4 @@ pub mod Unavailable
 pub mod Run
 pub mod NowIn
 pub mod Called
+pub mod Narrow

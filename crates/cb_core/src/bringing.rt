@@ -20,7 +20,7 @@ use cb_world::{Desk, Far};
 /// and that has at most as many as frames.
 const MOST_EVICTIONS: u32 = 4096;
 
-/// Makes an object of these bytes, 1 to 1,024. Where there is no frame for it, evictions make room,
+/// Makes an object of these bytes, 1 to 4,096. Where there is no frame for it, evictions make room,
 /// one after another, and it is made then. Where an eviction is refused there is no room: NoRoom
 /// tells how many frames there are, and how many spans are loose and how many nodes have room, as
 /// that last eviction found them. The evictions before it stay.

@@ -38,7 +38,7 @@ use Rattle.cb_evict.proofs.LooseLengths.{count_within, filter_in, longest_enough
 use Rattle.cb_evict.proofs.Loose.{held_alone}
 use Rattle.cb_evict.proofs.Trying.{taken_of}
 use Rattle.cb_evict.proofs.Options.{none_some}
-use Rattle.cb_evict.proofs.SmallWorlds.{calm, first_object, lone, one_long, one_node, one_page, only_first, only_second, pair, pinned, two_nodes}
+use Rattle.cb_evict.proofs.SmallWorlds.{calm, first_object, heads, lone, one_long, one_node, one_page, only_first, only_second, pair, pinned, two_nodes}
 use Rattle.cb_evict.proofs.WorkedBegin.{former, of_first}
 
 not_one : (n : ℕ) → suc n ≡ 0 → ⊥

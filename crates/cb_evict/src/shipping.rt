@@ -45,7 +45,7 @@ fn note_shard(far: &mut Far, position: u32, shard: Shard)
 }
 
 /// The pages of each span of the batch that is leaving, and 0 where none is.
-fn batch_pages(far: &Far) -> u32
+fn leaving_pages(far: &Far) -> u32
     ensures { (batch : LeavingState) → far.now.leaving ≡ Some batch → result ≡ batch.pages }
 {
     match &far.leaving {
@@ -137,7 +137,7 @@ fn ship_data<D: Desk>(
     ensures err { OnErr result (PutsNothing (λ es. D.run desk.old es desk.new) far.old) }
     ensures unchanged { OnErr result (far.new ≡ far.old) }
 {
-    let pages = batch_pages(far);
+    let pages = leaving_pages(far);
     let mut row = vec![in far.alloc; 0; PAGE_BYTES as usize * pages as usize]?;
     load_span(desk, frame, pages, &mut row);
     put_row(&mut far.nodes, shard, &row)?;

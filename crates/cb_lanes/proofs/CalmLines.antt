@@ -1,5 +1,6 @@
 -- A line is answered with no want of room and no loss where its world makes it easy.
 use Rattle.std.proofs.Common.{◌≡◌, ℕ, ◌^◌, ◌<◌, List, Option, None, Some, refl, sym, subst}
+use Rattle.std.proofs.lemmas.Option.{same_Some, none-some}
 use Rattle.cb_ptr.specs.declared.word.State.{State}
 use Rattle.cb_ptr.specs.declared.word.State.TheVariants as state
 use Rattle.cb_ptr.specs.Word.{state_of, pins_of}
@@ -7,7 +8,10 @@ use Rattle.cb_types.specs.declared.job.Job.{Job}
 use Rattle.cb_types.specs.declared.job.Job.TheVariants as job
 use Rattle.cb_types.specs.declared.request.Request.{Request}
 use Rattle.cb_types.specs.declared.request.Request.TheVariants.{Make, Read, Write, Free, Pin, Peek}
-use Rattle.cb_types.specs.declared.request.Request.TheVariants.{Unpin, Filter, Leave}
+use Rattle.cb_types.specs.declared.request.Request.TheVariants.{Unpin, Filter, Leave, Evict, Begin}
+use Rattle.cb_types.specs.declared.request.Request.TheVariants.{Ship, Commit, Abort, Pair, Patch}
+use Rattle.cb_types.specs.declared.request.Request.TheVariants.{Merge, Part, Compact, Rebuild}
+use Rattle.cb_types.specs.declared.request.Request.TheVariants.{Crash, Join}
 use Rattle.cb_types.specs.declared.reply.Reply.{Reply}
 use Rattle.cb_types.specs.declared.reply.Reply.TheVariants as answer
 use Rattle.cb_world.specs.OpenSteps.{NoneHolds}
@@ -20,8 +24,8 @@ use Rattle.cb_core.specs.Pinning.{refused, scope_full, taken}
 use Rattle.cb_core.specs.Step.{Step}
 use Rattle.cb_core.specs.Parts.{Holding}
 use Rattle.cb_core.specs.Turned.{once_counted}
-use Rattle.cb_core.proofs.Laws.{IsEased, IsSwapRefusal, IsWholeJob, KeepsEasy, MakesEasy, SwapEnds}
-use Rattle.cb_core.proofs.Laws.{held, pin_calm}
+use Rattle.cb_core.proofs.Laws.{IsEased, IsSwapRefusal, IsWholeJob, KeepsEasy, MakesEasy}
+use Rattle.cb_core.proofs.Laws.{MakesWithin, SwapEnds, held, pin_calm}
 use Rattle.cb_core.proofs.Laws.{refused as swap_refused, stays, swap_sound, swap_turn, swapped}
 use Rattle.cb_core.proofs.Laws.{turn_calm}
 use Rattle.cb_lanes.specs.LineGoes.{job_of}
@@ -63,21 +67,49 @@ peek_calm : (seat h : ℕ) (w new : WorldState) (r : Reply) → PeekStep seat h 
 peek_calm seat h w new r (not_pinned none reply same) = eased_as r _ tt reply
 peek_calm seat h w new r (shown at newest reply same) = eased_as r _ tt reply
 
+-- an object that the line makes lies in a span of no more than so many pages
+abbrev pub LineMakesWithin : ℕ → Request → Type 0
+LineMakesWithin most (Make name bytes) = MakesWithin most (job.Make bytes)
+LineMakesWithin most request = Unit {0}
+
+-- the job of a line about no object is no make
+job_within : (most : ℕ) (request : Request) (j : Job) → job_of request ≡ Some j → MakesWithin most j
+job_within most request j e = by request e
+  where
+    is : (i : Job) → MakesWithin most i → Some i ≡ Some j → MakesWithin most j
+    is i x e = subst (MakesWithin most) (same_Some i j e) x
+
+    by : (q : Request) → job_of q ≡ Some j → MakesWithin most j
+    by Evict e = is job.Evict tt e
+    by Begin e = is job.Begin tt e
+    by Ship e = is job.Ship tt e
+    by Commit e = is job.Commit tt e
+    by Abort e = is job.Abort tt e
+    by Pair e = is job.Pair tt e
+    by Patch e = is job.Patch tt e
+    by Merge e = is job.Merge tt e
+    by Part e = is job.Part tt e
+    by Compact e = is job.Compact tt e
+    by Rebuild e = is job.Rebuild tt e
+    by (Crash node) e = is (job.Crash node) tt e
+    by (Join node) e = is (job.Join node) tt e
+    by q e = absurd (none-some j e)
+
 -- facts that make it easy, also behind each eviction of a turn
-module _ (E : Holding Words → Type 0) (keeps : KeepsEasy E) (w : WorldState)
-    (sound : IsSoundWorld w)
-    (few : w.far.counts.turns < 2 ^ 40) (lone : NoneHolds w.seats) (easy : MakesEasy w.desk w.far)
-    (begins : (j : Job) → E (once_counted (held w) j)) where
+module _ {most : ℕ} (E : Holding Words → Type 0) (keeps : KeepsEasy most E) (w : WorldState)
+    (sound : IsSoundWorld w) (few : w.far.counts.turns < 2 ^ 40) (lone : NoneHolds w.seats)
+    (easy : MakesEasy most w.desk w.far) (begins : (j : Job) → E (once_counted (held w) j)) where
   event_calm : (seat : ℕ) (j : Job) (new : WorldState) (r : Reply) → IsWholeJob j
-      → Step w (Turn seat j) r new → IsEased r
-  event_calm seat j new r whole step =
-      turn_calm E keeps w new j r sound few whole (begins j) (turn_alone seat j w new r lone step)
+      → MakesWithin most j → Step w (Turn seat j) r new → IsEased r
+  event_calm seat j new r whole within step =
+      turn_calm E keeps w new j r sound few whole within (begins j)
+      (turn_alone seat j w new r lone step)
 
   pin_line_calm : (seat h : ℕ) (new : WorldState) (r : Reply) → h < w.desk.settings.handles
       → PinLine seat h w r new → IsEased r
   pin_line_calm seat h new r below (at_once pin never) = pin_calm w new seat h r easy pin
   pin_line_calm seat h new r below (stays_far away swap off) =
-      event_calm seat (job.Swap (record { n = h })) new r tt swap
+      event_calm seat (job.Swap (record { n = h })) new r tt tt swap
   pin_line_calm seat h new r below (swapped_in m q away swap is again) =
       let step = turn_alone seat (job.Swap (record { n = h })) w m q lone swap in
       by (swap_turn w m h q sound (swap_sound w m h q sound step) few below step).ends
@@ -95,41 +127,43 @@ module _ (E : Holding Words → Type 0) (keeps : KeepsEasy E) (w : WorldState)
   object_calm side seat (Some h) (Peek name) new r ready x = peek_calm seat h w new r x
   object_calm side seat (Some h) (Unpin name) new r ready x = unpin_calm seat h w new r x
   object_calm side seat (Some h) (Read name) new r ready x =
-      event_calm seat (job.Read (record { n = h })) new r tt x
+      event_calm seat (job.Read (record { n = h })) new r tt tt x
   object_calm side seat (Some h) (Write name at bytes) new r ready x =
-      event_calm seat (job.Write (record { n = h }) at bytes) new r tt x
+      event_calm seat (job.Write (record { n = h }) at bytes) new r tt tt x
   object_calm side seat (Some h) (Free name) new r ready x =
-      event_calm seat (job.Free (record { n = h })) new r tt x
+      event_calm seat (job.Free (record { n = h })) new r tt tt x
   object_calm side seat (Some h) (Filter name) new r ready x =
-      event_calm seat (job.Filter (record { n = h })) new r tt x
+      event_calm seat (job.Filter (record { n = h })) new r tt tt x
   object_calm side seat (Some h) request new r ready x = absurd x
 
   other_calm : (side : Side) (seat : ℕ) (handle : Option ℕ) (request : Request) (o : Option Job)
       (new : WorldState) (r : Reply) → ((j : Job) → o ≡ Some j → IsWholeJob j)
+      → ((j : Job) → o ≡ Some j → MakesWithin most j)
       → ((h : ℕ) → handle ≡ Some h → h < w.desk.settings.handles)
       → OtherStep side seat handle request o w r new → IsEased r
-  other_calm side seat handle request (Some j) new r whole ready x =
+  other_calm side seat handle request (Some j) new r whole within ready x =
       let z = turn_beside j side seat w new r x in
-      event_calm seat j z.mid r (whole j refl) z.step
-  other_calm side seat handle request None new r whole ready x =
+      event_calm seat j z.mid r (whole j refl) (within j refl) z.step
+  other_calm side seat handle request None new r whole within ready x =
       object_calm side seat handle request new r ready x
 
   go : (nodes : List ℕ) (side : Side) (seat : ℕ) (handle : Option ℕ) (request : Request)
-      (new : WorldState) (r : Reply) → IsEasyLine nodes request
+      (new : WorldState) (r : Reply) → IsEasyLine nodes request → LineMakesWithin most request
       → ((h : ℕ) → handle ≡ Some h → h < w.desk.settings.handles)
       → LineStep side seat handle request w r new → IsEased r
-  go nodes side seat handle (Make name bytes) new r line ready x =
-      event_calm seat (job.Make bytes) new r tt x
-  go nodes side seat handle Leave new r line ready x = eased_as r _ tt x.0
-  go nodes side seat handle request new r line ready x = other_calm side seat handle request
-      (job_of request) new r (job_whole nodes request line) ready x
+  go nodes side seat handle (Make name bytes) new r line within ready x =
+      event_calm seat (job.Make bytes) new r tt within x
+  go nodes side seat handle Leave new r line within ready x = eased_as r _ tt x.0
+  go nodes side seat handle request new r line within ready x = other_calm side seat handle request
+      (job_of request) new r (job_whole nodes request line) (job_within most request) ready x
 
-pub line_calm : (E : Holding Words → Type 0) → KeepsEasy E → (nodes : List ℕ) (side : Side)
-    (seat : ℕ) (handle : Option ℕ) (request : Request)
+pub line_calm : {most : ℕ} (E : Holding Words → Type 0) → KeepsEasy most E → (nodes : List ℕ)
+    (side : Side) (seat : ℕ) (handle : Option ℕ) (request : Request)
     (w new : WorldState) (r : Reply) → IsSoundWorld w → w.far.counts.turns < 2 ^ 40
-    → NoneHolds w.seats → MakesEasy w.desk w.far → ((j : Job) → E (once_counted (held w) j))
-    → IsEasyLine nodes request
+    → NoneHolds w.seats → MakesEasy most w.desk w.far → ((j : Job) → E (once_counted (held w) j))
+    → IsEasyLine nodes request → LineMakesWithin most request
     → ((h : ℕ) → handle ≡ Some h → h < w.desk.settings.handles)
     → LineStep side seat handle request w r new → IsEased r
-line_calm E keeps nodes side seat handle request w new r sound few lone easy begins line ready x =
-    go E keeps w sound few lone easy begins nodes side seat handle request new r line ready x
+line_calm E keeps nodes side seat handle request w new r sound few lone easy begins line within
+    ready x =
+    go E keeps w sound few lone easy begins nodes side seat handle request new r line within ready x

@@ -1,9 +1,10 @@
 -- What a script at ease keeps from line to line: its replies are calm, and each lane's own lines are
 -- answered as the lane is by itself.
-use Rattle.std.proofs.Common.{◌≡◌, ℕ, ◌+◌, ◌^◌, ◌<◌, ◌≤◌, Bool, true, ◌&&◌, List, [], ◌∷◌, ◌++◌}
+use Rattle.std.proofs.Common.{◌≡◌, ℕ, ◌+◌, ◌^◌, ◌<◌, ◌≤◌, Bool, true, false, ◌&&◌, List, [], ◌∷◌, ◌++◌}
 use Rattle.std.proofs.Common.{length, map, take, get_or, Option, None, Some, refl, sym, ap, ◌∙◌}
 use Rattle.std.proofs.Common.{subst, arith, eq-eqb, nat_eq, append_assoc}
 use Rattle.std.specs.List.{AllByRecursion}
+use Rattle.std.proofs.lemmas.Bool.{lt-ltb, true≢false}
 use Rattle.std.proofs.lemmas.List.{append-nil, length_push}
 use Rattle.std.proofs.lemmas.List.Sums.{count_by_more_yes}
 use Rattle.cb_types.specs.declared.answer.Answer.{Answer}
@@ -23,11 +24,12 @@ use Rattle.cb_model.proofs.Laws.{calls_of-push}
 use Rattle.cb_script.specs.declared.script.Line.{Line}
 use Rattle.cb_script.specs.declared.script.Script.{Script}
 use Rattle.cb_script.specs.Form.{IsRequest, IsScript}
-use Rattle.cb_script.specs.Roomy.{IsAtEase, is_make}
+use Rattle.cb_script.specs.Roomy.{IsAtEase, has_long_make, is_long_make, is_make, page_bytes}
 use Rattle.cb_world.specs.Codes.{HaveCodes, IsConfiguredCode}
 use Rattle.cb_world.specs.World.{WorldState, IsSoundWorld, empty_world}
+use Rattle.cb_core.specs.Narrow.{IsNarrow}
 use Rattle.cb_core.specs.Turned.{once_counted}
-use Rattle.cb_core.proofs.Laws.{IsEased, KeepsEasy, MakesEasy, held}
+use Rattle.cb_core.proofs.Laws.{IsEased, KeepsEasy, MakesEasy, empty_narrow, held, same_narrow}
 use Rattle.cb_lanes.specs.declared.side.Side.{Side}
 use Rattle.cb_lanes.specs.Alone.{HasOwnLines, IsCalmReply, pins_shared}
 use Rattle.cb_lanes.specs.Asked.{HasLineReply, answer_to, asked}
@@ -45,7 +47,8 @@ use Rattle.cb_lanes.proofs.Along.{Along, along_ready, line_form}
 use Rattle.cb_lanes.proofs.CalmLines.{line_calm}
 use Rattle.cb_lanes.proofs.EasyLines.{IsIdleAmong, empty_at_rest, line_at_rest, rests_at_rest}
 use Rattle.cb_lanes.proofs.EasyWorlds.{IsLikeWorld, crashed_nodes, easy_line, easy_world, few_answers}
-use Rattle.cb_lanes.proofs.EasyWorlds.{few_made, keeps_easy, like_counted}
+use Rattle.cb_lanes.proofs.EasyWorlds.{few_made, keeps_easy, like_counted, line_within, most_pages}
+use Rattle.cb_lanes.proofs.LineNarrow.{IsLongLine, line_narrow}
 use Rattle.cb_lanes.proofs.Lists.{all_last, all_push}
 use Rattle.cb_lanes.proofs.OwnPins.{line_tells}
 use Rattle.cb_lanes.proofs.ScopesKept.{lines_own}
@@ -57,6 +60,7 @@ use Rattle.cb_lanes.proofs.Versions.{version_more}
 pub record Eases (s : Script) (answers : List Answer) (w : WorldState) : Type 0 where
   pub rest : IsIdleAmong (crashed_nodes s) w
   pub codes : HaveCodes (IsConfiguredCode s.config) w.far
+  pub narrow : has_long_make s.lines ≡ false → IsNarrow w.far
   pub young : (h : ℕ) → version_had (value (calls_of answers) h) ≤ length answers
   pub calm : AllByRecursion (λ a. IsCalmReply a.reply) answers
   pub alone : (lane : ℕ) → HasOwnLines s.lines lane → GoesAlone s.lines lane answers
@@ -104,6 +108,13 @@ never_full handles before answers lane (Make name bytes) n line more m =
     let lt = more refl in let full = m.0 in omega (arith, lt, full)
 never_full handles before answers lane request n line more m = line
 
+-- where no object is long none was made that is
+never_long : (request : Request) (r : Reply) → is_long_make request ≡ false → IsLongLine request r
+    → ⊥
+never_long (Make name bytes) r short (has_long, is) =
+    true≢false (sym (lt-ltb page_bytes (length bytes) has_long) ∙ short)
+never_long request r short x = x
+
 -- ---- one line more
 
 module _ (side : Side) (s : Script) (i : ℕ) (later : List ℕ) (answers : List Answer) (l : Line) (r : Reply)
@@ -126,18 +137,17 @@ module _ (side : Side) (s : Script) (i : ℕ) (later : List ℕ) (answers : List
   is_line : IsReplyOf l.request r
   is_line = all_last HasLineReply answers next_answer then.answered
 
-  easy : MakesEasy w.desk w.far
+  easy : MakesEasy (most_pages s) w.desk w.far
   easy = easy_world side s i (l.lane.n ∷ later) answers w names script ease along so_far eases.rest
-      eases.codes eases.young
+      eases.codes eases.narrow eases.young
 
-  keeps : KeepsEasy (IsLikeWorld s w)
+  keeps : KeepsEasy (most_pages s) (IsLikeWorld s w)
   keeps = keeps_easy side s i (l.lane.n ∷ later) answers w names script ease along so_far eases.rest
-      eases.codes eases.young
+      eases.codes eases.narrow eases.young
 
   begins : (j : Job) → IsLikeWorld s w (once_counted (held w) j)
   begins = like_counted side s i (l.lane.n ∷ later) answers w names script ease along so_far
-      eases.rest
-      eases.codes eases.young
+      eases.rest eases.codes eases.narrow eases.young
 
   few_turns : w.far.counts.turns < 2 ^ 40
   few_turns = let turns = along.turns in
@@ -215,6 +225,12 @@ module _ (side : Side) (s : Script) (i : ℕ) (later : List ℕ) (answers : List
         (have_codes (IsConfiguredCode s.config) w.far between.far
         (line_codes w along.sound side l.lane.n (request_handle names l.request) l.request between r step)
         eases.codes);
+    narrow = λ none. same_narrow between.far rested.far
+        (rests_far (lines_by l.lane.n later) l.lane.n between rested rests)
+        (line_narrow w along.sound side l.lane.n (request_handle names l.request) l.request between r
+        (never_long l.request r
+        (any_at (λ (x : Line). is_long_make x.request) s.lines i l none lt at)) step
+        (eases.narrow none));
     young = λ h.
         let z = version_more s.config.handles (calls_of answers) (called answers next_answer) h (length answers) by_map
         (eases.young h) in
@@ -238,7 +254,7 @@ module _ (side : Side) (s : Script) (i : ℕ) (later : List ℕ) (answers : List
       calm = eased_calm (line_calm (IsLikeWorld s w) keeps (crashed_nodes s) side l.lane.n
           (request_handle names l.request) l.request w between r along.sound few_turns along.lone
           easy begins
-          (easy_line s i l ease lt at form.0) handle_ready step)
+          (easy_line s i l ease lt at form.0) (line_within s i l lt at) handle_ready step)
 
 pub eases_answered : (side : Side) (s : Script) (i : ℕ) (later : List ℕ) (answers all : List Answer) (l : Line)
     (w rested : WorldState) (names kept : KeptNames) → IsScript s → IsAtEase s → i < length s.lines
@@ -256,6 +272,7 @@ pub eases_none : (s : Script) (w : WorldState) → w ≡ empty_world s.config �
 eases_none s w is = subst (Eases s []) (sym is) (record {
   rest = empty_at_rest (crashed_nodes s) s.config;
   codes = empty_codes (IsConfiguredCode s.config) 1 s.config (refl, refl);
+  narrow = λ none. empty_narrow 1 s.config;
   young = λ h. omega arith;
   calm = tt;
   alone = λ lane has. alone_none s.lines lane;

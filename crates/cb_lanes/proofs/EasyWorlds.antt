@@ -2,9 +2,10 @@
 use Rattle.std.proofs.Common.{◌≡◌, ◌⊎◌, ℕ, zero, suc, ◌+◌, ◌*◌, ◌<◌, ◌≤◌, Bool, true, false, List}
 use Rattle.std.proofs.Common.{[], ◌∷◌, length, map, take, get_or, filter, Contains, refl, sym, ap}
 use Rattle.std.proofs.Common.{◌∙◌, subst, arith, inl, inr, eqb-true, if◌then◌else◌, length-take}
+use Rattle.std.proofs.Common.{Option, None, Some}
 use Rattle.std.specs.List.{range_with_len, sum_by}
 use Rattle.std.specs.Prelude.{slice_index}
-use Rattle.std.proofs.lemmas.Bool.{cases_Bool, cases_lt, false≢true}
+use Rattle.std.proofs.lemmas.Bool.{cases_Bool, cases_lt, false≢true, ltb-false}
 use Rattle.std.proofs.lemmas.List.{length-map}
 use Rattle.std.proofs.lemmas.List.Folds.{list_any_at}
 use Rattle.std.proofs.lemmas.List.FromFn.{get_or-range_with_len, length-range_with_len}
@@ -14,25 +15,35 @@ use Rattle.cb_types.specs.declared.config.Config.{Config}
 use Rattle.cb_types.specs.declared.job.Job.{Job}
 use Rattle.cb_types.specs.declared.reply.Reply.TheVariants as answer
 use Rattle.cb_types.specs.declared.request.Request.{Request}
-use Rattle.cb_types.specs.declared.request.Request.TheVariants.{Crash}
+use Rattle.cb_types.specs.declared.request.Request.TheVariants.{Crash, Make}
+use Rattle.cb_class.specs.declared.class.Class.{Class}
+use Rattle.cb_class.specs.Class.{IsClass, pages_of}
+use Rattle.cb_class.proofs.Laws.{pages_few, pages_some}
+use Rattle.cb_frame.specs.Runs.{least_run}
 use Rattle.cb_model.specs.Called.{calls_of, value}
 use Rattle.cb_script.specs.declared.script.Line.{Line}
 use Rattle.cb_script.specs.declared.script.Script.{Script}
 use Rattle.cb_script.specs.Form.{IsRequest, IsScript}
 use Rattle.cb_script.specs.Roomy.{IsAtEase, crashing, has_crash, has_pin, is_crash, is_make}
-use Rattle.cb_script.specs.Roomy.{is_step, makes_in, pinning}
+use Rattle.cb_script.specs.Roomy.{has_long_make, is_long_make, is_step, makes_in, page_bytes}
+use Rattle.cb_script.specs.Roomy.{pinning}
 use Rattle.cb_world.specs.Codes.{HaveCodes, IsConfiguredCode}
 use Rattle.cb_world.specs.declared.seats.Pin.{Pin}
 use Rattle.cb_world.specs.Seats.{SeatState, idle_seat, pins_of_seat}
 use Rattle.cb_world.specs.World.{WorldState}
 use Rattle.cb_world.specs.Plain.{Words}
+use Rattle.cb_world.specs.Sets.{set_in}
 use Rattle.cb_world.proofs.Laws.{codes_stay, have_codes}
 use Rattle.cb_evict.specs.declared.eviction.Eviction.TheVariants.{Set}
+use Rattle.cb_evict.specs.EvictStep.{loose_frames}
+use Rattle.cb_evict.specs.Lengths.{most_loose}
 use Rattle.cb_evict.proofs.Laws.{evict_keeps, evict_leaving, evict_step_codes}
+use Rattle.cb_core.specs.Narrow.{IsNarrow}
 use Rattle.cb_core.specs.Parts.{Holding}
 use Rattle.cb_core.specs.Turned.{counted, once_counted}
 use Rattle.cb_core.proofs.Laws.{CrashedAmong, IsGood, IsIdle, KeepsEasy, MakesEasy, counted_good}
-use Rattle.cb_core.proofs.Laws.{enough_roomy, held, never_gone, room_good}
+use Rattle.cb_core.proofs.Laws.{enough_roomy, evict_step_narrow, held, narrow_configured}
+use Rattle.cb_core.proofs.Laws.{narrow_stays, never_gone, room_good, short_page}
 use Rattle.cb_lanes.specs.declared.side.Side.{Side}
 use Rattle.cb_lanes.specs.Asked.{asked}
 use Rattle.cb_lanes.specs.GivingBack.{lines_by}
@@ -40,9 +51,10 @@ use Rattle.cb_lanes.specs.Names.{KeptNames, kept_number}
 use Rattle.cb_lanes.specs.Scopes.{Scope}
 use Rattle.cb_lanes.proofs.AloneLines.{any_at, count_front, makes_few, scope_none}
 use Rattle.cb_lanes.proofs.Along.{Along}
+use Rattle.cb_lanes.proofs.CalmLines.{LineMakesWithin}
 use Rattle.cb_lanes.proofs.EasyLines.{IsEasyLine, IsIdleAmong}
 use Rattle.cb_lanes.proofs.FewPins.{pins_few}
-use Rattle.cb_lanes.proofs.LooseSpans.{loose_alike, loose_or_pinned, never_moving}
+use Rattle.cb_lanes.proofs.LooseSpans.{frames_by_lengths, frames_narrow, never_moving}
 use Rattle.cb_lanes.proofs.PinLists.{ArePinsOf}
 use Rattle.cb_lanes.proofs.Stamps.{stamp_had, version_had}
 
@@ -92,16 +104,39 @@ easy_line s i l ease lt at is = record {
       (ap (λ (x : Line). is_crash n x.request) (sym at) ∙ e));
 }
 
+-- the most pages of a span that a line may ask for: of any class where an object is long
+abbrev pages_with : Bool → ℕ
+pages_with has_long = if has_long then 4 else 1
+
+abbrev pub most_pages : Script → ℕ
+most_pages s = pages_with (has_long_make s.lines)
+
+request_within : (has_long : Bool) (request : Request)
+    → (has_long ≡ false → is_long_make request ≡ false)
+    → LineMakesWithin (pages_with has_long) request
+request_within true (Make name bytes) short = λ class fits. pages_few class fits.in_table
+request_within false (Make name bytes) short = λ class fits.
+    let few = ltb-false page_bytes (length bytes) (short refl) in
+    let one = short_page (length bytes) class few fits in omega (arith, one)
+request_within has_long request short = tt
+
+pub line_within : (s : Script) (i : ℕ) (l : Line) → i < length s.lines → l ≡ get_or s.lines i l
+    → LineMakesWithin (most_pages s) l.request
+line_within s i l lt at = request_within (has_long_make s.lines) l.request
+    (λ none. any_at (λ (x : Line). is_long_make x.request) s.lines i l none lt at)
+
 -- ---- and so are the worlds between lines
 
 -- What stands between two lines, and behind each eviction of a turn: all is known, no batch is
 -- leaving and no pair is joining, no other nodes have crashed, all codes are the configured one,
--- and as many handles were made and the version words are as in this world.
+-- spans and sets have one page where no object is long, and as many handles were made and the
+-- version words are as in this world.
 pub record IsLikeWorld (s : Script) (w : WorldState) (a : Holding Words) : Type 0 where
   pub good : IsGood w.desk.settings w.seats a
   pub idle : IsIdle a.far
   pub crashed : CrashedAmong (crashed_nodes s) a.far.members
   pub codes : HaveCodes (IsConfiguredCode s.config) a.far
+  pub narrow : has_long_make s.lines ≡ false → IsNarrow a.far
   pub made : a.far.made ≡ w.far.made
   pub versions : a.desk.versions ≡ w.desk.versions
 
@@ -146,21 +181,49 @@ module _ (side : Side) (s : Script) (i : ℕ) (later : List ℕ) (answers : List
   -- ---- at each holding of a turn's parts that evictions lead to
   module _ (rest : IsIdleAmong (crashed_nodes s) w) (codes : HaveCodes (IsConfiguredCode s.config)
       w.far)
+      (narrow : has_long_make s.lines ≡ false → IsNarrow w.far)
       (young : (h : ℕ) → version_had (value (calls_of answers) h) ≤ length answers) where
-    easy_at : (a : Holding Words) → IsLikeWorld s w a → MakesEasy a.desk a.far
+    few_pages : (a : Holding Words) → IsLikeWorld s w a → (has_long : Bool)
+        → has_long_make s.lines ≡ has_long → (id : ℕ) (set : _)
+        → set_in a.far.sets id ≡ Some set → set.pages ≤ pages_with has_long
+    few_pages a x true e id set there =
+        (x.good.known.sound.away.sound.sets.shaped id set there).pages
+    few_pages a x false e id set there =
+        let one = (x.narrow e).sets id set there in omega (arith, one)
+
+    -- so many frames are not left for spans of one length alone
+    enough_loose : (a : Holding Words) → IsLikeWorld s w a → (has_long : Bool)
+        → has_long_make s.lines ≡ has_long → (class : Class) → IsClass class
+        → pages_of class ≤ pages_with has_long → least_run a.far.frames (pages_of class) ≡ None
+        → a.far.code.k ≤ most_loose a.far.spans (loose_frames a.desk a.far)
+    enough_loose a x true e class in_table few full =
+        let good = x.good in
+        let all = frames_by_lengths a.desk a.far good.shown w.seats good.known good.pinned
+        good.ongoing rest.claims x.idle.0 class in_table full in
+        let frames = good.configured.frames in let sized = good.known.sound.here.frames.sized in
+        let pins = few_pins in let enough = ease.wide e in let k = x.codes.force.0 in
+        let same = ap (λ (c : Config). c.frames) along.settings in
+        omega (arith, all, frames, sized, pins, enough, k, same)
+    enough_loose a x false e class in_table few full =
+        let good = x.good in
+        let one : pages_of class ≡ 1 =
+        let some = pages_some class in_table in omega (arith, few, some) in
+        let all = frames_narrow a.desk a.far good.shown w.seats good.known good.pinned
+        good.ongoing rest.claims x.idle.0 (x.narrow e).spans
+        (subst (λ (p : ℕ). least_run a.far.frames p ≡ None) one full) in
+        let frames = good.configured.frames in let sized = good.known.sound.here.frames.sized in
+        let pins = few_pins in let enough = ease.frames in let k = x.codes.force.0 in
+        let same = ap (λ (c : Config). c.frames) along.settings in
+        omega (arith, all, frames, sized, pins, enough, k, same)
+
+    easy_at : (a : Holding Words) → IsLikeWorld s w a → MakesEasy (most_pages s) a.desk a.far
     easy_at a x = let good = x.good in record {
       still = λ h below moves.
           never_moving a.desk a.far w.seats h good.ongoing rest.claims x.idle.0 below moves;
       whole = never_gone s.config good.shown a.far (crashed_nodes s) good.known.sound x.codes
           x.crashed (let few = ease.crashes in omega (arith, crashed_count s, few));
-      spans = λ class in_table full.
-          let all = loose_or_pinned a.desk a.far good.shown w.seats class good.known good.pinned
-          good.ongoing rest.claims x.idle.0 in_table full in
-          let alike = loose_alike a.desk a.far good.shown good.known.sound.here in
-          let frames = good.configured.frames in let pins = few_pins in let enough = ease.frames in
-          let k = x.codes.force.0 in
-          let same = ap (λ (c : Config). c.frames) along.settings in
-          omega (arith, all, alike, frames, pins, enough, k, same);
+      sets = few_pages a x (has_long_make s.lines) refl;
+      spans = enough_loose a x (has_long_make s.lines) refl;
       nodes = enough_roomy w.desk.settings good.shown a.far (crashed_nodes s) good.known.sound
           good.configured x.idle x.crashed
           (let few = few_made in let front = count_front (λ (l : Line). is_make l.request) s.lines
@@ -178,7 +241,7 @@ module _ (side : Side) (s : Script) (i : ℕ) (later : List ℕ) (answers : List
           let most = young h in let few = few_answers in omega (arith, had, same, most, few);
     }
 
-    pub keeps_easy : KeepsEasy (IsLikeWorld s w)
+    pub keeps_easy : KeepsEasy (most_pages s) (IsLikeWorld s w)
     keeps_easy = record {
       easy = easy_at;
       kept = λ a b id x step.
@@ -191,6 +254,9 @@ module _ (side : Side) (s : Script) (i : ℕ) (later : List ℕ) (answers : List
             crashed = subst (CrashedAmong (crashed_nodes s)) (sym k.far.members) x.crashed;
             codes = have_codes (IsConfiguredCode s.config) a.far b.far
                 (evict_step_codes a.desk b.desk a.far b.far (answer.Set id) step.0.step) x.codes;
+            narrow = λ none. narrow_configured w.desk.settings a.far b.far x.good.configured
+                (evict_step_narrow a.desk b.desk a.far b.far (answer.Set id) step.0.step)
+                (x.narrow none);
             made = k.far.made ∙ x.made;
             versions = k.words.versions ∙ x.versions;
           };
@@ -204,11 +270,14 @@ module _ (side : Side) (s : Script) (i : ℕ) (later : List ℕ) (answers : List
       crashed = rest.crashed;
       codes = have_codes (IsConfiguredCode s.config) w.far (counted w.far j)
           (codes_stay w.far (counted w.far j) refl refl refl refl) codes;
+      narrow = λ none. narrow_configured w.desk.settings w.far (counted w.far j)
+          along.sound.configured (narrow_stays w.far (counted w.far j) refl refl refl refl)
+          (narrow none);
       made = refl;
       versions = refl;
     }
 
-    pub easy_world : MakesEasy w.desk w.far
+    pub easy_world : MakesEasy (most_pages s) w.desk w.far
     easy_world = let sound = along.sound in easy_at (held w) (record {
       good = record {
         settings = refl;
@@ -221,6 +290,7 @@ module _ (side : Side) (s : Script) (i : ℕ) (later : List ℕ) (answers : List
       idle = rest.idle;
       crashed = rest.crashed;
       codes = codes;
+      narrow = narrow;
       made = refl;
       versions = refl;
     })

@@ -1,5 +1,5 @@
--- Where no run of frames is free that a span of some class fits, at least as many objects were made
--- as there are frames.
+-- Where each span has one page and no frame is free, at least as many objects were made as there are
+-- frames.
 use Rattle.std.proofs.Common.{◌≡◌, ◌⊎◌, ℕ, suc, ◌<◌, ◌≤◌, true, List, [], ◌∷◌, length, get_or, map, Option, None, Some, refl, sym, ap, ◌∙◌, subst, arith, inl, inr, nat_eq, eq-eqb}
 use Rattle.std.proofs.Common.{is_some}
 use Rattle.std.specs.List.{count_by, list_any, range_with_len}
@@ -8,8 +8,6 @@ use Rattle.std.proofs.lemmas.List.{get_or_past}
 use Rattle.std.proofs.lemmas.List.Folds.{list_any_at}
 use Rattle.std.proofs.lemmas.List.FromFn.{get_or-map-range_with_len, length-map-range_with_len}
 use Rattle.std.proofs.lemmas.Map.Steps.{le-length_from_below}
-use Rattle.cb_class.specs.declared.class.Class.{Class}
-use Rattle.cb_class.specs.Class.{IsClass, pages_of}
 use Rattle.cb_frame.specs.Runs.{least_run}
 use Rattle.cb_span.specs.Contents.{Contents}
 use Rattle.cb_span.specs.Places.{slot_place}
@@ -18,6 +16,7 @@ use Rattle.cb_world.specs.declared.shown.Shown.{Shown}
 use Rattle.cb_world.specs.FarState.{FarState, handle_in, resident}
 use Rattle.cb_world.specs.LocalSound.{LiesAt, LocalSound}
 use Rattle.cb_world.specs.Shown.{never, object_at}
+use Rattle.cb_core.specs.Narrow.{IsNarrow}
 use Rattle.cb_lanes.proofs.FullFrames.{has_span}
 use Rattle.cb_lanes.proofs.LooseSpans.{HasFrame, frame_of}
 
@@ -31,8 +30,8 @@ taken_slot (Some h ∷ slots) some = (0, h, omega arith, refl)
 taken_slot (None ∷ slots) some = let z = taken_slot slots (count_tail slots some) in
     (suc z.0, z.1, (let l = z.2 in omega (arith, l)), z.3)
 
-module _ (s : Shown) (far : FarState) (sound : LocalSound s far) (class : Class)
-    (in_table : IsClass class) (full : least_run far.frames (pages_of class) ≡ None) where
+module _ (s : Shown) (far : FarState) (sound : LocalSound s far) (narrow : IsNarrow far)
+    (full : least_run far.frames 1 ≡ None) where
   was_made : (h len place : ℕ) → LiesAt (object_at s h) len place → h < far.made
   was_made h len place lies = by (cases_lt h far.made) (cases_lt h (length s.objects))
     where
@@ -52,7 +51,7 @@ module _ (s : Shown) (far : FarState) (sound : LocalSound s far) (class : Class)
 
   has_one : (f : ℕ) → f < length far.frames → list_any (nat_eq f) homes ≡ true
   has_one f below =
-      let span = has_span s far class sound in_table full f below in
+      let span = has_span far sound.frames narrow.spans full f below in
       let slot = taken_slot span.0.slots (sound.frames.taken f span.0 span.1) in
       let named = sound.placed.named f slot.0 slot.1 span.0 span.1 slot.3 in
       let made = was_made slot.1 named.len (slot_place span.0.class f slot.0) named.lies in

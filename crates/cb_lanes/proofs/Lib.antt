@@ -3,6 +3,7 @@ pub mod NamesKept
 pub mod Recounting
 pub mod LineKeeps
 pub mod LineCodes
+mod LineNarrow
 pub mod Lone
 mod FullFrames
 pub mod LooseSpans

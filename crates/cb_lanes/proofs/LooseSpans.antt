@@ -1,18 +1,19 @@
--- Where no run of frames is free that a span of some class fits, every span that is not loose has an object that a seat has pinned.
-use Rattle.std.proofs.Common.{◌≡◌, ◌≢◌, ◌⊎◌, ℕ, suc, ◌+◌, ◌<◌, ◌≤◌, Bool, true, false, ◌&&◌, ◌||◌}
+-- Every span that is not loose has an object that a seat has pinned. So where no run of frames is
+-- free that a span of some class fits, there are loose spans for all the frames but those for pins.
+use Rattle.std.proofs.Common.{◌≡◌, ◌≢◌, ◌⊎◌, ℕ, suc, ◌+◌, ◌*◌, ◌<◌, ◌≤◌, max, Bool, true, false, ◌&&◌, ◌||◌}
 use Rattle.std.proofs.Common.{List, [], ◌∷◌, ◌++◌, length, get_or, Option, None, Some, refl, sym}
 use Rattle.std.proofs.Common.{ap, ◌∙◌, subst, arith, inl, inr, nat_eq, not, eq-eqb, ne_eqb}
 use Rattle.std.proofs.Common.{if◌then◌else◌}
-use Rattle.std.specs.List.{filter, list_all, list_any, range_with_len, slice_index_or, sum_by}
+use Rattle.std.specs.List.{Contains, filter, list_all, list_any, range_with_len, slice_index_or, sum_by}
 use Rattle.std.proofs.lemmas.Bool.{cases_Bool, cases_eq, cases_lt, true≢false, or_left, or_right}
-use Rattle.std.proofs.lemmas.List.{get_or_past, length-append}
+use Rattle.std.proofs.lemmas.List.{get_or_default, get_or_past, length-append}
 use Rattle.std.proofs.lemmas.List.Folds.{list_any-append, list_any_at}
 use Rattle.std.proofs.lemmas.List.FromFn.{get_or-range_with_len, length-range_with_len}
 use Rattle.std.proofs.lemmas.List.Sums.{sum_by-cons}
-use Rattle.std.proofs.lemmas.Map.Steps.{le-length_from_below}
 use Rattle.std.proofs.lemmas.Option.{slice_get_within}
 use Rattle.cb_class.specs.declared.class.Class.{Class}
 use Rattle.cb_class.specs.Class.{IsClass, pages_of}
+use Rattle.cb_class.proofs.Laws.{pages_known, pages_some}
 use Rattle.cb_frame.specs.Runs.{least_run}
 use Rattle.cb_ptr.specs.declared.word.State.{State}
 use Rattle.cb_ptr.specs.declared.word.State.TheVariants as word
@@ -25,7 +26,7 @@ use Rattle.cb_world.specs.declared.object.Object.{Object}
 use Rattle.cb_world.specs.declared.object.Object.TheVariants as is
 use Rattle.cb_world.specs.declared.seats.Pin.{Pin}
 use Rattle.cb_world.specs.declared.shown.Shown.{Shown}
-use Rattle.cb_world.specs.FarState.{FarState, handle_in, span_in, resident}
+use Rattle.cb_world.specs.FarState.{FarState, handle_in, pages_at, pages_if, span_in, resident}
 use Rattle.cb_world.specs.LocalSound.{LiesAt, LocalSound}
 use Rattle.cb_world.specs.OpenWrites.{AreOpen, IsClaimedNow, IsLeavingNow}
 use Rattle.cb_world.specs.Placed.{leaving_frames}
@@ -37,10 +38,11 @@ use Rattle.cb_world.proofs.Laws.{one_slot}
 use Rattle.cb_evict.specs.Candidates.{candidates, has_temp, is_among, may_leave, frames_with}
 use Rattle.cb_evict.specs.Candidates.{same_temp}
 use Rattle.cb_evict.specs.EvictStep.{is_here, is_loose, is_slot_loose, loose_frames}
-use Rattle.cb_evict.specs.Lengths.{most_loose}
+use Rattle.cb_evict.specs.Lengths.{count_of, loose_of, most_loose}
+use Rattle.cb_evict.specs.Loading.{AreOfLength}
 use Rattle.cb_evict.proofs.Laws.{loose_span, most_alike, named_at, names_span}
 use Rattle.cb_lanes.proofs.FewPins.{pins_in}
-use Rattle.cb_lanes.proofs.FullFrames.{has_span, one_length}
+use Rattle.cb_lanes.proofs.FullFrames.{all_frames, few_frames, few_stand, spans_below}
 use Rattle.cb_lanes.proofs.Lists.{one_if}
 
 -- ---- no word is Moving
@@ -283,64 +285,172 @@ candidate far f span idle below there =
     by Cold e = or_left (list_any (nat_eq f) (of Cold)) (list_any (nat_eq f) (of Hot)) (has Cold e)
     by Hot e = or_right (list_any (nat_eq f) (of Cold)) (list_any (nat_eq f) (of Hot)) (has Hot e)
 
--- the loose spans are of one length
-pub loose_alike : (x : Words) (far : FarState) (s : Shown) → LocalSound s far
-    → most_loose far.spans (loose_frames x far) ≡ length (loose_frames x far)
-loose_alike x far s sound = most_alike far.spans (loose_frames x far)
-    (one_length s far (loose_frames x far) sound (loose_span x far))
+-- ---- the loose spans by their lengths
+most_is : (spans : List (Option Contents)) (loose : List ℕ) → most_loose spans loose
+    ≡ max (count_of spans 4 loose) (max (count_of spans 2 loose) (count_of spans 1 loose))
+unfolding most_loose
+most_is spans loose = refl
 
--- Where no seat has an open write, no batch is leaving and no run of frames is free that a span of
--- some class fits, the frames are no more than the loose spans and the pins of all seats.
-pub loose_or_pinned : (x : Words) (far : FarState) (s : Shown) (seats : List SeatState)
-    (class : Class) → IsKnown x far s → ArePinned x seats → AreOpen x far seats → NoClaims seats
-    → far.leaving ≡ None → IsClass class → least_run far.frames (pages_of class) ≡ None
-    → length far.spans ≤ length (loose_frames x far) + sum_by (λ seat. length seat.pins) seats
-loose_or_pinned x far s seats class known pinned are none idle in_table full =
-    let all = le-length_from_below (loose_frames x far ++ zs) (length far.spans) there in
-    let both = length-append (loose_frames x far) zs in
-    let pins = seat_count s far frame seats in
-    omega (arith, all, both, pins)
+-- the span in the frame has 1, 2 or 4 pages
+abbrev HasLength : List (Option Contents) → ℕ → Type 0
+HasLength spans f =
+    (pages_at spans f ≡ 1) ⊎ ((pages_at spans f ≡ 2) ⊎ (pages_at spans f ≡ 4))
+
+count_first : (spans : List (Option Contents)) (p f : ℕ) (loose : List ℕ)
+    → count_of spans p (f ∷ loose) ≡ one_if (nat_eq (pages_at spans f) p) + count_of spans p loose
+count_first spans p f loose = by (nat_eq (pages_at spans f) p)
   where
-    frame : (h : ℕ) → HasFrame far h
-    frame = frame_of s far known.sound.here
+    by : (b : Bool) → length (if b then f ∷ loose_of spans p loose else loose_of spans p loose)
+        ≡ one_if b + count_of spans p loose
+    by true = omega arith
+    by false = omega arith
 
-    zs : List ℕ
-    zs = seat_frames s far frame seats
+all_lengths : (spans : List (Option Contents)) (loose : List ℕ)
+    → ((f : ℕ) → Contains loose f → HasLength spans f)
+    → length loose ≤ count_of spans 4 loose + count_of spans 2 loose + count_of spans 1 loose
+all_lengths spans [] long = omega arith
+all_lengths spans (f ∷ loose) long = by (long f (0, omega arith, refl))
+    (all_lengths spans loose (λ g c. long g (suc c.0, (let l = c.1 in omega (arith, l)), c.2)))
+  where
+    is : (p n : ℕ) → pages_at spans f ≡ n
+        → one_if (nat_eq (pages_at spans f) p) ≡ one_if (nat_eq n p)
+    is p n e = ap (λ (k : ℕ). one_if (nat_eq k p)) e
 
-    still : (h : ℕ) → h < length x.words → state_of (word_at x h) ≡ word.Moving → ⊥
-    still h below moves = never_moving x far seats h are none idle below moves
+    by : HasLength spans f
+        → length loose ≤ count_of spans 4 loose + count_of spans 2 loose + count_of spans 1 loose
+        → length (f ∷ loose) ≤ count_of spans 4 (f ∷ loose) + count_of spans 2 (f ∷ loose)
+        + count_of spans 1 (f ∷ loose)
+    by (inl e) rest =
+        let one = is 1 1 e in let two = is 2 1 e in let four = is 4 1 e in omega (
+          arith,
+          rest,
+          one,
+          two,
+          four,
+          count_first spans 4 f loose,
+          count_first spans 2 f loose,
+          count_first spans 1 f loose,
+        )
+    by (inr (inl e)) rest =
+        let one = is 1 2 e in let two = is 2 2 e in let four = is 4 2 e in omega (
+          arith,
+          rest,
+          one,
+          two,
+          four,
+          count_first spans 4 f loose,
+          count_first spans 2 f loose,
+          count_first spans 1 f loose,
+        )
+    by (inr (inr e)) rest =
+        let one = is 1 4 e in let two = is 2 4 e in let four = is 4 4 e in omega (
+          arith,
+          rest,
+          one,
+          two,
+          four,
+          count_first spans 4 f loose,
+          count_first spans 2 f loose,
+          count_first spans 1 f loose,
+        )
 
-    busy : (f : ℕ) (span : Contents) → span_in far.spans f ≡ Some span → HasBusy x span.slots
-        → list_any (nat_eq f) zs ≡ true
-    busy f span at b =
-        let r : resident far.spans f b.slot ≡ Some b.handle =
-        ap (λ (o : Option Contents). handle_in o b.slot) at ∙ b.at in
-        let lies = resident_lies s far f b.slot b.handle known.sound.here r in
-        let below : b.handle < length x.words = let n = lies_within s b.handle lies in
-        let count = known.shows.objects in omega (arith, n, count) in
-        let here = lies_here (object_at s b.handle) (word_at x b.handle) lies.len lies.place
-        (known.shows.fit b.handle below) lies.lies (still b.handle below) in
-        let some = busy_pinned x b.handle here b.busy in
-        seat_there s far frame f b.slot b.handle seats r
-        (let counted = pinned.counted b.handle below in omega (arith, some, counted))
+-- of three lengths one has a third of them
+third : (x : Words) (far : FarState) (s : Shown) → LocalSound s far
+    → length (loose_frames x far) ≤ 3 * most_loose far.spans (loose_frames x far)
+third x far s sound =
+    let all = all_lengths far.spans (loose_frames x far) long in
+    let most = most_is far.spans (loose_frames x far) in omega (arith, all, most)
+  where
+    long : (f : ℕ) → Contains (loose_frames x far) f → HasLength far.spans f
+    long f c = let span = loose_span x far f c in
+        subst (λ (p : ℕ). (p ≡ 1) ⊎ ((p ≡ 2) ⊎ (p ≡ 4))) (sym (ap pages_if span.1))
+        (pages_known span.0.class (sound.frames.valid f span.0 span.1).in_table)
 
-    stands : (f : ℕ) (span : Contents) → f < length far.spans → span_in far.spans f ≡ Some span
-        → (is_loose x (Some span) ≡ true) ⊎ (is_loose x (Some span) ≡ false)
-        → (list_any (nat_eq f) (loose_frames x far) || list_any (nat_eq f) zs) ≡ true
-    stands f span below at (inl loose) = or_left (list_any (nat_eq f) (loose_frames x far))
-        (list_any (nat_eq f) zs) (any_filter (λ g. is_loose x (span_in far.spans g)) (candidates far) f
-        (ap (is_loose x) at ∙ loose) (candidate far f span idle below at))
-    stands f span below at (inr off) = or_right (list_any (nat_eq f) (loose_frames x far))
-        (list_any (nat_eq f) zs) (busy f span at (has_busy x span.slots off))
+-- where each span has one page they are of one length
+alike : (x : Words) (far : FarState)
+    → ((f : ℕ) (span : Contents) → span_in far.spans f ≡ Some span → pages_of span.class ≡ 1)
+    → most_loose far.spans (loose_frames x far) ≡ length (loose_frames x far)
+alike x far narrow = most_alike far.spans (loose_frames x far) long
+  where
+    long : AreOfLength far.spans 1 (loose_frames x far)
+    long k d below = let f = get_or (loose_frames x far) k d in
+        let span = loose_span x far f
+        (k, below, get_or_default (loose_frames x far) k f d below) in
+        ap pages_if span.1 ∙ narrow f span.0 span.1
 
-    held : (f : ℕ) → f < length far.spans
-        → (list_any (nat_eq f) (loose_frames x far) || list_any (nat_eq f) zs) ≡ true
-    held f below =
-        let n = known.sound.here.frames.sized in
-        let span = has_span s far class known.sound.here in_table full f (omega (arith, below, n)) in
-        stands f span.0 below span.1 (cases_Bool (is_loose x (Some span.0)))
+-- Where no seat has an open write and no batch is leaving
+module _ (x : Words) (far : FarState) (s : Shown) (seats : List SeatState) (known : IsKnown x far s)
+    (pinned : ArePinned x seats) (are : AreOpen x far seats) (none : NoClaims seats)
+    (idle : far.leaving ≡ None) where
+  abbrev frame : (h : ℕ) → HasFrame far h
+  frame = frame_of s far known.sound.here
 
-    there : (f : ℕ) → f < length far.spans
-        → list_any (nat_eq f) (loose_frames x far ++ zs) ≡ true
-    there f below = list_any-append (nat_eq f) (loose_frames x far) zs
-        ∙ held f below
+  abbrev zs : List ℕ
+  zs = seat_frames s far frame seats
+
+  still : (h : ℕ) → h < length x.words → state_of (word_at x h) ≡ word.Moving → ⊥
+  still h below moves = never_moving x far seats h are none idle below moves
+
+  busy : (f : ℕ) (span : Contents) → span_in far.spans f ≡ Some span → HasBusy x span.slots
+      → list_any (nat_eq f) zs ≡ true
+  busy f span at b =
+      let r : resident far.spans f b.slot ≡ Some b.handle =
+      ap (λ (o : Option Contents). handle_in o b.slot) at ∙ b.at in
+      let lies = resident_lies s far f b.slot b.handle known.sound.here r in
+      let below : b.handle < length x.words = let n = lies_within s b.handle lies in
+      let count = known.shows.objects in omega (arith, n, count) in
+      let here = lies_here (object_at s b.handle) (word_at x b.handle) lies.len lies.place
+      (known.shows.fit b.handle below) lies.lies (still b.handle below) in
+      let some = busy_pinned x b.handle here b.busy in
+      seat_there s far frame f b.slot b.handle seats r
+      (let counted = pinned.counted b.handle below in omega (arith, some, counted))
+
+  held : (f : ℕ) (span : Contents) → span_in far.spans f ≡ Some span
+      → list_any (nat_eq f) (loose_frames x far ++ zs) ≡ true
+  held f span at = list_any-append (nat_eq f) (loose_frames x far) zs
+      ∙ by (cases_Bool (is_loose x (Some span)))
+    where
+      below : f < length far.spans
+      below = let frames = known.sound.here.frames in
+          let within = frames.within f span at in
+          let some = pages_some span.class (frames.valid f span at).in_table in
+          omega (arith, within, some)
+
+      by : (is_loose x (Some span) ≡ true) ⊎ (is_loose x (Some span) ≡ false)
+          → (list_any (nat_eq f) (loose_frames x far) || list_any (nat_eq f) zs) ≡ true
+      by (inl loose) = or_left (list_any (nat_eq f) (loose_frames x far)) (list_any (nat_eq f) zs)
+          (any_filter (λ g. is_loose x (span_in far.spans g)) (candidates far) f
+          (ap (is_loose x) at ∙ loose) (candidate far f span idle below at))
+      by (inr off) = or_right (list_any (nat_eq f) (loose_frames x far)) (list_any (nat_eq f) zs)
+          (busy f span at (has_busy x span.slots off))
+
+  -- there are no more spans than loose ones and pins of all seats
+  loose_or_pinned : (n : ℕ) → spans_below far.spans n
+      ≤ length (loose_frames x far) + sum_by (λ seat. length seat.pins) seats
+  loose_or_pinned n =
+      let all = few_stand far.spans (loose_frames x far ++ zs) n held in
+      let both = length-append (loose_frames x far) zs in
+      let pins = seat_count s far frame seats in
+      omega (arith, all, both, pins)
+
+  -- where no run of frames is free that a span of some class fits
+  pub frames_by_lengths : (class : Class) → IsClass class
+      → least_run far.frames (pages_of class) ≡ None
+      → length far.frames ≤ 21 * most_loose far.spans (loose_frames x far)
+      + 7 * sum_by (λ seat. length seat.pins) seats + 3
+  frames_by_lengths class in_table full =
+      let frames = few_frames far known.sound.here.frames class in_table full in
+      let spans = loose_or_pinned (length far.frames) in
+      let most = third x far s known.sound.here in
+      omega (arith, frames, spans, most)
+
+  -- where no frame is free and each span has one page
+  pub frames_narrow : ((f : ℕ) (span : Contents) → span_in far.spans f ≡ Some span
+      → pages_of span.class ≡ 1) → least_run far.frames 1 ≡ None
+      → length far.frames ≤ most_loose far.spans (loose_frames x far)
+      + sum_by (λ seat. length seat.pins) seats
+  frames_narrow narrow full =
+      let frames = all_frames far known.sound.here.frames narrow full in
+      let spans = loose_or_pinned (length far.frames) in
+      let most = alike x far narrow in
+      omega (arith, frames, spans, most)

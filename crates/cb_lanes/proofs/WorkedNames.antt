@@ -1,6 +1,6 @@
 -- Worked names and their handles, what each line asks for, and what the world holds of answers: each
 -- row, and what breaks one part alone.
-use Rattle.std.proofs.Common.{◌≡◌, ℕ, ◌<◌, List, [], ◌∷◌, length, replicate, Option, Some, None}
+use Rattle.std.proofs.Common.{◌≡◌, ℕ, ◌<◌, List, [], ◌∷◌, length, Option, Some, None}
 use Rattle.std.proofs.Common.{inl, inr, refl, sym, ap, ◌∙◌, arith}
 use Rattle.std.specs.Option.{option_map}
 use Rattle.cb_types.specs.declared.answer.Answer.{Answer}
@@ -180,18 +180,18 @@ module _ (w new : WorldState) (r : Reply) where
       → Step w (event.Step 1 (atomic.Unpin (record { n = 4 }))) r new
   goes_as_an_unpin g = g
 
--- ---- what may be asked: handles below 2, of 6 nodes, and 1 to 1,024 bytes
+-- ---- what may be asked: handles below 2, of 6 nodes, and 1 to 4,096 bytes
 abbrev low : ℕ → Type 0
 low h = h < 2
 
 abbrev on : ℕ → Handle
 on h = record { n = h }
 
-most_bytes : MayCall 6 low (job.Make (replicate 1024 7))
-most_bytes = (omega arith, omega arith)
+most_bytes : (bytes : List ℕ) → length bytes ≡ 4096 → MayCall 6 low (job.Make bytes)
+most_bytes bytes long = (omega (arith, long), omega (arith, long))
 
-too_many_bytes : MayCall 6 low (job.Make (replicate 1025 7)) → ⊥
-too_many_bytes may = omega (arith, may.1)
+too_many_bytes : (bytes : List ℕ) → length bytes ≡ 4097 → MayCall 6 low (job.Make bytes) → ⊥
+too_many_bytes bytes long may = let few = may.1 in omega (arith, long, few)
 
 may_all : MayCall 6 low (job.Write (on 1) 0 []) × MayCall 6 low (job.Free (on 1))
     × MayCall 6 low (job.Swap (on 1)) × MayCall 6 low (job.Filter (on 1))

@@ -15,6 +15,7 @@ pinning_few lines = let all = count_by-le-length (has_pin lines) (range_with_len
 pub roomy_at_ease : (s : Script) → IsRoomy s → has_step_line s.lines ≡ false → IsAtEase s
 roomy_at_ease s roomy none = record {
   frames = let n = roomy.frames in let few = pinning_few s.lines in omega (arith, n, few);
+  wide = λ has_long. let n = roomy.wide has_long in let few = pinning_few s.lines in omega (arith, n, few);
   room = let n = roomy.room in let most = roomy.makes in omega (arith, n, most);
   nodes = let n = roomy.nodes in let most = roomy.crashes in omega (arith, n, most);
   makes = roomy.makes;

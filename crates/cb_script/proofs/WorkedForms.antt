@@ -31,10 +31,10 @@ bad_byte b which is = elim (All-head IsNameByte b [] is.each) [ inl letter ↦ g
 
 -- ---- bytes
 
-contents_limit : (bytes : List ℕ) → length bytes ≡ 1024 → All (λ b. b < 256) bytes → IsContents bytes
+contents_limit : (bytes : List ℕ) → length bytes ≡ 4096 → All (λ b. b < 256) bytes → IsContents bytes
 contents_limit bytes long each = record { some = omega (arith, long); few = omega (arith, long); each = each }
 
-contents_past : (bytes : List ℕ) → length bytes ≡ 1025 → IsContents bytes → ⊥
+contents_past : (bytes : List ℕ) → length bytes ≡ 4097 → IsContents bytes → ⊥
 contents_past bytes long is = omega (arith, long, is.few)
 
 no_contents : IsContents [] → ⊥
@@ -46,7 +46,7 @@ no_byte is = omega (arith, All-head (λ b. b < 256) 256 [] is.each)
 no_change : IsChange []
 no_change = record { few = omega arith; each = All-nil (λ b. b < 256) }
 
-change_past : (bytes : List ℕ) → length bytes ≡ 1025 → IsChange bytes → ⊥
+change_past : (bytes : List ℕ) → length bytes ≡ 4097 → IsChange bytes → ⊥
 change_past bytes long is = omega (arith, long, is.few)
 
 change_byte : IsChange (256 ∷ []) → ⊥
@@ -57,10 +57,10 @@ change_byte is = omega (arith, All-head (λ b. b < 256) 256 [] is.each)
 name_a : IsName (codes "a")
 name_a = record { some = omega arith; few = omega arith; each = All-cons IsNameByte 97 [] (inl (omega arith, omega arith)) (All-nil IsNameByte) }
 
-write_limit : IsRequest 6 (Write (codes "a") 1024 [])
+write_limit : IsRequest 6 (Write (codes "a") 4096 [])
 write_limit = (name_a, omega arith, no_change)
 
-write_past : IsRequest 6 (Write (codes "a") 1025 []) → ⊥
+write_past : IsRequest 6 (Write (codes "a") 4097 []) → ⊥
 write_past is = omega (arith, is.1)
 
 last_node : IsRequest 6 (Crash (record { n = 5 }))

@@ -1,10 +1,11 @@
 -- Worked examples: a script that is at ease and one that is roomy, and each bound one too tight.
 use Rattle.std.proofs.Common.{◌≡◌, ℕ, List, [], ◌∷◌, true, false, map, replicate, refl, lit≤, lit<, arith}
+use Rattle.std.proofs.lemmas.Bool.{false≢true}
 use Rattle.cb_types.specs.declared.request.Request.{Request}
 use Rattle.cb_types.specs.declared.request.Request.TheVariants.{Make, Read, Write, Free, Pin, Peek, Unpin, Filter, Evict, Begin, Ship, Commit, Abort, Pair, Patch, Merge, Part, Compact, Rebuild, Crash, Join, Leave}
 use Rattle.cb_script.specs.declared.script.Line.{Line}
 use Rattle.cb_script.specs.declared.script.Script.{Script}
-use Rattle.cb_script.specs.Roomy.{is_step, has_step_line, makes_in, has_pin, pinning, has_crash, crashing, IsRoomy, IsAtEase}
+use Rattle.cb_script.specs.Roomy.{is_step, has_step_line, has_long_make, makes_in, has_pin, pinning, has_crash, crashing, IsRoomy, IsAtEase}
 
 abbrev a : List ℕ
 a = 97 ∷ []
@@ -38,6 +39,22 @@ two_nodes_crash = refl
 a_join_is_no_crash : has_crash (by 1 (Join (record { n = 3 })) ∷ []) 3 ≡ false
 a_join_is_no_crash = refl
 
+-- an object of 1,024 bytes is not long, and one of 1,025 is
+abbrev make : ℕ → Line
+make size = by 0 (Make a (replicate size 1))
+
+none_is_long : has_long_make lines ≡ false
+none_is_long = refl
+
+most_of_a_page : has_long_make (make 1024 ∷ []) ≡ false
+most_of_a_page = refl
+
+a_byte_more : has_long_make (make 1024 ∷ by 1 (Read a) ∷ make 1025 ∷ []) ≡ true
+a_byte_more = refl
+
+a_long_write : has_long_make (by 0 (Write a 0 (replicate 1025 1)) ∷ []) ≡ false
+a_long_write = refl
+
 abbrev sized : (k r nodes frames room handles : ℕ) → List Line → Script
 sized k r nodes frames room handles ls = record {
   config = record { k = k; r = r; nodes = nodes; frames = frames; room = room; handles = handles; turns = 0 };
@@ -49,6 +66,7 @@ sized k r nodes frames room handles ls = record {
 at_ease : IsAtEase (sized 2 2 6 34 3 2 lines)
 at_ease = record {
   frames = lit≤ tt;
+  wide = λ has_long. absurd (false≢true has_long);
   room = lit< tt;
   nodes = lit≤ tt;
   makes = lit≤ tt;
@@ -58,6 +76,24 @@ at_ease = record {
 
 one_frame_less : IsAtEase (sized 2 2 6 33 3 2 lines) → ⊥
 one_frame_less is = let n = is.frames in omega (arith, n)
+
+-- with a long object, 21 k + 224
+abbrev longer : List Line
+longer = make 1025 ∷ by 1 (Make b (2 ∷ [])) ∷ by 1 (Pin a) ∷ by 3 (Pin a) ∷ []
+
+at_ease_with_a_long_one : IsAtEase (sized 2 2 4 266 3 2 longer)
+at_ease_with_a_long_one = record {
+  frames = lit≤ tt;
+  wide = λ has_long. lit≤ tt;
+  room = lit< tt;
+  nodes = lit≤ tt;
+  makes = lit≤ tt;
+  crashes = lit≤ tt;
+  steps = refl;
+}
+
+one_frame_less_for_holes : IsAtEase (sized 2 2 4 265 3 2 longer) → ⊥
+one_frame_less_for_holes is = let n = is.wide refl in omega (arith, n)
 
 one_row_less : IsAtEase (sized 2 2 6 34 2 2 lines) → ⊥
 one_row_less is = let n = is.room in omega (arith, n)
@@ -88,14 +124,40 @@ no_other_line_is_one = refl
 -- ---- roomy
 
 roomy : IsRoomy (sized 2 2 6 364 6 2 lines)
-roomy = record { frames = lit≤ tt; room = lit≤ tt; nodes = lit≤ tt; makes = lit≤ tt; crashes = lit≤ tt }
+roomy = record {
+  frames = lit≤ tt;
+  wide = λ has_long. absurd (false≢true has_long);
+  room = lit≤ tt;
+  nodes = lit≤ tt;
+  makes = lit≤ tt;
+  crashes = lit≤ tt;
+}
 
 roomy_with_a_step : IsRoomy (sized 2 2 6 364 6 2 (by 0 Begin ∷ []))
-roomy_with_a_step =
-    record { frames = lit≤ tt; room = lit≤ tt; nodes = lit≤ tt; makes = lit≤ tt; crashes = lit≤ tt }
+roomy_with_a_step = record {
+  frames = lit≤ tt;
+  wide = λ has_long. absurd (false≢true has_long);
+  room = lit≤ tt;
+  nodes = lit≤ tt;
+  makes = lit≤ tt;
+  crashes = lit≤ tt;
+}
+
+roomy_with_a_long_one : IsRoomy (sized 2 2 6 2656 6 2 longer)
+roomy_with_a_long_one = record {
+  frames = lit≤ tt;
+  wide = λ has_long. lit≤ tt;
+  room = lit≤ tt;
+  nodes = lit≤ tt;
+  makes = lit≤ tt;
+  crashes = lit≤ tt;
+}
 
 not_enough_frames : IsRoomy (sized 2 2 6 363 6 2 lines) → ⊥
 not_enough_frames is = let n = is.frames in omega (arith, n)
+
+not_enough_for_holes : IsRoomy (sized 2 2 6 2655 6 2 longer) → ⊥
+not_enough_for_holes is = let n = is.wide refl in omega (arith, n)
 
 not_enough_room : IsRoomy (sized 2 2 6 364 5 2 lines) → ⊥
 not_enough_room is = let n = is.room in omega (arith, n)

@@ -24,7 +24,7 @@ worked_place = record { mode = Seq; nodes = 6; before = two_makes }
 
 -- ---- numbers
 
-plain_number : IsNumber (codes "1024") 1024
+plain_number : IsNumber (codes "4096") 4096
 unfolding digits
 plain_number = (omega arith, refl)
 
@@ -88,13 +88,13 @@ no_node : HasNumber worked_place (Phrase.Facing on_node.Crash (codes "6")) → �
 unfolding digits
 no_node some = let same = one_number (codes "6") some.0 6 some.1 (omega arith, refl) in omega (arith, same, some.2)
 
-last_start : HasNumber worked_place (Phrase.Writing (codes "b") (codes "1024") (codes "-"))
+last_start : HasNumber worked_place (Phrase.Writing (codes "b") (codes "4096") (codes "-"))
 unfolding digits
-last_start = (1024, (omega arith, refl), omega arith)
+last_start = (4096, (omega arith, refl), omega arith)
 
-no_start : HasNumber worked_place (Phrase.Writing (codes "b") (codes "1025") (codes "-")) → ⊥
+no_start : HasNumber worked_place (Phrase.Writing (codes "b") (codes "4097") (codes "-")) → ⊥
 unfolding digits
-no_start some = let same = one_number (codes "1025") some.0 1025 some.1 (omega arith, refl) in omega (arith, same, some.2)
+no_start some = let same = one_number (codes "4097") some.0 4097 some.1 (omega arith, refl) in omega (arith, same, some.2)
 
 -- ---- HEX
 
@@ -119,13 +119,13 @@ dash_in_a_make is = let e : 1 ≡ 0 = is.even in omega (arith, e)
 dash_in_a_write : HasHex (Phrase.Writing (codes "b") (codes "0") (codes "-"))
 dash_in_a_write = inr refl
 
-most_digits : (hex : List ℕ) → length hex ≡ 2048 → HasLength (Phrase.Making (codes "c") hex) × HasLength (Phrase.Writing (codes "b") (codes "0") hex)
+most_digits : (hex : List ℕ) → length hex ≡ 8192 → HasLength (Phrase.Making (codes "c") hex) × HasLength (Phrase.Writing (codes "b") (codes "0") hex)
 most_digits hex long = (omega (arith, long), omega (arith, long))
 
-made_too_long : (hex : List ℕ) → length hex ≡ 2050 → HasLength (Phrase.Making (codes "c") hex) → ⊥
+made_too_long : (hex : List ℕ) → length hex ≡ 8194 → HasLength (Phrase.Making (codes "c") hex) → ⊥
 made_too_long hex long is = omega (arith, long, is)
 
-written_too_long : (hex : List ℕ) → length hex ≡ 2050 → HasLength (Phrase.Writing (codes "b") (codes "0") hex) → ⊥
+written_too_long : (hex : List ℕ) → length hex ≡ 8194 → HasLength (Phrase.Writing (codes "b") (codes "0") hex) → ⊥
 written_too_long hex long is = omega (arith, long, is)
 
 -- ---- modes

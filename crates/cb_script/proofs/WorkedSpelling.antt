@@ -80,7 +80,7 @@ worked_length = refl
 
 -- ---- lines of other verbs
 
-write_line : script_line (worked_lane 15 (Write (codes "a") 1024 (255 ∷ [])) 4) ≡ codes "15 write a 1024 ff"
+write_line : script_line (worked_lane 15 (Write (codes "a") 4096 (255 ∷ [])) 4) ≡ codes "15 write a 4096 ff"
 unfolding digits encode_with
 write_line = refl
 

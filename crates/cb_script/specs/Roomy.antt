@@ -1,5 +1,5 @@
 -- Scripts that find room for each of their objects, whatever was lost before.
-use Rattle.std.specs.Prelude.{◌≡◌, ℕ, ◌+◌, ◌*◌, ◌<◌, ◌≤◌, nat_eq, Bool, true, false, ◌&&◌, List, count_by}
+use Rattle.std.specs.Prelude.{◌≡◌, ℕ, ◌+◌, ◌*◌, ◌<◌, ◌≤◌, nat_eq, nat_lt, Bool, true, false, ◌&&◌, List, length, count_by}
 use Rattle.std.specs.List.{list_any, range_with_len}
 use Rattle.cb_types.specs.declared.request.Request.{Request}
 use Rattle.cb_types.specs.declared.request.Request.TheVariants.{Make, Pin, Begin, Ship, Commit, Abort, Pair, Patch, Merge, Part, Crash}
@@ -10,6 +10,15 @@ use Rattle.cb_script.specs.declared.script.Script.{Script}
 abbrev pub is_make : Request → Bool
 is_make (Make name bytes) = true
 is_make request = false
+
+-- the most bytes of an object whose span has one page
+abbrev pub page_bytes : ℕ
+page_bytes = 1024
+
+-- whether it makes a long one, whose span has more pages
+abbrev pub is_long_make : Request → Bool
+is_long_make (Make name bytes) = nat_lt page_bytes (length bytes)
+is_long_make request = false
 
 -- whether it pins one
 abbrev pub is_pin : Request → Bool
@@ -37,6 +46,10 @@ is_step request = false
 abbrev pub has_step_line : List Line → Bool
 has_step_line lines = list_any (λ l. is_step l.request) lines
 
+-- whether one of the lines makes a long object
+abbrev pub has_long_make : List Line → Bool
+has_long_make lines = list_any (λ l. is_long_make l.request) lines
+
 -- how many of the lines make an object
 abbrev pub makes_in : List Line → ℕ
 makes_in lines = count_by (λ l. is_make l.request) lines
@@ -57,21 +70,26 @@ has_crash lines n = list_any (λ l. is_crash n l.request) lines
 abbrev pub crashing : ℕ → List Line → ℕ
 crashing nodes lines = count_by (has_crash lines) (range_with_len 0 nodes)
 
--- A roomy script: frames for two batches beside all that can be pinned or claimed, nodes with room
--- for each object that can be made, and no more crashed nodes than a set can lose shards.
+-- A roomy script: frames for two batches beside all that can be pinned or claimed, and for the holes
+-- between them where an object is long; nodes with room for each object that can be made, and no
+-- more crashed nodes than a set can lose shards.
 pub record IsRoomy (s : Script) : Type 0 where
   pub frames : 2 * s.config.k + 360 ≤ s.config.frames
+  pub wide : has_long_make s.lines ≡ true → 28 * s.config.k + 2600 ≤ s.config.frames
   pub room : s.config.handles + 4 ≤ s.config.room
   pub nodes : s.config.k + 2 * s.config.r ≤ s.config.nodes
   pub makes : makes_in s.lines ≤ s.config.handles
   pub crashes : crashing s.config.nodes s.lines ≤ s.config.r
 
--- A script at ease: beside the frames that the pins of its lanes can hold, k are left for a batch;
--- beside the nodes that it crashes, k + r are left for a set, each with room for each object that
--- is made; no more nodes crash than a set can lose shards, there is a handle for each make, and no
--- line is a part of an eviction or of a compaction.
+-- A script at ease: beside the frames that the pins of its lanes can hold, k are left for a batch,
+-- and where an object is long so many that k spans of one length are loose where no four frames
+-- side by side are free; beside the nodes that it crashes, k + r are left for a set, each with room
+-- for each object that is made; no more nodes crash than a set can lose shards, there is a handle
+-- for each make, and no line is a part of an eviction or of a compaction.
 pub record IsAtEase (s : Script) : Type 0 where
   pub frames : s.config.k + 16 * pinning s.lines ≤ s.config.frames
+  pub wide : has_long_make s.lines ≡ true
+      → 21 * s.config.k + 112 * pinning s.lines ≤ s.config.frames
   pub room : makes_in s.lines < s.config.room
   pub nodes : s.config.k + s.config.r + crashing s.config.nodes s.lines ≤ s.config.nodes
   pub makes : makes_in s.lines ≤ s.config.handles

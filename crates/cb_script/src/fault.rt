@@ -23,11 +23,11 @@ pub enum Reason {
     Name,
     /// A make of a name that was made before, or another verb on one that its lane does not know.
     Known,
-    /// The node is no number below the nodes, or the place no number up to 1,024.
+    /// The node is no number below the nodes, or the place no number up to 4,096.
     Number,
     /// The bytes are not in lower-case hexadecimal.
     Hex,
-    /// There are more than 1,024 bytes.
+    /// There are more than 4,096 bytes.
     Length,
     /// A step of an eviction or a compaction, where lanes run as threads.
     Mode,

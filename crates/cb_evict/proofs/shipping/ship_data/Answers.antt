@@ -21,7 +21,7 @@ returns-in_err-put_row-clause-err g c =
     (c.requires.spans x.0 x.1)
     (subst (λ (n : ℕ). LoadsRun (λ es. g.D.Desk.run c.args.desk.now es c.load_span.new.desk)
     (λ s. g.D.Desk.shows c.args.desk.now s) c.args.frame n c.load_span.new.into)
-    (c.batch_pages-pages.ensures x.0 x.1) c.load_span.ensures.loads))
+    (c.leaving_pages-pages.ensures x.0 x.1) c.load_span.ensures.loads))
 
 pub returns-clause-ok : goal.returns-clause-ok
 returns-clause-ok g c = λ batch there.
@@ -43,7 +43,7 @@ returns-clause-ok g c = λ batch there.
     (λ s. g.D.Desk.shows c.args.desk.now s) c.args.frame batch.pages l) (sym same)
     (subst (λ (n : ℕ). LoadsRun (λ es. g.D.Desk.run c.args.desk.now es c.load_span.new.desk)
     (λ s. g.D.Desk.shows c.args.desk.now s) c.args.frame n c.load_span.new.into)
-    (c.batch_pages-pages.ensures batch there) c.load_span.ensures.loads))
+    (c.leaving_pages-pages.ensures batch there) c.load_span.ensures.loads))
     (λ s k. k)
     (c.note_shard.ensures batch (ap (λ (f : FarState). f.leaving) c.far.view_is ∙ there)
     ∙ ap (λ (n : NodesState). with_noted (record view { nodes = n }) batch p shard)
@@ -66,7 +66,7 @@ load_span-requires-clause-config g c = c.requires.config
 
 pub load_span-requires-clause-frames : goal.load_span-requires-clause-frames
 load_span-requires-clause-frames g c =
-    let x = c.requires.there in let pages = c.batch_pages-pages.ensures x.0 x.1 in
+    let x = c.requires.there in let pages = c.leaving_pages-pages.ensures x.0 x.1 in
     omega (arith, c.requires.frames x.0 x.1, pages)
 
 pub put_row-requires-clause-within : goal.put_row-requires-clause-within

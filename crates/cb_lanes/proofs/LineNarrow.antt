@@ -1,0 +1,144 @@
+-- No line but a long make brings a span or a set of several pages.
+use Rattle.std.proofs.Common.{◌≡◌, ℕ, List, [], ◌∷◌, ◌++◌, Option, None, Some, refl, ap, subst, sym}
+use Rattle.cb_types.specs.declared.answer.Answer.{Answer}
+use Rattle.cb_types.specs.declared.job.Job.{Job}
+use Rattle.cb_types.specs.declared.job.Job.TheVariants as job
+use Rattle.cb_types.specs.declared.request.Request.{Request}
+use Rattle.cb_types.specs.declared.request.Request.TheVariants.{Make, Read, Write, Free, Pin, Peek}
+use Rattle.cb_types.specs.declared.request.Request.TheVariants.{Unpin, Filter, Evict, Begin, Ship}
+use Rattle.cb_types.specs.declared.request.Request.TheVariants.{Commit, Abort, Pair, Patch, Merge}
+use Rattle.cb_types.specs.declared.request.Request.TheVariants.{Part, Compact, Rebuild, Crash, Join}
+use Rattle.cb_types.specs.declared.request.Request.TheVariants.{Leave}
+use Rattle.cb_types.specs.declared.reply.Reply.{Reply}
+use Rattle.cb_types.specs.Requests.{name_of}
+use Rattle.cb_model.specs.Called.{handle_named}
+use Rattle.cb_world.specs.World.{IsSoundWorld, WorldState}
+use Rattle.cb_core.specs.declared.event.Event.TheVariants.{Turn}
+use Rattle.cb_core.specs.Narrow.{IsLong, IsLongMade, IsMade, IsNarrow}
+use Rattle.cb_core.specs.Step.{Step, held as other_holds, free}
+use Rattle.cb_core.proofs.Laws.{KeepsNarrow, narrow_configured, narrow_same, narrow_stays, narrow_then}
+use Rattle.cb_core.proofs.Laws.{pin_far, turn_keeps_narrow, unpin_far}
+use Rattle.cb_lanes.specs.LineGoes.{job_of}
+use Rattle.cb_lanes.specs.LineStep.{LineStep, LinesLead, ObjectStep, OtherStep, TurnAt, PeekStep}
+use Rattle.cb_lanes.specs.LineStep.{PinLine, at_once, not_pinned, shown, stays_far, swapped_in}
+use Rattle.cb_lanes.specs.declared.side.Side.{Side}
+use Rattle.cb_lanes.proofs.LineCodes.{rests_far}
+use Rattle.cb_lanes.proofs.Recounting.{IsRecounted, turn_beside}
+
+-- the line is a make of more bytes than a span of one page has in a slot, and an object was made
+abbrev pub IsLongLine : Request → Reply → Type 0
+IsLongLine (Make name bytes) r = IsLong bytes × IsMade r
+IsLongLine request r = ⊥
+
+-- the same world
+same_world : (w new : WorldState) → new ≡ w → KeepsNarrow w.far new.far
+same_world w new same = narrow_same w.far new.far (ap (λ (v : WorldState). v.far) same)
+
+recounted_narrow : (w new : WorldState) → IsRecounted w new → KeepsNarrow w.far new.far
+recounted_narrow w new same =
+    subst (KeepsNarrow w.far) (sym same.far) (narrow_stays w.far _ refl refl refl refl)
+
+event_narrow : (seat : ℕ) (j : Job) (w new : WorldState) (r : Reply) → (IsLongMade j r → ⊥)
+    → Step w (Turn seat j) r new → KeepsNarrow w.far new.far
+event_narrow seat j w new r short (other_holds holder off holds is same) = same_world w new same
+event_narrow seat j w new r short (free none step) = turn_keeps_narrow w new j r short step
+
+side_narrow : (side : Side) (seat : ℕ) (j : Job) (w new : WorldState) (r : Reply)
+    → (IsLongMade j r → ⊥) → TurnAt j side seat w r new → KeepsNarrow w.far new.far
+side_narrow side seat j w new r short x = let z = turn_beside j side seat w new r x in
+    narrow_then w.far z.mid.far new.far (event_narrow seat j w z.mid r short z.step)
+    (recounted_narrow z.mid new z.counts)
+
+pin_narrow : (seat h : ℕ) (w new : WorldState) (r : Reply) → PinLine seat h w r new
+    → KeepsNarrow w.far new.far
+pin_narrow seat h w new r (at_once pin never) =
+    narrow_same w.far new.far (pin_far w new seat h r pin)
+pin_narrow seat h w new r (stays_far away swap off) =
+    event_narrow seat (job.Swap (record { n = h })) w new r (λ z. z) swap
+pin_narrow seat h w new r (swapped_in m q away swap is again) =
+    narrow_then w.far m.far new.far
+    (event_narrow seat (job.Swap (record { n = h })) w m q (λ z. z) swap)
+    (narrow_same m.far new.far (pin_far m new seat h r again))
+
+peek_narrow : (seat h : ℕ) (w new : WorldState) (r : Reply) → PeekStep seat h w r new
+    → KeepsNarrow w.far new.far
+peek_narrow seat h w new r (not_pinned none is same) = same_world w new same
+peek_narrow seat h w new r (shown at newest is same) = same_world w new same
+
+object_narrow : (side : Side) (seat : ℕ) (handle : Option ℕ) (request : Request) (w new : WorldState)
+    (r : Reply) → ObjectStep side seat handle request w r new → KeepsNarrow w.far new.far
+object_narrow side seat None request w new r x = same_world w new x.1
+object_narrow side seat (Some h) (Pin name) w new r x = pin_narrow seat h w new r x
+object_narrow side seat (Some h) (Peek name) w new r x = peek_narrow seat h w new r x
+object_narrow side seat (Some h) (Unpin name) w new r x =
+    narrow_same w.far new.far (unpin_far w new seat h r x)
+object_narrow side seat (Some h) (Read name) w new r x =
+    event_narrow seat (job.Read (record { n = h })) w new r (λ z. z) x
+object_narrow side seat (Some h) (Write name at bytes) w new r x =
+    event_narrow seat (job.Write (record { n = h }) at bytes) w new r (λ z. z) x
+object_narrow side seat (Some h) (Free name) w new r x =
+    event_narrow seat (job.Free (record { n = h })) w new r (λ z. z) x
+object_narrow side seat (Some h) (Filter name) w new r x =
+    event_narrow seat (job.Filter (record { n = h })) w new r (λ z. z) x
+object_narrow side seat (Some h) request w new r x = absurd x
+
+-- the job of a line about no object is no make
+abbrev IsLongIf : Option Job → Reply → Type 0
+IsLongIf None r = ⊥
+IsLongIf (Some j) r = IsLongMade j r
+
+no_make : (request : Request) (r : Reply) → IsLongIf (job_of request) r → ⊥
+no_make Evict r x = x
+no_make Begin r x = x
+no_make Ship r x = x
+no_make Commit r x = x
+no_make Abort r x = x
+no_make Pair r x = x
+no_make Patch r x = x
+no_make Merge r x = x
+no_make Part r x = x
+no_make Compact r x = x
+no_make Rebuild r x = x
+no_make (Crash node) r x = x
+no_make (Join node) r x = x
+no_make request r x = x
+
+other_narrow : (side : Side) (seat : ℕ) (handle : Option ℕ) (request : Request) (o : Option Job)
+    (w new : WorldState) (r : Reply) → (IsLongIf o r → ⊥)
+    → OtherStep side seat handle request o w r new → KeepsNarrow w.far new.far
+other_narrow side seat handle request (Some j) w new r short x = side_narrow side seat j w new r short x
+other_narrow side seat handle request None w new r short x =
+    object_narrow side seat handle request w new r x
+
+pub line_keeps_narrow : (side : Side) (seat : ℕ) (handle : Option ℕ) (request : Request)
+    (w new : WorldState) (r : Reply) → (IsLongLine request r → ⊥)
+    → LineStep side seat handle request w r new → KeepsNarrow w.far new.far
+line_keeps_narrow side seat handle (Make name bytes) w new r short x =
+    event_narrow seat (job.Make bytes) w new r short x
+line_keeps_narrow side seat handle Leave w new r short x =
+    narrow_same w.far new.far (rests_far 0 seat w new x.1)
+line_keeps_narrow side seat handle request w new r short x =
+    other_narrow side seat handle request (job_of request) w new r (no_make request r) x
+
+pub line_narrow : (w : WorldState) → IsSoundWorld w → (side : Side) (seat : ℕ) (handle : Option ℕ)
+    (request : Request) (new : WorldState) (r : Reply) → (IsLongLine request r → ⊥)
+    → LineStep side seat handle request w r new → IsNarrow w.far → IsNarrow new.far
+line_narrow w sound side seat handle request new r short step =
+    narrow_configured w.desk.settings w.far new.far sound.configured
+    (line_keeps_narrow side seat handle request w new r short step)
+
+-- so do lines one after another
+abbrev pub NoLongLine : List Answer → Type 0
+NoLongLine [] = Unit {0}
+NoLongLine (a ∷ after) = (IsLongLine a.request a.reply → ⊥) × NoLongLine after
+
+pub lines_keep_narrow : (side : Side) (before after : List Answer) (w new : WorldState)
+    → NoLongLine after → LinesLead side before w after new → KeepsNarrow w.far new.far
+lines_keep_narrow side before [] w new none same = same_world w new same
+lines_keep_narrow side before (a ∷ after) w new (short, rest) (between, rested, step, rests, lead) =
+    narrow_then w.far between.far new.far
+    (line_keeps_narrow side a.lane.n (handle_named before (name_of a.request)) a.request w between a.reply short
+    step)
+    (narrow_then between.far rested.far new.far
+    (narrow_same between.far rested.far (rests_far _ a.lane.n between rested rests))
+    (lines_keep_narrow side (before ++ a ∷ []) after rested new rest lead))
