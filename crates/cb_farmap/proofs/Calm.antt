@@ -1,6 +1,6 @@
 -- With the whole share, where the record wrote no later version of an object than the kept one: what
 -- a read and a write of it are never answered.
-use Rattle.std.proofs.Common.{◌≡◌, ℕ, ◌+◌, ◌<◌, ◌≤◌, true≢false, List, [], ◌∷◌, ◌++◌, length, Option, None, Some, Result, Ok, Err, IfOk, refl, sym, ap, ◌∙◌, subst, inl, inr, ⊎_elim, arith}
+use Rattle.std.proofs.Common.{◌≡◌, ℕ, ◌+◌, ◌<◌, ◌≤◌, Bool, true≢false, List, [], ◌∷◌, ◌++◌, length, Option, None, Some, Result, Ok, Err, IfOk, refl, sym, ap, ◌∙◌, subst, inl, inr, ⊎_elim, arith}
 use Rattle.cb_member.specs.declared.no_memory.NoMemory.{NoMemory as Want}
 use Rattle.cb_types.specs.declared.config.Config.{Config}
 use Rattle.cb_types.specs.declared.job.Job.{Job}
@@ -21,7 +21,7 @@ use Rattle.cb_rule.specs.Steps.{AreNew, HasLast, IsNewest, freed_seen}
 use Rattle.cb_record.specs.Parts.{Part, grown}
 use Rattle.cb_shared.specs.declared.answers.WriteAnswer.{WriteAnswer}
 use Rattle.cb_shared.specs.declared.answers.WriteAnswer.TheVariants as place
-use Rattle.cb_shared.specs.Calls.{AsksFor, AtThis, IsLack, ReadCallEnds, ReadGives, ReadsInPlace, SaysAs, TellsWhatIs, TurnGives, WriteAnswers, WriteCallEnds, WriteFinds}
+use Rattle.cb_shared.specs.Calls.{AsksFor, AtThis, IsLack, ReadCallEnds, ReadGives, ReadsInPlace, SaysAs, TellsWhatIs, TurnGives, WriteAnswers, WriteCallEnds, WriteFinds, again_in}
 use Rattle.cb_shared.specs.Glances.{IsLastAlone}
 use Rattle.cb_shared.specs.Reading.{looked}
 use Rattle.cb_farmap.specs.declared.kept.Cannot.TheVariants as cannot
@@ -103,12 +103,14 @@ module _ (v : View) (k : KeptObject) (sole : IsSole v k) (idle : v.fresh ≡ [])
 -- ---- a read
 -- one that is told neither of its object nor of a lack has no such end
 read_off : (c : Config) (h : ℕ) (r : Reply) (v : View) (d : Part) → (ReadsInPlace h r v d → ⊥)
-    → (TellsWhatIs r → ⊥) → (IsLack c r → ⊥) → ReadCallEnds c h r v d → ⊥
+    → (TellsWhatIs r → ⊥) → ((again : Bool) → IsLack again r → ⊥) → ReadCallEnds c h r v d → ⊥
 read_off c h r v d there off lack (inl x) = there x
 read_off c h r v d there off lack (inr (j, inl is, x)) =
-    lack (subst (λ (z : Job). AsksFor c z r h v d) is x).turned.0
+    let y = subst (λ (z : Job). AsksFor c z r h v d) is x in
+    lack (again_in y.later.turns) y.turned.0
 read_off c h r v d there off lack (inr (j, inr is, x)) =
-    ⊎_elim off lack (subst (λ (z : Job). AsksFor c z r h v d) is x).turned.0
+    let y = subst (λ (z : Job). AsksFor c z r h v d) is x in
+    ⊎_elim off (lack (again_in y.later.turns)) y.turned.0
 
 module _ (c : Config) (k : KeptObject) (v w u : View) (sole : IsSole v k) (idle : v.fresh ≡ [])
     (o : IsObject v.written k) (same : u ≡ w) (stands : RecordStands u) where
@@ -117,9 +119,9 @@ module _ (c : Config) (k : KeptObject) (v w u : View) (sole : IsSole v k) (idle 
       (ap (λ (z : View). z.written) same ∙ read_written c k.handle.n answer.Freed v w gives) w same
       (freed_read c k.handle.n v w gives)
   read_refused (answer.Range len) (d, x, is) = read_off c k.handle.n (answer.Range len)
-      (grown x.before v) x.last (λ t. t) (λ t. t) (λ t. t) x.ends_so
+      (grown x.before v) x.last (λ t. t) (λ t. t) (λ again t. t) x.ends_so
   read_refused (answer.Pinned count) (d, x, is) = read_off c k.handle.n (answer.Pinned count)
-      (grown x.before v) x.last (λ t. t) (λ t. t) (λ t. t) x.ends_so
+      (grown x.before v) x.last (λ t. t) (λ t. t) (λ again t. t) x.ends_so
   read_refused r gives = tt
 
   pub read_calm : (read : Result Reply Want) (t : Option Cannot) → Tells (AskRead k) read t

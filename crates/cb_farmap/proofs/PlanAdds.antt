@@ -12,6 +12,7 @@ use Rattle.cb_rule.specs.declared.turn.Turn.{Turn}
 use Rattle.cb_rule.specs.declared.view.View.{View}
 use Rattle.cb_rule.specs.History.{is_version}
 use Rattle.cb_rule.specs.Lists.{Each, Has, times}
+use Rattle.cb_rule.specs.TriesAgain.{tries_again}
 use Rattle.cb_shared.specs.Calls.{IsAnswer, IsAnswerTo, IsFetch, the_handle}
 use Rattle.cb_shared.specs.Making.{MakesNew}
 use Rattle.cb_map_text.specs.Plain.{Plain, after_said, calls_something, needs_object, objects, plain_after, plain_said}
@@ -422,12 +423,12 @@ place_off (AskRead k) r refusal calm x = x
 place_off (AskWrite k at bytes) r refusal calm x = x
 place_off (AskMake bytes) r refusal calm x = x
 
-no_version : (c : Config) (j : Job) (n : ℕ) → IsAnswerTo c j (answer.Version n)
+no_version : (again : Bool) (j : Job) (n : ℕ) → IsAnswerTo again j (answer.Version n)
     → (h : ℕ) → IsFetch h j → ⊥
-no_version c j n answers h (inl is) =
-    subst (λ (k : Job). IsAnswerTo c k (answer.Version n)) is answers
-no_version c j n answers h (inr is) =
-    elim (subst (λ (k : Job). IsAnswerTo c k (answer.Version n)) is answers) [
+no_version again j n answers h (inl is) =
+    subst (λ (k : Job). IsAnswerTo again k (answer.Version n)) is answers
+no_version again j n answers h (inr is) =
+    elim (subst (λ (k : Job). IsAnswerTo again k (answer.Version n)) is answers) [
       | inl x ↦ x
       | inr x ↦ x
     ]
@@ -457,45 +458,45 @@ fetch_own h j r (inl is) x =
 fetch_own h j r (inr is) x =
     read_own (the_handle h) r (subst (λ (k : Job). IsOutOfPlace k r) is x)
 
-read_off : (c : Config) (k : KeptObject) (j : Job) (r : Reply) → IsRefusal (AskRead k) r
-    → IsCalm (Some (cannot.Refused r)) → IsFetch k.handle.n j → IsAnswerTo c j r → IsOfOwn r → ⊥
-read_off c k j (answer.Bytes version bytes) refusal calm fetch answers x = refusal version bytes refl
-read_off c k j (answer.Version n) refusal calm fetch answers x =
-    no_version c j n answers k.handle.n fetch
-read_off c k j answer.Freed refusal calm fetch answers x = calm
-read_off c k j (answer.Range len) refusal calm fetch answers x = calm
-read_off c k j (answer.Pinned count) refusal calm fetch answers x = calm
-read_off c k j r refusal calm fetch answers x = x
+read_off : (again : Bool) (k : KeptObject) (j : Job) (r : Reply) → IsRefusal (AskRead k) r
+    → IsCalm (Some (cannot.Refused r)) → IsFetch k.handle.n j → IsAnswerTo again j r → IsOfOwn r → ⊥
+read_off again k j (answer.Bytes version bytes) refusal calm fetch answers x = refusal version bytes refl
+read_off again k j (answer.Version n) refusal calm fetch answers x =
+    no_version again j n answers k.handle.n fetch
+read_off again k j answer.Freed refusal calm fetch answers x = calm
+read_off again k j (answer.Range len) refusal calm fetch answers x = calm
+read_off again k j (answer.Pinned count) refusal calm fetch answers x = calm
+read_off again k j r refusal calm fetch answers x = x
 
-no_bytes : (c : Config) (version : ℕ) (bytes : List ℕ) → IsAnswer c (answer.Bytes version bytes) → ⊥
-no_bytes c version bytes (inl x) = x
-no_bytes c version bytes (inr x) = x
+no_bytes : (again : Bool) (version : ℕ) (bytes : List ℕ) → IsAnswer again (answer.Bytes version bytes) → ⊥
+no_bytes again version bytes (inl x) = x
+no_bytes again version bytes (inr x) = x
 
-write_off : (c : Config) (k : KeptObject) (at : ℕ) (bytes : List ℕ) (r : Reply)
-    → IsRefusal (AskWrite k at bytes) r → IsCalm (Some (cannot.Refused r)) → IsAnswer c r
+write_off : (again : Bool) (k : KeptObject) (at : ℕ) (bytes : List ℕ) (r : Reply)
+    → IsRefusal (AskWrite k at bytes) r → IsCalm (Some (cannot.Refused r)) → IsAnswer again r
     → IsOfOwn r → ⊥
-write_off c k at bytes (answer.Bytes version found) refusal calm answers x =
-    no_bytes c version found answers
-write_off c k at bytes (answer.Version n) refusal calm answers x = refusal n refl
-write_off c k at bytes answer.Freed refusal calm answers x = calm
-write_off c k at bytes (answer.Range len) refusal calm answers x = calm
-write_off c k at bytes (answer.Pinned count) refusal calm answers x = calm
-write_off c k at bytes r refusal calm answers x = x
+write_off again k at bytes (answer.Bytes version found) refusal calm answers x =
+    no_bytes again version found answers
+write_off again k at bytes (answer.Version n) refusal calm answers x = refusal n refl
+write_off again k at bytes answer.Freed refusal calm answers x = calm
+write_off again k at bytes (answer.Range len) refusal calm answers x = calm
+write_off again k at bytes (answer.Pinned count) refusal calm answers x = calm
+write_off again k at bytes r refusal calm answers x = x
 
 make_off : (bytes : List ℕ) (r : Reply) → IsRefusal (AskMake bytes) r
     → IsOutOfPlace (jobs.Make bytes) r → ⊥
 make_off bytes (answer.Made handle version) refusal x = refusal handle version refl
 make_off bytes r refusal x = x
 
-place_of : (c : Config) (ask : Ask) (j : Job) (r : Reply) → IsRefusal ask r
-    → IsCalm (Some (cannot.Refused r)) → IsAskedBy ask j → IsAnswerTo c j r → IsOutOfPlace j r → ⊥
-place_of c (AskRead k) j r refusal calm asked answers x =
-    read_off c k j r refusal calm asked answers (fetch_own k.handle.n j r asked x)
-place_of c (AskWrite k at bytes) j r refusal calm asked answers x =
-    write_off c k at bytes r refusal calm
-    (subst (λ (i : Job). IsAnswerTo c i r) asked answers)
+place_of : (again : Bool) (ask : Ask) (j : Job) (r : Reply) → IsRefusal ask r
+    → IsCalm (Some (cannot.Refused r)) → IsAskedBy ask j → IsAnswerTo again j r → IsOutOfPlace j r → ⊥
+place_of again (AskRead k) j r refusal calm asked answers x =
+    read_off again k j r refusal calm asked answers (fetch_own k.handle.n j r asked x)
+place_of again (AskWrite k at bytes) j r refusal calm asked answers x =
+    write_off again k at bytes r refusal calm
+    (subst (λ (i : Job). IsAnswerTo again i r) asked answers)
     (write_own (the_handle k.handle.n) at bytes r (subst (λ (i : Job). IsOutOfPlace i r) asked x))
-place_of c (AskMake bytes) j r refusal calm asked answers x =
+place_of again (AskMake bytes) j r refusal calm asked answers x =
     make_off bytes r refusal (subst (λ (i : Job). IsOutOfPlace i r) asked x)
 
 -- ---- what a command comes to
@@ -530,7 +531,7 @@ module _ (c : Config) (first most : ℕ) (low : first ≤ most) (s : Plain) (tal
   record IsPlain (said : FarAnswer) : Type 0 where
     goes_on : refusal_in said ≡ None
     after : after_said s a said ≡ plain_after s a
-    says : (u : View) (more : List Turn) → said ≡ plain_said s a → IsSaid c s a said u more
+    says : (u : View) (more : List Turn) → said ≡ plain_said s a → IsSaid s a said u more
 
   plain_one : (said : FarAnswer) → refusal_in said ≡ None → IsPlain said
   plain_one (saying.Refused r) is = absurd (let e : Some (cannot.Refused r) ≡ None = is in cc)
@@ -587,7 +588,7 @@ module _ (c : Config) (first most : ℕ) (low : first ≤ most) (s : Plain) (tal
     calls_it false is = absurd
         (subst (λ (p : List Ask). Goes c first p (Some (cannot.Refused r)) v w) (suits.calls is) go)
 
-    by_turn : IsToldBy c y.refused.ask r z.more → IsToldByTurn c s a r w z.more
+    by_turn : IsToldBy c y.refused.ask r z.more → IsToldByTurn s a r w z.more
     by_turn t = record {
       turn = t.turn;
       before = t.before;
@@ -595,7 +596,7 @@ module _ (c : Config) (first most : ℕ) (low : first ≤ most) (s : Plain) (tal
       reply_is = t.reply;
       job_is = by y.refused.ask y.refused.there t.asked;
       answers = t.answers;
-      lacks = place_of c y.refused.ask t.turn.job r y.refused.refusal calm t.asked t.answers;
+      lacks = place_of (tries_again t.turn) y.refused.ask t.turn.job r y.refused.refusal calm t.asked t.answers;
     }
       where
         by : (ask : Ask) → Has ask plan → IsAskedBy ask t.turn.job
@@ -611,7 +612,7 @@ module _ (c : Config) (first most : ℕ) (low : first ≤ most) (s : Plain) (tal
             (each_there (IsOfRecord w most) (AskWrite k at bytes) plan (of_now 0 z) there).0)
 
     told : IsInPlace y.refused.ask r v ⊎ IsToldBy c y.refused.ask r z.more
-        → IsToldByTurn c s a r w z.more
+        → IsToldByTurn s a r w z.more
     told (inl (inl x)) = absurd (place_off y.refused.ask r y.refused.refusal calm x)
     told (inl (inr (is, saw))) =
         absurd (never_last (handle_of y.refused.ask) most v top whole idle old saw)

@@ -1,5 +1,5 @@
 -- What the calls of a plan add to the turns and the entries of a record.
-use Rattle.std.proofs.Common.{◌≡◌, ◌⊎◌, ℕ, ◌+◌, ◌-◌, ◌^◌, ◌≤◌, List, [], ◌∷◌, ◌++◌, length, Option, Some, Ok, refl, sym, ap, ◌∙◌, subst, inl, inr, arith}
+use Rattle.std.proofs.Common.{◌≡◌, ◌⊎◌, ℕ, ◌+◌, ◌-◌, ◌^◌, ◌≤◌, Bool, List, [], ◌∷◌, ◌++◌, length, Option, Some, Ok, refl, sym, ap, ◌∙◌, subst, inl, inr, arith}
 use Rattle.std.proofs.lemmas.List.{append-nil}
 use Rattle.cb_types.specs.declared.config.Config.{Config}
 use Rattle.cb_types.specs.declared.job.Job.{Job}
@@ -14,7 +14,8 @@ use Rattle.cb_rule.specs.Lists.{Each}
 use Rattle.cb_record.specs.Parts.{Part, Grows, grown, sum}
 use Rattle.cb_shared.specs.declared.answers.WriteAnswer.{WriteAnswer}
 use Rattle.cb_shared.specs.declared.answers.WriteAnswer.TheVariants as place
-use Rattle.cb_shared.specs.Calls.{AsksFor, IsAnswerTo, IsFetch, IsInVain, IsUnanswered, IsUnfetched, ReadCallEnds, ReadGives, ReadsInPlace, SaysAs, TurnGives, WriteAnswers, WriteCallEnds, WriteFinds, AtThis, LooksOf, the_handle}
+use Rattle.cb_rule.specs.TriesAgain.{tries_again}
+use Rattle.cb_shared.specs.Calls.{AsksFor, IsAnswerTo, IsFetch, IsInVain, IsUnanswered, IsUnfetched, ReadCallEnds, ReadGives, ReadsInPlace, SaysAs, TurnGives, WriteAnswers, WriteCallEnds, WriteFinds, AtThis, LooksOf, the_handle, again_in}
 use Rattle.cb_shared.specs.Making.{MakesNew}
 use Rattle.cb_shared.specs.Reading.{looked}
 use Rattle.cb_shared.specs.Turning.{TurnAdds, made_by_turn}
@@ -94,7 +95,7 @@ pub record IsToldBy (c : Config) (ask : Ask) (r : Reply) (turns : List Turn) : T
   pub newest : turns ≡ turn ∷ before
   pub asked : IsAskedBy ask turn.job
   pub reply : turn.reply ≡ Some r
-  pub answers : IsAnswerTo c turn.job r
+  pub answers : IsAnswerTo (tries_again turn) turn.job r
 
 -- what a call adds
 pub record CallAdds (c : Config) (ask : Ask) (r : Reply) (v w : View) : Type 0 where
@@ -112,28 +113,29 @@ pub record CallAdds (c : Config) (ask : Ask) (r : Reply) (v w : View) : Type 0 w
   pub told : IsInPlace ask r v ⊎ IsToldBy c ask r more
 
 -- ---- tries that came to nothing made nothing
-make_none : (c : Config) (bytes : List ℕ) (r : Reply) → (IsAnswerTo c (jobs.Make bytes) r → ⊥)
+make_none : (again : Bool) (bytes : List ℕ) (r : Reply)
+    → (IsAnswerTo again (jobs.Make bytes) r → ⊥)
     → length (made_by_turn (jobs.Make bytes) (Some r)) ≡ 0
-make_none c bytes (answer.Made handle version) off = absurd (off (inl tt))
-make_none c bytes r off = refl
+make_none again bytes (answer.Made handle version) off = absurd (off (inl tt))
+make_none again bytes r off = refl
 
-vain_make : (c : Config) (bytes : List ℕ) (t : Turn) → IsUnanswered c (jobs.Make bytes) t
+vain_make : (bytes : List ℕ) (t : Turn) → IsUnanswered (jobs.Make bytes) t
     → made_in t ≡ 0
-vain_make c bytes t (job, (r, reply, off)) = ap (λ (j : Job). length (made_by_turn j t.reply)) job
+vain_make bytes t (job, (r, reply, off)) = ap (λ (j : Job). length (made_by_turn j t.reply)) job
     ∙ ap (λ (o : Option Reply). length (made_by_turn (jobs.Make bytes) o)) reply
-    ∙ make_none c bytes r off
+    ∙ make_none (tries_again t) bytes r off
 
 fetch_none : (h : ℕ) (j : Job) (o : Option Reply) → IsFetch h j → length (made_by_turn j o) ≡ 0
 fetch_none h j o (inl is) = ap (λ (k : Job). length (made_by_turn k o)) is
 fetch_none h j o (inr is) = ap (λ (k : Job). length (made_by_turn k o)) is
 
-vain_fetch : (c : Config) (h : ℕ) (t : Turn) → IsUnfetched c h t → made_in t ≡ 0
-vain_fetch c h t (job, fetch, (is, unanswered)) =
+vain_fetch : (h : ℕ) (t : Turn) → IsUnfetched h t → made_in t ≡ 0
+vain_fetch h t (job, fetch, (is, unanswered)) =
     fetch_none h t.job t.reply (subst (IsFetch h) (sym is) fetch)
 
-vain_write : (c : Config) (h at : ℕ) (bytes : List ℕ) (t : Turn)
-    → IsUnanswered c (jobs.Write (the_handle h) at bytes) t → made_in t ≡ 0
-vain_write c h at bytes t (is, unanswered) =
+vain_write : (h at : ℕ) (bytes : List ℕ) (t : Turn)
+    → IsUnanswered (jobs.Write (the_handle h) at bytes) t → made_in t ≡ 0
+vain_write h at bytes t (is, unanswered) =
     ap (λ (k : Job). length (made_by_turn k t.reply)) is
 
 none_made : (P : Turn → Type 0) → ((t : Turn) → P t → made_in t ≡ 0) → (ts : List Turn) → Each P ts
@@ -149,7 +151,7 @@ record LastAdds (c : Config) (ask : Ask) (r : Reply) (v : View) (d : Part) : Typ
   told : IsInPlace ask r v ⊎ IsToldBy c ask r d.turns
 
 one_turn : (c : Config) (ask : Ask) (r : Reply) (v u : View) (d : Part) (j : Job) → IsAskedBy ask j
-    → IsAnswerTo c j r → length (made_by_turn j (Some r)) ≡ made_of ask r
+    → IsAnswerTo (again_in d.turns) j r → length (made_by_turn j (Some r)) ≡ made_of ask r
     → (x : TurnAdds c j (Ok r) u d) → LastAdds c ask r v d
 one_turn c ask r v u d j asked answers made x = record {
   jobs_are = subst (λ (ts : List Turn). Each (λ (t : Turn). IsAskedBy ask t.job) ts) (sym turns)
@@ -161,7 +163,8 @@ one_turn c ask r v u d j asked answers made x = record {
     newest = turns;
     asked = subst (IsAskedBy ask) (sym x.job_is) asked;
     reply = x.reply_is;
-    answers = subst (λ (k : Job). IsAnswerTo c k r) (sym x.job_is) answers;
+    answers = subst (λ (k : Job). IsAnswerTo (tries_again x.turn) k r) (sym x.job_is)
+        (subst (λ (b : Bool). IsAnswerTo b j r) (ap again_in turns) answers);
   });
 }
   where
@@ -313,9 +316,9 @@ read_adds : (c : Config) (k : KeptObject) (r : Reply) (v w : View) → ReadGives
 read_adds c k r v w (d, x, is) = adds_in_all c (AskRead k) r v w x.before x.last
     (turns_of v w d x.before x.last x.part (ap (λ (z : View). z.turns) is)) []
     (read_written c k.handle.n r v w (d, x, is)) (omega arith) tt tt (omega arith) (same_of v w d is)
-    (vain_jobs (AtThis k.handle.n) (IsUnfetched c k.handle.n) (λ t. IsFetch k.handle.n t.job)
+    (vain_jobs (AtThis k.handle.n) (IsUnfetched k.handle.n) (λ t. IsFetch k.handle.n t.job)
     (λ t (j, fetch, (same, un)). subst (IsFetch k.handle.n) (sym same) fetch) x.before x.in_vain)
-    (vain_made (AtThis k.handle.n) (IsUnfetched c k.handle.n) (vain_fetch c k.handle.n) x.before
+    (vain_made (AtThis k.handle.n) (IsUnfetched k.handle.n) (vain_fetch c k.handle.n) x.before
     x.in_vain)
     (read_ends c k r v (grown x.before v) x.last x.ends_so)
 
@@ -335,10 +338,10 @@ module _ (c : Config) (k : KeptObject) (at : ℕ) (bytes : List ℕ) (r : Reply)
       adds_in_all c (AskWrite k at bytes) r v w x.before x.last
       (turns_of v w gives.0 x.before x.last x.part (ap (λ (z : View). z.turns) gives.2))
       entries wrote few low are (omega arith) (same_of v w gives.0 gives.2)
-      (vain_jobs (AtThis h) (IsUnanswered c own) (λ t. t.job ≡ own) (λ t un. un.0) x.before x.in_vain)
-      (vain_made (AtThis h) (IsUnanswered c own) (vain_write c h at bytes) x.before x.in_vain)
+      (vain_jobs (AtThis h) (IsUnanswered own) (λ t. t.job ≡ own) (λ t un. un.0) x.before x.in_vain)
+      (vain_made (AtThis h) (IsUnanswered own) (vain_write h at bytes) x.before x.in_vain)
       (write_ends c k at bytes r v x.before x.last
-      (vain_written (AtThis h) (IsUnanswered c own) x.before x.in_vain) x.ends_so)
+      (vain_written (AtThis h) (IsUnanswered own) x.before x.in_vain) x.ends_so)
 
 write_one : (c : Config) (k : KeptObject) (at : ℕ) (bytes : List ℕ) (r : Reply) (v w : View)
     → WriteAnswers c k.handle.n at bytes r v w → CallAdds c (AskWrite k at bytes) r v w
@@ -402,9 +405,9 @@ make_adds c first bytes r v w (d, x, is) new = adds_in_all c (AskMake bytes) r v
     (sym (ap (λ (p : Part). p.written) x.ends_so.1.part))
     (make_some bytes r x.ends_so.1.more x.ends_so.1.wrote))
     (ap (λ (z : View). z.share) is, ap (λ (z : View). z.fresh) is)
-    (vain_jobs (LooksOf (jobs.Make bytes)) (IsUnanswered c (jobs.Make bytes))
+    (vain_jobs (LooksOf (jobs.Make bytes)) (IsUnanswered (jobs.Make bytes))
     (λ t. t.job ≡ jobs.Make bytes) (λ t un. un.0) x.before x.in_vain)
-    (vain_made (LooksOf (jobs.Make bytes)) (IsUnanswered c (jobs.Make bytes)) (vain_make c bytes)
+    (vain_made (LooksOf (jobs.Make bytes)) (IsUnanswered (jobs.Make bytes)) (vain_make bytes)
     x.before x.in_vain)
     (one_turn c (AskMake bytes) r v (grown x.before v) x.last (jobs.Make bytes) refl x.ends_so.0
     (make_alike bytes r) x.ends_so.1)
@@ -412,7 +415,7 @@ make_adds c first bytes r v w (d, x, is) new = adds_in_all c (AskMake bytes) r v
     wrote : d.written ≡ x.last.written
     wrote = ap (λ (p : Part). p.written) x.part
         ∙ ap (λ (l : List Entry). x.last.written ++ l) (vain_written
-        (LooksOf (jobs.Make bytes)) (IsUnanswered c (jobs.Make bytes)) x.before x.in_vain)
+        (LooksOf (jobs.Make bytes)) (IsUnanswered (jobs.Make bytes)) x.before x.in_vain)
         ∙ append-nil x.last.written
 
 pub call_adds : (c : Config) (first : ℕ) (ask : Ask) (r : Reply) (v w : View)

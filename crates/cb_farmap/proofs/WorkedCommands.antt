@@ -1,6 +1,6 @@
 -- Worked examples of commands on an array and a map: what meets each definition, and what breaks one
 -- part alone.
-use Rattle.std.proofs.Common.{◌≡◌, ◌⊎◌, ℕ, suc, ◌+◌, ◌≤◌, true, false, List, [], ◌∷◌, ◌++◌, length, replicate, get_or, Option, None, Some, Ok, Err, refl, sym, ap, ◌∙◌, subst, inl, inr, arith}
+use Rattle.std.proofs.Common.{◌≡◌, ◌⊎◌, ℕ, suc, ◌+◌, ◌≤◌, Bool, true, false, List, [], ◌∷◌, ◌++◌, length, replicate, get_or, Option, None, Some, Ok, Err, refl, sym, ap, ◌∙◌, subst, inl, inr, arith}
 use Rattle.std.proofs.lemmas.List.{append-nil, length-append}
 use Rattle.cb_types.specs.declared.config.Config.{Config}
 use Rattle.cb_types.specs.declared.job.Job.{Job}
@@ -13,6 +13,7 @@ use Rattle.cb_rule.specs.declared.view.Stand.{Stand}
 use Rattle.cb_rule.specs.declared.view.View.{View}
 use Rattle.cb_rule.specs.Lists.{Each}
 use Rattle.cb_rule.specs.Steps.{opener}
+use Rattle.cb_rule.specs.TriesAgain.{tries_again}
 use Rattle.cb_shared.specs.Calls.{IsAnswerTo}
 use Rattle.cb_map_text.specs.Plain.{Plain, fresh}
 use Rattle.cb_map_text.specs.declared.command.FarAnswer.{FarAnswer}
@@ -89,7 +90,7 @@ full_in_place : IsOutOfPlace (jobs.Make []) (answer.Full 2) → ⊥
 full_in_place is = is
 
 -- a push of the first number, where all handles are made
-told_full : (t : Turn) → IsToldByTurn two fresh (command.Push 7) (answer.Full 2) v
+told_full : (t : Turn) → IsToldByTurn fresh (command.Push 7) (answer.Full 2) v
     (making t (answer.Full 2) ∷ [])
 told_full t = record {
   turn = making t (answer.Full 2);
@@ -102,12 +103,12 @@ told_full t = record {
 }
 
 -- with no turn that tells it
-no_turn : (r : Reply) → IsToldByTurn two fresh (command.Push 7) r v [] → ⊥
+no_turn : (r : Reply) → IsToldByTurn fresh (command.Push 7) r v [] → ⊥
 no_turn r x = let z : 0 ≡ suc (length x.before) = ap (λ (l : List Turn). length l) x.newest in
     omega (arith, z)
 
 -- where no object is needed
-makes_needless : (t : Turn) (r : Reply) → IsToldByTurn two fresh (command.Get 0) r v (making t r ∷ []) → ⊥
+makes_needless : (t : Turn) (r : Reply) → IsToldByTurn fresh (command.Get 0) r v (making t r ∷ []) → ⊥
 makes_needless t r x = by x.job_is
   where
     by : (IsMake x.turn.job × (false ≡ true)) ⊎ IsOnObject v x.turn.job → ⊥
@@ -121,7 +122,7 @@ makes_needless t r x = by x.job_is
         off j on = on
 
 -- the one turn that there is
-the_turn : (t : Turn) (r q : Reply) → (x : IsToldByTurn two fresh (command.Push 7) r v (making t q ∷ []))
+the_turn : (t : Turn) (r q : Reply) → (x : IsToldByTurn fresh (command.Push 7) r v (making t q ∷ []))
     → making t q ≡ x.turn
 the_turn t r q x = let e = x.newest in cc
 
@@ -131,37 +132,37 @@ handles_in o = 0
 
 -- it was told something else
 other_reply : (t : Turn)
-    → IsToldByTurn two fresh (command.Push 7) (answer.Full 2) v (making t (answer.Full 3) ∷ []) → ⊥
+    → IsToldByTurn fresh (command.Push 7) (answer.Full 2) v (making t (answer.Full 3) ∷ []) → ⊥
 other_reply t x = let z : 3 ≡ 2 = ap handles_in (ap (λ (t : Turn). t.reply)
     (the_turn t (answer.Full 2) (answer.Full 3) x) ∙ x.reply_is) in omega (arith, z)
 
 -- or what does not answer the call
 no_answer : (t : Turn)
-    → IsToldByTurn two fresh (command.Push 7) answer.Moving v (making t answer.Moving ∷ []) → ⊥
-no_answer t x = by (subst (λ (j : Job). IsAnswerTo two j answer.Moving)
+    → IsToldByTurn fresh (command.Push 7) answer.Moving v (making t answer.Moving ∷ []) → ⊥
+no_answer t x = by (tries_again x.turn) (subst (λ (j : Job). IsAnswerTo (tries_again x.turn) j answer.Moving)
     (sym (ap (λ (t : Turn). t.job) (the_turn t answer.Moving answer.Moving x))) x.answers)
   where
-    by : IsAnswerTo two (jobs.Make []) answer.Moving → ⊥
-    by (inl z) = z
-    by (inr z) = z
+    by : (again : Bool) → IsAnswerTo again (jobs.Make []) answer.Moving → ⊥
+    by again (inl z) = z
+    by again (inr z) = z
 
 -- or that the object was made
-told_made : (t : Turn) → IsToldByTurn two fresh (command.Push 7) one v (making t one ∷ []) → ⊥
+told_made : (t : Turn) → IsToldByTurn fresh (command.Push 7) one v (making t one ∷ []) → ⊥
 told_made t x = x.lacks (subst (λ (j : Job). IsOutOfPlace j one)
     (ap (λ (t : Turn). t.job) (the_turn t one one x)) tt)
 
-full_said : (t : Turn) → IsSaid two fresh (command.Push 7) (Refused (answer.Full 2)) v
+full_said : (t : Turn) → IsSaid fresh (command.Push 7) (Refused (answer.Full 2)) v
     (making t (answer.Full 2) ∷ [])
 full_said t = (refl, told_full t)
 
-done_said : IsSaid two fresh (command.Push 7) Done v []
+done_said : IsSaid fresh (command.Push 7) Done v []
 done_said = refl
 
-not_said : IsSaid two fresh (command.Push 7) Nothing v [] → ⊥
+not_said : IsSaid fresh (command.Push 7) Nothing v [] → ⊥
 not_said is = let z : Nothing ≡ Done = is in cc
 
 -- nothing is refused that calls nothing
-pop_not_refused : (r : Reply) (more : List Turn) → IsSaid two fresh command.Pop (Refused r) v more → ⊥
+pop_not_refused : (r : Reply) (more : List Turn) → IsSaid fresh command.Pop (Refused r) v more → ⊥
 pop_not_refused r more said = let z : false ≡ true = said.0 in cc
 
 -- ---- a command

@@ -12,6 +12,7 @@ use Rattle.cb_rule.specs.declared.turn.Turn.{Turn}
 use Rattle.cb_rule.specs.declared.view.View.{View}
 use Rattle.cb_rule.specs.Lists.{Each, Has, total}
 use Rattle.cb_rule.specs.OneHistory.{IsOneHistory}
+use Rattle.cb_rule.specs.TriesAgain.{tries_again}
 use Rattle.cb_shared.specs.Calls.{IsAnswerTo}
 use Rattle.cb_shared.specs.Turning.{Did, made_by_turn}
 use Rattle.cb_map_text.specs.Plain.{Plain, after_said, calls_something, needs_object, objects, plain_said}
@@ -72,20 +73,20 @@ IsOutOfPlace j r = ⊥
 
 -- The newest of the turns that a command added tells it: one that makes an object, where the command
 -- needs one, or one on an object of the record. Its reply answers the call, and is none of these.
-pub record IsToldByTurn (c : Config) (s : Plain) (a : FarCommand) (r : Reply) (w : View)
-    (more : List Turn) : Type 0 where
+pub record IsToldByTurn (s : Plain) (a : FarCommand) (r : Reply) (w : View) (more : List Turn)
+    : Type 0 where
   pub turn : Turn
   pub before : List Turn
   pub newest : more ≡ turn ∷ before
   pub reply_is : turn.reply ≡ Some r
   pub job_is : (IsMake turn.job × (needs_object s a ≡ true)) ⊎ IsOnObject w turn.job
-  pub answers : IsAnswerTo c turn.job r
+  pub answers : IsAnswerTo (tries_again turn) turn.job r
   pub lacks : IsOutOfPlace turn.job r → ⊥
 
 -- what is said to a command that finds the list and the map so
-abbrev pub IsSaid : Config → Plain → FarCommand → FarAnswer → View → List Turn → Type 0
-IsSaid c s a (Refused r) w more = (calls_something s a ≡ true) × IsToldByTurn c s a r w more
-IsSaid c s a said w more = said ≡ plain_said s a
+abbrev pub IsSaid : Plain → FarCommand → FarAnswer → View → List Turn → Type 0
+IsSaid s a (Refused r) w more = (calls_something s a ≡ true) × IsToldByTurn s a r w more
+IsSaid s a said w more = said ≡ plain_said s a
 
 -- A command on the array and the map, which are this list and this map, and the record of the pass
 -- before and after it.
@@ -106,7 +107,7 @@ pub record CommandGoes (c : Config) (first : ℕ) (s : Plain) (a : FarCommand) (
   pub history : HasOneHistory c first w
   pub made : made_by_all w.turns ≡ objects (after_said s a said)
   -- and it is told what the list and the map say, or what a turn was told
-  pub is_said : IsSaid c s a said w more
+  pub is_said : IsSaid s a said w more
 
 -- so commands, one after another, each with the list and the map that the ones before it left
 abbrev pub CommandsGo : Config → ℕ → Plain → View → List FarCommand → List FarAnswer → View → Type 0

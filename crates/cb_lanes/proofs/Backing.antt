@@ -1,6 +1,6 @@
 -- What a part of a record backs of one answer.
-use Rattle.std.proofs.Common.{◌≡◌, ℕ, ◌≤◌, List, [], ◌∷◌, ◌++◌, map, Option, None, Some, Ok, inl}
-use Rattle.std.proofs.Common.{inr, sym, refl, ap, ◌∙◌, subst, arith}
+use Rattle.std.proofs.Common.{◌≡◌, ℕ, ◌≤◌, false, List, [], ◌∷◌, ◌++◌, map, Option, None, Some, Ok}
+use Rattle.std.proofs.Common.{inl, inr, sym, refl, ap, ◌∙◌, subst, arith}
 use Rattle.std.specs.List.{flat_map, sum_by}
 use Rattle.std.proofs.lemmas.List.{append-nil}
 use Rattle.std.proofs.lemmas.List.Sums.{sum_by-cons}
@@ -16,6 +16,7 @@ use Rattle.cb_rule.specs.declared.view.Stand.{Stand}
 use Rattle.cb_rule.specs.declared.view.View.{View}
 use Rattle.cb_rule.specs.Lists.{Each}
 use Rattle.cb_rule.specs.Steps.{Knows}
+use Rattle.cb_rule.specs.TriesAgain.{is_to_try_again, tries_again}
 use Rattle.cb_record.specs.Backs.{Backs, Enters, EntersAt, Tells, happened_at, happened_for}
 use Rattle.cb_record.specs.Backs.{pins_at, pins_for, turn_at, turn_needed}
 use Rattle.cb_record.specs.Deeds.{Deed, deed, happened, happening}
@@ -24,10 +25,10 @@ use Rattle.cb_record.specs.Needs.{IsJobFor, IsTurnFor, Meets, need_of}
 use Rattle.cb_record.specs.Parts.{Grows, Part, grown, nothing_more, sum}
 use Rattle.cb_record.specs.Told.{Told}
 use Rattle.cb_record.proofs.Laws.{backs_sum, grown-nothing_more, grown-sum, idle_backs}
-use Rattle.cb_shared.specs.Calls.{EndsAtLast, IsInVain, the_handle}
+use Rattle.cb_shared.specs.Calls.{EndsAtLast, IsInVain, again_in, the_handle}
 use Rattle.cb_shared.specs.Reading.{looked}
 use Rattle.cb_shared.specs.Turning.{TurnAdds, turn_part}
-use Rattle.cb_shared.proofs.Laws.{known_grown}
+use Rattle.cb_shared.proofs.Laws.{known_grown, part_again}
 
 -- the record grew by this part, but for its pins and the handles that are its own
 abbrev pub Adds : View → Part → View → Type 0
@@ -126,15 +127,33 @@ pub job_for : (own : Option Job) (h : Option ℕ) (j k : Job) → own ≡ Some j
 job_for own (Some h) j k is same = inl (is ∙ ap (λ (z : Job). Some z) (sym same))
 job_for own None j k is same = is ∙ ap (λ (z : Job). Some z) (sym same)
 
--- the turn itself is what the line needs
+-- the turn itself is what the line needs, where it is not made again
+abbrev pub IsLast : Turn → Reply → Type 0
+IsLast t r = is_to_try_again t.gave t.job (Some r) ≡ false
+
+last_turn : (t : Turn) (r : Reply) → t.reply ≡ Some r → IsLast t r → tries_again t ≡ false
+last_turn t r reply last = ap (is_to_try_again t.gave t.job) reply ∙ last
+
 pub its_turn : (c : Config) (own : Option Job) (h : Option ℕ) (j : Job) (r : Reply) (v : View) (d : Part)
-    → own ≡ Some j → (x : TurnAdds c j (Ok r) v d) → HasOne (IsTurnFor own h r) (x.turn ∷ [])
-its_turn c own h j r v d is x = inl (x.reply_is, job_for own h j x.turn.job is x.job_is)
+    → own ≡ Some j → (x : TurnAdds c j (Ok r) v d) → IsLast x.turn r
+    → HasOne (IsTurnFor own h r) (x.turn ∷ [])
+its_turn c own h j r v d is x last = inl (
+  x.reply_is,
+  job_for own h j x.turn.job is x.job_is,
+  last_turn x.turn r x.reply_is last,
+)
 
 pub its_swap : (c : Config) (own : Option Job) (h : ℕ) (r : Reply) (v : View) (d : Part)
-    → (x : TurnAdds c (job.Swap (the_handle h)) (Ok r) v d)
+    → (x : TurnAdds c (job.Swap (the_handle h)) (Ok r) v d) → IsLast x.turn r
     → HasOne (IsTurnFor own (Some h) r) (x.turn ∷ [])
-its_swap c own h r v d x = inl (x.reply_is, inr x.job_is)
+its_swap c own h r v d x last =
+    inl (x.reply_is, inr x.job_is, last_turn x.turn r x.reply_is last)
+
+-- a turn that answers its call is not
+pub is_last : (c : Config) (j : Job) (r : Reply) (v : View) (d : Part)
+    → (x : TurnAdds c j (Ok r) v d) → again_in d.turns ≡ false → IsLast x.turn r
+is_last c j r v d x off = sym (ap (is_to_try_again x.turn.gave x.turn.job) x.reply_is)
+    ∙ sym (part_again c j (Ok r) v d x) ∙ off
 
 -- ---- what a line adds that was answered so
 abbrev pub told_as : Option ℕ → Request → Reply → Told

@@ -1,6 +1,6 @@
 -- What a line adds to the record of its pass, and that it backs the line's answer.
-use Rattle.std.proofs.Common.{◌≡◌, ◌⊎◌, ℕ, zero, suc, ◌<◌, ◌≤◌, List, [], ◌∷◌, ◌++◌, length, Option}
-use Rattle.std.proofs.Common.{None, Some, Ok, inl, inr, sym, refl, ap, ◌∙◌, subst, arith, ◌+◌}
+use Rattle.std.proofs.Common.{◌≡◌, ◌⊎◌, ℕ, zero, suc, ◌<◌, ◌≤◌, Bool, false, List, [], ◌∷◌, ◌++◌}
+use Rattle.std.proofs.Common.{length, Option, None, Some, Ok, inl, inr, sym, refl, ap, ◌∙◌, subst, arith, ◌+◌}
 use Rattle.std.specs.Prelude.{MatchOption}
 use Rattle.std.proofs.lemmas.Bool.{cases_lt}
 use Rattle.std.proofs.lemmas.List.{append-nil}
@@ -18,6 +18,7 @@ use Rattle.cb_types.specs.declared.request.Request.TheVariants.{Make, Read, Writ
 use Rattle.cb_types.specs.declared.request.Request.TheVariants.{Unpin, Filter, Leave}
 use Rattle.cb_types.specs.declared.request.Request.TheVariants as line
 use Rattle.cb_types.specs.Requests.{name_of}
+use Rattle.cb_types.specs.Table.{IsReplyOf}
 use Rattle.cb_world.specs.declared.entry.Entry.{Entry}
 use Rattle.cb_world.specs.declared.event.Event.{Event}
 use Rattle.cb_world.specs.declared.shown.Shown.{Shown}
@@ -39,7 +40,8 @@ use Rattle.cb_record.specs.Needs.{FindsEmpty, IsFreedAs, Meets, need_of, own_job
 use Rattle.cb_record.specs.Parts.{Part, grown, nothing_more, sum}
 use Rattle.cb_record.specs.Told.{Told}
 use Rattle.cb_record.proofs.Laws.{backs_sum, grown-nothing_more, has_one_left, has_one_right}
-use Rattle.cb_shared.specs.Calls.{AsksFor, AtThis, IsAnswerTo, IsLack, ReadCallEnds, ReadGives}
+use Rattle.cb_shared.specs.Calls.{AsksFor, AtThis, IsAnswer, IsAnswerTo, IsLack, ReadCallEnds}
+use Rattle.cb_shared.specs.Calls.{ReadGives, again_in}
 use Rattle.cb_shared.specs.Calls.{ReadsInPlace, TurnGives, WriteAnswers, WriteCallEnds, WriteFinds}
 use Rattle.cb_shared.specs.Calls.{SaysAs, the_handle, worn_once, written_once}
 use Rattle.cb_shared.specs.declared.answers.WriteAnswer.{WriteAnswer}
@@ -54,9 +56,17 @@ use Rattle.cb_lanes.specs.LineGoes.{CallGoes, LineGoes, job_of}
 use Rattle.cb_lanes.specs.Passing.{CallGives, IsNewestPin, IsNotPinned, LeaveGoes, PeekGoes}
 use Rattle.cb_lanes.specs.Passing.{PinEnds, PinGoes, PinsAtLast, UnpinGoes, goes_in, peeks_of}
 use Rattle.cb_lanes.proofs.Backing.{vain_backs, behind_vain, ends_back, look_idle, IsByTurn}
-use Rattle.cb_lanes.proofs.Backing.{turn_backs, its_turn, its_swap, still_backs}
+use Rattle.cb_lanes.proofs.Backing.{IsLast, is_last, turn_backs, its_turn, its_swap, still_backs}
+use Rattle.cb_lanes.proofs.LineReplies.{filter_reply, line_reply}
 pub use Rattle.cb_lanes.proofs.Backing.{Adds, adds_by, adds_grown, adds_pins, adds_none, adds_sum}
 pub use Rattle.cb_lanes.proofs.Backing.{adds_knows, one_backs, told_as, LineAdds}
+
+-- a turn that tells of too little room, and answers its call, is not made again
+room_last : (c : Config) (j : Job) (frames loose nodes : ℕ) (v : View) (d : Part)
+    → (x : TurnAdds c j (Ok (answer.NoRoom frames loose nodes)) v d)
+    → ⊥ ⊎ (again_in d.turns ≡ false) → IsLast x.turn (answer.NoRoom frames loose nodes)
+room_last c j frames loose nodes v d x (inl a) = absurd a
+room_last c j frames loose nodes v d x (inr a) = is_last c j _ v d x a
 
 -- ---- a make
 abbrev pub make_handle : Reply → Option ℕ
@@ -64,13 +74,15 @@ make_handle (answer.Made handle version) = Some handle.n
 make_handle r = None
 
 make_meets : (c : Config) (name bytes : List ℕ) (r : Reply) (v : View) (d : Part)
-    → (x : TurnAdds c (job.Make bytes) (Ok r) v d)
+    → (x : TurnAdds c (job.Make bytes) (Ok r) v d) → IsAnswer (again_in d.turns) r
     → Meets (turn_part x.turn x.more x.within x.later) (need_of (make_handle r) (Make name bytes) r)
-make_meets c name bytes (answer.Full n) v d x = its_turn c _ None (job.Make bytes) _ v d refl x
-make_meets c name bytes (answer.NoRoom f l n) v d x = its_turn c _ None (job.Make bytes) _ v d refl x
-make_meets c name bytes (answer.Unavailable s l) v d x = its_turn c _ None (job.Make bytes) _ v d refl x
-make_meets c name bytes answer.Worn v d x = its_turn c _ None (job.Make bytes) _ v d refl x
-make_meets c name bytes r v d x = tt
+make_meets c name bytes (answer.Full n) v d x a = its_turn c _ None (job.Make bytes) _ v d refl x refl
+make_meets c name bytes (answer.NoRoom f l n) v d x a = its_turn c _ None (job.Make bytes) _ v d refl x
+    (room_last c (job.Make bytes) f l n v d x a)
+make_meets c name bytes (answer.Unavailable s l) v d x a =
+    its_turn c _ None (job.Make bytes) _ v d refl x refl
+make_meets c name bytes answer.Worn v d x a = its_turn c _ None (job.Make bytes) _ v d refl x refl
+make_meets c name bytes r v d x a = tt
 
 make_by : (h : Option ℕ) (name bytes : List ℕ) (r : Reply)
     → IsByTurn (job.Make bytes) h (Make name bytes) r
@@ -86,7 +98,8 @@ make_line c name bytes r v w (d, x, is) = (
   d,
   adds_by v w d (made_by_turn (job.Make bytes) (Some r) ++ v.own) v.pins is,
   ends_back _ _ _ v d _ x (turn_backs c (job.Make bytes) _ _ r (grown x.before v) x.last x.ends_so.1
-      (make_by (make_handle r) name bytes r) (make_meets c name bytes r (grown x.before v) x.last x.ends_so.1)),
+      (make_by (make_handle r) name bytes r) (make_meets c name bytes r (grown x.before v) x.last x.ends_so.1
+      x.ends_so.0)),
 )
 
 -- ---- a line without a name that is one turn
@@ -180,21 +193,31 @@ turn_line line.Part = line_of line.Part job.Part tt refl (λ r es x. x) (λ r. r
     (λ r. step_turned line.Part job.Part r refl) (λ r. refl)
 turn_line q = tt
 
+-- the reply does not tell of too little room, as none of such a line does
+abbrev IsNotOfRoom : Reply → Type 0
+IsNotOfRoom r = (frames loose nodes : ℕ) → r ≡ answer.NoRoom frames loose nodes → ⊥
+
+line_of_no_room : (c : Config) (h : Option ℕ) (q : Request) (r : Reply) (v w : View)
+    → ((frames loose nodes : ℕ) → IsReplyOf q (answer.NoRoom frames loose nodes) → ⊥)
+    → LineGoes (goes_in c) h q v r w → IsNotOfRoom r
+line_of_no_room c h q r v w off x frames loose nodes is =
+    off frames loose nodes (subst (IsReplyOf q) is (line_reply c h q r v w x))
+
 turn_meets : (c : Config) (q : Request) (j : Job) (r : Reply) (v : View) (d : Part)
-    → own_job None q ≡ Some j → (x : TurnAdds c j (Ok r) v d)
+    → own_job None q ≡ Some j → IsNotOfRoom r → (x : TurnAdds c j (Ok r) v d)
     → Meets (turn_part x.turn x.more x.within x.later) (need_of None q r)
-turn_meets c q j (answer.Full n) v d own x = its_turn c _ None j _ v d own x
-turn_meets c q j (answer.NoRoom f l n) v d own x = its_turn c _ None j _ v d own x
-turn_meets c q j (answer.Unavailable s l) v d own x = its_turn c _ None j _ v d own x
-turn_meets c q j answer.Worn v d own x = its_turn c _ None j _ v d own x
-turn_meets c q j r v d own x = tt
+turn_meets c q j (answer.Full n) v d own off x = its_turn c _ None j _ v d own x refl
+turn_meets c q j (answer.NoRoom f l n) v d own off x = absurd (off f l n refl)
+turn_meets c q j (answer.Unavailable s l) v d own off x = its_turn c _ None j _ v d own x refl
+turn_meets c q j answer.Worn v d own off x = its_turn c _ None j _ v d own x refl
+turn_meets c q j r v d own off x = tt
 
 own_line : (c : Config) (q : Request) (j : Job) (r : Reply) (v w : View) → Some j ≡ job_of q
-    → CallGives c j v r w → LineAdds v w (told_as None q r)
-own_line c q j r v w is x =
+    → IsNotOfRoom r → CallGives c j v r w → LineAdds v w (told_as None q r)
+own_line c q j r v w is off x =
     let l : IsTurnLine q j =
     subst (λ (o : Option Job). MatchOption o (Unit {0}) (IsTurnLine q)) (sym is) (turn_line q) in
-    by_turn c j None q r v w (l.by r) (λ d y. turn_meets c q j r v d l.own y)
+    by_turn c j None q r v w (l.by r) (λ d y. turn_meets c q j r v d l.own off y)
     (plain_turn c j v w r l.plain x)
 
 -- ---- the pins that a lane gives back
@@ -236,9 +259,9 @@ record IsBySwap (h : ℕ) (q : Request) : Type 0 where
   pub enters : (r : Reply) → EntersAt (Some h) q r []
   pub turned : (r : Reply) → turn_at (Some h) q r ≡ []
   pub happens : (r : Reply) → happened_at q r ≡ []
-  pub no_pin : (c : Config) (r : Reply) → IsLack c r → pins_at q r ≡ 0
-  pub needs : (c : Config) (r : Reply) → IsLack c r → (v : View) (d : Part)
-      → (x : TurnAdds c (job.Swap (the_handle h)) (Ok r) v d)
+  pub no_pin : (again : Bool) (r : Reply) → IsLack again r → pins_at q r ≡ 0
+  pub needs : (c : Config) (r : Reply) (v : View) (d : Part)
+      → (x : TurnAdds c (job.Swap (the_handle h)) (Ok r) v d) → IsLack (again_in d.turns) r
       → Meets (turn_part x.turn x.more x.within x.later) (need_of (Some h) q r)
 
 swap_backs : (c : Config) (h : ℕ) (q : Request) (r : Reply) (v : View) (d : Part) → IsBySwap h q
@@ -246,11 +269,11 @@ swap_backs : (c : Config) (h : ℕ) (q : Request) (r : Reply) (v : View) (d : Pa
 swap_backs c h q r v d by x = look_behind h x.word x.later d (told_as (Some h) q r) x.part
     (turn_backs c (job.Swap (the_handle h)) (Some h) q r _ x.later x.turned.1 (record {
       enters = λ es none. subst (EntersAt (Some h) q r) (sym none) (by.enters r);
-      no_pin = by.no_pin c r x.turned.0;
+      no_pin = by.no_pin (again_in x.later.turns) r x.turned.0;
       turned = subst (λ (l : List Deed). IsSublist l (record { job = job.Swap (the_handle h); reply = Some r } ∷ []))
           (sym (by.turned r)) (beside [] _ [] ended);
       happens = sym (by.happens r);
-    }) (by.needs c r x.turned.0 _ x.later x.turned.1))
+    }) (by.needs c r _ x.later x.turned.1 x.turned.0))
 
 read_by_swap : (h : ℕ) (name : List ℕ) → IsBySwap h (Read name)
 read_by_swap h name = record {
@@ -261,17 +284,18 @@ read_by_swap h name = record {
   needs = needs;
 }
   where
-    no_pin : (c : Config) (r : Reply) → IsLack c r → pins_at (Read name) r ≡ 0
-    no_pin c (answer.Bytes version bytes) lack = absurd lack
-    no_pin c r lack = refl
+    no_pin : (again : Bool) (r : Reply) → IsLack again r → pins_at (Read name) r ≡ 0
+    no_pin again (answer.Bytes version bytes) lack = absurd lack
+    no_pin again r lack = refl
 
-    needs : (c : Config) (r : Reply) → IsLack c r → (v : View) (d : Part)
-        → (x : TurnAdds c (job.Swap (the_handle h)) (Ok r) v d)
+    needs : (c : Config) (r : Reply) (v : View) (d : Part)
+        → (x : TurnAdds c (job.Swap (the_handle h)) (Ok r) v d) → IsLack (again_in d.turns) r
         → Meets (turn_part x.turn x.more x.within x.later) (need_of (Some h) (Read name) r)
-    needs c (answer.Unavailable s l) lack v d x = its_swap c _ h _ v d x
-    needs c (answer.NoRoom f l n) lack v d x = its_swap c _ h _ v d x
-    needs c answer.Worn lack v d x = its_swap c _ h _ v d x
-    needs c r lack v d x = absurd lack
+    needs c (answer.Unavailable s l) v d x lack = its_swap c _ h _ v d x refl
+    needs c (answer.NoRoom f l n) v d x lack = its_swap c _ h _ v d x
+        (is_last c (job.Swap (the_handle h)) _ v d x lack)
+    needs c answer.Worn v d x lack = its_swap c _ h _ v d x refl
+    needs c r v d x lack = absurd lack
 
 pin_by_swap : (h : ℕ) (name : List ℕ) → IsBySwap h (Pin name)
 pin_by_swap h name = record {
@@ -282,17 +306,18 @@ pin_by_swap h name = record {
   needs = needs;
 }
   where
-    no_pin : (c : Config) (r : Reply) → IsLack c r → pins_at (Pin name) r ≡ 0
-    no_pin c (answer.Version version) lack = absurd lack
-    no_pin c r lack = refl
+    no_pin : (again : Bool) (r : Reply) → IsLack again r → pins_at (Pin name) r ≡ 0
+    no_pin again (answer.Version version) lack = absurd lack
+    no_pin again r lack = refl
 
-    needs : (c : Config) (r : Reply) → IsLack c r → (v : View) (d : Part)
-        → (x : TurnAdds c (job.Swap (the_handle h)) (Ok r) v d)
+    needs : (c : Config) (r : Reply) (v : View) (d : Part)
+        → (x : TurnAdds c (job.Swap (the_handle h)) (Ok r) v d) → IsLack (again_in d.turns) r
         → Meets (turn_part x.turn x.more x.within x.later) (need_of (Some h) (Pin name) r)
-    needs c (answer.Unavailable s l) lack v d x = its_swap c _ h _ v d x
-    needs c (answer.NoRoom f l n) lack v d x = its_swap c _ h _ v d x
-    needs c answer.Worn lack v d x = its_swap c _ h _ v d x
-    needs c r lack v d x = absurd lack
+    needs c (answer.Unavailable s l) v d x lack = its_swap c _ h _ v d x refl
+    needs c (answer.NoRoom f l n) v d x lack = its_swap c _ h _ v d x
+        (is_last c (job.Swap (the_handle h)) _ v d x lack)
+    needs c answer.Worn v d x lack = its_swap c _ h _ v d x refl
+    needs c r v d x lack = absurd lack
 
 -- ---- a look that found the object freed
 freed_backs : (h : ℕ) (q : Request) (version word : ℕ) → EntersAt (Some h) q answer.Freed []
@@ -376,7 +401,8 @@ read_turned c h name r v d x meets pins =
     ∙ ap happened (λ i. record { job = x.job_is i; reply = x.reply_is i })))
 
 read_turn : (c : Config) (h : ℕ) (name : List ℕ) (r : Reply) (v : View) (d : Part)
-    → IsAnswerTo c (job.Read (the_handle h)) r → TurnAdds c (job.Read (the_handle h)) (Ok r) v d
+    → IsAnswerTo (again_in d.turns) (job.Read (the_handle h)) r
+    → TurnAdds c (job.Read (the_handle h)) (Ok r) v d
     → Backs d (told_as (Some h) (Read name) r ∷ [])
 read_turn c h name (answer.Bytes version bytes) v d a x =
     let ever = pinned_ever c h version bytes x.turn.acts v x.within x.reads in
@@ -386,11 +412,12 @@ read_turn c h name (answer.Bytes version bytes) v d a x =
 read_turn c h name answer.Freed v d a x = read_turned c h name answer.Freed v d x
     (freed_turn h x.turn x.more x.within x.later (freed_last h _ x.later x.finds)) (omega arith)
 read_turn c h name (answer.Unavailable set lost) v d a x = read_turned c h name _ v d x
-    (its_turn c _ (Some h) _ _ v d refl x) (omega arith)
+    (its_turn c _ (Some h) _ _ v d refl x refl) (omega arith)
 read_turn c h name (answer.NoRoom frames loose nodes) v d a x = read_turned c h name _ v d x
-    (its_turn c _ (Some h) _ _ v d refl x) (omega arith)
+    (its_turn c _ (Some h) _ _ v d refl x
+    (room_last c (job.Read (the_handle h)) frames loose nodes v d x a)) (omega arith)
 read_turn c h name answer.Worn v d a x = read_turned c h name answer.Worn v d x
-    (its_turn c _ (Some h) _ _ v d refl x) (omega arith)
+    (its_turn c _ (Some h) _ _ v d refl x refl) (omega arith)
 read_turn c h name r v d (inl a) x = absurd a
 read_turn c h name r v d (inr a) x = absurd a
 
@@ -414,20 +441,22 @@ read_line c h name r v w (d, x, grew) = (
 
 -- ---- a write
 write_needs : (c : Config) (h at : ℕ) (name bytes : List ℕ) (r : Reply) (v : View) (d : Part)
-    → (x : TurnAdds c (job.Write (the_handle h) at bytes) (Ok r) v d)
+    → (x : TurnAdds c (job.Write (the_handle h) at bytes) (Ok r) v d) → IsAnswer (again_in d.turns) r
     → Meets (turn_part x.turn x.more x.within x.later) (need_of (Some h) (Write name at bytes) r)
-write_needs c h at name bytes (answer.Pinned count) v d x =
-    inr (its_turn c _ (Some h) _ _ v d refl x)
-write_needs c h at name bytes (answer.Range len) v d x =
+write_needs c h at name bytes (answer.Pinned count) v d x a =
+    inr (its_turn c _ (Some h) _ _ v d refl x refl)
+write_needs c h at name bytes (answer.Range len) v d x a =
     inr (inl (x.reply_is, ap (λ (z : Job). Some z) (sym x.job_is)))
-write_needs c h at name bytes answer.Freed v d x =
+write_needs c h at name bytes answer.Freed v d x a =
     freed_turn h x.turn x.more x.within x.later (freed_last h _ x.later x.finds)
-write_needs c h at name bytes answer.Worn v d x =
+write_needs c h at name bytes answer.Worn v d x a =
     inr (inl (x.reply_is, ap (λ (z : Job). Some z) (sym x.job_is)))
-write_needs c h at name bytes (answer.Full n) v d x = its_turn c _ (Some h) _ _ v d refl x
-write_needs c h at name bytes (answer.NoRoom f l n) v d x = its_turn c _ (Some h) _ _ v d refl x
-write_needs c h at name bytes (answer.Unavailable s l) v d x = its_turn c _ (Some h) _ _ v d refl x
-write_needs c h at name bytes r v d x = tt
+write_needs c h at name bytes (answer.Full n) v d x a = its_turn c _ (Some h) _ _ v d refl x refl
+write_needs c h at name bytes (answer.NoRoom f l n) v d x a = its_turn c _ (Some h) _ _ v d refl x
+    (room_last c (job.Write (the_handle h) at bytes) f l n v d x a)
+write_needs c h at name bytes (answer.Unavailable s l) v d x a =
+    its_turn c _ (Some h) _ _ v d refl x refl
+write_needs c h at name bytes r v d x a = tt
 
 write_by : (h at : ℕ) (name bytes : List ℕ) (r : Reply)
     → IsByTurn (job.Write (the_handle h) at bytes) (Some h) (Write name at bytes) r
@@ -483,7 +512,7 @@ write_ends c h at name bytes r v d (inl (a, says, x)) = write_here h at name byt
 write_ends c h at name bytes r v d (inr x) =
     look_behind h x.word x.later d (told_as (Some h) (Write name at bytes) r) x.part
     (turn_backs c _ (Some h) _ r _ x.later x.turned.1 (write_by h at name bytes r)
-    (write_needs c h at name bytes r _ x.later x.turned.1))
+    (write_needs c h at name bytes r _ x.later x.turned.1 x.turned.0))
 
 write_line : (c : Config) (h at : ℕ) (name bytes : List ℕ) (r : Reply) (v w : View)
     → WriteAnswers c h at bytes r v w → LineAdds v w (told_as (Some h) (Write name at bytes) r)
@@ -495,16 +524,19 @@ write_line c h at name bytes r v w (d, x, grew) = (
 
 -- ---- a free
 free_needs : (c : Config) (h : ℕ) (name : List ℕ) (r : Reply) (v : View) (d : Part)
-    → (x : TurnAdds c (job.Free (the_handle h)) (Ok r) v d)
+    → (x : TurnAdds c (job.Free (the_handle h)) (Ok r) v d) → IsAnswer (again_in d.turns) r
     → Meets (turn_part x.turn x.more x.within x.later) (need_of (Some h) (Free name) r)
-free_needs c h name (answer.Pinned count) v d x = inr (its_turn c _ (Some h) _ _ v d refl x)
-free_needs c h name answer.Freed v d x =
+free_needs c h name (answer.Pinned count) v d x a =
+    inr (its_turn c _ (Some h) _ _ v d refl x refl)
+free_needs c h name answer.Freed v d x a =
     freed_turn h x.turn x.more x.within x.later (freed_last h _ x.later x.finds)
-free_needs c h name (answer.Full n) v d x = its_turn c _ (Some h) _ _ v d refl x
-free_needs c h name (answer.NoRoom f l n) v d x = its_turn c _ (Some h) _ _ v d refl x
-free_needs c h name (answer.Unavailable s l) v d x = its_turn c _ (Some h) _ _ v d refl x
-free_needs c h name answer.Worn v d x = its_turn c _ (Some h) _ _ v d refl x
-free_needs c h name r v d x = tt
+free_needs c h name (answer.Full n) v d x a = its_turn c _ (Some h) _ _ v d refl x refl
+free_needs c h name (answer.NoRoom f l n) v d x a = its_turn c _ (Some h) _ _ v d refl x
+    (room_last c (job.Free (the_handle h)) f l n v d x a)
+free_needs c h name (answer.Unavailable s l) v d x a =
+    its_turn c _ (Some h) _ _ v d refl x refl
+free_needs c h name answer.Worn v d x a = its_turn c _ (Some h) _ _ v d refl x refl
+free_needs c h name r v d x a = tt
 
 free_by : (h : ℕ) (name : List ℕ) (r : Reply)
     → IsByTurn (job.Free (the_handle h)) (Some h) (Free name) r
@@ -521,7 +553,7 @@ free_line c h name r v w (d, x, is) = (
   d,
   adds_by v w d v.own v.pins is,
   ends_back _ _ _ v d _ x (turn_backs c _ (Some h) _ r (grown x.before v) x.last x.ends_so.1
-      (free_by h name r) (free_needs c h name r (grown x.before v) x.last x.ends_so.1)),
+      (free_by h name r) (free_needs c h name r (grown x.before v) x.last x.ends_so.1 x.ends_so.0)),
 )
 
 -- ---- a filter, which is never told that its object was freed
@@ -546,17 +578,18 @@ filter_off c h start es took gave (done few does) =
     freed_filter (state_of does.rule.word) c.frames h does.rule.word _ _ _ does.rule.answer
 
 filter_needs : (c : Config) (h : ℕ) (name : List ℕ) (r : Reply) (v : View) (d : Part)
-    → (x : TurnAdds c (job.Filter (the_handle h)) (Ok r) v d)
+    → IsNotOfRoom r → (x : TurnAdds c (job.Filter (the_handle h)) (Ok r) v d)
     → Meets (turn_part x.turn x.more x.within x.later) (need_of (Some h) (Filter name) r)
-filter_needs c h name answer.Freed v d x = absurd (filter_off c h x.turn.start x.turn.acts x.turn.took
+filter_needs c h name answer.Freed v d off x = absurd (filter_off c h x.turn.start x.turn.acts x.turn.took
     x.turn.gave (subst (λ (j : Job). DidAs c j (Some answer.Freed) x.turn.start x.turn.acts x.turn.took
     x.turn.gave) x.job_is (subst (λ (o : Option Reply). DidAs c x.turn.job o x.turn.start x.turn.acts
     x.turn.took x.turn.gave) x.reply_is x.did)))
-filter_needs c h name (answer.Full n) v d x = its_turn c _ (Some h) _ _ v d refl x
-filter_needs c h name (answer.NoRoom f l n) v d x = its_turn c _ (Some h) _ _ v d refl x
-filter_needs c h name (answer.Unavailable s l) v d x = its_turn c _ (Some h) _ _ v d refl x
-filter_needs c h name answer.Worn v d x = its_turn c _ (Some h) _ _ v d refl x
-filter_needs c h name r v d x = tt
+filter_needs c h name (answer.Full n) v d off x = its_turn c _ (Some h) _ _ v d refl x refl
+filter_needs c h name (answer.NoRoom f l n) v d off x = absurd (off f l n refl)
+filter_needs c h name (answer.Unavailable s l) v d off x =
+    its_turn c _ (Some h) _ _ v d refl x refl
+filter_needs c h name answer.Worn v d off x = its_turn c _ (Some h) _ _ v d refl x refl
+filter_needs c h name r v d off x = tt
 
 filter_line : (c : Config) (h : ℕ) (name : List ℕ) (r : Reply) (v w : View)
     → TurnBy c (job.Filter (the_handle h)) (Ok r) v w → LineAdds v w (told_as (Some h) (Filter name) r)
@@ -565,7 +598,8 @@ filter_line c h name r v w x = by_turn c (job.Filter (the_handle h)) (Some h) (F
   no_pin = refl;
   turned = both _ [] [] ended;
   happens = refl;
-}) (λ d y. filter_needs c h name r v d y) x
+}) (λ d y. filter_needs c h name r v d (λ frames loose nodes is.
+    subst (IsReplyOf (Filter name)) is (filter_reply c h name r v w x)) y) x
 
 -- ---- a pin
 pin_ends : (c : Config) (h : ℕ) (name : List ℕ) (r : Reply) (v w : View) → PinEnds c h r v w
@@ -704,18 +738,31 @@ pub line_adds : (c : Config) (h : Option ℕ) (q : Request) (r : Reply) (v w : V
     → LineGoes (goes_in c) h q v r w → LineAdds v w (told_as (about h q r) q r)
 line_adds c h (Make name bytes) r v w x = make_line c name bytes r v w x
 line_adds c h Leave r v w x = leave_line v w r x
-line_adds c h line.Evict r v w x = own_line c line.Evict _ r v w refl x
-line_adds c h line.Begin r v w x = own_line c line.Begin _ r v w refl x
-line_adds c h line.Ship r v w x = own_line c line.Ship _ r v w refl x
-line_adds c h line.Commit r v w x = own_line c line.Commit _ r v w refl x
-line_adds c h line.Abort r v w x = own_line c line.Abort _ r v w refl x
-line_adds c h line.Pair r v w x = own_line c line.Pair _ r v w refl x
-line_adds c h line.Patch r v w x = own_line c line.Patch _ r v w refl x
-line_adds c h line.Merge r v w x = own_line c line.Merge _ r v w refl x
-line_adds c h line.Part r v w x = own_line c line.Part _ r v w refl x
-line_adds c h line.Compact r v w x = own_line c line.Compact _ r v w refl x
-line_adds c h line.Rebuild r v w x = own_line c line.Rebuild _ r v w refl x
-line_adds c h (line.Crash node) r v w x = own_line c (line.Crash node) _ r v w refl x
-line_adds c h (line.Join node) r v w x = own_line c (line.Join node) _ r v w refl x
+line_adds c h line.Evict r v w x = own_line c line.Evict _ r v w refl
+    (line_of_no_room c h line.Evict r v w (λ f l n z. z) x) x
+line_adds c h line.Begin r v w x = own_line c line.Begin _ r v w refl
+    (line_of_no_room c h line.Begin r v w (λ f l n z. z) x) x
+line_adds c h line.Ship r v w x = own_line c line.Ship _ r v w refl
+    (line_of_no_room c h line.Ship r v w (λ f l n z. z) x) x
+line_adds c h line.Commit r v w x = own_line c line.Commit _ r v w refl
+    (line_of_no_room c h line.Commit r v w (λ f l n z. z) x) x
+line_adds c h line.Abort r v w x = own_line c line.Abort _ r v w refl
+    (line_of_no_room c h line.Abort r v w (λ f l n z. z) x) x
+line_adds c h line.Pair r v w x = own_line c line.Pair _ r v w refl
+    (line_of_no_room c h line.Pair r v w (λ f l n z. z) x) x
+line_adds c h line.Patch r v w x = own_line c line.Patch _ r v w refl
+    (line_of_no_room c h line.Patch r v w (λ f l n z. z) x) x
+line_adds c h line.Merge r v w x = own_line c line.Merge _ r v w refl
+    (line_of_no_room c h line.Merge r v w (λ f l n z. z) x) x
+line_adds c h line.Part r v w x = own_line c line.Part _ r v w refl
+    (line_of_no_room c h line.Part r v w (λ f l n z. z) x) x
+line_adds c h line.Compact r v w x = own_line c line.Compact _ r v w refl
+    (line_of_no_room c h line.Compact r v w (λ f l n z. z) x) x
+line_adds c h line.Rebuild r v w x = own_line c line.Rebuild _ r v w refl
+    (line_of_no_room c h line.Rebuild r v w (λ f l n z. z) x) x
+line_adds c h (line.Crash node) r v w x = own_line c (line.Crash node) _ r v w refl
+    (line_of_no_room c h (line.Crash node) r v w (λ f l n z. z) x) x
+line_adds c h (line.Join node) r v w x = own_line c (line.Join node) _ r v w refl
+    (line_of_no_room c h (line.Join node) r v w (λ f l n z. z) x) x
 line_adds c None q r v w x = unmade_line q v w r x.0 x.1 tt
 line_adds c (Some h) q r v w x = call_adds c h q r v w x

@@ -1,5 +1,5 @@
 -- A line of a lane beside others is answered a reply that it may have.
-use Rattle.std.proofs.Common.{◌≡◌, ℕ, List, [], ◌∷◌, ◌++◌, Option, None, Some, Ok, inl, inr, subst}
+use Rattle.std.proofs.Common.{◌≡◌, ℕ, Bool, List, [], ◌∷◌, ◌++◌, Option, None, Some, Ok, inl, inr, subst}
 use Rattle.std.specs.List.{AllByRecursion}
 use Rattle.cb_ptr.specs.Word.{state_of}
 use Rattle.cb_types.specs.declared.answer.Answer.{Answer}
@@ -20,6 +20,7 @@ use Rattle.cb_core.specs.Turned.{Does}
 use Rattle.cb_rule.specs.declared.view.View.{View}
 use Rattle.cb_record.specs.Parts.{Part, grown}
 use Rattle.cb_shared.specs.Calls.{IsAnswer, IsLack, ReadCallEnds, ReadGives, SaysAs, TurnGives}
+use Rattle.cb_shared.specs.Calls.{again_in}
 use Rattle.cb_shared.specs.Calls.{WriteAnswers, WriteCallEnds, the_handle}
 use Rattle.cb_shared.specs.declared.answers.WriteAnswer.{WriteAnswer}
 use Rattle.cb_shared.specs.declared.answers.WriteAnswer.TheVariants as place
@@ -66,23 +67,24 @@ module _ (c : Config) where
       x.ends_so.1
 
   -- why an object can't be brought in
-  lack_read : (name : List ℕ) (r : Reply) → IsLack c r → IsReplyOf (Read name) r
-  lack_read name (answer.Unavailable set lost) x = tt
-  lack_read name answer.Worn x = tt
-  lack_read name (answer.NoRoom frames loose nodes) x = tt
-  lack_read name r x = absurd x
+  lack_read : (again : Bool) (name : List ℕ) (r : Reply) → IsLack again r → IsReplyOf (Read name) r
+  lack_read again name (answer.Unavailable set lost) x = tt
+  lack_read again name answer.Worn x = tt
+  lack_read again name (answer.NoRoom frames loose nodes) x = tt
+  lack_read again name r x = absurd x
 
-  lack_pin : (name : List ℕ) (r : Reply) → IsLack c r → IsReplyOf (Pin name) r
-  lack_pin name (answer.Unavailable set lost) x = tt
-  lack_pin name answer.Worn x = tt
-  lack_pin name (answer.NoRoom frames loose nodes) x = tt
-  lack_pin name r x = absurd x
+  lack_pin : (again : Bool) (name : List ℕ) (r : Reply) → IsLack again r → IsReplyOf (Pin name) r
+  lack_pin again name (answer.Unavailable set lost) x = tt
+  lack_pin again name answer.Worn x = tt
+  lack_pin again name (answer.NoRoom frames loose nodes) x = tt
+  lack_pin again name r x = absurd x
 
   read_ends : (h : ℕ) (name : List ℕ) (r : Reply) (v : View) (d : Part) → ReadCallEnds c h r v d
       → IsReplyOf (Read name) r
   read_ends h name (answer.Bytes version bytes) v d x = tt
   read_ends h name answer.Freed v d x = tt
-  read_ends h name r v d x = lack_read name r (read_lacks c h r v d (λ t. t) x)
+  read_ends h name r v d x =
+      lack_read (again_in d.turns) name r (read_lacks c h r v d (λ t. t) x)
 
   read_reply : (h : ℕ) (name : List ℕ) (r : Reply) (v w : View) → ReadGives c h r v w
       → IsReplyOf (Read name) r
@@ -100,10 +102,10 @@ module _ (c : Config) where
   says_so name bytes at (place.Raced saw found) r is = absurd is
 
   -- no answer is that an object is not here
-  here_again : (r : Reply) → IsAnswer c r → r ≡ answer.NotHere → ⊥
-  here_again r x is = by (subst (IsAnswer c) is x)
+  here_again : (again : Bool) (r : Reply) → IsAnswer again r → r ≡ answer.NotHere → ⊥
+  here_again again r x is = by (subst (IsAnswer again) is x)
     where
-      by : IsAnswer c answer.NotHere → ⊥
+      by : IsAnswer again answer.NotHere → ⊥
       by (inl y) = y
       by (inr y) = y
 
@@ -112,14 +114,14 @@ module _ (c : Config) where
   write_ends h at name bytes r v d (inl (a, says, x)) = says_so name bytes at a r says
   write_ends h at name bytes r v d (inr x) =
       turn_reply (job.Write (the_handle h) at bytes) (Write name at bytes) r _ x.later
-      (λ a b y. write_where slate_run slate_shows c name bytes h at a b r (here_again r x.turned.0) y) tt x.turned.1
+      (λ a b y. write_where slate_run slate_shows c name bytes h at a b r (here_again _ r x.turned.0) y) tt x.turned.1
 
   write_reply : (h at : ℕ) (name bytes : List ℕ) (r : Reply) (v w : View)
       → WriteAnswers c h at bytes r v w → IsReplyOf (Write name at bytes) r
   write_reply h at name bytes r v w (d, x, grew) =
       write_ends h at name bytes r (grown x.before v) x.last x.ends_so
 
-  filter_reply : (h : ℕ) (name : List ℕ) (r : Reply) (v w : View)
+  pub filter_reply : (h : ℕ) (name : List ℕ) (r : Reply) (v w : View)
       → TurnBy c (job.Filter (the_handle h)) (Ok r) v w → IsReplyOf (Filter name) r
   filter_reply h name r v w x = by_turn (job.Filter (the_handle h)) (Filter name) r v w
       (λ a b y. filter_as (state_of y.rule.word) c.frames h y.rule.word name a.far b.far r y.events
@@ -131,7 +133,7 @@ module _ (c : Config) where
   pin_ends h name (answer.Version version) v w x = tt
   pin_ends h name answer.Freed v w x = tt
   pin_ends h name answer.ScopeFull v w x = tt
-  pin_ends h name r v w x = lack_pin name r x.1.turned.0
+  pin_ends h name r v w x = lack_pin (again_in x.1.later.turns) name r x.1.turned.0
 
   pin_reply : (h : ℕ) (name : List ℕ) (r : Reply) (v w : View) → PinGoes c h v r w
       → IsReplyOf (Pin name) r
@@ -160,7 +162,7 @@ module _ (c : Config) where
   call_reply h (Filter name) r v w x = filter_reply h name r v w x
   call_reply h q r v w x = absurd x
 
-  line_reply : (h : Option ℕ) (q : Request) (r : Reply) (v w : View)
+  pub line_reply : (h : Option ℕ) (q : Request) (r : Reply) (v w : View)
       → LineGoes (goes_in c) h q v r w → IsReplyOf q r
   line_reply h (Make name bytes) r v w x = make_reply name bytes r v w x
   line_reply h Leave r v w x = so Leave r _ tt x.0

@@ -1,5 +1,5 @@
 -- The answers of a lane's lines suit the handles of their names, and what its pass has read.
-use Rattle.std.proofs.Common.{◌≡◌, ◌≢◌, ℕ, List, [], ◌∷◌, ◌++◌, length, Option, None, Some, inl}
+use Rattle.std.proofs.Common.{Bool, ◌≡◌, ◌≢◌, ℕ, List, [], ◌∷◌, ◌++◌, length, Option, None, Some, inl}
 use Rattle.std.proofs.Common.{inr, refl, sym, ap, ◌∙◌, append_assoc, subst}
 use Rattle.std.specs.List.{AllByRecursion}
 use Rattle.std.proofs.lemmas.List.{append-nil}
@@ -30,6 +30,7 @@ use Rattle.cb_record.specs.Told.{Told, tolds}
 use Rattle.cb_record.specs.Upheld.{IsSeenLong}
 use Rattle.cb_record.proofs.Laws.{has_left}
 use Rattle.cb_shared.specs.Calls.{IsAnswer, IsLack, ReadCallEnds, ReadGives, SaysAs, WriteCallEnds}
+use Rattle.cb_shared.specs.Calls.{again_in}
 use Rattle.cb_shared.specs.declared.answers.WriteAnswer.{WriteAnswer}
 use Rattle.cb_shared.specs.declared.answers.WriteAnswer.TheVariants as place
 use Rattle.cb_shared.proofs.Laws.{read_lacks}
@@ -205,13 +206,13 @@ unmade_suits : (seen : List Seen) (q : Request) (r : Reply) → r ≡ answer.Unm
 unmade_suits seen q r is x = subst (λ (z : Reply). Suits seen None (event_of q z)) (sym is) x
 
 -- ---- a call on an object is never answered Unmade
-not_lack : (c : Config) (r : Reply) → IsLack c r → r ≢ answer.Unmade
-not_lack c r x is = subst (IsLack c) is x
+not_lack : (again : Bool) (r : Reply) → IsLack again r → r ≢ answer.Unmade
+not_lack again r x is = subst (IsLack again) is x
 
-not_told : (c : Config) (r : Reply) → IsAnswer c r → r ≢ answer.Unmade
-not_told c r x is = by (subst (IsAnswer c) is x)
+not_told : (again : Bool) (r : Reply) → IsAnswer again r → r ≢ answer.Unmade
+not_told again r x is = by (subst (IsAnswer again) is x)
   where
-    by : IsAnswer c answer.Unmade → ⊥
+    by : IsAnswer again answer.Unmade → ⊥
     by (inl y) = y
     by (inr y) = y
 
@@ -232,19 +233,19 @@ not_read : (c : Config) (h : ℕ) (r : Reply) (v : View) (d : Part) → ReadCall
     → r ≢ answer.Unmade
 not_read c h (answer.Bytes version bytes) v d x is = absurd cc
 not_read c h answer.Freed v d x is = absurd cc
-not_read c h r v d x is = not_lack c r (read_lacks c h r v d (λ t. t) x) is
+not_read c h r v d x is = not_lack (again_in d.turns) r (read_lacks c h r v d (λ t. t) x) is
 
 not_written : (c : Config) (h at : ℕ) (bytes : List ℕ) (r : Reply) (v : View) (d : Part)
     → WriteCallEnds c h at bytes r v d → r ≢ answer.Unmade
 not_written c h at bytes r v d (inl (a, says, x)) is = not_said a r says is
-not_written c h at bytes r v d (inr x) is = not_told c r x.turned.0 is
+not_written c h at bytes r v d (inr x) is = not_told (again_in x.later.turns) r x.turned.0 is
 
 not_pinned : (c : Config) (h : ℕ) (r : Reply) (v w : View) → PinEnds c h r v w
     → r ≢ answer.Unmade
 not_pinned c h (answer.Version version) v w x is = absurd cc
 not_pinned c h answer.Freed v w x is = absurd cc
 not_pinned c h answer.ScopeFull v w x is = absurd cc
-not_pinned c h r v w x is = not_lack c r x.1.turned.0 is
+not_pinned c h r v w x is = not_lack (again_in x.1.later.turns) r x.1.turned.0 is
 
 not_pin : (c : Config) (h : ℕ) (r : Reply) (v w : View) → PinGoes c h v r w → r ≢ answer.Unmade
 not_pin c h answer.ScopeFull v w x is = absurd cc
@@ -310,7 +311,7 @@ module _ (c : Config) (v w : View) (r : Reply) where
   call_suits h (Write name at bytes) knows read all reply x = write_suits w.seen h at name bytes r reply
       (not_written c h at bytes r (grown x.1.before v) x.1.last x.1.ends_so)
   call_suits h (Free name) knows read all reply x =
-      free_suits w.seen h name r reply (not_told c r x.1.ends_so.0)
+      free_suits w.seen h name r reply (not_told (again_in x.1.last.turns) r x.1.ends_so.0)
   call_suits h (Pin name) knows read all reply x = pin_suits w.seen h name r reply (not_pin c h r v w x)
   call_suits h (Peek name) knows read all reply x =
       peek_suits w.seen h name r reply (not_peek h r v w x) (peek_shows h r v w read all x)

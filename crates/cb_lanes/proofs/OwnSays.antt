@@ -35,7 +35,7 @@ use Rattle.cb_record.proofs.Laws.{has_left, has_right}
 use Rattle.cb_shared.specs.declared.answers.WriteAnswer.{WriteAnswer}
 use Rattle.cb_shared.specs.declared.answers.WriteAnswer.TheVariants as place
 use Rattle.cb_shared.specs.Calls.{ReadGives, SaysAs, TurnGives, WriteAnswers, the_handle}
-use Rattle.cb_shared.specs.Calls.{IsAnswerTo}
+use Rattle.cb_shared.specs.Calls.{IsAnswerTo, again_in}
 use Rattle.cb_shared.proofs.Laws.{read_lacks}
 use Rattle.cb_lanes.specs.Alone.{change_alone, free_alone, peek_alone, pin_alone, pin_object}
 use Rattle.cb_lanes.specs.Alone.{read_alone, unpin_alone, write_alone}
@@ -209,10 +209,10 @@ module _ (mine : ℕ → Type 0) (h : ℕ) (x : Entry) (v m all : View) (at_ : O
   neither (inr e) = e
 
   odd_write : (c : Config) (at : ℕ) (bytes : List ℕ) (r : Reply) → IsOdd r
-      → (IsAnswerTo c (job.Write (the_handle h) at bytes) r → ⊥) → WriteAnswers c h at bytes r v m → ⊥
+      → ((again : Bool) → IsAnswerTo again (job.Write (the_handle h) at bytes) r → ⊥) → WriteAnswers c h at bytes r v m → ⊥
   odd_write c at bytes r odd never (d, y, is) = elim y.ends_so [
     | inl z ↦ odd_says z.0 r odd z.1
-    | inr z ↦ never z.turned.0
+    | inr z ↦ never (again_in z.later.turns) z.turned.0
   ]
 
   -- one is written behind the object's last entry
@@ -293,9 +293,9 @@ module _ (mine : ℕ → Type 0) (h : ℕ) (x : Entry) (v m all : View) (at_ : O
       sym (freed_alone x (λ (o : MapNow). write_alone o (pins_on h v) at (length bytes))
       (freed_here (freed_write c h at bytes v m y)))
   write_reply c name bytes at answer.Unmade y tells adds line pinned room =
-      absurd (odd_write c at bytes answer.Unmade tt neither y)
+      absurd (odd_write c at bytes answer.Unmade tt (λ again. neither) y)
   write_reply c name bytes at answer.Moving y tells adds line pinned room =
-      absurd (odd_write c at bytes answer.Moving tt neither y)
+      absurd (odd_write c at bytes answer.Moving tt (λ again. neither) y)
   write_reply c name bytes at (answer.NoRoom f l n) y tells adds line pinned room = absurd (true≢false room)
   write_reply c name bytes at (answer.Unavailable s l) y tells adds line pinned room = absurd (true≢false room)
   write_reply c name bytes at answer.Worn y tells adds line pinned room = absurd (true≢false room)

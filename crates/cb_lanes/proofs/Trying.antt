@@ -29,7 +29,7 @@ use Rattle.cb_lanes.specs.Passing.{CallGives, IsPinnedOnce, PinEnds, PinGoes, Pi
 use Rattle.cb_lanes.specs.Passing.{PinsInVain}
 
 abbrev vain : Config → ℕ → Turn → Type 0
-vain c h t = IsUnanswered c (job.Swap (the_handle h)) t
+vain c h t = IsUnanswered (job.Swap (the_handle h)) t
 
 pub pinned_once : (h : ℕ) (p : Pin) (version : ℕ) (v w : View) → version ≡ p.version
     → IsPinnedHere h p v w → IsPinnedOnce h version v w

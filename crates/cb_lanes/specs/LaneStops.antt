@@ -50,7 +50,7 @@ pub record LaneStops (first : ℕ) (c : Config) (lane : ℕ) (names : List Named
     (v : View) (answers : List Answer) (w : View) : Type 0 where
   pub front : IsFront (map asked answers) lines
   pub answered : AllByRecursion HasLineReply answers
-  pub last : AllByRecursion (HasLastTry c) answers
+  pub last : AllByRecursion HasLastTry answers
   pub between : View
   pub lines_stop : LinesStop c names lines v answers between
   pub left : w ≡ unpinned_all between

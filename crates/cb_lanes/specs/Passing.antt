@@ -52,7 +52,7 @@ PinEnds c h r v w = (d : Part) × AsksFor c (job.Swap (the_handle h)) r h v d ×
 
 -- tries of a pin that came to nothing: turns that bring the object in, and looks at it
 abbrev pub PinsInVain : Config → ℕ → View → View → Type 0
-PinsInVain c h v w = TriesInVain (AtThis h) (IsUnanswered c (job.Swap (the_handle h))) v w
+PinsInVain c h v w = TriesInVain (AtThis h) (IsUnanswered (job.Swap (the_handle h))) v w
 
 -- tries that came to nothing, and then one that ends so
 pub record PinsAtLast (c : Config) (h : ℕ) (r : Reply) (v w : View) : Type 0 where

@@ -166,7 +166,7 @@ fn bring_in<R: Wait>(
         (record_of pass.new)) }
 {
     let reply = shared.turn_within(rt, alloc, pass, &Job::Swap { handle: h })?;
-    if is_lack(shared, &reply) {
+    if is_lack(pass.again(), &reply) {
         Ok(Some(reply))
     } else {
         shared.wait_behind(rt, &reply, patience);
@@ -174,14 +174,15 @@ fn bring_in<R: Wait>(
     }
 }
 
-/// Whether the reply tells why an object can't be brought in.
-fn is_lack(shared: &Shared, reply: &Reply) -> bool
-    ensures yes { result ≡ true → IsLack shared.now.config reply.now }
-    ensures no { result ≡ false → IsLack shared.now.config reply.now → ⊥ }
+/// Whether the reply of a turn, which may be one that is made again, tells why an object can't be
+/// brought in.
+fn is_lack(again: bool, reply: &Reply) -> bool
+    ensures yes { result ≡ true → IsLack again reply.now }
+    ensures no { result ≡ false → IsLack again reply.now → ⊥ }
 {
     match reply {
         Reply::Unavailable { .. } | Reply::Worn => true,
-        Reply::NoRoom { .. } => !shared.is_to_try_again(reply),
+        Reply::NoRoom { .. } => !again,
         _ => false,
     }
 }

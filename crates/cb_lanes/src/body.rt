@@ -116,8 +116,7 @@ pub fn lane_body<R: Wait, G: Gate>(
         × ((record_of end.pass).pins ≡ [])) }
     ensures lines { IfOk result (λ end. map asked end.answers ≡ lines.now) }
     ensures answered { IfOk result (λ end. AllByRecursion HasLineReply end.answers) }
-    ensures last { IfOk result (λ end. AllByRecursion (HasLastTry shared.now.config)
-        end.answers) }
+    ensures last { IfOk result (λ end. AllByRecursion HasLastTry end.answers) }
     ensures goes { IfOk result (λ end. LaneGoes shared.now.config names.now (record_of pass)
         end.answers (record_of end.pass)) }
     ensures part { IfOk result (λ end. AddsBacked names.now end.answers (record_of pass)

@@ -6,6 +6,8 @@ use Rattle.cb_types.specs.declared.job.Job.{Job}
 use Rattle.cb_types.specs.declared.job.Job.TheVariants as job
 use Rattle.cb_types.specs.declared.reply.Reply.TheVariants as answer
 use Rattle.cb_types.specs.declared.request.Request.TheVariants as request
+use Rattle.cb_world.specs.Empty.{empty_far}
+use Rattle.cb_world.specs.FarState.{FarState}
 use Rattle.cb_world.specs.Memory.{bytes_in}
 use Rattle.cb_rule.specs.declared.turn.Turn.{Turn}
 use Rattle.cb_rule.specs.declared.view.Look.{Look}
@@ -220,14 +222,36 @@ abbrev swapped : Job → ℕ
 swapped (job.Swap handle) = handle.n
 swapped other = 0
 
+-- a code of one data shard, and no span in local memory
+abbrev no_spans : FarState
+no_spans = record (empty_far 1 (record {
+  k = 1;
+  r = 1;
+  nodes = 7;
+  frames = 1;
+  room = 1;
+  handles = 4;
+  turns = 0;
+})) { spans = [] }
+
 module _ (t : Turn) where
   own_turn : IsTurnFor (Some (job.Make [])) None (answer.Full 4)
       (record t { job = job.Make []; reply = Some (answer.Full 4) })
-  own_turn = (refl, refl)
+  own_turn = (refl, refl, refl)
 
-  brought_in : IsTurnFor None (Some 3) (answer.NoRoom 1 0 7)
-      (record t { job = job.Swap (the_object 3); reply = Some (answer.NoRoom 1 0 7) })
-  brought_in = (refl, inr refl)
+  abbrev swap_told : ℕ → Turn
+  swap_told frames = record t {
+    job = job.Swap (the_object 3);
+    reply = Some (answer.NoRoom frames 0 7);
+    gave = no_spans;
+  }
+
+  brought_in : IsTurnFor None (Some 3) (answer.NoRoom 1 0 7) (swap_told 1)
+  brought_in = (refl, inr refl, refl)
+
+  -- one that is made again tells no line of too little room
+  made_again : IsTurnFor None (Some 3) (answer.NoRoom 362 0 7) (swap_told 362) → ⊥
+  made_again i = true≢false i.2
 
   other_job : IsTurnFor (Some (job.Make [])) None (answer.Full 4)
       (record t { job = job.Evict; reply = Some (answer.Full 4) }) → ⊥

@@ -15,12 +15,13 @@ use Rattle.cb_rule.specs.declared.view.Look.{Look}
 use Rattle.cb_rule.specs.declared.view.Peeked.{Peeked}
 use Rattle.cb_rule.specs.declared.view.Seen.{Seen}
 use Rattle.cb_rule.specs.Lists.{Has}
+use Rattle.cb_rule.specs.TriesAgain.{tries_again}
 use Rattle.cb_record.specs.Lists.{HasOne}
 use Rattle.cb_record.specs.Parts as parts
 
 -- nothing; a version that was read, pinned or peeked; a freed entry; a number of pins; the end of
 -- an object; its last version; or a turn with this reply, whose job is the line's own or brings its
--- object in
+-- object in, and that is not made again
 pub data Need : Type 0 where
   Nothing : Need
   ARead : (h version : ℕ) (bytes : List ℕ) → Need
@@ -130,8 +131,10 @@ abbrev pub IsJobFor : Option Job → Option ℕ → Job → Type 0
 IsJobFor own (Some h) j = (own ≡ Some j) ⊎ (j ≡ job.Swap (the_object h))
 IsJobFor own None j = own ≡ Some j
 
+-- so of a turn with this reply that is not made again
 abbrev pub IsTurnFor : Option Job → Option ℕ → Reply → Turn → Type 0
-IsTurnFor own h reply t = (t.reply ≡ Some reply) × IsJobFor own h t.job
+IsTurnFor own h reply t =
+    (t.reply ≡ Some reply) × IsJobFor own h t.job × (tries_again t ≡ false)
 
 -- A part of a record has what is needed. Pins and an end are found by a look, and the last version
 -- by a claim, or by a turn of the line's own.

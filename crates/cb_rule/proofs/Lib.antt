@@ -49,6 +49,7 @@ mod WorkedClaims
 mod WorkedPromise
 mod WorkedLocking
 mod WorkedTurns
+mod WorkedTriesAgain
 mod WorkedTold
 mod WorkedOwn
 mod WorkedOwnStands

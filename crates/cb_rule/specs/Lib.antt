@@ -11,6 +11,7 @@ pub mod Steps
 pub mod Ruled
 pub mod Locking
 pub mod LockSteps
+pub mod TriesAgain
 pub mod Promised
 pub mod OwnStands
 pub mod RecordStands

@@ -1,7 +1,8 @@
 -- Tries of a call, one after another.
 use Rattle.std.proofs.Common.{◌≡◌, ◌<◌, ◌≤◌, ℕ, length, lit≤, List, [], ◌∷◌, ◌++◌, None, Some}
-use Rattle.std.proofs.Common.{Option, Result, Ok, Err, sym, refl, ap, ◌∙◌, ◌⊎◌, ⊎_elim, subst, inl}
-use Rattle.std.proofs.Common.{inr}
+use Rattle.std.proofs.Common.{Bool, Option, Result, Ok, Err, sym, refl, ap, ◌∙◌, ◌⊎◌, ⊎_elim, subst}
+use Rattle.std.proofs.Common.{inl, inr}
+use Rattle.std.proofs.lemmas.List.{append-nil}
 use Rattle.std.specs.Result.{OnErr}
 use Rattle.cb_member.specs.declared.no_memory.NoMemory.{NoMemory}
 use Rattle.cb_types.specs.declared.config.Config.{Config}
@@ -21,11 +22,13 @@ use Rattle.cb_rule.specs.declared.view.Look.{Look}
 use Rattle.cb_rule.specs.declared.view.View.{View}
 use Rattle.cb_rule.specs.Lists.{Each, Has}
 use Rattle.cb_rule.specs.Steps.{Knows, look_at}
+use Rattle.cb_rule.specs.TriesAgain.{tries_again}
 use Rattle.cb_shared.specs.Calls.{AsksFor, AtNone, AtThis, EndsAtLast, IsAnswer, IsAnswerTo}
 use Rattle.cb_shared.specs.Calls.{IsCalled, IsFetch, IsFetchForWant, IsForWant, IsInVain, IsLack}
 use Rattle.cb_shared.specs.Calls.{IsUnanswered, IsUnfetched, LooksOf, ReadCallEnds, ReadGives}
 use Rattle.cb_shared.specs.Calls.{ReadStops, ReadTries, ReadsInPlace, StopsInVain, TellsWhatIs}
-use Rattle.cb_shared.specs.Calls.{TriesInVain, TurnEnds, TurnGives, TurnStops, TurnTries}
+use Rattle.cb_shared.specs.Calls.{TriesInVain, TurnEnds, TurnGives, TurnStops, TurnTries, again_in}
+use Rattle.cb_shared.specs.Calls.{the_handle}
 use Rattle.cb_record.specs.Deeds.{happening}
 use Rattle.cb_record.specs.Parts.{Part, Grows, grown, nothing_more, sum}
 use Rattle.cb_shared.specs.declared.reading.ReadAnswer.{ReadAnswer}
@@ -227,66 +230,66 @@ last_looks h a v d x f = let y = f (grown x.before v) x.last x.finds in (
 )
 
 -- what is looked at in a turn Read that answers nothing
-read_looks : (c : Config) (handle : Handle) (es : List Event) (r : Reply) (v : View) (d : Part)
-    → (IsAnswerTo c (jobs.Read handle) r → ⊥) → JobReads (jobs.Read handle) es (Ok r) v d
+read_looks : (again : Bool) (handle : Handle) (es : List Event) (r : Reply) (v : View) (d : Part)
+    → (IsAnswerTo again (jobs.Read handle) r → ⊥) → JobReads (jobs.Read handle) es (Ok r) v d
     → LooksAlone (AtThis handle.n) d
-read_looks c handle es r v d off (inl x) = no_looks (AtThis handle.n) d x.0
-read_looks c handle es (answer.Bytes version bytes) v d off (inr x) = absurd (off (inl tt))
-read_looks c handle es answer.Freed v d off (inr x) = absurd (off (inl tt))
-read_looks c handle es answer.Moving v d off (inr x) = last_looks handle.n found.Moving v d x
+read_looks again handle es r v d off (inl x) = no_looks (AtThis handle.n) d x.0
+read_looks again handle es (answer.Bytes version bytes) v d off (inr x) = absurd (off (inl tt))
+read_looks again handle es answer.Freed v d off (inr x) = absurd (off (inl tt))
+read_looks again handle es answer.Moving v d off (inr x) = last_looks handle.n found.Moving v d x
     (λ w e f. (look_at handle.n f.0 ∷ [], (refl, tt), f.2))
-read_looks c handle es answer.Crowded v d off (inr x) = last_looks handle.n found.Crowded v d x
+read_looks again handle es answer.Crowded v d off (inr x) = last_looks handle.n found.Crowded v d x
     (λ w e f. (look_at handle.n f.0 ∷ [], (refl, tt), f.2))
-read_looks c handle es other v d off (inr x) = absurd x
+read_looks again handle es other v d off (inr x) = absurd x
 
 -- a turn that does not answer its call
 pub turn_vain : (c : Config) (job : Job) (r : Reply) (v : View) (d : Part) → IsCalled job
-    → (IsAnswerTo c job r → ⊥) → TurnAdds c job (Ok r) v d
-    → IsInVain (LooksOf job) (IsUnanswered c job) d × (made_by_turn job (Some r) ≡ [])
-turn_vain c (jobs.Make bytes) r v d called off x =
+    → (x : TurnAdds c job (Ok r) v d) → (IsAnswerTo (tries_again x.turn) job r → ⊥)
+    → IsInVain (LooksOf job) (IsUnanswered job) d × (made_by_turn job (Some r) ≡ [])
+turn_vain c (jobs.Make bytes) r v d called x off =
     let other : (h : Handle) (w : ℕ) → r ≡ answer.Made h w → ⊥ =
-    λ h w e. off (subst (IsAnswerTo c (jobs.Make bytes)) (sym e) (inl tt)) in (
+    λ h w e. off (subst (IsAnswerTo (tries_again x.turn) (jobs.Make bytes)) (sym e) (inl tt)) in (
       vain_turn c (jobs.Make bytes) _ (Ok r) v d x (make_none bytes r x.more other x.wrote)
           (no_looks AtNone _ x.reads)
           (later_none (jobs.Make bytes) r _ x.later (λ _. refl) x.finds) (make_idle bytes r other)
           (x.job_is, (r, x.reply_is, off)),
       made_none r other,
     )
-turn_vain c (jobs.Write handle at bytes) r v d called off x = (
+turn_vain c (jobs.Write handle at bytes) r v d called x off = (
   vain_turn c (jobs.Write handle at bytes) _ (Ok r) v d x
       (write_none handle.n at bytes r x.more
-      (λ w e. off (subst (IsAnswerTo c (jobs.Write handle at bytes)) (sym e) (inl tt))) x.wrote)
+      (λ w e. off (subst (IsAnswerTo (tries_again x.turn) (jobs.Write handle at bytes)) (sym e) (inl tt))) x.wrote)
       (no_looks AtNone _ x.reads)
       (later_none (jobs.Write handle at bytes) r _ x.later
-      (λ e. absurd (off (subst (IsAnswerTo c (jobs.Write handle at bytes)) (sym e) (inl tt))))
+      (λ e. absurd (off (subst (IsAnswerTo (tries_again x.turn) (jobs.Write handle at bytes)) (sym e) (inl tt))))
       x.finds) refl (x.job_is, (r, x.reply_is, off)),
   refl,
 )
-turn_vain c (jobs.Free handle) r v d called off x = (
+turn_vain c (jobs.Free handle) r v d called x off = (
   vain_turn c (jobs.Free handle) _ (Ok r) v d x
       (free_none handle.n r x.more
-      (λ w e. off (subst (IsAnswerTo c (jobs.Free handle)) (sym e) (inl tt))) x.wrote)
+      (λ w e. off (subst (IsAnswerTo (tries_again x.turn) (jobs.Free handle)) (sym e) (inl tt))) x.wrote)
       (no_looks AtNone _ x.reads)
       (later_none (jobs.Free handle) r _ x.later
-      (λ e. absurd (off (subst (IsAnswerTo c (jobs.Free handle)) (sym e) (inl tt)))) x.finds) refl
+      (λ e. absurd (off (subst (IsAnswerTo (tries_again x.turn) (jobs.Free handle)) (sym e) (inl tt)))) x.finds) refl
       (x.job_is, (r, x.reply_is, off)),
   refl,
 )
-turn_vain c (jobs.Swap handle) r v d called off x = (
+turn_vain c (jobs.Swap handle) r v d called x off = (
   vain_turn c (jobs.Swap handle) _ (Ok r) v d x x.wrote (no_looks AtNone _ x.reads)
       (later_none (jobs.Swap handle) r _ x.later (λ _. refl) x.finds) refl
       (x.job_is, (r, x.reply_is, off)),
   refl,
 )
-turn_vain c (jobs.Read handle) r v d called off x = (
+turn_vain c (jobs.Read handle) r v d called x off = (
   vain_turn c (jobs.Read handle) _ (Ok r) v d x x.wrote
-      (read_looks c handle x.turn.acts r v x.within off x.reads)
+      (read_looks (tries_again x.turn) handle x.turn.acts r v x.within off x.reads)
       (later_none (jobs.Read handle) r _ x.later
-      (λ e. absurd (off (subst (IsAnswerTo c (jobs.Read handle)) (sym e) (inl tt)))) x.finds) refl
+      (λ e. absurd (off (subst (IsAnswerTo (tries_again x.turn) (jobs.Read handle)) (sym e) (inl tt)))) x.finds) refl
       (x.job_is, (r, x.reply_is, off)),
   refl,
 )
-turn_vain c job r v d called off x = absurd called
+turn_vain c job r v d called x off = absurd called
 
 -- nor does one that found no memory
 pub turn_lacks : (c : Config) (job : Job) (e : NoMemory) (v : View) (d : Part) → IsCalled job
@@ -328,20 +331,40 @@ grows_own : (made : List ℕ) (v w : View) (d : Part) → made ≡ [] → w ≡ 
     → Grows v d w
 grows_own made v w d none is = is ∙ ap (λ (l : List ℕ). with_own l (grown d v)) none
 
--- what one turn of a call comes to
-pub turn_ends : (c : Config) (job : Job) (r : Reply) (v w : View) → IsAnswerTo c job r
-    → TurnBy c job (Ok r) v w → TurnTries c job (Some r) v w
-turn_ends c job r v w ends (d, x, is) = (d, (ends, x), is)
+-- the newest turn of a part that a turn added is this turn, and so of the record behind it
+pub part_again : (c : Config) (job : Job) (r : Result Reply NoMemory) (v : View) (d : Part)
+    → (x : TurnAdds c job r v d) → again_in d.turns ≡ tries_again x.turn
+part_again c job r v d x = ap (λ (p : Part). again_in p.turns) x.part
 
-pub turn_in_vain : (c : Config) (job : Job) (r : Reply) (v w : View) → IsCalled job
-    → (IsAnswerTo c job r → ⊥) → TurnBy c job (Ok r) v w → TurnTries c job None v w
-turn_in_vain c job r v w called off (d, x, is) = let z = turn_vain c job r v d called off x in
+record_again : (c : Config) (job : Job) (r : Result Reply NoMemory) (v w : View) (d : Part)
+    → (x : TurnAdds c job r v d) → w ≡ with_own (made_by_turn job (answer_of r)) (grown d v)
+    → again_in w.turns ≡ tries_again x.turn
+record_again c job r v w d x is = ap (λ (z : View). again_in z.turns) is
+    ∙ ap (λ (p : Part). again_in (p.turns ++ v.turns)) x.part
+
+-- what one turn of a call comes to, by whether the newest turn of the record is made again
+pub turn_ends : (c : Config) (job : Job) (r : Reply) (again : Bool) (v w : View)
+    → again ≡ again_in w.turns → IsAnswerTo again job r
+    → TurnBy c job (Ok r) v w → TurnTries c job (Some r) v w
+turn_ends c job r again v w told ends (d, x, is) = (
+  d,
+  (subst (λ (b : Bool). IsAnswerTo b job r) (told ∙ record_again c job (Ok r) v w d x is
+      ∙ sym (part_again c job (Ok r) v d x)) ends, x),
+  is,
+)
+
+pub turn_in_vain : (c : Config) (job : Job) (r : Reply) (again : Bool) (v w : View) → IsCalled job
+    → again ≡ again_in w.turns → (IsAnswerTo again job r → ⊥) → TurnBy c job (Ok r) v w
+    → TurnTries c job None v w
+turn_in_vain c job r again v w called told off (d, x, is) =
+    let z = turn_vain c job r v d called x (subst (λ (b : Bool). IsAnswerTo b job r → ⊥)
+    (told ∙ record_again c job (Ok r) v w d x is) off) in
     (d, z.0, grows_own (made_by_turn job (Some r)) v w d z.1 is)
 
 pub turn_without : (c : Config) (job : Job) (e : NoMemory) (v w : View) → IsCalled job
     → TurnBy c job (Err e) v w → TurnStops c job v w
 turn_without c job e v w called (d, x, is) = let z = turn_lacks c job e v d called x in
-    stops_first (LooksOf job) (IsUnanswered c job) (IsForWant job) v w d z.0
+    stops_first (LooksOf job) (IsUnanswered job) (IsForWant job) v w d z.0
     (subst (λ (l : List Turn). length l ≤ 1) (sym (ap (λ (q : Part). q.turns) x.part)) (lit≤ tt))
     (grows_own (made_by_turn job None) v w d z.1 is)
 
@@ -379,17 +402,19 @@ pub err_always : {T E : Type 0} (r : Result T E) (P : Type 0) → P → OnErr r 
 err_always (Ok x) P p = tt
 err_always (Err e) P p = p
 
-pub answers_yes : (c : Config) (job : Job) (r : Reply) → ((h : Handle) → job ≡ jobs.Swap h → ⊥)
-    → ((h : Handle) → job ≡ jobs.Read h → ⊥) → IsAnswer c r → IsAnswerTo c job r
-answers_yes c (jobs.Swap h) r off other x = absurd (off h refl)
-answers_yes c (jobs.Read h) r off other x = absurd (other h refl)
-answers_yes c job r off other x = x
+pub answers_yes : (again : Bool) (job : Job) (r : Reply)
+    → ((h : Handle) → job ≡ jobs.Swap h → ⊥) → ((h : Handle) → job ≡ jobs.Read h → ⊥)
+    → IsAnswer again r → IsAnswerTo again job r
+answers_yes again (jobs.Swap h) r off other x = absurd (off h refl)
+answers_yes again (jobs.Read h) r off other x = absurd (other h refl)
+answers_yes again job r off other x = x
 
-pub answers_no : (c : Config) (job : Job) (r : Reply) → ((h : Handle) → job ≡ jobs.Swap h → ⊥)
-    → ((h : Handle) → job ≡ jobs.Read h → ⊥) → IsAnswerTo c job r → IsAnswer c r
-answers_no c (jobs.Swap h) r off other x = absurd (off h refl)
-answers_no c (jobs.Read h) r off other x = absurd (other h refl)
-answers_no c job r off other x = x
+pub answers_no : (again : Bool) (job : Job) (r : Reply)
+    → ((h : Handle) → job ≡ jobs.Swap h → ⊥) → ((h : Handle) → job ≡ jobs.Read h → ⊥)
+    → IsAnswerTo again job r → IsAnswer again r
+answers_no again (jobs.Swap h) r off other x = absurd (off h refl)
+answers_no again (jobs.Read h) r off other x = absurd (other h refl)
+answers_no again job r off other x = x
 
 -- ---- what a read under a pin found
 abbrev Found : ℕ → ReadAnswer → View → View → Type 0
@@ -453,7 +478,7 @@ found_hindered h vain (found.Raced saw other) v w is (d, grew, f) = (
 
 pub lacks_room : (c : Config) (h : ℕ) (v w : View)
     → (word : ℕ) × (state_of word ≡ state.Here) × Grows v (looked h word) w → ReadStops c h v w
-lacks_room c h v w (word, here, grew) = stops_first (AtThis h) (IsUnfetched c h) (IsFetchForWant h)
+lacks_room c h v w (word, here, grew) = stops_first (AtThis h) (IsUnfetched h) (IsFetchForWant h)
     v w (looked h word) (vain_look h word (IsFetchForWant h)) (lit≤ tt) grew
 
 -- ---- the turns of a read
@@ -484,8 +509,8 @@ far_look h a v d is f = subst (λ (z : ReadAnswer). ReadFinds h z v d) is f
 pub away_stops : (c : Config) (h : ℕ) (job : Job) (a : ReadAnswer) (v w u : View) → IsFetch h job
     → a ≡ found.NotHere → Found h a v w → TurnStops c job w u → ReadStops c h v u
 away_stops c h job a v w u fetch is (d, grew, f) x = let y = far_look h a v d is f in
-    look_stops h y.0 (IsUnfetched c h) (IsFetchForWant h) v w u d y.2 grew
-    (stops_wider (LooksOf job) (AtThis h) (IsUnanswered c job) (IsUnfetched c h) (IsForWant job)
+    look_stops h y.0 (IsUnfetched h) (IsFetchForWant h) v w u d y.2 grew
+    (stops_wider (LooksOf job) (AtThis h) (IsUnanswered job) (IsUnfetched h) (IsForWant job)
     (IsFetchForWant h) (fetch_looks h job fetch) (λ t z. (job, fetch, z)) (λ t z. (job, fetch, z))
     w u x)
 
@@ -493,8 +518,8 @@ pub away_tries : (c : Config) (h : ℕ) (job : Job) (a : ReadAnswer) (o : Option
     (v w u : View) → IsFetch h job → a ≡ found.NotHere → Found h a v w → TurnTries c job o w u
     → ReadTries c h o v u
 away_tries c h job a None v w u fetch is (d, grew, f) x = let y = far_look h a v d is f in
-    look_tries h y.0 (IsUnfetched c h) v w u d y.2 grew
-    (tries_wider (LooksOf job) (AtThis h) (IsUnanswered c job) (IsUnfetched c h)
+    look_tries h y.0 (IsUnfetched h) v w u d y.2 grew
+    (tries_wider (LooksOf job) (AtThis h) (IsUnanswered job) (IsUnfetched h)
     (fetch_looks h job fetch) (λ t z. (job, fetch, z)) w u x)
 away_tries c h job a (Some r) v w u fetch is (d, grew, f) (e, ends, next) =
     let y = far_look h a v d is f in
@@ -518,19 +543,29 @@ in_place_tells h (answer.Bytes version bytes) v d x = tt
 in_place_tells h answer.Freed v d x = tt
 in_place_tells h r v d x = absurd x
 
+-- a look has no turn
+pub asked_again : (c : Config) (job : Job) (r : Reply) (h : ℕ) (v : View) (d : Part)
+    → (x : AsksFor c job r h v d) → again_in d.turns ≡ again_in x.later.turns
+asked_again c job r h v d x = ap (λ (p : Part). again_in p.turns) x.part
+    ∙ ap again_in (append-nil x.later.turns)
+
 read_tells : (c : Config) (h : ℕ) (r : Reply) (v : View) (d : Part) → ReadCallEnds c h r v d
-    → TellsWhatIs r ⊎ IsLack c r
+    → TellsWhatIs r ⊎ IsLack (again_in d.turns) r
 read_tells c h r v d (inl x) = inl (in_place_tells h r v d x)
 read_tells c h r v d (inr (job, inl is, x)) =
-    inr (subst (λ (j : Job). AsksFor c j r h v d) is x).turned.0
+    let y = subst (λ (j : Job). AsksFor c j r h v d) is x in
+    inr (subst (λ (b : Bool). IsLack b r) (sym (asked_again c (jobs.Swap (the_handle h)) r h v d y))
+    y.turned.0)
 read_tells c h r v d (inr (job, inr is, x)) =
-    (subst (λ (j : Job). AsksFor c j r h v d) is x).turned.0
+    let y = subst (λ (j : Job). AsksFor c j r h v d) is x in
+    subst (λ (b : Bool). TellsWhatIs r ⊎ IsLack b r)
+    (sym (asked_again c (jobs.Read (the_handle h)) r h v d y)) y.turned.0
 
 -- where that tells nothing of its object, it tells why it can't be brought in
 pub read_lacks : (c : Config) (h : ℕ) (r : Reply) (v : View) (d : Part) → (TellsWhatIs r → ⊥)
-    → ReadCallEnds c h r v d → IsLack c r
+    → ReadCallEnds c h r v d → IsLack (again_in d.turns) r
 read_lacks c h r v d off x = ⊎_elim (λ (t : TellsWhatIs r). absurd (off t))
-    (λ (l : IsLack c r). l) (read_tells c h r v d x)
+    (λ (l : IsLack (again_in d.turns) r). l) (read_tells c h r v d x)
 
 -- ---- the loops round the tries
 know_grown : (o : Option ℕ) (d : Part) (v : View) → KnowsIt o v → KnowsIt o (grown d v)
@@ -557,21 +592,21 @@ new_at_last first on vain job o r v w is x new = new_before first on vain job r 
     (subst (λ (z : Option Reply). TriesNew first job z w) is new)
 
 pub read_again : (c : Config) (h : ℕ) (o : Option Reply) (v w u : View) → o ≡ None
-    → TriesInVain (AtThis h) (IsUnfetched c h) v w → ReadTries c h o w u
-    → TriesInVain (AtThis h) (IsUnfetched c h) v u
-read_again c h o v w u is x y = tries_then (AtThis h) (IsUnfetched c h) v w u x
+    → TriesInVain (AtThis h) (IsUnfetched h) v w → ReadTries c h o w u
+    → TriesInVain (AtThis h) (IsUnfetched h) v u
+read_again c h o v w u is x y = tries_then (AtThis h) (IsUnfetched h) v w u x
     (subst (λ (z : Option Reply). ReadTries c h z w u) is y)
 
 pub read_at_last : (c : Config) (h : ℕ) (o : Option Reply) (r : Reply) (v w u : View) → o ≡ Some r
-    → TriesInVain (AtThis h) (IsUnfetched c h) v w → ReadTries c h o w u → ReadGives c h r v u
+    → TriesInVain (AtThis h) (IsUnfetched h) v w → ReadTries c h o w u → ReadGives c h r v u
 read_at_last c h o r v w u is (d, x, grew) y =
     let z : ReadTries c h (Some r) w u = subst (λ (q : Option Reply). ReadTries c h q w u) is y in
-    ends_after (AtThis h) (IsUnfetched c h) (ReadCallEnds c h r) (λ (q : View). q) v w u d z.0
+    ends_after (AtThis h) (IsUnfetched h) (ReadCallEnds c h r) (λ (q : View). q) v w u d z.0
     x grew z.1 z.2
 
 pub turn_again : (c : Config) (job : Job) (o : Option Reply) (v w u : View) → o ≡ None
     → TurnTries c job None v w → TurnTries c job o w u → TurnTries c job None v u
-turn_again c job o v w u is x y = tries_then (LooksOf job) (IsUnanswered c job) v w u x
+turn_again c job o v w u is x y = tries_then (LooksOf job) (IsUnanswered job) v w u x
     (subst (λ (z : Option Reply). TurnTries c job z w u) is y)
 
 pub turn_at_last : (c : Config) (job : Job) (o : Option Reply) (r : Reply) (v w u : View)
@@ -579,5 +614,5 @@ pub turn_at_last : (c : Config) (job : Job) (o : Option Reply) (r : Reply) (v w 
 turn_at_last c job o r v w u is (d, x, grew) y =
     let z : TurnTries c job (Some r) w u =
     subst (λ (q : Option Reply). TurnTries c job q w u) is y in
-    ends_after (LooksOf job) (IsUnanswered c job) (TurnEnds c job r)
+    ends_after (LooksOf job) (IsUnanswered job) (TurnEnds c job r)
     (with_own (made_by_turn job (Some r))) v w u d z.0 x grew z.1 z.2

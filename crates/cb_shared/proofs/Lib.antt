@@ -1,4 +1,5 @@
 mod Alone
+mod Pages
 mod Rows
 mod Resting
 mod Unpinned

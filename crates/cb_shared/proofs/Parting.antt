@@ -13,7 +13,7 @@ use Rattle.cb_rule.specs.Records.{seen_of}
 use Rattle.cb_rule.specs.Steps.{joined, right_of}
 use Rattle.cb_shared.specs.Joining.{unpinned_all}
 use Rattle.cb_shared.specs.Passes.{IsAtRest}
-use Rattle.cb_shared.specs.Trying.{is_to_try_again, newest_tries, tries_of}
+use Rattle.cb_shared.specs.Trying.{newest_tries, tries_of}
 
 each_both : {A : Type 0} (P : A → Type 0) (xs ys : List A) → Each P xs → Each P ys
     → Each P (xs ++ ys)
@@ -67,11 +67,11 @@ rest_joined c v w a b most = record {
 }
 
 -- the newest turn is the other one's, if that had any
-pub tries_joined : (v w : View) → w.config ≡ v.config
+pub tries_joined : (v w : View)
     → option_or (tries_of w) (tries_of v) ≡ tries_of (joined v (unpinned_all w))
-tries_joined v w same = go w.turns
+tries_joined v w = go w.turns
   where
-    go : (ts : List Turn) → option_or (newest_tries w.config ts) (tries_of v)
-        ≡ newest_tries v.config (ts ++ v.turns)
+    go : (ts : List Turn)
+        → option_or (newest_tries ts) (tries_of v) ≡ newest_tries (ts ++ v.turns)
     go [] = refl
-    go (t ∷ ts) = ap (λ (k : Config). Some (is_to_try_again k t.reply)) same
+    go (t ∷ ts) = refl

@@ -63,8 +63,7 @@ kept_part c p q d rest m x = record {
   carries = ap (λ (s : Sat). s.1) m.2;
   pins = ap (λ (s : Sat). s.0.pins) m.2;
   tries = ap (λ (s : Sat). tries_of s.0) m.2
-      ∙ ap (λ (l : List Turn). newest_tries (record_at p).config (l ++ (record_at p).turns))
-      x.turns;
+      ∙ ap (λ (l : List Turn). newest_tries (l ++ (record_at p).turns)) x.turns;
   rest = subst (λ (s : Sat). IsAtRest c s.0) (sym m.2) record {
     config = rest.config;
     live = rest.live;

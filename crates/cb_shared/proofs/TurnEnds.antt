@@ -19,7 +19,7 @@ use Rattle.cb_shared.specs.Handles.{handles_of}
 use Rattle.cb_record.specs.Parts.{Part, grown, nothing_more}
 use Rattle.cb_shared.specs.Passes.{IsAtRest}
 use Rattle.cb_shared.specs.Seats.{SeatAt, record_at}
-use Rattle.cb_shared.specs.Trying.{is_to_try_again, tries_of}
+use Rattle.cb_shared.specs.Trying.{tries_of}
 use Rattle.cb_shared.specs.Turning.{KnowsIt, KnowsOf, TurnBy, answer_of, freed_of, made_by_turn}
 use Rattle.cb_shared.specs.Turning.{object_of, turn_part, with_own}
 use Rattle.cb_shared.specs.UnderLock.{FreedMoves, IsBelow, IsQuiet, TurnedBy}
@@ -117,9 +117,8 @@ module _ (c : Config) (job : Job) (r : Result Reply NoMemory) (p m q : SeatAt)
   pub pins_turned : (record_at q).pins ≡ v.pins
   pins_turned = ap (λ (x : View). x.pins) left
 
-  pub tries_turned : tries_of (record_at q) ≡ Some (is_to_try_again c (answer_of r))
-  tries_turned = ap tries_of left
-      ∙ (λ i. Some (is_to_try_again (rest.config i) (t.reply_is i)))
+  pub tries_turned : tries_of (record_at q) ≡ tries_of (record_at m)
+  tries_turned = ap tries_of left ∙ sym (ap tries_of t.left)
 
   pub turn_by : TurnBy c job r v (record_at q)
   turn_by = (

@@ -1,5 +1,5 @@
 -- Worked parts that tries, calls and turns add: what breaks one of their parts alone.
-use Rattle.std.proofs.Common.{◌≡◌, ℕ, ◌+◌, ◌<◌, ◌≤◌, List, [], ◌∷◌, ◌++◌, length, length-append}
+use Rattle.std.proofs.Common.{◌≡◌, ℕ, Bool, ◌+◌, ◌<◌, ◌≤◌, List, [], ◌∷◌, ◌++◌, length, length-append}
 use Rattle.std.proofs.Common.{get_or, Some, Ok, Err, refl, sym, ap, ◌∙◌, subst, inl, inr, lit<}
 use Rattle.std.proofs.Common.{arith}
 use Rattle.std.proofs.lemmas.Bool.{eqb-false}
@@ -31,7 +31,8 @@ use Rattle.cb_shared.specs.declared.pass.Pass.{Pass}
 use Rattle.cb_shared.specs.declared.runtime.Shared.{Shared}
 use Rattle.cb_shared.specs.Calls.{AsksFor, AtNone, AtThis, EndsAtLast, IsAnswer, IsInVain}
 use Rattle.cb_shared.specs.Calls.{IsUnanswered, IsUnfetched, IsWrittenOnce, ReadCallEnds, ReadTries}
-use Rattle.cb_shared.specs.Calls.{TurnGives, WriteAnswers, WriteCallEnds, the_handle, written_once}
+use Rattle.cb_shared.specs.Calls.{TurnGives, WriteAnswers, WriteCallEnds, again_in, the_handle}
+use Rattle.cb_shared.specs.Calls.{written_once}
 use Rattle.cb_shared.specs.Joining.{IsSpare}
 use Rattle.cb_shared.specs.Passes.{IsPassOf}
 use Rattle.cb_shared.specs.Reading.{FindsGone, IsReadHere, looked, looked_freed, read_once}
@@ -48,15 +49,15 @@ use Rattle.cb_shared.proofs.WorkedUnder.{beginner, far, known, last}
 
 -- ---- tries in vain make turns of their job alone
 turned_in_vain : (t : Turn) → t.job ≡ jobs.Evict
-    → IsInVain AtNone (IsUnanswered two (jobs.Make [])) (record nothing_more { turns = t ∷ [] }) → ⊥
+    → IsInVain AtNone (IsUnanswered (jobs.Make [])) (record nothing_more { turns = t ∷ [] }) → ⊥
 turned_in_vain t work x = absurd (let e = sym work
-    ∙ (subst (Each (IsUnanswered two (jobs.Make []))) (sym (ap (λ (d : Part). d.turns) x.part))
+    ∙ (subst (Each (IsUnanswered (jobs.Make []))) (sym (ap (λ (d : Part). d.turns) x.part))
     x.of).0.0 in cc)
 
 -- ---- a read that found the object freed at last: with an entry of no try, or with a pin beside it
 abbrev ReadsFreed : Part → Type 0
 ReadsFreed d =
-    EndsAtLast (AtThis 1) (IsUnfetched two 1) (ReadCallEnds two 1 answer.Freed) part d
+    EndsAtLast (AtThis 1) (IsUnfetched 1) (ReadCallEnds two 1 answer.Freed) part d
 
 -- it was a look, where the part has no turn
 in_place : (d : Part) (x : ReadsFreed d) → length d.turns ≡ 0
@@ -354,12 +355,12 @@ ends_writing_moving v d (inl (place.Worn, says, finds)) = absurd (let e = says i
 ends_writing_moving v d (inl (place.Raced saw word, says, finds)) = says
 ends_writing_moving v d (inr asks) = asks_no_more asks
   where
-    answers_none : IsAnswer two answer.Moving → ⊥
-    answers_none (inl t) = t
-    answers_none (inr l) = l
+    answers_none : (again : Bool) → IsAnswer again answer.Moving → ⊥
+    answers_none again (inl t) = t
+    answers_none again (inr l) = l
 
     asks_no_more : AsksFor two (jobs.Write (the_handle 1) 1 (12 ∷ [])) answer.Moving 1 v d → ⊥
-    asks_no_more a = answers_none a.turned.0
+    asks_no_more a = answers_none (again_in a.later.turns) a.turned.0
 
 writes_moving : (v w : View) → WriteAnswers two 1 1 (12 ∷ []) answer.Moving v w → ⊥
 writes_moving v w (d, x, is) = ends_writing_moving (grown x.before v) x.last x.ends_so

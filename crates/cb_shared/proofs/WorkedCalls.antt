@@ -1,8 +1,10 @@
 -- Worked calls that try again: what meets each definition, and what breaks one of its parts alone.
-use Rattle.std.proofs.Common.{◌≡◌, ℕ, true, false, List, [], ◌∷◌, ◌++◌, length, None, Some, refl}
+use Rattle.std.proofs.Common.{◌≡◌, ℕ, Bool, true, false, List, [], ◌∷◌, ◌++◌, length, None, Some, refl}
 use Rattle.std.proofs.Common.{sym, ap, ◌∙◌, subst, inl, inr, arith, lit≤}
 use Rattle.std.proofs.lemmas.Bool.{eqb-false, false≢true}
+use Rattle.std.proofs.lemmas.Option.{same_Some}
 use Rattle.cb_types.specs.declared.config.Config.{Config}
+use Rattle.cb_types.specs.declared.job.Job.{Job}
 use Rattle.cb_types.specs.declared.job.Job.TheVariants as jobs
 use Rattle.cb_types.specs.declared.reply.Reply.TheVariants as answer
 use Rattle.cb_ptr.specs.Word.{state_of, state_number}
@@ -11,11 +13,12 @@ use Rattle.cb_rule.specs.declared.view.Look.{Look}
 use Rattle.cb_rule.specs.declared.view.View.{View}
 use Rattle.cb_rule.specs.Lists.{Each}
 use Rattle.cb_rule.specs.Steps.{IsNewest, look_at}
+use Rattle.cb_rule.specs.TriesAgain.{tries_again}
 use Rattle.cb_shared.specs.declared.answers.WriteAnswer.TheVariants as place
 use Rattle.cb_shared.specs.Calls.{AsksFor, AtNone, AtThis, EndsAtLast, IsAnswer, IsAnswerTo}
 use Rattle.cb_shared.specs.Calls.{IsInVain, IsLack, IsUnanswered, IsUnfetched, IsWrittenOnce}
-use Rattle.cb_shared.specs.Calls.{ReadCallEnds, SaysAs, TurnGives, WriteAnswers, is_to_try_again}
-use Rattle.cb_shared.specs.Calls.{newest_tries, the_handle, written_once}
+use Rattle.cb_shared.specs.Calls.{ReadCallEnds, SaysAs, TurnEnds, TurnGives, WriteAnswers}
+use Rattle.cb_shared.specs.Calls.{again_in, the_handle, written_once}
 use Rattle.cb_record.specs.Deeds.{Deed, deed, happened, happening}
 use Rattle.cb_record.specs.Parts.{Part, grown, nothing_more, sum}
 use Rattle.cb_shared.specs.Reading.{looked, looked_freed}
@@ -25,56 +28,60 @@ use Rattle.cb_shared.proofs.WorkedGround.{newest_made, not_second, part, pinned,
 use Rattle.cb_shared.proofs.WorkedTurns.{adds_worn, worn_part}
 use Rattle.cb_shared.proofs.WorkedWrites.{write_it}
 
--- ---- what is tried again
+-- ---- what is no answer where it is tried again
 abbrev wide : Config
 wide = record { k = 2; r = 1; nodes = 3; frames = 364; room = 6; handles = 2; turns = 0 }
 
-abbrev narrow : Config
-narrow = record { k = 2; r = 1; nodes = 3; frames = 363; room = 6; handles = 2; turns = 0 }
+lacks_room : IsLack false (answer.NoRoom 364 1 3)
+lacks_room = refl
 
-few_loose : is_to_try_again wide (Some (answer.NoRoom 364 1 3)) ≡ true
-few_loose = refl
-
-too_few_frames : is_to_try_again narrow (Some (answer.NoRoom 363 1 3)) ≡ false
-too_few_frames = refl
-
-enough_loose : is_to_try_again wide (Some (answer.NoRoom 364 2 1)) ≡ false
-enough_loose = refl
-
-another_refusal : is_to_try_again wide (Some answer.Worn) ≡ false
-another_refusal = refl
-
-no_memory : is_to_try_again wide None ≡ false
-no_memory = refl
-
-no_turn : newest_tries wide [] ≡ None
-no_turn = refl
-
-lacks_frames : IsLack two (answer.NoRoom 1 0 2)
-lacks_frames = refl
-
-lacks_nodes : IsLack wide (answer.NoRoom 364 2 1)
-lacks_nodes = refl
-
-comes_loose : IsLack wide (answer.NoRoom 364 1 3) → ⊥
+comes_loose : IsLack true (answer.NoRoom 364 1 3) → ⊥
 comes_loose e = false≢true (sym e)
 
-moving_lacks_none : IsLack wide answer.Moving → ⊥
-moving_lacks_none x = x
+moving_lacks_none : (again : Bool) → IsLack again answer.Moving → ⊥
+moving_lacks_none again x = x
 
-moving_is_no_answer : IsAnswer wide answer.Moving → ⊥
-moving_is_no_answer (inl x) = x
-moving_is_no_answer (inr x) = x
+moving_is_no_answer : (again : Bool) → IsAnswer again answer.Moving → ⊥
+moving_is_no_answer again (inl x) = x
+moving_is_no_answer again (inr x) = x
 
-version_is_one : IsAnswerTo wide (jobs.Free (the_handle 1)) (answer.Version 4)
+version_is_one : IsAnswerTo true (jobs.Free (the_handle 1)) (answer.Version 4)
 version_is_one = inl tt
 
-swap_tells_nothing : IsAnswerTo wide (jobs.Swap (the_handle 1)) answer.Freed → ⊥
+swap_tells_nothing : IsAnswerTo false (jobs.Swap (the_handle 1)) answer.Freed → ⊥
 swap_tells_nothing x = x
 
+no_turn : again_in [] ≡ false
+no_turn = refl
+
+-- ---- a turn that was told of no room: by whether it is made again
+abbrev roomless : Job → Turn → Type 0
+roomless job t = (t.job ≡ job) × (t.reply ≡ Some (answer.NoRoom 364 1 3))
+
+-- a read goes on where it is made again
+goes_on : (t : Turn) → roomless (jobs.Swap (the_handle 1)) t → tries_again t ≡ true
+    → IsUnfetched 1 t
+goes_on t (work, reply) again = (
+  jobs.Swap (the_handle 1),
+  inl refl,
+  (work, (answer.NoRoom 364 1 3, reply, λ lacks. false≢true (sym lacks ∙ again))),
+)
+
+-- and not for ever
+goes_on_for_ever : (t : Turn) → roomless (jobs.Swap (the_handle 1)) t → tries_again t ≡ false
+    → IsUnanswered (jobs.Swap (the_handle 1)) t → ⊥
+goes_on_for_ever t (work, reply) off (job, (r, is, none)) =
+    none (subst (IsLack (tries_again t)) (same_Some _ _ (sym reply ∙ is)) off)
+
+-- nor is it told of a turn that is made again
+hands_out : (v : View) (d : Part) (t : Turn) → d.turns ≡ t ∷ [] → tries_again t ≡ true
+    → TurnEnds two (jobs.Swap (the_handle 1)) (answer.NoRoom 364 1 3) v d → ⊥
+hands_out v d t only again (lacks, adds) =
+    false≢true (sym lacks ∙ ap again_in only ∙ again)
+
 -- ---- tries that came to nothing
-pub in_vain : (c : Config) → IsInVain (AtThis 1) (IsUnfetched c 1) (looked 1 moving)
-in_vain c = record {
+pub in_vain : IsInVain (AtThis 1) (IsUnfetched 1) (looked 1 moving)
+in_vain = record {
   looks = look_at 1 moving ∷ [];
   turns = [];
   at = (refl, tt);
@@ -83,21 +90,21 @@ in_vain c = record {
   part = refl;
 }
 
-at_another : IsInVain (AtThis 1) (IsUnfetched wide 1) (looked 0 moving) → ⊥
+at_another : IsInVain (AtThis 1) (IsUnfetched 1) (looked 0 moving) → ⊥
 at_another x = eqb-false 0 1 refl (subst (Each (λ (l : Look). AtThis 1 l.handle))
     (sym (ap (λ (d : Part). d.looks) x.part)) x.at).0
 
-wrote_in_vain : IsInVain (AtThis 1) (IsUnfetched wide 1)
+wrote_in_vain : IsInVain (AtThis 1) (IsUnfetched 1)
     (record (looked 1 moving) { written = made ∷ [] }) → ⊥
 wrote_in_vain x = eqb-false 1 0 refl (ap (λ (d : Part). length d.written) x.part)
 
-pinned_in_vain : IsInVain (AtThis 1) (IsUnfetched wide 1)
+pinned_in_vain : IsInVain (AtThis 1) (IsUnfetched 1)
     (record (looked 1 moving) { ever = 1 }) → ⊥
 pinned_in_vain x = eqb-false 1 0 refl (ap (λ (d : Part). d.ever) x.part)
 
 made_in_vain : (t : Turn) → t.job ≡ jobs.Make (7 ∷ [])
     → t.reply ≡ Some (answer.Made (the_handle 0) 1)
-    → IsInVain AtNone (IsUnanswered wide (jobs.Make (7 ∷ [])))
+    → IsInVain AtNone (IsUnanswered (jobs.Make (7 ∷ [])))
     (record nothing_more { turns = t ∷ [] }) → ⊥
 made_in_vain t work reply x =
     let idle = subst (Each (λ (u : Turn). happened (deed u) ≡ []))
@@ -151,13 +158,13 @@ says_nothing_of_a_race : SaysAs (place.Raced calm pinned) answer.Moving → ⊥
 says_nothing_of_a_race x = x
 
 -- ---- the last try
-reads_freed_at_last : EndsAtLast (AtThis 1) (IsUnfetched wide 1)
+reads_freed_at_last : EndsAtLast (AtThis 1) (IsUnfetched 1)
     (ReadCallEnds two 1 answer.Freed)
     part (sum (looked 1 moving) (looked_freed 1 3 0))
 reads_freed_at_last = record {
   before = looked 1 moving;
   last = looked_freed 1 3 0;
-  in_vain = in_vain wide;
+  in_vain = in_vain;
   ends_so = inl (
     0,
     3,
@@ -168,7 +175,7 @@ reads_freed_at_last = record {
   part = refl;
 }
 
-answers_moving : EndsAtLast (AtThis 1) (IsUnfetched two 1) (ReadCallEnds two 1 answer.Moving)
+answers_moving : EndsAtLast (AtThis 1) (IsUnfetched 1) (ReadCallEnds two 1 answer.Moving)
     part (looked 1 moving) → ⊥
 answers_moving x = read_lacks two 1 answer.Moving _ x.last (λ t. t) x.ends_so
 
@@ -203,7 +210,7 @@ gives_no_turn (d, x, is) = eqb-false 0 1 refl (ap (λ (v : View). some_turn v.tu
     ∙ ap (λ (e : Part). some_turn (e.turns ++ [])) (x.part ∙ ap (sum x.before) x.ends_so.1.part))
 
 gives_moving : TurnGives two (jobs.Make (10 ∷ [])) answer.Moving part part → ⊥
-gives_moving (d, x, is) = moving_is_no_answer x.ends_so.0
+gives_moving (d, x, is) = moving_is_no_answer (again_in x.last.turns) x.ends_so.0
 
 -- ---- a turn that was asked for where a look found the object far
 abbrev swap_one : Part

@@ -5,7 +5,6 @@ use Rattle.std.proofs.Common.{sym, ap, ◌∙◌, subst, inl, inr, lit<, arith}
 use Rattle.std.proofs.lemmas.Bool.{eqb-false}
 use Rattle.std.specs.Prelude.{slice_index}
 use Rattle.atomic_table.specs.Table.{Step}
-use Rattle.cb_types.specs.declared.config.Config.{Config}
 use Rattle.cb_ptr.specs.Word.{state_number, state_of}
 use Rattle.cb_ptr.specs.declared.word.State.TheVariants as state
 use Rattle.cb_world.specs.declared.event.Event.{Event}
@@ -31,7 +30,6 @@ use Rattle.cb_shared.specs.Reading.{IsUnderPin, ReadAt, ReadMoves, looked, looke
 use Rattle.cb_shared.specs.Reading.{looked_twice, with_read}
 use Rattle.cb_shared.specs.Sealing.{AnyWord, no_view, unsealed}
 use Rattle.cb_shared.specs.Seats.{Acts, Moves, SeatAt, record_at}
-use Rattle.cb_shared.specs.Trying.{may_come_loose}
 use Rattle.cb_shared.proofs.WorkedGround.{a_pin, a_stand, away, calm, full, made, moving}
 use Rattle.cb_shared.proofs.WorkedGround.{newest_made, not_second, part, pinned, two, word_in}
 use Rattle.cb_shared.proofs.WorkedReads.{eight, eight_bytes}
@@ -267,16 +265,3 @@ nothing_sealed = refl
 
 sealed_by_no_rule : AnyWord 5 (unsealed ∷ [])
 sealed_by_no_rule = tt
-
--- ---- spans that may come loose
-abbrev many_frames : Config
-many_frames = record two { frames = 362 }
-
-may_come : may_come_loose many_frames 0 ≡ true
-may_come = refl
-
-enough_are_loose : may_come_loose many_frames 1 ≡ false
-enough_are_loose = refl
-
-too_few_frames : may_come_loose (record two { frames = 361 }) 0 ≡ false
-too_few_frames = refl

@@ -1,5 +1,5 @@
 -- Worked replies and jobs: each row of the tables that tell them apart.
-use Rattle.std.proofs.Common.{◌≡◌, ℕ, ◌+◌, ◌∙◌, ◌≤◌, List, [], ◌∷◌, None, Some, Ok, Err, refl, ap}
+use Rattle.std.proofs.Common.{◌≡◌, ℕ, ◌+◌, ◌∙◌, ◌≤◌, Bool, false, List, [], ◌∷◌, None, Some, Ok, Err, refl, ap}
 use Rattle.std.proofs.Common.{inl, inr, lit<, lit≤, arith}
 use Rattle.std.proofs.lemmas.Bool.{eqb-false}
 use Rattle.cb_member.specs.declared.names.Loss.{Loss}
@@ -48,27 +48,27 @@ lost_tells_nothing : (lost : List Loss)
 lost_tells_nothing lost t = t
 
 -- ---- why it can't be brought in
-lacks : (lost : List Loss) → IsLack two (answer.Unavailable (record { n = 2 }) lost)
-    × IsLack two answer.Worn
-lacks lost = (tt, tt)
+lacks : (again : Bool) (lost : List Loss)
+    → IsLack again (answer.Unavailable (record { n = 2 }) lost) × IsLack again answer.Worn
+lacks again lost = (tt, tt)
 
-freed_is_no_lack : IsLack two answer.Freed → ⊥
+freed_is_no_lack : IsLack false answer.Freed → ⊥
 freed_is_no_lack l = l
 
-version_is_no_lack : IsLack two (answer.Version 3) → ⊥
+version_is_no_lack : IsLack false (answer.Version 3) → ⊥
 version_is_no_lack l = l
 
 -- either is an answer, but that a swap has none of the first
-worn_answers_all : IsAnswerTo two (job.Make []) answer.Worn
-    × IsAnswerTo two (job.Write (the_handle 1) 0 []) (answer.Pinned 1)
-    × IsAnswerTo two (job.Swap (the_handle 1)) answer.Worn
+worn_answers_all : IsAnswerTo false (job.Make []) answer.Worn
+    × IsAnswerTo false (job.Write (the_handle 1) 0 []) (answer.Pinned 1)
+    × IsAnswerTo false (job.Swap (the_handle 1)) answer.Worn
 worn_answers_all = (inr tt, inl tt, tt)
 
-moving_answers_no_free : IsAnswerTo two (job.Free (the_handle 1)) answer.Moving → ⊥
+moving_answers_no_free : IsAnswerTo false (job.Free (the_handle 1)) answer.Moving → ⊥
 moving_answers_no_free (inl t) = t
 moving_answers_no_free (inr l) = l
 
-version_answers_no_swap : IsAnswerTo two (job.Swap (the_handle 1)) (answer.Version 3) → ⊥
+version_answers_no_swap : IsAnswerTo false (job.Swap (the_handle 1)) (answer.Version 3) → ⊥
 version_answers_no_swap l = l
 
 -- ---- the jobs that calls make turns of

@@ -156,7 +156,7 @@ an_eviction_is_not : IsCalled jobs.Evict → ⊥
 an_eviction_is_not x = x
 
 -- ---- tries that came to nothing
-tried : TriesInVain (AtThis 1) (IsUnfetched two 1) part (with_look 1 moving part)
+tried : TriesInVain (AtThis 1) (IsUnfetched 1) part (with_look 1 moving part)
 tried = (
   looked 1 moving,
   record {
@@ -170,7 +170,7 @@ tried = (
   refl,
 )
 
-tried_and_pinned : TriesInVain (AtThis 1) (IsUnfetched two 1) part
+tried_and_pinned : TriesInVain (AtThis 1) (IsUnfetched 1) part
     (record part { pins = a_stand ∷ [] }) → ⊥
 tried_and_pinned (d, x, is) = eqb-false 1 0 refl (ap (λ (v : View). length v.pins) is)
 
@@ -179,7 +179,7 @@ no_look : (ls : List Look) → Each (λ (l : Look). ⊥) ls → length (ls ++ []
 no_look [] each = refl
 no_look (l ∷ ls) each = absurd (each.0)
 
-made_and_looked : TriesInVain AtNone (IsUnanswered two (jobs.Make (10 ∷ []))) part
+made_and_looked : TriesInVain AtNone (IsUnanswered (jobs.Make (10 ∷ []))) part
     (with_look 1 calm part) → ⊥
 made_and_looked (d, x, is) = eqb-false 1 0 refl (ap (λ (v : View). length v.looks) is
     ∙ ap (λ (e : Part). length (e.looks ++ [])) x.part ∙ no_look x.looks x.at)

@@ -25,7 +25,7 @@ use Rattle.cb_rule.specs.declared.view.View.{View}
 use Rattle.cb_rule.specs.Lists.{Has}
 use Rattle.cb_rule.specs.Steps.{AreNew, Knows, look_at, opener}
 use Rattle.cb_record.specs.Parts.{Part, grown, nothing_more}
-use Rattle.cb_shared.specs.Trying.{newest_tries, tries_of}
+use Rattle.cb_shared.specs.Trying.{again_in, newest_tries, tries_of}
 use Rattle.cb_shared.specs.Turning.{AreLooksAt, CountsPins, Did, JobReads, KnowsOf, NotesWritten}
 use Rattle.cb_shared.specs.Turning.{PinsTold, ReadsByPin, Slate, TellsNoPin, TurnAdds, TurnBy}
 use Rattle.cb_shared.specs.Turning.{freed_of, held_by, made_by_turn, object_of, slate_run}
@@ -451,24 +451,33 @@ adds_worn j v wrote reads knows notes = record {
     worn_lost e = cc
 
 -- ---- whether the newest turn is made again
-abbrev wide : Config
-wide = record { k = 2; r = 1; nodes = 3; frames = 364; room = 6; handles = 2; turns = 0 }
+abbrev wide : FarState
+wide = empty_far 1 (record two { k = 2; frames = 4 })
 
 abbrev short : Turn
-short = record refused { reply = Some (answer.NoRoom 364 1 3) }
+short = record refused {
+  reply = Some (answer.NoRoom 364 1 3);
+  gave = record wide { spans = [] };
+}
 
-newest_is_made_again : newest_tries wide (short ∷ refused ∷ []) ≡ Some true
+newest_is_made_again : newest_tries (short ∷ refused ∷ []) ≡ Some true
 newest_is_made_again = refl
 
-older_does_not_count : newest_tries wide (refused ∷ short ∷ []) ≡ Some false
+older_does_not_count : newest_tries (refused ∷ short ∷ []) ≡ Some false
 older_does_not_count = refl
 
-made_no_turn : tries_of part ≡ None
-made_no_turn = refl
+made_no_turn : (tries_of part ≡ None) × (again_in part.turns ≡ false)
+made_no_turn = (refl, refl)
 
-made_again : tries_of (record (opener wide) { turns = short ∷ refused ∷ [] }) ≡ Some true
+made_again : tries_of (record part { turns = short ∷ refused ∷ [] }) ≡ Some true
 made_again = refl
 
+in_the_turns : (again_in (short ∷ refused ∷ []) ≡ true)
+    × (again_in (refused ∷ short ∷ []) ≡ false)
+in_the_turns = (refl, refl)
+
 -- with fewer frames it is not
-not_made_again : tries_of (record (opener two) { turns = short ∷ [] }) ≡ Some false
+not_made_again : tries_of (record part {
+  turns = record short { reply = Some (answer.NoRoom 363 1 3) } ∷ [];
+}) ≡ Some false
 not_made_again = refl

@@ -1,6 +1,6 @@
 -- Worked tries in vain, and reads by turns: what meets each definition, and what breaks one of its
 -- parts alone.
-use Rattle.std.proofs.Common.{◌≡◌, ℕ, true, false, List, [], ◌∷◌, ◌++◌, length, length-append, None}
+use Rattle.std.proofs.Common.{◌≡◌, ℕ, Bool, true, false, List, [], ◌∷◌, ◌++◌, length, length-append, None}
 use Rattle.std.proofs.Common.{Some, Option, refl, sym, ap, ◌∙◌, subst, inl, inr, lit≤, arith}
 use Rattle.std.proofs.lemmas.Bool.{eqb-false}
 use Rattle.std.proofs.lemmas.Option.{none-some, same_Some}
@@ -15,7 +15,8 @@ use Rattle.cb_rule.specs.declared.view.View.{View}
 use Rattle.cb_record.specs.Parts.{Part, grown, nothing_more, sum}
 use Rattle.cb_shared.specs.Calls.{AsksFor, AtThis, IsAnswerTo, IsFetch, IsFetchForWant, IsForWant}
 use Rattle.cb_shared.specs.Calls.{IsInVain, IsUnanswered, IsUnfetched, LooksOf, ReadCallEnds}
-use Rattle.cb_shared.specs.Calls.{ReadStops, ReadsInPlace, StopsInVain, TellsWhatIs, the_handle}
+use Rattle.cb_shared.specs.Calls.{ReadStops, ReadsInPlace, StopsInVain, TellsWhatIs, again_in}
+use Rattle.cb_shared.specs.Calls.{the_handle}
 use Rattle.cb_shared.specs.Fetching.{AreFetches, GetsTurns, brought_in_by}
 use Rattle.cb_shared.specs.Reading.{looked, looked_freed}
 use Rattle.cb_shared.proofs.WorkedGround.{away, knows_made, moving, newest_made, part, two}
@@ -47,10 +48,10 @@ bytes_tell = tt
 a_version_tells_nothing : TellsWhatIs (answer.Version 3) → ⊥
 a_version_tells_nothing x = x
 
-a_read_is_answered : IsAnswerTo two read (answer.Bytes 3 (10 ∷ []))
+a_read_is_answered : IsAnswerTo false read (answer.Bytes 3 (10 ∷ []))
 a_read_is_answered = inl tt
 
-crowded_is_no_answer : IsAnswerTo two read answer.Crowded → ⊥
+crowded_is_no_answer : IsAnswerTo false read answer.Crowded → ⊥
 crowded_is_no_answer (inl x) = x
 crowded_is_no_answer (inr x) = x
 
@@ -110,10 +111,10 @@ a_swap_looks_at_none : LooksOf swap 1 → ⊥
 a_swap_looks_at_none x = x
 
 -- ---- a turn that was told no answer, and one that was
-swapped : IsUnanswered two swap (told swap (Some (answer.Swapped 0)))
+swapped : IsUnanswered swap (told swap (Some (answer.Swapped 0)))
 swapped = (refl, (answer.Swapped 0, refl, λ x. x))
 
-of_another_job : IsUnanswered two swap (told jobs.Evict (Some (answer.Swapped 0))) → ⊥
+of_another_job : IsUnanswered swap (told jobs.Evict (Some (answer.Swapped 0))) → ⊥
 of_another_job (e, x) = eqb-false 2 1 refl (ap number e)
 
 abbrev is_worn : Reply → ℕ
@@ -121,26 +122,26 @@ is_worn answer.Worn = 1
 is_worn r = 0
 
 -- worn is an answer, and so it is the one reply that this turn may not have
-worn_answers : IsUnanswered two swap (worn_turn swap) → ⊥
+worn_answers : IsUnanswered swap (worn_turn swap) → ⊥
 worn_answers (e, (r, is, off)) =
-    off (subst (IsAnswerTo two swap) (same_Some _ _ is) tt)
+    off (subst (IsAnswerTo false swap) (same_Some _ _ is) tt)
 
-without_memory : IsUnanswered two swap (told swap None) → ⊥
+without_memory : IsUnanswered swap (told swap None) → ⊥
 without_memory (e, (r, is, off)) = none-some r is
 
-pinned_waits : IsUnanswered two (jobs.Free (the_handle 1))
+pinned_waits : IsUnanswered (jobs.Free (the_handle 1))
     (told (jobs.Free (the_handle 1)) (Some (answer.Pinned 1))) → ⊥
 pinned_waits (e, (r, is, off)) =
-    off (subst (IsAnswerTo two (jobs.Free (the_handle 1))) (same_Some _ _ is) (inl tt))
+    off (subst (IsAnswerTo false (jobs.Free (the_handle 1))) (same_Some _ _ is) (inl tt))
 
-read_moving : IsUnfetched two 1 (told read (Some answer.Moving))
+read_moving : IsUnfetched 1 (told read (Some answer.Moving))
 read_moving = (read, inr refl, (refl, (answer.Moving, refl, λ x. no_answer x)))
   where
-    no_answer : IsAnswerTo two read answer.Moving → ⊥
+    no_answer : IsAnswerTo false read answer.Moving → ⊥
     no_answer (inl x) = x
     no_answer (inr x) = x
 
-read_of_another : IsUnfetched two 1 (told (jobs.Read (the_handle 0)) (Some answer.Moving)) → ⊥
+read_of_another : IsUnfetched 1 (told (jobs.Read (the_handle 0)) (Some answer.Moving)) → ⊥
 read_of_another (j, fetch, (e, x)) = another_object (subst (IsFetch 1) (sym e) fetch)
 
 -- ---- a turn that found no memory
@@ -176,7 +177,7 @@ stops : ReadStops two 1 part (grown (turned (told swap None)) (grown (looked 1 m
 stops = record {
   between = grown (looked 1 moving) part;
   last = turned (told swap None);
-  tries = (looked 1 moving, in_vain two, refl);
+  tries = (looked 1 moving, in_vain, refl);
   lacks = wants;
   one = lit≤ tt;
   left = refl;
@@ -186,7 +187,7 @@ stops = record {
 abbrev turns_more : View → ℕ
 turns_more v = length v.turns
 
-stops_twice : (x : StopsInVain (AtThis 1) (IsUnfetched two 1) (IsFetchForWant 1) part
+stops_twice : (x : StopsInVain (AtThis 1) (IsUnfetched 1) (IsFetchForWant 1) part
     (grown (turned (told swap None)) (grown (turned (told swap None)) part)))
     → x.between ≡ part → ⊥
 stops_twice x is = let one = x.one in
@@ -253,8 +254,9 @@ ends_swapped d (inl x) = x
 ends_swapped d (inr (j, inl is, x)) =
     (subst (λ (k : Job). AsksFor two k (answer.Swapped 0) 1 part d) is x).turned.0
 ends_swapped d (inr (j, inr is, x)) =
-    no_answer (subst (λ (k : Job). AsksFor two k (answer.Swapped 0) 1 part d) is x).turned.0
+    let y = subst (λ (k : Job). AsksFor two k (answer.Swapped 0) 1 part d) is x in
+    no_answer (again_in y.later.turns) y.turned.0
   where
-    no_answer : IsAnswerTo two read (answer.Swapped 0) → ⊥
-    no_answer (inl y) = y
-    no_answer (inr y) = y
+    no_answer : (again : Bool) → IsAnswerTo again read (answer.Swapped 0) → ⊥
+    no_answer again (inl y) = y
+    no_answer again (inr y) = y

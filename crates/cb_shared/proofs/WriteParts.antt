@@ -122,7 +122,7 @@ pub write_tried : (c : Config) (h at : ℕ) (bytes : List ℕ) (a : WriteAnswer)
     (v w : View) → ((r : Reply) → o ≡ Some r → SaysAs a r) → (o ≡ None → IsNoReply a)
     → (a ≡ place.NotHere → ⊥) → WriteGives h at bytes a v w → WriteTries c h at bytes o v w
 write_tried c h at bytes a None v w says none here x = write_vain h at bytes
-    (IsUnanswered c (jobs.Write (the_handle h) at bytes)) a v w (none refl) here x
+    (IsUnanswered (jobs.Write (the_handle h) at bytes)) a v w (none refl) here x
 write_tried c h at bytes a (Some r) v w says none here x =
     write_says c h at bytes a r v w (says r refl) x
 
@@ -132,9 +132,9 @@ pub away_write_stops : (c : Config) (h at : ℕ) (bytes : List ℕ) (a : WriteAn
 away_write_stops c h at bytes a v w u is x stops =
     let y = subst (λ (z : WriteAnswer). WriteGives h at bytes z v w) is x in
     let job = jobs.Write (the_handle h) at bytes in
-    look_stops h y.0 (IsUnanswered c job) (IsForWant job) v w u (looked h y.0) refl
+    look_stops h y.0 (IsUnanswered job) (IsForWant job) v w u (looked h y.0) refl
     (y.2 ∙ look_part h y.0 v)
-    (stops_wider AtNone (AtThis h) (IsUnanswered c job) (IsUnanswered c job) (IsForWant job)
+    (stops_wider AtNone (AtThis h) (IsUnanswered job) (IsUnanswered job) (IsForWant job)
     (IsForWant job) (λ k none. absurd none) (λ t z. z) (λ t z. z) w u stops)
 
 pub away_write_tries : (c : Config) (h at : ℕ) (bytes : List ℕ) (a : WriteAnswer) (o : Option Reply)
@@ -142,7 +142,7 @@ pub away_write_tries : (c : Config) (h at : ℕ) (bytes : List ℕ) (a : WriteAn
     → TurnTries c (jobs.Write (the_handle h) at bytes) o w u → WriteTries c h at bytes o v u
 away_write_tries c h at bytes a None v w u is x y =
     let z = subst (λ (q : WriteAnswer). WriteGives h at bytes q v w) is x in
-    let vain = IsUnanswered c (jobs.Write (the_handle h) at bytes) in
+    let vain = IsUnanswered (jobs.Write (the_handle h) at bytes) in
     look_tries h z.0 vain v w u (looked h z.0) refl (z.2 ∙ look_part h z.0 v)
     (tries_wider AtNone (AtThis h) vain vain (λ k none. absurd none) (λ t q. q) w u y)
 away_write_tries c h at bytes a (Some r) v w u is x (e, ends, next) =
@@ -155,7 +155,7 @@ pub write_again : (c : Config) (h at : ℕ) (bytes : List ℕ) (o : Option Reply
     → o ≡ None → WriteTries c h at bytes None v w → WriteTries c h at bytes o w u
     → WriteTries c h at bytes None v u
 write_again c h at bytes o v w u is x y =
-    tries_then (AtThis h) (IsUnanswered c (jobs.Write (the_handle h) at bytes)) v w u x
+    tries_then (AtThis h) (IsUnanswered (jobs.Write (the_handle h) at bytes)) v w u x
     (subst (λ (z : Option Reply). WriteTries c h at bytes z w u) is y)
 
 pub write_at_last : (c : Config) (h at : ℕ) (bytes : List ℕ) (o : Option Reply) (r : Reply)
@@ -164,5 +164,5 @@ pub write_at_last : (c : Config) (h at : ℕ) (bytes : List ℕ) (o : Option Rep
 write_at_last c h at bytes o r v w u is (d, x, grew) y =
     let z : WriteTries c h at bytes (Some r) w u =
     subst (λ (q : Option Reply). WriteTries c h at bytes q w u) is y in
-    ends_after (AtThis h) (IsUnanswered c (jobs.Write (the_handle h) at bytes))
+    ends_after (AtThis h) (IsUnanswered (jobs.Write (the_handle h) at bytes))
     (WriteCallEnds c h at bytes r) (λ (q : View). q) v w u d z.0 x grew z.1 z.2

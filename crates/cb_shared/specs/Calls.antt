@@ -1,5 +1,5 @@
 -- What the calls that try again until they are answered add to the record of their pass.
-use Rattle.std.specs.Prelude.{◌≡◌, ◌⊎◌, ℕ, ◌+◌, ◌-◌, ◌^◌, ◌≤◌, false, List, [], ◌∷◌, length, Option}
+use Rattle.std.specs.Prelude.{◌≡◌, ◌⊎◌, ℕ, ◌+◌, ◌-◌, ◌^◌, ◌≤◌, Bool, false, List, [], ◌∷◌, length, Option}
 use Rattle.std.specs.Prelude.{None, Some, Ok}
 use Rattle.cb_types.specs.declared.config.Config.{Config}
 use Rattle.cb_types.specs.declared.handle.Handle.{Handle}
@@ -17,23 +17,24 @@ use Rattle.cb_rule.specs.declared.view.View.{View}
 use Rattle.cb_rule.specs.Lists.{Each}
 use Rattle.cb_rule.specs.Seats.{pins_on}
 use Rattle.cb_rule.specs.Steps.{IsNewest, look_at}
+use Rattle.cb_rule.specs.TriesAgain.{tries_again}
 use Rattle.cb_shared.specs.declared.answers.WriteAnswer.{WriteAnswer}
 use Rattle.cb_shared.specs.declared.answers.WriteAnswer.TheVariants as place
 use Rattle.cb_shared.specs.Glances.{IsLastAlone}
 use Rattle.cb_record.specs.Deeds.{deed, happened}
 use Rattle.cb_record.specs.Parts.{Part, Grows, grown, nothing_more, sum}
-pub use Rattle.cb_shared.specs.Trying.{is_to_try_again, may_come_loose, newest_tries}
+pub use Rattle.cb_shared.specs.Trying.{again_in, newest_tries}
 use Rattle.cb_shared.specs.Reading.{FindsGone, FindsOther, FindsWord, IsReadHere, looked}
 use Rattle.cb_shared.specs.Reading.{looked_twice}
 use Rattle.cb_shared.specs.Turning.{TurnAdds, made_by_turn, with_own}
 use Rattle.cb_shared.specs.Writing.{IsPastEnd, IsPinnedSo, IsRoomFor, last_seen}
 
--- why an object can't be brought in
-abbrev pub IsLack : Config → Reply → Type 0
-IsLack c (answer.Unavailable set lost) = Unit {0}
-IsLack c answer.Worn = Unit {0}
-IsLack c (answer.NoRoom frames loose nodes) = may_come_loose c loose ≡ false
-IsLack c other = ⊥
+-- why an object can't be brought in: for want of room only where the turn is not made again
+abbrev pub IsLack : Bool → Reply → Type 0
+IsLack again (answer.Unavailable set lost) = Unit {0}
+IsLack again answer.Worn = Unit {0}
+IsLack again (answer.NoRoom frames loose nodes) = again ≡ false
+IsLack again other = ⊥
 
 -- what the reply of a make, a write or a free says of its object
 abbrev pub TellsOfIt : Reply → Type 0
@@ -52,14 +53,14 @@ TellsWhatIs answer.Freed = Unit {0}
 TellsWhatIs other = ⊥
 
 -- a turn so answered is not made again
-abbrev pub IsAnswer : Config → Reply → Type 0
-IsAnswer c r = TellsOfIt r ⊎ IsLack c r
+abbrev pub IsAnswer : Bool → Reply → Type 0
+IsAnswer again r = TellsOfIt r ⊎ IsLack again r
 
 -- nor is one of this job; a swap tells nothing of its object
-abbrev pub IsAnswerTo : Config → Job → Reply → Type 0
-IsAnswerTo c (jobs.Swap handle) r = IsLack c r
-IsAnswerTo c (jobs.Read handle) r = TellsWhatIs r ⊎ IsLack c r
-IsAnswerTo c other r = IsAnswer c r
+abbrev pub IsAnswerTo : Bool → Job → Reply → Type 0
+IsAnswerTo again (jobs.Swap handle) r = IsLack again r
+IsAnswerTo again (jobs.Read handle) r = TellsWhatIs r ⊎ IsLack again r
+IsAnswerTo again other r = IsAnswer again r
 
 -- the jobs that the calls make turns of
 abbrev pub IsCalled : Job → Type 0
@@ -78,13 +79,13 @@ abbrev pub IsFetch : ℕ → Job → Type 0
 IsFetch h job = (job ≡ jobs.Swap (the_handle h)) ⊎ (job ≡ jobs.Read (the_handle h))
 
 -- a turn of this job that was told no answer to its call
-abbrev pub IsUnanswered : Config → Job → Turn → Type 0
-IsUnanswered c job t =
-    (t.job ≡ job) × ((r : Reply) × (t.reply ≡ Some r) × (IsAnswerTo c job r → ⊥))
+abbrev pub IsUnanswered : Job → Turn → Type 0
+IsUnanswered job t = (t.job ≡ job)
+    × ((r : Reply) × (t.reply ≡ Some r) × (IsAnswerTo (tries_again t) job r → ⊥))
 
 -- so one of a read
-abbrev pub IsUnfetched : Config → ℕ → Turn → Type 0
-IsUnfetched c h t = (job : Job) × IsFetch h job × IsUnanswered c job t
+abbrev pub IsUnfetched : ℕ → Turn → Type 0
+IsUnfetched h t = (job : Job) × IsFetch h job × IsUnanswered job t
 
 -- a turn of this job that found no memory
 abbrev pub IsForWant : Job → Turn → Type 0
@@ -141,7 +142,7 @@ pub record EndsAtLast (on : ℕ → Type 0) (vain : Turn → Type 0) (ends : Vie
 
 -- a turn of the job that answers the call
 abbrev pub TurnEnds : Config → Job → Reply → View → Part → Type 0
-TurnEnds c job r v d = IsAnswerTo c job r × TurnAdds c job (Ok r) v d
+TurnEnds c job r v d = IsAnswerTo (again_in d.turns) job r × TurnAdds c job (Ok r) v d
 
 -- a look that found the object far, and then such a turn
 pub record AsksFor (c : Config) (job : Job) (r : Reply) (h : ℕ) (v : View) (d : Part) : Type 0 where
@@ -239,41 +240,41 @@ WriteCallEnds c h at bytes r v d =
 -- the record after a read, a write, and a make or a free by turns
 abbrev pub ReadGives : Config → ℕ → Reply → View → View → Type 0
 ReadGives c h r v w = (d : Part)
-    × EndsAtLast (AtThis h) (IsUnfetched c h) (ReadCallEnds c h r) v d × Grows v d w
+    × EndsAtLast (AtThis h) (IsUnfetched h) (ReadCallEnds c h r) v d × Grows v d w
 
 abbrev pub WriteAnswers : Config → ℕ → ℕ → List ℕ → Reply → View → View → Type 0
 WriteAnswers c h at bytes r v w = (d : Part)
-    × EndsAtLast (AtThis h) (IsUnanswered c (jobs.Write (the_handle h) at bytes))
+    × EndsAtLast (AtThis h) (IsUnanswered (jobs.Write (the_handle h) at bytes))
     (WriteCallEnds c h at bytes r) v d × Grows v d w
 
 -- a handle that was made is the pass's own
 abbrev pub TurnGives : Config → Job → Reply → View → View → Type 0
 TurnGives c job r v w = (d : Part)
-    × EndsAtLast (LooksOf job) (IsUnanswered c job) (TurnEnds c job r) v d
+    × EndsAtLast (LooksOf job) (IsUnanswered job) (TurnEnds c job r) v d
     × (w ≡ with_own (made_by_turn job (Some r)) (grown d v))
 
 -- what is left of each where there was no memory
 abbrev pub ReadStops : Config → ℕ → View → View → Type 0
-ReadStops c h v w = StopsInVain (AtThis h) (IsUnfetched c h) (IsFetchForWant h) v w
+ReadStops c h v w = StopsInVain (AtThis h) (IsUnfetched h) (IsFetchForWant h) v w
 
 abbrev pub WriteStops : Config → ℕ → ℕ → List ℕ → View → View → Type 0
 WriteStops c h at bytes v w = let job = jobs.Write (the_handle h) at bytes in
-    StopsInVain (AtThis h) (IsUnanswered c job) (IsForWant job) v w
+    StopsInVain (AtThis h) (IsUnanswered job) (IsForWant job) v w
 
 abbrev pub TurnStops : Config → Job → View → View → Type 0
-TurnStops c job v w = StopsInVain (LooksOf job) (IsUnanswered c job) (IsForWant job) v w
+TurnStops c job v w = StopsInVain (LooksOf job) (IsUnanswered job) (IsForWant job) v w
 
 -- what one try comes to: it ends so, or came to nothing
 abbrev pub TurnTries : Config → Job → Option Reply → View → View → Type 0
 TurnTries c job (Some r) v w =
     (d : Part) × TurnEnds c job r v d × (w ≡ with_own (made_by_turn job (Some r)) (grown d v))
-TurnTries c job None v w = TriesInVain (LooksOf job) (IsUnanswered c job) v w
+TurnTries c job None v w = TriesInVain (LooksOf job) (IsUnanswered job) v w
 
 abbrev pub ReadTries : Config → ℕ → Option Reply → View → View → Type 0
 ReadTries c h (Some r) v w = (d : Part) × ReadCallEnds c h r v d × Grows v d w
-ReadTries c h None v w = TriesInVain (AtThis h) (IsUnfetched c h) v w
+ReadTries c h None v w = TriesInVain (AtThis h) (IsUnfetched h) v w
 
 abbrev pub WriteTries : Config → ℕ → ℕ → List ℕ → Option Reply → View → View → Type 0
 WriteTries c h at bytes (Some r) v w = (d : Part) × WriteCallEnds c h at bytes r v d × Grows v d w
 WriteTries c h at bytes None v w =
-    TriesInVain (AtThis h) (IsUnanswered c (jobs.Write (the_handle h) at bytes)) v w
+    TriesInVain (AtThis h) (IsUnanswered (jobs.Write (the_handle h) at bytes)) v w

@@ -10,14 +10,14 @@ ghost use Rattle.cb_rule.specs.Steps.{Knows};
 ghost use Rattle.cb_shared.specs.Calls.{IsAnswerTo, IsCalled, IsLack, IsNoReply, ReadGives};
 ghost use Rattle.cb_shared.specs.Calls.{ReadStops, ReadTries, SaysAs, TellsOfIt, TellsWhatIs};
 ghost use Rattle.cb_shared.specs.Calls.{TurnGives, TurnStops, TurnTries, WriteAnswers, WriteStops};
-ghost use Rattle.cb_shared.specs.Calls.{WriteTries, is_to_try_again, may_come_loose};
+ghost use Rattle.cb_shared.specs.Calls.{WriteTries};
 ghost use Rattle.cb_record.specs.Parts.{Part, Grows};
 ghost use Rattle.cb_shared.specs.Fetching.{AreFetches, AreFetchesTo, GetsTurns, IsOneMore, IsOneOf};
 ghost use Rattle.cb_shared.specs.Fetching.{job_to_fetch};
 ghost use Rattle.cb_shared.specs.Making.{MakesNew, TriesNew};
 ghost use Rattle.cb_shared.specs.Passes.{IsPassOf, record_of};
 ghost use Rattle.cb_shared.specs.Reading.{ReadFinds, looked};
-ghost use Rattle.cb_shared.specs.Turning.{KnowsOf, answer_of};
+ghost use Rattle.cb_shared.specs.Turning.{KnowsOf};
 ghost use Rattle.cb_ptr.specs.declared.word.State.TheVariants as state;
 ghost use Rattle.cb_ptr.specs.Word.{state_of};
 
@@ -27,13 +27,9 @@ use crate::pass::Pass;
 use crate::reading::{ReadAnswer, read_pinned};
 use crate::runtime::Shared;
 use crate::waiting::Patience;
-use cb_types::{Bytes, Config, Handle, Job, NoMemory, Reply};
+use cb_types::{Bytes, Handle, Job, NoMemory, Reply};
 use std::alloc::Global;
 use std::sync::Wait;
-
-/// The most spans that passes keep from being loose at one moment: 20 passes with 16 pins, one read
-/// and one write each.
-const MOST_HELD: u32 = 360;
 
 impl Shared {
     /// The version and the bytes of an object that the pass knows, under a pin of its own beside
@@ -104,7 +100,7 @@ impl Shared {
         unreachable!()
     }
 
-    /// Makes an object of these bytes, 1 to 1,024 of them, by a turn of the job Make: Made with its
+    /// Makes an object of these bytes, 1 to 4,096 of them, by a turn of the job Make: Made with its
     /// handle and version; Full where as many objects as there are handles were made; NoRoom, or
     /// Worn by the count of turns. Tries again where too few spans were loose but there are so many
     /// frames that more may come. Waits.
@@ -151,18 +147,6 @@ impl Shared {
             (record_of pass.new)) }
     {
         self.turn_until(rt, alloc, pass, &Job::Free { handle: h })
-    }
-
-    /// Whether a turn with this reply was refused for want of loose spans alone and is made again,
-    /// as the calls above do: with so many frames more spans may come loose. Takes no memory and
-    /// waits for nobody.
-    pub fn is_to_try_again(&self, reply: &Reply) -> bool
-        ensures { result ≡ is_to_try_again self.now.config (Some reply.now) }
-    {
-        match reply {
-            Reply::NoRoom { loose, .. } => comes_loose(&self.config, *loose),
-            _ => false,
-        }
     }
 
     /// Turns of a job until one answers the call.
@@ -220,7 +204,7 @@ impl Shared {
             patience.old.brought patience.new.brought) (record_of pass.old) (record_of pass.new)) }
     {
         let reply = self.turn_within(rt, alloc, pass, job)?;
-        if is_answer(&self.config, job, &reply) {
+        if is_answer(pass.again(), job, &reply) {
             Ok(Some(reply))
         } else {
             self.wait_behind(rt, &reply, patience);
@@ -328,15 +312,16 @@ fn fetch_job(h: Handle, patience: &Patience) -> Job
     }
 }
 
-/// Whether a turn of this job with this reply answers its call.
-fn is_answer(config: &Config, job: &Job, reply: &Reply) -> bool
-    ensures yes { result ≡ true → IsAnswerTo config.now job.now reply.now }
-    ensures no { result ≡ false → IsAnswerTo config.now job.now reply.now → ⊥ }
+/// Whether a turn of this job with this reply, which may be one that is made again, answers its
+/// call.
+fn is_answer(again: bool, job: &Job, reply: &Reply) -> bool
+    ensures yes { result ≡ true → IsAnswerTo again job.now reply.now }
+    ensures no { result ≡ false → IsAnswerTo again job.now reply.now → ⊥ }
 {
     match job {
-        Job::Swap { .. } => is_lack(config, reply),
-        Job::Read { .. } => tells_what_is(reply) || is_lack(config, reply),
-        _ => tells_of_it(reply) || is_lack(config, reply),
+        Job::Swap { .. } => is_lack(again, reply),
+        Job::Read { .. } => tells_what_is(reply) || is_lack(again, reply),
+        _ => tells_of_it(reply) || is_lack(again, reply),
     }
 }
 
@@ -363,36 +348,17 @@ fn tells_of_it(reply: &Reply) -> bool
     }
 }
 
-/// Whether the reply tells why an object can't be brought in.
-fn is_lack(config: &Config, reply: &Reply) -> bool
-    ensures yes { result ≡ true → IsLack config.now reply.now }
-    ensures no { result ≡ false → IsLack config.now reply.now → ⊥ }
+/// Whether the reply of a turn, which may be one that is made again, tells why an object can't be
+/// brought in.
+fn is_lack(again: bool, reply: &Reply) -> bool
+    ensures yes { result ≡ true → IsLack again reply.now }
+    ensures no { result ≡ false → IsLack again reply.now → ⊥ }
 {
     match reply {
         Reply::Unavailable { .. } | Reply::Worn => true,
-        Reply::NoRoom { loose, .. } => !comes_loose(config, *loose),
+        Reply::NoRoom { .. } => !again,
         _ => false,
     }
-}
-
-/// Whether a turn with this reply is made again: it was refused for want of loose spans alone, and
-/// more may come loose.
-pub(crate) fn is_to_try_again(config: &Config, reply: &Result<Reply, NoMemory>) -> bool
-    ensures { result ≡ is_to_try_again config.now (answer_of reply.now) }
-{
-    match reply {
-        Ok(Reply::NoRoom { loose, .. }) => comes_loose(config, *loose),
-        _ => false,
-    }
-}
-
-/// Whether so few loose spans are a reason to try again: too few for an eviction, but with so many
-/// frames more may come loose.
-fn comes_loose(config: &Config, loose: u32) -> bool
-    ensures { result ≡ may_come_loose config.now loose }
-{
-    let config = *config;
-    loose < config.k && 2 * config.k as u64 + MOST_HELD as u64 <= config.frames as u64
 }
 
 /// Whether a write in place found its object far.

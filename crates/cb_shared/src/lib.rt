@@ -27,6 +27,7 @@ mod seat_desk;
 mod seats;
 mod setup;
 mod starting;
+mod trying;
 pub mod turning;
 pub mod waiting;
 mod working;

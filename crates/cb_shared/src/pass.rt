@@ -1,8 +1,8 @@
-ghost use Rattle.std.specs.Prelude.{◌≡◌, [], false, unwrap_or};
+ghost use Rattle.std.specs.Prelude.{◌≡◌, []};
 ghost use Rattle.crossbeam_utils.specs.Padded.{padded_value};
 ghost use Rattle.cb_shared.specs.Handles.{handles_of};
 ghost use Rattle.cb_shared.specs.Seats.{record_at};
-ghost use Rattle.cb_shared.specs.Trying.{newest_tries, tries_of};
+ghost use Rattle.cb_shared.specs.Trying.{again_in, tries_of};
 
 use crate::board::SeatAt;
 use crate::handles::Pins;
@@ -81,11 +81,12 @@ impl Pass {
     }
 
     /// Whether the newest turn of the pass was refused for want of loose spans alone and is made
-    /// again, as `Shared::read` does: with so many frames more spans may come loose. False where
-    /// the pass has made no turn. Takes no memory and waits for nobody.
+    /// again, as the calls that try again do: with so many frames more spans may come loose. They
+    /// are 2k + 360, and 28k + 2,600 where the span that the turn needed frames for, or one in
+    /// local memory, had more than one page; k is that of the code in force. False where the pass
+    /// has made no turn. Takes no memory and waits for nobody.
     pub fn again(&self) -> bool
-        ensures { result ≡ unwrap_or
-            (newest_tries (record_of self.now).config (record_of self.now).turns) false }
+        ensures { result ≡ again_in (record_of self.now).turns }
     {
         self.tries.unwrap_or(false)
     }

@@ -1,5 +1,5 @@
 //! Turns under the far lock.
-ghost use Rattle.std.specs.Prelude.{◌≡◌, ◌≤◌, [], length, IfOk};
+ghost use Rattle.std.specs.Prelude.{◌≡◌, ◌≤◌, [], length, Some, IfOk};
 ghost use Rattle.cb_types.specs.Config.{IsAccepted};
 ghost use Rattle.cb_types.specs.declared.reply.Reply.TheVariants as answer;
 ghost use Rattle.cb_core.specs.Jobs.{IsJob};
@@ -8,16 +8,17 @@ ghost use Rattle.cb_shared.specs.Passes.{IsAtRest, IsPassOf, record_of};
 ghost use Rattle.cb_record.specs.Parts.{Grows, Part};
 ghost use Rattle.cb_shared.specs.Seats.{IsOf, record_at};
 ghost use Rattle.cb_shared.specs.Seeking.{FindsKnown, TurnFinds};
+ghost use Rattle.cb_shared.specs.Trying.{tries_of};
 ghost use Rattle.cb_shared.specs.Turning.{KnowsOf, TurnBy};
 ghost use Rattle.cb_shared.specs.UnderLock.{IsBelow, TurnedBy};
 
 use crate::board::{SeatAt, Top};
-use crate::calling::is_to_try_again;
 use crate::freed::{find_freed, find_known, freed_of, swapped_of};
 use crate::handles::count_pins;
 use crate::locking::{give_far, lock_far};
 use crate::pass::Pass;
 use crate::runtime::Shared;
+use crate::trying::is_to_try_again;
 use crate::working::work;
 use cb_types::{Config, Job, NoMemory, Reply};
 use std::alloc::Global;
@@ -88,14 +89,14 @@ impl Shared {
         let config = self.config;
         let top = &self.board.shared;
         count_pins(&pass.pins);
-        let reply = locked_turn(rt, top, &mut pass.seat, &config, alloc, job);
+        let (reply, again) = locked_turn(rt, top, &mut pass.seat, &config, alloc, job);
         find_freed(rt, top, &mut pass.seat, &config, freed_of(job, &reply));
-        pass.tries = Some(is_to_try_again(&config, &reply));
+        pass.tries = Some(again);
         reply
     }
 }
 
-/// A turn, from taking the far lock to giving it back.
+/// A turn, from taking the far lock to giving it back, and whether it is made again.
 fn locked_turn<R: Wait>(
     rt: &R,
     top: &Top,
@@ -103,7 +104,7 @@ fn locked_turn<R: Wait>(
     config: &Config,
     alloc: Global,
     job: &Job,
-) -> Result<Reply, NoMemory>
+) -> (Result<Reply, NoMemory>, bool)
     requires of { IsOf top.now.table_id top.now.key config.now seat.old }
     requires rest { IsAtRest config.now (record_at seat.old) }
     requires slots { seat.old.me.1 ≡ [] }
@@ -113,13 +114,15 @@ fn locked_turn<R: Wait>(
     requires knows { KnowsOf job.now (record_at seat.old) }
     ensures same { (seat.new.table_id ≡ seat.old.table_id) × (seat.new.id ≡ seat.old.id)
         × (seat.new.me.1 ≡ []) }
-    ensures turn { TurnedBy config.now job.now result (record_at seat.old) (record_at seat.new) }
-    ensures new { IfOk result
+    ensures turn { TurnedBy config.now job.now result.0 (record_at seat.old) (record_at seat.new) }
+    ensures again { tries_of (record_at seat.new) ≡ Some result.1 }
+    ensures new { IfOk result.0
         (λ reply. MakesNew top.now.key.first job.now reply (record_at seat.old)) }
-    ensures no_frame { IfOk result (λ reply. reply ≡ answer.NoFrame → ⊥) }
+    ensures no_frame { IfOk result.0 (λ reply. reply ≡ answer.NoFrame → ⊥) }
 {
     let mut far = lock_far(rt, top, seat, config);
     let reply = work(rt, top, seat, config, &mut *far.state, alloc, job);
+    let again = is_to_try_again(config, &far.state, job, &reply);
     give_far::<Brand>(top, seat, config, job, &reply, far);
-    reply
+    (reply, again)
 }

@@ -7,13 +7,14 @@ use Rattle.cb_lanes.proofs.asks.bring_in.Goals as goal
 
 pub returns-then-is_lack-clause-turn : goal.returns-then-is_lack-clause-turn
 returns-then-is_lack-clause-turn g c = turn_ends c.args.shared.now.config (jobs.Swap c.args.h)
-    c.in_ok-reply.reply c.args.pass.now.seat.me.0 c.turn_within.new.pass.seat.me.0
-    (c.is_lack.ensures.yes c.if-is_lack.true) c.in_ok-reply.ensures.turn
+    c.in_ok-reply.reply c.again.result c.args.pass.now.seat.me.0
+    c.turn_within.new.pass.seat.me.0 c.again.ensures (c.is_lack.ensures.yes c.if-is_lack.true)
+    c.in_ok-reply.ensures.turn
 
 pub returns-else-is_lack-clause-turn : goal.returns-else-is_lack-clause-turn
 returns-else-is_lack-clause-turn g c = turn_in_vain c.args.shared.now.config (jobs.Swap c.args.h)
-    c.in_ok-reply.reply c.args.pass.now.seat.me.0 c.turn_within.new.pass.seat.me.0 tt
-    (c.is_lack.ensures.no c.if-is_lack.false) c.in_ok-reply.ensures.turn
+    c.in_ok-reply.reply c.again.result c.args.pass.now.seat.me.0
+    c.turn_within.new.pass.seat.me.0 tt c.again.ensures (c.is_lack.ensures.no c.if-is_lack.false) c.in_ok-reply.ensures.turn
 
 pub returns-then-is_lack-clause-pins : goal.returns-then-is_lack-clause-pins
 returns-then-is_lack-clause-pins g c = ap (λ (z : View). z.pins) c.in_ok-reply.ensures.turn.2

@@ -33,7 +33,7 @@ returns-in-Make-clause-call g c = call_is c.args.shared.now.config c.args.job.no
 pub returns-in-Make-clause-pins : goal.returns-in-Make-clause-pins
 returns-in-Make-clause-pins g c = call_leaves c.args.shared.now.config
     (jobs.Make c.as_slice.result.now) AtNone
-    (IsUnanswered c.args.shared.now.config (jobs.Make c.as_slice.result.now))
+    (IsUnanswered (jobs.Make c.as_slice.result.now))
     (IsForWant (jobs.Make c.as_slice.result.now))
     c.args.pass.now.seat.me.0 c.make.new.pass.seat.me.0 c.make.result c.make.ensures.make
     c.make.ensures.error
@@ -68,7 +68,7 @@ returns-in-Read-clause-call g c = call_is c.args.shared.now.config c.args.job.no
 pub returns-in-Read-clause-pins : goal.returns-in-Read-clause-pins
 returns-in-Read-clause-pins g c = call_leaves c.args.shared.now.config
     (jobs.Read c.in-Read.handle) (AtThis c.in-Read.handle.n)
-    (IsUnfetched c.args.shared.now.config c.in-Read.handle.n) (IsFetchForWant c.in-Read.handle.n)
+    (IsUnfetched c.in-Read.handle.n) (IsFetchForWant c.in-Read.handle.n)
     c.args.pass.now.seat.me.0 c.read.new.pass.seat.me.0 c.read.result
     c.read.ensures.read c.read.ensures.error
 
@@ -82,7 +82,7 @@ returns-in-Write-clause-call g c = call_is c.args.shared.now.config c.args.job.n
 pub returns-in-Write-clause-pins : goal.returns-in-Write-clause-pins
 returns-in-Write-clause-pins g c = call_leaves c.args.shared.now.config
     (jobs.Write c.in-Write.handle c.in-Write.at c.as_slice-in-Write.result.now)
-    (AtThis c.in-Write.handle.n) (IsUnanswered c.args.shared.now.config
+    (AtThis c.in-Write.handle.n) (IsUnanswered
     (jobs.Write (the_handle c.in-Write.handle.n) c.in-Write.at c.as_slice-in-Write.result.now))
     (IsForWant (jobs.Write (the_handle c.in-Write.handle.n) c.in-Write.at
     c.as_slice-in-Write.result.now)) c.args.pass.now.seat.me.0 c.write.new.pass.seat.me.0
@@ -96,7 +96,7 @@ returns-in-Free-clause-call g c = call_is c.args.shared.now.config c.args.job.no
 pub returns-in-Free-clause-pins : goal.returns-in-Free-clause-pins
 returns-in-Free-clause-pins g c = call_leaves c.args.shared.now.config
     (jobs.Free c.in-Free.handle) AtNone
-    (IsUnanswered c.args.shared.now.config (jobs.Free c.in-Free.handle))
+    (IsUnanswered (jobs.Free c.in-Free.handle))
     (IsForWant (jobs.Free c.in-Free.handle)) c.args.pass.now.seat.me.0
     c.free.new.pass.seat.me.0 c.free.result c.free.ensures.free c.free.ensures.error
 

@@ -12,7 +12,7 @@ loop-init g c = (
   c.requires.of,
   c.requires.held,
   so_far (AtThis c.args.h.n)
-      (IsUnanswered c.args.shared.now.config (jobs.Swap (the_handle c.args.h.n)))
+      (IsUnanswered (jobs.Swap (the_handle c.args.h.n)))
       c.args.pass.now.seat.me.0,
 )
 
@@ -24,7 +24,7 @@ try_pin-requires-clause-held g c = c.loop.invariant.1
 
 pub try_pin-requires-clause-knows : goal.try_pin-requires-clause-knows
 try_pin-requires-clause-knows g c = known_still (AtThis c.args.h.n)
-    (IsUnanswered c.args.shared.now.config (jobs.Swap (the_handle c.args.h.n))) (Some c.args.h.n)
+    (IsUnanswered (jobs.Swap (the_handle c.args.h.n))) (Some c.args.h.n)
     c.args.pass.now.seat.me.0
     c.loop.pass.seat.me.0 c.requires.knows c.loop.invariant.2
 

@@ -1,6 +1,12 @@
-use Rattle.std.proofs.Common.{◌∙◌, ap, sym, arith}
+use Rattle.std.proofs.Common.{◌∙◌, Bool, Some, ap, subst, sym, arith}
+use Rattle.cb_world.specs.declared.shown.Shown.{Shown}
+use Rattle.cb_world.specs.FarState.{FarState}
+use Rattle.cb_rule.specs.Locking.{Stood}
 use Rattle.cb_rule.specs.Slot.{Sat}
+use Rattle.cb_rule.specs.TriesAgain.{is_to_try_again}
 use Rattle.cb_shared.specs.Seats.{record_at}
+use Rattle.cb_shared.specs.Trying.{tries_of}
+use Rattle.cb_shared.specs.Turning.{answer_of}
 use Rattle.cb_shared.proofs.AfterTurn.{at_end, begins_taken, ends_work, knows_taken, of_taken}
 use Rattle.cb_shared.proofs.AfterTurn.{of_work, pins_taken, slots_taken, took_as, turn_with}
 use Rattle.cb_shared.proofs.AfterTurn.{turned_by}
@@ -25,6 +31,11 @@ work-reply-requires-clause-begins g c = begins_taken c.args.config.now c.deref_m
     c.args.seat.now c.lock_far-far.new.seat c.requires.rest (took_as c.args.config.now c.deref_mut.result.now c.lock_far-far.result
     c.args.seat.now c.lock_far-far.new.seat (c.deref_mut.ensures.value ∙ c.far.view_is)
     c.lock_far-far.ensures.took)
+
+pub is_to_try_again-again-requires-clause-stood : goal.is_to_try_again-again-requires-clause-stood
+is_to_try_again-again-requires-clause-stood g c =
+    subst (λ (far : FarState). (known : Shown) × Stood c.args.config.now known far)
+    (sym c.deref.ensures) (_, c.work-reply.ensures.work.stood)
 
 pub give_far-requires-clause-of : goal.give_far-requires-clause-of
 give_far-requires-clause-of g c = of_work c.args.top.now.table_id c.args.top.now.key
@@ -71,6 +82,12 @@ returns-clause-turn g c = turned_by c.args.config.now c.args.job.now c.work-repl
     (turn_with c.args.config.now c.args.job.now c.work-reply.result c.deref_mut.result.now
     c.work-reply.new.far c.lock_far-far.new.seat c.work-reply.new.seat c.give_far.new.seat
     c.work-reply.ensures.work c.give_far.ensures) c.work-reply.ensures.unavailable
+
+pub returns-clause-again : goal.returns-clause-again
+returns-clause-again g c = ap (λ (m : Sat). tries_of m.0) c.give_far.ensures.at.2
+    ∙ ap (λ (b : Bool). Some b) (sym (c.is_to_try_again-again.ensures
+    ∙ ap (λ (far : FarState). is_to_try_again far c.args.job.now (answer_of c.work-reply.result))
+    c.deref.ensures))
 
 pub returns-clause-new : goal.returns-clause-new
 returns-clause-new g c = let t = took_as c.args.config.now c.deref_mut.result.now

@@ -68,7 +68,6 @@ invariant_of-pass c = let p = c.args.pass.now in let o = c.give_back.new.pass in
       tried = c.or-pass.ensures ∙ (λ i. option_or (o.tried i) (p.tried i))
           ∙ ap (λ (m : Sat). option_or (tries_of m.0) (tries_of v)) g
           ∙ tries_joined v (record_of c.args.other)
-          (c.requires.other.rest.config ∙ sym c.requires.of.rest.config)
           ∙ sym (ap (λ (m : Sat). tries_of m.0) z);
     }
 

@@ -10,7 +10,7 @@ use Rattle.cb_shared.proofs.runtime.Shared.make.Goals as goal
 
 pub returns-in_err-copy_of-clause-error : goal.returns-in_err-copy_of-clause-error
 returns-in_err-copy_of-clause-error g c = err_always c.from_residual.result _
-    (stops_at_once AtNone (IsUnanswered c.args.self.now.config (jobs.Make c.args.bytes.now))
+    (stops_at_once AtNone (IsUnanswered (jobs.Make c.args.bytes.now))
     (IsForWant (jobs.Make c.args.bytes.now)) (record_of c.args.pass.now))
 
 pub turn_until-requires-clause-job : goal.turn_until-requires-clause-job

@@ -57,6 +57,16 @@ pub pin_at-requires-clause-pins : goal.pin_at-requires-clause-pins
 pin_at-requires-clause-pins c = c.args.pass.now.pinned
     ∙ sym (ap handles_of (kept (goal.at.pin_at-requires-clause-pins c).After-glance-saw).pins)
 
+pub invariant_of-pass-in-Some-1 : goal.invariant_of-pass-in-Some-1
+invariant_of-pass-in-Some-1 c =
+    let k = kept (goal.at.invariant_of-pass-in-Some-1 c).After-glance-saw in
+    let p = c.args.pass.now in record {
+      shares = p.shares ∙ sym k.share;
+      carries = k.carries ∙ p.carries;
+      pinned = p.pinned ∙ sym (ap handles_of k.pins);
+      tried = p.tried ∙ sym k.tries;
+    }
+
 pub invariant_of-pass-in-None : goal.invariant_of-pass-in-None
 invariant_of-pass-in-None c =
     let k = kept (goal.at.invariant_of-pass-in-None c).After-glance-saw in

@@ -80,7 +80,7 @@ returns-in-Freed-clause-of g c = c.in_ok-version.ensures.of
 
 pub returns-in-Moving-clause-read : goal.returns-in-Moving-clause-read
 returns-in-Moving-clause-read g c = found_hindered c.args.h.n
-    (IsUnfetched c.args.self.now.config c.args.h.n) c.in_ok-version.field-0
+    (IsUnfetched c.args.h.n) c.in_ok-version.field-0
     (record_of c.args.pass.now) (record_of c.read_beside.new.pass)
     (is_hindered c.in_ok-version.field-0 c.in-Moving.is) c.in_ok-version.ensures.read
 

@@ -13,13 +13,13 @@ returns-in_err-reply-clause-error g c = err_always c.from_residual.result _
 
 pub returns-then-is_answer-clause-turn : goal.returns-then-is_answer-clause-turn
 returns-then-is_answer-clause-turn g c = turn_ends c.args.self.now.config c.args.job.now
-    c.in_ok-reply.reply (record_of c.args.pass.now) (record_of c.turn_within.new.pass)
-    (c.is_answer.ensures.yes c.if-is_answer.true) c.in_ok-reply.ensures.turn
+    c.in_ok-reply.reply c.again.result (record_of c.args.pass.now)
+    (record_of c.turn_within.new.pass) c.again.ensures (c.is_answer.ensures.yes c.if-is_answer.true) c.in_ok-reply.ensures.turn
 
 pub returns-else-is_answer-clause-turn : goal.returns-else-is_answer-clause-turn
 returns-else-is_answer-clause-turn g c = turn_in_vain c.args.self.now.config c.args.job.now
-    c.in_ok-reply.reply (record_of c.args.pass.now) (record_of c.turn_within.new.pass)
-    c.requires.called (c.is_answer.ensures.no c.if-is_answer.false) c.in_ok-reply.ensures.turn
+    c.in_ok-reply.reply c.again.result (record_of c.args.pass.now)
+    (record_of c.turn_within.new.pass) c.requires.called c.again.ensures (c.is_answer.ensures.no c.if-is_answer.false) c.in_ok-reply.ensures.turn
 
 pub returns-then-is_answer-clause-new : goal.returns-then-is_answer-clause-new
 returns-then-is_answer-clause-new g c = c.in_ok-reply.ensures.new

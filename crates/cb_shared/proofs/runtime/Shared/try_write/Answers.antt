@@ -14,7 +14,7 @@ returns-in_err-copy_of-clause-error g c = err_always c.from_residual.result _
     c.write_here-answer.result (record_of c.args.pass.now) (record_of c.write_here-answer.new.pass)
     (record_of c.write_here-answer.new.pass) (c.is_away.ensures.yes c.if-is_away.true)
     c.write_here-answer.ensures.write (stops_at_once AtNone
-    (IsUnanswered c.args.self.now.config
+    (IsUnanswered
     (jobs.Write (the_handle c.args.h.n) c.args.at c.args.bytes.now))
     (IsForWant (jobs.Write (the_handle c.args.h.n) c.args.at c.args.bytes.now))
     (record_of c.write_here-answer.new.pass)))

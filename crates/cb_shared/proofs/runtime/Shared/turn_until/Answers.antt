@@ -9,7 +9,7 @@ use Rattle.cb_shared.proofs.runtime.Shared.turn_until.Goals as goal
 pub loop-init : goal.loop-init
 loop-init g c = (
   c.requires.of,
-  so_far (LooksOf c.args.job.now) (IsUnanswered c.args.self.now.config c.args.job.now)
+  so_far (LooksOf c.args.job.now) (IsUnanswered c.args.job.now)
       (record_of c.args.pass.now),
 )
 
@@ -18,12 +18,12 @@ try_turn-requires-clause-of g c = c.loop.invariant.0
 
 pub try_turn-requires-clause-knows : goal.try_turn-requires-clause-knows
 try_turn-requires-clause-knows g c = known_still (LooksOf c.args.job.now)
-    (IsUnanswered c.args.self.now.config c.args.job.now) (object_of c.args.job.now)
+    (IsUnanswered c.args.job.now) (object_of c.args.job.now)
     (record_of c.args.pass.now) (record_of c.loop.pass) c.requires.knows c.loop.invariant.1
 
 pub returns-in_err-reply-clause-error : goal.returns-in_err-reply-clause-error
 returns-in_err-reply-clause-error g c = err_always c.from_residual.result _
-    (stops_then (LooksOf c.args.job.now) (IsUnanswered c.args.self.now.config c.args.job.now)
+    (stops_then (LooksOf c.args.job.now) (IsUnanswered c.args.job.now)
     (IsForWant c.args.job.now) (record_of c.args.pass.now) (record_of c.loop.pass)
     (record_of c.try_turn.new.pass) c.loop.invariant.1 c.in_err-reply.ensures.error)
 
@@ -42,7 +42,7 @@ loop-preserved g c = (
 
 pub returns-in-Some-2-clause-new : goal.returns-in-Some-2-clause-new
 returns-in-Some-2-clause-new g c = new_at_last c.args.self.now.board.shared.key.first
-    (LooksOf c.args.job.now) (IsUnanswered c.args.self.now.config c.args.job.now) c.args.job.now
+    (LooksOf c.args.job.now) (IsUnanswered c.args.job.now) c.args.job.now
     c.in_ok-reply.field-0 c.in-Some-2.reply (record_of c.args.pass.now)
     (record_of c.loop.pass) c.in-Some-2.is c.loop.invariant.1 c.in_ok-reply.ensures.new
 

@@ -10,7 +10,7 @@ use Rattle.cb_shared.proofs.runtime.Shared.write.Goals as goal
 pub loop-init : goal.loop-init
 loop-init g c = (
   c.requires.of,
-  so_far (AtThis c.args.h.n) (IsUnanswered c.args.self.now.config
+  so_far (AtThis c.args.h.n) (IsUnanswered
       (jobs.Write (the_handle c.args.h.n) c.args.at c.args.bytes.now))
       (record_of c.args.pass.now),
 )
@@ -20,14 +20,14 @@ try_write-requires-clause-of g c = c.loop.invariant.0
 
 pub try_write-requires-clause-knows : goal.try_write-requires-clause-knows
 try_write-requires-clause-knows g c = known_still (AtThis c.args.h.n)
-    (IsUnanswered c.args.self.now.config
+    (IsUnanswered
     (jobs.Write (the_handle c.args.h.n) c.args.at c.args.bytes.now)) (Some c.args.h.n)
     (record_of c.args.pass.now) (record_of c.loop.pass) c.requires.knows
     c.loop.invariant.1
 
 pub returns-in_err-reply-clause-error : goal.returns-in_err-reply-clause-error
 returns-in_err-reply-clause-error g c = err_always c.from_residual.result _
-    (stops_then (AtThis c.args.h.n) (IsUnanswered c.args.self.now.config
+    (stops_then (AtThis c.args.h.n) (IsUnanswered
     (jobs.Write (the_handle c.args.h.n) c.args.at c.args.bytes.now))
     (IsForWant (jobs.Write (the_handle c.args.h.n) c.args.at c.args.bytes.now))
     (record_of c.args.pass.now) (record_of c.loop.pass) (record_of c.try_write.new.pass)

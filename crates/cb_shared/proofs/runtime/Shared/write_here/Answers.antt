@@ -54,6 +54,16 @@ pub write_at-requires-clause-knows : goal.write_at-requires-clause-knows
 write_at-requires-clause-knows c = knows_glance c.args.h.n c.args.h.n c.glance-saw.result
     c.args.pass.now.seat c.glance-saw.new.seat c.glance-saw.ensures c.requires.knows
 
+pub invariant_of-pass : goal.invariant_of-pass
+invariant_of-pass c =
+    let k = kept (goal.at.invariant_of-pass c).After-glance-saw in
+    let p = c.args.pass.now in record {
+      shares = p.shares ∙ sym k.share;
+      carries = k.carries ∙ p.carries;
+      pinned = p.pinned ∙ sym (ap handles_of k.pins);
+      tried = p.tried ∙ sym k.tries;
+    }
+
 pub invariant_of-pass-in-None : goal.invariant_of-pass-in-None
 invariant_of-pass-in-None c =
     let k = kept (goal.at.invariant_of-pass-in-None c).After-glance-saw in
