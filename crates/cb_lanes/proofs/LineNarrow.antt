@@ -18,7 +18,6 @@ use Rattle.cb_core.specs.Narrow.{IsLong, IsLongMade, IsMade, IsNarrow}
 use Rattle.cb_core.specs.Step.{Step, held as other_holds, free}
 use Rattle.cb_core.proofs.Laws.{KeepsNarrow, narrow_configured, narrow_same, narrow_stays, narrow_then}
 use Rattle.cb_core.proofs.Laws.{pin_far, turn_keeps_narrow, unpin_far}
-use Rattle.cb_lanes.specs.GivingBack.{lines_by}
 use Rattle.cb_lanes.specs.LineGoes.{job_of}
 use Rattle.cb_lanes.specs.LineStep.{LineStep, LinesLead, ObjectStep, OtherStep, TurnAt, PeekStep}
 use Rattle.cb_lanes.specs.LineStep.{PinLine, at_once, not_pinned, shown, stays_far, swapped_in}
