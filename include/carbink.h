@@ -112,7 +112,7 @@ uint32_t carbink_mend(uint32_t k, uint32_t r, uint32_t len, uint8_t *rows, size_
 
 /* ---- A world on one thread
  *
- * A world has local memory, in frames of 4,096 bytes, and memory nodes. Objects of 1 to 1,024 bytes are made,
+ * A world has local memory, in frames of 4,096 bytes, and memory nodes. Objects of 1 to 4,096 bytes are made,
  * read, written and freed by their handle; spans of objects leave local memory as rows of a code word, each on
  * a node of its own, and come back when they are asked for, also where up to r of the nodes have crashed.
  * docs/FORMATS.md tells what each verb does and what each reply means.
@@ -138,7 +138,7 @@ struct carbink_world {
 #define CARBINK_HAS_WORLD 7u     /* The handle holds a world already. */
 #define CARBINK_BAD_VERB 8u      /* There is no such verb. */
 #define CARBINK_BAD_SEAT 9u      /* The seat is not below 64. */
-#define CARBINK_BAD_ARGUMENT 10u /* The handle is not below the configured ones, or the node is not, or a make has not 1 to 1,024 bytes. */
+#define CARBINK_BAD_ARGUMENT 10u /* The handle is not below the configured ones, or the node is not, or a make has not 1 to 4,096 bytes. */
 #define CARBINK_BAD_K 16u        /* A size is out of its range: the first in this order. */
 #define CARBINK_BAD_R 17u
 #define CARBINK_BAD_NODES 18u
@@ -152,7 +152,7 @@ struct carbink_config {
     uint32_t r;       /* Parities of a span-set, and so the crashes that it survives: 1 to 4. */
     uint32_t nodes;   /* Memory nodes: k + r to 64. */
     uint32_t frames;  /* Frames of local memory: 1 to 4,096. */
-    uint32_t room;    /* Rows of 4,096 bytes that a node holds at the most: 1 to 4,096. */
+    uint32_t room;    /* Rows that a node holds at the most, of 1, 2 or 4 frames each: 1 to 4,096. */
     uint32_t handles; /* Objects that can be made: 1 to 65,536. */
 };
 
@@ -167,7 +167,7 @@ void carbink_world_free(struct carbink_world *world);
 uint32_t carbink_world_given(struct carbink_world *world, uint64_t *given);
 
 /* The verbs: what they take of an event beside the seat, and what they do. */
-#define CARBINK_MAKE 0u      /* bytes: a new object with these, 1 to 1,024. */
+#define CARBINK_MAKE 0u      /* bytes: a new object with these, 1 to 4,096. */
 #define CARBINK_READ 1u      /* handle: the object's bytes. */
 #define CARBINK_WRITE 2u     /* handle, at, bytes: these in place of the object's from the byte number `at` on. */
 #define CARBINK_FREE 3u      /* handle: the end of the object. */
@@ -207,7 +207,7 @@ struct carbink_reply {
 };
 
 /* As many bytes as an object has at the most, and a room has at the least. */
-#define CARBINK_ROOM 1024u
+#define CARBINK_ROOM 4096u
 
 /* One event: the reply goes into *reply, and its bytes to the front of `room`. Tells, in this order and with nothing
  * changed: no world, verb, seat, argument, a room that is too short, and want of memory, where what each object holds

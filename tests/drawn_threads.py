@@ -1,18 +1,21 @@
 """Scripts that are drawn for threads (tests/legal.py), with no steps, which threads refuse. Of the kind `mixed`: small worlds
-and roomy ones, shared names and own ones, many crashes and many worker turns. Of the kind `storm`: 2 to 12 frames for 3 to
+and roomy ones, shared names and own ones, many crashes and many worker turns; most have long objects. Of the kind `storm`: 2 to 12 frames for 3 to
 10 lanes, and shared objects in many more spans than that, which the lanes read and pin all the time."""
 import random
 
 WEIGHTS = {"make": 5, "read": 9, "write": 8, "free": 2, "pin": 3, "unpin": 3, "peek": 3, "leave": 1, "filter": 5,
            "evict": 4, "compact": 3, "rebuild": 3, "crash": 1, "join": 1}
 LENGTHS = (1, 2, 8, 16, 17, 40, 64, 97, 200, 256, 400, 700, 1024)
+# Of objects whose spans have two frames and four; so many bytes of all objects fit a script beside its lines.
+LONG = (1025, 1500, 1536, 1537, 2000, 2048, 2049, 3000, 3072, 3073, 4000, 4096)
+MOST_DRAWN = 420000
 
 
 class Drawing:
     """The lines of a script, as they come."""
-    def __init__(self, draw, nodes, crashing, lanes, calm):
-        self.draw, self.nodes, self.crashing, self.lanes = draw, nodes, crashing, lanes
-        self.lines, self.names, self.made = [], {lane: [] for lane in range(lanes + 1)}, 0
+    def __init__(self, draw, nodes, crashing, lanes, calm, long_share):
+        self.draw, self.nodes, self.crashing, self.lanes, self.long_share = draw, nodes, crashing, lanes, long_share
+        self.lines, self.names, self.made, self.bytes = [], {lane: [] for lane in range(lanes + 1)}, 0, 0
         self.weights = dict(WEIGHTS, crash=0.3 if calm else 2, join=1 if calm else 2, pin=draw.choice((1, 3, 12)))
 
     def name_of(self, lane):
@@ -34,7 +37,7 @@ class Drawing:
             self.make(lane)
         elif verb == "write":
             name, length = known
-            at = self.draw.randint(0, min(1024, length + (self.draw.random() < 0.1)))
+            at = self.draw.randint(0, min(4096, length + (self.draw.random() < 0.1)))
             count = self.draw.randint(0, max(0, min(12, length - at)))
             data = self.draw.randbytes(count).hex() or "-"
             self.lines.append(f"{lane} write {name} {at} {data}")
@@ -42,7 +45,9 @@ class Drawing:
             self.lines.append(f"{lane} {verb} {known[0]}")
 
     def make(self, lane):
-        length = self.draw.choice(LENGTHS)
+        is_long = self.long_share and self.bytes < MOST_DRAWN and self.draw.random() < self.long_share
+        length = self.draw.choice(LONG if is_long else LENGTHS)
+        self.bytes += length
         name = f"o{self.made}"
         self.made += 1
         self.names[lane].append((name, length))
@@ -54,12 +59,13 @@ def mixed(draw, count=None):
     k, r = draw.choice((1, 2, 2, 3, 4, 4, 6)), draw.randint(1, 4)
     lanes, drawn = draw.choice((1, 2, 3, 4, 4, 6, 10, 15)), draw.choice((20, 60, 150, 400, 800))
     roomy, turns = draw.random() < 0.3, draw.choice((0, 0, 3, 40, 200, 1000, 2500))
+    long_share = draw.choice((0, 0.1, 0.3, 0.8))
     if roomy:
-        nodes, frames = k + 2 * r + draw.randint(0, 3), 2 * k + 360
+        nodes, frames = k + 2 * r + draw.randint(0, 3), 28 * k + 2600 if long_share else 2 * k + 360
     else:
-        nodes, frames = k + r + draw.randint(0, 4), draw.randint(max(1, k - 1), 3 * k + 6)
+        nodes, frames = k + r + draw.randint(0, 4), draw.randint(max(1, k - 1), 3 * k + 6) * (draw.choice((1, 2, 4)) if long_share else 1)
     crashing = draw.sample(range(nodes), r) if roomy else list(range(nodes))
-    drawing = Drawing(draw, nodes, crashing, lanes, roomy or draw.random() < 0.5)
+    drawing = Drawing(draw, nodes, crashing, lanes, roomy or draw.random() < 0.5, long_share)
     for _ in range(draw.choice((0, 3, 10, 40))):
         drawing.line(0)
     for _ in range(count or drawn):
@@ -79,8 +85,8 @@ class Storm:
                "rebuild": 3, "free": 1}
     LENGTHS = (1024,) * 8 + (768,) * 4 + (512,) * 3 + (384, 200, 128, 97, 64, 40, 17, 8)
 
-    def __init__(self, draw, shared, hot, held):
-        self.draw, self.held = draw, held
+    def __init__(self, draw, shared, hot, held, long_share=0):
+        self.draw, self.held, self.long_share, self.bytes = draw, held, long_share, 0
         self.lines, self.lengths, self.pins = [], {}, {}
         for _ in range(shared):
             self.make(0, "s")
@@ -88,7 +94,9 @@ class Storm:
         self.hot = draw.sample(self.shared, min(hot, shared))
 
     def make(self, lane, front):
-        length = self.draw.choice(self.LENGTHS)
+        is_long = self.long_share and self.bytes < MOST_DRAWN // 2 and self.draw.random() < self.long_share
+        length = self.draw.choice(LONG if is_long else self.LENGTHS if self.bytes < MOST_DRAWN else self.LENGTHS[-8:])
+        self.bytes += length
         name = f"{front}{len(self.lengths)}"
         self.lengths[name] = length
         self.lines.append(f"{lane} make {name} {self.draw.randbytes(length).hex()}")
@@ -124,9 +132,9 @@ class Storm:
         self.lines.insert(at[0], f"{lane} crash {node}")
 
 
-def storm_lines(draw, frames, lanes, count):
+def storm_lines(draw, frames, lanes, count, long_share=0):
     """So many lines of these lanes, behind the makes of lane 0."""
-    drawing = Storm(draw, frames * draw.randint(6, 12), draw.choice((2, frames, 2 * frames)), draw.choice((1, 1, 2, 4)))
+    drawing = Storm(draw, frames * draw.randint(6, 12), draw.choice((2, frames, 2 * frames)), draw.choice((1, 1, 2, 4)), long_share)
     for _ in range(count):
         drawing.line(draw.randint(1, lanes))
     return drawing
@@ -137,7 +145,8 @@ def storm(draw, count=None):
     k, r = draw.choice((1, 2)), draw.randint(1, 3)
     nodes, frames = k + r + draw.randint(0, 3), draw.randint(2, 12)
     lanes, turns = draw.randint(3, 10), draw.choice((0, 0, 3, 40, 200, 1000, 2500))
-    drawing = storm_lines(draw, frames, lanes, count or 5000)
+    long_share = draw.choice((0, 0, 0.1, 0.5))
+    drawing = storm_lines(draw, frames, lanes, count or 5000, long_share)
     for node in draw.sample(range(nodes), draw.choice((0, 0, 1, r))):
         drawing.crash(node, draw.randint(1, lanes), draw.random() < 0.7)
     handles = max(1, len(drawing.lengths) - draw.choice((0, 0, 0, 5)))

@@ -7,6 +7,8 @@ from model import run
 
 NAMED = ("make", "read", "write", "free", "pin", "peek", "unpin", "filter")
 SCOPE = 16
+# The most bytes of an object whose span has one frame.
+ONE_FRAME = 1024
 NUMBER = "(0|[1-9][0-9]*)"
 
 # The form of each reply that a line may have in threads.
@@ -97,9 +99,17 @@ class Script:
         if any(line.verb not in OF_VERB for line in self.lines):
             raise ValueError("the script has a step, which threads refuse")
 
+    def has_long_make(self):
+        return any(line.verb == "make" and len(line.data) > ONE_FRAME for line in self.lines)
+
+    def has_frames_to_try_again(self):
+        """Whether no line is answered `noroom` for want of spans that could leave: it is tried again. A script of which
+        a long object was made may have a span of several frames wherever it is refused."""
+        return self.frames >= 2 * self.k + 360 and (self.frames >= 28 * self.k + 2600 or not self.has_long_make())
+
     def is_roomy(self):
         crashing = {line.node for line in self.lines if line.verb == "crash"}
-        return (self.frames >= 2 * self.k + 360 and self.room >= self.handles + 4 and self.nodes >= self.k + 2 * self.r
+        return (self.has_frames_to_try_again() and self.room >= self.handles + 4 and self.nodes >= self.k + 2 * self.r
                 and len(self.maker) <= self.handles and len(crashing) <= self.r)
 
     def is_own(self, lane, name):
@@ -334,13 +344,13 @@ def judge_told(lines, say):
 def judge_numbers(script, lines, say):
     """What refusals tell in numbers, and what only workers bring about."""
     k, r, n, frames, nodes = script.k, script.r, script.n, script.frames, script.nodes
-    drawn = set()
+    drawn, tries_again = set(), script.has_frames_to_try_again()
     for line in lines:
         right, numbers = True, line.numbers
         if line.kind == "noroom":
             by_nodes = numbers[2] < n
             right = (numbers[0] == frames and numbers[1] <= frames and numbers[2] <= nodes
-                     and (by_nodes or (numbers[1] < k and frames < 2 * k + 360)))
+                     and (by_nodes or (numbers[1] < k and not tries_again)))
         elif line.kind == "nospans":
             right = numbers[0] < k
         elif line.kind == "nonodes":

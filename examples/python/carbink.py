@@ -18,7 +18,7 @@ KINDS = ("made version bytes done left moved same set batch shipped allshipped p
          "unmade freed moving unavailable range pinned worn scopefull notpinned nothere noslot nospans nonodes leaving nonode nobatch "
          "short nopair joining nodefull changed unfinished nojoin whole stuck down up crowded noframe swapped stays word claimed stored "
          "notclaimed notstored held notheld").split()
-ROOM = 1024
+ROOM = 4096
 CLEAN, ONE, MANY = range(3)
 
 HERE = os.path.dirname(os.path.realpath(__file__))

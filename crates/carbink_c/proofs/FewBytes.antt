@@ -1,4 +1,4 @@
--- No reply of a sound world has more than 1,024 bytes.
+-- No reply of a sound world has more than 4,096 bytes.
 use Rattle.std.proofs.Common.{◌≡◌, ℕ, zero, suc, ◌+◌, ◌-◌, ◌^◌, ◌≤◌, ◌==◌, nat_lt, Bool, true, false, List, [], ◌∷◌, length, get_or, set, filter, refl, sym, ap, subst, arith, inl, inr}
 use Rattle.std.specs.Prelude.{Option, None, Some, if◌then◌else◌}
 use Rattle.std.specs.List.{cons_option, filter_map, range_with_len}
@@ -12,6 +12,7 @@ use Rattle.cb_ptr.specs.declared.word.State.{State}
 use Rattle.cb_ptr.specs.declared.word.State.TheVariants as state
 use Rattle.cb_ptr.specs.Word.{fields_of, len_of, pins_of, state_of}
 use Rattle.cb_ptr.proofs.Laws.{fields_of-word_of, IsInWidths-fields_of}
+use Rattle.cb_types.specs.Config.{most_bytes}
 use Rattle.cb_types.specs.declared.handle.SetId.{SetId}
 use Rattle.cb_types.specs.declared.reply.Reply.{Reply}
 use Rattle.cb_types.specs.declared.reply.Reply.TheVariants as answer
@@ -27,12 +28,12 @@ use Rattle.carbink_c.proofs.Losses.{rows_long}
 
 -- the bytes or positions of the reply are few; lost shards are counted apart
 abbrev pub HasFew : Reply → Type 0
-HasFew (answer.Bytes version bytes) = length bytes ≤ 1024
-HasFew (answer.Short positions) = length positions ≤ 1024
-HasFew (answer.Unfinished positions) = length positions ≤ 1024
+HasFew (answer.Bytes version bytes) = length bytes ≤ most_bytes
+HasFew (answer.Short positions) = length positions ≤ most_bytes
+HasFew (answer.Unfinished positions) = length positions ≤ most_bytes
 HasFew reply = Unit {0}
 
-pub few_bytes : (r : Reply) → HasFew r → ((id : SetId) (losses : List Loss) → r ≡ answer.Unavailable id losses → length losses ≤ 20) → length (bytes_of r) ≤ 1024
+pub few_bytes : (r : Reply) → HasFew r → ((id : SetId) (losses : List Loss) → r ≡ answer.Unavailable id losses → length losses ≤ 20) → length (bytes_of r) ≤ most_bytes
 few_bytes (answer.Bytes version bytes) few lost = few
 few_bytes (answer.Short positions) few lost = few
 few_bytes (answer.Unfinished positions) few lost = few
@@ -127,13 +128,13 @@ frame_few false id losses None = tt
 frame_few false id losses (Some f) = tt
 
 -- a read, of an object that has few bytes where it is here
-pub read_few : (w version : ℕ) (words : List ℕ) → (state_of w ≡ state.Here → len_of w ≤ 1024) → HasFew (read_reply w version words)
+pub read_few : (w version : ℕ) (words : List ℕ) → (state_of w ≡ state.Here → len_of w ≤ most_bytes) → HasFew (read_reply w version words)
 read_few w version words short = by (state_of w) short
   where
-    by : (s : State) → (s ≡ state.Here → len_of w ≤ 1024) → HasFew (reply_as s version (answer.Bytes version (bytes_in words (len_of w))))
+    by : (s : State) → (s ≡ state.Here → len_of w ≤ most_bytes) → HasFew (reply_as s version (answer.Bytes version (bytes_in words (len_of w))))
     by state.Empty f = empty_few version
     by state.Far f = tt
-    by state.Here f = subst (λ (n : ℕ). n ≤ 1024) (sym (bytes_long words (len_of w))) (f refl)
+    by state.Here f = subst (λ (n : ℕ). n ≤ most_bytes) (sym (bytes_long words (len_of w))) (f refl)
     by state.Moving f = tt
 
 -- ---- a word that was made hot

@@ -1,4 +1,4 @@
--- No step of a sound world has a reply of more than 1,024 bytes.
+-- No step of a sound world has a reply of more than 4,096 bytes.
 use Rattle.std.proofs.Common.{◌≡◌, ℕ, zero, suc, ◌≤◌, ◌==◌, List, length, refl, sym, ap, subst, ◌∙◌, arith, inl, inr}
 use Rattle.std.specs.Prelude.{None, Some, if◌then◌else◌}
 use Rattle.std.proofs.lemmas.Bool.{cases_lt}
@@ -11,6 +11,7 @@ use Rattle.cb_ptr.specs.declared.word.State.TheVariants as state
 use Rattle.cb_ptr.specs.Word.{len_of, pins_of, place_of, state_of}
 use Rattle.cb_ptr.proofs.Laws.{here_bits}
 use Rattle.cb_set.specs.Lost.{loss_of, lost}
+use Rattle.cb_types.specs.Config.{most_bytes}
 use Rattle.cb_types.specs.declared.handle.SetId.{SetId}
 use Rattle.cb_types.specs.declared.job.Job.{Job}
 use Rattle.cb_types.specs.declared.job.Job.TheVariants as job
@@ -56,10 +57,10 @@ use Rattle.cb_core.proofs.Laws.{read_leaves, room_reply}
 use Rattle.carbink_c.specs.Told.{bytes_of}
 use Rattle.carbink_c.proofs.FewBytes.{HasFew, HasFewIn, IsLike, claim_few, few_bytes, filter_map_few, frame_few, free_few, passing_few, pin_few, put_like, read_few, refusal_few, seen_like, state_few, write_few}
 
--- the words after a job tell of no object here of more than 1,024 bytes; before it a batch that is
+-- the words after a job tell of no object here of more than 4,096 bytes; before it a batch that is
 -- leaving has a place for each row of a code word, and so has a pair that is joining
 record Bounded (a b : Holding Words) : Type 0 where
-  here : (h : ℕ) → state_of (word_at b.desk h) ≡ state.Here → len_of (word_at b.desk h) ≤ 1024
+  here : (h : ℕ) → state_of (word_at b.desk h) ≡ state.Here → len_of (word_at b.desk h) ≤ most_bytes
   batch : (l : LeavingState) → a.far.leaving ≡ Some l → length l.shards ≤ 20
   pair : (p : JoiningState) → a.far.joining ≡ Some p → length p.steps ≤ 20
 
@@ -101,7 +102,7 @@ read_at : (h : ℕ) (a x b : Holding Words) (r : Reply) → Bounded a b → Stil
 read_at h a x b r bounded step =
     let like = read_like h x b r step in
     same step.0.reply (read_few (word_at x.desk h) (stamp_at x.desk h) (contents_at x.desk h)
-    (λ here. subst (λ (n : ℕ). n ≤ 1024) like.1 (bounded.here h (like.0 ∙ here))))
+    (λ here. subst (λ (n : ℕ). n ≤ most_bytes) like.1 (bounded.here h (like.0 ∙ here))))
 
 reads_few : (h : ℕ) (a b : Holding Words) (r : Reply) → Bounded a b → WhereItIs (StillRead h) NeverDeclined (StillBring h) a r b → HasFew r
 reads_few h a b r bounded (WhereItIs.near x other) = read_at h a a b r bounded x
@@ -243,7 +244,7 @@ works_few (job.Join node) a b r bounded x = join_few node a.far b.far r x.1
 
 -- ---- what a sound world bounds
 
-here_short : (v : WorldState) → IsSoundWorld v → (h : ℕ) → state_of (word_at v.desk h) ≡ state.Here → len_of (word_at v.desk h) ≤ 1024
+here_short : (v : WorldState) → IsSoundWorld v → (h : ℕ) → state_of (word_at v.desk h) ≡ state.Here → len_of (word_at v.desk h) ≤ most_bytes
 here_short v sound h e = elim (cases_lt h (length v.desk.words)) [
   | inl below ↦
       let w = word_at v.desk h in
@@ -334,7 +335,7 @@ step_few : (w v : WorldState) (e : Event) (r : Reply) → IsSoundWorld w → IsS
 step_few w v (event.Step seat atomic) r before after x = atomic_few seat atomic w v r x
 step_few w v (event.Turn seat j) r before after x = seat_few seat j w v r before after x
 
-pub step_short : (w v : WorldState) (e : Event) (r : Reply) → IsSoundWorld w → IsSoundWorld v → Step w e r v → TellsUnavailable w e r → length (bytes_of r) ≤ 1024
+pub step_short : (w v : WorldState) (e : Event) (r : Reply) → IsSoundWorld w → IsSoundWorld v → Step w e r v → TellsUnavailable w e r → length (bytes_of r) ≤ most_bytes
 step_short w v e r before after step tells =
     few_bytes r (step_few w v e r before after step) (λ id losses is.
     let away = tells.only id losses is in

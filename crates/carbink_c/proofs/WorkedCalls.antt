@@ -4,7 +4,7 @@ use Rattle.std.proofs.Common.{◌≡◌, ◌⊎◌, ℕ, ◌<◌, List, [], ◌�
 use Rattle.std.specs.Prelude.{None, Some, is_some, false, true}
 use Rattle.std.proofs.lemmas.List.{length-replicate}
 use Rattle.cb_gf256.specs.InRange.{IsInRange}
-use Rattle.cb_types.specs.Config.{IsAccepted}
+use Rattle.cb_types.specs.Config.{IsAccepted, most_bytes}
 use Rattle.cb_types.specs.declared.config.Config.{Config}
 use Rattle.cb_types.specs.declared.config.Field.TheVariants.{K, R, Nodes, Frames, Room, Handles, Turns}
 use Rattle.cb_types.specs.declared.reply.Reply.{Reply}
@@ -86,7 +86,7 @@ abbrev blank : CarbinkReply
 blank = record { kind = 0; first = 0; second = 0; third = 0; count = 0 }
 
 abbrev before : Place
-before = record { reply = blank; room = replicate 1024 7 }
+before = record { reply = blank; room = replicate most_bytes 7 }
 
 abbrev unpin : Event
 unpin = event.Step 5 (Unpin (record { n = 3 }))
@@ -173,17 +173,17 @@ short_room : EventEnds asked [] calm calm (record before { room = [] }) (record 
 short_room = ((verb.Unpin, (refl, omega arith), (omega arith, omega arith)), omega arith, refl, refl)
 
 long_room : EventEnds asked [] calm calm before before ends.BadBuffer → ⊥
-long_room x = absurd (omega (arith, x.1, length-replicate {A = ℕ} 1024 7))
+long_room x = absurd (omega (arith, x.1, length-replicate {A = ℕ} most_bytes 7))
 
 took_place : EventEnds asked [] calm calm before told ends.Done
-took_place = (verb.Unpin, (refl, omega arith), (omega arith, omega arith), omega (arith, length-replicate {A = ℕ} 1024 7), answered)
+took_place = (verb.Unpin, (refl, omega arith), (omega arith, omega arith), omega (arith, length-replicate {A = ℕ} most_bytes 7), answered)
 
 took_no_seat : EventEnds (record asked { seat = 64 }) [] calm calm before told ends.Done → ⊥
 took_no_seat x = absurd (omega (arith, x.1.1))
 
 -- nothing was asked for yet: there was no memory for the event itself
 asked_in_vain : EventEnds asked [] calm calm before before ends.NoMemory
-asked_in_vain = (verb.Unpin, (refl, omega arith), (omega arith, omega arith), omega (arith, length-replicate {A = ℕ} 1024 7), inl (refl, refl))
+asked_in_vain = (verb.Unpin, (refl, omega arith), (omega arith, omega arith), omega (arith, length-replicate {A = ℕ} most_bytes 7), inl (refl, refl))
 
 -- ---- an encoder
 

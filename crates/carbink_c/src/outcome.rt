@@ -9,7 +9,7 @@ use cb_types::Field;
 pub enum Outcome {
     /// The call did its work.
     Done,
-    /// The buffer for a reply's bytes has fewer than 1,024.
+    /// The buffer for a reply's bytes has fewer than 4,096.
     BadBuffer,
     /// There was no memory.
     NoMemory,

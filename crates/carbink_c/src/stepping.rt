@@ -142,7 +142,7 @@ fn answered(
 ) -> Outcome
     requires sound { IsSoundWorld world.old }
     requires event { IsEvent world.old.desk.settings event.now }
-    requires large { 1024 ≤ length room.old }
+    requires large { most_bytes ≤ length room.old }
     ensures ends { AnswerEnds event.now world.old world.new
         (record { reply = reply.old; room = room.old })
         (record { reply = reply.new; room = room.new }) result }

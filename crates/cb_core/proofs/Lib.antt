@@ -105,4 +105,5 @@ pub mod WorkedAdmitting
 mod Narrow
 mod NarrowSteps
 mod NarrowTurns
+mod WorkedNarrow
 pub mod Laws

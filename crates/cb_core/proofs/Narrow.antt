@@ -28,10 +28,10 @@ use Rattle.cb_evict.specs.Loading.{AreOfLength}
 use Rattle.cb_evict.proofs.Laws.{longest_enough, taken_count}
 use Rattle.cb_core.specs.Narrow.{IsNarrow}
 
-some_none : {A : Type 0} (x : A) → None ≡ Some x → ⊥
+pub some_none : {A : Type 0} (x : A) → None ≡ Some x → ⊥
 some_none x e = cc
 
-some_same : {A : Type 0} (x y : A) → Some x ≡ Some y → x ≡ y
+pub some_same : {A : Type 0} (x y : A) → Some x ≡ Some y → x ≡ y
 some_same x y e = cc
 
 -- ---- spans
@@ -95,7 +95,7 @@ last_of_one : size_at 11 ≡ 1024
 unfolding bytes_of
 last_of_one = refl
 
-pages_low : (c : Class) → c.index < 12 → pages_of c ≡ 1
+pub pages_low : (c : Class) → c.index < 12 → pages_of c ≡ 1
 unfolding pages_of
 pages_low c low = one_page c.index low
 
@@ -216,14 +216,14 @@ one_left sets id p old left there all = by (is_live rest)
     by false = sets_removed sets id all
 
 -- ---- far states
-no_span : (n f : ℕ) → span_in (replicate n None) f ≡ None
+pub no_span : (n f : ℕ) → span_in (replicate n None) f ≡ None
 no_span n f = elim (cases_lt f n) [
   | inl below ↦ get_or-replicate n f None None below
   | inr past ↦ get_or_past (replicate n None) f None
       (omega (arith, past, length-replicate {A = Option Contents} n None))
 ]
 
-no_set : (first : ℕ) (c : Config) (id : ℕ) → set_in (empty_far first c).sets id ≡ None
+pub no_set : (first : ℕ) (c : Config) (id : ℕ) → set_in (empty_far first c).sets id ≡ None
 no_set first c id = grind (arith, map.gets)
 
 pub empty_narrow : (first : ℕ) (c : Config) → IsNarrow (empty_far first c)

@@ -18,6 +18,7 @@ pub mod Trying
 mod Sends
 mod Loads
 pub mod Standing
+mod GreatestLength
 mod Owned
 mod NewSet
 pub mod Gone
@@ -72,6 +73,8 @@ pub mod CommitFixed
 pub mod AbortFixed
 mod WorkedBegin
 mod WorkedTaking
+mod WorkedThreeLengths
+mod WorkedRaces
 mod WorkedRules
 pub mod WorkedWide
 pub mod PutShards

@@ -1,5 +1,5 @@
--- Worked examples of loose spans by their lengths. All classes have one page today, so no world has
--- spans of three lengths: what is shown of them is shown of any spans that have such lengths.
+-- Worked examples of loose spans by their lengths, of any spans that have these; a world with spans
+-- of three lengths, and a batch of it, stand in WorkedThreeLengths.
 use Rattle.std.proofs.Common.{◌≡◌, ℕ, max, Bool, cond, nat_eq, List, [], ◌∷◌, length, take, Option, None, Some, sym, ap, ◌∙◌, arith}
 use Rattle.cb_span.specs.Contents.{Contents}
 use Rattle.cb_world.specs.FarState.{pages_at}

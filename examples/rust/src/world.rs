@@ -102,7 +102,7 @@ pub struct Reply {
 /// The kind of a reply with an object's bytes.
 pub const BYTES: u32 = 2;
 const UNAVAILABLE: u32 = 22;
-const ROOM: usize = 1024;
+const ROOM: usize = 4096;
 
 /// Why a call did nothing.
 #[derive(Clone, Copy, Debug, PartialEq, Eq)]
