@@ -53,7 +53,7 @@ use Rattle.cb_app.proofs.OfLane.{has_either}
 
 -- ---- elements of lists
 
-has_flat : {A B : Type 0} (f : A → List B) (a : A) (b : B) (xs : List A) → Has a xs → Has b (f a)
+pub has_flat : {A B : Type 0} (f : A → List B) (a : A) (b : B) (xs : List A) → Has a xs → Has b (f a)
     → Has b (flat_map f xs)
 has_flat f a b [] there own = absurd there
 has_flat {B = B} f a b (x ∷ xs) (inl e) own =

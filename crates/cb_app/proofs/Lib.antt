@@ -43,6 +43,7 @@ mod MadeTurns
 mod RoomyLines
 mod RangeTold
 mod UpheldTold
+mod LongMakes
 mod CalmTold
 mod FramesTold
 mod TurnsLater
