@@ -44,6 +44,7 @@ mod RoomyLines
 mod RangeTold
 mod UpheldTold
 mod LongMakes
+mod NeverWide
 mod CalmTold
 mod FramesTold
 mod TurnsLater
