@@ -39,7 +39,7 @@ fn bytes(hex: &[u8]) -> Result<Vec<u8>, u32> {
     if hex.is_empty() || hex.len() % 2 != 0 || !hex.iter().all(|byte| digit(*byte).is_some()) {
         return Err(10);
     }
-    if hex.len() > 2048 {
+    if hex.len() > 8192 {
         return Err(11);
     }
     Ok(hex.chunks(2).map(|pair| digit(pair[0]).unwrap() * 16 + digit(pair[1]).unwrap()).collect())
@@ -89,7 +89,7 @@ fn request<'a>(
         [b"write", name, at, hex] => {
             name_form(name)?;
             known(made, name)?;
-            let at = number(at).filter(|at| *at <= 1024).ok_or(9u32)?;
+            let at = number(at).filter(|at| *at <= 4096).ok_or(9u32)?;
             let bytes = if *hex == b"-" { Vec::new() } else { bytes(hex)? };
             Ok(Request::Write(name.to_vec(), at as usize, bytes))
         }

@@ -1,7 +1,7 @@
 //! A plain Rust program that answers scripts of makes, reads, writes and frees, to time `carbink seq`
-//! beside it. It keeps the lines, the answers and the objects as carbink does: the bytes of an object lie
-//! in a slot of a span of its class, in a frame of 4,096 bytes. It tests what carbink tests of words, names
-//! and bytes, and ends with status 2 at the first line that is not in the form.
+//! beside it. It keeps the lines, the answers and the objects, of up to 1,024 bytes, as carbink does: the
+//! bytes of an object lie in a slot of a span of its class, in a frame of 4,096 bytes. It tests what carbink
+//! tests of words, names and bytes, and ends with status 2 at the first line that is not in the form.
 use std::collections::{BTreeMap, BTreeSet, HashSet};
 use std::io::{Read, Write};
 use std::process::exit;
