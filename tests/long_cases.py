@@ -178,6 +178,17 @@ def borders():
             yield case
 
 
+def last_frames():
+    """All but the last four of 4,096 frames have spans of one page, and all but the last three. Sets are numbered, so the last
+    line tells how many evictions were made: none where there is a run, and four where there is none, of the first frames."""
+    for left, evictions in ((4, 0), (3, 4)):
+        lines = [line for at in range(4096 - left) for line in (f"make s{at} 00", "evict")]
+        lines += [f"read s{at}" for at in range(4096 - left)] + [f"make l {pattern(1, 4096)}", "evict", "read l", "read s0", "read s4000"]
+        case = Case.of_lines(f"borders/the_last_{left}_of_4096_frames", HEADER % (1, 1, 2, 4096, 4096, 5000), lines)
+        assert case.replies[-4] == f"set {4096 - left + evictions}", (case.name, case.replies[-4])
+        yield case
+
+
 # ---- a crash before each line, of sets of two pages and of four
 def crashes():
     for length in (1500, 4000):
@@ -334,7 +345,7 @@ def runs():
 
 
 def long_cases():
-    for family in (worked_cases, each_length, borders, crashes, aborts, joined, locals_, solved, limits, runs):
+    for family in (worked_cases, each_length, borders, last_frames, crashes, aborts, joined, locals_, solved, limits, runs):
         for case in family():
             case.packed_from = 8000
             yield case

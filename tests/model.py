@@ -69,7 +69,7 @@ class World:
         self.k, self.r, self.n = k, r, k + r
         self.frames, self.room, self.handles = frames, room, handles
         self.spans = [None] * frames  # each span at the first frame of its run
-        self.free_frames = [True] * frames
+        self.free_frames = bytearray(b"\1" * frames)
         self.sets, self.drawn = {}, 0
         self.leaving = None
         self.joining = None
@@ -118,19 +118,19 @@ class World:
 
     def free_run(self, pages):
         """The first frame of the least run of so many adjacent free frames; None where there is none."""
-        runs = (f for f in range(self.frames - pages + 1) if all(self.free_frames[f:f + pages]))
-        return next(runs, None)
+        found = self.free_frames.find(b"\1" * pages)
+        return None if found < 0 else found
 
     def open_span(self, frame, span):
         """The span stands at this frame and takes the frames of its run."""
         self.spans[frame] = span
-        self.free_frames[frame:frame + span.pages] = [False] * span.pages
+        self.free_frames[frame:frame + span.pages] = bytes(span.pages)
 
     def close_span(self, frame):
         """The span of this frame is gone, and the frames of its run are free."""
         pages = self.spans[frame].pages
         self.spans[frame] = None
-        self.free_frames[frame:frame + pages] = [True] * pages
+        self.free_frames[frame:frame + pages] = b"\1" * pages
 
     def place(self, handle, length, temp):
         size = size_for(length)
@@ -154,11 +154,10 @@ class World:
 
     # ---- evictions and swap-ins
     def loose(self):
-        def ok(frame, temp):
-            span = self.spans[frame]
-            return (span and span.temp == temp and self.stays(frame)
-                    and all(h is None or self.objects[h].pins == 0 for h in span.slots))
-        return [f for temp in ("cold", "hot") for f in range(self.frames) if ok(f, temp)]
+        def ok(frame, span):
+            return self.stays(frame) and all(h is None or self.objects[h].pins == 0 for h in span.slots)
+        found = [(span.temp, frame) for frame, span in enumerate(self.spans) if span and ok(frame, span)]
+        return [frame for _, frame in sorted(found)]  # cold ones before hot ones
 
     def loose_by_length(self):
         """The loose spans of each length, the greatest first, each list in the order in which they leave."""
