@@ -63,7 +63,10 @@ def mixed(draw, count=None):
     if roomy:
         nodes, frames = k + 2 * r + draw.randint(0, 3), 28 * k + 2600 if long_share else 2 * k + 360
     else:
-        nodes, frames = k + r + draw.randint(0, 4), draw.randint(max(1, k - 1), 3 * k + 6) * (draw.choice((1, 2, 4)) if long_share else 1)
+        nodes, frames = k + r + draw.randint(0, 4), draw.randint(max(1, k - 1), 3 * k + 6)
+        if long_share:
+            # Few frames, and as many as are enough where each span has one.
+            frames = draw.choice((frames, 2 * frames, 4 * frames, 4 * frames, 2 * k + 360))
     crashing = draw.sample(range(nodes), r) if roomy else list(range(nodes))
     drawing = Drawing(draw, nodes, crashing, lanes, roomy or draw.random() < 0.5, long_share)
     for _ in range(draw.choice((0, 3, 10, 40))):
