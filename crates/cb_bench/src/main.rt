@@ -1,6 +1,7 @@
-//! Times one operation of the code for `bench/encode`. The words are the operation (`encode`,
-//! `solve`, `check` or `examine`), k, r and how many slices are timed. It prints the least time of a call in
-//! nanoseconds, over that many slices of four calls each, or 0 where no slice is asked for.
+//! Times one operation of the code for `bench/encode`, and for `bench/lib`. The words are the
+//! operation (`encode`, `fresh`, `solve`, `check` or `examine`), k, r and how many slices are timed.
+//! It prints the least time of a call in nanoseconds, over that many slices of four calls each, or 0
+//! where no slice is asked for.
 #![tactic(auto)]
 
 ghost use Rattle.std.specs.Prelude.{◌≡◌, ◌+◌, length, IfOk};
@@ -26,6 +27,8 @@ const CALLS_IN_A_SLICE: u64 = 4;
 enum Operation {
     /// Parities of k data rows.
     Encode,
+    /// The same by a table that is made for this call.
+    Fresh,
     /// The word of the last k rows: r data rows are lost.
     Solve,
     /// The test of a code word.
@@ -107,6 +110,7 @@ fn least_time(
         for _ in 0..CALLS_IN_A_SLICE {
             let answered = match operation {
                 Operation::Encode => encode(alloc, &code, &given).is_ok(),
+                Operation::Fresh => encode(alloc, &coefficients(k, r), &given).is_ok(),
                 Operation::Solve => solve(alloc, k, r, &broken, present).is_ok(),
                 Operation::Check => syndromes_zero(r, &word),
                 Operation::Examine => matches!(examine(r, &word), Found::Clean),
@@ -126,6 +130,7 @@ fn least_time(
 fn operation_of(word: &str) -> Option<Operation> {
     match word {
         "encode" => Some(Operation::Encode),
+        "fresh" => Some(Operation::Fresh),
         "solve" => Some(Operation::Solve),
         "check" => Some(Operation::Check),
         "examine" => Some(Operation::Examine),

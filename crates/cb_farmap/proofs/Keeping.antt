@@ -1,5 +1,5 @@
 -- What a read and a write of the kept version leave.
-use Rattle.std.proofs.Common.{◌≡◌, ℕ, ◌+◌, ◌≤◌, List, length, sym, ap, ◌∙◌, subst, inl, Result, Ok, Err, IfOk}
+use Rattle.std.proofs.Common.{◌≡◌, ℕ, ◌+◌, ◌≤◌, List, length, sym, ap, ◌∙◌, subst, inl, Result, Ok, Err, IfOk, OnOk}
 use Rattle.cb_member.specs.declared.no_memory.NoMemory.{NoMemory as Want}
 use Rattle.cb_types.specs.declared.config.Config.{Config}
 use Rattle.cb_types.specs.declared.reply.Reply.{Reply}
@@ -55,15 +55,13 @@ bytes_told c k v w u read (Ok bytes) gives is stands o tells = read_is c k bytes
     is stands o
 
 pub next_told : (c : Config) (k : KeptObject) (at : ℕ) (bytes : List ℕ) (v w u : View)
-    (wrote : Result Reply Want) (told : Result KeptObject Cannot)
+    (wrote : Result Reply Want) (told : Result (Unit {0}) Cannot)
     → IfOk wrote (λ r. WriteAnswers c k.handle.n at bytes r v w) → u ≡ w → RecordStands u
     → IsObject v.written k → at + length bytes ≤ 1024
-    → Tells (AskWrite k at bytes) wrote (trouble told) → IfOk told (λ later. later ≡ with_next k)
-    → IfOk told (λ later. Rewrites v.written k later at bytes u.written)
-next_told c k at bytes v w u wrote (Err e) gives is stands o within tells next = tt
-next_told c k at bytes v w u (Err e) (Ok later) gives is stands o within tells next =
-    absurd cc
-next_told c k at bytes v w u (Ok r) (Ok later) gives is stands o within tells next =
-    subst (λ (z : KeptObject). Rewrites v.written k z at bytes u.written) (sym next)
-    (write_is c k at bytes v w u
-    (subst (λ (z : Reply). WriteAnswers c k.handle.n at bytes z v w) tells gives) is stands o within)
+    → Tells (AskWrite k at bytes) wrote (trouble told)
+    → OnOk told (Rewrites v.written k (with_next k) at bytes u.written)
+next_told c k at bytes v w u wrote (Err e) gives is stands o within tells = tt
+next_told c k at bytes v w u (Err e) (Ok done) gives is stands o within tells = absurd cc
+next_told c k at bytes v w u (Ok r) (Ok done) gives is stands o within tells =
+    write_is c k at bytes v w u
+    (subst (λ (z : Reply). WriteAnswers c k.handle.n at bytes z v w) tells gives) is stands o within

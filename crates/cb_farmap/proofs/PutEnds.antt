@@ -1,5 +1,5 @@
 -- What a put and a drop in a bucket come to, by the search and by what was done behind it.
-use Rattle.std.proofs.Common.{◌≡◌, ◌≢◌, ℕ, ◌-◌, ◌*◌, ◌/◌, ◌%◌, ◌^◌, ◌<◌, ◌≤◌, Bool, true, false, eq-eqb, List, [], ◌∷◌, length, slice_set, Option, None, Some, Result, Ok, Err, IfOk, OnErr, OnOk, refl, sym, ap, ◌∙◌, subst, inl, arith}
+use Rattle.std.proofs.Common.{◌≡◌, ◌≢◌, ℕ, ◌-◌, ◌*◌, ◌/◌, ◌%◌, ◌^◌, ◌<◌, ◌≤◌, Bool, true, false, eq-eqb, List, [], ◌∷◌, length, Option, None, Some, Result, Ok, Err, IfOk, OnOk, refl, sym, ap, ◌∙◌, subst, inl, arith}
 use Rattle.std.specs.Prelude.{if◌then◌else◌}
 use Rattle.std.proofs.lemmas.Bool.{ne_eqb}
 use Rattle.std.proofs.lemmas.List.{get_or-take}
@@ -11,10 +11,10 @@ use Rattle.cb_farmap.specs.declared.bucket.Bucket.{Bucket}
 use Rattle.cb_farmap.specs.declared.find.Found.{Found}
 use Rattle.cb_farmap.specs.declared.kept.Cannot.{Cannot}
 use Rattle.cb_farmap.specs.declared.kept.KeptObject.{KeptObject}
-use Rattle.cb_farmap.specs.BucketChanges.{AddsPair, Becomes, FindsAt, IsFound, WritesPair, dropped_at, dropped_in, put_at, put_in, value_in, value_of}
+use Rattle.cb_farmap.specs.BucketChanges.{AddsPair, Becomes, FindsAt, IsFound, WritesPair, dropped_at, dropped_in, put_at, put_in, value_in, value_of, with_pair}
 use Rattle.cb_farmap.specs.Buckets.{IsBucket, all_pairs, pairs_in}
 use Rattle.cb_farmap.specs.Calls.{Ask, AskMake, AskWrite, Goes, trouble}
-use Rattle.cb_farmap.specs.Changes.{AreLoose, AreSole, IsCalm, IsLoose, IsSole, Makes, Rewrites}
+use Rattle.cb_farmap.specs.Changes.{AreLoose, AreSole, IsCalm, IsLoose, IsSole, Makes, Rewrites, with_next}
 use Rattle.cb_farmap.specs.Numbers.{pair_at}
 use Rattle.cb_farmap.specs.Objects.{IsObject, blank, object_at}
 use Rattle.cb_farmap.specs.PairBytes.{object_bytes, pair_bytes}
@@ -140,41 +140,27 @@ module _ (ks : List KeptObject) (place : ℕ) (within : place < 64 * length ks) 
   loose_there v k is all = subst (IsLoose v) (sym is) (all_at (IsLoose v) ks (place / 64) blank all place_there)
 
 -- what was told of the write, and what was kept
-pub pair_goes : (c : Config) (n : ℕ) (ks : List KeptObject) (place : ℕ) (p : Pair) (k : KeptObject) (at : ℕ)
-    (bytes : List ℕ) (t s : Option Cannot) (v w : View) → k ≡ object_at ks (place / 64) → at ≡ 16 * (place % 64)
-    → bytes ≡ pair_bytes p → s ≡ t → Goes c n (AskWrite k at bytes ∷ []) t v w
-    → Goes c n (write_at ks place p ∷ []) s v w
-pair_goes c n ks place p k at bytes t s v w of spot are same goes =
-    subst (λ (z : Option Cannot). Goes c n (write_at ks place p ∷ []) z v w) (sym same)
-    (subst (λ (l : List ℕ). Goes c n (AskWrite (object_at ks (place / 64)) (16 * (place % 64)) l ∷ []) t v w) are
-    (subst (λ (m : ℕ). Goes c n (AskWrite (object_at ks (place / 64)) m bytes ∷ []) t v w) spot
-    (subst (λ (z : KeptObject). Goes c n (AskWrite z at bytes ∷ []) t v w) of goes)))
+pub pair_goes : (c : Config) (n : ℕ) (ks : List KeptObject) (place : ℕ) (p : Pair)
+    (bytes : List ℕ) (t : Option Cannot) (v w : View) → bytes ≡ pair_bytes p
+    → Goes c n (AskWrite (object_at ks (place / 64)) (16 * (place % 64)) bytes ∷ []) t v w
+    → Goes c n (write_at ks place p ∷ []) t v w
+pair_goes c n ks place p bytes t v w are goes = subst (λ (l : List ℕ). Goes c n
+    (AskWrite (object_at ks (place / 64)) (16 * (place % 64)) l ∷ []) t v w) are goes
 
-pub pair_wrote : (es new : List Entry) (ks later : List KeptObject) (place : ℕ) (p : Pair) (k : KeptObject) (at : ℕ)
-    (bytes : List ℕ) (r : Result KeptObject Cannot) (q : Result (Unit {0}) Cannot) → p.0 < 2 ^ 64 → p.1 < 2 ^ 64
-    → k ≡ object_at ks (place / 64) → at ≡ 16 * (place % 64) → bytes ≡ pair_bytes p → trouble q ≡ trouble r
-    → IfOk r (λ z. Rewrites es k z at bytes new) → IfOk r (λ z. later ≡ slice_set ks (place / 64) z)
+pub pair_wrote : (es new : List Entry) (ks later : List KeptObject) (place : ℕ) (p : Pair)
+    (bytes : List ℕ) (q : Result (Unit {0}) Cannot) → p.0 < 2 ^ 64 → p.1 < 2 ^ 64
+    → bytes ≡ pair_bytes p
+    → OnOk q (Rewrites es (object_at ks (place / 64)) (with_next (object_at ks (place / 64)))
+    (16 * (place % 64)) bytes new) → OnOk q (later ≡ with_pair ks place)
     → OnOk q (WritesPair es ks place p later new)
-pair_wrote es new ks later place p k at bytes (Ok z) (Ok u) key_low value_low of spot are same wrote kept =
-    let r : Rewrites es (object_at ks (place / 64)) z (16 * (place % 64)) (pair_bytes p) new
-    = subst (λ (l : List ℕ). Rewrites es (object_at ks (place / 64)) z (16 * (place % 64)) l new) are
-    (subst (λ (m : ℕ). Rewrites es (object_at ks (place / 64)) z m bytes new) spot
-    (subst (λ (y : KeptObject). Rewrites es y z at bytes new) of wrote)) in record {
-      key_fits = key_low;
-      value_fits = value_low;
-      kept = kept ∙ ap (slice_set ks (place / 64)) r.next;
-      wrote = subst (λ (y : KeptObject). Rewrites es (object_at ks (place / 64)) y (16 * (place % 64))
-          (pair_bytes p) new) r.next r;
-    }
-pair_wrote es new ks later place p k at bytes (Err e) (Ok u) key_low value_low of spot are same wrote kept = absurd cc
-pair_wrote es new ks later place p k at bytes r (Err e) key_low value_low of spot are same wrote kept = tt
-
-pub pair_stays : (ks later : List KeptObject) (r : Result KeptObject Cannot) (q : Result (Unit {0}) Cannot)
-    → trouble q ≡ trouble r → OnErr r (later ≡ ks) → OnErr q (later ≡ ks)
-pair_stays ks later (Ok z) (Ok u) same undone = tt
-pair_stays ks later (Ok z) (Err e) same undone = absurd cc
-pair_stays ks later (Err e) (Ok u) same undone = tt
-pair_stays ks later (Err e) (Err d) same undone = undone
+pair_wrote es new ks later place p bytes (Ok u) key_low value_low are wrote kept = record {
+  key_fits = key_low;
+  value_fits = value_low;
+  kept = kept;
+  wrote = subst (λ (l : List ℕ). Rewrites es (object_at ks (place / 64))
+      (with_next (object_at ks (place / 64))) (16 * (place % 64)) l new) are wrote;
+}
+pair_wrote es new ks later place p bytes (Err e) key_low value_low are wrote kept = tt
 
 -- ---- one pair more
 module _ (ks : List KeptObject) (count : ℕ) (p : Pair) (within : count ≤ 64 * length ks) where

@@ -1,14 +1,14 @@
 -- What the calls on an array tell, by what those on one object told.
-use Rattle.std.proofs.Common.{◌≡◌, ℕ, ◌*◌, ◌/◌, ◌%◌, ◌<◌, ◌≤◌, Bool, true, false, eq-eqb, ne_eqb, if◌then◌else◌, List, length, slice_set, Option, Result, Ok, Err, IfOk, OnErr, sym, ap, ◌∙◌, subst, arith}
+use Rattle.std.proofs.Common.{◌≡◌, ℕ, ◌*◌, ◌/◌, ◌%◌, ◌<◌, ◌≤◌, Bool, true, false, eq-eqb, ne_eqb, if◌then◌else◌, List, length, Option, Result, Ok, Err, IfOk, OnOk, sym, ap, ◌∙◌, subst, arith}
 use Rattle.byteorder.specs.Endian.{little_bytes}
 use Rattle.cb_types.specs.declared.config.Config.{Config}
 use Rattle.cb_world.specs.declared.entry.Entry.{Entry}
 use Rattle.cb_rule.specs.declared.view.View.{View}
 use Rattle.cb_farmap.specs.declared.kept.Cannot.{Cannot}
 use Rattle.cb_farmap.specs.declared.kept.KeptObject.{KeptObject}
-use Rattle.cb_farmap.specs.Arrays.{PutsNumber, WritesNumber, bytes_with, is_full, make_plan, push_plan, set_plan}
+use Rattle.cb_farmap.specs.Arrays.{PutsNumber, WritesNumber, bytes_with, is_full, make_plan, push_plan, set_plan, with_written}
 use Rattle.cb_farmap.specs.Calls.{Goes, trouble}
-use Rattle.cb_farmap.specs.Changes.{Makes, Rewrites}
+use Rattle.cb_farmap.specs.Changes.{Makes, Rewrites, with_next}
 use Rattle.cb_farmap.specs.Numbers.{number_at}
 use Rattle.cb_farmap.specs.Objects.{IsObject, bytes_at, object_at}
 use Rattle.cb_farmap.proofs.Arrays.{object_long}
@@ -28,27 +28,16 @@ number_told es k j (Err e) (Ok x) is same told = absurd cc
 
 -- ---- one that was written
 pub wrote_told : (ks : List KeptObject) (i x : ℕ) (bytes : List ℕ) (later : List KeptObject)
-    (v w : View) (r : Result KeptObject Cannot) (q : Result (Unit {0}) Cannot)
-    → bytes ≡ little_bytes 8 x
-    → IfOk r (λ k. Rewrites v.written (object_at ks (i / 128)) k (8 * (i % 128)) bytes w.written)
-    → trouble q ≡ trouble r → IfOk r (λ k. later ≡ slice_set ks (i / 128) k)
-    → IfOk q (λ _. WritesNumber ks i x later v w)
-wrote_told ks i x bytes later v w r (Err e) is wrote same done = tt
-wrote_told ks i x bytes later v w (Err e) (Ok u) is wrote same done = absurd cc
-wrote_told ks i x bytes later v w (Ok k) (Ok u) is wrote same done = record {
-  kept = done ∙ ap (slice_set ks (i / 128)) wrote.next;
-  wrote = subst (λ (z : KeptObject). Rewrites v.written (object_at ks (i / 128)) z
-      (8 * (i % 128)) (little_bytes 8 x) w.written) wrote.next
-      (subst (λ (l : List ℕ). Rewrites v.written (object_at ks (i / 128)) k (8 * (i % 128)) l
-      w.written) is wrote);
+    (v w : View) (q : Result (Unit {0}) Cannot) → bytes ≡ little_bytes 8 x
+    → OnOk q (Rewrites v.written (object_at ks (i / 128)) (with_next (object_at ks (i / 128)))
+    (8 * (i % 128)) bytes w.written) → OnOk q (later ≡ with_written ks i)
+    → OnOk q (WritesNumber ks i x later v w)
+wrote_told ks i x bytes later v w (Err e) is wrote done = tt
+wrote_told ks i x bytes later v w (Ok u) is wrote done = record {
+  kept = done;
+  wrote = subst (λ (l : List ℕ). Rewrites v.written (object_at ks (i / 128))
+      (with_next (object_at ks (i / 128))) (8 * (i % 128)) l w.written) is wrote;
 }
-
-pub same_told : (ks later : List KeptObject) (r : Result KeptObject Cannot)
-    (q : Result (Unit {0}) Cannot) → trouble q ≡ trouble r → OnErr r (later ≡ ks)
-    → OnErr q (later ≡ ks)
-same_told ks later r (Ok u) same undone = tt
-same_told ks later (Err y) (Err e) same undone = undone
-same_told ks later (Ok k) (Err e) same undone = absurd cc
 
 -- ---- one that was put behind so many: all objects are full exactly where the next place is past
 -- them

@@ -12,7 +12,7 @@ ghost use Rattle.cb_farmap.specs.Objects.{IsObject, bytes_at, object_at};
 ghost use Rattle.cb_farmap.specs.Stops.{stop_behind};
 
 use crate::kept::{Cannot, KeptObject, Objects, Stop};
-use crate::object::{keep_later, make_kept, read_kept, write_kept};
+use crate::object::{make_kept, read_kept, write_kept};
 use byteorder::{ByteOrder, LittleEndian};
 use cb_shared::{Pass, Shared};
 use cb_types::Bytes;
@@ -117,8 +117,13 @@ impl FarArray {
         if let Some(stop) = self.stop {
             return Err(Cannot::from(stop));
         }
-        let wrote = write_number(rt, alloc, shared, pass, &mut self.kept, i, x);
-        noted(&mut self.stop, wrote)
+        match write_number(rt, alloc, shared, pass, &mut self.kept, i, x) {
+            Ok(()) => Ok(()),
+            Err(cannot) => {
+                self.stop = cannot.stop();
+                Err(cannot)
+            }
+        }
     }
 
     /// Puts a number behind the last one: by one write into its object, which is not read, or, where
@@ -274,8 +279,7 @@ fn write_number<R: Wait>(
     let mut bytes = [0u8; 8];
     LittleEndian::write_u64(&mut bytes, x);
     let o = (i / 128) as usize;
-    let later = write_kept(rt, alloc, shared, pass, kept.at(o), 8 * (i % 128), &bytes);
-    keep_later(kept, o, later)
+    write_kept(rt, alloc, shared, pass, kept, o, 8 * (i % 128), &bytes)
 }
 
 /// Makes an object of this number and zeros behind the others.

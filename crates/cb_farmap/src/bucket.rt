@@ -14,7 +14,7 @@ ghost use Rattle.cb_farmap.specs.Plans.{add_ask, drop_plan, is_filled, last_asks
 
 use crate::find::Found;
 use crate::kept::{Cannot, Objects};
-use crate::object::{keep_later, make_kept, read_kept, write_kept};
+use crate::object::{make_kept, read_kept, write_kept};
 use crate::pairs::{object_bytes, pair_bytes, pair_of};
 use cb_shared::{Pass, Shared};
 use cb_types::Bytes;
@@ -246,8 +246,7 @@ fn write_pair<R: Wait>(
     let bytes = pair_bytes((key, x));
     let o = place / 64;
     let at = 16 * (place % 64) as u32;
-    let later = write_kept(rt, alloc, shared, pass, kept.at(o), at, &bytes);
-    keep_later(kept, o, later)
+    write_kept(rt, alloc, shared, pass, kept, o, at, &bytes)
 }
 
 /// Puts a pair behind so many: writes it into the next place, or makes an object where all are

@@ -1,13 +1,13 @@
 //! The calls on one object that a value keeps. All calls of the runtime stand here: above, nothing
 //! sees a reply.
-ghost use Rattle.std.specs.Prelude.{◌≡◌, ℕ, List, ◌+◌, ◌-◌, ◌<◌, ◌≤◌, [], ◌∷◌, length, slice_set, take, Ok, IfOk, OnErr};
+ghost use Rattle.std.specs.Prelude.{◌≡◌, ℕ, List, ◌+◌, ◌-◌, ◌<◌, ◌≤◌, [], ◌∷◌, length, slice_set, take, Ok, IfOk, OnErr, OnOk};
 ghost use Rattle.cb_types.specs.declared.reply.Reply.TheVariants as answer;
 ghost use Rattle.cb_shared.specs.Passes.{IsPassOf, record_of};
 ghost use Rattle.cb_shared.specs.Recalls.{first_version_of};
 ghost use Rattle.cb_farmap.specs.declared.kept.KeptObject.{KeptObject};
 ghost use Rattle.cb_farmap.specs.Calls.{AskMake, AskRead, AskWrite, Goes, Tells, trouble};
 ghost use Rattle.cb_farmap.specs.Changes.{IsCalm, IsLoose, IsSole, Makes, Rewrites, with_next};
-ghost use Rattle.cb_farmap.specs.Objects.{IsObject, bytes_at};
+ghost use Rattle.cb_farmap.specs.Objects.{IsObject, bytes_at, object_at};
 
 use crate::kept::{Cannot, KeptObject, Objects};
 use cb_shared::{Pass, Shared};
@@ -60,77 +60,72 @@ fn bytes_read(kept: KeptObject, read: Result<Reply, NoMemory>) -> Result<Bytes, 
     }
 }
 
-/// Writes bytes into an object at its kept version, and gives the object at its next one. Refused by
-/// any reply but a version; Foreign where that is another one.
+/// Writes bytes into the object with this index at its kept version, and keeps its next one. Refused
+/// by any reply but a version; Foreign where that is another one; both keep nothing, and so does want
+/// of memory.
 pub(crate) fn write_kept<R: Wait>(
     rt: &R,
     alloc: Global,
     shared: &Shared,
     pass: &mut Pass,
-    kept: KeptObject,
+    kept: &mut Objects,
+    o: usize,
     at: u32,
     bytes: &[u8],
-) -> Result<KeptObject, Cannot>
+) -> Result<(), Cannot>
     requires of { IsPassOf shared.now pass.old }
-    requires object { IsObject (record_of pass.old).written kept }
+    requires there { o < length kept.old }
+    requires object { IsObject (record_of pass.old).written (object_at kept.old o) }
     requires within { at + length bytes.now ≤ 1024 }
     ensures of { IsPassOf shared.now pass.new }
     ensures goes { Goes shared.now.config (first_version_of shared.now)
-        (AskWrite kept at bytes.now ∷ []) (trouble result) (record_of pass.old)
-        (record_of pass.new) }
-    ensures wrote { IfOk result (λ later. Rewrites (record_of pass.old).written kept later at
-        bytes.now (record_of pass.new).written) }
-    ensures calm { IsSole (record_of pass.old) kept → IsLoose (record_of pass.old) kept
-        → IsCalm (trouble result) }
+        (AskWrite (object_at kept.old o) at bytes.now ∷ []) (trouble result)
+        (record_of pass.old) (record_of pass.new) }
+    ensures wrote { OnOk result (Rewrites (record_of pass.old).written (object_at kept.old o)
+        (with_next (object_at kept.old o)) at bytes.now (record_of pass.new).written) }
+    ensures done { OnOk result
+        (kept.new ≡ slice_set kept.old o (with_next (object_at kept.old o))) }
+    ensures stays { OnErr result (kept.new ≡ kept.old) }
+    ensures calm { IsSole (record_of pass.old) (object_at kept.old o)
+        → IsLoose (record_of pass.old) (object_at kept.old o) → IsCalm (trouble result) }
 {
-    let wrote = shared.write(rt, alloc, pass, kept.handle, at, bytes);
+    let wrote = shared.write(rt, alloc, pass, kept.at(o).handle, at, bytes);
     shared.recall(pass);
-    next_written(kept, wrote)
+    keep_written(kept, o, wrote)
 }
 
-/// The object at the version one above the kept one, which was written, or why it was not.
-fn next_written(kept: KeptObject, wrote: Result<Reply, NoMemory>) -> Result<KeptObject, Cannot>
+/// Keeps the version one above the kept one of the object with this index, where that was written.
+/// What the runtime answered is looked at once and moved only where it is handed on.
+fn keep_written(kept: &mut Objects, o: usize, wrote: Result<Reply, NoMemory>) -> Result<(), Cannot>
+    requires there { o < length kept.old }
     ensures tells { (at : ℕ) (bytes : List ℕ)
-        → Tells (AskWrite kept at bytes) wrote (trouble result) }
-    ensures next { IfOk result (λ later. later ≡ with_next kept) }
+        → Tells (AskWrite (object_at kept.old o) at bytes) wrote (trouble result) }
+    ensures done { OnOk result
+        (kept.new ≡ slice_set kept.old o (with_next (object_at kept.old o))) }
+    ensures stays { OnErr result (kept.new ≡ kept.old) }
 {
+    let object = kept.at(o);
     match wrote {
         Ok(Reply::Version { version }) => {
-            if version > kept.version && version - kept.version == 1 {
-                Ok(KeptObject {
-                    handle: kept.handle,
-                    version,
-                })
+            if version > object.version && version - object.version == 1 {
+                kept.set(
+                    o,
+                    KeptObject {
+                        handle: object.handle,
+                        version,
+                    },
+                );
+                Ok(())
             } else {
                 Err(Cannot::Foreign {
-                    handle: kept.handle,
-                    kept: kept.version,
+                    handle: object.handle,
+                    kept: object.version,
                     found: version.saturating_sub(1),
                 })
             }
         }
         Ok(reply) => Err(Cannot::Refused { reply }),
         Err(_) => Err(Cannot::NoMemory),
-    }
-}
-
-/// Keeps the later version of the object with this index, where it was written.
-pub(crate) fn keep_later(
-    kept: &mut Objects,
-    o: usize,
-    later: Result<KeptObject, Cannot>,
-) -> Result<(), Cannot>
-    requires within { o < length kept.old }
-    ensures same { trouble result ≡ trouble later }
-    ensures done { IfOk later (λ k. kept.new ≡ slice_set kept.old o k) }
-    ensures undone { OnErr later (kept.new ≡ kept.old) }
-{
-    match later {
-        Ok(k) => {
-            kept.set(o, k);
-            Ok(())
-        }
-        Err(cannot) => Err(cannot),
     }
 }
 

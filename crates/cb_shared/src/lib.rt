@@ -20,6 +20,7 @@ mod plays;
 mod reading;
 mod recalling;
 pub mod refused;
+mod room;
 pub mod runtime;
 pub mod seal;
 pub mod sealed;

@@ -14,8 +14,9 @@ ghost use Rattle.cb_shared.specs.Seats.{IsOf, Moves, record_at};
 use crate::board::{SeatAt, Top};
 use crate::pins::{give_pin, glance, take_pin, tell_version};
 use crate::plays::ReadPin;
+use crate::room::{put_last_bytes, put_whole_word};
 use cb_ptr::{State, unpack};
-use cb_types::{Bytes, Config, NoMemory, put_word};
+use cb_types::{Bytes, Config, NoMemory};
 use std::alloc::Global;
 
 /// The most pins that a word can count.
@@ -62,7 +63,7 @@ pub(crate) fn read_pinned(
         Some(answer) => Ok(answer),
         None => {
             let len = unpack(saw).len as usize;
-            let room = Bytes::from(vec![in alloc; 0; len]?);
+            let room = vec![in alloc; 0; len]?;
             Ok(read_at(top, seat, config, h, saw, room))
         }
     }
@@ -90,7 +91,7 @@ fn read_at(
     config: &Config,
     h: u32,
     saw: u64,
-    room: Bytes,
+    room: Vec<u8>,
 ) -> ReadAnswer
     requires of { IsOf top.now.table_id top.now.key config.now seat.old }
     requires handle { h < config.now.handles }
@@ -98,7 +99,7 @@ fn read_at(
     requires room { pins_of saw < 1023 }
     requires knows { Knows h (record_at seat.old) }
     requires few { length (record_at seat.old).pins ≤ 16 }
-    requires long { length room ≡ len_of saw }
+    requires long { length room.items ≡ len_of saw }
     ensures read { ReadAt h saw result seat.old seat.new }
 {
     let found = take_pin(top, seat, config, h, saw);
@@ -107,16 +108,17 @@ fn read_at(
     }
     let version = tell_version(top, seat, config, h);
     let mut room = room;
-    load_into(top, seat, config, unpack(saw).place, &mut room);
+    load_into(top, seat, config, unpack(saw).place, room.as_mut_slice());
     give_pin(top, seat, config, h);
     ReadAnswer::Bytes {
         version,
-        bytes: room,
+        bytes: Bytes::from(room),
     }
 }
 
-/// Loads the words of a pinned object, which lies at this place, into the room for its bytes.
-fn load_into(top: &Top, seat: &mut SeatAt, config: &Config, place: u32, room: &mut Bytes)
+/// Loads the words of a pinned object, which lies at this place, into the room for its bytes: each
+/// whole word by one load and one store, and the last bytes behind them.
+fn load_into(top: &Top, seat: &mut SeatAt, config: &Config, place: u32, room: &mut [u8])
     requires of { IsOf top.now.table_id top.now.key config.now seat.old }
     requires inside { (j : ℕ) → j < words_for (length room.old)
         → place + j < 512 * config.now.frames }
@@ -128,8 +130,13 @@ fn load_into(top: &Top, seat: &mut SeatAt, config: &Config, place: u32, room: &m
     let config = *config;
     let handles = config.handles as usize;
     let first = 1 + handles + handles + place as usize;
-    for i in 0..room.len().div_ceil(8) {
+    let whole = room.len() / 8;
+    for i in 0..whole {
         let word = top.load::<ReadPin>(seat, first + i);
-        put_word(room, i, word);
+        put_whole_word(room, i, word);
+    }
+    if 8 * whole < room.len() {
+        let word = top.load::<ReadPin>(seat, first + whole);
+        put_last_bytes(room, whole, word);
     }
 }

@@ -39,7 +39,7 @@ returns-in-Some-clause-read c = refused_moves c.args.h c.glance-saw.result c.in-
     c.args.seat.now c.glance-saw.new.seat c.glance-saw.ensures
     (c.refuse_read.ensures.refused c.in-Some.answer c.in-Some.is)
 
-pub returns-in_ok-vec-in-None-clause-read : goal.returns-in_ok-vec-in-None-clause-read
-returns-in_ok-vec-in-None-clause-read c = at_word c.args.h c.glance-saw.result c.read_at.result
+pub returns-in_ok-room-in-None-clause-read : goal.returns-in_ok-room-in-None-clause-read
+returns-in_ok-room-in-None-clause-read c = at_word c.args.h c.glance-saw.result c.read_at.result
     c.args.seat.now c.glance-saw.new.seat c.read_at.new.seat c.glance-saw.ensures
     (c.refuse_read.ensures.room c.in-None.is).0 c.read_at.ensures.read
