@@ -37,7 +37,7 @@ use Rattle.cb_rule.specs.OneHistory.{IsOneHistory}
 use Rattle.cb_record.specs.Backs.{Backs, Tells, happened_at, happened_for, turn_at, turn_needed}
 use Rattle.cb_record.specs.Deeds.{Deed, deed, happened, happening}
 use Rattle.cb_record.specs.Lists.{HasOne, IsSublist, beside, both, ended, newest_first}
-use Rattle.cb_record.specs.Needs.{IsTurnFor, Meets, need_of}
+use Rattle.cb_record.specs.Needs.{IsTurnFor, Meets, need_of, own_job}
 use Rattle.cb_record.specs.Parts.{Part}
 use Rattle.cb_record.specs.Told.{tolds}
 use Rattle.cb_record.specs.Upheld.{as_part}
@@ -53,7 +53,7 @@ use Rattle.cb_app.proofs.OfLane.{has_either}
 
 -- ---- elements of lists
 
-has_flat : {A B : Type 0} (f : A → List B) (a : A) (b : B) (xs : List A) → Has a xs → Has b (f a)
+pub has_flat : {A B : Type 0} (f : A → List B) (a : A) (b : B) (xs : List A) → Has a xs → Has b (f a)
     → Has b (flat_map f xs)
 has_flat f a b [] there own = absurd there
 has_flat {B = B} f a b (x ∷ xs) (inl e) own =
@@ -173,14 +173,14 @@ lost_turn d (Some h) q id ls x = find_turn _ (Some h) _ d.turns x
 
 pub room_turn : (d : Part) (h : Option ℕ) (q : Request) (f l n : ℕ)
     → Meets d (need_of h q (answer.NoRoom f l n))
-    → (t : Turn) × Has t d.turns × (t.reply ≡ Some (answer.NoRoom f l n))
-room_turn d None q f l n x = find_turn _ None _ d.turns x
-room_turn d (Some h) (line.Read name) f l n x = find_turn _ (Some h) _ d.turns x
-room_turn d (Some h) (line.Pin name) f l n x = find_turn _ (Some h) _ d.turns x
-room_turn d (Some h) (line.Peek name) f l n x = find_turn _ (Some h) _ d.turns x
-room_turn d (Some h) (line.Write name at bytes) f l n x = find_turn _ (Some h) _ d.turns x
-room_turn d (Some h) (line.Free name) f l n x = find_turn _ (Some h) _ d.turns x
-room_turn d (Some h) q f l n x = find_turn _ (Some h) _ d.turns x
+    → (t : Turn) × Has t d.turns × IsTurnFor (own_job h q) h (answer.NoRoom f l n) t
+room_turn d None q f l n x = find_for _ None _ d.turns x
+room_turn d (Some h) (line.Read name) f l n x = find_for _ (Some h) _ d.turns x
+room_turn d (Some h) (line.Pin name) f l n x = find_for _ (Some h) _ d.turns x
+room_turn d (Some h) (line.Peek name) f l n x = find_for _ (Some h) _ d.turns x
+room_turn d (Some h) (line.Write name at bytes) f l n x = find_for _ (Some h) _ d.turns x
+room_turn d (Some h) (line.Free name) f l n x = find_for _ (Some h) _ d.turns x
+room_turn d (Some h) q f l n x = find_for _ (Some h) _ d.turns x
 
 -- ---- the turn of an eviction
 evict_few : (c : Config) (far new : FarState) (r : Reply) (es : List Event)
@@ -280,7 +280,7 @@ module _ (first : ℕ) (c : Config) (ok : IsAccepted c) (v : View) (count : ℕ)
   room_reply h q (answer.NoNodes n) runs may tells x = nodes_line c h q n runs may tells
   room_reply h q (answer.NoRoom f l n) runs may tells x =
       let z = room_turn (as_part v) h q f l n x in
-      let t = room_told first c ok v count last one z.0 f l n z.1 z.2 in (t.frames_are, t.few)
+      let t = room_told first c ok v count last one z.0 f l n z.1 z.2.0 in (t.frames_are, t.few)
   room_reply h q r runs may tells x = tt
 
   losts : (losses : List Loss) → AreLosses losses answers → (before after : List Answer)

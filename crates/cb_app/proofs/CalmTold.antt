@@ -1,6 +1,6 @@
 -- On a roomy script no line is told of a want of room or of a loss, where the record of all calls
 -- was closed: no more nodes crashed than a set can lose shards, so enough were left with room.
-use Rattle.std.proofs.Common.{◌≡◌, ◌≢◌, ℕ, zero, suc, ◌+◌, ◌*◌, ◌^◌, ◌<◌, ◌≤◌, ◌&&◌, ◌||◌, Bool, true, false, leb, nat_eq, List, [], ◌∷◌, ◌++◌, length, map, get_or, slice_get, Contains, Option, Some, refl, sym, ap, ◌∙◌, subst, inl, inr, arith, eq-eqb, eqb-true, ne_eqb}
+use Rattle.std.proofs.Common.{◌≡◌, ◌≢◌, ◌⊎◌, ℕ, zero, suc, ◌+◌, ◌*◌, ◌^◌, ◌<◌, ◌≤◌, ◌&&◌, ◌||◌, Bool, true, false, leb, nat_eq, List, [], ◌∷◌, ◌++◌, length, map, get_or, slice_get, Contains, Option, Some, refl, sym, ap, ◌∙◌, subst, inl, inr, arith, eq-eqb, eqb-true, ne_eqb}
 use Rattle.std.specs.Cmp.{nat_eq_equiv}
 use Rattle.std.specs.List.{AllByRecursion, IsDistinct, list_any}
 use Rattle.std.specs.Set.{is_member}
@@ -17,6 +17,7 @@ use Rattle.cb_types.specs.declared.answer.Answer.{Answer}
 use Rattle.cb_types.specs.declared.config.Config.{Config}
 use Rattle.cb_types.specs.Config.{IsAccepted}
 use Rattle.cb_types.specs.declared.handle.SetId.{SetId}
+use Rattle.cb_types.specs.declared.job.Job.{Job}
 use Rattle.cb_types.specs.declared.reply.Reply.{Reply}
 use Rattle.cb_types.specs.declared.reply.Reply.TheVariants as answer
 use Rattle.cb_types.specs.declared.request.Request.{Request}
@@ -24,7 +25,7 @@ use Rattle.cb_types.specs.declared.request.Request.TheVariants as line
 use Rattle.cb_types.specs.Table.{IsReplyOf}
 use Rattle.cb_script.specs.declared.script.Script.{Script}
 use Rattle.cb_script.specs.Form.{AreLines}
-use Rattle.cb_script.specs.Roomy.{IsRoomy}
+use Rattle.cb_script.specs.Roomy.{IsRoomy, has_long_make}
 use Rattle.cb_world.specs.declared.shown.Shown.{Shown}
 use Rattle.cb_world.specs.Choices.{room_count}
 use Rattle.cb_world.specs.FarState.{FarState}
@@ -35,6 +36,7 @@ use Rattle.cb_rule.specs.declared.turn.Turn.{Turn}
 use Rattle.cb_rule.specs.declared.view.View.{View}
 use Rattle.cb_rule.specs.Lists.{Has}
 use Rattle.cb_rule.specs.OneHistory.{IsOneHistory}
+use Rattle.cb_rule.specs.TriesAgain.{is_to_try_again, is_wide, tries_again}
 use Rattle.cb_model.specs.Called.{calls_behind, calls_of, handle_for}
 use Rattle.cb_model.specs.Event.{event_of}
 use Rattle.cb_record.specs.Backs.{Backs, Tells}
@@ -42,7 +44,6 @@ use Rattle.cb_record.specs.Needs.{Meets, need_of}
 use Rattle.cb_record.specs.Told.{tolds}
 use Rattle.cb_record.specs.Upheld.{IsUpheld, Upholds, as_part}
 use Rattle.cb_shared.specs.Turning.{Did}
-use Rattle.cb_shared.specs.Calls.{may_come_loose}
 use Rattle.cb_lanes.specs.AloneUntil.{is_lack}
 use Rattle.cb_lanes.specs.Asked.{HasLineReply, asked}
 use Rattle.cb_lanes.specs.LastTries.{HasLastTry, IsLastTry}
@@ -54,9 +55,12 @@ use Rattle.cb_app.specs.Telling.{AreOfOtherNodes, TellsLost, TellsWorn}
 use Rattle.cb_app.specs.Threaded.{AreLosses}
 use Rattle.cb_app.proofs.AnswersTold.{is_loss, room_turn}
 use Rattle.cb_app.proofs.CrashesTold.{given_crashes, room_told}
+use Rattle.cb_app.proofs.LongMakes.{MakesNoneLong, MakesShort, answers_short, job_short, none_long_made}
 use Rattle.cb_app.proofs.MadeTurns.{few_given}
+use Rattle.cb_app.proofs.NarrowTurns.{gave_narrow}
+use Rattle.cb_app.proofs.NeverWide.{comes_again, never_wide}
 use Rattle.cb_app.proofs.PairsApart.{given_joins}
-use Rattle.cb_app.proofs.TurnHistory.{each_gave}
+use Rattle.cb_app.proofs.TurnHistory.{each_gave, gave_codes}
 use Rattle.cb_app.proofs.RoomyLines.{AreOfNodes, crashed_named, few_makes, fulls, is_full}
 
 -- ---- losses of different nodes, which are among some
@@ -104,20 +108,9 @@ first_epoch [] some = absurd (omega (arith, some))
 first_epoch (epoch ∷ later) some = (epoch, refl)
 
 -- ---- what a line may be told of its object
-calm_moving : (c : Config) (q : Request) → IsLastTry c q answer.Moving → MayFindMoving q
-calm_moving c (line.Filter name) last = tt
-calm_moving c q last = absurd last
-
-last_loose : (c : Config) (q : Request) (frames loose nodes : ℕ)
-    → IsReplyOf q (answer.NoRoom frames loose nodes)
-    → IsLastTry c q (answer.NoRoom frames loose nodes) → may_come_loose c loose ≡ false
-last_loose c (line.Filter name) frames loose nodes may last = absurd may
-last_loose c q frames loose nodes may last = last
-
-more_come : (c : Config) (loose : ℕ) → loose < c.k → 2 * c.k + 360 ≤ c.frames
-    → may_come_loose c loose ≡ true
-more_come c loose few enough = ap (λ (b : Bool). b && leb (2 * c.k + 360) c.frames)
-    (lt-ltb loose c.k few) ∙ le-leb (2 * c.k + 360) c.frames enough
+calm_moving : (q : Request) → IsLastTry q answer.Moving → MayFindMoving q
+calm_moving (line.Filter name) last = tt
+calm_moving q last = absurd last
 
 -- the far state is as it is configured, and a sound world is known of it
 abbrev pub StandsSound : Config → FarState → Type 0
@@ -155,6 +148,10 @@ module _ (first : ℕ) (s : Script) (ok : IsAccepted s.config) (v : View) (count
       let many = tells.many in let least = few_nodes in omega (arith, most, many, least)
 
   -- ---- room
+  -- the job makes no long object, where no line does
+  abbrev MakesShortIf : Job → Type 0
+  MakesShortIf j = has_long_make s.lines ≡ false → MakesShort j
+
   -- the nodes that have crashed when a turn was made are those of crash lines
   crashed : (t : Turn) → Has t v.turns → CrashedAmong nodes t.gave.members
   crashed t there node some =
@@ -180,16 +177,42 @@ module _ (first : ℕ) (s : Script) (ok : IsAccepted s.config) (v : View) (count
       (given_joins first c ok v count last one t there) (crashed t there)
       (omega (arith, made, room)) (c.k + c.r) (omega (arith, least, all))
 
+  -- there are frames for the holes between spans, or none of them has more than one page
+  enough_or_narrow : (t : Turn) → Has t v.turns → MakesShortIf t.job
+      → (is_wide t.gave t.job ≡ false) ⊎ (28 * c.k + 2600 ≤ c.frames)
+  enough_or_narrow t there short = elim (cases_Bool (has_long_make s.lines)) [
+    | inl long ↦ inr (roomy.wide long)
+    | inr none ↦ inl (never_wide t.gave (gave_narrow first c v count last one (λ u in_it.
+        none_long_made v answers backs (answers_short s answers by none) u in_it) t there) t.job
+        (short none))
+  ]
+
+  -- so a turn for which too few spans were loose was made again
+  tried : (t : Turn) → Has t v.turns → (frames loose nodes : ℕ)
+      → t.reply ≡ Some (answer.NoRoom frames loose nodes) → frames ≡ c.frames → loose < c.k
+      → MakesShortIf t.job → tries_again t ≡ true
+  tried t there frames loose nodes told all few short =
+      let k = (gave_codes first c v count last one ok t there).force.0 in
+      let least = roomy.frames in
+      ap (is_to_try_again t.gave t.job) told
+      ∙ comes_again t.gave t.job frames loose (omega (arith, few, k)) (omega (arith, least, k, all))
+      (holes (enough_or_narrow t there short))
+    where
+      holes : (is_wide t.gave t.job ≡ false) ⊎ (28 * c.k + 2600 ≤ c.frames)
+          → (is_wide t.gave t.job ≡ false) ⊎ (28 * t.gave.code.k + 2600 ≤ frames)
+      holes (inl narrow) = inl narrow
+      holes (inr room) = let k = (gave_codes first c v count last one ok t there).force.0 in
+          inr (omega (arith, room, k, all))
+
   no_room : (h : Option ℕ) (q : Request) (frames loose roomy_nodes : ℕ)
-      → IsReplyOf q (answer.NoRoom frames loose roomy_nodes)
-      → IsLastTry c q (answer.NoRoom frames loose roomy_nodes)
+      → (has_long_make s.lines ≡ false → MakesNoneLong q)
       → Meets (as_part v) (need_of h q (answer.NoRoom frames loose roomy_nodes)) → ⊥
-  no_room h q frames loose roomy_nodes may tried meets =
+  no_room h q frames loose roomy_nodes short meets =
       let z = room_turn (as_part v) h q frames loose roomy_nodes meets in
-      let told = room_told first c ok v count last one z.0 frames loose roomy_nodes z.1 z.2 in
+      let told = room_told first c ok v count last one z.0 frames loose roomy_nodes z.1 z.2.0 in
       elim told.few [
-        | inl spans ↦ false≢true (sym (last_loose c q frames loose roomy_nodes may tried)
-            ∙ more_come c loose spans roomy.frames)
+        | inl spans ↦ false≢true (sym z.2.2 ∙ tried z.0 z.1 frames loose roomy_nodes z.2.0
+            told.frames_are spans (λ none. job_short h q z.0.job (short none) z.2.1))
         | inr places ↦ let least = enough z.0 z.1 in let counted = told.counted in
             omega (arith, places, least, counted)
       ]
@@ -204,42 +227,44 @@ module _ (first : ℕ) (s : Script) (ok : IsAccepted s.config) (v : View) (count
       let most = roomy.makes in omega (arith, made, all, most, among)
   no_full h q number may upheld among = may
 
-  calm_reply : (h : Option ℕ) (q : Request) (r : Reply) → IsReplyOf q r → IsLastTry c q r
-      → TellsWorn count r → TellsLost c losses r
+  calm_reply : (h : Option ℕ) (q : Request) (r : Reply) → IsReplyOf q r → IsLastTry q r
+      → (has_long_make s.lines ≡ false → MakesNoneLong q) → TellsWorn count r → TellsLost c losses r
       → IsUpheld first c.handles (calls_of answers) v h (event_of q r)
       → Meets (as_part v) (need_of h q r) → is_full q r ≤ fulls answers → IsCalmTo q r
-  calm_reply h q (answer.NoRoom frames loose nodes) may tried worn lost upheld meets among =
-      absurd (no_room h q frames loose nodes may tried meets)
-  calm_reply h q (answer.Unavailable id ls) may tried worn lost upheld meets among =
+  calm_reply h q (answer.NoRoom frames loose nodes) may tried short worn lost upheld meets among =
+      absurd (no_room h q frames loose nodes short meets)
+  calm_reply h q (answer.Unavailable id ls) may tried short worn lost upheld meets among =
       absurd (no_loss id ls lost)
-  calm_reply h q (answer.Full number) may tried worn lost upheld meets among =
+  calm_reply h q (answer.Full number) may tried short worn lost upheld meets among =
       absurd (no_full h q number may upheld among)
-  calm_reply h q answer.Worn may tried worn lost upheld meets among = absurd (omega (arith, few, worn))
-  calm_reply h q answer.Moving may tried worn lost upheld meets among = calm_moving c q tried
-  calm_reply h q r may tried worn lost upheld meets among = tt
+  calm_reply h q answer.Worn may tried short worn lost upheld meets among = absurd (omega (arith, few, worn))
+  calm_reply h q answer.Moving may tried short worn lost upheld meets among = calm_moving q tried
+  calm_reply h q r may tried short worn lost upheld meets among = tt
 
   go : (before after : List Answer) → AllByRecursion HasLineReply after
-      → AllByRecursion (HasLastTry c) after
+      → AllByRecursion HasLastTry after
+      → (has_long_make s.lines ≡ false → AllByRecursion (λ a. MakesNoneLong a.request) after)
       → AllByRecursion (λ a. TellsWorn count a.reply) after
       → AllByRecursion (λ a. TellsLost c losses a.reply) after
       → AllByRecursion (Upholds first c.handles (calls_of answers) v) (calls_behind before after)
       → AllByRecursion (Tells (as_part v)) (tolds before after) → fulls after ≤ fulls answers
       → AllByRecursion (λ a. IsCalmTo a.request a.reply) after
-  go before [] replies tried worn lost upheld tells among = tt
-  go before (a ∷ after) replies tried worn lost upheld tells among = (
-    calm_reply (handle_for before a.request a.reply) a.request a.reply replies.0 tried.0 worn.0
-        lost.0 upheld.0 tells.0 (omega (arith, among)),
-    go (before ++ a ∷ []) after replies.1 tried.1 worn.1 lost.1 upheld.1 tells.1
+  go before [] replies tried short worn lost upheld tells among = tt
+  go before (a ∷ after) replies tried short worn lost upheld tells among = (
+    calm_reply (handle_for before a.request a.reply) a.request a.reply replies.0 tried.0
+        (λ none. (short none).0) worn.0 lost.0 upheld.0 tells.0 (omega (arith, among)),
+    go (before ++ a ∷ []) after replies.1 tried.1 (λ none. (short none).1) worn.1 lost.1 upheld.1 tells.1
         (omega (arith, among)),
   )
 
-  pub all_calm : AllByRecursion HasLineReply answers → AllByRecursion (HasLastTry c) answers
+  pub all_calm : AllByRecursion HasLineReply answers → AllByRecursion HasLastTry answers
       → AllByRecursion (λ a. TellsWorn count a.reply) answers
       → AllByRecursion (λ a. TellsLost c losses a.reply) answers
       → AllByRecursion (Upholds first c.handles (calls_of answers) v) (calls_of answers)
       → AllByRecursion (λ a. IsCalmTo a.request a.reply) answers
   all_calm replies tried worn lost upheld =
-      go [] answers replies tried worn lost upheld backs.tells (omega arith)
+      go [] answers replies tried (answers_short s answers by) worn lost upheld backs.tells
+      (omega arith)
 
 -- such a reply tells of no lack
 calm_lacks : (q : Request) (r : Reply) → IsCalmTo q r → is_lack r ≡ false

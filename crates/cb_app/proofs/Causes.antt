@@ -1,5 +1,5 @@
 -- Why a command is refused: what the turn that told it found, among the turns of a closed record.
-use Rattle.std.proofs.Common.{◌≡◌, ◌⊎◌, ℕ, ◌^◌, ◌<◌, ◌≤◌, true, List, [], ◌∷◌, ◌++◌, length, Option, Some, refl, sym, ap, ◌∙◌, subst, inl, inr, arith}
+use Rattle.std.proofs.Common.{◌≡◌, ◌⊎◌, ℕ, ◌^◌, ◌<◌, ◌≤◌, true, List, [], ◌∷◌, ◌++◌, length, Option, None, Some, refl, sym, ap, ◌∙◌, subst, inl, inr, arith}
 use Rattle.std.specs.List.{AllByRecursion}
 use Rattle.cb_member.specs.declared.names.Loss.{Loss}
 use Rattle.cb_member.specs.declared.names.NodeId.{NodeId}
@@ -12,12 +12,14 @@ use Rattle.cb_types.specs.declared.reply.Reply.{Reply}
 use Rattle.cb_types.specs.declared.reply.Reply.TheVariants as answer
 use Rattle.cb_world.specs.declared.entry.Entry.{Entry}
 use Rattle.cb_world.specs.World.{WorldState}
+use Rattle.cb_core.specs.Narrow.{IsLong, IsLongMadeIf, IsNarrow}
 use Rattle.cb_rule.specs.declared.turn.Turn.{Turn}
 use Rattle.cb_rule.specs.declared.view.View.{View}
 use Rattle.cb_rule.specs.Closing.{IsClosed}
 use Rattle.cb_rule.specs.Lists.{Has, total}
 use Rattle.cb_rule.specs.Locking.{Stood}
 use Rattle.cb_rule.specs.OneHistory.{IsOneHistory}
+use Rattle.cb_rule.specs.TriesAgain.{tries_again}
 use Rattle.cb_map_text.specs.Plain.{Plain, needs_object, objects}
 use Rattle.cb_map_text.specs.declared.command.FarCommand.{FarCommand}
 use Rattle.cb_shared.specs.Turning.{Did, DidAs, made_by_turn}
@@ -29,6 +31,7 @@ use Rattle.cb_app.proofs.CrashesTold.{IsLoss, lost_told, room_told}
 use Rattle.cb_app.proofs.FramesTold.{IsShort, frames_taken, make_counted, make_lacks, read_lacks, swap_lacks, write_lacks}
 use Rattle.cb_app.proofs.MadeStays.{made_by}
 use Rattle.cb_app.proofs.MadeTurns.{adds, few_made, made_before, made_in}
+use Rattle.cb_app.proofs.NarrowTurns.{found_narrow}
 use Rattle.cb_app.proofs.NeverWorn.{WritesNone}
 use Rattle.cb_app.proofs.Refusals.{Want, turn_want}
 use Rattle.cb_app.proofs.Refusals.Want.{full, lost, room, worn}
@@ -53,6 +56,17 @@ all_alike (t ∷ ts) = let one = made_alike t.job t.reply in let rest = all_alik
 -- a job that makes an object, or is on one of the record
 abbrev pub IsForObject : View → Job → Type 0
 IsForObject v j = IsMake j ⊎ IsOnObject v j
+
+-- none of them makes a long one
+short_make : (bytes : List ℕ) → IsMake (job.Make bytes) → IsLong bytes → ⊥
+short_make bytes is long = omega (arith, is, long)
+
+never_long : (v : View) (j : Job) (o : Option Reply) → IsForObject v j → IsLongMadeIf j o → ⊥
+never_long v (job.Make bytes) (Some r) (inl is) long = short_make bytes is long.0
+never_long v (job.Make bytes) (Some r) (inr is) long = is
+never_long v (job.Make bytes) None is long = long
+never_long v j (Some r) is long = long
+never_long v j None is long = long
 
 no_crash : (v : View) (node : NodeId) → IsForObject v (job.Crash node) → ⊥
 no_crash v node (inl x) = x
@@ -117,21 +131,27 @@ module _ (c : Config) (ok : IsAccepted c) (v : View) (w : WorldState) (closed : 
         by j e (inl x) = absurd x
         by j e (inr x) = absurd x
 
+    -- no span and no set has more than one page
+    narrow : IsNarrow t.took
+    narrow = found_narrow 1 c v count w.far one
+        (λ u in_it. never_long v u.job u.reply (jobs_are u in_it)) t there
+
     -- where there is no room all frames are taken, by as many objects or more
     all_taken : (frames loose nodes : ℕ) → t.reply ≡ Some (answer.NoRoom frames loose nodes)
         → c.frames ≤ t.took.made
     all_taken frames loose nodes is =
-        frames_taken c t.start t.took stood (by t.job refl (jobs_are t there))
+        frames_taken c t.start t.took stood narrow (by t.job refl (jobs_are t there))
       where
         by : (j : Job) → t.job ≡ j → IsForObject v j → IsShort t.took
-        by (job.Make bytes) e x = (make_lacks c t.start t.acts t.took t.gave frames loose nodes bytes
-            (did (job.Make bytes) _ e is)).1
+        by (job.Make bytes) e (inl x) = (make_lacks c t.start t.acts t.took t.gave frames loose
+            nodes bytes (short_make bytes x) (did (job.Make bytes) _ e is)).1
+        by (job.Make bytes) e (inr x) = absurd x
         by (job.Swap h) e x = swap_lacks c t.start t.acts t.took t.gave frames loose nodes h
-            stood.sound (did (job.Swap h) _ e is)
+            narrow (did (job.Swap h) _ e is)
         by (job.Read h) e x = read_lacks c t.start t.acts t.took t.gave frames loose nodes h
-            stood.sound (did (job.Read h) _ e is)
+            narrow (did (job.Read h) _ e is)
         by (job.Write h at bytes) e x = write_lacks c t.start t.acts t.took t.gave frames loose
-            nodes h at bytes stood.sound (did (job.Write h at bytes) _ e is)
+            nodes h at bytes narrow (did (job.Write h at bytes) _ e is)
         by j e (inl x) = absurd x
         by j e (inr x) = absurd x
 
@@ -185,8 +205,8 @@ module _ (c : Config) (ok : IsAccepted c) (v : View) (w : WorldState) (closed : 
             in_more low in omega (arith, e, z)
         by (inr none) = let e = made_old in let z = ap (total made_in) none in omega (arith, e, z)
 
-    make_of : (j : Job) → IsMake j → (bytes : List ℕ) × (j ≡ job.Make bytes)
-    make_of (job.Make bytes) is = (bytes, refl)
+    make_of : (j : Job) → IsMake j → (bytes : List ℕ) × (j ≡ job.Make bytes) × IsMake (job.Make bytes)
+    make_of (job.Make bytes) is = (bytes, refl, is)
     make_of j is = absurd is
 
     needs : IsMake t.job → needs_object s a ≡ true
@@ -241,7 +261,8 @@ module _ (c : Config) (ok : IsAccepted c) (v : View) (w : WorldState) (closed : 
         by (inl x) =
             let m = make_of t.job x in
             let d = did t in_v (job.Make m.0) (answer.NoRoom frames loose nodes) m.1 reply in
-            let less = (make_lacks c t.start t.acts t.took t.gave frames loose nodes m.0 d).0 in
+            let less = (make_lacks c t.start t.acts t.took t.gave frames loose nodes m.0
+            (short_make m.0 m.2) d).0 in
             let low = make_counted c t.start t.acts t.took t.gave frames loose nodes m.0 d in
             let all = took_all low in
             inr (
@@ -271,7 +292,7 @@ module _ (c : Config) (ok : IsAccepted c) (v : View) (w : WorldState) (closed : 
         })
 
     pub refused_so : IsCause c v w s a r
-    refused_so = by (turn_want c t.start t.acts t.took t.gave u t.job r for_object told.answers
+    refused_so = by (turn_want c t.start t.acts t.took t.gave u (tries_again t) t.job r for_object told.answers
         told.lacks (did t in_v t.job r refl told.reply_is))
       where
         at : (q : Reply) → r ≡ q → IsCause c v w s a q → IsCause c v w s a r

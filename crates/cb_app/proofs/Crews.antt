@@ -86,8 +86,8 @@ taken_in s given others lines a e b are told ended apart none first of pass answ
         lines_are = refl;
         replies = subst (AllByRecursion HasLineReply) (sym answers)
             (all_both HasLineReply a.answers e.answers told.replies ended.replies);
-        last = subst (AllByRecursion (HasLastTry s.config)) (sym answers)
-            (all_both (HasLastTry s.config) a.answers e.answers told.last ended.last);
+        last = subst (AllByRecursion HasLastTry) (sym answers)
+            (all_both HasLastTry a.answers e.answers told.last ended.last);
         backs = subst (λ (v : View). Backs (as_part v) (tolds [] b.answers)) (sym pass)
             (subst (Backs (as_part (joined (record_of a.pass) (unpinned_all (record_of e.pass))))) all
             (backs_sum (as_part (record_of a.pass)) (as_part (record_of e.pass)) (tolds [] a.answers)
@@ -382,7 +382,7 @@ told_left s given lines a b share own told same of left = record {
   of = of;
   lines_are = ap (map asked) same ∙ told.lines_are;
   replies = subst (AllByRecursion HasLineReply) (sym same) told.replies;
-  last = subst (AllByRecursion (HasLastTry s.config)) (sym same) told.last;
+  last = subst (AllByRecursion HasLastTry) (sym same) told.last;
   backs = subst (λ (v : View). Backs (as_part v) (tolds given b.answers)) (sym left)
       (subst (λ (xs : List Answer). Backs (as_part (record_of a.pass)) (tolds given xs)) (sym same) told.backs);
   suits = subst (λ (v : View). AreSuited v.seen (tolds given b.answers)) (sym left)

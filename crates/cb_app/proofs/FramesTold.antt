@@ -1,31 +1,25 @@
--- A turn that was told that there is no room found no run of free frames that a span of some class
--- fits, and so as many objects as frames; and a make that was told so found fewer objects than there
--- are handles.
-use Rattle.std.proofs.Common.{◌≡◌, ℕ, ◌^◌, ◌<◌, ◌≤◌, Bool, true, false, List, length, None, Some, refl, sym, ap, ◌∙◌, subst, arith}
-use Rattle.std.proofs.lemmas.Bool.{false≢true, true≢false}
+-- A turn that was told that there is no room found no free frame, where no object is long, and so as
+-- many objects as frames; and a make that was told so found fewer objects than there are handles.
+use Rattle.std.proofs.Common.{◌≡◌, ◌⊎◌, ℕ, ◌^◌, ◌<◌, ◌≤◌, Bool, true, false, List, length, None, Some, refl, sym, ap, ◌∙◌, subst, arith, inl, inr}
+use Rattle.std.proofs.lemmas.Bool.{cases_lt, false≢true, true≢false}
 use Rattle.cb_class.specs.declared.class.Class.{Class}
-use Rattle.cb_class.specs.Class.{IsClass, pages_of}
+use Rattle.cb_class.specs.Class.{IsClassOf, pages_of}
 use Rattle.cb_frame.specs.Runs.{least_run}
 use Rattle.cb_ptr.specs.Word.{state_of}
-use Rattle.cb_set.specs.SetState.{SetState}
 use Rattle.cb_types.specs.declared.config.Config.{Config}
 use Rattle.cb_types.specs.declared.handle.Handle.{Handle}
 use Rattle.cb_types.specs.declared.job.Job.{Job}
 use Rattle.cb_types.specs.declared.job.Job.TheVariants as job
 use Rattle.cb_types.specs.declared.reply.Reply.{Reply}
 use Rattle.cb_types.specs.declared.reply.Reply.TheVariants as answer
-use Rattle.cb_types.specs.Jobs.{job_index}
 use Rattle.cb_world.specs.declared.event.Event.{Event}
-use Rattle.cb_world.specs.declared.homes.Home.{Home}
 use Rattle.cb_world.specs.declared.shown.Shown.{Shown}
-use Rattle.cb_world.specs.Counts.{with_turn}
 use Rattle.cb_world.specs.FarState.{FarState}
-use Rattle.cb_world.specs.Homes.{home_at}
-use Rattle.cb_world.specs.Sound.{Sound}
-use Rattle.cb_world.proofs.Laws.{recounted_sound}
 use Rattle.cb_mutate.specs.MakeRule.{MakeRule}
 use Rattle.cb_swapin.specs.SwapRule.{SwapRule}
 use Rattle.cb_swapin.proofs.Laws.{by_answer}
+use Rattle.cb_core.specs.Narrow.{IsLong, IsNarrow}
+use Rattle.cb_core.proofs.Laws.{short_page}
 use Rattle.cb_core.specs.OnceHere.{OnceHere, away, here}
 use Rattle.cb_core.specs.Parts.{Holding, WithRoom, WhereItIs, at_once, no_room, won, most_evictions, near, declined, stays_far, brought, not_far, was_far}
 use Rattle.cb_core.specs.Turned.{Brings, ComesIn, Declines, Makes, WinsRoom, WritesObject, counted, done, worn}
@@ -49,9 +43,9 @@ plain_other : (r : Reply) → TellsNoLack r → IsOther r
 plain_other (answer.NoRoom frames loose nodes) plain = absurd (true≢false plain)
 plain_other r plain = refl
 
--- no run of frames is free that a span of some class fits
+-- no frame is free
 abbrev pub IsShort : FarState → Type 0
-IsShort far = (class : Class) × IsClass class × (least_run far.frames (pages_of class) ≡ None)
+IsShort far = least_run far.frames 1 ≡ None
 
 -- so it is, or the reply is another one
 abbrev Unless : Reply → FarState → Type 0
@@ -77,24 +71,21 @@ no_frame id p far new es x = by_answer
     is_none answer.NoFrame = true
     is_none r = false
 
-same_set : (a b : SetState) → Some a ≡ Some b → a ≡ b
-same_set a b e = cc
+-- each set has one page
+no_span : (id p : ℕ) (far new : FarState) (es : List Event) → IsNarrow far
+    → SwapRule id p far new answer.NoFrame es → IsShort far
+no_span id p far new es narrow x = subst (λ (pages : ℕ). least_run far.frames pages ≡ None)
+    (narrow.sets id x.set x.there) (no_frame id p far new es x)
 
--- a set that an object has its home in has the length of the spans of the object's class
-no_span : (s : Shown) (h : ℕ) (home : Home) (far new : FarState) (es : List Event) → Sound s far
-    → home_at far.homes h ≡ Some home → SwapRule home.set home.position far new answer.NoFrame es
-    → IsShort far
-no_span s h home far new es sound at x =
-    let lies = sound.away.sound.away.home h home at in
-    let word = sound.away.sound.sets.worded home.set lies.0 lies.1 in
-    let object = word.1.holds home.position home.slot h lies.2 in
-    let same = same_set x.set lies.0 (sym x.there ∙ lies.1) in (
-      object.class,
-      object.fits.in_table,
-      subst (λ (pages : ℕ). least_run far.frames pages ≡ None)
-          (ap (λ (z : SetState). z.pages) same ∙ object.paged)
-          (no_frame home.set home.position far new es x),
-    )
+-- where no run is free for an object that is not long, no frame is free
+no_run : (bytes : List ℕ) (class : Class) (far : FarState) → (IsLong bytes → ⊥)
+    → IsClassOf (length bytes) class → least_run far.frames (pages_of class) ≡ None → IsShort far
+no_run bytes class far short of none = subst (λ (pages : ℕ). least_run far.frames pages ≡ None)
+    (short_page (length bytes) class (by (cases_lt 1024 (length bytes))) of) none
+  where
+    by : (1024 < length bytes) ⊎ (length bytes ≤ 1024) → length bytes ≤ 1024
+    by (inl long) = absurd (short long)
+    by (inr few) = few
 
 make_other : (handles : ℕ) (bytes : List ℕ) (far new : FarState) (r : Reply) (es : List Event)
     → MakeRule handles bytes far new r es → IsOther r
@@ -108,68 +99,76 @@ read_other (answer.NoRoom frames loose nodes) x = absurd x
 read_other r x = refl
 
 -- ---- by parts
-module _ (c : Config) (s : Shown) where
-  brings : (h : ℕ) (a b : Hold) (r : Reply) → Sound s a.far
+module _ (c : Config) where
+  brings : (h : ℕ) (a b : Hold) (r : Reply) → IsNarrow a.far
       → Brings slate_run slate_shows c h a r b → Unless r a.far
-  brings h a b r sound (at_once (home, at, x) never) =
+  brings h a b r narrow (at_once (home, at, x) never) =
       other_unless r a.far (swap_other home.set home.position a.far b.far r x.events x.rule)
-  brings h a b r sound (no_room m why loose nodes (home, at, x) evict e) = λ is.
-      no_span s h home a.far m.far x.events sound at x.rule
-  brings h a b r sound (won m n id (home, at, x) evict again) = λ is.
-      no_span s h home a.far m.far x.events sound at x.rule
+  brings h a b r narrow (no_room m why loose nodes (home, at, x) evict e) = λ is.
+      no_span home.set home.position a.far m.far x.events narrow x.rule
+  brings h a b r narrow (won m n id (home, at, x) evict again) = λ is.
+      no_span home.set home.position a.far m.far x.events narrow x.rule
 
   -- behind what left the far state
-  behind : (a m : FarState) (r : Reply) → m ≡ a → Sound s a → (Sound s m → Unless r m) → Unless r a
-  behind a m r same sound x = subst (Unless r) same (x (subst (Sound s) (sym same) sound))
+  behind : (a m : FarState) (r : Reply) → m ≡ a → IsNarrow a → (IsNarrow m → Unless r m)
+      → Unless r a
+  behind a m r same narrow x = subst (Unless r) same (x (subst IsNarrow (sym same) narrow))
 
-  comes : (h : ℕ) (a b : Hold) (r : Reply) → Sound s a.far
+  comes : (h : ℕ) (a b : Hold) (r : Reply) → IsNarrow a.far
       → ComesIn slate_run slate_shows c h a r b → Unless r a.far
-  comes h a b r sound (not_far x never) = other_unless r a.far (plain_other r
+  comes h a b r narrow (not_far x never) = other_unless r a.far (plain_other r
       (answered (λ w. r ≡ answer.Stays) (state_of x.rule.1.word) x.rule.1.word h x.events r
       (λ e. off r answer.Stays refl e) x.rule.1.answer))
-  comes h a b r sound (was_far m x bring) =
-      behind a.far m.far r x.rule.0 sound (λ then. brings h m b r then bring)
+  comes h a b r narrow (was_far m x bring) =
+      behind a.far m.far r x.rule.0 narrow (λ then. brings h m b r then bring)
 
-  once : (h : ℕ) (a b : Hold) (r : Reply) → Sound s a.far
+  once : (h : ℕ) (a b : Hold) (r : Reply) → IsNarrow a.far
       → OnceHere (ComesIn slate_run slate_shows c h) (ReadsByPin h) a r b → Unless r a.far
-  once h a b r sound (away come off) = comes h a b r sound come
-  once h a b r sound (here m place come there call) = other_unless r a.far (read_other r call.1)
+  once h a b r narrow (away come off) = comes h a b r narrow come
+  once h a b r narrow (here m place come there call) = other_unless r a.far (read_other r call.1)
 
-  writes : (h at : ℕ) (bytes : List ℕ) (a b : Hold) (r : Reply) → Sound s a.far
+  writes : (h at : ℕ) (bytes : List ℕ) (a b : Hold) (r : Reply) → IsNarrow a.far
       → WhereItIs (WritesObject slate_run slate_shows h at bytes)
       (Declines slate_run slate_shows h at (length bytes)) (Brings slate_run slate_shows c h) a r b
       → Unless r a.far
-  writes h at bytes a b r sound (near x never) =
+  writes h at bytes a b r narrow (near x never) =
       other_unless r a.far (plain_other r (write_plain h at bytes r x.events x.rule.1))
-  writes h at bytes a b r sound (declined m x look) = other_unless r a.far (plain_other r
+  writes h at bytes a b r narrow (declined m x look) = other_unless r a.far (plain_other r
       (declined_plain h at (length bytes) m.far r look.1.events look.1.rule))
-  writes h at bytes a b r sound (stays_far m n x look bring never) =
-      behind a.far n.far r (look.0 ∙ x.rule.0) sound (λ then. brings h n b r then bring)
-  writes h at bytes a b r sound (brought m n o f x look bring y) =
+  writes h at bytes a b r narrow (stays_far m n x look bring never) =
+      behind a.far n.far r (look.0 ∙ x.rule.0) narrow (λ then. brings h n b r then bring)
+  writes h at bytes a b r narrow (brought m n o f x look bring y) =
       other_unless r a.far (plain_other r (write_plain h at bytes r y.events y.rule.1))
 
   -- a make finds a handle too
   abbrev Lacks : FarState → Type 0
   Lacks far = (far.made < c.handles) × IsShort far
 
-  makes : (bytes : List ℕ) (a b : Hold) (r : Reply)
+  makes : (bytes : List ℕ) (a b : Hold) (r : Reply) → (IsLong bytes → ⊥)
       → WithRoom c.frames (Makes slate_run slate_shows c bytes) (WinsRoom slate_run slate_shows c)
       most_evictions a r b → is_room r ≡ true → Lacks a.far
-  makes bytes a b r (at_once x never) is = absurd (true≢false (sym is
+  makes bytes a b r short (at_once x never) is = absurd (true≢false (sym is
       ∙ make_other c.handles bytes a.far b.far r x.events x.rule))
-  makes bytes a b r (no_room m why loose nodes x evict e) is =
-      (x.rule.0, (x.rule.1.0, x.rule.1.1.in_table, x.rule.1.2.taken))
-  makes bytes a b r (won m n id x evict again) is =
-      (x.rule.0, (x.rule.1.0, x.rule.1.1.in_table, x.rule.1.2.taken))
+  makes bytes a b r short (no_room m why loose nodes x evict e) is = (
+    x.rule.0,
+    no_run bytes x.rule.1.0 a.far short x.rule.1.1 x.rule.1.2.taken,
+  )
+  makes bytes a b r short (won m n id x evict again) is = (
+    x.rule.0,
+    no_run bytes x.rule.1.0 a.far short x.rule.1.1 x.rule.1.2.taken,
+  )
 
   -- ---- a turn
-  module _ (es : List Event) (took gave : FarState) (frames loose nodes : ℕ) where
+  module _ (s : Shown) (es : List Event) (took gave : FarState) (frames loose nodes : ℕ) where
     abbrev DidSo : Job → Type 0
     DidSo j = DidAs c j (Some (answer.NoRoom frames loose nodes)) s es took gave
 
-    counted_sound : (j : Job) → Sound s took → Sound s (counted took j)
-    counted_sound j sound = recounted_sound s took (with_turn took.counts (job_index j)).turns
-        (with_turn took.counts (job_index j)).by_job took.nodes.given sound
+    counted_narrow : (j : Job) → IsNarrow took → IsNarrow (counted took j)
+    counted_narrow j narrow = record {
+      spans = narrow.spans;
+      sets = narrow.sets;
+      leaving = narrow.leaving;
+    }
 
     worn_off : answer.NoRoom frames loose nodes ≡ answer.Worn → ⊥
     worn_off e = true≢false (ap is_room e)
@@ -179,30 +178,31 @@ module _ (c : Config) (s : Shown) where
     make_counted bytes (worn last is same ran) = absurd (worn_off is)
     make_counted bytes (done less does) = less
 
-    pub make_lacks : (bytes : List ℕ) → DidSo (job.Make bytes) → Lacks took
-    make_lacks bytes (worn last is same ran) = absurd (worn_off is)
-    make_lacks bytes (done less does) = makes bytes _ _ (answer.NoRoom frames loose nodes) does refl
+    pub make_lacks : (bytes : List ℕ) → (IsLong bytes → ⊥) → DidSo (job.Make bytes) → Lacks took
+    make_lacks bytes short (worn last is same ran) = absurd (worn_off is)
+    make_lacks bytes short (done less does) =
+        makes bytes _ _ (answer.NoRoom frames loose nodes) short does refl
 
-    pub swap_lacks : (h : Handle) → Sound s took → DidSo (job.Swap h) → IsShort took
-    swap_lacks h sound (worn last is same ran) = absurd (worn_off is)
-    swap_lacks h sound (done less does) = comes h.n _ _ (answer.NoRoom frames loose nodes)
-        (counted_sound (job.Swap h) sound) does refl
+    pub swap_lacks : (h : Handle) → IsNarrow took → DidSo (job.Swap h) → IsShort took
+    swap_lacks h narrow (worn last is same ran) = absurd (worn_off is)
+    swap_lacks h narrow (done less does) = comes h.n _ _ (answer.NoRoom frames loose nodes)
+        (counted_narrow (job.Swap h) narrow) does refl
 
-    pub read_lacks : (h : Handle) → Sound s took → DidSo (job.Read h) → IsShort took
-    read_lacks h sound (worn last is same ran) = absurd (worn_off is)
-    read_lacks h sound (done less does) = once h.n _ _ (answer.NoRoom frames loose nodes)
-        (counted_sound (job.Read h) sound) does refl
+    pub read_lacks : (h : Handle) → IsNarrow took → DidSo (job.Read h) → IsShort took
+    read_lacks h narrow (worn last is same ran) = absurd (worn_off is)
+    read_lacks h narrow (done less does) = once h.n _ _ (answer.NoRoom frames loose nodes)
+        (counted_narrow (job.Read h) narrow) does refl
 
-    pub write_lacks : (h : Handle) (at : ℕ) (bytes : List ℕ) → Sound s took
+    pub write_lacks : (h : Handle) (at : ℕ) (bytes : List ℕ) → IsNarrow took
         → DidSo (job.Write h at bytes) → IsShort took
-    write_lacks h at bytes sound (worn last is same ran) = absurd (worn_off is)
-    write_lacks h at bytes sound (done less does) = writes h.n at bytes _ _
-        (answer.NoRoom frames loose nodes) (counted_sound (job.Write h at bytes) sound) does refl
+    write_lacks h at bytes narrow (worn last is same ran) = absurd (worn_off is)
+    write_lacks h at bytes narrow (done less does) = writes h.n at bytes _ _
+        (answer.NoRoom frames loose nodes) (counted_narrow (job.Write h at bytes) narrow) does refl
 
 -- so as many objects were made as there are frames
-pub frames_taken : (c : Config) (known : Shown) (far : FarState) → Stood c known far → IsShort far
-    → c.frames ≤ far.made
-frames_taken c known far stood short =
-    let all = frames_made known far stood.sound.here short.0 short.1 short.2 in
+pub frames_taken : (c : Config) (known : Shown) (far : FarState) → Stood c known far → IsNarrow far
+    → IsShort far → c.frames ≤ far.made
+frames_taken c known far stood narrow short =
+    let all = frames_made known far stood.sound.here narrow short in
     let spans = stood.configured.frames in
     let sized = stood.sound.here.frames.sized in omega (arith, all, spans, sized)

@@ -43,6 +43,8 @@ mod MadeTurns
 mod RoomyLines
 mod RangeTold
 mod UpheldTold
+mod LongMakes
+mod NeverWide
 mod CalmTold
 mod FramesTold
 mod TurnsLater

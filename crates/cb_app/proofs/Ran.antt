@@ -60,7 +60,7 @@ run_lines (a ∷ answers) fits = (fits.0, run_lines answers fits.1)
 pub is_run : (script : Script) (end : ThreadsEnd) → AreInMode modes.Threads script.lines
     → length script.lines ≤ 20000 → AreLines script.config.nodes [] script.lines
     → map asked end.answers ≡ by_lane script.lines → AllByRecursion HasLineReply end.answers
-    → AllByRecursion (HasLastTry script.config) end.answers → sealed_world end.seal ≡ end.world
+    → AllByRecursion HasLastTry end.answers → sealed_world end.seal ≡ end.world
     → IsClosed Did 1 script.config (sealed_record end.seal) end.world
     → Backs (as_part (sealed_record end.seal)) (tolds [] end.answers)
     → AreSuited (sealed_record end.seal).seen (tolds [] end.answers)
@@ -147,8 +147,7 @@ module _ (script : Script) (mode : AreInMode modes.Threads script.lines) (shared
       is_run script end mode few are
       (ap (λ (l : List Answer). map asked l) answers ∙ is_told.lines_are)
       (subst (AllByRecursion HasLineReply) (sym answers) is_told.replies)
-      (subst (AllByRecursion (HasLastTry script.config)) (sym answers)
-      (subst (λ (c : Config). AllByRecursion (HasLastTry c) told.answers) begun.config is_told.last))
+      (subst (AllByRecursion HasLastTry) (sym answers) is_told.last)
       closed.world
       (subst (λ (v : View). IsClosed Did 1 script.config v end.world) (sym same)
       (configured end.world closed.closed))

@@ -127,7 +127,7 @@ worker_told s w turns p q given answers fresh works none =
       of = works.0;
       lines_are = ap (map asked) none;
       replies = subst (AllByRecursion HasLineReply) (sym none) tt;
-      last = subst (AllByRecursion (HasLastTry s.config)) (sym none) tt;
+      last = subst (AllByRecursion HasLastTry) (sym none) tt;
       backs = subst (λ (xs : List Answer). Backs (as_part (record_of q)) (tolds given xs)) (sym none) backs;
       suits = subst (λ (xs : List Answer). AreSuited (record_of q).seen (tolds given xs)) (sym none) tt;
       rises = none_rise given answers none;
@@ -179,7 +179,7 @@ told_known written before (a ∷ after) v (own, rest, is, enters, later) all =
 -- what a lane leaves that began with a new pass
 pub lane_told : (s : Shared) (lane : ℕ) (names : List Named) (v : View) (lines : List Line) (e : LaneEnd)
     → IsFreshRecord v → KnowsNames v names → IsPassOf s e.pass → map asked e.answers ≡ lines
-    → AllByRecursion HasLineReply e.answers → AllByRecursion (HasLastTry s.config) e.answers
+    → AllByRecursion HasLineReply e.answers → AllByRecursion HasLastTry e.answers
     → AddsBacked names e.answers v (record_of e.pass)
     → LaneGoes s.config names v e.answers (record_of e.pass)
     → LaneRises lane names e.answers v → LaneScoped lane names e.answers

@@ -1,5 +1,5 @@
 -- By which replies a turn tells that a command is refused.
-use Rattle.std.proofs.Common.{◌≡◌, ◌⊎◌, ℕ, List, [], Some, refl, subst, inl, inr}
+use Rattle.std.proofs.Common.{◌≡◌, ◌⊎◌, ℕ, Bool, List, [], Some, refl, subst, inl, inr}
 use Rattle.cb_member.specs.declared.names.Loss.{Loss}
 use Rattle.cb_types.specs.declared.config.Config.{Config}
 use Rattle.cb_types.specs.declared.handle.Handle.{Handle}
@@ -26,63 +26,64 @@ pub data Want (j : Job) (r : Reply) : Type 0 where
   worn : r ≡ answer.Worn → Want j r
   lost : (id : SetId) (losses : List Loss) → r ≡ answer.Unavailable id losses → Want j r
 
-make_want : (bytes : List ℕ) (r : Reply) → IsReplyOf (line.Make [] bytes) r
-    → (IsOutOfPlace (job.Make bytes) r → ⊥) → Want (job.Make bytes) r
-make_want bytes (answer.Made handle version) x off = absurd (off tt)
-make_want bytes (answer.Full n) x off = full n tt refl
-make_want bytes (answer.NoRoom frames loose nodes) x off = room frames loose nodes refl
-make_want bytes answer.Worn x off = worn refl
-make_want bytes r x off = absurd x
+make_want : (bytes : List ℕ) (r : Reply) → IsMake (job.Make bytes)
+    → IsReplyOf (line.Make [] bytes) r → (IsOutOfPlace (job.Make bytes) r → ⊥) → Want (job.Make bytes) r
+make_want bytes (answer.Made handle version) is x off = absurd (off tt)
+make_want bytes (answer.Full n) is x off = full n is refl
+make_want bytes (answer.NoRoom frames loose nodes) is x off = room frames loose nodes refl
+make_want bytes answer.Worn is x off = worn refl
+make_want bytes r is x off = absurd x
 
-lack_want : (c : Config) (j : Job) (r : Reply) → IsLack c r → Want j r
-lack_want c j (answer.Unavailable id losses) x = lost id losses refl
-lack_want c j (answer.NoRoom frames loose nodes) x = room frames loose nodes refl
-lack_want c j answer.Worn x = worn refl
-lack_want c j r x = absurd x
+lack_want : (again : Bool) (j : Job) (r : Reply) → IsLack again r → Want j r
+lack_want again j (answer.Unavailable id losses) x = lost id losses refl
+lack_want again j (answer.NoRoom frames loose nodes) x = room frames loose nodes refl
+lack_want again j answer.Worn x = worn refl
+lack_want again j r x = absurd x
 
-read_want : (c : Config) (h : Handle) (r : Reply) → TellsWhatIs r ⊎ IsLack c r
+read_want : (again : Bool) (h : Handle) (r : Reply) → TellsWhatIs r ⊎ IsLack again r
     → (IsOutOfPlace (job.Read h) r → ⊥) → Want (job.Read h) r
-read_want c h (answer.Bytes version bytes) (inl x) off = absurd (off tt)
-read_want c h answer.Freed (inl x) off = absurd (off tt)
-read_want c h r (inl x) off = absurd x
-read_want c h r (inr x) off = lack_want c (job.Read h) r x
+read_want again h (answer.Bytes version bytes) (inl x) off = absurd (off tt)
+read_want again h answer.Freed (inl x) off = absurd (off tt)
+read_want again h r (inl x) off = absurd x
+read_want again h r (inr x) off = lack_want again (job.Read h) r x
 
-write_want : (c : Config) (h : Handle) (at : ℕ) (bytes : List ℕ) (r : Reply)
-    → IsReplyOf (line.Write [] at bytes) r → IsAnswer c r
+write_want : (again : Bool) (h : Handle) (at : ℕ) (bytes : List ℕ) (r : Reply)
+    → IsReplyOf (line.Write [] at bytes) r → IsAnswer again r
     → (IsOutOfPlace (job.Write h at bytes) r → ⊥) → Want (job.Write h at bytes) r
-write_want c h at bytes (answer.Version version) x answers off = absurd (off tt)
-write_want c h at bytes (answer.NoRoom frames loose nodes) x answers off =
+write_want again h at bytes (answer.Version version) x answers off = absurd (off tt)
+write_want again h at bytes (answer.NoRoom frames loose nodes) x answers off =
     room frames loose nodes refl
-write_want c h at bytes answer.Unmade x (inl a) off = absurd a
-write_want c h at bytes answer.Unmade x (inr a) off = absurd a
-write_want c h at bytes answer.Freed x answers off = absurd (off tt)
-write_want c h at bytes answer.Moving x (inl a) off = absurd a
-write_want c h at bytes answer.Moving x (inr a) off = absurd a
-write_want c h at bytes (answer.Unavailable id losses) x answers off = lost id losses refl
-write_want c h at bytes (answer.Range len) x answers off = absurd (off tt)
-write_want c h at bytes (answer.Pinned count) x answers off = absurd (off tt)
-write_want c h at bytes answer.Worn x answers off = worn refl
-write_want c h at bytes r x answers off = absurd x
+write_want again h at bytes answer.Unmade x (inl a) off = absurd a
+write_want again h at bytes answer.Unmade x (inr a) off = absurd a
+write_want again h at bytes answer.Freed x answers off = absurd (off tt)
+write_want again h at bytes answer.Moving x (inl a) off = absurd a
+write_want again h at bytes answer.Moving x (inr a) off = absurd a
+write_want again h at bytes (answer.Unavailable id losses) x answers off = lost id losses refl
+write_want again h at bytes (answer.Range len) x answers off = absurd (off tt)
+write_want again h at bytes (answer.Pinned count) x answers off = absurd (off tt)
+write_want again h at bytes answer.Worn x answers off = worn refl
+write_want again h at bytes r x answers off = absurd x
 
-here_again : (c : Config) (r : Reply) → IsAnswer c r → r ≡ answer.NotHere → ⊥
-here_again c r x is = by (subst (IsAnswer c) is x)
+here_again : (again : Bool) (r : Reply) → IsAnswer again r → r ≡ answer.NotHere → ⊥
+here_again again r x is = by (subst (IsAnswer again) is x)
   where
-    by : IsAnswer c answer.NotHere → ⊥
+    by : IsAnswer again answer.NotHere → ⊥
     by (inl y) = y
     by (inr y) = y
 
 -- so of a turn that makes an object, or is on one
 module _ (c : Config) (start : Shown) (es : List Event) (took gave : FarState) (v : View) where
-  pub turn_want : (j : Job) (r : Reply) → IsMake j ⊎ IsOnObject v j → IsAnswerTo c j r
-      → (IsOutOfPlace j r → ⊥) → DidAs c j (Some r) start es took gave → Want j r
-  turn_want (job.Make bytes) r is answers off did = make_want bytes r
+  pub turn_want : (again : Bool) (j : Job) (r : Reply) → IsMake j ⊎ IsOnObject v j
+      → IsAnswerTo again j r → (IsOutOfPlace j r → ⊥) → DidAs c j (Some r) start es took gave → Want j r
+  turn_want again (job.Make bytes) r (inl is) answers off did = make_want bytes r is
       (turned_so slate_run slate_shows c ReadsByPin (job.Make bytes) (line.Make [] bytes) r _ _
       (λ does. room_for slate_run slate_shows c [] bytes _ _ r does) tt did) off
-  turn_want (job.Swap h) r is answers off did = lack_want c (job.Swap h) r answers
-  turn_want (job.Read h) r is answers off did = read_want c h r answers off
-  turn_want (job.Write h at bytes) r is answers off did = write_want c h at bytes r
+  turn_want again (job.Swap h) r is answers off did = lack_want again (job.Swap h) r answers
+  turn_want again (job.Read h) r is answers off did = read_want again h r answers off
+  turn_want again (job.Write h at bytes) r is answers off did = write_want again h at bytes r
       (turned_so slate_run slate_shows c ReadsByPin (job.Write h at bytes) (line.Write [] at bytes) r
       _ _ (λ does. write_where slate_run slate_shows c [] bytes h.n at _ _ r
-      (here_again c r answers) does) tt did) answers off
-  turn_want j r (inl is) answers off did = absurd is
-  turn_want j r (inr is) answers off did = absurd is
+      (here_again again r answers) does) tt did) answers off
+  turn_want again (job.Make bytes) r (inr is) answers off did = absurd is
+  turn_want again j r (inl is) answers off did = absurd is
+  turn_want again j r (inr is) answers off did = absurd is

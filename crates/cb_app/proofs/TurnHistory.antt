@@ -224,6 +224,11 @@ module _ (first : ℕ) (c : Config) (v : View) (count : ℕ) (last : FarState)
       → HaveCodes (IsConfiguredCode c) t.took
   found_codes ok t there = at_turn Codes codes_start (codes_step ok) t there
 
+  pub gave_codes : IsAccepted c → (t : Turn) → Has t v.turns
+      → HaveCodes (IsConfiguredCode c) t.gave
+  gave_codes ok t there = at_gave Codes codes_start (codes_step ok)
+      (HaveCodes (IsConfiguredCode c)) (λ n far codes. codes) t there
+
   pub each_goes : IsAccepted c → (t : Turn) → Has t v.turns → TurnGoes c t
   each_goes ok t there =
       turn_goes c ok t (fine_of c t.start t.took (one.sound t (made t there)) (found_codes ok t there))

@@ -3,6 +3,7 @@
 use Rattle.std.proofs.Common.{◌≡◌, ℕ, Bool, true, false, ◌&&◌, List, [], ◌∷◌, ◌++◌, length, Some, None, refl, sym, ap, ◌∙◌, subst, arith, inl, lit≤, lit<, nat_eq, eqb-true, String, Global}
 use Rattle.std.specs.Prelude.{codes, string_bytes}
 use Rattle.std.specs.Fmt.{digits}
+use Rattle.std.proofs.lemmas.Bool.{false≢true}
 use native.Mathlib.Decide.{ℕ_discrete}
 use Rattle.cb_types.specs.declared.answer.Answer.{Answer}
 use Rattle.cb_types.specs.declared.reply.Reply.{Reply}
@@ -71,6 +72,7 @@ record IsLeft (side : Side) (world : WorldState) : Type 0 where
 at_ease : IsAtEase script
 at_ease = record {
   frames = lit≤ tt;
+  wide = λ long. absurd (false≢true long);
   room = lit< tt;
   nodes = lit≤ tt;
   makes = lit≤ tt;

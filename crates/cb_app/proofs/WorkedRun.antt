@@ -82,7 +82,7 @@ module _ (c : Config) (seal : Seal) (closed : IsClosed Did 1 c (sealed_record se
 
   is_run : IsRun (script c (leave ∷ [])) (end (answer (Left 0) ∷ []))
   is_run = ran (script c (leave ∷ [])) (end (answer (Left 0) ∷ [])) (λ is. is, tt)
-      (lit≤ tt) (are_lines c.nodes) refl (tt, tt) (refl, tt) refl closed backs (tt, tt)
+      (lit≤ tt) (are_lines c.nodes) refl (tt, tt) (tt, tt) refl closed backs (tt, tt)
       (tt, (tt, tt)) (λ one. (refl, tt))
       (λ lines all whole among n own same room.
       (λ mine. absurd (on_no_name (nat_eq 2 n) mine), tt))

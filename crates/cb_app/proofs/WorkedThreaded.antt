@@ -1,10 +1,10 @@
 -- Worked examples: what `threads` leaves and puts for a script of two lanes, and for each part what
 -- breaks it.
-use Rattle.std.proofs.Common.{◌≡◌, ℕ, ◌<◌, ◌≤◌, Bool, false, true, List, [], ◌∷◌, length, map, Some, None, refl, sym, ap, ◌∙◌, subst, arith, inl, inr, String, Global, lit≤}
+use Rattle.std.proofs.Common.{◌≡◌, ◌⊎◌, ℕ, ◌<◌, ◌≤◌, Bool, false, true, List, [], ◌∷◌, length, map, Some, None, refl, sym, ap, ◌∙◌, subst, arith, inl, inr, String, Global, lit≤}
 use Rattle.std.specs.Prelude.{nat_eq, codes, string_bytes}
 use Rattle.std.specs.List.{AllByRecursion, range_with_len}
 use Rattle.std.specs.Fmt.{digits}
-use Rattle.std.proofs.lemmas.Bool.{true≢false}
+use Rattle.std.proofs.lemmas.Bool.{false≢true}
 use Rattle.std.proofs.lemmas.List.Sorted.{IsPermutation-refl, length_permutation}
 use Rattle.cb_member.specs.declared.names.Loss.{Loss}
 use Rattle.cb_types.specs.Config.{IsAccepted}
@@ -35,12 +35,14 @@ use Rattle.cb_model.specs.Legal.{Rising}
 use Rattle.cb_model.specs.Now.{MapNow}
 use Rattle.cb_model.specs.declared.object.Object.TheVariants.{Held, Freed}
 use Rattle.cb_rule.specs.Steps.{opener}
+use Rattle.cb_rule.specs.TriesAgain.{is_wide}
 use Rattle.cb_rule.specs.declared.turn.Turn.{Turn}
 use Rattle.cb_rule.specs.declared.view.View.{View}
 use Rattle.cb_record.specs.Backs.{Backs}
 use Rattle.cb_record.specs.Left.{now_left}
-use Rattle.cb_record.specs.Lists.{IsSublist}
+use Rattle.cb_record.specs.Lists.{HasOne, IsSublist}
 use Rattle.cb_record.specs.Lists.IsSublist.{ended, both}
+use Rattle.cb_record.specs.Needs.{IsTurnFor}
 use Rattle.cb_record.specs.Told.{tolds}
 use Rattle.cb_record.specs.Upheld.{as_part}
 use Rattle.cb_shared.specs.Sealing.{sealed, sealed_record, sealed_world}
@@ -60,6 +62,7 @@ use Rattle.cb_app.specs.Threaded.{AreLosses, IsRun, IsThreaded}
 use Rattle.cb_text.specs.Line.{text_of}
 use Rattle.cb_app.specs.declared.ending.Ending.{Ending}
 use Rattle.cb_app.specs.declared.threads.ThreadsEnd.{ThreadsEnd}
+use Rattle.cb_app.proofs.NeverWide.{comes_again}
 use Rattle.cb_app.proofs.Ran.{is_run}
 use Rattle.cb_app.proofs.WorkedLanes.{on_no_name}
 
@@ -166,6 +169,7 @@ wide = record { config = record small { frames = 364 }; lines = lane_line 1 2 (R
 roomy : IsRoomy wide
 roomy = record {
   frames = omega arith;
+  wide = λ long. absurd (false≢true long);
   room = omega arith;
   nodes = omega arith;
   makes = omega arith;
@@ -202,7 +206,7 @@ module _ (t : Turn) (world : WorldState) (seal : Seal) where
       let record_is : sealed_record seal ≡ view_of (evicting t ∷ []) =
       ap (λ (x : Sealed). x.view) there.under in
       is_run script (told_of world seal answers []) spelled.allowed (lit≤ tt) are_lines refl
-      (tt, (tt, tt)) (refl, (refl, tt))
+      (tt, (tt, tt)) (tt, (tt, tt))
       (ap (λ (x : Sealed). x.world) there.under)
       (subst (λ (v : View). IsClosed Did 1 small v world) (sym record_is) there.closed)
       (subst (λ (v : View). Backs (as_part v) (tolds [] answers)) (sym record_is) backs)
@@ -243,9 +247,23 @@ module _ (t : Turn) (world : WorldState) (seal : Seal) where
     happens = refl;
   }
 
-  -- or that too few spans are loose, where there are so many frames that more may come loose
-  told_too_early : IsRun wide (told_of world seal (answer 1 2 (Read a) (replies.NoRoom 364 1 6) ∷ []) []) → ⊥
-  told_too_early is = true≢false is.last.0
+  -- or a make that too few spans are loose, by a turn that gave so many frames that more may come
+  -- loose
+  abbrev crammed : Turn
+  crammed = record t { job = job.Make (1 ∷ []); reply = Some (replies.NoRoom 364 1 6) }
+
+  told_too_early : (s : Script) → t.gave.code.k ≡ 2 → is_wide t.gave (job.Make (1 ∷ [])) ≡ false
+      → sealed_record seal ≡ view_of (crammed ∷ [])
+      → IsRun s (told_of world seal (answer 1 2 (Make a (1 ∷ [])) (replies.NoRoom 364 1 6) ∷ []) [])
+      → ⊥
+  told_too_early s two narrow under is =
+      by (subst (λ (v : View). HasOne (IsTurnFor (Some (job.Make (1 ∷ []))) None
+      (replies.NoRoom 364 1 6)) v.turns) under is.backs.tells.0)
+    where
+      by : IsTurnFor (Some (job.Make (1 ∷ []))) None (replies.NoRoom 364 1 6) crammed ⊎ ⊥ → ⊥
+      by (inl for_it) = false≢true (sym for_it.2 ∙ comes_again t.gave (job.Make (1 ∷ [])) 364 1
+          (omega (arith, two)) (omega (arith, two)) (inl narrow))
+      by (inr none) = none
 
   -- the seal is that of another world
   another_world : sealed_world seal ≡ world → (other : WorldState) → world.far.first ≡ 1
@@ -306,6 +324,7 @@ module _ (t : Turn) (world : WorldState) (seal : Seal) where
   roomy_own : IsRoomy wide_own
   roomy_own = record {
     frames = omega arith;
+    wide = λ long. absurd (false≢true long);
     room = omega arith;
     nodes = omega arith;
     makes = omega arith;

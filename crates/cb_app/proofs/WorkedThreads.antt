@@ -223,7 +223,7 @@ module _ (s : Shared) (p : Pass) (of : IsPassOf s p) (fresh : IsFreshRecord (rec
     of = of;
     lines_are = refl;
     replies = (tt, tt);
-    last = (refl, tt);
+    last = (tt, tt);
     backs = left_backed;
     suits = (tt, tt);
     rises = (tt, (tt, tt));

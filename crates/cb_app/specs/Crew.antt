@@ -155,7 +155,7 @@ pub record IsLaneTold (s : Shared) (given : List Answer) (lines : List Line) (e 
     pub of : IsPassOf s e.pass
     pub lines_are : map asked e.answers ≡ lines
     pub replies : AllByRecursion HasLineReply e.answers
-    pub last : AllByRecursion (HasLastTry s.config) e.answers
+    pub last : AllByRecursion HasLastTry e.answers
     pub backs : Backs (as_part (record_of e.pass)) (tolds given e.answers)
     pub suits : AreSuited (record_of e.pass).seen (tolds given e.answers)
     pub rises : NeverFall given e.answers

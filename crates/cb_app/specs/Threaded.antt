@@ -39,14 +39,14 @@ pub record IsRun (script : Script) (end : ThreadsEnd) : Type 0 where
   -- each of them is one that its line may have
   pub replies : AllByRecursion HasLineReply end.answers
   -- and is that of the last try of the line's calls: none but to a filter line tells that the
-  -- object is being moved, and none that too few spans were loose where there are so many frames
-  -- that more may come loose
-  pub last : AllByRecursion (HasLastTry script.config) end.answers
+  -- object is being moved
+  pub last : AllByRecursion HasLastTry end.answers
   -- the seal is that of the world and of a record that closed such a runtime, so the world is sound
   -- and holds the last entry of each object, and all turns are one history
   pub seal : sealed_world end.seal ≡ end.world
   pub closed : IsClosed Did 1 script.config (sealed_record end.seal) end.world
-  -- the answers are those of calls that stand in the record
+  -- the answers are those of calls that stand in the record; and none tells that too few spans were
+  -- loose where there were so many frames that more might come loose
   pub backs : Backs (as_part (sealed_record end.seal)) (tolds [] end.answers)
   -- and what they say beside the record is so: of the handles that there are, of lengths, of names
   pub upheld : AllByRecursion (Upholds 1 script.config.handles (calls_of end.answers)

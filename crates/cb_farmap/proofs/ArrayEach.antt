@@ -28,6 +28,7 @@ use Rattle.cb_farmap.proofs.ArrayCommands.{AfterArray, KeepsMap, KeepsOther, arr
 use Rattle.cb_farmap.proofs.Behind.{on_same}
 use Rattle.cb_farmap.proofs.Commanding.{AreNow, ends_so}
 use Rattle.cb_farmap.proofs.Commanding.SaidBy.{well}
+use Rattle.cb_farmap.proofs.Numbers.{long_new}
 use Rattle.cb_farmap.proofs.PlanAdds.{IsPlanFor}
 use Rattle.cb_farmap.proofs.Standing.{get_has, has_wrote}
 
@@ -139,7 +140,7 @@ module _ (c : Config) (n : ℕ) (s : Plain) (v w : View) (a b : FarArray) (m : F
       → IsPlanFor v (n + 2) s (Push x) (if full then make_plan x else set_plan a.kept a.len x)
   push_suits x true is = record {
     short = refl;
-    of = (tt, tt);
+    of = (long_new x, tt);
     makes = sym (ap {B = ℕ} (λ b. if b then 1 else 0) (needs_is x ∙ is));
     calls = λ no. absurd (true≢false no);
   }

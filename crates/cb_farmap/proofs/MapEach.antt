@@ -35,6 +35,7 @@ use Rattle.cb_farmap.proofs.BucketList.{all_own}
 use Rattle.cb_farmap.proofs.MapCommands.{AfterMap, all_changed, all_flat_set, kept_more, map_said}
 use Rattle.cb_farmap.proofs.MapEnds.{bucket_of, value_got}
 use Rattle.cb_farmap.proofs.Places.{first_at}
+use Rattle.cb_farmap.proofs.PairNumbers.{long_object}
 use Rattle.cb_farmap.proofs.PlanAdds.{IsOfRecord, IsPlanFor, IsShort, all_done, makes_in}
 use Rattle.cb_farmap.proofs.Standing.{all_from, all_has, get_has, get_map, has_wrote, map_set, object_low}
 
@@ -212,7 +213,7 @@ module _ (n : ℕ) (s : Plain) (v : View) (a : FarArray) (m : FarMap) (st : Stan
             ((if full then AskMake (object_bytes (key, x)) else write_at b.kept b.count (key, x)) ∷ [])
         by true full = record {
           short = refl;
-          of = (tt, tt);
+          of = (long_object (key, x), tt);
           makes = sym (ap {B = ℕ} (λ b. if b then 1 else 0) (needs ∙ full));
           calls = λ no. absurd (true≢false no);
         }

@@ -1,11 +1,12 @@
 -- The numbers of an object of which some are written.
-use Rattle.std.proofs.Common.{◌≡◌, ◌⊎◌, ℕ, zero, suc, ◌+◌, ◌-◌, ◌*◌, ◌^◌, ◌<◌, ◌≤◌, List, ◌++◌, length, get_or, slice_set, take, drop, refl, sym, ap, subst, ◌∙◌, [], arith, inl, inr}
+use Rattle.std.proofs.Common.{◌≡◌, ◌⊎◌, ℕ, zero, suc, ◌+◌, ◌-◌, ◌*◌, ◌^◌, ◌<◌, ◌≤◌, List, ◌++◌, length, get_or, slice_set, take, drop, replicate, refl, sym, ap, subst, ◌∙◌, [], arith, inl, inr}
 use Rattle.std.proofs.lemmas.Bool.{cases_lt}
-use Rattle.std.proofs.lemmas.List.{ext_get_or, get_or_append_left, get_or-append-add, get_or-append_right, get_or-drop, get_or-take, length-append, length-take-le, append-nil, length-set, get_or-set_same, get_or-set_other}
+use Rattle.std.proofs.lemmas.List.{ext_get_or, get_or_append_left, get_or-append-add, get_or-append_right, get_or-drop, get_or-take, length-append, length-replicate, length-take-le, append-nil, length-set, get_or-set_same, get_or-set_other}
 use Rattle.std.proofs.lemmas.List.FromFn.{get_or-map-range_with_len, length-map-range_with_len}
 use Rattle.byteorder.specs.Endian.{little_bytes, little_from}
 use Rattle.byteorder.specs.Numbers.{little_number-reads_back, length-bytes_low_first}
 use Rattle.cb_model.specs.Now.{overwritten}
+use Rattle.cb_farmap.specs.Arrays.{bytes_with}
 use Rattle.cb_farmap.specs.Numbers.{number_at, numbers}
 
 module _ (old new : List ℕ) (at : ℕ) (within : at + length new ≤ length old) where
@@ -73,6 +74,13 @@ module _ (old new : List ℕ) (i m : ℕ) (long : length new ≡ 8 * m)
 -- ---- a number's bytes
 pub little_long : (x : ℕ) → length (little_bytes 8 x) ≡ 8
 little_long x = length-bytes_low_first 0 8 x
+
+-- and those of a new object that has it
+pub long_new : (x : ℕ) → length (bytes_with x) ≡ 1024
+long_new x =
+    let both = length-append (little_bytes 8 x) (replicate 1016 0) in
+    let number = little_long x in
+    let zeros = length-replicate {A = ℕ} 1016 0 in omega (arith, both, number, zeros)
 
 pub number_front : (x : ℕ) (rest : List ℕ) → x < 2 ^ 64
     → number_at (little_bytes 8 x ++ rest) 0 ≡ x

@@ -1,7 +1,7 @@
 -- Pairs of an object of which one is written, and that of a new object.
 use Rattle.std.proofs.Common.{◌≡◌, ◌⊎◌, ℕ, ◌+◌, ◌*◌, ◌^◌, ◌<◌, ◌≤◌, List, length, get_or, slice_set, replicate, sym, ap, subst, ◌∙◌, [], arith, inl, inr}
 use Rattle.std.proofs.lemmas.Bool.{cases_lt}
-use Rattle.std.proofs.lemmas.List.{append-nil, ext_get_or, get_or_append_left, get_or-append-add, get_or-set_other, get_or-set_same, length-append, length-set}
+use Rattle.std.proofs.lemmas.List.{append-nil, ext_get_or, get_or_append_left, get_or-append-add, get_or-set_other, get_or-set_same, length-append, length-replicate, length-set}
 use Rattle.std.proofs.lemmas.List.FromFn.{get_or-map-range_with_len, length-map-range_with_len}
 use Rattle.byteorder.specs.Endian.{little_bytes, little_from}
 use Rattle.byteorder.specs.Numbers.{little_number-reads_back, length-bytes_low_first}
@@ -15,6 +15,13 @@ use Rattle.cb_farmap.proofs.Numbers.{alike, among_them, before_them, behind_them
 pub long_pair : (p : Pair) → length (pair_bytes p) ≡ 16
 long_pair p = length-append (little_bytes 8 p.0) (little_bytes 8 p.1)
     ∙ (λ i. length-bytes_low_first 0 8 p.0 i + length-bytes_low_first 0 8 p.1 i)
+
+-- and those of a new object that has it
+pub long_object : (p : Pair) → length (object_bytes p) ≡ 1024
+long_object p =
+    let both = length-append (pair_bytes p) (replicate 1008 0) in
+    let pair = long_pair p in
+    let zeros = length-replicate {A = ℕ} 1008 0 in omega (arith, both, pair, zeros)
 
 reads_back : (x : ℕ) → x < 2 ^ 64 → little_from 0 8 (little_bytes 8 x) ≡ x
 reads_back x small = ap (little_from 0 8) (sym (append-nil (little_bytes 8 x)))

@@ -70,11 +70,12 @@ entries_few (AskWrite k at bytes) r = omega arith
 entries_few (AskMake bytes) (answer.Made handle n) = omega arith
 entries_few (AskMake bytes) r = omega arith
 
--- a call on an object that the record wrote, whose next version is at most this one
+-- a call on an object that the record wrote, whose next version is at most this one, or a make of
+-- one of 1,024 bytes
 abbrev pub IsOfRecord : View → ℕ → Ask → Type 0
 IsOfRecord v most (AskRead k) = HasWritten v k.handle.n
 IsOfRecord v most (AskWrite k at bytes) = HasWritten v k.handle.n × (k.version + 1 ≤ most)
-IsOfRecord v most (AskMake bytes) = Unit {0}
+IsOfRecord v most (AskMake bytes) = length bytes ≡ 1024
 
 -- the job is that of a call of the plan
 abbrev IsOfPlan : List Ask → Job → Type 0
@@ -139,7 +140,7 @@ of_later most v u entries grew plan each =
     later : (ask : Ask) → IsOfRecord v most ask → IsOfRecord u most ask
     later (AskRead k) x = wrote k.handle.n x
     later (AskWrite k at bytes) (x, le) = (wrote k.handle.n x, le)
-    later (AskMake bytes) x = tt
+    later (AskMake bytes) x = x
 
 entry_in : (ask : Ask) (plan : List Ask) (v : View) (e : Entry) → IsEntryOf ask v e
     → IsEntryIn (ask ∷ plan) v e
@@ -372,7 +373,7 @@ asked_job : (w : View) (most : ℕ) (ask : Ask) (j : Job) → IsOfRecord w most 
     → IsMake j ⊎ IsOnObject w j
 asked_job w most (AskRead k) j of asked = inr (fetch_job w k.handle.n j of asked)
 asked_job w most (AskWrite k at bytes) j of asked = inr (subst (IsOnObject w) (sym asked) of.0)
-asked_job w most (AskMake bytes) j of asked = inl (subst IsMake (sym asked) tt)
+asked_job w most (AskMake bytes) j of asked = inl (subst IsMake (sym asked) of)
 
 pub some_make : (plan : List Ask) (bytes : List ℕ) → Has (AskMake bytes) plan → 1 ≤ makes_in plan
 some_make [] bytes there = absurd there
@@ -602,7 +603,8 @@ module _ (c : Config) (first most : ℕ) (low : first ≤ most) (s : Plain) (tal
         by : (ask : Ask) → Has ask plan → IsAskedBy ask t.turn.job
             → (IsMake t.turn.job × (needs_object s a ≡ true)) ⊎ IsOnObject w t.turn.job
         by (AskMake bytes) there asked = inl (
-          subst IsMake (sym asked) tt,
+          subst IsMake (sym asked)
+              (each_there (IsOfRecord w most) (AskMake bytes) plan (of_now 0 z) there),
           one_needs (needs_object s a)
               (let some = some_make plan bytes there in let k = suits.makes in omega (arith, some, k)),
         )

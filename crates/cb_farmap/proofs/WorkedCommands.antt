@@ -1,7 +1,7 @@
 -- Worked examples of commands on an array and a map: what meets each definition, and what breaks one
 -- part alone.
 use Rattle.std.proofs.Common.{◌≡◌, ◌⊎◌, ℕ, suc, ◌+◌, ◌≤◌, Bool, true, false, List, [], ◌∷◌, ◌++◌, length, replicate, get_or, Option, None, Some, Ok, Err, refl, sym, ap, ◌∙◌, subst, inl, inr, arith}
-use Rattle.std.proofs.lemmas.List.{append-nil, length-append}
+use Rattle.std.proofs.lemmas.List.{append-nil, length-append, length-replicate}
 use Rattle.cb_types.specs.declared.config.Config.{Config}
 use Rattle.cb_types.specs.declared.job.Job.{Job}
 use Rattle.cb_types.specs.declared.job.Job.TheVariants as jobs
@@ -41,8 +41,16 @@ abbrev wrote : View
 wrote = record (opener two) { written = early ∷ [] }
 
 -- ---- jobs
-made : IsMake (jobs.Make [])
-made = tt
+blank : List ℕ
+blank = replicate 1024 0
+
+made : IsMake (jobs.Make blank)
+unfolding blank
+made = length-replicate {A = ℕ} 1024 0
+
+-- an object of other bytes
+short_made : IsMake (jobs.Make []) → ⊥
+short_made is = let z : 0 ≡ 1024 = is in omega (arith, z)
 
 none_made : IsMake (jobs.Swap (record { n = 5 })) → ⊥
 none_made is = is
@@ -65,7 +73,7 @@ not_a_make on = on
 
 -- ---- objects that turns made
 abbrev making : Turn → Reply → Turn
-making t r = record t { job = jobs.Make []; reply = Some r }
+making t r = record t { job = jobs.Make blank; reply = Some r }
 
 abbrev one : Reply
 one = answer.Made (record { n = 6 }) 1
@@ -97,7 +105,7 @@ told_full t = record {
   before = [];
   newest = refl;
   reply_is = refl;
-  job_is = inl (tt, refl);
+  job_is = inl (made, refl);
   answers = inl tt;
   lacks = λ x. x;
 }
@@ -113,12 +121,12 @@ makes_needless t r x = by x.job_is
   where
     by : (IsMake x.turn.job × (false ≡ true)) ⊎ IsOnObject v x.turn.job → ⊥
     by (inl z) = let e = z.1 in cc
-    by (inr z) = off (jobs.Make []) (subst (IsOnObject v) (sym same) z)
+    by (inr z) = off (jobs.Make blank) (subst (IsOnObject v) (sym same) z)
       where
-        same : jobs.Make [] ≡ x.turn.job
+        same : jobs.Make blank ≡ x.turn.job
         same = let e = x.newest in let h : making t r ≡ x.turn = cc in ap (λ (t : Turn). t.job) h
 
-        off : (j : Job) → IsOnObject v (jobs.Make []) → ⊥
+        off : (j : Job) → IsOnObject v (jobs.Make blank) → ⊥
         off j on = on
 
 -- the one turn that there is
@@ -142,7 +150,7 @@ no_answer : (t : Turn)
 no_answer t x = by (tries_again x.turn) (subst (λ (j : Job). IsAnswerTo (tries_again x.turn) j answer.Moving)
     (sym (ap (λ (t : Turn). t.job) (the_turn t answer.Moving answer.Moving x))) x.answers)
   where
-    by : (again : Bool) → IsAnswerTo again (jobs.Make []) answer.Moving → ⊥
+    by : (again : Bool) → IsAnswerTo again (jobs.Make blank) answer.Moving → ⊥
     by again (inl z) = z
     by again (inr z) = z
 

@@ -25,9 +25,9 @@ use Rattle.cb_farmap.specs.declared.kept.Cannot.TheVariants as cannot
 
 -- ---- the turns of a record
 
--- a job that makes an object
+-- a job that makes an object of 1,024 bytes
 abbrev pub IsMake : Job → Type 0
-IsMake (jobs.Make bytes) = Unit {0}
+IsMake (jobs.Make bytes) = length bytes ≡ 1024
 IsMake other = ⊥
 
 -- the record wrote the object
