@@ -161,7 +161,7 @@ module _ (c : Config) (ok : IsAccepted c) (v : View) (w : WorldState) (closed : 
       (before : HasOneHistory c 1 old ⊎ (old.turns ≡ []))
       (had : made_by_all old.turns ≡ objects s) (has : made_by_all u.turns ≡ objects s)
       (turns_in : (t : Turn) → Has t u.turns → Has t v.turns) (wrote_all : WroteAll u v)
-      (told : IsToldByTurn c s a r u more) where
+      (told : IsToldByTurn s a r u more) where
     abbrev t : Turn
     t = told.turn
 

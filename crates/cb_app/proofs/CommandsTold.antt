@@ -136,7 +136,7 @@ module _ (c : Config) (ok : IsAccepted c) (last : View) (w : WorldState)
       plain now q is = (is, left_to_make c s a u tallied goes.history now)
 
       by : (q : FarAnswer) → made_by_all u.turns ≡ objects (after_said s a q)
-          → IsSaid c s a q u goes.more → IsTold c last w s a q
+          → IsSaid s a q u goes.more → IsTold c last w s a q
       by (Refused r) now x = (
         x.0,
         refused_so c ok last w closed few jobs_are s a r v u goes.more

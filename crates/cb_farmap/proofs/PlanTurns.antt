@@ -318,7 +318,7 @@ read_adds c k r v w (d, x, is) = adds_in_all c (AskRead k) r v w x.before x.last
     (read_written c k.handle.n r v w (d, x, is)) (omega arith) tt tt (omega arith) (same_of v w d is)
     (vain_jobs (AtThis k.handle.n) (IsUnfetched k.handle.n) (λ t. IsFetch k.handle.n t.job)
     (λ t (j, fetch, (same, un)). subst (IsFetch k.handle.n) (sym same) fetch) x.before x.in_vain)
-    (vain_made (AtThis k.handle.n) (IsUnfetched k.handle.n) (vain_fetch c k.handle.n) x.before
+    (vain_made (AtThis k.handle.n) (IsUnfetched k.handle.n) (vain_fetch k.handle.n) x.before
     x.in_vain)
     (read_ends c k r v (grown x.before v) x.last x.ends_so)
 
