@@ -20,7 +20,7 @@ use cb_world::{Desk, Far, place_object};
 /// How many bytes a word has.
 const WORD_BYTES: usize = 8;
 
-/// Makes an object of these bytes, 1 to 1,024, in local memory: its handle is the count of handles
+/// Makes an object of these bytes, 1 to 4,096, in local memory: its handle is the count of handles
 /// made before, and its version the far state's first. It goes into the least empty slot of the
 /// least frame that holds a hot span of its class with one and is not leaving, else into a new span
 /// in the least run of free frames that it fits. Its word is not hot. Takes the memory of a new
