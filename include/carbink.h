@@ -27,7 +27,7 @@ extern "C" {
 #endif
 
 /* The version that this header is of: 1,000,000 times the first number, 1,000 times the second, and the third. */
-#define CARBINK_VERSION 1000u
+#define CARBINK_VERSION 2000u
 
 /* How a call ends. */
 #define CARBINK_DONE 0u          /* The call did its work. */

@@ -4,7 +4,7 @@ ghost use Rattle.std.specs.Prelude.{◌≡◌};
 /// third.
 #[unsafe(no_mangle)]
 pub extern "C" fn carbink_version() -> u32
-    ensures { result ≡ 1000 }
+    ensures { result ≡ 2000 }
 {
-    1_000
+    2_000
 }
