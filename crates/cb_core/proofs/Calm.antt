@@ -200,13 +200,15 @@ made_crammed r h version a b = cc
 make_stops : {most : ℕ} (bytes : List ℕ) (a m : Holding Words) → MakesWithin most (Make bytes)
     → StillMake bytes a answer.NoFrame m → (m ≡ a) × IsShort most a.far
 make_stops bytes a m within (inl (full, reply, words, far)) = absurd (full_crammed _ _ refl reply)
-make_stops bytes a m within (inr (more, inl (none, reply, words, far))) =
-    (same_holding a m words far, record {
-      class = none.0;
-      in_table = none.1.in_table;
-      few = within none.0 none.1;
-      full = none.2.taken;
-    })
+make_stops bytes a m within (inr (more, inl (none, reply, words, far))) = (
+  same_holding a m words far,
+  record {
+    class = none.0;
+    in_table = none.1.in_table;
+    few = within none.0 none.1;
+    full = none.2.taken;
+  },
+)
 make_stops bytes a m within (inr (more, inr (reply, new))) = absurd (made_crammed _ _ _ refl reply)
 
 make_at : (bytes : List ℕ) (a b : Holding Words) (r : Reply) → (r ≡ answer.NoFrame → ⊥)
@@ -260,13 +262,15 @@ swap_stops h a m s known easy (home, at, step, hold) =
     let same = same_set step.set lies.0 (sym step.there ∙ lies.1) in
     let short = subst (λ (pages : ℕ). least_run a.far.frames pages ≡ None)
     (ap (λ (z : SetState). z.pages) same ∙ object.paged) none in
-    let paged = object.paged in let most_pages = easy.sets home.set lies.0 lies.1 in
-    (same_holding a m step.change.0 step.change.1, record {
-      class = object.class;
-      in_table = object.fits.in_table;
-      few = omega (arith, paged, most_pages);
-      full = short;
-    })
+    let paged = object.paged in let most_pages = easy.sets home.set lies.0 lies.1 in (
+      same_holding a m step.change.0 step.change.1,
+      record {
+        class = object.class;
+        in_table = object.fits.in_table;
+        few = omega (arith, paged, most_pages);
+        full = short;
+      },
+    )
 
 has_room : {most : ℕ} (E : Holding Words → Type 0) → KeepsEasy most E → (h room left : ℕ) (a b : Holding Words)
     (r : Reply) (frames loose nodes : ℕ) (s : Shown) → IsKnown a.desk a.far s → E a

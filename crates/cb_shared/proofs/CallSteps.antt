@@ -348,8 +348,11 @@ pub turn_ends : (c : Config) (job : Job) (r : Reply) (again : Bool) (v w : View)
     → TurnBy c job (Ok r) v w → TurnTries c job (Some r) v w
 turn_ends c job r again v w told ends (d, x, is) = (
   d,
-  (subst (λ (b : Bool). IsAnswerTo b job r) (told ∙ record_again c job (Ok r) v w d x is
-      ∙ sym (part_again c job (Ok r) v d x)) ends, x),
+  (
+    subst (λ (b : Bool). IsAnswerTo b job r) (told ∙ record_again c job (Ok r) v w d x is
+        ∙ sym (part_again c job (Ok r) v d x)) ends,
+    x,
+  ),
   is,
 )
 

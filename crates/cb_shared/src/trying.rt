@@ -42,7 +42,9 @@ pub(crate) fn is_to_try_again(
     ensures { result ≡ is_to_try_again far.now job.now (answer_of reply.now) }
 {
     match reply {
-        Ok(Reply::NoRoom { frames, loose, .. }) => may_come_loose(config, far, job, *frames, *loose),
+        Ok(Reply::NoRoom { frames, loose, .. }) => may_come_loose(
+            config, far, job, *frames, *loose,
+        ),
         _ => false,
     }
 }
