@@ -1,0 +1,73 @@
+-- The row that the weights of a position make is that of the one code word which agrees.
+use Rattle.std.proofs.Common.{◌≡◌, ℕ, ◌<◌, ◌≤◌, List, [], ◌∷◌, length, map, slice_index, take, sym, ap, subst, ext_get_or, ◌∙◌, arith}
+use Rattle.std.specs.List.{range_with_len}
+use Rattle.std.proofs.lemmas.List.{get_or-map, get_or-take, length-map, length-take-le}
+use Rattle.std.proofs.lemmas.List.FromFn.{get_or-map-range_with_len, length-range_with_len}
+use Rattle.cb_gf256.specs.Combination.{combination, AreCombinations}
+use Rattle.cb_gf256.specs.Rows.{row_at, rows_at, AreRows, HaveLength, HoldBytes}
+use Rattle.cb_gf256.proofs.PublicLaws.{all_rows, sums_are_bytes}
+use Rattle.cb_erase.specs.Weights.{AreWeights, IsSolution}
+use Rattle.cb_types.specs.declared.order.DecodeOrder.{DecodeOrder}
+use Rattle.cb_orders.specs.Done.{IsDecoded}
+use Rattle.cb_orders.specs.Orders.{IsDecodable}
+
+-- the sums of the rows that a table makes
+abbrev sums_of : List (List ℕ) → List (List ℕ) → List (List ℕ)
+sums_of table rows = map (λ factors. map (combination factors rows) (range_with_len 0 (length (row_at rows 0)))) table
+
+sums_made : (table rows : List (List ℕ)) → AreCombinations table rows (sums_of table rows)
+sums_made table rows =
+    let len = length (row_at rows 0) in
+    let row : List ℕ → List ℕ = λ factors. map (combination factors rows) (range_with_len 0 len) in
+    record {
+      count = length-map table row;
+      equal_lengths = λ j d h.
+          let within : j < length table = omega (arith, h, length-map table row) in
+          ap length (get_or-map row table j [] d within)
+          ∙ length-map (range_with_len 0 len) (combination (row_at table j) rows) ∙ length-range_with_len 0 len;
+      values = λ j column h l.
+          ap (λ (x : List ℕ). slice_index x column) (get_or-map row table j [] [] h) ∙ get_or-map-range_with_len (combination (row_at table j) rows) 0 len column column 0 l (omega arith);
+    }
+
+-- the row was made of the order's rows by the weights of its position
+abbrev pub IsMadeBy : List (List ℕ) → DecodeOrder → List ℕ → Type 0
+IsMadeBy table o row = AreCombinations (row_at table o.position ∷ []) o.rows (row ∷ [])
+
+pub row_decoded : (o : DecodeOrder) (table : List (List ℕ)) (row : List ℕ) → IsDecodable o → AreWeights o.k o.r o.present table → IsMadeBy table o row → IsDecoded o row
+row_decoded o table row h weights made word bytes solution =
+    let p = o.position in
+    let len = length (row_at o.rows 0) in
+    let restored : AreCombinations table o.rows word =
+    subst (λ shown. AreCombinations table shown word) solution.agrees (weights.restore word solution.is_word bytes) in
+    let in_table : p < length table = omega (arith, h.wanted, weights.positions) in
+    let long : length row ≡ len = made.equal_lengths 0 [] (omega arith) in
+    ext_get_or 0 row (row_at word p)
+    (long ∙ sym (restored.equal_lengths p [] (omega (arith, in_table, restored.count))))
+    (λ column l.
+    let within : column < len = omega (arith, l, long) in
+    made.values 0 column (omega arith) within ∙ sym (restored.values p column in_table within))
+
+-- there is such a word, so no other row is decoded
+pub only_decoded : (o : DecodeOrder) (table : List (List ℕ)) (row other : List ℕ) → IsDecodable o → AreRows o.rows → AreWeights o.k o.r o.present table → IsMadeBy table o row → IsDecoded o other → other ≡ row
+only_decoded o table row other h rows weights made decoded =
+    let word = sums_of table o.rows in
+    let sums = sums_made table o.rows in
+    let wide : HaveLength (length o.rows) table = subst (λ n. HaveLength n table) (sym h.count) weights.factors in
+    let bytes : HoldBytes word = sums_are_bytes table o.rows word weights.bytes wide rows sums in
+    let solution : IsSolution o.k o.r o.present o.rows word = weights.solve o.rows word h.count rows sums in
+    decoded word bytes solution ∙ sym (row_decoded o table row h weights made word bytes solution)
+
+-- the first row of a table is so made where it is the sum of all the order's rows by those factors
+pub made_by : (o : DecodeOrder) (table factors rows made : List (List ℕ)) (sources : List ℕ) → factors ≡ row_at table o.position ∷ [] → rows ≡ o.rows → length sources ≡ length o.rows
+    → ((i : ℕ) → i < length o.rows → slice_index sources i ≡ i) → AreCombinations factors (rows_at rows sources) (rows_at made (0 ∷ [])) → IsMadeBy table o (row_at made 0)
+made_by o table factors rows made sources are same count at sums =
+    subst (λ f. AreCombinations f o.rows (row_at made 0 ∷ [])) are
+    (subst (λ shown. AreCombinations factors shown (row_at made 0 ∷ [])) (ap (λ x. rows_at x sources) same ∙ all_rows o.rows sources count at) sums)
+
+-- a row of factors that a longer one begins with
+pub front_is : (k : ℕ) (longer row : List ℕ) → k ≤ length longer → length row ≡ k → ((i : ℕ) → i < k → slice_index longer i ≡ slice_index row i) → take k longer ≡ row
+front_is k longer row inside count same =
+    let long = length-take-le k longer inside in
+    ext_get_or 0 (take k longer) row (long ∙ sym count) (λ i l.
+    let within : i < k = omega (arith, l, long) in
+    get_or-take k longer i 0 within ∙ same i within)

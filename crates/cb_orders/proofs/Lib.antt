@@ -1,0 +1,3 @@
+pub mod DecodedRow
+pub mod WorkedOrders
+pub mod WorkedDone
