@@ -1,3 +1,3 @@
-pub mod DecodedRow
-pub mod WorkedOrders
-pub mod WorkedDone
+mod DecodedRow
+mod WorkedOrders
+mod WorkedDone

@@ -68,7 +68,13 @@ decodable = record {
 
 -- a row that is at hand can be asked for too
 pub one_at_hand : IsDecodable (decode_order 3 2 2 (1 ∷ 3 ∷ []) (row 0x00 ∷ row 0xC9 ∷ []))
-one_at_hand = record decodable { wanted = omega arith }
+one_at_hand = record {
+  range = two_by_two;
+  positions = one_and_three;
+  wanted = omega arith;
+  count = refl;
+  lengths = one_long 0x00 0xC9;
+}
 
 no_code_of_five_parities : IsDecodable (decode_order 0 2 5 (1 ∷ 3 ∷ []) (row 0x00 ∷ row 0xC9 ∷ [])) → ⊥
 no_code_of_five_parities x = let l = x.range.parities_most in omega (arith, l)

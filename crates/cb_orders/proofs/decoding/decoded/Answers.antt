@@ -1,4 +1,4 @@
-use Rattle.std.proofs.Common.{◌≡◌, ℕ, List, sym, subst, ◌∙◌, arith}
+use Rattle.std.proofs.Common.{ℕ, List, sym, subst, ◌∙◌, arith}
 use Rattle.cb_gf256.specs.Rows.{row_at}
 use Rattle.cb_erase.specs.Weights.{AreWeights}
 use Rattle.cb_orders.proofs.DecodedRow.{IsMadeBy, made_by, only_decoded, row_decoded}
