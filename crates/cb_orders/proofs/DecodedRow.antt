@@ -5,10 +5,10 @@ use Rattle.std.proofs.lemmas.List.{get_or-map, get_or-take, length-map, length-t
 use Rattle.std.proofs.lemmas.List.FromFn.{get_or-map-range_with_len, length-range_with_len}
 use Rattle.cb_gf256.specs.Combination.{combination, AreCombinations}
 use Rattle.cb_gf256.specs.Rows.{row_at, rows_at, AreRows, HaveLength, HoldBytes}
-use Rattle.cb_gf256.proofs.PublicLaws.{all_rows, sums_are_bytes}
+use Rattle.cb_gf256.proofs.PublicLaws.{agreeing_words_are_equal, all_rows, at_default, row_at_positions, sums_are_bytes}
 use Rattle.cb_erase.specs.Weights.{AreWeights, IsSolution}
 use Rattle.cb_types.specs.declared.order.DecodeOrder.{DecodeOrder}
-use Rattle.cb_orders.specs.Done.{IsDecoded}
+use Rattle.cb_orders.specs.Done.{IsDecoded, IsOfWord}
 use Rattle.cb_orders.specs.Orders.{IsDecodable}
 
 -- the sums of the rows that a table makes
@@ -33,29 +33,37 @@ sums_made table rows =
 abbrev pub IsMadeBy : List (List ℕ) → DecodeOrder → List ℕ → Type 0
 IsMadeBy table o row = AreCombinations (row_at table o.position ∷ []) o.rows (row ∷ [])
 
-pub row_decoded : (o : DecodeOrder) (table : List (List ℕ)) (row : List ℕ) → IsDecodable o → AreWeights o.k o.r o.present table → IsMadeBy table o row → IsDecoded o row
-row_decoded o table row h weights made word bytes solution =
+-- it is that of the word that all the weights make
+pub made_of_word : (o : DecodeOrder) (table : List (List ℕ)) (row : List ℕ) → IsDecodable o → AreRows o.rows → AreWeights o.k o.r o.present table → IsMadeBy table o row → IsOfWord o row
+made_of_word o table row h rows weights made =
     let p = o.position in
-    let len = length (row_at o.rows 0) in
-    let restored : AreCombinations table o.rows word =
-    subst (λ shown. AreCombinations table shown word) solution.agrees (weights.restore word solution.is_word bytes) in
-    let in_table : p < length table = omega (arith, h.wanted, weights.positions) in
-    let long : length row ≡ len = made.equal_lengths 0 [] (omega arith) in
-    ext_get_or 0 row (row_at word p)
-    (long ∙ sym (restored.equal_lengths p [] (omega (arith, in_table, restored.count))))
-    (λ column l.
-    let within : column < len = omega (arith, l, long) in
-    made.values 0 column (omega arith) within ∙ sym (restored.values p column in_table within))
-
--- there is such a word, so no other row is decoded
-pub only_decoded : (o : DecodeOrder) (table : List (List ℕ)) (row other : List ℕ) → IsDecodable o → AreRows o.rows → AreWeights o.k o.r o.present table → IsMadeBy table o row → IsDecoded o other → other ≡ row
-only_decoded o table row other h rows weights made decoded =
     let word = sums_of table o.rows in
     let sums = sums_made table o.rows in
     let wide : HaveLength (length o.rows) table = subst (λ n. HaveLength n table) (sym h.count) weights.factors in
     let bytes : HoldBytes word = sums_are_bytes table o.rows word weights.bytes wide rows sums in
     let solution : IsSolution o.k o.r o.present o.rows word = weights.solve o.rows word h.count rows sums in
-    decoded word bytes solution ∙ sym (row_decoded o table row h weights made word bytes solution)
+    let in_table : p < length table = omega (arith, h.wanted, weights.positions) in
+    let long : length row ≡ length (row_at o.rows 0) = made.equal_lengths 0 [] (omega arith) in
+    let same : row ≡ row_at word p =
+    ext_get_or 0 row (row_at word p)
+    (long ∙ sym (sums.equal_lengths p [] (omega (arith, in_table, sums.count))))
+    (λ column l.
+    let within : column < length (row_at o.rows 0) = omega (arith, l, long) in
+    made.values 0 column (omega arith) within ∙ sym (sums.values p column in_table within)) in
+    (word, bytes, solution, same)
+
+-- there is only one such word
+one_word : (o : DecodeOrder) (a b : List (List ℕ)) → IsDecodable o → HoldBytes a → HoldBytes b → IsSolution o.k o.r o.present o.rows a → IsSolution o.k o.r o.present o.rows b → a ≡ b
+one_word o a b h bytes_a bytes_b in_a in_b =
+    agreeing_words_are_equal o.k o.r a b o.present
+    (omega (arith, h.range.data_most, h.range.parities_most)) (omega (arith, h.range.data_least)) h.positions in_a.is_word bytes_a in_b.is_word bytes_b
+    (λ i d l.
+    subst (λ p. row_at a p ≡ row_at b p) (at_default o.present i 0 d l)
+    (sym (row_at_positions a o.present i l) ∙ ap (λ rows. row_at rows i) (in_a.agrees ∙ sym in_b.agrees) ∙ row_at_positions b o.present i l))
+
+pub word_decoded : (o : DecodeOrder) (row : List ℕ) → IsDecodable o → IsOfWord o row → IsDecoded o row
+word_decoded o row h (word, bytes, solution, same) other other_bytes other_solution =
+    same ∙ ap (λ rows. row_at rows o.position) (one_word o word other h bytes other_bytes solution other_solution)
 
 -- the first row of a table is so made where it is the sum of all the order's rows by those factors
 pub made_by : (o : DecodeOrder) (table factors rows made : List (List ℕ)) (sources : List ℕ) → factors ≡ row_at table o.position ∷ [] → rows ≡ o.rows → length sources ≡ length o.rows

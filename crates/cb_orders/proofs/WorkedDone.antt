@@ -1,15 +1,15 @@
 -- The rows of done orders at worked values, of the word 01, 00, C8, C9: what meets each definition, and for each part what breaks it alone.
-use Rattle.std.proofs.Common.{◌≡◌, ℕ, zero, suc, ◌^◌, ◌<◌, List, [], ◌∷◌, length, get_or, All, refl, sym, ap, arith}
+use Rattle.std.proofs.Common.{◌≡◌, ℕ, zero, suc, ◌^◌, ◌<◌, List, [], ◌∷◌, length, get_or, refl, ap, arith}
 use Rattle.cb_gf256.specs.CodeWord.{IsCodeWord, syndrome}
 use Rattle.cb_gf256.specs.Power.{power}
 use Rattle.cb_gf256.specs.Product.{◌⊗◌}
 use Rattle.cb_gf256.specs.Rows.{row_at, HaveLength, HoldBytes}
-use Rattle.cb_gf256.proofs.PublicLaws.{agreeing_words_are_equal}
 use Rattle.cb_erase.specs.Weights.{IsSolution}
 use Rattle.cb_types.specs.declared.order.DecodeOrder.{DecodeOrder}
 use Rattle.cb_types.specs.declared.order.EncodeOrder.{EncodeOrder}
-use Rattle.cb_orders.specs.Done.{IsDecoded, IsEncoded}
-use Rattle.cb_orders.proofs.WorkedOrders.{decode_order, encode_order, one_and_three, row}
+use Rattle.cb_orders.specs.Done.{IsDecoded, IsEncoded, IsOfWord}
+use Rattle.cb_orders.proofs.DecodedRow.{word_decoded}
+use Rattle.cb_orders.proofs.WorkedOrders.{decodable, decode_order, encode_order, row}
 
 abbrev the_word : List (List ℕ)
 the_word = row 0x01 ∷ row 0x00 ∷ row 0xC8 ∷ row 0xC9 ∷ []
@@ -77,18 +77,11 @@ of_bytes = λ i d h c z k. word_bytes i d h c z k
 solution : IsSolution 2 2 (1 ∷ 3 ∷ []) (row 0x00 ∷ row 0xC9 ∷ []) the_word
 solution = record { is_word = is_word; agrees = refl }
 
--- it is the only such word
-only_word : (word : List (List ℕ)) → HoldBytes word → IsSolution 2 2 (1 ∷ 3 ∷ []) (row 0x00 ∷ row 0xC9 ∷ []) word → the_word ≡ word
-only_word word bytes s =
-    agreeing_words_are_equal 2 2 the_word word (1 ∷ 3 ∷ []) (omega arith) (omega arith) one_and_three is_word of_bytes s.is_word bytes alike
-  where
-    alike : All (λ p. row_at the_word p ≡ row_at word p) (1 ∷ 3 ∷ [])
-    alike zero d l = sym (ap (λ rows. row_at rows 0) s.agrees)
-    alike (suc zero) d l = sym (ap (λ rows. row_at rows 1) s.agrees)
-    alike (suc (suc i)) d l = absurd (omega (arith, l))
+pub of_word : IsOfWord to_decode (row 0x01)
+of_word = (the_word, of_bytes, solution, refl)
 
 pub decoded : IsDecoded to_decode (row 0x01)
-decoded word bytes s = ap (λ rows. row_at rows 0) (only_word word bytes s)
+decoded = word_decoded to_decode (row 0x01) decodable of_word
 
 -- no other row is decoded: none of another position, no longer and no shorter one
 only_row : (made : List ℕ) → IsDecoded to_decode made → made ≡ row 0x01
@@ -104,5 +97,14 @@ no_empty_row : IsDecoded to_decode [] → ⊥
 no_empty_row x = let e : 0 ≡ 1 = ap length (only_row [] x) in omega (arith, e)
 
 -- the third row of the same rows is another
-pub third_decoded : IsDecoded (decode_order 2 2 2 (1 ∷ 3 ∷ []) (row 0x00 ∷ row 0xC9 ∷ [])) (row 0xC8)
-third_decoded word bytes s = ap (λ rows. row_at rows 2) (only_word word bytes s)
+abbrev third : DecodeOrder
+third = decode_order 2 2 2 (1 ∷ 3 ∷ []) (row 0x00 ∷ row 0xC9 ∷ [])
+
+pub third_decoded : IsDecoded third (row 0xC8)
+third_decoded = word_decoded third (row 0xC8) (record {
+  range = decodable.range;
+  positions = decodable.positions;
+  wanted = omega arith;
+  count = decodable.count;
+  lengths = decodable.lengths;
+}) (the_word, of_bytes, solution, refl)

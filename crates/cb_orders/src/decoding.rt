@@ -1,7 +1,7 @@
 ghost use Rattle.std.specs.Prelude.{◌≡◌, ℕ, ◌<◌, ◌≤◌, List, [], ◌∷◌, length, slice_index};
 ghost use Rattle.std.specs.Prelude.{IfErr, IfOk};
 ghost use Rattle.cb_gf256.specs.Rows.{row_at, HaveLength};
-ghost use Rattle.cb_orders.specs.Done.{IsDecoded};
+ghost use Rattle.cb_orders.specs.Done.{IsDecoded, IsOfWord};
 ghost use Rattle.cb_orders.specs.Orders.{IsDecodable};
 
 use crate::done::DecodeDone;
@@ -41,9 +41,7 @@ fn first_positions(n: usize) -> &'static [u8]
 fn decoded(alloc: Global, order: &DecodeOrder) -> Result<Rows, NoMemory>
     requires { IsDecodable order.now }
     ensures count { IfOk result (λ made. length made ≡ 1) }
-    ensures done { IfOk result (λ made. IsDecoded order.now (row_at made 0)) }
-    ensures only { IfOk result (λ made. (other : List ℕ) → IsDecoded order.now other
-        → other ≡ row_at made 0) }
+    ensures word { IfOk result (λ made. IsOfWord order.now (row_at made 0)) }
 {
     let table = weights(order.k, order.r, order.present.as_slice());
     let factors = factors_at(&table, order.position, order.k);
@@ -60,6 +58,7 @@ pub fn run_decode(alloc: Global, order: DecodeOrder) -> Result<DecodeDone, Decod
     requires { IsDecodable order }
     ensures order { IfOk result (λ done. done.order ≡ order) }
     ensures done { IfOk result (λ done. IsDecoded order done.row) }
+    ensures word { IfOk result (λ done. IsOfWord order done.row) }
     ensures only { IfOk result (λ done. (other : List ℕ) → IsDecoded order other
         → other ≡ done.row) }
     ensures back { IfErr result (λ kept. kept ≡ order) }
