@@ -3,7 +3,7 @@ use Rattle.std.proofs.Common.{◌≡◌, ℕ, zero, suc, ◌^◌, ◌<◌, List,
 use Rattle.cb_gf256.specs.CodeWord.{IsCodeWord, syndrome}
 use Rattle.cb_gf256.specs.Power.{power}
 use Rattle.cb_gf256.specs.Product.{◌⊗◌}
-use Rattle.cb_gf256.specs.Rows.{row_at, HaveLength, HoldBytes}
+use Rattle.cb_gf256.specs.Rows.{HaveLength, HoldBytes}
 use Rattle.cb_erase.specs.Weights.{IsSolution}
 use Rattle.cb_types.specs.declared.order.DecodeOrder.{DecodeOrder}
 use Rattle.cb_types.specs.declared.order.EncodeOrder.{EncodeOrder}
