@@ -1,4 +1,5 @@
--- The rows of done orders at worked values, of the word 01, 00, C8, C9: what meets each definition, and for each part what breaks it alone.
+-- The rows of done orders at worked values, of the word 01, 00, C8, C9: what meets each definition,
+-- and for each part what breaks it alone.
 use Rattle.std.proofs.Common.{◌≡◌, ℕ, zero, suc, ◌^◌, ◌<◌, List, [], ◌∷◌, length, get_or, refl, ap, arith}
 use Rattle.cb_gf256.specs.CodeWord.{IsCodeWord, syndrome}
 use Rattle.cb_gf256.specs.Power.{power}
@@ -9,7 +10,7 @@ use Rattle.cb_types.specs.declared.order.DecodeOrder.{DecodeOrder}
 use Rattle.cb_types.specs.declared.order.EncodeOrder.{EncodeOrder}
 use Rattle.cb_orders.specs.Done.{IsDecoded, IsEncoded, IsOfWord}
 use Rattle.cb_orders.proofs.DecodedRow.{word_decoded}
-use Rattle.cb_orders.proofs.WorkedOrders.{decodable, decode_order, encode_order, row}
+use Rattle.cb_orders.proofs.WorkedOrders.{decodable, decode_order, encode_order, row, shown}
 
 abbrev the_word : List (List ℕ)
 the_word = row 0x01 ∷ row 0x00 ∷ row 0xC8 ∷ row 0xC9 ∷ []
@@ -49,7 +50,9 @@ unfolding ◌⊗◌ power
 zero_is_wrong = refl
 
 no_parity_of_zeros : IsEncoded to_encode (row 0xC8 ∷ row 0x00 ∷ []) → ⊥
-no_parity_of_zeros x = absurd (omega (arith, x.syndromes_zero 0 0 (omega arith) (omega arith), zero_is_wrong))
+no_parity_of_zeros x =
+    let e = x.syndromes_zero 0 0 (omega arith) (omega arith) in
+    absurd (omega (arith, e, zero_is_wrong))
 
 -- the sum of all is 0, but not that by the powers of 2
 swapped_is_wrong : syndrome 1 (row 0x01 ∷ row 0x00 ∷ row 0xC9 ∷ row 0xC8 ∷ []) 0 ≡ 0x0C
@@ -57,13 +60,16 @@ unfolding ◌⊗◌ power
 swapped_is_wrong = refl
 
 no_swapped_parities : IsEncoded to_encode (row 0xC9 ∷ row 0xC8 ∷ []) → ⊥
-no_swapped_parities x = absurd (omega (arith, x.syndromes_zero 1 0 (omega arith) (omega arith), swapped_is_wrong))
+no_swapped_parities x =
+    let e = x.syndromes_zero 1 0 (omega arith) (omega arith) in
+    absurd (omega (arith, e, swapped_is_wrong))
 
 -- ---- a row: the first one, of the second and the fourth
 abbrev to_decode : DecodeOrder
-to_decode = decode_order 0 2 2 (1 ∷ 3 ∷ []) (row 0x00 ∷ row 0xC9 ∷ [])
+to_decode = decode_order 0 2 2 (1 ∷ 3 ∷ []) shown
 
-word_bytes : (i : ℕ) (d : List ℕ) → i < 4 → (c z : ℕ) → c < length (get_or the_word i d) → get_or (get_or the_word i d) c z < 2 ^ 8
+word_bytes : (i : ℕ) (d : List ℕ) → i < 4 → (c z : ℕ) → c < length (get_or the_word i d)
+    → get_or (get_or the_word i d) c z < 2 ^ 8
 word_bytes zero d h zero z k = omega arith
 word_bytes (suc zero) d h zero z k = omega arith
 word_bytes (suc (suc zero)) d h zero z k = omega arith
@@ -74,7 +80,7 @@ word_bytes (suc (suc (suc (suc i)))) d h c z k = absurd (omega arith)
 of_bytes : HoldBytes the_word
 of_bytes = λ i d h c z k. word_bytes i d h c z k
 
-solution : IsSolution 2 2 (1 ∷ 3 ∷ []) (row 0x00 ∷ row 0xC9 ∷ []) the_word
+solution : IsSolution 2 2 (1 ∷ 3 ∷ []) shown the_word
 solution = record { is_word = is_word; agrees = refl }
 
 pub of_word : IsOfWord to_decode (row 0x01)
@@ -88,7 +94,8 @@ only_row : (made : List ℕ) → IsDecoded to_decode made → made ≡ row 0x01
 only_row made x = x the_word of_bytes solution
 
 no_row_of_another_position : IsDecoded to_decode (row 0xC8) → ⊥
-no_row_of_another_position x = let e = ap (λ (made : List ℕ). get_or made 0 0) (only_row (row 0xC8) x) in omega (arith, e)
+no_row_of_another_position x =
+    let e = ap (λ (made : List ℕ). get_or made 0 0) (only_row (row 0xC8) x) in omega (arith, e)
 
 no_longer_row : IsDecoded to_decode (0x01 ∷ 0x00 ∷ []) → ⊥
 no_longer_row x = let e : 2 ≡ 1 = ap length (only_row (0x01 ∷ 0x00 ∷ []) x) in omega (arith, e)
@@ -98,7 +105,7 @@ no_empty_row x = let e : 0 ≡ 1 = ap length (only_row [] x) in omega (arith, e)
 
 -- the third row of the same rows is another
 abbrev third : DecodeOrder
-third = decode_order 2 2 2 (1 ∷ 3 ∷ []) (row 0x00 ∷ row 0xC9 ∷ [])
+third = decode_order 2 2 2 (1 ∷ 3 ∷ []) shown
 
 pub third_decoded : IsDecoded third (row 0xC8)
 third_decoded = word_decoded third (row 0xC8) (record {

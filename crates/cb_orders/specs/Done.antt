@@ -10,7 +10,8 @@ use Rattle.cb_types.specs.declared.order.EncodeOrder.{EncodeOrder}
 abbrev pub IsEncoded : EncodeOrder → List (List ℕ) → Type 0
 IsEncoded o parities = IsCodeWord o.k o.r (o.rows ++ parities)
 
--- the row is that at the wanted position of any code word of bytes which agrees with the order's rows
+-- the row is that at the wanted position of any code word of bytes which agrees with the order's
+-- rows
 abbrev pub IsDecoded : DecodeOrder → List ℕ → Type 0
 IsDecoded o row = (word : List (List ℕ)) → HoldBytes word
     → IsSolution o.k o.r o.present o.rows word → row ≡ row_at word o.position
