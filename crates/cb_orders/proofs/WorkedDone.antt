@@ -37,7 +37,11 @@ abbrev to_encode : EncodeOrder
 to_encode = encode_order 2 2 (row 0x01 ∷ row 0x00 ∷ [])
 
 pub encoded : IsEncoded to_encode (row 0xC8 ∷ row 0xC9 ∷ [])
-encoded = is_word
+encoded = record {
+  count = refl;
+  equal_lengths = one_long;
+  syndromes_zero = λ j column p q. no_syndrome j column (omega (arith, p)) q;
+}
 
 no_parity_missing : IsEncoded to_encode (row 0xC8 ∷ []) → ⊥
 no_parity_missing x = let e : 3 ≡ 4 = x.count in omega (arith, e)

@@ -93,7 +93,7 @@ impl DecodeDone {
         &self.order
     }
 
-    /// The row at the order's position, as long as its rows.
+    /// The row at the order's position.
     pub fn row(&self) -> &[u8]
         ensures row { result.now ≡ self.now.row }
         ensures done { IsDecoded self.now.order result.now }
