@@ -12,7 +12,7 @@ use std::process::Abort;
 
 /// Rows of 64 bytes each, all the same: a pair of blocks, and no rest.
 #[tactic(auto, using(cb_gf256::proofs::PublicLaws::written_rows))]
-fn column_of(alloc: Global, bytes: &[u8]) -> Result<Rows, NoMemory>
+pub(crate) fn column_of(alloc: Global, bytes: &[u8]) -> Result<Rows, NoMemory>
     requires { length bytes.now < 2 ^ 32 }
     ensures count { IfOk result (λ rows. length rows ≡ length bytes.now) }
     ensures lengths { IfOk result (λ rows. HaveLength 64 rows) }
@@ -24,7 +24,7 @@ fn column_of(alloc: Global, bytes: &[u8]) -> Result<Rows, NoMemory>
     Ok(rows)
 }
 
-fn expect_range(rt: &impl Abort, k: u32, r: u32)
+pub(crate) fn expect_range(rt: &impl Abort, k: u32, r: u32)
     ensures { IsInRange k r }
 {
     assert!(rt; 1 <= k);
@@ -33,7 +33,7 @@ fn expect_range(rt: &impl Abort, k: u32, r: u32)
     assert!(rt; r <= 4);
 }
 
-fn expect_positions(rt: &impl Abort, n: u32, k: u32, positions: &[u8])
+pub(crate) fn expect_positions(rt: &impl Abort, n: u32, k: u32, positions: &[u8])
     ensures { ArePositions n k positions.now }
 {
     assert!(rt; positions.len() == k as usize);
@@ -44,7 +44,7 @@ fn expect_positions(rt: &impl Abort, n: u32, k: u32, positions: &[u8])
 }
 
 /// Whether the rows are these bytes, each 64 times.
-fn are_rows_of(rows: &Rows, bytes: &[u8]) -> bool {
+pub(crate) fn are_rows_of(rows: &Rows, bytes: &[u8]) -> bool {
     if rows.count() as usize != bytes.len() {
         return false;
     }

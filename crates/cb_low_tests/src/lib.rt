@@ -12,6 +12,8 @@ mod maps;
 #[cfg(test)]
 mod nodes;
 #[cfg(test)]
+mod orders;
+#[cfg(test)]
 mod scripts;
 #[cfg(test)]
 mod streams;

@@ -1,0 +1,3 @@
+mod DecodedRow
+mod WorkedOrders
+mod WorkedDone
