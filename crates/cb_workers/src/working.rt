@@ -1,5 +1,5 @@
 //! How a worker makes its turns.
-ghost use Rattle.std.specs.Prelude.{◌≡◌, IfOk, OnErr, IsOk};
+ghost use Rattle.std.specs.Prelude.{◌≡◌, IfOk, OnErr, IsOk, is_some};
 ghost use Rattle.cb_shared.specs.Passes.{IsPassOf};
 ghost use Rattle.cb_shared.specs.Turning.{answer_of};
 ghost use Rattle.cb_workers.specs.Bodies.{
@@ -15,7 +15,7 @@ ghost use Rattle.cb_workers.specs.Bodies.{
   WorkerWorks,
   one_deed,
 };
-ghost use Rattle.cb_workers.specs.Rules.{first_job};
+ghost use Rattle.cb_workers.specs.Rules.{end_of, first_job};
 
 use crate::turns::end_of;
 use crate::worker::Worker;
@@ -102,6 +102,7 @@ fn end_work<R: Wait>(rt: &R, alloc: Global, shared: &Shared, pass: &mut Pass, du
     requires of { IsPassOf shared.now pass.old }
     ensures of { IsPassOf shared.now pass.new }
     ensures ends { EndsBegun due.now pass.old.seat.me.0 pass.new.seat.me.0 }
+    ensures told { result ≡ is_some (end_of due.now) }
 {
     if let Some(job) = end_of(due) {
         let _reply = one_turn(rt, alloc, shared, pass, &job);
