@@ -85,8 +85,13 @@ impl FarArray {
         if let Some(stop) = self.stop {
             return Err(Cannot::from(stop));
         }
-        let number = number_kept(rt, alloc, shared, pass, &self.kept, i);
-        noted(&mut self.stop, number)
+        match number_kept(rt, alloc, shared, pass, &self.kept, i) {
+            Ok(x) => Ok(x),
+            Err(cannot) => {
+                self.stop = cannot.stop();
+                Err(cannot)
+            }
+        }
     }
 
     /// Puts a number in the place of the one with this index, by one write into its object, which is
