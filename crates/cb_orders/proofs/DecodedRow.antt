@@ -9,7 +9,7 @@ use Rattle.cb_gf256.proofs.PublicLaws.{agreeing_words_are_equal, all_rows, at_de
 use Rattle.cb_erase.specs.Weights.{AreWeights, IsSolution}
 use Rattle.cb_types.specs.declared.order.DecodeOrder.{DecodeOrder}
 use Rattle.cb_orders.specs.Done.{IsDecoded, IsOfWord}
-use Rattle.cb_orders.specs.Orders.{IsDecodable}
+use Rattle.cb_types.specs.Orders.{IsDecodable}
 
 -- the sum of the rows, each times its factor
 abbrev sum_of : List (List ℕ) → List ℕ → List ℕ

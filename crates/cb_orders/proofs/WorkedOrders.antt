@@ -5,7 +5,7 @@ use Rattle.cb_gf256.specs.InRange.{IsInRange}
 use Rattle.cb_gf256.specs.Positions.{ArePositions}
 use Rattle.cb_types.specs.declared.order.DecodeOrder.{DecodeOrder}
 use Rattle.cb_types.specs.declared.order.EncodeOrder.{EncodeOrder}
-use Rattle.cb_orders.specs.Orders.{IsDecodable, IsEncodable}
+use Rattle.cb_types.specs.Orders.{IsDecodable, IsEncodable}
 
 abbrev pub encode_order : ℕ → ℕ → List (List ℕ) → EncodeOrder
 encode_order k r rows = record { set = 7; k = k; r = r; rows = rows }

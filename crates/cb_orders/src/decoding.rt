@@ -2,7 +2,7 @@ ghost use Rattle.std.specs.Prelude.{◌≡◌, ℕ, ◌<◌, ◌≤◌, List, []
 ghost use Rattle.std.specs.Prelude.{IfErr, IfOk};
 ghost use Rattle.cb_gf256.specs.Rows.{row_at, HaveLength};
 ghost use Rattle.cb_orders.specs.Done.{IsDecoded, IsOfWord};
-ghost use Rattle.cb_orders.specs.Orders.{IsDecodable};
+ghost use Rattle.cb_types.specs.Orders.{IsDecodable};
 
 use crate::done::DecodeDone;
 use cb_erase::{Weights, weights};

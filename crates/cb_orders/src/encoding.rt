@@ -1,7 +1,7 @@
 ghost use Rattle.std.specs.Prelude.{◌≡◌, ℕ, List, IfErr, IfOk};
 ghost use Rattle.cb_gf256.specs.Rows.{HoldBytes};
 ghost use Rattle.cb_orders.specs.Done.{IsEncoded};
-ghost use Rattle.cb_orders.specs.Orders.{IsEncodable};
+ghost use Rattle.cb_types.specs.Orders.{IsEncodable};
 
 use crate::done::EncodeDone;
 use cb_code::{coefficients, encode};

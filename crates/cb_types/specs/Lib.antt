@@ -6,3 +6,4 @@ pub mod Memory
 pub mod Requests
 pub mod Table
 pub mod Jobs
+pub mod Orders

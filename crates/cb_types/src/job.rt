@@ -64,13 +64,25 @@ pub enum Job {
     Join {
         node: NodeId,
     },
+
+    // What an order is handed out for, or taken from the seat.
+    /// A batch of spans begins to leave, without parities; the order is to make them.
+    Gather,
+    /// The leaving batch has the parities that were made by the seat's order.
+    Install,
+    /// Rows of the set of a far object whose own row is lost; the order is to make that row.
+    Fetch {
+        handle: Handle,
+    },
+    /// The span whose row was made by the seat's order comes back into local memory.
+    Land,
 }
 
 impl Job {
-    /// The number of the job's kind, below 19.
+    /// The number of the job's kind, below 23.
     pub fn index(&self) -> usize
         ensures index { result ≡ job_index self.now }
-        ensures below { result < 19 }
+        ensures below { result < 23 }
     {
         match self {
             Job::Make { .. } => 0,
@@ -92,6 +104,10 @@ impl Job {
             Job::Rebuild => 16,
             Job::Crash { .. } => 17,
             Job::Join { .. } => 18,
+            Job::Gather => 19,
+            Job::Install => 20,
+            Job::Fetch { .. } => 21,
+            Job::Land => 22,
         }
     }
 }

@@ -207,4 +207,13 @@ pub enum Reply {
     },
     /// The seat does not hold the far lock.
     NotHeld,
+    /// The seat keeps no order of the kind.
+    NoOrder,
+    /// The row of the object's position is not lost: it can be brought in as it is.
+    Direct,
+    /// Rows of this set were given out, of which the row at this position is to be made.
+    Fetched {
+        set: SetId,
+        position: u32,
+    },
 }

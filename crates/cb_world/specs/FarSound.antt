@@ -95,17 +95,21 @@ pub record AreShardRows (far : FarState) : Type 0 where
   pub current : (o : Owner) (a : Shard) → IsShardOf far o a → (a.node.n < length far.members.nodes)
       × (a.incarnation ≤ incarnation far.members a.node)
 
+-- the rows of the spans in some frames, of so many pages each, as they stand in memory
+abbrev pub rows_in : Shown → ℕ → List ℕ → List (List ℕ)
+rows_in s pages frames = map (λ f. row_of (window s.memory (512 * f) (512 * pages))) frames
+
 -- the rows of the spans of a batch as they stand in memory, and its parities
 abbrev pub batch_rows : Shown → LeavingState → List (List ℕ)
-batch_rows s batch =
-    map (λ f. row_of (window s.memory (512 * f) (512 * batch.pages))) batch.frames
-    ++ batch.parities
+batch_rows s batch = rows_in s batch.pages batch.frames ++ batch.parities
 
--- the batch that is leaving: its rows are a word, those that were put and are not lost stand at
--- their nodes, on different nodes
+-- the batch that is leaving: once its parities are made its rows are a word, and until then no
+-- parity was put; those that were put and are not lost stand at their nodes, on different nodes
 pub record IsBatch (s : Shown) (far : FarState) (batch : LeavingState) : Type 0 where
-  pub word : IsSpanWord batch.pages (length batch.frames) (length batch.parities)
-      (batch_rows s batch)
+  pub word : batch.made ≡ true → IsSpanWord batch.pages (length batch.frames)
+      (length batch.parities) (batch_rows s batch)
+  pub bare : batch.made ≡ false → (p : ℕ) (shard : Shard)
+      → slice_get batch.shards p ≡ Some (Some shard) → p < length batch.frames
   pub count : length batch.shards ≡ length batch.frames + length batch.parities
   pub put : (p : ℕ) (shard : Shard) → slice_get batch.shards p ≡ Some (Some shard)
       → is_lost far.members shard ≡ false

@@ -29,3 +29,11 @@ with_rows_given nodes n = record nodes { given = nodes.given + n }
 -- how many rows are given out for the row of a position: its own, or one at each of k others
 abbrev pub rows_needed : Membership → SetState → ℕ → ℕ
 rows_needed m set position = if lost_at m set.shards position then length set.positions else 1
+
+-- row i of a table is the one that stands under the shard of position present[i]
+pub record AreGiven (nodes : NodesState) (shards : List Shard) (present : List ℕ)
+    (rows : List (List ℕ)) : Type 0 where
+  pub count : length rows ≡ length present
+  pub given : (i : ℕ) → i < length present → (shard : Shard)
+      × (slice_get shards (slice_index present i) ≡ Some shard)
+      × (row_under nodes shard.node shard.key ≡ Some (row_at rows i))

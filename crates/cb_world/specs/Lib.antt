@@ -55,6 +55,7 @@ pub mod Reads
 pub mod Released
 pub mod OpenWrites
 pub mod OpenSteps
+pub mod Orders
 pub mod World
 pub mod StillWords
 pub mod Placed

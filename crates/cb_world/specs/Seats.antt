@@ -56,9 +56,17 @@ Holds seats seat = (seat_at seats seat).holds ≡ true
 abbrev pub AtMostOneHolds : List SeatState → Type 0
 AtMostOneHolds seats = (a b : ℕ) → Holds seats a → Holds seats b → a ≡ b
 
--- no seat keeps an order: no job makes one
+-- no seat keeps an order
 abbrev pub KeepNoOrder : List SeatState → Type 0
 KeepNoOrder seats = (seat : ℕ) → (seat_at seats seat).order ≡ None
+
+-- the order that a seat keeps, if it keeps one
+abbrev pub order_of : List SeatState → ℕ → Option Kept
+order_of seats seat = (seat_at seats seat).order
+
+-- the seats, where one keeps this order, or none
+abbrev pub with_order : List SeatState → ℕ → Option Kept → List SeatState
+with_order seats seat order = slice_set seats seat (record (seat_at seats seat) { order = order })
 
 -- the seat has this open write at this place
 abbrev pub IsClaimAt : List SeatState → ℕ → ℕ → OpenWriteState → Type 0

@@ -3,7 +3,7 @@ ghost use Rattle.std.specs.List.{remove};
 ghost use Rattle.cb_world.specs.declared.seats.Pin.{Pin};
 ghost use Rattle.cb_world.specs.OpenWrites.{stores_left, touched};
 ghost use Rattle.cb_world.specs.OpenSteps.{IsClaimOn, NoClaimOn, NoneHolds, stored_once};
-ghost use Rattle.cb_world.specs.Seats.{SeatState, OpenWriteState, Holds, IsNewestOf, NoneOn, claims_of_seat, idle_seat, pins_of_seat, seat_at, with_claims, with_holds, with_pins};
+ghost use Rattle.cb_world.specs.Seats.{SeatState, OpenWriteState, Holds, IsNewestOf, NoneOn, claims_of_seat, idle_seat, pins_of_seat, seat_at, order_of, with_claims, with_holds, with_order, with_pins};
 
 use arrayvec::ArrayVec;
 use cb_member::NoMemory;
@@ -274,6 +274,23 @@ impl Seats {
     {
         self.seats[seat as usize].holds = false;
         self.marked = any_holds(self.seats.as_slice());
+    }
+
+    /// Takes the order that a seat keeps out of it, if it keeps one.
+    pub fn take_order(&mut self, seat: u32) -> Option<Kept>
+        requires { seat < length self.old }
+        ensures order { result ≡ order_of self.old seat }
+        ensures taken { self.new ≡ with_order self.old seat None }
+    {
+        self.seats[seat as usize].order.take()
+    }
+
+    /// Lets a seat keep this order, or none, in place of the one that it keeps.
+    pub fn keep_order(&mut self, seat: u32, order: Option<Kept>)
+        requires { seat < length self.old }
+        ensures { self.new ≡ with_order self.old seat order }
+    {
+        self.seats[seat as usize].order = order;
     }
 }
 
