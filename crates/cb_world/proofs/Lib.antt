@@ -42,6 +42,8 @@ pub mod Stepping
 pub mod Patching
 pub mod Committed
 pub mod JoinNow
+pub mod OrdersLeft
+pub mod WordsLeft
 pub mod Beginning
 pub mod Counting
 pub mod Surveying
