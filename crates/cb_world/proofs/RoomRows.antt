@@ -25,3 +25,13 @@ pub all_copied : (from into : List (List ℕ)) (n : ℕ) → length into ≡ len
     → ((i : ℕ) → i < n → row_at into i ≡ row_at from i) → into ≡ from
 all_copied from into n count all same =
     ext_get_or [] into from count (λ i l. same i (omega (arith, l, count, all)))
+
+-- as many rows are shown as there are
+pub shown_count : (made : Bool) (rows : List (List ℕ)) → length (shown_rows made rows) ≡ length rows
+shown_count true rows = refl
+shown_count false rows = length-map (λ (row : List ℕ). []) rows
+
+-- and once they are made, the rows themselves
+pub shown_made : (made : Bool) (rows : List (List ℕ)) → made ≡ true → shown_rows made rows ≡ rows
+shown_made true rows is = refl
+shown_made false rows is = absurd (false-true is)
