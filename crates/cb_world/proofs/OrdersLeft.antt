@@ -15,8 +15,8 @@ use Rattle.cb_world.specs.Orders.{IsDecodeKept, IsEncodeKept, LeavesOrders, Leav
 use Rattle.cb_world.specs.Sound.{Sound}
 use Rattle.cb_world.proofs.Surviving.{one_word}
 
-same_rows : {s : Shown} {p q : ℕ} {f g : List ℕ} → p ≡ q → f ≡ g → rows_in s p f ≡ rows_in s q g
-same_rows {s = s} e h = λ i. rows_in s (e i) (h i)
+same_rows : (s : Shown) {p q : ℕ} {f g : List ℕ} → p ≡ q → f ≡ g → rows_in s p f ≡ rows_in s q g
+same_rows s e h = λ i. rows_in s (e i) (h i)
 
 module _ (s t : Shown) (far new : FarState) (before : Sound s far) (after : Sound t new)
     (leaves : LeavesWords far new) where
@@ -57,7 +57,7 @@ module _ (s t : Shown) (far new : FarState) (before : Sound s far) (after : Soun
     rows = λ b at same. let d = k.drawn in
         let below : b.set < far.counts.sets = omega (arith, same, d) in
         let old = leaves.batch b at below in
-        k.rows old.0 old.1 (old.2 ∙ same) ∙ same_rows old.3 old.4
+        k.rows old.0 old.1 (old.2 ∙ same) ∙ same_rows s old.3 old.4
         ∙ sym (rows b at below);
   }
 

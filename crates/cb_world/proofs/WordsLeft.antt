@@ -282,5 +282,3 @@ merged_keeps_sets s far new pair a b c id sound x = record {
         → set_in new.sets q ≡ Some other → q ≢ n
     not_there q n other gone at e =
         let z : None ≡ Some other = sym gone ∙ ap (set_in new.sets) (sym e) ∙ at in absurd (cc)
-diff --git a/crates/cb_rule/proofs/WorkedLast.antt b/crates/cb_rule/proofs/WorkedLast.antt
-index b13ce4ac..e6d05101 100644
