@@ -93,6 +93,7 @@ mod WorkedGroups
 mod WorkedWorld
 mod WorkedFar
 mod WorkedReserved
+mod WorkedOrders
 mod WorkedOpen
 mod WorkedOpenWrites
 mod WorkedSeatWrites
