@@ -65,3 +65,15 @@ module _ (s t : Shown) (far new : FarState) (before : Sound s far) (after : Soun
       → rows_in t b.pages b.frames ≡ rows_in s b.pages b.frames) → LeavesOrders s far t new
   orders_left rows (Encode o) k = encode_left rows o k
   orders_left rows (Decode o) k = decode_left o k
+
+-- where the far state stays, an order stays kept as long as the words of the frames that are leaving
+-- stay: of orders to make a lost row local memory says nothing
+pub orders_stay : (s t : Shown) (far : FarState) → ((b : LeavingState) → far.leaving ≡ Some b
+    → rows_in t b.pages b.frames ≡ rows_in s b.pages b.frames) → LeavesOrders s far t far
+orders_stay s t far rows (Encode o) k = record {
+  fits = k.fits;
+  drawn = k.drawn;
+  code = k.code;
+  rows = λ b at same. k.rows b at same ∙ sym (rows b at);
+}
+orders_stay s t far rows (Decode o) k = k

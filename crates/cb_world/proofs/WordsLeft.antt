@@ -28,6 +28,40 @@ use Rattle.cb_world.specs.SetWord.{AreCurrent, IsSpanWord, IsWordOf, is_broken}
 use Rattle.cb_world.proofs.RowPut.{HasRowPut, row_put_words}
 use Rattle.cb_world.proofs.Words.{crash_keeps_word, crash_survivor, lost_grow, word_kept}
 
+-- a change leaves the words that it leaves and that the next one leaves
+pub words_left_twice : {far mid new : FarState} → LeavesWords far mid → LeavesWords mid new
+    → LeavesWords far new
+words_left_twice {far = far} x y = record {
+  drawn = let a = x.drawn in let b = y.drawn in omega (arith, a, b);
+  sets = λ id set there below apart. let a = x.drawn in
+      let w = y.sets id set there (omega (arith, below, a)) (λ b at e.
+      let old = x.batch b at (omega (arith, e, below)) in apart old.0 old.1 (old.2 ∙ e)) in
+      let v = x.sets id w.was w.there below apart in record {
+        was = v.was;
+        there = v.there;
+        code = (v.code.0 ∙ w.code.0, v.code.1 ∙ w.code.1);
+        whole = λ whole. v.whole (w.whole whole);
+        words = λ word is. w.words word (v.words word is);
+      };
+  batch = λ b at below. let a = x.drawn in let m = y.batch b at (omega (arith, below, a)) in
+      let o = x.batch m.0 m.1 (omega (arith, m.2, below)) in
+      (o.0, o.1, o.2 ∙ m.2, o.3 ∙ m.3, o.4 ∙ m.4, o.5 ∙ m.5);
+}
+
+-- nothing changes
+pub words_stay : (far : FarState) → LeavesWords far far
+words_stay far = record {
+  drawn = omega arith;
+  sets = λ id set there below apart. record {
+    was = set;
+    there = there;
+    code = (refl, refl);
+    whole = λ whole. whole;
+    words = λ word is. is;
+  };
+  batch = λ b at below. (b, at, refl, refl, refl, refl);
+}
+
 -- ---- a crash
 still_whole : (m : Membership) (node : NodeId) (set : SetState) → IsMembership m
     → node.n < length m.nodes → alive m node ≡ true → AreCurrent m set.shards
