@@ -1,10 +1,11 @@
 -- What parts back adds up: one part and a later one back the answers of both.
-use Rattle.std.proofs.Common.{◌≡◌, ◌+◌, List, [], ◌∷◌, ◌++◌, map, sym, ap, ◌∙◌, append_assoc, subst, inl, inr, Some, arith}
+use Rattle.std.proofs.Common.{◌≡◌, ◌+◌, List, [], ◌∷◌, ◌++◌, map, sym, refl, ap, ◌∙◌, append_assoc, subst, inl, inr, Option, Some, arith}
 use Rattle.std.specs.List.{flat_map}
 use Rattle.std.proofs.lemmas.List.{append-nil, map-append}
 use Rattle.std.proofs.lemmas.List.Concat.{flat_map-append}
 use Rattle.std.proofs.lemmas.List.Sums.{sum_by-append}
 use Rattle.cb_types.specs.declared.answer.Answer.{Answer}
+use Rattle.cb_types.specs.declared.order.Kept.{Kept}
 use Rattle.cb_types.specs.declared.reply.Reply.TheVariants as answer
 use Rattle.cb_world.specs.declared.entry.Entry.{Entry}
 use Rattle.cb_rule.specs.declared.turn.Turn.{Turn}
@@ -14,7 +15,7 @@ use Rattle.cb_record.specs.Deeds.{Deed, deed, happened}
 use Rattle.cb_record.specs.Lists.{IsSublist, newest_first}
 use Rattle.cb_record.specs.Needs.{FindsEmpty, FindsPast, FindsPins, IsFreedAs, IsLastOf, IsOwnTurn, IsPinnedAs, IsReadAs, IsTurnFor, Meets, Need, peek_at}
 use Rattle.cb_record.specs.Needs.Need.{Nothing, ARead, APin, APeek, AFreed, APinned, AnEnd, AWorn, ATurn}
-use Rattle.cb_record.specs.Parts.{Part, grown, nothing_more, sum}
+use Rattle.cb_record.specs.Parts.{Part, grown, keeps_after, nothing_more, sum}
 use Rattle.cb_record.specs.Told.{Told, told, tolds}
 use Rattle.cb_record.proofs.Listing.{all_append, all_map, among_append, among_none, has_left, has_one_left, has_one_right, has_right, newest_append}
 
@@ -167,6 +168,11 @@ sum-sum c d e = λ i. record {
   turns = sym (append_assoc e.turns d.turns c.turns) i;
 }
 
+keeps_append : (es ds : List Turn) (o : Option Kept)
+    → keeps_after (es ++ ds) o ≡ keeps_after es (keeps_after ds o)
+keeps_append [] ds o = refl
+keeps_append (e ∷ es) ds o = refl
+
 -- the record with one part and then a later one
 pub grown-sum : (d e : Part) (v : View) → grown (sum d e) v ≡ grown e (grown d v)
 grown-sum d e v = λ i. record v {
@@ -176,6 +182,7 @@ grown-sum d e v = λ i. record v {
   ever = (let n : v.ever + (d.ever + e.ever) ≡ v.ever + d.ever + e.ever = omega arith in n) i;
   looks = append_assoc e.looks d.looks v.looks i;
   turns = append_assoc e.turns d.turns v.turns i;
+  order = keeps_append e.turns d.turns v.order i;
 }
 
 pub grown-nothing_more : (v : View) → grown nothing_more v ≡ v

@@ -210,9 +210,18 @@ module _ (t : Turn) where
       peeked = peek 0 ∷ v.peeked;
       ever = v.ever + 2;
       looks = empty ∷ v.looks;
+      order = t.keeps;
       turns = t ∷ v.turns;
     }
     grown_by_it = refl
+
+    -- a part without a turn leaves the order
+    no_turn_added : (grown (record first_part { turns = [] }) v).order ≡ v.order
+    no_turn_added = refl
+
+    -- the newest of two turns says which order is kept
+    newest_kept : (u : Turn) → (grown (record first_part { turns = u ∷ t ∷ [] }) v).order ≡ u.keeps
+    newest_kept u = refl
 
     whole_part : as_part (grown first_part record v {
       written = [];

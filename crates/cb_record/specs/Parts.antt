@@ -1,5 +1,6 @@
 -- A part of the record of a pass: what a call, a line or a body adds to it.
-use Rattle.std.specs.Prelude.{◌≡◌, ℕ, ◌+◌, List, [], ◌++◌}
+use Rattle.std.specs.Prelude.{◌≡◌, ℕ, ◌+◌, List, [], ◌∷◌, ◌++◌, Option}
+use Rattle.cb_types.specs.declared.order.Kept.{Kept}
 use Rattle.cb_world.specs.declared.entry.Entry.{Entry}
 use Rattle.cb_rule.specs.declared.turn.Turn.{Turn}
 use Rattle.cb_rule.specs.declared.view.Look.{Look}
@@ -37,7 +38,12 @@ sum d e = record {
   turns = e.turns ++ d.turns;
 }
 
--- the record with such a part in front
+-- the order that is kept behind some turns, the newest first, where this one was kept before
+abbrev pub keeps_after : List Turn → Option Kept → Option Kept
+keeps_after [] o = o
+keeps_after (t ∷ earlier) o = t.keeps
+
+-- the record with such a part in front; the order that it keeps is that of the newest turn
 abbrev pub grown : Part → View → View
 grown d v = record v {
   written = d.written ++ v.written;
@@ -46,6 +52,7 @@ grown d v = record v {
   ever = v.ever + d.ever;
   looks = d.looks ++ v.looks;
   turns = d.turns ++ v.turns;
+  order = keeps_after d.turns v.order;
 }
 
 -- the record grew by this part, and all else of it is as it was

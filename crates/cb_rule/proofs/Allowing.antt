@@ -71,7 +71,7 @@ module _ (beside : Beside) (steady : IsSteady beside) (first : ℕ) (c : Config)
         views = set s.views id u;
       }) (sym (same_words s.words (1 + h)))
       (any_seat beside steady first c s id me.0 at r u s.words r.history refl live
-      record { holds = refl; start = refl; since = refl; took = refl; turns = refl } (keeps_all me.0 u.looks me.0.peeked) refl
+      record { holds = refl; start = refl; since = refl; took = refl; turns = refl; order = refl } (keeps_all me.0 u.looks me.0.peeked) refl
       (still_rule c s.words s.views r.known r.history r.kept id h me.0 u at record {
         same_config = refl;
         claims = refl;
@@ -130,7 +130,7 @@ module _ (beside : Beside) (steady : IsSteady beside) (first : ℕ) (c : Config)
           views = set s.views id u;
         }) (ap (λ (j : ℕ). j + 1) e ∙ sym one ∙ ap (λ b. either b new x) (sym (eq-eqb x old e)))
             (any_seat beside steady first c s id me.0 at r u (set s.words (1 + h) (x + 1))
-            r.history refl live record { holds = refl; start = refl; since = refl; took = refl; turns = refl }
+            r.history refl live record { holds = refl; start = refl; since = refl; took = refl; turns = refl; order = refl }
             (keeps_claim h me.0 (known_traces h me.0 knows) x v words)
             (same_lock s.words (1 + h) (x + 1) (omega arith))
             (own_claim c s.words s.views r.known r.history r.kept id me.0 at h x l refl here'
@@ -181,7 +181,7 @@ module _ (beside : Beside) (steady : IsSteady beside) (first : ℕ) (c : Config)
       keeps,
       tt,
       any_seat beside steady first c s id me.0 at r u (set s.words (base c + x.place + j) y)
-          r.history refl live record { holds = refl; start = refl; since = refl; took = refl; turns = refl }
+          r.history refl live record { holds = refl; start = refl; since = refl; took = refl; turns = refl; order = refl }
           (keeps_held x.handle (with_claim_word j y) me.0 (λ z. refl))
           (same_lock s.words (base c + x.place + j) y (omega arith))
           (own_store c s.words s.views r.known r.history r.kept id me.0 at x there j y lt),
@@ -218,7 +218,7 @@ module _ (beside : Beside) (steady : IsSteady beside) (first : ℕ) (c : Config)
       keeps,
       tt,
       any_seat beside steady first c s id me.0 at r u (set s.words (stamps c + x.handle) y)
-          r.history refl live record { holds = refl; start = refl; since = refl; took = refl; turns = refl }
+          r.history refl live record { holds = refl; start = refl; since = refl; took = refl; turns = refl; order = refl }
           (keeps_held x.handle (with_stamp y) me.0 (λ z. refl))
           (same_lock s.words (stamps c + x.handle) y (omega arith))
           (own_stamp c s.words s.views r.known r.history r.kept id me.0 at x there y low),
@@ -242,7 +242,7 @@ module _ (beside : Beside) (steady : IsSteady beside) (first : ℕ) (c : Config)
           tt,
           any_seat beside steady first c s id me.0 at r u (set s.words (1 + x.handle) w)
               (next_entry x ∷ r.history) refl live
-              record { holds = refl; start = refl; since = refl; took = refl; turns = refl } (keeps_version x me.0 there)
+              record { holds = refl; start = refl; since = refl; took = refl; turns = refl; order = refl } (keeps_version x me.0 there)
               (same_lock s.words (1 + x.handle) w (omega arith))
               (own_settle c s.words s.views r.known r.history r.kept id me.0 at x there w at' bytes
               up write inside here bare hot fits),
@@ -260,7 +260,7 @@ module _ (beside : Beside) (steady : IsSteady beside) (first : ℕ) (c : Config)
           keeps,
           tt,
           any_seat beside steady first c s id me.0 at r u (set s.words (1 + x.handle) x.word)
-              r.history refl live record { holds = refl; start = refl; since = refl; took = refl; turns = refl }
+              r.history refl live record { holds = refl; start = refl; since = refl; took = refl; turns = refl; order = refl }
               (keeps_back x me.0 there) (same_lock s.words (1 + x.handle) x.word (omega arith))
               (own_put_back c s.words s.views r.known r.history r.kept id me.0 at x there same_stamp
               same_memory),

@@ -11,11 +11,13 @@ use Rattle.atomic_table.specs.Table.{gives as gives_slot}
 use Rattle.atomic_table.proofs.Lists.{set_here}
 use Rattle.cb_types.specs.declared.config.Config.{Config}
 use Rattle.cb_types.specs.declared.job.Job.{Job}
+use Rattle.cb_types.specs.declared.order.Kept.{Kept}
 use Rattle.cb_types.specs.declared.reply.Reply.{Reply}
 use Rattle.cb_world.specs.declared.entry.Entry.{Entry}
 use Rattle.cb_world.specs.declared.shown.Shown.{Shown}
 use Rattle.cb_world.specs.FarState.{FarState}
 use Rattle.cb_world.specs.Memory.{bytes_in}
+use Rattle.cb_world.specs.Orders.{KeepsOrder}
 use Rattle.cb_world.specs.Shown.{object_at}
 use Rattle.cb_rule.specs.declared.turn.Turn.{Turn}
 use Rattle.cb_rule.specs.declared.view.Seen.{Seen}
@@ -40,6 +42,7 @@ use Rattle.cb_rule.proofs.Keeping.{seats_stay}
 use Rattle.cb_rule.proofs.Lifting.{shares_stay}
 use Rattle.cb_rule.proofs.Members.{each_has, has_times}
 use Rattle.cb_rule.proofs.Newest.{known_below, known_made}
+use Rattle.cb_rule.proofs.Ordering.{order_left}
 use Rattle.cb_rule.proofs.Owning.{both_true, known_traces, not_it, own_given}
 use Rattle.cb_rule.proofs.Seating.{never_now}
 
@@ -99,6 +102,7 @@ module _ (deeds : Deeds) (c : Config) (count : ℕ) (chain : ℕ → FarState)
       omega (arith, less),
       a.1 ∙ sym (chain_else chain (count + 1) (turn_number t + 1) g (λ e. omega (arith, e, less))),
     );
+    kept = o.kept;
     did = o.did;
   }
 
@@ -111,16 +115,16 @@ total_none f (x ∷ xs) all = let a = all 0 x refl in
 -- ---- the give, whatever the table is
 module _ (deeds : Deeds) (first : ℕ) (c : Config) (s : Table) (id : ℕ) (v : View)
     (at : get_elem? s.views id ≡ some v) (r : Ruled (Locked deeds) first c s)
-    (job : Job) (reply : Option Reply) (far : FarState) (freed : List Seen) (made : List ℕ)
-    (may : MayGive deeds c job reply far freed made v) where
+    (job : Job) (reply : Option Reply) (keeps : Option Kept) (far : FarState) (freed : List Seen)
+    (made : List ℕ) (may : MayGive deeds c job reply keeps far freed made v) where
   abbrev lock : Locked deeds c s r.known
   lock = r.far
 
   abbrev w : View
-  w = gave_lock job reply far (length r.history) freed made v
+  w = gave_lock job reply keeps far (length r.history) freed made v
 
   abbrev t : Turn
-  t = turn_of job reply far (length r.history) v
+  t = turn_of job reply keeps far (length r.history) v
 
   abbrev views : List View
   views = set s.views id w
@@ -147,6 +151,20 @@ module _ (deeds : Deeds) (first : ℕ) (c : Config) (s : Table) (id : ℕ) (v : 
       → Stood c u.start u.took
   no_beginner j u there his = absurd (let le = total-at holding views j u there in
       let one = hit u.holds his in omega (arith, le, one, nobody))
+
+  -- each order is kept by the far state that is given
+  orders : (j : ℕ) (u : View) → get_elem? views j ≡ some u → KeepsOrder r.known far u.order
+  orders = let same = (r.kept.seats id v at).knows may.holds in
+      seats_stay (λ _ u. KeepsOrder r.known far u.order) s.views id w
+      (subst (λ (k : Shown). KeepsOrder k far keeps) same may.own)
+      (λ j u ne there. subst (λ (k : Shown). KeepsOrder k far u.order) same
+      (order_left v.start v.known v.took far may.leaves u.order
+      (lock.waiting id v at may.holds j u there)))
+
+  no_waiter : (i : ℕ) (x : View) → get_elem? views i ≡ some x → x.holds ≡ true
+      → (j : ℕ) (u : View) → get_elem? views j ≡ some u → KeepsOrder x.start x.took u.order
+  no_waiter i x there his = absurd (let le = total-at holding views i x there in
+      let one = hit x.holds his in omega (arith, le, one, nobody))
 
   number : turn_number t ≡ lock.count
   number = ap (λ (f : FarState). f.counts.turns) (lock.takers id v at may.holds) ∙ lock.reached
@@ -275,12 +293,16 @@ module _ (deeds : Deeds) (first : ℕ) (c : Config) (s : Table) (id : ℕ) (v : 
         deep = deep n;
         takers = no_taker (lock.chain lock.count);
         began = no_beginner;
+        resting = λ _. subst (λ (f : FarState). (j : ℕ) (u : View) → get_elem? views j ≡ some u
+            → KeepsOrder r.known f u.order) (sym same) orders;
+        waiting = no_waiter;
         turns = seats_stay (λ _ u. Each (TurnStands deeds c lock.count lock.chain) u.turns) s.views
             id w (
               record {
                 took = took ∙ ap lock.chain (sym number);
                 stood = lock.began id v at may.holds;
                 gave = inr (worn, end, still);
+                kept = lock.waiting id v at may.holds id v at;
                 did = may.did (length r.history);
               },
               lock.turns id v at,
@@ -315,6 +337,9 @@ module _ (deeds : Deeds) (first : ℕ) (c : Config) (s : Table) (id : ℕ) (v : 
     deep = deep n;
     takers = no_taker (chain (lock.count + 1));
     began = no_beginner;
+    resting = λ _. subst (λ (f : FarState). (j : ℕ) (u : View) → get_elem? views j ≡ some u
+        → KeepsOrder r.known f u.order) (sym last) orders;
+    waiting = no_waiter;
     turns = seats_stay (λ _ u. Each (TurnStands deeds c (lock.count + 1) chain) u.turns) s.views
         id w (mine, longer v.turns (lock.turns id v at))
         (λ j u ne there. longer u.turns (lock.turns j u there));
@@ -403,6 +428,7 @@ module _ (deeds : Deeds) (first : ℕ) (c : Config) (s : Table) (id : ℕ) (v : 
           omega (arith, number),
           sym last ∙ ap (λ (k : ℕ). chain (k + 1)) (sym number),
         );
+        kept = lock.waiting id v at may.holds id v at;
         did = may.did (length r.history);
       }
 
@@ -443,7 +469,7 @@ module _ (deeds : Deeds) (first : ℕ) (c : Config) (s : Table) (id : ℕ) (v : 
         may.adds;
   }
 
-  has_given : (hand : List (ℕ × LockSlot)) → HasGiven job reply far freed made (v, hand) (w, [])
+  has_given : (hand : List (ℕ × LockSlot)) → HasGiven job reply keeps far freed made (v, hand) (w, [])
   has_given hand = let ok = r.kept in let same = (ok.seats id v at).same_config in record {
     entries = length r.history;
     given = refl;
@@ -468,14 +494,14 @@ one_in_hand d l f g a b = ap in_hand (sym a ∙ b)
     in_hand ((n, None) ∷ xs) = d
 
 pub gives_lock : (deeds : Deeds) (first : ℕ) (c : Config) (slots id : ℕ) (me : Sat) (job : Job)
-    (reply : Option Reply) (far : FarState) (freed : List Seen) (made : List ℕ) (n : ℕ)
-    → 1 ≤ me.0.share → me.1 ≡ (0, Some far) ∷ []
-    → MayGive deeds c job reply far freed made me.0
+    (reply : Option Reply) (held : Option Kept) (far : FarState) (freed : List Seen) (made : List ℕ)
+    (n : ℕ) → 1 ≤ me.0.share → me.1 ≡ (0, Some far) ∷ []
+    → MayGive deeds c job reply held far freed made me.0
     → n ≡ 2 * far.counts.turns
     → Allows (Ruled (Locked deeds) first c) slots id me 0 (λ _. n)
-    (λ _. gave job reply freed made (step slots 0 n 0 none) me n)
-gives_lock deeds first c slots id me job reply far freed made n live carried may word s r _ at _ =
-    let w : View = gave_lock job reply far (length r.history) freed made me.0 in (
+    (λ _. gave job reply held freed made (step slots 0 n 0 none) me n)
+gives_lock deeds first c slots id me job reply held far freed made n live carried may word s r _ at _ =
+    let w : View = gave_lock job reply held far (length r.history) freed made me.0 in (
       w,
       gives_slot,
       tt,
@@ -483,11 +509,11 @@ gives_lock deeds first c slots id me job reply far freed made n live carried may
         words = set s.words 0 n;
         homes = put_back s.homes l;
         views = set s.views id w;
-      }) (sym carried) (ruled_given deeds first c s id me.0 at r job reply far freed made may n live
-          word),
-      λ g there. subst (λ (f : FarState). HasGiven job reply f freed made me (w, rest me.1))
+      }) (sym carried) (ruled_given deeds first c s id me.0 at r job reply held far freed made may n
+          live word),
+      λ g there. subst (λ (f : FarState). HasGiven job reply held f freed made me (w, rest me.1))
           (one_in_hand far me.1 far g carried there)
-          (subst (λ (l : List (ℕ × LockSlot)). HasGiven job reply far freed made me (w, rest l))
-          (sym carried) (has_given deeds first c s id me.0 at r job reply far freed made may
+          (subst (λ (l : List (ℕ × LockSlot)). HasGiven job reply held far freed made me (w, rest l))
+          (sym carried) (has_given deeds first c s id me.0 at r job reply held far freed made may
           me.1)),
     )

@@ -166,7 +166,7 @@ module _ (beside : Beside) (steady : IsSteady beside) (first : ℕ) (c : Config)
       found e = let ok = k.seats id me.0 at in
           any_seat beside steady first c s id me.0 at r (with_freed_seen h v x me.0) s.words
           r.history
-          refl live record { holds = refl; start = refl; since = refl; took = refl; turns = refl }
+          refl live record { holds = refl; start = refl; since = refl; took = refl; turns = refl; order = refl }
           (keeps_freed h me.0 (known_traces h me.0 knows) v x) refl
           (still_rule c s.words s.views r.known r.history k id h me.0 (with_freed_seen h v x me.0)
           at

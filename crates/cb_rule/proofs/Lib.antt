@@ -16,6 +16,7 @@ mod AnyGlancing
 mod Peeking
 mod Seating
 mod Flagging
+mod Ordering
 mod Locking
 mod Opening
 mod Claiming

@@ -106,7 +106,7 @@ module _ (beside : Beside) (steady : IsSteady beside) (first : ℕ) (c : Config)
             (subst (λ (k : Shown). AreBound c k s.views)
             (sym ((r.kept.seats id v at).knows holds)) r.bound);
         far = steady.stays c s (set s.words i x) r.known (after e v.known) id v (act e v) at
-            (same_lock s.words i x pos) record { holds = refl; start = refl; since = refl; took = refl; turns = refl }
+            (same_lock s.words i x pos) record { holds = refl; start = refl; since = refl; took = refl; turns = refl; order = refl }
             (inr holds) first_is r.far;
       }
 

@@ -1,13 +1,16 @@
 -- The lock, the far state and the turns stay under steps on other words, and where seats are split
 -- and joined.
 use Rattle.std.proofs.Common.{◌≡◌, ◌≢◌, ◌⊎◌, ℕ, ◌+◌, ◌≤◌, Bool, true, false, cond, List, [], ◌∷◌}
-use Rattle.std.proofs.Common.{◌++◌, get_or, set, sym, refl, ap, ◌∙◌, subst, ⊎_elim, arith}
+use Rattle.std.proofs.Common.{◌++◌, Option, None, get_or, set, sym, refl, ap, ◌∙◌, subst, ⊎_elim, arith}
 use Rattle.std.proofs.Common.{true≢false}
 use mathlib.Core.Option.{some}
 use lib.ListN.{get_elem?}
 use Rattle.cb_types.specs.declared.config.Config.{Config}
+use Rattle.cb_types.specs.declared.order.Kept.{Kept}
 use Rattle.cb_world.specs.declared.shown.Shown.{Shown}
 use Rattle.cb_world.specs.Empty.{empty_far}
+use Rattle.cb_world.specs.FarState.{FarState}
+use Rattle.cb_world.specs.Orders.{KeepsOrder}
 use Rattle.cb_rule.specs.declared.view.View.{View}
 use Rattle.cb_rule.specs.Lists.{times, total, Each}
 use Rattle.cb_rule.specs.Locking.{Deeds, IsTimed, IsUnlocked, Locked, Stood, TurnStands, is_turn}
@@ -33,6 +36,21 @@ module _ (deeds : Deeds) (c : Config) (s : Table) (known : Shown) (r : Locked de
   still_begins j v w alike b h =
       subst (λ (k : Shown). Stood c k w.took) (sym alike.start)
       (subst (Stood c v.start) (sym alike.took) (b (sym alike.holds ∙ h)))
+
+  -- a view's order is kept by this far state
+  abbrev Rests : Shown → FarState → ℕ → View → Type 0
+  Rests k f j u = KeepsOrder k f u.order
+
+  -- so is each one by that with which the view's turn began
+  abbrev Waits : ℕ → View → Type 0
+  Waits i x = x.holds ≡ true → (j : ℕ) (u : View) → get_elem? s.views j ≡ some u
+      → Rests x.start x.took j u
+
+  still_waits : (i : ℕ) (v w : View) → IsAlike v w → Waits i v → Waits i w
+  still_waits i v w alike b h j u there =
+      subst (λ (k : Shown). Rests k w.took j u) (sym alike.start)
+      (subst (λ (f : FarState). Rests v.start f j u) (sym alike.took)
+      (b (sym alike.holds ∙ h) j u there))
 
   abbrev Runs : ℕ → View → Type 0
   Runs j u = u.holds ≡ true → when_ended r.ends r.count ≤ u.since
@@ -85,6 +103,15 @@ module _ (deeds : Deeds) (c : Config) (s : Table) (known : Shown) (r : Locked de
           (λ j u ne there. r.takers j u there);
       began = seats_stay Begins s.views id w (still_begins id v w alike (r.began id v at))
           (λ j u ne there. r.began j u there);
+      resting = λ none. ⊎_elim
+          (λ (e : known' ≡ known). subst (λ (k : Shown). (j : ℕ) (u : View)
+          → get_elem? (set s.views id w) j ≡ some u → Rests k (r.chain r.count) j u) (sym e)
+          (stay known (r.chain r.count) (r.resting (sym same ∙ none))))
+          (λ (h : v.holds ≡ true). absurd (let le = total-at holding s.views id v at in
+          let one = hit v.holds h in omega (arith, le, one, same, none))) why;
+      waiting = λ i x is h. stay x.start x.took (seats_stay Waits s.views id w
+          (still_waits id v w alike (r.waiting id v at)) (λ a b ne there. r.waiting a b there)
+          i x is h);
       turns = seats_stay Turned s.views id w
           (subst (Each (TurnStands deeds c r.count r.chain)) (sym alike.turns) (r.turns id v at))
           (λ j u ne there. r.turns j u there);
@@ -98,17 +125,23 @@ module _ (deeds : Deeds) (c : Config) (s : Table) (known : Shown) (r : Locked de
           (λ j u ne there. r.runs j u there);
     }
       where
+        stay : (k : Shown) (f : FarState)
+            → ((j : ℕ) (u : View) → get_elem? s.views j ≡ some u → Rests k f j u)
+            → (j : ℕ) (u : View) → get_elem? (set s.views id w) j ≡ some u → Rests k f j u
+        stay k f all = seats_stay (Rests k f) s.views id w
+            (subst (KeepsOrder k f) (sym alike.order) (all id v at)) (λ j u ne there. all j u there)
+
         same : total holding (set s.views id w) ≡ total holding s.views
         same = total-same holding s.views id v w at
             (ap (λ (b : Bool). cond {A = ℕ} b 1 0) alike.holds)
 
     locked_splits : (left right : View) → IsAlike v left → right.holds ≡ false → right.turns ≡ []
-        → Locked deeds c record {
+        → right.order ≡ None → Locked deeds c record {
           words = s.words;
           homes = s.homes;
           views = set s.views id left ++ right ∷ [];
         } known
-    locked_splits left right alike quiet none = record {
+    locked_splits left right alike quiet none bare = record {
       count = r.count;
       chain = r.chain;
       empty = r.empty;
@@ -130,6 +163,14 @@ module _ (deeds : Deeds) (c : Config) (s : Table) (known : Shown) (r : Locked de
           (λ (t : right ≡ u). subst (λ (x : View). Begins j x) t
           (λ h. absurd (true≢false (sym h ∙ quiet))))
           (at_snoc (set s.views id left) right u j there);
+      resting = λ z. stay known (r.chain r.count) (r.resting (sym same ∙ z));
+      waiting = λ i x is h. stay x.start x.took (⊎_elim
+          (λ (t : get_elem? (set s.views id left) i ≡ some x). seats_stay Waits s.views id left
+          (still_waits id v left alike (r.waiting id v at)) (λ a b ne there. r.waiting a b there)
+          i x t)
+          (λ (t : right ≡ x). subst (λ (y : View). Waits i y) t
+          (λ his. absurd (true≢false (sym his ∙ quiet))))
+          (at_snoc (set s.views id left) right x i is) h);
       turns = λ j u there. ⊎_elim
           (λ (t : get_elem? (set s.views id left) j ≡ some u). seats_stay Turned s.views id left
           (subst (Each (TurnStands deeds c r.count r.chain)) (sym alike.turns) (r.turns id v at))
@@ -159,6 +200,19 @@ module _ (deeds : Deeds) (c : Config) (s : Table) (known : Shown) (r : Locked de
         more : List View
         more = set s.views id left ++ right ∷ []
 
+        none_kept : (k : Shown) (f : FarState) (o : Option Kept) → o ≡ None → KeepsOrder k f o
+        none_kept k f o e = subst (KeepsOrder k f) (sym e) tt
+
+        stay : (k : Shown) (f : FarState)
+            → ((j : ℕ) (u : View) → get_elem? s.views j ≡ some u → Rests k f j u)
+            → (j : ℕ) (u : View) → get_elem? more j ≡ some u → Rests k f j u
+        stay k f all j u there = ⊎_elim
+            (λ (t : get_elem? (set s.views id left) j ≡ some u). seats_stay (Rests k f) s.views id left
+            (subst (KeepsOrder k f) (sym alike.order) (all id v at)) (λ i x ne is. all i x is) j u t)
+            (λ (t : right ≡ u). subst (λ (x : View). Rests k f j x) t
+            (none_kept k f right.order bare))
+            (at_snoc (set s.views id left) right u j there)
+
         same : total holding more ≡ total holding s.views
         same = total_split holding s.views id v left right at
             (ap (λ (b : Bool). cond {A = ℕ} b 1 0) alike.holds) (miss right.holds quiet)
@@ -187,6 +241,11 @@ module _ (deeds : Deeds) (c : Config) (s : Table) (known : Shown) (r : Locked de
           (λ h. absurd (true≢false (sym h)))
           (λ j u _. seats_stay Begins s.views id both (r.began id v at)
           (λ i x _ e. r.began i x e) j u);
+      resting = λ z. stay known (r.chain r.count) (r.resting (sym same ∙ z));
+      waiting = λ i x is h. stay x.start x.took (seats_stay Waits (set s.views id both) other (blank c)
+          (λ his. absurd (true≢false (sym his)))
+          (λ a b _. seats_stay Waits s.views id both (r.waiting id v at)
+          (λ a' b' _ e. r.waiting a' b' e) a b) i x is h);
       turns = seats_stay Turned (set s.views id both) other (blank c) tt
           (λ j u _. seats_stay Turned s.views id both
           (each_append (TurnStands deeds c r.count r.chain) w.turns v.turns
@@ -213,6 +272,13 @@ module _ (deeds : Deeds) (c : Config) (s : Table) (known : Shown) (r : Locked de
         more : List View
         more = set (set s.views id both) other (blank c)
 
+        stay : (k : Shown) (f : FarState)
+            → ((j : ℕ) (u : View) → get_elem? s.views j ≡ some u → Rests k f j u)
+            → (j : ℕ) (u : View) → get_elem? more j ≡ some u → Rests k f j u
+        stay k f all = seats_stay (Rests k f) (set s.views id both) other (blank c) tt
+            (λ j u _. seats_stay (Rests k f) s.views id both (all id v at)
+            (λ i x _ e. all i x e) j u)
+
         none : holding w ≡ 0
         none = miss w.holds quiet
 
@@ -224,8 +290,8 @@ pub locked_steady : (deeds : Deeds) → IsSteady (Locked deeds)
 locked_steady deeds = record {
   stays = λ c s ws known known' id v w at lock alike why first r.
       locked_stays deeds c s known r id v at ws known' w lock alike why first;
-  splits = λ c s known id v left right at alike quiet none r.
-      locked_splits deeds c s known r id v at left right alike quiet none;
+  splits = λ c s known id v left right at alike quiet none bare r.
+      locked_splits deeds c s known r id v at left right alike quiet none bare;
   joins = λ c s known id v other w at ne there quiet r.
       locked_joins deeds c s known r id v at other w ne there quiet;
 }

@@ -111,5 +111,6 @@ module _ (c : Config) (views : List View) (id : ℕ) (v : View) (at : get_elem? 
     numbers = λ t m. r.numbers t (unmade t m);
     sound = λ t m. r.sound t (unmade t m);
     starts = λ t m. r.starts t (unmade t m);
+    kept = λ t m. r.kept t (unmade t m);
     did = λ t m. r.did t (unmade t m);
   }

@@ -18,6 +18,7 @@ use Rattle.cb_world.specs.FarState.{FarState}
 use Rattle.cb_world.specs.LocalSound.{LiesAt}
 use Rattle.cb_world.specs.Shown.{Fits, never, object_at, version_at}
 use Rattle.cb_world.proofs.Laws.{codes_stay, empty_sound, empty_world_sound, have_codes}
+use Rattle.cb_world.specs.Orders.{KeepsOrder}
 use Rattle.cb_rule.specs.declared.view.View.{View}
 use Rattle.cb_rule.specs.History.{Value, WasNow, newest, no_value, top}
 use Rattle.cb_rule.specs.Lists.{total, Each}
@@ -160,6 +161,10 @@ module _ (first : ℕ) (pos : 1 ≤ first) (c : Config) (ws : List ℕ) (wide : 
       deep = let z : 0 < 1 = omega arith in z;
       takers = one_view (λ u. u.holds ≡ true → u.took ≡ far) (λ his. absurd (true≢false (sym his)));
       began = one_view (λ u. u.holds ≡ true → Stood c u.start u.took)
+          (λ his. absurd (true≢false (sym his)));
+      resting = λ _. one_view (λ u. KeepsOrder s far u.order) tt;
+      waiting = one_view (λ x. x.holds ≡ true → (j : ℕ) (u : View)
+          → get_elem? (opener c ∷ []) j ≡ some u → KeepsOrder x.start x.took u.order)
           (λ his. absurd (true≢false (sym his)));
       turns = one_view (λ u. Each (TurnStands deeds c 0 (λ _. far)) u.turns) tt;
       once = λ k l. absurd (omega (arith, l));

@@ -128,7 +128,7 @@ module _ (beside : Beside) (steady : IsSteady beside) (first : ℕ) (c : Config)
       views = set s.views id w;
     }) (sym (same_words s.words (base c + p.place + j)))
         (any_seat beside steady first c s id me.0 at r w s.words r.history refl live
-        record { holds = refl; start = refl; since = refl; took = refl; turns = refl } (keeps_all me.0 me.0.looks w.peeked) refl
+        record { holds = refl; start = refl; since = refl; took = refl; turns = refl; order = refl } (keeps_all me.0 me.0.looks w.peeked) refl
         (still_rule c s.words s.views r.known r.history k id p.handle me.0 w at quiet refl)),
     λ q i there' lt' e. let z = one_pin c s.words s.views r.known r.history k id me.0 at p there
         j lt q there' i lt' (let cfg = ap base same_config in omega (arith, e, cfg)) in (

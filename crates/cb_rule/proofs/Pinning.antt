@@ -154,7 +154,7 @@ module _ (beside : Beside) (steady : IsSteady beside) (first : ℕ) (c : Config)
         views = set s.views id (with_look h x me.0);
       }
   lost s x r at found = any_seat beside steady first c s id me.0 at r (with_look h x me.0) s.words
-      r.history refl live record { holds = refl; start = refl; since = refl; took = refl; turns = refl }
+      r.history refl live record { holds = refl; start = refl; since = refl; took = refl; turns = refl; order = refl }
       (keeps_all me.0 (with_look h x me.0).looks me.0.peeked) refl
       (still_rule c s.words s.views r.known r.history r.kept id h me.0 (with_look h x me.0) at
       (looks_quiet c s.words s.views r.known r.history r.kept id h x me.0 at
@@ -197,7 +197,7 @@ module _ (beside : Beside) (steady : IsSteady beside) (first : ℕ) (c : Config)
           views = set s.views id w;
         }) (ap (λ b. either b new x) (sym (eq-eqb x old e)))
             (any_seat beside steady first c s id me.0 at r w (set s.words (1 + h) new) es refl
-            live record { holds = refl; start = refl; since = refl; took = refl; turns = refl }
+            live record { holds = refl; start = refl; since = refl; took = refl; turns = refl; order = refl }
             (keeps_pin h me.0 (known_traces h me.0 knows) x v words)
             (same_lock s.words (1 + h) new (omega arith)) kept),
         λ h' q. let same : h ≡ h' = omega (arith, q) in (
@@ -301,7 +301,7 @@ module _ (beside : Beside) (steady : IsSteady beside) (first : ℕ) (c : Config)
         }) (sym less)
             (any_seat beside steady first c s id me.0 at r w (set s.words (1 + h)
             (x - 8)) es refl live
-            record { holds = refl; start = refl; since = refl; took = refl; turns = refl } (keeps_unpin h me.0)
+            record { holds = refl; start = refl; since = refl; took = refl; turns = refl; order = refl } (keeps_unpin h me.0)
             (same_lock s.words (1 + h) (x - 8) (omega arith))
             (calm_rule c s.words s.views r.known es k h l o (x - 8) id me.0 w at quiet (
               (let b = f.0 in omega (arith, n, b)),

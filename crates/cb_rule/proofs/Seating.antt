@@ -307,7 +307,8 @@ module _ (beside : Beside) (steady : IsSteady beside) (first : ℕ) (c : Config)
     own = own_split first s.views id v given at fresh r.own;
     bound = bound_split c r.known s.views id v given at r.bound;
     far = steady.splits c s r.known id v (left_of given v) (right_of given v) at
-        record { holds = refl; start = refl; since = refl; took = refl; turns = refl } refl refl r.far;
+        record { holds = refl; start = refl; since = refl; took = refl; turns = refl; order = refl } refl refl refl
+        r.far;
   }
 
   pub joins : (id : ℕ) (v : View) (other : ℕ) (w : View) → 1 ≤ v.share → w.holds ≡ false

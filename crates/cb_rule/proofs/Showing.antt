@@ -10,7 +10,13 @@ use Rattle.cb_world.specs.FarState.{FarState}
 use Rattle.cb_world.specs.Shown.{IsHeld, object_at, version_at}
 use Rattle.cb_world.specs.Sound.{Sound}
 use Rattle.cb_world.specs.StillDesk.{window_length}
-use Rattle.cb_world.proofs.Laws.{IsSeenFrom, seen_sound, window_at}
+use Rattle.cb_world.proofs.Laws.{IsSeenFrom, batch_kept, batch_owned, seen_sound, window_at, window_same}
+use Rattle.std.proofs.lemmas.List.{append-nil}
+use Rattle.std.proofs.Common.{Some}
+use Rattle.cb_types.specs.declared.order.Kept.TheVariants.{Encode, Decode}
+use Rattle.cb_world.specs.FarSound.{rows_in}
+use Rattle.cb_world.specs.Leaving.{LeavingState}
+use Rattle.cb_world.specs.Orders.{LeavesOrders}
 use Rattle.cb_rule.specs.declared.view.View.{View}
 use Rattle.cb_rule.specs.AsShown.{as_shown}
 use Rattle.cb_rule.specs.History.{newest, top}
@@ -100,3 +106,26 @@ module _ (c : Config) (ws : List ℕ) (views : List View) (known : Shown) (es : 
 
   pub shown_sound : (far : FarState) → Sound known far → Sound t far
   shown_sound far sound = seen_sound known t far sound is_shown
+
+  -- the rows of the batch that is leaving are those of what is known
+  rows_shown : (far : FarState) → Sound known far → (batch : LeavingState)
+      → far.leaving ≡ Some batch → rows_in t batch.pages batch.frames ≡ rows_in known batch.pages batch.frames
+  rows_shown far sound batch there =
+      sym (append-nil (rows_in t batch.pages batch.frames))
+      ∙ batch_kept known t far far (record batch { parities = [] }) (record {
+        spans = λ f leaves. refl;
+        words = λ f leaves. let held = (sound.noted batch there).held f leaves in
+            window_same t.memory known.memory (512 * f) (512 * batch.pages) (λ p from to.
+            is_shown.owned p (batch_owned known far batch sound there f held.0 leaves held.1 p
+            (from, omega (arith, to, held.2))));
+      })
+      ∙ append-nil (rows_in known batch.pages batch.frames)
+
+  pub orders_shown : (far : FarState) → Sound known far → LeavesOrders known far t far
+  orders_shown far sound (Encode o) k = record {
+    fits = k.fits;
+    drawn = k.drawn;
+    code = k.code;
+    rows = λ batch there same. k.rows batch there same ∙ sym (rows_shown far sound batch there);
+  }
+  orders_shown far sound (Decode o) k = k

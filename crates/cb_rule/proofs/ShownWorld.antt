@@ -23,6 +23,8 @@ use Rattle.cb_rule.specs.Seats.{claims_on, holding, pins_on}
 use Rattle.cb_rule.specs.ShownWorld.{ShowsWorld}
 use Rattle.cb_rule.specs.Slot.{Table}
 use Rattle.cb_rule.specs.Stands.{Stands}
+use Rattle.cb_rule.proofs.Ordering.{order_left}
+use Rattle.cb_rule.proofs.Showing.{orders_shown}
 use Rattle.cb_rule.proofs.ClosedWorld.{moved_by_one, now_shown, shown_known, value_now}
 use Rattle.cb_rule.proofs.Histories.{begun, entry_within, newest_entry}
 use Rattle.cb_rule.proofs.Members.{each_has}
@@ -71,6 +73,9 @@ module _ (deeds : Deeds) (first : ℕ) (c : Config) (s : Table)
         (sym (last_newest c s.words s.views r.known es k e last) i))
         ∙ left (is_gone far e.handle) e (omega (arith, low, pos));
     none = λ h l none. unmade h l none;
+    orders = λ j u at. order_left r.known (as_shown c s.words r.known) far far
+        (orders_shown c s.words s.views r.known es k far free.stood.sound) u.order
+        (r.far.resting nobody j u at);
   }
     where
       free : IsUnlocked c s r.known r.far.count far

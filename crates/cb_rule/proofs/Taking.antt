@@ -14,6 +14,7 @@ use Rattle.cb_types.specs.declared.config.Config.{Config}
 use Rattle.cb_world.specs.FarState.{FarState}
 use Rattle.cb_world.specs.LocalSound.{AreKnown}
 use Rattle.cb_world.specs.Shown.{never, object_at, version_at}
+use Rattle.cb_world.specs.Orders.{KeepsOrder}
 use Rattle.cb_rule.specs.declared.view.View.{View}
 use Rattle.cb_rule.specs.History.{newest, top}
 use Rattle.cb_rule.specs.Lists.{total, Each, Has}
@@ -29,7 +30,7 @@ use Rattle.cb_rule.specs.Stands.{Stands}
 use Rattle.cb_rule.specs.Steps.{Knows}
 use Rattle.cb_rule.proofs.Binding.{bound_by, held_at_most}
 use Rattle.cb_rule.proofs.Growing.{settled_now}
-use Rattle.cb_rule.proofs.Counts.{each_map, total-at, total-same, total-set}
+use Rattle.cb_rule.proofs.Counts.{each_map, hit, total-at, total-same, total-set}
 use Rattle.cb_rule.proofs.Flagging.{flagged, lock_word}
 use Rattle.cb_rule.proofs.Keeping.{seats_stay}
 use Rattle.cb_rule.proofs.Lifting.{same_words, set_same, shares_stay}
@@ -59,6 +60,10 @@ module _ (deeds : Deeds) (first : ℕ) (c : Config) (s : Table) (id : ℕ) (me :
 
   abbrev after : Table
   after = record { words = set s.words 0 1; homes = set s.homes 0 none; views = views }
+
+  -- each view's order is kept by that with which the turn of this one began
+  abbrev Each_keeps : View → Type 0
+  Each_keeps x = (j : ℕ) (u : View) → get_elem? views j ≡ some u → KeepsOrder x.start x.took u.order
 
   -- no seat holds it while its word is even
   nobody : total holding s.views ≡ 0
@@ -114,6 +119,12 @@ module _ (deeds : Deeds) (first : ℕ) (c : Config) (s : Table) (id : ℕ) (me :
         (λ j u ne there. lock.takers j u there);
     began = seats_stay (λ _ u. u.holds ≡ true → Stood c u.start u.took) s.views id taken
         (λ _. (lock.free nobody).stood) (λ j u ne there. lock.began j u there);
+    resting = λ none_holds. absurd (omega (arith, none_holds, one_holds));
+    waiting = seats_stay (λ _ x. x.holds ≡ true → Each_keeps x) s.views id taken
+        (λ _. seats_stay (λ _ u. KeepsOrder r.known far u.order) s.views id taken
+        (lock.resting nobody id me.0 at) (λ j u ne there. lock.resting nobody j u there))
+        (λ j x ne there his. absurd (let le = total-at holding s.views j x there in
+        let one = hit x.holds his in omega (arith, le, one, nobody)));
     turns = seats_stay (λ _ u. Each (TurnStands deeds c lock.count lock.chain) u.turns) s.views id
         taken (lock.turns id me.0 at) (λ j u ne there. lock.turns j u there);
     once = λ k l. total-same (turns_on k) s.views id me.0 taken at refl ∙ lock.once k l;
@@ -179,6 +190,7 @@ module _ (deeds : Deeds) (first : ℕ) (c : Config) (s : Table) (id : ℕ) (me :
     sized = subst (λ (q : Config). AreSized q r.known) (sym ok.same_config) r.kept.sized;
     stood = subst (λ (q : Config). Stood q r.known far) (sym ok.same_config) f.stood;
     made = was_made;
+    kept = lock.resting nobody id me.0 at;
     number = sym found ∙ f.word ∙ ap (λ (k : ℕ). 2 * k) (sym lock.reached);
   }
 

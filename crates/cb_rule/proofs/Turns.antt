@@ -62,6 +62,7 @@ module _ (deeds : Deeds) (first : ℕ) (c : Config) (s : Table)
     numbers = has_number;
     sound = λ t m. (turn_stands t m).stood;
     starts = starts;
+    kept = λ t m. (turn_stands t m).kept;
     did = λ t m. (turn_stands t m).did;
   }
 

@@ -1,7 +1,7 @@
 -- Worked examples of what views found and wrote last, and of the words that stand for it: what
 -- meets each definition, and what breaks one part alone.
 use Rattle.std.proofs.Common.{◌≡◌, ℕ, ◌+◌, ◌≤◌, true, false, List, [], ◌∷◌, length, get_or, sym}
-use Rattle.std.proofs.Common.{refl, ap, ◌∙◌, subst, inl, inr, ⊎_elim, true≢false, arith}
+use Rattle.std.proofs.Common.{Option, Some, None, refl, ap, ◌∙◌, subst, inl, inr, ⊎_elim, true≢false, arith}
 use Rattle.cb_ptr.specs.Word.{state_number}
 use Rattle.cb_world.specs.declared.shown.Shown.{Shown}
 use Rattle.cb_world.specs.declared.entry.Entry.{Entry}
@@ -9,6 +9,7 @@ use Rattle.cb_world.specs.declared.object.Object.{Object}
 use Rattle.cb_world.specs.declared.object.Object.TheVariants as is
 use Rattle.cb_world.specs.Memory.{window}
 use Rattle.cb_world.specs.Shown.{never}
+use Rattle.cb_types.specs.declared.order.Kept.{Kept}
 use Rattle.cb_rule.specs.declared.turn.Turn.{Turn}
 use Rattle.cb_rule.specs.declared.view.Held.{Held}
 use Rattle.cb_rule.specs.declared.view.Stand.{Stand}
@@ -24,7 +25,7 @@ use Rattle.cb_rule.specs.Words.{stamps, words_at}
 use Rattle.cb_rule.proofs.WorkedClosing.{claiming, here as there, is_made, maker, record_with}
 use Rattle.cb_rule.proofs.WorkedClosing.{the_one, wrote_in}
 use Rattle.cb_rule.proofs.WorkedHistory.{freed, made, written}
-use Rattle.cb_rule.proofs.WorkedLocking.{far, turn}
+use Rattle.cb_rule.proofs.WorkedLocking.{far, never_drawn, turn}
 use Rattle.cb_rule.proofs.WorkedStands.{here, table, two}
 use Rattle.cb_rule.proofs.WorkedViews.{here_word, pair_of}
 
@@ -333,7 +334,7 @@ claimed_by_two m = let e : 1 ≡ 0 = (m.claimed 8 0 3 (7 ∷ []) refl).1 in omeg
 
 -- ---- two views with the same lock and turns
 alike : IsAlike maker (record maker { share = 40; written = [] })
-alike = record { holds = refl; start = refl; since = refl; took = refl; turns = refl }
+alike = record { holds = refl; start = refl; since = refl; took = refl; turns = refl; order = refl }
 
 unlike_in_the_lock : IsAlike maker holder → ⊥
 unlike_in_the_lock a = true≢false a.holds
@@ -344,6 +345,13 @@ unlike_in_what_it_began_with a = let e : 4 ≡ 1 = ap (λ (s : Shown). s.first) 
 
 unlike_in_what_it_took : IsAlike (record maker { took = far 0 }) (record maker { took = far 1 }) → ⊥
 unlike_in_what_it_took a = let e : 1 ≡ 0 = ap (λ f. f.counts.turns) a.took in omega (arith, e)
+
+unlike_in_its_order : IsAlike maker (record maker { order = never_drawn }) → ⊥
+unlike_in_its_order a = let e : 1 ≡ 0 = ap has_order a.order in omega (arith, e)
+  where
+    has_order : Option Kept → ℕ
+    has_order None = 0
+    has_order (Some o) = 1
 
 unlike_in_turns : IsAlike maker claiming → ⊥
 unlike_in_turns a = let e : 1 ≡ 0 = ap (λ (ts : List Turn). length ts) a.turns in omega (arith, e)

@@ -1,7 +1,7 @@
 -- Worked examples of the far lock and of turns in a history: what meets each definition, and what
 -- breaks one part alone.
 use Rattle.std.proofs.Common.{◌≡◌, ℕ, zero, suc, ◌*◌, ◌^◌, ◌<◌, ◌≤◌, true, List, [], ◌∷◌, length}
-use Rattle.std.proofs.Common.{Some, None, replicate, sym, refl, ap, ◌∙◌, subst, inl, inr, ⊎_elim}
+use Rattle.std.proofs.Common.{Option, Some, None, replicate, sym, refl, ap, ◌∙◌, subst, inl, inr, ⊎_elim}
 use Rattle.std.proofs.Common.{lit<, lit≤, arith}
 use mathlib.Core.Option.{Option as Maybe, some, none, some-injective, some-ne-none}
 use lib.ListN.{get_elem?}
@@ -15,6 +15,9 @@ use Rattle.cb_world.specs.Codes.{IsCodeOf}
 use Rattle.cb_world.specs.Empty.{empty_far, empty_shown}
 use Rattle.cb_world.specs.FarState.{FarState}
 use Rattle.cb_world.proofs.Laws.{codes_stay, have_codes, recounted_sound}
+use Rattle.cb_types.specs.declared.order.Kept.{Kept}
+use Rattle.cb_types.specs.declared.order.Kept.TheVariants.{Encode}
+use Rattle.cb_world.specs.Orders.{KeepsOrder}
 use Rattle.cb_rule.specs.declared.turn.Turn.{Turn}
 use Rattle.cb_rule.specs.declared.view.View.{View}
 use Rattle.cb_rule.specs.Lists.{total, Each}
@@ -96,6 +99,8 @@ turn took gave = record {
   old = [];
   ended = 0;
   acts = [];
+  order = None;
+  keeps = None;
   took = took;
   gave = gave;
 }
@@ -104,10 +109,22 @@ abbrev pub LockStands : ℕ → Turn → Type 0
 LockStands count t = TurnStands quiet pair_of count far t
 
 pub first_turn : LockStands 1 (turn (far 0) (far 1))
-first_turn = record { took = refl; stood = stood 0 (lit≤ tt); gave = inl (lit< tt, refl); did = refl }
+first_turn = record {
+  took = refl;
+  stood = stood 0 (lit≤ tt);
+  gave = inl (lit< tt, refl);
+  kept = tt;
+  did = refl;
+}
 
 pub second_turn : LockStands 2 (turn (far 1) (far 2))
-second_turn = record { took = refl; stood = stood 1 (lit≤ tt); gave = inl (lit< tt, refl); did = refl }
+second_turn = record {
+  took = refl;
+  stood = stood 1 (lit≤ tt);
+  gave = inl (lit< tt, refl);
+  kept = tt;
+  did = refl;
+}
 
 -- one that was refused after 2^40 turns
 no_number : LockStands (2 ^ 40) (turn (far (2 ^ 40)) (far (2 ^ 40)))
@@ -115,6 +132,7 @@ no_number = record {
   took = refl;
   stood = stood (2 ^ 40) (lit≤ tt);
   gave = inr (refl, refl, refl);
+  kept = tt;
   did = refl;
 }
 
@@ -144,6 +162,13 @@ knew_nothing s = let n = s.stood.configured.frames in
 
 did_else : LockStands 1 record (turn (far 0) (far 1)) { acts = Looked 0 0 ∷ [] } → ⊥
 did_else s = let e : 1 ≡ 0 = ap (λ (es : List _). length es) s.did in omega (arith, e)
+
+-- its seat kept an order of a number that was not drawn
+abbrev pub never_drawn : Option Kept
+never_drawn = Some (Encode (record { set = 0; k = 2; r = 1; rows = [] ∷ [] ∷ [] }))
+
+kept_what_was_not_drawn : LockStands 1 record (turn (far 0) (far 1)) { order = never_drawn } → ⊥
+kept_what_was_not_drawn s = let d : 0 < 0 = s.kept.drawn in omega (arith, d)
 
 -- ---- the lock
 abbrev pub seat : List Turn → View
@@ -186,6 +211,11 @@ began_too_early t = let e : 1 ≤ 0 = t.began in omega (arith, e)
 ended_another_time : IsTimed 1 (λ _. 1) (turn (far 0) (far 1)) → ⊥
 ended_another_time t = let e : 0 ≡ 1 = t.ended (lit< tt) in omega (arith, e)
 
+-- the order of this one view is kept by what the other's turn began with, if that holds the lock
+abbrev Waits : View → View → Type 0
+Waits one v = v.holds ≡ true → (j : ℕ) (u : View) → get_elem? (one ∷ []) j ≡ some u
+    → KeepsOrder v.start v.took u.order
+
 -- free, after one turn
 pub free : Lock (table 2 (home 1) (seat one_turn))
 free = record {
@@ -200,6 +230,8 @@ free = record {
   takers = one_view (λ u. u.holds ≡ true → u.took ≡ far 1) (seat one_turn) (λ e. absurd (cc));
   began = one_view (λ u. u.holds ≡ true → Stood pair_of u.start u.took) (seat one_turn)
       (λ e. absurd (cc));
+  resting = λ _. one_view (λ u. KeepsOrder seen (far 1) u.order) (seat one_turn) tt;
+  waiting = one_view (Waits (seat one_turn)) (seat one_turn) (λ e. absurd (cc));
   turns = one_view (λ u. Each (LockStands 1) u.turns) (seat one_turn) (first_turn, tt);
   once = λ k l. ap (λ (n : ℕ). total (λ u. turns_on n u)
       (seat one_turn ∷ [])) (below_one k l);
@@ -225,6 +257,9 @@ held = record {
   takers = one_view (λ u. u.holds ≡ true → u.took ≡ far 1) (holder one_turn) (λ _. refl);
   began = one_view (λ u. u.holds ≡ true → Stood pair_of u.start u.took) (holder one_turn)
       (λ _. stood 1 (lit≤ tt));
+  resting = λ none_holds. absurd (omega (arith, none_holds));
+  waiting = one_view (Waits (holder one_turn)) (holder one_turn)
+      (λ _. one_view (λ u. KeepsOrder seen (far 1) u.order) (holder one_turn) tt);
   turns = one_view (λ u. Each (LockStands 1) u.turns) (holder one_turn) (first_turn, tt);
   once = λ k l. ap (λ (n : ℕ). total (λ u. turns_on n u)
       (holder one_turn ∷ [])) (below_one k l);
@@ -246,6 +281,23 @@ forgets_the_count l = let e = (at_home 1 0 (seat one_turn) refl l).0 in omega (a
 
 not_doubled : Lock (table 1 (home 1) (seat one_turn)) → ⊥
 not_doubled l = let e = (at_home 1 1 (seat one_turn) refl l).0 in omega (arith, e)
+
+-- a view keeps an order of a number that was not drawn, while the lock is free and while it is held
+abbrev sets_in : Maybe (Maybe LockSlot) → ℕ
+sets_in (some (some (Some f))) = f.counts.sets
+sets_in (some (some None)) = 0
+sets_in (some none) = 0
+sets_in none = 0
+
+keeps_what_was_not_drawn : Lock (table 2 (home 1) record (seat one_turn) { order = never_drawn }) → ⊥
+keeps_what_was_not_drawn l = let e : 0 ≡ (l.chain l.count).counts.sets =
+    ap sets_in (l.free refl).home in let d = (l.resting refl 0 _ refl).drawn in
+    omega (arith, d, e)
+
+waits_with_what_was_not_drawn : Lock (table 1 none record (holder one_turn) { order = never_drawn })
+    → ⊥
+waits_with_what_was_not_drawn l = let d : 0 < 0 = (l.waiting 0 _ refl refl 0 _ refl).drawn in
+    omega (arith, d)
 
 -- what is known is not sound for the far state at home
 knows_no_memory : Locked quiet pair_of (table 2 (home 1) (seat one_turn)) record seen { memory = [] }

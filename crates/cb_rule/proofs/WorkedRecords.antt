@@ -182,12 +182,12 @@ anything c s known = Unit {0}
 steady : IsSteady anything
 steady = record {
   stays = λ c s ws known known' id v w at lock alike same first before. tt;
-  splits = λ c s known id v left right at alike free none before. tt;
+  splits = λ c s known id v left right at alike free none without before. tt;
   joins = λ c s known id v other w at off there free before. tt;
 }
 
 alike : (v : View) → IsAlike v v
-alike v = record { holds = refl; start = refl; since = refl; took = refl; turns = refl }
+alike v = record { holds = refl; start = refl; since = refl; took = refl; turns = refl; order = refl }
 
 -- a fact of another word than the lock
 abbrev word_is_zero : Beside
@@ -206,7 +206,7 @@ is_one_seat c s known = length s.views ≡ 1
 
 changed_by_a_split : IsSteady is_one_seat → ⊥
 changed_by_a_split b = let e : 2 ≡ 1 = b.splits pair_of (one_view []) seen 0 seat seat
-    (blank pair_of) refl (alike seat) refl refl refl in omega (arith, e)
+    (blank pair_of) refl (alike seat) refl refl refl refl in omega (arith, e)
 
 -- that no seat made two turns
 abbrev turner : View

@@ -339,7 +339,7 @@ found_never_made f = let five : 5 ≡ f.version = ap (λ (s : Seen). s.version) 
 found_with_words : IsFoundFreed finder (version_seen 1 5 8 (9 ∷ [])) → ⊥
 found_with_words f = true≢false (sym (ap (λ (s : Seen). s.freed) f.entry))
 
-gives_what_it_did_not_find : MayGive quiet pair_of Evict None (far 2)
+gives_what_it_did_not_find : MayGive quiet pair_of Evict None None (far 2)
     (version_seen 1 5 8 (9 ∷ []) ∷ []) [] finder → ⊥
 gives_what_it_did_not_find m =
     true≢false (sym (ap (λ (s : Seen). s.freed) m.found.0.entry))

@@ -29,7 +29,7 @@ use Rattle.cb_rule.proofs.Opening.{opens, same_each}
 use Rattle.cb_rule.proofs.ShownWorld.{world_shown}
 use Rattle.cb_rule.proofs.WorkedClosing.{far_in, here, is_held, is_made, maker, not_held}
 use Rattle.cb_rule.proofs.WorkedHistory.{made}
-use Rattle.cb_rule.proofs.WorkedLocking.{accepted, one_view, quiet}
+use Rattle.cb_rule.proofs.WorkedLocking.{accepted, never_drawn, one_view, quiet}
 use Rattle.cb_rule.proofs.WorkedPromise.{one_claim}
 use Rattle.cb_rule.proofs.WorkedViews.{pair_of}
 
@@ -150,3 +150,8 @@ freed_unmade x = let desk = desk_of pair_of a_version in
     nothing : (e : Entry) → Wrote (opener pair_of ∷ []) e → ⊥
     nothing e w = one_view (λ u. Has e (u.fresh ++ u.written) → ⊥) (opener pair_of) (λ none. none)
         w.1.0 w.0 w.1.1 w.2
+
+-- a view keeps an order of a number that was not drawn
+keeps_what_was_not_drawn : ShowsWorld pair_of
+    (table zeros (home empty) record (opener pair_of) { order = never_drawn }) empty → ⊥
+keeps_what_was_not_drawn x = let d : 0 < 0 = (x.orders 0 _ refl).drawn in omega (arith, d)

@@ -44,6 +44,8 @@ turn e = record {
   old = [];
   ended = 0;
   acts = e ∷ [];
+  order = None;
+  keeps = None;
   took = far 0;
   gave = far 1;
 }

@@ -17,6 +17,9 @@ use Rattle.cb_world.specs.FarState.{FarState}
 use Rattle.cb_world.specs.Memory.{bytes_in}
 use Rattle.cb_world.specs.Shown.{never}
 use Rattle.cb_world.specs.Written.{entry}
+use Rattle.cb_types.specs.declared.order.Kept.{Kept}
+use Rattle.cb_types.specs.declared.order.Kept.TheVariants.{Encode, Decode}
+use Rattle.cb_world.specs.Orders.{IsOrderKept, KeepsOrder}
 use Rattle.cb_rule.specs.declared.turn.Turn.{Turn}
 use Rattle.cb_rule.specs.declared.view.Seen.{Seen}
 use Rattle.cb_rule.specs.declared.view.View.{View}
@@ -31,7 +34,7 @@ use Rattle.cb_rule.specs.Steps.{Knows, freed_seen, version_seen}
 use Rattle.cb_rule.proofs.Members.{each_has}
 use Rattle.cb_rule.proofs.WorkedHistory.{made, other, written}
 use Rattle.cb_rule.proofs.WorkedLocking.{far, from_four, home, no_frames, one_turn, one_view, quiet}
-use Rattle.cb_rule.proofs.WorkedLocking.{seat, seen, stood, table, turn}
+use Rattle.cb_rule.proofs.WorkedLocking.{never_drawn, seat, seen, stood, table, turn}
 use Rattle.cb_rule.proofs.WorkedTold.{bytes_of, handle_in, no_write, version_in}
 use Rattle.cb_rule.proofs.WorkedViews.{pair_of}
 
@@ -61,6 +64,7 @@ has_taken = record {
   sized = record { objects = refl; hots = refl; versions = refl; memory = refl };
   stood = stood 1 (lit≤ tt);
   made = λ h knows. absurd (none_known h knows);
+  kept = tt;
   number = refl;
 }
 
@@ -91,6 +95,16 @@ takes_no_frames t = let e : 0 ≡ length t.far.spans =
 another_count : HasTaken before 4 holder → ⊥
 another_count t = let e : 1 ≡ t.far.counts.turns =
     ap (λ (m : Sat). m.0.took.counts.turns) t.taken in let n = t.number in omega (arith, e, n)
+
+-- the seat keeps an order of a number that was not drawn
+abbrev keeper : View
+keeper = record (seat one_turn) { order = never_drawn }
+
+keeps_what_was_not_drawn : HasTaken (keeper, []) 2 (took_lock seen (far 1) 0 keeper, in_hand (far 1))
+    → ⊥
+keeps_what_was_not_drawn t = let e : 0 ≡ t.far.counts.sets =
+    ap (λ (m : Sat). m.0.took.counts.sets) t.taken in let d = t.kept.drawn in
+    omega (arith, d, e)
 
 abbrev exchange : Step LockSlot
 exchange = step 1 0 2 1 none
@@ -133,11 +147,11 @@ at_work = record (took_lock seen (far 1) 0 (seat one_turn)) { fresh = made ∷ [
 abbrev that_made : Turn
 that_made = record (turn (far 1) (far 2)) { left = made ∷ [] }
 
-gives_back : gave_lock Evict None (far 2) 0 [] (1 ∷ []) at_work
+gives_back : gave_lock Evict None None (far 2) 0 [] (1 ∷ []) at_work
     ≡ record (seat (that_made ∷ one_turn)) { written = made ∷ []; own = 1 ∷ [] }
 gives_back = refl
 
-has_given : HasGiven Evict None (far 2) [] (1 ∷ []) (at_work, in_hand (far 2))
+has_given : HasGiven Evict None None (far 2) [] (1 ∷ []) (at_work, in_hand (far 2))
     (record (seat (that_made ∷ one_turn)) { written = made ∷ []; own = 1 ∷ [] }, [])
 has_given = record {
   entries = 0;
@@ -147,12 +161,12 @@ has_given = record {
 }
 
 -- the turn is not recorded, or what it wrote
-without_the_turn : HasGiven Evict None (far 2) [] (1 ∷ []) (at_work, in_hand (far 2))
+without_the_turn : HasGiven Evict None None (far 2) [] (1 ∷ []) (at_work, in_hand (far 2))
     (record (seat one_turn) { written = made ∷ []; own = 1 ∷ [] }, []) → ⊥
 without_the_turn g = let e : 1 ≡ 2 = ap (λ (m : Sat). length m.0.turns) g.given in
     omega (arith, e)
 
-without_its_entry : HasGiven Evict None (far 2) [] (1 ∷ []) (at_work, in_hand (far 2))
+without_its_entry : HasGiven Evict None None (far 2) [] (1 ∷ []) (at_work, in_hand (far 2))
     (record (seat (that_made ∷ one_turn)) { own = 1 ∷ [] }, []) → ⊥
 without_its_entry g = let e : 0 ≡ 1 = ap (λ (m : Sat). length m.0.written) g.given in
     omega (arith, e)
@@ -161,7 +175,7 @@ without_its_entry g = let e : 0 ≡ 1 = ap (λ (m : Sat). length m.0.written) g.
 abbrev stray : Entry
 stray = entry 2 3 8 [] (7 ∷ [])
 
-wrote_out_of_range : HasGiven Evict None (far 2) [] (1 ∷ [])
+wrote_out_of_range : HasGiven Evict None None (far 2) [] (1 ∷ [])
     (record at_work { fresh = stray ∷ [] }, in_hand (far 2)) (
       record (seat (record that_made { left = stray ∷ [] } ∷ one_turn)) {
         written = stray ∷ [];
@@ -172,7 +186,7 @@ wrote_out_of_range : HasGiven Evict None (far 2) [] (1 ∷ [])
     → ⊥
 wrote_out_of_range g = let l : 2 < 2 = g.written.0 in omega (arith, l)
 
-found_out_of_range : HasGiven Evict None (far 2) (freed_seen 2 5 ∷ []) (1 ∷ [])
+found_out_of_range : HasGiven Evict None None (far 2) (freed_seen 2 5 ∷ []) (1 ∷ [])
     (at_work, in_hand (far 2)) (
       record (seat (that_made ∷ one_turn)) {
         written = made ∷ [];
@@ -185,7 +199,12 @@ found_out_of_range g = let l : 2 < 2 = g.seen.0 in omega (arith, l)
 
 -- ---- what a give needs
 abbrev May : FarState → List ℕ → View → Type 0
-May f made v = MayGive quiet pair_of Evict None f [] made v
+May f made v = MayGive quiet pair_of Evict None None f [] made v
+
+-- no order is kept of a world in which no set was begun
+none_kept : (n : ℕ) (o : Kept) → IsOrderKept seen (far n) o → ⊥
+none_kept n (Encode o) k = let d : o.set < 0 = k.drawn in omega (arith, d)
+none_kept n (Decode o) k = let d : o.set < 0 = k.drawn in omega (arith, d)
 
 may_give : May (far 2) (1 ∷ []) at_work
 may_give = record {
@@ -197,7 +216,14 @@ may_give = record {
   writes = λ h n told. absurd (no_write h n told);
   found = tt;
   makes = (lit< tt, tt);
+  leaves = λ o k. absurd (none_kept 1 o k);
+  own = tt;
 }
+
+-- the order that it keeps from now on is of a number that was not drawn
+keeps_what_is_not_drawn : MayGive quiet pair_of Evict None never_drawn (far 2) [] (1 ∷ []) at_work
+    → ⊥
+keeps_what_is_not_drawn m = let d : 0 < 0 = m.own.drawn in omega (arith, d)
 
 not_the_holder : May (far 2) (1 ∷ []) record at_work { holds = false } → ⊥
 not_the_holder m = true≢false (sym m.holds)
@@ -263,7 +289,7 @@ told_as_read handle version bytes asked told = (
   sym (ap bytes_of told),
 )
 
-told_unread : MayGive quiet pair_of (Read (record { n = 1 })) (Some (Bytes 4 [])) (far 2) [] []
+told_unread : MayGive quiet pair_of (Read (record { n = 1 })) (Some (Bytes 4 [])) None (far 2) [] []
     record at_work { fresh = [] } → ⊥
 told_unread m = (m.reads (record { n = 1 }) 4 [] refl refl).1
 
@@ -284,7 +310,7 @@ told_as_written h n (inr (inl x)) = absurd (let e = x.3 in cc)
 told_as_written h n (inr (inr x)) = absurd (let e = x.1 in cc)
 
 -- a free that tells a version which the record has not as written
-told_unwritten : MayGive quiet pair_of (Free (record { n = 1 })) (Some (Version 5)) (far 2) [] []
+told_unwritten : MayGive quiet pair_of (Free (record { n = 1 })) (Some (Version 5)) None (far 2) [] []
     record at_work { fresh = [] } → ⊥
 told_unwritten m = let e : 0 < 0 =
     m.writes 1 5 (inr (inr (record { n = 1 }, refl, refl, refl))) in omega (arith, e)
@@ -331,6 +357,7 @@ one_history = record {
   sound = all_made (λ t. Stood pair_of t.start t.took) two_turns
       (stood 1 (lit≤ tt), (stood 0 (lit≤ tt), tt));
   starts = all_made (λ t. t.gave.first ≡ 3) two_turns (refl, (refl, tt));
+  kept = all_made (λ t. KeepsOrder t.start t.took t.order) two_turns (tt, (tt, tt));
   did = all_made (λ t. quiet pair_of t) two_turns (refl, (refl, tt));
 }
   where
@@ -406,6 +433,13 @@ from_another = turn from_four (far 2) ∷ turn (far 0) from_four ∷ []
 starts_elsewhere : History from_another 2 (far 2) → ⊥
 starts_elsewhere h = let e : 4 ≡ 3 =
     h.starts (turn (far 0) from_four) (is_made from_another _ (inr (inl refl))) in omega (arith, e)
+
+abbrev with_order : List Turn
+with_order = record (turn (far 0) (far 1)) { order = never_drawn } ∷ []
+
+kept_what_was_not_drawn : History with_order 1 (far 1) → ⊥
+kept_what_was_not_drawn h = let d : 0 < 0 = (h.kept _ (is_made with_order _ (inl refl))).drawn in
+    omega (arith, d)
 
 abbrev loud : List Turn
 loud = record (turn (far 0) (far 1)) { acts = Looked 0 0 ∷ [] } ∷ []

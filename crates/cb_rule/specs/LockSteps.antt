@@ -6,6 +6,7 @@ use Rattle.cb_types.specs.declared.config.Config.{Config}
 use Rattle.cb_types.specs.declared.handle.Handle.{Handle}
 use Rattle.cb_types.specs.declared.job.Job.{Job}
 use Rattle.cb_types.specs.declared.job.Job.TheVariants.{Read}
+use Rattle.cb_types.specs.declared.order.Kept.{Kept}
 use Rattle.cb_types.specs.declared.reply.Reply.{Reply}
 use Rattle.cb_types.specs.declared.reply.Reply.TheVariants.{Bytes}
 use Rattle.cb_world.specs.declared.entry.Entry.{Entry}
@@ -14,6 +15,7 @@ use Rattle.cb_world.specs.declared.shown.Shown.{Shown}
 use Rattle.cb_world.specs.Empty.{empty_far}
 use Rattle.cb_world.specs.FarState.{FarState}
 use Rattle.cb_world.specs.Memory.{bytes_in}
+use Rattle.cb_world.specs.Orders.{KeepsOrder, LeavesOrders}
 use Rattle.cb_world.specs.Shown.{object_at}
 use Rattle.cb_rule.specs.declared.turn.Turn.{Turn}
 use Rattle.cb_rule.specs.declared.view.Seen.{Seen}
@@ -52,6 +54,8 @@ pub record HasTaken (m : Sat) (n : ℕ) (m' : Sat) : Type 0 where
   pub sized : AreSized m.0.config known
   pub stood : Stood m.0.config known far
   pub made : (h : ℕ) → Knows h m.0 → h < far.made
+  -- the order that its record keeps is kept by that far state
+  pub kept : KeepsOrder known far m.0.order
   pub number : n ≡ 2 * far.counts.turns
 
 -- an exchange of the lock's word that takes the lock and the far state out of its slot, or finds
@@ -59,9 +63,9 @@ pub record HasTaken (m : Sat) (n : ℕ) (m' : Sat) : Type 0 where
 abbrev pub took : Step LockSlot → Sat → ℕ → Sat → Type 0
 took st m n m' = (n ≡ st.first → HasTaken m n m') × (n ≢ st.first → m' ≡ m)
 
--- the turn that a seat made which gives this far state
-abbrev pub turn_of : Job → Option Reply → FarState → ℕ → View → Turn
-turn_of job reply far n v = record {
+-- the turn that a seat made which gives this far state, and behind which it keeps this order
+abbrev pub turn_of : Job → Option Reply → Option Kept → FarState → ℕ → View → Turn
+turn_of job reply keeps far n v = record {
   job = job;
   reply = reply;
   start = v.start;
@@ -72,14 +76,17 @@ turn_of job reply far n v = record {
   old = v.old;
   ended = v.ended;
   acts = v.acts;
+  order = v.order;
+  keeps = keeps;
   took = v.took;
   gave = far;
 }
 
 -- The seat has given the lock back. Its turn stands in the record; so do the entries that it wrote,
 -- the freed ones that it found and the handles that it made. The rest of the turn is blank.
-abbrev pub gave_lock : Job → Option Reply → FarState → ℕ → List Seen → List ℕ → View → View
-gave_lock job reply far n freed made v = record v {
+abbrev pub gave_lock : Job → Option Reply → Option Kept → FarState → ℕ → List Seen → List ℕ → View
+    → View
+gave_lock job reply keeps far n freed made v = record v {
   written = v.fresh ++ v.written;
   fresh = [];
   seen = freed ++ v.seen;
@@ -93,7 +100,8 @@ gave_lock job reply far n freed made v = record v {
   acts = [];
   known = nothing;
   took = empty_far 1 v.config;
-  turns = turn_of job reply far n v ∷ v.turns;
+  order = keeps;
+  turns = turn_of job reply keeps far n v ∷ v.turns;
 }
 
 -- the freed entry of an object of which the record has an entry and the holder knows that it is
@@ -122,27 +130,32 @@ WritesTold job reply v = (h n : ℕ) → TellsWritten job reply h n → 0 < writ
 
 -- The holder may give the lock back with this far state: what it knows is sound for it, and the turn
 -- did what its job says, told what was read and written, and made what is said to be its own.
-pub record MayGive (deeds : Deeds) (c : Config) (job : Job) (reply : Option Reply) (far : FarState)
-    (freed : List Seen) (made : List ℕ) (v : View) : Type 0 where
+pub record MayGive (deeds : Deeds) (c : Config) (job : Job) (reply : Option Reply)
+    (keeps : Option Kept) (far : FarState) (freed : List Seen) (made : List ℕ) (v : View) : Type 0
+  where
   pub holds : v.holds ≡ true
   pub stood : Stood c v.known far
   pub adds : AddsTurn v.took far
-  pub did : (n : ℕ) → deeds c (turn_of job reply far n v)
+  pub did : (n : ℕ) → deeds c (turn_of job reply keeps far n v)
   pub reads : ReadsTold job reply v
   pub writes : WritesTold job reply v
   pub found : Each (IsFoundFreed v) freed
   pub makes : Each (λ h. Make v.known.first h v.fresh) made
+  -- every order that was kept stays so, and the seat's own is
+  pub leaves : LeavesOrders v.start v.took v.known far
+  pub own : KeepsOrder v.known far keeps
 
 -- what a seat has that gave the lock back, and that its handles are in range
-pub record HasGiven (job : Job) (reply : Option Reply) (far : FarState) (freed : List Seen)
-    (made : List ℕ) (m m' : Sat) : Type 0 where
+pub record HasGiven (job : Job) (reply : Option Reply) (keeps : Option Kept) (far : FarState)
+    (freed : List Seen) (made : List ℕ) (m m' : Sat) : Type 0 where
   pub entries : ℕ
-  pub given : m' ≡ (gave_lock job reply far entries freed made m.0, [])
+  pub given : m' ≡ (gave_lock job reply keeps far entries freed made m.0, [])
   pub written : Each (λ (e : Entry). e.handle < m.0.config.handles) (m.0.fresh ++ m.0.written)
   pub seen : Each (λ (s : Seen). s.handle < m.0.config.handles) freed
 
 -- a store of the lock's word that gives the lock back, and the far state that is in hand to its
 -- slot
-abbrev pub gave : Job → Option Reply → List Seen → List ℕ → Step LockSlot → Sat → ℕ → Sat → Type 0
-gave job reply freed made st m n m' = (far : FarState) → m.1 ≡ (0, Some far) ∷ []
-    → HasGiven job reply far freed made m m'
+abbrev pub gave : Job → Option Reply → Option Kept → List Seen → List ℕ → Step LockSlot → Sat → ℕ
+    → Sat → Type 0
+gave job reply keeps freed made st m n m' = (far : FarState) → m.1 ≡ (0, Some far) ∷ []
+    → HasGiven job reply keeps far freed made m m'

@@ -7,6 +7,7 @@ use Rattle.cb_types.specs.declared.config.Config.{Config}
 use Rattle.cb_world.specs.declared.shown.Shown.{Shown}
 use Rattle.cb_world.specs.Empty.{empty_far}
 use Rattle.cb_world.specs.FarState.{FarState}
+use Rattle.cb_world.specs.Orders.{KeepsOrder}
 use Rattle.cb_world.specs.Sound.{Sound}
 use Rattle.cb_world.specs.World.{AreCounted, IsConfigured}
 use Rattle.cb_rule.specs.declared.turn.Turn.{Turn}
@@ -37,14 +38,15 @@ abbrev pub turns_on : ℕ → View → ℕ
 turns_on k v = times (is_turn k) v.turns
 
 -- Far states by how many turns were counted, and how many are counted now: the turn took the one of
--- its number, which was sound for what it knew when it began, and gave the next. One that was
--- refused after 2^40 turns gave what it took.
+-- its number, which was sound for what it knew when it began and kept its seat's order, and gave the
+-- next. One that was refused after 2^40 turns gave what it took.
 pub record TurnStands (deeds : Deeds) (c : Config) (count : ℕ) (chain : ℕ → FarState) (t : Turn)
     : Type 0 where
   pub took : t.took ≡ chain (turn_number t)
   pub stood : Stood c t.start t.took
   pub gave : ((turn_number t < count) × (t.gave ≡ chain (turn_number t + 1)))
       ⊎ ((turn_number t ≡ 2 ^ 40) × (count ≡ 2 ^ 40) × (t.gave ≡ t.took))
+  pub kept : KeepsOrder t.start t.took t.order
   pub did : deeds c t
 
 -- how many entries the history had when so many turns had ended, by how many it had at the end of
@@ -82,6 +84,12 @@ pub record Locked (deeds : Deeds) (c : Config) (s : Table) (known : Shown) : Typ
       → u.took ≡ chain count
   pub began : (j : ℕ) (u : View) → get_elem? s.views j ≡ some u → u.holds ≡ true
       → Stood c u.start u.took
+  -- each order that a view keeps is kept: by the far state in its slot and what would be known, or by
+  -- those with which the holder's turn began
+  pub resting : total holding s.views ≡ 0 → (j : ℕ) (u : View) → get_elem? s.views j ≡ some u
+      → KeepsOrder known (chain count) u.order
+  pub waiting : (i : ℕ) (v : View) → get_elem? s.views i ≡ some v → v.holds ≡ true
+      → (j : ℕ) (u : View) → get_elem? s.views j ≡ some u → KeepsOrder v.start v.took u.order
   pub turns : (j : ℕ) (u : View) → get_elem? s.views j ≡ some u
       → Each (TurnStands deeds c count chain) u.turns
   -- each counted turn stands in one view, once

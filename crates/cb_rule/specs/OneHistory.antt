@@ -6,6 +6,7 @@ use lib.ListN.{get_elem?}
 use Rattle.cb_types.specs.declared.config.Config.{Config}
 use Rattle.cb_world.specs.Empty.{empty_far}
 use Rattle.cb_world.specs.FarState.{FarState}
+use Rattle.cb_world.specs.Orders.{KeepsOrder}
 use Rattle.cb_rule.specs.declared.turn.Turn.{Turn}
 use Rattle.cb_rule.specs.declared.view.View.{View}
 use Rattle.cb_rule.specs.Lists.{total, Has}
@@ -25,8 +26,8 @@ HasTurnNumber count t = (turn_number t < count)
 
 -- So many turns are counted, and led from the empty world to this far state: each number stands
 -- once, the first turn took the empty world's, each other one what the one before it gave, and the
--- last one gave this. Each took one that was sound for what it knew when it began. Makes have one
--- first version in all of them.
+-- last one gave this. Each took one that was sound for what it knew when it began, and that kept
+-- its seat's order. Makes have one first version in all of them.
 pub record IsOneHistory (deeds : Deeds) (first : ℕ) (c : Config) (views : List View) (count : ℕ)
     (last : FarState) : Type 0 where
   pub counted : last.counts.turns ≡ count
@@ -39,6 +40,7 @@ pub record IsOneHistory (deeds : Deeds) (first : ℕ) (c : Config) (views : List
   pub numbers : (t : Turn) → Made views t → HasTurnNumber count t
   pub sound : (t : Turn) → Made views t → Stood c t.start t.took
   pub starts : (t : Turn) → Made views t → t.gave.first ≡ first
+  pub kept : (t : Turn) → Made views t → KeepsOrder t.start t.took t.order
   pub did : (t : Turn) → Made views t → deeds c t
 
 -- No seat holds the lock: its word is twice the count, and the slot has the last far state.

@@ -1,5 +1,5 @@
 -- The rule of the whole table.
-use Rattle.std.specs.Prelude.{◌≡◌, ◌≢◌, ◌⊎◌, ℕ, true, false, List, [], ◌∷◌, ◌++◌, slice_index}
+use Rattle.std.specs.Prelude.{◌≡◌, ◌≢◌, ◌⊎◌, ℕ, true, false, List, [], ◌∷◌, ◌++◌, None, slice_index}
 use Rattle.std.specs.Prelude.{slice_set}
 use mathlib.Core.Option.{some}
 use lib.ListN.{get_elem?}
@@ -24,13 +24,14 @@ pub record AreShares (c : Config) (views : List View) : Type 0 where
 abbrev pub Beside : Type 1
 Beside = Config → Table → Shown → Type 0
 
--- the lock, what a turn began with, and the turns of a view
+-- the lock, what a turn began with, the turns of a view and the order that it keeps
 pub record IsAlike (v w : View) : Type 0 where
   pub holds : w.holds ≡ v.holds
   pub start : w.start ≡ v.start
   pub since : w.since ≡ v.since
   pub took : w.took ≡ v.took
   pub turns : w.turns ≡ v.turns
+  pub order : w.order ≡ v.order
 
 -- A step on another word than the lock keeps what stands beside, where the seat's lock and turns
 -- stay and what is known stays but for the holder, who keeps the first version. So do a split and a
@@ -42,7 +43,7 @@ pub record IsSteady (beside : Beside) : Type 0 where
       → beside c record { words = ws; homes = s.homes; views = slice_set s.views id w } known'
   pub splits : (c : Config) (s : Table) (known : Shown) (id : ℕ) (v left right : View)
       → get_elem? s.views id ≡ some v → IsAlike v left → right.holds ≡ false → right.turns ≡ []
-      → beside c s known
+      → right.order ≡ None → beside c s known
       → beside c record {
         words = s.words;
         homes = s.homes;

@@ -11,7 +11,9 @@ use Rattle.cb_world.specs.FarState.{FarState}
 use Rattle.cb_world.specs.Now.{is_gone, now}
 use Rattle.cb_world.specs.Now.Now.{never}
 use Rattle.cb_world.specs.OpenWrites.{IsLeavingNow}
+use Rattle.cb_world.specs.Orders.{KeepsOrder}
 use Rattle.cb_world.specs.World.{AreCounted, IsConfigured, IsKnown}
+use Rattle.cb_rule.specs.declared.view.View.{View}
 use Rattle.cb_rule.specs.Closing.{desk_of, now_of}
 use Rattle.cb_rule.specs.Lists.{total}
 use Rattle.cb_rule.specs.Promised.{IsLast, Wrote}
@@ -30,7 +32,7 @@ pub record IsMovedByOne (s : Table) (far : FarState) (h : ℕ) : Type 0 where
 
 -- The words of the table and the far state in its slot are a sound world, whatever is pinned or
 -- claimed. It holds of each object that no view claims what the last entry left, and an object
--- without an entry was never made.
+-- without an entry was never made. Each order that a view keeps is kept by it.
 pub record ShowsWorld (c : Config) (s : Table) (far : FarState) : Type 0 where
   pub home : get_elem? s.homes 0 ≡ some (some (Some far))
   pub configured : IsConfigured c far
@@ -42,3 +44,4 @@ pub record ShowsWorld (c : Config) (s : Table) (far : FarState) : Type 0 where
       → now shown far e.handle ≡ now_of (is_gone far e.handle) e
   pub none : (h : ℕ) → h < c.handles → ((e : Entry) → Wrote s.views e → e.handle ≢ h)
       → now shown far h ≡ never
+  pub orders : (j : ℕ) (u : View) → get_elem? s.views j ≡ some u → KeepsOrder shown far u.order

@@ -1,6 +1,6 @@
 -- What each kind of step does to the view of the seat that steps, and what it tells.
 use Rattle.std.specs.Prelude.{◌≡◌, ◌≢◌, ◌⊎◌, ℕ, ◌+◌, ◌-◌, ◌*◌, ◌^◌, ◌≤◌, ◌<◌, true, false, List, []}
-use Rattle.std.specs.Prelude.{◌∷◌, ◌++◌, length, map, slice_index, slice_set}
+use Rattle.std.specs.Prelude.{◌∷◌, ◌++◌, None, length, map, slice_index, slice_set}
 use Rattle.atomic_table.specs.Table.{Step}
 use Rattle.cb_types.specs.declared.config.Config.{Config}
 use Rattle.cb_ptr.specs.declared.word.State.TheVariants as word
@@ -341,6 +341,7 @@ blank c = record {
   acts = [];
   known = nothing;
   took = empty_far 1 c;
+  order = None;
   turns = [];
 }
 

@@ -1,4 +1,4 @@
-use cb_types::{Job, Reply};
+use cb_types::{Job, Kept, Reply};
 use cb_world::{Entry, Event, Far, Shown};
 
 /// A turn under the far lock. No value of it is made; contracts read its arrays as lists of any
@@ -21,6 +21,9 @@ pub struct Turn {
     pub ended: u64,
     /// The first one first.
     pub acts: [Event; 0],
+    /// The orders that its seat kept before it and behind it.
+    pub order: Option<Kept>,
+    pub keeps: Option<Kept>,
     /// The far states that it took and gave.
     pub took: Far,
     pub gave: Far,

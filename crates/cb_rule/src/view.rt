@@ -1,7 +1,9 @@
-ghost use Rattle.std.specs.Prelude.{ℕ, Bool, List};
+ghost use Rattle.std.specs.Prelude.{ℕ, Bool, List, Option};
 ghost use Rattle.std.specs.Borrow.{ftrue};
 ghost use Rattle.std.specs.Coded.{codes};
 ghost use Rattle.cb_types.specs.declared.config.Config.{Config};
+ghost use Rattle.cb_types.specs.declared.order.Kept.{Kept};
+ghost use Rattle.cb_types.specs.contracts.order.Kept as kept;
 ghost use Rattle.cb_world.specs.declared.entry.Entry.{Entry};
 ghost use Rattle.cb_world.specs.declared.event.Event.{Event};
 ghost use Rattle.cb_world.specs.declared.shown.Shown.{Shown};
@@ -104,6 +106,8 @@ pub struct View {
     pub ghost known: { Shown },
     /// The far state that it took with the lock.
     pub ghost took: { FarState } by { Prim.hlevel (codes, far.the_row.coded) },
+    /// The order that it keeps.
+    pub ghost order: { Option Kept } by { Prim.hlevel (codes, kept.the_row.coded) },
     pub ghost turns: { List Turn } by { Prim.hlevel (codes, turn.the_row.coded) },
 }
 
