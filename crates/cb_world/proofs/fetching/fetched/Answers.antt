@@ -1,6 +1,5 @@
-use Rattle.std.proofs.Common.{◌≡◌, ℕ, ◌<◌, List, length, take, get_or, sym, ap, ◌∙◌, subst}
+use Rattle.std.proofs.Common.{ℕ, List, length, take, get_or, sym, ap, ◌∙◌, subst}
 use Rattle.std.proofs.lemmas.Option.{slice_get-get_or}
-use Rattle.cb_set.specs.Surviving.{surviving}
 use Rattle.cb_world.specs.Fetched.{AreGiven, StandAt}
 use Rattle.cb_world.proofs.FetchedRows.{in_order_given}
 use Rattle.cb_world.proofs.Gathering.{first_survivors, survivors_stand}
