@@ -40,7 +40,7 @@ accepted Turns = lit≤ tt
 -- ---- the empty world after so many turns that changed nothing
 abbrev pub far : ℕ → FarState
 far n = record (empty_far 3 pair_of) {
-  counts = record { turns = n; by_job = n ∷ replicate 18 0; sets = 0; keys = 0 };
+  counts = record { turns = n; by_job = n ∷ replicate 22 0; sets = 0; keys = 0 };
 }
 
 abbrev pub seen : Shown
@@ -49,7 +49,7 @@ seen = empty_shown 3 pair_of
 pub stood : (n : ℕ) → n ≤ 2 ^ 40 → Stood pair_of seen (far n)
 stood n few = let e = stood_empty 3 pair_of (lit≤ tt) accepted in
     let f = e.configured in let k = e.counted in record {
-      sound = recounted_sound seen (empty_far 3 pair_of) n (n ∷ replicate 18 0) 0 e.sound;
+      sound = recounted_sound seen (empty_far 3 pair_of) n (n ∷ replicate 22 0) 0 e.sound;
       configured = record {
         frames = f.frames;
         homes = f.homes;
