@@ -32,7 +32,8 @@ row_too_many x = absurd (let e : 2 ≡ 1 = ap length (same_Some (row 7 ∷ row 7
 row_too_short : ¬ (HasSource 1 1 (room [] (Some ([] ∷ []))))
 row_too_short x = absurd (let same = same_Some ([] ∷ []) x.table x.kept in
     let e : 0 ≡ length (row_at x.table 0) = ap (λ (t : List (List ℕ)). length (row_at t 0)) same in
-    let n = x.count in let l : length (row_at x.table 0) ≡ 4096 = x.lengths 0 [] (omega (arith, n)) in
+    let n = x.count in
+    let l : length (row_at x.table 0) ≡ 4096 = x.lengths 0 [] (omega (arith, n)) in
     omega (arith, e, l))
 
 is_roomy : AreRoomy 1 1 (room (row 7 ∷ []) (Some (row 7 ∷ [])))
@@ -76,7 +77,8 @@ there = got 3 (row 7)
 are_given : AreGiven nodes shards (1 ∷ []) (row 7 ∷ [])
 are_given = record { count = refl; given = given }
   where
-    given : (i : ℕ) → i < 1 → (shard : Shard) × (slice_get shards (slice_index (1 ∷ []) i) ≡ Some shard)
+    given : (i : ℕ) → i < 1 → (shard : Shard)
+        × (slice_get shards (slice_index (1 ∷ []) i) ≡ Some shard)
         × (row_under nodes shard.node shard.key ≡ Some (row_at (row 7 ∷ []) i))
     given zero within = (at 1 3, refl, there)
     given (suc i) within = absurd (omega (arith, within))

@@ -336,7 +336,15 @@ row_too_few c = let n : 1 ≡ 9 = c.room in omega (arith, n)
 
 -- a batch of two data positions and a parity, where there are two nodes
 abbrev wide : LeavingState
-wide = record { set = 0; pages = 1; frames = 0 ∷ 1 ∷ []; words = []; made = true; parities = [] ∷ []; shards = [] }
+wide = record {
+  set = 0;
+  pages = 1;
+  frames = 0 ∷ 1 ∷ [];
+  words = [];
+  made = true;
+  parities = [] ∷ [];
+  shards = [];
+}
 
 more_positions_than_nodes : IsConfigured allowing (record over_two { leaving = Some wide }) → ⊥
 more_positions_than_nodes c =
