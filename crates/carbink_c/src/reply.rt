@@ -102,7 +102,10 @@ fn later_kind(reply: &Reply) -> u32
         Reply::NotClaimed => 53,
         Reply::NotStored { .. } => 54,
         Reply::Held { .. } => 55,
-        _ => 56,
+        Reply::NotHeld => 56,
+        Reply::NoOrder => 57,
+        Reply::Direct => 58,
+        _ => 59,
     }
 }
 
@@ -155,6 +158,7 @@ fn later_first(reply: &Reply) -> u64
         Reply::Stored { left } => u64::from(*left),
         Reply::NotStored { left } => u64::from(*left),
         Reply::Held { seat } => u64::from(*seat),
+        Reply::Fetched { set, .. } => set.n,
         _ => 0,
     }
 }
@@ -170,6 +174,7 @@ fn second(reply: &Reply) -> u64
         Reply::Rebuilt { position, .. } => u64::from(*position),
         Reply::NoRoom { loose, .. } => u64::from(*loose),
         Reply::Joining { b, .. } => b.n,
+        Reply::Fetched { position, .. } => u64::from(*position),
         _ => 0,
     }
 }
