@@ -63,17 +63,17 @@ fn kind(reply: &Reply) -> u32
         Reply::Pinned { .. } => 24,
         Reply::Worn => 25,
         Reply::ScopeFull => 26,
+        Reply::NotPinned => 27,
         _ => later_kind(reply),
     }
 }
 
-/// The same of a kind from 27 on.
+/// The same of a kind from 28 on.
 fn later_kind(reply: &Reply) -> u32
-    requires later { 27 ≤ kind_of reply.now }
+    requires later { 28 ≤ kind_of reply.now }
     ensures { result ≡ kind_of reply.now }
 {
     match reply {
-        Reply::NotPinned => 27,
         Reply::NotHere => 28,
         Reply::NoSlot { .. } => 29,
         Reply::NoSpans { .. } => 30,
