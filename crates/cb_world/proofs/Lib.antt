@@ -1,4 +1,5 @@
 mod Padded
+mod RoomRows
 pub mod FrameCopied
 mod FrameRuns
 mod Dropping
@@ -42,6 +43,8 @@ pub mod Stepping
 pub mod Patching
 pub mod Committed
 pub mod JoinNow
+pub mod OrdersLeft
+pub mod WordsLeft
 pub mod Beginning
 pub mod Counting
 pub mod Surveying
@@ -90,6 +93,7 @@ mod WorkedGroups
 mod WorkedWorld
 mod WorkedFar
 mod WorkedReserved
+mod WorkedOrders
 mod WorkedOpen
 mod WorkedOpenWrites
 mod WorkedSeatWrites
