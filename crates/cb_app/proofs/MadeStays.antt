@@ -284,6 +284,10 @@ module _ {D : Type 0} (run : D → List Event → D → Type 0) (shows : D → S
       adds_none c (job.Crash node) a.far b.far (Some r) refl (crash_same a.far b.far node r x.1)
   does_adds (job.Join node) a b r x =
       adds_none c (job.Join node) a.far b.far (Some r) refl (join_same a.far b.far node r x.1)
+  does_adds job.Gather a b r x = absurd x.1
+  does_adds job.Install a b r x = absurd x.1
+  does_adds (job.Fetch handle) a b r x = absurd x.1
+  does_adds job.Land a b r x = absurd x.1
 
   worn_none : (j : Job) → made_by j (Some answer.Worn) ≡ 0
   worn_none (job.Make bytes) = refl
@@ -360,6 +364,10 @@ module _ {D : Type 0} (run : D → List Event → D → Type 0) (shows : D → S
       ap (λ (f : FarState). f.made) state
   stops_kept (job.Crash node) a b x = kept a b x.1.0
   stops_kept (job.Join node) a b x = absurd x.1
+  stops_kept job.Gather a b x = absurd x.1
+  stops_kept job.Install a b x = absurd x.1
+  stops_kept (job.Fetch handle) a b x = absurd x.1
+  stops_kept job.Land a b x = absurd x.1
 
   none_made : (j : Job) → made_by j None ≡ 0
   none_made (job.Make bytes) = refl

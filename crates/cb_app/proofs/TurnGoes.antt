@@ -475,6 +475,10 @@ module _ {D : Type 0} (run : D → List Event → D → Type 0) (shows : D → S
       (plain_keeps c a.far b.far r (rebuild_plain a.far b.far r x.1))
   does_goes (job.Crash node) a b r is x = crash_goes c node a.far b.far r x.1
   does_goes (job.Join node) a b r is x = join_goes c node a.far b.far r x.1
+  does_goes job.Gather a b r is x = absurd x.1
+  does_goes job.Install a b r is x = absurd x.1
+  does_goes (job.Fetch handle) a b r is x = absurd x.1
+  does_goes job.Land a b r is x = absurd x.1
 
   -- a turn that was answered
   pub turned_goes : (j : Job) (a b : Hold) (r : Reply) → IsFine c a.far

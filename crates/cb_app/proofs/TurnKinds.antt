@@ -244,6 +244,10 @@ module _ {D : Type 0} (run : D → List Event → D → Type 0) (shows : D → S
         kept.stays 1 a.far b.far (crash_stays c node a.far b.far r x is)
     does (job.Join node) a b r is sound (ran, x) =
         kept.stays 1 a.far b.far (join_stays c node a.far b.far r x is)
+    does job.Gather a b r is sound x = absurd x.1
+    does job.Install a b r is sound x = absurd x.1
+    does (job.Fetch handle) a b r is sound x = absurd x.1
+    does job.Land a b r is sound x = absurd x.1
 
     stops : (j : Job) (a b : Hold) → IsConfigured c a.far → Stops run shows lacks c j a b
         → K a.far b.far
@@ -273,6 +277,10 @@ module _ {D : Type 0} (run : D → List Event → D → Type 0) (shows : D → S
         subst (K a.far) (sym state) (kept.looked a.far id n)
     stops (job.Crash node) a b is x = kept.same a.far b.far x.1.0
     stops (job.Join node) a b is x = absurd x.1
+    stops job.Gather a b is x = absurd x.1
+    stops job.Install a b is x = absurd x.1
+    stops (job.Fetch handle) a b is x = absurd x.1
+    stops job.Land a b is x = absurd x.1
 
 -- ---- the turns
 module _ {D : Type 0} (run : D → List Event → D → Type 0) (shows : D → Shown → Type 0)

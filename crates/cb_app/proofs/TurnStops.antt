@@ -107,3 +107,7 @@ module _ {D : Type 0} (run : D → List Event → D → Type 0) (shows : D → S
       ap standing state
   stops_same (job.Crash node) a b is x = same a b x.1.0
   stops_same (job.Join node) a b is x = absurd x.1
+  stops_same job.Gather a b is x = absurd x.1
+  stops_same job.Install a b is x = absurd x.1
+  stops_same (job.Fetch handle) a b is x = absurd x.1
+  stops_same job.Land a b is x = absurd x.1

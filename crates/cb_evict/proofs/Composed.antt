@@ -33,17 +33,18 @@ use Rattle.cb_evict.specs.declared.eviction.Eviction.TheVariants as eviction
 use Rattle.cb_evict.specs.Eviction.{CountsRule, TellsCounts, reply_of}
 use Rattle.cb_evict.specs.declared.finding.Found.{Found}
 use Rattle.cb_evict.specs.declared.finding.Found.TheVariants.{Loose}
+use Rattle.cb_evict.specs.declared.lengths.LengthCounts.{LengthCounts}
 use Rattle.cb_evict.specs.declared.taking.Taken.{Taken}
 use Rattle.cb_evict.specs.declared.taking.Taken.TheVariants.{Few, Enough}
 use Rattle.cb_evict.specs.Finding.{FindsSpans}
 use Rattle.cb_evict.specs.Taking.{AreLooseNow, AreLooseStill, AreLostSince, TriesSpans, TakesFew, TakesEnough, Takes}
-use Rattle.cb_evict.specs.Lengths.{has_pages, loose_of, most_loose, without}
+use Rattle.cb_evict.specs.Lengths.{AreLengthCounts, count_of, has_pages, loose_of, most_loose, most_of, without}
 use Rattle.cb_evict.specs.Loading.{AreOfLength, LiesInOne, OnlyLoads}
 use Rattle.cb_evict.specs.Looking.{IsIn, LooksOver}
 use Rattle.cb_evict.proofs.CallParts.{Joins, part_more, part_then}
 use Rattle.cb_evict.proofs.Claims.{all_left, claims_nothing}
 use Rattle.cb_evict.proofs.Gathers.{claims_then, gathers_back}
-use Rattle.cb_evict.proofs.LooseLengths.{filter_all, filter_in, filter_swap, first_long}
+use Rattle.cb_evict.proofs.LooseLengths.{filter_all, filter_in, filter_swap, first_long, most_is}
 use Rattle.cb_evict.proofs.Loose.{loose_among, all_quiet, apart_tail, fresh_head}
 use Rattle.cb_evict.proofs.Restored.{restored}
 use Rattle.cb_evict.proofs.Standing.{candidates_apart}
@@ -83,9 +84,10 @@ read_err runs spans frames es r ran loads =
 
 -- ---- by what was found, and by what was taken
 pub found_loose : (runs : List Event → Type 0) (shows : Shown → Type 0)
-    (far : FarState) (found : Found) (frames : _) (nodes : ℕ) → found ≡ Loose frames nodes
-    → FindsSpans runs shows far found → FindsSpans runs shows far (Loose frames nodes)
-found_loose runs shows far found frames nodes is x = subst (FindsSpans runs shows far) is x
+    (far : FarState) (found : Found) (frames : _) (counts : LengthCounts) (nodes : ℕ)
+    → found ≡ Loose frames counts nodes → FindsSpans runs shows far found
+    → FindsSpans runs shows far (Loose frames counts nodes)
+found_loose runs shows far found frames counts nodes is x = subst (FindsSpans runs shows far) is x
 
 pub taken_enough : (runs : List Event → Type 0) (shows : Shown → Type 0)
     (far : FarState) (finds : List ℕ → List Event → Type 0) (taken : Taken) (frames : _)
@@ -164,6 +166,21 @@ looks_as runs spans ys frames gs loose hs e f h x =
 pub most_told : (spans ys : List (Option Contents)) (loose hs : List ℕ) {n : ℕ} → ys ≡ spans
     → hs ≡ loose → n ≡ most_loose ys hs → n ≡ most_loose spans loose
 most_told spans ys loose hs e f is = is ∙ (λ i. most_loose (e i) (f i))
+
+-- and where the spans of each length were counted
+pub most_counted : (spans ys : List (Option Contents)) (loose hs : List ℕ) {counts : LengthCounts}
+    {n : ℕ} → ys ≡ spans → hs ≡ loose → AreLengthCounts ys hs counts → n ≡ most_of counts
+    → n ≡ most_loose spans loose
+most_counted spans ys loose hs e f x is = most_told spans ys loose hs e f
+    (omega (arith, most_is ys hs, x.fours, x.twos, x.ones, is))
+
+pub counted_as : (spans ys : List (Option Contents)) (loose hs : List ℕ) {counts : LengthCounts}
+    → ys ≡ spans → hs ≡ loose → AreLengthCounts ys hs counts → AreLengthCounts spans loose counts
+counted_as spans ys loose hs e f x = record {
+  fours = x.fours ∙ (λ i. count_of (e i) 4 (f i));
+  twos = x.twos ∙ (λ i. count_of (e i) 2 (f i));
+  ones = x.ones ∙ (λ i. count_of (e i) 1 (f i));
+}
 
 -- nothing is claimed by looks
 pub looks_tried : {runs : List Event → Type 0} {shows : Shown → Type 0} (far : FarState)

@@ -27,6 +27,7 @@ use Rattle.cb_evict.specs.Events.{OnlyLooks}
 use Rattle.cb_evict.specs.EvictRule.{HasFewSpans, HasFewNodes}
 use Rattle.cb_evict.specs.Beginning.{ReservesFrames}
 use Rattle.cb_evict.specs.Evicting.{AreSpansTaken, ReadsSpans, StoresFrames, TouchesSpans}
+use Rattle.cb_evict.specs.declared.lengths.LengthCounts.{LengthCounts}
 use Rattle.cb_evict.specs.Finding.{FindsLoose}
 use Rattle.cb_evict.specs.Lengths.{batch_pages, has_pages, loose_of, most_loose}
 use Rattle.cb_evict.specs.Loading.{LiesInOne, OnlyLoads}
@@ -73,26 +74,38 @@ over_both = record {
   done = (tt, inr (first_loose, refl, (second_held, tt)));
 }
 
-finds_first : FindsLoose (λ es. es ≡ looks) pair (0 ∷ []) 2
+abbrev one_short : LengthCounts
+one_short = record { fours = 0; twos = 0; ones = 1 }
+
+finds_first : FindsLoose (λ es. es ≡ looks) pair (0 ∷ []) one_short 2
 unfolding pages_of batch_pages
 finds_first = record {
   looks = over_both;
+  counted = record { fours = refl; twos = refl; ones = refl };
   enough = refl;
   room = omega (arith, two_nodes);
   nodes = sym two_nodes;
 }
 
+-- the spans of each length are counted
+not_other_length : (runs : List Event → Type 0)
+    → FindsLoose runs pair (0 ∷ []) (record { fours = 1; twos = 0; ones = 0 }) 2 → ⊥
+unfolding pages_of
+not_other_length runs a = let e : 1 ≡ 0 = a.counted.fours in omega (arith, e)
+
 -- the nodes are counted
-not_other_nodes : (runs : List Event → Type 0) → FindsLoose runs pair (0 ∷ []) 3 → ⊥
+not_other_nodes : (runs : List Event → Type 0) → FindsLoose runs pair (0 ∷ []) one_short 3 → ⊥
 not_other_nodes runs a = let e = a.nodes in absurd (omega (arith, e, two_nodes))
 
 -- too few spans, and then too few nodes, are a refusal
-not_enough : (runs : List Event → Type 0) (n : ℕ) → FindsLoose runs pair [] n → ⊥
+not_enough : (runs : List Event → Type 0) (n : ℕ) (counts : LengthCounts)
+    → FindsLoose runs pair [] counts n → ⊥
 unfolding batch_pages
-not_enough runs n a = false≢true a.enough
+not_enough runs n counts a = false≢true a.enough
 
-not_with_room : (runs : List Event → Type 0) (n : ℕ) → FindsLoose runs lone (0 ∷ []) n → ⊥
-not_with_room runs n a = let l = a.room in absurd (omega (arith, l, one_node))
+not_with_room : (runs : List Event → Type 0) (n : ℕ) (counts : LengthCounts)
+    → FindsLoose runs lone (0 ∷ []) counts n → ⊥
+not_with_room runs n counts a = let l = a.room in absurd (omega (arith, l, one_node))
 
 -- the same where sets of two data positions are in force
 abbrev paired : FarState

@@ -8,15 +8,17 @@ use Rattle.cb_evict.specs.declared.eviction.Eviction.TheVariants.{Refused}
 use Rattle.cb_evict.specs.declared.finding.Found.{Found}
 use Rattle.cb_evict.specs.declared.finding.Found.TheVariants.{Few, Loose}
 use Rattle.cb_evict.specs.Candidates.{candidates}
-use Rattle.cb_evict.specs.Lengths.{batch_pages}
+use Rattle.cb_evict.specs.declared.lengths.LengthCounts.{LengthCounts}
+use Rattle.cb_evict.specs.Lengths.{AreLengthCounts, batch_pages}
 use Rattle.cb_evict.specs.Looking.{LooksOver}
 use Rattle.cb_evict.specs.Taking.{AreLooseNow, TakesFew}
 
--- by looks these spans are loose, which are enough of a length, and so many nodes have room, which
--- are enough
+-- by looks these spans are loose, so many of each length, which are enough of one, and so many nodes
+-- have room, which are enough
 pub record FindsLoose (runs : List Event → Type 0) (far : FarState) (loose : List ℕ)
-    (n : ℕ) : Type 0 where
+    (counts : LengthCounts) (n : ℕ) : Type 0 where
   pub looks : LooksOver runs far.spans (candidates far) loose
+  pub counted : AreLengthCounts far.spans loose counts
   pub enough : is_some (batch_pages far.code.k far.spans loose) ≡ true
   pub room : far.code.k + far.code.r ≤ room_count far.nodes far.members
   pub nodes : n ≡ room_count far.nodes far.members
@@ -25,4 +27,5 @@ pub record FindsLoose (runs : List Event → Type 0) (far : FarState) (loose : L
 abbrev pub FindsSpans : (List Event → Type 0) → (Shown → Type 0) → FarState → Found → Type 0
 FindsSpans runs shows far (Few lack loose nodes) =
     TakesFew runs shows far (AreLooseNow far) (Refused lack loose nodes)
-FindsSpans runs shows far (Loose frames nodes) = FindsLoose runs far frames.items nodes
+FindsSpans runs shows far (Loose frames counts nodes) =
+    FindsLoose runs far frames.items counts nodes

@@ -7,7 +7,7 @@ ghost use Rattle.cb_evict.specs.Finding.{FindsSpans};
 
 use crate::candidates::candidates;
 use crate::eviction::Lack;
-use crate::lengths::most_loose;
+use crate::lengths::{LengthCounts, count_lengths};
 use crate::looking::find_loose;
 use cb_types::NoMemory;
 use cb_world::{Desk, Far, nodes_with_room};
@@ -18,10 +18,18 @@ pub(crate) enum Found {
     /// Of no length are as many spans loose as the code in force has data positions, or fewer nodes
     /// have room than it has positions. So many spans of one length are loose at the most, and so
     /// many nodes have room.
-    Few { lack: Lack, loose: u32, nodes: u32 },
-    /// The spans in these frames are loose, in the order in which they are taken: k of one length
-    /// at least. So many nodes have room, which are enough.
-    Loose { frames: Vec<u32>, nodes: u32 },
+    Few {
+        lack: Lack,
+        loose: u32,
+        nodes: u32,
+    },
+    /// The spans in these frames are loose, in the order in which they are taken: so many of each
+    /// length, and k of one at least. So many nodes have room, which are enough.
+    Loose {
+        frames: Vec<u32>,
+        counts: LengthCounts,
+        nodes: u32,
+    },
 }
 
 /// Finds the spans that can leave now: of the spans that may leave, those none of whose objects is
@@ -42,7 +50,8 @@ pub(crate) fn find_spans<D: Desk>(desk: &mut D, far: &Far) -> Result<Found, NoMe
     let mut loose = Vec::with_capacity(far.alloc, frames.len())?;
     find_loose(desk, &far.spans, &frames, &mut loose);
     let nodes = nodes_with_room(&far.nodes, &far.members);
-    let most = most_loose(&far.spans, &loose) as u32;
+    let counts = count_lengths(&far.spans, &loose);
+    let most = counts.most() as u32;
     let code = far.in_force();
     if most < code.k {
         return Ok(Found::Few {
@@ -60,6 +69,7 @@ pub(crate) fn find_spans<D: Desk>(desk: &mut D, far: &Far) -> Result<Found, NoMe
     }
     Ok(Found::Loose {
         frames: loose,
+        counts,
         nodes,
     })
 }

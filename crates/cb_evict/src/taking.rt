@@ -10,12 +10,13 @@ ghost use Rattle.cb_world.specs.Sound.{Sound};
 ghost use Rattle.cb_world.specs.Performs.{Performs};
 ghost use Rattle.cb_evict.specs.Candidates.{candidates};
 ghost use Rattle.cb_evict.specs.Evicting.{TouchesSpans};
+ghost use Rattle.cb_evict.specs.Lengths.{AreLengthCounts, count_of};
 ghost use Rattle.cb_evict.specs.Taking.{AreLooseNow, AreLooseStill, ClaimsLength, Takes};
 
 use crate::claiming::{claim_spans, give_back};
 use crate::eviction::Lack;
 use crate::finding::{Found, find_spans};
-use crate::lengths::count_of;
+use crate::lengths::LengthCounts;
 use cb_types::NoMemory;
 use cb_world::{Desk, Far, Former};
 
@@ -62,22 +63,28 @@ pub(crate) fn take_spans<D: Desk>(desk: &mut D, far: &Far) -> Result<Taken, NoMe
     let found = find_spans(desk, far)?;
     match found {
         Found::Few { lack, loose, nodes } => Ok(Taken::Few { lack, loose, nodes }),
-        Found::Loose { frames, nodes } => claim_first(desk, far, &frames, nodes),
+        Found::Loose {
+            frames,
+            counts,
+            nodes,
+        } => claim_first(desk, far, &frames, counts, nodes),
     }
 }
 
-/// Claims the first k of these spans that have so many pages and whose objects can all be claimed.
-/// Where fewer can be, all are given back. Answers how many could be: those that are loose by the
-/// last looks, or k. `frames` and `formers` are empty before, and have room for k frames and for 256
-/// objects of each; they are empty where none is claimed.
+/// Claims the first k of these spans that have so many pages, which are `there` in all, and whose
+/// objects can all be claimed. Where fewer can be, all are given back. Answers how many could be:
+/// those that are loose by the last looks, or k. `frames` and `formers` are empty before, and have
+/// room for k frames and for 256 objects of each; they are empty where none is claimed.
 fn claim_length<D: Desk>(
     desk: &mut D,
     far: &Far,
     loose: &[u32],
     pages: u32,
+    there: usize,
     frames: &mut Vec<u32>,
     formers: &mut Vec<Former>,
 ) -> usize
+    requires there { there ≡ count_of far.now.spans pages loose.now }
     requires sound { (s : Shown) × D.shows desk.old s × Sound s far.now }
     requires among { All (Contains (candidates far.now)) loose.now }
     requires apart { AllPairs (λ f g. f ≢ g) loose.now }
@@ -90,7 +97,6 @@ fn claim_length<D: Desk>(
         × (vec_capacity formers.old ≤ vec_capacity formers.new) }
 {
     let k = far.in_force().k as usize;
-    let there = count_of(&far.spans, loose, pages);
     if there < k {
         return there;
     }
@@ -112,8 +118,10 @@ fn claim_first<D: Desk>(
     desk: &mut D,
     far: &Far,
     loose: &[u32],
+    counts: LengthCounts,
     nodes: u32,
 ) -> Result<Taken, NoMemory>
+    requires counts { AreLengthCounts far.now.spans loose.now counts }
     requires range { IsInRange far.now.code.k far.now.code.r }
     requires sound { (s : Shown) × D.shows desk.old s × Sound s far.now }
     requires among { All (Contains (candidates far.now)) loose.now }
@@ -127,15 +135,15 @@ fn claim_first<D: Desk>(
     let k = far.in_force().k as usize;
     let mut frames = Vec::with_capacity(far.alloc, k)?;
     let mut formers = Vec::with_capacity(far.alloc, MOST_OBJECTS * k)?;
-    let fours = claim_length(desk, far, loose, 4, &mut frames, &mut formers);
+    let fours = claim_length(desk, far, loose, 4, counts.fours, &mut frames, &mut formers);
     if fours == k {
         return Ok(Taken::Enough { frames, formers });
     }
-    let twos = claim_length(desk, far, loose, 2, &mut frames, &mut formers);
+    let twos = claim_length(desk, far, loose, 2, counts.twos, &mut frames, &mut formers);
     if twos == k {
         return Ok(Taken::Enough { frames, formers });
     }
-    let ones = claim_length(desk, far, loose, 1, &mut frames, &mut formers);
+    let ones = claim_length(desk, far, loose, 1, counts.ones, &mut frames, &mut formers);
     if ones == k {
         return Ok(Taken::Enough { frames, formers });
     }

@@ -37,6 +37,10 @@ job_within c (job.Swap handle) v rest may = known_below c handle.n v rest may
 job_within c (job.Filter handle) v rest may = known_below c handle.n v rest may
 job_within c (job.Crash node) v rest may = may
 job_within c (job.Join node) v rest may = may
+job_within c job.Gather v rest may = absurd may
+job_within c job.Install v rest may = absurd may
+job_within c (job.Fetch handle) v rest may = absurd may
+job_within c job.Land v rest may = absurd may
 job_within c j v rest may = tt
 
 pub job_knows : (nodes : ℕ) (j : Job) (v : View) → MayCall nodes (KnownTo v) j → KnowsOf j v

@@ -4,12 +4,12 @@ use Rattle.cb_types.specs.Config.{most_bytes}
 use Rattle.cb_types.specs.declared.handle.Handle.{Handle}
 use Rattle.cb_types.specs.declared.job.Job.{Job}
 use Rattle.cb_types.specs.declared.job.Job.TheVariants.{Make, Read, Write, Free, Swap, Filter}
-use Rattle.cb_types.specs.declared.job.Job.TheVariants.{Crash, Join}
+use Rattle.cb_types.specs.declared.job.Job.TheVariants.{Crash, Join, Gather, Install, Fetch, Land}
 use Rattle.cb_types.specs.declared.reply.Reply.{Reply}
 use Rattle.cb_types.specs.declared.reply.Reply.TheVariants.{Made}
 
 -- A job that may be called, where there are so many nodes and these handles may be named: an object
--- has 1 to `most_bytes` bytes.
+-- has 1 to `most_bytes` bytes, and no line hands an order out or takes one.
 abbrev pub MayCall : ℕ → (ℕ → Type 0) → Job → Type 0
 MayCall nodes named (Make bytes) = (1 ≤ length bytes) × (length bytes ≤ most_bytes)
 MayCall nodes named (Read handle) = named handle.n
@@ -19,6 +19,10 @@ MayCall nodes named (Swap handle) = named handle.n
 MayCall nodes named (Filter handle) = named handle.n
 MayCall nodes named (Crash node) = node.n < nodes
 MayCall nodes named (Join node) = node.n < nodes
+MayCall nodes named Gather = ⊥
+MayCall nodes named Install = ⊥
+MayCall nodes named (Fetch handle) = ⊥
+MayCall nodes named Land = ⊥
 MayCall nodes named j = Unit {0}
 
 -- what could be named before can be named after

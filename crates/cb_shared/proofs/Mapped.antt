@@ -199,6 +199,10 @@ module _ {D E : Type 0} (run : D → List Event → D → Type 0) (shows : D →
   does c Rebuild other a b r (ran, step) = (back a.desk b.desk [] ran, step)
   does c (Crash node) other a b r (ran, step) = (back a.desk b.desk [] ran, step)
   does c (Join node) other a b r (ran, step) = (back a.desk b.desk [] ran, step)
+  does c Gather other a b r x = absurd x.1
+  does c Install other a b r x = absurd x.1
+  does c (Fetch handle) other a b r x = absurd x.1
+  does c Land other a b r x = absurd x.1
 
   stops : (c : Config) (job : Job) → IsNoRead job
       → MapsLack (Stops run shows lacks c job) (Stops run' shows' lacks' c job)
@@ -229,6 +233,10 @@ module _ {D E : Type 0} (run : D → List Event → D → Type 0) (shows : D →
   stops c Rebuild other a b (ran, lacks) = (back a.desk b.desk [] ran, lacks)
   stops c (Crash node) other a b (ran, lacks) = (back a.desk b.desk [] ran, lacks)
   stops c (Join node) other a b (ran, lacks) = (back a.desk b.desk [] ran, lacks)
+  stops c Gather other a b x = absurd x.1
+  stops c Install other a b x = absurd x.1
+  stops c (Fetch handle) other a b x = absurd x.1
+  stops c Land other a b x = absurd x.1
 
   pub turned : (c : Config) (job : Job) → IsNoRead job
       → Maps (Turned run shows reads c job) (Turned run' shows' reads' c job)

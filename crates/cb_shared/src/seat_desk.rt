@@ -1,4 +1,4 @@
-ghost use Rattle.std.specs.Prelude.{◌≡◌, true, ◌+◌, ◌*◌, ◌≤◌, length, Some};
+ghost use Rattle.std.specs.Prelude.{◌≡◌, true, false, ◌+◌, ◌*◌, ◌≤◌, length, Some};
 ghost use Rattle.cb_shared.specs.Rights.{rights};
 ghost use Rattle.cb_shared.specs.Seats.{record_at};
 
@@ -141,7 +141,8 @@ fn stay_within<R: Wait>(rt: &R, allowed: Option<u32>, h: u32)
 
 /// Whether the object is the one that may be written.
 fn is_allowed(allowed: Option<u32>, h: u32) -> bool
-    ensures { result ≡ true → allowed ≡ Some h }
+    ensures yes { result ≡ true → allowed ≡ Some h }
+    ensures no { result ≡ false → allowed ≡ Some h → ⊥ }
 {
     match allowed {
         Some(n) => n == h,

@@ -1,5 +1,5 @@
 //! How a call waits for others before it looks again.
-ghost use Rattle.std.specs.Prelude.{◌≡◌, ◌≤◌, ◌||◌, false, Some};
+ghost use Rattle.std.specs.Prelude.{◌≡◌, ◌+◌, ◌≤◌, ◌||◌, false, if◌then◌else◌, min, Some};
 ghost use Rattle.cb_shared.specs.Fetching.{brings};
 
 use crate::runtime::Shared;
@@ -28,7 +28,8 @@ pub struct Patience {
 impl Patience {
     /// A call that has not waited yet.
     pub fn new() -> Patience
-        ensures { result.brought ≡ false }
+        ensures brought { result.brought ≡ false }
+        ensures waits { result.waits ≡ 0 }
     {
         Patience {
             waits: 0,
@@ -49,7 +50,8 @@ impl Shared {
     /// asked: it spins, then yields, and then sleeps, up to a millisecond. So a wait that goes on
     /// costs a processor almost nothing, and a sleep holds nobody up. Waits for nothing else.
     pub fn wait<R: Wait>(&self, rt: &R, patience: &mut Patience)
-        ensures { patience.new.brought ≡ patience.old.brought }
+        ensures brought { patience.new.brought ≡ patience.old.brought }
+        ensures waits { patience.new.waits ≡ min (patience.old.waits + 1) 46 }
     {
         let waits = patience.waits;
         if waits < SPINS {
@@ -67,7 +69,10 @@ impl Shared {
     /// Waits after a turn that did not answer its call, unless it brought the object in, or found
     /// it there: then the next look comes at once.
     pub fn wait_behind<R: Wait>(&self, rt: &R, reply: &Reply, patience: &mut Patience)
-        ensures { patience.new.brought ≡ (brings (Some reply.now) || patience.old.brought) }
+        ensures brought { patience.new.brought
+            ≡ (brings (Some reply.now) || patience.old.brought) }
+        ensures waits { patience.new.waits ≡ (if brings (Some reply.now) then patience.old.waits
+            else min (patience.old.waits + 1) 46) }
     {
         if brings(reply) {
             patience.brought = true

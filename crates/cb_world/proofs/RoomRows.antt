@@ -30,7 +30,7 @@ all_copied from into n count all same =
 -- as many rows are shown as there are
 pub shown_count : (made : Bool) (rows : List (List ℕ)) → length (shown_rows made rows) ≡ length rows
 shown_count true rows = refl
-shown_count false rows = length-map (λ (row : List ℕ). []) rows
+shown_count false rows = length-map rows (λ (row : List ℕ). [])
 
 -- and once they are made, the rows themselves
 pub shown_made : (made : Bool) (rows : List (List ℕ)) → made ≡ true → shown_rows made rows ≡ rows

@@ -212,7 +212,7 @@ pinned_at_another_version p =
 
 -- ---- what is counted: three reads and a crash
 abbrev by_job : List ℕ
-by_job = 0 ∷ 3 ∷ replicate 15 0 ++ 1 ∷ 0 ∷ []
+by_job = 0 ∷ 3 ∷ replicate 15 0 ++ 1 ∷ replicate 5 0
 
 abbrev after_four : FarState
 after_four = record far {

@@ -210,7 +210,7 @@ sound_with w v memory free span order s none calm known unordered = record {
   one = λ a b held other. absurd (held_not _ (none_holds order a 64) held);
   orders = unordered;
   counted = record {
-    kinds = length-replicate {A = ℕ} 19 0;
+    kinds = length-replicate {A = ℕ} 23 0;
     jobs = sum_by-replicate (λ (n : ℕ). n) 19 0;
     turns = omega arith;
     sets = omega arith;

@@ -8,7 +8,7 @@ use Rattle.cb_types.specs.declared.reply.Reply.TheVariants as answer
 use Rattle.cb_world.specs.Choices.{room_count}
 use Rattle.cb_world.specs.FarState.{FarState, span_in}
 use Rattle.cb_evict.specs.Candidates.{AreUnique, candidates}
-use Rattle.cb_evict.proofs.Composed.{any_err, looks_as, looks_tried, most_told}
+use Rattle.cb_evict.proofs.Composed.{any_err, counted_as, looks_as, looks_tried, most_counted}
 use Rattle.cb_evict.proofs.LooseLengths.{enough_some, fewer_none, most_within}
 use Rattle.cb_evict.proofs.Ending.{place_in}
 use Rattle.cb_evict.proofs.Framing.{candidates_few}
@@ -53,8 +53,8 @@ find_loose-requires-clause-apart g c =
 pub returns-then-most-code-clause-found : goal.returns-then-most-code-clause-found
 returns-then-most-code-clause-found g c =
     let k = ap (λ (x : Code). x.k) c.in_force-code.ensures in
-    let most = most_told _ _ _ _ (ap (λ (far : FarState). far.spans) c.far.view_is)
-    c.deref-2.ensures.value c.most_loose-most.ensures in
+    let most = most_counted _ _ _ _ (ap (λ (far : FarState). far.spans) c.far.view_is)
+    c.deref-2.ensures.value c.count_lengths-counts.ensures c.most-most.ensures in
     let nodes = c.nodes_with_room-nodes.ensures
     ∙ ap (λ (far : FarState). room_count far.nodes far.members) c.far.view_is in record {
       loose = c.find_loose.new.loose.items;
@@ -92,8 +92,8 @@ pub returns-then-nodes-code-clause-found : goal.returns-then-nodes-code-clause-f
 returns-then-nodes-code-clause-found g c =
     let k = ap (λ (x : Code). x.k) c.in_force-code.ensures in
     let r = ap (λ (x : Code). x.r) c.in_force-code.ensures in
-    let most = most_told _ _ _ _ (ap (λ (far : FarState). far.spans) c.far.view_is)
-    c.deref-2.ensures.value c.most_loose-most.ensures in
+    let most = most_counted _ _ _ _ (ap (λ (far : FarState). far.spans) c.far.view_is)
+    c.deref-2.ensures.value c.count_lengths-counts.ensures c.most-most.ensures in
     let nodes = c.nodes_with_room-nodes.ensures
     ∙ ap (λ (far : FarState). room_count far.nodes far.members) c.far.view_is in record {
       loose = c.find_loose.new.loose.items;
@@ -114,12 +114,14 @@ pub returns-clause-found : goal.returns-clause-found
 returns-clause-found g c =
     let k = ap (λ (x : Code). x.k) c.in_force-code.ensures in
     let r = ap (λ (x : Code). x.r) c.in_force-code.ensures in
-    let most = most_told _ _ _ _ (ap (λ (far : FarState). far.spans) c.far.view_is)
-    c.deref-2.ensures.value c.most_loose-most.ensures in
+    let most = most_counted _ _ _ _ (ap (λ (far : FarState). far.spans) c.far.view_is)
+    c.deref-2.ensures.value c.count_lengths-counts.ensures c.most-most.ensures in
     let nodes = c.nodes_with_room-nodes.ensures
     ∙ ap (λ (far : FarState). room_count far.nodes far.members) c.far.view_is in record {
       looks = looks_as _ _ _ _ _ _ _ (ap (λ (far : FarState). far.spans) c.far.view_is)
           (c.deref.ensures.value ∙ c.in_ok-frames.ensures.frames) refl c.find_loose.ensures.looks;
+      counted = counted_as _ _ _ _ (ap (λ (far : FarState). far.spans) c.far.view_is)
+          c.deref-2.ensures.value c.count_lengths-counts.ensures;
       enough = enough_some c.args.far.now.code.k c.args.far.now.spans c.find_loose.new.loose.items
           (omega (arith, k, c.if-most-code.false, most));
       room = omega (arith, nodes, k, r, c.if-nodes-code.false);
@@ -146,22 +148,30 @@ overflow_cast-most g c =
     let few = candidates_few c.args.far.now in let n = c.requires.config Frames in
     let frames = c.requires.configured.frames in
     let found = ap (λ (l : List ℕ). length l) (c.deref.ensures.value ∙ c.in_ok-frames.ensures.frames) in
-    let most = most_told _ _ _ _ refl c.deref-2.ensures.value c.most_loose-most.ensures in
+    let most = most_counted _ _ _ _ refl c.deref-2.ensures.value c.count_lengths-counts.ensures
+    c.most-most.ensures in
     let within = most_within c.far.inside.spans c.find_loose.new.loose.items in
     omega (arith, few, n.1, frames, found, c.find_loose.ensures.few, within, most)
 
-pub most_loose-most-requires : goal.most_loose-most-requires
-most_loose-most-requires g c = record {
-  there = subst (λ (l : List ℕ). All (λ f. (span : Contents) × (span_in c.far.inside.spans f ≡ Some span)) l)
-      (sym c.deref-2.ensures.value)
-      (λ k d l.
-      let loose = c.find_loose.new.loose.items in let far = c.args.far.now in
-      let x = looks_as _ _ _ _ _ _ _ (ap (λ (far : FarState). far.spans) c.far.view_is)
-      (c.deref.ensures.value ∙ c.in_ok-frames.ensures.frames) refl c.find_loose.ensures.looks in
-      let y = is_standing far (get_or loose k d)
-      (loose_among x.events far.spans (candidates far) loose (get_or loose k d) x.done.1
-      (place_in loose k d l)) in (
-        y.span,
-        ap (λ (far : FarState). span_in far.spans (get_or loose k d)) c.far.view_is ∙ y.there,
-      ));
-}
+pub count_lengths-counts-requires-clause-there : goal.count_lengths-counts-requires-clause-there
+count_lengths-counts-requires-clause-there g c =
+    subst (λ (l : List ℕ). All (λ f. (span : Contents) × (span_in c.far.inside.spans f ≡ Some span)) l)
+    (sym c.deref-2.ensures.value)
+    (λ k d l.
+    let loose = c.find_loose.new.loose.items in let far = c.args.far.now in
+    let x = looks_as _ _ _ _ _ _ _ (ap (λ (far : FarState). far.spans) c.far.view_is)
+    (c.deref.ensures.value ∙ c.in_ok-frames.ensures.frames) refl c.find_loose.ensures.looks in
+    let y = is_standing far (get_or loose k d)
+    (loose_among x.events far.spans (candidates far) loose (get_or loose k d) x.done.1
+    (place_in loose k d l)) in (
+      y.span,
+      ap (λ (far : FarState). span_in far.spans (get_or loose k d)) c.far.view_is ∙ y.there,
+    ))
+
+pub count_lengths-counts-requires-clause-few : goal.count_lengths-counts-requires-clause-few
+count_lengths-counts-requires-clause-few g c =
+    let few = candidates_few c.args.far.now in let n = c.requires.config Frames in
+    let frames = c.requires.configured.frames in
+    let found = ap (λ (l : List ℕ). length l) (c.deref.ensures.value ∙ c.in_ok-frames.ensures.frames) in
+    let loose = ap (λ (l : List ℕ). length l) c.deref-2.ensures.value in
+    omega (arith, few, n.1, frames, found, c.find_loose.ensures.few, loose)

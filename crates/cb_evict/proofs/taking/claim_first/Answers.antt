@@ -103,3 +103,12 @@ returns-clause-taken g c =
     (λ es s ran a. (g.met.D.Desk.follows _ _ es s ran a).1)) two c.claim_length-ones.ensures.claims
     _ _ (λ e. omega (arith, e, k, c.if-ones-k.false))
     (omega (arith, c.max.ensures, c.max-most.ensures)) c.requires.nodes
+
+pub claim_length-fours-requires-clause-there : goal.claim_length-fours-requires-clause-there
+claim_length-fours-requires-clause-there g c = c.requires.counts.fours
+
+pub claim_length-twos-requires-clause-there : goal.claim_length-twos-requires-clause-there
+claim_length-twos-requires-clause-there g c = c.requires.counts.twos
+
+pub claim_length-ones-requires-clause-there : goal.claim_length-ones-requires-clause-there
+claim_length-ones-requires-clause-there g c = c.requires.counts.ones

@@ -16,16 +16,6 @@ use Rattle.cb_evict.proofs.Standing.{are_unique, ready_frame}
 use Rattle.cb_evict.proofs.CallParts.{joins}
 use Rattle.cb_evict.proofs.taking.claim_length.Goals as goal
 
-pub count_of-there-requires : goal.count_of-there-requires
-count_of-there-requires g c = record {
-  there = λ k d l.
-      let x = ready_frame c.args.far.now c.requires.sound.0 _ c.requires.sound.2.here
-      (c.requires.among k d l) in (
-        x.span,
-        ap (λ (far : FarState). span_in far.spans (get_or c.args.loose.now k d)) c.far.view_is ∙ x.there,
-      );
-}
-
 pub claim_spans-requires-clause-there : goal.claim_spans-requires-clause-there
 claim_spans-requires-clause-there g c = λ k d l.
     let x = ready_frame c.args.far.now c.requires.sound.0 _ c.requires.sound.2.here
@@ -88,15 +78,14 @@ pub returns-then-there-k-clause-claims : goal.returns-then-there-k-clause-claims
 returns-then-there-k-clause-claims g c =
     let far = c.args.far.now in let loose = c.args.loose.now in
     let k = ap (λ (n : Code). n.k) c.in_force-k.ensures in
-    let there = c.count_of-there.ensures
-    ∙ ap (λ (f : FarState). count_of f.spans c.args.pages loose) c.far.view_is in record {
+    record {
       lost = λ f. false;
       long = λ f e. absurd (false≢true e);
       tries = claims_none _ c.requires.empty.1
           (nothing_lost far loose c.args.pages (g.met.D.Desk.none _));
       came = inl (record {
         few = omega (arith, k, c.if-there-k.true);
-        counted = there ∙ ap (λ (l : List ℕ). count_of far.spans c.args.pages l)
+        counted = c.requires.there ∙ ap (λ (l : List ℕ). count_of far.spans c.args.pages l)
             (sym (filter_all (λ f. true) loose (λ f d. refl)));
         none = c.requires.empty;
       });

@@ -7,6 +7,7 @@ use Rattle.cb_world.specs.declared.shown.Shown.{Shown}
 use Rattle.cb_world.specs.Played.{played}
 use Rattle.cb_evict.specs.Candidates.{candidates}
 use Rattle.cb_evict.specs.Finding.{FindsSpans}
+use Rattle.cb_evict.specs.Lengths.{AreLengthCounts}
 use Rattle.cb_evict.specs.Taking.{AreLooseStill, Takes}
 use Rattle.cb_evict.proofs.Composed.{any_err, found_loose, if_map, looked_fails, looked_takes, loose_apart, nothing_done, on_err}
 use Rattle.cb_evict.proofs.Loose.{loose_among}
@@ -48,7 +49,7 @@ claim_first-requires-clause-range g c =
 
 pub claim_first-requires-clause-sound : goal.claim_first-requires-clause-sound
 claim_first-requires-clause-sound g c =
-    let found = found_loose _ _ _ _ _ _ c.in-Loose.is c.in_ok-found.ensures.found in
+    let found = found_loose _ _ _ _ _ _ _ c.in-Loose.is c.in_ok-found.ensures.found in
     let x = found.looks in let s = c.requires.sound.0 in (
       played x.events s,
       (g.met.D.Desk.follows _ _ x.events s x.ran c.requires.sound.1).1,
@@ -57,7 +58,7 @@ claim_first-requires-clause-sound g c =
 
 pub claim_first-requires-clause-among : goal.claim_first-requires-clause-among
 claim_first-requires-clause-among g c =
-    let found = found_loose _ _ _ _ _ _ c.in-Loose.is c.in_ok-found.ensures.found in
+    let found = found_loose _ _ _ _ _ _ _ c.in-Loose.is c.in_ok-found.ensures.found in
     let x = found.looks in
     subst (λ (l : List ℕ). All (Contains (candidates c.args.far.now)) l) (sym c.deref.ensures.value)
     (λ k d l. loose_among x.events c.args.far.now.spans (candidates c.args.far.now)
@@ -65,7 +66,7 @@ claim_first-requires-clause-among g c =
 
 pub claim_first-requires-clause-apart : goal.claim_first-requires-clause-apart
 claim_first-requires-clause-apart g c =
-    let found = found_loose _ _ _ _ _ _ c.in-Loose.is c.in_ok-found.ensures.found in
+    let found = found_loose _ _ _ _ _ _ _ c.in-Loose.is c.in_ok-found.ensures.found in
     let x = found.looks in
     subst (λ (l : List ℕ). AllPairs (λ f h. f ≢ h) l) (sym c.deref.ensures.value)
     (loose_apart x.events c.args.far.now (candidates c.args.far.now) c.in-Loose.frames.items
@@ -73,15 +74,15 @@ claim_first-requires-clause-apart g c =
 
 pub claim_first-requires-clause-room : goal.claim_first-requires-clause-room
 claim_first-requires-clause-room g c =
-    let found = found_loose _ _ _ _ _ _ c.in-Loose.is c.in_ok-found.ensures.found in found.room
+    let found = found_loose _ _ _ _ _ _ _ c.in-Loose.is c.in_ok-found.ensures.found in found.room
 
 pub claim_first-requires-clause-nodes : goal.claim_first-requires-clause-nodes
 claim_first-requires-clause-nodes g c =
-    let found = found_loose _ _ _ _ _ _ c.in-Loose.is c.in_ok-found.ensures.found in found.nodes
+    let found = found_loose _ _ _ _ _ _ _ c.in-Loose.is c.in_ok-found.ensures.found in found.nodes
 
 pub returns-in-Loose-clause-taken : goal.returns-in-Loose-clause-taken
 returns-in-Loose-clause-taken g c =
-    let found = found_loose _ _ _ _ _ _ c.in-Loose.is c.in_ok-found.ensures.found in
+    let found = found_loose _ _ _ _ _ _ _ c.in-Loose.is c.in_ok-found.ensures.found in
     if_map _ _ c.claim_first.result c.claim_first.ensures.taken (λ taken y.
     looked_takes c.args.far.now c.in-Loose.frames.items (joins (λ es fs a b. g.met.D.Desk.more _ _ _ _ _ a b)
     (λ es s ran a. (g.met.D.Desk.follows _ _ es s ran a).1)) found.looks
@@ -92,8 +93,14 @@ returns-in-Loose-clause-taken g c =
 
 pub returns-in-Loose-clause-error : goal.returns-in-Loose-clause-error
 returns-in-Loose-clause-error g c =
-    let found = found_loose _ _ _ _ _ _ c.in-Loose.is c.in_ok-found.ensures.found in
+    let found = found_loose _ _ _ _ _ _ _ c.in-Loose.is c.in_ok-found.ensures.found in
     on_err _ _ c.claim_first.result c.claim_first.ensures.error (λ ran.
     looked_fails c.args.far.now c.in-Loose.frames.items found.looks
     (λ es a. subst (λ (l : List Event). g.D.Desk.run c.args.desk.now l c.claim_first.new.desk)
     (append-nil es) (g.met.D.Desk.more _ _ _ _ _ a ran)))
+
+pub claim_first-requires-clause-counts : goal.claim_first-requires-clause-counts
+claim_first-requires-clause-counts g c =
+    let found = found_loose _ _ _ _ _ _ _ c.in-Loose.is c.in_ok-found.ensures.found in
+    subst (λ (l : List ℕ). AreLengthCounts c.args.far.now.spans l c.in-Loose.counts)
+    (sym c.deref.ensures.value) found.counted

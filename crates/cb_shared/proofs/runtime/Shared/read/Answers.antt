@@ -13,7 +13,7 @@ loop-init g c = (
   so_far (AtThis c.args.h.n) (IsUnfetched c.args.h.n)
       (record_of c.args.pass.now),
   fetches_none c.args.h.n false c.new-patience.result.brought (record_of c.args.pass.now)
-      (record_of c.args.pass.now) refl c.new-patience.ensures,
+      (record_of c.args.pass.now) refl c.new-patience.ensures.brought,
 )
 
 pub try_read-requires-clause-of : goal.try_read-requires-clause-of

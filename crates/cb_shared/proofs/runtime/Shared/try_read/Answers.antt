@@ -119,7 +119,7 @@ returns-in-Moving-clause-brought g c = λ none. fetches_none c.args.h.n c.args.p
     c.wait.new.patience.brought (record_of c.args.pass.now) (record_of c.read_beside.new.pass)
     (found_same c.args.h.n
     c.in_ok-version.field-0 (record_of c.args.pass.now) (record_of c.read_beside.new.pass)
-    c.in_ok-version.ensures.read) c.wait.ensures
+    c.in_ok-version.ensures.read) c.wait.ensures.brought
 
 pub returns-in_err-version-clause-jobs : goal.returns-in_err-version-clause-jobs
 returns-in_err-version-clause-jobs g c = no_fetches c.args.h.n c.args.patience.now.brought

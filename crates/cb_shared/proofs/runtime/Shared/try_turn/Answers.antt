@@ -43,4 +43,4 @@ pub returns-else-is_answer-clause-brought : goal.returns-else-is_answer-clause-b
 returns-else-is_answer-clause-brought g c = λ none. one_more c.args.self.now.config c.args.job.now
     c.in_ok-reply.reply c.args.patience.now.brought c.wait_behind.new.patience.brought
     (record_of c.args.pass.now) (record_of c.turn_within.new.pass) c.in_ok-reply.ensures.turn
-    c.wait_behind.ensures
+    c.wait_behind.ensures.brought
