@@ -1,4 +1,5 @@
 mod Padded
+mod RoomRows
 pub mod FrameCopied
 mod FrameRuns
 mod Dropping
