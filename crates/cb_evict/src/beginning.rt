@@ -301,12 +301,12 @@ fn parities_room(alloc: Global, k: u32, r: u32, len: u32) -> Result<Parities, cb
     ensures { IfOk result (λ parities. parities ≡ record {
       made = false;
       rows = replicate r (replicate len 0);
-      data = Some (replicate k (replicate len 0));
+      source = Some (replicate k (replicate len 0));
     }) }
 {
     let parities = Rows::new(alloc, r, len)?;
-    let data = Rows::new(alloc, k, len)?;
-    Ok(Parities::unmade(parities, data))
+    let source = Rows::new(alloc, k, len)?;
+    Ok(Parities::unmade(parities, source))
 }
 
 /// Room for the parities of some data rows, and for as many data rows.

@@ -139,10 +139,10 @@ fn make_from<D: Desk>(desk: &mut D, frames: &[u32], pages: u32, parities: &mut P
     ensures unmade { parities.new.made ≡ false }
     ensures roomy { AreRoomy pages (length frames.now) parities.new }
 {
-    let mut data = parities.take_data();
-    load_spans(desk, frames, pages, &mut data);
+    let mut source = parities.take_source();
+    load_spans(desk, frames, pages, &mut source);
     let c = coefficients(frames.len() as u32, parities.count());
-    parities.make(&c, data);
+    parities.make(&c, source);
 }
 
 /// Makes the parities of a batch and puts the one of a position under the shard. Where there is no
