@@ -185,9 +185,9 @@ gather_stays c far new g es x =
 -- the batch keeps its code, also where its parities are made
 ready_code : (batch ready : LeavingState) (rows : List (List ℕ)) (p : ℕ)
     → MadeFor batch rows p ready → code_of_batch ready ≡ code_of_batch batch
-ready_code batch ready rows p (made_before yes is) = ap code_of_batch is
+ready_code batch ready rows p (made_before same is) = ap code_of_batch is
 ready_code batch ready rows p (is_data below is) = ap code_of_batch is
-ready_code batch ready rows p (made_here not behind parities x is) =
+ready_code batch ready rows p (made_here bare behind them x is) =
     ap code_of_batch is ∙ (λ i. record { k = length batch.frames; r = x.count i })
 
 pub shipped_codes : (far new : FarState) (r : Reply) (rows : LeavingState → List (List ℕ))

@@ -1,10 +1,11 @@
--- Rows that are copied over as many others, one after another.
-use Rattle.std.proofs.Common.{◌≡◌, ◌≢◌, ℕ, ◌+◌, ◌<◌, ⊎_elim, List, [], length, get_or, set, sym, ap, subst, ◌∙◌, arith}
-use Rattle.std.proofs.lemmas.Bool.{cases_eq}
-use Rattle.std.proofs.lemmas.List.{get_or-set_same, get_or-set_other, ext_get_or}
+-- The room of parities: rows that are copied over as many others, and what is shown of a room.
+use Rattle.std.proofs.Common.{◌≡◌, ℕ, ◌+◌, ◌<◌, ⊎_elim, Bool, true, false, List, [], length, get_or, set, refl, sym, ap, subst, ◌∙◌, arith}
+use Rattle.std.proofs.lemmas.Bool.{cases_eq, false≢true}
+use Rattle.std.proofs.lemmas.List.{get_or-set_same, get_or-set_other, ext_get_or, length-map}
 use Rattle.cb_gf256.specs.Block.{with_row}
 use Rattle.cb_gf256.specs.Rows.{row_at, HaveLength}
 use Rattle.cb_gf256.proofs.PublicLaws.{written_row}
+use Rattle.cb_world.specs.Leaving.{shown_rows}
 
 -- the row that is written holds what it was given, and the others stay
 pub copied_more : (len : ℕ) (from into : List (List ℕ)) (at : ℕ) (bytes : List ℕ)
@@ -25,3 +26,13 @@ pub all_copied : (from into : List (List ℕ)) (n : ℕ) → length into ≡ len
     → ((i : ℕ) → i < n → row_at into i ≡ row_at from i) → into ≡ from
 all_copied from into n count all same =
     ext_get_or [] into from count (λ i l. same i (omega (arith, l, count, all)))
+
+-- as many rows are shown as there are
+pub shown_count : (made : Bool) (rows : List (List ℕ)) → length (shown_rows made rows) ≡ length rows
+shown_count true rows = refl
+shown_count false rows = length-map rows (λ (row : List ℕ). [])
+
+-- and once they are made, the rows themselves
+pub shown_made : (made : Bool) (rows : List (List ℕ)) → made ≡ true → shown_rows made rows ≡ rows
+shown_made true rows is = refl
+shown_made false rows is = absurd (false≢true is)
