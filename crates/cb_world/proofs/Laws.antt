@@ -46,6 +46,7 @@ pub use Rattle.cb_world.proofs.Pins.{known_word, pin_counts, pin_sound, pinned_s
 pub use Rattle.cb_world.proofs.PlaceSet.{place_back, place_here, place_on}
 pub use Rattle.cb_world.proofs.Placed.{IsCountedMade, made_counted, may_lie, next_counted, slot_bounds, sound_brought, with_made}
 pub use Rattle.cb_world.proofs.Reserving.{noted_by, reserved_is_other, reserved_uncommitted}
+pub use Rattle.cb_world.proofs.RoomRows.{shown_count, shown_made}
 pub use Rattle.cb_world.proofs.Rooms.{room_dropped, room_empty, room_left, room_put, room_puts, room_wiped}
 pub use Rattle.cb_world.proofs.RowPut.{HasRowPut, IsNewOr, IsRefilled, IsRenamed, row_put_away, row_put_join, row_put_words}
 pub use Rattle.cb_world.proofs.RowWords.{length_words, row_length, row_put, windows_agree, words_in_row, words_of_row}
@@ -70,3 +71,5 @@ pub use Rattle.cb_world.proofs.Whole.{added_whole, begun_whole, committed_whole,
 pub use Rattle.cb_world.proofs.Windows.{length_put, put_at as put_at-windows, put_else, set_put, window_at, window_put, window_same}
 pub use Rattle.cb_world.proofs.WorkedWord.{at, is_word, node, only_word, row, row_byte, row_long, rows, with_two_rows}
 pub use Rattle.cb_world.proofs.Worlds.{empty_world_sound}
+pub use Rattle.cb_world.proofs.OrdersLeft.{decode_left, encode_left, orders_left, orders_stay}
+pub use Rattle.cb_world.proofs.WordsLeft.{KeepsSets, added_keeps_sets, committed_keeps_sets, crash_leaves_words, join_leaves_words, merged_keeps_sets, row_put_leaves_words, same_keeps_sets, sets_leave_words, words_left_twice, words_stay}

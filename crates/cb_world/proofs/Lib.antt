@@ -44,6 +44,8 @@ pub mod Stepping
 pub mod Patching
 pub mod Committed
 pub mod JoinNow
+pub mod OrdersLeft
+pub mod WordsLeft
 pub mod Beginning
 pub mod Counting
 pub mod Surveying
@@ -92,6 +94,7 @@ mod WorkedGroups
 mod WorkedWorld
 mod WorkedFar
 mod WorkedReserved
+mod WorkedOrders
 mod WorkedOpen
 mod WorkedOpenWrites
 mod WorkedSeatWrites
@@ -106,6 +109,7 @@ mod WorkedAdded
 mod WorkedJoin
 mod WorkedPairs
 mod WorkedBatch
+mod WorkedParities
 mod WorkedRooms
 pub mod WorkedWord
 pub mod Laws
