@@ -79,6 +79,10 @@ mod WorkedRules
 pub mod WorkedWide
 pub mod PutShards
 pub mod ShipSound
+pub mod InstallSound
+pub mod Installs
+pub mod InstallKeeps
+pub mod LeftWords
 pub mod ShipParts
 pub mod ShipStep
 pub mod ShipKeeps
