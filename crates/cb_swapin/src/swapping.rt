@@ -75,12 +75,12 @@ pub(crate) fn bring_in<D: Desk>(
     requires given { IfNone given (far.old.nodes.given + 16 < 2 ^ 64) }
     ensures swap { IfOk result (λ reply. Performs (λ es. D.run desk.old es desk.new)
         (λ s. D.shows desk.old s × Sound s far.old)
-        (BringsRule (λ set. rows_taken given far.old set position) id.n position far.old far.new reply)
+        (BringsRule (λ set. rows_taken given.entry far.old set position) id.n position far.old far.new reply)
         (λ t. Sound t far.new)
-        (BringsEffect given id.n position far.old far.new reply)) }
+        (BringsEffect given.entry id.n position far.old far.new reply)) }
     ensures desk { OnErr result (desk.new ≡ desk.old) }
     ensures far { OnErr result ((set : SetState) → set_in far.old.sets id.n ≡ Some set → (n : ℕ)
-        × (n ≤ rows_lacked given set) × (far.new ≡ far_given far.old n)) }
+        × (n ≤ rows_lacked given.entry set) × (far.new ≡ far_given far.old n)) }
 {
     if let Some(lost) = losses(far, id)? {
         return Ok(Reply::Unavailable { set: id, lost });
@@ -160,10 +160,10 @@ fn bring_row<D: Desk>(
     requires given { IfNone given (far.old.nodes.given + 16 < 2 ^ 64) }
     ensures row { OnOk result ((set : SetState) → set_in far.old.sets id.n ≡ Some set
         → BringsRow (λ es. D.run desk.old es desk.new) (λ s. D.shows desk.old s)
-        far.old far.new set position frame span.now given) }
+        far.old far.new set position frame span.now given.entry) }
     ensures desk { OnErr result (desk.new ≡ desk.old) }
     ensures far { OnErr result ((set : SetState) → set_in far.old.sets id.n ≡ Some set → (n : ℕ)
-        × (n ≤ rows_lacked given set) × (far.new ≡ far_given far.old n)) }
+        × (n ≤ rows_lacked given.entry set) × (far.new ≡ far_given far.old n)) }
 {
     if let Some(row) = given {
         bring_span(desk, &mut far.homes, frame, span, row);
