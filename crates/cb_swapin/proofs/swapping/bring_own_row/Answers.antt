@@ -13,7 +13,7 @@ use Rattle.cb_swapin.specs.Named.{AreCleared}
 use Rattle.cb_swapin.proofs.Committed.{found_set, live_within}
 use Rattle.cb_swapin.proofs.Waits.{homes_within, names_apart, waiting}
 use Rattle.cb_swapin.proofs.RowGiven.{all_needed, given_at, one_needed, row_is_there, row_is_wide, row_of_word, word_is_wide}
-use Rattle.cb_swapin.proofs.swapping.bring_row.Goals as goal
+use Rattle.cb_swapin.proofs.swapping.bring_own_row.Goals as goal
 
 pub is_lost-requires : goal.is_lost-requires
 is_lost-requires g c =
@@ -210,6 +210,7 @@ returns-in_ok-rows-clause-row g c = λ set there.
             (sym c.far.view_is)
             (subst (λ (y : SetState). IsWordOf far.nodes far.members y rows) (sym same) word))));
       };
+      at_hand = tt;
       homes = subst (λ (l : List (Option Home)).
           AreCleared c.args.span.now.slots l c.bring_span.new.homes)
           (ap (λ (q : FarState). q.homes) c.far.view_is) c.bring_span.ensures.homes;
@@ -243,6 +244,7 @@ returns-else-is_lost-clause-row g c = λ set there.
             ∙ c.shard-shard.ensures)
             (ap (λ (q : FarState). is_lost q.members shard) (sym c.far.view_is) ∙ kept);
       };
+      at_hand = tt;
       homes = subst (λ (l : List (Option Home)).
           AreCleared c.args.span.now.slots l c.bring_span-else-is_lost.new.homes)
           (ap (λ (q : FarState). q.homes) c.far.view_is) c.bring_span-else-is_lost.ensures.homes;
