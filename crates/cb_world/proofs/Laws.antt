@@ -41,7 +41,6 @@ pub use Rattle.cb_world.proofs.NowSame.{bits, empty_now, empty_value, far_object
 pub use Rattle.cb_world.proofs.OpenKept.{leaving_claimed, open_here, open_kept, open_same, open_word, orders_kept, pins_hold, pins_leave, seat_beside}
 pub use Rattle.cb_world.proofs.Packed.{contents_packed, packed_write}
 pub use Rattle.cb_world.proofs.Packing.{below_packed, same_memory}
-pub use Rattle.cb_world.proofs.ParitiesMade.{parities_made}
 pub use Rattle.cb_world.proofs.Patching.{join_is_merged, parity_step, patched_more}
 pub use Rattle.cb_world.proofs.PinNow.{pinned_now, unpinned_now}
 pub use Rattle.cb_world.proofs.Pins.{known_word, pin_counts, pin_sound, pinned_still, unpin_sound}
@@ -74,3 +73,5 @@ pub use Rattle.cb_world.proofs.Whole.{added_whole, begun_whole, committed_whole,
 pub use Rattle.cb_world.proofs.Windows.{length_put, put_at as put_at-windows, put_else, set_put, window_at, window_put, window_same}
 pub use Rattle.cb_world.proofs.WorkedWord.{at, is_word, node, only_word, row, row_byte, row_long, rows, with_two_rows}
 pub use Rattle.cb_world.proofs.Worlds.{empty_world_sound}
+pub use Rattle.cb_world.proofs.OrdersLeft.{decode_left, encode_left, orders_left, orders_stay}
+pub use Rattle.cb_world.proofs.WordsLeft.{KeepsSets, added_keeps_sets, committed_keeps_sets, crash_leaves_words, join_leaves_words, merged_keeps_sets, row_put_leaves_words, same_keeps_sets, sets_leave_words, words_left_twice, words_stay}

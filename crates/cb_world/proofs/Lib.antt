@@ -1,5 +1,5 @@
 mod Padded
-pub mod RoomRows
+mod RoomRows
 pub mod FrameCopied
 mod FrameRuns
 mod Dropping
@@ -40,11 +40,12 @@ pub mod Joined
 pub mod FreshShard
 pub mod PlaceSet
 pub mod RowPut
-pub mod ParitiesMade
 pub mod Stepping
 pub mod Patching
 pub mod Committed
 pub mod JoinNow
+pub mod OrdersLeft
+pub mod WordsLeft
 pub mod Beginning
 pub mod Counting
 pub mod Surveying
@@ -93,6 +94,7 @@ mod WorkedGroups
 mod WorkedWorld
 mod WorkedFar
 mod WorkedReserved
+mod WorkedOrders
 mod WorkedOpen
 mod WorkedOpenWrites
 mod WorkedSeatWrites
@@ -107,6 +109,7 @@ mod WorkedAdded
 mod WorkedJoin
 mod WorkedPairs
 mod WorkedBatch
+mod WorkedParities
 mod WorkedRooms
 pub mod WorkedWord
 pub mod Laws
