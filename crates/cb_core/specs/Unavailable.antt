@@ -36,11 +36,13 @@ pub record IsLost (w : WorldState) (h : ℕ) (id : SetId) (losses : List Loss) :
   pub away : state_of (word_at w.desk h) ≡ state.Far
   pub home : IsInLost w.far h id losses
 
--- the object that a job brings in where it is far: that of a read, a write or a swap
+-- the object that a job brings in where it is far: that of a read, a write or a swap; or whose rows
+-- it hands out, that of a fetch
 abbrev pub brought_by : Job → Option ℕ
 brought_by (job.Read handle) = Some handle.n
 brought_by (job.Write handle at bytes) = Some handle.n
 brought_by (job.Swap handle) = Some handle.n
+brought_by (job.Fetch handle) = Some handle.n
 brought_by other = None
 
 -- Over any desk a turn is answered Unavailable exactly where it is made for an object that it brings
