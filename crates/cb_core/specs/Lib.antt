@@ -9,6 +9,8 @@ pub mod OnceHere
 pub mod FarJobs
 pub mod JobParts
 pub mod Turned
+pub mod OrderParts
+pub mod Ordered
 pub mod Admitting
 pub mod TurnLeaves
 pub mod ReadTurn
