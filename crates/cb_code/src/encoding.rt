@@ -30,16 +30,51 @@ pub fn encode_borrowed(alloc: Global, c: &Coeffs, rows: &RowsRef<'_>) -> Result<
     ensures only { IfOk result (λ parities. (others : List (List ℕ)) → HoldBytes others
         → IsCodeWord (length rows.now) (length c.now) (rows.now ++ others) → others ≡ parities) }
 {
-    let k = rows.count() as usize;
     let r = c.parities();
     let mut parities = Rows::new(alloc, r, rows.row_len())?;
+    set_parities(c, rows, &mut parities);
+    Ok(parities)
+}
+
+/// The same in rows that are there already, whatever these hold. It takes no memory.
+pub fn encode_rows(c: &Coeffs, rows: &Rows, parities: &mut Rows)
+    requires width { HaveLength (length rows.now) c.now }
+    requires count { length parities.old ≡ length c.now }
+    requires lengths { HaveLength (length (row_at rows.now 0)) parities.old }
+    ensures count { length parities.new ≡ length c.now }
+    ensures lengths { HaveLength (length (row_at rows.now 0)) parities.new }
+    ensures sums { AreCombinations c.now rows.now parities.new }
+    ensures word { IsCodeWord (length rows.now) (length c.now) (rows.now ++ parities.new) }
+    ensures only { (others : List (List ℕ)) → HoldBytes others
+        → IsCodeWord (length rows.now) (length c.now) (rows.now ++ others)
+        → others ≡ parities.new }
+{
+    let borrowed = rows.borrowed();
+    set_parities(c, &borrowed, parities);
+}
+
+/// Makes rows the parities of these data rows.
+fn set_parities(c: &Coeffs, rows: &RowsRef<'_>, parities: &mut Rows)
+    requires width { HaveLength (length rows.now) c.now }
+    requires count { length parities.old ≡ length c.now }
+    requires lengths { HaveLength (length (row_at rows.now 0)) parities.old }
+    ensures count { length parities.new ≡ length c.now }
+    ensures lengths { HaveLength (length (row_at rows.now 0)) parities.new }
+    ensures sums { AreCombinations c.now rows.now parities.new }
+    ensures word { IsCodeWord (length rows.now) (length c.now) (rows.now ++ parities.new) }
+    ensures only { (others : List (List ℕ)) → HoldBytes others
+        → IsCodeWord (length rows.now) (length c.now) (rows.now ++ others)
+        → others ≡ parities.new }
+{
+    let k = rows.count() as usize;
+    let r = c.parities();
+    let _ = rows.row_len();
     parities.set_sums(
         first_positions(r as usize),
         c.factors(),
         rows,
         first_positions(k),
     );
-    Ok(parities)
 }
 
 /// The same in a block of just their size, one after another. It takes no memory.

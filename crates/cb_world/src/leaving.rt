@@ -1,3 +1,10 @@
+ghost use Rattle.std.specs.Prelude.{◌≡◌, ℕ, ◌×◌, ◌<◌, Bool, true, false, List, Option, None, Some, ◌++◌, length};
+ghost use Rattle.cb_gf256.specs.CodeWord.{IsCodeWord};
+ghost use Rattle.cb_gf256.specs.Combination.{AreCombinations};
+ghost use Rattle.cb_gf256.specs.Rows.{row_at, HaveLength, HoldBytes};
+ghost use Rattle.cb_world.specs.Leaving.{made_of};
+
+use cb_code::{Coeffs, encode_rows};
 use cb_gf256::Rows;
 use cb_member::Shard;
 use std::marker::Model;
@@ -9,21 +16,153 @@ pub struct Former {
     pub word: u64,
 }
 
+/// The parities of a batch, as many from its begin on as its code has, and the room in which they
+/// are made. What the room holds before they are made is no part of the batch.
+#[derive(Drop)]
+pub struct Parities {
+    made: bool,
+    rows: Rows,
+    // Where the data rows are read that the parities are made of.
+    data: Option<Rows>,
+}
+
+impl Model for Parities {
+    ghost use Rattle.cb_world.specs.Leaving.{ParitiesState};
+
+    ghost Value = { ParitiesState };
+
+    ghost view = { λ a. record { made = a.made; rows = a.rows; data = a.data } };
+}
+
+impl Parities {
+    /// Parities that are made. Takes no memory.
+    pub fn made(rows: Rows) -> Parities
+        ensures { result ≡ made_of rows }
+    {
+        Parities {
+            made: true,
+            rows,
+            data: None,
+        }
+    }
+
+    /// As many parities as there are rows, which are still to be made: there, of data rows that are
+    /// read into the second table. Takes no memory.
+    pub fn unmade(rows: Rows, data: Rows) -> Parities
+        ensures { result ≡ record { made = false; rows = rows; data = Some data } }
+    {
+        Parities {
+            made: false,
+            rows,
+            data: Some(data),
+        }
+    }
+
+    /// Whether they are made.
+    pub fn is_made(&self) -> bool
+        ensures { result ≡ self.now.made }
+    {
+        self.made
+    }
+
+    /// How many parities there are.
+    pub fn count(&self) -> u32
+        ensures { result ≡ length self.now.rows }
+    {
+        self.rows.count()
+    }
+
+    /// The parity at a place, once they are made.
+    pub fn row(&self, at: u32) -> &[u8]
+        requires made { self.now.made ≡ true }
+        requires within { at < length self.now.rows }
+        ensures { result.now ≡ row_at self.now.rows at }
+    {
+        self.rows.row(at)
+    }
+
+    /// What the room holds at the place of a parity, whether they are made or not.
+    pub fn row_in_room(&self, at: u32) -> &[u8]
+        requires { at < length self.now.rows }
+        ensures { result.now ≡ row_at self.now.rows at }
+    {
+        self.rows.row(at)
+    }
+
+    /// Copies these rows into the room: from here on they are the parities. The table of data rows
+    /// is given back. Takes no memory.
+    pub fn install(&mut self, rows: &Rows)
+        requires count { length rows.now ≡ length self.old.rows }
+        requires lengths { (len : ℕ) × HaveLength len rows.now × HaveLength len self.old.rows }
+        ensures { self.new ≡ made_of rows.now }
+    {
+        copy_rows(rows, &mut self.rows);
+        self.made = true;
+        self.data = None;
+    }
+
+    /// Takes the table out in which the data rows are read; `make` puts it back.
+    pub fn take_data(&mut self) -> Rows
+        requires { (data : List (List ℕ)) × (self.old.data ≡ Some data) }
+        ensures data { self.old.data ≡ Some result }
+        ensures taken { self.new ≡ record self.old { data = None } }
+    {
+        self.data.take().unwrap()
+    }
+
+    /// Makes the parities of these data rows in the room, and does not mark them as made: until
+    /// `mark_made` the batch has none. The data rows are kept. Takes no memory.
+    pub fn make(&mut self, c: &Coeffs, data: Rows)
+        requires width { HaveLength (length data) c.now }
+        requires count { length self.old.rows ≡ length c.now }
+        requires lengths { HaveLength (length (row_at data 0)) self.old.rows }
+        ensures made { self.new.made ≡ self.old.made }
+        ensures data { self.new.data ≡ Some data }
+        ensures count { length self.new.rows ≡ length self.old.rows }
+        ensures lengths { HaveLength (length (row_at data 0)) self.new.rows }
+        ensures word { IsCodeWord (length data) (length c.now) (data ++ self.new.rows) }
+        ensures bytes { HoldBytes (data ++ self.new.rows) }
+    {
+        encode_rows(c, &data, &mut self.rows);
+        self.data = Some(data);
+    }
+
+    /// From here on what the room holds is the parities. The table of data rows is given back.
+    pub fn mark_made(&mut self)
+        ensures { self.new ≡ made_of self.old.rows }
+    {
+        self.made = true;
+        self.data = None;
+    }
+}
+
+/// Copies rows over as many rows that are as long.
+fn copy_rows(from: &Rows, into: &mut Rows)
+    requires count { length from.now ≡ length into.old }
+    requires lengths { (len : ℕ) × HaveLength len from.now × HaveLength len into.old }
+    ensures { into.new ≡ from.now }
+{
+    for at in 0..from.count() {
+        into.row_mut(at).copy_from_slice(from.row(at));
+    }
+}
+
 /// The batch that is leaving: the number of its set, the pages of each of its spans and their first
 /// frames by position, the words of its objects before the begin, its parities, and by position the
-/// shard whose row was put, where one was.
+/// shard whose row was put, where one was. What its parities hold before they are made is not seen.
 #[derive(Drop)]
 pub struct Leaving {
     pub set: u64,
     pub pages: u32,
     pub frames: Vec<u32>,
     pub words: Vec<Former>,
-    pub parities: Rows,
+    pub parities: Parities,
     pub shards: Vec<Option<Shard>>,
 }
 
 impl Model for Leaving {
-    ghost use Rattle.cb_world.specs.Leaving.{LeavingState};
+    ghost use Rattle.std.specs.Prelude.{length};
+    ghost use Rattle.cb_world.specs.Leaving.{LeavingState, AreRoomy, shown_rows};
 
     ghost Value = { LeavingState };
 
@@ -32,7 +171,10 @@ impl Model for Leaving {
       pages = a.pages;
       frames = a.frames.items;
       words = a.words.items;
-      parities = a.parities;
+      made = a.parities.made;
+      parities = shown_rows a.parities.made a.parities.rows;
       shards = a.shards.items;
     } };
+
+    ghost invariant = { λ a. AreRoomy a.pages (length a.frames.items) a.parities };
 }

@@ -44,7 +44,7 @@ pub use groups::{Group, group_of};
 pub use homes::{Home, Homes};
 pub use joining::Joining;
 pub use kept_set::KeptSet;
-pub use leaving::{Former, Leaving};
+pub use leaving::{Former, Leaving, Parities};
 pub use leftover::{kill_position, remove_far};
 pub use object::Object;
 pub use placing::{leaving_frames, place_object};

@@ -1,11 +1,10 @@
-use Rattle.std.proofs.Common.{◌≡◌, length, replicate, ap, sym, refl, ◌∙◌, arith}
-use Rattle.std.proofs.lemmas.List.{length-replicate}
+use Rattle.std.proofs.Common.{◌≡◌, length, sym, refl, ◌∙◌, arith}
 use Rattle.cb_code.proofs.Tables.{fits, only_coded, combinations_of_all}
-use Rattle.cb_code.proofs.encoding.encode_borrowed.Goals as goal
+use Rattle.cb_code.proofs.encoding.set_parities.Goals as goal
 
 pub returns-clause-sums : goal.returns-clause-sums
 returns-clause-sums c =
-    let count : length c.set_sums.new.self ≡ c.parities-r.result = c.set_sums.ensures.count ∙ ap length c.in_ok-parities.ensures ∙ length-replicate c.parities-r.result (replicate c.row_len.result 0) in
+    let count : length c.set_sums.new.self ≡ c.parities-r.result = c.set_sums.ensures.count ∙ c.requires.count ∙ sym c.parities-r.ensures.count in
     combinations_of_all c.args.c.now c.factors.result.now c.args.rows.now c.set_sums.new.self c.first_positions.result.now c.first_positions-2.result.now
     (sym c.factors.ensures)
     (c.first_positions.ensures.count ∙ sym count)
@@ -16,10 +15,10 @@ returns-clause-sums c =
 
 pub returns-clause-word : goal.returns-clause-word
 returns-clause-word c =
-    let fit = fits c.args.c.now c.args.rows.now c.parities-r.ensures.coefficients c.parities-r.ensures.in_range c.requires in
+    let fit = fits c.args.c.now c.args.rows.now c.parities-r.ensures.coefficients c.parities-r.ensures.in_range c.requires.width in
     fit.0.make_words c.args.rows.now c.set_sums.new.self refl c.row_len.ensures.rows (returns-clause-sums c)
 
 pub returns-clause-only : goal.returns-clause-only
 returns-clause-only c others bytes word =
-    let fit = fits c.args.c.now c.args.rows.now c.parities-r.ensures.coefficients c.parities-r.ensures.in_range c.requires in
+    let fit = fits c.args.c.now c.args.rows.now c.parities-r.ensures.coefficients c.parities-r.ensures.in_range c.requires.width in
     only_coded c.args.c.now c.args.rows.now c.set_sums.new.self others fit.0 fit.1 c.row_len.ensures.rows (returns-clause-sums c) bytes word
