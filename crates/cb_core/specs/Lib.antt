@@ -13,6 +13,7 @@ pub mod OrderParts
 pub mod Ordered
 pub mod Admitting
 pub mod TurnLeaves
+pub mod OrderLeaves
 pub mod ReadTurn
 pub mod Step
 pub mod Events

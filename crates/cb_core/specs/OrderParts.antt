@@ -1,16 +1,17 @@
 -- The jobs that hand an order out or take one, one table over their parts: over any desk, and over
 -- the still desk.
-use Rattle.std.specs.Prelude.{◌≡◌, ℕ, Option, None}
+use Rattle.std.specs.Prelude.{◌≡◌, ℕ, Option, None, Some}
 use Rattle.cb_types.specs.declared.job.Job.{Job}
 use Rattle.cb_types.specs.declared.job.Job.TheVariants.{Gather, Install, Fetch, Land}
 use Rattle.cb_types.specs.declared.order.Kept.{Kept}
+use Rattle.cb_types.specs.declared.order.Kept.TheVariants.{Encode, Decode}
 use Rattle.cb_types.specs.declared.reply.Reply.{Reply}
 use Rattle.cb_types.specs.declared.reply.Reply.TheVariants as answer
 use Rattle.cb_evict.specs.declared.eviction.Eviction.{Eviction}
 use Rattle.cb_evict.specs.declared.gathering.Gathered.{Gathered}
 use Rattle.cb_evict.specs.Gathering.{gathered_order, gathered_reply}
 use Rattle.cb_swapin.specs.declared.fetching.Fetching.{Fetching}
-use Rattle.cb_swapin.specs.FetchRule.{fetching_order, fetching_reply}
+use Rattle.cb_swapin.specs.FetchStep.{fetching_order, fetching_reply}
 use Rattle.cb_core.specs.Parts.{Holding, WithRoom, RoomStops, most_evictions}
 
 -- The single calls, each as it leads from one holding to another. An install and a landing are of
@@ -33,10 +34,22 @@ pub data FetchesBy {D : Type 0} (p : OrderParts D) (h : ℕ) (order : Option Kep
   was_far : (m : Holding D) (g : Fetching) → p.finds h a answer.NotHere m → p.fetches h m g b
       → r ≡ fetching_reply g → keeps ≡ fetching_order order g → FetchesBy p h order a r keeps b
 
--- what a seat keeps behind a landing with this reply
+-- What a seat keeps behind a landing with this reply: the order is taken where its position was
+-- brought in.
 abbrev pub landed_order : Option Kept → Reply → Option Kept
 landed_order order (answer.Swapped f) = None
 landed_order order r = order
+
+-- of what a seat keeps an install sees orders to encode alone, and a landing orders to decode
+abbrev pub encode_in : Option Kept → Option Kept
+encode_in (Some (Encode o)) = Some (Encode o)
+encode_in (Some (Decode o)) = None
+encode_in None = None
+
+abbrev pub decode_in : Option Kept → Option Kept
+decode_in (Some (Decode o)) = Some (Decode o)
+decode_in (Some (Encode o)) = None
+decode_in None = None
 
 -- What such a job does by these parts, once the turn is counted: what the seat kept before it, and
 -- what it keeps behind it. No other job is one.

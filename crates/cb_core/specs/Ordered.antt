@@ -1,6 +1,5 @@
 -- A turn whose job hands an order out or takes one, over any desk.
-use Rattle.std.specs.Prelude.{◌≡◌, ℕ, ◌^◌, ◌<◌, ◌≤◌, List, [], Option, Some, length}
-use Rattle.cb_set.specs.SetState.{SetState}
+use Rattle.std.specs.Prelude.{◌≡◌, ℕ, ◌^◌, ◌<◌, List, [], Option, Some}
 use Rattle.cb_types.specs.declared.config.Config.{Config}
 use Rattle.cb_types.specs.declared.job.Job.{Job}
 use Rattle.cb_types.specs.declared.job.Job.TheVariants.{Install}
@@ -12,19 +11,19 @@ use Rattle.cb_world.specs.declared.homes.Home.{Home}
 use Rattle.cb_world.specs.declared.shown.Shown.{Shown}
 use Rattle.cb_world.specs.FarState.{FarState}
 use Rattle.cb_world.specs.Homes.{home_at}
-use Rattle.cb_world.specs.Orders.{KeepsOrder}
 use Rattle.cb_world.specs.Performs.{Performs}
 use Rattle.cb_world.specs.Sound.{Sound}
-use Rattle.cb_evict.specs.BeginRule.{GatherRule}
-use Rattle.cb_evict.specs.BeginEffect.{GatherEffect}
 use Rattle.cb_evict.specs.declared.gathering.Gathered.{Gathered}
+use Rattle.cb_evict.specs.Gathering.{GatherEffect, GatherRule}
 use Rattle.cb_evict.specs.InstallRule.{InstallStep}
 use Rattle.cb_swapin.specs.declared.fetching.Fetching.{Fetching}
-use Rattle.cb_swapin.specs.FetchRule.{FetchStep}
-use Rattle.cb_swapin.specs.LandRule.{LandEffect, LandRule}
+use Rattle.cb_swapin.specs.declared.fetching.Fetching.TheVariants as fetching
+use Rattle.cb_swapin.specs.FetchStep.{FetchStep}
+use Rattle.cb_swapin.specs.LandEffect.{LandEffect}
+use Rattle.cb_swapin.specs.LandRule.{LandRule}
 use Rattle.cb_core.specs.OrderParts.{DoesWithBy, OrderLacks, OrderParts, StopsWithBy}
 use Rattle.cb_core.specs.Parts.{Holding}
-use Rattle.cb_core.specs.Turned.{EvictLacks, FindsWhere, IsGiven, WinsRoom, counted, once_counted}
+use Rattle.cb_core.specs.Turned.{EvictLacks, FindsWhere, WinsRoom, counted, once_counted}
 
 -- some spans begin to leave, with their rows handed out
 abbrev pub Gathers : {D : Type 0} → (D → List Event → D → Type 0) → (D → Shown → Type 0)
@@ -67,6 +66,14 @@ abbrev pub DoesWith : {D : Type 0} → (D → List Event → D → Type 0) → (
     → Job → Option Kept → Holding D → Reply → Option Kept → Holding D → Type 0
 DoesWith run shows c = DoesWithBy (desk_orders run shows c)
 
+-- A fetch over any desk: an object is looked at, and the rows of one that is far are handed out.
+pub data FetchRun {D : Type 0} (run : D → List Event → D → Type 0) (shows : D → Shown → Type 0) (h : ℕ)
+    (a : Holding D) (g : Fetching) (b : Holding D) : Type 0 where
+  not_far : (r : Reply) → g ≡ fetching.Answer r → FindsWhere run shows h a r b
+      → (r ≡ answer.NotHere → ⊥) → FetchRun run shows h a g b
+  was_far : (m : Holding D) → FindsWhere run shows h a answer.NotHere m
+      → FetchesRows run h m g b → FetchRun run shows h a g b
+
 -- A turn of a seat that kept `order` before it and keeps `keeps` behind it: where 2^40 turns were
 -- counted it is refused and nothing is done; else it is counted first, and then does its job.
 pub data TurnedWith {D : Type 0} (run : D → List Event → D → Type 0) (shows : D → Shown → Type 0)
@@ -88,22 +95,22 @@ pub data InstallTurn (far : FarState) (r : Reply) (order keeps : Option Kept) (n
 
 -- ---- want of memory
 
--- a fetch that lacks memory has given rows of the object's set out, at most as many as it has data
--- positions, and nothing else was done
-abbrev pub FetchLacks : {D : Type 0} → (D → List Event → D → Type 0) → ℕ → Holding D → Holding D
-    → Type 0
-FetchLacks run h a b = run a.desk [] b.desk × IsGiven a.far b.far h
+-- rows that lack memory, and a landing that does, change nothing
+abbrev pub NothingDone : {D : Type 0} → (D → List Event → D → Type 0) → Holding D → Holding D → Type 0
+NothingDone run a b = run a.desk [] b.desk × (b.far ≡ a.far)
 
--- a landing that lacks memory changes nothing
-abbrev pub LandLacks : {D : Type 0} → (D → List Event → D → Type 0) → Holding D → Holding D → Type 0
-LandLacks run a b = run a.desk [] b.desk × (b.far ≡ a.far)
+-- a fetch of an object that was far
+abbrev pub FetchStops : {D : Type 0} → (D → List Event → D → Type 0) → (D → Shown → Type 0) → ℕ
+    → Holding D → Holding D → Type 0
+FetchStops {D = D} run shows h a b =
+    (m : Holding D) × FindsWhere run shows h a answer.NotHere m × NothingDone run m b
 
 abbrev pub desk_order_lacks : {D : Type 0} → (D → List Event → D → Type 0) → (D → Shown → Type 0)
     → OrderLacks D
 desk_order_lacks run shows = record {
   gathers = EvictLacks run shows;
-  fetches = λ h. FetchLacks run h;
-  lands = λ order. LandLacks run;
+  fetches = λ h. NothingDone run;
+  lands = λ order. NothingDone run;
   evicts = EvictLacks run shows;
 }
 
