@@ -51,8 +51,7 @@ pub record IsOrderFetched (far new : FarState) (id p : ℕ) (set : SetState) (o 
   where
     pub set_is : o.set ≡ id
     pub wanted : o.position ≡ p
-    pub data : o.k ≡ length set.positions
-    pub parity : o.r ≡ parities set
+    pub code : (o.k ≡ length set.positions) × (o.r ≡ parities set)
     pub least : o.present ≡ take (length set.positions) (surviving far.members set.shards)
     pub given : AreGiven far.nodes set.shards o.present o.rows
     pub state : new ≡ far_given far (length set.positions)

@@ -1,5 +1,6 @@
 -- What is fetched before a span is brought in.
-use Rattle.std.specs.Prelude.{◌≡◌, ℕ, List, Option, None, Some, Bor, false, length, if◌then◌else◌}
+use Rattle.std.specs.Prelude.{◌≡◌, ℕ, List, Option, None, Some, false, length, if◌then◌else◌}
+use Rattle.std.specs.Borrow.{Bor}
 use Rattle.cb_class.specs.Class.{pages_of}
 use Rattle.cb_gf256.specs.Rows.{row_at}
 use Rattle.cb_member.specs.declared.names.Loss.{Loss}

@@ -1,5 +1,6 @@
 -- The rule of landing a row that was made by an order.
-use Rattle.std.specs.Prelude.{◌≡◌, ◌⊎◌, ℕ, Bool, true, false, List, [], Option, None, Some, Bor}
+use Rattle.std.specs.Prelude.{◌≡◌, ◌⊎◌, ℕ, Bool, true, false, List, [], Option, None, Some}
+use Rattle.std.specs.Borrow.{Bor}
 use Rattle.std.specs.Option.{option_map, option_map_or}
 use Rattle.cb_orders.specs.Done.{DecodeDoneState}
 use Rattle.cb_set.specs.SetState.{live_at}

@@ -1,5 +1,6 @@
 -- What a swap-in does to the objects and the memory.
-use Rattle.std.specs.Prelude.{◌≡◌, ℕ, List, [], Option, Some, Bor, length}
+use Rattle.std.specs.Prelude.{◌≡◌, ℕ, List, [], Option, Some, length}
+use Rattle.std.specs.Borrow.{Bor}
 use Rattle.cb_class.specs.declared.class.Class.{Class}
 use Rattle.cb_class.specs.Class.{IsClass, pages_of, slots_of}
 use Rattle.cb_gf256.specs.Rows.{row_at}

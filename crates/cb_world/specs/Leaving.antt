@@ -9,7 +9,7 @@ use Rattle.cb_world.specs.declared.leaving.Former.{Former}
 pub record ParitiesState : Type 0 where
   pub made : Bool
   pub rows : List (List ℕ)
-  pub data : Option (List (List ℕ))
+  pub source : Option (List (List ℕ))
 
 -- rows of which nothing is seen until they are made
 abbrev pub shown_rows : Bool → List (List ℕ) → List (List ℕ)
@@ -17,21 +17,21 @@ shown_rows true rows = rows
 shown_rows false rows = map (λ row. []) rows
 
 -- a table for the data rows of so many spans, of so many pages each
-pub record HasDataRoom (pages spans : ℕ) (p : ParitiesState) : Type 0 where
-  pub data : List (List ℕ)
-  pub kept : p.data ≡ Some data
-  pub count : length data ≡ spans
-  pub lengths : HaveLength (4096 * pages) data
+pub record HasSource (pages spans : ℕ) (p : ParitiesState) : Type 0 where
+  pub table : List (List ℕ)
+  pub kept : p.source ≡ Some table
+  pub count : length table ≡ spans
+  pub lengths : HaveLength (4096 * pages) table
 
 -- the parities of so many spans, of so many pages each: their rows are as long as the spans, and
 -- until they are made there is a table for the data rows
 pub record AreRoomy (pages spans : ℕ) (p : ParitiesState) : Type 0 where
   pub lengths : HaveLength (4096 * pages) p.rows
-  pub room : p.made ≡ false → HasDataRoom pages spans p
+  pub room : p.made ≡ false → HasSource pages spans p
 
 -- the parities, made of these rows, where no data rows are kept any more
 abbrev pub made_of : List (List ℕ) → ParitiesState
-made_of rows = record { made = true; rows = rows; data = None }
+made_of rows = record { made = true; rows = rows; source = None }
 
 -- the number of its set; the pages of each of its spans; the first frames of these, the position of
 -- a span being its place here; the words of its objects before the begin; whether its parities are

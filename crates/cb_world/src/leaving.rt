@@ -1,4 +1,4 @@
-ghost use Rattle.std.specs.Prelude.{◌≡◌, ℕ, ◌×◌, ◌<◌, Bool, true, false, List, Option, None, Some, ◌++◌, length};
+ghost use Rattle.std.specs.Prelude.{◌≡◌, ℕ, ◌<◌, true, false, List, None, Some, ◌++◌, length};
 ghost use Rattle.cb_gf256.specs.CodeWord.{IsCodeWord};
 ghost use Rattle.cb_gf256.specs.Combination.{AreCombinations};
 ghost use Rattle.cb_gf256.specs.Rows.{row_at, HaveLength, HoldBytes};
@@ -23,7 +23,7 @@ pub struct Parities {
     made: bool,
     rows: Rows,
     // Where the data rows are read that the parities are made of.
-    data: Option<Rows>,
+    source: Option<Rows>,
 }
 
 impl Model for Parities {
@@ -31,7 +31,7 @@ impl Model for Parities {
 
     ghost Value = { ParitiesState };
 
-    ghost view = { λ a. record { made = a.made; rows = a.rows; data = a.data } };
+    ghost view = { λ a. record { made = a.made; rows = a.rows; source = a.source } };
 }
 
 impl Parities {
@@ -42,19 +42,19 @@ impl Parities {
         Parities {
             made: true,
             rows,
-            data: None,
+            source: None,
         }
     }
 
     /// As many parities as there are rows, which are still to be made: there, of data rows that are
     /// read into the second table. Takes no memory.
-    pub fn unmade(rows: Rows, data: Rows) -> Parities
-        ensures { result ≡ record { made = false; rows = rows; data = Some data } }
+    pub fn unmade(rows: Rows, source: Rows) -> Parities
+        ensures { result ≡ record { made = false; rows = rows; source = Some source } }
     {
         Parities {
             made: false,
             rows,
-            data: Some(data),
+            source: Some(source),
         }
     }
 
@@ -98,33 +98,33 @@ impl Parities {
     {
         copy_rows(rows, &mut self.rows);
         self.made = true;
-        self.data = None;
+        self.source = None;
     }
 
     /// Takes the table out in which the data rows are read; `make` puts it back.
-    pub fn take_data(&mut self) -> Rows
-        requires { (data : List (List ℕ)) × (self.old.data ≡ Some data) }
-        ensures data { self.old.data ≡ Some result }
-        ensures taken { self.new ≡ record self.old { data = None } }
+    pub fn take_source(&mut self) -> Rows
+        requires { (table : List (List ℕ)) × (self.old.source ≡ Some table) }
+        ensures source { self.old.source ≡ Some result }
+        ensures taken { self.new ≡ record self.old { source = None } }
     {
-        self.data.take().unwrap()
+        self.source.take().unwrap()
     }
 
     /// Makes the parities of these data rows in the room, and does not mark them as made: until
     /// `mark_made` the batch has none. The data rows are kept. Takes no memory.
-    pub fn make(&mut self, c: &Coeffs, data: Rows)
-        requires width { HaveLength (length data) c.now }
+    pub fn make(&mut self, c: &Coeffs, source: Rows)
+        requires width { HaveLength (length source) c.now }
         requires count { length self.old.rows ≡ length c.now }
-        requires lengths { HaveLength (length (row_at data 0)) self.old.rows }
+        requires lengths { HaveLength (length (row_at source 0)) self.old.rows }
         ensures made { self.new.made ≡ self.old.made }
-        ensures data { self.new.data ≡ Some data }
+        ensures source { self.new.source ≡ Some source }
         ensures count { length self.new.rows ≡ length self.old.rows }
-        ensures lengths { HaveLength (length (row_at data 0)) self.new.rows }
-        ensures word { IsCodeWord (length data) (length c.now) (data ++ self.new.rows) }
-        ensures bytes { HoldBytes (data ++ self.new.rows) }
+        ensures lengths { HaveLength (length (row_at source 0)) self.new.rows }
+        ensures word { IsCodeWord (length source) (length c.now) (source ++ self.new.rows) }
+        ensures bytes { HoldBytes (source ++ self.new.rows) }
     {
-        encode_rows(c, &data, &mut self.rows);
-        self.data = Some(data);
+        encode_rows(c, &source, &mut self.rows);
+        self.source = Some(source);
     }
 
     /// From here on what the room holds is the parities. The table of data rows is given back.
@@ -132,7 +132,7 @@ impl Parities {
         ensures { self.new ≡ made_of self.old.rows }
     {
         self.made = true;
-        self.data = None;
+        self.source = None;
     }
 }
 

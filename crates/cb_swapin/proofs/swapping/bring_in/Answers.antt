@@ -19,7 +19,7 @@ use Rattle.cb_swapin.proofs.Waits.{CanArrive, free_run, waiting}
 use Rattle.cb_swapin.proofs.SwapSound.{sound_arrived, there_of}
 use Rattle.cb_swapin.proofs.Swapped.{by_frame, has_arrived, is_whole, swapped_in, swapped_to, unavailable, with_arrived}
 use Rattle.cb_swapin.proofs.RowGiven.{any_err}
-use Rattle.cb_swapin.proofs.swapping.swap_in.Goals as goal
+use Rattle.cb_swapin.proofs.swapping.bring_in.Goals as goal
 
 pub returns-in-Some-clause-swap : goal.returns-in-Some-clause-swap
 returns-in-Some-clause-swap g c =
