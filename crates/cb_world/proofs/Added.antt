@@ -287,7 +287,9 @@ added_batch s t far new id set rows sound x b at =
     let was = sym x.leaving ∙ at in let y = sound.batch b was in
     let same : batch_rows t b ≡ batch_rows s b = x.batch b was in
     record {
-      word = subst (IsSpanWord b.pages (length b.frames) (length b.parities)) (sym same) y.word;
+      word = λ made. subst (IsSpanWord b.pages (length b.frames) (length b.parities)) (sym same)
+          (y.word made);
+      bare = y.bare;
       count = y.count;
       put = λ p shard is kept.
           x.stay shard.node shard.key (x.fresh_keys (of_leaving p) shard (b, was, is))

@@ -69,6 +69,7 @@ away_alike s far turns by_job given survey sound = record {
   };
   batch = λ b at. let x = sound.batch b at in record {
     word = x.word;
+    bare = x.bare;
     count = x.count;
     put = x.put;
     apart = x.apart;

@@ -688,6 +688,7 @@ commit_keeps s far new pair a b c id sound j x = record {
   rows = commit_rows s far new pair a b c id sound j x;
   batch = λ t at. let y = sound.batch t (sym x.leaving ∙ at) in record {
     word = y.word;
+    bare = y.bare;
     count = y.count;
     put = λ p shard is kept.
         row_stays s far new pair a b c id sound x (of_leaving p) shard (

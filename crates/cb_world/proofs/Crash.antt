@@ -105,6 +105,7 @@ crash_keeps s far node sound within up valid = record {
   rows = crash_keeps_rows far node sound.rows within up valid;
   batch = λ b at. let x = sound.batch b at in record {
     word = x.word;
+    bare = x.bare;
     count = x.count;
     put = λ p shard is kept. let c = sound.rows.current (of_leaving p) shard (b, at, is) in
         let y = crash_survivor far.members node shard sound.rows.members within up c.1 kept in

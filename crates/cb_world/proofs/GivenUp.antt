@@ -402,7 +402,9 @@ given_up s t far new id set p left sound x = record {
   rows = given_rows s t far new id set p left sound x;
   batch = λ b at. let was = sym x.leaving ∙ at in let y = sound.batch b was in let same =
       x.batch b was in record {
-        word = subst (IsSpanWord b.pages (length b.frames) (length b.parities)) (sym same) y.word;
+        word = λ made. subst (IsSpanWord b.pages (length b.frames) (length b.parities)) (sym same)
+            (y.word made);
+        bare = y.bare;
         count = y.count;
         put = λ q shard is kept.
             other_rows s t far new id set p left sound x (of_leaving q) shard (

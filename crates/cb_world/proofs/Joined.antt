@@ -170,6 +170,7 @@ sets_kept s far new sound x keeps rows = record {
   rows = rows;
   batch = λ b at. let y = sound.batch b (sym x.leaving ∙ at) in record {
     word = y.word;
+    bare = y.bare;
     count = y.count;
     put = λ p shard is kept. keeps.batch_rows p shard (b, sym x.leaving ∙ at, is)
         ∙ y.put p shard is (ap (λ (m : Membership). is_lost m shard) (sym x.members) ∙ kept);

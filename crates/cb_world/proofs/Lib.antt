@@ -1,4 +1,5 @@
 mod Padded
+mod RoomRows
 pub mod FrameCopied
 mod FrameRuns
 mod Dropping
@@ -28,6 +29,7 @@ pub mod GivenUpNow
 pub mod FarGone
 pub mod FarGoneNow
 pub mod Gathering
+mod FetchedRows
 mod NextSet
 pub mod SetWalk
 pub mod Grouped

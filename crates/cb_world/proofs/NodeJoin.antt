@@ -139,6 +139,7 @@ away_stays s far node sound within down = record {
   rows = rows_stay far node sound.rows within down;
   batch = λ b at. let x = sound.batch b at in record {
     word = x.word;
+    bare = x.bare;
     count = x.count;
     put = λ p shard is kept.
         x.put p shard is (sym (join_keeps_flag far.members node shard within) ∙ kept);

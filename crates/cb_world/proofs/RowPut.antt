@@ -46,13 +46,14 @@ pub record IsRefilled (was batch : LeavingState) : Type 0 where
   pub same : batch ≡ with_batch_shards was batch.shards
   pub count : length batch.shards ≡ length was.shards
 
--- the row is that of the place whose owner this is: of each word of the set, or of the batch
+-- the row is that of the place whose owner this is: of each word of the set, or of the batch, where
+-- it is no parity as long as these are not made
 abbrev pub IsRowFor : Shown → FarState → Owner → List ℕ → Type 0
 IsRowFor s far (of_set id p) row = (set : SetState) (rows : List (List ℕ))
     → set_in far.sets id ≡ Some set → IsWordOf far.nodes far.members set rows
     → row ≡ row_at rows p
 IsRowFor s far (of_leaving p) row = (batch : LeavingState) → far.leaving ≡ Some batch
-    → row ≡ row_at (batch_rows s batch) p
+    → (row ≡ row_at (batch_rows s batch) p) × (batch.made ≡ false → p < length batch.frames)
 IsRowFor s far (of_joining p) row = Unit {0}
 
 -- a shard of the new state is the new one, or was one before
@@ -295,16 +296,29 @@ module _ (s : Shown) (far new : FarState) (o : Owner) (shard : Shard) (row : Lis
       → row_under new.nodes a.node a.key ≡ Some (row_at (batch_rows s was) p)
   row_of_batch p was a there (inl y) kept =
       ap (λ (c : Shard). row_under new.nodes c.node c.key) y.1 ∙ row_here
-      ∙ ap Some (subst (λ (q : Owner). IsRowFor s far q row) (sym y.0) x.of_owner was there)
+      ∙ ap Some (subst (λ (q : Owner). IsRowFor s far q row) (sym y.0) x.of_owner was there).0
   row_of_batch p was a there (inr y) kept =
       owned_stays (of_leaving p) a y ∙ (sound.batch y.0 y.1).put p a y.2 kept
       ∙ ap (λ (c : LeavingState). Some (row_at (batch_rows s c) p))
       (same_Some y.0 was (sym y.1 ∙ there))
 
+  bare_batch : (p : ℕ) (was : LeavingState) (a : Shard) → far.leaving ≡ Some was
+      → IsNewOr far o shard (of_leaving p) a → was.made ≡ false → p < length was.frames
+  bare_batch p was a there (inl y) unmade =
+      (subst (λ (q : Owner). IsRowFor s far q row) (sym y.0) x.of_owner was there).1 unmade
+  bare_batch p was a there (inr y) unmade =
+      let same = same_Some y.0 was (sym y.1 ∙ there) in
+      subst (λ (c : LeavingState). p < length c.frames) same
+      ((sound.batch y.0 y.1).bare (ap (λ (c : LeavingState). c.made) same ∙ unmade) p a y.2)
+
   batch : (b : LeavingState) → new.leaving ≡ Some b → IsBatch s new b
   batch b at = let y = x.batch_was b at in let r = y.2 in let z = sound.batch y.0 y.1 in record {
-    word = subst (λ (c : LeavingState).
-        IsSpanWord c.pages (length c.frames) (length c.parities) (batch_rows s c)) (sym r.same) z.word;
+    word = λ made. subst (λ (c : LeavingState).
+        IsSpanWord c.pages (length c.frames) (length c.parities) (batch_rows s c)) (sym r.same)
+        (z.word (sym (ap (λ (c : LeavingState). c.made) r.same) ∙ made));
+    bare = λ unmade p a is. subst (λ (c : LeavingState). p < length c.frames) (sym r.same)
+        (bare_batch p y.0 a y.1 (x.back (of_leaving p) a (b, at, is))
+        (sym (ap (λ (c : LeavingState). c.made) r.same) ∙ unmade));
     count = r.count ∙ z.count
         ∙ ap (λ (c : LeavingState). length c.frames + length c.parities) (sym r.same);
     put = λ p a is kept.

@@ -190,8 +190,9 @@ away_kept s t far new keeps objects batches sound =
           current = λ o a p. x.rows.current o a (shard_kept far new o a p);
         };
         batch = λ b there. let y = x.batch b there in let e = sym (batches b there) in record {
-          word = subst (λ (rows : List (List ℕ)).
-              IsSpanWord b.pages (length b.frames) (length b.parities) rows) e y.word;
+          word = λ made. subst (λ (rows : List (List ℕ)).
+              IsSpanWord b.pages (length b.frames) (length b.parities) rows) e (y.word made);
+          bare = y.bare;
           count = y.count;
           put = λ p shard at lost. y.put p shard at lost
               ∙ ap (λ (rows : List (List ℕ)). Some (row_at rows p)) e;

@@ -1,6 +1,7 @@
 -- Worked examples of a batch that is leaving, and of the word that is noted for one of its objects:
 -- what meets each definition, and for each of its parts what breaks that part alone.
-use Rattle.std.proofs.Common.{◌≡◌, ℕ, zero, suc, ◌<◌, false, List, [], ◌∷◌, None, Some, length, refl, sym, ap, ◌∙◌, subst, arith, lit<}
+use Rattle.std.proofs.Common.{◌≡◌, ℕ, zero, suc, ◌<◌, true, false, List, [], ◌∷◌, None, Some, length, refl, sym, ap, ◌∙◌, subst, arith, lit<}
+use Rattle.std.proofs.lemmas.Bool.{false≢true}
 use Rattle.std.specs.FinMap as map
 use Rattle.std.specs.List.{slice_get}
 use Rattle.cb_gf256.specs.Rows.{row_at}
@@ -36,6 +37,7 @@ batch = record {
   pages = 1;
   frames = 0 ∷ [];
   words = [];
+  made = true;
   parities = row ∷ [];
   shards = Some (at 0 2) ∷ Some (at 1 3) ∷ [];
 }
@@ -51,7 +53,8 @@ first_row = got 2 row ∙ ap (λ (r : List ℕ). Some r) (sym zero_row)
 
 is_batch : IsBatch known leaving batch
 is_batch = record {
-  word = subst (λ (r : List ℕ). IsSpanWord 1 1 1 (r ∷ row ∷ [])) (sym zero_row) is_word;
+  word = λ made. subst (λ (r : List ℕ). IsSpanWord 1 1 1 (r ∷ row ∷ [])) (sym zero_row) is_word;
+  bare = λ unmade. absurd (false≢true (sym unmade));
   count = refl;
   put = put;
   apart = apart;
@@ -86,6 +89,47 @@ is_batch = record {
     apart (suc (suc p)) q a b d e same = absurd (none_some (Some a) d)
     apart p (suc (suc q)) a b d e same = absurd (none_some (Some b) e)
 
+-- its parity is not made, and the span's row alone was put
+abbrev unmade : LeavingState
+unmade = record batch { made = false; parities = [] ∷ []; shards = Some (at 0 2) ∷ None ∷ [] }
+
+is_unmade_batch : IsBatch known leaving unmade
+is_unmade_batch = record {
+  word = λ made. absurd (false≢true made);
+  bare = below;
+  count = refl;
+  put = put;
+  apart = apart;
+}
+  where
+    below : false ≡ false → (p : ℕ) (shard : Shard) → slice_get unmade.shards p ≡ Some (Some shard)
+        → p < 1
+    below is zero shard e = lit< tt
+    below is (suc zero) shard e = absurd (none_some shard (some_same None (Some shard) e))
+    below is (suc (suc p)) shard e = absurd (none_some (Some shard) e)
+
+    put : (p : ℕ) (shard : Shard) → slice_get unmade.shards p ≡ Some (Some shard)
+        → is_lost leaving.members shard ≡ false → row_under leaving.nodes shard.node shard.key
+        ≡ Some (row_at (row_of (window [] 0 512) ∷ [] ∷ []) p)
+    put zero shard e up =
+        subst (λ (s : Shard). row_under leaving.nodes s.node s.key
+        ≡ Some (row_of (window [] 0 512)))
+        (some_same (at 0 2) shard (some_same (Some (at 0 2)) (Some shard) e)) first_row
+    put (suc zero) shard e up = absurd (none_some shard (some_same None (Some shard) e))
+    put (suc (suc p)) shard e up = absurd (none_some (Some shard) e)
+
+    apart : (p q : ℕ) (a b : Shard) → slice_get unmade.shards p ≡ Some (Some a)
+        → slice_get unmade.shards q ≡ Some (Some b) → a.node.n ≡ b.node.n → p ≡ q
+    apart zero zero a b d e same = refl
+    apart (suc zero) q a b d e same = absurd (none_some a (some_same None (Some a) d))
+    apart p (suc zero) a b d e same = absurd (none_some b (some_same None (Some b) e))
+    apart (suc (suc p)) q a b d e same = absurd (none_some (Some a) d)
+    apart p (suc (suc q)) a b d e same = absurd (none_some (Some b) e)
+
+-- its parity was put, and is not made
+put_unmade : ¬ (IsBatch known leaving (record batch { made = false }))
+put_unmade x = absurd (let l : 1 < 1 = x.bare refl 1 (at 1 3) refl in omega (arith, l))
+
 -- the parity is no row of the word, and was not put
 short_parity : ¬ (IsBatch known leaving (record batch {
   parities = [] ∷ [];
@@ -93,8 +137,8 @@ short_parity : ¬ (IsBatch known leaving (record batch {
       Some (at 0 2) ∷ None ∷ [];
 }))
 short_parity x = absurd (let e : 0 ≡ length (row_of (window [] 0 512)) =
-    x.word.is_word.equal_lengths 1 [] (lit< tt) in
-    let l : length (row_of (window [] 0 512)) ≡ 4096 = x.word.wide in omega (arith, e, l))
+    (x.word refl).is_word.equal_lengths 1 [] (lit< tt) in
+    let l : length (row_of (window [] 0 512)) ≡ 4096 = (x.word refl).wide in omega (arith, e, l))
 
 place_too_many : ¬ (IsBatch known leaving (record batch {
   shards = Some (at 0 2) ∷ Some (at 1 3) ∷ None ∷ [];

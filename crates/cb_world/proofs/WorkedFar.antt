@@ -296,10 +296,10 @@ held_by_the_claim = refl
 
 -- the batch that is leaving
 abbrev pub batch : LeavingState
-batch = record { set = 5; pages = 1; frames = []; words = []; parities = []; shards = [] }
+batch = record { set = 5; pages = 1; frames = []; words = []; made = true; parities = []; shards = [] }
 
 no_frames_leave : ¬ (IsBatch known (away set) batch)
-no_frames_leave x = absurd (let z : 0 ≡ 4096 = x.word.wide in omega (arith, z))
+no_frames_leave x = absurd (let z : 0 ≡ 4096 = (x.word refl).wide in omega (arith, z))
 
 shard_too_few : ¬ (IsBatch known (away set) (record batch {
   frames = 0 ∷ [];

@@ -58,6 +58,7 @@ leaving = record far {
     pages = 1;
     frames = 0 ∷ [];
     words = [];
+    made = true;
     parities = [];
     shards = [];
   });

@@ -37,6 +37,7 @@ batch = record {
   pages = 1;
   frames = 0 ∷ [];
   words = former 0 ∷ [];
+  made = true;
   parities = [] ∷ [];
   shards = None ∷ Some (at 1 3) ∷ [];
 }

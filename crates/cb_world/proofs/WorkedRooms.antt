@@ -57,6 +57,7 @@ leaving frames parities = record {
   pages = 1;
   frames = replicate frames 0;
   words = [];
+  made = true;
   parities = replicate parities [];
   shards = [];
 }

@@ -212,7 +212,7 @@ pinned_at_another_version p =
 
 -- ---- what is counted: three reads and a crash
 abbrev by_job : List ℕ
-by_job = 0 ∷ 3 ∷ replicate 15 0 ++ 1 ∷ 0 ∷ []
+by_job = 0 ∷ 3 ∷ replicate 15 0 ++ 1 ∷ replicate 5 0
 
 abbrev after_four : FarState
 after_four = record far {
@@ -240,7 +240,7 @@ with_counts turns jobs sets keys =
     record after_four { counts = record { turns = turns; by_job = jobs; sets = sets; keys = keys } }
 
 too_few_kinds : AreCounted (with_counts 4 (0 ∷ 4 ∷ []) 0 0) → ⊥
-too_few_kinds c = let n : 2 ≡ 19 = c.kinds in omega (arith, n)
+too_few_kinds c = let n : 2 ≡ 23 = c.kinds in omega (arith, n)
 
 turn_of_no_kind : AreCounted (with_counts 5 by_job 0 0) → ⊥
 turn_of_no_kind c = let n : 4 ≡ 5 = c.jobs in omega (arith, n)
@@ -323,7 +323,7 @@ row_too_few c = let n : 1 ≡ 9 = c.room in omega (arith, n)
 
 -- a batch of two data positions and a parity, where there are two nodes
 abbrev wide : LeavingState
-wide = record { set = 0; pages = 1; frames = 0 ∷ 1 ∷ []; words = []; parities = [] ∷ []; shards = [] }
+wide = record { set = 0; pages = 1; frames = 0 ∷ 1 ∷ []; words = []; made = true; parities = [] ∷ []; shards = [] }
 
 more_positions_than_nodes : IsConfigured allowing (record over_two { leaving = Some wide }) → ⊥
 more_positions_than_nodes c =

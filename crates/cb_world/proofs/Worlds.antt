@@ -97,8 +97,8 @@ empty_world_sound c ok = record {
   one = λ a b held. absurd (none_holds a held);
   orders = λ seat. ap (λ (x : SeatState). x.order) (idle_at seat 64);
   counted = record {
-    kinds = length-replicate {A = ℕ} 19 0;
-    jobs = sum_by-replicate (λ (n : ℕ). n) 19 0;
+    kinds = length-replicate {A = ℕ} 23 0;
+    jobs = sum_by-replicate (λ (n : ℕ). n) 23 0;
     turns = omega arith;
     sets = omega arith;
     keys = omega arith;

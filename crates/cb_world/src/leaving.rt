@@ -123,7 +123,11 @@ impl Parities {
         ensures word { IsCodeWord (length source) (length c.now) (source ++ self.new.rows) }
         ensures bytes { HoldBytes (source ++ self.new.rows) }
     {
+        // That both tables hold bytes is what a proof reads here.
+        let _ = c.parities();
+        let _ = source.row_len();
         encode_rows(c, &source, &mut self.rows);
+        let _ = self.rows.row_len();
         self.source = Some(source);
     }
 

@@ -38,7 +38,7 @@ pub use desk::{Claim, Desk};
 pub use entry::Entry;
 pub use event::Event;
 pub use far::Far;
-pub use fetching::solved;
+pub use fetching::{GivenRows, fetched, solved};
 pub use grasp::{Grasp, is_free, try_claim};
 pub use groups::{Group, group_of};
 pub use homes::{Home, Homes};
