@@ -1,5 +1,5 @@
 -- A gather: a begin whose parities are made later, from the rows that an order hands out.
-use Rattle.std.specs.Prelude.{◌≡◌, false, List, Option, Some}
+use Rattle.std.specs.Prelude.{◌≡◌, ℕ, false, List, Option, Some}
 use Rattle.cb_types.specs.declared.order.EncodeOrder.{EncodeOrder}
 use Rattle.cb_types.specs.declared.order.Kept.{Kept}
 use Rattle.cb_types.specs.declared.order.Kept.TheVariants.{Encode}
