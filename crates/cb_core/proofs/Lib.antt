@@ -30,6 +30,7 @@ pub mod WorldKept
 pub mod PinsKept
 pub mod OpenSteps
 pub mod OpenStores
+mod OrdersLeave
 pub mod OpenChanges
 pub mod OpenStored
 pub mod OpenSettled

@@ -135,12 +135,12 @@ pub(crate) fn land_with_room<D: Desk>(
     requires kept { (s : Shown) × D.shows desk.old s × Sound s far.old
         × KeepsOrder s far.old (done_order done) }
     ensures lands { IfOk result (λ reply. WithRoom (D.settings desk.old).frames
-        (Lands (λ d es e. D.run d es e) (λ d s. D.shows d s) (done_order done))
+        (Lands (λ d es e. D.run d es e) (λ d s. D.shows d s) (done_order done.entry))
         (WinsRoom (λ d es e. D.run d es e) (λ d s. D.shows d s) (D.settings desk.old))
         most_evictions
         (record { desk = desk.old; far = far.old }) reply (record { desk = desk.new; far = far.new })) }
     ensures error { OnErr result (RoomStops
-        (Lands (λ d es e. D.run d es e) (λ d s. D.shows d s) (done_order done))
+        (Lands (λ d es e. D.run d es e) (λ d s. D.shows d s) (done_order done.entry))
         (NothingDone (λ d es e. D.run d es e))
         (WinsRoom (λ d es e. D.run d es e) (λ d s. D.shows d s) (D.settings desk.old))
         (EvictLacks (λ d es e. D.run d es e) (λ d s. D.shows d s)) most_evictions

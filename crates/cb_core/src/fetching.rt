@@ -124,13 +124,13 @@ pub fn land<D: Desk>(
     requires kept { (s : Shown) × D.shows desk.old s × Sound s far.old
         × KeepsOrder s far.old (done_order done) }
     ensures turned { IfOk result (λ reply. (order : Option Kept)
-        → decode_in order ≡ done_order done → TurnedWith
+        → decode_in order ≡ done_order done.entry → TurnedWith
         (λ d es e. D.run d es e) (λ d s. D.shows d s) (D.settings desk.old) job.Land order
         (record { desk = desk.old; far = far.old }) reply (landed_order order reply)
         (record { desk = desk.new; far = far.new })) }
     ensures no_frame { IfOk result (λ reply. reply ≡ answer.NoFrame → ⊥) }
-    ensures unavailable { IfOk result (λ reply. LandTells (done_order done) far.old reply) }
-    ensures error { OnErr result ((order : Option Kept) → decode_in order ≡ done_order done
+    ensures unavailable { IfOk result (λ reply. LandTells (done_order done.entry) far.old reply) }
+    ensures error { OnErr result ((order : Option Kept) → decode_in order ≡ done_order done.entry
         → StoppedWith (λ d es e. D.run d es e)
         (λ d s. D.shows d s) (D.settings desk.old) job.Land order
         (record { desk = desk.old; far = far.old }) (record { desk = desk.new; far = far.new })) }

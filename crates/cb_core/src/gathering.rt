@@ -60,9 +60,9 @@ pub fn gather<D: Desk>(alloc: Global, desk: &mut D, far: &mut Far) -> Result<Gat
 pub fn install(far: &mut Far, done: Option<&EncodeDone>) -> Reply
     requires counted { AreCounted far.old }
     requires kept { (s : Shown) × Sound s far.old × KeepsOrder s far.old (order_done done) }
-    ensures turned { (order : Option Kept) → encode_in order ≡ order_done done
+    ensures turned { (order : Option Kept) → encode_in order ≡ order_done done.entry
         → InstallTurn far.old result order (kept_behind result order) far.new }
-    ensures leaves { InstallLeaves far.old far.new (order_done done) }
+    ensures leaves { InstallLeaves far.old far.new (order_done done.entry) }
 {
     if !count_turn(far, &Job::Install) {
         return Reply::Worn;
