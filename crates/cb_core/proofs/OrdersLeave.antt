@@ -120,10 +120,18 @@ module _ {D : Type 0} (run : D → List Event → D → Type 0) (shows : D → S
       (evict_lacks run shows laws c accepted mid b
       (counted_good run shows laws c accepted Gather a good) p)))
 
-  pub worn_hands : (job : Job) (a b : Hold) → Good shows c a → AreCounted a.far
+  -- a turn that is refused for its number
+  pub worn_leaves : (a b : Hold) → Good shows c a → AreCounted a.far
       → a.far.counts.turns ≡ 2 ^ 40 → b.far ≡ a.far → run a.desk [] b.desk
-      → TurnLeaves run shows c a b WritesNothing → HandsOrder run shows c a b None
-  worn_hands job a b good counts end same ran z = hands_none a b z
+      → TurnLeaves run shows c a b WritesNothing
+  worn_leaves a b good counts end same ran = refused_leaves run shows laws c accepted Land a b
+      answer.Worn good counts end refl same ran
+
+  pub worn_hands : (a b : Hold) → Good shows c a → AreCounted a.far
+      → a.far.counts.turns ≡ 2 ^ 40 → b.far ≡ a.far → run a.desk [] b.desk
+      → HandsOrder run shows c a b None
+  worn_hands a b good counts end same ran =
+      hands_none a b (worn_leaves a b good counts end same ran)
 
   -- ---- a fetch
   rows_come : (h : ℕ) → CarriesWrites run shows laws c 16 Nil (FetchesRows run h)

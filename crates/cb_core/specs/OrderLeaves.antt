@@ -38,8 +38,8 @@ fetch_hands (Err e) = None
 
 -- An install works at the far state alone: it is as it is configured and counted, it has no other
 -- code, and is at most one turn further; and where the order was kept, what was sound is sound.
-pub record InstallLeaves (far new : FarState) (order : Option Kept) : Type 0 where
-  pub configured : (c : Config) → IsConfigured c far → IsConfigured c new
+pub record InstallLeaves (c : Config) (far new : FarState) (order : Option Kept) : Type 0 where
+  pub configured : IsConfigured c new
   pub codes : KeepCodes far new
   pub counted : AreCounted new
   pub next : IsOneTurnOn far new

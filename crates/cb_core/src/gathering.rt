@@ -1,5 +1,6 @@
 ghost use Rattle.std.specs.Prelude.{◌≡◌, ◌^◌, ◌<◌, IfOk, OnErr, Option};
 ghost use Rattle.cb_types.specs.Config.{IsAccepted};
+ghost use Rattle.cb_types.specs.declared.config.Config.{Config};
 ghost use Rattle.cb_types.specs.declared.job.Job.TheVariants as job;
 ghost use Rattle.cb_types.specs.declared.order.Kept.{Kept};
 ghost use Rattle.cb_world.specs.declared.shown.Shown.{Shown};
@@ -62,7 +63,8 @@ pub fn install(far: &mut Far, done: Option<&EncodeDone>) -> Reply
     requires kept { (s : Shown) × Sound s far.old × KeepsOrder s far.old (order_done done) }
     ensures turned { (order : Option Kept) → encode_in order ≡ order_done done.entry
         → InstallTurn far.old result order (kept_behind result order) far.new }
-    ensures leaves { InstallLeaves far.old far.new (order_done done.entry) }
+    ensures leaves { (c : Config) → IsConfigured c far.old
+        → InstallLeaves c far.old far.new (order_done done.entry) }
 {
     if !count_turn(far, &Job::Install) {
         return Reply::Worn;
