@@ -1,5 +1,5 @@
 -- What a turn that hands an order out, or takes one, leaves over any desk.
-use Rattle.std.proofs.Common.{◌≡◌, ℕ, ◌^◌, ◌<◌, ◌≤◌, List, [], length, Option, None, Some, Result, Ok, Err, refl, sym, ap, subst, arith, inl, inr}
+use Rattle.std.proofs.Common.{◌≡◌, ℕ, ◌+◌, ◌^◌, ◌<◌, ◌≤◌, List, [], length, Option, None, Some, Result, Ok, Err, refl, sym, ap, subst, arith, inl, inr}
 use Rattle.std.specs.Prelude.{IfOk, OnErr}
 use Rattle.cb_member.specs.declared.no_memory.NoMemory.{NoMemory}
 use Rattle.cb_types.specs.declared.config.Config.{Config}
@@ -150,7 +150,7 @@ module _ {D : Type 0} (run : D → List Event → D → Type 0) (shows : D → S
       (rows_come h m b g (good_then run shows laws c 1 WritesNothing a m good z) rows)
 
   fetch_lacks : (h : ℕ) → CarriesNoWrites run shows laws c 17 (FetchStops run shows h)
-  fetch_lacks h a b good (m, find, ran, same) =
+  fetch_lacks h a b good (m, find, (ran, same)) =
       let z = finds run shows laws c accepted h a m answer.NotHere good find in
       then_none run shows laws c 1 1 17 a m b (omega arith) z
       (comes_far run shows laws c 1 m b (good_then run shows laws c 1 WritesNothing a m good z) ran
