@@ -1,5 +1,6 @@
 -- The rule of an install: the parities of an order are those of its batch from here.
-use Rattle.std.specs.Prelude.{◌≡◌, ◌≢◌, ◌⊎◌, ℕ, true, List, Option, None, Some}
+use Rattle.std.specs.Prelude.{◌≡◌, ◌≢◌, ◌⊎◌, ℕ, ◌++◌, true, List, Option, None, Some}
+use Rattle.std.specs.Borrow.{Bor}
 use Rattle.cb_gf256.specs.Rows.{HoldBytes}
 use Rattle.cb_orders.specs.Done.{EncodeDoneState, IsEncoded}
 use Rattle.cb_types.specs.declared.order.DecodeOrder.{DecodeOrder}
@@ -41,7 +42,7 @@ pub record HasInstalled (far new : FarState) (r : Reply) (o : EncodeOrder) : Typ
   pub reply : r ≡ answer.Done
   pub parities : List (List ℕ)
   pub encoded : IsEncoded o parities
-  pub bytes : HoldBytes parities
+  pub bytes : HoldBytes (o.rows ++ parities)
   pub state : new ≡ with_made far batch parities
 
 -- an install of an order: what the seat keeps behind it is the order still, where it is refused

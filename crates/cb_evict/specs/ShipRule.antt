@@ -1,5 +1,6 @@
 -- The rule of a ship: which row of a leaving batch is put, and where.
 use Rattle.std.specs.Prelude.{◌≡◌, ◌⊎◌, ℕ, ◌+◌, ◌<◌, ◌≤◌, ◌++◌, true, false, List, Option, None, Some, drop, length, slice_set, take}
+use Rattle.cb_gf256.specs.InRange.{IsInRange}
 use Rattle.cb_gf256.specs.Rows.{row_at}
 use Rattle.cb_member.specs.declared.names.NodeId.{NodeId}
 use Rattle.cb_member.specs.declared.names.Shard.{Shard}
@@ -69,8 +70,9 @@ pub record HasNoNode (far new : FarState) (r : Reply) : Type 0 where
   pub reply : r ≡ answer.NoNode
   pub state : new ≡ far
 
--- parities of the batch that are made of these data rows
+-- parities of the batch, whose code is one of those that are built, that are made of these data rows
 pub record AreMadeOf (batch : LeavingState) (rows parities : List (List ℕ)) : Type 0 where
+  pub range : IsInRange (length batch.frames) (length batch.parities)
   pub count : length parities ≡ length batch.parities
   pub word : IsSpanWord batch.pages (length batch.frames) (length parities) (rows ++ parities)
 
