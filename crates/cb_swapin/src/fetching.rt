@@ -1,4 +1,4 @@
-ghost use Rattle.std.specs.Prelude.{◌≡◌, true, ◌+◌, ◌^◌, ◌<◌, None, Some, IfOk, OnErr};
+ghost use Rattle.std.specs.Prelude.{◌≡◌, true, false, ◌+◌, ◌^◌, ◌<◌, None, Some, IfOk, OnErr};
 ghost use Rattle.cb_set.specs.SetState.{SetState, live_at};
 ghost use Rattle.cb_set.specs.Lost.{lost_at};
 ghost use Rattle.cb_world.specs.declared.shown.Shown.{Shown};

@@ -29,9 +29,9 @@ pub fn land<D: Desk>(
         × KeepsOrder s far.old (done_order done) }
     ensures land { IfOk result (λ reply. Performs (λ es. D.run desk.old es desk.new)
         (λ s. D.shows desk.old s × Sound s far.old)
-        (LandRule (done_order done) far.old far.new reply)
+        (LandRule (done_order done.entry) far.old far.new reply)
         (λ t. Sound t far.new)
-        (LandEffect (done_order done) far.old far.new reply)) }
+        (LandEffect (done_order done.entry) far.old far.new reply)) }
     ensures desk { OnErr result (desk.new ≡ desk.old) }
     ensures far { OnErr result (far.new ≡ far.old) }
 {

@@ -1,4 +1,4 @@
-ghost use Rattle.std.specs.Prelude.{◌≡◌, ℕ, true, false, ◌+◌, ◌^◌, ◌<◌, ◌≤◌, Some, IfNone, IfOk, OnOk, OnErr, length, slice_set};
+ghost use Rattle.std.specs.Prelude.{◌≡◌, ℕ, true, false, ◌+◌, ◌^◌, ◌<◌, ◌≤◌, None, Some, IfNone, IfOk, OnOk, OnErr, length, slice_set};
 ghost use Rattle.cb_types.specs.Config.{IsAccepted};
 ghost use Rattle.cb_class.specs.Class.{pages_of};
 ghost use Rattle.cb_frame.specs.FreeFrames.{with_run_taken};
@@ -75,12 +75,12 @@ pub(crate) fn bring_in<D: Desk>(
     requires given { IfNone given (far.old.nodes.given + 16 < 2 ^ 64) }
     ensures swap { IfOk result (λ reply. Performs (λ es. D.run desk.old es desk.new)
         (λ s. D.shows desk.old s × Sound s far.old)
-        (BringsRule (λ set. rows_taken given far.old set position) id.n position far.old far.new reply)
+        (BringsRule (λ set. rows_taken given.entry far.old set position) id.n position far.old far.new reply)
         (λ t. Sound t far.new)
-        (BringsEffect given id.n position far.old far.new reply)) }
+        (BringsEffect given.entry id.n position far.old far.new reply)) }
     ensures desk { OnErr result (desk.new ≡ desk.old) }
     ensures far { OnErr result ((set : SetState) → set_in far.old.sets id.n ≡ Some set → (n : ℕ)
-        × (n ≤ rows_lacked given set) × (far.new ≡ far_given far.old n)) }
+        × (n ≤ rows_lacked given.entry set) × (far.new ≡ far_given far.old n)) }
 {
     if let Some(lost) = losses(far, id)? {
         return Ok(Reply::Unavailable { set: id, lost });
@@ -135,10 +135,8 @@ fn span_at(far: &Far, id: SetId, position: u32) -> Result<Span, NoMemory>
     Ok(Span::from_slots(far.alloc, class, Temp::Hot, slots)?)
 }
 
-/// Brings the span of a live position of a committed set into the least run that it fits, with the
-/// row at hand where there is one. Else where the position's shard is not lost, its row is stored from
-/// where it stands at its node, and the row that k others make where it is. Where there is no memory
-/// for that one, at most k rows were given out and nothing else has changed.
+/// Brings the span of a live position of a committed set into the least run that it fits: with the
+/// row at hand where there is one, else with its own.
 fn bring_row<D: Desk>(
     desk: &mut D,
     far: &mut Far,
@@ -160,15 +158,46 @@ fn bring_row<D: Desk>(
     requires given { IfNone given (far.old.nodes.given + 16 < 2 ^ 64) }
     ensures row { OnOk result ((set : SetState) → set_in far.old.sets id.n ≡ Some set
         → BringsRow (λ es. D.run desk.old es desk.new) (λ s. D.shows desk.old s)
-        far.old far.new set position frame span.now given) }
+        far.old far.new set position frame span.now given.entry) }
     ensures desk { OnErr result (desk.new ≡ desk.old) }
     ensures far { OnErr result ((set : SetState) → set_in far.old.sets id.n ≡ Some set → (n : ℕ)
-        × (n ≤ rows_lacked given set) × (far.new ≡ far_given far.old n)) }
+        × (n ≤ rows_lacked given.entry set) × (far.new ≡ far_given far.old n)) }
 {
-    if let Some(row) = given {
-        bring_span(desk, &mut far.homes, frame, span, row);
-        return Ok(());
-    }
+    let Some(row) = given else {
+        return bring_own_row(desk, far, id, position, frame, span);
+    };
+    bring_span(desk, &mut far.homes, frame, span, row);
+    Ok(())
+}
+
+/// Brings the span of a live position of a committed set into the least run that it fits. Where the
+/// position's shard is not lost, its row is stored from where it stands at its node; else the row
+/// that k others make is. Where there is no memory for that one, at most k rows were given out and
+/// nothing else has changed.
+fn bring_own_row<D: Desk>(
+    desk: &mut D,
+    far: &mut Far,
+    id: SetId,
+    position: u32,
+    frame: u32,
+    span: &Span,
+) -> Result<(), NoMemory>
+    requires config { IsAccepted (D.settings desk.old) }
+    requires least { least_run far.old.frames (pages_of span.now.class) ≡ Some frame }
+    requires frames { frame + pages_of span.now.class ≤ (D.settings desk.old).frames }
+    requires live { (set : SetState) × (set_in far.old.sets id.n ≡ Some set)
+        × (live_at set position ≡ true) × (is_broken far.old.members set ≡ false) }
+    requires span { (set : SetState) → set_in far.old.sets id.n ≡ Some set
+        → IsSpanOf set position span.now }
+    requires sound { (s : Shown) × D.shows desk.old s × Sound s far.old }
+    requires given { far.old.nodes.given + 16 < 2 ^ 64 }
+    ensures row { OnOk result ((set : SetState) → set_in far.old.sets id.n ≡ Some set
+        → BringsRow (λ es. D.run desk.old es desk.new) (λ s. D.shows desk.old s)
+        far.old far.new set position frame span.now None) }
+    ensures desk { OnErr result (desk.new ≡ desk.old) }
+    ensures far { OnErr result ((set : SetState) → set_in far.old.sets id.n ≡ Some set → (n : ℕ)
+        × (n ≤ length set.positions) × (far.new ≡ far_given far.old n)) }
+{
     let set = far.sets.committed(id.n).unwrap();
     let shard = set.shard(position);
     if is_lost(&far.members, shard) {
