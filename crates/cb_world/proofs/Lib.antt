@@ -45,6 +45,8 @@ pub mod Stepping
 pub mod Patching
 pub mod Committed
 pub mod JoinNow
+pub mod OrdersLeft
+pub mod WordsLeft
 pub mod Beginning
 pub mod Counting
 pub mod Surveying
@@ -93,6 +95,7 @@ mod WorkedGroups
 mod WorkedWorld
 mod WorkedFar
 mod WorkedReserved
+mod WorkedOrders
 mod WorkedOpen
 mod WorkedOpenWrites
 mod WorkedSeatWrites
