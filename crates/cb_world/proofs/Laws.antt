@@ -40,7 +40,6 @@ pub use Rattle.cb_world.proofs.NowSame.{bits, empty_now, empty_value, far_object
 pub use Rattle.cb_world.proofs.OpenKept.{leaving_claimed, open_here, open_kept, open_same, open_word, orders_kept, pins_hold, pins_leave, seat_beside}
 pub use Rattle.cb_world.proofs.Packed.{contents_packed, packed_write}
 pub use Rattle.cb_world.proofs.Packing.{below_packed, same_memory}
-pub use Rattle.cb_world.proofs.ParitiesMade.{parities_made}
 pub use Rattle.cb_world.proofs.Patching.{join_is_merged, parity_step, patched_more}
 pub use Rattle.cb_world.proofs.PinNow.{pinned_now, unpinned_now}
 pub use Rattle.cb_world.proofs.Pins.{known_word, pin_counts, pin_sound, pinned_still, unpin_sound}

@@ -1,5 +1,5 @@
 mod Padded
-pub mod RoomRows
+mod RoomRows
 pub mod FrameCopied
 mod FrameRuns
 mod Dropping
@@ -40,7 +40,6 @@ pub mod Joined
 pub mod FreshShard
 pub mod PlaceSet
 pub mod RowPut
-pub mod ParitiesMade
 pub mod Stepping
 pub mod Patching
 pub mod Committed
@@ -110,6 +109,7 @@ mod WorkedAdded
 mod WorkedJoin
 mod WorkedPairs
 mod WorkedBatch
+mod WorkedParities
 mod WorkedRooms
 pub mod WorkedWord
 pub mod Laws
