@@ -35,6 +35,8 @@ mod OrdersLeave
 mod OrderTurns
 mod LandRooms
 mod LandTold
+mod InstallAtDesk
+mod NarrowOrders
 pub mod OpenChanges
 pub mod OpenStored
 pub mod OpenSettled

@@ -95,7 +95,15 @@ none_loose = refl
 
 -- a span that is leaving is not loose, and one beside it is
 abbrev batch : ℕ → LeavingState
-batch f = record { set = 0; pages = 1; frames = f ∷ []; words = []; parities = []; shards = [] }
+batch f = record {
+  set = 0;
+  pages = 1;
+  frames = f ∷ [];
+  words = [];
+  made = true;
+  parities = [];
+  shards = [];
+}
 
 first_is_leaving : loose_frames (words_are calm hot) (both (Some (batch 0))) ≡ 1 ∷ []
 first_is_leaving = refl
