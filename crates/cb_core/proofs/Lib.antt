@@ -36,6 +36,7 @@ mod OrderTurns
 mod LandRooms
 mod LandTold
 mod InstallAtDesk
+mod Unfetched
 mod NarrowOrders
 pub mod OpenChanges
 pub mod OpenStored

@@ -1,5 +1,5 @@
 -- Worked examples of what a turn that finds no room counts: loose spans, and nodes with room.
-use Rattle.std.proofs.Common.{◌≡◌, ℕ, false, List, [], ◌∷◌, Option, None, Some, refl, arith}
+use Rattle.std.proofs.Common.{◌≡◌, ℕ, true, false, List, [], ◌∷◌, Option, None, Some, refl, arith}
 use Rattle.std.specs.FinMap as map
 use Rattle.cb_class.specs.declared.class.Class.{Class}
 use Rattle.cb_class.specs.Class.{pages_of}
