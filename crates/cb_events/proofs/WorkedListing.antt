@@ -87,7 +87,7 @@ merges = record {
   whole = lit≤ tt;
   within = (lit< tt, lit< tt);
   said = (refl, (refl, tt));
-  may = (lit< tt, tt, tt);
+  may = (lit< tt, tt);
 }
 
 two : AreListed few (claim_bytes ++ merge ++ rest) (claim ∷ event.Turn 0 Merge ∷ []) rest
