@@ -1,5 +1,3 @@
-use Rattle.cb_mutate.proofs.CallLeaves as zz0
-use Rattle.cb_mutate.proofs.Laws as zz1
 use Rattle.std.proofs.Common.{arith}
 use Rattle.cb_mutate.proofs.Packing.{word_read}
 use Rattle.cb_mutate.proofs.making.word_at.Goals as goal
