@@ -79,6 +79,11 @@ mod WorkedRules
 pub mod WorkedWide
 pub mod PutShards
 pub mod ShipSound
+pub mod InstallSound
+pub mod Installs
+pub mod InstallKeeps
+pub mod LeftWords
+mod WorkedInstall
 pub mod ShipParts
 pub mod ShipStep
 pub mod ShipKeeps

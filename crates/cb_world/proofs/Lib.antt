@@ -46,6 +46,7 @@ pub mod Committed
 pub mod JoinNow
 pub mod OrdersLeft
 pub mod WordsLeft
+pub mod LeftWords
 pub mod Beginning
 pub mod Counting
 pub mod Surveying
@@ -109,6 +110,7 @@ mod WorkedAdded
 mod WorkedJoin
 mod WorkedPairs
 mod WorkedBatch
+mod WorkedParities
 mod WorkedRooms
 pub mod WorkedWord
 pub mod Laws
