@@ -30,6 +30,9 @@ pub mod WorldKept
 pub mod PinsKept
 pub mod OpenSteps
 pub mod OpenStores
+mod OrdersCounted
+mod OrdersLeave
+mod OrderTurns
 pub mod OpenChanges
 pub mod OpenStored
 pub mod OpenSettled

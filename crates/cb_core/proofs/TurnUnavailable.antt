@@ -355,6 +355,10 @@ module _ {D : Type 0} (run : D → List Event → D → Type 0) (shows : D → S
       (far_never (job.Crash node) _ b.far r (λ id l x. x) does.1)
   does_tells (job.Join node) a b r good does = by_never (job.Join node) a.far r refl
       (far_never (job.Join node) _ b.far r (λ id l x. x) does.1)
+  does_tells job.Gather a b r good does = absurd does.1
+  does_tells job.Install a b r good does = absurd does.1
+  does_tells (job.Fetch handle) a b r good does = absurd does.1
+  does_tells job.Land a b r good does = absurd does.1
 
   -- a turn that was refused for its number tells of no set
   worn_tells : (j : Job) (far : FarState) (r : Reply) → far.counts.turns ≡ 2 ^ 40 → r ≡ answer.Worn

@@ -14,7 +14,6 @@ use Rattle.cb_world.specs.declared.event.Event.{Event}
 use Rattle.cb_world.specs.declared.homes.Home.{Home}
 use Rattle.cb_world.specs.declared.shown.Shown.{Shown}
 use Rattle.cb_world.specs.SetWord.{is_broken}
-use Rattle.cb_world.specs.Fetched.{rows_needed}
 use Rattle.cb_world.specs.FarState.{FarState}
 use Rattle.cb_world.specs.LeftOver.{nodes_left, sets_left, survey_left}
 use Rattle.cb_world.specs.Written.{Writes}
@@ -119,13 +118,12 @@ abbrev with_span : List (Option Contents) → ℕ → Contents → List (Option 
 with_span spans f c = set spans f (Some c)
 
 pub swapped_to : (far new : FarState) (homes : List (Option Home)) (id p : ℕ) (set : SetState)
-    (f : ℕ) (span : Contents) (row : List ℕ) → IsFetched far set p span row
-    → new ≡ with_arrived (far_given far (rows_needed far.members set p)) homes id
-    (with_position set p dead_position) f span
+    (f n : ℕ) (span : Contents) (row : List ℕ) → IsFetched far set p span row
+    → new ≡ with_arrived (far_given far n) homes id (with_position set p dead_position) f span
     → is_broken far.members set ≡ false → AreCleared span.slots far.homes homes
-    → IsSwappedTo far new id p set f
-swapped_to far new homes id p set f span row x e whole cleared =
-    subst (λ (q : FarState). IsSwappedTo far q id p set f) (sym e) (record {
+    → IsSwappedTo far new id p set f n
+swapped_to far new homes id p set f n span row x e whole cleared =
+    subst (λ (q : FarState). IsSwappedTo far q id p set f n) (sym e) (record {
       class = span.class;
       in_table = x.valid.in_table;
       paged = x.pages;
@@ -136,8 +134,8 @@ swapped_to far new homes id p set f span row x e whole cleared =
       homes = subst (λ (l : List (Option ℕ)). AreCleared l far.homes homes) x.slots cleared;
       sets = refl;
       nodes = refl;
-      rest = ap (λ (v : Survey). record (with_arrived (far_given far (rows_needed far.members set p))
-          homes id (with_position set p dead_position) f span) { survey = v })
+      rest = ap (λ (v : Survey). record (with_arrived (far_given far n) homes id
+          (with_position set p dead_position) f span) { survey = v })
           (left_whole far id set p dead_position whole);
     })
 

@@ -40,12 +40,14 @@ pub use Rattle.cb_world.proofs.NowSame.{bits, empty_now, empty_value, far_object
 pub use Rattle.cb_world.proofs.OpenKept.{leaving_claimed, open_here, open_kept, open_same, open_word, orders_kept, pins_hold, pins_leave, seat_beside}
 pub use Rattle.cb_world.proofs.Packed.{contents_packed, packed_write}
 pub use Rattle.cb_world.proofs.Packing.{below_packed, same_memory}
+pub use Rattle.cb_world.proofs.ParitiesMade.{parities_made}
 pub use Rattle.cb_world.proofs.Patching.{join_is_merged, parity_step, patched_more}
 pub use Rattle.cb_world.proofs.PinNow.{pinned_now, unpinned_now}
 pub use Rattle.cb_world.proofs.Pins.{known_word, pin_counts, pin_sound, pinned_still, unpin_sound}
 pub use Rattle.cb_world.proofs.PlaceSet.{place_back, place_here, place_on}
 pub use Rattle.cb_world.proofs.Placed.{IsCountedMade, made_counted, may_lie, next_counted, slot_bounds, sound_brought, with_made}
 pub use Rattle.cb_world.proofs.Reserving.{noted_by, reserved_is_other, reserved_uncommitted}
+pub use Rattle.cb_world.proofs.RoomRows.{shown_count, shown_made}
 pub use Rattle.cb_world.proofs.Rooms.{room_dropped, room_empty, room_left, room_put, room_puts, room_wiped}
 pub use Rattle.cb_world.proofs.RowPut.{HasRowPut, IsNewOr, IsRefilled, IsRenamed, row_put_away, row_put_join, row_put_words}
 pub use Rattle.cb_world.proofs.RowWords.{length_words, row_length, row_put, windows_agree, words_in_row, words_of_row}

@@ -1,5 +1,5 @@
 mod Padded
-mod RoomRows
+pub mod RoomRows
 pub mod FrameCopied
 mod FrameRuns
 mod Dropping
@@ -40,6 +40,7 @@ pub mod Joined
 pub mod FreshShard
 pub mod PlaceSet
 pub mod RowPut
+pub mod ParitiesMade
 pub mod Stepping
 pub mod Patching
 pub mod Committed

@@ -5,21 +5,20 @@ use Rattle.cb_frame.specs.Runs.{least_run}
 use Rattle.cb_set.specs.SetState.{SetState, dead_position, position_of, with_position}
 use Rattle.cb_set.specs.Lost.{NodesAreMembers}
 use Rattle.cb_world.specs.declared.shown.Shown.{Shown}
-use Rattle.cb_world.specs.Fetched.{rows_needed}
 use Rattle.cb_world.specs.Played.{played}
 use Rattle.cb_world.specs.Sets.{set_in}
 use Rattle.cb_world.specs.Sound.{Sound}
 use Rattle.cb_world.specs.Stored.{AreThere}
 use Rattle.cb_world.specs.FarState.{FarState}
 use Rattle.cb_swapin.specs.Brings.{BringsSlots}
-use Rattle.cb_swapin.specs.Fetching.{far_given}
+use Rattle.cb_swapin.specs.Fetching.{far_given, rows_taken}
 use Rattle.cb_world.proofs.Laws.{are_members}
 use Rattle.cb_swapin.proofs.Committed.{live_within}
 use Rattle.cb_swapin.proofs.Waits.{CanArrive, free_run, waiting}
 use Rattle.cb_swapin.proofs.SwapSound.{sound_arrived, there_of}
 use Rattle.cb_swapin.proofs.Swapped.{by_frame, has_arrived, is_whole, swapped_in, swapped_to, unavailable, with_arrived}
 use Rattle.cb_swapin.proofs.RowGiven.{any_err}
-use Rattle.cb_swapin.proofs.swapping.swap_in.Goals as goal
+use Rattle.cb_swapin.proofs.swapping.bring_in.Goals as goal
 
 pub returns-in-Some-clause-swap : goal.returns-in-Some-clause-swap
 returns-in-Some-clause-swap g c =
@@ -151,7 +150,7 @@ returns-clause-swap g c =
     let id = c.args.id.n in let p = c.args.position in let f = c.in-Some-least_run.frame in
     let span = c.in_ok-span.span in
     let x = c.in_ok-bring_row.ensures.row set live.1 in let row = x.row in
-    let n = rows_needed far.members set p in
+    let n = rows_taken c.args.given far set p in
     let whole = is_whole far set (sym (c.in_ok-lost.ensures set live.1) ∙ c.in_default.is) in
     let least : least_run far.frames set.pages ≡ Some f =
     sym (ap (λ (q : FarState). least_run q.frames c.set_pages-pages.result) c.far.view_is
@@ -190,7 +189,7 @@ returns-clause-swap g c =
         there = live.1;
         reply = by_frame far id set (Some f) whole least;
         state = (
-          swapped_to far new homes id p set f span row fetched left whole cleared,
+          swapped_to far new homes id p set f n span row fetched left whole cleared,
           subst (λ (n : ℕ). BringsSlots (position_of set p).slots f n b.events) fetched.pages
               (subst (λ (l : List (Option ℕ)). BringsSlots l f (pages_of span.class) b.events)
               fetched.slots b.tells),
@@ -199,6 +198,9 @@ returns-clause-swap g c =
       allowed = λ s k. b.allowed s (k.0, knows s k.0 k.1);
       sound_after = λ s k. sound_arrived s (played b.events s) far new id p set f n span row
           (arrives s k.0 k.1) (arrived s k.0 k.1);
-      effect = λ s k. swapped_in s (played b.events s) far new id p set f n span row b.events
-          (arrives s k.0 k.1) (arrived s k.0 k.1) (b.nothing s (k.0, knows s k.0 k.1));
+      effect = λ s k. (
+        swapped_in s (played b.events s) far new id p set f n span row b.events
+            (arrives s k.0 k.1) (arrived s k.0 k.1) (b.nothing s (k.0, knows s k.0 k.1)),
+        x.at_hand,
+      );
     }
