@@ -33,6 +33,8 @@ pub mod OpenStores
 mod OrdersCounted
 mod OrdersLeave
 mod OrderTurns
+mod LandRooms
+mod LandTold
 pub mod OpenChanges
 pub mod OpenStored
 pub mod OpenSettled

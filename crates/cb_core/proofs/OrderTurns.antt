@@ -15,6 +15,7 @@ use Rattle.cb_world.specs.declared.event.Event.{Event}
 use Rattle.cb_world.specs.declared.shown.Shown.{Shown}
 use Rattle.cb_world.specs.FarState.{FarState}
 use Rattle.cb_world.specs.Orders.{KeepsOrder}
+use Rattle.cb_world.specs.Played.{Agree, played}
 use Rattle.cb_world.specs.Sound.{Sound}
 use Rattle.cb_world.specs.World.{AreCounted, IsConfigured}
 use Rattle.cb_world.proofs.Laws.{codes_same, codes_stay, codes_then, recounted, rises_more, StaysIf}
@@ -33,15 +34,29 @@ use Rattle.cb_core.specs.OrderParts.{FetchesBy, decode_in, encode_in, landed_ord
 use Rattle.cb_core.specs.OrderParts.FetchesBy.{not_far as was_near, was_far as was_away}
 use Rattle.cb_core.specs.Parts.{Holding, RoomStops, WithRoom, most_evictions}
 use Rattle.cb_core.specs.TurnLeaves.{TurnLeaves}
+use Rattle.cb_core.specs.Unavailable.{LandTells, TurnTells}
 use Rattle.cb_core.specs.Turned.{EvictLacks, FindsWhere, WinsRoom, counted, once_counted}
 use Rattle.cb_core.proofs.Carried.{turn_rise}
 use Rattle.cb_core.proofs.Counting.{counted_sound, job_below}
 use Rattle.cb_core.proofs.FarJobs.{note_of}
 use Rattle.cb_core.proofs.KeptParts.{counted_rises}
 use Rattle.cb_core.proofs.Noted.{noted_after}
+use Rattle.cb_core.proofs.LandTold.{land_told}
 use Rattle.cb_core.proofs.OrdersCounted.{counted_kept}
 use Rattle.cb_core.proofs.OrdersLeave.{fetch_leaves, fetch_stops, gather_leaves, gather_stops, land_leaves, land_stops}
 use Rattle.cb_core.proofs.TurnComes.{AreLaws, Good, WritesNothing}
+use Rattle.cb_core.proofs.TurnUnavailable.{fetch_tells}
+
+-- ---- by the result
+pub ok_map : {X : Type 0} (P Q : X → Type 0) (r : Result X NoMemory) → IfOk r Q
+    → ((x : X) → Q x → P x) → IfOk r P
+ok_map P Q (Ok x) q f = f x q
+ok_map P Q (Err e) q f = tt
+
+pub lack_map : {X : Type 0} (P Q : Type 0) (r : Result X NoMemory) → OnErr r Q → (Q → P)
+    → OnErr r P
+lack_map P Q (Ok x) q f = tt
+lack_map P Q (Err e) q f = f q
 
 -- ---- an install
 -- of what a seat keeps, an install sees orders to encode alone
@@ -173,6 +188,23 @@ module _ {D : Type 0} (run : D → List Event → D → Type 0) (shows : D → S
         (subst (λ (o : Option Kept). LandStops o (once_counted a Land)) (sym asked)
         (subst (λ (f : FarState). LandStops run_order (on f)) is x));
   }
+
+  -- ---- what is told of lost sets
+  module _ (follows : (d e : D) (es : List Event) (s : Shown) → run d es e → shows d s
+      → Agree s es × shows e (played es s)) where
+    pub fetch_told : (h : Handle) (mid : FarState) (result : Result Fetching NoMemory)
+        → mid ≡ counted a.far (Fetch h) → (s : Shown) × shows a.desk s × Sound s a.far
+        → IfOk result (λ g. FetchRun run shows h.n (on mid) g b)
+        → IfOk result (λ g. TurnTells (Fetch h) a.far (fetching_reply g))
+    fetch_told h mid result is known x = ok_map _ _ result x (λ g run_by. fetch_tells run shows follows c h
+        a b g known (subst (λ (f : FarState). FetchRun run shows h.n (on f) g b) is run_by))
+
+    pub lands_told : (order : Option Kept) (mid : FarState) (result : Result Reply NoMemory)
+        → mid ≡ counted a.far Land → (s : Shown) × shows a.desk s × Sound s a.far
+        → IfOk result (λ r. LandsBy order (on mid) r)
+        → IfOk result (λ r. LandTells order a.far r)
+    lands_told order mid result is known x = ok_map _ _ result x (λ r lands. land_told run shows follows c
+        order a b r known (subst (λ (f : FarState). LandsBy order (on f) r) is lands))
 
   -- ---- what they leave, whatever their outcome
   module _ (laws : AreLaws run shows) (accepted : IsAccepted c) (good : Good shows c a)
