@@ -1,5 +1,5 @@
 -- What a swap-in comes to: its answers, the far state after it, and its effect.
-use Rattle.std.proofs.Common.{◌≡◌, ℕ, Bool, true, false, List, Option, Some, None, if◌then◌else◌, length, set, refl, sym, ap, ◌∙◌, subst, []}
+use Rattle.std.proofs.Common.{◌≡◌, ℕ, Bool, true, false, Bor, List, Option, Some, None, if◌then◌else◌, length, set, refl, sym, ap, ◌∙◌, subst, []}
 use Rattle.cb_class.specs.Class.{pages_of}
 use Rattle.cb_frame.specs.FreeFrames.{with_run_taken}
 use Rattle.cb_frame.specs.Runs.{least_run}
@@ -21,7 +21,7 @@ use Rattle.cb_swapin.specs.Named.{AreCleared}
 use Rattle.cb_world.specs.declared.survey.Survey.{Survey}
 use Rattle.cb_world.proofs.Laws.{left_whole}
 use Rattle.cb_swapin.specs.BroughtIn.{IsSpanBrought}
-use Rattle.cb_swapin.specs.Fetching.{IsFetched, far_given, losses_told}
+use Rattle.cb_swapin.specs.Fetching.{IsAtHand, IsFetched, far_given, losses_told}
 use Rattle.cb_swapin.specs.SwapRule.{IsSwappedTo, frame_answer, swap_answer}
 use Rattle.cb_swapin.specs.SwapEffect.{IsSwappedIn}
 use Rattle.cb_swapin.proofs.Waits.{CanArrive}
@@ -140,11 +140,11 @@ swapped_to far new homes id p set f n span row x e whole cleared =
     })
 
 -- ---- the effect
-pub swapped_in : (s t : Shown) (far new : FarState) (id p : ℕ) (set : SetState) (f n : ℕ)
-    (span : Contents) (row : List ℕ) (es : List Event) → CanArrive s far id p set f span row
+pub swapped_in : (given : Option (Bor (List ℕ))) (s t : Shown) (far new : FarState) (id p : ℕ)
+    (set : SetState) (f n : ℕ) (span : Contents) (row : List ℕ) (es : List Event) → CanArrive s far id p set f span row
     → HasArrived s t far new id p set f n span row → Writes es s []
-    → IsSwappedIn id p f far new es s t
-swapped_in s t far new id p set f n span row es x y nothing = record {
+    → IsAtHand given row → (done : IsSwappedIn id p f far new es s t) × IsAtHand given done.row
+swapped_in given s t far new id p set f n span row es x y nothing hand = (record {
   set = set;
   there = x.there;
   class = span.class;
@@ -157,4 +157,4 @@ swapped_in s t far new id p set f n span row es x y nothing = record {
       y.brought;
   nothing = nothing;
   same_now = now_arrived s t far new id p set f n span row x y;
-}
+}, hand)

@@ -11,7 +11,7 @@ ghost use Rattle.cb_swapin.specs.FetchStep.{FetchStep, IsOrderFetched, fetching_
 
 use crate::swapping::losses;
 use cb_types::{DecodeOrder, NoMemory, Reply, SetId};
-use cb_world::{Far, fetched};
+use cb_world::{Far, GivenRows, fetched};
 
 /// What a fetch hands out: an order to make a row, or the answer why there is none.
 #[derive(Drop)]
@@ -70,7 +70,7 @@ fn order_of(far: &mut Far, id: SetId, position: u32) -> Result<DecodeOrder, NoMe
     ensures far { OnErr result (far.new ≡ far.old) }
 {
     let set = far.sets.committed(id.n).unwrap();
-    let (present, rows) = fetched(far.alloc, &mut far.nodes, &far.members, set)?;
+    let GivenRows { present, rows } = fetched(far.alloc, &mut far.nodes, &far.members, set)?;
     Ok(DecodeOrder {
         set: id.n,
         position,

@@ -11,7 +11,7 @@ use Rattle.cb_world.specs.Sound.{Sound}
 use Rattle.cb_world.specs.Stored.{AreThere}
 use Rattle.cb_world.specs.FarState.{FarState}
 use Rattle.cb_swapin.specs.Brings.{BringsSlots}
-use Rattle.cb_swapin.specs.Fetching.{far_given, rows_taken}
+use Rattle.cb_swapin.specs.Fetching.{far_given, rows_lacked, rows_taken}
 use Rattle.cb_world.proofs.Laws.{are_members}
 use Rattle.cb_swapin.proofs.Committed.{live_within}
 use Rattle.cb_swapin.proofs.Waits.{CanArrive, free_run, waiting}
@@ -141,7 +141,7 @@ returns-in_err-span-clause-far g c =
     let far = c.args.far.now in
     let e : far.nodes.given ≡ far.nodes.given + 0 = omega arith in
     any_err ((set : SetState) → set_in far.sets c.args.id.n ≡ Some set → (n : ℕ)
-    × (n ≤ length set.positions) × (far ≡ far_given far n)) _ (λ set there.
+    × (n ≤ rows_lacked c.args.given set) × (far ≡ far_given far n)) _ (λ set there.
     (0, omega arith, ap (λ (n : ℕ). record far { nodes = record far.nodes { given = n } }) e))
 
 pub returns-clause-swap : goal.returns-clause-swap
@@ -198,9 +198,7 @@ returns-clause-swap g c =
       allowed = λ s k. b.allowed s (k.0, knows s k.0 k.1);
       sound_after = λ s k. sound_arrived s (played b.events s) far new id p set f n span row
           (arrives s k.0 k.1) (arrived s k.0 k.1);
-      effect = λ s k. (
-        swapped_in s (played b.events s) far new id p set f n span row b.events
-            (arrives s k.0 k.1) (arrived s k.0 k.1) (b.nothing s (k.0, knows s k.0 k.1)),
-        x.at_hand,
-      );
+      effect = λ s k. swapped_in c.args.given s (played b.events s) far new id p set f n span row
+          b.events (arrives s k.0 k.1) (arrived s k.0 k.1) (b.nothing s (k.0, knows s k.0 k.1))
+          x.at_hand;
     }
