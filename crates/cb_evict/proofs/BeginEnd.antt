@@ -1,6 +1,9 @@
 -- The end of a begin: rows are read, the set is reserved, and the batch is noted.
-use Rattle.std.proofs.Common.{◌≡◌, ℕ, ◌+◌, Bool, true, false, List, [], ◌∷◌, ◌++◌, length, replicate, Option, None, Some, sym, refl, ap, ◌∙◌, subst}
-use Rattle.std.proofs.lemmas.List.{length-map, length-replicate}
+use Rattle.std.proofs.Common.{◌≡◌, ℕ, ◌+◌, ◌*◌, ◌≤◌, Bool, true, false, List, [], ◌∷◌, ◌++◌, length, replicate, Option, None, Some, sym, refl, ap, ◌∙◌, subst, arith}
+use Rattle.std.proofs.lemmas.List.{get_or-append-add, get_or_append_left, length-append, length-map, length-replicate}
+use Rattle.cb_gf256.specs.CodeWord.{IsCodeWord}
+use Rattle.cb_gf256.specs.Rows.{HaveLength, HoldBytes}
+use Rattle.cb_member.specs.declared.names.Code.{Code}
 use Rattle.cb_member.specs.declared.names.Shard.{Shard}
 use Rattle.cb_span.specs.Contents.{Contents}
 use Rattle.cb_types.specs.declared.order.EncodeOrder.{EncodeOrder}
@@ -9,7 +12,7 @@ use Rattle.cb_world.specs.declared.event.Event.{Event}
 use Rattle.cb_world.specs.declared.leaving.Former.{Former}
 use Rattle.cb_world.specs.declared.shown.Shown.{Shown}
 use Rattle.cb_world.specs.FarState.{FarState}
-use Rattle.cb_world.specs.Leaving.{ParitiesState, shown_rows}
+use Rattle.cb_world.specs.Leaving.{ParitiesState, made_of, shown_rows}
 use Rattle.cb_world.specs.Orders.{IsEncodeKept}
 use Rattle.cb_world.specs.Played.{played}
 use Rattle.cb_world.specs.Sound.{Sound}
@@ -24,6 +27,7 @@ use Rattle.cb_evict.specs.BeginRule.{blank_shard, blank_shards, no_parities, wit
 use Rattle.cb_evict.specs.Beginning.{AreParities, AreReady, HasOrdered, IsOrdered, with_reserved, ReservesFrames}
 use Rattle.cb_evict.specs.Gathering.{order_for}
 use Rattle.cb_evict.proofs.BeginSound.{sound_begun, rule_begun, effect_begun, order_kept}
+use Rattle.cb_evict.proofs.Composed.{rows_made}
 use Rattle.cb_evict.proofs.Ending.{spans_touched}
 use Rattle.cb_evict.proofs.Events.{AreAllReads, touches_more, told_words, told_objects}
 use Rattle.cb_evict.proofs.EvictSound.{told_before}
@@ -118,6 +122,16 @@ batch_then far mid new pages frames formers made parities shards a b f =
     (with_reserved far pages (blank_shards (far.code.k + far.code.r)) frames) pages frames formers
     made parities l) f
 
+-- the order that is handed out
+pub order_is : (far mid : FarState) (pages : ℕ) (frames : List ℕ) (id : ℕ) (code : Code)
+    (rows : List (List ℕ)) → id ≡ mid.counts.sets
+    → mid ≡ with_reserved far pages (blank_shards (far.code.k + far.code.r)) frames
+    → code ≡ far.code
+    → record { set = id; k = code.k; r = code.r; rows = rows } ≡ order_for far rows
+order_is far mid pages frames id code rows a b e =
+    let id_is : id ≡ far.counts.sets = a ∙ ap (λ (f : FarState). f.counts.sets) b in
+    λ i. record { set = id_is i; k = (e i).k; r = (e i).r; rows = rows }
+
 -- ---- the parities that a batch begins with
 -- rows of which nothing is seen
 pub shown_blank : (rows : List (List ℕ)) → shown_rows false rows ≡ no_parities (length rows)
@@ -128,6 +142,62 @@ shown_blank (row ∷ rows) = ap (λ (l : List (List ℕ)). [] ∷ l) (shown_blan
 pub shown_count : (made : Bool) (rows : List (List ℕ)) → length (shown_rows made rows) ≡ length rows
 shown_count true rows = refl
 shown_count false rows = length-map rows (λ (row : List ℕ). [])
+
+true_false : true ≡ false → ⊥
+true_false e = cc
+
+-- made ones are ready
+pub ready_made : (r : ℕ) (rows parities : List (List ℕ)) (p : ParitiesState)
+    → p ≡ made_of parities → 1 ≤ length rows → length parities ≡ r
+    → IsCodeWord (length rows) r (rows ++ parities) → HoldBytes (rows ++ parities)
+    → AreReady true r rows p
+ready_made r rows parities p is some count word bytes =
+    subst (AreReady true r rows) (sym is) (record {
+      mark = refl;
+      count = count;
+      coded = λ yet. record {
+        count = ap (λ (n : ℕ). length rows + n) count;
+        word = subst (λ (n : ℕ). IsCodeWord (length rows) n (rows ++ parities)) (sym count) word;
+        bytes = bytes;
+      };
+      long = λ pages lengths. record {
+        lengths = λ i d l.
+            let all = rows ++ parities in
+            let n : length all ≡ length rows + length parities = length-append rows parities in
+            let first = get_or_append_left rows parities [] 0 (omega (arith, some)) in
+            ap (λ (row : List ℕ). length row) (sym (get_or-append-add rows parities i d))
+            ∙ word.equal_lengths (length rows + i) d (omega (arith, l, n))
+            ∙ ap (λ (row : List ℕ). length row) first ∙ lengths 0 [] (omega (arith, some));
+        room = λ not. absurd (true_false not);
+      };
+    })
+
+-- so is room for them
+pub ready_room : (r k len : ℕ) (rows : List (List ℕ)) (p : ParitiesState)
+    → p ≡ record {
+      made = false;
+      rows = replicate r (replicate len 0);
+      source = Some (replicate k (replicate len 0));
+    } → 1 ≤ length rows → k ≡ length rows → HaveLength len rows → AreReady false r rows p
+ready_room r k len rows p is some count lengths =
+    let parities = rows_made (replicate r (replicate len 0)) r r len refl refl in
+    let table = rows_made (replicate k (replicate len 0)) k k len refl refl in
+    subst (AreReady false r rows) (sym is) (record {
+      mark = refl;
+      count = parities.0;
+      coded = λ yet. absurd (true_false (sym yet));
+      long = λ pages long.
+          let same : len ≡ 4096 * pages =
+          sym (lengths 0 [] (omega (arith, some))) ∙ long 0 [] (omega (arith, some)) in record {
+            lengths = subst (λ (n : ℕ). HaveLength n (replicate r (replicate len 0))) same parities.1;
+            room = λ not. record {
+              table = replicate k (replicate len 0);
+              kept = refl;
+              count = table.0 ∙ count;
+              lengths = subst (λ (n : ℕ). HaveLength n (replicate k (replicate len 0))) same table.1;
+            };
+          };
+    })
 
 -- what is seen of them in the batch
 pub record AreSeen (far : FarState) (made : Bool) (rows seen : List (List ℕ)) : Type 0 where

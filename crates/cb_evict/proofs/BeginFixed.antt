@@ -59,7 +59,7 @@ held_fixed x y z far frames a b =
     ])
 
 -- data rows have one list of parities
-parities_fixed : (pages k r : ℕ) (rows a b : List (List ℕ)) → IsInRange k r → length rows ≡ k
+pub parities_fixed : (pages k r : ℕ) (rows a b : List (List ℕ)) → IsInRange k r → length rows ≡ k
     → IsSpanWord pages k r (rows ++ a) → IsSpanWord pages k r (rows ++ b) → a ≡ b
 parities_fixed pages k r rows a b range count x y =
     append_cancel_left rows a b (same_data k r (rows ++ a) (rows ++ b) range x.is_word x.bytes y.is_word

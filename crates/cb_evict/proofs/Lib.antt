@@ -79,6 +79,7 @@ mod WorkedRules
 pub mod WorkedWide
 pub mod PutShards
 pub mod ShipSound
+pub mod InstallSound
 pub mod ShipParts
 pub mod ShipStep
 pub mod ShipKeeps
