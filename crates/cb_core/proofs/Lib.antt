@@ -32,9 +32,16 @@ pub mod OpenSteps
 pub mod OpenStores
 mod OrdersCounted
 mod OrdersLeave
+mod SetsStay
+mod EvictLeaves
+mod InstallStays
 mod OrderTurns
 mod LandRooms
 mod LandTold
+mod InstallAtDesk
+mod Unfetched
+mod WorkedOrders
+mod NarrowOrders
 pub mod OpenChanges
 pub mod OpenStored
 pub mod OpenSettled

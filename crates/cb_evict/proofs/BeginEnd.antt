@@ -80,16 +80,16 @@ starts far new o frames formers made parities before ls s d bare ordered none re
           (played (before ++ ls) s))
           (sym is)
           (subst (λ (v : Shown). IsOrdered far after o (before ++ ls) s v) (sym same) (record {
-          kept = subst (IsEncodeKept t after) (sym ordered)
-          (order_kept far frames formers made parities before s t d none);
-          begun = effect_begun far frames formers made parities before s t d none ls reads.quiet
-          (steady.hots ∙ sym (ap (λ (x : Shown). x.hots) told))
-          (told_objects (before ++ ls) s).0
-          (sym (ap (λ (x : Shown). x.versions) same) ∙ words.0)
-          (sym (ap (λ (x : Shown). x.memory) same) ∙ words.1)
-          (λ old. written_append before ls s old
-          ∙ ap (λ (l : List Entry). written_by ls t l) (steady.nothing old)
-          ∙ (reads.steady t).nothing old);
+            kept = subst (IsEncodeKept t after) (sym ordered)
+                (order_kept far frames formers made parities before s t d none);
+            begun = effect_begun far frames formers made parities before s t d none ls reads.quiet
+                (steady.hots ∙ sym (ap (λ (x : Shown). x.hots) told))
+                (told_objects (before ++ ls) s).0
+                (sym (ap (λ (x : Shown). x.versions) same) ∙ words.0)
+                (sym (ap (λ (x : Shown). x.memory) same) ∙ words.1)
+                (λ old. written_append before ls s old
+                ∙ ap (λ (l : List Entry). written_by ls t l) (steady.nothing old)
+                ∙ (reads.steady t).nothing old);
           }));
     }
 

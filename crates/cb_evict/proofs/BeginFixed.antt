@@ -198,9 +198,11 @@ pub gather_step_fixes : (x y z : Words) (far new other : FarState) (g h : Gather
     → IsOneEnd (gathered_reply g) (gathered_reply h) y z new other × (g ≡ h)
 gather_step_fixes x y z far new other g h ok a b =
     let ends = begins_fix x y z far new other false (HandsOut far g) (HandsOut far h)
-    (gathered_reply g) (gathered_reply h) ok a b in
-    (ends, by (batch_or_not x y far new false (HandsOut far g) (gathered_reply g) a)
-    (batch_or_not x z far other false (HandsOut far h) (gathered_reply h) b) ends.reply ends.far)
+    (gathered_reply g) (gathered_reply h) ok a b in (
+      ends,
+      by (batch_or_not x y far new false (HandsOut far g) (gathered_reply g) a)
+          (batch_or_not x z far other false (HandsOut far h) (gathered_reply h) b) ends.reply ends.far,
+    )
   where
     by : IsBatchMade x y far new false (HandsOut far g) (gathered_reply g)
         ⊎ ((id : SetId) → gathered_reply g ≡ answer.Batch id → ⊥)

@@ -121,28 +121,30 @@ begun_to x y far new made s es r l pages longest b z =
     b.state)
     (λ h i. leaves_free x far k pages h i) z in
     let word = (l.sound.away.sound.batch batch (ap (λ (f : FarState). f.leaving) b.state)).word in
-    let memory : (played es s).memory ≡ x.memory = l.shows.memory ∙ held.memory in
-    (record {
-      pages = b.pages;
-      long = b.long;
-      words = b.words;
-      parities = b.parities;
-      of = b.of;
-      order = b.order;
-      each_once = b.each_once;
-      noted = λ i e within. let f = get_or b.words i e in
-          sym (found_exact es x y f.handle f.word r.ran r.looks_first (b.found i e within));
-      count = b.counts.1;
-      word = λ yes. subst (λ (ms : List ℕ). IsSpanWord b.pages k far.code.r
-          (map (λ f. row_of (window ms (512 * f) (512 * b.pages))) frames ++ b.parities)) memory
-          (subst (λ (n : ℕ). IsSpanWord b.pages n far.code.r (batch_rows (played es s) batch))
-          (taken_count k far.spans (loose_frames x far) pages longest)
-          (subst (λ (n : ℕ). IsSpanWord b.pages (length frames) n (batch_rows (played es s) batch))
-          b.counts.1 (word yes)));
-      bare = b.bare;
-      state = b.state;
-      held = held;
-    }, refl)
+    let memory : (played es s).memory ≡ x.memory = l.shows.memory ∙ held.memory in (
+      record {
+        pages = b.pages;
+        long = b.long;
+        words = b.words;
+        parities = b.parities;
+        of = b.of;
+        order = b.order;
+        each_once = b.each_once;
+        noted = λ i e within. let f = get_or b.words i e in
+            sym (found_exact es x y f.handle f.word r.ran r.looks_first (b.found i e within));
+        count = b.counts.1;
+        word = λ yes. subst (λ (ms : List ℕ). IsSpanWord b.pages k far.code.r
+            (map (λ f. row_of (window ms (512 * f) (512 * b.pages))) frames ++ b.parities)) memory
+            (subst (λ (n : ℕ). IsSpanWord b.pages n far.code.r (batch_rows (played es s) batch))
+            (taken_count k far.spans (loose_frames x far) pages longest)
+            (subst (λ (n : ℕ). IsSpanWord b.pages (length frames) n (batch_rows (played es s) batch))
+            b.counts.1 (word yes)));
+        bare = b.bare;
+        state = b.state;
+        held = held;
+      },
+      refl,
+    )
 
 -- ---- the step
 -- what is so of the rows that were read is so of those that are known

@@ -80,6 +80,7 @@ pub mod WorkedWide
 pub mod PutShards
 pub mod ShipSound
 pub mod InstallSound
+pub mod Installs
 pub mod ShipParts
 pub mod ShipStep
 pub mod ShipKeeps

@@ -22,9 +22,9 @@ use cb_world::{Far, Leaving};
 /// list of parities. Looks at no object; takes no memory.
 pub fn install(far: &mut Far, done: Option<&EncodeDone>) -> Reply
     requires kept { (s : Shown) × Sound s far.old × KeepsOrder s far.old (order_done done) }
-    ensures installed { InstallStep far.old far.new result (order_done done)
-        (kept_behind result (order_done done)) }
-    ensures sound { (s : Shown) → Sound s far.old → KeepsOrder s far.old (order_done done)
+    ensures installed { InstallStep far.old far.new result (order_done done.entry)
+        (kept_behind result (order_done done.entry)) }
+    ensures sound { (s : Shown) → Sound s far.old → KeepsOrder s far.old (order_done done.entry)
         → Sound s far.new }
 {
     match done {
@@ -63,7 +63,8 @@ fn install_done(far: &mut Far, done: &EncodeDone) -> Reply
     ensures sound { (s : Shown) → Sound s far.old → IsEncodeKept s far.old done.now.order
         → Sound s far.new }
 {
-    let set = done.order().set;
+    let order = done.order();
+    let set = order.set;
     let Some(leaving) = leaving_set(&far.leaving) else {
         return Reply::NoBatch;
     };
@@ -73,7 +74,8 @@ fn install_done(far: &mut Far, done: &EncodeDone) -> Reply
         };
     }
     let parities = done.parities();
-    // The rows are bytes, as their length shows of them.
+    // That all rows hold bytes is what a proof reads here.
+    let _ = order.rows.row_len();
     let _ = parities.row_len();
     give_parities(far, parities);
     Reply::Done

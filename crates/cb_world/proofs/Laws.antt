@@ -23,6 +23,7 @@ pub use Rattle.cb_world.proofs.Fixed.{IsOneEnd, chosen_fixed, home_fixed, least_
 pub use Rattle.cb_world.proofs.FrameCopied.{words_read}
 pub use Rattle.cb_world.proofs.Freed.{one_slot}
 pub use Rattle.cb_world.proofs.FreshShard.{IsUpShard, fits_on_least, undrawn_is_fresh, up_is_current, up_is_kept, up_on_least}
+pub use Rattle.cb_world.proofs.Gathering.{survivors_stand}
 pub use Rattle.cb_world.proofs.GivenUp.{live_names}
 pub use Rattle.cb_world.proofs.GivenUpNow.{left_gone}
 pub use Rattle.cb_world.proofs.Gone.{sound_gone}
@@ -40,7 +41,6 @@ pub use Rattle.cb_world.proofs.NowSame.{bits, empty_now, empty_value, far_object
 pub use Rattle.cb_world.proofs.OpenKept.{leaving_claimed, open_here, open_kept, open_same, open_word, orders_kept, pins_hold, pins_leave, seat_beside}
 pub use Rattle.cb_world.proofs.Packed.{contents_packed, packed_write}
 pub use Rattle.cb_world.proofs.Packing.{below_packed, same_memory}
-pub use Rattle.cb_world.proofs.ParitiesMade.{parities_made}
 pub use Rattle.cb_world.proofs.Patching.{join_is_merged, parity_step, patched_more}
 pub use Rattle.cb_world.proofs.PinNow.{pinned_now, unpinned_now}
 pub use Rattle.cb_world.proofs.Pins.{known_word, pin_counts, pin_sound, pinned_still, unpin_sound}
@@ -63,6 +63,7 @@ pub use Rattle.cb_world.proofs.Noting.{counted_holds, counted_strictly, crash_no
 pub use Rattle.cb_world.proofs.StillPerforms.{IsStepKnown, PerformsStill, RunsStill, known_then, runs_still, stays_still}
 pub use Rattle.cb_world.proofs.StillWords.{FreeIs, busy_leaves, empty_exact, free_after, hot_exact, one_exact, settles_other, told_exact, word_back}
 pub use Rattle.cb_world.proofs.Storing.{InRange, KeysApart, drop_elsewhere, put_elsewhere, put_there}
+pub use Rattle.cb_world.proofs.Surviving.{are_positions}
 pub use Rattle.cb_world.proofs.Surveying.{left_whole, stands_still, survey_same, survey_stays, unsurveyed}
 pub use Rattle.cb_world.proofs.Touching.{claim_settles_last, claim_touches, look_settles_last, look_touches, touches_append}
 pub use Rattle.cb_world.proofs.Tracing.{agree_last, found_last, found_more, looks_played, looks_written, played_append, taken_after_looks, taken_more, told_append, written_append}
@@ -73,4 +74,5 @@ pub use Rattle.cb_world.proofs.Windows.{length_put, put_at as put_at-windows, pu
 pub use Rattle.cb_world.proofs.WorkedWord.{at, is_word, node, only_word, row, row_byte, row_long, rows, with_two_rows}
 pub use Rattle.cb_world.proofs.Worlds.{empty_world_sound}
 pub use Rattle.cb_world.proofs.OrdersLeft.{decode_left, encode_left, orders_left, orders_stay}
+pub use Rattle.cb_world.proofs.LeftWords.{alike_leaves_words, left_leaves_words, parted_leaves_words, stepped_leaves_words}
 pub use Rattle.cb_world.proofs.WordsLeft.{KeepsSets, added_keeps_sets, committed_keeps_sets, crash_leaves_words, join_leaves_words, merged_keeps_sets, row_put_leaves_words, same_keeps_sets, sets_leave_words, words_left_twice, words_stay}

@@ -1,5 +1,5 @@
 mod Padded
-pub mod RoomRows
+mod RoomRows
 pub mod FrameCopied
 mod FrameRuns
 mod Dropping
@@ -40,13 +40,13 @@ pub mod Joined
 pub mod FreshShard
 pub mod PlaceSet
 pub mod RowPut
-pub mod ParitiesMade
 pub mod Stepping
 pub mod Patching
 pub mod Committed
 pub mod JoinNow
 pub mod OrdersLeft
 pub mod WordsLeft
+pub mod LeftWords
 pub mod Beginning
 pub mod Counting
 pub mod Surveying
@@ -110,6 +110,7 @@ mod WorkedAdded
 mod WorkedJoin
 mod WorkedPairs
 mod WorkedBatch
+mod WorkedParities
 mod WorkedRooms
 pub mod WorkedWord
 pub mod Laws
