@@ -5,8 +5,8 @@ use Rattle.std.specs.Fmt.{digits}
 use Rattle.hex.specs.Hex.{encode_with}
 use Rattle.cb_types.specs.declared.config.Config.{Config}
 use Rattle.cb_types.specs.declared.handle.Handle.{Handle}
-use Rattle.cb_types.specs.declared.job.Job.TheVariants.{Write, Merge, Part}
-use Rattle.cb_types.specs.declared.reply.Reply.TheVariants.{Made, Bytes, Set, Word, Stored, Stays}
+use Rattle.cb_types.specs.declared.job.Job.TheVariants.{Write, Merge, Part, Fetch}
+use Rattle.cb_types.specs.declared.reply.Reply.TheVariants.{Made, Bytes, Set, Word, Stored, Stays, NoOrder, Direct, Fetched}
 use Rattle.cb_core.specs.declared.event.Atomic.TheVariants.{Claim, Store}
 use Rattle.cb_core.specs.declared.event.Event.{Event}
 use Rattle.cb_core.specs.declared.event.Event.TheVariants as event
@@ -87,7 +87,7 @@ merges = record {
   whole = lit≤ tt;
   within = (lit< tt, lit< tt);
   said = (refl, (refl, tt));
-  may = (lit< tt, tt);
+  may = (lit< tt, tt, tt);
 }
 
 two : AreListed few (claim_bytes ++ merge ++ rest) (claim ∷ event.Turn 0 Merge ∷ []) rest
@@ -99,6 +99,13 @@ two = (
 -- the other end of a joining pair is another job
 parts : IsListed few (merge ++ rest) (event.Turn 0 Part) → ⊥
 parts is = let e = is.said.1.0 in cc
+
+-- a fetch hands an order out: it may not come
+abbrev fetch : List ℕ
+fetch = 0 ∷ 21 ∷ 3 ∷ 0 ∷ 0 ∷ 0 ∷ 0 ∷ 0 ∷ []
+
+no_fetch : IsListed few fetch (event.Turn 0 (Fetch third)) → ⊥
+no_fetch is = is.may.2
 
 -- what is told of replies, and of bytes that were not read
 made : told_line (Made third 1) ≡ codes "reply made 3 v1\n"
@@ -123,6 +130,16 @@ stored = refl
 
 stays : told_line Stays ≡ codes "reply stays\n"
 stays = refl
+
+no_order : told_line NoOrder ≡ codes "reply noorder\n"
+no_order = refl
+
+direct : told_line Direct ≡ codes "reply direct\n"
+direct = refl
+
+fetched : told_line (Fetched (record { n = 4 }) 12) ≡ codes "reply fetched 4 12\n"
+unfolding digits
+fetched = refl
 
 not_read : rest_line (length rest) ≡ codes "rest 3\n"
 unfolding digits

@@ -81,6 +81,9 @@ pub mod PutShards
 pub mod ShipSound
 pub mod InstallSound
 pub mod Installs
+pub mod InstallKeeps
+pub mod LeftWords
+mod WorkedInstall
 pub mod ShipParts
 pub mod ShipStep
 pub mod ShipKeeps
