@@ -33,8 +33,9 @@ pub mod OpenStores
 mod OrdersCounted
 mod OrdersLeave
 mod SetsStay
-mod EvictLeaves
-mod InstallStays
+mod WordsTold
+mod WordsOwned
+mod SwapRows
 mod OrderTurns
 mod LandRooms
 mod LandTold
