@@ -15,6 +15,7 @@ mod WholeWord
 mod ReadSteps
 mod Tallying
 mod FirstPin
+mod DidAlone
 mod MadeFirst
 mod Recalled
 mod Rights
