@@ -14,7 +14,7 @@ use Rattle.cb_set.specs.SetState.{SetState}
 use Rattle.cb_set.specs.Lost.{lost}
 use Rattle.cb_types.specs.declared.handle.SetId.{SetId}
 use Rattle.cb_types.specs.declared.job.Job.{Job}
-use Rattle.cb_types.specs.declared.job.Job.TheVariants.{Make, Read, Write, Free, Swap, Filter, Evict, Begin, Ship, Commit, Abort, Pair, Patch, Merge, Part, Compact, Rebuild, Crash, Join}
+use Rattle.cb_types.specs.declared.job.Job.TheVariants.{Make, Read, Write, Free, Swap, Filter, Evict, Begin, Ship, Commit, Abort, Pair, Patch, Merge, Part, Compact, Rebuild, Crash, Join, Gather, Install, Fetch, Land}
 use Rattle.cb_types.specs.declared.reply.Reply.{Reply}
 use Rattle.cb_types.specs.declared.reply.Reply.TheVariants as answer
 use Rattle.cb_world.specs.declared.shown.Shown.{Shown}
@@ -501,6 +501,10 @@ works_calm E keeps (Crash node) a b r s known good whole within step =
     crash_job node a.far b.far r step.1
 works_calm E keeps (Join node) a b r s known good whole within step =
     join_job node a.far b.far r step.1
+works_calm E keeps Gather a b r s known good whole within step = absurd whole
+works_calm E keeps Install a b r s known good whole within step = absurd whole
+works_calm E keeps (Fetch handle) a b r s known good whole within step = absurd step.1
+works_calm E keeps Land a b r s known good whole within step = absurd step.1
 
 -- ---- a turn
 pub turn_calm : {most : ℕ} (E : Holding Words → Type 0) → KeepsEasy most E

@@ -30,6 +30,11 @@ pub mod WorldKept
 pub mod PinsKept
 pub mod OpenSteps
 pub mod OpenStores
+mod OrdersCounted
+mod OrdersLeave
+mod OrderTurns
+mod LandRooms
+mod LandTold
 pub mod OpenChanges
 pub mod OpenStored
 pub mod OpenSettled

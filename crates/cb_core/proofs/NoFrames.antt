@@ -201,7 +201,7 @@ declined_plain h at count far r es (inr (stays, (w, v, found, far_word, told, la
 abbrev pub AllNever : {D : Type 0} → (Holding D → Reply → Holding D → Type 0) → Type 0
 AllNever {D = D} P = (a b : Holding D) (r : Reply) → P a r b → Never r
 
-room_never : {D : Type 0} (frames : ℕ) (P : Holding D → Reply → Holding D → Type 0)
+pub room_never : {D : Type 0} (frames : ℕ) (P : Holding D → Reply → Holding D → Type 0)
     (E : Holding D → Eviction → Holding D → Type 0) (left : ℕ) → AllNever (WithRoom frames P E left)
 room_never frames P E left a b r (at_once o off) = off
 room_never frames P E left a b r (no_room m why loose nodes o v is) = never r (off r _ refl is)

@@ -6,7 +6,7 @@ use Rattle.cb_member.specs.declared.names.NodeId.{NodeId}
 use Rattle.cb_member.specs.Membership.{Membership, with_crash, with_join}
 use Rattle.cb_types.specs.declared.config.Config.{Config}
 use Rattle.cb_types.specs.declared.job.Job.{Job}
-use Rattle.cb_types.specs.declared.job.Job.TheVariants.{Begin, Ship, Commit, Abort, Pair, Patch, Merge, Part, Crash, Join}
+use Rattle.cb_types.specs.declared.job.Job.TheVariants.{Begin, Ship, Commit, Abort, Pair, Patch, Merge, Part, Crash, Join, Gather, Install}
 use Rattle.cb_types.specs.declared.reply.Reply.{Reply}
 use Rattle.cb_types.specs.declared.request.Request.TheVariants as line
 use Rattle.cb_types.specs.Table.{IsReplyOf}
@@ -114,6 +114,8 @@ IsWholeJob Pair = ⊥
 IsWholeJob Patch = ⊥
 IsWholeJob Merge = ⊥
 IsWholeJob Part = ⊥
+IsWholeJob Gather = ⊥
+IsWholeJob Install = ⊥
 IsWholeJob job = Unit {0}
 
 -- how the members stand behind a job; and where no batch is leaving and no pair is joining, none is

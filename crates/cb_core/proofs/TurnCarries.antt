@@ -92,7 +92,7 @@ swap_none h at bytes id p far new r es rule =
     (by_answer (λ (q : Reply). WriteWrites h at bytes q []) far id rule.set (λ e. refl)
     (λ e f. refl) (λ f e g. refl))
 
-nil_quiet : (r : Reply) → IsQuietReply Nil r
+pub nil_quiet : (r : Reply) → IsQuietReply Nil r
 nil_quiet r = record { none = λ more e. e; some = refl }
 
 make_quiet : (bytes : List ℕ) → IsQuietReply (MakeWrites bytes) answer.NoFrame
@@ -136,7 +136,7 @@ module _ {D : Type 0} (run : D → List Event → D → Type 0) (shows : D → S
       (λ s sound. stays_same c 1 a.far b.far (omega arith) p.rule.0) p
       (λ s e. write_writes h at bytes r p.events s (played p.events s) e)
 
-  finds : (h : ℕ) → Leads 1 Nil (FindsWhere run shows h)
+  pub finds : (h : ℕ) → Leads 1 Nil (FindsWhere run shows h)
   finds h a b r good p = comes_none run shows laws c 1 a b _ _ good
       (λ s sound. stays_same c 1 a.far b.far (omega arith) p.rule.0) p (λ s e. e.nothing)
 
@@ -155,12 +155,12 @@ module _ {D : Type 0} (run : D → List Event → D → Type 0) (shows : D → S
       (λ s sound. evict_stays c a.far b.far r p.events accepted p.rule) p
       (λ s e. evict_unwritten a.far b.far r p.events s (played p.events s) p.rule e)
 
-  wins : Leads 24 Nil (WinsRoom run shows c)
+  pub wins : Leads 24 Nil (WinsRoom run shows c)
   wins a b e good p = comes_none run shows laws c 24 a b _ _ good
       (λ s sound. evict_stays c a.far b.far (reply_of e) p.events accepted p.rule.rule) p
       (λ s x. evict_unwritten a.far b.far (reply_of e) p.events s (played p.events s) p.rule.rule x)
 
-  evict_lacks : Lacks 24 (EvictLacks run shows)
+  pub evict_lacks : Lacks 24 (EvictLacks run shows)
   evict_lacks a b good (same, p) = comes_none run shows laws c 24 a b _ _ good
       (λ s sound. stays_same c 24 a.far b.far (omega arith) same) p (λ s e. e.nothing)
 

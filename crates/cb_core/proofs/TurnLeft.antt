@@ -57,14 +57,14 @@ module _ {D : Type 0} (run : D → List Event → D → Type 0) (shows : D → S
   abbrev Hold : Type 0
   Hold = Holding D
 
-  counted_good : (job : Job) (a : Hold) → Good shows c a → Good shows c (once_counted a job)
+  pub counted_good : (job : Job) (a : Hold) → Good shows c a → Good shows c (once_counted a job)
   counted_good job a good = let k = good.shown in record {
     configured = recounted c a.far (counted a.far job).counts good.configured;
     shown = (k.0, k.1, counted_sound k.0 a.far (counted a.far job) job refl k.2);
   }
 
   -- a counted turn
-  counted_leaves : (W : List Entry → Type 0) (job : Job) (a b : Hold) → AreCounted a.far
+  pub counted_leaves : (W : List Entry → Type 0) (job : Job) (a b : Hold) → AreCounted a.far
       → a.far.counts.turns < 2 ^ 40 → ComesBy (note_of job) run shows c turn_rise W
       (once_counted a job) b
       → TurnLeaves run shows c a b W
@@ -82,7 +82,7 @@ module _ {D : Type 0} (run : D → List Event → D → Type 0) (shows : D → S
   }
 
   -- one that is refused
-  refused_leaves : (job : Job) (a b : Hold) (r : Reply) → Good shows c a → AreCounted a.far
+  pub refused_leaves : (job : Job) (a b : Hold) (r : Reply) → Good shows c a → AreCounted a.far
       → a.far.counts.turns ≡ 2 ^ 40 → r ≡ answer.Worn → b.far ≡ a.far → run a.desk [] b.desk
       → TurnLeaves run shows c a b (TurnWrites job r)
   refused_leaves job a b r good counts end reply same ran = record {

@@ -1,10 +1,11 @@
 -- Over any desk a turn is answered Unavailable exactly where it is to be.
-use Rattle.std.proofs.Common.{◌≡◌, ℕ, suc, ◌^◌, Bool, true, false, List, [], length, Some, None, refl, sym, ap, ◌∙◌, subst, arith, inl, inr}
+use Rattle.std.proofs.Common.{◌≡◌, ℕ, suc, ◌^◌, Bool, true, false, not, ◌&&◌, if◌then◌else◌, List, [], length, Some, None, refl, sym, ap, ◌∙◌, subst, arith, inl, inr}
 use Rattle.std.proofs.lemmas.Bool.{false≢true}
 use Rattle.cb_member.specs.declared.names.Loss.{Loss}
 use Rattle.cb_ptr.specs.declared.word.State.{State}
 use Rattle.cb_ptr.specs.Word.{state_of}
-use Rattle.cb_set.specs.Lost.{lost}
+use Rattle.cb_set.specs.Lost.{lost, lost_at}
+use Rattle.cb_set.specs.SetState.{SetState}
 use Rattle.cb_types.specs.declared.config.Config.{Config}
 use Rattle.cb_types.specs.declared.handle.Handle.{Handle}
 use Rattle.cb_types.specs.declared.handle.SetId.{SetId}
@@ -24,12 +25,17 @@ use Rattle.cb_world.specs.Sound.{Sound}
 use Rattle.cb_world.proofs.Laws.{some_same}
 use Rattle.cb_mutate.specs.Answered.{AnsweredAs, AnsweredByLook}
 use Rattle.cb_mutate.specs.MakeRule.{MakeRule}
+use Rattle.cb_swapin.specs.declared.fetching.Fetching.{Fetching}
+use Rattle.cb_swapin.specs.declared.fetching.Fetching.TheVariants as fetching
+use Rattle.cb_swapin.specs.FetchStep.{FetchFar, fetching_reply, hands_out, is_to_make}
 use Rattle.cb_swapin.proofs.Laws.{by_answer, gone_is_broken}
 use Rattle.cb_core.specs.OnceHere.{IsThere, OnceHere, away, here}
 use Rattle.cb_core.specs.Parts.{Holding, WithRoom, WhereItIs, at_once, no_room, won, most_evictions, near, declined, stays_far, brought, not_far, was_far}
 use Rattle.cb_core.specs.FarJobs.{FarStep}
 use Rattle.cb_core.specs.ReadTurn.{BroughtToRead}
 use Rattle.cb_core.specs.ReadTurn.BroughtToRead.{worn as first_worn, done as first_done}
+use Rattle.cb_core.specs.Ordered.{FetchRun, FetchesRows}
+use Rattle.cb_core.specs.Ordered.FetchRun.{not_far as fetch_near, was_far as fetch_away}
 use Rattle.cb_core.specs.Turned.{Brings, ComesIn, Declines, Does, IsDeclined, Makes, Reads, Swaps, Turned, WinsRoom, WritesObject, counted, once_counted, worn, done}
 use Rattle.cb_core.specs.Unavailable.{IsInLost, TurnTells, brought_by}
 use Rattle.cb_core.proofs.Counting.{counted_sound}
@@ -355,9 +361,13 @@ module _ {D : Type 0} (run : D → List Event → D → Type 0) (shows : D → S
       (far_never (job.Crash node) _ b.far r (λ id l x. x) does.1)
   does_tells (job.Join node) a b r good does = by_never (job.Join node) a.far r refl
       (far_never (job.Join node) _ b.far r (λ id l x. x) does.1)
+  does_tells job.Gather a b r good does = absurd does.1
+  does_tells job.Install a b r good does = absurd does.1
+  does_tells (job.Fetch handle) a b r good does = absurd does.1
+  does_tells job.Land a b r good does = absurd does.1
 
   -- a turn that was refused for its number tells of no set
-  worn_tells : (j : Job) (far : FarState) (r : Reply) → far.counts.turns ≡ 2 ^ 40 → r ≡ answer.Worn
+  pub worn_tells : (j : Job) (far : FarState) (r : Reply) → far.counts.turns ≡ 2 ^ 40 → r ≡ answer.Worn
       → TurnTells j far r
   worn_tells j far r end is = record {
     only = λ id l e. absurd (worn_lost id l (sym is ∙ e));
@@ -366,6 +376,66 @@ module _ {D : Type 0} (run : D → List Event → D → Type 0) (shows : D → S
     where
       worn_lost : (id : SetId) (l : List Loss) → answer.Worn ≡ answer.Unavailable id l → ⊥
       worn_lost id l e = cc
+
+  -- ---- a fetch
+  whole_if : (far : FarState) (set : SetState) (p : ℕ) → true ≡ is_to_make far set p
+      → is_broken far.members set ≡ false
+  whole_if far set p e = by (is_broken far.members set) (lost_at far.members set.shards p) e
+    where
+      by : (b l : Bool) → true ≡ (not b && l) → b ≡ false
+      by false l f = refl
+      by true l f = absurd (false≢true (sym f))
+
+  rows_tell : (m b : Hold) (h : ℕ) (g : Fetching) → FetchesRows run h m g b
+      → Tells m.far h (fetching_reply g)
+  rows_tell m b h g (home, at, ran, x) = by g x.ordered x.state
+    where
+      there : is_gone m.far h ≡ is_broken m.far.members x.set
+      there = gone_is_broken m.far h home x.set at x.there
+
+      fetched_never : (id : SetId) (p : ℕ) → IsNever (answer.Fetched id p)
+      fetched_never id p i l e = cc
+
+      direct_never : IsNever answer.Direct
+      direct_never i l e = cc
+
+      answered_by : (broken : Bool) → is_broken m.far.members x.set ≡ broken → Tells m.far h
+          (if broken
+          then answer.Unavailable (record { n = home.set }) (lost m.far.members x.set.shards)
+          else answer.Direct)
+      answered_by true broken = broke (record { n = home.set }) (lost m.far.members x.set.shards) refl
+          (record {
+            home = home;
+            set = x.set;
+            at = at;
+            there = x.there;
+            broken = broken;
+            number = refl;
+            lost = refl;
+          })
+      answered_by false fine = whole_there (there ∙ fine) direct_never
+
+      by : (q : Fetching) → hands_out q ≡ is_to_make m.far x.set home.position
+          → FetchFar m.far b.far home.set home.position x.set q → Tells m.far h (fetching_reply q)
+      by (fetching.Order o) e z = whole_there (there ∙ whole_if m.far x.set home.position e)
+          (fetched_never (record { n = o.set }) o.position)
+      by (fetching.Answer r) e z = subst (Tells m.far h) (sym z.0)
+          (answered_by (is_broken m.far.members x.set) refl)
+
+  run_tells : (a b : Hold) (h : ℕ) (g : Fetching) → Good a → FetchRun run shows h a g b
+      → Tells a.far h (fetching_reply g)
+  run_tells a b h g good (fetch_near r is x never) =
+      subst (λ (q : Fetching). Tells a.far h (fetching_reply q)) (sym is)
+      (come_tells a b h r good (not_far x never))
+  run_tells a b h g good (fetch_away m x rows) =
+      subst (λ (f : FarState). Tells f h (fetching_reply g)) x.rule.0 (rows_tell m b h g rows)
+
+  pub fetch_tells : (handle : Handle) (a b : Hold) (g : Fetching) → Good a
+      → FetchRun run shows handle.n (once_counted a (job.Fetch handle)) g b
+      → TurnTells (job.Fetch handle) a.far (fetching_reply g)
+  fetch_tells handle a b g good x = let j = job.Fetch handle in
+      by_tells j a.far handle.n (fetching_reply g) refl
+      (run_tells (once_counted a j) b handle.n g (good_counted j a good) x)
 
   pub turned_tells : (j : Job) (a b : Hold) (r : Reply) → Good a
       → Turned run shows (Reads run shows) c j a r b → TurnTells j a.far r

@@ -40,7 +40,8 @@ use Rattle.cb_core.specs.Holding.GiveStep.{given as lock_given}
 use Rattle.cb_core.specs.Jobs.{IsJob}
 use Rattle.cb_core.specs.Pinning.{pin_refusal, scope_full, refused as pin_refused, taken, not_pinned, given}
 use Rattle.cb_core.specs.Run.{LeadsSoundly}
-use Rattle.cb_core.specs.Step.{AtomicStep, SeatTurn, Step, TurnStep, worn, done}
+use Rattle.cb_core.specs.Step.{AtomicStep, SeatTurn, Step, TurnStep, Works, worn, done}
+use Rattle.cb_core.specs.Turned.{counted}
 use Rattle.cb_core.specs.Step.SeatTurn.{held as is_held, free as is_free}
 use Rattle.cb_core.specs.Unavailable.{IsInLost, IsLost, brought_by, asked_by, TellsUnavailable, LeadsTelling}
 use Rattle.cb_core.proofs.Settings.{step_settings}
@@ -150,6 +151,18 @@ turn_never w new seat j asked r none off answered step =
     by (worn end e same) = λ id l is. not_worn id l (sym e ∙ is)
     by (done few works seats) = λ id l is. off id l (subst (IsReplyOf asked) is (answered few))
 
+-- a job that no such turn does: it can only be refused for its number
+none_done : (j : Job) (w new : WorldState) (r : Reply)
+    → (Works w.desk (counted w.far j) j r new.desk new.far → ⊥) → w.far.counts.turns < 2 ^ 40
+    → TurnStep j w r new → ⊥
+none_done j w new r off few (worn end e same) = omega (arith, few, end)
+none_done j w new r off few (done more works seats) = off works
+
+worn_alone : (j : Job) (w new : WorldState) (r : Reply)
+    → (Works w.desk (counted w.far j) j r new.desk new.far → ⊥) → TurnStep j w r new → IsNever r
+worn_alone j w new r off (worn end e same) id l is = not_worn id l (sym e ∙ is)
+worn_alone j w new r off (done few works seats) id l is = absurd (off works)
+
 pub turn_tells : (j : Job) (w new : WorldState) (seat : ℕ) (r : Reply) → IsSoundWorld w
     → IsSoundWorld new → IsJob w.desk.settings j → TurnStep j w r new
     → TellsUnavailable w (event.Turn seat j) r
@@ -204,6 +217,16 @@ turn_tells (job.Crash node) w new seat r sound after ok step =
 turn_tells (job.Join node) w new seat r sound after ok step =
     turn_never w new seat (job.Join node) (line.Join node) r refl (λ id l x. x)
     (λ few. (join_turn node w new r sound after few step).1) step
+turn_tells job.Gather w new seat r sound after ok step =
+    never_tells w (event.Turn seat job.Gather) r refl (worn_alone job.Gather w new r (λ x. x.1) step)
+turn_tells job.Install w new seat r sound after ok step =
+    never_tells w (event.Turn seat job.Install) r refl (worn_alone job.Install w new r (λ x. x.1) step)
+turn_tells job.Land w new seat r sound after ok step =
+    never_tells w (event.Turn seat job.Land) r refl (worn_alone job.Land w new r (λ x. x.1) step)
+turn_tells (job.Fetch handle) w new seat r sound after ok step =
+    brings_tells w new seat (job.Fetch handle) handle.n r sound refl
+    (λ id l few x. absurd (none_done (job.Fetch handle) w new _ (λ y. y.1) few x))
+    (λ few gone. absurd (none_done (job.Fetch handle) w new r (λ y. y.1) few step)) step
 
 pub seat_tells : (j : Job) (w new : WorldState) (seat : ℕ) (r : Reply) → IsSoundWorld w
     → IsSoundWorld new → IsJob w.desk.settings j → SeatTurn seat j w r new

@@ -3,7 +3,7 @@ use Rattle.std.specs.Prelude.{◌<◌, ◌≤◌, length}
 use Rattle.cb_types.specs.Config.{most_bytes}
 use Rattle.cb_types.specs.declared.config.Config.{Config}
 use Rattle.cb_types.specs.declared.job.Job.{Job}
-use Rattle.cb_types.specs.declared.job.Job.TheVariants.{Make, Read, Write, Free, Swap, Filter, Evict, Begin, Ship, Commit, Abort, Pair, Patch, Merge, Part, Compact, Rebuild, Crash, Join}
+use Rattle.cb_types.specs.declared.job.Job.TheVariants.{Make, Read, Write, Free, Swap, Filter, Evict, Begin, Ship, Commit, Abort, Pair, Patch, Merge, Part, Compact, Rebuild, Crash, Join, Gather, Install, Fetch, Land}
 
 -- an object has 1 to `most_bytes` bytes, handles and nodes are among those that there are
 abbrev pub IsJob : Config → Job → Type 0
@@ -26,3 +26,15 @@ IsJob c Compact = Unit {0}
 IsJob c Rebuild = Unit {0}
 IsJob c (Crash node) = node.n < c.nodes
 IsJob c (Join node) = node.n < c.nodes
+IsJob c Gather = Unit {0}
+IsJob c Install = Unit {0}
+IsJob c (Fetch handle) = handle.n < c.handles
+IsJob c Land = Unit {0}
+
+-- the job hands no order out and takes none
+abbrev pub NeedsNoOrder : Job → Type 0
+NeedsNoOrder Gather = ⊥
+NeedsNoOrder Install = ⊥
+NeedsNoOrder (Fetch handle) = ⊥
+NeedsNoOrder Land = ⊥
+NeedsNoOrder job = Unit {0}

@@ -9,8 +9,11 @@ pub mod OnceHere
 pub mod FarJobs
 pub mod JobParts
 pub mod Turned
+pub mod OrderParts
+pub mod Ordered
 pub mod Admitting
 pub mod TurnLeaves
+pub mod OrderLeaves
 pub mod ReadTurn
 pub mod Step
 pub mod Events

@@ -1,5 +1,5 @@
 -- Which turn is answered Unavailable, and which event, and exactly when.
-use Rattle.std.specs.Prelude.{◌≡◌, ℕ, ◌^◌, ◌<◌, List, [], ◌∷◌, Option, None, Some, length}
+use Rattle.std.specs.Prelude.{◌≡◌, ℕ, ◌^◌, ◌<◌, true, List, [], ◌∷◌, Option, None, Some, length}
 use Rattle.cb_member.specs.declared.names.Loss.{Loss}
 use Rattle.cb_ptr.specs.declared.word.State.TheVariants as state
 use Rattle.cb_ptr.specs.Word.{state_of}
@@ -8,6 +8,9 @@ use Rattle.cb_set.specs.SetState.{SetState, parities}
 use Rattle.cb_types.specs.declared.handle.SetId.{SetId}
 use Rattle.cb_types.specs.declared.job.Job.{Job}
 use Rattle.cb_types.specs.declared.job.Job.TheVariants as job
+use Rattle.cb_types.specs.declared.order.DecodeOrder.{DecodeOrder}
+use Rattle.cb_types.specs.declared.order.Kept.{Kept}
+use Rattle.cb_types.specs.declared.order.Kept.TheVariants.{Decode}
 use Rattle.cb_types.specs.declared.reply.Reply.{Reply}
 use Rattle.cb_types.specs.declared.reply.Reply.TheVariants as answer
 use Rattle.cb_world.specs.declared.homes.Home.{Home}
@@ -15,6 +18,7 @@ use Rattle.cb_world.specs.FarState.{FarState}
 use Rattle.cb_world.specs.Homes.{home_at}
 use Rattle.cb_world.specs.Sets.{set_in}
 use Rattle.cb_world.specs.World.{WorldState, word_at}
+use Rattle.cb_swapin.specs.LandRule.{live_in}
 use Rattle.cb_core.specs.declared.event.Event.{Event}
 use Rattle.cb_core.specs.declared.event.Event.TheVariants as event
 use Rattle.cb_core.specs.Holding.{NoOtherHolds}
@@ -36,11 +40,13 @@ pub record IsLost (w : WorldState) (h : ℕ) (id : SetId) (losses : List Loss) :
   pub away : state_of (word_at w.desk h) ≡ state.Far
   pub home : IsInLost w.far h id losses
 
--- the object that a job brings in where it is far: that of a read, a write or a swap
+-- the object that a job brings in where it is far: that of a read, a write or a swap; or whose rows
+-- it hands out, that of a fetch
 abbrev pub brought_by : Job → Option ℕ
 brought_by (job.Read handle) = Some handle.n
 brought_by (job.Write handle at bytes) = Some handle.n
 brought_by (job.Swap handle) = Some handle.n
+brought_by (job.Fetch handle) = Some handle.n
 brought_by other = None
 
 -- Over any desk a turn is answered Unavailable exactly where it is made for an object that it brings
@@ -50,6 +56,24 @@ pub record TurnTells (job : Job) (far : FarState) (r : Reply) : Type 0 where
       → (h : ℕ) × (brought_by job ≡ Some h) × IsInLost far h id losses
   pub each : (h : ℕ) (id : SetId) (losses : List Loss) → brought_by job ≡ Some h
       → far.counts.turns < 2 ^ 40 → IsInLost far h id losses → r ≡ answer.Unavailable id losses
+
+-- The set has lost more shards than it has parities: all that it lost, in order of position.
+pub record IsSetLost (far : FarState) (id : SetId) (losses : List Loss) : Type 0 where
+  pub set : SetState
+  pub there : set_in far.sets id.n ≡ Some set
+  pub all : losses ≡ lost far.members set.shards
+  pub many : parities set < length losses
+
+-- Over any desk the landing of a row is answered Unavailable exactly where the position of its order
+-- is live and the order's set has lost more shards than it has parities.
+pub record LandTells (order : Option Kept) (far : FarState) (r : Reply) : Type 0 where
+  pub only : (id : SetId) (losses : List Loss) → r ≡ answer.Unavailable id losses
+      → (o : DecodeOrder) × (order ≡ Some (Decode o)) × (id ≡ record { n = o.set })
+      × (live_in far o.set o.position ≡ true) × IsSetLost far id losses
+  pub each : (o : DecodeOrder) (losses : List Loss) → order ≡ Some (Decode o)
+      → far.counts.turns < 2 ^ 40 → live_in far o.set o.position ≡ true
+      → IsSetLost far (record { n = o.set }) losses
+      → r ≡ answer.Unavailable (record { n = o.set }) losses
 
 -- the object that an event brings in
 abbrev pub asked_by : Event → Option ℕ

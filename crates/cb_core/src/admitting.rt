@@ -1,6 +1,7 @@
 ghost use Rattle.std.specs.Prelude.{◌≡◌, ◌^◌, ◌<◌, IfNone, IfSome, true, false};
 ghost use Rattle.cb_world.specs.World.{AreCounted, IsSoundWorld};
 ghost use Rattle.cb_core.specs.Admitting.{IsAdmitted, IsTurnRefused};
+ghost use Rattle.cb_core.specs.Jobs.{NeedsNoOrder};
 ghost use Rattle.cb_core.specs.Turned.{counted};
 
 use crate::holding::other_holder;
@@ -8,11 +9,13 @@ use crate::turning::count_turn;
 use cb_types::{Job, Reply};
 use cb_world::World;
 
-/// Counts a turn of a seat, whose job the caller is to do. Takes no memory. Answers None where it
+/// Counts a turn of a seat, whose job the caller is to do; it is one that hands no order out and
+/// takes none. Takes no memory. Answers None where it
 /// is counted, and else why it is refused, as `step` refuses it: with Held, and the seat, where
 /// another one holds the far lock, and with Worn where 2^40 turns were counted. A turn that is
 /// refused changes nothing.
 pub fn admit_turn(world: &mut World, seat: u32, job: &Job) -> Option<Reply>
+    requires order { NeedsNoOrder job.now }
     requires sound { IsSoundWorld world.old }
     ensures refused { IfSome result (λ reply. IsTurnRefused seat world.old reply) }
     ensures same { IfSome result (λ reply. world.new ≡ world.old) }

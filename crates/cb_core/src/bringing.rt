@@ -4,15 +4,19 @@ ghost use Rattle.cb_types.specs.declared.reply.Reply.TheVariants as answer;
 ghost use Rattle.cb_world.specs.declared.homes.Home.{Home};
 ghost use Rattle.cb_world.specs.declared.shown.Shown.{Shown};
 ghost use Rattle.cb_world.specs.Homes.{home_at};
+ghost use Rattle.cb_world.specs.Orders.{KeepsOrder};
 ghost use Rattle.cb_world.specs.Sound.{Sound};
 ghost use Rattle.cb_world.specs.World.{IsConfigured};
+ghost use Rattle.cb_swapin.specs.LandRule.{done_order};
+ghost use Rattle.cb_core.specs.Ordered.{Lands, NothingDone};
 ghost use Rattle.cb_core.specs.Parts.{CallStops, NeverLacks, RoomStops, WhereItIs, WithRoom, most_evictions};
 ghost use Rattle.cb_core.specs.Turned.{BringLacks, Brings, Declines, EvictLacks, MakeLacks, Makes, TriesRoom, WinsRoom, WritesObject, ComeLacks, ComesIn};
 
 use crate::declining::{decline, find};
 use cb_evict::{Eviction, evict_counted};
 use cb_mutate::{make, write};
-use cb_swapin::swap_in;
+use cb_orders::DecodeDone;
+use cb_swapin::{land, swap_in};
 use cb_types::{Config, Handle, NoMemory, Reply, SetId};
 use cb_world::{Desk, Far};
 
@@ -116,6 +120,44 @@ fn bring<D: Desk>(desk: &mut D, far: &mut Far, h: Handle) -> Result<Reply, NoMem
     unreachable!()
 }
 
+/// Brings a position in with the row that an order made, if there is one. Where no frame is free,
+/// evictions make room, one after another, and it lands then; NoRoom is answered only where an
+/// eviction is refused. The order is kept across them.
+pub(crate) fn land_with_room<D: Desk>(
+    desk: &mut D,
+    far: &mut Far,
+    done: Option<&DecodeDone>,
+) -> Result<Reply, NoMemory>
+    requires config { IsAccepted (D.settings desk.old) }
+    requires configured { IsConfigured (D.settings desk.old) far.old }
+    requires counts { (far.old.counts.sets + 2 ^ 18 < 2 ^ 62)
+        × (far.old.counts.keys + 2 ^ 18 < 2 ^ 62) }
+    requires kept { (s : Shown) × D.shows desk.old s × Sound s far.old
+        × KeepsOrder s far.old (done_order done) }
+    ensures lands { IfOk result (λ reply. WithRoom (D.settings desk.old).frames
+        (Lands (λ d es e. D.run d es e) (λ d s. D.shows d s) (done_order done.entry))
+        (WinsRoom (λ d es e. D.run d es e) (λ d s. D.shows d s) (D.settings desk.old))
+        most_evictions
+        (record { desk = desk.old; far = far.old }) reply (record { desk = desk.new; far = far.new })) }
+    ensures error { OnErr result (RoomStops
+        (Lands (λ d es e. D.run d es e) (λ d s. D.shows d s) (done_order done.entry))
+        (NothingDone (λ d es e. D.run d es e))
+        (WinsRoom (λ d es e. D.run d es e) (λ d s. D.shows d s) (D.settings desk.old))
+        (EvictLacks (λ d es e. D.run d es e) (λ d s. D.shows d s)) most_evictions
+        (record { desk = desk.old; far = far.old }) (record { desk = desk.new; far = far.new })) }
+{
+    for _ in 0..MOST_EVICTIONS + 1 {
+        let landed = land(desk, far, done)?;
+        if !is_no_frame(&landed) {
+            return Ok(landed);
+        }
+        if let Some(refusal) = win_room(desk, far)? {
+            return Ok(refusal);
+        }
+    }
+    unreachable!()
+}
+
 /// Writes over a part of an object wherever it is: a far one is brought in first, but where the
 /// write would be declined by the object's length or version, which are looked at. Where it can't
 /// be brought in the answer is why.
@@ -210,7 +252,7 @@ fn no_room(config: Config, loose: u32, nodes: u32) -> Reply
 }
 
 /// Whether a reply is that the object is far.
-fn is_not_here(reply: &Reply) -> bool
+pub(crate) fn is_not_here(reply: &Reply) -> bool
     ensures yes { result ≡ true → reply.now ≡ answer.NotHere }
     ensures other { result ≡ false → reply.now ≡ answer.NotHere → ⊥ }
 {

@@ -1,7 +1,7 @@
 ghost use Rattle.std.specs.Prelude.{◌<◌, IfOk, OnErr};
 ghost use Rattle.cb_world.specs.World.{IsSoundWorld};
 ghost use Rattle.cb_core.specs.Events.{IsAtomic, IsEvent};
-ghost use Rattle.cb_core.specs.Jobs.{IsJob};
+ghost use Rattle.cb_core.specs.Jobs.{IsJob, NeedsNoOrder};
 ghost use Rattle.cb_core.specs.Run.{IsOnlyStep, LeavesAsBefore};
 ghost use Rattle.cb_core.specs.Step.{AtomicStep, AtomicStops, EventStops, SeatTurn, Step, TurnStep, TurnStops};
 ghost use Rattle.cb_core.specs.Unavailable.{TellsUnavailable};
@@ -80,6 +80,7 @@ fn seat_turn(alloc: Global, world: &mut World, seat: u32, job: &Job) -> Result<R
     requires sound { IsSoundWorld world.old }
     requires seat { seat < 64 }
     requires job { IsJob world.old.desk.settings job.now }
+    requires order { NeedsNoOrder job.now }
     ensures step { IfOk result (λ reply. SeatTurn seat job.now world.old reply world.new) }
     ensures sound { IsSoundWorld world.new }
     ensures error { OnErr result (EventStops world.old (Event.Turn seat job.now) world.new) }
@@ -94,6 +95,7 @@ fn seat_turn(alloc: Global, world: &mut World, seat: u32, job: &Job) -> Result<R
 fn turn_step(alloc: Global, world: &mut World, job: &Job) -> Result<Reply, NoMemory>
     requires sound { IsSoundWorld world.old }
     requires job { IsJob world.old.desk.settings job.now }
+    requires order { NeedsNoOrder job.now }
     ensures step { IfOk result (λ reply. TurnStep job.now world.old reply world.new) }
     ensures sound { IsSoundWorld world.new }
     ensures error { OnErr result (TurnStops job.now world.old world.new) }

@@ -5,7 +5,7 @@ ghost use Rattle.cb_world.specs.declared.shown.Shown.{Shown};
 ghost use Rattle.cb_world.specs.Pairs.{HoldsNoPair};
 ghost use Rattle.cb_world.specs.Sound.{Sound};
 ghost use Rattle.cb_world.specs.World.{AreCounted, IsConfigured};
-ghost use Rattle.cb_core.specs.Jobs.{IsJob};
+ghost use Rattle.cb_core.specs.Jobs.{IsJob, NeedsNoOrder};
 ghost use Rattle.cb_core.specs.TurnLeaves.{OutcomeWrites, TurnLeaves};
 ghost use Rattle.cb_core.specs.Unavailable.{TurnTells};
 ghost use Rattle.cb_core.specs.Turned.{Does, Stops, Turned, Stopped, counted, ReadLacks, Reads};
@@ -36,9 +36,9 @@ pub const MOST_TURNS: u64 = 1 << 40;
 /// its home is a set that has lost more shards than it has parities, with the set and all that it
 /// lost. A read is `bring_to_read` and then a read of the object, where it is here. A filter, a
 /// rebuild, a compaction and the steps of an eviction (begin, ship, commit, abort) and of a joining
-/// pair (pair, patch, merge, part) win no room: each is one part alone. Where there is no memory,
-/// the turn is counted and what its parts did before stays; a commit, an abort and a parting take
-/// none.
+/// pair (pair, patch, merge, part) win no room: each is one part alone. A job that hands an order
+/// out or takes one is none of these: it has a call of its own. Where there is no memory, the turn
+/// is counted and what its parts did before stays; a commit, an abort and a parting take none.
 pub fn turn<D: Desk>(
     alloc: Global,
     desk: &mut D,
@@ -48,6 +48,7 @@ pub fn turn<D: Desk>(
     requires config { IsAccepted (D.settings desk.old) }
     requires configured { IsConfigured (D.settings desk.old) far.old }
     requires job { IsJob (D.settings desk.old) job.now }
+    requires order { NeedsNoOrder job.now }
     requires counted { AreCounted far.old }
     requires sound { (s : Shown) × D.shows desk.old s × Sound s far.old }
     ensures turned { IfOk result (λ reply. Turned (λ d es e. D.run d es e) (λ d s. D.shows d s)
@@ -89,6 +90,7 @@ fn work<D: Desk>(alloc: Global, desk: &mut D, far: &mut Far, job: &Job) -> Resul
     requires config { IsAccepted (D.settings desk.old) }
     requires configured { IsConfigured (D.settings desk.old) far.old }
     requires job { IsJob (D.settings desk.old) job.now }
+    requires order { NeedsNoOrder job.now }
     requires counts { (far.old.counts.sets + 2 ^ 18 < 2 ^ 62)
         × (far.old.counts.keys + 2 ^ 18 < 2 ^ 62) }
     requires given { far.old.nodes.given + 16 < 2 ^ 64 }
@@ -125,5 +127,6 @@ fn work<D: Desk>(alloc: Global, desk: &mut D, far: &mut Far, job: &Job) -> Resul
         Job::Merge => compact_commit(desk, far),
         Job::Part => compact_part(desk, far),
         Job::Compact => compact_now(desk, far),
+        Job::Gather | Job::Install | Job::Fetch { .. } | Job::Land => unreachable!(),
     }
 }

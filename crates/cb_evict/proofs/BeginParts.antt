@@ -1,8 +1,9 @@
 -- The parts of a begin one after another.
-use Rattle.std.proofs.Common.{◌≡◌, ◌⊎◌, ℕ, List, [], replicate, Option, Some, None, sym, refl, ap, ◌∙◌, subst, inl, inr}
+use Rattle.std.proofs.Common.{◌≡◌, ◌⊎◌, ℕ, Bool, true, List, [], replicate, Option, Some, None, sym, refl, ap, ◌∙◌, subst, inl, inr}
 use Rattle.std.specs.Option.{option_map}
 use Rattle.cb_member.specs.declared.names.Shard.{Shard}
 use Rattle.cb_types.specs.declared.handle.SetId.{SetId}
+use Rattle.cb_types.specs.declared.order.EncodeOrder.{EncodeOrder}
 use Rattle.cb_types.specs.declared.reply.Reply.{Reply}
 use Rattle.cb_types.specs.declared.reply.Reply.TheVariants as answer
 use Rattle.cb_world.specs.declared.event.Event.{Event}
@@ -11,6 +12,7 @@ use Rattle.cb_world.specs.declared.shown.Shown.{Shown}
 use Rattle.cb_world.specs.Choices.{room_count}
 use Rattle.cb_world.specs.FarState.{FarState}
 use Rattle.cb_world.specs.Leaving.{LeavingState}
+use Rattle.cb_world.specs.Orders.{IsEncodeKept}
 use Rattle.cb_world.specs.Performs.{Performs}
 use Rattle.cb_world.specs.Played.{played}
 use Rattle.cb_world.specs.Sound.{Sound}
@@ -18,9 +20,12 @@ use Rattle.cb_evict.specs.EvictEffect.{EvictEffect}
 use Rattle.cb_evict.specs.EvictRule.{HasFewSpans, HasFewNodes, HasBoth, EvictRule}
 use Rattle.cb_evict.specs.declared.eviction.Eviction.{Eviction}
 use Rattle.cb_evict.specs.Eviction.{reply_of}
-use Rattle.cb_evict.specs.BeginRule.{HasBegun, HasBatch, BeginRule}
+use Rattle.cb_evict.specs.BeginRule.{HasBatch, BeginRule, BeginsBy}
 use Rattle.cb_evict.specs.BeginEffect.{BeginEffect}
-use Rattle.cb_evict.specs.Beginning.{BeginsClaimed}
+use Rattle.cb_evict.specs.Beginning.{BeginsClaimed, HasOrdered}
+use Rattle.cb_evict.specs.declared.gathering.Gathered.{Gathered}
+use Rattle.cb_evict.specs.declared.gathering.Gathered.TheVariants as gathered
+use Rattle.cb_evict.specs.Gathering.{GatherEffect, HandsOut, gathered_reply}
 use Rattle.cb_evict.specs.Lengths.{most_loose}
 use Rattle.cb_evict.specs.Taking.{AreLooseNow, TakesEnough, TakesFew}
 use Rattle.cb_evict.proofs.CallParts.{Joins}
@@ -76,9 +81,10 @@ nodes_refusal n r e = record {
   no_batch = λ id f. nodes_batch n r id e f;
 }
 
-refused_rule : (far : FarState) (r : Reply) (es : List Event)
-    → far.leaving ≡ None → IsFrontRefusal r → EvictRule far far r es → BeginRule far far r es
-refused_rule far r es none off x = inr (record {
+refused_rule : (far : FarState) (made : Bool) (so : List (List ℕ) → Type 0) (r : Reply)
+    (es : List Event) → far.leaving ≡ None → IsFrontRefusal r → EvictRule far far r es
+    → BeginsBy far far made so r es
+refused_rule far made so r es none off x = inr (record {
   none = none;
   loose = x.loose;
   found = x.found;
@@ -89,27 +95,35 @@ refused_rule far r es none off x = inr (record {
     by : HasFewSpans far far r x.loose ⊎ (HasFewNodes far far r x.loose
         ⊎ HasBoth far far r x.loose es)
         → HasFewSpans far far r x.loose ⊎ (HasFewNodes far far r x.loose
-        ⊎ HasBatch far far r x.loose es)
+        ⊎ HasBatch far far made so r x.loose es)
     by (inl a) = inl a
     by (inr (inl a)) = inr (inl a)
     by (inr (inr a)) = absurd (off.no_set (record { n = far.counts.sets }) a.reply)
 
+-- a refusal hands out no order
+answer_order : (r : Reply) (o : EncodeOrder) → gathered.Answer r ≡ gathered.Order o → ⊥
+answer_order r o e = cc
+
 refused_effect : (far : FarState) (r : Reply) (es : List Event) (s t : Shown) → IsFrontRefusal r
-    → EvictEffect far far r es s t → BeginEffect far far r es s t
+    → EvictEffect far far r es s t → GatherEffect far far (gathered.Answer r) es s t
 refused_effect far r es s t off x = record {
-  begun = λ id e. absurd (off.no_batch id e);
-  left = λ e. x.left off.no_set;
+  did = record {
+    begun = λ id e. absurd (off.no_batch id e);
+    left = λ e. x.left off.no_set;
+  };
+  kept = λ o e. absurd (answer_order r o e);
 }
 
-pub refuses : (far : FarState) (r : Reply) (runs : List Event → Type 0)
+pub refuses : (far : FarState) (made : Bool) (r : Reply) (runs : List Event → Type 0)
     (knows sound : Shown → Type 0) → far.leaving ≡ None → IsFrontRefusal r
     → Performs runs knows (EvictRule far far r) sound (EvictEffect far far r)
-    → Performs runs knows (BeginRule far far r) sound (BeginEffect far far r)
-refuses far r runs knows sound none off x = record {
+    → Performs runs knows (BeginsBy far far made (HandsOut far (gathered.Answer r)) r) sound
+    (GatherEffect far far (gathered.Answer r))
+refuses far made r runs knows sound none off x = record {
   events = x.events;
   ran = x.ran;
   looks_first = x.looks_first;
-  rule = refused_rule far r x.events none off x.rule;
+  rule = refused_rule far made (HandsOut far (gathered.Answer r)) r x.events none off x.rule;
   allowed = x.allowed;
   sound_after = x.sound_after;
   effect = λ s k. refused_effect far r x.events s (played x.events s) off (x.effect s k);
@@ -120,26 +134,29 @@ few_refusal : (far : FarState) (r : Reply) (loose : List ℕ)
 few_refusal far r loose (inl a) = spans_refusal (most_loose far.spans loose) r a.reply
 few_refusal far r loose (inr a) = nodes_refusal (room_count far.nodes far.members) r a.reply
 
-pub begin_few : (far : FarState) (r : Reply) (e : Eviction)
+pub begin_few : (far : FarState) (made : Bool) (r : Reply) (e : Eviction)
     (runs : List Event → Type 0) (shows : Shown → Type 0) → far.leaving ≡ None → r ≡ reply_of e
     → TakesFew runs shows far (AreLooseNow far) e
-    → Performs runs (λ s. shows s × Sound s far) (BeginRule far far r) (λ t. Sound t far)
-    (BeginEffect far far r)
-begin_few far r e runs shows none is x =
-    refuses far r runs (λ s. shows s × Sound s far) (λ t. Sound t far) none
+    → Performs runs (λ s. shows s × Sound s far)
+    (BeginsBy far far made (HandsOut far (gathered.Answer r)) r) (λ t. Sound t far)
+    (GatherEffect far far (gathered.Answer r))
+begin_few far made r e runs shows none is x =
+    refuses far made r runs (λ s. shows s × Sound s far) (λ t. Sound t far) none
     (subst IsFrontRefusal (sym is) (few_refusal far (reply_of e) x.loose x.few))
     (replied far far e r runs (λ s. shows s × Sound s far) (λ t. Sound t far) is
     (takes_few far e runs shows x))
 
 -- ---- a batch is leaving already
-pub begins_not : (far : FarState) (r : Reply) (id : SetId)
+pub begins_not : (far : FarState) (made : Bool) (r : Reply) (id : SetId)
     (runs : List Event → Type 0) (knows : Shown → Type 0)
     → option_map number_of far.leaving ≡ Some id → r ≡ answer.Leaving id → runs []
-    → Performs runs (λ s. knows s × Sound s far) (BeginRule far far r) (λ t. Sound t far)
-    (BeginEffect far far r)
-begins_not far r id runs knows e is ran =
+    → Performs runs (λ s. knows s × Sound s far)
+    (BeginsBy far far made (HandsOut far (gathered.Answer r)) r) (λ t. Sound t far)
+    (GatherEffect far far (gathered.Answer r))
+begins_not far made r id runs knows e is ran =
     let b = some_leaving far.leaving id e in
-    does_nothing runs knows far far (BeginRule far far r) (BeginEffect far far r) ran refl
+    does_nothing runs knows far far (BeginsBy far far made (HandsOut far (gathered.Answer r)) r)
+    (GatherEffect far far (gathered.Answer r)) ran refl
     (inl (record {
       batch = b.0;
       there = b.1;
@@ -148,23 +165,35 @@ begins_not far r id runs knows e is ran =
       nothing = refl;
     }))
     (λ s. record {
-      begun = λ other f. absurd (leaving_batch id other r is f);
-      left = λ f. still_none s;
+      did = record {
+        begun = λ other f. absurd (leaving_batch id other r is f);
+        left = λ f. still_none s;
+      };
+      kept = λ o f. absurd (answer_order r o f);
     })
 
 -- ---- k spans were claimed and are leaving from here
+same_order : (o q : EncodeOrder) → gathered.Order o ≡ gathered.Order q → o ≡ q
+same_order o q e = cc
+
 pub takes_begin : {runsA runsB runsC : List Event → Type 0} {showsA showsB : Shown → Type 0}
-    {far new : FarState} {frames : List ℕ} {formers : List Former} (r : Reply)
-    → Joins runsA runsB runsC showsA showsB
+    {far new : FarState} {made : Bool} {o : EncodeOrder} {frames : List ℕ}
+    {formers : List Former} → Joins runsA runsB runsC showsA showsB
     → TakesEnough runsA showsA far (AreLooseNow far) frames formers
-    → BeginsClaimed runsB showsB far new frames formers
-    → far.leaving ≡ None → r ≡ answer.Batch (record { n = far.counts.sets })
-    → (s : Shown) × showsA s × Sound s far
-    → Performs runsC (λ s. showsA s × Sound s far) (BeginRule far new r) (λ t. Sound t new)
-    (BeginEffect far new r)
-takes_begin {far = far} {new = new} r j x y none is (s, knows, sound) =
+    → BeginsClaimed runsB showsB far new made o frames formers
+    → far.leaving ≡ None → (s : Shown) × showsA s × Sound s far
+    → Performs runsC (λ s. showsA s × Sound s far)
+    (BeginsBy far new made (HandsOut far (gathered.Order o)) (gathered_reply (gathered.Order o)))
+    (λ t. Sound t new) (GatherEffect far new (gathered.Order o))
+takes_begin {far = far} {new = new} {made = made} {o = o} j x y none (s, knows, sound) =
     let all = all_tried j x y in
-    tried_end j x y (BeginRule far new r) (BeginEffect far new r)
+    let begun = subst (λ (l : List ℕ). HasOrdered far new made o l all.events) x.first
+    (ended_from j x y s knows sound).rule in
+    let is : gathered_reply (gathered.Order o) ≡ answer.Batch (record { n = far.counts.sets }) =
+    ap (λ (q : EncodeOrder). answer.Batch (record { n = q.set })) begun.order in
+    tried_end j x y
+    (BeginsBy far new made (HandsOut far (gathered.Order o)) (gathered_reply (gathered.Order o)))
+    (GatherEffect far new (gathered.Order o))
     (inr (record {
       none = none;
       loose = x.loose;
@@ -174,12 +203,60 @@ takes_begin {far = far} {new = new} r j x y none is (s, knows, sound) =
         longest = x.longest;
         room = x.room;
         reply = is;
-        begun = subst (λ (l : List ℕ). HasBegun far new l all.events) x.first
-            (ended_from j x y s knows sound).rule;
+        begun = begun.begun;
+        given = ap gathered.Order begun.order;
       }));
       touches = all.touches;
     }))
     (λ a b did. record {
-      begun = λ id e. did;
-      left = λ off. absurd (off (record { n = far.counts.sets }) is);
+      did = record {
+        begun = λ id e. did.begun;
+        left = λ off. absurd (off (record { n = far.counts.sets }) is);
+      };
+      kept = λ q e. subst (IsEncodeKept b new) (same_order o q e) did.kept;
+    })
+
+-- ---- a begin, which forgets the order
+begun_as : (far new : FarState) (made : Bool) (so : List (List ℕ) → Type 0) (r : Reply)
+    (es : List Event) → BeginsBy far new made so r es
+    → BeginsBy far new made (λ rows. Unit {0}) r es
+begun_as far new made so r es (inl a) = inl a
+begun_as far new made so r es (inr a) = inr (record {
+  none = a.none;
+  loose = a.loose;
+  found = a.found;
+  answered = by a.answered;
+  touches = a.touches;
+})
+  where
+    by : HasFewSpans far new r a.loose ⊎ (HasFewNodes far new r a.loose
+        ⊎ HasBatch far new made so r a.loose es)
+        → HasFewSpans far new r a.loose ⊎ (HasFewNodes far new r a.loose
+        ⊎ HasBatch far new made (λ rows. Unit {0}) r a.loose es)
+    by (inl b) = inl b
+    by (inr (inl b)) = inr (inl b)
+    by (inr (inr b)) = inr (inr (record {
+      pages = b.pages;
+      longest = b.longest;
+      room = b.room;
+      reply = b.reply;
+      begun = b.begun;
+      given = tt;
+    }))
+
+pub forgets : (far new : FarState) (g : Gathered) (r : Reply) (runs : List Event → Type 0)
+    (knows sound : Shown → Type 0) → r ≡ gathered_reply g
+    → Performs runs knows (BeginsBy far new true (HandsOut far g) (gathered_reply g)) sound
+    (GatherEffect far new g)
+    → Performs runs knows (BeginRule far new r) sound (BeginEffect far new r)
+forgets far new g r runs knows sound is x =
+    subst (λ (q : Reply). Performs runs knows (BeginRule far new q) sound (BeginEffect far new q))
+    (sym is) (record {
+      events = x.events;
+      ran = x.ran;
+      looks_first = x.looks_first;
+      rule = begun_as far new true (HandsOut far g) (gathered_reply g) x.events x.rule;
+      allowed = x.allowed;
+      sound_after = x.sound_after;
+      effect = λ s k. (x.effect s k).did;
     })

@@ -1,12 +1,12 @@
 -- Claimed spans begin to leave.
-use Rattle.std.proofs.Common.{◌≡◌, ◌≢◌, ℕ, ◌+◌, ◌*◌, Bool, true, false, cond, List, [], ◌++◌, length, get_or, replicate, Option, None, Some, sym, refl, ap, ◌∙◌, subst, arith, inl, inr}
+use Rattle.std.proofs.Common.{◌≡◌, ◌≢◌, ℕ, ◌+◌, ◌*◌, ◌<◌, Bool, true, false, cond, List, [], ◌++◌, length, get_or, replicate, Option, None, Some, sym, refl, ap, ◌∙◌, subst, arith, inl, inr}
 use Rattle.std.specs.List.{Contains, slice_get}
 use Rattle.std.specs.FinMap as map
 use Rattle.std.specs.Cmp.{nat_cmp_total}
 use Rattle.std.specs.Ordering.{nat_cmp, eq_by_cmp}
 use Rattle.std.proofs.lemmas.Bool.{cases_eq}
 use Rattle.std.proofs.lemmas.Bool.Decides.{nat_tests}
-use Rattle.std.proofs.lemmas.List.{get_or_append_left, length-map, length-replicate, get_or-replicate}
+use Rattle.std.proofs.lemmas.List.{get_or_append_left, get_or-map, length-map, length-replicate, get_or-replicate}
 use Rattle.std.proofs.lemmas.Option.{slice_get_within, get_or_from_slice_get}
 use Rattle.cb_member.specs.declared.names.Shard.{Shard}
 use Rattle.cb_set.specs.SetState.{SetState}
@@ -19,7 +19,7 @@ use Rattle.cb_world.specs.declared.object.Object.TheVariants as is
 use Rattle.cb_world.specs.declared.shown.Shown.{Shown}
 use Rattle.cb_world.specs.Shown.{object_at}
 use Rattle.cb_world.specs.FarState.{FarState, handle_in}
-use Rattle.cb_world.specs.FarSound.{IsShardOf, Owner, of_set, of_leaving, of_joining, AwaySound, FarSound, IsBatch}
+use Rattle.cb_world.specs.FarSound.{IsShardOf, Owner, of_set, of_leaving, of_joining, AwaySound, FarSound, IsBatch, rows_in}
 use Rattle.cb_world.specs.Homes.{home_at}
 use Rattle.cb_world.specs.Join.{IsFresh}
 use Rattle.cb_world.specs.Joining.{JoiningState}
@@ -28,14 +28,17 @@ use Rattle.cb_world.specs.LocalSound.{LiesAt}
 use Rattle.cb_world.specs.Looks.{NoLook, told_by}
 use Rattle.cb_world.specs.Memory.{window}
 use Rattle.cb_world.specs.Now.{broken_set, broken_home, now_as}
+use Rattle.cb_world.specs.Orders.{IsEncodeKept}
 use Rattle.cb_world.specs.Reserved.{IsReserved, set_from}
 use Rattle.cb_world.specs.RowWords.{row_of}
+use Rattle.cb_world.specs.StillDesk.{window_length}
 use Rattle.cb_world.specs.Sets.{Kept, SetMap, set_in, if_committed}
 use Rattle.cb_world.specs.Sound.{Sound, AreNoted, IsLeaving}
 use Rattle.cb_world.specs.Written.{Writes}
-use Rattle.cb_world.proofs.Laws.{some_same, found_more, stands_still, survey_stays}
-use Rattle.cb_evict.specs.BeginRule.{blank_shards, blank_shard, new_batch, with_batch, HasBegun}
+use Rattle.cb_world.proofs.Laws.{some_same, found_more, row_length, stands_still, survey_stays}
+use Rattle.cb_evict.specs.BeginRule.{blank_shards, blank_shard, new_batch, no_parities, with_batch, HasBegun}
 use Rattle.cb_evict.specs.BeginEffect.{IsBatchBegun}
+use Rattle.cb_evict.specs.Gathering.{order_for}
 use Rattle.cb_evict.proofs.Group.{either, here_beside, out_none, unique}
 use Rattle.cb_evict.proofs.TakenGroup.{AreRowsCoded, frame_rows, group_range, group_word, now_told, row_at_frame, rows_told, span_word, taken_group, told_one}
 use Rattle.cb_evict.proofs.Options.{none_some}
@@ -192,10 +195,10 @@ module _ (t : Shown) (far : FarState) (set : SetState) (batch : LeavingState)
       }
 
 -- ---- the batch
-module _ (far : FarState) (frames : List ℕ) (formers : List Former)
+module _ (far : FarState) (frames : List ℕ) (formers : List Former) (made : Bool)
     (parities : List (List ℕ)) (before : List Event) (s t : Shown)
-    (d : AreRowsCoded far frames formers parities before s t) (none : far.leaving ≡ None) where
-  no_shard : NoneNamed (new_batch far d.taken.pages frames formers parities)
+    (d : AreRowsCoded far frames formers made parities before s t) (none : far.leaving ≡ None) where
+  no_shard : NoneNamed (new_batch far d.taken.pages frames formers made parities)
   no_shard p shard at =
       let n = far.code.k + far.code.r in
       let all : List (Option Shard) = replicate n None in
@@ -204,24 +207,25 @@ module _ (far : FarState) (frames : List ℕ) (formers : List Former)
       none_some shard (sym (get_or-replicate n p None None (omega (arith, within, count)))
       ∙ get_or_from_slice_get all p (Some shard) None at)
 
-  is_batch : IsBatch t (with_batch far d.taken.pages frames formers parities)
-      (new_batch far d.taken.pages frames formers parities)
+  is_batch : IsBatch t (with_batch far d.taken.pages frames formers made parities)
+      (new_batch far d.taken.pages frames formers made parities)
   is_batch = record {
-    word = group_word far frames formers parities before s t d;
-    count = let n : length (new_batch far d.taken.pages frames formers parities).shards ≡ far.code.k + far.code.r =
+    word = group_word far frames formers made parities before s t d;
+    bare = λ yet p shard at. absurd (no_shard p shard at);
+    count = let n : length (new_batch far d.taken.pages frames formers made parities).shards ≡ far.code.k + far.code.r =
         length-replicate {A = Option Shard} (far.code.k + far.code.r) None in
         omega (arith, n, d.taken.count, d.few);
     put = λ p shard at lost. absurd (no_shard p shard at);
     apart = λ p q a b at there same. absurd (no_shard p a at);
   }
 
-  reserved : IsReserved (with_batch far d.taken.pages frames formers parities)
-      (new_batch far d.taken.pages frames formers parities)
+  reserved : IsReserved (with_batch far d.taken.pages frames formers made parities)
+      (new_batch far d.taken.pages frames formers made parities)
   reserved = record {
     drawn = omega arith;
     unpaired = λ pair there. let less = (d.sound.away.join pair there).drawn in
         (λ same. omega (arith, less.0, same), λ same. omega (arith, less.1, same));
-    range = group_range far frames formers parities before s t d;
+    range = group_range far frames formers made parities before s t d;
     blank = blank_shards (far.code.k + far.code.r);
     places = length-replicate (far.code.k + far.code.r) blank_shard
         ∙ sym (length-replicate {A = Option Shard} (far.code.k + far.code.r) None);
@@ -229,9 +233,9 @@ module _ (far : FarState) (frames : List ℕ) (formers : List Former)
         (set_from far.counts.sets d.taken.pages (blank_shards (far.code.k + far.code.r)) far.spans frames);
   }
 
-  noted : AreNoted t (with_batch far d.taken.pages frames formers parities)
-      (new_batch far d.taken.pages frames formers parities)
-  noted = let g = taken_group far frames formers parities before s t d in record {
+  noted : AreNoted t (with_batch far d.taken.pages frames formers made parities)
+      (new_batch far d.taken.pages frames formers made parities)
+  noted = let g = taken_group far frames formers made parities before s t d in record {
     apart = d.taken.apart;
     held = g.held;
     each = λ f slot h span x there named.
@@ -243,10 +247,10 @@ module _ (far : FarState) (frames : List ℕ) (formers : List Former)
 
   -- a claimed object stands in one of the frames
   leaves_one : (h len place v : ℕ) (words : List ℕ) → object_at t h ≡ is.Claimed len place v words
-      → IsLeaving t (with_batch far d.taken.pages frames formers parities) h len place words
+      → IsLeaving t (with_batch far d.taken.pages frames formers made parities) h len place words
   leaves_one h len place v words e =
-      let batch = new_batch far d.taken.pages frames formers parities in
-      let g = taken_group far frames formers parities before s t d in
+      let batch = new_batch far d.taken.pages frames formers made parities in
+      let g = taken_group far frames formers made parities before s t d in
       elim (either t far batch g h) [
         | inl x ↦
             let lies : LiesAt (object_at t h) len place =
@@ -258,7 +262,7 @@ module _ (far : FarState) (frames : List ℕ) (formers : List Former)
                   ∙ seat.named,
             ) x.2 in
             record {
-              batch = new_batch far d.taken.pages frames formers parities;
+              batch = new_batch far d.taken.pages frames formers made parities;
               there = refl;
               slot = seat;
               leaves = subst (Contains frames) (sym frame) x.1;
@@ -269,21 +273,21 @@ module _ (far : FarState) (frames : List ℕ) (formers : List Former)
       ]
 
   -- the world is sound then
-  pub sound_begun : Sound t (with_batch far d.taken.pages frames formers parities)
+  pub sound_begun : Sound t (with_batch far d.taken.pages frames formers made parities)
   sound_begun = record {
     here = here_beside t far _ far.nodes _ _ d.here;
-    noted = λ b there. subst (AreNoted t (with_batch far d.taken.pages frames formers parities))
-        (some_same (new_batch far d.taken.pages frames formers parities) b there) noted;
+    noted = λ b there. subst (AreNoted t (with_batch far d.taken.pages frames formers made parities))
+        (some_same (new_batch far d.taken.pages frames formers made parities) b there) noted;
     claimed = leaves_one;
     away = away_begun t far (set_from far.counts.sets d.taken.pages (blank_shards (far.code.k + far.code.r)) far.spans frames)
-        (new_batch far d.taken.pages frames formers parities) none no_shard
-        (taken_group far frames formers parities before s t d).away is_batch;
+        (new_batch far d.taken.pages frames formers made parities) none no_shard
+        (taken_group far frames formers made parities before s t d).away is_batch;
   }
 
   -- ---- last complete contents
   -- the set of an object that is away is another one, and stays
   other_home : (o : Option Home) (h : ℕ) → home_at far.homes h ≡ o
-      → broken_home (with_batch far d.taken.pages frames formers parities) o ≡ broken_home far o
+      → broken_home (with_batch far d.taken.pages frames formers made parities) o ≡ broken_home far o
   other_home None h e = refl
   other_home (Some home) h e =
       let x = d.sound.away.sound.away.home h home e in
@@ -294,9 +298,11 @@ module _ (far : FarState) (frames : List ℕ) (formers : List Former)
       (λ same. omega (arith, less, same)))
 
   -- ---- the rule
-  pub rule_begun : (events : List Event) → ((k : ℕ) → NoLook k events)
-      → HasBegun far (with_batch far d.taken.pages frames formers parities) frames (before ++ events)
-  rule_begun events quiet =
+  abbrev pub rule_begun : (made ≡ false → parities ≡ no_parities far.code.r) → (events : List Event)
+      → ((k : ℕ) → NoLook k events)
+      → HasBegun far (with_batch far d.taken.pages frames formers made parities) made frames
+      (before ++ events)
+  rule_begun bare events quiet =
       let n = length-map frames
       (λ (f : ℕ). row_of (window t.memory (512 * f) (512 * d.taken.pages))) in record {
         pages = d.taken.pages;
@@ -309,14 +315,49 @@ module _ (far : FarState) (frames : List ℕ) (formers : List Former)
         each_once = d.taken.each_once;
         found = λ k e l. let f = get_or formers k e in
             found_more f.handle f.word before events (d.claimed.taken k e l).found (quiet f.handle);
-        contents = rows_told far frames formers parities before s t d events quiet
+        contents = rows_told far frames formers made parities before s t d events quiet
             (frame_rows t d.taken.pages frames)
             (λ p f at. let within = slice_get_within frames p f at in
             sym (get_or_append_left (frame_rows t d.taken.pages frames) parities [] p (omega (arith, n, within)))
-            ∙ row_at_frame far frames formers parities before s t d p f at);
+            ∙ row_at_frame far frames formers made parities before s t d p f at);
         counts = (n ∙ d.taken.count, d.few);
-        word = span_word far frames formers parities before s t d;
+        word = span_word far frames formers made parities before s t d;
+        bare = bare;
         state = refl;
+      }
+
+  -- ---- the order
+  row_long : (p : ℕ) (e : List ℕ) → p < length frames
+      → length (get_or (frame_rows t d.taken.pages frames) p e) ≡ 4096 * d.taken.pages
+  row_long p e within =
+      let count = 512 * d.taken.pages in
+      let row = λ (f : ℕ). row_of (window t.memory (512 * f) count) in
+      let ws = window t.memory (512 * get_or frames p 0) count in
+      ap (λ (l : List ℕ). length l) (get_or-map row frames p 0 e within)
+      ∙ row_length ws ∙ ap (λ (i : ℕ). 8 * i) (window_length t.memory (512 * get_or frames p 0) count)
+      ∙ (let e : 8 * (512 * d.taken.pages) ≡ 4096 * d.taken.pages = omega arith in e)
+
+  -- the order of its rows is kept then
+  pub order_kept : IsEncodeKept t (with_batch far d.taken.pages frames formers made parities)
+      (order_for far (frame_rows t d.taken.pages frames))
+  order_kept =
+      let row = λ (f : ℕ). row_of (window t.memory (512 * f) (512 * d.taken.pages)) in
+      let n = length-map frames row in
+      let batch = new_batch far d.taken.pages frames formers made parities in
+      record {
+        fits = record {
+          range = d.range;
+          count = n ∙ d.taken.count;
+          lengths = λ p e l. row_long p e (omega (arith, l, n))
+              ∙ sym (row_long 0 [] (omega (arith, l, n)));
+        };
+        drawn = omega arith;
+        code = λ b there same. let e = some_same batch b there in (
+          sym d.taken.count ∙ ap (λ (x : LeavingState). length x.frames) e,
+          sym d.few ∙ ap (λ (x : LeavingState). length x.parities) e,
+        );
+        rows = λ b there same. ap (λ (x : LeavingState). rows_in t x.pages x.frames)
+            (some_same batch b there);
       }
 
   -- ---- the effect
@@ -326,9 +367,9 @@ module _ (far : FarState) (frames : List ℕ) (formers : List Former)
       → t.versions ≡ (told_by (before ++ events) s).versions
       → t.memory ≡ (told_by (before ++ events) s).memory
       → Writes (before ++ events) s []
-      → IsBatchBegun far (with_batch far d.taken.pages frames formers parities) (before ++ events) s t
+      → IsBatchBegun far (with_batch far d.taken.pages frames formers made parities) (before ++ events) s t
   effect_begun events quiet hots objects versions memory nothing = record {
-    claimed = λ h x. let g = told_one far frames formers parities before s t d events quiet h
+    claimed = λ h x. let g = told_one far frames formers made parities before s t d events quiet h
         x in record {
           word = g.noted.former.word;
           version = g.noted.version;
@@ -338,8 +379,8 @@ module _ (far : FarState) (frames : List ℕ) (formers : List Former)
           was = g.was;
           object = g.noted.claimed;
         };
-    others = λ h out. d.claimed.others h (out_none t far (new_batch far d.taken.pages frames formers parities)
-        (taken_group far frames formers parities before s t d) h out);
+    others = λ h out. d.claimed.others h (out_none t far (new_batch far d.taken.pages frames formers made parities)
+        (taken_group far frames formers made parities before s t d) h out);
     hots = hots;
     first = d.claimed.keeps.first;
     objects = d.claimed.keeps.objects;
@@ -348,7 +389,7 @@ module _ (far : FarState) (frames : List ℕ) (formers : List Former)
     nothing = nothing;
     same_now = λ h.
         ap (λ (b : Bool). now_as t h b (object_at t h)) (other_home (home_at far.homes h) h refl)
-        ∙ now_told far frames formers parities before s t d (told_by (before ++ events) s) h
+        ∙ now_told far frames formers made parities before s t d (told_by (before ++ events) s) h
         objects
         versions memory;
   }

@@ -1,5 +1,5 @@
 -- The sound world once its leaving batch is committed.
-use Rattle.std.proofs.Common.{◌≡◌, ◌⊎◌, ℕ, ◌<◌, true, false, List, length, get_or, Option, Some, sym, ap, ◌∙◌, arith, inl, inr}
+use Rattle.std.proofs.Common.{◌≡◌, ◌⊎◌, ℕ, ◌+◌, ◌<◌, Bool, true, false, List, length, get_or, Option, Some, sym, refl, ap, ◌∙◌, arith, inl, inr}
 use Rattle.std.specs.List.{slice_get}
 use Rattle.std.specs.FinMap as map
 use Rattle.std.proofs.lemmas.Option.{slice_get-get_or}
@@ -19,6 +19,7 @@ use Rattle.cb_world.specs.Reserved.{put_shards, set_from, without_batch}
 use Rattle.cb_world.specs.Sets.{SetMap}
 use Rattle.cb_world.specs.Sound.{AreNoted, Sound}
 use Rattle.cb_world.proofs.Laws.{put_at, gone_sets, reserved_uncommitted, drop_count, drop_elsewhere}
+use Rattle.cb_evict.specs.BeginRule.{blank_shard}
 use Rattle.cb_evict.specs.Closing.{HaveHomes, with_homes}
 use Rattle.cb_evict.specs.CommitRule.{with_committed}
 use Rattle.cb_evict.specs.Committing.{AreAllPut}
@@ -72,6 +73,22 @@ module _ (s t : Shown) (far : FarState) (batch : LeavingState) (homes : List (Op
 
   leaving_batch : IsBatch s far batch
   leaving_batch = d.sound.away.sound.batch batch d.there
+
+  -- a parity is put, so they are made
+  made : batch.made ≡ true
+  made = by batch.made refl
+    where
+      by : (b : Bool) → batch.made ≡ b → batch.made ≡ true
+      by true e = e
+      by false e =
+          let shards = put_shards batch.shards in let k = length batch.frames in
+          let range = noted.reserved.range in let least = range.parities_least in
+          let count = put_count batch.shards d.all in
+          let within : k < length shards = omega (arith, count, leaving_batch.count, least) in
+          let shard = get_or shards k blank_shard in
+          let below = leaving_batch.bare e k shard (put_place batch.shards k shard d.all
+          (slice_get-get_or shards k blank_shard within)) in
+          absurd (omega (arith, below))
 
   -- ---- the shards
   mine : (p : ℕ) (shard : Shard) → slice_get (put_shards batch.shards) p ≡ Some shard
@@ -153,7 +170,7 @@ module _ (s t : Shown) (far : FarState) (batch : LeavingState) (homes : List (Op
         sent = d.sent;
         homed = d.homed;
         range = noted.reserved.range;
-        word = leaving_batch.word;
+        word = leaving_batch.word made;
         count = m ∙ leaving_batch.count;
         distinct = distinct;
         current = λ p shard at. rows.current (of_leaving p) shard (mine p shard at);

@@ -1,5 +1,5 @@
 -- The end of an eviction: rows are read and put, objects are put away, or given back.
-use Rattle.std.proofs.Common.{◌≡◌, ℕ, ◌+◌, ◌*◌, ◌^◌, ◌<◌, ◌≤◌, Bool, false, List, [], ◌++◌, length, get_or, All, Option, Some, sym, refl, ap, ◌∙◌, subst, arith}
+use Rattle.std.proofs.Common.{◌≡◌, ℕ, ◌+◌, ◌*◌, ◌^◌, ◌<◌, ◌≤◌, Bool, true, false, List, [], ◌++◌, length, get_or, All, Option, Some, sym, refl, ap, ◌∙◌, subst, arith}
 use Rattle.std.specs.List.{Contains, slice_get}
 use Rattle.std.proofs.lemmas.List.{get_or_default}
 use Rattle.std.proofs.lemmas.List.Elements.{All-contains}
@@ -81,19 +81,19 @@ pub kept_parities : {far mid : FarState} {pages : ℕ} (shards : List Shard) (fr
 kept_parities shards frames n coded count kept =
     record { count = sym kept.count ∙ count; word = kept.word; bytes = kept.bytes }
 
--- what is known once the rows are read and coded
-abbrev pub are_read : (far : FarState) (frames : List ℕ) (formers : List Former)
+-- what is known once the rows are read, and coded where the parities are made
+abbrev pub are_read_by : (far : FarState) (frames : List ℕ) (formers : List Former) (by : Bool)
     (coded parities : List (List ℕ)) (shows : Shown → Type 0) (before : List Event) (s : Shown)
     → IsInRange far.code.k far.code.r → IsReadyToEvict shows far formers before s
-    → (taken : AreSpansTaken far frames formers)
-    → AreParities (length frames) (far.code.k + far.code.r) coded parities → length coded ≡ length frames
+    → (taken : AreSpansTaken far frames formers) → length parities ≡ far.code.r
+    → (by ≡ true → AreParities (length frames) (far.code.k + far.code.r) coded parities)
+    → length coded ≡ length frames
     → ((p f : ℕ) → slice_get frames p ≡ Some f → IsRowOfRun shows f taken.pages (row_at coded p))
-    → AreRowsCoded far frames formers parities before s (played before s)
+    → AreRowsCoded far frames formers by parities before s (played before s)
     × (coded ≡ frame_rows (played before s) taken.pages frames)
-are_read far frames formers coded parities shows before s ok r taken a count made =
+are_read_by far frames formers by coded parities shows before s ok r taken few a count made =
     let t = played before s in
     let owned = owns_taken far frames formers before s t taken r.sound.here r.here r.claimed in
-    let few : length parities ≡ far.code.r = omega (arith, a.count, taken.count) in
     let same : coded ≡ frame_rows t taken.pages frames = rows_read t taken.pages frames coded count (λ p f at.
     let m = made p f at in
     m.made ∙ ap row_of (m.contents t r.shown (owned f (placed frames p f at)))) in (
@@ -104,10 +104,10 @@ are_read far frames formers coded parities shows before s ok r taken a count mad
         taken = taken;
         range = ok;
         few = few;
-        word = subst (λ (rows : List (List ℕ)). IsCodeWord far.code.k far.code.r (rows ++ parities)) same
+        word = λ yes. subst (λ (rows : List (List ℕ)). IsCodeWord far.code.k far.code.r (rows ++ parities)) same
             (subst (λ (n : ℕ). IsCodeWord n far.code.r (coded ++ parities)) taken.count
-            (subst (λ (n : ℕ). IsCodeWord (length frames) n (coded ++ parities)) few a.word));
-        bytes = subst (λ (rows : List (List ℕ)). HoldBytes (rows ++ parities)) same a.bytes;
+            (subst (λ (n : ℕ). IsCodeWord (length frames) n (coded ++ parities)) few (a yes).word));
+        bytes = λ yes. subst (λ (rows : List (List ℕ)). HoldBytes (rows ++ parities)) same (a yes).bytes;
         small = λ f (p, within, at).
             let e : slice_get frames p ≡ Some f =
             slice_get-get_or frames p f within ∙ ap (λ (n : ℕ). Some n) at in
@@ -126,6 +126,19 @@ are_read far frames formers coded parities shows before s ok r taken a count mad
       get_or_from_slice_get frames p f f
           at,
     )
+
+-- so, of rows that are coded
+abbrev pub are_read : (far : FarState) (frames : List ℕ) (formers : List Former)
+    (coded parities : List (List ℕ)) (shows : Shown → Type 0) (before : List Event) (s : Shown)
+    → IsInRange far.code.k far.code.r → IsReadyToEvict shows far formers before s
+    → (taken : AreSpansTaken far frames formers)
+    → AreParities (length frames) (far.code.k + far.code.r) coded parities → length coded ≡ length frames
+    → ((p f : ℕ) → slice_get frames p ≡ Some f → IsRowOfRun shows f taken.pages (row_at coded p))
+    → AreRowsCoded far frames formers true parities before s (played before s)
+    × (coded ≡ frame_rows (played before s) taken.pages frames)
+are_read far frames formers coded parities shows before s ok r taken a count made =
+    are_read_by far frames formers true coded parities shows before s ok r taken
+    (let n = a.count in omega (arith, n, taken.count)) (λ yes. a) count made
 
 -- all that is promised of the events of the end
 pub record Ended (far new : FarState) (frames : List ℕ) (before events : List Event)

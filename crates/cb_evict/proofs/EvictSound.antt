@@ -48,7 +48,7 @@ use Rattle.cb_evict.proofs.Options.{some_none}
 pub record EvictDone (far : FarState) (frames : List ℕ) (formers : List Former)
     (shards : List Shard) (parities : List (List ℕ)) (homes : List (Option Home))
     (before : List Event) (s t u : Shown) : Type 0 where
-  pub read : AreRowsCoded far frames formers parities before s t
+  pub read : AreRowsCoded far frames formers true parities before s t
   pub sent : AreSent t u formers
   pub chosen : AreShards far (far.code.k + far.code.r) shards
   pub homed : HaveHomes far.spans frames far.counts.sets far.homes homes
@@ -71,19 +71,19 @@ module _ (far : FarState) (frames : List ℕ) (formers : List Former)
     (shards : List Shard) (parities : List (List ℕ)) (homes : List (Option Home))
     (before : List Event) (s t u : Shown)
     (d : EvictDone far frames formers shards parities homes before s t u) where
-  put_away : IsGroupPutAway t u far (new_batch far d.read.taken.pages frames formers parities) shards
+  put_away : IsGroupPutAway t u far (new_batch far d.read.taken.pages frames formers true parities) shards
       (new_sets far d.read.taken.pages frames shards) (all_put far.nodes shards (frame_rows t d.read.taken.pages frames ++ parities))
       (new_counts far shards) homes
   put_away =
       let r = d.read in let n = far.code.k + far.code.r in let rows = frame_rows t d.read.taken.pages frames ++ parities in
       let sound = r.sound.away.sound in
       let within = shards_within far n shards d.chosen in
-      let count : length rows ≡ length shards = r.word.count ∙ sym d.chosen.count in record {
-        group = taken_group far frames formers parities before s t r;
+      let count : length rows ≡ length shards = (r.word refl).count ∙ sym d.chosen.count in record {
+        group = taken_group far frames formers true parities before s t r;
         sent = d.sent;
         homed = d.homed;
-        range = group_range far frames formers parities before s t r;
-        word = group_word far frames formers parities before s t r;
+        range = group_range far frames formers true parities before s t r;
+        word = group_word far frames formers true parities before s t r refl;
         count = omega (arith, d.chosen.count, r.taken.count, r.few);
         distinct = shards_distinct far n shards d.chosen;
         current = shards_current far n shards d.chosen sound.rows;
@@ -116,7 +116,7 @@ module _ (far : FarState) (frames : List ℕ) (formers : List Former)
 
   -- the world is sound then
   pub sound_then : Sound u (after_far far d.read.taken.pages frames shards (frame_rows t d.read.taken.pages frames ++ parities) homes)
-  sound_then = sound_away t u far (new_batch far d.read.taken.pages frames formers parities) shards _ _ _ homes
+  sound_then = sound_away t u far (new_batch far d.read.taken.pages frames formers true parities) shards _ _ _ homes
       put_away
 
   -- ---- the rule
@@ -130,9 +130,9 @@ module _ (far : FarState) (frames : List ℕ) (formers : List Former)
     shards = shards;
     rows = frame_rows t d.read.taken.pages frames ++ parities;
     chosen = d.chosen;
-    word = span_word far frames formers parities before s t d.read;
-    contents = rows_told far frames formers parities before s t d.read events quiet _
-        (row_at_frame far frames formers parities before s t d.read);
+    word = span_word far frames formers true parities before s t d.read refl;
+    contents = rows_told far frames formers true parities before s t d.read events quiet _
+        (row_at_frame far frames formers true parities before s t d.read);
     homes = d.homed;
     state = refl;
   }
@@ -150,7 +150,7 @@ module _ (far : FarState) (frames : List ℕ) (formers : List Former)
   not_left : (h : ℕ)
       → (HasLeft far (after_far far d.read.taken.pages frames shards (frame_rows t d.read.taken.pages frames ++ parities) homes) h → ⊥)
       → IsNone formers h
-  not_left h not = out_none t far (new_batch far d.read.taken.pages frames formers parities) put_away.group h
+  not_left h not = out_none t far (new_batch far d.read.taken.pages frames formers true parities) put_away.group h
       (λ (f, x, named). not (f, named, closed_in far.spans frames f x))
 
   -- the row of an object is that of the frame that it left
@@ -173,7 +173,7 @@ module _ (far : FarState) (frames : List ℕ) (formers : List Former)
       (λ i. slice_get (sym set_is i).shards (sym home_is i).position) ∙ is in
       put_away.put x.0 shard shard_is
       ∙ ap (λ (l : List ℕ). Some l)
-      (row_at_frame far frames formers parities before s t d.read x.0 f place
+      (row_at_frame far frames formers true parities before s t d.read x.0 f place
       ∙ ap (λ (ms : List ℕ). row_of (window ms (512 * f) (512 * d.read.taken.pages)))
       (sym d.sent.memory)
       ∙ ap (λ (q : SetState). row_of (window u.memory (512 * f) (512 * q.pages))) (sym set_is))
@@ -188,14 +188,14 @@ module _ (far : FarState) (frames : List ℕ) (formers : List Former)
       (before ++ events) s u
   effect_then events quiet hots objects versions memory nothing = record {
     away = λ h (f, named, gone).
-        let g = told_one far frames formers parities before s t d.read events quiet h
+        let g = told_one far frames formers true parities before s t d.read events quiet h
         (f, in_gone h f named gone, named) in record {
           word = g.noted.former.word;
           version = g.noted.version;
           words = g.noted.words;
           found = g.found;
           told = g.told;
-          object = is_sent t u far (new_batch far d.read.taken.pages frames formers parities) shards _ _ _ homes
+          object = is_sent t u far (new_batch far d.read.taken.pages frames formers true parities) shards _ _ _ homes
               put_away h
               g.noted;
           cold = ap (hot_at u) (sym g.noted.handle)
@@ -211,8 +211,8 @@ module _ (far : FarState) (frames : List ℕ) (formers : List Former)
     rows = rows_then;
     nothing = nothing;
     same_now = λ h.
-        now_away t u far (new_batch far d.read.taken.pages frames formers parities) shards _ _ _ homes put_away h
-        ∙ now_told far frames formers parities before s t d.read (told_by (before ++ events) s) h
+        now_away t u far (new_batch far d.read.taken.pages frames formers true parities) shards _ _ _ homes put_away h
+        ∙ now_told far frames formers true parities before s t d.read (told_by (before ++ events) s) h
         objects (sym d.sent.versions ∙ versions) (sym d.sent.memory ∙ memory);
   }
 

@@ -1,6 +1,6 @@
 -- What an eviction and the steps of a batch leave of the configured sizes and codes, and of what is
 -- counted.
-use Rattle.std.proofs.Common.{◌≡◌, ℕ, ◌+◌, true, false, List, [], ◌∷◌, length, inl, inr, refl, sym, ap, ◌∙◌, subst, arith, length-set, take}
+use Rattle.std.proofs.Common.{◌≡◌, ℕ, ◌+◌, Bool, true, false, List, [], ◌∷◌, length, inl, inr, refl, sym, ap, ◌∙◌, subst, arith, length-set, take}
 use Rattle.std.proofs.lemmas.List.{length-map}
 use Rattle.cb_member.specs.declared.names.Code.{Code}
 use Rattle.cb_member.specs.declared.names.Shard.{Shard}
@@ -24,12 +24,14 @@ use Rattle.cb_world.proofs.Laws.{IsCodeIn, KeepCodes, batch_has, codes_kept, cod
 use Rattle.cb_evict.specs.Lengths.{loose_of}
 use Rattle.cb_evict.proofs.LooseLengths.{taken_count}
 use Rattle.cb_evict.specs.AbortRule.{AbortRule, HasGivenUp}
-use Rattle.cb_evict.specs.BeginRule.{BeginRule, new_batch, with_batch}
+use Rattle.cb_evict.specs.BeginRule.{BeginRule, BeginsBy, new_batch, with_batch}
+use Rattle.cb_evict.specs.declared.gathering.Gathered.{Gathered}
+use Rattle.cb_evict.specs.Gathering.{GatherRule, HandsOut, gathered_reply}
 use Rattle.cb_evict.specs.Closing.{with_homes}
 use Rattle.cb_evict.specs.CommitRule.{CommitRule, HasCommitted}
 use Rattle.cb_evict.specs.EvictRule.{EvictRule}
-use Rattle.cb_evict.specs.EvictStep.{IsEvictStep, few_nodes, few_spans, loose_frames, made}
-use Rattle.cb_evict.specs.ShipRule.{HasShipped, ShipRule, ShipsRow, with_shard_at}
+use Rattle.cb_evict.specs.EvictStep.{IsEvictStep, few_nodes, few_spans, loose_frames, made as set_made}
+use Rattle.cb_evict.specs.ShipRule.{HasShipped, MadeFor, ShipRule, ShipsRow, is_data, made_before, made_here, with_shard_at}
 use Rattle.cb_evict.specs.Storing.{set_for, with_set}
 use Rattle.cb_evict.proofs.Commits.{all_put as all_shards_put}
 use Rattle.cb_evict.proofs.Homing.{length_closed}
@@ -117,14 +119,14 @@ evict_stays c far new r es accepted x = elim x.answered [
 -- ---- a begin
 -- the spans in some frames are leaving: they will be a set of the code in force
 pub batch_codes : (far new : FarState) (pages : ℕ) (frames : List ℕ) (words : List Former)
-    (parities : List (List ℕ)) → length frames ≡ far.code.k → length parities ≡ far.code.r
-    → new ≡ with_batch far pages frames words parities → KeepCodes far new
-batch_codes far new pages frames words parities k r state =
-    subst (KeepCodes far) (sym state) (codes_kept far (with_batch far pages frames words parities) refl
+    (made : Bool) (parities : List (List ℕ)) → length frames ≡ far.code.k
+    → length parities ≡ far.code.r → new ≡ with_batch far pages frames words made parities → KeepCodes far new
+batch_codes far new pages frames words made parities k r state =
+    subst (KeepCodes far) (sym state) (codes_kept far (with_batch far pages frames words made parities) refl
     (codes_put far far.sets far.counts.sets _ (λ committed. absurd (false_true committed))
     (sets_have far))
     (λ b at. subst (λ (l : LeavingState). IsCodeIn far (code_of_batch l))
-    (some_same (new_batch far pages frames words parities) b at) (in_force (λ i. record { k = k i; r = r i })))
+    (some_same (new_batch far pages frames words made parities) b at) (in_force (λ i. record { k = k i; r = r i })))
     (pair_stays far far.joining refl)
     (λ own. own_put far.sets far.counts.sets _ (λ committed. absurd (false_true committed)) own))
   where
@@ -132,14 +134,14 @@ batch_codes far new pages frames words parities k r state =
     false_true e = cc
 
 pub batch_stays : (c : Config) (far new : FarState) (pages : ℕ) (frames : List ℕ) (words : List Former)
-    (parities : List (List ℕ)) → length frames ≡ far.code.k → length parities ≡ far.code.r
-    → new ≡ with_batch far pages frames words parities → StaysIf c 1 far new
-batch_stays c far new pages frames words parities k r state is =
+    (made : Bool) (parities : List (List ℕ)) → length frames ≡ far.code.k
+    → length parities ≡ far.code.r → new ≡ with_batch far pages frames words made parities → StaysIf c 1 far new
+batch_stays c far new pages frames words made parities k r state is =
     let sets : new.counts.sets ≡ far.counts.sets + 1 = ap (λ (f : FarState). f.counts.sets) state in
     let keys : new.counts.keys ≡ far.counts.keys = ap (λ (f : FarState). f.counts.keys) state in
     let epoch : new.members.epoch ≡ far.members.epoch = ap (λ (f : FarState). f.members.epoch) state in
     let given : new.nodes.given ≡ far.nodes.given = ap (λ (f : FarState). f.nodes.given) state in
-    let keep = batch_codes far new pages frames words parities k r state in record {
+    let keep = batch_codes far new pages frames words made parities k r state in record {
       configured = record {
         frames = ap (λ (f : FarState). length f.spans) state ∙ is.frames;
         homes = ap (λ (f : FarState). length f.homes) state ∙ is.homes;
@@ -159,37 +161,53 @@ batch_stays c far new pages frames words parities k r state is =
       };
     }
 
-pub begin_stays : (c : Config) (far new : FarState) (r : Reply) (es : List Event)
-    → BeginRule far new r es → StaysIf c 1 far new
-begin_stays c far new r es (inl z) = stays_same c 1 far new (omega arith) z.state
-begin_stays c far new r es (inr x) = elim x.answered [
+begins_stay : (c : Config) (far new : FarState) (made : Bool) (so : List (List ℕ) → Type 0)
+    (r : Reply) (es : List Event) → BeginsBy far new made so r es → StaysIf c 1 far new
+begins_stay c far new made so r es (inl z) = stays_same c 1 far new (omega arith) z.state
+begins_stay c far new made so r es (inr x) = elim x.answered [
   | inl few ↦ stays_same c 1 far new (omega arith) few.state
   | inr (inl few) ↦ stays_same c 1 far new (omega arith) few.state
   | inr (inr both) ↦ let e = both.begun in
-      batch_stays c far new e.pages _ e.words e.parities (taken_count far.code.k far.spans x.loose both.pages both.longest)
-      e.counts.1
-      e.state
+      batch_stays c far new e.pages _ e.words made e.parities
+      (taken_count far.code.k far.spans x.loose both.pages both.longest) e.counts.1 e.state
 ]
 
+pub begin_stays : (c : Config) (far new : FarState) (r : Reply) (es : List Event)
+    → BeginRule far new r es → StaysIf c 1 far new
+begin_stays c far new r es x = begins_stay c far new true (λ rows. Unit {0}) r es x
+
+pub gather_stays : (c : Config) (far new : FarState) (g : Gathered) (es : List Event)
+    → GatherRule far new g es → StaysIf c 1 far new
+gather_stays c far new g es x =
+    begins_stay c far new false (HandsOut far g) (gathered_reply g) es x
+
 -- ---- a ship
--- the batch keeps its frames and parities
-pub shipped_codes : (far new : FarState) (r : Reply) (row : LeavingState → ℕ → List ℕ)
-    → HasShipped far new r row → KeepCodes far new
-shipped_codes far new r row z =
+-- the batch keeps its code, also where its parities are made
+ready_code : (batch ready : LeavingState) (rows : List (List ℕ)) (p : ℕ)
+    → MadeFor batch rows p ready → code_of_batch ready ≡ code_of_batch batch
+ready_code batch ready rows p (made_before same is) = ap code_of_batch is
+ready_code batch ready rows p (is_data below is) = ap code_of_batch is
+ready_code batch ready rows p (made_here bare behind them x is) =
+    ap code_of_batch is ∙ (λ i. record { k = length batch.frames; r = x.count i })
+
+pub shipped_codes : (far new : FarState) (r : Reply) (rows : LeavingState → List (List ℕ))
+    → HasShipped far new r rows → KeepCodes far new
+shipped_codes far new r rows z =
     subst (KeepCodes far) (sym z.state) (codes_kept far _ refl (sets_have far)
     (λ b at. subst (λ (l : LeavingState). IsCodeIn far (code_of_batch l))
-    (some_same (with_shard_at z.batch z.position z.shard) b at) (of_the_batch z.batch z.there refl))
+    (some_same (with_shard_at z.ready z.position z.shard) b at)
+    (of_the_batch z.batch z.there (ready_code z.batch z.ready (rows z.batch) z.position z.made)))
     (pair_stays far far.joining refl) (λ own. own))
 
-shipped_stays : (c : Config) (far new : FarState) (r : Reply) (row : LeavingState → ℕ → List ℕ)
-    → HasShipped far new r row → StaysIf c 1 far new
-shipped_stays c far new r row z is =
+shipped_stays : (c : Config) (far new : FarState) (r : Reply) (rows : LeavingState → List (List ℕ))
+    → HasShipped far new r rows → StaysIf c 1 far new
+shipped_stays c far new r rows z is =
     let e = z.state in
     let sets : new.counts.sets ≡ far.counts.sets = ap (λ (f : FarState). f.counts.sets) e in
     let keys : new.counts.keys ≡ far.counts.keys + 1 = ap (λ (f : FarState). f.counts.keys) e in
     let epoch : new.members.epoch ≡ far.members.epoch = ap (λ (f : FarState). f.members.epoch) e in
     let given : new.nodes.given ≡ far.nodes.given = ap (λ (f : FarState). f.nodes.given) e in
-    let keep = shipped_codes far new r row z in record {
+    let keep = shipped_codes far new r rows z in record {
       configured = record {
         frames = ap (λ (f : FarState). length f.spans) e ∙ is.frames;
         homes = ap (λ (f : FarState). length f.homes) e ∙ is.homes;
@@ -210,16 +228,16 @@ shipped_stays c far new r row z is =
       };
     }
 
-pub ships_stays : (c : Config) (far new : FarState) (r : Reply) (row : LeavingState → ℕ → List ℕ)
-    → ShipsRow far new r row → StaysIf c 1 far new
-ships_stays c far new r row (inl z) = stays_same c 1 far new (omega arith) z.state
-ships_stays c far new r row (inr (inl z)) = stays_same c 1 far new (omega arith) z.state
-ships_stays c far new r row (inr (inr (inl z))) = stays_same c 1 far new (omega arith) z.state
-ships_stays c far new r row (inr (inr (inr z))) = shipped_stays c far new r row z
+pub ships_stays : (c : Config) (far new : FarState) (r : Reply) (rows : LeavingState → List (List ℕ))
+    → ShipsRow far new r rows → StaysIf c 1 far new
+ships_stays c far new r rows (inl z) = stays_same c 1 far new (omega arith) z.state
+ships_stays c far new r rows (inr (inl z)) = stays_same c 1 far new (omega arith) z.state
+ships_stays c far new r rows (inr (inr (inl z))) = stays_same c 1 far new (omega arith) z.state
+ships_stays c far new r rows (inr (inr (inr z))) = shipped_stays c far new r rows z
 
 pub ship_stays : (c : Config) (far new : FarState) (r : Reply) (es : List Event)
     → ShipRule far new r es → StaysIf c 1 far new
-ship_stays c far new r es x = ships_stays c far new r x.row x.ships
+ship_stays c far new r es x = ships_stays c far new r x.rows x.ships
 
 -- ---- a commit: the set has the code that its batch had
 pub committed_codes : (s : Shown) (far new : FarState) (r : Reply) → Sound s far
@@ -315,7 +333,7 @@ evict_step_stays x y far new r accepted (few_spans few same) =
     stays_same x.settings 24 far new (omega arith) few.state
 evict_step_stays x y far new r accepted (few_nodes few same) =
     stays_same x.settings 24 far new (omega arith) few.state
-evict_step_stays x y far new r accepted (made m) =
+evict_step_stays x y far new r accepted (set_made m) =
     let e = m.evicted in
     made_stays x.settings far new e.pages
     (take far.code.k (loose_of far.spans m.pages (loose_frames x far))) e.shards e.rows accepted

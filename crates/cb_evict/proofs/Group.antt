@@ -116,7 +116,9 @@ quiet_away s t far quiet rows sound = record {
     };
     rows = x.rows;
     batch = λ b there. let y = x.batch b there in let same = sym (rows b there) in record {
-      word = subst (IsSpanWord b.pages (length b.frames) (length b.parities)) same y.word;
+      word = λ made. subst (IsSpanWord b.pages (length b.frames) (length b.parities)) same
+          (y.word made);
+      bare = y.bare;
       count = y.count;
       put = λ p shard at up.
           y.put p shard at up ∙ ap (λ (l : List (List ℕ)). Some (row_at l p)) same;

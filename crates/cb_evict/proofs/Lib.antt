@@ -79,6 +79,8 @@ mod WorkedRules
 pub mod WorkedWide
 pub mod PutShards
 pub mod ShipSound
+pub mod InstallSound
+pub mod Installs
 pub mod ShipParts
 pub mod ShipStep
 pub mod ShipKeeps

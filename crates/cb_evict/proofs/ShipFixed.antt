@@ -1,5 +1,5 @@
 -- A ship is fixed: one reply and one far state.
-use Rattle.std.proofs.Common.{◌≡◌, ℕ, List, Option, None, Some, sym, ap, ◌∙◌, subst, inl, inr}
+use Rattle.std.proofs.Common.{◌≡◌, ℕ, true, false, List, ◌++◌, length, Option, None, Some, sym, ap, ◌∙◌, subst, arith, inl, inr}
 use Rattle.cb_gf256.specs.Rows.{row_at}
 use Rattle.cb_member.specs.declared.names.Shard.{Shard}
 use Rattle.cb_member.specs.Membership.{incarnation}
@@ -9,18 +9,46 @@ use Rattle.cb_world.specs.Choices.{IsLeastNode}
 use Rattle.cb_world.specs.FarState.{FarState}
 use Rattle.cb_world.specs.Leaving.{LeavingState}
 use Rattle.cb_world.specs.Plain.{Words}
+use Rattle.cb_world.specs.SetWord.{IsSpanWord}
 use Rattle.cb_world.proofs.Laws.{IsOneEnd, least_node_fixed, refused_alike, some_same}
-use Rattle.cb_evict.specs.ShipRule.{HasNoNode, HasShipped, ShipsRow, other_puts, with_shipped}
-use Rattle.cb_evict.specs.ShipStep.{IsShipStep, rows_at_desk}
+use Rattle.cb_evict.specs.BeginStep.{frame_rows}
+use Rattle.cb_evict.specs.InstallRule.{with_parities}
+use Rattle.cb_evict.specs.ShipRule.{HasNoNode, HasShipped, MadeFor, ShipsRow, is_data, made_before, made_here, other_puts, with_shipped}
+use Rattle.cb_evict.specs.ShipStep.{IsShipStep}
 use Rattle.cb_evict.specs.Waiting.{least_waiting}
-use Rattle.cb_evict.proofs.BeginFixed.{leaving_or_not}
+use Rattle.cb_evict.proofs.BeginFixed.{leaving_or_not, parities_fixed}
 use Rattle.cb_evict.proofs.Options.{none_some}
 
-module _ (x y z : Words) (far new other : FarState) (r q : Reply) (left : y ≡ x) (also : z ≡ x) where
-  abbrev row : LeavingState → ℕ → List ℕ
-  row batch = row_at (rows_at_desk x batch)
+true_false : true ≡ false → ⊥
+true_false e = cc
 
-  shipped_fixed : HasShipped far new r row → HasShipped far other q row → IsOneEnd r q y z new other
+-- the batch from which a row is put is one
+ready_fixed : (batch : LeavingState) (rows : List (List ℕ)) (p : ℕ) (a b : LeavingState)
+    → length rows ≡ length batch.frames → MadeFor batch rows p a → MadeFor batch rows p b → a ≡ b
+ready_fixed batch rows p a b count (made_before made e) (made_before also f) = e ∙ sym f
+ready_fixed batch rows p a b count (made_before made e) (is_data below f) = e ∙ sym f
+ready_fixed batch rows p a b count (is_data below e) (made_before made f) = e ∙ sym f
+ready_fixed batch rows p a b count (is_data below e) (is_data also f) = e ∙ sym f
+ready_fixed batch rows p a b count (made_before made e) (made_here bare behind them x f) =
+    absurd (true_false (sym made ∙ bare))
+ready_fixed batch rows p a b count (made_here bare behind them x e) (made_before made f) =
+    absurd (true_false (sym made ∙ bare))
+ready_fixed batch rows p a b count (is_data below e) (made_here bare behind them x f) =
+    absurd (omega (arith, below, behind))
+ready_fixed batch rows p a b count (made_here bare behind them x e) (is_data below f) =
+    absurd (omega (arith, below, behind))
+ready_fixed batch rows p a b count (made_here bare behind them x e) (made_here not past others y f) =
+    let k = length batch.frames in
+    let same = parities_fixed batch.pages k (length batch.parities) rows them others x.range count
+    (subst (λ (n : ℕ). IsSpanWord batch.pages k n (rows ++ them)) x.count x.word)
+    (subst (λ (n : ℕ). IsSpanWord batch.pages k n (rows ++ others)) y.count y.word) in
+    e ∙ ap (with_parities batch) same ∙ sym f
+
+module _ (x y z : Words) (far new other : FarState) (r q : Reply) (left : y ≡ x) (also : z ≡ x) where
+  abbrev rows : LeavingState → List (List ℕ)
+  rows batch = frame_rows x batch.pages batch.frames
+
+  shipped_fixed : HasShipped far new r rows → HasShipped far other q rows → IsOneEnd r q y z new other
   shipped_fixed a b =
       let batches : a.batch ≡ b.batch = some_same a.batch b.batch (sym a.there ∙ b.there) in
       let at : a.position ≡ b.position = some_same a.position b.position
@@ -32,6 +60,11 @@ module _ (x y z : Words) (far new other : FarState) (r q : Reply) (left : y ≡ 
       let incarnations : a.shard.incarnation ≡ b.shard.incarnation = a.named.incarnation
       ∙ ap (incarnation far.members) nodes ∙ sym b.named.incarnation in
       let keys : a.shard.key ≡ b.shard.key = a.named.key ∙ sym b.named.key in
+      let ready : a.ready ≡ b.ready =
+      ready_fixed b.batch (rows b.batch) b.position a.ready b.ready b.count
+      (subst (λ (q : ℕ). MadeFor b.batch (rows b.batch) q a.ready) at
+      (subst (λ (batch : LeavingState). MadeFor batch (rows batch) a.position a.ready) batches
+      a.made)) b.made in
       let shards : a.shard ≡ b.shard = λ i. record {
         node = nodes i;
         incarnation = incarnations i;
@@ -41,7 +74,8 @@ module _ (x y z : Words) (far new other : FarState) (r q : Reply) (left : y ≡ 
         reply = a.reply ∙ ap answer.Shipped at ∙ sym b.reply;
         words = left ∙ sym also;
         far = a.state
-            ∙ (λ i. with_shipped far (batches i) (at i) (shards i) (row (batches i) (at i)))
+            ∙ (λ i. with_shipped far (ready i) (at i) (shards i)
+            (row_at (rows (batches i) ++ (ready i).parities) (at i)))
             ∙ sym b.state;
       }
     where
@@ -62,7 +96,7 @@ module _ (x y z : Words) (far new other : FarState) (r q : Reply) (left : y ≡ 
   all_or_some s t p a b none some = none_some p (sym none ∙ waits s t a b ∙ some)
 
   node_or_none : (p : Reply) (next : FarState) (o : Reply) (last : FarState) → HasNoNode far next p
-      → HasShipped far last o row → ⊥
+      → HasShipped far last o rows → ⊥
   node_or_none p next o last a b =
       let batches : b.batch ≡ a.batch = some_same b.batch a.batch (sym b.there ∙ a.there) in
       let at : b.position ≡ a.position = some_same b.position a.position
@@ -71,7 +105,7 @@ module _ (x y z : Words) (far new other : FarState) (r q : Reply) (left : y ≡ 
       (λ i. other_puts (batches i).shards (at i)) b.named.node in
       a.none b.shard.node node.may
 
-  pub ships_fixed : ShipsRow far new r row → ShipsRow far other q row → IsOneEnd r q y z new other
+  pub ships_fixed : ShipsRow far new r rows → ShipsRow far other q rows → IsOneEnd r q y z new other
   ships_fixed (inl a) (inl b) = alike answer.NoBatch a.reply b.reply a.state b.state
   ships_fixed (inl a) (inr (inl b)) = absurd (leaving_or_not far b.batch b.there a.none)
   ships_fixed (inl a) (inr (inr (inl b))) = absurd (leaving_or_not far b.batch b.there a.none)

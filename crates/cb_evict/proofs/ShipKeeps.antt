@@ -9,12 +9,12 @@ use Rattle.cb_evict.specs.ShipRule.{ShipsRow}
 use Rattle.cb_evict.specs.ShipStep.{IsShipStep}
 use Rattle.cb_evict.proofs.FarRest.{rest_kept, rest_of}
 
-ships_far : (far new : FarState) (r : Reply) (row : LeavingState → ℕ → List ℕ)
-    → ShipsRow far new r row → KeepsFar far new
-ships_far far new r row (inl x) = rest_kept far new (ap rest_of x.state)
-ships_far far new r row (inr (inl x)) = rest_kept far new (ap rest_of x.state)
-ships_far far new r row (inr (inr (inl x))) = rest_kept far new (ap rest_of x.state)
-ships_far far new r row (inr (inr (inr x))) = rest_kept far new (ap rest_of x.state)
+ships_far : (far new : FarState) (r : Reply) (rows : LeavingState → List (List ℕ))
+    → ShipsRow far new r rows → KeepsFar far new
+ships_far far new r rows (inl x) = rest_kept far new (ap rest_of x.state)
+ships_far far new r rows (inr (inl x)) = rest_kept far new (ap rest_of x.state)
+ships_far far new r rows (inr (inr (inl x))) = rest_kept far new (ap rest_of x.state)
+ships_far far new r rows (inr (inr (inr x))) = rest_kept far new (ap rest_of x.state)
 
 pub ship_keeps : (x y : Words) (far new : FarState) (r : Reply) → IsShipStep x y far new r
     → StepKeeps x y far new

@@ -29,6 +29,7 @@ pub record IsPut (s : Shown) (far : FarState) (batch : LeavingState) (p : ℕ) (
   pub least : least_waiting far.members batch.shards ≡ Some p
   pub named : IsShardFor far batch p shard
   pub of_batch : row ≡ row_at (batch_rows s batch) p
+  pub bare : batch.made ≡ false → p < length batch.frames
 
 shard_same : (a b : Shard) → Some (Some a) ≡ Some (Some b) → a ≡ b
 shard_same a b e = cc
@@ -117,9 +118,10 @@ module _ (s : Shown) (far : FarState) (batch : LeavingState) (p : ℕ) (shard : 
     up = up_on_least far (other_puts batch.shards p) shard x.named.node x.named.incarnation;
     fits = fits_on_least far (other_puts batch.shards p) shard.node x.named.node;
     key = x.named.key;
-    of_owner = λ b at. x.of_batch
-        ∙ ap (λ (c : LeavingState). row_at (batch_rows s c) p)
-        (some_same batch b (sym x.there ∙ at));
+    of_owner = λ b at. let same = some_same batch b (sym x.there ∙ at) in (
+      x.of_batch ∙ ap (λ (c : LeavingState). row_at (batch_rows s c) p) same,
+      subst (λ (c : LeavingState). c.made ≡ false → p < length c.frames) same x.bare,
+    );
     given = far.nodes.given;
     nodes = refl;
     members = refl;

@@ -1,9 +1,8 @@
 -- Over a still desk a ship is a step.
-use Rattle.std.proofs.Common.{◌≡◌, ℕ, ◌*◌, ◌++◌, List, map, ap, ◌∙◌, subst, inl, inr}
-use Rattle.cb_gf256.specs.Rows.{row_at}
+use Rattle.std.proofs.Common.{◌≡◌, ℕ, ◌*◌, List, map, ap, ◌∙◌, subst, inl, inr}
 use Rattle.cb_types.specs.declared.reply.Reply.{Reply}
 use Rattle.cb_world.specs.declared.shown.Shown.{Shown}
-use Rattle.cb_world.specs.FarSound.{batch_rows}
+use Rattle.cb_world.specs.FarSound.{rows_in}
 use Rattle.cb_world.specs.FarState.{FarState}
 use Rattle.cb_world.specs.Leaving.{LeavingState}
 use Rattle.cb_world.specs.Memory.{window}
@@ -21,19 +20,18 @@ use Rattle.cb_evict.specs.ShipStep.{IsShipStep}
 use Rattle.cb_evict.proofs.Events.{are_reads}
 
 -- what every object has stays
-pub ships_now : (s : Shown) (far new : FarState) (r : Reply) (row : LeavingState → ℕ → List ℕ)
-    → ShipsRow far new r row → (h : ℕ) → now s new h ≡ now s far h
-ships_now s far new r row (inl x) h = ap (λ (f : FarState). now s f h) x.state
-ships_now s far new r row (inr (inl x)) h = ap (λ (f : FarState). now s f h) x.state
-ships_now s far new r row (inr (inr (inl x))) h = ap (λ (f : FarState). now s f h) x.state
-ships_now s far new r row (inr (inr (inr x))) h = ap (λ (f : FarState). now s f h) x.state
+pub ships_now : (s : Shown) (far new : FarState) (r : Reply) (rows : LeavingState → List (List ℕ))
+    → ShipsRow far new r rows → (h : ℕ) → now s new h ≡ now s far h
+ships_now s far new r rows (inl x) h = ap (λ (f : FarState). now s f h) x.state
+ships_now s far new r rows (inr (inl x)) h = ap (λ (f : FarState). now s f h) x.state
+ships_now s far new r rows (inr (inr (inl x))) h = ap (λ (f : FarState). now s f h) x.state
+ships_now s far new r rows (inr (inr (inr x))) h = ap (λ (f : FarState). now s f h) x.state
 
 -- ---- the step
--- the row of a position of a batch, where this is the memory
-abbrev row_in : List ℕ → LeavingState → ℕ → List ℕ
-row_in memory batch =
-    row_at (map (λ f. row_of (window memory (512 * f) (512 * batch.pages))) batch.frames
-    ++ batch.parities)
+-- the rows of the spans of a batch, where this is the memory
+abbrev rows_there : List ℕ → LeavingState → List (List ℕ)
+rows_there memory batch =
+    map (λ f. row_of (window memory (512 * f) (512 * batch.pages))) batch.frames
 
 -- Over a still desk of which all is known a ship is a step, and all is known of it afterwards.
 pub ship_step : (x y : Words) (far new : FarState) (r : Reply) (s : Shown)
@@ -45,14 +43,14 @@ ship_step x y far new r s p k =
     let reads = are_reads (LiesInOne far.spans (leaving_frames far.leaving)) p.events p.rule.reads in (
       record {
         words = stays_still x y far s p.events (runs_still x y far new rules does s k p) effect.still;
-        ships = subst (λ (memory : List ℕ). ShipsRow far new r (row_in memory)) k.shows.memory
+        ships = subst (λ (memory : List ℕ). ShipsRow far new r (rows_there memory)) k.shows.memory
             effect.ships;
       },
       record {
         shown = played p.events s;
         known = known_then x y far new rules does s k p;
         same_now = λ h. ap (λ (t : Shown). now t new h) (reads.stays s)
-            ∙ ships_now s far new r (λ b. row_at (batch_rows s b)) effect.ships h;
+            ∙ ships_now s far new r (λ b. rows_in s b.pages b.frames) effect.ships h;
       },
     )
 

@@ -1,6 +1,6 @@
 -- Spans that may leave were taken in a sound world: their objects were claimed, and their words
 -- were read. They are a claimed group.
-use Rattle.std.proofs.Common.{◌≡◌, ◌⊎◌, ℕ, zero, suc, ◌+◌, ◌-◌, ◌*◌, ◌^◌, ◌<◌, ◌≤◌, Bool, List, [], ◌++◌, length, get_or, All, map as mapped, Option, Some, sym, refl, ap, ◌∙◌, subst, arith, inl, inr}
+use Rattle.std.proofs.Common.{◌≡◌, ◌⊎◌, ℕ, zero, suc, ◌+◌, ◌-◌, ◌*◌, ◌^◌, ◌<◌, ◌≤◌, Bool, true, List, [], ◌++◌, length, get_or, All, map as mapped, Option, Some, sym, refl, ap, ◌∙◌, subst, arith, inl, inr}
 use Rattle.std.specs.List.{Contains, slice_get}
 use Rattle.std.proofs.lemmas.List.{get_or-map, length-map, ext_get_or}
 use Rattle.std.proofs.lemmas.List.Elements.{All-contains}
@@ -48,8 +48,9 @@ abbrev pub frame_rows : Shown → ℕ → List ℕ → List (List ℕ)
 frame_rows t pages frames =
     mapped (λ f. row_of (window t.memory (512 * f) (512 * pages))) frames
 
--- in a sound world objects of k spans were claimed; their words were read, and the rows were coded
-pub record AreRowsCoded (far : FarState) (frames : List ℕ) (formers : List Former)
+-- in a sound world objects of k spans were claimed; their words were read, and the rows were coded,
+-- or will be
+pub record AreRowsCoded (far : FarState) (frames : List ℕ) (formers : List Former) (made : Bool)
     (parities : List (List ℕ)) (before : List Event) (s t : Shown) : Type 0 where
   pub sound : Sound s far
   pub claimed : AreClaimed before s t formers
@@ -57,8 +58,9 @@ pub record AreRowsCoded (far : FarState) (frames : List ℕ) (formers : List For
   pub taken : AreSpansTaken far frames formers
   pub range : IsInRange far.code.k far.code.r
   pub few : length parities ≡ far.code.r
-  pub word : IsCodeWord far.code.k far.code.r (frame_rows t taken.pages frames ++ parities)
-  pub bytes : HoldBytes (frame_rows t taken.pages frames ++ parities)
+  pub word : made ≡ true
+      → IsCodeWord far.code.k far.code.r (frame_rows t taken.pages frames ++ parities)
+  pub bytes : made ≡ true → HoldBytes (frame_rows t taken.pages frames ++ parities)
   pub small : (f : ℕ) → Contains frames f
       → All (λ w. w < 2 ^ 64) (window t.memory (512 * f) (512 * taken.pages))
 
@@ -106,9 +108,9 @@ claimed_same n p v m q w a b e = (ap len_in e, ap place_in e, ap words_of_it e)
     words_of_it (is.Here len place) = []
     words_of_it (is.Claimed len place v words) = words
 
-module _ (far : FarState) (frames : List ℕ) (formers : List Former)
+module _ (far : FarState) (frames : List ℕ) (formers : List Former) (made : Bool)
     (parities : List (List ℕ)) (before : List Event) (s t : Shown)
-    (d : AreRowsCoded far frames formers parities before s t) where
+    (d : AreRowsCoded far frames formers made parities before s t) where
   ready : (f : ℕ) → Contains frames f → IsReadyFrame far f
   ready f x = ready_frame far s f d.sound.here
       (All-contains (Contains (candidates far)) frames f d.taken.among x)
@@ -144,7 +146,7 @@ module _ (far : FarState) (frames : List ℕ) (formers : List Former)
 
   pub told_one : (events : List Event) → ((k : ℕ) → NoLook k events) → (h : ℕ)
       → IsIn far.spans frames h
-      → IsToldOne (before ++ events) s t (new_batch far d.taken.pages frames formers parities) h
+      → IsToldOne (before ++ events) s t (new_batch far d.taken.pages frames formers made parities) h
   told_one events quiet h (f, c, named) =
       let y = d.taken.of.all h (f, c, named) in
       let g = y.0 in let x = y.1 in let same : g.handle ≡ h = y.2 in
@@ -175,7 +177,7 @@ module _ (far : FarState) (frames : List ℕ) (formers : List Former)
       }
 
   pub one : (h : ℕ) → IsIn far.spans frames h
-      → IsToldOne (before ++ []) s t (new_batch far d.taken.pages frames formers parities) h
+      → IsToldOne (before ++ []) s t (new_batch far d.taken.pages frames formers made parities) h
   one h x = told_one [] (λ k. tt) h x
 
   quiet_one : (h : ℕ) → IsNotFarBoth s t h
@@ -220,7 +222,7 @@ module _ (far : FarState) (frames : List ℕ) (formers : List Former)
       subst IsHeld (sym n.claimed) tt) d.claimed.keeps
 
   -- ---- the group
-  pub taken_group : IsGroup t far (new_batch far d.taken.pages frames formers parities)
+  pub taken_group : IsGroup t far (new_batch far d.taken.pages frames formers made parities)
   taken_group = record {
     here = d.here;
     away = quiet_away s t far quiet_one
@@ -273,18 +275,21 @@ module _ (far : FarState) (frames : List ℕ) (formers : List Former)
       let within : 0 < length frames = omega (arith, d.taken.count, d.range.data_least) in
       let count = 512 * d.taken.pages in
       let ws = window t.memory (512 * get_or frames 0 0) count in
-      ap length (row_is t far (new_batch far d.taken.pages frames formers parities) taken_group 0 within)
+      ap length (row_is t far (new_batch far d.taken.pages frames formers made parities) taken_group 0 within)
       ∙ row_length ws ∙ ap (λ (i : ℕ). 8 * i) (window_length t.memory (512 * get_or frames 0 0) count)
       ∙ (let e : 8 * (512 * d.taken.pages) ≡ 4096 * d.taken.pages = omega arith in e)
 
-  pub span_word : IsSpanWord d.taken.pages far.code.k far.code.r (frame_rows t d.taken.pages frames ++ parities)
-  span_word = record { is_word = d.word; bytes = d.bytes; wide = wide_row }
+  pub span_word : made ≡ true
+      → IsSpanWord d.taken.pages far.code.k far.code.r (frame_rows t d.taken.pages frames ++ parities)
+  span_word yet = record { is_word = d.word yet; bytes = d.bytes yet; wide = wide_row }
 
-  pub group_word : IsSpanWord d.taken.pages (length frames) (length parities) (frame_rows t d.taken.pages frames ++ parities)
-  group_word =
+  pub group_word : made ≡ true
+      → IsSpanWord d.taken.pages (length frames) (length parities)
+      (frame_rows t d.taken.pages frames ++ parities)
+  group_word yet =
       subst (λ (n : ℕ). IsSpanWord d.taken.pages n (length parities) (frame_rows t d.taken.pages frames ++ parities))
       (sym d.taken.count)
-      (subst (λ (n : ℕ). IsSpanWord d.taken.pages far.code.k n (frame_rows t d.taken.pages frames ++ parities)) (sym d.few) span_word)
+      (subst (λ (n : ℕ). IsSpanWord d.taken.pages far.code.k n (frame_rows t d.taken.pages frames ++ parities)) (sym d.few) (span_word yet))
 
   pub group_range : IsInRange (length frames) (length parities)
   group_range = subst (λ (n : ℕ). IsInRange n (length parities)) (sym d.taken.count)
@@ -293,7 +298,7 @@ module _ (far : FarState) (frames : List ℕ) (formers : List Former)
   pub row_at_frame : (p f : ℕ) → slice_get frames p ≡ Some f
       → row_at (frame_rows t d.taken.pages frames ++ parities) p ≡ row_of (window t.memory (512 * f) (512 * d.taken.pages))
   row_at_frame p f at =
-      row_is t far (new_batch far d.taken.pages frames formers parities) taken_group p
+      row_is t far (new_batch far d.taken.pages frames formers made parities) taken_group p
       (slice_get_within frames p f at)
       ∙ ap (λ (g : ℕ). row_of (window t.memory (512 * g) (512 * d.taken.pages)))
       (get_or_from_slice_get frames p f 0 at)
@@ -313,7 +318,7 @@ module _ (far : FarState) (frames : List ℕ) (formers : List Former)
         words = g.noted.words;
         found = g.found;
         told = g.told;
-        contents = in_row t far (new_batch far d.taken.pages frames formers parities) taken_group f slot h span
+        contents = in_row t far (new_batch far d.taken.pages frames formers made parities) taken_group f slot h span
             g.noted x
             there named
             ∙ ap (λ (row : List ℕ). window (words_in row) (slot * words_of span.class)

@@ -28,8 +28,10 @@ pub mod Taking
 pub mod Finding
 pub mod BeginRule
 pub mod BeginEffect
-pub mod Beginning
 pub mod BeginStep
+pub mod Gathering
+pub mod Beginning
+pub mod InstallRule
 pub mod ShipRule
 pub mod ShipStep
 pub mod Shipping

@@ -1,5 +1,6 @@
 -- The rule of a ship: which row of a leaving batch is put, and where.
-use Rattle.std.specs.Prelude.{◌≡◌, ◌⊎◌, ℕ, ◌+◌, ◌++◌, List, Option, None, Some, drop, slice_set, take}
+use Rattle.std.specs.Prelude.{◌≡◌, ◌⊎◌, ℕ, ◌+◌, ◌<◌, ◌≤◌, ◌++◌, true, false, List, Option, None, Some, drop, length, slice_set, take}
+use Rattle.cb_gf256.specs.InRange.{IsInRange}
 use Rattle.cb_gf256.specs.Rows.{row_at}
 use Rattle.cb_member.specs.declared.names.NodeId.{NodeId}
 use Rattle.cb_member.specs.declared.names.Shard.{Shard}
@@ -10,13 +11,15 @@ use Rattle.cb_types.specs.declared.reply.Reply.TheVariants as answer
 use Rattle.cb_world.specs.declared.event.Event.{Event}
 use Rattle.cb_world.specs.declared.shown.Shown.{Shown}
 use Rattle.cb_world.specs.Choices.{IsLeastNode, MayPut}
-use Rattle.cb_world.specs.FarSound.{batch_rows}
+use Rattle.cb_world.specs.FarSound.{rows_in}
 use Rattle.cb_world.specs.FarState.{FarState}
 use Rattle.cb_world.specs.Leaving.{LeavingState}
 use Rattle.cb_world.specs.Placed.{leaving_frames}
 use Rattle.cb_world.specs.Reserved.{put_shards}
+use Rattle.cb_world.specs.SetWord.{IsSpanWord}
 use Rattle.cb_world.specs.Still.{IsStill}
 use Rattle.cb_evict.specs.AbortRule.{HasNoBatch}
+use Rattle.cb_evict.specs.InstallRule.{with_parities}
 use Rattle.cb_evict.specs.Loading.{LiesInOne, OnlyLoads}
 use Rattle.cb_evict.specs.Waiting.{least_waiting}
 
@@ -67,24 +70,44 @@ pub record HasNoNode (far new : FarState) (r : Reply) : Type 0 where
   pub reply : r ≡ answer.NoNode
   pub state : new ≡ far
 
--- the row of the least position that waits is put, which is that of its batch and its position; all
--- else is as it was
-pub record HasShipped (far new : FarState) (r : Reply) (row : LeavingState → ℕ → List ℕ) : Type 0
-  where
-    pub batch : LeavingState
-    pub there : far.leaving ≡ Some batch
-    pub position : ℕ
-    pub shard : Shard
-    pub least : least_waiting far.members batch.shards ≡ Some position
-    pub named : IsShardFor far batch position shard
-    pub reply : r ≡ answer.Shipped position
-    pub state : new ≡ with_shipped far batch position shard (row batch position)
+-- parities of the batch, whose code is one of those that are built, that are made of these data rows
+pub record AreMadeOf (batch : LeavingState) (rows parities : List (List ℕ)) : Type 0 where
+  pub range : IsInRange (length batch.frames) (length batch.parities)
+  pub count : length parities ≡ length batch.parities
+  pub word : IsSpanWord batch.pages (length batch.frames) (length parities) (rows ++ parities)
 
--- the reply and the far state afterwards, where a position of a batch has this row
-abbrev pub ShipsRow : FarState → FarState → Reply → (LeavingState → ℕ → List ℕ) → Type 0
-ShipsRow far new r row =
+-- The batch from which the row of a position is put: it is as it was, where its parities are made or
+-- the row is a data row; else its parities are made of these data rows first.
+pub data MadeFor (batch : LeavingState) (rows : List (List ℕ)) (p : ℕ) (ready : LeavingState)
+    : Type 0 where
+  made_before : batch.made ≡ true → ready ≡ batch → MadeFor batch rows p ready
+  is_data : p < length batch.frames → ready ≡ batch → MadeFor batch rows p ready
+  made_here : batch.made ≡ false → length batch.frames ≤ p → (parities : List (List ℕ))
+      → AreMadeOf batch rows parities → ready ≡ with_parities batch parities
+      → MadeFor batch rows p ready
+
+-- the row of the least position that waits is put, which is that of these data rows and the batch's
+-- parities; where these were due and not made, they are made first. All else is as it was.
+pub record HasShipped (far new : FarState) (r : Reply) (rows : LeavingState → List (List ℕ))
+    : Type 0 where
+  pub batch : LeavingState
+  pub there : far.leaving ≡ Some batch
+  pub position : ℕ
+  pub shard : Shard
+  pub least : least_waiting far.members batch.shards ≡ Some position
+  pub named : IsShardFor far batch position shard
+  pub reply : r ≡ answer.Shipped position
+  pub count : length (rows batch) ≡ length batch.frames
+  pub ready : LeavingState
+  pub made : MadeFor batch (rows batch) position ready
+  pub state : new ≡ with_shipped far ready position shard
+      (row_at (rows batch ++ ready.parities) position)
+
+-- the reply and the far state afterwards, where a batch has these data rows
+abbrev pub ShipsRow : FarState → FarState → Reply → (LeavingState → List (List ℕ)) → Type 0
+ShipsRow far new r rows =
     HasNoBatch far new r ⊎ (HasAllShipped far new r ⊎ (HasNoNode far new r
-    ⊎ HasShipped far new r row))
+    ⊎ HasShipped far new r rows))
 
 -- nothing is done but that words of frames that are leaving are read
 abbrev pub ReadsLeaving : FarState → List Event → Type 0
@@ -92,13 +115,12 @@ ReadsLeaving far es = OnlyLoads (LiesInOne far.spans (leaving_frames far.leaving
 
 -- so, whatever was read
 pub record ShipRule (far new : FarState) (r : Reply) (es : List Event) : Type 0 where
-  pub row : LeavingState → ℕ → List ℕ
-  pub ships : ShipsRow far new r row
+  pub rows : LeavingState → List (List ℕ)
+  pub ships : ShipsRow far new r rows
   pub reads : ReadsLeaving far es
 
--- no object and no word changes, and the row is that of the span as it stands in memory, or the
--- parity
+-- no object and no word changes, and the data rows are those of the spans as they stand in memory
 pub record ShipEffect (far new : FarState) (r : Reply) (es : List Event) (s t : Shown) : Type 0
   where
     pub still : IsStill es s t
-    pub ships : ShipsRow far new r (λ batch. row_at (batch_rows s batch))
+    pub ships : ShipsRow far new r (λ batch. rows_in s batch.pages batch.frames)

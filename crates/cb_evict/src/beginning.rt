@@ -1,32 +1,35 @@
-ghost use Rattle.std.specs.Prelude.{◌≡◌, ◌^◌, ◌+◌, ◌-◌, ◌*◌, ◌<◌, ◌≤◌, All, IfOk, OnErr, OnOk, List, None, Some, length, replicate};
+ghost use Rattle.std.specs.Prelude.{◌≡◌, ◌^◌, ◌+◌, ◌-◌, ◌*◌, ◌<◌, ◌≤◌, true, false, All, IfOk, OnErr, OnOk, List, None, Some, length, replicate};
 ghost use Rattle.std.specs.Option.{option_map};
 ghost use Rattle.cb_types.specs.Config.{IsAccepted};
 ghost use Rattle.cb_types.specs.declared.handle.SetId.{SetId};
 ghost use Rattle.cb_gf256.specs.InRange.{IsInRange};
+ghost use Rattle.cb_gf256.specs.Rows.{row_at, HaveLength};
 ghost use Rattle.cb_span.specs.Contents.{Contents};
-ghost use Rattle.cb_types.specs.declared.reply.Reply.TheVariants as answer;
 ghost use Rattle.cb_world.specs.declared.event.Event.{Event};
 ghost use Rattle.cb_world.specs.declared.shown.Shown.{Shown};
 ghost use Rattle.cb_world.specs.World.{IsConfigured};
 ghost use Rattle.cb_world.specs.Still.{IsStill};
 ghost use Rattle.cb_world.specs.FarState.{span_in};
+ghost use Rattle.cb_world.specs.Leaving.{AreRoomy, shown_rows};
 ghost use Rattle.cb_world.specs.Sound.{Sound};
 ghost use Rattle.cb_world.specs.Performs.{Performs};
-ghost use Rattle.cb_evict.specs.BeginRule.{BeginRule, blank_shard, blank_shards};
+ghost use Rattle.cb_evict.specs.BeginRule.{BeginRule, BeginsBy, blank_shard, blank_shards};
 ghost use Rattle.cb_evict.specs.BeginEffect.{BeginEffect};
-ghost use Rattle.cb_evict.specs.Beginning.{AreParities, BeginsClaimed, ReservesFrames, with_reserved};
+ghost use Rattle.cb_evict.specs.Beginning.{AreReady, BeginsClaimed, ReservesFrames, with_reserved};
+ghost use Rattle.cb_evict.specs.Gathering.{GatherEffect, HandsOut, gathered_reply};
 ghost use Rattle.cb_evict.specs.Loading.{AreOfLength};
 ghost use Rattle.cb_evict.specs.Evicting.{AreSpansTaken, IsReadyToEvict, LeavesClaimed, ReadsSpans, TouchesSpans};
 
 use crate::claiming::give_back;
 use crate::eviction::refusal;
+use crate::gathering::Gathered;
 use crate::loading::load_spans;
 use crate::storing::{make_parities, next_set, span_pages};
 use crate::taking::{Taken, take_spans};
 use cb_class::PAGE_BYTES;
 use cb_member::{NodeId, Shard};
-use cb_types::{NoMemory, Reply, Rows, SetId};
-use cb_world::{Desk, Far, Former, KeptSet, Leaving};
+use cb_types::{EncodeOrder, NoMemory, Reply, Rows, SetId};
+use cb_world::{Desk, Far, Former, KeptSet, Leaving, Parities};
 use std::alloc::Global;
 
 /// The shard of a position whose row was not put yet.
@@ -50,8 +53,10 @@ struct Room {
 /// What a batch has beside its frames and its words.
 #[derive(Drop)]
 struct Reserved {
-    /// The parities of its rows.
-    parities: Rows,
+    /// The rows of its spans.
+    rows: Rows,
+    /// The parities of these, or the room for them.
+    parities: Parities,
     /// A place for the shard of each of its positions, none of which has one yet.
     shards: Vec<Option<Shard>>,
 }
@@ -86,14 +91,42 @@ pub fn begin<D: Desk>(desk: &mut D, far: &mut Far) -> Result<Reply, NoMemory>
     ensures unchanged { OnErr result (far.new ≡ far.old) }
     ensures none { OnErr result (far.old.leaving ≡ None) }
 {
+    let begun = begin_with(desk, far, true)?;
+    Ok(begun.into_reply())
+}
+
+/// Begins to evict k spans, with parities that are made or that are still to be: answers the order to
+/// make them, or a refusal.
+pub(crate) fn begin_with<D: Desk>(
+    desk: &mut D,
+    far: &mut Far,
+    made: bool,
+) -> Result<Gathered, NoMemory>
+    requires config { IsAccepted (D.settings desk.old) }
+    requires configured { IsConfigured (D.settings desk.old) far.old }
+    requires counts { far.old.counts.sets < 2 ^ 62 }
+    requires sound { (s : Shown) × D.shows desk.old s × Sound s far.old }
+    ensures begun { IfOk result (λ g. Performs (λ es. D.run desk.old es desk.new)
+        (λ s. D.shows desk.old s × Sound s far.old)
+        (BeginsBy far.old far.new made (HandsOut far.old g) (gathered_reply g))
+        (λ t. Sound t far.new)
+        (GatherEffect far.old far.new g)) }
+    ensures error { OnErr result (Performs (λ es. D.run desk.old es desk.new)
+        (λ s. D.shows desk.old s × Sound s far.old)
+        (TouchesSpans far.old)
+        (λ t. Sound t far.new)
+        IsStill) }
+    ensures unchanged { OnErr result (far.new ≡ far.old) }
+    ensures none { OnErr result (far.old.leaving ≡ None) }
+{
     match leaving_set(&far.leaving) {
-        Some(set) => Ok(Reply::Leaving { set }),
-        None => begin_new(desk, far),
+        Some(set) => Ok(Gathered::Answer(Reply::Leaving { set })),
+        None => begin_new(desk, far, made),
     }
 }
 
 /// The number of the set that the batch which is leaving will be, where one is.
-fn leaving_set(leaving: &Option<Leaving>) -> Option<SetId>
+pub(crate) fn leaving_set(leaving: &Option<Leaving>) -> Option<SetId>
     ensures { result ≡ option_map (λ batch. record { n = batch.set }) leaving.now }
 {
     match leaving {
@@ -103,17 +136,17 @@ fn leaving_set(leaving: &Option<Leaving>) -> Option<SetId>
 }
 
 /// Begins to evict k spans where no batch is leaving.
-fn begin_new<D: Desk>(desk: &mut D, far: &mut Far) -> Result<Reply, NoMemory>
+fn begin_new<D: Desk>(desk: &mut D, far: &mut Far, made: bool) -> Result<Gathered, NoMemory>
     requires config { IsAccepted (D.settings desk.old) }
     requires configured { IsConfigured (D.settings desk.old) far.old }
     requires counts { far.old.counts.sets < 2 ^ 62 }
     requires none { far.old.leaving ≡ None }
     requires sound { (s : Shown) × D.shows desk.old s × Sound s far.old }
-    ensures begun { IfOk result (λ reply. Performs (λ es. D.run desk.old es desk.new)
+    ensures begun { IfOk result (λ g. Performs (λ es. D.run desk.old es desk.new)
         (λ s. D.shows desk.old s × Sound s far.old)
-        (BeginRule far.old far.new reply)
+        (BeginsBy far.old far.new made (HandsOut far.old g) (gathered_reply g))
         (λ t. Sound t far.new)
-        (BeginEffect far.old far.new reply)) }
+        (GatherEffect far.old far.new g)) }
     ensures error { OnErr result (Performs (λ es. D.run desk.old es desk.new)
         (λ s. D.shows desk.old s × Sound s far.old)
         (TouchesSpans far.old)
@@ -123,8 +156,11 @@ fn begin_new<D: Desk>(desk: &mut D, far: &mut Far) -> Result<Reply, NoMemory>
 {
     let taken = take_spans(desk, far)?;
     match taken {
-        Taken::Few { lack, loose, nodes } => Ok(refusal(lack, loose, nodes)),
-        Taken::Enough { frames, formers } => begin_claimed(desk, far, frames, formers),
+        Taken::Few { lack, loose, nodes } => Ok(Gathered::Answer(refusal(lack, loose, nodes))),
+        Taken::Enough { frames, formers } => {
+            let order = begin_claimed(desk, far, frames, formers, made)?;
+            Ok(Gathered::Order(order))
+        }
     }
 }
 
@@ -162,14 +198,15 @@ fn blank_shards(alloc: Global, n: u32) -> Result<Vec<Shard>, NoMemory>
     Ok(vec![in alloc; BLANK; n as usize]?)
 }
 
-/// Lets spans whose objects are claimed leave from here, and gives them back where there is no
-/// memory.
+/// Lets spans whose objects are claimed leave from here, and answers the order of their rows. Gives
+/// the objects back where there is no memory.
 fn begin_claimed<D: Desk>(
     desk: &mut D,
     far: &mut Far,
     frames: Vec<u32>,
     formers: Vec<Former>,
-) -> Result<Reply, NoMemory>
+    made: bool,
+) -> Result<EncodeOrder, NoMemory>
     requires config { IsAccepted (D.settings desk.old) }
     requires configured { IsConfigured (D.settings desk.old) far.old }
     requires counts { far.old.counts.sets < 2 ^ 62 }
@@ -177,20 +214,28 @@ fn begin_claimed<D: Desk>(
     requires taken { AreSpansTaken far.old frames.items formers.items }
     requires ready { (before : List Event) × (s : Shown)
         × IsReadyToEvict (λ t. D.shows desk.old t) far.old formers.items before s }
-    ensures reply { IfOk result (λ reply.
-        reply ≡ answer.Batch (record { n = far.old.counts.sets })) }
-    ensures begun { OnOk result (BeginsClaimed (λ es. D.run desk.old es desk.new)
-        (λ s. D.shows desk.old s) far.old far.new frames.items formers.items) }
+    ensures begun { IfOk result (λ o. BeginsClaimed (λ es. D.run desk.old es desk.new)
+        (λ s. D.shows desk.old s) far.old far.new made o frames.items formers.items) }
     ensures error { OnErr result (LeavesClaimed (λ es. D.run desk.old es desk.new)
         (λ s. D.shows desk.old s) far.old frames.items formers.items) }
     ensures unchanged { OnErr result (far.new ≡ far.old) }
 {
     let pages = span_pages(far, frames[0]);
-    match reserve_frames(desk, far, &frames, pages) {
+    let code = far.in_force();
+    match reserve_frames(desk, far, &frames, pages, made) {
         Ok(reserved) => {
-            let Reserved { parities, shards } = reserved;
+            let Reserved {
+                rows,
+                parities,
+                shards,
+            } = reserved;
             let set = note_batch(far, pages, frames, formers, parities, shards);
-            Ok(Reply::Batch { set })
+            Ok(EncodeOrder {
+                set,
+                k: code.k,
+                r: code.r,
+                rows,
+            })
         }
         Err(_) => {
             give_back(desk, &formers);
@@ -199,14 +244,15 @@ fn begin_claimed<D: Desk>(
     }
 }
 
-/// Reads the spans in these frames, of so many pages each, makes the parities of their rows, and
-/// keeps the set that they will be under the next set number. Where there is no memory, the far
-/// state has not changed.
+/// Reads the spans in these frames, of so many pages each, makes the parities of their rows or takes
+/// the room for them, and keeps the set that they will be under the next set number. Where there is
+/// no memory, the far state has not changed.
 fn reserve_frames<D: Desk>(
     desk: &mut D,
     far: &mut Far,
     frames: &[u32],
     pages: u32,
+    made: bool,
 ) -> Result<Reserved, NoMemory>
     requires config { IsAccepted (D.settings desk.old) }
     requires range { IsInRange far.old.code.k far.old.code.r }
@@ -217,7 +263,8 @@ fn reserve_frames<D: Desk>(
     requires long { AreOfLength far.old.spans pages frames.now }
     requires below { All (λ f. f + pages ≤ (D.settings desk.old).frames) frames.now }
     ensures reserved { IfOk result (λ reserved. ReservesFrames (λ es. D.run desk.old es desk.new)
-        (λ s. D.shows desk.old s) far.old far.new pages frames.now reserved.parities) }
+        (λ s. D.shows desk.old s) far.old far.new pages frames.now made reserved.rows
+        reserved.parities) }
     ensures shards { IfOk result (λ reserved. reserved.shards.items
         ≡ replicate (far.old.code.k + far.old.code.r) None) }
     ensures read { OnErr result (ReadsSpans (λ es. D.run desk.old es desk.new) far.old.spans
@@ -232,31 +279,82 @@ fn reserve_frames<D: Desk>(
         blank,
     } = room;
     load_spans(desk, frames, pages, &mut rows);
-    let parities = reserve(far, pages, &blank, frames, &rows)?;
-    Ok(Reserved { parities, shards })
+    let parities = reserve(far, pages, &blank, frames, &rows, made)?;
+    Ok(Reserved {
+        rows,
+        parities,
+        shards,
+    })
+}
+
+/// The parities of some data rows, which are made.
+fn made_parities(alloc: Global, rows: &Rows, r: u32) -> Result<Parities, NoMemory>
+    requires range { IsInRange (length rows.now) r }
+    ensures ready { IfOk result (AreReady true r rows.now) }
+{
+    let parities = make_parities(alloc, rows, r)?;
+    Ok(Parities::made(parities))
+}
+
+/// Room for `r` parities of `len` bytes, and for `k` data rows.
+fn parities_room(alloc: Global, k: u32, r: u32, len: u32) -> Result<Parities, cb_gf256::NoMemory>
+    ensures { IfOk result (λ parities. parities ≡ record {
+      made = false;
+      rows = replicate r (replicate len 0);
+      source = Some (replicate k (replicate len 0));
+    }) }
+{
+    let parities = Rows::new(alloc, r, len)?;
+    let source = Rows::new(alloc, k, len)?;
+    Ok(Parities::unmade(parities, source))
+}
+
+/// Room for the parities of some data rows, and for as many data rows.
+fn room_for_parities(alloc: Global, rows: &Rows, r: u32) -> Result<Parities, NoMemory>
+    requires range { IsInRange (length rows.now) r }
+    ensures ready { IfOk result (AreReady false r rows.now) }
+{
+    let len = rows.row_len();
+    match parities_room(alloc, rows.count(), r, len) {
+        Ok(parities) => Ok(parities),
+        Err(_) => Err(NoMemory),
+    }
+}
+
+/// The parities of some data rows, or the room for them where they are not to be made yet.
+fn parities_for(alloc: Global, rows: &Rows, r: u32, made: bool) -> Result<Parities, NoMemory>
+    requires range { IsInRange (length rows.now) r }
+    ensures ready { IfOk result (AreReady made r rows.now) }
+{
+    if made {
+        made_parities(alloc, rows, r)
+    } else {
+        room_for_parities(alloc, rows, r)
+    }
 }
 
 /// Keeps the set that the spans in these frames, of so many pages each, will be under the next set
-/// number, with as many shards as there are blank ones. Answers the parities of their rows. Where
-/// there is no memory, nothing has changed.
+/// number, with as many shards as there are blank ones. Answers the parities of their rows, or the
+/// room for them. Where there is no memory, nothing has changed.
 fn reserve(
     far: &mut Far,
     pages: u32,
     blank: &[Shard],
     frames: &[u32],
     rows: &Rows,
-) -> Result<Rows, NoMemory>
+    made: bool,
+) -> Result<Parities, NoMemory>
     requires there { All (λ f. (span : Contents) × (span_in far.old.spans f ≡ Some span))
         frames.now }
     requires data_rows { length rows.now ≡ length frames.now }
     requires range { IsInRange (length frames.now) (length blank.now - length frames.now) }
     ensures err { OnErr result (far.new ≡ far.old) }
     ensures state { OnOk result (far.new ≡ with_reserved far.old pages blank.now frames.now) }
-    ensures parities { IfOk result (λ parities.
-        AreParities (length frames.now) (length blank.now) rows.now parities) }
+    ensures parities { IfOk result
+        (AreReady made (length blank.now - length frames.now) rows.now) }
 {
     let r = blank.len() - frames.len();
-    let parities = make_parities(far.alloc, rows, r as u32)?;
+    let parities = parities_for(far.alloc, rows, r as u32, made)?;
     let set = next_set(far, pages, blank, frames)?;
     far.sets.put(
         far.counts.sets,
@@ -274,18 +372,20 @@ fn note_batch(
     pages: u32,
     frames: Vec<u32>,
     words: Vec<Former>,
-    parities: Rows,
+    parities: Parities,
     shards: Vec<Option<Shard>>,
-) -> SetId
+) -> u64
     requires counts { far.old.counts.sets < 2 ^ 62 }
-    ensures set { result ≡ record { n = far.old.counts.sets } }
+    requires roomy { AreRoomy pages (length frames.items) parities }
+    ensures set { result ≡ far.old.counts.sets }
     ensures state { far.new ≡ record far.old {
       leaving = Some (record {
         set = far.old.counts.sets;
         pages = pages;
         frames = frames.items;
         words = words.items;
-        parities = parities;
+        made = parities.made;
+        parities = shown_rows parities.made parities.rows;
         shards = shards.items;
       });
       counts = record far.old.counts { sets = far.old.counts.sets + 1 };
@@ -301,5 +401,5 @@ fn note_batch(
         parities,
         shards,
     });
-    SetId { n: set }
+    set
 }

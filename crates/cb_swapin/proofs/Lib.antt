@@ -18,6 +18,8 @@ pub mod SwapStays
 pub mod SwapUnwritten
 pub mod SwapPins
 pub mod FarHomes
+pub mod OrderRow
+pub mod Landed
 mod WorkedNamed
 mod WorkedSwap
 mod WorkedWord

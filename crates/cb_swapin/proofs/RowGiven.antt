@@ -1,5 +1,5 @@
 -- The row of a position as it stands at its node, and the far state once it was given out.
-use Rattle.std.proofs.Common.{◌≡◌, ℕ, ◌*◌, ◌<◌, Bool, true, false, List, [], Option, Some, length, unwrap_or, if◌then◌else◌, is_some, sym, ap, ◌∙◌, arith}
+use Rattle.std.proofs.Common.{◌≡◌, ℕ, ◌+◌, ◌*◌, ◌<◌, Bool, true, false, Bor, List, [], Option, None, Some, length, unwrap_or, if◌then◌else◌, is_some, refl, sym, ap, ◌∙◌, subst, arith}
 use Rattle.std.specs.Prelude.{Result, Ok, Err, OnErr}
 use Rattle.std.specs.List.{slice_get}
 use Rattle.std.specs.Option.{option_map_or}
@@ -13,7 +13,7 @@ use Rattle.cb_world.specs.declared.homes.Home.{Home}
 use Rattle.cb_world.specs.FarState.{FarState}
 use Rattle.cb_world.specs.Fetched.{rows_needed, with_rows_given}
 use Rattle.cb_world.specs.SetWord.{IsWordOf}
-use Rattle.cb_swapin.specs.Fetching.{far_given}
+use Rattle.cb_swapin.specs.Fetching.{IsAtHand, IsRowOf, far_given, rows_taken}
 
 -- the row at the node of a shard that is not lost is that of each word of the set
 pub row_of_word : (nodes : NodesState) (m : Membership) (set : SetState) (p : ℕ) (shard : Shard)
@@ -76,6 +76,32 @@ given_at q far new homes nodes x set p same found given e =
     e ∙ ap (λ (n : NodesState). record q { nodes = n; homes = homes }) given
     ∙ ap (λ (y : SetState). record (far_given q (rows_needed q.members y p)) { homes = homes }) found
     ∙ ap (λ (f : FarState). record (far_given f (rows_needed f.members set p)) { homes = homes }) same
+
+-- ---- a row at hand
+-- where it is that of the set's word, and it stands there as it is
+pub row_at_hand : (given : Option (Bor (List ℕ))) (row : Bor (List ℕ)) (far : FarState) (id p : ℕ)
+    → given ≡ Some row → IsRowOf given far id p → IsRowOf (Some row) far id p
+row_at_hand given row far id p e x = subst (λ (o : Option (Bor (List ℕ))). IsRowOf o far id p) e x
+
+pub it_is_at_hand : (given : Option (Bor (List ℕ))) (row : Bor (List ℕ)) → given ≡ Some row
+    → IsAtHand given row.now
+it_is_at_hand given row e =
+    subst (λ (o : Option (Bor (List ℕ))). IsAtHand o row.now) (sym e) refl
+
+-- the far state is as it was where no row is given out
+pub none_given : (far : FarState) → far ≡ far_given far 0
+none_given far = let e : far.nodes.given ≡ far.nodes.given + 0 = omega arith in
+    ap (λ (n : ℕ). record far { nodes = record far.nodes { given = n } }) e
+
+pub at_hand_given : (q far new : FarState) (homes : List (Option Home))
+    (given : Option (Bor (List ℕ))) (row : Bor (List ℕ)) (set : SetState) (p : ℕ) → q ≡ far
+    → given ≡ Some row → new ≡ record q { homes = homes }
+    → new ≡ record (far_given far (rows_taken given far set p)) { homes = homes }
+at_hand_given q far new homes given row set p same at e =
+    e ∙ ap (λ (f : FarState). record f { homes = homes }) (same ∙ none_given far)
+    ∙ ap (λ (o : Option (Bor (List ℕ))). record (far_given far (rows_taken o far set p)) {
+      homes = homes;
+    }) (sym at)
 
 -- of an error this holds, where it holds anyway
 pub any_err : {T : Type 0} {E : Type 0} (P : Type 0) (r : Result T E) → P → OnErr r P

@@ -15,7 +15,7 @@ use Rattle.cb_world.specs.Plain.{Words}
 use Rattle.cb_world.proofs.Laws.{set_same, IsOneEnd}
 use Rattle.cb_swapin.specs.Named.{AreCleared}
 use Rattle.cb_swapin.specs.SwapRule.{IsSwappedTo, swap_answer}
-use Rattle.cb_swapin.specs.SwapStep.{AreBroughtTo, IsSwapped, IsSwapStep, SwapChange}
+use Rattle.cb_swapin.specs.SwapStep.{AreBroughtTo, BringsChange, IsBringStep, IsSwapped}
 use Rattle.cb_swapin.proofs.SlotNames.{named_or_not}
 
 -- the homes once the named objects have none
@@ -44,9 +44,10 @@ brought_fixed x y z slots class f row a b =
     }
 
 module _ (x y z : Words) (far new other : FarState) (id p : ℕ) (set : SetState) where
-  swapped_to_fixed : (f : ℕ) (a : IsSwappedTo far new id p set f) (b : IsSwappedTo far other id p set f)
+  swapped_to_fixed : (f n : ℕ) (a : IsSwappedTo far new id p set f n)
+      (b : IsSwappedTo far other id p set f n)
       → a.class ≡ b.class → new ≡ other
-  swapped_to_fixed f a b classes =
+  swapped_to_fixed f n a b classes =
       let spans : new.spans ≡ other.spans = a.spans
       ∙ ap (λ (c : Class). set_place far.spans f (Some (span_of c Hot (position_of set p).slots))) classes
       ∙ sym b.spans in
@@ -64,9 +65,10 @@ module _ (x y z : Words) (far new other : FarState) (id p : ℕ) (set : SetState
       })
       ∙ sym b.rest
 
-  swapped_fixed : (f : ℕ) → IsSwapped x y far new id p set f → IsSwapped x z far other id p set f
+  swapped_fixed : (f n : ℕ) → IsSwapped x y far new id p set f n
+      → IsSwapped x z far other id p set f n
       → (y ≡ z) × (new ≡ other)
-  swapped_fixed f a b =
+  swapped_fixed f n a b =
       let slots = (position_of set p).slots in
       let classes : a.state.class ≡ b.state.class = pages_and_slots_tell_class
       a.state.class b.state.class a.state.in_table b.state.in_table
@@ -76,21 +78,23 @@ module _ (x y z : Words) (far new other : FarState) (id p : ℕ) (set : SetState
       subst (λ (l : List ℕ). AreBroughtTo x y slots b.state.class f l) rows
       (subst (λ (c : Class). AreBroughtTo x y slots c f (row_at a.rows p)) classes a.words) in (
         brought_fixed x y z slots b.state.class f (row_at b.rows p) words b.words,
-        swapped_to_fixed f a.state b.state classes,
+        swapped_to_fixed f n a.state b.state classes,
       )
 
-  change_fixed : (r : Reply) → SwapChange x y far new id p set r → SwapChange x z far other id p set r
+  change_fixed : (n : ℕ) (r : Reply) → BringsChange n x y far new id p set r
+      → BringsChange n x z far other id p set r
       → (y ≡ z) × (new ≡ other)
-  change_fixed (answer.Swapped f) a b = swapped_fixed f a b
-  change_fixed r a b = (a.0 ∙ sym b.0, a.1 ∙ sym b.1)
+  change_fixed n (answer.Swapped f) a b = swapped_fixed f n a b
+  change_fixed n r a b = (a.0 ∙ sym b.0, a.1 ∙ sym b.1)
 
-pub swap_step_fixes : (x y z : Words) (far new other : FarState) (id p : ℕ) (r q : Reply)
-    → IsSwapStep x y far new id p r → IsSwapStep x z far other id p q → IsOneEnd r q y z new other
-swap_step_fixes x y z far new other id p r q a b =
+pub swap_step_fixes : {rows : SetState → ℕ} (x y z : Words) (far new other : FarState) (id p : ℕ)
+    (r q : Reply) → IsBringStep rows x y far new id p r → IsBringStep rows x z far other id p q
+    → IsOneEnd r q y z new other
+swap_step_fixes {rows = rows} x y z far new other id p r q a b =
     let sets : a.set ≡ b.set = set_same a.set b.set (sym a.there ∙ b.there) in
     let same : r ≡ q = a.reply ∙ ap (swap_answer far id) sets ∙ sym b.reply in
-    let change : SwapChange x y far new id p b.set q =
-    subst (λ (c : SetState). SwapChange x y far new id p c q) sets
-    (subst (λ (o : Reply). SwapChange x y far new id p a.set o) same a.change) in
-    let ends = change_fixed x y z far new other id p b.set q change b.change in
+    let change : BringsChange (rows b.set) x y far new id p b.set q =
+    subst (λ (c : SetState). BringsChange (rows c) x y far new id p c q) sets
+    (subst (λ (o : Reply). BringsChange (rows a.set) x y far new id p a.set o) same a.change) in
+    let ends = change_fixed x y z far new other id p b.set (rows b.set) q change b.change in
     record { reply = same; words = ends.0; far = ends.1 }

@@ -27,7 +27,7 @@ use Rattle.cb_world.specs.LocalSound.{LiesAt}
 use Rattle.cb_world.specs.World.{word_at, IsKnown}
 use Rattle.cb_world.proofs.Laws.{KeepsPins, StepKeeps, pins_same}
 use Rattle.cb_swapin.specs.Named.{NamesHandle}
-use Rattle.cb_swapin.specs.SwapStep.{IsSwapped, IsSwapStep, brought_word}
+use Rattle.cb_swapin.specs.SwapStep.{IsBringStep, IsSwapped, brought_word}
 use Rattle.cb_swapin.proofs.SlotNames.{named_or_not}
 use Rattle.cb_swapin.proofs.Waits.{free_run}
 use Rattle.cb_swapin.proofs.SwapAnswers.{only_swapped}
@@ -73,11 +73,11 @@ brought_reads len place short = reads (brought_word len place) len place short (
       len_is = omega (arith, e, short);
     }
 
-pub word_reads : (x y : Words) (far new : FarState) (id p : ℕ) (set : SetState) (f : ℕ)
-    → IsSwapped x y far new id p set f → (slot h : ℕ) → NamesHandle (position_of set p).slots slot h
+pub word_reads : (x y : Words) (far new : FarState) (id p : ℕ) (set : SetState) (f n : ℕ)
+    → IsSwapped x y far new id p set f n → (slot h : ℕ) → NamesHandle (position_of set p).slots slot h
     → IsBroughtWord (word_at y h) (len_of (word_at x h))
-word_reads x y far new id p set f w slot h named =
-    subst (λ (n : ℕ). IsBroughtWord n (len_of (word_at x h))) (sym (w.words.here slot h named))
+word_reads x y far new id p set f n w slot h named =
+    subst (λ (m : ℕ). IsBroughtWord m (len_of (word_at x h))) (sym (w.words.here slot h named))
     (brought_reads (len_of (word_at x h)) (slot_place w.state.class f slot)
     (len_of-below (word_at x h)))
 
@@ -88,13 +88,13 @@ pub record HasComeIn (x y : Words) (class : Class) (f slot h : ℕ) : Type 0 whe
   pub reads : IsBroughtWord (word_at y h) (len_of (word_at x h))
   pub place : place_of (word_at y h) ≡ slot_place class f slot
 
-pub come_in : (x y : Words) (far new : FarState) (s t : Shown) (id p : ℕ) (set : SetState) (f : ℕ)
+pub come_in : (x y : Words) (far new : FarState) (s t : Shown) (id p : ℕ) (set : SetState) (f n : ℕ)
     → IsKnown x far s → IsKnown y new t → set_in far.sets id ≡ Some set
-    → least_run far.frames set.pages ≡ Some f → (w : IsSwapped x y far new id p set f)
+    → least_run far.frames set.pages ≡ Some f → (w : IsSwapped x y far new id p set f n)
     → (slot h : ℕ) → NamesHandle (position_of set p).slots slot h → HasComeIn x y w.state.class f slot h
-come_in x y far new s t id p set f k l there least w slot h named =
+come_in x y far new s t id p set f n k l there least w slot h named =
     let was = named_far x far s id p set k there slot h named in
-    let reads = word_reads x y far new id p set f w slot h named in
+    let reads = word_reads x y far new id p set f n w slot h named in
     let below : h < length y.words =
     (let n = w.words.count in let m = was.within in omega (arith, n, m)) in
     let object : object_at t h ≡ is.Here (len_of (word_at y h)) (place_of (word_at y h)) =
@@ -117,15 +117,15 @@ come_in x y far new s t id p set f k l there least w slot h named =
 
 -- ---- every other object
 -- the words after a position came in: its objects had no pins and have none, and others stay
-swapped_pins : (x y : Words) (far new : FarState) (id p : ℕ) (set : SetState) (f : ℕ) (s : Shown)
-    → IsKnown x far s → set_in far.sets id ≡ Some set → IsSwapped x y far new id p set f
+swapped_pins : (x y : Words) (far new : FarState) (id p : ℕ) (set : SetState) (f n : ℕ) (s : Shown)
+    → IsKnown x far s → set_in far.sets id ≡ Some set → IsSwapped x y far new id p set f n
     → KeepsPins x y
-swapped_pins x y far new id p set f s k there w = record {
+swapped_pins x y far new id p set f n s k there w = record {
   settings = w.words.settings;
   count = w.words.count;
   versions = w.words.versions;
   pins = λ h. elim (named_or_not (position_of set p).slots h) [
-    | inl named ↦ (word_reads x y far new id p set f w named.0 h named.1).no_pins
+    | inl named ↦ (word_reads x y far new id p set f n w named.0 h named.1).no_pins
         ∙ sym (none_of h named.0 named.1)
     | inr off ↦ ap pins_of (w.words.others h off)
   ];
@@ -139,29 +139,30 @@ swapped_pins x y far new id p set f s k there w = record {
         → pins_of (word_at x h) ≡ 0
     none_of h slot named = (named_far x far s id p set k there slot h named).no_pins
 
-pub swap_keeps : (x y : Words) (far new : FarState) (id p : ℕ) (r : Reply) (s : Shown)
-    → IsKnown x far s → IsSwapStep x y far new id p r → StepKeeps x y far new
-swap_keeps x y far new id p r s k z = record {
+pub swap_keeps : {rows : SetState → ℕ} (x y : Words) (far new : FarState) (id p : ℕ) (r : Reply)
+    (s : Shown) → IsKnown x far s → IsBringStep rows x y far new id p r → StepKeeps x y far new
+swap_keeps {rows = rows} x y far new id p r s k z = record {
   far = keeps_far x y far new id p r z;
   words = step_cases (KeepsPins x y) x y far new id p r z
       (λ same. subst (KeepsPins x) (sym same.0) (pins_same x))
-      (λ f whole least e w. swapped_pins x y far new id p z.set f s k z.there w);
+      (λ f whole least e w. swapped_pins x y far new id p z.set f (rows z.set) s k z.there w);
 }
 
 -- ---- a step that came into a frame
 -- each object that the position names came in
-pub step_comes_in : (x y : Words) (far new : FarState) (s t : Shown) (id p f : ℕ)
-    → IsKnown x far s → IsKnown y new t → (z : IsSwapStep x y far new id p (answer.Swapped f))
+pub step_comes_in : {rows : SetState → ℕ} (x y : Words) (far new : FarState) (s t : Shown)
+    (id p f : ℕ) → IsKnown x far s → IsKnown y new t → (z : IsBringStep rows x y far new id p (answer.Swapped f))
     → (slot h : ℕ) → NamesHandle (position_of z.set p).slots slot h
     → HasComeIn x y z.change.state.class f slot h
-step_comes_in x y far new s t id p f k l z =
-    come_in x y far new s t id p z.set f k l z.there (only_swapped far id z.set f (sym z.reply)).1
+step_comes_in {rows = rows} x y far new s t id p f k l z =
+    come_in x y far new s t id p z.set f (rows z.set) k l z.there (only_swapped far id z.set f (sym z.reply)).1
     z.change
 
 -- and so an object whose home it is
-pub home_comes_in : (x y : Words) (far new : FarState) (s t : Shown) (h : ℕ) (home : Home) (f : ℕ)
+pub home_comes_in : {rows : SetState → ℕ} (x y : Words) (far new : FarState) (s t : Shown) (h : ℕ)
+    (home : Home) (f : ℕ)
     → IsKnown x far s → IsKnown y new t → home_at far.homes h ≡ Some home
-    → (z : IsSwapStep x y far new home.set home.position (answer.Swapped f))
+    → (z : IsBringStep rows x y far new home.set home.position (answer.Swapped f))
     → HasComeIn x y z.change.state.class f home.slot h
 home_comes_in x y far new s t h home f k l at z =
     let lies = k.sound.away.sound.away.home h home at in

@@ -18,8 +18,8 @@ use Rattle.cb_world.specs.Sets.{set_in}
 use Rattle.cb_world.specs.Sound.{Sound}
 use Rattle.cb_world.proofs.Laws.{AreOwn, KeepCodes, SetCodes, batch_has, codes_kept, codes_same, codes_left, have_codes, own_left, pair_stays, sets_have, left_count, left_given, left_room, StaysIf, stays_given, stays_same}
 use Rattle.cb_swapin.specs.Fetching.{far_given}
-use Rattle.cb_swapin.specs.SwapRule.{IsSwappedTo, SwapFar, SwapRule}
-use Rattle.cb_swapin.specs.SwapStep.{IsSwapStep}
+use Rattle.cb_swapin.specs.SwapRule.{BringsFar, BringsRule, IsSwappedTo, SwapRule}
+use Rattle.cb_swapin.specs.SwapStep.{IsBringStep, IsSwapStep}
 use Rattle.cb_swapin.proofs.SwapKeeps.{step_cases}
 
 -- at most 16 rows are needed, and so at most 16 are given out
@@ -34,9 +34,9 @@ rows_most s far id p set sound there = by (lost_at far.members set.shards p) ref
         (omega arith)
 
 -- its set has the code that it had
-swapped_codes : (far new : FarState) (id p : ℕ) (set : SetState) (f : ℕ)
-    → set_in far.sets id ≡ Some set → IsSwappedTo far new id p set f → KeepCodes far new
-swapped_codes far new id p set f there z =
+swapped_codes : (far new : FarState) (id p : ℕ) (set : SetState) (f n : ℕ)
+    → set_in far.sets id ≡ Some set → IsSwappedTo far new id p set f n → KeepCodes far new
+swapped_codes far new id p set f n there z =
     codes_kept far new (ap (λ (q : FarState). q.code) z.rest)
     (subst (SetCodes far) (sym z.sets)
     (codes_left far far.sets id p set dead_position there (sets_have far)))
@@ -45,29 +45,27 @@ swapped_codes far new id p set f there z =
     (λ own. subst AreOwn (sym z.sets) (own_left far.sets id p set dead_position there own))
 
 -- a position was brought in
-pub swapped_stays : (c : Config) (s : Shown) (far new : FarState) (id p : ℕ) (set : SetState) (f : ℕ)
-    → Sound s far → set_in far.sets id ≡ Some set → IsSwappedTo far new id p set f
-    → StaysIf c 16 far new
-swapped_stays c s far new id p set f sound there z is =
-    let given : new.nodes.given ≡ far.nodes.given + rows_needed far.members set p =
+pub swapped_stays : (c : Config) (far new : FarState) (id p : ℕ) (set : SetState) (f n : ℕ)
+    → n ≤ 16 → set_in far.sets id ≡ Some set → IsSwappedTo far new id p set f n → StaysIf c 16 far new
+swapped_stays c far new id p set f n most there z is =
+    let given : new.nodes.given ≡ far.nodes.given + n =
     ap (λ (q : NodesState). q.given) z.nodes
-    ∙ left_given (with_rows_given far.nodes (rows_needed far.members set p))
+    ∙ left_given (with_rows_given far.nodes n)
     (with_position set p dead_position) in
     let sets : new.counts.sets ≡ far.counts.sets = ap (λ (q : FarState). q.counts.sets) z.rest in
     let keys : new.counts.keys ≡ far.counts.keys = ap (λ (q : FarState). q.counts.keys) z.rest in
     let epoch : new.members.epoch ≡ far.members.epoch = ap (λ (q : FarState). q.members.epoch) z.rest in
-    let keep = swapped_codes far new id p set f there z in
-    let most = rows_most s far id p set sound there in record {
+    let keep = swapped_codes far new id p set f n there z in record {
       configured = record {
         frames = ap (λ (l : List (Option Contents)). length l) z.spans
             ∙ length-set far.spans f (Some (span_of z.class Hot (position_of set p).slots))
             ∙ is.frames;
         homes = z.homes.count ∙ is.homes;
         nodes = ap (λ (q : NodesState). length q.nodes) z.nodes
-            ∙ left_count (with_rows_given far.nodes (rows_needed far.members set p))
+            ∙ left_count (with_rows_given far.nodes n)
             (with_position set p dead_position) ∙ is.nodes;
         room = ap (λ (q : NodesState). q.room) z.nodes
-            ∙ left_room (with_rows_given far.nodes (rows_needed far.members set p))
+            ∙ left_room (with_rows_given far.nodes n)
             (with_position set p dead_position) ∙ is.room;
         codes = have_codes (IsCodeOf c) far new keep is.codes;
       };
@@ -83,36 +81,52 @@ swapped_stays c s far new id p set f sound there z is =
       };
     }
 
-pub swap_stays : (c : Config) (id p : ℕ) (s : Shown) (far new : FarState) (r : Reply)
-    (es : List Event) → Sound s far → SwapRule id p far new r es → StaysIf c 16 far new
-swap_stays c id p s far new r es sound x = by r x.state
+-- where at most 16 rows are given out for each set
+pub bring_stays : {rows : SetState → ℕ} (c : Config) (id p : ℕ) (far new : FarState) (r : Reply)
+    (es : List Event) → ((set : SetState) → set_in far.sets id ≡ Some set → rows set ≤ 16)
+    → BringsRule rows id p far new r es → StaysIf c 16 far new
+bring_stays {rows = rows} c id p far new r es few x = by r x.state
   where
-    by : (q : Reply) → SwapFar far new id p x.set es q → StaysIf c 16 far new
-    by (answer.Swapped f) z = swapped_stays c s far new id p x.set f sound x.there z.0
+    by : (q : Reply) → BringsFar (rows x.set) far new id p x.set es q → StaysIf c 16 far new
+    by (answer.Swapped f) z =
+        swapped_stays c far new id p x.set f (rows x.set) (few x.set x.there) x.there z.0
     by q z = stays_same c 16 far new (omega arith) z.0
 
+pub swap_stays : (c : Config) (id p : ℕ) (s : Shown) (far new : FarState) (r : Reply)
+    (es : List Event) → Sound s far → SwapRule id p far new r es → StaysIf c 16 far new
+swap_stays c id p s far new r es sound x =
+    bring_stays c id p far new r es (λ set there. rows_most s far id p set sound there) x
+
 -- a swap-in makes no other code
-pub swap_codes : (id p : ℕ) (far new : FarState) (r : Reply) (es : List Event)
-    → SwapRule id p far new r es → KeepCodes far new
-swap_codes id p far new r es x = by r x.state
+pub swap_codes : {rows : SetState → ℕ} (id p : ℕ) (far new : FarState) (r : Reply) (es : List Event)
+    → BringsRule rows id p far new r es → KeepCodes far new
+swap_codes {rows = rows} id p far new r es x = by r x.state
   where
-    by : (q : Reply) → SwapFar far new id p x.set es q → KeepCodes far new
-    by (answer.Swapped f) z = swapped_codes far new id p x.set f x.there z.0
+    by : (q : Reply) → BringsFar (rows x.set) far new id p x.set es q → KeepCodes far new
+    by (answer.Swapped f) z = swapped_codes far new id p x.set f (rows x.set) x.there z.0
     by q z = codes_same far new z.0
 
 -- by the step of a still desk
+pub bring_step_stays : {rows : SetState → ℕ} (c : Config) (x y : Words) (far new : FarState)
+    (id p : ℕ) (r : Reply) → ((set : SetState) → set_in far.sets id ≡ Some set → rows set ≤ 16)
+    → IsBringStep rows x y far new id p r → StaysIf c 16 far new
+bring_step_stays {rows = rows} c x y far new id p r few z =
+    step_cases (StaysIf c 16 far new) x y far new id p r z
+    (λ same. stays_same c 16 far new (omega arith) same.1)
+    (λ f whole least e w. swapped_stays c far new id p z.set f (rows z.set) (few z.set z.there)
+    z.there w.state)
+
 pub swap_step_stays : (c : Config) (x y : Words) (far new : FarState) (id p : ℕ) (r : Reply) (s : Shown)
     → Sound s far → IsSwapStep x y far new id p r → StaysIf c 16 far new
 swap_step_stays c x y far new id p r s sound z =
-    step_cases (StaysIf c 16 far new) x y far new id p r z
-    (λ same. stays_same c 16 far new (omega arith) same.1)
-    (λ f whole least e w. swapped_stays c s far new id p z.set f sound z.there w.state)
+    bring_step_stays c x y far new id p r (λ set there. rows_most s far id p set sound there) z
 
-pub swap_step_codes : (x y : Words) (far new : FarState) (id p : ℕ) (r : Reply)
-    → IsSwapStep x y far new id p r → KeepCodes far new
-swap_step_codes x y far new id p r z = step_cases (KeepCodes far new) x y far new id p r z
+pub swap_step_codes : {rows : SetState → ℕ} (x y : Words) (far new : FarState) (id p : ℕ) (r : Reply)
+    → IsBringStep rows x y far new id p r → KeepCodes far new
+swap_step_codes {rows = rows} x y far new id p r z =
+    step_cases (KeepCodes far new) x y far new id p r z
     (λ same. codes_same far new same.1)
-    (λ f whole least e w. swapped_codes far new id p z.set f z.there w.state)
+    (λ f whole least e w. swapped_codes far new id p z.set f (rows z.set) z.there w.state)
 
 -- a swap-in that found no memory may have given rows out
 pub given_stays : (c : Config) (s : Shown) (far : FarState) (id n : ℕ) (set : SetState) → Sound s far

@@ -16,26 +16,27 @@ use Rattle.cb_world.specs.FarSound.{IsSetWord}
 use Rattle.cb_world.specs.Now.{now}
 use Rattle.cb_world.specs.World.{IsKnown}
 use Rattle.cb_world.proofs.Laws.{IsStepKnown, PerformsStill, RunsStill, runs_still, known_then}
-use Rattle.cb_swapin.specs.SwapRule.{IsSwappedTo, SwapFar, SwapRule}
+use Rattle.cb_swapin.specs.SwapRule.{BringsFar, BringsRule, IsSwappedTo}
 use Rattle.cb_swapin.specs.SwapEffect.{IsSwappedIn, SwapEffect}
-use Rattle.cb_swapin.specs.SwapStep.{AreBroughtTo, IsSwapped, SwapChange, IsSwapStep}
+use Rattle.cb_swapin.specs.SwapStep.{AreBroughtTo, BringsChange, IsBringStep, IsSwapped}
 use Rattle.cb_swapin.proofs.SwapAnswers.{by_answer}
 use Rattle.cb_swapin.proofs.SwapWords.{brought_to}
 
 -- how a swap-in's clause reads where its desk is still
-abbrev pub PerformsSwap : Words → Words → FarState → FarState → ℕ → ℕ → Reply → Type 0
-PerformsSwap x y far new id p r =
-    PerformsStill x y far new (SwapRule id p far new r) (SwapEffect id p far new r)
+abbrev pub PerformsSwap : (SetState → ℕ) → Words → Words → FarState → FarState → ℕ → ℕ → Reply
+    → Type 0
+PerformsSwap rows x y far new id p r =
+    PerformsStill x y far new (BringsRule rows id p far new r) (SwapEffect id p far new r)
 
 set_same : (a b : SetState) → Some a ≡ Some b → a ≡ b
 set_same a b e = cc
 
 -- the words and the far state after a position was brought in
 swapped : (x y : Words) (far new : FarState) (s : Shown) (es : List Event) (id p : ℕ)
-    (set : SetState) (f : ℕ) → RunsStill x y far s es → set_in far.sets id ≡ Some set
-    → IsSwappedTo far new id p set f → IsSwappedIn id p f far new es s (played es s)
-    → IsSwapped x y far new id p set f
-swapped x y far new s es id p set f runs there state z =
+    (set : SetState) (f n : ℕ) → RunsStill x y far s es → set_in far.sets id ≡ Some set
+    → IsSwappedTo far new id p set f n → IsSwappedIn id p f far new es s (played es s)
+    → IsSwapped x y far new id p set f n
+swapped x y far new s es id p set f n runs there state z =
     let same : z.set ≡ set = set_same z.set set (sym z.there ∙ there) in
     let found : (rows : List (List ℕ)) × IsSetWord s far.nodes far.members set rows =
     runs.known.sound.away.sound.sets.worded id set there in
@@ -58,13 +59,13 @@ swapped x y far new s es id p set f runs there state z =
     }
 
 -- What a swap-in leaves, by its reply: as its rule and its effect say it, and as a step does.
-abbrev Does : FarState → FarState → ℕ → ℕ → SetState → List Event → Shown → Reply → Type 0
-Does far new id p set es s q =
-    SwapFar far new id p set es q × SwapEffect id p far new q es s (played es s)
+abbrev Does : ℕ → FarState → FarState → ℕ → ℕ → SetState → List Event → Shown → Reply → Type 0
+Does n far new id p set es s q =
+    BringsFar n far new id p set es q × SwapEffect id p far new q es s (played es s)
 
-abbrev Leaves : Words → Words → FarState → FarState → ℕ → ℕ → SetState → List Event → Shown → Reply
-    → Type 0
-Leaves x y far new id p set es s q = SwapChange x y far new id p set q
+abbrev Leaves : ℕ → Words → Words → FarState → FarState → ℕ → ℕ → SetState → List Event → Shown
+    → Reply → Type 0
+Leaves n x y far new id p set es s q = BringsChange n x y far new id p set q
     × ((h : ℕ) → now (played es s) new h ≡ now s far h)
 
 -- a refusal leaves every word, and the far state
@@ -77,29 +78,29 @@ refused x y far new s es run e = (
 )
 
 -- Over a still desk of which all is known a swap-in is a step, and all is known of it afterwards.
-pub swap_step : (x y : Words) (far new : FarState) (id p : ℕ) (r : Reply) (s : Shown)
-    → PerformsSwap x y far new id p r → IsKnown x far s
-    → IsSwapStep x y far new id p r × IsStepKnown y far new s
-swap_step x y far new id p r s op k =
+pub swap_step : {rows : SetState → ℕ} (x y : Words) (far new : FarState) (id p : ℕ) (r : Reply)
+    (s : Shown) → PerformsSwap rows x y far new id p r → IsKnown x far s
+    → IsBringStep rows x y far new id p r × IsStepKnown y far new s
+swap_step {rows = rows} x y far new id p r s op k =
     let es = op.events in
-    let runs = runs_still x y far new (SwapRule id p far new r) (SwapEffect id p far new r) s k op in
-    let set = op.rule.set in
-    let back : Does far new id p set es s r → Leaves x y far new id p set es s r =
-    subst (λ (q : Reply). Does far new id p set es s q → Leaves x y far new id p set es s q)
+    let runs = runs_still x y far new (BringsRule rows id p far new r) (SwapEffect id p far new r) s k op in
+    let set = op.rule.set in let n = rows set in
+    let back : Does n far new id p set es s r → Leaves n x y far new id p set es s r =
+    subst (λ (q : Reply). Does n far new id p set es s q → Leaves n x y far new id p set es s q)
     (sym op.rule.reply)
-    (by_answer (λ (q : Reply). Does far new id p set es s q → Leaves x y far new id p set es s q) far
+    (by_answer (λ (q : Reply). Does n far new id p set es s q → Leaves n x y far new id p set es s q) far
     id set
     (λ broken. refused x y far new s es op.ran.0)
     (λ whole none. refused x y far new s es op.ran.0)
     (λ f whole least e. (
-      swapped x y far new s es id p set f runs op.rule.there e.0.0 e.1,
+      swapped x y far new s es id p set f n runs op.rule.there e.0.0 e.1,
       e.1.same_now,
     ))) in
     let done = back (op.rule.state, op.effect s ((k.sized, k.shows), k.sound)) in (
       record { set = set; there = op.rule.there; reply = op.rule.reply; change = done.0 },
       record {
         shown = played es s;
-        known = known_then x y far new (SwapRule id p far new r) (SwapEffect id p far new r) s k op;
+        known = known_then x y far new (BringsRule rows id p far new r) (SwapEffect id p far new r) s k op;
         same_now = done.1;
       },
     )

@@ -1,5 +1,5 @@
 -- What a swap-in comes to: its answers, the far state after it, and its effect.
-use Rattle.std.proofs.Common.{◌≡◌, ℕ, Bool, true, false, List, Option, Some, None, if◌then◌else◌, length, set, refl, sym, ap, ◌∙◌, subst, []}
+use Rattle.std.proofs.Common.{◌≡◌, ℕ, Bool, true, false, Bor, List, Option, Some, None, if◌then◌else◌, length, set, refl, sym, ap, ◌∙◌, subst, []}
 use Rattle.cb_class.specs.Class.{pages_of}
 use Rattle.cb_frame.specs.FreeFrames.{with_run_taken}
 use Rattle.cb_frame.specs.Runs.{least_run}
@@ -14,7 +14,6 @@ use Rattle.cb_world.specs.declared.event.Event.{Event}
 use Rattle.cb_world.specs.declared.homes.Home.{Home}
 use Rattle.cb_world.specs.declared.shown.Shown.{Shown}
 use Rattle.cb_world.specs.SetWord.{is_broken}
-use Rattle.cb_world.specs.Fetched.{rows_needed}
 use Rattle.cb_world.specs.FarState.{FarState}
 use Rattle.cb_world.specs.LeftOver.{nodes_left, sets_left, survey_left}
 use Rattle.cb_world.specs.Written.{Writes}
@@ -22,7 +21,7 @@ use Rattle.cb_swapin.specs.Named.{AreCleared}
 use Rattle.cb_world.specs.declared.survey.Survey.{Survey}
 use Rattle.cb_world.proofs.Laws.{left_whole}
 use Rattle.cb_swapin.specs.BroughtIn.{IsSpanBrought}
-use Rattle.cb_swapin.specs.Fetching.{IsFetched, far_given, losses_told}
+use Rattle.cb_swapin.specs.Fetching.{IsAtHand, IsFetched, far_given, losses_told}
 use Rattle.cb_swapin.specs.SwapRule.{IsSwappedTo, frame_answer, swap_answer}
 use Rattle.cb_swapin.specs.SwapEffect.{IsSwappedIn}
 use Rattle.cb_swapin.proofs.Waits.{CanArrive}
@@ -119,13 +118,12 @@ abbrev with_span : List (Option Contents) → ℕ → Contents → List (Option 
 with_span spans f c = set spans f (Some c)
 
 pub swapped_to : (far new : FarState) (homes : List (Option Home)) (id p : ℕ) (set : SetState)
-    (f : ℕ) (span : Contents) (row : List ℕ) → IsFetched far set p span row
-    → new ≡ with_arrived (far_given far (rows_needed far.members set p)) homes id
-    (with_position set p dead_position) f span
+    (f n : ℕ) (span : Contents) (row : List ℕ) → IsFetched far set p span row
+    → new ≡ with_arrived (far_given far n) homes id (with_position set p dead_position) f span
     → is_broken far.members set ≡ false → AreCleared span.slots far.homes homes
-    → IsSwappedTo far new id p set f
-swapped_to far new homes id p set f span row x e whole cleared =
-    subst (λ (q : FarState). IsSwappedTo far q id p set f) (sym e) (record {
+    → IsSwappedTo far new id p set f n
+swapped_to far new homes id p set f n span row x e whole cleared =
+    subst (λ (q : FarState). IsSwappedTo far q id p set f n) (sym e) (record {
       class = span.class;
       in_table = x.valid.in_table;
       paged = x.pages;
@@ -136,17 +134,17 @@ swapped_to far new homes id p set f span row x e whole cleared =
       homes = subst (λ (l : List (Option ℕ)). AreCleared l far.homes homes) x.slots cleared;
       sets = refl;
       nodes = refl;
-      rest = ap (λ (v : Survey). record (with_arrived (far_given far (rows_needed far.members set p))
-          homes id (with_position set p dead_position) f span) { survey = v })
+      rest = ap (λ (v : Survey). record (with_arrived (far_given far n) homes id
+          (with_position set p dead_position) f span) { survey = v })
           (left_whole far id set p dead_position whole);
     })
 
 -- ---- the effect
-pub swapped_in : (s t : Shown) (far new : FarState) (id p : ℕ) (set : SetState) (f n : ℕ)
-    (span : Contents) (row : List ℕ) (es : List Event) → CanArrive s far id p set f span row
+pub swapped_in : (given : Option (Bor (List ℕ))) (s t : Shown) (far new : FarState) (id p : ℕ)
+    (set : SetState) (f n : ℕ) (span : Contents) (row : List ℕ) (es : List Event) → CanArrive s far id p set f span row
     → HasArrived s t far new id p set f n span row → Writes es s []
-    → IsSwappedIn id p f far new es s t
-swapped_in s t far new id p set f n span row es x y nothing = record {
+    → IsAtHand given row → (done : IsSwappedIn id p f far new es s t) × IsAtHand given done.row
+swapped_in given s t far new id p set f n span row es x y nothing hand = (record {
   set = set;
   there = x.there;
   class = span.class;
@@ -159,4 +157,4 @@ swapped_in s t far new id p set f n span row es x y nothing = record {
       y.brought;
   nothing = nothing;
   same_now = now_arrived s t far new id p set f n span row x y;
-}
+}, hand)

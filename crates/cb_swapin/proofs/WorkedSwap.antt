@@ -173,7 +173,7 @@ the_one (suc (suc zero)) h e = absurd (none-some h e)
 the_one (suc (suc (suc zero))) h e = absurd (none-some h e)
 the_one (suc (suc (suc (suc slot)))) h e = absurd (none-some h e)
 
-pub swapped : IsSwappedTo old new 5 0 set 1
+pub swapped : IsSwappedTo old new 5 0 set 1 1
 unfolding slots_of pages_of bytes_of
 swapped = record {
   class = class;
@@ -200,7 +200,7 @@ swapped = record {
 
 -- not to this state
 abbrev Refuted : FarState → Type 0
-Refuted g = IsSwappedTo old g 5 0 set 1 → ⊥
+Refuted g = IsSwappedTo old g 5 0 set 1 1 → ⊥
 
 leaves_the_frame_free : Refuted (record new { frames = some_free })
 leaves_the_frame_free x = true_false (ap (λ (l : List Bool). get_or l 1 false) x.frames)

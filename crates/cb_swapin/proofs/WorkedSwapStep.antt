@@ -13,7 +13,7 @@ use Rattle.cb_span.specs.Places.{slot_place}
 use Rattle.cb_types.specs.declared.config.Config.{Config}
 use Rattle.cb_types.specs.declared.reply.Reply.{Reply}
 use Rattle.cb_types.specs.declared.reply.Reply.TheVariants as answer
-use Rattle.cb_world.specs.Fetched.{with_rows_given}
+use Rattle.cb_world.specs.Fetched.{rows_needed, with_rows_given}
 use Rattle.cb_world.specs.FarState.{FarState}
 use Rattle.cb_world.specs.Memory.{put}
 use Rattle.cb_world.specs.Plain.{Words}
@@ -185,7 +185,7 @@ old_at nodes = record old { nodes = nodes }
 abbrev new_at : NodesState → FarState
 new_at nodes = record new { nodes = with_rows_given nodes 1 }
 
-swapped_at : (nodes : NodesState) → IsSwappedTo (old_at nodes) (new_at nodes) 5 0 set 1
+swapped_at : (nodes : NodesState) → IsSwappedTo (old_at nodes) (new_at nodes) 5 0 set 1 1
 unfolding slots_of pages_of bytes_of
 swapped_at nodes = record {
   class = class;
@@ -204,7 +204,7 @@ there : set_in old.sets 5 ≡ Some set
 there = grind (arith, map.gets)
 
 is_swapped : (c : Config) (memory : List ℕ) → IsSwapped (before c memory)
-    (afterwards c (put memory 512 (words_in (row 7)))) (old_at nodes) (new_at nodes) 5 0 set 1
+    (afterwards c (put memory 512 (words_in (row 7)))) (old_at nodes) (new_at nodes) 5 0 set 1 1
 unfolding swapped_at
 is_swapped c memory = record {
   state = swapped_at nodes;
@@ -227,7 +227,7 @@ swaps_in c memory = record {
 -- another row stands in the frame than that of the set's word
 has_another_rows_words : (c : Config) (m n : List ℕ) → 1024 ≤ length m
     → get_or n 512 0 ≢ get_or (words_in (row 7)) 0 0
-    → IsSwapped (before c m) (afterwards c n) (old_at nodes) (new_at nodes) 5 0 set 1 → ⊥
+    → IsSwapped (before c m) (afterwards c n) (old_at nodes) (new_at nodes) 5 0 set 1 1 → ⊥
 has_another_rows_words c m n room other z =
     let found = row_at z.rows 0 in
     let w = length_words (length found / 8) found in
@@ -237,9 +237,9 @@ has_another_rows_words c m n room other z =
     ∙ ap (λ (l : List ℕ). get_or (words_in l) 0 0) (sym (z.one_row rows is_word)))
 
 -- the objects are here, and the far state is as it was
-leaves_the_far_state : (x y : Words) (nodes : NodesState)
-    → IsSwapped x y (old_at nodes) (old_at nodes) 5 0 set 1 → ⊥
-leaves_the_far_state x y nodes z =
+leaves_the_far_state : (x y : Words) (nodes : NodesState) (n : ℕ)
+    → IsSwapped x y (old_at nodes) (old_at nodes) 5 0 set 1 n → ⊥
+leaves_the_far_state x y nodes n z =
     true_false (ap (λ (l : List Bool). get_or l 1 false) z.state.frames)
   where
     true_false : true ≡ false → ⊥
@@ -247,14 +247,14 @@ leaves_the_far_state x y nodes z =
 
 -- the far state has the span, and the object is far as before
 leaves_the_words : (c : Config) (memory : List ℕ) (far new : FarState)
-    → IsSwapped (before c memory) (before c memory) far new 5 0 set 1 → ⊥
+    → IsSwapped (before c memory) (before c memory) far new 5 0 set 1 1 → ⊥
 leaves_the_words c memory far new z = here_or_far (len_of away) _ (z.words.here 1 0 refl)
   where
     here_or_far : (len place : ℕ) → away ≡ brought_word len place → ⊥
     here_or_far len place e = omega (arith, e)
 
 -- no row of the set stands at its nodes
-has_no_word : (x y : Words) → IsSwapped x y old new 5 0 set 1 → ⊥
+has_no_word : (x y : Words) → IsSwapped x y old new 5 0 set 1 1 → ⊥
 has_no_word x y z = none-some (row_at z.rows 0) (sym none ∙ z.word.survive 0 (at 0 7) refl refl)
   where
     none : row_under old.nodes (at 0 7).node 7 ≡ None
@@ -264,7 +264,7 @@ has_no_word x y z = none-some (row_at z.rows 0) (sym none ∙ z.word.survive 0 (
 has_two_rows : (x y : Words) (held : NodesState) (one other : List (List ℕ))
     → IsWordOf held members set one → IsWordOf held members set other
     → row_at one 0 ≢ row_at other 0
-    → IsSwapped x y (old_at held) (new_at held) 5 0 set 1 → ⊥
+    → IsSwapped x y (old_at held) (new_at held) 5 0 set 1 1 → ⊥
 has_two_rows x y held one other a b differ z =
     differ (z.one_row one a ∙ sym (z.one_row other b))
 
@@ -290,9 +290,10 @@ into_another_frame x y far z = by z.set (same_Some set z.set (sym there ∙ z.th
 into_the_frame_without_change : (x : Words) → IsSwapStep x x old old 5 0 (answer.Swapped 1) → ⊥
 into_the_frame_without_change x z = by z.set (same_Some set z.set (sym there ∙ z.there)) z.change
   where
-    by : (s : SetState) → set ≡ s → IsSwapped x x old old 5 0 s 1 → ⊥
-    by s e change = leaves_the_far_state x x old.nodes
-        (subst (λ (q : SetState). IsSwapped x x old old 5 0 q 1) (sym e) change)
+    by : (s : SetState) → set ≡ s → IsSwapped x x old old 5 0 s 1 (rows_needed members s 0) → ⊥
+    by s e change = leaves_the_far_state x x old.nodes (rows_needed members set 0)
+        (subst (λ (q : SetState). IsSwapped x x old old 5 0 q 1 (rows_needed members q 0)) (sym e)
+        change)
 
 -- ---- a refusal, where no frame is free
 refuses : (x : Words) → IsSwapStep x x refused refused 5 0 answer.NoFrame

@@ -6,3 +6,7 @@ pub mod Fetching
 pub mod SwapRule
 pub mod SwapEffect
 pub mod SwapStep
+pub mod FetchStep
+pub mod LandRule
+pub mod LandEffect
+pub mod LandStep

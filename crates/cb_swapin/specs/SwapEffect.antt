@@ -1,5 +1,6 @@
 -- What a swap-in does to the objects and the memory.
-use Rattle.std.specs.Prelude.{◌≡◌, ℕ, List, [], Some, length}
+use Rattle.std.specs.Prelude.{◌≡◌, ℕ, List, [], Option, Some, length}
+use Rattle.std.specs.Borrow.{Bor}
 use Rattle.cb_class.specs.declared.class.Class.{Class}
 use Rattle.cb_class.specs.Class.{IsClass, pages_of, slots_of}
 use Rattle.cb_gf256.specs.Rows.{row_at}
@@ -14,6 +15,7 @@ use Rattle.cb_world.specs.SetWord.{IsWordOf}
 use Rattle.cb_world.specs.FarState.{FarState}
 use Rattle.cb_world.specs.Written.{Writes}
 use Rattle.cb_swapin.specs.BroughtIn.{IsSpanBrought}
+use Rattle.cb_swapin.specs.Fetching.{IsAtHand}
 
 -- The objects of the position are here in the span at the frame, and the row of the position in the
 -- set's word stands there. No version is written, and the last complete contents of every handle stay.
@@ -36,3 +38,10 @@ pub record IsSwappedIn (id p f : ℕ) (far new : FarState) (es : List Event) (s 
 abbrev pub SwapEffect : ℕ → ℕ → FarState → FarState → Reply → List Event → Shown → Shown → Type 0
 SwapEffect id p far new (answer.Swapped f) es s t = IsSwappedIn id p f far new es s t
 SwapEffect id p far new _ es s t = t ≡ s
+
+-- so where a row is at hand: it is the one that stands there
+abbrev pub BringsEffect : Option (Bor (List ℕ)) → ℕ → ℕ → FarState → FarState → Reply → List Event
+    → Shown → Shown → Type 0
+BringsEffect given id p far new (answer.Swapped f) es s t =
+    (done : IsSwappedIn id p f far new es s t) × IsAtHand given done.row
+BringsEffect given id p far new _ es s t = t ≡ s

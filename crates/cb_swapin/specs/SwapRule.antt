@@ -35,9 +35,9 @@ swap_answer far id set =
 -- The far state once position p of the set was brought into the frames from this one on, as many
 -- as the set's spans have: they are taken, and have the hot span of the position's slots, whose
 -- count tells their class with that length; the objects have no home; the rows that were needed
--- were given out; the position is dead, and a set with no live position is dropped with its rows.
--- All else is as it was.
-pub record IsSwappedTo (far new : FarState) (id p : ℕ) (set : SetState) (f : ℕ) : Type 0 where
+-- were given out, n of them; the position is dead, and a set with no live position is dropped with
+-- its rows. All else is as it was.
+pub record IsSwappedTo (far new : FarState) (id p : ℕ) (set : SetState) (f n : ℕ) : Type 0 where
   pub class : Class
   pub in_table : IsClass class
   pub paged : pages_of class ≡ set.pages
@@ -48,8 +48,7 @@ pub record IsSwappedTo (far new : FarState) (id p : ℕ) (set : SetState) (f : �
   pub homes : AreCleared (position_of set p).slots far.homes new.homes
   pub sets : new.sets ≡ sets_left far.sets id (with_position set p dead_position)
   pub nodes : new.nodes
-      ≡ nodes_left (with_rows_given far.nodes (rows_needed far.members set p))
-      (with_position set p dead_position)
+      ≡ nodes_left (with_rows_given far.nodes n) (with_position set p dead_position)
   pub rest : new ≡ record far {
     frames = new.frames;
     spans = new.spans;
@@ -58,15 +57,26 @@ pub record IsSwappedTo (far new : FarState) (id p : ℕ) (set : SetState) (f : �
     nodes = new.nodes;
   }
 
--- the far state after a swap-in with this reply, and its events; a refusal changes nothing
-abbrev pub SwapFar : FarState → FarState → ℕ → ℕ → SetState → List Event → Reply → Type 0
-SwapFar far new id p set es (answer.Swapped f) =
-    IsSwappedTo far new id p set f × BringsSlots (position_of set p).slots f set.pages es
-SwapFar far new id p set es _ = (new ≡ far) × (es ≡ [])
+-- The far state after a position was brought in with this reply, and its events, where that takes n
+-- rows; a refusal changes nothing.
+abbrev pub BringsFar : ℕ → FarState → FarState → ℕ → ℕ → SetState → List Event → Reply → Type 0
+BringsFar n far new id p set es (answer.Swapped f) = IsSwappedTo far new id p set f n
+    × BringsSlots (position_of set p).slots f set.pages es
+BringsFar n far new id p set es _ = (new ≡ far) × (es ≡ [])
 
--- the reply of a swap-in of position p of the set of a number, and the far state after it
-pub record SwapRule (id p : ℕ) (far new : FarState) (r : Reply) (es : List Event) : Type 0 where
+-- The reply of bringing position p of the set of a number in, and the far state after it, where
+-- that takes so many rows of each set.
+pub record BringsRule (rows : SetState → ℕ) (id p : ℕ) (far new : FarState) (r : Reply)
+    (es : List Event) : Type 0 where
   pub set : SetState
   pub there : set_in far.sets id ≡ Some set
   pub reply : r ≡ swap_answer far id set
-  pub state : SwapFar far new id p set es r
+  pub state : BringsFar (rows set) far new id p set es r
+
+-- a swap-in gives the rows out that are needed for the position's
+abbrev pub SwapFar : FarState → FarState → ℕ → ℕ → SetState → List Event → Reply → Type 0
+SwapFar far new id p set es r = BringsFar (rows_needed far.members set p) far new id p set es r
+
+-- the reply of a swap-in of position p of the set of a number, and the far state after it
+abbrev pub SwapRule : ℕ → ℕ → FarState → FarState → Reply → List Event → Type 0
+SwapRule id p far new r es = BringsRule (λ set. rows_needed far.members set p) id p far new r es

@@ -15,6 +15,7 @@ use Rattle.cb_world.specs.World.{word_at}
 use Rattle.cb_world.specs.Sets.{set_in}
 use Rattle.cb_world.specs.SetWord.{IsWordOf}
 use Rattle.cb_world.specs.FarState.{FarState}
+use Rattle.cb_world.specs.Fetched.{rows_needed}
 use Rattle.cb_swapin.specs.Named.{NamesHandle, IsNamed}
 use Rattle.cb_swapin.specs.SwapRule.{IsSwappedTo, swap_answer}
 
@@ -43,10 +44,11 @@ pub record AreBroughtTo (x y : Words) (slots : List (Option ℕ)) (class : Class
   pub others : (h : ℕ) → (IsNamed slots h → ⊥) → word_at y h ≡ word_at x h
 
 -- The far state and the words once position p of the set was brought into the frames from this one
--- on: the set has a word, each such word has the same row at p, and that row stands in the frames.
-pub record IsSwapped (x y : Words) (far new : FarState) (id p : ℕ) (set : SetState) (f : ℕ) : Type 0
-  where
-    pub state : IsSwappedTo far new id p set f
+-- on, which took n rows: the set has a word, each such word has the same row at p, and that row
+-- stands in the frames.
+pub record IsSwapped (x y : Words) (far new : FarState) (id p : ℕ) (set : SetState) (f n : ℕ)
+    : Type 0 where
+    pub state : IsSwappedTo far new id p set f n
     pub rows : List (List ℕ)
     pub word : IsWordOf far.nodes far.members set rows
     pub one_row : (others : List (List ℕ)) → IsWordOf far.nodes far.members set others
@@ -54,14 +56,26 @@ pub record IsSwapped (x y : Words) (far new : FarState) (id p : ℕ) (set : SetS
     pub words : AreBroughtTo x y (position_of set p).slots state.class f (row_at rows p)
 
 -- by the reply; a refusal changes nothing
-abbrev pub SwapChange : Words → Words → FarState → FarState → ℕ → ℕ → SetState → Reply → Type 0
-SwapChange x y far new id p set (answer.Swapped f) = IsSwapped x y far new id p set f
-SwapChange x y far new id p set r = (y ≡ x) × (new ≡ far)
+abbrev pub BringsChange : ℕ → Words → Words → FarState → FarState → ℕ → ℕ → SetState → Reply → Type 0
+BringsChange n x y far new id p set (answer.Swapped f) = IsSwapped x y far new id p set f n
+BringsChange n x y far new id p set r = (y ≡ x) × (new ≡ far)
 
--- A swap-in of position p of the set of this number leads from the words x and a far state to the
--- words y and another, with this reply.
-pub record IsSwapStep (x y : Words) (far new : FarState) (id p : ℕ) (r : Reply) : Type 0 where
+-- Bringing position p of the set of this number in leads from the words x and a far state to the
+-- words y and another, with this reply, where it takes so many rows of each set.
+pub record IsBringStep (rows : SetState → ℕ) (x y : Words) (far new : FarState) (id p : ℕ)
+    (r : Reply) : Type 0 where
   pub set : SetState
   pub there : set_in far.sets id ≡ Some set
   pub reply : r ≡ swap_answer far id set
-  pub change : SwapChange x y far new id p set r
+  pub change : BringsChange (rows set) x y far new id p set r
+
+-- a swap-in gives the rows out that are needed for the position's
+abbrev pub SwapChange : Words → Words → FarState → FarState → ℕ → ℕ → SetState → Reply → Type 0
+SwapChange x y far new id p set r =
+    BringsChange (rows_needed far.members set p) x y far new id p set r
+
+-- A swap-in of position p of the set of this number leads from the words x and a far state to the
+-- words y and another, with this reply.
+abbrev pub IsSwapStep : Words → Words → FarState → FarState → ℕ → ℕ → Reply → Type 0
+IsSwapStep x y far new id p r =
+    IsBringStep (λ set. rows_needed far.members set p) x y far new id p r

@@ -1,4 +1,4 @@
-ghost use Rattle.std.specs.Prelude.{◌≡◌, ℕ, true, false, ◌+◌, ◌^◌, ◌<◌, ◌≤◌, Some, IfOk, OnOk, OnErr, length, slice_set};
+ghost use Rattle.std.specs.Prelude.{◌≡◌, ℕ, true, false, ◌+◌, ◌^◌, ◌<◌, ◌≤◌, None, Some, IfNone, IfOk, OnOk, OnErr, length, slice_set};
 ghost use Rattle.cb_types.specs.Config.{IsAccepted};
 ghost use Rattle.cb_class.specs.Class.{pages_of};
 ghost use Rattle.cb_frame.specs.FreeFrames.{with_run_taken};
@@ -13,9 +13,9 @@ ghost use Rattle.cb_world.specs.Stored.{AreThere};
 ghost use Rattle.cb_set.specs.Lost.{NodesAreMembers};
 ghost use Rattle.cb_world.specs.LeftOver.{with_left};
 ghost use Rattle.cb_world.specs.Performs.{Performs};
-ghost use Rattle.cb_swapin.specs.Fetching.{BringsRow, IsSpanOf, far_given, losses_told};
-ghost use Rattle.cb_swapin.specs.SwapRule.{SwapRule};
-ghost use Rattle.cb_swapin.specs.SwapEffect.{SwapEffect};
+ghost use Rattle.cb_swapin.specs.Fetching.{BringsRow, IsRowOf, IsSpanOf, far_given, losses_told, rows_lacked, rows_taken};
+ghost use Rattle.cb_swapin.specs.SwapRule.{BringsRule, SwapRule};
+ghost use Rattle.cb_swapin.specs.SwapEffect.{BringsEffect, SwapEffect};
 
 use crate::bringing::bring_span;
 use cb_class::{class_of_span, pages};
@@ -54,6 +54,34 @@ pub fn swap_in<D: Desk>(
     ensures far { OnErr result ((set : SetState) → set_in far.old.sets id.n ≡ Some set → (n : ℕ)
         × (n ≤ length set.positions) × (far.new ≡ far_given far.old n)) }
 {
+    bring_in(desk, far, id, position, None)
+}
+
+/// Swaps the span of a live position of a committed set in, with the row at hand where there is one.
+/// Then no row is given out; else as many as a swap-in gives. Where there is no memory, nothing else
+/// has changed.
+pub(crate) fn bring_in<D: Desk>(
+    desk: &mut D,
+    far: &mut Far,
+    id: SetId,
+    position: u32,
+    given: Option<&[u8]>,
+) -> Result<Reply, NoMemory>
+    requires config { IsAccepted (D.settings desk.old) }
+    requires live { (set : SetState) × (set_in far.old.sets id.n ≡ Some set)
+        × (live_at set position ≡ true) }
+    requires sound { (s : Shown) × D.shows desk.old s × Sound s far.old }
+    requires row { IsRowOf given far.old id.n position }
+    requires given { IfNone given (far.old.nodes.given + 16 < 2 ^ 64) }
+    ensures swap { IfOk result (λ reply. Performs (λ es. D.run desk.old es desk.new)
+        (λ s. D.shows desk.old s × Sound s far.old)
+        (BringsRule (λ set. rows_taken given.entry far.old set position) id.n position far.old far.new reply)
+        (λ t. Sound t far.new)
+        (BringsEffect given.entry id.n position far.old far.new reply)) }
+    ensures desk { OnErr result (desk.new ≡ desk.old) }
+    ensures far { OnErr result ((set : SetState) → set_in far.old.sets id.n ≡ Some set → (n : ℕ)
+        × (n ≤ rows_lacked given.entry set) × (far.new ≡ far_given far.old n)) }
+{
     if let Some(lost) = losses(far, id)? {
         return Ok(Reply::Unavailable { set: id, lost });
     }
@@ -62,13 +90,13 @@ pub fn swap_in<D: Desk>(
         return Ok(Reply::NoFrame);
     };
     let span = span_at(far, id, position)?;
-    bring_row(desk, far, id, position, frame, &span)?;
+    bring_row(desk, far, id, position, frame, &span, given)?;
     keep_span(far, id, position, frame, span);
     Ok(Reply::Swapped { frame })
 }
 
 /// What a committed set has lost, where it has lost more shards than it has parities.
-fn losses(far: &Far, id: SetId) -> Result<Option<Losses>, NoMemory>
+pub(crate) fn losses(far: &Far, id: SetId) -> Result<Option<Losses>, NoMemory>
     requires sound { (s : Shown) × AwaySound s far.now }
     requires there { (set : SetState) × (set_in far.now.sets id.n ≡ Some set) }
     ensures { IfOk result (λ lost. (set : SetState) → set_in far.now.sets id.n ≡ Some set
@@ -107,11 +135,46 @@ fn span_at(far: &Far, id: SetId, position: u32) -> Result<Span, NoMemory>
     Ok(Span::from_slots(far.alloc, class, Temp::Hot, slots)?)
 }
 
+/// Brings the span of a live position of a committed set into the least run that it fits: with the
+/// row at hand where there is one, else with its own.
+fn bring_row<D: Desk>(
+    desk: &mut D,
+    far: &mut Far,
+    id: SetId,
+    position: u32,
+    frame: u32,
+    span: &Span,
+    given: Option<&[u8]>,
+) -> Result<(), NoMemory>
+    requires config { IsAccepted (D.settings desk.old) }
+    requires least { least_run far.old.frames (pages_of span.now.class) ≡ Some frame }
+    requires frames { frame + pages_of span.now.class ≤ (D.settings desk.old).frames }
+    requires live { (set : SetState) × (set_in far.old.sets id.n ≡ Some set)
+        × (live_at set position ≡ true) × (is_broken far.old.members set ≡ false) }
+    requires span { (set : SetState) → set_in far.old.sets id.n ≡ Some set
+        → IsSpanOf set position span.now }
+    requires sound { (s : Shown) × D.shows desk.old s × Sound s far.old }
+    requires row { IsRowOf given far.old id.n position }
+    requires given { IfNone given (far.old.nodes.given + 16 < 2 ^ 64) }
+    ensures row { OnOk result ((set : SetState) → set_in far.old.sets id.n ≡ Some set
+        → BringsRow (λ es. D.run desk.old es desk.new) (λ s. D.shows desk.old s)
+        far.old far.new set position frame span.now given.entry) }
+    ensures desk { OnErr result (desk.new ≡ desk.old) }
+    ensures far { OnErr result ((set : SetState) → set_in far.old.sets id.n ≡ Some set → (n : ℕ)
+        × (n ≤ rows_lacked given.entry set) × (far.new ≡ far_given far.old n)) }
+{
+    let Some(row) = given else {
+        return bring_own_row(desk, far, id, position, frame, span);
+    };
+    bring_span(desk, &mut far.homes, frame, span, row);
+    Ok(())
+}
+
 /// Brings the span of a live position of a committed set into the least run that it fits. Where the
 /// position's shard is not lost, its row is stored from where it stands at its node; else the row
 /// that k others make is. Where there is no memory for that one, at most k rows were given out and
 /// nothing else has changed.
-fn bring_row<D: Desk>(
+fn bring_own_row<D: Desk>(
     desk: &mut D,
     far: &mut Far,
     id: SetId,
@@ -130,7 +193,7 @@ fn bring_row<D: Desk>(
     requires given { far.old.nodes.given + 16 < 2 ^ 64 }
     ensures row { OnOk result ((set : SetState) → set_in far.old.sets id.n ≡ Some set
         → BringsRow (λ es. D.run desk.old es desk.new) (λ s. D.shows desk.old s)
-        far.old far.new set position frame span.now) }
+        far.old far.new set position frame span.now None) }
     ensures desk { OnErr result (desk.new ≡ desk.old) }
     ensures far { OnErr result ((set : SetState) → set_in far.old.sets id.n ≡ Some set → (n : ℕ)
         × (n ≤ length set.positions) × (far.new ≡ far_given far.old n)) }

@@ -46,6 +46,7 @@ pub use Rattle.cb_world.proofs.Pins.{known_word, pin_counts, pin_sound, pinned_s
 pub use Rattle.cb_world.proofs.PlaceSet.{place_back, place_here, place_on}
 pub use Rattle.cb_world.proofs.Placed.{IsCountedMade, made_counted, may_lie, next_counted, slot_bounds, sound_brought, with_made}
 pub use Rattle.cb_world.proofs.Reserving.{noted_by, reserved_is_other, reserved_uncommitted}
+pub use Rattle.cb_world.proofs.RoomRows.{shown_count, shown_made}
 pub use Rattle.cb_world.proofs.Rooms.{room_dropped, room_empty, room_left, room_put, room_puts, room_wiped}
 pub use Rattle.cb_world.proofs.RowPut.{HasRowPut, IsNewOr, IsRefilled, IsRenamed, row_put_away, row_put_join, row_put_words}
 pub use Rattle.cb_world.proofs.RowWords.{length_words, row_length, row_put, windows_agree, words_in_row, words_of_row}

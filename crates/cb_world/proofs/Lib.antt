@@ -109,6 +109,7 @@ mod WorkedAdded
 mod WorkedJoin
 mod WorkedPairs
 mod WorkedBatch
+mod WorkedParities
 mod WorkedRooms
 pub mod WorkedWord
 pub mod Laws

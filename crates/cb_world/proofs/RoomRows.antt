@@ -13,7 +13,8 @@ pub copied_more : (len : ℕ) (from into : List (List ℕ)) (at : ℕ) (bytes : 
     → ((i : ℕ) → i < at → row_at into i ≡ row_at from i)
     → (i : ℕ) → i < at + 1 → row_at (with_row into at bytes) i ≡ row_at from i
 copied_more len from into at bytes long e same within before i l =
-    let written = written_row into at bytes (subst (λ (n : ℕ). HaveLength n into) (sym e) long) within in
+    let written = written_row into at bytes
+    (subst (λ (n : ℕ). HaveLength n into) (sym e) long) within in
     ap (λ (rows : List (List ℕ)). get_or rows i []) written
     ∙ ⊎_elim
     (λ here. ap (λ (j : ℕ). get_or (set into at bytes) j []) here

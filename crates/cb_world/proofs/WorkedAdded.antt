@@ -430,7 +430,15 @@ key_not_drawn x = absurd (let l : 3 < 3 = x.keys 1 (at 1 3) refl in omega (arith
 
 -- a row of the batch that is leaving has the key
 abbrev batch : List ℕ → List (Option Shard) → LeavingState
-batch frames shards = record { set = 5; pages = 1; frames = frames; words = []; made = true; parities = []; shards = shards }
+batch frames shards = record {
+  set = 5;
+  pages = 1;
+  frames = frames;
+  words = [];
+  made = true;
+  parities = [];
+  shards = shards;
+}
 
 abbrev leaves : LeavingState → FarState → FarState
 leaves batch far = record far { leaving = Some batch }

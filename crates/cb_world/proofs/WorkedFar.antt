@@ -296,7 +296,15 @@ held_by_the_claim = refl
 
 -- the batch that is leaving
 abbrev pub batch : LeavingState
-batch = record { set = 5; pages = 1; frames = []; words = []; made = true; parities = []; shards = [] }
+batch = record {
+  set = 5;
+  pages = 1;
+  frames = [];
+  words = [];
+  made = true;
+  parities = [];
+  shards = [];
+}
 
 no_frames_leave : ¬ (IsBatch known (away set) batch)
 no_frames_leave x = absurd (let z : 0 ≡ 4096 = (x.word refl).wide in omega (arith, z))

@@ -264,7 +264,15 @@ claimed_twice a =
 
 -- the object of a claim is one of those that leave: it lies in slot 1 of the span in frame 0
 abbrev batch : LeavingState
-batch = record { set = 0; pages = 1; frames = 0 ∷ []; words = []; made = true; parities = []; shards = [] }
+batch = record {
+  set = 0;
+  pages = 1;
+  frames = 0 ∷ [];
+  words = [];
+  made = true;
+  parities = [];
+  shards = [];
+}
 
 abbrev leaving_far : FarState
 leaving_far = record far { leaving = Some batch }

@@ -123,7 +123,15 @@ none_claims (suc seat) at c e = none_some c e
 
 abbrev leaving_with : List ℕ → FarState
 leaving_with frames = record far {
-  leaving = Some (record { set = 0; pages = 1; frames = frames; words = []; made = true; parities = []; shards = [] });
+  leaving = Some (record {
+    set = 0;
+    pages = 1;
+    frames = frames;
+    words = [];
+    made = true;
+    parities = [];
+    shards = [];
+  });
 }
 
 it_leaves : IsLeavingNow (leaving_with (0 ∷ [])) 0

@@ -20,7 +20,7 @@ use Rattle.cb_world.specs.Joining.{JoiningState}
 use Rattle.cb_world.specs.Leaving.{LeavingState}
 use Rattle.cb_world.specs.Pinned.{IsPinned, IsUnpinned}
 use Rattle.cb_world.specs.Plain.{Words}
-use Rattle.cb_world.specs.Seats.{SeatState, idle_seat, with_pins, IsNewestOf, NoneOn, pins_among, all_pins_on}
+use Rattle.cb_world.specs.Seats.{SeatState, idle_seat, order_of, with_order, with_pins, IsNewestOf, NoneOn, pins_among, all_pins_on}
 use Rattle.cb_world.specs.Sets.{set_in}
 use Rattle.cb_world.specs.World.{ArePinned, AreCounted, IsConfigured, word_at}
 use Rattle.cb_world.proofs.WorkedWorld.{far}
@@ -76,6 +76,19 @@ an_order = Some (kept.Encode (record { set = 3; k = 1; r = 1; rows = [] }))
 one_seat : with_pins (record { pins = three; claims = []; holds = true; order = an_order } ∷ idle_seat ∷ []) 0 []
     ≡ record { pins = []; claims = []; holds = true; order = an_order } ∷ idle_seat ∷ []
 one_seat = refl
+
+-- its order taken out of it, and kept by another seat
+abbrev keeping : Option Kept → SeatState
+keeping order = record { pins = three; claims = []; holds = true; order = order }
+
+order_taken : with_order (keeping an_order ∷ idle_seat ∷ []) 0 None ≡ keeping None ∷ idle_seat ∷ []
+order_taken = refl
+
+order_kept : order_of (with_order (keeping None ∷ idle_seat ∷ []) 1 an_order) 1 ≡ an_order
+order_kept = refl
+
+order_of_the_first : order_of (with_order (keeping an_order ∷ idle_seat ∷ []) 1 None) 0 ≡ an_order
+order_of_the_first = refl
 
 -- ---- words and pins
 abbrev settings : Config
@@ -323,7 +336,15 @@ row_too_few c = let n : 1 ≡ 9 = c.room in omega (arith, n)
 
 -- a batch of two data positions and a parity, where there are two nodes
 abbrev wide : LeavingState
-wide = record { set = 0; pages = 1; frames = 0 ∷ 1 ∷ []; words = []; made = true; parities = [] ∷ []; shards = [] }
+wide = record {
+  set = 0;
+  pages = 1;
+  frames = 0 ∷ 1 ∷ [];
+  words = [];
+  made = true;
+  parities = [] ∷ [];
+  shards = [];
+}
 
 more_positions_than_nodes : IsConfigured allowing (record over_two { leaving = Some wide }) → ⊥
 more_positions_than_nodes c =

@@ -125,7 +125,15 @@ changes_the_members x = absurd (let e : 4 ≡ 3 = ap (λ (m : Membership). lengt
     omega (arith, e))
 
 abbrev pub batch : LeavingState
-batch = record { set = 5; pages = 1; frames = []; words = []; made = true; parities = []; shards = [] }
+batch = record {
+  set = 5;
+  pages = 1;
+  frames = [];
+  words = [];
+  made = true;
+  parities = [];
+  shards = [];
+}
 
 begins_to_leave : ¬ (LeavesSets joining (record drawn { leaving = Some batch }))
 begins_to_leave x = none_some batch (sym x.leaving)

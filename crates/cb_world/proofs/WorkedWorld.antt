@@ -322,7 +322,15 @@ another_class x = absurd (omega (arith, x.holds))
 -- the span leaves, and object 0 with it, in its words
 abbrev leaver : ℕ → LeavingState
 leaver frame =
-    record { set = 0; pages = 1; frames = frame ∷ []; words = []; made = true; parities = []; shards = [] }
+    record {
+      set = 0;
+      pages = 1;
+      frames = frame ∷ [];
+      words = [];
+      made = true;
+      parities = [];
+      shards = [];
+    }
 
 abbrev leaving_in : ℕ → FarState
 leaving_in frame = record far { leaving = Some (leaver frame) }

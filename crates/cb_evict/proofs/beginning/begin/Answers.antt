@@ -1,24 +1,46 @@
-use Rattle.std.proofs.Common.{sym, ap, ◌∙◌, refl}
-use Rattle.std.specs.Option.{option_map}
-use Rattle.cb_world.specs.FarState.{FarState}
+use Rattle.std.proofs.lemmas.Result.{IfOk-from_err}
+use Rattle.std.proofs.Common.{refl}
 use Rattle.cb_evict.proofs.Composed.{any_err}
-use Rattle.cb_evict.proofs.BeginParts.{number_of, none_leaving, begins_not}
+use Rattle.cb_evict.proofs.BeginParts.{forgets}
+use Rattle.cb_world.specs.Sound.{Sound}
 use Rattle.cb_evict.proofs.beginning.begin.Goals as goal
 
-pub returns-in-Some-clause-begun : goal.returns-in-Some-clause-begun
-returns-in-Some-clause-begun g c = begins_not c.args.far.now _
-    c.in-Some.set (λ es. g.D.Desk.run c.args.desk.now es c.args.desk.now)
-    (λ s. g.D.Desk.shows c.args.desk.now s)
-    (sym (sym c.in-Some.is ∙ c.leaving_set.ensures
-    ∙ ap (λ (far : FarState). option_map number_of far.leaving) c.far.view_is))
-    refl (g.met.D.Desk.none _)
+pub begin_with-requires-clause-config : goal.begin_with-requires-clause-config
+begin_with-requires-clause-config g c = c.requires.config
 
-pub begin_new-requires-clause-none : goal.begin_new-requires-clause-none
-begin_new-requires-clause-none g c = none_leaving c.args.far.now.leaving
-    (sym (sym c.in-None.is ∙ c.leaving_set.ensures
-    ∙ ap (λ (far : FarState). option_map number_of far.leaving) c.far.view_is))
+pub begin_with-requires-clause-configured : goal.begin_with-requires-clause-configured
+begin_with-requires-clause-configured g c = c.requires.configured
 
-pub returns-in-None-clause-none : goal.returns-in-None-clause-none
-returns-in-None-clause-none g c = any_err _ _ (none_leaving c.args.far.now.leaving
-    (sym (sym c.in-None.is ∙ c.leaving_set.ensures
-    ∙ ap (λ (far : FarState). option_map number_of far.leaving) c.far.view_is)))
+pub begin_with-requires-clause-counts : goal.begin_with-requires-clause-counts
+begin_with-requires-clause-counts g c = c.requires.counts
+
+pub begin_with-requires-clause-sound : goal.begin_with-requires-clause-sound
+begin_with-requires-clause-sound g c = c.requires.sound
+
+pub returns-in_err-begun-clause-begun : goal.returns-in_err-begun-clause-begun
+returns-in_err-begun-clause-begun g c = IfOk-from_err _ _ c.from_residual.ensures.0
+
+pub returns-in_err-begun-clause-error : goal.returns-in_err-begun-clause-error
+returns-in_err-begun-clause-error g c = any_err _ _ c.in_err-begun.ensures.error
+
+pub returns-in_err-begun-clause-unchanged : goal.returns-in_err-begun-clause-unchanged
+returns-in_err-begun-clause-unchanged g c = any_err _ _ c.in_err-begun.ensures.unchanged
+
+pub returns-in_err-begun-clause-none : goal.returns-in_err-begun-clause-none
+returns-in_err-begun-clause-none g c = any_err _ _ c.in_err-begun.ensures.none
+
+pub returns-clause-begun : goal.returns-clause-begun
+returns-clause-begun g c =
+    forgets c.args.far.now c.begin_with.new.far c.in_ok-begun.begun _
+    (λ es. g.D.Desk.run c.args.desk.now es c.begin_with.new.desk)
+    (λ s. g.D.Desk.shows c.args.desk.now s × Sound s c.args.far.now)
+    (λ t. Sound t c.begin_with.new.far) c.into_reply.ensures c.in_ok-begun.ensures.begun
+
+pub returns-clause-error : goal.returns-clause-error
+returns-clause-error g c = tt
+
+pub returns-clause-unchanged : goal.returns-clause-unchanged
+returns-clause-unchanged g c = tt
+
+pub returns-clause-none : goal.returns-clause-none
+returns-clause-none g c = tt

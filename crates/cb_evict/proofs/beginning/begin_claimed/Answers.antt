@@ -1,20 +1,20 @@
-use Rattle.std.proofs.Common.{◌≡◌, ℕ, ◌+◌, ◌<◌, ◌≤◌, ◌^◌, List, length, get_or, All, Some, sym, ap, ◌∙◌, subst, arith}
+use Rattle.std.proofs.Common.{◌≡◌, ℕ, ◌+◌, ◌<◌, ◌≤◌, ◌^◌, Bool, List, length, get_or, All, Some, sym, ap, ◌∙◌, subst, arith}
 use Rattle.cb_span.specs.Contents.{Contents}
 use Rattle.cb_types.specs.declared.config.Config.{Config}
-use Rattle.cb_types.specs.declared.handle.SetId.{SetId}
-use Rattle.cb_types.specs.declared.reply.Reply.TheVariants as answer
 use Rattle.cb_world.specs.declared.event.Event.{Event}
 use Rattle.cb_world.specs.declared.leaving.Former.{Former}
 use Rattle.cb_world.specs.declared.shown.Shown.{Shown}
+use Rattle.cb_world.specs.Leaving.{AreRoomy, shown_rows}
 use Rattle.cb_world.specs.Played.{played}
 use Rattle.cb_world.specs.FarState.{FarState, pages_at, span_in}
 use Rattle.cb_evict.specs.Claiming.{GivesBack}
 use Rattle.cb_evict.specs.Claims.{AreApart, IsHeldAt}
-use Rattle.cb_evict.specs.Beginning.{ReservesFrames}
+use Rattle.cb_evict.specs.Beginning.{AreParities, ReservesFrames}
+use Rattle.cb_evict.specs.Gathering.{order_for}
 use Rattle.cb_evict.specs.Loading.{AreOfLength, LiesInOne}
-use Rattle.cb_evict.proofs.BeginEnd.{noted_far, starts, reads_as, reads_in, batch_then, reserves_as}
+use Rattle.cb_evict.proofs.BeginEnd.{are_seen, noted_far, order_is, starts, reads_as, reads_in, batch_then, reserves_as}
 use Rattle.cb_evict.proofs.Events.{are_reads}
-use Rattle.cb_evict.proofs.Ending.{are_read, taken_ready, place_in, handles_all, frames_below, pages_told}
+use Rattle.cb_evict.proofs.Ending.{are_read_by, taken_ready, place_in, handles_all, frames_below, pages_told}
 use Rattle.cb_evict.proofs.Loads.{reads_spans}
 use Rattle.cb_evict.proofs.Restored.{gives_back_ends}
 use Rattle.cb_evict.proofs.CallParts.{joins}
@@ -81,6 +81,8 @@ pub note_batch-set-requires : goal.note_batch-set-requires
 note_batch-set-requires g c = record {
   counts = subst (λ (far : FarState). far.counts.sets < 2 ^ 62) (sym c.in-Ok.ensures.reserved.state)
       c.requires.counts;
+  roomy = subst (λ (l : List ℕ). AreRoomy c.span_pages-pages.result (length l) c.in-Ok.reserved.parities)
+      c.deref.ensures.value c.in-Ok.ensures.reserved.roomy;
 }
 
 pub give_back-requires-clause-handles : goal.give_back-requires-clause-handles
@@ -113,15 +115,10 @@ give_back-requires-clause-held g c =
       ),
     )
 
-pub returns-in-Ok-clause-reply : goal.returns-in-Ok-clause-reply
-returns-in-Ok-clause-reply g c =
-    ap answer.Batch (c.note_batch-set.ensures.set
-    ∙ ap (λ (far : FarState). let id : SetId = record { n = far.counts.sets } in id) c.in-Ok.ensures.reserved.state)
-
 pub returns-in-Ok-clause-begun : goal.returns-in-Ok-clause-begun
 returns-in-Ok-clause-begun g c =
     let far = c.args.far.now in let frames = c.args.frames.items in let formers = c.args.formers.items in
-    let config = g.D.Desk.settings c.args.desk.now in
+    let made = c.args.made in let p = c.in-Ok.reserved.parities in let rows = c.in-Ok.reserved.rows in
     let shows = λ (t : Shown). g.D.Desk.shows c.args.desk.now t in
     let taken = c.requires.taken in
     let pages = pages_told c.args.far.now c.args.frames.items c.args.formers.items
@@ -130,17 +127,23 @@ returns-in-Ok-clause-begun g c =
     (c.span_pages-pages.ensures.pages ∙ ap (pages_at c.args.far.now.spans) c.index.ensures) in
     let runs = λ (es : List Event). g.D.Desk.run c.args.desk.now es c.reserve_frames.new.desk in
     let y = subst (λ (n : ℕ). ReservesFrames runs shows far c.reserve_frames.new.far n frames
-    c.in-Ok.reserved.parities) pages
-    (reserves_as runs shows far c.reserve_frames.new.far _ _ frames c.in-Ok.reserved.parities
+    made rows p) pages
+    (reserves_as runs shows far c.reserve_frames.new.far _ _ frames made rows p
     c.deref.ensures.value c.in-Ok.ensures.reserved) in
     let x = y.loads in
     let reads = are_reads (LiesInOne far.spans frames) x.events
     (reads_spans far.spans taken.pages frames taken.long x.events x.loads) in
+    let seen = are_seen far made rows p (y.count ∙ taken.count) y.ready in
+    let parities = shown_rows p.made p.rows in
     let is = batch_then far c.reserve_frames.new.far c.note_batch-set.new.far taken.pages frames
-    formers c.in-Ok.reserved.parities c.in-Ok.reserved.shards.items y.state
+    formers made parities c.in-Ok.reserved.shards.items y.state
+    (subst (λ (b : Bool). c.note_batch-set.new.far ≡ noted_far c.reserve_frames.new.far taken.pages
+    frames formers b parities c.in-Ok.reserved.shards.items) y.ready.mark
     (subst (λ (n : ℕ). c.note_batch-set.new.far ≡ noted_far c.reserve_frames.new.far n frames
-    formers c.in-Ok.reserved.parities c.in-Ok.reserved.shards.items) pages
-    c.note_batch-set.ensures.state) c.in-Ok.ensures.shards in
+    formers p.made parities c.in-Ok.reserved.shards.items) pages
+    c.note_batch-set.ensures.state)) c.in-Ok.ensures.shards in
+    let ordered = order_is far c.reserve_frames.new.far taken.pages frames c.note_batch-set.result
+    c.in_force-code.result rows c.note_batch-set.ensures.set y.state c.in_force-code.ensures in
     record {
       events = x.events;
       ran = x.ran;
@@ -149,10 +152,13 @@ returns-in-Ok-clause-begun g c =
       done = (
         reads.quiet,
         λ before s r.
-            let all = starts far c.note_batch-set.new.far frames formers
-            c.in-Ok.reserved.parities before x.events s
-            (are_read far frames formers y.rows c.in-Ok.reserved.parities shows before s
-            c.requires.configured.codes.force.range r c.requires.taken y.made y.count x.made).0
+            let t = are_read_by far frames formers made rows parities shows before s
+            c.requires.configured.codes.force.range r c.requires.taken seen.few
+            (λ yes. subst (λ (k : ℕ). AreParities k (far.code.k + far.code.r) rows parities)
+            (sym taken.count) (seen.coded yes)) y.count x.made in
+            let all = starts far c.note_batch-set.new.far _ frames formers made
+            parities before x.events s t.0 seen.bare
+            (ordered ∙ ap (order_for far) t.1)
             c.requires.none reads is r.steady r.touches in record {
               allowed = (reads.steady (played before s)).allowed;
               rule = all.begun;

@@ -13,7 +13,7 @@ use Rattle.cb_evict.specs.declared.eviction.Eviction.TheVariants.{Refused}
 use Rattle.cb_evict.specs.Evicting.{TouchesSpans}
 use Rattle.cb_evict.specs.Taking.{AreLooseNow, Takes}
 use Rattle.cb_evict.proofs.BeginParts.{begin_few, takes_begin}
-use Rattle.cb_evict.proofs.Composed.{any_err, both_err, if_ok, on_err, taken_as, taken_enough, takes_fail, tried_ready}
+use Rattle.cb_evict.proofs.Composed.{any_err, taken_as, taken_enough, takes_fail, tried_ready}
 use Rattle.cb_evict.proofs.CallParts.{joins}
 use Rattle.cb_evict.proofs.beginning.begin_new.Goals as goal
 
@@ -39,7 +39,7 @@ pub returns-in-Few-clause-begun : goal.returns-in-Few-clause-begun
 returns-in-Few-clause-begun g c =
     let runs = λ (es : List Event). g.D.Desk.run c.args.desk.now es c.take_spans.new.desk in
     let shows = λ (s : Shown). g.D.Desk.shows c.args.desk.now s in
-    begin_few c.args.far.now c.refusal.result
+    begin_few c.args.far.now c.args.made c.refusal.result
     (Refused c.in-Few.lack c.in-Few.loose c.in-Few.nodes) runs shows c.requires.none c.refusal.ensures
     (subst (Takes runs shows c.args.far.now
     (AreLooseNow c.args.far.now)) c.in-Few.is c.in_ok-taken.ensures.taken)
@@ -85,28 +85,33 @@ begin_claimed-requires-clause-ready g c =
           c.requires.sound.1 c.requires.sound.2,
     )
 
-pub returns-in-Enough-clause-begun : goal.returns-in-Enough-clause-begun
-returns-in-Enough-clause-begun g c =
-    let taken = taken_enough _ _ _ _ _ _ _ c.in-Enough.is c.in_ok-taken.ensures.taken in
-    let stays = g.met.D.Desk.stays _ _ taken.tries.events taken.tries.ran in
-    if_ok _ _ _ c.begin_claimed.result c.begin_claimed.ensures.reply c.begin_claimed.ensures.begun
-    (λ r is y. takes_begin r (joins (λ es fs a b. g.met.D.Desk.more _ _ _ _ _ a b)
-    (λ es s ran a. (g.met.D.Desk.follows _ _ es s ran a).1)) taken
-    y
-    c.requires.none is c.requires.sound)
+pub returns-in_err-order-in-Enough-clause-begun : goal.returns-in_err-order-in-Enough-clause-begun
+returns-in_err-order-in-Enough-clause-begun g c = IfOk-from_err _ _ c.from_residual-in_err-order-in-Enough.ensures.0
 
-pub returns-in-Enough-clause-error : goal.returns-in-Enough-clause-error
-returns-in-Enough-clause-error g c =
+pub returns-in_err-order-in-Enough-clause-error : goal.returns-in_err-order-in-Enough-clause-error
+returns-in_err-order-in-Enough-clause-error g c =
     let taken = taken_enough _ _ _ _ _ _ _ c.in-Enough.is c.in_ok-taken.ensures.taken in
-    on_err _ _ c.begin_claimed.result
-    (both_err _ _ c.begin_claimed.result c.begin_claimed.ensures.error c.begin_claimed.ensures.unchanged)
-    (λ (y, same).
-    subst (λ (far : FarState). Performs
+    any_err _ _ (subst (λ (far : FarState). Performs
     (λ es. g.D.Desk.run c.args.desk.now es c.begin_claimed.new.desk)
     (λ s. g.D.Desk.shows c.args.desk.now s × Sound s c.args.far.now) (TouchesSpans c.args.far.now)
-    (λ t. Sound t far) IsStill) (sym same)
+    (λ t. Sound t far) IsStill) (sym c.in_err-order-in-Enough.ensures.unchanged)
     (takes_fail (joins (λ es fs a b. g.met.D.Desk.more _ _ _ _ _ a b)
-    (λ es s ran a. (g.met.D.Desk.follows _ _ es s ran a).1)) taken y))
+    (λ es s ran a. (g.met.D.Desk.follows _ _ es s ran a).1)) taken
+    c.in_err-order-in-Enough.ensures.error))
 
-pub returns-in-Enough-clause-unchanged : goal.returns-in-Enough-clause-unchanged
-returns-in-Enough-clause-unchanged g c = c.begin_claimed.ensures.unchanged
+pub returns-in_err-order-in-Enough-clause-unchanged : goal.returns-in_err-order-in-Enough-clause-unchanged
+returns-in_err-order-in-Enough-clause-unchanged g c =
+    any_err _ _ c.in_err-order-in-Enough.ensures.unchanged
+
+pub returns-in_ok-order-in-Enough-clause-begun : goal.returns-in_ok-order-in-Enough-clause-begun
+returns-in_ok-order-in-Enough-clause-begun g c =
+    let taken = taken_enough _ _ _ _ _ _ _ c.in-Enough.is c.in_ok-taken.ensures.taken in
+    takes_begin (joins (λ es fs a b. g.met.D.Desk.more _ _ _ _ _ a b)
+    (λ es s ran a. (g.met.D.Desk.follows _ _ es s ran a).1)) taken
+    c.in_ok-order-in-Enough.ensures.begun c.requires.none c.requires.sound
+
+pub returns-in_ok-order-in-Enough-clause-error : goal.returns-in_ok-order-in-Enough-clause-error
+returns-in_ok-order-in-Enough-clause-error g c = tt
+
+pub returns-in_ok-order-in-Enough-clause-unchanged : goal.returns-in_ok-order-in-Enough-clause-unchanged
+returns-in_ok-order-in-Enough-clause-unchanged g c = tt

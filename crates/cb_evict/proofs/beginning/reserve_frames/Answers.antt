@@ -1,9 +1,10 @@
 use Rattle.std.proofs.lemmas.Result.{IfOk-from_err}
-use Rattle.std.proofs.Common.{◌≡◌, ◌+◌, ◌*◌, ℕ, List, [], length, sym, refl, ap, ◌∙◌, subst, arith}
+use Rattle.std.proofs.Common.{◌≡◌, ◌+◌, ◌-◌, ◌*◌, ℕ, List, [], length, sym, refl, ap, ◌∙◌, subst, arith}
 use Rattle.cb_member.specs.declared.names.Code.{Code}
 use Rattle.cb_member.specs.declared.names.Shard.{Shard}
 use Rattle.cb_evict.specs.BeginRule.{blank_shards}
-use Rattle.cb_evict.specs.Beginning.{AreParities, with_reserved}
+use Rattle.cb_evict.specs.Beginning.{AreReady, with_reserved}
+use Rattle.cb_world.specs.Leaving.{AreRoomy}
 use Rattle.cb_evict.proofs.BeginEnd.{blank_count}
 use Rattle.cb_evict.proofs.BeginParts.{no_names}
 use Rattle.cb_evict.proofs.Composed.{any_err, read_err, rows_made}
@@ -99,16 +100,22 @@ returns-in_err-parities-clause-unchanged g c = any_err _ _ c.in_err-parities.ens
 pub returns-clause-reserved : goal.returns-clause-reserved
 returns-clause-reserved g c =
     let blank = c.deref.ensures.value ∙ c.in_ok-room.ensures.blank
-    ∙ ap (λ (n : Code). blank_shards (n.k + n.r)) c.in_force-code.ensures in record {
-      rows = c.load_spans.new.rows;
+    ∙ ap (λ (n : Code). blank_shards (n.k + n.r)) c.in_force-code.ensures in
+    let many = blank_count _ _ blank in
+    let count = c.load_spans.ensures.count
+    ∙ (rows_made c.in_ok-room.room.rows c.in_force-code.result.k (length c.args.frames.now)
+    (4096 * c.args.pages)
+    c.in_ok-room.ensures.rows
+    (c.requires.count ∙ sym (ap (λ (n : Code). n.k) c.in_force-code.ensures))).0 in
+    let parities : length c.deref.result.now - length c.args.frames.now ≡ c.args.far.now.code.r =
+    omega (arith, many, c.requires.count) in
+    let ready = c.in_ok-parities.ensures.parities in record {
       loads = c.load_spans.ensures.loads;
-      count = c.load_spans.ensures.count
-          ∙ (rows_made c.in_ok-room.room.rows c.in_force-code.result.k (length c.args.frames.now)
-          (4096 * c.args.pages)
-          c.in_ok-room.ensures.rows
-          (c.requires.count ∙ sym (ap (λ (n : Code). n.k) c.in_force-code.ensures))).0;
-      made = subst (λ (n : ℕ). AreParities (length c.args.frames.now) n c.load_spans.new.rows c.in_ok-parities.parities)
-          (blank_count _ _ blank) c.in_ok-parities.ensures.parities;
+      count = count;
+      ready = subst (λ (n : ℕ). AreReady c.args.made n c.load_spans.new.rows c.in_ok-parities.parities)
+          parities ready;
+      roomy = subst (λ (n : ℕ). AreRoomy c.args.pages n c.in_ok-parities.parities) count
+          (ready.long c.args.pages c.load_spans.ensures.lengths);
       state = subst (λ (l : List Shard). c.reserve.new.far
           ≡ with_reserved c.args.far.now c.args.pages l c.args.frames.now)
           blank c.in_ok-parities.ensures.state;

@@ -35,11 +35,13 @@ returns-clause-rows c =
     ∙ first_survivors m set c.survivors-present.result c.requires.shaped c.requires.few
     c.survivors-present.ensures.positions in
     let rows = c.requires.word.0 in
-    let there : StandAt set.pages c.args.nodes.now set.shards rows (take c.k-k.result c.survivors-present.result) =
+    let there : StandAt set.pages c.args.nodes.now set.shards rows
+    (take c.k-k.result c.survivors-present.result) =
     subst (StandAt set.pages c.args.nodes.now set.shards rows) (sym e)
     (survivors_stand c.args.nodes.now m set rows (length set.positions)
     c.requires.shaped c.requires.counted c.requires.word.1) in
-    subst (λ (p : List ℕ). AreGiven c.args.nodes.now c.args.set.now.shards p c.give_in_order.new.table)
+    subst (λ (p : List ℕ).
+    AreGiven c.args.nodes.now c.args.set.now.shards p c.give_in_order.new.table)
     (sym c.copy_of.ensures.items)
     (in_order_given c.args.set.now.pages c.args.nodes.now c.args.set.now.shards
     (take c.k-k.result c.survivors-present.result) rows c.give_in_order.new.table there

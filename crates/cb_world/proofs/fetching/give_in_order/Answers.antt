@@ -13,8 +13,8 @@ loop-i-preserved c =
     let i = c.loop-i.i in let shard = c.shard-shard.result in
     let within = c.loop-i-test.true in
     let row = λ (rows : List (List ℕ)) (stand : StandAt pages old shards rows positions).
-    stand_row pages old now shards positions i c.from.result shard rows c.loop-i.invariant.nodes stand
-    within c.from.ensures c.shard-shard.ensures in
+    stand_row pages old now shards positions i c.from.result shard rows
+    c.loop-i.invariant.nodes stand within c.from.ensures c.shard-shard.ensures in
     let mine = row c.requires.there.0 c.requires.there.1 in
     let into =
     λ (rows : List (List ℕ)) (stand : StandAt pages old shards rows positions).

@@ -21,7 +21,8 @@ loop-at-preserved c =
     let long = ap length (same ∙ c.row.ensures.value) in (
       written_count c.loop-at.into at bytes ∙ inv.0,
       λ len all. written_lengths len c.loop-at.into at bytes (inv.1 len all)
-          (long ∙ x.1 at [] inside ∙ sym (x.2 0 [] (omega (arith, within))) ∙ all 0 [] (omega (arith, within))) within,
+          (long ∙ x.1 at [] inside ∙ sym (x.2 0 [] (omega (arith, within)))
+          ∙ all 0 [] (omega (arith, within))) within,
       copied_more x.0 c.args.from.now c.loop-at.into at bytes (inv.1 x.0 x.2)
           (long ∙ x.1 at [] inside) (same ∙ c.row.ensures.value) within inv.2,
     )
