@@ -18,8 +18,12 @@ pub mod SwapStays
 pub mod SwapUnwritten
 pub mod SwapPins
 pub mod FarHomes
+pub mod FetchKeeps
 pub mod OrderRow
 pub mod Landed
+pub mod FetchFixed
+pub mod LandStep
+pub mod LandKeeps
 mod WorkedNamed
 mod WorkedSwap
 mod WorkedWord

@@ -23,6 +23,7 @@ pub use Rattle.cb_world.proofs.Fixed.{IsOneEnd, chosen_fixed, home_fixed, least_
 pub use Rattle.cb_world.proofs.FrameCopied.{words_read}
 pub use Rattle.cb_world.proofs.Freed.{one_slot}
 pub use Rattle.cb_world.proofs.FreshShard.{IsUpShard, fits_on_least, undrawn_is_fresh, up_is_current, up_is_kept, up_on_least}
+pub use Rattle.cb_world.proofs.Gathering.{survivors_stand}
 pub use Rattle.cb_world.proofs.GivenUp.{live_names}
 pub use Rattle.cb_world.proofs.GivenUpNow.{left_gone}
 pub use Rattle.cb_world.proofs.Gone.{sound_gone}
@@ -62,6 +63,7 @@ pub use Rattle.cb_world.proofs.Noting.{counted_holds, counted_strictly, crash_no
 pub use Rattle.cb_world.proofs.StillPerforms.{IsStepKnown, PerformsStill, RunsStill, known_then, runs_still, stays_still}
 pub use Rattle.cb_world.proofs.StillWords.{FreeIs, busy_leaves, empty_exact, free_after, hot_exact, one_exact, settles_other, told_exact, word_back}
 pub use Rattle.cb_world.proofs.Storing.{InRange, KeysApart, drop_elsewhere, put_elsewhere, put_there}
+pub use Rattle.cb_world.proofs.Surviving.{are_positions}
 pub use Rattle.cb_world.proofs.Surveying.{left_whole, stands_still, survey_same, survey_stays, unsurveyed}
 pub use Rattle.cb_world.proofs.Touching.{claim_settles_last, claim_touches, look_settles_last, look_touches, touches_append}
 pub use Rattle.cb_world.proofs.Tracing.{agree_last, found_last, found_more, looks_played, looks_written, played_append, taken_after_looks, taken_more, told_append, written_append}
