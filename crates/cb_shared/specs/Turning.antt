@@ -6,7 +6,8 @@ use Rattle.cb_ptr.specs.declared.word.State.TheVariants as state
 use Rattle.cb_ptr.specs.Word.{state_of}
 use Rattle.cb_types.specs.declared.config.Config.{Config}
 use Rattle.cb_types.specs.declared.job.Job.{Job}
-use Rattle.cb_types.specs.declared.job.Job.TheVariants.{Filter, Make, Read, Write, Free}
+use Rattle.cb_types.specs.declared.job.Job.TheVariants.{Filter, Land, Make, Read, Write, Free}
+use Rattle.cb_types.specs.declared.order.Kept.{Kept}
 use Rattle.cb_types.specs.declared.reply.Reply.{Reply}
 use Rattle.cb_types.specs.declared.reply.Reply.TheVariants as answer
 use Rattle.cb_world.specs.declared.entry.Entry.{Entry}
@@ -16,10 +17,12 @@ use Rattle.cb_world.specs.FarState.{FarState}
 use Rattle.cb_world.specs.Looks.{IsFound}
 use Rattle.cb_world.specs.Played.{Agree, played}
 use Rattle.cb_world.specs.Shown.{version_at}
+use Rattle.cb_core.specs.Ordered.{StoppedWith, TurnedWith}
+use Rattle.cb_core.specs.OrderParts.{decode_in}
 use Rattle.cb_core.specs.Parts.{Holding}
 use Rattle.cb_core.specs.Turned.{Stopped, Turned}
 use Rattle.cb_core.specs.TurnLeaves.{IsOneTurnOn, OutcomeWrites}
-use Rattle.cb_core.specs.Unavailable.{TurnTells}
+use Rattle.cb_core.specs.Unavailable.{LandTells, TurnTells}
 use Rattle.cb_rule.specs.declared.turn.Turn.{Turn}
 use Rattle.cb_rule.specs.declared.view.Look.{Look}
 use Rattle.cb_rule.specs.declared.view.View.{View}
@@ -83,9 +86,32 @@ DidAs c job (Some reply) start es took gave = Turned slate_run slate_shows Reads
 DidAs c job None start es took gave = Stopped slate_run slate_shows PinLacks c job
     (held_by start [] took) (held_by (played es start) es gave)
 
--- what a turn in a record did
+-- So a turn of a job that hands an order out or takes one, by the order that its seat kept before it
+-- and the one that it keeps behind it. Where there was no memory it keeps what it kept.
+abbrev pub DidWith : Config → Job → Option Kept → Option Reply → Option Kept → Shown → List Event
+    → FarState → FarState → Type 0
+DidWith c job order (Some reply) keeps start es took gave = TurnedWith slate_run slate_shows c job
+    order (held_by start [] took) reply keeps (held_by (played es start) es gave)
+DidWith c job order None keeps start es took gave = StoppedWith slate_run slate_shows c job order
+    (held_by start [] took) (held_by (played es start) es gave) × (keeps ≡ order)
+
+-- A turn did its job alone, and its seat keeps the order that it kept; or it did it with that order.
+-- Which one it is follows from the job.
+abbrev pub DidBy : Config → Job → Option Kept → Option Reply → Option Kept → Shown → List Event
+    → FarState → FarState → Type 0
+DidBy c job order reply keeps start es took gave =
+    (DidAs c job reply start es took gave × (keeps ≡ order))
+    ⊎ DidWith c job order reply keeps start es took gave
+
+-- what a turn in a record did, with the order that its seat kept
 abbrev pub Did : Config → Turn → Type 0
-Did c t = DidAs c t.job t.reply t.start t.acts t.took t.gave
+Did c t = DidBy c t.job t.order t.reply t.keeps t.start t.acts t.took t.gave
+
+-- A turn is answered Unavailable exactly where it is to be: by the object that it brings in, and a
+-- landing by the set of the order that its seat kept.
+abbrev pub TellsLost : Job → Option Kept → FarState → Reply → Type 0
+TellsLost Land order far r = LandTells (decode_in order) far r
+TellsLost job order far r = TurnTells job far r
 
 -- the reply of a turn as it stands in a record: none where there was no memory
 abbrev pub answer_of : Result Reply NoMemory → Option Reply
@@ -204,8 +230,8 @@ pub record NotesWritten (turn : Turn) (more : List Entry) (v : View) : Type 0 wh
   pub ended : turn.ended ≡ ended_by v.turns
 
 -- What a turn adds to the record v of its pass. It stands there with its job, its reply, what was
--- known when it began, its events, and the far states that it took and gave, which are those of one
--- turn more. What it wrote is that of its reply, and new to the record: one above the greatest
+-- known when it began, its events, the order that the pass kept before it, and the far states that it
+-- took and gave, which are those of one turn more. What it wrote is that of its reply, and new to the record: one above the greatest
 -- version that the record has of an object that it knows and no other pass has. A write, a free and
 -- a filter tell of the object by its word (`pins`). Each object of which the record has an entry
 -- had a version when it began. It is answered Unavailable exactly where it is to be.
@@ -217,6 +243,7 @@ pub record TurnAdds (c : Config) (job : Job) (r : Result Reply NoMemory) (v : Vi
   pub later : Part
   pub job_is : turn.job ≡ job
   pub reply_is : turn.reply ≡ answer_of r
+  pub before : turn.order ≡ v.order
   pub agree : Agree turn.start turn.acts
   pub did : Did c turn
   pub next : IsOneTurnOn turn.took turn.gave
@@ -225,7 +252,7 @@ pub record TurnAdds (c : Config) (job : Job) (r : Result Reply NoMemory) (v : Vi
   pub new : AreNew more v
   pub pins : CountsPins job r v
   pub made : (h : ℕ) → Knows h v → 1 ≤ version_at turn.start h
-  pub tells : IfOk r (λ reply. TurnTells job turn.took reply)
+  pub tells : IfOk r (λ reply. TellsLost job turn.order turn.took reply)
   pub reads : JobReads job turn.acts r v within
   pub finds : FindsFreedAfter (freed_of job r) (with_own (made_by_turn job (answer_of r))
       (grown (turn_part turn more within nothing_more) v)) later

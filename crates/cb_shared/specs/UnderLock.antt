@@ -6,6 +6,7 @@ use Rattle.cb_types.specs.declared.config.Config.{Config}
 use Rattle.cb_types.specs.declared.handle.Handle.{Handle}
 use Rattle.cb_types.specs.declared.job.Job.{Job}
 use Rattle.cb_types.specs.declared.job.Job.TheVariants.{Read}
+use Rattle.cb_types.specs.declared.order.Kept.{Kept}
 use Rattle.cb_types.specs.declared.reply.Reply.{Reply}
 use Rattle.cb_types.specs.declared.reply.Reply.TheVariants as answer
 use Rattle.cb_world.specs.declared.entry.Entry.{Entry}
@@ -13,11 +14,11 @@ use Rattle.cb_world.specs.declared.event.Event.{Event}
 use Rattle.cb_world.specs.declared.shown.Shown.{Shown}
 use Rattle.cb_world.specs.Shown.{version_at}
 use Rattle.cb_world.specs.FarState.{FarState}
+use Rattle.cb_world.specs.Orders.{KeepsOrder, LeavesOrders}
 use Rattle.cb_world.specs.Played.{Agree, played}
 use Rattle.cb_core.specs.OnceHere.{IsThere}
 use Rattle.cb_core.specs.ReadTurn.{BroughtToRead, StoppedToRead}
 use Rattle.cb_core.specs.TurnLeaves.{IsOneTurnOn, OutcomeWrites}
-use Rattle.cb_core.specs.Unavailable.{TurnTells}
 use Rattle.cb_rule.specs.declared.turn.Turn.{Turn}
 use Rattle.cb_rule.specs.declared.view.Seen.{Seen}
 use Rattle.cb_rule.specs.declared.view.View.{View}
@@ -34,8 +35,8 @@ use Rattle.cb_shared.specs.declared.reading.ReadAnswer.TheVariants as found
 use Rattle.cb_record.specs.Parts.{Part, grown, nothing_more}
 use Rattle.cb_shared.specs.SeatLaws.{Runs}
 use Rattle.cb_shared.specs.Seats.{Moves, SeatAt, record_at}
-use Rattle.cb_shared.specs.Turning.{CountsPins, Did, DidAs, FindsAtLast, FindsFreedAfter, JobReads}
-use Rattle.cb_shared.specs.Turning.{NotesWritten, Tries, answer_of, held_by, made_by_turn}
+use Rattle.cb_shared.specs.Turning.{CountsPins, Did, DidBy, FindsAtLast, FindsFreedAfter, JobReads}
+use Rattle.cb_shared.specs.Turning.{NotesWritten, TellsLost, Tries, answer_of, held_by, made_by_turn}
 use Rattle.cb_shared.specs.Turning.{slate_run, slate_shows, turn_part, with_own}
 
 -- the same seat, with this view and these slots in hand
@@ -47,7 +48,7 @@ abbrev pub TakesLock : ℕ → SeatAt → SeatAt → Type 0
 TakesLock word p q = (q.table_id ≡ p.table_id) × (q.id ≡ p.id) × HasTaken p.me word q.me
 
 -- The seat took the lock, and the far state out of its slot: what is known then is sound for it,
--- and each object of which the record has an entry was made.
+-- each object of which the record has an entry was made, and the order that it keeps is kept there.
 pub record TakesFar (c : Config) (far : FarState) (p q : SeatAt) : Type 0 where
   pub known : Shown
   pub entries : ℕ
@@ -55,9 +56,10 @@ pub record TakesFar (c : Config) (far : FarState) (p q : SeatAt) : Type 0 where
   pub sized : AreSized c known
   pub stood : Stood c known far
   pub made : (h : ℕ) → Knows h (record_at p) → h < far.made
+  pub kept : KeepsOrder known far (record_at p).order
 
 -- The seat holds the lock, has its slot in hand, and has done nothing in its turn yet. What it
--- knows is sound for the far state that it took.
+-- knows is sound for the far state that it took, which keeps the order of its record.
 pub record IsBeginning (c : Config) (far : FarState) (v : View) : Type 0 where
   pub holds : v.holds ≡ true
   pub idle : v.acts ≡ []
@@ -66,19 +68,22 @@ pub record IsBeginning (c : Config) (far : FarState) (v : View) : Type 0 where
   pub took : v.took ≡ far
   pub sized : AreSized c v.known
   pub stood : Stood c v.known far
+  pub kept : KeepsOrder v.known far v.order
 
--- The work of a turn at the desk over the seat: its events, by which the turn did its job, and what
--- they wrote.
-pub record TurnAtSeat (c : Config) (job : Job) (r : Result Reply NoMemory) (took gave : FarState)
-    (p q : SeatAt) : Type 0 where
+-- The work of a turn at the desk over the seat, which keeps such an order behind it: its events, by
+-- which the turn did its job, and what they wrote. Every order that was kept stays so.
+pub record TurnAtSeat (c : Config) (job : Job) (r : Result Reply NoMemory) (keeps : Option Kept)
+    (took gave : FarState) (p q : SeatAt) : Type 0 where
   pub events : List Event
   pub more : List Entry
   pub runs : Runs p events q
-  pub did : DidAs c job (answer_of r) (record_at p).known events took gave
+  pub did : DidBy c job (record_at p).order (answer_of r) keeps (record_at p).known events took gave
   pub next : IsOneTurnOn took gave
   pub wrote : OutcomeWrites job r more
   pub fresh : (record_at q).fresh ≡ more
   pub stood : Stood c (record_at q).known gave
+  pub leaves : LeavesOrders (record_at p).known took (record_at q).known gave
+  pub own : KeepsOrder (record_at q).known gave keeps
 
 -- what the first part of a read did
 abbrev pub BroughtForRead : Config → Handle → Result Reply NoMemory → Shown → List Event → FarState
@@ -97,6 +102,7 @@ pub record BringAt (c : Config) (handle : Handle) (r : Result Reply NoMemory) (t
   pub next : IsOneTurnOn took gave
   pub fresh : (record_at q).fresh ≡ []
   pub stood : Stood c (record_at q).known gave
+  pub leaves : LeavesOrders (record_at p).known took (record_at q).known gave
 
 -- the part has neither entries that were written nor turns
 abbrev pub IsQuiet : Part → Type 0
@@ -112,9 +118,9 @@ HasSame u v = (u.fresh ≡ v.fresh) × (u.written ≡ v.written) × (u.seen ≡ 
     × (u.share ≡ v.share) × (u.own ≡ v.own)
 
 -- The work of a turn at the desk, and the read under a pin beside it. What it wrote is new to the
--- record, and its reply counts the pins.
-pub record WorkBy (c : Config) (job : Job) (r : Result Reply NoMemory) (took gave : FarState)
-    (p q : SeatAt) : Type 0 where
+-- record, and its reply counts the pins. Every order that was kept stays so.
+pub record WorkBy (c : Config) (job : Job) (r : Result Reply NoMemory) (keeps : Option Kept)
+    (took gave : FarState) (p q : SeatAt) : Type 0 where
   pub events : List Event
   pub more : List Entry
   pub within : Part
@@ -123,13 +129,15 @@ pub record WorkBy (c : Config) (job : Job) (r : Result Reply NoMemory) (took gav
   pub quiet : IsQuiet within
   pub range : ReadsBelow c within
   pub reads : (u : View) → HasSame u (record_at p) → JobReads job events r u within
-  pub did : DidAs c job (answer_of r) (record_at p).known events took gave
+  pub did : DidBy c job (record_at p).order (answer_of r) keeps (record_at p).known events took gave
   pub next : IsOneTurnOn took gave
   pub wrote : OutcomeWrites job r more
   pub fresh : (acted events (record_at p)).fresh ≡ more
   pub new : AreNew more (record_at p)
   pub pins : CountsPins job r (record_at p)
   pub stood : Stood c (played events (record_at p).known) gave
+  pub leaves : LeavesOrders (record_at p).known took (played events (record_at p).known) gave
+  pub own : KeepsOrder (played events (record_at p).known) gave keeps
 
 -- any job but Read
 abbrev pub IsNoRead : Job → Type 0
@@ -175,56 +183,63 @@ abbrev pub FreedMoves : Config → Option ℕ → SeatAt → SeatAt → Type 0
 FreedMoves c freed p q = (d : Part) × Moves p q (grown d (record_at p)) × IsQuiet d × ReadsBelow c d
     × FindsFreedAfter freed (record_at p) d
 
--- The seat may give the lock back with this far state, whose turn had this job and this reply. The
--- bytes that it told were read, the version that it told was written, and what it made has the
--- first version.
-pub record IsEnding (c : Config) (job : Job) (r : Option Reply) (far : FarState) (v : View) : Type 0
+-- The seat may give the lock back with this far state, whose turn had this job and this reply, and
+-- keep this order. The bytes that it told were read, the version that it told was written, and what
+-- it made has the first version. Every order that was kept stays so, and its own is.
+pub record IsEnding (c : Config) (job : Job) (r : Option Reply) (keeps : Option Kept)
+    (far : FarState) (v : View) : Type 0
   where
     pub holds : v.holds ≡ true
     pub stood : Stood c v.known far
     pub adds : AddsTurn v.took far
-    pub did : (n : ℕ) → Did c (turn_of job r far n v)
+    pub did : (n : ℕ) → Did c (turn_of job r keeps far n v)
     pub reads : ReadsTold job r v
     pub writes : WritesTold job r v
     pub makes : Each (λ h. Make v.known.first h v.fresh) (made_by_turn job r)
+    pub leaves : LeavesOrders v.start v.took v.known far
+    pub own : KeepsOrder v.known far keeps
 
--- the seat gave the lock back, with the far state in its slot
-pub record GivesFar (c : Config) (job : Job) (r : Option Reply) (far : FarState) (p q : SeatAt)
-    : Type 0 where
+-- the seat gave the lock back, with the far state in its slot, and keeps this order
+pub record GivesFar (c : Config) (job : Job) (r : Option Reply) (keeps : Option Kept)
+    (far : FarState) (p q : SeatAt) : Type 0 where
   pub entries : ℕ
-  pub at : IsAt p q (gave_lock job r far entries [] (made_by_turn job r) (record_at p)) []
+  pub at : IsAt p q (gave_lock job r keeps far entries [] (made_by_turn job r) (record_at p)) []
   pub written : Each (λ (e : Entry). e.handle < c.handles)
       ((record_at p).fresh ++ (record_at p).written)
 
--- A turn of a seat that took the lock, to its end.
-pub record TurnWith (c : Config) (job : Job) (r : Result Reply NoMemory) (took : FarState)
-    (p q : SeatAt) : Type 0 where
+-- A turn of a seat that took the lock, to its end, where it keeps this order.
+pub record TurnWith (c : Config) (job : Job) (r : Result Reply NoMemory) (keeps : Option Kept)
+    (took : FarState) (p q : SeatAt) : Type 0 where
   pub gave : FarState
   pub events : List Event
   pub more : List Entry
   pub within : Part
   pub entries : ℕ
   pub agree : Agree (record_at p).known events
-  pub at : IsAt p q (gave_lock job (answer_of r) gave entries [] (made_by_turn job (answer_of r))
-      (grown within (acted events (record_at p)))) []
+  pub at : IsAt p q (gave_lock job (answer_of r) keeps gave entries []
+      (made_by_turn job (answer_of r)) (grown within (acted events (record_at p)))) []
   pub below : Each (λ (e : Entry). e.handle < c.handles) (more ++ (record_at p).written)
   pub quiet : IsQuiet within
   pub range : ReadsBelow c within
   pub reads : (u : View) → HasSame u (record_at p) → JobReads job events r u within
-  pub did : DidAs c job (answer_of r) (record_at p).known events took gave
+  pub did : DidBy c job (record_at p).order (answer_of r) keeps (record_at p).known events took gave
   pub next : IsOneTurnOn took gave
   pub wrote : OutcomeWrites job r more
   pub fresh : (acted events (record_at p)).fresh ≡ more
   pub new : AreNew more (record_at p)
   pub pins : CountsPins job r (record_at p)
 
--- A turn as it stands in the record of its pass, before a freed entry is looked for.
-pub record TurnedBy (c : Config) (job : Job) (r : Result Reply NoMemory) (v w : View) : Type 0 where
+-- A turn as it stands in the record of its pass, which keeps this order behind it, before a freed
+-- entry is looked for.
+pub record TurnedBy (c : Config) (job : Job) (r : Result Reply NoMemory) (keeps : Option Kept)
+    (v w : View) : Type 0 where
   pub turn : Turn
   pub more : List Entry
   pub within : Part
   pub job_is : turn.job ≡ job
   pub reply_is : turn.reply ≡ answer_of r
+  pub before : turn.order ≡ v.order
+  pub keeps_is : turn.keeps ≡ keeps
   pub agree : Agree turn.start turn.acts
   pub did : Did c turn
   pub next : IsOneTurnOn turn.took turn.gave
@@ -236,6 +251,6 @@ pub record TurnedBy (c : Config) (job : Job) (r : Result Reply NoMemory) (v w : 
   pub below : Each (λ (e : Entry). e.handle < c.handles) (more ++ v.written)
   pub range : ReadsBelow c within
   pub reads : JobReads job turn.acts r v within
-  pub tells : IfOk r (λ reply. TurnTells job turn.took reply)
+  pub tells : IfOk r (λ reply. TellsLost job turn.order turn.took reply)
   pub left : w ≡ with_own (made_by_turn job (answer_of r))
       (grown (turn_part turn more within nothing_more) v)
