@@ -5,11 +5,13 @@ pub use Rattle.cb_core.proofs.Changes.{read_leaves}
 pub use Rattle.cb_core.proofs.CrashesKept.{NamesAmong, none_crashed, turn_crashed, turn_idle}
 pub use Rattle.cb_core.proofs.Epochs.{lead_rises, pin_far, step_rises, unpin_far}
 pub use Rattle.cb_core.proofs.FewLost.{CrashedAmong, never_broken, never_gone}
+pub use Rattle.cb_core.proofs.InstallAtDesk.{install_at_desk, install_desk_leaves}
 pub use Rattle.cb_core.proofs.KeptParts.{IsGood}
 pub use Rattle.cb_core.proofs.NodesStay.{IsWholeJob, crash_stays, join_stays}
 pub use Rattle.cb_core.proofs.PartsCodes.{turn_codes}
 pub use Rattle.cb_core.proofs.NowIn.{are_gone}
 pub use Rattle.cb_core.proofs.Narrow.{KeepsNarrow, empty_narrow, narrow_same, narrow_stays, narrow_then, same_narrow, short_page}
+pub use Rattle.cb_core.proofs.NarrowOrders.{ordered_narrow, ordered_stops_narrow}
 pub use Rattle.cb_core.proofs.NarrowTurns.{evict_step_narrow, narrow_configured, stopped_narrow, turn_keeps_narrow, turn_narrow, turned_narrow}
 pub use Rattle.cb_core.proofs.PinnedStays.{step_pinned, touched, unmoved_same}
 pub use Rattle.cb_core.proofs.PinsKept.{pin_step_sound, unpin_step_sound}

@@ -35,6 +35,9 @@ mod OrdersLeave
 mod OrderTurns
 mod LandRooms
 mod LandTold
+mod InstallAtDesk
+mod Unfetched
+mod NarrowOrders
 pub mod OpenChanges
 pub mod OpenStored
 pub mod OpenSettled

@@ -1,5 +1,5 @@
 -- Each operation leaves one page to each span and set.
-use Rattle.std.proofs.Common.{◌≡◌, ℕ, ◌≤◌, true, false, List, [], ◌∷◌, length, take, Option, Some, None, refl, sym, ap, ◌∙◌, subst, arith, inl, inr}
+use Rattle.std.proofs.Common.{◌≡◌, ℕ, ◌≤◌, Bool, true, false, List, [], ◌∷◌, length, take, Option, Some, None, refl, sym, ap, ◌∙◌, subst, arith, inl, inr}
 use Rattle.cb_member.specs.declared.names.Shard.{Shard}
 use Rattle.cb_ptr.specs.declared.word.State.{State}
 use Rattle.cb_ptr.specs.declared.word.State.TheVariants as state
@@ -11,6 +11,9 @@ use Rattle.cb_class.specs.declared.class.Class.{Class}
 use Rattle.cb_class.specs.Class.{IsClassOf, pages_of}
 use Rattle.cb_types.specs.declared.job.Job.{Job}
 use Rattle.cb_types.specs.declared.job.Job.TheVariants.{Pair, Patch, Merge, Part, Compact, Rebuild, Crash, Join}
+use Rattle.cb_types.specs.declared.order.EncodeOrder.{EncodeOrder}
+use Rattle.cb_types.specs.declared.order.Kept.{Kept}
+use Rattle.cb_types.specs.declared.order.Kept.TheVariants.{Decode, Encode}
 use Rattle.cb_types.specs.declared.reply.Reply.{Reply}
 use Rattle.cb_types.specs.declared.reply.Reply.TheVariants as answer
 use Rattle.cb_world.specs.declared.homes.Home.{Home}
@@ -26,9 +29,10 @@ use Rattle.cb_evict.specs.AbortRule.{HasGivenUp}
 use Rattle.cb_evict.specs.BeginRule.{new_batch, with_batch}
 use Rattle.cb_evict.specs.Closing.{with_homes}
 use Rattle.cb_evict.specs.CommitRule.{HasCommitted}
+use Rattle.cb_evict.specs.InstallRule.{HasInstalled, InstallStep}
 use Rattle.cb_evict.specs.Lengths.{batch_pages, loose_of}
 use Rattle.cb_evict.specs.Loading.{AreOfLength}
-use Rattle.cb_evict.specs.ShipRule.{HasShipped, ShipsRow, with_shard_at}
+use Rattle.cb_evict.specs.ShipRule.{HasShipped, MadeFor, ShipsRow, is_data, made_before, made_here, with_shard_at}
 use Rattle.cb_evict.specs.Storing.{set_for, with_set}
 use Rattle.cb_compact.specs.CompactStep.{AreStepped, CompactStep, PairEnds}
 use Rattle.cb_compact.specs.MergeStep.{MergeStep, Merges, merged_set, with_merged}
@@ -114,9 +118,9 @@ seated_narrow frames far new temp h seat r at (inr (inr (slot, gets))) =
     moved_narrow far new temp seat h slot r at gets
 
 -- a position of a set comes in as a span of the set's length
-pub swapped_narrow : (far new : FarState) (id p : ℕ) (set : SetState) (f : ℕ)
-    → set_in far.sets id ≡ Some set → IsSwappedTo far new id p set f → KeepsNarrow far new
-swapped_narrow far new id p set f there z =
+pub swapped_narrow : (far new : FarState) (id p : ℕ) (set : SetState) (f n : ℕ)
+    → set_in far.sets id ≡ Some set → IsSwappedTo far new id p set f n → KeepsNarrow far new
+swapped_narrow far new id p set f n there z =
     keeps far new (ap (λ (q : FarState). q.code) z.rest) (λ some is. record {
       spans = subst HaveOnePage (sym z.spans)
           (pages_set far.spans f (Some (span_of z.class Hot (position_of set p).slots))
@@ -147,37 +151,63 @@ evicted_narrow far new loose p pages shards rows longest long state =
 
 -- some begin to leave
 pub begun_narrow : (far new : FarState) (loose : List ℕ) (p pages : ℕ) (words : List Former)
-    (parities : List (List ℕ)) → batch_pages far.code.k far.spans loose ≡ Some p
+    (made : Bool) (parities : List (List ℕ)) → batch_pages far.code.k far.spans loose ≡ Some p
     → AreOfLength far.spans pages (take far.code.k (loose_of far.spans p loose))
-    → new ≡ with_batch far pages (take far.code.k (loose_of far.spans p loose)) words parities
+    → new ≡ with_batch far pages (take far.code.k (loose_of far.spans p loose)) words made parities
     → KeepsNarrow far new
-begun_narrow far new loose p pages words parities longest long state =
+begun_narrow far new loose p pages words made parities longest long state =
     let frames = take far.code.k (loose_of far.spans p loose) in
     subst (KeepsNarrow far) (sym state)
-    (keeps far (with_batch far pages frames words parities) refl (λ some is. record {
+    (keeps far (with_batch far pages frames words made parities) refl (λ some is. record {
       spans = is.spans;
       sets = sets_put far.sets far.counts.sets _ (λ committed. absurd (false_true committed)) is.sets;
       leaving = λ batch at. ap (λ (b : LeavingState). b.pages)
-          (sym (inner (new_batch far pages frames words parities) batch at))
+          (sym (inner (new_batch far pages frames words made parities) batch at))
           ∙ batch_page far.code.k far.spans loose p pages some longest long is.spans;
     }))
 
--- a row is put
-shipped : (far new : FarState) (r : Reply) (row : LeavingState → ℕ → List ℕ)
-    → HasShipped far new r row → KeepsNarrow far new
-shipped far new r row z = subst (KeepsNarrow far) (sym z.state) (keeps far _ refl (λ some is. record {
+-- a row is put, of parities that may have been made first
+ready_pages : (batch : LeavingState) (rows : List (List ℕ)) (p : ℕ) (ready : LeavingState)
+    → MadeFor batch rows p ready → ready.pages ≡ batch.pages
+ready_pages batch rows p ready (made_before made same) = ap (λ (b : LeavingState). b.pages) same
+ready_pages batch rows p ready (is_data below same) = ap (λ (b : LeavingState). b.pages) same
+ready_pages batch rows p ready (made_here bare above parities made same) =
+    ap (λ (b : LeavingState). b.pages) same
+
+shipped : (far new : FarState) (r : Reply) (rows : LeavingState → List (List ℕ))
+    → HasShipped far new r rows → KeepsNarrow far new
+shipped far new r rows z = subst (KeepsNarrow far) (sym z.state) (keeps far _ refl (λ some is. record {
   spans = is.spans;
   sets = is.sets;
   leaving = λ batch at. ap (λ (b : LeavingState). b.pages)
-      (sym (inner (with_shard_at z.batch z.position z.shard) batch at)) ∙ is.leaving z.batch z.there;
+      (sym (inner (with_shard_at z.ready z.position z.shard) batch at))
+      ∙ ready_pages z.batch (rows z.batch) z.position z.ready z.made ∙ is.leaving z.batch z.there;
 }))
 
-pub ships_narrow : (far new : FarState) (r : Reply) (row : LeavingState → ℕ → List ℕ)
-    → ShipsRow far new r row → KeepsNarrow far new
-ships_narrow far new r row (inl z) = narrow_same far new z.state
-ships_narrow far new r row (inr (inl z)) = narrow_same far new z.state
-ships_narrow far new r row (inr (inr (inl z))) = narrow_same far new z.state
-ships_narrow far new r row (inr (inr (inr z))) = shipped far new r row z
+pub ships_narrow : (far new : FarState) (r : Reply) (rows : LeavingState → List (List ℕ))
+    → ShipsRow far new r rows → KeepsNarrow far new
+ships_narrow far new r rows (inl z) = narrow_same far new z.state
+ships_narrow far new r rows (inr (inl z)) = narrow_same far new z.state
+ships_narrow far new r rows (inr (inr (inl z))) = narrow_same far new z.state
+ships_narrow far new r rows (inr (inr (inr z))) = shipped far new r rows z
+
+-- the batch gets parities
+pub installed_narrow : (far new : FarState) (r : Reply) (o : EncodeOrder) → HasInstalled far new r o
+    → KeepsNarrow far new
+installed_narrow far new r o z = subst (KeepsNarrow far) (sym z.state) (keeps far _ refl (λ some is. record {
+  spans = is.spans;
+  sets = is.sets;
+  leaving = λ batch at. ap (λ (b : LeavingState). b.pages)
+      (sym (inner (with_parities z.batch z.parities) batch at)) ∙ is.leaving z.batch z.there;
+}))
+
+pub install_narrow : (far new : FarState) (r : Reply) (order keeps : Option Kept)
+    → InstallStep far new r order keeps → KeepsNarrow far new
+install_narrow far new r None keeps x = narrow_same far new x.0.state
+install_narrow far new r (Some (Decode o)) keeps x = narrow_same far new x.0.state
+install_narrow far new r (Some (Encode o)) keeps (inl x) = narrow_same far new x.0.state
+install_narrow far new r (Some (Encode o)) keeps (inr (inl x)) = narrow_same far new x.0.state
+install_narrow far new r (Some (Encode o)) keeps (inr (inr x)) = installed_narrow far new r o x.0
 
 -- the batch is committed, or given up
 pub committed_narrow : (far new : FarState) (r : Reply) → HasCommitted far new r

@@ -19,7 +19,7 @@ use Rattle.cb_mutate.specs.MakeRule.{MakeRule}
 use Rattle.cb_mutate.specs.MakeStep.{IsMakeStep}
 use Rattle.cb_evict.specs.AbortRule.{AbortRule}
 use Rattle.cb_evict.specs.AbortStep.{IsAbortStep, given_up, no_batch as none_to_abort}
-use Rattle.cb_evict.specs.BeginRule.{BeginRule}
+use Rattle.cb_evict.specs.BeginRule.{BeginsBy}
 use Rattle.cb_evict.specs.BeginStep.{IsBeginStep, begins, few_nodes as nodes_few, few_spans as spans_few, is_leaving}
 use Rattle.cb_evict.specs.CommitRule.{CommitRule}
 use Rattle.cb_evict.specs.CommitStep.{IsCommitStep, committed, no_batch as none_to_commit, short as is_short}
@@ -129,10 +129,10 @@ swap_rule_narrow : (id p : ℕ) (far new : FarState) (r : Reply) (es : List Even
 swap_rule_narrow id p far new r es x = by r x.state
   where
     by : (q : Reply) → SwapFar far new id p x.set es q → KeepsNarrow far new
-    by (answer.Swapped f) z = swapped_narrow far new id p x.set f x.there z.0
+    by (answer.Swapped f) z = swapped_narrow far new id p x.set f _ x.there z.0
     by q z = narrow_same far new z.0
 
-evict_rule_narrow : (far new : FarState) (r : Reply) (es : List Event) → EvictRule far new r es
+pub evict_rule_narrow : (far new : FarState) (r : Reply) (es : List Event) → EvictRule far new r es
     → KeepsNarrow far new
 evict_rule_narrow far new r es x = elim x.answered [
   | inl few ↦ narrow_same far new few.state
@@ -141,14 +141,14 @@ evict_rule_narrow far new r es x = elim x.answered [
       evicted_narrow far new x.loose both.pages e.pages e.shards e.rows both.longest e.long e.state
 ]
 
-begin_rule_narrow : (far new : FarState) (r : Reply) (es : List Event) → BeginRule far new r es
-    → KeepsNarrow far new
-begin_rule_narrow far new r es (inl z) = narrow_same far new z.state
-begin_rule_narrow far new r es (inr x) = elim x.answered [
+pub begins_narrow : (far new : FarState) (made : Bool) (so : List (List ℕ) → Type 0) (r : Reply)
+    (es : List Event) → BeginsBy far new made so r es → KeepsNarrow far new
+begins_narrow far new made so r es (inl z) = narrow_same far new z.state
+begins_narrow far new made so r es (inr x) = elim x.answered [
   | inl few ↦ narrow_same far new few.state
   | inr (inl few) ↦ narrow_same far new few.state
   | inr (inr both) ↦ let e = both.begun in
-      begun_narrow far new x.loose both.pages e.pages e.words e.parities both.longest e.long e.state
+      begun_narrow far new x.loose both.pages e.pages e.words made e.parities both.longest e.long e.state
 ]
 
 commit_rule_narrow : (far new : FarState) (r : Reply) (es : List Event) → CommitRule far new r es
@@ -167,7 +167,7 @@ abort_rule_narrow far new r es x = elim x.answered [
 ]
 
 -- ---- over any desk, however an object is read that is here
-counted_narrow : (far : FarState) (job : Job) → KeepsNarrow far (counted far job)
+pub counted_narrow : (far : FarState) (job : Job) → KeepsNarrow far (counted far job)
 counted_narrow far job = narrow_stays far (counted far job) refl refl refl refl
 
 -- a far state as it is configured has a data position
@@ -227,8 +227,8 @@ module _ {D : Type 0} (run : D → List Event → D → Type 0) (shows : D → S
   alone_narrow (Filter handle) a b r x =
       filter_rule_narrow c.frames handle.n a.far b.far r x.events x.rule
   alone_narrow Evict a b r x = evict_rule_narrow a.far b.far r x.events x.rule
-  alone_narrow Begin a b r x = begin_rule_narrow a.far b.far r x.events x.rule
-  alone_narrow Ship a b r x = ships_narrow a.far b.far r x.rule.row x.rule.ships
+  alone_narrow Begin a b r x = begins_narrow a.far b.far true _ r x.events x.rule
+  alone_narrow Ship a b r x = ships_narrow a.far b.far r x.rule.rows x.rule.ships
   alone_narrow Commit a b r x = commit_rule_narrow a.far b.far r x.events x.rule
   alone_narrow Abort a b r x = abort_rule_narrow a.far b.far r x.events x.rule
   alone_narrow job a b r x = far_narrow job a.far b.far r x.1
@@ -307,7 +307,7 @@ still_swap : (h : ℕ) (a b : Holding Words) (r : Reply) → StillSwap h a r b
 still_swap h a b r (home, at, z, hold) =
     step_cases (KeepsNarrow a.far b.far) a.desk b.desk a.far b.far home.set home.position r z
     (λ same. narrow_same a.far b.far same.1)
-    (λ f whole least e w. swapped_narrow a.far b.far home.set home.position z.set f z.there w.state)
+    (λ f whole least e w. swapped_narrow a.far b.far home.set home.position z.set f _ z.there w.state)
 
 -- an eviction
 pub evict_step_narrow : (x y : Words) (far new : FarState) (r : Reply) → IsEvictStep x y far new r
@@ -323,7 +323,7 @@ still_begin x y far new r (is_leaving batch there reply state same) = narrow_sam
 still_begin x y far new r (spans_few none few same) = narrow_same far new few.state
 still_begin x y far new r (nodes_few none few same) = narrow_same far new few.state
 still_begin x y far new r (begins m) = let e = m.begun in
-    begun_narrow far new (loose_frames x far) m.pages e.pages e.words e.parities m.longest e.long e.state
+    begun_narrow far new (loose_frames x far) m.pages e.pages e.words true e.parities m.longest e.long e.state
 
 still_commit : (x y : Words) (far new : FarState) (r : Reply) → IsCommitStep x y far new r
     → KeepsNarrow far new

@@ -149,7 +149,7 @@ begin_plain c far new r es (inl a) = off r _ refl a.reply
 begin_plain c far new r es (inr a) = by a.answered
   where
     by : HasFewSpans far new r a.loose ⊎ (HasFewNodes far new r a.loose
-        ⊎ HasBatch far new r a.loose es) → SaysNoLack r
+        ⊎ HasBatch far new true (λ rows. Unit {0}) r a.loose es) → SaysNoLack r
     by (inl x) = off r _ refl x.reply
     by (inr (inl x)) = off r _ refl x.reply
     by (inr (inr x)) = off r _ refl x.reply

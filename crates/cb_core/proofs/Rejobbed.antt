@@ -112,10 +112,10 @@ module _ (turns : ℕ) (by_job : List ℕ) where
   )
 
   -- a swap-in
-  swapped_as : (x y : Words) (far new : FarState) (id p : ℕ) (set : SetState) (f : ℕ)
-      → IsSwapped x y far new id p set f
-      → IsSwapped x y (rejobbed turns by_job far) (rejobbed turns by_job new) id p set f
-  swapped_as x y far new id p set f z = record {
+  swapped_as : (x y : Words) (far new : FarState) (id p : ℕ) (set : SetState) (f n : ℕ)
+      → IsSwapped x y far new id p set f n
+      → IsSwapped x y (rejobbed turns by_job far) (rejobbed turns by_job new) id p set f n
+  swapped_as x y far new id p set f n z = record {
     state = record {
       class = z.state.class;
       in_table = z.state.in_table;
@@ -143,7 +143,7 @@ module _ (turns : ℕ) (by_job : List ℕ) where
       set = z.set;
       there = z.there;
       reply = z.reply;
-      change = swapped_as a.desk b.desk a.far b.far home.set home.position z.set f z.change;
+      change = swapped_as a.desk b.desk a.far b.far home.set home.position z.set f _ z.change;
     },
     holds_as a b hold,
   )

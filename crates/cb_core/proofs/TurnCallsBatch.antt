@@ -20,7 +20,7 @@ begin_line x y far new r (few_spans none few same) = subst (IsReplyOf Begin) (sy
 begin_line x y far new r (few_nodes none few same) = subst (IsReplyOf Begin) (sym few.reply) tt
 begin_line x y far new r (begins m) = subst (IsReplyOf Begin) (sym m.reply) tt
 
-ships_line : (far new : FarState) (r : Reply) (row : LeavingState → ℕ → List ℕ)
+ships_line : (far new : FarState) (r : Reply) (row : LeavingState → List (List ℕ))
     → ShipsRow far new r row → IsReplyOf Ship r
 ships_line far new r row (inl none) = subst (IsReplyOf Ship) (sym none.reply) tt
 ships_line far new r row (inr (inl all)) = subst (IsReplyOf Ship) (sym all.reply) tt

@@ -1,11 +1,10 @@
 -- Over any desk a turn is answered Unavailable exactly where it is to be.
-use Rattle.std.proofs.Common.{◌≡◌, ℕ, suc, ◌^◌, Bool, true, false, not, ◌&&◌, if◌then◌else◌, List, [], length, Some, None, refl, sym, ap, ◌∙◌, subst, arith, inl, inr}
+use Rattle.std.proofs.Common.{◌≡◌, ℕ, suc, ◌^◌, Bool, true, false, List, [], length, Some, None, refl, sym, ap, ◌∙◌, subst, arith, inl, inr}
 use Rattle.std.proofs.lemmas.Bool.{false≢true}
 use Rattle.cb_member.specs.declared.names.Loss.{Loss}
 use Rattle.cb_ptr.specs.declared.word.State.{State}
 use Rattle.cb_ptr.specs.Word.{state_of}
-use Rattle.cb_set.specs.Lost.{lost, lost_at}
-use Rattle.cb_set.specs.SetState.{SetState}
+use Rattle.cb_set.specs.Lost.{lost}
 use Rattle.cb_types.specs.declared.config.Config.{Config}
 use Rattle.cb_types.specs.declared.handle.Handle.{Handle}
 use Rattle.cb_types.specs.declared.handle.SetId.{SetId}
@@ -44,6 +43,7 @@ use Rattle.cb_core.proofs.FarLooks.{found_away}
 use Rattle.cb_core.proofs.NoFrames.{abort_plain, answered, begin_plain, commit_plain, declined_plain, evict_plain, filter_plain, free_plain, read_plain, ship_plain, stays_plain, whole, write_plain}
 use Rattle.cb_core.proofs.TurnCallsFar.{IsLostFar, lost_away, lost_now, never_gone}
 use Rattle.cb_core.proofs.TurnCallsLost.{gone_lost}
+use Rattle.cb_core.proofs.Unfetched.{by_unfetched, whole_if}
 use Rattle.cb_core.proofs.Unavailables.{far_in, gone_is, in_far, one_lost}
 
 -- the reply tells of no set
@@ -378,14 +378,6 @@ module _ {D : Type 0} (run : D → List Event → D → Type 0) (shows : D → S
       worn_lost id l e = cc
 
   -- ---- a fetch
-  whole_if : (far : FarState) (set : SetState) (p : ℕ) → true ≡ is_to_make far set p
-      → is_broken far.members set ≡ false
-  whole_if far set p e = by (is_broken far.members set) (lost_at far.members set.shards p) e
-    where
-      by : (b l : Bool) → true ≡ (not b && l) → b ≡ false
-      by false l f = refl
-      by true l f = absurd (false≢true (sym f))
-
   rows_tell : (m b : Hold) (h : ℕ) (g : Fetching) → FetchesRows run h m g b
       → Tells m.far h (fetching_reply g)
   rows_tell m b h g (home, at, ran, x) = by g x.ordered x.state
@@ -399,12 +391,13 @@ module _ {D : Type 0} (run : D → List Event → D → Type 0) (shows : D → S
       direct_never : IsNever answer.Direct
       direct_never i l e = cc
 
-      answered_by : (broken : Bool) → is_broken m.far.members x.set ≡ broken → Tells m.far h
-          (if broken
-          then answer.Unavailable (record { n = home.set }) (lost m.far.members x.set.shards)
-          else answer.Direct)
-      answered_by true broken = broke (record { n = home.set }) (lost m.far.members x.set.shards) refl
-          (record {
+      by : (q : Fetching) → hands_out q ≡ is_to_make m.far x.set home.position
+          → FetchFar m.far b.far home.set home.position x.set q → Tells m.far h (fetching_reply q)
+      by (fetching.Order o) e z = whole_there (there ∙ whole_if m.far x.set home.position e)
+          (fetched_never (record { n = o.set }) o.position)
+      by (fetching.Answer r) e z = subst (Tells m.far h) (sym z.0)
+          (by_unfetched (Tells m.far h) m.far home.set x.set
+          (λ broken. broke (record { n = home.set }) (lost m.far.members x.set.shards) refl (record {
             home = home;
             set = x.set;
             at = at;
@@ -412,15 +405,8 @@ module _ {D : Type 0} (run : D → List Event → D → Type 0) (shows : D → S
             broken = broken;
             number = refl;
             lost = refl;
-          })
-      answered_by false fine = whole_there (there ∙ fine) direct_never
-
-      by : (q : Fetching) → hands_out q ≡ is_to_make m.far x.set home.position
-          → FetchFar m.far b.far home.set home.position x.set q → Tells m.far h (fetching_reply q)
-      by (fetching.Order o) e z = whole_there (there ∙ whole_if m.far x.set home.position e)
-          (fetched_never (record { n = o.set }) o.position)
-      by (fetching.Answer r) e z = subst (Tells m.far h) (sym z.0)
-          (answered_by (is_broken m.far.members x.set) refl)
+          }))
+          (λ fine. whole_there (there ∙ fine) direct_never))
 
   run_tells : (a b : Hold) (h : ℕ) (g : Fetching) → Good a → FetchRun run shows h a g b
       → Tells a.far h (fetching_reply g)

@@ -31,7 +31,15 @@ set pages = set_of 0 pages [] []
 
 abbrev batch : ℕ → LeavingState
 batch pages =
-    record { set = 1; pages = pages; frames = []; words = []; parities = []; shards = [] }
+    record {
+      set = 1;
+      pages = pages;
+      frames = [];
+      words = [];
+      made = true;
+      parities = [];
+      shards = [];
+    }
 
 two_pages : pages_of (at 12) ≡ 2
 unfolding pages_of

@@ -1,5 +1,5 @@
 -- Worked examples of what a turn that finds no room counts: loose spans, and nodes with room.
-use Rattle.std.proofs.Common.{◌≡◌, ℕ, false, List, [], ◌∷◌, Option, None, Some, refl, arith}
+use Rattle.std.proofs.Common.{◌≡◌, ℕ, true, false, List, [], ◌∷◌, Option, None, Some, refl, arith}
 use Rattle.std.specs.FinMap as map
 use Rattle.cb_class.specs.declared.class.Class.{Class}
 use Rattle.cb_class.specs.Class.{pages_of}
@@ -95,7 +95,15 @@ none_loose = refl
 
 -- a span that is leaving is not loose, and one beside it is
 abbrev batch : ℕ → LeavingState
-batch f = record { set = 0; pages = 1; frames = f ∷ []; words = []; parities = []; shards = [] }
+batch f = record {
+  set = 0;
+  pages = 1;
+  frames = f ∷ [];
+  words = [];
+  made = true;
+  parities = [];
+  shards = [];
+}
 
 first_is_leaving : loose_frames (words_are calm hot) (both (Some (batch 0))) ≡ 1 ∷ []
 first_is_leaving = refl

@@ -237,7 +237,15 @@ one_span (made m, hold) = let n : 1 ≤ 0 = longest_within _ _ _ _ m.longest in 
 
 -- ---- the steps of a batch: where none is leaving, and where one is whose rows were not put
 abbrev batch : LeavingState
-batch = record { set = 4; pages = 1; frames = 1 ∷ []; words = []; parities = []; shards = None ∷ None ∷ [] }
+batch = record {
+  set = 4;
+  pages = 1;
+  frames = 1 ∷ [];
+  words = [];
+  made = true;
+  parities = [];
+  shards = None ∷ None ∷ [];
+}
 
 abbrev beside : Holding Words
 beside = record { desk = crowd.desk; far = record crowd.far { leaving = Some batch } }
@@ -329,7 +337,7 @@ ships_all_of_none (step, hold) = by _ step.ships
     all_shipped : (p : ℕ) → answer.AllShipped ≡ answer.Shipped p → ⊥
     all_shipped p e = cc
 
-    by : (row : LeavingState → ℕ → List ℕ) → ShipsRow beside.far beside.far answer.AllShipped row
+    by : (row : LeavingState → List (List ℕ)) → ShipsRow beside.far beside.far answer.AllShipped row
         → ⊥
     by row (inl n) = some_batch n.none
     by row (inr (inl all)) =
