@@ -1,5 +1,5 @@
 -- The parts of a ship, and what they leave.
-use Rattle.std.proofs.Common.{◌≡◌, ℕ, ◌-◌, ◌*◌, ◌<◌, ◌≤◌, true, false, List, [], ◌++◌, length, get_or, replicate, slice_set, Option, Some, None, IfSome, refl, sym, ap, ◌∙◌, subst, arith, inl, inr, length-set}
+use Rattle.std.proofs.Common.{◌≡◌, ℕ, ◌-◌, ◌*◌, ◌<◌, ◌≤◌, Bool, true, false, List, [], ◌++◌, length, get_or, replicate, slice_set, Option, Some, None, IfSome, refl, sym, ap, ◌∙◌, subst, arith, inl, inr, length-set}
 use Rattle.std.specs.List.{Contains, slice_get}
 use Rattle.std.proofs.lemmas.Bool.{cases_lt}
 use Rattle.std.proofs.lemmas.List.{get_or-append_right, get_or_append_left, get_or-map, get_or_past, get_or-set_same, length-replicate}
@@ -15,7 +15,7 @@ use Rattle.cb_world.specs.declared.shown.Shown.{Shown}
 use Rattle.cb_world.specs.FarSound.{AreShardRows, of_leaving}
 use Rattle.cb_world.specs.FarState.{FarState, pages_at, span_in}
 use Rattle.cb_world.specs.FrameWords.{LiesInRun}
-use Rattle.cb_world.specs.Leaving.{LeavingState}
+use Rattle.cb_world.specs.Leaving.{LeavingState, ParitiesState, shown_rows}
 use Rattle.cb_world.specs.Memory.{window}
 use Rattle.cb_world.specs.Performs.{Performs}
 use Rattle.cb_world.specs.Placed.{leaving_frames}
@@ -25,17 +25,19 @@ use Rattle.cb_world.specs.SetWord.{IsSpanWord}
 use Rattle.cb_world.specs.Sound.{Sound}
 use Rattle.cb_world.proofs.Laws.{batch_owned}
 use Rattle.cb_world.specs.Still.{IsStill}
+use Rattle.cb_evict.specs.BeginRule.{no_parities}
 use Rattle.cb_evict.specs.InstallRule.{with_made, with_parities}
 use Rattle.cb_evict.specs.Loading.{AreOfLength, LiesInOne, LiesInRuns, LoadsRun, LoadsRuns, OnlyLoads}
 use Rattle.cb_evict.specs.ShipRule.{AreMadeOf, IsShardFor, MadeFor, ReadsLeaving, ShipEffect, ShipRule, ShipsRow, is_data, made_before, made_here, with_noted, with_shipped}
 use Rattle.cb_evict.specs.Shipping.{IsParityDue, LoadsAny, OwnsBatch, PutsMade, PutsNothing, PutsRow}
 use Rattle.cb_evict.specs.Waiting.{PutAtMembers, least_waiting}
+use Rattle.cb_evict.proofs.BeginEnd.{shown_blank}
 use Rattle.cb_evict.proofs.Events.{are_reads, loads_more, told_words}
 use Rattle.cb_evict.proofs.InstallSound.{made_sound, rows_count, rows_known}
 use Rattle.cb_evict.proofs.Loads.{reads_spans}
 use Rattle.cb_evict.proofs.ShipSound.{put_sound}
 use Rattle.cb_evict.proofs.TakenGroup.{rows_read}
-use Rattle.cb_evict.proofs.Options.{none_some}
+use Rattle.cb_evict.proofs.Options.{none_some, some_same}
 use Rattle.cb_evict.proofs.Still.{does_nothing}
 
 -- ---- the batch
@@ -206,20 +208,42 @@ pub reads_batch : (runs : List Event → Type 0) (far : FarState) (batch : Leavi
 reads_batch runs far batch there long x =
     (x.0, x.1, batch_reads runs far batch x.0 there long x.2)
 
+-- a batch with the parities that are seen of these
+abbrev pub seen_batch : LeavingState → ParitiesState → LeavingState
+seen_batch batch p = record batch { made = p.made; parities = shown_rows p.made p.rows }
+
+-- of parities that are not made their number is seen alone
+pub unmade_same : (batch : LeavingState) (p q : ParitiesState) → p.made ≡ false → q.made ≡ false
+    → length p.rows ≡ length q.rows → seen_batch batch p ≡ seen_batch batch q
+unmade_same batch p q a b count =
+    let made : p.made ≡ q.made = a ∙ sym b in
+    let rows : shown_rows p.made p.rows ≡ shown_rows q.made q.rows =
+    ap (λ (m : Bool). shown_rows m p.rows) a ∙ shown_blank p.rows ∙ ap no_parities count
+    ∙ sym (shown_blank q.rows) ∙ sym (ap (λ (m : Bool). shown_rows m q.rows) b) in
+    λ i. record batch { made = made i; parities = rows i }
+
+-- the batch that is leaving is the one that was asked for
+pub due_for : (frames : ℕ) (far : FarState) (batch other : LeavingState) (p : ℕ)
+    → far.leaving ≡ Some batch → far.leaving ≡ Some other
+    → IsParityDue frames far.spans batch p → IsParityDue frames far.spans other p
+due_for frames far batch other p a b due =
+    subst (λ (x : LeavingState). IsParityDue frames far.spans x p) (some_same batch other (sym a ∙ b))
+    due
+
 -- the parities are made, and one of them is put
 pub puts_made : (runs : List Event → Type 0) (shows : Shown → Type 0) (far new : FarState)
     (frames : ℕ) (batch then_batch : LeavingState) (nodes : NodesState) (p : ℕ) (shard : Shard)
-    → far.leaving ≡ Some batch → (due : IsParityDue frames far.spans batch p)
+    → far.leaving ≡ Some batch → IsParityDue frames far.spans batch p → batch.made ≡ false
     → PutsMade runs shows far.nodes nodes batch then_batch p shard
     → new ≡ with_noted (record far { leaving = Some then_batch; nodes = nodes }) then_batch p shard
     → PutsRow runs shows far new batch p shard
-puts_made runs shows far new frames batch then_batch nodes p shard there due x state =
+puts_made runs shows far new frames batch then_batch nodes p shard there due unmade x state =
     let k = length batch.frames in let rows = x.loads.rows in
     let ready = with_parities batch x.parities in
     let at = parity_at rows x.parities k p x.loads.count due.behind in
     let made = λ (rows : List (List ℕ))
     (word : IsSpanWord batch.pages k (length x.parities) (rows ++ x.parities)).
-    made_now batch rows p x.parities due.unmade due.behind
+    made_now batch rows p x.parities unmade due.behind
     (record { range = due.range; count = x.count; word = word }) in
     record {
       events = x.loads.loads.events;

@@ -68,14 +68,15 @@ pub record PutsRow (runs : List Event → Type 0) (shows : Shown → Type 0) (fa
   pub state : new ≡ with_shipped far ready p shard (row_at (rows ++ ready.parities) p)
   pub of_batch : (s : Shown) → shows s → OwnsBatch s batch → IsPutOf s batch rows p ready
 
--- a parity of the batch is due, and none is made: the frames of its spans are among so many, and its
--- code is one of those that are built
+-- a parity of the batch is due, whose frames are among so many and whose code is one of those that
+-- are built
 pub record IsParityDue (frames : ℕ) (spans : List (Option Contents)) (batch : LeavingState) (p : ℕ)
     : Type 0 where
-  pub unmade : batch.made ≡ false
   pub behind : length batch.frames ≤ p
   pub within : p < length batch.frames + length batch.parities
   pub place : p < length batch.shards
+  pub count : length batch.shards ≡ length batch.frames + length batch.parities
+  pub few : length batch.shards ≤ 20
   pub range : IsInRange (length batch.frames) (length batch.parities)
   pub below : All (λ f. f + batch.pages ≤ frames) batch.frames
   pub long : AreOfLength spans batch.pages batch.frames

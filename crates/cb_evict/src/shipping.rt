@@ -190,6 +190,8 @@ fn ship_unmade<D: Desk>(
     requires config { IsAccepted (D.settings desk.old) }
     requires there { (batch : LeavingState) × (far.old.leaving ≡ Some batch)
         × IsParityDue (D.settings desk.old).frames far.old.spans batch position }
+    requires unmade { (batch : LeavingState) → far.old.leaving ≡ Some batch
+        → batch.made ≡ false }
     requires keys { far.old.counts.keys < 2 ^ 62 }
     requires within { shard.node.n < length far.old.nodes.nodes }
     requires fresh { has far.old.nodes shard.node shard.key ≡ false }
@@ -206,6 +208,35 @@ fn ship_unmade<D: Desk>(
     put_unmade(desk, &mut far.nodes, batch, position, shard)?;
     note_shard(far, position, shard);
     Ok(())
+}
+
+/// Puts the parity of a position of the batch that is leaving under the shard, which the position
+/// has then. The parities are made first, where they are not yet. Where there is no memory, nothing
+/// has changed.
+fn ship_due<D: Desk>(
+    desk: &mut D,
+    far: &mut Far,
+    position: u32,
+    shard: Shard,
+) -> Result<(), NoMemory>
+    requires config { IsAccepted (D.settings desk.old) }
+    requires there { (batch : LeavingState) × (far.old.leaving ≡ Some batch)
+        × IsParityDue (D.settings desk.old).frames far.old.spans batch position }
+    requires keys { far.old.counts.keys < 2 ^ 62 }
+    requires within { shard.node.n < length far.old.nodes.nodes }
+    requires fresh { has far.old.nodes shard.node shard.key ≡ false }
+    requires room { held far.old.nodes shard.node < far.old.nodes.room }
+    ensures ok { OnOk result ((batch : LeavingState) → far.old.leaving ≡ Some batch
+        → PutsRow (λ es. D.run desk.old es desk.new) (λ s. D.shows desk.old s)
+        far.old far.new batch position shard) }
+    ensures err { OnErr result (PutsNothing (λ es. D.run desk.old es desk.new) far.old) }
+    ensures unchanged { OnErr result (far.new ≡ far.old) }
+{
+    if are_made(far) {
+        ship_parity(far, position, shard)
+    } else {
+        ship_unmade(desk, far, position, shard)
+    }
 }
 
 /// Reads the words of the span at a position of the batch that is leaving into a row, and puts
@@ -263,8 +294,7 @@ fn ship_row<D: Desk>(
 {
     match frame_at(far, position) {
         Some(frame) => ship_data(desk, far, frame, position, shard),
-        None if are_made(far) => ship_parity(far, position, shard),
-        None => ship_unmade(desk, far, position, shard),
+        None => ship_due(desk, far, position, shard),
     }
 }
 
