@@ -59,4 +59,5 @@ mod WorkedAdds
 mod WorkedSeeking
 mod WorkedRecalls
 mod Known
+mod DidAlone
 pub mod Laws
