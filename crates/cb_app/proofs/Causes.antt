@@ -88,6 +88,14 @@ for_more v w all j (inl is) = inl is
 for_more v w all j (inr is) = inr (on_more v w all j is)
 
 -- ---- one turn of a closed record all of whose turns are for objects
+-- a job that makes an object, or is on one, hands no order out and takes none
+for_alone : (v : View) (j : Job) → IsForObject v j → NeedsNoOrder j
+for_alone v job.Gather is = elim is [ | inl x ↦ absurd x | inr x ↦ absurd x ]
+for_alone v job.Install is = elim is [ | inl x ↦ absurd x | inr x ↦ absurd x ]
+for_alone v (job.Fetch handle) is = elim is [ | inl x ↦ absurd x | inr x ↦ absurd x ]
+for_alone v job.Land is = elim is [ | inl x ↦ absurd x | inr x ↦ absurd x ]
+for_alone v j is = tt
+
 module _ (c : Config) (ok : IsAccepted c) (v : View) (w : WorldState) (closed : IsClosed Did 1 c v w)
     (few : length v.written ≤ 320000)
     (jobs_are : (t : Turn) → Has t v.turns → IsForObject v t.job) where
@@ -293,7 +301,7 @@ module _ (c : Config) (ok : IsAccepted c) (v : View) (w : WorldState) (closed : 
 
     pub refused_so : IsCause c v w s a r
     refused_so = by (turn_want c t.start t.acts t.took t.gave u (tries_again t) t.job r for_object told.answers
-        told.lacks (did t in_v t.job r refl told.reply_is))
+        told.lacks (did t in_v t.job r (for_alone u t.job for_object) refl told.reply_is))
       where
         at : (q : Reply) → r ≡ q → IsCause c v w s a q → IsCause c v w s a r
         at q e x = subst (IsCause c v w s a) (sym e) x
