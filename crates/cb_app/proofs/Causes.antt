@@ -24,7 +24,7 @@ use Rattle.cb_map_text.specs.Plain.{Plain, needs_object, objects}
 use Rattle.cb_map_text.specs.declared.command.FarCommand.{FarCommand}
 use Rattle.cb_shared.specs.Turning.{Did, DidAs, made_by_turn}
 use Rattle.cb_core.specs.Jobs.{NeedsNoOrder}
-use Rattle.cb_shared.proofs.Laws.{did_alone, makes_full}
+use Rattle.cb_shared.proofs.Laws.{asked_alone, makes_full}
 use Rattle.cb_farmap.specs.Commands.{HasOneHistory, IsMake, IsOnObject, IsToldByTurn, made_by_all}
 use Rattle.cb_app.specs.Mapped.{HasTurn, IsCause}
 use Rattle.cb_app.specs.Telling.{AreOfOtherNodes}
@@ -109,7 +109,7 @@ module _ (c : Config) (ok : IsAccepted c) (v : View) (w : WorldState) (closed : 
     did : (j : Job) (r : Reply) → NeedsNoOrder j → t.job ≡ j → t.reply ≡ Some r
         → DidAs c j (Some r) t.start t.acts t.took t.gave
     did j r alone asked told =
-        did_alone c t j (Some r) alone asked told (one.did t (v, (0, refl), there))
+        asked_alone c t j (Some r) alone asked told (one.did t (v, (0, refl), there))
 
     stood : Stood c t.start t.took
     stood = one.sound t (v, (0, refl), there)

@@ -41,7 +41,7 @@ use Rattle.cb_record.specs.Needs.Need.{AWorn}
 use Rattle.cb_record.specs.Told.{Told, tolds}
 use Rattle.cb_record.specs.Upheld.{as_part}
 use Rattle.cb_core.specs.Jobs.{NeedsNoOrder}
-use Rattle.cb_shared.proofs.Laws.{did_alone}
+use Rattle.cb_shared.proofs.Laws.{asked_alone}
 use Rattle.cb_shared.specs.Turning.{Did, DidAs, ReadsByPin, slate_run, slate_shows}
 use Rattle.cb_lanes.specs.Asked.{HasLineReply, asked}
 use Rattle.cb_app.specs.ByLane.{by_lane, lanes_up_to, of_lane}
@@ -64,7 +64,7 @@ writes_alone j none = tt
 turn_worn : (c : Config) (t : Turn) → Did c t → WritesNone t.job → t.reply ≡ Some answer.Worn
     → turn_number t ≡ 2 ^ 40
 turn_worn c t did none is = worn_last slate_run slate_shows ReadsByPin by_pin c t.job none _ _
-    answer.Worn (did_alone c t t.job (Some answer.Worn) (writes_alone t.job none) refl is did) refl
+    answer.Worn (asked_alone c t t.job (Some answer.Worn) (writes_alone t.job none) refl is did) refl
 
 -- ---- the turn that a line needs is of such a job, where the line's own is
 abbrev IsNoWrite : Option Job → Type 0
@@ -285,7 +285,7 @@ module _ (c : Config) (v : View) (w : WorldState) (closed : IsClosed Did 1 c v w
 
     did : (j : Job) → t.job ≡ j → t.reply ≡ Some answer.Worn
         → NeedsNoOrder j → DidAs c j (Some answer.Worn) t.start t.acts t.took t.gave
-    did j asked told alone = did_alone c t j (Some answer.Worn) alone asked told (one.did t made)
+    did j asked told alone = asked_alone c t j (Some answer.Worn) alone asked told (one.did t made)
 
     pub wrote_worn : (h at : ℕ) (bytes : List ℕ) → t.job ≡ job.Write (the_object h) at bytes
         → t.reply ≡ Some answer.Worn → 2 ^ 40 ≤ count

@@ -22,7 +22,7 @@ use Rattle.cb_core.proofs.Laws.{room_reply}
 use Rattle.cb_core.specs.Jobs.{NeedsNoOrder}
 use Rattle.cb_record.specs.Parts.{Part}
 use Rattle.cb_shared.specs.Calls.{the_handle}
-use Rattle.cb_shared.proofs.Laws.{did_alone}
+use Rattle.cb_shared.proofs.Laws.{asked_alone}
 use Rattle.cb_shared.specs.Turning.{DidAs, ReadsByPin, Slate, TurnAdds, slate_run, slate_shows}
 
 -- what holds of each reply that a turn's job gives, and of Worn, holds of the turn's own
@@ -30,7 +30,7 @@ turn_reply : (c : Config) (P : Reply → Type 0) (j : Job) (r : Reply) (v : View
     → NeedsNoOrder j → P answer.Worn → ((a b : Holding Slate) → Does slate_run slate_shows ReadsByPin c j a r b → P r)
     → TurnAdds c j (Ok r) v d → P r
 turn_reply c P j r v d alone last may x =
-    by (did_alone c x.turn j (Some r) alone x.job_is x.reply_is x.did)
+    by (asked_alone c x.turn j (Some r) alone x.job_is x.reply_is x.did)
   where
     turned : (a b : Holding Slate) → Turned slate_run slate_shows ReadsByPin c j a r b → P r
     turned a b (worn end is same ran) = subst P (sym is) last

@@ -27,7 +27,7 @@ use Rattle.cb_shared.specs.declared.answers.WriteAnswer.TheVariants as place
 use Rattle.cb_core.specs.Jobs.{NeedsNoOrder}
 use Rattle.cb_shared.specs.Turning.{DidAs, ReadsByPin, Slate, TurnAdds, TurnBy, slate_run}
 use Rattle.cb_shared.specs.Turning.{slate_shows}
-use Rattle.cb_shared.proofs.Laws.{did_alone, read_lacks}
+use Rattle.cb_shared.proofs.Laws.{asked_alone, read_lacks}
 use Rattle.cb_lanes.specs.declared.body.Named.{Named}
 use Rattle.cb_lanes.specs.Asked.{HasLineReply}
 use Rattle.cb_lanes.specs.Bodies.{LinesGo, handle_behind}
@@ -43,7 +43,7 @@ module _ (c : Config) where
       → ((a b : Holding Slate) → Does slate_run slate_shows ReadsByPin c j a r b → IsReplyOf q r)
       → IsReplyOf q answer.Worn → TurnAdds c j (Ok r) v d → IsReplyOf q r
   turn_reply j q r v d alone may last x =
-      by (did_alone c x.turn j (Some r) alone x.job_is x.reply_is x.did)
+      by (asked_alone c x.turn j (Some r) alone x.job_is x.reply_is x.did)
     where
       by : DidAs c j (Some r) x.turn.start x.turn.acts x.turn.took x.turn.gave → IsReplyOf q r
       by turned = turned_so slate_run slate_shows c ReadsByPin j q r _ _ (λ does. may _ _ does) last turned

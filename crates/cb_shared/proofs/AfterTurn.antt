@@ -11,6 +11,7 @@ use Rattle.cb_types.specs.declared.config.Config.{Config}
 use Rattle.cb_types.specs.declared.job.Job.{Job}
 use Rattle.cb_types.specs.declared.handle.Handle.{Handle}
 use Rattle.cb_types.specs.declared.job.Job.TheVariants.{Filter, Make, Read, Write, Free}
+use Rattle.cb_types.specs.declared.order.Kept.{Kept}
 use Rattle.cb_types.specs.declared.reply.Reply.{Reply}
 use Rattle.cb_types.specs.declared.reply.Reply.TheVariants as answer
 use Rattle.cb_world.specs.declared.entry.Entry.{Entry}
@@ -18,11 +19,11 @@ use Rattle.cb_world.specs.declared.event.Event.{Event}
 use Rattle.cb_world.specs.declared.shown.Shown.{Shown}
 use Rattle.cb_world.specs.FarState.{FarState}
 use Rattle.cb_world.specs.Memory.{bytes_in}
+use Rattle.cb_world.specs.Orders.{KeepsOrder, LeavesOrders}
 use Rattle.cb_world.specs.Played.{played}
 use Rattle.cb_world.specs.Written.{written_by}
 use Rattle.cb_mutate.specs.JobWrites.{FreeWrites, MakeWrites, TurnWrites, WriteWrites}
 use Rattle.cb_core.specs.TurnLeaves.{OutcomeWrites}
-use Rattle.cb_core.specs.Unavailable.{TurnTells}
 use Rattle.cb_rule.specs.declared.turn.Turn.{Turn}
 use Rattle.cb_rule.specs.declared.view.Seen.{Seen}
 use Rattle.cb_rule.specs.declared.view.View.{View}
@@ -35,16 +36,16 @@ use Rattle.cb_rule.specs.Records.{TellsWritten, ended_by, old_by}
 use Rattle.cb_rule.specs.Slot.{LockSlot, Sat}
 use Rattle.cb_rule.specs.Steps.{AreNew, Knows, acted, version_seen}
 use Rattle.cb_shared.specs.declared.setup.Setup.{Setup}
-use Rattle.cb_record.specs.Parts.{Part, grown, nothing_more}
+use Rattle.cb_record.specs.Parts.{Part, grown, keeps_after, nothing_more}
 use Rattle.cb_shared.specs.Passes.{IsAtRest}
 use Rattle.cb_shared.specs.SeatLaws.{Runs, acted_is, acted_known, after_events}
 use Rattle.cb_shared.specs.Seats.{HoldsLock, IsOf, SeatAt, record_at}
-use Rattle.cb_shared.specs.Turning.{CountsPins, Did, DidAs, JobReads, KnowsIt, KnowsOf, PinsTold}
-use Rattle.cb_shared.specs.Turning.{answer_of, made_by_turn, object_of, turn_part, with_own}
+use Rattle.cb_shared.specs.Turning.{CountsPins, Did, DidBy, JobReads, KnowsIt, KnowsOf, PinsTold}
+use Rattle.cb_shared.specs.Turning.{TellsLost, answer_of, made_by_turn, object_of, turn_part, with_own}
 use Rattle.cb_shared.specs.UnderLock.{GivesFar, IsBeginning, IsEnding, IsQuiet, TakesFar, TurnWith}
 use Rattle.cb_shared.specs.UnderLock.{TurnedBy, WorkBy}
 use Rattle.cb_rule.proofs.Laws.{hit}
-use Rattle.cb_shared.proofs.MadeFirst.{makes_own}
+use Rattle.cb_shared.proofs.MadeFirst.{makes_own_by}
 
 -- a seat that moved to another view is of the table as before
 pub of_moved : (z : TableId) (k : Setup) (c : Config) (p q : SeatAt) → IsOf z k c p
@@ -83,6 +84,7 @@ begins_taken c far p q rest t =
       took = refl;
       sized = t.sized;
       stood = t.stood;
+      kept = t.kept;
     }
 
 pub holds_begun : (z : TableId) (k : Setup) (c : Config) (far : FarState) (p : SeatAt)
@@ -208,10 +210,11 @@ told_written job (Err e) more w wrote fresh h n (inl x) = absurd (let told = x.3
 told_written job (Err e) more w wrote fresh h n (inr (inl x)) = absurd (let told = x.4 in cc)
 told_written job (Err e) more w wrote fresh h n (inr (inr x)) = absurd (let told = x.2 in cc)
 
-pub ends_work : (c : Config) (job : Job) (r : Result Reply NoMemory) (took gave : FarState)
-    (p q : SeatAt) → IsBeginning c took (record_at p) → WorkBy c job r took gave p q
-    → IsEnding c job (answer_of r) gave (record_at q)
-ends_work c job r took gave p q b w =
+pub ends_work : (c : Config) (job : Job) (r : Result Reply NoMemory) (keeps : Option Kept)
+    (took gave : FarState)
+    (p q : SeatAt) → IsBeginning c took (record_at p) → WorkBy c job r keeps took gave p q
+    → IsEnding c job (answer_of r) keeps gave (record_at q)
+ends_work c job r keeps took gave p q b w =
     let v = record_at p in let es = w.events in let reply = answer_of r in
     let m : record_at q ≡ grown w.within (after_events es v) = ap (λ (x : Sat). x.0) w.moves.2
     ∙ ap (grown w.within) (acted_is es v) in record {
@@ -219,10 +222,15 @@ ends_work c job r took gave p q b w =
       stood = subst (λ (x : View). Stood c x.known gave) (sym m) w.stood;
       adds = subst (λ (x : View). AddsTurn x.took gave) (sym m)
           (subst (λ (f : FarState). AddsTurn f gave) (sym b.took) w.next);
-      did = λ n. subst (λ (x : View). Did c (turn_of job reply gave n x)) (sym m)
-          (subst (λ (s : Shown). DidAs c job reply s (v.acts ++ es) v.took gave) (sym b.start)
-          (subst (λ (l : List Event). DidAs c job reply v.known (l ++ es) v.took gave) (sym b.idle)
-          (subst (λ (f : FarState). DidAs c job reply v.known es f gave) (sym b.took) w.did)));
+      did = λ n. subst (λ (x : View). Did c (turn_of job reply keeps gave n x)) (sym m)
+          (subst (λ (l : List Turn). DidBy c job (keeps_after l v.order) reply keeps v.start
+          (v.acts ++ es) v.took gave) (sym w.quiet.1)
+          (subst (λ (s : Shown). DidBy c job v.order reply keeps s (v.acts ++ es) v.took gave)
+          (sym b.start)
+          (subst (λ (l : List Event). DidBy c job v.order reply keeps v.known (l ++ es) v.took gave)
+          (sym b.idle)
+          (subst (λ (f : FarState). DidBy c job v.order reply keeps v.known es f gave) (sym b.took)
+          w.did))));
       reads = told_read job es r v w.within (record_at q) (w.reads v (refl, refl, refl, refl, refl))
           (ap (λ (x : View). x.seen) m);
       writes = told_written job r w.more (record_at q) w.wrote
@@ -235,22 +243,28 @@ ends_work c job r took gave p q b w =
           (sym (acted_known es v))
           (subst (λ (l : List Entry). Each (λ h. IsMake (played es v.known).first h l)
           (made_by_turn job reply)) (sym w.fresh)
-          (makes_own c job r v.known (played es v.known) es took gave w.more w.did w.wrote
-          w.stood.sound.here.known.first)));
+          (makes_own_by c job v.order r keeps v.known (played es v.known) es took gave w.more w.did
+          w.wrote w.stood.sound.here.known.first)));
+      leaves = subst (λ (x : View). LeavesOrders x.start x.took x.known gave) (sym m)
+          (subst (λ (s : Shown). LeavesOrders s v.took (played es v.known) gave) (sym b.start)
+          (subst (λ (f : FarState). LeavesOrders v.known f (played es v.known) gave) (sym b.took)
+          w.leaves));
+      own = subst (λ (x : View). KeepsOrder x.known gave keeps) (sym m) w.own;
     }
 
 pub of_work : (z : TableId) (k : Setup) (c : Config) (job : Job) (r : Result Reply NoMemory)
-    (took gave : FarState) (p q : SeatAt) → IsOf z k c p → WorkBy c job r took gave p q
-    → IsOf z k c q
-of_work z k c job r took gave p q of w =
+    (keeps : Option Kept) (took gave : FarState) (p q : SeatAt) → IsOf z k c p
+    → WorkBy c job r keeps took gave p q → IsOf z k c q
+of_work z k c job r keeps took gave p q of w =
     let m : record_at q ≡ grown w.within (after_events w.events (record_at p)) =
     ap (λ (x : Sat). x.0) w.moves.2 ∙ ap (grown w.within) (acted_is w.events (record_at p)) in
     of_moved z k c p q of w.moves.0 (ap (λ (x : View). x.config) m) (ap (λ (x : View). x.share) m)
 
-pub turn_with : (c : Config) (job : Job) (r : Result Reply NoMemory) (took gave : FarState)
-    (p m q : SeatAt) → WorkBy c job r took gave p m → GivesFar c job (answer_of r) gave m q
-    → TurnWith c job r took p q
-turn_with c job r took gave p m q w g =
+pub turn_with : (c : Config) (job : Job) (r : Result Reply NoMemory) (keeps : Option Kept)
+    (took gave : FarState)
+    (p m q : SeatAt) → WorkBy c job r keeps took gave p m
+    → GivesFar c job (answer_of r) keeps gave m q → TurnWith c job r keeps took p q
+turn_with c job r keeps took gave p m q w g =
     let v = record_at p in let reply = answer_of r in let made = made_by_turn job reply in
     let at : record_at m ≡ grown w.within (acted w.events v) = ap (λ (x : Sat). x.0) w.moves.2 in
     let is : record_at m ≡ grown w.within (after_events w.events v) = at
@@ -268,7 +282,7 @@ turn_with c job r took gave p m q w g =
         g.at.0 ∙ w.moves.0,
         g.at.1 ∙ w.moves.1,
         g.at.2 ∙ ap (λ (x : View).
-            let z : Sat = (gave_lock job reply gave g.entries [] made x, []) in
+            let z : Sat = (gave_lock job reply keeps gave g.entries [] made x, []) in
             z) at,
       );
       below = subst (Each (λ (e : Entry). e.handle < c.handles)) (λ i. fresh i ++ written i)
@@ -284,21 +298,42 @@ turn_with c job r took gave p m q w g =
       pins = w.pins;
     }
 
+-- the work of a turn leaves the order that the record keeps
+pub order_worked : (c : Config) (job : Job) (r : Result Reply NoMemory) (keeps : Option Kept)
+    (took gave : FarState) (p q : SeatAt) → WorkBy c job r keeps took gave p q
+    → (record_at q).order ≡ (record_at p).order
+order_worked c job r keeps took gave p q w =
+    ap (λ (x : Sat). x.0.order) w.moves.2
+    ∙ ap (λ (x : View). (grown w.within x).order) (acted_is w.events (record_at p))
+    ∙ ap (λ (l : List Turn). keeps_after l (record_at p).order) w.quiet.1
+
+-- so that of a turn that keeps it
+pub worked_still : (c : Config) (job : Job) (r : Result Reply NoMemory) (took gave : FarState)
+    (p q : SeatAt) → WorkBy c job r (record_at p).order took gave p q
+    → WorkBy c job r (record_at q).order took gave p q
+worked_still c job r took gave p q w = subst (λ (o : Option Kept). WorkBy c job r o took gave p q)
+    (sym (order_worked c job r (record_at p).order took gave p q w)) w
+
+pub order_taken : (c : Config) (far : FarState) (p q : SeatAt) → TakesFar c far p q
+    → (record_at q).order ≡ (record_at p).order
+order_taken c far p q t = ap (λ (x : Sat). x.0.order) t.at.2
+
 -- the seat that took the lock and gave it back is the same one, with no slot in hand
-pub at_end : (c : Config) (job : Job) (r : Result Reply NoMemory) (took gave : FarState)
-    (p l m q : SeatAt) → TakesFar c took p l → WorkBy c job r took gave l m
-    → GivesFar c job (answer_of r) gave m q
+pub at_end : (c : Config) (job : Job) (r : Result Reply NoMemory) (keeps : Option Kept)
+    (took gave : FarState)
+    (p l m q : SeatAt) → TakesFar c took p l → WorkBy c job r keeps took gave l m
+    → GivesFar c job (answer_of r) keeps gave m q
     → (q.table_id ≡ p.table_id) × (q.id ≡ p.id) × (q.me.1 ≡ [])
-at_end c job r took gave p l m q t w g = (
+at_end c job r keeps took gave p l m q t w g = (
   g.at.0 ∙ w.moves.0 ∙ t.at.0,
   g.at.1 ∙ w.moves.1 ∙ t.at.1,
   ap (λ (x : Sat). x.1) g.at.2,
 )
 
 -- the turn as it stands then
-abbrev pub turn_told : Job → Result Reply NoMemory → Shown → ℕ → ℕ → View → List Entry → List Event
-    → FarState → FarState → Turn
-turn_told job r known since until v more es took gave = record {
+abbrev pub turn_told : Job → Result Reply NoMemory → Option Kept → Shown → ℕ → ℕ → View
+    → List Entry → List Event → FarState → FarState → Turn
+turn_told job r keeps known since until v more es took gave = record {
   job = job;
   reply = answer_of r;
   start = known;
@@ -309,6 +344,8 @@ turn_told job r known since until v more es took gave = record {
   old = old_by v.base v.turns;
   ended = ended_by v.turns;
   acts = es;
+  order = v.order;
+  keeps = keeps;
   took = took;
   gave = gave;
 }
@@ -350,31 +387,37 @@ pins_counted known far n v (Filter handle) (Err e) counts = tt
 pins_counted known far n v job r counts = tt
 
 -- the record of a pass at rest, from taking the lock to giving it back
-pub turned_by : (c : Config) (job : Job) (r : Result Reply NoMemory) (far : FarState)
-    (p m q : SeatAt)
-    → IsAtRest c (record_at p) → TakesFar c far p m → TurnWith c job r far m q
-    → IfOk r (λ reply. TurnTells job far reply) → TurnedBy c job r (record_at p) (record_at q)
-turned_by c job r far p m q rest t w tells =
+pub turned_by : (c : Config) (job : Job) (r : Result Reply NoMemory) (keeps : Option Kept)
+    (far : FarState) (p m q : SeatAt)
+    → IsAtRest c (record_at p) → TakesFar c far p m → TurnWith c job r keeps far m q
+    → IfOk r (λ reply. TellsLost job (record_at p).order far reply)
+    → TurnedBy c job r keeps (record_at p) (record_at q)
+turned_by c job r keeps far p m q rest t w tells =
     let v = record_at p in let reply = answer_of r in let made = made_by_turn job reply in
     let u : View = took_lock t.known far t.entries v in
     let at : record_at m ≡ u = ap (λ (x : Sat). x.0) t.at.2 in
     let es = w.events in let d = w.within in let z : View = after_events es u in
-    let turn : Turn = turn_told job r t.known t.entries w.entries v w.more es far w.gave in
+    let turn : Turn = turn_told job r keeps t.known t.entries w.entries v w.more es far w.gave in
     let fresh : z.fresh ≡ w.more = ap (λ (x : View). x.fresh) (sym (acted_is es u))
     ∙ ap (λ (x : View). (acted es x).fresh) (sym at) ∙ w.fresh in
     let written : (record_at m).written ≡ v.written = ap (λ (x : View). x.written) at in
-    let left : record_at q ≡ gave_lock job reply w.gave w.entries [] made (grown d z) =
+    let left : record_at q ≡ gave_lock job reply keeps w.gave w.entries [] made (grown d z) =
     ap (λ (x : Sat). x.0) w.at.2
-    ∙ ap (λ (x : View). gave_lock job reply w.gave w.entries [] made (grown d (acted es x))) at
-    ∙ ap (λ (x : View). gave_lock job reply w.gave w.entries [] made (grown d x)) (acted_is es u) in
+    ∙ ap (λ (x : View). gave_lock job reply keeps w.gave w.entries [] made (grown d (acted es x))) at
+    ∙ ap (λ (x : View). gave_lock job reply keeps w.gave w.entries [] made (grown d x))
+    (acted_is es u) in
     let known : (record_at m).known ≡ t.known = ap (λ (x : View). x.known) at in record {
       turn = turn;
       more = w.more;
       within = d;
       job_is = refl;
       reply_is = refl;
+      before = refl;
+      keeps_is = refl;
       agree = subst (λ (s : Shown). Rattle.cb_world.specs.Played.Agree s es) known w.agree;
-      did = subst (λ (s : Shown). DidAs c job reply s es far w.gave) known w.did;
+      did = subst (λ (s : Shown). DidBy c job v.order reply keeps s es far w.gave) known
+          (subst (λ (x : View). DidBy c job x.order reply keeps (record_at m).known es far w.gave) at
+          w.did);
       next = w.next;
       wrote = w.wrote;
       notes = record { had = refl; left = refl; old = refl; ended = refl };
@@ -396,19 +439,19 @@ turned_by c job r far p m q rest t w tells =
         sym (ap (λ (x : View). x.own) at),
       );
       tells = tells;
-      left = left ∙ gave_is c job r far v t.known t.entries w.entries es w.gave d w.more made rest fresh
+      left = left ∙ gave_is c job r keeps far v t.known t.entries w.entries es w.gave d w.more made rest fresh
           w.quiet;
     }
   where
-    gave_is : (c : Config) (job : Job) (r : Result Reply NoMemory) (far : FarState) (v : View)
-        (known : Shown) (since until : ℕ) (es : List Event) (gave : FarState) (d : Part)
+    gave_is : (c : Config) (job : Job) (r : Result Reply NoMemory) (keeps : Option Kept)
+        (far : FarState) (v : View) (known : Shown) (since until : ℕ) (es : List Event) (gave : FarState) (d : Part)
         (more : List Entry) (made : List ℕ) → IsAtRest c v
         → written_by es known v.fresh ≡ more → IsQuiet d
-        → gave_lock job (answer_of r) gave until [] made
+        → gave_lock job (answer_of r) keeps gave until [] made
         (grown d (after_events es (took_lock known far since v)))
-        ≡ with_own made (grown (turn_part (turn_told job r known since until v more es far gave) more d
-        nothing_more) v)
-    gave_is c job r far v known since until es gave d more made rest fresh quiet =
+        ≡ with_own made (grown (turn_part (turn_told job r keeps known since until v more es far gave)
+        more d nothing_more) v)
+    gave_is c job r keeps far v known since until es gave d more made rest fresh quiet =
         let o = rest.out in λ i. record v {
           written = fresh i ++ ap (λ (l : List Entry). l ++ v.written) quiet.0 i;
           fresh = sym rest.fresh i;
@@ -424,8 +467,10 @@ turned_by c job r far p m q rest t w tells =
           known = sym o.4 i;
           took = (ap (λ (k : Config). Rattle.cb_world.specs.Empty.empty_far 1 k) rest.config
               ∙ sym o.5) i;
-          turns = record (turn_told job r known since until v more es far gave) {
+          order = keeps;
+          turns = record (turn_told job r keeps known since until v more es far gave) {
             left = fresh i ++ ap (λ (l : List Entry). l ++ v.written) quiet.0 i;
+            order = ap (λ (l : List Turn). keeps_after l v.order) quiet.1 i;
           } ∷ ap (λ (l : List Turn). l ++ v.turns) quiet.1 i;
           had = sym o.6 i;
           old = sym o.7 i;

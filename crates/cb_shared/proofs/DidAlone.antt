@@ -1,8 +1,11 @@
--- A turn whose job hands no order out and takes none did its job alone.
-use Rattle.std.proofs.Common.{◌≡◌, List, Option, None, Some, subst, inl, inr}
+-- A job that needs no order is done alone, whatever order its seat keeps.
+use Rattle.std.proofs.Common.{◌≡◌, List, Option, None, Some, Result, Ok, Err, subst, inl, inr}
+use Rattle.std.specs.Prelude.{IfOk}
+use Rattle.cb_member.specs.declared.no_memory.NoMemory.{NoMemory}
 use Rattle.cb_types.specs.declared.config.Config.{Config}
 use Rattle.cb_types.specs.declared.job.Job.{Job}
-use Rattle.cb_types.specs.declared.job.Job.TheVariants.{Fetch, Gather, Install, Land}
+use Rattle.cb_types.specs.declared.job.Job.TheVariants.{Gather, Install, Fetch, Free, Land, Make}
+use Rattle.cb_types.specs.declared.job.Job.TheVariants.{Read, Swap, Write}
 use Rattle.cb_types.specs.declared.order.Kept.{Kept}
 use Rattle.cb_types.specs.declared.reply.Reply.{Reply}
 use Rattle.cb_world.specs.declared.event.Event.{Event}
@@ -10,44 +13,98 @@ use Rattle.cb_world.specs.declared.shown.Shown.{Shown}
 use Rattle.cb_world.specs.FarState.{FarState}
 use Rattle.cb_core.specs.Jobs.{NeedsNoOrder}
 use Rattle.cb_core.specs.OrderParts.{DoesWithBy, OrderLacks, OrderParts, StopsWithBy}
-use Rattle.cb_core.specs.Ordered.TurnedWith.{done as with_done, worn as with_worn}
+use Rattle.cb_core.specs.Ordered.TurnedWith.{done as done_with, worn as worn_with}
 use Rattle.cb_core.specs.Parts.{Holding}
-use Rattle.cb_core.specs.Turned.Turned.{done, worn}
+use Rattle.cb_core.specs.Turned.{worn}
+use Rattle.cb_core.specs.Unavailable.{TurnTells}
 use Rattle.cb_rule.specs.declared.turn.Turn.{Turn}
-use Rattle.cb_shared.specs.Turning.{Did, DidAs, DidBy}
+use Rattle.cb_shared.specs.Calls.{IsCalled}
+use Rattle.cb_shared.specs.Turning.{Did, DidAs, DidBy, DidWith, Slate, TellsLost}
 
-does_none : {D : Type 0} (p : OrderParts D) (job : Job) (order keeps : Option Kept) (a b : Holding D)
-    (r : Reply) → NeedsNoOrder job → DoesWithBy p job order a r keeps b → ⊥
-does_none p Gather order keeps a b r alone x = absurd alone
-does_none p Install order keeps a b r alone x = absurd alone
-does_none p (Fetch handle) order keeps a b r alone x = absurd alone
-does_none p Land order keeps a b r alone x = absurd alone
-does_none p job order keeps a b r alone x = x
+-- the calls make turns of such jobs
+pub called_alone : (job : Job) → IsCalled job → NeedsNoOrder job
+called_alone (Make bytes) called = tt
+called_alone (Read handle) called = tt
+called_alone (Write handle at bytes) called = tt
+called_alone (Free handle) called = tt
+called_alone (Swap handle) called = tt
+called_alone job called = absurd called
 
-stops_none : {D : Type 0} (p : OrderParts D) (l : OrderLacks D) (job : Job) (order : Option Kept)
-    (a b : Holding D) → NeedsNoOrder job → StopsWithBy p l job order a b → ⊥
-stops_none p l Gather order a b alone x = absurd alone
-stops_none p l Install order a b alone x = absurd alone
-stops_none p l (Fetch handle) order a b alone x = absurd alone
-stops_none p l Land order a b alone x = absurd alone
-stops_none p l job order a b alone x = x
+does_none : (p : OrderParts Slate) (job : Job) (order : Option Kept) (a : Holding Slate) (r : Reply)
+    (keeps : Option Kept) (b : Holding Slate) → NeedsNoOrder job
+    → DoesWithBy p job order a r keeps b → ⊥
+does_none p Gather order a r keeps b alone does = absurd alone
+does_none p Install order a r keeps b alone does = absurd alone
+does_none p (Fetch handle) order a r keeps b alone does = absurd alone
+does_none p Land order a r keeps b alone does = absurd alone
+does_none p job order a r keeps b alone does = does
 
-alone_by : (c : Config) (job : Job) (order : Option Kept) (reply : Option Reply) (keeps : Option Kept)
-    (start : Shown) (es : List Event) (took gave : FarState) → NeedsNoOrder job
-    → DidBy c job order reply keeps start es took gave → DidAs c job reply start es took gave
-alone_by c job order reply keeps start es took gave alone (inl did) = did.0
-alone_by c job order (Some r) keeps start es took gave alone (inr (with_worn end is kept left ran)) =
-    worn end is left ran
-alone_by c job order (Some r) keeps start es took gave alone (inr (with_done few does)) =
-    absurd (does_none _ job order keeps _ _ r alone does)
-alone_by c job order None keeps start es took gave alone (inr did) =
-    absurd (stops_none _ _ job order _ _ alone did.0.stops)
+stops_none : (p : OrderParts Slate) (l : OrderLacks Slate) (job : Job) (order : Option Kept)
+    (a b : Holding Slate) → NeedsNoOrder job → StopsWithBy p l job order a b → ⊥
+stops_none p l Gather order a b alone stops = absurd alone
+stops_none p l Install order a b alone stops = absurd alone
+stops_none p l (Fetch handle) order a b alone stops = absurd alone
+stops_none p l Land order a b alone stops = absurd alone
+stops_none p l job order a b alone stops = stops
 
--- what a turn of a record did, by its job and its reply
-pub did_alone : (c : Config) (t : Turn) (job : Job) (reply : Option Reply) → NeedsNoOrder job
+with_alone : (c : Config) (job : Job) (order : Option Kept) (reply : Option Reply)
+    (keeps : Option Kept) (start : Shown) (es : List Event) (took gave : FarState)
+    → NeedsNoOrder job → DidWith c job order reply keeps start es took gave
+    → DidAs c job reply start es took gave
+with_alone c job order (Some r) keeps start es took gave alone (worn_with last is kept same ran) =
+    worn last is same ran
+with_alone c job order (Some r) keeps start es took gave alone (done_with few does) =
+    absurd (does_none _ job order _ r keeps _ alone does)
+with_alone c job order None keeps start es took gave alone (x, same) =
+    absurd (stops_none _ _ job order _ _ alone x.stops)
+
+-- what such a job did
+pub did_alone : (c : Config) (job : Job) (order : Option Kept) (reply : Option Reply)
+    (keeps : Option Kept) (start : Shown) (es : List Event) (took gave : FarState)
+    → NeedsNoOrder job → DidBy c job order reply keeps start es took gave
+    → DidAs c job reply start es took gave
+did_alone c job order reply keeps start es took gave alone (inl x) = x.0
+did_alone c job order reply keeps start es took gave alone (inr x) =
+    with_alone c job order reply keeps start es took gave alone x
+
+-- so of a turn in a record
+pub turn_alone : (c : Config) (t : Turn) → NeedsNoOrder t.job → Did c t
+    → DidAs c t.job t.reply t.start t.acts t.took t.gave
+turn_alone c t alone did =
+    did_alone c t.job t.order t.reply t.keeps t.start t.acts t.took t.gave alone did
+
+kept_alone : (c : Config) (job : Job) (order : Option Kept) (reply : Option Reply)
+    (keeps : Option Kept) (start : Shown) (es : List Event) (took gave : FarState)
+    → NeedsNoOrder job → DidWith c job order reply keeps start es took gave → keeps ≡ order
+kept_alone c job order (Some r) keeps start es took gave alone (worn_with last is kept same ran) =
+    kept
+kept_alone c job order (Some r) keeps start es took gave alone (done_with few does) =
+    absurd (does_none _ job order _ r keeps _ alone does)
+kept_alone c job order None keeps start es took gave alone (x, same) = same
+
+-- and its seat keeps what it kept
+pub turn_keeps_order : (c : Config) (t : Turn) → NeedsNoOrder t.job → Did c t → t.keeps ≡ t.order
+turn_keeps_order c t alone (inl x) = x.1
+turn_keeps_order c t alone (inr x) =
+    kept_alone c t.job t.order t.reply t.keeps t.start t.acts t.took t.gave alone x
+
+told_alone : (job : Job) (order : Option Kept) (far : FarState) (r : Reply) → NeedsNoOrder job
+    → TurnTells job far r → TellsLost job order far r
+told_alone Land order far r alone tells = absurd alone
+told_alone job order far r alone tells = tells
+
+-- it is answered Unavailable by its object alone
+pub tells_alone : (job : Job) (order : Option Kept) (far : FarState) (r : Result Reply NoMemory)
+    → NeedsNoOrder job → IfOk r (λ reply. TurnTells job far reply)
+    → IfOk r (λ reply. TellsLost job order far reply)
+tells_alone job order far (Ok r) alone tells = told_alone job order far r alone tells
+tells_alone job order far (Err e) alone tells = tt
+
+-- so of a turn in a record with this job and reply
+pub asked_alone : (c : Config) (t : Turn) (job : Job) (reply : Option Reply) → NeedsNoOrder job
     → t.job ≡ job → t.reply ≡ reply → Did c t → DidAs c job reply t.start t.acts t.took t.gave
-did_alone c t job reply alone asked told did =
-    alone_by c job t.order reply t.keeps t.start t.acts t.took t.gave alone
+asked_alone c t job reply alone asked told did =
+    did_alone c job t.order reply t.keeps t.start t.acts t.took t.gave alone
     (subst (λ (j : Job). DidBy c j t.order reply t.keeps t.start t.acts t.took t.gave) asked
     (subst (λ (o : Option Reply). DidBy c t.job t.order o t.keeps t.start t.acts t.took t.gave) told
     did))

@@ -7,9 +7,11 @@ use prog.Atomic.{either}
 use Rattle.atomic_table.specs.Table.{step, rest, Allows}
 use Rattle.cb_types.specs.declared.config.Config.{Config}
 use Rattle.cb_types.specs.declared.job.Job.{Job}
+use Rattle.cb_types.specs.declared.order.Kept.{Kept}
 use Rattle.cb_types.specs.declared.reply.Reply.{Reply}
 use Rattle.cb_world.specs.FarState.{FarState}
 use Rattle.cb_world.specs.declared.entry.Entry.{Entry}
+use Rattle.cb_world.specs.Orders.{KeepsOrder}
 use Rattle.cb_world.specs.declared.shown.Shown.{Shown}
 use Rattle.cb_rule.specs.declared.view.View.{View}
 use Rattle.cb_rule.specs.Lists.{Each}
@@ -57,9 +59,10 @@ takes_lock_at first one is c k key slots id old me live even s r long at low =
       ),
     )
 
-may_give : (c : Config) (job : Job) (reply : Option Reply) (me : Sat) (far : FarState)
-    → IsEnding c job reply far me.0 → MayGive Did c job reply far [] (made_by_turn job reply) me.0
-may_give c job reply me far e = record {
+may_give : (c : Config) (job : Job) (reply : Option Reply) (keeps : Option Kept) (me : Sat)
+    (far : FarState) → IsEnding c job reply keeps far me.0
+    → MayGive Did c job reply keeps far [] (made_by_turn job reply) me.0
+may_give c job reply keeps me far e = record {
   holds = e.holds;
   stood = e.stood;
   adds = e.adds;
@@ -68,35 +71,41 @@ may_give c job reply me far e = record {
   writes = e.writes;
   found = tt;
   makes = e.makes;
+  leaves = e.leaves;
+  own = e.own;
 }
 
 pub gives_lock_at : (first : ℕ) (c k : Config) → k ≡ c → (slots id : ℕ) (me : Sat) (job j : Job)
-    (reply r : Option Reply) → j ≡ job → r ≡ reply → (far : FarState) (n : ℕ) → 1 ≤ me.0.share
-    → me.1 ≡ (0, Some far) ∷ [] → IsEnding c job reply far me.0 → n ≡ 2 * far.counts.turns
+    (reply r : Option Reply) (keeps o : Option Kept) → j ≡ job → r ≡ reply → o ≡ keeps
+    → (far : FarState) (n : ℕ) → 1 ≤ me.0.share
+    → me.1 ≡ (0, Some far) ∷ [] → IsEnding c job reply keeps far me.0 → n ≡ 2 * far.counts.turns
     → Allows (Ruled (Locked Did) first k) slots id me 0 (λ _. n)
-    (λ _. gave j r [] (made_by_turn j r) (step slots 0 n 0 none) me n)
-gives_lock_at first c k key slots id me job j reply r ej er far n live carried ends is =
+    (λ _. gave j r o [] (made_by_turn j r) (step slots 0 n 0 none) me n)
+gives_lock_at first c k key slots id me job j reply r keeps o ej er eo far n live carried ends is =
     subst (λ (x : Job). Allows (Ruled (Locked Did) first k) slots id me 0 (λ _. n)
-    (λ _. gave x r [] (made_by_turn x r) (step slots 0 n 0 none) me n)) (sym ej)
+    (λ _. gave x r o [] (made_by_turn x r) (step slots 0 n 0 none) me n)) (sym ej)
     (subst (λ (x : Option Reply). Allows (Ruled (Locked Did) first k) slots id me 0 (λ _. n)
-    (λ _. gave job x [] (made_by_turn job x) (step slots 0 n 0 none) me n)) (sym er)
+    (λ _. gave job x o [] (made_by_turn job x) (step slots 0 n 0 none) me n)) (sym er)
+    (subst (λ (x : Option Kept). Allows (Ruled (Locked Did) first k) slots id me 0 (λ _. n)
+    (λ _. gave job reply x [] (made_by_turn job reply) (step slots 0 n 0 none) me n)) (sym eo)
     (at_key first c k slots id me 0 (λ _. n)
-    (λ _. gave job reply [] (made_by_turn job reply) (step slots 0 n 0 none) me n) key
-    (gives_lock Did first c slots id me job reply far [] (made_by_turn job reply) n live carried
-    (may_give c job reply me far ends) is)))
+    (λ _. gave job reply keeps [] (made_by_turn job reply) (step slots 0 n 0 none) me n) key
+    (gives_lock Did first c slots id me job reply keeps far [] (made_by_turn job reply) n live carried
+    (may_give c job reply keeps me far ends) is))))
 
 -- what the step tells of the seat
-pub gives_far : (c : Config) (job j : Job) (reply r : Option Reply) → j ≡ job → r ≡ reply
+pub gives_far : (c : Config) (job j : Job) (reply r : Option Reply) (keeps o : Option Kept)
+    → j ≡ job → r ≡ reply → o ≡ keeps
     → (far : FarState) (p q : SeatAt) → (record_at p).config ≡ c → q.table_id ≡ p.table_id
     → q.id ≡ p.id
-    → HasGiven j r far [] (made_by_turn j r) p.me q.me → GivesFar c job reply far p q
-gives_far c job j reply r ej er far p q key table id h = record {
+    → HasGiven j r o far [] (made_by_turn j r) p.me q.me → GivesFar c job reply keeps far p q
+gives_far c job j reply r keeps o ej er eo far p q key table id h = record {
   entries = h.entries;
   at = (
     table,
     id,
     h.given ∙ (λ i. (
-      gave_lock (ej i) (er i) far h.entries [] (made_by_turn (ej i) (er i)) (record_at p),
+      gave_lock (ej i) (er i) (eo i) far h.entries [] (made_by_turn (ej i) (er i)) (record_at p),
       [],
     )),
   );
@@ -141,6 +150,7 @@ takes_far c word far p m q key (table, id, t) out slot =
       stood = subst (λ (f : FarState). Stood c t.known f) same
           (subst (λ (x : Config). Stood x t.known t.far) key t.stood);
       made = λ h knows. subst (λ (f : FarState). h < f.made) same (t.made h knows);
+      kept = subst (λ (f : FarState). KeepsOrder t.known f (record_at p).order) same t.kept;
     }
 
 -- a seat that is not moved, twice
@@ -164,20 +174,22 @@ takes_from c far p m q same t = record {
   sized = t.sized;
   stood = t.stood;
   made = λ h knows. t.made h (subst (λ (x : Sat). Knows h x.0) (sym same.2) knows);
+  kept = subst (λ (x : Sat). KeepsOrder t.known far x.0.order) same.2 t.kept;
 }
 
 -- so where the far state was put into the slot before
-pub gives_from : (c : Config) (job : Job) (reply : Option Reply) (far : FarState) (p m q : SeatAt)
+pub gives_from : (c : Config) (job : Job) (reply : Option Reply) (keeps : Option Kept)
+    (far : FarState) (p m q : SeatAt)
     → m.table_id ≡ p.table_id → m.id ≡ p.id → record_at m ≡ record_at p
-    → GivesFar c job reply far m q
-    → GivesFar c job reply far p q
-gives_from c job reply far p m q table id same g = record {
+    → GivesFar c job reply keeps far m q
+    → GivesFar c job reply keeps far p q
+gives_from c job reply keeps far p m q table id same g = record {
   entries = g.entries;
   at = (
     g.at.0 ∙ table,
     g.at.1 ∙ id,
     g.at.2 ∙ ap (λ (v : View).
-        let z : Sat = (gave_lock job reply far g.entries [] (made_by_turn job reply) v, []) in
+        let z : Sat = (gave_lock job reply keeps far g.entries [] (made_by_turn job reply) v, []) in
         z) same,
   );
   written = subst (λ (v : View). Each (λ (e : Entry). e.handle < c.handles) (v.fresh ++ v.written))

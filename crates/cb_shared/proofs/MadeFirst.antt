@@ -7,6 +7,7 @@ use Rattle.cb_types.specs.declared.config.Config.{Config}
 use Rattle.cb_types.specs.declared.handle.Handle.{Handle}
 use Rattle.cb_types.specs.declared.job.Job.{Job}
 use Rattle.cb_types.specs.declared.job.Job.TheVariants.{Make}
+use Rattle.cb_types.specs.declared.order.Kept.{Kept}
 use Rattle.cb_types.specs.declared.reply.Reply.{Reply}
 use Rattle.cb_types.specs.declared.reply.Reply.TheVariants as answer
 use Rattle.cb_types.specs.declared.request.Request.TheVariants as request
@@ -37,8 +38,9 @@ use Rattle.cb_record.specs.Upheld.{as_part}
 use Rattle.cb_record.proofs.Laws.{turn_of_make}
 use Rattle.cb_shared.specs.Making.{MakesNew}
 use Rattle.cb_shared.specs.Recalls.{MakesFirst}
-use Rattle.cb_shared.specs.Turning.{Did, DidAs, ReadsByPin, Slate, answer_of, held_by, made_by_turn}
-use Rattle.cb_shared.specs.Turning.{slate_run, slate_shows}
+use Rattle.cb_shared.specs.Turning.{Did, DidAs, DidBy, ReadsByPin, Slate, answer_of, held_by}
+use Rattle.cb_shared.specs.Turning.{made_by_turn, slate_run, slate_shows}
+use Rattle.cb_shared.proofs.DidAlone.{did_alone}
 
 -- whether a reply is Made
 abbrev is_made : Reply → ℕ
@@ -186,22 +188,25 @@ of_make c bytes (Ok (answer.Made h n)) start known es took gave more did wrote f
 of_make c bytes (Ok r) start known es took gave more did wrote first = tt
 of_make c bytes (Err e) start known es took gave more did wrote first = tt
 
-pub makes_own : (c : Config) (job : Job) (r : Result Reply NoMemory) (start known : Shown)
-    (es : List Event) (took gave : FarState) (more : List Entry)
-    → DidAs c job (answer_of r) start es took gave → OutcomeWrites job r more
-    → known.first ≡ gave.first
+pub makes_own_by : (c : Config) (job : Job) (order : Option Kept) (r : Result Reply NoMemory)
+    (keeps : Option Kept) (start known : Shown) (es : List Event) (took gave : FarState)
+    (more : List Entry) → DidBy c job order (answer_of r) keeps start es took gave
+    → OutcomeWrites job r more → known.first ≡ gave.first
     → Each (λ h. IsMadeIn known.first h more) (made_by_turn job (answer_of r))
-makes_own c (Make bytes) r start known es took gave more did wrote first =
-    of_make c bytes r start known es took gave more did wrote first
-makes_own c job r start known es took gave more did wrote first = tt
+makes_own_by c (Make bytes) order r keeps start known es took gave more did wrote first =
+    of_make c bytes r start known es took gave more
+    (did_alone c (Make bytes) order (answer_of r) keeps start es took gave tt did) wrote first
+makes_own_by c job order r keeps start known es took gave more did wrote first = tt
 
 -- what a make did
 make_did : (c : Config) (t : Turn) → Did c t → (bytes : List ℕ) (r : Reply) → t.job ≡ Make bytes
     → t.reply ≡ Some r → Turned slate_run slate_shows ReadsByPin c (Make bytes)
     (held_by t.start [] t.took) r (held_by (played t.acts t.start) t.acts t.gave)
 make_did c t did bytes r job reply =
-    subst (λ (j : Job). DidAs c j (Some r) t.start t.acts t.took t.gave) job
-    (subst (λ (o : Option Reply). DidAs c t.job o t.start t.acts t.took t.gave) reply did)
+    did_alone c (Make bytes) t.order (Some r) t.keeps t.start t.acts t.took t.gave tt
+    (subst (λ (j : Job). DidBy c j t.order (Some r) t.keeps t.start t.acts t.took t.gave) job
+    (subst (λ (o : Option Reply). DidBy c t.job t.order o t.keeps t.start t.acts t.took t.gave) reply
+    did))
 
 -- so of one that stands in a record that closed a runtime
 did_make : (first : ℕ) (c : Config) (v : View) (w : WorldState) → IsClosed Did first c v w

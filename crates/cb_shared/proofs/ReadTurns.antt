@@ -17,8 +17,10 @@ use Rattle.cb_world.specs.declared.event.Event.{Event}
 use Rattle.cb_world.specs.declared.shown.Shown.{Shown}
 use Rattle.cb_world.specs.FarState.{FarState}
 use Rattle.cb_world.specs.Looks.{IsFound}
+use Rattle.cb_world.specs.Orders.{KeepsOrder, LeavesOrders}
 use Rattle.cb_world.specs.Played.{Agree, played}
 use Rattle.cb_mutate.specs.Answered.{AnsweredAs}
+use Rattle.cb_core.specs.Jobs.{NeedsNoOrder}
 use Rattle.cb_core.specs.OnceHere.{IsThere}
 use Rattle.cb_core.specs.Unavailable.{TurnTells}
 use Rattle.cb_core.proofs.Laws.{IsNever, brought_tells, there_tells}
@@ -43,8 +45,10 @@ use Rattle.cb_shared.specs.UnderLock.{BringAt, BroughtForRead, CameThere, HasSam
 use Rattle.cb_shared.specs.UnderLock.{TriesOn, TurnAtSeat, WorkBy}
 use Rattle.cb_shared.proofs.AfterTurn.{after_runs}
 use Rattle.cb_shared.proofs.Bringing.{bring_gives}
+use Rattle.cb_shared.proofs.DidAlone.{did_alone}
 use Rattle.cb_shared.proofs.PinsCounted.{counts_pins}
 use Rattle.cb_shared.proofs.ReadParts.{grown_nothing}
+use Rattle.cb_shared.proofs.Turns.{order_left}
 
 -- ---- The first part tells neither of bytes nor of many pins, and of a word that is Moving where it
 -- found it so.
@@ -134,8 +138,18 @@ module _ (c : Config) (handle : Handle) (took gave : FarState) (p m : SeatAt) (p
   stood_acted = subst (λ (s : Shown). Stood c s gave)
       (ap (λ (x : View). x.known) came ∙ acted_known b.events (record_at p)) b.stood
 
-  work_off : (IsThere place → ⊥) → WorkBy c (Read handle) (Ok place) took gave p m
-  work_off off = record {
+  leaves_acted : LeavesOrders (record_at p).known took (played b.events (record_at p).known) gave
+  leaves_acted = subst (λ (s : Shown). LeavesOrders (record_at p).known took s gave)
+      (ap (λ (x : View). x.known) came ∙ acted_known b.events (record_at p)) b.leaves
+
+  kept_acted : KeepsOrder (record_at p).known took (record_at p).order
+      → KeepsOrder (played b.events (record_at p).known) gave (record_at p).order
+  kept_acted kept = order_left (record_at p).known took (played b.events (record_at p).known) gave
+      (record_at p).order leaves_acted kept
+
+  work_off : KeepsOrder (record_at p).known took (record_at p).order → (IsThere place → ⊥)
+      → WorkBy c (Read handle) (Ok place) (record_at p).order took gave p m
+  work_off kept off = record {
     events = b.events;
     more = [];
     within = nothing_more;
@@ -149,13 +163,15 @@ module _ (c : Config) (handle : Handle) (took gave : FarState) (p m : SeatAt) (p
     quiet = (refl, refl);
     range = tt;
     reads = λ u same. inl (refl, first_plain c handle _ _ place refl b.brought);
-    did = did_away c handle place (record_at p).known b.events took gave b.brought off;
+    did = inl (did_away c handle place (record_at p).known b.events took gave b.brought off, refl);
     next = b.next;
     wrote = refl;
     fresh = fresh_acted;
     new = tt;
     pins = tt;
     stood = stood_acted;
+    leaves = leaves_acted;
+    own = kept_acted kept;
   }
 
   -- the seat has what it had when the turn began
@@ -168,9 +184,11 @@ module _ (c : Config) (handle : Handle) (took gave : FarState) (p m : SeatAt) (p
     sym (ap (λ (x : View). x.own) e),
   )
 
-  work_here : (q : SeatAt) (r : Result Reply NoMemory) → (record_at p).fresh ≡ [] → IsThere place
-      → TriesOn c handle.n r m q → WorkBy c (Read handle) r took gave p q
-  work_here q r none there (d, moves, quiet, range, tries) =
+  work_here : (q : SeatAt) (r : Result Reply NoMemory)
+      → KeepsOrder (record_at p).known took (record_at p).order → (record_at p).fresh ≡ []
+      → IsThere place → TriesOn c handle.n r m q
+      → WorkBy c (Read handle) r (record_at p).order took gave p q
+  work_here q r kept none there (d, moves, quiet, range, tries) =
       let s = same_come none in record {
         events = b.events;
         more = [];
@@ -190,14 +208,16 @@ module _ (c : Config) (handle : Handle) (took gave : FarState) (p m : SeatAt) (p
           same.3 ∙ s.3,
           same.4 ∙ s.4,
         ));
-        did = did_read c handle place r (record_at m) d (record_at p).known b.events took gave
-            b.brought there (tries (record_at m) (refl, refl, refl, refl, refl));
+        did = inl (did_read c handle place r (record_at m) d (record_at p).known b.events took gave
+            b.brought there (tries (record_at m) (refl, refl, refl, refl, refl)), refl);
         next = b.next;
         wrote = wrote_none r;
         fresh = fresh_acted;
         new = tt;
         pins = tt;
         stood = stood_acted;
+        leaves = leaves_acted;
+        own = kept_acted kept;
       }
     where
       wrote_none : (r : Result Reply NoMemory) → OutcomeWrites (Read handle) r []
@@ -206,9 +226,13 @@ module _ (c : Config) (handle : Handle) (took gave : FarState) (p m : SeatAt) (p
 
 -- where there was no memory to bring it in
 work_stopped : (c : Config) (handle : Handle) (e : NoMemory) (took gave : FarState) (p m : SeatAt)
-    → BringAt c handle (Err e) took gave p m → WorkBy c (Read handle) (Err e) took gave p m
-work_stopped c handle e took gave p m b =
+    → KeepsOrder (record_at p).known took (record_at p).order → BringAt c handle (Err e) took gave p m
+    → WorkBy c (Read handle) (Err e) (record_at p).order took gave p m
+work_stopped c handle e took gave p m kept b =
     let came : record_at m ≡ acted b.events (record_at p) = ap (λ (s : Sat). s.0) b.runs.0.2 in
+    let leaves : LeavesOrders (record_at p).known took (played b.events (record_at p).known) gave =
+    subst (λ (s : Shown). LeavesOrders (record_at p).known took s gave)
+    (ap (λ (x : View). x.known) came ∙ acted_known b.events (record_at p)) b.leaves in
     record {
       events = b.events;
       more = [];
@@ -223,7 +247,7 @@ work_stopped c handle e took gave p m b =
       quiet = (refl, refl);
       range = tt;
       reads = λ u same. inl (refl, tt);
-      did = did_stop c handle e (record_at p).known b.events took gave b.brought;
+      did = inl (did_stop c handle e (record_at p).known b.events took gave b.brought, refl);
       next = b.next;
       wrote = refl;
       fresh = ap (λ (x : View). x.fresh) (sym came) ∙ b.fresh;
@@ -231,22 +255,28 @@ work_stopped c handle e took gave p m b =
       pins = tt;
       stood = subst (λ (s : Shown). Stood c s gave)
           (ap (λ (x : View). x.known) came ∙ acted_known b.events (record_at p)) b.stood;
+      leaves = leaves;
+      own = order_left (record_at p).known took (played b.events (record_at p).known) gave
+          (record_at p).order leaves kept;
     }
 
 -- by the answer of the first part
 pub work_away : (c : Config) (handle : Handle) (r : Result Reply NoMemory) (took gave : FarState)
-    (p m : SeatAt) → BringAt c handle r took gave p m → (CameThere r → ⊥)
-    → WorkBy c (Read handle) r took gave p m
-work_away c handle (Ok place) took gave p m b off = work_off c handle took gave p m place b off
-work_away c handle (Err e) took gave p m b off = work_stopped c handle e took gave p m b
+    (p m : SeatAt) → KeepsOrder (record_at p).known took (record_at p).order
+    → BringAt c handle r took gave p m → (CameThere r → ⊥)
+    → WorkBy c (Read handle) r (record_at p).order took gave p m
+work_away c handle (Ok place) took gave p m kept b off =
+    work_off c handle took gave p m place b kept off
+work_away c handle (Err e) took gave p m kept b off = work_stopped c handle e took gave p m kept b
 
 pub work_read : (c : Config) (handle : Handle) (place r : Result Reply NoMemory)
-    (took gave : FarState) (p m q : SeatAt) → BringAt c handle place took gave p m
+    (took gave : FarState) (p m q : SeatAt) → KeepsOrder (record_at p).known took (record_at p).order
+    → BringAt c handle place took gave p m
     → (record_at p).fresh ≡ [] → CameThere place → TriesOn c handle.n r m q
-    → WorkBy c (Read handle) r took gave p q
-work_read c handle (Ok place) r took gave p m q b none there tries =
-    work_here c handle took gave p m place b q r none there tries
-work_read c handle (Err e) r took gave p m q b none there tries = absurd there
+    → WorkBy c (Read handle) r (record_at p).order took gave p q
+work_read c handle (Ok place) r took gave p m q kept b none there tries =
+    work_here c handle took gave p m place b q r kept none there tries
+work_read c handle (Err e) r took gave p m q kept b none there tries = absurd there
 
 -- ---- what it tells
 slate_follows : (d e : Slate) (es : List Event) (s : Shown) → slate_run d es e → slate_shows d s
@@ -297,9 +327,10 @@ few_come p m es runs few = subst (λ (v : View). length v.pins ≤ 16)
 
 -- ---- any other job
 pub work_done : (c : Config) (job : Job) (r : Result Reply NoMemory) (took gave : FarState)
-    (p q : SeatAt) → IsNoRead job → (record_at p).fresh ≡ [] → TurnAtSeat c job r took gave p q
-    → WorkBy c job r took gave p q
-work_done c job r took gave p q other none t =
+    (p q : SeatAt) → IsNoRead job → NeedsNoOrder job → (record_at p).fresh ≡ []
+    → TurnAtSeat c job r (record_at p).order took gave p q
+    → WorkBy c job r (record_at p).order took gave p q
+work_done c job r took gave p q other alone none t =
     let came : record_at q ≡ acted t.events (record_at p) = ap (λ (s : Sat). s.0) t.runs.0.2 in
     let fresh : (acted t.events (record_at p)).fresh ≡ t.more =
     ap (λ (x : View). x.fresh) (sym came) ∙ t.fresh in record {
@@ -322,10 +353,16 @@ work_done c job r took gave p q other none t =
       fresh = fresh;
       new = subst (λ (l : List Entry). AreNew l (record_at p)) fresh
           (fresh_new p q t.events none t.runs);
-      pins = counts_pins c job r t.events t.more took gave (record_at p) t.did t.runs.3 t.wrote
+      pins = counts_pins c job r t.events t.more took gave (record_at p)
+          (did_alone c job (record_at p).order (answer_of r) (record_at p).order (record_at p).known
+          t.events took gave alone t.did) t.runs.3 t.wrote
           (sym (acted_fresh t.events (record_at p)) ∙ fresh);
       stood = subst (λ (s : Shown). Stood c s gave)
           (ap (λ (x : View). x.known) came ∙ acted_known t.events (record_at p)) t.stood;
+      leaves = subst (λ (s : Shown). LeavesOrders (record_at p).known took s gave)
+          (ap (λ (x : View). x.known) came ∙ acted_known t.events (record_at p)) t.leaves;
+      own = subst (λ (s : Shown). KeepsOrder s gave (record_at p).order)
+          (ap (λ (x : View). x.known) came ∙ acted_known t.events (record_at p)) t.own;
     }
   where
     reads_none : (job : Job) → IsNoRead job → (r : Result Reply NoMemory) (u : View)

@@ -5,6 +5,7 @@ use Rattle.std.proofs.Common.{append_assoc}
 use Rattle.cb_member.specs.declared.no_memory.NoMemory.{NoMemory}
 use Rattle.cb_types.specs.declared.config.Config.{Config}
 use Rattle.cb_types.specs.declared.job.Job.{Job}
+use Rattle.cb_types.specs.declared.order.Kept.{Kept}
 use Rattle.cb_types.specs.declared.reply.Reply.{Reply}
 use Rattle.cb_types.specs.declared.reply.Reply.TheVariants as answer
 use Rattle.cb_world.specs.declared.entry.Entry.{Entry}
@@ -16,7 +17,7 @@ use Rattle.cb_rule.specs.Lists.{Each, Has}
 use Rattle.cb_rule.specs.Slot.{Sat}
 use Rattle.cb_rule.specs.Steps.{Knows}
 use Rattle.cb_shared.specs.Handles.{handles_of}
-use Rattle.cb_record.specs.Parts.{Part, grown, nothing_more}
+use Rattle.cb_record.specs.Parts.{Part, grown, keeps_after, nothing_more}
 use Rattle.cb_shared.specs.Passes.{IsAtRest}
 use Rattle.cb_shared.specs.Seats.{SeatAt, record_at}
 use Rattle.cb_shared.specs.Trying.{tries_of}
@@ -54,9 +55,10 @@ know_more : (o : Option ℕ) (made : List ℕ) (d : Part) (v : View) → KnowsIt
 know_more None made d v knows = tt
 know_more (Some h) made d v knows = knows_more h made d v knows
 
-pub freed_knows : (c : Config) (job : Job) (r : Result Reply NoMemory) (v w : View) → IsAtRest c v
-    → TurnedBy c job r v w → KnowsOf job v → KnowsIt (freed_of job r) w
-freed_knows c job r v w rest t knows = subst (KnowsIt (freed_of job r)) (sym t.left)
+pub freed_knows : (c : Config) (job : Job) (r : Result Reply NoMemory) (keeps : Option Kept)
+    (v w : View) → IsAtRest c v
+    → TurnedBy c job r keeps v w → KnowsOf job v → KnowsIt (freed_of job r) w
+freed_knows c job r keeps v w rest t knows = subst (KnowsIt (freed_of job r)) (sym t.left)
     (know_more (freed_of job r) (made_by_turn job (answer_of r))
     (turn_part t.turn t.more t.within nothing_more) v (freed_known job r v knows))
 
@@ -73,6 +75,7 @@ part_more turn more within later made v quiet = λ i. record v {
   looks = sym (append_assoc later.looks within.looks v.looks) i;
   own = made ++ v.own;
   turns = ap (λ (l : List Turn). l ++ (turn ∷ v.turns)) quiet.1 i;
+  order = ap (λ (l : List Turn). keeps_after l turn.keeps) quiet.1 i;
 }
 
 each_both : {A : Type 0} (P : A → Type 0) (xs ys : List A) → Each P xs → Each P ys
@@ -80,8 +83,8 @@ each_both : {A : Type 0} (P : A → Type 0) (xs ys : List A) → Each P xs → E
 each_both P [] ys a b = b
 each_both P (x ∷ xs) ys a b = (a.0, each_both P xs ys a.1 b)
 
-module _ (c : Config) (job : Job) (r : Result Reply NoMemory) (p m q : SeatAt)
-    (rest : IsAtRest c (record_at p)) (t : TurnedBy c job r (record_at p) (record_at m))
+module _ (c : Config) (job : Job) (r : Result Reply NoMemory) (keeps : Option Kept) (p m q : SeatAt)
+    (rest : IsAtRest c (record_at p)) (t : TurnedBy c job r keeps (record_at p) (record_at m))
     (f : FreedMoves c (freed_of job r) m q) where
   abbrev v : View
   v = record_at p
@@ -130,6 +133,7 @@ module _ (c : Config) (job : Job) (r : Result Reply NoMemory) (p m q : SeatAt)
       later = f.0;
       job_is = t.job_is;
       reply_is = t.reply_is;
+      before = t.before;
       agree = t.agree;
       did = t.did;
       next = t.next;

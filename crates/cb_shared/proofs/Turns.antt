@@ -1,16 +1,18 @@
 -- A turn over any desk, at the desk over a seat.
-use Rattle.std.proofs.Common.{◌≡◌, List, [], ◌++◌, Result, Ok, Err, sym, refl, ap, ◌∙◌, subst}
-use Rattle.std.proofs.Common.{append-nil}
+use Rattle.std.proofs.Common.{◌≡◌, List, [], ◌++◌, Option, None, Some, Result, Ok, Err, sym, refl, ap}
+use Rattle.std.proofs.Common.{◌∙◌, subst, append-nil, inl}
 use Rattle.std.specs.Prelude.{IfOk, OnErr}
 use Rattle.cb_member.specs.declared.no_memory.NoMemory.{NoMemory}
 use Rattle.cb_types.specs.declared.config.Config.{Config}
 use Rattle.cb_types.specs.declared.handle.Handle.{Handle}
 use Rattle.cb_types.specs.declared.job.Job.{Job}
+use Rattle.cb_types.specs.declared.order.Kept.{Kept}
 use Rattle.cb_types.specs.declared.reply.Reply.{Reply}
 use Rattle.cb_world.specs.declared.entry.Entry.{Entry}
 use Rattle.cb_world.specs.declared.event.Event.{Event}
 use Rattle.cb_world.specs.declared.shown.Shown.{Shown}
 use Rattle.cb_world.specs.FarState.{FarState}
+use Rattle.cb_world.specs.Orders.{KeepsOrder, LeavesOrders}
 use Rattle.cb_world.specs.Played.{played}
 use Rattle.cb_world.specs.Sound.{Sound}
 use Rattle.cb_core.specs.Parts.{Holding}
@@ -28,9 +30,15 @@ use Rattle.cb_shared.specs.Turning.{slate_run, slate_shows}
 use Rattle.cb_shared.specs.UnderLock.{BringAt, BroughtForRead, IsNoRead, TurnAtSeat}
 use Rattle.cb_shared.proofs.Mapped.{brought_in, stopped, stopped_first, turned}
 
--- the events that were run, what they wrote, and that what is known then is sound
+-- an order that was kept is kept where every order stays so
+pub order_left : (s : Shown) (far : FarState) (t : Shown) (new : FarState) (o : Option Kept)
+    → LeavesOrders s far t new → KeepsOrder s far o → KeepsOrder t new o
+order_left s far t new None leaves kept = tt
+order_left s far t new (Some o) leaves kept = leaves o kept
+
+-- the events that were run, what they wrote, and that what is known then is sound and keeps orders
 record LeftAt (c : Config) (W : List Entry → Type 0) (runs : List Event → Type 0)
-    (took gave : FarState) (w : View) : Type 0 where
+    (took gave : FarState) (v w : View) : Type 0 where
   pub events : List Event
   pub more : List Entry
   pub ran : runs events
@@ -38,6 +46,7 @@ record LeftAt (c : Config) (W : List Entry → Type 0) (runs : List Event → Ty
   pub wrote : W more
   pub fresh : w.fresh ≡ more
   pub stood : Stood c w.known gave
+  pub leaves : LeavesOrders v.known took w.known gave
 
 module _ {D : Type 0} (at : D → SeatAt) (run : D → List Event → D → Type 0)
     (shows : D → Shown → Type 0)
@@ -121,7 +130,7 @@ module _ {D : Type 0} (at : D → SeatAt) (run : D → List Event → D → Type
         ReadsByPin PinLacks slate_of slate_ran shown c handle a b y)
 
   left_at : (W : List Entry → Type 0) → TurnLeaves run shows c a b W
-      → LeftAt c W (λ es. run a.desk es b.desk) a.far b.far w
+      → LeftAt c W (λ es. run a.desk es b.desk) a.far b.far v w
   left_at W z =
       let after = z.after v.known (shown a.desk v.known refl) stood.sound in
       let known = known_is z.events z.ran in record {
@@ -138,22 +147,26 @@ module _ {D : Type 0} (at : D → SeatAt) (run : D → List Event → D → Type
           configured = z.configured;
           counted = z.counted;
         };
+        leaves = subst (λ (s : Shown). LeavesOrders v.known a.far s b.far) (sym known) after.orders;
       }
 
-  pub turn_at : (job : Job) → IsNoRead job → (r : Result Reply NoMemory)
+  pub turn_at : (job : Job) → IsNoRead job → KeepsOrder v.known a.far v.order
+      → (r : Result Reply NoMemory)
       → IfOk r (λ q. Turned run shows (Reads run shows) c job a q b)
       → OnErr r (Stopped run shows (ReadLacks run shows) c job a b)
       → TurnLeaves run shows c a b (OutcomeWrites job r)
-      → TurnAtSeat c job r a.far b.far (at a.desk) (at b.desk)
-  turn_at job other r x y z = let l = left_at (OutcomeWrites job r) z in record {
+      → TurnAtSeat c job r v.order a.far b.far (at a.desk) (at b.desk)
+  turn_at job other kept r x y z = let l = left_at (OutcomeWrites job r) z in record {
     events = l.events;
     more = l.more;
     runs = back a.desk b.desk l.events l.ran;
-    did = did_by l.events l.ran job other r x y;
+    did = inl (did_by l.events l.ran job other r x y, refl);
     next = l.next;
     wrote = l.wrote;
     fresh = l.fresh;
     stood = l.stood;
+    leaves = l.leaves;
+    own = order_left v.known a.far w.known b.far v.order l.leaves kept;
   }
 
   pub bring_at : (handle : Handle) → (r : Result Reply NoMemory)
@@ -168,6 +181,7 @@ module _ {D : Type 0} (at : D → SeatAt) (run : D → List Event → D → Type
     next = l.next;
     fresh = l.fresh ∙ l.wrote;
     stood = l.stood;
+    leaves = l.leaves;
   }
 
   -- what holds after each run of the desk holds after the turn

@@ -88,7 +88,7 @@ fn turns_of(far: &BoxedFar) -> u64
 }
 
 /// Puts the far state into its slot, gives the lock back, and wakes one who waits for it. The
-/// lock's word is twice the count of turns then.
+/// lock's word is twice the count of turns then. The seat keeps the order that it kept.
 pub(crate) fn give_far<W: Deed>(
     top: &Top,
     seat: &mut SeatAt,
@@ -98,11 +98,14 @@ pub(crate) fn give_far<W: Deed>(
     far: BoxedFar,
 )
     requires of { IsOf top.now.table_id top.now.key config.now seat.old }
-    requires picks { (W.job ≡ job.now) × (W.reply ≡ answer_of reply.now) }
+    requires picks { (W.job ≡ job.now) × (W.reply ≡ answer_of reply.now)
+        × (W.keeps ≡ (record_at seat.old).order) }
     requires slot { seat.old.me.1 ≡ (0, None) ∷ [] }
     requires few { far.counts.turns < 2 ^ 63 }
-    requires ends { IsEnding config.now job.now (answer_of reply.now) far (record_at seat.old) }
-    ensures { GivesFar config.now job.now (answer_of reply.now) far seat.old seat.new }
+    requires ends { IsEnding config.now job.now (answer_of reply.now) (record_at seat.old).order far
+        (record_at seat.old) }
+    ensures { GivesFar config.now job.now (answer_of reply.now) (record_at seat.old).order far
+        seat.old seat.new }
 {
     let _config = config;
     let _job = job;

@@ -3,6 +3,7 @@ ghost use Rattle.std.specs.Prelude.{ℕ, [], None, Option as Maybe};
 ghost use Rattle.cb_types.specs.declared.config.Config.{Config};
 ghost use Rattle.cb_types.specs.declared.job.Job.{Job};
 ghost use Rattle.cb_types.specs.declared.job.Job.TheVariants.{Evict};
+ghost use Rattle.cb_types.specs.declared.order.Kept.{Kept};
 ghost use Rattle.cb_types.specs.declared.reply.Reply.{Reply};
 ghost use Rattle.cb_rule.specs.AnyGlance.{glanced_any};
 ghost use Rattle.cb_rule.specs.LockSteps.{gave};
@@ -91,17 +92,22 @@ impl<W: Opening> Play<Option<BoxedFar>, View> for TakeLock<W> {
     ghost then = { took_first W.first };
 }
 
-/// What a turn was asked for, and answered: None where there was no memory. Each call picks it.
+/// What a turn was asked for, and answered: None where there was no memory; and the order that its
+/// seat keeps behind it. Each call picks it.
 pub trait Deed {
     ghost job: { Job };
 
     ghost reply: { Maybe Reply };
+
+    ghost keeps: { Maybe Kept };
 }
 
 impl Deed for Brand {
     ghost job = { Evict };
 
     ghost reply = { None };
+
+    ghost keeps = { None };
 }
 
 /// A store of the lock's word that gives the far lock and the far state back.
@@ -110,7 +116,7 @@ pub struct GiveLock<W> {
 }
 
 impl<W: Deed> Play<Option<BoxedFar>, View> for GiveLock<W> {
-    ghost then = { gave W.job W.reply [] (made_by_turn W.job W.reply) };
+    ghost then = { gave W.job W.reply W.keeps [] (made_by_turn W.job W.reply) };
 }
 
 // Any seat.

@@ -2,7 +2,7 @@
 ghost use Rattle.std.specs.Prelude.{◌≡◌, ◌≤◌, [], length, Some, IfOk};
 ghost use Rattle.cb_types.specs.Config.{IsAccepted};
 ghost use Rattle.cb_types.specs.declared.reply.Reply.TheVariants as answer;
-ghost use Rattle.cb_core.specs.Jobs.{IsJob};
+ghost use Rattle.cb_core.specs.Jobs.{IsJob, NeedsNoOrder};
 ghost use Rattle.cb_shared.specs.Making.{MakesNew};
 ghost use Rattle.cb_shared.specs.Passes.{IsAtRest, IsPassOf, record_of};
 ghost use Rattle.cb_record.specs.Parts.{Grows, Part};
@@ -32,7 +32,8 @@ impl Shared {
     /// found another word, and is answered Moving or Crowded where the pin's look found a word that
     /// is Moving or has 1,023 pins. Behind a swap-in that was answered Freed it looks at the
     /// object, whose freed entry is read where the pass knows it. Where there is no memory, the
-    /// turn is counted and what its parts did before stays. Waits for the lock.
+    /// turn is counted and what its parts did before stays. Of a job that hands no order out and
+    /// takes none; the pass keeps the order that it has. Waits for the lock.
     pub fn turn<R: Wait>(
         &self,
         rt: &R,
@@ -42,6 +43,7 @@ impl Shared {
     ) -> Result<Reply, NoMemory>
         requires of { IsPassOf self.now pass.old }
         requires job { IsJob self.now.config job.now }
+        requires alone { NeedsNoOrder job.now }
         requires knows { KnowsOf job.now (record_of pass.old) }
         ensures of { IsPassOf self.now pass.new }
         ensures turn { TurnFinds self.now.config job.now result (record_of pass.old)
@@ -78,6 +80,7 @@ impl Shared {
     ) -> Result<Reply, NoMemory>
         requires of { IsPassOf self.now pass.old }
         requires job { IsJob self.now.config job.now }
+        requires alone { NeedsNoOrder job.now }
         requires knows { KnowsOf job.now (record_of pass.old) }
         ensures of { IsPassOf self.now pass.new }
         ensures turn { TurnBy self.now.config job.now result (record_of pass.old)
@@ -111,10 +114,12 @@ fn locked_turn<R: Wait>(
     requires few { length (record_at seat.old).pins ≤ 16 }
     requires config { IsAccepted config.now }
     requires job { IsJob config.now job.now }
+    requires alone { NeedsNoOrder job.now }
     requires knows { KnowsOf job.now (record_at seat.old) }
     ensures same { (seat.new.table_id ≡ seat.old.table_id) × (seat.new.id ≡ seat.old.id)
         × (seat.new.me.1 ≡ []) }
-    ensures turn { TurnedBy config.now job.now result.0 (record_at seat.old) (record_at seat.new) }
+    ensures turn { TurnedBy config.now job.now result.0 (record_at seat.old).order
+        (record_at seat.old) (record_at seat.new) }
     ensures again { tries_of (record_at seat.new) ≡ Some result.1 }
     ensures new { IfOk result.0
         (λ reply. MakesNew top.now.key.first job.now reply (record_at seat.old)) }

@@ -7,8 +7,9 @@ ghost use Rattle.cb_types.specs.declared.handle.Handle.{Handle};
 ghost use Rattle.cb_types.specs.declared.job.Job.TheVariants as jobs;
 ghost use Rattle.cb_types.specs.declared.reply.Reply.{Reply};
 ghost use Rattle.cb_types.specs.declared.reply.Reply.TheVariants as answer;
-ghost use Rattle.cb_core.specs.Jobs.{IsJob};
+ghost use Rattle.cb_core.specs.Jobs.{IsJob, NeedsNoOrder};
 ghost use Rattle.cb_core.specs.Unavailable.{TurnTells};
+ghost use Rattle.cb_world.specs.Orders.{KeepsOrder};
 ghost use Rattle.cb_rule.specs.Locking.{Stood};
 ghost use Rattle.cb_rule.specs.Steps.{Knows};
 ghost use Rattle.cb_shared.specs.Rights.{writes_of};
@@ -41,9 +42,11 @@ pub(crate) fn work<R: Wait>(
     requires few { length (record_at seat.old).pins ≤ 16 }
     requires config { IsAccepted config.now }
     requires job { IsJob config.now job.now }
+    requires alone { NeedsNoOrder job.now }
     requires knows { KnowsOf job.now (record_at seat.old) }
     requires begins { IsBeginning config.now far.old (record_at seat.old) }
-    ensures work { WorkBy config.now job.now result far.old far.new seat.old seat.new }
+    ensures work { WorkBy config.now job.now result (record_at seat.old).order far.old far.new
+        seat.old seat.new }
     ensures no_frame { IfOk result (λ reply. reply ≡ answer.NoFrame → ⊥) }
     ensures unavailable { IfOk result (λ reply. TurnTells job.now far.old reply) }
 {
@@ -67,11 +70,14 @@ fn turn_by_seat<R: Wait>(
     requires config { IsAccepted config.now }
     requires job { IsJob config.now job.now }
     requires other { IsNoRead job.now }
+    requires alone { NeedsNoOrder job.now }
     requires knows { KnowsOf job.now (record_at seat.old) }
     requires stood { Stood config.now (record_at seat.old).known far.old }
     requires idle { (record_at seat.old).acts ≡ [] }
     requires fresh { (record_at seat.old).fresh ≡ [] }
-    ensures turn { TurnAtSeat config.now job.now result far.old far.new seat.old seat.new }
+    requires kept { KeepsOrder (record_at seat.old).known far.old (record_at seat.old).order }
+    ensures turn { TurnAtSeat config.now job.now result (record_at seat.old).order far.old far.new
+        seat.old seat.new }
     ensures no_frame { IfOk result (λ reply. reply ≡ answer.NoFrame → ⊥) }
     ensures unavailable { IfOk result (λ reply. TurnTells job.now far.old reply) }
 {
@@ -125,7 +131,8 @@ fn read_by_seat<R: Wait>(
     requires handle { h.n < config.now.handles }
     requires knows { Knows h.n (record_at seat.old) }
     requires begins { IsBeginning config.now far.old (record_at seat.old) }
-    ensures work { WorkBy config.now (jobs.Read h) result far.old far.new seat.old seat.new }
+    ensures work { WorkBy config.now (jobs.Read h) result (record_at seat.old).order far.old far.new
+        seat.old seat.new }
     ensures no_frame { IfOk result (λ reply. reply ≡ answer.NoFrame → ⊥) }
     ensures unavailable { IfOk result (λ reply. TurnTells (jobs.Read h) far.old reply) }
 {

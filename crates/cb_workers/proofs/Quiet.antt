@@ -14,7 +14,7 @@ use Rattle.cb_core.specs.TurnLeaves.{OutcomeWrites}
 use Rattle.cb_rule.specs.declared.turn.Turn.{Turn}
 use Rattle.cb_rule.specs.declared.view.View.{View}
 use Rattle.cb_record.specs.Parts.{Part, grown, nothing_more}
-use Rattle.cb_shared.proofs.Laws.{did_alone}
+use Rattle.cb_shared.proofs.Laws.{asked_alone}
 use Rattle.cb_shared.specs.Turning.{DidAs, FindsFreedAfter, JobReads, TurnBy, answer_of, freed_of, made_by_turn, object_of, turn_part, with_own}
 use Rattle.cb_workers.specs.Bodies.{AddsTurns, IsEnd, IsOwed, one_deed, turns_alone}
 
@@ -91,4 +91,4 @@ pub takes_no_memory : (c : Config) → (work : Job) → (r : Result Reply NoMemo
     → IsEnd work → TurnBy c work r v w → IsOk r
 takes_no_memory c work (Ok r) v w is by_turn = refl
 takes_no_memory c work (Err e) v w is (d, adds, grows) = absurd (ends_with c work is adds.turn
-    (did_alone c adds.turn work None (end_alone work is) adds.job_is adds.reply_is adds.did))
+    (asked_alone c adds.turn work None (end_alone work is) adds.job_is adds.reply_is adds.did))

@@ -11,7 +11,7 @@ bring_by_seat-place-requires-clause-holds g c = holds_begun c.args.top.now.table
 pub returns-then-not-is_there-clause-work : goal.returns-then-not-is_there-clause-work
 returns-then-not-is_there-clause-work g c = work_away c.args.config.now c.args.h
     c.bring_by_seat-place.result c.args.far.now c.bring_by_seat-place.new.far c.args.seat.now
-    c.bring_by_seat-place.new.seat c.bring_by_seat-place.ensures.bring
+    c.bring_by_seat-place.new.seat c.requires.begins.kept c.bring_by_seat-place.ensures.bring
     (c.is_there.ensures.other c.if-not-is_there.true)
 
 pub returns-then-not-is_there-clause-unavailable : goal.returns-then-not-is_there-clause-unavailable
@@ -36,8 +36,8 @@ read_tried-requires-clause-few g c = let b = c.bring_by_seat-place.ensures.bring
 pub returns-clause-work : goal.returns-clause-work
 returns-clause-work g c = work_read c.args.config.now c.args.h c.bring_by_seat-place.result
     c.read_tried.result c.args.far.now c.bring_by_seat-place.new.far c.args.seat.now
-    c.bring_by_seat-place.new.seat c.read_tried.new.seat c.bring_by_seat-place.ensures.bring
-    c.requires.begins.fresh (c.is_there.ensures.yes c.if-not-is_there.false) c.read_tried.ensures
+    c.bring_by_seat-place.new.seat c.read_tried.new.seat c.requires.begins.kept
+    c.bring_by_seat-place.ensures.bring c.requires.begins.fresh (c.is_there.ensures.yes c.if-not-is_there.false) c.read_tried.ensures
 
 pub returns-clause-no_frame : goal.returns-clause-no_frame
 returns-clause-no_frame g c = no_frame_read c.args.config.now c.args.h.n c.read_tried.result

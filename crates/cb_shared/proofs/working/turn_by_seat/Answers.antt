@@ -27,6 +27,7 @@ turn-reply-requires g c = record {
   config = c.requires.config;
   configured = c.requires.stood.configured;
   job = c.requires.job;
+  order = c.requires.alone;
   counted = c.requires.stood.counted;
   sound = ((record_at c.args.seat.now).known, refl, c.requires.stood.sound);
 }
@@ -39,12 +40,12 @@ returns-clause-turn g c =
     c.requires.idle c.requires.fresh c.requires.stood
     (λ d. d.seat.ghost_name ≡ _) (λ d es x. x.3) _
     c.turn-reply.ensures.leaves in
-    let turned : TurnAtSeat c.args.config.now c.args.job.now c.turn-reply.result c.args.far.now
-    c.turn-reply.new.far c.args.seat.now c.turn-reply.new.desk.seat.now =
+    let turned : TurnAtSeat c.args.config.now c.args.job.now c.turn-reply.result
+    (record_at c.args.seat.now).order c.args.far.now c.turn-reply.new.far c.args.seat.now c.turn-reply.new.desk.seat.now =
     turn_at (λ d. d.seat.now) _ _ (λ d e es x. x.0) (λ d s x. x) c.args.config.now
     (record { desk = _; far = c.args.far.now })
     (record { desk = c.turn-reply.new.desk; far = c.turn-reply.new.far })
-    c.requires.idle c.requires.fresh c.requires.stood c.args.job.now c.requires.other
+    c.requires.idle c.requires.fresh c.requires.stood c.args.job.now c.requires.other c.requires.kept
     c.turn-reply.result c.turn-reply.ensures.turned c.turn-reply.ensures.error
     c.turn-reply.ensures.leaves in
     search (rules, same, turned)

@@ -31,15 +31,17 @@ turn_by_seat-requires g c = record {
   config = c.requires.config;
   job = c.requires.job;
   other = no_read c.args.job.now c.in_default.not-Read;
+  alone = c.requires.alone;
   knows = c.requires.knows;
   stood = c.requires.begins.stood;
   idle = c.requires.begins.idle;
   fresh = c.requires.begins.fresh;
+  kept = c.requires.begins.kept;
 }
 
 pub returns-in-Read-clause-work : goal.returns-in-Read-clause-work
 returns-in-Read-clause-work g c = subst (λ (j : Job). WorkBy c.args.config.now j
-    c.read_by_seat.result c.args.far.now c.read_by_seat.new.far c.args.seat.now
+    c.read_by_seat.result (record_at c.args.seat.now).order c.args.far.now c.read_by_seat.new.far c.args.seat.now
     c.read_by_seat.new.seat) (sym c.in-Read.is)
     c.read_by_seat.ensures.work
 
@@ -52,7 +54,7 @@ pub returns-in_default : goal.returns-in_default
 returns-in_default g c = record {
   work = work_done c.args.config.now c.args.job.now c.turn_by_seat.result c.args.far.now
       c.turn_by_seat.new.far c.args.seat.now c.turn_by_seat.new.seat
-      (no_read c.args.job.now c.in_default.not-Read) c.requires.begins.fresh
+      (no_read c.args.job.now c.in_default.not-Read) c.requires.alone c.requires.begins.fresh
       c.turn_by_seat.ensures.turn;
   no_frame = c.turn_by_seat.ensures.no_frame;
   unavailable = c.turn_by_seat.ensures.unavailable;

@@ -39,7 +39,7 @@ pub find_freed-requires-clause-knows : goal.find_freed-requires-clause-knows
 find_freed-requires-clause-knows g c =
     subst (λ (o : Option ℕ). KnowsIt o (record_at c.locked_turn-reply.new.seat))
     (sym c.freed_of.ensures)
-    (freed_knows c.args.self.now.config c.args.job.now c.locked_turn-reply.result.0
+    (freed_knows c.args.self.now.config c.args.job.now c.locked_turn-reply.result.0 _
     (record_of c.args.pass.now) (record_at c.locked_turn-reply.new.seat) c.requires.of.rest
     c.locked_turn-reply.ensures.turn c.requires.knows)
 
@@ -48,7 +48,7 @@ returns-clause-of g c = let f = subst (λ (o : Option ℕ). FreedMoves c.args.se
     c.locked_turn-reply.new.seat c.find_freed.new.seat) c.freed_of.ensures c.find_freed.ensures in record {
       accepted = c.requires.of.accepted;
       table = c.find_freed.ensures.1.0 ∙ c.locked_turn-reply.ensures.same.0 ∙ c.requires.of.table;
-      rest = rest_turned c.args.self.now.config c.args.job.now c.locked_turn-reply.result.0
+      rest = rest_turned c.args.self.now.config c.args.job.now c.locked_turn-reply.result.0 _
           c.args.pass.now.seat c.locked_turn-reply.new.seat c.find_freed.new.seat c.requires.of.rest
           c.locked_turn-reply.ensures.turn f;
     }
@@ -56,7 +56,7 @@ returns-clause-of g c = let f = subst (λ (o : Option ℕ). FreedMoves c.args.se
 pub returns-clause-turn : goal.returns-clause-turn
 returns-clause-turn g c = let f = subst (λ (o : Option ℕ). FreedMoves c.args.self.now.config o
     c.locked_turn-reply.new.seat c.find_freed.new.seat) c.freed_of.ensures c.find_freed.ensures in
-    turn_by c.args.self.now.config c.args.job.now c.locked_turn-reply.result.0
+    turn_by c.args.self.now.config c.args.job.now c.locked_turn-reply.result.0 _
     c.args.pass.now.seat c.locked_turn-reply.new.seat c.find_freed.new.seat c.requires.of.rest
     c.locked_turn-reply.ensures.turn f
 
@@ -64,14 +64,14 @@ pub invariant_of-pass : goal.invariant_of-pass
 invariant_of-pass g c = let f = subst (λ (o : Option ℕ). FreedMoves c.args.self.now.config o
     c.locked_turn-reply.new.seat c.find_freed.new.seat) c.freed_of.ensures c.find_freed.ensures in record {
       shares = c.args.pass.now.shares ∙ sym (share_turned c.args.self.now.config c.args.job.now
-          c.locked_turn-reply.result.0 c.args.pass.now.seat c.locked_turn-reply.new.seat
+          c.locked_turn-reply.result.0 _ c.args.pass.now.seat c.locked_turn-reply.new.seat
           c.find_freed.new.seat c.requires.of.rest c.locked_turn-reply.ensures.turn f);
       carries = ap (λ (m : Sat). m.1) c.find_freed.ensures.1.2 ∙ c.locked_turn-reply.ensures.same.2;
       pinned = c.args.pass.now.pinned ∙ sym (ap handles_of (pins_turned c.args.self.now.config
-          c.args.job.now c.locked_turn-reply.result.0 c.args.pass.now.seat c.locked_turn-reply.new.seat
+          c.args.job.now c.locked_turn-reply.result.0 _ c.args.pass.now.seat c.locked_turn-reply.new.seat
           c.find_freed.new.seat c.requires.of.rest c.locked_turn-reply.ensures.turn f));
       tried = sym c.locked_turn-reply.ensures.again ∙ sym (tries_turned
-          c.args.self.now.config c.args.job.now c.locked_turn-reply.result.0 c.args.pass.now.seat
+          c.args.self.now.config c.args.job.now c.locked_turn-reply.result.0 _ c.args.pass.now.seat
           c.locked_turn-reply.new.seat c.find_freed.new.seat c.requires.of.rest
           c.locked_turn-reply.ensures.turn f);
     }
