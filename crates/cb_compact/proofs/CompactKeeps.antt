@@ -1,5 +1,5 @@
--- What the steps of a pair keep: the world is sound, last complete contents stay, and no row is
--- given.
+-- What the steps of a pair keep: the world is sound, last complete contents stay, words of sets are
+-- left, and no row is given.
 use Rattle.std.proofs.Common.{◌≡◌, ℕ, ◌≤◌, Bool, List, [], ◌∷◌, Option, Some, None, refl, sym, ap, ◌∙◌, arith}
 use Rattle.std.specs.List.{slice_get}
 use Rattle.std.specs.FinMap as map
@@ -15,20 +15,23 @@ use Rattle.cb_world.specs.Joining.{JoiningState}
 use Rattle.cb_world.specs.JoinSteps.{IsParted}
 use Rattle.cb_world.specs.Leaving.{LeavingState}
 use Rattle.cb_world.specs.Now.{now}
+use Rattle.cb_world.specs.Orders.{LeavesWords}
 use Rattle.cb_span.specs.Contents.{Contents}
 use Rattle.cb_world.specs.Reserved.{IsReserved, IsUnpaired, put_shards}
 use Rattle.cb_world.specs.Sound.{Sound}
 use Rattle.cb_world.specs.Stored.{AreThere, all_dropped}
-use Rattle.cb_world.proofs.Laws.{claimed_stay, drop_count, drop_elsewhere, drop_fewer, drop_there, local_stays, noted_by, pair_now, parted_whole, put_at, put_from, room_dropped, whole_none}
+use Rattle.cb_world.proofs.Laws.{claimed_stay, drop_count, drop_elsewhere, drop_fewer, drop_there, local_stays, noted_by, pair_now, parted_leaves_words, parted_whole, put_at, put_from, room_dropped, whole_none, words_left_twice, words_stay}
 use Rattle.cb_compact.specs.PartStep.{IsFreshPair, with_parted}
 
 -- what a change of the far state keeps
 pub record JoinKeeps (s : Shown) (far new : FarState) : Type 0 where
   pub sound : Sound s new
   pub same_now : (h : ℕ) → now s new h ≡ now s far h
+  pub words : LeavesWords far new
 
 pub keeps_all : (s : Shown) (far : FarState) → Sound s far → JoinKeeps s far far
-keeps_all s far sound = record { sound = sound; same_now = λ h. refl }
+keeps_all s far sound =
+    record { sound = sound; same_now = λ h. refl; words = words_stay far }
 
 -- one change after another
 pub keeps_both : (s : Shown) (far mid new : FarState) → JoinKeeps s far mid → JoinKeeps s mid new
@@ -36,6 +39,7 @@ pub keeps_both : (s : Shown) (far mid new : FarState) → JoinKeeps s far mid �
 keeps_both s far mid new x y = record {
   sound = y.sound;
   same_now = λ h. y.same_now h ∙ x.same_now h;
+  words = words_left_twice x.words y.words;
 }
 
 -- the handles that were made, local memory, the members, the batch that is leaving and the count of
@@ -157,6 +161,7 @@ parted_keeps s far pair sound there =
         unpaired = λ batch at r q e. absurd (no_pair q e);
       }) (parted_whole s far (with_parted far pair) pair sound.away x);
       same_now = λ h. pair_now s far (with_parted far pair) h x.left;
+      words = parted_leaves_words s far (with_parted far pair) pair sound.away.sound x;
     }
 
 -- rows that are dropped are not given

@@ -15,7 +15,7 @@ use Rattle.cb_compact.specs.NowGoing.{EndsFrom, IsUndone, without_pair}
 use Rattle.cb_compact.specs.CompactStep.{AreStepped, CompactStep, PairEnds}
 use Rattle.cb_compact.specs.PairStep.{IsPaired, PairStep, begun_pair, set_numbered, with_pair}
 use Rattle.cb_compact.specs.PartStep.{IsFreshPair, PartStep}
-use Rattle.cb_compact.proofs.PairSound.{begin_given, begin_now}
+use Rattle.cb_compact.proofs.PairSound.{begin_given, begin_now, begin_words}
 use Rattle.cb_compact.proofs.MergeSound.{merge_given, merge_keeps}
 use Rattle.cb_compact.proofs.CompactKeeps.{JoinKeeps, dropped_given, keeps_all, keeps_both, parted_keeps}
 use Rattle.cb_compact.proofs.NowGone.{stepped_keeps_all}
@@ -170,6 +170,7 @@ module _ (far mid new : FarState) (a b : SetId) (begun : PairStep far mid (answe
       keeps_both s far mid new (record {
         sound = after;
         same_now = λ h. begin_now s far mid (answer.Pair a b) h sound begun;
+        words = begin_words far mid (answer.Pair a b) begun;
       }) (from_keep s mid new reply after x)
   through_keeps s (Err e) sound after x error =
       subst (JoinKeeps s far) (sym (error ∙ back_before far mid (has_begun far mid a b begun)))

@@ -1,17 +1,19 @@
 -- What a turn of compaction rests on: the laws of each step of a pair.
 use Rattle.std.proofs.Common.{refl, sym, ap, subst, inl, inr}
 use Rattle.cb_types.specs.declared.reply.Reply.{Reply}
+use Rattle.cb_types.specs.declared.reply.Reply.TheVariants as answer
 use Rattle.cb_types.specs.declared.request.Request.TheVariants as line
 use Rattle.cb_types.specs.Table.{IsReplyOf}
 use Rattle.cb_world.specs.declared.shown.Shown.{Shown}
 use Rattle.cb_world.specs.FarState.{FarState}
+use Rattle.cb_world.specs.Pairs.{with_no_pair}
 use Rattle.cb_world.specs.Sound.{Sound}
 use Rattle.cb_world.proofs.Laws.{KeepsHolding, KeepsNote, no_pair_sound}
 use Rattle.cb_compact.specs.MergeStep.{MergeStep, Merges}
 use Rattle.cb_compact.specs.PairStep.{PairStep}
 use Rattle.cb_compact.specs.PartStep.{PartStep}
 use Rattle.cb_compact.specs.PatchStep.{PatchStep, TakesStep}
-use Rattle.cb_compact.proofs.PairSound.{begun_keeps}
+use Rattle.cb_compact.proofs.PairSound.{begin_words, begun_keeps}
 use Rattle.cb_compact.proofs.MergeSound.{merge_keeps}
 use Rattle.cb_compact.proofs.FarLaws.{AreFarLaws}
 use Rattle.cb_compact.proofs.CompactFixed.{begin_fixes, merge_fixes, part_fixes, patch_fixes}
@@ -26,7 +28,12 @@ begin_keeps : (s : Shown) (far new : FarState) (r : Reply) → Sound s far → P
 begin_keeps s far new r sound (inl x) =
     subst (JoinKeeps s far) (sym x.state) (keeps_all s far sound)
 begin_keeps s far new r sound (inr (inl x)) = subst (JoinKeeps s far) (sym x.state)
-    (record { sound = no_pair_sound s far sound; same_now = λ h. refl })
+    (record {
+      sound = no_pair_sound s far sound;
+      same_now = λ h. refl;
+      words = begin_words far (with_no_pair far) answer.NoPair
+          (inr (inl (record { none = x.none; no_two = x.no_two; reply = refl; state = refl })));
+    })
 begin_keeps s far new r sound (inr (inr x)) =
     let shaped = sound.away.sound.sets.shaped x.x x.a x.first.can.a_there in
     let table = table_exists _ _ shaped.range in

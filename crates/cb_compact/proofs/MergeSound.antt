@@ -24,7 +24,7 @@ use Rattle.cb_world.specs.Reserved.{put_shards}
 use Rattle.cb_world.specs.Sets.{Kept, if_committed, set_in}
 use Rattle.cb_world.specs.Sound.{Sound}
 use Rattle.cb_world.specs.Stored.{AreThere, all_dropped}
-use Rattle.cb_world.proofs.Laws.{commit_now, committed_whole, drop_count, drop_elsewhere, drop_fewer, drop_there, home_same, room_dropped, set_same}
+use Rattle.cb_world.proofs.Laws.{commit_now, committed_whole, drop_count, drop_elsewhere, drop_fewer, drop_there, home_same, merged_keeps_sets, room_dropped, set_same, sets_leave_words}
 use Rattle.cb_types.specs.declared.reply.Reply.{Reply}
 use Rattle.cb_compact.specs.MergeStep.{MergeStep, Merges, merged_set, replaced_shards, with_merged}
 use Rattle.cb_compact.specs.Merging.{IsReadyToMerge}
@@ -277,6 +277,8 @@ module _ (s : Shown) (far : FarState) (pair : JoiningState) (a b : SetState)
       }) (committed_whole s far after pair a b c id sound.away committed_is);
       same_now = λ h. commit_now s far after pair a b c id h sound.away.sound
           (sound.away.join pair x.fresh.was) committed_is;
+      words = sets_leave_words far after
+          (merged_keeps_sets s far after pair a b c id sound.away.sound committed_is);
     }
 
 -- ---- whatever the commit was

@@ -13,8 +13,10 @@ use Rattle.cb_world.specs.Joining.{JoiningState}
 use Rattle.cb_world.specs.JoinSteps.{IsBegun}
 use Rattle.cb_world.specs.Merged.{AreTaken, takes}
 use Rattle.cb_world.specs.Now.{now}
+use Rattle.cb_world.specs.Orders.{LeavesWords}
+use Rattle.cb_world.specs.Pairs.{with_no_pair}
 use Rattle.cb_world.specs.Sound.{Sound}
-use Rattle.cb_world.proofs.Laws.{begun_whole, pair_now, reserved_is_other}
+use Rattle.cb_world.proofs.Laws.{alike_leaves_words, begun_whole, pair_now, reserved_is_other, words_stay}
 use Rattle.cb_types.specs.declared.reply.Reply.{Reply}
 use Rattle.cb_compact.specs.PairStep.{IsFirstPair, PairStep, begun_pair, live_positions, with_pair}
 use Rattle.cb_compact.proofs.Finding.{passing, passing_in, passing_more, passing_out}
@@ -203,6 +205,7 @@ begun_keeps s far x y a b table sound none first coeffs =
         );
       }) (begun_whole s far new (begun_pair x y a b) a b table sound.away coeffs is);
       same_now = λ h. pair_now s far new h is.left;
+      words = alike_leaves_words far new refl refl refl refl (λ id p shard of. refl);
     }
 
 -- last complete contents stay, whatever the begin was
@@ -220,3 +223,12 @@ pub begin_given : (far new : FarState) (r : Reply) → PairStep far new r
 begin_given far new r (inl x) = ap (λ (f : FarState). f.nodes.given) x.state
 begin_given far new r (inr (inl x)) = ap (λ (f : FarState). f.nodes.given) x.state
 begin_given far new r (inr (inr x)) = ap (λ (f : FarState). f.nodes.given) x.state
+
+-- words of sets are left, whatever the begin was
+pub begin_words : (far new : FarState) (r : Reply) → PairStep far new r → LeavesWords far new
+begin_words far new r (inl x) = subst (LeavesWords far) (sym x.state) (words_stay far)
+begin_words far new r (inr (inl x)) = subst (LeavesWords far) (sym x.state)
+    (alike_leaves_words far (with_no_pair far) refl refl refl refl (λ id p shard of. refl))
+begin_words far new r (inr (inr x)) = subst (LeavesWords far) (sym x.state)
+    (alike_leaves_words far (with_pair far (begun_pair x.x x.y x.a x.b)) refl refl refl refl
+    (λ id p shard of. refl))

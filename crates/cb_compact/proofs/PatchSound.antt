@@ -19,7 +19,7 @@ use Rattle.cb_world.specs.Merged.{IsMergedWord, takes}
 use Rattle.cb_world.specs.Reserved.{put_shards}
 use Rattle.cb_world.specs.SetWord.{IsWordOf}
 use Rattle.cb_world.specs.Sound.{Sound}
-use Rattle.cb_world.proofs.Laws.{join_is_merged, pair_now, room_put, stepped_whole}
+use Rattle.cb_world.proofs.Laws.{join_is_merged, pair_now, room_put, stepped_leaves_words, stepped_whole}
 use Rattle.cb_types.specs.declared.reply.Reply.{Reply}
 use Rattle.cb_compact.specs.PartStep.{IsFreshPair}
 use Rattle.cb_compact.specs.PatchStep.{IsMergedRow, IsNext, PatchStep, TakesStep, has_step, shard_beside, with_stepped}
@@ -183,6 +183,7 @@ module _ (s : Shown) (far : FarState) (pair : JoiningState) (a b : SetState) (p 
             );
       }) (stepped_whole s far after pair a b p old shard row sound.away stepped_is);
       same_now = λ h. pair_now s far after h stepped_is.left;
+      words = stepped_leaves_words s far after pair a b p old shard row sound.away.sound stepped_is;
     }
 
 -- whatever the step was

@@ -37,6 +37,7 @@ mod LandRooms
 mod LandTold
 mod InstallAtDesk
 mod Unfetched
+mod WorkedOrders
 mod NarrowOrders
 pub mod OpenChanges
 pub mod OpenStored

@@ -29,7 +29,7 @@ use Rattle.cb_evict.specs.AbortRule.{HasGivenUp}
 use Rattle.cb_evict.specs.BeginRule.{new_batch, with_batch}
 use Rattle.cb_evict.specs.Closing.{with_homes}
 use Rattle.cb_evict.specs.CommitRule.{HasCommitted}
-use Rattle.cb_evict.specs.InstallRule.{HasInstalled, InstallStep}
+use Rattle.cb_evict.specs.InstallRule.{HasInstalled, InstallStep, with_parities}
 use Rattle.cb_evict.specs.Lengths.{batch_pages, loose_of}
 use Rattle.cb_evict.specs.Loading.{AreOfLength}
 use Rattle.cb_evict.specs.ShipRule.{HasShipped, MadeFor, ShipsRow, is_data, made_before, made_here, with_shard_at}

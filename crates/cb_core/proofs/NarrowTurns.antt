@@ -1,6 +1,6 @@
 -- A turn leaves one page to each span and set, where it makes no long object: over any desk, and at
 -- the still desk.
-use Rattle.std.proofs.Common.{◌≡◌, ℕ, suc, List, refl, sym, ap, subst, arith, inl, inr}
+use Rattle.std.proofs.Common.{◌≡◌, ℕ, suc, Bool, true, List, refl, sym, ap, subst, arith, inl, inr}
 use Rattle.cb_ptr.specs.declared.word.State.{State}
 use Rattle.cb_ptr.specs.declared.word.State.TheVariants as state
 use Rattle.cb_ptr.specs.Word.{state_of}
@@ -141,14 +141,14 @@ evict_rule_narrow far new r es x = elim x.answered [
       evicted_narrow far new x.loose both.pages e.pages e.shards e.rows both.longest e.long e.state
 ]
 
-pub begins_narrow : (far new : FarState) (made : Bool) (so : List (List ℕ) → Type 0) (r : Reply)
-    (es : List Event) → BeginsBy far new made so r es → KeepsNarrow far new
-begins_narrow far new made so r es (inl z) = narrow_same far new z.state
-begins_narrow far new made so r es (inr x) = elim x.answered [
+pub begins_narrow : (far new : FarState) (ready : Bool) (so : List (List ℕ) → Type 0) (r : Reply)
+    (es : List Event) → BeginsBy far new ready so r es → KeepsNarrow far new
+begins_narrow far new ready so r es (inl z) = narrow_same far new z.state
+begins_narrow far new ready so r es (inr x) = elim x.answered [
   | inl few ↦ narrow_same far new few.state
   | inr (inl few) ↦ narrow_same far new few.state
   | inr (inr both) ↦ let e = both.begun in
-      begun_narrow far new x.loose both.pages e.pages e.words made e.parities both.longest e.long e.state
+      begun_narrow far new x.loose both.pages e.pages e.words ready e.parities both.longest e.long e.state
 ]
 
 commit_rule_narrow : (far new : FarState) (r : Reply) (es : List Event) → CommitRule far new r es

@@ -179,7 +179,7 @@ module _ {D : Type 0} (run : D → List Event → D → Type 0) (shows : D → S
   -- ---- a landing
   lands : (order : Option Kept) → CarriesWrites run shows laws c 16 Nil (Lands run shows order)
   lands order a b r good p = comes_none run shows laws c 16 a b _ _ good
-      (λ s sound. land_stays c s order a.far b.far r p.events sound p.rule) p
+      (λ s sound. land_stays c order a.far b.far r p.events p.rule) p
       (λ s e. land_unwritten order a.far b.far r p.events s (played p.events s) p.rule e)
 
   land_lacks : CarriesNoWrites run shows laws c 16 (NothingDone run)

@@ -28,31 +28,31 @@ use Rattle.cb_core.proofs.WorkedRoom.{counts, far_of, first_down, span_with}
 abbrev shard : ℕ → Shard
 shard n = record { node = record { n = n }; incarnation = 0; key = n }
 
-abbrev set : SetState
+abbrev pub set : SetState
 set = set_of 5 1 (shard 0 ∷ shard 1 ∷ [])
     (record { live = true; slots = Some 0 ∷ None ∷ None ∷ None ∷ [] } ∷ [])
 
 abbrev home : Home
 home = record { set = 5; position = 0; slot = 0 }
 
-abbrev five : SetId
+abbrev pub five : SetId
 five = record { n = 5 }
 
 -- node 0 crashed, and then node 1
-abbrev both_down : Membership
+abbrev pub both_down : Membership
 both_down = record {
   epoch = 2;
   nodes = record { up = false; incarnation = 0; crashes = record { n = 1 } ∷ [] }
       ∷ record { up = false; incarnation = 0; crashes = record { n = 2 } ∷ [] } ∷ [];
 }
 
-abbrev loss : ℕ → ℕ → Loss
+abbrev pub loss : ℕ → ℕ → Loss
 loss node epoch = record { node = record { n = node }; epoch = record { n = epoch } }
 
-abbrev both_lost : List Loss
+abbrev pub both_lost : List Loss
 both_lost = loss 0 1 ∷ loss 1 2 ∷ []
 
-abbrev far : Membership → FarState
+abbrev pub far : Membership → FarState
 far members = record (far_of (span_with (Some 1) None) (span_with None (Some 1)) None members (counts 0 [])) {
   sets = map.insert map.empty 5 (record { set = set; committed = true });
   homes = Some home ∷ None ∷ [];
@@ -63,7 +63,7 @@ abbrev world : Membership → ℕ → WorldState
 world members word =
     record { desk = desk word 3; far = far members; seats = seat_with [] ∷ seat_with [] ∷ [] }
 
-there : (members : Membership) → set_in (far members).sets 5 ≡ Some set
+pub there : (members : Membership) → set_in (far members).sets 5 ≡ Some set
 there members = grind (arith, map.gets)
 
 -- ---- an object whose set has lost too many
@@ -93,7 +93,7 @@ no_home id losses z = none_home z.home.home z.home.at
 home_is : (w : WorldState) (h : Home) → w.far.homes ≡ Some home ∷ None ∷ [] → Some home ≡ Some h → home ≡ h
 home_is w h same e = cc
 
-set_is : (s : SetState) → Some set ≡ Some s → set ≡ s
+pub set_is : (s : SetState) → Some set ≡ Some s → set ≡ s
 set_is s e = cc
 
 another_set : IsLost (world both_down away) 0 (record { n = 4 }) both_lost → ⊥

@@ -10,6 +10,7 @@ pub mod FilterStep
 pub mod FilterKeeps
 pub mod FilterFixed
 pub mod FilterStays
+pub mod FilterLeaves
 pub mod FilterUnwritten
 pub mod WorkedSeats
 mod WorkedFilter

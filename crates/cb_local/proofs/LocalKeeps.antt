@@ -16,6 +16,7 @@ use Rattle.cb_world.specs.FarState.{FarState}
 use Rattle.cb_world.specs.Joining.{JoiningState}
 use Rattle.cb_world.specs.Reserved.{put_shards}
 use Rattle.cb_world.specs.Sound.{Sound}
+use Rattle.cb_world.proofs.Laws.{alike_leaves_words, words_left_twice}
 use Rattle.cb_compact.specs.NowGoing.{with_keys, without_pair}
 use Rattle.cb_compact.specs.CompactStep.{CompactStep, PairEnds}
 use Rattle.cb_compact.specs.PairStep.{IsPaired, PairStep, begun_pair}
@@ -181,6 +182,8 @@ given_keeps s far mid new rows k state =
     subst (JoinKeeps s far) (sym state) (record {
       sound = sound_counted s mid (mid.nodes.given + rows) k.sound;
       same_now = λ h. k.same_now h;
+      words = words_left_twice k.words
+          (alike_leaves_words mid (far_given mid rows) refl refl refl refl (λ id p shard of. refl));
     })
 
 refused_keeps : (s : Shown) (far mid new : FarState) (r : Reply) → Sound s far

@@ -11,6 +11,7 @@ pub use Rattle.cb_mutate.proofs.MapBeside.{FollowsMap, FollowsOf, beside_kept, b
 pub use Rattle.cb_mutate.proofs.MapReplies.{AreKnownBoth, ChangesAt, IsObjectThere, IsOnContents, call_by_state, far_there, here_near, in_range, map_same, moving_near, near_held, others_hold, refused_by, refused_call, stays_call}
 pub use Rattle.cb_mutate.proofs.ReadCall.{read_call}
 pub use Rattle.cb_mutate.proofs.ReadStep.{failed_step, read_step}
+pub use Rattle.cb_mutate.proofs.CallLeaves.{free_leaves_words, make_leaves_words}
 pub use Rattle.cb_mutate.proofs.CallStays.{free_stays, make_stays, place_codes}
 pub use Rattle.cb_mutate.proofs.Stepping.{ComesTo, comes, is_exact, reply_comes}
 pub use Rattle.cb_mutate.proofs.CallFixed.{free_step_fixes, make_step_fixes, read_step_fixes, write_step_fixes}

@@ -29,6 +29,7 @@ pub mod FreeCall
 pub mod MakeStep
 pub mod CallFixed
 pub mod CallStays
+pub mod CallLeaves
 pub mod ReadUnwritten
 pub mod MakeCall
 mod WorkedSteps

@@ -7,26 +7,29 @@ use Rattle.cb_types.specs.declared.reply.Reply.{Reply}
 use Rattle.cb_world.specs.declared.shown.Shown.{Shown}
 use Rattle.cb_world.specs.Now.{now}
 use Rattle.cb_world.specs.FarState.{FarState}
+use Rattle.cb_world.specs.Orders.{LeavesWords}
 use Rattle.cb_world.specs.Sound.{Sound}
 use Rattle.cb_world.specs.Surveyed.{IsSurvey, gone_below}
-use Rattle.cb_world.proofs.Laws.{recounted_sound, retold_sound}
+use Rattle.cb_world.proofs.Laws.{alike_leaves_words, recounted_sound, retold_sound, words_left_twice, words_stay}
 use Rattle.cb_rebuild.specs.declared.finding.Found.{Found}
 use Rattle.cb_rebuild.specs.declared.finding.Found.TheVariants as found
 use Rattle.cb_rebuild.specs.Finding.{with_found}
 use Rattle.cb_rebuild.specs.RebuildStep.{FindsNone, IsFirstWeak, IsRebuilt, KeepWords, RebuildStep, Restores, far_given, gone_count, surveyed}
-use Rattle.cb_rebuild.proofs.RebuildSound.{IsRestored, stood_now, stood_sound, word_stays}
+use Rattle.cb_rebuild.proofs.RebuildSound.{IsRestored, stood_leaves, stood_now, stood_sound, word_stays}
 
 -- what a change of the far state keeps
 pub record RebuildKeeps (s : Shown) (far new : FarState) : Type 0 where
   pub sound : Sound s new
   pub same_now : (h : ℕ) → now s new h ≡ now s far h
   pub words : KeepWords far new
+  pub left : LeavesWords far new
 
 keeps_all : (s : Shown) (far : FarState) → Sound s far → RebuildKeeps s far far
 keeps_all s far sound = record {
   sound = sound;
   same_now = λ h. refl;
   words = λ id set rows there word. (set, there, word);
+  left = words_stay far;
 }
 
 -- one change after another
@@ -37,6 +40,7 @@ keeps_both s far mid new x y = record {
   same_now = λ h. y.same_now h ∙ x.same_now h;
   words = λ id set rows there word. let a = x.words id set rows there word in
       y.words id a.0 rows a.1 a.2;
+  left = words_left_twice x.left y.left;
 }
 
 -- ---- the survey
@@ -56,6 +60,7 @@ keeps_survey s far n sound holds = record {
   same_now = λ h. refl;
   words = λ id set rows there word.
       (set, there, record { code = word.code; survive = word.survive });
+  left = alike_leaves_words far (surveyed far n) refl refl refl refl (λ id p shard of. refl);
 }
 
 pub keeps_first : (s : Shown) (far : FarState) (id : ℕ) (set : SetState) → Sound s far
@@ -85,6 +90,7 @@ keeps_given s far new n sound e = subst (RebuildKeeps s far) (sym e) (record {
   same_now = λ h. refl;
   words = λ id set rows there word.
       (set, there, record { code = word.code; survive = word.survive });
+  left = alike_leaves_words far (far_given far n) refl refl refl refl (λ id p shard of. refl);
 })
 
 keeps_rebuilt : (s : Shown) (far new : FarState) (id : ℕ) (set : SetState) (r : Reply)
@@ -103,6 +109,7 @@ keeps_rebuilt s far new id set r sound first x =
       same_now = λ h. stood_now s far id set x.position x.shard x.row stands h;
       words = λ j c rows there word.
           word_stays s far id set x.position x.shard x.row stands j c rows there word;
+      left = stood_leaves s far id set x.position x.shard x.row stands;
     })
 
 keeps_restored : (s : Shown) (far new : FarState) (id : ℕ) (set : SetState) (r : Reply)

@@ -22,8 +22,9 @@ use Rattle.cb_world.specs.Sets.{Kept, set_in, if_committed}
 use Rattle.cb_world.specs.SetWord.{IsWeak, IsWordOf, is_broken}
 use Rattle.cb_world.specs.FarState.{FarState}
 use Rattle.cb_world.specs.FarSound.{Owner, of_set, of_leaving, of_joining, IsShardOf, AwaySound}
+use Rattle.cb_world.specs.Orders.{LeavesWords}
 use Rattle.cb_world.specs.Sound.{Sound}
-use Rattle.cb_world.proofs.Laws.{number, fits_on_least, up_is_kept, up_on_least, local_stays, noted_stays, claimed_stay, place_on, reserved_is_other, HasRowPut, IsNewOr, IsRenamed, row_put_away, row_put_join, row_put_words, set_there, stands_still, survey_stays}
+use Rattle.cb_world.proofs.Laws.{number, fits_on_least, up_is_kept, up_on_least, local_stays, noted_stays, claimed_stay, place_on, reserved_is_other, HasRowPut, IsNewOr, IsRenamed, row_put_away, row_put_join, row_put_leaves_words, row_put_words, set_there, stands_still, survey_stays}
 use Rattle.cb_rebuild.specs.RebuildStep.{IsNewShard, IsRowOf, with_put, with_shard_named}
 use Rattle.cb_rebuild.proofs.WeakSets.{least_is_lost, least_within, set_same, weak_not_broken}
 
@@ -43,6 +44,11 @@ stood far id set p shard row = with_shard_named (with_put far set shard row) id 
 
 shard_same : (a b : Shard) → Some a ≡ Some b → a ≡ b
 shard_same a b e = cc
+
+abbrev number_of : Owner → ℕ
+number_of (of_set j q) = j
+number_of (of_leaving q) = 0
+number_of (of_joining q) = 0
 
 module _ (s : Shown) (far : FarState) (id : ℕ) (set : SetState) (p : ℕ) (shard : Shard)
     (row : List ℕ) (x : IsRestored s far id set p shard row) where
@@ -183,6 +189,14 @@ module _ (s : Shown) (far : FarState) (id : ℕ) (set : SetState) (p : ℕ) (sha
       → IsWordOf far.nodes far.members c rows → (d : SetState) × (set_in new.sets j ≡ Some d)
       × IsWordOf new.nodes new.members d rows
   word_stays = row_put_words s far new (of_set id p) shard row x.sound puts
+
+  -- the set was not broken, and each word of it is one still
+  pub stood_leaves : LeavesWords far new
+  stood_leaves = row_put_leaves_words s far new (of_set id p) shard row x.sound puts
+      (λ j q was e there.
+      let at : id ≡ j = ap number_of e in
+      let same : set ≡ was = set_same set was (sym x.there ∙ ap (set_in far.sets) at ∙ there) in
+      sym (ap (is_broken far.members) same) ∙ weak_not_broken far.members set x.weak)
 
   -- ---- last complete contents
   rest_not_broken : is_broken far.members rest ≡ false

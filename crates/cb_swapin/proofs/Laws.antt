@@ -9,6 +9,7 @@ pub use Rattle.cb_swapin.proofs.SlotNames.{named_within}
 pub use Rattle.cb_swapin.proofs.SwapAnswers.{by_answer, unavailable_answer}
 pub use Rattle.cb_swapin.proofs.SwapFixed.{swap_step_fixes}
 pub use Rattle.cb_swapin.proofs.SwapKeeps.{keeps_far, leaving_stays, settings_stay, step_cases, step_only_no_frame}
+pub use Rattle.cb_swapin.proofs.SwapLeaves.{fetch_leaves_words, given_leaves_words, land_leaves_words, swap_leaves_words}
 pub use Rattle.cb_swapin.proofs.SwapPins.{home_comes_in, named_far, swap_keeps}
 pub use Rattle.cb_swapin.proofs.SwapStays.{given_stays, swap_codes, swap_stays, swap_step_codes, swap_step_stays}
 pub use Rattle.cb_swapin.proofs.SwapStep.{swap_step}

@@ -24,6 +24,7 @@ pub mod Landed
 pub mod FetchFixed
 pub mod LandStep
 pub mod LandKeeps
+pub mod SwapLeaves
 mod WorkedNamed
 mod WorkedSwap
 mod WorkedWord

@@ -74,4 +74,5 @@ pub use Rattle.cb_world.proofs.Windows.{length_put, put_at as put_at-windows, pu
 pub use Rattle.cb_world.proofs.WorkedWord.{at, is_word, node, only_word, row, row_byte, row_long, rows, with_two_rows}
 pub use Rattle.cb_world.proofs.Worlds.{empty_world_sound}
 pub use Rattle.cb_world.proofs.OrdersLeft.{decode_left, encode_left, orders_left, orders_stay}
+pub use Rattle.cb_world.proofs.LeftWords.{alike_leaves_words, left_leaves_words, parted_leaves_words, stepped_leaves_words}
 pub use Rattle.cb_world.proofs.WordsLeft.{KeepsSets, added_keeps_sets, committed_keeps_sets, crash_leaves_words, join_leaves_words, merged_keeps_sets, row_put_leaves_words, same_keeps_sets, sets_leave_words, words_left_twice, words_stay}

@@ -46,6 +46,7 @@ pub mod Committed
 pub mod JoinNow
 pub mod OrdersLeft
 pub mod WordsLeft
+pub mod LeftWords
 pub mod Beginning
 pub mod Counting
 pub mod Surveying
