@@ -40,6 +40,14 @@ quiet handles work owed = record {
   writes = λ r more is. is;
 }
 
+-- such a job hands no order out and takes none
+pub owed_alone : (handles : ℕ) → (work : Job) → IsOwed handles work → NeedsNoOrder work
+owed_alone handles job.Gather owed = absurd owed
+owed_alone handles job.Install owed = absurd owed
+owed_alone handles (job.Fetch handle) owed = absurd owed
+owed_alone handles job.Land owed = absurd owed
+owed_alone handles work owed = tt
+
 writes_none : (work : Job) → IsQuietWork work → (r : Result Reply NoMemory) → (more : List Entry)
     → OutcomeWrites work r more → more ≡ []
 writes_none work q (Ok r) more is = q.writes r more is
