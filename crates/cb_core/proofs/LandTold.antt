@@ -1,9 +1,5 @@
 -- Over any desk the landing of a row is answered Unavailable exactly where it is to be.
-use Rattle.std.proofs.Common.{◌≡◌, ◌≢◌, ℕ, suc, ◌^◌, ◌<◌, ◌≤◌, Bool, true, false, cond, List, [], length, Option, None, Some, refl, sym, ap, ◌∙◌, subst, arith, inl, inr}
-use Rattle.std.specs.FinMap as map
-use Rattle.std.specs.Cmp.{nat_cmp_total}
-use Rattle.std.specs.Ordering.{nat_cmp, eq_by_cmp}
-use Rattle.std.proofs.lemmas.Bool.Decides.{nat_tests}
+use Rattle.std.proofs.Common.{◌≡◌, ◌≢◌, ℕ, suc, ◌^◌, ◌<◌, ◌≤◌, Bool, true, false, List, [], length, Option, None, Some, refl, sym, ap, ◌∙◌, subst, arith, inl, inr}
 use Rattle.std.proofs.lemmas.Bool.{false≢true, ltb-false, ltb-true}
 use Rattle.std.proofs.lemmas.Option.{same_Some}
 use Rattle.cb_member.specs.declared.names.Loss.{Loss}
@@ -21,7 +17,7 @@ use Rattle.cb_world.specs.declared.event.Event.{Event}
 use Rattle.cb_world.specs.declared.shown.Shown.{Shown}
 use Rattle.cb_world.specs.FarState.{FarState}
 use Rattle.cb_world.specs.Played.{Agree, played}
-use Rattle.cb_world.specs.Sets.{Kept as KeptSet, SetMap, if_committed, set_in}
+use Rattle.cb_world.specs.Sets.{set_in}
 use Rattle.cb_world.specs.SetWord.{is_broken}
 use Rattle.cb_world.specs.Sound.{Sound}
 use Rattle.cb_evict.specs.declared.eviction.Eviction.TheVariants.{Set}
@@ -35,6 +31,7 @@ use Rattle.cb_core.specs.Unavailable.{IsSetLost, LandTells}
 use Rattle.cb_core.proofs.Counting.{counted_sound}
 use Rattle.cb_core.proofs.LandRooms.{land_crammed}
 use Rattle.cb_core.proofs.PartsFar.{has_sent}
+use Rattle.cb_core.proofs.SetsStay.{others_stay}
 use Rattle.cb_core.proofs.TurnUnavailable.{IsNever}
 
 -- the position of the order is live, and its set has lost this, more shards than it has parities
@@ -121,14 +118,6 @@ land_says (Some (Decode p)) far new r es (inl x) =
 land_says (Some (Decode p)) far new r es (inr x) = landed_says p far new r es x
 
 -- ---- an eviction leaves the sets that there are, and the members
-by_cmp-other : (q k : ℕ) → q ≢ k → eq_by_cmp nat_cmp q k ≡ false
-by_cmp-other q k other = grind (arith, nat_tests)
-
-others_stay : (sets : SetMap) (id k : ℕ) (kept : KeptSet) → k ≢ id
-    → set_in (map.insert sets id kept) k ≡ set_in sets k
-others_stay sets id k kept off = ap if_committed (map.get-insert nat_cmp_total sets id kept k
-    ∙ ap (λ (b : Bool). cond b (Some kept) (map.get sets k)) (by_cmp-other k id off))
-
 set_stays : (far new : FarState) (r : Reply) (id : SetId) (es : List Event) → EvictRule far new r es
     → r ≡ answer.Set id → (k : ℕ) → k < far.counts.sets
     → (set_in new.sets k ≡ set_in far.sets k) × (new.members ≡ far.members)

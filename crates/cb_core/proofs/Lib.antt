@@ -32,6 +32,9 @@ pub mod OpenSteps
 pub mod OpenStores
 mod OrdersCounted
 mod OrdersLeave
+mod SetsStay
+mod EvictLeaves
+mod InstallStays
 mod OrderTurns
 mod LandRooms
 mod LandTold

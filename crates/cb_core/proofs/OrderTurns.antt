@@ -22,7 +22,6 @@ use Rattle.cb_world.proofs.Laws.{codes_same, codes_stay, codes_then, recounted, 
 use Rattle.cb_evict.specs.declared.gathering.Gathered.{Gathered}
 use Rattle.cb_evict.specs.Gathering.{gathered_order, gathered_reply}
 use Rattle.cb_evict.specs.InstallRule.{InstallStep, kept_behind}
-use Rattle.cb_evict.proofs.Laws.{install_stays}
 use Rattle.cb_swapin.specs.declared.fetching.Fetching.{Fetching}
 use Rattle.cb_swapin.specs.FetchStep.{fetching_order, fetching_reply}
 use Rattle.cb_core.specs.Ordered.{FetchRun, FetchStops, Gathers, InstallTurn, Lands, NothingDone, StoppedWith, TurnedWith, desk_orders}
@@ -41,6 +40,7 @@ use Rattle.cb_core.proofs.Counting.{counted_sound, job_below}
 use Rattle.cb_core.proofs.FarJobs.{note_of}
 use Rattle.cb_core.proofs.KeptParts.{counted_rises}
 use Rattle.cb_core.proofs.Noted.{noted_after}
+use Rattle.cb_core.proofs.InstallStays.{install_stays}
 use Rattle.cb_core.proofs.LandTold.{land_told}
 use Rattle.cb_core.proofs.OrdersCounted.{counted_kept}
 use Rattle.cb_core.proofs.OrdersLeave.{fetch_leaves, fetch_stops, gather_leaves, gather_stops, land_leaves, land_stops}
@@ -239,15 +239,15 @@ module _ {D : Type 0} (run : D → List Event → D → Type 0) (shows : D → S
         (subst (λ (f : FarState). LandStops order (on f)) is y)
 
 -- ---- what an install leaves
-pub install_leaves : (c : Config) (far mid new : FarState) (r : Reply) (order keeps : Option Kept)
+pub install_leaves : (c : Config) (t : Shown) (far mid new : FarState) (r : Reply) (order keeps : Option Kept)
     → AreCounted far → far.counts.turns < 2 ^ 40 → mid ≡ counted far Install
-    → InstallStep mid new r order keeps
+    → KeepsOrder t mid order → InstallStep mid new r order keeps
     → ((s : Shown) → Sound s mid → KeepsOrder s mid order → Sound s new)
     → IsConfigured c far → InstallLeaves c far new order
-install_leaves c far mid new r order keeps counts few is step sound configured =
+install_leaves c t far mid new r order keeps counts few is known step sound configured =
     let first = recounted c far (counted far Install).counts configured in
     let z = subst (λ (f : FarState). StaysIf c 1 f new) is
-    (install_stays c mid new r order keeps step) first in record {
+    (install_stays c t mid new r order keeps known step) first in record {
       configured = z.configured;
       codes = codes_then far (counted far Install) new
           (codes_stay far (counted far Install) refl refl refl refl) z.codes;
