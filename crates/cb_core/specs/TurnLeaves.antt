@@ -10,6 +10,7 @@ use Rattle.cb_world.specs.declared.shown.Shown.{Shown}
 use Rattle.cb_world.specs.FarState.{FarState}
 use Rattle.cb_world.specs.Played.{played}
 use Rattle.cb_world.specs.KeepCodes.{KeepCodes}
+use Rattle.cb_world.specs.Orders.{LeavesOrders}
 use Rattle.cb_world.specs.Sound.{Sound}
 use Rattle.cb_world.specs.World.{AreCounted, IsConfigured}
 use Rattle.cb_world.specs.Written.{Writes}
@@ -26,18 +27,20 @@ abbrev pub IsOneTurnOn : FarState → FarState → Type 0
 IsOneTurnOn far new = ((far.counts.turns < 2 ^ 40) × (new.counts.turns ≡ far.counts.turns + 1))
     ⊎ ((far.counts.turns ≡ 2 ^ 40) × (new ≡ far))
 
--- What is known of a desk and was sound is sound once the events are played, and they write such
--- versions.
-pub record SoundAfter (es : List Event) (s : Shown) (new : FarState) (writes : List Entry → Type 0)
-    : Type 0 where
+-- What is known of a desk and was sound is sound once the events are played, every order that was
+-- kept is kept then, and they write such versions.
+pub record SoundAfter (es : List Event) (s : Shown) (far new : FarState)
+    (writes : List Entry → Type 0) : Type 0 where
   pub sound : Sound (played es s) new
+  pub orders : LeavesOrders s far (played es s) new
   pub more : List Entry
   pub wrote : writes more
   pub writes_them : Writes es s more
 
 -- A turn leads from one holding to another by events of its desk. The far state is as it is
 -- configured and counted, it has no other code, and is at most one turn further. And for all that
--- the desk showed and that was sound: it is sound afterwards, and these versions are written.
+-- the desk showed and that was sound: it is sound afterwards, every order that was kept is kept, and
+-- these versions are written.
 pub record TurnLeaves {D : Type 0} (run : D → List Event → D → Type 0) (shows : D → Shown → Type 0)
     (c : Config) (a b : Holding D) (writes : List Entry → Type 0) : Type 0 where
   pub events : List Event
@@ -46,4 +49,4 @@ pub record TurnLeaves {D : Type 0} (run : D → List Event → D → Type 0) (sh
   pub codes : KeepCodes a.far b.far
   pub counted : AreCounted b.far
   pub next : IsOneTurnOn a.far b.far
-  pub after : (s : Shown) → shows a.desk s → Sound s a.far → SoundAfter events s b.far writes
+  pub after : (s : Shown) → shows a.desk s → Sound s a.far → SoundAfter events s a.far b.far writes
