@@ -261,8 +261,14 @@ uint32_t carbink_world_step(struct carbink_world *world, const struct carbink_ev
 #define CARBINK_REPLY_STUCK 43u      /* set: no node can take its lost row */
 #define CARBINK_REPLY_DOWN 44u       /* node: it is down */
 #define CARBINK_REPLY_UP 45u         /* node: it is up */
+#define CARBINK_REPLY_CROWDED 46u    /* the object has as many pins as its word can count */
 #define CARBINK_REPLY_SWAPPED 48u    /* frame: the object's span is there now */
 #define CARBINK_REPLY_STAYS 49u      /* the object is not far */
+
+/* The other numbers below 60 are of replies that no verb here is answered: 4 to the end of a scope, 47 inside of a
+ * turn, 50 to 56 to the steps of a write, to a look at a word and to the far lock, and 57 to 59 to orders, which are
+ * coding work outside of a turn: 57 the seat keeps no order, 58 the row is not lost, 59 rows were given out for the
+ * row of a set (first) at a position (second). */
 
 /* ---- Each verb by its name
  *

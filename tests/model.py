@@ -268,6 +268,10 @@ class World:
         """None where the object is here then, else the refusal; room is won where it lacks."""
         number, position = self.objects[handle].home
         one = self.sets[number]
+        return self.bring_in(one, position, self.k if self.is_lost(one.shards[position]) else 1)
+
+    def bring_in(self, one, position, rows):
+        """The same of the span at a live position of a set, for which the nodes give out so many rows."""
         if self.is_broken(one):
             return self.unavailable(one)
         while self.free_run(one.pages) is None:
@@ -275,7 +279,7 @@ class World:
                 return self.no_room()
         frame = self.free_run(one.pages)
         size, slots = one.slots.pop(position)
-        self.given += self.k if self.is_lost(one.shards[position]) else 1
+        self.given += rows
         self.open_span(frame, Span(size, "hot"))
         self.spans[frame].slots = list(slots)
         for slot, h in enumerate(slots):

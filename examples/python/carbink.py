@@ -17,7 +17,7 @@ VERBS = "make read write free swap filter evict begin ship commit abort pair pat
 KINDS = ("made version bytes done left moved same set batch shipped allshipped pair stepped allstepped merged rebuilt epoch full noroom "
          "unmade freed moving unavailable range pinned worn scopefull notpinned nothere noslot nospans nonodes leaving nonode nobatch "
          "short nopair joining nodefull changed unfinished nojoin whole stuck down up crowded noframe swapped stays word claimed stored "
-         "notclaimed notstored held notheld").split()
+         "notclaimed notstored held notheld noorder direct fetched").split()
 ROOM = 4096
 CLEAN, ONE, MANY = range(3)
 

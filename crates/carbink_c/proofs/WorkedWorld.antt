@@ -46,6 +46,10 @@ made_told = refl
 bytes_told : told_reply (answer.Bytes 6 (8 ∷ 9 ∷ [])) ≡ record { kind = 2; first = 6; second = 0; third = 0; count = 2 }
 bytes_told = refl
 
+fetched_told : told_reply (answer.Fetched (record { n = 4 }) 1)
+    ≡ record { kind = 59; first = 4; second = 1; third = 0; count = 0 }
+fetched_told = refl
+
 loss_told : bytes_of (answer.Unavailable (record { n = 3 }) (record { node = record { n = 5 }; epoch = record { n = 258 } } ∷ []))
     ≡ 5 ∷ 2 ∷ 1 ∷ 0 ∷ 0 ∷ 0 ∷ 0 ∷ 0 ∷ 0 ∷ []
 loss_told = refl

@@ -3,7 +3,7 @@ use Rattle.std.specs.Prelude.{ℕ, List, [], ◌∷◌, ◌++◌, length}
 use Rattle.std.specs.Int.{to_le_bytes, w64}
 use Rattle.cb_member.specs.declared.names.Loss.{Loss}
 use Rattle.cb_types.specs.declared.reply.Reply.{Reply}
-use Rattle.cb_types.specs.declared.reply.Reply.TheVariants.{Made, Version, Bytes, Done, Left, Moved, Same, Set, Batch, Shipped, AllShipped, Pair, Stepped, AllStepped, Merged, Rebuilt, EpochAt, Full, NoRoom, Unmade, Freed, Moving, Unavailable, Range, Pinned, Worn, ScopeFull, NotPinned, NotHere, NoSlot, NoSpans, NoNodes, Leaving, NoNode, NoBatch, Short, NoPair, Joining, NodeFull, Changed, Unfinished, NoJoin, Whole, Stuck, Down, Up, Crowded, NoFrame, Swapped, Stays, Word, Claimed, Stored, NotClaimed, NotStored, Held, NotHeld}
+use Rattle.cb_types.specs.declared.reply.Reply.TheVariants.{Made, Version, Bytes, Done, Left, Moved, Same, Set, Batch, Shipped, AllShipped, Pair, Stepped, AllStepped, Merged, Rebuilt, EpochAt, Full, NoRoom, Unmade, Freed, Moving, Unavailable, Range, Pinned, Worn, ScopeFull, NotPinned, NotHere, NoSlot, NoSpans, NoNodes, Leaving, NoNode, NoBatch, Short, NoPair, Joining, NodeFull, Changed, Unfinished, NoJoin, Whole, Stuck, Down, Up, Crowded, NoFrame, Swapped, Stays, Word, Claimed, Stored, NotClaimed, NotStored, Held, NotHeld, NoOrder, Direct, Fetched}
 use Rattle.carbink_c.specs.declared.reply.CarbinkReply.{CarbinkReply}
 
 -- the number by which C knows the kind of a reply, in the order of the kinds
@@ -65,6 +65,9 @@ kind_of NotClaimed = 53
 kind_of (NotStored left) = 54
 kind_of (Held seat) = 55
 kind_of NotHeld = 56
+kind_of NoOrder = 57
+kind_of Direct = 58
+kind_of (Fetched set position) = 59
 
 -- the first number of a reply, and 0 where it has none
 abbrev pub first_of : Reply → ℕ
@@ -101,6 +104,7 @@ first_of (Word word) = word
 first_of (Stored left) = left
 first_of (NotStored left) = left
 first_of (Held seat) = seat
+first_of (Fetched set position) = set.n
 first_of reply = 0
 
 -- the second number, and 0
@@ -111,6 +115,7 @@ second_of (Merged set moved) = moved
 second_of (Rebuilt set position node) = position
 second_of (NoRoom frames loose nodes) = loose
 second_of (Joining a b) = b.n
+second_of (Fetched set position) = position
 second_of reply = 0
 
 -- the third number, and 0

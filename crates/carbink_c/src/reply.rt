@@ -63,17 +63,17 @@ fn kind(reply: &Reply) -> u32
         Reply::Pinned { .. } => 24,
         Reply::Worn => 25,
         Reply::ScopeFull => 26,
+        Reply::NotPinned => 27,
         _ => later_kind(reply),
     }
 }
 
-/// The same of a kind from 27 on.
+/// The same of a kind from 28 on.
 fn later_kind(reply: &Reply) -> u32
-    requires later { 27 ≤ kind_of reply.now }
+    requires later { 28 ≤ kind_of reply.now }
     ensures { result ≡ kind_of reply.now }
 {
     match reply {
-        Reply::NotPinned => 27,
         Reply::NotHere => 28,
         Reply::NoSlot { .. } => 29,
         Reply::NoSpans { .. } => 30,
@@ -102,7 +102,10 @@ fn later_kind(reply: &Reply) -> u32
         Reply::NotClaimed => 53,
         Reply::NotStored { .. } => 54,
         Reply::Held { .. } => 55,
-        _ => 56,
+        Reply::NotHeld => 56,
+        Reply::NoOrder => 57,
+        Reply::Direct => 58,
+        _ => 59,
     }
 }
 
@@ -155,6 +158,7 @@ fn later_first(reply: &Reply) -> u64
         Reply::Stored { left } => u64::from(*left),
         Reply::NotStored { left } => u64::from(*left),
         Reply::Held { seat } => u64::from(*seat),
+        Reply::Fetched { set, .. } => set.n,
         _ => 0,
     }
 }
@@ -170,6 +174,7 @@ fn second(reply: &Reply) -> u64
         Reply::Rebuilt { position, .. } => u64::from(*position),
         Reply::NoRoom { loose, .. } => u64::from(*loose),
         Reply::Joining { b, .. } => b.n,
+        Reply::Fetched { position, .. } => u64::from(*position),
         _ => 0,
     }
 }

@@ -5,8 +5,8 @@ use Rattle.std.specs.Fmt.{digits}
 use Rattle.hex.specs.Hex.{encode_with}
 use Rattle.cb_types.specs.declared.config.Config.{Config}
 use Rattle.cb_types.specs.declared.handle.Handle.{Handle}
-use Rattle.cb_types.specs.declared.job.Job.TheVariants.{Write, Merge, Part}
-use Rattle.cb_types.specs.declared.reply.Reply.TheVariants.{Made, Bytes, Set, Word, Stored, Stays}
+use Rattle.cb_types.specs.declared.job.Job.TheVariants.{Write, Merge, Part, Swap, Fetch}
+use Rattle.cb_types.specs.declared.reply.Reply.TheVariants.{Made, Bytes, Set, Word, Stored, Stays, NoOrder, Direct, Fetched}
 use Rattle.cb_core.specs.declared.event.Atomic.TheVariants.{Claim, Store}
 use Rattle.cb_core.specs.declared.event.Event.{Event}
 use Rattle.cb_core.specs.declared.event.Event.TheVariants as event
@@ -100,6 +100,24 @@ two = (
 parts : IsListed few (merge ++ rest) (event.Turn 0 Part) → ⊥
 parts is = let e = is.said.1.0 in cc
 
+-- rows of the set of the object 3 are fetched; its span is not swapped in, and no other is asked for
+abbrev fetch : List ℕ
+fetch = 0 ∷ 21 ∷ 3 ∷ 0 ∷ 0 ∷ 0 ∷ 0 ∷ 0 ∷ []
+
+fetches : IsListed few fetch (event.Turn 0 (Fetch third))
+fetches = record {
+  whole = lit≤ tt;
+  within = (lit< tt, lit< tt);
+  said = (refl, (refl, refl));
+  may = (lit< tt, lit< tt);
+}
+
+swaps : IsListed few fetch (event.Turn 0 (Swap third)) → ⊥
+swaps is = let e = is.said.1.0 in cc
+
+fetches_first : IsListed few fetch (event.Turn 0 (Fetch first)) → ⊥
+fetches_first is = let e = ap (λ (h : Handle). h.n) is.said.1.1 in cc
+
 -- what is told of replies, and of bytes that were not read
 made : told_line (Made third 1) ≡ codes "reply made 3 v1\n"
 unfolding digits
@@ -123,6 +141,16 @@ stored = refl
 
 stays : told_line Stays ≡ codes "reply stays\n"
 stays = refl
+
+no_order : told_line NoOrder ≡ codes "reply noorder\n"
+no_order = refl
+
+direct : told_line Direct ≡ codes "reply direct\n"
+direct = refl
+
+fetched : told_line (Fetched (record { n = 4 }) 12) ≡ codes "reply fetched 4 12\n"
+unfolding digits
+fetched = refl
 
 not_read : rest_line (length rest) ≡ codes "rest 3\n"
 unfolding digits

@@ -3,7 +3,7 @@ use Rattle.std.specs.Prelude.{◌≡◌, ℕ, ◌+◌, ◌*◌, ◌<◌, ◌≤�
 use Rattle.cb_types.specs.Jobs.{job_index}
 use Rattle.cb_types.specs.declared.config.Config.{Config}
 use Rattle.cb_types.specs.declared.job.Job.{Job}
-use Rattle.cb_types.specs.declared.job.Job.TheVariants.{Make, Read, Write, Free, Swap, Filter, Crash, Join}
+use Rattle.cb_types.specs.declared.job.Job.TheVariants.{Make, Read, Write, Free, Swap, Filter, Crash, Join, Fetch}
 use Rattle.cb_core.specs.declared.event.Atomic.{Atomic}
 use Rattle.cb_core.specs.declared.event.Atomic.TheVariants.{Load, Pin, Unpin, Claim, Store, Settle, Take, Give}
 use Rattle.cb_core.specs.declared.event.Event.{Event}
@@ -69,6 +69,7 @@ HasOfJob head written (Swap handle) = handle ≡ head.handle
 HasOfJob head written (Filter handle) = handle ≡ head.handle
 HasOfJob head written (Crash node) = node ≡ head.node
 HasOfJob head written (Join node) = node ≡ head.node
+HasOfJob head written (Fetch handle) = handle ≡ head.handle
 HasOfJob head written job = Unit {0}
 
 -- and so has a step

@@ -5,7 +5,7 @@ use Rattle.cb_text.specs.Line.{reply_text, spaced, version_text, word_and_number
 use Rattle.cb_types.specs.Config.{IsAccepted}
 use Rattle.cb_types.specs.declared.config.Config.{Config}
 use Rattle.cb_types.specs.declared.reply.Reply.{Reply}
-use Rattle.cb_types.specs.declared.reply.Reply.TheVariants.{Made, Swapped, Stays, Word, Claimed, Stored, NotClaimed, NotStored, Held, NotHeld, Crowded}
+use Rattle.cb_types.specs.declared.reply.Reply.TheVariants.{Made, Swapped, Stays, Word, Claimed, Stored, NotClaimed, NotStored, Held, NotHeld, Crowded, NoOrder, Direct, Fetched}
 use Rattle.cb_world.specs.World.{WorldState, empty_world}
 use Rattle.cb_core.specs.declared.event.Event.{Event}
 use Rattle.cb_core.specs.Step.{Leads}
@@ -26,6 +26,10 @@ told_text Claimed = spaced (codes "claimed")
 told_text NotClaimed = spaced (codes "notclaimed")
 told_text NotHeld = spaced (codes "notheld")
 told_text Crowded = spaced (codes "crowded")
+told_text NoOrder = spaced (codes "noorder")
+told_text Direct = spaced (codes "direct")
+told_text (Fetched set position) =
+    word_and_number (codes "fetched") set.n ++ spaced (decimal position)
 told_text reply = reply_text reply
 
 -- the line of a reply

@@ -186,6 +186,10 @@ fn plain_job(config: Config, head: Head) -> Option<Job>
         16 => Some(Job::Rebuild),
         17 => Some(Job::Crash { node }),
         18 => Some(Job::Join { node }),
+        19 => Some(Job::Gather),
+        20 => Some(Job::Install),
+        21 => Some(Job::Fetch { handle }),
+        22 => Some(Job::Land),
         _ => None,
     }
 }

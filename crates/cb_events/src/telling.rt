@@ -26,6 +26,12 @@ fn push_told(text: &mut Vec<u8>, reply: &Reply) -> Result<(), NoMemory>
         Reply::NotClaimed => push_word(text, b"notclaimed"),
         Reply::NotHeld => push_word(text, b"notheld"),
         Reply::Crowded => push_word(text, b"crowded"),
+        Reply::NoOrder => push_word(text, b"noorder"),
+        Reply::Direct => push_word(text, b"direct"),
+        Reply::Fetched { set, position } => {
+            push_counted(text, b"fetched", set.n)?;
+            push_number(text, u64::from(*position))
+        }
         _ => push_reply(text, reply),
     }
 }

@@ -93,6 +93,7 @@ fn word(reply: &Reply) -> &'static str
         Reply::NodeFull { .. } => "nodefull",
         Reply::Changed { .. } => "changed",
         Reply::NoJoin => "nojoin",
+        Reply::NoOrder | Reply::Direct | Reply::Fetched { .. } => "",
         _ => "",
     }
 }
