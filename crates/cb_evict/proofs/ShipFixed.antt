@@ -23,7 +23,7 @@ true_false : true ≡ false → ⊥
 true_false e = cc
 
 -- the batch from which a row is put is one
-ready_fixed : (batch : LeavingState) (rows : List (List ℕ)) (p : ℕ) (a b : LeavingState)
+pub ready_fixed : (batch : LeavingState) (rows : List (List ℕ)) (p : ℕ) (a b : LeavingState)
     → length rows ≡ length batch.frames → MadeFor batch rows p a → MadeFor batch rows p b → a ≡ b
 ready_fixed batch rows p a b count (made_before made e) (made_before also f) = e ∙ sym f
 ready_fixed batch rows p a b count (made_before made e) (is_data below f) = e ∙ sym f

@@ -37,12 +37,12 @@ use Rattle.cb_world.specs.SetWord.{IsSpanWord}
 use Rattle.cb_world.specs.World.{word_at}
 use Rattle.cb_evict.specs.Lengths.{batch_pages}
 use Rattle.cb_evict.specs.BeginEffect.{IsClaimedThere, IsBatchBegun, BeginEffect}
-use Rattle.cb_evict.specs.BeginRule.{blank_shards, new_batch, with_batch, HasBegun, IsLeavingAlready, HasBatch, HasLooked, BeginRule}
+use Rattle.cb_evict.specs.BeginRule.{blank_shards, new_batch, with_batch, HasBegun as Begun, IsLeavingAlready, HasBatch as Batch, HasLooked as Looks, BeginRule}
 use Rattle.cb_evict.specs.Beginning.{AreParities}
 use Rattle.cb_evict.specs.EvictRule.{IsInRow, AreInRows}
 use Rattle.cb_evict.proofs.BeginSound.{reserved_kept}
 use Rattle.cb_evict.proofs.NewSet.{set_added_in}
-use Rattle.cb_evict.specs.BeginStep.{frame_rows, AreSpansClaimed, IsBegunTo, IsBatchMade, IsBeginStep, is_leaving, few_spans, few_nodes, begins}
+use Rattle.cb_evict.specs.BeginStep.{frame_rows, AreSpansClaimed, IsBegunTo as BegunTo, IsBatchMade as BatchMade, IsBeginStep, is_leaving, few_spans, few_nodes, begins}
 use Rattle.cb_evict.specs.Claims.{AreApart}
 use Rattle.cb_evict.specs.Order.{noted_of, objects_of}
 use Rattle.cb_evict.specs.Claiming.{AreOf}
@@ -50,6 +50,22 @@ use Rattle.cb_evict.specs.Looking.{IsIn}
 use Rattle.cb_evict.proofs.BeginParts.{leaving_batch, spans_batch}
 use Rattle.cb_evict.proofs.Options.{none_some, some_none, some_same}
 use Rattle.cb_evict.proofs.SmallWorlds.{busy, calm, desk, first_object, is_word, lone, moving, one_long, one_node, one_page, only_object, pair, pinned, row, row_words, settings, span_with, two_nodes, zero_row}
+
+-- a begin makes the parities
+abbrev pub IsBegunTo : Words → Words → FarState → FarState → List ℕ → Type 0
+IsBegunTo x y far new frames = BegunTo x y far new true frames
+
+abbrev pub IsBatchMade : Words → Words → FarState → FarState → Reply → Type 0
+IsBatchMade x y far new r = BatchMade x y far new true (λ rows. Unit {0}) r
+
+abbrev pub HasBegun : FarState → FarState → List ℕ → List Event → Type 0
+HasBegun far new frames es = Begun far new true frames es
+
+abbrev HasBatch : FarState → FarState → Reply → List ℕ → List Event → Type 0
+HasBatch far new r loose es = Batch far new true (λ rows. Unit {0}) r loose es
+
+abbrev HasLooked : FarState → FarState → Reply → List Event → Type 0
+HasLooked far new r es = Looks far new true (λ rows. Unit {0}) r es
 
 -- ---- words of objects that are claimed
 -- the first object is here, the other one pinned; all memory words are 0
@@ -108,7 +124,7 @@ former = record { handle = 0; word = calm }
 
 -- the far state where the first span is leaving, with these words and these parities
 abbrev leaving_with : List Former → List (List ℕ) → FarState
-leaving_with words parities = with_batch pair 1 (0 ∷ []) words parities
+leaving_with words parities = with_batch pair 1 (0 ∷ []) words true parities
 
 -- its frame has zeros, and so has its parity
 word_is : IsSpanWord 1 1 1 (frame_rows start 1 (0 ∷ []) ++ row ∷ [])
@@ -133,7 +149,8 @@ begun = record {
   noted = All-cons (λ (f : Former). f.word ≡ word_at start f.handle) former [] refl
       (All-nil (λ (f : Former). f.word ≡ word_at start f.handle));
   count = refl;
-  word = word_is;
+  word = λ same. word_is;
+  bare = λ other. absurd (false≢true (sym other));
   state = refl;
   held = held;
 }
@@ -143,8 +160,8 @@ same_batch : (words : List Former) (parities : List (List ℕ)) (y : Words)
     → (a : IsBegunTo start y pair (leaving_with words parities) (0 ∷ []))
     → (words ≡ a.words) × (parities ≡ a.parities) × (1 ≡ a.pages)
 same_batch words parities y a =
-    let e = some_same (new_batch pair 1 (0 ∷ []) words parities)
-    (new_batch pair a.pages (0 ∷ []) a.words a.parities) (ap (λ (f : FarState). f.leaving) a.state) in (
+    let e = some_same (new_batch pair 1 (0 ∷ []) words true parities)
+    (new_batch pair a.pages (0 ∷ []) a.words true a.parities) (ap (λ (f : FarState). f.leaving) a.state) in (
       ap (λ (b : LeavingState). b.words) e,
       ap (λ (b : LeavingState). b.parities) e,
       ap (λ (b : LeavingState). b.pages) e,
@@ -166,11 +183,11 @@ noted_at h = record { handle = h; word = calm }
 
 -- the object of a later slot is not noted first
 not_the_other_way : (x y : Words)
-    → IsBegunTo x y two (with_batch two 1 (0 ∷ []) (noted_at 1 ∷ noted_at 3 ∷ []) (row ∷ []))
+    → IsBegunTo x y two (with_batch two 1 (0 ∷ []) (noted_at 1 ∷ noted_at 3 ∷ []) true (row ∷ []))
     (0 ∷ []) → ⊥
 not_the_other_way x y a =
-    let e = some_same (new_batch two 1 (0 ∷ []) (noted_at 1 ∷ noted_at 3 ∷ []) (row ∷ []))
-    (new_batch two a.pages (0 ∷ []) a.words a.parities) (ap (λ (f : FarState). f.leaving) a.state) in
+    let e = some_same (new_batch two 1 (0 ∷ []) (noted_at 1 ∷ noted_at 3 ∷ []) true (row ∷ []))
+    (new_batch two a.pages (0 ∷ []) a.words true a.parities) (ap (λ (f : FarState). f.leaving) a.state) in
     let first : 1 ≡ 3 = ap (λ (l : List ℕ). get_or l 0 0)
     (ap (λ (b : LeavingState). noted_of b.words) e ∙ a.order) in
     omega (arith, first)
@@ -210,17 +227,17 @@ not_empty : IsBegunTo start claimed pair (leaving_with (former ∷ []) ([] ∷ [
 not_empty a =
     let batch = same_batch (former ∷ []) ([] ∷ []) claimed a in
     let word = subst (λ (l : List (List ℕ)).
-    IsSpanWord a.pages 1 1 (frame_rows start a.pages (0 ∷ []) ++ l)) (sym batch.1) a.word in
+    IsSpanWord a.pages 1 1 (frame_rows start a.pages (0 ∷ []) ++ l)) (sym batch.1) (a.word refl) in
     let same = word.is_word.equal_lengths 1 [] (lit< tt) in
     let e : 0 ≡ 4096 * a.pages = same ∙ word.wide in let one = batch.2 in
     absurd (omega (arith, e, one))
 
 -- a span of one page is no part of a batch of spans of two
 not_of_two_pages : IsBegunTo start claimed pair
-    (with_batch pair 2 (0 ∷ []) (former ∷ []) (row ∷ [])) (0 ∷ []) → ⊥
+    (with_batch pair 2 (0 ∷ []) (former ∷ []) true (row ∷ [])) (0 ∷ []) → ⊥
 not_of_two_pages a =
-    let e = some_same (new_batch pair 2 (0 ∷ []) (former ∷ []) (row ∷ []))
-    (new_batch pair a.pages (0 ∷ []) a.words a.parities) (ap (λ (f : FarState). f.leaving) a.state) in
+    let e = some_same (new_batch pair 2 (0 ∷ []) (former ∷ []) true (row ∷ []))
+    (new_batch pair a.pages (0 ∷ []) a.words true a.parities) (ap (λ (f : FarState). f.leaving) a.state) in
     let two : 2 ≡ a.pages = ap (λ (b : LeavingState). b.pages) e in
     let long : pages_of (record { index = 0 }) ≡ a.pages = a.long 0 0 (lit< tt) in
     let one = one_page in absurd (omega (arith, two, long, one))
@@ -253,6 +270,7 @@ batch_made = record {
   room = omega (arith, two_nodes);
   reply = refl;
   begun = begun;
+  given = tt;
 }
 
 step : IsBeginStep start claimed pair (leaving_with (former ∷ []) (row ∷ []))
@@ -264,7 +282,7 @@ abbrev pub second : FarState
 second = leaving_with (former ∷ []) (row ∷ [])
 
 waits : IsBeginStep claimed claimed second second (answer.Leaving (record { n = 0 }))
-waits = is_leaving (new_batch pair 1 (0 ∷ []) (former ∷ []) (row ∷ [])) refl refl refl refl
+waits = is_leaving (new_batch pair 1 (0 ∷ []) (former ∷ []) true (row ∷ [])) refl refl refl refl
 
 not_yet : (y : Words) (new : FarState) → IsBatchMade claimed y second new
     (answer.Batch (record { n = 1 })) → ⊥
@@ -299,7 +317,7 @@ not_another_number y new a =
 -- nothing is looked at where a batch is leaving
 told : IsLeavingAlready second second (answer.Leaving (record { n = 0 })) []
 told = record {
-  batch = new_batch pair 1 (0 ∷ []) (former ∷ []) (row ∷ []);
+  batch = new_batch pair 1 (0 ∷ []) (former ∷ []) true (row ∷ []);
   there = refl;
   reply = refl;
   state = refl;
@@ -318,7 +336,7 @@ leaving_is a b e = cc
 
 not_other_set : IsLeavingAlready second second (answer.Leaving (record { n = 3 })) [] → ⊥
 not_other_set a =
-    let b = some_same (new_batch pair 1 (0 ∷ []) (former ∷ []) (row ∷ [])) a.batch a.there in
+    let b = some_same (new_batch pair 1 (0 ∷ []) (former ∷ []) true (row ∷ [])) a.batch a.there in
     let e : 3 ≡ 0 = ap (λ (id : SetId). id.n) (leaving_is _ _ a.reply)
     ∙ sym (ap (λ (x : LeavingState). x.set) b) in absurd (omega (arith, e))
 
@@ -429,15 +447,16 @@ has_begun = record {
       (inr ((refl, refl), tt)) (All-nil (λ (f : Former). IsFound f.handle f.word claim_zeros));
   contents = in_rows;
   counts = (refl, refl);
-  word = is_word;
+  word = λ same. is_word;
+  bare = λ other. absurd (false≢true (sym other));
   state = refl;
 }
 
 -- a word that no claim found is not noted
 not_without_claim : HasBegun pair second (0 ∷ []) [] → ⊥
 not_without_claim a =
-    let batch = some_same (new_batch pair 1 (0 ∷ []) (former ∷ []) (row ∷ []))
-    (new_batch pair a.pages (0 ∷ []) a.words a.parities) (ap (λ (f : FarState). f.leaving) a.state) in
+    let batch = some_same (new_batch pair 1 (0 ∷ []) (former ∷ []) true (row ∷ []))
+    (new_batch pair a.pages (0 ∷ []) a.words true a.parities) (ap (λ (f : FarState). f.leaving) a.state) in
     let found = subst (λ (l : List Former). All (λ (f : Former). IsFound f.handle f.word []) l)
     (sym (ap (λ (b : LeavingState). b.words) batch)) a.found in
     found 0 former (lit< tt)
@@ -583,6 +602,7 @@ has_batch = record {
   room = omega (arith, two_nodes);
   reply = refl;
   begun = has_begun;
+  given = tt;
 }
 
 not_of_none : (new : FarState) (r : Reply) (es : List Event) → HasBatch pair new r [] es → ⊥

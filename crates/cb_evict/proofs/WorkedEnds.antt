@@ -257,6 +257,7 @@ batch shards = record {
   pages = 1;
   frames = 0 ∷ [];
   words = noted;
+  made = true;
   parities = [] ∷ [];
   shards = shards;
 }

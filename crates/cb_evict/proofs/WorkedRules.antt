@@ -11,6 +11,7 @@ use Rattle.cb_member.specs.Membership.{with_crash}
 use Rattle.cb_ptr.specs.Word.{len_of}
 use Rattle.cb_set.specs.SetState.{SetState}
 use Rattle.cb_span.specs.declared.temp.Temp.TheVariants.{Cold}
+use Rattle.cb_types.specs.declared.reply.Reply.{Reply}
 use Rattle.cb_types.specs.declared.reply.Reply.TheVariants as answer
 use Rattle.cb_world.specs.declared.entry.Entry.{Entry}
 use Rattle.cb_world.specs.declared.event.Event.{Event}
@@ -33,7 +34,7 @@ use Rattle.cb_world.specs.SetWord.{IsSpanWord}
 use Rattle.cb_world.specs.Shown.{object_at, hot_at}
 use Rattle.cb_evict.specs.Lengths.{batch_pages, most_loose}
 use Rattle.cb_evict.specs.AbortRule.{AbortRule, IsAborted, IsOfBatch}
-use Rattle.cb_evict.specs.BeginRule.{HasBegun, HasLooked, new_batch}
+use Rattle.cb_evict.specs.BeginRule.{HasBegun, HasLooked as Looks, new_batch}
 use Rattle.cb_evict.specs.Claiming.{IsOne}
 use Rattle.cb_evict.specs.Closing.{with_homes}
 use Rattle.cb_evict.specs.CommitRule.{CommitRule, IsBatchCommitted, with_committed}
@@ -47,6 +48,10 @@ use Rattle.cb_evict.proofs.WorkedBegin.{former, second}
 use Rattle.cb_evict.proofs.WorkedEnds.{are_restored, batch, both_put, claimed, hot, is_committed, is_given_up, leaving, none_of_one, noted, one_put, restored}
 use Rattle.cb_evict.proofs.Options.{none_some, some_same}
 use Rattle.cb_evict.proofs.SmallWorlds.{away, calm, far_with, first_object, heads, homes, is_word, one_page, only_first, only_object, only_second, pair, pinned, row, row_words, span_with}
+
+-- a begin makes the parities
+abbrev HasLooked : FarState → FarState → Reply → List Event → Type 0
+HasLooked far new r es = Looks far new true (λ rows. Unit {0}) r es
 
 -- ---- objects of the batch alone are settled by a commit and by an abort
 of_batch : (shards : List (Option Shard)) → IsOfBatch (leaving shards) 0
@@ -192,6 +197,7 @@ hot_leaves = far_with pair.spans
       pages = 1;
       frames = 1 ∷ [];
       words = [];
+      made = true;
       parities = [];
       shards = [];
     })) 2
@@ -332,16 +338,16 @@ not_sevens x = let e = heads 7 0 (told x.words x.version x.told ∙ x.contents
     found w (inr is) = is.0.1
 
 -- rows of zeros, where the claim told another word
-begins_with_other_words : ¬ (HasBegun pair second (0 ∷ []) claim_sevens)
+begins_with_other_words : ¬ (HasBegun pair second true (0 ∷ []) claim_sevens)
 begins_with_other_words a =
-    let b = some_same (new_batch pair 1 (0 ∷ []) (former ∷ []) (row ∷ []))
-    (new_batch pair a.pages (0 ∷ []) a.words a.parities)
+    let b = some_same (new_batch pair 1 (0 ∷ []) (former ∷ []) true (row ∷ []))
+    (new_batch pair a.pages (0 ∷ []) a.words true a.parities)
     (ap (λ (f : FarState). f.leaving) a.state) in
     let parities : row ∷ [] ≡ a.parities = ap (λ (x : LeavingState). x.parities) b in
     let pages : 1 ≡ a.pages = ap (λ (x : LeavingState). x.pages) b in
     let word : IsSpanWord 1 1 1 (row_at a.rows 0 ∷ row ∷ []) =
     subst (λ (n : ℕ). IsSpanWord n 1 1 (row_at a.rows 0 ∷ row ∷ [])) (sym pages)
     (subst (λ (l : List (List ℕ)). IsSpanWord a.pages 1 1 (l ++ row ∷ [])) (one_of a.rows a.counts.0)
-    (subst (λ (l : List (List ℕ)). IsSpanWord a.pages 1 1 (a.rows ++ l)) (sym parities) a.word)) in
+    (subst (λ (l : List (List ℕ)). IsSpanWord a.pages 1 1 (a.rows ++ l)) (sym parities) (a.word refl))) in
     not_sevens (subst (λ (r : List ℕ). IsInRow claim_sevens (span_with Cold 0) r 1 0)
     (zeros_alone (row_at a.rows 0) word) (a.contents 0 0 1 0 (span_with Cold 0) refl refl refl))

@@ -1,6 +1,6 @@
 -- Worked examples of a ship: values that meet a definition, and for each of its parts one that
 -- breaks that part alone.
-use Rattle.std.proofs.Common.{◌≡◌, ℕ, zero, suc, ◌+◌, ◌*◌, ◌<◌, ◌≤◌, true, false, List, [], ◌∷◌, Option, None, Some, get_or, nat_lt, refl, sym, ap, ◌∙◌, subst, lit<, lit≤, arith, inl, inr}
+use Rattle.std.proofs.Common.{◌≡◌, ℕ, zero, suc, ◌+◌, ◌*◌, ◌<◌, ◌≤◌, true, false, List, [], ◌∷◌, ◌++◌, Option, None, Some, get_or, nat_lt, refl, sym, ap, ◌∙◌, subst, lit<, lit≤, arith, inl, inr}
 use Rattle.std.specs.FinMap as map
 use Rattle.std.proofs.lemmas.Bool.{false≢true}
 use Rattle.cb_class.specs.Class.{pages_of}
@@ -17,11 +17,12 @@ use Rattle.cb_world.specs.FarState.{FarState, pages_at}
 use Rattle.cb_world.specs.Leaving.{LeavingState}
 use Rattle.cb_world.specs.Plain.{Words}
 use Rattle.cb_world.specs.Survey.{no_survey}
-use Rattle.cb_evict.specs.ShipRule.{HasAllShipped, HasNoNode, HasShipped, IsShardFor, ReadsLeaving, ShipsRow, other_puts, with_shipped}
+use Rattle.cb_evict.specs.ShipRule.{HasAllShipped, HasNoNode, HasShipped, IsShardFor, MadeFor, ReadsLeaving, made_before, ShipsRow, other_puts, with_shipped}
 use Rattle.cb_evict.specs.ShipStep.{IsShipStep}
 use Rattle.cb_evict.specs.Shipping.{Waits}
 use Rattle.cb_evict.specs.Waiting.{is_waiting, waits_at, waiting, least_waiting, PutAtMembers}
 use Rattle.cb_evict.proofs.Options.{none_some, some_none, some_same}
+use Rattle.cb_evict.proofs.ShipFixed.{ready_fixed}
 use Rattle.cb_evict.proofs.SmallWorlds.{one_page, span_with}
 
 abbrev at : ℕ → ℕ → Shard
@@ -86,6 +87,7 @@ batch shards = record {
   pages = 1;
   frames = 2 ∷ [];
   words = [];
+  made = true;
   parities = (7 ∷ []) ∷ (9 ∷ []) ∷ [];
   shards = shards;
 }
@@ -157,8 +159,9 @@ not_old_key a = let e : 4 ≡ 5 = a.key in absurd (omega (arith, e))
 abbrev after : FarState
 after = with_shipped leaving (batch some_wait) 1 shard (7 ∷ [])
 
-abbrev rows : LeavingState → ℕ → List ℕ
-rows b p = get_or ([] ∷ (7 ∷ []) ∷ (9 ∷ []) ∷ []) p []
+-- one data row
+abbrev rows : LeavingState → List (List ℕ)
+rows b = [] ∷ []
 
 is_shipped : HasShipped leaving after (answer.Shipped 1) rows
 is_shipped = record {
@@ -169,6 +172,9 @@ is_shipped = record {
   least = refl;
   named = shard_for;
   reply = refl;
+  count = refl;
+  ready = batch some_wait;
+  made = made_before refl refl;
   state = refl;
 }
 
@@ -179,7 +185,7 @@ ships = inr (inr (inr is_shipped))
 shipped_same : (p q : ℕ) → answer.Shipped p ≡ answer.Shipped q → p ≡ q
 shipped_same p q e = cc
 
-only : (new : FarState) (p : ℕ) (row : LeavingState → ℕ → List ℕ)
+only : (new : FarState) (p : ℕ) (row : LeavingState → List (List ℕ))
     → ShipsRow leaving new (answer.Shipped p) row → HasShipped leaving new (answer.Shipped p) row
 only new p row (inl x) = absurd (some_none (batch some_wait) x.none)
 only new p row (inr (inl x)) = absurd (let e : answer.Shipped p ≡ answer.AllShipped = x.reply in cc)
@@ -187,11 +193,11 @@ only new p row (inr (inr (inl x))) = absurd (let e : answer.Shipped p ≡ answer
 only new p row (inr (inr (inr x))) = x
 
 -- it is the batch that is leaving, and its least position that waits
-is_batch : (new : FarState) (r : Reply) (row : LeavingState → ℕ → List ℕ)
+is_batch : (new : FarState) (r : Reply) (row : LeavingState → List (List ℕ))
     (x : HasShipped leaving new r row) → batch some_wait ≡ x.batch
 is_batch new r row x = some_same (batch some_wait) x.batch x.there
 
-is_least : (new : FarState) (r : Reply) (row : LeavingState → ℕ → List ℕ)
+is_least : (new : FarState) (r : Reply) (row : LeavingState → List (List ℕ))
     (x : HasShipped leaving new r row) → 1 ≡ x.position
 is_least new r row x = some_same 1 x.position
     (ap (λ (b : LeavingState). least_waiting members b.shards) (is_batch new r row x) ∙ x.least)
@@ -210,12 +216,20 @@ abbrev second : Option LeavingState → Option Shard
 second None = None
 second (Some b) = get_or b.shards 1 None
 
+-- from the batch as it was, whose parities are made
+is_ready : (new : FarState) (x : HasShipped leaving new (answer.Shipped 1) rows)
+    → x.ready ≡ batch some_wait
+is_ready new x =
+    ready_fixed (batch some_wait) (rows (batch some_wait)) x.position x.ready (batch some_wait) refl
+    (subst (λ (b : LeavingState). MadeFor b (rows b) x.position x.ready)
+    (sym (is_batch new (answer.Shipped 1) rows x)) x.made) (made_before refl refl)
+
 is_second : (new : FarState) (x : HasShipped leaving new (answer.Shipped 1) rows)
     → second new.leaving ≡ Some x.shard
 is_second new x =
     ap (λ (f : FarState). second f.leaving) x.state
     ∙ ap (λ (c : LeavingState). second (with_shipped leaving c x.position x.shard []).leaving)
-    (sym (is_batch new (answer.Shipped 1) rows x))
+    (is_ready new x)
     ∙ ap (λ (q : ℕ). second (with_shipped leaving (batch some_wait) q x.shard []).leaving)
     (sym (is_least new (answer.Shipped 1) rows x))
 
@@ -243,8 +257,10 @@ other_row s =
     let e : Some (9 ∷ []) ≡ Some (7 ∷ []) =
     sym (row_is_put nodes (numbered 2) 5 (9 ∷ []) (lit< tt))
     ∙ ap (λ (f : FarState). row_under f.nodes (numbered 2) 5) x.state
-    ∙ ap (λ (b : Shard). put_at b (rows x.batch x.position)) (sym a)
-    ∙ ap (λ (q : ℕ). put_at shard (rows x.batch q)) (sym p)
+    ∙ ap (λ (b : Shard). put_at b (get_or (([] ∷ []) ++ x.ready.parities) x.position [])) (sym a)
+    ∙ ap (λ (c : LeavingState). put_at shard (get_or (([] ∷ []) ++ c.parities) x.position []))
+    (is_ready wrong x)
+    ∙ ap (λ (q : ℕ). put_at shard (get_or ([] ∷ (7 ∷ []) ∷ (9 ∷ []) ∷ []) q [])) (sym p)
     ∙ row_is_put nodes (numbered 2) 5 (7 ∷ []) (lit< tt) in
     let k : 9 ≡ 7 = ap (λ (o : Option (List ℕ)). first_or o) e in absurd (omega (arith, k))
   where
@@ -356,6 +372,9 @@ step = record {
     least = refl;
     named = shard_for;
     reply = refl;
+    count = refl;
+    ready = batch some_wait;
+    made = made_before refl refl;
     state = refl;
   })));
 }

@@ -1,6 +1,6 @@
 -- The front of an eviction and of a begin: of two spans the second is held up by a pin, and the
 -- first is claimed.
-use Rattle.std.proofs.Common.{◌≡◌, ◌⊎◌, ℕ, ◌<◌, ◌≤◌, true, false, zero, suc, List, [], ◌∷◌, length, None, refl, sym, ap, ◌∙◌, subst, lit<, lit≤, arith, inl, inr}
+use Rattle.std.proofs.Common.{◌≡◌, ◌⊎◌, ℕ, ◌<◌, ◌≤◌, Bool, true, false, zero, suc, List, [], ◌∷◌, length, None, refl, sym, ap, ◌∙◌, subst, lit<, lit≤, arith, inl, inr}
 use Rattle.std.specs.FinMap as map
 use Rattle.std.proofs.lemmas.Bool.{false≢true}
 use Rattle.cb_class.specs.Class.{pages_of}
@@ -14,6 +14,7 @@ use Rattle.cb_world.specs.declared.object.Object.TheVariants as is
 use Rattle.cb_world.specs.declared.shown.Shown.{Shown}
 use Rattle.cb_world.specs.FarState.{FarState}
 use Rattle.cb_world.specs.Grasped.{IsFree}
+use Rattle.cb_world.specs.Leaving.{ParitiesState, made_of}
 use Rattle.cb_world.specs.LocalSound.{LocalSound}
 use Rattle.cb_world.specs.Looks.{IsFound, LooksFirst, NoLook}
 use Rattle.cb_world.specs.Played.{played}
@@ -378,14 +379,23 @@ not_two_rows : (runs : List Event → Type 0) (shows : Shown → Type 0) (new : 
 not_two_rows runs shows new a two = let e = a.count in omega (arith, e, two)
 
 -- the set is kept that the spans will be
-not_unkept : (runs : List Event → Type 0) (shows : Shown → Type 0) (parities : List (List ℕ))
-    → ReservesFrames runs shows pair pair 1 (0 ∷ []) parities → ⊥
-not_unkept runs shows parities a =
+not_unkept : (runs : List Event → Type 0) (shows : Shown → Type 0) (made : Bool)
+    (rows : List (List ℕ)) (p : ParitiesState)
+    → ReservesFrames runs shows pair pair 1 (0 ∷ []) made rows p → ⊥
+not_unkept runs shows made rows p a =
     let none : map.get pair.sets 0 ≡ None = grind (arith, map.gets) in
     none_some _ (sym none ∙ ap (λ (far : FarState). map.get far.sets 0) a.state
     ∙ reserved_kept pair.sets 0 _)
 
 -- with as many parities as the code has
 not_unparted : (runs : List Event → Type 0) (shows : Shown → Type 0) (new : FarState)
-    → ReservesFrames runs shows pair new 1 (0 ∷ []) [] → ⊥
-not_unparted runs shows new a = let e : 1 ≡ 2 = a.made.count in omega (arith, e)
+    (made : Bool) (rows : List (List ℕ))
+    → ReservesFrames runs shows pair new 1 (0 ∷ []) made rows (made_of []) → ⊥
+not_unparted runs shows new made rows a =
+    let e : 0 ≡ 1 = a.ready.count in omega (arith, e)
+
+-- made, or not
+not_unmade : (runs : List Event → Type 0) (shows : Shown → Type 0) (new : FarState)
+    (rows parities : List (List ℕ))
+    → ReservesFrames runs shows pair new 1 (0 ∷ []) false rows (made_of parities) → ⊥
+not_unmade runs shows new rows parities a = false≢true (sym a.ready.mark)

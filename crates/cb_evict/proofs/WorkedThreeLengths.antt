@@ -1,6 +1,7 @@
 -- A worked example of a batch in a world with loose spans of three lengths: the two of four pages
 -- leave, the cold one before the hot one; and what is no batch there.
-use Rattle.std.proofs.Common.{◌≡◌, ◌⊎◌, ℕ, zero, suc, ◌+◌, ◌*◌, ◌^◌, ◌<◌, false, List, [], ◌∷◌, length, All, get_or, Option, None, Some, replicate, take, refl, sym, ap, ◌∙◌, subst, lit<, arith, inl, inr}
+use Rattle.std.proofs.lemmas.Bool.{false≢true}
+use Rattle.std.proofs.Common.{◌≡◌, ◌⊎◌, ℕ, zero, suc, ◌+◌, ◌*◌, ◌^◌, ◌<◌, true, false, List, [], ◌∷◌, length, All, get_or, Option, None, Some, replicate, take, refl, sym, ap, ◌∙◌, subst, lit<, arith, inl, inr}
 use Rattle.std.specs.FinMap as map
 use Rattle.std.proofs.lemmas.List.{get_or-replicate, length-replicate}
 use Rattle.std.proofs.lemmas.List.Elements.{All-cons, All-nil, All-replicate}
@@ -29,7 +30,7 @@ use Rattle.cb_world.specs.SetWord.{IsSpanWord}
 use Rattle.cb_world.specs.Survey.{no_survey}
 use Rattle.cb_world.specs.World.{word_at}
 use Rattle.cb_evict.specs.BeginRule.{new_batch, with_batch}
-use Rattle.cb_evict.specs.BeginStep.{AreSpansClaimed, IsBatchMade, IsBegunTo, IsBeginStep, begins}
+use Rattle.cb_evict.specs.BeginStep.{AreSpansClaimed, IsBatchMade as BatchMade, IsBegunTo, IsBeginStep, begins}
 use Rattle.cb_evict.specs.Claiming.{AreOf, IsOne}
 use Rattle.cb_evict.specs.EvictRule.{HasFewNodes, HasFewSpans}
 use Rattle.cb_evict.specs.EvictStep.{loose_frames}
@@ -37,6 +38,10 @@ use Rattle.cb_evict.specs.Lengths.{batch_pages, loose_of, most_loose}
 use Rattle.cb_evict.specs.Loading.{AreOfLength}
 use Rattle.cb_evict.specs.Looking.{IsIn}
 use Rattle.cb_evict.proofs.Options.{none_some, some_same}
+
+-- a begin makes the parities
+abbrev IsBatchMade : Words → Words → FarState → FarState → Reply → Type 0
+IsBatchMade x y far new r = BatchMade x y far new true (λ rows. Unit {0}) r
 
 -- ---- seven spans, each with one object in its first slot
 -- slots of 1,024, of 1,536 and of 4,096 bytes, in spans of 1, 2 and 4 pages
@@ -292,9 +297,9 @@ held = record {
     other (suc (suc (suc (suc h)))) out = refl
 
 abbrev begun_with : ℕ → List ℕ → FarState
-begun_with pages of = with_batch far pages of formers (wide_row ∷ [])
+begun_with pages of = with_batch far pages of formers true (wide_row ∷ [])
 
-begun : IsBegunTo start claimed far (begun_with 4 frames) frames
+begun : IsBegunTo start claimed far (begun_with 4 frames) true frames
 begun = record {
   pages = 4;
   long = are_four;
@@ -307,10 +312,11 @@ begun = record {
       (All-cons (λ (f : Former). f.word ≡ word_at start f.handle) hot [] refl
       (All-nil (λ (f : Former). f.word ≡ word_at start f.handle)));
   count = refl;
-  word = subst (λ (r : List ℕ). IsSpanWord 4 2 1 (r ∷ row_of (window [] 512 2048) ∷ wide_row ∷ []))
+  word = λ same. subst (λ (r : List ℕ). IsSpanWord 4 2 1 (r ∷ row_of (window [] 512 2048) ∷ wide_row ∷ []))
       (sym cold_zeros)
       (subst (λ (r : List ℕ). IsSpanWord 4 2 1 (wide_row ∷ r ∷ wide_row ∷ [])) (sym hot_zeros)
       is_word);
+  bare = λ other. absurd (false≢true (sym other));
   state = refl;
   held = held;
 }
@@ -333,7 +339,8 @@ step = begins (record {
   longest = two_enough;
   room = omega (arith, three_nodes);
   reply = refl;
-  begun = subst (IsBegunTo start claimed far (begun_with 4 frames)) (sym longest_ones) begun;
+  begun = subst (IsBegunTo start claimed far (begun_with 4 frames) true) (sym longest_ones) begun;
+  given = tt;
 })
 
 -- ---- no other batch
@@ -347,9 +354,9 @@ module _ (pages : ℕ) (of : List ℕ) (y : Words) (r : Reply)
   chosen_are = ap (λ (n : ℕ). take 2 (loose_of spans n (loose_frames start far))) (sym longest_is)
       ∙ longest_ones
 
-  same_batch : new_batch far pages of formers (wide_row ∷ [])
+  same_batch : new_batch far pages of formers true (wide_row ∷ [])
       ≡ new_batch far a.begun.pages (take 2 (loose_of spans a.pages (loose_frames start far)))
-      a.begun.words a.begun.parities
+      a.begun.words true a.begun.parities
   same_batch = some_same _ _ (ap (λ (f : FarState). f.leaving) a.begun.state)
 
   frames_are : of ≡ frames

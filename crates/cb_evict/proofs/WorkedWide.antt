@@ -1,5 +1,6 @@
 -- A worked example of a begin that leads from a world where all is known to one where nothing is: a
 -- word of the object that leaves has 65 bits.
+use Rattle.std.proofs.lemmas.Bool.{false≢true}
 use Rattle.std.proofs.Common.{◌≡◌, ◌↔◌, ℕ, zero, suc, ◌+◌, ◌^◌, ◌<◌, ◌≤◌, Bool, true, false, List, [], ◌∷◌, get_or, All, None, Some, replicate, refl, sym, ap, ◌∙◌, subst, lit<, lit≤, arith, inl}
 use Rattle.std.specs.FinMap as map
 use Rattle.std.proofs.lemmas.Bool.{agree_below_at, ltb-true}
@@ -335,7 +336,7 @@ abbrev former : Former
 former = record { handle = 0; word = calm }
 
 abbrev pub after : FarState
-after = with_batch far 1 (0 ∷ []) (former ∷ []) (row ∷ [])
+after = with_batch far 1 (0 ∷ []) (former ∷ []) true (row ∷ [])
 
 -- the frame's bytes are zeros
 zeros : row_of (window memory 0 512) ≡ row_of (window [] 0 512)
@@ -373,7 +374,7 @@ held = record {
     other zero out = absurd (out first_object)
     other (suc h) out = refl
 
-begun : IsBegunTo (desk calm) (desk (calm + 1)) far after (0 ∷ [])
+begun : IsBegunTo (desk calm) (desk (calm + 1)) far after true (0 ∷ [])
 begun = record {
   pages = 1;
   long = All-cons (λ (f : ℕ). pages_at far.spans f ≡ 1) 0 [] one_frame
@@ -390,7 +391,9 @@ begun = record {
   noted = All-cons (λ (f : Former). f.word ≡ word_at (desk calm) f.handle) former [] refl
       (All-nil (λ (f : Former). f.word ≡ word_at (desk calm) f.handle));
   count = refl;
-  word = subst (λ (r : List ℕ). IsSpanWord 1 1 1 (r ∷ row ∷ [])) (sym (zeros ∙ zero_row)) is_word;
+  word = λ same. subst (λ (r : List ℕ). IsSpanWord 1 1 1 (r ∷ row ∷ [])) (sym (zeros ∙ zero_row))
+      is_word;
+  bare = λ other. absurd (false≢true (sym other));
   state = refl;
   held = held;
 }
@@ -407,6 +410,7 @@ step = begins (record {
   room = omega (arith, two_nodes);
   reply = refl;
   begun = begun;
+  given = tt;
 })
 
 -- ---- nothing is known after it: a noted object has words of 64 bits
@@ -417,7 +421,7 @@ first_word ws e small = let l = subst (λ (l : List ℕ). All (λ w. w < 2 ^ 64)
 
 pub none_known : (t : Shown) → IsKnown (desk (calm + 1)) after t → ⊥
 none_known t k =
-    let noted = (k.sound.noted (new_batch far 1 (0 ∷ []) (former ∷ []) (row ∷ []))
+    let noted = (k.sound.noted (new_batch far 1 (0 ∷ []) (former ∷ []) true (row ∷ []))
     refl).each 0 0 0 span (0, lit< tt, refl) refl refl in
     let leaves = k.sound.claimed 0 (len_of noted.former.word) (place_of noted.former.word)
     noted.version noted.words noted.claimed in
