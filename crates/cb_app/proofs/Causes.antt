@@ -90,10 +90,10 @@ for_more v w all j (inr is) = inr (on_more v w all j is)
 -- ---- one turn of a closed record all of whose turns are for objects
 -- a job that makes an object, or is on one, hands no order out and takes none
 for_alone : (v : View) (j : Job) → IsForObject v j → NeedsNoOrder j
-for_alone v job.Gather is = elim is [ | inl x ↦ absurd x | inr x ↦ absurd x ]
-for_alone v job.Install is = elim is [ | inl x ↦ absurd x | inr x ↦ absurd x ]
-for_alone v (job.Fetch handle) is = elim is [ | inl x ↦ absurd x | inr x ↦ absurd x ]
-for_alone v job.Land is = elim is [ | inl x ↦ absurd x | inr x ↦ absurd x ]
+for_alone v job.Gather is = elim is [ inl x ↦ absurd x | inr x ↦ absurd x ]
+for_alone v job.Install is = elim is [ inl x ↦ absurd x | inr x ↦ absurd x ]
+for_alone v (job.Fetch handle) is = elim is [ inl x ↦ absurd x | inr x ↦ absurd x ]
+for_alone v job.Land is = elim is [ inl x ↦ absurd x | inr x ↦ absurd x ]
 for_alone v j is = tt
 
 module _ (c : Config) (ok : IsAccepted c) (v : View) (w : WorldState) (closed : IsClosed Did 1 c v w)
