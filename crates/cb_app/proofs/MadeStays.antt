@@ -449,10 +449,6 @@ module _ {D : Type 0} (run : D → List Event → D → Type 0) (shows : D → S
   ordered_none (job.Make bytes) order keeps a b r x = absurd x
   ordered_none j order keeps a b r x = refl
 
-  worn_none : (j : Job) → made_by j (Some answer.Worn) ≡ 0
-  worn_none (job.Make bytes) = refl
-  worn_none j = refl
-
   pub ordered_adds : (j : Job) (order keeps : Option Kept) (a b : Hold) (r : Reply)
       → TurnedWith run shows c j order a r keeps b → CountsMakes c j a.far b.far (Some r)
   ordered_adds j order keeps a b r (with_worn end e leaves stays ran) =
