@@ -20,8 +20,8 @@ some_same x y e = cc
 as_many : (s : Shown) (far new : FarState) (r : Reply) (o : EncodeOrder) → IsEncodeKept s far o
     → (z : HasInstalled far new r o) → length z.parities ≡ length z.batch.parities
 as_many s far new r o k z =
-    let all = sym (length-append o.rows z.parities) ∙ z.encoded.count in let data = k.fits.count in
-    let code = (k.code z.batch z.there z.same).1 in omega (arith, all, data, code)
+    let all = sym (length-append o.rows z.parities) ∙ z.encoded.count in let rows = k.fits.count in
+    let code = (k.code z.batch z.there z.same).1 in omega (arith, all, rows, code)
 
 installed_codes : (s : Shown) (far new : FarState) (r : Reply) (o : EncodeOrder)
     → IsEncodeKept s far o → HasInstalled far new r o → KeepCodes far new

@@ -33,6 +33,8 @@ pub mod OpenStores
 mod OrdersCounted
 mod OrdersLeave
 mod SetsStay
+mod WordsTold
+mod WordsOwned
 mod EvictLeaves
 mod InstallStays
 mod OrderTurns

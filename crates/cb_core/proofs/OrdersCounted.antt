@@ -5,18 +5,18 @@ use Rattle.cb_types.specs.declared.order.Kept.{Kept}
 use Rattle.cb_types.specs.declared.order.Kept.TheVariants.{Decode, Encode}
 use Rattle.cb_world.specs.declared.shown.Shown.{Shown}
 use Rattle.cb_world.specs.FarState.{FarState}
-use Rattle.cb_world.specs.Orders.{KeepsOrder}
+use Rattle.cb_world.specs.Orders.{IsOrderKept, KeepsOrder}
 use Rattle.cb_core.specs.Turned.{counted}
 
-still_kept : (s : Shown) (far : FarState) (job : Job) (order : Option Kept) → KeepsOrder s far order
-    → KeepsOrder s (counted far job) order
-still_kept s far job None k = tt
-still_kept s far job (Some (Encode o)) k =
+pub still_kept : (s : Shown) (far : FarState) (job : Job) (o : Kept) → IsOrderKept s far o
+    → IsOrderKept s (counted far job) o
+still_kept s far job (Encode o) k =
     record { fits = k.fits; drawn = k.drawn; code = k.code; rows = k.rows }
-still_kept s far job (Some (Decode o)) k =
+still_kept s far job (Decode o) k =
     record { fits = k.fits; drawn = k.drawn; apart = k.apart; code = k.code; rows = k.rows }
 
 pub counted_kept : (s : Shown) (far mid : FarState) (job : Job) (order : Option Kept)
     → mid ≡ counted far job → KeepsOrder s far order → KeepsOrder s mid order
-counted_kept s far mid job order is k =
-    subst (λ (f : FarState). KeepsOrder s f order) (sym is) (still_kept s far job order k)
+counted_kept s far mid job None is k = tt
+counted_kept s far mid job (Some o) is k =
+    subst (λ (f : FarState). IsOrderKept s f o) (sym is) (still_kept s far job o k)

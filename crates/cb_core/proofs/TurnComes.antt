@@ -8,7 +8,8 @@ use Rattle.cb_world.specs.declared.event.Event.{Event}
 use Rattle.cb_world.specs.declared.shown.Shown.{Shown}
 use Rattle.cb_world.specs.FarState.{FarState}
 use Rattle.cb_world.specs.Performs.{Performs}
-use Rattle.cb_world.specs.Played.{played}
+use Rattle.cb_world.specs.Orders.{IsOrderKept, LeavesWords}
+use Rattle.cb_world.specs.Played.{Agree, played}
 use Rattle.cb_world.specs.Sound.{Sound}
 use Rattle.cb_world.specs.World.{IsConfigured}
 use Rattle.cb_world.specs.Written.{Writes, written_by}
@@ -23,6 +24,7 @@ use Rattle.cb_core.specs.Parts.BringsIn.{not_far, was_far}
 use Rattle.cb_core.specs.Parts.RoomStops.{at_once as lacks_now, evicting, after as lacks_last}
 use Rattle.cb_core.specs.Parts.CallStops.{near as lacks_near, far as lacks_far, after as lacks_after}
 use Rattle.cb_core.specs.TurnLeaves.{SoundAfter}
+use Rattle.cb_core.proofs.WordsTold.{KeepsWords, far_orders, owned_orders}
 
 -- nothing was written
 abbrev pub WritesNothing : List Entry → Type 0
@@ -54,7 +56,7 @@ pub record ComesBy (N : FarState → FarState → Type 0) {D : Type 0} (run : D 
   pub configured : IsConfigured c b.far
   pub codes : KeepCodes a.far b.far
   pub rises : RisesBy N n a.far b.far
-  pub after : (s : Shown) → shows a.desk s → Sound s a.far → SoundAfter events s b.far W
+  pub after : (s : Shown) → shows a.desk s → Sound s a.far → SoundAfter events s a.far b.far W
 
 -- by a part that looks for no pair
 abbrev pub Comes : {D : Type 0} → (D → List Event → D → Type 0) → (D → Shown → Type 0) → Config → ℕ
@@ -68,6 +70,7 @@ pub record AreLaws {D : Type 0} (run : D → List Event → D → Type 0) (shows
   pub more : (d e f : D) (es fs : List Event) → run d es e → run e fs f → run d (es ++ fs) f
   pub follows : (d e : D) (es : List Event) (s : Shown) → run d es e → shows d s
       → shows e (played es s)
+  pub agrees : (d e : D) (es : List Event) (s : Shown) → run d es e → shows d s → Agree s es
 
 module _ {D : Type 0} (run : D → List Event → D → Type 0) (shows : D → Shown → Type 0)
     (laws : AreLaws run shows) (c : Config) where
@@ -87,10 +90,12 @@ module _ {D : Type 0} (run : D → List Event → D → Type 0) (shows : D → S
 
   -- ---- one part after another
   after_then : (V W X : List Entry → Type 0) → ((x y : List Entry) → V x → W y → X (y ++ x))
-      → (es fs : List Event) (s : Shown) (mid new : FarState) → SoundAfter es s mid V
-      → SoundAfter fs (played es s) new W → SoundAfter (es ++ fs) s new X
-  after_then V W X f es fs s mid new p q = record {
+      → (es fs : List Event) (s : Shown) (far mid new : FarState) → SoundAfter es s far mid V
+      → SoundAfter fs (played es s) mid new W → SoundAfter (es ++ fs) s far new X
+  after_then V W X f es fs s far mid new p q = record {
     sound = subst (λ (t : Shown). Sound t new) (sym (played_append es fs s)) q.sound;
+    orders = λ o kept. subst (λ (t : Shown). IsOrderKept t new o) (sym (played_append es fs s))
+        (q.orders o (p.orders o kept));
     more = q.more ++ p.more;
     wrote = f p.more q.more p.wrote q.wrote;
     writes_them = λ old. written_append es fs s old
@@ -108,7 +113,7 @@ module _ {D : Type 0} (run : D → List Event → D → Type 0) (shows : D → S
     codes = codes_then a.far b.far d.far p.codes q.codes;
     rises = rises_then n m k a.far b.far d.far most p.rises q.rises;
     after = λ s shown sound. let x = p.after s shown sound in
-        after_then V W X f p.events q.events s b.far d.far x
+        after_then V W X f p.events q.events s a.far b.far d.far x
         (q.after (played p.events s) (laws.follows a.desk b.desk p.events s p.ran shown) x.sound);
   }
 
@@ -123,6 +128,7 @@ module _ {D : Type 0} (run : D → List Event → D → Type 0) (shows : D → S
     rises = rises_more n k a.far b.far most p.rises;
     after = λ s shown sound. let x = p.after s shown sound in record {
       sound = x.sound;
+      orders = x.orders;
       more = x.more;
       wrote = f x.more x.wrote;
       writes_them = x.writes_them;
@@ -150,12 +156,13 @@ module _ {D : Type 0} (run : D → List Event → D → Type 0) (shows : D → S
   pub comes_by : (W : List Entry → Type 0) (n : ℕ) (a b : Hold) (rules : List Event → Type 0)
       (does : List Event → Shown → Shown → Type 0) → Good shows c a
       → ((s : Shown) → Sound s a.far → StaysIf c n a.far b.far)
+      → ((s : Shown) → Sound s a.far → LeavesWords a.far b.far)
       → (p : Performs (λ es. run a.desk es b.desk) (λ s. shows a.desk s × Sound s a.far) rules
-      (λ t. Sound t b.far) does)
+      (λ t. Sound t b.far) does) → KeepsWords a.far b.far p.events does
       → ((s : Shown) → does p.events s (played p.events s) → (more : List Entry) × W more
       × Writes p.events s more)
       → Comes run shows c n W a b
-  comes_by W n a b rules does good stays p wrote =
+  comes_by W n a b rules does good stays leaves p owned wrote =
       let k = good.shown in let z = stays k.0 k.2 good.configured in record {
         events = p.events;
         ran = p.ran;
@@ -164,6 +171,10 @@ module _ {D : Type 0} (run : D → List Event → D → Type 0) (shows : D → S
         rises = z.rises;
         after = λ s shown sound. let w = wrote s (p.effect s (shown, sound)) in record {
           sound = p.sound_after s (shown, sound);
+          orders = owned_orders s (played p.events s) a.far b.far sound
+              (p.sound_after s (shown, sound)) (leaves s sound) (owned s sound
+              (p.sound_after s (shown, sound)) (laws.agrees a.desk b.desk p.events s p.ran shown)
+              p.looks_first (p.effect s (shown, sound)));
           more = w.0;
           wrote = w.1;
           writes_them = w.2;
@@ -174,19 +185,21 @@ module _ {D : Type 0} (run : D → List Event → D → Type 0) (shows : D → S
   pub comes_none : (n : ℕ) (a b : Hold) (rules : List Event → Type 0)
       (does : List Event → Shown → Shown → Type 0) → Good shows c a
       → ((s : Shown) → Sound s a.far → StaysIf c n a.far b.far)
+      → ((s : Shown) → Sound s a.far → LeavesWords a.far b.far)
       → (p : Performs (λ es. run a.desk es b.desk) (λ s. shows a.desk s × Sound s a.far) rules
-      (λ t. Sound t b.far) does)
+      (λ t. Sound t b.far) does) → KeepsWords a.far b.far p.events does
       → ((s : Shown) → does p.events s (played p.events s) → Writes p.events s [])
       → Comes run shows c n WritesNothing a b
-  comes_none n a b rules does good stays p wrote =
-      comes_by WritesNothing n a b rules does good stays p (λ s e. ([], refl, wrote s e))
+  comes_none n a b rules does good stays leaves p owned wrote =
+      comes_by WritesNothing n a b rules does good stays leaves p owned (λ s e. ([], refl, wrote s e))
 
   -- nothing is done at the desk
   pub comes_far : {N : FarState → FarState → Type 0} (n : ℕ) (a b : Hold) → Good shows c a
       → run a.desk [] b.desk
       → ((s : Shown) → Sound s a.far → StaysIfBy N c n a.far b.far × Sound s b.far)
+      → ((s : Shown) → Sound s a.far → LeavesWords a.far b.far)
       → ComesBy N run shows c n WritesNothing a b
-  comes_far n a b good ran stays =
+  comes_far n a b good ran stays leaves =
       let k = good.shown in let z = (stays k.0 k.2).0 good.configured in record {
         events = [];
         ran = ran;
@@ -195,6 +208,7 @@ module _ {D : Type 0} (run : D → List Event → D → Type 0) (shows : D → S
         rises = z.rises;
         after = λ s shown sound. record {
           sound = (stays s sound).1;
+          orders = far_orders s a.far b.far sound (stays s sound).1 (leaves s sound);
           more = [];
           wrote = refl;
           writes_them = λ old. refl;

@@ -13,6 +13,8 @@ use Rattle.cb_types.specs.declared.reply.Reply.TheVariants as answer
 use Rattle.cb_world.specs.declared.entry.Entry.{Entry}
 use Rattle.cb_world.specs.declared.event.Event.{Event}
 use Rattle.cb_world.specs.declared.shown.Shown.{Shown}
+use Rattle.cb_world.specs.FarState.{FarState}
+use Rattle.cb_world.specs.Orders.{IsOrderKept}
 use Rattle.cb_world.specs.Played.{Agree, played}
 use Rattle.cb_world.specs.Sound.{Sound}
 use Rattle.cb_world.specs.World.{AreCounted, IsConfigured}
@@ -29,6 +31,7 @@ use Rattle.cb_core.proofs.Counting.{counted_sound, job_below}
 use Rattle.cb_core.proofs.FarJobs.{note_of}
 use Rattle.cb_core.proofs.KeptParts.{counted_rises}
 use Rattle.cb_core.proofs.Noted.{noted_after}
+use Rattle.cb_core.proofs.OrdersCounted.{still_kept}
 use Rattle.cb_core.proofs.TurnCarries.{come_lacks, comes_in, does_comes, in_job, reads, read_lacks, stops_comes}
 use Rattle.cb_core.proofs.TurnComes.{AreLaws, CarriesNoWrites, CarriesWrites, ComesBy, Good, Nil, WritesNothing}
 
@@ -43,6 +46,7 @@ laws_of run shows none more follows = record {
   none = none;
   more = more;
   follows = λ d e es s ran shown. (follows d e es s ran shown).1;
+  agrees = λ d e es s ran shown. (follows d e es s ran shown).0;
 }
 
 -- a turn that is refused writes nothing
@@ -78,7 +82,14 @@ module _ {D : Type 0} (run : D → List Event → D → Type 0) (shows : D → S
         refl (rises_more turn_rise (2 ^ 20) (counted a.far job) b.far (omega arith) z.rises)
         (noted_after job turn_rise a.far b.far counts z.rises);
     next = inl (few, z.rises.turns);
-    after = λ s shown sound. z.after s shown (counted_sound s a.far (counted a.far job) job refl sound);
+    after = λ s shown sound.
+        let x = z.after s shown (counted_sound s a.far (counted a.far job) job refl sound) in record {
+          sound = x.sound;
+          orders = λ o kept. x.orders o (still_kept s a.far job o kept);
+          more = x.more;
+          wrote = x.wrote;
+          writes_them = x.writes_them;
+        };
   }
 
   -- one that is refused
@@ -94,6 +105,7 @@ module _ {D : Type 0} (run : D → List Event → D → Type 0) (shows : D → S
     next = inr (end, same);
     after = λ s shown sound. record {
       sound = subst (Sound s) (sym same) sound;
+      orders = λ o kept. subst (λ (f : FarState). IsOrderKept s f o) (sym same) kept;
       more = [];
       wrote = subst (λ (q : Reply). TurnWrites job q []) (sym reply) (worn_none job);
       writes_them = λ old. refl;

@@ -58,7 +58,7 @@ pub reserved_kept : (sets : SetMap) (id : ℕ) (set : SetState)
 reserved_kept sets id set = map.get-insert nat_cmp_total sets id (kept_only set) id
     ∙ ap (λ (b : Bool). cond b (Some (kept_only set)) (map.get sets id)) (by_cmp-same id)
 
-reserved_others : (sets : SetMap) (id j : ℕ) (set : SetState) → j ≢ id
+pub reserved_others : (sets : SetMap) (id j : ℕ) (set : SetState) → j ≢ id
     → set_in (map.insert sets id (kept_only set)) j ≡ set_in sets j
 reserved_others sets id j set off =
     ap if_committed (map.get-insert nat_cmp_total sets id (kept_only set) j

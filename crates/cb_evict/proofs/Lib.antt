@@ -81,6 +81,8 @@ pub mod PutShards
 pub mod ShipSound
 pub mod InstallSound
 pub mod Installs
+pub mod InstallKeeps
+pub mod LeftWords
 pub mod ShipParts
 pub mod ShipStep
 pub mod ShipKeeps

@@ -113,7 +113,7 @@ module _ (s : Shown) (far : FarState) (batch : LeavingState) (p : ℕ) (shard : 
       place_was q a (subst (λ (c : LeavingState). slice_get c.shards q ≡ Some (Some a))
       (sym (some_same rest b there)) at)
 
-  puts : HasRowPut s far new (of_leaving p) shard row
+  pub puts : HasRowPut s far new (of_leaving p) shard row
   puts = record {
     up = up_on_least far (other_puts batch.shards p) shard x.named.node x.named.incarnation;
     fits = fits_on_least far (other_puts batch.shards p) shard.node x.named.node;

@@ -1,5 +1,5 @@
 -- The rule of an install: the parities of an order are those of its batch from here.
-use Rattle.std.specs.Prelude.{◌≡◌, ◌≢◌, ◌⊎◌, ℕ, ◌++◌, true, List, Option, None, Some}
+use Rattle.std.specs.Prelude.{◌≡◌, ◌≢◌, ◌⊎◌, ℕ, ◌++◌, true, List, Option, None, Some, length}
 use Rattle.std.specs.Borrow.{Bor}
 use Rattle.cb_gf256.specs.Rows.{HoldBytes}
 use Rattle.cb_orders.specs.Done.{EncodeDoneState, IsEncoded}
@@ -41,6 +41,7 @@ pub record HasInstalled (far new : FarState) (r : Reply) (o : EncodeOrder) : Typ
   pub same : batch.set ≡ o.set
   pub reply : r ≡ answer.Done
   pub parities : List (List ℕ)
+  pub count : length parities ≡ length batch.parities
   pub encoded : IsEncoded o parities
   pub bytes : HoldBytes (o.rows ++ parities)
   pub state : new ≡ with_made far batch parities

@@ -1,6 +1,6 @@
 -- What a fetch leaves: a sound world, in which some rows more were given out, and an order that is
 -- kept.
-use Rattle.std.proofs.Common.{◌≡◌, ◌≢◌, ℕ, Bool, true, false, ◌+◌, ◌<◌, ◌≤◌, not, ◌&&◌, List, [], Option, None, Some, length, take, get_or, refl, sym, ap, ◌∙◌, subst, arith}
+use Rattle.std.proofs.Common.{◌≡◌, ◌≢◌, ℕ, Bool, true, false, ◌+◌, ◌<◌, ◌≤◌, not, List, [], Option, None, Some, length, take, get_or, refl, sym, ap, ◌∙◌, subst, arith}
 use Rattle.std.specs.List.{slice_get}
 use Rattle.std.specs.Option.{option_map_or}
 use Rattle.std.proofs.lemmas.Bool.{and_parts, false≢true, ltb-false}
@@ -8,7 +8,7 @@ use Rattle.std.proofs.lemmas.List.{get_or_default}
 use Rattle.std.proofs.lemmas.Option.{slice_get_within}
 use Rattle.cb_gf256.specs.InRange.{IsInRange}
 use Rattle.cb_gf256.specs.Positions.{ArePositions}
-use Rattle.cb_gf256.specs.Rows.{row_at, HaveLength}
+use Rattle.cb_gf256.specs.Rows.{row_at}
 use Rattle.cb_member.specs.declared.names.Shard.{Shard}
 use Rattle.cb_member.specs.Membership.{Membership}
 use Rattle.cb_node.specs.NodesState.{NodesState, row_under}
@@ -16,12 +16,10 @@ use Rattle.cb_set.specs.SetState.{SetState, parities}
 use Rattle.cb_set.specs.Lost.{is_lost, lost, lost_at}
 use Rattle.cb_set.specs.Surviving.{surviving}
 use Rattle.cb_types.specs.declared.order.DecodeOrder.{DecodeOrder}
-use Rattle.cb_types.specs.declared.order.Kept.{Kept}
 use Rattle.cb_types.specs.Orders.{IsDecodable}
 use Rattle.cb_world.specs.declared.shown.Shown.{Shown}
 use Rattle.cb_world.specs.FarState.{FarState}
 use Rattle.cb_world.specs.Fetched.{AreGiven}
-use Rattle.cb_world.specs.Leaving.{LeavingState}
 use Rattle.cb_world.specs.Orders.{IsDecodeKept, KeepsOrder}
 use Rattle.cb_world.specs.Sets.{set_in}
 use Rattle.cb_world.specs.SetWord.{IsShaped, IsWordOf, is_broken}
@@ -30,7 +28,7 @@ use Rattle.cb_world.proofs.Laws.{are_positions, recounted_sound, reserved_is_oth
 use Rattle.cb_swapin.specs.declared.fetching.Fetching.{Fetching}
 use Rattle.cb_swapin.specs.declared.fetching.Fetching.TheVariants.{Order, Answer}
 use Rattle.cb_swapin.specs.Fetching.{far_given}
-use Rattle.cb_swapin.specs.FetchStep.{FetchStep, IsOrderFetched, fetching_order, is_to_make}
+use Rattle.cb_swapin.specs.FetchStep.{FetchStep, IsOrderFetched, fetching_order}
 use Rattle.cb_swapin.proofs.RowGiven.{none_given}
 
 -- ---- the far state
@@ -136,9 +134,10 @@ module _ (s : Shown) (far : FarState) (id p : ℕ) (set : SetState) (o : DecodeO
         (sound.away.sound.sets.numbered id set there);
     apart = λ batch leaves same. reserved_is_other far batch id set
         (sound.noted batch leaves).reserved there (same ∙ x.set_is);
-    code = λ q at. let e : q ≡ set = is_set q at in
-        (x.code.0 ∙ ap (λ (c : SetState). length c.positions) (sym e),
-        x.code.1 ∙ ap parities (sym e));
+    code = λ q at. let e : q ≡ set = is_set q at in (
+      x.code.0 ∙ ap (λ (c : SetState). length c.positions) (sym e),
+      x.code.1 ∙ ap parities (sym e),
+    );
     rows = λ q at some word is i within. let e : q ≡ set = is_set q at in
         (given_rows far.nodes far.members set o.present o.rows word shaped
         sound.away.sound.rows.counted

@@ -1,7 +1,6 @@
 -- What a step that lands a row keeps; and that it is fixed.
-use Rattle.std.proofs.Common.{◌≡◌, ℕ, ◌≤◌, true, false, List, None, Option, Some, refl, sym, ap, ◌∙◌, subst, arith, inl, inr}
+use Rattle.std.proofs.Common.{◌≡◌, ℕ, true, false, List, None, Option, Some, refl, sym, ap, ◌∙◌, subst, arith, inl, inr}
 use Rattle.std.proofs.lemmas.Bool.{false≢true}
-use Rattle.cb_set.specs.SetState.{SetState}
 use Rattle.cb_types.specs.declared.config.Config.{Config}
 use Rattle.cb_types.specs.declared.order.DecodeOrder.{DecodeOrder}
 use Rattle.cb_types.specs.declared.order.Kept.{Kept}
@@ -15,7 +14,7 @@ use Rattle.cb_world.specs.Plain.{Words}
 use Rattle.cb_world.specs.World.{IsKnown}
 use Rattle.cb_world.proofs.Laws.{IsOneEnd, KeepCodes, KeepsFar, KeepsPins, StaysIf, StepKeeps, codes_same, far_same, pins_same, stays_same}
 use Rattle.cb_swapin.specs.LandRule.{LandRule}
-use Rattle.cb_swapin.specs.LandStep.{IsLandStep, IsLandingStep, IsRefused}
+use Rattle.cb_swapin.specs.LandStep.{IsLandStep, IsRefused}
 use Rattle.cb_swapin.specs.SwapRule.{BringsRule}
 use Rattle.cb_swapin.specs.SwapStep.{IsBringStep}
 use Rattle.cb_swapin.proofs.SwapFixed.{swap_step_fixes}

@@ -1,6 +1,5 @@
 -- The landing of a row over a still desk is a step.
-use Rattle.std.proofs.Common.{◌≡◌, ℕ, List, [], None, Option, Some, refl, sym, ap, ◌∙◌, subst, inl, inr}
-use Rattle.cb_set.specs.SetState.{SetState}
+use Rattle.std.proofs.Common.{◌≡◌, List, [], None, Option, Some, refl, sym, subst, inl, inr}
 use Rattle.cb_types.specs.declared.order.DecodeOrder.{DecodeOrder}
 use Rattle.cb_types.specs.declared.order.Kept.{Kept}
 use Rattle.cb_types.specs.declared.order.Kept.TheVariants.{Encode, Decode}
@@ -16,7 +15,7 @@ use Rattle.cb_world.specs.World.{IsKnown}
 use Rattle.cb_world.specs.Written.{Writes}
 use Rattle.cb_world.proofs.Laws.{IsStepKnown, PerformsStill, known_then}
 use Rattle.cb_swapin.specs.LandEffect.{LandEffect, LandsRow}
-use Rattle.cb_swapin.specs.LandRule.{HasNoOrder, IsOutdated, LandRule}
+use Rattle.cb_swapin.specs.LandRule.{LandRule}
 use Rattle.cb_swapin.specs.LandStep.{IsLandStep, IsRefused}
 use Rattle.cb_swapin.specs.SwapEffect.{SwapEffect}
 use Rattle.cb_swapin.proofs.SwapStep.{swap_step}

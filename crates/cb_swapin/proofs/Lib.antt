@@ -28,6 +28,7 @@ pub mod SwapLeaves
 mod WorkedNamed
 mod WorkedSwap
 mod WorkedWord
+mod WorkedFetch
 mod WorkedSwapStep
 mod WorkedEvents
 pub mod Laws

@@ -144,17 +144,20 @@ pub swapped_in : (given : Option (Bor (List ℕ))) (s t : Shown) (far new : FarS
     (set : SetState) (f n : ℕ) (span : Contents) (row : List ℕ) (es : List Event) → CanArrive s far id p set f span row
     → HasArrived s t far new id p set f n span row → Writes es s []
     → IsAtHand given row → (done : IsSwappedIn id p f far new es s t) × IsAtHand given done.row
-swapped_in given s t far new id p set f n span row es x y nothing hand = (record {
-  set = set;
-  there = x.there;
-  class = span.class;
-  in_table = x.fetched.valid.in_table;
-  paged = x.fetched.pages;
-  sized = ap length (sym x.fetched.slots) ∙ x.fetched.valid.sized;
-  row = row;
-  of_word = x.fetched.row_of;
-  brought = subst (λ (l : List (Option ℕ)). IsSpanBrought l span.class f row s t) x.fetched.slots
-      y.brought;
-  nothing = nothing;
-  same_now = now_arrived s t far new id p set f n span row x y;
-}, hand)
+swapped_in given s t far new id p set f n span row es x y nothing hand = (
+  record {
+    set = set;
+    there = x.there;
+    class = span.class;
+    in_table = x.fetched.valid.in_table;
+    paged = x.fetched.pages;
+    sized = ap length (sym x.fetched.slots) ∙ x.fetched.valid.sized;
+    row = row;
+    of_word = x.fetched.row_of;
+    brought = subst (λ (l : List (Option ℕ)). IsSpanBrought l span.class f row s t) x.fetched.slots
+        y.brought;
+    nothing = nothing;
+    same_now = now_arrived s t far new id p set f n span row x y;
+  },
+  hand,
+)

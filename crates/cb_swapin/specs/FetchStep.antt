@@ -1,5 +1,5 @@
 -- Rows of a set are given out, of which the row of a position is to be made elsewhere.
-use Rattle.std.specs.Prelude.{◌≡◌, ℕ, Bool, true, false, not, ◌&&◌, if◌then◌else◌, List, Option, None, Some, length, take}
+use Rattle.std.specs.Prelude.{◌≡◌, ℕ, Bool, true, false, not, ◌&&◌, if◌then◌else◌, Option, Some, length, take}
 use Rattle.cb_set.specs.SetState.{SetState, parities}
 use Rattle.cb_set.specs.Lost.{lost, lost_at}
 use Rattle.cb_set.specs.Surviving.{surviving}

@@ -48,12 +48,12 @@ pub record AreBroughtTo (x y : Words) (slots : List (Option ℕ)) (class : Class
 -- stands in the frames.
 pub record IsSwapped (x y : Words) (far new : FarState) (id p : ℕ) (set : SetState) (f n : ℕ)
     : Type 0 where
-    pub state : IsSwappedTo far new id p set f n
-    pub rows : List (List ℕ)
-    pub word : IsWordOf far.nodes far.members set rows
-    pub one_row : (others : List (List ℕ)) → IsWordOf far.nodes far.members set others
-        → row_at others p ≡ row_at rows p
-    pub words : AreBroughtTo x y (position_of set p).slots state.class f (row_at rows p)
+  pub state : IsSwappedTo far new id p set f n
+  pub rows : List (List ℕ)
+  pub word : IsWordOf far.nodes far.members set rows
+  pub one_row : (others : List (List ℕ)) → IsWordOf far.nodes far.members set others
+      → row_at others p ≡ row_at rows p
+  pub words : AreBroughtTo x y (position_of set p).slots state.class f (row_at rows p)
 
 -- by the reply; a refusal changes nothing
 abbrev pub BringsChange : ℕ → Words → Words → FarState → FarState → ℕ → ℕ → SetState → Reply → Type 0

@@ -55,7 +55,10 @@ fn is_lost_in(far: &Far, id: SetId, position: u32) -> bool
     ensures { (set : SetState) → set_in far.now.sets id.n ≡ Some set
         → result ≡ lost_at far.now.members set.shards position }
 {
-    far.sets.committed(id.n).unwrap().lost_at(position, &far.members)
+    far.sets
+        .committed(id.n)
+        .unwrap()
+        .lost_at(position, &far.members)
 }
 
 /// Gives rows of a set out that is not broken, for the row of one of its positions. Want of memory

@@ -1,27 +1,25 @@
 -- What is left of the words of sets where a position gave objects up, and where no set changed: the
 -- steps of a pair, and what changes local memory alone.
-use Rattle.std.proofs.Common.{◌≡◌, ◌≢◌, ◌⊎◌, ℕ, ◌<◌, ◌≤◌, List, length, None, Some, refl, sym, ap, ◌∙◌, arith, inl, inr, length-set}
+use Rattle.std.proofs.Common.{◌≡◌, ◌≢◌, ◌⊎◌, ℕ, List, length, None, Some, refl, sym, ap, ◌∙◌, arith, inl, inr, length-set}
 use Rattle.std.specs.List.{slice_get}
 use Rattle.std.proofs.lemmas.Bool.{cases_eq}
 use Rattle.std.proofs.lemmas.Option.{same_Some}
 use Rattle.cb_member.specs.declared.names.Shard.{Shard}
-use Rattle.cb_node.specs.NodesState.{NodesState, row_under}
+use Rattle.cb_node.specs.NodesState.{row_under}
 use Rattle.cb_set.specs.SetState.{PositionState, SetState, with_position}
 use Rattle.cb_world.specs.declared.shown.Shown.{Shown}
-use Rattle.cb_world.specs.Counts.{CountsState}
 use Rattle.cb_world.specs.FarSound.{AwaySound, IsShardOf, Owner, of_set, of_leaving, of_joining}
 use Rattle.cb_world.specs.FarState.{FarState}
 use Rattle.cb_world.specs.Fetched.{with_rows_given}
 use Rattle.cb_world.specs.GivenUp.{IsDropped, SetGoesOn}
 use Rattle.cb_world.specs.Joining.{JoiningState}
 use Rattle.cb_world.specs.JoinSteps.{IsParted, IsStepped}
-use Rattle.cb_world.specs.Leaving.{LeavingState}
 use Rattle.cb_world.specs.LeftOver.{nodes_left, sets_left, survey_left}
 use Rattle.cb_world.specs.Orders.{LeavesWords}
 use Rattle.cb_world.specs.Sets.{if_committed, set_in}
 use Rattle.cb_world.proofs.FarGone.{shards_there}
 use Rattle.cb_world.proofs.SetsLeft.{left_others, left_over}
-use Rattle.cb_world.proofs.WordsLeft.{KeepsSets, same_keeps_sets, sets_leave_words}
+use Rattle.cb_world.proofs.WordsLeft.{same_keeps_sets, sets_leave_words}
 
 -- ---- no set, no member and no batch changed, and the rows of sets stand where they stood
 pub alike_leaves_words : (far new : FarState) → new.counts.sets ≡ far.counts.sets

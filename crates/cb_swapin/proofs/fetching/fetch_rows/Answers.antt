@@ -1,4 +1,4 @@
-use Rattle.std.proofs.Common.{◌≡◌, length, sym, ◌∙◌}
+use Rattle.std.proofs.Common.{length, sym, ◌∙◌}
 use Rattle.cb_swapin.proofs.FetchKeeps.{given_sound, order_kept}
 use Rattle.cb_swapin.proofs.Swapped.{is_whole}
 use Rattle.cb_swapin.proofs.fetching.fetch_rows.Goals as goal

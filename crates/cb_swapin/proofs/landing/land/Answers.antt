@@ -1,4 +1,4 @@
-use Rattle.std.proofs.Common.{◌≡◌, true, false, refl, sym, ap, ◌∙◌}
+use Rattle.std.proofs.Common.{sym, ◌∙◌}
 use Rattle.std.proofs.lemmas.Result.{IfOk-weaker, on_err_weaker}
 use Rattle.cb_swapin.proofs.Landed.{decode_kept, lands_none, lands_outdated, lands_row, live_found, nothing_given, row_lands}
 use Rattle.cb_swapin.proofs.landing.land.Goals as goal

@@ -1,4 +1,4 @@
-use Rattle.std.proofs.Common.{Bor, ℕ, List, None}
+use Rattle.std.proofs.Common.{None}
 use Rattle.std.proofs.lemmas.Result.{IfOk-weaker}
 use Rattle.cb_swapin.proofs.Landed.{effect_swaps, performs_as}
 use Rattle.cb_swapin.proofs.swapping.swap_in.Goals as goal
