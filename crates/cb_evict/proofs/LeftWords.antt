@@ -229,8 +229,7 @@ evict_leaves_words s far new pages frames shards rows homes sound chosen state =
       drawn = omega arith;
       members = refl;
       sets = λ j other there below apart.
-          let off : j ≢ far.counts.sets = λ e. omega (arith, e, below) in
-          (
+          let off : j ≢ far.counts.sets = λ e. omega (arith, e, below) in (
             other,
             sym (ap if_committed (set_others far.sets far.counts.sets j set off)) ∙ there,
             refl,

@@ -83,6 +83,7 @@ pub mod InstallSound
 pub mod Installs
 pub mod InstallKeeps
 pub mod LeftWords
+mod WorkedInstall
 pub mod ShipParts
 pub mod ShipStep
 pub mod ShipKeeps

@@ -37,11 +37,16 @@ use Rattle.cb_world.specs.SetWord.{IsSpanWord}
 use Rattle.cb_world.specs.World.{word_at}
 use Rattle.cb_evict.specs.Lengths.{batch_pages}
 use Rattle.cb_evict.specs.BeginEffect.{IsClaimedThere, IsBatchBegun, BeginEffect}
-use Rattle.cb_evict.specs.BeginRule.{blank_shards, new_batch, with_batch, HasBegun as Begun, IsLeavingAlready, HasBatch as Batch, HasLooked as Looks, BeginRule}
+use Rattle.cb_evict.specs.BeginRule.{blank_shards, new_batch, with_batch, HasBegun as Begun, IsLeavingAlready, HasBatch as Batch, HasLooked as Looks, BeginRule, no_parities}
 use Rattle.cb_evict.specs.Beginning.{AreParities}
 use Rattle.cb_evict.specs.EvictRule.{IsInRow, AreInRows}
 use Rattle.cb_evict.proofs.BeginSound.{reserved_kept}
 use Rattle.cb_evict.proofs.NewSet.{set_added_in}
+use Rattle.cb_evict.specs.declared.gathering.Gathered.{Gathered}
+use Rattle.cb_evict.specs.declared.gathering.Gathered.TheVariants as gathered
+use Rattle.cb_evict.specs.Gathering.{HandsOut, IsGatherStep, gathered_order, gathered_reply, order_for}
+use Rattle.cb_types.specs.declared.order.Kept.{Kept as Order}
+use Rattle.cb_types.specs.declared.order.Kept.TheVariants.{Encode}
 use Rattle.cb_evict.specs.BeginStep.{frame_rows, AreSpansClaimed, IsBegunTo as BegunTo, IsBatchMade as BatchMade, IsBeginStep, is_leaving, few_spans, few_nodes, begins}
 use Rattle.cb_evict.specs.Claims.{AreApart}
 use Rattle.cb_evict.specs.Order.{noted_of, objects_of}
@@ -636,3 +641,76 @@ not_short : AreParities 1 2 (row ∷ []) ([] ∷ []) → ⊥
 not_short a =
     let same = a.word.equal_lengths 1 [] (lit< tt) in
     let e : 0 ≡ 4096 = same ∙ is_word.wide in absurd (omega (arith, e))
+
+-- ---- a gather: the parities are still to be made
+abbrev unmade_far : FarState
+unmade_far = with_batch pair 1 (0 ∷ []) (former ∷ []) false (no_parities 1)
+
+unmade : BegunTo start claimed pair unmade_far false (0 ∷ [])
+unmade = record {
+  pages = 1;
+  long = one_long;
+  words = former ∷ [];
+  parities = no_parities 1;
+  of = of_first;
+  order = refl;
+  each_once = λ i j d less within. absurd (omega (arith, less, within));
+  noted = All-cons (λ (f : Former). f.word ≡ word_at start f.handle) former [] refl
+      (All-nil (λ (f : Former). f.word ≡ word_at start f.handle));
+  count = refl;
+  word = λ same. absurd (false≢true same);
+  bare = λ same. refl;
+  state = refl;
+  held = held;
+}
+
+-- the order hands out the rows as they stand in memory
+abbrev handed : Gathered
+handed = gathered.Order (order_for pair (frame_rows start 1 (0 ∷ [])))
+
+gathers : IsGatherStep start claimed pair unmade_far handed
+unfolding pages_of batch_pages unmade
+gathers = begins (record {
+  none = refl;
+  pages = 1;
+  longest = refl;
+  room = omega (arith, two_nodes);
+  reply = refl;
+  begun = unmade;
+  given = refl;
+})
+
+-- no reply alone, where a batch begins
+not_told_alone : (y : Words) (new : FarState) (rows : List (List ℕ))
+    → HandsOut pair (gathered.Answer (answer.Batch (record { n = 0 }))) rows → ⊥
+not_told_alone y new rows e = cc
+
+-- and no other number
+not_of_another : (rows : List (List ℕ))
+    → HandsOut pair (gathered.Order (record (order_for pair rows) { set = 5 })) rows → ⊥
+not_of_another rows e =
+    let n : 5 ≡ 0 = ap (λ (r : Reply). number_told r) (ap gathered_reply e) in
+    absurd (omega (arith, n))
+  where
+    number_told : Reply → ℕ
+    number_told (answer.Batch id) = id.n
+    number_told r = 7
+
+-- parities that are not made are blank
+not_filled : BegunTo start claimed pair
+    (with_batch pair 1 (0 ∷ []) (former ∷ []) false (row ∷ [])) false (0 ∷ []) → ⊥
+not_filled a =
+    let e = some_same (new_batch pair 1 (0 ∷ []) (former ∷ []) false (row ∷ []))
+    (new_batch pair a.pages (0 ∷ []) a.words false a.parities)
+    (ap (λ (f : FarState). f.leaving) a.state) in
+    let blank : row ∷ [] ≡ [] ∷ [] = ap (λ (b : LeavingState). b.parities) e ∙ a.bare refl in
+    let n : length row ≡ 0 = ap (λ (l : List (List ℕ)). length (get_or l 0 [])) blank in
+    let wide : length row ≡ 4096 = is_word.wide in
+    absurd (omega (arith, n, wide))
+
+-- what the seat keeps: the order, or the one before
+order_kept : gathered_order None handed ≡ Some (Encode (order_for pair (frame_rows start 1 (0 ∷ []))))
+order_kept = refl
+
+before_kept : (order : Option Order) → gathered_order order (gathered.Answer (answer.NoSpans 0)) ≡ order
+before_kept order = refl

@@ -92,7 +92,7 @@ batch shards = record {
   shards = shards;
 }
 
-abbrev far : Option LeavingState → FarState
+abbrev pub far : Option LeavingState → FarState
 far leaving = record {
   first = 1;
   made = 0;

@@ -46,7 +46,7 @@ returns-clause-installed c =
             ∙ ap (λ (q : EncodeOrder). q.set) c.order-order.ensures;
         reply = refl;
         parities = parities;
-      count = parities_count k.0 far b.0 o parities x;
+        count = parities_count k.0 far b.0 o parities x;
         encoded = c.parities-parities.ensures.done;
         bytes = all_bytes o.rows parities
             (subst (λ (q : EncodeOrder). HoldBytes q.rows) c.order-order.ensures
