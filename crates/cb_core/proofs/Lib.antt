@@ -35,6 +35,7 @@ mod OrdersLeave
 mod SetsStay
 mod WordsTold
 mod WordsOwned
+mod SwapRows
 mod EvictLeaves
 mod InstallStays
 mod OrderTurns

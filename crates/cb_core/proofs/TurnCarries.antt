@@ -1,5 +1,5 @@
 -- What each part of a turn leaves over any desk, each job, and the turn.
-use Rattle.std.proofs.Common.{◌≡◌, ℕ, suc, Bool, true, false, ◌+◌, ◌-◌, ◌^◌, ◌≤◌, if◌then◌else◌, ◌==◌, nat_lt, List, [], ◌∷◌, length, None, Some, refl, sym, subst, arith, inl, inr}
+use Rattle.std.proofs.Common.{◌≡◌, ℕ, suc, Bool, true, false, ◌+◌, ◌-◌, ◌^◌, ◌≤◌, if◌then◌else◌, ◌==◌, nat_lt, List, [], ◌∷◌, length, None, Some, refl, sym, ◌∙◌, subst, arith, inl, inr}
 use Rattle.cb_types.specs.declared.config.Config.{Config}
 use Rattle.cb_types.specs.Config.{IsAccepted}
 use Rattle.cb_types.specs.declared.job.Job.{Job}
@@ -11,26 +11,37 @@ use Rattle.cb_world.specs.declared.entry.Entry.{Entry}
 use Rattle.cb_world.specs.declared.event.Event.{Event}
 use Rattle.cb_world.specs.declared.shown.Shown.{Shown}
 use Rattle.cb_world.specs.FarState.{FarState}
+use Rattle.cb_world.specs.Homes.{home_at}
+use Rattle.cb_world.specs.Orders.{LeavesWords}
 use Rattle.cb_world.specs.Played.{played}
+use Rattle.cb_world.specs.Sets.{set_in}
+use Rattle.cb_world.specs.Still.{IsStill}
+use Rattle.cb_world.specs.declared.homes.Home.{Home}
+use Rattle.cb_set.specs.SetState.{SetState, live_at}
+use Rattle.std.proofs.lemmas.Option.{same_Some}
 use Rattle.cb_world.specs.Sound.{Sound}
 use Rattle.cb_world.specs.World.{IsConfigured}
 use Rattle.cb_world.specs.Written.{Writes, entry, gone}
-use Rattle.cb_world.proofs.Laws.{recounted_sound, StaysIf, StaysIfBy, stays_same}
+use Rattle.cb_world.proofs.Laws.{recounted_sound, StaysIf, StaysIfBy, stays_same, words_stay}
 use Rattle.cb_mutate.specs.FreeRule.{FreeEffect}
 use Rattle.cb_mutate.specs.MakeRule.{MakeEffect}
 use Rattle.cb_mutate.specs.WriteRule.{WriteEffect}
-use Rattle.cb_mutate.proofs.Laws.{free_stays, make_stays, read_unwritten}
+use Rattle.cb_mutate.proofs.Laws.{free_leaves_words, free_stays, make_leaves_words, make_stays, read_unwritten}
 use Rattle.cb_evict.specs.Eviction.{reply_of}
-use Rattle.cb_evict.proofs.Laws.{abort_stays, begin_stays, commit_stays, evict_stays, ship_stays, abort_unwritten, begin_unwritten, commit_unwritten, evict_unwritten}
-use Rattle.cb_filter.proofs.Laws.{filter_stays, filter_unwritten}
+use Rattle.cb_evict.proofs.Laws.{aborts_leave_words, begins_leave_words, commits_leave_words, evicts_leave_words, ships_leave_words, abort_stays, begin_stays, commit_stays, evict_stays, ship_stays, abort_unwritten, begin_unwritten, commit_unwritten, evict_unwritten}
+use Rattle.cb_filter.proofs.Laws.{filter_leaves_words, filter_stays, filter_unwritten}
 use Rattle.cb_swapin.specs.SwapRule.{SwapRule}
-use Rattle.cb_swapin.proofs.Laws.{given_stays, swap_stays, by_answer, swap_unwritten}
+use Rattle.cb_swapin.proofs.Laws.{given_leaves_words, swap_leaves_words, given_stays, swap_stays, by_answer, swap_unwritten}
 use Rattle.cb_core.specs.Declining.{far_refusal}
 use Rattle.cb_core.specs.Jobs.{IsJob}
 use Rattle.cb_core.specs.Parts.{Holding, WithRoom, NeverDeclined, NeverLacks, at_once, no_room, won, most_evictions}
 use Rattle.cb_core.specs.Turned.{Swaps, SwapLacks, Brings, BringLacks, ComesIn, ComeLacks, Evicts, WinsRoom, EvictLacks, Makes, MakeLacks, Reads, ReadLacks, WritesObject, Declines, FindsWhere, Does, Stops, IsDeclined}
 use Rattle.cb_mutate.specs.JobWrites.{MakeWrites, WriteWrites, FreeWrites, TurnWrites}
 use Rattle.cb_core.proofs.Carried.{bring_rise, come_rise, turn_rise}
+use Rattle.cb_core.proofs.PartsFar.{live_home}
+use Rattle.cb_core.proofs.SwapRows.{swap_rows}
+use Rattle.cb_core.proofs.WordsOwned.{abort_words, begin_words, commit_words, evict_words, filter_words, free_words, make_words, read_words, still_words, write_words}
+use Rattle.cb_core.proofs.WordsTold.{KeepsBatch, by_words}
 use Rattle.cb_core.proofs.FarJobs.{StaysSound, far_job, note_of}
 use Rattle.cb_core.proofs.TurnComes.{AreLaws, CarriesWrites, CarriesNoWrites, Comes, ComesBy, Good, WritesNothing, IsQuietReply, Nil, comes_by, comes_far, comes_more, comes_none, then_none, good_then, with_room, room_stops, where_it_is, brings_in, call_stops, once_here, once_here_stops}
 
@@ -101,6 +112,21 @@ make_quiet bytes = record { none = λ more e. e; some = refl }
 write_quiet : (h at : ℕ) (bytes : List ℕ) → IsQuietReply (WriteWrites h at bytes) answer.NotHere
 write_quiet h at bytes = record { none = λ more e. e; some = refl }
 
+-- ---- what is left of the words of sets, and of the batch's rows
+pub same_leaves : (far new : FarState) → new ≡ far → LeavesWords far new
+same_leaves far new same = subst (LeavesWords far) (sym same) (words_stay far)
+
+pub still_rows : (far new : FarState) (es : List Event) → KeepsBatch far new es IsStill
+still_rows far new es = by_words far new es IsStill (still_words far new es)
+
+-- the position of a home is live
+live_in_set : (s : Shown) (far : FarState) (h : ℕ) (home : Home) (set : SetState) → Sound s far
+    → home_at far.homes h ≡ Some home → set_in far.sets home.set ≡ Some set
+    → live_at set home.position ≡ true
+live_in_set s far h home set sound at there = let x = live_home s far h home sound at in
+    subst (λ (c : SetState). live_at c home.position ≡ true)
+    (same_Some x.0 set (sym x.1 ∙ there)) x.2
+
 module _ {D : Type 0} (run : D → List Event → D → Type 0) (shows : D → Shown → Type 0)
     (laws : AreLaws run shows) (c : Config) (accepted : IsAccepted c) where
   abbrev Hold : Type 0
@@ -115,58 +141,83 @@ module _ {D : Type 0} (run : D → List Event → D → Type 0) (shows : D → S
   -- ---- the parts
   makes : (bytes : List ℕ) → Leads 1 (MakeWrites bytes) (Makes run shows c bytes)
   makes bytes a b r good p = comes_by run shows laws c (MakeWrites bytes r) 1 a b _ _ good
-      (λ s sound. make_stays c c.handles bytes a.far b.far r p.events p.rule) p
+      (λ s sound. make_stays c c.handles bytes a.far b.far r p.events p.rule)
+      (λ s shown sound. make_leaves_words c.handles bytes a.far b.far r p.events p.rule) p
+      (by_words a.far b.far p.events _ (make_words bytes a.far b.far r p.events))
       (λ s e. make_writes bytes a.far b.far r p.events s (played p.events s) e)
 
   make_lacks : (bytes : List ℕ) → Lacks 1 (MakeLacks run c bytes)
   make_lacks bytes a b good p = comes_far run shows laws c 1 a b good p.0
       (λ s sound. (stays_same c 1 a.far b.far (omega arith) p.1, subst (Sound s) (sym p.1) sound))
+      (λ s sound. same_leaves a.far b.far p.1)
 
   pub reads : (h : ℕ) → Leads 1 Nil (Reads run shows h)
   reads h a b r good p = comes_none run shows laws c 1 a b _ _ good
-      (λ s sound. stays_same c 1 a.far b.far (omega arith) p.rule.0) p
+      (λ s sound. stays_same c 1 a.far b.far (omega arith) p.rule.0)
+      (λ s shown sound. same_leaves a.far b.far p.rule.0) p
+      (by_words a.far b.far p.events _ (read_words h a.far b.far r p.events))
       (λ s e. read_unwritten h r p.events s (played p.events s) e)
 
   pub read_lacks : (h : ℕ) → Lacks 1 (ReadLacks run shows h)
   read_lacks h a b good (same, p) = comes_none run shows laws c 1 a b _ _ good
-      (λ s sound. stays_same c 1 a.far b.far (omega arith) same) p (λ s e. e.nothing)
+      (λ s sound. stays_same c 1 a.far b.far (omega arith) same)
+      (λ s shown sound. same_leaves a.far b.far same) p (still_rows a.far b.far p.events)
+      (λ s e. e.nothing)
 
   writes : (h at : ℕ) (bytes : List ℕ) → Leads 1 (WriteWrites h at bytes) (WritesObject run shows h at bytes)
   writes h at bytes a b r good p = comes_by run shows laws c (WriteWrites h at bytes r) 1 a b _ _ good
-      (λ s sound. stays_same c 1 a.far b.far (omega arith) p.rule.0) p
+      (λ s sound. stays_same c 1 a.far b.far (omega arith) p.rule.0)
+      (λ s shown sound. same_leaves a.far b.far p.rule.0) p
+      (by_words a.far b.far p.events _ (write_words h at bytes a.far b.far r p.events))
       (λ s e. write_writes h at bytes r p.events s (played p.events s) e)
 
   pub finds : (h : ℕ) → Leads 1 Nil (FindsWhere run shows h)
   finds h a b r good p = comes_none run shows laws c 1 a b _ _ good
-      (λ s sound. stays_same c 1 a.far b.far (omega arith) p.rule.0) p (λ s e. e.nothing)
+      (λ s sound. stays_same c 1 a.far b.far (omega arith) p.rule.0)
+      (λ s shown sound. same_leaves a.far b.far p.rule.0) p (still_rows a.far b.far p.events)
+      (λ s e. e.nothing)
 
   declines : (h at count : ℕ) → Leads 1 Nil (Declines run shows h at count)
   declines h at count a b r good (same, p) = comes_none run shows laws c 1 a b _ _ good
-      (λ s sound. stays_same c 1 a.far b.far (omega arith) same) p (λ s e. e.nothing)
+      (λ s sound. stays_same c 1 a.far b.far (omega arith) same)
+      (λ s shown sound. same_leaves a.far b.far same) p (still_rows a.far b.far p.events)
+      (λ s e. e.nothing)
 
   never : Leads 1 Nil NeverDeclined
   never a b r good (nothing, same) =
       subst (λ (d : Hold). Comes run shows c 1 WritesNothing a d) (sym same)
       (comes_far run shows laws c 1 a a good (laws.none a.desk)
-      (λ s sound. (stays_same c 1 a.far a.far (omega arith) refl, sound)))
+      (λ s sound. (stays_same c 1 a.far a.far (omega arith) refl, sound))
+      (λ s sound. words_stay a.far))
 
   evicts : Leads 24 Nil (Evicts run shows c)
   evicts a b r good p = comes_none run shows laws c 24 a b _ _ good
-      (λ s sound. evict_stays c a.far b.far r p.events accepted p.rule) p
+      (λ s sound. evict_stays c a.far b.far r p.events accepted p.rule)
+      (λ s shown sound. evicts_leave_words s a.far b.far r p.events sound p.rule) p
+      (by_words a.far b.far p.events _ (evict_words a.far b.far r p.events p.rule))
       (λ s e. evict_unwritten a.far b.far r p.events s (played p.events s) p.rule e)
 
   pub wins : Leads 24 Nil (WinsRoom run shows c)
   wins a b e good p = comes_none run shows laws c 24 a b _ _ good
-      (λ s sound. evict_stays c a.far b.far (reply_of e) p.events accepted p.rule.rule) p
+      (λ s sound. evict_stays c a.far b.far (reply_of e) p.events accepted p.rule.rule)
+      (λ s shown sound. evicts_leave_words s a.far b.far (reply_of e) p.events sound p.rule.rule) p
+      (by_words a.far b.far p.events _
+      (evict_words a.far b.far (reply_of e) p.events p.rule.rule))
       (λ s x. evict_unwritten a.far b.far (reply_of e) p.events s (played p.events s) p.rule.rule x)
 
   pub evict_lacks : Lacks 24 (EvictLacks run shows)
   evict_lacks a b good (same, p) = comes_none run shows laws c 24 a b _ _ good
-      (λ s sound. stays_same c 24 a.far b.far (omega arith) same) p (λ s e. e.nothing)
+      (λ s sound. stays_same c 24 a.far b.far (omega arith) same)
+      (λ s shown sound. same_leaves a.far b.far same) p (still_rows a.far b.far p.events)
+      (λ s e. e.nothing)
 
   swaps : (h : ℕ) → Leads 16 Nil (Swaps run shows h)
   swaps h a b r good (home, at, p) = comes_none run shows laws c 16 a b _ _ good
-      (λ s sound. swap_stays c home.set home.position s a.far b.far r p.events sound p.rule) p
+      (λ s sound. swap_stays c home.set home.position s a.far b.far r p.events sound p.rule)
+      (λ s shown sound. swap_leaves_words s home.set home.position a.far b.far r p.events sound p.rule)
+      p (λ s before behind leaves agree first e. swap_rows home.set home.position p.rule.set s
+      (played p.events s) a.far b.far r p.events before behind leaves p.rule.there
+      (live_in_set s a.far h home p.rule.set before at p.rule.there) p.rule.reply e)
       (λ s e. swap_unwritten home.set home.position a.far b.far r p.events s (played p.events s) p.rule e)
 
   swap_lacks : (h : ℕ) → Lacks 16 (SwapLacks run h)
@@ -175,7 +226,7 @@ module _ {D : Type 0} (run : D → List Event → D → Type 0) (shows : D → S
         subst (StaysIf c 16 a.far) (sym state) (given_stays c s a.far home.set n set sound there few),
         subst (Sound s) (sym state) (recounted_sound s a.far a.far.counts.turns a.far.counts.by_job
             (a.far.nodes.given + n) sound),
-      ))
+      )) (λ s sound. given_leaves_words a.far b.far n state)
 
   brings : (h : ℕ) → Leads bring_rise Nil (Brings run shows c h)
   brings h = with_room run shows laws c Nil (nil_quiet answer.NoFrame) c.frames (λ loose nodes. refl)
@@ -251,33 +302,48 @@ module _ {D : Type 0} (run : D → List Event → D → Type 0) (shows : D → S
       (declines h at count) (brings h) a b r good x
   does_comes reading read (Free handle) a b r ok good p = let h = handle.n in
       in_job (FreeWrites h r) 1 a b (omega arith) (comes_by run shows laws c (FreeWrites h r) 1 a b _ _ good
-      (λ s sound. free_stays c h a.far b.far r p.events p.rule) p
+      (λ s sound. free_stays c h a.far b.far r p.events p.rule)
+      (λ s shown sound. free_leaves_words s h a.far b.far r p.events sound p.rule) p
+      (by_words a.far b.far p.events _ (free_words h a.far b.far r p.events))
       (λ s e. free_writes h r p.events s (played p.events s) e))
   does_comes reading read (Swap handle) a b r ok good x =
       in_job WritesNothing come_rise a b (omega arith) (comes_in handle.n a b r good x)
   does_comes reading read (Filter handle) a b r ok good p = let h = handle.n in
       in_job WritesNothing 1 a b (omega arith) (comes_none run shows laws c 1 a b _ _ good
-      (λ s sound. filter_stays c c.frames h a.far b.far r p.events p.rule) p
+      (λ s sound. filter_stays c c.frames h a.far b.far r p.events p.rule)
+      (λ s shown sound. filter_leaves_words c.frames h a.far b.far r p.events p.rule) p
+      (by_words a.far b.far p.events _ (filter_words h a.far b.far r p.events))
       (λ s e. filter_unwritten h a.far b.far r p.events s (played p.events s) e))
   does_comes reading read Evict a b r ok good x = in_job WritesNothing 24 a b (omega arith) (evicts a b r good x)
   does_comes reading read Begin a b r ok good p =
       in_job WritesNothing 1 a b (omega arith) (comes_none run shows laws c 1 a b _ _ good
-      (λ s sound. begin_stays c a.far b.far r p.events p.rule) p
+      (λ s sound. begin_stays c a.far b.far r p.events p.rule)
+      (λ s shown sound. begins_leave_words s a.far b.far true _ r p.events sound p.rule) p
+      (by_words a.far b.far p.events _ (begin_words a.far b.far true _ r p.events p.rule))
       (λ s e. begin_unwritten a.far b.far r p.events s (played p.events s) p.rule e))
   does_comes reading read Ship a b r ok good p =
       in_job WritesNothing 1 a b (omega arith) (comes_none run shows laws c 1 a b _ _ good
-      (λ s sound. ship_stays c a.far b.far r p.events p.rule) p (λ s e. e.still.nothing))
+      (λ s sound. ship_stays c a.far b.far r p.events p.rule)
+      (λ s shown sound. ships_leave_words s a.far b.far r sound (p.effect s (shown, sound)).ships) p
+      (by_words a.far b.far p.events _ (λ s before behind agree first e.
+      still_words a.far b.far p.events s before behind agree first e.still))
+      (λ s e. e.still.nothing))
   does_comes reading read Commit a b r ok good p =
       in_job WritesNothing 1 a b (omega arith) (comes_none run shows laws c 1 a b _ _ good
-      (λ s sound. commit_stays c s a.far b.far r p.events sound p.rule) p
+      (λ s sound. commit_stays c s a.far b.far r p.events sound p.rule)
+      (λ s shown sound. commits_leave_words a.far b.far r p.events p.rule) p
+      (by_words a.far b.far p.events _ (commit_words a.far b.far r p.events p.rule))
       (λ s e. commit_unwritten a.far b.far r p.events s (played p.events s) p.rule e))
   does_comes reading read Abort a b r ok good p =
       in_job WritesNothing 1 a b (omega arith) (comes_none run shows laws c 1 a b _ _ good
-      (λ s sound. abort_stays c a.far b.far r p.events p.rule) p
+      (λ s sound. abort_stays c a.far b.far r p.events p.rule)
+      (λ s shown sound. aborts_leave_words s a.far b.far r p.events sound p.rule) p
+      (by_words a.far b.far p.events _ (abort_words a.far b.far r p.events p.rule))
       (λ s e. abort_unwritten a.far b.far r p.events s (played p.events s) p.rule e))
   does_comes reading read job a b r ok good (ran, step) =
       comes_far run shows laws c turn_rise a b good ran (λ s sound.
       far_leaves s a b (λ is. (far_job job).keeps c s a.far b.far r ok is sound step) good)
+      (λ s sound. (far_job job).words c s a.far b.far r ok good.configured sound step)
 
   -- ---- want of memory
   pub stops_comes : (lacking : ℕ → Hold → Hold → Type 0) → ((h : ℕ) → Lacks 1 (lacking h))
@@ -303,15 +369,20 @@ module _ {D : Type 0} (run : D → List Event → D → Type 0) (shows : D → S
       in_job WritesNothing come_rise a b (omega arith) (come_lacks handle.n a b good x)
   stops_comes lacking lack (Filter handle) a b good p =
       in_job WritesNothing 1 a b (omega arith) (comes_none run shows laws c 1 a b _ _ good
-      (λ s sound. stays_same c 1 a.far b.far (omega arith) p.rule.state) p (λ s e. e.nothing))
+      (λ s sound. stays_same c 1 a.far b.far (omega arith) p.rule.state)
+      (λ s shown sound. same_leaves a.far b.far p.rule.state) p (still_rows a.far b.far p.events)
+      (λ s e. e.nothing))
   stops_comes lacking lack Evict a b good x = in_job WritesNothing 24 a b (omega arith) (evict_lacks a b good x)
   stops_comes lacking lack Begin a b good x = in_job WritesNothing 24 a b (omega arith) (evict_lacks a b good x)
   stops_comes lacking lack Ship a b good (same, p) =
       in_job WritesNothing 1 a b (omega arith) (comes_none run shows laws c 1 a b _ _ good
-      (λ s sound. stays_same c 1 a.far b.far (omega arith) same) p (λ s e. e.nothing))
+      (λ s sound. stays_same c 1 a.far b.far (omega arith) same)
+      (λ s shown sound. same_leaves a.far b.far same) p (still_rows a.far b.far p.events)
+      (λ s e. e.nothing))
   stops_comes lacking lack (Free handle) a b good x = absurd x
   stops_comes lacking lack Commit a b good x = absurd x
   stops_comes lacking lack Abort a b good x = absurd x
   stops_comes lacking lack job a b good (ran, lacks) =
       comes_far run shows laws c turn_rise a b good ran (λ s sound.
       far_leaves s a b (λ is. (far_job job).lacks c s a.far b.far is sound lacks) good)
+      (λ s sound. (far_job job).lacked c s a.far b.far good.configured sound lacks)

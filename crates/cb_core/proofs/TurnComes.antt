@@ -13,7 +13,7 @@ use Rattle.cb_world.specs.Played.{Agree, played}
 use Rattle.cb_world.specs.Sound.{Sound}
 use Rattle.cb_world.specs.World.{IsConfigured}
 use Rattle.cb_world.specs.Written.{Writes, written_by}
-use Rattle.cb_world.proofs.Laws.{KeepCodes, KeepsNote, RisesBy, StaysIf, StaysIfBy, codes_then, rises_more, rises_then, played_append, written_append}
+use Rattle.cb_world.proofs.Laws.{KeepCodes, KeepsNote, RisesBy, StaysIf, StaysIfBy, codes_then, orders_left, rises_more, rises_then, played_append, written_append}
 use Rattle.cb_evict.specs.declared.eviction.Eviction.{Eviction}
 use Rattle.cb_evict.specs.declared.eviction.Eviction.TheVariants.{Refused, Set}
 use Rattle.cb_core.specs.OnceHere.{OnceHere, away, here, OnceHereStops, bringing_stops, call_stops as lacks_here}
@@ -24,7 +24,7 @@ use Rattle.cb_core.specs.Parts.BringsIn.{not_far, was_far}
 use Rattle.cb_core.specs.Parts.RoomStops.{at_once as lacks_now, evicting, after as lacks_last}
 use Rattle.cb_core.specs.Parts.CallStops.{near as lacks_near, far as lacks_far, after as lacks_after}
 use Rattle.cb_core.specs.TurnLeaves.{SoundAfter}
-use Rattle.cb_core.proofs.WordsTold.{KeepsWords, far_orders, owned_orders}
+use Rattle.cb_core.proofs.WordsTold.{KeepsBatch, far_orders}
 
 -- nothing was written
 abbrev pub WritesNothing : List Entry → Type 0
@@ -156,13 +156,13 @@ module _ {D : Type 0} (run : D → List Event → D → Type 0) (shows : D → S
   pub comes_by : (W : List Entry → Type 0) (n : ℕ) (a b : Hold) (rules : List Event → Type 0)
       (does : List Event → Shown → Shown → Type 0) → Good shows c a
       → ((s : Shown) → Sound s a.far → StaysIf c n a.far b.far)
-      → ((s : Shown) → Sound s a.far → LeavesWords a.far b.far)
+      → ((s : Shown) → shows a.desk s → Sound s a.far → LeavesWords a.far b.far)
       → (p : Performs (λ es. run a.desk es b.desk) (λ s. shows a.desk s × Sound s a.far) rules
-      (λ t. Sound t b.far) does) → KeepsWords a.far b.far p.events does
+      (λ t. Sound t b.far) does) → KeepsBatch a.far b.far p.events does
       → ((s : Shown) → does p.events s (played p.events s) → (more : List Entry) × W more
       × Writes p.events s more)
       → Comes run shows c n W a b
-  comes_by W n a b rules does good stays leaves p owned wrote =
+  comes_by W n a b rules does good stays leaves p rows wrote =
       let k = good.shown in let z = stays k.0 k.2 good.configured in record {
         events = p.events;
         ran = p.ran;
@@ -171,10 +171,10 @@ module _ {D : Type 0} (run : D → List Event → D → Type 0) (shows : D → S
         rises = z.rises;
         after = λ s shown sound. let w = wrote s (p.effect s (shown, sound)) in record {
           sound = p.sound_after s (shown, sound);
-          orders = owned_orders s (played p.events s) a.far b.far sound
-              (p.sound_after s (shown, sound)) (leaves s sound) (owned s sound
-              (p.sound_after s (shown, sound)) (laws.agrees a.desk b.desk p.events s p.ran shown)
-              p.looks_first (p.effect s (shown, sound)));
+          orders = let then_ = p.sound_after s (shown, sound) in let left = leaves s shown sound in
+              orders_left s (played p.events s) a.far b.far sound then_ left (rows s sound then_ left
+              (laws.agrees a.desk b.desk p.events s p.ran shown) p.looks_first
+              (p.effect s (shown, sound)));
           more = w.0;
           wrote = w.1;
           writes_them = w.2;
@@ -185,13 +185,13 @@ module _ {D : Type 0} (run : D → List Event → D → Type 0) (shows : D → S
   pub comes_none : (n : ℕ) (a b : Hold) (rules : List Event → Type 0)
       (does : List Event → Shown → Shown → Type 0) → Good shows c a
       → ((s : Shown) → Sound s a.far → StaysIf c n a.far b.far)
-      → ((s : Shown) → Sound s a.far → LeavesWords a.far b.far)
+      → ((s : Shown) → shows a.desk s → Sound s a.far → LeavesWords a.far b.far)
       → (p : Performs (λ es. run a.desk es b.desk) (λ s. shows a.desk s × Sound s a.far) rules
-      (λ t. Sound t b.far) does) → KeepsWords a.far b.far p.events does
+      (λ t. Sound t b.far) does) → KeepsBatch a.far b.far p.events does
       → ((s : Shown) → does p.events s (played p.events s) → Writes p.events s [])
       → Comes run shows c n WritesNothing a b
-  comes_none n a b rules does good stays leaves p owned wrote =
-      comes_by WritesNothing n a b rules does good stays leaves p owned (λ s e. ([], refl, wrote s e))
+  comes_none n a b rules does good stays leaves p rows wrote =
+      comes_by WritesNothing n a b rules does good stays leaves p rows (λ s e. ([], refl, wrote s e))
 
   -- nothing is done at the desk
   pub comes_far : {N : FarState → FarState → Type 0} (n : ℕ) (a b : Hold) → Good shows c a

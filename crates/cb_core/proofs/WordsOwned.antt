@@ -1,5 +1,5 @@
 -- The words that the holder of the far lock owns stay, operation by operation.
-use Rattle.std.proofs.Common.{◌≡◌, ◌≢◌, ◌⊎◌, ℕ, ◌+◌, ◌<◌, ◌≤◌, List, [], ◌∷◌, length, get_or, set, Option, None, Some, refl, sym, ap, ◌∙◌, subst, arith, inl, inr, length-set, get_or-set_same}
+use Rattle.std.proofs.Common.{◌≡◌, ◌≢◌, ◌⊎◌, ℕ, ◌+◌, ◌<◌, ◌≤◌, Bool, List, [], ◌∷◌, length, get_or, set, Option, None, Some, refl, sym, ap, ◌∙◌, subst, arith, inl, inr, length-set, get_or-set_same}
 use Rattle.std.proofs.lemmas.Bool.{cases_lt}
 use Rattle.std.proofs.lemmas.List.{get_or_past}
 use Rattle.cb_ptr.specs.Word.{len_of, place_of}
@@ -23,6 +23,12 @@ use Rattle.cb_mutate.specs.FreeRule.{FreeEffect}
 use Rattle.cb_mutate.specs.MakeRule.{IsMade, MakeEffect}
 use Rattle.cb_mutate.specs.ReadRule.{ReadEffect}
 use Rattle.cb_mutate.specs.WriteRule.{IsWritten, WriteEffect}
+use Rattle.cb_evict.specs.AbortRule.{AbortEffect, AbortRule}
+use Rattle.cb_evict.specs.BeginEffect.{BeginEffect}
+use Rattle.cb_evict.specs.BeginRule.{BeginsBy}
+use Rattle.cb_evict.specs.CommitRule.{CommitEffect, CommitRule}
+use Rattle.cb_evict.specs.EvictEffect.{EvictEffect}
+use Rattle.cb_evict.specs.EvictRule.{EvictRule}
 use Rattle.cb_filter.specs.FilterEffect.{FilterChange, FilterEffect, IsMoved}
 use Rattle.cb_core.proofs.WordsTold.{KeepsWords, other_object, put_owned, told_kept, told_owned}
 
@@ -175,3 +181,69 @@ pub filter_words : (h : ℕ) (far new : FarState) (r : Reply) (es : List Event)
     → KeepsWords far new es (FilterEffect h far new r)
 filter_words h far new r es s before behind agree first x =
     filtered_words h far new r es s before behind agree first x.change
+
+-- ---- spans that leave
+pub evict_words : (far new : FarState) (r : Reply) (es : List Event) → EvictRule far new r es
+    → KeepsWords far new es (EvictEffect far new r)
+evict_words far new r es rule s before behind agree first x = elim rule.answered [
+  | inl few ↦ still_words far new es s before behind agree first
+      (x.left (λ id e. spans_set _ id r few.reply e))
+  | inr (inl few) ↦ still_words far new es s before behind agree first
+      (x.left (λ id e. nodes_set _ id r few.reply e))
+  | inr (inr both) ↦ told_owned es s (played es s) agree first
+      (x.evicted (record { n = far.counts.sets }) both.reply).memory
+]
+  where
+    spans_set : (n : ℕ) (b : SetId) (q : Reply) → q ≡ answer.NoSpans n → q ≡ answer.Set b → ⊥
+    spans_set n b q e f = cc
+
+    nodes_set : (n : ℕ) (b : SetId) (q : Reply) → q ≡ answer.NoNodes n → q ≡ answer.Set b → ⊥
+    nodes_set n b q e f = cc
+
+pub begin_words : (far new : FarState) (made : Bool) (so : List (List ℕ) → Type 0) (r : Reply)
+    (es : List Event) → BeginsBy far new made so r es → KeepsWords far new es (BeginEffect far new r)
+begin_words far new made so r es (inl z) s before behind agree first x =
+    still_words far new es s before behind agree first
+    (x.left (λ id e. leaving_batch (record { n = z.batch.set }) id r z.reply e))
+  where
+    leaving_batch : (a b : SetId) (q : Reply) → q ≡ answer.Leaving a → q ≡ answer.Batch b → ⊥
+    leaving_batch a b q e f = cc
+begin_words far new made so r es (inr z) s before behind agree first x = elim z.answered [
+  | inl few ↦ still_words far new es s before behind agree first
+      (x.left (λ id e. spans_batch _ id r few.reply e))
+  | inr (inl few) ↦ still_words far new es s before behind agree first
+      (x.left (λ id e. nodes_batch _ id r few.reply e))
+  | inr (inr both) ↦ told_owned es s (played es s) agree first
+      (x.begun (record { n = far.counts.sets }) both.reply).memory
+]
+  where
+    spans_batch : (n : ℕ) (b : SetId) (q : Reply) → q ≡ answer.NoSpans n → q ≡ answer.Batch b → ⊥
+    spans_batch n b q e f = cc
+
+    nodes_batch : (n : ℕ) (b : SetId) (q : Reply) → q ≡ answer.NoNodes n → q ≡ answer.Batch b → ⊥
+    nodes_batch n b q e f = cc
+
+pub commit_words : (far new : FarState) (r : Reply) (es : List Event) → CommitRule far new r es
+    → KeepsWords far new es (CommitEffect far new r)
+commit_words far new r es rule s before behind agree first x = elim rule.answered [
+  | inl none ↦ still_words far new es s before behind agree first
+      (x.left (λ id e. none_set id r none.reply e))
+  | inr (inl short) ↦ still_words far new es s before behind agree first
+      (x.left (λ id e. short_set _ id r short.reply e))
+  | inr (inr z) ↦ λ p owns still. ap (λ (l : List ℕ). get_or l p 0)
+      (x.committed z.batch (record { n = z.batch.set }) z.there z.reply).sent.memory
+]
+  where
+    none_set : (b : SetId) (q : Reply) → q ≡ answer.NoBatch → q ≡ answer.Set b → ⊥
+    none_set b q e f = cc
+
+    short_set : (ps : List ℕ) (b : SetId) (q : Reply) → q ≡ answer.Short ps → q ≡ answer.Set b → ⊥
+    short_set ps b q e f = cc
+
+pub abort_words : (far new : FarState) (r : Reply) (es : List Event) → AbortRule far new r es
+    → KeepsWords far new es (AbortEffect far new)
+abort_words far new r es rule s before behind agree first x = elim rule.answered [
+  | inl z ↦ still_words far new es s before behind agree first (x.left z.none)
+  | inr z ↦ λ p owns still.
+      ap (λ (l : List ℕ). get_or l p 0) (x.aborted z.batch z.there).back.memory
+]

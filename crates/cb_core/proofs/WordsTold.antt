@@ -13,7 +13,8 @@ use Rattle.cb_world.specs.declared.object.Object.{Object}
 use Rattle.cb_world.specs.declared.object.Object.TheVariants as is
 use Rattle.cb_world.specs.declared.shown.Shown.{Shown}
 use Rattle.cb_world.specs.FarSound.{rows_in}
-use Rattle.cb_world.specs.FarState.{FarState}
+use Rattle.cb_span.specs.Contents.{Contents}
+use Rattle.cb_world.specs.FarState.{FarState, span_in}
 use Rattle.cb_world.specs.Leaving.{LeavingState}
 use Rattle.cb_world.specs.Looks.{LooksFirst, NoLook, told_by}
 use Rattle.cb_world.specs.Memory.{put, words_for}
@@ -124,27 +125,53 @@ rows_same s t far new b same =
     })
     ∙ append-nil (rows_in s b.pages b.frames)
 
--- so every order stays kept
-pub owned_orders : (s t : Shown) (far new : FarState) → Sound s far → Sound t new
-    → LeavesWords far new → KeepsOwned s t → LeavesOrders s far t new
-owned_orders s t far new before behind leaves kept = orders_left s t far new before behind leaves rows
-  where
-    rows : (b : LeavingState) → new.leaving ≡ Some b → b.set < far.counts.sets
-        → rows_in t b.pages b.frames ≡ rows_in s b.pages b.frames
-    rows b at below = let old = leaves.batch b at below in
-        rows_same s t far new b (λ f leaving p from to.
-        let held = (behind.noted b at).held f leaving in
-        let was = (before.noted old.0 old.1).held f
-        (subst (λ (l : List ℕ). Contains l f) (sym old.4) leaving) in
-        let pages = old.3 in let wide = held.2 in let long = was.2 in
-        kept p
-        (batch_owned s far old.0 before old.1 f was.0
-        (subst (λ (l : List ℕ). Contains l f) (sym old.4) leaving) was.1 p
-        (from, omega (arith, to, pages, long)))
-        (batch_owned t new b behind at f held.0 leaving held.1 p (from, omega (arith, to, wide))))
+-- the rows of a batch that goes on leaving stay
+abbrev pub KeepsRows : Shown → FarState → Shown → FarState → Type 0
+KeepsRows s far t new = (b : LeavingState) → new.leaving ≡ Some b → b.set < far.counts.sets
+    → rows_in t b.pages b.frames ≡ rows_in s b.pages b.frames
+
+-- where words of frames stay that were those of the batch before, and are behind
+pub frame_rows : (s t : Shown) (far new : FarState) → Sound s far → Sound t new
+    → LeavesWords far new
+    → ((f : ℕ) (was is : Contents) → span_in far.spans f ≡ Some was → span_in new.spans f ≡ Some is
+    → (p : ℕ) → 512 * f ≤ p → p < 512 * (f + pages_of was.class)
+    → p < 512 * (f + pages_of is.class) → Owns s p → Owns t p
+    → get_or t.memory p 0 ≡ get_or s.memory p 0)
+    → KeepsRows s far t new
+frame_rows s t far new before behind leaves kept b at below = let old = leaves.batch b at below in
+    rows_same s t far new b (λ f leaving p from to.
+    let held = (behind.noted b at).held f leaving in
+    let was = (before.noted old.0 old.1).held f
+    (subst (λ (l : List ℕ). Contains l f) (sym old.4) leaving) in
+    let pages = old.3 in let wide = held.2 in let long = was.2 in
+    let first : p < 512 * (f + pages_of was.0.class) = omega (arith, to, pages, long) in
+    let last : p < 512 * (f + pages_of held.0.class) = omega (arith, to, wide) in
+    kept f was.0 held.0 was.1 held.1 p from first last
+    (batch_owned s far old.0 before old.1 f was.0
+    (subst (λ (l : List ℕ). Contains l f) (sym old.4) leaving) was.1 p (from, first))
+    (batch_owned t new b behind at f held.0 leaving held.1 p (from, last)))
+
+-- so where every word stays that is owned
+pub owned_rows : (s t : Shown) (far new : FarState) → Sound s far → Sound t new
+    → LeavesWords far new → KeepsOwned s t → KeepsRows s far t new
+owned_rows s t far new before behind leaves kept = frame_rows s t far new before behind leaves
+    (λ f was is at there p from first last owns still. kept p owns still)
+
+-- what an operation does keeps the rows of the batch, from a sound world to a sound one
+abbrev pub KeepsBatch : FarState → FarState → List Event
+    → (List Event → Shown → Shown → Type 0) → Type 0
+KeepsBatch far new es does = (s : Shown) → Sound s far → Sound (played es s) new
+    → LeavesWords far new → Agree s es → LooksFirst es → does es s (played es s)
+    → KeepsRows s far (played es s) new
+
+pub by_words : (far new : FarState) (es : List Event) (does : List Event → Shown → Shown → Type 0)
+    → KeepsWords far new es does → KeepsBatch far new es does
+by_words far new es does kept s before behind leaves agree first x =
+    owned_rows s (played es s) far new before behind leaves
+    (kept s before behind agree first x)
 
 -- nothing is done at the desk
 pub far_orders : (s : Shown) (far new : FarState) → Sound s far → Sound s new → LeavesWords far new
     → LeavesOrders s far s new
 far_orders s far new before behind leaves =
-    owned_orders s s far new before behind leaves (λ p owns still. refl)
+    orders_left s s far new before behind leaves (λ b at below. refl)

@@ -72,8 +72,15 @@ but_pinned = refl
 
 -- and a frame that is leaving
 abbrev batch : LeavingState
-batch = record { set = 0; pages = 1; frames = 3 ∷ []; words = []; made = true;
-batch = record { set = 0; pages = 1; frames = 3 ∷ []; words = []; parities = []; shards = [] }
+batch = record {
+  set = 0;
+  pages = 1;
+  frames = 3 ∷ [];
+  words = [];
+  made = true;
+  parities = [];
+  shards = [];
+}
 
 but_leaving : loose_frames (desk (calm ∷ calm ∷ calm ∷ calm ∷ [])) (far_with spans (Some batch) 2)
     ≡ 1 ∷ 4 ∷ 0 ∷ []

@@ -36,8 +36,12 @@ pub returns-clause-installed : goal.returns-clause-installed
 returns-clause-installed c =
     let far = c.args.far.now in let o = c.args.done.now.order in
     let parities = c.parities-parities.result.now in
-    let b = some_leaving far.leaving c.in-Some.leaving (sym (sym c.in-Some.is ∙ c.leaving_set.ensures
-    ∙ ap (λ (x : FarState). option_map number_of x.leaving) c.far.view_is)) in
+    let e = sym (sym c.in-Some.is ∙ c.leaving_set.ensures
+    ∙ ap (λ (x : FarState). option_map number_of x.leaving) c.far.view_is) in
+    let b = some_leaving far.leaving c.in-Some.leaving e in
+    let k = c.requires.kept in
+    let x = runs_for k.0 far o parities c.in-Some.leaving k.1 k.2 c.parities-parities.ensures.done
+    e (c.if-leaving-set.false ∙ ap (λ (q : EncodeOrder). q.set) c.order-order.ensures) in
     inr (inr (
       record {
         batch = b.0;
