@@ -1,5 +1,5 @@
 -- A job that needs no order is done alone, whatever order its seat keeps.
-use Rattle.std.proofs.Common.{◌≡◌, List, Option, None, Some, Result, Ok, Err, subst, inl, inr}
+use Rattle.std.proofs.Common.{◌≡◌, List, Option, None, Some, Result, Ok, Err, inl, inr}
 use Rattle.std.specs.Prelude.{IfOk}
 use Rattle.cb_member.specs.declared.no_memory.NoMemory.{NoMemory}
 use Rattle.cb_types.specs.declared.config.Config.{Config}
@@ -99,12 +99,3 @@ pub tells_alone : (job : Job) (order : Option Kept) (far : FarState) (r : Result
     → IfOk r (λ reply. TellsLost job order far reply)
 tells_alone job order far (Ok r) alone tells = told_alone job order far r alone tells
 tells_alone job order far (Err e) alone tells = tt
-
--- so of a turn in a record with this job and reply
-pub asked_alone : (c : Config) (t : Turn) (job : Job) (reply : Option Reply) → NeedsNoOrder job
-    → t.job ≡ job → t.reply ≡ reply → Did c t → DidAs c job reply t.start t.acts t.took t.gave
-asked_alone c t job reply alone asked told did =
-    did_alone c job t.order reply t.keeps t.start t.acts t.took t.gave alone
-    (subst (λ (j : Job). DidBy c j t.order reply t.keeps t.start t.acts t.took t.gave) asked
-    (subst (λ (o : Option Reply). DidBy c t.job t.order o t.keeps t.start t.acts t.took t.gave) told
-    did))

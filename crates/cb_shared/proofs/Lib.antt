@@ -1,3 +1,4 @@
+mod AskedAlone
 mod Alone
 mod Pages
 mod Rows
