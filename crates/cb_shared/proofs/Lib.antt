@@ -1,4 +1,3 @@
-mod AskedAlone
 mod Alone
 mod Pages
 mod Rows
@@ -16,6 +15,8 @@ mod WholeWord
 mod ReadSteps
 mod Tallying
 mod FirstPin
+mod DidAlone
+mod AskedAlone
 mod MadeFirst
 mod Recalled
 mod Rights
@@ -60,5 +61,4 @@ mod WorkedAdds
 mod WorkedSeeking
 mod WorkedRecalls
 mod Known
-mod DidAlone
 pub mod Laws
