@@ -1,5 +1,5 @@
 -- A job that needs no order is done alone, whatever order its seat keeps.
-use Rattle.std.proofs.Common.{◌≡◌, List, Option, None, Some, Result, Ok, Err, inl, inr}
+use Rattle.std.proofs.Common.{◌≡◌, List, [], Option, None, Some, Result, Ok, Err, inl, inr}
 use Rattle.std.specs.Prelude.{IfOk}
 use Rattle.cb_member.specs.declared.no_memory.NoMemory.{NoMemory}
 use Rattle.cb_types.specs.declared.config.Config.{Config}
@@ -11,15 +11,18 @@ use Rattle.cb_types.specs.declared.reply.Reply.{Reply}
 use Rattle.cb_world.specs.declared.event.Event.{Event}
 use Rattle.cb_world.specs.declared.shown.Shown.{Shown}
 use Rattle.cb_world.specs.FarState.{FarState}
+use Rattle.cb_world.specs.Played.{played}
 use Rattle.cb_core.specs.Jobs.{NeedsNoOrder}
 use Rattle.cb_core.specs.OrderParts.{DoesWithBy, OrderLacks, OrderParts, StopsWithBy}
+use Rattle.cb_core.specs.Ordered.{desk_order_lacks, desk_orders}
 use Rattle.cb_core.specs.Ordered.TurnedWith.{done as done_with, worn as worn_with}
 use Rattle.cb_core.specs.Parts.{Holding}
-use Rattle.cb_core.specs.Turned.{worn}
+use Rattle.cb_core.specs.Turned.{once_counted, worn}
 use Rattle.cb_core.specs.Unavailable.{TurnTells}
 use Rattle.cb_rule.specs.declared.turn.Turn.{Turn}
 use Rattle.cb_shared.specs.Calls.{IsCalled}
-use Rattle.cb_shared.specs.Turning.{Did, DidAs, DidBy, DidWith, Slate, TellsLost}
+use Rattle.cb_shared.specs.Turning.{Did, DidAs, DidBy, DidWith, Slate, TellsLost, held_by}
+use Rattle.cb_shared.specs.Turning.{slate_run, slate_shows}
 
 -- the calls make turns of such jobs
 pub called_alone : (job : Job) → IsCalled job → NeedsNoOrder job
@@ -54,9 +57,11 @@ with_alone : (c : Config) (job : Job) (order : Option Kept) (reply : Option Repl
 with_alone c job order (Some r) keeps start es took gave alone (worn_with last is kept same ran) =
     worn last is same ran
 with_alone c job order (Some r) keeps start es took gave alone (done_with few does) =
-    absurd (does_none _ job order _ r keeps _ alone does)
+    absurd (does_none (desk_orders slate_run slate_shows c) job order
+    (once_counted (held_by start [] took) job) r keeps (held_by (played es start) es gave) alone does)
 with_alone c job order None keeps start es took gave alone (x, same) =
-    absurd (stops_none _ _ job order _ _ alone x.stops)
+    absurd (stops_none (desk_orders slate_run slate_shows c) (desk_order_lacks slate_run slate_shows) job
+    order (once_counted (held_by start [] took) job) (held_by (played es start) es gave) alone x.stops)
 
 -- what such a job did
 pub did_alone : (c : Config) (job : Job) (order : Option Kept) (reply : Option Reply)
@@ -79,7 +84,8 @@ kept_alone : (c : Config) (job : Job) (order : Option Kept) (reply : Option Repl
 kept_alone c job order (Some r) keeps start es took gave alone (worn_with last is kept same ran) =
     kept
 kept_alone c job order (Some r) keeps start es took gave alone (done_with few does) =
-    absurd (does_none _ job order _ r keeps _ alone does)
+    absurd (does_none (desk_orders slate_run slate_shows c) job order
+    (once_counted (held_by start [] took) job) r keeps (held_by (played es start) es gave) alone does)
 kept_alone c job order None keeps start es took gave alone (x, same) = same
 
 -- and its seat keeps what it kept

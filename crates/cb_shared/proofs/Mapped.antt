@@ -6,7 +6,7 @@ use Rattle.cb_types.specs.declared.job.Job.{Job}
 use Rattle.cb_types.specs.declared.job.Job.TheVariants.{Make, Read, Write, Free, Swap, Filter}
 use Rattle.cb_types.specs.declared.job.Job.TheVariants.{Evict, Begin, Ship, Commit, Abort, Pair}
 use Rattle.cb_types.specs.declared.job.Job.TheVariants.{Patch, Merge, Part, Compact, Rebuild, Crash}
-use Rattle.cb_types.specs.declared.job.Job.TheVariants.{Join}
+use Rattle.cb_types.specs.declared.job.Job.TheVariants.{Join, Gather, Install, Fetch, Land}
 use Rattle.cb_types.specs.declared.reply.Reply.{Reply}
 use Rattle.cb_types.specs.declared.reply.Reply.TheVariants as answer
 use Rattle.cb_world.specs.declared.event.Event.{Event}

@@ -25,6 +25,7 @@ use Rattle.cb_shared.specs.Seats.{IsOf, Moves, SeatAt, record_at}
 use Rattle.cb_shared.specs.Turning.{AreLooksAt, FindsAtLast, Tries}
 use Rattle.cb_shared.specs.UnderLock.{HasSame, IsQuiet, IsReplyTo, IsTriedAgain, LooksFor}
 use Rattle.cb_shared.specs.UnderLock.{ReadsBelow, TriesOn}
+use Rattle.cb_record.proofs.Laws.{grown-sum}
 use Rattle.cb_shared.proofs.AfterTurn.{of_moved}
 
 pub grown_nothing : (v : View) → v ≡ grown nothing_more v
@@ -33,14 +34,7 @@ grown_nothing v = let e : v.ever ≡ v.ever + 0 = omega arith in
 
 -- one part after another is one part
 pub grown_sum : (d e : Part) (v : View) → grown e (grown d v) ≡ grown (sum d e) v
-grown_sum d e v = λ i. record v {
-  written = sym (append_assoc e.written d.written v.written) i;
-  seen = sym (append_assoc e.seen d.seen v.seen) i;
-  peeked = sym (append_assoc e.peeked d.peeked v.peeked) i;
-  ever = (let z : v.ever + d.ever + e.ever ≡ v.ever + (d.ever + e.ever) = omega arith in z) i;
-  looks = sym (append_assoc e.looks d.looks v.looks) i;
-  turns = sym (append_assoc e.turns d.turns v.turns) i;
-}
+grown_sum d e v = sym (grown-sum d e v)
 
 pub looks_quiet : (h : ℕ) (d : Part) → AreLooksAt h d → IsQuiet d
 looks_quiet h d x = (ap (λ (z : Part). z.written) x.part, ap (λ (z : Part). z.turns) x.part)

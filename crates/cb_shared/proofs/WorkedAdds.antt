@@ -1,6 +1,6 @@
 -- Worked parts that tries, calls and turns add: what breaks one of their parts alone.
 use Rattle.std.proofs.Common.{◌≡◌, ℕ, Bool, ◌+◌, ◌<◌, ◌≤◌, List, [], ◌∷◌, ◌++◌, length, length-append}
-use Rattle.std.proofs.Common.{get_or, Some, Ok, Err, refl, sym, ap, ◌∙◌, subst, inl, inr, lit<}
+use Rattle.std.proofs.Common.{get_or, None, Some, Ok, Err, refl, sym, ap, ◌∙◌, subst, inl, inr, lit<}
 use Rattle.std.proofs.Common.{arith}
 use Rattle.std.proofs.lemmas.Bool.{eqb-false}
 use Rattle.cb_member.specs.declared.names.Loss.{Loss}
@@ -43,7 +43,8 @@ use Rattle.cb_shared.proofs.WorkedGround.{a_stand, away, calm, made, moving, new
 use Rattle.cb_shared.proofs.WorkedGround.{part, pinned, two, whole, word_in, words_in}
 use Rattle.cb_shared.proofs.WorkedReads.{eight_bytes}
 use Rattle.cb_shared.proofs.WorkedSeat.{tells}
-use Rattle.cb_shared.proofs.WorkedTurns.{worn_turn}
+use Rattle.cb_shared.proofs.DidAlone.{turn_alone}
+use Rattle.cb_shared.proofs.WorkedTurns.{DidJob, worn_turn}
 use Rattle.cb_shared.proofs.WorkedVain.{asks_turns}
 use Rattle.cb_shared.proofs.WorkedUnder.{beginner, far, known, last}
 
@@ -219,9 +220,10 @@ abbrev ended : Turn
 ended = record refused { reply = Some answer.Done }
 
 adds_another_end : Adds answer.Done ended → ⊥
-adds_another_end x = no_end (subst (λ (t : Turn). Did two t) (sym (is_first _ _ x)) x.did)
+adds_another_end x = no_end (turn_alone two ended tt
+    (subst (λ (t : Turn). Did two t) (sym (is_first _ _ x)) x.did))
   where
-    no_end : Did two ended → ⊥
+    no_end : DidJob ended → ⊥
     no_end (worn end is same ran) = absurd cc
     no_end (done few does) = omega (arith, few)
 
@@ -271,33 +273,34 @@ gives_and_owns_none w none t = eqb-false 0 1 refl (ap length (sym none)
     ∙ ap (λ (v : View). length v.own) t.2)
 
 -- ---- the end of a turn under the lock: it is counted, did its job, and made what is its own
-adds_two_turns : IsEnding two jobs.Evict (Some answer.Worn) (far last) (beginner (far 3) known) → ⊥
+adds_two_turns : IsEnding two jobs.Evict (Some answer.Worn) None (far last) (beginner (far 3) known) → ⊥
 adds_two_turns e = uncounted e.adds
   where
     uncounted : AddsTurn (far 3) (far last) → ⊥
     uncounted (inl few) = let n : last ≡ 4 = few.1 in omega (arith, n)
     uncounted (inr same) = let n : 3 ≡ last = same.0 in omega (arith, n)
 
-ends_as_done : IsEnding two jobs.Evict (Some answer.Done) (far last) (beginner (far last) known)
+ends_as_done : IsEnding two jobs.Evict (Some answer.Done) None (far last) (beginner (far last) known)
     → ⊥
-ends_as_done e = no_end (e.did 0)
+ends_as_done e = no_end (turn_alone two _ tt (e.did 0))
   where
-    no_end : Did two (turn_of jobs.Evict (Some answer.Done) (far last) 0
+    no_end : DidJob (turn_of jobs.Evict (Some answer.Done) None (far last) 0
         (beginner (far last) known)) → ⊥
     no_end (worn end is same ran) = absurd cc
     no_end (done few does) = omega (arith, few)
 
-ends_with_bytes_unread : IsEnding two (jobs.Read (the_handle 1)) (Some (answer.Bytes 3 [])) (far last)
+ends_with_bytes_unread : IsEnding two (jobs.Read (the_handle 1)) (Some (answer.Bytes 3 [])) None
+    (far last)
     (record (beginner (far last) known) { seen = [] }) → ⊥
 ends_with_bytes_unread e = (e.reads (the_handle 1) 3 [] refl refl).1
 
-ends_with_a_version_unwritten : IsEnding two (jobs.Free (the_handle 1)) (Some (answer.Version 9))
+ends_with_a_version_unwritten : IsEnding two (jobs.Free (the_handle 1)) (Some (answer.Version 9)) None
     (far last) (beginner (far last) known) → ⊥
 ends_with_a_version_unwritten e =
     let n : 0 < 0 = e.writes 1 9 (inr (inr (the_handle 1, refl, refl, refl))) in omega (arith, n)
 
-ends_without_its_make : IsEnding two (jobs.Make []) (Some (answer.Made (the_handle 1) 3)) (far last)
-    (beginner (far last) known) → ⊥
+ends_without_its_make : IsEnding two (jobs.Make []) (Some (answer.Made (the_handle 1) 3)) None
+    (far last) (beginner (far last) known) → ⊥
 ends_without_its_make e = let n : 0 < 0 = e.makes.0 in omega (arith, n)
 
 -- ---- parts without entries and turns, and with a read of an object in range

@@ -9,6 +9,7 @@ use Rattle.cb_world.specs.declared.entry.Entry.{Entry}
 use Rattle.cb_world.specs.declared.shown.Shown.{Shown}
 use Rattle.cb_world.specs.Empty.{empty_shown}
 use Rattle.cb_world.specs.FarState.{FarState}
+use Rattle.cb_world.specs.Orders.{LeavesOrders}
 use Rattle.cb_core.specs.ReadTurn.BroughtToRead.{done, worn}
 use Rattle.cb_core.specs.TurnLeaves.{IsOneTurnOn}
 use Rattle.cb_rule.specs.declared.turn.Turn.{Turn}
@@ -50,6 +51,8 @@ module _ (p q : SeatAt) where
     next = inr (refl, refl);
     fresh = ap (λ (m : Sat). m.0.fresh) (me ∙ at);
     stood = subst (λ (m : Sat). Stood two m.0.known (far last)) (sym (me ∙ at)) (stood last (lit≤ tt));
+    leaves = subst (λ (m : Sat). LeavesOrders (record_at p).known (far last) m.0.known (far last)) (sym me)
+        (λ o kept. kept);
   }
 
   brings_elsewhere : (q.id ≡ p.id → ⊥) → Brings (far last) p q → ⊥

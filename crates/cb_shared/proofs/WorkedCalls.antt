@@ -193,7 +193,7 @@ gives_worn = (
     ends_so = (
       inr tt,
       adds_worn (jobs.Make (10 ∷ [])) part refl refl knows_made
-          (record { had = refl; left = refl; old = refl; ended = refl }),
+          (record { had = refl; left = refl; old = refl; ended = refl }) refl,
     );
     part = refl;
   },
@@ -224,7 +224,7 @@ asks_for = record {
   turned = (
     tt,
     adds_worn (jobs.Swap (the_handle 1)) (grown (looked 1 away) part) refl refl
-        knows_made (record { had = refl; left = refl; old = refl; ended = refl }),
+        knows_made (record { had = refl; left = refl; old = refl; ended = refl }) refl,
   );
   part = refl;
 }

@@ -12,6 +12,7 @@ use Rattle.cb_world.specs.declared.object.Object.TheVariants as is
 use Rattle.cb_world.specs.declared.shown.Shown.{Shown}
 use Rattle.cb_world.specs.Empty.{empty_shown}
 use Rattle.cb_world.specs.FarState.{FarState}
+use Rattle.cb_world.specs.Orders.{KeepsOrder}
 use Rattle.cb_world.specs.Played.{Agree}
 use Rattle.cb_world.specs.Written.{entry, written_by}
 use Rattle.cb_rule.specs.declared.view.View.{View}
@@ -23,7 +24,8 @@ use Rattle.cb_shared.specs.SeatLaws.{Runs, SayPins, SaysPins}
 use Rattle.cb_shared.specs.Seats.{Moves, SeatAt, record_at}
 use Rattle.cb_shared.specs.UnderLock.{GivesFar, IsAt, TakesFar}
 use Rattle.cb_shared.proofs.WorkedGround.{calm, made, part, part_pinned, pinned, shared_part, two}
-use Rattle.cb_shared.proofs.WorkedUnder.{beginner, far, known, knows_nothing, last, newcomer, stood}
+use Rattle.cb_shared.proofs.WorkedUnder.{beginner, far, known, knows_nothing, last, never_drawn}
+use Rattle.cb_shared.proofs.WorkedUnder.{newcomer, stood}
 
 -- the seat has this view and these slots
 abbrev pub Has : SeatAt → View → List (ℕ × LockSlot) → Type 0
@@ -163,7 +165,13 @@ module _ (p q : SeatAt) where
     sized = record { objects = refl; hots = refl; versions = refl; memory = refl };
     stood = stood 1 (lit≤ tt);
     made = λ h knows. absurd (knows_nothing h (subst (λ (m : Sat). Knows h m.0) at knows));
+    kept = subst (λ (m : Sat). KeepsOrder known (far 1) m.0.order) (sym at) tt;
   }
+
+  -- it keeps an order whose number was never drawn
+  takes_an_order : (record_at p).order ≡ Some never_drawn → TakesFar two (far 1) p q → ⊥
+  takes_an_order is t = let n : 0 < 0 = (subst (KeepsOrder t.known (far 1)) is t.kept).drawn in
+      omega (arith, n)
 
   -- an object that the record has was not made
   takes_unmade : Has p part [] → TakesFar two (far 1) p q → ⊥
@@ -194,10 +202,10 @@ abbrev pub refusing : View
 refusing = beginner (far last) known
 
 abbrev pub gives_back : View → View
-gives_back v = gave_lock job.Evict (Some answer.Worn) (far last) 0 [] [] v
+gives_back v = gave_lock job.Evict (Some answer.Worn) None (far last) 0 [] [] v
 
 abbrev Gives : SeatAt → SeatAt → Type 0
-Gives p q = GivesFar two job.Evict (Some answer.Worn) (far last) p q
+Gives p q = GivesFar two job.Evict (Some answer.Worn) None (far last) p q
 
 module _ (p q : SeatAt) where
   gives : record_at p ≡ refusing → IsAt p q (gives_back (record_at p)) [] → Gives p q

@@ -238,7 +238,7 @@ tries_a_make = (
   (
     inr tt,
     adds_worn (jobs.Make (10 ∷ [])) part refl refl knows_made
-        (record { had = refl; left = refl; old = refl; ended = refl }),
+        (record { had = refl; left = refl; old = refl; ended = refl }) refl,
   ),
   refl,
 )

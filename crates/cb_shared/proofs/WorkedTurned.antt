@@ -28,7 +28,8 @@ use Rattle.cb_shared.specs.UnderLock.{TurnedBy}
 use Rattle.cb_shared.proofs.WorkedGround.{knows_made, made, not_new, part, part_pinned}
 use Rattle.cb_shared.proofs.WorkedGround as ground
 use Rattle.cb_shared.proofs.WorkedSeat.{tells}
-use Rattle.cb_shared.proofs.WorkedTurns.{aged, noted, worn_turn}
+use Rattle.cb_shared.proofs.DidAlone.{turn_alone}
+use Rattle.cb_shared.proofs.WorkedTurns.{DidJob, aged, an_order, no_order, noted, worn_turn}
 
 -- a turn that was refused for its number, behind what a record has
 abbrev refused : Turn
@@ -38,7 +39,7 @@ abbrev with_turn : Turn → View → View
 with_turn t v = grown (turn_part t [] nothing_more nothing_more) v
 
 abbrev Turned : Reply → View → View → Type 0
-Turned r v w = TurnedBy ground.two job.Evict (Ok r) v w
+Turned r v w = TurnedBy ground.two job.Evict (Ok r) None v w
 
 worn_lost : {id : SetId} {losses : List Loss} → answer.Worn ≡ answer.Unavailable id losses → ⊥
 worn_lost e = cc
@@ -50,8 +51,10 @@ turned = record {
   within = nothing_more;
   job_is = refl;
   reply_is = refl;
+  before = refl;
+  keeps_is = refl;
   agree = tt;
-  did = worn refl refl refl (refl, tt);
+  did = inl (worn refl refl refl (refl, tt), refl);
   next = inr (refl, refl);
   wrote = refl;
   notes = noted;
@@ -76,7 +79,7 @@ first (t ∷ ts) = t
 is_first : (r : Reply) (t : Turn) (x : Turned r part (with_turn t part)) → t ≡ x.turn
 is_first r t x = ap (λ (v : View). first v.turns) x.left
 
-of_another_job : TurnedBy ground.two job.Begin (Ok answer.Worn) part (with_turn refused part) → ⊥
+of_another_job : TurnedBy ground.two job.Begin (Ok answer.Worn) None part (with_turn refused part) → ⊥
 of_another_job x = eqb-false 6 7 refl
     (ap job_index (ap (λ (v : View). (first v.turns).job) x.left ∙ x.job_is))
 
@@ -111,9 +114,10 @@ abbrev ended : Turn
 ended = record refused { reply = Some answer.Done }
 
 to_another_end : Turned answer.Done part (with_turn ended part) → ⊥
-to_another_end x = no_end (subst (λ (t : Turn). Did ground.two t) (sym (is_first _ _ x)) x.did)
+to_another_end x = no_end (turn_alone ground.two ended tt
+    (subst (λ (t : Turn). Did ground.two t) (sym (is_first _ _ x)) x.did))
   where
-    no_end : Did ground.two ended → ⊥
+    no_end : DidJob ended → ⊥
     no_end (worn end is same ran) = absurd cc
     no_end (done few does) = omega (arith, few)
 
@@ -128,6 +132,15 @@ to_another_state x =
     no_next (inl few) = let n = few.0 in omega (arith, n)
     no_next (inr same) = eqb-false 4 3 refl (ap (λ (f : FarState). f.first) same.1)
 
+-- it began with another order, or ends with another one than it is said to
+from_another_order : Turned answer.Worn (record part { order = Some an_order }) (with_turn refused part) → ⊥
+from_another_order x = no_order (sym x.before
+    ∙ sym (ap (λ (v : View). (first v.turns).order) x.left))
+
+to_another_order : TurnedBy ground.two job.Evict (Ok answer.Worn) (Some an_order) part (with_turn refused part)
+    → ⊥
+to_another_order x = no_order (sym x.keeps_is ∙ sym (ap (λ (v : View). (first v.turns).keeps) x.left))
+
 -- ---- what it wrote and read
 with_an_entry : Turned answer.Worn part (record (with_turn refused part) { written = made ∷ made ∷ [] }) → ⊥
 with_an_entry x = eqb-false 2 1 refl (ap (λ (v : View). length v.written) x.left
@@ -135,12 +148,12 @@ with_an_entry x = eqb-false 2 1 refl (ap (λ (v : View). length v.written) x.lef
 
 -- a free at a version that the record has
 of_an_old_version : (w : View)
-    → TurnedBy ground.two (job.Free record { n = 1 }) (Ok (answer.Version 3)) part w → ⊥
+    → TurnedBy ground.two (job.Free record { n = 1 }) (Ok (answer.Version 3)) None part w → ⊥
 of_an_old_version w x = not_new part refl (subst (λ (l : List Entry). AreNew l part) x.wrote.1 x.new).0
 
 -- one of an object that the pass has pinned
 of_a_pinned_one : (w : View)
-    → TurnedBy ground.two (job.Free record { n = 1 }) (Ok (answer.Version 4)) part_pinned w → ⊥
+    → TurnedBy ground.two (job.Free record { n = 1 }) (Ok (answer.Version 4)) None part_pinned w → ⊥
 of_a_pinned_one w x = eqb-false 1 0 refl x.pins
 
 -- the record has an entry of an object out of range

@@ -8,6 +8,8 @@ use Rattle.cb_types.specs.declared.config.Config.{Config}
 use Rattle.cb_types.specs.declared.handle.Handle.{Handle}
 use Rattle.cb_types.specs.declared.job.Job.{Job}
 use Rattle.cb_types.specs.declared.job.Job.TheVariants as job
+use Rattle.cb_types.specs.declared.order.Kept.{Kept}
+use Rattle.cb_types.specs.declared.order.Kept.TheVariants.{Encode}
 use Rattle.cb_types.specs.declared.reply.Reply.{Reply}
 use Rattle.cb_types.specs.declared.reply.Reply.TheVariants as answer
 use Rattle.cb_types.specs.Jobs.{job_index}
@@ -26,10 +28,12 @@ use Rattle.cb_rule.specs.Lists.{Has}
 use Rattle.cb_rule.specs.Steps.{AreNew, Knows, look_at, opener}
 use Rattle.cb_record.specs.Parts.{Part, grown, nothing_more}
 use Rattle.cb_shared.specs.Trying.{again_in, newest_tries, tries_of}
-use Rattle.cb_shared.specs.Turning.{AreLooksAt, CountsPins, Did, JobReads, KnowsOf, NotesWritten}
-use Rattle.cb_shared.specs.Turning.{PinsTold, ReadsByPin, Slate, TellsNoPin, TurnAdds, TurnBy}
+use Rattle.cb_shared.specs.Turning.{AreLooksAt, CountsPins, Did, DidAs, JobReads, KnowsOf}
+use Rattle.cb_shared.specs.Turning.{NotesWritten, PinsTold, ReadsByPin, Slate, TellsLost, TellsNoPin}
+use Rattle.cb_shared.specs.Turning.{TurnAdds, TurnBy}
 use Rattle.cb_shared.specs.Turning.{freed_of, held_by, made_by_turn, object_of, slate_run}
 use Rattle.cb_shared.specs.Turning.{turn_part}
+use Rattle.cb_shared.proofs.DidAlone.{turn_keeps_order}
 use Rattle.cb_shared.proofs.WorkedGround.{a_stand, freed_last, has_last, knows_made, last_is_freed}
 use Rattle.cb_shared.proofs.WorkedGround.{made, not_after, not_new, owner, part, part_pinned}
 use Rattle.cb_shared.proofs.WorkedGround.{shared_part, two, whole, whole_pinned}
@@ -86,32 +90,49 @@ refused = record {
   old = [];
   ended = 0;
   acts = [];
+  order = None;
+  keeps = None;
   took = full;
   gave = full;
 }
 
 refused_did : Did two refused
-refused_did = worn refl refl refl (refl, tt)
+refused_did = inl (worn refl refl refl (refl, tt), refl)
+
+-- its seat keeps another order behind it
+abbrev pub an_order : Kept
+an_order = Encode (record { set = 0; k = 1; r = 1; rows = [] })
+
+pub no_order : Some an_order ≡ None → ⊥
+no_order e = cc
+
+refused_keeps_another : Did two (record refused { keeps = Some an_order }) → ⊥
+refused_keeps_another did =
+    no_order (turn_keeps_order two (record refused { keeps = Some an_order }) tt did)
+
+-- what a turn did, but for the order of its seat
+abbrev pub DidJob : Turn → Type 0
+DidJob t = DidAs two t.job t.reply t.start t.acts t.took t.gave
 
 -- with another reply, another far state given, an event that was not run, or in a far state with
 -- fewer turns, it is none
-refused_as_done : Did two (record refused { reply = Some answer.Done }) → ⊥
+refused_as_done : DidJob (record refused { reply = Some answer.Done }) → ⊥
 refused_as_done (worn end is same ran) = done_worn is
   where
     done_worn : answer.Done ≡ answer.Worn → ⊥
     done_worn e = cc
 refused_as_done (done few does) = omega (arith, few)
 
-refused_gave_another : Did two (record refused { gave = record full { first = 4 } }) → ⊥
+refused_gave_another : DidJob (record refused { gave = record full { first = 4 } }) → ⊥
 refused_gave_another (worn end is same ran) = eqb-false 4 3 refl (ap (λ (f : FarState). f.first) same)
 refused_gave_another (done few does) = omega (arith, few)
 
-refused_and_looked : Did two (record refused { acts = Looked 0 0 ∷ [] }) → ⊥
+refused_and_looked : DidJob (record refused { acts = Looked 0 0 ∷ [] }) → ⊥
 refused_and_looked (worn end is same ran) =
     eqb-false 1 0 refl (ap (λ (t : Slate). length t.acts) ran.0)
 refused_and_looked (done few does) = omega (arith, few)
 
-refused_early : Did two (record refused { reply = None }) → ⊥
+refused_early : DidJob (record refused { reply = None }) → ⊥
 refused_early s = let few = s.few in omega (arith, few)
 
 -- ---- its object, its handle and its reply
@@ -298,6 +319,7 @@ adds_refused = record {
   later = nothing_more;
   job_is = refl;
   reply_is = refl;
+  before = refl;
   agree = tt;
   did = refused_did;
   next = inr (refl, refl);
@@ -397,6 +419,16 @@ adds_unnoted a = eqb-false 0 1 refl
     had_first [] = []
     had_first (t ∷ ts) = t.had
 
+-- a turn before which the record kept another order
+adds_after_another_order : TurnAdds two job.Evict (Ok answer.Worn) (record part { order = Some an_order })
+    added → ⊥
+adds_after_another_order a = no_order (sym a.before ∙ sym (ap (λ (t : Turn). t.order)
+    (ap first (ap (λ (d : Part). d.turns) a.part))))
+  where
+    first : List Turn → Turn
+    first [] = refused
+    first (t ∷ ts) = t
+
 -- two turns
 adds_two : TurnAdds two job.Evict (Ok answer.Worn) part (record added { turns = refused ∷ refused ∷ [] })
     → ⊥
@@ -414,6 +446,19 @@ keeps_no_turn (d, a, is) = eqb-false 0 1 refl (ap (λ (v : View). length v.turns
     ∙ ap (λ (e : Part). length (e.turns ++ [])) a.part)
 
 -- ---- a turn of any job that was refused for its number
+never_lost : {id : _} {losses : _} → answer.Worn ≡ answer.Unavailable id losses → ⊥
+never_lost e = cc
+
+worn_tells : (j : Job) → TellsLost j None full answer.Worn
+worn_tells job.Land = record {
+  only = λ id losses is. absurd (never_lost is);
+  each = λ o losses kept few live lost. absurd (omega (arith, few));
+}
+worn_tells j = record {
+  only = λ id losses is. absurd (never_lost is);
+  each = λ h id losses asks few lost. absurd (omega (arith, few));
+}
+
 abbrev pub worn_turn : Job → Turn
 worn_turn j = record refused { job = j }
 
@@ -422,33 +467,29 @@ worn_part j = turn_part (worn_turn j) [] nothing_more nothing_more
 
 pub adds_worn : (j : Job) (v : View) → OutcomeWrites j (Ok answer.Worn) []
     → JobReads j [] (Ok answer.Worn) v nothing_more → ((h : ℕ) → Knows h v → 1 ≡ h)
-    → NotesWritten (worn_turn j) [] v → TurnAdds two j (Ok answer.Worn) v (worn_part j)
-adds_worn j v wrote reads knows notes = record {
+    → NotesWritten (worn_turn j) [] v → v.order ≡ None
+    → TurnAdds two j (Ok answer.Worn) v (worn_part j)
+adds_worn j v wrote reads knows notes none = record {
   turn = worn_turn j;
   more = [];
   within = nothing_more;
   later = nothing_more;
   job_is = refl;
   reply_is = refl;
+  before = sym none;
   agree = tt;
-  did = worn refl refl refl (refl, tt);
+  did = inl (worn refl refl refl (refl, tt), refl);
   next = inr (refl, refl);
   wrote = wrote;
   notes = notes;
   new = tt;
   pins = worn_counts j v;
   made = λ h known. was_made h (knows h known);
-  tells = record {
-    only = λ id losses is. absurd (worn_lost is);
-    each = λ h id losses asks few lost. absurd (omega (arith, few));
-  };
+  tells = worn_tells j;
   reads = reads;
   finds = refl;
   part = refl;
 }
-  where
-    worn_lost : {id : _} {losses : _} → answer.Worn ≡ answer.Unavailable id losses → ⊥
-    worn_lost e = cc
 
 -- ---- whether the newest turn is made again
 abbrev wide : FarState

@@ -1,12 +1,14 @@
 -- Worked examples of what stands under the far lock: what meets each definition, and what breaks one
 -- of its parts alone.
-use Rattle.std.proofs.Common.{◌≡◌, ℕ, ◌^◌, ◌≤◌, false, [], ◌∷◌, length, replicate, Some, Ok, refl}
+use Rattle.std.proofs.Common.{◌≡◌, ℕ, ◌^◌, ◌<◌, ◌≤◌, false, [], ◌∷◌, length, replicate, None, Some, Ok, refl}
 use Rattle.std.proofs.Common.{sym, ap, ◌∙◌, subst, inl, inr, true≢false, lit<, lit≤, arith}
 use Rattle.std.proofs.lemmas.Bool.{eqb-false}
 use Rattle.cb_types.specs.declared.config.Field.TheVariants.{K, R, Nodes, Frames, Room, Handles}
 use Rattle.cb_types.specs.declared.config.Field.TheVariants.{Turns}
 use Rattle.cb_types.specs.Config.{IsAccepted}
 use Rattle.cb_types.specs.declared.job.Job.TheVariants as job
+use Rattle.cb_types.specs.declared.order.Kept.{Kept}
+use Rattle.cb_types.specs.declared.order.Kept.TheVariants.{Encode}
 use Rattle.cb_types.specs.declared.reply.Reply.TheVariants as answer
 use Rattle.cb_world.specs.declared.event.Event.TheVariants.{Looked}
 use Rattle.cb_world.specs.declared.shown.Shown.{Shown}
@@ -41,7 +43,7 @@ accepted Turns = lit≤ tt
 -- ---- the empty world after so many turns that changed nothing
 abbrev pub far : ℕ → FarState
 far n = record (empty_far 3 two) {
-  counts = record { turns = n; by_job = n ∷ replicate 18 0; sets = 0; keys = 0 };
+  counts = record { turns = n; by_job = n ∷ replicate 22 0; sets = 0; keys = 0 };
 }
 
 abbrev pub known : Shown
@@ -50,7 +52,7 @@ known = empty_shown 3 two
 pub stood : (n : ℕ) → n ≤ 2 ^ 40 → Stood two known (far n)
 stood n few = let e = stood_empty 3 two (lit≤ tt) accepted in
     let f = e.configured in let k = e.counted in record {
-      sound = recounted_sound known (empty_far 3 two) n (n ∷ replicate 18 0) 0 e.sound;
+      sound = recounted_sound known (empty_far 3 two) n (n ∷ replicate 22 0) 0 e.sound;
       configured = record {
         frames = f.frames;
         homes = f.homes;
@@ -75,6 +77,10 @@ stood n few = let e = stood_empty 3 two (lit≤ tt) accepted in
 abbrev pub beginner : FarState → Shown → View
 beginner f k = took_lock k f 0 part
 
+-- an order of the first set number, which is not drawn
+abbrev pub never_drawn : Kept
+never_drawn = Encode (record { set = 0; k = 1; r = 1; rows = [] })
+
 abbrev Begins : View → Type 0
 Begins v = IsBeginning two (far 1) v
 
@@ -87,7 +93,12 @@ begins = record {
   took = refl;
   sized = record { objects = refl; hots = refl; versions = refl; memory = refl };
   stood = stood 1 (lit≤ tt);
+  kept = tt;
 }
+
+-- it keeps an order whose number was never drawn
+begins_with_an_order : Begins (record (beginner (far 1) known) { order = Some never_drawn }) → ⊥
+begins_with_an_order b = let n : 0 < 0 = b.kept.drawn in omega (arith, n)
 
 begins_without_the_lock : Begins (record (beginner (far 1) known) { holds = false }) → ⊥
 begins_without_the_lock b = true≢false (sym b.holds)
@@ -115,7 +126,7 @@ abbrev pub last : ℕ
 last = 2 ^ 40
 
 abbrev Ends : View → Type 0
-Ends v = IsEnding two job.Evict (Some answer.Worn) (far last) v
+Ends v = IsEnding two job.Evict (Some answer.Worn) None (far last) v
 
 no_write : (h n : ℕ) → TellsWritten job.Evict (Some answer.Worn) h n → ⊥
 no_write h n (inl x) = absurd (let e = x.2 in cc)
@@ -127,11 +138,17 @@ ends = record {
   holds = refl;
   stood = stood last (lit≤ tt);
   adds = inr (refl, refl);
-  did = λ n. worn refl refl refl (refl, tt);
+  did = λ n. inl (worn refl refl refl (refl, tt), refl);
   reads = λ handle version bytes asked told. absurd (cc);
   writes = λ h n told. absurd (no_write h n told);
   makes = tt;
+  leaves = λ o kept. kept;
+  own = tt;
 }
+
+ends_with_an_order : IsEnding two job.Evict (Some answer.Worn) (Some never_drawn) (far last)
+    (beginner (far last) known) → ⊥
+ends_with_an_order e = let n : 0 < 0 = e.own.drawn in omega (arith, n)
 
 ends_without_the_lock : Ends (record (beginner (far last) known) { holds = false }) → ⊥
 ends_without_the_lock e = true≢false (sym e.holds)
@@ -162,6 +179,7 @@ has_taken = record {
   sized = record { objects = refl; hots = refl; versions = refl; memory = refl };
   stood = stood 1 (lit≤ tt);
   made = λ h knows. absurd (knows_nothing h knows);
+  kept = tt;
   number = refl;
 }
 

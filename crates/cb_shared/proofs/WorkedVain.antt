@@ -225,7 +225,7 @@ ends_by_swap = inr (
     turned = (
       tt,
       adds_worn swap (grown (looked 1 away) part) refl refl knows_made
-          (record { had = refl; left = refl; old = refl; ended = refl }),
+          (record { had = refl; left = refl; old = refl; ended = refl }) refl,
     );
     part = refl;
   },
@@ -242,7 +242,7 @@ ends_by_read = inr (
     turned = (
       inr tt,
       adds_worn read (grown (looked 1 away) part) refl (inl (refl, tt))
-          knows_made (record { had = refl; left = refl; old = refl; ended = refl }),
+          knows_made (record { had = refl; left = refl; old = refl; ended = refl }) refl,
     );
     part = refl;
   },

@@ -1,15 +1,17 @@
 -- Worked turns at a seat: what meets each definition, and what breaks one of its parts alone.
 use Rattle.std.proofs.Common.{◌≡◌, ℕ, suc, ◌+◌, ◌<◌, List, [], ◌∷◌, ◌++◌, length, append-nil}
-use Rattle.std.proofs.Common.{append_assoc, Some, Ok, refl, sym, ap, ◌∙◌, subst, inl, inr, true}
+use Rattle.std.proofs.Common.{append_assoc, Option, None, Some, Ok, refl, sym, ap, ◌∙◌, subst, inl, inr, true}
 use Rattle.std.proofs.Common.{true≢false, lit<, lit≤, arith}
 use Rattle.std.proofs.lemmas.Bool.{eqb-false}
 use Rattle.cb_types.specs.declared.job.Job.TheVariants as job
+use Rattle.cb_types.specs.declared.order.Kept.{Kept}
 use Rattle.cb_types.specs.declared.reply.Reply.TheVariants as answer
 use Rattle.cb_world.specs.declared.entry.Entry.{Entry}
 use Rattle.cb_world.specs.declared.event.Event.{Event}
 use Rattle.cb_world.specs.declared.shown.Shown.{Shown}
 use Rattle.cb_world.specs.Empty.{empty_shown}
 use Rattle.cb_world.specs.FarState.{FarState}
+use Rattle.cb_world.specs.Orders.{LeavesOrders}
 use Rattle.cb_world.specs.Played.{Agree}
 use Rattle.cb_world.specs.Written.{entry}
 use Rattle.cb_core.specs.Turned.{done, worn}
@@ -25,17 +27,26 @@ use Rattle.cb_rule.specs.Steps.{AreNew, act, acted, freed_seen}
 use Rattle.cb_record.specs.Parts.{grown, nothing_more}
 use Rattle.cb_shared.specs.SeatLaws.{acted_known}
 use Rattle.cb_shared.specs.Seats.{SeatAt, record_at}
-use Rattle.cb_shared.specs.Turning.{DidAs}
+use Rattle.cb_shared.specs.Turning.{DidAs, DidBy}
 use Rattle.cb_shared.specs.UnderLock.{TurnAtSeat, TurnWith, WorkBy}
+use Rattle.cb_shared.proofs.DidAlone.{did_alone}
 use Rattle.cb_shared.proofs.WorkedGround.{a_stand, made, not_new, two}
 use Rattle.cb_shared.proofs.WorkedSeat.{Has, gives_back, refusing, seat, tells, tells_nine}
 use Rattle.cb_shared.proofs.WorkedUnder.{far, known, last, stood}
 
 -- no turn of this reply, and no far state that is the next one
-not_done : (s : Shown) (es : List Event) (gave : FarState)
-    → DidAs two job.Evict (Some answer.Done) s es (far last) gave → ⊥
-not_done s es gave (worn end is same ran) = absurd cc
-not_done s es gave (done few does) = omega (arith, few)
+not_done : (o k : Option Kept) (s : Shown) (es : List Event) (gave : FarState)
+    → DidBy two job.Evict o (Some answer.Done) k s es (far last) gave → ⊥
+not_done o k s es gave did =
+    by (did_alone two job.Evict o (Some answer.Done) k s es (far last) gave tt did)
+  where
+    by : DidAs two job.Evict (Some answer.Done) s es (far last) gave → ⊥
+    by (worn end is same ran) = absurd cc
+    by (done few does) = omega (arith, few)
+
+-- every order stays kept where nothing changed
+stays : (s t : Shown) → t ≡ s → LeavesOrders s (far last) t (far last)
+stays s t is = subst (λ (k : Shown). LeavesOrders s (far last) k (far last)) (sym is) (λ o kept. kept)
 
 not_next : IsOneTurnOn (far last) (far 3) → ⊥
 not_next (inl few) = let n = few.0 in omega (arith, n)
@@ -43,7 +54,7 @@ not_next (inr same) = eqb-false 3 last refl (ap (λ (f : FarState). f.counts.tur
 
 -- ---- the work of a turn that was refused for its number
 abbrev Works : FarState → SeatAt → SeatAt → Type 0
-Works gave p q = TurnAtSeat two job.Evict (Ok answer.Worn) (far last) gave p q
+Works gave p q = TurnAtSeat two job.Evict (Ok answer.Worn) None (far last) gave p q
 
 module _ (p q : SeatAt) where
   works : Has p refusing [] → q.table_id ≡ p.table_id → q.id ≡ p.id → q.me ≡ p.me
@@ -52,18 +63,20 @@ module _ (p q : SeatAt) where
     events = [];
     more = [];
     runs = ((table, id, me), tt, tt, tt);
-    did = worn refl refl refl (refl, tt);
+    did = inl (worn refl refl refl (refl, tt), sym (ap (λ (m : Sat). m.0.order) at));
     next = inr (refl, refl);
     wrote = refl;
     fresh = ap (λ (m : Sat). m.0.fresh) (me ∙ at);
     stood = subst (λ (m : Sat). Stood two m.0.known (far last)) (sym (me ∙ at)) (stood last (lit≤ tt));
+    leaves = stays (record_at p).known (record_at q).known (ap (λ (m : Sat). m.0.known) me);
+    own = tt;
   }
 
   works_elsewhere : (q.table_id ≡ p.table_id → ⊥) → Works (far last) p q → ⊥
   works_elsewhere n w = n w.runs.0.0
 
-  works_to_another_end : TurnAtSeat two job.Evict (Ok answer.Done) (far last) (far last) p q → ⊥
-  works_to_another_end w = not_done _ _ _ w.did
+  works_to_another_end : TurnAtSeat two job.Evict (Ok answer.Done) None (far last) (far last) p q → ⊥
+  works_to_another_end w = not_done _ _ _ _ _ w.did
 
   works_uncounted : Works (far 3) p q → ⊥
   works_uncounted w = not_next w.next
@@ -96,7 +109,7 @@ in_range [] each = lit< tt
 in_range (s ∷ ss) each = each.0
 
 abbrev WorksBy : FarState → SeatAt → SeatAt → Type 0
-WorksBy gave p q = WorkBy two job.Evict (Ok answer.Worn) (far last) gave p q
+WorksBy gave p q = WorkBy two job.Evict (Ok answer.Worn) None (far last) gave p q
 
 module _ (p q : SeatAt) where
   works_by : Has p refusing [] → q.table_id ≡ p.table_id → q.id ≡ p.id → Has q refusing []
@@ -110,13 +123,15 @@ module _ (p q : SeatAt) where
     quiet = (refl, refl);
     range = tt;
     reads = λ u same. refl;
-    did = worn refl refl refl (refl, tt);
+    did = inl (worn refl refl refl (refl, tt), sym (ap (λ (m : Sat). m.0.order) at));
     next = inr (refl, refl);
     wrote = refl;
     fresh = ap (λ (m : Sat). m.0.fresh) at;
     new = tt;
     pins = tt;
     stood = subst (λ (m : Sat). Stood two m.0.known (far last)) (sym at) (stood last (lit≤ tt));
+    leaves = λ o kept. kept;
+    own = tt;
   }
 
   by_untrue_events : (record_at p).acts ≡ [] → (record_at p).known ≡ known
@@ -164,17 +179,19 @@ module _ (p q : SeatAt) where
 
   -- a free at a version that the record has
   by_an_old_version : (record_at p).written ≡ made ∷ []
-      → WorkBy two (job.Free record { n = 1 }) (Ok (answer.Version 3)) (far 1) (far 2) p q → ⊥
+      → WorkBy two (job.Free record { n = 1 }) (Ok (answer.Version 3)) None (far 1) (far 2) p q
+      → ⊥
   by_an_old_version is w = not_new (record_at p) is
       (subst (λ (l : List Entry). AreNew l (record_at p)) w.wrote.1 w.new).0
 
   -- one of an object that the pass has pinned
   by_a_pinned_one : (record_at p).pins ≡ a_stand ∷ []
-      → WorkBy two (job.Free record { n = 1 }) (Ok (answer.Version 4)) (far 1) (far 2) p q → ⊥
+      → WorkBy two (job.Free record { n = 1 }) (Ok (answer.Version 4)) None (far 1) (far 2) p q
+      → ⊥
   by_a_pinned_one is w = eqb-false 1 0 refl (sym (ap (times (pins_it 1)) is) ∙ w.pins)
 
-  by_another_end : WorkBy two job.Evict (Ok answer.Done) (far last) (far last) p q → ⊥
-  by_another_end w = not_done _ _ _ w.did
+  by_another_end : WorkBy two job.Evict (Ok answer.Done) None (far last) (far last) p q → ⊥
+  by_another_end w = not_done _ _ _ _ _ w.did
 
   by_no_count : WorksBy (far 3) p q → ⊥
   by_no_count w = not_next w.next
@@ -198,7 +215,7 @@ first_gave [] = far last
 first_gave (t ∷ ts) = t.gave
 
 abbrev Turns : SeatAt → SeatAt → Type 0
-Turns p q = TurnWith two job.Evict (Ok answer.Worn) (far last) p q
+Turns p q = TurnWith two job.Evict (Ok answer.Worn) None (far last) p q
 
 module _ (p q : SeatAt) where
   turns : Has p refusing [] → q.table_id ≡ p.table_id → q.id ≡ p.id → Has q (gives_back refusing) []
@@ -219,7 +236,7 @@ module _ (p q : SeatAt) where
     quiet = (refl, refl);
     range = tt;
     reads = λ u same. refl;
-    did = worn refl refl refl (refl, tt);
+    did = inl (worn refl refl refl (refl, tt), sym (ap (λ (m : Sat). m.0.order) at));
     next = inr (refl, refl);
     wrote = refl;
     fresh = ap (λ (m : Sat). m.0.fresh) at;
@@ -276,17 +293,17 @@ module _ (p q : SeatAt) where
       omega (arith, e, f, g, none)
 
   turns_to_an_old_version : (record_at p).written ≡ made ∷ []
-      → TurnWith two (job.Free record { n = 1 }) (Ok (answer.Version 3)) (far 1) p q → ⊥
+      → TurnWith two (job.Free record { n = 1 }) (Ok (answer.Version 3)) None (far 1) p q → ⊥
   turns_to_an_old_version is t =
       not_new (record_at p) is
       (subst (λ (l : List Entry). AreNew l (record_at p)) t.wrote.1 t.new).0
 
   turns_a_pinned_one : (record_at p).pins ≡ a_stand ∷ []
-      → TurnWith two (job.Free record { n = 1 }) (Ok (answer.Version 4)) (far 1) p q → ⊥
+      → TurnWith two (job.Free record { n = 1 }) (Ok (answer.Version 4)) None (far 1) p q → ⊥
   turns_a_pinned_one is t = eqb-false 1 0 refl (sym (ap (times (pins_it 1)) is) ∙ t.pins)
 
-  turns_to_another_end : TurnWith two job.Evict (Ok answer.Done) (far last) p q → ⊥
-  turns_to_another_end t = not_done _ _ _ t.did
+  turns_to_another_end : TurnWith two job.Evict (Ok answer.Done) None (far last) p q → ⊥
+  turns_to_another_end t = not_done _ _ _ _ _ t.did
 
   turns_uncounted : first_gave (record_at q).turns ≡ far 3 → Turns p q → ⊥
   turns_uncounted is t = not_next (subst (λ (f : FarState). IsOneTurnOn (far last) f)
