@@ -32,7 +32,7 @@ use Rattle.cb_compact.specs.PairStep.{PairStep}
 use Rattle.cb_compact.specs.PartStep.{PartStep}
 use Rattle.cb_compact.specs.PatchStep.{PatchStep, is_undone}
 use Rattle.cb_evict.specs.AbortStep.{IsAbortStep}
-use Rattle.cb_evict.specs.BeginStep.{IsBeginStep}
+use Rattle.cb_evict.specs.BeginStep.{BeginsTo, IsBeginStep}
 use Rattle.cb_evict.specs.CommitStep.{IsCommitStep}
 use Rattle.cb_evict.specs.declared.eviction.Eviction.{Eviction}
 use Rattle.cb_evict.specs.EvictStep.{IsEvictStep}
@@ -147,10 +147,10 @@ evict_few x y far new r (IsEvictStep.few_nodes few is) = same few.reply tt
 evict_few x y far new r (IsEvictStep.made made) = same made.reply tt
 
 begin_few : (x y : Words) (far new : FarState) (r : Reply) → IsBeginStep x y far new r → HasFew r
-begin_few x y far new r (IsBeginStep.is_leaving batch there e same_far same_words) = same e tt
-begin_few x y far new r (IsBeginStep.few_spans none few is) = same few.reply tt
-begin_few x y far new r (IsBeginStep.few_nodes none few is) = same few.reply tt
-begin_few x y far new r (IsBeginStep.begins made) = same made.reply tt
+begin_few x y far new r (BeginsTo.is_leaving batch there e same_far same_words) = same e tt
+begin_few x y far new r (BeginsTo.few_spans none few is) = same few.reply tt
+begin_few x y far new r (BeginsTo.few_nodes none few is) = same few.reply tt
+begin_few x y far new r (BeginsTo.begins made) = same made.reply tt
 
 ship_few : (x y : Words) (far new : FarState) (r : Reply) → IsShipStep x y far new r → HasFew r
 ship_few x y far new r step = elim step.ships [

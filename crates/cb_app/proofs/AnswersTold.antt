@@ -42,6 +42,7 @@ use Rattle.cb_record.specs.Parts.{Part}
 use Rattle.cb_record.specs.Told.{tolds}
 use Rattle.cb_record.specs.Upheld.{as_part}
 use Rattle.cb_record.proofs.Laws.{has_left, has_right}
+use Rattle.cb_shared.proofs.Laws.{asked_alone}
 use Rattle.cb_shared.specs.Turning.{Did, DidAs, ReadsByPin, Slate, held_by, slate_run, slate_shows}
 use Rattle.cb_lanes.specs.Asked.{HasLineReply}
 use Rattle.cb_lanes.specs.Lost.{told_loss, losses_of}
@@ -209,8 +210,7 @@ turn_evicts : (c : Config) (t : Turn) → IsConfiguredCode c t.took.code → Did
     → TellsEviction c (deed t)
 turn_evicts c t code did r at is = turned_few c (held_by t.start [] t.took)
     (held_by (played t.acts t.start) t.acts t.gave) r code
-    (subst (λ (o : Option Reply). DidAs c job.Evict o t.start t.acts t.took t.gave) is
-    (subst (λ (j : Job). DidAs c j t.reply t.start t.acts t.took t.gave) at did))
+    (asked_alone c t job.Evict (Some r) tt at is did)
 
 all_evict : (c : Config) (ts : List Turn) → ((t : Turn) → Has t ts → TellsEviction c (deed t)) → (d : Deed)
     → Has d (map deed ts) → TellsEviction c d

@@ -23,7 +23,8 @@ use Rattle.cb_rule.specs.TriesAgain.{tries_again}
 use Rattle.cb_map_text.specs.Plain.{Plain, needs_object, objects}
 use Rattle.cb_map_text.specs.declared.command.FarCommand.{FarCommand}
 use Rattle.cb_shared.specs.Turning.{Did, DidAs, made_by_turn}
-use Rattle.cb_shared.proofs.Laws.{makes_full}
+use Rattle.cb_core.specs.Jobs.{NeedsNoOrder}
+use Rattle.cb_shared.proofs.Laws.{asked_alone, makes_full}
 use Rattle.cb_farmap.specs.Commands.{HasOneHistory, IsMake, IsOnObject, IsToldByTurn, made_by_all}
 use Rattle.cb_app.specs.Mapped.{HasTurn, IsCause}
 use Rattle.cb_app.specs.Telling.{AreOfOtherNodes}
@@ -87,6 +88,14 @@ for_more v w all j (inl is) = inl is
 for_more v w all j (inr is) = inr (on_more v w all j is)
 
 -- ---- one turn of a closed record all of whose turns are for objects
+-- a job that makes an object, or is on one, hands no order out and takes none
+for_alone : (v : View) (j : Job) → IsForObject v j → NeedsNoOrder j
+for_alone v job.Gather is = elim is [ inl x ↦ absurd x | inr x ↦ absurd x ]
+for_alone v job.Install is = elim is [ inl x ↦ absurd x | inr x ↦ absurd x ]
+for_alone v (job.Fetch handle) is = elim is [ inl x ↦ absurd x | inr x ↦ absurd x ]
+for_alone v job.Land is = elim is [ inl x ↦ absurd x | inr x ↦ absurd x ]
+for_alone v j is = tt
+
 module _ (c : Config) (ok : IsAccepted c) (v : View) (w : WorldState) (closed : IsClosed Did 1 c v w)
     (few : length v.written ≤ 320000)
     (jobs_are : (t : Turn) → Has t v.turns → IsForObject v t.job) where
@@ -97,11 +106,10 @@ module _ (c : Config) (ok : IsAccepted c) (v : View) (w : WorldState) (closed : 
   one = closed.turns
 
   module _ (t : Turn) (there : Has t v.turns) where
-    did : (j : Job) (r : Reply) → t.job ≡ j → t.reply ≡ Some r
+    did : (j : Job) (r : Reply) → NeedsNoOrder j → t.job ≡ j → t.reply ≡ Some r
         → DidAs c j (Some r) t.start t.acts t.took t.gave
-    did j r asked told = subst (λ (k : Job). DidAs c k (Some r) t.start t.acts t.took t.gave) asked
-        (subst (λ (o : Option Reply). DidAs c t.job o t.start t.acts t.took t.gave) told
-        (one.did t (v, (0, refl), there)))
+    did j r alone asked told =
+        asked_alone c t j (Some r) alone asked told (one.did t (v, (0, refl), there))
 
     stood : Stood c t.start t.took
     stood = one.sound t (v, (0, refl), there)
@@ -144,14 +152,14 @@ module _ (c : Config) (ok : IsAccepted c) (v : View) (w : WorldState) (closed : 
       where
         by : (j : Job) → t.job ≡ j → IsForObject v j → IsShort t.took
         by (job.Make bytes) e (inl x) = (make_lacks c t.start t.acts t.took t.gave frames loose
-            nodes bytes (short_make bytes x) (did (job.Make bytes) _ e is)).1
+            nodes bytes (short_make bytes x) (did (job.Make bytes) _ tt e is)).1
         by (job.Make bytes) e (inr x) = absurd x
         by (job.Swap h) e x = swap_lacks c t.start t.acts t.took t.gave frames loose nodes h
-            narrow (did (job.Swap h) _ e is)
+            narrow (did (job.Swap h) _ tt e is)
         by (job.Read h) e x = read_lacks c t.start t.acts t.took t.gave frames loose nodes h
-            narrow (did (job.Read h) _ e is)
+            narrow (did (job.Read h) _ tt e is)
         by (job.Write h at bytes) e x = write_lacks c t.start t.acts t.took t.gave frames loose
-            nodes h at bytes narrow (did (job.Write h at bytes) _ e is)
+            nodes h at bytes narrow (did (job.Write h at bytes) _ tt e is)
         by j e (inl x) = absurd x
         by j e (inr x) = absurd x
 
@@ -260,7 +268,7 @@ module _ (c : Config) (ok : IsAccepted c) (v : View) (w : WorldState) (closed : 
         })
         by (inl x) =
             let m = make_of t.job x in
-            let d = did t in_v (job.Make m.0) (answer.NoRoom frames loose nodes) m.1 reply in
+            let d = did t in_v (job.Make m.0) (answer.NoRoom frames loose nodes) tt m.1 reply in
             let less = (make_lacks c t.start t.acts t.took t.gave frames loose nodes m.0
             (short_make m.0 m.2) d).0 in
             let low = make_counted c t.start t.acts t.took t.gave frames loose nodes m.0 d in
@@ -293,7 +301,7 @@ module _ (c : Config) (ok : IsAccepted c) (v : View) (w : WorldState) (closed : 
 
     pub refused_so : IsCause c v w s a r
     refused_so = by (turn_want c t.start t.acts t.took t.gave u (tries_again t) t.job r for_object told.answers
-        told.lacks (did t in_v t.job r refl told.reply_is))
+        told.lacks (did t in_v t.job r (for_alone u t.job for_object) refl told.reply_is))
       where
         at : (q : Reply) → r ≡ q → IsCause c v w s a q → IsCause c v w s a r
         at q e x = subst (IsCause c v w s a) (sym e) x

@@ -1,6 +1,6 @@
 -- How many handles were made behind a turn over any desk: a make that is answered Made makes one
 -- more, and nothing else does. It is of the rules alone, and would fit cb_core.
-use Rattle.std.proofs.Common.{◌≡◌, ◌⊎◌, ℕ, suc, ◌+◌, ◌≤◌, List, length, Option, None, Some, refl, sym, ap, ◌∙◌, subst, inl, inr, arith}
+use Rattle.std.proofs.Common.{◌≡◌, ◌⊎◌, ℕ, suc, ◌+◌, ◌≤◌, Bool, true, false, List, length, Option, None, Some, refl, sym, ap, ◌∙◌, subst, inl, inr, arith}
 use Rattle.cb_member.specs.declared.names.NodeId.{NodeId}
 use Rattle.cb_ptr.specs.declared.word.State.{State}
 use Rattle.cb_ptr.specs.declared.word.State.TheVariants as word
@@ -10,6 +10,8 @@ use Rattle.cb_types.specs.declared.config.Config.{Config}
 use Rattle.cb_types.specs.declared.handle.SetId.{SetId}
 use Rattle.cb_types.specs.declared.job.Job.{Job}
 use Rattle.cb_types.specs.declared.job.Job.TheVariants as job
+use Rattle.cb_types.specs.declared.order.Kept.{Kept}
+use Rattle.cb_types.specs.declared.order.Kept.TheVariants.{Decode, Encode}
 use Rattle.cb_types.specs.declared.reply.Reply.{Reply}
 use Rattle.cb_types.specs.declared.reply.Reply.TheVariants as answer
 use Rattle.cb_world.specs.declared.event.Event.{Event}
@@ -18,17 +20,26 @@ use Rattle.cb_world.specs.FarState.{FarState}
 use Rattle.cb_mutate.specs.FreeRule.{FreeFar, LeavesPlace}
 use Rattle.cb_mutate.specs.MakeRule.{MakeRule}
 use Rattle.cb_evict.specs.AbortRule.{AbortRule, HasGivenUp, HasNoBatch}
-use Rattle.cb_evict.specs.BeginRule.{BeginRule, HasBatch}
+use Rattle.cb_evict.specs.BeginRule.{BeginsBy, HasBatch}
+use Rattle.cb_evict.specs.Gathering.{HandsOut, gathered_reply}
+use Rattle.cb_evict.specs.InstallRule.{InstallStep}
 use Rattle.cb_evict.specs.CommitRule.{CommitRule, HasCommitted, HasShort}
 use Rattle.cb_evict.specs.declared.eviction.Eviction.TheVariants.{Refused, Set}
 use Rattle.cb_evict.specs.declared.eviction.Lack.{Lack}
 use Rattle.cb_evict.specs.EvictRule.{EvictRule, HasBoth, HasFewNodes, HasFewSpans}
 use Rattle.cb_evict.specs.ShipRule.{ShipRule}
 use Rattle.cb_filter.specs.FilterRule.{FilterAs, FilterHere, FilterRule}
-use Rattle.cb_swapin.specs.SwapRule.{SwapFar}
+use Rattle.cb_swapin.specs.declared.fetching.Fetching.{Fetching}
+use Rattle.cb_swapin.specs.declared.fetching.Fetching.TheVariants as fetching
+use Rattle.cb_swapin.specs.FetchStep.{FetchFar, FetchStep}
+use Rattle.cb_swapin.specs.SwapRule.{BringsFar}
+use Rattle.cb_swapin.proofs.Laws.{land_rule_cases}
 use Rattle.cb_compact.proofs.Laws.{begin_laws, merge_laws, now_laws, part_laws, patch_laws}
 use Rattle.cb_rebuild.specs.RebuildStep.{RebuildStep, Restores, surveyed}
 use Rattle.cb_core.specs.Membership.{CrashTurn, JoinTurn, crashed, is_down, is_up, joined}
+use Rattle.cb_core.specs.Ordered.{DoesWith, Lands, NothingDone, StoppedWith, StopsWith, TurnedWith}
+use Rattle.cb_core.specs.Ordered.TurnedWith.{done as with_done, worn as with_worn}
+use Rattle.cb_core.specs.OrderParts.FetchesBy.{not_far as was_near, was_far as was_away}
 use Rattle.cb_core.specs.OnceHere.{OnceHere, OnceHereStops, away, bringing_stops, call_stops, here}
 use Rattle.cb_core.specs.Parts.{CallStops, Holding, NeverLacks, RoomStops, WithRoom, WhereItIs, at_once, no_room, won, most_evictions, near, declined, stays_far, brought, not_far, was_far}
 use Rattle.cb_core.specs.Parts.RoomStops.{at_once as lacks_at_once, evicting, after}
@@ -97,13 +108,13 @@ evict_same c far new r es a = by a.answered
     by (inr (inl x)) = same far new x.state
     by (inr (inr x)) = ap (λ (f : FarState). f.made) x.evicted.state
 
-begin_same : (c : Config) (far new : FarState) (r : Reply) (es : List Event)
-    → BeginRule far new r es → SameMade far new
-begin_same c far new r es (inl a) = same far new a.state
-begin_same c far new r es (inr a) = by a.answered
+begin_same : (far new : FarState) (made : Bool) (so : List (List ℕ) → Type 0) (r : Reply)
+    (es : List Event) → BeginsBy far new made so r es → SameMade far new
+begin_same far new made so r es (inl a) = same far new a.state
+begin_same far new made so r es (inr a) = by a.answered
   where
     by : HasFewSpans far new r a.loose ⊎ (HasFewNodes far new r a.loose
-        ⊎ HasBatch far new r a.loose es) → SameMade far new
+        ⊎ HasBatch far new made so r a.loose es) → SameMade far new
     by (inl x) = same far new x.state
     by (inr (inl x)) = same far new x.state
     by (inr (inr x)) = ap (λ (f : FarState). f.made) x.begun.state
@@ -133,10 +144,28 @@ abort_same far new r es a = by a.answered
     by (inl x) = same far new x.state
     by (inr x) = ap (λ (f : FarState). f.made) x.state
 
-swap_same : (far new : FarState) (id p : ℕ) (set : SetState) (es : List Event) (r : Reply)
-    → SwapFar far new id p set es r → SameMade far new
-swap_same far new id p set es (answer.Swapped f) x = ap (λ (f : FarState). f.made) x.0.rest
-swap_same far new id p set es r x = ap (λ (f : FarState). f.made) x.0
+swap_same : (n : ℕ) (far new : FarState) (id p : ℕ) (set : SetState) (es : List Event) (r : Reply)
+    → BringsFar n far new id p set es r → SameMade far new
+swap_same n far new id p set es (answer.Swapped f) x = ap (λ (f : FarState). f.made) x.0.rest
+swap_same n far new id p set es r x = ap (λ (f : FarState). f.made) x.0
+
+install_same : (far new : FarState) (r : Reply) (order keeps : Option Kept)
+    → InstallStep far new r order keeps → SameMade far new
+install_same far new r None keeps x = same far new x.0.state
+install_same far new r (Some (Decode o)) keeps x = same far new x.0.state
+install_same far new r (Some (Encode o)) keeps x = elim x [
+  | inl none ↦ same far new none.0.state
+  | inr (inl other) ↦ same far new other.0.state
+  | inr (inr z) ↦ ap (λ (f : FarState). f.made) z.0.state
+]
+
+rows_same : (id p : ℕ) (far new : FarState) (g : Fetching) → FetchStep id p far new g
+    → SameMade far new
+rows_same id p far new g x = by g x.state
+  where
+    by : (f : Fetching) → FetchFar far new id p x.set f → SameMade far new
+    by (fetching.Order o) z = ap (λ (f : FarState). f.made) z.state
+    by (fetching.Answer r) z = same far new z.1
 
 restored_same : (far new : FarState) (id : ℕ) (set : SetState) (r : Reply)
     → Restores (surveyed far id) id set new r → SameMade far new
@@ -185,7 +214,7 @@ module _ {D : Type 0} (run : D → List Event → D → Type 0) (shows : D → S
 
   swapped : (h : ℕ) (a b : Hold) (r : Reply) → Swaps run shows h a r b → KeepsMade a b
   swapped h a b r (home, at, x) =
-      swap_same a.far b.far home.set home.position x.rule.set x.events r x.rule.state
+      swap_same _ a.far b.far home.set home.position x.rule.set x.events r x.rule.state
 
   room_won : (m n : Hold) (id : SetId) → WinsRoom run shows c m (Set id) n → KeepsMade m n
   room_won m n id x = evict_same c m.far n.far (answer.Set id) x.events x.rule.rule
@@ -261,7 +290,7 @@ module _ {D : Type 0} (run : D → List Event → D → Type 0) (shows : D → S
   does_adds job.Evict a b r x =
       adds_none c job.Evict a.far b.far (Some r) refl (evict_same c a.far b.far r x.events x.rule)
   does_adds job.Begin a b r x =
-      adds_none c job.Begin a.far b.far (Some r) refl (begin_same c a.far b.far r x.events x.rule)
+      adds_none c job.Begin a.far b.far (Some r) refl (begin_same a.far b.far true (λ rows. Unit {0}) r x.events x.rule)
   does_adds job.Ship a b r x =
       adds_none c job.Ship a.far b.far (Some r) refl (ship_same a.far b.far r x.events x.rule)
   does_adds job.Commit a b r x =
@@ -379,3 +408,57 @@ module _ {D : Type 0} (run : D → List Event → D → Type 0) (shows : D → S
       → CountsMakes c j a.far b.far None
   stops_adds j a b x = adds_none c j a.far b.far None (none_made j)
       (stops_kept j (record { desk = a.desk; far = counted a.far j }) b x)
+
+  -- ---- jobs that hand an order out or take one
+  landed : (order : Option Kept) (a b : Hold) (r : Reply) → Lands run shows order a r b → KeepsMade a b
+  landed order a b r x = land_rule_cases (KeepsMade a b) order a.far b.far r x.events x.rule
+      (λ stays. kept a b stays)
+      (λ id p brings. swap_same 0 a.far b.far id p brings.set x.events r brings.state)
+
+  landed_kept : (order : Option Kept) (left : ℕ) (a b : Hold) (r : Reply)
+      → WithRoom c.frames (Lands run shows order) (WinsRoom run shows c) left a r b → KeepsMade a b
+  landed_kept order left a b r (at_once x never) = landed order a b r x
+  landed_kept order left a b r (no_room m why loose nodes x evict e) =
+      room_lost m b why loose nodes evict ∙ landed order a m answer.NoFrame x
+  landed_kept order (suc fewer) a b r (won m n id x evict again) =
+      landed_kept order fewer n b r again ∙ room_won m n id evict ∙ landed order a m answer.NoFrame x
+
+  with_kept : (j : Job) (order keeps : Option Kept) (a b : Hold) (r : Reply)
+      → DoesWith run shows c j order a r keeps b → KeepsMade a b
+  with_kept job.Gather order keeps a b r (g, x, told, leaves) =
+      begin_same a.far b.far false (HandsOut a.far g) (gathered_reply g) x.events x.rule
+  with_kept job.Install order keeps a b r (ran, x) = install_same a.far b.far r order keeps x
+  with_kept (job.Fetch handle) order keeps a b r (was_near x never leaves) = kept a b x.rule.0
+  with_kept (job.Fetch handle) order keeps a b r
+      (was_away m g x (home, at, ran, step) told leaves) =
+      rows_same home.set home.position m.far b.far g step ∙ kept a m x.rule.0
+  with_kept job.Land order keeps a b r (x, leaves) = landed_kept order most_evictions a b r x
+  with_kept j order keeps a b r x = absurd x
+
+  stops_with : (j : Job) (order : Option Kept) (a b : Hold) → StopsWith run shows c j order a b
+      → KeepsMade a b
+  stops_with job.Gather order a b x = kept a b x.0
+  stops_with (job.Fetch handle) order a b (m, x, lacking) = kept m b lacking.1 ∙ kept a m x.rule.0
+  stops_with job.Land order a b x = room_stops (Lands run shows order) (NothingDone run)
+      (λ n m y. landed order n m answer.NoFrame y) (λ n m y. kept n m y.1) most_evictions a b x
+  stops_with j order a b x = absurd x
+
+  -- and such a turn makes no object: only a make does
+  ordered_none : (j : Job) (order keeps : Option Kept) (a b : Hold) (r : Reply)
+      → DoesWith run shows c j order a r keeps b → made_by j (Some r) ≡ 0
+  ordered_none (job.Make bytes) order keeps a b r x = absurd x
+  ordered_none j order keeps a b r x = refl
+
+  pub ordered_adds : (j : Job) (order keeps : Option Kept) (a b : Hold) (r : Reply)
+      → TurnedWith run shows c j order a r keeps b → CountsMakes c j a.far b.far (Some r)
+  ordered_adds j order keeps a b r (with_worn end e leaves stays ran) =
+      adds_none c j a.far b.far (Some r) (ap (λ (q : Reply). made_by j (Some q)) e ∙ worn_none j)
+      (same a.far b.far stays)
+  ordered_adds j order keeps a b r (with_done few x) = adds_none c j a.far b.far (Some r)
+      (ordered_none j order keeps (record { desk = a.desk; far = counted a.far j }) b r x)
+      (with_kept j order keeps (record { desk = a.desk; far = counted a.far j }) b r x)
+
+  pub ordered_stops_adds : (j : Job) (order : Option Kept) (a b : Hold)
+      → StoppedWith run shows c j order a b → CountsMakes c j a.far b.far None
+  ordered_stops_adds j order a b x = adds_none c j a.far b.far None (none_made j)
+      (stops_with j order (record { desk = a.desk; far = counted a.far j }) b x.stops)

@@ -7,6 +7,7 @@ use Rattle.cb_types.specs.declared.answer.Answer.{Answer}
 use Rattle.cb_types.specs.declared.config.Config.{Config}
 use Rattle.cb_types.specs.declared.job.Job.{Job}
 use Rattle.cb_types.specs.declared.job.Job.TheVariants as job
+use Rattle.cb_types.specs.declared.order.Kept.{Kept}
 use Rattle.cb_types.specs.declared.reply.Reply.{Reply}
 use Rattle.cb_types.specs.declared.reply.Reply.TheVariants as answer
 use Rattle.cb_types.specs.declared.request.Request.{Request}
@@ -30,21 +31,28 @@ use Rattle.cb_record.specs.Deeds.{Deed, deed, happened, happening}
 use Rattle.cb_record.specs.Lists.{newest_first}
 use Rattle.cb_record.specs.Told.{tolds}
 use Rattle.cb_record.specs.Upheld.{as_part}
-use Rattle.cb_shared.specs.Turning.{Did, DidAs, PinLacks, ReadsByPin, held_by, slate_run, slate_shows}
+use Rattle.cb_shared.specs.Turning.{Did, DidBy, PinLacks, ReadsByPin, held_by, slate_run, slate_shows}
 use Rattle.cb_app.proofs.CountedTurns.{below, counts_all, counts_more, counts_none}
-use Rattle.cb_app.proofs.MadeStays.{CountsMakes, made_by, stops_adds, turned_adds}
+use Rattle.cb_app.proofs.MadeStays.{CountsMakes, made_by, ordered_adds, ordered_stops_adds, stops_adds, turned_adds}
 use Rattle.cb_app.proofs.TurnHistory.{at_gave, at_last, at_turn, lone, number_of, lacks_same, pins_same}
 
 -- ---- one turn
 
-did_adds : (c : Config) (j : Job) (reply : Option Reply) (start : Shown) (es : List Event)
-    (took gave : FarState) → DidAs c j reply start es took gave → CountsMakes c j took gave reply
-did_adds c j (Some r) start es took gave did =
+did_adds : (c : Config) (j : Job) (order : Option Kept) (reply : Option Reply) (keeps : Option Kept)
+    (start : Shown) (es : List Event) (took gave : FarState)
+    → DidBy c j order reply keeps start es took gave → CountsMakes c j took gave reply
+did_adds c j order (Some r) keeps start es took gave (inl (did, leaves)) =
     turned_adds slate_run slate_shows ReadsByPin pins_same PinLacks lacks_same c j
     (held_by start [] took) (held_by (played es start) es gave) r did
-did_adds c j None start es took gave did =
+did_adds c j order None keeps start es took gave (inl (did, leaves)) =
     stops_adds slate_run slate_shows ReadsByPin pins_same PinLacks lacks_same c j
     (held_by start [] took) (held_by (played es start) es gave) did.stops
+did_adds c j order (Some r) keeps start es took gave (inr did) =
+    ordered_adds slate_run slate_shows ReadsByPin pins_same PinLacks lacks_same c j order keeps
+    (held_by start [] took) (held_by (played es start) es gave) r did
+did_adds c j order None keeps start es took gave (inr did) =
+    ordered_stops_adds slate_run slate_shows ReadsByPin pins_same PinLacks lacks_same c j order
+    (held_by start [] took) (held_by (played es start) es gave) did.0
 
 -- how many objects a turn made
 abbrev pub made_in : Turn → ℕ
@@ -67,7 +75,7 @@ module _ (first : ℕ) (c : Config) (v : View) (count : ℕ) (last : FarState)
   CountsMade n far = (far.made ≡ total (below turn_number made_in n) v.turns) × (far.made ≤ c.handles)
 
   pub adds : (t : Turn) → Has t v.turns → CountsMakes c t.job t.took t.gave t.reply
-  adds t there = did_adds c t.job t.reply t.start t.acts t.took t.gave (one.did t (v, (0, refl), there))
+  adds t there = did_adds c t.job t.order t.reply t.keeps t.start t.acts t.took t.gave (one.did t (v, (0, refl), there))
 
   step : (t : Turn) → Has t v.turns → turn_number t < count → CountsMade (turn_number t) t.took
       → CountsMade (suc (turn_number t)) t.gave

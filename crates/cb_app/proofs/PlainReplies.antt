@@ -8,6 +8,8 @@ use Rattle.cb_ptr.specs.declared.word.State.{State}
 use Rattle.cb_ptr.specs.declared.word.State.TheVariants as word
 use Rattle.cb_ptr.specs.Word.{state_of, len_of}
 use Rattle.cb_types.specs.declared.config.Config.{Config}
+use Rattle.cb_types.specs.declared.order.Kept.{Kept}
+use Rattle.cb_types.specs.declared.order.Kept.TheVariants.{Decode, Encode}
 use Rattle.cb_types.specs.declared.reply.Reply.{Reply}
 use Rattle.cb_types.specs.declared.reply.Reply.TheVariants as answer
 use Rattle.cb_world.specs.declared.event.Event.{Event}
@@ -18,9 +20,12 @@ use Rattle.cb_mutate.specs.FreeRule.{FreeAs, FreeFar, FreeHere, FreeRule, Leaves
 use Rattle.cb_mutate.specs.MakeRule.{MakeRule}
 use Rattle.cb_mutate.specs.WriteRule.{NextVersion, WriteHere, WriteRule}
 use Rattle.cb_evict.specs.AbortRule.{AbortRule, HasNoBatch, HasGivenUp}
-use Rattle.cb_evict.specs.BeginRule.{BeginRule, HasBatch}
+use Rattle.cb_evict.specs.BeginRule.{BeginRule, BeginsBy, HasBatch}
 use Rattle.cb_evict.specs.CommitRule.{CommitRule, HasShort, HasCommitted}
 use Rattle.cb_evict.specs.EvictRule.{EvictRule, HasBoth, HasFewNodes, HasFewSpans}
+use Rattle.cb_evict.specs.declared.gathering.Gathered.{Gathered}
+use Rattle.cb_evict.specs.Gathering.{GatherRule, HandsOut, gathered_reply}
+use Rattle.cb_evict.specs.InstallRule.{InstallStep}
 use Rattle.cb_evict.specs.ShipRule.{ShipRule}
 use Rattle.cb_filter.specs.FilterRule.{EmptyToFilter, FilterAs, FilterHere, FilterRule}
 use Rattle.cb_core.specs.Turned.{IsDeclined}
@@ -184,16 +189,37 @@ evict_plain c far new r es a = by a.answered
     by (inr (inl x)) = stays far new r _ refl x.reply x.state
     by (inr (inr x)) = comes far new _ r _ refl x.reply x.evicted.state refl
 
-pub begin_plain : (c : Config) (far new : FarState) (r : Reply) (es : List Event)
-    → BeginRule far new r es → StaysPlain far new r
-begin_plain c far new r es (inl a) = stays far new r _ refl a.reply a.state
-begin_plain c far new r es (inr a) = by a.answered
+begins_plain : (far new : FarState) (made : Bool) (so : List (List ℕ) → Type 0) (r : Reply)
+    (es : List Event) → BeginsBy far new made so r es → StaysPlain far new r
+begins_plain far new made so r es (inl a) = stays far new r _ refl a.reply a.state
+begins_plain far new made so r es (inr a) = by a.answered
   where
     by : HasFewSpans far new r a.loose ⊎ (HasFewNodes far new r a.loose
-        ⊎ HasBatch far new r a.loose es) → StaysPlain far new r
+        ⊎ HasBatch far new made so r a.loose es) → StaysPlain far new r
     by (inl x) = stays far new r _ refl x.reply x.state
     by (inr (inl x)) = stays far new r _ refl x.reply x.state
     by (inr (inr x)) = comes far new _ r _ refl x.reply x.begun.state refl
+
+pub begin_plain : (c : Config) (far new : FarState) (r : Reply) (es : List Event)
+    → BeginRule far new r es → StaysPlain far new r
+begin_plain c far new r es x = begins_plain far new true (λ rows. Unit {0}) r es x
+
+pub gather_plain : (far new : FarState) (g : Gathered) (es : List Event) → GatherRule far new g es
+    → StaysPlain far new (gathered_reply g)
+gather_plain far new g es x =
+    begins_plain far new false (HandsOut far g) (gathered_reply g) es x
+
+-- the parities of an order come to the batch of its number, or nothing changes
+pub install_plain : (far new : FarState) (r : Reply) (order keeps : Option Kept)
+    → InstallStep far new r order keeps → StaysPlain far new r
+install_plain far new r None keeps (x, same) = stays far new r answer.NoOrder refl x.reply x.state
+install_plain far new r (Some (Decode o)) keeps (x, same) =
+    stays far new r answer.NoOrder refl x.reply x.state
+install_plain far new r (Some (Encode o)) keeps x = elim x [
+  | inl none ↦ stays far new r answer.NoBatch refl none.0.reply none.0.state
+  | inr (inl other) ↦ stays far new r _ refl other.0.reply other.0.state
+  | inr (inr z) ↦ comes far new _ r answer.Done refl z.0.reply z.0.state refl
+]
 
 pub ship_plain : (far new : FarState) (r : Reply) (es : List Event) → ShipRule far new r es
     → StaysPlain far new r

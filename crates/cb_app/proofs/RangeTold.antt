@@ -18,6 +18,7 @@ use Rattle.cb_rule.specs.Lists.{Has}
 use Rattle.cb_rule.specs.Promised.{EntriesStand, Is, Wrote}
 use Rattle.cb_record.specs.Needs.{the_object}
 use Rattle.cb_record.specs.Upheld.{IsLong}
+use Rattle.cb_shared.proofs.Laws.{asked_alone}
 use Rattle.cb_shared.specs.Turning.{Did, DidAs, ReadsByPin, held_by, slate_run, slate_shows}
 use Rattle.cb_lanes.proofs.Laws.{FoundIn, turned_in}
 
@@ -48,8 +49,7 @@ range_told first c v w closed t there h at bytes len asked told =
     let did : Turned slate_run slate_shows ReadsByPin c (job.Write (the_object h) at bytes)
     (held_by t.start [] t.took) (answer.Range len)
     (held_by (played t.acts t.start) t.acts t.gave) =
-    subst (λ (j : Job). DidAs c j (Some (answer.Range len)) t.start t.acts t.took t.gave) asked
-    (subst (λ (o : Option Reply). DidAs c t.job o t.start t.acts t.took t.gave) told
-    (closed.turns.did t (v, (0, refl), there))) in
+    asked_alone c t (job.Write (the_object h) at bytes) (Some (answer.Range len)) tt asked told
+    (closed.turns.did t (v, (0, refl), there)) in
     end_long first v closed.entries closed.calm t there h at bytes len
     (turned_in h at bytes (answer.Range len) tt c _ _ did)

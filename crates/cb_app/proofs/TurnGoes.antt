@@ -1,7 +1,7 @@
 -- What a turn over any desk tells of the members that it found, what it leaves of them and of the
 -- pair that is joining, and what it tells of want of room. It is of the rules alone, and would fit
 -- cb_core.
-use Rattle.std.proofs.Common.{◌≡◌, ◌⊎◌, ℕ, suc, ◌+◌, ◌<◌, true, List, [], ◌∷◌, length, Option, None, Some, refl, sym, ap, ◌∙◌, subst, inl, inr, arith}
+use Rattle.std.proofs.Common.{◌≡◌, ◌⊎◌, ℕ, suc, ◌+◌, ◌<◌, if◌then◌else◌, Bool, true, false, List, [], ◌∷◌, length, Option, None, Some, refl, sym, ap, ◌∙◌, subst, inl, inr, arith}
 use Rattle.std.proofs.lemmas.Bool.{false≢true, ltb-true}
 use Rattle.cb_member.specs.declared.names.Loss.{Loss}
 use Rattle.cb_member.specs.declared.names.NodeId.{NodeId}
@@ -16,6 +16,8 @@ use Rattle.cb_types.specs.Config.{IsAccepted}
 use Rattle.cb_types.specs.declared.handle.SetId.{SetId}
 use Rattle.cb_types.specs.declared.job.Job.{Job}
 use Rattle.cb_types.specs.declared.job.Job.TheVariants as job
+use Rattle.cb_types.specs.declared.order.Kept.{Kept}
+use Rattle.cb_types.specs.declared.order.Kept.TheVariants.{Decode, Encode}
 use Rattle.cb_types.specs.declared.reply.Reply.{Reply}
 use Rattle.cb_types.specs.declared.reply.Reply.TheVariants as answer
 use Rattle.cb_types.specs.declared.request.Request.{Request}
@@ -25,6 +27,8 @@ use Rattle.cb_world.specs.declared.event.Event.{Event}
 use Rattle.cb_world.specs.declared.shown.Shown.{Shown}
 use Rattle.cb_world.specs.Choices.{room_count}
 use Rattle.cb_world.specs.FarState.{FarState}
+use Rattle.cb_world.specs.Fetched.{rows_needed}
+use Rattle.cb_world.specs.Sets.{set_in}
 use Rattle.cb_world.specs.SetWord.{is_broken}
 use Rattle.cb_world.specs.Codes.{HaveCodes, IsConfiguredCode}
 use Rattle.cb_world.specs.World.{IsConfigured}
@@ -35,16 +39,23 @@ use Rattle.cb_evict.specs.declared.eviction.Lack.TheVariants as lack
 use Rattle.cb_evict.specs.Eviction.{CountsRule, reply_of}
 use Rattle.cb_evict.specs.EvictRule.{EvictRule, HasBoth, HasFewNodes, HasFewSpans}
 use Rattle.cb_evict.proofs.Laws.{evict_stays, none_fewer}
-use Rattle.cb_swapin.specs.SwapRule.{SwapFar, SwapRule}
-use Rattle.cb_swapin.proofs.Laws.{by_answer}
+use Rattle.cb_swapin.specs.declared.fetching.Fetching.{Fetching}
+use Rattle.cb_swapin.specs.declared.fetching.Fetching.TheVariants as fetching
+use Rattle.cb_swapin.specs.FetchStep.{FetchFar, FetchStep, fetching_reply}
+use Rattle.cb_swapin.specs.LandRule.{LandRule}
+use Rattle.cb_swapin.specs.SwapRule.{BringsFar, BringsRule, SwapRule}
+use Rattle.cb_swapin.proofs.Laws.{by_answer, land_rule_cases}
 use Rattle.cb_compact.proofs.Laws.{begin_laws, merge_laws, now_laws, part_laws, patch_laws}
 use Rattle.cb_rebuild.specs.RebuildStep.{RebuildStep, Restores, surveyed}
 use Rattle.cb_core.specs.Membership.{CrashTurn, JoinTurn, crashed, is_down, is_up, joined}
 use Rattle.cb_core.specs.OnceHere.{OnceHere, away, here}
 use Rattle.cb_core.specs.Parts.{Holding, WithRoom, WhereItIs, at_once, no_room, won, most_evictions, near, declined, stays_far, brought, not_far, was_far}
-use Rattle.cb_core.specs.Turned.{Brings, ComesIn, Declines, Does, Makes, Swaps, Turned, WinsRoom, WritesObject, counted, done, worn}
+use Rattle.cb_core.specs.Ordered.{DoesWith, Lands, TurnedWith}
+use Rattle.cb_core.specs.Ordered.TurnedWith.{done as with_done, worn as with_worn}
+use Rattle.cb_core.specs.OrderParts.FetchesBy.{not_far as was_near, was_far as was_away}
+use Rattle.cb_core.specs.Turned.{Brings, ComesIn, Declines, Does, FindsWhere, Makes, Swaps, Turned, WinsRoom, WritesObject, counted, done, worn}
 use Rattle.cb_app.proofs.PairGoes.{AreSetsApart, PairGoes, begin_pair, evicted_apart, merge_pair, now_pair, pair_stays, part_pair, patch_pair}
-use Rattle.cb_app.proofs.PlainReplies.{StandsAs, StaysPlain, TellsNoLack, abort_plain, answered, begin_plain, commit_plain, declined_plain, evict_plain, filter_plain, free_plain, joining_of, make_plain, members_of, off, ship_plain, standing, stands_same, write_plain}
+use Rattle.cb_app.proofs.PlainReplies.{StandsAs, StaysPlain, TellsNoLack, abort_plain, answered, begin_plain, commit_plain, declined_plain, evict_plain, filter_plain, free_plain, gather_plain, install_plain, joining_of, make_plain, members_of, off, ship_plain, standing, stands_same, write_plain}
 
 -- all that some shards on different nodes have lost, more than a set of the configuration has parities
 pub record AreManyLost (c : Config) (m : Membership) (losses : List Loss) : Type 0 where
@@ -179,29 +190,69 @@ stands_behind c far mid new r same x = record {
   tells = tells_behind c far mid new r (members_of far mid same) x.tells;
 }
 
-pub swap_stands : (far new : FarState) (id p : ℕ) (set : SetState) (es : List Event) (r : Reply)
-    → SwapFar far new id p set es r → StandsAs far new
-swap_stands far new id p set es (answer.Swapped f) x = ap standing x.0.rest
-swap_stands far new id p set es r x = ap standing x.0
+pub swap_stands : (n : ℕ) (far new : FarState) (id p : ℕ) (set : SetState) (es : List Event)
+    (r : Reply) → BringsFar n far new id p set es r → StandsAs far new
+swap_stands n far new id p set es (answer.Swapped f) x = ap standing x.0.rest
+swap_stands n far new id p set es r x = ap standing x.0
+
+-- a set that has lost more shards than it has parities has lost so many
+many_lost : (c : Config) (far : FarState) (id : ℕ) (set : SetState) → IsFine c far
+    → set_in far.sets id ≡ Some set → is_broken far.members set ≡ true
+    → AreManyLost c far.members (lost far.members set.shards)
+many_lost c far id set fine there broken =
+    let more = ltb-true (parities set) (length (lost far.members set.shards)) broken in
+    let code = (fine.codes.sets id set there).1 in record {
+      shards = set.shards;
+      all = refl;
+      many = omega (arith, more, code);
+      apart = fine.apart id set there;
+    }
+
+brings_keeps : (c : Config) (rows : SetState → ℕ) (id p : ℕ) (far new : FarState) (r : Reply)
+    (es : List Event) → IsFine c far → BringsRule rows id p far new r es
+    → StandsAndTells c far new r
+brings_keeps c rows id p far new r es fine x = record {
+  stands = swap_stands (rows x.set) far new id p x.set es r x.state;
+  tells = subst (TellsWant c far new) (sym x.reply) (by_answer (TellsWant c far new) far id x.set
+      (λ broken. many_lost c far id x.set fine x.there broken)
+      (λ whole free. tt) (λ f whole free. tt));
+}
 
 swap_keeps : (c : Config) (id p : ℕ) (far new : FarState) (r : Reply) (es : List Event)
     → IsFine c far → SwapRule id p far new r es → StandsAndTells c far new r
-swap_keeps c id p far new r es fine x = record {
-  stands = swap_stands far new id p x.set es r x.state;
-  tells = subst (TellsWant c far new) (sym x.reply) (by_answer (TellsWant c far new) far id x.set
-      (λ broken. record {
-        shards = x.set.shards;
-        all = refl;
-        many = many broken;
-        apart = fine.apart id x.set x.there;
-      })
-      (λ whole free. tt) (λ f whole free. tt));
-}
+swap_keeps c id p far new r es fine x =
+    brings_keeps c (λ set. rows_needed far.members set p) id p far new r es fine x
+
+-- a landing is a swap-in that gives no row out, or is refused
+land_keeps : (c : Config) (order : Option Kept) (far new : FarState) (r : Reply) (es : List Event)
+    → IsFine c far → LandRule order far new r es → StandsAndTells c far new r
+land_keeps c None far new r es fine x =
+    same_keeps c far new r x.same (off r answer.NoOrder refl x.reply)
+land_keeps c (Some (Encode o)) far new r es fine x =
+    same_keeps c far new r x.same (off r answer.NoOrder refl x.reply)
+land_keeps c (Some (Decode o)) far new r es fine (inl x) =
+    same_keeps c far new r x.same (off r _ refl x.reply)
+land_keeps c (Some (Decode o)) far new r es fine (inr x) =
+    brings_keeps c (λ set. 0) o.set o.position far new r es fine x.brings
+
+-- rows that are handed out are given out, and a refusal tells of a lost set alone
+rows_keep : (c : Config) (id p : ℕ) (far new : FarState) (g : Fetching) → IsFine c far
+    → FetchStep id p far new g → StandsAndTells c far new (fetching_reply g)
+rows_keep c id p far new g fine x = by g x.state
   where
-    many : is_broken far.members x.set ≡ true → c.r < length (lost far.members x.set.shards)
-    many broken =
-        let more = ltb-true (parities x.set) (length (lost far.members x.set.shards)) broken in
-        let code = (fine.codes.sets id x.set x.there).1 in omega (arith, more, code)
+    unfetched : (b : Bool) → is_broken far.members x.set ≡ b → TellsWant c far new
+        (if b then answer.Unavailable (record { n = id }) (lost far.members x.set.shards)
+        else answer.Direct)
+    unfetched true broken = many_lost c far id x.set fine x.there broken
+    unfetched false whole = tt
+
+    by : (f : Fetching) → FetchFar far new id p x.set f → StandsAndTells c far new (fetching_reply f)
+    by (fetching.Order o) z = record { stands = ap standing z.state; tells = tt }
+    by (fetching.Answer r) z = record {
+      stands = stands_same far new z.1;
+      tells = subst (TellsWant c far new) (sym z.0)
+          (unfetched (is_broken far.members x.set) refl);
+    }
 
 -- a refusal of an eviction tells which of the two there was too little of
 too_few : (c : Config) (far new : FarState) (why : Lack) (loose nodes : ℕ) (es : List Event)
@@ -377,6 +428,12 @@ module _ {D : Type 0} (run : D → List Event → D → Type 0) (shows : D → S
       plain_behind c a.far m.far b.far r (come_keeps h a m place is come).stands
       (record { stands = stands_same m.far b.far x.0; plain = x.1 })
 
+  look_keeps : (h : ℕ) (a b : Hold) (r : Reply) → FindsWhere run shows h a r b
+      → StandsAndTells c a.far b.far r
+  look_keeps h a b r x = same_keeps c a.far b.far r x.rule.0
+      (answered (λ w. r ≡ answer.Stays) (state_of x.rule.1.word) x.rule.1.word h x.events r
+      (λ e. off r answer.Stays refl e) x.rule.1.answer)
+
   make_keeps : (bytes : List ℕ) (a b : Hold) (r : Reply) → IsFine c a.far
       → WithRoom c.frames (Makes run shows c bytes) (WinsRoom run shows c) most_evictions a r b
       → StandsAndTells c a.far b.far r
@@ -480,6 +537,56 @@ module _ {D : Type 0} (run : D → List Event → D → Type 0) (shows : D → S
   does_goes (job.Fetch handle) a b r is x = absurd x.1
   does_goes job.Land a b r is x = absurd x.1
 
+  -- a job that hands an order out or takes one
+  landed_keeps : (order : Option Kept) (a b : Hold) (r : Reply) → IsFine c a.far
+      → WithRoom c.frames (Lands run shows order) (WinsRoom run shows c) most_evictions a r b
+      → StandsAndTells c a.far b.far r
+  landed_keeps order a b r is x = keeps_won (Lands run shows order)
+      (λ n m y. land_rule_cases (m.far ≡ n.far) order n.far m.far answer.NoFrame y.events y.rule
+      (λ stays. stays) (λ id p brings. brings.state.0))
+      (λ n m q fine y. land_keeps c order n.far m.far q y.events fine y.rule)
+      most_evictions a b r is x
+
+  with_goes : (j : Job) (order keeps : Option Kept) (a b : Hold) (r : Reply) → IsFine c a.far
+      → DoesWith run shows c j order a r keeps b → LeavesAndTells c j a.far b.far r
+  with_goes job.Gather order keeps a b r is (g, x, told, same) =
+      kept job.Gather a b r (λ old new e. e)
+      (subst (StandsAndTells c a.far b.far) (sym told)
+      (plain_keeps c a.far b.far _ (gather_plain a.far b.far g x.events x.rule)))
+  with_goes job.Install order keeps a b r is (ran, x) = kept job.Install a b r (λ old new e. e)
+      (plain_keeps c a.far b.far r (install_plain a.far b.far r order keeps x))
+  with_goes (job.Fetch handle) order keeps a b r is (was_near x never same) =
+      kept (job.Fetch handle) a b r (λ old new e. e) (look_keeps handle.n a b r x)
+  with_goes (job.Fetch handle) order keeps a b r is (was_away m g x (home, at, ran, step) told same) =
+      kept (job.Fetch handle) a b r (λ old new e. e)
+      (subst (StandsAndTells c a.far b.far) (sym told)
+      (keeps_behind c a.far m.far b.far _ x.rule.0 (rows_keep c home.set home.position m.far b.far g
+      (subst (IsFine c) (sym x.rule.0) is) step)))
+  with_goes job.Land order keeps a b r is (x, same) =
+      kept job.Land a b r (λ old new e. e) (landed_keeps order a b r is x)
+  with_goes j order keeps a b r is x = absurd x
+
+  -- a turn that was answered is told of the far state before it was counted
+  recounted_tells : (j : Job) (a b : Hold) (q : Reply) → TellsWant c (counted a.far j) b.far q
+      → TellsWant c a.far b.far q
+  recounted_tells j a b (answer.NoRoom frames loose nodes) y = y
+  recounted_tells j a b (answer.Unavailable set losses) y = y
+  recounted_tells j a b q y = tt
+
+  pub ordered_goes : (j : Job) (order keeps : Option Kept) (a b : Hold) (r : Reply) → IsFine c a.far
+      → TurnedWith run shows c j order a r keeps b → LeavesAndTells c j a.far b.far r
+  ordered_goes j order keeps a b r is (with_worn end e same stays ran) = record {
+    goes = subst (λ (q : Reply). MembersGoOn j a.far.members b.far.members (Some q)) (sym e)
+        (stays_on j a.far.members b.far.members (Some answer.Worn)
+        (ap (λ (f : FarState). f.members) stays) (worn_told j));
+    pair = pair_stays a.far b.far (ap (λ (f : FarState). f.joining) stays);
+    tells = subst (TellsWant c a.far b.far) (sym e) tt;
+  }
+  ordered_goes j order keeps a b r is (with_done few x) =
+      let z = with_goes j order keeps (record { desk = a.desk; far = counted a.far j }) b r
+      (fine_counted c a.far j is) x in
+      record { goes = z.goes; pair = z.pair; tells = recounted_tells j a b r z.tells }
+
   -- a turn that was answered
   pub turned_goes : (j : Job) (a b : Hold) (r : Reply) → IsFine c a.far
       → Turned run shows reads c j a r b → LeavesAndTells c j a.far b.far r
@@ -493,10 +600,4 @@ module _ {D : Type 0} (run : D → List Event → D → Type 0) (shows : D → S
   turned_goes j a b r is (done few x) =
       let z = does_goes j (record { desk = a.desk; far = counted a.far j }) b r
       (fine_counted c a.far j is) x in
-      record { goes = z.goes; pair = z.pair; tells = told r z.tells }
-    where
-      -- a turn more is counted in the far state of which it tells
-      told : (q : Reply) → TellsWant c (counted a.far j) b.far q → TellsWant c a.far b.far q
-      told (answer.NoRoom frames loose nodes) y = y
-      told (answer.Unavailable set losses) y = y
-      told q y = tt
+      record { goes = z.goes; pair = z.pair; tells = recounted_tells j a b r z.tells }

@@ -5,6 +5,7 @@ use Rattle.std.proofs.lemmas.Bool.{cases_lt}
 use Rattle.cb_types.specs.declared.config.Config.{Config}
 use Rattle.cb_types.specs.Config.{IsAccepted}
 use Rattle.cb_types.specs.declared.job.Job.{Job}
+use Rattle.cb_types.specs.declared.order.Kept.{Kept}
 use Rattle.cb_types.specs.declared.reply.Reply.{Reply}
 use Rattle.cb_types.specs.declared.reply.Reply.TheVariants as answer
 use Rattle.cb_world.specs.Codes.{HaveCodes, IsConfiguredCode}
@@ -25,12 +26,12 @@ use Rattle.cb_rule.specs.Lists.{Has, times}
 use Rattle.cb_rule.specs.Locking.{Stood, is_turn, turn_number}
 use Rattle.cb_rule.specs.OneHistory.{HasTurnNumber, IsOneHistory, Made}
 use Rattle.cb_rule.proofs.Laws.{by_case}
-use Rattle.cb_shared.specs.Turning.{Did, DidAs, held_by, IsReadReply, PinLacks, ReadsByPin, Slate, slate_run, slate_shows}
+use Rattle.cb_shared.specs.Turning.{Did, DidBy, held_by, IsReadReply, PinLacks, ReadsByPin, Slate, slate_run, slate_shows}
 use Rattle.cb_app.proofs.PairGoes.{AreSetsApart, PairGoes, pair_stays}
 use Rattle.cb_app.proofs.PlainReplies.{StandsAs, TellsNoLack, joining_of, members_of}
-use Rattle.cb_app.proofs.TurnGoes.{IsFine, MembersGoOn, TellsWant, fine_counted, none_told, stays_on, turned_goes}
-use Rattle.cb_app.proofs.TurnKinds.{stopped_codes, turned_codes}
-use Rattle.cb_app.proofs.TurnStops.{stops_same}
+use Rattle.cb_app.proofs.TurnGoes.{IsFine, MembersGoOn, TellsWant, fine_counted, none_told, ordered_goes, stays_on, turned_goes}
+use Rattle.cb_app.proofs.TurnKinds.{ordered_codes, ordered_stops_codes, stopped_codes, turned_codes}
+use Rattle.cb_app.proofs.TurnStops.{ordered_stops_same, stops_same}
 
 -- ---- one turn
 -- what its reply tells, where it has one
@@ -58,32 +59,53 @@ pins_same h a b r x = ap (λ (z : Holding Slate). z.far) x.0
 pub lacks_same : (h : ℕ) (a b : Holding Slate) → PinLacks h a b → b.far ≡ a.far
 lacks_same h a b x = ap (λ (z : Holding Slate). z.far) x
 
-did_goes : (c : Config) → IsAccepted c → (j : Job) (reply : Option Reply) (start : Shown)
-    (es : List Event) (took gave : FarState) → IsFine c took → DidAs c j reply start es took gave
+-- behind a turn that found no memory
+stopped_goes : (c : Config) (j : Job) (took gave : FarState) → StandsAs (counted took j) gave
+    → MembersGoOn j took.members gave.members None × PairGoes took gave × TellsIf c took gave None
+stopped_goes c j took gave same = (
+  stays_on j took.members gave.members None (members_of (counted took j) gave same) (none_told j),
+  pair_stays took gave (joining_of (counted took j) gave same),
+  tt,
+)
+
+did_goes : (c : Config) → IsAccepted c → (j : Job) (order : Option Kept) (reply : Option Reply)
+    (keeps : Option Kept) (start : Shown) (es : List Event) (took gave : FarState) → IsFine c took
+    → DidBy c j order reply keeps start es took gave
     → MembersGoOn j took.members gave.members reply × PairGoes took gave × TellsIf c took gave reply
-did_goes c ok j (Some r) start es took gave is did =
+did_goes c ok j order (Some r) keeps start es took gave is (inl (did, leaves)) =
     let z = turned_goes slate_run slate_shows ReadsByPin pins_plain c ok j (held_by start [] took)
     (held_by (played es start) es gave) r is did in
     (z.goes, z.pair, z.tells)
-did_goes c ok j None start es took gave is did =
-    let same : StandsAs (counted took j) gave = stops_same slate_run slate_shows ReadsByPin pins_plain
+did_goes c ok j order (Some r) keeps start es took gave is (inr did) =
+    let z = ordered_goes slate_run slate_shows ReadsByPin pins_plain c ok j order keeps
+    (held_by start [] took) (held_by (played es start) es gave) r is did in
+    (z.goes, z.pair, z.tells)
+did_goes c ok j order None keeps start es took gave is (inl (did, leaves)) =
+    stopped_goes c j took gave (stops_same slate_run slate_shows ReadsByPin pins_plain
     PinLacks lacks_same c ok j (held_by start [] (counted took j))
-    (held_by (played es start) es gave) (fine_counted c took j is) did.stops in (
-      stays_on j took.members gave.members None (members_of (counted took j) gave same) (none_told j),
-      pair_stays took gave (joining_of (counted took j) gave same),
-      tt,
-    )
+    (held_by (played es start) es gave) (fine_counted c took j is) did.stops)
+did_goes c ok j order None keeps start es took gave is (inr did) =
+    stopped_goes c j took gave (ordered_stops_same slate_run slate_shows ReadsByPin pins_plain
+    PinLacks lacks_same c ok j order (held_by start [] (counted took j))
+    (held_by (played es start) es gave) did.0.stops)
 
 -- it makes no other code
-did_codes : (c : Config) → IsAccepted c → (j : Job) (reply : Option Reply) (start : Shown)
-    (es : List Event) (took gave : FarState) → IsConfigured c took → Sound start took
-    → DidAs c j reply start es took gave → KeepCodes took gave
-did_codes c ok j (Some r) start es took gave is sound did =
+did_codes : (c : Config) → IsAccepted c → (j : Job) (order : Option Kept) (reply : Option Reply)
+    (keeps : Option Kept) (start : Shown) (es : List Event) (took gave : FarState)
+    → IsConfigured c took → Sound start took
+    → DidBy c j order reply keeps start es took gave → KeepCodes took gave
+did_codes c ok j order (Some r) keeps start es took gave is sound (inl (did, leaves)) =
     turned_codes slate_run slate_shows c ok start ReadsByPin pins_same PinLacks lacks_same j
     (held_by start [] took) (held_by (played es start) es gave) r is sound did
-did_codes c ok j None start es took gave is sound did =
+did_codes c ok j order None keeps start es took gave is sound (inl (did, leaves)) =
     stopped_codes slate_run slate_shows c ok start ReadsByPin pins_same PinLacks lacks_same j
     (held_by start [] took) (held_by (played es start) es gave) is did
+did_codes c ok j order (Some r) keeps start es took gave is sound (inr did) =
+    ordered_codes slate_run slate_shows c ok j order (held_by start [] took)
+    (held_by (played es start) es gave) is keeps r did
+did_codes c ok j order None keeps start es took gave is sound (inr did) =
+    ordered_stops_codes slate_run slate_shows c ok j order (held_by start [] took)
+    (held_by (played es start) es gave) is did.0
 
 -- the sets of a sound far state stand on different nodes
 pub sets_apart : (c : Config) (k : Shown) (far : FarState) → Stood c k far → AreSetsApart far
@@ -101,7 +123,7 @@ fine_of c k far stood codes = record {
 
 pub turn_goes : (c : Config) → IsAccepted c → (t : Turn) → IsFine c t.took → Did c t → TurnGoes c t
 turn_goes c ok t is did =
-    let z = did_goes c ok t.job t.reply t.start t.acts t.took t.gave is did in
+    let z = did_goes c ok t.job t.order t.reply t.keeps t.start t.acts t.took t.gave is did in
     record { goes = z.0; pair = z.1; tells = z.2 }
 
 -- ---- all of them
@@ -217,7 +239,7 @@ module _ (first : ℕ) (c : Config) (v : View) (count : ℕ) (last : FarState)
   codes_step ok t there low before =
       let stood = one.sound t (made t there) in
       have_codes (IsConfiguredCode c) t.took t.gave
-      (did_codes c ok t.job t.reply t.start t.acts t.took t.gave stood.configured stood.sound
+      (did_codes c ok t.job t.order t.reply t.keeps t.start t.acts t.took t.gave stood.configured stood.sound
       (one.did t (made t there))) before
 
   pub found_codes : IsAccepted c → (t : Turn) → Has t v.turns

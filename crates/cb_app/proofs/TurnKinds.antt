@@ -1,11 +1,12 @@
 -- A turn is counted once, as one of its job's kind, and makes no other code: none of its parts counts
 -- turns or makes codes. It is of the rules alone, and would fit cb_core.
-use Rattle.std.proofs.Common.{◌≡◌, ◌⊎◌, ℕ, suc, ◌<◌, ◌^◌, List, length, refl, sym, ap, ◌∙◌, subst, inl, inr}
+use Rattle.std.proofs.Common.{◌≡◌, ◌⊎◌, ℕ, suc, ◌<◌, ◌^◌, List, length, Option, refl, sym, ap, ◌∙◌, subst, inl, inr}
 use Rattle.cb_set.specs.SetState.{SetState}
 use Rattle.cb_types.specs.declared.config.Config.{Config}
 use Rattle.cb_types.specs.Config.{IsAccepted}
 use Rattle.cb_types.specs.declared.job.Job.{Job}
 use Rattle.cb_types.specs.declared.job.Job.TheVariants as job
+use Rattle.cb_types.specs.declared.order.Kept.{Kept}
 use Rattle.cb_types.specs.declared.reply.Reply.{Reply}
 use Rattle.cb_types.specs.declared.reply.Reply.TheVariants as answer
 use Rattle.cb_types.specs.Jobs.{job_index}
@@ -22,16 +23,23 @@ use Rattle.cb_mutate.proofs.Laws.{free_stays, make_stays}
 use Rattle.cb_evict.specs.declared.eviction.Eviction.{Eviction}
 use Rattle.cb_evict.specs.declared.eviction.Eviction.TheVariants.{Refused, Set}
 use Rattle.cb_evict.specs.Eviction.{reply_of}
-use Rattle.cb_evict.proofs.Laws.{abort_stays, begin_stays, commit_stays, evict_stays, ship_stays}
+use Rattle.cb_evict.proofs.Laws.{abort_stays, begin_stays, commit_stays, evict_stays, gather_stays, install_stays, ship_stays}
 use Rattle.cb_filter.proofs.Laws.{filter_stays}
 use Rattle.cb_swapin.specs.SwapRule.{SwapFar, SwapRule}
-use Rattle.cb_swapin.proofs.Laws.{swap_codes}
+use Rattle.cb_swapin.specs.declared.fetching.Fetching.{Fetching}
+use Rattle.cb_swapin.specs.declared.fetching.Fetching.TheVariants as fetching
+use Rattle.cb_swapin.specs.FetchStep.{FetchFar, FetchStep}
+use Rattle.cb_swapin.specs.LandRule.{LandRule}
+use Rattle.cb_swapin.proofs.Laws.{land_rule_cases, land_stays, swap_codes}
 use Rattle.cb_compact.proofs.Laws.{begin_laws, merge_laws, now_laws, part_laws, patch_laws}
 use Rattle.cb_rebuild.specs.RebuildStep.{surveyed}
 use Rattle.cb_rebuild.proofs.Laws.{rebuild_stays}
 use Rattle.cb_core.proofs.Laws.{crash_stays, join_stays}
 use Rattle.cb_core.specs.OnceHere.{away, bringing_stops, call_stops, here}
 use Rattle.cb_core.specs.Parts.{Holding, NeverLacks, WithRoom, WhereItIs, at_once, no_room, won, most_evictions, near, declined, stays_far, brought, not_far, was_far}
+use Rattle.cb_core.specs.Ordered.{DoesWith, Lands, NothingDone, StoppedWith, StopsWith, TurnedWith}
+use Rattle.cb_core.specs.Ordered.TurnedWith.{done as with_done, worn as with_worn}
+use Rattle.cb_core.specs.OrderParts.FetchesBy.{not_far as was_near, was_far as was_away}
 use Rattle.cb_core.specs.Parts.{CallStops, RoomStops}
 use Rattle.cb_core.specs.Parts.RoomStops.{at_once as lacks_now, evicting, after as lacks_last}
 use Rattle.cb_core.specs.Parts.CallStops.{near as lacks_near, far as lacks_far, after as lacks_after}
@@ -203,6 +211,46 @@ module _ {D : Type 0} (run : D → List Event → D → Type 0) (shows : D → S
       (bring_lacks h n b (subst (IsConfigured c) (sym stays) is) y)
   write_lacks h at bytes a b is (lacks_after m n o f x look brings y) = absurd y
 
+  -- ---- jobs that hand an order out or take one
+  rows : (id p : ℕ) (far new : FarState) (g : Fetching) → FetchStep id p far new g → K far new
+  rows id p far new g x = by g x.state
+    where
+      by : (f : Fetching) → FetchFar far new id p x.set f → K far new
+      by (fetching.Order o) z =
+          subst (K far) (sym z.state) (kept.given far (length x.set.positions))
+      by (fetching.Answer r) z = kept.same far new z.1
+
+  land : (order : Option Kept) → Keeps (Lands run shows order)
+  land order a b r is x =
+      kept.stays 16 a.far b.far (land_stays c order a.far b.far r x.events x.rule is)
+
+  land_none : (order : Option Kept) → StaysFrameless (Lands run shows order)
+  land_none order a b x = land_rule_cases (b.far ≡ a.far) order a.far b.far answer.NoFrame x.events
+      x.rule (λ stays. stays) (λ id p brings. brings.state.0)
+
+  does_with : (j : Job) (order keeps : Option Kept) (a b : Hold) (r : Reply) → IsConfigured c a.far
+      → DoesWith run shows c j order a r keeps b → K a.far b.far
+  does_with job.Gather order keeps a b r is (g, x, told, same) =
+      kept.stays 1 a.far b.far (gather_stays c a.far b.far g x.events x.rule is)
+  does_with job.Install order keeps a b r is (ran, x) =
+      kept.stays 1 a.far b.far (install_stays c a.far b.far r order keeps x is)
+  does_with (job.Fetch handle) order keeps a b r is (was_near x never same) =
+      kept.same a.far b.far x.rule.0
+  does_with (job.Fetch handle) order keeps a b r is (was_away m g x (home, at, ran, step) told same) =
+      behind a.far m.far b.far x.rule.0 (rows home.set home.position m.far b.far g step)
+  does_with job.Land order keeps a b r is (x, same) =
+      with_room (Lands run shows order) (land order) (land_none order) most_evictions a b r is x
+  does_with j order keeps a b r is x = absurd x
+
+  stops_with : (j : Job) (order : Option Kept) (a b : Hold) → IsConfigured c a.far
+      → StopsWith run shows c j order a b → K a.far b.far
+  stops_with job.Gather order a b is x = kept.same a.far b.far x.0
+  stops_with (job.Fetch handle) order a b is (m, x, lacks) =
+      behind a.far m.far b.far x.rule.0 (kept.same m.far b.far lacks.1)
+  stops_with job.Land order a b is x = room_stops (Lands run shows order) (NothingDone run)
+      (land_none order) (λ n m at y. kept.same n.far m.far y.1) most_evictions a b is x
+  stops_with j order a b is x = absurd x
+
   -- ---- the jobs
   module _ (s : Shown) (reads : ℕ → Hold → Reply → Hold → Type 0)
       (read : (h : ℕ) (a b : Hold) (r : Reply) → reads h a r b → b.far ≡ a.far)
@@ -333,3 +381,39 @@ module _ {D : Type 0} (run : D → List Event → D → Type 0) (shows : D → S
       codes_then a.far (counted a.far j) b.far (counted_codes a.far j)
       (stops run shows c accepted KeepCodes (codes_kept c) s reads read lacks lack j
       (record { desk = a.desk; far = counted a.far j }) b (counted_is a.far j is) x.stops)
+
+-- ---- turns of such a job
+module _ {D : Type 0} (run : D → List Event → D → Type 0) (shows : D → Shown → Type 0)
+    (c : Config) (accepted : IsAccepted c) (j : Job) (order : Option Kept) (a b : Holding D)
+    (is : IsConfigured c a.far) where
+  abbrev from : Holding D
+  from = record { desk = a.desk; far = counted a.far j }
+
+  from_is : IsConfigured c (counted a.far j)
+  from_is = recounted c a.far (counted a.far j).counts is
+
+  pub ordered_counts : (keeps : Option Kept) (r : Reply) → TurnedWith run shows c j order a r keeps b
+      → CountsKind j a.far b.far
+  ordered_counts keeps r (with_worn end reply kept stays ran) = inr (end, stays)
+  ordered_counts keeps r (with_done few x) = inl (
+    few,
+    does_with run shows c accepted SameKinds (kinds_kept c) j order keeps from b r from_is x,
+  )
+
+  pub ordered_stops_counts : StoppedWith run shows c j order a b → CountsKind j a.far b.far
+  ordered_stops_counts x = inl (
+    x.few,
+    stops_with run shows c accepted SameKinds (kinds_kept c) j order from b from_is x.stops,
+  )
+
+  pub ordered_codes : (keeps : Option Kept) (r : Reply) → TurnedWith run shows c j order a r keeps b
+      → KeepCodes a.far b.far
+  ordered_codes keeps r (with_worn end reply kept stays ran) = codes_same a.far b.far stays
+  ordered_codes keeps r (with_done few x) = codes_then a.far (counted a.far j) b.far
+      (codes_stay a.far (counted a.far j) refl refl refl refl)
+      (does_with run shows c accepted KeepCodes (codes_kept c) j order keeps from b r from_is x)
+
+  pub ordered_stops_codes : StoppedWith run shows c j order a b → KeepCodes a.far b.far
+  ordered_stops_codes x = codes_then a.far (counted a.far j) b.far
+      (codes_stay a.far (counted a.far j) refl refl refl refl)
+      (stops_with run shows c accepted KeepCodes (codes_kept c) j order from b from_is x.stops)

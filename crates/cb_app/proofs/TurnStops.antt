@@ -1,15 +1,18 @@
 -- A turn that found no memory leaves the members and the pair that is joining. It is of the rules
 -- alone, and would fit cb_core.
-use Rattle.std.proofs.Common.{◌≡◌, ℕ, suc, List, length, ap, ◌∙◌}
+use Rattle.std.proofs.Common.{◌≡◌, ℕ, suc, List, length, Option, ap, ◌∙◌}
 use Rattle.cb_types.specs.declared.config.Config.{Config}
 use Rattle.cb_types.specs.Config.{IsAccepted}
 use Rattle.cb_types.specs.declared.job.Job.{Job}
 use Rattle.cb_types.specs.declared.job.Job.TheVariants as job
+use Rattle.cb_types.specs.declared.order.Kept.{Kept}
 use Rattle.cb_types.specs.declared.reply.Reply.{Reply}
 use Rattle.cb_types.specs.declared.reply.Reply.TheVariants as answer
 use Rattle.cb_world.specs.declared.event.Event.{Event}
 use Rattle.cb_world.specs.declared.shown.Shown.{Shown}
 use Rattle.cb_evict.specs.declared.eviction.Eviction.TheVariants.{Set}
+use Rattle.cb_swapin.proofs.Laws.{land_rule_cases}
+use Rattle.cb_core.specs.Ordered.{Lands, NothingDone, StopsWith}
 use Rattle.cb_core.specs.OnceHere.{OnceHereStops, bringing_stops, call_stops}
 use Rattle.cb_core.specs.Parts.{CallStops, Holding, NeverLacks, RoomStops, most_evictions}
 use Rattle.cb_core.specs.Parts.RoomStops.{at_once, evicting, after}
@@ -58,7 +61,7 @@ module _ {D : Type 0} (run : D → List Event → D → Type 0) (shows : D → S
 
   swapped : (h : ℕ) (a b : Hold) (r : Reply) → Swaps run shows h a r b → Same a b
   swapped h a b r (home, at, x) =
-      swap_stands a.far b.far home.set home.position x.rule.set x.events r x.rule.state
+      swap_stands _ a.far b.far home.set home.position x.rule.set x.events r x.rule.state
 
   given : (h : ℕ) (a b : Hold) → SwapLacks run h a b → Same a b
   given h a b (ran, (home, set, n, at, there, few, state)) = ap standing state
@@ -111,3 +114,18 @@ module _ {D : Type 0} (run : D → List Event → D → Type 0) (shows : D → S
   stops_same job.Install a b is x = absurd x.1
   stops_same (job.Fetch handle) a b is x = absurd x.1
   stops_same job.Land a b is x = absurd x.1
+
+  -- ---- jobs that hand an order out or take one
+  landed : (order : Option Kept) (a b : Hold) (r : Reply) → Lands run shows order a r b → Same a b
+  landed order a b r x = land_rule_cases (Same a b) order a.far b.far r x.events x.rule
+      (λ stays. same a b stays)
+      (λ id p brings. swap_stands 0 a.far b.far id p brings.set x.events r brings.state)
+
+  pub ordered_stops_same : (j : Job) (order : Option Kept) (a b : Hold)
+      → StopsWith run shows c j order a b → Same a b
+  ordered_stops_same job.Gather order a b x = same a b x.0
+  ordered_stops_same (job.Fetch handle) order a b (m, x, lacks) =
+      same m b lacks.1 ∙ same a m x.rule.0
+  ordered_stops_same job.Land order a b x = room_stops (Lands run shows order) (NothingDone run)
+      (landed order) (λ n m y. same n m y.1) most_evictions a b x
+  ordered_stops_same j order a b x = absurd x

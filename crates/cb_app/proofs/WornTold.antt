@@ -40,6 +40,8 @@ use Rattle.cb_record.specs.Needs.{IsJobFor, IsLastOf, IsOwnTurn, IsTurnFor, Meet
 use Rattle.cb_record.specs.Needs.Need.{AWorn}
 use Rattle.cb_record.specs.Told.{Told, tolds}
 use Rattle.cb_record.specs.Upheld.{as_part}
+use Rattle.cb_core.specs.Jobs.{NeedsNoOrder}
+use Rattle.cb_shared.proofs.Laws.{asked_alone}
 use Rattle.cb_shared.specs.Turning.{Did, DidAs, ReadsByPin, slate_run, slate_shows}
 use Rattle.cb_lanes.specs.Asked.{HasLineReply, asked}
 use Rattle.cb_app.specs.ByLane.{by_lane, lanes_up_to, of_lane}
@@ -51,10 +53,18 @@ use Rattle.cb_app.proofs.TurnHistory.{number_of}
 use Rattle.cb_app.proofs.WornLast.{ClaimsFoundHere, HadLast, by_pin, free_last, write_last}
 
 -- ---- one turn
+-- such a job hands no order out and takes none
+writes_alone : (j : Job) → WritesNone j → NeedsNoOrder j
+writes_alone job.Gather none = absurd none
+writes_alone job.Install none = absurd none
+writes_alone (job.Fetch handle) none = absurd none
+writes_alone job.Land none = absurd none
+writes_alone j none = tt
+
 turn_worn : (c : Config) (t : Turn) → Did c t → WritesNone t.job → t.reply ≡ Some answer.Worn
     → turn_number t ≡ 2 ^ 40
 turn_worn c t did none is = worn_last slate_run slate_shows ReadsByPin by_pin c t.job none _ _
-    answer.Worn (subst (λ (o : Option Reply). DidAs c t.job o t.start t.acts t.took t.gave) is did) refl
+    answer.Worn (asked_alone c t t.job (Some answer.Worn) (writes_alone t.job none) refl is did) refl
 
 -- ---- the turn that a line needs is of such a job, where the line's own is
 abbrev IsNoWrite : Option Job → Type 0
@@ -274,21 +284,18 @@ module _ (c : Config) (v : View) (w : WorldState) (closed : IsClosed Did 1 c v w
     ends h (inr had) = absurd (never_had h had)
 
     did : (j : Job) → t.job ≡ j → t.reply ≡ Some answer.Worn
-        → DidAs c j (Some answer.Worn) t.start t.acts t.took t.gave
-    did j asked told =
-        subst (λ (k : Job). DidAs c k (Some answer.Worn) t.start t.acts t.took t.gave) asked
-        (subst (λ (o : Option Reply). DidAs c t.job o t.start t.acts t.took t.gave) told
-        (one.did t made))
+        → NeedsNoOrder j → DidAs c j (Some answer.Worn) t.start t.acts t.took t.gave
+    did j asked told alone = asked_alone c t j (Some answer.Worn) alone asked told (one.did t made)
 
     pub wrote_worn : (h at : ℕ) (bytes : List ℕ) → t.job ≡ job.Write (the_object h) at bytes
         → t.reply ≡ Some answer.Worn → 2 ^ 40 ≤ count
     wrote_worn h at bytes asked told = ends h (write_last c t.start t.acts t.took t.gave
-        (one.sound t made).sound claims h at bytes (did _ asked told))
+        (one.sound t made).sound claims h at bytes (did _ asked told tt))
 
     freed_worn : (h : ℕ) → t.job ≡ job.Free (the_object h) → t.reply ≡ Some answer.Worn
         → 2 ^ 40 ≤ count
     freed_worn h asked told = ends h (free_last c t.start t.acts t.took t.gave
-        (one.sound t made).sound claims h (did _ asked told))
+        (one.sound t made).sound claims h (did _ asked told tt))
 
   -- a write found it in place, or by a turn of its own
   write_line : (h at : ℕ) (bytes : List ℕ)

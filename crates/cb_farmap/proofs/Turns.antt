@@ -19,17 +19,18 @@ use Rattle.cb_rule.specs.declared.view.View.{View}
 use Rattle.cb_core.specs.Parts.{Holding, WhereItIs, WithRoom, brought, declined, most_evictions, near, stays_far}
 use Rattle.cb_core.specs.Turned.{Brings, Declines, Does, IsDeclined, Makes, Swaps, Turned, WinsRoom, WritesObject, done, worn}
 use Rattle.cb_core.proofs.Laws.{room_reply}
+use Rattle.cb_core.specs.Jobs.{NeedsNoOrder}
 use Rattle.cb_record.specs.Parts.{Part}
 use Rattle.cb_shared.specs.Calls.{the_handle}
+use Rattle.cb_shared.proofs.Laws.{asked_alone}
 use Rattle.cb_shared.specs.Turning.{DidAs, ReadsByPin, Slate, TurnAdds, slate_run, slate_shows}
 
 -- what holds of each reply that a turn's job gives, and of Worn, holds of the turn's own
 turn_reply : (c : Config) (P : Reply → Type 0) (j : Job) (r : Reply) (v : View) (d : Part)
-    → P answer.Worn → ((a b : Holding Slate) → Does slate_run slate_shows ReadsByPin c j a r b → P r)
+    → NeedsNoOrder j → P answer.Worn → ((a b : Holding Slate) → Does slate_run slate_shows ReadsByPin c j a r b → P r)
     → TurnAdds c j (Ok r) v d → P r
-turn_reply c P j r v d last may x = by (subst (λ (i : Job). DidAs c i (Some r) x.turn.start
-    x.turn.acts x.turn.took x.turn.gave) x.job_is (subst (λ (o : Option Reply). DidAs c x.turn.job o
-    x.turn.start x.turn.acts x.turn.took x.turn.gave) x.reply_is x.did))
+turn_reply c P j r v d alone last may x =
+    by (asked_alone c x.turn j (Some r) alone x.job_is x.reply_is x.did)
   where
     turned : (a b : Holding Slate) → Turned slate_run slate_shows ReadsByPin c j a r b → P r
     turned a b (worn end is same ran) = subst P (sym is) last
@@ -65,7 +66,7 @@ make_room c bytes a b r x = room_reply c.frames (Makes slate_run slate_shows c b
 pub make_told : (c : Config) (bytes : List ℕ) (r : Reply) (v : View) (d : Part)
     → TurnAdds c (Make bytes) (Ok r) v d → IsOfMake r
 make_told c bytes r v d x =
-    turn_reply c IsOfMake (Make bytes) r v d tt (λ a b y. make_room c bytes a b r y) x
+    turn_reply c IsOfMake (Make bytes) r v d tt tt (λ a b y. make_room c bytes a b r y) x
 
 -- ---- a write tells Range where the bytes go past the end that it tells
 module _ (at : ℕ) (bytes : List ℕ) where
@@ -148,5 +149,5 @@ module _ (at : ℕ) (bytes : List ℕ) where
       → TurnAdds c (Write (the_handle h) at bytes) (Ok (answer.Range len)) v d
       → len < at + length bytes
   range_told c h len v d x = turn_reply c PastEnd (Write (the_handle h) at bytes) (answer.Range len)
-      v d (other answer.Worn answer.Worn refl refl)
+      v d tt (other answer.Worn answer.Worn refl refl)
       (λ a b y. write_where c h a b (answer.Range len) (λ e. absurd cc) y) x len refl

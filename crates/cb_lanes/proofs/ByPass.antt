@@ -10,7 +10,7 @@ use Rattle.cb_types.specs.declared.request.Request.TheVariants as line
 use Rattle.cb_types.specs.declared.reply.Reply.{Reply}
 use Rattle.cb_rule.specs.declared.view.View.{View}
 use Rattle.cb_rule.specs.Steps.{Knows}
-use Rattle.cb_core.specs.Jobs.{IsJob}
+use Rattle.cb_core.specs.Jobs.{IsJob, NeedsNoOrder}
 use Rattle.cb_shared.specs.Passes.{IsAtRest}
 use Rattle.cb_shared.specs.Turning.{KnowsOf, TurnBy}
 use Rattle.cb_shared.proofs.Laws.{known_below, known_grown}
@@ -42,6 +42,14 @@ job_within c job.Install v rest may = absurd may
 job_within c (job.Fetch handle) v rest may = absurd may
 job_within c job.Land v rest may = absurd may
 job_within c j v rest may = tt
+
+-- it hands no order out and takes none
+pub job_alone : (nodes : ℕ) (named : ℕ → Type 0) (j : Job) → MayCall nodes named j → NeedsNoOrder j
+job_alone nodes named job.Gather may = absurd may
+job_alone nodes named job.Install may = absurd may
+job_alone nodes named (job.Fetch handle) may = absurd may
+job_alone nodes named job.Land may = absurd may
+job_alone nodes named j may = tt
 
 pub job_knows : (nodes : ℕ) (j : Job) (v : View) → MayCall nodes (KnownTo v) j → KnowsOf j v
 job_knows nodes (job.Read handle) v may = may

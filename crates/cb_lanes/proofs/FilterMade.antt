@@ -25,6 +25,7 @@ use Rattle.cb_core.specs.Turned.{Turned, done, worn}
 use Rattle.cb_rule.specs.declared.view.View.{View}
 use Rattle.cb_rule.specs.Steps.{Knows}
 use Rattle.cb_record.specs.Parts.{Part}
+use Rattle.cb_shared.proofs.Laws.{asked_alone}
 use Rattle.cb_shared.specs.Turning.{DidAs, ReadsByPin, Slate, TurnAdds, slate_run, slate_shows}
 
 -- ---- events that only tell
@@ -126,9 +127,7 @@ module _ (c : Config) (handle : Handle) where
   pub filter_made : (r : Reply) (v : View) (d : Part) → TurnAdds c (job.Filter handle) (Ok r) v d
       → Knows handle.n v → r ≢ answer.Unmade
   filter_made r v d x knows e =
-      let did = subst (λ (j : Job). DidAs c j (Some r) x.turn.start x.turn.acts x.turn.took x.turn.gave)
-      x.job_is (subst (λ (o : Option Reply). DidAs c x.turn.job o x.turn.start x.turn.acts x.turn.took
-      x.turn.gave) x.reply_is x.did) in
+      let did = asked_alone c x.turn (job.Filter handle) (Some r) tt x.job_is x.reply_is x.did in
       let none = turned_is _ _ (subst (λ (q : Reply). DidAs c (job.Filter handle) (Some q) x.turn.start
       x.turn.acts x.turn.took x.turn.gave) e did) in
       let some = x.made handle.n knows in omega (arith, none, some)

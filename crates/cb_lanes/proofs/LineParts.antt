@@ -50,7 +50,7 @@ use Rattle.cb_shared.specs.declared.reading.ReadAnswer.TheVariants as found
 use Rattle.cb_shared.specs.Reading.{FindsGone, IsReadHere, looked, looked_freed, read_once}
 use Rattle.cb_shared.specs.Turning.{DidAs, FindsAtLast, JobReads, TurnAdds, TurnBy, made_by_turn}
 use Rattle.cb_shared.specs.Turning.{turn_part}
-use Rattle.cb_shared.proofs.Laws.{freed_part}
+use Rattle.cb_shared.proofs.Laws.{asked_alone, freed_part}
 use Rattle.cb_lanes.specs.Names.{IsOnObject}
 use Rattle.cb_lanes.specs.LineGoes.{CallGoes, LineGoes, job_of}
 use Rattle.cb_lanes.specs.Passing.{CallGives, IsNewestPin, IsNotPinned, LeaveGoes, PeekGoes}
@@ -581,9 +581,8 @@ filter_needs : (c : Config) (h : ℕ) (name : List ℕ) (r : Reply) (v : View) (
     → IsNotOfRoom r → (x : TurnAdds c (job.Filter (the_handle h)) (Ok r) v d)
     → Meets (turn_part x.turn x.more x.within x.later) (need_of (Some h) (Filter name) r)
 filter_needs c h name answer.Freed v d off x = absurd (filter_off c h x.turn.start x.turn.acts x.turn.took
-    x.turn.gave (subst (λ (j : Job). DidAs c j (Some answer.Freed) x.turn.start x.turn.acts x.turn.took
-    x.turn.gave) x.job_is (subst (λ (o : Option Reply). DidAs c x.turn.job o x.turn.start x.turn.acts
-    x.turn.took x.turn.gave) x.reply_is x.did)))
+    x.turn.gave (asked_alone c x.turn (job.Filter (the_handle h)) (Some answer.Freed) tt x.job_is
+    x.reply_is x.did))
 filter_needs c h name (answer.Full n) v d off x = its_turn c _ (Some h) _ _ v d refl x refl
 filter_needs c h name (answer.NoRoom f l n) v d off x = absurd (off f l n refl)
 filter_needs c h name (answer.Unavailable s l) v d off x =

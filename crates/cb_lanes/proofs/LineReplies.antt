@@ -24,9 +24,10 @@ use Rattle.cb_shared.specs.Calls.{again_in}
 use Rattle.cb_shared.specs.Calls.{WriteAnswers, WriteCallEnds, the_handle}
 use Rattle.cb_shared.specs.declared.answers.WriteAnswer.{WriteAnswer}
 use Rattle.cb_shared.specs.declared.answers.WriteAnswer.TheVariants as place
+use Rattle.cb_core.specs.Jobs.{NeedsNoOrder}
 use Rattle.cb_shared.specs.Turning.{DidAs, ReadsByPin, Slate, TurnAdds, TurnBy, slate_run}
 use Rattle.cb_shared.specs.Turning.{slate_shows}
-use Rattle.cb_shared.proofs.Laws.{read_lacks}
+use Rattle.cb_shared.proofs.Laws.{asked_alone, read_lacks}
 use Rattle.cb_lanes.specs.declared.body.Named.{Named}
 use Rattle.cb_lanes.specs.Asked.{HasLineReply}
 use Rattle.cb_lanes.specs.Bodies.{LinesGo, handle_behind}
@@ -38,31 +39,30 @@ use Rattle.cb_lanes.proofs.TurnReplies.{rebuild_step, crash_turn, join_turn}
 
 module _ (c : Config) where
   -- ---- a turn
-  turn_reply : (j : Job) (q : Request) (r : Reply) (v : View) (d : Part)
+  turn_reply : (j : Job) (q : Request) (r : Reply) (v : View) (d : Part) → NeedsNoOrder j
       → ((a b : Holding Slate) → Does slate_run slate_shows ReadsByPin c j a r b → IsReplyOf q r)
       → IsReplyOf q answer.Worn → TurnAdds c j (Ok r) v d → IsReplyOf q r
-  turn_reply j q r v d may last x = by (subst (λ (i : Job). DidAs c i (Some r) x.turn.start
-      x.turn.acts x.turn.took x.turn.gave) x.job_is (subst (λ (o : Option Reply). DidAs c x.turn.job o
-      x.turn.start x.turn.acts x.turn.took x.turn.gave) x.reply_is x.did))
+  turn_reply j q r v d alone may last x =
+      by (asked_alone c x.turn j (Some r) alone x.job_is x.reply_is x.did)
     where
       by : DidAs c j (Some r) x.turn.start x.turn.acts x.turn.took x.turn.gave → IsReplyOf q r
       by turned = turned_so slate_run slate_shows c ReadsByPin j q r _ _ (λ does. may _ _ does) last turned
 
-  by_turn : (j : Job) (q : Request) (r : Reply) (v w : View)
+  by_turn : (j : Job) (q : Request) (r : Reply) (v w : View) → NeedsNoOrder j
       → ((a b : Holding Slate) → Does slate_run slate_shows ReadsByPin c j a r b → IsReplyOf q r)
       → IsReplyOf q answer.Worn → TurnBy c j (Ok r) v w → IsReplyOf q r
-  by_turn j q r v w may last (d, x, is) = turn_reply j q r v d may last x
+  by_turn j q r v w alone may last (d, x, is) = turn_reply j q r v d alone may last x
 
   -- ---- calls that try again
   make_reply : (name bytes : List ℕ) (r : Reply) (v w : View) → TurnGives c (job.Make bytes) r v w
       → IsReplyOf (Make name bytes) r
   make_reply name bytes r v w (d, x, is) = turn_reply (job.Make bytes) (Make name bytes) r
-      (grown x.before v) x.last (λ a b y. room_for slate_run slate_shows c name bytes a b r y) tt x.ends_so.1
+      (grown x.before v) x.last tt (λ a b y. room_for slate_run slate_shows c name bytes a b r y) tt x.ends_so.1
 
   free_reply : (h : ℕ) (name : List ℕ) (r : Reply) (v w : View)
       → TurnGives c (job.Free (the_handle h)) r v w → IsReplyOf (Free name) r
   free_reply h name r v w (d, x, is) = turn_reply (job.Free (the_handle h)) (Free name) r
-      (grown x.before v) x.last (λ a b y.
+      (grown x.before v) x.last tt (λ a b y.
       free_as (state_of y.rule.reply.word) h y.rule.reply.word name y.events r y.rule.reply.answer) tt
       x.ends_so.1
 
@@ -113,7 +113,7 @@ module _ (c : Config) where
       → WriteCallEnds c h at bytes r v d → IsReplyOf (Write name at bytes) r
   write_ends h at name bytes r v d (inl (a, says, x)) = says_so name bytes at a r says
   write_ends h at name bytes r v d (inr x) =
-      turn_reply (job.Write (the_handle h) at bytes) (Write name at bytes) r _ x.later
+      turn_reply (job.Write (the_handle h) at bytes) (Write name at bytes) r _ x.later tt
       (λ a b y. write_where slate_run slate_shows c name bytes h at a b r (here_again _ r x.turned.0) y) tt x.turned.1
 
   write_reply : (h at : ℕ) (name bytes : List ℕ) (r : Reply) (v w : View)
@@ -123,7 +123,7 @@ module _ (c : Config) where
 
   pub filter_reply : (h : ℕ) (name : List ℕ) (r : Reply) (v w : View)
       → TurnBy c (job.Filter (the_handle h)) (Ok r) v w → IsReplyOf (Filter name) r
-  filter_reply h name r v w x = by_turn (job.Filter (the_handle h)) (Filter name) r v w
+  filter_reply h name r v w x = by_turn (job.Filter (the_handle h)) (Filter name) r v w tt
       (λ a b y. filter_as (state_of y.rule.word) c.frames h y.rule.word name a.far b.far r y.events
       y.rule.answer) tt x
 
@@ -166,31 +166,31 @@ module _ (c : Config) where
       → LineGoes (goes_in c) h q v r w → IsReplyOf q r
   line_reply h (Make name bytes) r v w x = make_reply name bytes r v w x
   line_reply h Leave r v w x = so Leave r _ tt x.0
-  line_reply h line.Evict r v w x = by_turn job.Evict line.Evict r v w
+  line_reply h line.Evict r v w x = by_turn job.Evict line.Evict r v w tt
       (λ a b y. evict_rule c a.far b.far r y.events y.rule) tt x
-  line_reply h line.Begin r v w x = by_turn job.Begin line.Begin r v w
+  line_reply h line.Begin r v w x = by_turn job.Begin line.Begin r v w tt
       (λ a b y. begin_rule c a.far b.far r y.events y.rule) tt x
-  line_reply h line.Ship r v w x = by_turn job.Ship line.Ship r v w
+  line_reply h line.Ship r v w x = by_turn job.Ship line.Ship r v w tt
       (λ a b y. ship_rule a.far b.far r y.events y.rule) tt x
-  line_reply h line.Commit r v w x = by_turn job.Commit line.Commit r v w
+  line_reply h line.Commit r v w x = by_turn job.Commit line.Commit r v w tt
       (λ a b y. commit_rule a.far b.far r y.events y.rule) tt x
-  line_reply h line.Abort r v w x = by_turn job.Abort line.Abort r v w
+  line_reply h line.Abort r v w x = by_turn job.Abort line.Abort r v w tt
       (λ a b y. abort_rule a.far b.far r y.events y.rule) tt x
-  line_reply h line.Pair r v w x = by_turn job.Pair line.Pair r v w
+  line_reply h line.Pair r v w x = by_turn job.Pair line.Pair r v w tt
       (λ a b y. begin_laws.answers a.far b.far r y.1) tt x
-  line_reply h line.Patch r v w x = by_turn job.Patch line.Patch r v w
+  line_reply h line.Patch r v w x = by_turn job.Patch line.Patch r v w tt
       (λ a b y. patch_laws.answers a.far b.far r y.1) tt x
-  line_reply h line.Merge r v w x = by_turn job.Merge line.Merge r v w
+  line_reply h line.Merge r v w x = by_turn job.Merge line.Merge r v w tt
       (λ a b y. merge_laws.answers a.far b.far r y.1) tt x
-  line_reply h line.Part r v w x = by_turn job.Part line.Part r v w
+  line_reply h line.Part r v w x = by_turn job.Part line.Part r v w tt
       (λ a b y. part_laws.answers a.far b.far r y.1) tt x
-  line_reply h line.Compact r v w x = by_turn job.Compact line.Compact r v w
+  line_reply h line.Compact r v w x = by_turn job.Compact line.Compact r v w tt
       (λ a b y. now_laws.answers a.far b.far r y.1) tt x
-  line_reply h line.Rebuild r v w x = by_turn job.Rebuild line.Rebuild r v w
+  line_reply h line.Rebuild r v w x = by_turn job.Rebuild line.Rebuild r v w tt
       (λ a b y. rebuild_step a.far b.far r y.1) tt x
-  line_reply h (line.Crash node) r v w x = by_turn (job.Crash node) (line.Crash node) r v w
+  line_reply h (line.Crash node) r v w x = by_turn (job.Crash node) (line.Crash node) r v w tt
       (λ a b y. crash_turn a.far b.far node r y.1) tt x
-  line_reply h (line.Join node) r v w x = by_turn (job.Join node) (line.Join node) r v w
+  line_reply h (line.Join node) r v w x = by_turn (job.Join node) (line.Join node) r v w tt
       (λ a b y. join_turn a.far b.far node r y.1) tt x
   line_reply None (Read name) r v w x = so (Read name) r answer.Unmade tt x.0
   line_reply None (Write name at bytes) r v w x = so (Write name at bytes) r answer.Unmade tt x.0

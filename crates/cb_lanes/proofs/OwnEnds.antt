@@ -37,6 +37,7 @@ use Rattle.cb_shared.specs.declared.answers.WriteAnswer.{WriteAnswer}
 use Rattle.cb_shared.specs.declared.answers.WriteAnswer.TheVariants as place
 use Rattle.cb_shared.specs.Calls.{SaysAs, WriteAnswers, WriteCallEnds, WriteFinds, the_handle}
 use Rattle.cb_shared.specs.Reading.{looked}
+use Rattle.cb_shared.proofs.Laws.{asked_alone}
 use Rattle.cb_shared.specs.Turning.{DidAs, ReadsByPin, Slate, TurnAdds, held_by, slate_run}
 use Rattle.cb_shared.specs.Turning.{slate_shows}
 
@@ -195,9 +196,7 @@ module _ (h at : ℕ) (bytes : List ℕ) (r : Reply) (of_word : IsOfWord r) wher
       → (x : TurnAdds c (job.Write (the_handle h) at bytes) (Ok r) u d) → FoundIn x.turn.acts
   did_in c u d x = turned_in c (held_by x.turn.start [] x.turn.took)
       (held_by (played x.turn.acts x.turn.start) x.turn.acts x.turn.gave)
-      (subst (λ (j : Job). DidAs c j (Some r) x.turn.start x.turn.acts x.turn.took x.turn.gave)
-      x.job_is (subst (λ (o : Option Reply). DidAs c x.turn.job o x.turn.start x.turn.acts x.turn.took
-      x.turn.gave) x.reply_is x.did))
+      (asked_alone c x.turn (job.Write (the_handle h) at bytes) (Some r) tt x.job_is x.reply_is x.did)
 
   -- ---- such a word was found by the record, and is not empty
   pub record SawWord (m : View) : Type 0 where

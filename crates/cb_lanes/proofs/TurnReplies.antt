@@ -109,7 +109,7 @@ begin_rule c far new r es (inl a) = so line.Begin r _ tt a.reply
 begin_rule c far new r es (inr a) = by a.answered
   where
     by : HasFewSpans far new r a.loose ⊎ (HasFewNodes far new r a.loose
-        ⊎ HasBatch far new r a.loose es) → IsReplyOf line.Begin r
+        ⊎ HasBatch far new true (λ rows. Unit {0}) r a.loose es) → IsReplyOf line.Begin r
     by (inl x) = so line.Begin r _ tt x.reply
     by (inr (inl x)) = so line.Begin r _ tt x.reply
     by (inr (inr x)) = so line.Begin r _ tt x.reply
@@ -119,7 +119,7 @@ pub ship_rule : (far new : FarState) (r : Reply) (es : List Event) → ShipRule 
 ship_rule far new r es a = by a.ships
   where
     by : HasNoBatch far new r ⊎ (HasAllShipped far new r ⊎ (HasNoNode far new r
-        ⊎ HasShipped far new r a.row)) → IsReplyOf line.Ship r
+        ⊎ HasShipped far new r a.rows)) → IsReplyOf line.Ship r
     by (inl x) = so line.Ship r _ tt x.reply
     by (inr (inl x)) = so line.Ship r _ tt x.reply
     by (inr (inr (inl x))) = so line.Ship r _ tt x.reply

@@ -2,7 +2,7 @@
 //! ends of pins.
 ghost use Rattle.std.specs.Prelude.{◌≡◌, ◌<◌, ℕ, List, true, false, length, IfOk, OnErr};
 ghost use Rattle.cb_types.specs.declared.job.Job.TheVariants as jobs;
-ghost use Rattle.cb_core.specs.Jobs.{IsJob};
+ghost use Rattle.cb_core.specs.Jobs.{IsJob, NeedsNoOrder};
 ghost use Rattle.cb_rule.specs.Lists.{Has};
 ghost use Rattle.cb_rule.specs.Steps.{IsNewest, Knows};
 ghost use Rattle.cb_shared.specs.Calls.{IsLack, TurnTries, the_handle};
@@ -30,6 +30,7 @@ pub(crate) fn call<R: Wait>(
 ) -> Result<Reply, NoMemory>
     requires of { IsPassOf shared.now pass.old }
     requires job { IsJob shared.now.config job.now }
+    requires alone { NeedsNoOrder job.now }
     requires knows { KnowsOf job.now (record_of pass.old) }
     ensures of { IsPassOf shared.now pass.new }
     ensures pins { (record_of pass.new).pins ≡ (record_of pass.old).pins }

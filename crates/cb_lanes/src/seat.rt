@@ -1,7 +1,7 @@
 //! The lane of a seat of a world, on one thread.
 ghost use Rattle.std.specs.Prelude.{◌↔◌, IsTrue, ◌<◌, IfOk};
 ghost use Rattle.cb_world.specs.World.{IsSoundWorld};
-ghost use Rattle.cb_core.specs.Jobs.{IsJob};
+ghost use Rattle.cb_core.specs.Jobs.{IsJob, NeedsNoOrder};
 ghost use Rattle.cb_core.specs.Events.{IsAtomic};
 ghost use Rattle.cb_core.specs.Step.{AtomicStep, Step};
 ghost use Rattle.cb_lanes.specs.LineStep.{CompactsAt, IsInReply, PeekStep, PinLine, TurnAt};
@@ -70,6 +70,7 @@ fn turn_at(
 ) -> Result<Reply, NoMemory>
     requires seat { seat < 64 }
     requires job { IsJob world.old.desk.settings job }
+    requires alone { NeedsNoOrder job }
     requires sound { IsSoundWorld world.old }
     ensures step { IfOk result (λ reply. TurnAt job side seat world.old reply world.new) }
     ensures sound { IsSoundWorld world.new }
@@ -97,6 +98,7 @@ fn compact_at(alloc: Global, world: &mut World, side: Side, seat: u32) -> Result
 fn turn_of(alloc: Global, world: &mut World, seat: u32, job: Job) -> Result<Reply, NoMemory>
     requires seat { seat < 64 }
     requires job { IsJob world.old.desk.settings job }
+    requires alone { NeedsNoOrder job }
     requires sound { IsSoundWorld world.old }
     ensures step { IfOk result (λ reply. Step world.old (Event.Turn seat job) reply world.new) }
     ensures sound { IsSoundWorld world.new }

@@ -1,4 +1,5 @@
 -- The lemmas of this crate that other crates cite.
+pub use Rattle.cb_shared.proofs.AskedAlone.{asked_alone}
 pub use Rattle.cb_shared.proofs.CallSteps.{asked_again, known_grown, known_still, look_asks}
 pub use Rattle.cb_shared.proofs.CallSteps.{look_stops, look_tries, one_of_three, part_again}
 pub use Rattle.cb_shared.proofs.CallSteps.{read_lacks, so_far, stops_then}

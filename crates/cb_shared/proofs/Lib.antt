@@ -16,6 +16,7 @@ mod ReadSteps
 mod Tallying
 mod FirstPin
 mod DidAlone
+mod AskedAlone
 mod MadeFirst
 mod Recalled
 mod Rights

@@ -1,14 +1,21 @@
 -- Turns that are added to a record, one behind the other.
-use Rattle.std.proofs.Common.{◌≡◌, ℕ, ◌+◌, List, [], ◌++◌, refl, sym, ap, ◌∙◌, append_assoc, arith}
+use Rattle.std.proofs.Common.{◌≡◌, ℕ, ◌+◌, List, [], ◌∷◌, ◌++◌, Option, refl, sym, ap, ◌∙◌, append_assoc, arith}
 use Rattle.std.proofs.lemmas.List.{map-append}
+use Rattle.cb_types.specs.declared.order.Kept.{Kept}
 use Rattle.cb_rule.specs.declared.turn.Turn.{Turn}
 use Rattle.cb_rule.specs.declared.view.View.{View}
-use Rattle.cb_record.specs.Parts.{grown}
+use Rattle.cb_record.specs.Parts.{grown, keeps_after}
 use Rattle.cb_workers.specs.Bodies.{AddsTurns, turns_alone}
 use Rattle.cb_record.specs.Deeds.{Deed, deed}
 
 no_pin : (n : ℕ) → n ≡ n + 0
 no_pin n = omega arith
+
+-- the order kept behind both is that behind the later ones
+kept_twice : (later earlier : List Turn) → (o : Option Kept)
+    → keeps_after later (keeps_after earlier o) ≡ keeps_after (later ++ earlier) o
+kept_twice [] earlier o = refl
+kept_twice (t ∷ ts) earlier o = refl
 
 grown_twice : (v : View) → (earlier later : List Turn)
     → grown (turns_alone later) (grown (turns_alone earlier) v)
@@ -16,6 +23,7 @@ grown_twice : (v : View) → (earlier later : List Turn)
 grown_twice v earlier later = λ i. record (grown (turns_alone earlier) v) {
   ever = sym (no_pin (v.ever + 0)) i;
   turns = sym (append_assoc later earlier v.turns) i;
+  order = kept_twice later earlier v.order i;
 }
 
 -- some, and some behind them

@@ -9,10 +9,12 @@ use Rattle.cb_types.specs.declared.reply.Reply.TheVariants as answer
 use Rattle.cb_world.specs.declared.entry.Entry.{Entry}
 use Rattle.cb_world.specs.declared.event.Event.{Event}
 use Rattle.cb_mutate.specs.JobWrites.{TurnWrites}
+use Rattle.cb_core.specs.Jobs.{NeedsNoOrder}
 use Rattle.cb_core.specs.TurnLeaves.{OutcomeWrites}
 use Rattle.cb_rule.specs.declared.turn.Turn.{Turn}
 use Rattle.cb_rule.specs.declared.view.View.{View}
 use Rattle.cb_record.specs.Parts.{Part, grown, nothing_more}
+use Rattle.cb_shared.proofs.Laws.{asked_alone}
 use Rattle.cb_shared.specs.Turning.{DidAs, FindsFreedAfter, JobReads, TurnBy, answer_of, freed_of, made_by_turn, object_of, turn_part, with_own}
 use Rattle.cb_workers.specs.Bodies.{AddsTurns, IsEnd, IsOwed, one_deed, turns_alone}
 
@@ -37,6 +39,14 @@ quiet handles work owed = record {
   made = λ r. refl;
   writes = λ r more is. is;
 }
+
+-- such a job hands no order out and takes none
+pub owed_alone : (handles : ℕ) → (work : Job) → IsOwed handles work → NeedsNoOrder work
+owed_alone handles job.Gather owed = absurd owed
+owed_alone handles job.Install owed = absurd owed
+owed_alone handles (job.Fetch handle) owed = absurd owed
+owed_alone handles job.Land owed = absurd owed
+owed_alone handles work owed = tt
 
 writes_none : (work : Job) → IsQuietWork work → (r : Result Reply NoMemory) → (more : List Entry)
     → OutcomeWrites work r more → more ≡ []
@@ -79,10 +89,14 @@ ends_with c job.Abort is t did = did.stops
 ends_with c job.Part is t did = did.stops.1
 ends_with c work is t did = absurd is
 
+-- and neither hands an order out nor takes one
+end_alone : (work : Job) → IsEnd work → NeedsNoOrder work
+end_alone job.Abort is = tt
+end_alone job.Part is = tt
+end_alone work is = absurd is
+
 pub takes_no_memory : (c : Config) → (work : Job) → (r : Result Reply NoMemory) → (v w : View)
     → IsEnd work → TurnBy c work r v w → IsOk r
 takes_no_memory c work (Ok r) v w is by_turn = refl
 takes_no_memory c work (Err e) v w is (d, adds, grows) = absurd (ends_with c work is adds.turn
-    (subst (λ j. DidAs c j None adds.turn.start adds.turn.acts adds.turn.took adds.turn.gave)
-    adds.job_is (subst (λ o. DidAs c adds.turn.job o adds.turn.start adds.turn.acts adds.turn.took
-    adds.turn.gave) adds.reply_is adds.did)))
+    (asked_alone c adds.turn work None (end_alone work is) adds.job_is adds.reply_is adds.did))

@@ -30,6 +30,8 @@ turn start far work reply = record {
   old = [];
   ended = 0;
   acts = [];
+  order = None;
+  keeps = None;
   took = far;
   gave = far;
 }

@@ -1,6 +1,6 @@
 //! The calls of a pass that knows objects.
 ghost use Rattle.std.specs.Prelude.{◌≡◌, ◌<◌, IfSome};
-ghost use Rattle.cb_core.specs.Jobs.{IsJob};
+ghost use Rattle.cb_core.specs.Jobs.{IsJob, NeedsNoOrder};
 ghost use Rattle.cb_rule.specs.declared.view.View.{View};
 ghost use Rattle.cb_rule.specs.Steps.{Knows};
 ghost use Rattle.cb_shared.specs.Turning.{KnowsOf};
@@ -20,6 +20,7 @@ use std::sync::Wait;
 fn job_of(config: Config, h: Handle, deed: Deed) -> Option<Job>
     requires { h.n < config.handles }
     ensures job { IfSome result (λ job. IsJob config job) }
+    ensures alone { IfSome result (λ job. NeedsNoOrder job) }
     ensures object { IfSome result (λ job. (v : View) → Knows h.n v → KnowsOf job v) }
 {
     match deed {

@@ -1,7 +1,7 @@
 //! Turns of the core, as docs/EMBEDDING.md shows them: two objects leave, a node crashes, and one
 //! of them is read.
 ghost use Rattle.std.specs.Prelude.{OnOk};
-ghost use Rattle.cb_core.specs.Jobs.{IsJob};
+ghost use Rattle.cb_core.specs.Jobs.{IsJob, NeedsNoOrder};
 ghost use Rattle.cb_world_tests.specs.Worlds.{IsSmallWorld, small};
 
 use crate::objects::shows;
@@ -16,6 +16,7 @@ use std::test::Fail;
 fn asked(alloc: Global, world: &mut World, job: Job) -> Result<Reply, NoMemory>
     requires world { IsSmallWorld world.old }
     requires job { IsJob small job }
+    requires alone { NeedsNoOrder job }
     ensures world { OnOk result (IsSmallWorld world.new) }
 {
     turn_of(alloc, world, job)

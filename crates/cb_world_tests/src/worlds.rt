@@ -1,5 +1,5 @@
 ghost use Rattle.std.specs.Prelude.{◌≡◌, IfOk};
-ghost use Rattle.cb_core.specs.Jobs.{IsJob};
+ghost use Rattle.cb_core.specs.Jobs.{IsJob, NeedsNoOrder};
 ghost use Rattle.cb_world.specs.World.{IsSoundWorld};
 ghost use Rattle.cb_world_tests.specs.Worlds.{IsSmallWorld};
 
@@ -39,6 +39,7 @@ fn empty_world(alloc: Global, config: Config) -> Result<World, Fail>
 pub(crate) fn turn_of(alloc: Global, world: &mut World, job: Job) -> Result<Reply, NoMemory>
     requires sound { IsSoundWorld world.old }
     requires job { IsJob world.old.desk.settings job }
+    requires alone { NeedsNoOrder job }
     ensures sound { IsSoundWorld world.new }
     ensures settings { IfOk result (λ reply. world.new.desk.settings ≡ world.old.desk.settings) }
 {

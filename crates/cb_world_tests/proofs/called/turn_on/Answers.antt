@@ -14,6 +14,9 @@ pub turn-requires-clause-job : goal.turn-requires-clause-job
 turn-requires-clause-job g c =
     subst (λ (k : Config). IsJob k c.in-Some.job) c.config.ensures c.in-Some.ensures.job
 
+pub turn-requires-clause-alone : goal.turn-requires-clause-alone
+turn-requires-clause-alone g c = c.in-Some.ensures.alone
+
 pub turn-requires-clause-knows : goal.turn-requires-clause-knows
 turn-requires-clause-knows g c =
     c.in-Some.ensures.object c.args.pass.now.seat.me.0 (c.requires.among c.args.pass.now.seat.me.0 c.requires.caller.knows)

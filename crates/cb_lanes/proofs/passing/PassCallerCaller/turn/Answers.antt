@@ -1,6 +1,6 @@
 use Rattle.std.proofs.Common.{inr}
 use Rattle.cb_lanes.specs.LineGoes.{Calls}
-use Rattle.cb_lanes.proofs.ByPass.{is_made, job_knows, job_within, stays_known}
+use Rattle.cb_lanes.proofs.ByPass.{KnownTo, is_made, job_alone, job_knows, job_within, stays_known}
 use Rattle.cb_lanes.proofs.PinsHeld.{held_same}
 use Rattle.cb_lanes.proofs.Stopping.{err_then}
 use Rattle.cb_lanes.proofs.passing.PassCallerCaller.turn.Goals as goal
@@ -11,6 +11,10 @@ call-requires-clause-of g c = c.requires.well.0
 pub call-requires-clause-job : goal.call-requires-clause-job
 call-requires-clause-job g c = job_within c.args.self.now.shared.now.config c.args.job
     c.args.lane.now.pass.seat.me.0 c.requires.well.0.rest c.requires.job
+
+pub call-requires-clause-alone : goal.call-requires-clause-alone
+call-requires-clause-alone g c = job_alone c.args.self.now.shared.now.config.nodes
+    (KnownTo c.args.lane.now.pass.seat.me.0) c.args.job c.requires.job
 
 pub call-requires-clause-knows : goal.call-requires-clause-knows
 call-requires-clause-knows g c = job_knows c.args.self.now.shared.now.config.nodes c.args.job
