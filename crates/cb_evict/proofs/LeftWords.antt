@@ -1,5 +1,5 @@
 -- An eviction and the steps of a batch leave the words of sets.
-use Rattle.std.proofs.Common.{◌≡◌, ◌≢◌, ℕ, zero, suc, ◌+◌, ◌≤◌, Bool, true, false, List, [], ◌∷◌, ◌++◌, length, Option, Some, None, refl, sym, ap, ◌∙◌, subst, arith, inl, inr}
+use Rattle.std.proofs.Common.{◌≡◌, ◌≢◌, ℕ, zero, suc, ◌+◌, ◌≤◌, Bool, false, List, [], ◌∷◌, ◌++◌, Option, Some, None, refl, sym, ap, ◌∙◌, subst, arith, inl, inr}
 use Rattle.std.specs.FinMap as map
 use Rattle.std.specs.List.{slice_get}
 use Rattle.std.proofs.lemmas.Bool.{cases_eq, false≢true}
@@ -11,7 +11,7 @@ use Rattle.cb_world.specs.declared.event.Event.{Event}
 use Rattle.cb_world.specs.declared.homes.Home.{Home}
 use Rattle.cb_world.specs.declared.leaving.Former.{Former}
 use Rattle.cb_world.specs.declared.shown.Shown.{Shown}
-use Rattle.cb_world.specs.FarSound.{Owner, IsShardOf, of_leaving, of_set, rows_in}
+use Rattle.cb_world.specs.FarSound.{of_leaving, of_set, rows_in}
 use Rattle.cb_world.specs.FarState.{FarState}
 use Rattle.cb_world.specs.Leaving.{LeavingState}
 use Rattle.cb_world.specs.Orders.{LeavesWords}
@@ -27,7 +27,7 @@ use Rattle.cb_evict.specs.Closing.{with_homes}
 use Rattle.cb_evict.specs.CommitRule.{CommitRule, HasCommitted}
 use Rattle.cb_evict.specs.EvictRule.{EvictRule}
 use Rattle.cb_evict.specs.InstallRule.{with_made, with_parities}
-use Rattle.cb_evict.specs.ShipRule.{HasShipped, IsShardFor, MadeFor, ShipsRow, is_data, made_before, made_here, with_shipped}
+use Rattle.cb_evict.specs.ShipRule.{IsShardFor, MadeFor, ShipsRow, is_data, made_before, made_here, with_shipped}
 use Rattle.cb_evict.specs.Storing.{AreShards, set_for, with_set}
 use Rattle.cb_evict.specs.Waiting.{least_waiting}
 use Rattle.cb_evict.proofs.BeginSound.{reserved_kept, reserved_others}

@@ -3,7 +3,6 @@ use Rattle.std.specs.Prelude.{◌≡◌, ◌≢◌, ◌⊎◌, ℕ, ◌++◌, tr
 use Rattle.std.specs.Borrow.{Bor}
 use Rattle.cb_gf256.specs.Rows.{HoldBytes}
 use Rattle.cb_orders.specs.Done.{EncodeDoneState, IsEncoded}
-use Rattle.cb_types.specs.declared.order.DecodeOrder.{DecodeOrder}
 use Rattle.cb_types.specs.declared.order.EncodeOrder.{EncodeOrder}
 use Rattle.cb_types.specs.declared.order.Kept.{Kept}
 use Rattle.cb_types.specs.declared.order.Kept.TheVariants.{Encode, Decode}

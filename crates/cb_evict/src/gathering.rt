@@ -9,7 +9,7 @@ ghost use Rattle.cb_evict.specs.Evicting.{TouchesSpans};
 ghost use Rattle.cb_evict.specs.Gathering.{GatherEffect, GatherRule, gathered_reply};
 
 use crate::beginning::begin_with;
-use cb_types::{EncodeOrder, NoMemory, Reply};
+use cb_types::{EncodeOrder, NoMemory, Reply, SetId};
 use cb_world::{Desk, Far};
 
 /// What a gather answers.
@@ -28,7 +28,7 @@ impl Gathered {
     {
         match self {
             Gathered::Order(order) => Reply::Batch {
-                set: cb_types::SetId { n: order.set },
+                set: SetId { n: order.set },
             },
             Gathered::Answer(reply) => reply,
         }

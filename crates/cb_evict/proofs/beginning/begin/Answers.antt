@@ -1,5 +1,4 @@
 use Rattle.std.proofs.lemmas.Result.{IfOk-from_err}
-use Rattle.std.proofs.Common.{refl}
 use Rattle.cb_evict.proofs.Composed.{any_err}
 use Rattle.cb_evict.proofs.BeginParts.{forgets}
 use Rattle.cb_world.specs.Sound.{Sound}

@@ -1,4 +1,4 @@
-use Rattle.std.proofs.Common.{◌≡◌, ◌<◌, length, Some, sym, refl, ap, ◌∙◌, subst, inl, inr}
+use Rattle.std.proofs.Common.{◌<◌, length, sym, refl, ap, ◌∙◌, subst, inr}
 use Rattle.std.specs.Option.{option_map}
 use Rattle.cb_gf256.specs.Rows.{HoldBytes}
 use Rattle.cb_types.specs.declared.order.EncodeOrder.{EncodeOrder}

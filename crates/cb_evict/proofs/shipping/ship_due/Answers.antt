@@ -1,4 +1,4 @@
-use Rattle.std.proofs.Common.{◌≡◌, [], sym, ◌∙◌}
+use Rattle.std.proofs.Common.{sym, ◌∙◌}
 use Rattle.std.proofs.lemmas.Result.{on_ok_weaker}
 use Rattle.cb_evict.proofs.ShipParts.{due_for, puts_parity}
 use Rattle.cb_evict.proofs.shipping.ship_due.Goals as goal
