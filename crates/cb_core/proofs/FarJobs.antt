@@ -1,6 +1,7 @@
 -- What is owed by a job that works at the far state alone, and that each of these jobs pays it.
-use Rattle.std.proofs.Common.{◌≡◌, ℕ, ◌+◌, ◌≤◌, sym, ap, subst, arith, inl, inr}
+use Rattle.std.proofs.Common.{◌≡◌, ℕ, ◌+◌, ◌<◌, ◌≤◌, length, refl, sym, ap, subst, arith, inl, inr}
 use Rattle.cb_member.specs.Membership.{Membership}
+use Rattle.cb_member.specs.declared.names.NodeId.{NodeId}
 use Rattle.cb_types.specs.declared.config.Config.{Config}
 use Rattle.cb_types.specs.declared.job.Job.{Job}
 use Rattle.cb_types.specs.declared.job.Job.TheVariants.{Pair, Patch, Merge, Part, Compact, Rebuild, Crash, Join}
@@ -14,12 +15,14 @@ use Rattle.cb_world.specs.FarState.{FarState}
 use Rattle.cb_world.specs.Now.{now}
 use Rattle.cb_world.specs.Sound.{Sound}
 use Rattle.cb_world.specs.World.{IsConfigured}
-use Rattle.cb_world.proofs.Laws.{KeepsHolding, KeepsNote, recounted_sound, rises_more, StaysBy, StaysIfBy, stays_noted, stays_same}
+use Rattle.cb_world.specs.Orders.{LeavesWords}
+use Rattle.cb_world.proofs.Laws.{alike_leaves_words, crash_leaves_words, join_leaves_words, words_stay, KeepsHolding, KeepsNote, recounted_sound, rises_more, StaysBy, StaysIfBy, stays_noted, stays_same}
 use Rattle.cb_compact.proofs.Laws.{AreFarLaws, begin_laws, merge_laws, now_laws, part_laws, patch_laws}
-use Rattle.cb_rebuild.specs.RebuildStep.{RebuildStep, surveyed}
+use Rattle.cb_rebuild.specs.RebuildStep.{RebuildStep, far_given, surveyed}
 use Rattle.cb_rebuild.proofs.Laws.{failed_stays, keeps_first, keeps_step, rebuild_stays, rebuild_step_fixes}
 use Rattle.cb_core.specs.FarJobs.{FarLacks, FarStep, IsWeakGiven}
 use Rattle.cb_core.specs.Jobs.{IsJob}
+use Rattle.cb_core.specs.Membership.{CrashTurn, crashed, is_down, JoinTurn, joined, is_up}
 use Rattle.cb_core.proofs.Carried.{turn_rise}
 use Rattle.cb_core.proofs.CompactIdle.{now_idle}
 use Rattle.cb_core.proofs.NodesStay.{IsWholeJob, MakesNone, MembersAfter, MembersBatchPair, MembersStand, crash_fixed, crash_line, crash_none, crash_sound, crash_stands, crash_stays, join_fixed, join_line, join_none, join_now, join_sound, join_stands, join_stays, member_of, standing, stands_same, tally}
@@ -70,6 +73,10 @@ pub record IsFarJob (job : Job) : Type 0 where
       → FarStep job far new r → FarStep job far other q → (r ≡ q) × (new ≡ other)
   pub lacks : (c : Config) (s : Shown) (far new : FarState) → IsConfigured c far → Sound s far
       → FarLacks job far new → StaysSound (note_of job) c s far new
+  pub words : (c : Config) (s : Shown) (far new : FarState) (r : Reply) → IsJob c job
+      → IsConfigured c far → Sound s far → FarStep job far new r → LeavesWords far new
+  pub lacked : (c : Config) (s : Shown) (far new : FarState) → IsConfigured c far → Sound s far
+      → FarLacks job far new → LeavesWords far new
 
 -- whose numbers rise by at most so many
 pub stays_sound : {N : FarState → FarState → Type 0} (c : Config) (n : ℕ) (s : Shown)
@@ -100,6 +107,14 @@ same_looks : (c : Config) (s : Shown) (far new : FarState) → IsConfigured c fa
     → new ≡ far → StaysSound KeepsHolding c s far new
 same_looks = same_by KeepsHolding (λ far holds. holds)
 
+-- the words of sets are left where nothing changed
+same_words : (far new : FarState) → new ≡ far → LeavesWords far new
+same_words far new same = subst (LeavesWords far) (sym same) (words_stay far)
+
+still_words : (c : Config) (s : Shown) (far new : FarState) → IsConfigured c far → Sound s far
+    → new ≡ far → LeavesWords far new
+still_words c s far new is sound = same_words far new
+
 -- ---- by the laws of a step that leaves the members
 by_laws : (job : Job) (most : ℕ) (asked : Request) → most ≤ turn_rise
     → AreFarLaws (note_of job) most asked (FarStep job)
@@ -109,8 +124,10 @@ by_laws : (job : Job) (most : ℕ) (asked : Request) → most ≤ turn_rise
     → ((r : Reply) → IsReplyOf asked r → AnswersLine job r)
     → ((c : Config) (s : Shown) (far new : FarState) → IsConfigured c far → Sound s far
     → FarLacks job far new → StaysSound (note_of job) c s far new)
+    → ((c : Config) (s : Shown) (far new : FarState) → IsConfigured c far → Sound s far
+    → FarLacks job far new → LeavesWords far new)
     → IsFarJob job
-by_laws job most asked few laws stay idle answered lacking = record {
+by_laws job most asked few laws stay idle answered lacking lacked = record {
   none = λ far new r step. let z = laws.leaves far new r step in
       (λ i. (z.first i, z.made i, z.turns i));
   stands = λ far new r step. record {
@@ -123,6 +140,8 @@ by_laws job most asked few laws stay idle answered lacking = record {
   now = λ holds c s far new r ok is sound step. (laws.keeps s far new r sound step).same_now;
   fixes = laws.fixes;
   lacks = lacking;
+  words = λ c s far new r ok is sound step. (laws.keeps s far new r sound step).words;
+  lacked = lacked;
 }
 
 -- ---- a rebuild
@@ -153,6 +172,13 @@ rebuild_lacks c s far new is sound (id, set, n, first, few, state) =
     (subst (Sound s) (sym state) (recounted_sound s (surveyed far id) far.counts.turns far.counts.by_job
     (far.nodes.given + n) (keeps_first s far id set sound first).sound))
 
+rebuild_lacked : (c : Config) (s : Shown) (far new : FarState) → IsConfigured c far → Sound s far
+    → IsWeakGiven far new → LeavesWords far new
+rebuild_lacked c s far new is sound (id, set, n, first, few, state) =
+    subst (LeavesWords far) (sym state)
+    (alike_leaves_words far (far_given (surveyed far id) n) refl refl refl refl
+    (λ id p shard of. refl))
+
 rebuild_owes : IsFarJob Rebuild
 rebuild_owes = record {
   none = λ far new r step i. (rebuild_leaves far new r step i).0;
@@ -164,21 +190,38 @@ rebuild_owes = record {
   now = λ holds c s far new r ok is sound step. (keeps_step s far new r sound step).same_now;
   fixes = λ s far new other r q sound x y. rebuild_step_fixes far new other r q x y;
   lacks = rebuild_lacks;
+  words = λ c s far new r ok is sound step. (keeps_step s far new r sound step).left;
+  lacked = rebuild_lacked;
 }
+
+-- ---- a crash and a join
+crash_words : (s : Shown) (far new : FarState) (node : NodeId) (r : Reply)
+    → node.n < length far.members.nodes → CrashTurn node far r new → Sound s far
+    → LeavesWords far new
+crash_words s far new node r within (crashed up reply state) sound =
+    subst (LeavesWords far) (sym state)
+    (crash_leaves_words s far node sound.away.sound within up)
+crash_words s far new node r within (is_down down reply state) sound = same_words far new state
+
+join_words : (far new : FarState) (node : NodeId) (r : Reply)
+    → node.n < length far.members.nodes → JoinTurn node far r new → LeavesWords far new
+join_words far new node r within (joined down reply state) =
+    subst (LeavesWords far) (sym state) (join_leaves_words far node within)
+join_words far new node r within (is_up up reply state) = same_words far new state
 
 -- ---- every job
 pub far_job : (job : Job) → IsFarJob job
 far_job Pair = by_laws Pair 1 line.Pair (omega arith) begin_laws (λ old later e. e)
-    (λ whole. absurd whole) (λ r x. x) same_looks
+    (λ whole. absurd whole) (λ r x. x) same_looks still_words
 far_job Patch = by_laws Patch 1 line.Patch (omega arith) patch_laws (λ old later e. e)
-    (λ whole. absurd whole) (λ r x. x) same_lacks
+    (λ whole. absurd whole) (λ r x. x) same_lacks still_words
 far_job Merge = by_laws Merge 1 line.Merge (omega arith) merge_laws (λ old later e. e)
-    (λ whole. absurd whole) (λ r x. x) same_lacks
+    (λ whole. absurd whole) (λ r x. x) same_lacks still_words
 far_job Part = by_laws Part 1 line.Part (omega arith) part_laws (λ old later e. e)
     (λ whole. absurd whole) (λ r x. x)
-    (λ c s far new is sound x. absurd x)
+    (λ c s far new is sound x. absurd x) (λ c s far new is sound x. absurd x)
 far_job Compact = by_laws Compact 20 line.Compact (omega arith) now_laws (λ old later e. e)
-    (λ whole. now_idle) (λ r x. x) same_looks
+    (λ whole. now_idle) (λ r x. x) same_looks still_words
 far_job Rebuild = rebuild_owes
 far_job (Crash node) = record {
   none = λ far new r step. crash_none far new node r step;
@@ -190,6 +233,9 @@ far_job (Crash node) = record {
   now = λ holds. absurd holds;
   fixes = λ s far new other r q sound x y. crash_fixed node r q far new other x y;
   lacks = λ c s far new is sound x. same_lacks c s far new is sound x.0;
+  words = λ c s far new r ok is sound step.
+      crash_words s far new node r (member_of c s far node is sound ok) step sound;
+  lacked = λ c s far new is sound x. same_words far new x.0;
 }
 far_job (Join node) = record {
   none = λ far new r step. join_none far new node r step;
@@ -202,6 +248,9 @@ far_job (Join node) = record {
       join_now s far new node r h (member_of c s far node is sound ok) step;
   fixes = λ s far new other r q sound x y. join_fixed node r q far new other x y;
   lacks = λ c s far new is sound x. absurd x;
+  words = λ c s far new r ok is sound step.
+      join_words far new node r (member_of c s far node is sound ok) step;
+  lacked = λ c s far new is sound x. absurd x;
 }
 far_job job = record {
   none = λ far new r step. absurd step;
@@ -211,6 +260,8 @@ far_job job = record {
   now = λ holds c s far new r ok is sound step. absurd step;
   fixes = λ s far new other r q sound x y. absurd x;
   lacks = λ c s far new is sound x. absurd x;
+  words = λ c s far new r ok is sound step. absurd step;
+  lacked = λ c s far new is sound x. absurd x;
 }
 
 -- no such job answers that there is no frame

@@ -35,6 +35,7 @@ module _ {D : Type 0} (run : D → List Event → D → Type 0) (shows : D → S
     next = z.next;
     after = λ s shown sound. record {
       sound = z.sound s sound (kept s shown sound);
+      orders = z.orders s sound (kept s shown sound);
       more = [];
       wrote = refl;
       writes_them = λ old. refl;

@@ -18,10 +18,10 @@ use Rattle.cb_evict.specs.declared.eviction.Eviction.{Eviction}
 use Rattle.cb_evict.specs.Eviction.{reply_of}
 use Rattle.cb_swapin.specs.LandRule.{LandRule, done_order}
 use Rattle.cb_swapin.specs.SwapRule.{BringsFar}
+use Rattle.cb_evict.proofs.Laws.{evicts_leave_words}
 use Rattle.cb_core.specs.Ordered.{Lands, NothingDone}
 use Rattle.cb_core.specs.Parts.{Holding}
 use Rattle.cb_core.specs.Turned.{TriesRoom, WinsRoom}
-use Rattle.cb_core.proofs.EvictLeaves.{evict_leaves_words}
 use Rattle.cb_core.proofs.Composing.{IsSoundShown}
 use Rattle.cb_core.proofs.Winning.{IsWinning}
 
@@ -57,7 +57,7 @@ module _ {D : Type 0} (run : D → List Event → D → Type 0) (shows : D → S
   by_eviction (Some d) m n room t (s, shown, sound) v kept =
       let after = v.sound_after s (shown, sound) in
       decode_left s (played v.events s) m.far n.far sound after
-      (evict_leaves_words s m.far n.far (reply_of room) v.events sound v.rule.rule) d.now.order (kept s)
+      (evicts_leave_words s m.far n.far (reply_of room) v.events sound v.rule.rule) d.now.order (kept s)
 
   pub evicted_kept : (done : Option (Bor DecodeDoneState)) (here m n : Holding D)
       (refusal : Option Reply) → m.far ≡ here.far → IsSoundShown (λ s. shows m.desk s) m.far

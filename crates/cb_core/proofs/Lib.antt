@@ -36,8 +36,6 @@ mod SetsStay
 mod WordsTold
 mod WordsOwned
 mod SwapRows
-mod EvictLeaves
-mod InstallStays
 mod OrderTurns
 mod LandRooms
 mod LandTold

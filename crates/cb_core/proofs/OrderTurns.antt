@@ -14,7 +14,7 @@ use Rattle.cb_types.specs.declared.reply.Reply.TheVariants as answer
 use Rattle.cb_world.specs.declared.event.Event.{Event}
 use Rattle.cb_world.specs.declared.shown.Shown.{Shown}
 use Rattle.cb_world.specs.FarState.{FarState}
-use Rattle.cb_world.specs.Orders.{KeepsOrder}
+use Rattle.cb_world.specs.Orders.{IsOrderKept, KeepsOrder}
 use Rattle.cb_world.specs.Played.{Agree, played}
 use Rattle.cb_world.specs.Sound.{Sound}
 use Rattle.cb_world.specs.World.{AreCounted, IsConfigured}
@@ -22,6 +22,7 @@ use Rattle.cb_world.proofs.Laws.{codes_same, codes_stay, codes_then, recounted, 
 use Rattle.cb_evict.specs.declared.gathering.Gathered.{Gathered}
 use Rattle.cb_evict.specs.Gathering.{gathered_order, gathered_reply}
 use Rattle.cb_evict.specs.InstallRule.{InstallStep, kept_behind}
+use Rattle.cb_evict.proofs.Laws.{install_leaves_words, install_stays}
 use Rattle.cb_swapin.specs.declared.fetching.Fetching.{Fetching}
 use Rattle.cb_swapin.specs.FetchStep.{fetching_order, fetching_reply}
 use Rattle.cb_core.specs.Ordered.{FetchRun, FetchStops, Gathers, InstallTurn, Lands, NothingDone, StoppedWith, TurnedWith, desk_orders}
@@ -40,11 +41,11 @@ use Rattle.cb_core.proofs.Counting.{counted_sound, job_below}
 use Rattle.cb_core.proofs.FarJobs.{note_of}
 use Rattle.cb_core.proofs.KeptParts.{counted_rises}
 use Rattle.cb_core.proofs.Noted.{noted_after}
-use Rattle.cb_core.proofs.InstallStays.{install_stays}
 use Rattle.cb_core.proofs.LandTold.{land_told}
-use Rattle.cb_core.proofs.OrdersCounted.{counted_kept}
+use Rattle.cb_core.proofs.OrdersCounted.{counted_kept, still_kept}
 use Rattle.cb_core.proofs.OrdersLeave.{fetch_leaves, fetch_stops, gather_leaves, gather_stops, land_leaves, land_stops}
 use Rattle.cb_core.proofs.TurnComes.{AreLaws, Good, WritesNothing}
+use Rattle.cb_core.proofs.WordsTold.{far_orders}
 use Rattle.cb_core.proofs.TurnUnavailable.{fetch_tells}
 
 -- ---- by the result
@@ -239,15 +240,15 @@ module _ {D : Type 0} (run : D → List Event → D → Type 0) (shows : D → S
         (subst (λ (f : FarState). LandStops order (on f)) is y)
 
 -- ---- what an install leaves
-pub install_leaves : (c : Config) (t : Shown) (far mid new : FarState) (r : Reply) (order keeps : Option Kept)
+pub install_leaves : (c : Config) (far mid new : FarState) (r : Reply) (order keeps : Option Kept)
     → AreCounted far → far.counts.turns < 2 ^ 40 → mid ≡ counted far Install
-    → KeepsOrder t mid order → InstallStep mid new r order keeps
+    → InstallStep mid new r order keeps
     → ((s : Shown) → Sound s mid → KeepsOrder s mid order → Sound s new)
     → IsConfigured c far → InstallLeaves c far new order
-install_leaves c t far mid new r order keeps counts few is known step sound configured =
+install_leaves c far mid new r order keeps counts few is step sound configured =
     let first = recounted c far (counted far Install).counts configured in
     let z = subst (λ (f : FarState). StaysIf c 1 f new) is
-    (install_stays c t mid new r order keeps known step) first in record {
+    (install_stays c mid new r order keeps step) first in record {
       configured = z.configured;
       codes = codes_then far (counted far Install) new
           (codes_stay far (counted far Install) refl refl refl refl) z.codes;
@@ -258,6 +259,10 @@ install_leaves c t far mid new r order keeps counts few is known step sound conf
       next = inl (few, z.rises.turns);
       sound = λ s before kept. sound s (counted_sound s far mid Install is before)
           (counted_kept s far mid Install order is kept);
+      orders = λ s before kept o was. let now = counted_sound s far mid Install is before in
+          far_orders s mid new now (sound s now (counted_kept s far mid Install order is kept))
+          (install_leaves_words mid new r order keeps step) o
+          (subst (λ (f : FarState). IsOrderKept s f o) (sym is) (still_kept s far Install o was));
     }
 
 -- one that is refused for its number
@@ -269,4 +274,5 @@ install_worn c far new order counts end same configured = record {
   counted = subst AreCounted (sym same) counts;
   next = inr (end, same);
   sound = λ s before kept. subst (Sound s) (sym same) before;
+  orders = λ s before kept o was. subst (λ (f : FarState). IsOrderKept s f o) (sym same) was;
 }

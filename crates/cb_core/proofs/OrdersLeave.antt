@@ -1,33 +1,42 @@
 -- What a turn that hands an order out, or takes one, leaves over any desk.
-use Rattle.std.proofs.Common.{◌≡◌, ℕ, ◌+◌, ◌^◌, ◌<◌, ◌≤◌, List, [], length, Option, None, Some, Result, Ok, Err, refl, sym, ap, subst, arith, inl, inr}
+use Rattle.std.proofs.Common.{◌≡◌, ℕ, ◌+◌, ◌^◌, ◌<◌, ◌≤◌, true, false, List, [], length, Option, None, Some, Result, Ok, Err, refl, sym, ap, ◌∙◌, subst, arith, inl, inr}
+use Rattle.std.specs.Option.{option_map_or}
 use Rattle.std.specs.Prelude.{IfOk, OnErr}
 use Rattle.cb_member.specs.declared.no_memory.NoMemory.{NoMemory}
+use Rattle.cb_set.specs.SetState.{SetState, live_at}
 use Rattle.cb_types.specs.declared.config.Config.{Config}
 use Rattle.cb_types.specs.Config.{IsAccepted}
 use Rattle.cb_types.specs.declared.handle.Handle.{Handle}
 use Rattle.cb_types.specs.declared.job.Job.{Job}
 use Rattle.cb_types.specs.declared.job.Job.TheVariants.{Fetch, Gather, Install, Land}
+use Rattle.cb_types.specs.declared.handle.SetId.{SetId}
+use Rattle.cb_types.specs.declared.order.DecodeOrder.{DecodeOrder}
 use Rattle.cb_types.specs.declared.order.Kept.{Kept}
+use Rattle.cb_types.specs.declared.order.Kept.TheVariants.{Decode, Encode}
 use Rattle.cb_types.specs.declared.reply.Reply.{Reply}
 use Rattle.cb_types.specs.declared.reply.Reply.TheVariants as answer
 use Rattle.cb_world.specs.declared.event.Event.{Event}
 use Rattle.cb_world.specs.declared.shown.Shown.{Shown}
 use Rattle.cb_world.specs.FarState.{FarState}
 use Rattle.cb_world.specs.KeepCodes.{KeepCodes}
-use Rattle.cb_world.specs.Orders.{KeepsOrder}
+use Rattle.cb_world.specs.FarSound.{rows_in}
+use Rattle.cb_world.specs.Orders.{KeepsOrder, LeavesOrders, LeavesWords}
 use Rattle.cb_world.specs.Played.{played}
+use Rattle.cb_world.specs.Sets.{set_in}
 use Rattle.cb_world.specs.Sound.{Sound}
 use Rattle.cb_world.specs.World.{AreCounted, IsConfigured}
-use Rattle.cb_world.proofs.Laws.{codes_same, codes_stay, codes_then, recounted_sound, StaysIf, stays_same}
+use Rattle.cb_world.proofs.Laws.{codes_same, codes_stay, codes_then, recounted_sound, StaysIf, stays_same, words_stay}
 use Rattle.cb_evict.specs.declared.gathering.Gathered.{Gathered}
 use Rattle.cb_evict.specs.declared.gathering.Gathered.TheVariants as gathered
-use Rattle.cb_evict.specs.Gathering.{GatherEffect, gathered_order}
-use Rattle.cb_evict.proofs.Laws.{gather_stays, gather_unwritten}
+use Rattle.cb_evict.specs.Gathering.{GatherEffect, HandsOut, gathered_order, gathered_reply}
+use Rattle.cb_evict.proofs.Laws.{begins_leave_words, gather_stays, gather_unwritten}
 use Rattle.cb_swapin.specs.declared.fetching.Fetching.{Fetching}
 use Rattle.cb_swapin.specs.declared.fetching.Fetching.TheVariants as fetching
 use Rattle.cb_swapin.specs.FetchStep.{FetchFar, FetchStep, fetching_order}
 use Rattle.cb_swapin.specs.Fetching.{far_given}
-use Rattle.cb_swapin.proofs.Laws.{given_stays, land_stays, land_unwritten}
+use Rattle.cb_swapin.specs.LandEffect.{LandEffect, LandsRow}
+use Rattle.cb_swapin.specs.LandRule.{LandRule, live_in}
+use Rattle.cb_swapin.proofs.Laws.{fetch_leaves_words, given_stays, land_leaves_words, land_stays, land_unwritten, lands_swaps}
 use Rattle.cb_core.specs.Ordered.{FetchRun, FetchStops, FetchesRows, Gathers, Lands, NothingDone, not_far, was_far}
 use Rattle.cb_core.specs.OrderLeaves.{HandsOrder, fetch_hands, gather_hands}
 use Rattle.cb_core.specs.Parts.{Holding, RoomStops, WithRoom, most_evictions}
@@ -35,8 +44,12 @@ use Rattle.cb_core.specs.TurnLeaves.{SoundAfter, TurnLeaves}
 use Rattle.cb_core.specs.Turned.{EvictLacks, FindsWhere, WinsRoom, counted, once_counted}
 use Rattle.cb_core.proofs.Carried.{turn_rise}
 use Rattle.cb_core.proofs.Counting.{counted_sound}
-use Rattle.cb_core.proofs.TurnCarries.{evict_lacks, finds, in_job, nil_quiet, wins}
+use Rattle.cb_core.proofs.OrdersCounted.{still_kept}
+use Rattle.cb_core.proofs.SwapRows.{swap_rows}
+use Rattle.cb_core.proofs.TurnCarries.{evict_lacks, finds, in_job, nil_quiet, same_leaves, wins}
 use Rattle.cb_core.proofs.TurnComes.{AreLaws, CarriesNoWrites, CarriesWrites, Comes, Good, Nil, WritesNothing, comes_far, comes_none, good_then, room_stops, then_none, with_room}
+use Rattle.cb_core.proofs.WordsOwned.{begin_words}
+use Rattle.cb_core.proofs.WordsTold.{KeepsRows, by_words}
 use Rattle.cb_core.proofs.TurnLeft.{counted_good, counted_leaves, refused_leaves}
 
 -- ---- the orders that are handed out
@@ -66,6 +79,32 @@ rows_stay c s id p far new g sound x = by g x.state
     by (fetching.Answer r) z =
         (stays_same c 16 far new (omega arith) z.1, subst (Sound s) (sym z.1) sound)
 
+-- a row that is landed leaves the rows of the batch
+same_rows : (s t : Shown) (far new : FarState) → t ≡ s → KeepsRows s far t new
+same_rows s t far new same b at below = ap (λ (u : Shown). rows_in u b.pages b.frames) same
+
+live_there : (far : FarState) (id p : ℕ) (set : SetState) → set_in far.sets id ≡ Some set
+    → live_in far id p ≡ true → live_at set p ≡ true
+live_there far id p set there live =
+    sym (ap (λ (m : Option SetState). option_map_or (λ c. live_at c p) m false) there) ∙ live
+
+outdated_rows : (o : DecodeOrder) (s t : Shown) (far new : FarState) (r : Reply) (es : List Event)
+    → (i : SetId) → r ≡ answer.Changed i → LandsRow o far new r es s t → KeepsRows s far t new
+outdated_rows o s t far new r es i reply x = same_rows s t far new
+    (subst (λ (q : Reply). LandsRow o far new q es s t) reply x)
+
+land_rows : (order : Option Kept) (s t : Shown) (far new : FarState) (r : Reply) (es : List Event)
+    → Sound s far → Sound t new → LeavesWords far new → LandRule order far new r es
+    → LandEffect order far new r es s t → KeepsRows s far t new
+land_rows None s t far new r es before behind leaves rule x = same_rows s t far new x
+land_rows (Some (Encode o)) s t far new r es before behind leaves rule x = same_rows s t far new x
+land_rows (Some (Decode o)) s t far new r es before behind leaves (inl z) x =
+    outdated_rows o s t far new r es (record { n = o.set }) z.reply x
+land_rows (Some (Decode o)) s t far new r es before behind leaves (inr z) x =
+    swap_rows o.set o.position z.brings.set s t far new r es before behind leaves z.brings.there
+    (live_there far o.set o.position z.brings.set z.brings.there z.live) z.brings.reply
+    (lands_swaps o far new r es s t x)
+
 module _ {D : Type 0} (run : D → List Event → D → Type 0) (shows : D → Shown → Type 0)
     (laws : AreLaws run shows) (c : Config) (accepted : IsAccepted c) where
   abbrev Hold : Type 0
@@ -79,7 +118,12 @@ module _ {D : Type 0} (run : D → List Event → D → Type 0) (shows : D → S
   -- ---- a gather
   gathers : CarriesWrites run shows laws c 1 Nil (Gathers run shows)
   gathers a b g good p = comes_none run shows laws c 1 a b _ _ good
-      (λ s sound. gather_stays c a.far b.far g p.events p.rule) p
+      (λ s sound. gather_stays c a.far b.far g p.events p.rule)
+      (λ s shown sound. begins_leave_words s a.far b.far false (HandsOut a.far g) (gathered_reply g)
+      p.events sound p.rule) p
+      (by_words a.far b.far p.events (GatherEffect a.far b.far g)
+      (λ s before behind agree first e. begin_words a.far b.far false (HandsOut a.far g)
+      (gathered_reply g) p.events p.rule s before behind agree first e.did))
       (λ s e. gather_unwritten a.far b.far g p.events s (played p.events s) p.rule e)
 
   pub gather_leaves : (a b : Hold) (g : Gathered) → Good shows c a → AreCounted a.far
@@ -87,9 +131,12 @@ module _ {D : Type 0} (run : D → List Event → D → Type 0) (shows : D → S
       → HandsOrder run shows c a b (gathered_order None g)
   gather_leaves a b g good counts few p =
       let mid = once_counted a Gather in
+      let moved = gathers mid b g (counted_good run shows laws c accepted Gather a good) p in
       let z = counted_leaves run shows laws c accepted WritesNothing Gather a b counts few
-      (in_job run shows laws c accepted WritesNothing 1 mid b (omega arith)
-      (gathers mid b g (counted_good run shows laws c accepted Gather a good) p)) in
+      (in_job run shows laws c accepted WritesNothing 1 mid b (omega arith) moved) in
+      let left : (s : Shown) → shows a.desk s → Sound s mid.far
+          → LeavesOrders s mid.far (played p.events s) b.far =
+      (λ s shown sound. (moved.after s shown sound).orders) in
       let knows : (s : Shown) → Sound s a.far → Sound s mid.far =
       (λ s sound. counted_sound s a.far mid.far Gather refl sound) in record {
         leaves = record {
@@ -101,6 +148,8 @@ module _ {D : Type 0} (run : D → List Event → D → Type 0) (shows : D → S
           next = z.next;
           after = λ s shown sound. record {
             sound = p.sound_after s (shown, knows s sound);
+            orders = λ o kept. left s shown (knows s sound) o
+                (still_kept s a.far Gather o kept);
             more = [];
             wrote = refl;
             writes_them = gather_unwritten mid.far b.far g p.events s (played p.events s) p.rule
@@ -137,13 +186,15 @@ module _ {D : Type 0} (run : D → List Event → D → Type 0) (shows : D → S
   rows_come : (h : ℕ) → CarriesWrites run shows laws c 16 Nil (FetchesRows run h)
   rows_come h a b g good (home, at, ran, step) = comes_far run shows laws c 16 a b good ran
       (λ s sound. rows_stay c s home.set home.position a.far b.far g sound step)
+      (λ s sound. fetch_leaves_words s home.set home.position a.far b.far g sound step)
 
   fetch_comes : (h : ℕ) → CarriesWrites run shows laws c 17 Nil (FetchRun run shows h)
   fetch_comes h a b g good (not_far r is find off) =
       then_none run shows laws c 1 1 17 a b b (omega arith) (finds run shows laws c accepted h a b r good find)
       (comes_far run shows laws c 1 b b (good_then run shows laws c 1 WritesNothing a b good
       (finds run shows laws c accepted h a b r good find)) (laws.none b.desk)
-      (λ s sound. (stays_same c 1 b.far b.far (omega arith) refl, sound)))
+      (λ s sound. (stays_same c 1 b.far b.far (omega arith) refl, sound))
+      (λ s sound. words_stay b.far))
   fetch_comes h a b g good (was_far m find rows) =
       let z = finds run shows laws c accepted h a m answer.NotHere good find in
       then_none run shows laws c 1 16 17 a m b (omega arith) z
@@ -154,7 +205,8 @@ module _ {D : Type 0} (run : D → List Event → D → Type 0) (shows : D → S
       let z = finds run shows laws c accepted h a m answer.NotHere good find in
       then_none run shows laws c 1 1 17 a m b (omega arith) z
       (comes_far run shows laws c 1 m b (good_then run shows laws c 1 WritesNothing a m good z) ran
-      (λ s sound. (stays_same c 1 m.far b.far (omega arith) same, subst (Sound s) (sym same) sound)))
+      (λ s sound. (stays_same c 1 m.far b.far (omega arith) same, subst (Sound s) (sym same) sound))
+      (λ s sound. same_leaves m.far b.far same))
 
   pub fetch_leaves : (h : Handle) (a b : Hold) (g : Fetching) → Good shows c a → AreCounted a.far
       → a.far.counts.turns < 2 ^ 40 → FetchRun run shows h.n (once_counted a (Fetch h)) g b
@@ -179,12 +231,16 @@ module _ {D : Type 0} (run : D → List Event → D → Type 0) (shows : D → S
   -- ---- a landing
   lands : (order : Option Kept) → CarriesWrites run shows laws c 16 Nil (Lands run shows order)
   lands order a b r good p = comes_none run shows laws c 16 a b _ _ good
-      (λ s sound. land_stays c order a.far b.far r p.events p.rule) p
+      (λ s sound. land_stays c order a.far b.far r p.events p.rule)
+      (λ s shown sound. land_leaves_words s order a.far b.far r p.events sound p.rule) p
+      (λ s before behind leaves agree first e. land_rows order s (played p.events s) a.far b.far r
+      p.events before behind leaves p.rule e)
       (λ s e. land_unwritten order a.far b.far r p.events s (played p.events s) p.rule e)
 
   land_lacks : CarriesNoWrites run shows laws c 16 (NothingDone run)
   land_lacks a b good (ran, same) = comes_far run shows laws c 16 a b good ran
       (λ s sound. (stays_same c 16 a.far b.far (omega arith) same, subst (Sound s) (sym same) sound))
+      (λ s sound. same_leaves a.far b.far same)
 
   pub land_leaves : (order : Option Kept) (a b : Hold) (r : Reply) → Good shows c a
       → AreCounted a.far → a.far.counts.turns < 2 ^ 40

@@ -22,6 +22,7 @@ use Rattle.cb_world.proofs.Laws.{codes_stay, counted_holds, empty_world_sound, r
 use Rattle.cb_core.specs.Parts.{Holding}
 use Rattle.cb_mutate.specs.JobWrites.{TurnWrites}
 use Rattle.cb_core.specs.TurnLeaves.{IsOneTurnOn, TurnLeaves}
+use Rattle.cb_core.proofs.OrdersCounted.{still_kept}
 use Rattle.cb_core.proofs.Counting.{counted_sound}
 use Rattle.cb_core.proofs.KeptParts.{KeepsNote, counted_rises}
 
@@ -142,6 +143,7 @@ module _ (c : Config) (accepted : IsAccepted c) where
     next = one_turn;
     after = λ s shown sound. record {
       sound = counted_sound s far then_ Evict refl sound;
+      orders = λ o kept. still_kept s far Evict o kept;
       more = [];
       wrote = refl;
       writes_them = λ old. refl;

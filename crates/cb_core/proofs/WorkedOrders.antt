@@ -34,6 +34,7 @@ use Rattle.cb_core.specs.Parts.WithRoom.{at_once}
 use Rattle.cb_core.specs.TurnLeaves.{TurnLeaves}
 use Rattle.cb_core.specs.Turned.{counted}
 use Rattle.cb_core.specs.Unavailable.{IsSetLost, LandTells}
+use Rattle.cb_core.proofs.OrdersCounted.{still_kept}
 use Rattle.cb_core.proofs.Counting.{counted_sound}
 use Rattle.cb_core.proofs.KeptParts.{KeepsNote, counted_rises}
 use Rattle.cb_core.proofs.WorkedRoom.{first_down}
@@ -206,6 +207,7 @@ module _ (c : Config) (accepted : IsAccepted c) where
         }) (counted_holds start (job_index Install) w.counted);
     next = inl (lit< tt, refl);
     sound = λ s sound kept. counted_sound s start then_ Install refl sound;
+    orders = λ s sound kept o was. still_kept s start Install o was;
   }
 
   -- at another first version nothing stays sound
@@ -223,6 +225,7 @@ module _ (c : Config) (accepted : IsAccepted c) where
     next = installed.next;
     after = λ s shown sound. record {
       sound = installed.sound s sound tt;
+      orders = installed.orders s sound tt;
       more = [];
       wrote = refl;
       writes_them = λ old. refl;

@@ -7,7 +7,7 @@ use Rattle.cb_world.specs.declared.event.Event.{Event}
 use Rattle.cb_world.specs.declared.shown.Shown.{Shown}
 use Rattle.cb_world.specs.FarState.{FarState}
 use Rattle.cb_world.specs.KeepCodes.{KeepCodes}
-use Rattle.cb_world.specs.Orders.{KeepsOrder}
+use Rattle.cb_world.specs.Orders.{KeepsOrder, LeavesOrders}
 use Rattle.cb_world.specs.Played.{played}
 use Rattle.cb_world.specs.Sound.{Sound}
 use Rattle.cb_world.specs.World.{AreCounted, IsConfigured}
@@ -37,10 +37,12 @@ fetch_hands (Ok g) = fetching_order None g
 fetch_hands (Err e) = None
 
 -- An install works at the far state alone: it is as it is configured and counted, it has no other
--- code, and is at most one turn further; and where the order was kept, what was sound is sound.
+-- code, and is at most one turn further; and where the order was kept, what was sound is sound, and
+-- every order that was kept is kept.
 pub record InstallLeaves (c : Config) (far new : FarState) (order : Option Kept) : Type 0 where
   pub configured : IsConfigured c new
   pub codes : KeepCodes far new
   pub counted : AreCounted new
   pub next : IsOneTurnOn far new
   pub sound : (s : Shown) → Sound s far → KeepsOrder s far order → Sound s new
+  pub orders : (s : Shown) → Sound s far → KeepsOrder s far order → LeavesOrders s far s new

@@ -37,8 +37,6 @@ returns-clause-turned c =
 pub returns-clause-leaves : goal.returns-clause-leaves
 returns-clause-leaves c =
     let d = c.count_turn.ensures.done c.if-not-count_turn.false in
-    let k = c.requires.kept in
-    λ settings configured. install_leaves settings k.0 c.args.far.now c.count_turn.new.far
+    λ settings configured. install_leaves settings c.args.far.now c.count_turn.new.far
     c.install.new.far c.install.result _ _ c.requires.counted d.0 d.1
-    (counted_kept k.0 c.args.far.now c.count_turn.new.far Install _ d.1 k.2)
     c.install.ensures.installed c.install.ensures.sound configured
