@@ -1,5 +1,5 @@
 -- What an order that a seat keeps says of the far state and of local memory.
-use Rattle.std.specs.Prelude.{◌≡◌, ◌≢◌, ℕ, ◌<◌, ◌≤◌, ◌+◌, false, List, Option, None, Some, length, slice_index}
+use Rattle.std.specs.Prelude.{◌≡◌, ◌≢◌, ℕ, ◌<◌, ◌≤◌, false, List, Option, None, Some, length, slice_index}
 use Rattle.cb_gf256.specs.Rows.{row_at}
 use Rattle.cb_set.specs.SetState.{SetState, parities}
 use Rattle.cb_types.specs.declared.order.DecodeOrder.{DecodeOrder}
