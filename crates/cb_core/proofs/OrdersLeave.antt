@@ -25,10 +25,10 @@ use Rattle.cb_world.specs.Played.{played}
 use Rattle.cb_world.specs.Sets.{set_in}
 use Rattle.cb_world.specs.Sound.{Sound}
 use Rattle.cb_world.specs.World.{AreCounted, IsConfigured}
-use Rattle.cb_world.proofs.Laws.{codes_same, codes_stay, codes_then, recounted_sound, StaysIf, stays_same, words_stay}
+use Rattle.cb_world.proofs.Laws.{codes_same, codes_stay, codes_then, orders_left, recounted_sound, StaysIf, stays_same, words_stay}
 use Rattle.cb_evict.specs.declared.gathering.Gathered.{Gathered}
 use Rattle.cb_evict.specs.declared.gathering.Gathered.TheVariants as gathered
-use Rattle.cb_evict.specs.Gathering.{GatherEffect, HandsOut, gathered_order, gathered_reply}
+use Rattle.cb_evict.specs.Gathering.{GatherEffect, GatherRule, HandsOut, gathered_order, gathered_reply}
 use Rattle.cb_evict.proofs.Laws.{begins_leave_words, gather_stays, gather_unwritten}
 use Rattle.cb_swapin.specs.declared.fetching.Fetching.{Fetching}
 use Rattle.cb_swapin.specs.declared.fetching.Fetching.TheVariants as fetching
@@ -49,7 +49,7 @@ use Rattle.cb_core.proofs.SwapRows.{swap_rows}
 use Rattle.cb_core.proofs.TurnCarries.{evict_lacks, finds, in_job, nil_quiet, same_leaves, wins}
 use Rattle.cb_core.proofs.TurnComes.{AreLaws, CarriesNoWrites, CarriesWrites, Comes, Good, Nil, WritesNothing, comes_far, comes_none, good_then, room_stops, then_none, with_room}
 use Rattle.cb_core.proofs.WordsOwned.{begin_words}
-use Rattle.cb_core.proofs.WordsTold.{KeepsRows, by_words}
+use Rattle.cb_core.proofs.WordsTold.{KeepsBatch, KeepsRows, by_words}
 use Rattle.cb_core.proofs.TurnLeft.{counted_good, counted_leaves, refused_leaves}
 
 -- ---- the orders that are handed out
@@ -116,27 +116,41 @@ module _ {D : Type 0} (run : D → List Event → D → Type 0) (shows : D → S
   hands_none a b z = record { leaves = z; kept = λ s shown sound. tt }
 
   -- ---- a gather
+  gather_words : (a b : Hold) (g : Gathered) (s : Shown) → Sound s a.far
+      → (es : List Event) → GatherRule a.far b.far g es → LeavesWords a.far b.far
+  gather_words a b g s sound es rule = begins_leave_words s a.far b.far false (HandsOut a.far g)
+      (gathered_reply g) es sound rule
+
+  gather_rows : (a b : Hold) (g : Gathered) (es : List Event) → GatherRule a.far b.far g es
+      → KeepsBatch a.far b.far es (GatherEffect a.far b.far g)
+  gather_rows a b g es rule = by_words a.far b.far es (GatherEffect a.far b.far g)
+      (λ s before behind agree first e. begin_words a.far b.far false (HandsOut a.far g)
+      (gathered_reply g) es rule s before behind agree first e.did)
+
   gathers : CarriesWrites run shows laws c 1 Nil (Gathers run shows)
   gathers a b g good p = comes_none run shows laws c 1 a b _ _ good
       (λ s sound. gather_stays c a.far b.far g p.events p.rule)
-      (λ s shown sound. begins_leave_words s a.far b.far false (HandsOut a.far g) (gathered_reply g)
-      p.events sound p.rule) p
-      (by_words a.far b.far p.events (GatherEffect a.far b.far g)
-      (λ s before behind agree first e. begin_words a.far b.far false (HandsOut a.far g)
-      (gathered_reply g) p.events p.rule s before behind agree first e.did))
+      (λ s shown sound. gather_words a b g s sound p.events p.rule) p
+      (gather_rows a b g p.events p.rule)
       (λ s e. gather_unwritten a.far b.far g p.events s (played p.events s) p.rule e)
+
+  gather_orders : (a b : Hold) (g : Gathered) (p : Gathers run shows a g b) (s : Shown)
+      → shows a.desk s → Sound s a.far → LeavesOrders s a.far (played p.events s) b.far
+  gather_orders a b g p s shown sound =
+      let behind = p.sound_after s (shown, sound) in
+      let left = gather_words a b g s sound p.events p.rule in
+      orders_left s (played p.events s) a.far b.far sound behind left
+      (gather_rows a b g p.events p.rule s sound behind left
+      (laws.agrees a.desk b.desk p.events s p.ran shown) p.looks_first (p.effect s (shown, sound)))
 
   pub gather_leaves : (a b : Hold) (g : Gathered) → Good shows c a → AreCounted a.far
       → a.far.counts.turns < 2 ^ 40 → Gathers run shows (once_counted a Gather) g b
       → HandsOrder run shows c a b (gathered_order None g)
   gather_leaves a b g good counts few p =
       let mid = once_counted a Gather in
-      let moved = gathers mid b g (counted_good run shows laws c accepted Gather a good) p in
       let z = counted_leaves run shows laws c accepted WritesNothing Gather a b counts few
-      (in_job run shows laws c accepted WritesNothing 1 mid b (omega arith) moved) in
-      let left : (s : Shown) → shows a.desk s → Sound s mid.far
-          → LeavesOrders s mid.far (played p.events s) b.far =
-      (λ s shown sound. (moved.after s shown sound).orders) in
+      (in_job run shows laws c accepted WritesNothing 1 mid b (omega arith)
+      (gathers mid b g (counted_good run shows laws c accepted Gather a good) p)) in
       let knows : (s : Shown) → Sound s a.far → Sound s mid.far =
       (λ s sound. counted_sound s a.far mid.far Gather refl sound) in record {
         leaves = record {
@@ -148,7 +162,7 @@ module _ {D : Type 0} (run : D → List Event → D → Type 0) (shows : D → S
           next = z.next;
           after = λ s shown sound. record {
             sound = p.sound_after s (shown, knows s sound);
-            orders = λ o kept. left s shown (knows s sound) o
+            orders = λ o kept. gather_orders mid b g p s shown (knows s sound) o
                 (still_kept s a.far Gather o kept);
             more = [];
             wrote = refl;

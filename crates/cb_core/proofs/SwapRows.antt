@@ -119,5 +119,5 @@ pub swap_rows : (id p : ℕ) (set : SetState) (s t : Shown)
 swap_rows id p set s t far new (answer.Swapped f) es before behind leaves there live reply x =
     swapped_rows id p f set s t far new es before behind leaves there live
     (swapped_least far id f set (sym reply)) x
-swap_rows id p set s t far new r es before behind leaves there live reply x b at below =
+swap_rows id p set s t far new r es before behind leaves there live reply x = λ b at below.
     ap (λ (u : Shown). rows_in u b.pages b.frames) x

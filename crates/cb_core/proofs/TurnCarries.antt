@@ -25,6 +25,13 @@ use Rattle.cb_world.specs.Written.{Writes, entry, gone}
 use Rattle.cb_world.proofs.Laws.{recounted_sound, StaysIf, StaysIfBy, stays_same, words_stay}
 use Rattle.cb_mutate.specs.FreeRule.{FreeEffect}
 use Rattle.cb_mutate.specs.MakeRule.{MakeEffect}
+use Rattle.cb_mutate.specs.ReadRule.{ReadEffect}
+use Rattle.cb_evict.specs.AbortRule.{AbortEffect}
+use Rattle.cb_evict.specs.BeginEffect.{BeginEffect}
+use Rattle.cb_evict.specs.CommitRule.{CommitEffect}
+use Rattle.cb_evict.specs.EvictEffect.{EvictEffect}
+use Rattle.cb_evict.specs.ShipRule.{ShipEffect}
+use Rattle.cb_filter.specs.FilterEffect.{FilterEffect}
 use Rattle.cb_mutate.specs.WriteRule.{WriteEffect}
 use Rattle.cb_mutate.proofs.Laws.{free_leaves_words, free_stays, make_leaves_words, make_stays, read_unwritten}
 use Rattle.cb_evict.specs.Eviction.{reply_of}
@@ -143,7 +150,7 @@ module _ {D : Type 0} (run : D → List Event → D → Type 0) (shows : D → S
   makes bytes a b r good p = comes_by run shows laws c (MakeWrites bytes r) 1 a b _ _ good
       (λ s sound. make_stays c c.handles bytes a.far b.far r p.events p.rule)
       (λ s shown sound. make_leaves_words c.handles bytes a.far b.far r p.events p.rule) p
-      (by_words a.far b.far p.events _ (make_words bytes a.far b.far r p.events))
+      (by_words a.far b.far p.events (MakeEffect bytes a.far b.far r) (make_words bytes a.far b.far r p.events))
       (λ s e. make_writes bytes a.far b.far r p.events s (played p.events s) e)
 
   make_lacks : (bytes : List ℕ) → Lacks 1 (MakeLacks run c bytes)
@@ -155,7 +162,7 @@ module _ {D : Type 0} (run : D → List Event → D → Type 0) (shows : D → S
   reads h a b r good p = comes_none run shows laws c 1 a b _ _ good
       (λ s sound. stays_same c 1 a.far b.far (omega arith) p.rule.0)
       (λ s shown sound. same_leaves a.far b.far p.rule.0) p
-      (by_words a.far b.far p.events _ (read_words h a.far b.far r p.events))
+      (by_words a.far b.far p.events (ReadEffect h r) (read_words h a.far b.far r p.events))
       (λ s e. read_unwritten h r p.events s (played p.events s) e)
 
   pub read_lacks : (h : ℕ) → Lacks 1 (ReadLacks run shows h)
@@ -168,7 +175,7 @@ module _ {D : Type 0} (run : D → List Event → D → Type 0) (shows : D → S
   writes h at bytes a b r good p = comes_by run shows laws c (WriteWrites h at bytes r) 1 a b _ _ good
       (λ s sound. stays_same c 1 a.far b.far (omega arith) p.rule.0)
       (λ s shown sound. same_leaves a.far b.far p.rule.0) p
-      (by_words a.far b.far p.events _ (write_words h at bytes a.far b.far r p.events))
+      (by_words a.far b.far p.events (WriteEffect h at bytes r) (write_words h at bytes a.far b.far r p.events))
       (λ s e. write_writes h at bytes r p.events s (played p.events s) e)
 
   pub finds : (h : ℕ) → Leads 1 Nil (FindsWhere run shows h)
@@ -194,14 +201,14 @@ module _ {D : Type 0} (run : D → List Event → D → Type 0) (shows : D → S
   evicts a b r good p = comes_none run shows laws c 24 a b _ _ good
       (λ s sound. evict_stays c a.far b.far r p.events accepted p.rule)
       (λ s shown sound. evicts_leave_words s a.far b.far r p.events sound p.rule) p
-      (by_words a.far b.far p.events _ (evict_words a.far b.far r p.events p.rule))
+      (by_words a.far b.far p.events (EvictEffect a.far b.far r) (evict_words a.far b.far r p.events p.rule))
       (λ s e. evict_unwritten a.far b.far r p.events s (played p.events s) p.rule e)
 
   pub wins : Leads 24 Nil (WinsRoom run shows c)
   wins a b e good p = comes_none run shows laws c 24 a b _ _ good
       (λ s sound. evict_stays c a.far b.far (reply_of e) p.events accepted p.rule.rule)
       (λ s shown sound. evicts_leave_words s a.far b.far (reply_of e) p.events sound p.rule.rule) p
-      (by_words a.far b.far p.events _
+      (by_words a.far b.far p.events (EvictEffect a.far b.far (reply_of e))
       (evict_words a.far b.far (reply_of e) p.events p.rule.rule))
       (λ s x. evict_unwritten a.far b.far (reply_of e) p.events s (played p.events s) p.rule.rule x)
 
@@ -304,7 +311,7 @@ module _ {D : Type 0} (run : D → List Event → D → Type 0) (shows : D → S
       in_job (FreeWrites h r) 1 a b (omega arith) (comes_by run shows laws c (FreeWrites h r) 1 a b _ _ good
       (λ s sound. free_stays c h a.far b.far r p.events p.rule)
       (λ s shown sound. free_leaves_words s h a.far b.far r p.events sound p.rule) p
-      (by_words a.far b.far p.events _ (free_words h a.far b.far r p.events))
+      (by_words a.far b.far p.events (FreeEffect h r) (free_words h a.far b.far r p.events))
       (λ s e. free_writes h r p.events s (played p.events s) e))
   does_comes reading read (Swap handle) a b r ok good x =
       in_job WritesNothing come_rise a b (omega arith) (comes_in handle.n a b r good x)
@@ -312,33 +319,33 @@ module _ {D : Type 0} (run : D → List Event → D → Type 0) (shows : D → S
       in_job WritesNothing 1 a b (omega arith) (comes_none run shows laws c 1 a b _ _ good
       (λ s sound. filter_stays c c.frames h a.far b.far r p.events p.rule)
       (λ s shown sound. filter_leaves_words c.frames h a.far b.far r p.events p.rule) p
-      (by_words a.far b.far p.events _ (filter_words h a.far b.far r p.events))
+      (by_words a.far b.far p.events (FilterEffect h a.far b.far r) (filter_words h a.far b.far r p.events))
       (λ s e. filter_unwritten h a.far b.far r p.events s (played p.events s) e))
   does_comes reading read Evict a b r ok good x = in_job WritesNothing 24 a b (omega arith) (evicts a b r good x)
   does_comes reading read Begin a b r ok good p =
       in_job WritesNothing 1 a b (omega arith) (comes_none run shows laws c 1 a b _ _ good
       (λ s sound. begin_stays c a.far b.far r p.events p.rule)
       (λ s shown sound. begins_leave_words s a.far b.far true _ r p.events sound p.rule) p
-      (by_words a.far b.far p.events _ (begin_words a.far b.far true _ r p.events p.rule))
+      (by_words a.far b.far p.events (BeginEffect a.far b.far r) (begin_words a.far b.far true _ r p.events p.rule))
       (λ s e. begin_unwritten a.far b.far r p.events s (played p.events s) p.rule e))
   does_comes reading read Ship a b r ok good p =
       in_job WritesNothing 1 a b (omega arith) (comes_none run shows laws c 1 a b _ _ good
       (λ s sound. ship_stays c a.far b.far r p.events p.rule)
       (λ s shown sound. ships_leave_words s a.far b.far r sound (p.effect s (shown, sound)).ships) p
-      (by_words a.far b.far p.events _ (λ s before behind agree first e.
+      (by_words a.far b.far p.events (ShipEffect a.far b.far r) (λ s before behind agree first e.
       still_words a.far b.far p.events s before behind agree first e.still))
       (λ s e. e.still.nothing))
   does_comes reading read Commit a b r ok good p =
       in_job WritesNothing 1 a b (omega arith) (comes_none run shows laws c 1 a b _ _ good
       (λ s sound. commit_stays c s a.far b.far r p.events sound p.rule)
       (λ s shown sound. commits_leave_words a.far b.far r p.events p.rule) p
-      (by_words a.far b.far p.events _ (commit_words a.far b.far r p.events p.rule))
+      (by_words a.far b.far p.events (CommitEffect a.far b.far r) (commit_words a.far b.far r p.events p.rule))
       (λ s e. commit_unwritten a.far b.far r p.events s (played p.events s) p.rule e))
   does_comes reading read Abort a b r ok good p =
       in_job WritesNothing 1 a b (omega arith) (comes_none run shows laws c 1 a b _ _ good
       (λ s sound. abort_stays c a.far b.far r p.events p.rule)
       (λ s shown sound. aborts_leave_words s a.far b.far r p.events sound p.rule) p
-      (by_words a.far b.far p.events _ (abort_words a.far b.far r p.events p.rule))
+      (by_words a.far b.far p.events (AbortEffect a.far b.far) (abort_words a.far b.far r p.events p.rule))
       (λ s e. abort_unwritten a.far b.far r p.events s (played p.events s) p.rule e))
   does_comes reading read job a b r ok good (ran, step) =
       comes_far run shows laws c turn_rise a b good ran (λ s sound.
