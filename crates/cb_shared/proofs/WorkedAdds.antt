@@ -282,7 +282,8 @@ adds_two_turns e = uncounted e.adds
 
 ends_as_done : IsEnding two jobs.Evict (Some answer.Done) None (far last) (beginner (far last) known)
     → ⊥
-ends_as_done e = no_end (turn_alone two _ tt (e.did 0))
+ends_as_done e = no_end (turn_alone two (turn_of jobs.Evict (Some answer.Done) None (far last) 0
+    (beginner (far last) known)) tt (e.did 0))
   where
     no_end : DidJob (turn_of jobs.Evict (Some answer.Done) None (far last) 0
         (beginner (far last) known)) → ⊥
