@@ -88,12 +88,15 @@ landed_says : (p : DecodeOrder) (far new : FarState) (r : Reply) (es : List Even
 landed_says p far new r es x = let set = x.brings.set in let there = x.brings.there in
     subst (Says (Some (Decode p)) far) (sym x.brings.reply)
     (by_answer (Says (Some (Decode p)) far) far p.set set
-    (λ broken. broke p (lost far.members set.shards) refl (x.live, record {
-      set = set;
-      there = there;
-      all = refl;
-      many = ltb-true (parities set) (length (lost far.members set.shards)) broken;
-    }) refl)
+    (λ broken. broke p (lost far.members set.shards) refl (
+      x.live,
+      record {
+        set = set;
+        there = there;
+        all = refl;
+        many = ltb-true (parities set) (length (lost far.members set.shards)) broken;
+      },
+    ) refl)
     (λ whole free. fine (no_lost whole) no_frame_never)
     (λ f whole free. fine (no_lost whole) (swapped_never f)))
   where
@@ -167,13 +170,15 @@ module _ {D : Type 0} (run : D → List Event → D → Type 0) (shows : D → S
       let below = sound.away.sound.sets.numbered o.set there.0 there.1 in
       let kept = subst (λ (f : FarState). (set_in n.far.sets o.set ≡ set_in f.sets o.set)
       × (n.far.members ≡ f.members)) same (set_stays m.far n.far (answer.Set id) id v.events v.rule.rule
-      refl o.set (subst (λ (f : FarState). o.set < f.counts.sets) (sym same) below)) in
-      (there.2, record {
-        set = z.1.set;
-        there = sym kept.0 ∙ z.1.there;
-        all = z.1.all ∙ ap (λ (k : _). lost k z.1.set.shards) kept.1;
-        many = z.1.many;
-      })
+      refl o.set (subst (λ (f : FarState). o.set < f.counts.sets) (sym same) below)) in (
+        there.2,
+        record {
+          set = z.1.set;
+          there = sym kept.0 ∙ z.1.there;
+          all = z.1.all ∙ ap (λ (k : _). lost k z.1.set.shards) kept.1;
+          many = z.1.many;
+        },
+      )
 
   says_behind : (left : ℕ) (a b : Hold) (r : Reply) → Good a
       → WithRoom c.frames (Lands run shows order) (WinsRoom run shows c) left a r b
@@ -186,9 +191,9 @@ module _ {D : Type 0} (run : D → List Event → D → Type 0) (shows : D → S
       by (says_behind fewer n b r (
         played evict.events (played x.events s),
         (follows m.desk n.desk evict.events (played x.events s) evict.ran
-        (follows a.desk m.desk x.events s x.ran shown).1).1,
+            (follows a.desk m.desk x.events s x.ran shown).1).1,
         evict.sound_after (played x.events s)
-        ((follows a.desk m.desk x.events s x.ran shown).1, x.sound_after s (shown, sound)),
+            ((follows a.desk m.desk x.events s x.ran shown).1, x.sound_after s (shown, sound)),
       ) again)
     where
       off : HasNoLost order a.far
@@ -203,12 +208,15 @@ module _ {D : Type 0} (run : D → List Event → D → Type 0) (shows : D → S
   said : (far : FarState) (r : Reply) → Says order (counted far Land) r → LandTells order far r
   said far r (fine off never) = record {
     only = λ id l e. absurd (never id l e);
-    each = λ o l is few live z. absurd (off o l is (live, record {
-      set = z.set;
-      there = z.there;
-      all = z.all;
-      many = z.many;
-    }));
+    each = λ o l is few live z. absurd (off o l is (
+      live,
+      record {
+        set = z.set;
+        there = z.there;
+        all = z.all;
+        many = z.many;
+      },
+    ));
   }
   said far r (broke o l is z e) = record {
     only = λ id m same. (

@@ -64,9 +64,11 @@ taken_was (Looked k x ∷ es) u h w v words agree first (inl found) taken =
 taken_was (Looked k x ∷ es) u h w v words agree first (inr found) taken =
     absurd (taken_seen h v words es taken found.1)
 taken_was (Claimed k x n xs ∷ es) u h w v words agree first (inl found) (inl taken) =
-    let y = taken_was es (after (Claimed k x n xs) u) h w v words agree.1 first.1 found taken in
-    (sym (other_object u k h _ (λ same. taken_seen h v words es taken
-    (subst (λ (i : ℕ). NoLook i es) same first.0))) ∙ y.0, y.1)
+    let y = taken_was es (after (Claimed k x n xs) u) h w v words agree.1 first.1 found taken in (
+      sym (other_object u k h _ (λ same. taken_seen h v words es taken
+          (subst (λ (i : ℕ). NoLook i es) same first.0))) ∙ y.0,
+      y.1,
+    )
 taken_was (Claimed k x n xs ∷ es) u h w v words agree first (inr found) (inl taken) =
     absurd (taken_seen h v words es taken found.1)
 taken_was (Claimed k x n xs ∷ es) u h w v words agree first (inl found) (inr taken) =
@@ -88,9 +90,11 @@ taken_was (Stored q x ∷ es) u h w v words agree first found taken =
 taken_was (Stamped k n ∷ es) u h w v words agree first found taken =
     absurd (not_taken h v words es first.0 taken)
 taken_was (Settled k x ∷ es) u h w v words agree first (inl found) taken =
-    let y = taken_was es (after (Settled k x) u) h w v words agree.1 first.1 found taken in
-    (sym (other_object u k h _ (λ same. taken_seen h v words es taken
-    (subst (λ (i : ℕ). NoLook i es) same first.0))) ∙ y.0, y.1)
+    let y = taken_was es (after (Settled k x) u) h w v words agree.1 first.1 found taken in (
+      sym (other_object u k h _ (λ same. taken_seen h v words es taken
+          (subst (λ (i : ℕ). NoLook i es) same first.0))) ∙ y.0,
+      y.1,
+    )
 taken_was (Settled k x ∷ es) u h w v words agree first (inr found) taken = absurd found.0
 
 here_within : (s : Shown) (h len place : ℕ) → object_at s h ≡ is.Here len place → h < length s.objects
